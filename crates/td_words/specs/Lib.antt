@@ -1,0 +1,9 @@
+pub mod NameText
+pub mod NameNumber
+pub mod StatusNumber
+pub mod ReplyText
+pub mod Address
+pub mod Packing
+pub mod Places
+pub mod Seen
+pub mod Laws
