@@ -1,1 +1,5 @@
 pub mod Worked
+pub mod Induction
+pub mod Keeps
+pub mod Blind
+pub mod Kept

@@ -20,26 +20,29 @@ use Rattle.flat_core.specs.Row.{Item, Check, Try, needs}
 abbrev pub same_kind : PageKind → PageKind → Bool
 same_kind a b = kind_number a == kind_number b
 
+abbrev pub is_host_in : Pages → ℕ → Bool
+is_host_in pages p = same_kind (pages.kinds p) kind.Nda
+
 abbrev pub is_host : World → ℕ → Bool
-is_host w p = same_kind (w.pages.kinds p) kind.Nda
+is_host w p = is_host_in w.pages p
 
 -- a page of that kind, of that TD
 abbrev pub is_page_of : World → ℕ → ℕ → PageKind → Bool
 is_page_of w t p k = same_kind (w.pages.kinds p) k && w.pages.owners p == t
 
+abbrev pub is_free_key : Key → Bool
+is_free_key free = true
+is_free_key (assigned t) = false
+is_free_key (flushed t b) = false
+
 abbrev pub is_key_free : World → ℕ → Bool
 is_key_free w h = is_free_key (w.key_table.keys h)
-  where
-    is_free_key : Key → Bool
-    is_free_key free = true
-    is_free_key (assigned t) = false
-    is_free_key (flushed t b) = false
 
 -- the pages below n, its TDR page aside, that a TD owns
 abbrev pub owned_below : Pages → ℕ → ℕ → ℕ
 owned_below pages t zero = 0
 owned_below pages t (suc n) =
-    one_if (not (n == t) && (not (same_kind (pages.kinds n) kind.Nda) && pages.owners n == t)) + owned_below pages t n
+    one_if (not (n == t) && (not (is_host_in pages n) && pages.owners n == t)) + owned_below pages t n
 
 -- the child count of a TDR
 abbrev pub children : World → ℕ → ℕ

@@ -47,11 +47,14 @@ abbrev pub operation_event : World → Lp → Guest → Operation → Event
 operation_event w lp g (ByRow row) = OfOperation row (next_in (row.items w) g.operation.phase g.operation.held)
 operation_event w lp g (Private access r gpa) = private_event g access r gpa (look_up lp.cached g.tdr (page_of_gpa gpa) access)
 
--- at the list's end it stops, which is tested first; then, after as many operations as were asked for, it leaves
+-- at the list's end the guest is left, which is tested first; then, after as many operations as were asked for
+abbrev pub max_event : Opening → World → Lp → Guest → GuestOp → Bool → Event
+max_event o w lp g op true = Leaves g.vp Max
+max_event o w lp g op false = operation_event w lp g (operation_of o g.tdr g.vp (length lp.replies + 1) op)
+
 abbrev pub due_event : Opening → World → Lp → Guest → Option GuestOp → Event
 due_event o w lp g None = Leaves g.vp Stop
-due_event o w lp g (Some op) =
-    if nat_le g.most g.completed then Leaves g.vp Max else operation_event w lp g (operation_of o g.tdr g.vp (length lp.replies + 1) op)
+due_event o w lp g (Some op) = max_event o w lp g op (nat_le g.most g.completed)
 
 -- the operation at a virtual processor's position in its list
 abbrev pub operation_due : Opening → World → Guest → Option GuestOp
@@ -74,9 +77,13 @@ abbrev pub is_epoch_lock : LockId → Bool
 is_epoch_lock (OfEpoch t) = true
 is_epoch_lock _ = false
 
+abbrev pub epoch_event : Opening → World → Lp → Row → Guest → Held → Bool → Event
+epoch_event o w lp row g h true = OfCall row (Releases h)
+epoch_event o w lp row g h false = guest_event o w lp g g.leaving
+
 abbrev pub entered_event : Opening → World → Lp → Row → Guest → List Held → Event
 entered_event o w lp row g [] = guest_event o w lp g g.leaving
-entered_event o w lp row g (h ∷ hs) = if is_epoch_lock h.lock then OfCall row (Releases h) else guest_event o w lp g g.leaving
+entered_event o w lp row g (h ∷ hs) = epoch_event o w lp row g h (is_epoch_lock h.lock)
 
 abbrev pub line_event : Opening → World → Lp → Row → Option Guest → Event
 line_event o w lp row None = OfCall row (next_in (row.items w) lp.call.phase lp.call.held)

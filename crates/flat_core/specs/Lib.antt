@@ -16,4 +16,7 @@ pub mod Guest
 pub mod Event
 pub mod Run
 pub mod HostText
+pub mod Lawful
+pub mod Alike
+pub mod Laws
 pub mod Worked
