@@ -1,5 +1,5 @@
 -- Locks as a rule on a word sees them, and when no two processors can meet two rules at once.
-use Rattle.std.specs.Prelude.{ℕ, ◌⊎◌, Bool, true, false, ◌&&◌, ◌||◌, List, [], ◌∷◌}
+use Rattle.std.specs.Prelude.{◌≡◌, ℕ, ◌⊎◌, Bool, true, false, ◌&&◌, ◌||◌, List, [], ◌∷◌}
 use Rattle.flat_core.specs.Processor.{LockId}
 
 -- a lock; or what a virtual processor in guest has of a page: a usable translation that names it, and one that may
@@ -33,26 +33,26 @@ pub data Want : Type 0 where
 abbrev pub Rule : Type 0
 Rule = List (List Want)
 
--- what a processor has of the guards
-pub record Grip : Type 1 where
-  pub has : Guard → Type 0
-  pub sole : Guard → Type 0
-  pub clear : Guard → Type 0
+-- what a processor has of the guards: which it has at all, which it has alone, and which it knows that nobody else has
+pub record Grip : Type 0 where
+  pub has : Guard → Bool
+  pub sole : Guard → Bool
+  pub clear : Guard → Bool
 
 -- nobody has a guard beside one who holds it alone, nor beside one who knows that nobody else has it
 pub record Parted (g h : Grip) : Type 0 where
-  pub sole : (x : Guard) → g.sole x → h.has x → ⊥
-  pub both : (x : Guard) → g.sole x → h.sole x → ⊥
-  pub clear : (x : Guard) → g.clear x → h.has x → ⊥
+  pub sole : (x : Guard) → g.sole x ≡ true → h.has x ≡ true → ⊥
+  pub both : (x : Guard) → g.sole x ≡ true → h.sole x ≡ true → ⊥
+  pub clear : (x : Guard) → g.clear x ≡ true → h.has x ≡ true → ⊥
 
 pub record Apart (g h : Grip) : Type 0 where
   pub there : Parted g h
   pub back : Parted h g
 
 abbrev pub MeetsWant : Grip → (Role → Guard) → Want → Type 0
-MeetsWant g at (Has r) = g.has (at r)
-MeetsWant g at (Sole r) = g.sole (at r)
-MeetsWant g at (Clear r) = g.clear (at r)
+MeetsWant g at (Has r) = g.has (at r) ≡ true
+MeetsWant g at (Sole r) = g.sole (at r) ≡ true
+MeetsWant g at (Clear r) = g.clear (at r) ≡ true
 
 abbrev pub MeetsAll : Grip → (Role → Guard) → List Want → Type 0
 MeetsAll g at [] = Unit {0}

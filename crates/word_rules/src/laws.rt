@@ -1,9 +1,30 @@
 //! Laws of words and permissions, as contracts of functions that do nothing.
 
 ghost use Rattle.word_rules.specs.Rules.{RulesClash};
+ghost use Rattle.word_rules.specs.Uses.{LeafTableFits};
+ghost use Rattle.word_rules.specs.Permissions.{WordsNeverConflict, ActsNeverConflict};
+ghost use Rattle.word_rules.specs.Grips.{GripsAreApart};
 
 /// The table of rules holds together: no two processors meet two of its rules that are named
 /// together in a clause.
 pub fn rules_clash()
     ensures { RulesClash }
+{}
+
+/// The locks of each call and guest operation of the profile allow each of its loads and stores.
+pub fn leaf_table_fits()
+    ensures { LeafTableFits }
+{}
+
+/// What one processor may store, or has still to store, is never what another reads as stable, at
+/// every word of every world, for two processors whose grips are apart; also through an act that
+/// changes what a word is only as its rule says.
+pub fn words_never_conflict()
+    ensures words { WordsNeverConflict }
+    ensures acts { ActsNeverConflict }
+{}
+
+/// Where nobody holds a lock beside one who holds it alone, the grips of two processors are apart.
+pub fn grips_are_apart()
+    ensures { GripsAreApart }
 {}

@@ -3,4 +3,4 @@
 
 mod laws;
 
-pub use laws::rules_clash;
+pub use laws::{grips_are_apart, leaf_table_fits, rules_clash, words_never_conflict};
