@@ -3,3 +3,4 @@ pub mod Induction
 pub mod Keeps
 pub mod Blind
 pub mod Kept
+pub mod LockLaw

@@ -1,7 +1,7 @@
 //! Laws of the flat machine, as contracts of functions that do nothing.
 
 ghost use Rattle.flat_core.specs.Worked.{Examples};
-ghost use Rattle.flat_core.specs.Laws.{RowsKeep, RowsAreBlind, EveryWorldIsLawful, OthersStay, QuietEventsStay};
+ghost use Rattle.flat_core.specs.Laws.{RowsKeep, RowsAreBlind, EveryWorldIsLawful, OthersStay, QuietEventsStay, LocksExclude};
 
 /// The worked examples: replies of small runs, and how many events they take.
 pub fn worked_examples()
@@ -29,5 +29,11 @@ pub fn lawful_law()
 pub fn event_laws()
     ensures others { OthersStay }
     ensures quiet { QuietEventsStay }
+{
+}
+
+/// Nobody holds a lock beside one who holds it alone, after any schedule.
+pub fn lock_law()
+    ensures { LocksExclude }
 {
 }
