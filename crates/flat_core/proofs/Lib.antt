@@ -4,3 +4,4 @@ pub mod Keeps
 pub mod Blind
 pub mod Kept
 pub mod LockLaw
+pub mod Ends

@@ -1,5 +1,5 @@
 -- Nobody holds a lock beside one who holds it alone.
-use Rattle.std.proofs.Common.{◌≡◌, ◌⊎◌, refl, sym, ◌∙◌, subst, ap, ℕ, zero, suc, ◌+◌, ◌<◌, ◌≤◌, List, [], ◌∷◌, Option, Some, None, option_map, Bool, true, false, ◌==◌, ◌&&◌, not, if◌then◌else◌, arith, inl, inr}
+use Rattle.std.proofs.Common.{◌≡◌, refl, sym, subst, ap, ℕ, zero, suc, ◌+◌, ◌≤◌, List, [], ◌∷◌, Option, Some, None, option_map, Bool, true, false, ◌==◌, arith, inl, inr}
 use Rattle.std.proofs.lemmas.Bool.{eqb-true, ne_eqb}
 use Rattle.td_words.specs.declared.names.LockName.{LockName}
 use Rattle.td_words.specs.declared.names.Mode.{Mode}
@@ -8,12 +8,12 @@ use Rattle.td_words.specs.declared.names.Access.{Access}
 use Rattle.td_words.specs.declared.replies.Outcome.{Outcome}
 use Rattle.td_words.specs.declared.replies.Reply.{Reply}
 use Rattle.flat_core.specs.World.{World, put}
-use Rattle.flat_core.specs.Processor.{LockId, OfPage, OfOp, OfTree, OfEpoch, OfRtmr, OfKeys, Held, Phase, Trying, Undoing, Answered, Progress, Guest, Entry, new_guest, Lp, idle}
-use Rattle.flat_core.specs.Locks.{same_lock, is_alone, one_if, alone_in, shared_in, guest_alone, guest_shared, alone_of, shared_of, sum_below, holders, sharers, refusals, grants}
+use Rattle.flat_core.specs.Processor.{LockId, OfPage, OfOp, OfTree, OfEpoch, OfRtmr, OfKeys, Held, Phase, Trying, Undoing, Answered, Progress, Guest, Entry, Lp, idle}
+use Rattle.flat_core.specs.Locks.{same_lock, alone_in, shared_in, guest_alone, guest_shared, alone_of, shared_of, sum_below, holders, sharers, refusals, grants}
 use Rattle.flat_core.specs.Opening.{Opening}
-use Rattle.flat_core.specs.Row.{Row, OperationRow, Move, Attempts, Undoes, Refuses, Succeeds, Releases, Rests, after_move, after_try, but_newest}
+use Rattle.flat_core.specs.Row.{Row, OperationRow, Move, Attempts, Undoes, Refuses, Succeeds, Releases, Rests, after_move, but_newest}
 use Rattle.flat_core.specs.Guest.{walk_step, walked_on, goes_on, walked_entry, answered}
-use Rattle.flat_core.specs.Event.{State, Event, OfCall, OfOperation, Walks, Reaches, Leaves, start, next_event, after_event, lp_after, call_lp, succeeded, settled, settle, settled_guest, settle_operation, operation_guest, call_busy, operation_busy, is_granted}
+use Rattle.flat_core.specs.Event.{State, Event, OfCall, OfOperation, Walks, Reaches, Leaves, start, next_event, after_event, lp_after, call_lp, succeeded, settle, settled_guest, settle_operation, operation_guest, call_busy, operation_busy, is_granted}
 use Rattle.flat_core.specs.Laws.{IsSole, LocksExclude}
 use Rattle.flat_core.proofs.Induction.{play_keeps}
 use Rattle.flat_core.proofs.Keeps.{by_test}
@@ -122,9 +122,9 @@ pub sum_more : (f : Lp → ℕ) (lps : ℕ → Lp) (p : ℕ) (x : Lp) (n d : ℕ
 sum_more f lps p x zero d h = omega arith
 sum_more f lps p x (suc n) d h = by_test (n == p)
     (λ y. (let here : n ≡ p = eqb-true n p y in
-      let above : sum_below (λ q. f (put lps p x q)) n ≡ sum_below (λ q. f (lps q)) n = sum_above f lps p x n (omega arith) in
-      let same : f (lps n) ≡ f (lps p) = ap (λ (k : ℕ). f (lps k)) here in
-      rw y (omega (arith, above, same, h))))
+    let above : sum_below (λ q. f (put lps p x q)) n ≡ sum_below (λ q. f (lps q)) n = sum_above f lps p x n (omega arith) in
+    let same : f (lps n) ≡ f (lps p) = ap (λ (k : ℕ). f (lps k)) here in
+    rw y (omega (arith, above, same, h))))
     (λ y. rw y (omega (arith, sum_more f lps p x n d h)))
 
 pub sum_none : (f : Lp → ℕ) (n : ℕ) → f idle ≡ 0 → sum_below (λ q. f idle) n ≡ 0
@@ -154,17 +154,17 @@ after_shared : (s : State) (k l : LockId) (a' s' : ℕ) → Counts s l → (hold
     → a' ≤ holders s.lps s.lp_count l + alone_in l (record { lock = k; mode = Shared } ∷ []) → s' ≤ sharers s.lps s.lp_count l + shared_in l (record { lock = k; mode = Shared } ∷ []) → IsSole a' s'
 after_shared s k l a' s' h g x y = by_test (same_lock k l)
     (λ e. (let here : k ≡ l = same_lock-true k l e in
-      let none : holders s.lps s.lp_count l ≡ 0 = subst (λ (i : LockId). holders s.lps s.lp_count i ≡ 0) here (eqb-true _ 0 g) in
-      record { one = omega (arith, x); apart = inl (omega (arith, x)) }))
+    let none : holders s.lps s.lp_count l ≡ 0 = subst (λ (i : LockId). holders s.lps s.lp_count i ≡ 0) here (eqb-true _ 0 g) in
+    record { one = omega (arith, x); apart = inl (omega (arith, x)) }))
     (λ e. fewer _ _ a' s' h (omega (arith, x)) (let z : s' ≤ sharers s.lps s.lp_count l + 0 = rw e at y in omega arith))
 
 after_exclusive : (s : State) (k l : LockId) (a' s' : ℕ) → Counts s l → (holders s.lps s.lp_count k + (sharers s.lps s.lp_count k + refusals s.lps s.lp_count k) == 0) ≡ true
     → a' ≤ holders s.lps s.lp_count l + alone_in l (record { lock = k; mode = Exclusive } ∷ []) → s' ≤ sharers s.lps s.lp_count l + shared_in l (record { lock = k; mode = Exclusive } ∷ []) → IsSole a' s'
 after_exclusive s k l a' s' h g x y = by_test (same_lock k l)
     (λ e. (let here : k ≡ l = same_lock-true k l e in
-      let none : holders s.lps s.lp_count l + (sharers s.lps s.lp_count l + refusals s.lps s.lp_count l) ≡ 0 = subst (λ (i : LockId). holders s.lps s.lp_count i + (sharers s.lps s.lp_count i + refusals s.lps s.lp_count i) ≡ 0) here (eqb-true _ 0 g) in
-      let z : a' ≤ holders s.lps s.lp_count l + 1 = rw e at x in
-      record { one = omega arith; apart = inr (omega (arith, y)) }))
+    let none : holders s.lps s.lp_count l + (sharers s.lps s.lp_count l + refusals s.lps s.lp_count l) ≡ 0 = subst (λ (i : LockId). holders s.lps s.lp_count i + (sharers s.lps s.lp_count i + refusals s.lps s.lp_count i) ≡ 0) here (eqb-true _ 0 g) in
+    let z : a' ≤ holders s.lps s.lp_count l + 1 = rw e at x in
+    record { one = omega arith; apart = inr (omega (arith, y)) }))
     (λ e. fewer _ _ a' s' h (let z : a' ≤ holders s.lps s.lp_count l + 0 = rw e at x in omega arith) (omega (arith, y)))
 
 after_taken : (s : State) (k l : LockId) (m : Mode) (b : Bool) (a' s' : ℕ) → Counts s l → grants s.lps s.lp_count k m ≡ b
@@ -215,9 +215,9 @@ step o s p e eq h l =
     let b = is_granted s e in
     let lp' : Lp = lp_after s.world b e (s.lps p) in
     let alone : alone_of l lp' ≤ alone_of l (s.lps p) + alone_in l (taken_by b e) =
-      omega (arith, event_more (alone_in l) refl (alone_tail l) s.world b e (s.lps p), alone_is l lp', alone_is l (s.lps p)) in
+    omega (arith, event_more (alone_in l) refl (alone_tail l) s.world b e (s.lps p), alone_is l lp', alone_is l (s.lps p)) in
     let shared : shared_of l lp' ≤ shared_of l (s.lps p) + shared_in l (taken_by b e) =
-      omega (arith, event_more (shared_in l) refl (shared_tail l) s.world b e (s.lps p), shared_is l lp', shared_is l (s.lps p)) in
+    omega (arith, event_more (shared_in l) refl (shared_tail l) s.world b e (s.lps p), shared_is l lp', shared_is l (s.lps p)) in
     after_any s l e _ _ (h l) (sum_more (alone_of l) s.lps p lp' s.lp_count (alone_in l (taken_by b e)) alone) (sum_more (shared_of l) s.lps p lp' s.lp_count (shared_in l (taken_by b e)) shared)
 
 pub locks_exclude : LocksExclude

@@ -1,10 +1,10 @@
 -- Two worlds that differ in private words alone: the words of private pages, registers, RTMRs and guests' memories. The
 -- bundles made have the same slots and headers.
-use Rattle.std.specs.Prelude.{◌≡◌, ℕ, List, [], map, Bool, true, false}
+use Rattle.std.specs.Prelude.{◌≡◌, ℕ, List, map, Bool, true, false}
 use Rattle.td_words.specs.declared.names.PageKind.{PageKind}
 use Rattle.td_words.specs.declared.names.PageKind.TheVariants as kind
 use Rattle.flat_core.specs.World.{World}
-use Rattle.flat_core.specs.Processor.{Lp, Translation}
+use Rattle.flat_core.specs.Processor.{Translation}
 use Rattle.flat_core.specs.Opening.{public_bundle}
 use Rattle.flat_core.specs.Row.{Row, Passes}
 

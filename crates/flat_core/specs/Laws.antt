@@ -1,16 +1,14 @@
 -- Laws of the flat machine, for every opening and every schedule.
-use Rattle.std.specs.Prelude.{◌≡◌, ◌≢◌, ◌⊎◌, ℕ, zero, suc, ◌+◌, ◌-◌, ◌*◌, ◌<◌, ◌≤◌, List, [], ◌∷◌, ◌++◌, length, drop, Option, Some, None, Bool, true, false}
+use Rattle.std.specs.Prelude.{◌≡◌, ◌≢◌, ◌⊎◌, ℕ, ◌≤◌, List, Option}
 use Rattle.td_words.specs.declared.calls.Call.{Call}
-use Rattle.td_words.specs.declared.replies.Reply.{Reply}
-use Rattle.td_words.specs.declared.replies.Reply.TheVariants.{Done, Refused, Exited}
 use Rattle.flat_core.specs.World.{World}
-use Rattle.flat_core.specs.Processor.{LockId, Held, Phase, Trying, Undoing, Answered, Lp}
+use Rattle.flat_core.specs.Processor.{LockId}
 use Rattle.flat_core.specs.Locks.{holders, sharers}
 use Rattle.flat_core.specs.Opening.{Opening}
-use Rattle.flat_core.specs.Row.{Row, Move, Attempts, Undoes, Refuses, Succeeds, Releases, Rests}
-use Rattle.flat_core.specs.Table.{row_of, most_tries, most_events}
-use Rattle.flat_core.specs.Event.{State, Event, OfCall, OfOperation, Walks, Reaches, Leaves, start, next_event, lines_left, event, world_after}
-use Rattle.flat_core.specs.Run.{play, run, events_in}
+use Rattle.flat_core.specs.Row.{Succeeds}
+use Rattle.flat_core.specs.Table.{row_of}
+use Rattle.flat_core.specs.Event.{State, Event, OfCall, OfOperation, Reaches, Leaves, start, event, world_after}
+use Rattle.flat_core.specs.Run.{play}
 use Rattle.flat_core.specs.Lawful.{Lawful, RowKeeps}
 use Rattle.flat_core.specs.Alike.{IsBlind}
 

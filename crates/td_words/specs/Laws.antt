@@ -1,5 +1,5 @@
 -- Laws of addresses, packings and places.
-use Rattle.std.specs.Prelude.{◌≡◌, ◌≢◌, ℕ, ◌+◌, ◌*◌, ◌/◌, ◌%◌, ◌<◌, Some, IsTrue, true}
+use Rattle.std.specs.Prelude.{◌≡◌, ◌≢◌, ℕ, ◌+◌, ◌/◌, ◌%◌, ◌<◌, Some, true}
 use Rattle.td_words.specs.Address.{lock_at, pamt_at, word_at, key_at}
 use Rattle.td_words.specs.Packing.{Pamt, pamt_word, pamt_in, is_lawful_pamt, Entry, entry_word, entry_in, is_lawful_entry, Key, key_word, key_in, is_lawful_key}
 use Rattle.td_words.specs.Places.{tdr_places, tdcs_places, vp_places, stream_places, key_places, are_apart}
