@@ -50,7 +50,7 @@ host_write-blind m page i x = record {
     streams = a.streams;
     key_table = a.key_table;
     told = a.told;
-    to_tell = a.to_tell;
+   
     bundles = a.bundles;
     words = λ p j h. ap (λ (y : ℕ). if p == page && j == i then x else y) (a.words p j h);
   };
@@ -74,7 +74,7 @@ create-blind m t h = record {
     vps = a.vps;
     streams = a.streams;
     told = a.told;
-    to_tell = a.to_tell;
+   
     bundles = a.bundles;
     pages = ap (λ (x : Pages). record { kinds = put x.kinds t kind.Tdr; owners = put x.owners t t; blocked = put x.blocked t 0; levels = put x.levels t 0; numbers = put x.numbers t 0 }) a.pages;
     words = λ p i pub_. by_test (p == t) (λ y. rw y refl) (λ y. rw y (a.words p i (rw y at pub_)));

@@ -39,19 +39,19 @@ row_enters o me (call.PhymemPageRdmd page) = refl
 row_enters o me (call.MngCreate t h) = refl
 
 -- a call that is answered holds something, else it would be done
-abbrev IsUnderWay : Phase Reply → List Held → Type 0
+abbrev pub IsUnderWay : Phase Reply → List Held → Type 0
 IsUnderWay Trying hs = Unit {0}
 IsUnderWay (Undoing l) hs = Unit {0}
 IsUnderWay (Answered r) [] = ⊥
 IsUnderWay (Answered r) (h ∷ hs) = Unit {0}
 
-abbrev IsTimelyAt : List Call → Progress Reply → Type 0
+abbrev pub IsTimelyAt : List Call → Progress Reply → Type 0
 IsTimelyAt [] p = Unit {0}
 IsTimelyAt (c ∷ cs) p = (length p.held ≤ most_tries c) × IsUnderWay p.phase p.held
 
-record IsTimely (calls : List Call) (lp : Lp) : Type 0 where
-  here : lp.guest ≡ None
-  call : IsTimelyAt (drop (length lp.replies) calls) lp.call
+pub record IsTimely (calls : List Call) (lp : Lp) : Type 0 where
+  pub here : lp.guest ≡ None
+  pub call : IsTimelyAt (drop (length lp.replies) calls) lp.call
 
 drop_next : {A : Type 0} (k : ℕ) (xs : List A) (y : A) (ys : List A) → drop k xs ≡ y ∷ ys → drop (suc k) xs ≡ ys
 drop_next zero [] y ys e = cc
@@ -157,15 +157,15 @@ module _ (o : Opening) (s : State) (p : ℕ) (timely : IsTimely (calls_of o.call
   lowers : (e : Event) → next_event o s p ≡ Some e → Lowers (calls_of o.calls p) (events_left o s p) (after e)
   lowers e is = by_lines (lines_left o p lp) e refl is
 
-abbrev AllTimely : Opening → State → Type 0
+abbrev pub AllTimely : Opening → State → Type 0
 AllTimely o s = (q : ℕ) → IsTimely (calls_of o.calls q) (s.lps q)
 
-timely_step : (o : Opening) (s : State) (p : ℕ) (e : Event) → next_event o s p ≡ Some e → AllTimely o s → AllTimely o (after_event p s (Some e))
+pub timely_step : (o : Opening) (s : State) (p : ℕ) (e : Event) → next_event o s p ≡ Some e → AllTimely o s → AllTimely o (after_event p s (Some e))
 timely_step o s p e is h q = by_test (q == p)
     (λ y. (let here : p ≡ q = sym (eqb-true q p y) in rw y (subst (λ (x : ℕ). IsTimely (calls_of o.calls x) (lp_after s.world (is_granted s e) e (s.lps p))) here (lowers o s p (h p) e is).timely)))
     (λ y. rw y (h q))
 
-idle_timely : (calls : List Call) → IsTimely calls idle
+pub idle_timely : (calls : List Call) → IsTimely calls idle
 idle_timely calls = record { here = refl; call = fresh_timely calls }
 
 always_timely : (o : Opening) (ws : Option (List ℕ)) (ls : List ℕ) → AllTimely o (play o ls (start o ws))

@@ -5,3 +5,4 @@ pub mod Blind
 pub mod Kept
 pub mod LockLaw
 pub mod Ends
+pub mod TwoWorlds

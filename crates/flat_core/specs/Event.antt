@@ -183,10 +183,13 @@ lp_after w granted (Reaches t v access r gpa page) lp =
 lp_after w granted (Leaves v out) lp = record lp { guest = None; call = record { phase = Answered (Exited out); held = lp.call.held } }
 
 -- whether the try of an event is granted
+abbrev pub is_granted_in : (ℕ → Lp) → ℕ → Event → Bool
+is_granted_in lps n (OfCall row (Attempts l m)) = grants lps n l m
+is_granted_in lps n (OfOperation row (Attempts l m)) = grants lps n l m
+is_granted_in lps n _ = false
+
 abbrev pub is_granted : State → Event → Bool
-is_granted s (OfCall row (Attempts l m)) = grants s.lps s.lp_count l m
-is_granted s (OfOperation row (Attempts l m)) = grants s.lps s.lp_count l m
-is_granted s _ = false
+is_granted s e = is_granted_in s.lps s.lp_count e
 
 abbrev pub after_event : ℕ → State → Option Event → State
 after_event p s None = s

@@ -2,7 +2,7 @@
 
 ghost use Rattle.flat_core.specs.Worked.{Examples};
 ghost use Rattle.flat_core.specs.Bounds.{EventsRunOut, RunsEnd};
-ghost use Rattle.flat_core.specs.Laws.{RowsKeep, RowsAreBlind, EveryWorldIsLawful, OthersStay, QuietEventsStay, LocksExclude};
+ghost use Rattle.flat_core.specs.Laws.{RowsKeep, RowsAreBlind, EveryWorldIsLawful, OthersStay, QuietEventsStay, LocksExclude, BlindRunsPrintTheSame};
 
 /// The worked examples: replies of small runs, and how many events they take.
 pub fn worked_examples()
@@ -40,3 +40,9 @@ pub fn end_laws()
     ensures runs_out { EventsRunOut }
     ensures runs_end { RunsEnd }
 {}
+
+/// What a run prints is the same whatever the private words are, apart from what guests tell.
+pub fn two_world_law()
+    ensures { BlindRunsPrintTheSame }
+{
+}
