@@ -1,16 +1,15 @@
 -- Each row asks and answers the same in two worlds that differ in private words alone, and keeps them so.
-use Rattle.std.proofs.Common.{◌≡◌, refl, sym, ◌∙◌, subst, ap, ℕ, List, [], ◌∷◌, Bool, true, false, ◌==◌, ◌&&◌, if◌then◌else◌}
+use Rattle.std.proofs.Common.{◌≡◌, refl, sym, ◌∙◌, ap, ℕ, true, ◌==◌, ◌&&◌, if◌then◌else◌}
 use Rattle.td_words.specs.declared.names.PageKind.{PageKind}
 use Rattle.td_words.specs.declared.names.PageKind.TheVariants as kind
 use Rattle.td_words.specs.declared.machines.Machine.{Machine}
 use Rattle.td_words.specs.declared.calls.Call.{Call}
 use Rattle.td_words.specs.declared.calls.Call.TheVariants as call
-use Rattle.td_words.specs.declared.replies.Value.{Value}
 use Rattle.td_words.specs.declared.replies.Value.TheVariants as value
 use Rattle.td_words.specs.Packing.{assigned}
 use Rattle.flat_core.specs.World.{World, Pages, Tds, KeyTable, put}
 use Rattle.flat_core.specs.Opening.{Opening}
-use Rattle.flat_core.specs.Conditions.{same_kind, is_host_in, is_free_key}
+use Rattle.flat_core.specs.Conditions.{same_kind, is_host_in}
 use Rattle.flat_core.specs.Effects.{new_td}
 use Rattle.flat_core.specs.HostRows.{host_read, host_write, read_metadata}
 use Rattle.flat_core.specs.TdRows.{create}
@@ -44,7 +43,15 @@ host_write-blind m page i x = record {
   value = λ v w a. refl;
   cached = λ v w ts a. refl;
   act = λ v w a ps. record {
-    size = a.size; pages = a.pages; tds = a.tds; vps = a.vps; streams = a.streams; key_table = a.key_table; told = a.told; to_tell = a.to_tell; bundles = a.bundles;
+    size = a.size;
+    pages = a.pages;
+    tds = a.tds;
+    vps = a.vps;
+    streams = a.streams;
+    key_table = a.key_table;
+    told = a.told;
+   
+    bundles = a.bundles;
     words = λ p j h. ap (λ (y : ℕ). if p == page && j == i then x else y) (a.words p j h);
   };
 }
@@ -63,7 +70,12 @@ create-blind m t h = record {
   value = λ v w a. refl;
   cached = λ v w ts a. refl;
   act = λ v w a ps. record {
-    size = a.size; vps = a.vps; streams = a.streams; told = a.told; to_tell = a.to_tell; bundles = a.bundles;
+    size = a.size;
+    vps = a.vps;
+    streams = a.streams;
+    told = a.told;
+   
+    bundles = a.bundles;
     pages = ap (λ (x : Pages). record { kinds = put x.kinds t kind.Tdr; owners = put x.owners t t; blocked = put x.blocked t 0; levels = put x.levels t 0; numbers = put x.numbers t 0 }) a.pages;
     words = λ p i pub_. by_test (p == t) (λ y. rw y refl) (λ y. rw y (a.words p i (rw y at pub_)));
     tds = ap (λ (x : Tds). (new_td t h (record v { tds = x })).tds) a.tds;

@@ -1,6 +1,6 @@
 -- The inductions over a run, written once: what each event keeps of the state, what each act keeps of the world, what
 -- each event keeps of the processors' records, and what one event in each of two runs keeps of both.
-use Rattle.std.proofs.Common.{◌≡◌, refl, sym, subst, ap, ℕ, zero, suc, ◌+◌, List, [], ◌∷◌, length, Option, Some, None, Bool, true, false}
+use Rattle.std.proofs.Common.{◌≡◌, refl, ℕ, zero, suc, ◌+◌, List, [], ◌∷◌, length, Option, Some, None, Bool, true, false}
 use Rattle.td_words.specs.declared.names.Access.{Access}
 use Rattle.td_words.specs.declared.calls.Call.{Call}
 use Rattle.td_words.specs.declared.calls.GuestOp.{GuestOp}
@@ -9,12 +9,12 @@ use Rattle.td_words.specs.declared.replies.Reply.{Reply}
 use Rattle.flat_core.specs.World.{World}
 use Rattle.flat_core.specs.Processor.{Phase, Trying, Undoing, Answered, Held, Guest, Lp}
 use Rattle.flat_core.specs.Opening.{Opening}
-use Rattle.flat_core.specs.Row.{Item, Check, Try, Row, OperationRow, Passes, Move, next, next_in}
+use Rattle.flat_core.specs.Row.{Item, Check, Try, Row, OperationRow, Passes, next, next_in}
 use Rattle.flat_core.specs.Table.{row_of}
 use Rattle.flat_core.specs.Guest.{Operation, ByRow, Private, operation_of, reach, page_of_gpa}
 use Rattle.flat_core.specs.Effects.{leave_guest}
 use Rattle.flat_core.specs.Translations.{look_up}
-use Rattle.flat_core.specs.Event.{State, Event, OfCall, OfOperation, Walks, Reaches, Leaves, next_event, event_for, line_event, entered_event, epoch_event, max_event, guest_event, staying_event, due_event, operation_due, operation_event, private_event, lines_left, is_epoch_lock, nothing_more, world_after, call_world, operation_world, after_event, event}
+use Rattle.flat_core.specs.Event.{State, Event, next_event, event_for, line_event, entered_event, epoch_event, max_event, guest_event, staying_event, due_event, operation_due, operation_event, private_event, lines_left, is_epoch_lock, nothing_more, world_after, call_world, operation_world, after_event, event}
 use Rattle.flat_core.specs.Run.{play}
 use Rattle.std.specs.Prelude.{nat_le}
 

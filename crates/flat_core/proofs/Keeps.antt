@@ -1,5 +1,5 @@
 -- Each row's act keeps what every world keeps.
-use Rattle.std.proofs.Common.{◌≡◌, ◌≢◌, refl, sym, ◌∙◌, subst, ap, ℕ, zero, suc, ◌<◌, List, [], ◌∷◌, Option, Some, None, Bool, true, false, ◌==◌, nat_lt, if◌then◌else◌, arith}
+use Rattle.std.proofs.Common.{◌≡◌, ◌≢◌, refl, sym, ◌∙◌, subst, ap, ℕ, suc, ◌<◌, List, [], ◌∷◌, Option, Some, None, Bool, true, false, ◌==◌, nat_lt, arith}
 use Rattle.std.proofs.lemmas.Bool.{eq-eqb, eqb-true}
 use Rattle.std.proofs.lemmas.Bool.Decides.{nat_tests}
 use Rattle.td_words.specs.declared.names.PageKind.{PageKind}
@@ -8,11 +8,10 @@ use Rattle.td_words.specs.declared.machines.Machine.{Machine}
 use Rattle.td_words.specs.declared.calls.Call.{Call}
 use Rattle.td_words.specs.declared.calls.Call.TheVariants as call
 use Rattle.td_words.specs.Packing.{Key, free, assigned, flushed}
-use Rattle.flat_core.specs.World.{World, Pages, Tds, KeyTable, put, first_world}
+use Rattle.flat_core.specs.World.{Pages, Tds, KeyTable, put, first_world}
 use Rattle.flat_core.specs.Opening.{Opening}
-use Rattle.flat_core.specs.Row.{Row}
 use Rattle.flat_core.specs.Conditions.{same_kind, is_host_in, is_free_key}
-use Rattle.flat_core.specs.Effects.{take_page, new_td}
+use Rattle.flat_core.specs.Effects.{new_td}
 use Rattle.flat_core.specs.HostRows.{host_read, host_write, read_metadata}
 use Rattle.flat_core.specs.TdRows.{create}
 use Rattle.flat_core.specs.Table.{row_of}
@@ -140,23 +139,23 @@ module _ (count : ℕ) (old : Pages) (tds : Tds) (table : KeyTable) (t h : ℕ) 
     owner = λ x a. by_test (x == t)
         (λ y. rw (y, same_self h) (ap (λ (n : ℕ). Some n) (sym (eqb-true x t y))))
         (λ y. (let before = l.owner x (alive_before x y a) in
-          by_test (tds.hkids x == h)
-          (λ z. absurd (let here : tds.hkids x ≡ h = eqb-true _ h z in taken_key (table.keys h) x is_free_hkid (sym (ap (λ (n : ℕ). key_owner (table.keys n)) here) ∙ before)))
-          (λ z. rw (y, z) before)));
+        by_test (tds.hkids x == h)
+        (λ z. absurd (let here : tds.hkids x ≡ h = eqb-true _ h z in taken_key (table.keys h) x is_free_hkid (sym (ap (λ (n : ℕ). key_owner (table.keys n)) here) ∙ before)))
+        (λ z. rw (y, z) before)));
   }
 
 pub create-keeps : (m : Machine) (t h : ℕ) → RowKeeps m (create m t h)
 create-keeps m t h = record {
   act = λ w l ps. (let host : w.pages.kinds t ≡ kind.Nda = host_kind _ ps.1.1.0 in
-    let small : t < m.pages = lt_of t m.pages ps.0 in
-    let free_hkid : is_free_key (w.key_table.keys h) ≡ true = ps.1.1.1.0 in
-    record {
-      size = l.size;
-      pages = new_pages m.pages w.pages t host l.pages small;
-      tds = new_tds m.pages w.pages w.tds w.key_table t h host l.pages small free_hkid l.tds;
-      tree = new_tree m.pages w.pages w.tds w.key_table t h host l.pages small free_hkid l.tree;
-      keys = new_keys m.pages w.pages w.tds w.key_table t h host l.pages small free_hkid l.keys;
-    });
+      let small : t < m.pages = lt_of t m.pages ps.0 in
+      let free_hkid : is_free_key (w.key_table.keys h) ≡ true = ps.1.1.1.0 in
+      record {
+        size = l.size;
+        pages = new_pages m.pages w.pages t host l.pages small;
+        tds = new_tds m.pages w.pages w.tds w.key_table t h host l.pages small free_hkid l.tds;
+        tree = new_tree m.pages w.pages w.tds w.key_table t h host l.pages small free_hkid l.tree;
+        keys = new_keys m.pages w.pages w.tds w.key_table t h host l.pages small free_hkid l.keys;
+      });
 }
 
 pub row-keeps : (o : Opening) (me : ℕ) (c : Call) → RowKeeps o.machine (row_of o me c)

@@ -1,19 +1,17 @@
 -- What every schedule keeps.
-use Rattle.std.proofs.Common.{◌≡◌, ◌≢◌, refl, sym, subst, ℕ, List, Option, Some, None, Bool, true, false, ◌==◌, if◌then◌else◌}
-use Rattle.std.proofs.lemmas.Bool.{eqb-true, ne_eqb}
+use Rattle.std.proofs.Common.{◌≡◌, ◌≢◌, refl, ℕ, Option, Some, None}
+use Rattle.std.proofs.lemmas.Bool.{ne_eqb}
 use Rattle.td_words.specs.declared.names.Access.{Access}
 use Rattle.td_words.specs.declared.names.Access.TheVariants.{Read, Write}
-use Rattle.td_words.specs.declared.calls.GuestOp.{GuestOp}
-use Rattle.flat_core.specs.World.{World, put, first_world}
-use Rattle.flat_core.specs.Processor.{Lp}
+use Rattle.flat_core.specs.World.{World}
 use Rattle.flat_core.specs.Opening.{Opening}
-use Rattle.flat_core.specs.Row.{Move, Attempts, Undoes, Refuses, Succeeds, Releases, Rests, OperationRow}
-use Rattle.flat_core.specs.Guest.{ByRow, operation_of, reach}
-use Rattle.flat_core.specs.Event.{State, Event, OfCall, OfOperation, Walks, Reaches, Leaves, start, next_event, event, after_event, world_after}
+use Rattle.flat_core.specs.Row.{Attempts, Undoes, Refuses, Succeeds, Releases, Rests}
+use Rattle.flat_core.specs.Guest.{reach}
+use Rattle.flat_core.specs.Event.{State, Event, OfCall, OfOperation, Walks, Reaches, Leaves, start, next_event, after_event}
 use Rattle.flat_core.specs.Lawful.{Lawful}
-use Rattle.flat_core.specs.Laws.{EveryWorldIsLawful, OthersStay, QuietEventsStay, IsQuiet}
+use Rattle.flat_core.specs.Laws.{EveryWorldIsLawful, OthersStay, QuietEventsStay}
 use Rattle.flat_core.proofs.Induction.{world_kept}
-use Rattle.flat_core.proofs.Keeps.{row-keeps, first-lawful, by_test}
+use Rattle.flat_core.proofs.Keeps.{row-keeps, first-lawful}
 
 -- a guest's access changes words, registers, memories and positions alone
 reach_lawful : (o : Opening) (t v : ℕ) (access : Access) (r gpa page : ℕ) (w : World) → Lawful o.machine w → Lawful o.machine (reach t v access r gpa page w)

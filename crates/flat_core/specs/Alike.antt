@@ -1,10 +1,10 @@
 -- Two worlds that differ in private words alone: the words of private pages, registers, RTMRs and guests' memories. The
--- bundles made have the same slots and headers.
-use Rattle.std.specs.Prelude.{◌≡◌, ℕ, List, [], map, Bool, true, false}
+-- same words were told, and the bundles made have the same slots and headers.
+use Rattle.std.specs.Prelude.{◌≡◌, ℕ, List, map, Bool, true, false}
 use Rattle.td_words.specs.declared.names.PageKind.{PageKind}
 use Rattle.td_words.specs.declared.names.PageKind.TheVariants as kind
 use Rattle.flat_core.specs.World.{World}
-use Rattle.flat_core.specs.Processor.{Lp, Translation}
+use Rattle.flat_core.specs.Processor.{Translation}
 use Rattle.flat_core.specs.Opening.{public_bundle}
 use Rattle.flat_core.specs.Row.{Row, Passes}
 
@@ -22,7 +22,6 @@ pub record Alike (v w : World) : Type 0 where
   pub streams : v.streams ≡ w.streams
   pub key_table : v.key_table ≡ w.key_table
   pub told : v.outgoing.told ≡ w.outgoing.told
-  pub to_tell : v.outgoing.to_tell ≡ w.outgoing.to_tell
   pub bundles : map public_bundle v.outgoing.bundles ≡ map public_bundle w.outgoing.bundles
 
 -- A row in two worlds: it asks and answers the same, and its act keeps them alike.

@@ -1,6 +1,6 @@
 -- Argument rules. Each argument's own range is tested first, from left to right; then that no page is named twice; then
 -- alignment. A fault is OPERAND_INVALID with the argument's place, from 1.
-use Rattle.std.specs.Prelude.{ℕ, ◌+◌, ◌*◌, ◌%◌, ◌^◌, Bool, not, ◌==◌, ◌&&◌, nat_lt, nat_le}
+use Rattle.std.specs.Prelude.{ℕ, ◌*◌, ◌%◌, ◌^◌, Bool, not, ◌==◌, ◌&&◌, nat_lt, nat_le}
 use Rattle.td_words.specs.declared.refusals.Status.TheVariants.{OperandInvalid}
 use Rattle.td_words.specs.declared.replies.Reply.{Reply}
 use Rattle.td_words.specs.declared.machines.Machine.{Machine}

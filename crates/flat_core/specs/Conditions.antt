@@ -1,5 +1,5 @@
 -- Words that conditions are written in, and the beginnings that the rows of a TD's calls share.
-use Rattle.std.specs.Prelude.{ℕ, zero, suc, ◌+◌, List, [], ◌∷◌, length, Option, Some, None, Bool, true, false, not, ◌==◌, ◌&&◌}
+use Rattle.std.specs.Prelude.{ℕ, zero, suc, ◌+◌, List, [], ◌∷◌, length, Bool, true, false, not, ◌==◌, ◌&&◌}
 use Rattle.std.specs.List.{list_any}
 use Rattle.td_words.specs.declared.names.PageKind.{PageKind}
 use Rattle.td_words.specs.declared.names.PageKind.TheVariants as kind
@@ -13,9 +13,9 @@ use Rattle.td_words.specs.declared.replies.Reply.{Reply}
 use Rattle.td_words.specs.NameNumber.{kind_number, life_number, op_number}
 use Rattle.td_words.specs.Packing.{Key, free, assigned, flushed}
 use Rattle.flat_core.specs.World.{World, Pages}
-use Rattle.flat_core.specs.Processor.{OfPage, OfOp, OfTree, OfEpoch, OfRtmr, OfKeys}
+use Rattle.flat_core.specs.Processor.{OfPage, OfOp, OfKeys}
 use Rattle.flat_core.specs.Locks.{one_if}
-use Rattle.flat_core.specs.Row.{Item, Check, Try, needs}
+use Rattle.flat_core.specs.Row.{Item, Try, needs}
 
 abbrev pub same_kind : PageKind → PageKind → Bool
 same_kind a b = kind_number a == kind_number b

@@ -7,7 +7,7 @@ use Rattle.td_words.specs.declared.names.LifeState.TheVariants as life
 use Rattle.td_words.specs.declared.names.OpState.{OpState}
 use Rattle.td_words.specs.declared.names.OpState.TheVariants as op
 use Rattle.td_words.specs.Packing.{Entry, Key}
-use Rattle.flat_core.specs.World.{World, Pages, Tds, Hidden, Outgoing, Made, put, free_entry}
+use Rattle.flat_core.specs.World.{World, Made, put, free_entry}
 
 -- v at (i, j)
 abbrev pub put_in : {A : Type 0} → (ℕ → ℕ → A) → ℕ → ℕ → A → ℕ → ℕ → A
@@ -27,8 +27,11 @@ clear_page p w = set_page p (λ i. 0) w
 abbrev pub take_node : ℕ → PageKind → ℕ → ℕ → ℕ → World → World
 take_node p k t level number w = record w {
   pages = record {
-    kinds = put w.pages.kinds p k; owners = put w.pages.owners p t; blocked = put w.pages.blocked p 0;
-    levels = put w.pages.levels p level; numbers = put w.pages.numbers p number;
+    kinds = put w.pages.kinds p k;
+    owners = put w.pages.owners p t;
+    blocked = put w.pages.blocked p 0;
+    levels = put w.pages.levels p level;
+    numbers = put w.pages.numbers p number;
   };
 }
 
@@ -62,14 +65,28 @@ set_entry t level number e w = record w { tds = record (w.tds) { entries = put w
 abbrev pub new_td : ℕ → ℕ → World → World
 new_td t h w = record w {
   tds = record {
-    lives = put w.tds.lives t life.HkidAssigned; hkids = put w.tds.hkids t h; controls = put w.tds.controls t []; ops = put w.tds.ops t op.Uninitialized;
-    epochs = put w.tds.epochs t 0; entries = put w.tds.entries t (λ l n. free_entry); vps = put w.tds.vps t []; vps_expected = put w.tds.vps_expected t 0;
-    streams = put w.tds.streams t []; measured = put w.tds.measured t []; mrtds = put w.tds.mrtds t (λ i. 0); sessions = put w.tds.sessions t 0;
-    mig_epochs = put w.tds.mig_epochs t 0; td_exported = put w.tds.td_exported t 0; vps_exported = put w.tds.vps_exported t 0;
-    dirtied = put w.tds.dirtied t 0; unrestored = put w.tds.unrestored t 0;
+    lives = put w.tds.lives t life.HkidAssigned;
+    hkids = put w.tds.hkids t h;
+    controls = put w.tds.controls t [];
+    ops = put w.tds.ops t op.Uninitialized;
+    epochs = put w.tds.epochs t 0;
+    entries = put w.tds.entries t (λ l n. free_entry);
+    vps = put w.tds.vps t [];
+    vps_expected = put w.tds.vps_expected t 0;
+    streams = put w.tds.streams t [];
+    measured = put w.tds.measured t [];
+    mrtds = put w.tds.mrtds t (λ i. 0);
+    sessions = put w.tds.sessions t 0;
+    mig_epochs = put w.tds.mig_epochs t 0;
+    td_exported = put w.tds.td_exported t 0;
+    vps_exported = put w.tds.vps_exported t 0;
+    dirtied = put w.tds.dirtied t 0;
+    unrestored = put w.tds.unrestored t 0;
   };
   hidden = record {
-    registers = w.hidden.registers; rtmrs = put w.hidden.rtmrs t (λ i. 0); memories = put w.hidden.memories t (λ g. None);
+    registers = w.hidden.registers;
+    rtmrs = put w.hidden.rtmrs t (λ i. 0);
+    memories = put w.hidden.memories t (λ g. None);
   };
 }
 

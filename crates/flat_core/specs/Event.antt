@@ -1,5 +1,5 @@
 -- Events: the next one of a logical processor, and what it makes of the world and of that processor's record.
-use Rattle.std.specs.Prelude.{ℕ, zero, suc, ◌+◌, List, [], ◌∷◌, ◌++◌, length, drop, Option, Some, None, option_map, Bool, true, false, nat_le, slice_get, if◌then◌else◌}
+use Rattle.std.specs.Prelude.{ℕ, zero, suc, ◌+◌, List, [], ◌∷◌, ◌++◌, length, drop, Option, Some, None, option_map, Bool, true, false, nat_le, slice_get}
 use Rattle.td_words.specs.declared.names.LockName.{LockName}
 use Rattle.td_words.specs.declared.names.Access.{Access}
 use Rattle.td_words.specs.declared.refusals.Status.TheVariants.{OperandBusy}
@@ -10,10 +10,10 @@ use Rattle.td_words.specs.declared.replies.Reply.TheVariants.{Done, Refused, Exi
 use Rattle.td_words.specs.declared.calls.Call.{Call}
 use Rattle.td_words.specs.declared.calls.GuestOp.{GuestOp}
 use Rattle.flat_core.specs.World.{World, first_world, put}
-use Rattle.flat_core.specs.Processor.{LockId, OfPage, OfOp, OfTree, OfEpoch, OfRtmr, OfKeys, Held, Phase, Trying, Undoing, Answered, Progress, nothing_yet, Guest, Entry, new_guest, Translation, Note, Lp, idle}
+use Rattle.flat_core.specs.Processor.{LockId, OfEpoch, Held, Phase, Trying, Undoing, Answered, nothing_yet, Guest, Entry, new_guest, Translation, Note, Lp, idle}
 use Rattle.flat_core.specs.Locks.{grants}
 use Rattle.flat_core.specs.Opening.{Opening}
-use Rattle.flat_core.specs.Row.{Item, Row, OperationRow, Move, Attempts, Undoes, Refuses, Succeeds, Releases, Rests, next_in, after_move}
+use Rattle.flat_core.specs.Row.{Row, OperationRow, Move, Attempts, Undoes, Succeeds, Releases, next_in, after_move}
 use Rattle.flat_core.specs.Table.{row_of}
 use Rattle.flat_core.specs.Effects.{leave_guest}
 use Rattle.flat_core.specs.Translations.{look_up}
@@ -183,10 +183,13 @@ lp_after w granted (Reaches t v access r gpa page) lp =
 lp_after w granted (Leaves v out) lp = record lp { guest = None; call = record { phase = Answered (Exited out); held = lp.call.held } }
 
 -- whether the try of an event is granted
+abbrev pub is_granted_in : (ℕ → Lp) → ℕ → Event → Bool
+is_granted_in lps n (OfCall row (Attempts l m)) = grants lps n l m
+is_granted_in lps n (OfOperation row (Attempts l m)) = grants lps n l m
+is_granted_in lps n _ = false
+
 abbrev pub is_granted : State → Event → Bool
-is_granted s (OfCall row (Attempts l m)) = grants s.lps s.lp_count l m
-is_granted s (OfOperation row (Attempts l m)) = grants s.lps s.lp_count l m
-is_granted s _ = false
+is_granted s e = is_granted_in s.lps s.lp_count e
 
 abbrev pub after_event : ℕ → State → Option Event → State
 after_event p s None = s

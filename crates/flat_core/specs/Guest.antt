@@ -1,6 +1,6 @@
 -- Guest operations. One that has locks of its own, or none, goes by a row; a private access goes by a cached translation,
 -- or walks the secure EPT from its root until there is one (Base Architecture, "Secure EPT Walk").
-use Rattle.std.specs.Prelude.{ℕ, zero, suc, ◌+◌, ◌*◌, ◌/◌, ◌%◌, List, [], ◌∷◌, ◌++◌, Option, Some, None, Bool, true, false, if◌then◌else◌}
+use Rattle.std.specs.Prelude.{ℕ, zero, suc, ◌/◌, ◌%◌, List, [], ◌∷◌, Option, Some, Bool, true, false}
 use Rattle.td_words.specs.declared.names.EntryState.TheVariants as entry
 use Rattle.td_words.specs.declared.names.Access.{Access}
 use Rattle.td_words.specs.declared.names.Access.TheVariants.{Read, Write}
@@ -9,7 +9,7 @@ use Rattle.td_words.specs.declared.replies.Outcome.{Outcome}
 use Rattle.td_words.specs.declared.replies.Outcome.TheVariants.{EptViolation}
 use Rattle.td_words.specs.Packing.{Entry}
 use Rattle.flat_core.specs.World.{World}
-use Rattle.flat_core.specs.Processor.{Progress, Phase, Trying, Answered, Translation, Guest, Note, LoadNote, nothing_yet}
+use Rattle.flat_core.specs.Processor.{Answered, Translation, Guest, Note, LoadNote}
 use Rattle.flat_core.specs.Opening.{Opening}
 use Rattle.flat_core.specs.Row.{OperationRow}
 use Rattle.flat_core.specs.Tree.{entry_at, same_state, may_write, allows}

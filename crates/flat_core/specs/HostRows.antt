@@ -1,9 +1,8 @@
 -- The host's plain memory accesses, and its look at page metadata (ABI Reference, "TDH.PHYMEM.PAGE.RDMD").
-use Rattle.std.specs.Prelude.{ℕ, List, [], ◌∷◌, if◌then◌else◌}
+use Rattle.std.specs.Prelude.{ℕ, [], ◌∷◌, if◌then◌else◌}
 use Rattle.td_words.specs.declared.refusals.Status.TheVariants.{NotHost}
 use Rattle.td_words.specs.declared.replies.Value.TheVariants as value
 use Rattle.td_words.specs.declared.machines.Machine.{Machine}
-use Rattle.flat_core.specs.World.{World}
 use Rattle.flat_core.specs.Row.{Row, call_row, needs}
 use Rattle.flat_core.specs.Arguments.{page_argument, word_argument}
 use Rattle.flat_core.specs.Conditions.{is_host, page_shared}

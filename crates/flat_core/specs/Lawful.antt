@@ -1,13 +1,13 @@
 -- What every state of every run keeps. A clause on a TD holds while the TD is alive: its page is a TDR page, and its life
 -- isn't at its end.
-use Rattle.std.specs.Prelude.{◌≡◌, ℕ, zero, suc, ◌+◌, ◌<◌, ◌≤◌, List, [], ◌∷◌, length, Option, Some, None, Bool, true, false, ◌==◌}
+use Rattle.std.specs.Prelude.{◌≡◌, ℕ, suc, ◌<◌, List, [], ◌∷◌, Option, Some, None, Bool, true, false, ◌==◌}
 use Rattle.td_words.specs.declared.names.PageKind.{PageKind}
 use Rattle.td_words.specs.declared.names.PageKind.TheVariants as kind
 use Rattle.td_words.specs.declared.names.EntryState.{EntryState}
 use Rattle.td_words.specs.declared.names.EntryState.TheVariants as entry
 use Rattle.td_words.specs.declared.machines.Machine.{Machine}
 use Rattle.td_words.specs.NameNumber.{life_number}
-use Rattle.td_words.specs.Packing.{Entry, Key, free, assigned, flushed}
+use Rattle.td_words.specs.Packing.{Key, free, assigned, flushed}
 use Rattle.flat_core.specs.World.{World, Pages, Tds, KeyTable}
 use Rattle.flat_core.specs.Row.{Row, Passes}
 use Rattle.flat_core.specs.Conditions.{is_host_in}

@@ -1,16 +1,15 @@
 -- Laws of the flat machine, for every opening and every schedule.
-use Rattle.std.specs.Prelude.{◌≡◌, ◌≢◌, ◌⊎◌, ℕ, zero, suc, ◌+◌, ◌-◌, ◌*◌, ◌<◌, ◌≤◌, List, [], ◌∷◌, ◌++◌, length, drop, Option, Some, None, Bool, true, false}
+use Rattle.std.specs.Prelude.{◌≡◌, ◌≢◌, ◌⊎◌, ℕ, ◌≤◌, List, Option}
 use Rattle.td_words.specs.declared.calls.Call.{Call}
-use Rattle.td_words.specs.declared.replies.Reply.{Reply}
-use Rattle.td_words.specs.declared.replies.Reply.TheVariants.{Done, Refused, Exited}
 use Rattle.flat_core.specs.World.{World}
-use Rattle.flat_core.specs.Processor.{LockId, Held, Phase, Trying, Undoing, Answered, Lp}
+use Rattle.flat_core.specs.Processor.{LockId}
 use Rattle.flat_core.specs.Locks.{holders, sharers}
-use Rattle.flat_core.specs.Opening.{Opening}
-use Rattle.flat_core.specs.Row.{Row, Move, Attempts, Undoes, Refuses, Succeeds, Releases, Rests}
-use Rattle.flat_core.specs.Table.{row_of, most_tries, most_events}
-use Rattle.flat_core.specs.Event.{State, Event, OfCall, OfOperation, Walks, Reaches, Leaves, start, next_event, lines_left, event, world_after}
-use Rattle.flat_core.specs.Run.{play, run, events_in}
+use Rattle.flat_core.specs.Opening.{Opening, blind}
+use Rattle.flat_core.specs.Row.{Succeeds}
+use Rattle.flat_core.specs.Table.{row_of}
+use Rattle.flat_core.specs.Event.{State, Event, OfCall, OfOperation, Reaches, Leaves, start, event, world_after}
+use Rattle.flat_core.specs.Run.{play, run, run_told, told_in}
+use Rattle.flat_core.specs.HostText.{host_text, lines_from}
 use Rattle.flat_core.specs.Lawful.{Lawful, RowKeeps}
 use Rattle.flat_core.specs.Alike.{IsBlind}
 
@@ -52,3 +51,8 @@ pub record IsSole (alone shared : ℕ) : Type 0 where
 abbrev pub LocksExclude : Type 0
 LocksExclude = (o : Opening) (words_to_tell : Option (List ℕ)) (schedule : List ℕ) (l : LockId)
     → let s = reached o words_to_tell schedule in IsSole (holders s.lps s.lp_count l) (sharers s.lps s.lp_count l)
+
+-- What is printed is the same whatever the private words are: as with every private word 0, where guests tell the same.
+abbrev pub BlindRunsPrintTheSame : Type 0
+BlindRunsPrintTheSame = (o : Opening) (schedule : List ℕ)
+    → host_text o schedule ≡ lines_from 0 o.calls (run_told (blind o) schedule (told_in (run o schedule)))

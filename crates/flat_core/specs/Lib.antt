@@ -19,4 +19,5 @@ pub mod HostText
 pub mod Lawful
 pub mod Alike
 pub mod Laws
+pub mod Bounds
 pub mod Worked

@@ -1,5 +1,5 @@
 -- What is fixed before a run: the machine, the calls, the guest code, the bundles that come in, and the secret words.
-use Rattle.std.specs.Prelude.{ℕ, List, [], ◌∷◌, map, Option, Some, None, Result, Ok, Err, Bool, true, false, ◌==◌, ◌||◌, if◌then◌else◌, option_map}
+use Rattle.std.specs.Prelude.{ℕ, List, map, Option, Result, Ok, Err, Bool, ◌==◌, ◌||◌, if◌then◌else◌, option_map}
 use Rattle.td_words.specs.declared.names.HeaderField.{HeaderField}
 use Rattle.td_words.specs.declared.machines.Machine.{Machine}
 use Rattle.td_words.specs.declared.calls.Call.{Call}
@@ -10,8 +10,19 @@ use Rattle.flat_core.specs.World.{ClearHeader, Made}
 -- the header of bytes 0 to 47
 abbrev pub clear_header : Header → ClearHeader
 clear_header h = record {
-  size = h.size; version = h.version; stream = h.stream; kind = h.kind; reserved = h.reserved; counter = h.counter; epoch = h.epoch;
-  iv = h.iv; session = h.session; index = h.index; info = h.info; gpa = h.gpa; total = h.total;
+  size = h.size;
+  version = h.version;
+  stream = h.stream;
+  kind = h.kind;
+  reserved = h.reserved;
+  counter = h.counter;
+  epoch = h.epoch;
+  iv = h.iv;
+  session = h.session;
+  index = h.index;
+  info = h.info;
+  gpa = h.gpa;
+  total = h.total;
 }
 
 -- a bundle that comes in: its header or the first fault of its format, whether its tag is that of its bytes (the

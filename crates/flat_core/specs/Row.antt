@@ -7,7 +7,7 @@ use Rattle.td_words.specs.declared.refusals.Status.{Status}
 use Rattle.td_words.specs.declared.replies.Value.{Value}
 use Rattle.td_words.specs.declared.replies.Outcome.{Outcome}
 use Rattle.td_words.specs.declared.replies.Reply.{Reply}
-use Rattle.td_words.specs.declared.replies.Reply.TheVariants.{Done, Refused}
+use Rattle.td_words.specs.declared.replies.Reply.TheVariants.{Refused}
 use Rattle.flat_core.specs.World.{World}
 use Rattle.flat_core.specs.Processor.{LockId, name_of, Held, Phase, Trying, Undoing, Answered, Progress, Translation, Entry, Note}
 

@@ -1,6 +1,6 @@
 -- Runs: one event of the named processor for each item of the schedule, and then each processor to its end in number
 -- order.
-use Rattle.std.specs.Prelude.{ℕ, zero, suc, ◌+◌, List, [], ◌∷◌, ◌++◌, replicate, Option, Some, None}
+use Rattle.std.specs.Prelude.{ℕ, suc, ◌+◌, List, [], ◌∷◌, ◌++◌, replicate, Option, Some, None}
 use Rattle.td_words.specs.declared.calls.Call.{Call}
 use Rattle.flat_core.specs.World.{Made}
 use Rattle.flat_core.specs.Opening.{Opening}

@@ -1,11 +1,10 @@
 -- Calls that build a TD (ABI Reference, "TDH.MNG.CREATE").
-use Rattle.std.specs.Prelude.{ℕ, List, [], ◌∷◌}
+use Rattle.std.specs.Prelude.{ℕ, [], ◌∷◌}
 use Rattle.td_words.specs.declared.names.PageKind.TheVariants as kind
 use Rattle.td_words.specs.declared.refusals.Status.TheVariants.{HkidNotFree}
 use Rattle.td_words.specs.declared.replies.Value.TheVariants as value
 use Rattle.td_words.specs.declared.machines.Machine.{Machine}
 use Rattle.td_words.specs.Packing.{assigned}
-use Rattle.flat_core.specs.World.{World}
 use Rattle.flat_core.specs.Row.{Row, call_row, needs}
 use Rattle.flat_core.specs.Arguments.{page_argument, hkid_argument}
 use Rattle.flat_core.specs.Conditions.{is_key_free, page_exclusive, host_page, keys_exclusive}

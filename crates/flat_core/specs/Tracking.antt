@@ -1,6 +1,6 @@
 -- TLB epochs (Base Architecture, "TLB Tracking Sequence"). A block at epoch b is tracked where TD_EPOCH is above b and
 -- each virtual processor in guest entered at an epoch above b.
-use Rattle.std.specs.Prelude.{ℕ, ◌+◌, ◌-◌, List, [], ◌∷◌, Option, Some, None, Bool, true, false, ◌==◌, ◌&&◌, nat_lt}
+use Rattle.std.specs.Prelude.{ℕ, ◌+◌, ◌-◌, List, [], ◌∷◌, Option, Some, None, Bool, ◌==◌, ◌&&◌, nat_lt}
 use Rattle.std.specs.List.{list_all}
 use Rattle.td_words.specs.declared.refusals.Status.TheVariants.{TlbTrackingNotDone, PreviousTlbEpochBusy}
 use Rattle.td_words.specs.declared.replies.Reply.{Reply}

@@ -1,5 +1,5 @@
 -- A logical processor's cached translations: at most 16, oldest first.
-use Rattle.std.specs.Prelude.{ℕ, ◌-◌, ◌/◌, List, [], ◌∷◌, ◌++◌, length, drop, filter, Option, Some, None, Bool, true, false, not, ◌==◌, ◌&&◌, if◌then◌else◌}
+use Rattle.std.specs.Prelude.{ℕ, ◌-◌, List, [], ◌∷◌, ◌++◌, length, drop, filter, Option, Some, None, Bool, true, not, ◌==◌, ◌&&◌, if◌then◌else◌}
 use Rattle.td_words.specs.declared.names.Access.{Access}
 use Rattle.td_words.specs.declared.names.Access.TheVariants.{Read, Write}
 use Rattle.flat_core.specs.Processor.{Translation}

@@ -5,19 +5,22 @@ use Rattle.td_words.specs.declared.names.LockName.TheVariants as lock
 use Rattle.td_words.specs.declared.names.PageKind.TheVariants as kind
 use Rattle.td_words.specs.declared.calls.Call.{Call}
 use Rattle.td_words.specs.declared.calls.Call.TheVariants.{HostRead, HostWrite, PhymemPageRdmd, MngCreate}
-use Rattle.td_words.specs.declared.machines.Machine.{Machine}
 use Rattle.td_words.specs.declared.refusals.Status.TheVariants.{OperandInvalid, OperandBusy, NotHost, PageMetadataIncorrect, HkidNotFree}
 use Rattle.td_words.specs.declared.replies.Value.TheVariants.{Nothing, Number, Page}
 use Rattle.td_words.specs.declared.replies.Reply.{Reply}
 use Rattle.td_words.specs.declared.replies.Reply.TheVariants.{Done, Refused}
 use Rattle.flat_core.specs.Opening.{Opening}
 use Rattle.flat_core.specs.Event.{State, Event, start, event, next_event}
-use Rattle.flat_core.specs.Run.{play, run}
+use Rattle.flat_core.specs.Run.{run}
 
 -- no guest code, no bundles, no secrets
 abbrev pub plain_opening : (lps pages hkids : ℕ) → List (List Call) → Opening
 plain_opening n pages hkids lists = record {
-  machine = record { lps = n; pages = pages; hkids = hkids }; codes = λ t v. []; calls = lists; bundles = λ slot. None; secrets = λ i. 0;
+  machine = record { lps = n; pages = pages; hkids = hkids };
+  codes = λ t v. [];
+  calls = lists;
+  bundles = λ slot. None;
+  secrets = λ i. 0;
 }
 
 abbrev pub usual_opening : List (List Call) → Opening

@@ -1,6 +1,6 @@
 -- The world of the flat machine: what the conditions of calls read and what their acts change. It has one function for
 -- each fact, by the number of the page, TD, virtual processor, stream or HKID that the fact is about.
-use Rattle.std.specs.Prelude.{ℕ, List, [], Option, Some, None, Bool, ◌==◌, if◌then◌else◌, map}
+use Rattle.std.specs.Prelude.{ℕ, List, [], Option, None, ◌==◌, if◌then◌else◌}
 use Rattle.td_words.specs.declared.names.PageKind.{PageKind}
 use Rattle.td_words.specs.declared.names.PageKind.TheVariants as kind
 use Rattle.td_words.specs.declared.names.LifeState.{LifeState}
@@ -122,14 +122,34 @@ host_pages = record { kinds = λ p. kind.Nda; owners = λ p. 0; blocked = λ p. 
 
 abbrev pub no_tds : Tds
 no_tds = record {
-  lives = λ t. life.HkidAssigned; hkids = λ t. 0; controls = λ t. []; ops = λ t. op.Uninitialized; epochs = λ t. 0; entries = λ t l n. free_entry;
-  vps = λ t. []; vps_expected = λ t. 0; streams = λ t. []; measured = λ t. []; mrtds = λ t i. 0; sessions = λ t. 0; mig_epochs = λ t. 0;
-  td_exported = λ t. 0; vps_exported = λ t. 0; dirtied = λ t. 0; unrestored = λ t. 0;
+  lives = λ t. life.HkidAssigned;
+  hkids = λ t. 0;
+  controls = λ t. [];
+  ops = λ t. op.Uninitialized;
+  epochs = λ t. 0;
+  entries = λ t l n. free_entry;
+  vps = λ t. [];
+  vps_expected = λ t. 0;
+  streams = λ t. [];
+  measured = λ t. [];
+  mrtds = λ t i. 0;
+  sessions = λ t. 0;
+  mig_epochs = λ t. 0;
+  td_exported = λ t. 0;
+  vps_exported = λ t. 0;
+  dirtied = λ t. 0;
+  unrestored = λ t. 0;
 }
 
 abbrev pub no_vps : Vps
 no_vps = record {
-  indexes = λ v. 0; states = λ v. vcpu.Created; associated = λ v. None; lasts = λ v. 0; positions = λ v. 0; exported = λ v. 0; entered = λ v. None;
+  indexes = λ v. 0;
+  states = λ v. vcpu.Created;
+  associated = λ v. None;
+  lasts = λ v. 0;
+  positions = λ v. 0;
+  exported = λ v. 0;
+  entered = λ v. None;
 }
 
 -- a machine of so many pages at the start of a run: all are host pages of zeros, and all HKIDs are free

@@ -1,5 +1,5 @@
 -- Addresses never meet.
-use Rattle.std.proofs.Common.{◌≡◌, ◌≢◌, ℕ, ◌+◌, ◌*◌, ◌/◌, ◌%◌, ◌<◌, arith, refl}
+use Rattle.std.proofs.Common.{arith, refl}
 use Rattle.td_words.specs.Laws.{AddressesApart, ControlWordsApart}
 
 pub apart : AddressesApart
