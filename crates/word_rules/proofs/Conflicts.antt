@@ -1,11 +1,12 @@
 -- No two processors whose grips are apart conflict at a word.
-use Rattle.std.proofs.Common.{◌≡◌, ◌⊎◌, refl, subst, sym, inl, inr, ℕ, Bool, true, false}
+use Rattle.std.proofs.Common.{◌≡◌, ◌⊎◌, refl, subst, sym, ◌∙◌, inl, inr, ℕ, Bool, true, false}
+use Rattle.td_words.specs.declared.names.LifeState.{LifeState}
 use Rattle.td_words.specs.Place.{WordPlace}
 use Rattle.flat_core.specs.World.{World}
 use Rattle.word_rules.specs.Guards.{Grip, Apart, Meets, Rule, clashes}
 use Rattle.word_rules.specs.Rules.{Class, Hasher, View, Grade, KeepsNothing, reads, sees, writes, owes, fills, moves, tries, spares}
 use Rattle.word_rules.specs.Spots.{Spot, spot, slot_spot, guard_at}
-use Rattle.word_rules.specs.Permissions.{MayAt, Reads, Owes, Moves, Fills, SwapsOwed, Respects, NoConflict, NoLaterConflict, WordsNeverConflict, ActsNeverConflict}
+use Rattle.word_rules.specs.Permissions.{MayAt, Reads, Owes, Moves, Fills, SwapsOwed, Respects, NoConflict, NoLaterConflict, WordsNeverConflict, ActsNeverConflict, RespectsCompose}
 use Rattle.word_rules.proofs.Sound.{clashes-sound}
 use Rattle.word_rules.proofs.Clash.{rules_clash}
 
@@ -59,4 +60,24 @@ no-later-conflict g h f f' a r = record {
   reads_later = λ q v k. reads-later g h (spot f q) (spot f' q) v k a (r.word q);
   owes_later = λ q j k. owes-later g h (spot f q) (spot f' q) j k a (r.word q);
   fills_later = λ q k. fills-later g h (spot f q) (spot f' q) k a (r.word q);
+}
+
+moved-by : (g : Grip) (s t u : Spot) → (t ≡ s) ⊎ MayAt g s moves → (u ≡ t) ⊎ MayAt g t moves → (u ≡ s) ⊎ MayAt g s moves
+moved-by g s t u (inl e) (inl d) = inl (d ∙ e)
+moved-by g s t u (inl e) (inr m) = inr (subst (λ (z : Spot). MayAt g z moves) e m)
+moved-by g s t u (inr m) b = inr m
+
+lived-by : (s t u : LifeState) (P : Type 0) → (t ≡ s) ⊎ P → (u ≡ t) ⊎ P → (u ≡ s) ⊎ P
+lived-by s t u P (inl e) (inl d) = inl (d ∙ e)
+lived-by s t u P (inl e) (inr m) = inr m
+lived-by s t u P (inr m) b = inr m
+
+pub respects-compose : RespectsCompose
+respects-compose = record {
+  same = λ g w. record { word = λ q. inl refl; slot = λ h. inl refl; life = λ t. inl refl };
+  both = λ g w v u a b. record {
+    word = λ q. moved-by g (spot w q) (spot v q) (spot u q) (a.word q) (b.word q);
+    slot = λ h. moved-by g (slot_spot w h) (slot_spot v h) (slot_spot u h) (a.slot h) (b.slot h);
+    life = λ t. lived-by (w.tds.lives t) (v.tds.lives t) (u.tds.lives t) _ (a.life t) (b.life t);
+  };
 }

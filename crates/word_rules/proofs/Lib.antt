@@ -4,3 +4,4 @@ pub mod Fits
 pub mod Conflicts
 pub mod Sums
 pub mod Apart
+pub mod Follow

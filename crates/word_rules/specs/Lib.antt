@@ -6,3 +6,4 @@ pub mod Cells
 pub mod Spots
 pub mod Permissions
 pub mod Grips
+pub mod LockWords

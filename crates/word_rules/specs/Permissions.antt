@@ -2,7 +2,8 @@
 use Rattle.std.specs.Prelude.{◌≡◌, ◌⊎◌, ℕ, Bool, true, false}
 use Rattle.td_words.specs.Place.{WordPlace}
 use Rattle.flat_core.specs.World.{World}
-use Rattle.word_rules.specs.Guards.{Grip, Apart, Meets, Rule}
+use Rattle.flat_core.specs.Processor.{OfPage}
+use Rattle.word_rules.specs.Guards.{Grip, Locked, Apart, Meets, Rule}
 use Rattle.word_rules.specs.Rules.{Class, View, Grade, KeepsNothing, reads, sees, writes, owes, fills, moves, tries, spares}
 use Rattle.word_rules.specs.Spots.{Spot, spot, slot_spot, guard_at}
 
@@ -40,10 +41,11 @@ SwapsAct g w h = MayAt g (slot_spot w h) (λ c. writes c KeepsNothing)
 abbrev pub SwapsOwed : Grip → World → ℕ → Type 0
 SwapsOwed g w h = MayAt g (slot_spot w h) (λ c. owes c KeepsNothing)
 
--- an act leaves what a word is, and whose slot a hasher is in, or may change it
+-- an act leaves what a word is, whose slot a hasher is in, and a TD's life, or may change it
 pub record Respects (g : Grip) (before after : World) : Type 0 where
   pub word : (q : WordPlace) → (spot after q ≡ spot before q) ⊎ Moves g before q
   pub slot : (h : ℕ) → (slot_spot after h ≡ slot_spot before h) ⊎ MayAt g (slot_spot before h) moves
+  pub life : (t : ℕ) → (after.tds.lives t ≡ before.tds.lives t) ⊎ (g.sole (Locked (OfPage t)) ≡ true)
 
 -- What one processor may store, or has still to store, is never what another reads as stable: at every word of every
 -- world, for two processors whose grips are apart.
@@ -79,3 +81,8 @@ WordsNeverConflict = (g h : Grip) (w : World) → Apart g h → NoConflict g h w
 
 abbrev pub ActsNeverConflict : Type 0
 ActsNeverConflict = (g h : Grip) (before after : World) → Apart g h → Respects h before after → NoLaterConflict g h before after
+
+-- An act that leaves the world respects it, and so do two acts of one processor together.
+pub record RespectsCompose : Type 0 where
+  pub same : (g : Grip) (w : World) → Respects g w w
+  pub both : (g : Grip) (before between after : World) → Respects g before between → Respects g between after → Respects g before after

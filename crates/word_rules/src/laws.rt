@@ -2,8 +2,9 @@
 
 ghost use Rattle.word_rules.specs.Rules.{RulesClash};
 ghost use Rattle.word_rules.specs.Uses.{LeafTableFits};
-ghost use Rattle.word_rules.specs.Permissions.{WordsNeverConflict, ActsNeverConflict};
-ghost use Rattle.word_rules.specs.Grips.{GripsAreApart};
+ghost use Rattle.word_rules.specs.Permissions.{WordsNeverConflict, ActsNeverConflict, RespectsCompose};
+ghost use Rattle.word_rules.specs.Grips.{GripsAreApart, GripsStayApart};
+ghost use Rattle.word_rules.specs.LockWords.{LockWordsFollow};
 
 /// The table of rules holds together: no two processors meet two of its rules that are named
 /// together in a clause.
@@ -24,7 +25,22 @@ pub fn words_never_conflict()
     ensures acts { ActsNeverConflict }
 {}
 
-/// Where nobody holds a lock beside one who holds it alone, the grips of two processors are apart.
+/// An act that leaves the world as it is may be anybody's, and what two acts of one processor
+/// change of the words' kinds they may change together.
+pub fn respects_compose()
+    ensures { RespectsCompose }
+{}
+
+/// Where nobody holds a lock beside one who holds it alone, the grips of two processors are apart:
+/// at the start of every run, and after every schedule.
 pub fn grips_are_apart()
-    ensures { GripsAreApart }
+    ensures where_locks_exclude { GripsAreApart }
+    ensures in_every_run { GripsStayApart }
+{
+    flat_core::lock_law();
+}
+
+/// The word of each lock follows each event of a processor, and tells whether a try is granted.
+pub fn lock_words_follow()
+    ensures { LockWordsFollow }
 {}

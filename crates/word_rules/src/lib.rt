@@ -3,4 +3,7 @@
 
 mod laws;
 
-pub use laws::{grips_are_apart, leaf_table_fits, rules_clash, words_never_conflict};
+pub use laws::{
+    grips_are_apart, leaf_table_fits, lock_words_follow, respects_compose, rules_clash,
+    words_never_conflict,
+};
