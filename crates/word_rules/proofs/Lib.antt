@@ -5,3 +5,5 @@ pub mod Conflicts
 pub mod Sums
 pub mod Apart
 pub mod Follow
+pub mod Places
+pub mod Shown

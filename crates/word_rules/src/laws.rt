@@ -4,7 +4,7 @@ ghost use Rattle.word_rules.specs.Rules.{RulesClash};
 ghost use Rattle.word_rules.specs.Uses.{LeafTableFits};
 ghost use Rattle.word_rules.specs.Permissions.{WordsNeverConflict, ActsNeverConflict, RespectsCompose};
 ghost use Rattle.word_rules.specs.Grips.{GripsAreApart, GripsStayApart};
-ghost use Rattle.word_rules.specs.LockWords.{LockWordsFollow};
+ghost use Rattle.word_rules.specs.LockWords.{LockWordsFollow, LockStepsShown, StartIsShown};
 
 /// The table of rules holds together: no two processors meet two of its rules that are named
 /// together in a clause.
@@ -43,4 +43,17 @@ pub fn grips_are_apart()
 /// The word of each lock follows each event of a processor, and tells whether a try is granted.
 pub fn lock_words_follow()
     ensures { LockWordsFollow }
+{}
+
+/// Words that show a state still show it after a try, an undo or a release of any lock, which is
+/// one step on that lock's word.
+pub fn lock_steps_shown()
+    ensures { LockStepsShown }
+{
+    flat_core::event_laws();
+}
+
+/// Words that are all 0 show the start of every run.
+pub fn start_is_shown()
+    ensures { StartIsShown }
 {}

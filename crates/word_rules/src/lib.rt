@@ -4,6 +4,6 @@
 mod laws;
 
 pub use laws::{
-    grips_are_apart, leaf_table_fits, lock_words_follow, respects_compose, rules_clash,
-    words_never_conflict,
+    grips_are_apart, leaf_table_fits, lock_steps_shown, lock_words_follow, respects_compose,
+    rules_clash, start_is_shown, words_never_conflict,
 };
