@@ -7,3 +7,4 @@ pub mod Apart
 pub mod Follow
 pub mod Places
 pub mod Shown
+pub mod Anchored

@@ -4,7 +4,7 @@ ghost use Rattle.word_rules.specs.Rules.{RulesClash};
 ghost use Rattle.word_rules.specs.Uses.{LeafTableFits};
 ghost use Rattle.word_rules.specs.Permissions.{WordsNeverConflict, ActsNeverConflict, RespectsCompose};
 ghost use Rattle.word_rules.specs.Grips.{GripsAreApart, GripsStayApart};
-ghost use Rattle.word_rules.specs.LockWords.{LockWordsFollow, LockStepsShown, StartIsShown};
+ghost use Rattle.word_rules.specs.LockWords.{LockWordsFollow, LockStepsShown, StartIsShown, TdLocksStay};
 
 /// The table of rules holds together: no two processors meet two of its rules that are named
 /// together in a clause.
@@ -56,4 +56,10 @@ pub fn lock_steps_shown()
 /// Words that are all 0 show the start of every run.
 pub fn start_is_shown()
     ensures { StartIsShown }
+{}
+
+/// The lock words of a TD stay where they are, and the TD stands, through the acts of others while
+/// P of its TDR page is held.
+pub fn td_locks_stay()
+    ensures { TdLocksStay }
 {}

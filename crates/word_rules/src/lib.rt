@@ -5,5 +5,5 @@ mod laws;
 
 pub use laws::{
     grips_are_apart, leaf_table_fits, lock_steps_shown, lock_words_follow, respects_compose,
-    rules_clash, start_is_shown, words_never_conflict,
+    rules_clash, start_is_shown, td_locks_stay, words_never_conflict,
 };
