@@ -8,7 +8,7 @@ use Rattle.td_words.specs.declared.calls.Call.TheVariants as call
 use Rattle.td_words.specs.declared.replies.Reply.{Reply}
 use Rattle.td_words.specs.declared.replies.Reply.TheVariants.{Done}
 use Rattle.flat_core.specs.World.{World, put}
-use Rattle.flat_core.specs.Processor.{LockId, Held, Phase, Trying, Undoing, Answered, Progress, Guest, Entry, Lp, idle, nothing_yet}
+use Rattle.flat_core.specs.Processor.{LockId, Held, Phase, Trying, Undoing, Answered, Progress, Guest, Entering, Lp, idle, nothing_yet}
 use Rattle.flat_core.specs.Opening.{Opening}
 use Rattle.flat_core.specs.Row.{Item, Check, Try, Row, Move, Attempts, Refuses, Succeeds, next, next_in, tries_in}
 use Rattle.flat_core.specs.Table.{row_of, most_tries}
@@ -32,7 +32,7 @@ row_tries o me (call.HostWrite page i v) w = omega arith
 row_tries o me (call.PhymemPageRdmd page) w = omega arith
 row_tries o me (call.MngCreate t h) w = omega arith
 
-row_enters : (o : Opening) (me : ℕ) (c : Call) → (row_of o me c).enters ≡ None
+pub row_enters : (o : Opening) (me : ℕ) (c : Call) → (row_of o me c).enters ≡ None
 row_enters o me (call.HostRead page i) = refl
 row_enters o me (call.HostWrite page i v) = refl
 row_enters o me (call.PhymemPageRdmd page) = refl
@@ -60,9 +60,9 @@ drop_next (suc k) [] y ys e = cc
 drop_next (suc k) (x ∷ xs) y ys e = drop_next k xs y ys e
 
 -- with nothing done of the first line
-fresh_left : (cs : List Call) → left_of cs nothing_yet ≡ events_in cs
-fresh_left [] = refl
-fresh_left (c ∷ cs) = omega arith
+fresh_left : (cs : List Call) (lp : Lp) → left_of cs (record lp { call = nothing_yet }) ≡ events_in cs
+fresh_left [] lp = refl
+fresh_left (c ∷ cs) lp = omega arith
 
 fresh_timely : (cs : List Call) → IsTimelyAt cs nothing_yet
 fresh_timely [] = tt
@@ -71,7 +71,7 @@ fresh_timely (c ∷ cs) = (omega arith, tt)
 -- a processor after its event: it is timely, and can make fewer
 record Lowers (calls : List Call) (bound : ℕ) (lp : Lp) : Type 0 where
   timely : IsTimely calls lp
-  fewer : left_of (drop (length lp.replies) calls) lp.call < bound
+  fewer : left_of (drop (length lp.replies) calls) lp < bound
 
 module _ (calls : List Call) (c : Call) (cs : List Call) where
   -- the call goes on
@@ -90,7 +90,7 @@ module _ (calls : List Call) (c : Call) (cs : List Call) where
       let left : drop (length (lp.replies ++ r ∷ [])) calls ≡ cs = ap (λ (n : ℕ). drop n calls) at ∙ drop_next (length lp.replies) calls c cs e in
       record {
         timely = record { here = g; call = rw left (fresh_timely cs) };
-        fewer = rw (left, fresh_left cs) less;
+        fewer = rw (left, fresh_left cs (record lp { replies = lp.replies ++ r ∷ [] })) less;
       }
 
   -- an answered call: it is done where it holds nothing
@@ -110,7 +110,7 @@ module _ (calls : List Call) (c : Call) (cs : List Call) where
 
     succeeds : Lowers calls bound (settled (succeeded w row row.enters lp))
     succeeds =
-        let P : Option Entry → Type 0 = λ x. Lowers calls bound (settled (succeeded w row x lp)) in
+        let P : Option Entering → Type 0 = λ x. Lowers calls bound (settled (succeeded w row x lp)) in
         subst P (sym none) (answers (record lp { cached = row.cached w lp.cached }) (Done (row.value w)) lp.call.held bound g e few (omega arith))
 
     trying : (b : Move Reply → Bool) (items : List (Item Reply)) → tries_in items ≤ most_tries c → (move : Move Reply) → next items (length lp.call.held) ≡ move → Lowers calls bound (settled (call_lp w (b move) row move lp))
@@ -137,21 +137,21 @@ module _ (o : Opening) (s : State) (p : ℕ) (timely : IsTimely (calls_of o.call
   abbrev after : Event → Lp
   after e = lp_after s.world (is_granted s e) e lp
 
-  by_call : (c : Call) (cs : List Call) → drop (length lp.replies) (calls_of o.calls p) ≡ c ∷ cs → Lowers (calls_of o.calls p) (left_of (c ∷ cs) lp.call) (after (line_event o s.world lp (row_of o p c) None))
+  by_call : (c : Call) (cs : List Call) → drop (length lp.replies) (calls_of o.calls p) ≡ c ∷ cs → Lowers (calls_of o.calls p) (left_of (c ∷ cs) lp) (after (line_event o s.world lp (row_of o p c) None))
   by_call c cs e =
       let here : IsTimelyAt (c ∷ cs) lp.call = subst (λ (x : List Call). IsTimelyAt x lp.call) e timely.call in
       moves (calls_of o.calls p) c cs s.world (row_of o p c) lp lp.call.phase lp.call.held (λ m. is_granted s (OfCall (row_of o p c) m)) timely.here e here.0 here.1 (row_enters o p c) (row_tries o p c s.world)
 
-  by_guest : (c : Call) (cs : List Call) → drop (length lp.replies) (calls_of o.calls p) ≡ c ∷ cs → Lowers (calls_of o.calls p) (left_of (c ∷ cs) lp.call) (after (line_event o s.world lp (row_of o p c) lp.guest))
+  by_guest : (c : Call) (cs : List Call) → drop (length lp.replies) (calls_of o.calls p) ≡ c ∷ cs → Lowers (calls_of o.calls p) (left_of (c ∷ cs) lp) (after (line_event o s.world lp (row_of o p c) lp.guest))
   by_guest c cs e =
-      let P : Option Guest → Type 0 = λ g. Lowers (calls_of o.calls p) (left_of (c ∷ cs) lp.call) (after (line_event o s.world lp (row_of o p c) g)) in
+      let P : Option Guest → Type 0 = λ g. Lowers (calls_of o.calls p) (left_of (c ∷ cs) lp) (after (line_event o s.world lp (row_of o p c) g)) in
       subst P (sym timely.here) (by_call c cs e)
 
-  by_lines : (x : List Call) (e : Event) → drop (length lp.replies) (calls_of o.calls p) ≡ x → event_for o s.world p lp x ≡ Some e → Lowers (calls_of o.calls p) (left_of x lp.call) (after e)
+  by_lines : (x : List Call) (e : Event) → drop (length lp.replies) (calls_of o.calls p) ≡ x → event_for o s.world p lp x ≡ Some e → Lowers (calls_of o.calls p) (left_of x lp) (after e)
   by_lines [] e at is = cc
   by_lines (c ∷ cs) e at is =
       let same : line_event o s.world lp (row_of o p c) lp.guest ≡ e = cc in
-      let P : Event → Type 0 = λ y. Lowers (calls_of o.calls p) (left_of (c ∷ cs) lp.call) (after y) in
+      let P : Event → Type 0 = λ y. Lowers (calls_of o.calls p) (left_of (c ∷ cs) lp) (after y) in
       subst P same (by_guest c cs at)
 
   lowers : (e : Event) → next_event o s p ≡ Some e → Lowers (calls_of o.calls p) (events_left o s p) (after e)
@@ -178,7 +178,7 @@ event_lowers : (o : Opening) (s : State) (p : ℕ) (e : Event) → AllTimely o s
 event_lowers o s p e h is =
     let x : Lp = lp_after s.world (is_granted s e) e (s.lps p) in
     let after_is : (event o s p).lps p ≡ x = ap (λ (y : Option Event). (after_event p s y).lps p) is ∙ put_here s.lps p x in
-    subst (λ (y : Lp). left_of (lines_left o p y) y.call < events_left o s p) (sym after_is) (lowers o s p (h p) e is).fewer
+    subst (λ (y : Lp). left_of (lines_left o p y) y < events_left o s p) (sym after_is) (lowers o s p (h p) e is).fewer
 
 pub runs_out : EventsRunOut
 runs_out o ws ls p e is = event_lowers o (play o ls (start o ws)) p e (always_timely o ws ls) is
@@ -200,12 +200,12 @@ one_item o s p q h = by_test (q == p)
         let none : events_left o s p ≡ 0 = ended (lines_left o p (s.lps p)) is in
         subst (λ (t : State). events_left o t p ≤ events_left o s p - 1) (sym same) (omega arith)
       where
-        ended : (cs : List Call) → event_for o s.world p (s.lps p) cs ≡ None → left_of cs (s.lps p).call ≡ 0
+        ended : (cs : List Call) → event_for o s.world p (s.lps p) cs ≡ None → left_of cs (s.lps p) ≡ 0
         ended [] e = refl
         ended (c ∷ cs) e = cc
     mine (Some e) is = let l = event_lowers o s p e h is in omega arith
 
-    others : p ≢ q → (x : Option Event) → left_of (lines_left o p ((after_event q s x).lps p)) ((after_event q s x).lps p).call ≤ events_left o s p - 0
+    others : p ≢ q → (x : Option Event) → left_of (lines_left o p ((after_event q s x).lps p)) ((after_event q s x).lps p) ≤ events_left o s p - 0
     others n None = omega arith
     others n (Some e) = let ne : (p == q) ≡ false = ne_eqb p q n in rw ne (omega arith)
 
@@ -245,7 +245,7 @@ some_left c cs (Undoing l) hs few under = omega arith
 some_left c cs (Answered r) [] few under = absurd under
 some_left c cs (Answered r) (h ∷ hs) few under = omega arith
 
-none_left : (o : Opening) (s : State) (p : ℕ) (cs : List Call) → IsTimelyAt cs (s.lps p).call → left_of cs (s.lps p).call ≡ 0 → event_for o s.world p (s.lps p) cs ≡ None
+none_left : (o : Opening) (s : State) (p : ℕ) (cs : List Call) → IsTimelyAt cs (s.lps p).call → left_of cs (s.lps p) ≡ 0 → event_for o s.world p (s.lps p) cs ≡ None
 none_left o s p [] t e = refl
 none_left o s p (c ∷ cs) t e = absurd (let l = some_left c cs (s.lps p).call.phase (s.lps p).call.held t.0 t.1 in omega arith)
 
@@ -256,7 +256,7 @@ runs_end o ws ls p =
     let first : AllTimely o s0 = always_timely o ws [] in
     let middle : AllTimely o (play o ls s0) = always_timely o ws ls in
     let last : AllTimely o (play o (ls ++ end) s0) = always_timely o ws (ls ++ end) in
-    let begin : events_left o s0 p ≡ events_in (calls_of o.calls p) = fresh_left (calls_of o.calls p) in
+    let begin : events_left o s0 p ≡ events_in (calls_of o.calls p) = fresh_left (calls_of o.calls p) idle in
     let so_far = schedule_lowers o p ls s0 first in
     let to_end = schedule_lowers o p end (play o ls s0) middle in
     let enough = times_end o.calls 0 p p (omega arith) in

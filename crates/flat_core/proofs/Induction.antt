@@ -12,7 +12,7 @@ use Rattle.flat_core.specs.Opening.{Opening}
 use Rattle.flat_core.specs.Row.{Item, Check, Try, Row, OperationRow, Passes, next, next_in}
 use Rattle.flat_core.specs.Table.{row_of}
 use Rattle.flat_core.specs.Guest.{Operation, ByRow, Private, operation_of, reach, page_of_gpa}
-use Rattle.flat_core.specs.Effects.{leave_guest}
+use Rattle.flat_core.specs.Effects.{leave_guest, tell_words}
 use Rattle.flat_core.specs.Translations.{look_up}
 use Rattle.flat_core.specs.Event.{State, Event, next_event, event_for, line_event, entered_event, epoch_event, max_event, guest_event, staying_event, due_event, operation_due, operation_event, private_event, lines_left, is_epoch_lock, nothing_more, world_after, call_world, operation_world, after_event, event}
 use Rattle.flat_core.specs.Run.{play}
@@ -40,7 +40,7 @@ module _ (o o' : Opening) (R : State → State → Type 0) (step : (s t : State)
 -- what each act, each access of a guest and each count step keeps of the world, every event keeps
 module _ (o : Opening) (P : World → Type 0)
     (calls : (me : ℕ) (c : Call) (w : World) → P w → Passes ((row_of o me c).items w) → P ((row_of o me c).act w))
-    (operations : (t v line : ℕ) (op : GuestOp) (row : OperationRow) (w : World) → operation_of o t v line op ≡ ByRow row → P w → Passes (row.items w) → P (row.act w))
+    (operations : (t v line : ℕ) (op : GuestOp) (row : OperationRow) (w : World) → operation_of o t v line op ≡ ByRow row → P w → Passes (row.items w) → P (tell_words (row.tells w) (row.act w)))
     (reaches : (t v : ℕ) (access : Access) (r gpa page : ℕ) (w : World) → P w → P (reach t v access r gpa page w))
     (leaves : (v : ℕ) (w : World) → P w → P (leave_guest v w)) where
   by_items : (row : Row) (w : World) (items : List (Item Reply)) (n : ℕ) → P w → (Passes items → P (row.act w)) → P (call_world row (next items n) w)
@@ -56,14 +56,14 @@ module _ (o : Opening) (P : World → Type 0)
   by_call row w (Answered r) [] h act = h
   by_call row w (Answered r) (x ∷ hs) h act = h
 
-  by_operation_items : (row : OperationRow) (w : World) (items : List (Item (Option Outcome))) (n : ℕ) → P w → (Passes items → P (row.act w)) → P (operation_world row (next items n) w)
+  by_operation_items : (row : OperationRow) (w : World) (items : List (Item (Option Outcome))) (n : ℕ) → P w → (Passes items → P (tell_words (row.tells w) (row.act w))) → P (operation_world row (next items n) w)
   by_operation_items row w [] n h act = act tt
   by_operation_items row w (Check true r ∷ items) n h act = by_operation_items row w items n h (λ ps. act (refl, ps))
   by_operation_items row w (Check false r ∷ items) n h act = h
   by_operation_items row w (Try l m ∷ items) zero h act = h
   by_operation_items row w (Try l m ∷ items) (suc n) h act = by_operation_items row w items n h act
 
-  by_operation_row : (row : OperationRow) (w : World) (phase : Phase (Option Outcome)) (hs : List Held) → P w → (Passes (row.items w) → P (row.act w)) → P (operation_world row (next_in (row.items w) phase hs) w)
+  by_operation_row : (row : OperationRow) (w : World) (phase : Phase (Option Outcome)) (hs : List Held) → P w → (Passes (row.items w) → P (tell_words (row.tells w) (row.act w))) → P (operation_world row (next_in (row.items w) phase hs) w)
   by_operation_row row w Trying hs h act = by_operation_items row w (row.items w) (length hs) h act
   by_operation_row row w (Undoing l) hs h act = h
   by_operation_row row w (Answered r) [] h act = h
@@ -85,10 +85,14 @@ module _ (o : Opening) (P : World → Type 0)
   by_due w lp g None h = leaves g.vp w h
   by_due w lp g (Some op) h = by_max w lp g op (nat_le g.most g.completed) h
 
+  by_released : (w : World) (out : Option Outcome) (hs : List Held) → P w → P (operation_world nothing_more (next_in [] (Answered out) hs) w)
+  by_released w out [] h = h
+  by_released w out (x ∷ hs) h = h
+
   by_staying : (w : World) (lp : Lp) (g : Guest) (phase : Phase (Option Outcome)) → P w → P (world_after (staying_event o w lp g phase) w)
   by_staying w lp g Trying h = by_due w lp g (operation_due o w g) h
   by_staying w lp g (Undoing l) h = h
-  by_staying w lp g (Answered out) h = by_operation_row nothing_more w (Answered out) g.operation.held h (λ ps. h)
+  by_staying w lp g (Answered out) h = by_released w out g.operation.held h
 
   by_guest : (w : World) (lp : Lp) (g : Guest) (leaving : Option Outcome) → P w → P (world_after (guest_event o w lp g leaving) w)
   by_guest w lp g (Some out) h = leaves g.vp w h
@@ -109,6 +113,9 @@ module _ (o : Opening) (P : World → Type 0)
   by_event : (s : State) (p : ℕ) (cs : List Call) → P s.world → P ((after_event p s (event_for o s.world p (s.lps p) cs)).world)
   by_event s p [] h = h
   by_event s p (c ∷ cs) h = by_line s.world p (s.lps p) c (s.lps p).guest h
+
+  pub world_event : (s : State) (p : ℕ) → P s.world → P ((event o s p).world)
+  world_event s p h = by_event s p (lines_left o p (s.lps p)) h
 
   pub world_kept : (ps : List ℕ) (s : State) → P s.world → P ((play o ps s).world)
   world_kept [] s h = h

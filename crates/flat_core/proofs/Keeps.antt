@@ -1,5 +1,5 @@
 -- Each row's act keeps what every world keeps.
-use Rattle.std.proofs.Common.{◌≡◌, ◌≢◌, refl, sym, ◌∙◌, subst, ap, ℕ, suc, ◌<◌, List, [], ◌∷◌, Option, Some, None, Bool, true, false, ◌==◌, nat_lt, arith}
+use Rattle.std.proofs.Common.{lit<, lit≤, ◌≡◌, ◌≢◌, refl, sym, ◌∙◌, subst, ap, ℕ, suc, ◌<◌, List, [], ◌∷◌, Option, Some, None, Bool, true, false, ◌==◌, nat_lt, arith}
 use Rattle.std.proofs.lemmas.Bool.{eq-eqb, eqb-true}
 use Rattle.std.proofs.lemmas.Bool.Decides.{nat_tests}
 use Rattle.td_words.specs.declared.names.PageKind.{PageKind}
@@ -7,7 +7,7 @@ use Rattle.td_words.specs.declared.names.PageKind.TheVariants as kind
 use Rattle.td_words.specs.declared.machines.Machine.{Machine}
 use Rattle.td_words.specs.declared.calls.Call.{Call}
 use Rattle.td_words.specs.declared.calls.Call.TheVariants as call
-use Rattle.td_words.specs.Packing.{Key, free, assigned, flushed}
+use Rattle.td_words.specs.Packing.{Key, Unassigned, AssignedTo, FlushedOf}
 use Rattle.flat_core.specs.World.{Pages, Tds, KeyTable, put, first_world}
 use Rattle.flat_core.specs.Opening.{Opening}
 use Rattle.flat_core.specs.Conditions.{same_kind, is_host_in, is_free_key}
@@ -25,7 +25,7 @@ pub host_kind : (k : PageKind) → same_kind k kind.Nda ≡ true → k ≡ kind.
 host_kind kind.Nda h = refl
 host_kind _ h = cc
 
-kind_owned : (k : PageKind) → k ≢ kind.Nda → same_kind k kind.Nda ≡ false
+pub kind_owned : (k : PageKind) → k ≢ kind.Nda → same_kind k kind.Nda ≡ false
 kind_owned kind.Nda h = absurd (h refl)
 kind_owned _ h = refl
 
@@ -78,6 +78,7 @@ module _ (count : ℕ) (old : Pages) (t : ℕ) (host : old.kinds t ≡ kind.Nda)
     owner = λ p h. new_owner p (p == t) refl h;
     in_machine = λ p. by_test (p == t) (λ y h. subst (λ (x : ℕ). x < count) (sym (eqb-true p t y)) small) (λ y h. lawful.in_machine p (rw y at h));
     host = λ p. by_test (p == t) (λ y h. absurd (let no : false ≡ true = rw y at h in cc)) (λ y h. rw (y) (lawful.host p (rw y at h)));
+    blocked = λ p. by_test (p == t) (λ y. rw y (lit< tt)) (λ y. rw y (lawful.blocked p));
   }
 
 pub host_read-keeps : (m : Machine) (page i : ℕ) → RowKeeps m (host_read m page i)
@@ -104,6 +105,11 @@ module _ (count : ℕ) (old : Pages) (tds : Tds) (table : KeyTable) (t h : ℕ) 
   new_tds l = record {
     controls = λ x a. by_test (x == t) (λ y. rw y tt) (λ y. rw y (controls_kept count old t host lawful small x (tds.controls x) (l.controls x (alive_before x y a))));
     vps = λ x a. by_test (x == t) (λ y. rw y tt) (λ y. rw y (pages_kept count old t host lawful small x kind.Tdvpr (tds.vps x) (λ e. cc) (l.vps x (alive_before x y a))));
+    vps_few = λ x. by_test (x == t) (λ y. rw y (lit≤ tt)) (λ y. rw y (l.vps_few x));
+    vps_differ = λ x. by_test (x == t) (λ y. rw y refl) (λ y. rw y (l.vps_differ x));
+    streams_few = λ x. by_test (x == t) (λ y. rw y (lit≤ tt)) (λ y. rw y (l.streams_few x));
+    streams_differ = λ x. by_test (x == t) (λ y. rw y refl) (λ y. rw y (l.streams_differ x));
+    epoch = λ x. by_test (x == t) (λ y. rw y (lit< tt)) (λ y. rw y (l.epoch x));
     streams = λ x a. by_test (x == t) (λ y. rw y tt) (λ y. rw y (pages_kept count old t host lawful small x kind.Migsc (tds.streams x) (λ e. cc) (l.streams x (alive_before x y a))));
   }
 
@@ -117,7 +123,7 @@ module _ (count : ℕ) (old : Pages) (tds : Tds) (table : KeyTable) (t h : ℕ) 
 
   new_tree : LawfulTree old tds → LawfulTree pages begun
   new_tree l = record {
-    free_entry = λ x k n. by_test (x == t) (λ y e. rw y (refl, refl)) (λ y e. rw y (l.free_entry x k n (rw y at e)));
+    entry = λ x k n. by_test (x == t) (λ y. rw y refl) (λ y. rw y (l.entry x k n));
     upper = λ x k n a. by_test (x == t)
         (λ y e. absurd (let no : true ≡ false = rw y at e in cc))
         (λ y e. rw y (let u = l.upper x k n (alive_before x y a) (rw y at e) in (u.0, node_kept count old t host lawful small x _ kind.Ept (suc k) n (λ e. cc) u.1)));
@@ -130,11 +136,11 @@ module _ (count : ℕ) (old : Pages) (tds : Tds) (table : KeyTable) (t h : ℕ) 
   }
 
   taken_key : (k : Key) (x : ℕ) → is_free_key k ≡ true → key_owner k ≡ Some x → ⊥
-  taken_key free x e n = cc
-  taken_key (assigned y) x e n = cc
-  taken_key (flushed y b) x e n = cc
+  taken_key Unassigned x e n = cc
+  taken_key (AssignedTo y) x e n = cc
+  taken_key (FlushedOf y b) x e n = cc
 
-  new_keys : LawfulKeys old tds table → LawfulKeys pages begun (record table { keys = put table.keys h (assigned t) })
+  new_keys : LawfulKeys old tds table → LawfulKeys pages begun (record table { keys = put table.keys h (AssignedTo t) })
   new_keys l = record {
     owner = λ x a. by_test (x == t)
         (λ y. rw (y, same_self h) (ap (λ (n : ℕ). Some n) (sym (eqb-true x t y))))
@@ -167,8 +173,8 @@ row-keeps o me (call.MngCreate t h) = create-keeps o.machine t h
 pub first-lawful : (m : Machine) (words_to_tell : Option (List ℕ)) → Lawful m (first_world m.pages words_to_tell)
 first-lawful m ws = record {
   size = refl;
-  pages = record { tdr = λ t h. cc; owner = λ p h. cc; in_machine = λ p h. cc; host = λ p h. (refl, refl) };
-  tds = record { controls = λ t a. tt; vps = λ t a. tt; streams = λ t a. tt };
-  tree = record { free_entry = λ t l n h. (refl, refl); upper = λ t l n a h. absurd (let no : true ≡ false = h in cc); leaf = λ t n a h. absurd (let no : true ≡ false = h in cc); named = λ p h a. cc };
+  pages = record { tdr = λ t h. cc; owner = λ p h. cc; in_machine = λ p h. cc; host = λ p h. (refl, refl); blocked = λ p. lit< tt };
+  tds = record { controls = λ t a. tt; vps = λ t a. tt; streams = λ t a. tt; vps_few = λ t. lit≤ tt; vps_differ = λ t. refl; streams_few = λ t. lit≤ tt; streams_differ = λ t. refl; epoch = λ t. lit< tt };
+  tree = record { entry = λ t l n. refl; upper = λ t l n a h. absurd (let no : true ≡ false = h in cc); leaf = λ t n a h. absurd (let no : true ≡ false = h in cc); named = λ p h a. cc };
   keys = record { owner = λ t a. absurd (let no : kind.Nda ≡ kind.Tdr = a.kind in cc) };
 }

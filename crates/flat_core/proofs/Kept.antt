@@ -9,14 +9,23 @@ use Rattle.flat_core.specs.Row.{Attempts, Undoes, Refuses, Succeeds, Releases, R
 use Rattle.flat_core.specs.Guest.{reach}
 use Rattle.flat_core.specs.Event.{State, Event, OfCall, OfOperation, Walks, Reaches, Leaves, start, next_event, after_event}
 use Rattle.flat_core.specs.Lawful.{Lawful}
-use Rattle.flat_core.specs.Laws.{EveryWorldIsLawful, OthersStay, QuietEventsStay}
-use Rattle.flat_core.proofs.Induction.{world_kept}
+use Rattle.flat_core.specs.Laws.{EveryWorldIsLawful, EventsKeepLawful, OthersStay, QuietEventsStay}
+use Rattle.flat_core.proofs.Induction.{world_event, world_kept}
 use Rattle.flat_core.proofs.Keeps.{row-keeps, first-lawful}
 
 -- a guest's access changes words, registers, memories and positions alone
 reach_lawful : (o : Opening) (t v : ℕ) (access : Access) (r gpa page : ℕ) (w : World) → Lawful o.machine w → Lawful o.machine (reach t v access r gpa page w)
 reach_lawful o t v Read r gpa page w l = record { size = l.size; pages = l.pages; tds = l.tds; tree = l.tree; keys = l.keys }
 reach_lawful o t v Write r gpa page w l = record { size = l.size; pages = l.pages; tds = l.tds; tree = l.tree; keys = l.keys }
+
+pub events_keep : EventsKeepLawful
+events_keep o s p l =
+    world_event o (Lawful o.machine)
+    (λ me c w l ps. (row-keeps o me c).act w l ps)
+    (λ t v line op row w e l ps. elim op [ ])
+    (reach_lawful o)
+    (λ v w l. record { size = l.size; pages = l.pages; tds = l.tds; tree = l.tree; keys = l.keys })
+    s p l
 
 pub every_lawful : EveryWorldIsLawful
 every_lawful o ws schedule =

@@ -6,3 +6,4 @@ pub mod Kept
 pub mod LockLaw
 pub mod Ends
 pub mod TwoWorlds
+pub mod Refused

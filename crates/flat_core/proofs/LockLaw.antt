@@ -1,5 +1,5 @@
 -- Nobody holds a lock beside one who holds it alone.
-use Rattle.std.proofs.Common.{◌≡◌, refl, sym, subst, ap, ℕ, zero, suc, ◌+◌, ◌≤◌, List, [], ◌∷◌, Option, Some, None, option_map, Bool, true, false, ◌==◌, arith, inl, inr}
+use Rattle.std.proofs.Common.{length, ◌≡◌, refl, sym, subst, ap, ℕ, zero, suc, ◌+◌, ◌≤◌, List, [], ◌∷◌, Option, Some, None, option_map, Bool, true, false, ◌==◌, arith, inl, inr}
 use Rattle.std.proofs.lemmas.Bool.{eqb-true, ne_eqb}
 use Rattle.td_words.specs.declared.names.LockName.{LockName}
 use Rattle.td_words.specs.declared.names.Mode.{Mode}
@@ -8,11 +8,12 @@ use Rattle.td_words.specs.declared.names.Access.{Access}
 use Rattle.td_words.specs.declared.replies.Outcome.{Outcome}
 use Rattle.td_words.specs.declared.replies.Reply.{Reply}
 use Rattle.flat_core.specs.World.{World, put}
-use Rattle.flat_core.specs.Processor.{LockId, OfPage, OfOp, OfTree, OfEpoch, OfRtmr, OfKeys, Held, Phase, Trying, Undoing, Answered, Progress, Guest, Entry, Lp, idle}
+use Rattle.flat_core.specs.Processor.{LockId, OfPage, OfOp, OfTree, OfEpoch, OfRtmr, OfKeys, Held, Phase, Trying, Undoing, Answered, Progress, Guest, Entering, Lp, idle}
 use Rattle.flat_core.specs.Locks.{same_lock, alone_in, shared_in, guest_alone, guest_shared, alone_of, shared_of, sum_below, holders, sharers, refusals, grants}
 use Rattle.flat_core.specs.Opening.{Opening}
 use Rattle.flat_core.specs.Row.{Row, OperationRow, Move, Attempts, Undoes, Refuses, Succeeds, Releases, Rests, after_move, but_newest}
-use Rattle.flat_core.specs.Guest.{walk_step, walked_on, goes_on, walked_entry, answered}
+use Rattle.td_words.specs.Packing.{Entry}
+use Rattle.flat_core.specs.Guest.{walk_level, walk_step, walked_on, goes_on, walked_entry, answered}
 use Rattle.flat_core.specs.Event.{State, Event, OfCall, OfOperation, Walks, Reaches, Leaves, start, next_event, after_event, lp_after, call_lp, succeeded, settle, settled_guest, settle_operation, operation_guest, call_busy, operation_busy, is_granted}
 use Rattle.flat_core.specs.Laws.{IsSole, LocksExclude}
 use Rattle.flat_core.proofs.Induction.{play_keeps}
@@ -70,7 +71,7 @@ module _ (count : List Held → ℕ) (nil : count [] ≡ 0) (tail : (h : Held) (
   settle_operation_less Trying hs g = omega arith
   settle_operation_less (Undoing l) hs g = omega arith
 
-  succeeded_less : (w : World) (row : Row) (e : Option Entry) (lp : Lp) → lp_count (succeeded w row e lp) ≤ lp_count lp
+  succeeded_less : (w : World) (row : Row) (e : Option Entering) (lp : Lp) → lp_count (succeeded w row e lp) ≤ lp_count lp
   succeeded_less w row None lp = omega arith
   succeeded_less w row (Some e) lp = omega (arith, nil)
 
@@ -89,16 +90,17 @@ module _ (count : List Held → ℕ) (nil : count [] ≡ 0) (tail : (h : Held) (
       let g' : Guest = record g { operation = p } in
       omega (arith, after_more operation_busy b (row.answer w) move g.operation, settle_operation_less p.phase p.held g')
 
-  walked_same : (access : Access) (gpa : ℕ) (b : Bool) (level : ℕ) (g : Guest) → count (walked_on access gpa b level g).operation.held ≡ count g.operation.held
-  walked_same access gpa true zero g = refl
-  walked_same access gpa true (suc level) g = refl
-  walked_same access gpa false level g = refl
+  walked_same : (access : Access) (gpa : ℕ) (b : Bool) (level : ℕ) (e : Entry) (g : Guest) → count (walked_on access gpa b level e g).operation.held ≡ count g.operation.held
+  walked_same access gpa true zero e g = refl
+  walked_same access gpa true (suc level) e g = refl
+  walked_same access gpa false level e g = refl
 
   walk_less : (w : World) (access : Access) (gpa : ℕ) (g : Option Guest) → guest_count (option_map (λ g. settled_guest (walk_step w g access gpa)) g) ≤ guest_count g
   walk_less w access gpa None = omega arith
   walk_less w access gpa (Some g) =
       let x = walk_step w g access gpa in
-      omega (arith, settle_operation_less x.operation.phase x.operation.held x, walked_same access gpa (goes_on access g.walk (walked_entry w g gpa)) g.walk g)
+      let e = walked_entry w g gpa in
+      omega (arith, settle_operation_less x.operation.phase x.operation.held x, walked_same access gpa (goes_on access (walk_level g.walk) e) (walk_level g.walk) e g)
 
   reach_less : (g : Option Guest) → guest_count (option_map (λ g. settled_guest (answered None g)) g) ≤ guest_count g
   reach_less None = omega arith
@@ -222,6 +224,6 @@ step o s p e eq h l =
 
 pub locks_exclude : LocksExclude
 locks_exclude o ws schedule l =
-    let none : (f : Lp → ℕ) → f idle ≡ 0 → sum_below (λ q. f idle) o.machine.lps ≡ 0 = λ f h. sum_none f o.machine.lps h in
+    let none : (f : Lp → ℕ) → f idle ≡ 0 → sum_below (λ q. f idle) (length o.calls) ≡ 0 = λ f h. sum_none f (length o.calls) h in
     play_keeps o (λ s. (l : LockId) → Counts s l) (step o) schedule (start o ws)
     (λ k. record { one = omega (arith, none (alone_of k) refl); apart = inl (none (alone_of k) refl) }) l

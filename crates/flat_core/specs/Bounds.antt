@@ -2,7 +2,7 @@
 use Rattle.std.specs.Prelude.{◌≡◌, ℕ, ◌+◌, ◌-◌, ◌*◌, ◌<◌, List, [], ◌∷◌, length, Option, Some, None}
 use Rattle.td_words.specs.declared.calls.Call.{Call}
 use Rattle.td_words.specs.declared.replies.Reply.{Reply}
-use Rattle.flat_core.specs.Processor.{Phase, Trying, Undoing, Answered, Progress}
+use Rattle.flat_core.specs.Processor.{Phase, Trying, Undoing, Answered, Lp}
 use Rattle.flat_core.specs.Opening.{Opening}
 use Rattle.flat_core.specs.Table.{most_tries}
 use Rattle.flat_core.specs.Event.{State, Event, start, next_event, lines_left, event}
@@ -15,12 +15,13 @@ call_left n Trying held = 2 * n + 1 - held
 call_left n (Undoing l) held = held + 1
 call_left n (Answered r) held = held
 
-abbrev pub left_of : List Call → Progress Reply → ℕ
-left_of [] call = 0
-left_of (c ∷ cs) call = call_left (most_tries c) call.phase (length call.held) + events_in cs
+-- a processor with these lines left; no call that is built enters a guest
+abbrev pub left_of : List Call → Lp → ℕ
+left_of [] lp = 0
+left_of (c ∷ cs) lp = call_left (most_tries c) lp.call.phase (length lp.call.held) + events_in cs
 
 abbrev pub events_left : Opening → State → ℕ → ℕ
-events_left o s p = left_of (lines_left o p (s.lps p)) (s.lps p).call
+events_left o s p = left_of (lines_left o p (s.lps p)) (s.lps p)
 
 -- each event of a processor lowers what it can still make, in every state that a schedule leads to
 abbrev pub EventsRunOut : Type 0

@@ -11,7 +11,7 @@ use Rattle.td_words.specs.declared.names.Mode.TheVariants.{Shared, Exclusive}
 use Rattle.td_words.specs.declared.refusals.Status.TheVariants.{PageMetadataIncorrect, LifecycleStateIncorrect, OpStateIncorrect, TdcxNumIncorrect}
 use Rattle.td_words.specs.declared.replies.Reply.{Reply}
 use Rattle.td_words.specs.NameNumber.{kind_number, life_number, op_number}
-use Rattle.td_words.specs.Packing.{Key, free, assigned, flushed}
+use Rattle.td_words.specs.Packing.{Key, Unassigned, AssignedTo, FlushedOf}
 use Rattle.flat_core.specs.World.{World, Pages}
 use Rattle.flat_core.specs.Processor.{OfPage, OfOp, OfKeys}
 use Rattle.flat_core.specs.Locks.{one_if}
@@ -31,9 +31,9 @@ abbrev pub is_page_of : World → ℕ → ℕ → PageKind → Bool
 is_page_of w t p k = same_kind (w.pages.kinds p) k && w.pages.owners p == t
 
 abbrev pub is_free_key : Key → Bool
-is_free_key free = true
-is_free_key (assigned t) = false
-is_free_key (flushed t b) = false
+is_free_key Unassigned = true
+is_free_key (AssignedTo t) = false
+is_free_key (FlushedOf t b) = false
 
 abbrev pub is_key_free : World → ℕ → Bool
 is_key_free w h = is_free_key (w.key_table.keys h)

@@ -1,5 +1,5 @@
 -- Words that acts are written in: each changes one thing of the world, and all else stays.
-use Rattle.std.specs.Prelude.{ℕ, ◌+◌, List, [], ◌∷◌, ◌++◌, Option, Some, None, ◌==◌, ◌&&◌, if◌then◌else◌}
+use Rattle.std.specs.Prelude.{ℕ, ◌+◌, List, [], ◌∷◌, ◌++◌, length, drop, Option, Some, None, option_map, ◌==◌, ◌&&◌, if◌then◌else◌}
 use Rattle.td_words.specs.declared.names.PageKind.{PageKind}
 use Rattle.td_words.specs.declared.names.PageKind.TheVariants as kind
 use Rattle.td_words.specs.declared.names.LifeState.{LifeState}
@@ -122,15 +122,12 @@ word_told None x = x
 word_told (Some []) x = 0
 word_told (Some (y ∷ ys)) x = y
 
-abbrev pub left_to_tell : Option (List ℕ) → Option (List ℕ)
-left_to_tell None = None
-left_to_tell (Some []) = Some []
-left_to_tell (Some (y ∷ ys)) = Some ys
-
-abbrev pub tell : ℕ → World → World
-tell x w = record w {
-  outgoing = record { told = w.outgoing.told ++ word_told w.outgoing.to_tell x ∷ []; to_tell = left_to_tell w.outgoing.to_tell; bundles = w.outgoing.bundles };
+-- words are told: those given are used up
+abbrev pub tell_words : List ℕ → World → World
+tell_words xs w = record w {
+  outgoing = record { told = w.outgoing.told ++ xs; to_tell = option_map (drop (length xs)) w.outgoing.to_tell; bundles = w.outgoing.bundles };
 }
 
+-- a bundle is made
 abbrev pub add_bundle : Made → World → World
 add_bundle b w = record w { outgoing = record (w.outgoing) { bundles = w.outgoing.bundles ++ b ∷ [] } }

@@ -10,15 +10,16 @@ use Rattle.td_words.specs.declared.replies.Reply.TheVariants.{Done, Refused, Exi
 use Rattle.td_words.specs.declared.calls.Call.{Call}
 use Rattle.td_words.specs.declared.calls.GuestOp.{GuestOp}
 use Rattle.flat_core.specs.World.{World, first_world, put}
-use Rattle.flat_core.specs.Processor.{LockId, OfEpoch, Held, Phase, Trying, Undoing, Answered, nothing_yet, Guest, Entry, new_guest, Translation, Note, Lp, idle}
+use Rattle.flat_core.specs.Processor.{LockId, OfEpoch, Held, Phase, Trying, Undoing, Answered, nothing_yet, Guest, Entering, new_guest, Translation, Note, Lp, idle}
 use Rattle.flat_core.specs.Locks.{grants}
 use Rattle.flat_core.specs.Opening.{Opening}
 use Rattle.flat_core.specs.Row.{Row, OperationRow, Move, Attempts, Undoes, Succeeds, Releases, next_in, after_move}
 use Rattle.flat_core.specs.Table.{row_of}
-use Rattle.flat_core.specs.Effects.{leave_guest}
+use Rattle.flat_core.specs.Effects.{leave_guest, tell_words}
 use Rattle.flat_core.specs.Translations.{look_up}
 use Rattle.flat_core.specs.Guest.{Operation, ByRow, Private, operation_of, page_of_gpa, reach, reach_notes, answered, walk_step, walk_cached}
 
+-- a state of the flat machine, with as many processors as take part
 pub record State : Type 0 where
   pub world : World
   pub lps : ℕ → Lp
@@ -26,7 +27,7 @@ pub record State : Type 0 where
 
 -- the start of a run, with the words to tell where they are given
 abbrev pub start : Opening → Option (List ℕ) → State
-start o words_to_tell = record { world = first_world o.machine.pages words_to_tell; lps = λ p. idle; lp_count = o.machine.lps }
+start o words_to_tell = record { world = first_world o.machine.pages words_to_tell; lps = λ p. idle; lp_count = length o.calls }
 
 -- one event of a processor: of its call; of its guest's operation; the load of an entry in a guest's walk; a guest's
 -- access to a word of a page through a translation; or the count step, with which it leaves the guest
@@ -61,22 +62,25 @@ abbrev pub operation_due : Opening → World → Guest → Option GuestOp
 operation_due o w g = slice_get (o.codes g.tdr (w.vps.indexes g.vp)) (w.vps.positions g.vp)
 
 abbrev pub nothing_more : OperationRow
-nothing_more = record { items = λ w. []; act = λ w. w; answer = λ w. None; notes = λ w. [] }
+nothing_more = record { items = λ w. []; act = λ w. w; answer = λ w. None; notes = λ w. []; tells = λ w. [] }
 
+-- an operation that was denied or is answered undoes and releases first
 abbrev pub staying_event : Opening → World → Lp → Guest → Phase (Option Outcome) → Event
 staying_event o w lp g Trying = due_event o w lp g (operation_due o w g)
 staying_event o w lp g (Undoing l) = OfOperation nothing_more (Undoes l)
 staying_event o w lp g (Answered out) = OfOperation nothing_more (next_in [] (Answered out) g.operation.held)
 
+-- a guest's next event: it is left, or goes on
 abbrev pub guest_event : Opening → World → Lp → Guest → Option Outcome → Event
 guest_event o w lp g (Some out) = Leaves g.vp out
 guest_event o w lp g None = staying_event o w lp g g.operation.phase
 
--- VP.ENTER gives E back before its guest's first operation
+-- is this lock an E
 abbrev pub is_epoch_lock : LockId → Bool
 is_epoch_lock (OfEpoch t) = true
 is_epoch_lock _ = false
 
+-- VP.ENTER gives E back before its guest's first operation
 abbrev pub epoch_event : Opening → World → Lp → Row → Guest → Held → Bool → Event
 epoch_event o w lp row g h true = OfCall row (Releases h)
 epoch_event o w lp row g h false = guest_event o w lp g g.leaving
@@ -85,6 +89,7 @@ abbrev pub entered_event : Opening → World → Lp → Row → Guest → List H
 entered_event o w lp row g [] = guest_event o w lp g g.leaving
 entered_event o w lp row g (h ∷ hs) = epoch_event o w lp row g h (is_epoch_lock h.lock)
 
+-- a call goes by its row until it enters a guest
 abbrev pub line_event : Opening → World → Lp → Row → Option Guest → Event
 line_event o w lp row None = OfCall row (next_in (row.items w) lp.call.phase lp.call.held)
 line_event o w lp row (Some g) = entered_event o w lp row g lp.call.held
@@ -102,6 +107,7 @@ abbrev pub event_for : Opening → World → ℕ → Lp → List Call → Option
 event_for o w p lp [] = None
 event_for o w p lp (c ∷ cs) = Some (line_event o w lp (row_of o p c) lp.guest)
 
+-- the next event of processor p; none where it has no line left
 abbrev pub next_event : Opening → State → ℕ → Option Event
 next_event o s p = event_for o s.world p (s.lps p) (lines_left o p (s.lps p))
 
@@ -112,7 +118,7 @@ call_world row Succeeds w = row.act w
 call_world row _ w = w
 
 abbrev pub operation_world : OperationRow → Move (Option Outcome) → World → World
-operation_world row Succeeds w = row.act w
+operation_world row Succeeds w = tell_words (row.tells w) (row.act w)
 operation_world row _ w = w
 
 abbrev pub world_after : Event → World → World
@@ -136,8 +142,8 @@ settled lp = settle lp.call.phase lp.call.held lp
 
 -- an operation that is answered and holds nothing is done: completed, or the guest is to be left
 abbrev pub settle_operation : Phase (Option Outcome) → List Held → Guest → Guest
-settle_operation (Answered None) [] g = record g { operation = nothing_yet; walk = 3; completed = g.completed + 1 }
-settle_operation (Answered (Some out)) [] g = record g { operation = nothing_yet; walk = 3; leaving = Some out }
+settle_operation (Answered None) [] g = record g { operation = nothing_yet; walk = None; completed = g.completed + 1 }
+settle_operation (Answered (Some out)) [] g = record g { operation = nothing_yet; walk = None; leaving = Some out }
 settle_operation (Answered out) (h ∷ hs) g = g
 settle_operation Trying hs g = g
 settle_operation (Undoing l) hs g = g
@@ -152,7 +158,7 @@ abbrev pub operation_busy : LockName → Option Outcome
 operation_busy n = Some (Busy n)
 
 -- a call that enters a guest is answered at the guest's exit
-abbrev pub succeeded : World → Row → Option Entry → Lp → Lp
+abbrev pub succeeded : World → Row → Option Entering → Lp → Lp
 succeeded w row None lp = record lp { call = record { phase = Answered (Done (row.value w)); held = lp.call.held }; cached = row.cached w lp.cached }
 succeeded w row (Some e) lp = record lp { guest = Some (new_guest e); cached = row.cached w lp.cached }
 
@@ -163,6 +169,10 @@ call_lp w granted row move lp = record lp { call = after_move call_busy granted 
 abbrev pub operation_notes : World → OperationRow → Move (Option Outcome) → List Note
 operation_notes w row Succeeds = row.notes w
 operation_notes w row _ = []
+
+abbrev pub operation_told : World → OperationRow → Move (Option Outcome) → List ℕ
+operation_told w row Succeeds = row.tells w
+operation_told w row _ = []
 
 abbrev pub operation_guest : World → Bool → OperationRow → Move (Option Outcome) → Guest → Guest
 operation_guest w granted row move g = settled_guest (record g { operation = after_move operation_busy granted (row.answer w) move g.operation })
@@ -175,7 +185,11 @@ walk_translations w access gpa (Some g) cs = walk_cached w g access gpa cs
 abbrev pub lp_after : World → Bool → Event → Lp → Lp
 lp_after w granted (OfCall row move) lp = settled (call_lp w granted row move lp)
 lp_after w granted (OfOperation row move) lp =
-    record lp { guest = option_map (operation_guest w granted row move) lp.guest; notes = lp.notes ++ operation_notes w row move }
+    record lp {
+      guest = option_map (operation_guest w granted row move) lp.guest;
+      notes = lp.notes ++ operation_notes w row move;
+      told = lp.told ++ operation_told w row move;
+    }
 lp_after w granted (Walks access gpa) lp =
     record lp { guest = option_map (λ g. settled_guest (walk_step w g access gpa)) lp.guest; cached = walk_translations w access gpa lp.guest lp.cached }
 lp_after w granted (Reaches t v access r gpa page) lp =

@@ -24,6 +24,7 @@ name_of (OfEpoch t) = name.Epoch
 name_of (OfRtmr t) = name.Rtmr
 name_of OfKeys = name.Keys
 
+-- a lock that is held, and how
 pub record Held : Type 0 where
   pub lock : LockId
   pub mode : Mode
@@ -35,6 +36,7 @@ pub data Phase (R : Type 0) : Type 0 where
   Undoing : (lock : LockId) → Phase R
   Answered : (answer : R) → Phase R
 
+-- how far a call or an operation is
 pub record Progress (R : Type 0) : Type 0 where
   pub phase : Phase R
   pub held : List Held  -- its own locks, the newest first
@@ -49,6 +51,13 @@ pub record Translation : Type 0 where
   pub page : ℕ
   pub may_write : Bool
 
+-- a guest's walk under way: its GPA page, the level of the entry that it loads next, and the secure EPT page where that
+-- entry stands
+pub record Walk : Type 0 where
+  pub gpa_page : ℕ
+  pub level : ℕ
+  pub page : ℕ
+
 -- the virtual processor that runs on a logical processor, from the act of VP.ENTER to the exit. An operation answers
 -- nothing where it is completed, else why the guest is left
 pub record Guest : Type 0 where
@@ -57,29 +66,31 @@ pub record Guest : Type 0 where
   pub most : ℕ  -- operations, in this entry
   pub completed : ℕ
   pub operation : Progress (Option Outcome)
-  pub walk : ℕ  -- the level of the entry that a walk loads next; 3 where none is under way
+  pub walk : Option Walk
   pub leaving : Option Outcome
 
 -- what VP.ENTER asks for, and the guest that begins with it
-pub record Entry : Type 0 where
+pub record Entering : Type 0 where
   pub tdr : ℕ
   pub vp : ℕ
   pub most : ℕ
 
-abbrev pub new_guest : Entry → Guest
-new_guest e = record { tdr = e.tdr; vp = e.vp; most = e.most; completed = 0; operation = nothing_yet; walk = 3; leaving = None }
+abbrev pub new_guest : Entering → Guest
+new_guest e = record { tdr = e.tdr; vp = e.vp; most = e.most; completed = 0; operation = nothing_yet; walk = None; leaving = None }
 
 -- what a guest's reads and measurements came to, by the call line of their VP.ENTER
 pub data Note : Type 0 where
   LoadNote : (line gpa word : ℕ) → Note
   RtmrNote : (line index : ℕ) (words : List ℕ) → Note
 
+-- a logical processor
 pub record Lp : Type 0 where
   pub call : Progress Reply
   pub guest : Option Guest
   pub cached : List Translation  -- at most 16, oldest first
   pub replies : List Reply  -- of the lines that are done
   pub notes : List Note
+  pub told : List ℕ  -- the words that its guests told
 
 abbrev pub idle : Lp
-idle = record { call = nothing_yet; guest = None; cached = []; replies = []; notes = [] }
+idle = record { call = nothing_yet; guest = None; cached = []; replies = []; notes = []; told = [] }

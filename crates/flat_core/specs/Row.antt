@@ -9,7 +9,7 @@ use Rattle.td_words.specs.declared.replies.Outcome.{Outcome}
 use Rattle.td_words.specs.declared.replies.Reply.{Reply}
 use Rattle.td_words.specs.declared.replies.Reply.TheVariants.{Refused}
 use Rattle.flat_core.specs.World.{World}
-use Rattle.flat_core.specs.Processor.{LockId, name_of, Held, Phase, Trying, Undoing, Answered, Progress, Translation, Entry, Note}
+use Rattle.flat_core.specs.Processor.{LockId, name_of, Held, Phase, Trying, Undoing, Answered, Progress, Translation, Entering, Note}
 
 -- a condition, with what is answered where it fails, or the try of a lock
 pub data Item (R : Type 0) : Type 0 where
@@ -22,15 +22,16 @@ pub record Row : Type 0 where
   pub items : World → List (Item Reply)
   pub act : World → World
   pub cached : World → List Translation → List Translation
-  pub enters : Option Entry
+  pub enters : Option Entering
   pub value : World → Value
 
--- of a guest operation: what it answers is why the guest is left, if it is
+-- of a guest operation: what it answers is why the guest is left, if it is; and the words that it tells, as they are told
 pub record OperationRow : Type 0 where
   pub items : World → List (Item (Option Outcome))
   pub act : World → World
   pub answer : World → Option Outcome
   pub notes : World → List Note
+  pub tells : World → List ℕ
 
 -- what a call or an operation does next
 pub data Move (R : Type 0) : Type 0 where

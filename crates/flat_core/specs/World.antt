@@ -10,7 +10,7 @@ use Rattle.td_words.specs.declared.names.OpState.TheVariants as op
 use Rattle.td_words.specs.declared.names.EntryState.TheVariants as entry
 use Rattle.td_words.specs.declared.names.VcpuState.{VcpuState}
 use Rattle.td_words.specs.declared.names.VcpuState.TheVariants as vcpu
-use Rattle.td_words.specs.Packing.{Entry, Key, free}
+use Rattle.td_words.specs.Packing.{Entry, Key, Unassigned}
 
 -- f, but v at k
 abbrev pub put : {A : Type 0} → (ℕ → A) → ℕ → A → ℕ → A
@@ -44,7 +44,7 @@ pub record Tds : Type 0 where
   pub td_exported : ℕ → ℕ  -- 1 where the TD state was exported in the session
   pub vps_exported : ℕ → ℕ  -- how many VCPU states were
   pub dirtied : ℕ → ℕ  -- entries that became dirty in the session
-  pub unrestored : ℕ → ℕ  -- entries in an exported state, the session's first exports aside
+  pub unrestored : ℕ → ℕ  -- with all first exports, modulo 2^64: entries in an exported state
 
 -- each virtual processor, by its TDVPR page
 pub record Vps : Type 0 where
@@ -58,9 +58,9 @@ pub record Vps : Type 0 where
 
 -- each migration stream, by its page
 pub record Streams : Type 0 where
-  pub counters : ℕ → ℕ
-  pub cleaned : ℕ → ℕ
-  pub first_exports : ℕ → ℕ
+  pub counters : ℕ → ℕ  -- bundles made or imported
+  pub cleaned : ℕ → ℕ  -- dirty entries that an export made clean
+  pub first_exports : ℕ → ℕ  -- pages first exported in the session
 
 -- the key ownership table, by HKID, and the sessions so far
 pub record KeyTable : Type 0 where
@@ -68,7 +68,8 @@ pub record KeyTable : Type 0 where
   pub last_exported : ℕ
   pub last_imported : ℕ
 
--- what no condition and no reply reads: registers, RTMRs, and what each TD's private pages hold as its guest knows it
+-- what no condition reads, and no reply but the word that VMCALL tells: registers, RTMRs, and what each TD's private
+-- pages hold as its guest knows it
 pub record Hidden : Type 0 where
   pub registers : ℕ → ℕ → ℕ  -- by TDVPR page
   pub rtmrs : ℕ → ℕ → ℕ  -- by TDR page, four RTMRs of six words each
@@ -90,7 +91,8 @@ pub record ClearHeader : Type 0 where
   pub gpa : ℕ
   pub total : ℕ
 
--- a bundle that was made, before it is sealed: its slot, its header and the words of its payload
+-- a bundle that was made, before it is sealed: its slot, which tells the line that made it, since no two lines name one;
+-- its header; and the words of its payload
 pub record Made : Type 0 where
   pub slot : ℕ
   pub header : ClearHeader
@@ -103,6 +105,7 @@ pub record Outgoing : Type 0 where
   pub to_tell : Option (List ℕ)
   pub bundles : List Made
 
+-- all that a call can ask about and change
 pub record World : Type 0 where
   pub size : ℕ  -- the number of pages
   pub pages : Pages
@@ -161,7 +164,7 @@ first_world n words_to_tell = record {
   tds = no_tds;
   vps = no_vps;
   streams = record { counters = λ s. 0; cleaned = λ s. 0; first_exports = λ s. 0 };
-  key_table = record { keys = λ h. free; last_exported = 0; last_imported = 0 };
+  key_table = record { keys = λ h. Unassigned; last_exported = 0; last_imported = 0 };
   hidden = record { registers = λ v i. 0; rtmrs = λ t i. 0; memories = λ t g. None };
   outgoing = record { told = []; to_tell = words_to_tell; bundles = [] };
 }

@@ -2,7 +2,7 @@
 
 ghost use Rattle.flat_core.specs.Worked.{Examples};
 ghost use Rattle.flat_core.specs.Bounds.{EventsRunOut, RunsEnd};
-ghost use Rattle.flat_core.specs.Laws.{RowsKeep, RowsAreBlind, EveryWorldIsLawful, OthersStay, QuietEventsStay, LocksExclude, BlindRunsPrintTheSame};
+ghost use Rattle.flat_core.specs.Laws.{RowsKeep, RowsAreBlind, EveryWorldIsLawful, OthersStay, QuietEventsStay, LocksExclude, BlindRunsPrintTheSame, RefusedCallsStay, EventsKeepLawful};
 
 /// The worked examples: replies of small runs, and how many events they take.
 pub fn worked_examples()
@@ -16,17 +16,20 @@ pub fn row_laws()
     ensures blind { RowsAreBlind }
 {}
 
-/// Every schedule leads to a lawful world: who owns which page, which pages a TD's entries name,
+/// Each event keeps a world lawful, and every schedule leads to a lawful one: who owns which page, which pages a TD's entries name,
 /// and whose each HKID is.
 pub fn lawful_law()
-    ensures { EveryWorldIsLawful }
+    ensures event { EventsKeepLawful }
+    ensures run { EveryWorldIsLawful }
 {}
 
-/// An event of one processor leaves the others' records alone, and what is refused, tried, undone
-/// or released changes nothing but locks and the processor's own record.
+/// An event of one processor leaves the others' records alone; what is refused, tried, undone or
+/// released changes nothing but locks and the processor's own record; and so a call that is refused
+/// changes nothing from its first event to its last, and holds no lock at its end.
 pub fn event_laws()
     ensures others { OthersStay }
     ensures quiet { QuietEventsStay }
+    ensures refused { RefusedCallsStay }
 {}
 
 /// Nobody holds a lock beside one who holds it alone, after any schedule.
@@ -44,5 +47,4 @@ pub fn end_laws()
 /// What a run prints is the same whatever the private words are, apart from what guests tell.
 pub fn two_world_law()
     ensures { BlindRunsPrintTheSame }
-{
-}
+{}

@@ -10,5 +10,7 @@
 mod laws;
 mod rights;
 
-pub use laws::{end_laws, event_laws, lawful_law, lock_law, row_laws, two_world_law, worked_examples};
+pub use laws::{
+    end_laws, event_laws, lawful_law, lock_law, row_laws, two_world_law, worked_examples,
+};
 pub use rights::{allows, tracked};

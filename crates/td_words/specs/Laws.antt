@@ -15,9 +15,12 @@ pub record AddressesApart : Type 0 where
   pub pamts : (p q : ℕ) → pamt_at p ≡ pamt_at q → p ≡ q
   pub words : (p i q j : ℕ) → i < 512 → j < 512 → word_at p i ≡ word_at q j → (p ≡ q) × (i ≡ j)
   pub lock_pamt : (p q : ℕ) → lock_at p ≢ pamt_at q
-  pub lock_word : (p q j : ℕ) → j < 512 → lock_at p ≢ word_at q j
-  pub pamt_word : (p q j : ℕ) → j < 512 → pamt_at p ≢ word_at q j
-  pub keys : (pages p i k : ℕ) → p < pages → i < 512 → word_at p i < key_at pages k
+  pub lock_content : (p q j : ℕ) → j < 512 → lock_at p ≢ word_at q j
+  pub pamt_content : (p q j : ℕ) → j < 512 → pamt_at p ≢ word_at q j
+  pub lock_key : (pages p k : ℕ) → p < pages → lock_at p < key_at pages k
+  pub pamt_key : (pages p k : ℕ) → p < pages → pamt_at p < key_at pages k
+  pub content_key : (pages p i k : ℕ) → p < pages → i < 512 → word_at p i < key_at pages k
+  pub keys : (pages j k : ℕ) → key_at pages j ≡ key_at pages k → j ≡ k
   pub lock_undone : (p : ℕ) → (lock_at p / 514 ≡ p) × (lock_at p % 514 ≡ 0)
   pub pamt_undone : (p : ℕ) → (pamt_at p / 514 ≡ p) × (pamt_at p % 514 ≡ 1)
   pub word_undone : (p i : ℕ) → i < 512 → (word_at p i / 514 ≡ p) × (word_at p i % 514 ≡ i + 2)

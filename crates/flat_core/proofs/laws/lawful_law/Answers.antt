@@ -1,5 +1,8 @@
-use Rattle.flat_core.proofs.Kept.{every_lawful}
+use Rattle.flat_core.proofs.Kept.{every_lawful, events_keep}
 use Rattle.flat_core.proofs.laws.lawful_law.Goals as goal
 
-pub returns : goal.returns
-returns c = every_lawful
+pub returns-clause-event : goal.returns-clause-event
+returns-clause-event c = events_keep
+
+pub returns-clause-run : goal.returns-clause-run
+returns-clause-run c = every_lawful
