@@ -14,11 +14,12 @@ use Rattle.td_words.specs.declared.replies.Outcome.TheVariants.{Stop, Max}
 use Rattle.td_words.specs.declared.replies.Reply.{Reply}
 use Rattle.td_words.specs.declared.replies.Reply.TheVariants.{Done}
 use Rattle.flat_core.specs.World.{World, put}
-use Rattle.flat_core.specs.Processor.{LockId, Held, Phase, Trying, Undoing, Answered, Progress, Guest, Entry, Lp, nothing_yet}
+use Rattle.flat_core.specs.Processor.{LockId, Held, Phase, Trying, Undoing, Answered, Progress, Guest, Entering, Lp, nothing_yet}
 use Rattle.flat_core.specs.Locks.{same_lock, is_alone, one_if, alone_in, shared_in, refused_in, alone_of, shared_of, refused_of, guest_alone, guest_shared, guest_refused, sum_below, holders, sharers, refusals, grants}
 use Rattle.flat_core.specs.Opening.{Opening}
 use Rattle.flat_core.specs.Row.{Item, Check, Try, Row, OperationRow, Move, Attempts, Undoes, Refuses, Succeeds, Releases, Rests, next, next_in, after_move}
-use Rattle.flat_core.specs.Guest.{Operation, ByRow, Private, operation_of, walk_step, walked_on, goes_on, walked_entry, answered}
+use Rattle.flat_core.specs.Guest.{Operation, ByRow, Private, operation_of, walk_step, walked_on, goes_on, walk_level, walked_entry, answered}
+use Rattle.td_words.specs.Packing.{Entry}
 use Rattle.flat_core.specs.Table.{row_of}
 use Rattle.flat_core.specs.Event.{State, Event, OfCall, OfOperation, Walks, Reaches, Leaves, next_event, event_for, line_event, entered_event, epoch_event, is_epoch_lock, guest_event, staying_event, due_event, max_event, operation_event, private_event, operation_due, nothing_more, lines_left, lp_after, call_lp, succeeded, settle, settled, settle_operation, settled_guest, operation_guest, call_busy, operation_busy, is_granted, event, after_event}
 use Rattle.word_rules.specs.Cells.{lock_word}
@@ -93,7 +94,7 @@ settle-guest-part l (Undoing k) hs g e f = refl
 abbrev LpFollows : LockId → World → Bool → Event → Lp → Type 0
 LpFollows l w granted e lp = lp_part l (lp_after w granted e lp) + takes_off e l ≡ lp_part l lp + adds e granted l
 
-entered-part : (l : LockId) (w : World) (row : Row) (lp : Lp) (e : Option Entry) → lp.call.phase ≡ Trying → lp.guest ≡ None → lp_part l (succeeded w row e lp) ≡ lp_part l lp
+entered-part : (l : LockId) (w : World) (row : Row) (lp : Lp) (e : Option Entering) → lp.call.phase ≡ Trying → lp.guest ≡ None → lp_part l (succeeded w row e lp) ≡ lp_part l lp
 entered-part l w row lp None t g = rw (t, g) refl
 entered-part l w row lp (Some e) t g = rw g refl
 
@@ -136,15 +137,15 @@ of-operation l w granted row move lp g e f =
     let a = settled-guest-part l x in
     rw e (omega (arith, a, f))
 
-walked-part : (l : LockId) (access : Access) (gpa : ℕ) (b : Bool) (level : ℕ) (g : Guest) → g.operation.phase ≡ Trying → part_in l (walked_on access gpa b level g).operation ≡ part_in l g.operation
-walked-part l access gpa true zero g t = refl
-walked-part l access gpa true (suc level) g t = refl
-walked-part l access gpa false level g t = rw t refl
+walked-part : (l : LockId) (access : Access) (gpa : ℕ) (b : Bool) (level : ℕ) (e : Entry) (g : Guest) → g.operation.phase ≡ Trying → part_in l (walked_on access gpa b level e g).operation ≡ part_in l g.operation
+walked-part l access gpa true zero e g t = refl
+walked-part l access gpa true (suc level) e g t = refl
+walked-part l access gpa false level e g t = rw t refl
 
 of-walk : (l : LockId) (w : World) (granted : Bool) (access : Access) (gpa : ℕ) (lp : Lp) (g : Guest) → lp.guest ≡ Some g → g.operation.phase ≡ Trying → LpFollows l w granted (Walks access gpa) lp
 of-walk l w granted access gpa lp g e t =
     let a = settled-guest-part l (walk_step w g access gpa) in
-    let b = walked-part l access gpa (goes_on access g.walk (walked_entry w g gpa)) g.walk g t in
+    let b = walked-part l access gpa (goes_on access (walk_level g.walk) (walked_entry w g gpa)) (walk_level g.walk) (walked_entry w g gpa) g t in
     rw e (omega (arith, a, b))
 
 answered-part : (l : LockId) (out : Option Outcome) (g : Guest) → g.operation.phase ≡ Trying → part_in l (answered out g).operation ≡ part_in l g.operation

@@ -238,13 +238,13 @@ no-lock n l =
 pub start-is-shown : StartIsShown
 start-is-shown o ws = record { word = λ q i. at q; hasher = λ h. tt }
   where
-    key : (k : ℕ) → IsAs (key_cell (start o ws).world (lock_word (λ p. idle) o.machine.lps OfKeys) k) 0
+    key : (k : ℕ) → IsAs (key_cell (start o ws).world (lock_word (λ p. idle) (start o ws).lp_count OfKeys) k) 0
     key k =
-        by_test (k == KEY_LOCK) (λ y. rw y (no-lock o.machine.lps OfKeys)) (λ n0.
+        by_test (k == KEY_LOCK) (λ y. rw y (no-lock (start o ws).lp_count OfKeys)) (λ n0.
         by_test (k == KEY_LAST_EXPORTED) (λ y. rw (n0, y) refl) (λ n1.
         by_test (k == KEY_LAST_IMPORTED) (λ y. rw (n0, n1, y) refl) (λ n2. rw (n0, n1, n2) refl)))
     at : (q : WordPlace) → IsAs (cell (start o ws) q) 0
-    at (place.Lock p) = no-lock o.machine.lps (OfPage p)
+    at (place.Lock p) = no-lock (start o ws).lp_count (OfPage p)
     at (place.Pamt p) = refl
     at (place.Word p i) = refl
     at (place.Key k) = key k

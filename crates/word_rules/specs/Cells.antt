@@ -4,6 +4,7 @@ use Rattle.std.specs.Prelude.{◌≡◌, ℕ, zero, suc, ◌+◌, ◌-◌, ◌*�
 use Rattle.td_words.specs.declared.names.PageKind.{PageKind}
 use Rattle.td_words.specs.declared.names.PageKind.TheVariants as kind
 use Rattle.td_words.specs.declared.names.LifeState.{LifeState}
+use Rattle.td_words.specs.declared.names.LifeState.TheVariants as life
 use Rattle.td_words.specs.declared.names.OpState.{OpState}
 use Rattle.td_words.specs.declared.names.OpState.TheVariants as op
 use Rattle.td_words.specs.declared.machines.Machine.{Machine}
@@ -122,7 +123,7 @@ control_cell w locks t p (c ∷ rest) i = if c == p then in_lines (td_lock_lines
 
 -- nothing is shown of a TD in TD_TEARDOWN
 abbrev pub if_stands : {A : Type 0} → LifeState → Option A → Option A
-if_stands life c = if life_number life == 3 then None else c
+if_stands s c = if life_number s == life_number life.Teardown then None else c
 
 -- a content word of page p, which is of this kind and of TD t
 abbrev pub page_cell : World → (LockId → ℕ) → (t p : ℕ) → PageKind → ℕ → Option ℕ
