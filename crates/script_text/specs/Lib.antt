@@ -5,3 +5,6 @@ pub mod Mnemonics
 pub mod Line
 pub mod Seen
 pub mod Reading
+pub mod Blocks
+pub mod Spelling
+pub mod Laws

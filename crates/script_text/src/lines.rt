@@ -57,7 +57,7 @@ fn keyword_at(word: &[u8]) -> Option<Keyword>
     }
 }
 
-fn check_count(numbers: &[Option<u64>], count: usize) -> Result<(), Reason>
+pub fn check_count(numbers: &[Option<u64>], count: usize) -> Result<(), Reason>
     ensures { result ≡ counted_of count numbers.now }
 {
     if numbers.len() == count {
@@ -67,7 +67,7 @@ fn check_count(numbers: &[Option<u64>], count: usize) -> Result<(), Reason>
     }
 }
 
-fn number_of(numbers: &[Option<u64>], i: usize) -> Result<u64, Reason>
+pub fn number_of(numbers: &[Option<u64>], i: usize) -> Result<u64, Reason>
     requires { i < length numbers.now }
     ensures { result ≡ number_at numbers.now i }
 {
@@ -162,7 +162,7 @@ fn end_line(numbers: &[Option<u64>]) -> Result<Entry, Reason>
     Ok(Entry::End)
 }
 
-fn argument(numbers: &[Option<u64>], i: usize) -> u64
+pub fn argument(numbers: &[Option<u64>], i: usize) -> u64
     ensures { result ≡ argument numbers.now i }
 {
     if i < numbers.len() {
@@ -197,7 +197,7 @@ fn built(call: CallName, numbers: &[Option<u64>]) -> Option<Call>
     }
 }
 
-fn are_numbers(numbers: &[Option<u64>]) -> bool
+pub fn are_numbers(numbers: &[Option<u64>]) -> bool
     ensures { result ≡ list_all is_some numbers.now }
 {
     numbers.iter().all(|number| number.is_some())
