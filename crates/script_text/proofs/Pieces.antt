@@ -37,3 +37,8 @@ pub short_some : (xs : List ℕ) (i : ℕ) → position newline xs ≡ Some i �
 short_some xs i h =
     let e : (ltb (position_or_len newline xs) (length xs) ≡ true) × (position_or_len newline xs ≡ i) = some_is _ _ _ h in
     grind (arith, e.0, e.1)
+
+pub star_below : (xs : List ℕ) (i : ℕ) → position (λ b. b == 42) xs ≡ Some i → i < length xs
+star_below xs i h =
+    let e : (ltb (position_or_len (λ b. b == 42) xs) (length xs) ≡ true) × (position_or_len (λ b. b == 42) xs ≡ i) = some_is _ _ _ h in
+    grind (arith, e.0, e.1)

@@ -6,5 +6,6 @@ pub mod Line
 pub mod Seen
 pub mod Reading
 pub mod Blocks
+pub mod Schedule
 pub mod Spelling
 pub mod Laws

@@ -1,5 +1,5 @@
 -- What one line says, by its first word and the numbers behind it, or the first reason why it is bad.
-use Rattle.std.specs.Prelude.{ℕ, List, [], ◌∷◌, Option, Some, None, is_some, Result, Ok, Err, Bool, true, false, not, ◌&&◌, ◌==◌, nat_lt, nat_le, slice_index_or, ok_or, unwrap_or, length, if◌then◌else◌, codes}
+use Rattle.std.specs.Prelude.{◌≡◌, ℕ, List, [], ◌∷◌, Option, Some, None, is_some, Result, Ok, Err, Bool, true, false, not, ◌&&◌, ◌==◌, nat_lt, nat_le, slice_index_or, ok_or, unwrap_or, length, if◌then◌else◌, codes}
 use Rattle.std.specs.List.{list_all}
 use Rattle.std.specs.Str.{bytes_eq}
 use Rattle.td_words.specs.declared.calls.Call.{Call}
@@ -7,6 +7,8 @@ use Rattle.td_words.specs.declared.calls.Call.TheVariants as calls
 use Rattle.td_words.specs.declared.machines.Machine.{Machine}
 use Rattle.script_text.specs.declared.faults.Reason.{Reason}
 use Rattle.script_text.specs.declared.faults.Reason.TheVariants as reason
+use Rattle.script_text.specs.declared.faults.ScriptFault.{ScriptFault}
+use Rattle.script_text.specs.declared.faults.ScriptFault.TheVariants.{Bad, OutOfMemory}
 use Rattle.script_text.specs.declared.mnemonics.CallName.{CallName}
 use Rattle.script_text.specs.declared.mnemonics.CallName.TheVariants as name
 use Rattle.script_text.specs.declared.mnemonics.Mnemonic.{Mnemonic}
@@ -22,6 +24,12 @@ infixl 10 ◌>>=◌
 abbrev pub ◌>>=◌ : {A B : Type 0} → Result A Reason → (A → Result B Reason) → Result B Reason
 (Ok x) >>= f = f x
 (Err e) >>= f = Err e
+
+-- what reading line n gives, unless memory ran out
+abbrev pub GivesAt : {A : Type 0} → ℕ → Result A Reason → A → Result (Unit {0}) ScriptFault → Type 0
+GivesAt n read new (Ok t) = read ≡ Ok new
+GivesAt n read new (Err (Bad m r)) = (m ≡ n) × (read ≡ Err r)
+GivesAt n read new (Err OutOfMemory) = Unit {0}
 
 abbrev pub keyword_of : List ℕ → Option Keyword
 keyword_of word =

@@ -85,14 +85,3 @@ abbrev pub Gives : Result ScriptSeen ScriptFault → Result ScriptSeen ScriptFau
 Gives read (Ok s) = read ≡ Ok s
 Gives read (Err (Bad n r)) = read ≡ Err (Bad n r)
 Gives read (Err OutOfMemory) = Unit {0}
-
--- what a line makes of the lines so far, unless memory ran out
-abbrev pub GivesLine : ℕ → Result SoFar Reason → SoFar → Result (Unit {0}) ScriptFault → Type 0
-GivesLine n read new (Ok t) = read ≡ Ok new
-GivesLine n read new (Err (Bad m r)) = (m ≡ n) × (read ≡ Err r)
-GivesLine n read new (Err OutOfMemory) = Unit {0}
-
-abbrev pub GivesCalls : ℕ → Result (List (List Call)) Reason → List (List Call) → Result (Unit {0}) ScriptFault → Type 0
-GivesCalls n read new (Ok t) = read ≡ Ok new
-GivesCalls n read new (Err (Bad m r)) = (m ≡ n) × (read ≡ Err r)
-GivesCalls n read new (Err OutOfMemory) = Unit {0}

@@ -1,9 +1,10 @@
 //! What the lines so far say.
 
 ghost use Rattle.std.specs.Prelude.{◌≡◌, map, take, replicate, [], slice_set, true, IfOk};
-ghost use Rattle.script_text.specs.Reading.{draft_seen, with_call, entered_of, worded_of, line_of, GivesLine, GivesCalls};
+ghost use Rattle.script_text.specs.Line.{GivesAt};
+ghost use Rattle.script_text.specs.Reading.{draft_seen, with_call, entered_of, worded_of, line_of};
 
-use crate::faults::{Reason, ScriptFault};
+use crate::faults::{Reason, ScriptFault, bad};
 use crate::lines::{Entry, Stage, entry_at};
 use crate::numbers::numbers;
 use crate::words::{first_words, is_comment, is_printable};
@@ -18,12 +19,6 @@ pub struct Draft {
 }
 
 const MOST_CALLS: usize = 4096;
-
-fn bad(line: u64, reason: Reason) -> ScriptFault
-    ensures { result ≡ ScriptFault.Bad line reason }
-{
-    ScriptFault::Bad { line, reason }
-}
 
 fn no_calls(alloc: Global, lps: u8) -> Result<Vec<Vec<Call>>, AllocError>
     ensures { IfOk result (λ v. map (λ list. list.items) v.items ≡ replicate lps []) }
@@ -49,7 +44,7 @@ fn add_call(
     lp: u8,
     call: Call,
 ) -> Result<(), ScriptFault>
-    ensures { GivesCalls number (with_call (map (λ list. list.items) calls.old.items) lp call) (map (λ list. list.items) calls.new.items) result }
+    ensures { GivesAt number (with_call (map (λ list. list.items) calls.old.items) lp call) (map (λ list. list.items) calls.new.items) result }
 {
     let lp = usize::from(lp);
     if lp >= calls.len() {
@@ -65,7 +60,7 @@ fn add_call(
 
 #[tactic(auto, unfolding(crate::specs::Reading::entered_of))]
 fn enter(draft: &mut Draft, alloc: Global, number: u64, entry: Entry) -> Result<(), ScriptFault>
-    ensures { GivesLine number (entered_of (draft_seen draft.old) entry) (draft_seen draft.new) result }
+    ensures { GivesAt number (entered_of (draft_seen draft.old) entry) (draft_seen draft.new) result }
 {
     match entry {
         Entry::Machine(machine) => {
@@ -93,7 +88,7 @@ fn take_words(
     number: u64,
     words: &[&[u8]],
 ) -> Result<(), ScriptFault>
-    ensures { GivesLine number (worded_of (draft_seen draft.old) (map (λ w. w.now) words.now)) (draft_seen draft.new) result }
+    ensures { GivesAt number (worded_of (draft_seen draft.old) (map (λ w. w.now) words.now)) (draft_seen draft.new) result }
 {
     if words.is_empty() || is_comment(words[0]) {
         return Ok(());
@@ -113,7 +108,7 @@ pub fn take_line(
     number: u64,
     line: &[u8],
 ) -> Result<(), ScriptFault>
-    ensures { GivesLine number (line_of (draft_seen draft.old) line.now) (draft_seen draft.new) result }
+    ensures { GivesAt number (line_of (draft_seen draft.old) line.now) (draft_seen draft.new) result }
 {
     if !is_printable(line) {
         return Err(bad(number, Reason::Byte));

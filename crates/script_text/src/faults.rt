@@ -49,6 +49,13 @@ pub enum ScriptFault {
     OutOfMemory,
 }
 
+/// The fault of a line.
+pub fn bad(line: u64, reason: Reason) -> ScriptFault
+    ensures { result ≡ ScriptFault.Bad line reason }
+{
+    ScriptFault::Bad { line, reason }
+}
+
 impl From<AllocError> for ScriptFault {
     ghost from_gives = { λ _ e. e ≡ OutOfMemory };
 

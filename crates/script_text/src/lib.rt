@@ -10,6 +10,7 @@ mod lines;
 mod mnemonics;
 mod numbers;
 mod operations;
+mod schedules;
 mod scripts;
 mod words;
 
@@ -19,4 +20,5 @@ pub use fields::{field_at, output_slot, slot_place};
 pub use laws::{faults_are_first, scripts_read_again};
 pub use mnemonics::{CallName, Mnemonic, mnemonic_at};
 pub use operations::{OpName, Operand, check_operands, operation_at};
+pub use schedules::{Item, Turns, item_at, schedule_line, turns_of};
 pub use scripts::{Script, read_script};

@@ -5,7 +5,7 @@ ghost use Rattle.script_text.specs.Reading.{Gives, read_of, read_from, ended_of,
 ghost use Rattle.script_text.specs.Words.{pieces};
 
 use crate::drafts::{Draft, take_line};
-use crate::faults::{Reason, ScriptFault};
+use crate::faults::{Reason, ScriptFault, bad};
 use crate::lines::Stage;
 use crate::words::first_line;
 use std::alloc::Global;
@@ -35,22 +35,13 @@ fn ended(alloc: Global, draft: Draft, number: u64, rest: &[u8]) -> Result<Script
     ensures { result ≡ ended_of (draft_seen draft) number rest.now }
 {
     if !rest.is_empty() {
-        return Err(ScriptFault::Bad {
-            line: number,
-            reason: Reason::Unterminated,
-        });
+        return Err(bad(number, Reason::Unterminated));
     }
     let Some(machine) = draft.stage.machine else {
-        return Err(ScriptFault::Bad {
-            line: number,
-            reason: Reason::Machine,
-        });
+        return Err(bad(number, Reason::Machine));
     };
     match draft.stage.block {
-        Some(_) => Err(ScriptFault::Bad {
-            line: number,
-            reason: Reason::Endless,
-        }),
+        Some(_) => Err(bad(number, Reason::Endless)),
         None => Ok(Script {
             machine,
             schedule: Vec::new(alloc),
@@ -88,10 +79,7 @@ pub fn read_script(alloc: Global, bytes: &[u8]) -> Result<Script, ScriptFault>
     ensures { Gives (read_of bytes.now) result }
 {
     if bytes.len() > 1 << 24 {
-        return Err(ScriptFault::Bad {
-            line: 0,
-            reason: Reason::Length,
-        });
+        return Err(bad(0, Reason::Length));
     }
     read_lines(alloc, bytes)
 }
