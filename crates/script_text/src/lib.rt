@@ -22,3 +22,6 @@ pub use mnemonics::{CallName, Mnemonic, mnemonic_at};
 pub use operations::{OpName, Operand, check_operands, operation_at};
 pub use schedules::{Item, Turns, item_at, schedule_line, turns_of};
 pub use scripts::{Script, read_script};
+
+#[cfg(test)]
+mod tests;
