@@ -1,6 +1,6 @@
 -- A script that is written out is read again.
-use Rattle.std.proofs.Common.{◌≡◌, ℕ, ◌+◌, ◌*◌, ◌^◌, ◌<◌, ◌≤◌, List, [], ◌∷◌, ◌++◌, length, map, take, replicate, Bool, true, false, not, cond, leb, ltb, ◌==◌, ◌&&◌, Option, Some, None, Result, Ok, Err, refl, ap, sym, ◌∙◌, subst, arith}
-use Rattle.std.specs.Prelude.{nat_le, nat_lt, codes}
+use Rattle.std.proofs.Common.{◌≡◌, ℕ, ◌+◌, ◌*◌, ◌^◌, ◌<◌, ◌≤◌, List, [], ◌∷◌, ◌++◌, length, map, replicate, Bool, true, false, leb, ltb, Some, None, Result, Ok, refl, ap, sym, ◌∙◌, arith}
+use Rattle.std.specs.Prelude.{codes}
 use Rattle.std.specs.List.{list_all}
 use Rattle.std.specs.Fmt.{decimal}
 use Rattle.std.proofs.lemmas.Fmt.{length-decimal-le}
@@ -9,13 +9,11 @@ use Rattle.td_words.specs.declared.calls.Call.{Call}
 use Rattle.td_words.specs.declared.calls.Call.TheVariants as calls
 use Rattle.td_words.specs.declared.machines.Machine.{Machine}
 use Rattle.script_text.specs.declared.faults.Reason.{Reason}
-use Rattle.script_text.specs.declared.lines.Entry.{Entry}
 use Rattle.script_text.specs.declared.lines.Entry.TheVariants as entry
 use Rattle.script_text.specs.declared.lines.Stage.{Stage}
 use Rattle.script_text.specs.Line.{entry_of, machine_of, three_of, block_of, one_of, end_of, call_of, ◌>>=◌}
-use Rattle.script_text.specs.Number.{number}
-use Rattle.script_text.specs.Words.{words, pieces, is_comment}
-use Rattle.script_text.specs.Reading.{SoFar, nothing_yet, entered_of, worded_of, line_of, read_from, read_of, ended_of}
+use Rattle.script_text.specs.Words.{pieces, is_comment}
+use Rattle.script_text.specs.Reading.{SoFar, nothing_yet, entered_of, worded_of, line_of, read_from, read_of}
 use Rattle.script_text.specs.Spelling.{numbers_text, line_text, call_word, call_numbers, fits_call, calls_text, one_processor, script_text}
 use Rattle.script_text.specs.Laws.{ScriptsReadAgain}
 use Rattle.script_text.proofs.Steps.{good_line}

@@ -1,12 +1,12 @@
 -- One line of a script, and those that follow.
-use Rattle.std.proofs.Common.{◌≡◌, ℕ, ◌+◌, ◌<◌, List, [], ◌∷◌, length, Bool, true, false, cond, ◌==◌, Result, Ok, Err, refl, sym, ◌∙◌, subst, arith}
+use Rattle.std.proofs.Common.{◌≡◌, ℕ, ◌+◌, List, ◌∷◌, length, false, ◌==◌, Result, Ok, Err, refl, sym, ◌∙◌, subst, arith}
 use Rattle.std.proofs.lemmas.List.Splits.{length-slice_split}
 use Rattle.script_text.specs.declared.faults.ScriptFault.{ScriptFault}
 use Rattle.script_text.specs.declared.faults.ScriptFault.TheVariants.{Bad, OutOfMemory}
 use Rattle.script_text.specs.declared.faults.Reason.{Reason}
 use Rattle.script_text.specs.Seen.{ScriptSeen}
 use Rattle.script_text.specs.Words.{pieces}
-use Rattle.script_text.specs.Reading.{SoFar, line_of, read_from, then_on, ended_of, Gives}
+use Rattle.script_text.specs.Reading.{SoFar, line_of, read_from, then_on, Gives}
 use Rattle.script_text.specs.Line.{GivesAt}
 
 pub some_pieces : (bytes : List ℕ) → (length (pieces bytes) == 0) ≡ false

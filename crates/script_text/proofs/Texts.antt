@@ -1,12 +1,12 @@
 -- The words of a line that is written out, and its numbers.
-use Rattle.std.proofs.Common.{◌≡◌, ℕ, suc, ◌+◌, ◌-◌, ◌*◌, ◌/◌, ◌%◌, ◌^◌, ◌<◌, ◌≤◌, List, [], ◌∷◌, ◌++◌, length, map, Bool, true, false, not, cond, ◌==◌, ◌&&◌, leb, ltb, Option, Some, None, refl, ap, sym, ◌∙◌, subst, arith, rules, tests}
+use Rattle.std.proofs.Common.{◌≡◌, ℕ, ◌+◌, ◌*◌, ◌/◌, ◌%◌, ◌^◌, ◌<◌, ◌≤◌, List, [], ◌∷◌, ◌++◌, length, map, Bool, true, false, not, cond, ◌==◌, ◌&&◌, Some, None, refl, ap, ◌∙◌, arith}
 use Rattle.std.specs.Prelude.{nat_le, nat_lt, filter}
-use Rattle.std.specs.List.{list_all, slice_split, onto_first}
+use Rattle.std.specs.List.{list_all, slice_split}
 use Rattle.std.specs.Fmt.{decimal}
 use Rattle.std.proofs.lemmas.Fmt.{decimal_by_steps}
 use Rattle.std.proofs.lemmas.List.{length-append, append-nil, append_assoc}
 use Rattle.std.proofs.lemmas.List.Folds.{list_all-append}
-use Rattle.script_text.specs.Number.{digit, number, number_on, digits_in, is_prefixed}
+use Rattle.script_text.specs.Number.{digit, number, number_on}
 use Rattle.script_text.specs.Words.{words, pieces, is_printable}
 use Rattle.script_text.specs.Spelling.{numbers_text, line_text}
 
@@ -92,7 +92,8 @@ first_digit : (n : ℕ) → n < 10 → IsDecimal n ((48 + n) ∷ [])
 first_digit n h = record {
   digits = and_true (is_digit (48 + n)) true (is_digit_at n h) refl;
   some = refl;
-  value = λ f. one_digit 0 n h (omega arith) ∙ ap Some (let e : 0 * 10 + n ≡ n = omega arith in e) }
+  value = λ f. one_digit 0 n h (omega arith) ∙ ap Some (let e : 0 * 10 + n ≡ n = omega arith in e);
+}
 
 next_digit : (n : ℕ) (ds : List ℕ) → 10 ≤ n → IsDecimal (n / 10) ds → IsDecimal n (ds ++ ((48 + n % 10) ∷ []))
 next_digit n ds big p =
@@ -101,9 +102,10 @@ next_digit n ds big p =
       digits = all_push ds (48 + n % 10) p.digits (is_digit_at (n % 10) small);
       some = some_push ds (48 + n % 10);
       value = λ f.
-        number_push 0 (n / 10) ds (48 + n % 10) (p.value (omega arith))
-        ∙ one_digit (n / 10) (n % 10) small (omega arith)
-        ∙ ap Some (let e : n / 10 * 10 + n % 10 ≡ n = omega arith in e) }
+          number_push 0 (n / 10) ds (48 + n % 10) (p.value (omega arith))
+          ∙ one_digit (n / 10) (n % 10) small (omega arith)
+          ∙ ap Some (let e : n / 10 * 10 + n % 10 ≡ n = omega arith in e);
+    }
 
 pub decimal_is : (n : ℕ) → n < 2 ^ 64 → IsDecimal n (decimal n)
 decimal_is n h = decimal_by_steps IsDecimal first_digit next_digit n h

@@ -1,5 +1,5 @@
 -- What comes with later calls: the fields of MNG.RD, output slots, `code` blocks and their operations.
-use Rattle.std.specs.Prelude.{ℕ, ◌+◌, ◌*◌, ◌^◌, ◌%◌, List, [], ◌∷◌, Option, Some, None, is_some, Result, Ok, Err, Bool, true, false, not, ◌&&◌, ◌==◌, nat_lt, nat_le, slice_index_or, unwrap_or, length, if◌then◌else◌, codes}
+use Rattle.std.specs.Prelude.{ℕ, ◌+◌, ◌*◌, ◌^◌, ◌%◌, List, Option, Some, None, is_some, Result, Ok, Err, Bool, true, false, not, ◌&&◌, ◌==◌, nat_lt, slice_index_or, length, if◌then◌else◌, codes}
 use Rattle.std.specs.List.{list_all}
 use Rattle.std.specs.Str.{bytes_eq}
 use Rattle.td_words.specs.declared.machines.Machine.{Machine}

@@ -1,5 +1,5 @@
 -- Laws of scripts in a reader's terms.
-use Rattle.std.specs.Prelude.{◌≡◌, ◌⊎◌, ℕ, ◌+◌, ◌^◌, ◌<◌, ◌≤◌, List, [], ◌∷◌, ◌++◌, length, Result, Ok, Err, true}
+use Rattle.std.specs.Prelude.{◌≡◌, ℕ, ◌+◌, ◌^◌, ◌<◌, ◌≤◌, List, [], ◌∷◌, ◌++◌, length, Ok, Err, true}
 use Rattle.std.specs.List.{list_all}
 use Rattle.td_words.specs.declared.calls.Call.{Call}
 use Rattle.script_text.specs.declared.faults.Reason.{Reason}
@@ -12,8 +12,8 @@ use Rattle.script_text.specs.Spelling.{fits_call, one_processor, script_text}
 -- a script that is written out is read again as that script
 pub record ScriptsReadAgain : Type 0 where
   pub read_again :
-    (pages hkids : ℕ) (calls : List Call) → 8 ≤ pages → pages ≤ 1024 → 1 ≤ hkids → hkids ≤ 15 → length calls ≤ 4096 → list_all fits_call calls ≡ true
-    → read_of (script_text pages hkids calls) ≡ Ok (one_processor pages hkids calls)
+      (pages hkids : ℕ) (calls : List Call) → 8 ≤ pages → pages ≤ 1024 → 1 ≤ hkids → hkids ≤ 15 → length calls ≤ 4096 → list_all fits_call calls ≡ true
+      → read_of (script_text pages hkids calls) ≡ Ok (one_processor pages hkids calls)
 
 -- good lines, one after the other, and what they say
 pub data Good : List (List ℕ) → SoFar → Type 0 where

@@ -1,5 +1,5 @@
 -- What one line says, by its first word and the numbers behind it, or the first reason why it is bad.
-use Rattle.std.specs.Prelude.{◌≡◌, ℕ, List, [], ◌∷◌, Option, Some, None, is_some, Result, Ok, Err, Bool, true, false, not, ◌&&◌, ◌==◌, nat_lt, nat_le, slice_index_or, ok_or, unwrap_or, length, if◌then◌else◌, codes}
+use Rattle.std.specs.Prelude.{◌≡◌, ℕ, List, Option, Some, None, is_some, Result, Ok, Err, Bool, false, not, ◌&&◌, ◌==◌, nat_lt, nat_le, slice_index_or, ok_or, unwrap_or, length, if◌then◌else◌, codes}
 use Rattle.std.specs.List.{list_all}
 use Rattle.std.specs.Str.{bytes_eq}
 use Rattle.td_words.specs.declared.calls.Call.{Call}

@@ -1,5 +1,5 @@
 -- A script, line by line.
-use Rattle.std.specs.Prelude.{◌≡◌, ℕ, ◌+◌, ◌^◌, List, [], ◌∷◌, ◌++◌, length, map, take, replicate, Option, Some, None, Result, Ok, Err, Bool, true, false, not, ◌==◌, nat_lt, nat_le, slice_index_or, slice_set, if◌then◌else◌}
+use Rattle.std.specs.Prelude.{◌≡◌, ℕ, ◌+◌, ◌^◌, List, [], ◌∷◌, ◌++◌, length, map, take, replicate, Option, Some, None, Result, Ok, Err, true, false, not, ◌==◌, nat_lt, nat_le, slice_index_or, slice_set, if◌then◌else◌}
 use Rattle.td_words.specs.declared.calls.Call.{Call}
 use Rattle.td_words.specs.declared.machines.Machine.{Machine}
 use Rattle.script_text.specs.declared.faults.Reason.{Reason}

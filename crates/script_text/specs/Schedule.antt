@@ -1,5 +1,5 @@
 -- The items of schedule lines: `L`, or `L*K` for K turns of processor L.
-use Rattle.std.specs.Prelude.{ℕ, ◌+◌, ◌^◌, List, [], ◌∷◌, ◌++◌, length, map, take, drop, replicate, Option, Some, None, is_some, Result, Ok, Err, Bool, not, ◌&&◌, ◌==◌, nat_lt, nat_le, position, if◌then◌else◌}
+use Rattle.std.specs.Prelude.{ℕ, ◌+◌, ◌^◌, List, [], ◌∷◌, ◌++◌, length, map, take, drop, replicate, Option, Some, None, is_some, Result, Ok, Err, not, ◌&&◌, ◌==◌, nat_lt, nat_le, position, if◌then◌else◌}
 use Rattle.std.specs.List.{list_all}
 use Rattle.script_text.specs.declared.faults.Reason.{Reason}
 use Rattle.script_text.specs.declared.faults.Reason.TheVariants as reason

@@ -4,7 +4,6 @@ use Rattle.std.specs.List.{list_all}
 use Rattle.std.specs.Fmt.{decimal}
 use Rattle.td_words.specs.declared.calls.Call.{Call}
 use Rattle.td_words.specs.declared.calls.Call.TheVariants as calls
-use Rattle.td_words.specs.declared.machines.Machine.{Machine}
 use Rattle.script_text.specs.Seen.{ScriptSeen}
 
 abbrev pub numbers_text : List ℕ → List ℕ

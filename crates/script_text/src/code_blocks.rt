@@ -20,12 +20,7 @@ fn had_list(had: &[bool], place: usize) -> bool
     place < had.len() && had[place]
 }
 
-fn code_place(
-    machine: Machine,
-    had: &[bool],
-    tdr: u64,
-    index: u64,
-) -> Result<CodePlace, Reason>
+fn code_place(machine: Machine, had: &[bool], tdr: u64, index: u64) -> Result<CodePlace, Reason>
     ensures { result ≡ code_in machine had.now tdr index }
 {
     if tdr >= u64::from(machine.pages) || index >= 8 {

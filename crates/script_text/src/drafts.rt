@@ -38,12 +38,7 @@ fn mark(had: &mut [bool; 8], lp: u8)
     }
 }
 
-fn add_call(
-    calls: &mut Vec<Vec<Call>>,
-    number: u64,
-    lp: u8,
-    call: Call,
-) -> Result<(), ScriptFault>
+fn add_call(calls: &mut Vec<Vec<Call>>, number: u64, lp: u8, call: Call) -> Result<(), ScriptFault>
     ensures { GivesAt number (with_call (map (λ list. list.items) calls.old.items) lp call) (map (λ list. list.items) calls.new.items) result }
 {
     let lp = usize::from(lp);

@@ -143,11 +143,7 @@ fn block_at(machine: Machine, had: &[bool; 8], lp: u64) -> Result<Entry, Reason>
 }
 
 #[tactic(auto, unfolding(crate::specs::Line::block_of))]
-fn block_line(
-    machine: Machine,
-    had: &[bool; 8],
-    numbers: &[Option<u64>],
-) -> Result<Entry, Reason>
+fn block_line(machine: Machine, had: &[bool; 8], numbers: &[Option<u64>]) -> Result<Entry, Reason>
     ensures { result ≡ block_of machine had.now numbers.now }
 {
     let lp = one(numbers)?;
@@ -203,11 +199,7 @@ pub fn are_numbers(numbers: &[Option<u64>]) -> bool
     numbers.iter().all(|number| number.is_some())
 }
 
-fn judged(
-    call: Option<Call>,
-    mnemonic: Mnemonic,
-    numbers: &[Option<u64>],
-) -> Result<Call, Reason>
+fn judged(call: Option<Call>, mnemonic: Mnemonic, numbers: &[Option<u64>]) -> Result<Call, Reason>
     ensures { result ≡ judged_of call mnemonic numbers.now }
 {
     let call = call.ok_or(Reason::Unbuilt)?;
@@ -221,11 +213,7 @@ fn judged(
 }
 
 #[tactic(auto, unfolding(crate::specs::Line::call_of))]
-fn call_line(
-    lp: u8,
-    mnemonic: Option<Mnemonic>,
-    numbers: &[Option<u64>],
-) -> Result<Entry, Reason>
+fn call_line(lp: u8, mnemonic: Option<Mnemonic>, numbers: &[Option<u64>]) -> Result<Entry, Reason>
     ensures { result ≡ call_of lp mnemonic numbers.now }
 {
     let mnemonic = mnemonic.ok_or(Reason::Word)?;

@@ -22,8 +22,14 @@ const ROWS: [(&str, Option<(u64, Reason)>); 40] = [
     ("", Some((1, Reason::Machine))),
     ("\n# a\n", Some((3, Reason::Machine))),
     ("machine 1 8 1\n", None),
-    ("machine 1 8 1\nlp 0\nHOST.RE", Some((3, Reason::Unterminated))),
-    ("machine 1 8 1\nlp 0\nHOST.READ 0 0\n", Some((4, Reason::Endless))),
+    (
+        "machine 1 8 1\nlp 0\nHOST.RE",
+        Some((3, Reason::Unterminated)),
+    ),
+    (
+        "machine 1 8 1\nlp 0\nHOST.READ 0 0\n",
+        Some((4, Reason::Endless)),
+    ),
     ("machine 1 8 1\nlp 0\n#", Some((3, Reason::Unterminated))),
     ("\x07", Some((1, Reason::Unterminated))),
     ("machine 2 8 1", Some((1, Reason::Unterminated))),
@@ -38,7 +44,10 @@ const ROWS: [(&str, Option<(u64, Reason)>); 40] = [
     ("Machine 1 8 1\n", Some((1, Reason::Machine))),
     ("schedule 0\n", Some((1, Reason::Machine))),
     ("machine 1 8 1\nmachine 1\n", Some((2, Reason::Machine))),
-    ("machine 1 8 1\nlp 0\nmachine x 8 1\n", Some((3, Reason::Machine))),
+    (
+        "machine 1 8 1\nlp 0\nmachine x 8 1\n",
+        Some((3, Reason::Machine)),
+    ),
     // its count, numbers and ranges, and that one processor is built
     ("machine 9 x\n", Some((1, Reason::Count))),
     ("machine 1 8 1 1\n", Some((1, Reason::Count))),
@@ -62,7 +71,10 @@ const ROWS: [(&str, Option<(u64, Reason)>); 40] = [
     ("machine 1 8 1\nlp 1 1\n", Some((2, Reason::Count))),
     ("machine 1 8 1\nlp x\n", Some((2, Reason::Number))),
     ("machine 1 8 1\nlp 1\n", Some((2, Reason::Range))),
-    ("machine 1 8 1\nlp 0\nend\n\nlp 0x0\n", Some((5, Reason::Repeated))),
+    (
+        "machine 1 8 1\nlp 0\nend\n\nlp 0x0\n",
+        Some((5, Reason::Repeated)),
+    ),
 ];
 
 const BLOCK_ROWS: [(&str, Option<(u64, Reason)>); 26] = [
@@ -84,7 +96,10 @@ const BLOCK_ROWS: [(&str, Option<(u64, Reason)>); 26] = [
     ("MNG.CREATE 0X1 1", Some((3, Reason::Number))),
     ("MNG.CREATE -1 1", Some((3, Reason::Number))),
     ("HOST.READ 0xfg 1", Some((3, Reason::Number))),
-    ("HOST.READ 18446744073709551616 1", Some((3, Reason::Number))),
+    (
+        "HOST.READ 18446744073709551616 1",
+        Some((3, Reason::Number)),
+    ),
     ("HOST.READ 0x10000000000000000 1", Some((3, Reason::Number))),
     ("HOST.READ 18446744073709551615 0xffffffffFFFFFFFF", None),
     ("HOST.WRITE 999999 00 0x00000000000000000001", None),
@@ -133,7 +148,10 @@ fn stops_at_its_limits(rt: HostRuntime) -> Result<(), Fail> {
         assert_eq!(rt; fault_of(alloc, &bytes), want, "at {last}");
     }
     let most = vec![in alloc; b'\n'; 1 << 24]?;
-    assert_eq!(rt; fault_of(alloc, &most), Some(((1 << 24) + 1, Reason::Machine)));
+    assert_eq!(rt;
+        fault_of(alloc, &most),
+        Some(((1 << 24) + 1, Reason::Machine))
+    );
     let more = vec![in alloc; b'\n'; (1 << 24) + 1]?;
     assert_eq!(rt; fault_of(alloc, &more), Some((0, Reason::Length)));
     Ok(())
@@ -147,7 +165,8 @@ fn read(alloc: Global, text: &str) -> Result<Script, Fail> {
 #[test]
 fn reads_what_stands_there(rt: HostRuntime) -> Result<(), Fail> {
     let alloc = rt.alloc();
-    let text = "# a\nmachine 1 9 2\nlp 0\nHOST.WRITE 5 6 0x7\nMNG.CREATE 1 2\nHOST.READ 3 4\nPHYMEM.PAGE.RDMD 8\nend\n";
+    let text =
+        "# a\nmachine 1 9 2\nlp 0\nHOST.WRITE 5 6 0x7\nMNG.CREATE 1 2\nHOST.READ 3 4\nPHYMEM.PAGE.RDMD 8\nend\n";
     let script = read(alloc, text)?;
     let machine = Machine {
         lps: 1,
@@ -186,12 +205,21 @@ fn reads_what_comes_later(rt: HostRuntime) -> Result<(), Fail> {
         pages: 8,
         hkids: 1,
     };
-    assert_eq!(rt; code_line(machine, &[], &[Some(8), Some(0)]).err(), Some(Reason::Range));
-    assert_eq!(rt; code_line(machine, &[true], &[Some(0), Some(0)]).err(), Some(Reason::Repeated));
+    assert_eq!(rt;
+        code_line(machine, &[], &[Some(8), Some(0)]).err(),
+        Some(Reason::Range)
+    );
+    assert_eq!(rt;
+        code_line(machine, &[true], &[Some(0), Some(0)]).err(),
+        Some(Reason::Repeated)
+    );
     let load = operation_at(b"load").ok_or("absent")?;
     assert_eq!(rt; load, OpName::Load);
     assert_eq!(rt; check_operands(load, &[Some(7), Some(8)]), Ok(()));
-    assert_eq!(rt; check_operands(load, &[Some(7), Some(4)]), Err(Reason::Range));
+    assert_eq!(rt;
+        check_operands(load, &[Some(7), Some(4)]),
+        Err(Reason::Range)
+    );
     let mut schedule = Vec::new(alloc);
     let items = [item_at(b"0x1*00000002"), item_at(b"7")];
     schedule_line(&mut schedule, 1, 8, &items)?;

@@ -1,4 +1,4 @@
-use Rattle.std.proofs.Common.{arith, sym, ◌∙◌, ◌+◌}
+use Rattle.std.proofs.Common.{arith, sym, ◌∙◌}
 use Rattle.std.proofs.lemmas.Result.{err_from_is_err_and}
 use Rattle.script_text.proofs.Steps.{good_line, bad_line}
 use Rattle.script_text.specs.Reading.{draft_seen, read_from, nothing_yet}
@@ -15,6 +15,7 @@ returns-in_err-take_line c =
 pub loop-line-preserved : goal.loop-line-preserved
 loop-line-preserved c = record {
   so_far =
-    sym (good_line (draft_seen c.loop-line.draft) (draft_seen c.take_line.new.draft) c.loop-line.number c.loop-line.rest.now c.in-Some.line.now c.in-Some.more.now c.in-Some.ensures.cut c.in_ok-take_line.ensures)
-    ∙ c.loop-line.invariant.so_far;
-  few = omega (arith, c.in-Some.ensures.shorter) }
+      sym (good_line (draft_seen c.loop-line.draft) (draft_seen c.take_line.new.draft) c.loop-line.number c.loop-line.rest.now c.in-Some.line.now c.in-Some.more.now c.in-Some.ensures.cut c.in_ok-take_line.ensures)
+      ∙ c.loop-line.invariant.so_far;
+  few = omega (arith, c.in-Some.ensures.shorter);
+}

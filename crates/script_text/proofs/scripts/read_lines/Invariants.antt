@@ -7,7 +7,8 @@ use Rattle.script_text.proofs.scripts.read_lines.Given as goal
 abbrev pub invariant-loop-line : goal.invariant-loop-line
 invariant-loop-line l = record {
   so_far : read_from (draft_seen l.draft) l.number (pieces l.rest) ≡ read_from nothing_yet 1 (pieces l.bytes);
-  few : l.number + length l.rest ≤ 2 ^ 24 + 1 }
+  few : l.number + length l.rest ≤ 2 ^ 24 + 1;
+}
 
 abbrev pub decreases-loop-line : goal.decreases-loop-line
 decreases-loop-line l = length l.rest
