@@ -1,0 +1,6 @@
+pub mod Pieces
+pub mod Steps
+pub mod Calls
+pub mod Texts
+pub mod FirstBads
+pub mod Spelled
