@@ -4,7 +4,8 @@ use Rattle.mrtd_measure.specs.declared.measures.Measure.{Measure}
 use Rattle.step_core.specs.Words.{Words, answer_of, after_step}
 use Rattle.step_core.specs.declared.steps.WordStep.{WordStep}
 
--- a word step; a hasher, or none, put into a slot for what was there; a swap that another one on that slot kept out
+-- an item with its answer: a word step; a hasher, or none, that was put into a slot, for what was taken out; a swap
+-- that found another one on that slot under way
 pub data Taken : Type 0 where
   stepped : (step : WordStep) (answer : ℕ) → Taken
   swapped : (slot : ℕ) (put : Option Measure) (taken : Option Measure) → Taken
@@ -19,7 +20,7 @@ pub record Table : Type 0 where
 abbrev pub with_slot : (ℕ → Option Measure) → ℕ → Option Measure → ℕ → Option Measure
 with_slot slots k h n = if n == k then h else slots n
 
--- on a table that nobody else uses these items lead to the second table, with the answers that they tell; no swap misses there
+-- on a table that nobody else uses these items, with these answers, lead to the second table; no swap misses there
 abbrev pub PlaysTo : Table → List Taken → Table → Type 0
 PlaysTo t [] u = (u.words ≡ t.words) × (u.slots ≡ t.slots)
 PlaysTo t (stepped s answer ∷ xs) u = (answer ≡ answer_of t.words s) × PlaysTo (record t { words = after_step t.words s }) xs u

@@ -11,6 +11,7 @@ pub record PlainSeen : Type 0 where
   pub words : List ℕ
   pub slots : List (Option Measure)
 
+-- the same by address and by slot
 abbrev pub table_of : PlainSeen → Table
 table_of b = record { words = λ n. slice_index b.words n; slots = λ n. slice_index_or b.slots n None }
 

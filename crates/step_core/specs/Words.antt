@@ -10,6 +10,7 @@ use Rattle.step_core.specs.declared.steps.WordStep.TheVariants.{Load, Store, Add
 abbrev pub word_count : Machine → ℕ
 word_count m = key_at m.pages (KEY_FIRST + m.hkids)
 
+-- a word at each address
 abbrev pub Words : Type 0
 Words = ℕ → ℕ
 
@@ -17,6 +18,7 @@ Words = ℕ → ℕ
 abbrev pub with_word : Words → ℕ → ℕ → Words
 with_word w at v n = if n == at then v else w n
 
+-- the address of the one word that a step touches
 abbrev pub address_of : WordStep → ℕ
 address_of (Load at) = at
 address_of (Store at v) = at
@@ -45,7 +47,7 @@ abbrev pub plays : Words → List WordStep → Words
 plays w [] = w
 plays w (s ∷ ss) = plays (after_step w s) ss
 
--- what is known of a step's answer without knowing the words
+-- what is known of an answer where the words are not: a store answers 0
 abbrev pub StoreAnswersZero : WordStep → ℕ → Type 0
 StoreAnswersZero (Store at v) answer = answer ≡ 0
 StoreAnswersZero _ answer = Unit {0}
