@@ -1,5 +1,5 @@
 -- Addresses never meet.
-use Rattle.std.proofs.Common.{◌≡◌, ◌≢◌, ℕ, ◌+◌, ◌*◌, ◌/◌, ◌%◌, ◌<◌, arith, refl}
+use Rattle.std.proofs.Common.{arith, refl}
 use Rattle.td_words.specs.Laws.{AddressesApart, ControlWordsApart}
 
 pub apart : AddressesApart
@@ -8,9 +8,12 @@ apart = record {
   pamts = λ p q e. omega arith;
   words = λ p i q j a b e. (omega arith, omega arith);
   lock_pamt = λ p q e. omega arith;
-  lock_word = λ p q j b e. omega arith;
-  pamt_word = λ p q j b e. omega arith;
-  keys = λ pages p i k h a. omega arith;
+  lock_content = λ p q j b e. omega arith;
+  pamt_content = λ p q j b e. omega arith;
+  lock_key = λ pages p k h. omega arith;
+  pamt_key = λ pages p k h. omega arith;
+  content_key = λ pages p i k h a. omega arith;
+  keys = λ pages j k e. omega arith;
   lock_undone = λ p. (omega arith, omega arith);
   pamt_undone = λ p. (omega arith, omega arith);
   word_undone = λ p i a. (omega arith, omega arith);

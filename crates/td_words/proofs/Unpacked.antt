@@ -1,6 +1,6 @@
 -- Packed words are read back.
-use Rattle.std.proofs.Common.{◌≡◌, refl, sym, ◌∙◌, ap, subst, ℕ, ◌+◌, ◌*◌, ◌/◌, ◌%◌, ◌^◌, ◌<◌, Option, Some, None, Bool, true, false, ◌==◌, ◌&&◌, nat_lt, if◌then◌else◌, not, arith, inl, inr}
-use Rattle.std.proofs.lemmas.Bool.{eq-eqb, eqb-true, lt-ltb}
+use Rattle.std.proofs.Common.{◌≡◌, refl, sym, subst, ℕ, ◌+◌, ◌*◌, ◌/◌, ◌%◌, ◌^◌, ◌<◌, Option, Some, None, Bool, true, false, ◌==◌, ◌&&◌, nat_lt, if◌then◌else◌, arith}
+use Rattle.std.proofs.lemmas.Bool.{eq-eqb, eqb-true}
 use Rattle.std.proofs.lemmas.Bool.Decides.{nat_tests}
 use Rattle.td_words.specs.declared.names.PageKind.{PageKind}
 use Rattle.td_words.specs.declared.names.PageKind.TheVariants as kind
@@ -8,7 +8,7 @@ use Rattle.td_words.specs.declared.names.EntryState.{EntryState}
 use Rattle.td_words.specs.declared.names.EntryState.TheVariants as entry
 use Rattle.td_words.specs.NameNumber.{kind_number, entry_number}
 use Rattle.td_words.specs.Laws.{PackingsUndone}
-use Rattle.td_words.specs.Packing.{Pamt, pamt_word, pamt_in, pamt_if, pamt_of_kind, kind_of, is_lawful_pamt, Entry, entry_word, entry_in, entry_if, entry_of_state, entry_state_of, is_lawful_entry, Key, free, assigned, flushed, key_word, key_in, key_if, is_lawful_key}
+use Rattle.td_words.specs.Packing.{Pamt, pamt_word, pamt_in, pamt_if, pamt_of_kind, kind_of, is_lawful_pamt, Entry, entry_word, entry_in, entry_if, entry_of_state, entry_state_of, is_lawful_entry, Key, Unassigned, AssignedTo, FlushedOf, key_word, key_in, key_if, is_lawful_key}
 
 pub and-left : (a b : Bool) → (a && b) ≡ true → a ≡ true
 and-left true b h = refl
@@ -103,22 +103,22 @@ key_if_read word k j h =
     subst P t.0 (t.1, eqb-true _ _ t.2)
 
 key_again : (k : Key) → is_lawful_key k ≡ true → key_in (key_word k) ≡ Some k
-key_again free h = refl
-key_again (assigned t) h =
+key_again Unassigned h = refl
+key_again (AssignedTo t) h =
     let small = lt_of t 1024 h in
     let a : (1 + 16 * t == 0) ≡ false = grind (arith, nat_tests) in
     let b : (1 + 16 * t) % 16 ≡ 1 = omega arith in
     let c : (1 + 16 * t) / 16 ≡ t = omega arith in
     let same : (1 + 16 * t == 1 + 16 * t) ≡ true = eq-eqb _ _ refl in
     rw (a, b, c, h, same) refl
-key_again (flushed t true) h =
+key_again (FlushedOf t true) h =
     let small = lt_of t 1024 h in
     let a : (6 + 16 * t == 0) ≡ false = grind (arith, nat_tests) in
     let b : (6 + 16 * t) % 16 ≡ 6 = omega arith in
     let c : (6 + 16 * t) / 16 ≡ t = omega arith in
     let same : (6 + 16 * t == 6 + 16 * t) ≡ true = eq-eqb _ _ refl in
     rw (a, b, c, h, same) refl
-key_again (flushed t false) h =
+key_again (FlushedOf t false) h =
     let small = lt_of t 1024 h in
     let a : (2 + 16 * t == 0) ≡ false = grind (arith, nat_tests) in
     let b : (2 + 16 * t) % 16 ≡ 2 = omega arith in
@@ -129,22 +129,22 @@ key_again (flushed t false) h =
 key_read : (word : ℕ) (k : Key) → key_in word ≡ Some k → (is_lawful_key k ≡ true) × (key_word k ≡ word)
 key_read word k h = by (word == 0) refl
   where
-    last : (b : Bool) → (word % 16 == 6) ≡ b → (if b then key_if word (flushed (word / 16) true) else None) ≡ Some k → (is_lawful_key k ≡ true) × (key_word k ≡ word)
-    last true e h = key_if_read word (flushed (word / 16) true) k h
+    last : (b : Bool) → (word % 16 == 6) ≡ b → (if b then key_if word (FlushedOf (word / 16) true) else None) ≡ Some k → (is_lawful_key k ≡ true) × (key_word k ≡ word)
+    last true e h = key_if_read word (FlushedOf (word / 16) true) k h
     last false e h = cc
 
-    second : (b : Bool) → (word % 16 == 2) ≡ b → (if b then key_if word (flushed (word / 16) false) else (if word % 16 == 6 then key_if word (flushed (word / 16) true) else None)) ≡ Some k → (is_lawful_key k ≡ true) × (key_word k ≡ word)
-    second true e h = key_if_read word (flushed (word / 16) false) k h
+    second : (b : Bool) → (word % 16 == 2) ≡ b → (if b then key_if word (FlushedOf (word / 16) false) else (if word % 16 == 6 then key_if word (FlushedOf (word / 16) true) else None)) ≡ Some k → (is_lawful_key k ≡ true) × (key_word k ≡ word)
+    second true e h = key_if_read word (FlushedOf (word / 16) false) k h
     second false e h = last (word % 16 == 6) refl h
 
-    first : (b : Bool) → (word % 16 == 1) ≡ b → (if b then key_if word (assigned (word / 16)) else (if word % 16 == 2 then key_if word (flushed (word / 16) false) else (if word % 16 == 6 then key_if word (flushed (word / 16) true) else None))) ≡ Some k → (is_lawful_key k ≡ true) × (key_word k ≡ word)
-    first true e h = key_if_read word (assigned (word / 16)) k h
+    first : (b : Bool) → (word % 16 == 1) ≡ b → (if b then key_if word (AssignedTo (word / 16)) else (if word % 16 == 2 then key_if word (FlushedOf (word / 16) false) else (if word % 16 == 6 then key_if word (FlushedOf (word / 16) true) else None))) ≡ Some k → (is_lawful_key k ≡ true) × (key_word k ≡ word)
+    first true e h = key_if_read word (AssignedTo (word / 16)) k h
     first false e h = second (word % 16 == 2) refl h
 
     by : (b : Bool) → (word == 0) ≡ b → (is_lawful_key k ≡ true) × (key_word k ≡ word)
     by true e =
-        let h' : Some free ≡ Some k = rw e at h in
-        let is_free : free ≡ k = cc in
+        let h' : Some Unassigned ≡ Some k = rw e at h in
+        let is_free : Unassigned ≡ k = cc in
         let zero_word : word ≡ 0 = eqb-true word 0 e in
         let P : Key → Type 0 = λ x. (is_lawful_key x ≡ true) × (key_word x ≡ word) in
         subst P is_free (refl, sym zero_word)

@@ -1,5 +1,5 @@
 -- Laws of addresses, packings and places.
-use Rattle.std.specs.Prelude.{◌≡◌, ◌≢◌, ℕ, ◌+◌, ◌*◌, ◌/◌, ◌%◌, ◌<◌, Some, IsTrue, true}
+use Rattle.std.specs.Prelude.{◌≡◌, ◌≢◌, ℕ, ◌+◌, ◌/◌, ◌%◌, ◌<◌, Some, true}
 use Rattle.td_words.specs.Address.{lock_at, pamt_at, word_at, key_at}
 use Rattle.td_words.specs.Packing.{Pamt, pamt_word, pamt_in, is_lawful_pamt, Entry, entry_word, entry_in, is_lawful_entry, Key, key_word, key_in, is_lawful_key}
 use Rattle.td_words.specs.Places.{tdr_places, tdcs_places, vp_places, stream_places, key_places, are_apart}
@@ -11,9 +11,12 @@ pub record AddressesApart : Type 0 where
   pub pamts : (p q : ℕ) → pamt_at p ≡ pamt_at q → p ≡ q
   pub words : (p i q j : ℕ) → i < 512 → j < 512 → word_at p i ≡ word_at q j → (p ≡ q) × (i ≡ j)
   pub lock_pamt : (p q : ℕ) → lock_at p ≢ pamt_at q
-  pub lock_word : (p q j : ℕ) → j < 512 → lock_at p ≢ word_at q j
-  pub pamt_word : (p q j : ℕ) → j < 512 → pamt_at p ≢ word_at q j
-  pub keys : (pages p i k : ℕ) → p < pages → i < 512 → word_at p i < key_at pages k
+  pub lock_content : (p q j : ℕ) → j < 512 → lock_at p ≢ word_at q j
+  pub pamt_content : (p q j : ℕ) → j < 512 → pamt_at p ≢ word_at q j
+  pub lock_key : (pages p k : ℕ) → p < pages → lock_at p < key_at pages k
+  pub pamt_key : (pages p k : ℕ) → p < pages → pamt_at p < key_at pages k
+  pub content_key : (pages p i k : ℕ) → p < pages → i < 512 → word_at p i < key_at pages k
+  pub keys : (pages j k : ℕ) → key_at pages j ≡ key_at pages k → j ≡ k
   pub lock_undone : (p : ℕ) → (lock_at p / 514 ≡ p) × (lock_at p % 514 ≡ 0)
   pub pamt_undone : (p : ℕ) → (pamt_at p / 514 ≡ p) × (pamt_at p % 514 ≡ 1)
   pub word_undone : (p i : ℕ) → i < 512 → (word_at p i / 514 ≡ p) × (word_at p i % 514 ≡ i + 2)

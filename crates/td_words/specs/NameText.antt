@@ -1,4 +1,4 @@
--- How the names of the profile are printed, and their numbers.
+-- How the names of the profile are printed.
 use Rattle.std.specs.Prelude.{ℕ, List, ◌++◌, codes}
 use Rattle.std.specs.Fmt.{decimal}
 use Rattle.td_words.specs.declared.names.PageKind.{PageKind}

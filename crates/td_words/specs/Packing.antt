@@ -1,10 +1,11 @@
 -- How PAMT entries, secure EPT entries and key table words are packed into words of 64 bits, and read back.
-use Rattle.std.specs.Prelude.{◌≡◌, ◌↔◌, ℕ, ◌+◌, ◌*◌, ◌/◌, ◌%◌, ◌^◌, ◌<◌, Option, Some, None, Bool, true, false, ◌==◌, ◌&&◌, nat_lt, if◌then◌else◌, not}
+use Rattle.std.specs.Prelude.{ℕ, ◌+◌, ◌*◌, ◌/◌, ◌%◌, ◌^◌, Option, Some, None, Bool, true, false, ◌==◌, ◌&&◌, nat_lt, if◌then◌else◌, not}
 use Rattle.td_words.specs.declared.names.PageKind.{PageKind}
 use Rattle.td_words.specs.declared.names.PageKind.TheVariants as kind
 use Rattle.td_words.specs.declared.names.EntryState.{EntryState}
 use Rattle.td_words.specs.declared.names.EntryState.TheVariants as entry
-use Rattle.td_words.specs.NameNumber.{kind_number, entry_number}
+use Rattle.td_words.specs.declared.names.HkidState.TheVariants as hkid
+use Rattle.td_words.specs.NameNumber.{kind_number, entry_number, hkid_number}
 
 -- what the PAMT says of a page (Base Architecture, "Physical Address Metadata Table")
 pub record Pamt : Type 0 where
@@ -18,7 +19,7 @@ pamt_word p = kind_number p.kind + (16 * p.owner + 2 ^ 32 * p.epoch)
 
 -- a host page has no owner and no BEPOCH
 abbrev pub is_lawful_pamt : Pamt → Bool
-is_lawful_pamt p = nat_lt p.owner 1024 && (nat_lt p.epoch (2 ^ 32) && (if kind_number p.kind == 0 then (p.owner == 0) && (p.epoch == 0) else true))
+is_lawful_pamt p = nat_lt p.owner 1024 && (nat_lt p.epoch (2 ^ 32) && (if kind_number p.kind == kind_number kind.Nda then (p.owner == 0) && (p.epoch == 0) else true))
 
 -- what a secure EPT entry says: its state, the page that it names, and the migration epoch of its last export
 pub record Entry : Type 0 where
@@ -41,8 +42,9 @@ is_exported _ = false
 abbrev pub is_lawful_entry : Entry → Bool
 is_lawful_entry e =
     nat_lt e.page 1024 && (nat_lt e.mark (2 ^ 32)
-    && ((if entry_number e.state == 0 then e.page == 0 else true) && (if is_exported e.state then not (e.mark == 0) else e.mark == 0)))
+    && ((if entry_number e.state == entry_number entry.Free then e.page == 0 else true) && (if is_exported e.state then not (e.mark == 0) else e.mark == 0)))
 
+-- the kind and the state of a number
 abbrev pub kind_of : ℕ → Option PageKind
 kind_of n =
     if n == 0 then Some kind.Nda
@@ -93,29 +95,30 @@ entry_in word = entry_of_state word (entry_state_of (word % 16))
 
 -- what the key ownership table says of an HKID: free, or whose it is; flushed with or without the write-back
 pub data Key : Type 0 where
-  free : Key
-  assigned : (tdr : ℕ) → Key
-  flushed : (tdr : ℕ) (written_back : Bool) → Key
+  Unassigned : Key
+  AssignedTo : (tdr : ℕ) → Key
+  FlushedOf : (tdr : ℕ) (written_back : Bool) → Key
 
 -- bits 0 to 1 state, bit 2 the write-back, 4 to 19 the TDR page
 abbrev pub key_word : Key → ℕ
-key_word free = 0
-key_word (assigned t) = 1 + 16 * t
-key_word (flushed t true) = 6 + 16 * t
-key_word (flushed t false) = 2 + 16 * t
+key_word Unassigned = 0
+key_word (AssignedTo t) = hkid_number hkid.Assigned + 16 * t
+key_word (FlushedOf t true) = hkid_number hkid.Flushed + 4 + 16 * t
+key_word (FlushedOf t false) = hkid_number hkid.Flushed + 16 * t
 
 abbrev pub is_lawful_key : Key → Bool
-is_lawful_key free = true
-is_lawful_key (assigned t) = nat_lt t 1024
-is_lawful_key (flushed t b) = nat_lt t 1024
+is_lawful_key Unassigned = true
+is_lawful_key (AssignedTo t) = nat_lt t 1024
+is_lawful_key (FlushedOf t b) = nat_lt t 1024
 
 abbrev pub key_if : ℕ → Key → Option Key
 key_if word k = if is_lawful_key k && (key_word k == word) then Some k else None
 
+-- the key table word read back
 abbrev pub key_in : ℕ → Option Key
 key_in word =
-    if word == 0 then Some free
-    else if word % 16 == 1 then key_if word (assigned (word / 16))
-    else if word % 16 == 2 then key_if word (flushed (word / 16) false)
-    else if word % 16 == 6 then key_if word (flushed (word / 16) true)
+    if word == 0 then Some Unassigned
+    else if word % 16 == 1 then key_if word (AssignedTo (word / 16))
+    else if word % 16 == 2 then key_if word (FlushedOf (word / 16) false)
+    else if word % 16 == 6 then key_if word (FlushedOf (word / 16) true)
     else None

@@ -1,6 +1,6 @@
 -- Where the words of each control page stand, as lists, so that it can be said that no two stand at one place.
-use Rattle.std.specs.Prelude.{ℕ, zero, suc, ◌+◌, List, [], ◌∷◌, ◌++◌, Bool, true, false, ◌==◌, ◌&&◌, not, nat_lt}
-use Rattle.std.specs.List.{list_any, list_all}
+use Rattle.std.specs.Prelude.{ℕ, zero, suc, ◌+◌, List, [], ◌∷◌, ◌++◌, Bool, true, ◌==◌, ◌&&◌, not, nat_lt}
+use Rattle.std.specs.List.{list_any}
 use Rattle.td_words.specs.declared.places.TheConstants.{TDR_LIFE, TDR_HKID, TDR_CHILDREN, TDR_TDCX_COUNT, TDR_TDCS, TDR_ROOT, TDCS_OP_LOCK, TDCS_TREE_LOCK, TDCS_EPOCH_LOCK, TDCS_RTMR_LOCK, TDCS_OP, TDCS_EPOCH, TDCS_ENTERED, TDCS_DIRTIED, TDCS_UNRESTORED, TDCS_MIG_EPOCH, TDCS_SESSION, TDCS_TD_EXPORTED, TDCS_VPS_EXPORTED, TDCS_VPS_EXPECTED, TDCS_VP_COUNT, TDCS_RTMRS, TDCS_VPS, TDCS_STREAM_COUNT, TDCS_STREAMS, TDCS_MRTD, VP_INDEX, VP_STATE, VP_ASSOCIATED, VP_LAST_EPOCH, VP_POSITION, VP_EXPORTED, VP_REGISTERS, STREAM_COUNTER, STREAM_CLEANED, STREAM_FIRST_EXPORTS, KEY_LOCK, KEY_LAST_EXPORTED, KEY_LAST_IMPORTED, KEY_FIRST}
 
 -- so many words from a place on

@@ -1,5 +1,5 @@
 -- How replies are printed: the status or reason, and the values that it shows, each after one space.
-use Rattle.std.specs.Prelude.{ℕ, ◌/◌, ◌%◌, List, [], ◌∷◌, ◌++◌, Option, Some, None, false, codes}
+use Rattle.std.specs.Prelude.{ℕ, ◌/◌, ◌%◌, List, [], ◌++◌, Option, Some, None, false, codes}
 use Rattle.std.specs.List.{flat_map}
 use Rattle.std.specs.Fmt.{decimal, digits}
 use Rattle.td_words.specs.NameText.{kind_text, life_text, op_text, entry_text, vcpu_text, access_text, counter_text, limit_text, field_text, lock_text}

@@ -11,5 +11,5 @@ pub enum Call {
 }
 
 /// An operation of guest code. None is built yet.
-#[derive(Clone, Copy, Debug, PartialEq, Eq)]
+#[derive(Clone, Copy)]
 pub enum GuestOp {}

@@ -33,7 +33,7 @@ pub const TDCS_EPOCH: u16 = 5;
 pub const TDCS_ENTERED: u16 = 6;
 /// TDCS: entries that became dirty.
 pub const TDCS_DIRTIED: u16 = 8;
-/// TDCS: entries in an exported state, first exports of the session apart.
+/// TDCS: with all first exports of its streams, modulo 2^64, the entries in an exported state.
 pub const TDCS_UNRESTORED: u16 = 9;
 /// TDCS: the migration epoch.
 pub const TDCS_MIG_EPOCH: u16 = 10;

@@ -1,0 +1,61 @@
+-- What every schedule keeps.
+use Rattle.std.proofs.Common.{◌≡◌, ◌≢◌, refl, ℕ, Option, Some, None}
+use Rattle.std.proofs.lemmas.Bool.{ne_eqb}
+use Rattle.td_words.specs.declared.names.Access.{Access}
+use Rattle.td_words.specs.declared.names.Access.TheVariants.{Read, Write}
+use Rattle.flat_core.specs.World.{World}
+use Rattle.flat_core.specs.Opening.{Opening}
+use Rattle.flat_core.specs.Row.{Attempts, Undoes, Refuses, Succeeds, Releases, Rests}
+use Rattle.flat_core.specs.Guest.{reach}
+use Rattle.flat_core.specs.Event.{State, Event, OfCall, OfOperation, Walks, Reaches, Leaves, start, next_event, after_event}
+use Rattle.flat_core.specs.Lawful.{Lawful}
+use Rattle.flat_core.specs.Laws.{EveryWorldIsLawful, EventsKeepLawful, OthersStay, QuietEventsStay}
+use Rattle.flat_core.proofs.Induction.{world_event, world_kept}
+use Rattle.flat_core.proofs.Keeps.{row-keeps, first-lawful}
+
+-- a guest's access changes words, registers, memories and positions alone
+reach_lawful : (o : Opening) (t v : ℕ) (access : Access) (r gpa page : ℕ) (w : World) → Lawful o.machine w → Lawful o.machine (reach t v access r gpa page w)
+reach_lawful o t v Read r gpa page w l = record { size = l.size; pages = l.pages; tds = l.tds; tree = l.tree; keys = l.keys }
+reach_lawful o t v Write r gpa page w l = record { size = l.size; pages = l.pages; tds = l.tds; tree = l.tree; keys = l.keys }
+
+pub events_keep : EventsKeepLawful
+events_keep o s p l =
+    world_event o (Lawful o.machine)
+    (λ me c w l ps. (row-keeps o me c).act w l ps)
+    (λ t v line op row w e l ps. elim op [ ])
+    (reach_lawful o)
+    (λ v w l. record { size = l.size; pages = l.pages; tds = l.tds; tree = l.tree; keys = l.keys })
+    s p l
+
+pub every_lawful : EveryWorldIsLawful
+every_lawful o ws schedule =
+    world_kept o (Lawful o.machine)
+    (λ me c w l ps. (row-keeps o me c).act w l ps)
+    (λ t v line op row w e l ps. elim op [ ])
+    (reach_lawful o)
+    (λ v w l. record { size = l.size; pages = l.pages; tds = l.tds; tree = l.tree; keys = l.keys })
+    schedule (start o ws) (first-lawful o.machine ws)
+
+other_stays : (s : State) (p q : ℕ) (x : Option Event) → q ≢ p → (after_event p s x).lps q ≡ s.lps q
+other_stays s p q None n = refl
+other_stays s p q (Some e) n = rw (ne_eqb q p n) refl
+
+pub others_stay : OthersStay
+others_stay o s p q n = other_stays s p q (next_event o s p) n
+
+pub quiet_stay : QuietEventsStay
+quiet_stay (OfCall row (Attempts l m)) w h = refl
+quiet_stay (OfCall row (Undoes l)) w h = refl
+quiet_stay (OfCall row (Refuses r)) w h = refl
+quiet_stay (OfCall row Succeeds) w h = absurd h
+quiet_stay (OfCall row (Releases x)) w h = refl
+quiet_stay (OfCall row Rests) w h = refl
+quiet_stay (OfOperation row (Attempts l m)) w h = refl
+quiet_stay (OfOperation row (Undoes l)) w h = refl
+quiet_stay (OfOperation row (Refuses r)) w h = refl
+quiet_stay (OfOperation row Succeeds) w h = absurd h
+quiet_stay (OfOperation row (Releases x)) w h = refl
+quiet_stay (OfOperation row Rests) w h = refl
+quiet_stay (Walks access gpa) w h = refl
+quiet_stay (Reaches t v access r gpa page) w h = absurd h
+quiet_stay (Leaves v out) w h = absurd h

@@ -1,0 +1,20 @@
+-- The worked examples compute.
+use Rattle.std.proofs.Common.{refl}
+use Rattle.flat_core.specs.Worked.{Examples}
+
+pub examples : Examples
+examples = record {
+  host_words_replies = refl;
+  refused_argument_events = refl;
+  host_read_events = refl;
+  create_events = refl;
+  create_twice_events = refl;
+  one_tdr_replies = refl;
+  being_refused_0 = refl;
+  being_refused_1 = refl;
+  being_refused_2 = refl;
+  two_keys_0 = refl;
+  two_keys_1 = refl;
+  held_page_0 = refl;
+  held_page_1 = refl;
+}

@@ -1,0 +1,8 @@
+use Rattle.flat_core.proofs.Ends.{runs_out, runs_end}
+use Rattle.flat_core.proofs.laws.end_laws.Goals as goal
+
+pub returns-clause-runs_out : goal.returns-clause-runs_out
+returns-clause-runs_out c = runs_out
+
+pub returns-clause-runs_end : goal.returns-clause-runs_end
+returns-clause-runs_end c = runs_end

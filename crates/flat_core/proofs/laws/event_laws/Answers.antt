@@ -1,0 +1,12 @@
+use Rattle.flat_core.proofs.Kept.{others_stay, quiet_stay}
+use Rattle.flat_core.proofs.Refused.{refused_stay}
+use Rattle.flat_core.proofs.laws.event_laws.Goals as goal
+
+pub returns-clause-others : goal.returns-clause-others
+returns-clause-others c = others_stay
+
+pub returns-clause-quiet : goal.returns-clause-quiet
+returns-clause-quiet c = quiet_stay
+
+pub returns-clause-refused : goal.returns-clause-refused
+returns-clause-refused c = refused_stay

@@ -1,0 +1,8 @@
+use Rattle.flat_core.proofs.Kept.{every_lawful, events_keep}
+use Rattle.flat_core.proofs.laws.lawful_law.Goals as goal
+
+pub returns-clause-event : goal.returns-clause-event
+returns-clause-event c = events_keep
+
+pub returns-clause-run : goal.returns-clause-run
+returns-clause-run c = every_lawful

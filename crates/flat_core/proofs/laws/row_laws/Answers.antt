@@ -1,0 +1,9 @@
+use Rattle.flat_core.proofs.Keeps.{row-keeps}
+use Rattle.flat_core.proofs.Blind.{row-blind}
+use Rattle.flat_core.proofs.laws.row_laws.Goals as goal
+
+pub returns-clause-keep : goal.returns-clause-keep
+returns-clause-keep c = row-keeps
+
+pub returns-clause-blind : goal.returns-clause-blind
+returns-clause-blind c = row-blind

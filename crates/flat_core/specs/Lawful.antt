@@ -1,0 +1,112 @@
+-- What every world of every run keeps. A clause on a TD holds while the TD is alive: its page is a TDR page, and its life
+-- isn't at its end.
+use Rattle.std.specs.Prelude.{◌≡◌, ℕ, suc, ◌^◌, ◌<◌, ◌≤◌, List, [], ◌∷◌, length, Option, Some, None, Bool, true, false, not, ◌==◌, ◌&&◌}
+use Rattle.std.specs.List.{list_any}
+use Rattle.td_words.specs.declared.names.PageKind.{PageKind}
+use Rattle.td_words.specs.declared.names.PageKind.TheVariants as kind
+use Rattle.td_words.specs.declared.names.LifeState.TheVariants as life
+use Rattle.td_words.specs.declared.names.EntryState.{EntryState}
+use Rattle.td_words.specs.declared.names.EntryState.TheVariants as entry
+use Rattle.td_words.specs.declared.machines.Machine.{Machine}
+use Rattle.td_words.specs.NameNumber.{life_number}
+use Rattle.td_words.specs.Packing.{is_lawful_entry, Key, Unassigned, AssignedTo, FlushedOf}
+use Rattle.flat_core.specs.World.{World, Pages, Tds, KeyTable}
+use Rattle.flat_core.specs.Row.{Row, Passes}
+use Rattle.flat_core.specs.Conditions.{is_host_in}
+
+-- a TD that is alive
+pub record IsAlive (pages : Pages) (tds : Tds) (t : ℕ) : Type 0 where
+  pub kind : pages.kinds t ≡ kind.Tdr
+  pub life : (life_number (tds.lives t) == life_number life.Teardown) ≡ false
+
+-- a page of that kind, of that TD
+pub record IsPageOf (pages : Pages) (t p : ℕ) (k : PageKind) : Type 0 where
+  pub kind : pages.kinds p ≡ k
+  pub owner : pages.owners p ≡ t
+
+-- and the node of that level and number of its TD's tree
+pub record IsNodeOf (pages : Pages) (t p : ℕ) (k : PageKind) (level number : ℕ) : Type 0 where
+  pub page : IsPageOf pages t p k
+  pub level_is : pages.levels p ≡ level
+  pub number_is : pages.numbers p ≡ number
+
+-- pages: a TDR page owns itself, and a page that isn't the host's belongs to a TDR page; both are pages of the machine;
+-- the PAMT says nothing else of a host page
+pub record LawfulPages (count : ℕ) (pages : Pages) : Type 0 where
+  pub tdr : (t : ℕ) → pages.kinds t ≡ kind.Tdr → pages.owners t ≡ t
+  pub owner : (p : ℕ) → is_host_in pages p ≡ false → pages.kinds (pages.owners p) ≡ kind.Tdr
+  pub in_machine : (p : ℕ) → is_host_in pages p ≡ false → p < count
+  pub host : (p : ℕ) → is_host_in pages p ≡ true → (pages.owners p ≡ 0) × (pages.blocked p ≡ 0)
+  pub blocked : (p : ℕ) → pages.blocked p < 2 ^ 32
+
+-- the TDCX pages of a TD: at most two, its own, and not the same one
+abbrev pub AreControls : Pages → ℕ → List ℕ → Type 0
+AreControls pages t [] = Unit {0}
+AreControls pages t (c ∷ []) = IsPageOf pages t c kind.Tdcx
+AreControls pages t (c ∷ r ∷ []) = IsPageOf pages t c kind.Tdcx × IsPageOf pages t r kind.Tdcx × ((c == r) ≡ false)
+AreControls pages t (c ∷ r ∷ x ∷ cs) = ⊥
+
+-- pages of one kind of a TD
+abbrev pub ArePagesOf : Pages → ℕ → PageKind → List ℕ → Type 0
+ArePagesOf pages t k [] = Unit {0}
+ArePagesOf pages t k (p ∷ ps) = IsPageOf pages t p k × ArePagesOf pages t k ps
+
+-- no page comes twice
+abbrev pub all_differ : List ℕ → Bool
+all_differ [] = true
+all_differ (p ∷ ps) = not (list_any (λ q. q == p) ps) && all_differ ps
+
+-- the control pages, virtual processors and streams of a TD
+pub record LawfulTds (pages : Pages) (tds : Tds) : Type 0 where
+  pub controls : (t : ℕ) → IsAlive pages tds t → AreControls pages t (tds.controls t)
+  pub vps : (t : ℕ) → IsAlive pages tds t → ArePagesOf pages t kind.Tdvpr (tds.vps t)
+  pub vps_few : (t : ℕ) → length (tds.vps t) ≤ 8
+  pub vps_differ : (t : ℕ) → all_differ (tds.vps t) ≡ true
+  pub streams : (t : ℕ) → IsAlive pages tds t → ArePagesOf pages t kind.Migsc (tds.streams t)
+  pub streams_few : (t : ℕ) → length (tds.streams t) ≤ 4
+  pub streams_differ : (t : ℕ) → all_differ (tds.streams t) ≡ true
+  pub epoch : (t : ℕ) → tds.epochs t < 2 ^ 32
+
+-- an entry that maps a secure EPT page, blocked or not; and one that is FREE
+abbrev pub is_node : EntryState → Bool
+is_node entry.NlMapped = true
+is_node entry.NlBlocked = true
+is_node _ = false
+
+abbrev pub is_free : EntryState → Bool
+is_free entry.Free = true
+is_free _ = false
+
+-- Ownership: an entry that names a page names one that its TD owns, at its own node, so no page is named twice and a
+-- host page by none; and each secure EPT page is named by the entry at its node.
+pub record LawfulTree (pages : Pages) (tds : Tds) : Type 0 where
+  pub entry : (t l n : ℕ) → is_lawful_entry (tds.entries t l n) ≡ true
+  pub upper : (t l n : ℕ) → IsAlive pages tds t → is_free (tds.entries t (suc l) n).state ≡ false
+      → (is_node (tds.entries t (suc l) n).state ≡ true) × IsNodeOf pages t (tds.entries t (suc l) n).page kind.Ept (suc l) n
+  pub leaf : (t n : ℕ) → IsAlive pages tds t → is_free (tds.entries t 0 n).state ≡ false
+      → (is_node (tds.entries t 0 n).state ≡ false) × IsNodeOf pages t (tds.entries t 0 n).page kind.Reg 0 n
+  pub named : (p : ℕ) → pages.kinds p ≡ kind.Ept → IsAlive pages tds (pages.owners p)
+      → (is_free (tds.entries (pages.owners p) (pages.levels p) (pages.numbers p)).state ≡ false)
+      × ((tds.entries (pages.owners p) (pages.levels p) (pages.numbers p)).page ≡ p)
+
+-- the TD that the key table gives an HKID to
+abbrev pub key_owner : Key → Option ℕ
+key_owner Unassigned = None
+key_owner (AssignedTo t) = Some t
+key_owner (FlushedOf t b) = Some t
+
+-- the HKID of a TD that is alive is its own
+pub record LawfulKeys (pages : Pages) (tds : Tds) (table : KeyTable) : Type 0 where
+  pub owner : (t : ℕ) → IsAlive pages tds t → key_owner (table.keys (tds.hkids t)) ≡ Some t
+
+-- what every world of a machine keeps
+pub record Lawful (m : Machine) (w : World) : Type 0 where
+  pub size : w.size ≡ m.pages
+  pub pages : LawfulPages m.pages w.pages
+  pub tds : LawfulTds w.pages w.tds
+  pub tree : LawfulTree w.pages w.tds
+  pub keys : LawfulKeys w.pages w.tds w.key_table
+
+-- a row whose act keeps it, where its conditions held
+pub record RowKeeps (m : Machine) (row : Row) : Type 0 where
+  pub act : (w : World) → Lawful m w → Passes (row.items w) → Lawful m (row.act w)

@@ -1,0 +1,84 @@
+-- Laws of the flat machine, for every opening and every schedule.
+use Rattle.std.specs.Prelude.{◌≡◌, ◌≢◌, ◌⊎◌, ℕ, ◌≤◌, List, [], ◌∷◌, ◌++◌, Option, None, IfSome}
+use Rattle.td_words.specs.declared.refusals.Status.{Status}
+use Rattle.td_words.specs.declared.replies.Reply.{Reply}
+use Rattle.td_words.specs.declared.replies.Reply.TheVariants.{Refused}
+use Rattle.td_words.specs.declared.calls.Call.{Call}
+use Rattle.flat_core.specs.World.{World}
+use Rattle.flat_core.specs.Processor.{LockId, Lp, nothing_yet}
+use Rattle.flat_core.specs.Locks.{holders, sharers}
+use Rattle.flat_core.specs.Opening.{Opening, Agree, blind}
+use Rattle.flat_core.specs.Row.{Succeeds}
+use Rattle.flat_core.specs.Table.{row_of}
+use Rattle.flat_core.specs.Event.{State, Event, OfCall, OfOperation, Reaches, Leaves, start, next_event, event, world_after}
+use Rattle.flat_core.specs.Run.{play, run, run_told, told_in}
+use Rattle.flat_core.specs.HostText.{host_text, text_of}
+use Rattle.flat_core.specs.Lawful.{Lawful, RowKeeps}
+use Rattle.flat_core.specs.Alike.{AreBlind}
+
+-- beside each row, its two facts
+abbrev pub RowsKeep : Type 0
+RowsKeep = (o : Opening) (me : ℕ) (c : Call) → RowKeeps o.machine (row_of o me c)
+
+abbrev pub RowsAreBlind : Type 0
+RowsAreBlind = (o q : Opening) → Agree o q → (me : ℕ) (c : Call) → AreBlind o.machine (row_of o me c) (row_of q me c)
+
+-- a state that a schedule leads to
+abbrev pub reached : Opening → Option (List ℕ) → List ℕ → State
+reached o words_to_tell schedule = play o schedule (start o words_to_tell)
+
+abbrev pub EveryWorldIsLawful : Type 0
+EveryWorldIsLawful = (o : Opening) (words_to_tell : Option (List ℕ)) (schedule : List ℕ) → Lawful o.machine (reached o words_to_tell schedule).world
+
+-- one event keeps it, whatever bundles have come in
+abbrev pub EventsKeepLawful : Type 0
+EventsKeepLawful = (o : Opening) (s : State) (p : ℕ) → Lawful o.machine s.world → Lawful o.machine (event o s p).world
+
+-- an event of one processor leaves the records of the others alone
+abbrev pub OthersStay : Type 0
+OthersStay = (o : Opening) (s : State) (p q : ℕ) → q ≢ p → (event o s p).lps q ≡ s.lps q
+
+-- an event that isn't an act that succeeds, a guest's access or a count step
+abbrev pub IsQuiet : Event → Type 0
+IsQuiet (OfCall row Succeeds) = ⊥
+IsQuiet (OfOperation row Succeeds) = ⊥
+IsQuiet (Reaches t v access r gpa page) = ⊥
+IsQuiet (Leaves v out) = ⊥
+IsQuiet _ = Unit {0}
+
+-- what is refused, tried, undone, released or walked changes nothing of the world
+abbrev pub QuietEventsStay : Type 0
+QuietEventsStay = (e : Event) (w : World) → IsQuiet e → world_after e w ≡ w
+
+-- nobody holds a lock beside one who holds it alone
+pub record IsSole (alone shared : ℕ) : Type 0 where
+  pub one : alone ≤ 1
+  pub apart : (alone ≡ 0) ⊎ (shared ≡ 0)
+
+abbrev pub LocksExclude : Type 0
+LocksExclude = (o : Opening) (words_to_tell : Option (List ℕ)) (schedule : List ℕ) (l : LockId)
+    → let s = reached o words_to_tell schedule in IsSole (holders s.lps s.lp_count l) (sharers s.lps s.lp_count l)
+
+-- What is printed is the same whatever the private words are: as with every private word 0, where guests tell the same.
+abbrev pub BlindRunsPrintTheSame : Type 0
+BlindRunsPrintTheSame = (o : Opening) (schedule : List ℕ)
+    → host_text o schedule ≡ text_of (run_told (blind o) schedule (told_in (run o schedule)))
+
+-- a processor between two calls
+pub record IsBetween (lp : Lp) : Type 0 where
+  pub call : lp.call ≡ nothing_yet
+  pub guest : lp.guest ≡ None
+
+-- each event of processor p in a schedule is quiet
+abbrev pub OwnEventsAreQuiet : Opening → ℕ → List ℕ → State → Type 0
+OwnEventsAreQuiet o p [] s = Unit {0}
+OwnEventsAreQuiet o p (q ∷ qs) s = (q ≡ p → IfSome (next_event o s p) IsQuiet) × OwnEventsAreQuiet o p qs (event o s q)
+
+-- A call that is refused changed nothing of the world from its first event to its last, and it holds no lock at its end.
+pub record RefusedCallsStay : Type 0 where
+  pub quiet : (o : Opening) (s : State) (p : ℕ) (schedule : List ℕ) (status : Status) → IsBetween (s.lps p)
+      → let t = play o schedule s in
+      (t.lps p).replies ≡ (s.lps p).replies → ((event o t p).lps p).replies ≡ (s.lps p).replies ++ Refused status ∷ []
+      → OwnEventsAreQuiet o p (schedule ++ p ∷ []) s
+  pub ended : (o : Opening) (s : State) (p : ℕ) (r : Reply)
+      → ((event o s p).lps p).replies ≡ (s.lps p).replies ++ r ∷ [] → ((event o s p).lps p).call ≡ nothing_yet

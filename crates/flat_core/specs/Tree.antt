@@ -1,0 +1,64 @@
+-- The secure EPT of a TD: four levels of 512 entries, the root's being level 3 and those that name private pages level 0
+-- (Base Architecture, "Secure EPT"). An entry is known by its level and its number: the GPA that it maps from, in units
+-- of what an entry of its level maps. The entries below an entry n have the numbers 512 n to 512 n + 511.
+use Rattle.std.specs.Prelude.{ℕ, ◌/◌, List, [], ◌∷◌, map, filter, Bool, true, false, not, ◌==◌, nat_lt}
+use Rattle.std.specs.List.{list_any}
+use Rattle.td_words.specs.declared.names.EntryState.{EntryState}
+use Rattle.td_words.specs.declared.names.EntryState.TheVariants as entry
+use Rattle.td_words.specs.declared.names.Access.{Access}
+use Rattle.td_words.specs.declared.names.Access.TheVariants.{Read, Write}
+use Rattle.td_words.specs.declared.names.Mode.{Mode}
+use Rattle.td_words.specs.declared.refusals.Status.TheVariants.{EptWalkFailed, EptEntryStateIncorrect}
+use Rattle.td_words.specs.declared.replies.Reply.{Reply}
+use Rattle.td_words.specs.NameNumber as numbers
+use Rattle.td_words.specs.Packing.{Entry}
+use Rattle.flat_core.specs.World.{World}
+use Rattle.flat_core.specs.Processor.{OfPage}
+use Rattle.flat_core.specs.Arguments.{level_size}
+use Rattle.flat_core.specs.Row.{Item, Try, needs}
+
+-- the number at a level of the entry that maps a GPA
+abbrev pub number_at : ℕ → ℕ → ℕ
+number_at level gpa = gpa / level_size level
+
+abbrev pub entry_at : World → ℕ → ℕ → ℕ → Entry
+entry_at w t level gpa = w.tds.entries t level (number_at level gpa)
+
+abbrev pub same_state : EntryState → EntryState → Bool
+same_state a b = numbers.entry_number a == numbers.entry_number b
+
+-- which access an entry's state allows a guest (Base Architecture, "Secure EPT Entry State Diagram"; TD Migration
+-- Architecture, "Private Memory Migration")
+abbrev pub may_read : EntryState → Bool
+may_read entry.Mapped = true
+may_read entry.BlockedW = true
+may_read entry.ExportedBlockedW = true
+may_read entry.ExportedDirty = true
+may_read entry.ExportedDirtyBlockedW = true
+may_read _ = false
+
+abbrev pub may_write : EntryState → Bool
+may_write entry.Mapped = true
+may_write entry.ExportedDirty = true
+may_write _ = false
+
+abbrev pub allows : EntryState → Access → Bool
+allows s Read = may_read s
+allows s Write = may_write s
+
+-- a host's walk reaches the entry of a level where each entry above it is NL_MAPPED
+abbrev pub walk : World → ℕ → ℕ → ℕ → List (Item Reply)
+walk w t gpa level =
+    map (λ l. needs (same_state (entry_at w t l gpa).state entry.NlMapped) (EptWalkFailed l)) (filter (λ l. nat_lt level l) (3 ∷ 2 ∷ 1 ∷ []))
+
+-- the entry's state is one of these; it names a page in every state but FREE
+abbrev pub state_in : World → ℕ → ℕ → ℕ → List EntryState → Item Reply
+state_in w t gpa level allowed =
+    needs (list_any (λ s. same_state s (entry_at w t level gpa).state) allowed) (EptEntryStateIncorrect (entry_at w t level gpa).state)
+
+abbrev pub has_page : World → ℕ → ℕ → ℕ → Item Reply
+has_page w t gpa level = needs (not (same_state (entry_at w t level gpa).state entry.Free)) (EptEntryStateIncorrect entry.Free)
+
+-- the try of the page that the entry names
+abbrev pub named_page : World → ℕ → ℕ → ℕ → Mode → Item Reply
+named_page w t gpa level mode = Try (OfPage (entry_at w t level gpa).page) mode

@@ -1,0 +1,50 @@
+//! Laws of the flat machine, as contracts of functions that do nothing.
+
+ghost use Rattle.flat_core.specs.Worked.{Examples};
+ghost use Rattle.flat_core.specs.Bounds.{EventsRunOut, RunsEnd};
+ghost use Rattle.flat_core.specs.Laws.{RowsKeep, RowsAreBlind, EveryWorldIsLawful, OthersStay, QuietEventsStay, LocksExclude, BlindRunsPrintTheSame, RefusedCallsStay, EventsKeepLawful};
+
+/// The worked examples: replies of small runs, and how many events they take.
+pub fn worked_examples()
+    ensures { Examples }
+{}
+
+/// The two facts beside each row: its act keeps what every world keeps, and it is blind to private
+/// words.
+pub fn row_laws()
+    ensures keep { RowsKeep }
+    ensures blind { RowsAreBlind }
+{}
+
+/// Each event keeps a world lawful, and every schedule leads to a lawful one: who owns which page, which pages a TD's entries name,
+/// and whose each HKID is.
+pub fn lawful_law()
+    ensures event { EventsKeepLawful }
+    ensures run { EveryWorldIsLawful }
+{}
+
+/// An event of one processor leaves the others' records alone; what is refused, tried, undone or
+/// released changes nothing but locks and the processor's own record; and so a call that is refused
+/// changes nothing from its first event to its last, and holds no lock at its end.
+pub fn event_laws()
+    ensures others { OthersStay }
+    ensures quiet { QuietEventsStay }
+    ensures refused { RefusedCallsStay }
+{}
+
+/// Nobody holds a lock beside one who holds it alone, after any schedule.
+pub fn lock_law()
+    ensures { LocksExclude }
+{}
+
+/// Every call ends after a number of its own events that the leaf table bounds, whatever the other
+/// processors do, and at the end of a run no processor has an event left.
+pub fn end_laws()
+    ensures runs_out { EventsRunOut }
+    ensures runs_end { RunsEnd }
+{}
+
+/// What a run prints is the same whatever the private words are, apart from what guests tell.
+pub fn two_world_law()
+    ensures { BlindRunsPrintTheSame }
+{}

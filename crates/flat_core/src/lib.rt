@@ -1,0 +1,16 @@
+//! The flat machine: the abstract state of the modelled TDX module, the row of each call, and the
+//! runs that a schedule gives.
+//!
+//! The definitions stand in `specs/` and are read in the order of docs/definitions.md. Beside them
+//! stand two that run, `allows` and `tracked`, and the laws that hold of every run whatever the
+//! schedule. A layer above uses the definitions, and the laws as contracts of the functions of
+//! `laws`.
+#![tactic(auto)]
+
+mod laws;
+mod rights;
+
+pub use laws::{
+    end_laws, event_laws, lawful_law, lock_law, row_laws, two_world_law, worked_examples,
+};
+pub use rights::{allows, tracked};
