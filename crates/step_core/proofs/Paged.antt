@@ -5,7 +5,7 @@ use Rattle.std.proofs.lemmas.Bool.Decides.{nat_tests}
 use Rattle.td_words.specs.Address.{word_at}
 use Rattle.step_core.specs.declared.steps.WordStep.TheVariants.{Store}
 use Rattle.step_core.specs.Words.{Words, with_word, after_step}
-use Rattle.step_core.specs.Items.{Table, Taken, stepped, swapped, missed, PlaysTo, with_slot}
+use Rattle.step_core.specs.Items.{Table, Taken, Stepped, Swapped, Missed, PlaysTo, with_slot}
 use Rattle.step_core.specs.Pages.{clearing, copying}
 use Rattle.step_core.specs.Laws.{PagesChangeAlone}
 
@@ -17,13 +17,13 @@ record Parts (t v : Table) (xs ys : List Taken) : Type 0 where
 
 parts : (t v : Table) (xs ys : List Taken) → PlaysTo t (xs ++ ys) v → Parts t v xs ys
 parts t v [] ys p = record { middle = t; first = (refl, refl); then_ = p }
-parts t v (stepped s a ∷ xs) ys p =
+parts t v (Stepped s a ∷ xs) ys p =
     let r = parts (record t { words = after_step t.words s }) v xs ys p.1 in
     record { middle = r.middle; first = (p.0, r.first); then_ = r.then_ }
-parts t v (swapped k put taken ∷ xs) ys p =
+parts t v (Swapped k put taken ∷ xs) ys p =
     let r = parts (record t { slots = with_slot t.slots k put }) v xs ys p.1 in
     record { middle = r.middle; first = (p.0, r.first); then_ = r.then_ }
-parts t v (missed k ∷ xs) ys p = absurd p
+parts t v (Missed k ∷ xs) ys p = absurd p
 
 -- whether a word of a page, from one index to below another, stands at an address
 abbrev between : ℕ → ℕ → ℕ → ℕ → Bool
@@ -44,7 +44,7 @@ cleared_first : (t u : Table) (page k : ℕ) → PlaysTo t (clearing page k) u �
 unfolding clearing
 cleared_first t u page zero p = record { words = λ n. rw (none_between page 0 n) (ap (λ (w : Words). w n) p.0); slots = p.1 }
 cleared_first t u page (suc k) p =
-    let r = parts t u (clearing page k) (stepped (Store (word_at page k) 0) 0 ∷ []) p in
+    let r = parts t u (clearing page k) (Stepped (Store (word_at page k) 0) 0 ∷ []) p in
     let before = cleared_first t r.middle page k r.first in
     record {
       words = λ n. one_more (t.words n) (r.middle.words n) (u.words n) page k n (before.words n) (ap (λ (w : Words). w n) r.then_.1.0);

@@ -5,7 +5,7 @@ use Rattle.td_words.specs.declared.names.Mode.TheVariants.{Shared, Exclusive}
 use Rattle.step_core.specs.declared.steps.WordStep.{WordStep}
 use Rattle.step_core.specs.declared.locks.Tried.{Tried}
 use Rattle.step_core.specs.declared.locks.Tried.TheVariants.{Granted, Denied}
-use Rattle.step_core.specs.Items.{Taken, stepped}
+use Rattle.step_core.specs.Items.{Taken, Stepped}
 
 -- what a holder adds to the lock word
 abbrev pub weight_of : Mode → ℕ
@@ -22,8 +22,8 @@ exclusive_outcome seen = if seen == 0 then Granted else Denied seen
 
 -- a try is one step, and its outcome is that of the word that it saw
 abbrev pub TriedBy : {B : Type 0} → (List Taken → B → Type 0) → WordStep → (ℕ → Tried) → B → Tried → Type 0
-TriedBy did step outcome after tried = (seen : ℕ) × did (stepped step seen ∷ []) after × (tried ≡ outcome seen)
+TriedBy did step outcome after tried = (seen : ℕ) × did (Stepped step seen ∷ []) after × (tried ≡ outcome seen)
 
 -- one step, whatever it answers
 abbrev pub DidStep : {B : Type 0} → (List Taken → B → Type 0) → WordStep → B → Type 0
-DidStep did step after = (answer : ℕ) × did (stepped step answer ∷ []) after
+DidStep did step after = (answer : ℕ) × did (Stepped step answer ∷ []) after

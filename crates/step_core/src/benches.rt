@@ -2,7 +2,7 @@
 
 ghost use Rattle.std.specs.Prelude.{◌≡◌, ◌<◌, List, [], ◌∷◌, ◌++◌};
 ghost use Rattle.td_words.specs.declared.machines.Machine.{Machine};
-ghost use Rattle.step_core.specs.Items.{Taken, stepped, SwapDid};
+ghost use Rattle.step_core.specs.Items.{Taken, Stepped, SwapDid};
 ghost use Rattle.step_core.specs.Words.{word_count, address_of, StoreAnswersZero};
 
 use crate::steps::WordStep;
@@ -21,7 +21,7 @@ pub trait Bench {
         requires { address_of step < word_count (machine self.old) }
         ensures machine { machine self.new ≡ machine self.old }
         ensures store { StoreAnswersZero step result }
-        ensures did { did self.old (stepped step result ∷ []) self.new };
+        ensures did { did self.old (Stepped step result ∷ []) self.new };
 
     /// Puts a hasher, or none, into a slot and answers what was there. Where another swap on that
     /// slot is under way, `put` is dropped and the answer is None.
