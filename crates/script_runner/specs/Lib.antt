@@ -1,0 +1,4 @@
+pub mod Seen
+pub mod Outside
+pub mod Held
+pub mod Listed
