@@ -1,5 +1,5 @@
 -- A processor that runs while nobody else holds a lock: each try is granted, and a call is as good as done at once.
-use Rattle.std.proofs.Common.{◌≡◌, ◌≢◌, refl, sym, ◌∙◌, ap, subst, ℕ, zero, suc, ◌+◌, ◌-◌, ◌*◌, ◌<◌, ◌≤◌, List, [], ◌∷◌, ◌++◌, length, drop, replicate, Option, Some, None, Bool, true, false, ◌==◌, arith, append_assoc, append-nil, length-append, if◌then◌else◌, inl, inr}
+use Rattle.std.proofs.Common.{◌≡◌, ◌≢◌, refl, sym, ◌∙◌, ap, subst, ℕ, zero, suc, ◌+◌, ◌-◌, ◌*◌, ◌<◌, ◌≤◌, List, [], ◌∷◌, ◌++◌, length, drop, replicate, Some, None, Bool, true, false, ◌==◌, arith, append_assoc, append-nil, length-append, inl, inr}
 use Rattle.std.proofs.lemmas.Bool.{ne_eqb}
 use Rattle.std.proofs.lemmas.Bool.Decides.{eqb_tells}
 use Rattle.td_words.specs.declared.names.Mode.{Mode}
@@ -9,13 +9,13 @@ use Rattle.td_words.specs.declared.calls.Call.TheVariants as call
 use Rattle.td_words.specs.declared.replies.Reply.{Reply}
 use Rattle.td_words.specs.declared.replies.Reply.TheVariants.{Done}
 use Rattle.flat_core.specs.World.{World, first_world, put}
-use Rattle.flat_core.specs.Processor.{LockId, Held, Phase, Trying, Undoing, Answered, Progress, Translation, Note, Lp, idle}
+use Rattle.flat_core.specs.Processor.{LockId, Held, Phase, Trying, Answered, Lp, idle}
 use Rattle.flat_core.specs.Locks.{alone_in, shared_in, alone_of, shared_of, refused_of, sum_below, holders, sharers, refusals, grants}
 use Rattle.flat_core.specs.Opening.{Opening}
-use Rattle.flat_core.specs.Row.{Item, Check, Try, Row, Move, Attempts, Undoes, Refuses, Succeeds, Releases, Rests, next, next_in, tries_in, call_row}
+use Rattle.flat_core.specs.Row.{Item, Check, Try, Row, Attempts, Refuses, Succeeds, Releases, next, tries_in, call_row}
 use Rattle.flat_core.specs.Table.{row_of, most_tries, most_events}
 use Rattle.flat_core.specs.Event.{State, Event, OfCall, start, lines_left, calls_of, event_for, line_event, world_after, lp_after, is_granted, after_event, event, settled}
-use Rattle.flat_core.specs.Run.{play, events_in, to_the_end, run}
+use Rattle.flat_core.specs.Run.{play, events_in, to_the_end}
 use Rattle.flat_core.specs.HostText.{reply_lines, lines_from, host_text}
 use Rattle.flat_alone.specs.Whole.{first_fault, reply_unless, world_unless, row_reply, row_world, replies_of, world_of, text_from, EachCallAtOnce}
 
@@ -116,8 +116,8 @@ module _ (o : Opening) (p : ℕ) (before : ℕ → Lp) (quiet : (q : ℕ) → q 
       → Comes (suc m) s w' lp'
   step s w w' lp lp' c cs e granted m at line is g go =
       let due : event_for o s.world p (s.lps p) (lines_left o p (s.lps p)) ≡ Some e =
-        ap (λ v. event_for o v p (s.lps p) (lines_left o p (s.lps p))) at.world
-        ∙ (ap (λ x. event_for o w p x (lines_left o p x)) at.own ∙ (ap (event_for o w p lp) line ∙ ap (λ (x : Event). Some x) is)) in
+      ap (λ v. event_for o v p (s.lps p) (lines_left o p (s.lps p))) at.world
+      ∙ (ap (λ x. event_for o w p x (lines_left o p x)) at.own ∙ (ap (event_for o w p lp) line ∙ ap (λ (x : Event). Some x) is)) in
       let (k, le, at') = go (event o s p) (subst (λ x. At (after_event p s x) (world_after e w) (lp_after w granted e lp)) (sym due) (moved s w lp e granted at g)) in
       (suc k, omega arith, at')
 
@@ -131,12 +131,16 @@ module _ (o : Opening) (p : ℕ) (before : ℕ → Lp) (quiet : (q : ℕ) → q 
         | inl t ↦ ap (λ (x : ℕ). f (s.lps x)) t.1 ∙ (ap f at.own ∙ own)
         | inr x ↦ ap f (at.others q x.1) ∙ rest q x.1
       ]
+
       none_alone : holders s.lps s.lp_count l ≡ 0
       none_alone = sum_zero _ s.lp_count (own_or (alone_of l) (omega (arith, alone)) (λ q ne. (quiet q ne).alone l))
+
       none_shared : sharers s.lps s.lp_count l ≡ 0
       none_shared = sum_zero _ s.lp_count (own_or (shared_of l) (omega (arith, shared)) (λ q ne. (quiet q ne).shared l))
+
       none_refused : refusals s.lps s.lp_count l ≡ 0
       none_refused = sum_zero _ s.lp_count (own_or (refused_of l) (omega arith) (λ q ne. (quiet q ne).refused l))
+
       by : (m : Mode) → grants s.lps s.lp_count l m ≡ true
       by Shared = rw none_alone refl
       by Exclusive = rw (none_alone, none_shared, none_refused) refl
@@ -153,11 +157,11 @@ module _ (o : Opening) (p : ℕ) (before : ℕ → Lp) (quiet : (q : ℕ) → q 
       → (items : List (Item Reply)) (hs : List Held) (s : State) → At s w (lp_of Trying hs rs) → FreeTries hs items
       → ((a k : ℕ) → a ≡ k + length hs → next ((row_of o p c).items w) a ≡ next items k)
       → Comes (suc (length hs + 2 * tries_in items)) s (world_unless (first_fault items) (row_of o p c) w)
-        (lp_of Trying [] (rs ++ reply_unless (first_fault items) (row_of o p c) w ∷ []))
+      (lp_of Trying [] (rs ++ reply_unless (first_fault items) (row_of o p c) w ∷ []))
   through w c cs rs line [] hs s at free passes =
       let row = row_of o p c in
       let done : lp_after w false (OfCall row Succeeds) (lp_of Trying hs rs) ≡ settled (lp_of (Answered (Done (row.value w))) hs rs) =
-        ap (λ (x : Row). lp_after w false (OfCall x Succeeds) (lp_of Trying hs rs)) (plain_row o p c) in
+      ap (λ (x : Row). lp_after w false (OfCall x Succeeds) (lp_of Trying hs rs)) (plain_row o p c) in
       step s w (row.act w) (lp_of Trying hs rs) (lp_of Trying [] (rs ++ Done (row.value w) ∷ [])) c cs (OfCall row Succeeds) false (length hs + 0)
       at line (ap (OfCall row) (passes (length hs) 0 (omega arith))) refl
       (λ t at'. later (length hs) (length hs + 0) t _ _ (omega arith) (back (row.act w) c cs rs (Done (row.value w)) line hs t (subst (At t (row.act w)) done at')))
@@ -204,14 +208,15 @@ module _ (o : Opening) (p : ℕ) (before : ℕ → Lp) (quiet : (q : ℕ) → q 
       let done = play o (replicate k p) s in
       let count : events_in cs ≡ k + (events_in cs - k) = omega arith in
       let none : lines_left o p (done.lps p) ≡ [] =
-        ap (lines_left o p) at'.own ∙ (ap (λ (n : ℕ). drop n (calls_of o.calls p)) (as_many cs w) ∙ (ap (drop (length cs)) line ∙ drop_whole cs)) in
+      ap (lines_left o p) at'.own ∙ (ap (λ (n : ℕ). drop n (calls_of o.calls p)) (as_many cs w) ∙ (ap (drop (length cs)) line ∙ drop_whole cs)) in
       let same : play o (replicate (events_in cs) p) s ≡ done =
-        ap (λ (n : ℕ). play o (replicate n p) s) count ∙ (play-replicate o p k (events_in cs - k) s ∙ stays (events_in cs - k) done none) in
+      ap (λ (n : ℕ). play o (replicate n p) s) count ∙ (play-replicate o p k (events_in cs - k) s ∙ stays (events_in cs - k) done none) in
       subst (λ t. At t (world_of o p w cs) (lp_of Trying [] rs)) (sym same) at'
     where
       as_many : (cs : List Call) (w : World) → length (replies_of o p w cs) ≡ length cs
       as_many [] w = refl
       as_many (c ∷ cs) w = let e = as_many cs (row_world (row_of o p c) w) in omega (arith, e)
+
       drop_whole : (cs : List Call) → drop (length cs) cs ≡ []
       drop_whole [] = refl
       drop_whole (c ∷ cs) = drop_whole cs
@@ -230,22 +235,23 @@ each o (cs ∷ css) p w s world quiet fresh calls =
     let at = to_its_end o p s.lps out cs w s mine (record { world = world; own = fresh p (omega arith); others = λ q ne. refl }) in
     let t = play o (replicate (events_in cs) p) s in
     let rest = each o css (suc p) (world_of o p w cs) t at.world
-        (λ q. elim (eqb_tells q p) [
-          | inl x ↦ subst Quiet (sym (ap t.lps x.1 ∙ at.own)) (quiet_out (replies_of o p w cs))
-          | inr x ↦ subst Quiet (sym (at.others q x.1)) (quiet q)
-        ])
-        (λ q h. at.others q (λ e. omega arith) ∙ fresh q (omega arith))
-        (λ i. let e : suc p + i ≡ p + suc i = omega arith in ap (calls_of o.calls) e ∙ calls (suc i)) in
+    (λ q. elim (eqb_tells q p) [
+      | inl x ↦ subst Quiet (sym (ap t.lps x.1 ∙ at.own)) (quiet_out (replies_of o p w cs))
+      | inr x ↦ subst Quiet (sym (at.others q x.1)) (quiet q)
+    ])
+    (λ q h. at.others q (λ e. omega arith) ∙ fresh q (omega arith))
+    (λ i. let e : suc p + i ≡ p + suc i = omega arith in ap (calls_of o.calls) e ∙ calls (suc i)) in
     let last = play o (to_the_end (suc p) css) t in
     let joined : play o (to_the_end p (cs ∷ css)) s ≡ last = play-append o (replicate (events_in cs) p) (to_the_end (suc p) css) s in
     let replied : (last.lps p).replies ≡ replies_of o p w cs = ap (λ (x : Lp). x.replies) (rest.1 p (omega arith) ∙ at.own) in
     let next_one : p + 1 ≡ suc p = omega arith in
     let texts : lines_from (p + 1) css last ≡ text_from o (p + 1) (world_of o p w cs) css =
-      subst (λ n. lines_from n css last ≡ text_from o n (world_of o p w cs) css) (sym next_one) rest.0 in
+    subst (λ n. lines_from n css last ≡ text_from o n (world_of o p w cs) css) (sym next_one) rest.0 in
     let whole : lines_from p (cs ∷ css) last ≡ text_from o p w (cs ∷ css) =
-      ap (λ rs. reply_lines p 1 rs ++ lines_from (p + 1) css last) replied ∙ ap (λ x. reply_lines p 1 (replies_of o p w cs) ++ x) texts in
-    (subst (λ x. lines_from p (cs ∷ css) x ≡ text_from o p w (cs ∷ css)) (sym joined) whole,
-    λ q h. subst (λ x. x.lps q ≡ s.lps q) (sym joined) (rest.1 q (omega arith) ∙ at.others q (λ e. omega arith)))
+    ap (λ rs. reply_lines p 1 rs ++ lines_from (p + 1) css last) replied ∙ ap (λ x. reply_lines p 1 (replies_of o p w cs) ++ x) texts in (
+      subst (λ x. lines_from p (cs ∷ css) x ≡ text_from o p w (cs ∷ css)) (sym joined) whole,
+      λ q h. subst (λ x. x.lps q ≡ s.lps q) (sym joined) (rest.1 q (omega arith) ∙ at.others q (λ e. omega arith)),
+    )
 
 pub each_call_at_once : EachCallAtOnce
 unfolding host_text

@@ -6,12 +6,17 @@
 #![tactic(auto)]
 
 mod disk;
+mod ending;
+mod flat_run;
 mod gates;
 mod held;
 mod honest;
 mod listed;
 mod outside;
+mod plain;
+mod report;
 mod standard_output;
+mod top;
 
 pub use disk::DiskFiles;
 pub use gates::{Gate, NoGate};
@@ -20,6 +25,7 @@ pub use honest::{HonestFiles, HonestSink};
 pub use listed::{MemFiles, MemSink};
 pub use outside::{Files, LoadFault, PutFault, SaveFault, Sink};
 pub use standard_output::StdSink;
+pub use top::tdx_main;
 
 #[cfg(test)]
 mod tests;
