@@ -1,0 +1,274 @@
+-- A processor that runs while nobody else holds a lock: each try is granted, and a call is as good as done at once.
+use Rattle.std.proofs.Common.{◌≡◌, ◌≢◌, refl, sym, ◌∙◌, ap, subst, ℕ, zero, suc, ◌+◌, ◌-◌, ◌*◌, ◌<◌, ◌≤◌, List, [], ◌∷◌, ◌++◌, length, drop, replicate, Option, Some, None, Bool, true, false, ◌==◌, arith, append_assoc, append-nil, length-append, inl, inr}
+use Rattle.std.specs.List.{concat}
+use Rattle.std.proofs.lemmas.Bool.{ne_eqb}
+use Rattle.std.proofs.lemmas.Bool.Decides.{eqb_tells}
+use Rattle.td_words.specs.declared.names.Mode.{Mode}
+use Rattle.td_words.specs.declared.names.Mode.TheVariants.{Shared, Exclusive}
+use Rattle.td_words.specs.declared.calls.Call.{Call}
+use Rattle.td_words.specs.declared.calls.Call.TheVariants as call
+use Rattle.td_words.specs.declared.replies.Reply.{Reply}
+use Rattle.td_words.specs.declared.replies.Reply.TheVariants.{Done}
+use Rattle.flat_core.specs.World.{World, first_world, put}
+use Rattle.flat_core.specs.Processor.{LockId, Held, Phase, Trying, Answered, Lp, idle}
+use Rattle.flat_core.specs.Locks.{alone_in, shared_in, alone_of, shared_of, refused_of, sum_below, holders, sharers, refusals, grants}
+use Rattle.flat_core.specs.Opening.{Opening}
+use Rattle.flat_core.specs.Row.{Item, Check, Try, Row, Attempts, Refuses, Succeeds, Releases, next, tries_in, call_row}
+use Rattle.flat_core.specs.Table.{row_of, most_tries, most_events}
+use Rattle.flat_core.specs.Event.{State, Event, OfCall, start, lines_left, calls_of, event_for, line_event, world_after, lp_after, is_granted, after_event, next_event, event, settled}
+use Rattle.flat_core.specs.Run.{play, events_in, to_the_end}
+use Rattle.flat_core.specs.HostText.{reply_lines, lines_from, text_of, host_text}
+use Rattle.flat_alone.specs.Whole.{first_fault, reply_unless, world_unless, row_reply, row_world, replies_of, world_of, lines_at_once, EachCallAtOnce}
+
+-- it holds no lock, and is being refused none
+pub record Quiet (lp : Lp) : Type 0 where
+  pub alone : (l : LockId) → alone_of l lp ≡ 0
+  pub shared : (l : LockId) → shared_of l lp ≡ 0
+  pub refused : (l : LockId) → refused_of l lp ≡ 0
+
+-- outside guests
+abbrev lp_of : Phase Reply → List Held → List Reply → Lp
+lp_of phase hs rs = record { call = record { phase = phase; held = hs }; guest = None; cached = []; replies = rs; notes = []; told = [] }
+
+-- a lock that is tried isn't held yet
+abbrev FreeTries : List Held → List (Item Reply) → Type 0
+FreeTries hs [] = Unit {0}
+FreeTries hs (Check b r ∷ items) = FreeTries hs items
+FreeTries hs (Try l m ∷ items) = (alone_in l hs ≡ 0) × (shared_in l hs ≡ 0) × FreeTries (record { lock = l; mode = m } ∷ hs) items
+
+eq_self : (n : ℕ) → (n == n) ≡ true
+eq_self n = elim (eqb_tells n n) [ inl t ↦ t.0 | inr f ↦ absurd (f.1 refl) ]
+
+put_same : {A : Type 0} (f : ℕ → A) (p : ℕ) (v : A) → put f p v p ≡ v
+put_same f p v = rw (eq_self p) refl
+
+put_other : {A : Type 0} (f : ℕ → A) (p q : ℕ) (v : A) → q ≢ p → put f p v q ≡ f q
+put_other f p q v ne = rw (ne_eqb q p ne) refl
+
+sum_zero : (f : ℕ → ℕ) (n : ℕ) → ((q : ℕ) → f q ≡ 0) → sum_below f n ≡ 0
+sum_zero f zero h = refl
+sum_zero f (suc n) h = omega (arith, h n, sum_zero f n h)
+
+drop_next : {A : Type 0} (k : ℕ) (xs : List A) (y : A) (ys : List A) → drop k xs ≡ y ∷ ys → drop (suc k) xs ≡ ys
+drop_next zero [] y ys e = cc
+drop_next zero (x ∷ xs) y ys e = cc
+drop_next (suc k) [] y ys e = cc
+drop_next (suc k) (x ∷ xs) y ys e = drop_next k xs y ys e
+
+play-append : (o : Opening) (ps qs : List ℕ) (s : State) → play o (ps ++ qs) s ≡ play o qs (play o ps s)
+play-append o [] qs s = refl
+play-append o (p ∷ ps) qs s = play-append o ps qs (event o s p)
+
+play-replicate : (o : Opening) (p a b : ℕ) (s : State) → play o (replicate (a + b) p) s ≡ play o (replicate b p) (play o (replicate a p) s)
+play-replicate o p zero b s = let e : 0 + b ≡ b = omega arith in ap (λ (n : ℕ). play o (replicate n p) s) e
+play-replicate o p (suc a) b s =
+    let e : suc a + b ≡ suc (a + b) = omega arith in
+    ap (λ (n : ℕ). play o (replicate n p) s) e ∙ play-replicate o p a b (event o s p)
+
+-- the calls that are built
+plain_row : (o : Opening) (p : ℕ) (c : Call) → row_of o p c ≡ call_row (row_of o p c).items (row_of o p c).act (row_of o p c).value
+plain_row o p (call.HostRead page word) = refl
+plain_row o p (call.HostWrite page word value) = refl
+plain_row o p (call.PhymemPageRdmd page) = refl
+plain_row o p (call.MngCreate tdr hkid) = refl
+
+free_row : (o : Opening) (p : ℕ) (c : Call) (w : World) → FreeTries [] ((row_of o p c).items w)
+free_row o p (call.HostRead page word) w = (refl, refl, tt)
+free_row o p (call.HostWrite page word value) w = (refl, refl, tt)
+free_row o p (call.PhymemPageRdmd page) w = (refl, refl, tt)
+free_row o p (call.MngCreate tdr hkid) w = (refl, refl, (refl, refl, tt))
+
+tries_row : (o : Opening) (p : ℕ) (c : Call) (w : World) → tries_in ((row_of o p c).items w) ≤ most_tries c
+tries_row o p (call.HostRead page word) w = omega arith
+tries_row o p (call.HostWrite page word value) w = omega arith
+tries_row o p (call.PhymemPageRdmd page) w = omega arith
+tries_row o p (call.MngCreate tdr hkid) w = omega arith
+
+module _ (o : Opening) (p : ℕ) (before : ℕ → Lp) (quiet : (q : ℕ) → q ≢ p → Quiet (before q)) where
+  -- the world and its own record; the others' are as before
+  pub record At (s : State) (w : World) (lp : Lp) : Type 0 where
+    pub world : s.world ≡ w
+    pub own : s.lps p ≡ lp
+    pub others : (q : ℕ) → q ≢ p → s.lps q ≡ before q
+
+  -- at most so many of its events lead there
+  abbrev Comes : ℕ → State → World → Lp → Type 0
+  Comes m s w lp = (k : ℕ) × (k ≤ m) × At (play o (replicate k p) s) w lp
+
+  later : (m n : ℕ) (s : State) (w : World) (lp : Lp) → m ≤ n → Comes m s w lp → Comes n s w lp
+  later m n s w lp h (k, le, at) = (k, omega arith, at)
+
+  more : (m n : ℕ) (s : State) (w w' : World) (lp lp' : Lp) → Comes m s w lp → ((t : State) → At t w lp → Comes n t w' lp') → Comes (m + n) s w' lp'
+  more m n s w w' lp lp' (k, le, at) go =
+      let (j, le', at') = go (play o (replicate k p) s) at in
+      (k + j, omega arith, subst (λ t. At t w' lp') (sym (play-replicate o p k j s)) at')
+
+  -- its next event
+  moved : (s : State) (w : World) (lp : Lp) (e : Event) (granted : Bool) → At s w lp → is_granted s e ≡ granted → At (after_event p s (Some e)) (world_after e w) (lp_after w granted e lp)
+  moved s w lp e granted at g = record {
+    world = ap (world_after e) at.world;
+    own = put_same s.lps p _ ∙ (ap (λ b. lp_after s.world b e (s.lps p)) g ∙ (ap (λ v. lp_after v granted e (s.lps p)) at.world ∙ ap (λ x. lp_after w granted e x) at.own));
+    others = λ q ne. put_other s.lps p q _ ne ∙ at.others q ne;
+  }
+
+  step : (s : State) (w w' : World) (lp lp' : Lp) (c : Call) (cs : List Call) (e : Event) (granted : Bool) (m : ℕ)
+      → At s w lp → lines_left o p lp ≡ c ∷ cs → line_event o w lp (row_of o p c) lp.guest ≡ e → is_granted s e ≡ granted
+      → ((t : State) → At t (world_after e w) (lp_after w granted e lp) → Comes m t w' lp')
+      → Comes (suc m) s w' lp'
+  step s w w' lp lp' c cs e granted m at line is g go =
+      let due : event_for o s.world p (s.lps p) (lines_left o p (s.lps p)) ≡ Some e =
+      ap (λ v. event_for o v p (s.lps p) (lines_left o p (s.lps p))) at.world
+      ∙ (ap (λ x. event_for o w p x (lines_left o p x)) at.own ∙ (ap (event_for o w p lp) line ∙ ap (λ (x : Event). Some x) is)) in
+      let (k, le, at') = go (event o s p) (subst (λ x. At (after_event p s x) (world_after e w) (lp_after w granted e lp)) (sym due) (moved s w lp e granted at g)) in
+      (suc k, omega arith, at')
+
+  -- a lock that it doesn't hold is granted
+  granted_to : (s : State) (w : World) (hs : List Held) (rs : List Reply) (l : LockId) (m : Mode) → At s w (lp_of Trying hs rs) → alone_in l hs ≡ 0 → shared_in l hs ≡ 0
+      → grants s.lps s.lp_count l m ≡ true
+  granted_to s w hs rs l m at alone shared = by m
+    where
+      own_or : (f : Lp → ℕ) → f (lp_of Trying hs rs) ≡ 0 → ((q : ℕ) → q ≢ p → f (before q) ≡ 0) → (q : ℕ) → f (s.lps q) ≡ 0
+      own_or f own rest q = elim (eqb_tells q p) [
+        | inl t ↦ ap (λ (x : ℕ). f (s.lps x)) t.1 ∙ (ap f at.own ∙ own)
+        | inr x ↦ ap f (at.others q x.1) ∙ rest q x.1
+      ]
+
+      none_alone : holders s.lps s.lp_count l ≡ 0
+      none_alone = sum_zero _ s.lp_count (own_or (alone_of l) (omega (arith, alone)) (λ q ne. (quiet q ne).alone l))
+
+      none_shared : sharers s.lps s.lp_count l ≡ 0
+      none_shared = sum_zero _ s.lp_count (own_or (shared_of l) (omega (arith, shared)) (λ q ne. (quiet q ne).shared l))
+
+      none_refused : refusals s.lps s.lp_count l ≡ 0
+      none_refused = sum_zero _ s.lp_count (own_or (refused_of l) (omega arith) (λ q ne. (quiet q ne).refused l))
+
+      by : (m : Mode) → grants s.lps s.lp_count l m ≡ true
+      by Shared = rw none_alone refl
+      by Exclusive = rw (none_alone, none_shared, none_refused) refl
+
+  -- the releases of a call that is answered
+  back : (w : World) (c : Call) (cs : List Call) (rs : List Reply) (r : Reply) → drop (length rs) (calls_of o.calls p) ≡ c ∷ cs
+      → (hs : List Held) (s : State) → At s w (settled (lp_of (Answered r) hs rs)) → Comes (length hs) s w (lp_of Trying [] (rs ++ r ∷ []))
+  back w c cs rs r line [] s at = (0, omega arith, at)
+  back w c cs rs r line (h ∷ hs) s at =
+      step s w w (lp_of (Answered r) (h ∷ hs) rs) (lp_of Trying [] (rs ++ r ∷ [])) c cs (OfCall (row_of o p c) (Releases h)) false (length hs)
+      at line refl refl (λ t at'. back w c cs rs r line hs t at')
+
+  through : (w : World) (c : Call) (cs : List Call) (rs : List Reply) → drop (length rs) (calls_of o.calls p) ≡ c ∷ cs
+      → (items : List (Item Reply)) (hs : List Held) (s : State) → At s w (lp_of Trying hs rs) → FreeTries hs items
+      → ((a k : ℕ) → a ≡ k + length hs → next ((row_of o p c).items w) a ≡ next items k)
+      → Comes (suc (length hs + 2 * tries_in items)) s (world_unless (first_fault items) (row_of o p c) w)
+      (lp_of Trying [] (rs ++ reply_unless (first_fault items) (row_of o p c) w ∷ []))
+  through w c cs rs line [] hs s at free passes =
+      let row = row_of o p c in
+      let done : lp_after w false (OfCall row Succeeds) (lp_of Trying hs rs) ≡ settled (lp_of (Answered (Done (row.value w))) hs rs) =
+      ap (λ (x : Row). lp_after w false (OfCall x Succeeds) (lp_of Trying hs rs)) (plain_row o p c) in
+      step s w (row.act w) (lp_of Trying hs rs) (lp_of Trying [] (rs ++ Done (row.value w) ∷ [])) c cs (OfCall row Succeeds) false (length hs + 0)
+      at line (ap (OfCall row) (passes (length hs) 0 (omega arith))) refl
+      (λ t at'. later (length hs) (length hs + 0) t _ _ (omega arith) (back (row.act w) c cs rs (Done (row.value w)) line hs t (subst (At t (row.act w)) done at')))
+  through w c cs rs line (Check true r ∷ items) hs s at free passes = through w c cs rs line items hs s at free passes
+  through w c cs rs line (Check false r ∷ items) hs s at free passes =
+      step s w w (lp_of Trying hs rs) (lp_of Trying [] (rs ++ r ∷ [])) c cs (OfCall (row_of o p c) (Refuses r)) false (length hs + 2 * tries_in items)
+      at line (ap (OfCall (row_of o p c)) (passes (length hs) 0 (omega arith))) refl
+      (λ t at'. later (length hs) (length hs + 2 * tries_in items) t _ _ (omega arith) (back w c cs rs r line hs t at'))
+  through w c cs rs line (Try l m ∷ items) hs s at free passes =
+      let h : Held = record { lock = l; mode = m } in
+      step s w (world_unless (first_fault items) (row_of o p c) w) (lp_of Trying hs rs) (lp_of Trying [] (rs ++ reply_unless (first_fault items) (row_of o p c) w ∷ []))
+      c cs (OfCall (row_of o p c) (Attempts l m)) true (length hs + 2 * suc (tries_in items))
+      at line (ap (OfCall (row_of o p c)) (passes (length hs) 0 (omega arith))) (granted_to s w hs rs l m at free.0 free.1)
+      (λ t at'. later (suc (length (h ∷ hs) + 2 * tries_in items)) (length hs + 2 * suc (tries_in items)) t _ _ (omega arith)
+      (through w c cs rs line items (h ∷ hs) t at' free.2 (λ a k e. passes a (suc k) (omega arith))))
+
+  -- all its lines
+  finish : (cs : List Call) (w : World) (rs : List Reply) (s : State) → drop (length rs) (calls_of o.calls p) ≡ cs → At s w (lp_of Trying [] rs)
+      → Comes (events_in cs) s (world_of o p w cs) (lp_of Trying [] (rs ++ replies_of o p w cs))
+  finish [] w rs s line at = (0, omega arith, subst (λ x. At s w (lp_of Trying [] x)) (sym (append-nil rs)) at)
+  finish (c ∷ cs) w rs s line at =
+      let row = row_of o p c in
+      let r : Reply = row_reply row w in
+      let one : length (rs ++ r ∷ []) ≡ suc (length rs) = omega (arith, length-append rs (r ∷ [])) in
+      more (most_events c) (events_in cs) s (row_world row w) _ (lp_of Trying [] (rs ++ r ∷ [])) _
+      (later (suc (0 + 2 * tries_in (row.items w))) (most_events c) s _ _ (omega (arith, tries_row o p c w))
+      (through w c cs rs line (row.items w) [] s at (free_row o p c w) (λ a k e. ap (next (row.items w)) (omega arith))))
+      (λ t at'. subst (λ x. Comes (events_in cs) t (world_of o p (row_world row w) cs) (lp_of Trying [] x)) (append_assoc rs (r ∷ []) (replies_of o p (row_world row w) cs))
+      (finish cs (row_world row w) (rs ++ r ∷ []) t (ap (λ k. drop k (calls_of o.calls p)) one ∙ drop_next (length rs) (calls_of o.calls p) c cs line) at'))
+
+  -- what is left over of its items does nothing
+  stays : (n : ℕ) (s : State) → lines_left o p (s.lps p) ≡ [] → play o (replicate n p) s ≡ s
+  stays zero s none = refl
+  stays (suc n) s none =
+      let same : event o s p ≡ s = ap (λ cs. after_event p s (event_for o s.world p (s.lps p) cs)) none in
+      ap (λ t. play o (replicate n p) t) same ∙ stays n s none
+
+  -- from its first line on
+  pub to_its_end : (cs : List Call) (w : World) (s : State) → calls_of o.calls p ≡ cs → At s w (lp_of Trying [] [])
+      → At (play o (replicate (events_in cs) p) s) (world_of o p w cs) (lp_of Trying [] (replies_of o p w cs))
+  to_its_end cs w s line at =
+      let rs = replies_of o p w cs in
+      let (k, le, at') = finish cs w [] s line at in
+      let done = play o (replicate k p) s in
+      let count : events_in cs ≡ k + (events_in cs - k) = omega arith in
+      let none : lines_left o p (done.lps p) ≡ [] =
+      ap (lines_left o p) at'.own ∙ (ap (λ (n : ℕ). drop n (calls_of o.calls p)) (as_many cs w) ∙ (ap (drop (length cs)) line ∙ drop_whole cs)) in
+      let same : play o (replicate (events_in cs) p) s ≡ done =
+      ap (λ (n : ℕ). play o (replicate n p) s) count ∙ (play-replicate o p k (events_in cs - k) s ∙ stays (events_in cs - k) done none) in
+      subst (λ t. At t (world_of o p w cs) (lp_of Trying [] rs)) (sym same) at'
+    where
+      as_many : (cs : List Call) (w : World) → length (replies_of o p w cs) ≡ length cs
+      as_many [] w = refl
+      as_many (c ∷ cs) w = let e = as_many cs (row_world (row_of o p c) w) in omega (arith, e)
+
+      drop_whole : (cs : List Call) → drop (length cs) cs ≡ []
+      drop_whole [] = refl
+      drop_whole (c ∷ cs) = drop_whole cs
+
+quiet_out : (rs : List Reply) → Quiet (lp_of Trying [] rs)
+quiet_out rs = record { alone = λ l. refl; shared = λ l. refl; refused = λ l. refl }
+
+-- from processor p on
+each : (o : Opening) (css : List (List Call)) (p : ℕ) (w : World) (s : State) → s.world ≡ w → ((q : ℕ) → Quiet (s.lps q)) → ((q : ℕ) → p ≤ q → s.lps q ≡ idle)
+    → ((i : ℕ) → calls_of o.calls (p + i) ≡ calls_of css i)
+    → (lines_from (length css) p (play o (to_the_end p css) s).lps ≡ lines_at_once o p w css) × ((q : ℕ) → q < p → (play o (to_the_end p css) s).lps q ≡ s.lps q)
+each o [] p w s world quiet fresh calls = (refl, λ q h. refl)
+each o (cs ∷ css) p w s world quiet fresh calls =
+    let out : (q : ℕ) → q ≢ p → Quiet (s.lps q) = λ q ne. quiet q in
+    let mine : calls_of o.calls p ≡ cs = let e : p ≡ p + 0 = omega arith in ap (calls_of o.calls) e ∙ calls 0 in
+    let at = to_its_end o p s.lps out cs w s mine (record { world = world; own = fresh p (omega arith); others = λ q ne. refl }) in
+    let t = play o (replicate (events_in cs) p) s in
+    let rest = each o css (suc p) (world_of o p w cs) t at.world
+    (λ q. elim (eqb_tells q p) [
+      | inl x ↦ subst Quiet (sym (ap t.lps x.1 ∙ at.own)) (quiet_out (replies_of o p w cs))
+      | inr x ↦ subst Quiet (sym (at.others q x.1)) (quiet q)
+    ])
+    (λ q h. at.others q (λ e. omega arith) ∙ fresh q (omega arith))
+    (λ i. let e : suc p + i ≡ p + suc i = omega arith in ap (calls_of o.calls) e ∙ calls (suc i)) in
+    let last = play o (to_the_end (suc p) css) t in
+    let joined : play o (to_the_end p (cs ∷ css)) s ≡ last = play-append o (replicate (events_in cs) p) (to_the_end (suc p) css) s in
+    let replied : (last.lps p).replies ≡ replies_of o p w cs = ap (λ (x : Lp). x.replies) (rest.1 p (omega arith) ∙ at.own) in
+    let next_one : p + 1 ≡ suc p = omega arith in
+    let texts : lines_from (length css) (p + 1) last.lps ≡ lines_at_once o (p + 1) (world_of o p w cs) css =
+    subst (λ n. lines_from (length css) n last.lps ≡ lines_at_once o n (world_of o p w cs) css) (sym next_one) rest.0 in
+    let whole : lines_from (length (cs ∷ css)) p last.lps ≡ lines_at_once o p w (cs ∷ css) =
+    ap (λ (rs : List Reply). reply_lines p 1 rs ++ lines_from (length css) (p + 1) last.lps) replied ∙ ap (λ (x : List (List ℕ)). reply_lines p 1 (replies_of o p w cs) ++ x) texts in (
+      subst (λ (x : State). lines_from (length (cs ∷ css)) p x.lps ≡ lines_at_once o p w (cs ∷ css)) (sym joined) whole,
+      λ q h. subst (λ x. x.lps q ≡ s.lps q) (sym joined) (rest.1 q (omega arith) ∙ at.others q (λ e. omega arith)),
+    )
+
+-- as many processors as before
+same_count : (o : Opening) (ps : List ℕ) (s : State) → (play o ps s).lp_count ≡ s.lp_count
+same_count o [] s = refl
+same_count o (p ∷ ps) s = same_count o ps (event o s p) ∙ by (next_event o s p)
+  where
+    by : (x : Option Event) → (after_event p s x).lp_count ≡ s.lp_count
+    by None = refl
+    by (Some e) = refl
+
+pub each_call_at_once : EachCallAtOnce
+unfolding host_text text_of
+each_call_at_once o =
+    let end = to_the_end 0 o.calls in
+    let s = start o None in
+    ap (λ (n : ℕ). concat (lines_from n 0 (play o end s).lps)) (same_count o end s)
+    ∙ ap (λ (x : List (List ℕ)). concat x)
+    ((each o o.calls 0 (first_world o.machine.pages None) s refl (λ q. quiet_out []) (λ q h. refl)
+    (λ i. let e : 0 + i ≡ i = omega arith in ap (calls_of o.calls) e)).0)

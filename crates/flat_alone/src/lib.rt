@@ -1,0 +1,12 @@
+//! Runs without a schedule: each processor runs to its end before the next one begins.
+//!
+//! Then nobody holds a lock that another one tries, so that each call is as good as done at once. A
+//! layer above uses `in_number_order` to run the calls one after another over a world in memory.
+#![tactic(auto)]
+
+ghost use Rattle.flat_alone.specs.Whole.{EachCallAtOnce};
+
+/// A run without a schedule prints the replies of its calls, each done at once, one after another.
+pub fn in_number_order()
+    ensures { EachCallAtOnce }
+{}

@@ -1,0 +1,107 @@
+-- What comes with later calls: the fields of MNG.RD, output slots, `code` blocks and their operations.
+use Rattle.std.specs.Prelude.{ℕ, ◌+◌, ◌*◌, ◌^◌, ◌%◌, List, Option, Some, None, is_some, Result, Ok, Err, Bool, true, false, not, ◌&&◌, ◌==◌, nat_lt, slice_index_or, length, if◌then◌else◌, codes}
+use Rattle.std.specs.List.{list_all}
+use Rattle.std.specs.Str.{bytes_eq}
+use Rattle.td_words.specs.declared.machines.Machine.{Machine}
+use Rattle.td_words.specs.declared.names.ReadField.{ReadField}
+use Rattle.td_words.specs.declared.names.ReadField.TheVariants as field
+use Rattle.script_text.specs.declared.faults.Reason.{Reason}
+use Rattle.script_text.specs.declared.faults.Reason.TheVariants as reason
+use Rattle.script_text.specs.declared.mnemonics.CallName.{CallName}
+use Rattle.script_text.specs.declared.mnemonics.CallName.TheVariants as name
+use Rattle.script_text.specs.declared.operations.OpName.{OpName}
+use Rattle.script_text.specs.declared.operations.OpName.TheVariants as op
+use Rattle.script_text.specs.declared.operations.Operand.{Operand}
+use Rattle.script_text.specs.declared.operations.Operand.TheVariants as operand
+use Rattle.script_text.specs.declared.code_blocks.CodePlace.{CodePlace}
+use Rattle.script_text.specs.Line.{◌>>=◌, counted_of, number_at, argument}
+
+-- the field of MNG.RD that a word names
+abbrev pub field_of : List ℕ → Result ReadField Reason
+field_of word =
+    if bytes_eq word (codes "LIFE") then Ok field.Life
+    else if bytes_eq word (codes "OP") then Ok field.Op
+    else if bytes_eq word (codes "EPOCH") then Ok field.Epoch
+    else if bytes_eq word (codes "MRTD") then Ok field.Mrtd
+    else Err reason.Name
+
+-- which argument of a call, from 0, is the slot of the bundle that it makes
+abbrev pub slot_place_of : CallName → Option ℕ
+slot_place_of name.ExportStateImmutable = Some 1
+slot_place_of name.ExportMem = Some 3
+slot_place_of name.ExportTrack = Some 1
+slot_place_of name.ExportStateTd = Some 1
+slot_place_of name.ExportStateVp = Some 2
+slot_place_of name.ImportAbort = Some 1
+slot_place_of _ = None
+
+-- slots 0 to 4,095, each named by one line; `named` says which were
+abbrev pub slot_of : List Bool → ℕ → Result ℕ Reason
+slot_of named slot =
+    if nat_lt 4095 slot then Err reason.Range
+    else if slice_index_or named slot false then Err reason.Slot
+    else Ok slot
+
+-- VCPU 0 to 7 of a page of the machine; `had` says of 8 times the page and the VCPU whether it had a list
+abbrev pub code_in : Machine → List Bool → ℕ → ℕ → Result CodePlace Reason
+code_in m had tdr index =
+    if not (nat_lt tdr m.pages && nat_lt index 8) then Err reason.Range
+    else if slice_index_or had (8 * tdr + index) false then Err reason.Repeated
+    else Ok (record { tdr = tdr; index = index })
+
+-- `code TDR INDEX`
+unfoldable pub code_of : Machine → List Bool → List (Option ℕ) → Result CodePlace Reason
+code_of m had ns = do
+  _ ← counted_of 2 ns
+  tdr ← number_at ns 0
+  index ← number_at ns 1
+  code_in m had tdr index
+
+abbrev pub operation_of : List ℕ → Option OpName
+operation_of word =
+    if bytes_eq word (codes "set") then Some op.Set
+    else if bytes_eq word (codes "secret") then Some op.Secret
+    else if bytes_eq word (codes "add") then Some op.Add
+    else if bytes_eq word (codes "load") then Some op.Load
+    else if bytes_eq word (codes "store") then Some op.Store
+    else if bytes_eq word (codes "accept") then Some op.Accept
+    else if bytes_eq word (codes "rtmr") then Some op.Rtmr
+    else if bytes_eq word (codes "vmcall") then Some op.Vmcall
+    else None
+
+abbrev pub first_operand_of : OpName → Operand
+first_operand_of op.Accept = operand.PageGpa
+first_operand_of op.Rtmr = operand.RtmrIndex
+first_operand_of _ = operand.Register
+
+abbrev pub second_operand_of : OpName → Option Operand
+second_operand_of op.Set = Some operand.Value
+second_operand_of op.Secret = Some operand.SecretWord
+second_operand_of op.Add = Some operand.Register
+second_operand_of op.Load = Some operand.WordGpa
+second_operand_of op.Store = Some operand.WordGpa
+second_operand_of _ = None
+
+-- registers 0 to 7, secret words 0 to 511, RTMRs 0 to 3; the addresses of words and of private pages
+abbrev pub is_operand : Operand → ℕ → Bool
+is_operand operand.Register n = nat_lt n 8
+is_operand operand.Value n = true
+is_operand operand.SecretWord n = nat_lt n 512
+is_operand operand.RtmrIndex n = nat_lt n 4
+is_operand operand.WordGpa n = nat_lt n (2 ^ 48) && (n % 8 == 0)
+is_operand operand.PageGpa n = nat_lt n (2 ^ 47) && (n % 4096 == 0)
+
+abbrev pub fits_second : Option Operand → ℕ → Bool
+fits_second None n = true
+fits_second (Some o) n = is_operand o n
+
+abbrev pub operand_count : OpName → ℕ
+operand_count o = if is_some (second_operand_of o) then 2 else 1
+
+-- as many numbers as the operation has operands, each in range
+abbrev pub operands_of : OpName → List (Option ℕ) → Result (Unit {0}) Reason
+operands_of o ns =
+    if not (length ns == operand_count o) then Err reason.Count
+    else if not (list_all is_some ns) then Err reason.Number
+    else if not (is_operand (first_operand_of o) (argument ns 0) && fits_second (second_operand_of o) (argument ns 1)) then Err reason.Range
+    else Ok tt

@@ -1,0 +1,43 @@
+-- Laws of scripts in a reader's terms.
+use Rattle.std.specs.Prelude.{◌≡◌, ℕ, ◌+◌, ◌^◌, ◌<◌, ◌≤◌, List, [], ◌∷◌, ◌++◌, length, Ok, Err, true}
+use Rattle.std.specs.List.{list_all}
+use Rattle.td_words.specs.declared.calls.Call.{Call}
+use Rattle.script_text.specs.declared.faults.Reason.{Reason}
+use Rattle.script_text.specs.declared.faults.Reason.TheVariants as reason
+use Rattle.script_text.specs.declared.faults.ScriptFault.TheVariants.{Bad}
+use Rattle.script_text.specs.Words.{pieces}
+use Rattle.script_text.specs.Reading.{SoFar, nothing_yet, line_of, ended_of, read_of}
+use Rattle.script_text.specs.Spelling.{fits_call, one_processor, script_text}
+
+-- a script that is written out is read again as that script
+pub record ScriptsReadAgain : Type 0 where
+  pub read_again :
+      (pages hkids : ℕ) (calls : List Call) → 8 ≤ pages → pages ≤ 1024 → 1 ≤ hkids → hkids ≤ 15 → length calls ≤ 4096 → list_all fits_call calls ≡ true
+      → read_of (script_text pages hkids calls) ≡ Ok (one_processor pages hkids calls)
+
+-- good lines, one after the other, and what they say
+pub data Good : List (List ℕ) → SoFar → Type 0 where
+  none : Good [] nothing_yet
+  more : (lines : List (List ℕ)) (d : SoFar) (line : List ℕ) (e : SoFar) → Good lines d → line_of d line ≡ Ok e → Good (lines ++ line ∷ []) e
+
+-- a line that a newline ends is bad by itself; what stands behind the last newline, by how a script must end
+abbrev pub IsBad : SoFar → ℕ → List ℕ → List (List ℕ) → Reason → Type 0
+IsBad d n piece [] r = ended_of d n piece ≡ Err (Bad n r)
+IsBad d n piece (next ∷ later) r = line_of d piece ≡ Err r
+
+-- line n is bad for that reason, and all lines before it are good
+pub record FirstBad (bytes : List ℕ) (n : ℕ) (r : Reason) : Type 0 where
+  pub front : List (List ℕ)
+  pub piece : List ℕ
+  pub back : List (List ℕ)
+  pub so_far : SoFar
+  pub cut : pieces bytes ≡ front ++ piece ∷ back
+  pub number : n ≡ length front + 1
+  pub good : Good front so_far
+  pub bad : IsBad so_far n piece back r
+
+-- a fault names the first bad line, and the first bad line is the fault
+pub record FaultsAreFirst : Type 0 where
+  pub names : (bytes : List ℕ) (n : ℕ) (r : Reason) → length bytes ≤ 2 ^ 24 → read_of bytes ≡ Err (Bad n r) → FirstBad bytes n r
+  pub found : (bytes : List ℕ) (n : ℕ) (r : Reason) → length bytes ≤ 2 ^ 24 → FirstBad bytes n r → read_of bytes ≡ Err (Bad n r)
+  pub long : (bytes : List ℕ) → 2 ^ 24 < length bytes → read_of bytes ≡ Err (Bad 0 reason.Length)

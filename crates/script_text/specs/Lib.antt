@@ -1,0 +1,11 @@
+pub mod Number
+pub mod Words
+pub mod ReasonText
+pub mod Mnemonics
+pub mod Line
+pub mod Seen
+pub mod Reading
+pub mod Blocks
+pub mod Schedule
+pub mod Spelling
+pub mod Laws

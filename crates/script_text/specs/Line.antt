@@ -1,0 +1,151 @@
+-- What one line says, by its first word and the numbers behind it, or the first reason why it is bad.
+use Rattle.std.specs.Prelude.{◌≡◌, ℕ, List, Option, Some, None, is_some, Result, Ok, Err, Bool, false, not, ◌&&◌, ◌==◌, nat_lt, nat_le, slice_index_or, ok_or, unwrap_or, length, if◌then◌else◌, codes}
+use Rattle.std.specs.List.{list_all}
+use Rattle.std.specs.Str.{bytes_eq}
+use Rattle.td_words.specs.declared.calls.Call.{Call}
+use Rattle.td_words.specs.declared.calls.Call.TheVariants as calls
+use Rattle.td_words.specs.declared.machines.Machine.{Machine}
+use Rattle.script_text.specs.declared.faults.Reason.{Reason}
+use Rattle.script_text.specs.declared.faults.Reason.TheVariants as reason
+use Rattle.script_text.specs.declared.faults.ScriptFault.{ScriptFault}
+use Rattle.script_text.specs.declared.faults.ScriptFault.TheVariants.{Bad, OutOfMemory}
+use Rattle.script_text.specs.declared.mnemonics.CallName.{CallName}
+use Rattle.script_text.specs.declared.mnemonics.CallName.TheVariants as name
+use Rattle.script_text.specs.declared.mnemonics.Mnemonic.{Mnemonic}
+use Rattle.script_text.specs.declared.lines.Keyword.{Keyword}
+use Rattle.script_text.specs.declared.lines.Keyword.TheVariants as keyword
+use Rattle.script_text.specs.declared.lines.Stage.{Stage}
+use Rattle.script_text.specs.declared.lines.Entry.{Entry}
+use Rattle.script_text.specs.declared.lines.Entry.TheVariants as entry
+use Rattle.script_text.specs.Mnemonics.{mnemonics, mnemonic_in}
+
+-- the next reason is looked for where none held so far
+infixl 10 ◌>>=◌
+abbrev pub ◌>>=◌ : {A B : Type 0} → Result A Reason → (A → Result B Reason) → Result B Reason
+(Ok x) >>= f = f x
+(Err e) >>= f = Err e
+
+-- what reading line n gives, unless memory ran out
+abbrev pub GivesAt : {A : Type 0} → ℕ → Result A Reason → A → Result (Unit {0}) ScriptFault → Type 0
+GivesAt n read new (Ok t) = read ≡ Ok new
+GivesAt n read new (Err (Bad m r)) = (m ≡ n) × (read ≡ Err r)
+GivesAt n read new (Err OutOfMemory) = Unit {0}
+
+abbrev pub keyword_of : List ℕ → Option Keyword
+keyword_of word =
+    if bytes_eq word (codes "machine") then Some keyword.Machine
+    else if bytes_eq word (codes "schedule") then Some keyword.Schedule
+    else if bytes_eq word (codes "code") then Some keyword.Code
+    else if bytes_eq word (codes "lp") then Some keyword.Lp
+    else if bytes_eq word (codes "end") then Some keyword.End
+    else None
+
+abbrev pub counted_of : ℕ → List (Option ℕ) → Result (Unit {0}) Reason
+counted_of n numbers = if length numbers == n then Ok tt else Err reason.Count
+
+abbrev pub number_at : List (Option ℕ) → ℕ → Result ℕ Reason
+number_at numbers i = ok_or (slice_index_or numbers i None) reason.Number
+
+unfoldable pub one_of : List (Option ℕ) → Result ℕ Reason
+one_of numbers = do
+  _ ← counted_of 1 numbers
+  number_at numbers 0
+
+unfoldable pub three_of : List (Option ℕ) → Result (ℕ × ℕ × ℕ) Reason
+three_of numbers = do
+  _ ← counted_of 3 numbers
+  x ← number_at numbers 0
+  y ← number_at numbers 1
+  z ← number_at numbers 2
+  Ok (x, y, z)
+
+-- 1 to 8 processors, 8 to 1,024 pages, 1 to 15 HKIDs
+abbrev pub in_limits : ℕ → ℕ → ℕ → Bool
+in_limits lps pages hkids = nat_le 1 lps && nat_le lps 8 && nat_le 8 pages && nat_le pages 1024 && nat_le 1 hkids && nat_le hkids 15
+
+-- a machine of more than one processor isn't built yet
+abbrev pub machine_in : ℕ → ℕ → ℕ → Result Entry Reason
+machine_in lps pages hkids =
+    if not (in_limits lps pages hkids) then Err reason.Range
+    else if not (lps == 1) then Err reason.Unbuilt
+    else Ok (entry.Machine (record { lps = lps; pages = pages; hkids = hkids }))
+
+unfoldable pub machine_of : List (Option ℕ) → Result Entry Reason
+machine_of numbers = do
+  m ← three_of numbers
+  machine_in m.0 m.1 m.2
+
+abbrev pub block_in : Machine → List Bool → ℕ → Result Entry Reason
+block_in m had lp =
+    if not (nat_lt lp m.lps) then Err reason.Range
+    else if slice_index_or had lp false then Err reason.Repeated
+    else Ok (entry.Open lp)
+
+-- `lp L`, where `had` says which processors had a block
+unfoldable pub block_of : Machine → List Bool → List (Option ℕ) → Result Entry Reason
+block_of m had numbers = do
+  lp ← one_of numbers
+  block_in m had lp
+
+unfoldable pub end_of : List (Option ℕ) → Result Entry Reason
+end_of numbers = do
+  _ ← counted_of 0 numbers
+  Ok entry.End
+
+-- the argument at a place, 0 where none is written
+abbrev pub argument : List (Option ℕ) → ℕ → ℕ
+argument numbers i = unwrap_or (slice_index_or numbers i None) 0
+
+-- the call of a mnemonic, as far as it is built
+abbrev pub built_of : CallName → List (Option ℕ) → Option Call
+built_of name.HostRead ns = Some (calls.HostRead (argument ns 0) (argument ns 1))
+built_of name.HostWrite ns = Some (calls.HostWrite (argument ns 0) (argument ns 1) (argument ns 2))
+built_of name.PhymemPageRdmd ns = Some (calls.PhymemPageRdmd (argument ns 0))
+built_of name.MngCreate ns = Some (calls.MngCreate (argument ns 0) (argument ns 1))
+built_of _ ns = None
+
+-- as many arguments as the mnemonic has, each a number
+abbrev pub judged_of : Option Call → Mnemonic → List (Option ℕ) → Result Call Reason
+judged_of None m ns = Err reason.Unbuilt
+judged_of (Some c) m ns =
+    if not (nat_le m.least (length ns) && nat_le (length ns) m.most) then Err reason.Count
+    else if not (list_all is_some ns) then Err reason.Number
+    else Ok c
+
+unfoldable pub call_of : ℕ → Option Mnemonic → List (Option ℕ) → Result Entry Reason
+call_of lp None ns = Err reason.Word
+call_of lp (Some m) ns = do
+  c ← judged_of (built_of m.call ns) m ns
+  Ok (entry.Call lp c)
+
+-- the first line that isn't skipped
+abbrev pub first_of : Option Keyword → List (Option ℕ) → Result Entry Reason
+first_of (Some keyword.Machine) ns = machine_of ns
+first_of _ ns = Err reason.Machine
+
+-- a later line outside blocks
+abbrev pub outside_of : Machine → List Bool → Option Keyword → List (Option ℕ) → Result Entry Reason
+outside_of m had (Some keyword.Machine) ns = Err reason.Machine
+outside_of m had (Some keyword.End) ns = Err reason.Place
+outside_of m had (Some keyword.Schedule) ns = Err reason.Unbuilt
+outside_of m had (Some keyword.Code) ns = Err reason.Unbuilt
+outside_of m had (Some keyword.Lp) ns = block_of m had ns
+outside_of m had None ns = Err reason.Word
+
+-- a line in a processor's block
+abbrev pub inside_of : ℕ → Option Keyword → List ℕ → List (Option ℕ) → Result Entry Reason
+inside_of lp (Some keyword.Machine) word ns = Err reason.Machine
+inside_of lp (Some keyword.Schedule) word ns = Err reason.Place
+inside_of lp (Some keyword.Code) word ns = Err reason.Place
+inside_of lp (Some keyword.Lp) word ns = Err reason.Place
+inside_of lp (Some keyword.End) word ns = end_of ns
+inside_of lp None word ns = call_of lp (mnemonic_in mnemonics word) ns
+
+abbrev pub placed_of : Option Machine → Option ℕ → List Bool → List ℕ → List (Option ℕ) → Result Entry Reason
+placed_of None block had word ns = first_of (keyword_of word) ns
+placed_of (Some m) None had word ns = outside_of m had (keyword_of word) ns
+placed_of (Some m) (Some lp) had word ns = inside_of lp (keyword_of word) word ns
+
+-- what a line says that isn't skipped
+unfoldable pub entry_of : Stage → List ℕ → List (Option ℕ) → Result Entry Reason
+entry_of s word ns = placed_of s.machine s.block s.had word ns

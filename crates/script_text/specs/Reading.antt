@@ -1,0 +1,87 @@
+-- A script, line by line.
+use Rattle.std.specs.Prelude.{◌≡◌, ℕ, ◌+◌, ◌^◌, List, [], ◌∷◌, ◌++◌, length, map, take, replicate, Option, Some, None, Result, Ok, Err, true, false, not, ◌==◌, nat_lt, nat_le, slice_index_or, slice_set, if◌then◌else◌}
+use Rattle.td_words.specs.declared.calls.Call.{Call}
+use Rattle.td_words.specs.declared.machines.Machine.{Machine}
+use Rattle.script_text.specs.declared.faults.Reason.{Reason}
+use Rattle.script_text.specs.declared.faults.Reason.TheVariants as reason
+use Rattle.script_text.specs.declared.faults.ScriptFault.{ScriptFault}
+use Rattle.script_text.specs.declared.faults.ScriptFault.TheVariants.{Bad, OutOfMemory}
+use Rattle.script_text.specs.declared.lines.Entry.{Entry}
+use Rattle.script_text.specs.declared.lines.Entry.TheVariants as entry
+use Rattle.script_text.specs.declared.lines.Stage.{Stage}
+use Rattle.script_text.specs.declared.drafts.Draft.{Draft}
+use Rattle.script_text.specs.Line.{entry_of, ◌>>=◌}
+use Rattle.script_text.specs.Number.{number}
+use Rattle.script_text.specs.Words.{pieces, words, is_printable, is_comment}
+use Rattle.script_text.specs.Seen.{ScriptSeen}
+
+-- what the lines so far said
+pub record SoFar : Type 0 where
+  pub stage : Stage
+  pub calls : List (List Call)
+
+abbrev pub draft_seen : Draft → SoFar
+draft_seen d = record { stage = d.stage; calls = map (λ list. list.items) d.calls.items }
+
+abbrev pub nothing_yet : SoFar
+nothing_yet = record { stage = record { machine = None; block = None; had = replicate 8 false }; calls = [] }
+
+-- at most 4,096 calls a processor
+abbrev pub with_call : List (List Call) → ℕ → Call → Result (List (List Call)) Reason
+with_call calls lp c =
+    if nat_le 4096 (length (slice_index_or calls lp [])) then Err reason.Full
+    else Ok (slice_set calls lp (slice_index_or calls lp [] ++ c ∷ []))
+
+-- a machine's processors have no calls yet; a block is open from its line to its `end`
+unfoldable pub entered_of : SoFar → Entry → Result SoFar Reason
+entered_of d (entry.Machine m) = Ok (record { stage = record { machine = Some m; block = d.stage.block; had = d.stage.had }; calls = replicate m.lps [] })
+entered_of d (entry.Open lp) = Ok (record { stage = record { machine = d.stage.machine; block = Some lp; had = slice_set d.stage.had lp true }; calls = d.calls })
+entered_of d entry.End = Ok (record { stage = record { machine = d.stage.machine; block = None; had = d.stage.had }; calls = d.calls })
+entered_of d (entry.Call lp c) = do
+  calls ← with_call d.calls lp c
+  Ok (record { stage = d.stage; calls = calls })
+
+-- a line without words and a comment are skipped
+unfoldable pub worded_of : SoFar → List (List ℕ) → Result SoFar Reason
+worded_of d [] = Ok d
+worded_of d (w ∷ ws) =
+    if is_comment w then Ok d else do
+      e ← entry_of d.stage w (map number ws)
+      entered_of d e
+
+-- six words tell whether there are too many
+unfoldable pub line_of : SoFar → List ℕ → Result SoFar Reason
+line_of d line = if not (is_printable line) then Err reason.Byte else worded_of d (take 6 (words line))
+
+-- a script ends outside blocks, and has a machine
+abbrev pub script_of : Option Machine → Option ℕ → List (List Call) → ℕ → Result ScriptSeen ScriptFault
+script_of None block calls n = Err (Bad n reason.Machine)
+script_of (Some m) (Some lp) calls n = Err (Bad n reason.Endless)
+script_of (Some m) None calls n = Ok (record { machine = m; schedule = []; codes = []; calls = calls })
+
+-- where the lines end; behind the last newline nothing may stand
+abbrev pub ended_of : SoFar → ℕ → List ℕ → Result ScriptSeen ScriptFault
+ended_of d n rest =
+    if not (length rest == 0) then Err (Bad n reason.Unterminated)
+    else script_of d.stage.machine d.stage.block d.calls n
+
+-- a line's fault, at its number
+abbrev pub then_on : Result SoFar Reason → ℕ → (SoFar → Result ScriptSeen ScriptFault) → Result ScriptSeen ScriptFault
+then_on (Ok d) n f = f d
+then_on (Err r) n f = Err (Bad n r)
+
+-- the pieces round the newlines, from line n on
+abbrev pub read_from : SoFar → ℕ → List (List ℕ) → Result ScriptSeen ScriptFault
+read_from d n [] = ended_of d n []
+read_from d n (piece ∷ more) =
+    if length more == 0 then ended_of d n piece else then_on (line_of d piece) n (λ e. read_from e (n + 1) more)
+
+-- the script that bytes say, or the first bad line with the first reason that holds
+unfoldable pub read_of : List ℕ → Result ScriptSeen ScriptFault
+read_of bytes = if nat_lt (2 ^ 24) (length bytes) then Err (Bad 0 reason.Length) else read_from nothing_yet 1 (pieces bytes)
+
+-- what reading gives, unless memory ran out
+abbrev pub Gives : Result ScriptSeen ScriptFault → Result ScriptSeen ScriptFault → Type 0
+Gives read (Ok s) = read ≡ Ok s
+Gives read (Err (Bad n r)) = read ≡ Err (Bad n r)
+Gives read (Err OutOfMemory) = Unit {0}

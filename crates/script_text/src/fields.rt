@@ -1,0 +1,60 @@
+//! Arguments that the grammar judges: field names and output slots.
+
+ghost use Rattle.std.specs.Prelude.{◌≡◌, slice_index_or, false};
+ghost use Rattle.script_text.specs.Blocks.{field_of, slot_place_of, slot_of};
+
+use crate::faults::Reason;
+use crate::mnemonics::{CallName, is};
+use td_words::ReadField;
+
+/// The field of MNG.RD that a word names, or NAME.
+pub fn field_at(word: &[u8]) -> Result<ReadField, Reason>
+    ensures { result ≡ field_of word.now }
+{
+    if is(word, "LIFE") {
+        Ok(ReadField::Life)
+    } else if is(word, "OP") {
+        Ok(ReadField::Op)
+    } else if is(word, "EPOCH") {
+        Ok(ReadField::Epoch)
+    } else if is(word, "MRTD") {
+        Ok(ReadField::Mrtd)
+    } else {
+        Err(Reason::Name)
+    }
+}
+
+/// Which argument of a call, from 0, is an output slot.
+pub fn slot_place(call: CallName) -> Option<usize>
+    ensures { result ≡ slot_place_of call }
+{
+    match call {
+        CallName::ExportStateImmutable => Some(1),
+        CallName::ExportMem => Some(3),
+        CallName::ExportTrack => Some(1),
+        CallName::ExportStateTd => Some(1),
+        CallName::ExportStateVp => Some(2),
+        CallName::ImportAbort => Some(1),
+        _ => None,
+    }
+}
+
+fn is_named(named: &[bool], slot: u64) -> bool
+    ensures { result ≡ slice_index_or named.now slot false }
+{
+    slot < named.len() as u64 && named[slot as usize]
+}
+
+/// The output slot that a number is: RANGE above 4,095, SLOT where an earlier line named it, as
+/// `named` says.
+pub fn output_slot(named: &[bool], number: u64) -> Result<u16, Reason>
+    ensures { result ≡ slot_of named.now number }
+{
+    if number > 4095 {
+        return Err(Reason::Range);
+    }
+    if is_named(named, number) {
+        return Err(Reason::Slot);
+    }
+    Ok(number as u16)
+}

@@ -1,0 +1,279 @@
+//! What one line says.
+
+ghost use Rattle.std.specs.Prelude.{◌≡◌, ◌<◌, length, is_some, slice_index_or, false};
+ghost use Rattle.std.specs.List.{list_all};
+ghost use Rattle.script_text.specs.Mnemonics.{mnemonics, mnemonic_in};
+ghost use Rattle.script_text.specs.Line.{keyword_of, counted_of, number_at, one_of, three_of, in_limits, machine_in, machine_of, block_in, block_of, end_of, argument, built_of, judged_of, call_of, first_of, outside_of, inside_of, entry_of};
+
+use crate::faults::Reason;
+use crate::mnemonics::{CallName, Mnemonic, is, mnemonic_at};
+use td_words::{Call, Machine};
+
+/// The first word of a line that isn't a call.
+#[derive(Clone, Copy, Debug, PartialEq, Eq)]
+pub enum Keyword {
+    Machine,
+    Schedule,
+    Code,
+    Lp,
+    End,
+}
+
+/// What stood before a line: the machine, the processor whose block is open, and which
+/// processors had a block.
+#[derive(Clone, Copy, Debug, PartialEq, Eq)]
+pub struct Stage {
+    pub machine: Option<Machine>,
+    pub block: Option<u8>,
+    pub had: [bool; 8],
+}
+
+/// What a line says that isn't skipped.
+#[derive(Clone, Copy, Debug, PartialEq, Eq)]
+pub enum Entry {
+    Machine(Machine),
+    /// The block of that processor begins.
+    Open(u8),
+    End,
+    /// A call of that processor.
+    Call(u8, Call),
+}
+
+fn keyword_at(word: &[u8]) -> Option<Keyword>
+    ensures { result ≡ keyword_of word.now }
+{
+    if is(word, "machine") {
+        Some(Keyword::Machine)
+    } else if is(word, "schedule") {
+        Some(Keyword::Schedule)
+    } else if is(word, "code") {
+        Some(Keyword::Code)
+    } else if is(word, "lp") {
+        Some(Keyword::Lp)
+    } else if is(word, "end") {
+        Some(Keyword::End)
+    } else {
+        None
+    }
+}
+
+pub fn check_count(numbers: &[Option<u64>], count: usize) -> Result<(), Reason>
+    ensures { result ≡ counted_of count numbers.now }
+{
+    if numbers.len() == count {
+        Ok(())
+    } else {
+        Err(Reason::Count)
+    }
+}
+
+pub fn number_of(numbers: &[Option<u64>], i: usize) -> Result<u64, Reason>
+    requires { i < length numbers.now }
+    ensures { result ≡ number_at numbers.now i }
+{
+    numbers[i].ok_or(Reason::Number)
+}
+
+#[tactic(auto, unfolding(crate::specs::Line::one_of))]
+fn one(numbers: &[Option<u64>]) -> Result<u64, Reason>
+    ensures { result ≡ one_of numbers.now }
+{
+    check_count(numbers, 1)?;
+    number_of(numbers, 0)
+}
+
+#[tactic(auto, unfolding(crate::specs::Line::three_of))]
+fn three(numbers: &[Option<u64>]) -> Result<(u64, u64, u64), Reason>
+    ensures { result ≡ three_of numbers.now }
+{
+    check_count(numbers, 3)?;
+    let first = number_of(numbers, 0)?;
+    let second = number_of(numbers, 1)?;
+    let third = number_of(numbers, 2)?;
+    Ok((first, second, third))
+}
+
+fn is_in_limits(lps: u64, pages: u64, hkids: u64) -> bool
+    ensures { result ≡ in_limits lps pages hkids }
+{
+    1 <= lps && lps <= 8 && 8 <= pages && pages <= 1024 && 1 <= hkids && hkids <= 15
+}
+
+fn machine_at(lps: u64, pages: u64, hkids: u64) -> Result<Entry, Reason>
+    ensures { result ≡ machine_in lps pages hkids }
+{
+    if !is_in_limits(lps, pages, hkids) {
+        return Err(Reason::Range);
+    }
+    if lps != 1 {
+        return Err(Reason::Unbuilt);
+    }
+    Ok(Entry::Machine(Machine {
+        lps: lps as u8,
+        pages: pages as u16,
+        hkids: hkids as u8,
+    }))
+}
+
+#[tactic(auto, unfolding(crate::specs::Line::machine_of))]
+fn machine_line(numbers: &[Option<u64>]) -> Result<Entry, Reason>
+    ensures { result ≡ machine_of numbers.now }
+{
+    let (lps, pages, hkids) = three(numbers)?;
+    machine_at(lps, pages, hkids)
+}
+
+fn had_block(had: &[bool; 8], lp: u8) -> bool
+    ensures { result ≡ slice_index_or had.now lp false }
+{
+    usize::from(lp) < had.len() && had[usize::from(lp)]
+}
+
+fn block_at(machine: Machine, had: &[bool; 8], lp: u64) -> Result<Entry, Reason>
+    ensures { result ≡ block_in machine had.now lp }
+{
+    if lp >= u64::from(machine.lps) {
+        return Err(Reason::Range);
+    }
+    let lp = lp as u8;
+    if had_block(had, lp) {
+        return Err(Reason::Repeated);
+    }
+    Ok(Entry::Open(lp))
+}
+
+#[tactic(auto, unfolding(crate::specs::Line::block_of))]
+fn block_line(machine: Machine, had: &[bool; 8], numbers: &[Option<u64>]) -> Result<Entry, Reason>
+    ensures { result ≡ block_of machine had.now numbers.now }
+{
+    let lp = one(numbers)?;
+    block_at(machine, had, lp)
+}
+
+#[tactic(auto, unfolding(crate::specs::Line::end_of))]
+fn end_line(numbers: &[Option<u64>]) -> Result<Entry, Reason>
+    ensures { result ≡ end_of numbers.now }
+{
+    check_count(numbers, 0)?;
+    Ok(Entry::End)
+}
+
+pub fn argument(numbers: &[Option<u64>], i: usize) -> u64
+    ensures { result ≡ argument numbers.now i }
+{
+    if i < numbers.len() {
+        numbers[i].unwrap_or(0)
+    } else {
+        0
+    }
+}
+
+fn built(call: CallName, numbers: &[Option<u64>]) -> Option<Call>
+    ensures { result ≡ built_of call numbers.now }
+{
+    let first = argument(numbers, 0);
+    let second = argument(numbers, 1);
+    let third = argument(numbers, 2);
+    match call {
+        CallName::HostRead => Some(Call::HostRead {
+            page: first,
+            word: second,
+        }),
+        CallName::HostWrite => Some(Call::HostWrite {
+            page: first,
+            word: second,
+            value: third,
+        }),
+        CallName::PhymemPageRdmd => Some(Call::PhymemPageRdmd { page: first }),
+        CallName::MngCreate => Some(Call::MngCreate {
+            tdr: first,
+            hkid: second,
+        }),
+        _ => None,
+    }
+}
+
+pub fn are_numbers(numbers: &[Option<u64>]) -> bool
+    ensures { result ≡ list_all is_some numbers.now }
+{
+    numbers.iter().all(|number| number.is_some())
+}
+
+fn judged(call: Option<Call>, mnemonic: Mnemonic, numbers: &[Option<u64>]) -> Result<Call, Reason>
+    ensures { result ≡ judged_of call mnemonic numbers.now }
+{
+    let call = call.ok_or(Reason::Unbuilt)?;
+    if numbers.len() < mnemonic.least || numbers.len() > mnemonic.most {
+        return Err(Reason::Count);
+    }
+    if !are_numbers(numbers) {
+        return Err(Reason::Number);
+    }
+    Ok(call)
+}
+
+#[tactic(auto, unfolding(crate::specs::Line::call_of))]
+fn call_line(lp: u8, mnemonic: Option<Mnemonic>, numbers: &[Option<u64>]) -> Result<Entry, Reason>
+    ensures { result ≡ call_of lp mnemonic numbers.now }
+{
+    let mnemonic = mnemonic.ok_or(Reason::Word)?;
+    let call = judged(built(mnemonic.call, numbers), mnemonic, numbers)?;
+    Ok(Entry::Call(lp, call))
+}
+
+fn first_at(keyword: Option<Keyword>, numbers: &[Option<u64>]) -> Result<Entry, Reason>
+    ensures { result ≡ first_of keyword numbers.now }
+{
+    match keyword {
+        Some(Keyword::Machine) => machine_line(numbers),
+        _ => Err(Reason::Machine),
+    }
+}
+
+fn outside_at(
+    machine: Machine,
+    had: &[bool; 8],
+    keyword: Option<Keyword>,
+    numbers: &[Option<u64>],
+) -> Result<Entry, Reason>
+    ensures { result ≡ outside_of machine had.now keyword numbers.now }
+{
+    match keyword {
+        Some(Keyword::Machine) => Err(Reason::Machine),
+        Some(Keyword::End) => Err(Reason::Place),
+        Some(Keyword::Schedule) | Some(Keyword::Code) => Err(Reason::Unbuilt),
+        Some(Keyword::Lp) => block_line(machine, had, numbers),
+        None => Err(Reason::Word),
+    }
+}
+
+fn inside_at(
+    lp: u8,
+    keyword: Option<Keyword>,
+    word: &[u8],
+    numbers: &[Option<u64>],
+) -> Result<Entry, Reason>
+    ensures { result ≡ inside_of lp keyword word.now numbers.now }
+{
+    match keyword {
+        Some(Keyword::Machine) => Err(Reason::Machine),
+        Some(Keyword::End) => end_line(numbers),
+        Some(_) => Err(Reason::Place),
+        None => call_line(lp, mnemonic_at(word), numbers),
+    }
+}
+
+/// What a line says whose first word is that and whose other words are those numbers.
+#[tactic(auto, unfolding(crate::specs::Line::entry_of))]
+pub fn entry_at(stage: &Stage, word: &[u8], numbers: &[Option<u64>]) -> Result<Entry, Reason>
+    ensures { result ≡ entry_of stage.now word.now numbers.now }
+{
+    let keyword = keyword_at(word);
+    match stage.machine {
+        None => first_at(keyword, numbers),
+        Some(machine) => match stage.block {
+            None => outside_at(machine, &stage.had, keyword, numbers),
+            Some(lp) => inside_at(lp, keyword, word, numbers),
+        },
+    }
+}

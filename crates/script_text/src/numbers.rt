@@ -1,0 +1,71 @@
+//! Numbers of a script.
+
+ghost use Rattle.std.specs.Prelude.{◌≡◌, map, IfOk};
+ghost use Rattle.script_text.specs.Number.{digit, number_on, digits_in, is_prefixed, number};
+
+use std::alloc::{AllocError, Global};
+
+/// A digit's value; 99 where the byte is no digit.
+fn digit(byte: u8) -> u8
+    ensures { result ≡ digit byte }
+{
+    match byte {
+        b'0'..=b'9' => byte - b'0',
+        b'a'..=b'f' => byte - b'a' + 10,
+        b'A'..=b'F' => byte - b'A' + 10,
+        _ => 99,
+    }
+}
+
+fn digits_at(base: u8, word: &[u8]) -> Option<u64>
+    ensures { result ≡ number_on base 0 word.now }
+{
+    let mut value = 0u64;
+    for byte in word {
+        let digit = digit(*byte);
+        if digit >= base {
+            return None;
+        }
+        value = value
+            .checked_mul(u64::from(base))?
+            .checked_add(u64::from(digit))?;
+    }
+    Some(value)
+}
+
+fn in_base(base: u8, word: &[u8]) -> Option<u64>
+    ensures { result ≡ digits_in base word.now }
+{
+    if word.is_empty() {
+        return None;
+    }
+    digits_at(base, word)
+}
+
+fn is_prefixed(word: &[u8]) -> bool
+    ensures { result ≡ is_prefixed word.now }
+{
+    word.len() >= 2 && word[0] == b'0' && word[1] == b'x'
+}
+
+/// The number that a word is: decimal digits, or `0x` and hexadecimal digits, below 2^64.
+pub fn number(word: &[u8]) -> Option<u64>
+    ensures { result ≡ number word.now }
+{
+    if is_prefixed(word) && word.len() >= 2 {
+        in_base(16, &word[2..])
+    } else {
+        in_base(10, word)
+    }
+}
+
+/// What words are as numbers.
+pub fn numbers(alloc: Global, words: &[&[u8]]) -> Result<Vec<Option<u64>>, AllocError>
+    ensures { IfOk result (λ v. v.items ≡ map number (map (λ w. w.now) words.now)) }
+{
+    let mut numbers = Vec::new(alloc);
+    for word in words {
+        numbers.push(number(word))?;
+    }
+    Ok(numbers)
+}

@@ -1,0 +1,85 @@
+//! Scripts.
+
+ghost use Rattle.std.specs.Prelude.{◌≡◌, ◌≤◌, ◌^◌, length};
+ghost use Rattle.script_text.specs.Reading.{Gives, read_of, read_from, ended_of, nothing_yet, draft_seen};
+ghost use Rattle.script_text.specs.Words.{pieces};
+
+use crate::drafts::{Draft, take_line};
+use crate::faults::{Reason, ScriptFault, bad};
+use crate::lines::Stage;
+use crate::words::first_line;
+use std::alloc::Global;
+use std::marker::Model;
+use td_words::{Call, Code, Machine};
+
+/// What a script says: the machine, the schedule's items written out, the lists of guest
+/// operations, and one list of calls for each logical processor, in order.
+#[derive(Drop)]
+pub struct Script {
+    pub machine: Machine,
+    pub schedule: Vec<u8>,
+    pub codes: Vec<Code>,
+    pub calls: Vec<Vec<Call>>,
+}
+
+impl Model for Script {
+    ghost use Rattle.std.specs.Prelude.{map};
+    ghost use Rattle.script_text.specs.Seen.{ScriptSeen};
+
+    ghost Value = { ScriptSeen };
+
+    ghost view = { λ s. record { machine = s.machine; schedule = s.schedule.items; codes = s.codes.items; calls = map (λ list. list.items) s.calls.items } };
+}
+
+fn ended(alloc: Global, draft: Draft, number: u64, rest: &[u8]) -> Result<Script, ScriptFault>
+    ensures { result ≡ ended_of (draft_seen draft) number rest.now }
+{
+    if !rest.is_empty() {
+        return Err(bad(number, Reason::Unterminated));
+    }
+    let Some(machine) = draft.stage.machine else {
+        return Err(bad(number, Reason::Machine));
+    };
+    match draft.stage.block {
+        Some(_) => Err(bad(number, Reason::Endless)),
+        None => Ok(Script {
+            machine,
+            schedule: Vec::new(alloc),
+            codes: Vec::new(alloc),
+            calls: draft.calls,
+        }),
+    }
+}
+
+fn read_lines(alloc: Global, bytes: &[u8]) -> Result<Script, ScriptFault>
+    requires { length bytes.now ≤ 2 ^ 24 }
+    ensures { Gives (read_from nothing_yet 1 (pieces bytes.now)) result }
+{
+    let mut draft = Draft {
+        stage: Stage {
+            machine: None,
+            block: None,
+            had: [false; 8],
+        },
+        calls: Vec::new(alloc),
+    };
+    let mut number = 1;
+    let mut rest = bytes;
+    while let Some((line, more)) = first_line(rest) {
+        take_line(&mut draft, alloc, number, line)?;
+        number += 1;
+        rest = more;
+    }
+    ended(alloc, draft, number, rest)
+}
+
+/// The script that the bytes say, or the first bad line with the first reason that holds.
+#[tactic(auto, unfolding(crate::specs::Reading::read_of))]
+pub fn read_script(alloc: Global, bytes: &[u8]) -> Result<Script, ScriptFault>
+    ensures { Gives (read_of bytes.now) result }
+{
+    if bytes.len() > 1 << 24 {
+        return Err(bad(0, Reason::Length));
+    }
+    read_lines(alloc, bytes)
+}
