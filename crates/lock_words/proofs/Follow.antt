@@ -1,7 +1,6 @@
 -- Each lock's word follows each event.
-use Rattle.std.proofs.Common.{◌≡◌, refl, sym, ◌∙◌, ap, subst, ℕ, zero, suc, ◌+◌, ◌*◌, ◌^◌, ◌<◌, ◌≤◌, Bool, true, false, ◌==◌, ◌&&◌, not, nat_lt, if◌then◌else◌, List, [], ◌∷◌, length, arith}
-use Rattle.std.specs.Prelude.{Option, Some, None, option_map, nat_le}
-use Rattle.std.proofs.lemmas.Bool.{eq-eqb, eqb-true, eqb-false}
+use Rattle.std.proofs.Common.{◌≡◌, refl, sym, subst, ℕ, zero, suc, ◌+◌, ◌*◌, ◌^◌, ◌<◌, Bool, true, false, ◌==◌, ◌&&◌, not, nat_lt, List, [], ◌∷◌, length, arith}
+use Rattle.std.specs.Prelude.{Option, Some, None, nat_le}
 use Rattle.std.proofs.lemmas.Bool.Decides.{nat_tests}
 use Rattle.td_words.specs.declared.names.LockName.{LockName}
 use Rattle.td_words.specs.declared.names.Mode.{Mode}
@@ -14,16 +13,16 @@ use Rattle.td_words.specs.declared.replies.Outcome.TheVariants.{Stop, Max}
 use Rattle.td_words.specs.declared.replies.Reply.{Reply}
 use Rattle.td_words.specs.declared.replies.Reply.TheVariants.{Done}
 use Rattle.flat_core.specs.World.{World, put}
-use Rattle.flat_core.specs.Processor.{LockId, Held, Phase, Trying, Undoing, Answered, Progress, Guest, Entering, Lp, nothing_yet}
-use Rattle.flat_core.specs.Locks.{same_lock, is_alone, one_if, alone_in, shared_in, refused_in, alone_of, shared_of, refused_of, guest_alone, guest_shared, guest_refused, sum_below, holders, sharers, refusals, grants}
+use Rattle.flat_core.specs.Processor.{LockId, Held, Phase, Trying, Undoing, Answered, Progress, Guest, Entering, Lp}
+use Rattle.flat_core.specs.Locks.{same_lock, is_alone, one_if, alone_in, shared_in, refused_in, alone_of, shared_of, refused_of, guest_alone, guest_shared, guest_refused, holders, sharers, refusals, grants}
 use Rattle.flat_core.specs.Opening.{Opening}
 use Rattle.flat_core.specs.Row.{Item, Check, Try, Row, OperationRow, Move, Attempts, Undoes, Refuses, Succeeds, Releases, Rests, next, next_in, after_move}
 use Rattle.flat_core.specs.Guest.{Operation, ByRow, Private, operation_of, walk_step, walked_on, goes_on, walk_level, walked_entry, answered}
 use Rattle.td_words.specs.Packing.{Entry}
 use Rattle.flat_core.specs.Table.{row_of}
-use Rattle.flat_core.specs.Event.{State, Event, OfCall, OfOperation, Walks, Reaches, Leaves, next_event, event_for, line_event, entered_event, epoch_event, is_epoch_lock, guest_event, staying_event, due_event, max_event, operation_event, private_event, operation_due, nothing_more, lines_left, lp_after, call_lp, succeeded, settle, settled, settle_operation, settled_guest, operation_guest, call_busy, operation_busy, is_granted, event, after_event}
+use Rattle.flat_core.specs.Event.{State, Event, OfCall, OfOperation, Walks, Reaches, Leaves, event_for, line_event, entered_event, epoch_event, is_epoch_lock, guest_event, staying_event, due_event, max_event, operation_event, private_event, operation_due, nothing_more, lines_left, lp_after, call_lp, succeeded, settle, settled, settle_operation, settled_guest, call_busy, operation_busy, is_granted, event}
 use Rattle.word_rules.specs.Cells.{lock_word}
-use Rattle.lock_words.specs.LockWords.{weight_of, weight_at, move_adds, move_takes_off, adds, takes_off, LetsGo, has_let_go, IsNext, LockWordsFollow}
+use Rattle.lock_words.specs.LockWords.{weight_at, move_adds, move_takes_off, adds, takes_off, LetsGo, has_let_go, IsNext, LockWordsFollow}
 use Rattle.lock_words.proofs.Sums.{by_test, sum-put}
 
 -- what a call's or an operation's progress adds to a lock's word

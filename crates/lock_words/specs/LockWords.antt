@@ -1,5 +1,5 @@
 -- Lock words follow the states of locks, through every try, undo and release.
-use Rattle.std.specs.Prelude.{◌≡◌, ◌⊎◌, ℕ, ◌+◌, ◌^◌, ◌<◌, Bool, true, false, ◌==◌, nat_lt, if◌then◌else◌, Option, Some, None, List, [], ◌∷◌, length, slice_index}
+use Rattle.std.specs.Prelude.{◌≡◌, ℕ, ◌+◌, ◌^◌, ◌<◌, Bool, true, false, ◌==◌, nat_lt, if◌then◌else◌, Option, Some, None, List, [], ◌∷◌, length, slice_index}
 use Rattle.td_words.specs.declared.names.LockName.TheVariants as name
 use Rattle.td_words.specs.declared.calls.Call.{Call}
 use Rattle.td_words.specs.declared.names.OpState.{OpState}
@@ -8,12 +8,12 @@ use Rattle.td_words.specs.declared.names.Mode.TheVariants.{Shared, Exclusive}
 use Rattle.td_words.specs.declared.machines.Machine.{Machine}
 use Rattle.td_words.specs.Place.{WordPlace, IsIn, same_place, lock_place}
 use Rattle.flat_core.specs.World.{World}
-use Rattle.flat_core.specs.Processor.{LockId, OfPage, OfOp, OfTree, OfEpoch, OfRtmr, OfKeys, Held, Trying, Guest, Lp, nothing_yet}
-use Rattle.flat_core.specs.Locks.{same_lock, one_if, holders, sharers, refusals, grants}
+use Rattle.flat_core.specs.Processor.{LockId, OfPage, OfOp, OfTree, OfEpoch, OfRtmr, OfKeys, Trying, Guest, Lp, nothing_yet}
+use Rattle.flat_core.specs.Locks.{same_lock, sharers, refusals, grants}
 use Rattle.flat_core.specs.Lawful.{Lawful, IsAlive}
 use Rattle.flat_core.specs.Opening.{Opening}
-use Rattle.flat_core.specs.Row.{Move, Attempts, Undoes, Refuses, Succeeds, Releases, Rests, Passes, next_in}
-use Rattle.flat_core.specs.Event.{State, Event, OfCall, OfOperation, Walks, Reaches, Leaves, start, next_event, calls_of, is_granted, event}
+use Rattle.flat_core.specs.Row.{Move, Attempts, Undoes, Releases, Passes, next_in}
+use Rattle.flat_core.specs.Event.{State, Event, OfCall, OfOperation, Leaves, start, next_event, calls_of, is_granted, event}
 use Rattle.flat_core.specs.Conditions.{td_row}
 use Rattle.flat_core.specs.Table.{row_of}
 use Rattle.flat_core.specs.Laws.{IsQuiet}
