@@ -1,5 +1,5 @@
 -- Each row's act keeps what every world keeps.
-use Rattle.std.proofs.Common.{lit<, lit≤, ◌≡◌, ◌≢◌, refl, sym, ◌∙◌, subst, ap, ℕ, suc, ◌<◌, List, [], ◌∷◌, Option, Some, None, Bool, true, false, ◌==◌, nat_lt, arith}
+use Rattle.std.proofs.Common.{lit<, lit≤, ◌≡◌, ◌≢◌, refl, sym, ◌∙◌, subst, ap, ℕ, suc, ◌<◌, ◌≤◌, List, [], ◌∷◌, Option, Some, None, Bool, true, false, ◌==◌, ◌&&◌, nat_lt, nat_le, arith}
 use Rattle.std.proofs.lemmas.Bool.{eq-eqb, eqb-true}
 use Rattle.std.proofs.lemmas.Bool.Decides.{nat_tests}
 use Rattle.td_words.specs.declared.names.PageKind.{PageKind}
@@ -31,6 +31,12 @@ kind_owned _ h = refl
 
 lt_of : (a b : ℕ) → nat_lt a b ≡ true → a < b
 lt_of a b h = grind (arith, nat_tests)
+
+range_of : (h n : ℕ) → (nat_le 1 h && nat_le h n) ≡ true → (1 ≤ h) × (h ≤ n)
+range_of h n e = (grind (arith, nat_tests), grind (arith, nat_tests))
+
+some_same : (a b : ℕ) → Some a ≡ Some b → a ≡ b
+some_same a b e = cc
 
 same_self : (n : ℕ) → (n == n) ≡ true
 same_self n = eq-eqb n n refl
@@ -140,8 +146,27 @@ module _ (count : ℕ) (old : Pages) (tds : Tds) (table : KeyTable) (t h : ℕ) 
   taken_key (AssignedTo y) x e n = cc
   taken_key (FlushedOf y b) x e n = cc
 
-  new_keys : LawfulKeys old tds table → LawfulKeys pages begun (record table { keys = put table.keys h (AssignedTo t) })
-  new_keys l = record {
+  alive_now : IsAlive pages begun t
+  alive_now = record { kind = rw (same_self t) refl; life = rw (same_self t) refl }
+
+  alive_still : (x : ℕ) → (x == t) ≡ false → IsAlive old tds x → IsAlive pages begun x
+  alive_still x e a = record { kind = rw e a.kind; life = rw e a.life }
+
+  not_here : (x : ℕ) → IsAlive old tds x → (x == t) ≡ true → ⊥
+  not_here x a e = let no : kind.Nda ≡ kind.Tdr = sym host ∙ (ap old.kinds (sym (eqb-true x t e)) ∙ a.kind) in cc
+
+  here_owned : (x : ℕ) → Some t ≡ Some x → IsAlive pages begun x × (begun.hkids x ≡ h)
+  here_owned x e = subst (λ (y : ℕ). IsAlive pages begun y × (begun.hkids y ≡ h)) (some_same t x e) (alive_now, rw (same_self t) refl)
+
+  still_owned : (g x : ℕ) → IsAlive old tds x × (tds.hkids x ≡ g) → IsAlive pages begun x × (begun.hkids x ≡ g)
+  still_owned g x o = by_test (x == t) (λ y. absurd (not_here x o.0 y)) (λ y. (alive_still x y o.0, rw y o.1))
+
+  new_keys : (count : ℕ) → (1 ≤ h) × (h ≤ count) → LawfulKeys count old tds table → LawfulKeys count pages begun (record table { keys = put table.keys h (AssignedTo t) })
+  new_keys count range l = record {
+    in_range = λ x a. by_test (x == t) (λ y. rw y range) (λ y. rw y (l.in_range x (alive_before x y a)));
+    owned = λ g x. by_test (g == h)
+        (λ y e. rw (eqb-true g h y) (here_owned x (rw y at e)))
+        (λ y e. still_owned g x (l.owned g x (rw y at e)));
     owner = λ x a. by_test (x == t)
         (λ y. rw (y, same_self h) (ap (λ (n : ℕ). Some n) (sym (eqb-true x t y))))
         (λ y. (let before = l.owner x (alive_before x y a) in
@@ -160,7 +185,7 @@ create-keeps m t h = record {
         pages = new_pages m.pages w.pages t host l.pages small;
         tds = new_tds m.pages w.pages w.tds w.key_table t h host l.pages small free_hkid l.tds;
         tree = new_tree m.pages w.pages w.tds w.key_table t h host l.pages small free_hkid l.tree;
-        keys = new_keys m.pages w.pages w.tds w.key_table t h host l.pages small free_hkid l.keys;
+        keys = new_keys m.pages w.pages w.tds w.key_table t h host l.pages small free_hkid m.hkids (range_of h m.hkids ps.1.0) l.keys;
       });
 }
 
@@ -176,5 +201,9 @@ first-lawful m ws = record {
   pages = record { tdr = λ t h. cc; owner = λ p h. cc; in_machine = λ p h. cc; host = λ p h. (refl, refl); blocked = λ p. lit< tt };
   tds = record { controls = λ t a. tt; vps = λ t a. tt; streams = λ t a. tt; vps_few = λ t. lit≤ tt; vps_differ = λ t. refl; streams_few = λ t. lit≤ tt; streams_differ = λ t. refl; epoch = λ t. lit< tt };
   tree = record { entry = λ t l n. refl; upper = λ t l n a h. absurd (let no : true ≡ false = h in cc); leaf = λ t n a h. absurd (let no : true ≡ false = h in cc); named = λ p h a. cc };
-  keys = record { owner = λ t a. absurd (let no : kind.Nda ≡ kind.Tdr = a.kind in cc) };
+  keys = record {
+    in_range = λ t a. absurd (let no : kind.Nda ≡ kind.Tdr = a.kind in cc);
+    owner = λ t a. absurd (let no : kind.Nda ≡ kind.Tdr = a.kind in cc);
+    owned = λ h t e. absurd (let no : None ≡ Some t = e in cc);
+  };
 }

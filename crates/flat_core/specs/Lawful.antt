@@ -95,9 +95,11 @@ key_owner Unassigned = None
 key_owner (AssignedTo t) = Some t
 key_owner (FlushedOf t b) = Some t
 
--- the HKID of a TD that is alive is its own
-pub record LawfulKeys (pages : Pages) (tds : Tds) (table : KeyTable) : Type 0 where
+-- the HKID of a TD that is alive is one of the machine's and is its own; and each HKID that isn't free is that of such a TD
+pub record LawfulKeys (count : ℕ) (pages : Pages) (tds : Tds) (table : KeyTable) : Type 0 where
+  pub in_range : (t : ℕ) → IsAlive pages tds t → (1 ≤ tds.hkids t) × (tds.hkids t ≤ count)
   pub owner : (t : ℕ) → IsAlive pages tds t → key_owner (table.keys (tds.hkids t)) ≡ Some t
+  pub owned : (h t : ℕ) → key_owner (table.keys h) ≡ Some t → IsAlive pages tds t × (tds.hkids t ≡ h)
 
 -- what every world of a machine keeps
 pub record Lawful (m : Machine) (w : World) : Type 0 where
@@ -105,7 +107,7 @@ pub record Lawful (m : Machine) (w : World) : Type 0 where
   pub pages : LawfulPages m.pages w.pages
   pub tds : LawfulTds w.pages w.tds
   pub tree : LawfulTree w.pages w.tds
-  pub keys : LawfulKeys w.pages w.tds w.key_table
+  pub keys : LawfulKeys m.hkids w.pages w.tds w.key_table
 
 -- a row whose act keeps it, where its conditions held
 pub record RowKeeps (m : Machine) (row : Row) : Type 0 where
