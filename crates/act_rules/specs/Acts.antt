@@ -4,25 +4,25 @@ use Rattle.std.specs.Prelude.{◌≡◌, ◌⊎◌, ℕ, Bool, true, false}
 use Rattle.td_words.specs.declared.names.PageKind.{PageKind}
 use Rattle.td_words.specs.declared.names.LifeState.{LifeState}
 use Rattle.td_words.specs.declared.names.OpState.{OpState}
+use Rattle.td_words.specs.declared.machines.Machine.{Machine}
 use Rattle.td_words.specs.Packing.{Entry, Key}
 use Rattle.td_words.specs.Place.{Word}
 use Rattle.flat_core.specs.World.{World}
 use Rattle.flat_core.specs.Processor.{OfPage, OfOp, OfTree, OfEpoch, OfKeys}
-use Rattle.flat_core.specs.Lawful.{key_owner}
+use Rattle.flat_core.specs.Lawful.{key_owner, Lawful}
 use Rattle.flat_core.specs.Conditions.{is_host}
 use Rattle.flat_core.specs.Effects.{take_node, give_back, set_entry, set_op, set_epoch, set_life, set_key, leave_guest}
 use Rattle.word_rules.specs.Guards.{Grip, Locked}
 use Rattle.word_rules.specs.Permissions.{MayAt, Moves, Respects}
 use Rattle.word_rules.specs.Rules.{moves}
-use Rattle.word_rules.specs.Spots.{slot_spot}
+use Rattle.word_rules.specs.Spots.{slot_spot, is_empty}
 
 -- all that tells of a TD what its words are
 pub record SameTd (before after : World) (t : ℕ) : Type 0 where
   pub op : after.tds.ops t ≡ before.tds.ops t
   pub controls : after.tds.controls t ≡ before.tds.controls t
   pub epoch : after.tds.epochs t ≡ before.tds.epochs t
-  pub vps : after.tds.vps t ≡ before.tds.vps t
-  pub entered : after.vps.entered ≡ before.vps.entered
+  pub empty : (b : ℕ) → is_empty after t b ≡ is_empty before t b
   pub named : (n : ℕ) → (after.tds.entries t 0 n).page ≡ (before.tds.entries t 0 n).page
 
 -- of every TD and page
@@ -37,8 +37,8 @@ pub record SameWords (before after : World) : Type 0 where
 -- registers or memories alone
 pub record SameSpots (before after : World) : Type 0 where
   pub words : SameWords before after
-  pub keys : (h : ℕ) → key_owner (after.key_table.keys h) ≡ key_owner (before.key_table.keys h)
   pub lives : after.tds.lives ≡ before.tds.lives
+  pub keys : (h : ℕ) → key_owner (after.key_table.keys h) ≡ key_owner (before.key_table.keys h)
 
 -- P of the TDR page and O are held
 pub record HoldsTd (g : Grip) (t : ℕ) : Type 0 where
@@ -54,7 +54,8 @@ pub record ActsRespect (g : Grip) (w : World) : Type 0 where
   pub taken : (p : ℕ) (k : PageKind) (t level number : ℕ) → is_host w p ≡ true → g.sole (Locked (OfPage p)) ≡ true → Respects g w (take_node p k t level number w)
   pub op : (t : ℕ) (s : OpState) → g.has (Locked (OfPage t)) ≡ true → g.sole (Locked (OfOp t)) ≡ true → Respects g w (set_op t s w)
   pub epoch : (t e : ℕ) → HoldsTd g t → g.sole (Locked (OfEpoch t)) ≡ true → Respects g w (set_epoch t e w)
-  pub life : (t : ℕ) (s : LifeState) → g.sole (Locked (OfPage t)) ≡ true → Respects g w (set_life t s w)
+  pub life : (t : ℕ) (s : LifeState) → g.has (Locked (OfPage t)) ≡ true → g.sole (Locked (OfPage t)) ≡ true → Respects g w (set_life t s w)
+  pub exit : (m : Machine) (t v : ℕ) → Lawful m w → w.pages.owners v ≡ t → g.has (Locked (OfPage t)) ≡ true → Respects g w (leave_guest v w)
   pub key : (h : ℕ) (k : Key) → (key_owner k ≡ key_owner (w.key_table.keys h)) ⊎ MayAt g (slot_spot w h) moves → Respects g w (set_key h k w)
 
 abbrev pub EffectsRespect : Type 0
