@@ -1,7 +1,7 @@
 -- Words that acts are written in change what words are only as the rules say.
 use Rattle.std.proofs.Common.{◌≡◌, ◌⊎◌, refl, sym, ◌∙◌, ap, subst, inl, inr, ℕ, zero, suc, ◌+◌, ◌-◌, ◌*◌, ◌%◌, ◌≤◌, Bool, true, false, ◌==◌, ◌&&◌, ◌||◌, if◌then◌else◌, List, [], ◌∷◌, arith}
 use Rattle.td_words.specs.declared.places.TheConstants.{TDCS_OP_LOCK, TDCS_OP, TDCS_EPOCH, TDCS_ENTERED}
-use Rattle.std.specs.Prelude.{Option, Some, None, nat_le, nat_lt}
+use Rattle.std.specs.Prelude.{Option, None, nat_le, nat_lt}
 use Rattle.std.proofs.lemmas.Bool.{eq-eqb, eqb-true}
 use Rattle.td_words.specs.declared.names.PageKind.{PageKind}
 use Rattle.td_words.specs.declared.names.PageKind.TheVariants as kind
@@ -15,15 +15,15 @@ use Rattle.td_words.specs.Place.{WordPlace, Lock, Pamt, Word, Key as KeyPlace}
 use Rattle.flat_core.specs.World.{World, Pages, put}
 use Rattle.flat_core.specs.Processor.{OfPage, OfOp, OfTree, OfEpoch}
 use Rattle.flat_core.specs.Lawful.{key_owner, Lawful, ArePagesOf}
-use Rattle.flat_core.specs.Conditions.{is_host, same_kind}
-use Rattle.flat_core.specs.Effects.{take_node, set_entry, put_in, set_op, set_epoch, set_life, set_key, leave_guest}
-use Rattle.word_rules.specs.Guards.{Grip, Locked, Meets}
-use Rattle.word_rules.specs.Rules.{Class, HostWord, GuestWord, LeafEntry, moves, TdLock, TdcsWord, TdEpoch, EpochCount, RtmrWord, DirtyWord, Unused, UpperEntry}
-use Rattle.word_rules.specs.Lines.{Line, in_lines}
-use Rattle.word_rules.specs.Spots.{Spot, spot, slot_of, slot_spot, guard_at, runs_in, page_spot, control_class, root_class, or_unused, tdcs_classes, is_current, is_at_end, is_empty, entry_class, entry_named}
+use Rattle.flat_core.specs.Conditions.{same_kind}
+use Rattle.flat_core.specs.Effects.{take_node, set_entry, set_op, set_epoch, set_life, set_key, leave_guest}
+use Rattle.word_rules.specs.Guards.{Grip, Locked}
+use Rattle.word_rules.specs.Rules.{Class, GuestWord, LeafEntry, moves, EpochCount}
+use Rattle.word_rules.specs.Lines.{in_lines}
+use Rattle.word_rules.specs.Spots.{Spot, spot, slot_of, slot_spot, runs_in, page_spot, control_class, root_class, or_unused, tdcs_classes, is_current, is_at_end, is_empty, entry_class, entry_named}
 use Rattle.word_rules.specs.Cells.{one_of_parity, entered_of_parity}
 use Rattle.word_rules.specs.Permissions.{MayAt, Moves, Respects}
-use Rattle.act_rules.specs.Acts.{SameTd, SameWords, HoldsTd, ActsRespect, EffectsRespect}
+use Rattle.act_rules.specs.Acts.{SameTd, SameWords, HoldsTd, EffectsRespect}
 use Rattle.act_rules.proofs.Stored.{by_test}
 
 and-left : (a b : Bool) → (a && b) ≡ true → a ≡ true

@@ -1,15 +1,11 @@
 -- Stores of others leave what is read.
-use Rattle.std.proofs.Common.{◌≡◌, refl, sym, ◌∙◌, ap, subst, ℕ, Bool, true, false, ◌==◌, ◌&&◌, if◌then◌else◌}
-use Rattle.std.proofs.lemmas.Bool.{eqb-true}
+use Rattle.std.proofs.Common.{◌≡◌, refl, sym, ◌∙◌, ap, subst, ℕ, Bool, true, false}
 use Rattle.td_words.specs.Place.{WordPlace, same_place}
 use Rattle.td_words.specs.Laws.{PlacesInjective}
-use Rattle.flat_core.specs.World.{World}
-use Rattle.word_rules.specs.Guards.{Grip, Apart}
 use Rattle.word_rules.specs.Rules.{View, Grade, spares}
 use Rattle.word_rules.specs.Views.{look, IsKept, ViewsAreKept}
-use Rattle.word_rules.specs.Permissions.{Reads, Sees, Writes, Owes, Fills, Respects, WordsNeverConflict, ActsNeverConflict}
-use Rattle.lock_words.specs.LockWords.{put_word}
-use Rattle.act_rules.specs.Stores.{LooksSame, StoresKeepReads, OthersStoresKeepReads}
+use Rattle.word_rules.specs.Permissions.{Writes, Owes, Fills, WordsNeverConflict, ActsNeverConflict}
+use Rattle.act_rules.specs.Stores.{LooksSame, OthersStoresKeepReads}
 
 pub by_test : {A : Type 0} (b : Bool) → (b ≡ true → A) → (b ≡ false → A) → A
 by_test true t f = t refl

@@ -1,6 +1,6 @@
 -- Which acts change what words are, and under which locks: for each word that acts are written in, that it changes that
 -- only as the rules say.
-use Rattle.std.specs.Prelude.{◌≡◌, ◌⊎◌, ℕ, Bool, true, false}
+use Rattle.std.specs.Prelude.{◌≡◌, ◌⊎◌, ℕ, true}
 use Rattle.td_words.specs.declared.names.PageKind.{PageKind}
 use Rattle.td_words.specs.declared.names.LifeState.{LifeState}
 use Rattle.td_words.specs.declared.names.OpState.{OpState}
@@ -8,10 +8,10 @@ use Rattle.td_words.specs.declared.machines.Machine.{Machine}
 use Rattle.td_words.specs.Packing.{Entry, Key}
 use Rattle.td_words.specs.Place.{Word}
 use Rattle.flat_core.specs.World.{World}
-use Rattle.flat_core.specs.Processor.{OfPage, OfOp, OfTree, OfEpoch, OfKeys}
+use Rattle.flat_core.specs.Processor.{OfPage, OfOp, OfTree, OfEpoch}
 use Rattle.flat_core.specs.Lawful.{key_owner, Lawful}
 use Rattle.flat_core.specs.Conditions.{is_host}
-use Rattle.flat_core.specs.Effects.{take_node, give_back, set_entry, set_op, set_epoch, set_life, set_key, leave_guest}
+use Rattle.flat_core.specs.Effects.{take_node, set_entry, set_op, set_epoch, set_life, set_key, leave_guest}
 use Rattle.word_rules.specs.Guards.{Grip, Locked}
 use Rattle.word_rules.specs.Permissions.{MayAt, Moves, Respects}
 use Rattle.word_rules.specs.Rules.{moves}

@@ -1,6 +1,6 @@
 -- What stores of others leave of the words that a processor was told.
-use Rattle.std.specs.Prelude.{◌≡◌, ℕ, Bool, true, if◌then◌else◌}
-use Rattle.td_words.specs.Place.{WordPlace, same_place}
+use Rattle.std.specs.Prelude.{◌≡◌, ℕ}
+use Rattle.td_words.specs.Place.{WordPlace}
 use Rattle.flat_core.specs.World.{World}
 use Rattle.word_rules.specs.Guards.{Grip, Apart}
 use Rattle.word_rules.specs.Rules.{View, Grade}

@@ -1,5 +1,5 @@
 -- What stores keep of entries' words.
-use Rattle.std.proofs.Common.{◌≡◌, refl, ap, ℕ, Bool, true}
+use Rattle.std.proofs.Common.{◌≡◌, ap, ℕ, true}
 use Rattle.std.specs.Prelude.{Option}
 use Rattle.td_words.specs.Laws.{PackingsUndone}
 use Rattle.td_words.specs.Packing.{Entry}

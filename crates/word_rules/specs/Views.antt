@@ -1,6 +1,5 @@
 -- What a load looks at, and what a store keeps, of an entry's word. The packing of entries is td_words'.
-use Rattle.std.specs.Prelude.{◌≡◌, ℕ, ◌+◌, ◌*◌, Bool, true, if◌then◌else◌, Option, Some, None}
-use Rattle.td_words.specs.declared.names.EntryState.{EntryState}
+use Rattle.std.specs.Prelude.{◌≡◌, ℕ, ◌+◌, ◌*◌, true, if◌then◌else◌, Option, Some, None}
 use Rattle.td_words.specs.declared.names.EntryState.TheVariants as entry
 use Rattle.td_words.specs.Packing.{Entry, entry_word, entry_in, is_lawful_entry}
 use Rattle.flat_core.specs.Locks.{one_if}
