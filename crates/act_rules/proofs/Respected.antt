@@ -57,7 +57,7 @@ named-same w w' t (suc zero) number i e = e (512 * number + i)
 named-same w w' t (suc (suc level)) number i e = refl
 
 -- of one page with its node
-page-same : (w w' : World) (t p : ℕ) (k : PageKind) (i : ℕ) → SameTd w w' t → w'.pages.levels p ≡ w.pages.levels p → w'.pages.numbers p ≡ w.pages.numbers p → page_spot w' t p k i ≡ page_spot w t p k i
+pub page-same : (w w' : World) (t p : ℕ) (k : PageKind) (i : ℕ) → SameTd w w' t → w'.pages.levels p ≡ w.pages.levels p → w'.pages.numbers p ≡ w.pages.numbers p → page_spot w' t p k i ≡ page_spot w t p k i
 page-same w w' t p kind.Nda i s l n = refl
 page-same w w' t p kind.Reg i s l n = λ j. record { class = GuestWord (runs_in (s.op j)); td = t; page = p; named = 0 }
 page-same w w' t p kind.Tdr i s l n = refl
@@ -83,7 +83,7 @@ words-same w w' s (Word p i) =
     (λ j. page_spot w' (s.owners j p) p (s.kinds j p) i)
     ∙ page-same w w' (w.pages.owners p) p (w.pages.kinds p) i (s.tds (w.pages.owners p)) (λ j. s.levels j p) (λ j. s.numbers j p)
 
-leaves : (g : Grip) (w w' : World) → SameWords w w' → ((h : ℕ) → key_owner (w'.key_table.keys h) ≡ key_owner (w.key_table.keys h)) → w'.tds.lives ≡ w.tds.lives → Respects g w w'
+pub leaves : (g : Grip) (w w' : World) → SameWords w w' → ((h : ℕ) → key_owner (w'.key_table.keys h) ≡ key_owner (w.key_table.keys h)) → w'.tds.lives ≡ w.tds.lives → Respects g w w'
 leaves g w w' s k l = record { word = λ q. inl (words-same w w' s q); slot = λ h. inl (ap slot_of (k h)); life = λ t. inl (ap (λ (f : ℕ → LifeState). f t) l) }
 
 -- what changes of one TD alone leaves the other TDs
@@ -182,12 +182,12 @@ page-moved g w p k t level number m = record { word = at; slot = λ h. inl refl;
         (λ y. let is : q ≡ p = eqb-true q p y in inr (subst (λ (x : ℕ). Moves g w (Word x i)) (sym is) (m i)))
         (λ y. inl (there q i y))
 
-host-kind : (k : PageKind) → same_kind k kind.Nda ≡ true → k ≡ kind.Nda
+pub host-kind : (k : PageKind) → same_kind k kind.Nda ≡ true → k ≡ kind.Nda
 host-kind kind.Nda h = refl
 host-kind kind.Reg h = cc
 host-kind _ h = cc
 
-host-moves : (g : Grip) (w : World) (p i : ℕ) → w.pages.kinds p ≡ kind.Nda → g.sole (Locked (OfPage p)) ≡ true → Moves g w (Word p i)
+pub host-moves : (g : Grip) (w : World) (p i : ℕ) → w.pages.kinds p ≡ kind.Nda → g.sole (Locked (OfPage p)) ≡ true → Moves g w (Word p i)
 host-moves g w p i e s = rw e (inl (s, tt))
 
 -- an operation state: O alone
@@ -392,7 +392,7 @@ exit-moved g w m t v la own h = record {
 
 -- keys
 
-all-same : (w w' : World) → w'.pages ≡ w.pages → ((t : ℕ) → SameTd w w' t) → SameWords w w'
+pub all-same : (w w' : World) → w'.pages ≡ w.pages → ((t : ℕ) → SameTd w w' t) → SameWords w w'
 all-same w w' e s = record { kinds = λ j. (e j).kinds; owners = λ j. (e j).owners; levels = λ j. (e j).levels; numbers = λ j. (e j).numbers; tds = s }
 
 key-moved : (g : Grip) (w : World) (h : ℕ) (k : Key) → (key_owner k ≡ key_owner (w.key_table.keys h)) ⊎ MayAt g (slot_spot w h) moves → Respects g w (set_key h k w)

@@ -1,7 +1,7 @@
 //! Laws of acts and stores, as contracts of functions that do nothing.
 
 ghost use Rattle.act_rules.specs.Stores.{OthersStoresKeepReads};
-ghost use Rattle.act_rules.specs.Acts.{EffectsRespect};
+ghost use Rattle.act_rules.specs.Acts.{EffectsRespect, RowsRespect};
 
 /// What one processor reads as stable looks the same after each store of another: its act, the
 /// stores that it owes, and its fills.
@@ -14,7 +14,8 @@ pub fn stores_keep_reads()
 }
 
 /// Each word that acts are written in changes what words are only under the locks that the rules
-/// ask for.
+/// ask for; and so does the act of each row, under the locks of its tries.
 pub fn acts_respect()
-    ensures { EffectsRespect }
+    ensures effects { EffectsRespect }
+    ensures rows { RowsRespect }
 {}
