@@ -1,5 +1,5 @@
 -- Each lock's word follows each event.
-use Rattle.std.proofs.Common.{◌≡◌, refl, sym, subst, ℕ, zero, suc, ◌+◌, ◌*◌, ◌^◌, ◌<◌, Bool, true, false, ◌==◌, ◌&&◌, not, nat_lt, List, [], ◌∷◌, length, arith}
+use Rattle.std.proofs.Common.{◌≡◌, refl, sym, subst, ℕ, zero, suc, ◌+◌, ◌*◌, ◌^◌, ◌<◌, ◌≤◌, Bool, true, false, ◌==◌, ◌&&◌, not, nat_lt, List, [], ◌∷◌, ◌++◌, length, length-append, arith}
 use Rattle.std.specs.Prelude.{Option, Some, None, nat_le}
 use Rattle.std.proofs.lemmas.Bool.Decides.{nat_tests}
 use Rattle.td_words.specs.declared.names.LockName.{LockName}
@@ -22,7 +22,8 @@ use Rattle.td_words.specs.Packing.{Entry}
 use Rattle.flat_core.specs.Table.{row_of}
 use Rattle.flat_core.specs.Event.{State, Event, OfCall, OfOperation, Walks, Reaches, Leaves, event_for, line_event, entered_event, epoch_event, is_epoch_lock, guest_event, staying_event, due_event, max_event, operation_event, private_event, operation_due, nothing_more, lines_left, lp_after, call_lp, succeeded, settle, settled, settle_operation, settled_guest, call_busy, operation_busy, is_granted, event}
 use Rattle.word_rules.specs.Cells.{lock_word}
-use Rattle.lock_words.specs.LockWords.{weight_at, move_adds, move_takes_off, adds, takes_off, LetsGo, has_let_go, IsNext, LockWordsFollow}
+use Rattle.lock_words.specs.LockWords.{weight_at, move_adds, move_takes_off, adds, takes_off, LetsGo, has_let_go, locks_held, IsNext, LockWordsFollow}
+use Rattle.lock_words.specs.Grips.{operation_locks, locks_of}
 use Rattle.lock_words.proofs.Sums.{by_test, sum-put}
 
 -- what a call's or an operation's progress adds to a lock's word
@@ -241,5 +242,34 @@ shared s l h = go (holders s.lps s.lp_count l) (sharers s.lps s.lp_count l + ref
     go : (a b : ℕ) → b < 2 ^ 63 → (a == 0) ≡ nat_lt (2 ^ 63 * a + b) (2 ^ 63)
     go a b h = grind (arith, nat_tests)
 
+-- the low bits
+
+shared-few : (l : LockId) (hs : List Held) → shared_in l hs ≤ length hs
+shared-few l [] = omega arith
+shared-few l (h ∷ hs) = let k = shared-few l hs in let b = one-most (not (is_alone h.mode) && same_lock h.lock l) in omega (arith, k, b)
+  where
+    one-most : (b : Bool) → one_if b ≤ 1
+    one-most true = omega arith
+    one-most false = omega arith
+
+refused-few : {R : Type 0} (l : LockId) (phase : Phase R) → refused_in l phase ≤ 1
+refused-few l Trying = omega arith
+refused-few l (Undoing k) = by_test (same_lock k l) (λ y. rw y (omega arith)) (λ y. rw y (omega arith))
+refused-few l (Answered r) = omega arith
+
+lp-few : (l : LockId) (lp : Lp) → shared_of l lp + refused_of l lp ≤ length (locks_of lp) + 2
+lp-few l lp = by lp.guest
+  where
+    by : (g : Option Guest) → (shared_in l lp.call.held + guest_shared l g) + (refused_in l lp.call.phase + guest_refused l g) ≤ length (lp.call.held ++ operation_locks g) + 2
+    by None = let a = shared-few l lp.call.held in let b = refused-few l lp.call.phase in let c = length-append lp.call.held (operation_locks None) in omega (arith, a, b, c)
+    by (Some g) =
+        let a = shared-few l lp.call.held in let b = refused-few l lp.call.phase in
+        let d = shared-few l g.operation.held in let e = refused-few l g.operation.phase in
+        let c = length-append lp.call.held g.operation.held in omega (arith, a, b, c, d, e)
+
+few : (lps : ℕ → Lp) (n : ℕ) (l : LockId) → sharers lps n l + refusals lps n l ≤ locks_held lps n
+few lps zero l = omega arith
+few lps (suc n) l = let k = few lps n l in let a = lp-few l (lps n) in omega (arith, k, a)
+
 pub lock-words-follow : LockWordsFollow
-lock-words-follow = record { event = follows; exclusive = exclusive; shared = shared }
+lock-words-follow = record { event = follows; exclusive = exclusive; shared = shared; few = λ s l. few s.lps s.lp_count l }
