@@ -136,6 +136,9 @@ module _ (count : ℕ) (old : Pages) (tds : Tds) (table : KeyTable) (t h : ℕ) 
     leaf = λ x n a. by_test (x == t)
         (λ y e. absurd (let no : true ≡ false = rw y at e in cc))
         (λ y e. rw y (let u = l.leaf x n (alive_before x y a) (rw y at e) in (u.0, node_kept count old t host lawful small x _ kind.Reg 0 n (λ e. cc) u.1)));
+    below = λ x k n few a. by_test (x == t)
+        (λ y e. absurd (let no : true ≡ false = rw y at e in cc))
+        (λ y e. rw y (l.below x k n few (alive_before x y a) (rw y at e)));
     named = λ p k a. by_test (p == t)
         (λ y. absurd (let no : kind.Tdr ≡ kind.Ept = rw y at k in cc))
         (λ y. named_kept l p y (unowned count old t host lawful small p kind.Ept (rw y at k) (λ e. cc)) k a);
@@ -200,7 +203,7 @@ first-lawful m ws = record {
   size = refl;
   pages = record { tdr = λ t h. cc; owner = λ p h. cc; in_machine = λ p h. cc; host = λ p h. (refl, refl); blocked = λ p. lit< tt };
   tds = record { controls = λ t a. tt; vps = λ t a. tt; streams = λ t a. tt; vps_few = λ t. lit≤ tt; vps_differ = λ t. refl; streams_few = λ t. lit≤ tt; streams_differ = λ t. refl; epoch = λ t. lit< tt };
-  tree = record { entry = λ t l n. refl; upper = λ t l n a h. absurd (let no : true ≡ false = h in cc); leaf = λ t n a h. absurd (let no : true ≡ false = h in cc); named = λ p h a. cc };
+  tree = record { entry = λ t l n. refl; upper = λ t l n a h. absurd (let no : true ≡ false = h in cc); leaf = λ t n a h. absurd (let no : true ≡ false = h in cc); below = λ t l n few a h. absurd (let no : true ≡ false = h in cc); named = λ p h a. cc };
   keys = record {
     in_range = λ t a. absurd (let no : kind.Nda ≡ kind.Tdr = a.kind in cc);
     owner = λ t a. absurd (let no : kind.Nda ≡ kind.Tdr = a.kind in cc);

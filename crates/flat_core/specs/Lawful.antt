@@ -1,6 +1,6 @@
 -- What every world of every run keeps. A clause on a TD holds while the TD is alive: its page is a TDR page, and its life
 -- isn't at its end.
-use Rattle.std.specs.Prelude.{◌≡◌, ℕ, suc, ◌^◌, ◌<◌, ◌≤◌, List, [], ◌∷◌, length, Option, Some, None, Bool, true, false, not, ◌==◌, ◌&&◌}
+use Rattle.std.specs.Prelude.{◌≡◌, ℕ, suc, ◌/◌, ◌^◌, ◌<◌, ◌≤◌, List, [], ◌∷◌, length, Option, Some, None, Bool, true, false, not, ◌==◌, ◌&&◌}
 use Rattle.std.specs.List.{list_any}
 use Rattle.td_words.specs.declared.names.PageKind.{PageKind}
 use Rattle.td_words.specs.declared.names.PageKind.TheVariants as kind
@@ -78,13 +78,14 @@ is_free entry.Free = true
 is_free _ = false
 
 -- Ownership: an entry that names a page names one that its TD owns, at its own node, so no page is named twice and a
--- host page by none; and each secure EPT page is named by the entry at its node.
+-- host page by none; each secure EPT page is named by the entry at its node; and nothing is mapped below a FREE entry.
 pub record LawfulTree (pages : Pages) (tds : Tds) : Type 0 where
   pub entry : (t l n : ℕ) → is_lawful_entry (tds.entries t l n) ≡ true
   pub upper : (t l n : ℕ) → IsAlive pages tds t → is_free (tds.entries t (suc l) n).state ≡ false
       → (is_node (tds.entries t (suc l) n).state ≡ true) × IsNodeOf pages t (tds.entries t (suc l) n).page kind.Ept (suc l) n
   pub leaf : (t n : ℕ) → IsAlive pages tds t → is_free (tds.entries t 0 n).state ≡ false
       → (is_node (tds.entries t 0 n).state ≡ false) × IsNodeOf pages t (tds.entries t 0 n).page kind.Reg 0 n
+  pub below : (t l n : ℕ) → l < 3 → IsAlive pages tds t → is_free (tds.entries t l n).state ≡ false → is_free (tds.entries t (suc l) (n / 512)).state ≡ false
   pub named : (p : ℕ) → pages.kinds p ≡ kind.Ept → IsAlive pages tds (pages.owners p)
       → (is_free (tds.entries (pages.owners p) (pages.levels p) (pages.numbers p)).state ≡ false)
       × ((tds.entries (pages.owners p) (pages.levels p) (pages.numbers p)).page ≡ p)
