@@ -1,0 +1,4 @@
+pub mod Seen
+pub mod SecureEpt
+pub mod Steps
+pub mod Laws

@@ -1,0 +1,10 @@
+//! What the layers above may rest on, as contracts of functions that do nothing.
+
+ghost use Rattle.sept_walk.specs.Laws.{WalksFind};
+
+/// A walk that is told what memory has ends after one entry of each level at most, with the entry
+/// that the secure EPT in memory has for its GPA and level, or the first level whose entry isn't
+/// NL_MAPPED.
+pub fn walks_find()
+    ensures { WalksFind }
+{}
