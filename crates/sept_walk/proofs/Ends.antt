@@ -4,8 +4,8 @@ use Rattle.td_words.specs.Packing.{Entry}
 use Rattle.sept_walk.specs.declared.walks.Walked.{Walked}
 use Rattle.sept_walk.specs.declared.walks.Walked.TheVariants.{More, Found, Failed}
 use Rattle.sept_walk.specs.Seen.{Walk}
-use Rattle.sept_walk.specs.SecureEpt.{passes, levels_above, walk_end, entry_below, page_below}
-use Rattle.sept_walk.specs.Steps.{walk_from, is_mapped_on}
+use Rattle.sept_walk.specs.SecureEpt.{is_mapped_on, passes, levels_above, walk_end, entry_below, page_below}
+use Rattle.sept_walk.specs.Steps.{walk_from}
 use Rattle.sept_walk.specs.Laws.{WalksFind, or_on, told_at_most, entries_in}
 
 -- a walk that is told an upper entry goes on where it is NL_MAPPED, and ends where it isn't

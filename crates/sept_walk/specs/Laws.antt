@@ -1,12 +1,17 @@
--- A walk ends with what the secure EPT in memory says.
-use Rattle.std.specs.Prelude.{◌≡◌, ◌≢◌, ℕ, zero, suc, ◌-◌, ◌≤◌}
+-- A walk ends with what the secure EPT in memory says, and where that holds a TD's map, with what the map says.
+use Rattle.std.specs.Prelude.{◌≡◌, ◌≢◌, ℕ, zero, suc, ◌-◌, ◌^◌, ◌<◌, ◌≤◌, List, ◌++◌}
 use Rattle.td_words.specs.Address.{word_at}
 use Rattle.td_words.specs.Packing.{Entry}
+use Rattle.td_words.specs.declared.replies.Reply.{Reply}
+use Rattle.flat_core.specs.World.{World}
+use Rattle.flat_core.specs.Row.{Item, next}
+use Rattle.flat_core.specs.Tree.{walk}
 use Rattle.sept_walk.specs.declared.walks.Walked.{Walked}
 use Rattle.sept_walk.specs.declared.walks.Walked.TheVariants.{More, Found, Failed}
 use Rattle.sept_walk.specs.Seen.{Walk}
 use Rattle.sept_walk.specs.SecureEpt.{walk_end}
 use Rattle.sept_walk.specs.Steps.{walk_from, address_of, answer_to, walk_after}
+use Rattle.sept_walk.specs.Maps.{HoldsMap, map_end, row_behind}
 
 -- a walk that asks for more is told on
 abbrev pub or_on : Walked → Walked → Walked
@@ -30,3 +35,11 @@ pub record WalksFind : Type 0 where
   pub find : (memory : ℕ → Entry) (root gpa level : ℕ) → level ≤ 3
       → told_at_most (4 - level) memory (walk_from root gpa level) ≡ walk_end (entries_in memory) root gpa level
   pub ends : (entries : ℕ → ℕ → Entry) (root gpa level : ℕ) → walk_end entries root gpa level ≢ More
+
+-- Where memory holds a TD's map, a walk ends as the map says; and a row that walks goes on behind its walk exactly where
+-- that one finds its entry.
+pub record WalksMeetMaps : Type 0 where
+  pub maps : (entries : ℕ → ℕ → Entry) (root : ℕ) (w : World) (t gpa level : ℕ) → HoldsMap entries root w t → gpa < 2 ^ 47 → level ≤ 3
+      → walk_end entries root gpa level ≡ map_end w t gpa level
+  pub rows : (w : World) (t gpa level granted : ℕ) (rest : List (Item Reply))
+      → next (walk w t gpa level ++ rest) granted ≡ row_behind (map_end w t gpa level) (next rest granted)

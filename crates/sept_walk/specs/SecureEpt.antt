@@ -1,7 +1,7 @@
 -- The secure EPT as it lies in memory. A page of it holds 512 entries: the root's are of level 3, and an entry that is
 -- NL_MAPPED names the page of the 512 entries below it (Base Architecture, "Secure EPT"). What memory has is a function
 -- from page and index to the entry that stands there.
-use Rattle.std.specs.Prelude.{ℕ, zero, suc, ◌-◌, ◌%◌, List, [], ◌∷◌, filter, nat_lt, if◌then◌else◌}
+use Rattle.std.specs.Prelude.{ℕ, zero, suc, ◌-◌, ◌%◌, List, [], ◌∷◌, filter, Bool, nat_lt, if◌then◌else◌}
 use Rattle.td_words.specs.declared.names.EntryState.TheVariants as entry
 use Rattle.td_words.specs.Packing.{Entry}
 use Rattle.flat_core.specs.Tree.{number_at, same_state}
@@ -22,6 +22,9 @@ page_below entries root gpa (suc n) = (entries (page_below entries root gpa n) (
 abbrev pub entry_below : (ℕ → ℕ → Entry) → (root gpa level : ℕ) → Entry
 entry_below entries root gpa level = entries (page_below entries root gpa (3 - level)) (index_at level gpa)
 
+abbrev pub is_mapped_on : Entry → Bool
+is_mapped_on e = same_state e.state entry.NlMapped
+
 -- the levels above one, from the root's down
 abbrev pub levels_above : ℕ → List ℕ
 levels_above level = filter (λ l. nat_lt level l) (3 ∷ 2 ∷ 1 ∷ [])
@@ -29,7 +32,7 @@ levels_above level = filter (λ l. nat_lt level l) (3 ∷ 2 ∷ 1 ∷ [])
 -- A walk to an entry passes over each entry above it that is NL_MAPPED, and fails at the first that isn't.
 abbrev pub passes : (ℕ → Entry) → ℕ → List ℕ → Walked
 passes at level [] = Found (at level)
-passes at level (l ∷ ls) = if same_state (at l).state entry.NlMapped then passes at level ls else Failed l
+passes at level (l ∷ ls) = if is_mapped_on (at l) then passes at level ls else Failed l
 
 -- what a walk from a root to the entry of a level ends with (Base Architecture, "Secure EPT Walk")
 abbrev pub walk_end : (ℕ → ℕ → Entry) → (root gpa level : ℕ) → Walked

@@ -1,13 +1,11 @@
 -- The steps of a walk: it is told the entry at the address that it asks for.
-use Rattle.std.specs.Prelude.{ℕ, ◌-◌, Bool, not, ◌==◌, ◌&&◌, if◌then◌else◌}
-use Rattle.td_words.specs.declared.names.EntryState.TheVariants as entry
+use Rattle.std.specs.Prelude.{ℕ, ◌-◌, not, ◌==◌, ◌&&◌, if◌then◌else◌}
 use Rattle.td_words.specs.Address.{word_at}
 use Rattle.td_words.specs.Packing.{Entry}
-use Rattle.flat_core.specs.Tree.{same_state}
 use Rattle.sept_walk.specs.declared.walks.Walked.{Walked}
 use Rattle.sept_walk.specs.declared.walks.Walked.TheVariants.{More, Found, Failed}
 use Rattle.sept_walk.specs.Seen.{Walk}
-use Rattle.sept_walk.specs.SecureEpt.{index_at}
+use Rattle.sept_walk.specs.SecureEpt.{index_at, is_mapped_on}
 
 -- a walk begins at the root
 abbrev pub walk_from : (root gpa level : ℕ) → Walk
@@ -16,9 +14,6 @@ walk_from root gpa level = record { page = root; level = 3; gpa = gpa; wanted = 
 -- the address of the entry that it asks for
 abbrev pub address_of : Walk → ℕ
 address_of k = word_at k.page (index_at k.level k.gpa)
-
-abbrev pub is_mapped_on : Entry → Bool
-is_mapped_on e = same_state e.state entry.NlMapped
 
 -- what it answers: an entry of the wanted level is found whatever its state
 abbrev pub answer_to : Walk → Entry → Walked
