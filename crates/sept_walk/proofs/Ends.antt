@@ -34,13 +34,13 @@ finds memory root gpa (suc (suc zero)) h =
 finds memory root gpa (suc zero) h =
     told_upper (goes_on_at memory root gpa 3) 3 (told_at_most 2 memory) (standing memory root gpa 1 1) (standing memory root gpa 1 0)
     ∙ alike_above (goes_on_at memory root gpa 3) 3 _ _
-        (told_upper (goes_on_at memory root gpa 2) 2 (told_at_most 1 memory) (standing memory root gpa 1 2) (standing memory root gpa 1 1))
+    (told_upper (goes_on_at memory root gpa 2) 2 (told_at_most 1 memory) (standing memory root gpa 1 2) (standing memory root gpa 1 1))
 finds memory root gpa zero h =
     told_upper (goes_on_at memory root gpa 3) 3 (told_at_most 3 memory) (standing memory root gpa 0 1) (standing memory root gpa 0 0)
     ∙ alike_above (goes_on_at memory root gpa 3) 3 _ _
-        (told_upper (goes_on_at memory root gpa 2) 2 (told_at_most 2 memory) (standing memory root gpa 0 2) (standing memory root gpa 0 1)
-        ∙ alike_above (goes_on_at memory root gpa 2) 2 _ _
-            (told_upper (goes_on_at memory root gpa 1) 1 (told_at_most 1 memory) (standing memory root gpa 0 3) (standing memory root gpa 0 2)))
+    (told_upper (goes_on_at memory root gpa 2) 2 (told_at_most 2 memory) (standing memory root gpa 0 2) (standing memory root gpa 0 1)
+    ∙ alike_above (goes_on_at memory root gpa 2) 2 _ _
+    (told_upper (goes_on_at memory root gpa 1) 1 (told_at_most 1 memory) (standing memory root gpa 0 3) (standing memory root gpa 0 2)))
 finds memory root gpa (suc (suc (suc (suc n)))) h = absurd (omega (arith, h))
 
 one_of : (b : Bool) (l : ℕ) (later : Walked) → later ≢ More → (if b then later else Failed l) ≢ More

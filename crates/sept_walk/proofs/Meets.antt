@@ -40,13 +40,17 @@ meet entries root w t gpa level h g small = by_level level small
   where
     at_3 : entry_below entries root gpa 3 ≡ entry_at w t 3 gpa
     at_3 = h.at_root (index_at 3 gpa) (small_index 3 gpa) ∙ ap (λ n. w.tds.entries t 3 n) (omega (arith, g))
+
     at_2 : is_mapped_on (entry_at w t 3 gpa) ≡ true → entry_below entries root gpa 2 ≡ entry_at w t 2 gpa
     at_2 on = down entries root w t h 2 (number_at 3 gpa) (index_at 2 gpa) (number_at 2 gpa) (entry_below entries root gpa 3) at_3 on (small_index 2 gpa) (omega arith)
+
     at_1 : is_mapped_on (entry_at w t 3 gpa) ≡ true → is_mapped_on (entry_at w t 2 gpa) ≡ true → entry_below entries root gpa 1 ≡ entry_at w t 1 gpa
     at_1 a on = down entries root w t h 1 (number_at 2 gpa) (index_at 1 gpa) (number_at 1 gpa) (entry_below entries root gpa 2) (at_2 a) on (small_index 1 gpa) (omega arith)
+
     at_0 : is_mapped_on (entry_at w t 3 gpa) ≡ true → is_mapped_on (entry_at w t 2 gpa) ≡ true → is_mapped_on (entry_at w t 1 gpa) ≡ true
         → entry_below entries root gpa 0 ≡ entry_at w t 0 gpa
     at_0 a b on = down entries root w t h 0 (number_at 1 gpa) (index_at 0 gpa) (number_at 0 gpa) (entry_below entries root gpa 1) (at_1 a b) on (small_index 0 gpa) (omega arith)
+
     by_level : (level : ℕ) → level ≤ 3 → walk_end entries root gpa level ≡ map_end w t gpa level
     by_level (suc (suc (suc zero))) s = ap Found at_3
     by_level (suc (suc zero)) s =
