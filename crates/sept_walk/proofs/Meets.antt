@@ -1,5 +1,5 @@
 -- A walk over a secure EPT that holds a TD's map ends as the map says.
-use Rattle.std.proofs.Common.{◌≡◌, refl, ◌∙◌, ap, ℕ, zero, suc, ◌+◌, ◌*◌, ◌%◌, ◌^◌, ◌<◌, ◌≤◌, Bool, true, false, if◌then◌else◌, List, [], ◌∷◌, ◌++◌, map, arith}
+use Rattle.std.proofs.Common.{◌≡◌, refl, ◌∙◌, ap, ℕ, zero, suc, ◌+◌, ◌*◌, ◌%◌, ◌^◌, ◌<◌, ◌≤◌, Bool, true, false, if◌then◌else◌, List, [], ◌∷◌, ◌++◌, map, lit<, arith}
 use Rattle.td_words.specs.declared.refusals.Status.TheVariants.{EptWalkFailed}
 use Rattle.td_words.specs.declared.replies.Reply.{Reply}
 use Rattle.td_words.specs.Packing.{Entry}
@@ -23,10 +23,10 @@ alike x y l p q e h = ap (λ z. if is_mapped_on z then p else Failed l) e ∙ al
 
 -- the page that a passed entry of the map names holds the entries below it
 down : (entries : ℕ → ℕ → Entry) (root : ℕ) (w : World) (t : ℕ) → HoldsMap entries root w t → (l n i m : ℕ) (x : Entry)
-    → x ≡ w.tds.entries t (suc l) n → is_mapped_on (w.tds.entries t (suc l) n) ≡ true → i < 512 → 512 * n + i ≡ m
+    → l < 3 → x ≡ w.tds.entries t (suc l) n → is_mapped_on (w.tds.entries t (suc l) n) ≡ true → i < 512 → 512 * n + i ≡ m
     → entries x.page i ≡ w.tds.entries t l m
-down entries root w t h l n i m x e on small is =
-    ap (λ z. entries z.page i) e ∙ h.below l n i on small ∙ ap (λ z. w.tds.entries t l z) is
+down entries root w t h l n i m x upper e on small is =
+    ap (λ z. entries z.page i) e ∙ h.below l n i upper on small ∙ ap (λ z. w.tds.entries t l z) is
 
 small_index : (level gpa : ℕ) → index_at level gpa < 512
 small_index level gpa = small (number_at level gpa)
@@ -42,14 +42,14 @@ meet entries root w t gpa level h g small = by_level level small
     at_3 = h.at_root (index_at 3 gpa) (small_index 3 gpa) ∙ ap (λ n. w.tds.entries t 3 n) (omega (arith, g))
 
     at_2 : is_mapped_on (entry_at w t 3 gpa) ≡ true → entry_below entries root gpa 2 ≡ entry_at w t 2 gpa
-    at_2 on = down entries root w t h 2 (number_at 3 gpa) (index_at 2 gpa) (number_at 2 gpa) (entry_below entries root gpa 3) at_3 on (small_index 2 gpa) (omega arith)
+    at_2 on = down entries root w t h 2 (number_at 3 gpa) (index_at 2 gpa) (number_at 2 gpa) (entry_below entries root gpa 3) (lit< tt) at_3 on (small_index 2 gpa) (omega arith)
 
     at_1 : is_mapped_on (entry_at w t 3 gpa) ≡ true → is_mapped_on (entry_at w t 2 gpa) ≡ true → entry_below entries root gpa 1 ≡ entry_at w t 1 gpa
-    at_1 a on = down entries root w t h 1 (number_at 2 gpa) (index_at 1 gpa) (number_at 1 gpa) (entry_below entries root gpa 2) (at_2 a) on (small_index 1 gpa) (omega arith)
+    at_1 a on = down entries root w t h 1 (number_at 2 gpa) (index_at 1 gpa) (number_at 1 gpa) (entry_below entries root gpa 2) (lit< tt) (at_2 a) on (small_index 1 gpa) (omega arith)
 
     at_0 : is_mapped_on (entry_at w t 3 gpa) ≡ true → is_mapped_on (entry_at w t 2 gpa) ≡ true → is_mapped_on (entry_at w t 1 gpa) ≡ true
         → entry_below entries root gpa 0 ≡ entry_at w t 0 gpa
-    at_0 a b on = down entries root w t h 0 (number_at 1 gpa) (index_at 0 gpa) (number_at 0 gpa) (entry_below entries root gpa 1) (at_1 a b) on (small_index 0 gpa) (omega arith)
+    at_0 a b on = down entries root w t h 0 (number_at 1 gpa) (index_at 0 gpa) (number_at 0 gpa) (entry_below entries root gpa 1) (lit< tt) (at_1 a b) on (small_index 0 gpa) (omega arith)
 
     by_level : (level : ℕ) → level ≤ 3 → walk_end entries root gpa level ≡ map_end w t gpa level
     by_level (suc (suc (suc zero))) s = ap Found at_3

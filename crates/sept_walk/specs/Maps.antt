@@ -14,7 +14,7 @@ use Rattle.sept_walk.specs.SecureEpt.{is_mapped_on, levels_above, passes}
 -- memory holds a TD's map: the root the entries of level 3, and the page that an NL_MAPPED entry names the 512 below it
 pub record HoldsMap (entries : ℕ → ℕ → Entry) (root : ℕ) (w : World) (t : ℕ) : Type 0 where
   pub at_root : (i : ℕ) → i < 512 → entries root i ≡ w.tds.entries t 3 i
-  pub below : (l n i : ℕ) → is_mapped_on (w.tds.entries t (suc l) n) ≡ true → i < 512
+  pub below : (l n i : ℕ) → l < 3 → is_mapped_on (w.tds.entries t (suc l) n) ≡ true → i < 512
       → entries (w.tds.entries t (suc l) n).page i ≡ w.tds.entries t l (512 * n + i)
 
 -- what a walk over a TD's map ends with
