@@ -1,5 +1,5 @@
 -- A walk over a secure EPT that holds a TD's map ends as the map says.
-use Rattle.std.proofs.Common.{◌≡◌, refl, ◌∙◌, ap, ℕ, zero, suc, ◌+◌, ◌*◌, ◌%◌, ◌^◌, ◌<◌, ◌≤◌, Bool, true, false, if◌then◌else◌, List, [], ◌∷◌, ◌++◌, map, lit<, arith}
+use Rattle.std.proofs.Common.{◌≡◌, refl, sym, ◌∙◌, ap, ℕ, zero, suc, ◌+◌, ◌*◌, ◌%◌, ◌^◌, ◌<◌, ◌≤◌, Bool, true, false, if◌then◌else◌, List, [], ◌∷◌, ◌++◌, map, lit<, arith}
 use Rattle.td_words.specs.declared.refusals.Status.TheVariants.{EptWalkFailed}
 use Rattle.td_words.specs.declared.replies.Reply.{Reply}
 use Rattle.td_words.specs.Packing.{Entry}
@@ -10,7 +10,7 @@ use Rattle.sept_walk.specs.declared.walks.Walked.{Walked}
 use Rattle.sept_walk.specs.declared.walks.Walked.TheVariants.{Found, Failed}
 use Rattle.sept_walk.specs.SecureEpt.{index_at, is_mapped_on, entry_below, passes, levels_above, walk_end}
 use Rattle.sept_walk.specs.Maps.{HoldsMap, map_end, row_behind}
-use Rattle.sept_walk.specs.Laws.{WalksMeetMaps}
+use Rattle.sept_walk.specs.Laws.{NumbersSplit, WalksMeetMaps}
 
 -- alike above, and alike below where the entry is passed over
 alike_if : (b : Bool) (l : ℕ) (p q : Walked) → (b ≡ true → p ≡ q) → (if b then p else Failed l) ≡ (if b then q else Failed l)
@@ -28,28 +28,34 @@ down : (entries : ℕ → ℕ → Entry) (root : ℕ) (w : World) (t : ℕ) → 
 down entries root w t h l n i m x upper e on small is =
     ap (λ z. entries z.page i) e ∙ h.below l n i upper on small ∙ ap (λ z. w.tds.entries t l z) is
 
-small_index : (level gpa : ℕ) → index_at level gpa < 512
-small_index level gpa = small (number_at level gpa)
-  where
-    small : (n : ℕ) → n % 512 < 512
-    small n = omega arith
+small : (n : ℕ) → n % 512 < 512
+small n = omega arith
+
+below_again : (level gpa : ℕ) → level < 3 → number_at level gpa ≡ 512 * number_at (suc level) gpa + index_at level gpa
+below_again zero gpa h = omega arith
+below_again (suc zero) gpa h = omega arith
+below_again (suc (suc zero)) gpa h = omega arith
+below_again (suc (suc (suc n))) gpa h = absurd (omega (arith, h))
+
+pub split : NumbersSplit
+split = record { index = λ level gpa. small (number_at level gpa); root = λ gpa h. omega (arith, h); below = below_again }
 
 meet : (entries : ℕ → ℕ → Entry) (root : ℕ) (w : World) (t gpa level : ℕ) → HoldsMap entries root w t → gpa < 2 ^ 47 → level ≤ 3
     → walk_end entries root gpa level ≡ map_end w t gpa level
 meet entries root w t gpa level h g small = by_level level small
   where
     at_3 : entry_below entries root gpa 3 ≡ entry_at w t 3 gpa
-    at_3 = h.at_root (index_at 3 gpa) (small_index 3 gpa) ∙ ap (λ n. w.tds.entries t 3 n) (omega (arith, g))
+    at_3 = h.at_root (index_at 3 gpa) (split.index 3 gpa) ∙ ap (λ n. w.tds.entries t 3 n) (sym (split.root gpa g))
 
     at_2 : is_mapped_on (entry_at w t 3 gpa) ≡ true → entry_below entries root gpa 2 ≡ entry_at w t 2 gpa
-    at_2 on = down entries root w t h 2 (number_at 3 gpa) (index_at 2 gpa) (number_at 2 gpa) (entry_below entries root gpa 3) (lit< tt) at_3 on (small_index 2 gpa) (omega arith)
+    at_2 on = down entries root w t h 2 (number_at 3 gpa) (index_at 2 gpa) (number_at 2 gpa) (entry_below entries root gpa 3) (lit< tt) at_3 on (split.index 2 gpa) (sym (split.below 2 gpa (lit< tt)))
 
     at_1 : is_mapped_on (entry_at w t 3 gpa) ≡ true → is_mapped_on (entry_at w t 2 gpa) ≡ true → entry_below entries root gpa 1 ≡ entry_at w t 1 gpa
-    at_1 a on = down entries root w t h 1 (number_at 2 gpa) (index_at 1 gpa) (number_at 1 gpa) (entry_below entries root gpa 2) (lit< tt) (at_2 a) on (small_index 1 gpa) (omega arith)
+    at_1 a on = down entries root w t h 1 (number_at 2 gpa) (index_at 1 gpa) (number_at 1 gpa) (entry_below entries root gpa 2) (lit< tt) (at_2 a) on (split.index 1 gpa) (sym (split.below 1 gpa (lit< tt)))
 
     at_0 : is_mapped_on (entry_at w t 3 gpa) ≡ true → is_mapped_on (entry_at w t 2 gpa) ≡ true → is_mapped_on (entry_at w t 1 gpa) ≡ true
         → entry_below entries root gpa 0 ≡ entry_at w t 0 gpa
-    at_0 a b on = down entries root w t h 0 (number_at 1 gpa) (index_at 0 gpa) (number_at 0 gpa) (entry_below entries root gpa 1) (lit< tt) (at_1 a b) on (small_index 0 gpa) (omega arith)
+    at_0 a b on = down entries root w t h 0 (number_at 1 gpa) (index_at 0 gpa) (number_at 0 gpa) (entry_below entries root gpa 1) (lit< tt) (at_1 a b) on (split.index 0 gpa) (sym (split.below 0 gpa (lit< tt)))
 
     by_level : (level : ℕ) → level ≤ 3 → walk_end entries root gpa level ≡ map_end w t gpa level
     by_level (suc (suc (suc zero))) s = ap Found at_3

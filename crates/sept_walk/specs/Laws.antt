@@ -1,15 +1,15 @@
 -- A walk ends with what the secure EPT in memory says, and where that holds a TD's map, with what the map says.
-use Rattle.std.specs.Prelude.{◌≡◌, ◌≢◌, ℕ, zero, suc, ◌-◌, ◌^◌, ◌<◌, ◌≤◌, List, ◌++◌}
+use Rattle.std.specs.Prelude.{◌≡◌, ◌≢◌, ℕ, zero, suc, ◌+◌, ◌-◌, ◌*◌, ◌^◌, ◌<◌, ◌≤◌, List, ◌++◌}
 use Rattle.td_words.specs.Address.{word_at}
 use Rattle.td_words.specs.Packing.{Entry}
 use Rattle.td_words.specs.declared.replies.Reply.{Reply}
 use Rattle.flat_core.specs.World.{World}
 use Rattle.flat_core.specs.Row.{Item, next}
-use Rattle.flat_core.specs.Tree.{walk}
+use Rattle.flat_core.specs.Tree.{number_at, walk}
 use Rattle.sept_walk.specs.declared.walks.Walked.{Walked}
 use Rattle.sept_walk.specs.declared.walks.Walked.TheVariants.{More, Found, Failed}
 use Rattle.sept_walk.specs.Seen.{Walk}
-use Rattle.sept_walk.specs.SecureEpt.{walk_end}
+use Rattle.sept_walk.specs.SecureEpt.{index_at, walk_end}
 use Rattle.sept_walk.specs.Steps.{walk_from, address_of, answer_to, walk_after}
 use Rattle.sept_walk.specs.Maps.{HoldsMap, map_end, row_behind}
 
@@ -35,6 +35,12 @@ pub record WalksFind : Type 0 where
   pub find : (memory : ℕ → Entry) (root gpa level : ℕ) → level ≤ 3
       → told_at_most (4 - level) memory (walk_from root gpa level) ≡ walk_end (entries_in memory) root gpa level
   pub ends : (entries : ℕ → ℕ → Entry) (root gpa level : ℕ) → walk_end entries root gpa level ≢ More
+
+-- An entry's index in its page and the number of the entry above give its number; the root has no entry above.
+pub record NumbersSplit : Type 0 where
+  pub index : (level gpa : ℕ) → index_at level gpa < 512
+  pub root : (gpa : ℕ) → gpa < 2 ^ 47 → number_at 3 gpa ≡ index_at 3 gpa
+  pub below : (level gpa : ℕ) → level < 3 → number_at level gpa ≡ 512 * number_at (suc level) gpa + index_at level gpa
 
 -- Where memory holds a TD's map, a walk ends as the map says; and a row that walks goes on behind its walk exactly where
 -- that one finds its entry.

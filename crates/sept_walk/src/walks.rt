@@ -42,7 +42,7 @@ impl Model for Walk {
 }
 
 impl Walk {
-    /// A walk from a root to the entry of a level, 0 to 3, that maps a GPA.
+    /// A walk from a root to the entry of a level, 0 to 3, that maps a GPA below 2^47.
     pub fn new(root: u16, gpa: u64, level: u8) -> Walk
         requires level_in_range { level ≤ 3 }
         requires gpa_in_range { gpa < 2 ^ 47 }
