@@ -1,6 +1,10 @@
 -- Laws of addresses, packings and places.
-use Rattle.std.specs.Prelude.{◌≡◌, ◌≢◌, ℕ, ◌+◌, ◌/◌, ◌%◌, ◌<◌, Some, true}
+use Rattle.std.specs.Prelude.{◌≡◌, ◌≢◌, ◌↔◌, ℕ, ◌+◌, ◌*◌, ◌/◌, ◌%◌, ◌<◌, Some, true}
+use Rattle.td_words.specs.declared.names.LockName.{LockName}
+use Rattle.td_words.specs.declared.machines.Machine.{Machine}
+use Rattle.td_words.specs.declared.places.TheConstants.{KEY_FIRST}
 use Rattle.td_words.specs.Address.{lock_at, pamt_at, word_at, key_at}
+use Rattle.td_words.specs.Place.{WordPlace, IsIn, address, same_place, lock_place}
 use Rattle.td_words.specs.Packing.{Pamt, pamt_word, pamt_in, is_lawful_pamt, Entry, entry_word, entry_in, is_lawful_entry, Key, key_word, key_in, is_lawful_key}
 use Rattle.td_words.specs.Places.{tdr_places, tdcs_places, vp_places, stream_places, key_places, are_apart}
 
@@ -36,3 +40,11 @@ pub record ControlWordsApart : Type 0 where
   pub vp : are_apart vp_places ≡ true
   pub stream : are_apart stream_places ≡ true
   pub keys : are_apart key_places ≡ true
+
+-- no two places of a machine share an address, which is one of the machine's; two names of locks of one TD never share a
+-- place
+pub record PlacesInjective : Type 0 where
+  pub apart : (m : Machine) (q r : WordPlace) → IsIn m q → IsIn m r → address m.pages q ≡ address m.pages r → q ≡ r
+  pub inside : (m : Machine) (q : WordPlace) → IsIn m q → address m.pages q < 514 * m.pages + (KEY_FIRST + m.hkids)
+  pub same : (q r : WordPlace) → (same_place q r ≡ true) ↔ (q ≡ r)
+  pub locks : (tdcs : ℕ) (a b : LockName) → lock_place tdcs a ≡ lock_place tdcs b → a ≡ b

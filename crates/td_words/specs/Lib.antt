@@ -3,6 +3,7 @@ pub mod NameNumber
 pub mod StatusNumber
 pub mod ReplyText
 pub mod Address
+pub mod Place
 pub mod Packing
 pub mod Places
 pub mod Seen

@@ -19,10 +19,12 @@ mod refusals;
 mod replies;
 mod reply_texts;
 
-pub use addresses::{lock_address, offset_of, page_of, pamt_address, word_address};
+pub use addresses::{
+    key_address, lock_address, lock_word_address, offset_of, page_of, pamt_address, word_address,
+};
 pub use calls::{Call, GuestOp};
 pub use headers::Header;
-pub use laws::{addresses_apart, control_words_apart, packings_undone};
+pub use laws::{addresses_apart, control_words_apart, packings_undone, places_injective};
 pub use machines::{Code, Machine, OutOfMemory, SlotBundle};
 pub use names::{
     Access, Counter, EntryState, HeaderField, HkidState, LifeState, LimitName, LockName, Mode,

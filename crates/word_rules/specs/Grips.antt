@@ -1,0 +1,74 @@
+-- What a processor has of the guards: by the locks that it holds, and by its cached translations while a virtual processor
+-- is in guest on it.
+use Rattle.std.specs.Prelude.{◌≡◌, ℕ, zero, suc, ◌<◌, Bool, true, false, ◌==◌, ◌&&◌, ◌||◌, not, Option, Some, None, List, [], ◌∷◌, ◌++◌}
+use Rattle.std.specs.List.{list_any}
+use Rattle.flat_core.specs.Processor.{LockId, Held, Translation, Guest, Lp}
+use Rattle.flat_core.specs.Locks.{same_lock, is_alone, holders, sharers}
+use Rattle.flat_core.specs.Opening.{Opening}
+use Rattle.flat_core.specs.Event.{State}
+use Rattle.flat_core.specs.Laws.{IsSole, reached}
+use Rattle.word_rules.specs.Guards.{Guard, Locked, Reached, Written, Grip, Apart}
+
+abbrev pub holds : List Held → LockId → Bool
+holds hs l = list_any (λ h. same_lock h.lock l) hs
+
+abbrev pub holds_alone : List Held → LockId → Bool
+holds_alone hs l = list_any (λ h. is_alone h.mode && same_lock h.lock l) hs
+
+-- the locks of its call, and those of its guest's operation
+abbrev pub operation_locks : Option Guest → List Held
+operation_locks None = []
+operation_locks (Some g) = g.operation.held
+
+abbrev pub locks_of : Lp → List Held
+locks_of lp = lp.call.held ++ operation_locks lp.guest
+
+-- a usable translation is one of the TD in guest
+abbrev pub is_usable_at : ℕ → ℕ → Bool → Translation → Bool
+is_usable_at t p must_write c = c.tdr == t && (c.page == p && (not must_write || c.may_write))
+
+abbrev pub reaches_as : Option Guest → ℕ → Bool → List Translation → Bool
+reaches_as None p must_write cs = false
+reaches_as (Some g) p must_write cs = list_any (is_usable_at g.tdr p must_write) cs
+
+abbrev pub reaches : Lp → ℕ → Bool → Bool
+reaches lp p must_write = reaches_as lp.guest p must_write lp.cached
+
+-- of the first n processors nobody but this one reaches the page
+abbrev pub none_reaches : (ℕ → Lp) → ℕ → ℕ → ℕ → Bool → Bool
+none_reaches lps zero me p must_write = true
+none_reaches lps (suc n) me p must_write = (n == me || not (reaches (lps n) p must_write)) && none_reaches lps n me p must_write
+
+abbrev pub has_of : Lp → List Held → Guard → Bool
+has_of lp hs (Locked l) = holds hs l
+has_of lp hs (Reached p) = reaches lp p false
+has_of lp hs (Written p) = reaches lp p true
+
+abbrev pub sole_of : List Held → Guard → Bool
+sole_of hs (Locked l) = holds_alone hs l
+sole_of hs (Reached p) = false
+sole_of hs (Written p) = false
+
+abbrev pub clear_of : State → ℕ → Guard → Bool
+clear_of s me (Locked l) = false
+clear_of s me (Reached p) = none_reaches s.lps s.lp_count me p false
+clear_of s me (Written p) = none_reaches s.lps s.lp_count me p true
+
+-- the grip of a processor, with these locks of its own
+abbrev pub grip_with : State → ℕ → List Held → Grip
+grip_with s me hs = record { has = has_of (s.lps me) hs; sole = sole_of hs; clear = clear_of s me }
+
+abbrev pub grip_of : State → ℕ → Grip
+grip_of s me = grip_with s me (locks_of (s.lps me))
+
+-- nobody holds a lock beside one who holds it alone
+abbrev pub IsExclusive : State → Type 0
+IsExclusive s = (l : LockId) → IsSole (holders s.lps s.lp_count l) (sharers s.lps s.lp_count l)
+
+-- The grips of two processors are apart where locks exclude, as they do in every state of every run.
+abbrev pub GripsAreApart : Type 0
+GripsAreApart = (s : State) (p q : ℕ) → IsExclusive s → p < s.lp_count → q < s.lp_count → (p == q) ≡ false → Apart (grip_of s p) (grip_of s q)
+
+abbrev pub GripsStayApart : Type 0
+GripsStayApart = (o : Opening) (words_to_tell : Option (List ℕ)) (schedule : List ℕ) (p q : ℕ)
+    → let s = reached o words_to_tell schedule in p < s.lp_count → q < s.lp_count → (p == q) ≡ false → Apart (grip_of s p) (grip_of s q)

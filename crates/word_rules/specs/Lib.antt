@@ -1,0 +1,9 @@
+pub mod Guards
+pub mod Rules
+pub mod Uses
+pub mod Lines
+pub mod Cells
+pub mod Spots
+pub mod Permissions
+pub mod Grips
+pub mod LockWords
