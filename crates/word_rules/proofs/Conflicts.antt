@@ -29,8 +29,8 @@ no-conflict g h w a = record {
   fills_owes = λ q k. at-spot g h (spot w q) fills (λ c. owes c k) a (rules_clash.fills_owes (spot w q).class k);
   fills_fills = λ q. at-spot g h (spot w q) fills fills a (rules_clash.fills_fills (spot w q).class);
   fills_moves = λ q. at-spot g h (spot w q) fills moves a (rules_clash.fills_moves (spot w q).class);
-  swaps = λ s. at-spot g h (slot_spot w s) (λ c. writes c KeepsNothing) (λ c. owes c KeepsNothing) a (rules_clash.writes_owes Hasher KeepsNothing KeepsNothing);
-  swaps_owed = λ s. at-spot g h (slot_spot w s) (λ c. owes c KeepsNothing) (λ c. owes c KeepsNothing) a (rules_clash.owes_owes Hasher KeepsNothing KeepsNothing);
+  swaps = λ s. at-spot g h (slot_spot w s) (λ c. writes c KeepsNothing) (λ c. owes c KeepsNothing) a (rules_clash.writes_owes (slot_spot w s).class KeepsNothing KeepsNothing);
+  swaps_owed = λ s. at-spot g h (slot_spot w s) (λ c. owes c KeepsNothing) (λ c. owes c KeepsNothing) a (rules_clash.owes_owes (slot_spot w s).class KeepsNothing KeepsNothing);
 }
 
 -- a store to come, where the spot stays or is moved by the other's act

@@ -2,9 +2,4 @@ pub mod Sound
 pub mod Clash
 pub mod Fits
 pub mod Conflicts
-pub mod Sums
-pub mod Apart
-pub mod Follow
-pub mod Places
-pub mod Shown
-pub mod Anchored
+pub mod Start

@@ -18,7 +18,8 @@ use Rattle.flat_core.specs.Processor.{LockId, OfPage, OfOp, OfTree, OfEpoch, OfR
 use Rattle.flat_core.specs.Locks.{one_if, holders, sharers, refusals}
 use Rattle.flat_core.specs.Conditions.{children}
 use Rattle.flat_core.specs.Lawful.{key_owner}
-use Rattle.flat_core.specs.Event.{State}
+use Rattle.flat_core.specs.Opening.{Opening}
+use Rattle.flat_core.specs.Event.{State, start}
 use Rattle.word_rules.specs.Lines.{Line, At, Run, in_lines}
 
 -- a lock word: bit 63 for who holds it alone, and the number of those who share it or are being refused it
@@ -165,3 +166,7 @@ IsAs (Some v) x = x ≡ v
 pub record Shows (m : Machine) (words : WordPlace → ℕ) (slots : ℕ → Option (List ℕ)) (s : State) : Type 0 where
   pub word : (q : WordPlace) → IsIn m q → IsAs (cell s q) (words q)
   pub hasher : (h : ℕ) → IsAs (hasher_cell s.world h) (slots h)
+
+-- words that are all 0, with no hasher in any slot, show the start of every run
+abbrev pub StartIsShown : Type 0
+StartIsShown = (o : Opening) (words_to_tell : Option (List ℕ)) → Shows o.machine (λ q. 0) (λ h. None) (start o words_to_tell)

@@ -5,5 +5,3 @@ pub mod Lines
 pub mod Cells
 pub mod Spots
 pub mod Permissions
-pub mod Grips
-pub mod LockWords

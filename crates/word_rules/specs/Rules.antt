@@ -25,7 +25,8 @@ pub data Class : Type 0 where
   VcpuWord : Class
   StreamWord : Class
   Unused : Class  -- a word of a control page that means nothing
-  Hasher : Class  -- in a TD's slot
+  Hasher : Class  -- in the slot of a TD's HKID
+  FreeSlot : Class  -- the slot of a free HKID
 
 -- what of a word a load depends on: all of it, the page that an entry names, or that page and what the entry allows
 pub data View : Type 0 where
@@ -140,6 +141,7 @@ reads VcpuWord v = tdr_alone ∷ op_alone ∷ own_held ∷ []
 reads StreamWord v = tdr_alone ∷ op_alone ∷ tree_alone ∷ stream_held ∷ []
 reads Unused v = nobody
 reads Hasher v = one op_alone
+reads FreeSlot v = nobody
 
 -- a load under one of these finds what is shown, so it may be the act itself. A guest's walk and word access are among
 -- them
@@ -178,6 +180,7 @@ writes VcpuWord g = tdr_alone ∷ own_alone ∷ []
 writes StreamWord g = tdr_alone ∷ op_alone ∷ tree_alone ∷ stream_alone ∷ []
 writes Unused g = one (Sole Own ∷ [])
 writes Hasher g = one op_alone
+writes FreeSlot g = nobody
 
 -- a store under one of these may still be to come after the act
 abbrev pub owes : Class → Grade → Rule
@@ -220,6 +223,7 @@ moves VcpuWord = one tdr_alone
 moves StreamWord = one tdr_alone
 moves Unused = one (Sole Own ∷ [])
 moves Hasher = one tdr_alone
+moves FreeSlot = one (Sole Keys ∷ [])
 
 -- a try, an undo or a release steps on lock words alone, those of a TD under P of its TDR page
 abbrev pub tries : Class → Rule

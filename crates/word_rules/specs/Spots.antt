@@ -13,7 +13,7 @@ use Rattle.flat_core.specs.World.{World}
 use Rattle.flat_core.specs.Processor.{OfPage, OfOp, OfTree, OfEpoch, OfRtmr, OfKeys}
 use Rattle.flat_core.specs.Lawful.{key_owner}
 use Rattle.word_rules.specs.Guards.{Guard, Locked, Reached, Written, Role, Tdr, Op, Tree, Epoch, Rtmr, Own, Named, Keys, Reach, Change}
-use Rattle.word_rules.specs.Rules.{Class, PageLock, TdLock, PamtWord, KeyWord, HostWord, GuestWord, TdrWord, ChildCount, TdcsWord, TdEpoch, EpochCount, RtmrWord, DirtyWord, UpperEntry, LeafEntry, Association, VcpuWord, StreamWord, Unused, Hasher}
+use Rattle.word_rules.specs.Rules.{Class, PageLock, TdLock, PamtWord, KeyWord, HostWord, GuestWord, TdrWord, ChildCount, TdcsWord, TdEpoch, EpochCount, RtmrWord, DirtyWord, UpperEntry, LeafEntry, Association, VcpuWord, StreamWord, Unused, Hasher, FreeSlot}
 use Rattle.word_rules.specs.Lines.{Line, At, Run, in_lines}
 use Rattle.word_rules.specs.Cells.{entered_of_parity}
 
@@ -119,10 +119,10 @@ spot w (place.Pamt p) = record { class = PamtWord; td = 0; page = p; named = 0 }
 spot w (place.Key k) = record { class = if k == KEY_LOCK then PageLock else KeyWord; td = 0; page = 0; named = 0 }
 spot w (place.Word p i) = page_spot w (w.pages.owners p) p (w.pages.kinds p) i
 
--- the hasher in the slot of an HKID
-abbrev pub or_none : Option ℕ → ℕ
-or_none None = 0
-or_none (Some t) = t
+-- the slot of an HKID, with the hasher of the TD that it is given to
+abbrev pub slot_of : Option ℕ → Spot
+slot_of None = record { class = FreeSlot; td = 0; page = 0; named = 0 }
+slot_of (Some t) = record { class = Hasher; td = t; page = 0; named = 0 }
 
 abbrev pub slot_spot : World → ℕ → Spot
-slot_spot w h = record { class = Hasher; td = or_none (key_owner (w.key_table.keys h)); page = 0; named = 0 }
+slot_spot w h = slot_of (key_owner (w.key_table.keys h))

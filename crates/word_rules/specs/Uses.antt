@@ -2,7 +2,7 @@
 -- fills, each with the locks that its row has got by then (ABI Reference, "TDH leaf functions"; "TDG leaf functions").
 use Rattle.std.specs.Prelude.{◌≡◌, Bool, true, false, ◌&&◌, ◌||◌, List, [], ◌∷◌}
 use Rattle.word_rules.specs.Guards.{Role, Tdr, Op, Tree, Epoch, Rtmr, Own, Named, Keys, Reach, Change, Want, Has, Sole, Clear, Rule, same_role}
-use Rattle.word_rules.specs.Rules.{Class, PageLock, TdLock, PamtWord, KeyWord, HostWord, GuestWord, TdrWord, ChildCount, TdcsWord, TdEpoch, EpochCount, RtmrWord, DirtyWord, UpperEntry, LeafEntry, Association, VcpuWord, StreamWord, Unused, Hasher, View, Whole, ThePage, TheRights, Grade, KeepsNothing, KeepsPage, KeepsRights, reads, sees, writes, owes, fills}
+use Rattle.word_rules.specs.Rules.{Class, PageLock, TdLock, PamtWord, KeyWord, HostWord, GuestWord, TdrWord, ChildCount, TdcsWord, TdEpoch, EpochCount, RtmrWord, DirtyWord, UpperEntry, LeafEntry, Association, VcpuWord, StreamWord, Unused, Hasher, FreeSlot, View, Whole, ThePage, TheRights, Grade, KeepsNothing, KeepsPage, KeepsRights, reads, sees, writes, owes, fills, moves}
 
 -- what is had gives what is wanted
 abbrev pub gives : Want → Want → Bool
@@ -27,10 +27,6 @@ met hs (ws ∷ r) = all_given hs ws || met hs r
 abbrev pub all_met : List Want → List Rule → Bool
 all_met hs [] = true
 all_met hs (r ∷ rs) = met hs r && all_met hs rs
-
--- under these locks each of these rules is met
-abbrev pub Under : List Want → List Rule → Type 0
-Under hs rs = all_met hs rs ≡ true
 
 -- what a row does at a word of a class: it loads or finds the whole word, acts on it, still owes it, or fills it
 abbrev pub loads : Class → Rule
@@ -70,101 +66,199 @@ vp = Sole Own ∷ td
 abbrev pub vp_td_alone : List Want
 vp_td_alone = Sole Own ∷ td_alone
 
+-- the rows, in the order of the leaf table, and the parts of those whose locks grow on the way
+pub data Use : Type 0 where
+  -- what rows share: the head of a TD's row, a page that is taken, one that is given back, the test of a block
+  HeadPage : Use
+  HeadTdr : Use
+  HeadOp : Use
+  Taken : Use
+  GivenBack : Use
+  Tracked : Use
+  -- calls on host pages, keys, TDs and virtual processors
+  HostRead : Use
+  HostWrite : Use
+  PageRdmd : Use
+  CacheWb : Use
+  Reclaim : Use
+  MngCreate : Use
+  KeyConfig : Use
+  Addcx : Use
+  MngInit : Use
+  MngRdLife : Use
+  MngRdOp : Use
+  MngRdEpoch : Use
+  FlushDone : Use
+  KeyFreeid : Use
+  MrExtend : Use
+  MrFinalize : Use
+  VpCreate : Use
+  VpInit : Use
+  VpEnter : Use
+  VpExit : Use
+  VpFlush : Use
+  -- calls that build, block and remove a TD's memory
+  SeptAdd : Use
+  SeptRd : Use
+  SeptRemove : Use
+  PageAdd : Use
+  PageAddPages : Use
+  PageAug : Use
+  PageRemove : Use
+  RangeBlock : Use
+  RangeUnblock : Use
+  Track : Use
+  Relocate : Use
+  RelocateWords : Use
+  -- calls of a migration's source
+  ExportStreamCreate : Use
+  ExportImmutable : Use
+  ExportBlockWrite : Use
+  ExportBlockWriteEntry : Use
+  ExportUnblockWrite : Use
+  ExportMemoryRunning : Use
+  ExportMemoryPaused : Use
+  ExportMemoryStream : Use
+  ExportMemoryWords : Use
+  ExportTokens : Use
+  ExportPause : Use
+  ExportTdState : Use
+  ExportVpState : Use
+  ExportAbort : Use
+  ExportRestore : Use
+  -- calls of a migration's destination
+  ImportImmutable : Use
+  ImportMemory : Use
+  ImportMemoryWords : Use
+  ImportTokens : Use
+  ImportTdState : Use
+  ImportVpState : Use
+  ImportCommit : Use
+  ImportFinish : Use
+  ImportAbort : Use
+  -- guest operations, under P of the TDR page and O shared and P of the TDVPR page alone
+  GuestRegisters : Use
+  GuestWalk : Use
+  GuestPrivateLoad : Use
+  GuestPrivateStore : Use
+  GuestSharedLoad : Use
+  GuestSharedStore : Use
+  GuestAccept : Use
+  GuestAcceptEntry : Use
+  GuestAcceptWords : Use
+  GuestExtendRtmr : Use
+  -- what acts make of words: pages that are taken or given back, control pages in teardown, entries that name other pages,
+  -- operation states that let guests run or not, epoch counts, and HKIDs that are given and freed
+  TakesPage : Use
+  ReclaimsControl : Use
+  ReclaimsRest : Use
+  GivesPageBack : Use
+  GivesNodeBack : Use
+  AddsEntry : Use
+  ChangesOp : Use
+  Enters : Use
+  Leaves : Use
+  Tracks : Use
+  BeginsEpochs : Use
+  GivesHkid : Use
+  FreesHkid : Use
+
+-- whether each rule is met with these locks
+abbrev pub fits : Use → Bool
 -- what rows share: the head of a TD's row, a page that is taken, one that is given back, the test of a block
-pub record PartsFit : Type 0 where
-  pub head_page : Under (Has Own ∷ []) (loads PamtWord ∷ [])
-  pub head_tdr : Under (Has Tdr ∷ []) (loads TdrWord ∷ [])
-  pub head_op : Under td (loads TdcsWord ∷ [])
-  pub taken : Under (Sole Own ∷ []) (loads PamtWord ∷ fills HostWord ∷ still PamtWord ∷ [])
-  pub given_back : Under (Sole Own ∷ []) (acts PamtWord ∷ still PamtWord ∷ still HostWord ∷ [])
-  pub tracked : Under tree_alone_epoch (loads TdEpoch ∷ loads (EpochCount false true) ∷ finds (EpochCount false false) ∷ [])
-
+fits HeadPage = all_met (Has Own ∷ []) (loads PamtWord ∷ [])
+fits HeadTdr = all_met (Has Tdr ∷ []) (loads TdrWord ∷ [])
+fits HeadOp = all_met td (loads TdcsWord ∷ [])
+fits Taken = all_met (Sole Own ∷ []) (loads PamtWord ∷ fills HostWord ∷ still PamtWord ∷ [])
+fits GivenBack = all_met (Sole Own ∷ []) (acts PamtWord ∷ still PamtWord ∷ still HostWord ∷ [])
+fits Tracked = all_met tree_alone_epoch (loads TdEpoch ∷ loads (EpochCount false true) ∷ finds (EpochCount false false) ∷ [])
 -- calls on host pages, keys, TDs and virtual processors
-pub record ControlFits : Type 0 where
-  pub host_read : Under (Has Own ∷ []) (loads PamtWord ∷ finds HostWord ∷ [])
-  pub host_write : Under (Has Own ∷ []) (loads PamtWord ∷ acts HostWord ∷ [])
-  pub page_rdmd : Under (Has Own ∷ []) (loads PamtWord ∷ [])
-  pub cache_wb : Under (Sole Keys ∷ []) (loads KeyWord ∷ acts KeyWord ∷ still KeyWord ∷ [])
-  pub reclaim : Under (Sole Tdr ∷ Sole Own ∷ []) (loads TdrWord ∷ loads ChildCount ∷ acts PamtWord ∷ still ChildCount ∷ [])
-  pub mng_create : Under (Sole Keys ∷ Sole Tdr ∷ Sole Own ∷ []) (loads PamtWord ∷ loads KeyWord ∷ acts KeyWord ∷ acts PamtWord ∷ still PamtWord ∷ still TdrWord ∷ still ChildCount ∷ still Unused ∷ [])
-  pub key_config : Under (Sole Tdr ∷ []) (loads TdrWord ∷ acts TdrWord ∷ [])
-  pub addcx : Under (Sole Tdr ∷ Sole Own ∷ []) (loads TdrWord ∷ acts TdrWord ∷ acts PamtWord ∷ still TdLock ∷ still TdcsWord ∷ still TdEpoch ∷ still (EpochCount false true) ∷ still (EpochCount true true) ∷ still RtmrWord ∷ still DirtyWord ∷ still UpperEntry ∷ still Unused ∷ still ChildCount ∷ [])
-  pub mng_init : Under td_alone (loads TdrWord ∷ acts TdcsWord ∷ still TdEpoch ∷ acts Hasher ∷ still Hasher ∷ [])
-  pub mng_rd_life : Under (Has Tdr ∷ []) (loads TdrWord ∷ [])
-  pub mng_rd_op : Under td (loads TdcsWord ∷ [])
-  pub mng_rd_epoch : Under (Has Epoch ∷ td) (loads TdEpoch ∷ [])
-  pub flush_done : Under (Sole Keys ∷ Sole Tdr ∷ []) (loads TdrWord ∷ loads TdcsWord ∷ loads Association ∷ loads KeyWord ∷ acts TdrWord ∷ still KeyWord ∷ [])
-  pub key_freeid : Under (Sole Keys ∷ Sole Tdr ∷ []) (loads TdrWord ∷ loads KeyWord ∷ acts TdrWord ∷ still KeyWord ∷ [])
-  pub mr_extend : Under (Has Tree ∷ Has Own ∷ td_alone) (loads UpperEntry ∷ loads (LeafEntry false) ∷ loads (GuestWord false) ∷ acts Hasher ∷ still Hasher ∷ [])
-  pub mr_finalize : Under td_alone (loads TdcsWord ∷ loads VcpuWord ∷ acts Hasher ∷ acts TdcsWord ∷ still TdcsWord ∷ [])
-  pub vp_create : Under vp_td_alone (acts TdcsWord ∷ still VcpuWord ∷ still Association ∷ still Unused ∷ still TdcsWord ∷ still PamtWord ∷ loads ChildCount ∷ still ChildCount ∷ [])
-  pub vp_init : Under vp (loads VcpuWord ∷ acts VcpuWord ∷ still VcpuWord ∷ [])
-  pub vp_enter : Under (Has Epoch ∷ vp) (loads VcpuWord ∷ loads Association ∷ loads TdEpoch ∷ acts (EpochCount true true) ∷ acts (EpochCount true false) ∷ still Association ∷ still VcpuWord ∷ [])
-  pub vp_exit : Under vp (acts (EpochCount true false) ∷ acts (EpochCount false false) ∷ [])
-  pub vp_flush : Under (Has Tdr ∷ Sole Own ∷ []) (loads TdrWord ∷ loads Association ∷ acts Association ∷ [])
-
+fits HostRead = all_met (Has Own ∷ []) (loads PamtWord ∷ finds HostWord ∷ [])
+fits HostWrite = all_met (Has Own ∷ []) (loads PamtWord ∷ acts HostWord ∷ [])
+fits PageRdmd = all_met (Has Own ∷ []) (loads PamtWord ∷ [])
+fits CacheWb = all_met (Sole Keys ∷ []) (loads KeyWord ∷ acts KeyWord ∷ still KeyWord ∷ [])
+fits Reclaim = all_met (Sole Tdr ∷ Sole Own ∷ []) (loads TdrWord ∷ loads ChildCount ∷ acts PamtWord ∷ still ChildCount ∷ [])
+fits MngCreate = all_met (Sole Keys ∷ Sole Tdr ∷ Sole Own ∷ []) (loads PamtWord ∷ loads KeyWord ∷ acts KeyWord ∷ acts PamtWord ∷ still PamtWord ∷ still TdrWord ∷ still ChildCount ∷ still Unused ∷ [])
+fits KeyConfig = all_met (Sole Tdr ∷ []) (loads TdrWord ∷ acts TdrWord ∷ [])
+fits Addcx = all_met (Sole Tdr ∷ Sole Own ∷ []) (loads TdrWord ∷ acts TdrWord ∷ acts PamtWord ∷ still TdLock ∷ still TdcsWord ∷ still TdEpoch ∷ still (EpochCount false true) ∷ still (EpochCount true true) ∷ still RtmrWord ∷ still DirtyWord ∷ still UpperEntry ∷ still Unused ∷ still ChildCount ∷ [])
+fits MngInit = all_met td_alone (loads TdrWord ∷ acts TdcsWord ∷ still TdEpoch ∷ acts Hasher ∷ still Hasher ∷ [])
+fits MngRdLife = all_met (Has Tdr ∷ []) (loads TdrWord ∷ [])
+fits MngRdOp = all_met td (loads TdcsWord ∷ [])
+fits MngRdEpoch = all_met (Has Epoch ∷ td) (loads TdEpoch ∷ [])
+fits FlushDone = all_met (Sole Keys ∷ Sole Tdr ∷ []) (loads TdrWord ∷ loads TdcsWord ∷ loads Association ∷ loads KeyWord ∷ acts TdrWord ∷ still KeyWord ∷ [])
+fits KeyFreeid = all_met (Sole Keys ∷ Sole Tdr ∷ []) (loads TdrWord ∷ loads KeyWord ∷ acts TdrWord ∷ still KeyWord ∷ [])
+fits MrExtend = all_met (Has Tree ∷ Has Own ∷ td_alone) (loads UpperEntry ∷ loads (LeafEntry false) ∷ loads (GuestWord false) ∷ acts Hasher ∷ still Hasher ∷ [])
+fits MrFinalize = all_met td_alone (loads TdcsWord ∷ loads VcpuWord ∷ acts Hasher ∷ acts TdcsWord ∷ still TdcsWord ∷ [])
+fits VpCreate = all_met vp_td_alone (acts TdcsWord ∷ still VcpuWord ∷ still Association ∷ still Unused ∷ still TdcsWord ∷ still PamtWord ∷ loads ChildCount ∷ still ChildCount ∷ [])
+fits VpInit = all_met vp (loads VcpuWord ∷ acts VcpuWord ∷ still VcpuWord ∷ [])
+fits VpEnter = all_met (Has Epoch ∷ vp) (loads VcpuWord ∷ loads Association ∷ loads TdEpoch ∷ acts (EpochCount true true) ∷ acts (EpochCount true false) ∷ still Association ∷ still VcpuWord ∷ [])
+fits VpExit = all_met vp (acts (EpochCount true false) ∷ acts (EpochCount false false) ∷ [])
+fits VpFlush = all_met (Has Tdr ∷ Sole Own ∷ []) (loads TdrWord ∷ loads Association ∷ acts Association ∷ [])
 -- calls that build, block and remove a TD's memory
-pub record MemoryFits : Type 0 where
-  pub sept_add : Under with_tree_alone (loads UpperEntry ∷ acts UpperEntry ∷ loads ChildCount ∷ still ChildCount ∷ [])
-  pub sept_rd : Under with_tree_alone (loads UpperEntry ∷ loads (LeafEntry true) ∷ loads (LeafEntry false) ∷ [])
-  pub sept_remove : Under tree_alone_epoch (loads UpperEntry ∷ loads (LeafEntry true) ∷ acts UpperEntry ∷ loads ChildCount ∷ still ChildCount ∷ [])
-  pub page_add : Under (Sole Tree ∷ td_alone) (loads UpperEntry ∷ loads (LeafEntry false) ∷ acts (LeafEntry false) ∷ loads ChildCount ∷ still ChildCount ∷ still Hasher ∷ [])
-  pub page_add_pages : Under (Sole Own ∷ []) (loads HostWord ∷ fills HostWord ∷ [])
-  pub page_aug : Under with_tree_alone (loads UpperEntry ∷ loads (LeafEntry true) ∷ acts (LeafEntry true) ∷ loads ChildCount ∷ still ChildCount ∷ [])
-  pub page_remove : Under tree_alone_epoch (loads UpperEntry ∷ loads (LeafEntry true) ∷ acts (LeafEntry true) ∷ loads ChildCount ∷ still ChildCount ∷ [])
-  pub range_block : Under tree_alone_epoch (loads UpperEntry ∷ loads (LeafEntry true) ∷ loads TdEpoch ∷ acts UpperEntry ∷ acts (LeafEntry true) ∷ [])
-  pub range_unblock : Under tree_alone_epoch (loads UpperEntry ∷ loads (LeafEntry true) ∷ acts UpperEntry ∷ acts (LeafEntry true) ∷ [])
-  pub track : Under (Sole Epoch ∷ td) (loads TdEpoch ∷ loads (EpochCount false true) ∷ finds (EpochCount false false) ∷ acts TdEpoch ∷ [])
-  pub relocate : Under tree_alone_epoch (loads (LeafEntry true) ∷ acts (LeafEntry true) ∷ [])
-  pub relocate_words : Under (Clear Change ∷ Sole Own ∷ td) (loads (GuestWord true) ∷ [])
-
+fits SeptAdd = all_met with_tree_alone (loads UpperEntry ∷ acts UpperEntry ∷ loads ChildCount ∷ still ChildCount ∷ [])
+fits SeptRd = all_met with_tree_alone (loads UpperEntry ∷ loads (LeafEntry true) ∷ loads (LeafEntry false) ∷ [])
+fits SeptRemove = all_met tree_alone_epoch (loads UpperEntry ∷ loads (LeafEntry true) ∷ acts UpperEntry ∷ loads ChildCount ∷ still ChildCount ∷ [])
+fits PageAdd = all_met (Sole Tree ∷ td_alone) (loads UpperEntry ∷ loads (LeafEntry false) ∷ acts (LeafEntry false) ∷ loads ChildCount ∷ still ChildCount ∷ still Hasher ∷ [])
+fits PageAddPages = all_met (Sole Own ∷ []) (loads HostWord ∷ fills HostWord ∷ [])
+fits PageAug = all_met with_tree_alone (loads UpperEntry ∷ loads (LeafEntry true) ∷ acts (LeafEntry true) ∷ loads ChildCount ∷ still ChildCount ∷ [])
+fits PageRemove = all_met tree_alone_epoch (loads UpperEntry ∷ loads (LeafEntry true) ∷ acts (LeafEntry true) ∷ loads ChildCount ∷ still ChildCount ∷ [])
+fits RangeBlock = all_met tree_alone_epoch (loads UpperEntry ∷ loads (LeafEntry true) ∷ loads TdEpoch ∷ acts UpperEntry ∷ acts (LeafEntry true) ∷ [])
+fits RangeUnblock = all_met tree_alone_epoch (loads UpperEntry ∷ loads (LeafEntry true) ∷ acts UpperEntry ∷ acts (LeafEntry true) ∷ [])
+fits Track = all_met (Sole Epoch ∷ td) (loads TdEpoch ∷ loads (EpochCount false true) ∷ finds (EpochCount false false) ∷ acts TdEpoch ∷ [])
+fits Relocate = all_met tree_alone_epoch (loads (LeafEntry true) ∷ acts (LeafEntry true) ∷ [])
+fits RelocateWords = all_met (Clear Change ∷ Sole Own ∷ td) (loads (GuestWord true) ∷ [])
 -- calls of a migration's source
-pub record ExportFits : Type 0 where
-  pub stream_create : Under vp_td_alone (acts TdcsWord ∷ still StreamWord ∷ still Unused ∷ still TdcsWord ∷ still ChildCount ∷ [])
-  pub immutable : Under (Sole Keys ∷ td_alone) (loads TdcsWord ∷ loads StreamWord ∷ loads DirtyWord ∷ loads KeyWord ∷ acts KeyWord ∷ still TdcsWord ∷ still StreamWord ∷ still DirtyWord ∷ [])
-  pub block_write : Under tree_epoch (loads UpperEntry ∷ reads (LeafEntry true) ThePage ∷ loads TdEpoch ∷ [])
-  pub block_write_entry : Under (Sole Named ∷ tree_epoch) (loads (LeafEntry true) ∷ writes (LeafEntry true) KeepsPage ∷ [])
-  pub unblock_write : Under with_tree_alone (loads (LeafEntry true) ∷ acts (LeafEntry true) ∷ loads DirtyWord ∷ still DirtyWord ∷ [])
-  pub memory_running : Under (Sole Named ∷ tree_epoch) (loads (LeafEntry true) ∷ writes (LeafEntry true) KeepsPage ∷ owes (LeafEntry true) KeepsRights ∷ [])
-  pub memory_paused : Under (Sole Named ∷ tree_epoch) (loads (LeafEntry false) ∷ writes (LeafEntry false) KeepsPage ∷ owes (LeafEntry false) KeepsPage ∷ [])
-  pub memory_stream : Under (Sole Own ∷ with_tree) (loads StreamWord ∷ still StreamWord ∷ loads (GuestWord false) ∷ [])
-  pub memory_words : Under (Clear Change ∷ Sole Own ∷ td) (loads (GuestWord true) ∷ [])
-  pub tokens : Under (Sole Tree ∷ td_alone) (loads StreamWord ∷ loads DirtyWord ∷ loads TdcsWord ∷ acts TdcsWord ∷ still StreamWord ∷ [])
-  pub pause : Under (Sole Tree ∷ td_alone) (acts TdcsWord ∷ [])
-  pub td_state : Under td_alone (loads RtmrWord ∷ acts TdcsWord ∷ still StreamWord ∷ [])
-  pub vp_state : Under vp_td_alone (loads VcpuWord ∷ acts VcpuWord ∷ still VcpuWord ∷ still TdcsWord ∷ still StreamWord ∷ [])
-  pub abort : Under (Sole Tree ∷ td_alone) (loads TdcsWord ∷ loads StreamWord ∷ acts TdcsWord ∷ [])
-  pub restore : Under with_tree_alone (loads (LeafEntry true) ∷ acts (LeafEntry true) ∷ still DirtyWord ∷ [])
-
+fits ExportStreamCreate = all_met vp_td_alone (acts TdcsWord ∷ still StreamWord ∷ still Unused ∷ still TdcsWord ∷ still ChildCount ∷ [])
+fits ExportImmutable = all_met (Sole Keys ∷ td_alone) (loads TdcsWord ∷ loads StreamWord ∷ loads DirtyWord ∷ loads KeyWord ∷ acts KeyWord ∷ still TdcsWord ∷ still StreamWord ∷ still DirtyWord ∷ [])
+fits ExportBlockWrite = all_met tree_epoch (loads UpperEntry ∷ reads (LeafEntry true) ThePage ∷ loads TdEpoch ∷ [])
+fits ExportBlockWriteEntry = all_met (Sole Named ∷ tree_epoch) (loads (LeafEntry true) ∷ writes (LeafEntry true) KeepsPage ∷ [])
+fits ExportUnblockWrite = all_met with_tree_alone (loads (LeafEntry true) ∷ acts (LeafEntry true) ∷ loads DirtyWord ∷ still DirtyWord ∷ [])
+fits ExportMemoryRunning = all_met (Sole Named ∷ tree_epoch) (loads (LeafEntry true) ∷ writes (LeafEntry true) KeepsPage ∷ owes (LeafEntry true) KeepsRights ∷ [])
+fits ExportMemoryPaused = all_met (Sole Named ∷ tree_epoch) (loads (LeafEntry false) ∷ writes (LeafEntry false) KeepsPage ∷ owes (LeafEntry false) KeepsPage ∷ [])
+fits ExportMemoryStream = all_met (Sole Own ∷ with_tree) (loads StreamWord ∷ still StreamWord ∷ loads (GuestWord false) ∷ [])
+fits ExportMemoryWords = all_met (Clear Change ∷ Sole Own ∷ td) (loads (GuestWord true) ∷ [])
+fits ExportTokens = all_met (Sole Tree ∷ td_alone) (loads StreamWord ∷ loads DirtyWord ∷ loads TdcsWord ∷ acts TdcsWord ∷ still StreamWord ∷ [])
+fits ExportPause = all_met (Sole Tree ∷ td_alone) (acts TdcsWord ∷ [])
+fits ExportTdState = all_met td_alone (loads RtmrWord ∷ acts TdcsWord ∷ still StreamWord ∷ [])
+fits ExportVpState = all_met vp_td_alone (loads VcpuWord ∷ acts VcpuWord ∷ still VcpuWord ∷ still TdcsWord ∷ still StreamWord ∷ [])
+fits ExportAbort = all_met (Sole Tree ∷ td_alone) (loads TdcsWord ∷ loads StreamWord ∷ acts TdcsWord ∷ [])
+fits ExportRestore = all_met with_tree_alone (loads (LeafEntry true) ∷ acts (LeafEntry true) ∷ still DirtyWord ∷ [])
 -- calls of a migration's destination
-pub record ImportFits : Type 0 where
-  pub immutable : Under (Sole Keys ∷ td_alone) (loads KeyWord ∷ acts TdcsWord ∷ still TdcsWord ∷ still TdEpoch ∷ still KeyWord ∷ still StreamWord ∷ [])
-  pub memory : Under with_tree_alone (loads StreamWord ∷ loads TdcsWord ∷ loads (LeafEntry true) ∷ loads (LeafEntry false) ∷ acts (LeafEntry true) ∷ acts (LeafEntry false) ∷ still (LeafEntry false) ∷ still StreamWord ∷ still ChildCount ∷ [])
-  pub memory_words : Under (Sole Own ∷ with_tree_alone) (acts (GuestWord false) ∷ still (GuestWord false) ∷ fills (GuestWord false) ∷ [])
-  pub tokens : Under (Sole Tree ∷ td_alone) (loads StreamWord ∷ loads TdcsWord ∷ acts TdcsWord ∷ still StreamWord ∷ [])
-  pub td_state : Under td_alone (acts RtmrWord ∷ still RtmrWord ∷ still TdcsWord ∷ still StreamWord ∷ [])
-  pub vp_state : Under vp_td_alone (loads VcpuWord ∷ acts VcpuWord ∷ still VcpuWord ∷ still StreamWord ∷ [])
-  pub commit : Under (Sole Tree ∷ td_alone) (acts TdcsWord ∷ [])
-  pub finish : Under td_alone (acts TdcsWord ∷ [])
-  pub abort : Under (Sole Tree ∷ td_alone) (loads TdcsWord ∷ acts TdcsWord ∷ [])
-
+fits ImportImmutable = all_met (Sole Keys ∷ td_alone) (loads KeyWord ∷ acts TdcsWord ∷ still TdcsWord ∷ still TdEpoch ∷ still KeyWord ∷ still StreamWord ∷ [])
+fits ImportMemory = all_met with_tree_alone (loads StreamWord ∷ loads TdcsWord ∷ loads (LeafEntry true) ∷ loads (LeafEntry false) ∷ acts (LeafEntry true) ∷ acts (LeafEntry false) ∷ still (LeafEntry false) ∷ still StreamWord ∷ still ChildCount ∷ [])
+fits ImportMemoryWords = all_met (Sole Own ∷ with_tree_alone) (acts (GuestWord false) ∷ still (GuestWord false) ∷ fills (GuestWord false) ∷ [])
+fits ImportTokens = all_met (Sole Tree ∷ td_alone) (loads StreamWord ∷ loads TdcsWord ∷ acts TdcsWord ∷ still StreamWord ∷ [])
+fits ImportTdState = all_met td_alone (acts RtmrWord ∷ still RtmrWord ∷ still TdcsWord ∷ still StreamWord ∷ [])
+fits ImportVpState = all_met vp_td_alone (loads VcpuWord ∷ acts VcpuWord ∷ still VcpuWord ∷ still StreamWord ∷ [])
+fits ImportCommit = all_met (Sole Tree ∷ td_alone) (acts TdcsWord ∷ [])
+fits ImportFinish = all_met td_alone (acts TdcsWord ∷ [])
+fits ImportAbort = all_met (Sole Tree ∷ td_alone) (loads TdcsWord ∷ acts TdcsWord ∷ [])
 -- guest operations, under P of the TDR page and O shared and P of the TDVPR page alone
-pub record OperationsFit : Type 0 where
-  pub registers : Under vp (loads VcpuWord ∷ acts VcpuWord ∷ still VcpuWord ∷ [])
-  pub walk : Under td (sees UpperEntry TheRights ∷ sees (LeafEntry true) TheRights ∷ [])
-  pub private_load : Under (Has Reach ∷ td) (finds (GuestWord true) ∷ [])
-  pub private_store : Under (Has Change ∷ Has Reach ∷ td) (acts (GuestWord true) ∷ [])
-  pub shared_load : Under (Has Own ∷ td) (loads PamtWord ∷ finds HostWord ∷ [])
-  pub shared_store : Under (Has Own ∷ td) (loads PamtWord ∷ acts HostWord ∷ [])
-  pub accept : Under with_tree (loads UpperEntry ∷ reads (LeafEntry true) ThePage ∷ [])
-  pub accept_entry : Under (Sole Named ∷ with_tree) (loads (LeafEntry true) ∷ writes (LeafEntry true) KeepsPage ∷ [])
-  pub accept_words : Under (Clear Reach ∷ Sole Own ∷ td) (fills (GuestWord true) ∷ [])
-  pub extend_rtmr : Under (Sole Rtmr ∷ td) (loads RtmrWord ∷ acts RtmrWord ∷ still RtmrWord ∷ [])
+fits GuestRegisters = all_met vp (loads VcpuWord ∷ acts VcpuWord ∷ still VcpuWord ∷ [])
+fits GuestWalk = all_met td (sees UpperEntry TheRights ∷ sees (LeafEntry true) TheRights ∷ [])
+fits GuestPrivateLoad = all_met (Has Reach ∷ td) (finds (GuestWord true) ∷ [])
+fits GuestPrivateStore = all_met (Has Change ∷ Has Reach ∷ td) (acts (GuestWord true) ∷ [])
+fits GuestSharedLoad = all_met (Has Own ∷ td) (loads PamtWord ∷ finds HostWord ∷ [])
+fits GuestSharedStore = all_met (Has Own ∷ td) (loads PamtWord ∷ acts HostWord ∷ [])
+fits GuestAccept = all_met with_tree (loads UpperEntry ∷ reads (LeafEntry true) ThePage ∷ [])
+fits GuestAcceptEntry = all_met (Sole Named ∷ with_tree) (loads (LeafEntry true) ∷ writes (LeafEntry true) KeepsPage ∷ [])
+fits GuestAcceptWords = all_met (Clear Reach ∷ Sole Own ∷ td) (fills (GuestWord true) ∷ [])
+fits GuestExtendRtmr = all_met (Sole Rtmr ∷ td) (loads RtmrWord ∷ acts RtmrWord ∷ still RtmrWord ∷ [])
+-- what acts make of words: pages that are taken or given back, control pages in teardown, entries that name other pages,
+-- operation states that let guests run or not, epoch counts, and HKIDs that are given and freed
+fits TakesPage = all_met (Sole Own ∷ []) (moves HostWord ∷ [])
+fits ReclaimsControl = all_met (Sole Tdr ∷ Sole Own ∷ []) (moves TdLock ∷ moves TdrWord ∷ moves ChildCount ∷ moves TdcsWord ∷ moves TdEpoch ∷ moves (EpochCount true true) ∷ moves (EpochCount true false) ∷ moves (EpochCount false true) ∷ moves (EpochCount false false) ∷ moves RtmrWord ∷ moves DirtyWord ∷ moves Unused ∷ [])
+fits ReclaimsRest = all_met (Sole Tdr ∷ Sole Own ∷ []) (moves UpperEntry ∷ moves (LeafEntry true) ∷ moves (LeafEntry false) ∷ moves Association ∷ moves VcpuWord ∷ moves StreamWord ∷ moves (GuestWord true) ∷ moves (GuestWord false) ∷ [])
+fits GivesPageBack = all_met (Sole Own ∷ tree_alone_epoch) (moves (GuestWord true) ∷ moves (LeafEntry true) ∷ [])
+fits GivesNodeBack = all_met (Sole Own ∷ tree_alone_epoch) (moves UpperEntry ∷ moves (LeafEntry true) ∷ moves Unused ∷ [])
+fits AddsEntry = all_met with_tree_alone (moves (LeafEntry true) ∷ moves (LeafEntry false) ∷ [])
+fits ChangesOp = all_met td_alone (moves (GuestWord true) ∷ moves (GuestWord false) ∷ moves (LeafEntry true) ∷ moves (LeafEntry false) ∷ [])
+fits Enters = all_met (Has Epoch ∷ vp) (moves (EpochCount true true) ∷ moves (EpochCount true false) ∷ [])
+fits Leaves = all_met vp (moves (EpochCount true false) ∷ moves (EpochCount false false) ∷ [])
+fits Tracks = all_met (Sole Epoch ∷ td) (moves (EpochCount true true) ∷ moves (EpochCount true false) ∷ moves (EpochCount false true) ∷ [])
+fits BeginsEpochs = all_met td_alone (moves (EpochCount true true) ∷ moves (EpochCount false true) ∷ [])
+fits GivesHkid = all_met (Sole Keys ∷ Sole Tdr ∷ Sole Own ∷ []) (moves FreeSlot ∷ [])
+fits FreesHkid = all_met (Sole Keys ∷ Sole Tdr ∷ []) (moves Hasher ∷ [])
 
-pub record LeafTableFits : Type 0 where
-  pub parts : PartsFit
-  pub control : ControlFits
-  pub memory : MemoryFits
-  pub exports : ExportFits
-  pub imports : ImportFits
-  pub operations : OperationsFit
+abbrev pub LeafTableFits : Type 0
+LeafTableFits = (u : Use) → fits u ≡ true

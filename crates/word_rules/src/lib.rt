@@ -1,9 +1,14 @@
 //! What the words of memory show of the flat machine, and who may change which of them.
+//!
+//! The table of rules is data: for each class of words the locks under which a word is stable to
+//! read, safe to see, allowed to store, owed, filled, and allowed to become another. A layer above
+//! may use that no two processors conflict at a word where their grips are apart
+//! (`words_never_conflict`), and that the locks of each row allow what its call does
+//! (`leaf_table_fits`).
 #![tactic(auto)]
 
 mod laws;
 
 pub use laws::{
-    grips_are_apart, leaf_table_fits, lock_steps_shown, lock_words_follow, respects_compose,
-    rules_clash, start_is_shown, td_locks_stay, words_never_conflict,
+    leaf_table_fits, respects_compose, rules_clash, start_is_shown, words_never_conflict,
 };

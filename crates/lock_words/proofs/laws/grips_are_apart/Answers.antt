@@ -1,6 +1,6 @@
 use Rattle.flat_core.specs.Laws.{reached}
-use Rattle.word_rules.proofs.Apart.{grips-apart}
-use Rattle.word_rules.proofs.laws.grips_are_apart.Goals as goal
+use Rattle.lock_words.proofs.Apart.{grips-apart}
+use Rattle.lock_words.proofs.laws.grips_are_apart.Goals as goal
 
 pub returns-clause-where_locks_exclude : goal.returns-clause-where_locks_exclude
 returns-clause-where_locks_exclude c = grips-apart

@@ -1,6 +1,8 @@
 -- Lock words follow the states of locks, through every try, undo and release.
-use Rattle.std.specs.Prelude.{◌≡◌, ◌⊎◌, ℕ, ◌+◌, ◌^◌, ◌<◌, Bool, true, false, ◌==◌, nat_lt, if◌then◌else◌, Option, Some, None, List, length, slice_index}
+use Rattle.std.specs.Prelude.{◌≡◌, ◌⊎◌, ℕ, ◌+◌, ◌^◌, ◌<◌, Bool, true, false, ◌==◌, nat_lt, if◌then◌else◌, Option, Some, None, List, [], ◌∷◌, length, slice_index}
 use Rattle.td_words.specs.declared.names.LockName.TheVariants as name
+use Rattle.td_words.specs.declared.calls.Call.{Call}
+use Rattle.td_words.specs.declared.names.OpState.{OpState}
 use Rattle.td_words.specs.declared.names.Mode.{Mode}
 use Rattle.td_words.specs.declared.names.Mode.TheVariants.{Shared, Exclusive}
 use Rattle.td_words.specs.declared.machines.Machine.{Machine}
@@ -10,8 +12,10 @@ use Rattle.flat_core.specs.Processor.{LockId, OfPage, OfOp, OfTree, OfEpoch, OfR
 use Rattle.flat_core.specs.Locks.{same_lock, one_if, holders, sharers, refusals, grants}
 use Rattle.flat_core.specs.Lawful.{Lawful, IsAlive}
 use Rattle.flat_core.specs.Opening.{Opening}
-use Rattle.flat_core.specs.Row.{Move, Attempts, Undoes, Refuses, Succeeds, Releases, Rests}
-use Rattle.flat_core.specs.Event.{State, Event, OfCall, OfOperation, Walks, Reaches, Leaves, start, next_event, is_granted, event}
+use Rattle.flat_core.specs.Row.{Move, Attempts, Undoes, Refuses, Succeeds, Releases, Rests, Passes, next_in}
+use Rattle.flat_core.specs.Event.{State, Event, OfCall, OfOperation, Walks, Reaches, Leaves, start, next_event, calls_of, is_granted, event}
+use Rattle.flat_core.specs.Conditions.{td_row}
+use Rattle.flat_core.specs.Table.{row_of}
 use Rattle.flat_core.specs.Laws.{IsQuiet}
 use Rattle.word_rules.specs.Guards.{Grip, Locked}
 use Rattle.word_rules.specs.Cells.{lock_word, Shows}
@@ -128,6 +132,13 @@ abbrev pub TdLocksStay : Type 0
 TdLocksStay = (m : Machine) (g : Grip) (before after : World) (t : ℕ) → Lawful m before → Respects g before after → g.sole (Locked (OfPage t)) ≡ false
     → TdStands before t → (tdcs_of after t ≡ tdcs_of before t) × TdStands after t
 
--- words that are all 0 show the start of every run
-abbrev pub StartIsShown : Type 0
-StartIsShown = (o : Opening) (words_to_tell : Option (List ℕ)) → Shows o.machine (λ q. 0) (λ h. None) (start o words_to_tell)
+-- Where the conditions at the beginning of a TD's row hold, its locks stand.
+abbrev pub HeadsStand : Type 0
+HeadsStand = (w : World) (t : ℕ) (mode : Mode) (allowed : List OpState) → Passes (td_row w t mode allowed) → TdStands w t
+
+-- At the start of a run the first event of each processor with a call is that call's, no lock is shared, and nobody is
+-- being refused one.
+pub record StartFollows : Type 0 where
+  pub next : (o : Opening) (words_to_tell : Option (List ℕ)) (p : ℕ) (c : Call) (cs : List Call) → p < length o.calls → calls_of o.calls p ≡ c ∷ cs
+      → let s = start o words_to_tell in IsNext o s p (OfCall (row_of o p c) (next_in ((row_of o p c).items s.world) Trying []))
+  pub few : (o : Opening) (words_to_tell : Option (List ℕ)) (l : LockId) → let s = start o words_to_tell in sharers s.lps s.lp_count l + refusals s.lps s.lp_count l ≡ 0

@@ -23,8 +23,8 @@ use Rattle.td_words.specs.Packing.{Entry}
 use Rattle.flat_core.specs.Table.{row_of}
 use Rattle.flat_core.specs.Event.{State, Event, OfCall, OfOperation, Walks, Reaches, Leaves, next_event, event_for, line_event, entered_event, epoch_event, is_epoch_lock, guest_event, staying_event, due_event, max_event, operation_event, private_event, operation_due, nothing_more, lines_left, lp_after, call_lp, succeeded, settle, settled, settle_operation, settled_guest, operation_guest, call_busy, operation_busy, is_granted, event, after_event}
 use Rattle.word_rules.specs.Cells.{lock_word}
-use Rattle.word_rules.specs.LockWords.{weight_of, weight_at, move_adds, move_takes_off, adds, takes_off, LetsGo, has_let_go, IsNext, LockWordsFollow}
-use Rattle.word_rules.proofs.Sums.{by_test, sum-put}
+use Rattle.lock_words.specs.LockWords.{weight_of, weight_at, move_adds, move_takes_off, adds, takes_off, LetsGo, has_let_go, IsNext, LockWordsFollow}
+use Rattle.lock_words.proofs.Sums.{by_test, sum-put}
 
 -- what a call's or an operation's progress adds to a lock's word
 abbrev part_in : {R : Type 0} → LockId → Progress R → ℕ

@@ -2,7 +2,7 @@
 use Rattle.std.proofs.Common.{◌≡◌, refl, ap, ℕ, Bool, true, false, ◌==◌, ◌&&◌}
 use Rattle.std.proofs.lemmas.Bool.{eq-eqb, eqb-true}
 use Rattle.td_words.specs.Place.{WordPlace, Lock, Pamt, Word, Key, same_place}
-use Rattle.word_rules.proofs.Sound.{and-left, and-right}
+use Rattle.lock_words.proofs.Sums.{and-left, and-right}
 
 pub same-place-true : (q r : WordPlace) → same_place q r ≡ true → q ≡ r
 same-place-true (Lock p) (Lock q) h = ap Lock (eqb-true p q h)

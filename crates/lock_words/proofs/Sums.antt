@@ -1,6 +1,6 @@
--- Sums over processors.
-use Rattle.std.proofs.Common.{◌≡◌, ◌⊎◌, refl, sym, ◌∙◌, ap, subst, inl, inr, ℕ, zero, suc, ◌+◌, ◌*◌, ◌<◌, ◌≤◌, Bool, true, false, ◌==◌, if◌then◌else◌, arith}
-use Rattle.std.proofs.lemmas.Bool.{eq-eqb, eqb-true, eqb-false, ne_eqb}
+-- Tests, and sums over processors.
+use Rattle.std.proofs.Common.{◌≡◌, ◌⊎◌, refl, sym, ap, inl, inr, ℕ, zero, suc, ◌+◌, ◌<◌, ◌≤◌, Bool, true, false, ◌==◌, ◌&&◌, ◌||◌, if◌then◌else◌, arith}
+use Rattle.std.proofs.lemmas.Bool.{eqb-true, eqb-false, ne_eqb}
 use Rattle.flat_core.specs.World.{put}
 use Rattle.flat_core.specs.Processor.{Lp}
 use Rattle.flat_core.specs.Locks.{sum_below}
@@ -8,6 +8,20 @@ use Rattle.flat_core.specs.Locks.{sum_below}
 pub by_test : {A : Type 0} (b : Bool) → (b ≡ true → A) → (b ≡ false → A) → A
 by_test true t f = t refl
 by_test false t f = f refl
+
+pub or-case : (a b : Bool) → (a || b) ≡ true → (a ≡ true) ⊎ (b ≡ true)
+or-case true b h = inl refl
+or-case false b h = inr h
+
+pub and-left : (a b : Bool) → (a && b) ≡ true → a ≡ true
+and-left true b h = refl
+and-left false b h = cc
+
+pub and-right : (a b : Bool) → (a && b) ≡ true → b ≡ true
+and-right true b h = h
+and-right false b h = cc
+
+-- one or two processors of n
 
 below : (p n : ℕ) → p < suc n → (p == n) ≡ false → p < n
 below p n h ne = let d : p ≡ n → ⊥ = eqb-false p n ne in omega (arith, h, d)

@@ -8,9 +8,9 @@ use Rattle.flat_core.specs.Locks.{same_lock, is_alone, one_if, alone_in, shared_
 use Rattle.flat_core.specs.Event.{State}
 use Rattle.flat_core.specs.Laws.{IsSole}
 use Rattle.word_rules.specs.Guards.{Guard, Locked, Reached, Written, Grip, Parted, Apart}
-use Rattle.word_rules.specs.Grips.{holds, holds_alone, operation_locks, locks_of, reaches, none_reaches, has_of, sole_of, clear_of, grip_of, IsExclusive, GripsAreApart}
-use Rattle.word_rules.proofs.Sound.{or-case, and-left, and-right}
-use Rattle.word_rules.proofs.Sums.{by_test, le-sum, two-sum}
+use Rattle.lock_words.specs.Grips.{holds, holds_alone, operation_locks, locks_of, reaches, none_reaches, has_of, sole_of, clear_of, grip_of, IsExclusive, GripsAreApart}
+use Rattle.lock_words.proofs.Sums.{or-case, and-left, and-right}
+use Rattle.lock_words.proofs.Sums.{by_test, le-sum, two-sum}
 
 alone-more : (l : LockId) (a b : List Held) → alone_in l (a ++ b) ≡ alone_in l a + alone_in l b
 alone-more l [] b = omega arith

@@ -16,9 +16,9 @@ use Rattle.word_rules.specs.Guards.{Grip, Locked}
 use Rattle.word_rules.specs.Rules.{Class, TdLock, TdrWord, Unused, UpperEntry, LeafEntry, moves}
 use Rattle.word_rules.specs.Spots.{Spot, spot, page_spot, control_class, root_class, entry_class}
 use Rattle.word_rules.specs.Permissions.{MayAt, Respects}
-use Rattle.word_rules.specs.LockWords.{tdcs_of, TdStands, TdLocksStay}
-use Rattle.word_rules.proofs.Sums.{by_test}
-use Rattle.word_rules.proofs.Shown.{tdcs-page}
+use Rattle.lock_words.specs.LockWords.{tdcs_of, TdStands, TdLocksStay}
+use Rattle.lock_words.proofs.Sums.{by_test}
+use Rattle.lock_words.proofs.Shown.{tdcs-page}
 
 abbrev lock_spot : ℕ → ℕ → Spot
 lock_spot t c = record { class = TdLock; td = t; page = c; named = 0 }
@@ -134,8 +134,10 @@ td-locks-stay m g w w' t la r n st =
     let found = of-kind w' (w'.pages.owners c) c (w'.pages.kinds c) (ap (λ (s : Spot). s.class) now) in
     let owner : w'.pages.owners c ≡ t = sym (td-of w' (w'.pages.owners c) c TDCS_OP_LOCK (w'.pages.kinds c) found.kind_is) ∙ ap (λ (s : Spot). s.td) now in
     let controls : w'.tds.controls t ≡ c ∷ found.rest = subst (λ (z : ℕ). w'.tds.controls z ≡ c ∷ found.rest) owner found.controls in
-    let life : w'.tds.lives t ≡ w.tds.lives t = lived g t (w.tds.lives t) (w'.tds.lives t) n (r.life t) in
-    (ap (λ (z : List ℕ). slice_index z 0) controls, record {
-      alive = record { kind = of-root w' (w'.pages.owners t) t (w'.pages.kinds t) (ap (λ (s : Spot). s.class) root); life = rw life st.alive.life };
-      has_tdcs = not-empty c found.rest (w'.tds.controls t) controls;
-    })
+    let life : w'.tds.lives t ≡ w.tds.lives t = lived g t (w.tds.lives t) (w'.tds.lives t) n (r.life t) in (
+      ap (λ (z : List ℕ). slice_index z 0) controls,
+      record {
+        alive = record { kind = of-root w' (w'.pages.owners t) t (w'.pages.kinds t) (ap (λ (s : Spot). s.class) root); life = rw life st.alive.life };
+        has_tdcs = not-empty c found.rest (w'.tds.controls t) controls;
+      },
+    )

@@ -23,10 +23,10 @@ use Rattle.flat_core.specs.Laws.{IsQuiet, QuietEventsStay}
 use Rattle.flat_core.specs.World.{put}
 use Rattle.word_rules.specs.Lines.{Line, in_lines}
 use Rattle.word_rules.specs.Cells.{lock_word, td_lock_lines, tdcs_lines, control_cell, root_cell, if_stands, key_cell, page_cell, cell_in, cell, IsAs, Shows}
-use Rattle.word_rules.specs.LockWords.{tdcs_of, place_of, TdStands, Stands, weight_at, move_adds, move_takes_off, adds, takes_off, move_lock, lock_of, IsNext, put_word, LockStepsShown, StartIsShown}
-use Rattle.word_rules.proofs.Sums.{by_test}
-use Rattle.word_rules.proofs.Places.{same-place-true, same-word}
-use Rattle.word_rules.proofs.Follow.{lock-words-follow}
+use Rattle.lock_words.specs.LockWords.{tdcs_of, place_of, TdStands, Stands, weight_at, move_adds, move_takes_off, adds, takes_off, move_lock, lock_of, IsNext, put_word, LockStepsShown}
+use Rattle.lock_words.proofs.Sums.{by_test}
+use Rattle.lock_words.proofs.Places.{same-place-true, same-word}
+use Rattle.lock_words.proofs.Follow.{lock-words-follow}
 
 -- the word of a lock that stands is shown
 
@@ -94,15 +94,19 @@ four w a b l t i c off e ne =
         let at : tdcs_of w u ≡ c = subst (λ (z : ℕ). tdcs_of w z ≡ c) (sym is) e in
         let no : same_place (place.Word c i) (place.Word c j) ≡ false = rw at at n in
         let bad : true ≡ false = sym (same-word c i j y) ∙ no in cc
+
     clash_op : (l : LockId) → same_lock l (OfOp t) ≡ true → (i == TDCS_OP_LOCK) ≡ true → same_place (place.Word c i) (place_of w l) ≡ false → ⊥
     clash_op (OfOp u) s y n = at_place u TDCS_OP_LOCK s y n
     clash_op _ s y n = cc
+
     clash_tree : (l : LockId) → same_lock l (OfTree t) ≡ true → (i == TDCS_TREE_LOCK) ≡ true → same_place (place.Word c i) (place_of w l) ≡ false → ⊥
     clash_tree (OfTree u) s y n = at_place u TDCS_TREE_LOCK s y n
     clash_tree _ s y n = cc
+
     clash_epoch : (l : LockId) → same_lock l (OfEpoch t) ≡ true → (i == TDCS_EPOCH_LOCK) ≡ true → same_place (place.Word c i) (place_of w l) ≡ false → ⊥
     clash_epoch (OfEpoch u) s y n = at_place u TDCS_EPOCH_LOCK s y n
     clash_epoch _ s y n = cc
+
     clash_rtmr : (l : LockId) → same_lock l (OfRtmr t) ≡ true → (i == TDCS_RTMR_LOCK) ≡ true → same_place (place.Word c i) (place_of w l) ≡ false → ⊥
     clash_rtmr (OfRtmr u) s y n = at_place u TDCS_RTMR_LOCK s y n
     clash_rtmr _ s y n = cc
@@ -222,29 +226,3 @@ seen m words slots s l sh la st i = subst (λ (z : Option ℕ). IsAs z (words (p
 
 pub lock-steps-shown : QuietEventsStay → LockStepsShown
 lock-steps-shown stay = record { step = step stay; quiet = quiet stay; seen = seen }
-
--- the start of a run
-
-none-yet : (f : Lp → ℕ) (n : ℕ) → f idle ≡ 0 → sum_below (λ q. f idle) n ≡ 0
-none-yet f zero h = refl
-none-yet f (suc n) h = let k = none-yet f n h in omega (arith, h, k)
-
-no-lock : (n : ℕ) (l : LockId) → 0 ≡ lock_word (λ p. idle) n l
-no-lock n l =
-    let a = none-yet (alone_of l) n refl in
-    let b = none-yet (shared_of l) n refl in
-    let c = none-yet (refused_of l) n refl in omega (arith, a, b, c)
-
-pub start-is-shown : StartIsShown
-start-is-shown o ws = record { word = λ q i. at q; hasher = λ h. tt }
-  where
-    key : (k : ℕ) → IsAs (key_cell (start o ws).world (lock_word (λ p. idle) (start o ws).lp_count OfKeys) k) 0
-    key k =
-        by_test (k == KEY_LOCK) (λ y. rw y (no-lock (start o ws).lp_count OfKeys)) (λ n0.
-        by_test (k == KEY_LAST_EXPORTED) (λ y. rw (n0, y) refl) (λ n1.
-        by_test (k == KEY_LAST_IMPORTED) (λ y. rw (n0, n1, y) refl) (λ n2. rw (n0, n1, n2) refl)))
-    at : (q : WordPlace) → IsAs (cell (start o ws) q) 0
-    at (place.Lock p) = no-lock (start o ws).lp_count (OfPage p)
-    at (place.Pamt p) = refl
-    at (place.Word p i) = refl
-    at (place.Key k) = key k

@@ -1,0 +1,53 @@
+-- A TD stands where its row's beginning passes; and events at the start of a run.
+use Rattle.std.proofs.Common.{◌≡◌, refl, sym, ◌∙◌, ap, subst, ℕ, zero, suc, ◌+◌, ◌<◌, Bool, true, false, ◌==◌, ◌&&◌, ◌||◌, List, [], ◌∷◌, length, arith}
+use Rattle.std.specs.Prelude.{Option, Some, None}
+use Rattle.std.specs.List.{list_any}
+use Rattle.std.proofs.lemmas.Bool.{eq-eqb, eqb-true, ne_eqb}
+use Rattle.std.proofs.lemmas.Bool.Decides.{nat_tests}
+use Rattle.td_words.specs.declared.calls.Call.{Call}
+use Rattle.td_words.specs.declared.names.PageKind.{PageKind}
+use Rattle.td_words.specs.declared.names.PageKind.TheVariants as kind
+use Rattle.td_words.specs.declared.names.LifeState.{LifeState}
+use Rattle.td_words.specs.declared.names.LifeState.TheVariants as life
+use Rattle.td_words.specs.declared.names.OpState.{OpState}
+use Rattle.td_words.specs.declared.names.Mode.{Mode}
+use Rattle.td_words.specs.NameNumber.{kind_number, life_number}
+use Rattle.flat_core.specs.World.{World}
+use Rattle.flat_core.specs.Processor.{LockId, Lp, Trying, idle}
+use Rattle.flat_core.specs.Locks.{shared_of, refused_of, sum_below, sharers, refusals}
+use Rattle.flat_core.specs.Conditions.{same_kind, td_row}
+use Rattle.flat_core.specs.Opening.{Opening}
+use Rattle.flat_core.specs.Row.{Passes, next_in}
+use Rattle.flat_core.specs.Table.{row_of}
+use Rattle.flat_core.specs.Event.{start, next_event, calls_of, OfCall}
+use Rattle.lock_words.specs.LockWords.{TdStands, IsNext, HeadsStand, StartFollows}
+
+kind-true : (a : PageKind) → same_kind a kind.Tdr ≡ true → a ≡ kind.Tdr
+kind-true kind.Tdr h = refl
+kind-true kind.Nda h = cc
+kind-true _ h = cc
+
+configured : (s : LifeState) → list_any (λ a. life_number a == life_number s) (life.KeysConfigured ∷ []) ≡ true → (life_number s == life_number life.Teardown) ≡ false
+configured life.KeysConfigured h = refl
+configured life.HkidAssigned h = cc
+configured life.Blocked h = cc
+configured life.Teardown h = cc
+
+two-controls : (n : ℕ) → (n == 2) ≡ true → (n == 0) ≡ false
+two-controls n h = let e : n ≡ 2 = eqb-true n 2 h in rw e refl
+
+pub heads-stand : HeadsStand
+heads-stand w t mode allowed h = record {
+  alive = record { kind = kind-true (w.pages.kinds t) h.0; life = configured (w.tds.lives t) h.1.0 };
+  has_tdcs = two-controls (length (w.tds.controls t)) h.1.1.0;
+}
+
+none-yet : (f : Lp → ℕ) (n : ℕ) → f idle ≡ 0 → sum_below (λ q. f idle) n ≡ 0
+none-yet f zero h = refl
+none-yet f (suc n) h = let k = none-yet f n h in omega (arith, h, k)
+
+pub start-follows : StartFollows
+start-follows = record {
+  next = λ o ws p c cs lt e. record { processor = lt; next = rw e refl; lets_go = tt };
+  few = λ o ws l. let n = length o.calls in let a = none-yet (shared_of l) n refl in let b = none-yet (refused_of l) n refl in omega (arith, a, b);
+}

@@ -1,0 +1,35 @@
+//! Laws of lock words, as contracts of functions that do nothing.
+
+ghost use Rattle.lock_words.specs.Grips.{GripsAreApart, GripsStayApart};
+ghost use Rattle.lock_words.specs.LockWords.{LockWordsFollow, LockStepsShown, TdLocksStay, HeadsStand, StartFollows};
+
+/// Where nobody holds a lock beside one who holds it alone, the grips of two processors are apart:
+/// at the start of every run, and after every schedule.
+pub fn grips_are_apart()
+    ensures where_locks_exclude { GripsAreApart }
+    ensures in_every_run { GripsStayApart }
+{
+    flat_core::lock_law();
+}
+
+/// The word of each lock follows each event of a processor, and tells whether a try is granted;
+/// from the first event of a run on.
+pub fn lock_words_follow()
+    ensures follow { LockWordsFollow }
+    ensures start { StartFollows }
+{}
+
+/// Words that show a state still show it after a try, an undo or a release of any lock, which is
+/// one step on that lock's word.
+pub fn lock_steps_shown()
+    ensures { LockStepsShown }
+{
+    flat_core::event_laws();
+}
+
+/// The lock words of a TD stay where they are, and the TD stands, through the acts of others while
+/// P of its TDR page is held. It stands where the beginning of its row passes.
+pub fn td_locks_stay()
+    ensures stay { TdLocksStay }
+    ensures stand { HeadsStand }
+{}

@@ -1,5 +1,0 @@
-use Rattle.word_rules.proofs.Shown.{lock-steps-shown}
-use Rattle.word_rules.proofs.laws.lock_steps_shown.Goals as goal
-
-pub returns : goal.returns
-returns c = lock-steps-shown c.event_laws.ensures.quiet
