@@ -9,11 +9,15 @@
 #![tactic(auto)]
 
 mod asking;
+mod events;
 mod leaves;
 mod needs;
 mod plans;
+mod runs;
 
 pub use asking::{Choice, ask, change, make};
+pub use events::{Event, HeldLock, RunTurn, Stage};
 pub use leaves::Leaf;
 pub use needs::{Need, Place, Write};
 pub use plans::{ANSWERS, Plan, Planned, Stop, Told, Verdict, WRITES};
+pub use runs::{LOCKS, Run};
