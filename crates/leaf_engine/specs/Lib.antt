@@ -6,3 +6,4 @@ pub mod Inside
 pub mod Decides
 pub mod Items
 pub mod Turns
+pub mod Processors

@@ -191,7 +191,7 @@ pub record CanRun (m : Machine) (s : Standing) (tries written : ℕ) (waits : Bo
 
 -- a leaf that has done nothing yet
 pub record IsFresh (t rest : Tree) (tries written : ℕ) (waits : Bool) : Type 0 where
-  pub whole : rest ≡ t
+  pub whole : rest ≡ settle t
   pub few : tries ≤ 32
   pub unwritten : written ≡ 0
   pub ready : waits ≡ false

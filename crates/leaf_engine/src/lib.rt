@@ -13,6 +13,7 @@ mod events;
 mod leaves;
 mod needs;
 mod plans;
+mod processors;
 mod runs;
 
 pub use asking::{Choice, ask, change, make};
@@ -20,4 +21,5 @@ pub use events::{Event, HeldLock, RunTurn, Stage};
 pub use leaves::Leaf;
 pub use needs::{Need, Place, Write};
 pub use plans::{ANSWERS, Plan, Planned, Stop, Told, Verdict, WRITES};
+pub use processors::{Gate, NoGate, Processor, Turn};
 pub use runs::{LOCKS, Run};

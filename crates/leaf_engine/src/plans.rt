@@ -112,12 +112,13 @@ pub struct Planned<P: Plan + Drop> {
 }
 
 impl<P: Plan + Drop> Planned<P> {
-    ghost use Rattle.std.specs.Prelude.{◌≡◌, [], false};
+    ghost use Rattle.std.specs.Prelude.{◌≡◌};
+    ghost use Rattle.leaf_engine.specs.Turns.{IsFresh};
 
     /// Nothing is told yet.
     pub fn new(plan: P) -> Planned<P>
         ensures plan { result.plan ≡ plan }
-        ensures fresh { (result.told.items ≡ []) × (result.written ≡ 0) × (result.waits ≡ false) }
+        ensures fresh { let leaf = ⟦<Planned<P> as Leaf>⟧ in IsFresh (leaf.task result).tree (leaf.rest result) (leaf.tries result) (leaf.written result) (leaf.waits result) }
     {
         Planned {
             plan,

@@ -2,7 +2,7 @@
 
 ghost use Rattle.std.specs.Prelude.{◌≡◌, ◌≤◌, ◌<◌, ◌==◌, ℕ, [], ◌∷◌, ◌++◌, length, None, true, false, if◌then◌else◌};
 ghost use Rattle.leaf_engine.specs.declared.events.Stage.TheVariants.{Trying};
-ghost use Rattle.leaf_engine.specs.Trees.{Tree};
+ghost use Rattle.leaf_engine.specs.Trees.{settle};
 ghost use Rattle.leaf_engine.specs.Turns.{standing, CanRun, IsFresh, Turned, Went, GaveBack, AreIn, TriedOnce, has_ended, busy, last_reply, denied};
 ghost use Rattle.step_core.specs.Words.{word_count};
 ghost use Rattle.td_words.specs.declared.machines.Machine.{Machine};
@@ -32,7 +32,7 @@ impl<L: Leaf> Run<L> {
     pub fn new(leaf: L) -> Run<L>
         requires { IsFresh (L.task leaf).tree (L.rest leaf) (L.tries leaf) (L.written leaf) (L.waits leaf) }
         ensures leaf { result.leaf ≡ leaf }
-        ensures at_start { standing (L.rest result.leaf) result.stage result.held.items result.hasher ≡ standing (L.task leaf).tree Trying [] None }
+        ensures at_start { standing (L.rest result.leaf) result.stage result.held.items result.hasher ≡ standing (settle (L.task leaf).tree) Trying [] None }
         ensures can_run { (m : Machine) → CanRun m (standing (L.rest result.leaf) result.stage result.held.items result.hasher) (L.tries result.leaf) (L.written result.leaf) (L.waits result.leaf) }
     {
         Run {
