@@ -1,3 +1,4 @@
 pub mod Decided
 pub mod Asked
 pub mod Turned
+pub mod Following

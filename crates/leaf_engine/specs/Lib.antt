@@ -7,3 +7,4 @@ pub mod Decides
 pub mod Items
 pub mod Turns
 pub mod Processors
+pub mod Follows
