@@ -2,3 +2,5 @@ pub mod Decided
 pub mod Asked
 pub mod Turned
 pub mod Following
+pub mod Loading
+pub mod Changing

@@ -8,3 +8,4 @@ pub mod Items
 pub mod Turns
 pub mod Processors
 pub mod Follows
+pub mod Tables
