@@ -39,7 +39,7 @@ same_address inj m r q a b = by_test (same_place r q)
 cond_both : (b : Bool) (x y z : ℕ) → y ≡ z → cond b x y ≡ cond b x z
 cond_both b x y z e = ap (λ (k : ℕ). cond b x k) e
 
-word_put : PlacesInjective → (m : Machine) (t u : Words) (words : WordPlace → ℕ) (q : WordPlace) (x : ℕ) → IsIn m q → u ≡ with_word t (address m.pages q) x
+pub word_put : PlacesInjective → (m : Machine) (t u : Words) (words : WordPlace → ℕ) (q : WordPlace) (x : ℕ) → IsIn m q → u ≡ with_word t (address m.pages q) x
     → ((r : WordPlace) → IsIn m r → t (address m.pages r) ≡ words r) → (r : WordPlace) → IsIn m r → u (address m.pages r) ≡ put_word words q x r
 word_put inj m t u words q x in_q e same r in_r =
     ap (λ (w : Words). w (address m.pages r)) e

@@ -4,3 +4,4 @@ pub mod Turned
 pub mod Following
 pub mod Loading
 pub mod Changing
+pub mod Showing

@@ -9,3 +9,4 @@ pub mod Turns
 pub mod Processors
 pub mod Follows
 pub mod Tables
+pub mod Shown

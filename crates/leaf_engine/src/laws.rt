@@ -1,6 +1,10 @@
 //! What the layers above may rest on, as contracts of functions that do nothing.
 
 ghost use Rattle.leaf_engine.specs.Follows.{LeavesFollowRows};
+ghost use Rattle.leaf_engine.specs.Shown.{TurnsShow};
+
+use step_core::pages_change_alone;
+use td_words::places_injective;
 
 /// A leaf that was told words that still stand, as far as it looked at them, comes to the next move
 /// of its row: the try of that lock at its place, the refusal with that reply, or the act, whose
@@ -8,3 +12,14 @@ ghost use Rattle.leaf_engine.specs.Follows.{LeavesFollowRows};
 pub fn leaves_follow_rows()
     ensures { LeavesFollowRows }
 {}
+
+/// Over words that show a state, a turn of a leaf on its way makes the next move of its row: the
+/// step of the try that is due, granted as the lock's word says; or the act that refuses, which
+/// changes nothing; or the act that succeeds, after which the words show what the row's act makes
+/// of the world, with the row's reply.
+pub fn turns_show()
+    ensures { TurnsShow }
+{
+    places_injective();
+    pages_change_alone();
+}
