@@ -73,10 +73,10 @@ read_end p page i c true e s in_page in_word =
     let now : c.memory.words (place.Word page i) ≡ c.state.world.words page i = rw nda at (s.word (place.Word page i) (in_page, in_word)) in (
       (in_page, in_word),
       inr (rw nda (inl (holds_newest page Shared c.kept, tt)), refl),
-      (record { reply_is = rw (e, now) refl; fills_allowed = tt; respects = respects_same (hold c (record { lock = OfPage page; mode = Shared } ∷ [])) c.state.world; shows = s }, tt),
+      (record { reply_is = rw (e, now) refl; fills_allowed = tt; respects = respects_same (hold c (record { lock = OfPage page; mode = Shared } ∷ [])) c.state.world; locks_stay = ((refl, λ x. x), tt); shows = s }, tt),
     )
 read_end p page i c false e s in_page in_word =
-    (record { reply_is = rw e refl; fills_allowed = tt; respects = respects_same (hold c (record { lock = OfPage page; mode = Shared } ∷ [])) c.state.world; shows = s }, tt)
+    (record { reply_is = rw e refl; fills_allowed = tt; respects = respects_same (hold c (record { lock = OfPage page; mode = Shared } ∷ [])) c.state.world; locks_stay = ((refl, λ x. x), tt); shows = s }, tt)
 
 pub host_read-means : (p : Place) (page i : ℕ) → MeansRow (host_read_task p page i)
 host_read-means p page i = record {
@@ -182,6 +182,7 @@ host_write-means p page i v = record {
                     reply_is = refl;
                     fills_allowed = tt;
                     respects = respects_stored (hold c (record { lock = OfPage page; mode = Shared } ∷ [])) page i v c.state.world;
+                    locks_stay = ((refl, λ x. x), tt);
                     shows = shows_stored p.machine c.memory.words c.memory.slots c.state page i v at.shown nda;
                   },
                   (((in_page, in_word), (KeepsNothing, rw nda (inl (holds_newest page Shared c.kept, tt)), tt)), tt),

@@ -5,3 +5,4 @@ pub mod Following
 pub mod Loading
 pub mod Changing
 pub mod Showing
+pub mod Calling

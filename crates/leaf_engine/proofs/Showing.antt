@@ -28,12 +28,12 @@ use Rattle.leaf_engine.specs.declared.events.Stage.TheVariants as stage
 use Rattle.leaf_engine.specs.Views.{look}
 use Rattle.leaf_engine.specs.Changes.{Memory, Change, Put, PutHash, Raise, Clear, Copy, Swap, changed, changed_all, put_word}
 use Rattle.leaf_engine.specs.Trees.{Tree, Lock, Load, Test, End, Since, feed, settle, passed, changes_of}
-use Rattle.leaf_engine.specs.Means.{Task, Instant, IsAt, Work, work_of, hold, Locks, Acts, MayFill, MayFillAll, MayAct, MayOwe, MayOweAll, MayChange, acted, MeansRow}
-use Rattle.leaf_engine.specs.Decides.{Gives}
+use Rattle.leaf_engine.specs.Means.{Task, Instant, IsAt, Work, work_of, hold, Locks, Acts, MayFill, MayFillAll, MayAct, MayOwe, MayOweAll, MayChange, LocksStay, acted, MeansRow}
+use Rattle.leaf_engine.specs.Decides.{Gives, IsHand}
 use Rattle.leaf_engine.specs.Items.{IsLoaded, AreChanged}
 use Rattle.leaf_engine.specs.Follows.{granted, Current, Comes}
 use Rattle.leaf_engine.specs.Tables.{IsMemory, IsChangeIn, AreChangesIn}
-use Rattle.leaf_engine.specs.Turns.{Standing, standing, Goes, Tries, Ends, tried, try_step, grants}
+use Rattle.leaf_engine.specs.Turns.{Comes as TurnComes, Standing, standing, Goes, Tries, Ends, tried, denied, try_step, grants}
 use Rattle.leaf_engine.specs.Shown.{OnWay, locks_held, move_due, word_tried, lock_tried, TriesRow, EndsRow, TurnShows, TurnsShow}
 use Rattle.leaf_engine.proofs.Decided.{feed-append, settled}
 use Rattle.leaf_engine.proofs.Following.{leaves-follow-rows}
@@ -164,18 +164,19 @@ changed-append [] ds mem = refl
 changed-append (c ∷ cs) ds mem = changed-append cs ds (changed c mem)
 
 -- what a tree that comes to its reply does
-record EndsWith (m : Machine) (c : Instant) (k : Work) (n : Move Reply) (tree : Tree) (reply : Reply) : Type 0 where
+record EndsWith (m : Machine) (c : Instant) (k : Work) (hs : List Held) (n : Move Reply) (tree : Tree) (reply : Reply) : Type 0 where
   pub inside : AreChangesIn m (changes_of tree)
   pub kept : passed tree ≡ tree
   pub ends : ((n ≡ Refuses reply) × (changes_of tree ≡ []))
-      ⊎ ((n ≡ Succeeds) × (reply ≡ k.reply c.state.world) × (let mem = changed_all (changes_of tree) c.memory in Shows m mem.words mem.slots (acted k c.state)))
+      ⊎ ((n ≡ Succeeds) × (reply ≡ k.reply c.state.world) × (let mem = changed_all (changes_of tree) c.memory in Shows m mem.words mem.slots (acted k c.state))
+      × LocksStay c.state.world (k.act c.state.world) hs)
 
 shows-append : (m : Machine) (c : Instant) (k : Work) (fs cs : List Change) → (let mem = changed_all cs (changed_all fs c.memory) in Shows m mem.words mem.slots (acted k c.state))
     → (let mem = changed_all (fs ++ cs) c.memory in Shows m mem.words mem.slots (acted k c.state))
 shows-append m c k fs cs s = subst (λ (mem : Memory). Shows m mem.words mem.slots (acted k c.state)) (sym (changed-append fs cs c.memory)) s
 
 ends-with : (m : Machine) (c : Instant) (k : Work) (hs : List Held) (n : Move Reply) (tree : Tree) (reply : Reply) → Comes m c k hs tree n → Gives m.pages tree (need.Verdict reply)
-    → EndsWith m c k n tree reply
+    → EndsWith m c k hs n tree reply
 ends-with m c k hs n (Lock l q mode t) reply co g = cc
 ends-with m c k hs n (Load v q t) reply co g = cc
 ends-with m c k hs n (Test b r t) reply co g = absurd g
@@ -188,21 +189,21 @@ ends-with m c k hs n (End r fs cs) reply (inr co) g =
     record {
       inside = fills-in m (hold c hs) c.state.world fs cs co.1.fills_allowed (act-in m (hold c hs) c.state.world (k.act c.state.world) (changed_all fs c.memory) cs co.2);
       kept = refl;
-      ends = inr (co.0, e ∙ co.1.reply_is, shows-append m c k fs cs co.1.shows);
+      ends = inr (co.0, e ∙ co.1.reply_is, shows-append m c k fs cs co.1.shows, co.1.locks_stay);
     }
 ends-with m c k hs n (Since r cs) reply co g =
     let e : reply ≡ r = cc in
     record {
       inside = owed-in m (hold c hs) (k.act c.state.world) c.memory cs co.2;
       kept = refl;
-      ends = inr (co.0, e ∙ co.1.reply_is, co.1.shows);
+      ends = inr (co.0, e ∙ co.1.reply_is, co.1.shows, co.1.locks_stay);
     }
 
 -- the turn
 
 tries-turn : PlacesInjective → (task : Task) (c : Instant) (told : List ℕ) (t u : Table) (s s' : Standing) (loads xs : List Taken) (tree : Tree) (name : LockName) (at : ℕ) (mode : Mode) (e : Event)
     → OnWay task c told t s → IsLoaded task.place.machine.pages s.rest loads tree → Gives task.place.machine.pages (settle tree) (need.Lock name at mode)
-    → Tries s (passed (settle tree)) loads xs name at mode s' e → PlaysTo t xs u → TurnShows task c told u s' e
+    → Tries s (passed (settle tree)) loads xs name at mode s' e → PlaysTo t xs u → TurnShows task c told u s s' e
 tries-turn inj task c told t u s s' loads xs tree name at mode e on l g tr p =
     let m = task.place.machine in
     let k = work_of task.meaning in
@@ -219,42 +220,58 @@ tries-turn inj task c told t u s s' loads xs tree name at mode e on l g tr p =
     let word : t.words at ≡ c.memory.words place = ap t.words to.at_is ∙ on.memory.words place to.stands.in_machine in
     let put : u.words ≡ with_word t.words (address m.pages place) (word_tried mode (c.memory.words place)) =
     play.1 ∙ (ap (λ (z : ℕ). with_word t.words z (word_tried mode (t.words at))) to.at_is ∙ ap (λ (z : ℕ). with_word t.words (address m.pages place) (word_tried mode z)) word) in
-    let by : TriesRow task c told u s' name mode (grants mode tr.seen) = record {
+    let by : TriesRow task c told u s s' name mode (grants mode tr.seen) = record {
       lock = to.lock;
       now = d.now;
       due = subst (λ (hs : List Held). next (k.items c.state.world) (length hs) ≡ Attempts to.lock mode) d.same_locks to.due;
       name_is = to.name_is;
       stands = subst (λ (hs : List Held). Locks m c hs to.lock place) d.same_locks to.stands;
       granted_by = ap (grants mode) (play.0 ∙ word);
-      memory = subst (λ (h : Option Measure). IsMemory m u h (lock_tried c.state.world to.lock mode c.memory)) (sym (hasher-same (grants mode tr.seen)))
+      memory = subst (λ (h : Option Measure). IsMemory m u h (lock_tried c.state.world to.lock mode c.memory)) (sym hasher-same)
           (record {
             words = word_put inj m t.words u.words c.memory.words place (word_tried mode (c.memory.words place)) to.stands.in_machine put on.memory.words;
-            slots = λ h in_h. subst (λ (f : ℕ → Option Measure). Rattle.leaf_engine.specs.Decides.IsHand (f (h - 1)) (c.memory.slots h)) (sym play.2) (on.memory.slots h in_h);
+            slots = λ h in_h. subst (λ (f : ℕ → Option Measure). IsHand (f (h - 1)) (c.memory.slots h)) (sym play.2) (on.memory.slots h in_h);
             hand = on.memory.hand;
           });
       current = current-lock c.memory.words task.tree d.now to.lock mode d.current lock;
       one_more = granted-lock task.tree d.now to.lock mode [] lock ∙ ap (λ (hs : List Held). record { lock = to.lock; mode = mode } ∷ hs) d.same_locks;
-      rest = rest-is (grants mode tr.seen) ∙ (ap passed here ∙ (passed-lock (feed task.tree d.now) to.lock mode lock ∙ feed-append task.tree d.now (0 ∷ [])));
+      rest = rest-is ∙ (ap passed here ∙ (passed-lock (feed task.tree d.now) to.lock mode lock ∙ feed-append task.tree d.now (0 ∷ [])));
+      stage_is = subst (λ (z : ℕ). s'.stage ≡ (if grants mode tr.seen then s.stage else denied name z mode)) to.at_is stage-now;
+      held_is = subst (λ (z : ℕ). s'.held ≡ (if grants mode tr.seen then s.held ++ record { name = name; at = z; mode = mode } ∷ [] else s.held)) to.at_is held-now;
     } in
-    subst (λ (z : Event). TurnShows task c told u s' z) (sym tr.event) by
+    subst (λ (z : Event). TurnShows task c told u s s' z) (sym tr.event) by
   where
     hasher-of : (b : Bool) → (tried s (passed (settle tree)) name at mode b).hasher ≡ s.hasher
     hasher-of true = refl
     hasher-of false = refl
 
-    hasher-same : (b : Bool) → s'.hasher ≡ s.hasher
-    hasher-same b = ap (λ (z : Standing). z.hasher) tr.after ∙ hasher-of (grants mode tr.seen)
+    hasher-same : s'.hasher ≡ s.hasher
+    hasher-same = ap (λ (z : Standing). z.hasher) tr.after ∙ hasher-of (grants mode tr.seen)
+
+    stage-of : (b : Bool) → (tried s (passed (settle tree)) name at mode b).stage ≡ (if b then s.stage else denied name at mode)
+    stage-of true = refl
+    stage-of false = refl
+
+    stage-now : s'.stage ≡ (if grants mode tr.seen then s.stage else denied name at mode)
+    stage-now = ap (λ (z : Standing). z.stage) tr.after ∙ stage-of (grants mode tr.seen)
+
+    held-of : (b : Bool) → (tried s (passed (settle tree)) name at mode b).held ≡ (if b then s.held ++ record { name = name; at = at; mode = mode } ∷ [] else s.held)
+    held-of true = refl
+    held-of false = refl
+
+    held-now : s'.held ≡ (if grants mode tr.seen then s.held ++ record { name = name; at = at; mode = mode } ∷ [] else s.held)
+    held-now = ap (λ (z : Standing). z.held) tr.after ∙ held-of (grants mode tr.seen)
 
     rest-of : (b : Bool) → (tried s (passed (settle tree)) name at mode b).rest ≡ passed (settle tree)
     rest-of true = refl
     rest-of false = refl
 
-    rest-is : (b : Bool) → s'.rest ≡ passed (settle tree)
-    rest-is b = ap (λ (z : Standing). z.rest) tr.after ∙ rest-of (grants mode tr.seen)
+    rest-is : s'.rest ≡ passed (settle tree)
+    rest-is = ap (λ (z : Standing). z.rest) tr.after ∙ rest-of (grants mode tr.seen)
 
 ends-turn : PlacesInjective → PagesChangeAlone → (task : Task) (c : Instant) (told : List ℕ) (t u : Table) (s s' : Standing) (loads xs : List Taken) (tree : Tree) (reply : Reply) (e : Event)
     → OnWay task c told t s → IsLoaded task.place.machine.pages s.rest loads tree → Gives task.place.machine.pages (settle tree) (need.Verdict reply)
-    → Ends task.place.machine s (passed (settle tree)) loads xs reply s' e → PlaysTo t xs u → TurnShows task c told u s' e
+    → Ends task.place.machine s (passed (settle tree)) loads xs reply s' e → PlaysTo t xs u → TurnShows task c told u s s' e
 ends-turn inj pages task c told t u s s' loads xs tree reply e on l g en p =
     let m = task.place.machine in
     let k = work_of task.meaning in
@@ -269,27 +286,28 @@ ends-turn inj pages task c told t u s s' loads xs tree reply e on l g en p =
     let after : Memory = changed_all (changes_of (feed task.tree d.now)) c.memory in
     let mem : IsMemory m u en.hasher after = all-changes inj pages m (changes_of (feed task.tree d.now)) s.hasher en.hasher en.changes t u c.memory w.inside ch d.plays on.memory in
     let due : move_due task c d.now ≡ move_due task c told = ap (λ (hs : List Held). next (k.items c.state.world) (length hs)) d.same_locks in
-    let by : EndsRow task c told u s' = record {
+    let by : EndsRow task c told u s s' = record {
       reply = reply;
       after = after;
       answered = ap (λ (z : Standing). z.stage) en.after;
+      held_is = ap (λ (z : Standing). z.held) en.after;
       memory = subst (λ (h : Option Measure). IsMemory m u h after) (sym (ap (λ (z : Standing). z.hasher) en.after)) mem;
-      ends = either m c k (move_due task c d.now) (move_due task c told) (changes_of (feed task.tree d.now)) reply due w.ends;
+      ends = either m c k (move_due task c d.now) (move_due task c told) (locks_held task d.now) (locks_held task told) (changes_of (feed task.tree d.now)) reply due d.same_locks w.ends;
     } in
-    subst (λ (z : Event). TurnShows task c told u s' z) (sym en.event) by
+    subst (λ (z : Event). TurnShows task c told u s s' z) (sym en.event) by
   where
-    either : (m : Machine) (c : Instant) (k : Work) (n n' : Move Reply) (cs : List Change) (reply : Reply) → n ≡ n'
+    either : (m : Machine) (c : Instant) (k : Work) (n n' : Move Reply) (hs hs' : List Held) (cs : List Change) (reply : Reply) → n ≡ n' → hs ≡ hs'
         → (((n ≡ Refuses reply) × (cs ≡ []))
-        ⊎ ((n ≡ Succeeds) × (reply ≡ k.reply c.state.world) × (let mem = changed_all cs c.memory in Shows m mem.words mem.slots (acted k c.state))))
+        ⊎ ((n ≡ Succeeds) × (reply ≡ k.reply c.state.world) × (let mem = changed_all cs c.memory in Shows m mem.words mem.slots (acted k c.state)) × LocksStay c.state.world (k.act c.state.world) hs))
         → (((n' ≡ Refuses reply) × (changed_all cs c.memory ≡ c.memory))
-        ⊎ ((n' ≡ Succeeds) × (reply ≡ k.reply c.state.world) × (let mem = changed_all cs c.memory in Shows m mem.words mem.slots (acted k c.state))))
-    either m c k n n' cs reply e (inl x) = inl (sym e ∙ x.0, ap (λ (z : List Change). changed_all z c.memory) x.1)
-    either m c k n n' cs reply e (inr x) = inr (sym e ∙ x.0, x.1, x.2)
+        ⊎ ((n' ≡ Succeeds) × (reply ≡ k.reply c.state.world) × (let mem = changed_all cs c.memory in Shows m mem.words mem.slots (acted k c.state)) × LocksStay c.state.world (k.act c.state.world) hs'))
+    either m c k n n' hs hs' cs reply e l (inl x) = inl (sym e ∙ x.0, ap (λ (z : List Change). changed_all z c.memory) x.1)
+    either m c k n n' hs hs' cs reply e l (inr x) = inr (sym e ∙ x.0, x.1, x.2, subst (λ (z : List Held). LocksStay c.state.world (k.act c.state.world) z) l x.3)
 
 pub turns-show : PlacesInjective → PagesChangeAlone → TurnsShow
 turns-show inj pages task c told t u s s' xs e on go p = by go.need go.gives go.comes
   where
-    by : (n : Need) → Gives task.place.machine.pages (settle go.tree) n → Rattle.leaf_engine.specs.Turns.Comes task.place.machine s (passed (settle go.tree)) go.loads xs n s' e → TurnShows task c told u s' e
+    by : (n : Need) → Gives task.place.machine.pages (settle go.tree) n → TurnComes task.place.machine s (passed (settle go.tree)) go.loads xs n s' e → TurnShows task c told u s s' e
     by (need.Lock name at mode) g co = tries-turn inj task c told t u s s' go.loads xs go.tree name at mode e on go.loaded g co p
     by (need.Load at) g co = absurd co
     by (need.Verdict reply) g co = ends-turn inj pages task c told t u s s' go.loads xs go.tree reply e on go.loaded g co p

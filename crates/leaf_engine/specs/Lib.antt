@@ -10,3 +10,4 @@ pub mod Processors
 pub mod Follows
 pub mod Tables
 pub mod Shown
+pub mod Calls

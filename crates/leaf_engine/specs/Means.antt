@@ -170,11 +170,17 @@ MayChange m g w w' mem (c ∷ cs) = MayAct m g w mem c × MayOweAll m g w' (chan
 abbrev pub acted : Work → State → State
 acted k s = record s { world = k.act s.world }
 
+-- the locks held stay where they are, and stand
+abbrev pub LocksStay : (before after : World) → List Held → Type 0
+LocksStay w w' [] = Unit {0}
+LocksStay w w' (h ∷ hs) = ((place_of w' h.lock ≡ place_of w h.lock) × (Stands w h.lock → Stands w' h.lock)) × LocksStay w w' hs
+
 -- the changes are allowed, and are the act
 pub record Acts (m : Machine) (c : Instant) (k : Work) (hs : List Held) (reply : Reply) (fills changes : List Change) : Type 0 where
   pub reply_is : reply ≡ k.reply c.state.world
   pub fills_allowed : MayFillAll m (hold c hs) c.state.world fills
   pub respects : Respects (hold c hs) c.state.world (k.act c.state.world)
+  pub locks_stay : LocksStay c.state.world (k.act c.state.world) hs
   pub shows : let mem = changed_all changes (changed_all fills c.memory) in Shows m mem.words mem.slots (acted k c.state)
 
 -- the row's items, with the tries so far
