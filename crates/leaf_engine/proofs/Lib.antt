@@ -6,3 +6,4 @@ pub mod Loading
 pub mod Changing
 pub mod Showing
 pub mod Calling
+pub mod Turning
