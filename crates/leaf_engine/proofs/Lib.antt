@@ -6,4 +6,5 @@ pub mod Loading
 pub mod Changing
 pub mod Showing
 pub mod Calling
+pub mod Untouched
 pub mod Turning

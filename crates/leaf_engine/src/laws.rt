@@ -2,7 +2,9 @@
 
 ghost use Rattle.leaf_engine.specs.Follows.{LeavesFollowRows};
 ghost use Rattle.leaf_engine.specs.Shown.{TurnsShow};
+ghost use Rattle.leaf_engine.specs.Calls.{CallsFollow};
 
+use lock_words::{lock_steps_shown, lock_words_follow};
 use step_core::pages_change_alone;
 use td_words::places_injective;
 
@@ -20,6 +22,18 @@ pub fn leaves_follow_rows()
 pub fn turns_show()
     ensures { TurnsShow }
 {
+    places_injective();
+    pages_change_alone();
+}
+
+/// Over words that show a lawful state, each turn of a call's run is the next event of its
+/// processor in the flat machine: its steps leave words that show the state after that event, and
+/// the reply that the row gives comes with the last one.
+pub fn calls_follow()
+    ensures { CallsFollow }
+{
+    lock_words_follow();
+    lock_steps_shown();
     places_injective();
     pages_change_alone();
 }

@@ -2,4 +2,4 @@ use Rattle.leaf_engine.proofs.Following.{leaves-follow-rows}
 use Rattle.leaf_engine.proofs.laws.leaves_follow_rows.Goals as goal
 
 pub returns : goal.returns
-returns c = let x = Rattle.leaf_engine.proofs.Turning.frees in leaves-follow-rows
+returns c = leaves-follow-rows
