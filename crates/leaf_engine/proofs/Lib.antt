@@ -8,3 +8,4 @@ pub mod Showing
 pub mod Calling
 pub mod Untouched
 pub mod Turning
+pub mod Beginning

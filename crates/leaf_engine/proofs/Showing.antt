@@ -79,14 +79,14 @@ abbrev pub IsLock : Tree → LockId → Mode → Type 0
 IsLock (Lock l q m t) k mode = (l ≡ k) × (m ≡ mode)
 IsLock _ k mode = ⊥
 
-current-end : (words : WordPlace → ℕ) (t : Tree) → Current words t []
+pub current-end : (words : WordPlace → ℕ) (t : Tree) → Current words t []
 current-end words (Lock l q m t) = tt
 current-end words (Load v q k) = tt
 current-end words (Test b r t) = λ e. current-end words t
 current-end words (End r fs cs) = tt
 current-end words (Since r cs) = tt
 
-granted-end : (t : Tree) (hs : List Held) → granted t [] hs ≡ hs
+pub granted-end : (t : Tree) (hs : List Held) → granted t [] hs ≡ hs
 granted-end (Lock l q m t) hs = refl
 granted-end (Load v q k) hs = refl
 granted-end (Test true r t) hs = granted-end t hs

@@ -13,6 +13,7 @@ use Rattle.flat_core.specs.Row.{Row}
 use Rattle.flat_core.specs.Table.{row_of}
 use Rattle.flat_core.specs.Lawful.{Lawful}
 use Rattle.flat_core.specs.Event.{State, lines_left, event}
+use Rattle.flat_core.specs.Laws.{IsBetween}
 use Rattle.word_rules.specs.Cells.{Shows}
 use Rattle.lock_words.specs.Grips.{IsExclusive}
 use Rattle.lock_words.specs.LockWords.{place_of, Stands}
@@ -22,11 +23,11 @@ use Rattle.leaf_engine.specs.declared.events.HeldLock.{HeldLock}
 use Rattle.leaf_engine.specs.declared.events.Stage.{Stage}
 use Rattle.leaf_engine.specs.declared.events.Stage.TheVariants as stages
 use Rattle.leaf_engine.specs.Changes.{Memory}
-use Rattle.leaf_engine.specs.Trees.{feed}
+use Rattle.leaf_engine.specs.Trees.{feed, settle}
 use Rattle.leaf_engine.specs.Means.{Task, OfCall, MeansRow}
 use Rattle.leaf_engine.specs.Follows.{granted, Current}
 use Rattle.leaf_engine.specs.Tables.{IsMemory}
-use Rattle.leaf_engine.specs.Turns.{Standing, IsTurn, has_ended}
+use Rattle.leaf_engine.specs.Turns.{Standing, standing, IsTurn, has_ended}
 
 -- a lock by its name and the address of its word, where it stands
 pub record IsLockAt (m : Machine) (w : World) (name : LockName) (at : ℕ) (l : LockId) : Type 0 where
@@ -106,3 +107,8 @@ CallsFollow = (o : Opening) (task : Task) (row : Row) (s : State) (mem : Memory)
     → MeansRow task → task.meaning ≡ OfCall row → IsShown task s mem t run → IsCallAt o task row s.world mem.words (s.lps task.place.lp) run
     → has_ended run.stage run.held ≡ false → IsTurn task.place.machine run xs run' result → PlaysTo t xs u
     → After o task row (s.lps task.place.lp).replies (event o s task.place.lp) u run' result.reply
+
+-- A run begins where its processor does: at a line that is a call of its row, between two calls.
+abbrev pub CallsBegin : Type 0
+CallsBegin = (o : Opening) (task : Task) (row : Row) (w : World) (words : WordPlace → ℕ) (lp : Lp) → IsLine o task.place.lp row lp → IsBetween lp
+    → IsCallAt o task row w words lp (standing (settle task.tree) stages.Trying [] None)

@@ -2,7 +2,7 @@
 
 ghost use Rattle.leaf_engine.specs.Follows.{LeavesFollowRows};
 ghost use Rattle.leaf_engine.specs.Shown.{TurnsShow};
-ghost use Rattle.leaf_engine.specs.Calls.{CallsFollow};
+ghost use Rattle.leaf_engine.specs.Calls.{CallsBegin, CallsFollow};
 
 use lock_words::{lock_steps_shown, lock_words_follow};
 use step_core::pages_change_alone;
@@ -26,11 +26,12 @@ pub fn turns_show()
     pages_change_alone();
 }
 
-/// Over words that show a lawful state, each turn of a call's run is the next event of its
-/// processor in the flat machine: its steps leave words that show the state after that event, and
-/// the reply that the row gives comes with the last one.
+/// A run of a call's leaf begins where its processor does. From then on, over words that show a
+/// lawful state, each turn is the next event of that processor in the flat machine: its steps leave
+/// words that show the state after that event, and the row's reply comes with the last one.
 pub fn calls_follow()
-    ensures { CallsFollow }
+    ensures begin { CallsBegin }
+    ensures follow { CallsFollow }
 {
     lock_words_follow();
     lock_steps_shown();
