@@ -6,5 +6,7 @@
 #![tactic(auto)]
 
 mod host_accesses;
+mod metadata_reads;
 
 pub use host_accesses::{HostRead, HostWrite};
+pub use metadata_reads::Rdmd;
