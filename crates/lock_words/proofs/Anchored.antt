@@ -1,22 +1,19 @@
 -- The lock words of a TD stay where they are while P of its TDR page is held.
-use Rattle.std.proofs.Common.{◌≡◌, ◌⊎◌, refl, sym, ◌∙◌, ap, subst, inl, inr, ℕ, zero, suc, ◌+◌, Bool, true, false, ◌==◌, if◌then◌else◌, List, [], ◌∷◌, length, arith}
+use Rattle.std.proofs.Common.{◌≡◌, ◌⊎◌, refl, sym, ◌∙◌, ap, subst, inl, inr, ℕ, zero, suc, true, false, ◌==◌, List, [], ◌∷◌, length, arith}
 use Rattle.std.specs.Prelude.{slice_index}
 use Rattle.std.proofs.lemmas.Bool.{eq-eqb, eqb-true, ne_eqb}
 use Rattle.td_words.specs.declared.names.PageKind.{PageKind}
 use Rattle.td_words.specs.declared.names.PageKind.TheVariants as kind
 use Rattle.td_words.specs.declared.places.TheConstants.{TDR_LIFE, TDCS_OP_LOCK}
-use Rattle.td_words.specs.declared.machines.Machine.{Machine}
 use Rattle.td_words.specs.declared.names.LifeState.{LifeState}
-use Rattle.td_words.specs.NameNumber.{life_number}
-use Rattle.td_words.specs.Place.{WordPlace, Word}
+use Rattle.td_words.specs.Place.{Word}
 use Rattle.flat_core.specs.World.{World}
 use Rattle.flat_core.specs.Processor.{OfPage}
-use Rattle.flat_core.specs.Lawful.{Lawful, IsAlive, IsPageOf}
 use Rattle.word_rules.specs.Guards.{Grip, Locked}
-use Rattle.word_rules.specs.Rules.{Class, TdLock, TdrWord, Unused, UpperEntry, LeafEntry, moves}
+use Rattle.word_rules.specs.Rules.{Class, TdLock, TdrWord, Unused, UpperEntry, moves}
 use Rattle.word_rules.specs.Spots.{Spot, spot, page_spot, control_class, root_class, entry_class}
-use Rattle.word_rules.specs.Permissions.{MayAt, Respects}
-use Rattle.lock_words.specs.LockWords.{tdcs_of, TdStands, TdLocksStay}
+use Rattle.word_rules.specs.Permissions.{MayAt}
+use Rattle.lock_words.specs.LockWords.{tdcs_of, TdLocksStay}
 use Rattle.lock_words.proofs.Sums.{by_test}
 use Rattle.lock_words.proofs.Shown.{tdcs-page}
 

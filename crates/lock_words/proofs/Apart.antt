@@ -1,13 +1,12 @@
 -- The grips of two processors are apart, since locks exclude.
-use Rattle.std.proofs.Common.{◌≡◌, ◌⊎◌, refl, sym, ◌∙◌, ap, subst, inl, inr, ℕ, zero, suc, ◌+◌, ◌<◌, ◌≤◌, Bool, true, false, ◌==◌, ◌&&◌, ◌||◌, not, List, [], ◌∷◌, ◌++◌, arith}
+use Rattle.std.proofs.Common.{◌≡◌, refl, sym, ◌∙◌, subst, inl, inr, ℕ, zero, suc, ◌+◌, ◌<◌, ◌≤◌, Bool, true, false, ◌==◌, ◌&&◌, ◌||◌, not, List, [], ◌∷◌, ◌++◌, arith}
 use Rattle.std.specs.Prelude.{Option, Some, None}
-use Rattle.std.specs.List.{list_any}
 use Rattle.std.proofs.lemmas.Bool.{eq-eqb, eqb-true, eqb-false}
 use Rattle.flat_core.specs.Processor.{LockId, Held, Guest, Lp}
-use Rattle.flat_core.specs.Locks.{same_lock, is_alone, one_if, alone_in, shared_in, alone_of, shared_of, guest_alone, guest_shared, sum_below, holders, sharers}
+use Rattle.flat_core.specs.Locks.{same_lock, is_alone, one_if, alone_in, shared_in, alone_of, shared_of, guest_alone, guest_shared, holders, sharers}
 use Rattle.flat_core.specs.Event.{State}
 use Rattle.flat_core.specs.Laws.{IsSole}
-use Rattle.word_rules.specs.Guards.{Guard, Locked, Reached, Written, Grip, Parted, Apart}
+use Rattle.word_rules.specs.Guards.{Guard, Locked, Reached, Written, Parted}
 use Rattle.lock_words.specs.Grips.{holds, holds_alone, operation_locks, locks_of, reaches, none_reaches, has_of, sole_of, clear_of, grip_of, IsExclusive, GripsAreApart}
 use Rattle.lock_words.proofs.Sums.{or-case, and-left, and-right}
 use Rattle.lock_words.proofs.Sums.{by_test, le-sum, two-sum}

@@ -1,7 +1,6 @@
 -- Each lock's word follows each event.
-use Rattle.std.proofs.Common.{◌≡◌, refl, sym, ◌∙◌, ap, subst, ℕ, zero, suc, ◌+◌, ◌*◌, ◌^◌, ◌<◌, ◌≤◌, Bool, true, false, ◌==◌, ◌&&◌, not, nat_lt, if◌then◌else◌, List, [], ◌∷◌, length, arith}
-use Rattle.std.specs.Prelude.{Option, Some, None, option_map, nat_le}
-use Rattle.std.proofs.lemmas.Bool.{eq-eqb, eqb-true, eqb-false}
+use Rattle.std.proofs.Common.{◌≡◌, refl, sym, subst, ℕ, zero, suc, ◌+◌, ◌*◌, ◌^◌, ◌<◌, ◌≤◌, Bool, true, false, ◌==◌, ◌&&◌, not, nat_lt, List, [], ◌∷◌, ◌++◌, length, length-append, arith}
+use Rattle.std.specs.Prelude.{Option, Some, None, nat_le}
 use Rattle.std.proofs.lemmas.Bool.Decides.{nat_tests}
 use Rattle.td_words.specs.declared.names.LockName.{LockName}
 use Rattle.td_words.specs.declared.names.Mode.{Mode}
@@ -14,16 +13,17 @@ use Rattle.td_words.specs.declared.replies.Outcome.TheVariants.{Stop, Max}
 use Rattle.td_words.specs.declared.replies.Reply.{Reply}
 use Rattle.td_words.specs.declared.replies.Reply.TheVariants.{Done}
 use Rattle.flat_core.specs.World.{World, put}
-use Rattle.flat_core.specs.Processor.{LockId, Held, Phase, Trying, Undoing, Answered, Progress, Guest, Entering, Lp, nothing_yet}
-use Rattle.flat_core.specs.Locks.{same_lock, is_alone, one_if, alone_in, shared_in, refused_in, alone_of, shared_of, refused_of, guest_alone, guest_shared, guest_refused, sum_below, holders, sharers, refusals, grants}
+use Rattle.flat_core.specs.Processor.{LockId, Held, Phase, Trying, Undoing, Answered, Progress, Guest, Entering, Lp}
+use Rattle.flat_core.specs.Locks.{same_lock, is_alone, one_if, alone_in, shared_in, refused_in, alone_of, shared_of, refused_of, guest_alone, guest_shared, guest_refused, holders, sharers, refusals, grants}
 use Rattle.flat_core.specs.Opening.{Opening}
 use Rattle.flat_core.specs.Row.{Item, Check, Try, Row, OperationRow, Move, Attempts, Undoes, Refuses, Succeeds, Releases, Rests, next, next_in, after_move}
 use Rattle.flat_core.specs.Guest.{Operation, ByRow, Private, operation_of, walk_step, walked_on, goes_on, walk_level, walked_entry, answered}
 use Rattle.td_words.specs.Packing.{Entry}
 use Rattle.flat_core.specs.Table.{row_of}
-use Rattle.flat_core.specs.Event.{State, Event, OfCall, OfOperation, Walks, Reaches, Leaves, next_event, event_for, line_event, entered_event, epoch_event, is_epoch_lock, guest_event, staying_event, due_event, max_event, operation_event, private_event, operation_due, nothing_more, lines_left, lp_after, call_lp, succeeded, settle, settled, settle_operation, settled_guest, operation_guest, call_busy, operation_busy, is_granted, event, after_event}
+use Rattle.flat_core.specs.Event.{State, Event, OfCall, OfOperation, Walks, Reaches, Leaves, event_for, line_event, entered_event, epoch_event, is_epoch_lock, guest_event, staying_event, due_event, max_event, operation_event, private_event, operation_due, nothing_more, lines_left, lp_after, call_lp, succeeded, settle, settled, settle_operation, settled_guest, call_busy, operation_busy, is_granted, event}
 use Rattle.word_rules.specs.Cells.{lock_word}
-use Rattle.lock_words.specs.LockWords.{weight_of, weight_at, move_adds, move_takes_off, adds, takes_off, LetsGo, has_let_go, IsNext, LockWordsFollow}
+use Rattle.lock_words.specs.LockWords.{weight_at, move_adds, move_takes_off, adds, takes_off, LetsGo, has_let_go, locks_held, IsNext, LockWordsFollow}
+use Rattle.lock_words.specs.Grips.{operation_locks, locks_of}
 use Rattle.lock_words.proofs.Sums.{by_test, sum-put}
 
 -- what a call's or an operation's progress adds to a lock's word
@@ -242,5 +242,34 @@ shared s l h = go (holders s.lps s.lp_count l) (sharers s.lps s.lp_count l + ref
     go : (a b : ℕ) → b < 2 ^ 63 → (a == 0) ≡ nat_lt (2 ^ 63 * a + b) (2 ^ 63)
     go a b h = grind (arith, nat_tests)
 
+-- the low bits
+
+shared-few : (l : LockId) (hs : List Held) → shared_in l hs ≤ length hs
+shared-few l [] = omega arith
+shared-few l (h ∷ hs) = let k = shared-few l hs in let b = one-most (not (is_alone h.mode) && same_lock h.lock l) in omega (arith, k, b)
+  where
+    one-most : (b : Bool) → one_if b ≤ 1
+    one-most true = omega arith
+    one-most false = omega arith
+
+refused-few : {R : Type 0} (l : LockId) (phase : Phase R) → refused_in l phase ≤ 1
+refused-few l Trying = omega arith
+refused-few l (Undoing k) = by_test (same_lock k l) (λ y. rw y (omega arith)) (λ y. rw y (omega arith))
+refused-few l (Answered r) = omega arith
+
+lp-few : (l : LockId) (lp : Lp) → shared_of l lp + refused_of l lp ≤ length (locks_of lp) + 2
+lp-few l lp = by lp.guest
+  where
+    by : (g : Option Guest) → (shared_in l lp.call.held + guest_shared l g) + (refused_in l lp.call.phase + guest_refused l g) ≤ length (lp.call.held ++ operation_locks g) + 2
+    by None = let a = shared-few l lp.call.held in let b = refused-few l lp.call.phase in let c = length-append lp.call.held (operation_locks None) in omega (arith, a, b, c)
+    by (Some g) =
+        let a = shared-few l lp.call.held in let b = refused-few l lp.call.phase in
+        let d = shared-few l g.operation.held in let e = refused-few l g.operation.phase in
+        let c = length-append lp.call.held g.operation.held in omega (arith, a, b, c, d, e)
+
+few : (lps : ℕ → Lp) (n : ℕ) (l : LockId) → sharers lps n l + refusals lps n l ≤ locks_held lps n
+few lps zero l = omega arith
+few lps (suc n) l = let k = few lps n l in let a = lp-few l (lps n) in omega (arith, k, a)
+
 pub lock-words-follow : LockWordsFollow
-lock-words-follow = record { event = follows; exclusive = exclusive; shared = shared }
+lock-words-follow = record { event = follows; exclusive = exclusive; shared = shared; few = λ s l. few s.lps s.lp_count l }

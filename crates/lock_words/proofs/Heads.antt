@@ -1,26 +1,16 @@
 -- A TD stands where its row's beginning passes; and events at the start of a run.
-use Rattle.std.proofs.Common.{◌≡◌, refl, sym, ◌∙◌, ap, subst, ℕ, zero, suc, ◌+◌, ◌<◌, Bool, true, false, ◌==◌, ◌&&◌, ◌||◌, List, [], ◌∷◌, length, arith}
-use Rattle.std.specs.Prelude.{Option, Some, None}
+use Rattle.std.proofs.Common.{◌≡◌, refl, ℕ, zero, suc, true, false, ◌==◌, [], ◌∷◌, length, arith}
 use Rattle.std.specs.List.{list_any}
-use Rattle.std.proofs.lemmas.Bool.{eq-eqb, eqb-true, ne_eqb}
-use Rattle.std.proofs.lemmas.Bool.Decides.{nat_tests}
-use Rattle.td_words.specs.declared.calls.Call.{Call}
+use Rattle.std.proofs.lemmas.Bool.{eqb-true}
 use Rattle.td_words.specs.declared.names.PageKind.{PageKind}
 use Rattle.td_words.specs.declared.names.PageKind.TheVariants as kind
 use Rattle.td_words.specs.declared.names.LifeState.{LifeState}
 use Rattle.td_words.specs.declared.names.LifeState.TheVariants as life
-use Rattle.td_words.specs.declared.names.OpState.{OpState}
-use Rattle.td_words.specs.declared.names.Mode.{Mode}
-use Rattle.td_words.specs.NameNumber.{kind_number, life_number}
-use Rattle.flat_core.specs.World.{World}
-use Rattle.flat_core.specs.Processor.{LockId, Lp, Trying, idle}
-use Rattle.flat_core.specs.Locks.{shared_of, refused_of, sum_below, sharers, refusals}
-use Rattle.flat_core.specs.Conditions.{same_kind, td_row}
-use Rattle.flat_core.specs.Opening.{Opening}
-use Rattle.flat_core.specs.Row.{Passes, next_in}
-use Rattle.flat_core.specs.Table.{row_of}
-use Rattle.flat_core.specs.Event.{start, next_event, calls_of, OfCall}
-use Rattle.lock_words.specs.LockWords.{TdStands, IsNext, HeadsStand, StartFollows}
+use Rattle.td_words.specs.NameNumber.{life_number}
+use Rattle.flat_core.specs.Processor.{Lp, idle}
+use Rattle.flat_core.specs.Locks.{shared_of, refused_of, sum_below}
+use Rattle.flat_core.specs.Conditions.{same_kind}
+use Rattle.lock_words.specs.LockWords.{HeadsStand, StartFollows}
 
 kind-true : (a : PageKind) → same_kind a kind.Tdr ≡ true → a ≡ kind.Tdr
 kind-true kind.Tdr h = refl

@@ -1,5 +1,5 @@
 -- Places that are the same.
-use Rattle.std.proofs.Common.{◌≡◌, refl, ap, ℕ, Bool, true, false, ◌==◌, ◌&&◌}
+use Rattle.std.proofs.Common.{◌≡◌, refl, ap, ℕ, true, ◌==◌}
 use Rattle.std.proofs.lemmas.Bool.{eq-eqb, eqb-true}
 use Rattle.td_words.specs.Place.{WordPlace, Lock, Pamt, Word, Key, same_place}
 use Rattle.lock_words.proofs.Sums.{and-left, and-right}

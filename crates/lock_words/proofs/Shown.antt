@@ -1,28 +1,27 @@
 -- Words still show the state after a step on one lock's word.
-use Rattle.std.proofs.Common.{◌≡◌, ◌⊎◌, refl, sym, ◌∙◌, ap, subst, inl, inr, ℕ, zero, suc, ◌+◌, ◌*◌, ◌^◌, ◌<◌, Bool, true, false, ◌==◌, ◌&&◌, nat_lt, if◌then◌else◌, List, [], ◌∷◌, length, arith}
+use Rattle.std.proofs.Common.{◌≡◌, refl, sym, ◌∙◌, ap, subst, ℕ, Bool, true, false, ◌==◌, List, [], ◌∷◌, length, arith}
 use Rattle.std.specs.Prelude.{Option, Some, None, slice_index}
-use Rattle.std.proofs.lemmas.Bool.{eq-eqb, eqb-true, eqb-false}
+use Rattle.std.proofs.lemmas.Bool.{eq-eqb, eqb-true}
 use Rattle.td_words.specs.declared.names.PageKind.{PageKind}
 use Rattle.td_words.specs.declared.names.PageKind.TheVariants as kind
-use Rattle.td_words.specs.declared.names.LockName.TheVariants as name
 use Rattle.td_words.specs.declared.names.Mode.{Mode}
 use Rattle.td_words.specs.declared.names.Mode.TheVariants.{Shared, Exclusive}
 use Rattle.td_words.specs.declared.machines.Machine.{Machine}
-use Rattle.td_words.specs.declared.places.TheConstants.{TDCS_OP_LOCK, TDCS_TREE_LOCK, TDCS_EPOCH_LOCK, TDCS_RTMR_LOCK, KEY_LOCK, KEY_LAST_EXPORTED, KEY_LAST_IMPORTED}
+use Rattle.td_words.specs.declared.places.TheConstants.{TDCS_OP_LOCK, TDCS_TREE_LOCK, TDCS_EPOCH_LOCK, TDCS_RTMR_LOCK, KEY_LOCK}
 use Rattle.td_words.specs.NameNumber.{life_number}
 use Rattle.td_words.specs.Place.{WordPlace, IsIn, same_place, lock_place}
 use Rattle.td_words.specs.Place as place
-use Rattle.flat_core.specs.World.{World, Pages, first_world}
-use Rattle.flat_core.specs.Processor.{LockId, OfPage, OfOp, OfTree, OfEpoch, OfRtmr, OfKeys, Lp, idle}
-use Rattle.flat_core.specs.Locks.{same_lock, alone_of, shared_of, refused_of, sum_below}
-use Rattle.flat_core.specs.Lawful.{Lawful, IsAlive, IsPageOf, AreControls}
+use Rattle.flat_core.specs.World.{World, Pages}
+use Rattle.flat_core.specs.Processor.{LockId, OfPage, OfOp, OfTree, OfEpoch, OfRtmr, OfKeys, Lp}
+use Rattle.flat_core.specs.Locks.{same_lock}
+use Rattle.flat_core.specs.Lawful.{Lawful, IsPageOf, AreControls}
 use Rattle.flat_core.specs.Opening.{Opening}
 use Rattle.flat_core.specs.Row.{Move, Attempts, Undoes, Refuses, Succeeds, Releases, Rests}
-use Rattle.flat_core.specs.Event.{State, Event, OfCall, OfOperation, Walks, Reaches, Leaves, start, is_granted, lp_after, event}
+use Rattle.flat_core.specs.Event.{State, Event, OfCall, OfOperation, Walks, Reaches, Leaves, is_granted, lp_after, event}
 use Rattle.flat_core.specs.Laws.{IsQuiet, QuietEventsStay}
 use Rattle.flat_core.specs.World.{put}
 use Rattle.word_rules.specs.Lines.{Line, in_lines}
-use Rattle.word_rules.specs.Cells.{lock_word, td_lock_lines, tdcs_lines, control_cell, root_cell, if_stands, key_cell, page_cell, cell_in, cell, IsAs, Shows}
+use Rattle.word_rules.specs.Cells.{lock_word, td_lock_lines, tdcs_lines, control_cell, if_stands, key_cell, page_cell, cell_in, IsAs, Shows}
 use Rattle.lock_words.specs.LockWords.{tdcs_of, place_of, TdStands, Stands, weight_at, move_adds, move_takes_off, adds, takes_off, move_lock, lock_of, IsNext, put_word, LockStepsShown}
 use Rattle.lock_words.proofs.Sums.{by_test}
 use Rattle.lock_words.proofs.Places.{same-place-true, same-word}

@@ -1,6 +1,6 @@
 -- What a processor has of the guards: by the locks that it holds, and by its cached translations while a virtual processor
 -- is in guest on it.
-use Rattle.std.specs.Prelude.{◌≡◌, ℕ, zero, suc, ◌<◌, Bool, true, false, ◌==◌, ◌&&◌, ◌||◌, not, Option, Some, None, List, [], ◌∷◌, ◌++◌}
+use Rattle.std.specs.Prelude.{◌≡◌, ℕ, zero, suc, ◌<◌, Bool, true, false, ◌==◌, ◌&&◌, ◌||◌, not, Option, Some, None, List, [], ◌++◌}
 use Rattle.std.specs.List.{list_any}
 use Rattle.flat_core.specs.Processor.{LockId, Held, Translation, Guest, Lp}
 use Rattle.flat_core.specs.Locks.{same_lock, is_alone, holders, sharers}

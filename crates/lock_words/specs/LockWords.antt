@@ -1,5 +1,5 @@
 -- Lock words follow the states of locks, through every try, undo and release.
-use Rattle.std.specs.Prelude.{◌≡◌, ◌⊎◌, ℕ, ◌+◌, ◌^◌, ◌<◌, Bool, true, false, ◌==◌, nat_lt, if◌then◌else◌, Option, Some, None, List, [], ◌∷◌, length, slice_index}
+use Rattle.std.specs.Prelude.{◌≡◌, ℕ, ◌+◌, ◌^◌, ◌<◌, ◌≤◌, Bool, true, false, ◌==◌, nat_lt, if◌then◌else◌, Option, Some, None, List, [], ◌∷◌, length, slice_index}
 use Rattle.td_words.specs.declared.names.LockName.TheVariants as name
 use Rattle.td_words.specs.declared.calls.Call.{Call}
 use Rattle.td_words.specs.declared.names.OpState.{OpState}
@@ -8,16 +8,17 @@ use Rattle.td_words.specs.declared.names.Mode.TheVariants.{Shared, Exclusive}
 use Rattle.td_words.specs.declared.machines.Machine.{Machine}
 use Rattle.td_words.specs.Place.{WordPlace, IsIn, same_place, lock_place}
 use Rattle.flat_core.specs.World.{World}
-use Rattle.flat_core.specs.Processor.{LockId, OfPage, OfOp, OfTree, OfEpoch, OfRtmr, OfKeys, Held, Trying, Guest, Lp, nothing_yet}
-use Rattle.flat_core.specs.Locks.{same_lock, one_if, holders, sharers, refusals, grants}
+use Rattle.flat_core.specs.Processor.{LockId, OfPage, OfOp, OfTree, OfEpoch, OfRtmr, OfKeys, Trying, Guest, Lp, nothing_yet}
+use Rattle.flat_core.specs.Locks.{same_lock, sum_below, sharers, refusals, grants}
 use Rattle.flat_core.specs.Lawful.{Lawful, IsAlive}
 use Rattle.flat_core.specs.Opening.{Opening}
-use Rattle.flat_core.specs.Row.{Move, Attempts, Undoes, Refuses, Succeeds, Releases, Rests, Passes, next_in}
-use Rattle.flat_core.specs.Event.{State, Event, OfCall, OfOperation, Walks, Reaches, Leaves, start, next_event, calls_of, is_granted, event}
+use Rattle.flat_core.specs.Row.{Move, Attempts, Undoes, Releases, Passes, next_in}
+use Rattle.flat_core.specs.Event.{State, Event, OfCall, OfOperation, Leaves, start, next_event, calls_of, is_granted, event}
 use Rattle.flat_core.specs.Conditions.{td_row}
 use Rattle.flat_core.specs.Table.{row_of}
 use Rattle.flat_core.specs.Laws.{IsQuiet}
 use Rattle.word_rules.specs.Guards.{Grip, Locked}
+use Rattle.lock_words.specs.Grips.{locks_of}
 use Rattle.word_rules.specs.Cells.{lock_word, Shows}
 use Rattle.word_rules.specs.Permissions.{Respects}
 
@@ -104,13 +105,18 @@ lock_of (OfCall row move) = move_lock move
 lock_of (OfOperation row move) = move_lock move
 lock_of _ = None
 
--- Every lock's word follows every event, and tells whether a try is granted.
+-- how many locks the first n processors hold, and two more each, for tries that were denied
+abbrev pub locks_held : (ℕ → Lp) → ℕ → ℕ
+locks_held lps n = sum_below (λ p. length (locks_of (lps p)) + 2) n
+
+-- Every lock's word follows every event, and tells whether a try is granted, as long as its low bits don't reach bit 63.
 pub record LockWordsFollow : Type 0 where
   pub event : (o : Opening) (s : State) (p : ℕ) (e : Event) → IsNext o s p e → (l : LockId) → let s' = event o s p in
       lock_word s'.lps s'.lp_count l + takes_off e l ≡ lock_word s.lps s.lp_count l + adds e (is_granted s e) l
   pub exclusive : (s : State) (l : LockId) → grants s.lps s.lp_count l Exclusive ≡ (lock_word s.lps s.lp_count l == 0)
   pub shared : (s : State) (l : LockId) → sharers s.lps s.lp_count l + refusals s.lps s.lp_count l < 2 ^ 63
       → grants s.lps s.lp_count l Shared ≡ nat_lt (lock_word s.lps s.lp_count l) (2 ^ 63)
+  pub few : (s : State) (l : LockId) → sharers s.lps s.lp_count l + refusals s.lps s.lp_count l ≤ locks_held s.lps s.lp_count
 
 -- words where one is another
 abbrev pub put_word : (WordPlace → ℕ) → WordPlace → ℕ → WordPlace → ℕ

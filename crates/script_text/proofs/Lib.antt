@@ -1,4 +1,5 @@
 pub mod Pieces
+pub mod NextWords
 pub mod Steps
 pub mod Calls
 pub mod Texts

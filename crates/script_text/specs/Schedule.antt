@@ -35,10 +35,14 @@ written_of schedule [] = Ok schedule
 written_of schedule (None ∷ turns) = Err reason.Range
 written_of schedule (Some t ∷ turns) = with_turns schedule t >>= (λ s. written_of s turns)
 
--- a schedule line's items, behind the items of the lines before: NUMBER of any before RANGE of any, and then FULL
-unfoldable pub schedule_of : ℕ → List ℕ → List (Option Item) → Result (List ℕ) Reason
+-- the turns of a word's item, where it is in range
+abbrev pub turns_in : ℕ → List ℕ → Option Turns
+turns_in lps word = in_range_of lps (item_of word)
+
+-- the items of a schedule line behind those of the lines before: NUMBER of any before RANGE of any, and then FULL
+unfoldable pub schedule_of : ℕ → List ℕ → List (List ℕ) → Result (List ℕ) Reason
 schedule_of lps schedule items =
     if length items == 0 then Err reason.Count
-    else if not (list_all is_some items) then Err reason.Number
-    else if not (list_all (λ i. is_some (in_range_of lps i)) items) then Err reason.Range
-    else written_of schedule (map (in_range_of lps) items)
+    else if not (list_all (λ w. is_some (item_of w)) items) then Err reason.Number
+    else if not (list_all (λ w. is_some (turns_in lps w)) items) then Err reason.Range
+    else written_of schedule (map (turns_in lps) items)

@@ -1,4 +1,12 @@
 //! Scripts: from bytes to a machine and calls, or to the first bad line and its reason.
+//!
+//! A script is lines of words; this crate says what each line means and which reason counts where
+//! several hold. It stands on `td_words` alone. A layer above may use that `read_script` gives
+//! exactly what `specs/Reading.antt` defines, unless memory wasn't found, and the two laws: a
+//! script that is written out is read again (`scripts_read_again`), and a fault names the first
+//! bad line (`faults_are_first`). Four calls and machines of one processor are built; every other
+//! mnemonic, `schedule` and `code` are UNBUILT in a script. What their lines say is read by the
+//! public functions on schedule items, code heads, operands, fields and output slots.
 #![tactic(auto)]
 
 mod code_blocks;

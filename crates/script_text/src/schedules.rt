@@ -1,13 +1,15 @@
 //! The items of schedule lines.
 
-ghost use Rattle.std.specs.Prelude.{◌≡◌, ◌==◌, is_some, map, position};
+ghost use Rattle.std.specs.Prelude.{◌≡◌, ◌==◌, is_some, length, map, position};
 ghost use Rattle.std.specs.List.{list_all};
 ghost use Rattle.script_text.specs.Number.{number};
 ghost use Rattle.script_text.specs.Line.{GivesAt};
-ghost use Rattle.script_text.specs.Schedule.{item_from, item_of, in_range_of, with_turns, written_of, schedule_of};
+ghost use Rattle.script_text.specs.Schedule.{item_from, item_of, in_range_of, turns_in, with_turns, written_of, schedule_of};
+ghost use Rattle.script_text.specs.Words.{words};
 
 use crate::faults::{Reason, ScriptFault, bad};
 use crate::numbers::number;
+use crate::words::next_word;
 
 /// So many turns of a processor, one after the other.
 #[derive(Clone, Copy, Debug, PartialEq, Eq)]
@@ -65,16 +67,42 @@ pub fn turns_of(lps: u8, item: Option<Item>) -> Option<Turns>
     }
 }
 
-fn are_items(items: &[Option<Item>]) -> bool
-    ensures { result ≡ list_all is_some items.now }
+fn is_turns(lps: u8, word: &[u8]) -> bool
+    ensures { result ≡ is_some (turns_in lps word.now) }
 {
-    items.iter().all(|item| item.is_some())
+    turns_of(lps, item_at(word)).is_some()
 }
 
-fn are_in_range(lps: u8, items: &[Option<Item>]) -> bool
-    ensures { result ≡ list_all (λ i. is_some (in_range_of lps i)) items.now }
+fn has_no_word(text: &[u8]) -> bool
+    ensures { result ≡ (length (words text.now) == 0) }
 {
-    items.iter().all(|item| turns_of(lps, *item).is_some())
+    next_word(text).is_none()
+}
+
+fn are_items(text: &[u8]) -> bool
+    ensures { result ≡ list_all (λ w. is_some (item_of w)) (words text.now) }
+{
+    let mut rest = text;
+    while let Some((word, more)) = next_word(rest) {
+        if item_at(word).is_none() {
+            return false;
+        }
+        rest = more;
+    }
+    true
+}
+
+fn are_in_range(lps: u8, text: &[u8]) -> bool
+    ensures { result ≡ list_all (λ w. is_some (turns_in lps w)) (words text.now) }
+{
+    let mut rest = text;
+    while let Some((word, more)) = next_word(rest) {
+        if !is_turns(lps, word) {
+            return false;
+        }
+        rest = more;
+    }
+    true
 }
 
 fn write_turns(schedule: &mut Vec<u8>, line: u64, turns: Turns) -> Result<(), ScriptFault>
@@ -89,42 +117,39 @@ fn write_turns(schedule: &mut Vec<u8>, line: u64, turns: Turns) -> Result<(), Sc
     Ok(())
 }
 
-fn write_items(
-    schedule: &mut Vec<u8>,
-    line: u64,
-    lps: u8,
-    items: &[Option<Item>],
-) -> Result<(), ScriptFault>
-    ensures { GivesAt line (written_of schedule.old.items (map (in_range_of lps) items.now)) schedule.new.items result }
+fn write_items(schedule: &mut Vec<u8>, line: u64, lps: u8, text: &[u8]) -> Result<(), ScriptFault>
+    ensures { GivesAt line (written_of schedule.old.items (map (turns_in lps) (words text.now))) schedule.new.items result }
 {
-    for item in items {
-        let Some(turns) = turns_of(lps, *item) else {
+    let mut rest = text;
+    while let Some((word, more)) = next_word(rest) {
+        let Some(turns) = turns_of(lps, item_at(word)) else {
             return Err(bad(line, Reason::Range));
         };
         write_turns(schedule, line, turns)?;
+        rest = more;
     }
     Ok(())
 }
 
-/// Puts a schedule line's items behind those of the lines before, written out. After a fault the
-/// schedule isn't read again.
+/// Puts the items of a schedule line behind those of the lines before, written out. `text` is what
+/// stands in the line behind its first word. After a fault the schedule isn't read again.
 #[tactic(auto, unfolding(crate::specs::Schedule::schedule_of))]
 pub fn schedule_line(
     schedule: &mut Vec<u8>,
     line: u64,
     lps: u8,
-    items: &[Option<Item>],
+    text: &[u8],
 ) -> Result<(), ScriptFault>
-    ensures { GivesAt line (schedule_of lps schedule.old.items items.now) schedule.new.items result }
+    ensures { GivesAt line (schedule_of lps schedule.old.items (words text.now)) schedule.new.items result }
 {
-    if items.is_empty() {
+    if has_no_word(text) {
         return Err(bad(line, Reason::Count));
     }
-    if !are_items(items) {
+    if !are_items(text) {
         return Err(bad(line, Reason::Number));
     }
-    if !are_in_range(lps, items) {
+    if !are_in_range(lps, text) {
         return Err(bad(line, Reason::Range));
     }
-    write_items(schedule, line, lps, items)
+    write_items(schedule, line, lps, text)
 }

@@ -221,8 +221,7 @@ fn reads_what_comes_later(rt: HostRuntime) -> Result<(), Fail> {
         Err(Reason::Range)
     );
     let mut schedule = Vec::new(alloc);
-    let items = [item_at(b"0x1*00000002"), item_at(b"7")];
-    schedule_line(&mut schedule, 1, 8, &items)?;
+    schedule_line(&mut schedule, 1, 8, b"  0x1*00000002 7 ")?;
     assert_eq!(rt; schedule.as_slice(), [1, 1, 7].as_slice());
     assert_eq!(rt; item_at(b"1*2*3").is_some(), false);
     Ok(())

@@ -1,6 +1,6 @@
 //! Lines and words.
 
-ghost use Rattle.std.specs.Prelude.{◌≡◌, ◌<◌, ◌==◌, [], ◌∷◌, length, map, position, take, IfOk, MatchOption};
+ghost use Rattle.std.specs.Prelude.{◌≡◌, ◌≢◌, ◌<◌, ◌≤◌, slice_index, ◌==◌, [], ◌∷◌, length, map, position, take, IfOk, MatchOption};
 ghost use Rattle.std.specs.List.{slice_split};
 ghost use Rattle.script_text.specs.Words.{pieces, words, is_printable, is_comment};
 
@@ -20,6 +20,50 @@ pub fn first_line(bytes: &[u8]) -> Option<(&[u8], &[u8])>
 {
     let end = newline_at(bytes)?;
     Some((&bytes[..end], &bytes[end + 1..]))
+}
+
+fn space_at(bytes: &[u8]) -> Option<usize>
+    ensures { result ≡ position (λ b. b == 32) bytes.now }
+{
+    bytes.iter().position(|byte| *byte == b' ')
+}
+
+fn without_front_spaces(bytes: &[u8]) -> &[u8]
+    ensures same { words result.now ≡ words bytes.now }
+    ensures front { 0 < length result.now → slice_index result.now 0 ≢ 32 }
+    ensures shorter { length result.now ≤ length bytes.now }
+{
+    let mut rest = bytes;
+    while !rest.is_empty() && rest[0] == b' ' {
+        rest = &rest[1..];
+    }
+    rest
+}
+
+#[tactic(auto, using(crate::proofs::Pieces::space_below))]
+fn word_and_rest(text: &[u8]) -> (&[u8], &[u8])
+    requires some { 0 < length text.now }
+    requires front { slice_index text.now 0 ≢ 32 }
+    ensures cut { words text.now ≡ result.0.now ∷ words result.1.now }
+    ensures shorter { length result.1.now < length text.now }
+{
+    match space_at(text) {
+        None => (text, &text[text.len()..]),
+        Some(end) => (&text[..end], &text[end + 1..]),
+    }
+}
+
+/// The first word of a text, and what stands behind the space after it. None exactly where the
+/// text has no word.
+pub fn next_word(bytes: &[u8]) -> Option<(&[u8], &[u8])>
+    ensures cut { MatchOption result (words bytes.now ≡ []) (λ x. words bytes.now ≡ x.0.now ∷ words x.1.now) }
+    ensures shorter { MatchOption result Unit (λ x. length x.1.now < length bytes.now) }
+{
+    let text = without_front_spaces(bytes);
+    if text.is_empty() {
+        return None;
+    }
+    Some(word_and_rest(text))
 }
 
 /// The first words of a line, at most six: no line that counts its words has more than five, so

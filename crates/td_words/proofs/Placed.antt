@@ -1,5 +1,5 @@
 -- Places have addresses of their own.
-use Rattle.std.proofs.Common.{◌≡◌, ◌↔◌, refl, ap, ℕ, ◌+◌, ◌*◌, ◌<◌, Bool, true, false, ◌==◌, ◌&&◌, arith}
+use Rattle.std.proofs.Common.{◌≡◌, refl, ap, ℕ, ◌+◌, ◌*◌, ◌<◌, true, false, ◌==◌, ◌&&◌, arith}
 use Rattle.std.proofs.lemmas.Bool.{eq-eqb, eqb-true}
 use Rattle.td_words.specs.declared.names.LockName.{LockName}
 use Rattle.td_words.specs.declared.names.LockName.TheVariants as name

@@ -3,8 +3,9 @@
 //! Nothing here decides anything: this crate says what things are called, how they are printed,
 //! how PAMT, secure EPT and key table words are packed, and where each word stands. Every other
 //! crate stands on it. A layer above may use that addresses of locks, PAMT words and page words
-//! never meet (`addresses_apart`), that `page_of` and `offset_of` undo them, that a packing gives
-//! its value back (`packings_undone`), and the printed text of every name and reply.
+//! never meet (`addresses_apart`), nor two places of a machine (`places_injective`), that
+//! `page_of` and `offset_of` undo them, that a packing gives its value back (`packings_undone`),
+//! and the printed text of every name and reply.
 #![tactic(auto)]
 
 mod addresses;

@@ -1,7 +1,7 @@
 -- The table of rules holds together, class by class.
-use Rattle.std.proofs.Common.{◌≡◌, refl, Bool, true, false}
+use Rattle.std.proofs.Common.{◌≡◌, refl, true, false}
 use Rattle.word_rules.specs.Guards.{clashes}
-use Rattle.word_rules.specs.Rules.{Class, PageLock, TdLock, PamtWord, KeyWord, HostWord, GuestWord, TdrWord, ChildCount, TdcsWord, TdEpoch, EpochCount, RtmrWord, DirtyWord, UpperEntry, LeafEntry, Association, VcpuWord, StreamWord, Unused, Hasher, View, Whole, ThePage, TheRights, Grade, KeepsNothing, KeepsPage, KeepsRights, spares, reads, sees, writes, owes, fills, moves, tries, RulesClash}
+use Rattle.word_rules.specs.Rules.{Class, GuestWord, EpochCount, LeafEntry, View, Whole, ThePage, TheRights, Grade, KeepsNothing, KeepsPage, KeepsRights, spares, reads, sees, writes, owes, fills, moves, tries, RulesClash}
 
 reads_writes : (c : Class) (v : View) (g : Grade) → spares g v ≡ false → clashes (reads c v) (writes c g) ≡ true
 reads_writes (GuestWord true) Whole KeepsNothing h = refl

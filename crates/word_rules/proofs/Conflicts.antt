@@ -1,12 +1,10 @@
 -- No two processors whose grips are apart conflict at a word.
-use Rattle.std.proofs.Common.{◌≡◌, ◌⊎◌, refl, subst, sym, ◌∙◌, inl, inr, ℕ, Bool, true, false}
+use Rattle.std.proofs.Common.{◌≡◌, ◌⊎◌, refl, subst, sym, ◌∙◌, inl, inr, true, false}
 use Rattle.td_words.specs.declared.names.LifeState.{LifeState}
-use Rattle.td_words.specs.Place.{WordPlace}
-use Rattle.flat_core.specs.World.{World}
-use Rattle.word_rules.specs.Guards.{Grip, Apart, Meets, Rule, clashes}
-use Rattle.word_rules.specs.Rules.{Class, Hasher, View, Grade, KeepsNothing, reads, sees, writes, owes, fills, moves, tries, spares}
+use Rattle.word_rules.specs.Guards.{Grip, Apart, Rule, clashes}
+use Rattle.word_rules.specs.Rules.{Class, View, Grade, KeepsNothing, reads, sees, writes, owes, fills, moves, tries, spares}
 use Rattle.word_rules.specs.Spots.{Spot, spot, slot_spot, guard_at}
-use Rattle.word_rules.specs.Permissions.{MayAt, Reads, Owes, Moves, Fills, SwapsOwed, Respects, NoConflict, NoLaterConflict, WordsNeverConflict, ActsNeverConflict, RespectsCompose}
+use Rattle.word_rules.specs.Permissions.{MayAt, WordsNeverConflict, ActsNeverConflict, RespectsCompose}
 use Rattle.word_rules.proofs.Sound.{clashes-sound}
 use Rattle.word_rules.proofs.Clash.{rules_clash}
 

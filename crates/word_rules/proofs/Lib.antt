@@ -3,3 +3,4 @@ pub mod Clash
 pub mod Fits
 pub mod Conflicts
 pub mod Start
+pub mod Kept

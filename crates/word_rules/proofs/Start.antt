@@ -1,5 +1,5 @@
 -- Words that are all 0 show the start of a run.
-use Rattle.std.proofs.Common.{◌≡◌, refl, ℕ, zero, suc, ◌+◌, ◌*◌, ◌^◌, Bool, true, false, ◌==◌, arith}
+use Rattle.std.proofs.Common.{◌≡◌, refl, ℕ, zero, suc, ◌==◌, arith}
 use Rattle.td_words.specs.declared.places.TheConstants.{KEY_LOCK, KEY_LAST_EXPORTED, KEY_LAST_IMPORTED}
 use Rattle.td_words.specs.Place.{WordPlace}
 use Rattle.td_words.specs.Place as place

@@ -1,6 +1,6 @@
 -- What words show: what each word of memory is, as far as the state of the flat machine fixes it. Of a TD in TD_TEARDOWN
 -- the entries, TDCS with its locks, VCPU and stream words are left out.
-use Rattle.std.specs.Prelude.{◌≡◌, ℕ, zero, suc, ◌+◌, ◌-◌, ◌*◌, ◌%◌, ◌^◌, Bool, true, false, ◌==◌, nat_lt, if◌then◌else◌, Option, Some, None, List, [], ◌∷◌, length, slice_get, slice_index}
+use Rattle.std.specs.Prelude.{◌≡◌, ℕ, zero, suc, ◌+◌, ◌-◌, ◌*◌, ◌%◌, ◌^◌, Bool, true, false, ◌==◌, if◌then◌else◌, Option, Some, None, List, [], ◌∷◌, length, slice_get, slice_index}
 use Rattle.td_words.specs.declared.names.PageKind.{PageKind}
 use Rattle.td_words.specs.declared.names.PageKind.TheVariants as kind
 use Rattle.td_words.specs.declared.names.LifeState.{LifeState}

@@ -1,5 +1,6 @@
 pub mod Guards
 pub mod Rules
+pub mod Views
 pub mod Uses
 pub mod Lines
 pub mod Cells

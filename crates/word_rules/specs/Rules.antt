@@ -2,7 +2,7 @@
 -- store, owed, filled, and allowed to become a word of another class (Base Architecture, "Concurrency Restrictions and
 -- Enforcement"; TD Migration Architecture, "Migration Concurrency"). docs/permissions.md has the same in words.
 use Rattle.std.specs.Prelude.{◌≡◌, Bool, true, false, List, [], ◌∷◌}
-use Rattle.word_rules.specs.Guards.{Role, Tdr, Op, Tree, Epoch, Rtmr, Own, Named, Keys, Reach, Change, Want, Has, Sole, Clear, Rule, clashes}
+use Rattle.word_rules.specs.Guards.{Tdr, Op, Tree, Epoch, Rtmr, Own, Named, Keys, Reach, Change, Want, Has, Sole, Clear, Rule, clashes}
 
 -- the kinds of words. `runs` says that the TD's operation state lets virtual processors be in guest
 pub data Class : Type 0 where

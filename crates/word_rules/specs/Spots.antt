@@ -1,14 +1,15 @@
 -- What a word is: its class, the TD that it belongs to, the page that it stands in, and the page that it names if it is an
 -- entry. It is all of the world that a rule depends on.
-use Rattle.std.specs.Prelude.{◌≡◌, ℕ, zero, suc, ◌+◌, ◌*◌, ◌%◌, Bool, true, false, ◌==◌, if◌then◌else◌, Option, Some, None, List, [], ◌∷◌, length}
+use Rattle.std.specs.Prelude.{ℕ, zero, suc, ◌+◌, ◌*◌, ◌%◌, Bool, true, false, ◌==◌, ◌||◌, if◌then◌else◌, Option, Some, None, List, [], ◌∷◌}
 use Rattle.td_words.specs.declared.names.PageKind.{PageKind}
 use Rattle.td_words.specs.declared.names.PageKind.TheVariants as kind
+use Rattle.td_words.specs.declared.names.LifeState.{LifeState}
+use Rattle.td_words.specs.declared.names.LifeState.TheVariants as life
 use Rattle.td_words.specs.declared.names.OpState.{OpState}
 use Rattle.td_words.specs.declared.names.OpState.TheVariants as op
-use Rattle.td_words.specs.declared.places.TheConstants.{TDR_LIFE, TDR_HKID, TDR_CHILDREN, TDR_TDCX_COUNT, TDR_TDCS, TDR_ROOT, TDCS_OP_LOCK, TDCS_OP, TDCS_EPOCH, TDCS_ENTERED, TDCS_DIRTIED, TDCS_UNRESTORED, TDCS_MIG_EPOCH, TDCS_SESSION, TDCS_TD_EXPORTED, TDCS_VPS_EXPORTED, TDCS_VPS_EXPECTED, TDCS_VP_COUNT, TDCS_RTMRS, TDCS_VPS, TDCS_STREAM_COUNT, TDCS_STREAMS, TDCS_MRTD, VP_INDEX, VP_STATE, VP_ASSOCIATED, VP_LAST_EPOCH, VP_POSITION, VP_EXPORTED, VP_REGISTERS, STREAM_COUNTER, STREAM_CLEANED, STREAM_FIRST_EXPORTS, KEY_LOCK}
+use Rattle.td_words.specs.declared.places.TheConstants.{TDR_LIFE, TDR_HKID, TDR_CHILDREN, TDR_TDCX_COUNT, TDR_TDCS, TDR_ROOT, TDCS_OP_LOCK, TDCS_OP, TDCS_EPOCH, TDCS_ENTERED, TDCS_DIRTIED, TDCS_UNRESTORED, TDCS_MIG_EPOCH, TDCS_RTMRS, TDCS_VPS, TDCS_STREAM_COUNT, TDCS_STREAMS, TDCS_MRTD, VP_INDEX, VP_STATE, VP_ASSOCIATED, VP_LAST_EPOCH, VP_POSITION, VP_EXPORTED, VP_REGISTERS, STREAM_COUNTER, STREAM_CLEANED, STREAM_FIRST_EXPORTS, KEY_LOCK}
 use Rattle.td_words.specs.Place.{WordPlace}
 use Rattle.td_words.specs.Place as place
-use Rattle.td_words.specs.Packing.{Key}
 use Rattle.flat_core.specs.World.{World}
 use Rattle.flat_core.specs.Processor.{OfPage, OfOp, OfTree, OfEpoch, OfRtmr, OfKeys}
 use Rattle.flat_core.specs.Lawful.{key_owner}
@@ -77,12 +78,17 @@ vp_classes = At VP_INDEX VcpuWord ∷ At VP_STATE VcpuWord ∷ At VP_ASSOCIATED 
 abbrev pub stream_classes : List (Line Class)
 stream_classes = At STREAM_COUNTER StreamWord ∷ At STREAM_CLEANED StreamWord ∷ At STREAM_FIRST_EXPORTS StreamWord ∷ []
 
--- whether a parity is TD_EPOCH's, and whether no virtual processor in guest entered at an epoch of it
+-- whether a parity is TD_EPOCH's, and whether no virtual processor in guest entered at an epoch of it. Of a TD in
+-- TD_TEARDOWN none is in guest, and its TDVPR pages may be another TD's by now
+abbrev pub is_at_end : LifeState → Bool
+is_at_end life.Teardown = true
+is_at_end _ = false
+
 abbrev pub is_current : World → ℕ → ℕ → Bool
 is_current w t b = w.tds.epochs t % 2 == b
 
 abbrev pub is_empty : World → ℕ → ℕ → Bool
-is_empty w t b = entered_of_parity b w.vps.entered (w.tds.vps t) == 0
+is_empty w t b = is_at_end (w.tds.lives t) || entered_of_parity b w.vps.entered (w.tds.vps t) == 0
 
 abbrev pub root_class : ℕ → List ℕ → Class
 root_class p [] = Unused

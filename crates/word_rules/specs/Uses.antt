@@ -1,8 +1,8 @@
 -- The whole leaf table against the rules: for each call and guest operation its loads, its act, its later stores and its
 -- fills, each with the locks that its row has got by then (ABI Reference, "TDH leaf functions"; "TDG leaf functions").
 use Rattle.std.specs.Prelude.{◌≡◌, Bool, true, false, ◌&&◌, ◌||◌, List, [], ◌∷◌}
-use Rattle.word_rules.specs.Guards.{Role, Tdr, Op, Tree, Epoch, Rtmr, Own, Named, Keys, Reach, Change, Want, Has, Sole, Clear, Rule, same_role}
-use Rattle.word_rules.specs.Rules.{Class, PageLock, TdLock, PamtWord, KeyWord, HostWord, GuestWord, TdrWord, ChildCount, TdcsWord, TdEpoch, EpochCount, RtmrWord, DirtyWord, UpperEntry, LeafEntry, Association, VcpuWord, StreamWord, Unused, Hasher, FreeSlot, View, Whole, ThePage, TheRights, Grade, KeepsNothing, KeepsPage, KeepsRights, reads, sees, writes, owes, fills, moves}
+use Rattle.word_rules.specs.Guards.{Tdr, Op, Tree, Epoch, Rtmr, Own, Named, Keys, Reach, Change, Want, Has, Sole, Clear, Rule, same_role}
+use Rattle.word_rules.specs.Rules.{Class, TdLock, PamtWord, KeyWord, HostWord, GuestWord, TdrWord, ChildCount, TdcsWord, TdEpoch, EpochCount, RtmrWord, DirtyWord, UpperEntry, LeafEntry, Association, VcpuWord, StreamWord, Unused, Hasher, FreeSlot, Whole, ThePage, TheRights, KeepsNothing, KeepsPage, KeepsRights, reads, sees, writes, owes, fills, moves}
 
 -- what is had gives what is wanted
 abbrev pub gives : Want → Want → Bool

@@ -1,6 +1,7 @@
 //! Laws of words and permissions, as contracts of functions that do nothing.
 
 ghost use Rattle.word_rules.specs.Rules.{RulesClash};
+ghost use Rattle.word_rules.specs.Views.{ViewsAreKept};
 ghost use Rattle.word_rules.specs.Uses.{LeafTableFits};
 ghost use Rattle.word_rules.specs.Permissions.{WordsNeverConflict, ActsNeverConflict, RespectsCompose};
 ghost use Rattle.word_rules.specs.Cells.{StartIsShown};
@@ -10,6 +11,14 @@ ghost use Rattle.word_rules.specs.Cells.{StartIsShown};
 pub fn rules_clash()
     ensures { RulesClash }
 {}
+
+/// A store that spares a view leaves what a load looked at; of an entry's word the views are the
+/// entry's own page and rights.
+pub fn views_are_kept()
+    ensures { ViewsAreKept }
+{
+    td_words::packings_undone();
+}
 
 /// The locks of each call and guest operation of the profile allow each of its loads and stores.
 pub fn leaf_table_fits()

@@ -10,5 +10,6 @@
 mod laws;
 
 pub use laws::{
-    leaf_table_fits, respects_compose, rules_clash, start_is_shown, words_never_conflict,
+    leaf_table_fits, respects_compose, rules_clash, start_is_shown, views_are_kept,
+    words_never_conflict,
 };

@@ -1,0 +1,7 @@
+pub mod InMemory
+pub mod PlainWorld
+pub mod PlainRuns
+pub mod Unscheduled
+pub mod Part
+pub mod Long
+pub mod Fronts

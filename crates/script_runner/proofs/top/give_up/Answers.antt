@@ -1,0 +1,5 @@
+use Rattle.script_runner.proofs.Part.{puts_part}
+use Rattle.script_runner.proofs.top.give_up.Goals as goal
+
+pub returns-clause-text : goal.returns-clause-text
+returns-clause-text g c = puts_part _ _ _ _ (rw c.as_bytes.ensures.value at c.put.ensures.told)

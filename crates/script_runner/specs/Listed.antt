@@ -1,0 +1,50 @@
+-- Calls that fail where they are listed.
+use Rattle.std.specs.Prelude.{◌≡◌, ℕ, List, Bool, true, false, ◌==◌, Result, Ok, Err, if◌then◌else◌}
+use Rattle.std.specs.List.{list_any}
+use Rattle.std.specs.Global.{Vec}
+use Rattle.script_runner.specs.declared.outside.LoadFault.{LoadFault}
+use Rattle.script_runner.specs.declared.outside.LoadFault.TheVariants as load
+use Rattle.script_runner.specs.declared.outside.SaveFault.{SaveFault}
+use Rattle.script_runner.specs.declared.outside.SaveFault.TheVariants as save
+use Rattle.script_runner.specs.declared.outside.PutFault.{PutFault}
+use Rattle.script_runner.specs.declared.outside.PutFault.TheVariants as put
+use Rattle.script_runner.specs.declared.listed.MemFiles.{MemFiles}
+use Rattle.script_runner.specs.declared.listed.MemSink.{MemSink}
+use Rattle.script_runner.specs.Outside.{raised}
+
+-- the call of that number is to fail
+abbrev pub is_listed : List ℕ → ℕ → Bool
+is_listed failing call = list_any (λ n. n == call) failing
+
+-- a call that is listed fails, and no other does
+abbrev pub LoadsListed : Bool → Result (Vec ℕ) LoadFault → Type 0
+LoadsListed true result = result ≡ Err load.Failed
+LoadsListed false (Ok v) = Unit {0}
+LoadsListed false (Err load.Absent) = Unit {0}
+LoadsListed false (Err load.TooLong) = Unit {0}
+LoadsListed false (Err load.Failed) = ⊥
+LoadsListed false (Err load.OutOfMemory) = Unit {0}
+
+abbrev pub SavesListed : Bool → Result (Unit {0}) SaveFault → Type 0
+SavesListed true result = result ≡ Err save.Failed
+SavesListed false (Ok t) = Unit {0}
+SavesListed false (Err save.Failed) = ⊥
+SavesListed false (Err save.OutOfMemory) = Unit {0}
+
+abbrev pub PutsListed : Bool → Result (Unit {0}) PutFault → Type 0
+PutsListed true result = result ≡ Err put.Failed
+PutsListed false (Ok t) = Unit {0}
+PutsListed false (Err put.Failed) = ⊥
+PutsListed false (Err put.OutOfMemory) = Unit {0}
+
+-- the files after a load: the call is counted, and its fault where it is listed
+abbrev pub after_load : MemFiles → MemFiles
+after_load f = record f { calls = raised f.calls; read_faults = if is_listed f.failing.items f.calls then raised f.read_faults else f.read_faults }
+
+-- the same for a save, which may change files besides
+abbrev pub after_save : MemFiles → MemFiles
+after_save f = record f { calls = raised f.calls; write_faults = if is_listed f.failing.items f.calls then raised f.write_faults else f.write_faults }
+
+-- the output after a put, which may change its bytes besides
+abbrev pub after_put : MemSink → MemSink
+after_put s = record s { calls = raised s.calls; faults = if is_listed s.failing.items s.calls then raised s.faults else s.faults }

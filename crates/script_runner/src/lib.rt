@@ -1,0 +1,31 @@
+//! The top call, and the outside that it works on.
+//!
+//! `Files` and `Sink` say what files and an output may do and when they may fail. In memory they
+//! tell their contents (`MemFiles` and `MemSink` fail exactly the listed calls, `HonestFiles` and
+//! `HonestSink` none); `DiskFiles` and `StdSink` stand over the real world and tell none.
+#![tactic(auto)]
+
+mod disk;
+mod ending;
+mod flat_run;
+mod gates;
+mod held;
+mod honest;
+mod listed;
+mod outside;
+mod plain;
+mod report;
+mod standard_output;
+mod top;
+
+pub use disk::DiskFiles;
+pub use gates::{Gate, NoGate};
+pub use held::NamedFile;
+pub use honest::{HonestFiles, HonestSink};
+pub use listed::{MemFiles, MemSink};
+pub use outside::{Files, LoadFault, PutFault, SaveFault, Sink};
+pub use standard_output::StdSink;
+pub use top::tdx_main;
+
+#[cfg(test)]
+mod tests;

@@ -1,0 +1,146 @@
+use super::*;
+use std::alloc::Global;
+use std::test::Fail;
+
+fn one_file(alloc: Global, name: &str, bytes: &[u8]) -> Result<Vec<NamedFile>, Fail> {
+    let mut files = Vec::new(alloc);
+    files.push(NamedFile {
+        name: String::from_str(alloc, name)?,
+        bytes: bytes.to_vec(alloc)?,
+    })?;
+    Ok(files)
+}
+
+#[test]
+fn memory_fails_where_it_is_listed(rt: HostRuntime) -> Result<(), Fail> {
+    let alloc = rt.alloc();
+    let mut files = MemFiles::new(alloc, one_file(alloc, "a", b"12")?, [1, 4].to_vec(alloc)?);
+    assert!(rt; matches!(files.load(alloc, "a", 1), Err(LoadFault::TooLong)));
+    assert!(rt; matches!(files.save(alloc, "b", b"3"), Err(SaveFault::Failed)));
+    assert!(rt; matches!(files.load(alloc, "b", 1), Err(LoadFault::Absent)));
+    assert!(rt; files.save(alloc, "b", b"4").is_ok());
+    assert!(rt; matches!(files.load(alloc, "b", 1), Err(LoadFault::Failed)));
+    assert!(rt; files.save(alloc, "a", b"5").is_ok());
+    for (name, want) in [("a", b"5"), ("b", b"4")] {
+        match files.load(alloc, name, 1) {
+            Ok(bytes) => assert_eq!(rt; bytes.as_slice(), want.as_slice(), "of {name}"),
+            Err(_) => assert!(rt; false, "no {name}"),
+        }
+    }
+    let mut out = MemSink::new(alloc, [1].to_vec(alloc)?);
+    for (bytes, is_put) in [(b"6", true), (b"7", false), (b"8", true)] {
+        assert_eq!(rt; out.put(bytes).is_ok(), is_put);
+    }
+    assert_eq!(rt; out.bytes.as_slice(), b"68".as_slice());
+    Ok(())
+}
+
+#[test]
+fn honest_memory_takes_all(rt: HostRuntime) -> Result<(), Fail> {
+    let alloc = rt.alloc();
+    let mut files = HonestFiles::new(alloc, one_file(alloc, "a", b"1")?);
+    assert!(rt; files.save(alloc, "b", b"2").is_ok());
+    match files.load(alloc, "b", 1) {
+        Ok(bytes) => assert_eq!(rt; bytes.as_slice(), b"2".as_slice()),
+        Err(_) => assert!(rt; false, "no b"),
+    }
+    let mut out = HonestSink::new(alloc);
+    assert!(rt; out.put(b"3").is_ok());
+    assert_eq!(rt; out.bytes.as_slice(), b"3".as_slice());
+    Ok(())
+}
+
+fn words(alloc: Global, list: &[&str]) -> Result<Vec<String>, Fail> {
+    let mut words = Vec::new(alloc);
+    for word in list {
+        words.push(String::from_str(alloc, word)?)?;
+    }
+    Ok(words)
+}
+
+#[test]
+fn scripts_print_their_replies(rt: HostRuntime) -> Result<(), Fail> {
+    let table: [(&str, &str, u8); 9] = [
+        ("machine 1 8 1\n", "", 0),
+        (
+            "machine 1 8 1\nlp 0\nHOST.WRITE 5 511 7\nHOST.READ 5 511\nHOST.READ 5 512\nHOST.READ 8 0\nend\n",
+            "0.1 SUCCESS\n0.2 SUCCESS 7\n0.3 OPERAND_INVALID 2\n0.4 OPERAND_INVALID 1\n",
+            0,
+        ),
+        (
+            "machine 1 32 1\nlp 0\nMNG.CREATE 1 1\nHOST.READ 1 0\nHOST.WRITE 1 0 9\nMNG.CREATE 1 1\nMNG.CREATE 2 1\nPHYMEM.PAGE.RDMD 1\nend\n",
+            "0.1 SUCCESS\n0.2 SUCCESS 0\n0.3 NOT_HOST\n0.4 PAGE_METADATA_INCORRECT 1\n0.5 HKID_NOT_FREE\n0.6 SUCCESS PT_TDR 1 0\n",
+            0,
+        ),
+        // A page's words are cleared as it becomes a TDR, and the host sees none of them.
+        (
+            "machine 1 8 2\nlp 0\nHOST.WRITE 1 3 4\nMNG.CREATE 1 2\nHOST.READ 1 3\nPHYMEM.PAGE.RDMD 2\nMNG.CREATE 2 3\nend\n",
+            "0.1 SUCCESS\n0.2 SUCCESS\n0.3 SUCCESS 0\n0.4 SUCCESS PT_NDA 0 0\n0.5 OPERAND_INVALID 2\n",
+            0,
+        ),
+        (
+            "machine 1 8 1\nlp 0\nHOST.RE",
+            "script line 3 UNTERMINATED\n",
+            2,
+        ),
+        (
+            "machine 1 8 1\nlp 0\nHOST.READ 5\nend\n",
+            "script line 3 COUNT\n",
+            2,
+        ),
+        ("machine 2 8 1\n", "script line 1 UNBUILT\n", 2),
+        (
+            "machine 1 8 1\nlp 0\nHOST.READ 5 0\n",
+            "script line 4 ENDLESS\n",
+            2,
+        ),
+        ("# nothing\n\n", "script line 3 MACHINE\n", 2),
+    ];
+    let alloc = rt.alloc();
+    let replay = words(alloc, &["replay", "s"])?;
+    for (script, want, status) in table {
+        let mut files = MemFiles::new(
+            alloc,
+            one_file(alloc, "s", script.as_bytes())?,
+            Vec::new(alloc),
+        );
+        let mut out = MemSink::new(alloc, Vec::new(alloc));
+        let got = tdx_main(alloc, &replay, &mut files, &mut out, &NoGate);
+        assert_eq!(rt; got, status, "status of {script}");
+        assert_eq!(rt; out.bytes.as_slice(), want.as_bytes(), "text of {script}");
+    }
+    Ok(())
+}
+
+const USAGE: &[u8] =
+    b"usage: tdx replay|run SCRIPT [--bundles F] [--keys F] [--secrets F] [--out-bundles F] [--guest-out F] | tdx check SCRIPT | tdx soak N\n";
+
+#[test]
+fn faults_end_with_their_status(rt: HostRuntime) -> Result<(), Fail> {
+    let table: [(&[&str], &[u64], &[u64], u8, &[u8]); 10] = [
+        (&["replay", "s"], &[0], &[], 3, b"cannot read s\n"),
+        (&["replay", "t"], &[], &[], 3, b"cannot read t\n"),
+        (&["replay", "s"], &[], &[0], 4, b""),
+        // Failed puts of other texts than the replies leave the status.
+        (&["replay", "t"], &[], &[0], 3, b""),
+        (&["replay"], &[], &[0], 1, b""),
+        (&["replay"], &[], &[], 1, USAGE),
+        (&[], &[], &[], 1, USAGE),
+        (&["run", "s"], &[], &[], 1, USAGE),
+        (&["replay", "-s"], &[], &[], 1, USAGE),
+        (&["replay", "s", "t"], &[], &[], 1, USAGE),
+    ];
+    let alloc = rt.alloc();
+    for (list, loads, puts, status, want) in table {
+        let mut files = MemFiles::new(
+            alloc,
+            one_file(alloc, "s", b"machine 1 8 1\n")?,
+            loads.to_vec(alloc)?,
+        );
+        let mut out = MemSink::new(alloc, puts.to_vec(alloc)?);
+        let got = tdx_main(alloc, &words(alloc, list)?, &mut files, &mut out, &NoGate);
+        assert_eq!(rt; got, status, "status");
+        assert_eq!(rt; out.bytes.as_slice(), want, "text at {status}");
+    }
+    Ok(())
+}
