@@ -28,7 +28,7 @@ use Rattle.word_rules.specs.Guards.{Grip}
 use Rattle.word_rules.specs.Cells.{Shows, IsAs, cell, page_cell, lock_word}
 use Rattle.lock_words.specs.Grips.{holds}
 use Rattle.leaf_engine.specs.declared.needs.Place.{Place}
-use Rattle.leaf_engine.specs.Changes.{put_word}
+use Rattle.lock_words.specs.LockWords.{put_word}
 use Rattle.leaf_engine.specs.Trees.{answers}
 use Rattle.leaf_engine.specs.Means.{Instant, IsAt, Means, MeansRow, Work, work_of, OfCall, hold}
 use Rattle.first_leaves.specs.Words.{says_kind, says_host}

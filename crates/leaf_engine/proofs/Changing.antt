@@ -15,7 +15,8 @@ use Rattle.step_core.specs.Pages.{clearing, copying}
 use Rattle.step_core.specs.Laws.{PagesChangeAlone, is_word_of}
 use Rattle.leaf_engine.specs.declared.needs.Write.{Write}
 use Rattle.leaf_engine.specs.declared.needs.Write.TheVariants as write
-use Rattle.leaf_engine.specs.Changes.{Hand, Memory, Change, Put, PutHash, Raise, Clear, Copy, Swap, put_word, put_slot, put_page, changed, changed_all}
+use Rattle.leaf_engine.specs.Changes.{Hand, Memory, Change, Put, PutHash, Raise, Clear, Copy, Swap, put_slot, put_page, changed, changed_all}
+use Rattle.lock_words.specs.LockWords.{put_word}
 use Rattle.leaf_engine.specs.Decides.{write_of, hand_for, IsHand}
 use Rattle.leaf_engine.specs.Means.{IsHkid}
 use Rattle.leaf_engine.specs.Items.{IsWritten, IsChanged, AreChanged}

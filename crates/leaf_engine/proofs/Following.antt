@@ -6,7 +6,7 @@ use Rattle.td_words.specs.declared.replies.Reply.{Reply}
 use Rattle.td_words.specs.Place.{WordPlace}
 use Rattle.flat_core.specs.Processor.{LockId, Held}
 use Rattle.flat_core.specs.Row.{Item, Check, Try, Move, Attempts, Refuses, Succeeds, next}
-use Rattle.leaf_engine.specs.Views.{look}
+use Rattle.word_rules.specs.Views.{look}
 use Rattle.leaf_engine.specs.Trees.{Tree, Lock, Load, Test, End, Since, feed}
 use Rattle.leaf_engine.specs.Means.{Task, Instant, IsAt, Work, work_of, Means, MeansRow}
 use Rattle.leaf_engine.specs.Follows.{granted, Current, Comes, LeavesFollowRows}

@@ -10,7 +10,7 @@ use Rattle.step_core.specs.declared.steps.WordStep.{WordStep}
 use Rattle.step_core.specs.declared.steps.WordStep.TheVariants as step
 use Rattle.step_core.specs.Words.{after_step, answer_of}
 use Rattle.step_core.specs.Items.{Table, Taken, Stepped, Swapped, Missed, PlaysTo}
-use Rattle.leaf_engine.specs.Views.{look}
+use Rattle.word_rules.specs.Views.{look}
 use Rattle.leaf_engine.specs.Trees.{Tree, Lock, Load, Test, End, Since, feed, settle, fed}
 use Rattle.leaf_engine.specs.Means.{Task, Instant, IsAt, Work, work_of, MeansRow}
 use Rattle.leaf_engine.specs.Items.{IsLoadAt, IsLoaded}

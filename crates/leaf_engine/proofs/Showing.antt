@@ -25,8 +25,9 @@ use Rattle.leaf_engine.specs.declared.events.Event.{Event}
 use Rattle.leaf_engine.specs.declared.events.Event.TheVariants as event
 use Rattle.leaf_engine.specs.declared.events.Stage.{Stage}
 use Rattle.leaf_engine.specs.declared.events.Stage.TheVariants as stage
-use Rattle.leaf_engine.specs.Views.{look}
-use Rattle.leaf_engine.specs.Changes.{Memory, Change, Put, PutHash, Raise, Clear, Copy, Swap, changed, changed_all, put_word}
+use Rattle.word_rules.specs.Views.{look}
+use Rattle.leaf_engine.specs.Changes.{Memory, Change, Put, PutHash, Raise, Clear, Copy, Swap, changed, changed_all}
+use Rattle.lock_words.specs.LockWords.{put_word}
 use Rattle.leaf_engine.specs.Trees.{Tree, Lock, Load, Test, End, Since, feed, settle, passed, changes_of}
 use Rattle.leaf_engine.specs.Means.{Task, Instant, IsAt, Work, work_of, hold, Locks, Acts, MayFill, MayFillAll, MayAct, MayOwe, MayOweAll, MayChange, LocksStay, acted, MeansRow}
 use Rattle.leaf_engine.specs.Decides.{Gives, IsHand}

@@ -35,7 +35,8 @@ use Rattle.leaf_engine.specs.declared.events.RunTurn.{RunTurn}
 use Rattle.leaf_engine.specs.declared.events.HeldLock.{HeldLock}
 use Rattle.leaf_engine.specs.declared.events.Stage.{Stage}
 use Rattle.leaf_engine.specs.declared.events.Stage.TheVariants as stages
-use Rattle.leaf_engine.specs.Changes.{Memory, put_word}
+use Rattle.leaf_engine.specs.Changes.{Memory}
+use Rattle.lock_words.specs.LockWords.{put_word}
 use Rattle.leaf_engine.specs.Means.{Task, Meaning, OfCall as CallOf, Instant, IsAt, work_of, acted, hold, MeansRow, LocksStay}
 use Rattle.leaf_engine.specs.Decides.{IsHand}
 use Rattle.leaf_engine.specs.Follows.{Current}

@@ -11,8 +11,8 @@ use Rattle.word_rules.specs.Guards.{Grip, Role, Guard, Meets}
 use Rattle.word_rules.specs.Rules.{Class, PageLock, TdLock, PamtWord, KeyWord, HostWord, GuestWord, TdrWord, ChildCount, TdcsWord, TdEpoch, EpochCount, RtmrWord, DirtyWord, UpperEntry, LeafEntry, Association, VcpuWord, StreamWord, Unused, Hasher, View, reads, sees, tries}
 use Rattle.word_rules.specs.Permissions.{Reads, Sees, Tries as MayTry}
 use Rattle.word_rules.specs.Spots.{Spot, spot, guard_at}
-use Rattle.leaf_engine.specs.Views.{look}
-use Rattle.leaf_engine.specs.Changes.{put_word}
+use Rattle.word_rules.specs.Views.{look}
+use Rattle.lock_words.specs.LockWords.{put_word}
 use Rattle.leaf_engine.specs.Trees.{Tree, Lock, Load, Test, End, Since}
 use Rattle.leaf_engine.specs.Means.{Task, Instant, IsAt, Work, work_of, Means, MeansRow, Loads, hold}
 use Rattle.leaf_engine.specs.Follows.{Current}

@@ -1,6 +1,7 @@
 -- What a leaf changes: words by their places, and the hashers in the slots of HKIDs.
 use Rattle.std.specs.Prelude.{◌≡◌, ℕ, ◌+◌, ◌%◌, ◌^◌, Bool, true, false, ◌==◌, ◌&&◌, if◌then◌else◌, Option, None, List, [], ◌∷◌}
-use Rattle.td_words.specs.Place.{WordPlace, Lock, Pamt, Word, Key, same_place}
+use Rattle.td_words.specs.Place.{WordPlace, Lock, Pamt, Word, Key}
+use Rattle.lock_words.specs.LockWords.{put_word}
 
 -- the hasher in a leaf's hand, or in a slot, as the bytes that it has measured
 abbrev pub Hand : Type 0
@@ -20,9 +21,6 @@ pub data Change : Type 0 where
   Clear : (page : ℕ) → Change
   Copy : (from to : ℕ) → Change
   Swap : (hkid : ℕ) (made : Hand → Hand) → Change
-
-abbrev pub put_word : (WordPlace → ℕ) → WordPlace → ℕ → WordPlace → ℕ
-put_word words q x r = if same_place r q then x else words r
 
 abbrev pub put_slot : (ℕ → Hand) → ℕ → Hand → ℕ → Hand
 put_slot slots h x k = if k == h then x else slots k

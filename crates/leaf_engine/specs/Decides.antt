@@ -13,7 +13,7 @@ use Rattle.leaf_engine.specs.declared.needs.Write.TheVariants as write
 use Rattle.leaf_engine.specs.declared.plans.Stop.{Stop}
 use Rattle.leaf_engine.specs.declared.plans.Stop.TheVariants as stop
 use Rattle.leaf_engine.specs.declared.plans.Verdict.{Verdict}
-use Rattle.leaf_engine.specs.Views.{look}
+use Rattle.word_rules.specs.Views.{look}
 use Rattle.leaf_engine.specs.Changes.{Hand, Change, Put, PutHash, Raise, Clear, Copy, Swap, are_plain}
 use Rattle.leaf_engine.specs.Trees.{Tree, Lock, Load, Test, End, Since}
 use Rattle.leaf_engine.specs.Inside.{WriteInside}

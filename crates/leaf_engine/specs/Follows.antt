@@ -5,7 +5,7 @@ use Rattle.td_words.specs.declared.replies.Reply.{Reply}
 use Rattle.td_words.specs.Place.{WordPlace, IsIn}
 use Rattle.flat_core.specs.Processor.{Held}
 use Rattle.flat_core.specs.Row.{Move, Attempts, Refuses, Succeeds, next}
-use Rattle.leaf_engine.specs.Views.{look}
+use Rattle.word_rules.specs.Views.{look}
 use Rattle.leaf_engine.specs.Changes.{changed_all}
 use Rattle.leaf_engine.specs.Trees.{Tree, Lock, Load, Test, End, Since, feed}
 use Rattle.leaf_engine.specs.Means.{Task, Instant, IsAt, Work, work_of, hold, Locks, Loads, Acts, MayChange, MayOweAll, MeansRow}

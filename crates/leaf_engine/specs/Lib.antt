@@ -1,4 +1,3 @@
-pub mod Views
 pub mod Changes
 pub mod Trees
 pub mod Means

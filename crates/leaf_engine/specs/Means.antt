@@ -25,7 +25,7 @@ use Rattle.word_rules.specs.Cells.{Shows}
 use Rattle.lock_words.specs.Grips.{holds, holds_alone, grip_with}
 use Rattle.lock_words.specs.LockWords.{place_of, Stands}
 use Rattle.leaf_engine.specs.declared.needs.Place.{Place}
-use Rattle.leaf_engine.specs.Views.{look, KeptBy}
+use Rattle.word_rules.specs.Views.{look, IsKept}
 use Rattle.leaf_engine.specs.Changes.{Memory, Change, Put, PutHash, Raise, Clear, Copy, Swap, changed, changed_all}
 use Rattle.leaf_engine.specs.Trees.{Tree, Lock, Load, Test, End, Since, has_acted}
 
@@ -143,7 +143,7 @@ IsHkid m h = (1 ≤ h) × (h ≤ m.hkids)
 
 -- the act's store, by the world before it
 abbrev pub MayAct : Machine → Grip → World → Memory → Change → Type 0
-MayAct m g w mem (Put q x) = IsIn m q × ((k : Grade) × Writes g w q k × KeptBy k (mem.words q) x)
+MayAct m g w mem (Put q x) = IsIn m q × ((k : Grade) × Writes g w q k × IsKept k (mem.words q) x)
 MayAct m g w mem (PutHash q x) = IsIn m q × Writes g w q KeepsNothing
 MayAct m g w mem (Raise q) = IsIn m q × Writes g w q KeepsNothing
 MayAct m g w mem (Swap h made) = IsHkid m h × SwapsAct g w h
@@ -151,7 +151,7 @@ MayAct m g w mem _ = ⊥
 
 -- a store that comes after it, by the world after it
 abbrev pub MayOwe : Machine → Grip → World → Memory → Change → Type 0
-MayOwe m g w mem (Put q x) = IsIn m q × ((k : Grade) × Owes g w q k × KeptBy k (mem.words q) x)
+MayOwe m g w mem (Put q x) = IsIn m q × ((k : Grade) × Owes g w q k × IsKept k (mem.words q) x)
 MayOwe m g w mem (PutHash q x) = IsIn m q × Owes g w q KeepsNothing
 MayOwe m g w mem (Clear p) = (p < m.pages) × EachWord (λ r. Owes g w r KeepsNothing) p
 MayOwe m g w mem (Swap h made) = IsHkid m h × SwapsOwed g w h

@@ -15,7 +15,8 @@ use Rattle.step_core.specs.Items.{Table, Taken, PlaysTo}
 use Rattle.leaf_engine.specs.declared.events.Event.{Event}
 use Rattle.leaf_engine.specs.declared.events.Event.TheVariants as event
 use Rattle.leaf_engine.specs.declared.events.Stage.TheVariants as stage
-use Rattle.leaf_engine.specs.Changes.{Memory, put_word}
+use Rattle.leaf_engine.specs.Changes.{Memory}
+use Rattle.lock_words.specs.LockWords.{put_word}
 use Rattle.leaf_engine.specs.Trees.{feed}
 use Rattle.leaf_engine.specs.Means.{Task, Instant, IsAt, work_of, Locks, LocksStay, acted, MeansRow}
 use Rattle.leaf_engine.specs.Follows.{granted, Current}

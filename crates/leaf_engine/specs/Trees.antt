@@ -8,7 +8,7 @@ use Rattle.td_words.specs.declared.replies.Reply.TheVariants.{Refused}
 use Rattle.td_words.specs.Place.{WordPlace}
 use Rattle.flat_core.specs.Processor.{LockId}
 use Rattle.word_rules.specs.Rules.{View}
-use Rattle.leaf_engine.specs.Views.{look}
+use Rattle.word_rules.specs.Views.{look}
 use Rattle.leaf_engine.specs.Changes.{Change}
 
 -- the try of a lock; a load, of which it depends on a part; a condition, with the reply where it fails; the end, with the
