@@ -1,5 +1,5 @@
 -- One more load of a tree, and one more of its changes.
-use Rattle.std.proofs.Common.{◌≡◌, ℕ, List, [], ◌∷◌, ◌++◌, Option, None, Some, refl, ap, sym, ◌∙◌, subst, append_assoc}
+use Rattle.std.proofs.Common.{◌≡◌, ℕ, List, [], ◌∷◌, ◌++◌, Option, None, Some, refl, sym, subst, append_assoc}
 use Rattle.std.proofs.lemmas.List.{append-nil}
 use Rattle.td_words.specs.declared.machines.Machine.{Machine}
 use Rattle.mrtd_measure.specs.declared.measures.Measure.{Measure}
@@ -9,7 +9,7 @@ use Rattle.leaf_engine.specs.declared.needs.Need.TheVariants as need
 use Rattle.leaf_engine.specs.declared.needs.Write.{Write}
 use Rattle.leaf_engine.specs.Changes.{Change}
 use Rattle.leaf_engine.specs.Trees.{Tree, Lock, Load, Test, End, Since, settle, fed, passed}
-use Rattle.leaf_engine.specs.Decides.{Gives, HandsOut, HandsNext}
+use Rattle.leaf_engine.specs.Decides.{Gives, HandsNext}
 use Rattle.leaf_engine.specs.Items.{IsLoadAt, IsLoaded, IsWritten, IsChanged, AreChanged}
 
 pub loaded : (n : ℕ) (s : Tree) (at : ℕ) → Gives n s (need.Load at) → IsLoadAt n s at × (passed s ≡ s)

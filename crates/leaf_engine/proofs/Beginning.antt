@@ -1,8 +1,7 @@
 -- A run begins where its processor does.
-use Rattle.std.proofs.Common.{◌≡◌, ℕ, List, [], ◌∷◌, None, refl, ap, sym, subst}
-use Rattle.flat_core.specs.Processor.{Held, Trying, Progress, nothing_yet}
+use Rattle.std.proofs.Common.{◌≡◌, List, [], refl, ap, sym, subst}
+use Rattle.flat_core.specs.Processor.{Held, Progress}
 use Rattle.td_words.specs.declared.replies.Reply.{Reply}
-use Rattle.flat_core.specs.World.{World}
 use Rattle.leaf_engine.specs.declared.events.Stage.TheVariants as stages
 use Rattle.leaf_engine.specs.Calls.{CallsBegin, IsStage, AreLocks}
 use Rattle.leaf_engine.proofs.Showing.{current-end, granted-end}

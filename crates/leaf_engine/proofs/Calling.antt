@@ -1,45 +1,37 @@
 -- Each turn of a call's run is the next event of its processor.
-use Rattle.std.proofs.Common.{◌≡◌, ◌≢◌, ◌⊎◌, ℕ, zero, suc, ◌+◌, ◌-◌, ◌*◌, ◌%◌, ◌^◌, ◌<◌, ◌≤◌, Bool, true, false, ◌==◌, not, cond, nat_lt, if◌then◌else◌, List, [], ◌∷◌, ◌++◌, length, Option, Some, None, refl, ap, sym, ◌∙◌, subst, inl, inr, arith}
+use Rattle.std.proofs.Common.{◌≡◌, ◌⊎◌, ℕ, ◌+◌, ◌-◌, ◌%◌, ◌^◌, ◌<◌, ◌≤◌, Bool, true, false, ◌==◌, cond, nat_lt, if◌then◌else◌, List, [], ◌∷◌, ◌++◌, Option, Some, None, refl, ap, sym, ◌∙◌, subst, inl, inr, arith}
 use Rattle.std.proofs.lemmas.Bool.{eq-eqb, eqb-true}
-use Rattle.std.proofs.lemmas.Bool.Decides.{nat_tests}
-use Rattle.td_words.specs.declared.names.LockName.{LockName}
 use Rattle.td_words.specs.declared.names.Mode.{Mode}
 use Rattle.td_words.specs.declared.names.Mode.TheVariants.{Shared, Exclusive}
 use Rattle.td_words.specs.declared.machines.Machine.{Machine}
 use Rattle.td_words.specs.declared.calls.Call.{Call}
-use Rattle.td_words.specs.declared.refusals.Status.TheVariants.{OperandBusy}
 use Rattle.td_words.specs.declared.replies.Reply.{Reply}
-use Rattle.td_words.specs.declared.replies.Reply.TheVariants.{Done, Refused}
 use Rattle.td_words.specs.Place.{WordPlace, IsIn, address}
 use Rattle.td_words.specs.Laws.{PlacesInjective}
 use Rattle.mrtd_measure.specs.declared.measures.Measure.{Measure}
 use Rattle.flat_core.specs.World.{World, put}
-use Rattle.flat_core.specs.Processor.{LockId, OfPage, OfOp, OfTree, OfEpoch, OfRtmr, OfKeys, name_of, Held, Phase, Trying, Undoing, Answered, Progress, nothing_yet, Guest, Translation, Lp}
+use Rattle.flat_core.specs.Processor.{LockId, OfPage, OfOp, OfTree, OfEpoch, OfRtmr, OfKeys, Held, Phase, Trying, Undoing, Answered, Guest, Translation, Lp}
 use Rattle.flat_core.specs.Locks.{same_lock, holders, sharers, refusals, grants as lock_grants}
 use Rattle.flat_core.specs.Opening.{Opening}
-use Rattle.flat_core.specs.Row.{Row, Move, Attempts, Undoes, Refuses, Succeeds, Releases, next, next_in, after_move}
-use Rattle.flat_core.specs.Table.{row_of}
-use Rattle.flat_core.specs.Lawful.{Lawful}
-use Rattle.flat_core.specs.Event.{State, Event, OfCall, next_event, event_for, line_event, lines_left, event, after_event, world_after, call_world, lp_after, call_lp, call_busy, settle, settled, is_granted}
-use Rattle.flat_core.specs.Laws.{IsQuiet}
-use Rattle.word_rules.specs.Cells.{Shows, IsAs, cell_in, lock_word}
+use Rattle.flat_core.specs.Row.{Row, Move, Attempts, next_in}
+use Rattle.flat_core.specs.Event.{State, Event, OfCall, next_event, event_for, line_event, event, after_event, call_world, call_lp, settle, settled, is_granted}
+use Rattle.word_rules.specs.Cells.{Shows, lock_word}
 use Rattle.lock_words.specs.Grips.{IsExclusive}
-use Rattle.lock_words.specs.LockWords.{place_of, Stands, weight_of, IsNext, LockWordsFollow, LockStepsShown, lock_of, move_adds}
+use Rattle.lock_words.specs.LockWords.{weight_of, IsNext, LockWordsFollow, move_adds}
 use Rattle.step_core.specs.declared.steps.WordStep.TheVariants as step
-use Rattle.step_core.specs.Words.{Words, with_word}
-use Rattle.step_core.specs.Items.{Table, Taken, Stepped, PlaysTo}
-use Rattle.leaf_engine.specs.declared.events.RunTurn.{RunTurn}
+use Rattle.step_core.specs.Words.{with_word}
+use Rattle.step_core.specs.Items.{Table, Stepped, PlaysTo}
 use Rattle.leaf_engine.specs.declared.events.HeldLock.{HeldLock}
 use Rattle.leaf_engine.specs.declared.events.Stage.{Stage}
 use Rattle.leaf_engine.specs.declared.events.Stage.TheVariants as stages
 use Rattle.leaf_engine.specs.Changes.{Memory}
 use Rattle.lock_words.specs.LockWords.{put_word}
-use Rattle.leaf_engine.specs.Means.{Task, Meaning, OfCall as CallOf, LocksStay}
+use Rattle.leaf_engine.specs.Means.{Task, LocksStay}
 use Rattle.leaf_engine.specs.Decides.{IsHand}
 use Rattle.leaf_engine.specs.Tables.{IsMemory}
-use Rattle.leaf_engine.specs.Turns.{Standing, IsTurn, last_reply, has_ended, grants, denied}
+use Rattle.leaf_engine.specs.Turns.{Standing, last_reply, grants}
 use Rattle.leaf_engine.specs.Shown.{word_tried}
-use Rattle.leaf_engine.specs.Calls.{IsLockAt, AreLocks, IsStage, IsTold, IsLine, IsCallAt, IsShown, GoesOn, IsOver, After, CallsFollow}
+use Rattle.leaf_engine.specs.Calls.{IsLockAt, AreLocks, IsStage, IsTold, IsLine, GoesOn, IsOver, After}
 use Rattle.leaf_engine.proofs.Changing.{word_put}
 
 -- the flat machine's event

@@ -1,5 +1,5 @@
 -- The items of a leaf's changes make of the table what the changes make of memory.
-use Rattle.std.proofs.Common.{◌≡◌, ◌≢◌, ◌⊎◌, ◌↔◌, ℕ, zero, suc, ◌+◌, ◌-◌, ◌*◌, ◌%◌, ◌^◌, ◌<◌, ◌≤◌, Bool, true, false, ◌==◌, ◌&&◌, cond, nat_lt, nat_le, if◌then◌else◌, List, [], ◌∷◌, ◌++◌, length, Option, Some, None, refl, ap, sym, ◌∙◌, subst, inl, inr, arith}
+use Rattle.std.proofs.Common.{◌≡◌, ℕ, ◌+◌, ◌-◌, ◌%◌, ◌^◌, ◌<◌, ◌≤◌, Bool, true, false, ◌==◌, cond, if◌then◌else◌, List, [], ◌∷◌, ◌++◌, Option, refl, ap, sym, ◌∙◌, subst, inl, inr, arith}
 use Rattle.std.proofs.lemmas.Bool.{eq-eqb, eqb-true}
 use Rattle.std.proofs.lemmas.Bool.Decides.{nat_tests}
 use Rattle.td_words.specs.declared.machines.Machine.{Machine}
@@ -7,14 +7,10 @@ use Rattle.td_words.specs.Address.{lock_at, pamt_at, word_at, key_at}
 use Rattle.td_words.specs.Place.{WordPlace, Lock, Pamt, Word, Key, IsIn, address, same_place}
 use Rattle.td_words.specs.Laws.{PlacesInjective}
 use Rattle.mrtd_measure.specs.declared.measures.Measure.{Measure}
-use Rattle.step_core.specs.declared.steps.WordStep.{WordStep}
-use Rattle.step_core.specs.declared.steps.WordStep.TheVariants as step
-use Rattle.step_core.specs.Words.{Words, with_word, after_step, answer_of}
+use Rattle.step_core.specs.Words.{Words, with_word, after_step}
 use Rattle.step_core.specs.Items.{Table, Taken, Stepped, Swapped, Missed, PlaysTo, with_slot}
-use Rattle.step_core.specs.Pages.{clearing, copying}
 use Rattle.step_core.specs.Laws.{PagesChangeAlone, is_word_of}
 use Rattle.leaf_engine.specs.declared.needs.Write.{Write}
-use Rattle.leaf_engine.specs.declared.needs.Write.TheVariants as write
 use Rattle.leaf_engine.specs.Changes.{Hand, Memory, Change, Put, PutHash, Raise, Clear, Copy, Swap, put_slot, put_page, changed, changed_all}
 use Rattle.lock_words.specs.LockWords.{put_word}
 use Rattle.leaf_engine.specs.Decides.{write_of, hand_for, IsHand}

@@ -5,7 +5,6 @@ use Rattle.td_words.specs.declared.names.LockName.{LockName}
 use Rattle.td_words.specs.declared.names.Mode.{Mode}
 use Rattle.td_words.specs.declared.machines.Machine.{Machine}
 use Rattle.mrtd_measure.specs.declared.measures.Measure.{Measure}
-use Rattle.leaf_engine.specs.declared.needs.Need.{Need}
 use Rattle.leaf_engine.specs.declared.needs.Need.TheVariants as need
 use Rattle.leaf_engine.specs.declared.needs.Write.{Write}
 use Rattle.leaf_engine.specs.declared.plans.Stop.{Stop}
@@ -13,9 +12,9 @@ use Rattle.leaf_engine.specs.declared.plans.Stop.TheVariants as stop
 use Rattle.leaf_engine.specs.declared.plans.Verdict.{Verdict}
 use Rattle.word_rules.specs.Views.{look}
 use Rattle.leaf_engine.specs.Changes.{Hand, Change, Put, PutHash, Raise, Clear, Copy, Swap, is_plain, are_plain}
-use Rattle.leaf_engine.specs.Trees.{Tree, Lock, Load, Test, End, Since, feed, settle, fed, passed, changes_of, left_of}
+use Rattle.leaf_engine.specs.Trees.{Tree, Lock, Load, Test, End, Since, feed, settle, passed, changes_of, left_of}
 use Rattle.leaf_engine.specs.Inside.{WriteInside, WritesInside}
-use Rattle.leaf_engine.specs.Decides.{Decides, Gives, need_for, write_of, hand_for, IsHand, HandsOut, HandsNext}
+use Rattle.leaf_engine.specs.Decides.{Decides, Gives, need_for, write_of, hand_for, IsHand, HandsNext}
 
 pub feed-append : (t : Tree) (xs ys : List ℕ) → feed (feed t xs) ys ≡ feed t (xs ++ ys)
 feed-append (Lock l q m t) [] ys = refl

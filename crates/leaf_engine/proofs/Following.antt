@@ -1,14 +1,12 @@
 -- A leaf that was told words that stand comes to the next move of its row.
-use Rattle.std.proofs.Common.{◌≡◌, ℕ, zero, suc, ◌+◌, Bool, true, false, cond, List, [], ◌∷◌, ◌++◌, length, refl, ap, sym, ◌∙◌, subst, inl, inr, arith, add-zero}
-use Rattle.td_words.specs.declared.names.Mode.{Mode}
+use Rattle.std.proofs.Common.{◌≡◌, ℕ, suc, ◌+◌, true, false, cond, List, [], ◌∷◌, length, refl, ap, sym, ◌∙◌, subst, inl, inr, arith, add-zero}
 use Rattle.td_words.specs.declared.machines.Machine.{Machine}
 use Rattle.td_words.specs.declared.replies.Reply.{Reply}
-use Rattle.td_words.specs.Place.{WordPlace}
-use Rattle.flat_core.specs.Processor.{LockId, Held}
-use Rattle.flat_core.specs.Row.{Item, Check, Try, Move, Attempts, Refuses, Succeeds, next}
+use Rattle.flat_core.specs.Processor.{Held}
+use Rattle.flat_core.specs.Row.{Item, Check, Try, Refuses, next}
 use Rattle.word_rules.specs.Views.{look}
 use Rattle.leaf_engine.specs.Trees.{Tree, Lock, Load, Test, End, Since, feed}
-use Rattle.leaf_engine.specs.Means.{Task, Instant, IsAt, Work, work_of, Means, MeansRow}
+use Rattle.leaf_engine.specs.Means.{Instant, Work, work_of, Means}
 use Rattle.leaf_engine.specs.Follows.{granted, Current, Comes, LeavesFollowRows}
 
 -- how many tries these answers pass

@@ -1,12 +1,11 @@
 -- Over words that show a state a leaf on its way makes the next move of its row.
-use Rattle.std.proofs.Common.{◌≡◌, ◌⊎◌, ℕ, suc, ◌+◌, ◌-◌, ◌%◌, ◌^◌, Bool, true, false, ◌==◌, cond, if◌then◌else◌, List, [], ◌∷◌, ◌++◌, length, Option, refl, ap, sym, ◌∙◌, subst, inl, inr}
-use Rattle.std.proofs.lemmas.List.{append-nil}
+use Rattle.std.proofs.Common.{◌≡◌, ◌⊎◌, ℕ, ◌-◌, Bool, true, false, if◌then◌else◌, List, [], ◌∷◌, ◌++◌, length, Option, refl, ap, sym, ◌∙◌, subst, inl, inr}
 use Rattle.td_words.specs.declared.names.LockName.{LockName}
 use Rattle.td_words.specs.declared.names.Mode.{Mode}
 use Rattle.td_words.specs.declared.names.Mode.TheVariants.{Shared, Exclusive}
 use Rattle.td_words.specs.declared.machines.Machine.{Machine}
 use Rattle.td_words.specs.declared.replies.Reply.{Reply}
-use Rattle.td_words.specs.Place.{WordPlace, IsIn, address}
+use Rattle.td_words.specs.Place.{WordPlace, address}
 use Rattle.td_words.specs.Laws.{PlacesInjective}
 use Rattle.mrtd_measure.specs.declared.measures.Measure.{Measure}
 use Rattle.flat_core.specs.World.{World}
@@ -15,30 +14,25 @@ use Rattle.flat_core.specs.Row.{Move, Attempts, Refuses, Succeeds, next}
 use Rattle.word_rules.specs.Guards.{Grip}
 use Rattle.word_rules.specs.Cells.{Shows}
 use Rattle.lock_words.specs.LockWords.{place_of}
-use Rattle.step_core.specs.declared.steps.WordStep.TheVariants as step
-use Rattle.step_core.specs.Words.{Words, with_word, after_step, answer_of}
+use Rattle.step_core.specs.Words.{with_word}
 use Rattle.step_core.specs.Items.{Table, Taken, Stepped, PlaysTo}
 use Rattle.step_core.specs.Laws.{PagesChangeAlone}
 use Rattle.leaf_engine.specs.declared.needs.Need.{Need}
 use Rattle.leaf_engine.specs.declared.needs.Need.TheVariants as need
 use Rattle.leaf_engine.specs.declared.events.Event.{Event}
-use Rattle.leaf_engine.specs.declared.events.Event.TheVariants as event
-use Rattle.leaf_engine.specs.declared.events.Stage.{Stage}
-use Rattle.leaf_engine.specs.declared.events.Stage.TheVariants as stage
 use Rattle.word_rules.specs.Views.{look}
 use Rattle.leaf_engine.specs.Changes.{Memory, Change, Put, PutHash, Raise, Clear, Copy, Swap, changed, changed_all}
-use Rattle.lock_words.specs.LockWords.{put_word}
 use Rattle.leaf_engine.specs.Trees.{Tree, Lock, Load, Test, End, Since, feed, settle, passed, changes_of}
-use Rattle.leaf_engine.specs.Means.{Task, Instant, IsAt, Work, work_of, hold, Locks, Acts, MayFill, MayFillAll, MayAct, MayOwe, MayOweAll, MayChange, LocksStay, acted, MeansRow}
+use Rattle.leaf_engine.specs.Means.{Task, Instant, Work, work_of, hold, Locks, MayFillAll, MayOweAll, MayChange, LocksStay, acted}
 use Rattle.leaf_engine.specs.Decides.{Gives, IsHand}
 use Rattle.leaf_engine.specs.Items.{IsLoaded, AreChanged}
 use Rattle.leaf_engine.specs.Follows.{granted, Current, Comes}
-use Rattle.leaf_engine.specs.Tables.{IsMemory, IsChangeIn, AreChangesIn}
-use Rattle.leaf_engine.specs.Turns.{Comes as TurnComes, Standing, standing, Goes, Tries, Ends, tried, denied, try_step, grants}
+use Rattle.leaf_engine.specs.Tables.{IsMemory, AreChangesIn}
+use Rattle.leaf_engine.specs.Turns.{Comes as TurnComes, Standing, Tries, Ends, tried, denied, try_step, grants}
 use Rattle.leaf_engine.specs.Shown.{OnWay, locks_held, move_due, word_tried, lock_tried, TriesRow, EndsRow, TurnShows, TurnsShow}
 use Rattle.leaf_engine.proofs.Decided.{feed-append, settled}
 use Rattle.leaf_engine.proofs.Following.{leaves-follow-rows}
-use Rattle.leaf_engine.proofs.Loading.{Told, told-more}
+use Rattle.leaf_engine.proofs.Loading.{told-more}
 use Rattle.leaf_engine.proofs.Changing.{word_put, all-changes}
 
 -- the step of a try

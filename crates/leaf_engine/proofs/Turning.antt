@@ -1,33 +1,24 @@
 -- Each turn of a call's run is the next event of its processor: the try, the refusal or act, the undo, and the release.
-use Rattle.std.proofs.Common.{◌≡◌, ◌≢◌, ◌⊎◌, ℕ, zero, suc, ◌+◌, ◌-◌, ◌*◌, ◌%◌, ◌^◌, ◌<◌, ◌≤◌, Bool, true, false, ◌==◌, not, cond, nat_lt, if◌then◌else◌, List, [], ◌∷◌, ◌++◌, length, Option, Some, None, refl, ap, sym, ◌∙◌, subst, inl, inr, arith}
-use Rattle.std.proofs.lemmas.Bool.{eq-eqb, eqb-true}
-use Rattle.std.proofs.lemmas.Bool.Decides.{nat_tests}
+use Rattle.std.proofs.Common.{◌≡◌, ◌⊎◌, ℕ, ◌+◌, ◌-◌, ◌%◌, ◌^◌, ◌<◌, ◌≤◌, Bool, true, false, if◌then◌else◌, List, [], ◌∷◌, ◌++◌, length, Option, Some, None, refl, ap, sym, ◌∙◌, subst, inl, inr, arith}
 use Rattle.td_words.specs.declared.names.LockName.{LockName}
 use Rattle.td_words.specs.declared.names.Mode.{Mode}
 use Rattle.td_words.specs.declared.names.Mode.TheVariants.{Shared, Exclusive}
 use Rattle.td_words.specs.declared.machines.Machine.{Machine}
-use Rattle.td_words.specs.declared.calls.Call.{Call}
-use Rattle.td_words.specs.declared.refusals.Status.TheVariants.{OperandBusy}
 use Rattle.td_words.specs.declared.replies.Reply.{Reply}
-use Rattle.td_words.specs.declared.replies.Reply.TheVariants.{Done, Refused}
-use Rattle.td_words.specs.Place.{WordPlace, IsIn, address}
+use Rattle.td_words.specs.declared.replies.Reply.TheVariants.{Done}
+use Rattle.td_words.specs.Place.{WordPlace, address}
 use Rattle.td_words.specs.Laws.{PlacesInjective}
 use Rattle.mrtd_measure.specs.declared.measures.Measure.{Measure}
-use Rattle.flat_core.specs.World.{World, put}
+use Rattle.flat_core.specs.World.{World}
 use Rattle.flat_core.specs.Processor.{LockId, OfPage, OfOp, OfTree, OfEpoch, OfRtmr, OfKeys, name_of, Held, Phase, Trying, Undoing, Answered, Progress, nothing_yet, Guest, Translation, Lp}
-use Rattle.flat_core.specs.Locks.{same_lock, holders, sharers, refusals, grants as lock_grants}
+use Rattle.flat_core.specs.Locks.{same_lock, grants as lock_grants}
 use Rattle.flat_core.specs.Opening.{Opening}
 use Rattle.flat_core.specs.Row.{Row, Move, Attempts, Undoes, Refuses, Succeeds, Releases, next, next_in, after_move}
-use Rattle.flat_core.specs.Table.{row_of}
-use Rattle.flat_core.specs.Lawful.{Lawful}
 use Rattle.flat_core.specs.Event.{State, Event, OfCall, next_event, event_for, line_event, lines_left, event, after_event, world_after, call_world, lp_after, call_lp, call_busy, settle, settled, is_granted}
 use Rattle.flat_core.specs.Laws.{IsQuiet}
 use Rattle.word_rules.specs.Cells.{Shows, IsAs, cell_in, lock_word}
-use Rattle.lock_words.specs.Grips.{IsExclusive}
 use Rattle.lock_words.specs.LockWords.{place_of, Stands, weight_of, IsNext, LockWordsFollow, LockStepsShown, lock_of, move_adds}
-use Rattle.step_core.specs.declared.steps.WordStep.TheVariants as step
-use Rattle.step_core.specs.Words.{Words, with_word}
-use Rattle.step_core.specs.Items.{Table, Taken, Stepped, PlaysTo}
+use Rattle.step_core.specs.Items.{Table, Taken, PlaysTo}
 use Rattle.step_core.specs.Laws.{PagesChangeAlone}
 use Rattle.leaf_engine.specs.declared.events.Event.{Event as RunEvent}
 use Rattle.leaf_engine.specs.declared.events.Event.TheVariants as events
@@ -38,15 +29,13 @@ use Rattle.leaf_engine.specs.declared.events.Stage.TheVariants as stages
 use Rattle.leaf_engine.specs.Changes.{Memory}
 use Rattle.lock_words.specs.LockWords.{put_word}
 use Rattle.leaf_engine.specs.Means.{Task, Meaning, OfCall as CallOf, Instant, IsAt, work_of, acted, hold, MeansRow, LocksStay}
-use Rattle.leaf_engine.specs.Decides.{IsHand}
-use Rattle.leaf_engine.specs.Follows.{Current}
 use Rattle.leaf_engine.specs.Tables.{IsMemory}
-use Rattle.leaf_engine.specs.Turns.{Standing, IsTurn, TurnBy, Goes, TakesBack, GivesBack, busy, last_reply, has_ended, grants, denied}
+use Rattle.leaf_engine.specs.Turns.{Standing, TurnBy, TakesBack, GivesBack, busy, last_reply, has_ended, grants, denied}
 use Rattle.leaf_engine.specs.Shown.{OnWay, move_due, locks_held, word_tried, TriesRow, EndsRow, TurnShows}
 use Rattle.leaf_engine.specs.Calls.{IsLockAt, AreLocks, IsStage, IsTold, IsLine, IsCallAt, IsShown, GoesOn, IsOver, After, CallsFollow}
 use Rattle.leaf_engine.proofs.Showing.{turns-show}
 use Rattle.leaf_engine.proofs.Untouched.{still-current}
-use Rattle.leaf_engine.proofs.Calling.{same-itself, next-is, stepped, event-is, lp-now, is-next, settles, word-small, grants-same, tried-value, freed-value, weight-small, finish, put-memory, freed-memory, snoc, locks-after}
+use Rattle.leaf_engine.proofs.Calling.{same-itself, next-is, stepped, event-is, is-next, settles, word-small, grants-same, tried-value, freed-value, weight-small, finish, freed-memory, snoc, locks-after}
 
 -- the laws that it rests on
 pub record Laws : Type 0 where

@@ -1,16 +1,15 @@
 -- No leaf loads a lock's word, so what it was told stands through every step on one.
-use Rattle.std.proofs.Common.{◌≡◌, ◌⊎◌, ◌↔◌, ℕ, Bool, true, false, cond, List, [], ◌∷◌, refl, ap, sym, ◌∙◌, subst, inl, inr}
+use Rattle.std.proofs.Common.{◌≡◌, ℕ, Bool, true, false, List, [], ◌∷◌, refl, ap, sym, ◌∙◌, subst, inl, inr}
 use Rattle.td_words.specs.Place.{WordPlace, same_place}
 use Rattle.td_words.specs.Laws.{PlacesInjective}
 use Rattle.td_words.specs.declared.machines.Machine.{Machine}
 use Rattle.td_words.specs.declared.replies.Reply.{Reply}
-use Rattle.flat_core.specs.World.{World}
 use Rattle.flat_core.specs.Processor.{Held}
 use Rattle.flat_core.specs.Row.{Item, Check, Try}
 use Rattle.word_rules.specs.Guards.{Grip, Role, Guard, Meets}
-use Rattle.word_rules.specs.Rules.{Class, PageLock, TdLock, PamtWord, KeyWord, HostWord, GuestWord, TdrWord, ChildCount, TdcsWord, TdEpoch, EpochCount, RtmrWord, DirtyWord, UpperEntry, LeafEntry, Association, VcpuWord, StreamWord, Unused, Hasher, View, reads, sees, tries}
-use Rattle.word_rules.specs.Permissions.{Reads, Sees, Tries as MayTry}
-use Rattle.word_rules.specs.Spots.{Spot, spot, guard_at}
+use Rattle.word_rules.specs.Rules.{Class, PageLock, TdLock, View, reads, sees, tries}
+use Rattle.word_rules.specs.Permissions.{Tries as MayTry}
+use Rattle.word_rules.specs.Spots.{spot, guard_at}
 use Rattle.word_rules.specs.Views.{look}
 use Rattle.lock_words.specs.LockWords.{put_word}
 use Rattle.leaf_engine.specs.Trees.{Tree, Lock, Load, Test, End, Since}

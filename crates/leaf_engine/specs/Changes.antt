@@ -1,5 +1,5 @@
 -- What a leaf changes: words by their places, and the hashers in the slots of HKIDs.
-use Rattle.std.specs.Prelude.{◌≡◌, ℕ, ◌+◌, ◌%◌, ◌^◌, Bool, true, false, ◌==◌, ◌&&◌, if◌then◌else◌, Option, None, List, [], ◌∷◌}
+use Rattle.std.specs.Prelude.{ℕ, ◌+◌, ◌%◌, ◌^◌, Bool, true, false, ◌==◌, ◌&&◌, if◌then◌else◌, Option, List, [], ◌∷◌}
 use Rattle.td_words.specs.Place.{WordPlace, Lock, Pamt, Word, Key}
 use Rattle.lock_words.specs.LockWords.{put_word}
 

@@ -1,6 +1,6 @@
 -- Code against trees: the need that a tree comes to, the decision that it takes, and the writes that its changes are.
-use Rattle.std.specs.Prelude.{◌≡◌, ℕ, ◌-◌, Bool, true, false, Option, Some, None, List, [], ◌∷◌, ◌++◌, map, drop, Result, Ok, Err, MatchResult}
-use Rattle.td_words.specs.Place.{WordPlace, address}
+use Rattle.std.specs.Prelude.{◌≡◌, ℕ, ◌-◌, true, false, Option, Some, None, List, [], ◌∷◌, ◌++◌, map, Result, Ok, Err, MatchResult}
+use Rattle.td_words.specs.Place.{address}
 use Rattle.flat_core.specs.Processor.{name_of}
 use Rattle.sha2.specs.Hashers.{Holds384}
 use Rattle.td_words.specs.declared.machines.Machine.{Machine}

@@ -1,5 +1,5 @@
 -- What leaves ask for and store at is in their machine, and they ask for so much and no more.
-use Rattle.std.specs.Prelude.{◌≡◌, ◌≢◌, ℕ, zero, suc, ◌+◌, ◌<◌, ◌≤◌, Bool, true, false, Result, Ok, Err, List, [], ◌∷◌}
+use Rattle.std.specs.Prelude.{◌≢◌, ℕ, ◌<◌, ◌≤◌, Bool, true, false, Result, Ok, Err, List, [], ◌∷◌}
 use Rattle.td_words.specs.declared.machines.Machine.{Machine}
 use Rattle.step_core.specs.Words.{word_count, address_of}
 use Rattle.leaf_engine.specs.declared.needs.Need.{Need}

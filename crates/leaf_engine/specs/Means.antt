@@ -2,9 +2,8 @@
 -- under the locks of its tries: each try is that lock at its place; each load stays as it is until the act, or is the act;
 -- each condition is the row's; and at the end the stores are allowed, and laid over the words they show what the row's act
 -- makes of the world.
-use Rattle.std.specs.Prelude.{◌≡◌, ◌≢◌, ◌⊎◌, ℕ, ◌+◌, ◌<◌, ◌≤◌, Bool, true, false, Option, Some, None, List, [], ◌∷◌, ◌++◌, map}
+use Rattle.std.specs.Prelude.{◌≡◌, ◌≢◌, ◌⊎◌, ℕ, ◌<◌, ◌≤◌, true, false, Option, Some, None, List, [], ◌∷◌, ◌++◌, map}
 use Rattle.std.specs.Int.{w64, to_le_bytes}
-use Rattle.td_words.specs.declared.names.Mode.{Mode}
 use Rattle.td_words.specs.declared.names.PageKind.TheVariants as kind
 use Rattle.td_words.specs.declared.machines.Machine.{Machine}
 use Rattle.td_words.specs.declared.replies.Outcome.{Outcome}
@@ -13,7 +12,7 @@ use Rattle.td_words.specs.declared.replies.Reply.{Reply}
 use Rattle.td_words.specs.declared.replies.Reply.TheVariants.{Done, Exited}
 use Rattle.td_words.specs.Place.{WordPlace, IsIn, Word}
 use Rattle.flat_core.specs.World.{World}
-use Rattle.flat_core.specs.Processor.{LockId, OfPage, OfOp, Held, Guest, Lp, Note, LoadNote, RtmrNote}
+use Rattle.flat_core.specs.Processor.{LockId, OfPage, OfOp, Held, Guest, Note, LoadNote, RtmrNote}
 use Rattle.flat_core.specs.Row.{Item, Check, Try, Row, OperationRow}
 use Rattle.flat_core.specs.Effects.{tell_words}
 use Rattle.flat_core.specs.Lawful.{Lawful, IsAlive, IsPageOf}

@@ -1,6 +1,4 @@
-use Rattle.std.proofs.Common.{◌≡◌, ◌∙◌, ap, sym, subst, rules, Some, None}
-use Rattle.td_words.specs.declared.machines.Machine.{Machine}
-use Rattle.leaf_engine.specs.Means.{Task}
+use Rattle.std.proofs.Common.{◌≡◌, ◌∙◌, rules, Some}
 use Rattle.leaf_engine.specs.Trees.{left_of}
 use Rattle.leaf_engine.specs.Decides.{HandsNext}
 use Rattle.leaf_engine.proofs.Asked.{goes-more, goes-done}

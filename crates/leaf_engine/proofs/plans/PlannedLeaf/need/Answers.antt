@@ -1,4 +1,4 @@
-use Rattle.std.proofs.Common.{sym, ◌++◌, ◌∷◌, [], Ok, Err}
+use Rattle.std.proofs.Common.{sym, Ok, Err}
 use Rattle.leaf_engine.specs.declared.plans.Stop.TheVariants as stop
 use Rattle.leaf_engine.specs.Decides.{Decides}
 use Rattle.leaf_engine.proofs.Decided.{decided, decided-kept, decided-lock}

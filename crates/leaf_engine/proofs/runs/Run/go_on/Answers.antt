@@ -1,4 +1,4 @@
-use Rattle.std.proofs.Common.{◌≡◌, ◌∙◌, ap, sym, subst}
+use Rattle.std.proofs.Common.{◌≡◌, ◌∙◌, sym, subst}
 use Rattle.td_words.specs.declared.machines.Machine.{Machine}
 use Rattle.leaf_engine.specs.Turns.{standing, CanRun, IsStageIn}
 use Rattle.leaf_engine.specs.declared.events.Stage.{Stage}
