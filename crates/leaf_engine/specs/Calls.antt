@@ -1,0 +1,114 @@
+-- A call's run beside its processor in the flat machine, event by event.
+use Rattle.std.specs.Prelude.{◌≡◌, ◌⊎◌, ℕ, ◌+◌, ◌^◌, ◌<◌, false, Option, Some, None, List, [], ◌∷◌, ◌++◌}
+use Rattle.td_words.specs.declared.names.LockName.{LockName}
+use Rattle.td_words.specs.declared.machines.Machine.{Machine}
+use Rattle.td_words.specs.declared.calls.Call.{Call}
+use Rattle.td_words.specs.declared.replies.Reply.{Reply}
+use Rattle.td_words.specs.Place.{WordPlace, IsIn, address}
+use Rattle.flat_core.specs.World.{World}
+use Rattle.flat_core.specs.Processor.{LockId, name_of, Held, Phase, Trying, Undoing, Answered, nothing_yet, Lp}
+use Rattle.flat_core.specs.Locks.{sharers, refusals}
+use Rattle.flat_core.specs.Opening.{Opening}
+use Rattle.flat_core.specs.Row.{Row}
+use Rattle.flat_core.specs.Table.{row_of}
+use Rattle.flat_core.specs.Lawful.{Lawful}
+use Rattle.flat_core.specs.Event.{State, lines_left, event}
+use Rattle.flat_core.specs.Laws.{IsBetween}
+use Rattle.word_rules.specs.Cells.{Shows}
+use Rattle.lock_words.specs.Grips.{IsExclusive}
+use Rattle.lock_words.specs.LockWords.{place_of, Stands}
+use Rattle.step_core.specs.Items.{Table, Taken, PlaysTo}
+use Rattle.leaf_engine.specs.declared.events.RunTurn.{RunTurn}
+use Rattle.leaf_engine.specs.declared.events.HeldLock.{HeldLock}
+use Rattle.leaf_engine.specs.declared.events.Stage.{Stage}
+use Rattle.leaf_engine.specs.declared.events.Stage.TheVariants as stages
+use Rattle.leaf_engine.specs.Changes.{Memory}
+use Rattle.leaf_engine.specs.Trees.{feed, settle}
+use Rattle.leaf_engine.specs.Means.{Task, OfCall, MeansRow}
+use Rattle.leaf_engine.specs.Follows.{granted, Current}
+use Rattle.leaf_engine.specs.Tables.{IsMemory}
+use Rattle.leaf_engine.specs.Turns.{Standing, standing, IsTurn, has_ended}
+
+-- a lock by its name and the address of its word, where it stands
+pub record IsLockAt (m : Machine) (w : World) (name : LockName) (at : ℕ) (l : LockId) : Type 0 where
+  pub name_is : name ≡ name_of l
+  pub at_is : at ≡ address m.pages (place_of w l)
+  pub in_machine : IsIn m (place_of w l)
+  pub stands : Stands w l
+
+-- the locks that a run holds, the oldest first, are those of its call, the newest first
+abbrev pub AreLocks : Machine → World → List HeldLock → List Held → Type 0
+AreLocks m w held [] = held ≡ []
+AreLocks m w held (h ∷ hs) = (older : List HeldLock) × ((x : HeldLock) × (held ≡ older ++ x ∷ []) × (x.mode ≡ h.mode) × IsLockAt m w x.name x.at h.lock × AreLocks m w older hs)
+
+-- its stage is the call's phase
+abbrev pub IsStage : Machine → World → Stage → Phase Reply → Type 0
+IsStage m w stages.Trying Trying = Unit {0}
+IsStage m w (stages.Undoing name at) (Undoing l) = IsLockAt m w name at l
+IsStage m w (stages.Answered reply) (Answered r) = reply ≡ r
+IsStage m w _ _ = ⊥
+
+-- on its way, what it was told stands, and says which locks it holds
+pub record IsTold (task : Task) (words : WordPlace → ℕ) (run : Standing) (held : List Held) : Type 0 where
+  pub told : List ℕ
+  pub current : Current words task.tree told
+  pub rest : run.rest ≡ feed task.tree told
+  pub locks : granted task.tree told [] ≡ held
+
+-- the line that a processor is at is a call of this row
+pub record IsLine (o : Opening) (me : ℕ) (row : Row) (lp : Lp) : Type 0 where
+  pub call : Call
+  pub further : List Call
+  pub lines : lines_left o me lp ≡ call ∷ further
+  pub row_is : row_of o me call ≡ row
+
+-- a run of a call's leaf is where its processor is
+pub record IsCallAt (o : Opening) (task : Task) (row : Row) (w : World) (words : WordPlace → ℕ) (lp : Lp) (run : Standing) : Type 0 where
+  pub line : IsLine o task.place.lp row lp
+  pub guest : lp.guest ≡ None
+  pub stage : IsStage task.place.machine w run.stage lp.call.phase
+  pub held : AreLocks task.place.machine w run.held lp.call.held
+  pub told : run.stage ≡ stages.Trying → IsTold task words run lp.call.held
+
+-- words that show a lawful state, on a table
+pub record IsShown (task : Task) (s : State) (mem : Memory) (t : Table) (run : Standing) : Type 0 where
+  pub processor : task.place.lp < s.lp_count
+  pub lawful : Lawful task.place.machine s.world
+  pub shown : Shows task.place.machine mem.words mem.slots s
+  pub memory : IsMemory task.place.machine t run.hasher mem
+  pub exclusive : IsExclusive s
+  pub few_sharers : (l : LockId) → sharers s.lps s.lp_count l + refusals s.lps s.lp_count l + 1 < 2 ^ 63
+  pub nothing_to_tell : s.world.outgoing.to_tell ≡ None
+  pub empty_hand : run.stage ≡ stages.Trying → mem.hand ≡ None
+
+-- it goes on, or its call is over, with its reply
+pub record GoesOn (o : Opening) (task : Task) (row : Row) (w : World) (mem : Memory) (lp : Lp) (run : Standing) (reply : Option Reply) : Type 0 where
+  pub no_reply : reply ≡ None
+  pub call : IsCallAt o task row w mem.words lp run
+  pub empty_hand : run.stage ≡ stages.Trying → mem.hand ≡ None
+
+pub record IsOver (replies : List Reply) (lp : Lp) (reply : Option Reply) : Type 0 where
+  pub answer : Reply
+  pub reply_is : reply ≡ Some answer
+  pub replies_are : lp.replies ≡ replies ++ answer ∷ []
+  pub call : lp.call ≡ nothing_yet
+
+-- after a turn, in the state after the flat machine's event
+pub record After (o : Opening) (task : Task) (row : Row) (before : List Reply) (s : State) (u : Table) (run : Standing) (reply : Option Reply) : Type 0 where
+  pub mem : Memory
+  pub shown : Shows task.place.machine mem.words mem.slots s
+  pub memory : IsMemory task.place.machine u run.hasher mem
+  pub then_ : GoesOn o task row s.world mem (s.lps task.place.lp) run reply ⊎ IsOver before (s.lps task.place.lp) reply
+
+-- Over words that show a state, each turn of a call's run is the next event of its processor: the words show the state
+-- after that event, and the reply comes with the last one.
+abbrev pub CallsFollow : Type 0
+CallsFollow = (o : Opening) (task : Task) (row : Row) (s : State) (mem : Memory) (t u : Table) (run run' : Standing) (xs : List Taken) (result : RunTurn)
+    → MeansRow task → task.meaning ≡ OfCall row → IsShown task s mem t run → IsCallAt o task row s.world mem.words (s.lps task.place.lp) run
+    → has_ended run.stage run.held ≡ false → IsTurn task.place.machine run xs run' result → PlaysTo t xs u
+    → After o task row (s.lps task.place.lp).replies (event o s task.place.lp) u run' result.reply
+
+-- A run begins where its processor does: at a line that is a call of its row, between two calls.
+abbrev pub CallsBegin : Type 0
+CallsBegin = (o : Opening) (task : Task) (row : Row) (w : World) (words : WordPlace → ℕ) (lp : Lp) → IsLine o task.place.lp row lp → IsBetween lp
+    → IsCallAt o task row w words lp (standing (settle task.tree) stages.Trying [] None)

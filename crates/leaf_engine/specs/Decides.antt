@@ -1,0 +1,73 @@
+-- Code against trees: the need that a tree comes to, the decision that it takes, and the writes that its changes are.
+use Rattle.std.specs.Prelude.{◌≡◌, ℕ, ◌-◌, true, false, Option, Some, None, List, [], ◌∷◌, ◌++◌, map, Result, Ok, Err, MatchResult}
+use Rattle.td_words.specs.Place.{address}
+use Rattle.flat_core.specs.Processor.{name_of}
+use Rattle.sha2.specs.Hashers.{Holds384}
+use Rattle.td_words.specs.declared.machines.Machine.{Machine}
+use Rattle.mrtd_measure.specs.declared.measures.Measure.{Measure}
+use Rattle.step_core.specs.declared.steps.WordStep.TheVariants as step
+use Rattle.leaf_engine.specs.declared.needs.Need.{Need}
+use Rattle.leaf_engine.specs.declared.needs.Need.TheVariants as need
+use Rattle.leaf_engine.specs.declared.needs.Write.{Write}
+use Rattle.leaf_engine.specs.declared.needs.Write.TheVariants as write
+use Rattle.leaf_engine.specs.declared.plans.Stop.{Stop}
+use Rattle.leaf_engine.specs.declared.plans.Stop.TheVariants as stop
+use Rattle.leaf_engine.specs.declared.plans.Verdict.{Verdict}
+use Rattle.word_rules.specs.Views.{look}
+use Rattle.leaf_engine.specs.Changes.{Hand, Change, Put, PutHash, Raise, Clear, Copy, Swap, are_plain}
+use Rattle.leaf_engine.specs.Trees.{Tree, Lock, Load, Test, End, Since}
+use Rattle.leaf_engine.specs.Inside.{WriteInside}
+
+-- a change as it is made in a machine of so many pages, with this hasher in hand. HKID h has slot h - 1
+abbrev pub write_of : ℕ → Hand → Change → Write
+write_of n hand (Put q x) = write.Word (step.Store (address n q) x)
+write_of n hand (PutHash q x) = write.Word (step.Store (address n q) (x hand))
+write_of n hand (Raise q) = write.Word (step.Add (address n q) 1)
+write_of n hand (Clear p) = write.Zero p
+write_of n hand (Copy p q) = write.Copy p q
+write_of n hand (Swap h made) = write.Swap (h - 1)
+
+-- what is in hand when it is made: what a swap puts into the slot is made first
+abbrev pub hand_for : Hand → Change → Hand
+hand_for hand (Swap h made) = made hand
+hand_for hand _ = hand
+
+-- the decision that a tree takes after these answers
+abbrev pub Decides : ℕ → Tree → List ℕ → Result Verdict Stop → Type 0
+Decides n (Lock l q m t) [] r = r ≡ Err (stop.Lock (name_of l) (address n q) m)
+Decides n (Lock l q m t) (x ∷ xs) r = Decides n t xs r
+Decides n (Load v q k) [] r = r ≡ Err (stop.Load (address n q))
+Decides n (Load v q k) (x ∷ xs) r = Decides n (k (look v x)) xs r
+Decides n (Test b out t) xs r = (b ≡ true → Decides n t xs r) × (b ≡ false → r ≡ Err (stop.Refused out))
+Decides n (End reply fs cs) xs r = MatchResult r (λ v. (v.reply ≡ reply) × (v.writes.items ≡ map (write_of n None) (fs ++ cs)) × (are_plain (fs ++ cs) ≡ true)) (λ e. ⊥)
+Decides n (Since reply cs) xs r = MatchResult r (λ v. (v.reply ≡ reply) × (v.writes.items ≡ map (write_of n None) cs) × (are_plain cs ≡ true)) (λ e. ⊥)
+
+-- the need that a tree with its conditions tested comes to
+abbrev pub Gives : ℕ → Tree → Need → Type 0
+Gives n (Lock l q m t) r = r ≡ need.Lock (name_of l) (address n q) m
+Gives n (Load v q k) r = r ≡ need.Load (address n q)
+Gives n (Test b out t) r = ⊥
+Gives n (End reply fs cs) r = r ≡ need.Verdict reply
+Gives n (Since reply cs) r = r ≡ need.Verdict reply
+
+-- the need of a decision
+abbrev pub need_for : Result Verdict Stop → Need
+need_for (Ok v) = need.Verdict v.reply
+need_for (Err (stop.Lock name at mode)) = need.Lock name at mode
+need_for (Err (stop.Load at)) = need.Load at
+need_for (Err (stop.Refused reply)) = need.Verdict reply
+
+-- a hasher that has measured these bytes
+abbrev pub IsHand : Option Measure → Hand → Type 0
+IsHand None None = Unit {0}
+IsHand (Some h) (Some bytes) = Holds384 h bytes
+IsHand _ _ = ⊥
+
+-- a change is handed out as this write, with the hasher in hand before and then
+abbrev pub HandsOut : Machine → Change → (before then_ : Option Measure) → Write → Type 0
+HandsOut m c h h' w = (hand : Hand) → IsHand h hand → (w ≡ write_of m.pages hand c) × IsHand h' (hand_for hand c)
+
+-- the next change, if there is one
+abbrev pub HandsNext : Machine → (before after : List Change) → (h h' : Option Measure) → Option Write → Type 0
+HandsNext m before after h h' None = (before ≡ []) × (after ≡ []) × (h' ≡ h)
+HandsNext m before after h h' (Some w) = (c : Change) × (before ≡ c ∷ after) × WriteInside m w × HandsOut m c h h' w

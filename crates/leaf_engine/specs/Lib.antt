@@ -1,0 +1,12 @@
+pub mod Changes
+pub mod Trees
+pub mod Means
+pub mod Inside
+pub mod Decides
+pub mod Items
+pub mod Turns
+pub mod Processors
+pub mod Follows
+pub mod Tables
+pub mod Shown
+pub mod Calls

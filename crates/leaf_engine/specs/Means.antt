@@ -1,0 +1,206 @@
+-- The one law of a leaf. At one instant, over words that show a lawful state, its tree goes through the items of its row,
+-- under the locks of its tries: each try is that lock at its place; each load stays as it is until the act, or is the act;
+-- each condition is the row's; and at the end the stores are allowed, and laid over the words they show what the row's act
+-- makes of the world.
+use Rattle.std.specs.Prelude.{◌≡◌, ◌≢◌, ◌⊎◌, ℕ, ◌<◌, ◌≤◌, true, false, Option, Some, None, List, [], ◌∷◌, ◌++◌, map}
+use Rattle.std.specs.Int.{w64, to_le_bytes}
+use Rattle.td_words.specs.declared.names.PageKind.TheVariants as kind
+use Rattle.td_words.specs.declared.machines.Machine.{Machine}
+use Rattle.td_words.specs.declared.replies.Outcome.{Outcome}
+use Rattle.td_words.specs.declared.replies.Value.TheVariants as value
+use Rattle.td_words.specs.declared.replies.Reply.{Reply}
+use Rattle.td_words.specs.declared.replies.Reply.TheVariants.{Done, Exited}
+use Rattle.td_words.specs.Place.{WordPlace, IsIn, Word}
+use Rattle.flat_core.specs.World.{World}
+use Rattle.flat_core.specs.Processor.{LockId, OfPage, OfOp, Held, Guest, Note, LoadNote, RtmrNote}
+use Rattle.flat_core.specs.Row.{Item, Check, Try, Row, OperationRow}
+use Rattle.flat_core.specs.Effects.{tell_words}
+use Rattle.flat_core.specs.Lawful.{Lawful, IsAlive, IsPageOf}
+use Rattle.flat_core.specs.Event.{State}
+use Rattle.word_rules.specs.Guards.{Grip}
+use Rattle.word_rules.specs.Rules.{View, Whole, Grade, KeepsNothing}
+use Rattle.word_rules.specs.Permissions.{Reads, Sees, Writes, Owes, Fills, Tries, SwapsAct, SwapsOwed, Respects}
+use Rattle.word_rules.specs.Cells.{Shows}
+use Rattle.lock_words.specs.Grips.{holds, holds_alone, grip_with}
+use Rattle.lock_words.specs.LockWords.{place_of, Stands}
+use Rattle.leaf_engine.specs.declared.needs.Place.{Place}
+use Rattle.word_rules.specs.Views.{look, IsKept}
+use Rattle.leaf_engine.specs.Changes.{Memory, Change, Put, PutHash, Raise, Clear, Copy, Swap, changed, changed_all}
+use Rattle.leaf_engine.specs.Trees.{Tree, Lock, Load, Test, End, Since, has_acted}
+
+-- what a leaf does: a call by its row, or an operation of a guest by its
+pub data Meaning : Type 0 where
+  OfCall : (row : Row) → Meaning
+  OfOperation : (tdr vp : ℕ) (row : OperationRow) → Meaning
+
+-- a leaf: where it was made for, its tree, and its row
+pub record Task : Type 0 where
+  pub place : Place
+  pub tree : Tree
+  pub meaning : Meaning
+
+-- a row as its leaf sees it
+
+abbrev pub exit_of : Option Outcome → Reply
+exit_of None = Done value.Nothing
+exit_of (Some out) = Exited out
+
+abbrev pub exit_item : Item (Option Outcome) → Item Reply
+exit_item (Check b out) = Check b (exit_of out)
+exit_item (Try l m) = Try l m
+
+abbrev pub digest_bytes : List ℕ → List ℕ
+digest_bytes [] = []
+digest_bytes (x ∷ xs) = to_le_bytes w64 x ++ digest_bytes xs
+
+-- an operation that is completed answers what it read or stored
+abbrev pub operation_reply : List Note → List ℕ → Option Outcome → Reply
+operation_reply notes told (Some out) = Exited out
+operation_reply (LoadNote line gpa word ∷ notes) told None = Done (value.Number word)
+operation_reply (RtmrNote line index words ∷ notes) told None = Done (value.Digest (digest_bytes words))
+operation_reply [] (x ∷ xs) None = Done (value.Number x)
+operation_reply [] [] None = Done value.Nothing
+
+pub record Work : Type 0 where
+  pub items : World → List (Item Reply)
+  pub act : World → World
+  pub reply : World → Reply
+
+abbrev pub work_of : Meaning → Work
+work_of (OfCall row) = record { items = row.items; act = row.act; reply = λ w. Done (row.value w) }
+work_of (OfOperation t v row) = record {
+  items = λ w. map exit_item (row.items w);
+  act = λ w. tell_words (row.tells w) (row.act w);
+  reply = λ w. operation_reply (row.notes w) (row.tells w) (row.answer w);
+}
+
+-- where it is told: a state, what memory is there, and the locks that the processor holds besides the leaf's own
+pub record Instant : Type 0 where
+  pub state : State
+  pub memory : Memory
+  pub me : ℕ
+  pub kept : List Held
+
+abbrev pub hold : Instant → List Held → Grip
+hold c hs = grip_with c.state c.me (hs ++ c.kept)
+
+-- while a virtual processor is in guest, its VP.ENTER holds P of its TDR page and O, and P of its own page alone
+pub record IsInGuest (c : Instant) (t v : ℕ) (g : Guest) : Type 0 where
+  pub guest : (c.state.lps c.me).guest ≡ Some g
+  pub td : g.tdr ≡ t
+  pub vp : g.vp ≡ v
+  pub tdr_held : holds c.kept (OfPage t) ≡ true
+  pub op_held : holds c.kept (OfOp t) ≡ true
+  pub vp_held : holds_alone c.kept (OfPage v) ≡ true
+  pub alive : IsAlive c.state.world.pages c.state.world.tds t
+  pub vp_page : IsPageOf c.state.world.pages t v kind.Tdvpr
+  pub associated : c.state.world.vps.associated v ≡ Some c.me
+
+-- who makes it: a call's processor has no guest, an operation's has
+abbrev pub IsMaker : Meaning → Instant → Type 0
+IsMaker (OfCall row) c = ((c.state.lps c.me).guest ≡ None) × (c.kept ≡ [])
+IsMaker (OfOperation t v row) c = (g : Guest) × IsInGuest c t v g
+
+-- the premise of the law
+pub record IsAt (task : Task) (c : Instant) : Type 0 where
+  pub processor : c.me ≡ task.place.lp
+  pub lawful : Lawful task.place.machine c.state.world
+  pub shown : Shows task.place.machine c.memory.words c.memory.slots c.state
+  pub empty_hand : c.memory.hand ≡ None
+  pub nothing_to_tell : c.state.world.outgoing.to_tell ≡ None
+  pub maker : IsMaker task.meaning c
+
+-- a try is of that lock, at its place, which stands
+pub record Locks (m : Machine) (c : Instant) (hs : List Held) (l : LockId) (q : WordPlace) : Type 0 where
+  pub in_machine : IsIn m q
+  pub at : q ≡ place_of c.state.world l
+  pub stands : Stands c.state.world l
+  pub allowed : Tries (hold c hs) c.state.world q
+
+-- a load stays until the act, as far as it is looked at; or it finds what is shown, and is the act
+abbrev pub Loads : Instant → List Held → View → WordPlace → (ℕ → Tree) → Type 0
+Loads c hs v q further =
+    Reads (hold c hs) c.state.world q v ⊎ (Sees (hold c hs) c.state.world q v × (has_acted (further (look v (c.memory.words q))) ≡ true))
+
+-- a page's words, each
+abbrev pub EachWord : (WordPlace → Type 0) → ℕ → Type 0
+EachWord P p = (i : ℕ) → i < 512 → P (Word p i)
+
+-- a store before the act
+abbrev pub MayFill : Machine → Grip → World → Change → Type 0
+MayFill m g w (Put q x) = IsIn m q × Fills g w q
+MayFill m g w (Clear p) = (p < m.pages) × EachWord (Fills g w) p
+MayFill m g w (Copy p q) = (p < m.pages) × (q < m.pages) × (p ≢ q) × EachWord (λ r. Reads g w r Whole) p × EachWord (Fills g w) q
+MayFill m g w _ = ⊥
+
+abbrev pub MayFillAll : Machine → Grip → World → List Change → Type 0
+MayFillAll m g w [] = Unit {0}
+MayFillAll m g w (c ∷ cs) = MayFill m g w c × MayFillAll m g w cs
+
+abbrev pub IsHkid : Machine → ℕ → Type 0
+IsHkid m h = (1 ≤ h) × (h ≤ m.hkids)
+
+-- the act's store, by the world before it
+abbrev pub MayAct : Machine → Grip → World → Memory → Change → Type 0
+MayAct m g w mem (Put q x) = IsIn m q × ((k : Grade) × Writes g w q k × IsKept k (mem.words q) x)
+MayAct m g w mem (PutHash q x) = IsIn m q × Writes g w q KeepsNothing
+MayAct m g w mem (Raise q) = IsIn m q × Writes g w q KeepsNothing
+MayAct m g w mem (Swap h made) = IsHkid m h × SwapsAct g w h
+MayAct m g w mem _ = ⊥
+
+-- a store that comes after it, by the world after it
+abbrev pub MayOwe : Machine → Grip → World → Memory → Change → Type 0
+MayOwe m g w mem (Put q x) = IsIn m q × ((k : Grade) × Owes g w q k × IsKept k (mem.words q) x)
+MayOwe m g w mem (PutHash q x) = IsIn m q × Owes g w q KeepsNothing
+MayOwe m g w mem (Clear p) = (p < m.pages) × EachWord (λ r. Owes g w r KeepsNothing) p
+MayOwe m g w mem (Swap h made) = IsHkid m h × SwapsOwed g w h
+MayOwe m g w mem _ = ⊥
+
+abbrev pub MayOweAll : Machine → Grip → World → Memory → List Change → Type 0
+MayOweAll m g w mem [] = Unit {0}
+MayOweAll m g w mem (c ∷ cs) = MayOwe m g w mem c × MayOweAll m g w (changed c mem) cs
+
+-- the act's store and those after it, in a world before it and one after it
+abbrev pub MayChange : Machine → Grip → (before after : World) → Memory → List Change → Type 0
+MayChange m g w w' mem [] = Unit {0}
+MayChange m g w w' mem (c ∷ cs) = MayAct m g w mem c × MayOweAll m g w' (changed c mem) cs
+
+-- the state after an act, as far as words show it
+abbrev pub acted : Work → State → State
+acted k s = record s { world = k.act s.world }
+
+-- the locks held stay where they are, and stand
+abbrev pub LocksStay : (before after : World) → List Held → Type 0
+LocksStay w w' [] = Unit {0}
+LocksStay w w' (h ∷ hs) = ((place_of w' h.lock ≡ place_of w h.lock) × (Stands w h.lock → Stands w' h.lock)) × LocksStay w w' hs
+
+-- the changes are allowed, and are the act
+pub record Acts (m : Machine) (c : Instant) (k : Work) (hs : List Held) (reply : Reply) (fills changes : List Change) : Type 0 where
+  pub reply_is : reply ≡ k.reply c.state.world
+  pub fills_allowed : MayFillAll m (hold c hs) c.state.world fills
+  pub respects : Respects (hold c hs) c.state.world (k.act c.state.world)
+  pub locks_stay : LocksStay c.state.world (k.act c.state.world) hs
+  pub shows : let mem = changed_all changes (changed_all fills c.memory) in Shows m mem.words mem.slots (acted k c.state)
+
+-- the row's items, with the tries so far
+abbrev pub Means : Machine → Instant → Work → List Held → Tree → List (Item Reply) → Type 0
+Means m c k hs (Lock l q mode t) (Try l' mode' ∷ r) = (l ≡ l') × (mode ≡ mode') × Locks m c hs l q × Means m c k (record { lock = l; mode = mode } ∷ hs) t r
+Means m c k hs (Lock l q mode t) _ = ⊥
+Means m c k hs (Load v q t) items = IsIn m q × Loads c hs v q t × Means m c k hs (t (look v (c.memory.words q))) items
+Means m c k hs (Test b out t) (Check b' out' ∷ r) = (b ≡ b') × (b ≡ false → out ≡ out') × (b' ≡ true → Means m c k hs t r)
+Means m c k hs (Test b out t) _ = ⊥
+Means m c k hs (End reply fills cs) [] =
+    Acts m c k hs reply fills cs × MayChange m (hold c hs) c.state.world (k.act c.state.world) (changed_all fills c.memory) cs
+Means m c k hs (End reply fills cs) _ = ⊥
+Means m c k hs (Since reply cs) [] = Acts m c k hs reply [] cs × MayOweAll m (hold c hs) (k.act c.state.world) c.memory cs
+Means m c k hs (Since reply cs) _ = ⊥
+
+-- a leaf's row enters no guest
+abbrev pub EntersNone : Meaning → Type 0
+EntersNone (OfCall row) = row.enters ≡ None
+EntersNone (OfOperation t v row) = Unit {0}
+
+-- a leaf means its row
+pub record MeansRow (task : Task) : Type 0 where
+  pub enters_none : EntersNone task.meaning
+  pub means : (c : Instant) → IsAt task c → let k = work_of task.meaning in Means task.place.machine c k [] task.tree (k.items c.state.world)

@@ -1,0 +1,40 @@
+//! What the layers above may rest on, as contracts of functions that do nothing.
+
+ghost use Rattle.leaf_engine.specs.Follows.{LeavesFollowRows};
+ghost use Rattle.leaf_engine.specs.Shown.{TurnsShow};
+ghost use Rattle.leaf_engine.specs.Calls.{CallsBegin, CallsFollow};
+
+use lock_words::{lock_steps_shown, lock_words_follow};
+use step_core::pages_change_alone;
+use td_words::places_injective;
+
+/// A leaf that was told words that still stand, as far as it looked at them, comes to the next move
+/// of its row: the try of that lock at its place, the refusal with that reply, or the act, whose
+/// changes are then allowed and make words that show the world after it.
+pub fn leaves_follow_rows()
+    ensures { LeavesFollowRows }
+{}
+
+/// Over words that show a state, a turn of a leaf on its way makes the next move of its row: the
+/// step of the try that is due, granted as the lock's word says; or the act that refuses, which
+/// changes nothing; or the act that succeeds, after which the words show what the row's act makes
+/// of the world, with the row's reply.
+pub fn turns_show()
+    ensures { TurnsShow }
+{
+    places_injective();
+    pages_change_alone();
+}
+
+/// A run of a call's leaf begins where its processor does. From then on, over words that show a
+/// lawful state, each turn is the next event of that processor in the flat machine: its steps leave
+/// words that show the state after that event, and the row's reply comes with the last one.
+pub fn calls_follow()
+    ensures begin { CallsBegin }
+    ensures follow { CallsFollow }
+{
+    lock_words_follow();
+    lock_steps_shown();
+    places_injective();
+    pages_change_alone();
+}
