@@ -25,7 +25,7 @@ pub use honest::{HonestFiles, HonestSink};
 pub use listed::{MemFiles, MemSink};
 pub use outside::{Files, LoadFault, PutFault, SaveFault, Sink};
 pub use standard_output::StdSink;
-pub use top::tdx_main;
+pub use top::{give_up, tdx_main};
 
 #[cfg(test)]
 mod tests;

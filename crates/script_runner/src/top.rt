@@ -49,7 +49,8 @@ fn decide<F: Files>(alloc: Global, words: &[String], files: &mut F) -> Result<En
     }
 }
 
-fn give_up<K: Sink>(out: &mut K) -> u8
+/// Tells that no memory was to be had, and answers that status.
+pub fn give_up<K: Sink>(out: &mut K) -> u8
     ensures status { result ≡ 5 }
     ensures text { PutsPart (K.told out.old) memory_end.text (K.told out.new) }
     ensures later { K.faults out.old ≤ K.faults out.new }
