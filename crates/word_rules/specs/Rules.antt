@@ -178,7 +178,7 @@ writes (LeafEntry r) _ = tdr_alone ∷ tree_alone ∷ named_alone ∷ []
 writes Association g = one (Has Tdr ∷ Sole Own ∷ [])
 writes VcpuWord g = tdr_alone ∷ own_alone ∷ []
 writes StreamWord g = tdr_alone ∷ op_alone ∷ tree_alone ∷ stream_alone ∷ []
-writes Unused g = one (Sole Own ∷ [])
+writes Unused g = one (Has Tdr ∷ Sole Own ∷ [])
 writes Hasher g = one op_alone
 writes FreeSlot g = nobody
 
@@ -207,7 +207,7 @@ moves TdLock = one tdr_alone
 moves PamtWord = nobody
 moves KeyWord = nobody
 moves HostWord = one (Sole Own ∷ [])
-moves (GuestWord r) = tdr_alone ∷ op_alone ∷ (Sole Own ∷ []) ∷ []
+moves (GuestWord r) = tdr_alone ∷ op_alone ∷ (Has Tdr ∷ Sole Own ∷ []) ∷ []
 moves TdrWord = one tdr_alone
 moves ChildCount = one tdr_alone
 moves TdcsWord = one tdr_alone
@@ -221,7 +221,7 @@ moves (LeafEntry r) = tdr_alone ∷ op_alone ∷ tree_alone ∷ []
 moves Association = one tdr_alone
 moves VcpuWord = one tdr_alone
 moves StreamWord = one tdr_alone
-moves Unused = one (Sole Own ∷ [])
+moves Unused = one (Has Tdr ∷ Sole Own ∷ [])
 moves Hasher = one tdr_alone
 moves FreeSlot = one (Sole Keys ∷ [])
 
