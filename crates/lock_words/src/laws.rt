@@ -1,13 +1,14 @@
 //! Laws of lock words, as contracts of functions that do nothing.
 
-ghost use Rattle.lock_words.specs.Grips.{GripsAreApart, GripsStayApart};
+ghost use Rattle.lock_words.specs.Grips.{GripsAreApart, GripsStayApart, GripsAreWhole};
 ghost use Rattle.lock_words.specs.LockWords.{LockWordsFollow, LockStepsShown, TdLocksStay, HeadsStand, StartFollows};
 
 /// Where nobody holds a lock beside one who holds it alone, the grips of two processors are apart:
-/// at the start of every run, and after every schedule.
+/// at the start of every run, and after every schedule. What a processor has alone it has.
 pub fn grips_are_apart()
     ensures where_locks_exclude { GripsAreApart }
     ensures in_every_run { GripsStayApart }
+    ensures whole { GripsAreWhole }
 {
     flat_core::lock_law();
 }

@@ -1,7 +1,8 @@
--- The whole leaf table against the rules: for each call and guest operation its loads, its act, its later stores and its
--- fills, each with the locks that its row has got by then (ABI Reference, "TDH leaf functions"; "TDG leaf functions").
+-- The whole leaf table against the rules, written by hand: for each call and guest operation its loads, its act, its later
+-- stores and its fills, each with the locks that its row has got by then (ABI Reference, "TDH leaf functions"; "TDG leaf
+-- functions"). Own and named are those of one page in each use.
 use Rattle.std.specs.Prelude.{◌≡◌, Bool, true, false, ◌&&◌, ◌||◌, List, [], ◌∷◌, ◌++◌}
-use Rattle.word_rules.specs.Guards.{Tdr, Op, Tree, Epoch, Rtmr, Own, Named, Keys, Reach, Change, Want, Has, Sole, Clear, Rule, same_role}
+use Rattle.word_rules.specs.Guards.{Guard, Role, Tdr, Op, Tree, Epoch, Rtmr, Own, Named, Keys, Reach, Change, Want, Has, Sole, Clear, Rule, Grip, HasWhatIsSole, MeetsAll, Meets, same_role}
 use Rattle.word_rules.specs.Rules.{Class, TdLock, PamtWord, KeyWord, HostWord, GuestWord, TdrWord, ChildCount, TdcsWord, TdEpoch, EpochCount, RtmrWord, DirtyWord, UpperEntry, LeafEntry, Association, VcpuWord, StreamWord, Unused, Hasher, FreeSlot, Whole, ThePage, TheRights, KeepsNothing, KeepsPage, KeepsRights, reads, sees, writes, owes, fills, moves}
 
 -- what is had gives what is wanted
@@ -272,5 +273,7 @@ fits BeginsEpochs = all_met td_alone (moves (EpochCount true true) ∷ moves (Ep
 fits GivesHkid = all_met (Sole Keys ∷ Sole Tdr ∷ Sole Own ∷ []) (moves FreeSlot ∷ [])
 fits FreesHkid = all_met (Sole Keys ∷ Sole Tdr ∷ []) (moves Hasher ∷ [])
 
-abbrev pub LeafTableFits : Type 0
-LeafTableFits = (u : Use) → fits u ≡ true
+-- Each use fits; and a rule that is met by a list of wants is met by every grip that meets these, at every word.
+pub record LeafTableFits : Type 0 where
+  pub each : (u : Use) → fits u ≡ true
+  pub given : (g : Grip) (at : Role → Guard) (had : List Want) (r : Rule) → HasWhatIsSole g → MeetsAll g at had → met had r ≡ true → Meets g at r
