@@ -241,9 +241,15 @@ pub record RulesClash : Type 0 where
   pub owes_owes : (c : Class) (f g : Grade) → clashes (owes c f) (owes c g) ≡ true
   pub owes_moves : (c : Class) (g : Grade) → clashes (owes c g) (moves c) ≡ true
   pub tries_owes : (c : Class) (g : Grade) → clashes (tries c) (owes c g) ≡ true
+  pub tries_reads : (c : Class) (v : View) → clashes (tries c) (reads c v) ≡ true
+  pub tries_writes : (c : Class) (g : Grade) → clashes (tries c) (writes c g) ≡ true
+  pub tries_fills : (c : Class) → clashes (tries c) (fills c) ≡ true
+  pub tries_moves : (c : Class) → clashes (tries c) (moves c) ≡ true
   pub fills_reads : (c : Class) (v : View) → clashes (fills c) (reads c v) ≡ true
   pub fills_sees : (c : Class) (v : View) → clashes (fills c) (sees c v) ≡ true
   pub fills_writes : (c : Class) (g : Grade) → clashes (fills c) (writes c g) ≡ true
   pub fills_owes : (c : Class) (g : Grade) → clashes (fills c) (owes c g) ≡ true
   pub fills_fills : (c : Class) → clashes (fills c) (fills c) ≡ true
   pub fills_moves : (c : Class) → clashes (fills c) (moves c) ≡ true
+  pub swaps : clashes (writes Hasher KeepsNothing) (writes Hasher KeepsNothing) ≡ true
+  pub swaps_moves : clashes (writes Hasher KeepsNothing) (moves Hasher) ≡ true
