@@ -1,10 +1,10 @@
 -- No two processors whose grips are apart conflict at a word.
-use Rattle.std.proofs.Common.{◌≡◌, ◌⊎◌, refl, subst, sym, ◌∙◌, inl, inr, ℕ, true, false}
+use Rattle.std.proofs.Common.{◌≡◌, ◌⊎◌, refl, subst, sym, ◌∙◌, inl, inr, ℕ, true}
 use Rattle.std.specs.Prelude.{Option, Some, None}
 use Rattle.td_words.specs.declared.names.LifeState.{LifeState}
 use Rattle.flat_core.specs.Lawful.{key_owner}
 use Rattle.word_rules.specs.Guards.{Grip, Apart, Rule, clashes}
-use Rattle.word_rules.specs.Rules.{Class, View, Grade, KeepsNothing, reads, sees, writes, owes, fills, moves, tries, spares}
+use Rattle.word_rules.specs.Rules.{Class, KeepsNothing, reads, sees, writes, owes, fills, moves, tries}
 use Rattle.word_rules.specs.Spots.{Spot, spot, slot_of, slot_spot, guard_at}
 use Rattle.word_rules.specs.Permissions.{MayAt, WordsNeverConflict, ActsNeverConflict, RespectsCompose}
 use Rattle.word_rules.proofs.Sound.{clashes-sound}

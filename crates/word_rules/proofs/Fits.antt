@@ -1,6 +1,6 @@
 -- Each row of the leaf table, by computation; and a rule that is met by wants that a grip meets.
-use Rattle.std.proofs.Common.{◌≡◌, ◌⊎◌, refl, inl, inr, Bool, true, false, ◌&&◌, ◌||◌, List, [], ◌∷◌}
-use Rattle.word_rules.specs.Guards.{Guard, Role, Want, Has, Sole, Clear, Rule, Grip, HasWhatIsSole, MeetsWant, MeetsAll, Meets, same_role}
+use Rattle.std.proofs.Common.{◌≡◌, refl, inl, inr, true, List, [], ◌∷◌}
+use Rattle.word_rules.specs.Guards.{Guard, Role, Want, Has, Sole, Clear, Rule, Grip, HasWhatIsSole, MeetsWant, MeetsAll, Meets}
 use Rattle.word_rules.specs.Uses.{Use, HeadPage, fits, gives, given_by, all_given, met, LeafTableFits}
 use Rattle.word_rules.proofs.Sound.{same-true, or-case, and-left, and-right}
 
