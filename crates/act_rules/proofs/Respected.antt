@@ -19,6 +19,7 @@ use Rattle.flat_core.specs.Conditions.{same_kind}
 use Rattle.flat_core.specs.Effects.{take_node, set_entry, set_op, set_epoch, set_life, set_key, leave_guest}
 use Rattle.word_rules.specs.Guards.{Grip, Locked}
 use Rattle.word_rules.specs.Rules.{Class, GuestWord, LeafEntry, moves, EpochCount}
+use Rattle.word_rules.specs.Views.{no_page, named_by}
 use Rattle.word_rules.specs.Lines.{in_lines}
 use Rattle.word_rules.specs.Spots.{Spot, spot, slot_of, slot_spot, runs_in, page_spot, control_class, root_class, or_unused, tdcs_classes, is_current, is_at_end, is_empty, entry_class, entry_named}
 use Rattle.word_rules.specs.Cells.{one_of_parity, entered_of_parity}
@@ -51,7 +52,7 @@ class-same w w' t zero e = refl
 class-same w w' t (suc zero) e = λ j. LeafEntry (runs_in (e j))
 class-same w w' t (suc (suc level)) e = refl
 
-named-same : (w w' : World) (t level number i : ℕ) → ((n : ℕ) → (w'.tds.entries t 0 n).page ≡ (w.tds.entries t 0 n).page) → entry_named w' t level number i ≡ entry_named w t level number i
+named-same : (w w' : World) (t level number i : ℕ) → ((n : ℕ) → named_by (w'.tds.entries t 0 n) ≡ named_by (w.tds.entries t 0 n)) → entry_named w' t level number i ≡ entry_named w t level number i
 named-same w w' t zero number i e = refl
 named-same w w' t (suc zero) number i e = e (512 * number + i)
 named-same w w' t (suc (suc level)) number i e = refl
@@ -59,12 +60,12 @@ named-same w w' t (suc (suc level)) number i e = refl
 -- of one page with its node
 pub page-same : (w w' : World) (t p : ℕ) (k : PageKind) (i : ℕ) → SameTd w w' t → w'.pages.levels p ≡ w.pages.levels p → w'.pages.numbers p ≡ w.pages.numbers p → page_spot w' t p k i ≡ page_spot w t p k i
 page-same w w' t p kind.Nda i s l n = refl
-page-same w w' t p kind.Reg i s l n = λ j. record { class = GuestWord (runs_in (s.op j)); td = t; page = p; named = 0 }
+page-same w w' t p kind.Reg i s l n = λ j. record { class = GuestWord (runs_in (s.op j)); td = t; page = p; named = no_page }
 page-same w w' t p kind.Tdr i s l n = refl
 page-same w w' t p kind.Tdcx i s l n =
     let e : control_class w' t p (w'.tds.controls t) i ≡ control_class w t p (w.tds.controls t) i =
     ap (λ (cs : List ℕ). control_class w' t p cs i) s.controls ∙ control-same w w' t p i (w.tds.controls t) (current-same w w' t s.epoch) (empty-same w w' t s.empty) in
-    λ j. record { class = e j; td = t; page = p; named = 0 }
+    λ j. record { class = e j; td = t; page = p; named = no_page }
 page-same w w' t p kind.Tdvpr i s l n = refl
 page-same w w' t p kind.Ept i s l n =
     let e : entry_class w' t (w'.pages.levels p) ≡ entry_class w t (w.pages.levels p) = ap (λ (x : ℕ). entry_class w' t x) l ∙ class-same w w' t (w.pages.levels p) s.op in
@@ -93,19 +94,19 @@ same-td w t = record { op = refl; controls = refl; epoch = refl; empty = λ b. r
 
 -- an entry
 
-entry-page : (w : World) (t level number : ℕ) (e : Entry) (u n : ℕ) → ((u == t) ≡ true → (0 == level && n == number) ≡ true → e.page ≡ (w.tds.entries u 0 n).page)
-    → ((set_entry t level number e w).tds.entries u 0 n).page ≡ (w.tds.entries u 0 n).page
+entry-page : (w : World) (t level number : ℕ) (e : Entry) (u n : ℕ) → ((u == t) ≡ true → (0 == level && n == number) ≡ true → named_by e ≡ named_by (w.tds.entries u 0 n))
+    → named_by ((set_entry t level number e w).tds.entries u 0 n) ≡ named_by (w.tds.entries u 0 n)
 entry-page w t level number e u n k =
     by_test (u == t)
     (λ y. by_test (0 == level && n == number)
     (λ z. let is : u ≡ t = eqb-true u t y in rw (y, z) (k y z))
-    (λ z. let is : u ≡ t = eqb-true u t y in rw (y, z) (ap (λ (x : ℕ). (w.tds.entries x 0 n).page) (sym is))))
+    (λ z. let is : u ≡ t = eqb-true u t y in rw (y, z) (ap (λ (x : ℕ). named_by (w.tds.entries x 0 n)) (sym is))))
     (λ y. rw y refl)
 
-entry-td : (w : World) (t level number : ℕ) (e : Entry) (u : ℕ) → ((n : ℕ) → (u == t) ≡ true → (0 == level && n == number) ≡ true → e.page ≡ (w.tds.entries u 0 n).page) → SameTd w (set_entry t level number e w) u
+entry-td : (w : World) (t level number : ℕ) (e : Entry) (u : ℕ) → ((n : ℕ) → (u == t) ≡ true → (0 == level && n == number) ≡ true → named_by e ≡ named_by (w.tds.entries u 0 n)) → SameTd w (set_entry t level number e w) u
 entry-td w t level number e u k = record { op = refl; controls = refl; epoch = refl; empty = λ b. refl; named = λ n. entry-page w t level number e u n (k n) }
 
-entry-state : (g : Grip) (w : World) (t level number : ℕ) (e : Entry) → e.page ≡ (w.tds.entries t level number).page → Respects g w (set_entry t level number e w)
+entry-state : (g : Grip) (w : World) (t level number : ℕ) (e : Entry) → named_by e ≡ named_by (w.tds.entries t level number) → Respects g w (set_entry t level number e w)
 entry-state g w t level number e h =
     leaves g w (set_entry t level number e w) (record {
       kinds = refl;
@@ -126,12 +127,12 @@ module _ (g : Grip) (w w' : World) (t p i : ℕ) where
   by_tree : (k : PageKind) → HoldsTd g t → g.sole (Locked (OfTree t)) ≡ true → (w'.tds.ops t ≡ w.tds.ops t) → (w'.tds.controls t ≡ w.tds.controls t) → (w'.tds.epochs t ≡ w.tds.epochs t) → (is_empty w' t ≡ is_empty w t)
       → w'.pages.levels p ≡ w.pages.levels p → w'.pages.numbers p ≡ w.pages.numbers p → (page_spot w' t p k i ≡ page_spot w t p k i) ⊎ MayAt g (page_spot w t p k i) moves
   by_tree kind.Nda h s o c e f l m = inl refl
-  by_tree kind.Reg h s o c e f l m = inl (λ j. record { class = GuestWord (runs_in (o j)); td = t; page = p; named = 0 })
+  by_tree kind.Reg h s o c e f l m = inl (λ j. record { class = GuestWord (runs_in (o j)); td = t; page = p; named = no_page })
   by_tree kind.Tdr h s o c e f l m = inl refl
   by_tree kind.Tdcx h s o c e f l m =
       let d : control_class w' t p (w'.tds.controls t) i ≡ control_class w t p (w.tds.controls t) i =
       ap (λ (cs : List ℕ). control_class w' t p cs i) c ∙ control-same w w' t p i (w.tds.controls t) (current-same w w' t e) f in
-      inl (λ j. record { class = d j; td = t; page = p; named = 0 })
+      inl (λ j. record { class = d j; td = t; page = p; named = no_page })
   by_tree kind.Tdvpr h s o c e f l m = inl refl
   by_tree kind.Migsc h s o c e f l m = inl refl
   by_tree kind.Ept h s o c e f l m = by (w.pages.levels p) l
@@ -207,7 +208,7 @@ op-moved g w t s h o = record { word = at; slot = λ k. inl refl; life = λ u. i
         by zero = inl refl
         by (suc zero) = inr (inr (inl (h, (o, tt))))
         by (suc (suc level)) = inl refl
-    own p i kind.Tdcx = inl (λ j. record { class = control-same w w' t p i (w.tds.controls t) refl refl j; td = t; page = p; named = 0 })
+    own p i kind.Tdcx = inl (λ j. record { class = control-same w w' t p i (w.tds.controls t) refl refl j; td = t; page = p; named = no_page })
     own p i kind.Nda = inl refl
     own p i kind.Tdr = inl refl
     own p i kind.Tdvpr = inl refl
@@ -236,7 +237,7 @@ count-classes cur cur' emp emp' i =
     by_test (nat_le TDCS_ENTERED i && nat_lt i (TDCS_ENTERED + 2)) (λ y. inr (i - TDCS_ENTERED, rw (n0, n1, n2, y) refl, rw (n0, n1, n2, y) refl)) (λ n3. inl (rw (n0, n1, n2, n3) refl)))))
 
 abbrev control_spot : ℕ → ℕ → Class → Spot
-control_spot t p c = record { class = c; td = t; page = p; named = 0 }
+control_spot t p c = record { class = c; td = t; page = p; named = no_page }
 
 -- of each parity: it stays as it was, or may be moved
 abbrev CountsMay : Grip → World → World → ℕ → ℕ → Type 0
@@ -274,14 +275,14 @@ counts-word : (g : Grip) (w w' : World) (u p i : ℕ) (k : PageKind) → SameBut
 counts-word g w w' u p i kind.Tdcx s m =
     spot-of g u p _ _ (subst (λ (z : ℕ → List ℕ). (control_class w' u p (z u) i ≡ control_class w u p (w.tds.controls u) i) ⊎ MayAt g (control_spot u p (control_class w u p (w.tds.controls u) i)) moves) (sym s.controls) (counts-control g w w' u p i (w.tds.controls u) (m refl)))
 counts-word g w w' u p i kind.Nda s m = inl refl
-counts-word g w w' u p i kind.Reg s m = inl (λ j. record { class = GuestWord (runs_in (s.ops j u)); td = u; page = p; named = 0 })
+counts-word g w w' u p i kind.Reg s m = inl (λ j. record { class = GuestWord (runs_in (s.ops j u)); td = u; page = p; named = no_page })
 counts-word g w w' u p i kind.Tdr s m = inl refl
 counts-word g w w' u p i kind.Tdvpr s m = inl refl
 counts-word g w w' u p i kind.Migsc s m = inl refl
 counts-word g w w' u p i kind.Ept s m =
     let e : entry_class w' u (w'.pages.levels p) ≡ entry_class w u (w.pages.levels p) = (λ j. entry_class w' u ((s.pages j).levels p)) ∙ class-same w w' u (w.pages.levels p) (λ j. s.ops j u) in
     let f : entry_named w' u (w'.pages.levels p) (w'.pages.numbers p) i ≡ entry_named w u (w.pages.levels p) (w.pages.numbers p) i =
-    (λ j. entry_named w' u ((s.pages j).levels p) ((s.pages j).numbers p) i) ∙ named-same w w' u (w.pages.levels p) (w.pages.numbers p) i (λ n. λ j. (s.entries j u 0 n).page) in
+    (λ j. entry_named w' u ((s.pages j).levels p) ((s.pages j).numbers p) i) ∙ named-same w w' u (w.pages.levels p) (w.pages.numbers p) i (λ n. λ j. named_by (s.entries j u 0 n)) in
     inl (λ j. record { class = e j; td = u; page = p; named = f j })
 
 counts-at : (g : Grip) (w w' : World) → SameButCounts w w' → ((p : ℕ) → w.pages.kinds p ≡ kind.Tdcx → CountsMay g w w' (w.pages.owners p) p) → (q : WordPlace) → (spot w' q ≡ spot w q) ⊎ Moves g w q

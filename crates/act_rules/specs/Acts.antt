@@ -21,6 +21,7 @@ use Rattle.flat_core.specs.Effects.{take_node, set_entry, set_op, set_epoch, set
 use Rattle.word_rules.specs.Guards.{Grip, Locked}
 use Rattle.word_rules.specs.Permissions.{MayAt, Moves, Respects}
 use Rattle.word_rules.specs.Rules.{moves}
+use Rattle.word_rules.specs.Views.{named_by}
 use Rattle.word_rules.specs.Spots.{slot_spot, is_empty}
 
 -- all that tells of a TD what its words are
@@ -29,7 +30,7 @@ pub record SameTd (before after : World) (t : ℕ) : Type 0 where
   pub controls : after.tds.controls t ≡ before.tds.controls t
   pub epoch : after.tds.epochs t ≡ before.tds.epochs t
   pub empty : (b : ℕ) → is_empty after t b ≡ is_empty before t b
-  pub named : (n : ℕ) → (after.tds.entries t 0 n).page ≡ (before.tds.entries t 0 n).page
+  pub named : (n : ℕ) → named_by (after.tds.entries t 0 n) ≡ named_by (before.tds.entries t 0 n)
 
 -- of every TD and page
 pub record SameWords (before after : World) : Type 0 where
@@ -55,7 +56,7 @@ pub record HoldsTd (g : Grip) (t : ℕ) : Type 0 where
 pub record ActsRespect (g : Grip) (w : World) : Type 0 where
   pub leaves : (after : World) → SameSpots w after → Respects g w after
   pub entry : (t level number : ℕ) (e : Entry) → HoldsTd g t → g.sole (Locked (OfTree t)) ≡ true → Respects g w (set_entry t level number e w)
-  pub entry_state : (t level number : ℕ) (e : Entry) → e.page ≡ (w.tds.entries t level number).page → Respects g w (set_entry t level number e w)
+  pub entry_state : (t level number : ℕ) (e : Entry) → named_by e ≡ named_by (w.tds.entries t level number) → Respects g w (set_entry t level number e w)
   pub page : (p : ℕ) (k : PageKind) (t level number : ℕ) → ((i : ℕ) → Moves g w (Word p i)) → Respects g w (take_node p k t level number w)
   pub taken : (p : ℕ) (k : PageKind) (t level number : ℕ) → is_host w p ≡ true → g.sole (Locked (OfPage p)) ≡ true → Respects g w (take_node p k t level number w)
   pub op : (t : ℕ) (s : OpState) → g.has (Locked (OfPage t)) ≡ true → g.sole (Locked (OfOp t)) ≡ true → Respects g w (set_op t s w)

@@ -11,6 +11,7 @@ use Rattle.flat_core.specs.World.{World}
 use Rattle.flat_core.specs.Processor.{OfPage}
 use Rattle.word_rules.specs.Guards.{Grip, Locked}
 use Rattle.word_rules.specs.Rules.{Class, TdLock, TdrWord, Unused, UpperEntry, moves}
+use Rattle.word_rules.specs.Views.{no_page}
 use Rattle.word_rules.specs.Spots.{Spot, spot, page_spot, control_class, root_class, entry_class}
 use Rattle.word_rules.specs.Permissions.{MayAt}
 use Rattle.lock_words.specs.LockWords.{tdcs_of, TdLocksStay}
@@ -18,10 +19,10 @@ use Rattle.lock_words.proofs.Sums.{by_test}
 use Rattle.lock_words.proofs.Shown.{tdcs-page}
 
 abbrev lock_spot : ℕ → ℕ → Spot
-lock_spot t c = record { class = TdLock; td = t; page = c; named = 0 }
+lock_spot t c = record { class = TdLock; td = t; page = c; named = no_page }
 
 abbrev root_spot : ℕ → Spot
-root_spot t = record { class = TdrWord; td = t; page = t; named = 0 }
+root_spot t = record { class = TdrWord; td = t; page = t; named = no_page }
 
 -- before
 

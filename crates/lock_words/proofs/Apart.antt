@@ -7,7 +7,7 @@ use Rattle.flat_core.specs.Locks.{same_lock, is_alone, one_if, alone_in, shared_
 use Rattle.flat_core.specs.Event.{State}
 use Rattle.flat_core.specs.Laws.{IsSole}
 use Rattle.word_rules.specs.Guards.{Guard, Locked, Reached, Written, Parted}
-use Rattle.lock_words.specs.Grips.{holds, holds_alone, operation_locks, locks_of, reaches, none_reaches, has_of, sole_of, clear_of, grip_of, IsExclusive, GripsAreApart}
+use Rattle.lock_words.specs.Grips.{holds, holds_alone, operation_locks, locks_of, reaches, none_reaches, has_of, sole_of, clear_of, grip_of, IsExclusive, GripsAreApart, GripsAreWhole}
 use Rattle.lock_words.proofs.Sums.{or-case, and-left, and-right}
 use Rattle.lock_words.proofs.Sums.{by_test, le-sum, two-sum}
 
@@ -101,3 +101,18 @@ flip p q h = by_test (q == p) (λ y. (let e : q ≡ p = eqb-true q p y in let ba
 
 pub grips-apart : GripsAreApart
 grips-apart s p q x hp hq ne = record { there = parted s p q x hp hq ne (flip p q ne); back = parted s q p x hq hp (flip p q ne) ne }
+
+alone-held : (l : LockId) (hs : List Held) → holds_alone hs l ≡ true → holds hs l ≡ true
+alone-held l [] h = cc
+alone-held l (x ∷ hs) h =
+    by_test (same_lock x.lock l)
+    (λ y. rw y refl)
+    (λ n. rw n (alone-held l hs (elim (or-case (is_alone x.mode && same_lock x.lock l) _ h) [
+      | inl y ↦ absurd (let bad : true ≡ false = sym (and-right (is_alone x.mode) (same_lock x.lock l) y) ∙ n in cc)
+      | inr y ↦ y
+    ])))
+
+pub grips-whole : GripsAreWhole
+grips-whole s me hs (Locked l) h = alone-held l hs h
+grips-whole s me hs (Reached p) h = cc
+grips-whole s me hs (Written p) h = cc

@@ -5,3 +5,4 @@ pub mod Follow
 pub mod Shown
 pub mod Anchored
 pub mod Heads
+pub mod Runs

@@ -7,7 +7,7 @@ use Rattle.flat_core.specs.Locks.{same_lock, is_alone, holders, sharers}
 use Rattle.flat_core.specs.Opening.{Opening}
 use Rattle.flat_core.specs.Event.{State}
 use Rattle.flat_core.specs.Laws.{IsSole, reached}
-use Rattle.word_rules.specs.Guards.{Guard, Locked, Reached, Written, Grip, Apart}
+use Rattle.word_rules.specs.Guards.{Guard, Locked, Reached, Written, Grip, HasWhatIsSole, Apart}
 
 abbrev pub holds : List Held → LockId → Bool
 holds hs l = list_any (λ h. same_lock h.lock l) hs
@@ -68,6 +68,10 @@ IsExclusive s = (l : LockId) → IsSole (holders s.lps s.lp_count l) (sharers s.
 -- The grips of two processors are apart where locks exclude, as they do in every state of every run.
 abbrev pub GripsAreApart : Type 0
 GripsAreApart = (s : State) (p q : ℕ) → IsExclusive s → p < s.lp_count → q < s.lp_count → (p == q) ≡ false → Apart (grip_of s p) (grip_of s q)
+
+-- what it has alone it has
+abbrev pub GripsAreWhole : Type 0
+GripsAreWhole = (s : State) (me : ℕ) (hs : List Held) → HasWhatIsSole (grip_with s me hs)
 
 abbrev pub GripsStayApart : Type 0
 GripsStayApart = (o : Opening) (words_to_tell : Option (List ℕ)) (schedule : List ℕ) (p q : ℕ)

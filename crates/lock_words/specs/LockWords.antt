@@ -16,7 +16,7 @@ use Rattle.flat_core.specs.Row.{Move, Attempts, Undoes, Releases, Passes, next_i
 use Rattle.flat_core.specs.Event.{State, Event, OfCall, OfOperation, Leaves, start, next_event, calls_of, is_granted, event}
 use Rattle.flat_core.specs.Conditions.{td_row}
 use Rattle.flat_core.specs.Table.{row_of}
-use Rattle.flat_core.specs.Laws.{IsQuiet}
+use Rattle.flat_core.specs.Laws.{IsQuiet, reached}
 use Rattle.word_rules.specs.Guards.{Grip, Locked}
 use Rattle.lock_words.specs.Grips.{locks_of}
 use Rattle.word_rules.specs.Cells.{lock_word, Shows}
@@ -148,3 +148,11 @@ pub record StartFollows : Type 0 where
   pub next : (o : Opening) (words_to_tell : Option (List ℕ)) (p : ℕ) (c : Call) (cs : List Call) → p < length o.calls → calls_of o.calls p ≡ c ∷ cs
       → let s = start o words_to_tell in IsNext o s p (OfCall (row_of o p c) (next_in ((row_of o p c).items s.world) Trying []))
   pub few : (o : Opening) (words_to_tell : Option (List ℕ)) (l : LockId) → let s = start o words_to_tell in sharers s.lps s.lp_count l + refusals s.lps s.lp_count l ≡ 0
+
+-- In every state that a run of at most eight processors reaches, the low bits of each lock's word stay below bit 63, and
+-- each next event is one that the words follow.
+pub record RunsFollow : Type 0 where
+  pub few : (o : Opening) (words_to_tell : Option (List ℕ)) (schedule : List ℕ) (l : LockId) → length o.calls ≤ 8
+      → let s = reached o words_to_tell schedule in sharers s.lps s.lp_count l + refusals s.lps s.lp_count l < 2 ^ 63
+  pub next : (o : Opening) (words_to_tell : Option (List ℕ)) (schedule : List ℕ) (p : ℕ) (e : Event)
+      → let s = reached o words_to_tell schedule in next_event o s p ≡ Some e → IsNext o s p e

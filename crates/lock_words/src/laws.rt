@@ -1,22 +1,24 @@
 //! Laws of lock words, as contracts of functions that do nothing.
 
-ghost use Rattle.lock_words.specs.Grips.{GripsAreApart, GripsStayApart};
-ghost use Rattle.lock_words.specs.LockWords.{LockWordsFollow, LockStepsShown, TdLocksStay, HeadsStand, StartFollows};
+ghost use Rattle.lock_words.specs.Grips.{GripsAreApart, GripsStayApart, GripsAreWhole};
+ghost use Rattle.lock_words.specs.LockWords.{LockWordsFollow, LockStepsShown, TdLocksStay, HeadsStand, StartFollows, RunsFollow};
 
 /// Where nobody holds a lock beside one who holds it alone, the grips of two processors are apart:
-/// at the start of every run, and after every schedule.
+/// at the start of every run, and after every schedule. What a processor has alone it has.
 pub fn grips_are_apart()
     ensures where_locks_exclude { GripsAreApart }
     ensures in_every_run { GripsStayApart }
+    ensures whole { GripsAreWhole }
 {
     flat_core::lock_law();
 }
 
-/// The word of each lock follows each event of a processor, and tells whether a try is granted;
-/// from the first event of a run on.
+/// The word of each lock follows each event of a processor, and tells whether a try is granted; so
+/// it is at the start of every run and, of at most eight processors, after every schedule.
 pub fn lock_words_follow()
     ensures follow { LockWordsFollow }
     ensures start { StartFollows }
+    ensures runs { RunsFollow }
 {}
 
 /// Words that show a state still show it after a try, an undo or a release of any lock, which is

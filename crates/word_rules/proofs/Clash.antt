@@ -88,6 +88,30 @@ tries_owes (LeafEntry true) KeepsNothing = refl
 tries_owes (LeafEntry false) KeepsNothing = refl
 tries_owes _ _ = refl
 
+tries_reads : (c : Class) (v : View) → clashes (tries c) (reads c v) ≡ true
+tries_reads (GuestWord true) Whole = refl
+tries_reads (EpochCount true true) Whole = refl
+tries_reads (LeafEntry true) Whole = refl
+tries_reads _ _ = refl
+
+tries_writes : (c : Class) (g : Grade) → clashes (tries c) (writes c g) ≡ true
+tries_writes (GuestWord true) KeepsNothing = refl
+tries_writes (EpochCount true true) KeepsNothing = refl
+tries_writes (LeafEntry true) KeepsNothing = refl
+tries_writes _ _ = refl
+
+tries_fills : (c : Class) → clashes (tries c) (fills c) ≡ true
+tries_fills (GuestWord true) = refl
+tries_fills (EpochCount true true) = refl
+tries_fills (LeafEntry true) = refl
+tries_fills _ = refl
+
+tries_moves : (c : Class) → clashes (tries c) (moves c) ≡ true
+tries_moves (GuestWord true) = refl
+tries_moves (EpochCount true true) = refl
+tries_moves (LeafEntry true) = refl
+tries_moves _ = refl
+
 fills_reads : (c : Class) (v : View) → clashes (fills c) (reads c v) ≡ true
 fills_reads (GuestWord true) Whole = refl
 fills_reads (EpochCount true true) Whole = refl
@@ -135,10 +159,16 @@ rules_clash = record {
   owes_owes = owes_owes;
   owes_moves = owes_moves;
   tries_owes = tries_owes;
+  tries_reads = tries_reads;
+  tries_writes = tries_writes;
+  tries_fills = tries_fills;
+  tries_moves = tries_moves;
   fills_reads = fills_reads;
   fills_sees = fills_sees;
   fills_writes = fills_writes;
   fills_owes = fills_owes;
   fills_fills = fills_fills;
   fills_moves = fills_moves;
+  swaps = refl;
+  swaps_moves = refl;
 }

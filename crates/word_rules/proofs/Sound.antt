@@ -2,7 +2,7 @@
 use Rattle.std.proofs.Common.{◌≡◌, ◌⊎◌, refl, inl, inr, Bool, true, false, ◌&&◌, ◌||◌, List, [], ◌∷◌}
 use Rattle.word_rules.specs.Guards.{Guard, Role, Tdr, Op, Tree, Epoch, Rtmr, Own, Named, Keys, Reach, Change, Want, Has, Sole, Clear, Rule, Grip, Apart, MeetsWant, MeetsAll, Meets, same_role, clash, clash_any, clash_lists, clash_each, clashes}
 
-same-true : (a b : Role) → same_role a b ≡ true → a ≡ b
+pub same-true : (a b : Role) → same_role a b ≡ true → a ≡ b
 same-true Tdr Tdr h = refl
 same-true Op Op h = refl
 same-true Tree Tree h = refl
@@ -19,15 +19,15 @@ pub by_test : {A : Type 0} (b : Bool) → (b ≡ true → A) → (b ≡ false �
 by_test true t f = t refl
 by_test false t f = f refl
 
-or-case : (a b : Bool) → (a || b) ≡ true → (a ≡ true) ⊎ (b ≡ true)
+pub or-case : (a b : Bool) → (a || b) ≡ true → (a ≡ true) ⊎ (b ≡ true)
 or-case true b h = inl refl
 or-case false b h = inr h
 
-and-left : (a b : Bool) → (a && b) ≡ true → a ≡ true
+pub and-left : (a b : Bool) → (a && b) ≡ true → a ≡ true
 and-left true b h = refl
 and-left false b h = cc
 
-and-right : (a b : Bool) → (a && b) ≡ true → b ≡ true
+pub and-right : (a b : Bool) → (a && b) ≡ true → b ≡ true
 and-right true b h = h
 and-right false b h = cc
 

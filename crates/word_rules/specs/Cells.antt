@@ -122,7 +122,7 @@ abbrev pub control_cell : World → (LockId → ℕ) → (t p : ℕ) → List �
 control_cell w locks t p [] i = None
 control_cell w locks t p (c ∷ rest) i = if c == p then in_lines (td_lock_lines locks t (tdcs_lines w t)) i else root_cell w t p rest i
 
--- nothing is shown of a TD in TD_TEARDOWN
+-- left out of a TD in TD_TEARDOWN
 abbrev pub if_stands : {A : Type 0} → LifeState → Option A → Option A
 if_stands s c = if life_number s == life_number life.Teardown then None else c
 
@@ -162,7 +162,8 @@ abbrev pub IsAs : {A : Type 0} → Option A → A → Type 0
 IsAs None x = Unit {0}
 IsAs (Some v) x = x ≡ v
 
--- the words of a machine, by their places, and the hashers in its slots, by HKID, show a state
+-- the words of a machine, by their places, and the hashers in its slots, by HKID, show a state: the words with what
+-- processors have still to store laid over them, and what they have filled before their acts taken off
 pub record Shows (m : Machine) (words : WordPlace → ℕ) (slots : ℕ → Option (List ℕ)) (s : State) : Type 0 where
   pub word : (q : WordPlace) → IsIn m q → IsAs (cell s q) (words q)
   pub hasher : (h : ℕ) → IsAs (hasher_cell s.world h) (slots h)

@@ -45,6 +45,10 @@ pub record Parted (g h : Grip) : Type 0 where
   pub both : (x : Guard) → g.sole x ≡ true → h.sole x ≡ true → ⊥
   pub clear : (x : Guard) → g.clear x ≡ true → h.has x ≡ true → ⊥
 
+-- a guard that is had alone is had
+abbrev pub HasWhatIsSole : Grip → Type 0
+HasWhatIsSole g = (x : Guard) → g.sole x ≡ true → g.has x ≡ true
+
 pub record Apart (g h : Grip) : Type 0 where
   pub there : Parted g h
   pub back : Parted h g

@@ -178,7 +178,7 @@ writes (LeafEntry r) _ = tdr_alone ∷ tree_alone ∷ named_alone ∷ []
 writes Association g = one (Has Tdr ∷ Sole Own ∷ [])
 writes VcpuWord g = tdr_alone ∷ own_alone ∷ []
 writes StreamWord g = tdr_alone ∷ op_alone ∷ tree_alone ∷ stream_alone ∷ []
-writes Unused g = one (Sole Own ∷ [])
+writes Unused g = one (Has Tdr ∷ Sole Own ∷ [])
 writes Hasher g = one op_alone
 writes FreeSlot g = nobody
 
@@ -207,7 +207,7 @@ moves TdLock = one tdr_alone
 moves PamtWord = nobody
 moves KeyWord = nobody
 moves HostWord = one (Sole Own ∷ [])
-moves (GuestWord r) = tdr_alone ∷ op_alone ∷ (Sole Own ∷ []) ∷ []
+moves (GuestWord r) = tdr_alone ∷ op_alone ∷ (Has Tdr ∷ Sole Own ∷ []) ∷ []
 moves TdrWord = one tdr_alone
 moves ChildCount = one tdr_alone
 moves TdcsWord = one tdr_alone
@@ -221,7 +221,7 @@ moves (LeafEntry r) = tdr_alone ∷ op_alone ∷ tree_alone ∷ []
 moves Association = one tdr_alone
 moves VcpuWord = one tdr_alone
 moves StreamWord = one tdr_alone
-moves Unused = one (Sole Own ∷ [])
+moves Unused = one (Has Tdr ∷ Sole Own ∷ [])
 moves Hasher = one tdr_alone
 moves FreeSlot = one (Sole Keys ∷ [])
 
@@ -241,9 +241,15 @@ pub record RulesClash : Type 0 where
   pub owes_owes : (c : Class) (f g : Grade) → clashes (owes c f) (owes c g) ≡ true
   pub owes_moves : (c : Class) (g : Grade) → clashes (owes c g) (moves c) ≡ true
   pub tries_owes : (c : Class) (g : Grade) → clashes (tries c) (owes c g) ≡ true
+  pub tries_reads : (c : Class) (v : View) → clashes (tries c) (reads c v) ≡ true
+  pub tries_writes : (c : Class) (g : Grade) → clashes (tries c) (writes c g) ≡ true
+  pub tries_fills : (c : Class) → clashes (tries c) (fills c) ≡ true
+  pub tries_moves : (c : Class) → clashes (tries c) (moves c) ≡ true
   pub fills_reads : (c : Class) (v : View) → clashes (fills c) (reads c v) ≡ true
   pub fills_sees : (c : Class) (v : View) → clashes (fills c) (sees c v) ≡ true
   pub fills_writes : (c : Class) (g : Grade) → clashes (fills c) (writes c g) ≡ true
   pub fills_owes : (c : Class) (g : Grade) → clashes (fills c) (owes c g) ≡ true
   pub fills_fills : (c : Class) → clashes (fills c) (fills c) ≡ true
   pub fills_moves : (c : Class) → clashes (fills c) (moves c) ≡ true
+  pub swaps : clashes (writes Hasher KeepsNothing) (writes Hasher KeepsNothing) ≡ true
+  pub swaps_moves : clashes (writes Hasher KeepsNothing) (moves Hasher) ≡ true

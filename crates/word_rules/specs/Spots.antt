@@ -1,5 +1,5 @@
 -- What a word is: its class, the TD that it belongs to, the page that it stands in, and the page that it names if it is an
--- entry. It is all of the world that a rule depends on.
+-- entry of level 0. It is all of the world that a rule depends on.
 use Rattle.std.specs.Prelude.{ℕ, zero, suc, ◌+◌, ◌*◌, ◌%◌, Bool, true, false, ◌==◌, ◌||◌, if◌then◌else◌, Option, Some, None, List, [], ◌∷◌}
 use Rattle.td_words.specs.declared.names.PageKind.{PageKind}
 use Rattle.td_words.specs.declared.names.PageKind.TheVariants as kind
@@ -15,6 +15,7 @@ use Rattle.flat_core.specs.Processor.{OfPage, OfOp, OfTree, OfEpoch, OfRtmr, OfK
 use Rattle.flat_core.specs.Lawful.{key_owner}
 use Rattle.word_rules.specs.Guards.{Guard, Locked, Reached, Written, Role, Tdr, Op, Tree, Epoch, Rtmr, Own, Named, Keys, Reach, Change}
 use Rattle.word_rules.specs.Rules.{Class, PageLock, TdLock, PamtWord, KeyWord, HostWord, GuestWord, TdrWord, ChildCount, TdcsWord, TdEpoch, EpochCount, RtmrWord, DirtyWord, UpperEntry, LeafEntry, Association, VcpuWord, StreamWord, Unused, Hasher, FreeSlot}
+use Rattle.word_rules.specs.Views.{no_page, named_by}
 use Rattle.word_rules.specs.Lines.{Line, At, Run, in_lines}
 use Rattle.word_rules.specs.Cells.{entered_of_parity}
 
@@ -105,30 +106,30 @@ entry_class w t (suc zero) = LeafEntry (runs_in (w.tds.ops t))
 entry_class w t (suc (suc level)) = UpperEntry
 
 abbrev pub entry_named : World → (t level number : ℕ) → ℕ → ℕ
-entry_named w t zero number i = 0
-entry_named w t (suc zero) number i = (w.tds.entries t 0 (512 * number + i)).page
-entry_named w t (suc (suc level)) number i = 0
+entry_named w t zero number i = no_page
+entry_named w t (suc zero) number i = named_by (w.tds.entries t 0 (512 * number + i))
+entry_named w t (suc (suc level)) number i = no_page
 
 -- a content word of page p, which is of this kind and of TD t
 abbrev pub page_spot : World → (t p : ℕ) → PageKind → ℕ → Spot
-page_spot w t p kind.Nda i = record { class = HostWord; td = 0; page = p; named = 0 }
-page_spot w t p kind.Reg i = record { class = GuestWord (runs_in (w.tds.ops t)); td = t; page = p; named = 0 }
-page_spot w t p kind.Tdr i = record { class = or_unused (in_lines tdr_classes i); td = t; page = p; named = 0 }
-page_spot w t p kind.Tdcx i = record { class = control_class w t p (w.tds.controls t) i; td = t; page = p; named = 0 }
-page_spot w t p kind.Tdvpr i = record { class = or_unused (in_lines vp_classes i); td = t; page = p; named = 0 }
+page_spot w t p kind.Nda i = record { class = HostWord; td = 0; page = p; named = no_page }
+page_spot w t p kind.Reg i = record { class = GuestWord (runs_in (w.tds.ops t)); td = t; page = p; named = no_page }
+page_spot w t p kind.Tdr i = record { class = or_unused (in_lines tdr_classes i); td = t; page = p; named = no_page }
+page_spot w t p kind.Tdcx i = record { class = control_class w t p (w.tds.controls t) i; td = t; page = p; named = no_page }
+page_spot w t p kind.Tdvpr i = record { class = or_unused (in_lines vp_classes i); td = t; page = p; named = no_page }
 page_spot w t p kind.Ept i = record { class = entry_class w t (w.pages.levels p); td = t; page = p; named = entry_named w t (w.pages.levels p) (w.pages.numbers p) i }
-page_spot w t p kind.Migsc i = record { class = or_unused (in_lines stream_classes i); td = t; page = p; named = 0 }
+page_spot w t p kind.Migsc i = record { class = or_unused (in_lines stream_classes i); td = t; page = p; named = no_page }
 
 abbrev pub spot : World → WordPlace → Spot
-spot w (place.Lock p) = record { class = PageLock; td = 0; page = p; named = 0 }
-spot w (place.Pamt p) = record { class = PamtWord; td = 0; page = p; named = 0 }
-spot w (place.Key k) = record { class = if k == KEY_LOCK then PageLock else KeyWord; td = 0; page = 0; named = 0 }
+spot w (place.Lock p) = record { class = PageLock; td = 0; page = p; named = no_page }
+spot w (place.Pamt p) = record { class = PamtWord; td = 0; page = p; named = no_page }
+spot w (place.Key k) = record { class = if k == KEY_LOCK then PageLock else KeyWord; td = 0; page = 0; named = no_page }
 spot w (place.Word p i) = page_spot w (w.pages.owners p) p (w.pages.kinds p) i
 
 -- the slot of an HKID, with the hasher of the TD that it is given to
 abbrev pub slot_of : Option ℕ → Spot
-slot_of None = record { class = FreeSlot; td = 0; page = 0; named = 0 }
-slot_of (Some t) = record { class = Hasher; td = t; page = 0; named = 0 }
+slot_of None = record { class = FreeSlot; td = 0; page = 0; named = no_page }
+slot_of (Some t) = record { class = Hasher; td = t; page = 0; named = no_page }
 
 abbrev pub slot_spot : World → ℕ → Spot
 slot_spot w h = slot_of (key_owner (w.key_table.keys h))

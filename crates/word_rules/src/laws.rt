@@ -20,7 +20,10 @@ pub fn views_are_kept()
     td_words::packings_undone();
 }
 
-/// The locks of each call and guest operation of the profile allow each of its loads and stores.
+/// The uses of words, which are written by hand for each call and guest operation of the profile,
+/// fit the locks that are written beside them. Three of these, for the words of RELOCATE and
+/// EXPORT.MEM and of `accept`, have *no change* or *no reach* besides, from a law of accesses that
+/// isn't proved yet. A rule that is met by a list of wants is met by each grip that meets them.
 pub fn leaf_table_fits()
     ensures { LeafTableFits }
 {}
