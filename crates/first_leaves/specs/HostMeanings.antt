@@ -1,5 +1,5 @@
 -- The leaves of the host's plain memory accesses mean their rows.
-use Rattle.std.proofs.Common.{◌≡◌, ℕ, ◌+◌, ◌*◌, ◌%◌, ◌^◌, ◌<◌, ◌≤◌, ◌⊎◌, Bool, true, false, ◌==◌, ◌&&◌, ◌||◌, cond, List, [], ◌∷◌, ◌++◌, Option, Some, None, refl, ap, sym, ◌∙◌, subst, inl, inr, arith}
+use Rattle.std.proofs.Common.{◌≡◌, ℕ, ◌%◌, ◌^◌, ◌<◌, ◌≤◌, ◌⊎◌, Bool, true, false, ◌==◌, ◌&&◌, cond, List, [], ◌∷◌, Option, refl, ap, ◌∙◌, inl, inr, arith}
 use Rattle.std.specs.Prelude.{nat_lt}
 use Rattle.std.proofs.lemmas.Bool.{eq-eqb, eqb-true, ltb-true, lt-ltb}
 use Rattle.td_words.specs.declared.names.PageKind.{PageKind}
@@ -7,8 +7,6 @@ use Rattle.td_words.specs.declared.names.PageKind.TheVariants as kind
 use Rattle.td_words.specs.declared.names.Mode.{Mode}
 use Rattle.td_words.specs.declared.names.Mode.TheVariants.{Shared}
 use Rattle.td_words.specs.declared.machines.Machine.{Machine}
-use Rattle.td_words.specs.declared.replies.Value.TheVariants as value
-use Rattle.td_words.specs.declared.replies.Reply.TheVariants.{Done}
 use Rattle.td_words.specs.NameNumber.{kind_number}
 use Rattle.td_words.specs.Packing.{pamt_word, is_lawful_pamt}
 use Rattle.td_words.proofs.Unpacked.{packings}
@@ -19,7 +17,7 @@ use Rattle.flat_core.specs.Processor.{LockId, OfPage, Held}
 use Rattle.flat_core.specs.Conditions.{is_host, is_host_in, same_kind}
 use Rattle.flat_core.specs.Lawful.{Lawful}
 use Rattle.flat_core.specs.Effects.{set_word}
-use Rattle.flat_core.specs.HostRows.{host_read, host_write}
+use Rattle.flat_core.specs.HostRows.{host_read}
 use Rattle.flat_core.specs.Event.{State}
 use Rattle.word_rules.specs.Permissions.{Respects, Moves}
 use Rattle.word_rules.specs.Rules.{KeepsNothing}
@@ -29,9 +27,8 @@ use Rattle.word_rules.specs.Cells.{Shows, IsAs, cell, page_cell, lock_word}
 use Rattle.lock_words.specs.Grips.{holds}
 use Rattle.leaf_engine.specs.declared.needs.Place.{Place}
 use Rattle.lock_words.specs.LockWords.{put_word}
-use Rattle.leaf_engine.specs.Trees.{answers}
-use Rattle.leaf_engine.specs.Means.{Instant, IsAt, Means, MeansRow, Work, work_of, OfCall, hold}
-use Rattle.first_leaves.specs.Words.{says_kind, says_host}
+use Rattle.leaf_engine.specs.Means.{Instant, Means, MeansRow, work_of, OfCall, hold}
+use Rattle.first_leaves.specs.Words.{says_host}
 use Rattle.first_leaves.specs.HostTrees.{host_read_task, host_write_task, rdmd_task, read_word}
 
 -- a lock that was tried last is held

@@ -1,5 +1,5 @@
 -- The host's plain memory accesses as decisions over the words that they are told.
-use Rattle.std.specs.Prelude.{ℕ, Bool, if◌then◌else◌, nat_lt, List, [], ◌∷◌}
+use Rattle.std.specs.Prelude.{ℕ, Bool, if◌then◌else◌, nat_lt, [], ◌∷◌}
 use Rattle.td_words.specs.declared.names.Mode.TheVariants.{Shared}
 use Rattle.td_words.specs.declared.machines.Machine.{Machine}
 use Rattle.td_words.specs.declared.refusals.Status.TheVariants.{OperandInvalid, NotHost}

@@ -1,5 +1,5 @@
 -- The leaf that creates a TD means its row.
-use Rattle.std.proofs.Common.{◌≡◌, ◌⊎◌, ℕ, zero, suc, ◌+◌, ◌-◌, ◌*◌, ◌<◌, ◌≤◌, Bool, true, false, ◌==◌, ◌&&◌, not, cond, nat_le, nat_lt, if◌then◌else◌, List, [], ◌∷◌, ◌++◌, Option, Some, None, refl, ap, sym, ◌∙◌, subst, inl, inr, arith}
+use Rattle.std.proofs.Common.{◌≡◌, ℕ, zero, suc, ◌+◌, ◌-◌, ◌<◌, ◌≤◌, Bool, true, false, ◌==◌, ◌&&◌, nat_le, nat_lt, if◌then◌else◌, List, [], ◌∷◌, ◌++◌, Option, Some, None, refl, ap, sym, ◌∙◌, subst, inl, arith}
 use Rattle.std.proofs.lemmas.Bool.{eq-eqb, eqb-true, ltb-true, leb-true}
 use Rattle.std.proofs.lemmas.Bool.Decides.{nat_tests}
 use Rattle.td_words.specs.declared.names.PageKind.{PageKind}
@@ -11,7 +11,7 @@ use Rattle.td_words.specs.declared.places.TheConstants.{TDR_HKID}
 use Rattle.td_words.specs.Packing.{Key, Unassigned, AssignedTo, FlushedOf, key_word, pamt_word}
 use Rattle.td_words.specs.Place.{WordPlace, IsIn}
 use Rattle.td_words.specs.Place as place
-use Rattle.flat_core.specs.World.{World, Pages}
+use Rattle.flat_core.specs.World.{World}
 use Rattle.flat_core.specs.Processor.{LockId, OfPage, OfKeys, Held}
 use Rattle.flat_core.specs.Opening.{Opening}
 use Rattle.flat_core.specs.Conditions.{is_host, is_host_in, is_free_key, is_key_free, owned_below}
@@ -29,8 +29,8 @@ use Rattle.act_rules.proofs.Stored.{by_test}
 use Rattle.leaf_engine.specs.declared.needs.Place.{Place}
 use Rattle.lock_words.specs.Grips.{holds, holds_alone}
 use Rattle.leaf_engine.specs.Changes.{Memory, Put, Clear, changed, changed_all}
-use Rattle.leaf_engine.specs.Means.{Instant, IsAt, Means, MeansRow, MayOweAll, hold}
-use Rattle.first_leaves.specs.Words.{says_host, says_free}
+use Rattle.leaf_engine.specs.Means.{Instant, MeansRow, MayOweAll, hold}
+use Rattle.first_leaves.specs.Words.{says_free}
 use Rattle.first_leaves.specs.TdTrees.{key_place, create_changes, create_task}
 use Rattle.first_leaves.specs.HostMeanings.{holds_newest, host_shown, host_kind}
 
