@@ -1,3 +1,5 @@
 pub mod Words
 pub mod HostTrees
 pub mod HostMeanings
+pub mod TdTrees
+pub mod TdMeanings

@@ -14,6 +14,10 @@ says_kind k word = word % 16 == kind_number k
 abbrev pub says_host : ℕ → Bool
 says_host word = says_kind kind.Nda word
 
+-- a key table word of a free HKID
+abbrev pub says_free : ℕ → Bool
+says_free word = word == 0
+
 -- what the metadata of a page say, as an answer
 abbrev pub metadata : Option Pamt → Value
 metadata None = value.Nothing

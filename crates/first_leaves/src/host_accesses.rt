@@ -109,7 +109,7 @@ impl Plan for HostWrite {
 }
 
 /// Whether a PAMT word says that its page is the host's.
-fn says_host(pamt: u64) -> bool
+pub fn says_host(pamt: u64) -> bool
     ensures { result ≡ says_host pamt }
 {
     pamt % 16 == PageKind::Nda as u64

@@ -7,6 +7,8 @@
 
 mod host_accesses;
 mod metadata_reads;
+mod td_creations;
 
 pub use host_accesses::{HostRead, HostWrite};
 pub use metadata_reads::Rdmd;
+pub use td_creations::Create;

@@ -1,0 +1,79 @@
+//! MNG.CREATE.
+
+use crate::host_accesses::says_host;
+use arrayvec::ArrayVec;
+use leaf_engine::{Leaf, Place, Plan, Planned, Stop, Told, Verdict, Write};
+use pamt_core::PamtWord;
+use step_core::WordStep;
+use td_words::places::{KEY_FIRST, KEY_LOCK, TDR_HKID};
+use td_words::{
+    LockName, Mode, PageKind, Reply, Status, Value, key_address, lock_address, pamt_address,
+    word_address,
+};
+
+/// MNG.CREATE TDR HKID: a host page becomes the TDR of a new TD, to which a free HKID is assigned.
+#[derive(Drop)]
+pub struct Create {
+    place: Place,
+    tdr: u64,
+    hkid: u64,
+}
+
+impl Create {
+    ghost use Rattle.std.specs.Prelude.{◌≡◌};
+    ghost use Rattle.first_leaves.specs.TdTrees.{create_task};
+
+    /// The leaf of a call at a place.
+    pub fn leaf(place: Place, tdr: u64, hkid: u64) -> Planned<Create>
+        ensures { ⟦<Planned<Create> as Leaf>⟧.task result ≡ create_task place tdr hkid }
+    {
+        Planned::new(Create { place, tdr, hkid })
+    }
+}
+
+impl Plan for Create {
+    ghost use Rattle.first_leaves.specs.TdTrees.{create_task};
+    ghost use Rattle.first_leaves.specs.TdMeanings.{create-means};
+
+    ghost task = { λ l. create_task l.place l.tdr l.hkid };
+
+    fn decide(&self, told: Told) -> Result<Verdict, Stop> {
+        let mut told = told;
+        let pages = self.place.machine.pages;
+        let hkids = self.place.machine.hkids;
+        told.check(self.tdr < u64::from(pages), Status::OperandInvalid(1))?;
+        told.check(
+            1 <= self.hkid && self.hkid <= u64::from(hkids),
+            Status::OperandInvalid(2),
+        )?;
+        let tdr = self.tdr as u16;
+        told.lock(LockName::Page(tdr), lock_address(tdr), Mode::Exclusive)?;
+        let pamt = told.load(pamt_address(tdr))?;
+        told.check(says_host(pamt), Status::PageMetadataIncorrect(tdr))?;
+        told.lock(
+            LockName::Keys,
+            key_address(pages, KEY_LOCK),
+            Mode::Exclusive,
+        )?;
+        let at = key_address(pages, KEY_FIRST + (self.hkid as u16 - 1));
+        let key = told.load(at)?;
+        told.check(key == 0, Status::HkidNotFree)?;
+        let mut writes = ArrayVec::new();
+        let owned = PamtWord {
+            kind: PageKind::Tdr,
+            owner: tdr,
+            epoch: 0,
+        };
+        let assigned = 1 + 16 * u64::from(tdr);
+        writes.push(Write::Word(WordStep::Store(at, assigned)));
+        writes.push(Write::Zero(tdr));
+        writes.push(Write::Word(WordStep::Store(pamt_address(tdr), owned.pack())));
+        writes.push(Write::Word(WordStep::Store(word_address(tdr, TDR_HKID), self.hkid)));
+        Ok(Verdict {
+            reply: Reply::Done(Value::Nothing),
+            writes,
+        })
+    }
+
+    ghost means = { λ l. create-means l.place l.tdr l.hkid };
+}
