@@ -18,6 +18,7 @@ use Rattle.flat_core.specs.Conditions.{is_host, is_host_in, is_free_key, is_key_
 use Rattle.flat_core.specs.Lawful.{Lawful, key_owner}
 use Rattle.flat_core.specs.TdRows.{create}
 use Rattle.flat_core.specs.Event.{State}
+use Rattle.word_rules.specs.Views.{no_page}
 use Rattle.word_rules.specs.Guards.{Grip, Locked, Meets}
 use Rattle.word_rules.specs.Rules.{Class, TdrWord, ChildCount, KeepsNothing, owes}
 use Rattle.word_rules.specs.Spots.{guard_at, tdr_classes, or_unused}
@@ -218,16 +219,16 @@ module _ (m : Machine) (s : State) (mem : Memory) (t h : ℕ) (sh : Shows m mem.
 class_line : (P : Class → Type 0) (n i : ℕ) (c : Class) (rest : List (Line Class)) → P c → P (or_unused (in_lines rest i)) → P (or_unused (in_lines (At n c ∷ rest) i))
 class_line P n i c rest a b = by_test (i == n) (λ e. rw e a) (λ e. rw e b)
 
-tdr_owed : (g : Grip) (t i : ℕ) → g.sole (Locked (OfPage t)) ≡ true
-    → Meets g (guard_at (record { class = or_unused (in_lines tdr_classes i); td = t; page = t; named = 0 })) (owes (or_unused (in_lines tdr_classes i)) KeepsNothing)
-tdr_owed g t i alone =
-    let P : Class → Type 0 = λ c. Meets g (guard_at (record { class = c; td = t; page = t; named = 0 })) (owes c KeepsNothing) in
+tdr_owed : (g : Grip) (t i : ℕ) → g.has (Locked (OfPage t)) ≡ true → g.sole (Locked (OfPage t)) ≡ true
+    → Meets g (guard_at (record { class = or_unused (in_lines tdr_classes i); td = t; page = t; named = no_page })) (owes (or_unused (in_lines tdr_classes i)) KeepsNothing)
+tdr_owed g t i held alone =
+    let P : Class → Type 0 = λ c. Meets g (guard_at (record { class = c; td = t; page = t; named = no_page })) (owes c KeepsNothing) in
     class_line P 0 i TdrWord (At 1 TdrWord ∷ At 2 ChildCount ∷ At 3 TdrWord ∷ At 4 TdrWord ∷ At 5 TdrWord ∷ []) (inl (alone, tt))
     (class_line P 1 i TdrWord (At 2 ChildCount ∷ At 3 TdrWord ∷ At 4 TdrWord ∷ At 5 TdrWord ∷ []) (inl (alone, tt))
     (class_line P 2 i ChildCount (At 3 TdrWord ∷ At 4 TdrWord ∷ At 5 TdrWord ∷ []) (inl (alone, tt))
     (class_line P 3 i TdrWord (At 4 TdrWord ∷ At 5 TdrWord ∷ []) (inl (alone, tt))
     (class_line P 4 i TdrWord (At 5 TdrWord ∷ []) (inl (alone, tt))
-    (class_line P 5 i TdrWord [] (inl (alone, tt)) (inl (alone, tt)))))))
+    (class_line P 5 i TdrWord [] (inl (alone, tt)) (inl (held, (alone, tt))))))))
 
 -- the locks of the row
 abbrev pub both_locks : ℕ → List Held
@@ -252,8 +253,9 @@ create_respects m c t h la a b host free =
 -- the stores after the act
 owed : (m : Machine) (c : Instant) (t h : ℕ) (mem : Memory) → t < m.pages → MayOweAll m (hold c (both_locks t)) ((create m t h).act c.state.world) mem (Clear t ∷ Put (place.Pamt t) (pamt_word (record { kind = kind.Tdr; owner = t; epoch = 0 })) ∷ Put (place.Word t TDR_HKID) h ∷ [])
 owed m c t h mem in_page =
+    let held : holds (both_locks t ++ c.kept) (OfPage t) ≡ true = page_held t c.kept in
     let alone : holds_alone (both_locks t ++ c.kept) (OfPage t) ≡ true = page_alone t c.kept in (
-      (in_page, λ i b. rw (eq-eqb t t refl) (tdr_owed (hold c (both_locks t)) t i alone)),
+      (in_page, λ i b. rw (eq-eqb t t refl) (tdr_owed (hold c (both_locks t)) t i held alone)),
       (
         (in_page, (KeepsNothing, inl (alone, tt), tt)),
         (((in_page, omega arith), (KeepsNothing, rw (eq-eqb t t refl) (inl (alone, tt)), tt)), tt),

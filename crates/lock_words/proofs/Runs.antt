@@ -143,15 +143,19 @@ lets-go o w p lp (c ∷ cs) e g h =
 small : (x n : ℕ) → n ≤ 8 → x ≤ 4 * n → x < 2 ^ 63
 small x n h k = omega (arith, h, k)
 
+low-bits : (o : Opening) (ws : Option (List ℕ)) (ps : List ℕ) (l : LockId) → length o.calls ≤ 8 → let s = play o ps (start o ws) in sharers s.lps s.lp_count l + refusals s.lps s.lp_count l < 2 ^ 63
+low-bits o ws ps l most =
+    let s : State = play o ps (start o ws) in
+    let f = always-few o ws ps in
+    let a = lock-words-follow.few s l in
+    let b = sum-few s.lps s.lp_count f.each in
+    let c = f.count in
+    small (sharers s.lps s.lp_count l + refusals s.lps s.lp_count l) s.lp_count (omega (arith, most, c)) (omega (arith, a, b))
+
 pub runs-follow : RunsFollow
 runs-follow = record {
-  few = λ o ws ps l most.
-      let s : State = play o ps (start o ws) in
-      let f = always-few o ws ps in
-      let a = lock-words-follow.few s l in
-      let b = sum-few s.lps s.lp_count f.each in
-      let c = f.count in
-      small (sharers s.lps s.lp_count l + refusals s.lps s.lp_count l) s.lp_count (omega (arith, most, c)) (omega (arith, a, b));
+  few = low-bits;
+  told = λ o ws ps l most. lock-words-follow.shared (play o ps (start o ws)) l (low-bits o ws ps l most);
   next = λ o ws ps p e h.
       let s : State = play o ps (start o ws) in
       let f = always-few o ws ps in

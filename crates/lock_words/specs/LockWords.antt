@@ -149,10 +149,12 @@ pub record StartFollows : Type 0 where
       → let s = start o words_to_tell in IsNext o s p (OfCall (row_of o p c) (next_in ((row_of o p c).items s.world) Trying []))
   pub few : (o : Opening) (words_to_tell : Option (List ℕ)) (l : LockId) → let s = start o words_to_tell in sharers s.lps s.lp_count l + refusals s.lps s.lp_count l ≡ 0
 
--- In every state that a run of at most eight processors reaches, the low bits of each lock's word stay below bit 63, and
--- each next event is one that the words follow.
+-- In every state that a run of at most eight processors reaches, the low bits of each lock's word stay below bit 63, so
+-- that it tells whether a shared try is granted; and in every run each next event is one that the words follow.
 pub record RunsFollow : Type 0 where
   pub few : (o : Opening) (words_to_tell : Option (List ℕ)) (schedule : List ℕ) (l : LockId) → length o.calls ≤ 8
       → let s = reached o words_to_tell schedule in sharers s.lps s.lp_count l + refusals s.lps s.lp_count l < 2 ^ 63
+  pub told : (o : Opening) (words_to_tell : Option (List ℕ)) (schedule : List ℕ) (l : LockId) → length o.calls ≤ 8
+      → let s = reached o words_to_tell schedule in grants s.lps s.lp_count l Shared ≡ nat_lt (lock_word s.lps s.lp_count l) (2 ^ 63)
   pub next : (o : Opening) (words_to_tell : Option (List ℕ)) (schedule : List ℕ) (p : ℕ) (e : Event)
       → let s = reached o words_to_tell schedule in next_event o s p ≡ Some e → IsNext o s p e
