@@ -43,6 +43,16 @@ impl<L: Leaf> Run<L> {
         }
     }
 
+    /// Whether its last event is done.
+    pub fn has_ended(&self) -> bool
+        ensures { result ≡ has_ended self.now.stage self.now.held.items }
+    {
+        match self.stage {
+            Stage::Answered(_) => self.held.is_empty(),
+            _ => false,
+        }
+    }
+
     /// The leaf, as it now is.
     pub fn into_leaf(self) -> L
         ensures { result ≡ self.leaf }
