@@ -1,5 +1,5 @@
 -- A call's run beside its processor in the flat machine, event by event.
-use Rattle.std.specs.Prelude.{◌≡◌, ◌⊎◌, ℕ, ◌+◌, ◌^◌, ◌<◌, false, Option, Some, None, List, [], ◌∷◌, ◌++◌}
+use Rattle.std.specs.Prelude.{◌≡◌, ◌⊎◌, ℕ, ◌+◌, ◌^◌, ◌<◌, false, Option, Some, None, List, [], ◌∷◌, ◌++◌, length}
 use Rattle.td_words.specs.declared.names.LockName.{LockName}
 use Rattle.td_words.specs.declared.machines.Machine.{Machine}
 use Rattle.td_words.specs.declared.calls.Call.{Call}
@@ -12,7 +12,7 @@ use Rattle.flat_core.specs.Opening.{Opening}
 use Rattle.flat_core.specs.Row.{Row}
 use Rattle.flat_core.specs.Table.{row_of}
 use Rattle.flat_core.specs.Lawful.{Lawful}
-use Rattle.flat_core.specs.Event.{State, lines_left, event}
+use Rattle.flat_core.specs.Event.{State, start, lines_left, event}
 use Rattle.flat_core.specs.Laws.{IsBetween}
 use Rattle.word_rules.specs.Cells.{Shows}
 use Rattle.lock_words.specs.Grips.{IsExclusive}
@@ -112,3 +112,11 @@ CallsFollow = (o : Opening) (task : Task) (row : Row) (s : State) (mem : Memory)
 abbrev pub CallsBegin : Type 0
 CallsBegin = (o : Opening) (task : Task) (row : Row) (w : World) (words : WordPlace → ℕ) (lp : Lp) → IsLine o task.place.lp row lp → IsBetween lp
     → IsCallAt o task row w words lp (standing (settle task.tree) stages.Trying [] None)
+
+-- The premise can be met: words that are all 0, with no hasher anywhere, show the start of every run.
+abbrev pub no_memory : Memory
+no_memory = record { words = λ q. 0; slots = λ h. None; hand = None }
+
+abbrev pub StartIsMet : Type 0
+StartIsMet = (o : Opening) (task : Task) (run : Standing) → o.machine ≡ task.place.machine → task.place.lp < length o.calls → run.hasher ≡ None
+    → IsShown task (start o None) no_memory (record { words = λ n. 0; slots = λ k. None }) run

@@ -2,7 +2,7 @@
 
 ghost use Rattle.leaf_engine.specs.Follows.{LeavesFollowRows};
 ghost use Rattle.leaf_engine.specs.Shown.{TurnsShow};
-ghost use Rattle.leaf_engine.specs.Calls.{CallsBegin, CallsFollow};
+ghost use Rattle.leaf_engine.specs.Calls.{CallsBegin, CallsFollow, StartIsMet};
 
 use lock_words::{lock_steps_shown, lock_words_follow};
 use step_core::pages_change_alone;
@@ -26,13 +26,17 @@ pub fn turns_show()
     pages_change_alone();
 }
 
-/// A run of a call's leaf begins where its processor does. From then on, over words that show a
+/// Words that are all 0 show the start. A run of a call's leaf begins where its processor does. From then on, over words that show a
 /// lawful state, each turn is the next event of that processor in the flat machine: its steps leave
 /// words that show the state after that event, and the row's reply comes with the last one.
 pub fn calls_follow()
+    ensures start { StartIsMet }
     ensures begin { CallsBegin }
     ensures follow { CallsFollow }
 {
+    flat_core::lawful_law();
+    flat_core::lock_law();
+    word_rules::start_is_shown();
     lock_words_follow();
     lock_steps_shown();
     places_injective();
