@@ -88,13 +88,13 @@ module _ (count : ℕ) (old : Pages) (t : ℕ) (host : old.kinds t ≡ kind.Nda)
   }
 
 pub host_read-keeps : (m : Machine) (page i : ℕ) → RowKeeps m (host_read m page i)
-host_read-keeps m page i = record { act = λ w l ps. l }
+host_read-keeps m page i = record { act = λ w l ps. l; to_tell = λ w. refl }
 
 pub host_write-keeps : (m : Machine) (page i v : ℕ) → RowKeeps m (host_write m page i v)
-host_write-keeps m page i v = record { act = λ w l ps. record { size = l.size; pages = l.pages; tds = l.tds; tree = l.tree; keys = l.keys } }
+host_write-keeps m page i v = record { act = λ w l ps. record { size = l.size; pages = l.pages; tds = l.tds; tree = l.tree; keys = l.keys }; to_tell = λ w. refl }
 
 pub read_metadata-keeps : (m : Machine) (page : ℕ) → RowKeeps m (read_metadata m page)
-read_metadata-keeps m page = record { act = λ w l ps. l }
+read_metadata-keeps m page = record { act = λ w l ps. l; to_tell = λ w. refl }
 
 -- and a TD begins there
 module _ (count : ℕ) (old : Pages) (tds : Tds) (table : KeyTable) (t h : ℕ) (host : old.kinds t ≡ kind.Nda) (lawful : LawfulPages count old) (small : t < count) (is_free_hkid : is_free_key (table.keys h) ≡ true) where
@@ -190,6 +190,7 @@ create-keeps m t h = record {
         tree = new_tree m.pages w.pages w.tds w.key_table t h host l.pages small free_hkid l.tree;
         keys = new_keys m.pages w.pages w.tds w.key_table t h host l.pages small free_hkid m.hkids (range_of h m.hkids ps.1.0) l.keys;
       });
+  to_tell = λ w. refl;
 }
 
 pub row-keeps : (o : Opening) (me : ℕ) (c : Call) → RowKeeps o.machine (row_of o me c)

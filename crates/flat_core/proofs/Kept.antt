@@ -1,5 +1,5 @@
 -- What every schedule keeps.
-use Rattle.std.proofs.Common.{◌≡◌, ◌≢◌, refl, ℕ, Option, Some, None}
+use Rattle.std.proofs.Common.{◌≡◌, ◌≢◌, refl, ◌∙◌, ℕ, Option, Some, None}
 use Rattle.std.proofs.lemmas.Bool.{ne_eqb}
 use Rattle.td_words.specs.declared.names.Access.{Access}
 use Rattle.td_words.specs.declared.names.Access.TheVariants.{Read, Write}
@@ -9,7 +9,7 @@ use Rattle.flat_core.specs.Row.{Attempts, Undoes, Refuses, Succeeds, Releases, R
 use Rattle.flat_core.specs.Guest.{reach}
 use Rattle.flat_core.specs.Event.{State, Event, OfCall, OfOperation, Walks, Reaches, Leaves, start, next_event, after_event}
 use Rattle.flat_core.specs.Lawful.{Lawful}
-use Rattle.flat_core.specs.Laws.{EveryWorldIsLawful, EventsKeepLawful, OthersStay, QuietEventsStay}
+use Rattle.flat_core.specs.Laws.{EveryWorldIsLawful, EventsKeepLawful, OthersStay, QuietEventsStay, NoWordsToTell}
 use Rattle.flat_core.proofs.Induction.{world_event, world_kept}
 use Rattle.flat_core.proofs.Keeps.{row-keeps, first-lawful}
 
@@ -59,3 +59,16 @@ quiet_stay (OfOperation row Rests) w h = refl
 quiet_stay (Walks access gpa) w h = refl
 quiet_stay (Reaches t v access r gpa page) w h = absurd h
 quiet_stay (Leaves v out) w h = absurd h
+
+reach_tells : (t v : ℕ) (access : Access) (r gpa page : ℕ) (w : World) → w.outgoing.to_tell ≡ None → (reach t v access r gpa page w).outgoing.to_tell ≡ None
+reach_tells t v Read r gpa page w h = h
+reach_tells t v Write r gpa page w h = h
+
+pub no_words_to_tell : NoWordsToTell
+no_words_to_tell o s p h =
+    world_event o (λ w. w.outgoing.to_tell ≡ None)
+    (λ me c w none ps. (row-keeps o me c).to_tell w ∙ none)
+    (λ t v line op row w e none ps. elim op [ ])
+    reach_tells
+    (λ v w none. none)
+    s p h

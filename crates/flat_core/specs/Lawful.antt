@@ -110,6 +110,7 @@ pub record Lawful (m : Machine) (w : World) : Type 0 where
   pub tree : LawfulTree w.pages w.tds
   pub keys : LawfulKeys m.hkids w.pages w.tds w.key_table
 
--- a row whose act keeps it, where its conditions held
+-- a row whose act keeps it, where its conditions held; and the words to tell stay as they are
 pub record RowKeeps (m : Machine) (row : Row) : Type 0 where
   pub act : (w : World) → Lawful m w → Passes (row.items w) → Lawful m (row.act w)
+  pub to_tell : (w : World) → (row.act w).outgoing.to_tell ≡ w.outgoing.to_tell

@@ -50,6 +50,10 @@ IsQuiet _ = Unit {0}
 abbrev pub QuietEventsStay : Type 0
 QuietEventsStay = (e : Event) (w : World) → IsQuiet e → world_after e w ≡ w
 
+-- in a run without words to tell there are none to tell in any state
+abbrev pub NoWordsToTell : Type 0
+NoWordsToTell = (o : Opening) (s : State) (p : ℕ) → s.world.outgoing.to_tell ≡ None → (event o s p).world.outgoing.to_tell ≡ None
+
 -- nobody holds a lock beside one who holds it alone
 pub record IsSole (alone shared : ℕ) : Type 0 where
   pub one : alone ≤ 1

@@ -1,4 +1,4 @@
-use Rattle.flat_core.proofs.Kept.{others_stay, quiet_stay}
+use Rattle.flat_core.proofs.Kept.{others_stay, quiet_stay, no_words_to_tell}
 use Rattle.flat_core.proofs.Refused.{refused_stay}
 use Rattle.flat_core.proofs.laws.event_laws.Goals as goal
 
@@ -10,3 +10,6 @@ returns-clause-quiet c = quiet_stay
 
 pub returns-clause-refused : goal.returns-clause-refused
 returns-clause-refused c = refused_stay
+
+pub returns-clause-own_words : goal.returns-clause-own_words
+returns-clause-own_words c = no_words_to_tell
