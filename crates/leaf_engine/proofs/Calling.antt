@@ -91,7 +91,7 @@ settles o task row w mem lp cached run reply (Answered a) hs stages.Trying line 
 settles o task row w mem lp cached run reply (Answered a) hs (stages.Undoing name at) line g e st held told hand r = absurd st
 settles o task row w mem lp cached run reply (Answered a) [] (stages.Answered b) line g e st held told hand r =
     let last : last_reply run.stage run.held ≡ Some a = ap (λ (z : Stage). last_reply z run.held) e ∙ (ap (λ (z : List HeldLock). last_reply (stages.Answered b) z) held ∙ ap Some st) in
-    inr (record { answer = a; reply_is = r ∙ last; replies_are = refl; call = refl })
+    inr (record { answer = a; reply_is = r ∙ last; replies_are = refl; between = record { call = refl; guest = g } })
 settles o task row w mem lp cached run reply (Answered a) (h ∷ hs) (stages.Answered b) line g e st held told hand r =
     let last : last_reply run.stage run.held ≡ None = ap (λ (z : Stage). last_reply z run.held) e ∙ (ap (λ (z : List HeldLock). last_reply (stages.Answered b) z) held.1.1 ∙ last-none b held.0 held.1.0) in
     inl (record {

@@ -24,7 +24,7 @@ abbrev pub LooksRight : (WordPlace → ℕ) → Tree → ℕ → Type 0
 LooksRight words (Load v q k) x = look v x ≡ look v (words q)
 LooksRight words _ x = ⊥
 
-current-load : (words : WordPlace → ℕ) (t : Tree) (told : List ℕ) (x : ℕ) → Current words t told → LooksRight words (feed t told) x → Current words t (told ++ x ∷ [])
+pub current-load : (words : WordPlace → ℕ) (t : Tree) (told : List ℕ) (x : ℕ) → Current words t told → LooksRight words (feed t told) x → Current words t (told ++ x ∷ [])
 current-load words (Lock l q m t) [] x cu h = absurd h
 current-load words (Lock l q m t) (y ∷ told) x cu h = current-load words t told x cu h
 current-load words (Load v q k) [] x cu h = (h, current-end (k (look v x)))
@@ -41,7 +41,7 @@ current-load words (Test false r t) told x cu h = λ e. cc
 current-load words (End r fs cs) told x cu h = absurd h
 current-load words (Since r cs) told x cu h = absurd h
 
-granted-load : (words : WordPlace → ℕ) (t : Tree) (told : List ℕ) (x : ℕ) (hs : List Held) → LooksRight words (feed t told) x → granted t (told ++ x ∷ []) hs ≡ granted t told hs
+pub granted-load : (words : WordPlace → ℕ) (t : Tree) (told : List ℕ) (x : ℕ) (hs : List Held) → LooksRight words (feed t told) x → granted t (told ++ x ∷ []) hs ≡ granted t told hs
 granted-load words (Lock l q m t) [] x hs h = absurd h
 granted-load words (Lock l q m t) (y ∷ told) x hs h = granted-load words t told x (record { lock = l; mode = m } ∷ hs) h
 granted-load words (Load v q k) [] x hs h = granted-end (k (look v x)) hs
@@ -60,7 +60,7 @@ granted-load words (End r fs cs) told x hs h = absurd h
 granted-load words (Since r cs) told x hs h = absurd h
 
 -- the load that it comes to answers the word there
-looks : (m : Machine) (c : Instant) (k : Work) (hs : List Held) (s : Tree) (n : Move Reply) (tab : Table) (h : Option Measure) (at x : ℕ)
+pub looks : (m : Machine) (c : Instant) (k : Work) (hs : List Held) (s : Tree) (n : Move Reply) (tab : Table) (h : Option Measure) (at x : ℕ)
     → Comes m c k hs s n → IsLoadAt m.pages s at → IsMemory m tab h c.memory → x ≡ tab.words at → LooksRight c.memory.words s x
 looks m c k hs (Load v q t) n tab h at x co l mem e = ap (look v) (e ∙ (ap tab.words l ∙ mem.words q co.0))
 looks m c k hs (Lock l' q mode t) n tab h at x co l mem e = absurd l

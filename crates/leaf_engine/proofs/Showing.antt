@@ -43,14 +43,14 @@ try_plays t u at seen Shared p = (p.0, p.1.0, p.1.1)
 try_plays t u at seen Exclusive p = (p.0, p.1.0, p.1.1)
 
 -- the lock that a tree comes to
-record ComesTo (m : Machine) (c : Instant) (hs : List Held) (n : Move Reply) (tree : Tree) (name : LockName) (at : ℕ) (mode : Mode) : Type 0 where
+pub record ComesTo (m : Machine) (c : Instant) (hs : List Held) (n : Move Reply) (tree : Tree) (name : LockName) (at : ℕ) (mode : Mode) : Type 0 where
   pub lock : LockId
   pub due : n ≡ Attempts lock mode
   pub name_is : name ≡ name_of lock
   pub at_is : at ≡ address m.pages (place_of c.state.world lock)
   pub stands : Locks m c hs lock (place_of c.state.world lock)
 
-comes-to : (m : Machine) (c : Instant) (k : Work) (hs : List Held) (n : Move Reply) (tree : Tree) (name : LockName) (at : ℕ) (mode : Mode) → Comes m c k hs tree n
+pub comes-to : (m : Machine) (c : Instant) (k : Work) (hs : List Held) (n : Move Reply) (tree : Tree) (name : LockName) (at : ℕ) (mode : Mode) → Comes m c k hs tree n
     → Gives m.pages tree (need.Lock name at mode) → ComesTo m c hs n tree name at mode
 comes-to m c k hs n (Lock l q mode' t) name at mode co g =
     let a : name ≡ name_of l = cc in
@@ -89,7 +89,7 @@ granted-end (Test false r t) hs = refl
 granted-end (End r fs cs) hs = refl
 granted-end (Since r cs) hs = refl
 
-current-lock : (words : WordPlace → ℕ) (t : Tree) (told : List ℕ) (k : LockId) (mode : Mode) → Current words t told → IsLock (feed t told) k mode → Current words t (told ++ 0 ∷ [])
+pub current-lock : (words : WordPlace → ℕ) (t : Tree) (told : List ℕ) (k : LockId) (mode : Mode) → Current words t told → IsLock (feed t told) k mode → Current words t (told ++ 0 ∷ [])
 current-lock words (Lock l q m t) [] k mode cu h = current-end words t
 current-lock words (Lock l q m t) (y ∷ told) k mode cu h = current-lock words t told k mode cu h
 current-lock words (Load v q f) [] k mode cu h = absurd h
@@ -99,7 +99,7 @@ current-lock words (Test false r t) told k mode cu h = absurd h
 current-lock words (End r fs cs) told k mode cu h = absurd h
 current-lock words (Since r cs) told k mode cu h = absurd h
 
-granted-lock : (t : Tree) (told : List ℕ) (k : LockId) (mode : Mode) (hs : List Held) → IsLock (feed t told) k mode
+pub granted-lock : (t : Tree) (told : List ℕ) (k : LockId) (mode : Mode) (hs : List Held) → IsLock (feed t told) k mode
     → granted t (told ++ 0 ∷ []) hs ≡ record { lock = k; mode = mode } ∷ granted t told hs
 granted-lock (Lock l q m t) [] k mode hs h = (let a : l ≡ k = h.0 in let b : m ≡ mode = h.1 in granted-end t (record { lock = l; mode = m } ∷ hs) ∙ rw (a, b) refl)
 granted-lock (Lock l q m t) (y ∷ told) k mode hs h = granted-lock t told k mode (record { lock = l; mode = m } ∷ hs) h
@@ -110,7 +110,7 @@ granted-lock (Test false r t) told k mode hs h = absurd h
 granted-lock (End r fs cs) told k mode hs h = absurd h
 granted-lock (Since r cs) told k mode hs h = absurd h
 
-is-lock : (m : Machine) (c : Instant) (k : Work) (hs : List Held) (tree : Tree) (l : LockId) (mode : Mode) → Comes m c k hs tree (Attempts l mode) → (name : LockName) (at : ℕ) (mode' : Mode)
+pub is-lock : (m : Machine) (c : Instant) (k : Work) (hs : List Held) (tree : Tree) (l : LockId) (mode : Mode) → Comes m c k hs tree (Attempts l mode) → (name : LockName) (at : ℕ) (mode' : Mode)
     → Gives m.pages tree (need.Lock name at mode') → IsLock tree l mode
 is-lock m c k hs (Lock l' q mode'' t) l mode co name at mode' g = (cc (co.0), cc (co.0))
 is-lock m c k hs (Load v q t) l mode co name at mode' g = cc
@@ -118,7 +118,7 @@ is-lock m c k hs (Test b r t) l mode co name at mode' g = absurd g
 is-lock m c k hs (End r fs cs) l mode co name at mode' g = cc
 is-lock m c k hs (Since r cs) l mode co name at mode' g = cc
 
-passed-lock : (tree : Tree) (l : LockId) (mode : Mode) → IsLock tree l mode → passed tree ≡ feed tree (0 ∷ [])
+pub passed-lock : (tree : Tree) (l : LockId) (mode : Mode) → IsLock tree l mode → passed tree ≡ feed tree (0 ∷ [])
 passed-lock (Lock l' q m t) l mode h = refl
 passed-lock (Load v q t) l mode h = absurd h
 passed-lock (Test b r t) l mode h = absurd h
@@ -154,12 +154,12 @@ act-in m g w w' mem (Clear p ∷ cs) a = absurd a.0
 act-in m g w w' mem (Copy p q ∷ cs) a = absurd a.0
 act-in m g w w' mem (Swap h made ∷ cs) a = (a.0.0, owed-in m g w' (changed (Swap h made) mem) cs a.1)
 
-changed-append : (cs ds : List Change) (mem : Memory) → changed_all (cs ++ ds) mem ≡ changed_all ds (changed_all cs mem)
+pub changed-append : (cs ds : List Change) (mem : Memory) → changed_all (cs ++ ds) mem ≡ changed_all ds (changed_all cs mem)
 changed-append [] ds mem = refl
 changed-append (c ∷ cs) ds mem = changed-append cs ds (changed c mem)
 
 -- what a tree that comes to its reply does
-record EndsWith (m : Machine) (c : Instant) (k : Work) (hs : List Held) (n : Move Reply) (tree : Tree) (reply : Reply) : Type 0 where
+pub record EndsWith (m : Machine) (c : Instant) (k : Work) (hs : List Held) (n : Move Reply) (tree : Tree) (reply : Reply) : Type 0 where
   pub inside : AreChangesIn m (changes_of tree)
   pub kept : passed tree ≡ tree
   pub ends : ((n ≡ Refuses reply) × (changes_of tree ≡ []))
@@ -170,7 +170,7 @@ shows-append : (m : Machine) (c : Instant) (k : Work) (fs cs : List Change) → 
     → (let mem = changed_all (fs ++ cs) c.memory in Shows m mem.words mem.slots (acted k c.state))
 shows-append m c k fs cs s = subst (λ (mem : Memory). Shows m mem.words mem.slots (acted k c.state)) (sym (changed-append fs cs c.memory)) s
 
-ends-with : (m : Machine) (c : Instant) (k : Work) (hs : List Held) (n : Move Reply) (tree : Tree) (reply : Reply) → Comes m c k hs tree n → Gives m.pages tree (need.Verdict reply)
+pub ends-with : (m : Machine) (c : Instant) (k : Work) (hs : List Held) (n : Move Reply) (tree : Tree) (reply : Reply) → Comes m c k hs tree n → Gives m.pages tree (need.Verdict reply)
     → EndsWith m c k hs n tree reply
 ends-with m c k hs n (Lock l q mode t) reply co g = cc
 ends-with m c k hs n (Load v q t) reply co g = cc

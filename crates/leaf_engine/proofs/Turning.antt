@@ -147,7 +147,7 @@ trying-phase m w st (Answered r) i e = absurd (subst (λ (z : Stage). IsStage m 
 abbrev pub instant : Task → State → Memory → Instant
 instant task s mem = record { state = s; memory = mem; me = task.place.lp; kept = [] }
 
-at-instant : (o : Opening) (task : Task) (row : Row) (s : State) (mem : Memory) (t : Table) (run : Standing) → task.meaning ≡ CallOf row → IsShown task s mem t run
+pub at-instant : (o : Opening) (task : Task) (row : Row) (s : State) (mem : Memory) (t : Table) (run : Standing) → task.meaning ≡ CallOf row → IsShown task s mem t run
     → IsCallAt o task row s.world mem.words (s.lps task.place.lp) run → run.stage ≡ stages.Trying → IsAt task (instant task s mem)
 at-instant o task row s mem t run mean sh ca st = record {
   processor = refl;
@@ -164,7 +164,7 @@ on-way o task row s mem t run means mean sh ca st =
     record { means = means; at = at-instant o task row s mem t run mean sh ca st; current = (ca.told st).current; rest = (ca.told st).rest; memory = sh.memory }
 
 -- the flat machine's next event is the row's next move
-due-is : (o : Opening) (task : Task) (row : Row) (s : State) (mem : Memory) (run : Standing) (mv : Move Reply) → task.meaning ≡ CallOf row
+pub due-is : (o : Opening) (task : Task) (row : Row) (s : State) (mem : Memory) (run : Standing) (mv : Move Reply) → task.meaning ≡ CallOf row
     → (ca : IsCallAt o task row s.world mem.words (s.lps task.place.lp) run) → (st : run.stage ≡ stages.Trying) → move_due task (instant task s mem) (ca.told st).told ≡ mv
     → next_event o s task.place.lp ≡ Some (OfCall row mv)
 due-is o task row s mem run mv mean ca st due =
@@ -242,7 +242,7 @@ act-shown ls o task row s mem after t run sh e shown =
     subst (λ (y : State). Shows task.place.machine after.words after.slots y) (sym same) at-z
 
 -- the refusal, or the act
-ends : (ls : Laws) (o : Opening) (task : Task) (row : Row) (s : State) (mem : Memory) (t u : Table) (run run' : Standing) (result : RunTurn)
+pub ends : (ls : Laws) (o : Opening) (task : Task) (row : Row) (s : State) (mem : Memory) (t u : Table) (run run' : Standing) (result : RunTurn)
     → MeansRow task → task.meaning ≡ CallOf row → IsShown task s mem t run → (ca : IsCallAt o task row s.world mem.words (s.lps task.place.lp) run) → (st : run.stage ≡ stages.Trying)
     → EndsRow task (instant task s mem) (ca.told st).told u run run' → result.reply ≡ last_reply run'.stage run'.held
     → After o task row (s.lps task.place.lp).replies (event o s task.place.lp) u run' result.reply

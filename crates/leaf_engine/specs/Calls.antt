@@ -91,7 +91,7 @@ pub record IsOver (replies : List Reply) (lp : Lp) (reply : Option Reply) : Type
   pub answer : Reply
   pub reply_is : reply ≡ Some answer
   pub replies_are : lp.replies ≡ replies ++ answer ∷ []
-  pub call : lp.call ≡ nothing_yet
+  pub between : IsBetween lp
 
 -- after a turn, in the state after the flat machine's event
 pub record After (o : Opening) (task : Task) (row : Row) (before : List Reply) (s : State) (u : Table) (run : Standing) (reply : Option Reply) : Type 0 where

@@ -5,8 +5,10 @@ pub mod Inside
 pub mod Decides
 pub mod Items
 pub mod Turns
-pub mod Processors
 pub mod Follows
 pub mod Tables
+pub mod OwnLists
+pub mod Processors
+pub mod Merges
 pub mod Shown
 pub mod Calls

@@ -2,8 +2,8 @@
 
 ghost use Rattle.std.specs.Prelude.{◌≡◌, ℕ, Bool, not, List};
 ghost use Rattle.td_words.specs.declared.machines.Machine.{Machine};
-ghost use Rattle.step_core.specs.Items.{Taken};
 ghost use Rattle.leaf_engine.specs.declared.events.Event.{Event};
+ghost use Rattle.leaf_engine.specs.OwnLists.{Piece};
 ghost use Rattle.leaf_engine.specs.Processors.{Turned, has_moved};
 
 use crate::events::Event;
@@ -27,8 +27,8 @@ pub trait Processor {
     /// How many events it can still give at most.
     ghost bound: { Self → ℕ };
 
-    /// From the first state this event, with these items, leads to the second.
-    ghost moves: { Self → Event → List Taken → Self → Type 0 };
+    /// From the first state this event, in these pieces, leads to the second.
+    ghost moves: { Self → Event → List Piece → Self → Type 0 };
 
     /// Makes its next event.
     fn turn<B: Bench>(&mut self, bench: &mut B) -> Turn

@@ -1,0 +1,141 @@
+-- Own lists: the word steps that a logical processor makes, in its order, with their answers, and which of them are events.
+use Rattle.std.specs.Prelude.{◌≡◌, ℕ, zero, suc, ◌+◌, false, Option, Some, None, List, [], ◌∷◌, ◌++◌, length, map}
+use Rattle.td_words.specs.declared.machines.Machine.{Machine}
+use Rattle.td_words.specs.declared.calls.Call.{Call}
+use Rattle.td_words.specs.declared.replies.Reply.{Reply}
+use Rattle.step_core.specs.Items.{Taken}
+use Rattle.leaf_engine.specs.declared.needs.Need.{Need}
+use Rattle.leaf_engine.specs.declared.needs.Need.TheVariants as need
+use Rattle.leaf_engine.specs.declared.events.Event.{Event}
+use Rattle.leaf_engine.specs.declared.events.RunTurn.{RunTurn}
+use Rattle.leaf_engine.specs.declared.events.Stage.{Stage}
+use Rattle.leaf_engine.specs.declared.events.Stage.TheVariants as stage
+use Rattle.leaf_engine.specs.Changes.{Change, Put, PutHash, Raise, Clear, Copy, Swap}
+use Rattle.leaf_engine.specs.Trees.{Tree, Lock, Load, Test, End, Since, settle, passed}
+use Rattle.leaf_engine.specs.Means.{Task}
+use Rattle.leaf_engine.specs.Turns.{Standing, standing, Goes, TurnBy, IsTurn, has_ended, last_reply}
+
+-- a piece of an own list: a word step that is no event, one that is, or an event without a word step
+pub data Piece : Type 0 where
+  Quiet : (taken : Taken) → Piece
+  Marked : (taken : Taken) → Piece
+  Wordless : Piece
+
+-- what is taken on a bench
+abbrev pub taken_in : List Piece → List Taken
+taken_in [] = []
+taken_in (Quiet x ∷ ps) = x ∷ taken_in ps
+taken_in (Marked x ∷ ps) = x ∷ taken_in ps
+taken_in (Wordless ∷ ps) = taken_in ps
+
+-- lists of pieces one after another
+abbrev pub joined : List (List Piece) → List Piece
+joined [] = []
+joined (ps ∷ pss) = ps ++ joined pss
+
+-- how many items a change is made in
+abbrev pub items_of : Change → ℕ
+items_of (Clear p) = 512
+items_of (Copy p q) = 1024
+items_of _ = 1
+
+abbrev pub items_in : List Change → ℕ
+items_in [] = 0
+items_in (c ∷ cs) = items_of c + items_in cs
+
+-- where the event is the last item, and where it is the one behind so many; if there is none, it has no word step
+abbrev pub last_marked : List Taken → List Piece
+last_marked [] = Wordless ∷ []
+last_marked (x ∷ []) = Marked x ∷ []
+last_marked (x ∷ y ∷ xs) = Quiet x ∷ last_marked (y ∷ xs)
+
+abbrev pub marked_behind : ℕ → List Taken → List Piece
+marked_behind n [] = Wordless ∷ []
+marked_behind zero (x ∷ xs) = Marked x ∷ map Quiet xs
+marked_behind (suc n) (x ∷ xs) = Quiet x ∷ marked_behind n xs
+
+-- The act is the first store that isn't a fill; of one that stores nothing the last load since the last try, which also
+-- is the act of a leaf whose stores come after it.
+abbrev pub act_pieces : Tree → (loads changes : List Taken) → List Piece
+act_pieces (End r [] []) loads xs = last_marked loads
+act_pieces (End r fs cs) loads xs = map Quiet loads ++ marked_behind (items_in fs) xs
+act_pieces (Since r cs) loads xs = last_marked loads ++ map Quiet xs
+act_pieces _ loads xs = []
+
+-- a try is the last item of its turn
+abbrev pub pieces_for : Need → Tree → (loads items changes : List Taken) → List Piece
+pieces_for (need.Verdict r) t loads items changes = act_pieces t loads changes
+pieces_for _ t loads items changes = last_marked items
+
+-- what is left of a turn's items behind its loads
+abbrev pub behind : List Taken → List Taken → List Taken
+behind [] xs = xs
+behind (l ∷ ls) [] = []
+behind (l ∷ ls) (x ∷ xs) = behind ls xs
+
+-- the turn of a leaf on its way in pieces
+pub record GoesIn (m : Machine) (s : Standing) (ps : List Piece) (s' : Standing) (e : Event) : Type 0 where
+  pub items : List Taken
+  pub goes : Goes m s items s' e
+  pub pieces : ps ≡ pieces_for goes.need (passed (settle goes.tree)) goes.loads items (behind goes.loads items)
+
+-- every other turn is one step
+pub record StepsIn (m : Machine) (s : Standing) (ps : List Piece) (s' : Standing) (e : Event) : Type 0 where
+  pub items : List Taken
+  pub turn : TurnBy s.stage m s items s' e
+  pub pieces : ps ≡ last_marked items
+
+abbrev pub TurnIn : Stage → Machine → Standing → List Piece → Standing → Event → Type 0
+TurnIn stage.Trying m s ps s' e = GoesIn m s ps s' e
+TurnIn _ m s ps s' e = StepsIn m s ps s' e
+
+-- how many events are among these pieces
+abbrev pub events_among : List Piece → ℕ
+events_among [] = 0
+events_among (Quiet x ∷ ps) = events_among ps
+events_among (Marked x ∷ ps) = suc (events_among ps)
+events_among (Wordless ∷ ps) = suc (events_among ps)
+
+-- Every turn of a run can be told in pieces: its items in order, with one event among them.
+pub record TurnsInPieces : Type 0 where
+  pub told : (m : Machine) (s s' : Standing) (xs : List Taken) (result : RunTurn) → IsTurn m s xs s' result
+      → (ps : List Piece) × TurnIn s.stage m s ps s' result.event × (taken_in ps ≡ xs)
+  pub one : (m : Machine) (s s' : Standing) (ps : List Piece) (e : Event) → TurnIn s.stage m s ps s' e → events_among ps ≡ 1
+
+-- a logical processor over words: its lines from the present one on, the run of that line's leaf once its first event is
+-- made, and its replies
+pub record WordLp : Type 0 where
+  pub lines : List Call
+  pub run : Option Standing
+  pub replies : List Reply
+
+abbrev pub first_lp : List Call → WordLp
+first_lp cs = record { lines = cs; run = None; replies = [] }
+
+abbrev pub running : Task → Option Standing → Standing
+running task None = standing (settle task.tree) stage.Trying [] None
+running task (Some s) = s
+
+abbrev pub after_turn : Call → List Call → List Reply → Standing → Option Reply → WordLp
+after_turn c cs rs s None = record { lines = c ∷ cs; run = Some s; replies = rs }
+after_turn c cs rs s (Some r) = record { lines = cs; run = None; replies = rs ++ r ∷ [] }
+
+-- a turn of the run of a processor's present line, in pieces
+pub record LineTurn (leaf : Call → Task) (m : Machine) (c : Call) (cs : List Call) (run : Option Standing) (rs : List Reply) (e : Event) (ps : List Piece) (after : WordLp) : Type 0 where
+  pub stands : Standing
+  pub turn : TurnIn (running (leaf c) run).stage m (running (leaf c) run) ps stands e
+  pub going : has_ended (running (leaf c) run).stage (running (leaf c) run).held ≡ false
+  pub after_is : after ≡ after_turn c cs rs stands (last_reply stands.stage stands.held)
+
+-- A processor with leaves for its calls makes this event in these pieces; none where it has no line left.
+abbrev pub LinesTurn : (Call → Task) → Machine → List Call → Option Standing → List Reply → Event → List Piece → WordLp → Type 0
+LinesTurn leaf m [] run rs e ps after = ⊥
+LinesTurn leaf m (c ∷ cs) run rs e ps after = LineTurn leaf m c cs run rs e ps after
+
+abbrev pub LpTurns : (Call → Task) → Machine → WordLp → Event → List Piece → WordLp → Type 0
+LpTurns leaf m p e ps q = LinesTurn leaf m p.lines p.run p.replies e ps q
+
+-- its own list over any number of turns, turn by turn
+abbrev pub OwnTurns : (Call → Task) → Machine → WordLp → List (List Piece) → WordLp → Type 0
+OwnTurns leaf m p [] q = p ≡ q
+OwnTurns leaf m p (ps ∷ pss) q = (e : Event) × ((r : WordLp) × LpTurns leaf m p e ps r × OwnTurns leaf m r pss q)

@@ -1,0 +1,11 @@
+//! Merges of the word steps of logical processors are runs of the flat machine.
+//!
+//! Stands on `leaf_engine`, whose one law of a leaf it takes for any table of leaves, and on the
+//! permissions of `word_rules`, `lock_words` and `act_rules`. A layer above may use `merge_law`: in
+//! whatever order the processors' word steps were made, the replies are those of the flat machine,
+//! run in the order in which their events stand there.
+#![tactic(auto)]
+
+mod laws;
+
+pub use laws::merge_law;
