@@ -12,7 +12,7 @@ use Rattle.flat_core.specs.Laws.{EveryWorldIsLawful, LocksExclude}
 use Rattle.word_rules.specs.Cells.{Shows, StartIsShown}
 use Rattle.leaf_engine.specs.Decides.{IsHand}
 use Rattle.leaf_engine.specs.Calls.{StartIsMet, no_memory, CallsBegin, IsStage, AreLocks}
-use Rattle.leaf_engine.proofs.Showing.{current-end, granted-end}
+use Rattle.leaf_engine.proofs.Showing.{current-end, granted-end, not-acted-end}
 
 pub calls-begin : CallsBegin
 calls-begin o task row w words lp line between =
@@ -22,7 +22,7 @@ calls-begin o task row w words lp line between =
       guest = between.guest;
       stage = subst (λ (c : Progress Reply). IsStage task.place.machine w stages.Trying c.phase) (sym between.call) tt;
       held = subst (λ (hs : List Held). AreLocks task.place.machine w [] hs) (sym none) refl;
-      told = λ e. record { told = []; current = current-end words task.tree; rest = refl; locks = subst (λ (hs : List Held). Rattle.leaf_engine.specs.Follows.granted task.tree [] [] ≡ hs) (sym none) (granted-end task.tree []) };
+      told = λ e. record { told = []; current = current-end words task.tree; waits = not-acted-end task.tree; rest = refl; locks = subst (λ (hs : List Held). Rattle.leaf_engine.specs.Follows.granted task.tree [] [] ≡ hs) (sym none) (granted-end task.tree []) };
     }
 
 none-below : (n : ℕ) → sum_below (λ p. 0) n ≡ 0

@@ -69,11 +69,12 @@ last-none r (y ∷ ys) x = refl
 pub settles : (o : Opening) (task : Task) (row : Row) (w : World) (mem : Memory) (lp : Lp) (cached : List Translation) (run : Standing) (reply : Option Reply) (ph : Phase Reply) (hs : List Held) (st : Stage)
     → IsLine o task.place.lp row lp → lp.guest ≡ None → run.stage ≡ st → IsStage task.place.machine w st ph → AreLocks task.place.machine w run.held hs
     → (st ≡ stages.Trying → IsTold task mem.words run hs) → (st ≡ stages.Trying → mem.hand ≡ None) → reply ≡ last_reply run.stage run.held
-    → GoesOn o task row w mem (settle ph hs (record lp { call = record { phase = ph; held = hs }; cached = cached })) run reply
+    → GoesOn o task row lp.replies w mem (settle ph hs (record lp { call = record { phase = ph; held = hs }; cached = cached })) run reply
     ⊎ IsOver lp.replies (settle ph hs (record lp { call = record { phase = ph; held = hs }; cached = cached })) reply
 settles o task row w mem lp cached run reply Trying hs stages.Trying line g e st held told hand r =
     inl (record {
       no_reply = r ∙ ap (λ (z : Stage). last_reply z run.held) e;
+      replies_are = refl;
       call = record { line = record { call = line.call; further = line.further; lines = line.lines; row_is = line.row_is }; guest = g; stage = subst (λ (z : Stage). IsStage task.place.machine w z Trying) (sym e) tt; held = held; told = λ t. told refl };
       empty_hand = λ t. hand refl;
     })
@@ -83,6 +84,7 @@ settles o task row w mem lp cached run reply (Undoing l) hs stages.Trying line g
 settles o task row w mem lp cached run reply (Undoing l) hs (stages.Undoing name at) line g e st held told hand r =
     inl (record {
       no_reply = r ∙ ap (λ (z : Stage). last_reply z run.held) e;
+      replies_are = refl;
       call = record { line = record { call = line.call; further = line.further; lines = line.lines; row_is = line.row_is }; guest = g; stage = subst (λ (z : Stage). IsStage task.place.machine w z (Undoing l)) (sym e) st; held = held; told = λ t. told (sym e ∙ t) };
       empty_hand = λ t. hand (sym e ∙ t);
     })
@@ -96,6 +98,7 @@ settles o task row w mem lp cached run reply (Answered a) (h ∷ hs) (stages.Ans
     let last : last_reply run.stage run.held ≡ None = ap (λ (z : Stage). last_reply z run.held) e ∙ (ap (λ (z : List HeldLock). last_reply (stages.Answered b) z) held.1.1 ∙ last-none b held.0 held.1.0) in
     inl (record {
       no_reply = r ∙ last;
+      replies_are = refl;
       call = record { line = record { call = line.call; further = line.further; lines = line.lines; row_is = line.row_is }; guest = g; stage = subst (λ (z : Stage). IsStage task.place.machine w z (Answered a)) (sym e) st; held = held; told = λ t. told (sym e ∙ t) };
       empty_hand = λ t. hand (sym e ∙ t);
     })
@@ -177,14 +180,14 @@ weight-small Exclusive = omega arith
 pub finish : (o : Opening) (task : Task) (row : Row) (s : State) (u : Table) (run : Standing) (reply : Option Reply) (mv : Move Reply) (mem : Memory) → next_event o s task.place.lp ≡ Some (OfCall row mv)
     → Shows task.place.machine mem.words mem.slots (event o s task.place.lp) → IsMemory task.place.machine u run.hasher mem
     → (let lp = settled (call_lp s.world (is_granted s (OfCall row mv)) row mv (s.lps task.place.lp)) in
-    GoesOn o task row (call_world row mv s.world) mem lp run reply ⊎ IsOver (s.lps task.place.lp).replies lp reply)
+    GoesOn o task row (s.lps task.place.lp).replies (call_world row mv s.world) mem lp run reply ⊎ IsOver (s.lps task.place.lp).replies lp reply)
     → After o task row (s.lps task.place.lp).replies (event o s task.place.lp) u run reply
 finish o task row s u run reply mv mem e sh mm x =
     let me = task.place.lp in
     let lp : Lp = settled (call_lp s.world (is_granted s (OfCall row mv)) row mv (s.lps me)) in
-    let at-lp : GoesOn o task row (call_world row mv s.world) mem ((stepped s me row mv).lps me) run reply ⊎ IsOver (s.lps me).replies ((stepped s me row mv).lps me) reply =
-    subst (λ (z : Lp). GoesOn o task row (call_world row mv s.world) mem z run reply ⊎ IsOver (s.lps me).replies z reply) (sym (lp-now s me lp)) x in
-    let at-state = subst (λ (z : State). GoesOn o task row z.world mem (z.lps me) run reply ⊎ IsOver (s.lps me).replies (z.lps me) reply) (sym (event-is o s me row mv e)) at-lp in
+    let at-lp : GoesOn o task row (s.lps task.place.lp).replies (call_world row mv s.world) mem ((stepped s me row mv).lps me) run reply ⊎ IsOver (s.lps me).replies ((stepped s me row mv).lps me) reply =
+    subst (λ (z : Lp). GoesOn o task row (s.lps task.place.lp).replies (call_world row mv s.world) mem z run reply ⊎ IsOver (s.lps me).replies z reply) (sym (lp-now s me lp)) x in
+    let at-state = subst (λ (z : State). GoesOn o task row (s.lps task.place.lp).replies z.world mem (z.lps me) run reply ⊎ IsOver (s.lps me).replies (z.lps me) reply) (sym (event-is o s me row mv e)) at-lp in
     record { mem = mem; shown = sh; memory = mm; then_ = at-state }
 
 -- a lock's word in memory

@@ -22,11 +22,11 @@ use Rattle.leaf_engine.specs.declared.needs.Need.TheVariants as need
 use Rattle.leaf_engine.specs.declared.events.Event.{Event}
 use Rattle.word_rules.specs.Views.{look}
 use Rattle.leaf_engine.specs.Changes.{Memory, Change, Put, PutHash, Raise, Clear, Copy, Swap, changed, changed_all}
-use Rattle.leaf_engine.specs.Trees.{Tree, Lock, Load, Test, End, Since, feed, settle, passed, changes_of}
+use Rattle.leaf_engine.specs.Trees.{Tree, Lock, Load, Test, End, Since, feed, settle, passed, changes_of, has_acted}
 use Rattle.leaf_engine.specs.Means.{Task, Instant, Work, work_of, hold, Locks, MayFillAll, MayOweAll, MayChange, LocksStay, acted}
 use Rattle.leaf_engine.specs.Decides.{Gives, IsHand}
 use Rattle.leaf_engine.specs.Items.{IsLoaded, AreChanged}
-use Rattle.leaf_engine.specs.Follows.{granted, Current, Comes}
+use Rattle.leaf_engine.specs.Follows.{granted, Current, NotActed, Comes}
 use Rattle.leaf_engine.specs.Tables.{IsMemory, AreChangesIn}
 use Rattle.leaf_engine.specs.Turns.{Comes as TurnComes, Standing, Tries, Ends, tried, denied, try_step, grants}
 use Rattle.leaf_engine.specs.Shown.{OnWay, locks_held, move_due, word_tried, lock_tried, TriesRow, EndsRow, TurnShows, TurnsShow}
@@ -109,6 +109,33 @@ granted-lock (Test true r t) told k mode hs h = granted-lock t told k mode hs h
 granted-lock (Test false r t) told k mode hs h = absurd h
 granted-lock (End r fs cs) told k mode hs h = absurd h
 granted-lock (Since r cs) told k mode hs h = absurd h
+
+-- a leaf that comes to a lock has not acted yet
+
+has-not-acted : (t : Tree) (told : List ℕ) (k : LockId) (mode : Mode) → IsLock (feed t told) k mode → has_acted t ≡ false
+has-not-acted (Lock l q m t) told k mode h = refl
+has-not-acted (Load v q f) told k mode h = refl
+has-not-acted (Test true r t) told k mode h = has-not-acted t told k mode h
+has-not-acted (Test false r t) told k mode h = absurd h
+has-not-acted (End r fs cs) told k mode h = absurd h
+has-not-acted (Since r cs) told k mode h = absurd h
+
+pub not-acted-end : (t : Tree) → NotActed t []
+not-acted-end (Lock l q m t) = tt
+not-acted-end (Load v q k) = tt
+not-acted-end (Test b r t) = λ e. not-acted-end t
+not-acted-end (End r fs cs) = tt
+not-acted-end (Since r cs) = tt
+
+not-acted-lock : (t : Tree) (told : List ℕ) (k : LockId) (mode : Mode) → IsLock (feed t told) k mode → NotActed t (told ++ 0 ∷ [])
+not-acted-lock (Lock l q m t) [] k mode h = not-acted-end t
+not-acted-lock (Lock l q m t) (y ∷ told) k mode h = not-acted-lock t told k mode h
+not-acted-lock (Load v q f) [] k mode h = absurd h
+not-acted-lock (Load v q f) (y ∷ told) k mode h = (has-not-acted (f (look v y)) told k mode h, not-acted-lock (f (look v y)) told k mode h)
+not-acted-lock (Test true r t) told k mode h = λ e. not-acted-lock t told k mode h
+not-acted-lock (Test false r t) told k mode h = absurd h
+not-acted-lock (End r fs cs) told k mode h = absurd h
+not-acted-lock (Since r cs) told k mode h = absurd h
 
 pub is-lock : (m : Machine) (c : Instant) (k : Work) (hs : List Held) (tree : Tree) (l : LockId) (mode : Mode) → Comes m c k hs tree (Attempts l mode) → (name : LockName) (at : ℕ) (mode' : Mode)
     → Gives m.pages tree (need.Lock name at mode') → IsLock tree l mode
@@ -229,6 +256,7 @@ tries-turn inj task c told t u s s' loads xs tree name at mode e on l g tr p =
             hand = on.memory.hand;
           });
       current = current-lock c.memory.words task.tree d.now to.lock mode d.current lock;
+      waits = not-acted-lock task.tree d.now to.lock mode lock;
       one_more = granted-lock task.tree d.now to.lock mode [] lock ∙ ap (λ (hs : List Held). record { lock = to.lock; mode = mode } ∷ hs) d.same_locks;
       rest = rest-is ∙ (ap passed here ∙ (passed-lock (feed task.tree d.now) to.lock mode lock ∙ feed-append task.tree d.now (0 ∷ [])));
       stage_is = subst (λ (z : ℕ). s'.stage ≡ (if grants mode tr.seen then s.stage else denied name z mode)) to.at_is stage-now;

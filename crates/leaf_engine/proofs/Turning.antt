@@ -127,7 +127,7 @@ frees ls o task row s mem t u run run' xs result r h hs sh ca ph he are st gb sa
     (λ z. cc) (λ z. cc) reply in
     finish o task row s u run' result.reply (Releases h) mem' e (step-shown ls o task row s mem t run (Releases h) l _ sh e tt refl it.stands value)
     (subst (λ (z : Option Measure). IsMemory m u z mem') (sym (ap (λ (z : Standing). z.hasher) same)) made)
-    (subst (λ (c : Progress Reply). let lp' = settled (record lp { call = record { phase = c.phase; held = Rattle.flat_core.specs.Row.but_newest c.held } }) in GoesOn o task row w mem' lp' run' result.reply ⊎ IsOver lp.replies lp' result.reply)
+    (subst (λ (c : Progress Reply). let lp' = settled (record lp { call = record { phase = c.phase; held = Rattle.flat_core.specs.Row.but_newest c.held } }) in GoesOn o task row lp.replies w mem' lp' run' result.reply ⊎ IsOver lp.replies lp' result.reply)
     (sym (call-is lp.call (Answered r) (h ∷ hs) ph he)) of-lp)
   where
     weights : (mode : Mode) → Rattle.step_core.specs.Locks.weight_of mode ≡ Rattle.lock_words.specs.LockWords.weight_of mode
@@ -201,6 +201,7 @@ tries ls o task row s mem t u run run' result name mode b means mean sh ca st tr
     let known : IsTold task mem'.words run' (record { lock = l; mode = mode } ∷ lp.call.held) = record {
       told = tr.now ++ 0 ∷ [];
       current = still-current ls.places task (instant task s mem) (tr.now ++ 0 ∷ []) (hold (instant task s mem) (locks_held task (ca.told st).told)) place (word_tried mode (mem.words place)) means (at-instant o task row s mem t run mean sh ca st) tr.stands.allowed tr.current;
+      waits = tr.waits;
       rest = tr.rest;
       locks = tr.one_more ∙ ap (λ (hs : List Held). record { lock = l; mode = mode } ∷ hs) (ca.told st).locks;
     } in
@@ -213,7 +214,7 @@ tries ls o task row s mem t u run run' result name mode b means mean sh ca st tr
         → IsLine o task.place.lp row lp → lp.guest ≡ None → run.stage ≡ stages.Trying → IsLockAt task.place.machine w name at l → AreLocks task.place.machine w run.held lp.call.held
         → IsTold task mem.words run' (record { lock = l; mode = mode } ∷ lp.call.held) → mem.hand ≡ None
         → run'.stage ≡ (if g then run.stage else denied name at mode) → run'.held ≡ (if g then run.held ++ record { name = name; at = at; mode = mode } ∷ [] else run.held) → reply ≡ last_reply run'.stage run'.held
-        → (let lp' = settled (record lp { call = Rattle.flat_core.specs.Row.after_try call_busy l mode g lp.call }) in GoesOn o task row w mem lp' run' reply ⊎ IsOver lp.replies lp' reply)
+        → (let lp' = settled (record lp { call = Rattle.flat_core.specs.Row.after_try call_busy l mode g lp.call }) in GoesOn o task row lp.replies w mem lp' run' reply ⊎ IsOver lp.replies lp' reply)
     after-try o task row w mem lp run run' reply l name at mode true line g st it held known hand stage held-is r =
         settles o task row w mem lp lp.cached run' reply Trying (record { lock = l; mode = mode } ∷ lp.call.held) stages.Trying line g (stage ∙ st) tt
         (run.held, (record { name = name; at = at; mode = mode }, held-is, refl, it, held)) (λ z. known) (λ z. hand) r
@@ -274,7 +275,7 @@ ends ls o task row s mem t u run run' result means mean sh ca st er reply = by e
         (subst (λ (z : List HeldLock). AreLocks task.place.machine (row.act s.world) z lp.call.held) (sym er.held_is) (locks-after task.place.machine s.world (row.act s.world) lp.call.held run.held stay ca.held))
         (λ z. cc) (λ z. cc) reply in
         finish o task row s u run' result.reply Succeeds er.after e (act-shown ls o task row s mem er.after t run sh e shown) er.memory
-        (subst (λ (en : Option Rattle.flat_core.specs.Processor.Entering). let lp' = settled (Rattle.flat_core.specs.Event.succeeded s.world row en lp) in GoesOn o task row (row.act s.world) er.after lp' run' result.reply ⊎ IsOver lp.replies lp' result.reply)
+        (subst (λ (en : Option Rattle.flat_core.specs.Processor.Entering). let lp' = settled (Rattle.flat_core.specs.Event.succeeded s.world row en lp) in GoesOn o task row lp.replies (row.act s.world) er.after lp' run' result.reply ⊎ IsOver lp.replies lp' result.reply)
         (sym none) of-lp)
 
 -- every turn

@@ -25,7 +25,7 @@ use Rattle.leaf_engine.specs.declared.events.Stage.TheVariants as stages
 use Rattle.leaf_engine.specs.Changes.{Memory}
 use Rattle.leaf_engine.specs.Trees.{feed, settle}
 use Rattle.leaf_engine.specs.Means.{Task, OfCall, MeansRow}
-use Rattle.leaf_engine.specs.Follows.{granted, Current}
+use Rattle.leaf_engine.specs.Follows.{granted, Current, NotActed}
 use Rattle.leaf_engine.specs.Tables.{IsMemory}
 use Rattle.leaf_engine.specs.Turns.{Standing, standing, IsTurn, has_ended}
 
@@ -52,6 +52,7 @@ IsStage m w _ _ = ⊥
 pub record IsTold (task : Task) (words : WordPlace → ℕ) (run : Standing) (held : List Held) : Type 0 where
   pub told : List ℕ
   pub current : Current words task.tree told
+  pub waits : NotActed task.tree told
   pub rest : run.rest ≡ feed task.tree told
   pub locks : granted task.tree told [] ≡ held
 
@@ -82,8 +83,9 @@ pub record IsShown (task : Task) (s : State) (mem : Memory) (t : Table) (run : S
   pub empty_hand : run.stage ≡ stages.Trying → mem.hand ≡ None
 
 -- it goes on, or its call is over, with its reply
-pub record GoesOn (o : Opening) (task : Task) (row : Row) (w : World) (mem : Memory) (lp : Lp) (run : Standing) (reply : Option Reply) : Type 0 where
+pub record GoesOn (o : Opening) (task : Task) (row : Row) (before : List Reply) (w : World) (mem : Memory) (lp : Lp) (run : Standing) (reply : Option Reply) : Type 0 where
   pub no_reply : reply ≡ None
+  pub replies_are : lp.replies ≡ before
   pub call : IsCallAt o task row w mem.words lp run
   pub empty_hand : run.stage ≡ stages.Trying → mem.hand ≡ None
 
@@ -98,7 +100,7 @@ pub record After (o : Opening) (task : Task) (row : Row) (before : List Reply) (
   pub mem : Memory
   pub shown : Shows task.place.machine mem.words mem.slots s
   pub memory : IsMemory task.place.machine u run.hasher mem
-  pub then_ : GoesOn o task row s.world mem (s.lps task.place.lp) run reply ⊎ IsOver before (s.lps task.place.lp) reply
+  pub then_ : GoesOn o task row before s.world mem (s.lps task.place.lp) run reply ⊎ IsOver before (s.lps task.place.lp) reply
 
 -- Over words that show a state, each turn of a call's run is the next event of its processor: the words show the state
 -- after that event, and the reply comes with the last one.

@@ -1,5 +1,5 @@
 -- Where a leaf stands against its row, while the words that it was told stand.
-use Rattle.std.specs.Prelude.{◌≡◌, ◌⊎◌, ℕ, true, if◌then◌else◌, List, [], ◌∷◌, length}
+use Rattle.std.specs.Prelude.{◌≡◌, ◌⊎◌, ℕ, true, false, if◌then◌else◌, List, [], ◌∷◌, length}
 use Rattle.td_words.specs.declared.machines.Machine.{Machine}
 use Rattle.td_words.specs.declared.replies.Reply.{Reply}
 use Rattle.td_words.specs.Place.{WordPlace, IsIn}
@@ -7,7 +7,7 @@ use Rattle.flat_core.specs.Processor.{Held}
 use Rattle.flat_core.specs.Row.{Move, Attempts, Refuses, Succeeds, next}
 use Rattle.word_rules.specs.Views.{look}
 use Rattle.leaf_engine.specs.Changes.{changed_all}
-use Rattle.leaf_engine.specs.Trees.{Tree, Lock, Load, Test, End, Since, feed}
+use Rattle.leaf_engine.specs.Trees.{Tree, Lock, Load, Test, End, Since, feed, has_acted}
 use Rattle.leaf_engine.specs.Means.{Task, Instant, IsAt, Work, work_of, hold, Locks, Loads, Acts, MayChange, MayOweAll, MeansRow}
 
 -- the locks that these answers say were granted, the newest first, before those held so far
@@ -29,6 +29,16 @@ Current words (Load v q k) (x ∷ xs) = (look v x ≡ look v (words q)) × Curre
 Current words (Test b r t) xs = b ≡ true → Current words t xs
 Current words (End r fs cs) xs = Unit {0}
 Current words (Since r cs) xs = Unit {0}
+
+-- none of the loads that it was told was its act
+abbrev pub NotActed : Tree → List ℕ → Type 0
+NotActed (Lock l q m t) [] = Unit {0}
+NotActed (Lock l q m t) (x ∷ xs) = NotActed t xs
+NotActed (Load v q k) [] = Unit {0}
+NotActed (Load v q k) (x ∷ xs) = (has_acted (k (look v x)) ≡ false) × NotActed (k (look v x)) xs
+NotActed (Test b r t) xs = b ≡ true → NotActed t xs
+NotActed (End r fs cs) xs = Unit {0}
+NotActed (Since r cs) xs = Unit {0}
 
 -- against the next move of its row: it comes to the lock that is tried, to a load, to the refusal, or to the act
 abbrev pub Comes : Machine → Instant → Work → List Held → Tree → Move Reply → Type 0

@@ -19,7 +19,7 @@ use Rattle.leaf_engine.specs.Changes.{Memory}
 use Rattle.lock_words.specs.LockWords.{put_word}
 use Rattle.leaf_engine.specs.Trees.{feed}
 use Rattle.leaf_engine.specs.Means.{Task, Instant, IsAt, work_of, Locks, LocksStay, acted, MeansRow}
-use Rattle.leaf_engine.specs.Follows.{granted, Current}
+use Rattle.leaf_engine.specs.Follows.{granted, Current, NotActed}
 use Rattle.leaf_engine.specs.Tables.{IsMemory}
 use Rattle.leaf_engine.specs.Turns.{Standing, Goes, grants, denied}
 
@@ -57,6 +57,7 @@ pub record TriesRow (task : Task) (c : Instant) (told : List ℕ) (u : Table) (s
   pub granted_by : b ≡ grants mode (c.memory.words (place_of c.state.world lock))
   pub memory : IsMemory task.place.machine u s'.hasher (lock_tried c.state.world lock mode c.memory)
   pub current : Current c.memory.words task.tree (now ++ 0 ∷ [])
+  pub waits : NotActed task.tree (now ++ 0 ∷ [])
   pub one_more : locks_held task (now ++ 0 ∷ []) ≡ record { lock = lock; mode = mode } ∷ locks_held task told
   pub rest : s'.rest ≡ feed task.tree (now ++ 0 ∷ [])
   pub stage_is : s'.stage ≡ (if b then s.stage else denied name (address task.place.machine.pages (place_of c.state.world lock)) mode)

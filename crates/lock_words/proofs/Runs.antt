@@ -140,10 +140,10 @@ lets-go o w p lp (c ∷ cs) e g h =
     let is : line_event o w lp (row_of o p c) lp.guest ≡ e = cc in
     subst (λ (x : Event). LetsGo lp x) is (subst (λ (z : Option Guest). LetsGo lp (line_event o w lp (row_of o p c) z)) (sym g) tt)
 
-small : (x n : ℕ) → n ≤ 8 → x ≤ 4 * n → x < 2 ^ 63
+small : (x n : ℕ) → n ≤ 8 → x ≤ 4 * n → x + 1 < 2 ^ 63
 small x n h k = omega (arith, h, k)
 
-low-bits : (o : Opening) (ws : Option (List ℕ)) (ps : List ℕ) (l : LockId) → length o.calls ≤ 8 → let s = play o ps (start o ws) in sharers s.lps s.lp_count l + refusals s.lps s.lp_count l < 2 ^ 63
+low-bits : (o : Opening) (ws : Option (List ℕ)) (ps : List ℕ) (l : LockId) → length o.calls ≤ 8 → let s = play o ps (start o ws) in sharers s.lps s.lp_count l + refusals s.lps s.lp_count l + 1 < 2 ^ 63
 low-bits o ws ps l most =
     let s : State = play o ps (start o ws) in
     let f = always-few o ws ps in
@@ -152,10 +152,13 @@ low-bits o ws ps l most =
     let c = f.count in
     small (sharers s.lps s.lp_count l + refusals s.lps s.lp_count l) s.lp_count (omega (arith, most, c)) (omega (arith, a, b))
 
+fewer : (x : ℕ) → x + 1 < 2 ^ 63 → x < 2 ^ 63
+fewer x h = omega (arith, h)
+
 pub runs-follow : RunsFollow
 runs-follow = record {
   few = low-bits;
-  told = λ o ws ps l most. lock-words-follow.shared (play o ps (start o ws)) l (low-bits o ws ps l most);
+  told = λ o ws ps l most. lock-words-follow.shared (play o ps (start o ws)) l (fewer (sharers (play o ps (start o ws)).lps (play o ps (start o ws)).lp_count l + refusals (play o ps (start o ws)).lps (play o ps (start o ws)).lp_count l) (low-bits o ws ps l most));
   next = λ o ws ps p e h.
       let s : State = play o ps (start o ws) in
       let f = always-few o ws ps in

@@ -153,7 +153,7 @@ pub record StartFollows : Type 0 where
 -- that it tells whether a shared try is granted; and in every run each next event is one that the words follow.
 pub record RunsFollow : Type 0 where
   pub few : (o : Opening) (words_to_tell : Option (List ℕ)) (schedule : List ℕ) (l : LockId) → length o.calls ≤ 8
-      → let s = reached o words_to_tell schedule in sharers s.lps s.lp_count l + refusals s.lps s.lp_count l < 2 ^ 63
+      → let s = reached o words_to_tell schedule in sharers s.lps s.lp_count l + refusals s.lps s.lp_count l + 1 < 2 ^ 63
   pub told : (o : Opening) (words_to_tell : Option (List ℕ)) (schedule : List ℕ) (l : LockId) → length o.calls ≤ 8
       → let s = reached o words_to_tell schedule in grants s.lps s.lp_count l Shared ≡ nat_lt (lock_word s.lps s.lp_count l) (2 ^ 63)
   pub next : (o : Opening) (words_to_tell : Option (List ℕ)) (schedule : List ℕ) (p : ℕ) (e : Event)
