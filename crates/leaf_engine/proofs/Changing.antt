@@ -24,7 +24,7 @@ by_test : {P : Type 0} (b : Bool) → (b ≡ true → P) → (b ≡ false → P)
 by_test true f g = f refl
 by_test false f g = g refl
 
-same_address : PlacesInjective → (m : Machine) (r q : WordPlace) → IsIn m r → IsIn m q → (address m.pages r == address m.pages q) ≡ same_place r q
+pub same_address : PlacesInjective → (m : Machine) (r q : WordPlace) → IsIn m r → IsIn m q → (address m.pages r == address m.pages q) ≡ same_place r q
 same_address inj m r q a b = by_test (same_place r q)
     (λ e. (let s : r ≡ q = (inj.same r q).0 e in eq-eqb _ _ (ap (address m.pages) s) ∙ sym e))
     (λ e. by_test (address m.pages r == address m.pages q)

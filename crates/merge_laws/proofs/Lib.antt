@@ -1,2 +1,4 @@
+pub mod Virtual
 pub mod Stores
 pub mod Holding
+pub mod Standing
