@@ -1,7 +1,8 @@
 -- Stores that are due: what processors have still to store, or what they would put back, laid over memory.
-use Rattle.std.proofs.Common.{◌≡◌, ℕ, zero, suc, ◌+◌, ◌%◌, ◌^◌, ◌<◌, Bool, true, false, ◌==◌, if◌then◌else◌, List, [], ◌∷◌, ◌++◌, Option, Some, None, refl, ap, sym, ◌∙◌, subst, inl, inr, arith}
+use Rattle.std.proofs.Common.{◌≡◌, ℕ, zero, suc, ◌+◌, ◌%◌, ◌^◌, ◌<◌, Bool, true, false, ◌==◌, ◌&&◌, if◌then◌else◌, List, [], ◌∷◌, ◌++◌, Option, Some, None, refl, ap, sym, ◌∙◌, subst, inl, inr, arith}
+use Rattle.std.proofs.lemmas.Bool.{eqb-true, eqb-false, eq-eqb, ne_eqb}
 use Rattle.td_words.specs.declared.machines.Machine.{Machine}
-use Rattle.td_words.specs.Place.{WordPlace, Word, IsIn, address, same_place}
+use Rattle.td_words.specs.Place.{WordPlace, Lock, Pamt, Word, Key, IsIn, address, same_place}
 use Rattle.td_words.specs.Laws.{PlacesInjective}
 use Rattle.mrtd_measure.specs.declared.measures.Measure.{Measure}
 use Rattle.flat_core.specs.World.{World}
@@ -12,7 +13,7 @@ use Rattle.word_rules.specs.Permissions.{Owes, Fills}
 use Rattle.lock_words.specs.LockWords.{put_word}
 use Rattle.step_core.specs.declared.steps.WordStep.TheVariants as step
 use Rattle.step_core.specs.Items.{Taken, Stepped}
-use Rattle.leaf_engine.specs.Changes.{Memory, Change, Put, PutHash, Raise, Clear, Copy, Swap, changed, changed_all, are_plain}
+use Rattle.leaf_engine.specs.Changes.{Memory, Change, Put, PutHash, Raise, Clear, Copy, Swap, put_page, changed, changed_all, is_plain, are_plain}
 use Rattle.leaf_engine.specs.Means.{MayFillAll, MayOweAll}
 use Rattle.leaf_engine.specs.Items.{AreChanged}
 
@@ -47,7 +48,7 @@ EachDue P [] = Unit {0}
 EachDue P (d ∷ ds) = P d.at × EachDue P ds
 
 -- the stores that changes are made in
-abbrev pub words_from : ℕ → ℕ → (ℕ → ℕ) → List Due
+unfoldable pub words_from : ℕ → ℕ → (ℕ → ℕ) → List Due
 words_from p zero xs = []
 words_from p (suc n) xs = words_from p n xs ++ due (Word p n) (xs n) ∷ []
 
@@ -72,36 +73,155 @@ AreStores n _ _ = ⊥
 -- laid over memory
 
 pub laid-none : (n : ℕ) (pend : ℕ → List Due) (a : WordPlace → ℕ) (r : WordPlace) → ((q : ℕ) → q < n → last_at (pend q) r ≡ None) → laid n pend a r ≡ a r
-laid-none n pend a r h = ?
+laid-none zero pend a r h = refl
+laid-none (suc n) pend a r h = rw (h n (omega arith)) (laid-none n pend a r (λ q l. h q (omega arith)))
 
 pub laid-one : (n p : ℕ) (pend : ℕ → List Due) (a : WordPlace → ℕ) (r : WordPlace) → p < n → ((q : ℕ) → q < n → (q == p) ≡ false → last_at (pend q) r ≡ None)
     → laid n pend a r ≡ or_else (last_at (pend p) r) (a r)
-laid-one n p pend a r b h = ?
+laid-one zero p pend a r b h = absurd (omega arith)
+laid-one (suc n) p pend a r b h = by (n == p) refl (λ l k. laid-one n p pend a r l k)
+  where
+    by : (t : Bool) → (n == p) ≡ t → (p < n → ((q : ℕ) → q < n → (q == p) ≡ false → last_at (pend q) r ≡ None) → laid n pend a r ≡ or_else (last_at (pend p) r) (a r))
+        → laid (suc n) pend a r ≡ or_else (last_at (pend p) r) (a r)
+    by true e below =
+        let s : n ≡ p = eqb-true n p e in
+        ap (λ (y : ℕ). or_else (last_at (pend n) r) y) (laid-none n pend a r (λ q l. h q (omega arith) (ne_eqb q p (λ z. omega arith))))
+        ∙ ap (λ (k : ℕ). or_else (last_at (pend k) r) (a r)) s
+    by false e below =
+        let s : n ≡ p → ⊥ = eqb-false n p e in
+        rw (h n (omega arith) e) (below (omega arith) (λ q l. h q (omega arith)))
 
 pub laid-same : (n : ℕ) (pend pend' : ℕ → List Due) (a b : WordPlace → ℕ) (r : WordPlace) → ((q : ℕ) → q < n → last_at (pend q) r ≡ last_at (pend' q) r) → a r ≡ b r
     → laid n pend a r ≡ laid n pend' b r
-laid-same n pend pend' a b r h e = ?
+laid-same zero pend pend' a b r h e = e
+laid-same (suc n) pend pend' a b r h e = rw (h n (omega arith), laid-same n pend pend' a b r (λ q l. h q (omega arith)) e) refl
+
+and-false : (b : Bool) → (b && false) ≡ false
+and-false true = refl
+and-false false = refl
+
+later-none : (x : Option ℕ) → later x None ≡ x
+later-none (Some x) = refl
+later-none None = refl
+
+later-later : (x y z : Option ℕ) → later (later x y) z ≡ later x (later y z)
+later-later (Some x) y z = refl
+later-later None y z = refl
 
 pub last-append : (xs ys : List Due) (r : WordPlace) → last_at (xs ++ ys) r ≡ later (last_at ys r) (last_at xs r)
-last-append xs ys r = ?
+last-append [] ys r = sym (later-none (last_at ys r))
+last-append (d ∷ xs) ys r = rw (last-append xs ys r) (later-later (last_at ys r) (last_at xs r) (if same_place r d.at then Some d.word else None))
 
 -- a list of stores at a place of each of which P holds
 pub last-each : PlacesInjective → (P : WordPlace → Type 0) (ds : List Due) (r : WordPlace) (x : ℕ) → EachDue P ds → last_at ds r ≡ Some x → P r
-last-each inj P ds r x e h = ?
+last-each inj P [] r x e h = cc
+last-each inj P (d ∷ ds) r x e h = by (last_at ds r) refl (same_place r d.at) refl (λ y f. last-each inj P ds r y e.1 f)
+  where
+    by : (o : Option ℕ) → last_at ds r ≡ o → (t : Bool) → same_place r d.at ≡ t → ((y : ℕ) → last_at ds r ≡ Some y → P r) → P r
+    by (Some y) f t g further = further y f
+    by None f true g further = subst P (sym ((inj.same r d.at).0 g)) e.0
+    by None f false g further =
+        let k : last_at (d ∷ ds) r ≡ None = rw (f, g) refl in
+        cc
 
 pub each-append : (P : WordPlace → Type 0) (xs ys : List Due) → EachDue P xs → EachDue P ys → EachDue P (xs ++ ys)
-each-append P xs ys a b = ?
+each-append P [] ys a b = b
+each-append P (d ∷ xs) ys a b = (a.0, each-append P xs ys a.1 b)
 
 pub each-map : (P Q : WordPlace → Type 0) (ds : List Due) → ((q : WordPlace) → P q → Q q) → EachDue P ds → EachDue Q ds
-each-map P Q ds f e = ?
+each-map P Q [] f e = tt
+each-map P Q (d ∷ ds) f e = (f d.at e.0, each-map P Q ds f e.1)
+
+-- the words of a page
+
+words-at : (p n : ℕ) (xs : ℕ → ℕ) (i : ℕ) → i < n → last_at (words_from p n xs) (Word p i) ≡ Some (xs i)
+unfolding words_from
+words-at p zero xs i l = absurd (omega arith)
+words-at p (suc n) xs i l = last-append (words_from p n xs) (due (Word p n) (xs n) ∷ []) (Word p i) ∙ by (i == n) refl (λ k. words-at p n xs i k)
+  where
+    by : (t : Bool) → (i == n) ≡ t → (i < n → last_at (words_from p n xs) (Word p i) ≡ Some (xs i))
+        → later (last_at (due (Word p n) (xs n) ∷ []) (Word p i)) (last_at (words_from p n xs) (Word p i)) ≡ Some (xs i)
+    by true e further =
+        let s : i ≡ n = eqb-true i n e in
+        rw (e, eq-eqb p p refl) (ap (λ (k : ℕ). Some (xs k)) (sym s))
+    by false e further =
+        let s : i ≡ n → ⊥ = eqb-false i n e in
+        rw (e, and-false (p == p)) (further (omega arith))
+
+words-else : (p n : ℕ) (xs : ℕ → ℕ) (r : WordPlace) → ((i : ℕ) → i < n → same_place r (Word p i) ≡ false) → last_at (words_from p n xs) r ≡ None
+unfolding words_from
+words-else p zero xs r h = refl
+words-else p (suc n) xs r h = last-append (words_from p n xs) (due (Word p n) (xs n) ∷ []) r ∙ rw (h n (omega arith)) (words-else p n xs r (λ i l. h i (omega arith)))
+
+words-each : (P : WordPlace → Type 0) (p n : ℕ) (xs : ℕ → ℕ) → ((i : ℕ) → i < n → P (Word p i)) → EachDue P (words_from p n xs)
+unfolding words_from
+words-each P p zero xs h = tt
+words-each P p (suc n) xs h = each-append P (words_from p n xs) (due (Word p n) (xs n) ∷ []) (words-each P p n xs (λ i l. h i (omega arith))) (h n (omega arith), tt)
+
+-- a page's new words are their stores laid over memory
+page-is : (m : Machine) (words : WordPlace → ℕ) (p : ℕ) (xs : ℕ → ℕ) (r : WordPlace) → IsIn m r → put_page words p xs r ≡ or_else (last_at (words_from p 512 xs) r) (words r)
+page-is m words p xs (Lock q) i = rw (words-else p 512 xs (Lock q) (λ j l. refl)) refl
+page-is m words p xs (Pamt q) i = rw (words-else p 512 xs (Pamt q) (λ j l. refl)) refl
+page-is m words p xs (Key k) i = rw (words-else p 512 xs (Key k) (λ j l. refl)) refl
+page-is m words p xs (Word q j) i = by (q == p) refl
+  where
+    by : (t : Bool) → (q == p) ≡ t → put_page words p xs (Word q j) ≡ or_else (last_at (words_from p 512 xs) (Word q j)) (words (Word q j))
+    by true e =
+        let s : q ≡ p = eqb-true q p e in
+        let w : last_at (words_from p 512 xs) (Word q j) ≡ Some (xs j) = ap (λ (k : ℕ). last_at (words_from p 512 xs) (Word k j)) s ∙ words-at p 512 xs j i.1 in
+        rw (e, w) refl
+    by false e = rw (e, words-else p 512 xs (Word q j) (λ k l. rw e refl)) refl
+
+or-test : (b : Bool) (x y : ℕ) → (if b then x else y) ≡ or_else (if b then Some x else None) y
+or-test true x y = refl
+or-test false x y = refl
+
+-- what one change makes of memory
+one-is : (m : Machine) (c : Change) (mem : Memory) (r : WordPlace) → IsIn m r → is_plain c ≡ true → (changed c mem).words r ≡ or_else (last_at (stores_of c mem) r) (mem.words r)
+one-is m (Put q x) mem r i pl = or-test (same_place r q) x (mem.words r)
+one-is m (PutHash q x) mem r i pl = or-test (same_place r q) (x mem.hand) (mem.words r)
+one-is m (Raise q) mem r i pl = or-test (same_place r q) ((mem.words q + 1) % 2 ^ 64) (mem.words r)
+one-is m (Clear p) mem r i pl = page-is m mem.words p (λ j. 0) r i
+one-is m (Copy p q) mem r i pl = page-is m mem.words q (λ j. mem.words (Word p j)) r i
+one-is m (Swap h made) mem r i pl = cc
+
+or-later : (a b : Option ℕ) (y : ℕ) → or_else (later a b) y ≡ or_else a (or_else b y)
+or-later (Some x) b y = refl
+or-later None b y = refl
+
+plain-one : (c : Change) (cs : List Change) → are_plain (c ∷ cs) ≡ true → is_plain c ≡ true
+plain-one c cs pl = by (is_plain c) pl
+  where
+    by : (t : Bool) → (t && are_plain cs) ≡ true → t ≡ true
+    by true e = refl
+    by false e = e
+
+plain-rest : (c : Change) (cs : List Change) → are_plain (c ∷ cs) ≡ true → are_plain cs ≡ true
+plain-rest c cs pl = by (is_plain c) pl
+  where
+    by : (t : Bool) → (t && are_plain cs) ≡ true → are_plain cs ≡ true
+    by true e = e
+    by false e = cc
 
 -- what changes make of memory is their stores laid over it
 pub changed-is : PlacesInjective → (m : Machine) (cs : List Change) (mem : Memory) (r : WordPlace) → IsIn m r → are_plain cs ≡ true → (changed_all cs mem).words r ≡ or_else (last_at (all_stores cs mem) r) (mem.words r)
-changed-is inj m cs mem r i pl = ?
+changed-is inj m [] mem r i pl = refl
+changed-is inj m (c ∷ cs) mem r i pl =
+    let after : Option ℕ = last_at (all_stores cs (changed c mem)) r in
+    changed-is inj m cs (changed c mem) r i (plain-rest c cs pl)
+    ∙ (ap (λ (y : ℕ). or_else after y) (one-is m c mem r i (plain-one c cs pl))
+    ∙ (sym (or-later after (last_at (stores_of c mem) r) (mem.words r))
+    ∙ ap (λ (o : Option ℕ). or_else o (mem.words r)) (sym (last-append (stores_of c mem) (all_stores cs (changed c mem)) r))))
 
 -- and leaves slots and the hand
 pub changed-rest : (cs : List Change) (mem : Memory) → are_plain cs ≡ true → ((changed_all cs mem).slots ≡ mem.slots) × ((changed_all cs mem).hand ≡ mem.hand)
-changed-rest cs mem pl = ?
+changed-rest [] mem pl = (refl, refl)
+changed-rest (Put q x ∷ cs) mem pl = changed-rest cs (changed (Put q x) mem) pl
+changed-rest (PutHash q x ∷ cs) mem pl = cc
+changed-rest (Raise q ∷ cs) mem pl = changed-rest cs (changed (Raise q) mem) pl
+changed-rest (Clear p ∷ cs) mem pl = changed-rest cs (changed (Clear p) mem) pl
+changed-rest (Copy p q ∷ cs) mem pl = changed-rest cs (changed (Copy p q) mem) pl
+changed-rest (Swap h made ∷ cs) mem pl = cc
 
 -- stores that are allowed, each at its place
 abbrev pub OwesAt : Machine → Grip → World → WordPlace → Type 0
