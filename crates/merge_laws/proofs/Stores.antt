@@ -1,7 +1,9 @@
 -- Stores that are due: what processors have still to store, or what they would put back, laid over memory.
-use Rattle.std.proofs.Common.{◌≡◌, ℕ, zero, suc, ◌+◌, ◌%◌, ◌^◌, ◌<◌, Bool, true, false, ◌==◌, if◌then◌else◌, List, [], ◌∷◌, ◌++◌, Option, Some, None, refl, ap, sym, ◌∙◌, subst, inl, inr, arith}
+use Rattle.std.proofs.Common.{◌≡◌, ℕ, zero, suc, ◌+◌, ◌%◌, ◌^◌, ◌<◌, Bool, true, false, ◌==◌, if◌then◌else◌, List, [], ◌∷◌, ◌++◌, Option, Some, None, refl, ap, sym, ◌∙◌, subst, arith}
+use Rattle.std.proofs.lemmas.Bool.{eqb-true, eqb-false, eq-eqb, ne_eqb, and_parts, and_right}
 use Rattle.td_words.specs.declared.machines.Machine.{Machine}
-use Rattle.td_words.specs.Place.{WordPlace, Word, IsIn, address, same_place}
+use Rattle.td_words.specs.Address.{word_at}
+use Rattle.td_words.specs.Place.{WordPlace, Lock, Pamt, Word, Key, IsIn, address, same_place}
 use Rattle.td_words.specs.Laws.{PlacesInjective}
 use Rattle.mrtd_measure.specs.declared.measures.Measure.{Measure}
 use Rattle.flat_core.specs.World.{World}
@@ -11,10 +13,14 @@ use Rattle.word_rules.specs.Views.{look, IsKept}
 use Rattle.word_rules.specs.Permissions.{Owes, Fills}
 use Rattle.lock_words.specs.LockWords.{put_word}
 use Rattle.step_core.specs.declared.steps.WordStep.TheVariants as step
-use Rattle.step_core.specs.Items.{Taken, Stepped}
-use Rattle.leaf_engine.specs.Changes.{Memory, Change, Put, PutHash, Raise, Clear, Copy, Swap, changed, changed_all, are_plain}
-use Rattle.leaf_engine.specs.Means.{MayFillAll, MayOweAll}
-use Rattle.leaf_engine.specs.Items.{AreChanged}
+use Rattle.step_core.specs.Items.{Taken, Stepped, Swapped, Missed}
+use Rattle.step_core.specs.Pages.{clearing}
+use Rattle.leaf_engine.specs.Changes.{Memory, Change, Put, PutHash, Raise, Clear, Copy, Swap, put_page, changed, changed_all, is_plain, are_plain}
+use Rattle.leaf_engine.specs.Means.{MayFillAll, MayOwe, MayOweAll}
+use Rattle.leaf_engine.specs.declared.needs.Write.{Write}
+use Rattle.leaf_engine.specs.declared.needs.Write.TheVariants as write
+use Rattle.leaf_engine.specs.Decides.{IsHand}
+use Rattle.leaf_engine.specs.Items.{IsWritten, IsChanged, AreChanged}
 
 pub record Due : Type 0 where
   pub at : WordPlace
@@ -47,7 +53,7 @@ EachDue P [] = Unit {0}
 EachDue P (d ∷ ds) = P d.at × EachDue P ds
 
 -- the stores that changes are made in
-abbrev pub words_from : ℕ → ℕ → (ℕ → ℕ) → List Due
+unfoldable pub words_from : ℕ → ℕ → (ℕ → ℕ) → List Due
 words_from p zero xs = []
 words_from p (suc n) xs = words_from p n xs ++ due (Word p n) (xs n) ∷ []
 
@@ -72,36 +78,137 @@ AreStores n _ _ = ⊥
 -- laid over memory
 
 pub laid-none : (n : ℕ) (pend : ℕ → List Due) (a : WordPlace → ℕ) (r : WordPlace) → ((q : ℕ) → q < n → last_at (pend q) r ≡ None) → laid n pend a r ≡ a r
-laid-none n pend a r h = ?
+laid-none zero pend a r h = refl
+laid-none (suc n) pend a r h = rw (h n (omega arith)) (laid-none n pend a r (λ q l. h q (omega arith)))
 
 pub laid-one : (n p : ℕ) (pend : ℕ → List Due) (a : WordPlace → ℕ) (r : WordPlace) → p < n → ((q : ℕ) → q < n → (q == p) ≡ false → last_at (pend q) r ≡ None)
     → laid n pend a r ≡ or_else (last_at (pend p) r) (a r)
-laid-one n p pend a r b h = ?
+laid-one zero p pend a r b h = absurd (omega arith)
+laid-one (suc n) p pend a r b h = by (n == p) refl (λ l k. laid-one n p pend a r l k)
+  where
+    by : (t : Bool) → (n == p) ≡ t → (p < n → ((q : ℕ) → q < n → (q == p) ≡ false → last_at (pend q) r ≡ None) → laid n pend a r ≡ or_else (last_at (pend p) r) (a r))
+        → laid (suc n) pend a r ≡ or_else (last_at (pend p) r) (a r)
+    by true e below =
+        let s : n ≡ p = eqb-true n p e in
+        ap (λ (y : ℕ). or_else (last_at (pend n) r) y) (laid-none n pend a r (λ q l. h q (omega arith) (ne_eqb q p (λ z. omega arith))))
+        ∙ ap (λ (k : ℕ). or_else (last_at (pend k) r) (a r)) s
+    by false e below =
+        let s : n ≡ p → ⊥ = eqb-false n p e in
+        rw (h n (omega arith) e) (below (omega arith) (λ q l. h q (omega arith)))
 
 pub laid-same : (n : ℕ) (pend pend' : ℕ → List Due) (a b : WordPlace → ℕ) (r : WordPlace) → ((q : ℕ) → q < n → last_at (pend q) r ≡ last_at (pend' q) r) → a r ≡ b r
     → laid n pend a r ≡ laid n pend' b r
-laid-same n pend pend' a b r h e = ?
+laid-same zero pend pend' a b r h e = e
+laid-same (suc n) pend pend' a b r h e = rw (h n (omega arith), laid-same n pend pend' a b r (λ q l. h q (omega arith)) e) refl
+
+later-none : (x : Option ℕ) → later x None ≡ x
+later-none (Some x) = refl
+later-none None = refl
+
+later-later : (x y z : Option ℕ) → later (later x y) z ≡ later x (later y z)
+later-later (Some x) y z = refl
+later-later None y z = refl
 
 pub last-append : (xs ys : List Due) (r : WordPlace) → last_at (xs ++ ys) r ≡ later (last_at ys r) (last_at xs r)
-last-append xs ys r = ?
+last-append [] ys r = sym (later-none (last_at ys r))
+last-append (d ∷ xs) ys r = rw (last-append xs ys r) (later-later (last_at ys r) (last_at xs r) (if same_place r d.at then Some d.word else None))
 
 -- a list of stores at a place of each of which P holds
 pub last-each : PlacesInjective → (P : WordPlace → Type 0) (ds : List Due) (r : WordPlace) (x : ℕ) → EachDue P ds → last_at ds r ≡ Some x → P r
-last-each inj P ds r x e h = ?
+last-each inj P [] r x e h = cc
+last-each inj P (d ∷ ds) r x e h = by (last_at ds r) refl (same_place r d.at) refl (λ y f. last-each inj P ds r y e.1 f)
+  where
+    by : (o : Option ℕ) → last_at ds r ≡ o → (t : Bool) → same_place r d.at ≡ t → ((y : ℕ) → last_at ds r ≡ Some y → P r) → P r
+    by (Some y) f t g further = further y f
+    by None f true g further = subst P (sym ((inj.same r d.at).0 g)) e.0
+    by None f false g further =
+        let k : last_at (d ∷ ds) r ≡ None = rw (f, g) refl in
+        cc
 
 pub each-append : (P : WordPlace → Type 0) (xs ys : List Due) → EachDue P xs → EachDue P ys → EachDue P (xs ++ ys)
-each-append P xs ys a b = ?
+each-append P [] ys a b = b
+each-append P (d ∷ xs) ys a b = (a.0, each-append P xs ys a.1 b)
 
 pub each-map : (P Q : WordPlace → Type 0) (ds : List Due) → ((q : WordPlace) → P q → Q q) → EachDue P ds → EachDue Q ds
-each-map P Q ds f e = ?
+each-map P Q [] f e = tt
+each-map P Q (d ∷ ds) f e = (f d.at e.0, each-map P Q ds f e.1)
+
+-- the words of a page
+
+words-at : (p n : ℕ) (xs : ℕ → ℕ) (i : ℕ) → i < n → last_at (words_from p n xs) (Word p i) ≡ Some (xs i)
+unfolding words_from
+words-at p zero xs i l = absurd (omega arith)
+words-at p (suc n) xs i l = last-append (words_from p n xs) (due (Word p n) (xs n) ∷ []) (Word p i) ∙ by (i == n) refl (λ k. words-at p n xs i k)
+  where
+    by : (t : Bool) → (i == n) ≡ t → (i < n → last_at (words_from p n xs) (Word p i) ≡ Some (xs i))
+        → later (last_at (due (Word p n) (xs n) ∷ []) (Word p i)) (last_at (words_from p n xs) (Word p i)) ≡ Some (xs i)
+    by true e further =
+        let s : i ≡ n = eqb-true i n e in
+        rw (e, eq-eqb p p refl) (ap (λ (k : ℕ). Some (xs k)) (sym s))
+    by false e further =
+        let s : i ≡ n → ⊥ = eqb-false i n e in
+        rw (e, and_right (p == p) false refl) (further (omega arith))
+
+words-else : (p n : ℕ) (xs : ℕ → ℕ) (r : WordPlace) → ((i : ℕ) → i < n → same_place r (Word p i) ≡ false) → last_at (words_from p n xs) r ≡ None
+unfolding words_from
+words-else p zero xs r h = refl
+words-else p (suc n) xs r h = last-append (words_from p n xs) (due (Word p n) (xs n) ∷ []) r ∙ rw (h n (omega arith)) (words-else p n xs r (λ i l. h i (omega arith)))
+
+words-each : (P : WordPlace → Type 0) (p n : ℕ) (xs : ℕ → ℕ) → ((i : ℕ) → i < n → P (Word p i)) → EachDue P (words_from p n xs)
+unfolding words_from
+words-each P p zero xs h = tt
+words-each P p (suc n) xs h = each-append P (words_from p n xs) (due (Word p n) (xs n) ∷ []) (words-each P p n xs (λ i l. h i (omega arith))) (h n (omega arith), tt)
+
+-- a page's new words are their stores laid over memory
+page-is : (m : Machine) (words : WordPlace → ℕ) (p : ℕ) (xs : ℕ → ℕ) (r : WordPlace) → IsIn m r → put_page words p xs r ≡ or_else (last_at (words_from p 512 xs) r) (words r)
+page-is m words p xs (Lock q) i = rw (words-else p 512 xs (Lock q) (λ j l. refl)) refl
+page-is m words p xs (Pamt q) i = rw (words-else p 512 xs (Pamt q) (λ j l. refl)) refl
+page-is m words p xs (Key k) i = rw (words-else p 512 xs (Key k) (λ j l. refl)) refl
+page-is m words p xs (Word q j) i = by (q == p) refl
+  where
+    by : (t : Bool) → (q == p) ≡ t → put_page words p xs (Word q j) ≡ or_else (last_at (words_from p 512 xs) (Word q j)) (words (Word q j))
+    by true e =
+        let s : q ≡ p = eqb-true q p e in
+        let w : last_at (words_from p 512 xs) (Word q j) ≡ Some (xs j) = ap (λ (k : ℕ). last_at (words_from p 512 xs) (Word k j)) s ∙ words-at p 512 xs j i.1 in
+        rw (e, w) refl
+    by false e = rw (e, words-else p 512 xs (Word q j) (λ k l. rw e refl)) refl
+
+or-test : (b : Bool) (x y : ℕ) → (if b then x else y) ≡ or_else (if b then Some x else None) y
+or-test true x y = refl
+or-test false x y = refl
+
+-- what one change makes of memory
+one-is : (m : Machine) (c : Change) (mem : Memory) (r : WordPlace) → IsIn m r → is_plain c ≡ true → (changed c mem).words r ≡ or_else (last_at (stores_of c mem) r) (mem.words r)
+one-is m (Put q x) mem r i pl = or-test (same_place r q) x (mem.words r)
+one-is m (PutHash q x) mem r i pl = or-test (same_place r q) (x mem.hand) (mem.words r)
+one-is m (Raise q) mem r i pl = or-test (same_place r q) ((mem.words q + 1) % 2 ^ 64) (mem.words r)
+one-is m (Clear p) mem r i pl = page-is m mem.words p (λ j. 0) r i
+one-is m (Copy p q) mem r i pl = page-is m mem.words q (λ j. mem.words (Word p j)) r i
+one-is m (Swap h made) mem r i pl = cc
+
+or-later : (a b : Option ℕ) (y : ℕ) → or_else (later a b) y ≡ or_else a (or_else b y)
+or-later (Some x) b y = refl
+or-later None b y = refl
 
 -- what changes make of memory is their stores laid over it
 pub changed-is : PlacesInjective → (m : Machine) (cs : List Change) (mem : Memory) (r : WordPlace) → IsIn m r → are_plain cs ≡ true → (changed_all cs mem).words r ≡ or_else (last_at (all_stores cs mem) r) (mem.words r)
-changed-is inj m cs mem r i pl = ?
+changed-is inj m [] mem r i pl = refl
+changed-is inj m (c ∷ cs) mem r i pl =
+    let after : Option ℕ = last_at (all_stores cs (changed c mem)) r in
+    changed-is inj m cs (changed c mem) r i (and_parts (is_plain c) (are_plain cs) pl).1
+    ∙ (ap (λ (y : ℕ). or_else after y) (one-is m c mem r i (and_parts (is_plain c) (are_plain cs) pl).0)
+    ∙ (sym (or-later after (last_at (stores_of c mem) r) (mem.words r))
+    ∙ ap (λ (o : Option ℕ). or_else o (mem.words r)) (sym (last-append (stores_of c mem) (all_stores cs (changed c mem)) r))))
 
 -- and leaves slots and the hand
 pub changed-rest : (cs : List Change) (mem : Memory) → are_plain cs ≡ true → ((changed_all cs mem).slots ≡ mem.slots) × ((changed_all cs mem).hand ≡ mem.hand)
-changed-rest cs mem pl = ?
+changed-rest [] mem pl = (refl, refl)
+changed-rest (Put q x ∷ cs) mem pl = changed-rest cs (changed (Put q x) mem) pl
+changed-rest (PutHash q x ∷ cs) mem pl = cc
+changed-rest (Raise q ∷ cs) mem pl = changed-rest cs (changed (Raise q) mem) pl
+changed-rest (Clear p ∷ cs) mem pl = changed-rest cs (changed (Clear p) mem) pl
+changed-rest (Copy p q ∷ cs) mem pl = changed-rest cs (changed (Copy p q) mem) pl
+changed-rest (Swap h made ∷ cs) mem pl = cc
 
 -- stores that are allowed, each at its place
 abbrev pub OwesAt : Machine → Grip → World → WordPlace → Type 0
@@ -111,23 +218,117 @@ abbrev pub FillsAt : Machine → Grip → World → WordPlace → Type 0
 FillsAt m g w q = IsIn m q × Fills g w q
 
 pub owed-stores : (m : Machine) (g : Grip) (w : World) (mem : Memory) (cs : List Change) → MayOweAll m g w mem cs → are_plain cs ≡ true → EachDue (OwesAt m g w) (all_stores cs mem)
-owed-stores m g w mem cs may pl = ?
+owed-stores m g w mem [] may pl = tt
+owed-stores m g w mem (Put q x ∷ cs) may pl = ((may.0.0, (may.0.1.0, may.0.1.1)), owed-stores m g w (changed (Put q x) mem) cs may.1 pl)
+owed-stores m g w mem (PutHash q x ∷ cs) may pl = cc
+owed-stores m g w mem (Raise q ∷ cs) may pl = absurd may.0
+owed-stores m g w mem (Clear p ∷ cs) may pl = each-append (OwesAt m g w) (words_from p 512 (λ i. 0)) (all_stores cs (changed (Clear p) mem))
+    (words-each (OwesAt m g w) p 512 (λ i. 0) (λ i l. ((may.0.0, l), (KeepsNothing, may.0.1 i l))))
+    (owed-stores m g w (changed (Clear p) mem) cs may.1 pl)
+owed-stores m g w mem (Copy p q ∷ cs) may pl = absurd may.0
+owed-stores m g w mem (Swap h made ∷ cs) may pl = cc
 
 pub filled-stores : (m : Machine) (g : Grip) (w : World) (mem : Memory) (fs : List Change) → MayFillAll m g w fs → EachDue (FillsAt m g w) (all_stores fs mem)
-filled-stores m g w mem fs may = ?
+filled-stores m g w mem [] may = tt
+filled-stores m g w mem (Put q x ∷ fs) may = (may.0, filled-stores m g w (changed (Put q x) mem) fs may.1)
+filled-stores m g w mem (PutHash q x ∷ fs) may = absurd may.0
+filled-stores m g w mem (Raise q ∷ fs) may = absurd may.0
+filled-stores m g w mem (Clear p ∷ fs) may = each-append (FillsAt m g w) (words_from p 512 (λ i. 0)) (all_stores fs (changed (Clear p) mem))
+    (words-each (FillsAt m g w) p 512 (λ i. 0) (λ i l. ((may.0.0, l), may.0.1 i l)))
+    (filled-stores m g w (changed (Clear p) mem) fs may.1)
+filled-stores m g w mem (Copy p q ∷ fs) may = each-append (FillsAt m g w) (words_from q 512 (λ i. mem.words (Word p i))) (all_stores fs (changed (Copy p q) mem))
+    (words-each (FillsAt m g w) q 512 (λ i. mem.words (Word p i)) (λ i l. ((may.0.1, l), may.0.4 i l)))
+    (filled-stores m g w (changed (Copy p q) mem) fs may.1)
+filled-stores m g w mem (Swap h made ∷ fs) may = absurd may.0
+
+are-append : (n : ℕ) (xs ys : List Taken) (ds es : List Due) → AreStores n xs ds → AreStores n ys es → AreStores n (xs ++ ys) (ds ++ es)
+are-append n [] ys [] es a b = b
+are-append n [] ys (d ∷ ds) es a b = absurd a
+are-append n (Stepped s z ∷ xs) ys [] es a b = absurd a
+are-append n (Stepped s z ∷ xs) ys (d ∷ ds) es a b = (a.0, are-append n xs ys ds es a.1 b)
+are-append n (Swapped k put taken ∷ xs) ys ds es a b = absurd a
+are-append n (Missed k ∷ xs) ys ds es a b = absurd a
+
+clears-are : (pages p n : ℕ) → AreStores pages (clearing p n) (words_from p n (λ i. 0))
+unfolding clearing words_from
+clears-are pages p zero = tt
+clears-are pages p (suc n) =
+    are-append pages (clearing p n) (Stepped (step.Store (word_at p n) 0) 0 ∷ []) (words_from p n (λ i. 0)) (due (Word p n) 0 ∷ []) (clears-are pages p n) (refl, tt)
+
+none-is : (h : Option Measure) → IsHand h None → h ≡ None
+none-is None i = refl
+none-is (Some h) i = absurd i
+
+-- the items of one change
+one-items : (m : Machine) (g : Grip) (w : World) (mem : Memory) (c : Change) (h' : Option Measure) (xs : List Taken) → MayOwe m g w mem c → is_plain c ≡ true → IsChanged m c None xs h'
+    → (h' ≡ None) × AreStores m.pages xs (stores_of c mem)
+one-items m g w mem (Put q x) h' xs may pl ch =
+    let handed = ch.handed None tt in
+    let written : IsWritten (write.Word (step.Store (address m.pages q) x)) ch.between xs h' = subst (λ (z : Write). IsWritten z ch.between xs h') handed.0 ch.written in
+    (written.0 ∙ none-is ch.between handed.1, subst (λ (z : List Taken). AreStores m.pages z (due q x ∷ [])) (sym written.1.1) (refl, tt))
+one-items m g w mem (PutHash q x) h' xs may pl ch = cc
+one-items m g w mem (Raise q) h' xs may pl ch = absurd may
+one-items m g w mem (Clear p) h' xs may pl ch =
+    let handed = ch.handed None tt in
+    let written : IsWritten (write.Zero p) ch.between xs h' = subst (λ (z : Write). IsWritten z ch.between xs h') handed.0 ch.written in
+    (written.0 ∙ none-is ch.between handed.1, subst (λ (z : List Taken). AreStores m.pages z (words_from p 512 (λ i. 0))) (sym written.1) (clears-are m.pages p 512))
+one-items m g w mem (Copy p q) h' xs may pl ch = absurd may
+one-items m g w mem (Swap k made) h' xs may pl ch = cc
 
 -- the items of changes that are owed are their stores
 pub owed-items : (m : Machine) (g : Grip) (w : World) (mem : Memory) (cs : List Change) (h h' : Option Measure) (xs : List Taken) → MayOweAll m g w mem cs → are_plain cs ≡ true
     → AreChanged m cs h xs h' → h ≡ None → (h' ≡ None) × AreStores m.pages xs (all_stores cs mem)
-owed-items m g w mem cs h h' xs may pl ch none = ?
+owed-items m g w mem [] h h' xs may pl ch none = (ch.0 ∙ none, subst (λ (z : List Taken). AreStores m.pages z []) (sym ch.1) tt)
+owed-items m g w mem (c ∷ cs) h h' xs may pl ch none =
+    let between : Option Measure = ch.0 in
+    let ys : List Taken = ch.1.0 in
+    let zs : List Taken = ch.1.1.0 in
+    let plain = and_parts (is_plain c) (are_plain cs) pl in
+    let one = one-items m g w mem c between ys may.0 plain.0 (subst (λ (z : Option Measure). IsChanged m c z ys between) none ch.1.1.2) in
+    let rest = owed-items m g w (changed c mem) cs between h' zs may.1 plain.1 ch.1.1.3 one.0 in
+    (rest.0, subst (λ (z : List Taken). AreStores m.pages z (all_stores (c ∷ cs) mem)) (sym ch.1.1.1) (are-append m.pages ys zs (stores_of c mem) (all_stores cs (changed c mem)) one.1 rest.1))
+
+-- a page of new words, where each of their stores leaves what is looked at
+page-looks : (m : Machine) (v : View) (words : WordPlace → ℕ) (p : ℕ) (xs : ℕ → ℕ) (r : WordPlace) → IsIn m r
+    → ((i x : ℕ) → i < 512 → look v (put_word words (Word p i) x r) ≡ look v (words r)) → look v (put_page words p xs r) ≡ look v (words r)
+page-looks m v words p xs (Lock q) i keeps = refl
+page-looks m v words p xs (Pamt q) i keeps = refl
+page-looks m v words p xs (Key k) i keeps = refl
+page-looks m v words p xs (Word q j) i keeps = by (q == p) refl
+  where
+    by : (t : Bool) → (q == p) ≡ t → look v (put_page words p xs (Word q j)) ≡ look v (words (Word q j))
+    by true e =
+        let same : put_word words (Word p j) (xs j) (Word q j) ≡ xs j = rw (e, eq-eqb j j refl) refl in
+        rw e (ap (look v) (sym same) ∙ keeps j (xs j) i.1)
+    by false e = rw e refl
 
 -- what a load looks at stays through changes that are owed, and through fills, where it stays through each of their stores
 pub looks-owed : PlacesInjective → (m : Machine) (g : Grip) (w : World) (mem : Memory) (cs : List Change) (r : WordPlace) (v : View) → IsIn m r → MayOweAll m g w mem cs → are_plain cs ≡ true
     → ((words : WordPlace → ℕ) (q : WordPlace) (x : ℕ) (k : Grade) → Owes g w q k → IsKept k (words q) x → look v (put_word words q x r) ≡ look v (words r))
     → look v ((changed_all cs mem).words r) ≡ look v (mem.words r)
-looks-owed inj m g w mem cs r v i may pl keeps = ?
+looks-owed inj m g w mem [] r v i may pl keeps = refl
+looks-owed inj m g w mem (Put q x ∷ cs) r v i may pl keeps =
+    looks-owed inj m g w (changed (Put q x) mem) cs r v i may.1 pl keeps ∙ keeps mem.words q x may.0.1.0 may.0.1.1 may.0.1.2
+looks-owed inj m g w mem (PutHash q x ∷ cs) r v i may pl keeps = cc
+looks-owed inj m g w mem (Raise q ∷ cs) r v i may pl keeps = absurd may.0
+looks-owed inj m g w mem (Clear p ∷ cs) r v i may pl keeps =
+    looks-owed inj m g w (changed (Clear p) mem) cs r v i may.1 pl keeps
+    ∙ page-looks m v mem.words p (λ j. 0) r i (λ j x l. keeps mem.words (Word p j) x KeepsNothing (may.0.1 j l) tt)
+looks-owed inj m g w mem (Copy p q ∷ cs) r v i may pl keeps = absurd may.0
+looks-owed inj m g w mem (Swap h made ∷ cs) r v i may pl keeps = cc
 
 pub looks-filled : PlacesInjective → (m : Machine) (g : Grip) (w : World) (mem : Memory) (fs : List Change) (r : WordPlace) (v : View) → IsIn m r → MayFillAll m g w fs
     → ((words : WordPlace → ℕ) (q : WordPlace) (x : ℕ) → Fills g w q → look v (put_word words q x r) ≡ look v (words r))
     → look v ((changed_all fs mem).words r) ≡ look v (mem.words r)
-looks-filled inj m g w mem fs r v i may keeps = ?
+looks-filled inj m g w mem [] r v i may keeps = refl
+looks-filled inj m g w mem (Put q x ∷ fs) r v i may keeps =
+    looks-filled inj m g w (changed (Put q x) mem) fs r v i may.1 keeps ∙ keeps mem.words q x may.0.1
+looks-filled inj m g w mem (PutHash q x ∷ fs) r v i may keeps = absurd may.0
+looks-filled inj m g w mem (Raise q ∷ fs) r v i may keeps = absurd may.0
+looks-filled inj m g w mem (Clear p ∷ fs) r v i may keeps =
+    looks-filled inj m g w (changed (Clear p) mem) fs r v i may.1 keeps
+    ∙ page-looks m v mem.words p (λ j. 0) r i (λ j x l. keeps mem.words (Word p j) x (may.0.1 j l))
+looks-filled inj m g w mem (Copy p q ∷ fs) r v i may keeps =
+    looks-filled inj m g w (changed (Copy p q) mem) fs r v i may.1 keeps
+    ∙ page-looks m v mem.words q (λ j. mem.words (Word p j)) r i (λ j x l. keeps mem.words (Word q j) x (may.0.4 j l))
+looks-filled inj m g w mem (Swap h made ∷ fs) r v i may keeps = absurd may.0
