@@ -18,7 +18,7 @@ use Rattle.lock_words.specs.LockWords.{tdcs_of, TdLocksStay}
 use Rattle.lock_words.proofs.Sums.{by_test}
 use Rattle.lock_words.proofs.Shown.{tdcs-page}
 
-abbrev lock_spot : ℕ → ℕ → Spot
+abbrev pub lock_spot : ℕ → ℕ → Spot
 lock_spot t c = record { class = TdLock; td = t; page = c; named = no_page }
 
 abbrev root_spot : ℕ → Spot

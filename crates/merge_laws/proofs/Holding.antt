@@ -1,22 +1,35 @@
 -- What processors may do by the locks that their calls hold, while nobody is in guest.
-use Rattle.std.proofs.Common.{◌≡◌, ℕ, ◌<◌, ◌≤◌, Bool, true, false, ◌==◌, List, [], ◌∷◌, ◌++◌, Option, Some, None, refl, ap, sym, ◌∙◌, subst, inl, inr, arith}
+use Rattle.std.proofs.Common.{◌≡◌, ℕ, zero, suc, ◌<◌, Bool, true, false, ◌==◌, ◌&&◌, ◌||◌, List, [], ◌∷◌, ◌++◌, length, Option, Some, None, refl, ap, sym, ◌∙◌, subst, inl, inr}
+use Rattle.std.specs.Prelude.{slice_index}
+use Rattle.std.specs.List.{list_any}
+use Rattle.std.proofs.lemmas.Bool.{eq-eqb}
 use Rattle.td_words.specs.declared.machines.Machine.{Machine}
-use Rattle.td_words.specs.Place.{WordPlace}
+use Rattle.td_words.specs.declared.names.LockName.{LockName}
+use Rattle.td_words.specs.declared.names.LockName.TheVariants as name
+use Rattle.td_words.specs.declared.names.PageKind.TheVariants as kind
+use Rattle.td_words.specs.declared.places.TheConstants.{TDCS_OP_LOCK, TDCS_TREE_LOCK, TDCS_EPOCH_LOCK, TDCS_RTMR_LOCK}
 use Rattle.td_words.specs.declared.replies.Reply.{Reply}
+use Rattle.td_words.specs.Place.{WordPlace, Word, IsIn, lock_place}
 use Rattle.flat_core.specs.World.{World}
-use Rattle.flat_core.specs.Processor.{LockId, OfPage, OfOp, OfTree, OfEpoch, OfRtmr, OfKeys, Held}
+use Rattle.flat_core.specs.Processor.{LockId, OfPage, OfOp, OfTree, OfEpoch, OfRtmr, OfKeys, Held, Guest, Lp}
+use Rattle.flat_core.specs.Locks.{same_lock, is_alone}
 use Rattle.flat_core.specs.Lawful.{Lawful}
-use Rattle.flat_core.specs.Row.{Item}
+use Rattle.flat_core.specs.Row.{Item, Check, Try}
 use Rattle.flat_core.specs.Event.{State}
-use Rattle.word_rules.specs.Guards.{Guard, Locked, Reached, Written, Grip, Apart}
-use Rattle.word_rules.specs.Rules.{View}
+use Rattle.word_rules.specs.Guards.{Guard, Locked, Reached, Written, Grip, Parted, Apart}
+use Rattle.word_rules.specs.Lines.{in_lines}
+use Rattle.word_rules.specs.Rules.{View, TdLock, tries}
+use Rattle.word_rules.specs.Spots.{Spot, spot, is_current, is_empty, tdcs_classes, control_class}
 use Rattle.word_rules.specs.Views.{look}
-use Rattle.word_rules.specs.Permissions.{Reads, Tries, Respects}
-use Rattle.lock_words.specs.Grips.{holds, holds_alone, grip_with, IsExclusive, GripsAreApart}
-use Rattle.lock_words.specs.LockWords.{place_of, Stands, TdLocksStay}
+use Rattle.word_rules.specs.Permissions.{MayAt, Reads, Tries, Respects}
+use Rattle.lock_words.specs.Grips.{holds, holds_alone, operation_locks, locks_of, reaches_as, reaches, none_reaches, has_of, sole_of, clear_of, grip_with, grip_of, IsExclusive, GripsAreApart}
+use Rattle.lock_words.specs.LockWords.{tdcs_of, place_of, TdStands, Stands, TdLocksStay}
+use Rattle.lock_words.proofs.Sums.{by_test}
+use Rattle.lock_words.proofs.Shown.{tdcs-page}
+use Rattle.lock_words.proofs.Anchored.{lock_spot}
 use Rattle.leaf_engine.specs.Trees.{Tree, Lock, Load, Test, End, Since, has_acted}
-use Rattle.leaf_engine.specs.Means.{Instant, Work, hold, Means}
-use Rattle.leaf_engine.specs.Follows.{Current}
+use Rattle.leaf_engine.specs.Means.{Instant, Work, hold, Loads, Means}
+use Rattle.leaf_engine.specs.Follows.{granted, Current}
 
 -- the grip that locks alone give, where nobody is in guest
 abbrev pub has_bare : List Held → Guard → Bool
@@ -40,16 +53,85 @@ bare hs = record { has = has_bare hs; sole = sole_bare hs; clear = clear_bare }
 abbrev pub NoGuests : State → Type 0
 NoGuests s = (p : ℕ) → (s.lps p).guest ≡ None
 
+or-true : (a : Bool) → (a || true) ≡ true
+or-true true = refl
+or-true false = refl
+
+none-reach : (lp : Lp) (p : ℕ) (b : Bool) → lp.guest ≡ None → reaches lp p b ≡ false
+none-reach lp p b e = ap (λ (g : Option Guest). reaches_as g p b lp.cached) e
+
+all-clear : (s : State) (n me p : ℕ) (b : Bool) → NoGuests s → none_reaches s.lps n me p b ≡ true
+all-clear s zero me p b none = refl
+all-clear s (suc n) me p b none = rw (none-reach (s.lps n) p b (none n), or-true (n == me), all-clear s n me p b none) refl
+
 pub grip-is-bare : (s : State) (me : ℕ) (hs : List Held) → NoGuests s → grip_with s me hs ≡ bare hs
-grip-is-bare s me hs none = ?
+grip-is-bare s me hs none = λ i. record { has = λ x. has x i; sole = λ x. sole x i; clear = λ x. clear x i }
+  where
+    has : (x : Guard) → has_of (s.lps me) hs x ≡ has_bare hs x
+    has (Locked l) = refl
+    has (Reached p) = none-reach (s.lps me) p false (none me)
+    has (Written p) = none-reach (s.lps me) p true (none me)
+
+    sole : (x : Guard) → sole_of hs x ≡ sole_bare hs x
+    sole (Locked l) = refl
+    sole (Reached p) = refl
+    sole (Written p) = refl
+
+    clear : (x : Guard) → clear_of s me x ≡ clear_bare x
+    clear (Locked l) = refl
+    clear (Reached p) = all-clear s s.lp_count me p false none
+    clear (Written p) = all-clear s s.lp_count me p true none
 
 -- locks that were held before those that are
 abbrev pub IsOlder : List Held → List Held → Type 0
 IsOlder hs all = (newer : List Held) × (all ≡ newer ++ hs)
 
+-- more locks hold what fewer do
+any-left : (f : Held → Bool) (a b : List Held) → list_any f a ≡ true → list_any f (a ++ b) ≡ true
+any-left f [] b h = cc
+any-left f (x ∷ a) b h = by (f x) (list_any f a) (list_any f (a ++ b)) (any-left f a b) h
+  where
+    by : (c d e : Bool) → (d ≡ true → e ≡ true) → (c || d) ≡ true → (c || e) ≡ true
+    by true d e k h = refl
+    by false d e k h = k h
+
+any-right : (f : Held → Bool) (a b : List Held) → list_any f b ≡ true → list_any f (a ++ b) ≡ true
+any-right f [] b h = h
+any-right f (x ∷ a) b h = rw (any-right f a b h) (or-true (f x))
+
+any-older : (f : Held → Bool) (hs : List Held) (lp : Lp) → IsOlder hs lp.call.held → list_any f hs ≡ true → list_any f (locks_of lp) ≡ true
+any-older f hs lp older h =
+    any-left f lp.call.held (operation_locks lp.guest) (subst (λ (z : List Held). list_any f z ≡ true) (sym older.1) (any-right f older.0 hs h))
+
+parted-held : (s : State) (p q : ℕ) (hs ks : List Held) → Parted (grip_of s p) (grip_of s q) → IsOlder hs (s.lps p).call.held → IsOlder ks (s.lps q).call.held → Parted (bare hs) (bare ks)
+parted-held s p q hs ks all older older' = record { sole = sole; both = both; clear = clear }
+  where
+    has-more : (l : LockId) → holds ks l ≡ true → holds (locks_of (s.lps q)) l ≡ true
+    has-more l = any-older (λ h. same_lock h.lock l) ks (s.lps q) older'
+
+    sole-more : (l : LockId) (r : ℕ) (js : List Held) → IsOlder js (s.lps r).call.held → holds_alone js l ≡ true → holds_alone (locks_of (s.lps r)) l ≡ true
+    sole-more l r js = any-older (λ h. is_alone h.mode && same_lock h.lock l) js (s.lps r)
+
+    sole : (x : Guard) → sole_bare hs x ≡ true → has_bare ks x ≡ true → ⊥
+    sole (Locked l) a b = all.sole (Locked l) (sole-more l p hs older a) (has-more l b)
+    sole (Reached r) a b = cc
+    sole (Written r) a b = cc
+
+    both : (x : Guard) → sole_bare hs x ≡ true → sole_bare ks x ≡ true → ⊥
+    both (Locked l) a b = all.both (Locked l) (sole-more l p hs older a) (sole-more l q ks older' b)
+    both (Reached r) a b = cc
+    both (Written r) a b = cc
+
+    clear : (x : Guard) → clear_bare x ≡ true → has_bare ks x ≡ true → ⊥
+    clear (Locked l) a b = cc
+    clear (Reached r) a b = cc
+    clear (Written r) a b = cc
+
 pub apart-held : GripsAreApart → (s : State) (p q : ℕ) (hs ks : List Held) → NoGuests s → IsExclusive s → p < s.lp_count → q < s.lp_count → (p == q) ≡ false
     → IsOlder hs (s.lps p).call.held → IsOlder ks (s.lps q).call.held → Apart (bare hs) (bare ks)
-apart-held apart s p q hs ks none ex a b e older older' = ?
+apart-held apart s p q hs ks none ex a b e older older' =
+    let all = apart s p q ex a b e in
+    record { there = parted-held s p q hs ks all.there older older'; back = parted-held s q p ks hs all.back older' older }
 
 -- a lock of a TD is tried while P of its TDR page is held
 abbrev pub HoldsTdr : List Held → LockId → Type 0
@@ -65,16 +147,66 @@ abbrev pub HoldTdrs : List Held → Type 0
 HoldTdrs [] = Unit {0}
 HoldTdrs (h ∷ hs) = HoldsTdr hs h.lock × HoldTdrs hs
 
+-- the words of a TD's locks are its, in its TDCS page
+
+first-class : (w : World) (t i : ℕ) (cs : List ℕ) → (length cs == 0) ≡ false → in_lines (tdcs_classes (is_current w t) (is_empty w t)) i ≡ Some TdLock
+    → control_class w t (slice_index cs 0) cs i ≡ TdLock
+first-class w t i [] h e = cc
+first-class w t i (c ∷ cs) h e = rw (eq-eqb c c refl, e) refl
+
+lock-at : (w : World) (t c i : ℕ) → w.pages.kinds c ≡ kind.Tdcx → w.pages.owners c ≡ t → control_class w t c (w.tds.controls t) i ≡ TdLock → spot w (Word c i) ≡ lock_spot t c
+lock-at w t c i k o e = rw (k, o, e) refl
+
+td-lock : (m : Machine) (w : World) (t i : ℕ) → Lawful m w → TdStands w t → in_lines (tdcs_classes (is_current w t) (is_empty w t)) i ≡ Some TdLock
+    → spot w (Word (tdcs_of w t) i) ≡ lock_spot t (tdcs_of w t)
+td-lock m w t i lawful st e =
+    let p = tdcs-page m w t lawful st in lock-at w t (tdcs_of w t) i p.kind p.owner (first-class w t i (w.tds.controls t) st.has_tdcs e)
+
+-- so a step on one is allowed where P of its TDR page is held
+
+tries-held : (hs : List Held) (t c : ℕ) (s : Spot) → s ≡ lock_spot t c → MayAt (bare hs) s tries → holds hs (OfPage t) ≡ true
+tries-held hs t c s e h = by (subst (λ (z : Spot). MayAt (bare hs) z tries) e h)
+  where
+    by : MayAt (bare hs) (lock_spot t c) tries → holds hs (OfPage t) ≡ true
+    by (inl x) = x.0
+    by (inr x) = absurd x
+
+held-tries : (hs : List Held) (t c : ℕ) (s : Spot) → s ≡ lock_spot t c → holds hs (OfPage t) ≡ true → MayAt (bare hs) s tries
+held-tries hs t c s e h = subst (λ (z : Spot). MayAt (bare hs) z tries) (sym e) (inl (h, tt))
+
 pub tdr-held : (m : Machine) (w : World) (hs : List Held) (l : LockId) → Lawful m w → Stands w l → Tries (bare hs) w (place_of w l) → HoldsTdr hs l
-tdr-held m w hs l lawful st t = ?
+tdr-held m w hs (OfPage p) lawful st h = tt
+tdr-held m w hs (OfOp t) lawful st h = tries-held hs t (tdcs_of w t) _ (td-lock m w t TDCS_OP_LOCK lawful st refl) h
+tdr-held m w hs (OfTree t) lawful st h = tries-held hs t (tdcs_of w t) _ (td-lock m w t TDCS_TREE_LOCK lawful st refl) h
+tdr-held m w hs (OfEpoch t) lawful st h = tries-held hs t (tdcs_of w t) _ (td-lock m w t TDCS_EPOCH_LOCK lawful st refl) h
+tdr-held m w hs (OfRtmr t) lawful st h = tries-held hs t (tdcs_of w t) _ (td-lock m w t TDCS_RTMR_LOCK lawful st refl) h
+tdr-held m w hs OfKeys lawful st h = tt
 
 pub may-try : (m : Machine) (w : World) (hs : List Held) (l : LockId) → Lawful m w → Stands w l → HoldsTdr hs l → Tries (bare hs) w (place_of w l)
-may-try m w hs l lawful st h = ?
+may-try m w hs (OfPage p) lawful st h = inl tt
+may-try m w hs (OfOp t) lawful st h = held-tries hs t (tdcs_of w t) _ (td-lock m w t TDCS_OP_LOCK lawful st refl) h
+may-try m w hs (OfTree t) lawful st h = held-tries hs t (tdcs_of w t) _ (td-lock m w t TDCS_TREE_LOCK lawful st refl) h
+may-try m w hs (OfEpoch t) lawful st h = held-tries hs t (tdcs_of w t) _ (td-lock m w t TDCS_EPOCH_LOCK lawful st refl) h
+may-try m w hs (OfRtmr t) lawful st h = held-tries hs t (tdcs_of w t) _ (td-lock m w t TDCS_RTMR_LOCK lawful st refl) h
+may-try m w hs OfKeys lawful st h = inl tt
+
+not-alone : (hs ks : List Held) (t : ℕ) → Apart (bare hs) (bare ks) → holds hs (OfPage t) ≡ true → holds_alone ks (OfPage t) ≡ false
+not-alone hs ks t apart h = by_test (holds_alone ks (OfPage t)) (λ y. absurd (apart.back.sole (Locked (OfPage t)) y h)) (λ n. n)
+
+td-stays : TdLocksStay → (m : Machine) (w w' : World) (hs ks : List Held) (t : ℕ) (name : LockName) → Lawful m w → Respects (bare ks) w w' → Apart (bare hs) (bare ks) → holds hs (OfPage t) ≡ true → TdStands w t
+    → (lock_place (tdcs_of w' t) name ≡ lock_place (tdcs_of w t) name) × TdStands w' t
+td-stays stay m w w' hs ks t name lawful r apart h st =
+    let k = stay m (bare ks) w w' t lawful r (not-alone hs ks t apart h) st in (ap (λ (c : ℕ). lock_place c name) k.0, k.1)
 
 -- another's act leaves it where it is
 pub lock-stays : TdLocksStay → (m : Machine) (w w' : World) (hs ks : List Held) (l : LockId) → Lawful m w → Respects (bare ks) w w' → Apart (bare hs) (bare ks) → HoldsTdr hs l → Stands w l
     → (place_of w' l ≡ place_of w l) × Stands w' l
-lock-stays stay m w w' hs ks l lawful r apart h st = ?
+lock-stays stay m w w' hs ks (OfPage p) lawful r apart h st = (refl, tt)
+lock-stays stay m w w' hs ks (OfOp t) lawful r apart h st = td-stays stay m w w' hs ks t name.Op lawful r apart h st
+lock-stays stay m w w' hs ks (OfTree t) lawful r apart h st = td-stays stay m w w' hs ks t name.Tree lawful r apart h st
+lock-stays stay m w w' hs ks (OfEpoch t) lawful r apart h st = td-stays stay m w w' hs ks t name.Epoch lawful r apart h st
+lock-stays stay m w w' hs ks (OfRtmr t) lawful r apart h st = td-stays stay m w w' hs ks t name.Rtmr lawful r apart h st
+lock-stays stay m w w' hs ks OfKeys lawful r apart h st = (refl, tt)
 
 -- what a leaf on its way was told: each load, under the locks that it had then
 abbrev pub EachTold : (List Held → View → WordPlace → Type 0) → Tree → List ℕ → List Held → Type 0
@@ -96,17 +228,59 @@ NotActed (Test b r t) xs = b ≡ true → NotActed t xs
 NotActed (End r fs cs) xs = Unit {0}
 NotActed (Since r cs) xs = Unit {0}
 
+stable : (m : Machine) (c : Instant) (hs : List Held) (v : View) (q : WordPlace) (t : ℕ → Tree) (x : ℕ) → Loads c hs v q t → look v x ≡ look v (c.memory.words q) → has_acted (t (look v x)) ≡ false
+    → Reads (hold c hs) c.state.world q v
+stable m c hs v q t x (inl r) e n = r
+stable m c hs v q t x (inr s) e n = absurd (let bad : true ≡ false = sym s.1 ∙ (ap (λ (z : ℕ). has_acted (t z)) (sym e) ∙ n) in cc)
+
 -- so each is stable under the locks held then
 pub told-reads : (m : Machine) (c : Instant) (k : Work) (hs : List Held) (t : Tree) (items : List (Item Reply)) (told : List ℕ) → Means m c k hs t items → Current c.memory.words t told → NotActed t told
-    → EachTold (λ ks v q. Rattle.td_words.specs.Place.IsIn m q × Reads (hold c ks) c.state.world q v) t told hs
-told-reads m c k hs t items told means cu na = ?
+    → EachTold (λ ks v q. IsIn m q × Reads (hold c ks) c.state.world q v) t told hs
+told-reads m c k hs (Lock l q mode t) items [] a cu na = tt
+told-reads m c k hs (Lock l q mode t) [] (x ∷ xs) a cu na = absurd a
+told-reads m c k hs (Lock l q mode t) (Check b r ∷ is) (x ∷ xs) a cu na = absurd a
+told-reads m c k hs (Lock l q mode t) (Try l' mode' ∷ is) (x ∷ xs) a cu na = told-reads m c k (record { lock = l; mode = mode } ∷ hs) t is xs a.3 cu na
+told-reads m c k hs (Load v q t) items [] a cu na = tt
+told-reads m c k hs (Load v q t) items (x ∷ xs) a cu na = (
+  (a.0, stable m c hs v q t x a.1 cu.0 na.0),
+  told-reads m c k hs (t (look v x)) items xs (subst (λ (z : ℕ). Means m c k hs (t z) items) (sym cu.0) a.2) cu.1 na.1,
+)
+told-reads m c k hs (Test b r t) [] xs a cu na = absurd a
+told-reads m c k hs (Test b r t) (Try l mode ∷ is) xs a cu na = absurd a
+told-reads m c k hs (Test b r t) (Check b' r' ∷ is) xs a cu na = λ e. told-reads m c k hs t is xs (a.2 (sym a.0 ∙ e)) (cu e) (na e)
+told-reads m c k hs (End r fs cs) items xs a cu na = tt
+told-reads m c k hs (Since r cs) items xs a cu na = tt
+
+-- what it has it had then, or was granted since
+granted-older : (t : Tree) (told : List ℕ) (hs ks : List Held) → IsOlder ks hs → IsOlder ks (granted t told hs)
+granted-older (Lock l q m t) [] hs ks o = o
+granted-older (Lock l q m t) (x ∷ xs) hs ks o = granted-older t xs (record { lock = l; mode = m } ∷ hs) ks (record { lock = l; mode = m } ∷ o.0, ap (λ (z : List Held). record { lock = l; mode = m } ∷ z) o.1)
+granted-older (Load v q k) [] hs ks o = o
+granted-older (Load v q k) (x ∷ xs) hs ks o = granted-older (k (look v x)) xs hs ks o
+granted-older (Test true r t) xs hs ks o = granted-older t xs hs ks o
+granted-older (Test false r t) xs hs ks o = o
+granted-older (End r fs cs) xs hs ks o = o
+granted-older (Since r cs) xs hs ks o = o
 
 -- and the locks that it had then are older than those it has
 pub told-older : (t : Tree) (told : List ℕ) (hs : List Held) (P : List Held → View → WordPlace → Type 0) → EachTold P t told hs
-    → EachTold (λ ks v q. IsOlder ks (Rattle.leaf_engine.specs.Follows.granted t told hs) × P ks v q) t told hs
-told-older t told hs P e = ?
+    → EachTold (λ ks v q. IsOlder ks (granted t told hs) × P ks v q) t told hs
+told-older (Lock l q m t) [] hs P e = tt
+told-older (Lock l q m t) (x ∷ xs) hs P e = told-older t xs (record { lock = l; mode = m } ∷ hs) P e
+told-older (Load v q k) [] hs P e = tt
+told-older (Load v q k) (x ∷ xs) hs P e = ((granted-older (k (look v x)) xs hs hs ([], refl), e.0), told-older (k (look v x)) xs hs P e.1)
+told-older (Test true r t) xs hs P e = λ y. told-older t xs hs P (e y)
+told-older (Test false r t) xs hs P e = λ y. cc
+told-older (End r fs cs) xs hs P e = tt
+told-older (Since r cs) xs hs P e = tt
 
 -- words that look the same wherever it looked
 pub still-current : (t : Tree) (told : List ℕ) (hs : List Held) (words words' : WordPlace → ℕ) (P : List Held → View → WordPlace → Type 0) → EachTold P t told hs
     → ((ks : List Held) (v : View) (q : WordPlace) → P ks v q → look v (words' q) ≡ look v (words q)) → Current words t told → Current words' t told
-still-current t told hs words words' P e keeps cu = ?
+still-current (Lock l q m t) [] hs words words' P e keeps cu = tt
+still-current (Lock l q m t) (x ∷ xs) hs words words' P e keeps cu = still-current t xs (record { lock = l; mode = m } ∷ hs) words words' P e keeps cu
+still-current (Load v q k) [] hs words words' P e keeps cu = tt
+still-current (Load v q k) (x ∷ xs) hs words words' P e keeps cu = (cu.0 ∙ sym (keeps hs v q e.0), still-current (k (look v x)) xs hs words words' P e.1 keeps cu.1)
+still-current (Test b r t) xs hs words words' P e keeps cu = λ y. still-current t xs hs words words' P (e y) keeps (cu y)
+still-current (End r fs cs) xs hs words words' P e keeps cu = tt
+still-current (Since r cs) xs hs words words' P e keeps cu = tt
