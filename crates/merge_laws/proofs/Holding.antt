@@ -29,7 +29,7 @@ use Rattle.lock_words.proofs.Shown.{tdcs-page}
 use Rattle.lock_words.proofs.Anchored.{lock_spot}
 use Rattle.leaf_engine.specs.Trees.{Tree, Lock, Load, Test, End, Since, has_acted}
 use Rattle.leaf_engine.specs.Means.{Instant, Work, hold, Loads, Means}
-use Rattle.leaf_engine.specs.Follows.{granted, Current}
+use Rattle.leaf_engine.specs.Follows.{granted, Current, NotActed}
 
 -- the grip that locks alone give, where nobody is in guest
 abbrev pub has_bare : List Held → Guard → Bool
@@ -217,16 +217,6 @@ EachTold P (Load v q k) (x ∷ xs) hs = P hs v q × EachTold P (k (look v x)) xs
 EachTold P (Test b r t) xs hs = b ≡ true → EachTold P t xs hs
 EachTold P (End r fs cs) xs hs = Unit {0}
 EachTold P (Since r cs) xs hs = Unit {0}
-
--- none of its loads was the act
-abbrev pub NotActed : Tree → List ℕ → Type 0
-NotActed (Lock l q m t) [] = Unit {0}
-NotActed (Lock l q m t) (x ∷ xs) = NotActed t xs
-NotActed (Load v q k) [] = Unit {0}
-NotActed (Load v q k) (x ∷ xs) = (has_acted (k (look v x)) ≡ false) × NotActed (k (look v x)) xs
-NotActed (Test b r t) xs = b ≡ true → NotActed t xs
-NotActed (End r fs cs) xs = Unit {0}
-NotActed (Since r cs) xs = Unit {0}
 
 stable : (m : Machine) (c : Instant) (hs : List Held) (v : View) (q : WordPlace) (t : ℕ → Tree) (x : ℕ) → Loads c hs v q t → look v x ≡ look v (c.memory.words q) → has_acted (t (look v x)) ≡ false
     → Reads (hold c hs) c.state.world q v
