@@ -2,3 +2,4 @@ pub mod Virtual
 pub mod Stores
 pub mod Holding
 pub mod Standing
+pub mod Others

@@ -1,0 +1,168 @@
+-- What an event of one processor leaves of where another one is.
+use Rattle.std.proofs.Common.{◌≡◌, ◌⊎◌, ℕ, zero, suc, ◌+◌, ◌^◌, ◌<◌, Bool, true, false, ◌==◌, List, [], ◌∷◌, ◌++◌, length, Option, Some, None, refl, ap, sym, ◌∙◌, subst, inl, inr, arith, append_assoc}
+use Rattle.std.proofs.lemmas.List.{append-nil}
+use Rattle.td_words.specs.declared.machines.Machine.{Machine}
+use Rattle.td_words.specs.declared.calls.Call.{Call}
+use Rattle.td_words.specs.declared.replies.Reply.{Reply}
+use Rattle.td_words.specs.Place.{WordPlace, IsIn, address}
+use Rattle.mrtd_measure.specs.declared.measures.Measure.{Measure}
+use Rattle.flat_core.specs.World.{World}
+use Rattle.flat_core.specs.Processor.{LockId, Held, Phase, Trying, Undoing, Answered, Lp}
+use Rattle.flat_core.specs.Opening.{Opening}
+use Rattle.flat_core.specs.Row.{Row}
+use Rattle.flat_core.specs.Table.{row_of}
+use Rattle.flat_core.specs.Lawful.{Lawful}
+use Rattle.flat_core.specs.Event.{State}
+use Rattle.word_rules.specs.Guards.{Grip, Apart}
+use Rattle.word_rules.specs.Rules.{View, Grade}
+use Rattle.word_rules.specs.Views.{look}
+use Rattle.word_rules.specs.Permissions.{Reads, Owes, Respects}
+use Rattle.lock_words.specs.LockWords.{place_of, Stands as LockStands}
+use Rattle.step_core.specs.Items.{Table}
+use Rattle.leaf_engine.specs.declared.events.HeldLock.{HeldLock}
+use Rattle.leaf_engine.specs.declared.events.Stage.{Stage}
+use Rattle.leaf_engine.specs.declared.events.Stage.TheVariants as stages
+use Rattle.leaf_engine.specs.Changes.{Memory}
+use Rattle.leaf_engine.specs.Trees.{Tree, Lock, Load, Test, End, Since}
+use Rattle.leaf_engine.specs.Means.{Task, Instant, IsAt, work_of, hold, MeansRow}
+use Rattle.leaf_engine.specs.Turns.{Standing}
+use Rattle.leaf_engine.specs.Follows.{granted, Current}
+use Rattle.leaf_engine.specs.Calls.{IsLockAt, AreLocks, IsStage, IsTold, IsCallAt, IsShown}
+use Rattle.leaf_engine.specs.OwnLists.{WordLp}
+use Rattle.leaf_engine.proofs.Turning.{instant, at-instant}
+use Rattle.merge_laws.proofs.Virtual.{table_of, holds-memory}
+use Rattle.merge_laws.proofs.Stores.{EachDue, each-map, OwesAt}
+use Rattle.merge_laws.proofs.Holding.{bare, NoGuests, grip-is-bare, IsOlder, HoldsTdr, HoldTdrs, lock-stays, EachTold, told-reads, told-older, still-current}
+use Rattle.merge_laws.proofs.Standing.{Laws, leaf_for, AreTrees, Known, UndoTdr, RunsAt, RunAt, StandsAt, Position, Holds, Stands}
+
+-- words that show a state, on a table that holds them
+pub shown-of : (o : Opening) (trees : ℕ → Call → Tree) (s : State) (mem : Memory) (t : Table) (pos : ℕ → Position) (p : ℕ) (c : Call) (run : Standing) → Known o s → Stands o trees s mem t pos → p < length o.calls
+    → run.hasher ≡ None → IsShown (leaf_for o trees p c) s mem (table_of o.machine t.slots mem.words) run
+shown-of o trees s mem t pos p c run known st i none = record {
+  processor = subst (λ (n : ℕ). p < n) (sym known.count) i;
+  lawful = known.lawful;
+  shown = st.shows;
+  memory = subst (λ (h : Option Measure). Rattle.leaf_engine.specs.Tables.IsMemory o.machine (table_of o.machine t.slots mem.words) h mem) (sym none) (holds-memory o.machine t.slots mem st.slots st.hand);
+  exclusive = known.exclusive;
+  few_sharers = known.few;
+  nothing_to_tell = known.nothing_to_tell;
+  empty_hand = λ e. st.hand;
+}
+
+-- what it holds in an instant is its locks
+pub hold-is : (s : State) (mem : Memory) (task : Task) (hs : List Held) → NoGuests s → hold (instant task s mem) hs ≡ bare hs
+hold-is s mem task hs none = grip-is-bare s task.place.lp (hs ++ []) none ∙ ap bare (append-nil hs)
+
+-- what was told is stable, under locks that it had then
+abbrev pub IsStable : Machine → World → List Held → List Held → View → WordPlace → Type 0
+IsStable m w held ks v q = IsOlder ks held × IsIn m q × Reads (bare ks) w q v
+
+pub stable-told : (o : Opening) (trees : ℕ → Call → Tree) (s : State) (mem : Memory) (t : Table) (pos : ℕ → Position) (p : ℕ) (c : Call) (run : Standing) → AreTrees o trees → Known o s → Stands o trees s mem t pos
+    → p < length o.calls → run.hasher ≡ None → (ca : IsCallAt o (leaf_for o trees p c) (row_of o p c) s.world mem.words (s.lps p) run) → (e : run.stage ≡ stages.Trying)
+    → EachTold (IsStable o.machine s.world (s.lps p).call.held) (trees p c) (ca.told e).told []
+stable-told o trees s mem t pos p c run are known st i none ca e =
+    let task : Task = leaf_for o trees p c in
+    let told = ca.told e in
+    let at : IsAt task (instant task s mem) = at-instant o task (row_of o p c) s mem (table_of o.machine t.slots mem.words) run refl (shown-of o trees s mem t pos p c run known st i none) ca e in
+    let reads = told-reads o.machine (instant task s mem) (work_of task.meaning) [] (trees p c) ((work_of task.meaning).items s.world) told.told ((are.means p c).means (instant task s mem) at) told.current told.waits in
+    let older = told-older (trees p c) told.told [] _ reads in
+    each (trees p c) told.told [] (λ ks v q x. (
+      subst (λ (hs : List Held). IsOlder ks hs) told.locks x.0,
+      x.1.0,
+      subst (λ (g : Grip). Reads g s.world q v) (hold-is s mem task ks st.guests) x.1.1,
+    )) older
+  where
+    each : {P Q : List Held → View → WordPlace → Type 0} (t : Tree) (told : List ℕ) (hs : List Held) → ((ks : List Held) (v : View) (q : WordPlace) → P ks v q → Q ks v q) → EachTold P t told hs → EachTold Q t told hs
+    each (Lock l q m t) [] hs f e = tt
+    each (Lock l q m t) (x ∷ xs) hs f e = each t xs (record { lock = l; mode = m } ∷ hs) f e
+    each (Load v q k) [] hs f e = tt
+    each (Load v q k) (x ∷ xs) hs f e = (f hs v q e.0, each (k (look v x)) xs hs f e.1)
+    each (Test b r t) xs hs f e = λ h. each t xs hs f (e h)
+    each (End r fs cs) xs hs f e = tt
+    each (Since r cs) xs hs f e = tt
+
+-- locks stay where they are through another's act
+lock-kept : (ls : Laws) (m : Machine) (w w' : World) (hs ks : List Held) (l : LockId) (name : Rattle.td_words.specs.declared.names.LockName.LockName) (at : ℕ) → Lawful m w → Respects (bare ks) w w' → Apart (bare hs) (bare ks) → HoldsTdr hs l
+    → IsLockAt m w name at l → IsLockAt m w' name at l
+lock-kept ls m w w' hs ks l name at lawful r ap_ h it =
+    let k = lock-stays ls.stay m w w' hs ks l lawful r ap_ h it.stands in
+    record {
+      name_is = it.name_is;
+      at_is = it.at_is ∙ ap (address m.pages) (sym k.0);
+      in_machine = subst (λ (z : WordPlace). IsIn m z) (sym k.0) it.in_machine;
+      stands = k.1;
+    }
+
+older-more : (h : Held) (hs all : List Held) → IsOlder (h ∷ hs) all → IsOlder hs all
+older-more h hs all (newer, e) = (newer ++ h ∷ [], e ∙ sym (append_assoc newer (h ∷ []) hs))
+
+locks-kept : (ls : Laws) (m : Machine) (w w' : World) (all hs ks : List Held) (held : List HeldLock) → Lawful m w → Respects (bare ks) w w' → ((xs : List Held) → IsOlder xs all → Apart (bare xs) (bare ks)) → IsOlder hs all → HoldTdrs hs
+    → AreLocks m w held hs → AreLocks m w' held hs
+locks-kept ls m w w' all [] ks held lawful r apart older h a = a
+locks-kept ls m w w' all (x ∷ hs) ks held lawful r apart older h a =
+    let further = older-more x hs all older in (
+      a.0,
+      (
+        a.1.0,
+        a.1.1,
+        a.1.2,
+        lock-kept ls m w w' hs ks x.lock a.1.0.name a.1.0.at lawful r (apart hs further) h.0 a.1.3,
+        locks-kept ls m w w' all hs ks a.0 lawful r apart further h.1 a.1.4,
+      ),
+    )
+
+stage-kept : (ls : Laws) (m : Machine) (w w' : World) (hs ks : List Held) (st : Stage) (ph : Phase Reply) → Lawful m w → Respects (bare ks) w w' → Apart (bare hs) (bare ks) → UndoTdr ph hs → IsStage m w st ph → IsStage m w' st ph
+stage-kept ls m w w' hs ks stages.Trying Trying lawful r a u i = i
+stage-kept ls m w w' hs ks stages.Trying (Undoing l) lawful r a u i = absurd i
+stage-kept ls m w w' hs ks stages.Trying (Answered x) lawful r a u i = absurd i
+stage-kept ls m w w' hs ks (stages.Undoing name at) Trying lawful r a u i = absurd i
+stage-kept ls m w w' hs ks (stages.Undoing name at) (Undoing l) lawful r a u i = lock-kept ls m w w' hs ks l name at lawful r a u i
+stage-kept ls m w w' hs ks (stages.Undoing name at) (Answered x) lawful r a u i = absurd i
+stage-kept ls m w w' hs ks (stages.Answered reply) Trying lawful r a u i = absurd i
+stage-kept ls m w w' hs ks (stages.Answered reply) (Undoing l) lawful r a u i = absurd i
+stage-kept ls m w w' hs ks (stages.Answered reply) (Answered x) lawful r a u i = i
+
+-- the acting processor's locks are apart from this one's, and it looks the same wherever this one has looked
+pub record Leaves (m : Machine) (held ks : List Held) (w w' : World) (words words' : WordPlace → ℕ) : Type 0 where
+  pub apart : (hs : List Held) → IsOlder hs held → Apart (bare hs) (bare ks)
+  pub respects : Respects (bare ks) w w'
+  pub looks : (hs : List Held) (v : View) (r : WordPlace) → IsOlder hs held → IsIn m r → Reads (bare hs) w r v → look v (words' r) ≡ look v (words r)
+
+pub others-stay : (ls : Laws) (o : Opening) (trees : ℕ → Call → Tree) (s : State) (mem : Memory) (t : Table) (pos : ℕ → Position) (k : ℕ) (w' : World) (words' : WordPlace → ℕ) (ks : List Held) → AreTrees o trees → Known o s → Stands o trees s mem t pos
+    → k < length o.calls → Leaves o.machine (s.lps k).call.held ks s.world w' mem.words words' → Holds o trees k w' words' (s.lps k) (pos k)
+others-stay ls o trees s mem t pos k w' words' ks are known st i lv =
+    let h = st.holds k i in
+    let whole : IsOlder (s.lps k).call.held (s.lps k).call.held = ([], refl) in
+    record {
+      stands = record { lines = h.stands.lines; replies = h.stands.replies; run = run (pos k).at.lines (pos k).at.run h.stands.run };
+      owed = each-map _ _ (pos k).owes (λ q x. (x.0, (x.1.0, (ls.acts (bare (s.lps k).call.held) (bare ks) s.world w' (lv.apart (s.lps k).call.held whole) lv.respects).owes_kept q x.1.0 x.1.1))) h.owed;
+    }
+  where
+    begun : (c : Call) (r : Standing) → RunsAt o (leaf_for o trees k c) (row_of o k c) s.world mem.words (s.lps k) r → RunsAt o (leaf_for o trees k c) (row_of o k c) w' words' (s.lps k) r
+    begun c r a =
+        let ca = a.call in
+        let whole : IsOlder (s.lps k).call.held (s.lps k).call.held = ([], refl) in
+        record {
+          call = record {
+            line = ca.line;
+            guest = ca.guest;
+            stage = stage-kept ls o.machine s.world w' (s.lps k).call.held ks r.stage (s.lps k).call.phase known.lawful lv.respects (lv.apart (s.lps k).call.held whole) a.tdrs.1 ca.stage;
+            held = locks-kept ls o.machine s.world w' (s.lps k).call.held (s.lps k).call.held ks r.held known.lawful lv.respects lv.apart whole a.tdrs.0 ca.held;
+            told = λ e.
+                let told = ca.told e in
+                record {
+                  told = told.told;
+                  current = still-current (trees k c) told.told [] mem.words words' _ (stable-told o trees s mem t pos k c r are known st i a.no_hasher ca e) (λ hs v q x. lv.looks hs v q x.0 x.1 x.2) told.current;
+                  waits = told.waits;
+                  rest = told.rest;
+                  locks = told.locks;
+                };
+          };
+          no_hasher = a.no_hasher;
+          tdrs = a.tdrs;
+        }
+
+    run : (cs : List Call) (r : Option Standing) → RunAt o trees k s.world mem.words (s.lps k) cs r → RunAt o trees k w' words' (s.lps k) cs r
+    run cs None a = a
+    run [] (Some r) a = absurd a
+    run (c ∷ cs) (Some r) a = begun c r a
