@@ -3,3 +3,4 @@ pub mod Stores
 pub mod Holding
 pub mod Standing
 pub mod Others
+pub mod Own

@@ -1,0 +1,213 @@
+-- What an event of a processor makes of where it is itself, and of all of them together.
+use Rattle.std.proofs.Common.{◌≡◌, ◌≢◌, ◌⊎◌, ℕ, zero, suc, ◌+◌, ◌-◌, ◌^◌, ◌<◌, Bool, true, false, ◌==◌, cond, List, [], ◌∷◌, ◌++◌, length, drop, Option, Some, None, refl, ap, sym, ◌∙◌, subst, inl, inr, arith, length-append}
+use Rattle.std.proofs.lemmas.Bool.{eq-eqb, eqb-true}
+use Rattle.td_words.specs.declared.names.Mode.{Mode}
+use Rattle.td_words.specs.declared.names.Mode.TheVariants.{Shared, Exclusive}
+use Rattle.td_words.specs.declared.names.LockName.{LockName}
+use Rattle.td_words.specs.declared.machines.Machine.{Machine}
+use Rattle.td_words.specs.declared.calls.Call.{Call}
+use Rattle.td_words.specs.declared.replies.Reply.{Reply}
+use Rattle.td_words.specs.Place.{WordPlace, IsIn, address, same_place}
+use Rattle.td_words.specs.Laws.{PlacesInjective}
+use Rattle.mrtd_measure.specs.declared.measures.Measure.{Measure}
+use Rattle.flat_core.specs.World.{World, put}
+use Rattle.flat_core.specs.Processor.{LockId, Held, Phase, Trying, Undoing, Answered, Progress, nothing_yet, Entering, Guest, Lp}
+use Rattle.flat_core.specs.Opening.{Opening}
+use Rattle.flat_core.specs.Row.{Row, Move, Attempts, Undoes, Refuses, Succeeds, Releases, Rests, after_move}
+use Rattle.flat_core.specs.Table.{row_of}
+use Rattle.flat_core.specs.Event.{State, OfCall, next_event, lines_left, event, call_lp, call_busy, call_world, settle, settled, succeeded, is_granted, calls_of}
+use Rattle.flat_core.specs.Laws.{IsBetween}
+use Rattle.word_rules.specs.Guards.{Apart}
+use Rattle.word_rules.specs.Rules.{View}
+use Rattle.word_rules.specs.Views.{look}
+use Rattle.word_rules.specs.Permissions.{Reads, Owes, Respects}
+use Rattle.word_rules.specs.Cells.{Shows}
+use Rattle.step_core.specs.Items.{Table}
+use Rattle.leaf_engine.specs.Changes.{Memory}
+use Rattle.leaf_engine.specs.Trees.{Tree}
+use Rattle.leaf_engine.specs.Means.{Task, IsHkid}
+use Rattle.leaf_engine.specs.Decides.{IsHand}
+use Rattle.leaf_engine.specs.Turns.{Standing, last_reply}
+use Rattle.leaf_engine.specs.Calls.{IsCallAt, GoesOn, IsOver, After}
+use Rattle.leaf_engine.specs.OwnLists.{WordLp, after_turn}
+use Rattle.leaf_engine.proofs.Calling.{event-is, lp-now}
+use Rattle.merge_laws.proofs.Stores.{Due, last_at, laid, last-each, OwesAt}
+use Rattle.merge_laws.proofs.Holding.{bare, NoGuests, IsOlder, HoldsTdr, HoldTdrs, apart-held}
+use Rattle.merge_laws.proofs.Standing.{Laws, leaf_for, AreTrees, Known, UndoTdr, CallTdrs, RunsAt, RunAt, StandsAt, Position, Holds, Stands}
+use Rattle.merge_laws.proofs.Others.{Leaves, others-stay}
+
+-- its record
+
+pub lp-of-event : (o : Opening) (s : State) (p : ℕ) (row : Row) (mv : Move Reply) → next_event o s p ≡ Some (OfCall row mv)
+    → (event o s p).lps p ≡ settled (call_lp s.world (is_granted s (OfCall row mv)) row mv (s.lps p))
+lp-of-event o s p row mv e = ap (λ (z : State). z.lps p) (event-is o s p row mv e) ∙ lp-now s p _
+
+pub world-of-event : (o : Opening) (s : State) (p : ℕ) (row : Row) (mv : Move Reply) → next_event o s p ≡ Some (OfCall row mv) → (event o s p).world ≡ call_world row mv s.world
+world-of-event o s p row mv e = ap (λ (z : State). z.world) (event-is o s p row mv e)
+
+-- the locks that it holds
+
+abbrev pub AttemptTdr : Move Reply → List Held → Type 0
+AttemptTdr (Attempts l m) hs = HoldsTdr hs l
+AttemptTdr _ hs = Unit {0}
+
+older-tdrs : (hs : List Held) → HoldTdrs hs → HoldTdrs (Rattle.flat_core.specs.Row.but_newest hs)
+older-tdrs [] h = h
+older-tdrs (x ∷ hs) h = h.1
+
+moved-tdrs : (g : Bool) (done : Reply) (mv : Move Reply) (c : Progress Reply) → CallTdrs c → AttemptTdr mv c.held → (mv ≡ Rests → ⊥) → ((h : Held) → mv ≡ Releases h → (r : Reply) × (c.phase ≡ Answered r))
+    → CallTdrs (after_move call_busy g done mv c)
+moved-tdrs true done (Attempts l m) c t a nr an = ((a, t.0), tt)
+moved-tdrs false done (Attempts l Shared) c t a nr an = (t.0, a)
+moved-tdrs false done (Attempts l Exclusive) c t a nr an = (t.0, tt)
+moved-tdrs g done (Undoes l) c t a nr an = (t.0, tt)
+moved-tdrs g done (Refuses r) c t a nr an = (t.0, tt)
+moved-tdrs g done Succeeds c t a nr an = (t.0, tt)
+moved-tdrs g done (Releases h) c t a nr an = (
+  older-tdrs c.held t.0,
+  (let e = an h refl in subst (λ (ph : Phase Reply). UndoTdr ph (Rattle.flat_core.specs.Row.but_newest c.held)) (sym e.1) tt),
+)
+moved-tdrs g done Rests c t a nr an = absurd (nr refl)
+
+settled-tdrs : (ph : Phase Reply) (hs : List Held) (lp : Lp) → CallTdrs lp.call → CallTdrs (settle ph hs lp).call
+settled-tdrs (Answered r) [] lp t = (tt, tt)
+settled-tdrs (Answered r) (h ∷ hs) lp t = t
+settled-tdrs Trying hs lp t = t
+settled-tdrs (Undoing l) hs lp t = t
+
+call-tdrs : (w : World) (g : Bool) (row : Row) (mv : Move Reply) (lp : Lp) → row.enters ≡ None → CallTdrs lp.call → AttemptTdr mv lp.call.held → (mv ≡ Rests → ⊥) → ((h : Held) → mv ≡ Releases h → (r : Reply) × (lp.call.phase ≡ Answered r))
+    → CallTdrs (call_lp w g row mv lp).call
+call-tdrs w g row Succeeds lp none t a nr an = subst (λ (e : Option Entering). CallTdrs (succeeded w row e lp).call) (sym none) (t.0, tt)
+call-tdrs w g row (Attempts l m) lp none t a nr an = moved-tdrs g (Rattle.td_words.specs.declared.replies.Reply.TheVariants.Done (row.value w)) (Attempts l m) lp.call t a nr an
+call-tdrs w g row (Undoes l) lp none t a nr an = moved-tdrs g (Rattle.td_words.specs.declared.replies.Reply.TheVariants.Done (row.value w)) (Undoes l) lp.call t a nr an
+call-tdrs w g row (Refuses r) lp none t a nr an = moved-tdrs g (Rattle.td_words.specs.declared.replies.Reply.TheVariants.Done (row.value w)) (Refuses r) lp.call t a nr an
+call-tdrs w g row (Releases h) lp none t a nr an = moved-tdrs g (Rattle.td_words.specs.declared.replies.Reply.TheVariants.Done (row.value w)) (Releases h) lp.call t a nr an
+call-tdrs w g row Rests lp none t a nr an = absurd (nr refl)
+
+pub tdrs-after : (o : Opening) (s : State) (p : ℕ) (row : Row) (mv : Move Reply) → next_event o s p ≡ Some (OfCall row mv) → row.enters ≡ None → CallTdrs (s.lps p).call → AttemptTdr mv (s.lps p).call.held → (mv ≡ Rests → ⊥)
+    → ((h : Held) → mv ≡ Releases h → (r : Reply) × ((s.lps p).call.phase ≡ Answered r)) → CallTdrs ((event o s p).lps p).call
+tdrs-after o s p row mv e none t a nr an =
+    let lp : Lp = call_lp s.world (is_granted s (OfCall row mv)) row mv (s.lps p) in
+    subst (λ (z : Lp). CallTdrs z.call) (sym (lp-of-event o s p row mv e)) (settled-tdrs lp.call.phase lp.call.held lp (call-tdrs s.world (is_granted s (OfCall row mv)) row mv (s.lps p) none t a nr an))
+
+-- its lines
+
+drop-next : (n : ℕ) (xs : List Call) (c : Call) (cs : List Call) → drop n xs ≡ c ∷ cs → drop (n + 1) xs ≡ cs
+drop-next zero [] c cs e = cc
+drop-next zero (x ∷ xs) c cs e = cc
+drop-next (suc n) [] c cs e = cc
+drop-next (suc n) (x ∷ xs) c cs e = (let k : suc n + 1 ≡ suc (n + 1) = omega arith in ap (λ (z : ℕ). drop z (x ∷ xs)) k ∙ drop-next n xs c cs e)
+
+one-more : (rs : List Reply) (r : Reply) → length (rs ++ r ∷ []) ≡ length rs + 1
+one-more rs r = length-append rs (r ∷ [])
+
+pub stands-after : (o : Opening) (trees : ℕ → Call → Tree) (p : ℕ) (c : Call) (cs : List Call) (lp : Lp) (s' : State) (u : Table) (run' : Standing) (reply : Option Reply) → lines_left o p lp ≡ c ∷ cs
+    → (after : After o (leaf_for o trees p c) (row_of o p c) lp.replies s' u run' reply) → run'.hasher ≡ None → CallTdrs (s'.lps p).call → (rs : List Reply) → lp.replies ≡ rs
+    → StandsAt o trees p s'.world after.mem.words (s'.lps p) (after_turn c cs rs run' reply)
+stands-after o trees p c cs lp s' u run' reply lines after none tdrs rs same = by reply after.then_
+  where
+    by : (reply : Option Reply) → GoesOn o (leaf_for o trees p c) (row_of o p c) lp.replies s'.world after.mem (s'.lps p) run' reply ⊎ IsOver lp.replies (s'.lps p) reply
+        → StandsAt o trees p s'.world after.mem.words (s'.lps p) (after_turn c cs rs run' reply)
+    by None (inl g) = record {
+      lines = ap (λ (z : List Reply). drop (length z) (calls_of o.calls p)) g.replies_are ∙ lines;
+      replies = g.replies_are ∙ same;
+      run = record { call = g.call; no_hasher = none; tdrs = tdrs };
+    }
+    by (Some r) (inl g) = (let e = g.no_reply in cc)
+    by None (inr v) = (let e = v.reply_is in cc)
+    by (Some r) (inr v) =
+        let answer : r ≡ v.answer = cc (v.reply_is) in
+        record {
+          lines = ap (λ (z : List Reply). drop (length z) (calls_of o.calls p)) v.replies_are
+              ∙ (ap (λ (n : ℕ). drop n (calls_of o.calls p)) (one-more lp.replies v.answer) ∙ drop-next (length lp.replies) (calls_of o.calls p) c cs lines);
+          replies = v.replies_are ∙ (ap (λ (z : List Reply). z ++ v.answer ∷ []) same ∙ ap (λ (z : Reply). rs ++ z ∷ []) (sym answer));
+          run = v.between;
+        }
+
+-- all of them together
+
+pub at-own : {A : Type 0} (f : ℕ → A) (p : ℕ) (x : A) → put f p x p ≡ x
+at-own f p x = ap (λ (b : Bool). cond b x (f p)) (eq-eqb p p refl)
+
+pub at-other : {A : Type 0} (f : ℕ → A) (p k : ℕ) (x : A) → (k == p) ≡ false → put f p x k ≡ f k
+at-other f p k x e = ap (λ (b : Bool). cond b x (f k)) e
+
+not-same : (k p : ℕ) → (k == p) ≡ false → k ≢ p
+not-same k p e h = (let t : (k == p) ≡ true = eq-eqb k p h in cc)
+
+pub no-guest : (o : Opening) (trees : ℕ → Call → Tree) (p : ℕ) (w : World) (words : WordPlace → ℕ) (lp : Lp) (at : WordLp) → StandsAt o trees p w words lp at → lp.guest ≡ None
+no-guest o trees p w words lp at st = by at.lines at.run st.run
+  where
+    by : (cs : List Call) (r : Option Standing) → RunAt o trees p w words lp cs r → lp.guest ≡ None
+    by cs None a = a.guest
+    by [] (Some r) a = absurd a
+    by (c ∷ cs) (Some r) a = a.call.guest
+
+pub whole : (hs : List Held) → IsOlder hs hs
+whole hs = ([], refl)
+
+-- another's locks are apart from those of the processor whose event it is
+pub apart-from : (ls : Laws) (o : Opening) (trees : ℕ → Call → Tree) (s : State) (mem : Memory) (t : Table) (pos : ℕ → Position) (p k : ℕ) (hs : List Held) → Known o s → Stands o trees s mem t pos → p < length o.calls → k < length o.calls
+    → (k == p) ≡ false → IsOlder hs (s.lps k).call.held → Apart (bare hs) (bare (s.lps p).call.held)
+apart-from ls o trees s mem t pos p k hs known st i j e older =
+    apart-held ls.apart s k p hs (s.lps p).call.held st.guests known.exclusive (subst (λ (n : ℕ). k < n) (sym known.count) j) (subst (λ (n : ℕ). p < n) (sym known.count) i) e older (whole (s.lps p).call.held)
+
+-- what an event leaves of memory, as far as others look
+pub record Spares (m : Machine) (s : State) (p : ℕ) (w' : World) (words words' : WordPlace → ℕ) : Type 0 where
+  pub respects : Respects (bare (s.lps p).call.held) s.world w'
+  pub looks : (hs : List Held) (v : View) (r : WordPlace) → Apart (bare hs) (bare (s.lps p).call.held) → IsIn m r → Reads (bare hs) s.world r v → look v (words' r) ≡ look v (words r)
+
+pub gathered : (ls : Laws) (o : Opening) (trees : ℕ → Call → Tree) (s : State) (mem mem' : Memory) (t t' : Table) (pos : ℕ → Position) (p : ℕ) (now : Position) → AreTrees o trees → Known o s → Stands o trees s mem t pos → p < length o.calls
+    → Spares o.machine s p (event o s p).world mem.words mem'.words → Shows o.machine mem'.words mem'.slots (event o s p) → mem'.hand ≡ None
+    → ((h : ℕ) → IsHkid o.machine h → IsHand (t'.slots (h - 1)) (mem'.slots h))
+    → Holds o trees p (event o s p).world mem'.words ((event o s p).lps p) now
+    → ((r : WordPlace) → IsIn o.machine r → mem'.words r ≡ laid (length o.calls) (λ k. (put pos p now k).owes) (λ q. t'.words (address o.machine.pages q)) r)
+    → Stands o trees (event o s p) mem' t' (put pos p now)
+gathered ls o trees s mem mem' t t' pos p now are known st i sp shows hand slots own laid_is = record {
+  shows = shows;
+  hand = hand;
+  slots = slots;
+  guests = guests;
+  holds = holds;
+  laid_is = laid_is;
+}
+  where
+    other : (k : ℕ) → (k == p) ≡ false → (event o s p).lps k ≡ s.lps k
+    other k e = ls.others o s p k (not-same k p e)
+
+    guests : NoGuests (event o s p)
+    guests k = by (k == p) refl
+      where
+        by : (b : Bool) → (k == p) ≡ b → ((event o s p).lps k).guest ≡ None
+        by true e = (let q : p ≡ k = sym (eqb-true k p e) in subst (λ (z : ℕ). ((event o s p).lps z).guest ≡ None) q (no-guest o trees p (event o s p).world mem'.words ((event o s p).lps p) now.at own.stands))
+        by false e = ap (λ (z : Lp). z.guest) (other k e) ∙ st.guests k
+
+    holds : (k : ℕ) → k < length o.calls → Holds o trees k (event o s p).world mem'.words ((event o s p).lps k) (put pos p now k)
+    holds k j = by (k == p) refl
+      where
+        by : (b : Bool) → (k == p) ≡ b → Holds o trees k (event o s p).world mem'.words ((event o s p).lps k) (put pos p now k)
+        by true e =
+            let q : p ≡ k = sym (eqb-true k p e) in
+            subst (λ (z : ℕ). Holds o trees z (event o s p).world mem'.words ((event o s p).lps z) (put pos p now z)) q
+            (subst (λ (z : Position). Holds o trees p (event o s p).world mem'.words ((event o s p).lps p) z) (sym (at-own pos p now)) own)
+        by false e =
+            let lv : Leaves o.machine (s.lps k).call.held (s.lps p).call.held s.world (event o s p).world mem.words mem'.words = record {
+              apart = λ hs older. apart-from ls o trees s mem t pos p k hs known st i j e older;
+              respects = sp.respects;
+              looks = λ hs v r older in_r reads. sp.looks hs v r (apart-from ls o trees s mem t pos p k hs known st i j e older) in_r reads;
+            } in
+            let there = others-stay ls o trees s mem t pos k (event o s p).world mem'.words (s.lps p).call.held are known st j lv in
+            subst (λ (z : Position). Holds o trees k (event o s p).world mem'.words ((event o s p).lps k) z) (sym (at-other pos p k now e))
+            (subst (λ (z : Lp). Holds o trees k (event o s p).world mem'.words z (pos k)) (sym (other k e)) there)
+
+-- nothing is due at a place that nobody may owe a store to
+pub none-due : (ls : Laws) (o : Opening) (trees : ℕ → Call → Tree) (s : State) (mem : Memory) (t : Table) (pos : ℕ → Position) (p : ℕ) (r : WordPlace) → Known o s → Stands o trees s mem t pos → p < length o.calls
+    → ((k : ℕ) (hs : List Held) (g : Rattle.word_rules.specs.Rules.Grade) → Apart (bare hs) (bare (s.lps p).call.held) → Owes (bare hs) s.world r g → ⊥)
+    → (k : ℕ) → k < length o.calls → (k == p) ≡ false → last_at (pos k).owes r ≡ None
+none-due ls o trees s mem t pos p r known st i never k j e = by (last_at (pos k).owes r) refl
+  where
+    by : (x : Option ℕ) → last_at (pos k).owes r ≡ x → last_at (pos k).owes r ≡ None
+    by None h = h
+    by (Some x) h =
+        let owed = last-each ls.places (OwesAt o.machine (bare (s.lps k).call.held) s.world) (pos k).owes r x (st.holds k j).owed h in
+        absurd (never k (s.lps k).call.held owed.1.0 (apart-from ls o trees s mem t pos p k (s.lps k).call.held known st i j e (whole (s.lps k).call.held)) owed.1.1)
