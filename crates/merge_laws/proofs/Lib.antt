@@ -4,3 +4,4 @@ pub mod Holding
 pub mod Standing
 pub mod Others
 pub mod Own
+pub mod LockSteps

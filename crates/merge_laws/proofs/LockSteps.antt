@@ -1,0 +1,181 @@
+-- A try, an undo or a release in a merge: one step on the word of a lock, which is the flat machine's next event.
+use Rattle.std.proofs.Common.{◌≡◌, ◌⊎◌, ℕ, zero, suc, ◌+◌, ◌-◌, ◌^◌, ◌<◌, Bool, true, false, ◌==◌, cond, List, [], ◌∷◌, ◌++◌, length, Option, Some, None, refl, ap, sym, ◌∙◌, subst, inl, inr, arith}
+use Rattle.std.proofs.lemmas.Bool.{eq-eqb, eqb-true}
+use Rattle.td_words.specs.declared.machines.Machine.{Machine}
+use Rattle.td_words.specs.declared.calls.Call.{Call}
+use Rattle.td_words.specs.declared.replies.Reply.{Reply}
+use Rattle.td_words.specs.Place.{WordPlace, IsIn, address, same_place}
+use Rattle.mrtd_measure.specs.declared.measures.Measure.{Measure}
+use Rattle.flat_core.specs.World.{World, put}
+use Rattle.flat_core.specs.Processor.{LockId, Held, Answered, Lp}
+use Rattle.flat_core.specs.Opening.{Opening}
+use Rattle.flat_core.specs.Row.{Row, Move, Rests, Releases}
+use Rattle.flat_core.specs.Table.{row_of}
+use Rattle.flat_core.specs.Event.{State, OfCall, next_event, lines_left, event, call_world}
+use Rattle.word_rules.specs.Guards.{Apart}
+use Rattle.word_rules.specs.Rules.{View, Grade}
+use Rattle.word_rules.specs.Views.{look}
+use Rattle.word_rules.specs.Permissions.{Reads, Owes, Tries, Respects}
+use Rattle.step_core.specs.declared.steps.WordStep.{WordStep}
+use Rattle.step_core.specs.declared.steps.WordStep.TheVariants as step
+use Rattle.step_core.specs.Words.{Words, after_step, address_of, answer_of}
+use Rattle.step_core.specs.Items.{Table, Stepped}
+use Rattle.leaf_engine.specs.declared.events.RunTurn.{RunTurn}
+use Rattle.leaf_engine.specs.Changes.{Memory}
+use Rattle.leaf_engine.specs.Trees.{Tree}
+use Rattle.leaf_engine.specs.Means.{Task, OfCall as CallOf, IsHkid}
+use Rattle.leaf_engine.specs.Decides.{IsHand}
+use Rattle.leaf_engine.specs.Tables.{IsMemory}
+use Rattle.leaf_engine.specs.Turns.{Standing, IsTurn, has_ended, last_reply}
+use Rattle.leaf_engine.specs.Calls.{After}
+use Rattle.leaf_engine.specs.OwnLists.{WordLp, after_turn}
+use Rattle.leaf_engine.proofs.Turning.{Laws as EngineLaws, calls-follow}
+use Rattle.merge_laws.proofs.Virtual.{table_of, holds-memory, step-same, step-elsewhere}
+use Rattle.merge_laws.proofs.Stores.{Due, last_at, laid, laid-none, laid-same}
+use Rattle.merge_laws.proofs.Holding.{bare}
+use Rattle.merge_laws.proofs.Standing.{Laws, leaf_for, AreTrees, Known, RunsAt, Position, Holds, Stands}
+use Rattle.merge_laws.proofs.Others.{shown-of}
+use Rattle.merge_laws.proofs.Own.{AttemptTdr, tdrs-after, stands-after, world-of-event, at-own, at-other, Spares, gathered, none-due}
+
+pub engine : Laws → EngineLaws
+engine ls = record { follow = ls.follow; steps = ls.steps; places = ls.places; pages = ls.pages }
+
+pub turned-round : (g h : Rattle.word_rules.specs.Guards.Grip) → Apart g h → Apart h g
+turned-round g h a = record { there = a.back; back = a.there }
+
+pub answers-same : (w v : Words) (s : WordStep) (at : ℕ) → address_of s ≡ at → w at ≡ v at → answer_of w s ≡ answer_of v s
+answers-same w v (step.Load n) at a e = ap w a ∙ (e ∙ ap v (sym a))
+answers-same w v (step.Store n x) at a e = refl
+answers-same w v (step.Add n x) at a e = ap w a ∙ (e ∙ ap v (sym a))
+answers-same w v (step.Sub n x) at a e = ap w a ∙ (e ∙ ap v (sym a))
+answers-same w v (step.Exchange n old new) at a e = ap w a ∙ (e ∙ ap v (sym a))
+
+-- the event of a turn that is one step on a lock's word
+pub record OneStep (o : Opening) (trees : ℕ → Call → Tree) (s : State) (p : ℕ) (c : Call) (mv : Move Reply) (run run' : Standing) (st : WordStep) (a : ℕ) (q : WordPlace) (result : RunTurn) : Type 0 where
+  pub turn : IsTurn o.machine run (Stepped st a ∷ []) run' result
+  pub going : has_ended run.stage run.held ≡ false
+  pub no_hasher : run'.hasher ≡ None
+  pub next : next_event o s p ≡ Some (OfCall (row_of o p c) mv)
+  pub quiet : call_world (row_of o p c) mv s.world ≡ s.world
+  pub tdr : AttemptTdr mv (s.lps p).call.held
+  pub no_rest : mv ≡ Rests → ⊥
+  pub answered : (h : Held) → mv ≡ Releases h → (r : Reply) × ((s.lps p).call.phase ≡ Answered r)
+  pub inside : IsIn o.machine q
+  pub at : address_of st ≡ address o.machine.pages q
+  pub tries : Tries (bare (s.lps p).call.held) s.world q
+
+-- what came of a piece: memory that shows the state after it
+pub record Moved (o : Opening) (trees : ℕ → Call → Tree) (s : State) (t : Table) (pos : ℕ → Position) : Type 0 where
+  pub memory : Memory
+  pub stands : Stands o trees s memory t pos
+
+pub lock-step : (ls : Laws) (o : Opening) (trees : ℕ → Call → Tree) (s : State) (mem : Memory) (t : Table) (pos : ℕ → Position) (p : ℕ) (c : Call) (cs : List Call) (rs : List Reply) (mv : Move Reply) (run run' : Standing) (st : WordStep) (a : ℕ)
+    (q : WordPlace) (result : RunTurn) → AreTrees o trees → Known o s → Stands o trees s mem t pos → p < length o.calls → lines_left o p (s.lps p) ≡ c ∷ cs → (s.lps p).replies ≡ rs → (pos p).owes ≡ []
+    → RunsAt o (leaf_for o trees p c) (row_of o p c) s.world mem.words (s.lps p) run → OneStep o trees s p c mv run run' st a q result → a ≡ answer_of t.words st
+    → Moved o trees (event o s p) (record t { words = after_step t.words st }) (put pos p (record { at = after_turn c cs rs run' result.reply; owes = [] }))
+lock-step ls o trees s mem t pos p c cs rs mv run run' st a q result are known sd i lines replies none ra one an =
+    record {
+      memory = after.mem;
+      stands = gathered ls o trees s mem after.mem t t' pos p now are known sd i
+          (record {
+            respects = subst (λ (w : World). Respects (bare (s.lps p).call.held) s.world w) (sym world) (ls.compose.same (bare (s.lps p).call.held) s.world);
+            looks = λ hs v r apart in_r reads. ap (look v) (by-place r in_r (λ e. absurd (no-read hs v r apart reads e)));
+          })
+          after.shown hand
+          (λ h in_h. subst (λ (f : ℕ → Option Measure). IsHand (t.slots (h - 1)) (after.mem.slots h)) {x = t.slots} refl (after.memory.slots h in_h))
+          (record {
+            stands = stands-after o trees p c cs (s.lps p) (event o s p) uV run' result.reply lines after one.no_hasher
+                (tdrs-after o s p (row_of o p c) mv one.next (are.means p c).enters_none ra.tdrs one.tdr one.no_rest one.answered) rs replies;
+            owed = tt;
+          })
+          laid-after;
+    }
+  where
+    m : Machine
+    m = o.machine
+
+    now : Position
+    now = record { at = after_turn c cs rs run' result.reply; owes = [] }
+
+    t' : Table
+    t' = record t { words = after_step t.words st }
+
+    tV : Table
+    tV = table_of m t.slots mem.words
+
+    uV : Table
+    uV = record tV { words = after_step tV.words st }
+
+    holds : IsMemory m tV None mem
+    holds = holds-memory m t.slots mem sd.slots sd.hand
+
+    none-at : (k : ℕ) → k < length o.calls → last_at (pos k).owes q ≡ None
+    none-at k j = by (k == p) refl
+      where
+        by : (b : Bool) → (k == p) ≡ b → last_at (pos k).owes q ≡ None
+        by true e = (let k-is : k ≡ p = eqb-true k p e in ap (λ (z : ℕ). last_at (pos z).owes q) k-is ∙ ap (λ (ds : List Due). last_at ds q) none)
+        by false e =
+            none-due ls o trees s mem t pos p q known sd i
+            (λ j' hs g apart owes. (ls.words (bare (s.lps p).call.held) (bare hs) s.world (turned-round (bare hs) (bare (s.lps p).call.held) apart)).tries_owes q g one.tries owes) k j e
+
+    here : mem.words q ≡ t.words (address m.pages q)
+    here = sd.laid_is q one.inside ∙ laid-none (length o.calls) (λ k. (pos k).owes) (λ r. t.words (address m.pages r)) q none-at
+
+    virtual : t.words (address m.pages q) ≡ tV.words (address m.pages q)
+    virtual = sym here ∙ sym (holds.words q one.inside)
+
+    after : After o (leaf_for o trees p c) (row_of o p c) (s.lps p).replies (event o s p) uV run' result.reply
+    after =
+        calls-follow (engine ls) o (leaf_for o trees p c) (row_of o p c) s mem tV uV run run' (Stepped st a ∷ []) result (are.means p c) refl
+        (shown-of o trees s mem t pos p c run known sd i ra.no_hasher) ra.call one.going one.turn
+        (an ∙ answers-same t.words tV.words st (address m.pages q) one.at virtual, (refl, refl))
+
+    world : (event o s p).world ≡ s.world
+    world = world-of-event o s p (row_of o p c) mv one.next ∙ one.quiet
+
+    hand : after.mem.hand ≡ None
+    hand = by after.mem.hand (subst (λ (h : Option Measure). IsHand h after.mem.hand) one.no_hasher after.memory.hand)
+      where
+        by : (h : Option (List ℕ)) → IsHand None h → h ≡ None
+        by None x = refl
+        by (Some bytes) x = absurd x
+
+    same-test : (r : WordPlace) → (b : Bool) → same_place r q ≡ b → ((b ≡ true) → r ≡ q)
+    same-test r b e h = (ls.places.same r q).0 (e ∙ h)
+
+    -- a word is as it was, but for the lock's
+    by-place : (r : WordPlace) → IsIn m r → (same_place r q ≡ true → after.mem.words r ≡ mem.words r) → after.mem.words r ≡ mem.words r
+    by-place r in_r at-q = by (same_place r q) refl
+      where
+        by : (b : Bool) → same_place r q ≡ b → after.mem.words r ≡ mem.words r
+        by true e = at-q e
+        by false e = sym (after.memory.words r in_r) ∙ (step-elsewhere ls.places m tV.words st q r one.inside in_r one.at e ∙ holds.words r in_r)
+
+    no-read : (hs : List Held) (v : View) (r : WordPlace) → Apart (bare hs) (bare (s.lps p).call.held) → Reads (bare hs) s.world r v → same_place r q ≡ true → ⊥
+    no-read hs v r apart reads e =
+        let r-is : r ≡ q = (ls.places.same r q).0 e in
+        (ls.words (bare (s.lps p).call.held) (bare hs) s.world (turned-round (bare hs) (bare (s.lps p).call.held) apart)).tries_reads q v one.tries (subst (λ (z : WordPlace). Reads (bare hs) s.world z v) r-is reads)
+
+    owes-same : (k : ℕ) (r : WordPlace) → last_at (pos k).owes r ≡ last_at (put pos p now k).owes r
+    owes-same k r = by (k == p) refl
+      where
+        by : (b : Bool) → (k == p) ≡ b → last_at (pos k).owes r ≡ last_at (put pos p now k).owes r
+        by true e =
+            let k-is : k ≡ p = eqb-true k p e in
+            ap (λ (z : ℕ). last_at (pos z).owes r) k-is ∙ (ap (λ (ds : List Due). last_at ds r) none ∙ sym (ap (λ (z : Position). last_at z.owes r) (ap (put pos p now) k-is ∙ at-own pos p now)))
+        by false e = sym (ap (λ (z : Position). last_at z.owes r) (at-other pos p k now e))
+
+    laid-after : (r : WordPlace) → IsIn m r → after.mem.words r ≡ laid (length o.calls) (λ k. (put pos p now k).owes) (λ x. t'.words (address m.pages x)) r
+    laid-after r in_r = by (same_place r q) refl
+      where
+        by : (b : Bool) → same_place r q ≡ b → after.mem.words r ≡ laid (length o.calls) (λ k. (put pos p now k).owes) (λ x. t'.words (address m.pages x)) r
+        by true e =
+            let r-is : r ≡ q = (ls.places.same r q).0 e in
+            let made : after.mem.words q ≡ t'.words (address m.pages q) = sym (after.memory.words q one.inside) ∙ sym (step-same t.words tV.words st (address m.pages q) one.at virtual) in
+            let none' = laid-none (length o.calls) (λ k. (put pos p now k).owes) (λ x. t'.words (address m.pages x)) q (λ k j. sym (owes-same k q) ∙ none-at k j) in
+            subst (λ (z : WordPlace). after.mem.words z ≡ laid (length o.calls) (λ k. (put pos p now k).owes) (λ x. t'.words (address m.pages x)) z) (sym r-is) (made ∙ sym none')
+        by false e =
+            by-place r in_r (λ h. cc)
+            ∙ (sd.laid_is r in_r
+            ∙ laid-same (length o.calls) (λ k. (pos k).owes) (λ k. (put pos p now k).owes) (λ x. t.words (address m.pages x)) (λ x. t'.words (address m.pages x)) r (λ k j. owes-same k r)
+            (sym (step-elsewhere ls.places m t.words st q r one.inside in_r one.at e)))
