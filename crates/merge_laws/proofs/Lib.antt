@@ -5,3 +5,4 @@ pub mod Standing
 pub mod Others
 pub mod Own
 pub mod LockSteps
+pub mod Acts

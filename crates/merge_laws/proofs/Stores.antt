@@ -186,7 +186,7 @@ one-is m (Clear p) mem r i pl = page-is m mem.words p (λ j. 0) r i
 one-is m (Copy p q) mem r i pl = page-is m mem.words q (λ j. mem.words (Word p j)) r i
 one-is m (Swap h made) mem r i pl = cc
 
-or-later : (a b : Option ℕ) (y : ℕ) → or_else (later a b) y ≡ or_else a (or_else b y)
+pub or-later : (a b : Option ℕ) (y : ℕ) → or_else (later a b) y ≡ or_else a (or_else b y)
 or-later (Some x) b y = refl
 or-later None b y = refl
 

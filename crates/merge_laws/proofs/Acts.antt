@@ -1,0 +1,208 @@
+-- An act in a merge: its event's item, and the stores that are owed after it.
+use Rattle.std.proofs.Common.{◌≡◌, ◌⊎◌, ℕ, zero, suc, ◌+◌, ◌-◌, ◌%◌, ◌^◌, ◌<◌, Bool, true, false, ◌==◌, ◌&&◌, cond, List, [], ◌∷◌, ◌++◌, length, Option, Some, None, refl, ap, sym, ◌∙◌, subst, inl, inr, arith}
+use Rattle.std.proofs.lemmas.Bool.{eq-eqb, eqb-true}
+use Rattle.td_words.specs.declared.machines.Machine.{Machine}
+use Rattle.td_words.specs.declared.calls.Call.{Call}
+use Rattle.td_words.specs.declared.replies.Reply.{Reply}
+use Rattle.td_words.specs.Place.{WordPlace, IsIn, address, same_place}
+use Rattle.mrtd_measure.specs.declared.measures.Measure.{Measure}
+use Rattle.flat_core.specs.World.{World, put}
+use Rattle.flat_core.specs.Processor.{LockId, Held, Trying, Answered, Lp}
+use Rattle.flat_core.specs.Opening.{Opening}
+use Rattle.flat_core.specs.Row.{Row, Move, Attempts, Undoes, Refuses, Succeeds, Releases, Rests, next}
+use Rattle.flat_core.specs.Table.{row_of}
+use Rattle.flat_core.specs.Event.{State, OfCall, next_event, lines_left, event, call_world}
+use Rattle.word_rules.specs.Guards.{Apart, Grip}
+use Rattle.word_rules.specs.Rules.{View, Grade}
+use Rattle.word_rules.specs.Views.{look}
+use Rattle.word_rules.specs.Permissions.{Reads, Owes, Writes, Respects}
+use Rattle.step_core.specs.Items.{Table}
+use Rattle.leaf_engine.specs.declared.events.RunTurn.{RunTurn}
+use Rattle.leaf_engine.specs.declared.events.Stage.TheVariants as stages
+use Rattle.leaf_engine.specs.Changes.{Memory}
+use Rattle.leaf_engine.specs.Trees.{Tree}
+use Rattle.leaf_engine.specs.Means.{Task, IsHkid}
+use Rattle.leaf_engine.specs.Decides.{IsHand}
+use Rattle.leaf_engine.specs.Tables.{IsMemory}
+use Rattle.leaf_engine.specs.Turns.{Standing, last_reply}
+use Rattle.leaf_engine.specs.Shown.{EndsRow}
+use Rattle.leaf_engine.specs.Calls.{IsCallAt, After}
+use Rattle.leaf_engine.specs.OwnLists.{WordLp, after_turn}
+use Rattle.leaf_engine.proofs.Turning.{instant, ends}
+use Rattle.merge_laws.proofs.Virtual.{table_of, holds-memory}
+use Rattle.merge_laws.proofs.Stores.{Due, last_at, later, or_else, laid, laid-one, laid-same, last-each, each-map, EachDue, OwesAt}
+use Rattle.merge_laws.proofs.Holding.{bare}
+use Rattle.merge_laws.proofs.Standing.{Laws, leaf_for, AreTrees, Known, RunsAt, Position, Holds, Stands}
+use Rattle.merge_laws.proofs.Others.{shown-of}
+use Rattle.merge_laws.proofs.Own.{AttemptTdr, tdrs-after, stands-after, world-of-event, at-own, at-other, Spares, gathered, none-due}
+use Rattle.merge_laws.proofs.LockSteps.{engine, turned-round, Moved}
+
+-- a refusal, or the act that succeeds
+abbrev pub IsAct : Move Reply → Type 0
+IsAct (Refuses r) = Unit {0}
+IsAct Succeeds = Unit {0}
+IsAct _ = ⊥
+
+abbrev pub CanWrite : Grip → World → WordPlace → Type 0
+CanWrite g w q = (k : Grade) × Writes g w q k
+
+-- the event of a turn that is its act: what its item stores, and what is owed then
+pub record OneAct (o : Opening) (trees : ℕ → Call → Tree) (s : State) (mem : Memory) (t t' : Table) (p : ℕ) (c : Call) (told : List ℕ) (run run' : Standing) (result : RunTurn) : Type 0 where
+  pub move : Move Reply
+  pub is_act : IsAct move
+  pub next : next_event o s p ≡ Some (OfCall (row_of o p c) move)
+  pub after : Memory
+  pub hand : after.hand ≡ None
+  pub slots : after.slots ≡ mem.slots
+  pub ends : (u : Table) → IsMemory o.machine u run'.hasher after → EndsRow (leaf_for o trees p c) (instant (leaf_for o trees p c) s mem) told u run run'
+  pub no_hasher : run'.hasher ≡ None
+  pub reply : result.reply ≡ last_reply run'.stage run'.held
+  pub first : List Due
+  pub owes : List Due
+  pub spares : Spares o.machine s p (call_world (row_of o p c) move s.world) mem.words after.words
+  pub makes : (r : WordPlace) → IsIn o.machine r → after.words r ≡ or_else (last_at owes r) (or_else (last_at first r) (mem.words r))
+  pub written : EachDue (CanWrite (bare (s.lps p).call.held) s.world) first
+  pub owed : EachDue (OwesAt o.machine (bare (s.lps p).call.held) (call_world (row_of o p c) move s.world)) owes
+  pub held_or_none : ((event o s p).lps p).call.held ≡ (s.lps p).call.held
+  pub table : (r : WordPlace) → IsIn o.machine r → t'.words (address o.machine.pages r) ≡ or_else (last_at first r) (t.words (address o.machine.pages r))
+  pub table_slots : t'.slots ≡ t.slots
+
+same-memory : (m : Machine) (u : Table) (h : Option Measure) (a b : Memory) → IsMemory m u h a → IsMemory m u h b → (r : WordPlace) → IsIn m r → a.words r ≡ b.words r
+same-memory m u h a b x y r i = sym (x.words r i) ∙ y.words r i
+
+pub act-step : (ls : Laws) (o : Opening) (trees : ℕ → Call → Tree) (s : State) (mem : Memory) (t t' : Table) (pos : ℕ → Position) (p : ℕ) (c : Call) (cs : List Call) (rs : List Reply) (run run' : Standing) (result : RunTurn)
+    → AreTrees o trees → Known o s → Stands o trees s mem t pos → p < length o.calls → lines_left o p (s.lps p) ≡ c ∷ cs → (s.lps p).replies ≡ rs → (pos p).owes ≡ []
+    → (ra : RunsAt o (leaf_for o trees p c) (row_of o p c) s.world mem.words (s.lps p) run) → (e : run.stage ≡ stages.Trying) → (one : OneAct o trees s mem t t' p c (ra.call.told e).told run run' result)
+    → Moved o trees (event o s p) t' (put pos p (record { at = after_turn c cs rs run' result.reply; owes = one.owes }))
+act-step ls o trees s mem t t' pos p c cs rs run run' result are known sd i lines replies none ra e one =
+    record {
+      memory = made.mem;
+      stands = gathered ls o trees s mem made.mem t t' pos p now are known sd i
+          (record {
+            respects = subst (λ (w : World). Respects (bare (s.lps p).call.held) s.world w) (sym world) one.spares.respects;
+            looks = λ hs v r apart in_r reads. ap (look v) (made-is r in_r) ∙ one.spares.looks hs v r apart in_r reads;
+          })
+          made.shown hand
+          (λ h in_h. subst (λ (f : ℕ → Option Measure). IsHand (f (h - 1)) (made.mem.slots h)) (sym one.table_slots) (made.memory.slots h in_h))
+          (record {
+            stands = stands-after o trees p c cs (s.lps p) (event o s p) uV run' result.reply lines made one.no_hasher
+                (tdrs-after o s p (row_of o p c) one.move one.next (are.means p c).enters_none ra.tdrs (no-attempt one.move one.is_act) (no-rest one.move one.is_act) (no-release one.move one.is_act)) rs replies;
+            owed =
+                subst (λ (w : World). EachDue (OwesAt o.machine (bare ((event o s p).lps p).call.held) w) one.owes) (sym world)
+                (subst (λ (hs : List Held). EachDue (OwesAt o.machine (bare hs) (call_world (row_of o p c) one.move s.world)) one.owes) (sym one.held_or_none) one.owed);
+          })
+          laid-after;
+    }
+  where
+    m : Machine
+    m = o.machine
+
+    now : Position
+    now = record { at = after_turn c cs rs run' result.reply; owes = one.owes }
+
+    uV : Table
+    uV = table_of m t.slots one.after.words
+
+    holds : IsMemory m uV None one.after
+    holds = holds-memory m t.slots one.after (λ h in_h. subst (λ (f : ℕ → Option (List ℕ)). IsHand (t.slots (h - 1)) (f h)) (sym one.slots) (sd.slots h in_h)) one.hand
+
+    made : After o (leaf_for o trees p c) (row_of o p c) (s.lps p).replies (event o s p) uV run' result.reply
+    made =
+        ends (engine ls) o (leaf_for o trees p c) (row_of o p c) s mem (table_of m t.slots mem.words) uV run run' result (are.means p c) refl
+        (shown-of o trees s mem t pos p c run known sd i ra.no_hasher) ra.call e
+        (one.ends uV (subst (λ (h : Option Measure). IsMemory m uV h one.after) (sym one.no_hasher) holds)) one.reply
+
+    made-is : (r : WordPlace) → IsIn m r → made.mem.words r ≡ one.after.words r
+    made-is r in_r = same-memory m uV None made.mem one.after (subst (λ (h : Option Measure). IsMemory m uV h made.mem) one.no_hasher made.memory) holds r in_r
+
+    hand : made.mem.hand ≡ None
+    hand = by made.mem.hand (subst (λ (h : Option Measure). IsHand h made.mem.hand) one.no_hasher made.memory.hand)
+      where
+        by : (h : Option (List ℕ)) → IsHand None h → h ≡ None
+        by None x = refl
+        by (Some bytes) x = absurd x
+
+    world : (event o s p).world ≡ call_world (row_of o p c) one.move s.world
+    world = world-of-event o s p (row_of o p c) one.move one.next
+
+    no-attempt : (mv : Move Reply) → IsAct mv → AttemptTdr mv (s.lps p).call.held
+    no-attempt (Attempts l k) a = absurd a
+    no-attempt (Undoes l) a = absurd a
+    no-attempt (Refuses r) a = tt
+    no-attempt Succeeds a = tt
+    no-attempt (Releases h) a = absurd a
+    no-attempt Rests a = absurd a
+
+    no-rest : (mv : Move Reply) → IsAct mv → mv ≡ Rests → ⊥
+    no-rest (Refuses r) a h = cc
+    no-rest Succeeds a h = cc
+    no-rest (Attempts l k) a h = a
+    no-rest (Undoes l) a h = a
+    no-rest (Releases x) a h = a
+    no-rest Rests a h = a
+
+    no-release : (mv : Move Reply) → IsAct mv → (h : Held) → mv ≡ Releases h → (r : Reply) × ((s.lps p).call.phase ≡ Answered r)
+    no-release (Refuses r) a x h = cc
+    no-release Succeeds a x h = cc
+    no-release (Attempts l k) a x h = absurd a
+    no-release (Undoes l) a x h = absurd a
+    no-release (Releases y) a x h = absurd a
+    no-release Rests a x h = absurd a
+
+    owes-other : (k : ℕ) (r : WordPlace) → (k == p) ≡ false → last_at (put pos p now k).owes r ≡ last_at (pos k).owes r
+    owes-other k r h = ap (λ (z : Position). last_at z.owes r) (at-other pos p k now h)
+
+    owes-own : (r : WordPlace) → last_at (put pos p now p).owes r ≡ last_at one.owes r
+    owes-own r = ap (λ (z : Position). last_at z.owes r) (at-own pos p now)
+
+    NoOther : WordPlace → Type 0
+    NoOther r = (k : ℕ) → k < length o.calls → (k == p) ≡ false → last_at (pos k).owes r ≡ None
+
+    first-alone : (r : WordPlace) (x : ℕ) → last_at one.first r ≡ Some x → NoOther r
+    first-alone r x h =
+        let may = last-each ls.places (CanWrite (bare (s.lps p).call.held) s.world) one.first r x one.written h in
+        none-due ls o trees s mem t pos p r known sd i
+        (λ k hs g apart owes. (ls.words (bare (s.lps p).call.held) (bare hs) s.world (turned-round (bare hs) (bare (s.lps p).call.held) apart)).writes_owes r may.0 g may.1 owes)
+
+    owed-alone : (r : WordPlace) (x : ℕ) → last_at one.owes r ≡ Some x → NoOther r
+    owed-alone r x h =
+        let may = last-each ls.places (OwesAt m (bare (s.lps p).call.held) (call_world (row_of o p c) one.move s.world)) one.owes r x one.owed h in
+        none-due ls o trees s mem t pos p r known sd i
+        (λ k hs g apart owes. (ls.acts (bare hs) (bare (s.lps p).call.held) s.world (call_world (row_of o p c) one.move s.world) apart one.spares.respects).owes_later r g may.1.0 owes may.1.1)
+
+    lay : WordPlace → ℕ
+    lay r = laid (length o.calls) (λ k. (put pos p now k).owes) (λ x. t'.words (address m.pages x)) r
+
+    lay-alone : (r : WordPlace) → NoOther r → lay r ≡ or_else (last_at one.owes r) (t'.words (address m.pages r))
+    lay-alone r alone =
+        laid-one (length o.calls) p (λ k. (put pos p now k).owes) (λ x. t'.words (address m.pages x)) r i (λ k j h. owes-other k r h ∙ alone k j h)
+        ∙ ap (λ (z : Option ℕ). or_else z (t'.words (address m.pages r))) (owes-own r)
+
+    laid-after : (r : WordPlace) → IsIn m r → made.mem.words r ≡ lay r
+    laid-after r in_r = made-is r in_r ∙ (one.makes r in_r ∙ by (last_at one.owes r) (last_at one.first r) refl refl)
+      where
+        by : (x y : Option ℕ) → last_at one.owes r ≡ x → last_at one.first r ≡ y → or_else (last_at one.owes r) (or_else (last_at one.first r) (mem.words r)) ≡ lay r
+        by (Some x) y ex ey =
+            ap (λ (z : Option ℕ). or_else z (or_else (last_at one.first r) (mem.words r))) ex
+            ∙ sym (lay-alone r (owed-alone r x ex) ∙ ap (λ (z : Option ℕ). or_else z (t'.words (address m.pages r))) ex)
+        by None (Some y) ex ey =
+            ap (λ (z : Option ℕ). or_else z (or_else (last_at one.first r) (mem.words r))) ex
+            ∙ (ap (λ (z : Option ℕ). or_else z (mem.words r)) ey
+            ∙ sym (lay-alone r (first-alone r y ey)
+            ∙ (ap (λ (z : Option ℕ). or_else z (t'.words (address m.pages r))) ex ∙ (one.table r in_r ∙ ap (λ (z : Option ℕ). or_else z (t.words (address m.pages r))) ey))))
+        by None None ex ey =
+            ap (λ (z : Option ℕ). or_else z (or_else (last_at one.first r) (mem.words r))) ex
+            ∙ (ap (λ (z : Option ℕ). or_else z (mem.words r)) ey
+            ∙ (sd.laid_is r in_r
+            ∙ laid-same (length o.calls) (λ k. (pos k).owes) (λ k. (put pos p now k).owes) (λ x. t.words (address m.pages x)) (λ x. t'.words (address m.pages x)) r owes-same
+            (sym (one.table r in_r ∙ ap (λ (z : Option ℕ). or_else z (t.words (address m.pages r))) ey))))
+          where
+            owes-same : (k : ℕ) → k < length o.calls → last_at (pos k).owes r ≡ last_at (put pos p now k).owes r
+            owes-same k j = test (k == p) refl
+              where
+                test : (b : Bool) → (k == p) ≡ b → last_at (pos k).owes r ≡ last_at (put pos p now k).owes r
+                test true h =
+                    let k-is : k ≡ p = eqb-true k p h in
+                    subst (λ (z : ℕ). last_at (pos z).owes r ≡ last_at (put pos p now z).owes r) (sym k-is)
+                    (ap (λ (ds : List Due). last_at ds r) none ∙ sym (owes-own r ∙ ex))
+                test false h = sym (owes-other k r h)
