@@ -6,3 +6,4 @@ pub mod Others
 pub mod Own
 pub mod LockSteps
 pub mod Acts
+pub mod Ending

@@ -24,8 +24,8 @@ use Rattle.act_rules.specs.Stores.{OthersStoresKeepReads}
 use Rattle.step_core.specs.Items.{Table, Taken, PlaysTo}
 use Rattle.step_core.specs.Laws.{PagesChangeAlone}
 use Rattle.leaf_engine.specs.Changes.{Memory}
-use Rattle.leaf_engine.specs.Trees.{Tree, feed, changes_of}
-use Rattle.leaf_engine.specs.Changes.{are_plain}
+use Rattle.leaf_engine.specs.Trees.{Tree, Lock, Load, Test, End, Since, feed, changes_of}
+use Rattle.leaf_engine.specs.Changes.{Change, are_plain}
 use Rattle.leaf_engine.specs.Means.{Task, OfCall, MeansRow, IsHkid}
 use Rattle.leaf_engine.specs.Decides.{IsHand}
 use Rattle.leaf_engine.specs.Turns.{Standing}
@@ -56,9 +56,14 @@ pub record Laws : Type 0 where
 abbrev pub leaf_for : Opening → (ℕ → Call → Tree) → ℕ → Call → Task
 leaf_for o trees p c = record { place = record { machine = o.machine; lp = p }; tree = trees p c; meaning = OfCall (row_of o p c) }
 
+abbrev pub fills_of : Tree → List Change
+fills_of (End r fs cs) = fs
+fills_of _ = []
+
 pub record AreTrees (o : Opening) (trees : ℕ → Call → Tree) : Type 0 where
   pub means : (p : ℕ) (c : Call) → MeansRow (leaf_for o trees p c)
   pub plain : (p : ℕ) (c : Call) (told : List ℕ) → are_plain (changes_of (feed (trees p c) told)) ≡ true
+  pub unfilled : (p : ℕ) (c : Call) (told : List ℕ) → fills_of (feed (trees p c) told) ≡ []
 
 -- what is known of a state that a run reaches
 pub record Known (o : Opening) (s : State) : Type 0 where

@@ -1,0 +1,291 @@
+-- How a leaf's tree ends: the refusal, or the act, with what its first item stores and what is owed then.
+use Rattle.std.proofs.Common.{◌≡◌, ◌⊎◌, ℕ, zero, suc, ◌+◌, ◌-◌, ◌%◌, ◌^◌, ◌<◌, Bool, true, false, ◌==◌, ◌&&◌, cond, List, [], ◌∷◌, ◌++◌, length, Option, Some, None, refl, ap, sym, ◌∙◌, subst, inl, inr, arith}
+use Rattle.td_words.specs.declared.machines.Machine.{Machine}
+use Rattle.td_words.specs.declared.calls.Call.{Call}
+use Rattle.td_words.specs.declared.replies.Reply.{Reply}
+use Rattle.td_words.specs.Place.{WordPlace, IsIn, address}
+use Rattle.td_words.specs.Laws.{PlacesInjective}
+use Rattle.mrtd_measure.specs.declared.measures.Measure.{Measure}
+use Rattle.flat_core.specs.World.{World}
+use Rattle.flat_core.specs.Processor.{LockId, Held, Phase, Trying, Answered, Progress, Entering, Lp}
+use Rattle.flat_core.specs.Opening.{Opening}
+use Rattle.flat_core.specs.Row.{Row, Move, Attempts, Undoes, Refuses, Succeeds, Releases, Rests, next}
+use Rattle.flat_core.specs.Table.{row_of}
+use Rattle.flat_core.specs.Event.{State, OfCall, next_event, event, call_world, call_lp, settle, settled, succeeded, is_granted}
+use Rattle.word_rules.specs.Guards.{Apart, Grip}
+use Rattle.word_rules.specs.Rules.{View, Grade, KeepsNothing}
+use Rattle.word_rules.specs.Views.{look, IsKept}
+use Rattle.word_rules.specs.Permissions.{Reads, Owes, Writes, Respects}
+use Rattle.word_rules.specs.Cells.{Shows}
+use Rattle.lock_words.specs.LockWords.{put_word}
+use Rattle.step_core.specs.Items.{Table}
+use Rattle.leaf_engine.specs.declared.events.RunTurn.{RunTurn}
+use Rattle.leaf_engine.specs.declared.events.Stage.TheVariants as stages
+use Rattle.leaf_engine.specs.declared.needs.Need.TheVariants as need
+use Rattle.leaf_engine.specs.Changes.{Memory, Change, Put, PutHash, Raise, Clear, Copy, Swap, changed, changed_all, is_plain, are_plain}
+use Rattle.leaf_engine.specs.Trees.{Tree, Lock, Load, Test, End, Since, feed, changes_of}
+use Rattle.leaf_engine.specs.Means.{Task, Instant, Work, IsAt, work_of, hold, Acts, MayAct, MayChange, MayOweAll, acted, LocksStay, MeansRow}
+use Rattle.leaf_engine.specs.Decides.{Gives}
+use Rattle.leaf_engine.specs.Tables.{IsMemory}
+use Rattle.leaf_engine.specs.Turns.{Standing, last_reply}
+use Rattle.leaf_engine.specs.Follows.{granted, Current, Comes}
+use Rattle.leaf_engine.specs.Shown.{EndsRow, move_due, locks_held}
+use Rattle.leaf_engine.specs.Calls.{IsCallAt}
+use Rattle.leaf_engine.proofs.Following.{leaves-follow-rows}
+use Rattle.leaf_engine.proofs.Turning.{instant, at-instant, due-is}
+use Rattle.leaf_engine.proofs.Showing.{EndsWith, ends-with}
+use Rattle.merge_laws.proofs.Virtual.{table_of}
+use Rattle.merge_laws.proofs.Stores.{Due, last_at, later, or_else, stores_of, all_stores, EachDue, OwesAt, last-append, or-later, changed-is, changed-rest, owed-stores, looks-owed}
+use Rattle.merge_laws.proofs.Holding.{bare}
+use Rattle.merge_laws.proofs.Standing.{Laws, leaf_for, fills_of, AreTrees, Known, Position, Stands}
+use Rattle.merge_laws.proofs.Others.{shown-of, hold-is}
+use Rattle.merge_laws.proofs.Own.{lp-of-event, Spares}
+use Rattle.merge_laws.proofs.Acts.{IsAct, CanWrite, OneAct}
+
+-- what the first item of an act stores, and what is owed then
+abbrev pub act_first : List Change → Memory → List Due
+act_first [] mem = []
+act_first (c ∷ cs) mem = stores_of c mem
+
+abbrev pub act_owes : List Change → Memory → List Due
+act_owes [] mem = []
+act_owes (c ∷ cs) mem = all_stores cs (changed c mem)
+
+-- the locks held stay through an act
+act-held : (o : Opening) (s : State) (p : ℕ) (row : Row) (mv : Move Reply) → next_event o s p ≡ Some (OfCall row mv) → row.enters ≡ None → IsAct mv → ((event o s p).lps p).call.held ≡ (s.lps p).call.held
+act-held o s p row mv e none a =
+    ap (λ (z : Lp). z.call.held) (lp-of-event o s p row mv e) ∙ by mv a
+  where
+    settled-held : (r : Reply) (hs : List Held) (lp : Lp) → lp.call.held ≡ hs → (settle (Answered r) hs lp).call.held ≡ hs
+    settled-held r [] lp h = refl
+    settled-held r (x ∷ hs) lp h = h
+
+    by : (mv : Move Reply) → IsAct mv → (settled (call_lp s.world (is_granted s (OfCall row mv)) row mv (s.lps p))).call.held ≡ (s.lps p).call.held
+    by (Refuses r) a = settled-held r (s.lps p).call.held _ refl
+    by Succeeds a =
+        subst (λ (x : Option Entering). (settled (succeeded s.world row x (s.lps p))).call.held ≡ (s.lps p).call.held) (sym none)
+        (settled-held (Rattle.td_words.specs.declared.replies.Reply.TheVariants.Done (row.value s.world)) (s.lps p).call.held _ refl)
+    by (Attempts l m) a = absurd a
+    by (Undoes l) a = absurd a
+    by (Releases h) a = absurd a
+    by Rests a = absurd a
+
+and-first : (a b : Bool) → (a && b) ≡ true → a ≡ true
+and-first true b h = refl
+and-first false b h = cc
+
+and-second : (a b : Bool) → (a && b) ≡ true → b ≡ true
+and-second true b h = h
+and-second false b h = cc
+
+-- a store that is the act leaves what others have read
+act-looks : (ls : Laws) (m : Machine) (g h : Grip) (w : World) (mem : Memory) (c : Change) (r : WordPlace) (v : View) → Apart g h → MayAct m h w mem c → is_plain c ≡ true → Reads g w r v
+    → look v ((changed c mem).words r) ≡ look v (mem.words r)
+act-looks ls m g h w mem (Put q x) r v a may pl rd = (ls.keep g h w mem.words a).act q r x v may.1.0 rd may.1.1 may.1.2
+act-looks ls m g h w mem (PutHash q x) r v a may pl rd = cc
+act-looks ls m g h w mem (Raise q) r v a may pl rd = (ls.keep g h w mem.words a).act q r ((mem.words q + 1) % 2 ^ 64) v KeepsNothing rd may.1 tt
+act-looks ls m g h w mem (Clear p) r v a may pl rd = absurd may
+act-looks ls m g h w mem (Copy p q) r v a may pl rd = absurd may
+act-looks ls m g h w mem (Swap k made) r v a may pl rd = cc
+
+owed-looks : (ls : Laws) (m : Machine) (g h : Grip) (w w' : World) (mem : Memory) (cs : List Change) (r : WordPlace) (v : View) → Apart g h → Respects h w w' → IsIn m r → MayOweAll m h w' mem cs → are_plain cs ≡ true → Reads g w r v
+    → look v ((changed_all cs mem).words r) ≡ look v (mem.words r)
+owed-looks ls m g h w w' mem cs r v a rs in_r may pl rd =
+    looks-owed ls.places m h w' mem cs r v in_r may pl (λ words q x k owes kept. (ls.keep g h w words a).left w' q r x v k rs rd owes kept)
+
+act-written : (m : Machine) (g : Grip) (w : World) (mem : Memory) (c : Change) → MayAct m g w mem c → is_plain c ≡ true → EachDue (CanWrite g w) (stores_of c mem)
+act-written m g w mem (Put q x) may pl = ((may.1.0, may.1.1), tt)
+act-written m g w mem (PutHash q x) may pl = cc
+act-written m g w mem (Raise q) may pl = ((KeepsNothing, may.1), tt)
+act-written m g w mem (Clear p) may pl = absurd may
+act-written m g w mem (Copy p q) may pl = absurd may
+act-written m g w mem (Swap k made) may pl = cc
+
+-- where a turn stands that comes to its end, having been told these words
+pub record AtEnd (o : Opening) (trees : ℕ → Call → Tree) (s : State) (mem : Memory) (p : ℕ) (c : Call) (told now : List ℕ) (reply : Reply) (run run' : Standing) (result : RunTurn) : Type 0 where
+  pub current : Current mem.words (trees p c) now
+  pub locks : granted (trees p c) now [] ≡ granted (trees p c) told []
+  pub gives : Gives o.machine.pages (feed (trees p c) now) (need.Verdict reply)
+  pub answered : run'.stage ≡ stages.Answered reply
+  pub held : run'.held ≡ run.held
+  pub no_hasher : run'.hasher ≡ None
+  pub last : result.reply ≡ last_reply run'.stage run'.held
+
+-- what its end stores first, and owes
+abbrev pub first_of : Tree → Memory → List Due
+first_of (End r fs cs) mem = act_first cs mem
+first_of _ mem = []
+
+abbrev pub owes_of : Tree → Memory → List Due
+owes_of (End r fs cs) mem = act_owes cs mem
+owes_of (Since r cs) mem = all_stores cs mem
+owes_of _ mem = []
+
+pub one-act : (ls : Laws) (o : Opening) (trees : ℕ → Call → Tree) (s : State) (mem : Memory) (t t' : Table) (pos : ℕ → Position) (p : ℕ) (c : Call) (now : List ℕ) (reply : Reply) (run run' : Standing) (result : RunTurn)
+    → AreTrees o trees → Known o s → Stands o trees s mem t pos → p < length o.calls → run.hasher ≡ None → (ca : IsCallAt o (leaf_for o trees p c) (row_of o p c) s.world mem.words (s.lps p) run) → (e : run.stage ≡ stages.Trying)
+    → AtEnd o trees s mem p c (ca.told e).told now reply run run' result
+    → ((r : WordPlace) → IsIn o.machine r → t'.words (address o.machine.pages r) ≡ or_else (last_at (first_of (feed (trees p c) now) mem) r) (t.words (address o.machine.pages r))) → t'.slots ≡ t.slots
+    → (one : OneAct o trees s mem t t' p c (ca.told e).told run run' result) × (one.owes ≡ owes_of (feed (trees p c) now) mem)
+one-act ls o trees s mem t t' pos p c now reply run run' result are known sd i no_hasher ca e en table slots =
+    by (feed (trees p c) now) (leaves-follow-rows task inst now (are.means p c) at en.current) en.gives (are.plain p c now) (are.unfilled p c now) table (ends-with m inst k hs mv (feed (trees p c) now) reply (leaves-follow-rows task inst now (are.means p c) at en.current) en.gives)
+  where
+    m : Machine
+    m = o.machine
+
+    task : Task
+    task = leaf_for o trees p c
+
+    row : Row
+    row = row_of o p c
+
+    inst : Instant
+    inst = instant task s mem
+
+    k : Work
+    k = work_of task.meaning
+
+    hs : List Held
+    hs = granted (trees p c) now []
+
+    mv : Move Reply
+    mv = move_due task inst now
+
+    told : List ℕ
+    told = (ca.told e).told
+
+    at : IsAt task inst
+    at = at-instant o task row s mem (table_of m t.slots mem.words) run refl (shown-of o trees s mem t pos p c run known sd i no_hasher) ca e
+
+    -- the locks held
+    held-is : hs ≡ (s.lps p).call.held
+    held-is = en.locks ∙ (ca.told e).locks
+
+    grip : hold inst hs ≡ bare (s.lps p).call.held
+    grip = hold-is s mem task hs sd.guests ∙ ap bare held-is
+
+    due : move_due task inst told ≡ mv
+    due = ap (λ (xs : List Held). next (k.items s.world) (length xs)) (sym en.locks)
+
+    next-is : (mv' : Move Reply) → mv ≡ mv' → next_event o s p ≡ Some (OfCall row mv')
+    next-is mv' h = due-is o task row s mem run mv' refl ca e (due ∙ h)
+
+    refusal : (r : Reply) → mv ≡ Refuses r → r ≡ reply → (u : Table) → IsMemory m u run'.hasher mem → EndsRow task inst told u run run'
+    refusal r h q u mm = record {
+      reply = reply;
+      after = mem;
+      answered = en.answered;
+      held_is = en.held;
+      memory = mm;
+      ends = inl (due ∙ (h ∙ ap Refuses q), refl);
+    }
+
+    success : (after : Memory) → mv ≡ Succeeds → reply ≡ k.reply s.world → Shows m after.words after.slots (acted k s) → LocksStay s.world (k.act s.world) hs → (u : Table) → IsMemory m u run'.hasher after → EndsRow task inst told u run run'
+    success after h q sh st u mm = record {
+      reply = reply;
+      after = after;
+      answered = en.answered;
+      held_is = en.held;
+      memory = mm;
+      ends = inr (due ∙ h, q, sh, subst (λ (xs : List Held). LocksStay s.world (k.act s.world) xs) en.locks st);
+    }
+
+    refused : (r : Reply) → mv ≡ Refuses r → r ≡ reply → ((r : WordPlace) → IsIn m r → t'.words (address m.pages r) ≡ t.words (address m.pages r)) → OneAct o trees s mem t t' p c told run run' result
+    refused r h q same = record {
+      move = Refuses r;
+      is_act = tt;
+      next = next-is (Refuses r) h;
+      after = mem;
+      hand = sd.hand;
+      slots = refl;
+      ends = refusal r h q;
+      no_hasher = en.no_hasher;
+      reply = en.last;
+      first = [];
+      owes = [];
+      spares = record { respects = ls.compose.same (bare (s.lps p).call.held) s.world; looks = λ xs v x apart in_x reads. refl };
+      makes = λ x in_x. refl;
+      written = tt;
+      owed = tt;
+      held_or_none = act-held o s p row (Refuses r) (next-is (Refuses r) h) (are.means p c).enters_none tt;
+      table = same;
+      table_slots = slots;
+    }
+
+    -- the act that succeeds, whose stores are these
+    succeeded : (cs : List Change) (first owes : List Due) → mv ≡ Succeeds → are_plain cs ≡ true → reply ≡ k.reply s.world
+        → Shows m (changed_all cs mem).words (changed_all cs mem).slots (acted k s) → LocksStay s.world (k.act s.world) hs → Respects (bare (s.lps p).call.held) s.world (row.act s.world)
+        → ((xs : List Held) (v : View) (r : WordPlace) → Apart (bare xs) (bare (s.lps p).call.held) → IsIn m r → Reads (bare xs) s.world r v → look v ((changed_all cs mem).words r) ≡ look v (mem.words r))
+        → ((r : WordPlace) → last_at (all_stores cs mem) r ≡ later (last_at owes r) (last_at first r))
+        → EachDue (CanWrite (bare (s.lps p).call.held) s.world) first → EachDue (OwesAt m (bare (s.lps p).call.held) (row.act s.world)) owes
+        → ((r : WordPlace) → IsIn m r → t'.words (address m.pages r) ≡ or_else (last_at first r) (t.words (address m.pages r)))
+        → OneAct o trees s mem t t' p c told run run' result
+    succeeded cs first owes h pl q sh st rs looks parts written owed same = record {
+      move = Succeeds;
+      is_act = tt;
+      next = next-is Succeeds h;
+      after = changed_all cs mem;
+      hand = (changed-rest cs mem pl).1 ∙ sd.hand;
+      slots = (changed-rest cs mem pl).0;
+      ends = success (changed_all cs mem) h q sh st;
+      no_hasher = en.no_hasher;
+      reply = en.last;
+      first = first;
+      owes = owes;
+      spares = record { respects = rs; looks = looks };
+      makes = λ r in_r.
+          changed-is ls.places m cs mem r in_r pl ∙ (ap (λ (z : Option ℕ). or_else z (mem.words r)) (parts r) ∙ or-later (last_at owes r) (last_at first r) (mem.words r));
+      written = written;
+      owed = owed;
+      held_or_none = act-held o s p row Succeeds (next-is Succeeds h) (are.means p c).enters_none tt;
+      table = same;
+      table_slots = slots;
+    }
+
+    gives-is : (n : ℕ) (r r' : Reply) (fs cs : List Change) → Gives n (End r fs cs) (need.Verdict r') → r ≡ r'
+    gives-is n r r' fs cs g = cc
+
+    ends-success : (r : Reply) (cs : List Change) → mv ≡ Succeeds → r ≡ reply → are_plain cs ≡ true → Acts m inst k hs r [] cs → MayChange m (hold inst hs) s.world (k.act s.world) mem cs
+        → ((x : WordPlace) → IsIn m x → t'.words (address m.pages x) ≡ or_else (last_at (act_first cs mem) x) (t.words (address m.pages x)))
+        → (one : OneAct o trees s mem t t' p c told run run' result) × (one.owes ≡ act_owes cs mem)
+    ends-success r [] h q pl ac may same = (
+      succeeded [] [] [] h refl (sym q ∙ ac.reply_is) ac.shows ac.locks_stay (subst (λ (g : Grip). Respects g s.world (row.act s.world)) grip ac.respects) (λ xs v x apart in_x reads. refl) (λ x. refl) tt tt same,
+      refl,
+    )
+    ends-success r (c1 ∷ cs) h q pl ac may same =
+        let rs : Respects (bare (s.lps p).call.held) s.world (row.act s.world) = subst (λ (g : Grip). Respects g s.world (row.act s.world)) grip ac.respects in
+        let may' : MayChange m (bare (s.lps p).call.held) s.world (k.act s.world) mem (c1 ∷ cs) = subst (λ (g : Grip). MayChange m g s.world (k.act s.world) mem (c1 ∷ cs)) grip may in
+        let pl1 : is_plain c1 ≡ true = and-first (is_plain c1) (are_plain cs) pl in
+        let pl2 : are_plain cs ≡ true = and-second (is_plain c1) (are_plain cs) pl in (
+          succeeded (c1 ∷ cs) (stores_of c1 mem) (all_stores cs (changed c1 mem)) h pl (sym q ∙ ac.reply_is) ac.shows ac.locks_stay rs
+          (λ xs v x apart in_x reads.
+              owed-looks ls m (bare xs) (bare (s.lps p).call.held) s.world (row.act s.world) (changed c1 mem) cs x v apart rs in_x may'.1 pl2 reads
+              ∙ act-looks ls m (bare xs) (bare (s.lps p).call.held) s.world mem c1 x v apart may'.0 pl1 reads)
+          (λ x. last-append (stores_of c1 mem) (all_stores cs (changed c1 mem)) x)
+          (act-written m (bare (s.lps p).call.held) s.world mem c1 may'.0 pl1)
+          (owed-stores m (bare (s.lps p).call.held) (row.act s.world) (changed c1 mem) cs may'.1 pl2) same,
+          refl,
+        )
+
+    since-success : (r : Reply) (cs : List Change) → mv ≡ Succeeds → r ≡ reply → are_plain cs ≡ true → Acts m inst k hs r [] cs → MayOweAll m (hold inst hs) (k.act s.world) mem cs
+        → ((x : WordPlace) → IsIn m x → t'.words (address m.pages x) ≡ t.words (address m.pages x))
+        → (one : OneAct o trees s mem t t' p c told run run' result) × (one.owes ≡ all_stores cs mem)
+    since-success r cs h q pl ac may same =
+        let rs : Respects (bare (s.lps p).call.held) s.world (row.act s.world) = subst (λ (g : Grip). Respects g s.world (row.act s.world)) grip ac.respects in
+        let may' : MayOweAll m (bare (s.lps p).call.held) (k.act s.world) mem cs = subst (λ (g : Grip). MayOweAll m g (k.act s.world) mem cs) grip may in (
+          succeeded cs [] (all_stores cs mem) h pl (sym q ∙ ac.reply_is) ac.shows ac.locks_stay rs
+          (λ xs v x apart in_x reads. owed-looks ls m (bare xs) (bare (s.lps p).call.held) s.world (row.act s.world) mem cs x v apart rs in_x may' pl reads)
+          (λ x. last-append [] (all_stores cs mem) x) tt (owed-stores m (bare (s.lps p).call.held) (row.act s.world) mem cs may' pl) same,
+          refl,
+        )
+
+    by : (tree : Tree) → Comes m inst k hs tree mv → Gives m.pages tree (need.Verdict reply) → are_plain (changes_of tree) ≡ true → fills_of tree ≡ []
+        → ((r : WordPlace) → IsIn m r → t'.words (address m.pages r) ≡ or_else (last_at (first_of tree mem) r) (t.words (address m.pages r)))
+        → EndsWith m inst k hs mv tree reply → (one : OneAct o trees s mem t t' p c told run run' result) × (one.owes ≡ owes_of tree mem)
+    by (Lock l q mode x) co g pl nf same w = cc
+    by (Load v q x) co g pl nf same w = cc
+    by (Test b r x) co g pl nf same w = absurd g
+    by (End r [] []) (inl co) g pl nf same w = (refused r co.0 (gives-is m.pages r reply [] [] g) same, refl)
+    by (End r [] (c1 ∷ cs)) (inl co) g pl nf same w = (let bad = co.2 in cc)
+    by (End r (f ∷ fs) cs) co g pl nf same w = cc
+    by (End r [] cs) (inr co) g pl nf same w = ends-success r cs co.0 (gives-is m.pages r reply [] cs g) pl co.1 co.2 same
+    by (Since r cs) co g pl nf same w = since-success r cs co.0 (cc g) pl co.1 co.2 same
