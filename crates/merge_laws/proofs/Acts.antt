@@ -30,9 +30,10 @@ use Rattle.leaf_engine.specs.Calls.{IsCallAt, After}
 use Rattle.leaf_engine.specs.OwnLists.{WordLp, after_turn}
 use Rattle.leaf_engine.proofs.Turning.{instant, ends}
 use Rattle.merge_laws.proofs.Virtual.{table_of, holds-memory}
-use Rattle.merge_laws.proofs.Stores.{Due, last_at, later, or_else, laid, laid-one, laid-same, last-each, each-map, EachDue, OwesAt}
+use Rattle.merge_laws.proofs.Stores.{Due, last_at, later, or_else, laid, laid-one, laid-none, laid-same, last-each, EachDue, OwesAt}
+use Rattle.merge_laws.proofs.Keeping.{Keeps, keeps-each, keeps-same}
 use Rattle.merge_laws.proofs.Holding.{bare}
-use Rattle.merge_laws.proofs.Standing.{Laws, leaf_for, AreTrees, Known, RunsAt, Position, Holds, Stands}
+use Rattle.merge_laws.proofs.Standing.{Laws, leaf_for, AreTrees, Known, RunsAt, on_table, Position, Holds, Stands}
 use Rattle.merge_laws.proofs.Others.{shown-of}
 use Rattle.merge_laws.proofs.Own.{AttemptTdr, tdrs-after, stands-after, world-of-event, at-own, at-other, Spares, gathered, none-due}
 use Rattle.merge_laws.proofs.LockSteps.{engine, turned-round, Moved}
@@ -59,10 +60,10 @@ pub record OneAct (o : Opening) (trees : ℕ → Call → Tree) (s : State) (mem
   pub reply : result.reply ≡ last_reply run'.stage run'.held
   pub first : List Due
   pub owes : List Due
-  pub spares : Spares o.machine s p (call_world (row_of o p c) move s.world) mem.words after.words
+  pub spares : Spares o.machine s p (call_world (row_of o p c) move s.world) mem.words after.words (on_table o.machine t) (on_table o.machine t')
   pub makes : (r : WordPlace) → IsIn o.machine r → after.words r ≡ or_else (last_at owes r) (or_else (last_at first r) (mem.words r))
   pub written : EachDue (CanWrite (bare (s.lps p).call.held) s.world) first
-  pub owed : EachDue (OwesAt o.machine (bare (s.lps p).call.held) (call_world (row_of o p c) move s.world)) owes
+  pub owed : Keeps o.machine (bare (s.lps p).call.held) (call_world (row_of o p c) move s.world) (λ q. or_else (last_at first q) (mem.words q)) owes
   pub held_or_none : ((event o s p).lps p).call.held ≡ (s.lps p).call.held
   pub table : (r : WordPlace) → IsIn o.machine r → t'.words (address o.machine.pages r) ≡ or_else (last_at first r) (t.words (address o.machine.pages r))
   pub table_slots : t'.slots ≡ t.slots
@@ -81,6 +82,7 @@ act-step ls o trees s mem t t' pos p c cs rs run run' result are known sd i line
           (record {
             respects = subst (λ (w : World). Respects (bare (s.lps p).call.held) s.world w) (sym world) one.spares.respects;
             looks = λ hs v r apart in_r reads. ap (look v) (made-is r in_r) ∙ one.spares.looks hs v r apart in_r reads;
+            still = one.spares.still;
           })
           made.shown hand
           (λ h in_h. subst (λ (f : ℕ → Option Measure). IsHand (f (h - 1)) (made.mem.slots h)) (sym one.table_slots) (made.memory.slots h in_h))
@@ -88,8 +90,9 @@ act-step ls o trees s mem t t' pos p c cs rs run run' result are known sd i line
             stands = stands-after o trees p c cs (s.lps p) (event o s p) uV run' result.reply lines made one.no_hasher
                 (tdrs-after o s p (row_of o p c) one.move one.next (are.means p c).enters_none ra.tdrs (no-attempt one.move one.is_act) (no-rest one.move one.is_act) (no-release one.move one.is_act)) rs replies;
             owed =
-                subst (λ (w : World). EachDue (OwesAt o.machine (bare ((event o s p).lps p).call.held) w) one.owes) (sym world)
-                (subst (λ (hs : List Held). EachDue (OwesAt o.machine (bare hs) (call_world (row_of o p c) one.move s.world)) one.owes) (sym one.held_or_none) one.owed);
+                subst (λ (w : World). Keeps m (bare ((event o s p).lps p).call.held) w (on_table m t') one.owes) (sym world)
+                (subst (λ (hs : List Held). Keeps m (bare hs) (call_world (row_of o p c) one.move s.world) (on_table m t') one.owes) (sym one.held_or_none)
+                (keeps-same m (bare (s.lps p).call.held) (bare (s.lps p).call.held) after-world after-world (λ q. or_else (last_at one.first q) (mem.words q)) (on_table m t') one.owes (λ q k owes. owes) kept-there one.owed));
           })
           laid-after;
     }
@@ -164,18 +167,38 @@ act-step ls o trees s mem t t' pos p c cs rs run run' result are known sd i line
         none-due ls o trees s mem t pos p r known sd i
         (λ k hs g apart owes. (ls.words (bare (s.lps p).call.held) (bare hs) s.world (turned-round (bare hs) (bare (s.lps p).call.held) apart)).writes_owes r may.0 g may.1 owes)
 
+    after-world : World
+    after-world = call_world (row_of o p c) one.move s.world
+
+    alone-owes : (r : WordPlace) (k : Grade) → Owes (bare (s.lps p).call.held) after-world r k → NoOther r
+    alone-owes r k mine =
+        none-due ls o trees s mem t pos p r known sd i
+        (λ j hs g apart owes. (ls.acts (bare hs) (bare (s.lps p).call.held) s.world after-world apart one.spares.respects).owes_later r g k owes mine)
+
+    mine-none : (r : WordPlace) (k : ℕ) → k < length o.calls → NoOther r → last_at (pos k).owes r ≡ None
+    mine-none r k j alone = test (k == p) refl
+      where
+        test : (b : Bool) → (k == p) ≡ b → last_at (pos k).owes r ≡ None
+        test true h = (let k-is : k ≡ p = eqb-true k p h in ap (λ (z : ℕ). last_at (pos z).owes r) k-is ∙ ap (λ (ds : List Due). last_at ds r) none)
+        test false h = alone k j h
+
+    kept-there : (r : WordPlace) (k : Grade) → IsIn m r → Owes (bare (s.lps p).call.held) after-world r k → or_else (last_at one.first r) (mem.words r) ≡ on_table m t' r
+    kept-there r k in_r mine =
+        ap (or_else (last_at one.first r)) (sd.laid_is r in_r ∙ laid-none (length o.calls) (λ j. (pos j).owes) (on_table m t) r (λ j l. mine-none r j l (alone-owes r k mine)))
+        ∙ sym (one.table r in_r)
+
     owed-alone : (r : WordPlace) (x : ℕ) → last_at one.owes r ≡ Some x → NoOther r
     owed-alone r x h =
-        let may = last-each ls.places (OwesAt m (bare (s.lps p).call.held) (call_world (row_of o p c) one.move s.world)) one.owes r x one.owed h in
-        none-due ls o trees s mem t pos p r known sd i
-        (λ k hs g apart owes. (ls.acts (bare hs) (bare (s.lps p).call.held) s.world (call_world (row_of o p c) one.move s.world) apart one.spares.respects).owes_later r g may.1.0 owes may.1.1)
+        let each = keeps-each m (bare (s.lps p).call.held) after-world (λ q. or_else (last_at one.first q) (mem.words q)) one.owes one.owed in
+        let may = last-each ls.places (OwesAt m (bare (s.lps p).call.held) after-world) one.owes r x each h in
+        alone-owes r may.1.0 may.1.1
 
     lay : WordPlace → ℕ
-    lay r = laid (length o.calls) (λ k. (put pos p now k).owes) (λ x. t'.words (address m.pages x)) r
+    lay r = laid (length o.calls) (λ k. (put pos p now k).owes) (on_table m t') r
 
     lay-alone : (r : WordPlace) → NoOther r → lay r ≡ or_else (last_at one.owes r) (t'.words (address m.pages r))
     lay-alone r alone =
-        laid-one (length o.calls) p (λ k. (put pos p now k).owes) (λ x. t'.words (address m.pages x)) r i (λ k j h. owes-other k r h ∙ alone k j h)
+        laid-one (length o.calls) p (λ k. (put pos p now k).owes) (on_table m t') r i (λ k j h. owes-other k r h ∙ alone k j h)
         ∙ ap (λ (z : Option ℕ). or_else z (t'.words (address m.pages r))) (owes-own r)
 
     laid-after : (r : WordPlace) → IsIn m r → made.mem.words r ≡ lay r
@@ -194,7 +217,7 @@ act-step ls o trees s mem t t' pos p c cs rs run run' result are known sd i line
             ap (λ (z : Option ℕ). or_else z (or_else (last_at one.first r) (mem.words r))) ex
             ∙ (ap (λ (z : Option ℕ). or_else z (mem.words r)) ey
             ∙ (sd.laid_is r in_r
-            ∙ laid-same (length o.calls) (λ k. (pos k).owes) (λ k. (put pos p now k).owes) (λ x. t.words (address m.pages x)) (λ x. t'.words (address m.pages x)) r owes-same
+            ∙ laid-same (length o.calls) (λ k. (pos k).owes) (λ k. (put pos p now k).owes) (on_table m t) (on_table m t') r owes-same
             (sym (one.table r in_r ∙ ap (λ (z : Option ℕ). or_else z (t.words (address m.pages r))) ey))))
           where
             owes-same : (k : ℕ) → k < length o.calls → last_at (pos k).owes r ≡ last_at (put pos p now k).owes r

@@ -35,11 +35,13 @@ use Rattle.leaf_engine.proofs.Following.{leaves-follow-rows}
 use Rattle.leaf_engine.proofs.Turning.{instant, at-instant, due-is}
 use Rattle.leaf_engine.proofs.Showing.{EndsWith, ends-with}
 use Rattle.merge_laws.proofs.Virtual.{table_of}
-use Rattle.merge_laws.proofs.Stores.{Due, last_at, later, or_else, stores_of, all_stores, EachDue, OwesAt, last-append, or-later, changed-is, changed-rest, owed-stores, looks-owed}
+use Rattle.merge_laws.proofs.Stores.{Due, last_at, later, or_else, stores_of, all_stores, EachDue, last-each, last-append, or-later, changed-is, one-is, changed-rest, looks-owed}
+use Rattle.merge_laws.proofs.Keeping.{Keeps, keeps-same, owed-keeps}
 use Rattle.merge_laws.proofs.Holding.{bare}
-use Rattle.merge_laws.proofs.Standing.{Laws, leaf_for, fills_of, AreTrees, Known, Position, Stands}
+use Rattle.merge_laws.proofs.Standing.{Laws, leaf_for, fills_of, AreTrees, Known, on_table, Position, Stands}
 use Rattle.merge_laws.proofs.Others.{shown-of, hold-is}
 use Rattle.merge_laws.proofs.Own.{lp-of-event, Spares}
+use Rattle.merge_laws.proofs.LockSteps.{turned-round}
 use Rattle.merge_laws.proofs.Acts.{IsAct, CanWrite, OneAct}
 
 -- what the first item of an act stores, and what is owed then
@@ -189,7 +191,7 @@ one-act ls o trees s mem t t' pos p c now reply run run' result are known sd i n
       ends = inr (due ∙ h, q, sh, subst (λ (xs : List Held). LocksStay s.world (k.act s.world) xs) en.locks st);
     }
 
-    refused : (r : Reply) → mv ≡ Refuses r → r ≡ reply → ((r : WordPlace) → IsIn m r → t'.words (address m.pages r) ≡ t.words (address m.pages r)) → OneAct o trees s mem t t' p c told run run' result
+    refused : (r : Reply) → mv ≡ Refuses r → r ≡ reply → ((x : WordPlace) → IsIn m x → t'.words (address m.pages x) ≡ t.words (address m.pages x)) → OneAct o trees s mem t t' p c told run run' result
     refused r h q same = record {
       move = Refuses r;
       is_act = tt;
@@ -202,7 +204,7 @@ one-act ls o trees s mem t t' pos p c now reply run run' result are known sd i n
       reply = en.last;
       first = [];
       owes = [];
-      spares = record { respects = ls.compose.same (bare (s.lps p).call.held) s.world; looks = λ xs v x apart in_x reads. refl };
+      spares = record { respects = ls.compose.same (bare (s.lps p).call.held) s.world; looks = λ xs v x apart in_x reads. refl; still = λ xs x g apart in_x owes. sym (same x in_x) };
       makes = λ x in_x. refl;
       written = tt;
       owed = tt;
@@ -211,12 +213,23 @@ one-act ls o trees s mem t t' pos p c now reply run run' result are known sd i n
       table_slots = slots;
     }
 
+    -- a store that another owes isn't at a word that the act stores
+    no-write : (xs : List Held) (x : WordPlace) (g : Grade) → Apart (bare xs) (bare (s.lps p).call.held) → Owes (bare xs) s.world x g → (first : List Due) (y : ℕ) → EachDue (CanWrite (bare (s.lps p).call.held) s.world) first → last_at first x ≡ Some y → ⊥
+    no-write xs x g apart owes first y written z =
+        let may = last-each ls.places (CanWrite (bare (s.lps p).call.held) s.world) first x y written z in
+        (ls.words (bare (s.lps p).call.held) (bare xs) s.world (turned-round (bare xs) (bare (s.lps p).call.held) apart)).writes_owes x may.0 g may.1 owes
+
+    unwritten : (first : List Due) (x : WordPlace) → IsIn m x → (y : Option ℕ) → last_at first x ≡ y → ((y : ℕ) → last_at first x ≡ Some y → ⊥)
+        → ((r : WordPlace) → IsIn m r → t'.words (address m.pages r) ≡ or_else (last_at first r) (t.words (address m.pages r))) → on_table m t x ≡ on_table m t' x
+    unwritten first x in_x None e never same = sym (same x in_x ∙ ap (λ (z : Option ℕ). or_else z (t.words (address m.pages x))) e)
+    unwritten first x in_x (Some y) e never same = absurd (never y e)
+
     -- the act that succeeds, whose stores are these
     succeeded : (cs : List Change) (first owes : List Due) → mv ≡ Succeeds → are_plain cs ≡ true → reply ≡ k.reply s.world
         → Shows m (changed_all cs mem).words (changed_all cs mem).slots (acted k s) → LocksStay s.world (k.act s.world) hs → Respects (bare (s.lps p).call.held) s.world (row.act s.world)
         → ((xs : List Held) (v : View) (r : WordPlace) → Apart (bare xs) (bare (s.lps p).call.held) → IsIn m r → Reads (bare xs) s.world r v → look v ((changed_all cs mem).words r) ≡ look v (mem.words r))
         → ((r : WordPlace) → last_at (all_stores cs mem) r ≡ later (last_at owes r) (last_at first r))
-        → EachDue (CanWrite (bare (s.lps p).call.held) s.world) first → EachDue (OwesAt m (bare (s.lps p).call.held) (row.act s.world)) owes
+        → EachDue (CanWrite (bare (s.lps p).call.held) s.world) first → Keeps m (bare (s.lps p).call.held) (row.act s.world) (λ x. or_else (last_at first x) (mem.words x)) owes
         → ((r : WordPlace) → IsIn m r → t'.words (address m.pages r) ≡ or_else (last_at first r) (t.words (address m.pages r)))
         → OneAct o trees s mem t t' p c told run run' result
     succeeded cs first owes h pl q sh st rs looks parts written owed same = record {
@@ -231,7 +244,7 @@ one-act ls o trees s mem t t' pos p c now reply run run' result are known sd i n
       reply = en.last;
       first = first;
       owes = owes;
-      spares = record { respects = rs; looks = looks };
+      spares = record { respects = rs; looks = looks; still = λ xs x g apart in_x owes. unwritten first x in_x (last_at first x) refl (λ y z. no-write xs x g apart owes first y written z) same };
       makes = λ r in_r.
           changed-is ls.places m cs mem r in_r pl ∙ (ap (λ (z : Option ℕ). or_else z (mem.words r)) (parts r) ∙ or-later (last_at owes r) (last_at first r) (mem.words r));
       written = written;
@@ -262,7 +275,8 @@ one-act ls o trees s mem t t' pos p c now reply run run' result are known sd i n
               ∙ act-looks ls m (bare xs) (bare (s.lps p).call.held) s.world mem c1 x v apart may'.0 pl1 reads)
           (λ x. last-append (stores_of c1 mem) (all_stores cs (changed c1 mem)) x)
           (act-written m (bare (s.lps p).call.held) s.world mem c1 may'.0 pl1)
-          (owed-stores m (bare (s.lps p).call.held) (row.act s.world) (changed c1 mem) cs may'.1 pl2) same,
+          (keeps-same m (bare (s.lps p).call.held) (bare (s.lps p).call.held) (row.act s.world) (row.act s.world) (changed c1 mem).words (λ x. or_else (last_at (stores_of c1 mem) x) (mem.words x)) (all_stores cs (changed c1 mem))
+          (λ x g owes. owes) (λ x g in_x owes. one-is m c1 mem x in_x pl1) (owed-keeps m (bare (s.lps p).call.held) (row.act s.world) (changed c1 mem) cs may'.1 pl2)) same,
           refl,
         )
 
@@ -274,7 +288,7 @@ one-act ls o trees s mem t t' pos p c now reply run run' result are known sd i n
         let may' : MayOweAll m (bare (s.lps p).call.held) (k.act s.world) mem cs = subst (λ (g : Grip). MayOweAll m g (k.act s.world) mem cs) grip may in (
           succeeded cs [] (all_stores cs mem) h pl (sym q ∙ ac.reply_is) ac.shows ac.locks_stay rs
           (λ xs v x apart in_x reads. owed-looks ls m (bare xs) (bare (s.lps p).call.held) s.world (row.act s.world) mem cs x v apart rs in_x may' pl reads)
-          (λ x. last-append [] (all_stores cs mem) x) tt (owed-stores m (bare (s.lps p).call.held) (row.act s.world) mem cs may' pl) same,
+          (λ x. last-append [] (all_stores cs mem) x) tt (owed-keeps m (bare (s.lps p).call.held) (row.act s.world) mem cs may' pl) same,
           refl,
         )
 

@@ -1,5 +1,6 @@
 pub mod Virtual
 pub mod Stores
+pub mod Keeping
 pub mod Holding
 pub mod Standing
 pub mod Others

@@ -33,7 +33,7 @@ use Rattle.leaf_engine.proofs.Turning.{Laws as EngineLaws, calls-follow}
 use Rattle.merge_laws.proofs.Virtual.{table_of, holds-memory, step-same, step-elsewhere}
 use Rattle.merge_laws.proofs.Stores.{Due, last_at, laid, laid-none, laid-same}
 use Rattle.merge_laws.proofs.Holding.{bare}
-use Rattle.merge_laws.proofs.Standing.{Laws, leaf_for, AreTrees, Known, RunsAt, Position, Holds, Stands}
+use Rattle.merge_laws.proofs.Standing.{Laws, leaf_for, AreTrees, Known, RunsAt, on_table, Position, Holds, Stands}
 use Rattle.merge_laws.proofs.Others.{shown-of}
 use Rattle.merge_laws.proofs.Own.{AttemptTdr, tdrs-after, stands-after, world-of-event, at-own, at-other, Spares, gathered, none-due}
 
@@ -80,6 +80,7 @@ lock-step ls o trees s mem t pos p c cs rs mv run run' st a q result are known s
           (record {
             respects = subst (λ (w : World). Respects (bare (s.lps p).call.held) s.world w) (sym world) (ls.compose.same (bare (s.lps p).call.held) s.world);
             looks = λ hs v r apart in_r reads. ap (look v) (by-place r in_r (λ e. absurd (no-read hs v r apart reads e)));
+            still = λ hs r g apart in_r owes. sym (elsewhere r in_r (λ e. no-owed hs r g apart owes e));
           })
           after.shown hand
           (λ h in_h. subst (λ (f : ℕ → Option Measure). IsHand (t.slots (h - 1)) (after.mem.slots h)) {x = t.slots} refl (after.memory.slots h in_h))
@@ -119,7 +120,7 @@ lock-step ls o trees s mem t pos p c cs rs mv run run' st a q result are known s
             (λ j' hs g apart owes. (ls.words (bare (s.lps p).call.held) (bare hs) s.world (turned-round (bare hs) (bare (s.lps p).call.held) apart)).tries_owes q g one.tries owes) k j e
 
     here : mem.words q ≡ t.words (address m.pages q)
-    here = sd.laid_is q one.inside ∙ laid-none (length o.calls) (λ k. (pos k).owes) (λ r. t.words (address m.pages r)) q none-at
+    here = sd.laid_is q one.inside ∙ laid-none (length o.calls) (λ k. (pos k).owes) (on_table m t) q none-at
 
     virtual : t.words (address m.pages q) ≡ tV.words (address m.pages q)
     virtual = sym here ∙ sym (holds.words q one.inside)
@@ -156,6 +157,18 @@ lock-step ls o trees s mem t pos p c cs rs mv run run' st a q result are known s
         let r-is : r ≡ q = (ls.places.same r q).0 e in
         (ls.words (bare (s.lps p).call.held) (bare hs) s.world (turned-round (bare hs) (bare (s.lps p).call.held) apart)).tries_reads q v one.tries (subst (λ (z : WordPlace). Reads (bare hs) s.world z v) r-is reads)
 
+    no-owed : (hs : List Held) (r : WordPlace) (g : Grade) → Apart (bare hs) (bare (s.lps p).call.held) → Owes (bare hs) s.world r g → same_place r q ≡ true → ⊥
+    no-owed hs r g apart owes e =
+        let r-is : r ≡ q = (ls.places.same r q).0 e in
+        (ls.words (bare (s.lps p).call.held) (bare hs) s.world (turned-round (bare hs) (bare (s.lps p).call.held) apart)).tries_owes q g one.tries (subst (λ (z : WordPlace). Owes (bare hs) s.world z g) r-is owes)
+
+    elsewhere : (r : WordPlace) → IsIn m r → (same_place r q ≡ true → ⊥) → t'.words (address m.pages r) ≡ t.words (address m.pages r)
+    elsewhere r in_r not-q = by (same_place r q) refl
+      where
+        by : (b : Bool) → same_place r q ≡ b → t'.words (address m.pages r) ≡ t.words (address m.pages r)
+        by true e = absurd (not-q e)
+        by false e = step-elsewhere ls.places m t.words st q r one.inside in_r one.at e
+
     owes-same : (k : ℕ) (r : WordPlace) → last_at (pos k).owes r ≡ last_at (put pos p now k).owes r
     owes-same k r = by (k == p) refl
       where
@@ -165,17 +178,17 @@ lock-step ls o trees s mem t pos p c cs rs mv run run' st a q result are known s
             ap (λ (z : ℕ). last_at (pos z).owes r) k-is ∙ (ap (λ (ds : List Due). last_at ds r) none ∙ sym (ap (λ (z : Position). last_at z.owes r) (ap (put pos p now) k-is ∙ at-own pos p now)))
         by false e = sym (ap (λ (z : Position). last_at z.owes r) (at-other pos p k now e))
 
-    laid-after : (r : WordPlace) → IsIn m r → after.mem.words r ≡ laid (length o.calls) (λ k. (put pos p now k).owes) (λ x. t'.words (address m.pages x)) r
+    laid-after : (r : WordPlace) → IsIn m r → after.mem.words r ≡ laid (length o.calls) (λ k. (put pos p now k).owes) (on_table m t') r
     laid-after r in_r = by (same_place r q) refl
       where
-        by : (b : Bool) → same_place r q ≡ b → after.mem.words r ≡ laid (length o.calls) (λ k. (put pos p now k).owes) (λ x. t'.words (address m.pages x)) r
+        by : (b : Bool) → same_place r q ≡ b → after.mem.words r ≡ laid (length o.calls) (λ k. (put pos p now k).owes) (on_table m t') r
         by true e =
             let r-is : r ≡ q = (ls.places.same r q).0 e in
             let made : after.mem.words q ≡ t'.words (address m.pages q) = sym (after.memory.words q one.inside) ∙ sym (step-same t.words tV.words st (address m.pages q) one.at virtual) in
-            let none' = laid-none (length o.calls) (λ k. (put pos p now k).owes) (λ x. t'.words (address m.pages x)) q (λ k j. sym (owes-same k q) ∙ none-at k j) in
-            subst (λ (z : WordPlace). after.mem.words z ≡ laid (length o.calls) (λ k. (put pos p now k).owes) (λ x. t'.words (address m.pages x)) z) (sym r-is) (made ∙ sym none')
+            let none' = laid-none (length o.calls) (λ k. (put pos p now k).owes) (on_table m t') q (λ k j. sym (owes-same k q) ∙ none-at k j) in
+            subst (λ (z : WordPlace). after.mem.words z ≡ laid (length o.calls) (λ k. (put pos p now k).owes) (on_table m t') z) (sym r-is) (made ∙ sym none')
         by false e =
             by-place r in_r (λ h. cc)
             ∙ (sd.laid_is r in_r
-            ∙ laid-same (length o.calls) (λ k. (pos k).owes) (λ k. (put pos p now k).owes) (λ x. t.words (address m.pages x)) (λ x. t'.words (address m.pages x)) r (λ k j. owes-same k r)
+            ∙ laid-same (length o.calls) (λ k. (pos k).owes) (λ k. (put pos p now k).owes) (on_table m t) (on_table m t') r (λ k j. owes-same k r)
             (sym (step-elsewhere ls.places m t.words st q r one.inside in_r one.at e)))

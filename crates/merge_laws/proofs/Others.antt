@@ -31,9 +31,9 @@ use Rattle.leaf_engine.specs.Calls.{IsLockAt, AreLocks, IsStage, IsTold, IsCallA
 use Rattle.leaf_engine.specs.OwnLists.{WordLp}
 use Rattle.leaf_engine.proofs.Turning.{instant, at-instant}
 use Rattle.merge_laws.proofs.Virtual.{table_of, holds-memory}
-use Rattle.merge_laws.proofs.Stores.{EachDue, each-map, OwesAt}
+use Rattle.merge_laws.proofs.Keeping.{Keeps, keeps-same}
 use Rattle.merge_laws.proofs.Holding.{bare, NoGuests, grip-is-bare, IsOlder, HoldsTdr, HoldTdrs, lock-stays, EachTold, told-reads, told-older, still-current}
-use Rattle.merge_laws.proofs.Standing.{Laws, leaf_for, AreTrees, Known, UndoTdr, RunsAt, RunAt, StandsAt, Position, Holds, Stands}
+use Rattle.merge_laws.proofs.Standing.{Laws, leaf_for, AreTrees, Known, UndoTdr, RunsAt, RunAt, StandsAt, on_table, Position, Holds, Stands}
 
 -- words that show a state, on a table that holds them
 pub shown-of : (o : Opening) (trees : ℕ → Call → Tree) (s : State) (mem : Memory) (t : Table) (pos : ℕ → Position) (p : ℕ) (c : Call) (run : Standing) → Known o s → Stands o trees s mem t pos → p < length o.calls
@@ -123,19 +123,20 @@ stage-kept ls m w w' hs ks (stages.Answered reply) (Undoing l) lawful r a u i = 
 stage-kept ls m w w' hs ks (stages.Answered reply) (Answered x) lawful r a u i = i
 
 -- the acting processor's locks are apart from this one's, and it looks the same wherever this one has looked
-pub record Leaves (m : Machine) (held ks : List Held) (w w' : World) (words words' : WordPlace → ℕ) : Type 0 where
+pub record Leaves (m : Machine) (held ks : List Held) (w w' : World) (words words' a a' : WordPlace → ℕ) : Type 0 where
   pub apart : (hs : List Held) → IsOlder hs held → Apart (bare hs) (bare ks)
   pub respects : Respects (bare ks) w w'
   pub looks : (hs : List Held) (v : View) (r : WordPlace) → IsOlder hs held → IsIn m r → Reads (bare hs) w r v → look v (words' r) ≡ look v (words r)
+  pub still : (q : WordPlace) (g : Grade) → IsIn m q → Owes (bare held) w q g → a q ≡ a' q
 
-pub others-stay : (ls : Laws) (o : Opening) (trees : ℕ → Call → Tree) (s : State) (mem : Memory) (t : Table) (pos : ℕ → Position) (k : ℕ) (w' : World) (words' : WordPlace → ℕ) (ks : List Held) → AreTrees o trees → Known o s → Stands o trees s mem t pos
-    → k < length o.calls → Leaves o.machine (s.lps k).call.held ks s.world w' mem.words words' → Holds o trees k w' words' (s.lps k) (pos k)
-others-stay ls o trees s mem t pos k w' words' ks are known st i lv =
+pub others-stay : (ls : Laws) (o : Opening) (trees : ℕ → Call → Tree) (s : State) (mem : Memory) (t : Table) (pos : ℕ → Position) (k : ℕ) (w' : World) (words' a' : WordPlace → ℕ) (ks : List Held) → AreTrees o trees → Known o s → Stands o trees s mem t pos
+    → k < length o.calls → Leaves o.machine (s.lps k).call.held ks s.world w' mem.words words' (on_table o.machine t) a' → Holds o trees k w' words' a' (s.lps k) (pos k)
+others-stay ls o trees s mem t pos k w' words' a' ks are known st i lv =
     let h = st.holds k i in
     let whole : IsOlder (s.lps k).call.held (s.lps k).call.held = ([], refl) in
     record {
       stands = record { lines = h.stands.lines; replies = h.stands.replies; run = run (pos k).at.lines (pos k).at.run h.stands.run };
-      owed = each-map _ _ (pos k).owes (λ q x. (x.0, (x.1.0, (ls.acts (bare (s.lps k).call.held) (bare ks) s.world w' (lv.apart (s.lps k).call.held whole) lv.respects).owes_kept q x.1.0 x.1.1))) h.owed;
+      owed = keeps-same o.machine (bare (s.lps k).call.held) (bare (s.lps k).call.held) s.world w' (on_table o.machine t) a' (pos k).owes (ls.acts (bare (s.lps k).call.held) (bare ks) s.world w' (lv.apart (s.lps k).call.held whole) lv.respects).owes_kept lv.still h.owed;
     }
   where
     begun : (c : Call) (r : Standing) → RunsAt o (leaf_for o trees k c) (row_of o k c) s.world mem.words (s.lps k) r → RunsAt o (leaf_for o trees k c) (row_of o k c) w' words' (s.lps k) r

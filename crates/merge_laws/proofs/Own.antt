@@ -18,7 +18,7 @@ use Rattle.flat_core.specs.Table.{row_of}
 use Rattle.flat_core.specs.Event.{State, OfCall, next_event, lines_left, event, call_lp, call_busy, call_world, settle, settled, succeeded, is_granted, calls_of}
 use Rattle.flat_core.specs.Laws.{IsBetween}
 use Rattle.word_rules.specs.Guards.{Apart}
-use Rattle.word_rules.specs.Rules.{View}
+use Rattle.word_rules.specs.Rules.{View, Grade}
 use Rattle.word_rules.specs.Views.{look}
 use Rattle.word_rules.specs.Permissions.{Reads, Owes, Respects}
 use Rattle.word_rules.specs.Cells.{Shows}
@@ -32,8 +32,9 @@ use Rattle.leaf_engine.specs.Calls.{IsCallAt, GoesOn, IsOver, After}
 use Rattle.leaf_engine.specs.OwnLists.{WordLp, after_turn}
 use Rattle.leaf_engine.proofs.Calling.{event-is, lp-now}
 use Rattle.merge_laws.proofs.Stores.{Due, last_at, laid, last-each, OwesAt}
+use Rattle.merge_laws.proofs.Keeping.{keeps-each}
 use Rattle.merge_laws.proofs.Holding.{bare, NoGuests, IsOlder, HoldsTdr, HoldTdrs, apart-held}
-use Rattle.merge_laws.proofs.Standing.{Laws, leaf_for, AreTrees, Known, UndoTdr, CallTdrs, RunsAt, RunAt, StandsAt, Position, Holds, Stands}
+use Rattle.merge_laws.proofs.Standing.{Laws, leaf_for, AreTrees, Known, UndoTdr, CallTdrs, RunsAt, RunAt, StandsAt, on_table, Position, Holds, Stands}
 use Rattle.merge_laws.proofs.Others.{Leaves, others-stay}
 
 -- its record
@@ -153,15 +154,16 @@ apart-from ls o trees s mem t pos p k hs known st i j e older =
     apart-held ls.apart s k p hs (s.lps p).call.held st.guests known.exclusive (subst (λ (n : ℕ). k < n) (sym known.count) j) (subst (λ (n : ℕ). p < n) (sym known.count) i) e older (whole (s.lps p).call.held)
 
 -- what an event leaves of memory, as far as others look
-pub record Spares (m : Machine) (s : State) (p : ℕ) (w' : World) (words words' : WordPlace → ℕ) : Type 0 where
+pub record Spares (m : Machine) (s : State) (p : ℕ) (w' : World) (words words' a a' : WordPlace → ℕ) : Type 0 where
   pub respects : Respects (bare (s.lps p).call.held) s.world w'
   pub looks : (hs : List Held) (v : View) (r : WordPlace) → Apart (bare hs) (bare (s.lps p).call.held) → IsIn m r → Reads (bare hs) s.world r v → look v (words' r) ≡ look v (words r)
+  pub still : (hs : List Held) (q : WordPlace) (g : Grade) → Apart (bare hs) (bare (s.lps p).call.held) → IsIn m q → Owes (bare hs) s.world q g → a q ≡ a' q
 
 pub gathered : (ls : Laws) (o : Opening) (trees : ℕ → Call → Tree) (s : State) (mem mem' : Memory) (t t' : Table) (pos : ℕ → Position) (p : ℕ) (now : Position) → AreTrees o trees → Known o s → Stands o trees s mem t pos → p < length o.calls
-    → Spares o.machine s p (event o s p).world mem.words mem'.words → Shows o.machine mem'.words mem'.slots (event o s p) → mem'.hand ≡ None
+    → Spares o.machine s p (event o s p).world mem.words mem'.words (on_table o.machine t) (on_table o.machine t') → Shows o.machine mem'.words mem'.slots (event o s p) → mem'.hand ≡ None
     → ((h : ℕ) → IsHkid o.machine h → IsHand (t'.slots (h - 1)) (mem'.slots h))
-    → Holds o trees p (event o s p).world mem'.words ((event o s p).lps p) now
-    → ((r : WordPlace) → IsIn o.machine r → mem'.words r ≡ laid (length o.calls) (λ k. (put pos p now k).owes) (λ q. t'.words (address o.machine.pages q)) r)
+    → Holds o trees p (event o s p).world mem'.words (on_table o.machine t') ((event o s p).lps p) now
+    → ((r : WordPlace) → IsIn o.machine r → mem'.words r ≡ laid (length o.calls) (λ k. (put pos p now k).owes) (on_table o.machine t') r)
     → Stands o trees (event o s p) mem' t' (put pos p now)
 gathered ls o trees s mem mem' t t' pos p now are known st i sp shows hand slots own laid_is = record {
   shows = shows;
@@ -182,32 +184,33 @@ gathered ls o trees s mem mem' t t' pos p now are known st i sp shows hand slots
         by true e = (let q : p ≡ k = sym (eqb-true k p e) in subst (λ (z : ℕ). ((event o s p).lps z).guest ≡ None) q (no-guest o trees p (event o s p).world mem'.words ((event o s p).lps p) now.at own.stands))
         by false e = ap (λ (z : Lp). z.guest) (other k e) ∙ st.guests k
 
-    holds : (k : ℕ) → k < length o.calls → Holds o trees k (event o s p).world mem'.words ((event o s p).lps k) (put pos p now k)
+    holds : (k : ℕ) → k < length o.calls → Holds o trees k (event o s p).world mem'.words (on_table o.machine t') ((event o s p).lps k) (put pos p now k)
     holds k j = by (k == p) refl
       where
-        by : (b : Bool) → (k == p) ≡ b → Holds o trees k (event o s p).world mem'.words ((event o s p).lps k) (put pos p now k)
+        by : (b : Bool) → (k == p) ≡ b → Holds o trees k (event o s p).world mem'.words (on_table o.machine t') ((event o s p).lps k) (put pos p now k)
         by true e =
             let q : p ≡ k = sym (eqb-true k p e) in
-            subst (λ (z : ℕ). Holds o trees z (event o s p).world mem'.words ((event o s p).lps z) (put pos p now z)) q
-            (subst (λ (z : Position). Holds o trees p (event o s p).world mem'.words ((event o s p).lps p) z) (sym (at-own pos p now)) own)
+            subst (λ (z : ℕ). Holds o trees z (event o s p).world mem'.words (on_table o.machine t') ((event o s p).lps z) (put pos p now z)) q
+            (subst (λ (z : Position). Holds o trees p (event o s p).world mem'.words (on_table o.machine t') ((event o s p).lps p) z) (sym (at-own pos p now)) own)
         by false e =
-            let lv : Leaves o.machine (s.lps k).call.held (s.lps p).call.held s.world (event o s p).world mem.words mem'.words = record {
+            let lv : Leaves o.machine (s.lps k).call.held (s.lps p).call.held s.world (event o s p).world mem.words mem'.words (on_table o.machine t) (on_table o.machine t') = record {
               apart = λ hs older. apart-from ls o trees s mem t pos p k hs known st i j e older;
               respects = sp.respects;
               looks = λ hs v r older in_r reads. sp.looks hs v r (apart-from ls o trees s mem t pos p k hs known st i j e older) in_r reads;
+              still = λ q g in_q owes. sp.still (s.lps k).call.held q g (apart-from ls o trees s mem t pos p k (s.lps k).call.held known st i j e (whole (s.lps k).call.held)) in_q owes;
             } in
-            let there = others-stay ls o trees s mem t pos k (event o s p).world mem'.words (s.lps p).call.held are known st j lv in
-            subst (λ (z : Position). Holds o trees k (event o s p).world mem'.words ((event o s p).lps k) z) (sym (at-other pos p k now e))
-            (subst (λ (z : Lp). Holds o trees k (event o s p).world mem'.words z (pos k)) (sym (other k e)) there)
+            let there = others-stay ls o trees s mem t pos k (event o s p).world mem'.words (on_table o.machine t') (s.lps p).call.held are known st j lv in
+            subst (λ (z : Position). Holds o trees k (event o s p).world mem'.words (on_table o.machine t') ((event o s p).lps k) z) (sym (at-other pos p k now e))
+            (subst (λ (z : Lp). Holds o trees k (event o s p).world mem'.words (on_table o.machine t') z (pos k)) (sym (other k e)) there)
 
 -- nothing is due at a place that nobody may owe a store to
 pub none-due : (ls : Laws) (o : Opening) (trees : ℕ → Call → Tree) (s : State) (mem : Memory) (t : Table) (pos : ℕ → Position) (p : ℕ) (r : WordPlace) → Known o s → Stands o trees s mem t pos → p < length o.calls
-    → ((k : ℕ) (hs : List Held) (g : Rattle.word_rules.specs.Rules.Grade) → Apart (bare hs) (bare (s.lps p).call.held) → Owes (bare hs) s.world r g → ⊥)
+    → ((k : ℕ) (hs : List Held) (g : Grade) → Apart (bare hs) (bare (s.lps p).call.held) → Owes (bare hs) s.world r g → ⊥)
     → (k : ℕ) → k < length o.calls → (k == p) ≡ false → last_at (pos k).owes r ≡ None
 none-due ls o trees s mem t pos p r known st i never k j e = by (last_at (pos k).owes r) refl
   where
     by : (x : Option ℕ) → last_at (pos k).owes r ≡ x → last_at (pos k).owes r ≡ None
     by None h = h
     by (Some x) h =
-        let owed = last-each ls.places (OwesAt o.machine (bare (s.lps k).call.held) s.world) (pos k).owes r x (st.holds k j).owed h in
+        let owed = last-each ls.places (OwesAt o.machine (bare (s.lps k).call.held) s.world) (pos k).owes r x (keeps-each o.machine (bare (s.lps k).call.held) s.world (on_table o.machine t) (pos k).owes (st.holds k j).owed) h in
         absurd (never k (s.lps k).call.held owed.1.0 (apart-from ls o trees s mem t pos p k (s.lps k).call.held known st i j e (whole (s.lps k).call.held)) owed.1.1)

@@ -17,6 +17,7 @@ use Rattle.flat_core.specs.Event.{State, start, event, lines_left}
 use Rattle.flat_core.specs.Run.{play}
 use Rattle.flat_core.specs.Laws.{EveryWorldIsLawful, LocksExclude, OthersStay, NoWordsToTell, IsBetween}
 use Rattle.word_rules.specs.Permissions.{Owes, WordsNeverConflict, ActsNeverConflict, RespectsCompose}
+use Rattle.word_rules.specs.Views.{ViewsAreKept}
 use Rattle.word_rules.specs.Cells.{Shows}
 use Rattle.lock_words.specs.Grips.{IsExclusive, GripsAreApart}
 use Rattle.lock_words.specs.LockWords.{LockWordsFollow, LockStepsShown, RunsFollow, TdLocksStay}
@@ -31,7 +32,8 @@ use Rattle.leaf_engine.specs.Decides.{IsHand}
 use Rattle.leaf_engine.specs.Turns.{Standing}
 use Rattle.leaf_engine.specs.Calls.{IsCallAt}
 use Rattle.leaf_engine.specs.OwnLists.{Piece, Quiet, joined, WordLp, OwnTurns}
-use Rattle.merge_laws.proofs.Stores.{Due, laid, EachDue, AreStores, OwesAt}
+use Rattle.merge_laws.proofs.Stores.{Due, laid, AreStores}
+use Rattle.merge_laws.proofs.Keeping.{Keeps}
 use Rattle.merge_laws.proofs.Holding.{bare, NoGuests, HoldsTdr, HoldTdrs}
 
 -- the laws that it rests on
@@ -51,6 +53,7 @@ pub record Laws : Type 0 where
   pub apart : GripsAreApart
   pub stay : TdLocksStay
   pub keep : OthersStoresKeepReads
+  pub views : ViewsAreKept
 
 -- leaves, by their trees
 abbrev pub leaf_for : Opening → (ℕ → Call → Tree) → ℕ → Call → Task
@@ -105,9 +108,13 @@ pub record Position : Type 0 where
   pub at : WordLp
   pub owes : List Due
 
-pub record Holds (o : Opening) (trees : ℕ → Call → Tree) (p : ℕ) (w : World) (words : WordPlace → ℕ) (lp : Lp) (pos : Position) : Type 0 where
+pub record Holds (o : Opening) (trees : ℕ → Call → Tree) (p : ℕ) (w : World) (words a : WordPlace → ℕ) (lp : Lp) (pos : Position) : Type 0 where
   pub stands : StandsAt o trees p w words lp pos.at
-  pub owed : EachDue (OwesAt o.machine (bare lp.call.held) w) pos.owes
+  pub owed : Keeps o.machine (bare lp.call.held) w a pos.owes
+
+-- a table's words by their places
+abbrev pub on_table : Machine → Table → WordPlace → ℕ
+on_table m t q = t.words (address m.pages q)
 
 -- what it has still to do
 pub record Rest (o : Opening) (trees : ℕ → Call → Tree) (p : ℕ) (pos : Position) (ps : List Piece) (end_ : WordLp) : Type 0 where
@@ -123,5 +130,5 @@ pub record Stands (o : Opening) (trees : ℕ → Call → Tree) (s : State) (mem
   pub hand : mem.hand ≡ None
   pub slots : (h : ℕ) → IsHkid o.machine h → IsHand (t.slots (h - 1)) (mem.slots h)
   pub guests : NoGuests s
-  pub holds : (p : ℕ) → p < length o.calls → Holds o trees p s.world mem.words (s.lps p) (pos p)
-  pub laid_is : (r : WordPlace) → IsIn o.machine r → mem.words r ≡ laid (length o.calls) (λ p. (pos p).owes) (λ q. t.words (address o.machine.pages q)) r
+  pub holds : (p : ℕ) → p < length o.calls → Holds o trees p s.world mem.words (on_table o.machine t) (s.lps p) (pos p)
+  pub laid_is : (r : WordPlace) → IsIn o.machine r → mem.words r ≡ laid (length o.calls) (λ p. (pos p).owes) (on_table o.machine t) r

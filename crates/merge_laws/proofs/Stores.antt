@@ -154,7 +154,7 @@ unfolding words_from
 words-else p zero xs r h = refl
 words-else p (suc n) xs r h = last-append (words_from p n xs) (due (Word p n) (xs n) ∷ []) r ∙ rw (h n (omega arith)) (words-else p n xs r (λ i l. h i (omega arith)))
 
-words-each : (P : WordPlace → Type 0) (p n : ℕ) (xs : ℕ → ℕ) → ((i : ℕ) → i < n → P (Word p i)) → EachDue P (words_from p n xs)
+pub words-each : (P : WordPlace → Type 0) (p n : ℕ) (xs : ℕ → ℕ) → ((i : ℕ) → i < n → P (Word p i)) → EachDue P (words_from p n xs)
 unfolding words_from
 words-each P p zero xs h = tt
 words-each P p (suc n) xs h = each-append P (words_from p n xs) (due (Word p n) (xs n) ∷ []) (words-each P p n xs (λ i l. h i (omega arith))) (h n (omega arith), tt)
@@ -178,7 +178,7 @@ or-test true x y = refl
 or-test false x y = refl
 
 -- what one change makes of memory
-one-is : (m : Machine) (c : Change) (mem : Memory) (r : WordPlace) → IsIn m r → is_plain c ≡ true → (changed c mem).words r ≡ or_else (last_at (stores_of c mem) r) (mem.words r)
+pub one-is : (m : Machine) (c : Change) (mem : Memory) (r : WordPlace) → IsIn m r → is_plain c ≡ true → (changed c mem).words r ≡ or_else (last_at (stores_of c mem) r) (mem.words r)
 one-is m (Put q x) mem r i pl = or-test (same_place r q) x (mem.words r)
 one-is m (PutHash q x) mem r i pl = or-test (same_place r q) (x mem.hand) (mem.words r)
 one-is m (Raise q) mem r i pl = or-test (same_place r q) ((mem.words q + 1) % 2 ^ 64) (mem.words r)
