@@ -8,3 +8,4 @@ pub mod Own
 pub mod LockSteps
 pub mod Acts
 pub mod Ending
+pub mod QuietSteps
