@@ -9,3 +9,5 @@ pub mod LockSteps
 pub mod Acts
 pub mod Ending
 pub mod QuietSteps
+pub mod Pieces
+pub mod LockPieces

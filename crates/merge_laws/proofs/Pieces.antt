@@ -1,0 +1,97 @@
+-- One piece of a merge: what it makes of the state, the table, and where its processor is.
+use Rattle.std.proofs.Common.{◌≡◌, ◌⊎◌, ℕ, zero, suc, ◌+◌, ◌-◌, ◌%◌, ◌^◌, ◌<◌, Bool, true, false, ◌==◌, ◌&&◌, if◌then◌else◌, List, [], ◌∷◌, ◌++◌, map, length, Option, Some, None, refl, ap, sym, ◌∙◌, subst, inl, inr, arith}
+use Rattle.td_words.specs.declared.names.LockName.{LockName}
+use Rattle.td_words.specs.declared.names.Mode.{Mode}
+use Rattle.td_words.specs.declared.names.Mode.TheVariants.{Shared, Exclusive}
+use Rattle.td_words.specs.declared.machines.Machine.{Machine}
+use Rattle.td_words.specs.declared.calls.Call.{Call}
+use Rattle.td_words.specs.declared.replies.Reply.{Reply}
+use Rattle.td_words.specs.Place.{WordPlace, IsIn, address}
+use Rattle.mrtd_measure.specs.declared.measures.Measure.{Measure}
+use Rattle.flat_core.specs.World.{World, put}
+use Rattle.flat_core.specs.Processor.{Lp}
+use Rattle.flat_core.specs.Opening.{Opening}
+use Rattle.flat_core.specs.Table.{row_of}
+use Rattle.flat_core.specs.Event.{State, event, lines_left}
+use Rattle.step_core.specs.Words.{after_step, answer_of}
+use Rattle.step_core.specs.Items.{Table, Taken, Stepped, Swapped, Missed, PlaysTo, with_slot}
+use Rattle.leaf_engine.specs.declared.events.Stage.TheVariants as stages
+use Rattle.leaf_engine.specs.Changes.{Memory}
+use Rattle.leaf_engine.specs.Trees.{Tree, settle}
+use Rattle.leaf_engine.specs.Means.{Task}
+use Rattle.leaf_engine.specs.Turns.{Standing}
+use Rattle.leaf_engine.specs.OwnLists.{Piece, Quiet, Marked, Wordless, joined, behind, WordLp, running, OwnTurns}
+use Rattle.leaf_engine.specs.Merges.{step_before}
+use Rattle.leaf_engine.proofs.Beginning.{calls-begin}
+use Rattle.merge_laws.proofs.Stores.{Due, AreStores}
+use Rattle.merge_laws.proofs.Standing.{leaf_for, RunsAt, RunAt, StandsAt, Position, Rest, Stands}
+
+abbrev pub state_after : Opening → State → ℕ → Piece → State
+state_after o s p (Quiet x) = s
+state_after o s p (Marked x) = event o s p
+state_after o s p Wordless = event o s p
+
+abbrev pub taken_after : Table → Taken → Table
+taken_after t (Stepped s a) = record t { words = after_step t.words s }
+taken_after t (Swapped k put taken) = record t { slots = with_slot t.slots k put }
+taken_after t (Missed k) = t
+
+abbrev pub table_after : Table → Piece → Table
+table_after t (Quiet x) = taken_after t x
+table_after t (Marked x) = taken_after t x
+table_after t Wordless = t
+
+abbrev pub Answers : Table → Taken → Type 0
+Answers t (Stepped s a) = a ≡ answer_of t.words s
+Answers t (Swapped k put taken) = taken ≡ t.slots k
+Answers t (Missed k) = ⊥
+
+abbrev pub PieceAnswers : Table → Piece → Type 0
+PieceAnswers t (Quiet x) = Answers t x
+PieceAnswers t (Marked x) = Answers t x
+PieceAnswers t Wordless = Unit {0}
+
+-- a piece is played, and then the others
+pub plays-piece : (t u : Table) (piece : Piece) (xs : List Taken) → PlaysTo t (step_before piece xs) u → PieceAnswers t piece × PlaysTo (table_after t piece) xs u
+plays-piece t u (Quiet (Stepped s a)) xs p = (p.0, p.1)
+plays-piece t u (Quiet (Swapped k put taken)) xs p = (p.0, p.1)
+plays-piece t u (Quiet (Missed k)) xs p = absurd p
+plays-piece t u (Marked (Stepped s a)) xs p = (p.0, p.1)
+plays-piece t u (Marked (Swapped k put taken)) xs p = (p.0, p.1)
+plays-piece t u (Marked (Missed k)) xs p = absurd p
+plays-piece t u Wordless xs p = (tt, p)
+
+-- what came of it
+pub record Came (o : Opening) (trees : ℕ → Call → Tree) (p : ℕ) (s : State) (t : Table) (pos : ℕ → Position) (piece : Piece) (ps : List Piece) (end_ : WordLp) : Type 0 where
+  pub memory : Memory
+  pub now : Position
+  pub stands : Stands o trees (state_after o s p piece) memory (table_after t piece) (put pos p now)
+  pub rest : Rest o trees p now ps end_
+
+-- it is this piece, and these are left
+pub came-as : (o : Opening) (trees : ℕ → Call → Tree) (p : ℕ) (s : State) (t : Table) (pos : ℕ → Position) (piece piece' : Piece) (ps ps' : List Piece) (end_ : WordLp) → piece ∷ ps ≡ piece' ∷ ps' → Came o trees p s t pos piece ps end_
+    → Came o trees p s t pos piece' ps' end_
+came-as o trees p s t pos piece piece' ps ps' end_ e c =
+    let a : piece ≡ piece' = cc in
+    let b : ps ≡ ps' = cc in
+    subst (λ (z : Piece). Came o trees p s t pos z ps' end_) a (subst (λ (z : List Piece). Came o trees p s t pos piece z end_) b c)
+
+pub answers-as : (t : Table) (piece piece' : Piece) (ps ps' : List Piece) → piece ∷ ps ≡ piece' ∷ ps' → PieceAnswers t piece' → PieceAnswers t piece
+answers-as t piece piece' ps ps' e a = (let q : piece' ≡ piece = cc in subst (λ (z : Piece). PieceAnswers t z) q a)
+
+pub behind-append : (xs ys : List Taken) → behind xs (xs ++ ys) ≡ ys
+behind-append [] ys = refl
+behind-append (x ∷ xs) ys = behind-append xs ys
+
+-- a run of a processor's present line, begun or not
+pub line-runs : (o : Opening) (trees : ℕ → Call → Tree) (p : ℕ) (c : Call) (cs : List Call) (w : World) (words : WordPlace → ℕ) (lp : Lp) (at : WordLp) → StandsAt o trees p w words lp at → at.lines ≡ c ∷ cs
+    → RunsAt o (leaf_for o trees p c) (row_of o p c) w words lp (running (leaf_for o trees p c) at.run)
+line-runs o trees p c cs w words lp at st lines = by at.run (subst (λ (z : List Call). RunAt o trees p w words lp z at.run) lines st.run)
+  where
+    by : (r : Option Standing) → RunAt o trees p w words lp (c ∷ cs) r → RunsAt o (leaf_for o trees p c) (row_of o p c) w words lp (running (leaf_for o trees p c) r)
+    by None between = record {
+      call = calls-begin o (leaf_for o trees p c) (row_of o p c) w words lp (record { call = c; further = cs; lines = st.lines ∙ lines; row_is = refl }) between;
+      no_hasher = refl;
+      tdrs = subst (λ z. Rattle.merge_laws.proofs.Standing.CallTdrs z) (sym between.call) (tt, tt);
+    }
+    by (Some r) a = a
