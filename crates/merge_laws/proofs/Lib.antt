@@ -11,3 +11,4 @@ pub mod Ending
 pub mod QuietSteps
 pub mod Pieces
 pub mod LockPieces
+pub mod EndPieces

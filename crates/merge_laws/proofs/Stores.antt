@@ -173,7 +173,7 @@ page-is m words p xs (Word q j) i = by (q == p) refl
         rw (e, w) refl
     by false e = rw (e, words-else p 512 xs (Word q j) (λ k l. rw e refl)) refl
 
-or-test : (b : Bool) (x y : ℕ) → (if b then x else y) ≡ or_else (if b then Some x else None) y
+pub or-test : (b : Bool) (x y : ℕ) → (if b then x else y) ≡ or_else (if b then Some x else None) y
 or-test true x y = refl
 or-test false x y = refl
 
@@ -255,7 +255,7 @@ clears-are pages p zero = tt
 clears-are pages p (suc n) =
     are-append pages (clearing p n) (Stepped (step.Store (word_at p n) 0) 0 ∷ []) (words_from p n (λ i. 0)) (due (Word p n) 0 ∷ []) (clears-are pages p n) (refl, tt)
 
-none-is : (h : Option Measure) → IsHand h None → h ≡ None
+pub none-is : (h : Option Measure) → IsHand h None → h ≡ None
 none-is None i = refl
 none-is (Some h) i = absurd i
 
