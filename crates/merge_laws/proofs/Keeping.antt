@@ -61,7 +61,7 @@ keeps-page m g w a p (suc n) xs h =
     let one = h n (omega arith) in
     keeps-append m g w a (words_from p n xs) (due (Word p n) (xs n) ∷ []) (keeps-page m g w a p n xs (λ i l. h i (omega arith))) ((one.0, (KeepsNothing, one.1, tt)), tt)
 
-and_parts : (a b : Bool) → (a && b) ≡ true → (a ≡ true) × (b ≡ true)
+pub and_parts : (a b : Bool) → (a && b) ≡ true → (a ≡ true) × (b ≡ true)
 and_parts true b h = (refl, h)
 and_parts false b h = cc
 

@@ -12,3 +12,4 @@ pub mod QuietSteps
 pub mod Pieces
 pub mod LockPieces
 pub mod EndPieces
+pub mod Turns
