@@ -13,3 +13,4 @@ pub mod Pieces
 pub mod LockPieces
 pub mod EndPieces
 pub mod Turns
+pub mod Verdicts

@@ -48,11 +48,11 @@ use Rattle.merge_laws.proofs.EndPieces.{EndMay, end-may, end-moved, rest-owed, a
 
 -- a load of a leaf that goes on
 
-told-tree : (o : Opening) (trees : ℕ → Call → Tree) (s : State) (mem : Memory) (t : Table) (pos : ℕ → Position) (p : ℕ) (c : Call) (cs : List Call) (run : Standing) → (a : AtTurn o trees s mem t pos p c cs run) → (st : run.stage ≡ stages.Trying)
+pub told-tree : (o : Opening) (trees : ℕ → Call → Tree) (s : State) (mem : Memory) (t : Table) (pos : ℕ → Position) (p : ℕ) (c : Call) (cs : List Call) (run : Standing) → (a : AtTurn o trees s mem t pos p c cs run) → (st : run.stage ≡ stages.Trying)
     → settle run.rest ≡ feed (trees p c) (a.runs.call.told st).told
 told-tree o trees s mem t pos p c cs run a st = ap settle (a.runs.call.told st).rest ∙ settled (trees p c) (a.runs.call.told st).told
 
-load-piece : (ls : Laws) (o : Opening) (trees : ℕ → Call → Tree) (s : State) (mem : Memory) (t : Table) (pos : ℕ → Position) (p : ℕ) (c : Call) (cs : List Call) (run run' : Standing) (e : RunEvent) (at x : ℕ) (tp : List Piece) (tps : List (List Piece)) (end_ : WordLp)
+pub load-piece : (ls : Laws) (o : Opening) (trees : ℕ → Call → Tree) (s : State) (mem : Memory) (t : Table) (pos : ℕ → Position) (p : ℕ) (c : Call) (cs : List Call) (run run' : Standing) (e : RunEvent) (at x : ℕ) (tp : List Piece) (tps : List (List Piece)) (end_ : WordLp)
     → AtTurn o trees s mem t pos p c cs run → run.stage ≡ stages.Trying → IsLoadAt o.machine.pages (settle run.rest) at → GoesOnBehind (settle run.rest) x → x ≡ t.words at → GoesIn o.machine (loaded run x) tp run' e
     → OwnTurns (leaf_for o trees p) o.machine (after_turn c cs (pos p).at.replies run' (last_reply run'.stage run'.held)) tps end_
     → Came o trees p s t pos (Quiet (Stepped (step.Load at) x)) (tp ++ joined tps) end_
@@ -130,14 +130,14 @@ done-no-load n (Test b r t) at h i = i
 done-no-load n (End r fs cs) at h i = i
 done-no-load n (Since r cs) at h i = i
 
-done-loads : (n : ℕ) (u : Tree) (xs : List Taken) (tree : Tree) → IsDone u → IsLoaded n u xs tree → (xs ≡ []) × (settle tree ≡ u)
+pub done-loads : (n : ℕ) (u : Tree) (xs : List Taken) (tree : Tree) → IsDone u → IsLoaded n u xs tree → (xs ≡ []) × (settle tree ≡ u)
 done-loads n u [] tree d l = (refl, ap settle (sym l) ∙ done-settled u d)
 done-loads n u (Stepped s x ∷ xs) tree d l = absurd (done-no-load n u l.0.0 d (subst (λ (z : Tree). IsLoadAt n z l.0.0) (done-settled u d) l.0.1))
 done-loads n u (Swapped k a b ∷ xs) tree d l = absurd l
 done-loads n u (Missed k ∷ xs) tree d l = absurd l
 
 -- a load behind which its leaf isn't done
-goes-on : (n : ℕ) (rest : Tree) (at x : ℕ) → IsLoadAt n rest at → (IsDone (fed rest x) → ⊥) → GoesOnBehind rest x
+pub goes-on : (n : ℕ) (rest : Tree) (at x : ℕ) → IsLoadAt n rest at → (IsDone (fed rest x) → ⊥) → GoesOnBehind rest x
 goes-on n (Load v q k) at x l h = by (has_acted (k (look v x))) refl
   where
     by : (b : Bool) → has_acted (k (look v x)) ≡ b → has_acted (k (look v x)) ≡ false
@@ -168,7 +168,7 @@ no-lock-given n (End r fs cs) name at mode d g = cc
 no-lock-given n (Since r cs) name at mode d g = cc
 
 -- a turn that comes to a lock
-lock-turn : (ls : Laws) (o : Opening) (trees : ℕ → Call → Tree) (s : State) (mem : Memory) (t : Table) (pos : ℕ → Position) (p : ℕ) (c : Call) (cs : List Call) (run run' : Standing) (e : RunEvent) (loads items : List Taken) (tree : Tree) (name : LockName) (at : ℕ)
+pub lock-turn : (ls : Laws) (o : Opening) (trees : ℕ → Call → Tree) (s : State) (mem : Memory) (t : Table) (pos : ℕ → Position) (p : ℕ) (c : Call) (cs : List Call) (run run' : Standing) (e : RunEvent) (loads items : List Taken) (tree : Tree) (name : LockName) (at : ℕ)
     (mode : Mode) (tps : List (List Piece)) (end_ : WordLp) (piece : Piece) (ps : List Piece) → AtTurn o trees s mem t pos p c cs run → run.stage ≡ stages.Trying → IsLoaded o.machine.pages run.rest loads tree
     → Gives o.machine.pages (settle tree) (need.Lock name at mode) → Tries run (passed (settle tree)) loads items name at mode run' e
     → OwnTurns (leaf_for o trees p) o.machine (after_turn c cs (pos p).at.replies run' (last_reply run'.stage run'.held)) tps end_
