@@ -116,7 +116,7 @@ acted-done (End r [] (c ∷ cs)) h = cc
 acted-done (End r (f ∷ fs) cs) h = cc
 acted-done (Since r cs) h = tt
 
-done-settled : (t : Tree) → IsDone t → settle t ≡ t
+pub done-settled : (t : Tree) → IsDone t → settle t ≡ t
 done-settled (Lock l q m t) h = absurd h
 done-settled (Load v q k) h = absurd h
 done-settled (Test b r t) h = absurd h

@@ -14,6 +14,7 @@ use Rattle.step_core.specs.declared.steps.WordStep.TheVariants as step
 use Rattle.step_core.specs.Words.{after_step, answer_of}
 use Rattle.step_core.specs.Items.{Table, Taken, Stepped, Swapped, Missed}
 use Rattle.leaf_engine.specs.declared.events.Event.{Event as RunEvent}
+use Rattle.leaf_engine.specs.declared.events.Event.TheVariants as events
 use Rattle.leaf_engine.specs.declared.events.RunTurn.{RunTurn}
 use Rattle.leaf_engine.specs.declared.events.Stage.TheVariants as stages
 use Rattle.leaf_engine.specs.declared.needs.Need.TheVariants as need
@@ -36,7 +37,7 @@ use Rattle.merge_laws.proofs.QuietSteps.{loads-right, GoesOnBehind, loaded}
 use Rattle.merge_laws.proofs.Pieces.{Came, came-as, answers-as, PieceAnswers, behind-append}
 use Rattle.merge_laws.proofs.LockPieces.{AtTurn}
 use Rattle.merge_laws.proofs.EndPieces.{EndMay, end-may, end-moved, rest-owed, ActItem, act-item, act-table}
-use Rattle.merge_laws.proofs.Turns.{told-tree, load-piece, IsDone, done-loads, goes-on, Heads}
+use Rattle.merge_laws.proofs.Turns.{told-tree, load-piece, IsDone, done-settled, done-loads, goes-on, Heads}
 
 -- its reply, whose loads and changes these are
 pub record Ended (m : Machine) (run run' : Standing) (end_ : Tree) (changes : List Taken) (reply : Reply) : Type 0 where
@@ -182,3 +183,191 @@ end-now ls o trees s mem t pos p c cs run run' e (Since r ds) changes reply tps 
       rest = rest-owed o trees p (after_turn c cs (pos p).at.replies run' (last_reply run'.stage run'.held)) changes (owes_of (feed (trees p c) (a.runs.call.told st).told) mem) tps last
           (subst (λ (z : Tree). AreStores m.pages changes (owes_of z mem)) (sym is) rest.1) own;
     })
+
+-- the end whose act is the load before it
+end-loaded : (ls : Laws) (o : Opening) (trees : ℕ → Call → Tree) (s : State) (mem : Memory) (t : Table) (pos : ℕ → Position) (p : ℕ) (c : Call) (cs : List Call) (run run' : Standing) (e : RunEvent) (end_ : Tree) (changes : List Taken) (reply : Reply) (at x : ℕ)
+    (tps : List (List Piece)) (last : WordLp) → (a : AtTurn o trees s mem t pos p c cs run) → (st : run.stage ≡ stages.Trying) → Ended o.machine run run' end_ changes reply → IsLoadAt o.machine.pages (settle run.rest) at → x ≡ t.words at
+    → feed (trees p c) ((a.runs.call.told st).told ++ x ∷ []) ≡ end_ → Gives o.machine.pages end_ (need.Verdict reply) → IsDone end_
+    → OwnTurns (leaf_for o trees p) o.machine (after_turn c cs (pos p).at.replies run' (last_reply run'.stage run'.held)) tps last
+    → Came o trees p s t pos (Marked (Stepped (step.Load at) x)) (map Quiet changes ++ joined tps) last
+end-loaded ls o trees s mem t pos p c cs run run' e (Lock l q m z) changes reply at x tps last a st en load an is g d own = absurd d
+end-loaded ls o trees s mem t pos p c cs run run' e (Load v q k) changes reply at x tps last a st en load an is g d own = absurd d
+end-loaded ls o trees s mem t pos p c cs run run' e (Test b r z) changes reply at x tps last a st en load an is g d own = absurd d
+end-loaded ls o trees s mem t pos p c cs run run' e (End r (f ∷ fs) ds) changes reply at x tps last a st en load an is g d own = absurd d
+end-loaded ls o trees s mem t pos p c cs run run' e (End r [] (c1 ∷ ds)) changes reply at x tps last a st en load an is g d own = absurd d
+end-loaded ls o trees s mem t pos p c cs run run' e (End r [] []) changes reply at x tps last a st en load an is g d own =
+    let now = (a.runs.call.told st).told ++ x ∷ [] in
+    let none = none-changed o.machine run run' (End r [] []) changes reply en refl in
+    let en' = at-end-load ls o trees s mem t pos p c cs run run' e (End r [] []) changes reply at x a st en (none.0 ∙ a.runs.no_hasher) load an is g in
+    let moved = end-moved ls o trees s mem t t pos p c cs now reply run run' (record { event = e; reply = last_reply run'.stage run'.held }) a st en'
+    (λ y in_y. ap (λ (z : Tree). or_else (last_at (first_of z mem) y) (t.words (address o.machine.pages y))) {x = End r [] []} {y = feed (trees p c) now} (sym is)) refl in
+    record {
+      memory = moved.memory;
+      now = record { at = after_turn c cs (pos p).at.replies run' (last_reply run'.stage run'.held); owes = owes_of (feed (trees p c) now) mem };
+      stands = moved.stands;
+      rest = rest-owed o trees p (after_turn c cs (pos p).at.replies run' (last_reply run'.stage run'.held)) changes (owes_of (feed (trees p c) now) mem) tps last
+          (subst (λ (z : Tree). AreStores o.machine.pages changes (owes_of z mem)) (sym is) (subst (λ (z : List Taken). AreStores o.machine.pages z []) (sym none.1) tt)) own;
+    }
+end-loaded ls o trees s mem t pos p c cs run run' e (Since r ds) changes reply at x tps last a st en load an is g d own =
+    let m = o.machine in
+    let now = (a.runs.call.told st).told ++ x ∷ [] in
+    let plain : are_plain ds ≡ true = subst (λ (z : Tree). are_plain (changes_of z) ≡ true) is (a.are.plain p c now) in
+    let hash : en.hasher ≡ None = plain-all m ds run.hasher changes en.hasher plain en.changed a.runs.no_hasher in
+    let en' = at-end-load ls o trees s mem t pos p c cs run run' e (Since r ds) changes reply at x a st en hash load an is g in
+    let may = subst (λ (z : Tree). EndMay m (bare (s.lps p).call.held) s.world ((row_of o p c).act s.world) mem z) is
+    (end-may o trees s mem t pos p c cs now reply run run' (record { event = e; reply = last_reply run'.stage run'.held }) a st en') in
+    let rest = owed-items m (bare (s.lps p).call.held) ((row_of o p c).act s.world) mem ds run.hasher en.hasher changes may plain en.changed a.runs.no_hasher in
+    let moved = end-moved ls o trees s mem t t pos p c cs now reply run run' (record { event = e; reply = last_reply run'.stage run'.held }) a st en'
+    (λ y in_y. ap (λ (z : Tree). or_else (last_at (first_of z mem) y) (t.words (address m.pages y))) {x = Since r ds} {y = feed (trees p c) now} (sym is)) refl in
+    record {
+      memory = moved.memory;
+      now = record { at = after_turn c cs (pos p).at.replies run' (last_reply run'.stage run'.held); owes = owes_of (feed (trees p c) now) mem };
+      stands = moved.stands;
+      rest = rest-owed o trees p (after_turn c cs (pos p).at.replies run' (last_reply run'.stage run'.held)) changes (owes_of (feed (trees p c) now) mem) tps last
+          (subst (λ (z : Tree). AreStores m.pages changes (owes_of z mem)) (sym is) rest.1) own;
+    }
+
+-- the load before the end goes on
+quiet-load : (ls : Laws) (o : Opening) (trees : ℕ → Call → Tree) (s : State) (mem : Memory) (t : Table) (pos : ℕ → Position) (p : ℕ) (c : Call) (cs : List Call) (run run' : Standing) (e : RunEvent) (from x : ℕ) (loads changes : List Taken) (tree : Tree) (reply : Reply)
+    (tps : List (List Piece)) (last : WordLp) → (a : AtTurn o trees s mem t pos p c cs run) → (st : run.stage ≡ stages.Trying) → Ended o.machine run run' (passed (settle tree)) changes reply → e ≡ events.Act → IsLoadAt o.machine.pages (settle run.rest) from
+    → IsLoaded o.machine.pages (fed (settle run.rest) x) loads tree → Gives o.machine.pages (settle tree) (need.Verdict reply) → (IsDone (fed (settle run.rest) x) → ⊥) → x ≡ t.words from
+    → OwnTurns (leaf_for o trees p) o.machine (after_turn c cs (pos p).at.replies run' (last_reply run'.stage run'.held)) tps last
+    → Came o trees p s t pos (Quiet (Stepped (step.Load from) x)) (act_pieces (passed (settle tree)) loads changes ++ joined tps) last
+quiet-load ls o trees s mem t pos p c cs run run' e from x loads changes tree reply tps last a st en ev load l g never an own =
+    let goes : GoesIn o.machine (loaded run x) (act_pieces (passed (settle tree)) loads changes) run' e = record {
+      items = loads ++ changes;
+      goes = record {
+        loads = loads;
+        tree = tree;
+        need = need.Verdict reply;
+        loaded = l;
+        gives = g;
+        comes = record { hasher = en.hasher; changes = changes; items = refl; changed = en.changed; event = ev; after = en.after };
+      };
+      pieces = ap (act_pieces (passed (settle tree)) loads) (sym (behind-append loads changes));
+    } in
+    load-piece ls o trees s mem t pos p c cs run run' e from x (act_pieces (passed (settle tree)) loads changes) tps last a st load (goes-on o.machine.pages (settle run.rest) from x load never) an goes own
+
+abbrev pub IsEnd : Tree → Type 0
+IsEnd (End r fs cs) = Unit {0}
+IsEnd (Since r cs) = Unit {0}
+IsEnd _ = ⊥
+
+given-end : (n : ℕ) (t : Tree) (reply : Reply) → Gives n t (need.Verdict reply) → IsEnd t
+given-end n (Lock l q m t) reply g = cc
+given-end n (Load v q k) reply g = cc
+given-end n (Test b r t) reply g = absurd g
+given-end n (End r fs cs) reply g = tt
+given-end n (Since r cs) reply g = tt
+
+end-passed : (t : Tree) → IsEnd t → passed t ≡ t
+end-passed (Lock l q m t) h = absurd h
+end-passed (Load v q k) h = absurd h
+end-passed (Test b r t) h = absurd h
+end-passed (End r fs cs) h = refl
+end-passed (Since r cs) h = refl
+
+-- the pieces behind the first of several loads
+more-loads : (t : Tree) (l y : Taken) (loads changes : List Taken) → IsEnd t → act_pieces t (l ∷ y ∷ loads) changes ≡ Quiet l ∷ act_pieces t (y ∷ loads) changes
+more-loads (Lock l' q m t) l y loads changes h = absurd h
+more-loads (Load v q k) l y loads changes h = absurd h
+more-loads (Test b r t) l y loads changes h = absurd h
+more-loads (End r [] []) l y loads changes h = refl
+more-loads (End r [] (c ∷ cs)) l y loads changes h = refl
+more-loads (End r (f ∷ fs) cs) l y loads changes h = refl
+more-loads (Since r cs) l y loads changes h = refl
+
+-- one load is left: it is the act, or it isn't
+pub data OneLoad (t : Tree) (l : Taken) (changes : List Taken) : Type 0 where
+  IsAct : IsDone t → act_pieces t (l ∷ []) changes ≡ Marked l ∷ map Quiet changes → OneLoad t l changes
+  IsNone : (IsDone t → ⊥) → act_pieces t (l ∷ []) changes ≡ Quiet l ∷ act_pieces t [] changes → OneLoad t l changes
+
+one-load : (t : Tree) (l : Taken) (changes : List Taken) → IsEnd t → (changes_of t ≡ [] → changes ≡ []) → OneLoad t l changes
+one-load (Lock l' q m t) l changes h nil = absurd h
+one-load (Load v q k) l changes h nil = absurd h
+one-load (Test b r t) l changes h nil = absurd h
+one-load (End r [] []) l changes h nil = IsAct tt (ap (λ (z : List Taken). Marked l ∷ map Quiet z) (sym (nil refl)))
+one-load (End r [] (c ∷ cs)) l changes h nil = IsNone (λ d. d) refl
+one-load (End r (f ∷ fs) cs) l changes h nil = IsNone (λ d. d) refl
+one-load (Since r cs) l changes h nil = IsAct tt refl
+
+-- a turn that comes to its end
+pub verdict-turn : (ls : Laws) (o : Opening) (trees : ℕ → Call → Tree) (s : State) (mem : Memory) (t : Table) (pos : ℕ → Position) (p : ℕ) (c : Call) (cs : List Call) (run run' : Standing) (e : RunEvent) (loads items : List Taken) (tree : Tree) (reply : Reply)
+    (tps : List (List Piece)) (last : WordLp) (piece : Piece) (ps : List Piece) → AtTurn o trees s mem t pos p c cs run → run.stage ≡ stages.Trying → IsLoaded o.machine.pages run.rest loads tree
+    → Gives o.machine.pages (settle tree) (need.Verdict reply) → Ends o.machine run (passed (settle tree)) loads items reply run' e
+    → OwnTurns (leaf_for o trees p) o.machine (after_turn c cs (pos p).at.replies run' (last_reply run'.stage run'.held)) tps last
+    → Heads (act_pieces (passed (settle tree)) loads (behind loads items)) tps piece ps → PieceAnswers t piece → Came o trees p s t pos piece ps last
+verdict-turn ls o trees s mem t pos p c cs run run' e [] items tree reply tps last piece ps a st l g en own h an =
+    let is-end = given-end o.machine.pages (settle tree) reply g in
+    let at : passed (settle tree) ≡ settle tree = end-passed (settle tree) is-end in
+    let told : feed (trees p c) (a.runs.call.told st).told ≡ settle tree = sym (told-tree o trees s mem t pos p c cs run a st) ∙ ap settle l in
+    let en' : Ended o.machine run run' (settle tree) en.changes reply = record {
+      hasher = en.hasher;
+      changed = subst (λ (z : Tree). AreChanged o.machine (changes_of z) run.hasher en.changes en.hasher) at en.changed;
+      after = en.after ∙ ap (λ (z : Tree). standing z (stages.Answered reply) run.held en.hasher) at;
+    } in
+    end-now ls o trees s mem t pos p c cs run run' e (settle tree) en.changes reply tps last piece ps a st en' told g own
+    (ap (λ (z : Tree). act_pieces z [] en.changes ++ joined tps) (sym at) ∙ (ap (λ (z : List Taken). act_pieces (passed (settle tree)) [] z ++ joined tps) (sym en.items) ∙ h)) an
+verdict-turn ls o trees s mem t pos p c cs run run' e (Swapped k u v ∷ loads) items tree reply tps last piece ps a st l g en own h an = absurd l
+verdict-turn ls o trees s mem t pos p c cs run run' e (Missed k ∷ loads) items tree reply tps last piece ps a st l g en own h an = absurd l
+verdict-turn ls o trees s mem t pos p c cs run run' e (Stepped w x ∷ loads) items tree reply tps last piece ps a st l g en own h an =
+    by loads refl
+  where
+    n : ℕ
+    n = o.machine.pages
+
+    from : ℕ
+    from = l.0.0
+
+    is-end : IsEnd (settle tree)
+    is-end = given-end n (settle tree) reply g
+
+    at : passed (settle tree) ≡ settle tree
+    at = end-passed (settle tree) is-end
+
+    end-p : IsEnd (passed (settle tree))
+    end-p = subst (λ (z : Tree). IsEnd z) (sym at) is-end
+
+    ended : Ended o.machine run run' (passed (settle tree)) en.changes reply
+    ended = record { hasher = en.hasher; changed = en.changed; after = en.after }
+
+    behind-is : behind (Stepped w x ∷ loads) items ≡ en.changes
+    behind-is = ap (behind (Stepped w x ∷ loads)) en.items ∙ behind-append loads en.changes
+
+    heads : act_pieces (passed (settle tree)) (Stepped (step.Load from) x ∷ loads) en.changes ++ joined tps ≡ piece ∷ ps
+    heads = ap (λ (z : WordStep). act_pieces (passed (settle tree)) (Stepped z x ∷ loads) en.changes ++ joined tps) (sym l.0.2) ∙ (ap (λ (z : List Taken). act_pieces (passed (settle tree)) (Stepped w x ∷ loads) z ++ joined tps) (sym behind-is) ∙ h)
+
+    quiet : (IsDone (fed (settle run.rest) x) → ⊥) → act_pieces (passed (settle tree)) (Stepped (step.Load from) x ∷ loads) en.changes ≡ Quiet (Stepped (step.Load from) x) ∷ act_pieces (passed (settle tree)) loads en.changes
+        → Came o trees p s t pos piece ps last
+    quiet never parts =
+        let h' : Quiet (Stepped (step.Load from) x) ∷ (act_pieces (passed (settle tree)) loads en.changes ++ joined tps) ≡ piece ∷ ps = ap (λ (z : List Piece). z ++ joined tps) (sym parts) ∙ heads in
+        came-as o trees p s t pos (Quiet (Stepped (step.Load from) x)) piece (act_pieces (passed (settle tree)) loads en.changes ++ joined tps) ps last h'
+        (quiet-load ls o trees s mem t pos p c cs run run' e from x loads en.changes tree reply tps last a st ended en.event l.0.1 l.1 g never
+        (answers-as t (Quiet (Stepped (step.Load from) x)) piece (act_pieces (passed (settle tree)) loads en.changes ++ joined tps) ps h' an) own)
+
+    by : (ys : List Taken) → loads ≡ ys → Came o trees p s t pos piece ps last
+    by (y ∷ ys) f =
+        quiet (λ d. (let dl = done-loads n (fed (settle run.rest) x) loads tree d l.1 in let bad : y ∷ ys ≡ [] = sym f ∙ dl.0 in cc))
+        (subst (λ (zs : List Taken). act_pieces (passed (settle tree)) (Stepped (step.Load from) x ∷ zs) en.changes ≡ Quiet (Stepped (step.Load from) x) ∷ act_pieces (passed (settle tree)) zs en.changes) (sym f)
+        (more-loads (passed (settle tree)) (Stepped (step.Load from) x) y ys en.changes end-p))
+    by [] f =
+        one (one-load (passed (settle tree)) (Stepped (step.Load from) x) en.changes end-p (λ z. (none-changed o.machine run run' (passed (settle tree)) en.changes reply ended z).1))
+      where
+        tree-is : fed (settle run.rest) x ≡ tree
+        tree-is = subst (λ (zs : List Taken). IsLoaded n (fed (settle run.rest) x) zs tree) f l.1
+
+        one : OneLoad (passed (settle tree)) (Stepped (step.Load from) x) en.changes → Came o trees p s t pos piece ps last
+        one (IsNone never parts) =
+            quiet
+            (λ d. never (subst (λ (z : Tree). IsDone z) (sym (at ∙ (ap settle (sym tree-is) ∙ done-settled (fed (settle run.rest) x) d))) d))
+            (subst (λ (zs : List Taken). act_pieces (passed (settle tree)) (Stepped (step.Load from) x ∷ zs) en.changes ≡ Quiet (Stepped (step.Load from) x) ∷ act_pieces (passed (settle tree)) zs en.changes) (sym f) parts)
+        one (IsAct d parts) =
+            let h' : Marked (Stepped (step.Load from) x) ∷ (map Quiet en.changes ++ joined tps) ≡ piece ∷ ps =
+            ap (λ (z : List Piece). z ++ joined tps) (sym parts) ∙ (ap (λ (zs : List Taken). act_pieces (passed (settle tree)) (Stepped (step.Load from) x ∷ zs) en.changes ++ joined tps) (sym f) ∙ heads) in
+            let told = (a.runs.call.told st).told in
+            let now-tree : feed (trees p c) (told ++ x ∷ []) ≡ passed (settle tree) =
+            sym (settled (trees p c) (told ++ x ∷ []))
+            ∙ (ap settle (sym (ap (λ (z : Tree). fed z x) (told-tree o trees s mem t pos p c cs run a st) ∙ feed-append (trees p c) told (x ∷ [])) ∙ tree-is) ∙ sym at) in
+            came-as o trees p s t pos (Marked (Stepped (step.Load from) x)) piece (map Quiet en.changes ++ joined tps) ps last h'
+            (end-loaded ls o trees s mem t pos p c cs run run' e (passed (settle tree)) en.changes reply from x tps last a st ended l.0.1
+            (answers-as t (Marked (Stepped (step.Load from) x)) piece (map Quiet en.changes ++ joined tps) ps h' an) now-tree (subst (λ (z : Tree). Gives n z (need.Verdict reply)) (sym at) g) d own)
