@@ -9,3 +9,4 @@ pub mod Calling
 pub mod Untouched
 pub mod Turning
 pub mod Beginning
+pub mod Pieces

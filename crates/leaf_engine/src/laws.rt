@@ -3,6 +3,7 @@
 ghost use Rattle.leaf_engine.specs.Follows.{LeavesFollowRows};
 ghost use Rattle.leaf_engine.specs.Shown.{TurnsShow};
 ghost use Rattle.leaf_engine.specs.Calls.{CallsBegin, CallsFollow, StartIsMet};
+ghost use Rattle.leaf_engine.specs.OwnLists.{TurnsInPieces};
 
 use lock_words::{lock_steps_shown, lock_words_follow};
 use step_core::pages_change_alone;
@@ -42,3 +43,10 @@ pub fn calls_follow()
     places_injective();
     pages_change_alone();
 }
+
+/// The word steps of a turn are told in pieces, in order, and exactly one of them is its event: the
+/// step of a try, undo or release; of an act the first store that isn't a fill, or the last load
+/// where it stores nothing.
+pub fn turns_in_pieces()
+    ensures { TurnsInPieces }
+{}

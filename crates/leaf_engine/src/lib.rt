@@ -19,7 +19,7 @@ mod runs;
 
 pub use asking::{Choice, ask, change, make};
 pub use events::{Event, HeldLock, RunTurn, Stage};
-pub use laws::{calls_follow, leaves_follow_rows, turns_show};
+pub use laws::{calls_follow, leaves_follow_rows, turns_in_pieces, turns_show};
 pub use leaves::Leaf;
 pub use needs::{Need, Place, Write};
 pub use plans::{ANSWERS, Plan, Planned, Stop, Told, Verdict, WRITES};
