@@ -14,3 +14,4 @@ pub mod LockPieces
 pub mod EndPieces
 pub mod Turns
 pub mod Verdicts
+pub mod Merged

@@ -1,0 +1,226 @@
+-- A merge, gone through piece by piece.
+use Rattle.std.proofs.Common.{◌≡◌, ◌≢◌, ◌⊎◌, ℕ, zero, suc, ◌+◌, ◌-◌, ◌^◌, ◌<◌, ◌≤◌, Bool, true, false, ◌==◌, if◌then◌else◌, cond, List, [], ◌∷◌, ◌++◌, map, length, drop, Option, Some, None, refl, ap, sym, ◌∙◌, subst, inl, inr, arith, append_assoc}
+use Rattle.std.proofs.lemmas.Bool.{eq-eqb, eqb-true}
+use Rattle.std.proofs.lemmas.List.{append-nil}
+use Rattle.td_words.specs.declared.machines.Machine.{Machine}
+use Rattle.td_words.specs.declared.calls.Call.{Call}
+use Rattle.td_words.specs.declared.replies.Reply.{Reply}
+use Rattle.td_words.specs.Place.{WordPlace, IsIn, address}
+use Rattle.mrtd_measure.specs.declared.measures.Measure.{Measure}
+use Rattle.flat_core.specs.World.{World, put}
+use Rattle.flat_core.specs.Processor.{LockId, Lp}
+use Rattle.flat_core.specs.Locks.{sharers, refusals}
+use Rattle.flat_core.specs.Lawful.{Lawful}
+use Rattle.flat_core.specs.Opening.{Opening}
+use Rattle.flat_core.specs.Table.{row_of}
+use Rattle.flat_core.specs.Event.{State, start, event, next_event, after_event, event_for, lines_left, calls_of}
+use Rattle.flat_core.specs.Run.{play, run, to_the_end}
+use Rattle.lock_words.specs.Grips.{IsExclusive}
+use Rattle.step_core.specs.declared.steps.WordStep.{WordStep}
+use Rattle.step_core.specs.declared.steps.WordStep.TheVariants as step
+use Rattle.step_core.specs.Locks.{weight_of}
+use Rattle.step_core.specs.Words.{after_step, answer_of}
+use Rattle.step_core.specs.Items.{Table, Taken, Stepped, Swapped, Missed, PlaysTo}
+use Rattle.leaf_engine.specs.declared.events.Event.{Event as RunEvent}
+use Rattle.leaf_engine.specs.declared.events.Stage.{Stage}
+use Rattle.leaf_engine.specs.declared.events.Stage.TheVariants as stages
+use Rattle.leaf_engine.specs.declared.needs.Need.{Need}
+use Rattle.leaf_engine.specs.declared.needs.Need.TheVariants as need
+use Rattle.leaf_engine.specs.Changes.{Memory}
+use Rattle.leaf_engine.specs.Trees.{Tree, settle, passed}
+use Rattle.leaf_engine.specs.Decides.{Gives, IsHand}
+use Rattle.leaf_engine.specs.Turns.{Standing, Goes, Comes as TurnComes, TurnBy, TakesBack, GivesBack, last_reply}
+use Rattle.leaf_engine.specs.OwnLists.{Piece, Quiet, Marked, Wordless, joined, last_marked, pieces_for, behind, GoesIn, StepsIn, TurnIn, WordLp, running, after_turn, LineTurn, LinesTurn, LpTurns, OwnTurns}
+use Rattle.leaf_engine.specs.Merges.{Item, part, steps_taken, step_before, order, event_before}
+use Rattle.merge_laws.proofs.Stores.{Due, AreStores}
+use Rattle.merge_laws.proofs.Standing.{Laws, leaf_for, AreTrees, Known, Position, Rest, Holds, Stands}
+use Rattle.merge_laws.proofs.Own.{at-own, at-other}
+use Rattle.merge_laws.proofs.QuietSteps.{owed-step}
+use Rattle.merge_laws.proofs.Pieces.{state_after, table_after, PieceAnswers, plays-piece, Came, came-as, answers-as, line-runs}
+use Rattle.merge_laws.proofs.LockPieces.{AtTurn, undo-piece, free-piece}
+use Rattle.merge_laws.proofs.Turns.{Heads, lock-turn}
+use Rattle.merge_laws.proofs.Verdicts.{verdict-turn}
+
+-- the next piece of a turn
+turn-piece : (ls : Laws) (o : Opening) (trees : ℕ → Call → Tree) (s : State) (mem : Memory) (t : Table) (pos : ℕ → Position) (p : ℕ) (c : Call) (cs : List Call) (run run' : Standing) (e : RunEvent) (tp : List Piece) (tps : List (List Piece)) (end_ : WordLp)
+    (piece : Piece) (ps : List Piece) → AtTurn o trees s mem t pos p c cs run → TurnIn run.stage o.machine run tp run' e
+    → OwnTurns (leaf_for o trees p) o.machine (after_turn c cs (pos p).at.replies run' (last_reply run'.stage run'.held)) tps end_
+    → Heads tp tps piece ps → PieceAnswers t piece → Came o trees p s t pos piece ps end_
+turn-piece ls o trees s mem t pos p c cs run run' e tp tps end_ piece ps a tn own h an = by run.stage refl tn
+  where
+    by-need : (gi : GoesIn o.machine run tp run' e) → run.stage ≡ stages.Trying → (x : Need) → Gives o.machine.pages (settle gi.goes.tree) x → TurnComes o.machine run (passed (settle gi.goes.tree)) gi.goes.loads gi.items x run' e
+        → tp ≡ pieces_for x (passed (settle gi.goes.tree)) gi.goes.loads gi.items (behind gi.goes.loads gi.items) → Came o trees p s t pos piece ps end_
+    by-need gi st (need.Lock name at mode) g co q =
+        lock-turn ls o trees s mem t pos p c cs run run' e gi.goes.loads gi.items gi.goes.tree name at mode tps end_ piece ps a st gi.goes.loaded g co own (ap (λ (z : List Piece). z ++ joined tps) (sym q) ∙ h) an
+    by-need gi st (need.Load at) g co q = absurd co
+    by-need gi st (need.Verdict reply) g co q =
+        verdict-turn ls o trees s mem t pos p c cs run run' e gi.goes.loads gi.items gi.goes.tree reply tps end_ piece ps a st gi.goes.loaded g co own (ap (λ (z : List Piece). z ++ joined tps) (sym q) ∙ h) an
+
+    by : (st : Stage) → run.stage ≡ st → TurnIn st o.machine run tp run' e → Came o trees p s t pos piece ps end_
+    by stages.Trying st gi = by-need gi st gi.goes.need gi.goes.gives gi.goes.comes gi.pieces
+    by (stages.Undoing name at) st si =
+        let tb : TakesBack run name at si.items run' e = subst (λ (z : Stage). TurnBy z o.machine run si.items run' e) st si.turn in
+        let x : Taken = Stepped (step.Sub at 1) tb.items.0 in
+        let h' : Marked x ∷ joined tps ≡ piece ∷ ps = ap (λ (z : List Taken). last_marked z ++ joined tps) (sym tb.items.1) ∙ (ap (λ (z : List Piece). z ++ joined tps) (sym si.pieces) ∙ h) in
+        came-as o trees p s t pos (Marked x) piece (joined tps) ps end_ h'
+        (undo-piece ls o trees s mem t pos p c cs run run' si.items e name at tps end_ a st si.turn tb (answers-as t (Marked x) piece (joined tps) ps h' an) own)
+    by (stages.Answered r) st si =
+        let both : GivesBack run.held si.items run'.held e × (run' ≡ record run { held = run'.held }) = subst (λ (z : Stage). TurnBy z o.machine run si.items run' e) st si.turn in
+        let x : Taken = Stepped (step.Sub both.0.newest.at (weight_of both.0.newest.mode)) both.0.items.0 in
+        let h' : Marked x ∷ joined tps ≡ piece ∷ ps = ap (λ (z : List Taken). last_marked z ++ joined tps) (sym both.0.items.1) ∙ (ap (λ (z : List Piece). z ++ joined tps) (sym si.pieces) ∙ h) in
+        came-as o trees p s t pos (Marked x) piece (joined tps) ps end_ h'
+        (free-piece ls o trees s mem t pos p c cs run run' si.items e r tps end_ a st si.turn both.0 both.1 (answers-as t (Marked x) piece (joined tps) ps h' an) own)
+
+-- the next piece of what a processor has still to do
+next-piece : (ls : Laws) (o : Opening) (trees : ℕ → Call → Tree) (s : State) (mem : Memory) (t : Table) (pos : ℕ → Position) (p : ℕ) (end_ : WordLp) (piece : Piece) (ps : List Piece) → AreTrees o trees → Known o s → Stands o trees s mem t pos → p < length o.calls
+    → Rest o trees p (pos p) (piece ∷ ps) end_ → PieceAnswers t piece → Came o trees p s t pos piece ps end_
+next-piece ls o trees s mem t pos p end_ piece ps are known sd i rest an = by rest.stores (pos p).owes refl rest.are rest.pieces rest.turns rest.own
+  where
+    h : Holds o trees p s.world mem.words (Rattle.merge_laws.proofs.Standing.on_table o.machine t) (s.lps p) (pos p)
+    h = sd.holds p i
+
+    line : (cs : List Call) → (pos p).at.lines ≡ cs → (pos p).owes ≡ [] → (e : RunEvent) (tp : List Piece) (tps : List (List Piece)) (after : WordLp) → LinesTurn (leaf_for o trees p) o.machine cs (pos p).at.run (pos p).at.replies e tp after
+        → OwnTurns (leaf_for o trees p) o.machine after tps end_ → Heads tp tps piece ps → Came o trees p s t pos piece ps end_
+    line [] l none e tp tps after lt own hd = absurd lt
+    line (c ∷ cs) l none e tp tps after lt own hd =
+        let a : AtTurn o trees s mem t pos p c cs (running (leaf_for o trees p c) (pos p).at.run) = record {
+          are = are;
+          known = known;
+          all = sd;
+          inside = i;
+          lines = h.stands.lines ∙ l;
+          replies = h.stands.replies;
+          none = none;
+          runs = line-runs o trees p c cs s.world mem.words (s.lps p) (pos p).at h.stands l;
+          going = lt.going;
+        } in
+        turn-piece ls o trees s mem t pos p c cs (running (leaf_for o trees p c) (pos p).at.run) lt.stands e tp tps end_ piece ps a lt.turn
+        (subst (λ (z : WordLp). OwnTurns (leaf_for o trees p) o.machine z tps end_) lt.after_is own) hd an
+
+    by : (stores : List Taken) (owes : List Due) → (pos p).owes ≡ owes → AreStores o.machine.pages stores owes → piece ∷ ps ≡ map Quiet stores ++ joined rest.turns → (turns : List (List Piece)) → OwnTurns (leaf_for o trees p) o.machine (pos p).at turns end_
+        → Came o trees p s t pos piece ps end_
+    by [] (d ∷ ds) q st e turns own = absurd st
+    by (Stepped w x ∷ xs) [] q st e turns own = absurd st
+    by (Swapped k u v ∷ xs) owes q st e turns own = absurd st
+    by (Missed k ∷ xs) owes q st e turns own = absurd st
+    by (Stepped w x ∷ xs) (d ∷ ds) q st e turns own =
+        let y : Taken = Stepped (step.Store (address o.machine.pages d.at) d.word) x in
+        let h' : Quiet y ∷ (map Quiet xs ++ joined rest.turns) ≡ piece ∷ ps = ap (λ (z : WordStep). Quiet (Stepped z x) ∷ (map Quiet xs ++ joined rest.turns)) (sym st.0) ∙ sym e in
+        came-as o trees p s t pos (Quiet y) piece (map Quiet xs ++ joined rest.turns) ps end_ h'
+        (record {
+          memory = mem;
+          now = record { at = (pos p).at; owes = ds };
+          stands = owed-step ls o trees s mem t pos p d ds known sd i q;
+          rest = record { stores = xs; turns = rest.turns; are = st.1; pieces = refl; own = rest.own };
+        })
+    by [] [] q st e turns own = turned rest.turns rest.own (sym e)
+      where
+        turned : (turns : List (List Piece)) → OwnTurns (leaf_for o trees p) o.machine (pos p).at turns end_ → joined turns ≡ piece ∷ ps → Came o trees p s t pos piece ps end_
+        turned [] own f = cc
+        turned (tp ∷ tps) own f = line (pos p).at.lines refl q own.0 tp tps own.1.0 own.1.1 own.1.2 f
+
+-- what is known of the state after an event
+
+play-more : (o : Opening) (xs ys : List ℕ) (s : State) → play o (xs ++ ys) s ≡ play o ys (play o xs s)
+play-more o [] ys s = refl
+play-more o (x ∷ xs) ys s = play-more o xs ys (event o s x)
+
+count-stays : (o : Opening) (s : State) (p : ℕ) → (event o s p).lp_count ≡ s.lp_count
+count-stays o s p = by (next_event o s p)
+  where
+    by : (e : Option Rattle.flat_core.specs.Event.Event) → (after_event p s e).lp_count ≡ s.lp_count
+    by None = refl
+    by (Some e) = refl
+
+pub known-of : (ls : Laws) (o : Opening) (schedule : List ℕ) (s : State) → length o.calls ≤ 8 → s ≡ play o schedule (start o None) → s.lp_count ≡ length o.calls → s.world.outgoing.to_tell ≡ None → Known o s
+known-of ls o schedule s most is count tell = record {
+  schedule = schedule;
+  reached = is;
+  count = count;
+  lawful = subst (λ (z : State). Lawful o.machine z.world) (sym is) (ls.lawful o None schedule);
+  exclusive = subst (λ (z : State). IsExclusive z) (sym is) (λ l. ls.exclude o None schedule l);
+  few = λ l. subst (λ (z : State). sharers z.lps z.lp_count l + refusals z.lps z.lp_count l + 1 < 2 ^ 63) (sym is) (ls.runs.few o None schedule l most);
+  nothing_to_tell = tell;
+}
+
+known-next : (ls : Laws) (o : Opening) (s : State) (p : ℕ) → length o.calls ≤ 8 → Known o s → Known o (event o s p)
+known-next ls o s p most known =
+    known-of ls o (known.schedule ++ p ∷ []) (event o s p) most (ap (λ (z : State). event o z p) known.reached ∙ sym (play-more o known.schedule (p ∷ []) (start o None)))
+    (count-stays o s p ∙ known.count) (ls.tell o s p known.nothing_to_tell)
+
+known-after : (ls : Laws) (o : Opening) (s : State) (p : ℕ) (piece : Piece) → length o.calls ≤ 8 → Known o s → Known o (state_after o s p piece)
+known-after ls o s p (Quiet x) most known = known
+known-after ls o s p (Marked x) most known = known-next ls o s p most known
+known-after ls o s p Wordless most known = known-next ls o s p most known
+
+-- after all pieces
+pub record Through (o : Opening) (trees : ℕ → Call → Tree) (s : State) (u : Table) (ends : ℕ → WordLp) : Type 0 where
+  pub known : Known o s
+  pub memory : Memory
+  pub table : Table
+  pub pos : ℕ → Position
+  pub stands : Stands o trees s memory table pos
+  pub words : u.words ≡ table.words
+  pub slots : u.slots ≡ table.slots
+  pub rest : (p : ℕ) → p < length o.calls → Rest o trees p (pos p) [] (ends p)
+
+order-plays : (o : Opening) (piece : Piece) (p : ℕ) (ps : List ℕ) (s : State) → play o (event_before piece p ps) s ≡ play o ps (state_after o s p piece)
+order-plays o (Quiet x) p ps s = refl
+order-plays o (Marked x) p ps s = refl
+order-plays o Wordless p ps s = refl
+
+below-or : (n p : ℕ) → (p < n) ⊎ (n ≤ p)
+below-or zero p = inr (omega arith)
+below-or (suc n) zero = inl (omega arith)
+below-or (suc n) (suc p) = by (below-or n p)
+  where
+    by : (p < n) ⊎ (n ≤ p) → (suc p < suc n) ⊎ (suc n ≤ suc p)
+    by (inl h) = inl (omega (arith, h))
+    by (inr h) = inr (omega (arith, h))
+
+part-own : (i : Item) (is : List Item) → part i.lp (i ∷ is) ≡ i.piece ∷ part i.lp is
+part-own i is = ap (λ (b : Bool). if b then i.piece ∷ part i.lp is else part i.lp is) (eq-eqb i.lp i.lp refl)
+
+part-other : (i : Item) (is : List Item) (k : ℕ) → (k == i.lp) ≡ false → part k (i ∷ is) ≡ part k is
+part-other i is k e = ap (λ (b : Bool). if b then i.piece ∷ part k is else part k is) (by (i.lp == k) refl)
+  where
+    by : (b : Bool) → (i.lp == k) ≡ b → (i.lp == k) ≡ false
+    by false f = f
+    by true f = (let t : (k == i.lp) ≡ true = eq-eqb k i.lp (sym (eqb-true i.lp k f)) in cc)
+
+pub through : (ls : Laws) (o : Opening) (trees : ℕ → Call → Tree) (is : List Item) (s : State) (mem : Memory) (t u : Table) (pos : ℕ → Position) (ends : ℕ → WordLp) → length o.calls ≤ 8 → AreTrees o trees → Known o s → Stands o trees s mem t pos
+    → ((p : ℕ) → p < length o.calls → Rest o trees p (pos p) (part p is) (ends p)) → ((p : ℕ) → length o.calls ≤ p → part p is ≡ []) → PlaysTo t (steps_taken is) u
+    → Through o trees (play o (order is) s) u ends
+through ls o trees [] s mem t u pos ends most are known sd rests others plays =
+    record { known = known; memory = mem; table = t; pos = pos; stands = sd; words = plays.0; slots = plays.1; rest = rests }
+through ls o trees (i ∷ is) s mem t u pos ends most are known sd rests others plays =
+    by (below-or (length o.calls) i.lp) (λ s' mem' t' pos' k d r x y. through ls o trees is s' mem' t' u pos' ends most are k d r x y)
+  where
+    by : (i.lp < length o.calls) ⊎ (length o.calls ≤ i.lp)
+        → ((s' : State) (mem' : Memory) (t' : Table) (pos' : ℕ → Position) → Known o s' → Stands o trees s' mem' t' pos' → ((p : ℕ) → p < length o.calls → Rest o trees p (pos' p) (part p is) (ends p)) → ((p : ℕ) → length o.calls ≤ p → part p is ≡ [])
+        → PlaysTo t' (steps_taken is) u → Through o trees (play o (order is) s') u ends)
+        → Through o trees (play o (order (i ∷ is)) s) u ends
+    by (inr out) further = (let none : i.piece ∷ part i.lp is ≡ [] = sym (part-own i is) ∙ others i.lp out in cc)
+    by (inl inside) further =
+        let p = i.lp in
+        let played = plays-piece t u i.piece (steps_taken is) plays in
+        let came = next-piece ls o trees s mem t pos p (ends p) i.piece (part p is) are known sd inside (subst (λ (z : List Piece). Rest o trees p (pos p) z (ends p)) (part-own i is) (rests p inside)) played.0 in
+        subst (λ (z : State). Through o trees z u ends) (sym (order-plays o i.piece p (order is) s))
+        (further (state_after o s p i.piece) came.memory (table_after t i.piece) (put pos p came.now) (known-after ls o s p i.piece most known) came.stands
+        (λ k j. rest k j came (k == p) refl)
+        (λ k out. no-part k out (k == p) refl) played.1)
+      where
+        rest : (k : ℕ) → k < length o.calls → (came : Came o trees i.lp s t pos i.piece (part i.lp is) (ends i.lp)) → (b : Bool) → (k == i.lp) ≡ b → Rest o trees k (put pos i.lp came.now k) (part k is) (ends k)
+        rest k j came true e =
+            let q : i.lp ≡ k = sym (eqb-true k i.lp e) in
+            subst (λ (z : ℕ). Rest o trees z (put pos i.lp came.now z) (part z is) (ends z)) q (subst (λ (z : Position). Rest o trees i.lp z (part i.lp is) (ends i.lp)) (sym (at-own pos i.lp came.now)) came.rest)
+        rest k j came false e =
+            subst (λ (z : Position). Rest o trees k z (part k is) (ends k)) (sym (at-other pos i.lp k came.now e))
+            (subst (λ (z : List Piece). Rest o trees k (pos k) z (ends k)) (part-other i is k e) (rests k j))
+
+        no-part : (k : ℕ) → length o.calls ≤ k → (b : Bool) → (k == i.lp) ≡ b → part k is ≡ []
+        no-part k out true e =
+            let q : k ≡ i.lp = eqb-true k i.lp e in
+            let none : i.piece ∷ part i.lp is ≡ [] = sym (part-own i is) ∙ (ap (λ (z : ℕ). part z (i ∷ is)) (sym q) ∙ others k out) in
+            cc
+        no-part k out false e = sym (part-other i is k e) ∙ others k out
