@@ -41,7 +41,7 @@ use Rattle.leaf_engine.proofs.Changing.{word_put}
 use Rattle.merge_laws.proofs.Virtual.{table_of}
 use Rattle.merge_laws.proofs.Stores.{Due, due, last_at, or_else, laid-none, stores_of, all_stores, AreStores, or-test, none-is, owed-items}
 use Rattle.merge_laws.proofs.Holding.{bare}
-use Rattle.merge_laws.proofs.Standing.{Laws, leaf_for, fills_of, AreTrees, on_table, Position, Rest, Stands}
+use Rattle.merge_laws.proofs.Standing.{Laws, leaf_for, AreTrees, on_table, Position, Rest, Stands}
 use Rattle.merge_laws.proofs.Others.{shown-of, hold-is}
 use Rattle.merge_laws.proofs.Own.{none-due}
 use Rattle.merge_laws.proofs.LockSteps.{turned-round, Moved}

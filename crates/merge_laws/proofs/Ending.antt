@@ -23,7 +23,7 @@ use Rattle.leaf_engine.specs.declared.events.RunTurn.{RunTurn}
 use Rattle.leaf_engine.specs.declared.events.Stage.TheVariants as stages
 use Rattle.leaf_engine.specs.declared.needs.Need.TheVariants as need
 use Rattle.leaf_engine.specs.Changes.{Memory, Change, Put, PutHash, Raise, Clear, Copy, Swap, changed, changed_all, is_plain, are_plain}
-use Rattle.leaf_engine.specs.Trees.{Tree, Lock, Load, Test, End, Since, feed, changes_of}
+use Rattle.leaf_engine.specs.Trees.{Tree, Lock, Load, Test, End, Since, feed, changes_of, fills_of}
 use Rattle.leaf_engine.specs.Means.{Task, Instant, Work, IsAt, work_of, hold, Acts, MayAct, MayChange, MayOweAll, acted, LocksStay, MeansRow}
 use Rattle.leaf_engine.specs.Decides.{Gives}
 use Rattle.leaf_engine.specs.Tables.{IsMemory}
@@ -38,7 +38,7 @@ use Rattle.merge_laws.proofs.Virtual.{table_of}
 use Rattle.merge_laws.proofs.Stores.{Due, last_at, later, or_else, stores_of, all_stores, EachDue, last-each, last-append, or-later, changed-is, one-is, changed-rest, looks-owed}
 use Rattle.merge_laws.proofs.Keeping.{Keeps, keeps-same, owed-keeps}
 use Rattle.merge_laws.proofs.Holding.{bare}
-use Rattle.merge_laws.proofs.Standing.{Laws, leaf_for, fills_of, AreTrees, Known, on_table, Position, Stands}
+use Rattle.merge_laws.proofs.Standing.{Laws, leaf_for, AreTrees, Known, on_table, Position, Stands}
 use Rattle.merge_laws.proofs.Others.{shown-of, hold-is}
 use Rattle.merge_laws.proofs.Own.{lp-of-event, Spares}
 use Rattle.merge_laws.proofs.LockSteps.{turned-round}

@@ -15,3 +15,4 @@ pub mod EndPieces
 pub mod Turns
 pub mod Verdicts
 pub mod Merged
+pub mod Runs

@@ -18,20 +18,20 @@ use Rattle.flat_core.specs.Run.{play}
 use Rattle.flat_core.specs.Laws.{EveryWorldIsLawful, LocksExclude, OthersStay, NoWordsToTell, IsBetween}
 use Rattle.word_rules.specs.Permissions.{Owes, WordsNeverConflict, ActsNeverConflict, RespectsCompose}
 use Rattle.word_rules.specs.Views.{ViewsAreKept}
-use Rattle.word_rules.specs.Cells.{Shows}
+use Rattle.word_rules.specs.Cells.{Shows, StartIsShown}
 use Rattle.lock_words.specs.Grips.{IsExclusive, GripsAreApart}
 use Rattle.lock_words.specs.LockWords.{LockWordsFollow, LockStepsShown, RunsFollow, TdLocksStay}
 use Rattle.act_rules.specs.Stores.{OthersStoresKeepReads}
 use Rattle.step_core.specs.Items.{Table, Taken, PlaysTo}
 use Rattle.step_core.specs.Laws.{PagesChangeAlone}
 use Rattle.leaf_engine.specs.Changes.{Memory}
-use Rattle.leaf_engine.specs.Trees.{Tree, Lock, Load, Test, End, Since, feed, changes_of}
-use Rattle.leaf_engine.specs.Changes.{Change, are_plain}
+use Rattle.leaf_engine.specs.Trees.{Tree, feed, changes_of, fills_of}
+use Rattle.leaf_engine.specs.Changes.{are_plain}
 use Rattle.leaf_engine.specs.Means.{Task, OfCall, MeansRow, IsHkid}
 use Rattle.leaf_engine.specs.Decides.{IsHand}
 use Rattle.leaf_engine.specs.Turns.{Standing}
 use Rattle.leaf_engine.specs.Calls.{IsCallAt}
-use Rattle.leaf_engine.specs.OwnLists.{Piece, Quiet, joined, WordLp, OwnTurns}
+use Rattle.leaf_engine.specs.OwnLists.{Piece, Quiet, joined, TurnsInPieces, WordLp, OwnTurns}
 use Rattle.merge_laws.proofs.Stores.{Due, laid, AreStores}
 use Rattle.merge_laws.proofs.Keeping.{Keeps}
 use Rattle.merge_laws.proofs.Holding.{bare, NoGuests, HoldsTdr, HoldTdrs}
@@ -54,14 +54,12 @@ pub record Laws : Type 0 where
   pub stay : TdLocksStay
   pub keep : OthersStoresKeepReads
   pub views : ViewsAreKept
+  pub start : StartIsShown
+  pub one : TurnsInPieces
 
 -- leaves, by their trees
 abbrev pub leaf_for : Opening → (ℕ → Call → Tree) → ℕ → Call → Task
 leaf_for o trees p c = record { place = record { machine = o.machine; lp = p }; tree = trees p c; meaning = OfCall (row_of o p c) }
-
-abbrev pub fills_of : Tree → List Change
-fills_of (End r fs cs) = fs
-fills_of _ = []
 
 pub record AreTrees (o : Opening) (trees : ℕ → Call → Tree) : Type 0 where
   pub means : (p : ℕ) (c : Call) → MeansRow (leaf_for o trees p c)

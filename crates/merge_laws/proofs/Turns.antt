@@ -38,7 +38,7 @@ use Rattle.leaf_engine.proofs.Loading.{LooksRight, current-load, granted-load}
 use Rattle.merge_laws.proofs.Stores.{Due, last_at, laid-same, stores_of, all_stores, owed-items}
 use Rattle.merge_laws.proofs.Keeping.{and_parts}
 use Rattle.merge_laws.proofs.Holding.{bare}
-use Rattle.merge_laws.proofs.Standing.{Laws, leaf_for, fills_of, AreTrees, Known, RunsAt, StandsAt, on_table, Position, Rest, Holds, Stands}
+use Rattle.merge_laws.proofs.Standing.{Laws, leaf_for, AreTrees, Known, RunsAt, StandsAt, on_table, Position, Rest, Holds, Stands}
 use Rattle.merge_laws.proofs.Own.{at-own, at-other}
 use Rattle.merge_laws.proofs.Ending.{AtEnd, first_of, owes_of}
 use Rattle.merge_laws.proofs.QuietSteps.{rearranged, loads-right, GoesOnBehind, loaded, told-load}

@@ -21,7 +21,7 @@ use Rattle.leaf_engine.specs.declared.needs.Need.TheVariants as need
 use Rattle.leaf_engine.specs.declared.needs.Write.{Write}
 use Rattle.leaf_engine.specs.declared.needs.Write.TheVariants as write
 use Rattle.leaf_engine.specs.Changes.{Memory, Change, Put, PutHash, Raise, Clear, Copy, Swap, is_plain, are_plain, changed}
-use Rattle.leaf_engine.specs.Trees.{Tree, Lock, Load, Test, End, Since, feed, settle, fed, passed, changes_of}
+use Rattle.leaf_engine.specs.Trees.{Tree, Lock, Load, Test, End, Since, feed, settle, fed, passed, changes_of, fills_of}
 use Rattle.leaf_engine.specs.Decides.{Gives}
 use Rattle.leaf_engine.specs.Items.{IsLoadAt, IsLoaded, IsWritten, IsChanged, AreChanged}
 use Rattle.leaf_engine.specs.Turns.{Standing, standing, Goes, Ends, last_reply}
@@ -31,7 +31,7 @@ use Rattle.leaf_engine.proofs.Loading.{LooksRight, current-load, granted-load}
 use Rattle.merge_laws.proofs.Stores.{Due, last_at, or_else, AreStores, stores_of, all_stores, none-is, owed-items}
 use Rattle.merge_laws.proofs.Keeping.{and_parts}
 use Rattle.merge_laws.proofs.Holding.{bare}
-use Rattle.merge_laws.proofs.Standing.{Laws, leaf_for, fills_of, Position, Rest, Stands}
+use Rattle.merge_laws.proofs.Standing.{Laws, leaf_for, Position, Rest, Stands}
 use Rattle.merge_laws.proofs.Ending.{AtEnd, first_of, owes_of}
 use Rattle.merge_laws.proofs.QuietSteps.{loads-right, GoesOnBehind, loaded}
 use Rattle.merge_laws.proofs.Pieces.{Came, came-as, answers-as, PieceAnswers, behind-append}

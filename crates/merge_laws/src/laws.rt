@@ -3,10 +3,11 @@
 ghost use Rattle.leaf_engine.specs.Merges.{MergesAreRuns};
 
 use act_rules::stores_keep_reads;
+use leaf_engine::turns_in_pieces;
 use lock_words::{grips_are_apart, lock_steps_shown, lock_words_follow, td_locks_stay};
 use step_core::pages_change_alone;
 use td_words::places_injective;
-use word_rules::words_never_conflict;
+use word_rules::{respects_compose, start_is_shown, views_are_kept, words_never_conflict};
 
 /// Every merge of the own lists of a script's processors, in which each load reads what the merge
 /// has stored, is a run of the flat machine under the order of its events: with the same replies,
@@ -17,9 +18,10 @@ pub fn merge_law()
     flat_core::lawful_law();
     flat_core::lock_law();
     flat_core::event_laws();
-    flat_core::end_laws();
-    word_rules::start_is_shown();
+    start_is_shown();
+    views_are_kept();
     words_never_conflict();
+    respects_compose();
     grips_are_apart();
     lock_steps_shown();
     lock_words_follow();
@@ -27,4 +29,5 @@ pub fn merge_law()
     stores_keep_reads();
     pages_change_alone();
     places_injective();
+    turns_in_pieces();
 }

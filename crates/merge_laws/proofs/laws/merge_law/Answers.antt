@@ -1,4 +1,26 @@
+use Rattle.merge_laws.proofs.Runs.{merges-are-runs}
 use Rattle.merge_laws.proofs.laws.merge_law.Goals as goal
 
 pub returns : goal.returns
-returns c = ?
+returns c =
+    merges-are-runs
+    (record {
+      lawful = c.lawful_law.ensures.run;
+      exclude = c.lock_law.ensures;
+      tell = c.event_laws.ensures.own_words;
+      others = c.event_laws.ensures.others;
+      follow = c.lock_words_follow.ensures.follow;
+      runs = c.lock_words_follow.ensures.runs;
+      steps = c.lock_steps_shown.ensures;
+      places = c.places_injective.ensures;
+      pages = c.pages_change_alone.ensures;
+      words = c.words_never_conflict.ensures.words;
+      acts = c.words_never_conflict.ensures.acts;
+      compose = c.respects_compose.ensures;
+      apart = c.grips_are_apart.ensures.where_locks_exclude;
+      stay = c.td_locks_stay.ensures.stay;
+      keep = c.stores_keep_reads.ensures;
+      views = c.views_are_kept.ensures;
+      start = c.start_is_shown.ensures;
+      one = c.turns_in_pieces.ensures;
+    })

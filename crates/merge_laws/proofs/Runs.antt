@@ -1,0 +1,161 @@
+-- Every merge is a run of the flat machine.
+use Rattle.std.proofs.Common.{◌≡◌, ◌⊎◌, ℕ, zero, suc, ◌+◌, ◌-◌, ◌^◌, ◌<◌, ◌≤◌, Bool, true, false, ◌==◌, List, [], ◌∷◌, ◌++◌, map, length, drop, Option, Some, None, refl, ap, sym, ◌∙◌, subst, inl, inr, arith}
+use Rattle.td_words.specs.declared.machines.Machine.{Machine}
+use Rattle.td_words.specs.declared.calls.Call.{Call}
+use Rattle.td_words.specs.declared.replies.Reply.{Reply}
+use Rattle.td_words.specs.Place.{WordPlace, IsIn, address}
+use Rattle.mrtd_measure.specs.declared.measures.Measure.{Measure}
+use Rattle.flat_core.specs.Opening.{Opening}
+use Rattle.flat_core.specs.Table.{row_of}
+use Rattle.flat_core.specs.Event.{State, start, event, next_event, after_event, event_for, lines_left, calls_of}
+use Rattle.flat_core.specs.Run.{play, run, to_the_end}
+use Rattle.step_core.specs.Words.{Words}
+use Rattle.step_core.specs.Items.{Table, Taken, Stepped, Swapped, Missed, PlaysTo}
+use Rattle.leaf_engine.specs.declared.events.Event.{Event as RunEvent}
+use Rattle.leaf_engine.specs.Changes.{Memory}
+use Rattle.leaf_engine.specs.Trees.{Tree}
+use Rattle.leaf_engine.specs.Means.{Task, MeansRow, IsHkid}
+use Rattle.leaf_engine.specs.Decides.{IsHand}
+use Rattle.leaf_engine.specs.Tables.{IsMemory}
+use Rattle.leaf_engine.specs.Turns.{Standing}
+use Rattle.leaf_engine.specs.Calls.{no_memory}
+use Rattle.leaf_engine.specs.OwnLists.{Piece, Quiet, joined, running, WordLp, first_lp, LinesTurn, OwnTurns}
+use Rattle.leaf_engine.specs.Merges.{Item, part, steps_taken, order, no_table, AreLeaves, Merge, IsShownBy, IsWhere, MergesAreRuns}
+use Rattle.merge_laws.proofs.Stores.{Due, AreStores, laid, laid-none}
+use Rattle.merge_laws.proofs.Standing.{Laws, leaf_for, AreTrees, Known, StandsAt, on_table, Position, Rest, Holds, Stands}
+use Rattle.merge_laws.proofs.Merged.{known-of, Through, through}
+
+-- leaves by their trees
+
+abbrev trees_of : (ℕ → Call → Task) → ℕ → Call → Tree
+trees_of leaf p c = (leaf p c).tree
+
+leaves-are : (o : Opening) (leaf : ℕ → Call → Task) → AreLeaves o leaf → leaf ≡ leaf_for o (trees_of leaf)
+leaves-are o leaf are = λ i p c. record { place = record { machine = are.machine p c i; lp = are.processor p c i }; tree = (leaf p c).tree; meaning = are.row p c i }
+
+trees-are : (o : Opening) (leaf : ℕ → Call → Task) → AreLeaves o leaf → AreTrees o (trees_of leaf)
+trees-are o leaf are = record {
+  means = λ p c. subst (λ (f : ℕ → Call → Task). MeansRow (f p c)) (leaves-are o leaf are) (are.means p c);
+  plain = are.plain;
+  unfilled = are.unfilled;
+}
+
+-- the start
+
+first_position : Opening → ℕ → Position
+first_position o p = record { at = first_lp (calls_of o.calls p); owes = [] }
+
+starts : (ls : Laws) (o : Opening) (trees : ℕ → Call → Tree) → Stands o trees (start o None) no_memory no_table (first_position o)
+unfolding first_position
+starts ls o trees = record {
+  shows = ls.start o None;
+  hand = refl;
+  slots = λ h in_h. tt;
+  guests = λ p. refl;
+  holds = λ p i. record { stands = record { lines = refl; replies = refl; run = record { call = refl; guest = refl } }; owed = tt };
+  laid_is = λ r in_r. sym (laid-none (length o.calls) (λ p. []) (λ q. 0) r (λ q l. refl));
+}
+
+-- the end
+
+nothing-left : (ls : Laws) (o : Opening) (trees : ℕ → Call → Tree) (p : ℕ) (pos : Position) (end_ : WordLp) → Rest o trees p pos [] end_ → (pos.owes ≡ []) × (pos.at ≡ end_)
+nothing-left ls o trees p pos end_ rest = by rest.stores pos.owes refl rest.are rest.turns rest.pieces rest.own
+  where
+    turn : (cs : List Call) → pos.at.lines ≡ cs → (e : RunEvent) (after : WordLp) → LinesTurn (leaf_for o trees p) o.machine cs pos.at.run pos.at.replies e [] after → ⊥
+    turn [] l e after lt = lt
+    turn (c ∷ cs) l e after lt = (let one = ls.one.one o.machine (running (leaf_for o trees p c) pos.at.run) lt.stands [] e lt.turn in cc)
+
+    turns : (tps : List (List Piece)) → [] ≡ joined tps → OwnTurns (leaf_for o trees p) o.machine pos.at tps end_ → pos.at ≡ end_
+    turns [] e own = own
+    turns ([] ∷ tps) e own = absurd (turn pos.at.lines refl own.0 own.1.0 own.1.1)
+    turns ((x ∷ tp) ∷ tps) e own = cc
+
+    by : (stores : List Taken) (owes : List Due) → pos.owes ≡ owes → AreStores o.machine.pages stores owes → (tps : List (List Piece)) → [] ≡ map Quiet stores ++ joined tps → OwnTurns (leaf_for o trees p) o.machine pos.at tps end_
+        → (pos.owes ≡ []) × (pos.at ≡ end_)
+    by [] [] q st tps e own = (q, turns tps e own)
+    by [] (d ∷ ds) q st tps e own = absurd st
+    by (x ∷ xs) owes q st tps e own = cc
+
+ends-so : (ls : Laws) (o : Opening) (trees : ℕ → Call → Tree) (s : State) (u : Table) (ends : ℕ → WordLp) → Through o trees s u ends → IsShownBy o.machine u s × IsWhere o ends s
+ends-so ls o trees s u ends th =
+    let left : (p : ℕ) → p < length o.calls → ((th.pos p).owes ≡ []) × ((th.pos p).at ≡ ends p) = λ p i. nothing-left ls o trees p (th.pos p) (ends p) (th.rest p i) in (
+      record {
+        memory = th.memory;
+        is = record {
+          words = λ q in_q.
+              ap (λ (w : Words). w (address o.machine.pages q)) th.words
+              ∙ sym (th.stands.laid_is q in_q
+              ∙ laid-none (length o.calls) (λ p. (th.pos p).owes) (on_table o.machine th.table) q (λ p i. ap (λ (ds : List Due). Rattle.merge_laws.proofs.Stores.last_at ds q) (left p i).0));
+          slots = λ h in_h. subst (λ (f : ℕ → Option Measure). IsHand (f (h - 1)) (th.memory.slots h)) (sym th.slots) (th.stands.slots h in_h);
+          hand = subst (λ z. IsHand None z) (sym th.stands.hand) tt;
+        };
+        shows = th.stands.shows;
+      },
+      record {
+        lines = λ p i. (th.stands.holds p i).stands.lines ∙ ap (λ (w : WordLp). w.lines) (left p i).1;
+        replies = λ p i. (th.stands.holds p i).stands.replies ∙ ap (λ (w : WordLp). w.replies) (left p i).1;
+      },
+    )
+
+merges : (ls : Laws) (o : Opening) (leaf : ℕ → Call → Task) (is : List Item) (now : ℕ → WordLp) (u : Table) → length o.calls ≤ 8 → AreLeaves o leaf → Merge o leaf is now u
+    → let s = play o (order is) (start o None) in IsShownBy o.machine u s × IsWhere o now s
+unfolding first_position
+merges ls o leaf is now u most are merge =
+    let trees = trees_of leaf in
+    let known : Known o (start o None) = known-of ls o [] (start o None) most refl refl refl in
+    let own : (p : ℕ) → p < length o.calls → OwnTurns (leaf_for o trees p) o.machine (first_lp (calls_of o.calls p)) (merge.own p) (now p) =
+    λ p i. subst (λ (f : ℕ → Call → Task). OwnTurns (f p) o.machine (first_lp (calls_of o.calls p)) (merge.own p) (now p)) (leaves-are o leaf are) (merge.turns p i) in
+    ends-so ls o trees (play o (order is) (start o None)) u now
+    (through ls o trees is (start o None) no_memory no_table u (first_position o) now most (trees-are o leaf are) known (starts ls o trees)
+    (λ p i. rest-first p (part p is) (merge.own p) (merge.merge.each p i) (own p i)) merge.merge.nothing_else merge.plays)
+  where
+    rest-first : (p : ℕ) (ps : List Piece) (tps : List (List Piece)) → ps ≡ joined tps → OwnTurns (leaf_for o (trees_of leaf) p) o.machine (first_lp (calls_of o.calls p)) tps (now p) → Rest o (trees_of leaf) p (first_position o p) ps (now p)
+    rest-first p ps tps e own = record { stores = []; turns = tps; are = tt; pieces = e; own = own }
+
+-- a state in which no processor has a line left
+
+drop-none : (n : ℕ) → drop {A = Call} n [] ≡ []
+drop-none zero = refl
+drop-none (suc n) = refl
+
+calls-none : (css : List (List Call)) (p : ℕ) → length css ≤ p → calls_of css p ≡ []
+calls-none [] p h = refl
+calls-none (cs ∷ css) zero h = absurd (omega (arith, h))
+calls-none (cs ∷ css) (suc p) h = calls-none css p (omega (arith, h))
+
+stays : (o : Opening) (ps : List ℕ) (s : State) → ((p : ℕ) → next_event o s p ≡ None) → play o ps s ≡ s
+stays o [] s none = refl
+stays o (p ∷ ps) s none =
+    let same : event o s p ≡ s = ap (after_event p s) (none p) in
+    ap (play o ps) same ∙ stays o ps s none
+
+play-more : (o : Opening) (xs ys : List ℕ) (s : State) → play o (xs ++ ys) s ≡ play o ys (play o xs s)
+play-more o [] ys s = refl
+play-more o (x ∷ xs) ys s = play-more o xs ys (event o s x)
+
+below-or : (n p : ℕ) → (p < n) ⊎ (n ≤ p)
+below-or zero p = inr (omega arith)
+below-or (suc n) zero = inl (omega arith)
+below-or (suc n) (suc p) = by (below-or n p)
+  where
+    by : (p < n) ⊎ (n ≤ p) → (suc p < suc n) ⊎ (suc n ≤ suc p)
+    by (inl h) = inl (omega (arith, h))
+    by (inr h) = inr (omega (arith, h))
+
+no-event : (o : Opening) (s : State) (p : ℕ) → lines_left o p (s.lps p) ≡ [] → next_event o s p ≡ None
+no-event o s p e = ap (λ (cs : List Call). event_for o s.world p (s.lps p) cs) e
+
+pub merges-are-runs : Laws → MergesAreRuns
+merges-are-runs ls = record {
+  turns = merges ls;
+  ended = λ o leaf is now u most are merge over.
+      let got = merges ls o leaf is now u most are merge in
+      let s : State = play o (order is) (start o None) in
+      let none : (p : ℕ) → next_event o s p ≡ None = λ p. by o now s got.1 over p (below-or (length o.calls) p) in
+      let same : run o (order is) ≡ s = play-more o (order is) (to_the_end 0 o.calls) (start o None) ∙ stays o (to_the_end 0 o.calls) s none in
+      subst (λ (z : State). IsShownBy o.machine u z × IsWhere o now z) (sym same) got;
+}
+  where
+    by : (o : Opening) (now : ℕ → WordLp) (s : State) → IsWhere o now s → ((p : ℕ) → p < length o.calls → (now p).lines ≡ []) → (p : ℕ) → (p < length o.calls) ⊎ (length o.calls ≤ p) → next_event o s p ≡ None
+    by o now s w over p (inl i) = no-event o s p (w.lines p i ∙ over p i)
+    by o now s w over p (inr out) = no-event o s p (ap (drop (length (s.lps p).replies)) (calls-none o.calls p out) ∙ drop-none (length (s.lps p).replies))
