@@ -155,6 +155,7 @@ at-instant o task row s mem t run mean sh ca st = record {
   shown = sh.shown;
   empty_hand = sh.empty_hand st;
   nothing_to_tell = sh.nothing_to_tell;
+  tdrs = sh.tdrs;
   maker = subst (λ (x : Meaning). Rattle.leaf_engine.specs.Means.IsMaker x (instant task s mem)) (sym mean) (ca.guest, refl);
 }
 

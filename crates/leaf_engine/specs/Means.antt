@@ -21,7 +21,7 @@ use Rattle.word_rules.specs.Guards.{Grip}
 use Rattle.word_rules.specs.Rules.{View, Whole, Grade, KeepsNothing}
 use Rattle.word_rules.specs.Permissions.{Reads, Sees, Writes, Owes, Fills, Tries, SwapsAct, SwapsOwed, Respects}
 use Rattle.word_rules.specs.Cells.{Shows}
-use Rattle.lock_words.specs.Grips.{holds, holds_alone, grip_with}
+use Rattle.lock_words.specs.Grips.{holds, holds_alone, grip_with, TdrsAreHeld}
 use Rattle.lock_words.specs.LockWords.{place_of, Stands}
 use Rattle.leaf_engine.specs.declared.needs.Place.{Place}
 use Rattle.word_rules.specs.Views.{look, IsKept}
@@ -108,6 +108,7 @@ pub record IsAt (task : Task) (c : Instant) : Type 0 where
   pub shown : Shows task.place.machine c.memory.words c.memory.slots c.state
   pub empty_hand : c.memory.hand ≡ None
   pub nothing_to_tell : c.state.world.outgoing.to_tell ≡ None
+  pub tdrs : TdrsAreHeld c.state
   pub maker : IsMaker task.meaning c
 
 -- a try is of that lock, at its place, which stands

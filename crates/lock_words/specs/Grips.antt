@@ -1,8 +1,9 @@
 -- What a processor has of the guards: by the locks that it holds, and by its cached translations while a virtual processor
 -- is in guest on it.
-use Rattle.std.specs.Prelude.{◌≡◌, ℕ, zero, suc, ◌<◌, Bool, true, false, ◌==◌, ◌&&◌, ◌||◌, not, Option, Some, None, List, [], ◌++◌}
+use Rattle.std.specs.Prelude.{◌≡◌, ℕ, zero, suc, ◌<◌, Bool, true, false, ◌==◌, ◌&&◌, ◌||◌, not, Option, Some, None, List, [], ◌∷◌, ◌++◌}
+use Rattle.td_words.specs.declared.replies.Reply.{Reply}
 use Rattle.std.specs.List.{list_any}
-use Rattle.flat_core.specs.Processor.{LockId, Held, Translation, Guest, Lp}
+use Rattle.flat_core.specs.Processor.{LockId, OfPage, OfOp, OfTree, OfEpoch, OfRtmr, OfKeys, Held, Phase, Trying, Undoing, Answered, Progress, Translation, Guest, Lp}
 use Rattle.flat_core.specs.Locks.{same_lock, is_alone, holders, sharers}
 use Rattle.flat_core.specs.Opening.{Opening}
 use Rattle.flat_core.specs.Event.{State}
@@ -76,3 +77,35 @@ GripsAreWhole = (s : State) (me : ℕ) (hs : List Held) → HasWhatIsSole (grip_
 abbrev pub GripsStayApart : Type 0
 GripsStayApart = (o : Opening) (words_to_tell : Option (List ℕ)) (schedule : List ℕ) (p q : ℕ)
     → let s = reached o words_to_tell schedule in p < s.lp_count → q < s.lp_count → (p == q) ≡ false → Apart (grip_of s p) (grip_of s q)
+
+-- a lock of a TD is tried, and held, while P of its TDR page is held
+abbrev pub HoldsTdr : List Held → LockId → Type 0
+HoldsTdr hs (OfPage p) = Unit {0}
+HoldsTdr hs (OfOp t) = holds hs (OfPage t) ≡ true
+HoldsTdr hs (OfTree t) = holds hs (OfPage t) ≡ true
+HoldsTdr hs (OfEpoch t) = holds hs (OfPage t) ≡ true
+HoldsTdr hs (OfRtmr t) = holds hs (OfPage t) ≡ true
+HoldsTdr hs OfKeys = Unit {0}
+
+-- each lock held, over the older ones
+abbrev pub HoldTdrs : List Held → Type 0
+HoldTdrs [] = Unit {0}
+HoldTdrs (h ∷ hs) = HoldsTdr hs h.lock × HoldTdrs hs
+
+-- and the lock of a shared try that was denied
+abbrev pub UndoTdr : {R : Type 0} → Phase R → List Held → Type 0
+UndoTdr Trying hs = Unit {0}
+UndoTdr (Undoing l) hs = HoldsTdr hs l
+UndoTdr (Answered r) hs = Unit {0}
+
+-- of a call, and of its guest's operation
+abbrev pub CallTdrs : Progress Reply → Type 0
+CallTdrs c = HoldTdrs c.held × UndoTdr c.phase c.held
+
+abbrev pub GuestTdrs : List Held → Option Guest → Type 0
+GuestTdrs hs None = Unit {0}
+GuestTdrs hs (Some g) = HoldTdrs (g.operation.held ++ hs) × UndoTdr g.operation.phase (g.operation.held ++ hs)
+
+-- whoever holds, or is being refused, a lock of a TD holds P of its TDR page
+abbrev pub TdrsAreHeld : State → Type 0
+TdrsAreHeld s = (q : ℕ) → CallTdrs (s.lps q).call × GuestTdrs (s.lps q).call.held (s.lps q).guest

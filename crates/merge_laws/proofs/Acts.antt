@@ -94,6 +94,7 @@ act-step ls o trees s mem t t' pos p c cs rs run run' result are known sd i line
                 (subst (λ (hs : List Held). Keeps m (bare hs) (call_world (row_of o p c) one.move s.world) (on_table m t') one.owes) (sym one.held_or_none)
                 (keeps-same m (bare (s.lps p).call.held) (bare (s.lps p).call.held) after-world after-world (λ q. or_else (last_at one.first q) (mem.words q)) (on_table m t') one.owes (λ q k owes. owes) kept-there one.owed));
           })
+          (tdrs-after o s p (row_of o p c) one.move one.next (are.means p c).enters_none ra.tdrs (no-attempt one.move one.is_act) (no-rest one.move one.is_act) (no-release one.move one.is_act))
           laid-after;
     }
   where

@@ -22,7 +22,7 @@ use Rattle.word_rules.specs.Rules.{View, TdLock, tries}
 use Rattle.word_rules.specs.Spots.{Spot, spot, is_current, is_empty, tdcs_classes, control_class}
 use Rattle.word_rules.specs.Views.{look}
 use Rattle.word_rules.specs.Permissions.{MayAt, Reads, Tries, Respects}
-use Rattle.lock_words.specs.Grips.{holds, holds_alone, operation_locks, locks_of, reaches_as, reaches, none_reaches, has_of, sole_of, clear_of, grip_with, grip_of, IsExclusive, GripsAreApart}
+use Rattle.lock_words.specs.Grips.{HoldsTdr, HoldTdrs, holds, holds_alone, operation_locks, locks_of, reaches_as, reaches, none_reaches, has_of, sole_of, clear_of, grip_with, grip_of, IsExclusive, GripsAreApart}
 use Rattle.lock_words.specs.LockWords.{tdcs_of, place_of, TdStands, Stands, TdLocksStay}
 use Rattle.lock_words.proofs.Sums.{by_test}
 use Rattle.lock_words.proofs.Shown.{tdcs-page}
@@ -132,20 +132,6 @@ pub apart-held : GripsAreApart → (s : State) (p q : ℕ) (hs ks : List Held) �
 apart-held apart s p q hs ks none ex a b e older older' =
     let all = apart s p q ex a b e in
     record { there = parted-held s p q hs ks all.there older older'; back = parted-held s q p ks hs all.back older' older }
-
--- a lock of a TD is tried while P of its TDR page is held
-abbrev pub HoldsTdr : List Held → LockId → Type 0
-HoldsTdr hs (OfPage p) = Unit {0}
-HoldsTdr hs (OfOp t) = holds hs (OfPage t) ≡ true
-HoldsTdr hs (OfTree t) = holds hs (OfPage t) ≡ true
-HoldsTdr hs (OfEpoch t) = holds hs (OfPage t) ≡ true
-HoldsTdr hs (OfRtmr t) = holds hs (OfPage t) ≡ true
-HoldsTdr hs OfKeys = Unit {0}
-
--- each lock held, over the older ones
-abbrev pub HoldTdrs : List Held → Type 0
-HoldTdrs [] = Unit {0}
-HoldTdrs (h ∷ hs) = HoldsTdr hs h.lock × HoldTdrs hs
 
 -- the words of a TD's locks are its, in its TDCS page
 

@@ -16,7 +16,7 @@ use Rattle.flat_core.specs.Table.{row_of}
 use Rattle.flat_core.specs.Event.{State, OfCall, next_event, lines_left, event}
 use Rattle.word_rules.specs.Guards.{Grip}
 use Rattle.word_rules.specs.Permissions.{Tries as MayTry}
-use Rattle.lock_words.specs.Grips.{holds}
+use Rattle.lock_words.specs.Grips.{holds, HoldTdrs, HoldsTdr, UndoTdr}
 use Rattle.lock_words.specs.LockWords.{place_of, Stands as LockStands}
 use Rattle.step_core.specs.declared.steps.WordStep.{WordStep}
 use Rattle.step_core.specs.declared.steps.WordStep.TheVariants as step
@@ -43,8 +43,8 @@ use Rattle.leaf_engine.proofs.Following.{leaves-follow-rows}
 use Rattle.leaf_engine.proofs.Turning.{instant, at-instant, due-is}
 use Rattle.leaf_engine.proofs.Calling.{next-is, snoc}
 use Rattle.merge_laws.proofs.Virtual.{table_of}
-use Rattle.merge_laws.proofs.Holding.{bare, HoldsTdr, tdr-held, may-try}
-use Rattle.merge_laws.proofs.Standing.{Laws, leaf_for, AreTrees, Known, UndoTdr, RunsAt, StandsAt, Position, Rest, Holds, Stands}
+use Rattle.merge_laws.proofs.Holding.{bare, tdr-held, may-try}
+use Rattle.merge_laws.proofs.Standing.{Laws, leaf_for, AreTrees, Known, RunsAt, StandsAt, Position, Rest, Holds, Stands}
 use Rattle.merge_laws.proofs.Others.{shown-of, hold-is}
 use Rattle.merge_laws.proofs.LockSteps.{OneStep, Moved, lock-step}
 use Rattle.merge_laws.proofs.Pieces.{Came, PieceAnswers}
@@ -141,7 +141,7 @@ free-piece ls o trees s mem t pos p c cs run run' items e r tps end_ a st turn g
         let l : LockId = x.lock in
         let split = snoc locks.0 run'.held locks.1.0 gb.newest (sym locks.1.1 ∙ gb.held_are) in
         let it : IsLockAt o.machine s.world gb.newest.name gb.newest.at l = subst (λ (z : HeldLock). IsLockAt o.machine s.world z.name z.at l) split.1 locks.1.3 in
-        let tdrs = subst (λ (z : List Held). Rattle.merge_laws.proofs.Holding.HoldTdrs z) k a.runs.tdrs.0 in
+        let tdrs = subst (λ (z : List Held). HoldTdrs z) k a.runs.tdrs.0 in
         let may : MayTry (bare (s.lps p).call.held) s.world (place_of s.world l) =
         subst (λ (z : List Held). MayTry (bare z) s.world (place_of s.world l)) (sym k) (may-try o.machine s.world (x ∷ hs) l a.known.lawful it.stands (tdr-more x hs l tdrs.0)) in
         let one : OneStep o trees s p c (Releases x) run run' (step.Sub gb.newest.at (weight_of gb.newest.mode)) gb.items.0 (place_of s.world l) (record { event = e; reply = last_reply run'.stage run'.held }) = record {

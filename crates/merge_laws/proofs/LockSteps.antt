@@ -89,6 +89,7 @@ lock-step ls o trees s mem t pos p c cs rs mv run run' st a q result are known s
                 (tdrs-after o s p (row_of o p c) mv one.next (are.means p c).enters_none ra.tdrs one.tdr one.no_rest one.answered) rs replies;
             owed = tt;
           })
+          (tdrs-after o s p (row_of o p c) mv one.next (are.means p c).enters_none ra.tdrs one.tdr one.no_rest one.answered)
           laid-after;
     }
   where

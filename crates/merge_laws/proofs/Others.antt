@@ -19,6 +19,7 @@ use Rattle.word_rules.specs.Views.{look}
 use Rattle.word_rules.specs.Permissions.{Reads, Owes, Respects}
 use Rattle.lock_words.specs.LockWords.{place_of, Stands as LockStands}
 use Rattle.step_core.specs.Items.{Table}
+use Rattle.lock_words.specs.Grips.{HoldTdrs, HoldsTdr, UndoTdr}
 use Rattle.leaf_engine.specs.declared.events.HeldLock.{HeldLock}
 use Rattle.leaf_engine.specs.declared.events.Stage.{Stage}
 use Rattle.leaf_engine.specs.declared.events.Stage.TheVariants as stages
@@ -32,8 +33,8 @@ use Rattle.leaf_engine.specs.OwnLists.{WordLp}
 use Rattle.leaf_engine.proofs.Turning.{instant, at-instant}
 use Rattle.merge_laws.proofs.Virtual.{table_of, holds-memory}
 use Rattle.merge_laws.proofs.Keeping.{Keeps, keeps-same}
-use Rattle.merge_laws.proofs.Holding.{bare, NoGuests, grip-is-bare, IsOlder, HoldsTdr, HoldTdrs, lock-stays, EachTold, told-reads, told-older, still-current}
-use Rattle.merge_laws.proofs.Standing.{Laws, leaf_for, AreTrees, Known, UndoTdr, RunsAt, RunAt, StandsAt, on_table, Position, Holds, Stands}
+use Rattle.merge_laws.proofs.Holding.{bare, NoGuests, grip-is-bare, IsOlder, lock-stays, EachTold, told-reads, told-older, still-current}
+use Rattle.merge_laws.proofs.Standing.{Laws, leaf_for, AreTrees, Known, RunsAt, RunAt, StandsAt, on_table, Position, Holds, Stands}
 
 -- words that show a state, on a table that holds them
 pub shown-of : (o : Opening) (trees : ℕ → Call → Tree) (s : State) (mem : Memory) (t : Table) (pos : ℕ → Position) (p : ℕ) (c : Call) (run : Standing) → Known o s → Stands o trees s mem t pos → p < length o.calls
@@ -46,6 +47,7 @@ shown-of o trees s mem t pos p c run known st i none = record {
   exclusive = known.exclusive;
   few_sharers = known.few;
   nothing_to_tell = known.nothing_to_tell;
+  tdrs = st.tdrs;
   empty_hand = λ e. st.hand;
 }
 

@@ -23,6 +23,7 @@ use Rattle.word_rules.specs.Views.{look}
 use Rattle.word_rules.specs.Permissions.{Reads, Owes, Respects}
 use Rattle.word_rules.specs.Cells.{Shows}
 use Rattle.step_core.specs.Items.{Table}
+use Rattle.lock_words.specs.Grips.{CallTdrs, HoldTdrs, HoldsTdr, UndoTdr, GuestTdrs, TdrsAreHeld}
 use Rattle.leaf_engine.specs.Changes.{Memory}
 use Rattle.leaf_engine.specs.Trees.{Tree}
 use Rattle.leaf_engine.specs.Means.{Task, IsHkid}
@@ -33,8 +34,8 @@ use Rattle.leaf_engine.specs.OwnLists.{WordLp, after_turn}
 use Rattle.leaf_engine.proofs.Calling.{event-is, lp-now}
 use Rattle.merge_laws.proofs.Stores.{Due, last_at, laid, last-each, OwesAt}
 use Rattle.merge_laws.proofs.Keeping.{keeps-each}
-use Rattle.merge_laws.proofs.Holding.{bare, NoGuests, IsOlder, HoldsTdr, HoldTdrs, apart-held}
-use Rattle.merge_laws.proofs.Standing.{Laws, leaf_for, AreTrees, Known, UndoTdr, CallTdrs, RunsAt, RunAt, StandsAt, on_table, Position, Holds, Stands}
+use Rattle.merge_laws.proofs.Holding.{bare, NoGuests, IsOlder, apart-held}
+use Rattle.merge_laws.proofs.Standing.{Laws, leaf_for, AreTrees, Known, RunsAt, RunAt, StandsAt, on_table, Position, Holds, Stands}
 use Rattle.merge_laws.proofs.Others.{Leaves, others-stay}
 
 -- its record
@@ -162,14 +163,15 @@ pub record Spares (m : Machine) (s : State) (p : ℕ) (w' : World) (words words'
 pub gathered : (ls : Laws) (o : Opening) (trees : ℕ → Call → Tree) (s : State) (mem mem' : Memory) (t t' : Table) (pos : ℕ → Position) (p : ℕ) (now : Position) → AreTrees o trees → Known o s → Stands o trees s mem t pos → p < length o.calls
     → Spares o.machine s p (event o s p).world mem.words mem'.words (on_table o.machine t) (on_table o.machine t') → Shows o.machine mem'.words mem'.slots (event o s p) → mem'.hand ≡ None
     → ((h : ℕ) → IsHkid o.machine h → IsHand (t'.slots (h - 1)) (mem'.slots h))
-    → Holds o trees p (event o s p).world mem'.words (on_table o.machine t') ((event o s p).lps p) now
+    → Holds o trees p (event o s p).world mem'.words (on_table o.machine t') ((event o s p).lps p) now → CallTdrs ((event o s p).lps p).call
     → ((r : WordPlace) → IsIn o.machine r → mem'.words r ≡ laid (length o.calls) (λ k. (put pos p now k).owes) (on_table o.machine t') r)
     → Stands o trees (event o s p) mem' t' (put pos p now)
-gathered ls o trees s mem mem' t t' pos p now are known st i sp shows hand slots own laid_is = record {
+gathered ls o trees s mem mem' t t' pos p now are known st i sp shows hand slots own tdr laid_is = record {
   shows = shows;
   hand = hand;
   slots = slots;
   guests = guests;
+  tdrs = tdrs;
   holds = holds;
   laid_is = laid_is;
 }
@@ -183,6 +185,18 @@ gathered ls o trees s mem mem' t t' pos p now are known st i sp shows hand slots
         by : (b : Bool) → (k == p) ≡ b → ((event o s p).lps k).guest ≡ None
         by true e = (let q : p ≡ k = sym (eqb-true k p e) in subst (λ (z : ℕ). ((event o s p).lps z).guest ≡ None) q (no-guest o trees p (event o s p).world mem'.words ((event o s p).lps p) now.at own.stands))
         by false e = ap (λ (z : Lp). z.guest) (other k e) ∙ st.guests k
+
+    tdrs : TdrsAreHeld (event o s p)
+    tdrs k = by (k == p) refl
+      where
+        no-guests : (hs : List Held) (g : Option Guest) → g ≡ None → GuestTdrs hs g
+        no-guests hs g e = subst (λ (z : Option Guest). GuestTdrs hs z) (sym e) tt
+
+        by : (b : Bool) → (k == p) ≡ b → CallTdrs ((event o s p).lps k).call × GuestTdrs ((event o s p).lps k).call.held ((event o s p).lps k).guest
+        by true e =
+            let q : p ≡ k = sym (eqb-true k p e) in
+            (subst (λ (z : ℕ). CallTdrs ((event o s p).lps z).call) q tdr, no-guests ((event o s p).lps k).call.held ((event o s p).lps k).guest (guests k))
+        by false e = (subst (λ (z : Lp). CallTdrs z.call) (sym (other k e)) (st.tdrs k).0, no-guests ((event o s p).lps k).call.held ((event o s p).lps k).guest (guests k))
 
     holds : (k : ℕ) → k < length o.calls → Holds o trees k (event o s p).world mem'.words (on_table o.machine t') ((event o s p).lps k) (put pos p now k)
     holds k j = by (k == p) refl

@@ -15,6 +15,7 @@ use Rattle.flat_core.specs.Table.{row_of}
 use Rattle.flat_core.specs.Event.{State, event, lines_left}
 use Rattle.step_core.specs.Words.{after_step, answer_of}
 use Rattle.step_core.specs.Items.{Table, Taken, Stepped, Swapped, Missed, PlaysTo, with_slot}
+use Rattle.lock_words.specs.Grips.{CallTdrs}
 use Rattle.leaf_engine.specs.declared.events.Stage.TheVariants as stages
 use Rattle.leaf_engine.specs.Changes.{Memory}
 use Rattle.leaf_engine.specs.Trees.{Tree, settle}
@@ -92,6 +93,6 @@ line-runs o trees p c cs w words lp at st lines = by at.run (subst (λ (z : List
     by None between = record {
       call = calls-begin o (leaf_for o trees p c) (row_of o p c) w words lp (record { call = c; further = cs; lines = st.lines ∙ lines; row_is = refl }) between;
       no_hasher = refl;
-      tdrs = subst (λ z. Rattle.merge_laws.proofs.Standing.CallTdrs z) (sym between.call) (tt, tt);
+      tdrs = subst (λ z. CallTdrs z) (sym between.call) (tt, tt);
     }
     by (Some r) a = a

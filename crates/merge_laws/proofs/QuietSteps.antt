@@ -55,6 +55,7 @@ rearranged ls o trees s mem t t' pos p now sd slots still own laid_is = record {
   hand = sd.hand;
   slots = λ h in_h. subst (λ (f : ℕ → Option Measure). IsHand (f (h - 1)) (mem.slots h)) (sym slots) (sd.slots h in_h);
   guests = sd.guests;
+  tdrs = sd.tdrs;
   holds = holds;
   laid_is = laid_is;
 }

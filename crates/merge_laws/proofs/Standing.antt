@@ -19,7 +19,7 @@ use Rattle.flat_core.specs.Laws.{EveryWorldIsLawful, LocksExclude, OthersStay, N
 use Rattle.word_rules.specs.Permissions.{Owes, WordsNeverConflict, ActsNeverConflict, RespectsCompose}
 use Rattle.word_rules.specs.Views.{ViewsAreKept}
 use Rattle.word_rules.specs.Cells.{Shows, StartIsShown}
-use Rattle.lock_words.specs.Grips.{IsExclusive, GripsAreApart}
+use Rattle.lock_words.specs.Grips.{IsExclusive, GripsAreApart, CallTdrs, TdrsAreHeld}
 use Rattle.lock_words.specs.LockWords.{LockWordsFollow, LockStepsShown, RunsFollow, TdLocksStay}
 use Rattle.act_rules.specs.Stores.{OthersStoresKeepReads}
 use Rattle.step_core.specs.Items.{Table, Taken, PlaysTo}
@@ -34,7 +34,7 @@ use Rattle.leaf_engine.specs.Calls.{IsCallAt}
 use Rattle.leaf_engine.specs.OwnLists.{Piece, Quiet, joined, TurnsInPieces, WordLp, OwnTurns}
 use Rattle.merge_laws.proofs.Stores.{Due, laid, AreStores}
 use Rattle.merge_laws.proofs.Keeping.{Keeps}
-use Rattle.merge_laws.proofs.Holding.{bare, NoGuests, HoldsTdr, HoldTdrs}
+use Rattle.merge_laws.proofs.Holding.{bare, NoGuests}
 
 -- the laws that it rests on
 pub record Laws : Type 0 where
@@ -75,15 +75,6 @@ pub record Known (o : Opening) (s : State) : Type 0 where
   pub exclusive : IsExclusive s
   pub few : (l : LockId) → sharers s.lps s.lp_count l + refusals s.lps s.lp_count l + 1 < 2 ^ 63
   pub nothing_to_tell : s.world.outgoing.to_tell ≡ None
-
--- the lock of a shared try that was denied was tried as others are
-abbrev pub UndoTdr : Phase Reply → List Held → Type 0
-UndoTdr Trying hs = Unit {0}
-UndoTdr (Undoing l) hs = HoldsTdr hs l
-UndoTdr (Answered r) hs = Unit {0}
-
-abbrev pub CallTdrs : Progress Reply → Type 0
-CallTdrs c = HoldTdrs c.held × UndoTdr c.phase c.held
 
 -- a run that has begun
 pub record RunsAt (o : Opening) (task : Task) (row : Row) (w : World) (words : WordPlace → ℕ) (lp : Lp) (run : Standing) : Type 0 where
@@ -128,5 +119,6 @@ pub record Stands (o : Opening) (trees : ℕ → Call → Tree) (s : State) (mem
   pub hand : mem.hand ≡ None
   pub slots : (h : ℕ) → IsHkid o.machine h → IsHand (t.slots (h - 1)) (mem.slots h)
   pub guests : NoGuests s
+  pub tdrs : TdrsAreHeld s
   pub holds : (p : ℕ) → p < length o.calls → Holds o trees p s.world mem.words (on_table o.machine t) (s.lps p) (pos p)
   pub laid_is : (r : WordPlace) → IsIn o.machine r → mem.words r ≡ laid (length o.calls) (λ p. (pos p).owes) (on_table o.machine t) r
