@@ -63,11 +63,9 @@ three_of numbers = do
 abbrev pub in_limits : ℕ → ℕ → ℕ → Bool
 in_limits lps pages hkids = nat_le 1 lps && nat_le lps 8 && nat_le 8 pages && nat_le pages 1024 && nat_le 1 hkids && nat_le hkids 15
 
--- a machine of more than one processor isn't built yet
 abbrev pub machine_in : ℕ → ℕ → ℕ → Result Entry Reason
 machine_in lps pages hkids =
     if not (in_limits lps pages hkids) then Err reason.Range
-    else if not (lps == 1) then Err reason.Unbuilt
     else Ok (entry.Machine (record { lps = lps; pages = pages; hkids = hkids }))
 
 unfoldable pub machine_of : List (Option ℕ) → Result Entry Reason
@@ -123,11 +121,11 @@ abbrev pub first_of : Option Keyword → List (Option ℕ) → Result Entry Reas
 first_of (Some keyword.Machine) ns = machine_of ns
 first_of _ ns = Err reason.Machine
 
--- a later line outside blocks
+-- a later line outside blocks; the items of a schedule line aren't looked at here
 abbrev pub outside_of : Machine → List Bool → Option Keyword → List (Option ℕ) → Result Entry Reason
 outside_of m had (Some keyword.Machine) ns = Err reason.Machine
 outside_of m had (Some keyword.End) ns = Err reason.Place
-outside_of m had (Some keyword.Schedule) ns = Err reason.Unbuilt
+outside_of m had (Some keyword.Schedule) ns = Ok (entry.Schedule m.lps)
 outside_of m had (Some keyword.Code) ns = Err reason.Unbuilt
 outside_of m had (Some keyword.Lp) ns = block_of m had ns
 outside_of m had None ns = Err reason.Word
@@ -146,6 +144,6 @@ placed_of None block had word ns = first_of (keyword_of word) ns
 placed_of (Some m) None had word ns = outside_of m had (keyword_of word) ns
 placed_of (Some m) (Some lp) had word ns = inside_of lp (keyword_of word) word ns
 
--- what a line says that isn't skipped
+-- what a line says that isn't skipped, by its first word and the numbers behind it
 unfoldable pub entry_of : Stage → List ℕ → List (Option ℕ) → Result Entry Reason
 entry_of s word ns = placed_of s.machine s.block s.had word ns

@@ -32,6 +32,8 @@ pub struct Stage {
 #[derive(Clone, Copy, Debug, PartialEq, Eq)]
 pub enum Entry {
     Machine(Machine),
+    /// Schedule items follow, each of a processor below that number.
+    Schedule(u8),
     /// The block of that processor begins.
     Open(u8),
     End,
@@ -104,9 +106,6 @@ fn machine_at(lps: u64, pages: u64, hkids: u64) -> Result<Entry, Reason>
 {
     if !is_in_limits(lps, pages, hkids) {
         return Err(Reason::Range);
-    }
-    if lps != 1 {
-        return Err(Reason::Unbuilt);
     }
     Ok(Entry::Machine(Machine {
         lps: lps as u8,
@@ -241,7 +240,8 @@ fn outside_at(
     match keyword {
         Some(Keyword::Machine) => Err(Reason::Machine),
         Some(Keyword::End) => Err(Reason::Place),
-        Some(Keyword::Schedule) | Some(Keyword::Code) => Err(Reason::Unbuilt),
+        Some(Keyword::Schedule) => Ok(Entry::Schedule(machine.lps)),
+        Some(Keyword::Code) => Err(Reason::Unbuilt),
         Some(Keyword::Lp) => block_line(machine, had, numbers),
         None => Err(Reason::Word),
     }
@@ -263,7 +263,7 @@ fn inside_at(
     }
 }
 
-/// What a line says whose first word is that and whose other words are those numbers.
+/// What a line says whose first word is that and whose next words are those numbers.
 #[tactic(auto, unfolding(crate::specs::Line::entry_of))]
 pub fn entry_at(stage: &Stage, word: &[u8], numbers: &[Option<u64>]) -> Result<Entry, Reason>
     ensures { result ≡ entry_of stage.now word.now numbers.now }

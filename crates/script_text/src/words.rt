@@ -1,10 +1,8 @@
 //! Lines and words.
 
-ghost use Rattle.std.specs.Prelude.{◌≡◌, ◌≢◌, ◌<◌, ◌≤◌, slice_index, ◌==◌, [], ◌∷◌, length, map, position, take, IfOk, MatchOption};
+ghost use Rattle.std.specs.Prelude.{◌≡◌, ◌≢◌, ◌<◌, ◌≤◌, slice_index, ◌==◌, [], ◌∷◌, length, map, position, MatchOption};
 ghost use Rattle.std.specs.List.{slice_split};
 ghost use Rattle.script_text.specs.Words.{pieces, words, is_printable, is_comment};
-
-use std::alloc::{AllocError, Global};
 
 fn newline_at(bytes: &[u8]) -> Option<usize>
     ensures { result ≡ position (λ b. b == 10) bytes.now }
@@ -64,17 +62,6 @@ pub fn next_word(bytes: &[u8]) -> Option<(&[u8], &[u8])>
         return None;
     }
     Some(word_and_rest(text))
-}
-
-/// The first words of a line, at most six: no line that counts its words has more than five, so
-/// six tell whether there are too many.
-pub fn first_words(alloc: Global, line: &[u8]) -> Result<Vec<&[u8]>, AllocError>
-    ensures { IfOk result (λ v. map (λ x. x.now) v.items ≡ take 6 (words line.now)) }
-{
-    line.split(|byte| *byte == b' ')
-        .filter(|word| !word.is_empty())
-        .take(6)
-        .collect(alloc)
 }
 
 /// Whether each byte is printable ASCII.
