@@ -4,4 +4,5 @@ pub mod Steps
 pub mod Calls
 pub mod Texts
 pub mod FirstBads
+pub mod Forms
 pub mod Spelled

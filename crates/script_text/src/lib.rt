@@ -25,7 +25,7 @@ mod words;
 pub use code_blocks::{CodePlace, code_line};
 pub use faults::{Reason, ScriptFault};
 pub use fields::{field_at, output_slot, slot_place};
-pub use laws::{faults_are_first, scripts_read_again};
+pub use laws::{faults_are_first, scripts_are_in_form, scripts_read_again};
 pub use mnemonics::{CallName, Mnemonic, mnemonic_at};
 pub use operations::{OpName, Operand, check_operands, operation_at};
 pub use schedules::{Item, Turns, item_at, schedule_line, turns_of};
