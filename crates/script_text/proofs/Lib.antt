@@ -5,4 +5,5 @@ pub mod Calls
 pub mod Texts
 pub mod FirstBads
 pub mod Forms
+pub mod Items
 pub mod Spelled
