@@ -66,7 +66,7 @@ number_on_fits base n [] h = h
 number_on_fits base n (c ∷ cs) h =
     number_step (ltb (digit c) base && ltb (n * base + digit c) (2 ^ 64)) n (number_on base (n * base + digit c) cs)
     (λ e. let s : ltb (n * base + digit c) (2 ^ 64) ≡ true = below_limit (ltb (digit c) base) (ltb (n * base + digit c) (2 ^ 64)) e in
-      number_on_fits base (n * base + digit c) cs (grind (arith, s)))
+    number_on_fits base (n * base + digit c) cs (grind (arith, s)))
 
 digits_fit : (base : ℕ) (w : List ℕ) → FitsNumber (digits_in base w)
 digits_fit base [] = tt
@@ -224,8 +224,8 @@ unfolding schedule_of
 schedule_fits lps schedule ws h =
     given_if (FitsItems lps) (length ws == 0) _ reason.Count _ refl
     (λ a. given_if (FitsItems lps) (not (list_all (λ w. is_some (item_of w)) ws)) _ reason.Number _ refl
-      (λ b. given_if (FitsItems lps) (not (list_all (λ w. is_some (turns_in lps w)) ws)) _ reason.Range _ refl
-        (λ c. written_fits lps (map (turns_in lps) ws) schedule (all_turns_fit lps ws) h)))
+    (λ b. given_if (FitsItems lps) (not (list_all (λ w. is_some (turns_in lps w)) ws)) _ reason.Range _ refl
+    (λ c. written_fits lps (map (turns_in lps) ws) schedule (all_turns_fit lps ws) h)))
 
 -- the calls so far
 record FitsCalls (lps : ℕ) (calls : List (List Call)) : Type 0 where

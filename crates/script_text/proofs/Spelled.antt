@@ -149,7 +149,7 @@ block_passed m had schedule done later cs n rest read below few free room h go =
     line_passed (so_far m None had schedule (done ++ [] ∷ later)) (in_block m had' schedule done [] later) n (codes "lp") (length done ∷ []) (calls_text cs ++ (line_text (codes "end") [] ++ rest)) (record { bytes = refl; some = refl }) refl
     (one_fits (length done) [] (omega arith) refl) (block_said m had schedule (done ++ [] ∷ later) (length done) below (free.from (length done) (omega arith)))
     ∙ calls_passed m had' schedule done later cs [] (n + 1) (line_text (codes "end") [] ++ rest) read (omega arith) h
-      (λ k. line_passed (in_block m had' schedule done cs later) (so_far m None had' schedule (done ++ cs ∷ later)) k (codes "end") [] rest end_is_word refl refl (end_said m (length done) had' schedule (done ++ cs ∷ later)) ∙ go (k + 1))
+    (λ k. line_passed (in_block m had' schedule done cs later) (so_far m None had' schedule (done ++ cs ∷ later)) k (codes "end") [] rest end_is_word refl refl (end_said m (length done) had' schedule (done ++ cs ∷ later)) ∙ go (k + 1))
 
 abbrev whole : Machine → List ℕ → List (List Call) → Result ScriptSeen ScriptFault
 whole m schedule calls = Ok (record { machine = m; schedule = schedule; codes = []; calls = calls })
@@ -167,8 +167,8 @@ blocks_passed m schedule (cs ∷ more) done lp had n is below few free room h =
     subst P (sym is)
     (block_passed m had schedule done (no_calls more) cs n (blocks_text (length done + 1) more) (whole m schedule (done ++ cs ∷ more)) (omega arith) few free' (All-head AreFew cs more room) (All-head (λ cs. All FitsCall cs) cs more h)
     (λ k. subst (λ calls. Q calls k) (append_assoc done (cs ∷ []) (no_calls more))
-      (blocks_passed m schedule more (done ++ cs ∷ []) (length done + 1) (set had (length done) true) k (sym (length-append done (cs ∷ []))) (omega arith) few (free_more (length done) had free') (All-tail AreFew cs more room) (All-tail (λ cs. All FitsCall cs) cs more h)
-      ∙ ap (whole m schedule) (append_assoc done (cs ∷ []) more))))
+    (blocks_passed m schedule more (done ++ cs ∷ []) (length done + 1) (set had (length done) true) k (sym (length-append done (cs ∷ []))) (omega arith) few (free_more (length done) had free') (All-tail AreFew cs more room) (All-tail (λ cs. All FitsCall cs) cs more h)
+    ∙ ap (whole m schedule) (append_assoc done (cs ∷ []) more))))
 
 -- the schedule's line, where there is one
 schedule_passed : (m : Machine) (had : List Bool) (calls : List (List Call)) (schedule : List ℕ) (n : ℕ) (rest : List ℕ) (read : Result ScriptSeen ScriptFault) → m.lps ≤ 8 → All (λ lp. lp < m.lps) schedule → length schedule ≤ 2 ^ 20
@@ -207,7 +207,7 @@ read_text s h =
     line_passed nothing_yet (so_far s.machine None had [] (replicate s.machine.lps [])) 1 (codes "machine") (s.machine.lps ∷ s.machine.pages ∷ s.machine.hkids ∷ []) (schedule_text s.schedule ++ blocks_text 0 s.calls) (record { bytes = refl; some = refl }) refl (machine_fits s h)
     (machine_said s.machine (within_limits s.machine.lps s.machine.pages s.machine.hkids h.lps h.pages h.hkids))
     ∙ schedule_passed s.machine had (replicate s.machine.lps []) s.schedule 2 (blocks_text 0 s.calls) (whole s.machine s.schedule s.calls) h.lps.1 h.items h.few_items
-      (subst P (sym calls_are) (λ k. blocks_passed s.machine s.schedule s.calls [] 0 had k refl (omega (arith, h.lists)) h.lps.1 (record { from = λ j le. all_free 8 j }) h.few_calls h.arguments))
+    (subst P (sym calls_are) (λ k. blocks_passed s.machine s.schedule s.calls [] 0 had k refl (omega (arith, h.lists)) h.lps.1 (record { from = λ j le. all_free 8 j }) h.few_calls h.arguments))
     ∙ seen_again s h.no_codes
 
 within : (bytes : List ℕ) → length bytes ≤ 2 ^ 24 → read_of bytes ≡ read_from nothing_yet 1 (pieces bytes)

@@ -122,10 +122,11 @@ fn machine_line(numbers: &[Option<u64>]) -> Result<Entry, Reason>
     machine_at(lps, pages, hkids)
 }
 
-fn had_block(had: &[bool; 8], lp: u8) -> bool
-    ensures { result ≡ slice_index_or had.now lp false }
+/// Whether a place is marked; one past the end isn't.
+pub fn is_marked(marks: &[bool], place: usize) -> bool
+    ensures { result ≡ slice_index_or marks.now place false }
 {
-    usize::from(lp) < had.len() && had[usize::from(lp)]
+    place < marks.len() && marks[place]
 }
 
 fn block_at(machine: Machine, had: &[bool; 8], lp: u64) -> Result<Entry, Reason>
@@ -135,7 +136,7 @@ fn block_at(machine: Machine, had: &[bool; 8], lp: u64) -> Result<Entry, Reason>
         return Err(Reason::Range);
     }
     let lp = lp as u8;
-    if had_block(had, lp) {
+    if is_marked(had, usize::from(lp)) {
         return Err(Reason::Repeated);
     }
     Ok(Entry::Open(lp))
