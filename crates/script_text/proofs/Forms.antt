@@ -1,12 +1,11 @@
 -- What each script that is read has.
-use Rattle.std.proofs.Common.{◌≡◌, ℕ, zero, suc, ◌+◌, ◌*◌, ◌^◌, ◌<◌, ◌≤◌, List, [], ◌∷◌, ◌++◌, length, map, take, drop, get_or, set, replicate, Bool, true, false, not, cond, leb, ltb, ◌==◌, ◌&&◌, Option, Some, None, Result, Ok, Err, ◌⊎◌, inl, inr, refl, sym, ◌∙◌, subst, arith}
-use Rattle.std.specs.Prelude.{is_some, slice_index, unwrap_or}
+use Rattle.std.proofs.Common.{◌≡◌, ℕ, ◌+◌, ◌*◌, ◌^◌, ◌<◌, ◌≤◌, List, [], ◌∷◌, ◌++◌, length, map, take, drop, get_or, set, replicate, Bool, true, false, not, cond, leb, ltb, ◌==◌, ◌&&◌, Option, Some, None, Result, Ok, Err, ◌⊎◌, inl, inr, refl, subst, arith}
+use Rattle.std.specs.Prelude.{is_some, unwrap_or}
 use Rattle.std.specs.List.{All, list_all}
 use Rattle.std.proofs.lemmas.Bool.{cases_lt}
 use Rattle.std.proofs.lemmas.List.{length-append, length-replicate, length-set, get_or_past}
-use Rattle.std.proofs.lemmas.List.Elements.{All-nil, All-cons, All-head, All-tail, All-replicate, All-append, All-push, All-set, All-take}
+use Rattle.std.proofs.lemmas.List.Elements.{All-nil, All-cons, All-head, All-tail, All-replicate, All-append, All-push, All-set}
 use Rattle.td_words.specs.declared.calls.Call.{Call}
-use Rattle.td_words.specs.declared.calls.Call.TheVariants as calls
 use Rattle.td_words.specs.declared.machines.Machine.{Machine}
 use Rattle.script_text.specs.declared.faults.Reason.{Reason}
 use Rattle.script_text.specs.declared.faults.Reason.TheVariants as reason
@@ -23,7 +22,7 @@ use Rattle.script_text.specs.declared.schedules.Item.{Item}
 use Rattle.script_text.specs.declared.schedules.Turns.{Turns}
 use Rattle.script_text.specs.Mnemonics.{mnemonics, mnemonic_in}
 use Rattle.script_text.specs.Number.{digit, number_on, digits_in, is_prefixed, number}
-use Rattle.script_text.specs.Line.{◌>>=◌, in_limits, machine_in, machine_of, three_of, block_in, block_of, one_of, end_of, counted_of, argument, built_of, judged_of, call_of, first_of, outside_of, inside_of, placed_of, entry_of, keyword_of}
+use Rattle.script_text.specs.Line.{◌>>=◌, in_limits, machine_of, block_of, end_of, counted_of, number_at, argument, built_of, judged_of, call_of, first_of, outside_of, inside_of, placed_of, entry_of, keyword_of}
 use Rattle.script_text.specs.Schedule.{item_of, in_range_of, turns_in, with_turns, written_of, schedule_of}
 use Rattle.script_text.specs.Words.{pieces, words, is_printable, is_comment}
 use Rattle.script_text.specs.Reading.{SoFar, nothing_yet, with_call, entered_of, worded_of, line_of, script_of, ended_of, then_on, read_from, read_of}
@@ -43,10 +42,6 @@ given_if P false c r x e h = h e
 given_then : {A B : Type 0} (P : A → Type 0) (Q : B → Type 0) (r : Result A Reason) (f : A → Result B Reason) → IfGiven P r → ((x : A) → P x → IfGiven Q (f x)) → IfGiven Q (r >>= f)
 given_then P Q (Ok x) f h k = k x h
 given_then P Q (Err r) f h k = tt
-
-given_any : {A : Type 0} (r : Result A Reason) → IfGiven (λ x. Unit {0}) r
-given_any (Ok x) = tt
-given_any (Err r) = tt
 
 -- numbers of 64 bits
 abbrev FitsNumber : Option ℕ → Type 0
@@ -133,11 +128,23 @@ not_false : (b : Bool) → not b ≡ false → b ≡ true
 not_false true h = refl
 not_false false h = cc
 
+-- whatever a number is, it may be used
+given_number : {B : Type 0} (Q : B → Type 0) (r : Result ℕ Reason) (f : ℕ → Result B Reason) → ((n : ℕ) → IfGiven Q (f n)) → IfGiven Q (r >>= f)
+given_number Q (Ok n) f h = h n
+given_number Q (Err r) f h = tt
+
+given_count : {B : Type 0} (Q : B → Type 0) (r : Result (Unit {0}) Reason) (x : Result B Reason) → IfGiven Q x → IfGiven Q (r >>= (λ t. x))
+given_count Q (Ok t) x h = h
+given_count Q (Err r) x h = tt
+
 machine_fits : (ns : List (Option ℕ)) → IfGiven (FitsEntry None) (machine_of ns)
 unfolding machine_of
 machine_fits ns =
-    given_then (λ m. Unit {0}) (FitsEntry None) (three_of ns) (λ m. machine_in m.0 m.1 m.2) (given_any (three_of ns))
-    (λ m u. given_if (FitsEntry None) (not (in_limits m.0 m.1 m.2)) _ reason.Range _ refl (λ e. not_false (in_limits m.0 m.1 m.2) e))
+    given_count (FitsEntry None) (counted_of 3 ns) _
+    (given_number (FitsEntry None) (number_at ns 0) _
+    (λ lps. given_number (FitsEntry None) (number_at ns 1) _
+    (λ pages. given_number (FitsEntry None) (number_at ns 2) _
+    (λ hkids. given_if (FitsEntry None) (not (in_limits lps pages hkids)) _ reason.Range _ refl (λ e. not_false (in_limits lps pages hkids) e)))))
 
 first_fits : (k : Option Keyword) (ns : List (Option ℕ)) → IfGiven (FitsEntry None) (first_of k ns)
 first_fits (Some keyword.Machine) ns = machine_fits ns
@@ -146,12 +153,13 @@ first_fits _ ns = tt
 block_fits : (m : Machine) (had : List Bool) (ns : List (Option ℕ)) → IfGiven (FitsEntry (Some m)) (block_of m had ns)
 unfolding block_of
 block_fits m had ns =
-    given_then (λ lp. Unit {0}) (FitsEntry (Some m)) (one_of ns) (λ lp. block_in m had lp) (given_any (one_of ns))
-    (λ lp u. given_if (FitsEntry (Some m)) (not (ltb lp m.lps)) _ reason.Range _ refl (λ e. given_if (FitsEntry (Some m)) (get_or had lp false) _ reason.Repeated (Ok (entry.Open lp)) refl (λ e. tt)))
+    given_count (FitsEntry (Some m)) (counted_of 1 ns) _
+    (given_number (FitsEntry (Some m)) (number_at ns 0) _
+    (λ lp. given_if (FitsEntry (Some m)) (not (ltb lp m.lps)) _ reason.Range _ refl (λ e. given_if (FitsEntry (Some m)) (get_or had lp false) _ reason.Repeated (Ok (entry.Open lp)) refl (λ e. tt))))
 
 end_fits : (m : Machine) (ns : List (Option ℕ)) → IfGiven (FitsEntry (Some m)) (end_of ns)
 unfolding end_of
-end_fits m ns = given_then (λ t. Unit {0}) (FitsEntry (Some m)) (counted_of 0 ns) (λ t. Ok entry.End) (given_any (counted_of 0 ns)) (λ t u. tt)
+end_fits m ns = given_count (FitsEntry (Some m)) (counted_of 0 ns) (Ok entry.End) tt
 
 call_fits : (m : Machine) (lp : ℕ) (row : Option Mnemonic) (ns : List (Option ℕ)) → All FitsNumber ns → IfGiven (FitsEntry (Some m)) (call_of lp row ns)
 unfolding call_of

@@ -1,11 +1,11 @@
 -- A schedule that is written out with one item for each turn.
-use Rattle.std.proofs.Common.{◌≡◌, ℕ, ◌+◌, ◌^◌, ◌<◌, ◌≤◌, List, [], ◌∷◌, ◌++◌, length, map, replicate, Bool, true, false, not, cond, leb, ltb, ◌==◌, Some, None, Ok, refl, ap, sym, ◌∙◌, arith}
+use Rattle.std.proofs.Common.{◌≡◌, ℕ, ◌+◌, ◌^◌, ◌<◌, ◌≤◌, List, [], ◌∷◌, ◌++◌, length, map, Bool, true, false, not, ltb, ◌==◌, Some, None, Ok, refl, ap, ◌∙◌, arith}
 use Rattle.std.specs.Prelude.{is_some}
 use Rattle.std.specs.List.{list_all, All, position, position_or_len}
 use Rattle.std.specs.Fmt.{decimal}
 use Rattle.std.proofs.lemmas.List.{length-append, append_assoc, append-nil}
 use Rattle.std.proofs.lemmas.List.Elements.{All-head, All-tail}
-use Rattle.script_text.specs.Schedule.{item_of, turns_in, with_turns, written_of, schedule_of}
+use Rattle.script_text.specs.Schedule.{item_of, turns_in, written_of, schedule_of}
 use Rattle.script_text.proofs.Texts.{is_digit, decimal_is, number_decimal, implied, both, not_true}
 
 -- a number has no star

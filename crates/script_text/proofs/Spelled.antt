@@ -14,7 +14,7 @@ use Rattle.script_text.specs.declared.faults.Reason.{Reason}
 use Rattle.script_text.specs.declared.faults.ScriptFault.{ScriptFault}
 use Rattle.script_text.specs.declared.lines.Entry.TheVariants as entry
 use Rattle.script_text.specs.declared.lines.Stage.{Stage}
-use Rattle.script_text.specs.Line.{entry_of, in_limits, machine_of, three_of, block_of, one_of, end_of, call_of, ◌>>=◌}
+use Rattle.script_text.specs.Line.{entry_of, in_limits, machine_of, block_of, end_of, call_of, ◌>>=◌}
 use Rattle.script_text.specs.Words.{pieces, is_comment}
 use Rattle.script_text.specs.Reading.{SoFar, nothing_yet, entered_of, worded_of, line_of, read_from, read_of}
 use Rattle.script_text.specs.Seen.{ScriptSeen}
@@ -60,7 +60,7 @@ abbrev so_far : Machine → Option ℕ → List Bool → List ℕ → List (List
 so_far m block had schedule calls = record { stage = record { machine = Some m; block = block; had = had }; schedule = schedule; calls = calls }
 
 machine_said : (m : Machine) → in_limits m.lps m.pages m.hkids ≡ true → said nothing_yet (codes "machine") (m.lps ∷ m.pages ∷ m.hkids ∷ []) ≡ Ok (so_far m None (replicate 8 false) [] (replicate m.lps []))
-unfolding entry_of machine_of three_of entered_of
+unfolding entry_of machine_of entered_of
 machine_said m h = rw h refl
 
 schedule_said : (m : Machine) (had : List Bool) (calls : List (List Call)) (n : ℕ) (ns : List ℕ) → m.lps ≤ 8 → All (λ lp. lp < m.lps) (n ∷ ns) → length (n ∷ ns) ≤ 2 ^ 20
@@ -70,7 +70,7 @@ schedule_said m had calls n ns few h room = rw (items_read m.lps n ns few h room
 
 block_said : (m : Machine) (had : List Bool) (schedule : List ℕ) (calls : List (List Call)) (lp : ℕ) → lp < m.lps → get_or had lp false ≡ false
     → said (so_far m None had schedule calls) (codes "lp") (lp ∷ []) ≡ Ok (so_far m (Some lp) (set had lp true) schedule calls)
-unfolding entry_of block_of one_of entered_of
+unfolding entry_of block_of entered_of
 block_said m had schedule calls lp h free =
     let e : ltb lp m.lps ≡ true = grind arith in
     rw (e, free) refl

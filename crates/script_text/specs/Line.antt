@@ -46,19 +46,6 @@ counted_of n numbers = if length numbers == n then Ok tt else Err reason.Count
 abbrev pub number_at : List (Option ℕ) → ℕ → Result ℕ Reason
 number_at numbers i = ok_or (slice_index_or numbers i None) reason.Number
 
-unfoldable pub one_of : List (Option ℕ) → Result ℕ Reason
-one_of numbers = do
-  _ ← counted_of 1 numbers
-  number_at numbers 0
-
-unfoldable pub three_of : List (Option ℕ) → Result (ℕ × ℕ × ℕ) Reason
-three_of numbers = do
-  _ ← counted_of 3 numbers
-  x ← number_at numbers 0
-  y ← number_at numbers 1
-  z ← number_at numbers 2
-  Ok (x, y, z)
-
 -- 1 to 8 processors, 8 to 1,024 pages, 1 to 15 HKIDs
 abbrev pub in_limits : ℕ → ℕ → ℕ → Bool
 in_limits lps pages hkids = nat_le 1 lps && nat_le lps 8 && nat_le 8 pages && nat_le pages 1024 && nat_le 1 hkids && nat_le hkids 15
@@ -68,10 +55,14 @@ machine_in lps pages hkids =
     if not (in_limits lps pages hkids) then Err reason.Range
     else Ok (entry.Machine (record { lps = lps; pages = pages; hkids = hkids }))
 
+-- `machine LPS PAGES HKIDS`
 unfoldable pub machine_of : List (Option ℕ) → Result Entry Reason
 machine_of numbers = do
-  m ← three_of numbers
-  machine_in m.0 m.1 m.2
+  _ ← counted_of 3 numbers
+  lps ← number_at numbers 0
+  pages ← number_at numbers 1
+  hkids ← number_at numbers 2
+  machine_in lps pages hkids
 
 abbrev pub block_in : Machine → List Bool → ℕ → Result Entry Reason
 block_in m had lp =
@@ -82,7 +73,8 @@ block_in m had lp =
 -- `lp L`, where `had` says which processors had a block
 unfoldable pub block_of : Machine → List Bool → List (Option ℕ) → Result Entry Reason
 block_of m had numbers = do
-  lp ← one_of numbers
+  _ ← counted_of 1 numbers
+  lp ← number_at numbers 0
   block_in m had lp
 
 unfoldable pub end_of : List (Option ℕ) → Result Entry Reason

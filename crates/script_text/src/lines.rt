@@ -3,7 +3,7 @@
 ghost use Rattle.std.specs.Prelude.{◌≡◌, ◌<◌, length, is_some, slice_index_or, false};
 ghost use Rattle.std.specs.List.{list_all};
 ghost use Rattle.script_text.specs.Mnemonics.{mnemonics, mnemonic_in};
-ghost use Rattle.script_text.specs.Line.{keyword_of, counted_of, number_at, one_of, three_of, in_limits, machine_in, machine_of, block_in, block_of, end_of, argument, built_of, judged_of, call_of, first_of, outside_of, inside_of, entry_of};
+ghost use Rattle.script_text.specs.Line.{keyword_of, counted_of, number_at, in_limits, machine_in, machine_of, block_in, block_of, end_of, argument, built_of, judged_of, call_of, first_of, outside_of, inside_of, entry_of};
 
 use crate::faults::Reason;
 use crate::mnemonics::{CallName, Mnemonic, is, mnemonic_at};
@@ -76,25 +76,6 @@ pub fn number_of(numbers: &[Option<u64>], i: usize) -> Result<u64, Reason>
     numbers[i].ok_or(Reason::Number)
 }
 
-#[tactic(auto, unfolding(crate::specs::Line::one_of))]
-fn one(numbers: &[Option<u64>]) -> Result<u64, Reason>
-    ensures { result ≡ one_of numbers.now }
-{
-    check_count(numbers, 1)?;
-    number_of(numbers, 0)
-}
-
-#[tactic(auto, unfolding(crate::specs::Line::three_of))]
-fn three(numbers: &[Option<u64>]) -> Result<(u64, u64, u64), Reason>
-    ensures { result ≡ three_of numbers.now }
-{
-    check_count(numbers, 3)?;
-    let first = number_of(numbers, 0)?;
-    let second = number_of(numbers, 1)?;
-    let third = number_of(numbers, 2)?;
-    Ok((first, second, third))
-}
-
 fn is_in_limits(lps: u64, pages: u64, hkids: u64) -> bool
     ensures { result ≡ in_limits lps pages hkids }
 {
@@ -118,7 +99,10 @@ fn machine_at(lps: u64, pages: u64, hkids: u64) -> Result<Entry, Reason>
 fn machine_line(numbers: &[Option<u64>]) -> Result<Entry, Reason>
     ensures { result ≡ machine_of numbers.now }
 {
-    let (lps, pages, hkids) = three(numbers)?;
+    check_count(numbers, 3)?;
+    let lps = number_of(numbers, 0)?;
+    let pages = number_of(numbers, 1)?;
+    let hkids = number_of(numbers, 2)?;
     machine_at(lps, pages, hkids)
 }
 
@@ -146,7 +130,8 @@ fn block_at(machine: Machine, had: &[bool; 8], lp: u64) -> Result<Entry, Reason>
 fn block_line(machine: Machine, had: &[bool; 8], numbers: &[Option<u64>]) -> Result<Entry, Reason>
     ensures { result ≡ block_of machine had.now numbers.now }
 {
-    let lp = one(numbers)?;
+    check_count(numbers, 1)?;
+    let lp = number_of(numbers, 0)?;
     block_at(machine, had, lp)
 }
 

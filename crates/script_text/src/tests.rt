@@ -1,8 +1,8 @@
 //! What no clause says: that the grammar means what its users were promised.
 
 use crate::{
-    CallName, OpName, Reason, Script, ScriptFault, check_operands, code_line, field_at,
-    mnemonic_at, operation_at, output_slot, read_script, slot_place,
+    CallName, OpName, Reason, ScriptFault, check_operands, code_line, field_at, mnemonic_at,
+    operation_at, output_slot, read_script, slot_place,
 };
 use std::alloc::Global;
 use std::test::Fail;
@@ -123,16 +123,11 @@ fn stops_at_its_limits(rt: HostRuntime) -> Result<(), Fail> {
     Ok(())
 }
 
-fn read(alloc: Global, text: &str) -> Result<Script, Fail> {
-    let script = read_script(alloc, text.as_bytes())?;
-    Ok(script)
-}
-
 #[test]
 fn reads_what_stands_there(rt: HostRuntime) -> Result<(), Fail> {
     let text = "# a\nmachine 2 9 3\n schedule 1 0x0*0x2\nlp 1\nHOST.WRITE 5 6 0x7\nMNG.CREATE 1 2\n\
         end\nschedule 01*02\nlp 0\nHOST.READ 3 4\nPHYMEM.PAGE.RDMD 8\nend\nschedule 0\n";
-    let script = read(rt.alloc(), text)?;
+    let script = read_script(rt.alloc(), text.as_bytes())?;
     let machine = Machine {
         lps: 2,
         pages: 9,
