@@ -1,5 +1,5 @@
 -- Each turn of a run lowers what it can still give.
-use Rattle.std.proofs.Common.{◌≡◌, ℕ, ◌+◌, ◌-◌, ◌*◌, ◌<◌, ◌≤◌, Bool, true, false, List, [], ◌∷◌, ◌++◌, length, refl, ap, sym, ◌∙◌, subst, arith, length-append}
+use Rattle.std.proofs.Common.{◌≡◌, ℕ, ◌+◌, ◌-◌, ◌<◌, ◌≤◌, Bool, true, false, List, [], ◌∷◌, ◌++◌, length, refl, ap, ◌∙◌, subst, arith, length-append}
 use Rattle.td_words.specs.declared.names.LockName.{LockName}
 use Rattle.td_words.specs.declared.names.Mode.{Mode}
 use Rattle.td_words.specs.declared.names.Mode.TheVariants.{Shared, Exclusive}
@@ -15,7 +15,7 @@ use Rattle.leaf_engine.specs.declared.events.Stage.TheVariants as stages
 use Rattle.leaf_engine.specs.Trees.{Tree, Lock, Load, Test, End, Since, feed, settle, fed, passed}
 use Rattle.leaf_engine.specs.Decides.{Gives}
 use Rattle.leaf_engine.specs.Items.{IsLoaded}
-use Rattle.leaf_engine.specs.Turns.{Standing, standing, tried, denied, busy, Goes, Comes, TakesBack, GivesBack, TurnBy}
+use Rattle.leaf_engine.specs.Turns.{Standing, tried, busy, Comes, TurnBy}
 use Rattle.leaf_dispatch.specs.Bounds.{TriesAtMost, FewTries, stage_left}
 
 -- trees

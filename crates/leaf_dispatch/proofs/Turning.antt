@@ -11,7 +11,7 @@ use Rattle.leaf_engine.specs.declared.events.HeldLock.{HeldLock}
 use Rattle.leaf_engine.specs.declared.events.Stage.{Stage}
 use Rattle.leaf_engine.specs.declared.events.Stage.TheVariants as stages
 use Rattle.leaf_engine.specs.Means.{Task}
-use Rattle.leaf_engine.specs.Turns.{Standing, IsTurn, Turned, has_ended, last_reply}
+use Rattle.leaf_engine.specs.Turns.{Standing, Turned, has_ended, last_reply}
 use Rattle.leaf_engine.specs.OwnLists.{Piece, taken_in, TurnIn, TurnsInPieces, WordLp, running, after_turn, LpTurns}
 use Rattle.leaf_dispatch.specs.Bounds.{FewTries, stage_left, lines_left, events_left}
 use Rattle.leaf_dispatch.proofs.Lowering.{Lowers, turn-lowers}

@@ -7,9 +7,9 @@ use Rattle.leaf_engine.specs.declared.events.HeldLock.{HeldLock}
 use Rattle.leaf_engine.specs.declared.events.Stage.{Stage}
 use Rattle.leaf_engine.specs.declared.events.Stage.TheVariants as stage
 use Rattle.leaf_engine.specs.Trees.{Tree, Lock, Load, Test, End, Since}
-use Rattle.leaf_engine.specs.Turns.{AreIn, IsStageIn, Standing, CanRun}
-use Rattle.leaf_dispatch.specs.Bounds.{TriesAtMost, FewTries}
-use Rattle.leaf_dispatch.specs.Running.{IsUnderWay, IsRunOf, IsRunAt}
+use Rattle.leaf_engine.specs.Turns.{AreIn, IsStageIn}
+use Rattle.leaf_dispatch.specs.Bounds.{TriesAtMost}
+use Rattle.leaf_dispatch.specs.Running.{IsUnderWay, IsRunAt}
 use Rattle.leaf_dispatch.specs.declared.running.Running.{Running}
 
 AreIn-prop : (m : Machine) (hs : List HeldLock) → IsProp (AreIn m hs)

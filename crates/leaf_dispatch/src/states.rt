@@ -1,15 +1,15 @@
 //! Logical processors with their calls.
 
+ghost use Rattle.std.specs.Prelude.{◌+◌, ◌≤◌, length, vec_capacity};
+ghost use Rattle.flat_core.specs.Opening.{IsMachine};
+ghost use Rattle.leaf_dispatch.specs.Running.{IsRunAt};
+ghost use Rattle.leaf_dispatch.specs.Kept.{IsRunAt-prop};
+
 use crate::running::{Running, present_run};
 use leaf_engine::{Event, Place, Processor, RunTurn, Turn, turns_in_pieces};
 use std::alloc::Global;
 use step_core::Bench;
 use td_words::{Call, Machine, OutOfMemory, Reply};
-
-ghost use Rattle.std.specs.Prelude.{◌+◌, ◌≤◌, length, vec_capacity};
-ghost use Rattle.flat_core.specs.Opening.{IsMachine};
-ghost use Rattle.leaf_dispatch.specs.Running.{IsRunAt};
-ghost use Rattle.leaf_dispatch.specs.Kept.{IsRunAt-prop};
 
 /// A logical processor: its calls from the present one on, the run of that call once its first event
 /// is made, and its replies, one for each call that is done.
@@ -77,6 +77,7 @@ impl<'a> Processor for LpState<'a> {
         let Some((call, further)) = self.lines.split_first() else {
             return Turn::Ended;
         };
+        // The law that the run's turn can be told in pieces.
         turns_in_pieces();
         let mut running = present_run(&mut self.run, self.place, call);
         let RunTurn { event, reply } = running.run.turn(bench);
