@@ -1,5 +1,6 @@
 pub mod Virtual
 pub mod Stores
+pub mod Filling
 pub mod Keeping
 pub mod Holding
 pub mod Standing
