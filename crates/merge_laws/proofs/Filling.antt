@@ -1,5 +1,5 @@
 -- Stores before an act: what a leaf that fills has still to do, store by store.
-use Rattle.std.proofs.Common.{◌≡◌, ◌≢◌, ℕ, zero, suc, ◌+◌, ◌<◌, Bool, true, false, ◌==◌, if◌then◌else◌, List, [], ◌∷◌, ◌++◌, map, length, Option, Some, None, refl, ap, sym, ◌∙◌, subst, arith}
+use Rattle.std.proofs.Common.{◌≡◌, ℕ, zero, suc, ◌+◌, ◌<◌, Bool, true, false, ◌==◌, if◌then◌else◌, List, [], ◌∷◌, ◌++◌, map, length, Option, None, refl, ap, sym, ◌∙◌, subst, arith}
 use Rattle.std.proofs.lemmas.Bool.{ne_eqb}
 use Rattle.td_words.specs.declared.machines.Machine.{Machine}
 use Rattle.td_words.specs.Address.{word_at}
@@ -14,7 +14,7 @@ use Rattle.lock_words.specs.LockWords.{put_word}
 use Rattle.step_core.specs.declared.steps.WordStep.TheVariants as step
 use Rattle.step_core.specs.Items.{Taken, Stepped, Swapped, Missed}
 use Rattle.step_core.specs.Pages.{clearing, copying}
-use Rattle.leaf_engine.specs.Changes.{Memory, Change, Put, PutHash, Raise, Clear, Copy, Swap, changed, changed_all, is_plain}
+use Rattle.leaf_engine.specs.Changes.{Memory, Change, Put, PutHash, Raise, Clear, Copy, Swap, changed, is_plain}
 use Rattle.leaf_engine.specs.declared.needs.Write.{Write}
 use Rattle.leaf_engine.specs.Decides.{write_of, hand_for, IsHand}
 use Rattle.leaf_engine.specs.Means.{MayFill, MayFillAll}
@@ -145,8 +145,8 @@ takes-due p q (suc n) a apart =
     let xs : ℕ → ℕ = λ i. a (Word p i) in
     let before : dues_of (takes_from p q 0 n) a ≡ words_from q n xs = takes-due p q n a apart in
     let read : stored (words_from q n xs) a (Word p n) ≡ a (Word p n) =
-        stored-is (words_from q n xs) a (Word p n)
-        ∙ ap (λ (o : Option ℕ). or_else o (a (Word p n))) (words-else q n xs (Word p n) (λ i l. rw apart refl)) in
+    stored-is (words_from q n xs) a (Word p n)
+    ∙ ap (λ (o : Option ℕ). or_else o (a (Word p n))) (words-else q n xs (Word p n) (λ i l. rw apart refl)) in
     let count : 0 + n ≡ n = omega arith in
     ap (λ (ts : List Todo). dues_of ts a) (takes-last p q 0 n ∙ ap (λ (k : ℕ). takes_from p q 0 n ++ Takes (Word p k) (Word q k) ∷ []) count)
     ∙ (dues-append (takes_from p q 0 n) (Takes (Word p n) (Word q n) ∷ []) a
@@ -245,8 +245,7 @@ one-fill m g w (Put q x) h' xs may ch =
 one-fill m g w (PutHash q x) h' xs may ch = absurd may
 one-fill m g w (Raise q) h' xs may ch = absurd may
 one-fill m g w (Clear p) h' xs may ch =
-    let one = one-written m (Clear p) h' xs refl ch in
-    (
+    let one = one-written m (Clear p) h' xs refl ch in (
       one.2.0 ∙ one.1,
       subst (λ (z : List Taken). AreTodos m.pages z (zeros_to p 512)) (sym one.2.1) (zeros-are m.pages p 512),
       ap (λ (z : List Taken). length z) one.2.1 ∙ clearing-length p 512,
@@ -254,8 +253,7 @@ one-fill m g w (Clear p) h' xs may ch =
 one-fill m g w (Copy p q) h' xs may ch =
     let one = one-written m (Copy p q) h' xs refl ch in
     let seen : List ℕ = one.2.1.0 in
-    let many : length seen ≡ 512 = one.2.1.1 in
-    (
+    let many : length seen ≡ 512 = one.2.1.1 in (
       one.2.0 ∙ one.1,
       subst (λ (z : List Taken). AreTodos m.pages z (takes_from p q 0 512)) (sym one.2.1.2) (takes-are m.pages p q 0 512 seen many),
       ap (λ (z : List Taken). length z) one.2.1.2 ∙ (copying-length p q 0 seen ∙ ap (λ (k : ℕ). k + k) many),
@@ -270,12 +268,11 @@ fills-made m g w (c ∷ fs) h h' xs may ch none =
     let ys : List Taken = ch.1.0 in
     let zs : List Taken = ch.1.1.0 in
     let one = one-fill m g w c between ys may.0 (subst (λ (z : Option Measure). IsChanged m c z ys between) none ch.1.1.2) in
-    let rest = fills-made m g w fs between h' zs may.1 ch.1.1.3 one.0 in
-    (
+    let rest = fills-made m g w fs between h' zs may.1 ch.1.1.3 one.0 in (
       rest.0,
       subst (λ (z : List Taken). AreTodos m.pages z (all_todos (c ∷ fs))) (sym ch.1.1.1) (todos-append m.pages ys zs (todos_of c) (all_todos fs) one.1 rest.1),
       ap (λ (z : List Taken). length z) ch.1.1.1
-      ∙ (length-append ys zs ∙ (ap (λ (k : ℕ). k + length zs) one.2 ∙ ap (λ (k : ℕ). items_of c + k) rest.2)),
+          ∙ (length-append ys zs ∙ (ap (λ (k : ℕ). k + length zs) one.2 ∙ ap (λ (k : ℕ). items_of c + k) rest.2)),
     )
 
 pub fills-items : (m : Machine) (g : Grip) (w : World) (fs : List Change) (h h' : Option Measure) (xs : List Taken) → MayFillAll m g w fs → AreChanged m fs h xs h' → h ≡ None → (h' ≡ None) × AreTodos m.pages xs (all_todos fs)
