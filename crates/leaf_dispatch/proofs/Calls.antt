@@ -7,7 +7,7 @@ use Rattle.flat_core.specs.Table.{row_of}
 use Rattle.word_rules.specs.Views.{look}
 use Rattle.leaf_engine.specs.declared.needs.Place.{Place}
 use Rattle.leaf_engine.specs.Changes.{are_plain}
-use Rattle.leaf_engine.specs.Trees.{Tree, Lock, Load, Test, End, Since, feed, changes_of, fills_of}
+use Rattle.leaf_engine.specs.Trees.{Tree, Lock, Load, Test, End, Since, feed, changes_of}
 use Rattle.leaf_engine.specs.Means.{OfCall, MeansRow}
 use Rattle.first_leaves.specs.Words.{says_host}
 use Rattle.first_leaves.specs.HostTrees.{read_word}
@@ -33,34 +33,6 @@ fed-plain (Test true r t) xs plain = fed-plain t xs plain
 fed-plain (Test false r t) xs plain = refl
 fed-plain (End r fs cs) xs plain = plain
 fed-plain (Since r cs) xs plain = plain
-
--- nor stores anything before its act
-abbrev EndsUnfilled : Tree → Type 0
-EndsUnfilled (Lock l q m t) = EndsUnfilled t
-EndsUnfilled (Load v q k) = (x : ℕ) → EndsUnfilled (k x)
-EndsUnfilled (Test b r t) = EndsUnfilled t
-EndsUnfilled (End r fs cs) = fs ≡ []
-EndsUnfilled (Since r cs) = Unit {0}
-
-fed-unfilled : (t : Tree) (told : List ℕ) → EndsUnfilled t → fills_of (feed t told) ≡ []
-fed-unfilled (Lock l q m t) [] nf = refl
-fed-unfilled (Lock l q m t) (x ∷ xs) nf = fed-unfilled t xs nf
-fed-unfilled (Load v q k) [] nf = refl
-fed-unfilled (Load v q k) (x ∷ xs) nf = fed-unfilled (k (look v x)) xs (nf (look v x))
-fed-unfilled (Test true r t) xs nf = fed-unfilled t xs nf
-fed-unfilled (Test false r t) xs nf = refl
-fed-unfilled (End r fs cs) xs nf = nf
-fed-unfilled (Since r cs) xs nf = refl
-
-read-unfilled : (page i : ℕ) (host : Bool) → EndsUnfilled (read_word page i host)
-read-unfilled page i true = λ word. refl
-read-unfilled page i false = refl
-
-ends-unfilled : (p : Place) (c : Call) → EndsUnfilled (task_of p c).tree
-ends-unfilled p (call.HostRead page word) = λ pamt. read-unfilled page word (says_host pamt)
-ends-unfilled p (call.HostWrite page word value) = λ pamt. refl
-ends-unfilled p (call.PhymemPageRdmd page) = λ pamt. refl
-ends-unfilled p (call.MngCreate tdr hkid) = λ pamt key. refl
 
 read-plain : (page i : ℕ) (host : Bool) → EndsPlain (read_word page i host)
 read-plain page i true = λ word. refl
@@ -97,5 +69,4 @@ calls-have-leaves o m = record {
   row = of-row o;
   means = λ p c. means (record { machine = o.machine; lp = p }) c m;
   plain = λ p c told. fed-plain (task_of (record { machine = o.machine; lp = p }) c).tree told (ends-plain (record { machine = o.machine; lp = p }) c);
-  unfilled = λ p c told. fed-unfilled (task_of (record { machine = o.machine; lp = p }) c).tree told (ends-unfilled (record { machine = o.machine; lp = p }) c);
 }

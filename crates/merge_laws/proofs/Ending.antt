@@ -98,7 +98,7 @@ owed-looks ls m g h w w' mem cs r v a rs in_r may pl rd =
 fill-looks : (ls : Laws) (m : Machine) (g h : Grip) (w : World) (mem : Memory) (fs : List Change) (r : WordPlace) (v : View) → Apart g h → IsIn m r → MayFillAll m h w fs → Reads g w r v → look v ((changed_all fs mem).words r) ≡ look v (mem.words r)
 fill-looks ls m g h w mem fs r v a in_r may rd = looks-filled ls.places m h w mem fs r v in_r may (λ words q x fills. (ls.keep g h w words a).filled q r x v rd fills)
 
-plain-parts : (fs cs : List Change) → are_plain (fs ++ cs) ≡ true → (are_plain fs ≡ true) × (are_plain cs ≡ true)
+pub plain-parts : (fs cs : List Change) → are_plain (fs ++ cs) ≡ true → (are_plain fs ≡ true) × (are_plain cs ≡ true)
 plain-parts [] cs e = (refl, e)
 plain-parts (f ∷ fs) cs e =
     let rest = plain-parts fs cs (and-second (is_plain f) (are_plain (fs ++ cs)) e) in

@@ -14,6 +14,7 @@ pub mod Pieces
 pub mod LockPieces
 pub mod EndPieces
 pub mod Turns
+pub mod FillSteps
 pub mod Verdicts
 pub mod Merged
 pub mod Runs

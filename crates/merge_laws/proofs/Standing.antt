@@ -26,7 +26,7 @@ use Rattle.act_rules.specs.Stores.{OthersStoresKeepReads}
 use Rattle.step_core.specs.Items.{Table, Taken, PlaysTo}
 use Rattle.step_core.specs.Laws.{PagesChangeAlone}
 use Rattle.leaf_engine.specs.Changes.{Memory}
-use Rattle.leaf_engine.specs.Trees.{Tree, End, feed, changes_of, fills_of}
+use Rattle.leaf_engine.specs.Trees.{Tree, End, feed, changes_of}
 use Rattle.leaf_engine.specs.Changes.{Change, are_plain}
 use Rattle.leaf_engine.specs.Means.{Task, OfCall, MeansRow, IsHkid}
 use Rattle.leaf_engine.specs.Decides.{IsHand}
@@ -164,14 +164,14 @@ pub record RestFilling (o : Opening) (trees : ℕ → Call → Tree) (p : ℕ) (
   pub after_is : after ≡ standing (End f.reply f.fills f.changes) (stages.Answered f.reply) run.held None
   pub own : OwnTurns (leaf_for o trees p) o.machine (after_turn c cs replies after (last_reply after.stage after.held)) turns end_
 
+abbrev pub RestBy : Opening → (ℕ → Call → Tree) → ℕ → Position → List Piece → WordLp → Option Fill → List Call → Option Standing → Type 0
+RestBy o trees p pos ps end_ None cs run = Rest o trees p pos.at pos.owes ps end_
+RestBy o trees p pos ps end_ (Some f) (c ∷ cs) (Some run) = RestFilling o trees p c cs pos.at.replies run f ps end_
+RestBy o trees p pos ps end_ (Some f) [] run = ⊥
+RestBy o trees p pos ps end_ (Some f) (c ∷ cs) None = ⊥
+
 abbrev pub RestOf : Opening → (ℕ → Call → Tree) → ℕ → Position → List Piece → WordLp → Type 0
-RestOf o trees p pos ps end_ = by pos.fill pos.at.lines pos.at.run
-  where
-    by : Option Fill → List Call → Option Standing → Type 0
-    by None cs run = Rest o trees p pos.at pos.owes ps end_
-    by (Some f) (c ∷ cs) (Some run) = RestFilling o trees p c cs pos.at.replies run f ps end_
-    by (Some f) [] run = ⊥
-    by (Some f) (c ∷ cs) None = ⊥
+RestOf o trees p pos ps end_ = RestBy o trees p pos ps end_ pos.fill pos.at.lines pos.at.run
 
 -- all of them: memory with what is due laid over it shows the state
 pub record Stands (o : Opening) (trees : ℕ → Call → Tree) (s : State) (mem : Memory) (t : Table) (pos : ℕ → Position) : Type 0 where
