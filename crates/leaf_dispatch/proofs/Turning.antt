@@ -13,7 +13,7 @@ use Rattle.leaf_engine.specs.declared.events.Stage.TheVariants as stages
 use Rattle.leaf_engine.specs.Means.{Task}
 use Rattle.leaf_engine.specs.Turns.{Standing, Turned, has_ended, last_reply}
 use Rattle.leaf_engine.specs.OwnLists.{Piece, taken_in, TurnIn, TurnsInPieces, WordLp, running, after_turn, LpTurns}
-use Rattle.leaf_dispatch.specs.Bounds.{FewTries, stage_left, lines_left, events_left}
+use Rattle.leaf_dispatch.specs.Bounds.{FewTries, stage_left, left_of, events_left}
 use Rattle.leaf_dispatch.proofs.Lowering.{Lowers, turn-lowers}
 
 -- a call that goes on has something left to do
@@ -24,11 +24,11 @@ goes-on (stages.Answered reply) [] e = cc
 goes-on (stages.Answered reply) (h ∷ hs) e = refl
 
 -- the bound before a turn, and after it
-bound-before : (leaf : Call → Task) (c : Call) (cs : List Call) (run : Option Standing) → lines_left (c ∷ cs) run ≡ stage_left (most_tries c) (running (leaf c) run).stage (length (running (leaf c) run).held) + events_in cs
+bound-before : (leaf : Call → Task) (c : Call) (cs : List Call) (run : Option Standing) → left_of (c ∷ cs) run ≡ stage_left (most_tries c) (running (leaf c) run).stage (length (running (leaf c) run).held) + events_in cs
 bound-before leaf c cs None = omega arith
 bound-before leaf c cs (Some s) = refl
 
-none-begun : (cs : List Call) → lines_left cs None ≡ events_in cs
+none-begun : (cs : List Call) → left_of cs None ≡ events_in cs
 none-begun [] = refl
 none-begun (c ∷ cs) = refl
 
@@ -50,7 +50,7 @@ lines-move : TurnsInPieces → {B : Type 0} (did : List Taken → B → Type 0) 
 lines-move law did bench leaf m c cs run rs s s' q result is going few t after =
     let told = law.told m s s' t.0 result t.2 in
     let lower : Lowers (most_tries c) s s' = turn-lowers m (most_tries c) s s' t.0 result.event few t.2.turn in
-    let before : stage_left (most_tries c) s.stage (length s.held) + events_in cs ≡ lines_left (c ∷ cs) run =
+    let before : stage_left (most_tries c) s.stage (length s.held) + events_in cs ≡ left_of (c ∷ cs) run =
     ap (λ (z : Standing). stage_left (most_tries c) z.stage (length z.held) + events_in cs) is ∙ sym (bound-before leaf c cs run) in
     let left : events_left q ≡ events_left (after_turn c cs rs s' result.reply) = ap events_left after in
     record {

@@ -27,10 +27,11 @@ stage_left n stage.Trying held = 2 * n + 1 - held
 stage_left n (stage.Undoing name at) held = held + 1
 stage_left n (stage.Answered reply) held = held
 
-abbrev pub lines_left : List Call → Option Standing → ℕ
-lines_left [] run = 0
-lines_left (c ∷ cs) None = events_in (c ∷ cs)
-lines_left (c ∷ cs) (Some s) = stage_left (most_tries c) s.stage (length s.held) + events_in cs
+-- with these lines left, and the run of the first if it has begun
+abbrev pub left_of : List Call → Option Standing → ℕ
+left_of [] run = 0
+left_of (c ∷ cs) None = events_in (c ∷ cs)
+left_of (c ∷ cs) (Some s) = stage_left (most_tries c) s.stage (length s.held) + events_in cs
 
 abbrev pub events_left : WordLp → ℕ
-events_left p = lines_left p.lines p.run
+events_left p = left_of p.lines p.run

@@ -1,5 +1,6 @@
 -- What contracts see of a leaf of any call.
 use Rattle.std.specs.Prelude.{ℕ, ◌+◌, ◌-◌, ◌*◌, Bool, if◌then◌else◌, List, length}
+use Rattle.leaf_engine.specs.declared.plans.TheConstants.{ANSWERS, WRITES}
 use Rattle.leaf_engine.specs.Trees.{Tree, feed}
 use Rattle.leaf_engine.specs.Means.{Task, MeansRow}
 use Rattle.first_leaves.specs.HostTrees.{host_read_task, host_write_task, rdmd_task}
@@ -9,7 +10,8 @@ use Rattle.first_leaves.specs.TdMeanings.{create-means}
 use Rattle.leaf_dispatch.specs.declared.leaves.AnyLeaf.{AnyLeaf}
 use Rattle.leaf_dispatch.specs.declared.leaves.AnyLeaf.TheVariants as leaf
 
--- what it has to do, what is left of its tree, and how much it can still give and try
+-- its task, what is left of its tree, how many changes it has handed out, whether it waits for a word, and how much it can
+-- still give and try
 pub record LeafSeen : Type 0 where
   pub task : Task
   pub rest : Tree
@@ -25,10 +27,11 @@ planned t told written waits = record {
   rest = feed t.tree told;
   written = written;
   waits = waits;
-  bound = 2 * (32 - length told) + (16 - written) - (if waits then 1 else 0);
-  tries = 32 - length told;
+  bound = 2 * (ANSWERS - length told) + (WRITES - written) - (if waits then 1 else 0);
+  tries = ANSWERS - length told;
 }
 
+-- kind by kind
 abbrev pub leaf_seen : AnyLeaf → LeafSeen
 leaf_seen (leaf.HostRead l) = planned (host_read_task l.plan.place l.plan.page l.plan.word) l.told.items l.written l.waits
 leaf_seen (leaf.HostWrite l) = planned (host_write_task l.plan.place l.plan.page l.plan.word l.plan.value) l.told.items l.written l.waits

@@ -8,6 +8,7 @@ use Rattle.leaf_dispatch.specs.Leaves.{leaf_seen}
 use Rattle.leaf_dispatch.specs.Bounds.{FewTries}
 use Rattle.leaf_dispatch.specs.declared.running.Running.{Running}
 
+-- how far it is
 abbrev pub standing_of : Running → Standing
 standing_of r = standing (leaf_seen r.run.leaf).rest r.run.stage r.run.held.items r.run.hasher
 

@@ -6,6 +6,7 @@ use Rattle.leaf_dispatch.specs.Table.{task_of}
 use Rattle.leaf_dispatch.specs.Running.{run_seen}
 use Rattle.leaf_dispatch.specs.declared.states.LpState.{LpState}
 
+-- where it is in its calls
 abbrev pub seen_of : LpState → WordLp
 seen_of s = record { lines = s.lines.now; run = run_seen s.run; replies = s.replies.items }
 

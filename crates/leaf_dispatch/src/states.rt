@@ -6,7 +6,7 @@ ghost use Rattle.leaf_dispatch.specs.Running.{IsRunAt};
 ghost use Rattle.leaf_dispatch.specs.Kept.{IsRunAt-prop};
 
 use crate::running::{Running, present_run};
-use leaf_engine::{Event, Place, Processor, RunTurn, Turn, turns_in_pieces};
+use leaf_engine::{Place, Processor, RunTurn, Turn, turns_in_pieces};
 use std::alloc::Global;
 use step_core::Bench;
 use td_words::{Call, Machine, OutOfMemory, Reply};
