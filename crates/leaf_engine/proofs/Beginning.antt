@@ -1,5 +1,5 @@
 -- A run begins where its processor does.
-use Rattle.std.proofs.Common.{◌≡◌, ℕ, zero, suc, ◌+◌, ◌<◌, List, [], ◌∷◌, length, Option, None, refl, ap, sym, subst, arith}
+use Rattle.std.proofs.Common.{◌≡◌, ℕ, zero, suc, List, [], length, Option, None, refl, ap, sym, subst, arith}
 use Rattle.flat_core.specs.Processor.{Held, Progress}
 use Rattle.td_words.specs.declared.replies.Reply.{Reply}
 use Rattle.leaf_engine.specs.declared.events.Stage.TheVariants as stages

@@ -1,5 +1,5 @@
 -- Own lists: the word steps that a logical processor makes, in its order, with their answers, and which of them are events.
-use Rattle.std.specs.Prelude.{◌≡◌, ℕ, zero, suc, ◌+◌, false, Option, Some, None, List, [], ◌∷◌, ◌++◌, length, map}
+use Rattle.std.specs.Prelude.{◌≡◌, ℕ, zero, suc, ◌+◌, false, Option, Some, None, List, [], ◌∷◌, ◌++◌, map}
 use Rattle.td_words.specs.declared.machines.Machine.{Machine}
 use Rattle.td_words.specs.declared.calls.Call.{Call}
 use Rattle.td_words.specs.declared.replies.Reply.{Reply}
@@ -10,8 +10,8 @@ use Rattle.leaf_engine.specs.declared.events.Event.{Event}
 use Rattle.leaf_engine.specs.declared.events.RunTurn.{RunTurn}
 use Rattle.leaf_engine.specs.declared.events.Stage.{Stage}
 use Rattle.leaf_engine.specs.declared.events.Stage.TheVariants as stage
-use Rattle.leaf_engine.specs.Changes.{Change, Put, PutHash, Raise, Clear, Copy, Swap}
-use Rattle.leaf_engine.specs.Trees.{Tree, Lock, Load, Test, End, Since, settle, passed}
+use Rattle.leaf_engine.specs.Changes.{Change, Clear, Copy}
+use Rattle.leaf_engine.specs.Trees.{Tree, End, Since, settle, passed}
 use Rattle.leaf_engine.specs.Means.{Task}
 use Rattle.leaf_engine.specs.Turns.{Standing, standing, Goes, TurnBy, IsTurn, has_ended, last_reply}
 

@@ -1,39 +1,38 @@
 -- An act in a merge: its event's item, and the stores that are owed after it.
-use Rattle.std.proofs.Common.{◌≡◌, ◌⊎◌, ℕ, zero, suc, ◌+◌, ◌-◌, ◌%◌, ◌^◌, ◌<◌, Bool, true, false, ◌==◌, ◌&&◌, cond, List, [], ◌∷◌, ◌++◌, length, Option, Some, None, refl, ap, sym, ◌∙◌, subst, inl, inr, arith}
-use Rattle.std.proofs.lemmas.Bool.{eq-eqb, eqb-true}
+use Rattle.std.proofs.Common.{◌≡◌, ℕ, ◌-◌, ◌<◌, Bool, true, false, ◌==◌, List, ◌∷◌, length, Option, Some, None, refl, ap, sym, ◌∙◌, subst}
+use Rattle.std.proofs.lemmas.Bool.{eqb-true}
 use Rattle.td_words.specs.declared.machines.Machine.{Machine}
 use Rattle.td_words.specs.declared.calls.Call.{Call}
 use Rattle.td_words.specs.declared.replies.Reply.{Reply}
-use Rattle.td_words.specs.Place.{WordPlace, IsIn, address, same_place}
+use Rattle.td_words.specs.Place.{WordPlace, IsIn, address}
 use Rattle.mrtd_measure.specs.declared.measures.Measure.{Measure}
 use Rattle.flat_core.specs.World.{World, put}
-use Rattle.flat_core.specs.Processor.{LockId, Held, Trying, Answered, Lp}
+use Rattle.flat_core.specs.Processor.{Held, Answered}
 use Rattle.flat_core.specs.Opening.{Opening}
-use Rattle.flat_core.specs.Row.{Row, Move, Attempts, Undoes, Refuses, Succeeds, Releases, Rests, next}
+use Rattle.flat_core.specs.Row.{Move, Attempts, Undoes, Refuses, Succeeds, Releases, Rests}
 use Rattle.flat_core.specs.Table.{row_of}
 use Rattle.flat_core.specs.Event.{State, OfCall, next_event, lines_left, event, call_world}
-use Rattle.word_rules.specs.Guards.{Apart, Grip}
-use Rattle.word_rules.specs.Rules.{View, Grade}
+use Rattle.word_rules.specs.Guards.{Grip}
+use Rattle.word_rules.specs.Rules.{Grade}
 use Rattle.word_rules.specs.Views.{look}
-use Rattle.word_rules.specs.Permissions.{Reads, Owes, Writes, Respects}
+use Rattle.word_rules.specs.Permissions.{Owes, Writes, Respects}
 use Rattle.step_core.specs.Items.{Table}
 use Rattle.leaf_engine.specs.declared.events.RunTurn.{RunTurn}
 use Rattle.leaf_engine.specs.declared.events.Stage.TheVariants as stages
 use Rattle.leaf_engine.specs.Changes.{Memory}
 use Rattle.leaf_engine.specs.Trees.{Tree}
-use Rattle.leaf_engine.specs.Means.{Task, IsHkid}
 use Rattle.leaf_engine.specs.Decides.{IsHand}
 use Rattle.leaf_engine.specs.Tables.{IsMemory}
 use Rattle.leaf_engine.specs.Turns.{Standing, last_reply}
 use Rattle.leaf_engine.specs.Shown.{EndsRow}
-use Rattle.leaf_engine.specs.Calls.{IsCallAt, After}
-use Rattle.leaf_engine.specs.OwnLists.{WordLp, after_turn}
+use Rattle.leaf_engine.specs.Calls.{After}
+use Rattle.leaf_engine.specs.OwnLists.{after_turn}
 use Rattle.leaf_engine.proofs.Turning.{instant, ends}
 use Rattle.merge_laws.proofs.Virtual.{table_of, holds-memory}
-use Rattle.merge_laws.proofs.Stores.{Due, last_at, later, or_else, laid, laid-one, laid-none, laid-same, last-each, EachDue, OwesAt, FillsAt}
+use Rattle.merge_laws.proofs.Stores.{Due, last_at, or_else, laid, laid-one, laid-none, laid-same, last-each, EachDue, OwesAt, FillsAt}
 use Rattle.merge_laws.proofs.Keeping.{Keeps, keeps-each, keeps-same}
 use Rattle.merge_laws.proofs.Holding.{bare}
-use Rattle.merge_laws.proofs.Standing.{Laws, leaf_for, AreTrees, Known, RunsAt, on_table, Position, back, Holds, Stands}
+use Rattle.merge_laws.proofs.Standing.{Laws, leaf_for, AreTrees, Known, RunsAt, on_table, Position, back, Stands}
 use Rattle.merge_laws.proofs.Others.{shown-of}
 use Rattle.merge_laws.proofs.Own.{AttemptTdr, tdrs-after, stands-after, world-of-event, at-own, at-other, Spares, gathered, none-due}
 use Rattle.merge_laws.proofs.LockSteps.{engine, turned-round, Moved}

@@ -1,53 +1,48 @@
 -- The pieces in which a leaf's turn ends: the refusal or the act, by a load, by its first store, or without a word step.
-use Rattle.std.proofs.Common.{◌≡◌, ◌⊎◌, ℕ, zero, suc, ◌+◌, ◌-◌, ◌%◌, ◌^◌, ◌<◌, Bool, true, false, ◌==◌, ◌&&◌, if◌then◌else◌, List, [], ◌∷◌, ◌++◌, map, length, Option, Some, None, refl, ap, sym, ◌∙◌, subst, inl, inr, arith}
+use Rattle.std.proofs.Common.{◌≡◌, ℕ, ◌+◌, ◌%◌, ◌^◌, ◌<◌, Bool, true, false, ◌==◌, List, [], ◌∷◌, ◌++◌, map, length, Option, Some, None, refl, ap, sym, ◌∙◌, subst, inl, inr}
 use Rattle.std.proofs.lemmas.Bool.{eqb-true}
 use Rattle.td_words.specs.declared.machines.Machine.{Machine}
 use Rattle.td_words.specs.declared.calls.Call.{Call}
 use Rattle.td_words.specs.declared.replies.Reply.{Reply}
 use Rattle.td_words.specs.Place.{WordPlace, IsIn, address, same_place}
-use Rattle.td_words.specs.Laws.{PlacesInjective}
 use Rattle.mrtd_measure.specs.declared.measures.Measure.{Measure}
 use Rattle.flat_core.specs.World.{World, put}
-use Rattle.flat_core.specs.Processor.{Held, Lp}
+use Rattle.flat_core.specs.Processor.{Held}
 use Rattle.flat_core.specs.Opening.{Opening}
-use Rattle.flat_core.specs.Row.{Move, next}
+use Rattle.flat_core.specs.Row.{next}
 use Rattle.flat_core.specs.Table.{row_of}
 use Rattle.flat_core.specs.Event.{State, event}
 use Rattle.word_rules.specs.Guards.{Grip}
 use Rattle.word_rules.specs.Rules.{Grade}
-use Rattle.word_rules.specs.Permissions.{Writes, Owes}
+use Rattle.word_rules.specs.Permissions.{Writes}
 use Rattle.lock_words.specs.LockWords.{put_word}
 use Rattle.step_core.specs.declared.steps.WordStep.{WordStep}
 use Rattle.step_core.specs.declared.steps.WordStep.TheVariants as step
-use Rattle.step_core.specs.Words.{after_step, answer_of}
+use Rattle.step_core.specs.Words.{after_step}
 use Rattle.step_core.specs.Items.{Table, Taken, Stepped}
-use Rattle.leaf_engine.specs.declared.events.Event.{Event as RunEvent}
 use Rattle.leaf_engine.specs.declared.events.RunTurn.{RunTurn}
 use Rattle.leaf_engine.specs.declared.events.Stage.TheVariants as stages
-use Rattle.leaf_engine.specs.declared.needs.Need.TheVariants as need
 use Rattle.leaf_engine.specs.declared.needs.Write.{Write}
 use Rattle.leaf_engine.specs.declared.needs.Write.TheVariants as write
 use Rattle.leaf_engine.specs.Changes.{Memory, Change, Put, PutHash, Raise, Clear, Copy, Swap, changed, changed_all, is_plain, are_plain}
-use Rattle.leaf_engine.specs.Trees.{Tree, Lock, Load, Test, End, Since, feed, changes_of}
-use Rattle.leaf_engine.specs.Means.{Task, Instant, work_of, hold, MayAct, MayFillAll, MayChange, MayOweAll}
-use Rattle.leaf_engine.specs.Decides.{Gives, IsHand}
-use Rattle.leaf_engine.specs.Items.{IsWritten, IsChanged, AreChanged}
-use Rattle.leaf_engine.specs.Turns.{Standing, last_reply}
+use Rattle.leaf_engine.specs.Trees.{Tree, Lock, Load, Test, End, Since, feed}
+use Rattle.leaf_engine.specs.Means.{Task, Instant, work_of, hold, MayAct, MayFillAll, MayOweAll}
+use Rattle.leaf_engine.specs.Items.{IsWritten, IsChanged}
+use Rattle.leaf_engine.specs.Turns.{Standing}
 use Rattle.leaf_engine.specs.Follows.{granted, Comes}
-use Rattle.leaf_engine.specs.OwnLists.{Piece, Quiet, Marked, Wordless, joined, WordLp, after_turn, OwnTurns}
+use Rattle.leaf_engine.specs.OwnLists.{Piece, Quiet, joined, WordLp, after_turn, OwnTurns}
 use Rattle.leaf_engine.proofs.Following.{leaves-follow-rows}
 use Rattle.leaf_engine.proofs.Turning.{instant, at-instant}
 use Rattle.leaf_engine.proofs.Changing.{word_put}
 use Rattle.merge_laws.proofs.Virtual.{table_of}
-use Rattle.merge_laws.proofs.Stores.{Due, due, last_at, or_else, laid-none, stores_of, all_stores, AreStores, changed-is, or-test, none-is, owed-items}
+use Rattle.merge_laws.proofs.Stores.{Due, last_at, or_else, laid-none, stores_of, all_stores, AreStores, changed-is, or-test, none-is}
 use Rattle.merge_laws.proofs.Holding.{bare}
-use Rattle.merge_laws.proofs.Standing.{Laws, leaf_for, AreTrees, on_table, Position, back, Rest, Stands}
+use Rattle.merge_laws.proofs.Standing.{Laws, leaf_for, on_table, Position, back, Rest}
 use Rattle.merge_laws.proofs.Others.{shown-of, hold-is}
 use Rattle.merge_laws.proofs.Own.{none-due}
 use Rattle.merge_laws.proofs.LockSteps.{turned-round, Moved}
 use Rattle.merge_laws.proofs.Acts.{act-step}
 use Rattle.merge_laws.proofs.Ending.{AtEnd, filled_of, first_of, owes_of, HasFilled, one-act}
-use Rattle.merge_laws.proofs.Pieces.{Came}
 use Rattle.merge_laws.proofs.LockPieces.{AtTurn}
 
 -- what it may change

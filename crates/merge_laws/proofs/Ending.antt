@@ -1,46 +1,42 @@
 -- How a leaf's tree ends: the refusal, or the act, with what its first item stores and what is owed then.
-use Rattle.std.proofs.Common.{◌≡◌, ◌⊎◌, ℕ, zero, suc, ◌+◌, ◌-◌, ◌%◌, ◌^◌, ◌<◌, Bool, true, false, ◌==◌, ◌&&◌, cond, List, [], ◌∷◌, ◌++◌, length, Option, Some, None, refl, ap, sym, ◌∙◌, subst, inl, inr, arith}
+use Rattle.std.proofs.Common.{◌≡◌, ℕ, ◌+◌, ◌%◌, ◌^◌, ◌<◌, Bool, true, false, ◌&&◌, List, [], ◌∷◌, ◌++◌, length, Option, Some, None, refl, ap, sym, ◌∙◌, subst, inl, inr}
 use Rattle.td_words.specs.declared.machines.Machine.{Machine}
 use Rattle.td_words.specs.declared.calls.Call.{Call}
 use Rattle.td_words.specs.declared.replies.Reply.{Reply}
 use Rattle.td_words.specs.Place.{WordPlace, IsIn, address}
-use Rattle.td_words.specs.Laws.{PlacesInjective}
-use Rattle.mrtd_measure.specs.declared.measures.Measure.{Measure}
 use Rattle.flat_core.specs.World.{World}
-use Rattle.flat_core.specs.Processor.{LockId, Held, Phase, Trying, Answered, Progress, Entering, Lp}
+use Rattle.flat_core.specs.Processor.{Held, Answered, Entering, Lp}
 use Rattle.flat_core.specs.Opening.{Opening}
 use Rattle.flat_core.specs.Row.{Row, Move, Attempts, Undoes, Refuses, Succeeds, Releases, Rests, next}
 use Rattle.flat_core.specs.Table.{row_of}
-use Rattle.flat_core.specs.Event.{State, OfCall, next_event, event, call_world, call_lp, settle, settled, succeeded, is_granted}
+use Rattle.flat_core.specs.Event.{State, OfCall, next_event, event, call_lp, settle, settled, succeeded, is_granted}
 use Rattle.word_rules.specs.Guards.{Apart, Grip}
 use Rattle.word_rules.specs.Rules.{View, Grade, KeepsNothing}
-use Rattle.word_rules.specs.Views.{look, IsKept}
-use Rattle.word_rules.specs.Permissions.{Reads, Owes, Writes, Fills, Respects}
+use Rattle.word_rules.specs.Views.{look}
+use Rattle.word_rules.specs.Permissions.{Reads, Owes, Fills, Respects}
 use Rattle.word_rules.specs.Cells.{Shows}
-use Rattle.lock_words.specs.LockWords.{put_word}
 use Rattle.step_core.specs.Items.{Table}
 use Rattle.leaf_engine.specs.declared.events.RunTurn.{RunTurn}
 use Rattle.leaf_engine.specs.declared.events.Stage.TheVariants as stages
 use Rattle.leaf_engine.specs.declared.needs.Need.TheVariants as need
 use Rattle.leaf_engine.specs.Changes.{Memory, Change, Put, PutHash, Raise, Clear, Copy, Swap, changed, changed_all, is_plain, are_plain}
 use Rattle.leaf_engine.specs.Trees.{Tree, Lock, Load, Test, End, Since, feed, changes_of}
-use Rattle.leaf_engine.specs.Means.{Task, Instant, Work, IsAt, work_of, hold, Acts, MayAct, MayFillAll, MayChange, MayOweAll, acted, LocksStay, MeansRow}
+use Rattle.leaf_engine.specs.Means.{Task, Instant, Work, IsAt, work_of, hold, Acts, MayAct, MayFillAll, MayChange, MayOweAll, acted, LocksStay}
 use Rattle.leaf_engine.specs.Decides.{Gives}
 use Rattle.leaf_engine.specs.Tables.{IsMemory}
 use Rattle.leaf_engine.specs.Turns.{Standing, last_reply}
 use Rattle.leaf_engine.specs.Follows.{granted, Current, Comes}
-use Rattle.leaf_engine.specs.Shown.{EndsRow, move_due, locks_held}
+use Rattle.leaf_engine.specs.Shown.{EndsRow, move_due}
 use Rattle.leaf_engine.specs.Calls.{IsCallAt}
 use Rattle.leaf_engine.proofs.Following.{leaves-follow-rows}
 use Rattle.leaf_engine.proofs.Turning.{instant, at-instant, due-is}
-use Rattle.leaf_engine.proofs.Showing.{EndsWith, ends-with}
 use Rattle.merge_laws.proofs.Virtual.{table_of}
 use Rattle.merge_laws.proofs.Stores.{Due, last_at, later, or_else, stores_of, all_stores, EachDue, OwesAt, FillsAt, last-each, last-append, or-later, changed-is, one-is, changed-rest, filled-stores, looks-owed, looks-filled}
 use Rattle.merge_laws.proofs.Keeping.{Keeps, keeps-each, keeps-same, owed-keeps}
 use Rattle.merge_laws.proofs.Holding.{bare}
 use Rattle.merge_laws.proofs.Standing.{Laws, leaf_for, AreTrees, Known, on_table, Position, back, Stands}
 use Rattle.merge_laws.proofs.Others.{shown-of, hold-is}
-use Rattle.merge_laws.proofs.Own.{lp-of-event, Spares}
+use Rattle.merge_laws.proofs.Own.{lp-of-event}
 use Rattle.merge_laws.proofs.LockSteps.{turned-round}
 use Rattle.merge_laws.proofs.Acts.{IsAct, CanWrite, OneAct}
 
@@ -300,10 +296,10 @@ one-act ls o trees s mem t t' pos p c now reply run run' result are known sd i n
         filled = λ xs x apart in_x fill. (
           unwritten first x in_x (last_at first x) refl (λ y z. no-write-filled xs x apart fill first y written z) same,
           makes x in_x
-          ∙ untouched owes first (all_stores fs mem) x
-          (λ y z. (let may = last-each ls.places (OwesAt m mine (row.act s.world)) owes x y (keeps-each m mine (row.act s.world) base owes owed) z in (ls.acts (bare xs) mine s.world (row.act s.world) apart rs).fills_later x may.1.0 fill may.1.1))
-          (λ y z. no-write-filled xs x apart fill first y written z)
-          (λ y z. (let may = last-each ls.places (FillsAt m mine s.world) (all_stores fs mem) x y (filled-stores m mine s.world mem fs fills) z in (ls.words (bare xs) mine s.world apart).fills_fills x fill may.1)),
+              ∙ untouched owes first (all_stores fs mem) x
+              (λ y z. (let may = last-each ls.places (OwesAt m mine (row.act s.world)) owes x y (keeps-each m mine (row.act s.world) base owes owed) z in (ls.acts (bare xs) mine s.world (row.act s.world) apart rs).fills_later x may.1.0 fill may.1.1))
+              (λ y z. no-write-filled xs x apart fill first y written z)
+              (λ y z. (let may = last-each ls.places (FillsAt m mine s.world) (all_stores fs mem) x y (filled-stores m mine s.world mem fs fills) z in (ls.words (bare xs) mine s.world apart).fills_fills x fill may.1)),
         );
       };
       makes = makes;
@@ -338,7 +334,7 @@ one-act ls o trees s mem t t' pos p c now reply run run' result are known sd i n
         let rs : Respects mine s.world (row.act s.world) = subst (λ (g : Grip). Respects g s.world (row.act s.world)) grip ac.respects in
         let fills : MayFillAll m mine s.world fs = subst (λ (g : Grip). MayFillAll m g s.world fs) grip ac.fills_allowed in (
           succeeded fs [] [] [] h (plain-parts fs [] pl).0 refl (sym q ∙ ac.reply_is) ac.shows ac.locks_stay rs
-          (λ xs v x apart in_x reads. fill-looks ls m (bare xs) mine s.world mem fs x v apart in_x fills reads) (λ x. refl) fills tt tt hf same,
+              (λ xs v x apart in_x reads. fill-looks ls m (bare xs) mine s.world mem fs x v apart in_x fills reads) (λ x. refl) fills tt tt hf same,
           refl,
         )
     ends-success r fs (c1 ∷ cs) h q pl ac may hf same =
@@ -350,13 +346,13 @@ one-act ls o trees s mem t t' pos p c now reply run run' result are known sd i n
         let pl1 : is_plain c1 ≡ true = and-first (is_plain c1) (are_plain cs) pls.1 in
         let pl2 : are_plain cs ≡ true = and-second (is_plain c1) (are_plain cs) pls.1 in (
           succeeded fs (c1 ∷ cs) (stores_of c1 mem1) (all_stores cs (changed c1 mem1)) h pls.0 pls.1 (sym q ∙ ac.reply_is) ac.shows ac.locks_stay rs
-          (λ xs v x apart in_x reads.
+              (λ xs v x apart in_x reads.
               owed-looks ls m (bare xs) mine s.world (row.act s.world) (changed c1 mem1) cs x v apart rs in_x may'.1 pl2 reads
               ∙ (act-looks ls m (bare xs) mine s.world mem1 c1 x v apart may'.0 pl1 reads ∙ fill-looks ls m (bare xs) mine s.world mem fs x v apart in_x fills reads))
-          (λ x. last-append (stores_of c1 mem1) (all_stores cs (changed c1 mem1)) x) fills
-          (act-written m mine s.world mem1 c1 may'.0 pl1)
-          (keeps-same m mine mine (row.act s.world) (row.act s.world) (changed c1 mem1).words (λ x. or_else (last_at (stores_of c1 mem1) x) (mem1.words x)) (all_stores cs (changed c1 mem1))
-          (λ x g owes. owes) (λ x g in_x owes. one-is m c1 mem1 x in_x pl1) (owed-keeps m mine (row.act s.world) (changed c1 mem1) cs may'.1 pl2)) hf same,
+              (λ x. last-append (stores_of c1 mem1) (all_stores cs (changed c1 mem1)) x) fills
+              (act-written m mine s.world mem1 c1 may'.0 pl1)
+              (keeps-same m mine mine (row.act s.world) (row.act s.world) (changed c1 mem1).words (λ x. or_else (last_at (stores_of c1 mem1) x) (mem1.words x)) (all_stores cs (changed c1 mem1))
+              (λ x g owes. owes) (λ x g in_x owes. one-is m c1 mem1 x in_x pl1) (owed-keeps m mine (row.act s.world) (changed c1 mem1) cs may'.1 pl2)) hf same,
           refl,
         )
 
@@ -367,8 +363,8 @@ one-act ls o trees s mem t t' pos p c now reply run run' result are known sd i n
         let rs : Respects mine s.world (row.act s.world) = subst (λ (g : Grip). Respects g s.world (row.act s.world)) grip ac.respects in
         let may' : MayOweAll m mine (k.act s.world) mem cs = subst (λ (g : Grip). MayOweAll m g (k.act s.world) mem cs) grip may in (
           succeeded [] cs [] (all_stores cs mem) h refl pl (sym q ∙ ac.reply_is) ac.shows ac.locks_stay rs
-          (λ xs v x apart in_x reads. owed-looks ls m (bare xs) mine s.world (row.act s.world) mem cs x v apart rs in_x may' pl reads)
-          (λ x. last-append [] (all_stores cs mem) x) tt tt (owed-keeps m mine (row.act s.world) mem cs may' pl) hf same,
+              (λ xs v x apart in_x reads. owed-looks ls m (bare xs) mine s.world (row.act s.world) mem cs x v apart rs in_x may' pl reads)
+              (λ x. last-append [] (all_stores cs mem) x) tt tt (owed-keeps m mine (row.act s.world) mem cs may' pl) hf same,
           refl,
         )
 

@@ -1,23 +1,21 @@
 -- A leaf that stores before its act: its fills, store by store, and then its act.
-use Rattle.std.proofs.Common.{◌≡◌, ◌⊎◌, ℕ, zero, suc, ◌+◌, ◌-◌, ◌^◌, ◌<◌, Bool, true, false, ◌==◌, cond, if◌then◌else◌, List, [], ◌∷◌, ◌++◌, map, length, Option, Some, None, refl, ap, sym, ◌∙◌, subst, inl, inr, arith, append_assoc}
+use Rattle.std.proofs.Common.{◌≡◌, ℕ, ◌<◌, Bool, true, false, ◌==◌, if◌then◌else◌, List, [], ◌∷◌, ◌++◌, map, length, Option, Some, None, refl, ap, sym, ◌∙◌, subst, append_assoc}
 use Rattle.std.proofs.lemmas.Bool.{eqb-true}
 use Rattle.std.proofs.lemmas.List.{append-nil}
 use Rattle.td_words.specs.declared.machines.Machine.{Machine}
 use Rattle.td_words.specs.declared.calls.Call.{Call}
-use Rattle.td_words.specs.declared.replies.Reply.{Reply}
 use Rattle.td_words.specs.Place.{WordPlace, IsIn, address, same_place}
-use Rattle.mrtd_measure.specs.declared.measures.Measure.{Measure}
-use Rattle.flat_core.specs.World.{World, put}
+use Rattle.flat_core.specs.World.{put}
 use Rattle.flat_core.specs.Opening.{Opening}
 use Rattle.flat_core.specs.Table.{row_of}
-use Rattle.flat_core.specs.Event.{State, event}
+use Rattle.flat_core.specs.Event.{State}
 use Rattle.word_rules.specs.Guards.{Apart, Grip}
 use Rattle.word_rules.specs.Rules.{Grade, KeepsNothing, KeepsPage, KeepsRights, Whole, spares}
-use Rattle.word_rules.specs.Permissions.{Reads, Owes, Fills}
+use Rattle.word_rules.specs.Permissions.{Reads}
 use Rattle.lock_words.specs.LockWords.{put_word}
 use Rattle.step_core.specs.declared.steps.WordStep.{WordStep}
 use Rattle.step_core.specs.declared.steps.WordStep.TheVariants as step
-use Rattle.step_core.specs.Words.{after_step, answer_of}
+use Rattle.step_core.specs.Words.{after_step}
 use Rattle.step_core.specs.Items.{Table, Taken, Stepped, Swapped, Missed}
 use Rattle.leaf_engine.specs.declared.events.Event.TheVariants as events
 use Rattle.leaf_engine.specs.declared.events.Stage.TheVariants as stages
@@ -25,23 +23,23 @@ use Rattle.leaf_engine.specs.declared.needs.Need.TheVariants as need
 use Rattle.leaf_engine.specs.Changes.{Memory, Change, is_plain, are_plain, changed, changed_all}
 use Rattle.leaf_engine.specs.Trees.{Tree, End, feed, settle, changes_of}
 use Rattle.leaf_engine.specs.Decides.{Gives}
-use Rattle.leaf_engine.specs.Means.{MayFillAll, MayAct, MayOweAll}
+use Rattle.leaf_engine.specs.Means.{MayFillAll}
 use Rattle.leaf_engine.specs.Items.{IsChanged, AreChanged}
 use Rattle.leaf_engine.specs.Turns.{Standing, standing, last_reply}
 use Rattle.leaf_engine.specs.OwnLists.{Piece, Quiet, Marked, Wordless, joined, marked_behind, WordLp, after_turn, OwnTurns}
 use Rattle.leaf_engine.proofs.Changing.{word_put}
-use Rattle.merge_laws.proofs.Stores.{Due, due, last_at, later, or_else, laid-none, laid-same, last-append, last-each, each-append, EachDue, OwesAt, FillsAt, AreStores, stores_of, all_stores, owed-items}
-use Rattle.merge_laws.proofs.Filling.{Todo, Puts, Takes, all_todos, AreTodos, dues_of, EachTodo, dues-same, fills-due}
+use Rattle.merge_laws.proofs.Stores.{Due, due, last_at, later, or_else, laid-none, laid-same, last-append, each-append, FillsAt, AreStores, all_stores, owed-items}
+use Rattle.merge_laws.proofs.Filling.{Todo, Puts, Takes, AreTodos, dues_of, EachTodo, dues-same, fills-due}
 use Rattle.merge_laws.proofs.Keeping.{and_parts}
 use Rattle.merge_laws.proofs.Holding.{bare}
-use Rattle.merge_laws.proofs.Standing.{Laws, leaf_for, Fill, Position, seen_by, back, FillHolds, Pending, RestFilling, StandsAt, on_table, Holds, Stands}
-use Rattle.merge_laws.proofs.Own.{at-own, at-other, whole, apart-from, none-due, NobodyElse}
+use Rattle.merge_laws.proofs.Standing.{Laws, leaf_for, Fill, Position, seen_by, back, FillHolds, RestFilling, StandsAt, on_table, Stands}
+use Rattle.merge_laws.proofs.Own.{at-own, at-other, whole, apart-from, none-due}
 use Rattle.merge_laws.proofs.LockSteps.{turned-round}
 use Rattle.merge_laws.proofs.Ending.{AtEnd, plain-parts, filled_of, first_of, owes_of, HasFilled}
 use Rattle.merge_laws.proofs.QuietSteps.{rearranged, store-step}
 use Rattle.merge_laws.proofs.Pieces.{Came, came-as, answers-as, PieceAnswers}
 use Rattle.merge_laws.proofs.LockPieces.{AtTurn}
-use Rattle.merge_laws.proofs.EndPieces.{EndMay, end-may, end-moved, rest-owed, ActItem, act-item, act-table}
+use Rattle.merge_laws.proofs.EndPieces.{EndMay, end-may, end-moved, rest-owed, act-item, act-table}
 use Rattle.merge_laws.proofs.Turns.{told-tree}
 
 -- it stays where it is, but for its fills

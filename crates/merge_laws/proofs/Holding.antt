@@ -22,7 +22,7 @@ use Rattle.word_rules.specs.Rules.{View, TdLock, tries}
 use Rattle.word_rules.specs.Spots.{Spot, spot, is_current, is_empty, tdcs_classes, control_class}
 use Rattle.word_rules.specs.Views.{look}
 use Rattle.word_rules.specs.Permissions.{MayAt, Reads, Tries, Respects}
-use Rattle.lock_words.specs.Grips.{HoldsTdr, HoldTdrs, holds, holds_alone, operation_locks, locks_of, reaches_as, reaches, none_reaches, has_of, sole_of, clear_of, grip_with, grip_of, IsExclusive, GripsAreApart}
+use Rattle.lock_words.specs.Grips.{HoldsTdr, holds, holds_alone, operation_locks, locks_of, reaches_as, reaches, none_reaches, has_of, sole_of, clear_of, grip_with, grip_of, IsExclusive, GripsAreApart}
 use Rattle.lock_words.specs.LockWords.{tdcs_of, place_of, TdStands, Stands, TdLocksStay}
 use Rattle.lock_words.proofs.Sums.{by_test}
 use Rattle.lock_words.proofs.Shown.{tdcs-page}

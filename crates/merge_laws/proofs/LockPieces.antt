@@ -1,27 +1,25 @@
 -- The pieces that are steps on lock words: undos, releases and tries.
-use Rattle.std.proofs.Common.{◌≡◌, ◌⊎◌, ℕ, zero, suc, ◌+◌, ◌-◌, ◌%◌, ◌^◌, ◌<◌, Bool, true, false, ◌==◌, ◌&&◌, ◌||◌, if◌then◌else◌, List, [], ◌∷◌, ◌++◌, map, length, Option, Some, None, refl, ap, sym, ◌∙◌, subst, inl, inr, arith}
+use Rattle.std.proofs.Common.{◌≡◌, ℕ, ◌<◌, Bool, true, false, ◌||◌, List, [], ◌∷◌, length, None, refl, ap, sym, ◌∙◌, subst}
 use Rattle.td_words.specs.declared.names.LockName.{LockName}
 use Rattle.td_words.specs.declared.names.Mode.{Mode}
 use Rattle.td_words.specs.declared.names.Mode.TheVariants.{Shared, Exclusive}
 use Rattle.td_words.specs.declared.machines.Machine.{Machine}
 use Rattle.td_words.specs.declared.calls.Call.{Call}
 use Rattle.td_words.specs.declared.replies.Reply.{Reply}
-use Rattle.td_words.specs.Place.{WordPlace, IsIn, address}
-use Rattle.mrtd_measure.specs.declared.measures.Measure.{Measure}
-use Rattle.flat_core.specs.World.{World, put}
-use Rattle.flat_core.specs.Processor.{LockId, OfPage, OfOp, OfTree, OfEpoch, OfRtmr, OfKeys, Held, Phase, Trying, Undoing, Answered, Lp}
+use Rattle.td_words.specs.Place.{WordPlace, address}
+use Rattle.flat_core.specs.Processor.{LockId, OfPage, OfOp, OfTree, OfEpoch, OfRtmr, OfKeys, Held, Phase, Trying, Undoing, Answered}
 use Rattle.flat_core.specs.Opening.{Opening}
-use Rattle.flat_core.specs.Row.{Row, Move, Attempts, Undoes, Refuses, Succeeds, Releases, Rests, next}
+use Rattle.flat_core.specs.Row.{Move, Attempts, Undoes, Releases, next}
 use Rattle.flat_core.specs.Table.{row_of}
-use Rattle.flat_core.specs.Event.{State, OfCall, next_event, lines_left, event}
+use Rattle.flat_core.specs.Event.{State, lines_left}
 use Rattle.word_rules.specs.Guards.{Grip}
 use Rattle.word_rules.specs.Permissions.{Tries as MayTry}
-use Rattle.lock_words.specs.Grips.{holds, HoldTdrs, HoldsTdr, UndoTdr}
-use Rattle.lock_words.specs.LockWords.{place_of, Stands as LockStands}
+use Rattle.lock_words.specs.Grips.{HoldTdrs, HoldsTdr, UndoTdr}
+use Rattle.lock_words.specs.LockWords.{place_of}
 use Rattle.step_core.specs.declared.steps.WordStep.{WordStep}
 use Rattle.step_core.specs.declared.steps.WordStep.TheVariants as step
 use Rattle.step_core.specs.Locks.{weight_of}
-use Rattle.step_core.specs.Words.{address_of, after_step, answer_of}
+use Rattle.step_core.specs.Words.{address_of, answer_of}
 use Rattle.step_core.specs.Items.{Table, Taken, Stepped}
 use Rattle.leaf_engine.specs.declared.events.Event.{Event as RunEvent}
 use Rattle.leaf_engine.specs.declared.events.RunTurn.{RunTurn}
@@ -30,24 +28,23 @@ use Rattle.leaf_engine.specs.declared.events.Stage.{Stage}
 use Rattle.leaf_engine.specs.declared.events.Stage.TheVariants as stages
 use Rattle.leaf_engine.specs.declared.needs.Need.TheVariants as need
 use Rattle.leaf_engine.specs.Changes.{Memory}
-use Rattle.leaf_engine.specs.Trees.{Tree, Lock, Load, Test, End, Since, feed, settle, passed}
-use Rattle.leaf_engine.specs.Means.{Task, Instant, work_of, hold, Locks}
+use Rattle.leaf_engine.specs.Trees.{Tree, Lock, Load, Test, End, Since, feed, settle}
+use Rattle.leaf_engine.specs.Means.{Task, Instant, work_of, hold}
 use Rattle.leaf_engine.specs.Decides.{Gives}
-use Rattle.leaf_engine.specs.Items.{IsLoaded}
 use Rattle.leaf_engine.specs.Follows.{granted, Comes}
-use Rattle.leaf_engine.specs.Turns.{Standing, Goes, Tries, TurnBy, IsTurn, TakesBack, GivesBack, has_ended, last_reply, tried, try_step, grants}
-use Rattle.leaf_engine.specs.Calls.{IsLockAt, AreLocks, IsStage, IsCallAt}
-use Rattle.leaf_engine.specs.OwnLists.{Piece, Quiet, Marked, joined, WordLp, after_turn, OwnTurns}
+use Rattle.leaf_engine.specs.Turns.{Standing, Goes, TurnBy, TakesBack, GivesBack, has_ended, last_reply, tried, try_step, grants}
+use Rattle.leaf_engine.specs.Calls.{IsLockAt, AreLocks, IsStage}
+use Rattle.leaf_engine.specs.OwnLists.{Piece, Marked, joined, WordLp, after_turn, OwnTurns}
 use Rattle.leaf_engine.proofs.Decided.{settled}
 use Rattle.leaf_engine.proofs.Following.{leaves-follow-rows}
 use Rattle.leaf_engine.proofs.Turning.{instant, at-instant, due-is}
 use Rattle.leaf_engine.proofs.Calling.{next-is, snoc}
 use Rattle.merge_laws.proofs.Virtual.{table_of}
 use Rattle.merge_laws.proofs.Holding.{bare, tdr-held, may-try}
-use Rattle.merge_laws.proofs.Standing.{Laws, leaf_for, AreTrees, Known, RunsAt, StandsAt, Position, Rest, Holds, Stands}
+use Rattle.merge_laws.proofs.Standing.{Laws, leaf_for, AreTrees, Known, RunsAt, Position, Rest, Stands}
 use Rattle.merge_laws.proofs.Others.{shown-of, hold-is}
-use Rattle.merge_laws.proofs.LockSteps.{OneStep, Moved, lock-step}
-use Rattle.merge_laws.proofs.Pieces.{Came, PieceAnswers}
+use Rattle.merge_laws.proofs.LockSteps.{OneStep, lock-step}
+use Rattle.merge_laws.proofs.Pieces.{Came}
 
 -- a processor at a turn of its present line
 pub record AtTurn (o : Opening) (trees : ℕ → Call → Tree) (s : State) (mem : Memory) (t : Table) (pos : ℕ → Position) (p : ℕ) (c : Call) (cs : List Call) (run : Standing) : Type 0 where

@@ -1,15 +1,15 @@
 -- A try, an undo or a release in a merge: one step on the word of a lock, which is the flat machine's next event.
-use Rattle.std.proofs.Common.{◌≡◌, ◌⊎◌, ℕ, zero, suc, ◌+◌, ◌-◌, ◌^◌, ◌<◌, Bool, true, false, ◌==◌, cond, List, [], ◌∷◌, ◌++◌, length, Option, Some, None, refl, ap, sym, ◌∙◌, subst, inl, inr, arith}
-use Rattle.std.proofs.lemmas.Bool.{eq-eqb, eqb-true}
+use Rattle.std.proofs.Common.{◌≡◌, ℕ, ◌-◌, ◌<◌, Bool, true, false, ◌==◌, List, [], ◌∷◌, length, Option, Some, None, refl, ap, sym, ◌∙◌, subst}
+use Rattle.std.proofs.lemmas.Bool.{eqb-true}
 use Rattle.td_words.specs.declared.machines.Machine.{Machine}
 use Rattle.td_words.specs.declared.calls.Call.{Call}
 use Rattle.td_words.specs.declared.replies.Reply.{Reply}
 use Rattle.td_words.specs.Place.{WordPlace, IsIn, address, same_place}
 use Rattle.mrtd_measure.specs.declared.measures.Measure.{Measure}
 use Rattle.flat_core.specs.World.{World, put}
-use Rattle.flat_core.specs.Processor.{LockId, Held, Answered, Lp}
+use Rattle.flat_core.specs.Processor.{Held, Answered}
 use Rattle.flat_core.specs.Opening.{Opening}
-use Rattle.flat_core.specs.Row.{Row, Move, Rests, Releases}
+use Rattle.flat_core.specs.Row.{Move, Rests, Releases}
 use Rattle.flat_core.specs.Table.{row_of}
 use Rattle.flat_core.specs.Event.{State, OfCall, next_event, lines_left, event, call_world}
 use Rattle.word_rules.specs.Guards.{Apart}
@@ -23,19 +23,18 @@ use Rattle.step_core.specs.Items.{Table, Stepped}
 use Rattle.leaf_engine.specs.declared.events.RunTurn.{RunTurn}
 use Rattle.leaf_engine.specs.Changes.{Memory}
 use Rattle.leaf_engine.specs.Trees.{Tree}
-use Rattle.leaf_engine.specs.Means.{Task, OfCall as CallOf, IsHkid}
 use Rattle.leaf_engine.specs.Decides.{IsHand}
 use Rattle.leaf_engine.specs.Tables.{IsMemory}
-use Rattle.leaf_engine.specs.Turns.{Standing, IsTurn, has_ended, last_reply}
+use Rattle.leaf_engine.specs.Turns.{Standing, IsTurn, has_ended}
 use Rattle.leaf_engine.specs.Calls.{After}
-use Rattle.leaf_engine.specs.OwnLists.{WordLp, after_turn}
+use Rattle.leaf_engine.specs.OwnLists.{after_turn}
 use Rattle.leaf_engine.proofs.Turning.{Laws as EngineLaws, calls-follow}
 use Rattle.merge_laws.proofs.Virtual.{table_of, holds-memory, step-same, step-elsewhere}
 use Rattle.merge_laws.proofs.Stores.{Due, last_at, laid, laid-none, laid-same}
 use Rattle.merge_laws.proofs.Holding.{bare}
-use Rattle.merge_laws.proofs.Standing.{Laws, leaf_for, AreTrees, Known, RunsAt, on_table, Position, Holds, Stands}
+use Rattle.merge_laws.proofs.Standing.{Laws, leaf_for, AreTrees, Known, RunsAt, on_table, Position, Stands}
 use Rattle.merge_laws.proofs.Others.{shown-of}
-use Rattle.merge_laws.proofs.Own.{AttemptTdr, tdrs-after, stands-after, world-of-event, at-own, at-other, Spares, gathered, none-due}
+use Rattle.merge_laws.proofs.Own.{AttemptTdr, tdrs-after, stands-after, world-of-event, at-own, at-other, gathered, none-due}
 
 pub engine : Laws → EngineLaws
 engine ls = record { follow = ls.follow; steps = ls.steps; places = ls.places; pages = ls.pages }

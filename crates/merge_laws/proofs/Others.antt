@@ -1,5 +1,5 @@
 -- What an event of one processor leaves of where another one is.
-use Rattle.std.proofs.Common.{◌≡◌, ◌⊎◌, ℕ, zero, suc, ◌+◌, ◌^◌, ◌<◌, Bool, true, false, ◌==◌, List, [], ◌∷◌, ◌++◌, length, Option, Some, None, refl, ap, sym, ◌∙◌, subst, inl, inr, arith, append_assoc}
+use Rattle.std.proofs.Common.{◌≡◌, ℕ, ◌<◌, List, [], ◌∷◌, ◌++◌, length, Option, Some, None, refl, ap, sym, ◌∙◌, subst, append_assoc}
 use Rattle.std.proofs.lemmas.List.{append-nil}
 use Rattle.td_words.specs.declared.machines.Machine.{Machine}
 use Rattle.td_words.specs.declared.calls.Call.{Call}
@@ -7,9 +7,8 @@ use Rattle.td_words.specs.declared.replies.Reply.{Reply}
 use Rattle.td_words.specs.Place.{WordPlace, IsIn, address}
 use Rattle.mrtd_measure.specs.declared.measures.Measure.{Measure}
 use Rattle.flat_core.specs.World.{World}
-use Rattle.flat_core.specs.Processor.{LockId, Held, Phase, Trying, Undoing, Answered, Lp}
+use Rattle.flat_core.specs.Processor.{LockId, Held, Phase, Trying, Undoing, Answered}
 use Rattle.flat_core.specs.Opening.{Opening}
-use Rattle.flat_core.specs.Row.{Row}
 use Rattle.flat_core.specs.Table.{row_of}
 use Rattle.flat_core.specs.Lawful.{Lawful}
 use Rattle.flat_core.specs.Event.{State}
@@ -17,7 +16,6 @@ use Rattle.word_rules.specs.Guards.{Grip, Apart}
 use Rattle.word_rules.specs.Rules.{View, Whole, Grade}
 use Rattle.word_rules.specs.Views.{look}
 use Rattle.word_rules.specs.Permissions.{Reads, Owes, Fills, Respects, NoLaterConflict}
-use Rattle.lock_words.specs.LockWords.{place_of, Stands as LockStands}
 use Rattle.step_core.specs.Items.{Table}
 use Rattle.lock_words.specs.Grips.{HoldTdrs, HoldsTdr, UndoTdr}
 use Rattle.leaf_engine.specs.declared.events.HeldLock.{HeldLock}
@@ -25,18 +23,16 @@ use Rattle.leaf_engine.specs.declared.events.Stage.{Stage}
 use Rattle.leaf_engine.specs.declared.events.Stage.TheVariants as stages
 use Rattle.leaf_engine.specs.Changes.{Memory}
 use Rattle.leaf_engine.specs.Trees.{Tree, Lock, Load, Test, End, Since}
-use Rattle.leaf_engine.specs.Means.{Task, Instant, IsAt, work_of, hold, MeansRow}
+use Rattle.leaf_engine.specs.Means.{Task, IsAt, work_of, hold}
 use Rattle.leaf_engine.specs.Turns.{Standing}
-use Rattle.leaf_engine.specs.Follows.{granted, Current}
-use Rattle.leaf_engine.specs.Calls.{IsLockAt, AreLocks, IsStage, IsTold, IsCallAt, IsShown}
-use Rattle.leaf_engine.specs.OwnLists.{WordLp}
+use Rattle.leaf_engine.specs.Calls.{IsLockAt, AreLocks, IsStage, IsCallAt, IsShown}
 use Rattle.leaf_engine.proofs.Turning.{instant, at-instant}
 use Rattle.merge_laws.proofs.Virtual.{table_of, holds-memory}
-use Rattle.merge_laws.proofs.Stores.{Due, last_at, or_else, EachDue, each-map, FillsAt, last-each}
-use Rattle.merge_laws.proofs.Filling.{dues_of, all_todos, dues-same, todos-kept}
-use Rattle.merge_laws.proofs.Keeping.{Keeps, keeps-same}
+use Rattle.merge_laws.proofs.Stores.{Due, last_at, or_else, each-map, FillsAt, last-each}
+use Rattle.merge_laws.proofs.Filling.{all_todos, dues-same, todos-kept}
+use Rattle.merge_laws.proofs.Keeping.{keeps-same}
 use Rattle.merge_laws.proofs.Holding.{bare, NoGuests, grip-is-bare, IsOlder, lock-stays, EachTold, told-reads, told-older, still-current}
-use Rattle.merge_laws.proofs.Standing.{Laws, leaf_for, AreTrees, Known, RunsAt, RunAt, StandsAt, on_table, Fill, Position, seen_by, back, FillHolds, Pending, Holds, Stands}
+use Rattle.merge_laws.proofs.Standing.{Laws, leaf_for, AreTrees, Known, RunsAt, RunAt, on_table, Fill, Position, seen_by, back, FillHolds, Pending, Holds, Stands}
 
 -- words that show a state, on a table that holds them
 pub shown-of : (o : Opening) (trees : ℕ → Call → Tree) (s : State) (mem : Memory) (t : Table) (pos : ℕ → Position) (p : ℕ) (c : Call) (run : Standing) → Known o s → Stands o trees s mem t pos → p < length o.calls

@@ -1,22 +1,17 @@
 -- What an event of a processor makes of where it is itself, and of all of them together.
-use Rattle.std.proofs.Common.{◌≡◌, ◌≢◌, ◌⊎◌, ℕ, zero, suc, ◌+◌, ◌-◌, ◌^◌, ◌<◌, Bool, true, false, ◌==◌, cond, List, [], ◌∷◌, ◌++◌, length, drop, Option, Some, None, refl, ap, sym, ◌∙◌, subst, inl, inr, arith, length-append}
+use Rattle.std.proofs.Common.{◌≡◌, ◌≢◌, ◌⊎◌, ℕ, zero, suc, ◌+◌, ◌-◌, ◌<◌, Bool, true, false, ◌==◌, cond, List, [], ◌∷◌, ◌++◌, length, drop, Option, Some, None, refl, ap, sym, ◌∙◌, subst, inl, inr, arith, length-append}
 use Rattle.std.proofs.lemmas.Bool.{eq-eqb, eqb-true}
-use Rattle.td_words.specs.declared.names.Mode.{Mode}
 use Rattle.td_words.specs.declared.names.Mode.TheVariants.{Shared, Exclusive}
-use Rattle.td_words.specs.declared.names.LockName.{LockName}
 use Rattle.td_words.specs.declared.machines.Machine.{Machine}
 use Rattle.td_words.specs.declared.calls.Call.{Call}
 use Rattle.td_words.specs.declared.replies.Reply.{Reply}
-use Rattle.td_words.specs.Place.{WordPlace, IsIn, address, same_place}
-use Rattle.td_words.specs.Laws.{PlacesInjective}
-use Rattle.mrtd_measure.specs.declared.measures.Measure.{Measure}
+use Rattle.td_words.specs.Place.{WordPlace, IsIn}
 use Rattle.flat_core.specs.World.{World, put}
-use Rattle.flat_core.specs.Processor.{LockId, Held, Phase, Trying, Undoing, Answered, Progress, nothing_yet, Entering, Guest, Lp}
+use Rattle.flat_core.specs.Processor.{Held, Phase, Trying, Undoing, Answered, Progress, Entering, Guest, Lp}
 use Rattle.flat_core.specs.Opening.{Opening}
 use Rattle.flat_core.specs.Row.{Row, Move, Attempts, Undoes, Refuses, Succeeds, Releases, Rests, after_move}
 use Rattle.flat_core.specs.Table.{row_of}
 use Rattle.flat_core.specs.Event.{State, OfCall, next_event, lines_left, event, call_lp, call_busy, call_world, settle, settled, succeeded, is_granted, calls_of}
-use Rattle.flat_core.specs.Laws.{IsBetween}
 use Rattle.word_rules.specs.Guards.{Grip, Apart}
 use Rattle.word_rules.specs.Rules.{View, Grade}
 use Rattle.word_rules.specs.Views.{look}
@@ -26,16 +21,16 @@ use Rattle.step_core.specs.Items.{Table}
 use Rattle.lock_words.specs.Grips.{CallTdrs, HoldTdrs, HoldsTdr, UndoTdr, GuestTdrs, TdrsAreHeld}
 use Rattle.leaf_engine.specs.Changes.{Memory}
 use Rattle.leaf_engine.specs.Trees.{Tree}
-use Rattle.leaf_engine.specs.Means.{Task, IsHkid}
+use Rattle.leaf_engine.specs.Means.{IsHkid}
 use Rattle.leaf_engine.specs.Decides.{IsHand}
-use Rattle.leaf_engine.specs.Turns.{Standing, last_reply}
-use Rattle.leaf_engine.specs.Calls.{IsCallAt, GoesOn, IsOver, After}
+use Rattle.leaf_engine.specs.Turns.{Standing}
+use Rattle.leaf_engine.specs.Calls.{GoesOn, IsOver, After}
 use Rattle.leaf_engine.specs.OwnLists.{WordLp, after_turn}
 use Rattle.leaf_engine.proofs.Calling.{event-is, lp-now}
 use Rattle.merge_laws.proofs.Stores.{Due, last_at, laid, last-each, OwesAt, FillsAt}
 use Rattle.merge_laws.proofs.Keeping.{keeps-each}
 use Rattle.merge_laws.proofs.Holding.{bare, NoGuests, IsOlder, apart-held}
-use Rattle.merge_laws.proofs.Standing.{Laws, leaf_for, AreTrees, Known, RunsAt, RunAt, StandsAt, on_table, Fill, Position, back, Pending, Holds, Stands}
+use Rattle.merge_laws.proofs.Standing.{Laws, leaf_for, AreTrees, Known, RunAt, StandsAt, on_table, Fill, Position, back, Pending, Holds, Stands}
 use Rattle.merge_laws.proofs.Others.{Leaves, others-stay}
 
 -- its record

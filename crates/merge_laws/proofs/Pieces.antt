@@ -1,30 +1,21 @@
 -- One piece of a merge: what it makes of the state, the table, and where its processor is.
-use Rattle.std.proofs.Common.{◌≡◌, ◌⊎◌, ℕ, zero, suc, ◌+◌, ◌-◌, ◌%◌, ◌^◌, ◌<◌, Bool, true, false, ◌==◌, ◌&&◌, if◌then◌else◌, List, [], ◌∷◌, ◌++◌, map, length, Option, Some, None, refl, ap, sym, ◌∙◌, subst, inl, inr, arith}
-use Rattle.td_words.specs.declared.names.LockName.{LockName}
-use Rattle.td_words.specs.declared.names.Mode.{Mode}
-use Rattle.td_words.specs.declared.names.Mode.TheVariants.{Shared, Exclusive}
-use Rattle.td_words.specs.declared.machines.Machine.{Machine}
+use Rattle.std.proofs.Common.{◌≡◌, ℕ, List, [], ◌∷◌, ◌++◌, Option, Some, None, refl, sym, ◌∙◌, subst}
 use Rattle.td_words.specs.declared.calls.Call.{Call}
-use Rattle.td_words.specs.declared.replies.Reply.{Reply}
-use Rattle.td_words.specs.Place.{WordPlace, IsIn, address}
-use Rattle.mrtd_measure.specs.declared.measures.Measure.{Measure}
+use Rattle.td_words.specs.Place.{WordPlace}
 use Rattle.flat_core.specs.World.{World, put}
 use Rattle.flat_core.specs.Processor.{Lp}
 use Rattle.flat_core.specs.Opening.{Opening}
 use Rattle.flat_core.specs.Table.{row_of}
-use Rattle.flat_core.specs.Event.{State, event, lines_left}
+use Rattle.flat_core.specs.Event.{State, event}
 use Rattle.step_core.specs.Words.{after_step, answer_of}
 use Rattle.step_core.specs.Items.{Table, Taken, Stepped, Swapped, Missed, PlaysTo, with_slot}
 use Rattle.lock_words.specs.Grips.{CallTdrs}
-use Rattle.leaf_engine.specs.declared.events.Stage.TheVariants as stages
 use Rattle.leaf_engine.specs.Changes.{Memory}
-use Rattle.leaf_engine.specs.Trees.{Tree, settle}
-use Rattle.leaf_engine.specs.Means.{Task}
+use Rattle.leaf_engine.specs.Trees.{Tree}
 use Rattle.leaf_engine.specs.Turns.{Standing}
-use Rattle.leaf_engine.specs.OwnLists.{Piece, Quiet, Marked, Wordless, joined, behind, WordLp, running, OwnTurns}
+use Rattle.leaf_engine.specs.OwnLists.{Piece, Quiet, Marked, Wordless, behind, WordLp, running}
 use Rattle.leaf_engine.specs.Merges.{step_before}
 use Rattle.leaf_engine.proofs.Beginning.{calls-begin}
-use Rattle.merge_laws.proofs.Stores.{Due, AreStores}
 use Rattle.merge_laws.proofs.Standing.{leaf_for, RunsAt, RunAt, StandsAt, Position, RestOf, Stands}
 
 abbrev pub state_after : Opening → State → ℕ → Piece → State

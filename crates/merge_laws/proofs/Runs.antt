@@ -1,28 +1,24 @@
 -- Every merge is a run of the flat machine.
-use Rattle.std.proofs.Common.{◌≡◌, ◌⊎◌, ℕ, zero, suc, ◌+◌, ◌-◌, ◌^◌, ◌<◌, ◌≤◌, Bool, true, false, ◌==◌, List, [], ◌∷◌, ◌++◌, map, length, drop, Option, Some, None, refl, ap, sym, ◌∙◌, subst, inl, inr, arith}
-use Rattle.td_words.specs.declared.machines.Machine.{Machine}
+use Rattle.std.proofs.Common.{◌≡◌, ◌⊎◌, ℕ, zero, suc, ◌-◌, ◌<◌, ◌≤◌, List, [], ◌∷◌, ◌++◌, map, length, drop, Option, Some, None, refl, ap, sym, ◌∙◌, subst, inl, inr, arith}
 use Rattle.td_words.specs.declared.calls.Call.{Call}
-use Rattle.td_words.specs.declared.replies.Reply.{Reply}
-use Rattle.td_words.specs.Place.{WordPlace, IsIn, address}
+use Rattle.td_words.specs.Place.{address}
 use Rattle.mrtd_measure.specs.declared.measures.Measure.{Measure}
 use Rattle.flat_core.specs.Opening.{Opening}
-use Rattle.flat_core.specs.Table.{row_of}
 use Rattle.flat_core.specs.Event.{State, start, event, next_event, after_event, event_for, lines_left, calls_of}
 use Rattle.flat_core.specs.Run.{play, run, to_the_end}
 use Rattle.step_core.specs.Words.{Words}
-use Rattle.step_core.specs.Items.{Table, Taken, Stepped, Swapped, Missed, PlaysTo}
+use Rattle.step_core.specs.Items.{Table, Taken}
 use Rattle.leaf_engine.specs.declared.events.Event.{Event as RunEvent}
-use Rattle.leaf_engine.specs.Changes.{Memory}
 use Rattle.leaf_engine.specs.Trees.{Tree}
-use Rattle.leaf_engine.specs.Means.{Task, MeansRow, IsHkid}
+use Rattle.leaf_engine.specs.Means.{Task, MeansRow}
 use Rattle.leaf_engine.specs.Decides.{IsHand}
-use Rattle.leaf_engine.specs.Tables.{IsMemory}
 use Rattle.leaf_engine.specs.Turns.{Standing}
 use Rattle.leaf_engine.specs.Calls.{no_memory}
 use Rattle.leaf_engine.specs.OwnLists.{Piece, Quiet, joined, marked_behind, running, WordLp, first_lp, LinesTurn, OwnTurns}
-use Rattle.leaf_engine.specs.Merges.{Item, part, steps_taken, order, no_table, AreLeaves, Merge, IsShownBy, IsWhere, MergesAreRuns}
+use Rattle.leaf_engine.specs.Merges.{Item, part, order, no_table, AreLeaves, Merge}
+use Rattle.merge_laws.specs.Laws.{IsShownBy, IsWhere, MergesAreRuns}
 use Rattle.merge_laws.proofs.Stores.{Due, AreStores, laid, laid-none}
-use Rattle.merge_laws.proofs.Standing.{Laws, leaf_for, AreTrees, Known, StandsAt, on_table, Fill, Position, Rest, RestBy, RestOf, Holds, Stands}
+use Rattle.merge_laws.proofs.Standing.{Laws, leaf_for, AreTrees, Known, on_table, Fill, Position, RestBy, RestOf, Stands}
 use Rattle.merge_laws.proofs.Merged.{known-of, Through, through}
 
 -- leaves by their trees

@@ -1,50 +1,35 @@
 -- The next piece of a processor's turn.
-use Rattle.std.proofs.Common.{◌≡◌, ◌⊎◌, ℕ, zero, suc, ◌+◌, ◌-◌, ◌%◌, ◌^◌, ◌<◌, Bool, true, false, ◌==◌, ◌&&◌, if◌then◌else◌, List, [], ◌∷◌, ◌++◌, map, length, Option, Some, None, refl, ap, sym, ◌∙◌, subst, inl, inr, arith, append_assoc}
+use Rattle.std.proofs.Common.{◌≡◌, ℕ, Bool, true, false, ◌==◌, List, [], ◌∷◌, ◌++◌, length, Some, None, refl, ap, sym, ◌∙◌, subst}
 use Rattle.std.proofs.lemmas.Bool.{eqb-true}
 use Rattle.td_words.specs.declared.names.LockName.{LockName}
 use Rattle.td_words.specs.declared.names.Mode.{Mode}
-use Rattle.td_words.specs.declared.names.Mode.TheVariants.{Shared, Exclusive}
-use Rattle.td_words.specs.declared.machines.Machine.{Machine}
 use Rattle.td_words.specs.declared.calls.Call.{Call}
-use Rattle.td_words.specs.declared.replies.Reply.{Reply}
-use Rattle.td_words.specs.Place.{WordPlace, IsIn, address}
-use Rattle.mrtd_measure.specs.declared.measures.Measure.{Measure}
-use Rattle.flat_core.specs.World.{World, put}
+use Rattle.td_words.specs.Place.{WordPlace}
+use Rattle.flat_core.specs.World.{put}
 use Rattle.flat_core.specs.Opening.{Opening}
-use Rattle.flat_core.specs.Table.{row_of}
-use Rattle.flat_core.specs.Event.{State, event}
+use Rattle.flat_core.specs.Event.{State}
 use Rattle.word_rules.specs.Views.{look}
 use Rattle.step_core.specs.declared.steps.WordStep.{WordStep}
 use Rattle.step_core.specs.declared.steps.WordStep.TheVariants as step
-use Rattle.step_core.specs.Words.{after_step, answer_of}
-use Rattle.step_core.specs.Locks.{weight_of}
 use Rattle.step_core.specs.Items.{Table, Taken, Stepped, Swapped, Missed}
 use Rattle.leaf_engine.specs.declared.events.Event.{Event as RunEvent}
-use Rattle.leaf_engine.specs.declared.events.Event.TheVariants as events
-use Rattle.leaf_engine.specs.declared.events.RunTurn.{RunTurn}
 use Rattle.leaf_engine.specs.declared.events.Stage.{Stage}
 use Rattle.leaf_engine.specs.declared.events.Stage.TheVariants as stages
-use Rattle.leaf_engine.specs.declared.needs.Need.{Need}
 use Rattle.leaf_engine.specs.declared.needs.Need.TheVariants as need
-use Rattle.leaf_engine.specs.Changes.{Memory, Change, are_plain, is_plain, changed}
-use Rattle.leaf_engine.specs.Trees.{Tree, Lock, Load, Test, End, Since, feed, settle, fed, passed, changes_of, has_acted}
-use Rattle.leaf_engine.specs.Means.{Task}
+use Rattle.leaf_engine.specs.Changes.{Memory}
+use Rattle.leaf_engine.specs.Trees.{Tree, Lock, Load, Test, End, Since, feed, settle, fed, passed, has_acted}
 use Rattle.leaf_engine.specs.Decides.{Gives}
-use Rattle.leaf_engine.specs.Items.{IsLoadAt, IsLoaded, IsChanged, AreChanged}
-use Rattle.leaf_engine.specs.Turns.{Standing, standing, Goes, Tries, Ends, Comes as TurnComes, TurnBy, TakesBack, GivesBack, last_reply, tried, try_step, grants}
-use Rattle.leaf_engine.specs.OwnLists.{Piece, Quiet, Marked, Wordless, joined, last_marked, marked_behind, act_pieces, pieces_for, behind, items_in, GoesIn, StepsIn, TurnIn, WordLp, after_turn, LineTurn, OwnTurns}
-use Rattle.leaf_engine.proofs.Decided.{feed-append, settled}
-use Rattle.leaf_engine.proofs.Loading.{LooksRight, current-load, granted-load}
-use Rattle.merge_laws.proofs.Stores.{Due, last_at, laid-same, stores_of, all_stores, owed-items}
-use Rattle.merge_laws.proofs.Keeping.{and_parts}
-use Rattle.merge_laws.proofs.Holding.{bare}
-use Rattle.merge_laws.proofs.Standing.{Laws, leaf_for, AreTrees, Known, RunsAt, StandsAt, on_table, Position, Rest, Holds, Stands}
+use Rattle.leaf_engine.specs.Items.{IsLoadAt, IsLoaded}
+use Rattle.leaf_engine.specs.Turns.{Standing, Goes, Tries, last_reply, tried, try_step, grants}
+use Rattle.leaf_engine.specs.OwnLists.{Piece, Quiet, Marked, joined, last_marked, GoesIn, TurnIn, WordLp, after_turn, LineTurn, OwnTurns}
+use Rattle.leaf_engine.proofs.Decided.{settled}
+use Rattle.leaf_engine.proofs.Loading.{LooksRight}
+use Rattle.merge_laws.proofs.Stores.{Due, last_at, laid-same}
+use Rattle.merge_laws.proofs.Standing.{Laws, leaf_for, on_table, Position}
 use Rattle.merge_laws.proofs.Own.{at-own, at-other}
-use Rattle.merge_laws.proofs.Ending.{AtEnd, first_of, owes_of}
 use Rattle.merge_laws.proofs.QuietSteps.{rearranged, loads-right, GoesOnBehind, loaded, told-load}
-use Rattle.merge_laws.proofs.Pieces.{Came, came-as, answers-as, PieceAnswers, behind-append}
-use Rattle.merge_laws.proofs.LockPieces.{AtTurn, rest-after, undo-piece, free-piece, try-piece}
-use Rattle.merge_laws.proofs.EndPieces.{EndMay, end-may, end-moved, rest-owed, act-item, act-table}
+use Rattle.merge_laws.proofs.Pieces.{Came, came-as, answers-as, PieceAnswers}
+use Rattle.merge_laws.proofs.LockPieces.{AtTurn, try-piece}
 
 -- a load of a leaf that goes on
 

@@ -1,17 +1,16 @@
 -- The next piece of a turn that comes to its end.
-use Rattle.std.proofs.Common.{◌≡◌, ◌⊎◌, ℕ, zero, suc, ◌+◌, ◌-◌, ◌^◌, ◌<◌, Bool, true, false, ◌==◌, ◌&&◌, List, [], ◌∷◌, ◌++◌, map, length, Option, Some, None, refl, ap, sym, ◌∙◌, subst, inl, inr, arith, append_assoc}
+use Rattle.std.proofs.Common.{◌≡◌, ℕ, true, List, [], ◌∷◌, ◌++◌, map, Option, None, refl, ap, sym, ◌∙◌, subst, append_assoc}
 use Rattle.td_words.specs.declared.machines.Machine.{Machine}
 use Rattle.td_words.specs.declared.calls.Call.{Call}
 use Rattle.td_words.specs.declared.replies.Reply.{Reply}
-use Rattle.td_words.specs.Place.{WordPlace, IsIn, address}
+use Rattle.td_words.specs.Place.{address}
 use Rattle.mrtd_measure.specs.declared.measures.Measure.{Measure}
-use Rattle.flat_core.specs.World.{World, put}
 use Rattle.flat_core.specs.Opening.{Opening}
 use Rattle.flat_core.specs.Table.{row_of}
-use Rattle.flat_core.specs.Event.{State, event}
+use Rattle.flat_core.specs.Event.{State}
 use Rattle.step_core.specs.declared.steps.WordStep.{WordStep}
 use Rattle.step_core.specs.declared.steps.WordStep.TheVariants as step
-use Rattle.step_core.specs.Words.{after_step, answer_of}
+use Rattle.step_core.specs.Words.{after_step}
 use Rattle.step_core.specs.Items.{Table, Taken, Stepped, Swapped, Missed}
 use Rattle.leaf_engine.specs.declared.events.Event.{Event as RunEvent}
 use Rattle.leaf_engine.specs.declared.events.Event.TheVariants as events
@@ -24,22 +23,22 @@ use Rattle.leaf_engine.specs.Changes.{Memory, Change, Put, PutHash, Raise, Clear
 use Rattle.leaf_engine.specs.Trees.{Tree, Lock, Load, Test, End, Since, feed, settle, fed, passed, changes_of}
 use Rattle.leaf_engine.specs.Decides.{Gives}
 use Rattle.leaf_engine.specs.Items.{IsLoadAt, IsLoaded, IsWritten, IsChanged, AreChanged}
-use Rattle.leaf_engine.specs.Turns.{Standing, standing, Goes, Ends, last_reply}
-use Rattle.leaf_engine.specs.OwnLists.{Piece, Quiet, Marked, Wordless, joined, last_marked, marked_behind, act_pieces, behind, items_in, GoesIn, WordLp, after_turn, OwnTurns}
+use Rattle.leaf_engine.specs.Turns.{Standing, standing, Ends, last_reply}
+use Rattle.leaf_engine.specs.OwnLists.{Piece, Quiet, Marked, Wordless, joined, marked_behind, act_pieces, behind, items_in, GoesIn, WordLp, after_turn, OwnTurns}
 use Rattle.leaf_engine.proofs.Decided.{feed-append, settled}
 use Rattle.leaf_engine.proofs.Loading.{LooksRight, current-load, granted-load}
-use Rattle.merge_laws.proofs.Stores.{Due, last_at, or_else, AreStores, stores_of, all_stores, none-is, owed-items}
+use Rattle.merge_laws.proofs.Stores.{Due, last_at, or_else, AreStores, none-is, owed-items}
 use Rattle.merge_laws.proofs.Keeping.{and_parts}
 use Rattle.merge_laws.proofs.Holding.{bare}
-use Rattle.merge_laws.proofs.Standing.{Laws, leaf_for, Position, Rest, Stands}
+use Rattle.merge_laws.proofs.Standing.{Laws, leaf_for, Position}
 use Rattle.merge_laws.proofs.Ending.{AtEnd, filled_of, first_of, owes_of, HasFilled}
 use Rattle.merge_laws.proofs.Filling.{all_todos, two-parts, fills-items, fills-todo, behind-fills}
 use Rattle.merge_laws.proofs.FillSteps.{fill-piece}
 use Rattle.leaf_engine.specs.Means.{MayFillAll}
-use Rattle.merge_laws.proofs.QuietSteps.{loads-right, GoesOnBehind, loaded}
+use Rattle.merge_laws.proofs.QuietSteps.{loads-right, loaded}
 use Rattle.merge_laws.proofs.Pieces.{Came, came-as, answers-as, PieceAnswers, behind-append}
 use Rattle.merge_laws.proofs.LockPieces.{AtTurn}
-use Rattle.merge_laws.proofs.EndPieces.{EndMay, end-may, end-moved, rest-owed, ActItem, act-item, act-table}
+use Rattle.merge_laws.proofs.EndPieces.{EndMay, end-may, end-moved, rest-owed, act-item, act-table}
 use Rattle.merge_laws.proofs.Turns.{told-tree, load-piece, IsDone, done-settled, done-loads, goes-on, Heads}
 
 -- its reply, whose loads and changes these are

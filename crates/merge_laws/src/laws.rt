@@ -1,6 +1,6 @@
 //! The law of merges, as a contract of a function that does nothing.
 
-ghost use Rattle.leaf_engine.specs.Merges.{MergesAreRuns};
+ghost use Rattle.merge_laws.specs.Laws.{MergesAreRuns};
 
 use act_rules::stores_keep_reads;
 use leaf_engine::turns_in_pieces;
