@@ -1,13 +1,12 @@
 -- The table's leaves, call by call.
-use Rattle.std.proofs.Common.{◌≡◌, ℕ, Bool, true, false, List, [], ◌∷◌, ◌++◌, refl, ap}
+use Rattle.std.proofs.Common.{◌≡◌, ℕ, Bool, true, false, List, [], ◌∷◌, refl, ap}
 use Rattle.td_words.specs.declared.calls.Call.{Call}
 use Rattle.td_words.specs.declared.calls.Call.TheVariants as call
 use Rattle.flat_core.specs.Opening.{Opening, IsMachine}
 use Rattle.flat_core.specs.Table.{row_of}
 use Rattle.word_rules.specs.Views.{look}
 use Rattle.leaf_engine.specs.declared.needs.Place.{Place}
-use Rattle.leaf_engine.specs.Changes.{are_plain}
-use Rattle.leaf_engine.specs.Trees.{Tree, Lock, Load, Test, End, Since, feed, changes_of}
+use Rattle.leaf_engine.specs.Trees.{Tree, Lock, Load, Test, End, Since, feed, swaps_as_act}
 use Rattle.leaf_engine.specs.Means.{OfCall, MeansRow}
 use Rattle.first_leaves.specs.Words.{says_host}
 use Rattle.first_leaves.specs.HostTrees.{read_word}
@@ -16,33 +15,33 @@ use Rattle.first_leaves.specs.TdMeanings.{create-means}
 use Rattle.leaf_dispatch.specs.Table.{task_of}
 use Rattle.leaf_dispatch.specs.Laws.{CallsHaveLeaves}
 
--- whatever a tree is told, no end of it uses a hasher
-abbrev EndsPlain : Tree → Type 0
-EndsPlain (Lock l q m t) = EndsPlain t
-EndsPlain (Load v q k) = (x : ℕ) → EndsPlain (k x)
-EndsPlain (Test b r t) = EndsPlain t
-EndsPlain (End r fs cs) = are_plain (fs ++ cs) ≡ true
-EndsPlain (Since r cs) = are_plain cs ≡ true
+-- whatever a tree is told, a hasher is exchanged by its act alone
+abbrev SwapsAsAct : Tree → Type 0
+SwapsAsAct (Lock l q m t) = SwapsAsAct t
+SwapsAsAct (Load v q k) = (x : ℕ) → SwapsAsAct (k x)
+SwapsAsAct (Test b r t) = SwapsAsAct t
+SwapsAsAct (End r fs cs) = swaps_as_act (End r fs cs) ≡ true
+SwapsAsAct (Since r cs) = swaps_as_act (Since r cs) ≡ true
 
-fed-plain : (t : Tree) (told : List ℕ) → EndsPlain t → are_plain (changes_of (feed t told)) ≡ true
-fed-plain (Lock l q m t) [] plain = refl
-fed-plain (Lock l q m t) (x ∷ xs) plain = fed-plain t xs plain
-fed-plain (Load v q k) [] plain = refl
-fed-plain (Load v q k) (x ∷ xs) plain = fed-plain (k (look v x)) xs (plain (look v x))
-fed-plain (Test true r t) xs plain = fed-plain t xs plain
-fed-plain (Test false r t) xs plain = refl
-fed-plain (End r fs cs) xs plain = plain
-fed-plain (Since r cs) xs plain = plain
+fed-swaps : (t : Tree) (told : List ℕ) → SwapsAsAct t → swaps_as_act (feed t told) ≡ true
+fed-swaps (Lock l q m t) [] well = refl
+fed-swaps (Lock l q m t) (x ∷ xs) well = fed-swaps t xs well
+fed-swaps (Load v q k) [] well = refl
+fed-swaps (Load v q k) (x ∷ xs) well = fed-swaps (k (look v x)) xs (well (look v x))
+fed-swaps (Test true r t) xs well = fed-swaps t xs well
+fed-swaps (Test false r t) xs well = refl
+fed-swaps (End r fs cs) xs well = well
+fed-swaps (Since r cs) xs well = well
 
-read-plain : (page i : ℕ) (host : Bool) → EndsPlain (read_word page i host)
-read-plain page i true = λ word. refl
-read-plain page i false = refl
+read-swaps : (page i : ℕ) (host : Bool) → SwapsAsAct (read_word page i host)
+read-swaps page i true = λ word. refl
+read-swaps page i false = refl
 
-ends-plain : (p : Place) (c : Call) → EndsPlain (task_of p c).tree
-ends-plain p (call.HostRead page word) = λ pamt. read-plain page word (says_host pamt)
-ends-plain p (call.HostWrite page word value) = λ pamt. refl
-ends-plain p (call.PhymemPageRdmd page) = λ pamt. refl
-ends-plain p (call.MngCreate tdr hkid) = λ pamt key. refl
+ends-swap : (p : Place) (c : Call) → SwapsAsAct (task_of p c).tree
+ends-swap p (call.HostRead page word) = λ pamt. read-swaps page word (says_host pamt)
+ends-swap p (call.HostWrite page word value) = λ pamt. refl
+ends-swap p (call.PhymemPageRdmd page) = λ pamt. refl
+ends-swap p (call.MngCreate tdr hkid) = λ pamt key. refl
 
 of-place : (p : Place) (c : Call) → (task_of p c).place ≡ p
 of-place p (call.HostRead page word) = refl
@@ -68,5 +67,5 @@ calls-have-leaves o m = record {
   processor = λ p c. ap (λ (z : Place). z.lp) (of-place (record { machine = o.machine; lp = p }) c);
   row = of-row o;
   means = λ p c. means (record { machine = o.machine; lp = p }) c m;
-  plain = λ p c told. fed-plain (task_of (record { machine = o.machine; lp = p }) c).tree told (ends-plain (record { machine = o.machine; lp = p }) c);
+  swaps = λ p c told. fed-swaps (task_of (record { machine = o.machine; lp = p }) c).tree told (ends-swap (record { machine = o.machine; lp = p }) c);
 }

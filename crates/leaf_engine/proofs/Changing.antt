@@ -84,7 +84,7 @@ slot_test m h k a b =
     let b0 : 1 ≤ k = b.0 in
     grind (arith, nat_tests)
 
-slot_put : (m : Machine) (t u : ℕ → Option Measure) (slots : ℕ → Hand) (k : ℕ) (put : Option Measure) (made : Hand) → IsHkid m k → u ≡ with_slot t (k - 1) put → IsHand put made
+pub slot_put : (m : Machine) (t u : ℕ → Option Measure) (slots : ℕ → Hand) (k : ℕ) (put : Option Measure) (made : Hand) → IsHkid m k → u ≡ with_slot t (k - 1) put → IsHand put made
     → ((h : ℕ) → IsHkid m h → IsHand (t (h - 1)) (slots h)) → (h : ℕ) → IsHkid m h → IsHand (u (h - 1)) (put_slot slots k made h)
 slot_put m t u slots k put made in_k e i same h in_h =
     subst (λ (f : ℕ → Option Measure). IsHand (f (h - 1)) (put_slot slots k made h)) (sym e)

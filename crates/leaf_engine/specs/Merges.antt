@@ -5,8 +5,7 @@ use Rattle.flat_core.specs.Opening.{Opening}
 use Rattle.flat_core.specs.Table.{row_of}
 use Rattle.flat_core.specs.Event.{calls_of}
 use Rattle.step_core.specs.Items.{Table, Taken, PlaysTo}
-use Rattle.leaf_engine.specs.Changes.{are_plain}
-use Rattle.leaf_engine.specs.Trees.{feed, changes_of}
+use Rattle.leaf_engine.specs.Trees.{feed, swaps_as_act}
 use Rattle.leaf_engine.specs.Means.{Task, OfCall, MeansRow}
 use Rattle.leaf_engine.specs.OwnLists.{Piece, Quiet, Marked, Wordless, joined, WordLp, first_lp, OwnTurns}
 
@@ -49,14 +48,14 @@ pub record IsMerge (n : ℕ) (own : ℕ → List Piece) (is : List Item) : Type 
 abbrev pub no_table : Table
 no_table = record { words = λ n. 0; slots = λ k. None }
 
--- what each processor makes its calls by: a leaf made for it, whose row is the call's, and which means that row. So far
--- no leaf with a hasher is among them
+-- what each processor makes its calls by: a leaf made for it, whose row is the call's, and which means that row. A
+-- hasher is exchanged by an act alone
 pub record AreLeaves (o : Opening) (leaf : ℕ → Call → Task) : Type 0 where
   pub machine : (p : ℕ) (c : Call) → (leaf p c).place.machine ≡ o.machine
   pub processor : (p : ℕ) (c : Call) → (leaf p c).place.lp ≡ p
   pub row : (p : ℕ) (c : Call) → (leaf p c).meaning ≡ OfCall (row_of o p c)
   pub means : (p : ℕ) (c : Call) → MeansRow (leaf p c)
-  pub plain : (p : ℕ) (c : Call) (told : List ℕ) → are_plain (changes_of (feed (leaf p c).tree told)) ≡ true
+  pub swaps : (p : ℕ) (c : Call) (told : List ℕ) → swaps_as_act (feed (leaf p c).tree told) ≡ true
 
 -- A merge of own lists, one for each processor of a script, from the processor's first line on to where it then is, in
 -- which each load reads what the merge has stored.

@@ -1,4 +1,5 @@
 -- An act in a merge: its event's item, and the stores that are owed after it.
+use Rattle.leaf_engine.specs.Means.{IsHkid}
 use Rattle.std.proofs.Common.{◌≡◌, ℕ, ◌-◌, ◌<◌, Bool, true, false, ◌==◌, List, ◌∷◌, length, Option, Some, None, refl, ap, sym, ◌∙◌, subst}
 use Rattle.std.proofs.lemmas.Bool.{eqb-true}
 use Rattle.td_words.specs.declared.machines.Machine.{Machine}
@@ -52,10 +53,10 @@ pub record OneAct (o : Opening) (trees : ℕ → Call → Tree) (s : State) (mem
   pub is_act : IsAct move
   pub next : next_event o s p ≡ Some (OfCall (row_of o p c) move)
   pub after : Memory
-  pub hand : after.hand ≡ None
-  pub slots : after.slots ≡ mem.slots
+  pub hand_is : IsHand run'.hasher after.hand
+  pub slots : (h : ℕ) → IsHkid o.machine h → IsHand (t'.slots (h - 1)) (after.slots h)
   pub ends : (u : Table) → IsMemory o.machine u run'.hasher after → EndsRow (leaf_for o trees p c) (instant (leaf_for o trees p c) s mem) told u run run'
-  pub no_hasher : run'.hasher ≡ None
+  pub answered : run'.stage ≡ stages.Trying → ⊥
   pub reply : result.reply ≡ last_reply run'.stage run'.held
   pub filled : List Due
   pub first : List Due
@@ -69,7 +70,6 @@ pub record OneAct (o : Opening) (trees : ℕ → Call → Tree) (s : State) (mem
   pub undo : (r : WordPlace) → last_at (pos p).owes r ≡ back (last_at filled r) (mem.words r)
   pub held_or_none : ((event o s p).lps p).call.held ≡ (s.lps p).call.held
   pub table : (r : WordPlace) → IsIn o.machine r → t'.words (address o.machine.pages r) ≡ or_else (last_at first r) (t.words (address o.machine.pages r))
-  pub table_slots : t'.slots ≡ t.slots
 
 same-memory : (m : Machine) (u : Table) (h : Option Measure) (a b : Memory) → IsMemory m u h a → IsMemory m u h b → (r : WordPlace) → IsIn m r → a.words r ≡ b.words r
 same-memory m u h a b x y r i = sym (x.words r i) ∙ y.words r i
@@ -80,18 +80,17 @@ pub act-step : (ls : Laws) (o : Opening) (trees : ℕ → Call → Tree) (s : St
     → Moved o trees (event o s p) t' (put pos p (record { at = after_turn c cs rs run' result.reply; owes = one.owes; fill = None }))
 act-step ls o trees s mem t t' pos p c cs rs run run' result are known sd i lines replies ra e one =
     record {
-      memory = made.mem;
-      stands = gathered ls o trees s mem made.mem t t' pos p now are known sd i
+      memory = mem';
+      stands = gathered ls o trees s mem mem' t t' pos p now are known sd i
           (record {
             respects = subst (λ (w : World). Respects (bare (s.lps p).call.held) s.world w) (sym world) one.spares.respects;
             looks = λ hs v r apart in_r reads. ap (look v) (made-is r in_r) ∙ one.spares.looks hs v r apart in_r reads;
             still = one.spares.still;
             filled = λ hs r apart in_r fills. (let sp = one.spares.filled hs r apart in_r fills in (sp.0, made-is r in_r ∙ sp.1));
           })
-          made.shown hand
-          (λ h in_h. subst (λ (f : ℕ → Option Measure). IsHand (f (h - 1)) (made.mem.slots h)) (sym one.table_slots) (made.memory.slots h in_h))
+          made.shown refl made.memory.slots
           (record {
-            stands = stands-after o trees p c cs (s.lps p) (event o s p) uV run' result.reply lines made one.no_hasher
+            stands = stands-after o trees p c cs (s.lps p) (event o s p) uV run' result.reply lines made (record { hand = one.after.hand; is = one.hand_is; trying = λ z. absurd (one.answered z) })
                 (tdrs-after o s p (row_of o p c) one.move one.next (are.means p c).enters_none ra.tdrs (no-attempt one.move one.is_act) (no-rest one.move one.is_act) (no-release one.move one.is_act)) rs replies;
             due =
                 subst (λ (w : World). Keeps m (bare ((event o s p).lps p).call.held) w (on_table m t') one.owes) (sym world)
@@ -109,26 +108,22 @@ act-step ls o trees s mem t t' pos p c cs rs run run' result are known sd i line
     now = record { at = after_turn c cs rs run' result.reply; owes = one.owes; fill = None }
 
     uV : Table
-    uV = table_of m t.slots one.after.words
+    uV = table_of m t'.slots one.after.words
 
-    holds : IsMemory m uV None one.after
-    holds = holds-memory m t.slots one.after (λ h in_h. subst (λ (f : ℕ → Option (List ℕ)). IsHand (t.slots (h - 1)) (f h)) (sym one.slots) (sd.slots h in_h)) one.hand
+    holds : IsMemory m uV run'.hasher one.after
+    holds = holds-memory m t'.slots run'.hasher one.after one.slots one.hand_is
 
     made : After o (leaf_for o trees p c) (row_of o p c) (s.lps p).replies (event o s p) uV run' result.reply
     made =
         ends (engine ls) o (leaf_for o trees p c) (row_of o p c) s mem (table_of m t.slots mem.words) uV run run' result (are.means p c) refl
-        (shown-of o trees s mem t pos p c run known sd i ra.no_hasher) ra.call e
-        (one.ends uV (subst (λ (h : Option Measure). IsMemory m uV h one.after) (sym one.no_hasher) holds)) one.reply
+        (shown-of o trees s mem t pos p c run known sd i (ra.hand.trying e)) ra.call e
+        (one.ends uV holds) one.reply
+
+    mem' : Memory
+    mem' = record (made.mem) { hand = None }
 
     made-is : (r : WordPlace) → IsIn m r → made.mem.words r ≡ one.after.words r
-    made-is r in_r = same-memory m uV None made.mem one.after (subst (λ (h : Option Measure). IsMemory m uV h made.mem) one.no_hasher made.memory) holds r in_r
-
-    hand : made.mem.hand ≡ None
-    hand = by made.mem.hand (subst (λ (h : Option Measure). IsHand h made.mem.hand) one.no_hasher made.memory.hand)
-      where
-        by : (h : Option (List ℕ)) → IsHand None h → h ≡ None
-        by None x = refl
-        by (Some bytes) x = absurd x
+    made-is r in_r = same-memory m uV run'.hasher made.mem one.after made.memory holds r in_r
 
     world : (event o s p).world ≡ call_world (row_of o p c) one.move s.world
     world = world-of-event o s p (row_of o p c) one.move one.next

@@ -1,5 +1,5 @@
 -- How a leaf's tree ends: the refusal, or the act, with what its first item stores and what is owed then.
-use Rattle.std.proofs.Common.{◌≡◌, ℕ, ◌+◌, ◌%◌, ◌^◌, ◌<◌, Bool, true, false, ◌&&◌, List, [], ◌∷◌, ◌++◌, length, Option, Some, None, refl, ap, sym, ◌∙◌, subst, inl, inr}
+use Rattle.std.proofs.Common.{◌≡◌, ℕ, ◌+◌, ◌%◌, ◌^◌, ◌<◌, Bool, true, false, ◌&&◌, List, [], ◌∷◌, length, Option, Some, None, refl, ap, sym, ◌∙◌, subst, inl, inr, ◌-◌}
 use Rattle.td_words.specs.declared.machines.Machine.{Machine}
 use Rattle.td_words.specs.declared.calls.Call.{Call}
 use Rattle.td_words.specs.declared.replies.Reply.{Reply}
@@ -19,10 +19,10 @@ use Rattle.step_core.specs.Items.{Table}
 use Rattle.leaf_engine.specs.declared.events.RunTurn.{RunTurn}
 use Rattle.leaf_engine.specs.declared.events.Stage.TheVariants as stages
 use Rattle.leaf_engine.specs.declared.needs.Need.TheVariants as need
-use Rattle.leaf_engine.specs.Changes.{Memory, Change, Put, PutHash, Raise, Clear, Copy, Swap, changed, changed_all, is_plain, are_plain}
-use Rattle.leaf_engine.specs.Trees.{Tree, Lock, Load, Test, End, Since, feed, changes_of}
-use Rattle.leaf_engine.specs.Means.{Task, Instant, Work, IsAt, work_of, hold, Acts, MayAct, MayFillAll, MayChange, MayOweAll, acted, LocksStay}
-use Rattle.leaf_engine.specs.Decides.{Gives}
+use Rattle.leaf_engine.specs.Changes.{Memory, Change, Put, PutHash, Raise, Clear, Copy, Swap, changed, changed_all, has_no_swap}
+use Rattle.leaf_engine.specs.Trees.{Tree, Lock, Load, Test, End, Since, feed, swaps_as_act}
+use Rattle.leaf_engine.specs.Means.{Task, Instant, Work, IsAt, work_of, hold, Acts, MayAct, MayFillAll, MayChange, MayOweAll, acted, LocksStay, IsHkid}
+use Rattle.leaf_engine.specs.Decides.{Gives, IsHand}
 use Rattle.leaf_engine.specs.Tables.{IsMemory}
 use Rattle.leaf_engine.specs.Turns.{Standing, last_reply}
 use Rattle.leaf_engine.specs.Follows.{granted, Current, Comes}
@@ -31,7 +31,7 @@ use Rattle.leaf_engine.specs.Calls.{IsCallAt}
 use Rattle.leaf_engine.proofs.Following.{leaves-follow-rows}
 use Rattle.leaf_engine.proofs.Turning.{instant, at-instant, due-is}
 use Rattle.merge_laws.proofs.Virtual.{table_of}
-use Rattle.merge_laws.proofs.Stores.{Due, last_at, later, or_else, stores_of, all_stores, EachDue, OwesAt, FillsAt, last-each, last-append, or-later, changed-is, one-is, changed-rest, filled-stores, looks-owed, looks-filled}
+use Rattle.merge_laws.proofs.Stores.{Due, last_at, later, or_else, stores_of, all_stores, EachDue, OwesAt, FillsAt, last-each, last-append, or-later, changed-is, one-is, filled-stores, looks-owed, looks-filled}
 use Rattle.merge_laws.proofs.Keeping.{Keeps, keeps-each, keeps-same, owed-keeps}
 use Rattle.merge_laws.proofs.Holding.{bare}
 use Rattle.merge_laws.proofs.Standing.{Laws, leaf_for, AreTrees, Known, on_table, Position, back, Stands}
@@ -77,16 +77,16 @@ and-second true b h = h
 and-second false b h = cc
 
 -- a store that is the act leaves what others have read
-act-looks : (ls : Laws) (m : Machine) (g h : Grip) (w : World) (mem : Memory) (c : Change) (r : WordPlace) (v : View) → Apart g h → MayAct m h w mem c → is_plain c ≡ true → Reads g w r v
+act-looks : (ls : Laws) (m : Machine) (g h : Grip) (w : World) (mem : Memory) (c : Change) (r : WordPlace) (v : View) → Apart g h → MayAct m h w mem c → Reads g w r v
     → look v ((changed c mem).words r) ≡ look v (mem.words r)
-act-looks ls m g h w mem (Put q x) r v a may pl rd = (ls.keep g h w mem.words a).act q r x v may.1.0 rd may.1.1 may.1.2
-act-looks ls m g h w mem (PutHash q x) r v a may pl rd = cc
-act-looks ls m g h w mem (Raise q) r v a may pl rd = (ls.keep g h w mem.words a).act q r ((mem.words q + 1) % 2 ^ 64) v KeepsNothing rd may.1 tt
-act-looks ls m g h w mem (Clear p) r v a may pl rd = absurd may
-act-looks ls m g h w mem (Copy p q) r v a may pl rd = absurd may
-act-looks ls m g h w mem (Swap k made) r v a may pl rd = cc
+act-looks ls m g h w mem (Put q x) r v a may rd = (ls.keep g h w mem.words a).act q r x v may.1.0 rd may.1.1 may.1.2
+act-looks ls m g h w mem (PutHash q x) r v a may rd = (ls.keep g h w mem.words a).act q r (x mem.hand) v KeepsNothing rd may.1 tt
+act-looks ls m g h w mem (Raise q) r v a may rd = (ls.keep g h w mem.words a).act q r ((mem.words q + 1) % 2 ^ 64) v KeepsNothing rd may.1 tt
+act-looks ls m g h w mem (Clear p) r v a may rd = absurd may
+act-looks ls m g h w mem (Copy p q) r v a may rd = absurd may
+act-looks ls m g h w mem (Swap k made) r v a may rd = refl
 
-owed-looks : (ls : Laws) (m : Machine) (g h : Grip) (w w' : World) (mem : Memory) (cs : List Change) (r : WordPlace) (v : View) → Apart g h → Respects h w w' → IsIn m r → MayOweAll m h w' mem cs → are_plain cs ≡ true → Reads g w r v
+owed-looks : (ls : Laws) (m : Machine) (g h : Grip) (w w' : World) (mem : Memory) (cs : List Change) (r : WordPlace) (v : View) → Apart g h → Respects h w w' → IsIn m r → MayOweAll m h w' mem cs → has_no_swap cs ≡ true → Reads g w r v
     → look v ((changed_all cs mem).words r) ≡ look v (mem.words r)
 owed-looks ls m g h w w' mem cs r v a rs in_r may pl rd =
     looks-owed ls.places m h w' mem cs r v in_r may pl (λ words q x k owes kept. (ls.keep g h w words a).left w' q r x v k rs rd owes kept)
@@ -94,21 +94,13 @@ owed-looks ls m g h w w' mem cs r v a rs in_r may pl rd =
 fill-looks : (ls : Laws) (m : Machine) (g h : Grip) (w : World) (mem : Memory) (fs : List Change) (r : WordPlace) (v : View) → Apart g h → IsIn m r → MayFillAll m h w fs → Reads g w r v → look v ((changed_all fs mem).words r) ≡ look v (mem.words r)
 fill-looks ls m g h w mem fs r v a in_r may rd = looks-filled ls.places m h w mem fs r v in_r may (λ words q x fills. (ls.keep g h w words a).filled q r x v rd fills)
 
-pub plain-parts : (fs cs : List Change) → are_plain (fs ++ cs) ≡ true → (are_plain fs ≡ true) × (are_plain cs ≡ true)
-plain-parts [] cs e = (refl, e)
-plain-parts (f ∷ fs) cs e =
-    let rest = plain-parts fs cs (and-second (is_plain f) (are_plain (fs ++ cs)) e) in
-    let one : is_plain f ≡ true = and-first (is_plain f) (are_plain (fs ++ cs)) e in
-    let fs-plain : are_plain fs ≡ true = rest.0 in
-    (rw (one, fs-plain) refl, rest.1)
-
-act-written : (m : Machine) (g : Grip) (w : World) (mem : Memory) (c : Change) → MayAct m g w mem c → is_plain c ≡ true → EachDue (CanWrite g w) (stores_of c mem)
-act-written m g w mem (Put q x) may pl = ((may.1.0, may.1.1), tt)
-act-written m g w mem (PutHash q x) may pl = cc
-act-written m g w mem (Raise q) may pl = ((KeepsNothing, may.1), tt)
-act-written m g w mem (Clear p) may pl = absurd may
-act-written m g w mem (Copy p q) may pl = absurd may
-act-written m g w mem (Swap k made) may pl = cc
+act-written : (m : Machine) (g : Grip) (w : World) (mem : Memory) (c : Change) → MayAct m g w mem c → EachDue (CanWrite g w) (stores_of c mem)
+act-written m g w mem (Put q x) may = ((may.1.0, may.1.1), tt)
+act-written m g w mem (PutHash q x) may = ((KeepsNothing, may.1), tt)
+act-written m g w mem (Raise q) may = ((KeepsNothing, may.1), tt)
+act-written m g w mem (Clear p) may = absurd may
+act-written m g w mem (Copy p q) may = absurd may
+act-written m g w mem (Swap k made) may = tt
 
 -- where a turn stands that comes to its end, having been told these words
 pub record AtEnd (o : Opening) (trees : ℕ → Call → Tree) (s : State) (mem : Memory) (p : ℕ) (c : Call) (told now : List ℕ) (reply : Reply) (run run' : Standing) (result : RunTurn) : Type 0 where
@@ -117,7 +109,6 @@ pub record AtEnd (o : Opening) (trees : ℕ → Call → Tree) (s : State) (mem 
   pub gives : Gives o.machine.pages (feed (trees p c) now) (need.Verdict reply)
   pub answered : run'.stage ≡ stages.Answered reply
   pub held : run'.held ≡ run.held
-  pub no_hasher : run'.hasher ≡ None
   pub last : result.reply ≡ last_reply run'.stage run'.held
 
 -- what its end has filled, stores first, and owes
@@ -134,6 +125,12 @@ owes_of (End r fs cs) mem = act_owes cs (changed_all fs mem)
 owes_of (Since r cs) mem = all_stores cs mem
 owes_of _ mem = []
 
+-- memory behind its end
+abbrev pub after_of : Tree → Memory → Memory
+after_of (End r fs cs) mem = changed_all cs (changed_all fs mem)
+after_of (Since r cs) mem = changed_all cs mem
+after_of _ mem = mem
+
 -- memory has what was filled, and what would take it back is due
 pub record HasFilled (o : Opening) (t : Table) (pos : ℕ → Position) (p : ℕ) (mem : Memory) (filled : List Due) : Type 0 where
   pub there : (r : WordPlace) (x : ℕ) → IsIn o.machine r → last_at filled r ≡ Some x → t.words (address o.machine.pages r) ≡ x
@@ -142,10 +139,11 @@ pub record HasFilled (o : Opening) (t : Table) (pos : ℕ → Position) (p : ℕ
 pub one-act : (ls : Laws) (o : Opening) (trees : ℕ → Call → Tree) (s : State) (mem : Memory) (t t' : Table) (pos : ℕ → Position) (p : ℕ) (c : Call) (now : List ℕ) (reply : Reply) (run run' : Standing) (result : RunTurn)
     → AreTrees o trees → Known o s → Stands o trees s mem t pos → p < length o.calls → run.hasher ≡ None → (ca : IsCallAt o (leaf_for o trees p c) (row_of o p c) s.world mem.words (s.lps p) run) → (e : run.stage ≡ stages.Trying)
     → AtEnd o trees s mem p c (ca.told e).told now reply run run' result → HasFilled o t pos p mem (filled_of (feed (trees p c) now) mem)
-    → ((r : WordPlace) → IsIn o.machine r → t'.words (address o.machine.pages r) ≡ or_else (last_at (first_of (feed (trees p c) now) mem) r) (t.words (address o.machine.pages r))) → t'.slots ≡ t.slots
+    → ((r : WordPlace) → IsIn o.machine r → t'.words (address o.machine.pages r) ≡ or_else (last_at (first_of (feed (trees p c) now) mem) r) (t.words (address o.machine.pages r)))
+    → IsHand run'.hasher (after_of (feed (trees p c) now) mem).hand → ((h : ℕ) → IsHkid o.machine h → IsHand (t'.slots (h - 1)) ((after_of (feed (trees p c) now) mem).slots h))
     → (one : OneAct o trees s mem t t' pos p c (ca.told e).told run run' result) × (one.owes ≡ owes_of (feed (trees p c) now) mem)
-one-act ls o trees s mem t t' pos p c now reply run run' result are known sd i no_hasher ca e en has table slots =
-    by (feed (trees p c) now) (leaves-follow-rows task inst now (are.means p c) at en.current) en.gives (are.plain p c now) has table
+one-act ls o trees s mem t t' pos p c now reply run run' result are known sd i no_hasher ca e en has table hand slots =
+    by (feed (trees p c) now) (leaves-follow-rows task inst now (are.means p c) at en.current) en.gives (are.swaps p c now) has table hand slots
   where
     m : Machine
     m = o.machine
@@ -210,16 +208,22 @@ one-act ls o trees s mem t t' pos p c now reply run run' result are known sd i n
       ends = inr (due ∙ h, q, sh, subst (λ (xs : List Held). LocksStay s.world (k.act s.world) xs) en.locks st);
     }
 
-    refused : (r : Reply) → mv ≡ Refuses r → r ≡ reply → HasFilled o t pos p mem [] → ((x : WordPlace) → IsIn m x → t'.words (address m.pages x) ≡ t.words (address m.pages x)) → OneAct o trees s mem t t' pos p c told run run' result
-    refused r h q hf same = record {
+    not-trying : run'.stage ≡ stages.Trying → ⊥
+    not-trying z = (let bad = sym en.answered ∙ z in cc)
+
+    Slots : Memory → Type 0
+    Slots after = (h : ℕ) → IsHkid m h → IsHand (t'.slots (h - 1)) (after.slots h)
+
+    refused : (r : Reply) → mv ≡ Refuses r → r ≡ reply → HasFilled o t pos p mem [] → ((x : WordPlace) → IsIn m x → t'.words (address m.pages x) ≡ t.words (address m.pages x)) → IsHand run'.hasher mem.hand → Slots mem → OneAct o trees s mem t t' pos p c told run run' result
+    refused r h q hf same hand slots = record {
       move = Refuses r;
       is_act = tt;
       next = next-is (Refuses r) h;
       after = mem;
-      hand = sd.hand;
-      slots = refl;
+      hand_is = hand;
+      slots = slots;
       ends = refusal r h q;
-      no_hasher = en.no_hasher;
+      answered = not-trying;
       reply = en.last;
       filled = [];
       first = [];
@@ -238,7 +242,6 @@ one-act ls o trees s mem t t' pos p c now reply run run' result are known sd i n
       undo = hf.undo;
       held_or_none = act-held o s p row (Refuses r) (next-is (Refuses r) h) (are.means p c).enters_none tt;
       table = same;
-      table_slots = slots;
     }
 
     -- what another owes or has filled isn't at a word that the act stores
@@ -269,22 +272,22 @@ one-act ls o trees s mem t t' pos p c now reply run run' result are known sd i n
         go None None None eu ev ez = rw (eu, ev, ez) refl
 
     -- the act that succeeds, whose stores are these
-    succeeded : (fs cs : List Change) (first owes : List Due) → mv ≡ Succeeds → are_plain fs ≡ true → are_plain cs ≡ true → reply ≡ k.reply s.world
+    succeeded : (fs cs : List Change) (first owes : List Due) → mv ≡ Succeeds → reply ≡ k.reply s.world
         → (let after = changed_all cs (changed_all fs mem) in Shows m after.words after.slots (acted k s)) → LocksStay s.world (k.act s.world) hs → Respects mine s.world (row.act s.world)
         → ((xs : List Held) (v : View) (r : WordPlace) → Apart (bare xs) mine → IsIn m r → Reads (bare xs) s.world r v → look v ((changed_all cs (changed_all fs mem)).words r) ≡ look v (mem.words r))
         → ((r : WordPlace) → last_at (all_stores cs (changed_all fs mem)) r ≡ later (last_at owes r) (last_at first r))
         → MayFillAll m mine s.world fs → EachDue (CanWrite mine s.world) first → Keeps m mine (row.act s.world) (λ x. or_else (last_at first x) ((changed_all fs mem).words x)) owes → HasFilled o t pos p mem (all_stores fs mem)
         → ((r : WordPlace) → IsIn m r → t'.words (address m.pages r) ≡ or_else (last_at first r) (t.words (address m.pages r)))
-        → OneAct o trees s mem t t' pos p c told run run' result
-    succeeded fs cs first owes h plf pl q sh st rs looks parts fills written owed hf same = record {
+        → IsHand run'.hasher (changed_all cs (changed_all fs mem)).hand → Slots (changed_all cs (changed_all fs mem)) → OneAct o trees s mem t t' pos p c told run run' result
+    succeeded fs cs first owes h q sh st rs looks parts fills written owed hf same hand slots = record {
       move = Succeeds;
       is_act = tt;
       next = next-is Succeeds h;
       after = changed_all cs (changed_all fs mem);
-      hand = (changed-rest cs (changed_all fs mem) pl).1 ∙ ((changed-rest fs mem plf).1 ∙ sd.hand);
-      slots = (changed-rest cs (changed_all fs mem) pl).0 ∙ (changed-rest fs mem plf).0;
+      hand_is = hand;
+      slots = slots;
       ends = success (changed_all cs (changed_all fs mem)) h q sh st;
-      no_hasher = en.no_hasher;
+      answered = not-trying;
       reply = en.last;
       filled = all_stores fs mem;
       first = first;
@@ -305,13 +308,12 @@ one-act ls o trees s mem t t' pos p c now reply run run' result are known sd i n
       makes = makes;
       written = written;
       owed = keeps-same m mine mine (row.act s.world) (row.act s.world) base (λ x. or_else (last_at first x) (or_else (last_at (all_stores fs mem) x) (mem.words x))) owes (λ x g z. z)
-          (λ x g in_x z. ap (or_else (last_at first x)) (changed-is ls.places m fs mem x in_x plf)) owed;
+          (λ x g in_x z. ap (or_else (last_at first x)) (changed-is ls.places m fs mem x in_x)) owed;
       filled_may = filled-stores m mine s.world mem fs fills;
       there = hf.there;
       undo = hf.undo;
       held_or_none = act-held o s p row Succeeds (next-is Succeeds h) (are.means p c).enters_none tt;
       table = same;
-      table_slots = slots;
     }
       where
         base : WordPlace → ℕ
@@ -319,63 +321,63 @@ one-act ls o trees s mem t t' pos p c now reply run run' result are known sd i n
 
         makes : (r : WordPlace) → IsIn m r → (changed_all cs (changed_all fs mem)).words r ≡ or_else (last_at owes r) (or_else (last_at first r) (or_else (last_at (all_stores fs mem) r) (mem.words r)))
         makes r in_r =
-            changed-is ls.places m cs (changed_all fs mem) r in_r pl
+            changed-is ls.places m cs (changed_all fs mem) r in_r
             ∙ (ap (λ (z : Option ℕ). or_else z ((changed_all fs mem).words r)) (parts r)
             ∙ (or-later (last_at owes r) (last_at first r) ((changed_all fs mem).words r)
-            ∙ ap (λ (y : ℕ). or_else (last_at owes r) (or_else (last_at first r) y)) (changed-is ls.places m fs mem r in_r plf)))
+            ∙ ap (λ (y : ℕ). or_else (last_at owes r) (or_else (last_at first r) y)) (changed-is ls.places m fs mem r in_r)))
 
     gives-is : (n : ℕ) (r r' : Reply) (fs cs : List Change) → Gives n (End r fs cs) (need.Verdict r') → r ≡ r'
     gives-is n r r' fs cs g = cc
 
-    ends-success : (r : Reply) (fs cs : List Change) → mv ≡ Succeeds → r ≡ reply → are_plain (fs ++ cs) ≡ true → Acts m inst k hs r fs cs → MayChange m (hold inst hs) s.world (k.act s.world) (changed_all fs mem) cs
+    ends-success : (r : Reply) (fs cs : List Change) → mv ≡ Succeeds → r ≡ reply → swaps_as_act (End r fs cs) ≡ true → Acts m inst k hs r fs cs → MayChange m (hold inst hs) s.world (k.act s.world) (changed_all fs mem) cs
         → HasFilled o t pos p mem (all_stores fs mem) → ((x : WordPlace) → IsIn m x → t'.words (address m.pages x) ≡ or_else (last_at (act_first cs (changed_all fs mem)) x) (t.words (address m.pages x)))
+        → IsHand run'.hasher (changed_all cs (changed_all fs mem)).hand → Slots (changed_all cs (changed_all fs mem))
         → (one : OneAct o trees s mem t t' pos p c told run run' result) × (one.owes ≡ act_owes cs (changed_all fs mem))
-    ends-success r fs [] h q pl ac may hf same =
+    ends-success r fs [] h q sw ac may hf same hand slots =
         let rs : Respects mine s.world (row.act s.world) = subst (λ (g : Grip). Respects g s.world (row.act s.world)) grip ac.respects in
         let fills : MayFillAll m mine s.world fs = subst (λ (g : Grip). MayFillAll m g s.world fs) grip ac.fills_allowed in (
-          succeeded fs [] [] [] h (plain-parts fs [] pl).0 refl (sym q ∙ ac.reply_is) ac.shows ac.locks_stay rs
-              (λ xs v x apart in_x reads. fill-looks ls m (bare xs) mine s.world mem fs x v apart in_x fills reads) (λ x. refl) fills tt tt hf same,
+          succeeded fs [] [] [] h (sym q ∙ ac.reply_is) ac.shows ac.locks_stay rs
+              (λ xs v x apart in_x reads. fill-looks ls m (bare xs) mine s.world mem fs x v apart in_x fills reads) (λ x. refl) fills tt tt hf same hand slots,
           refl,
         )
-    ends-success r fs (c1 ∷ cs) h q pl ac may hf same =
+    ends-success r fs (c1 ∷ cs) h q sw ac may hf same hand slots =
         let rs : Respects mine s.world (row.act s.world) = subst (λ (g : Grip). Respects g s.world (row.act s.world)) grip ac.respects in
         let fills : MayFillAll m mine s.world fs = subst (λ (g : Grip). MayFillAll m g s.world fs) grip ac.fills_allowed in
         let mem1 : Memory = changed_all fs mem in
-        let may' : MayChange m mine s.world (k.act s.world) mem1 (c1 ∷ cs) = subst (λ (g : Grip). MayChange m g s.world (k.act s.world) mem1 (c1 ∷ cs)) grip may in
-        let pls = plain-parts fs (c1 ∷ cs) pl in
-        let pl1 : is_plain c1 ≡ true = and-first (is_plain c1) (are_plain cs) pls.1 in
-        let pl2 : are_plain cs ≡ true = and-second (is_plain c1) (are_plain cs) pls.1 in (
-          succeeded fs (c1 ∷ cs) (stores_of c1 mem1) (all_stores cs (changed c1 mem1)) h pls.0 pls.1 (sym q ∙ ac.reply_is) ac.shows ac.locks_stay rs
+        let may' : MayChange m mine s.world (k.act s.world) mem1 (c1 ∷ cs) = subst (λ (g : Grip). MayChange m g s.world (k.act s.world) mem1 (c1 ∷ cs)) grip may in (
+          succeeded fs (c1 ∷ cs) (stores_of c1 mem1) (all_stores cs (changed c1 mem1)) h (sym q ∙ ac.reply_is) ac.shows ac.locks_stay rs
               (λ xs v x apart in_x reads.
-              owed-looks ls m (bare xs) mine s.world (row.act s.world) (changed c1 mem1) cs x v apart rs in_x may'.1 pl2 reads
-              ∙ (act-looks ls m (bare xs) mine s.world mem1 c1 x v apart may'.0 pl1 reads ∙ fill-looks ls m (bare xs) mine s.world mem fs x v apart in_x fills reads))
+              owed-looks ls m (bare xs) mine s.world (row.act s.world) (changed c1 mem1) cs x v apart rs in_x may'.1 sw reads
+              ∙ (act-looks ls m (bare xs) mine s.world mem1 c1 x v apart may'.0 reads ∙ fill-looks ls m (bare xs) mine s.world mem fs x v apart in_x fills reads))
               (λ x. last-append (stores_of c1 mem1) (all_stores cs (changed c1 mem1)) x) fills
-              (act-written m mine s.world mem1 c1 may'.0 pl1)
+              (act-written m mine s.world mem1 c1 may'.0)
               (keeps-same m mine mine (row.act s.world) (row.act s.world) (changed c1 mem1).words (λ x. or_else (last_at (stores_of c1 mem1) x) (mem1.words x)) (all_stores cs (changed c1 mem1))
-              (λ x g owes. owes) (λ x g in_x owes. one-is m c1 mem1 x in_x pl1) (owed-keeps m mine (row.act s.world) (changed c1 mem1) cs may'.1 pl2)) hf same,
+              (λ x g owes. owes) (λ x g in_x owes. one-is m c1 mem1 x in_x) (owed-keeps m mine (row.act s.world) (changed c1 mem1) cs may'.1 sw)) hf same hand slots,
           refl,
         )
 
-    since-success : (r : Reply) (cs : List Change) → mv ≡ Succeeds → r ≡ reply → are_plain cs ≡ true → Acts m inst k hs r [] cs → MayOweAll m (hold inst hs) (k.act s.world) mem cs
+    since-success : (r : Reply) (cs : List Change) → mv ≡ Succeeds → r ≡ reply → has_no_swap cs ≡ true → Acts m inst k hs r [] cs → MayOweAll m (hold inst hs) (k.act s.world) mem cs
         → HasFilled o t pos p mem [] → ((x : WordPlace) → IsIn m x → t'.words (address m.pages x) ≡ t.words (address m.pages x))
+        → IsHand run'.hasher (changed_all cs mem).hand → Slots (changed_all cs mem)
         → (one : OneAct o trees s mem t t' pos p c told run run' result) × (one.owes ≡ all_stores cs mem)
-    since-success r cs h q pl ac may hf same =
+    since-success r cs h q sw ac may hf same hand slots =
         let rs : Respects mine s.world (row.act s.world) = subst (λ (g : Grip). Respects g s.world (row.act s.world)) grip ac.respects in
         let may' : MayOweAll m mine (k.act s.world) mem cs = subst (λ (g : Grip). MayOweAll m g (k.act s.world) mem cs) grip may in (
-          succeeded [] cs [] (all_stores cs mem) h refl pl (sym q ∙ ac.reply_is) ac.shows ac.locks_stay rs
-              (λ xs v x apart in_x reads. owed-looks ls m (bare xs) mine s.world (row.act s.world) mem cs x v apart rs in_x may' pl reads)
-              (λ x. last-append [] (all_stores cs mem) x) tt tt (owed-keeps m mine (row.act s.world) mem cs may' pl) hf same,
+          succeeded [] cs [] (all_stores cs mem) h (sym q ∙ ac.reply_is) ac.shows ac.locks_stay rs
+              (λ xs v x apart in_x reads. owed-looks ls m (bare xs) mine s.world (row.act s.world) mem cs x v apart rs in_x may' sw reads)
+              (λ x. last-append [] (all_stores cs mem) x) tt tt (owed-keeps m mine (row.act s.world) mem cs may' sw) hf same hand slots,
           refl,
         )
 
-    by : (tree : Tree) → Comes m inst k hs tree mv → Gives m.pages tree (need.Verdict reply) → are_plain (changes_of tree) ≡ true → HasFilled o t pos p mem (filled_of tree mem)
+    by : (tree : Tree) → Comes m inst k hs tree mv → Gives m.pages tree (need.Verdict reply) → swaps_as_act tree ≡ true → HasFilled o t pos p mem (filled_of tree mem)
         → ((r : WordPlace) → IsIn m r → t'.words (address m.pages r) ≡ or_else (last_at (first_of tree mem) r) (t.words (address m.pages r)))
+        → IsHand run'.hasher (after_of tree mem).hand → Slots (after_of tree mem)
         → (one : OneAct o trees s mem t t' pos p c told run run' result) × (one.owes ≡ owes_of tree mem)
-    by (Lock l q mode x) co g pl hf same = cc
-    by (Load v q x) co g pl hf same = cc
-    by (Test b r x) co g pl hf same = absurd g
-    by (End r [] []) (inl co) g pl hf same = (refused r co.0 (gives-is m.pages r reply [] [] g) hf same, refl)
-    by (End r [] (c1 ∷ cs)) (inl co) g pl hf same = (let bad = co.2 in cc)
-    by (End r (f ∷ fs) cs) (inl co) g pl hf same = (let bad = co.1 in cc)
-    by (End r fs cs) (inr co) g pl hf same = ends-success r fs cs co.0 (gives-is m.pages r reply fs cs g) pl co.1 co.2 hf same
-    by (Since r cs) co g pl hf same = since-success r cs co.0 (cc g) pl co.1 co.2 hf same
+    by (Lock l q mode x) co g sw hf same hand slots = cc
+    by (Load v q x) co g sw hf same hand slots = cc
+    by (Test b r x) co g sw hf same hand slots = absurd g
+    by (End r [] []) (inl co) g sw hf same hand slots = (refused r co.0 (gives-is m.pages r reply [] [] g) hf same hand slots, refl)
+    by (End r [] (c1 ∷ cs)) (inl co) g sw hf same hand slots = (let bad = co.2 in cc)
+    by (End r (f ∷ fs) cs) (inl co) g sw hf same hand slots = (let bad = co.1 in cc)
+    by (End r fs cs) (inr co) g sw hf same hand slots = ends-success r fs cs co.0 (gives-is m.pages r reply fs cs g) sw co.1 co.2 hf same hand slots
+    by (Since r cs) co g sw hf same hand slots = since-success r cs co.0 (cc g) sw co.1 co.2 hf same hand slots

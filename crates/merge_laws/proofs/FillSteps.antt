@@ -1,5 +1,6 @@
 -- A leaf that stores before its act: its fills, store by store, and then its act.
-use Rattle.std.proofs.Common.{◌≡◌, ℕ, ◌<◌, Bool, true, false, ◌==◌, if◌then◌else◌, List, [], ◌∷◌, ◌++◌, map, length, Option, Some, None, refl, ap, sym, ◌∙◌, subst, append_assoc}
+use Rattle.mrtd_measure.specs.declared.measures.Measure.{Measure}
+use Rattle.std.proofs.Common.{◌≡◌, ℕ, ◌<◌, Bool, true, false, ◌==◌, if◌then◌else◌, List, [], ◌∷◌, ◌++◌, map, length, Option, Some, None, refl, ap, sym, ◌∙◌, subst, append_assoc, ◌-◌}
 use Rattle.std.proofs.lemmas.Bool.{eqb-true}
 use Rattle.std.proofs.lemmas.List.{append-nil}
 use Rattle.td_words.specs.declared.machines.Machine.{Machine}
@@ -20,26 +21,25 @@ use Rattle.step_core.specs.Items.{Table, Taken, Stepped, Swapped, Missed}
 use Rattle.leaf_engine.specs.declared.events.Event.TheVariants as events
 use Rattle.leaf_engine.specs.declared.events.Stage.TheVariants as stages
 use Rattle.leaf_engine.specs.declared.needs.Need.TheVariants as need
-use Rattle.leaf_engine.specs.Changes.{Memory, Change, is_plain, are_plain, changed, changed_all}
-use Rattle.leaf_engine.specs.Trees.{Tree, End, feed, settle, changes_of}
-use Rattle.leaf_engine.specs.Decides.{Gives}
-use Rattle.leaf_engine.specs.Means.{MayFillAll}
+use Rattle.leaf_engine.specs.Changes.{Memory, Change, changed, changed_all, has_no_swap}
+use Rattle.leaf_engine.specs.Trees.{Tree, End, feed, settle, swaps_as_act}
+use Rattle.leaf_engine.specs.Decides.{Gives, IsHand}
+use Rattle.leaf_engine.specs.Means.{MayFillAll, IsHkid}
 use Rattle.leaf_engine.specs.Items.{IsChanged, AreChanged}
 use Rattle.leaf_engine.specs.Turns.{Standing, standing, last_reply}
 use Rattle.leaf_engine.specs.OwnLists.{Piece, Quiet, Marked, Wordless, joined, marked_behind, WordLp, after_turn, OwnTurns}
 use Rattle.leaf_engine.proofs.Changing.{word_put}
-use Rattle.merge_laws.proofs.Stores.{Due, due, last_at, later, or_else, laid-none, laid-same, last-append, each-append, FillsAt, AreStores, all_stores, owed-items}
+use Rattle.merge_laws.proofs.Stores.{Due, due, last_at, later, or_else, laid-none, laid-same, last-append, each-append, FillsAt, AreStores, all_stores, owed-items, changed-rest}
 use Rattle.merge_laws.proofs.Filling.{Todo, Puts, Takes, AreTodos, dues_of, EachTodo, dues-same, fills-due}
-use Rattle.merge_laws.proofs.Keeping.{and_parts}
 use Rattle.merge_laws.proofs.Holding.{bare}
 use Rattle.merge_laws.proofs.Standing.{Laws, leaf_for, Fill, Position, seen_by, back, FillHolds, RestFilling, StandsAt, on_table, Stands}
 use Rattle.merge_laws.proofs.Own.{at-own, at-other, whole, apart-from, none-due}
 use Rattle.merge_laws.proofs.LockSteps.{turned-round}
-use Rattle.merge_laws.proofs.Ending.{AtEnd, plain-parts, filled_of, first_of, owes_of, HasFilled}
+use Rattle.merge_laws.proofs.Ending.{AtEnd, filled_of, first_of, owes_of, after_of, HasFilled}
 use Rattle.merge_laws.proofs.QuietSteps.{rearranged, store-step}
-use Rattle.merge_laws.proofs.Pieces.{Came, came-as, answers-as, PieceAnswers}
+use Rattle.merge_laws.proofs.Pieces.{taken_after, Came, came-as, answers-as, PieceAnswers}
 use Rattle.merge_laws.proofs.LockPieces.{AtTurn}
-use Rattle.merge_laws.proofs.EndPieces.{EndMay, end-may, end-moved, rest-owed, act-item, act-table}
+use Rattle.merge_laws.proofs.EndPieces.{EndMay, end-may, end-moved, rest-owed, act-item, act-rest, fills-rest, slots-as, hand-as, act-table}
 use Rattle.merge_laws.proofs.Turns.{told-tree}
 
 -- it stays where it is, but for its fills
@@ -172,10 +172,10 @@ fill-seen ls o trees s mem t pos p c cs run f q a h in_q reads = by (last_at f.m
 -- the act behind its fills
 act-piece : (ls : Laws) (o : Opening) (trees : ℕ → Call → Tree) (s : State) (mem : Memory) (t : Table) (pos : ℕ → Position) (p : ℕ) (c : Call) (cs : List Call) (run after : Standing) (f : Fill) (act : List Taken) (tps : List (List Piece)) (end_ : WordLp)
     (piece : Piece) (ps : List Piece) → (a : AtTurn o trees s mem t pos p c cs run) → f.left ≡ [] → FillHolds o.machine (bare (s.lps p).call.held) s.world mem.words (on_table o.machine t) (pos p).owes (Some run) f
-    → AreChanged o.machine f.changes None act None → after ≡ standing (End f.reply f.fills f.changes) (stages.Answered f.reply) run.held None
+    → (hasher : Option Measure) → AreChanged o.machine f.changes None act hasher → after ≡ standing (End f.reply f.fills f.changes) (stages.Answered f.reply) run.held hasher
     → OwnTurns (leaf_for o trees p) o.machine (after_turn c cs (pos p).at.replies after (last_reply after.stage after.held)) tps end_
     → marked_behind 0 act ++ joined tps ≡ piece ∷ ps → PieceAnswers t piece → Came o trees p s t pos piece ps end_
-act-piece ls o trees s mem t pos p c cs run after f act tps end_ piece ps a left h ch after_is own hd an = by f.changes refl
+act-piece ls o trees s mem t pos p c cs run after f act tps end_ piece ps a left h hasher ch after_is own hd an = by f.changes refl
   where
     m : Machine
     m = o.machine
@@ -199,12 +199,14 @@ act-piece ls o trees s mem t pos p c cs run after f act tps end_ piece ps a left
       gives = subst (λ (z : Tree). Gives m.pages z (need.Verdict f.reply)) (sym tree-is) refl;
       answered = ap (λ (z : Standing). z.stage) after_is;
       held = ap (λ (z : Standing). z.held) after_is;
-      no_hasher = ap (λ (z : Standing). z.hasher) after_is;
       last = refl;
     }
 
-    plain : (are_plain f.fills ≡ true) × (are_plain f.changes ≡ true)
-    plain = plain-parts f.fills f.changes (subst (λ (z : Tree). are_plain (changes_of z) ≡ true) tree-is (a.are.plain p c told))
+    swaps : swaps_as_act (End f.reply f.fills f.changes) ≡ true
+    swaps = subst (λ (z : Tree). swaps_as_act z ≡ true) tree-is (a.are.swaps p c told)
+
+    hasher-is : after.hasher ≡ hasher
+    hasher-is = ap (λ (z : Standing). z.hasher) after_is
 
     may : EndMay m mine s.world ((row_of o p c).act s.world) mem (End f.reply f.fills f.changes)
     may = subst (λ (z : Tree). EndMay m mine s.world ((row_of o p c).act s.world) mem z) tree-is (end-may o trees s mem t pos p c cs told f.reply run after (record { event = events.Act; reply = last_reply after.stage after.held }) a st en)
@@ -227,13 +229,28 @@ act-piece ls o trees s mem t pos p c cs run after f act tps end_ piece ps a left
     has-tree : HasFilled o t pos p mem (filled_of (feed (trees p c) told) mem)
     has-tree = subst (λ (z : Tree). HasFilled o t pos p mem (filled_of z mem)) (sym tree-is) has
 
+    fills : MayFillAll m mine s.world f.fills
+    fills = fills-may f.changes may
+
+    rest-1 : ((changed_all f.fills mem).slots ≡ mem.slots) × ((changed_all f.fills mem).hand ≡ mem.hand)
+    rest-1 = fills-rest m mine s.world f.fills mem fills
+
+    empty : IsHand None (changed_all f.fills mem).hand
+    empty = hand-as None None (changed_all f.fills mem).hand None refl (rest-1.1 ∙ a.all.hand) tt
+
+    slots-1 : (k : ℕ) → IsHkid m k → IsHand (t.slots (k - 1)) ((changed_all f.fills mem).slots k)
+    slots-1 = slots-as m t.slots (changed_all f.fills mem).slots mem.slots rest-1.0 a.all.slots
+
     by : (ds : List Change) → f.changes ≡ ds → Came o trees p s t pos piece ps end_
     by [] e =
-        let none : act ≡ [] = (subst (λ (z : List Change). AreChanged m z None act None) e ch).1 in
+        let two = subst (λ (z : List Change). AreChanged m z None act hasher) e ch in
+        let none : act ≡ [] = two.1 in
         let hd' : Wordless ∷ joined tps ≡ piece ∷ ps = ap (λ (z : List Taken). marked_behind 0 z ++ joined tps) (sym none) ∙ hd in
         let ended : feed (trees p c) told ≡ End f.reply f.fills [] = tree-is ∙ ap (End f.reply f.fills) e in
         let moved = end-moved ls o trees s mem t t pos p c cs told f.reply run after (record { event = events.Act; reply = last_reply after.stage after.held }) a st en has-tree
-        (λ y in_y. ap (λ (z : Tree). or_else (last_at (first_of z mem) y) (t.words (address m.pages y))) {x = End f.reply f.fills []} {y = feed (trees p c) told} (sym ended)) refl in
+        (λ y in_y. ap (λ (z : Tree). or_else (last_at (first_of z mem) y) (t.words (address m.pages y))) {x = End f.reply f.fills []} {y = feed (trees p c) told} (sym ended))
+        (subst (λ (z : Tree). IsHand after.hasher (after_of z mem).hand) (sym ended) (hand-as after.hasher None (changed_all f.fills mem).hand (changed_all f.fills mem).hand (hasher-is ∙ two.0) refl empty))
+        (subst (λ (z : Tree). (k : ℕ) → IsHkid m k → IsHand (t.slots (k - 1)) ((after_of z mem).slots k)) (sym ended) slots-1) in
         came-as o trees p s t pos Wordless piece (joined tps) ps end_ hd'
         (record {
           memory = moved.memory;
@@ -244,19 +261,24 @@ act-piece ls o trees s mem t pos p c cs run after f act tps end_ piece ps a left
         })
     by (c1 ∷ ds) e =
         let ended : feed (trees p c) told ≡ End f.reply f.fills (c1 ∷ ds) = tree-is ∙ ap (End f.reply f.fills) e in
-        let all = subst (λ (z : List Change). AreChanged m z None act None) e ch in
+        let all = subst (λ (z : List Change). AreChanged m z None act hasher) e ch in
         let allowed = subst (λ (z : List Change). EndMay m mine s.world ((row_of o p c).act s.world) mem (End f.reply f.fills z)) e may in
-        let pls = and_parts (is_plain c1) (are_plain ds) (subst (λ (z : List Change). are_plain z ≡ true) e plain.1) in
+        let sw : has_no_swap ds ≡ true = subst (λ (z : List Change). swaps_as_act (End f.reply f.fills z) ≡ true) e swaps in
         let zs : List Taken = all.1.1.0 in
+        let mem1 : Memory = changed_all f.fills mem in
         let one : IsChanged m c1 None all.1.0 all.0 = all.1.1.2 in
-        let item = act-item m mine s.world (changed_all f.fills mem) c1 all.1.0 all.0 allowed.1.0 pls.0 one in
-        let rest = owed-items m mine ((row_of o p c).act s.world) (changed c1 (changed_all f.fills mem)) ds all.0 None zs allowed.1.1 pls.1 all.1.1.3 item.no_hasher in
-        let x : Taken = Stepped item.step item.answer in
+        let item = act-item m mine s.world mem1 c1 all.1.0 None all.0 allowed.1.0 one empty in
+        let x : Taken = item.taken in
         let acted : act ≡ x ∷ zs = all.1.1.1 ∙ ap (λ (z : List Taken). z ++ zs) item.items in
         let hd' : Marked x ∷ (map Quiet zs ++ joined tps) ≡ piece ∷ ps = ap (λ (z : List Taken). marked_behind 0 z ++ joined tps) (sym acted) ∙ hd in
-        let moved = end-moved ls o trees s mem t (record t { words = after_step t.words item.step }) pos p c cs told f.reply run after (record { event = events.Act; reply = last_reply after.stage after.held }) a st en has-tree
-        (λ y in_y. act-table ls o trees s mem t pos p c cs run f.fills c1 item.step a plain.0 has allowed.1.0 item.is y in_y
-        ∙ ap (λ (z : Tree). or_else (last_at (first_of z mem) y) (t.words (address m.pages y))) {x = End f.reply f.fills (c1 ∷ ds)} {y = feed (trees p c) told} (sym ended)) refl in
+        let rest-2 = act-rest m mem1 t c1 x all.0 item.is (answers-as t (Marked x) piece (map Quiet zs ++ joined tps) ps hd' an) slots-1 in
+        let rest = owed-items m mine ((row_of o p c).act s.world) (changed c1 mem1) ds all.0 hasher zs allowed.1.1 sw all.1.1.3 rest-2.0 in
+        let moved = end-moved ls o trees s mem t (taken_after t x) pos p c cs told f.reply run after (record { event = events.Act; reply = last_reply after.stage after.held }) a st en has-tree
+        (λ y in_y. act-table ls o trees s mem t pos p c cs run f.fills c1 x all.0 a has allowed.1.0 item.is y in_y
+        ∙ ap (λ (z : Tree). or_else (last_at (first_of z mem) y) (t.words (address m.pages y))) {x = End f.reply f.fills (c1 ∷ ds)} {y = feed (trees p c) told} (sym ended))
+        (subst (λ (z : Tree). IsHand after.hasher (after_of z mem).hand) (sym ended) (hand-as after.hasher hasher (changed_all ds (changed c1 mem1)).hand (changed_all ds (changed c1 mem1)).hand hasher-is refl rest.0))
+        (subst (λ (z : Tree). (k : ℕ) → IsHkid m k → IsHand ((taken_after t x).slots (k - 1)) ((after_of z mem).slots k)) (sym ended)
+        (slots-as m (taken_after t x).slots (changed_all ds (changed c1 mem1)).slots (changed c1 mem1).slots (changed-rest ds (changed c1 mem1) sw).0 rest-2.1)) in
         came-as o trees p s t pos (Marked x) piece (map Quiet zs ++ joined tps) ps end_ hd'
         (record {
           memory = moved.memory;
@@ -282,7 +304,7 @@ fill-piece ls o trees s mem t pos p c cs run f end_ piece ps a h rest an = by re
     tail = marked_behind 0 rest.act ++ joined rest.turns
 
     by : (stores : List Taken) (left : List Todo) → f.left ≡ left → AreTodos m.pages stores left → piece ∷ ps ≡ map Quiet stores ++ tail → Came o trees p s t pos piece ps end_
-    by [] [] q are e = act-piece ls o trees s mem t pos p c cs run rest.after f rest.act rest.turns end_ piece ps a q h rest.changed rest.after_is rest.own (sym e) an
+    by [] [] q are e = act-piece ls o trees s mem t pos p c cs run rest.after f rest.act rest.turns end_ piece ps a q h rest.hasher rest.changed rest.after_is rest.own (sym e) an
     by [] (Puts d ∷ ts) q are e = absurd are
     by [] (Takes fr at ∷ ts) q are e = absurd are
     by (Stepped w x ∷ xs) [] q are e = absurd are
@@ -296,7 +318,7 @@ fill-piece ls o trees s mem t pos p c cs run f end_ piece ps a h rest an = by re
           memory = mem;
           now = filling_at pos p c cs run ((pos p).owes ++ due d.at (mem.words d.at) ∷ []) (record f { made = f.made ++ d ∷ []; left = ts });
           stands = fill-store ls o trees s mem t pos p c cs run f d ts a q h;
-          rest = record { stores = xs; act = rest.act; turns = rest.turns; are = are.1; changed = rest.changed; pieces = refl; after = rest.after; after_is = rest.after_is; own = rest.own };
+          rest = record { stores = xs; act = rest.act; turns = rest.turns; are = are.1; hasher = rest.hasher; changed = rest.changed; pieces = refl; after = rest.after; after_is = rest.after_is; own = rest.own };
         })
     by (Stepped w x ∷ []) (Takes fr at ∷ ts) q are e = absurd are
     by (Stepped w x ∷ (Swapped k u v ∷ xs)) (Takes fr at ∷ ts) q are e = absurd are
@@ -329,7 +351,7 @@ fill-piece ls o trees s mem t pos p c cs run f end_ piece ps a h rest an = by re
                 };
               })
               (λ r in_r. a.all.laid_is r in_r ∙ laid-same (length o.calls) (λ k. (pos k).owes) (λ k. (put pos p now k).owes) (on_table m t) (on_table m t) r (λ k j. same k r) refl);
-          rest = record { stores = xs'; act = rest.act; turns = rest.turns; are = (are.1, are.2); changed = rest.changed; pieces = refl; after = rest.after; after_is = rest.after_is; own = rest.own };
+          rest = record { stores = xs'; act = rest.act; turns = rest.turns; are = (are.1, are.2); hasher = rest.hasher; changed = rest.changed; pieces = refl; after = rest.after; after_is = rest.after_is; own = rest.own };
         })
       where
         same : (k : ℕ) (r : WordPlace) → last_at (pos k).owes r ≡ last_at (put pos p (filling_at pos p c cs run (pos p).owes (record f { left = Puts (due at x) ∷ ts })) k).owes r

@@ -162,7 +162,7 @@ change-due inj m g w c fs mem pl each one rest =
     ∙ (ap (λ (ds : List Due). ds ++ dues_of (all_todos fs) (stored ds mem.words)) one
     ∙ ap (λ (ds : List Due). stores_of c mem ++ ds)
     (dues-same m g w (all_todos fs) (stored (stores_of c mem) mem.words) (changed c mem).words each
-    (λ r i reads. stored-is (stores_of c mem) mem.words r ∙ sym (one-is m c mem r i pl)) ∙ rest))
+    (λ r i reads. stored-is (stores_of c mem) mem.words r ∙ sym (one-is m c mem r i)) ∙ rest))
 
 pub fills-due : PlacesInjective → (m : Machine) (g : Grip) (w : World) (fs : List Change) (mem : Memory) → MayFillAll m g w fs → dues_of (all_todos fs) mem.words ≡ all_stores fs mem
 fills-due inj m g w [] mem may = refl

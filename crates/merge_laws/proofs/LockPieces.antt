@@ -1,5 +1,6 @@
 -- The pieces that are steps on lock words: undos, releases and tries.
-use Rattle.std.proofs.Common.{◌≡◌, ℕ, ◌<◌, Bool, true, false, ◌||◌, List, [], ◌∷◌, length, None, refl, ap, sym, ◌∙◌, subst}
+use Rattle.mrtd_measure.specs.declared.measures.Measure.{Measure}
+use Rattle.std.proofs.Common.{◌≡◌, ℕ, ◌<◌, Bool, true, false, ◌||◌, List, [], ◌∷◌, length, None, refl, ap, sym, ◌∙◌, subst, Option}
 use Rattle.td_words.specs.declared.names.LockName.{LockName}
 use Rattle.td_words.specs.declared.names.Mode.{Mode}
 use Rattle.td_words.specs.declared.names.Mode.TheVariants.{Shared, Exclusive}
@@ -30,7 +31,7 @@ use Rattle.leaf_engine.specs.declared.needs.Need.TheVariants as need
 use Rattle.leaf_engine.specs.Changes.{Memory}
 use Rattle.leaf_engine.specs.Trees.{Tree, Lock, Load, Test, End, Since, feed, settle}
 use Rattle.leaf_engine.specs.Means.{Task, Instant, work_of, hold}
-use Rattle.leaf_engine.specs.Decides.{Gives}
+use Rattle.leaf_engine.specs.Decides.{Gives, IsHand}
 use Rattle.leaf_engine.specs.Follows.{granted, Comes}
 use Rattle.leaf_engine.specs.Turns.{Standing, Goes, TurnBy, TakesBack, GivesBack, has_ended, last_reply, tried, try_step, grants}
 use Rattle.leaf_engine.specs.Calls.{IsLockAt, AreLocks, IsStage}
@@ -92,7 +93,11 @@ undo-piece ls o trees s mem t pos p c cs run run' items e name at tps end_ a non
         let one : OneStep o trees s p c (Undoes l) run run' (step.Sub at 1) tb.items.0 (place_of s.world l) (record { event = e; reply = last_reply run'.stage run'.held }) = record {
           turn = record { turn = subst (λ (z : List Taken). TurnBy run.stage o.machine run z run' e) tb.items.1 turn; reply = refl };
           going = a.going;
-          no_hasher = ap (λ (z : Standing). z.hasher) tb.after ∙ a.runs.no_hasher;
+          hand = record {
+            hand = a.runs.hand.hand;
+            is = subst (λ (h : Option Measure). IsHand h a.runs.hand.hand) (sym (ap (λ (z : Standing). z.hasher) tb.after)) a.runs.hand.is;
+            trying = λ z. (let bad = sym (ap (λ (y : Standing). y.stage) tb.after) ∙ z in cc);
+          };
           next = next-is o s p (row_of o p c) (Undoing l) (s.lps p).call.held a.runs.call.line a.runs.call.guest h refl;
           quiet = refl;
           tdr = tt;
@@ -143,7 +148,11 @@ free-piece ls o trees s mem t pos p c cs run run' items e r tps end_ a none st t
         let one : OneStep o trees s p c (Releases x) run run' (step.Sub gb.newest.at (weight_of gb.newest.mode)) gb.items.0 (place_of s.world l) (record { event = e; reply = last_reply run'.stage run'.held }) = record {
           turn = record { turn = subst (λ (z : List Taken). TurnBy run.stage o.machine run z run' e) gb.items.1 turn; reply = refl };
           going = a.going;
-          no_hasher = ap (λ (z : Standing). z.hasher) same ∙ a.runs.no_hasher;
+          hand = record {
+            hand = a.runs.hand.hand;
+            is = subst (λ (h : Option Measure). IsHand h a.runs.hand.hand) (sym (ap (λ (z : Standing). z.hasher) same)) a.runs.hand.is;
+            trying = λ z. ap (λ (y : Standing). y.hasher) same ∙ a.runs.hand.trying (sym (ap (λ (y : Standing). y.stage) same) ∙ z);
+          };
           next = next-is o s p (row_of o p c) (Answered r') (x ∷ hs) a.runs.call.line a.runs.call.guest h k;
           quiet = refl;
           tdr = tt;
@@ -171,7 +180,7 @@ pub try-piece : (ls : Laws) (o : Opening) (trees : ℕ → Call → Tree) (s : S
     → OwnTurns (leaf_for o trees p) o.machine (after_turn c cs (pos p).at.replies run' (last_reply run'.stage run'.held)) tps end_
     → Came o trees p s t pos (Marked (Stepped (try_step at mode) seen)) (joined tps) end_
 try-piece ls o trees s mem t pos p c cs run run' e tree name at mode seen tps end_ a none st turn gives after an own =
-    by (feed (trees p c) told) (leaves-follow-rows task inst told (a.are.means p c) (at-instant o task (row_of o p c) s mem (table_of m t.slots mem.words) run refl (shown-of o trees s mem t pos p c run a.known a.all a.inside a.runs.no_hasher) a.runs.call st) (a.runs.call.told st).current)
+    by (feed (trees p c) told) (leaves-follow-rows task inst told (a.are.means p c) (at-instant o task (row_of o p c) s mem (table_of m t.slots mem.words) run refl (shown-of o trees s mem t pos p c run a.known a.all a.inside (a.runs.hand.trying st)) a.runs.call st) (a.runs.call.told st).current)
     (subst (λ (z : Tree). Gives m.pages z (need.Lock name at mode)) (ap settle (a.runs.call.told st).rest ∙ settled (trees p c) told) gives)
   where
     m : Machine
@@ -205,7 +214,11 @@ try-piece ls o trees s mem t pos p c cs run run' e tree name at mode seen tps en
         let one : OneStep o trees s p c (Attempts l mode) run run' (try_step at mode) seen q (record { event = e; reply = last_reply run'.stage run'.held }) = record {
           turn = record { turn = subst (λ (z : Stage). TurnBy z m run (Stepped (try_step at mode) seen ∷ []) run' e) (sym st) turn; reply = refl };
           going = a.going;
-          no_hasher = ap (λ (z : Standing). z.hasher) after ∙ (tried-hasher run tree name at mode (grants mode seen) ∙ a.runs.no_hasher);
+          hand = record {
+            hand = a.runs.hand.hand;
+            is = subst (λ (h : Option Measure). IsHand h a.runs.hand.hand) (sym (ap (λ (z : Standing). z.hasher) after ∙ tried-hasher run tree name at mode (grants mode seen))) a.runs.hand.is;
+            trying = λ z. ap (λ (y : Standing). y.hasher) after ∙ (tried-hasher run tree name at mode (grants mode seen) ∙ a.runs.hand.trying st);
+          };
           next = due-is o task (row_of o p c) s mem run (Attempts l mode) refl a.runs.call st (co.0 ∙ ap (Attempts l) mode-is);
           quiet = refl;
           tdr = tdr;

@@ -32,8 +32,8 @@ use Rattle.leaf_engine.proofs.Turning.{Laws as EngineLaws, calls-follow}
 use Rattle.merge_laws.proofs.Virtual.{table_of, holds-memory, step-same, step-elsewhere}
 use Rattle.merge_laws.proofs.Stores.{Due, last_at, laid, laid-none, laid-same}
 use Rattle.merge_laws.proofs.Holding.{bare}
-use Rattle.merge_laws.proofs.Standing.{Laws, leaf_for, AreTrees, Known, RunsAt, on_table, Position, Stands}
-use Rattle.merge_laws.proofs.Others.{shown-of}
+use Rattle.merge_laws.proofs.Standing.{Laws, leaf_for, AreTrees, Known, HandOf, RunsAt, on_table, Position, Stands}
+use Rattle.merge_laws.proofs.Others.{shown-hand}
 use Rattle.merge_laws.proofs.Own.{AttemptTdr, tdrs-after, stands-after, world-of-event, at-own, at-other, gathered, none-due}
 
 pub engine : Laws → EngineLaws
@@ -53,7 +53,7 @@ answers-same w v (step.Exchange n old new) at a e = ap w a ∙ (e ∙ ap v (sym 
 pub record OneStep (o : Opening) (trees : ℕ → Call → Tree) (s : State) (p : ℕ) (c : Call) (mv : Move Reply) (run run' : Standing) (st : WordStep) (a : ℕ) (q : WordPlace) (result : RunTurn) : Type 0 where
   pub turn : IsTurn o.machine run (Stepped st a ∷ []) run' result
   pub going : has_ended run.stage run.held ≡ false
-  pub no_hasher : run'.hasher ≡ None
+  pub hand : HandOf run'
   pub next : next_event o s p ≡ Some (OfCall (row_of o p c) mv)
   pub quiet : call_world (row_of o p c) mv s.world ≡ s.world
   pub tdr : AttemptTdr mv (s.lps p).call.held
@@ -74,18 +74,18 @@ pub lock-step : (ls : Laws) (o : Opening) (trees : ℕ → Call → Tree) (s : S
     → Moved o trees (event o s p) (record t { words = after_step t.words st }) (put pos p (record { at = after_turn c cs rs run' result.reply; owes = []; fill = None }))
 lock-step ls o trees s mem t pos p c cs rs mv run run' st a q result are known sd i lines replies none ra one an =
     record {
-      memory = after.mem;
-      stands = gathered ls o trees s mem after.mem t t' pos p now are known sd i
+      memory = mem';
+      stands = gathered ls o trees s mem mem' t t' pos p now are known sd i
           (record {
             respects = subst (λ (w : World). Respects (bare (s.lps p).call.held) s.world w) (sym world) (ls.compose.same (bare (s.lps p).call.held) s.world);
             looks = λ hs v r apart in_r reads. ap (look v) (by-place r in_r (λ e. absurd (no-read hs v r apart reads e)));
             still = λ hs r g apart in_r owes. sym (elsewhere r in_r (λ e. no-owed hs r g apart owes e));
             filled = λ hs r apart in_r fills. (sym (elsewhere r in_r (λ e. no-filled hs r apart fills e)), by-place r in_r (λ e. absurd (no-filled hs r apart fills e)));
           })
-          after.shown hand
+          after.shown refl
           (λ h in_h. subst (λ (f : ℕ → Option Measure). IsHand (t.slots (h - 1)) (after.mem.slots h)) {x = t.slots} refl (after.memory.slots h in_h))
           (record {
-            stands = stands-after o trees p c cs (s.lps p) (event o s p) uV run' result.reply lines after one.no_hasher
+            stands = stands-after o trees p c cs (s.lps p) (event o s p) uV run' result.reply lines after one.hand
                 (tdrs-after o s p (row_of o p c) mv one.next (are.means p c).enters_none ra.tdrs one.tdr one.no_rest one.answered) rs replies;
             due = tt;
           })
@@ -108,8 +108,11 @@ lock-step ls o trees s mem t pos p c cs rs mv run run' st a q result are known s
     uV : Table
     uV = record tV { words = after_step tV.words st }
 
-    holds : IsMemory m tV None mem
-    holds = holds-memory m t.slots mem sd.slots sd.hand
+    mem-h : Memory
+    mem-h = record mem { hand = ra.hand.hand }
+
+    holds : IsMemory m tV run.hasher mem-h
+    holds = holds-memory m t.slots run.hasher mem-h sd.slots ra.hand.is
 
     none-at : (k : ℕ) → k < length o.calls → last_at (pos k).owes q ≡ None
     none-at k j = by (k == p) refl
@@ -131,19 +134,15 @@ lock-step ls o trees s mem t pos p c cs rs mv run run' st a q result are known s
 
     after : After o (leaf_for o trees p c) (row_of o p c) (s.lps p).replies (event o s p) uV run' result.reply
     after =
-        calls-follow (engine ls) o (leaf_for o trees p c) (row_of o p c) s mem tV uV run run' (Stepped st a ∷ []) result (are.means p c) refl
-        (shown-of o trees s mem t pos p c run known sd i ra.no_hasher) ra.call one.going one.turn
+        calls-follow (engine ls) o (leaf_for o trees p c) (row_of o p c) s mem-h tV uV run run' (Stepped st a ∷ []) result (are.means p c) refl
+        (shown-hand o trees s mem t pos p c run known sd i ra.hand) ra.call one.going one.turn
         (an ∙ answers-same t.words tV.words st (address m.pages q) one.at virtual, (refl, refl))
 
     world : (event o s p).world ≡ s.world
     world = world-of-event o s p (row_of o p c) mv one.next ∙ one.quiet
 
-    hand : after.mem.hand ≡ None
-    hand = by after.mem.hand (subst (λ (h : Option Measure). IsHand h after.mem.hand) one.no_hasher after.memory.hand)
-      where
-        by : (h : Option (List ℕ)) → IsHand None h → h ≡ None
-        by None x = refl
-        by (Some bytes) x = absurd x
+    mem' : Memory
+    mem' = record (after.mem) { hand = None }
 
     same-test : (r : WordPlace) → (b : Bool) → same_place r q ≡ b → ((b ≡ true) → r ≡ q)
     same-test r b e h = (ls.places.same r q).0 (e ∙ h)

@@ -21,9 +21,10 @@ use Rattle.lock_words.specs.Grips.{HoldTdrs, HoldsTdr, UndoTdr}
 use Rattle.leaf_engine.specs.declared.events.HeldLock.{HeldLock}
 use Rattle.leaf_engine.specs.declared.events.Stage.{Stage}
 use Rattle.leaf_engine.specs.declared.events.Stage.TheVariants as stages
-use Rattle.leaf_engine.specs.Changes.{Memory}
+use Rattle.leaf_engine.specs.Changes.{Hand, Memory}
 use Rattle.leaf_engine.specs.Trees.{Tree, Lock, Load, Test, End, Since}
 use Rattle.leaf_engine.specs.Means.{Task, IsAt, work_of, hold}
+use Rattle.leaf_engine.specs.Decides.{IsHand}
 use Rattle.leaf_engine.specs.Turns.{Standing}
 use Rattle.leaf_engine.specs.Calls.{IsLockAt, AreLocks, IsStage, IsCallAt, IsShown}
 use Rattle.leaf_engine.proofs.Turning.{instant, at-instant}
@@ -32,22 +33,32 @@ use Rattle.merge_laws.proofs.Stores.{Due, last_at, or_else, each-map, FillsAt, l
 use Rattle.merge_laws.proofs.Filling.{all_todos, dues-same, todos-kept}
 use Rattle.merge_laws.proofs.Keeping.{keeps-same}
 use Rattle.merge_laws.proofs.Holding.{bare, NoGuests, grip-is-bare, IsOlder, lock-stays, EachTold, told-reads, told-older, still-current}
-use Rattle.merge_laws.proofs.Standing.{Laws, leaf_for, AreTrees, Known, RunsAt, RunAt, on_table, Fill, Position, seen_by, back, FillHolds, Pending, Holds, Stands}
+use Rattle.merge_laws.proofs.Standing.{Laws, leaf_for, AreTrees, Known, HandOf, RunsAt, RunAt, on_table, Fill, Position, seen_by, back, FillHolds, Pending, Holds, Stands}
 
--- words that show a state, on a table that holds them
-pub shown-of : (o : Opening) (trees : ℕ → Call → Tree) (s : State) (mem : Memory) (t : Table) (pos : ℕ → Position) (p : ℕ) (c : Call) (run : Standing) → Known o s → Stands o trees s mem t pos → p < length o.calls
-    → run.hasher ≡ None → IsShown (leaf_for o trees p c) s mem (table_of o.machine t.slots mem.words) run
-shown-of o trees s mem t pos p c run known st i none = record {
+-- words that show a state, on a table that holds them, with the hasher that a run has in hand
+pub shown-hand : (o : Opening) (trees : ℕ → Call → Tree) (s : State) (mem : Memory) (t : Table) (pos : ℕ → Position) (p : ℕ) (c : Call) (run : Standing) → Known o s → Stands o trees s mem t pos → p < length o.calls
+    → (ho : HandOf run) → IsShown (leaf_for o trees p c) s (record mem { hand = ho.hand }) (table_of o.machine t.slots mem.words) run
+shown-hand o trees s mem t pos p c run known st i ho = record {
   processor = subst (λ (n : ℕ). p < n) (sym known.count) i;
   lawful = known.lawful;
   shown = st.shows;
-  memory = subst (λ (h : Option Measure). Rattle.leaf_engine.specs.Tables.IsMemory o.machine (table_of o.machine t.slots mem.words) h mem) (sym none) (holds-memory o.machine t.slots mem st.slots st.hand);
+  memory = holds-memory o.machine t.slots run.hasher (record mem { hand = ho.hand }) st.slots ho.is;
   exclusive = known.exclusive;
   few_sharers = known.few;
   nothing_to_tell = known.nothing_to_tell;
   tdrs = st.tdrs;
-  empty_hand = λ e. st.hand;
+  empty_hand = λ e. empty ho.hand (subst (λ (h : Option Measure). IsHand h ho.hand) (ho.trying e) ho.is);
 }
+  where
+    empty : (h : Hand) → IsHand None h → h ≡ None
+    empty None x = refl
+    empty (Some bytes) x = absurd x
+
+pub shown-of : (o : Opening) (trees : ℕ → Call → Tree) (s : State) (mem : Memory) (t : Table) (pos : ℕ → Position) (p : ℕ) (c : Call) (run : Standing) → Known o s → Stands o trees s mem t pos → p < length o.calls
+    → run.hasher ≡ None → IsShown (leaf_for o trees p c) s mem (table_of o.machine t.slots mem.words) run
+shown-of o trees s mem t pos p c run known st i none =
+    let empty : IsHand run.hasher mem.hand = subst (λ (h : Option Measure). IsHand h mem.hand) (sym none) (subst (λ (h : Hand). IsHand None h) (sym st.hand) tt) in
+    shown-hand o trees s mem t pos p c run known st i (record { hand = mem.hand; is = empty; trying = λ e. none })
 
 -- what it holds in an instant is its locks
 pub hold-is : (s : State) (mem : Memory) (task : Task) (hs : List Held) → NoGuests s → hold (instant task s mem) hs ≡ bare hs
@@ -186,13 +197,13 @@ others-stay ls o trees s mem t pos k w' words' a' ks are known st i lv =
                 let told = ca.told e in
                 record {
                   told = told.told;
-                  current = still-current (trees k c) told.told [] mem.words words' _ (stable-told o trees s mem t pos k c r are known st i a.no_hasher ca e) (λ hs v q x. lv.looks hs v q x.0 x.1 x.2) told.current;
+                  current = still-current (trees k c) told.told [] mem.words words' _ (stable-told o trees s mem t pos k c r are known st i (a.hand.trying e) ca e) (λ hs v q x. lv.looks hs v q x.0 x.1 x.2) told.current;
                   waits = told.waits;
                   rest = told.rest;
                   locks = told.locks;
                 };
           };
-          no_hasher = a.no_hasher;
+          hand = a.hand;
           tdrs = a.tdrs;
         }
 

@@ -30,7 +30,7 @@ use Rattle.leaf_engine.proofs.Calling.{event-is, lp-now}
 use Rattle.merge_laws.proofs.Stores.{Due, last_at, laid, last-each, OwesAt, FillsAt}
 use Rattle.merge_laws.proofs.Keeping.{keeps-each}
 use Rattle.merge_laws.proofs.Holding.{bare, NoGuests, IsOlder, apart-held}
-use Rattle.merge_laws.proofs.Standing.{Laws, leaf_for, AreTrees, Known, RunAt, StandsAt, on_table, Fill, Position, back, Pending, Holds, Stands}
+use Rattle.merge_laws.proofs.Standing.{Laws, leaf_for, AreTrees, Known, HandOf, RunAt, StandsAt, on_table, Fill, Position, back, Pending, Holds, Stands}
 use Rattle.merge_laws.proofs.Others.{Leaves, others-stay}
 
 -- its record
@@ -99,7 +99,7 @@ one-more : (rs : List Reply) (r : Reply) → length (rs ++ r ∷ []) ≡ length 
 one-more rs r = length-append rs (r ∷ [])
 
 pub stands-after : (o : Opening) (trees : ℕ → Call → Tree) (p : ℕ) (c : Call) (cs : List Call) (lp : Lp) (s' : State) (u : Table) (run' : Standing) (reply : Option Reply) → lines_left o p lp ≡ c ∷ cs
-    → (after : After o (leaf_for o trees p c) (row_of o p c) lp.replies s' u run' reply) → run'.hasher ≡ None → CallTdrs (s'.lps p).call → (rs : List Reply) → lp.replies ≡ rs
+    → (after : After o (leaf_for o trees p c) (row_of o p c) lp.replies s' u run' reply) → HandOf run' → CallTdrs (s'.lps p).call → (rs : List Reply) → lp.replies ≡ rs
     → StandsAt o trees p s'.world after.mem.words (s'.lps p) (after_turn c cs rs run' reply)
 stands-after o trees p c cs lp s' u run' reply lines after none tdrs rs same = by reply after.then_
   where
@@ -108,7 +108,7 @@ stands-after o trees p c cs lp s' u run' reply lines after none tdrs rs same = b
     by None (inl g) = record {
       lines = ap (λ (z : List Reply). drop (length z) (calls_of o.calls p)) g.replies_are ∙ lines;
       replies = g.replies_are ∙ same;
-      run = record { call = g.call; no_hasher = none; tdrs = tdrs };
+      run = record { call = g.call; hand = none; tdrs = tdrs };
     }
     by (Some r) (inl g) = (let e = g.no_reply in cc)
     by None (inr v) = (let e = v.reply_is in cc)

@@ -1,4 +1,5 @@
 -- Where each processor is beside the flat machine, while a merge is gone through.
+use Rattle.mrtd_measure.specs.declared.measures.Measure.{Measure}
 use Rattle.std.proofs.Common.{◌≡◌, ℕ, ◌+◌, ◌-◌, ◌^◌, ◌<◌, true, List, [], ◌∷◌, ◌++◌, map, length, Option, Some, None}
 use Rattle.td_words.specs.declared.machines.Machine.{Machine}
 use Rattle.td_words.specs.declared.calls.Call.{Call}
@@ -25,8 +26,8 @@ use Rattle.act_rules.specs.Stores.{OthersStoresKeepReads}
 use Rattle.step_core.specs.Items.{Table, Taken}
 use Rattle.step_core.specs.Laws.{PagesChangeAlone}
 use Rattle.leaf_engine.specs.Changes.{Memory}
-use Rattle.leaf_engine.specs.Trees.{Tree, End, feed, changes_of}
-use Rattle.leaf_engine.specs.Changes.{Change, are_plain}
+use Rattle.leaf_engine.specs.Trees.{Tree, End, feed, swaps_as_act}
+use Rattle.leaf_engine.specs.Changes.{Hand, Change}
 use Rattle.leaf_engine.specs.Means.{Task, OfCall, MeansRow, IsHkid}
 use Rattle.leaf_engine.specs.Decides.{IsHand}
 use Rattle.leaf_engine.specs.declared.events.Stage.TheVariants as stages
@@ -66,7 +67,7 @@ leaf_for o trees p c = record { place = record { machine = o.machine; lp = p }; 
 
 pub record AreTrees (o : Opening) (trees : ℕ → Call → Tree) : Type 0 where
   pub means : (p : ℕ) (c : Call) → MeansRow (leaf_for o trees p c)
-  pub plain : (p : ℕ) (c : Call) (told : List ℕ) → are_plain (changes_of (feed (trees p c) told)) ≡ true
+  pub swaps : (p : ℕ) (c : Call) (told : List ℕ) → swaps_as_act (feed (trees p c) told) ≡ true
 
 -- what is known of a state that a run reaches
 pub record Known (o : Opening) (s : State) : Type 0 where
@@ -78,10 +79,16 @@ pub record Known (o : Opening) (s : State) : Type 0 where
   pub few : (l : LockId) → sharers s.lps s.lp_count l + refusals s.lps s.lp_count l + 1 < 2 ^ 63
   pub nothing_to_tell : s.world.outgoing.to_tell ≡ None
 
+-- the hasher that a run has in hand: none on its way
+pub record HandOf (run : Standing) : Type 0 where
+  pub hand : Hand
+  pub is : IsHand run.hasher hand
+  pub trying : run.stage ≡ stages.Trying → run.hasher ≡ None
+
 -- a run that has begun
 pub record RunsAt (o : Opening) (task : Task) (row : Row) (w : World) (words : WordPlace → ℕ) (lp : Lp) (run : Standing) : Type 0 where
   pub call : IsCallAt o task row w words lp run
-  pub no_hasher : run.hasher ≡ None
+  pub hand : HandOf run
   pub tdrs : CallTdrs lp.call
 
 abbrev pub RunAt : Opening → (ℕ → Call → Tree) → ℕ → World → (WordPlace → ℕ) → Lp → List Call → Option Standing → Type 0
@@ -157,10 +164,11 @@ pub record RestFilling (o : Opening) (trees : ℕ → Call → Tree) (p : ℕ) (
   pub act : List Taken
   pub turns : List (List Piece)
   pub are : AreTodos o.machine.pages stores f.left
-  pub changed : AreChanged o.machine f.changes None act None
+  pub hasher : Option Measure
+  pub changed : AreChanged o.machine f.changes None act hasher
   pub pieces : ps ≡ map Quiet stores ++ (marked_behind 0 act ++ joined turns)
   pub after : Standing
-  pub after_is : after ≡ standing (End f.reply f.fills f.changes) (stages.Answered f.reply) run.held None
+  pub after_is : after ≡ standing (End f.reply f.fills f.changes) (stages.Answered f.reply) run.held hasher
   pub own : OwnTurns (leaf_for o trees p) o.machine (after_turn c cs replies after (last_reply after.stage after.held)) turns end_
 
 abbrev pub RestBy : Opening → (ℕ → Call → Tree) → ℕ → Position → List Piece → WordLp → Option Fill → List Call → Option Standing → Type 0

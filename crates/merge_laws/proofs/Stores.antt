@@ -1,5 +1,5 @@
 -- Stores that are due: what processors have still to store, or what they would put back, laid over memory.
-use Rattle.std.proofs.Common.{◌≡◌, ℕ, zero, suc, ◌+◌, ◌%◌, ◌^◌, ◌<◌, Bool, true, false, ◌==◌, if◌then◌else◌, List, [], ◌∷◌, ◌++◌, Option, Some, None, refl, ap, sym, ◌∙◌, subst, arith}
+use Rattle.std.proofs.Common.{◌≡◌, ℕ, zero, suc, ◌+◌, ◌%◌, ◌^◌, ◌<◌, Bool, true, false, not, ◌==◌, if◌then◌else◌, List, [], ◌∷◌, ◌++◌, Option, Some, None, refl, ap, sym, ◌∙◌, subst, arith}
 use Rattle.std.proofs.lemmas.Bool.{eqb-true, eqb-false, eq-eqb, ne_eqb, and_parts, and_right}
 use Rattle.td_words.specs.declared.machines.Machine.{Machine}
 use Rattle.td_words.specs.Address.{word_at}
@@ -15,7 +15,7 @@ use Rattle.lock_words.specs.LockWords.{put_word}
 use Rattle.step_core.specs.declared.steps.WordStep.TheVariants as step
 use Rattle.step_core.specs.Items.{Taken, Stepped, Swapped, Missed}
 use Rattle.step_core.specs.Pages.{clearing}
-use Rattle.leaf_engine.specs.Changes.{Memory, Change, Put, PutHash, Raise, Clear, Copy, Swap, put_page, changed, changed_all, is_plain, are_plain}
+use Rattle.leaf_engine.specs.Changes.{Memory, Change, Put, PutHash, Raise, Clear, Copy, Swap, put_page, changed, changed_all, is_swap, has_no_swap}
 use Rattle.leaf_engine.specs.Means.{MayFillAll, MayOwe, MayOweAll}
 use Rattle.leaf_engine.specs.declared.needs.Write.{Write}
 use Rattle.leaf_engine.specs.declared.needs.Write.TheVariants as write
@@ -178,33 +178,33 @@ or-test true x y = refl
 or-test false x y = refl
 
 -- what one change makes of memory
-pub one-is : (m : Machine) (c : Change) (mem : Memory) (r : WordPlace) → IsIn m r → is_plain c ≡ true → (changed c mem).words r ≡ or_else (last_at (stores_of c mem) r) (mem.words r)
-one-is m (Put q x) mem r i pl = or-test (same_place r q) x (mem.words r)
-one-is m (PutHash q x) mem r i pl = or-test (same_place r q) (x mem.hand) (mem.words r)
-one-is m (Raise q) mem r i pl = or-test (same_place r q) ((mem.words q + 1) % 2 ^ 64) (mem.words r)
-one-is m (Clear p) mem r i pl = page-is m mem.words p (λ j. 0) r i
-one-is m (Copy p q) mem r i pl = page-is m mem.words q (λ j. mem.words (Word p j)) r i
-one-is m (Swap h made) mem r i pl = cc
+pub one-is : (m : Machine) (c : Change) (mem : Memory) (r : WordPlace) → IsIn m r → (changed c mem).words r ≡ or_else (last_at (stores_of c mem) r) (mem.words r)
+one-is m (Put q x) mem r i = or-test (same_place r q) x (mem.words r)
+one-is m (PutHash q x) mem r i = or-test (same_place r q) (x mem.hand) (mem.words r)
+one-is m (Raise q) mem r i = or-test (same_place r q) ((mem.words q + 1) % 2 ^ 64) (mem.words r)
+one-is m (Clear p) mem r i = page-is m mem.words p (λ j. 0) r i
+one-is m (Copy p q) mem r i = page-is m mem.words q (λ j. mem.words (Word p j)) r i
+one-is m (Swap h made) mem r i = refl
 
 pub or-later : (a b : Option ℕ) (y : ℕ) → or_else (later a b) y ≡ or_else a (or_else b y)
 or-later (Some x) b y = refl
 or-later None b y = refl
 
 -- what changes make of memory is their stores laid over it
-pub changed-is : PlacesInjective → (m : Machine) (cs : List Change) (mem : Memory) (r : WordPlace) → IsIn m r → are_plain cs ≡ true → (changed_all cs mem).words r ≡ or_else (last_at (all_stores cs mem) r) (mem.words r)
-changed-is inj m [] mem r i pl = refl
-changed-is inj m (c ∷ cs) mem r i pl =
+pub changed-is : PlacesInjective → (m : Machine) (cs : List Change) (mem : Memory) (r : WordPlace) → IsIn m r → (changed_all cs mem).words r ≡ or_else (last_at (all_stores cs mem) r) (mem.words r)
+changed-is inj m [] mem r i = refl
+changed-is inj m (c ∷ cs) mem r i =
     let after : Option ℕ = last_at (all_stores cs (changed c mem)) r in
-    changed-is inj m cs (changed c mem) r i (and_parts (is_plain c) (are_plain cs) pl).1
-    ∙ (ap (λ (y : ℕ). or_else after y) (one-is m c mem r i (and_parts (is_plain c) (are_plain cs) pl).0)
+    changed-is inj m cs (changed c mem) r i
+    ∙ (ap (λ (y : ℕ). or_else after y) (one-is m c mem r i)
     ∙ (sym (or-later after (last_at (stores_of c mem) r) (mem.words r))
     ∙ ap (λ (o : Option ℕ). or_else o (mem.words r)) (sym (last-append (stores_of c mem) (all_stores cs (changed c mem)) r))))
 
 -- and leaves slots and the hand
-pub changed-rest : (cs : List Change) (mem : Memory) → are_plain cs ≡ true → ((changed_all cs mem).slots ≡ mem.slots) × ((changed_all cs mem).hand ≡ mem.hand)
+pub changed-rest : (cs : List Change) (mem : Memory) → has_no_swap cs ≡ true → ((changed_all cs mem).slots ≡ mem.slots) × ((changed_all cs mem).hand ≡ mem.hand)
 changed-rest [] mem pl = (refl, refl)
 changed-rest (Put q x ∷ cs) mem pl = changed-rest cs (changed (Put q x) mem) pl
-changed-rest (PutHash q x ∷ cs) mem pl = cc
+changed-rest (PutHash q x ∷ cs) mem pl = changed-rest cs (changed (PutHash q x) mem) pl
 changed-rest (Raise q ∷ cs) mem pl = changed-rest cs (changed (Raise q) mem) pl
 changed-rest (Clear p ∷ cs) mem pl = changed-rest cs (changed (Clear p) mem) pl
 changed-rest (Copy p q ∷ cs) mem pl = changed-rest cs (changed (Copy p q) mem) pl
@@ -217,10 +217,10 @@ OwesAt m g w q = IsIn m q × ((k : Grade) × Owes g w q k)
 abbrev pub FillsAt : Machine → Grip → World → WordPlace → Type 0
 FillsAt m g w q = IsIn m q × Fills g w q
 
-pub owed-stores : (m : Machine) (g : Grip) (w : World) (mem : Memory) (cs : List Change) → MayOweAll m g w mem cs → are_plain cs ≡ true → EachDue (OwesAt m g w) (all_stores cs mem)
+pub owed-stores : (m : Machine) (g : Grip) (w : World) (mem : Memory) (cs : List Change) → MayOweAll m g w mem cs → has_no_swap cs ≡ true → EachDue (OwesAt m g w) (all_stores cs mem)
 owed-stores m g w mem [] may pl = tt
 owed-stores m g w mem (Put q x ∷ cs) may pl = ((may.0.0, (may.0.1.0, may.0.1.1)), owed-stores m g w (changed (Put q x) mem) cs may.1 pl)
-owed-stores m g w mem (PutHash q x ∷ cs) may pl = cc
+owed-stores m g w mem (PutHash q x ∷ cs) may pl = ((may.0.0, (KeepsNothing, may.0.1)), owed-stores m g w (changed (PutHash q x) mem) cs may.1 pl)
 owed-stores m g w mem (Raise q ∷ cs) may pl = absurd may.0
 owed-stores m g w mem (Clear p ∷ cs) may pl = each-append (OwesAt m g w) (words_from p 512 (λ i. 0)) (all_stores cs (changed (Clear p) mem))
     (words-each (OwesAt m g w) p 512 (λ i. 0) (λ i l. ((may.0.0, l), (KeepsNothing, may.0.1 i l))))
@@ -260,32 +260,35 @@ none-is None i = refl
 none-is (Some h) i = absurd i
 
 -- the items of one change
-one-items : (m : Machine) (g : Grip) (w : World) (mem : Memory) (c : Change) (h' : Option Measure) (xs : List Taken) → MayOwe m g w mem c → is_plain c ≡ true → IsChanged m c None xs h'
-    → (h' ≡ None) × AreStores m.pages xs (stores_of c mem)
-one-items m g w mem (Put q x) h' xs may pl ch =
-    let handed = ch.handed None tt in
+one-items : (m : Machine) (g : Grip) (w : World) (mem : Memory) (c : Change) (h h' : Option Measure) (xs : List Taken) → MayOwe m g w mem c → not (is_swap c) ≡ true → IsChanged m c h xs h' → IsHand h mem.hand
+    → IsHand h' (changed c mem).hand × AreStores m.pages xs (stores_of c mem)
+one-items m g w mem (Put q x) h h' xs may ns ch i =
+    let handed = ch.handed mem.hand i in
     let written : IsWritten (write.Word (step.Store (address m.pages q) x)) ch.between xs h' = subst (λ (z : Write). IsWritten z ch.between xs h') handed.0 ch.written in
-    (written.0 ∙ none-is ch.between handed.1, subst (λ (z : List Taken). AreStores m.pages z (due q x ∷ [])) (sym written.1.1) (refl, tt))
-one-items m g w mem (PutHash q x) h' xs may pl ch = cc
-one-items m g w mem (Raise q) h' xs may pl ch = absurd may
-one-items m g w mem (Clear p) h' xs may pl ch =
-    let handed = ch.handed None tt in
+    (subst (λ (z : Option Measure). IsHand z mem.hand) (sym written.0) handed.1, subst (λ (z : List Taken). AreStores m.pages z (due q x ∷ [])) (sym written.1.1) (refl, tt))
+one-items m g w mem (PutHash q x) h h' xs may ns ch i =
+    let handed = ch.handed mem.hand i in
+    let written : IsWritten (write.Word (step.Store (address m.pages q) (x mem.hand))) ch.between xs h' = subst (λ (z : Write). IsWritten z ch.between xs h') handed.0 ch.written in
+    (subst (λ (z : Option Measure). IsHand z mem.hand) (sym written.0) handed.1, subst (λ (z : List Taken). AreStores m.pages z (due q (x mem.hand) ∷ [])) (sym written.1.1) (refl, tt))
+one-items m g w mem (Raise q) h h' xs may ns ch i = absurd may
+one-items m g w mem (Clear p) h h' xs may ns ch i =
+    let handed = ch.handed mem.hand i in
     let written : IsWritten (write.Zero p) ch.between xs h' = subst (λ (z : Write). IsWritten z ch.between xs h') handed.0 ch.written in
-    (written.0 ∙ none-is ch.between handed.1, subst (λ (z : List Taken). AreStores m.pages z (words_from p 512 (λ i. 0))) (sym written.1) (clears-are m.pages p 512))
-one-items m g w mem (Copy p q) h' xs may pl ch = absurd may
-one-items m g w mem (Swap k made) h' xs may pl ch = cc
+    (subst (λ (z : Option Measure). IsHand z mem.hand) (sym written.0) handed.1, subst (λ (z : List Taken). AreStores m.pages z (words_from p 512 (λ k. 0))) (sym written.1) (clears-are m.pages p 512))
+one-items m g w mem (Copy p q) h h' xs may ns ch i = absurd may
+one-items m g w mem (Swap k made) h h' xs may ns ch i = cc
 
 -- the items of changes that are owed are their stores
-pub owed-items : (m : Machine) (g : Grip) (w : World) (mem : Memory) (cs : List Change) (h h' : Option Measure) (xs : List Taken) → MayOweAll m g w mem cs → are_plain cs ≡ true
-    → AreChanged m cs h xs h' → h ≡ None → (h' ≡ None) × AreStores m.pages xs (all_stores cs mem)
-owed-items m g w mem [] h h' xs may pl ch none = (ch.0 ∙ none, subst (λ (z : List Taken). AreStores m.pages z []) (sym ch.1) tt)
-owed-items m g w mem (c ∷ cs) h h' xs may pl ch none =
+pub owed-items : (m : Machine) (g : Grip) (w : World) (mem : Memory) (cs : List Change) (h h' : Option Measure) (xs : List Taken) → MayOweAll m g w mem cs → has_no_swap cs ≡ true
+    → AreChanged m cs h xs h' → IsHand h mem.hand → IsHand h' (changed_all cs mem).hand × AreStores m.pages xs (all_stores cs mem)
+owed-items m g w mem [] h h' xs may pl ch i = (subst (λ (z : Option Measure). IsHand z mem.hand) (sym ch.0) i, subst (λ (z : List Taken). AreStores m.pages z []) (sym ch.1) tt)
+owed-items m g w mem (c ∷ cs) h h' xs may pl ch i =
     let between : Option Measure = ch.0 in
     let ys : List Taken = ch.1.0 in
     let zs : List Taken = ch.1.1.0 in
-    let plain = and_parts (is_plain c) (are_plain cs) pl in
-    let one = one-items m g w mem c between ys may.0 plain.0 (subst (λ (z : Option Measure). IsChanged m c z ys between) none ch.1.1.2) in
-    let rest = owed-items m g w (changed c mem) cs between h' zs may.1 plain.1 ch.1.1.3 one.0 in
+    let parts = and_parts (not (is_swap c)) (has_no_swap cs) pl in
+    let one = one-items m g w mem c h between ys may.0 parts.0 ch.1.1.2 i in
+    let rest = owed-items m g w (changed c mem) cs between h' zs may.1 parts.1 ch.1.1.3 one.0 in
     (rest.0, subst (λ (z : List Taken). AreStores m.pages z (all_stores (c ∷ cs) mem)) (sym ch.1.1.1) (are-append m.pages ys zs (stores_of c mem) (all_stores cs (changed c mem)) one.1 rest.1))
 
 -- a page of new words, where each of their stores leaves what is looked at
@@ -303,13 +306,13 @@ page-looks m v words p xs (Word q j) i keeps = by (q == p) refl
     by false e = rw e refl
 
 -- what a load looks at stays through changes that are owed, and through fills, where it stays through each of their stores
-pub looks-owed : PlacesInjective → (m : Machine) (g : Grip) (w : World) (mem : Memory) (cs : List Change) (r : WordPlace) (v : View) → IsIn m r → MayOweAll m g w mem cs → are_plain cs ≡ true
+pub looks-owed : PlacesInjective → (m : Machine) (g : Grip) (w : World) (mem : Memory) (cs : List Change) (r : WordPlace) (v : View) → IsIn m r → MayOweAll m g w mem cs → has_no_swap cs ≡ true
     → ((words : WordPlace → ℕ) (q : WordPlace) (x : ℕ) (k : Grade) → Owes g w q k → IsKept k (words q) x → look v (put_word words q x r) ≡ look v (words r))
     → look v ((changed_all cs mem).words r) ≡ look v (mem.words r)
 looks-owed inj m g w mem [] r v i may pl keeps = refl
 looks-owed inj m g w mem (Put q x ∷ cs) r v i may pl keeps =
     looks-owed inj m g w (changed (Put q x) mem) cs r v i may.1 pl keeps ∙ keeps mem.words q x may.0.1.0 may.0.1.1 may.0.1.2
-looks-owed inj m g w mem (PutHash q x ∷ cs) r v i may pl keeps = cc
+looks-owed inj m g w mem (PutHash q x ∷ cs) r v i may pl keeps = looks-owed inj m g w (changed (PutHash q x) mem) cs r v i may.1 pl keeps ∙ keeps mem.words q (x mem.hand) KeepsNothing may.0.1 tt
 looks-owed inj m g w mem (Raise q ∷ cs) r v i may pl keeps = absurd may.0
 looks-owed inj m g w mem (Clear p ∷ cs) r v i may pl keeps =
     looks-owed inj m g w (changed (Clear p) mem) cs r v i may.1 pl keeps

@@ -52,7 +52,7 @@ load-piece ls o trees s mem t pos p c cs run run' e at x tp tps end_ a none st l
               replies = a.replies;
               run = record {
                 call = told-load o trees p c s.world mem.words (s.lps p) run x a.runs.call st right (subst (λ (z : Tree). GoesOnBehind z x) (told-tree o trees s mem t pos p c cs run a st) on);
-                no_hasher = a.runs.no_hasher;
+                hand = record { hand = a.runs.hand.hand; is = a.runs.hand.is; trying = a.runs.hand.trying };
                 tdrs = a.runs.tdrs;
               };
             };
@@ -72,7 +72,7 @@ load-piece ls o trees s mem t pos p c cs run run' e at x tp tps end_ a none st l
     line = record { stands = run'; turn = subst (λ (z : Stage). TurnIn z o.machine (loaded run x) tp run' e) (sym st) goes; going = a.going; after_is = refl }
 
     right : LooksRight mem.words (feed (trees p c) (a.runs.call.told st).told) x
-    right = loads-right ls o trees s mem t pos p c run at x a.are a.known a.all a.inside none a.runs.no_hasher a.runs.call st (subst (λ (z : Tree). IsLoadAt o.machine.pages z at) (told-tree o trees s mem t pos p c cs run a st) load) an
+    right = loads-right ls o trees s mem t pos p c run at x a.are a.known a.all a.inside none (a.runs.hand.trying st) a.runs.call st (subst (λ (z : Tree). IsLoadAt o.machine.pages z at) (told-tree o trees s mem t pos p c cs run a st) load) an
 
     same : (k : ℕ) (r : WordPlace) → last_at (pos k).owes r ≡ last_at (put pos p now k).owes r
     same k r = by (k == p) refl

@@ -1,5 +1,5 @@
 -- The next piece of a turn that comes to its end.
-use Rattle.std.proofs.Common.{◌≡◌, ℕ, true, List, [], ◌∷◌, ◌++◌, map, Option, None, refl, ap, sym, ◌∙◌, subst, append_assoc}
+use Rattle.std.proofs.Common.{◌≡◌, ℕ, true, List, [], ◌∷◌, ◌++◌, map, Option, None, refl, ap, sym, ◌∙◌, subst, append_assoc, ◌-◌}
 use Rattle.td_words.specs.declared.machines.Machine.{Machine}
 use Rattle.td_words.specs.declared.calls.Call.{Call}
 use Rattle.td_words.specs.declared.replies.Reply.{Reply}
@@ -10,35 +10,31 @@ use Rattle.flat_core.specs.Table.{row_of}
 use Rattle.flat_core.specs.Event.{State}
 use Rattle.step_core.specs.declared.steps.WordStep.{WordStep}
 use Rattle.step_core.specs.declared.steps.WordStep.TheVariants as step
-use Rattle.step_core.specs.Words.{after_step}
 use Rattle.step_core.specs.Items.{Table, Taken, Stepped, Swapped, Missed}
 use Rattle.leaf_engine.specs.declared.events.Event.{Event as RunEvent}
 use Rattle.leaf_engine.specs.declared.events.Event.TheVariants as events
 use Rattle.leaf_engine.specs.declared.events.RunTurn.{RunTurn}
 use Rattle.leaf_engine.specs.declared.events.Stage.TheVariants as stages
 use Rattle.leaf_engine.specs.declared.needs.Need.TheVariants as need
-use Rattle.leaf_engine.specs.declared.needs.Write.{Write}
-use Rattle.leaf_engine.specs.declared.needs.Write.TheVariants as write
-use Rattle.leaf_engine.specs.Changes.{Memory, Change, Put, PutHash, Raise, Clear, Copy, Swap, is_plain, are_plain, changed}
-use Rattle.leaf_engine.specs.Trees.{Tree, Lock, Load, Test, End, Since, feed, settle, fed, passed, changes_of}
-use Rattle.leaf_engine.specs.Decides.{Gives}
-use Rattle.leaf_engine.specs.Items.{IsLoadAt, IsLoaded, IsWritten, IsChanged, AreChanged}
+use Rattle.leaf_engine.specs.Changes.{Memory, Change, changed, has_no_swap, changed_all}
+use Rattle.leaf_engine.specs.Trees.{Tree, Lock, Load, Test, End, Since, feed, settle, fed, passed, changes_of, swaps_as_act}
+use Rattle.leaf_engine.specs.Decides.{Gives, IsHand}
+use Rattle.leaf_engine.specs.Items.{IsLoadAt, IsLoaded, IsChanged, AreChanged}
 use Rattle.leaf_engine.specs.Turns.{Standing, standing, Ends, last_reply}
 use Rattle.leaf_engine.specs.OwnLists.{Piece, Quiet, Marked, Wordless, joined, marked_behind, act_pieces, behind, items_in, GoesIn, WordLp, after_turn, OwnTurns}
 use Rattle.leaf_engine.proofs.Decided.{feed-append, settled}
 use Rattle.leaf_engine.proofs.Loading.{LooksRight, current-load, granted-load}
-use Rattle.merge_laws.proofs.Stores.{Due, last_at, or_else, AreStores, none-is, owed-items}
-use Rattle.merge_laws.proofs.Keeping.{and_parts}
+use Rattle.merge_laws.proofs.Stores.{Due, last_at, or_else, AreStores, owed-items, changed-rest}
 use Rattle.merge_laws.proofs.Holding.{bare}
 use Rattle.merge_laws.proofs.Standing.{Laws, leaf_for, Position}
-use Rattle.merge_laws.proofs.Ending.{AtEnd, filled_of, first_of, owes_of, HasFilled}
+use Rattle.merge_laws.proofs.Ending.{AtEnd, filled_of, first_of, owes_of, after_of, HasFilled}
 use Rattle.merge_laws.proofs.Filling.{all_todos, two-parts, fills-items, fills-todo, behind-fills}
 use Rattle.merge_laws.proofs.FillSteps.{fill-piece}
-use Rattle.leaf_engine.specs.Means.{MayFillAll}
+use Rattle.leaf_engine.specs.Means.{MayFillAll, IsHkid}
 use Rattle.merge_laws.proofs.QuietSteps.{loads-right, loaded}
-use Rattle.merge_laws.proofs.Pieces.{Came, came-as, answers-as, PieceAnswers, behind-append}
+use Rattle.merge_laws.proofs.Pieces.{taken_after, Came, came-as, answers-as, PieceAnswers, behind-append}
 use Rattle.merge_laws.proofs.LockPieces.{AtTurn}
-use Rattle.merge_laws.proofs.EndPieces.{EndMay, end-may, end-moved, rest-owed, act-item, act-table}
+use Rattle.merge_laws.proofs.EndPieces.{EndMay, end-may, end-moved, rest-owed, act-item, act-rest, slots-as, hand-as, act-table}
 use Rattle.merge_laws.proofs.Turns.{told-tree, load-piece, IsDone, done-settled, done-loads, goes-on, Heads}
 
 -- its reply, whose loads and changes these are
@@ -52,34 +48,32 @@ the-result e run' = record { event = e; reply = last_reply run'.stage run'.held 
 
 -- what was told, at the end
 at-end : (o : Opening) (trees : ℕ → Call → Tree) (s : State) (mem : Memory) (t : Table) (pos : ℕ → Position) (p : ℕ) (c : Call) (cs : List Call) (run run' : Standing) (e : RunEvent) (end_ : Tree) (changes : List Taken) (reply : Reply)
-    → (a : AtTurn o trees s mem t pos p c cs run) → (st : run.stage ≡ stages.Trying) → (en : Ended o.machine run run' end_ changes reply) → en.hasher ≡ None → feed (trees p c) (a.runs.call.told st).told ≡ end_ → Gives o.machine.pages end_ (need.Verdict reply)
+    → (a : AtTurn o trees s mem t pos p c cs run) → (st : run.stage ≡ stages.Trying) → (en : Ended o.machine run run' end_ changes reply) → feed (trees p c) (a.runs.call.told st).told ≡ end_ → Gives o.machine.pages end_ (need.Verdict reply)
     → AtEnd o trees s mem p c (a.runs.call.told st).told (a.runs.call.told st).told reply run run' (record { event = e; reply = last_reply run'.stage run'.held })
-at-end o trees s mem t pos p c cs run run' e end_ changes reply a st en none is g = record {
+at-end o trees s mem t pos p c cs run run' e end_ changes reply a st en is g = record {
   current = (a.runs.call.told st).current;
   locks = refl;
   gives = subst (λ (z : Tree). Gives o.machine.pages z (need.Verdict reply)) (sym is) g;
   answered = ap (λ (z : Standing). z.stage) en.after;
   held = ap (λ (z : Standing). z.held) en.after;
-  no_hasher = ap (λ (z : Standing). z.hasher) en.after ∙ none;
   last = refl;
 }
 
 -- what was told, with the load that is its act
 at-end-load : (ls : Laws) (o : Opening) (trees : ℕ → Call → Tree) (s : State) (mem : Memory) (t : Table) (pos : ℕ → Position) (p : ℕ) (c : Call) (cs : List Call) (run run' : Standing) (e : RunEvent) (end_ : Tree) (changes : List Taken) (reply : Reply) (at x : ℕ)
-    → (a : AtTurn o trees s mem t pos p c cs run) → (pos p).owes ≡ [] → (st : run.stage ≡ stages.Trying) → (en : Ended o.machine run run' end_ changes reply) → en.hasher ≡ None → IsLoadAt o.machine.pages (settle run.rest) at → x ≡ t.words at
+    → (a : AtTurn o trees s mem t pos p c cs run) → (pos p).owes ≡ [] → (st : run.stage ≡ stages.Trying) → (en : Ended o.machine run run' end_ changes reply) → IsLoadAt o.machine.pages (settle run.rest) at → x ≡ t.words at
     → feed (trees p c) ((a.runs.call.told st).told ++ x ∷ []) ≡ end_ → Gives o.machine.pages end_ (need.Verdict reply)
     → AtEnd o trees s mem p c (a.runs.call.told st).told ((a.runs.call.told st).told ++ x ∷ []) reply run run' (record { event = e; reply = last_reply run'.stage run'.held })
-at-end-load ls o trees s mem t pos p c cs run run' e end_ changes reply at x a owed st en none load an is g =
+at-end-load ls o trees s mem t pos p c cs run run' e end_ changes reply at x a owed st en load an is g =
     let told = (a.runs.call.told st).told in
     let right : LooksRight mem.words (feed (trees p c) told) x =
-    loads-right ls o trees s mem t pos p c run at x a.are a.known a.all a.inside owed a.runs.no_hasher a.runs.call st (subst (λ (z : Tree). IsLoadAt o.machine.pages z at) (told-tree o trees s mem t pos p c cs run a st) load) an in
+    loads-right ls o trees s mem t pos p c run at x a.are a.known a.all a.inside owed (a.runs.hand.trying st) a.runs.call st (subst (λ (z : Tree). IsLoadAt o.machine.pages z at) (told-tree o trees s mem t pos p c cs run a st) load) an in
     record {
       current = current-load mem.words (trees p c) told x (a.runs.call.told st).current right;
       locks = granted-load mem.words (trees p c) told x [] right;
       gives = subst (λ (z : Tree). Gives o.machine.pages z (need.Verdict reply)) (sym is) g;
       answered = ap (λ (z : Standing). z.stage) en.after;
       held = ap (λ (z : Standing). z.held) en.after;
-      no_hasher = ap (λ (z : Standing). z.hasher) en.after ∙ none;
       last = refl;
     }
 
@@ -87,24 +81,12 @@ at-end-load ls o trees s mem t pos p c cs run run' e end_ changes reply at x a o
 none-changed : (m : Machine) (run run' : Standing) (end_ : Tree) (changes : List Taken) (reply : Reply) → (en : Ended m run run' end_ changes reply) → changes_of end_ ≡ [] → (en.hasher ≡ run.hasher) × (changes ≡ [])
 none-changed m run run' end_ changes reply en e = subst (λ (cs : List Change). AreChanged m cs run.hasher changes en.hasher) e en.changed
 
--- plain changes leave the hand empty
+-- no hasher is in hand on the way
+hand-now : (o : Opening) (trees : ℕ → Call → Tree) (s : State) (mem : Memory) (t : Table) (pos : ℕ → Position) (p : ℕ) (c : Call) (cs : List Call) (run : Standing) → AtTurn o trees s mem t pos p c cs run → run.stage ≡ stages.Trying → IsHand run.hasher mem.hand
+hand-now o trees s mem t pos p c cs run a st = hand-as run.hasher None mem.hand None (a.runs.hand.trying st) a.all.hand tt
 
-plain-one : (m : Machine) (c : Change) (h : Option Measure) (xs : List Taken) (h' : Option Measure) → is_plain c ≡ true → IsChanged m c h xs h' → h ≡ None → h' ≡ None
-plain-one m c h xs h' pl ch e = by c pl (subst (λ (z : Option Measure). IsChanged m c z xs h') e ch)
-  where
-    by : (c : Change) → is_plain c ≡ true → IsChanged m c None xs h' → h' ≡ None
-    by (Put q x) pl ch = (let d = ch.handed None tt in let w : IsWritten (write.Word (step.Store (address m.pages q) x)) ch.between xs h' = subst (λ (z : Write). IsWritten z ch.between xs h') d.0 ch.written in w.0 ∙ none-is ch.between d.1)
-    by (PutHash q x) pl ch = cc
-    by (Raise q) pl ch = (let d = ch.handed None tt in let w : IsWritten (write.Word (step.Add (address m.pages q) 1)) ch.between xs h' = subst (λ (z : Write). IsWritten z ch.between xs h') d.0 ch.written in w.0 ∙ none-is ch.between d.1)
-    by (Clear q) pl ch = (let d = ch.handed None tt in let w : IsWritten (write.Zero q) ch.between xs h' = subst (λ (z : Write). IsWritten z ch.between xs h') d.0 ch.written in w.0 ∙ none-is ch.between d.1)
-    by (Copy q r) pl ch = (let d = ch.handed None tt in let w : IsWritten (write.Copy q r) ch.between xs h' = subst (λ (z : Write). IsWritten z ch.between xs h') d.0 ch.written in w.0 ∙ none-is ch.between d.1)
-    by (Swap k made) pl ch = cc
-
-plain-all : (m : Machine) (cs : List Change) (h : Option Measure) (xs : List Taken) (h' : Option Measure) → are_plain cs ≡ true → AreChanged m cs h xs h' → h ≡ None → h' ≡ None
-plain-all m [] h xs h' pl ch e = ch.0 ∙ e
-plain-all m (c ∷ cs) h xs h' pl ch e =
-    let parts = and_parts (is_plain c) (are_plain cs) pl in
-    plain-all m cs ch.0 ch.1.1.0 h' parts.1 ch.1.1.3 (plain-one m c h ch.1.0 ch.0 parts.0 ch.1.1.2 e)
+hasher-of : (m : Machine) (run run' : Standing) (end_ : Tree) (changes : List Taken) (reply : Reply) → (en : Ended m run run' end_ changes reply) → run'.hasher ≡ en.hasher
+hasher-of m run run' end_ changes reply en = ap (λ (z : Standing). z.hasher) en.after
 
 -- nothing was filled
 not-filled : (o : Opening) (t : Table) (pos : ℕ → Position) (p : ℕ) (mem : Memory) → (pos p).owes ≡ [] → HasFilled o t pos p mem []
@@ -120,9 +102,11 @@ end-now ls o trees s mem t pos p c cs run run' e (Load v q k) changes reply tps 
 end-now ls o trees s mem t pos p c cs run run' e (Test b r x) changes reply tps last piece ps a owed st en is g own h an = absurd g
 end-now ls o trees s mem t pos p c cs run run' e (End r [] []) changes reply tps last piece ps a owed st en is g own h an =
     let none = none-changed o.machine run run' (End r [] []) changes reply en refl in
-    let en' = at-end o trees s mem t pos p c cs run run' e (End r [] []) changes reply a st en (none.0 ∙ a.runs.no_hasher) is g in
+    let en' = at-end o trees s mem t pos p c cs run run' e (End r [] []) changes reply a st en is g in
     let moved = end-moved ls o trees s mem t t pos p c cs (a.runs.call.told st).told reply run run' (record { event = e; reply = last_reply run'.stage run'.held }) a st en' (subst (λ (z : Tree). HasFilled o t pos p mem (filled_of z mem)) (sym is) (not-filled o t pos p mem owed))
-    (λ y in_y. ap (λ (z : Tree). or_else (last_at (first_of z mem) y) (t.words (address o.machine.pages y))) {x = End r [] []} {y = feed (trees p c) (a.runs.call.told st).told} (sym is)) refl in
+    (λ y in_y. ap (λ (z : Tree). or_else (last_at (first_of z mem) y) (t.words (address o.machine.pages y))) {x = End r [] []} {y = feed (trees p c) (a.runs.call.told st).told} (sym is))
+    (subst (λ (z : Tree). IsHand run'.hasher (after_of z mem).hand) (sym is) (hand-as run'.hasher run.hasher mem.hand mem.hand (hasher-of o.machine run run' (End r [] []) changes reply en ∙ none.0) refl (hand-now o trees s mem t pos p c cs run a st)))
+    (subst (λ (z : Tree). (k : ℕ) → IsHkid o.machine k → IsHand (t.slots (k - 1)) ((after_of z mem).slots k)) (sym is) a.all.slots) in
     came-as o trees p s t pos Wordless piece (joined tps) ps last h
     (record {
       memory = moved.memory;
@@ -133,24 +117,26 @@ end-now ls o trees s mem t pos p c cs run run' e (End r [] []) changes reply tps
     })
 end-now ls o trees s mem t pos p c cs run run' e (End r [] (c1 ∷ ds)) changes reply tps last piece ps a owed st en is g own h an =
     let m = o.machine in
-    let plain : are_plain (c1 ∷ ds) ≡ true = subst (λ (z : Tree). are_plain (changes_of z) ≡ true) is (a.are.plain p c (a.runs.call.told st).told) in
-    let parts = and_parts (is_plain c1) (are_plain ds) plain in
+    let sw : has_no_swap ds ≡ true = subst (λ (z : Tree). swaps_as_act z ≡ true) is (a.are.swaps p c (a.runs.call.told st).told) in
     let between : Option Measure = en.changed.0 in
     let ys : List Taken = en.changed.1.0 in
     let zs : List Taken = en.changed.1.1.0 in
-    let one : IsChanged m c1 None ys between = subst (λ (z : Option Measure). IsChanged m c1 z ys between) a.runs.no_hasher en.changed.1.1.2 in
-    let hash = at-hasher c1 ds plain ys zs between en.hasher one en.changed.1.1.3 in
-    let en' = at-end o trees s mem t pos p c cs run run' e (End r [] (c1 ∷ ds)) changes reply a st en hash.0 is g in
+    let one : IsChanged m c1 run.hasher ys between = en.changed.1.1.2 in
+    let en' = at-end o trees s mem t pos p c cs run run' e (End r [] (c1 ∷ ds)) changes reply a st en is g in
     let may : MayBoth c1 ds = subst (λ (z : Tree). EndMay m (bare (s.lps p).call.held) s.world ((row_of o p c).act s.world) mem z) is
     (end-may o trees s mem t pos p c cs (a.runs.call.told st).told reply run run' (record { event = e; reply = last_reply run'.stage run'.held }) a st en') in
-    let item = act-item m (bare (s.lps p).call.held) s.world mem c1 ys between may.1.0 parts.0 one in
-    let rest = owed-items m (bare (s.lps p).call.held) ((row_of o p c).act s.world) (changed c1 mem) ds between en.hasher zs may.1.1 parts.1 en.changed.1.1.3 item.no_hasher in
-    let x : Taken = Stepped item.step item.answer in
+    let item = act-item m (bare (s.lps p).call.held) s.world mem c1 ys run.hasher between may.1.0 one (hand-now o trees s mem t pos p c cs run a st) in
+    let x : Taken = item.taken in
     let all : changes ≡ x ∷ zs = en.changed.1.1.1 ∙ ap (λ (z : List Taken). z ++ zs) item.items in
     let h' : Marked x ∷ (map Quiet zs ++ joined tps) ≡ piece ∷ ps = ap (λ (z : List Taken). marked_behind 0 z ++ joined tps) (sym all) ∙ h in
-    let moved = end-moved ls o trees s mem t (record t { words = after_step t.words item.step }) pos p c cs (a.runs.call.told st).told reply run run' (record { event = e; reply = last_reply run'.stage run'.held }) a st en' (subst (λ (z : Tree). HasFilled o t pos p mem (filled_of z mem)) (sym is) (not-filled o t pos p mem owed))
-    (λ y in_y. act-table ls o trees s mem t pos p c cs run [] c1 item.step a refl (not-filled o t pos p mem owed) may.1.0 item.is y in_y
-    ∙ ap (λ (z : Tree). or_else (last_at (first_of z mem) y) (t.words (address m.pages y))) {x = End r [] (c1 ∷ ds)} {y = feed (trees p c) (a.runs.call.told st).told} (sym is)) refl in
+    let rest-2 = act-rest m mem t c1 x between item.is (answers-as t (Marked x) piece (map Quiet zs ++ joined tps) ps h' an) a.all.slots in
+    let rest = owed-items m (bare (s.lps p).call.held) ((row_of o p c).act s.world) (changed c1 mem) ds between en.hasher zs may.1.1 sw en.changed.1.1.3 rest-2.0 in
+    let moved = end-moved ls o trees s mem t (taken_after t x) pos p c cs (a.runs.call.told st).told reply run run' (record { event = e; reply = last_reply run'.stage run'.held }) a st en' (subst (λ (z : Tree). HasFilled o t pos p mem (filled_of z mem)) (sym is) (not-filled o t pos p mem owed))
+    (λ y in_y. act-table ls o trees s mem t pos p c cs run [] c1 x between a (not-filled o t pos p mem owed) may.1.0 item.is y in_y
+    ∙ ap (λ (z : Tree). or_else (last_at (first_of z mem) y) (t.words (address m.pages y))) {x = End r [] (c1 ∷ ds)} {y = feed (trees p c) (a.runs.call.told st).told} (sym is))
+    (subst (λ (z : Tree). IsHand run'.hasher (after_of z mem).hand) (sym is) (hand-as run'.hasher en.hasher (changed_all ds (changed c1 mem)).hand (changed_all ds (changed c1 mem)).hand (hasher-of m run run' (End r [] (c1 ∷ ds)) changes reply en) refl rest.0))
+    (subst (λ (z : Tree). (k : ℕ) → IsHkid m k → IsHand ((taken_after t x).slots (k - 1)) ((after_of z mem).slots k)) (sym is)
+    (slots-as m (taken_after t x).slots (changed_all ds (changed c1 mem)).slots (changed c1 mem).slots (changed-rest ds (changed c1 mem) sw).0 rest-2.1)) in
     came-as o trees p s t pos (Marked x) piece (map Quiet zs ++ joined tps) ps last h'
     (record {
       memory = moved.memory;
@@ -162,23 +148,14 @@ end-now ls o trees s mem t pos p c cs run run' e (End r [] (c1 ∷ ds)) changes 
   where
     MayBoth : Change → List Change → Type 0
     MayBoth c1 ds = EndMay o.machine (bare (s.lps p).call.held) s.world ((row_of o p c).act s.world) mem (End r [] (c1 ∷ ds))
-
-    -- plain changes leave the hand as it is
-    at-hasher : (c1 : Change) (ds : List Change) → are_plain (c1 ∷ ds) ≡ true → (ys zs : List Taken) (between h' : Option Measure) → IsChanged o.machine c1 None ys between → AreChanged o.machine ds between zs h' → (h' ≡ None) × (between ≡ None)
-    at-hasher c1 ds pl ys zs between h' one many =
-        let parts = and_parts (is_plain c1) (are_plain ds) pl in
-        let b : between ≡ None = plain-one o.machine c1 None ys between parts.0 one refl in
-        (plain-all o.machine ds between zs h' parts.1 many b, b)
 end-now ls o trees s mem t pos p c cs run run' e (End r (f ∷ fs) ds) changes reply tps last piece ps a owed st en is g own h an =
     let m = o.machine in
-    let plain : are_plain (f ∷ fs ++ ds) ≡ true = subst (λ (z : Tree). are_plain (changes_of z) ≡ true) is (a.are.plain p c (a.runs.call.told st).told) in
-    let hash : en.hasher ≡ None = plain-all m (f ∷ fs ++ ds) run.hasher changes en.hasher plain en.changed a.runs.no_hasher in
-    let en' = at-end o trees s mem t pos p c cs run run' e (End r (f ∷ fs) ds) changes reply a st en hash is g in
+    let en' = at-end o trees s mem t pos p c cs run run' e (End r (f ∷ fs) ds) changes reply a st en is g in
     let may = fills-of-may ds (subst (λ (z : Tree). EndMay m (bare (s.lps p).call.held) s.world ((row_of o p c).act s.world) mem z) is
     (end-may o trees s mem t pos p c cs (a.runs.call.told st).told reply run run' (record { event = e; reply = last_reply run'.stage run'.held }) a st en')) in
     let two = two-parts m (f ∷ fs) ds run.hasher en.hasher changes en.changed in
-    let items = fills-items m (bare (s.lps p).call.held) s.world (f ∷ fs) run.hasher two.between two.first may two.filled a.runs.no_hasher in
-    let many = behind-fills m (bare (s.lps p).call.held) s.world (f ∷ fs) run.hasher two.between two.first two.second may two.filled a.runs.no_hasher in
+    let items = fills-items m (bare (s.lps p).call.held) s.world (f ∷ fs) run.hasher two.between two.first may two.filled (a.runs.hand.trying st) in
+    let many = behind-fills m (bare (s.lps p).call.held) s.world (f ∷ fs) run.hasher two.between two.first two.second may two.filled (a.runs.hand.trying st) in
     let todo = fills-todo m (bare (s.lps p).call.held) s.world (f ∷ fs) may in
     let reply-is : reply ≡ r = cc g in
     let heads : map Quiet two.first ++ (marked_behind 0 two.second ++ joined tps) ≡ piece ∷ ps =
@@ -199,10 +176,11 @@ end-now ls o trees s mem t pos p c cs run run' e (End r (f ∷ fs) ds) changes r
       act = two.second;
       turns = tps;
       are = items.1;
-      changed = subst (λ (z : Option Measure). AreChanged m ds z two.second None) items.0 (subst (λ (z : Option Measure). AreChanged m ds two.between two.second z) hash two.changed);
+      hasher = en.hasher;
+      changed = subst (λ (z : Option Measure). AreChanged m ds z two.second en.hasher) items.0 two.changed;
       pieces = sym heads;
       after = run';
-      after_is = en.after ∙ (ap (λ (z : Reply). standing (End r (f ∷ fs) ds) (stages.Answered z) run.held en.hasher) reply-is ∙ ap (λ (z : Option Measure). standing (End r (f ∷ fs) ds) (stages.Answered r) run.held z) hash);
+      after_is = en.after ∙ ap (λ (z : Reply). standing (End r (f ∷ fs) ds) (stages.Answered z) run.held en.hasher) reply-is;
       own = own;
     }) an
   where
@@ -211,14 +189,15 @@ end-now ls o trees s mem t pos p c cs run run' e (End r (f ∷ fs) ds) changes r
     fills-of-may (c1 ∷ es) z = z.0
 end-now ls o trees s mem t pos p c cs run run' e (Since r ds) changes reply tps last piece ps a owed st en is g own h an =
     let m = o.machine in
-    let plain : are_plain ds ≡ true = subst (λ (z : Tree). are_plain (changes_of z) ≡ true) is (a.are.plain p c (a.runs.call.told st).told) in
-    let hash : en.hasher ≡ None = plain-all m ds run.hasher changes en.hasher plain en.changed a.runs.no_hasher in
-    let en' = at-end o trees s mem t pos p c cs run run' e (Since r ds) changes reply a st en hash is g in
+    let sw : has_no_swap ds ≡ true = subst (λ (z : Tree). swaps_as_act z ≡ true) is (a.are.swaps p c (a.runs.call.told st).told) in
+    let en' = at-end o trees s mem t pos p c cs run run' e (Since r ds) changes reply a st en is g in
     let may = subst (λ (z : Tree). EndMay m (bare (s.lps p).call.held) s.world ((row_of o p c).act s.world) mem z) is
     (end-may o trees s mem t pos p c cs (a.runs.call.told st).told reply run run' (record { event = e; reply = last_reply run'.stage run'.held }) a st en') in
-    let rest = owed-items m (bare (s.lps p).call.held) ((row_of o p c).act s.world) mem ds run.hasher en.hasher changes may plain en.changed a.runs.no_hasher in
+    let rest = owed-items m (bare (s.lps p).call.held) ((row_of o p c).act s.world) mem ds run.hasher en.hasher changes may sw en.changed (hand-now o trees s mem t pos p c cs run a st) in
     let moved = end-moved ls o trees s mem t t pos p c cs (a.runs.call.told st).told reply run run' (record { event = e; reply = last_reply run'.stage run'.held }) a st en' (subst (λ (z : Tree). HasFilled o t pos p mem (filled_of z mem)) (sym is) (not-filled o t pos p mem owed))
-    (λ y in_y. ap (λ (z : Tree). or_else (last_at (first_of z mem) y) (t.words (address m.pages y))) {x = Since r ds} {y = feed (trees p c) (a.runs.call.told st).told} (sym is)) refl in
+    (λ y in_y. ap (λ (z : Tree). or_else (last_at (first_of z mem) y) (t.words (address m.pages y))) {x = Since r ds} {y = feed (trees p c) (a.runs.call.told st).told} (sym is))
+    (subst (λ (z : Tree). IsHand run'.hasher (after_of z mem).hand) (sym is) (hand-as run'.hasher en.hasher (changed_all ds mem).hand (changed_all ds mem).hand (hasher-of m run run' (Since r ds) changes reply en) refl rest.0))
+    (subst (λ (z : Tree). (k : ℕ) → IsHkid m k → IsHand (t.slots (k - 1)) ((after_of z mem).slots k)) (sym is) (slots-as m t.slots (changed_all ds mem).slots mem.slots (changed-rest ds mem sw).0 a.all.slots)) in
     came-as o trees p s t pos Wordless piece (map Quiet changes ++ joined tps) ps last h
     (record {
       memory = moved.memory;
@@ -242,9 +221,11 @@ end-loaded ls o trees s mem t pos p c cs run run' e (End r [] (c1 ∷ ds)) chang
 end-loaded ls o trees s mem t pos p c cs run run' e (End r [] []) changes reply at x tps last a owed st en load an is g d own =
     let now = (a.runs.call.told st).told ++ x ∷ [] in
     let none = none-changed o.machine run run' (End r [] []) changes reply en refl in
-    let en' = at-end-load ls o trees s mem t pos p c cs run run' e (End r [] []) changes reply at x a owed st en (none.0 ∙ a.runs.no_hasher) load an is g in
+    let en' = at-end-load ls o trees s mem t pos p c cs run run' e (End r [] []) changes reply at x a owed st en load an is g in
     let moved = end-moved ls o trees s mem t t pos p c cs now reply run run' (record { event = e; reply = last_reply run'.stage run'.held }) a st en' (subst (λ (z : Tree). HasFilled o t pos p mem (filled_of z mem)) (sym is) (not-filled o t pos p mem owed))
-    (λ y in_y. ap (λ (z : Tree). or_else (last_at (first_of z mem) y) (t.words (address o.machine.pages y))) {x = End r [] []} {y = feed (trees p c) now} (sym is)) refl in
+    (λ y in_y. ap (λ (z : Tree). or_else (last_at (first_of z mem) y) (t.words (address o.machine.pages y))) {x = End r [] []} {y = feed (trees p c) now} (sym is))
+    (subst (λ (z : Tree). IsHand run'.hasher (after_of z mem).hand) (sym is) (hand-as run'.hasher run.hasher mem.hand mem.hand (hasher-of o.machine run run' (End r [] []) changes reply en ∙ none.0) refl (hand-now o trees s mem t pos p c cs run a st)))
+    (subst (λ (z : Tree). (k : ℕ) → IsHkid o.machine k → IsHand (t.slots (k - 1)) ((after_of z mem).slots k)) (sym is) a.all.slots) in
     record {
       memory = moved.memory;
       now = record { at = after_turn c cs (pos p).at.replies run' (last_reply run'.stage run'.held); owes = owes_of (feed (trees p c) now) mem; fill = None };
@@ -255,14 +236,15 @@ end-loaded ls o trees s mem t pos p c cs run run' e (End r [] []) changes reply 
 end-loaded ls o trees s mem t pos p c cs run run' e (Since r ds) changes reply at x tps last a owed st en load an is g d own =
     let m = o.machine in
     let now = (a.runs.call.told st).told ++ x ∷ [] in
-    let plain : are_plain ds ≡ true = subst (λ (z : Tree). are_plain (changes_of z) ≡ true) is (a.are.plain p c now) in
-    let hash : en.hasher ≡ None = plain-all m ds run.hasher changes en.hasher plain en.changed a.runs.no_hasher in
-    let en' = at-end-load ls o trees s mem t pos p c cs run run' e (Since r ds) changes reply at x a owed st en hash load an is g in
+    let sw : has_no_swap ds ≡ true = subst (λ (z : Tree). swaps_as_act z ≡ true) is (a.are.swaps p c now) in
+    let en' = at-end-load ls o trees s mem t pos p c cs run run' e (Since r ds) changes reply at x a owed st en load an is g in
     let may = subst (λ (z : Tree). EndMay m (bare (s.lps p).call.held) s.world ((row_of o p c).act s.world) mem z) is
     (end-may o trees s mem t pos p c cs now reply run run' (record { event = e; reply = last_reply run'.stage run'.held }) a st en') in
-    let rest = owed-items m (bare (s.lps p).call.held) ((row_of o p c).act s.world) mem ds run.hasher en.hasher changes may plain en.changed a.runs.no_hasher in
+    let rest = owed-items m (bare (s.lps p).call.held) ((row_of o p c).act s.world) mem ds run.hasher en.hasher changes may sw en.changed (hand-now o trees s mem t pos p c cs run a st) in
     let moved = end-moved ls o trees s mem t t pos p c cs now reply run run' (record { event = e; reply = last_reply run'.stage run'.held }) a st en' (subst (λ (z : Tree). HasFilled o t pos p mem (filled_of z mem)) (sym is) (not-filled o t pos p mem owed))
-    (λ y in_y. ap (λ (z : Tree). or_else (last_at (first_of z mem) y) (t.words (address m.pages y))) {x = Since r ds} {y = feed (trees p c) now} (sym is)) refl in
+    (λ y in_y. ap (λ (z : Tree). or_else (last_at (first_of z mem) y) (t.words (address m.pages y))) {x = Since r ds} {y = feed (trees p c) now} (sym is))
+    (subst (λ (z : Tree). IsHand run'.hasher (after_of z mem).hand) (sym is) (hand-as run'.hasher en.hasher (changed_all ds mem).hand (changed_all ds mem).hand (hasher-of m run run' (Since r ds) changes reply en) refl rest.0))
+    (subst (λ (z : Tree). (k : ℕ) → IsHkid m k → IsHand (t.slots (k - 1)) ((after_of z mem).slots k)) (sym is) (slots-as m t.slots (changed_all ds mem).slots mem.slots (changed-rest ds mem sw).0 a.all.slots)) in
     record {
       memory = moved.memory;
       now = record { at = after_turn c cs (pos p).at.replies run' (last_reply run'.stage run'.held); owes = owes_of (feed (trees p c) now) mem; fill = None };

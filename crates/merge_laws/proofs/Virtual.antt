@@ -1,5 +1,5 @@
 -- A table that holds given memory, and what a step makes of two tables that agree where it steps.
-use Rattle.std.proofs.Common.{◌≡◌, ℕ, zero, suc, ◌+◌, ◌-◌, ◌*◌, ◌/◌, ◌%◌, ◌<◌, true, false, ◌==◌, nat_lt, cond, Option, None, refl, ap, sym, ◌∙◌, subst, arith}
+use Rattle.std.proofs.Common.{◌≡◌, ℕ, zero, suc, ◌+◌, ◌-◌, ◌*◌, ◌/◌, ◌%◌, ◌<◌, true, false, ◌==◌, nat_lt, cond, Option, refl, ap, sym, ◌∙◌, arith}
 use Rattle.std.proofs.lemmas.Bool.{eq-eqb, lt-ltb}
 use Rattle.td_words.specs.declared.machines.Machine.{Machine}
 use Rattle.td_words.specs.Address.{lock_at, word_at}
@@ -60,13 +60,8 @@ place-back m (Key k) i =
 abbrev pub table_of : Machine → (ℕ → Option Measure) → (WordPlace → ℕ) → Table
 table_of m slots words = record { words = λ n. words (place_at m.pages n); slots = slots }
 
-pub holds-memory : (m : Machine) (slots : ℕ → Option Measure) (mem : Memory) → ((h : ℕ) → IsHkid m h → IsHand (slots (h - 1)) (mem.slots h)) → mem.hand ≡ None
-    → IsMemory m (table_of m slots mem.words) None mem
-holds-memory m slots mem sl none = record {
-  words = λ q i. ap mem.words (place-back m q i);
-  slots = sl;
-  hand = subst (λ z. IsHand None z) (sym none) tt;
-}
+pub holds-memory : (m : Machine) (slots : ℕ → Option Measure) (hasher : Option Measure) (mem : Memory) → ((h : ℕ) → IsHkid m h → IsHand (slots (h - 1)) (mem.slots h)) → IsHand hasher mem.hand → IsMemory m (table_of m slots mem.words) hasher mem
+holds-memory m slots hasher mem sl is = record { words = λ q i. ap mem.words (place-back m q i); slots = sl; hand = is }
 
 -- two tables after one step
 
