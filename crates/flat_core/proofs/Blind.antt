@@ -107,3 +107,4 @@ row-blind o q a me (call.HostRead page i) = blind_at o q a.machine (λ m. host_r
 row-blind o q a me (call.HostWrite page i v) = blind_at o q a.machine (λ m. host_write m page i v) (host_write-blind o.machine page i v)
 row-blind o q a me (call.PhymemPageRdmd page) = blind_at o q a.machine (λ m. read_metadata m page) (read_metadata-blind o.machine page)
 row-blind o q a me (call.MngCreate t h) = blind_at o q a.machine (λ m. create m t h) (create-blind o.machine t h)
+row-blind o q a me _ = ?

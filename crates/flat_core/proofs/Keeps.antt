@@ -91,7 +91,7 @@ pub host_read-keeps : (m : Machine) (page i : ℕ) → RowKeeps m (host_read m p
 host_read-keeps m page i = record { act = λ w l ps. l; to_tell = λ w. refl }
 
 pub host_write-keeps : (m : Machine) (page i v : ℕ) → RowKeeps m (host_write m page i v)
-host_write-keeps m page i v = record { act = λ w l ps. record { size = l.size; pages = l.pages; tds = l.tds; tree = l.tree; keys = l.keys }; to_tell = λ w. refl }
+host_write-keeps m page i v = record { act = λ w l ps. record { size = l.size; pages = l.pages; tds = l.tds; tree = l.tree; keys = l.keys; beginnings = l.beginnings }; to_tell = λ w. refl }
 
 pub read_metadata-keeps : (m : Machine) (page : ℕ) → RowKeeps m (read_metadata m page)
 read_metadata-keeps m page = record { act = λ w l ps. l; to_tell = λ w. refl }
@@ -113,6 +113,7 @@ module _ (count : ℕ) (old : Pages) (tds : Tds) (table : KeyTable) (t h : ℕ) 
     vps = λ x a. by_test (x == t) (λ y. rw y tt) (λ y. rw y (pages_kept count old t host lawful small x kind.Tdvpr (tds.vps x) (λ e. cc) (l.vps x (alive_before x y a))));
     vps_few = λ x. by_test (x == t) (λ y. rw y (lit≤ tt)) (λ y. rw y (l.vps_few x));
     vps_differ = λ x. by_test (x == t) (λ y. rw y refl) (λ y. rw y (l.vps_differ x));
+    vps_expected = λ x. by_test (x == t) (λ y. rw y (lit≤ tt)) (λ y. rw y (l.vps_expected x));
     streams_few = λ x. by_test (x == t) (λ y. rw y (lit≤ tt)) (λ y. rw y (l.streams_few x));
     streams_differ = λ x. by_test (x == t) (λ y. rw y refl) (λ y. rw y (l.streams_differ x));
     epoch = λ x. by_test (x == t) (λ y. rw y (lit< tt)) (λ y. rw y (l.epoch x));
@@ -189,6 +190,7 @@ create-keeps m t h = record {
         tds = new_tds m.pages w.pages w.tds w.key_table t h host l.pages small free_hkid l.tds;
         tree = new_tree m.pages w.pages w.tds w.key_table t h host l.pages small free_hkid l.tree;
         keys = new_keys m.pages w.pages w.tds w.key_table t h host l.pages small free_hkid m.hkids (range_of h m.hkids ps.1.0) l.keys;
+        beginnings = ?;
       });
   to_tell = λ w. refl;
 }
@@ -198,16 +200,18 @@ row-keeps o me (call.HostRead page i) = host_read-keeps o.machine page i
 row-keeps o me (call.HostWrite page i v) = host_write-keeps o.machine page i v
 row-keeps o me (call.PhymemPageRdmd page) = read_metadata-keeps o.machine page
 row-keeps o me (call.MngCreate t h) = create-keeps o.machine t h
+row-keeps o me _ = ?
 
 pub first-lawful : (m : Machine) (words_to_tell : Option (List ℕ)) → Lawful m (first_world m.pages words_to_tell)
 first-lawful m ws = record {
   size = refl;
   pages = record { tdr = λ t h. cc; owner = λ p h. cc; in_machine = λ p h. cc; host = λ p h. (refl, refl); blocked = λ p. lit< tt };
-  tds = record { controls = λ t a. tt; vps = λ t a. tt; streams = λ t a. tt; vps_few = λ t. lit≤ tt; vps_differ = λ t. refl; streams_few = λ t. lit≤ tt; streams_differ = λ t. refl; epoch = λ t. lit< tt };
+  tds = record { controls = λ t a. tt; vps = λ t a. tt; streams = λ t a. tt; vps_few = λ t. lit≤ tt; vps_differ = λ t. refl; vps_expected = λ t. lit≤ tt; streams_few = λ t. lit≤ tt; streams_differ = λ t. refl; epoch = λ t. lit< tt };
   tree = record { entry = λ t l n. refl; upper = λ t l n a h. absurd (let no : true ≡ false = h in cc); leaf = λ t n a h. absurd (let no : true ≡ false = h in cc); below = λ t l n few a h. absurd (let no : true ≡ false = h in cc); named = λ p h a. cc };
   keys = record {
     in_range = λ t a. absurd (let no : kind.Nda ≡ kind.Tdr = a.kind in cc);
     owner = λ t a. absurd (let no : kind.Nda ≡ kind.Tdr = a.kind in cc);
     owned = λ h t e. absurd (let no : None ≡ Some t = e in cc);
   };
+  beginnings = record { is_new = λ t a n. absurd (let no : kind.Nda ≡ kind.Tdr = a.kind in cc) };
 }

@@ -1,7 +1,7 @@
 //! Laws of the flat machine, as contracts of functions that do nothing.
 
 ghost use Rattle.flat_core.specs.Worked.{Examples};
-ghost use Rattle.flat_core.specs.Bounds.{EventsRunOut, RunsEnd};
+ghost use Rattle.flat_core.specs.Bounds.{RowsTryFew, EventsRunOut, RunsEnd};
 ghost use Rattle.flat_core.specs.Laws.{RowsKeep, RowsAreBlind, EveryWorldIsLawful, OthersStay, QuietEventsStay, NoWordsToTell, LocksExclude, BlindRunsPrintTheSame, RefusedCallsStay, EventsKeepLawful};
 
 /// The worked examples: replies of small runs, and how many events they take.
@@ -39,9 +39,11 @@ pub fn lock_law()
     ensures { LocksExclude }
 {}
 
-/// Every call ends after a number of its own events that the leaf table bounds, whatever the other
-/// processors do, and at the end of a run no processor has an event left.
+/// Every call tries as many locks as the leaf table says at most, and ends after a number of its own
+/// events that this bounds, whatever the other processors do; and at the end of a run no processor
+/// has an event left.
 pub fn end_laws()
+    ensures tries { RowsTryFew }
     ensures runs_out { EventsRunOut }
     ensures runs_end { RunsEnd }
 {}
