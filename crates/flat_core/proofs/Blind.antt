@@ -16,7 +16,7 @@ use Rattle.flat_core.specs.TdRows.{create}
 use Rattle.flat_core.specs.Table.{row_of}
 use Rattle.flat_core.specs.Lawful.{LawfulPages}
 use Rattle.flat_core.specs.Alike.{Alike, AreBlind, is_public, is_being_built}
-use Rattle.flat_core.proofs.Keeps.{by_test, host_kind}
+use Rattle.flat_core.proofs.Tests.{by_test, host_kind}
 
 -- a host page's words are public
 host_public : (pages : Pages) (tds : Tds) (p : ℕ) → is_host_in pages p ≡ true → is_public pages tds p ≡ true

@@ -18,7 +18,7 @@ use Rattle.flat_core.specs.Event.{State, Event, OfCall, start, next_event, event
 use Rattle.flat_core.specs.Run.{play, events_in, to_the_end}
 use Rattle.flat_core.specs.Bounds.{call_left, left_of, events_left, EventsRunOut, RunsEnd}
 use Rattle.flat_core.proofs.Induction.{event_keeps, play_keeps}
-use Rattle.flat_core.proofs.Keeps.{by_test}
+use Rattle.flat_core.proofs.Tests.{by_test}
 
 -- what holds of each move that a row may give
 pub next_is : {R : Type 0} (C : Move R → Type 0) (items : List (Item R)) (k : ℕ) → ((r : R) → C (Refuses r)) → C Succeeds → ((l : LockId) (m : Mode) → k < tries_in items → C (Attempts l m)) → C (next items k)
@@ -29,28 +29,16 @@ next_is C (Try l m ∷ items) zero refuses succeeds attempts = attempts l m (ome
 next_is C (Try l m ∷ items) (suc k) refuses succeeds attempts = next_is C items k refuses succeeds (λ l m h. attempts l m (omega arith))
 
 pub row_tries : (o : Opening) (me : ℕ) (c : Call) (w : World) → tries_in ((row_of o me c).items w) ≤ most_tries c
-row_tries o me (call.HostRead page i) w = omega arith
-row_tries o me (call.HostWrite page i v) w = omega arith
-row_tries o me (call.PhymemPageRdmd page) w = omega arith
-row_tries o me call.PhymemCacheWb w = omega arith
 row_tries o me (call.PhymemPageReclaim t page) w = reclaim_tries (page == t)
   where
     reclaim_tries : (b : Bool) → suc (tries_in (reclaim_conditions w t page b)) ≤ 2
     reclaim_tries true = omega arith
     reclaim_tries false = omega arith
-row_tries o me (call.MngCreate t h) w = omega arith
-row_tries o me (call.MngKeyConfig t) w = omega arith
-row_tries o me (call.MngAddcx t page) w = omega arith
-row_tries o me (call.MngInit t) w = omega arith
 row_tries o me (call.MngRd t field.Life) w = omega arith
 row_tries o me (call.MngRd t field.Op) w = omega arith
 row_tries o me (call.MngRd t field.Epoch) w = omega arith
 row_tries o me (call.MngRd t field.Mrtd) w = omega arith
-row_tries o me (call.MngVpflushdone t) w = omega arith
-row_tries o me (call.MngKeyFreeid t) w = omega arith
-row_tries o me (call.MrFinalize t) w = omega arith
-row_tries o me (call.VpCreate t page) w = omega arith
-row_tries o me (call.VpInit t vp v) w = omega arith
+row_tries o me _ w = omega arith
 
 pub row_enters : (o : Opening) (me : ℕ) (c : Call) → (row_of o me c).enters ≡ None
 row_enters o me (call.HostRead page i) = refl

@@ -1,4 +1,7 @@
 pub mod Worked
+pub mod Tests
+pub mod Pages
+pub mod Parts
 pub mod Induction
 pub mod Keeps
 pub mod Blind
