@@ -1,14 +1,13 @@
 -- Each row's act keeps what every world keeps.
-use Rattle.std.proofs.Common.{lit<, lit≤, ◌≡◌, ◌≢◌, refl, sym, ◌∙◌, subst, ap, ℕ, suc, ◌<◌, ◌≤◌, List, [], ◌∷◌, length, Option, Some, None, Bool, true, false, not, ◌==◌, ◌&&◌, nat_lt, arith}
+use Rattle.std.proofs.Common.{lit<, lit≤, ◌≡◌, refl, sym, ◌∙◌, subst, ap, ℕ, suc, ◌<◌, ◌≤◌, List, [], ◌∷◌, length, Option, Some, None, Bool, true, false, not, ◌==◌, arith}
 use Rattle.std.specs.List.{list_any}
-use Rattle.std.proofs.lemmas.Bool.{eq-eqb, eqb-true}
+use Rattle.std.proofs.lemmas.Bool.{eqb-true}
 use Rattle.td_words.specs.declared.names.PageKind.TheVariants as kind
 use Rattle.td_words.specs.declared.names.LifeState.{LifeState}
 use Rattle.td_words.specs.declared.names.LifeState.TheVariants as life
 use Rattle.td_words.specs.declared.names.OpState.{OpState}
 use Rattle.td_words.specs.declared.names.OpState.TheVariants as op
 use Rattle.td_words.specs.declared.names.ReadField.{ReadField}
-use Rattle.td_words.specs.declared.names.VcpuState.TheVariants as vcpu
 use Rattle.td_words.specs.declared.machines.Machine.{Machine}
 use Rattle.td_words.specs.declared.calls.Call.{Call}
 use Rattle.td_words.specs.declared.calls.Call.TheVariants as call
@@ -17,14 +16,14 @@ use Rattle.td_words.specs.Packing.{Key, Unassigned, AssignedTo, FlushedOf}
 use Rattle.flat_core.specs.World.{World, Pages, Tds, KeyTable, put, first_world}
 use Rattle.flat_core.specs.Opening.{Opening}
 use Rattle.flat_core.specs.Row.{Passes}
-use Rattle.flat_core.specs.Conditions.{is_free_key, is_host, is_host_in, vp_limit}
+use Rattle.flat_core.specs.Conditions.{is_free_key, is_host, vp_limit}
 use Rattle.flat_core.specs.Effects.{new_td, clear_page, take_page, end_memory_in, set_life, set_op, set_epoch, end_measurement}
 use Rattle.flat_core.specs.HostRows.{host_read, host_write, read_metadata}
 use Rattle.flat_core.specs.TdRows.{create, configure_key, add_tdcx, initialize, read_td, finalize}
 use Rattle.flat_core.specs.KeyRows.{write_caches_back, reclaim_conditions, reclaim_page, end_flush, free_hkid}
 use Rattle.flat_core.specs.VpRows.{create_vp, initialize_vp}
 use Rattle.flat_core.specs.Table.{row_of}
-use Rattle.flat_core.specs.Lawful.{IsAlive, IsPageOf, AreControls, ArePagesOf, LawfulPages, LawfulTds, LawfulTree, LawfulKeys, LawfulBeginnings, Lawful, RowKeeps, is_free, key_owner}
+use Rattle.flat_core.specs.Lawful.{IsAlive, AreControls, ArePagesOf, LawfulPages, LawfulTds, LawfulTree, LawfulKeys, LawfulBeginnings, Lawful, RowKeeps, is_free, key_owner}
 use Rattle.flat_core.proofs.Tests.{by_test, host_kind, tdr_kind, lt_of, range_of, some_same, same_self, not_true, and_left, and_right}
 use Rattle.flat_core.proofs.Pages.{taken, other, taken_node, taken_controls, taken_list, unowned, taken_pages}
 use Rattle.flat_core.proofs.Parts.{IsLive, new_kept, key_kept, write_back_kept, life_kept, op_kept, epoch_kept, begin_kept, end_kept, control_kept, vp_kept, taken_kept, ended_kept, left_kept}
@@ -223,7 +222,7 @@ add_tdcx-keeps m t p = record {
       let l' : Lawful m w' = cleared m p (take_page p kind.Tdcx t w) (taken_kept m w p kind.Tdcx t 0 0 host (lt_of p m.pages ps.1.0) l (λ e. cc) (λ e. cc) root (λ e. cc)) in
       control_kept m w' t p l' (record { kind = rw (same_self p) refl; owner = rw (same_self p) refl }) ps.1.1.1.1.1.0
       (λ c e. let its : AreControls w.pages t (c ∷ []) = subst (λ (cs : List ℕ). AreControls w.pages t cs) e (l.tds.controls t alive) in
-          other m.pages w.pages p kind.Tdcx t 0 0 host l.pages c kind.Tdcx its.kind (λ e. cc));
+      other m.pages w.pages p kind.Tdcx t 0 0 host l.pages c kind.Tdcx its.kind (λ e. cc));
   to_tell = λ w. refl;
 }
 

@@ -1,14 +1,12 @@
 -- A host page that is taken, and a page of a TD that is given back: what every world keeps.
-use Rattle.std.proofs.Common.{lit<, ◌≡◌, ◌≢◌, refl, sym, ◌∙◌, subst, ap, ℕ, suc, ◌<◌, ◌^◌, List, [], ◌∷◌, Some, Bool, true, false, ◌==◌}
+use Rattle.std.proofs.Common.{lit<, ◌≡◌, ◌≢◌, refl, sym, ◌∙◌, subst, ap, ℕ, ◌<◌, List, [], ◌∷◌, true, false, ◌==◌}
 use Rattle.std.proofs.lemmas.Bool.{eqb-true}
 use Rattle.td_words.specs.declared.names.PageKind.{PageKind}
 use Rattle.td_words.specs.declared.names.PageKind.TheVariants as kind
-use Rattle.td_words.specs.declared.machines.Machine.{Machine}
-use Rattle.flat_core.specs.World.{World, Pages, Tds, KeyTable, put}
+use Rattle.flat_core.specs.World.{Pages, put}
 use Rattle.flat_core.specs.Conditions.{is_host_in}
-use Rattle.flat_core.specs.Effects.{take_node}
-use Rattle.flat_core.specs.Lawful.{IsAlive, IsPageOf, IsNodeOf, AreControls, ArePagesOf, LawfulPages, LawfulTds, LawfulTree, LawfulKeys, LawfulBeginnings, Lawful, IsNew, is_free, key_owner}
-use Rattle.flat_core.proofs.Tests.{by_test, kind_owned, same_self}
+use Rattle.flat_core.specs.Lawful.{IsPageOf, IsNodeOf, AreControls, ArePagesOf, LawfulPages}
+use Rattle.flat_core.proofs.Tests.{by_test, kind_owned}
 
 -- where a page isn't one that has changed, all that is said of it stays
 module _ (old new : Pages) (p : ℕ) (kinds : (q : ℕ) → (q == p) ≡ false → new.kinds q ≡ old.kinds q) (owners : (q : ℕ) → (q == p) ≡ false → new.owners q ≡ old.owners q)

@@ -1,5 +1,5 @@
 -- What the words that acts are written in keep of a lawful world.
-use Rattle.std.proofs.Common.{lit<, ◌≡◌, ◌≢◌, refl, sym, ◌∙◌, subst, ap, ℕ, zero, suc, ◌+◌, ◌<◌, ◌≤◌, ◌^◌, List, [], ◌∷◌, ◌++◌, length, length-append, Option, Some, None, Bool, true, false, not, ◌==◌, ◌&&◌, nat_lt, arith}
+use Rattle.std.proofs.Common.{lit<, ◌≡◌, ◌≢◌, refl, sym, ◌∙◌, subst, ap, ℕ, zero, suc, ◌<◌, ◌≤◌, ◌^◌, List, [], ◌∷◌, ◌++◌, length, length-append, Some, None, true, false, not, ◌==◌, ◌&&◌, nat_lt, arith}
 use Rattle.std.specs.List.{list_any}
 use Rattle.std.proofs.lemmas.Bool.{eq-eqb, eqb-true, eqb-false, ne_eqb}
 use Rattle.td_words.specs.declared.names.PageKind.{PageKind}
@@ -14,9 +14,9 @@ use Rattle.flat_core.specs.World.{World, Pages, Tds, KeyTable, put}
 use Rattle.flat_core.specs.Locks.{one_if}
 use Rattle.flat_core.specs.Conditions.{is_host_in, owned_below}
 use Rattle.flat_core.specs.Effects.{take_node, give_back, set_key, set_life, set_op, set_epoch, add_control, add_vp, begin_measurement, end_measurement, write_back, written_back}
-use Rattle.flat_core.specs.Lawful.{IsAlive, IsPageOf, IsNodeOf, AreControls, ArePagesOf, all_differ, LawfulPages, LawfulTds, LawfulTree, LawfulKeys, LawfulBeginnings, Lawful, IsNew, is_free, key_owner}
-use Rattle.flat_core.proofs.Tests.{by_test, same_self, some_same, lt_of, not_true, and_left, and_right}
-use Rattle.flat_core.proofs.Pages.{node_kept, controls_kept, pages_kept, taken, other, taken_node, taken_controls, taken_list, unowned, taken_pages}
+use Rattle.flat_core.specs.Lawful.{IsAlive, IsPageOf, AreControls, ArePagesOf, all_differ, LawfulTds, LawfulTree, LawfulKeys, LawfulBeginnings, Lawful, IsNew, is_free, key_owner}
+use Rattle.flat_core.proofs.Tests.{by_test, some_same, lt_of, not_true, and_left, and_right}
+use Rattle.flat_core.proofs.Pages.{node_kept, controls_kept, pages_kept, taken, other, taken_node, taken_controls, taken_list, taken_pages}
 
 -- a life that isn't at its end
 abbrev pub IsLive : LifeState → Type 0
@@ -268,8 +268,8 @@ module _ (m : Machine) (w : World) (t p : ℕ) (l : Lawful m w) (page : IsPageOf
   all_differ_more (q ∷ qs) h d = by_test (q == p)
       (λ y. absurd (let no : true ≡ false = rw y at h in cc))
       (λ y. (let rest : list_any (λ x. x == p) qs ≡ false = rw y at h in
-          let apart' : (p == q) ≡ false = ne_eqb p q (λ e. absurd (let no : true ≡ false = sym (eq-eqb q p (sym e)) ∙ y in cc)) in
-          rw (not_among q qs apart' (not_true _ (and_left (not (list_any (λ x. x == q) qs)) (all_differ qs) d)), all_differ_more qs rest (and_right (not (list_any (λ x. x == q) qs)) (all_differ qs) d)) refl))
+      let apart' : (p == q) ≡ false = ne_eqb p q (λ e. absurd (let no : true ≡ false = sym (eq-eqb q p (sym e)) ∙ y in cc)) in
+      rw (not_among q qs apart' (not_true _ (and_left (not (list_any (λ x. x == q) qs)) (all_differ qs) d)), all_differ_more qs rest (and_right (not (list_any (λ x. x == q) qs)) (all_differ qs) d)) refl))
 
   pub vp_kept : Lawful m (add_vp t p w)
   vp_kept = record {
@@ -358,8 +358,8 @@ module _ (m : Machine) (w : World) (t : ℕ) (alive : IsAlive w.pages w.tds t) (
   own_hkid : (x : ℕ) → IsAlive w.pages w.tds x → (x == t) ≡ false → (w.tds.hkids x == w.tds.hkids t) ≡ false
   own_hkid x a n = by_test (w.tds.hkids x == w.tds.hkids t)
       (λ y. absurd (let here : w.tds.hkids x ≡ w.tds.hkids t = eqb-true _ _ y in
-          let both : Some x ≡ Some t = sym (l.keys.owner x a) ∙ (ap (λ (h : ℕ). key_owner (w.key_table.keys h)) here ∙ l.keys.owner t alive) in
-          let no : true ≡ false = sym (eq-eqb x t (some_same x t both)) ∙ n in cc))
+      let both : Some x ≡ Some t = sym (l.keys.owner x a) ∙ (ap (λ (h : ℕ). key_owner (w.key_table.keys h)) here ∙ l.keys.owner t alive) in
+      let no : true ≡ false = sym (eq-eqb x t (some_same x t both)) ∙ n in cc))
       (λ y. y)
 
   freed_owned : (h x : ℕ) → (h == w.tds.hkids t) ≡ false → key_owner (w.key_table.keys h) ≡ Some x → IsAlive w.pages ended x × (ended.hkids x ≡ h)
@@ -387,8 +387,8 @@ pub childless : (pages : Pages) (t n q : ℕ) → owned_below pages t n ≡ 0 �
 childless pages t zero q none few n h = absurd (omega arith)
 childless pages t (suc k) q none few n h = by_test (q == k)
     (λ y. (let here : q ≡ k = eqb-true q k y in
-        let counted : one_if (not (q == t) && (not (is_host_in pages q) && pages.owners q == t)) ≡ 0 = subst (λ (x : ℕ). one_if (not (x == t) && (not (is_host_in pages x) && pages.owners x == t)) ≡ 0) (sym here) (omega arith) in
-        by_test (pages.owners q == t) (λ o. absurd (let no : 1 ≡ 0 = rw (n, h, o) at counted in omega arith)) (λ o. o)))
+    let counted : one_if (not (q == t) && (not (is_host_in pages q) && pages.owners q == t)) ≡ 0 = subst (λ (x : ℕ). one_if (not (x == t) && (not (is_host_in pages x) && pages.owners x == t)) ≡ 0) (sym here) (omega arith) in
+    by_test (pages.owners q == t) (λ o. absurd (let no : 1 ≡ 0 = rw (n, h, o) at counted in omega arith)) (λ o. o)))
     (λ y. childless pages t k q (omega arith) (let apart : q ≢ k = eqb-false q k y in omega arith) n h)
 
 -- a page of a TD that has ended is given back, its TDR page last
@@ -400,7 +400,7 @@ module _ (m : Machine) (w : World) (t p : ℕ) (l : Lawful m w) (root : w.pages.
   elsewhere : (x : ℕ) → IsLive (w.tds.lives x) → (q : ℕ) → w.pages.owners q ≡ x → (q == p) ≡ false
   elsewhere x alive q e = by_test (q == p)
       (λ y. absurd (let same : x ≡ t = sym e ∙ (ap w.pages.owners (eqb-true q p y) ∙ mine) in
-          let no : true ≡ false = sym dead ∙ subst (λ (z : ℕ). IsLive (w.tds.lives z)) same alive in cc))
+      let no : true ≡ false = sym dead ∙ subst (λ (z : ℕ). IsLive (w.tds.lives z)) same alive in cc))
       (λ n. n)
 
   left_back : (x : ℕ) → IsAlive left w.tds x → IsAlive w.pages w.tds x
@@ -428,11 +428,11 @@ module _ (m : Machine) (w : World) (t p : ℕ) (l : Lawful m w) (root : w.pages.
   root_stays : (q : ℕ) → is_host_in w.pages q ≡ false → (q == p) ≡ false → (w.pages.owners q == p) ≡ false
   root_stays q h n = by_test (w.pages.owners q == p)
       (λ y. absurd (let here : w.pages.owners q ≡ p = eqb-true _ _ y in
-          let tdr : w.pages.kinds p ≡ kind.Tdr = ap w.pages.kinds (sym here) ∙ l.pages.owner q h in
-          let is : p ≡ t = sym (l.pages.tdr p tdr) ∙ mine in
-          let few : q < w.size = subst (λ (k : ℕ). q < k) (sym l.size) (l.pages.in_machine q h) in
-          let none = childless w.pages t w.size q (last (eq-eqb p t is)) few (subst (λ (z : ℕ). (q == z) ≡ false) is n) h in
-          let no : true ≡ false = sym (eq-eqb (w.pages.owners q) t (here ∙ is)) ∙ none in cc))
+      let tdr : w.pages.kinds p ≡ kind.Tdr = ap w.pages.kinds (sym here) ∙ l.pages.owner q h in
+      let is : p ≡ t = sym (l.pages.tdr p tdr) ∙ mine in
+      let few : q < w.size = subst (λ (k : ℕ). q < k) (sym l.size) (l.pages.in_machine q h) in
+      let none = childless w.pages t w.size q (last (eq-eqb p t is)) few (subst (λ (z : ℕ). (q == z) ≡ false) is n) h in
+      let no : true ≡ false = sym (eq-eqb (w.pages.owners q) t (here ∙ is)) ∙ none in cc))
       (λ y. y)
 
   left_owner : (q : ℕ) → (q == p) ≡ false → is_host_in w.pages q ≡ false → left.kinds (left.owners q) ≡ kind.Tdr
