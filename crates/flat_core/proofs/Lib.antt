@@ -5,6 +5,7 @@ pub mod Parts
 pub mod Induction
 pub mod Keeps
 pub mod Blind
+pub mod Mrtd
 pub mod Kept
 pub mod LockLaw
 pub mod Ends
