@@ -29,7 +29,8 @@ use Rattle.word_rules.specs.Rules.{moves}
 use Rattle.word_rules.specs.Views.{named_by}
 use Rattle.word_rules.specs.Cells.{one_of_parity, entered_of_parity}
 use Rattle.word_rules.specs.Spots.{spot, slot_spot, slot_of, page_spot, control_class, is_empty, is_at_end}
-use Rattle.word_rules.specs.Permissions.{MayAt, Moves, Respects, RespectsCompose}
+use Rattle.word_rules.specs.Permissions.{MayAt, Moves, Respects}
+use Rattle.word_rules.proofs.Conflicts.{respects-compose}
 use Rattle.act_rules.specs.Acts.{SameTd, HoldsTries, RowsRespect}
 use Rattle.act_rules.proofs.Stored.{by_test}
 use Rattle.act_rules.proofs.Respected.{page-same, page-as, control-same, leaves, all-same, host-kind, host-moves, at-end, not-true, and-left, and-right, effects-respect}
@@ -179,7 +180,7 @@ module _ (m : Machine) (g : Grip) (w : World) (t p : ℕ) (la : Lawful m w) (hos
   vp-added = record { word = vp-at; slot = λ h. inl refl; life = λ u. inl refl }
 
 -- acts of more words than one
-module _ (compose : RespectsCompose) (g : Grip) (w : World) where
+module _ (g : Grip) (w : World) where
   -- an act that leaves what words are, before or after another
   abbrev same-td : (w w' : World) (u : ℕ) → w'.tds.ops u ≡ w.tds.ops u → w'.tds.controls u ≡ w.tds.controls u → w'.tds.epochs u ≡ w.tds.epochs u → ((b : ℕ) → is_empty w' u b ≡ is_empty w u b)
       → ((n : ℕ) → named_by (w'.tds.entries u 0 n) ≡ named_by (w.tds.entries u 0 n)) → SameTd w w' u
@@ -196,7 +197,7 @@ module _ (compose : RespectsCompose) (g : Grip) (w : World) where
       let alone' : g.sole (Locked (OfPage (w1.pages.owners p))) ≡ true = subst (λ (x : ℕ). g.sole (Locked (OfPage x)) ≡ true) (sym is) alone in
       let b : Respects g w1 w2 = (effects-respect g w1).reclaimed p kind.Nda 0 0 0 no-host has' alone' own in
       let c : Respects g w2 w3 = leaves g w2 w3 (all-same w2 w3 refl (λ u. same-td w2 w3 u refl refl refl (λ b. refl) (λ n. refl))) (λ h. refl) refl in
-      compose.both g w w2 w3 (compose.both g w w1 w2 a b) c
+      respects-compose.both g w w2 w3 (respects-compose.both g w w1 w2 a b) c
 
   reclaimed : (m : Machine) (t p : ℕ) (b : Bool) → (p == t) ≡ b → Lawful m w → w.pages.kinds t ≡ kind.Tdr → g.has (Locked (OfPage t)) ≡ true → g.sole (Locked (OfPage t)) ≡ true
       → Passes (reclaim_conditions w t p b) → HoldsTries g (reclaim_conditions w t p b) → Respects g w (give_back p (end_memory_in t p w))
@@ -216,14 +217,14 @@ module _ (compose : RespectsCompose) (g : Grip) (w : World) where
       let a : Respects g w w1 = (effects-respect g w).op t op.Initialized has alone in
       let b : Respects g w1 w2 = (effects-respect g w1).epoch_op t 1 has alone in
       let c : Respects g w2 w3 = leaves g w2 w3 (all-same w2 w3 refl (λ u. same-td w2 w3 u refl refl refl (λ b. refl) (λ n. refl))) (λ h. refl) refl in
-      compose.both g w w2 w3 (compose.both g w w1 w2 a b) c
+      respects-compose.both g w w2 w3 (respects-compose.both g w w1 w2 a b) c
 
   -- MR.FINALIZE
   finalized : (t : ℕ) → g.has (Locked (OfPage t)) ≡ true → g.sole (Locked (OfOp t)) ≡ true → Respects g w (set_op t op.Runnable (end_measurement t w))
   finalized t has alone =
       let w1 : World = end_measurement t w in
       let a : Respects g w w1 = leaves g w w1 (all-same w w1 refl (λ u. same-td w w1 u refl refl refl (λ b. refl) (λ n. refl))) (λ h. refl) refl in
-      compose.both g w w1 (set_op t op.Runnable w1) a ((effects-respect g w1).op t op.Runnable has alone)
+      respects-compose.both g w w1 (set_op t op.Runnable w1) a ((effects-respect g w1).op t op.Runnable has alone)
 
   -- MNG.VPFLUSHDONE and MNG.KEY.FREEID: a life, and the key of the TD's HKID
   ended : (t : ℕ) (s : LifeState) (k : KeyState) → key_owner (w.key_table.keys (w.tds.hkids t)) ≡ Some t → g.has (Locked (OfPage t)) ≡ true → g.sole (Locked (OfPage t)) ≡ true → Respects g w (set_key (w.tds.hkids t) k (set_life t s w))
@@ -231,7 +232,7 @@ module _ (compose : RespectsCompose) (g : Grip) (w : World) where
       let w1 : World = set_life t s w in
       let h : ℕ = w.tds.hkids t in
       let may : MayAt g (slot_spot w1 h) moves = subst (λ (x : Option ℕ). MayAt g (slot_of x) moves) (sym own) (inl (alone, tt)) in
-      compose.both g w w1 (set_key h k w1) ((effects-respect g w).life t s has alone) ((effects-respect g w1).key h k (inr may))
+      respects-compose.both g w w1 (set_key h k w1) ((effects-respect g w).life t s has alone) ((effects-respect g w1).key h k (inr may))
 
   -- VP.INIT
   vp-initialized : (v x : ℕ) → Respects g w (set_register v 0 x (set_vp_state v vcpu.Ready w))
@@ -251,24 +252,24 @@ tdr-kind kind.Tdr h = refl
 tdr-kind kind.Nda h = cc
 tdr-kind _ h = cc
 
-pub rows-respect : RespectsCompose → RowsRespect
-rows-respect compose o me (call.HostRead page word) g w la ps h = stays g w
-rows-respect compose o me (call.HostWrite page word value) g w la ps h = written g w page word value
-rows-respect compose o me (call.PhymemPageRdmd page) g w la ps h = stays g w
-rows-respect compose o me call.PhymemCacheWb g w la ps h = cached-back g w
-rows-respect compose o me (call.PhymemPageReclaim tdr page) g w la ps h =
-    reclaimed compose g w o.machine tdr page (page == tdr) refl la (tdr-kind (w.pages.kinds tdr) ps.1.1.0) h.0.0 h.0.1 ps.1.1.1.1 h.1
-rows-respect compose o me (call.MngCreate tdr hkid) g w la ps h =
+pub rows-respect : RowsRespect
+rows-respect o me (call.HostRead page word) g w la ps h = stays g w
+rows-respect o me (call.HostWrite page word value) g w la ps h = written g w page word value
+rows-respect o me (call.PhymemPageRdmd page) g w la ps h = stays g w
+rows-respect o me call.PhymemCacheWb g w la ps h = cached-back g w
+rows-respect o me (call.PhymemPageReclaim tdr page) g w la ps h =
+    reclaimed g w o.machine tdr page (page == tdr) refl la (tdr-kind (w.pages.kinds tdr) ps.1.1.0) h.0.0 h.0.1 ps.1.1.1.1 h.1
+rows-respect o me (call.MngCreate tdr hkid) g w la ps h =
     created o.machine g w tdr hkid la (host-kind (w.pages.kinds tdr) ps.1.1.0) (free-owner (w.key_table.keys hkid) ps.1.1.1.0) h.0.1 h.1.0.1
-rows-respect compose o me (call.MngKeyConfig tdr) g w la ps h = (effects-respect g w).life tdr life.KeysConfigured h.0.0 h.0.1
-rows-respect compose o me (call.MngAddcx tdr page) g w la ps h = tdcx-added o.machine g w tdr page la (host-kind (w.pages.kinds page) ps.1.1.1.1.1.1.0) ps.1.1.1.1.1.0 h.1.0.1
-rows-respect compose o me (call.MngInit tdr) g w la ps h = initialized compose g w tdr h.0 h.1.0.1
-rows-respect compose o me (call.MngRd tdr field) g w la ps h = stays g w
-rows-respect compose o me (call.MngVpflushdone tdr) g w la ps h =
-    ended compose g w tdr life.Blocked (FlushedOf tdr false) (la.keys.owner tdr (record { kind = tdr-kind (w.pages.kinds tdr) ps.1.0; life = live-of (life.HkidAssigned ∷ life.KeysConfigured ∷ []) (w.tds.lives tdr) refl ps.1.1.0 })) h.0.0 h.0.1
-rows-respect compose o me (call.MngKeyFreeid tdr) g w la ps h =
-    ended compose g w tdr life.Teardown Unassigned (la.keys.owner tdr (record { kind = tdr-kind (w.pages.kinds tdr) ps.1.0; life = live-of (life.Blocked ∷ []) (w.tds.lives tdr) refl ps.1.1.0 })) h.0.0 h.0.1
-rows-respect compose o me (call.MrFinalize tdr) g w la ps h = finalized compose g w tdr h.0 h.1.0.1
-rows-respect compose o me (call.VpCreate tdr page) g w la ps h =
+rows-respect o me (call.MngKeyConfig tdr) g w la ps h = (effects-respect g w).life tdr life.KeysConfigured h.0.0 h.0.1
+rows-respect o me (call.MngAddcx tdr page) g w la ps h = tdcx-added o.machine g w tdr page la (host-kind (w.pages.kinds page) ps.1.1.1.1.1.1.0) ps.1.1.1.1.1.0 h.1.0.1
+rows-respect o me (call.MngInit tdr) g w la ps h = initialized g w tdr h.0 h.1.0.1
+rows-respect o me (call.MngRd tdr field) g w la ps h = stays g w
+rows-respect o me (call.MngVpflushdone tdr) g w la ps h =
+    ended g w tdr life.Blocked (FlushedOf tdr false) (la.keys.owner tdr (record { kind = tdr-kind (w.pages.kinds tdr) ps.1.0; life = live-of (life.HkidAssigned ∷ life.KeysConfigured ∷ []) (w.tds.lives tdr) refl ps.1.1.0 })) h.0.0 h.0.1
+rows-respect o me (call.MngKeyFreeid tdr) g w la ps h =
+    ended g w tdr life.Teardown Unassigned (la.keys.owner tdr (record { kind = tdr-kind (w.pages.kinds tdr) ps.1.0; life = live-of (life.Blocked ∷ []) (w.tds.lives tdr) refl ps.1.1.0 })) h.0.0 h.0.1
+rows-respect o me (call.MrFinalize tdr) g w la ps h = finalized g w tdr h.0 h.1.0.1
+rows-respect o me (call.VpCreate tdr page) g w la ps h =
     vp-added o.machine g w tdr page la (host-kind (w.pages.kinds page) ps.1.1.1.1.1.1.1.1.0) h.1.1.0.1
-rows-respect compose o me (call.VpInit tdr vp value) g w la ps h = vp-initialized compose g w vp value
+rows-respect o me (call.VpInit tdr vp value) g w la ps h = vp-initialized g w vp value

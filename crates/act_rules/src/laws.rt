@@ -18,6 +18,4 @@ pub fn stores_keep_reads()
 pub fn acts_respect()
     ensures effects { EffectsRespect }
     ensures rows { RowsRespect }
-{
-    word_rules::respects_compose();
-}
+{}

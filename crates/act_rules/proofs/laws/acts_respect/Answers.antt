@@ -6,4 +6,4 @@ pub returns-clause-effects : goal.returns-clause-effects
 returns-clause-effects c = effects-respect
 
 pub returns-clause-rows : goal.returns-clause-rows
-returns-clause-rows c = rows-respect c.respects_compose.ensures
+returns-clause-rows c = rows-respect
