@@ -1,0 +1,4 @@
+pub mod VpChanges
+pub mod Shown
+pub mod InitShows
+pub mod CreateShows
