@@ -40,7 +40,7 @@ one-longer : (p : ℕ) (vs : List ℕ) → length (vs ++ p ∷ []) ≡ length vs
 one-longer p vs = omega (arith, length-append vs (p ∷ []))
 
 -- pages of two kinds are two pages
-apart : (kinds : ℕ → PageKind) (p q : ℕ) (j k : PageKind) → kinds p ≡ j → kinds q ≡ k → (j ≡ k → ⊥) → (p == q) ≡ false
+pub apart : (kinds : ℕ → PageKind) (p q : ℕ) (j k : PageKind) → kinds p ≡ j → kinds q ≡ k → (j ≡ k → ⊥) → (p == q) ≡ false
 apart kinds p q j k a b differ = by_test (p == q)
     (λ y. (let is : p ≡ q = eqb-true p q y in absurd (differ (sym a ∙ (ap kinds is ∙ b)))))
     (λ n. n)

@@ -1,0 +1,42 @@
+-- What the words are that the calls of virtual processors load and store.
+use Rattle.std.proofs.Common.{◌≡◌, ℕ, zero, suc, ◌+◌, ◌<◌, ◌==◌, List, [], ◌∷◌, refl, ap, sym, ◌∙◌, subst, arith}
+use Rattle.std.proofs.lemmas.Bool.{eq-eqb}
+use Rattle.td_words.specs.declared.names.PageKind.TheVariants as kind
+use Rattle.td_words.specs.Place.{WordPlace}
+use Rattle.td_words.specs.Place as place
+use Rattle.flat_core.specs.World.{World}
+use Rattle.word_rules.specs.Guards.{Grip, Rule}
+use Rattle.word_rules.specs.Rules.{Class, VcpuWord, TdcsWord, ChildCount}
+use Rattle.word_rules.specs.Views.{no_page}
+use Rattle.word_rules.specs.Lines.{in_lines}
+use Rattle.word_rules.specs.Spots.{Spot, spot, page_spot, control_class, or_unused, tdcs_classes, vp_classes, tdr_classes, is_current, is_empty}
+use Rattle.word_rules.specs.Permissions.{MayAt}
+
+-- a word of that class, of a page of that TD
+abbrev pub spot_of : (class : Class) (t p : ℕ) → Spot
+spot_of c t p = record { class = c; td = t; page = p; named = no_page }
+
+-- a permission at a word is one at what the word is
+pub at-spot : (g : Grip) (w : World) (q : WordPlace) (s : Spot) (rule : Class → Rule) → spot w q ≡ s → MayAt g s rule → MayAt g (spot w q) rule
+at-spot g w q s rule e a = subst (λ (x : Spot). MayAt g x rule) (sym e) a
+
+-- of a TDVPR page
+pub vp-spot : (w : World) (t v i : ℕ) → w.pages.kinds v ≡ kind.Tdvpr → w.pages.owners v ≡ t → spot w (place.Word v i) ≡ spot_of (or_unused (in_lines vp_classes i)) t v
+vp-spot w t v i is its = λ j. page_spot w (its j) v (is j) i
+
+-- of a TDR page
+pub tdr-spot : (w : World) (t i : ℕ) → w.pages.kinds t ≡ kind.Tdr → w.pages.owners t ≡ t → spot w (place.Word t i) ≡ spot_of (or_unused (in_lines tdr_classes i)) t t
+tdr-spot w t i is its = λ j. page_spot w (its j) t (is j) i
+
+-- of a TD's TDCS
+module _ (w : World) (t d r i : ℕ) (is : w.pages.kinds d ≡ kind.Tdcx) (its : w.pages.owners d ≡ t) (two : w.tds.controls t ≡ d ∷ r ∷ []) where
+  first-control : control_class w t d (d ∷ r ∷ []) i ≡ or_unused (in_lines (tdcs_classes (is_current w t) (is_empty w t)) i)
+  first-control = rw (eq-eqb d d refl) refl
+
+  its-class : control_class w t d (w.tds.controls t) i ≡ or_unused (in_lines (tdcs_classes (is_current w t) (is_empty w t)) i)
+  its-class = ap (λ (cs : List ℕ). control_class w t d cs i) two ∙ first-control
+
+  pub tdcs-spot : spot w (place.Word d i) ≡ spot_of (or_unused (in_lines (tdcs_classes (is_current w t) (is_empty w t)) i)) t d
+  tdcs-spot =
+      let page : spot w (place.Word d i) ≡ spot_of (control_class w t d (w.tds.controls t) i) t d = λ j. page_spot w (its j) d (is j) i in
+      page ∙ ap (λ (c : Class). spot_of c t d) its-class

@@ -1,0 +1,47 @@
+-- The calls that build virtual processors as decisions over the words that they are told.
+use Rattle.std.specs.Prelude.{ℕ}
+use Rattle.td_words.specs.declared.names.PageKind.TheVariants as kind
+use Rattle.td_words.specs.declared.names.OpState.{OpState}
+use Rattle.td_words.specs.declared.names.VcpuState.TheVariants as vcpu
+use Rattle.td_words.specs.declared.names.Mode.TheVariants.{Exclusive}
+use Rattle.td_words.specs.declared.names.LimitName.TheVariants.{Vcpus}
+use Rattle.td_words.specs.declared.places.TheConstants.{TDR_CHILDREN, TDCS_VP_COUNT, TDCS_VPS_EXPECTED, VP_STATE}
+use Rattle.td_words.specs.declared.refusals.Status.TheVariants.{PageMetadataIncorrect, VcpuStateIncorrect, Limit}
+use Rattle.td_words.specs.declared.replies.Value.TheVariants as value
+use Rattle.td_words.specs.declared.replies.Reply.TheVariants.{Done}
+use Rattle.td_words.specs.Place as place
+use Rattle.flat_core.specs.Processor.{OfPage}
+use Rattle.flat_core.specs.Conditions.{same_vp_state}
+use Rattle.word_rules.specs.Rules.{Whole}
+use Rattle.leaf_engine.specs.Trees.{Tree, Lock, Load, needs, acts}
+use Rattle.first_leaves.specs.Words.{says_host}
+use Rattle.vcpu_control.specs.Words.{says_page_of, vcpu_told, has_room}
+use Rattle.vcpu_control.specs.VpChanges.{init_changes, create_changes}
+
+-- VP.INIT behind the beginning of its row
+abbrev pub init_rest : (tdr vp x : ℕ) → Tree
+init_rest tdr vp x =
+    Lock (OfPage vp) (place.Lock vp) Exclusive
+    (Load Whole (place.Pamt vp) (λ pamt.
+    needs (says_page_of tdr kind.Tdvpr pamt) (PageMetadataIncorrect vp)
+    (Load Whole (place.Word vp VP_STATE) (λ state.
+    needs (same_vp_state (vcpu_told state) vcpu.Created) (VcpuStateIncorrect (vcpu_told state))
+    (acts (Done value.Nothing) (init_changes vp x))))))
+
+-- VP.CREATE: the page is a host page, and becomes the virtual processor of that index
+abbrev pub create_page : (tdr tdcs page count : ℕ) → Tree
+create_page tdr tdcs page count =
+    Lock (OfPage page) (place.Lock page) Exclusive
+    (Load Whole (place.Pamt page) (λ pamt.
+    needs (says_host pamt) (PageMetadataIncorrect page)
+    (Load Whole (place.Word tdr TDR_CHILDREN) (λ children.
+    acts (Done value.Nothing) (create_changes tdr tdcs page count children)))))
+
+-- and there is room for it
+abbrev pub create_room : (tdr tdcs : ℕ) → OpState → (page count expected : ℕ) → Tree
+create_room tdr tdcs op page count expected = needs (has_room op expected count) (Limit Vcpus) (create_page tdr tdcs page count)
+
+abbrev pub create_rest : (tdr tdcs : ℕ) → OpState → (page : ℕ) → Tree
+create_rest tdr tdcs op page =
+    Load Whole (place.Word tdcs TDCS_VP_COUNT) (λ count.
+    Load Whole (place.Word tdcs TDCS_VPS_EXPECTED) (λ expected. create_room tdr tdcs op page count expected))
