@@ -18,7 +18,7 @@ use Rattle.flat_core.specs.Processor.{LockId, OfPage, OfOp}
 use Rattle.flat_core.specs.Opening.{Opening}
 use Rattle.flat_core.specs.Row.{Passes}
 use Rattle.flat_core.specs.Conditions.{same_kind, is_host, children, vp_limit, vp_room, host_page, page_exclusive, td_exclusive}
-use Rattle.flat_core.specs.Lawful.{Lawful, IsAlive, AreControls}
+use Rattle.flat_core.specs.Lawful.{Lawful, IsPageOf}
 use Rattle.flat_core.specs.VpRows.{create_vp}
 use Rattle.word_rules.specs.Guards.{Grip, Locked, Meets}
 use Rattle.word_rules.specs.Rules.{Class, VcpuWord, Association, Unused, TdcsWord, ChildCount, Whole, KeepsNothing, reads, writes, owes}
@@ -32,12 +32,13 @@ use Rattle.act_rules.proofs.Stored.{by_test}
 use Rattle.leaf_engine.specs.Changes.{Memory, Put, Clear, changed}
 use Rattle.leaf_engine.specs.Trees.{Load, acts}
 use Rattle.leaf_engine.specs.Means.{Instant, Means, Acts, MayOweAll, work_of, OfCall, hold}
-use Rattle.first_leaves.specs.HostMeanings.{host_shown}
+use Rattle.leaf_parts.proofs.Told.{kind-shown, tdr-shown, tdcs-shown, tdr-spot, tdcs-spot}
+use Rattle.leaf_parts.proofs.Begun.{IsTd}
 use Rattle.vcpu_control.specs.Words.{has_room}
 use Rattle.vcpu_control.specs.VpChanges.{create_changes}
 use Rattle.vcpu_control.specs.VpTrees.{create_page, create_room, create_rest}
 use Rattle.vcpu_control.specs.VpLocks.{td_locks, page_locks, td-held, op-held, op-alone, held-td, held-op, held-page, alone-page, alone-op}
-use Rattle.vcpu_control.specs.VpSpots.{spot_of, at-spot, vp-spot, tdr-spot, tdcs-spot}
+use Rattle.vcpu_control.specs.VpSpots.{spot_of, at-spot, vp-spot}
 use Rattle.vcpu_control.specs.Children.{one-child, same-children}
 use Rattle.vcpu_control.specs.CreateShows.{created, apart}
 
@@ -89,9 +90,8 @@ vp-owed g t p i td op own =
 abbrev opening : Machine → Opening
 opening m = record { machine = m; codes = λ t i. []; calls = []; bundles = λ slot. None; secrets = λ i. 0 }
 
-module _ (m : Machine) (c : Instant) (t p d r : ℕ) (few : m.pages ≤ 1024) (la : Lawful m c.state.world) (sh : Shows m c.memory.words c.memory.slots c.state)
-    (head : Passes (td_exclusive c.state.world t (op.Initialized ∷ op.MemoryImport ∷ []))) (alive : IsAlive c.state.world.pages c.state.world.tds t) (two : c.state.world.tds.controls t ≡ d ∷ r ∷ [])
-    (tdr_page : nat_lt t m.pages ≡ true) (page : nat_lt p m.pages ≡ true) (differ : not (p == t) ≡ true) where
+module _ (m : Machine) (c : Instant) (t p : ℕ) (few : m.pages ≤ 1024) (la : Lawful m c.state.world) (sh : Shows m c.memory.words c.memory.slots c.state)
+    (x : IsTd m c.state.world t (op.Initialized ∷ op.MemoryImport ∷ [])) (tdr_page : nat_lt t m.pages ≡ true) (page : nat_lt p m.pages ≡ true) (differ : not (p == t) ≡ true) where
   abbrev w : World
   w = c.state.world
 
@@ -114,29 +114,14 @@ module _ (m : Machine) (c : Instant) (t p d r : ℕ) (few : m.pages ≤ 1024) (l
   tdr_in = ltb-true t m.pages tdr_page
 
   -- its TDCS
-  controls : AreControls w.pages t (d ∷ r ∷ [])
-  controls = subst (λ (cs : List ℕ). AreControls w.pages t cs) two (la.tds.controls t alive)
-
-  tdcx : w.pages.kinds d ≡ kind.Tdcx
-  tdcx = controls.0.kind
-
-  its-own : w.pages.owners d ≡ t
-  its-own = controls.0.owner
-
-  not-host : is_host w d ≡ false
-  not-host = rw tdcx refl
+  abbrev d : ℕ
+  d = x.controls.tdcs
 
   tdcs_in : d < m.pages
-  tdcs_in = la.pages.in_machine d not-host
-
-  tdcs-cell : (i : ℕ) → cell c.state (place.Word d i) ≡ in_lines (td_lock_lines (lock_word c.state.lps c.state.lp_count) t (tdcs_lines w t)) i
-  tdcs-cell i =
-      let itself : (d == d) ≡ true = eq-eqb d d refl in
-      let it : page_cell w (lock_word c.state.lps c.state.lp_count) t d kind.Tdcx i ≡ in_lines (td_lock_lines (lock_word c.state.lps c.state.lp_count) t (tdcs_lines w t)) i = rw (alive.life, two, itself) refl in
-      (λ j. page_cell w (lock_word c.state.lps c.state.lp_count) (its-own j) d (tdcx j) i) ∙ it
+  tdcs_in = x.controls.tdcs_in
 
   tdcs-word : (i : ℕ) → i < 512 → IsAs (in_lines (td_lock_lines (lock_word c.state.lps c.state.lp_count) t (tdcs_lines w t)) i) (c.memory.words (place.Word d i))
-  tdcs-word i b = subst (λ (x : Option ℕ). IsAs x (c.memory.words (place.Word d i))) (tdcs-cell i) (sh.word (place.Word d i) (tdcs_in, b))
+  tdcs-word i b = tdcs-shown m c.memory.words c.memory.slots c.state sh t i d (x.controls.root ∷ []) x.controls.list x.controls.tdcs_page x.alive.life tdcs_in b
 
   count_word : c.memory.words (place.Word d 15) ≡ n
   count_word = tdcs-word 15 (omega arith)
@@ -145,9 +130,7 @@ module _ (m : Machine) (c : Instant) (t p d r : ℕ) (few : m.pages ≤ 1024) (l
   expected_word = tdcs-word 14 (omega arith)
 
   children_word : c.memory.words (place.Word t 2) ≡ children w t
-  children_word =
-      let it : cell c.state (place.Word t 2) ≡ Some (children w t) = λ j. page_cell w (lock_word c.state.lps c.state.lp_count) (la.pages.tdr t alive.kind j) t (alive.kind j) 2 in
-      subst (λ (x : Option ℕ). IsAs x (c.memory.words (place.Word t 2))) it (sh.word (place.Word t 2) (tdr_in, omega arith))
+  children_word = tdr-shown m c.memory.words c.memory.slots c.state sh t 2 x.alive.kind x.own tdr_in (omega arith)
 
   limit : vp_limit (w.tds.ops t) (w.tds.vps_expected t) ≤ 8
   limit = limit_small (w.tds.ops t) (w.tds.vps_expected t) (la.tds.vps_expected t)
@@ -177,17 +160,17 @@ module _ (m : Machine) (c : Instant) (t p d r : ℕ) (few : m.pages ≤ 1024) (l
 
     respects : Respects g w w'
     respects = rows-respect (opening m) 0 (call.VpCreate t p) g w la
-        (tdr_page, (page, (differ, (head.0, (head.1.0, (head.1.1.0, (head.1.1.1.0, (room, (host, tt)))))))))
+        (tdr_page, (page, (differ, (rw x.alive.kind refl, (rw x.configured refl, (x.two, (x.op, (room, (host, tt)))))))))
         (td, ((op_held, op_alone), ((own_held, own), tt)))
 
     itself : (p == p) ≡ true
     itself = eq-eqb p p refl
 
     d-p : (d == p) ≡ false
-    d-p = apart w.pages.kinds d p kind.Tdcx kind.Nda tdcx nda (λ e. cc)
+    d-p = apart w.pages.kinds d p kind.Tdcx kind.Nda x.controls.tdcs_page.kind nda (λ e. cc)
 
     t-p : (t == p) ≡ false
-    t-p = apart w.pages.kinds t p kind.Tdr kind.Nda alive.kind nda (λ e. cc)
+    t-p = apart w.pages.kinds t p kind.Tdr kind.Nda x.alive.kind nda (λ e. cc)
 
     -- what the pages are after the act
     new-kind : w'.pages.kinds p ≡ kind.Tdvpr
@@ -196,17 +179,14 @@ module _ (m : Machine) (c : Instant) (t p d r : ℕ) (few : m.pages ≤ 1024) (l
     new-owner : w'.pages.owners p ≡ t
     new-owner = rw itself refl
 
-    tdcs-kind : w'.pages.kinds d ≡ kind.Tdcx
-    tdcs-kind = rw d-p tdcx
-
-    tdcs-owner : w'.pages.owners d ≡ t
-    tdcs-owner = rw d-p its-own
+    after-tdcs : IsPageOf w'.pages t d kind.Tdcx
+    after-tdcs = record { kind = rw d-p x.controls.tdcs_page.kind; owner = rw d-p x.controls.tdcs_page.owner }
 
     tdr-kind : w'.pages.kinds t ≡ kind.Tdr
-    tdr-kind = rw t-p alive.kind
+    tdr-kind = rw t-p x.alive.kind
 
     tdr-owner : w'.pages.owners t ≡ t
-    tdr-owner = rw t-p (la.pages.tdr t alive.kind)
+    tdr-owner = rw t-p x.own
 
     its-act : Acts m c (work_of (OfCall (create_vp m t p))) (page_locks t p Exclusive) (Done value.Nothing) [] (create_changes t d p n (children w t))
     its-act = record {
@@ -214,7 +194,7 @@ module _ (m : Machine) (c : Instant) (t p d r : ℕ) (few : m.pages ≤ 1024) (l
       fills_allowed = tt;
       respects = respects;
       locks_stay = ((refl, λ y. y), ((refl, λ y. record { alive = record { kind = tdr-kind; life = y.alive.life }; has_tdcs = y.has_tdcs }), ((refl, λ y. y), tt)));
-      shows = created m c.state c.memory t p d r sh la alive two nda eight
+      shows = created m c.state c.memory t p d x.controls.root sh la x.alive x.controls.list nda eight
           (one-child m w p kind.Tdvpr t la few in_page host refl other) (λ u e. same-children w p kind.Tdvpr t u host refl e);
     }
 
@@ -230,7 +210,7 @@ module _ (m : Machine) (c : Instant) (t p d r : ℕ) (few : m.pages ≤ 1024) (l
         (
           ((in_page, omega arith), (KeepsNothing, new-owed 0, tt)),
           (
-            ((tdcs_in, omega arith), (KeepsNothing, at-spot g w' (place.Word d 15) (spot_of TdcsWord t d) (λ z. owes z KeepsNothing) (tdcs-spot w' t d r 15 tdcs-kind tdcs-owner two) (inr (inl (td, (op_alone, tt)))), tt)),
+            ((tdcs_in, omega arith), (KeepsNothing, at-spot g w' (place.Word d 15) (spot_of TdcsWord t d) (λ z. owes z KeepsNothing) (tdcs-spot w' t 15 d (x.controls.root ∷ []) x.controls.list after-tdcs) (inr (inl (td, (op_alone, tt)))), tt)),
             (((tdr_in, omega arith), (KeepsNothing, at-spot g w' (place.Word t 2) (spot_of ChildCount t t) (λ z. owes z KeepsNothing) (tdr-spot w' t 2 tdr-kind tdr-owner) (inr (inl (td, (op_alone, tt)))), tt)), tt),
           ),
         ),
@@ -238,7 +218,7 @@ module _ (m : Machine) (c : Instant) (t p d r : ℕ) (few : m.pages ≤ 1024) (l
     )
 
     listed-spot : spot w (place.Word d (40 + n)) ≡ spot_of TdcsWord t d
-    listed-spot = tdcs-spot w t d r (40 + n) tdcx its-own two ∙ ap (λ (x : Class). spot_of x t d) (listed-class (is_current w t) (is_empty w t) n eight)
+    listed-spot = tdcs-spot w t (40 + n) d (x.controls.root ∷ []) x.controls.list x.controls.tdcs_page ∙ ap (λ (x : Class). spot_of x t d) (listed-class (is_current w t) (is_empty w t) n eight)
 
     its-end : Means m c (work_of (OfCall (create_vp m t p))) (page_locks t p Exclusive) (acts (Done value.Nothing) (create_changes t d p n (children w t))) []
     its-end = (
@@ -253,7 +233,7 @@ module _ (m : Machine) (c : Instant) (t p d r : ℕ) (few : m.pages ≤ 1024) (l
     counted : Means m c (work_of (OfCall (create_vp m t p))) (page_locks t p Exclusive) (Load Whole (place.Word t 2) (λ kids. acts (Done value.Nothing) (create_changes t d p n kids))) []
     counted = (
       (tdr_in, omega arith),
-      inl (at-spot g w (place.Word t 2) (spot_of ChildCount t t) (λ z. reads z Whole) (tdr-spot w t 2 alive.kind (la.pages.tdr t alive.kind)) (inr (inl (td, (op_alone, tt))))),
+      inl (at-spot g w (place.Word t 2) (spot_of ChildCount t t) (λ z. reads z Whole) (tdr-spot w t 2 x.alive.kind x.own) (inr (inl (td, (op_alone, tt))))),
       subst (λ (kids : ℕ). Means m c (work_of (OfCall (create_vp m t p))) (page_locks t p Exclusive) (acts (Done value.Nothing) (create_changes t d p n kids)) []) (sym children_word) its-end,
     )
 
@@ -263,7 +243,7 @@ module _ (m : Machine) (c : Instant) (t p d r : ℕ) (few : m.pages ≤ 1024) (l
     refl,
     refl,
     record { in_machine = in_page; at = refl; stands = tt; allowed = inl tt },
-    (in_page, inl (inl (own_held, tt)), (host_shown m c p sh in_page, λ e. refl, λ host. counted room host)),
+    (in_page, inl (inl (own_held, tt)), (kind-shown m c.memory.words c.memory.slots c.state sh kind.Nda p in_page, λ e. refl, λ host. counted room host)),
   )
 
   roomy : Means m c (work_of (OfCall (create_vp m t p))) (td_locks t Exclusive) (create_room t d (w.tds.ops t) p n (w.tds.vps_expected t)) (vp_room w t ∷ page_exclusive p ∷ host_page w p ∷ [])
@@ -273,13 +253,13 @@ module _ (m : Machine) (c : Instant) (t p d r : ℕ) (few : m.pages ≤ 1024) (l
   tdcs-read i e = at-spot (hold c (td_locks t Exclusive)) w (place.Word d i) (spot_of TdcsWord t d) (λ z. reads z Whole) e (inr (inl (td-held t p Exclusive c.kept other, (op-held t p Exclusive c.kept other, tt))))
 
   -- the expected number, and the number there is
-  pub create_rest-means : Means m c (work_of (OfCall (create_vp m t p))) (td_locks t Exclusive) (create_rest t d (w.tds.ops t) p) (vp_room w t ∷ page_exclusive p ∷ host_page w p ∷ [])
+  pub create_rest-means : Means m c (work_of (OfCall (create_vp m t p))) (td_locks t Exclusive) (create_rest t (record { tdcs = d; op = w.tds.ops t }) p) (vp_room w t ∷ page_exclusive p ∷ host_page w p ∷ [])
   create_rest-means = (
     (tdcs_in, omega arith),
-    inl (tdcs-read 15 (tdcs-spot w t d r 15 tdcx its-own two)),
+    inl (tdcs-read 15 (tdcs-spot w t 15 d (x.controls.root ∷ []) x.controls.list x.controls.tdcs_page)),
     (
       (tdcs_in, omega arith),
-      inl (tdcs-read 14 (tdcs-spot w t d r 14 tdcx its-own two)),
+      inl (tdcs-read 14 (tdcs-spot w t 14 d (x.controls.root ∷ []) x.controls.list x.controls.tdcs_page)),
       subst (λ (count : ℕ). Means m c (work_of (OfCall (create_vp m t p))) (td_locks t Exclusive) (create_room t d (w.tds.ops t) p count (c.memory.words (place.Word d 14))) (vp_room w t ∷ page_exclusive p ∷ host_page w p ∷ [])) (sym count_word)
       (subst (λ (expected : ℕ). Means m c (work_of (OfCall (create_vp m t p))) (td_locks t Exclusive) (create_room t d (w.tds.ops t) p n expected) (vp_room w t ∷ page_exclusive p ∷ host_page w p ∷ [])) (sym expected_word) roomy),
     ),

@@ -9,3 +9,4 @@ pub mod InitMeans
 pub mod Children
 pub mod CreateShows
 pub mod CreateMeans
+pub mod VpMeanings

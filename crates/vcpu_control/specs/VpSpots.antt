@@ -23,20 +23,3 @@ at-spot g w q s rule e a = subst (λ (x : Spot). MayAt g x rule) (sym e) a
 -- of a TDVPR page
 pub vp-spot : (w : World) (t v i : ℕ) → w.pages.kinds v ≡ kind.Tdvpr → w.pages.owners v ≡ t → spot w (place.Word v i) ≡ spot_of (or_unused (in_lines vp_classes i)) t v
 vp-spot w t v i is its = λ j. page_spot w (its j) v (is j) i
-
--- of a TDR page
-pub tdr-spot : (w : World) (t i : ℕ) → w.pages.kinds t ≡ kind.Tdr → w.pages.owners t ≡ t → spot w (place.Word t i) ≡ spot_of (or_unused (in_lines tdr_classes i)) t t
-tdr-spot w t i is its = λ j. page_spot w (its j) t (is j) i
-
--- of a TD's TDCS
-module _ (w : World) (t d r i : ℕ) (is : w.pages.kinds d ≡ kind.Tdcx) (its : w.pages.owners d ≡ t) (two : w.tds.controls t ≡ d ∷ r ∷ []) where
-  first-control : control_class w t d (d ∷ r ∷ []) i ≡ or_unused (in_lines (tdcs_classes (is_current w t) (is_empty w t)) i)
-  first-control = rw (eq-eqb d d refl) refl
-
-  its-class : control_class w t d (w.tds.controls t) i ≡ or_unused (in_lines (tdcs_classes (is_current w t) (is_empty w t)) i)
-  its-class = ap (λ (cs : List ℕ). control_class w t d cs i) two ∙ first-control
-
-  pub tdcs-spot : spot w (place.Word d i) ≡ spot_of (or_unused (in_lines (tdcs_classes (is_current w t) (is_empty w t)) i)) t d
-  tdcs-spot =
-      let page : spot w (place.Word d i) ≡ spot_of (control_class w t d (w.tds.controls t) i) t d = λ j. page_spot w (its j) d (is j) i in
-      page ∙ ap (λ (c : Class). spot_of c t d) its-class

@@ -1,20 +1,27 @@
 -- The calls that build virtual processors as decisions over the words that they are told.
-use Rattle.std.specs.Prelude.{ℕ}
+use Rattle.std.specs.Prelude.{ℕ, ◌==◌, not, nat_lt, [], ◌∷◌}
 use Rattle.td_words.specs.declared.names.PageKind.TheVariants as kind
 use Rattle.td_words.specs.declared.names.OpState.{OpState}
+use Rattle.td_words.specs.declared.names.OpState.TheVariants as op
 use Rattle.td_words.specs.declared.names.VcpuState.TheVariants as vcpu
-use Rattle.td_words.specs.declared.names.Mode.TheVariants.{Exclusive}
+use Rattle.td_words.specs.declared.names.Mode.TheVariants.{Shared, Exclusive}
 use Rattle.td_words.specs.declared.names.LimitName.TheVariants.{Vcpus}
+use Rattle.td_words.specs.declared.machines.Machine.{Machine}
 use Rattle.td_words.specs.declared.places.TheConstants.{TDR_CHILDREN, TDCS_VP_COUNT, TDCS_VPS_EXPECTED, VP_STATE}
-use Rattle.td_words.specs.declared.refusals.Status.TheVariants.{PageMetadataIncorrect, VcpuStateIncorrect, Limit}
+use Rattle.td_words.specs.declared.refusals.Status.TheVariants.{OperandInvalid, PageMetadataIncorrect, VcpuStateIncorrect, Limit}
 use Rattle.td_words.specs.declared.replies.Value.TheVariants as value
 use Rattle.td_words.specs.declared.replies.Reply.TheVariants.{Done}
 use Rattle.td_words.specs.Place as place
 use Rattle.flat_core.specs.Processor.{OfPage}
 use Rattle.flat_core.specs.Conditions.{same_vp_state}
+use Rattle.flat_core.specs.VpRows.{create_vp, initialize_vp}
 use Rattle.word_rules.specs.Rules.{Whole}
+use Rattle.leaf_engine.specs.declared.needs.Place.{Place}
 use Rattle.leaf_engine.specs.Trees.{Tree, Lock, Load, needs, acts}
-use Rattle.first_leaves.specs.Words.{says_host}
+use Rattle.leaf_engine.specs.Means.{Task, OfCall}
+use Rattle.leaf_parts.specs.declared.heads.Td.{Td}
+use Rattle.leaf_parts.specs.Words.{says_host}
+use Rattle.leaf_parts.specs.Heads.{td_head_tree}
 use Rattle.vcpu_control.specs.Words.{says_page_of, vcpu_told, has_room}
 use Rattle.vcpu_control.specs.VpChanges.{init_changes, create_changes}
 
@@ -39,9 +46,26 @@ create_page tdr tdcs page count =
 
 -- and there is room for it
 abbrev pub create_room : (tdr tdcs : ℕ) → OpState → (page count expected : ℕ) → Tree
-create_room tdr tdcs op page count expected = needs (has_room op expected count) (Limit Vcpus) (create_page tdr tdcs page count)
+create_room tdr tdcs state page count expected = needs (has_room state expected count) (Limit Vcpus) (create_page tdr tdcs page count)
 
-abbrev pub create_rest : (tdr tdcs : ℕ) → OpState → (page : ℕ) → Tree
-create_rest tdr tdcs op page =
-    Load Whole (place.Word tdcs TDCS_VP_COUNT) (λ count.
-    Load Whole (place.Word tdcs TDCS_VPS_EXPECTED) (λ expected. create_room tdr tdcs op page count expected))
+abbrev pub create_rest : (tdr : ℕ) → Td → (page : ℕ) → Tree
+create_rest tdr td page =
+    Load Whole (place.Word td.tdcs TDCS_VP_COUNT) (λ count.
+    Load Whole (place.Word td.tdcs TDCS_VPS_EXPECTED) (λ expected. create_room tdr td.tdcs td.op page count expected))
+
+-- two pages, which are not the same
+abbrev pub two_pages : Machine → (tdr page : ℕ) → Tree → Tree
+two_pages m tdr page further =
+    needs (nat_lt tdr m.pages) (OperandInvalid 1) (needs (nat_lt page m.pages) (OperandInvalid 2) (needs (not (page == tdr)) (OperandInvalid 2) further))
+
+abbrev pub create_tree : Machine → (tdr page : ℕ) → Tree
+create_tree m tdr page = two_pages m tdr page (td_head_tree m.pages tdr Exclusive (op.Initialized ∷ op.MemoryImport ∷ []) (λ td. create_rest tdr td page))
+
+abbrev pub create_task : Place → (tdr page : ℕ) → Task
+create_task p tdr page = record { place = p; tree = create_tree p.machine tdr page; meaning = OfCall (create_vp p.machine tdr page) }
+
+abbrev pub init_tree : Machine → (tdr vp x : ℕ) → Tree
+init_tree m tdr vp x = two_pages m tdr vp (td_head_tree m.pages tdr Shared (op.Initialized ∷ []) (λ td. init_rest tdr vp x))
+
+abbrev pub init_task : Place → (tdr vp x : ℕ) → Task
+init_task p tdr vp x = record { place = p; tree = init_tree p.machine tdr vp x; meaning = OfCall (initialize_vp p.machine tdr vp x) }
