@@ -1,5 +1,5 @@
 -- What the words that leaves load say.
-use Rattle.std.specs.Prelude.{ℕ, ◌%◌, Bool, ◌==◌, nat_lt, if◌then◌else◌}
+use Rattle.std.specs.Prelude.{ℕ, ◌+◌, ◌-◌, ◌%◌, Bool, ◌==◌, nat_lt, if◌then◌else◌}
 use Rattle.td_words.specs.declared.names.PageKind.{PageKind}
 use Rattle.td_words.specs.declared.names.PageKind.TheVariants as kind
 use Rattle.td_words.specs.declared.names.LifeState.{LifeState}
@@ -43,3 +43,10 @@ op_told n =
 
 abbrev pub page_told : (pages word : ℕ) → ℕ
 page_told pages word = if nat_lt word pages then word else 0
+
+-- a child count after a page was taken, and after one was given back. It is never more than the machine has pages
+abbrev pub raised : (pages count : ℕ) → ℕ
+raised pages count = if nat_lt count pages then count + 1 else 0
+
+abbrev pub lowered : ℕ → ℕ
+lowered count = count - 1

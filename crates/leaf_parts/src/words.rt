@@ -3,7 +3,7 @@
 ghost use Rattle.std.specs.Prelude.{◌≡◌, ◌==◌};
 ghost use Rattle.std.specs.List.{list_any};
 ghost use Rattle.td_words.specs.NameNumber.{op_number, life_number};
-ghost use Rattle.leaf_parts.specs.Words.{says_kind, says_host, says_free, life_told, op_told, page_told};
+ghost use Rattle.leaf_parts.specs.Words.{says_kind, says_host, says_free, life_told, op_told, page_told, raised, lowered};
 
 use td_words::{LifeState, OpState, PageKind};
 
@@ -65,6 +65,20 @@ pub fn page_told(pages: u16, word: u64) -> u16
     ensures { result ≡ page_told pages word }
 {
     if word < pages as u64 { word as u16 } else { 0 }
+}
+
+/// A child count after a page was taken, in a machine of so many pages.
+pub fn raised(pages: u16, count: u64) -> u64
+    ensures { result ≡ raised pages count }
+{
+    if count < pages as u64 { count + 1 } else { 0 }
+}
+
+/// A child count after a page was given back.
+pub fn lowered(count: u64) -> u64
+    ensures { result ≡ lowered count }
+{
+    count.saturating_sub(1)
 }
 
 /// Whether an operation state is one of these.
