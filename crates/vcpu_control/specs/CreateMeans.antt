@@ -32,6 +32,7 @@ use Rattle.act_rules.proofs.Stored.{by_test}
 use Rattle.leaf_engine.specs.Changes.{Memory, Put, Clear, changed}
 use Rattle.leaf_engine.specs.Trees.{Load, acts}
 use Rattle.leaf_engine.specs.Means.{Instant, Means, Acts, MayOweAll, work_of, OfCall, hold}
+use Rattle.leaf_parts.specs.Words.{raised}
 use Rattle.leaf_parts.proofs.Told.{kind-shown, tdr-shown, tdcs-shown, tdr-spot, tdcs-spot}
 use Rattle.leaf_parts.proofs.Begun.{IsTd}
 use Rattle.vcpu_control.specs.Words.{has_room}
@@ -90,7 +91,7 @@ vp-owed g t p i td op own =
 abbrev opening : Machine → Opening
 opening m = record { machine = m; codes = λ t i. []; calls = []; bundles = λ slot. None; secrets = λ i. 0 }
 
-module _ (m : Machine) (c : Instant) (t p : ℕ) (few : m.pages ≤ 1024) (la : Lawful m c.state.world) (sh : Shows m c.memory.words c.memory.slots c.state)
+module _ (m : Machine) (c : Instant) (t p : ℕ) (la : Lawful m c.state.world) (sh : Shows m c.memory.words c.memory.slots c.state)
     (x : IsTd m c.state.world t (op.Initialized ∷ op.MemoryImport ∷ [])) (tdr_page : nat_lt t m.pages ≡ true) (page : nat_lt p m.pages ≡ true) (differ : not (p == t) ≡ true) where
   abbrev w : World
   w = c.state.world
@@ -188,21 +189,21 @@ module _ (m : Machine) (c : Instant) (t p : ℕ) (few : m.pages ≤ 1024) (la : 
     tdr-owner : w'.pages.owners t ≡ t
     tdr-owner = rw t-p x.own
 
-    its-act : Acts m c (work_of (OfCall (create_vp m t p))) (page_locks t p Exclusive) (Done value.Nothing) [] (create_changes t d p n (children w t))
+    its-act : Acts m c (work_of (OfCall (create_vp m t p))) (page_locks t p Exclusive) (Done value.Nothing) [] (create_changes m.pages t d p n (children w t))
     its-act = record {
       reply_is = refl;
       fills_allowed = tt;
       respects = respects;
       locks_stay = ((refl, λ y. y), ((refl, λ y. record { alive = record { kind = tdr-kind; life = y.alive.life }; has_tdcs = y.has_tdcs }), ((refl, λ y. y), tt)));
       shows = created m c.state c.memory t p d x.controls.root sh la x.alive x.controls.list nda eight
-          (one-child m w p kind.Tdvpr t la few in_page host refl other) (λ u e. same-children w p kind.Tdvpr t u host refl e);
+          (one-child m w t p la in_page host other) (same-children m w t p la in_page host other);
     }
 
     new-owed : (i : ℕ) → Owes g w' (place.Word p i) KeepsNothing
     new-owed i = at-spot g w' (place.Word p i) (spot_of (or_unused (in_lines vp_classes i)) t p) (λ z. owes z KeepsNothing) (vp-spot w' t p i new-kind new-owner) (vp-owed g t p i td op_held own)
 
     owed : (mem : Memory) → MayOweAll m g w' mem
-        (Clear p ∷ Put (place.Pamt p) (pamt_word (record { kind = kind.Tdvpr; owner = t; epoch = 0 })) ∷ Put (place.Word p 0) n ∷ Put (place.Word d 15) (n + 1) ∷ Put (place.Word t 2) ((children w t + 1) % 2 ^ 64) ∷ [])
+        (Clear p ∷ Put (place.Pamt p) (pamt_word (record { kind = kind.Tdvpr; owner = t; epoch = 0 })) ∷ Put (place.Word p 0) n ∷ Put (place.Word d 15) (n + 1) ∷ Put (place.Word t 2) (raised m.pages (children w t)) ∷ [])
     owed mem = (
       (in_page, λ i b. new-owed i),
       (
@@ -220,7 +221,7 @@ module _ (m : Machine) (c : Instant) (t p : ℕ) (few : m.pages ≤ 1024) (la : 
     listed-spot : spot w (place.Word d (40 + n)) ≡ spot_of TdcsWord t d
     listed-spot = tdcs-spot w t (40 + n) d (x.controls.root ∷ []) x.controls.list x.controls.tdcs_page ∙ ap (λ (x : Class). spot_of x t d) (listed-class (is_current w t) (is_empty w t) n eight)
 
-    its-end : Means m c (work_of (OfCall (create_vp m t p))) (page_locks t p Exclusive) (acts (Done value.Nothing) (create_changes t d p n (children w t))) []
+    its-end : Means m c (work_of (OfCall (create_vp m t p))) (page_locks t p Exclusive) (acts (Done value.Nothing) (create_changes m.pages t d p n (children w t))) []
     its-end = (
       its-act,
       (
@@ -230,15 +231,15 @@ module _ (m : Machine) (c : Instant) (t p : ℕ) (few : m.pages ≤ 1024) (la : 
     )
 
     -- the child count
-    counted : Means m c (work_of (OfCall (create_vp m t p))) (page_locks t p Exclusive) (Load Whole (place.Word t 2) (λ kids. acts (Done value.Nothing) (create_changes t d p n kids))) []
+    counted : Means m c (work_of (OfCall (create_vp m t p))) (page_locks t p Exclusive) (Load Whole (place.Word t 2) (λ kids. acts (Done value.Nothing) (create_changes m.pages t d p n kids))) []
     counted = (
       (tdr_in, omega arith),
       inl (at-spot g w (place.Word t 2) (spot_of ChildCount t t) (λ z. reads z Whole) (tdr-spot w t 2 x.alive.kind x.own) (inr (inl (td, (op_alone, tt))))),
-      subst (λ (kids : ℕ). Means m c (work_of (OfCall (create_vp m t p))) (page_locks t p Exclusive) (acts (Done value.Nothing) (create_changes t d p n kids)) []) (sym children_word) its-end,
+      subst (λ (kids : ℕ). Means m c (work_of (OfCall (create_vp m t p))) (page_locks t p Exclusive) (acts (Done value.Nothing) (create_changes m.pages t d p n kids)) []) (sym children_word) its-end,
     )
 
   -- the page
-  paged : nat_lt n (vp_limit (w.tds.ops t) (w.tds.vps_expected t)) ≡ true → Means m c (work_of (OfCall (create_vp m t p))) (td_locks t Exclusive) (create_page t d p n) (page_exclusive p ∷ host_page w p ∷ [])
+  paged : nat_lt n (vp_limit (w.tds.ops t) (w.tds.vps_expected t)) ≡ true → Means m c (work_of (OfCall (create_vp m t p))) (td_locks t Exclusive) (create_page m.pages t d p n) (page_exclusive p ∷ host_page w p ∷ [])
   paged room = (
     refl,
     refl,
@@ -246,21 +247,21 @@ module _ (m : Machine) (c : Instant) (t p : ℕ) (few : m.pages ≤ 1024) (la : 
     (in_page, inl (inl (own_held, tt)), (kind-shown m c.memory.words c.memory.slots c.state sh kind.Nda p in_page, λ e. refl, λ host. counted room host)),
   )
 
-  roomy : Means m c (work_of (OfCall (create_vp m t p))) (td_locks t Exclusive) (create_room t d (w.tds.ops t) p n (w.tds.vps_expected t)) (vp_room w t ∷ page_exclusive p ∷ host_page w p ∷ [])
+  roomy : Means m c (work_of (OfCall (create_vp m t p))) (td_locks t Exclusive) (create_room m.pages t d (w.tds.ops t) p n (w.tds.vps_expected t)) (vp_room w t ∷ page_exclusive p ∷ host_page w p ∷ [])
   roomy = (room_told n (vp_limit (w.tds.ops t) (w.tds.vps_expected t)) limit, λ e. refl, paged)
 
   tdcs-read : (i : ℕ) → spot w (place.Word d i) ≡ spot_of TdcsWord t d → Reads (hold c (td_locks t Exclusive)) w (place.Word d i) Whole
   tdcs-read i e = at-spot (hold c (td_locks t Exclusive)) w (place.Word d i) (spot_of TdcsWord t d) (λ z. reads z Whole) e (inr (inl (td-held t p Exclusive c.kept other, (op-held t p Exclusive c.kept other, tt))))
 
   -- the expected number, and the number there is
-  pub create_rest-means : Means m c (work_of (OfCall (create_vp m t p))) (td_locks t Exclusive) (create_rest t (record { tdcs = d; op = w.tds.ops t }) p) (vp_room w t ∷ page_exclusive p ∷ host_page w p ∷ [])
+  pub create_rest-means : Means m c (work_of (OfCall (create_vp m t p))) (td_locks t Exclusive) (create_rest m.pages t (record { tdcs = d; op = w.tds.ops t }) p) (vp_room w t ∷ page_exclusive p ∷ host_page w p ∷ [])
   create_rest-means = (
     (tdcs_in, omega arith),
     inl (tdcs-read 15 (tdcs-spot w t 15 d (x.controls.root ∷ []) x.controls.list x.controls.tdcs_page)),
     (
       (tdcs_in, omega arith),
       inl (tdcs-read 14 (tdcs-spot w t 14 d (x.controls.root ∷ []) x.controls.list x.controls.tdcs_page)),
-      subst (λ (count : ℕ). Means m c (work_of (OfCall (create_vp m t p))) (td_locks t Exclusive) (create_room t d (w.tds.ops t) p count (c.memory.words (place.Word d 14))) (vp_room w t ∷ page_exclusive p ∷ host_page w p ∷ [])) (sym count_word)
-      (subst (λ (expected : ℕ). Means m c (work_of (OfCall (create_vp m t p))) (td_locks t Exclusive) (create_room t d (w.tds.ops t) p n expected) (vp_room w t ∷ page_exclusive p ∷ host_page w p ∷ [])) (sym expected_word) roomy),
+      subst (λ (count : ℕ). Means m c (work_of (OfCall (create_vp m t p))) (td_locks t Exclusive) (create_room m.pages t d (w.tds.ops t) p count (c.memory.words (place.Word d 14))) (vp_room w t ∷ page_exclusive p ∷ host_page w p ∷ [])) (sym count_word)
+      (subst (λ (expected : ℕ). Means m c (work_of (OfCall (create_vp m t p))) (td_locks t Exclusive) (create_room m.pages t d (w.tds.ops t) p n expected) (vp_room w t ∷ page_exclusive p ∷ host_page w p ∷ [])) (sym expected_word) roomy),
     ),
   )

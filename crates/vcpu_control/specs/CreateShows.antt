@@ -20,6 +20,7 @@ use Rattle.flat_core.specs.Event.{State}
 use Rattle.word_rules.specs.Cells.{Shows, IsAs, cell, page_cell, root_cell, control_cell, entry_cell, tdr_lines, td_lock_lines, tdcs_lines, vp_lines, if_stands, lock_word, one_of_parity, entered_of_parity}
 use Rattle.word_rules.specs.Lines.{in_lines}
 use Rattle.act_rules.proofs.Stored.{by_test}
+use Rattle.leaf_parts.specs.Words.{raised}
 use Rattle.leaf_engine.specs.Changes.{Memory, changed_all}
 use Rattle.vcpu_control.specs.VpChanges.{create_changes}
 use Rattle.vcpu_control.specs.Shown.{shown-again, if_standing}
@@ -46,7 +47,7 @@ apart kinds p q j k a b differ = by_test (p == q)
     (λ n. n)
 
 module _ (m : Machine) (s : State) (mem : Memory) (t p d r : ℕ) (sh : Shows m mem.words mem.slots s) (la : Lawful m s.world) (alive : IsAlive s.world.pages s.world.tds t) (two : s.world.tds.controls t ≡ d ∷ r ∷ []) (nda : s.world.pages.kinds p ≡ kind.Nda) (few : length (s.world.tds.vps t) < 8)
-    (one-child : children ((create_vp m t p).act s.world) t ≡ (children s.world t + 1) % 2 ^ 64) (same-children : (u : ℕ) → (u == t) ≡ false → children ((create_vp m t p).act s.world) u ≡ children s.world u) where
+    (one-child : children ((create_vp m t p).act s.world) t ≡ raised m.pages (children s.world t)) (same-children : (u : ℕ) → (u == t) ≡ false → children ((create_vp m t p).act s.world) u ≡ children s.world u) where
   abbrev w : World
   w = s.world
 
@@ -57,7 +58,7 @@ module _ (m : Machine) (s : State) (mem : Memory) (t p d r : ℕ) (sh : Shows m 
   n = length (w.tds.vps t)
 
   abbrev after : Memory
-  after = changed_all (create_changes t d p n (children w t)) mem
+  after = changed_all (create_changes m.pages t d p n (children w t)) mem
 
   itself : (q : ℕ) → (q == q) ≡ true
   itself q = eq-eqb q q refl

@@ -70,7 +70,7 @@ not_host : (k : PageKind) → k ≡ kind.Tdr → same_kind k kind.Nda ≡ false
 not_host k e = rw e refl
 
 -- a page's owner is one of the machine's pages
-pub owner_small : (m : Machine) (w : World) (p : ℕ) → m.pages ≤ 1024 → Lawful m w → w.pages.owners p < 65536
+pub owner_small : (m : Machine) (w : World) (p : ℕ) → m.pages < 65536 → Lawful m w → w.pages.owners p < 65536
 owner_small m w p few la = by_test (is_host_in w.pages p)
     (λ h. (let o : w.pages.owners p ≡ 0 = (la.pages.host p h).0 in omega arith))
     (λ h. (let o : w.pages.owners p < m.pages = la.pages.in_machine (w.pages.owners p) (not_host (w.pages.kinds (w.pages.owners p)) (la.pages.owner p h)) in omega arith))
@@ -80,7 +80,7 @@ init_respects m g w t v x =
     let w' : World = (initialize_vp m t v x).act w in
     leaves g w w' (all-same w w' refl (λ u. record { op = refl; controls = refl; epoch = refl; empty = λ b. refl; named = λ n. refl })) (λ h. refl) refl
 
-module _ (m : Machine) (c : Instant) (t v x : ℕ) (few : m.pages ≤ 1024) (la : Lawful m c.state.world) (sh : Shows m c.memory.words c.memory.slots c.state) (alive : IsAlive c.state.world.pages c.state.world.tds t) (in_page : v < m.pages) (other : (v == t) ≡ false) where
+module _ (m : Machine) (c : Instant) (t v x : ℕ) (few : m.pages < 65536) (la : Lawful m c.state.world) (sh : Shows m c.memory.words c.memory.slots c.state) (alive : IsAlive c.state.world.pages c.state.world.tds t) (in_page : v < m.pages) (other : (v == t) ≡ false) where
   abbrev w : World
   w = c.state.world
 

@@ -16,7 +16,7 @@ use Rattle.vcpu_control.specs.VpTrees.{init_rest, init_task, create_rest, create
 use Rattle.vcpu_control.specs.InitMeans.{init_rest-means}
 use Rattle.vcpu_control.specs.CreateMeans.{create_rest-means}
 
-pub init-means : (p : Place) (t v x : ℕ) → p.machine.pages ≤ 1024 → MeansRow (init_task p t v x)
+pub init-means : (p : Place) (t v x : ℕ) → p.machine.pages < 65536 → MeansRow (init_task p t v x)
 init-means p t v x few = record {
   enters_none = refl;
   means = λ c at. (
@@ -36,8 +36,8 @@ init-means p t v x few = record {
   );
 }
 
-pub create-means : (p : Place) (t q : ℕ) → p.machine.pages ≤ 1024 → MeansRow (create_task p t q)
-create-means p t q few = record {
+pub create-means : (p : Place) (t q : ℕ) → MeansRow (create_task p t q)
+create-means p t q = record {
   enters_none = refl;
   means = λ c at. (
     refl,
@@ -49,8 +49,8 @@ create-means p t q few = record {
         refl,
         λ e. refl,
         λ differ. td-head-means p.machine c (work_of (OfCall (create_vp p.machine t q))) t (ltb-true t p.machine.pages a) at.lawful at.shown Exclusive (op.Initialized ∷ op.MemoryImport ∷ [])
-            (λ td. create_rest t td q) (vp_room c.state.world t ∷ page_exclusive q ∷ host_page c.state.world q ∷ [])
-            (λ y. create_rest-means p.machine c t q few at.lawful at.shown y a b differ),
+            (λ td. create_rest p.machine.pages t td q) (vp_room c.state.world t ∷ page_exclusive q ∷ host_page c.state.world q ∷ [])
+            (λ y. create_rest-means p.machine c t q at.lawful at.shown y a b differ),
       ),
     ),
   );

@@ -36,22 +36,22 @@ init_rest tdr vp x =
     (acts (Done value.Nothing) (init_changes vp x))))))
 
 -- VP.CREATE: the page is a host page, and becomes the virtual processor of that index
-abbrev pub create_page : (tdr tdcs page count : ℕ) → Tree
-create_page tdr tdcs page count =
+abbrev pub create_page : (pages tdr tdcs page count : ℕ) → Tree
+create_page pages tdr tdcs page count =
     Lock (OfPage page) (place.Lock page) Exclusive
     (Load Whole (place.Pamt page) (λ pamt.
     needs (says_host pamt) (PageMetadataIncorrect page)
     (Load Whole (place.Word tdr TDR_CHILDREN) (λ children.
-    acts (Done value.Nothing) (create_changes tdr tdcs page count children)))))
+    acts (Done value.Nothing) (create_changes pages tdr tdcs page count children)))))
 
 -- and there is room for it
-abbrev pub create_room : (tdr tdcs : ℕ) → OpState → (page count expected : ℕ) → Tree
-create_room tdr tdcs state page count expected = needs (has_room state expected count) (Limit Vcpus) (create_page tdr tdcs page count)
+abbrev pub create_room : (pages tdr tdcs : ℕ) → OpState → (page count expected : ℕ) → Tree
+create_room pages tdr tdcs state page count expected = needs (has_room state expected count) (Limit Vcpus) (create_page pages tdr tdcs page count)
 
-abbrev pub create_rest : (tdr : ℕ) → Td → (page : ℕ) → Tree
-create_rest tdr td page =
+abbrev pub create_rest : (pages tdr : ℕ) → Td → (page : ℕ) → Tree
+create_rest pages tdr td page =
     Load Whole (place.Word td.tdcs TDCS_VP_COUNT) (λ count.
-    Load Whole (place.Word td.tdcs TDCS_VPS_EXPECTED) (λ expected. create_room tdr td.tdcs td.op page count expected))
+    Load Whole (place.Word td.tdcs TDCS_VPS_EXPECTED) (λ expected. create_room pages tdr td.tdcs td.op page count expected))
 
 -- two pages, which are not the same
 abbrev pub two_pages : Machine → (tdr page : ℕ) → Tree → Tree
@@ -59,7 +59,7 @@ two_pages m tdr page further =
     needs (nat_lt tdr m.pages) (OperandInvalid 1) (needs (nat_lt page m.pages) (OperandInvalid 2) (needs (not (page == tdr)) (OperandInvalid 2) further))
 
 abbrev pub create_tree : Machine → (tdr page : ℕ) → Tree
-create_tree m tdr page = two_pages m tdr page (td_head_tree m.pages tdr Exclusive (op.Initialized ∷ op.MemoryImport ∷ []) (λ td. create_rest tdr td page))
+create_tree m tdr page = two_pages m tdr page (td_head_tree m.pages tdr Exclusive (op.Initialized ∷ op.MemoryImport ∷ []) (λ td. create_rest m.pages tdr td page))
 
 abbrev pub create_task : Place → (tdr page : ℕ) → Task
 create_task p tdr page = record { place = p; tree = create_tree p.machine tdr page; meaning = OfCall (create_vp p.machine tdr page) }

@@ -1,6 +1,6 @@
 //! VP.CREATE.
 
-ghost use Rattle.std.specs.Prelude.{◌≡◌, ◌≤◌, ◌<◌, length};
+ghost use Rattle.std.specs.Prelude.{◌≡◌, ◌<◌, length};
 ghost use Rattle.leaf_engine.specs.Decides.{Decides};
 ghost use Rattle.leaf_engine.specs.Inside.{DecisionIn, DecidesEarly};
 ghost use Rattle.vcpu_control.specs.VpTrees.{create_rest, create_page};
@@ -8,7 +8,7 @@ ghost use Rattle.vcpu_control.specs.VpTrees.{create_rest, create_page};
 use crate::words::has_room;
 use arrayvec::ArrayVec;
 use leaf_engine::{Leaf, Place, Plan, Planned, Stop, Told, Verdict, Write};
-use leaf_parts::{Td, says_host, td_head};
+use leaf_parts::{Td, raised, says_host, td_head};
 use pamt_core::PamtWord;
 use step_core::WordStep;
 use td_words::places::{TDCS_VP_COUNT, TDCS_VPS, TDCS_VPS_EXPECTED, TDR_CHILDREN, VP_INDEX};
@@ -23,16 +23,14 @@ pub struct Create {
     place: Place,
     tdr: u64,
     page: u64,
-    ghost few_pages: { place.machine.pages ≤ 1024 },
 }
 
 impl Create {
-    ghost use Rattle.std.specs.Prelude.{◌≡◌, ◌≤◌};
+    ghost use Rattle.std.specs.Prelude.{◌≡◌};
     ghost use Rattle.vcpu_control.specs.VpTrees.{create_task};
 
     /// The leaf of a call at a place.
     pub fn leaf(place: Place, tdr: u64, page: u64) -> Planned<Create>
-        requires { place.machine.pages ≤ 1024 }
         ensures { ⟦<Planned<Create> as Leaf>⟧.task result ≡ create_task place tdr page }
     {
         Planned::new(Create { place, tdr, page })
@@ -59,16 +57,16 @@ impl Plan for Create {
             Mode::Exclusive,
             &[OpState::Initialized, OpState::MemoryImport],
         )?;
-        create(told, self.place, tdr, td, self.page as u16)
+        add_vp(told, self.place, tdr, td, self.page as u16)
     }
 
-    ghost means = { λ l. create-means l.place l.tdr l.page l.few_pages };
+    ghost means = { λ l. create-means l.place l.tdr l.page };
 }
 
 /// What comes behind the beginning of the row: there is room for another virtual processor.
-fn create(told: Told, place: Place, tdr: u16, td: Td, page: u16) -> Result<Verdict, Stop>
+fn add_vp(told: Told, place: Place, tdr: u16, td: Td, page: u16) -> Result<Verdict, Stop>
     requires { (tdr < place.machine.pages) × (td.tdcs < place.machine.pages) × (page < place.machine.pages) }
-    ensures decides { Decides place.machine.pages (create_rest tdr td page) told.entry.left.now result }
+    ensures decides { Decides place.machine.pages (create_rest place.machine.pages tdr td page) told.entry.left.now result }
     ensures inside { DecisionIn place.machine result }
     ensures early { DecidesEarly 5 (length told.entry.left.now) result }
 {
@@ -92,7 +90,7 @@ fn take_page(
     count: u64,
 ) -> Result<Verdict, Stop>
     requires { (tdr < place.machine.pages) × (tdcs < place.machine.pages) × (page < place.machine.pages) × (count < 8) }
-    ensures decides { Decides place.machine.pages (create_page tdr tdcs page count) told.entry.left.now result }
+    ensures decides { Decides place.machine.pages (create_page place.machine.pages tdr tdcs page count) told.entry.left.now result }
     ensures inside { DecisionIn place.machine result }
     ensures early { DecidesEarly 3 (length told.entry.left.now) result }
 {
@@ -115,7 +113,7 @@ fn take_page(
     writes.push(Write::Word(WordStep::Store(word_address(tdcs, TDCS_VP_COUNT), count + 1)));
     writes.push(Write::Word(WordStep::Store(
         word_address(tdr, TDR_CHILDREN),
-        children.wrapping_add(1),
+        raised(place.machine.pages, children),
     )));
     Ok(Verdict {
         reply: Reply::Done(Value::Nothing),

@@ -1,6 +1,6 @@
 //! VP.INIT.
 
-ghost use Rattle.std.specs.Prelude.{◌≡◌, ◌≤◌, ◌<◌, length};
+ghost use Rattle.std.specs.Prelude.{◌≡◌, ◌<◌, length};
 ghost use Rattle.leaf_engine.specs.Decides.{Decides};
 ghost use Rattle.leaf_engine.specs.Inside.{DecisionIn, DecidesEarly};
 ghost use Rattle.vcpu_control.specs.VpTrees.{init_rest};
@@ -23,16 +23,15 @@ pub struct Init {
     tdr: u64,
     vp: u64,
     value: u64,
-    ghost few_pages: { place.machine.pages ≤ 1024 },
+    ghost few_pages: { place.machine.pages < 65536 },
 }
 
 impl Init {
-    ghost use Rattle.std.specs.Prelude.{◌≡◌, ◌≤◌};
+    ghost use Rattle.std.specs.Prelude.{◌≡◌};
     ghost use Rattle.vcpu_control.specs.VpTrees.{init_task};
 
     /// The leaf of a call at a place.
     pub fn leaf(place: Place, tdr: u64, vp: u64, value: u64) -> Planned<Init>
-        requires { place.machine.pages ≤ 1024 }
         ensures { ⟦<Planned<Init> as Leaf>⟧.task result ≡ init_task place tdr vp value }
     {
         Planned::new(Init {
