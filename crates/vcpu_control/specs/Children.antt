@@ -1,5 +1,5 @@
 -- Child counts, where VP.CREATE takes its page.
-use Rattle.std.proofs.Common.{◌≡◌, ℕ, ◌+◌, ◌<◌, true, false, ◌==◌, refl, ap, sym, ◌∙◌, subst}
+use Rattle.std.proofs.Common.{◌≡◌, ℕ, ◌+◌, ◌<◌, true, false, ◌==◌, refl, sym, subst}
 use Rattle.std.proofs.lemmas.Bool.{eq-eqb, eqb-true}
 use Rattle.td_words.specs.declared.names.PageKind.TheVariants as kind
 use Rattle.td_words.specs.declared.machines.Machine.{Machine}

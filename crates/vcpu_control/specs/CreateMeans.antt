@@ -1,5 +1,5 @@
 -- Behind the beginning of its row the leaf that creates a virtual processor means the row.
-use Rattle.std.proofs.Common.{◌≡◌, ℕ, zero, suc, ◌+◌, ◌%◌, ◌^◌, ◌<◌, ◌≤◌, Bool, true, false, ◌==◌, ◌&&◌, List, [], ◌∷◌, ◌++◌, length, Option, Some, None, refl, ap, sym, ◌∙◌, subst, inl, inr, arith}
+use Rattle.std.proofs.Common.{◌≡◌, ℕ, zero, suc, ◌+◌, ◌<◌, ◌≤◌, Bool, true, false, ◌==◌, ◌&&◌, List, [], ◌∷◌, length, None, refl, ap, sym, ◌∙◌, subst, inl, inr, arith}
 use Rattle.std.specs.Prelude.{nat_lt, nat_le, not}
 use Rattle.std.proofs.lemmas.Bool.{eq-eqb, ltb-true, lt-ltb}
 use Rattle.td_words.specs.declared.names.PageKind.TheVariants as kind
@@ -14,18 +14,17 @@ use Rattle.td_words.specs.Packing.{pamt_word}
 use Rattle.td_words.specs.Place.{WordPlace}
 use Rattle.td_words.specs.Place as place
 use Rattle.flat_core.specs.World.{World}
-use Rattle.flat_core.specs.Processor.{LockId, OfPage, OfOp}
+use Rattle.flat_core.specs.Processor.{OfPage, OfOp}
 use Rattle.flat_core.specs.Opening.{Opening}
-use Rattle.flat_core.specs.Row.{Passes}
-use Rattle.flat_core.specs.Conditions.{same_kind, is_host, children, vp_limit, vp_room, host_page, page_exclusive, td_exclusive}
+use Rattle.flat_core.specs.Conditions.{is_host, children, vp_limit, vp_room, host_page, page_exclusive}
 use Rattle.flat_core.specs.Lawful.{Lawful, IsPageOf}
 use Rattle.flat_core.specs.VpRows.{create_vp}
 use Rattle.word_rules.specs.Guards.{Grip, Locked, Meets}
 use Rattle.word_rules.specs.Rules.{Class, VcpuWord, Association, Unused, TdcsWord, ChildCount, Whole, KeepsNothing, reads, writes, owes}
-use Rattle.word_rules.specs.Lines.{Line, At, Run, in_lines}
-use Rattle.word_rules.specs.Spots.{Spot, spot, guard_at, or_unused, run, tdcs_classes, vp_classes, is_current, is_empty}
+use Rattle.word_rules.specs.Lines.{Line, At, in_lines}
+use Rattle.word_rules.specs.Spots.{spot, guard_at, or_unused, run, tdcs_classes, vp_classes, is_current, is_empty}
 use Rattle.word_rules.specs.Permissions.{Respects, Reads, Owes}
-use Rattle.word_rules.specs.Cells.{Shows, IsAs, cell, page_cell, td_lock_lines, tdcs_lines, lock_word}
+use Rattle.word_rules.specs.Cells.{Shows, IsAs, td_lock_lines, tdcs_lines, lock_word}
 use Rattle.act_rules.proofs.Rows.{rows-respect}
 use Rattle.act_rules.proofs.Respected.{host-kind, not-true}
 use Rattle.act_rules.proofs.Stored.{by_test}
@@ -35,10 +34,9 @@ use Rattle.leaf_engine.specs.Means.{Instant, Means, Acts, MayOweAll, work_of, Of
 use Rattle.leaf_parts.specs.Words.{raised}
 use Rattle.leaf_parts.proofs.Told.{kind-shown, tdr-shown, tdcs-shown, tdr-spot, tdcs-spot}
 use Rattle.leaf_parts.proofs.Begun.{IsTd}
-use Rattle.vcpu_control.specs.Words.{has_room}
 use Rattle.vcpu_control.specs.VpChanges.{create_changes}
 use Rattle.vcpu_control.specs.VpTrees.{create_page, create_room, create_rest}
-use Rattle.vcpu_control.specs.VpLocks.{td_locks, page_locks, td-held, op-held, op-alone, held-td, held-op, held-page, alone-page, alone-op}
+use Rattle.vcpu_control.specs.VpLocks.{td_locks, page_locks, td-held, op-held, held-td, held-op, held-page, alone-page, alone-op}
 use Rattle.vcpu_control.specs.VpSpots.{spot_of, at-spot, vp-spot}
 use Rattle.vcpu_control.specs.Children.{one-child, same-children}
 use Rattle.vcpu_control.specs.CreateShows.{created, apart}
@@ -262,6 +260,6 @@ module _ (m : Machine) (c : Instant) (t p : ℕ) (la : Lawful m c.state.world) (
       (tdcs_in, omega arith),
       inl (tdcs-read 14 (tdcs-spot w t 14 d (x.controls.root ∷ []) x.controls.list x.controls.tdcs_page)),
       subst (λ (count : ℕ). Means m c (work_of (OfCall (create_vp m t p))) (td_locks t Exclusive) (create_room m.pages t d (w.tds.ops t) p count (c.memory.words (place.Word d 14))) (vp_room w t ∷ page_exclusive p ∷ host_page w p ∷ [])) (sym count_word)
-      (subst (λ (expected : ℕ). Means m c (work_of (OfCall (create_vp m t p))) (td_locks t Exclusive) (create_room m.pages t d (w.tds.ops t) p n expected) (vp_room w t ∷ page_exclusive p ∷ host_page w p ∷ [])) (sym expected_word) roomy),
+          (subst (λ (expected : ℕ). Means m c (work_of (OfCall (create_vp m t p))) (td_locks t Exclusive) (create_room m.pages t d (w.tds.ops t) p n expected) (vp_room w t ∷ page_exclusive p ∷ host_page w p ∷ [])) (sym expected_word) roomy),
     ),
   )

@@ -1,7 +1,6 @@
 -- Behind the beginning of its row the leaf that initializes a virtual processor means the row.
-use Rattle.std.proofs.Common.{◌≡◌, ℕ, ◌+◌, ◌*◌, ◌/◌, ◌%◌, ◌^◌, ◌<◌, ◌≤◌, Bool, true, false, ◌==◌, ◌&&◌, List, [], ◌∷◌, ◌++◌, Option, Some, None, refl, ap, sym, ◌∙◌, subst, inl, inr, arith}
-use Rattle.std.proofs.lemmas.Bool.{eq-eqb, eqb-true}
-use Rattle.std.proofs.lemmas.Bool.Decides.{nat_tests}
+use Rattle.std.proofs.Common.{◌≡◌, ℕ, ◌+◌, ◌*◌, ◌/◌, ◌%◌, ◌^◌, ◌<◌, false, ◌==◌, ◌&&◌, [], ◌∷◌, refl, inl, inr, arith}
+use Rattle.std.proofs.lemmas.Bool.{eqb-true}
 use Rattle.td_words.specs.declared.names.PageKind.{PageKind}
 use Rattle.td_words.specs.declared.names.PageKind.TheVariants as kind
 use Rattle.td_words.specs.declared.names.VcpuState.{VcpuState}
@@ -26,6 +25,7 @@ use Rattle.act_rules.proofs.Respected.{leaves, all-same, and-left, and-right}
 use Rattle.act_rules.proofs.Stored.{by_test}
 use Rattle.leaf_engine.specs.Trees.{acts}
 use Rattle.leaf_engine.specs.Means.{Instant, Means, work_of, OfCall, hold}
+use Rattle.leaf_parts.proofs.Told.{kind-is}
 use Rattle.vcpu_control.specs.Words.{says_page_of, vcpu_told}
 use Rattle.vcpu_control.specs.VpChanges.{init_changes}
 use Rattle.vcpu_control.specs.VpTrees.{init_rest}
@@ -50,21 +50,12 @@ kind_bits k o e small = omega arith
 owner_bits : (k o e : ℕ) → k < 16 → o < 65536 → (k + (16 * o + 2 ^ 32 * e)) / 16 % 65536 ≡ o
 owner_bits k o e small few = omega arith
 
-page_told : (k : PageKind) (o e t : ℕ) → o < 65536 → says_page_of t kind.Tdvpr (pamt_word (record { kind = k; owner = o; epoch = e })) ≡ (same_kind k kind.Tdvpr && o == t)
-page_told k o e t few = rw (kind_bits (kind_number k) o e (kind_small k), owner_bits (kind_number k) o e (kind_small k) few) refl
+page_said : (k : PageKind) (o e t : ℕ) → o < 65536 → says_page_of t kind.Tdvpr (pamt_word (record { kind = k; owner = o; epoch = e })) ≡ (same_kind k kind.Tdvpr && o == t)
+page_said k o e t few = rw (kind_bits (kind_number k) o e (kind_small k), owner_bits (kind_number k) o e (kind_small k) few) refl
 
 vcpu_again : (s : VcpuState) → vcpu_told (vcpu_number s) ≡ s
 vcpu_again vcpu.Created = refl
 vcpu_again vcpu.Ready = refl
-
-tdvpr : (k : PageKind) → same_kind k kind.Tdvpr ≡ true → k ≡ kind.Tdvpr
-tdvpr kind.Tdvpr h = refl
-tdvpr kind.Nda h = cc
-tdvpr kind.Reg h = cc
-tdvpr kind.Tdr h = cc
-tdvpr kind.Tdcx h = cc
-tdvpr kind.Ept h = cc
-tdvpr kind.Migsc h = cc
 
 not_host : (k : PageKind) → k ≡ kind.Tdr → same_kind k kind.Nda ≡ false
 not_host k e = rw e refl
@@ -87,7 +78,7 @@ module _ (m : Machine) (c : Instant) (t v x : ℕ) (few : m.pages < 65536) (la :
   pamt_shown : says_page_of t kind.Tdvpr (c.memory.words (place.Pamt v)) ≡ is_page_of w t v kind.Tdvpr
   pamt_shown =
       let at : c.memory.words (place.Pamt v) ≡ pamt_word (record { kind = w.pages.kinds v; owner = w.pages.owners v; epoch = w.pages.blocked v }) = sh.word (place.Pamt v) in_page in
-      rw at (page_told (w.pages.kinds v) (w.pages.owners v) (w.pages.blocked v) t (owner_small m w v few la))
+      rw at (page_said (w.pages.kinds v) (w.pages.owners v) (w.pages.blocked v) t (owner_small m w v few la))
 
   module _ (is : w.pages.kinds v ≡ kind.Tdvpr) (its : w.pages.owners v ≡ t) where
     state_word : c.memory.words (place.Word v 1) ≡ vcpu_number (w.vps.states v)
@@ -137,7 +128,7 @@ module _ (m : Machine) (c : Instant) (t v x : ℕ) (few : m.pages < 65536) (la :
       (
         pamt_shown,
         λ e. refl,
-        λ e. (let is : w.pages.kinds v ≡ kind.Tdvpr = tdvpr (w.pages.kinds v) (and-left (same_kind (w.pages.kinds v) kind.Tdvpr) (w.pages.owners v == t) e) in
+        λ e. (let is : w.pages.kinds v ≡ kind.Tdvpr = kind-is (w.pages.kinds v) kind.Tdvpr (and-left (same_kind (w.pages.kinds v) kind.Tdvpr) (w.pages.owners v == t) e) in
             let its : w.pages.owners v ≡ t = eqb-true (w.pages.owners v) t (and-right (same_kind (w.pages.kinds v) kind.Tdvpr) (w.pages.owners v == t) e) in (
               (in_page, omega arith),
               inl (at-spot (hold c (page_locks t v Shared)) w (place.Word v 1) (spot_of VcpuWord t v) (λ z. reads z Whole) (vp-spot w t v 1 is its) (may_load is its)),

@@ -1,5 +1,5 @@
 -- What is shown again.
-use Rattle.std.proofs.Common.{◌≡◌, ℕ, Bool, true, ◌==◌, Option, sym, subst}
+use Rattle.std.proofs.Common.{◌≡◌, ℕ, ◌==◌, Option, sym, subst}
 use Rattle.td_words.specs.declared.names.LifeState.{LifeState}
 use Rattle.td_words.specs.declared.names.LifeState.TheVariants as life
 use Rattle.td_words.specs.NameNumber.{life_number}

@@ -1,15 +1,14 @@
 -- What the words are that the calls of virtual processors load and store.
-use Rattle.std.proofs.Common.{◌≡◌, ℕ, zero, suc, ◌+◌, ◌<◌, ◌==◌, List, [], ◌∷◌, refl, ap, sym, ◌∙◌, subst, arith}
-use Rattle.std.proofs.lemmas.Bool.{eq-eqb}
+use Rattle.std.proofs.Common.{◌≡◌, ℕ, sym, subst}
 use Rattle.td_words.specs.declared.names.PageKind.TheVariants as kind
 use Rattle.td_words.specs.Place.{WordPlace}
 use Rattle.td_words.specs.Place as place
 use Rattle.flat_core.specs.World.{World}
 use Rattle.word_rules.specs.Guards.{Grip, Rule}
-use Rattle.word_rules.specs.Rules.{Class, VcpuWord, TdcsWord, ChildCount}
+use Rattle.word_rules.specs.Rules.{Class}
 use Rattle.word_rules.specs.Views.{no_page}
 use Rattle.word_rules.specs.Lines.{in_lines}
-use Rattle.word_rules.specs.Spots.{Spot, spot, page_spot, control_class, or_unused, tdcs_classes, vp_classes, tdr_classes, is_current, is_empty}
+use Rattle.word_rules.specs.Spots.{Spot, spot, page_spot, or_unused, vp_classes}
 use Rattle.word_rules.specs.Permissions.{MayAt}
 
 -- a word of that class, of a page of that TD

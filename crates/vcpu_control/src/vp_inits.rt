@@ -70,13 +70,7 @@ impl Plan for Init {
 }
 
 /// What comes behind the beginning of the row.
-fn initialize(
-    told: Told,
-    place: Place,
-    tdr: u16,
-    vp: u16,
-    value: u64,
-) -> Result<Verdict, Stop>
+fn initialize(told: Told, place: Place, tdr: u16, vp: u16, value: u64) -> Result<Verdict, Stop>
     requires { vp < place.machine.pages }
     ensures decides { Decides place.machine.pages (init_rest tdr vp value) told.entry.left.now result }
     ensures inside { DecisionIn place.machine result }
@@ -97,10 +91,7 @@ fn initialize(
     let mut writes = ArrayVec::new();
     let ready = VcpuState::Ready as u64;
     writes.push(Write::Word(WordStep::Store(word_address(vp, VP_STATE), ready)));
-    writes.push(Write::Word(WordStep::Store(
-        word_address(vp, VP_REGISTERS),
-        value,
-    )));
+    writes.push(Write::Word(WordStep::Store(word_address(vp, VP_REGISTERS), value)));
     Ok(Verdict {
         reply: Reply::Done(Value::Nothing),
         writes,
