@@ -1,0 +1,2 @@
+pub mod CreationTrees
+pub mod CreationMeanings
