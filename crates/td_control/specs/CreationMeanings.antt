@@ -33,6 +33,7 @@ use Rattle.leaf_engine.specs.Changes.{Memory, Put, Clear, changed, changed_all}
 use Rattle.leaf_engine.specs.Means.{Instant, MeansRow, MayOweAll, hold}
 use Rattle.leaf_parts.specs.Words.{says_free}
 use Rattle.td_control.specs.CreationTrees.{key_place, create_changes, create_task}
+use Rattle.leaf_parts.proofs.Acted.{opening}
 use Rattle.leaf_parts.proofs.Begun.{holds-newest}
 use Rattle.leaf_parts.proofs.Told.{kind-shown, kind-is}
 
@@ -241,12 +242,8 @@ page_alone t hs = rw (eq-eqb t t refl) refl
 page_held : (t : ℕ) (hs : List Held) → holds (both_locks t ++ hs) (OfPage t) ≡ true
 page_held t hs = rw (eq-eqb t t refl) refl
 
-opening : Machine → Opening
-opening m = record { machine = m; codes = λ t i. []; calls = []; bundles = λ slot. None; secrets = λ i. 0 }
-
 create_respects : (m : Machine) (c : Instant) (t h : ℕ) → Lawful m c.state.world → nat_lt t m.pages ≡ true → (nat_le 1 h && nat_le h m.hkids) ≡ true → is_host c.state.world t ≡ true → is_key_free c.state.world h ≡ true
     → Respects (hold c (both_locks t)) c.state.world ((create m t h).act c.state.world)
-unfolding opening
 create_respects m c t h la a b host free =
     rows-respect (opening m) 0 (call.MngCreate t h) (hold c (both_locks t)) c.state.world la (a, (b, (host, (free, tt))))
     ((page_held t c.kept, page_alone t c.kept), ((refl, refl), tt))

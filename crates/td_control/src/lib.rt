@@ -5,6 +5,8 @@
 //! that row.
 #![tactic(auto)]
 
+mod key_configurations;
 mod td_creations;
 
+pub use key_configurations::KeyConfig;
 pub use td_creations::Create;
