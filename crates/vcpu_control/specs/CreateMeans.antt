@@ -1,5 +1,5 @@
 -- Behind the beginning of its row the leaf that creates a virtual processor means the row.
-use Rattle.std.proofs.Common.{◌≡◌, ℕ, zero, suc, ◌+◌, ◌<◌, ◌≤◌, Bool, true, false, ◌==◌, ◌&&◌, List, [], ◌∷◌, length, None, refl, ap, sym, ◌∙◌, subst, inl, inr, arith}
+use Rattle.std.proofs.Common.{◌≡◌, ℕ, zero, suc, ◌+◌, ◌<◌, ◌≤◌, Bool, true, false, ◌==◌, ◌&&◌, List, [], ◌∷◌, length, refl, ap, sym, ◌∙◌, subst, inl, inr, arith}
 use Rattle.std.specs.Prelude.{nat_lt, nat_le, not}
 use Rattle.std.proofs.lemmas.Bool.{eq-eqb, ltb-true, lt-ltb}
 use Rattle.td_words.specs.declared.names.PageKind.TheVariants as kind
@@ -15,7 +15,6 @@ use Rattle.td_words.specs.Place.{WordPlace}
 use Rattle.td_words.specs.Place as place
 use Rattle.flat_core.specs.World.{World}
 use Rattle.flat_core.specs.Processor.{OfPage, OfOp}
-use Rattle.flat_core.specs.Opening.{Opening}
 use Rattle.flat_core.specs.Conditions.{is_host, children, vp_limit, vp_room, host_page, page_exclusive}
 use Rattle.flat_core.specs.Lawful.{Lawful, IsPageOf}
 use Rattle.flat_core.specs.VpRows.{create_vp}
@@ -32,6 +31,7 @@ use Rattle.leaf_engine.specs.Changes.{Memory, Put, Clear, changed}
 use Rattle.leaf_engine.specs.Trees.{Load, acts}
 use Rattle.leaf_engine.specs.Means.{Instant, Means, Acts, MayOweAll, work_of, OfCall, hold}
 use Rattle.leaf_parts.specs.Words.{raised}
+use Rattle.leaf_parts.proofs.Acted.{opening}
 use Rattle.leaf_parts.proofs.Told.{kind-shown, tdr-shown, tdcs-shown, tdr-spot, tdcs-spot}
 use Rattle.leaf_parts.proofs.Begun.{IsTd}
 use Rattle.vcpu_control.specs.VpChanges.{create_changes}
@@ -85,9 +85,6 @@ vp-owed g t p i td op own =
     (class-line P 4 i VcpuWord (At 5 VcpuWord ∷ run 8 8 VcpuWord ∷ []) vcpu
     (class-line P 5 i VcpuWord (run 8 8 VcpuWord ∷ []) vcpu
     (by_test (nat_le 8 i && nat_lt i 16) (λ e. rw e vcpu) (λ e. rw e unused)))))))
-
-abbrev opening : Machine → Opening
-opening m = record { machine = m; codes = λ t i. []; calls = []; bundles = λ slot. None; secrets = λ i. 0 }
 
 module _ (m : Machine) (c : Instant) (t p : ℕ) (la : Lawful m c.state.world) (sh : Shows m c.memory.words c.memory.slots c.state)
     (x : IsTd m c.state.world t (op.Initialized ∷ op.MemoryImport ∷ [])) (tdr_page : nat_lt t m.pages ≡ true) (page : nat_lt p m.pages ≡ true) (differ : not (p == t) ≡ true) where
