@@ -1,5 +1,5 @@
 -- Words that acts are written in change what words are only as the rules say.
-use Rattle.std.proofs.Common.{◌≡◌, ◌⊎◌, refl, sym, ◌∙◌, ap, subst, inl, inr, ℕ, zero, suc, ◌+◌, ◌-◌, ◌*◌, ◌%◌, ◌≤◌, Bool, true, false, ◌==◌, ◌&&◌, ◌||◌, if◌then◌else◌, List, [], ◌∷◌, arith}
+use Rattle.std.proofs.Common.{◌≡◌, ◌⊎◌, refl, sym, ◌∙◌, ap, subst, inl, inr, ℕ, zero, suc, ◌+◌, ◌-◌, ◌*◌, ◌%◌, ◌≤◌, Bool, true, false, not, ◌==◌, ◌&&◌, ◌||◌, if◌then◌else◌, List, [], ◌∷◌, arith}
 use Rattle.td_words.specs.declared.places.TheConstants.{TDCS_OP_LOCK, TDCS_OP, TDCS_EPOCH, TDCS_ENTERED}
 use Rattle.std.specs.Prelude.{Option, None, nat_le, nat_lt}
 use Rattle.std.proofs.lemmas.Bool.{eq-eqb, eqb-true}
@@ -18,26 +18,30 @@ use Rattle.flat_core.specs.Lawful.{key_owner, Lawful, ArePagesOf}
 use Rattle.flat_core.specs.Conditions.{same_kind}
 use Rattle.flat_core.specs.Effects.{take_node, set_entry, set_op, set_epoch, set_life, set_key, leave_guest}
 use Rattle.word_rules.specs.Guards.{Grip, Locked}
-use Rattle.word_rules.specs.Rules.{Class, GuestWord, LeafEntry, moves, EpochCount}
+use Rattle.word_rules.specs.Rules.{Class, GuestWord, LeafEntry, Unused, moves, EpochCount}
 use Rattle.word_rules.specs.Views.{no_page, named_by}
-use Rattle.word_rules.specs.Lines.{in_lines}
-use Rattle.word_rules.specs.Spots.{Spot, spot, slot_of, slot_spot, runs_in, page_spot, control_class, root_class, or_unused, tdcs_classes, is_current, is_at_end, is_empty, entry_class, entry_named}
+use Rattle.word_rules.specs.Lines.{Line, At, Run, in_lines}
+use Rattle.word_rules.specs.Spots.{Spot, spot, slot_of, slot_spot, runs_in, page_spot, control_class, root_class, or_unused, tdr_classes, tdcs_classes, vp_classes, stream_classes, is_current, is_at_end, is_empty, entry_class, entry_named}
 use Rattle.word_rules.specs.Cells.{one_of_parity, entered_of_parity}
 use Rattle.word_rules.specs.Permissions.{MayAt, Moves, Respects}
 use Rattle.act_rules.specs.Acts.{SameTd, SameWords, HoldsTd, EffectsRespect}
 use Rattle.act_rules.proofs.Stored.{by_test}
 
-and-left : (a b : Bool) → (a && b) ≡ true → a ≡ true
+pub and-left : (a b : Bool) → (a && b) ≡ true → a ≡ true
 and-left true b h = refl
 and-left false b h = cc
 
-and-right : (a b : Bool) → (a && b) ≡ true → b ≡ true
+pub and-right : (a b : Bool) → (a && b) ≡ true → b ≡ true
 and-right true b h = h
 and-right false b h = cc
 
+pub not-true : (b : Bool) → not b ≡ true → b ≡ false
+not-true true h = cc
+not-true false h = refl
+
 -- a page's words, from what tells of its TD and of its node
 
-control-same : (w w' : World) (t p i : ℕ) (cs : List ℕ) → is_current w' t ≡ is_current w t → is_empty w' t ≡ is_empty w t → control_class w' t p cs i ≡ control_class w t p cs i
+pub control-same : (w w' : World) (t p i : ℕ) (cs : List ℕ) → is_current w' t ≡ is_current w t → is_empty w' t ≡ is_empty w t → control_class w' t p cs i ≡ control_class w t p cs i
 control-same w w' t p i [] e f = refl
 control-same w w' t p i (c ∷ rest) e f = λ j. if c == p then or_unused (in_lines (tdcs_classes (e j) (f j)) i) else root_class p rest
 
@@ -58,21 +62,25 @@ named-same w w' t (suc zero) number i e = e (512 * number + i)
 named-same w w' t (suc (suc level)) number i e = refl
 
 -- of one page with its node
+pub page-as : (w w' : World) (t p : ℕ) (k : PageKind) (i : ℕ) → w'.tds.ops t ≡ w.tds.ops t → ((n : ℕ) → named_by (w'.tds.entries t 0 n) ≡ named_by (w.tds.entries t 0 n))
+    → control_class w' t p (w'.tds.controls t) i ≡ control_class w t p (w.tds.controls t) i → w'.pages.levels p ≡ w.pages.levels p → w'.pages.numbers p ≡ w.pages.numbers p → page_spot w' t p k i ≡ page_spot w t p k i
+page-as w w' t p kind.Nda i o a c l n = refl
+page-as w w' t p kind.Reg i o a c l n = λ j. record { class = GuestWord (runs_in (o j)); td = t; page = p; named = no_page }
+page-as w w' t p kind.Tdr i o a c l n = refl
+page-as w w' t p kind.Tdcx i o a c l n = λ j. record { class = c j; td = t; page = p; named = no_page }
+page-as w w' t p kind.Tdvpr i o a c l n = refl
+page-as w w' t p kind.Ept i o a c l n =
+    let e : entry_class w' t (w'.pages.levels p) ≡ entry_class w t (w.pages.levels p) = ap (λ (x : ℕ). entry_class w' t x) l ∙ class-same w w' t (w.pages.levels p) o in
+    let f : entry_named w' t (w'.pages.levels p) (w'.pages.numbers p) i ≡ entry_named w t (w.pages.levels p) (w.pages.numbers p) i =
+    (λ j. entry_named w' t (l j) (n j) i) ∙ named-same w w' t (w.pages.levels p) (w.pages.numbers p) i a in
+    λ j. record { class = e j; td = t; page = p; named = f j }
+page-as w w' t p kind.Migsc i o a c l n = refl
+
 pub page-same : (w w' : World) (t p : ℕ) (k : PageKind) (i : ℕ) → SameTd w w' t → w'.pages.levels p ≡ w.pages.levels p → w'.pages.numbers p ≡ w.pages.numbers p → page_spot w' t p k i ≡ page_spot w t p k i
-page-same w w' t p kind.Nda i s l n = refl
-page-same w w' t p kind.Reg i s l n = λ j. record { class = GuestWord (runs_in (s.op j)); td = t; page = p; named = no_page }
-page-same w w' t p kind.Tdr i s l n = refl
-page-same w w' t p kind.Tdcx i s l n =
+page-same w w' t p k i s l n =
     let e : control_class w' t p (w'.tds.controls t) i ≡ control_class w t p (w.tds.controls t) i =
     ap (λ (cs : List ℕ). control_class w' t p cs i) s.controls ∙ control-same w w' t p i (w.tds.controls t) (current-same w w' t s.epoch) (empty-same w w' t s.empty) in
-    λ j. record { class = e j; td = t; page = p; named = no_page }
-page-same w w' t p kind.Tdvpr i s l n = refl
-page-same w w' t p kind.Ept i s l n =
-    let e : entry_class w' t (w'.pages.levels p) ≡ entry_class w t (w.pages.levels p) = ap (λ (x : ℕ). entry_class w' t x) l ∙ class-same w w' t (w.pages.levels p) s.op in
-    let f : entry_named w' t (w'.pages.levels p) (w'.pages.numbers p) i ≡ entry_named w t (w.pages.levels p) (w.pages.numbers p) i =
-    (λ j. entry_named w' t (l j) (n j) i) ∙ named-same w w' t (w.pages.levels p) (w.pages.numbers p) i s.named in
-    λ j. record { class = e j; td = t; page = p; named = f j }
-page-same w w' t p kind.Migsc i s l n = refl
+    page-as w w' t p k i s.op s.named e l n
 
 -- an act that leaves all of that
 
@@ -191,6 +199,89 @@ host-kind _ h = cc
 pub host-moves : (g : Grip) (w : World) (p i : ℕ) → w.pages.kinds p ≡ kind.Nda → g.sole (Locked (OfPage p)) ≡ true → Moves g w (Word p i)
 host-moves g w p i e s = rw e (inl (s, tt))
 
+-- a word of a control page
+abbrev control_spot : ℕ → ℕ → Class → Spot
+control_spot t p c = record { class = c; td = t; page = p; named = no_page }
+
+-- a page of a TD whose TDR page is held alone, and which is held alone itself
+
+abbrev AllLines : (Class → Type 0) → List (Line Class) → Type 0
+AllLines P [] = Unit {0}
+AllLines P (At place c ∷ rest) = P c × AllLines P rest
+AllLines P (Run place count cs ∷ rest) = ((k : ℕ) → P (or_unused (cs k))) × AllLines P rest
+
+in-all-lines : (P : Class → Type 0) (lines : List (Line Class)) (i : ℕ) → P Unused → AllLines P lines → P (or_unused (in_lines lines i))
+in-all-lines P [] i u h = u
+in-all-lines P (At place c ∷ rest) i u h = by_test (i == place) (λ y. rw y h.0) (λ n. rw n (in-all-lines P rest i u h.1))
+in-all-lines P (Run place count cs ∷ rest) i u h = by_test (nat_le place i && nat_lt i (place + count)) (λ y. rw y (h.0 (i - place))) (λ n. rw n (in-all-lines P rest i u h.1))
+
+module _ (g : Grip) (w : World) (t p : ℕ) (has : g.has (Locked (OfPage t)) ≡ true) (alone : g.sole (Locked (OfPage t)) ≡ true) (own : g.sole (Locked (OfPage p)) ≡ true) where
+  abbrev MayMove : Class → Type 0
+  MayMove c = MayAt g (control_spot t p c) moves
+
+  unused-moves : MayMove Unused
+  unused-moves = inl (has, (own, tt))
+
+  count-moves : (x y : Bool) → MayMove (EpochCount x y)
+  count-moves true y = inl (has, tt)
+  count-moves false true = inl (alone, tt)
+  count-moves false false = inl (has, tt)
+
+  tdr-moves : (i : ℕ) → MayMove (or_unused (in_lines tdr_classes i))
+  tdr-moves i = in-all-lines MayMove tdr_classes i unused-moves (inl (alone, tt), (inl (alone, tt), (inl (alone, tt), (inl (alone, tt), (inl (alone, tt), (inl (alone, tt), tt))))))
+
+  tdcs-moves : (i : ℕ) (current empty : ℕ → Bool) → MayMove (or_unused (in_lines (tdcs_classes current empty) i))
+  tdcs-moves i current empty = in-all-lines MayMove (tdcs_classes current empty) i unused-moves (
+    λ k. inl (alone, tt),
+    (
+      inl (alone, tt),
+      (
+        inl (alone, tt),
+        (
+          λ b. count-moves (current b) (empty b),
+          (
+            inl (alone, tt),
+            (
+              inl (alone, tt),
+              (
+                λ k. inl (alone, tt),
+                (λ k. inl (alone, tt), (λ k. inl (alone, tt), (inl (alone, tt), (λ k. inl (alone, tt), (λ k. inl (alone, tt), tt))))),
+              ),
+            ),
+          ),
+        ),
+      ),
+    ),
+  )
+
+  vp-moves : (i : ℕ) → MayMove (or_unused (in_lines vp_classes i))
+  vp-moves i = in-all-lines MayMove vp_classes i unused-moves (inl (alone, tt), (inl (alone, tt), (inl (alone, tt), (inl (alone, tt), (inl (alone, tt), (inl (alone, tt), (λ k. inl (alone, tt), tt)))))))
+
+  stream-moves : (i : ℕ) → MayMove (or_unused (in_lines stream_classes i))
+  stream-moves i = in-all-lines MayMove stream_classes i unused-moves (inl (alone, tt), (inl (alone, tt), (inl (alone, tt), tt)))
+
+  root-moves : (cs : List ℕ) → MayMove (root_class p cs)
+  root-moves [] = unused-moves
+  root-moves (r ∷ rest) = by_test (r == p) (λ y. rw y (inl (alone, tt))) (λ n. rw n unused-moves)
+
+  control-moves : (cs : List ℕ) (i : ℕ) → MayMove (control_class w t p cs i)
+  control-moves [] i = unused-moves
+  control-moves (c ∷ rest) i = by_test (c == p) (λ y. rw y (tdcs-moves i (is_current w t) (is_empty w t))) (λ n. rw n (root-moves rest))
+
+  entry-moves : (level number : ℕ) → MayAt g (record { class = entry_class w t level; td = t; page = p; named = number }) moves
+  entry-moves zero number = unused-moves
+  entry-moves (suc zero) number = inl (alone, tt)
+  entry-moves (suc (suc level)) number = inl (alone, tt)
+
+  pub owned-moves : (k : PageKind) (i : ℕ) → same_kind k kind.Nda ≡ false → MayAt g (page_spot w t p k i) moves
+  owned-moves kind.Nda i h = cc
+  owned-moves kind.Reg i h = inl (alone, tt)
+  owned-moves kind.Tdr i h = tdr-moves i
+  owned-moves kind.Tdcx i h = control-moves (w.tds.controls t) i
+  owned-moves kind.Tdvpr i h = vp-moves i
+  owned-moves kind.Ept i h = entry-moves (w.pages.levels p) (entry_named w t (w.pages.levels p) (w.pages.numbers p) i)
+  owned-moves kind.Migsc i h = stream-moves i
+
 -- an operation state: O alone
 op-moved : (g : Grip) (w : World) (t : ℕ) (s : OpState) → g.has (Locked (OfPage t)) ≡ true → g.sole (Locked (OfOp t)) ≡ true → Respects g w (set_op t s w)
 op-moved g w t s h o = record { word = at; slot = λ k. inl refl; life = λ u. inl refl }
@@ -235,9 +326,6 @@ count-classes cur cur' emp emp' i =
     by_test (i == TDCS_OP) (λ y. inl (rw (n0, y) refl)) (λ n1.
     by_test (i == TDCS_EPOCH) (λ y. inl (rw (n0, n1, y) refl)) (λ n2.
     by_test (nat_le TDCS_ENTERED i && nat_lt i (TDCS_ENTERED + 2)) (λ y. inr (i - TDCS_ENTERED, rw (n0, n1, n2, y) refl, rw (n0, n1, n2, y) refl)) (λ n3. inl (rw (n0, n1, n2, n3) refl)))))
-
-abbrev control_spot : ℕ → ℕ → Class → Spot
-control_spot t p c = record { class = c; td = t; page = p; named = no_page }
 
 -- of each parity: it stays as it was, or may be moved
 abbrev CountsMay : Grip → World → World → ℕ → ℕ → Type 0
@@ -292,15 +380,21 @@ counts-at g w w' s m (KeyPlace k) = inl refl
 counts-at g w w' s m (Word p i) = subst (λ (z : Pages). (page_spot w' (z.owners p) p (z.kinds p) i ≡ page_spot w (w.pages.owners p) p (w.pages.kinds p) i) ⊎ Moves g w (Word p i)) (sym s.pages)
     (counts-word g w w' (w.pages.owners p) p i (w.pages.kinds p) s (λ e. m p e))
 
--- TD_EPOCH: E alone
+-- TD_EPOCH: E alone, or O alone
 
 epoch-may : (g : Grip) (t p : ℕ) (x y : Bool) → HoldsTd g t → g.sole (Locked (OfEpoch t)) ≡ true → MayAt g (control_spot t p (EpochCount x y)) moves
 epoch-may g t p true y h s = inl (h.tdr, tt)
 epoch-may g t p false true h s = inr (inr (inl (h.tdr, (h.op, (s, tt)))))
 epoch-may g t p false false h s = inl (h.tdr, tt)
 
-epoch-moved : (g : Grip) (w : World) (t e : ℕ) → HoldsTd g t → g.sole (Locked (OfEpoch t)) ≡ true → Respects g w (set_epoch t e w)
-epoch-moved g w t e h s = record {
+epoch-may-op : (g : Grip) (t p : ℕ) (x y : Bool) → g.has (Locked (OfPage t)) ≡ true → g.sole (Locked (OfOp t)) ≡ true → MayAt g (control_spot t p (EpochCount x y)) moves
+epoch-may-op g t p true y h s = inl (h, tt)
+epoch-may-op g t p false true h s = inr (inl (h, (s, tt)))
+epoch-may-op g t p false false h s = inl (h, tt)
+
+-- TD_EPOCH is set where the counts of either parity may be moved
+epoch-set : (g : Grip) (w : World) (t e : ℕ) → ((p : ℕ) (x y : Bool) → MayAt g (control_spot t p (EpochCount x y)) moves) → Respects g w (set_epoch t e w)
+epoch-set g w t e may = record {
   word = counts-at g w (set_epoch t e w) (record { pages = refl; ops = refl; controls = refl; entries = refl }) (λ p k. by (w.pages.owners p) p);
   slot = λ k. inl refl;
   life = λ u. inl refl;
@@ -308,7 +402,7 @@ epoch-moved g w t e h s = record {
   where
     by : (u p : ℕ) → CountsMay g w (set_epoch t e w) u p
     by u p b = by_test (u == t)
-        (λ y. let is : u ≡ t = eqb-true u t y in inr (subst (λ (z : ℕ). MayAt g (control_spot z p (EpochCount (is_current w z b) (is_empty w z b))) moves) (sym is) (epoch-may g t p (is_current w t b) (is_empty w t b) h s)))
+        (λ y. let is : u ≡ t = eqb-true u t y in inr (subst (λ (z : ℕ). MayAt g (control_spot z p (EpochCount (is_current w z b) (is_empty w z b))) moves) (sym is) (may p (is_current w t b) (is_empty w t b))))
         (λ n. inl (rw n refl, refl))
 
 -- a life: P of the TDR page alone
@@ -343,7 +437,7 @@ elsewhere pages f u v b (x ∷ vs) a bad =
     (λ y. absurd (bad (let is : x ≡ v = eqb-true x v y in subst (λ (z : ℕ). pages.owners z ≡ u) is a.0.owner)))
     (λ n. rw n (ap (λ (z : ℕ). one_of_parity b (f x) + z) (elsewhere pages f u v b vs a.1 bad)))
 
-at-end : (s : LifeState) → is_at_end s ≡ false → (life_number s == life_number life.Teardown) ≡ false
+pub at-end : (s : LifeState) → is_at_end s ≡ false → (life_number s == life_number life.Teardown) ≡ false
 at-end life.HkidAssigned h = refl
 at-end life.KeysConfigured h = refl
 at-end life.Blocked h = refl
@@ -416,7 +510,9 @@ effects-respect g w = record {
   page = page-moved g w;
   taken = λ p k t level number h s. page-moved g w p k t level number (λ i. host-moves g w p i (host-kind (w.pages.kinds p) h) s);
   op = op-moved g w;
-  epoch = epoch-moved g w;
+  reclaimed = λ p k t level number h has alone own. page-moved g w p k t level number (λ i. owned-moves g w (w.pages.owners p) p has alone own (w.pages.kinds p) i h);
+  epoch = λ t e h s. epoch-set g w t e (λ p x y. epoch-may g t p x y h s);
+  epoch_op = λ t e h s. epoch-set g w t e (λ p x y. epoch-may-op g t p x y h s);
   life = life-moved g w;
   exit = λ m t v. exit-moved g w m t v;
   key = key-moved g w;

@@ -1,26 +1,39 @@
 -- The act of each row changes what words are only as the rules say.
-use Rattle.std.proofs.Common.{◌≡◌, ◌⊎◌, refl, sym, ◌∙◌, ap, subst, inl, inr, ℕ, true, false, ◌==◌}
-use Rattle.std.specs.Prelude.{Option, None}
-use Rattle.std.proofs.lemmas.Bool.{eqb-true}
+use Rattle.std.proofs.Common.{◌≡◌, ◌⊎◌, refl, sym, ◌∙◌, ap, subst, inl, inr, ℕ, ◌+◌, List, [], ◌∷◌, ◌++◌, length, Bool, true, false, not, ◌==◌, nat_lt, arith}
+use Rattle.std.specs.Prelude.{Option, Some, None}
+use Rattle.std.specs.List.{list_any}
+use Rattle.std.proofs.lemmas.Bool.{eq-eqb, eqb-true, ne_eqb}
+use Rattle.std.proofs.lemmas.Bool.Decides.{nat_tests}
 use Rattle.td_words.specs.declared.calls.Call.TheVariants as call
 use Rattle.td_words.specs.declared.names.PageKind.{PageKind}
 use Rattle.td_words.specs.declared.names.PageKind.TheVariants as kind
+use Rattle.td_words.specs.declared.names.LifeState.{LifeState}
+use Rattle.td_words.specs.declared.names.LifeState.TheVariants as life
+use Rattle.td_words.specs.declared.names.OpState.TheVariants as op
+use Rattle.td_words.specs.declared.names.VcpuState.TheVariants as vcpu
 use Rattle.td_words.specs.declared.machines.Machine.{Machine}
+use Rattle.td_words.specs.NameNumber.{life_number}
 use Rattle.td_words.specs.Packing.{Key as KeyState, Unassigned, AssignedTo, FlushedOf}
 use Rattle.td_words.specs.Place.{WordPlace, Lock, Pamt, Word, Key}
-use Rattle.flat_core.specs.World.{World}
-use Rattle.flat_core.specs.Processor.{OfPage, OfKeys}
-use Rattle.flat_core.specs.Lawful.{Lawful, key_owner}
-use Rattle.flat_core.specs.Conditions.{same_kind, is_host_in, is_free_key}
-use Rattle.flat_core.specs.Effects.{set_word}
-use Rattle.flat_core.specs.TdRows.{create}
+use Rattle.flat_core.specs.World.{World, put}
+use Rattle.flat_core.specs.Processor.{OfPage, OfOp, OfKeys}
+use Rattle.flat_core.specs.Lawful.{Lawful, ArePagesOf, key_owner}
+use Rattle.flat_core.specs.Row.{Passes}
+use Rattle.flat_core.specs.Conditions.{same_kind, is_host, is_host_in, is_free_key}
+use Rattle.flat_core.specs.Effects.{set_word, take_node, clear_page, give_back, end_memory_in, set_key, set_life, set_op, set_epoch, set_register, set_vp_state, begin_measurement, end_measurement, write_back, written_back}
+use Rattle.flat_core.specs.TdRows.{create, add_tdcx}
+use Rattle.flat_core.specs.KeyRows.{reclaim_conditions}
+use Rattle.flat_core.specs.VpRows.{create_vp}
 use Rattle.word_rules.specs.Guards.{Grip, Locked}
 use Rattle.word_rules.specs.Rules.{moves}
-use Rattle.word_rules.specs.Spots.{spot, slot_spot, slot_of, page_spot}
+use Rattle.word_rules.specs.Views.{named_by}
+use Rattle.word_rules.specs.Cells.{one_of_parity, entered_of_parity}
+use Rattle.word_rules.specs.Spots.{spot, slot_spot, slot_of, page_spot, control_class, is_empty, is_at_end}
 use Rattle.word_rules.specs.Permissions.{MayAt, Moves, Respects}
-use Rattle.act_rules.specs.Acts.{RowsRespect}
+use Rattle.word_rules.proofs.Conflicts.{respects-compose}
+use Rattle.act_rules.specs.Acts.{SameTd, HoldsTries, RowsRespect}
 use Rattle.act_rules.proofs.Stored.{by_test}
-use Rattle.act_rules.proofs.Respected.{page-same, leaves, all-same, host-kind, host-moves}
+use Rattle.act_rules.proofs.Respected.{page-same, page-as, control-same, leaves, all-same, host-kind, host-moves, at-end, not-true, and-left, and-right, effects-respect}
 
 owned : (k : PageKind) → (same_kind k kind.Nda ≡ true) ⊎ (same_kind k kind.Nda ≡ false)
 owned kind.Nda = inl refl
@@ -30,6 +43,10 @@ free-owner : (k : KeyState) → is_free_key k ≡ true → key_owner k ≡ None
 free-owner Unassigned h = refl
 free-owner (AssignedTo t) h = cc
 free-owner (FlushedOf t b) h = cc
+
+host-spot : (w w' : World) (u v q i : ℕ) (k : PageKind) → same_kind k kind.Nda ≡ true → page_spot w' u q k i ≡ page_spot w v q k i
+host-spot w w' u v q i kind.Nda o = refl
+host-spot w w' u v q i _ o = cc
 
 -- MNG.CREATE
 module _ (m : Machine) (g : Grip) (w : World) (t h : ℕ) (la : Lawful m w) (host : w.pages.kinds t ≡ kind.Nda) (unused : key_owner (w.key_table.keys h) ≡ None) (page : g.sole (Locked (OfPage t)) ≡ true) (keys : g.sole (Locked OfKeys) ≡ true) where
@@ -46,13 +63,9 @@ module _ (m : Machine) (g : Grip) (w : World) (t h : ℕ) (la : Lawful m w) (hos
       let bad : kind.Tdr ≡ kind.Nda = sym (la.pages.owner q o) ∙ (ap w.pages.kinds is ∙ host) in cc))
       (λ n. n)
 
-  host-spot : (u v q i : ℕ) (k : PageKind) → same_kind k kind.Nda ≡ true → page_spot w' u q k i ≡ page_spot w v q k i
-  host-spot u v q i kind.Nda o = refl
-  host-spot u v q i _ o = cc
-
   elsewhere : (q i : ℕ) → (q == t) ≡ false → spot w' (Word q i) ≡ spot w (Word q i)
   elsewhere q i n = rw n (elim (owned (w.pages.kinds q)) [
-    | inl o ↦ host-spot (w.pages.owners q) (w.pages.owners q) q i (w.pages.kinds q) o
+    | inl o ↦ host-spot w w' (w.pages.owners q) (w.pages.owners q) q i (w.pages.kinds q) o
     | inr o ↦ other q i n (w.pages.owners q) (not-its q o)
   ])
 
@@ -80,9 +93,183 @@ stays g w = record { word = λ q. inl refl; slot = λ h. inl refl; life = λ t. 
 written : (g : Grip) (w : World) (p i v : ℕ) → Respects g w (set_word p i v w)
 written g w p i v = leaves g w (set_word p i v w) (all-same w (set_word p i v w) refl (λ u. record { op = refl; controls = refl; epoch = refl; empty = λ b. refl; named = λ n. refl })) (λ h. refl) refl
 
+-- PHYMEM.CACHE.WB: keys stay their TDs'
+marked : (k : KeyState) → key_owner (written_back k) ≡ key_owner k
+marked Unassigned = refl
+marked _ = refl
+
+cached-back : (g : Grip) (w : World) → Respects g w (write_back w)
+cached-back g w = leaves g w (write_back w) (all-same w (write_back w) refl (λ u. record { op = refl; controls = refl; epoch = refl; empty = λ b. refl; named = λ n. refl })) (λ h. marked (w.key_table.keys h)) refl
+
+-- another page than one that is taken
+there : (w w' : World) (p q i : ℕ) → (q == p) ≡ false → w'.pages.kinds q ≡ w.pages.kinds q → w'.pages.owners q ≡ w.pages.owners q
+    → (is_host_in w.pages q ≡ false → page_spot w' (w.pages.owners q) q (w.pages.kinds q) i ≡ page_spot w (w.pages.owners q) q (w.pages.kinds q) i) → spot w' (Word q i) ≡ spot w (Word q i)
+there w w' p q i n k o same =
+    (λ j. page_spot w' (o j) q (k j) i) ∙ elim (owned (w.pages.kinds q)) [
+      | inl h ↦ host-spot w w' (w.pages.owners q) (w.pages.owners q) q i (w.pages.kinds q) h
+      | inr h ↦ same h
+    ]
+
+-- MNG.ADDCX
+module _ (m : Machine) (g : Grip) (w : World) (t p : ℕ) (la : Lawful m w) (host : w.pages.kinds p ≡ kind.Nda) (room : nat_lt (length (w.tds.controls t)) 2 ≡ true) (page : g.sole (Locked (OfPage p)) ≡ true) where
+  abbrev with-tdcx : World
+  with-tdcx = (add_tdcx m t p).act w
+
+  more-controls : (q i : ℕ) → (p == q) ≡ false → (cs : List ℕ) → nat_lt (length cs) 2 ≡ true → control_class with-tdcx t q (cs ++ p ∷ []) i ≡ control_class w t q cs i
+  more-controls q i n [] few = rw n refl
+  more-controls q i n (c ∷ []) few = by_test (c == q) (λ y. rw y refl) (λ x. rw (x, n) refl)
+  more-controls q i n (c ∷ r ∷ cs) few = absurd (grind (arith, nat_tests))
+
+  its-controls : (u q i : ℕ) → (p == q) ≡ false → control_class with-tdcx u q (with-tdcx.tds.controls u) i ≡ control_class w u q (w.tds.controls u) i
+  its-controls u q i n = by_test (u == t)
+      (λ y. let is : u ≡ t = eqb-true u t y in rw (is, eq-eqb t t refl) (more-controls q i n (w.tds.controls t) room))
+      (λ x. rw x (control-same w with-tdcx u q i (w.tds.controls u) refl refl))
+
+  tdcx-there : (q i : ℕ) → (q == p) ≡ false → spot with-tdcx (Word q i) ≡ spot w (Word q i)
+  tdcx-there q i n = there w with-tdcx p q i n (rw n refl) (rw n refl)
+      (λ h. page-as w with-tdcx (w.pages.owners q) q (w.pages.kinds q) i refl (λ k. refl) (its-controls (w.pages.owners q) q i (ne_eqb p q (λ e. let no : true ≡ false = sym (eq-eqb q p (sym e)) ∙ n in cc))) (rw n refl) (rw n refl))
+
+  tdcx-at : (q : WordPlace) → (spot with-tdcx q ≡ spot w q) ⊎ Moves g w q
+  tdcx-at (Lock q) = inl refl
+  tdcx-at (Pamt q) = inl refl
+  tdcx-at (Key k) = inl refl
+  tdcx-at (Word q i) = by_test (q == p)
+      (λ y. let is : q ≡ p = eqb-true q p y in inr (subst (λ (x : ℕ). Moves g w (Word x i)) (sym is) (host-moves g w p i host page)))
+      (λ n. inl (tdcx-there q i n))
+
+  tdcx-added : Respects g w ((add_tdcx m t p).act w)
+  tdcx-added = record { word = tdcx-at; slot = λ h. inl refl; life = λ u. inl refl }
+
+-- VP.CREATE
+module _ (m : Machine) (g : Grip) (w : World) (t p : ℕ) (la : Lawful m w) (host : w.pages.kinds p ≡ kind.Nda) (page : g.sole (Locked (OfPage p)) ≡ true) where
+  abbrev with-vp : World
+  with-vp = (create_vp m t p).act w
+
+  -- nobody is in guest at the page
+  not-entered : (u b : ℕ) (vs : List ℕ) → ArePagesOf w.pages u kind.Tdvpr vs → entered_of_parity b (put w.vps.entered p None) vs ≡ entered_of_parity b w.vps.entered vs
+  not-entered u b [] h = refl
+  not-entered u b (v ∷ vs) h = by_test (v == p)
+      (λ y. absurd (let is : v ≡ p = eqb-true v p y in let bad : kind.Nda ≡ kind.Tdvpr = sym host ∙ (ap w.pages.kinds (sym is) ∙ h.0.kind) in cc))
+      (λ n. rw n (ap (λ (z : ℕ). one_of_parity b (w.vps.entered v) + z) (not-entered u b vs h.1)))
+
+  one-more : (b : ℕ) (vs : List ℕ) → entered_of_parity b (put w.vps.entered p None) (vs ++ p ∷ []) ≡ entered_of_parity b (put w.vps.entered p None) vs
+  one-more b [] = rw (eq-eqb p p refl) refl
+  one-more b (v ∷ vs) = ap (λ (z : ℕ). one_of_parity b (put w.vps.entered p None v) + z) (one-more b vs)
+
+  still-empty : (u b : ℕ) → w.pages.kinds u ≡ kind.Tdr → is_empty with-vp u b ≡ is_empty w u b
+  still-empty u b k = by_test (is_at_end (w.tds.lives u)) (λ y. rw y refl) (λ e.
+      let its = la.tds.vps u (record { kind = k; life = at-end (w.tds.lives u) e }) in
+      rw e (ap (λ (z : ℕ). z == 0) (by_test (u == t)
+      (λ y. let is : u ≡ t = eqb-true u t y in rw (is, eq-eqb t t refl) (one-more b (w.tds.vps t) ∙ not-entered t b (w.tds.vps t) (subst (λ (x : ℕ). ArePagesOf w.pages x kind.Tdvpr (w.tds.vps x)) is its)))
+      (λ n. rw n (not-entered u b (w.tds.vps u) its)))))
+
+  vp-there : (q i : ℕ) → (q == p) ≡ false → spot with-vp (Word q i) ≡ spot w (Word q i)
+  vp-there q i n = there w with-vp p q i n (rw n refl) (rw n refl)
+      (λ h. page-same w with-vp (w.pages.owners q) q (w.pages.kinds q) i
+      (record { op = refl; controls = refl; epoch = refl; empty = λ b. still-empty (w.pages.owners q) b (la.pages.owner q h); named = λ k. refl }) (rw n refl) (rw n refl))
+
+  vp-at : (q : WordPlace) → (spot with-vp q ≡ spot w q) ⊎ Moves g w q
+  vp-at (Lock q) = inl refl
+  vp-at (Pamt q) = inl refl
+  vp-at (Key k) = inl refl
+  vp-at (Word q i) = by_test (q == p)
+      (λ y. let is : q ≡ p = eqb-true q p y in inr (subst (λ (x : ℕ). Moves g w (Word x i)) (sym is) (host-moves g w p i host page)))
+      (λ n. inl (vp-there q i n))
+
+  vp-added : Respects g w ((create_vp m t p).act w)
+  vp-added = record { word = vp-at; slot = λ h. inl refl; life = λ u. inl refl }
+
+-- acts of more words than one
+module _ (g : Grip) (w : World) where
+  -- an act that leaves what words are, before or after another
+  abbrev same-td : (w w' : World) (u : ℕ) → w'.tds.ops u ≡ w.tds.ops u → w'.tds.controls u ≡ w.tds.controls u → w'.tds.epochs u ≡ w.tds.epochs u → ((b : ℕ) → is_empty w' u b ≡ is_empty w u b)
+      → ((n : ℕ) → named_by (w'.tds.entries u 0 n) ≡ named_by (w.tds.entries u 0 n)) → SameTd w w' u
+  same-td w w' u a b c d e = record { op = a; controls = b; epoch = c; empty = d; named = e }
+
+  -- PHYMEM.PAGE.RECLAIM
+  given-back : (t p : ℕ) → is_host w p ≡ false → w.pages.owners p ≡ t → g.has (Locked (OfPage t)) ≡ true → g.sole (Locked (OfPage t)) ≡ true → g.sole (Locked (OfPage p)) ≡ true → Respects g w (give_back p (end_memory_in t p w))
+  given-back t p no-host is has alone own =
+      let w1 : World = end_memory_in t p w in
+      let w2 : World = take_node p kind.Nda 0 0 0 w1 in
+      let w3 : World = clear_page p w2 in
+      let a : Respects g w w1 = leaves g w w1 (all-same w w1 refl (λ u. same-td w w1 u refl refl refl (λ b. refl) (λ n. refl))) (λ h. refl) refl in
+      let has' : g.has (Locked (OfPage (w1.pages.owners p))) ≡ true = subst (λ (x : ℕ). g.has (Locked (OfPage x)) ≡ true) (sym is) has in
+      let alone' : g.sole (Locked (OfPage (w1.pages.owners p))) ≡ true = subst (λ (x : ℕ). g.sole (Locked (OfPage x)) ≡ true) (sym is) alone in
+      let b : Respects g w1 w2 = (effects-respect g w1).reclaimed p kind.Nda 0 0 0 no-host has' alone' own in
+      let c : Respects g w2 w3 = leaves g w2 w3 (all-same w2 w3 refl (λ u. same-td w2 w3 u refl refl refl (λ b. refl) (λ n. refl))) (λ h. refl) refl in
+      respects-compose.both g w w2 w3 (respects-compose.both g w w1 w2 a b) c
+
+  reclaimed : (m : Machine) (t p : ℕ) (b : Bool) → (p == t) ≡ b → Lawful m w → w.pages.kinds t ≡ kind.Tdr → g.has (Locked (OfPage t)) ≡ true → g.sole (Locked (OfPage t)) ≡ true
+      → Passes (reclaim_conditions w t p b) → HoldsTries g (reclaim_conditions w t p b) → Respects g w (give_back p (end_memory_in t p w))
+  reclaimed m t p true e la root has alone ps h =
+      let is : p ≡ t = eqb-true p t e in
+      let tdr : w.pages.kinds p ≡ kind.Tdr = ap w.pages.kinds is ∙ root in
+      given-back t p (rw tdr refl) (la.pages.tdr p tdr ∙ is) has alone (subst (λ (x : ℕ). g.sole (Locked (OfPage x)) ≡ true) (sym is) alone)
+  reclaimed m t p false e la root has alone ps h =
+      given-back t p (not-true (is_host w p) (and-left (not (is_host w p)) (w.pages.owners p == t) ps.0)) (eqb-true _ t (and-right (not (is_host w p)) (w.pages.owners p == t) ps.0)) has alone h.0.1
+
+  -- MNG.INIT
+  initialized : (t : ℕ) → g.has (Locked (OfPage t)) ≡ true → g.sole (Locked (OfOp t)) ≡ true → Respects g w (begin_measurement t (set_epoch t 1 (set_op t op.Initialized w)))
+  initialized t has alone =
+      let w1 : World = set_op t op.Initialized w in
+      let w2 : World = set_epoch t 1 w1 in
+      let w3 : World = begin_measurement t w2 in
+      let a : Respects g w w1 = (effects-respect g w).op t op.Initialized has alone in
+      let b : Respects g w1 w2 = (effects-respect g w1).epoch_op t 1 has alone in
+      let c : Respects g w2 w3 = leaves g w2 w3 (all-same w2 w3 refl (λ u. same-td w2 w3 u refl refl refl (λ b. refl) (λ n. refl))) (λ h. refl) refl in
+      respects-compose.both g w w2 w3 (respects-compose.both g w w1 w2 a b) c
+
+  -- MR.FINALIZE
+  finalized : (t : ℕ) → g.has (Locked (OfPage t)) ≡ true → g.sole (Locked (OfOp t)) ≡ true → Respects g w (set_op t op.Runnable (end_measurement t w))
+  finalized t has alone =
+      let w1 : World = end_measurement t w in
+      let a : Respects g w w1 = leaves g w w1 (all-same w w1 refl (λ u. same-td w w1 u refl refl refl (λ b. refl) (λ n. refl))) (λ h. refl) refl in
+      respects-compose.both g w w1 (set_op t op.Runnable w1) a ((effects-respect g w1).op t op.Runnable has alone)
+
+  -- MNG.VPFLUSHDONE and MNG.KEY.FREEID: a life, and the key of the TD's HKID
+  ended : (t : ℕ) (s : LifeState) (k : KeyState) → key_owner (w.key_table.keys (w.tds.hkids t)) ≡ Some t → g.has (Locked (OfPage t)) ≡ true → g.sole (Locked (OfPage t)) ≡ true → Respects g w (set_key (w.tds.hkids t) k (set_life t s w))
+  ended t s k own has alone =
+      let w1 : World = set_life t s w in
+      let h : ℕ = w.tds.hkids t in
+      let may : MayAt g (slot_spot w1 h) moves = subst (λ (x : Option ℕ). MayAt g (slot_of x) moves) (sym own) (inl (alone, tt)) in
+      respects-compose.both g w w1 (set_key h k w1) ((effects-respect g w).life t s has alone) ((effects-respect g w1).key h k (inr may))
+
+  -- VP.INIT
+  vp-initialized : (v x : ℕ) → Respects g w (set_register v 0 x (set_vp_state v vcpu.Ready w))
+  vp-initialized v x =
+      let w' : World = set_register v 0 x (set_vp_state v vcpu.Ready w) in
+      leaves g w w' (all-same w w' refl (λ u. same-td w w' u refl refl refl (λ b. refl) (λ n. refl))) (λ h. refl) refl
+
+-- a TD whose life is one of those allowed is alive
+live-of : (allowed : List LifeState) (s : LifeState) → list_any (λ a. life_number a == life_number life.Teardown) allowed ≡ false → list_any (λ a. life_number a == life_number s) allowed ≡ true → (life_number s == life_number life.Teardown) ≡ false
+live-of allowed life.HkidAssigned no-end among = refl
+live-of allowed life.KeysConfigured no-end among = refl
+live-of allowed life.Blocked no-end among = refl
+live-of allowed life.Teardown no-end among = cc
+
+tdr-kind : (k : PageKind) → same_kind k kind.Tdr ≡ true → k ≡ kind.Tdr
+tdr-kind kind.Tdr h = refl
+tdr-kind kind.Nda h = cc
+tdr-kind _ h = cc
+
 pub rows-respect : RowsRespect
 rows-respect o me (call.HostRead page word) g w la ps h = stays g w
 rows-respect o me (call.HostWrite page word value) g w la ps h = written g w page word value
 rows-respect o me (call.PhymemPageRdmd page) g w la ps h = stays g w
+rows-respect o me call.PhymemCacheWb g w la ps h = cached-back g w
+rows-respect o me (call.PhymemPageReclaim tdr page) g w la ps h =
+    reclaimed g w o.machine tdr page (page == tdr) refl la (tdr-kind (w.pages.kinds tdr) ps.1.1.0) h.0.0 h.0.1 ps.1.1.1.1 h.1
 rows-respect o me (call.MngCreate tdr hkid) g w la ps h =
     created o.machine g w tdr hkid la (host-kind (w.pages.kinds tdr) ps.1.1.0) (free-owner (w.key_table.keys hkid) ps.1.1.1.0) h.0.1 h.1.0.1
+rows-respect o me (call.MngKeyConfig tdr) g w la ps h = (effects-respect g w).life tdr life.KeysConfigured h.0.0 h.0.1
+rows-respect o me (call.MngAddcx tdr page) g w la ps h = tdcx-added o.machine g w tdr page la (host-kind (w.pages.kinds page) ps.1.1.1.1.1.1.0) ps.1.1.1.1.1.0 h.1.0.1
+rows-respect o me (call.MngInit tdr) g w la ps h = initialized g w tdr h.0 h.1.0.1
+rows-respect o me (call.MngRd tdr field) g w la ps h = stays g w
+rows-respect o me (call.MngVpflushdone tdr) g w la ps h =
+    ended g w tdr life.Blocked (FlushedOf tdr false) (la.keys.owner tdr (record { kind = tdr-kind (w.pages.kinds tdr) ps.1.0; life = live-of (life.HkidAssigned ∷ life.KeysConfigured ∷ []) (w.tds.lives tdr) refl ps.1.1.0 })) h.0.0 h.0.1
+rows-respect o me (call.MngKeyFreeid tdr) g w la ps h =
+    ended g w tdr life.Teardown Unassigned (la.keys.owner tdr (record { kind = tdr-kind (w.pages.kinds tdr) ps.1.0; life = live-of (life.Blocked ∷ []) (w.tds.lives tdr) refl ps.1.1.0 })) h.0.0 h.0.1
+rows-respect o me (call.MrFinalize tdr) g w la ps h = finalized g w tdr h.0 h.1.0.1
+rows-respect o me (call.VpCreate tdr page) g w la ps h =
+    vp-added o.machine g w tdr page la (host-kind (w.pages.kinds page) ps.1.1.1.1.1.1.1.1.0) h.1.1.0.1
+rows-respect o me (call.VpInit tdr vp value) g w la ps h = vp-initialized g w vp value

@@ -1,6 +1,6 @@
 -- Which acts change what words are, and under which locks: for each word that acts are written in, that it changes that
 -- only as the rules say.
-use Rattle.std.specs.Prelude.{◌≡◌, ◌⊎◌, ℕ, true, List, [], ◌∷◌}
+use Rattle.std.specs.Prelude.{◌≡◌, ◌⊎◌, ℕ, true, false, List, [], ◌∷◌}
 use Rattle.td_words.specs.declared.names.PageKind.{PageKind}
 use Rattle.td_words.specs.declared.names.LifeState.{LifeState}
 use Rattle.td_words.specs.declared.names.OpState.{OpState}
@@ -59,8 +59,10 @@ pub record ActsRespect (g : Grip) (w : World) : Type 0 where
   pub entry_state : (t level number : ℕ) (e : Entry) → named_by e ≡ named_by (w.tds.entries t level number) → Respects g w (set_entry t level number e w)
   pub page : (p : ℕ) (k : PageKind) (t level number : ℕ) → ((i : ℕ) → Moves g w (Word p i)) → Respects g w (take_node p k t level number w)
   pub taken : (p : ℕ) (k : PageKind) (t level number : ℕ) → is_host w p ≡ true → g.sole (Locked (OfPage p)) ≡ true → Respects g w (take_node p k t level number w)
+  pub reclaimed : (p : ℕ) (k : PageKind) (t level number : ℕ) → is_host w p ≡ false → g.has (Locked (OfPage (w.pages.owners p))) ≡ true → g.sole (Locked (OfPage (w.pages.owners p))) ≡ true → g.sole (Locked (OfPage p)) ≡ true → Respects g w (take_node p k t level number w)
   pub op : (t : ℕ) (s : OpState) → g.has (Locked (OfPage t)) ≡ true → g.sole (Locked (OfOp t)) ≡ true → Respects g w (set_op t s w)
   pub epoch : (t e : ℕ) → HoldsTd g t → g.sole (Locked (OfEpoch t)) ≡ true → Respects g w (set_epoch t e w)
+  pub epoch_op : (t e : ℕ) → g.has (Locked (OfPage t)) ≡ true → g.sole (Locked (OfOp t)) ≡ true → Respects g w (set_epoch t e w)
   pub life : (t : ℕ) (s : LifeState) → g.has (Locked (OfPage t)) ≡ true → g.sole (Locked (OfPage t)) ≡ true → Respects g w (set_life t s w)
   pub exit : (m : Machine) (t v : ℕ) → Lawful m w → w.pages.owners v ≡ t → g.has (Locked (OfPage t)) ≡ true → Respects g w (leave_guest v w)
   pub key : (h : ℕ) (k : Key) → (key_owner k ≡ key_owner (w.key_table.keys h)) ⊎ MayAt g (slot_spot w h) moves → Respects g w (set_key h k w)

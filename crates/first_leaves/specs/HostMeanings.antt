@@ -28,7 +28,7 @@ use Rattle.lock_words.specs.Grips.{holds}
 use Rattle.leaf_engine.specs.declared.needs.Place.{Place}
 use Rattle.lock_words.specs.LockWords.{put_word}
 use Rattle.leaf_engine.specs.Means.{Instant, Means, MeansRow, work_of, OfCall, hold}
-use Rattle.first_leaves.specs.Words.{says_host}
+use Rattle.leaf_parts.specs.Words.{says_host}
 use Rattle.first_leaves.specs.HostTrees.{host_read_task, host_write_task, rdmd_task, read_word}
 
 -- a lock that was tried last is held

@@ -1,5 +1,3 @@
 pub mod Words
 pub mod HostTrees
 pub mod HostMeanings
-pub mod TdTrees
-pub mod TdMeanings

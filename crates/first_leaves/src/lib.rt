@@ -1,5 +1,4 @@
-//! The first leaves: the host's plain memory accesses, its look at page metadata, and the creation
-//! of a TD.
+//! The first leaves: the host's plain memory accesses, and its look at page metadata.
 //!
 //! Each leaf is a `Plan` of `leaf_engine`, whose tree mirrors its row, with the proof that it means
 //! that row.
@@ -7,8 +6,6 @@
 
 mod host_accesses;
 mod metadata_reads;
-mod td_creations;
 
 pub use host_accesses::{HostRead, HostWrite};
 pub use metadata_reads::Rdmd;
-pub use td_creations::Create;

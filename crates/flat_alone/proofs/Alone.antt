@@ -1,8 +1,10 @@
 -- A processor that runs while nobody else holds a lock: each try is granted, and a call is as good as done at once.
-use Rattle.std.proofs.Common.{◌≡◌, ◌≢◌, refl, sym, ◌∙◌, ap, subst, ℕ, zero, suc, ◌+◌, ◌-◌, ◌*◌, ◌<◌, ◌≤◌, List, [], ◌∷◌, ◌++◌, length, drop, replicate, Option, Some, None, Bool, true, false, ◌==◌, arith, append_assoc, append-nil, length-append, inl, inr}
+use Rattle.std.proofs.Common.{◌≡◌, ◌≢◌, refl, sym, ◌∙◌, ap, subst, ℕ, zero, suc, ◌+◌, ◌-◌, ◌*◌, ◌<◌, ◌≤◌, List, [], ◌∷◌, ◌++◌, length, drop, replicate, Option, Some, None, Bool, true, false, not, ◌==◌, arith, append_assoc, append-nil, length-append, inl, inr}
 use Rattle.std.specs.List.{concat}
 use Rattle.std.proofs.lemmas.Bool.{ne_eqb}
 use Rattle.std.proofs.lemmas.Bool.Decides.{eqb_tells}
+use Rattle.td_words.specs.declared.names.ReadField.{ReadField}
+use Rattle.td_words.specs.declared.names.ReadField.TheVariants as field
 use Rattle.td_words.specs.declared.names.Mode.{Mode}
 use Rattle.td_words.specs.declared.names.Mode.TheVariants.{Shared, Exclusive}
 use Rattle.td_words.specs.declared.calls.Call.{Call}
@@ -10,11 +12,14 @@ use Rattle.td_words.specs.declared.calls.Call.TheVariants as call
 use Rattle.td_words.specs.declared.replies.Reply.{Reply}
 use Rattle.td_words.specs.declared.replies.Reply.TheVariants.{Done}
 use Rattle.flat_core.specs.World.{World, first_world, put}
-use Rattle.flat_core.specs.Processor.{LockId, Held, Phase, Trying, Answered, Lp, idle}
+use Rattle.flat_core.specs.Processor.{LockId, OfPage, Held, Phase, Trying, Answered, Lp, idle}
 use Rattle.flat_core.specs.Locks.{alone_in, shared_in, alone_of, shared_of, refused_of, sum_below, holders, sharers, refusals, grants}
 use Rattle.flat_core.specs.Opening.{Opening}
 use Rattle.flat_core.specs.Row.{Item, Check, Try, Row, Attempts, Refuses, Succeeds, Releases, next, tries_in, call_row}
-use Rattle.flat_core.specs.Table.{row_of, most_tries, most_events}
+use Rattle.flat_core.specs.TdRows.{read_conditions}
+use Rattle.flat_core.specs.KeyRows.{reclaim_conditions}
+use Rattle.flat_core.specs.Table.{row_of, most_events}
+use Rattle.flat_core.specs.Bounds.{RowsTryFew}
 use Rattle.flat_core.specs.Event.{State, Event, OfCall, start, lines_left, calls_of, event_for, line_event, world_after, lp_after, is_granted, after_event, next_event, event, settled}
 use Rattle.flat_core.specs.Run.{play, events_in, to_the_end}
 use Rattle.flat_core.specs.HostText.{reply_lines, lines_from, text_of, host_text}
@@ -30,10 +35,10 @@ pub record Quiet (lp : Lp) : Type 0 where
 abbrev lp_of : Phase Reply → List Held → List Reply → Lp
 lp_of phase hs rs = record { call = record { phase = phase; held = hs }; guest = None; cached = []; replies = rs; notes = []; told = [] }
 
--- a lock that is tried isn't held yet
+-- a lock that is tried isn't held yet, where the conditions before it hold
 abbrev FreeTries : List Held → List (Item Reply) → Type 0
 FreeTries hs [] = Unit {0}
-FreeTries hs (Check b r ∷ items) = FreeTries hs items
+FreeTries hs (Check b r ∷ items) = b ≡ true → FreeTries hs items
 FreeTries hs (Try l m ∷ items) = (alone_in l hs ≡ 0) × (shared_in l hs ≡ 0) × FreeTries (record { lock = l; mode = m } ∷ hs) items
 
 eq_self : (n : ℕ) → (n == n) ≡ true
@@ -68,23 +73,40 @@ play-replicate o p (suc a) b s =
 -- the calls that are built
 plain_row : (o : Opening) (p : ℕ) (c : Call) → row_of o p c ≡ call_row (row_of o p c).items (row_of o p c).act (row_of o p c).value
 plain_row o p (call.HostRead page word) = refl
-plain_row o p (call.HostWrite page word value) = refl
-plain_row o p (call.PhymemPageRdmd page) = refl
-plain_row o p (call.MngCreate tdr hkid) = refl
+plain_row o p _ = refl
+
+-- a page that isn't the TDR page
+other_page : (page tdr : ℕ) → not (page == tdr) ≡ true → (tdr == page) ≡ false
+other_page page tdr h = ne_eqb tdr page (λ e. absurd (let no : not (tdr == tdr) ≡ true = subst (λ (x : ℕ). not (x == tdr) ≡ true) (sym e) h in let yes : (tdr == tdr) ≡ true = eq_self tdr in let bad : false ≡ true = rw yes at no in cc))
+
+free_reclaim : (w : World) (tdr page : ℕ) (b : Bool) → (page == tdr) ≡ b → FreeTries (record { lock = OfPage tdr; mode = Exclusive } ∷ []) (reclaim_conditions w tdr page b)
+free_reclaim w tdr page true e = λ h. tt
+free_reclaim w tdr page false e = let n : (tdr == page) ≡ false = other_page page tdr (rw e refl) in (rw n refl, refl, λ h. tt)
+
+free_read : (w : World) (tdr : ℕ) (f : ReadField) → FreeTries [] (read_conditions w tdr f)
+free_read w tdr field.Life = (refl, refl, λ a. tt)
+free_read w tdr field.Op = (refl, refl, λ a b c. (refl, refl, λ d. tt))
+free_read w tdr field.Epoch = (refl, refl, λ a b c. (refl, refl, λ d. (refl, refl, tt)))
+free_read w tdr field.Mrtd = (refl, refl, λ a b c. (refl, refl, λ d. tt))
 
 free_row : (o : Opening) (p : ℕ) (c : Call) (w : World) → FreeTries [] ((row_of o p c).items w)
-free_row o p (call.HostRead page word) w = (refl, refl, tt)
-free_row o p (call.HostWrite page word value) w = (refl, refl, tt)
-free_row o p (call.PhymemPageRdmd page) w = (refl, refl, tt)
-free_row o p (call.MngCreate tdr hkid) w = (refl, refl, (refl, refl, tt))
+free_row o p (call.HostRead page word) w = λ a b. (refl, refl, tt)
+free_row o p (call.HostWrite page word value) w = λ a b. (refl, refl, λ d. tt)
+free_row o p (call.PhymemPageRdmd page) w = λ a. (refl, refl, tt)
+free_row o p call.PhymemCacheWb w = (refl, refl, tt)
+free_row o p (call.PhymemPageReclaim tdr page) w = λ a b. (refl, refl, λ d e. free_reclaim w tdr page (page == tdr) refl)
+free_row o p (call.MngCreate tdr hkid) w = λ a b. (refl, refl, λ d. (refl, refl, λ e. tt))
+free_row o p (call.MngKeyConfig tdr) w = λ a. (refl, refl, λ b d. tt)
+free_row o p (call.MngAddcx tdr page) w = λ a b apart. (refl, refl, λ d e f. let n : (tdr == page) ≡ false = other_page page tdr apart in (rw n refl, refl, λ g. tt))
+free_row o p (call.MngInit tdr) w = λ a. (refl, refl, λ b d e. (refl, refl, λ f. tt))
+free_row o p (call.MngRd tdr f) w = λ a. free_read w tdr f
+free_row o p (call.MngVpflushdone tdr) w = λ a. (refl, refl, λ b d e. (refl, refl, tt))
+free_row o p (call.MngKeyFreeid tdr) w = λ a. (refl, refl, λ b d. (refl, refl, λ e. tt))
+free_row o p (call.MrFinalize tdr) w = λ a. (refl, refl, λ b d e. (refl, refl, λ f g. tt))
+free_row o p (call.VpCreate tdr page) w = λ a b apart. (refl, refl, λ d e f. (refl, refl, λ g h. let n : (tdr == page) ≡ false = other_page page tdr apart in (refl, rw n refl, λ i. tt)))
+free_row o p (call.VpInit tdr vp v) w = λ a b apart. (refl, refl, λ d e f. (refl, refl, λ g. let n : (tdr == vp) ≡ false = other_page vp tdr apart in (refl, rw n refl, λ h i. tt)))
 
-tries_row : (o : Opening) (p : ℕ) (c : Call) (w : World) → tries_in ((row_of o p c).items w) ≤ most_tries c
-tries_row o p (call.HostRead page word) w = omega arith
-tries_row o p (call.HostWrite page word value) w = omega arith
-tries_row o p (call.PhymemPageRdmd page) w = omega arith
-tries_row o p (call.MngCreate tdr hkid) w = omega arith
-
-module _ (o : Opening) (p : ℕ) (before : ℕ → Lp) (quiet : (q : ℕ) → q ≢ p → Quiet (before q)) where
+module _ (tries : RowsTryFew) (o : Opening) (p : ℕ) (before : ℕ → Lp) (quiet : (q : ℕ) → q ≢ p → Quiet (before q)) where
   -- the world and its own record; the others' are as before
   pub record At (s : State) (w : World) (lp : Lp) : Type 0 where
     pub world : s.world ≡ w
@@ -166,7 +188,7 @@ module _ (o : Opening) (p : ℕ) (before : ℕ → Lp) (quiet : (q : ℕ) → q 
       step s w (row.act w) (lp_of Trying hs rs) (lp_of Trying [] (rs ++ Done (row.value w) ∷ [])) c cs (OfCall row Succeeds) false (length hs + 0)
       at line (ap (OfCall row) (passes (length hs) 0 (omega arith))) refl
       (λ t at'. later (length hs) (length hs + 0) t _ _ (omega arith) (back (row.act w) c cs rs (Done (row.value w)) line hs t (subst (At t (row.act w)) done at')))
-  through w c cs rs line (Check true r ∷ items) hs s at free passes = through w c cs rs line items hs s at free passes
+  through w c cs rs line (Check true r ∷ items) hs s at free passes = through w c cs rs line items hs s at (free refl) passes
   through w c cs rs line (Check false r ∷ items) hs s at free passes =
       step s w w (lp_of Trying hs rs) (lp_of Trying [] (rs ++ r ∷ [])) c cs (OfCall (row_of o p c) (Refuses r)) false (length hs + 2 * tries_in items)
       at line (ap (OfCall (row_of o p c)) (passes (length hs) 0 (omega arith))) refl
@@ -188,7 +210,7 @@ module _ (o : Opening) (p : ℕ) (before : ℕ → Lp) (quiet : (q : ℕ) → q 
       let r : Reply = row_reply row w in
       let one : length (rs ++ r ∷ []) ≡ suc (length rs) = omega (arith, length-append rs (r ∷ [])) in
       more (most_events c) (events_in cs) s (row_world row w) _ (lp_of Trying [] (rs ++ r ∷ [])) _
-      (later (suc (0 + 2 * tries_in (row.items w))) (most_events c) s _ _ (omega (arith, tries_row o p c w))
+      (later (suc (0 + 2 * tries_in (row.items w))) (most_events c) s _ _ (omega (arith, tries o p c w))
       (through w c cs rs line (row.items w) [] s at (free_row o p c w) (λ a k e. ap (next (row.items w)) (omega arith))))
       (λ t at'. subst (λ x. Comes (events_in cs) t (world_of o p (row_world row w) cs) (lp_of Trying [] x)) (append_assoc rs (r ∷ []) (replies_of o p (row_world row w) cs))
       (finish cs (row_world row w) (rs ++ r ∷ []) t (ap (λ k. drop k (calls_of o.calls p)) one ∙ drop_next (length rs) (calls_of o.calls p) c cs line) at'))
@@ -226,16 +248,16 @@ quiet_out : (rs : List Reply) → Quiet (lp_of Trying [] rs)
 quiet_out rs = record { alone = λ l. refl; shared = λ l. refl; refused = λ l. refl }
 
 -- from processor p on
-each : (o : Opening) (css : List (List Call)) (p : ℕ) (w : World) (s : State) → s.world ≡ w → ((q : ℕ) → Quiet (s.lps q)) → ((q : ℕ) → p ≤ q → s.lps q ≡ idle)
+each : (tries : RowsTryFew) (o : Opening) (css : List (List Call)) (p : ℕ) (w : World) (s : State) → s.world ≡ w → ((q : ℕ) → Quiet (s.lps q)) → ((q : ℕ) → p ≤ q → s.lps q ≡ idle)
     → ((i : ℕ) → calls_of o.calls (p + i) ≡ calls_of css i)
     → (lines_from (length css) p (play o (to_the_end p css) s).lps ≡ lines_at_once o p w css) × ((q : ℕ) → q < p → (play o (to_the_end p css) s).lps q ≡ s.lps q)
-each o [] p w s world quiet fresh calls = (refl, λ q h. refl)
-each o (cs ∷ css) p w s world quiet fresh calls =
+each tries o [] p w s world quiet fresh calls = (refl, λ q h. refl)
+each tries o (cs ∷ css) p w s world quiet fresh calls =
     let out : (q : ℕ) → q ≢ p → Quiet (s.lps q) = λ q ne. quiet q in
     let mine : calls_of o.calls p ≡ cs = let e : p ≡ p + 0 = omega arith in ap (calls_of o.calls) e ∙ calls 0 in
-    let at = to_its_end o p s.lps out cs w s mine (record { world = world; own = fresh p (omega arith); others = λ q ne. refl }) in
+    let at = to_its_end tries o p s.lps out cs w s mine (record { world = world; own = fresh p (omega arith); others = λ q ne. refl }) in
     let t = play o (replicate (events_in cs) p) s in
-    let rest = each o css (suc p) (world_of o p w cs) t at.world
+    let rest = each tries o css (suc p) (world_of o p w cs) t at.world
     (λ q. elim (eqb_tells q p) [
       | inl x ↦ subst Quiet (sym (ap t.lps x.1 ∙ at.own)) (quiet_out (replies_of o p w cs))
       | inr x ↦ subst Quiet (sym (at.others q x.1)) (quiet q)
@@ -263,12 +285,12 @@ same_count o (p ∷ ps) s = same_count o ps (event o s p) ∙ by (next_event o s
     by None = refl
     by (Some e) = refl
 
-pub each_call_at_once : EachCallAtOnce
+pub each_call_at_once : RowsTryFew → EachCallAtOnce
 unfolding host_text text_of
-each_call_at_once o =
+each_call_at_once tries o =
     let end = to_the_end 0 o.calls in
     let s = start o None in
     ap (λ (n : ℕ). concat (lines_from n 0 (play o end s).lps)) (same_count o end s)
     ∙ ap (λ (x : List (List ℕ)). concat x)
-    ((each o o.calls 0 (first_world o.machine.pages None) s refl (λ q. quiet_out []) (λ q h. refl)
+    ((each tries o o.calls 0 (first_world o.machine.pages None) s refl (λ q. quiet_out []) (λ q h. refl)
     (λ i. let e : 0 + i ≡ i = omega arith in ap (calls_of o.calls) e)).0)

@@ -9,4 +9,6 @@ ghost use Rattle.flat_alone.specs.Whole.{EachCallAtOnce};
 /// A run without a schedule prints the replies of its calls, each done at once, one after another.
 pub fn in_number_order()
     ensures { EachCallAtOnce }
-{}
+{
+    flat_core::end_laws();
+}

@@ -1,22 +1,37 @@
 -- Each row asks and answers the same in two worlds that differ in private words alone, and keeps them so.
-use Rattle.std.proofs.Common.{◌≡◌, refl, sym, ◌∙◌, subst, ap, ℕ, Bool, true, false, not, ◌==◌, ◌&&◌, ◌||◌, if◌then◌else◌}
+use Rattle.std.proofs.Common.{◌≡◌, refl, sym, ◌∙◌, subst, ap, ℕ, List, [], ◌∷◌, ◌++◌, length, Bool, true, false, not, ◌==◌, ◌&&◌, ◌||◌, if◌then◌else◌}
+use Rattle.std.specs.Prelude.{None}
+use Rattle.std.specs.List.{list_any}
+use Rattle.sha2.specs.Sha512.{sha384}
+use Rattle.std.proofs.lemmas.Bool.{eqb-true}
+use Rattle.td_words.specs.declared.names.PageKind.{PageKind}
 use Rattle.td_words.specs.declared.names.PageKind.TheVariants as kind
+use Rattle.td_words.specs.declared.names.LifeState.TheVariants as life
+use Rattle.td_words.specs.declared.names.OpState.{OpState}
+use Rattle.td_words.specs.declared.names.OpState.TheVariants as op
+use Rattle.td_words.specs.declared.names.VcpuState.TheVariants as vcpu
+use Rattle.td_words.specs.declared.names.ReadField.{ReadField}
+use Rattle.td_words.specs.declared.names.ReadField.TheVariants as field
 use Rattle.td_words.specs.declared.machines.Machine.{Machine}
 use Rattle.td_words.specs.declared.calls.Call.{Call}
 use Rattle.td_words.specs.declared.calls.Call.TheVariants as call
 use Rattle.td_words.specs.declared.replies.Value.TheVariants as value
-use Rattle.td_words.specs.Packing.{AssignedTo}
-use Rattle.flat_core.specs.World.{World, Pages, Tds, KeyTable, put}
+use Rattle.td_words.specs.NameNumber.{op_number}
+use Rattle.td_words.specs.Packing.{Key, Unassigned, AssignedTo, FlushedOf}
+use Rattle.flat_core.specs.World.{World, Pages, Tds, Vps, KeyTable, Hidden, put}
 use Rattle.flat_core.specs.Opening.{Opening, Agree}
 use Rattle.flat_core.specs.Row.{Row}
+use Rattle.flat_core.specs.Digests.{digest_word}
 use Rattle.flat_core.specs.Conditions.{same_kind, is_host_in}
-use Rattle.flat_core.specs.Effects.{new_td}
+use Rattle.flat_core.specs.Effects.{new_td, take_node, take_page, clear_page, give_back, end_memory_in, set_key, set_life, set_op, add_vp, set_vp_state, set_register, end_measurement, set_epoch, written_back}
 use Rattle.flat_core.specs.HostRows.{host_read, host_write, read_metadata}
-use Rattle.flat_core.specs.TdRows.{create}
+use Rattle.flat_core.specs.TdRows.{create, configure_key, add_tdcx, initialize, read_conditions, field_value, read_td, finalize}
+use Rattle.flat_core.specs.KeyRows.{write_caches_back, reclaim_conditions, reclaim_page, end_flush, free_hkid}
+use Rattle.flat_core.specs.VpRows.{create_vp, initialize_vp}
 use Rattle.flat_core.specs.Table.{row_of}
 use Rattle.flat_core.specs.Lawful.{LawfulPages}
 use Rattle.flat_core.specs.Alike.{Alike, AreBlind, is_public, is_being_built}
-use Rattle.flat_core.proofs.Keeps.{by_test, host_kind}
+use Rattle.flat_core.proofs.Tests.{by_test, host_kind}
 
 -- a host page's words are public
 host_public : (pages : Pages) (tds : Tds) (p : ℕ) → is_host_in pages p ≡ true → is_public pages tds p ≡ true
@@ -29,6 +44,129 @@ read_alike v w page i a =
     by_test (is_host_in v.pages page)
     (λ y. rw (y, sym same ∙ y) (ap (λ (x : ℕ). value.Number x) (a.words page i (host_public v.pages v.tds page y))))
     (λ y. rw (y, sym same ∙ y) refl)
+
+-- words that acts are written in keep two worlds alike
+
+module _ (v w : World) (a : Alike v w) where
+  -- facts of TDs, which leave operation states
+  pub tds_alike : (f : Tds → Tds) → ((x : Tds) → (f x).ops ≡ x.ops) → Alike (record v { tds = f v.tds }) (record w { tds = f w.tds })
+  tds_alike f ops = record {
+    size = a.size;
+    pages = a.pages;
+    words = λ p i known. a.words p i (subst (λ (o : ℕ → OpState). (not (same_kind (v.pages.kinds p) kind.Reg) || is_being_built (o (v.pages.owners p))) ≡ true) (ops v.tds) known);
+    tds = ap f a.tds;
+    vps = a.vps;
+    streams = a.streams;
+    key_table = a.key_table;
+    told = a.told;
+    bundles = a.bundles;
+  }
+
+  -- an operation state, in which no page's words become public
+  pub op_alike : (t : ℕ) (s : OpState) → (is_being_built s ≡ true → is_being_built (v.tds.ops t) ≡ true) → Alike (set_op t s v) (set_op t s w)
+  op_alike t s built = record {
+    size = a.size;
+    pages = a.pages;
+    words = λ p i known. a.words p i (by_test (same_kind (v.pages.kinds p) kind.Reg)
+        (λ y. by_test (v.pages.owners p == t)
+        (λ z. let here : v.pages.owners p ≡ t = eqb-true _ t z in let now : is_being_built s ≡ true = rw (y, z) at known in rw (y, here) (built now))
+        (λ n. rw n at known))
+        (λ n. rw n refl));
+    tds = ap (λ (x : Tds). record x { ops = put x.ops t s }) a.tds;
+    vps = a.vps;
+    streams = a.streams;
+    key_table = a.key_table;
+    told = a.told;
+    bundles = a.bundles;
+  }
+
+  pub keys_alike : (f g : ℕ → Key) → f ≡ g → Alike (record v { key_table = record (v.key_table) { keys = f } }) (record w { key_table = record (w.key_table) { keys = g } })
+  keys_alike f g e = record {
+    size = a.size;
+    pages = a.pages;
+    words = a.words;
+    tds = a.tds;
+    vps = a.vps;
+    streams = a.streams;
+    key_table = ap (λ (x : KeyTable). record x { keys = f }) a.key_table ∙ ap (λ (x : ℕ → Key). record (w.key_table) { keys = x }) e;
+    told = a.told;
+    bundles = a.bundles;
+  }
+
+  pub key_alike : (h i : ℕ) (k : Key) → h ≡ i → Alike (set_key h k v) (set_key i k w)
+  key_alike h i k e = keys_alike (put v.key_table.keys h k) (put w.key_table.keys i k) (ap (λ (x : KeyTable). put x.keys h k) a.key_table ∙ ap (λ (x : ℕ). put w.key_table.keys x k) e)
+
+  -- virtual processors, and what is private
+  pub vps_alike : (f g : Vps) → f ≡ g → Alike (record v { vps = f }) (record w { vps = g })
+  vps_alike f g e = record { size = a.size; pages = a.pages; words = a.words; tds = a.tds; vps = e; streams = a.streams; key_table = a.key_table; told = a.told; bundles = a.bundles }
+
+  pub hidden_alike : (f g : Hidden) → Alike (record v { hidden = f }) (record w { hidden = g })
+  hidden_alike f g = record { size = a.size; pages = a.pages; words = a.words; tds = a.tds; vps = a.vps; streams = a.streams; key_table = a.key_table; told = a.told; bundles = a.bundles }
+
+  -- a host page that is taken, a page that is cleared, and one that is given back
+  pub taken_alike : (p : ℕ) (k : PageKind) (t level number : ℕ) → v.pages.kinds p ≡ kind.Nda → Alike (take_node p k t level number v) (take_node p k t level number w)
+  taken_alike p k t level number host = record {
+    size = a.size;
+    pages = ap (λ (x : Pages). record { kinds = put x.kinds p k; owners = put x.owners p t; blocked = put x.blocked p 0; levels = put x.levels p level; numbers = put x.numbers p number }) a.pages;
+    words = λ q i known. a.words q i (by_test (q == p)
+        (λ y. host_public v.pages v.tds q (let here : q ≡ p = eqb-true q p y in rw (here, host) refl))
+        (λ n. rw n at known));
+    tds = a.tds;
+    vps = a.vps;
+    streams = a.streams;
+    key_table = a.key_table;
+    told = a.told;
+    bundles = a.bundles;
+  }
+
+  pub cleared_alike : (p : ℕ) → Alike (clear_page p v) (clear_page p w)
+  cleared_alike p = record {
+    size = a.size;
+    pages = a.pages;
+    words = λ q i known. by_test (q == p) (λ y. rw y refl) (λ n. rw n (a.words q i known));
+    tds = a.tds;
+    vps = a.vps;
+    streams = a.streams;
+    key_table = a.key_table;
+    told = a.told;
+    bundles = a.bundles;
+  }
+
+  pub left_alike : (p : ℕ) → Alike (give_back p v) (give_back p w)
+  left_alike p = record {
+    size = a.size;
+    pages = ap (λ (x : Pages). record { kinds = put x.kinds p kind.Nda; owners = put x.owners p 0; blocked = put x.blocked p 0; levels = put x.levels p 0; numbers = put x.numbers p 0 }) a.pages;
+    words = λ q i known. by_test (q == p) (λ y. rw y refl) (λ n. rw n (a.words q i (rw n at known)));
+    tds = a.tds;
+    vps = a.vps;
+    streams = a.streams;
+    key_table = a.key_table;
+    told = a.told;
+    bundles = a.bundles;
+  }
+
+-- a TDVPR page that is added
+abbrev with_vp : Vps → ℕ → List ℕ → Vps
+with_vp x p vs = record {
+  indexes = put x.indexes p (length vs);
+  states = put x.states p vcpu.Created;
+  associated = put x.associated p None;
+  lasts = put x.lasts p 0;
+  positions = put x.positions p 0;
+  exported = put x.exported p 0;
+  entered = put x.entered p None;
+}
+
+added_alike : (v w : World) (t p : ℕ) → Alike v w → Alike (add_vp t p v) (add_vp t p w)
+added_alike v w t p a =
+    let f : Tds → Tds = λ x. record x { vps = put x.vps t (x.vps t ++ p ∷ []) } in
+    let v1 : World = record v { tds = f v.tds } in
+    let w1 : World = record w { tds = f w.tds } in
+    let a1 : Alike v1 w1 = tds_alike v w a f (λ x. refl) in
+    let v2 : World = record v1 { vps = with_vp v.vps p (v.tds.vps t) } in
+    let w2 : World = record w1 { vps = with_vp w.vps p (w.tds.vps t) } in
+    let a2 : Alike v2 w2 = vps_alike v1 w1 a1 _ _ (ap (λ (x : Vps). with_vp x p (v.tds.vps t)) a.vps ∙ ap (λ (x : Tds). with_vp w.vps p (x.vps t)) a.tds) in
+    hidden_alike v2 w2 a2 (add_vp t p v).hidden (add_vp t p w).hidden
 
 pub host_read-blind : (m : Machine) (page i : ℕ) → AreBlind m (host_read m page i) (host_read m page i)
 host_read-blind m page i = record {
@@ -67,6 +205,28 @@ read_metadata-blind m page = record {
   act = λ v w lv lw a ps. a;
 }
 
+pub write_caches_back-blind : (m : Machine) → AreBlind m write_caches_back write_caches_back
+write_caches_back-blind m = record {
+  enters = refl;
+  items = λ v w a. refl;
+  value = λ v w a. refl;
+  cached = λ v w ts a. refl;
+  act = λ v w lv lw a ps. keys_alike v w a _ _ (ap (λ (x : KeyTable). λ (h : ℕ). written_back (x.keys h)) a.key_table);
+}
+
+reclaim_alike : (v w : World) (t p : ℕ) (b : Bool) → Alike v w → reclaim_conditions v t p b ≡ reclaim_conditions w t p b
+reclaim_alike v w t p true a = rw (a.pages, a.size) refl
+reclaim_alike v w t p false a = rw a.pages refl
+
+pub reclaim_page-blind : (m : Machine) (t p : ℕ) → AreBlind m (reclaim_page m t p) (reclaim_page m t p)
+reclaim_page-blind m t p = record {
+  enters = refl;
+  items = λ v w a. rw (reclaim_alike v w t p (p == t) a, a.pages, a.tds) refl;
+  value = λ v w a. refl;
+  cached = λ v w ts a. refl;
+  act = λ v w lv lw a ps. left_alike (end_memory_in t p v) (end_memory_in t p w) (hidden_alike v w a (end_memory_in t p v).hidden (end_memory_in t p w).hidden) p;
+}
+
 -- a private page of another TD than the one that begins is as public as it was
 public_before : (count : ℕ) (pages : Pages) (tds : Tds) (t h p : ℕ) (v : World) → LawfulPages count pages → pages.kinds t ≡ kind.Nda → (b c : Bool) → is_host_in pages p ≡ b → (pages.owners p == t) ≡ c
     → (not (same_kind (pages.kinds p) kind.Reg) || is_being_built ((new_td t h (record v { tds = tds })).tds.ops (pages.owners p))) ≡ true → is_public pages tds p ≡ true
@@ -98,6 +258,128 @@ create-blind m t h = record {
       });
 }
 
+pub configure_key-blind : (m : Machine) (t : ℕ) → AreBlind m (configure_key m t) (configure_key m t)
+configure_key-blind m t = record {
+  enters = refl;
+  items = λ v w a. rw (a.pages, a.tds) refl;
+  value = λ v w a. refl;
+  cached = λ v w ts a. refl;
+  act = λ v w lv lw a ps. tds_alike v w a (λ x. record x { lives = put x.lives t life.KeysConfigured }) (λ x. refl);
+}
+
+pub add_tdcx-blind : (m : Machine) (t p : ℕ) → AreBlind m (add_tdcx m t p) (add_tdcx m t p)
+add_tdcx-blind m t p = record {
+  enters = refl;
+  items = λ v w a. rw (a.pages, a.tds) refl;
+  value = λ v w a. refl;
+  cached = λ v w ts a. refl;
+  act = λ v w lv lw a ps.
+      let v1 : World = take_page p kind.Tdcx t v in
+      let w1 : World = take_page p kind.Tdcx t w in
+      let a1 : Alike v1 w1 = taken_alike v w a p kind.Tdcx t 0 0 (host_kind _ ps.1.1.1.1.1.1.0) in
+      tds_alike (clear_page p v1) (clear_page p w1) (cleared_alike v1 w1 a1 p) (λ x. record x { controls = put x.controls t (x.controls t ++ p ∷ []) }) (λ x. refl);
+}
+
+-- until a TD is finished its pages' words are public
+is_new : (s : OpState) → list_any (λ a. op_number a == op_number s) (op.Uninitialized ∷ []) ≡ true → is_being_built s ≡ true
+is_new op.Uninitialized h = refl
+is_new op.Initialized h = refl
+is_new _ h = cc
+
+pub initialize-blind : (m : Machine) (t : ℕ) → AreBlind m (initialize m t) (initialize m t)
+initialize-blind m t = record {
+  enters = refl;
+  items = λ v w a. rw (a.pages, a.tds) refl;
+  value = λ v w a. refl;
+  cached = λ v w ts a. refl;
+  act = λ v w lv lw a ps.
+      let v1 : World = set_op t op.Initialized v in
+      let w1 : World = set_op t op.Initialized w in
+      let a1 : Alike v1 w1 = op_alike v w a t op.Initialized (λ h. is_new (v.tds.ops t) ps.1.1.1.1.0) in
+      let a2 : Alike (set_epoch t 1 v1) (set_epoch t 1 w1) = tds_alike v1 w1 a1 (λ x. record x { epochs = put x.epochs t 1 }) (λ x. refl) in
+      tds_alike (set_epoch t 1 v1) (set_epoch t 1 w1) a2 (λ x. record x { measured = put x.measured t [] }) (λ x. refl);
+}
+
+read_alike_items : (v w : World) (t : ℕ) (f : ReadField) → Alike v w → read_conditions v t f ≡ read_conditions w t f
+read_alike_items v w t field.Life a = rw a.pages refl
+read_alike_items v w t field.Op a = rw (a.pages, a.tds) refl
+read_alike_items v w t field.Epoch a = rw (a.pages, a.tds) refl
+read_alike_items v w t field.Mrtd a = rw (a.pages, a.tds) refl
+
+read_alike_value : (v w : World) (t : ℕ) (f : ReadField) → Alike v w → field_value v t f ≡ field_value w t f
+read_alike_value v w t field.Life a = rw a.tds refl
+read_alike_value v w t field.Op a = rw a.tds refl
+read_alike_value v w t field.Epoch a = rw a.tds refl
+read_alike_value v w t field.Mrtd a = rw a.tds refl
+
+pub read_td-blind : (m : Machine) (t : ℕ) (f : ReadField) → AreBlind m (read_td m t f) (read_td m t f)
+read_td-blind m t f = record {
+  enters = refl;
+  items = λ v w a. rw (read_alike_items v w t f a) refl;
+  value = λ v w a. read_alike_value v w t f a;
+  cached = λ v w ts a. refl;
+  act = λ v w lv lw a ps. a;
+}
+
+pub finalize-blind : (m : Machine) (t : ℕ) → AreBlind m (finalize m t) (finalize m t)
+finalize-blind m t = record {
+  enters = refl;
+  items = λ v w a. rw (a.pages, a.tds, a.vps) refl;
+  value = λ v w a. refl;
+  cached = λ v w ts a. refl;
+  act = λ v w lv lw a ps.
+      op_alike (end_measurement t v) (end_measurement t w)
+      (tds_alike v w a (λ x. record x { mrtds = put x.mrtds t (digest_word (sha384 (x.measured t))) }) (λ x. refl)) t op.Runnable (λ h. cc);
+}
+
+pub end_flush-blind : (m : Machine) (t : ℕ) → AreBlind m (end_flush m t) (end_flush m t)
+end_flush-blind m t = record {
+  enters = refl;
+  items = λ v w a. rw (a.pages, a.tds, a.vps) refl;
+  value = λ v w a. refl;
+  cached = λ v w ts a. refl;
+  act = λ v w lv lw a ps.
+      key_alike (set_life t life.Blocked v) (set_life t life.Blocked w) (tds_alike v w a (λ x. record x { lives = put x.lives t life.Blocked }) (λ x. refl))
+      (v.tds.hkids t) (w.tds.hkids t) (FlushedOf t false) (ap (λ (x : Tds). x.hkids t) a.tds);
+}
+
+pub free_hkid-blind : (m : Machine) (t : ℕ) → AreBlind m (free_hkid m t) (free_hkid m t)
+free_hkid-blind m t = record {
+  enters = refl;
+  items = λ v w a. rw (a.pages, a.tds, a.key_table) refl;
+  value = λ v w a. refl;
+  cached = λ v w ts a. refl;
+  act = λ v w lv lw a ps.
+      key_alike (set_life t life.Teardown v) (set_life t life.Teardown w) (tds_alike v w a (λ x. record x { lives = put x.lives t life.Teardown }) (λ x. refl))
+      (v.tds.hkids t) (w.tds.hkids t) Unassigned (ap (λ (x : Tds). x.hkids t) a.tds);
+}
+
+pub create_vp-blind : (m : Machine) (t p : ℕ) → AreBlind m (create_vp m t p) (create_vp m t p)
+create_vp-blind m t p = record {
+  enters = refl;
+  items = λ v w a. rw (a.pages, a.tds) refl;
+  value = λ v w a. refl;
+  cached = λ v w ts a. refl;
+  act = λ v w lv lw a ps.
+      let v1 : World = take_page p kind.Tdvpr t v in
+      let w1 : World = take_page p kind.Tdvpr t w in
+      let a1 : Alike v1 w1 = taken_alike v w a p kind.Tdvpr t 0 0 (host_kind _ ps.1.1.1.1.1.1.1.1.0) in
+      added_alike (clear_page p v1) (clear_page p w1) t p (cleared_alike v1 w1 a1 p);
+}
+
+pub initialize_vp-blind : (m : Machine) (t vp x : ℕ) → AreBlind m (initialize_vp m t vp x) (initialize_vp m t vp x)
+initialize_vp-blind m t vp x = record {
+  enters = refl;
+  items = λ v w a. rw (a.pages, a.tds, a.vps) refl;
+  value = λ v w a. refl;
+  cached = λ v w ts a. refl;
+  act = λ v w lv lw a ps.
+      let v1 : World = set_vp_state vp vcpu.Ready v in
+      let w1 : World = set_vp_state vp vcpu.Ready w in
+      hidden_alike v1 w1 (vps_alike v w a v1.vps w1.vps (ap (λ (x : Vps). record x { states = put x.states vp vcpu.Ready }) a.vps))
+      (set_register vp 0 x v1).hidden (set_register vp 0 x w1).hidden;
+}
+
 -- rows of one machine
 blind_at : (o q : Opening) → o.machine ≡ q.machine → (r : Machine → Row) → AreBlind o.machine (r o.machine) (r o.machine) → AreBlind o.machine (r o.machine) (r q.machine)
 blind_at o q e r h = subst (λ (m : Machine). AreBlind o.machine (r o.machine) (r m)) e h
@@ -106,4 +388,15 @@ pub row-blind : (o q : Opening) → Agree o q → (me : ℕ) (c : Call) → AreB
 row-blind o q a me (call.HostRead page i) = blind_at o q a.machine (λ m. host_read m page i) (host_read-blind o.machine page i)
 row-blind o q a me (call.HostWrite page i v) = blind_at o q a.machine (λ m. host_write m page i v) (host_write-blind o.machine page i v)
 row-blind o q a me (call.PhymemPageRdmd page) = blind_at o q a.machine (λ m. read_metadata m page) (read_metadata-blind o.machine page)
+row-blind o q a me call.PhymemCacheWb = write_caches_back-blind o.machine
+row-blind o q a me (call.PhymemPageReclaim t p) = blind_at o q a.machine (λ m. reclaim_page m t p) (reclaim_page-blind o.machine t p)
 row-blind o q a me (call.MngCreate t h) = blind_at o q a.machine (λ m. create m t h) (create-blind o.machine t h)
+row-blind o q a me (call.MngKeyConfig t) = blind_at o q a.machine (λ m. configure_key m t) (configure_key-blind o.machine t)
+row-blind o q a me (call.MngAddcx t p) = blind_at o q a.machine (λ m. add_tdcx m t p) (add_tdcx-blind o.machine t p)
+row-blind o q a me (call.MngInit t) = blind_at o q a.machine (λ m. initialize m t) (initialize-blind o.machine t)
+row-blind o q a me (call.MngRd t f) = blind_at o q a.machine (λ m. read_td m t f) (read_td-blind o.machine t f)
+row-blind o q a me (call.MngVpflushdone t) = blind_at o q a.machine (λ m. end_flush m t) (end_flush-blind o.machine t)
+row-blind o q a me (call.MngKeyFreeid t) = blind_at o q a.machine (λ m. free_hkid m t) (free_hkid-blind o.machine t)
+row-blind o q a me (call.MrFinalize t) = blind_at o q a.machine (λ m. finalize m t) (finalize-blind o.machine t)
+row-blind o q a me (call.VpCreate t p) = blind_at o q a.machine (λ m. create_vp m t p) (create_vp-blind o.machine t p)
+row-blind o q a me (call.VpInit t vp x) = blind_at o q a.machine (λ m. initialize_vp m t vp x) (initialize_vp-blind o.machine t vp x)

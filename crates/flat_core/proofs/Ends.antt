@@ -5,18 +5,20 @@ use Rattle.td_words.specs.declared.names.Mode.{Mode}
 use Rattle.td_words.specs.declared.names.Mode.TheVariants.{Shared, Exclusive}
 use Rattle.td_words.specs.declared.calls.Call.{Call}
 use Rattle.td_words.specs.declared.calls.Call.TheVariants as call
+use Rattle.td_words.specs.declared.names.ReadField.TheVariants as field
 use Rattle.td_words.specs.declared.replies.Reply.{Reply}
 use Rattle.td_words.specs.declared.replies.Reply.TheVariants.{Done}
 use Rattle.flat_core.specs.World.{World, put}
 use Rattle.flat_core.specs.Processor.{LockId, Held, Phase, Trying, Undoing, Answered, Progress, Guest, Entering, Lp, idle, nothing_yet}
 use Rattle.flat_core.specs.Opening.{Opening}
 use Rattle.flat_core.specs.Row.{Item, Check, Try, Row, Move, Attempts, Refuses, Succeeds, next, next_in, tries_in}
+use Rattle.flat_core.specs.KeyRows.{reclaim_conditions}
 use Rattle.flat_core.specs.Table.{row_of, most_tries}
 use Rattle.flat_core.specs.Event.{State, Event, OfCall, start, next_event, event_for, line_event, lines_left, calls_of, event, after_event, lp_after, call_lp, succeeded, settled, settle, call_busy, is_granted}
 use Rattle.flat_core.specs.Run.{play, events_in, to_the_end}
 use Rattle.flat_core.specs.Bounds.{call_left, left_of, events_left, EventsRunOut, RunsEnd}
 use Rattle.flat_core.proofs.Induction.{event_keeps, play_keeps}
-use Rattle.flat_core.proofs.Keeps.{by_test}
+use Rattle.flat_core.proofs.Tests.{by_test}
 
 -- what holds of each move that a row may give
 pub next_is : {R : Type 0} (C : Move R → Type 0) (items : List (Item R)) (k : ℕ) → ((r : R) → C (Refuses r)) → C Succeeds → ((l : LockId) (m : Mode) → k < tries_in items → C (Attempts l m)) → C (next items k)
@@ -27,16 +29,20 @@ next_is C (Try l m ∷ items) zero refuses succeeds attempts = attempts l m (ome
 next_is C (Try l m ∷ items) (suc k) refuses succeeds attempts = next_is C items k refuses succeeds (λ l m h. attempts l m (omega arith))
 
 pub row_tries : (o : Opening) (me : ℕ) (c : Call) (w : World) → tries_in ((row_of o me c).items w) ≤ most_tries c
-row_tries o me (call.HostRead page i) w = omega arith
-row_tries o me (call.HostWrite page i v) w = omega arith
-row_tries o me (call.PhymemPageRdmd page) w = omega arith
-row_tries o me (call.MngCreate t h) w = omega arith
+row_tries o me (call.PhymemPageReclaim t page) w = reclaim_tries (page == t)
+  where
+    reclaim_tries : (b : Bool) → suc (tries_in (reclaim_conditions w t page b)) ≤ 2
+    reclaim_tries true = omega arith
+    reclaim_tries false = omega arith
+row_tries o me (call.MngRd t field.Life) w = omega arith
+row_tries o me (call.MngRd t field.Op) w = omega arith
+row_tries o me (call.MngRd t field.Epoch) w = omega arith
+row_tries o me (call.MngRd t field.Mrtd) w = omega arith
+row_tries o me _ w = omega arith
 
 pub row_enters : (o : Opening) (me : ℕ) (c : Call) → (row_of o me c).enters ≡ None
 row_enters o me (call.HostRead page i) = refl
-row_enters o me (call.HostWrite page i v) = refl
-row_enters o me (call.PhymemPageRdmd page) = refl
-row_enters o me (call.MngCreate t h) = refl
+row_enters o me _ = refl
 
 -- a call that is answered holds something, else it would be done
 abbrev pub IsUnderWay : Phase Reply → List Held → Type 0

@@ -1,105 +1,88 @@
 -- Each row's act keeps what every world keeps.
-use Rattle.std.proofs.Common.{lit<, lit≤, ◌≡◌, ◌≢◌, refl, sym, ◌∙◌, subst, ap, ℕ, suc, ◌<◌, ◌≤◌, List, [], ◌∷◌, Option, Some, None, Bool, true, false, ◌==◌, ◌&&◌, nat_lt, nat_le, arith}
-use Rattle.std.proofs.lemmas.Bool.{eq-eqb, eqb-true}
-use Rattle.std.proofs.lemmas.Bool.Decides.{nat_tests}
-use Rattle.td_words.specs.declared.names.PageKind.{PageKind}
+use Rattle.std.proofs.Common.{lit<, lit≤, ◌≡◌, refl, sym, ◌∙◌, subst, ap, ℕ, suc, ◌<◌, ◌≤◌, List, [], ◌∷◌, length, Option, Some, None, Bool, true, false, not, ◌==◌, arith}
+use Rattle.std.specs.List.{list_any}
+use Rattle.std.proofs.lemmas.Bool.{eqb-true}
 use Rattle.td_words.specs.declared.names.PageKind.TheVariants as kind
+use Rattle.td_words.specs.declared.names.LifeState.{LifeState}
+use Rattle.td_words.specs.declared.names.LifeState.TheVariants as life
+use Rattle.td_words.specs.declared.names.OpState.{OpState}
+use Rattle.td_words.specs.declared.names.OpState.TheVariants as op
+use Rattle.td_words.specs.declared.names.ReadField.{ReadField}
 use Rattle.td_words.specs.declared.machines.Machine.{Machine}
 use Rattle.td_words.specs.declared.calls.Call.{Call}
 use Rattle.td_words.specs.declared.calls.Call.TheVariants as call
+use Rattle.td_words.specs.NameNumber.{life_number}
 use Rattle.td_words.specs.Packing.{Key, Unassigned, AssignedTo, FlushedOf}
-use Rattle.flat_core.specs.World.{Pages, Tds, KeyTable, put, first_world}
+use Rattle.flat_core.specs.World.{World, Pages, Tds, KeyTable, put, first_world}
 use Rattle.flat_core.specs.Opening.{Opening}
-use Rattle.flat_core.specs.Conditions.{same_kind, is_host_in, is_free_key}
-use Rattle.flat_core.specs.Effects.{new_td}
+use Rattle.flat_core.specs.Row.{Passes}
+use Rattle.flat_core.specs.Conditions.{is_free_key, is_host, vp_limit}
+use Rattle.flat_core.specs.Effects.{new_td, clear_page, take_page, end_memory_in, set_life, set_op, set_epoch, end_measurement}
 use Rattle.flat_core.specs.HostRows.{host_read, host_write, read_metadata}
-use Rattle.flat_core.specs.TdRows.{create}
+use Rattle.flat_core.specs.TdRows.{create, configure_key, add_tdcx, initialize, read_td, finalize}
+use Rattle.flat_core.specs.KeyRows.{write_caches_back, reclaim_conditions, reclaim_page, end_flush, free_hkid}
+use Rattle.flat_core.specs.VpRows.{create_vp, initialize_vp}
 use Rattle.flat_core.specs.Table.{row_of}
-use Rattle.flat_core.specs.Lawful.{IsAlive, IsPageOf, IsNodeOf, AreControls, ArePagesOf, LawfulPages, LawfulTds, LawfulTree, LawfulKeys, Lawful, RowKeeps, is_free, key_owner}
-
-pub by_test : {A : Type 0} (b : Bool) → (b ≡ true → A) → (b ≡ false → A) → A
-by_test true t f = t refl
-by_test false t f = f refl
-
-pub host_kind : (k : PageKind) → same_kind k kind.Nda ≡ true → k ≡ kind.Nda
-host_kind kind.Nda h = refl
-host_kind _ h = cc
-
-pub kind_owned : (k : PageKind) → k ≢ kind.Nda → same_kind k kind.Nda ≡ false
-kind_owned kind.Nda h = absurd (h refl)
-kind_owned _ h = refl
-
-lt_of : (a b : ℕ) → nat_lt a b ≡ true → a < b
-lt_of a b h = grind (arith, nat_tests)
-
-range_of : (h n : ℕ) → (nat_le 1 h && nat_le h n) ≡ true → (1 ≤ h) × (h ≤ n)
-range_of h n e = (grind (arith, nat_tests), grind (arith, nat_tests))
-
-some_same : (a b : ℕ) → Some a ≡ Some b → a ≡ b
-some_same a b e = cc
-
-same_self : (n : ℕ) → (n == n) ≡ true
-same_self n = eq-eqb n n refl
-
--- a page that was the host's becomes a TDR page
-module _ (count : ℕ) (old : Pages) (t : ℕ) (host : old.kinds t ≡ kind.Nda) (lawful : LawfulPages count old) (small : t < count) where
-  abbrev new : Pages
-  new = record { kinds = put old.kinds t kind.Tdr; owners = put old.owners t t; blocked = put old.blocked t 0; levels = put old.levels t 0; numbers = put old.numbers t 0 }
-
-  -- another page is as it was
-  other : (p : ℕ) (k : PageKind) → old.kinds p ≡ k → k ≢ kind.Nda → (p == t) ≡ false
-  other p k e n = by_test (p == t) (λ y. absurd (n (sym e ∙ ap old.kinds (eqb-true p t y) ∙ host))) (λ y. y)
-
-  page_kept : (x p : ℕ) (k : PageKind) → k ≢ kind.Nda → IsPageOf old x p k → IsPageOf new x p k
-  page_kept x p k n h = let e = other p k h.kind n in record { kind = rw e h.kind; owner = rw e h.owner }
-
-  node_kept : (x p : ℕ) (k : PageKind) (l n : ℕ) → k ≢ kind.Nda → IsNodeOf old x p k l n → IsNodeOf new x p k l n
-  node_kept x p k l n ne h = let e = other p k h.page.kind ne in record { page = page_kept x p k ne h.page; level_is = rw e h.level_is; number_is = rw e h.number_is }
-
-  controls_kept : (x : ℕ) (cs : List ℕ) → AreControls old x cs → AreControls new x cs
-  controls_kept x [] h = tt
-  controls_kept x (c ∷ []) h = page_kept x c kind.Tdcx (λ e. cc) h
-  controls_kept x (c ∷ r ∷ []) h = (page_kept x c kind.Tdcx (λ e. cc) h.0, page_kept x r kind.Tdcx (λ e. cc) h.1, h.2)
-  controls_kept x (c ∷ r ∷ y ∷ cs) h = absurd h
-
-  pages_kept : (x : ℕ) (k : PageKind) (ps : List ℕ) → k ≢ kind.Nda → ArePagesOf old x k ps → ArePagesOf new x k ps
-  pages_kept x k [] n h = tt
-  pages_kept x k (p ∷ ps) n h = (page_kept x p k n h.0, pages_kept x k ps n h.1)
-
-  -- no page was owned by what is now a TDR page
-  unowned : (p : ℕ) (k : PageKind) → old.kinds p ≡ k → k ≢ kind.Nda → (old.owners p == t) ≡ false
-  unowned p k e n =
-      let owned : old.kinds (old.owners p) ≡ kind.Tdr = lawful.owner p (rw e (kind_owned k n)) in
-      other (old.owners p) kind.Tdr owned (λ e. cc)
-
-  new_owner : (p : ℕ) (b : Bool) → (p == t) ≡ b → is_host_in new p ≡ false → new.kinds (new.owners p) ≡ kind.Tdr
-  new_owner p true e h = rw (e, same_self t) refl
-  new_owner p false e h =
-      let owned : old.kinds (old.owners p) ≡ kind.Tdr = lawful.owner p (rw e at h) in
-      by_test (old.owners p == t) (λ y. rw (e, y) refl) (λ y. rw (e, y) owned)
-
-  new_pages : LawfulPages count new
-  new_pages = record {
-    tdr = λ x. by_test (x == t) (λ y h. rw y (sym (eqb-true x t y))) (λ y h. rw y (lawful.tdr x (rw y at h)));
-    owner = λ p h. new_owner p (p == t) refl h;
-    in_machine = λ p. by_test (p == t) (λ y h. subst (λ (x : ℕ). x < count) (sym (eqb-true p t y)) small) (λ y h. lawful.in_machine p (rw y at h));
-    host = λ p. by_test (p == t) (λ y h. absurd (let no : false ≡ true = rw y at h in cc)) (λ y h. rw (y) (lawful.host p (rw y at h)));
-    blocked = λ p. by_test (p == t) (λ y. rw y (lit< tt)) (λ y. rw y (lawful.blocked p));
-  }
+use Rattle.flat_core.specs.Lawful.{IsAlive, AreControls, ArePagesOf, LawfulPages, LawfulTds, LawfulTree, LawfulKeys, LawfulBeginnings, Lawful, RowKeeps, is_free, key_owner}
+use Rattle.flat_core.proofs.Tests.{by_test, host_kind, tdr_kind, lt_of, range_of, some_same, same_self, not_true, and_left, and_right}
+use Rattle.flat_core.proofs.Pages.{taken, other, taken_node, taken_controls, taken_list, unowned, taken_pages}
+use Rattle.flat_core.proofs.Parts.{IsLive, new_kept, key_kept, write_back_kept, life_kept, op_kept, epoch_kept, begin_kept, end_kept, control_kept, vp_kept, taken_kept, ended_kept, left_kept}
 
 pub host_read-keeps : (m : Machine) (page i : ℕ) → RowKeeps m (host_read m page i)
 host_read-keeps m page i = record { act = λ w l ps. l; to_tell = λ w. refl }
 
 pub host_write-keeps : (m : Machine) (page i v : ℕ) → RowKeeps m (host_write m page i v)
-host_write-keeps m page i v = record { act = λ w l ps. record { size = l.size; pages = l.pages; tds = l.tds; tree = l.tree; keys = l.keys }; to_tell = λ w. refl }
+host_write-keeps m page i v = record { act = λ w l ps. record { size = l.size; pages = l.pages; tds = l.tds; tree = l.tree; keys = l.keys; beginnings = l.beginnings }; to_tell = λ w. refl }
 
 pub read_metadata-keeps : (m : Machine) (page : ℕ) → RowKeeps m (read_metadata m page)
 read_metadata-keeps m page = record { act = λ w l ps. l; to_tell = λ w. refl }
 
--- and a TD begins there
-module _ (count : ℕ) (old : Pages) (tds : Tds) (table : KeyTable) (t h : ℕ) (host : old.kinds t ≡ kind.Nda) (lawful : LawfulPages count old) (small : t < count) (is_free_hkid : is_free_key (table.keys h) ≡ true) where
+pub write_caches_back-keeps : (m : Machine) → RowKeeps m write_caches_back
+write_caches_back-keeps m = record { act = λ w l ps. write_back_kept m w l; to_tell = λ w. refl }
+
+-- lives: one of those allowed isn't at its end; and one at its end
+live_of : (allowed : List LifeState) (s : LifeState) → list_any (λ a. life_number a == life_number life.Teardown) allowed ≡ false → list_any (λ a. life_number a == life_number s) allowed ≡ true → IsLive s
+live_of allowed life.HkidAssigned no_end among = refl
+live_of allowed life.KeysConfigured no_end among = refl
+live_of allowed life.Blocked no_end among = refl
+live_of allowed life.Teardown no_end among = cc
+
+ended_of : (s : LifeState) → list_any (λ a. life_number a == life_number s) (life.Teardown ∷ []) ≡ true → (life_number s == life_number life.Teardown) ≡ true
+ended_of life.Teardown among = refl
+ended_of life.HkidAssigned among = cc
+ended_of life.KeysConfigured among = cc
+ended_of life.Blocked among = cc
+
+-- PHYMEM.PAGE.RECLAIM
+reclaim_kept : (m : Machine) (w : World) (t p : ℕ) (b : Bool) → (p == t) ≡ b → Lawful m w → w.pages.kinds t ≡ kind.Tdr → (life_number (w.tds.lives t) == life_number life.Teardown) ≡ true
+    → Passes (reclaim_conditions w t p b) → Lawful m ((reclaim_page m t p).act w)
+reclaim_kept m w t p b e l root dead ps = by b e ps
+  where
+    w' : World
+    w' = end_memory_in t p w
+
+    l' : Lawful m w'
+    l' = record { size = l.size; pages = l.pages; tds = l.tds; tree = l.tree; keys = l.keys; beginnings = l.beginnings }
+
+    by : (b : Bool) → (p == t) ≡ b → Passes (reclaim_conditions w t p b) → Lawful m ((reclaim_page m t p).act w)
+    by true e ps =
+        let here : p ≡ t = eqb-true p t e in
+        let tdr : w.pages.kinds p ≡ kind.Tdr = rw here root in
+        left_kept m w' t p l' root dead (rw tdr refl) (l.pages.tdr p tdr ∙ here) (λ y. eqb-true _ 0 ps.0)
+    by false e ps =
+        left_kept m w' t p l' root dead (not_true (is_host w p) (and_left (not (is_host w p)) (w.pages.owners p == t) ps.0))
+        (eqb-true _ t (and_right (not (is_host w p)) (w.pages.owners p == t) ps.0)) (λ y. absurd (let no : true ≡ false = sym y ∙ e in cc))
+
+pub reclaim_page-keeps : (m : Machine) (t p : ℕ) → RowKeeps m (reclaim_page m t p)
+reclaim_page-keeps m t p = record {
+  act = λ w l ps. reclaim_kept m w t p (p == t) refl l (tdr_kind _ ps.1.1.0) (ended_of (w.tds.lives t) ps.1.1.1.0) ps.1.1.1.1;
+  to_tell = λ w. refl;
+}
+
+-- MNG.CREATE: a TD begins at a page that was the host's
+module _ (count : ℕ) (old : Pages) (tds : Tds) (table : KeyTable) (t h : ℕ) (host : old.kinds t ≡ kind.Nda) (lawful : LawfulPages count old) (is_free_hkid : is_free_key (table.keys h) ≡ true) where
   abbrev pages : Pages
-  pages = new count old t host lawful small
+  pages = taken count old t kind.Tdr t 0 0 host lawful
 
   abbrev begun : Tds
   begun = (new_td t h (record (first_world count None) { tds = tds })).tds
@@ -109,14 +92,15 @@ module _ (count : ℕ) (old : Pages) (tds : Tds) (table : KeyTable) (t h : ℕ) 
 
   new_tds : LawfulTds old tds → LawfulTds pages begun
   new_tds l = record {
-    controls = λ x a. by_test (x == t) (λ y. rw y tt) (λ y. rw y (controls_kept count old t host lawful small x (tds.controls x) (l.controls x (alive_before x y a))));
-    vps = λ x a. by_test (x == t) (λ y. rw y tt) (λ y. rw y (pages_kept count old t host lawful small x kind.Tdvpr (tds.vps x) (λ e. cc) (l.vps x (alive_before x y a))));
+    controls = λ x a. by_test (x == t) (λ y. rw y tt) (λ y. rw y (taken_controls count old t kind.Tdr t 0 0 host lawful x (tds.controls x) (l.controls x (alive_before x y a))));
+    vps = λ x a. by_test (x == t) (λ y. rw y tt) (λ y. rw y (taken_list count old t kind.Tdr t 0 0 host lawful x kind.Tdvpr (tds.vps x) (λ e. cc) (l.vps x (alive_before x y a))));
     vps_few = λ x. by_test (x == t) (λ y. rw y (lit≤ tt)) (λ y. rw y (l.vps_few x));
     vps_differ = λ x. by_test (x == t) (λ y. rw y refl) (λ y. rw y (l.vps_differ x));
+    vps_expected = λ x. by_test (x == t) (λ y. rw y (lit≤ tt)) (λ y. rw y (l.vps_expected x));
+    streams = λ x a. by_test (x == t) (λ y. rw y tt) (λ y. rw y (taken_list count old t kind.Tdr t 0 0 host lawful x kind.Migsc (tds.streams x) (λ e. cc) (l.streams x (alive_before x y a))));
     streams_few = λ x. by_test (x == t) (λ y. rw y (lit≤ tt)) (λ y. rw y (l.streams_few x));
     streams_differ = λ x. by_test (x == t) (λ y. rw y refl) (λ y. rw y (l.streams_differ x));
     epoch = λ x. by_test (x == t) (λ y. rw y (lit< tt)) (λ y. rw y (l.epoch x));
-    streams = λ x a. by_test (x == t) (λ y. rw y tt) (λ y. rw y (pages_kept count old t host lawful small x kind.Migsc (tds.streams x) (λ e. cc) (l.streams x (alive_before x y a))));
   }
 
   named_kept : LawfulTree old tds → (p : ℕ) → (p == t) ≡ false → (old.owners p == t) ≡ false → pages.kinds p ≡ kind.Ept → IsAlive pages begun (pages.owners p)
@@ -132,16 +116,16 @@ module _ (count : ℕ) (old : Pages) (tds : Tds) (table : KeyTable) (t h : ℕ) 
     entry = λ x k n. by_test (x == t) (λ y. rw y refl) (λ y. rw y (l.entry x k n));
     upper = λ x k n a. by_test (x == t)
         (λ y e. absurd (let no : true ≡ false = rw y at e in cc))
-        (λ y e. rw y (let u = l.upper x k n (alive_before x y a) (rw y at e) in (u.0, node_kept count old t host lawful small x _ kind.Ept (suc k) n (λ e. cc) u.1)));
+        (λ y e. rw y (let u = l.upper x k n (alive_before x y a) (rw y at e) in (u.0, taken_node count old t kind.Tdr t 0 0 host lawful x _ kind.Ept (suc k) n (λ e. cc) u.1)));
     leaf = λ x n a. by_test (x == t)
         (λ y e. absurd (let no : true ≡ false = rw y at e in cc))
-        (λ y e. rw y (let u = l.leaf x n (alive_before x y a) (rw y at e) in (u.0, node_kept count old t host lawful small x _ kind.Reg 0 n (λ e. cc) u.1)));
+        (λ y e. rw y (let u = l.leaf x n (alive_before x y a) (rw y at e) in (u.0, taken_node count old t kind.Tdr t 0 0 host lawful x _ kind.Reg 0 n (λ e. cc) u.1)));
     below = λ x k n few a. by_test (x == t)
         (λ y e. absurd (let no : true ≡ false = rw y at e in cc))
         (λ y e. rw y (l.below x k n few (alive_before x y a) (rw y at e)));
     named = λ p k a. by_test (p == t)
         (λ y. absurd (let no : kind.Tdr ≡ kind.Ept = rw y at k in cc))
-        (λ y. named_kept l p y (unowned count old t host lawful small p kind.Ept (rw y at k) (λ e. cc)) k a);
+        (λ y. named_kept l p y (unowned count old t kind.Tdr t 0 0 host lawful p kind.Ept (rw y at k) (λ e. cc)) k a);
   }
 
   taken_key : (k : Key) (x : ℕ) → is_free_key k ≡ true → key_owner k ≡ Some x → ⊥
@@ -178,6 +162,29 @@ module _ (count : ℕ) (old : Pages) (tds : Tds) (table : KeyTable) (t h : ℕ) 
         (λ z. rw (y, z) before)));
   }
 
+  -- it is new, whatever stood there before
+  new_beginnings : (rtmrs : ℕ → ℕ → ℕ) → LawfulBeginnings old tds rtmrs → LawfulBeginnings pages begun (put rtmrs t (λ i. 0))
+  new_beginnings rtmrs l = record {
+    is_new = λ x a n. by_test (x == t)
+        (λ y. record {
+          op = rw y refl;
+          epoch = rw y refl;
+          entries = λ k i. rw y refl;
+          vps = rw y refl;
+          vps_expected = rw y refl;
+          streams = rw y refl;
+          mrtd = λ k. rw y refl;
+          session = rw y refl;
+          mig_epoch = rw y refl;
+          td_exported = rw y refl;
+          vps_exported = rw y refl;
+          dirtied = rw y refl;
+          unrestored = rw y refl;
+          rtmr = λ k. rw y refl;
+        })
+        (λ y. new_kept tds begun rtmrs (put rtmrs t (λ i. 0)) x (rw y refl) (l.is_new x (alive_before x y a) (rw y at n)));
+  }
+
 pub create-keeps : (m : Machine) (t h : ℕ) → RowKeeps m (create m t h)
 create-keeps m t h = record {
   act = λ w l ps. (let host : w.pages.kinds t ≡ kind.Nda = host_kind _ ps.1.1.0 in
@@ -185,29 +192,128 @@ create-keeps m t h = record {
       let free_hkid : is_free_key (w.key_table.keys h) ≡ true = ps.1.1.1.0 in
       record {
         size = l.size;
-        pages = new_pages m.pages w.pages t host l.pages small;
-        tds = new_tds m.pages w.pages w.tds w.key_table t h host l.pages small free_hkid l.tds;
-        tree = new_tree m.pages w.pages w.tds w.key_table t h host l.pages small free_hkid l.tree;
-        keys = new_keys m.pages w.pages w.tds w.key_table t h host l.pages small free_hkid m.hkids (range_of h m.hkids ps.1.0) l.keys;
+        pages = taken_pages m.pages w.pages t kind.Tdr t 0 0 host l.pages small (λ e. cc) (λ e. refl) (rw (same_self t) refl);
+        tds = new_tds m.pages w.pages w.tds w.key_table t h host l.pages free_hkid l.tds;
+        tree = new_tree m.pages w.pages w.tds w.key_table t h host l.pages free_hkid l.tree;
+        keys = new_keys m.pages w.pages w.tds w.key_table t h host l.pages free_hkid m.hkids (range_of h m.hkids ps.1.0) l.keys;
+        beginnings = new_beginnings m.pages w.pages w.tds w.key_table t h host l.pages free_hkid w.hidden.rtmrs l.beginnings;
       });
   to_tell = λ w. refl;
 }
+
+pub configure_key-keeps : (m : Machine) (t : ℕ) → RowKeeps m (configure_key m t)
+configure_key-keeps m t = record {
+  act = λ w l ps. life_kept m w t life.KeysConfigured (live_of (life.HkidAssigned ∷ []) (w.tds.lives t) refl ps.1.1.0) refl l;
+  to_tell = λ w. refl;
+}
+
+-- a page that is taken and cleared
+cleared : (m : Machine) (p : ℕ) (w : World) → Lawful m w → Lawful m (clear_page p w)
+cleared m p w l = record { size = l.size; pages = l.pages; tds = l.tds; tree = l.tree; keys = l.keys; beginnings = l.beginnings }
+
+-- MNG.ADDCX
+pub add_tdcx-keeps : (m : Machine) (t p : ℕ) → RowKeeps m (add_tdcx m t p)
+add_tdcx-keeps m t p = record {
+  act = λ w l ps.
+      let host : w.pages.kinds p ≡ kind.Nda = host_kind _ ps.1.1.1.1.1.1.0 in
+      let root : w.pages.kinds t ≡ kind.Tdr = tdr_kind _ ps.1.1.1.0 in
+      let alive : IsAlive w.pages w.tds t = record { kind = root; life = live_of (life.KeysConfigured ∷ []) (w.tds.lives t) refl ps.1.1.1.1.0 } in
+      let w' : World = clear_page p (take_page p kind.Tdcx t w) in
+      let l' : Lawful m w' = cleared m p (take_page p kind.Tdcx t w) (taken_kept m w p kind.Tdcx t 0 0 host (lt_of p m.pages ps.1.0) l (λ e. cc) (λ e. cc) root (λ e. cc)) in
+      control_kept m w' t p l' (record { kind = rw (same_self p) refl; owner = rw (same_self p) refl }) ps.1.1.1.1.1.0
+      (λ c e. let its : AreControls w.pages t (c ∷ []) = subst (λ (cs : List ℕ). AreControls w.pages t cs) e (l.tds.controls t alive) in
+      other m.pages w.pages p kind.Tdcx t 0 0 host l.pages c kind.Tdcx its.kind (λ e. cc));
+  to_tell = λ w. refl;
+}
+
+pub initialize-keeps : (m : Machine) (t : ℕ) → RowKeeps m (initialize m t)
+initialize-keeps m t = record {
+  act = λ w l ps.
+      let built = ps.1.1.1.0 in
+      let w1 : World = set_op t op.Initialized w in
+      let l1 : Lawful m w1 = op_kept m w t built l op.Initialized in
+      let w2 : World = set_epoch t 1 w1 in
+      let l2 : Lawful m w2 = epoch_kept m w1 t built l1 1 (lit< tt) in
+      begin_kept m w2 t built l2;
+  to_tell = λ w. refl;
+}
+
+pub read_td-keeps : (m : Machine) (t : ℕ) (f : ReadField) → RowKeeps m (read_td m t f)
+read_td-keeps m t f = record { act = λ w l ps. l; to_tell = λ w. refl }
+
+pub finalize-keeps : (m : Machine) (t : ℕ) → RowKeeps m (finalize m t)
+finalize-keeps m t = record {
+  act = λ w l ps. op_kept m (end_measurement t w) t ps.1.1.1.0 (end_kept m w t ps.1.1.1.0 l) op.Runnable;
+  to_tell = λ w. refl;
+}
+
+pub end_flush-keeps : (m : Machine) (t : ℕ) → RowKeeps m (end_flush m t)
+end_flush-keeps m t = record {
+  act = λ w l ps.
+      let live : IsLive (w.tds.lives t) = live_of (life.HkidAssigned ∷ life.KeysConfigured ∷ []) (w.tds.lives t) refl ps.1.1.0 in
+      key_kept m (set_life t life.Blocked w) (w.tds.hkids t) (FlushedOf t false) (sym (l.keys.owner t (record { kind = tdr_kind _ ps.1.0; life = live }))) (life_kept m w t life.Blocked live refl l);
+  to_tell = λ w. refl;
+}
+
+pub free_hkid-keeps : (m : Machine) (t : ℕ) → RowKeeps m (free_hkid m t)
+free_hkid-keeps m t = record {
+  act = λ w l ps. ended_kept m w t (record { kind = tdr_kind _ ps.1.0; life = live_of (life.Blocked ∷ []) (w.tds.lives t) refl ps.1.1.0 }) l;
+  to_tell = λ w. refl;
+}
+
+-- VP.CREATE
+few_vps : (s : OpState) (expected : ℕ) → expected ≤ 8 → vp_limit s expected ≤ 8
+few_vps op.MemoryImport expected h = h
+few_vps _ expected h = lit≤ tt
+
+not_in_list : (m : Machine) (w : World) (t p : ℕ) → Lawful m w → w.pages.kinds p ≡ kind.Nda → (vs : List ℕ) → ArePagesOf w.pages t kind.Tdvpr vs → list_any (λ q. q == p) vs ≡ false
+not_in_list m w t p l host [] h = refl
+not_in_list m w t p l host (v ∷ vs) h = rw (other m.pages w.pages p kind.Tdvpr t 0 0 host l.pages v kind.Tdvpr h.0.kind (λ e. cc)) (not_in_list m w t p l host vs h.1)
+
+pub create_vp-keeps : (m : Machine) (t p : ℕ) → RowKeeps m (create_vp m t p)
+create_vp-keeps m t p = record {
+  act = λ w l ps.
+      let host : w.pages.kinds p ≡ kind.Nda = host_kind _ ps.1.1.1.1.1.1.1.1.0 in
+      let root : w.pages.kinds t ≡ kind.Tdr = tdr_kind _ ps.1.1.1.0 in
+      let alive : IsAlive w.pages w.tds t = record { kind = root; life = live_of (life.KeysConfigured ∷ []) (w.tds.lives t) refl ps.1.1.1.1.0 } in
+      let w' : World = clear_page p (take_page p kind.Tdvpr t w) in
+      let l' : Lawful m w' = cleared m p (take_page p kind.Tdvpr t w) (taken_kept m w p kind.Tdvpr t 0 0 host (lt_of p m.pages ps.1.0) l (λ e. cc) (λ e. cc) root (λ e. cc)) in
+      let room : length (w.tds.vps t) < vp_limit (w.tds.ops t) (w.tds.vps_expected t) = lt_of _ _ ps.1.1.1.1.1.1.1.0 in
+      let most : vp_limit (w.tds.ops t) (w.tds.vps_expected t) ≤ 8 = few_vps (w.tds.ops t) (w.tds.vps_expected t) (l.tds.vps_expected t) in
+      vp_kept m w' t p l' (record { kind = rw (same_self p) refl; owner = rw (same_self p) refl }) ps.1.1.1.1.1.0 (omega arith) (not_in_list m w t p l host (w.tds.vps t) (l.tds.vps t alive));
+  to_tell = λ w. refl;
+}
+
+pub initialize_vp-keeps : (m : Machine) (t v x : ℕ) → RowKeeps m (initialize_vp m t v x)
+initialize_vp-keeps m t v x = record { act = λ w l ps. record { size = l.size; pages = l.pages; tds = l.tds; tree = l.tree; keys = l.keys; beginnings = l.beginnings }; to_tell = λ w. refl }
 
 pub row-keeps : (o : Opening) (me : ℕ) (c : Call) → RowKeeps o.machine (row_of o me c)
 row-keeps o me (call.HostRead page i) = host_read-keeps o.machine page i
 row-keeps o me (call.HostWrite page i v) = host_write-keeps o.machine page i v
 row-keeps o me (call.PhymemPageRdmd page) = read_metadata-keeps o.machine page
+row-keeps o me call.PhymemCacheWb = write_caches_back-keeps o.machine
+row-keeps o me (call.PhymemPageReclaim t page) = reclaim_page-keeps o.machine t page
 row-keeps o me (call.MngCreate t h) = create-keeps o.machine t h
+row-keeps o me (call.MngKeyConfig t) = configure_key-keeps o.machine t
+row-keeps o me (call.MngAddcx t page) = add_tdcx-keeps o.machine t page
+row-keeps o me (call.MngInit t) = initialize-keeps o.machine t
+row-keeps o me (call.MngRd t f) = read_td-keeps o.machine t f
+row-keeps o me (call.MngVpflushdone t) = end_flush-keeps o.machine t
+row-keeps o me (call.MngKeyFreeid t) = free_hkid-keeps o.machine t
+row-keeps o me (call.MrFinalize t) = finalize-keeps o.machine t
+row-keeps o me (call.VpCreate t page) = create_vp-keeps o.machine t page
+row-keeps o me (call.VpInit t v x) = initialize_vp-keeps o.machine t v x
 
 pub first-lawful : (m : Machine) (words_to_tell : Option (List ℕ)) → Lawful m (first_world m.pages words_to_tell)
 first-lawful m ws = record {
   size = refl;
   pages = record { tdr = λ t h. cc; owner = λ p h. cc; in_machine = λ p h. cc; host = λ p h. (refl, refl); blocked = λ p. lit< tt };
-  tds = record { controls = λ t a. tt; vps = λ t a. tt; streams = λ t a. tt; vps_few = λ t. lit≤ tt; vps_differ = λ t. refl; streams_few = λ t. lit≤ tt; streams_differ = λ t. refl; epoch = λ t. lit< tt };
+  tds = record { controls = λ t a. tt; vps = λ t a. tt; streams = λ t a. tt; vps_few = λ t. lit≤ tt; vps_differ = λ t. refl; vps_expected = λ t. lit≤ tt; streams_few = λ t. lit≤ tt; streams_differ = λ t. refl; epoch = λ t. lit< tt };
   tree = record { entry = λ t l n. refl; upper = λ t l n a h. absurd (let no : true ≡ false = h in cc); leaf = λ t n a h. absurd (let no : true ≡ false = h in cc); below = λ t l n few a h. absurd (let no : true ≡ false = h in cc); named = λ p h a. cc };
   keys = record {
     in_range = λ t a. absurd (let no : kind.Nda ≡ kind.Tdr = a.kind in cc);
     owner = λ t a. absurd (let no : kind.Nda ≡ kind.Tdr = a.kind in cc);
     owned = λ h t e. absurd (let no : None ≡ Some t = e in cc);
   };
+  beginnings = record { is_new = λ t a n. absurd (let no : kind.Nda ≡ kind.Tdr = a.kind in cc) };
 }

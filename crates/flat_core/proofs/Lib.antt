@@ -1,7 +1,11 @@
 pub mod Worked
+pub mod Tests
+pub mod Pages
+pub mod Parts
 pub mod Induction
 pub mod Keeps
 pub mod Blind
+pub mod Mrtd
 pub mod Kept
 pub mod LockLaw
 pub mod Ends

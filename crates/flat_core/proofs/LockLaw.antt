@@ -17,7 +17,7 @@ use Rattle.flat_core.specs.Guest.{walk_level, walk_step, walked_on, goes_on, wal
 use Rattle.flat_core.specs.Event.{State, Event, OfCall, OfOperation, Walks, Reaches, Leaves, start, next_event, after_event, lp_after, call_lp, succeeded, settle, settled_guest, settle_operation, operation_guest, call_busy, operation_busy, is_granted}
 use Rattle.flat_core.specs.Laws.{IsSole, LocksExclude}
 use Rattle.flat_core.proofs.Induction.{play_keeps}
-use Rattle.flat_core.proofs.Keeps.{by_test}
+use Rattle.flat_core.proofs.Tests.{by_test}
 
 -- the lock that a granted try takes
 abbrev pub taken_if : Bool → LockId → Mode → List Held

@@ -16,7 +16,7 @@ use Rattle.flat_core.specs.Table.{row_of}
 use Rattle.flat_core.specs.Event.{State, Event, OfCall, OfOperation, Walks, Reaches, Leaves, next_event, event_for, line_event, lines_left, event, after_event, lp_after, call_lp, succeeded, settled, settle, is_granted}
 use Rattle.flat_core.specs.Run.{play}
 use Rattle.flat_core.specs.Laws.{IsQuiet, OwnEventsAreQuiet, RefusedCallsStay}
-use Rattle.flat_core.proofs.Keeps.{by_test}
+use Rattle.flat_core.proofs.Tests.{by_test}
 use Rattle.flat_core.proofs.Kept.{others_stay}
 use Rattle.flat_core.proofs.Ends.{next_is, row_enters}
 

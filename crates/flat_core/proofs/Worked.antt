@@ -17,4 +17,10 @@ examples = record {
   two_keys_1 = refl;
   held_page_0 = refl;
   held_page_1 = refl;
+  beginning_events = refl;
+  beginning_replies = refl;
+  tdcx_pages = refl;
+  virtual_processors = refl;
+  eight_processors = refl;
+  end_of_life = refl;
 }

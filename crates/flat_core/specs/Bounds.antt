@@ -1,12 +1,18 @@
 -- How many events a processor can still make at most.
-use Rattle.std.specs.Prelude.{◌≡◌, ℕ, ◌+◌, ◌-◌, ◌*◌, ◌<◌, List, [], ◌∷◌, length, Option, Some, None}
+use Rattle.std.specs.Prelude.{◌≡◌, ℕ, ◌+◌, ◌-◌, ◌*◌, ◌<◌, ◌≤◌, List, [], ◌∷◌, length, Option, Some, None}
 use Rattle.td_words.specs.declared.calls.Call.{Call}
 use Rattle.td_words.specs.declared.replies.Reply.{Reply}
 use Rattle.flat_core.specs.Processor.{Phase, Trying, Undoing, Answered, Lp}
 use Rattle.flat_core.specs.Opening.{Opening}
-use Rattle.flat_core.specs.Table.{most_tries}
+use Rattle.flat_core.specs.World.{World}
+use Rattle.flat_core.specs.Row.{tries_in}
+use Rattle.flat_core.specs.Table.{row_of, most_tries}
 use Rattle.flat_core.specs.Event.{State, Event, start, next_event, lines_left, event}
 use Rattle.flat_core.specs.Run.{play, run_telling, events_in}
+
+-- no row tries more locks than its call may, in any world
+abbrev pub RowsTryFew : Type 0
+RowsTryFew = (o : Opening) (me : ℕ) (c : Call) (w : World) → tries_in ((row_of o me c).items w) ≤ most_tries c
 
 -- a call that tries so many locks at most, and holds so many: the tries to come, the act, and the releases; or the undo
 -- and the releases

@@ -1,13 +1,18 @@
 -- Words that acts are written in: each changes one thing of the world, and all else stays.
-use Rattle.std.specs.Prelude.{ℕ, ◌+◌, List, [], ◌∷◌, ◌++◌, length, drop, Option, Some, None, option_map, ◌==◌, ◌&&◌, if◌then◌else◌}
+use Rattle.std.specs.Prelude.{ℕ, ◌+◌, List, [], ◌∷◌, ◌++◌, length, drop, Option, Some, None, option_map, Bool, true, false, ◌==◌, ◌&&◌, if◌then◌else◌}
+use Rattle.sha2.specs.Sha512.{sha384}
 use Rattle.td_words.specs.declared.names.PageKind.{PageKind}
 use Rattle.td_words.specs.declared.names.PageKind.TheVariants as kind
 use Rattle.td_words.specs.declared.names.LifeState.{LifeState}
 use Rattle.td_words.specs.declared.names.LifeState.TheVariants as life
 use Rattle.td_words.specs.declared.names.OpState.{OpState}
 use Rattle.td_words.specs.declared.names.OpState.TheVariants as op
-use Rattle.td_words.specs.Packing.{Entry, Key}
+use Rattle.td_words.specs.declared.names.VcpuState.{VcpuState}
+use Rattle.td_words.specs.declared.names.VcpuState.TheVariants as vcpu
+use Rattle.td_words.specs.Packing.{Entry, Key, FlushedOf}
 use Rattle.flat_core.specs.World.{World, Made, put, free_entry}
+use Rattle.flat_core.specs.Digests.{digest_word}
+use Rattle.flat_core.specs.Conditions.{same_kind}
 
 -- v at (i, j)
 abbrev pub put_in : {A : Type 0} → (ℕ → ℕ → A) → ℕ → ℕ → A → ℕ → ℕ → A
@@ -49,6 +54,14 @@ block_page t p w = record w { pages = record (w.pages) { blocked = put w.pages.b
 abbrev pub set_key : ℕ → Key → World → World
 set_key h k w = record w { key_table = record (w.key_table) { keys = put w.key_table.keys h k } }
 
+-- every flushed HKID is marked as written back
+abbrev pub written_back : Key → Key
+written_back (FlushedOf t b) = FlushedOf t true
+written_back k = k
+
+abbrev pub write_back : World → World
+write_back w = record w { key_table = record (w.key_table) { keys = λ h. written_back (w.key_table.keys h) } }
+
 abbrev pub set_life : ℕ → LifeState → World → World
 set_life t s w = record w { tds = record (w.tds) { lives = put w.tds.lives t s } }
 
@@ -60,6 +73,36 @@ set_epoch t e w = record w { tds = record (w.tds) { epochs = put w.tds.epochs t 
 
 abbrev pub set_entry : ℕ → ℕ → ℕ → Entry → World → World
 set_entry t level number e w = record w { tds = record (w.tds) { entries = put w.tds.entries t (put_in (w.tds.entries t) level number e) } }
+
+-- a page becomes the TD's next TDCX page
+abbrev pub add_control : ℕ → ℕ → World → World
+add_control t p w = record w { tds = record (w.tds) { controls = put w.tds.controls t (w.tds.controls t ++ p ∷ []) } }
+
+-- nothing is measured yet; and MRTD is the digest of what was
+abbrev pub begin_measurement : ℕ → World → World
+begin_measurement t w = record w { tds = record (w.tds) { measured = put w.tds.measured t [] } }
+
+abbrev pub end_measurement : ℕ → World → World
+end_measurement t w = record w { tds = record (w.tds) { mrtds = put w.tds.mrtds t (digest_word (sha384 (w.tds.measured t))) } }
+
+-- a page becomes the TDVPR page of the TD's next virtual processor
+abbrev pub add_vp : ℕ → ℕ → World → World
+add_vp t p w = record w {
+  tds = record (w.tds) { vps = put w.tds.vps t (w.tds.vps t ++ p ∷ []) };
+  vps = record {
+    indexes = put w.vps.indexes p (length (w.tds.vps t));
+    states = put w.vps.states p vcpu.Created;
+    associated = put w.vps.associated p None;
+    lasts = put w.vps.lasts p 0;
+    positions = put w.vps.positions p 0;
+    exported = put w.vps.exported p 0;
+    entered = put w.vps.entered p None;
+  };
+  hidden = record (w.hidden) { registers = put w.hidden.registers p (λ r. 0) };
+}
+
+abbrev pub set_vp_state : ℕ → VcpuState → World → World
+set_vp_state v s w = record w { vps = record (w.vps) { states = put w.vps.states v s } }
 
 -- a TD that begins, with its HKID: nothing is left of one that had this TDR page before
 abbrev pub new_td : ℕ → ℕ → World → World
@@ -97,6 +140,18 @@ begin_memory t g ws w = record w { hidden = record (w.hidden) { memories = put_i
 
 abbrev pub end_memory : ℕ → ℕ → World → World
 end_memory t g w = record w { hidden = record (w.hidden) { memories = put_in w.hidden.memories t g None } }
+
+-- where a page that is given back is a private page of the TD, its guest's memory there ends
+abbrev pub memory_unless : Bool → Option (ℕ → ℕ) → Option (ℕ → ℕ)
+memory_unless true m = None
+memory_unless false m = m
+
+abbrev pub end_memory_in : ℕ → ℕ → World → World
+end_memory_in t p w = record w {
+  hidden = record (w.hidden) {
+    memories = put_in w.hidden.memories t (w.pages.numbers p) (memory_unless (same_kind (w.pages.kinds p) kind.Reg) (w.hidden.memories t (w.pages.numbers p)));
+  };
+}
 
 abbrev pub stored_in : Option (ℕ → ℕ) → ℕ → ℕ → Option (ℕ → ℕ)
 stored_in None i v = None

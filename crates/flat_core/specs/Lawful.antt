@@ -5,12 +5,13 @@ use Rattle.std.specs.List.{list_any}
 use Rattle.td_words.specs.declared.names.PageKind.{PageKind}
 use Rattle.td_words.specs.declared.names.PageKind.TheVariants as kind
 use Rattle.td_words.specs.declared.names.LifeState.TheVariants as life
+use Rattle.td_words.specs.declared.names.OpState.TheVariants.{Uninitialized}
 use Rattle.td_words.specs.declared.names.EntryState.{EntryState}
 use Rattle.td_words.specs.declared.names.EntryState.TheVariants as entry
 use Rattle.td_words.specs.declared.machines.Machine.{Machine}
 use Rattle.td_words.specs.NameNumber.{life_number}
 use Rattle.td_words.specs.Packing.{is_lawful_entry, Key, Unassigned, AssignedTo, FlushedOf}
-use Rattle.flat_core.specs.World.{World, Pages, Tds, KeyTable}
+use Rattle.flat_core.specs.World.{World, Pages, Tds, KeyTable, free_entry}
 use Rattle.flat_core.specs.Row.{Row, Passes}
 use Rattle.flat_core.specs.Conditions.{is_host_in}
 
@@ -62,6 +63,7 @@ pub record LawfulTds (pages : Pages) (tds : Tds) : Type 0 where
   pub vps : (t : ℕ) → IsAlive pages tds t → ArePagesOf pages t kind.Tdvpr (tds.vps t)
   pub vps_few : (t : ℕ) → length (tds.vps t) ≤ 8
   pub vps_differ : (t : ℕ) → all_differ (tds.vps t) ≡ true
+  pub vps_expected : (t : ℕ) → tds.vps_expected t ≤ 8
   pub streams : (t : ℕ) → IsAlive pages tds t → ArePagesOf pages t kind.Migsc (tds.streams t)
   pub streams_few : (t : ℕ) → length (tds.streams t) ≤ 4
   pub streams_differ : (t : ℕ) → all_differ (tds.streams t) ≡ true
@@ -102,6 +104,27 @@ pub record LawfulKeys (count : ℕ) (pages : Pages) (tds : Tds) (table : KeyTabl
   pub owner : (t : ℕ) → IsAlive pages tds t → key_owner (table.keys (tds.hkids t)) ≡ Some t
   pub owned : (h t : ℕ) → key_owner (table.keys h) ≡ Some t → IsAlive pages tds t × (tds.hkids t ≡ h)
 
+-- a TD as MNG.CREATE begins it
+pub record IsNew (tds : Tds) (rtmrs : ℕ → ℕ → ℕ) (t : ℕ) : Type 0 where
+  pub op : tds.ops t ≡ Uninitialized
+  pub epoch : tds.epochs t ≡ 0
+  pub entries : (l n : ℕ) → tds.entries t l n ≡ free_entry
+  pub vps : tds.vps t ≡ []
+  pub vps_expected : tds.vps_expected t ≡ 0
+  pub streams : tds.streams t ≡ []
+  pub mrtd : (k : ℕ) → tds.mrtds t k ≡ 0
+  pub session : tds.sessions t ≡ 0
+  pub mig_epoch : tds.mig_epochs t ≡ 0
+  pub td_exported : tds.td_exported t ≡ 0
+  pub vps_exported : tds.vps_exported t ≡ 0
+  pub dirtied : tds.dirtied t ≡ 0
+  pub unrestored : tds.unrestored t ≡ 0
+  pub rtmr : (k : ℕ) → rtmrs t k ≡ 0
+
+-- nothing of what stands in TDCS or in the secure EPT has changed before the TD has its two TDCX pages
+pub record LawfulBeginnings (pages : Pages) (tds : Tds) (rtmrs : ℕ → ℕ → ℕ) : Type 0 where
+  pub is_new : (t : ℕ) → IsAlive pages tds t → (length (tds.controls t) == 2) ≡ false → IsNew tds rtmrs t
+
 -- what every world of a machine keeps
 pub record Lawful (m : Machine) (w : World) : Type 0 where
   pub size : w.size ≡ m.pages
@@ -109,6 +132,7 @@ pub record Lawful (m : Machine) (w : World) : Type 0 where
   pub tds : LawfulTds w.pages w.tds
   pub tree : LawfulTree w.pages w.tds
   pub keys : LawfulKeys m.hkids w.pages w.tds w.key_table
+  pub beginnings : LawfulBeginnings w.pages w.tds w.hidden.rtmrs
 
 -- a row whose act keeps it, where its conditions held; and the words to tell stay as they are
 pub record RowKeeps (m : Machine) (row : Row) : Type 0 where

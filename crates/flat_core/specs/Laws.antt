@@ -1,5 +1,9 @@
 -- Laws of the flat machine, for every opening and every schedule.
 use Rattle.std.specs.Prelude.{◌≡◌, ◌≢◌, ◌⊎◌, ℕ, ◌≤◌, List, [], ◌∷◌, ◌++◌, Option, None, IfSome}
+use Rattle.sha2.specs.Sha512.{sha384}
+use Rattle.td_words.specs.declared.machines.Machine.{Machine}
+use Rattle.td_words.specs.declared.names.ReadField.TheVariants.{Mrtd}
+use Rattle.td_words.specs.declared.replies.Value.TheVariants.{Digest}
 use Rattle.td_words.specs.declared.refusals.Status.{Status}
 use Rattle.td_words.specs.declared.replies.Reply.{Reply}
 use Rattle.td_words.specs.declared.replies.Reply.TheVariants.{Refused}
@@ -9,6 +13,7 @@ use Rattle.flat_core.specs.Processor.{LockId, Lp, nothing_yet}
 use Rattle.flat_core.specs.Locks.{holders, sharers}
 use Rattle.flat_core.specs.Opening.{Opening, Agree, blind}
 use Rattle.flat_core.specs.Row.{Succeeds}
+use Rattle.flat_core.specs.TdRows.{read_td, finalize}
 use Rattle.flat_core.specs.Table.{row_of}
 use Rattle.flat_core.specs.Event.{State, Event, OfCall, OfOperation, Reaches, Leaves, start, next_event, event, world_after}
 use Rattle.flat_core.specs.Run.{play, run, run_told, told_in}
@@ -22,6 +27,10 @@ RowsKeep = (o : Opening) (me : ℕ) (c : Call) → RowKeeps o.machine (row_of o 
 
 abbrev pub RowsAreBlind : Type 0
 RowsAreBlind = (o q : Opening) → Agree o q → (me : ℕ) (c : Call) → AreBlind o.machine (row_of o me c) (row_of q me c)
+
+-- once MR.FINALIZE has come, MNG.RD gives MRTD as the SHA-384 of the bytes that were measured
+abbrev pub MrtdIsTheDigest : Type 0
+MrtdIsTheDigest = (m : Machine) (w : World) (tdr : ℕ) → (read_td m tdr Mrtd).value ((finalize m tdr).act w) ≡ Digest (sha384 (w.tds.measured tdr))
 
 -- a state that a schedule leads to
 abbrev pub reached : Opening → Option (List ℕ) → List ℕ → State

@@ -7,10 +7,13 @@ pub mod Arguments
 pub mod Conditions
 pub mod Tree
 pub mod Tracking
+pub mod Digests
 pub mod Effects
 pub mod Translations
 pub mod HostRows
 pub mod TdRows
+pub mod KeyRows
+pub mod VpRows
 pub mod Table
 pub mod Guest
 pub mod Event

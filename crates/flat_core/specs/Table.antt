@@ -5,20 +5,44 @@ use Rattle.td_words.specs.declared.calls.Call.TheVariants as call
 use Rattle.flat_core.specs.Opening.{Opening}
 use Rattle.flat_core.specs.Row.{Row}
 use Rattle.flat_core.specs.HostRows.{host_read, host_write, read_metadata}
-use Rattle.flat_core.specs.TdRows.{create}
+use Rattle.flat_core.specs.TdRows.{create, configure_key, add_tdcx, initialize, read_td, finalize}
+use Rattle.flat_core.specs.KeyRows.{write_caches_back, reclaim_page, end_flush, free_hkid}
+use Rattle.flat_core.specs.VpRows.{create_vp, initialize_vp}
 
 abbrev pub row_of : Opening → ℕ → Call → Row
 row_of o me (call.HostRead page word) = host_read o.machine page word
 row_of o me (call.HostWrite page word value) = host_write o.machine page word value
 row_of o me (call.PhymemPageRdmd page) = read_metadata o.machine page
+row_of o me call.PhymemCacheWb = write_caches_back
+row_of o me (call.PhymemPageReclaim tdr page) = reclaim_page o.machine tdr page
 row_of o me (call.MngCreate tdr hkid) = create o.machine tdr hkid
+row_of o me (call.MngKeyConfig tdr) = configure_key o.machine tdr
+row_of o me (call.MngAddcx tdr page) = add_tdcx o.machine tdr page
+row_of o me (call.MngInit tdr) = initialize o.machine tdr
+row_of o me (call.MngRd tdr field) = read_td o.machine tdr field
+row_of o me (call.MngVpflushdone tdr) = end_flush o.machine tdr
+row_of o me (call.MngKeyFreeid tdr) = free_hkid o.machine tdr
+row_of o me (call.MrFinalize tdr) = finalize o.machine tdr
+row_of o me (call.VpCreate tdr page) = create_vp o.machine tdr page
+row_of o me (call.VpInit tdr vp value) = initialize_vp o.machine tdr vp value
 
 -- at most how many locks a call tries
 abbrev pub most_tries : Call → ℕ
 most_tries (call.HostRead page word) = 1
 most_tries (call.HostWrite page word value) = 1
 most_tries (call.PhymemPageRdmd page) = 1
+most_tries call.PhymemCacheWb = 1
+most_tries (call.PhymemPageReclaim tdr page) = 2
 most_tries (call.MngCreate tdr hkid) = 2
+most_tries (call.MngKeyConfig tdr) = 1
+most_tries (call.MngAddcx tdr page) = 2
+most_tries (call.MngInit tdr) = 2
+most_tries (call.MngRd tdr field) = 3
+most_tries (call.MngVpflushdone tdr) = 2
+most_tries (call.MngKeyFreeid tdr) = 2
+most_tries (call.MrFinalize tdr) = 2
+most_tries (call.VpCreate tdr page) = 3
+most_tries (call.VpInit tdr vp value) = 3
 
 -- its tries, its act, and the releases
 abbrev pub most_events : Call → ℕ

@@ -3,10 +3,15 @@
 use Rattle.std.specs.Prelude.{◌≡◌, ℕ, zero, suc, ◌+◌, List, [], ◌∷◌, ◌++◌, length, replicate, Option, Some, None}
 use Rattle.td_words.specs.declared.names.LockName.TheVariants as lock
 use Rattle.td_words.specs.declared.names.PageKind.TheVariants as kind
+use Rattle.td_words.specs.declared.names.LifeState.TheVariants as life
+use Rattle.td_words.specs.declared.names.OpState.TheVariants as op
+use Rattle.td_words.specs.declared.names.VcpuState.TheVariants as vcpu
+use Rattle.td_words.specs.declared.names.LimitName.TheVariants.{Vcpus}
+use Rattle.td_words.specs.declared.names.ReadField.TheVariants as field
 use Rattle.td_words.specs.declared.calls.Call.{Call}
-use Rattle.td_words.specs.declared.calls.Call.TheVariants.{HostRead, HostWrite, PhymemPageRdmd, MngCreate}
-use Rattle.td_words.specs.declared.refusals.Status.TheVariants.{OperandInvalid, OperandBusy, NotHost, PageMetadataIncorrect, HkidNotFree}
-use Rattle.td_words.specs.declared.replies.Value.TheVariants.{Nothing, Number, Page}
+use Rattle.td_words.specs.declared.calls.Call.TheVariants.{HostRead, HostWrite, PhymemPageRdmd, PhymemCacheWb, PhymemPageReclaim, MngCreate, MngKeyConfig, MngAddcx, MngInit, MngRd, MngVpflushdone, MngKeyFreeid, MrFinalize, VpCreate, VpInit}
+use Rattle.td_words.specs.declared.refusals.Status.TheVariants.{OperandInvalid, OperandBusy, NotHost, PageMetadataIncorrect, LifecycleStateIncorrect, OpStateIncorrect, HkidNotFree, TdcxNumIncorrect, VcpuStateIncorrect, PagesExist, Limit, CacheWbNotDone}
+use Rattle.td_words.specs.declared.replies.Value.TheVariants.{Nothing, Number, Life, Op, Page}
 use Rattle.td_words.specs.declared.replies.Reply.{Reply}
 use Rattle.td_words.specs.declared.replies.Reply.TheVariants.{Done, Refused}
 use Rattle.flat_core.specs.Opening.{Opening}
@@ -52,6 +57,17 @@ host_words = plain_opening 1 8 1 ((HostWrite 5 511 7 ∷ HostRead 5 511 ∷ Host
 abbrev pub one_tdr : Opening
 one_tdr = usual_opening ((MngCreate 1 1 ∷ HostRead 1 0 ∷ HostWrite 1 0 9 ∷ MngCreate 1 1 ∷ MngCreate 2 1 ∷ PhymemPageRdmd 1 ∷ []) ∷ [])
 
+-- what one processor's calls are answered
+abbrev pub answers_to : List Call → List Reply
+answers_to calls = replies_of (run (usual_opening (calls ∷ [])) []) 0
+
+-- the TD of TDR page 1 begins: HKID 1, TDCX pages 2 and 3
+abbrev pub beginning : List Call
+beginning = MngCreate 1 1 ∷ MngKeyConfig 1 ∷ MngAddcx 1 2 ∷ MngAddcx 1 3 ∷ MngInit 1 ∷ []
+
+abbrev pub five_successes : List Reply
+five_successes = replicate 5 success
+
 -- processor 2 is denied by processor 1, which is being refused
 abbrev pub being_refused : State
 being_refused = run (usual_opening ((MngCreate 1 1 ∷ []) ∷ (HostRead 1 0 ∷ []) ∷ (MngCreate 1 1 ∷ []) ∷ [])) (0 ∷ 1 ∷ replicate 4 0 ++ 2 ∷ 1 ∷ [])
@@ -81,3 +97,20 @@ pub record Examples : Type 0 where
   pub two_keys_1 : replies_of two_keys 1 ≡ Refused (OperandBusy lock.Keys) ∷ []
   pub held_page_0 : replies_of held_page 0 ≡ success ∷ []
   pub held_page_1 : replies_of held_page 1 ≡ Refused (OperandBusy (lock.Page 1)) ∷ []
+  -- a TD begins in 23 events; its life, operation state and epoch are read, and what its second TDCX page is
+  pub beginning_events : events_of beginning ≡ 23
+  pub beginning_replies : answers_to (beginning ++ MngRd 1 field.Life ∷ MngRd 1 field.Op ∷ MngRd 1 field.Epoch ∷ PhymemPageRdmd 3 ∷ MngRd 1 field.Mrtd ∷ [])
+      ≡ five_successes ++ Done (Life life.KeysConfigured) ∷ Done (Op op.Initialized) ∷ Done (Number 1) ∷ Done (Page kind.Tdcx 1 0) ∷ Refused (OpStateIncorrect op.Initialized) ∷ []
+  -- keys are configured once and first, and a page is one thing; a TD has two TDCX pages, no fewer and no more
+  pub tdcx_pages : answers_to (MngCreate 1 1 ∷ MngAddcx 1 2 ∷ MngKeyConfig 1 ∷ MngKeyConfig 1 ∷ MngAddcx 1 1 ∷ MngAddcx 1 2 ∷ MngAddcx 1 2 ∷ MngInit 1 ∷ MngAddcx 1 3 ∷ MngAddcx 1 4 ∷ MngInit 1 ∷ [])
+      ≡ success ∷ Refused (LifecycleStateIncorrect life.HkidAssigned) ∷ success ∷ Refused (LifecycleStateIncorrect life.KeysConfigured) ∷ Refused (OperandInvalid 2) ∷ success
+      ∷ Refused (PageMetadataIncorrect 2) ∷ Refused (TdcxNumIncorrect 1) ∷ success ∷ Refused (TdcxNumIncorrect 2) ∷ success ∷ []
+  -- a TD is finished once all its virtual processors are READY, and gets no more of them
+  pub virtual_processors : answers_to (beginning ++ VpCreate 1 4 ∷ MrFinalize 1 ∷ VpInit 1 4 0 ∷ VpInit 1 4 0 ∷ MrFinalize 1 ∷ VpCreate 1 5 ∷ MngRd 1 field.Op ∷ [])
+      ≡ five_successes ++ success ∷ Refused (VcpuStateIncorrect vcpu.Created) ∷ success ∷ Refused (VcpuStateIncorrect vcpu.Ready) ∷ success ∷ Refused (OpStateIncorrect op.Runnable) ∷ Done (Op op.Runnable) ∷ []
+  -- it has eight at most
+  pub eight_processors : answers_to (beginning ++ VpCreate 1 4 ∷ VpCreate 1 5 ∷ VpCreate 1 6 ∷ VpCreate 1 7 ∷ VpCreate 1 8 ∷ VpCreate 1 9 ∷ VpCreate 1 10 ∷ VpCreate 1 11 ∷ VpCreate 1 12 ∷ [])
+      ≡ five_successes ++ replicate 8 success ++ Refused (Limit Vcpus) ∷ []
+  -- a TD ends: its HKID is free after a write-back alone, and its TDR page is given back last
+  pub end_of_life : answers_to (beginning ++ MngVpflushdone 1 ∷ MngKeyFreeid 1 ∷ PhymemCacheWb ∷ MngKeyFreeid 1 ∷ PhymemPageReclaim 1 2 ∷ PhymemPageReclaim 1 1 ∷ PhymemPageReclaim 1 3 ∷ PhymemPageReclaim 1 1 ∷ PhymemPageRdmd 1 ∷ [])
+      ≡ five_successes ++ success ∷ Refused CacheWbNotDone ∷ success ∷ success ∷ success ∷ Refused (PagesExist 1) ∷ success ∷ success ∷ Done (Page kind.Nda 0 0) ∷ []

@@ -1,8 +1,8 @@
 //! Laws of the flat machine, as contracts of functions that do nothing.
 
 ghost use Rattle.flat_core.specs.Worked.{Examples};
-ghost use Rattle.flat_core.specs.Bounds.{EventsRunOut, RunsEnd};
-ghost use Rattle.flat_core.specs.Laws.{RowsKeep, RowsAreBlind, EveryWorldIsLawful, OthersStay, QuietEventsStay, NoWordsToTell, LocksExclude, BlindRunsPrintTheSame, RefusedCallsStay, EventsKeepLawful};
+ghost use Rattle.flat_core.specs.Bounds.{RowsTryFew, EventsRunOut, RunsEnd};
+ghost use Rattle.flat_core.specs.Laws.{RowsKeep, RowsAreBlind, MrtdIsTheDigest, EveryWorldIsLawful, OthersStay, QuietEventsStay, NoWordsToTell, LocksExclude, BlindRunsPrintTheSame, RefusedCallsStay, EventsKeepLawful};
 
 /// The worked examples: replies of small runs, and how many events they take.
 pub fn worked_examples()
@@ -10,10 +10,11 @@ pub fn worked_examples()
 {}
 
 /// The two facts beside each row: its act keeps what every world keeps, and it is blind to private
-/// words.
+/// words. And MRTD is read as the digest of what was measured.
 pub fn row_laws()
     ensures keep { RowsKeep }
     ensures blind { RowsAreBlind }
+    ensures mrtd { MrtdIsTheDigest }
 {}
 
 /// Each event keeps a world lawful, and every schedule leads to a lawful one: who owns which page, which pages a TD's entries name,
@@ -39,9 +40,11 @@ pub fn lock_law()
     ensures { LocksExclude }
 {}
 
-/// Every call ends after a number of its own events that the leaf table bounds, whatever the other
-/// processors do, and at the end of a run no processor has an event left.
+/// Every call tries as many locks as the leaf table says at most, and ends after a number of its own
+/// events that this bounds, whatever the other processors do; and at the end of a run no processor
+/// has an event left.
 pub fn end_laws()
+    ensures tries { RowsTryFew }
     ensures runs_out { EventsRunOut }
     ensures runs_end { RunsEnd }
 {}

@@ -19,7 +19,9 @@ pub fn lock_words_follow()
     ensures follow { LockWordsFollow }
     ensures start { StartFollows }
     ensures runs { RunsFollow }
-{}
+{
+    flat_core::end_laws();
+}
 
 /// Words that show a state still show it after a try, an undo or a release of any lock, which is
 /// one step on that lock's word.

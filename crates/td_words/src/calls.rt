@@ -1,5 +1,7 @@
 //! Call lines and guest operations, as far as they are built.
 
+use crate::names::ReadField;
+
 /// A host's call, with its arguments in order. Any number may stand as an argument: the call's row
 /// judges it.
 #[derive(Clone, Copy, Debug, PartialEq, Eq)]
@@ -7,7 +9,18 @@ pub enum Call {
     HostRead { page: u64, word: u64 },
     HostWrite { page: u64, word: u64, value: u64 },
     PhymemPageRdmd { page: u64 },
+    PhymemCacheWb,
+    PhymemPageReclaim { tdr: u64, page: u64 },
     MngCreate { tdr: u64, hkid: u64 },
+    MngKeyConfig { tdr: u64 },
+    MngAddcx { tdr: u64, page: u64 },
+    MngInit { tdr: u64 },
+    MngRd { tdr: u64, field: ReadField },
+    MngVpflushdone { tdr: u64 },
+    MngKeyFreeid { tdr: u64 },
+    MrFinalize { tdr: u64 },
+    VpCreate { tdr: u64, page: u64 },
+    VpInit { tdr: u64, vp: u64, value: u64 },
 }
 
 /// An operation of guest code. None is built yet.

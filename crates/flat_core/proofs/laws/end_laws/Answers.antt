@@ -1,5 +1,8 @@
-use Rattle.flat_core.proofs.Ends.{runs_out, runs_end}
+use Rattle.flat_core.proofs.Ends.{row_tries, runs_out, runs_end}
 use Rattle.flat_core.proofs.laws.end_laws.Goals as goal
+
+pub returns-clause-tries : goal.returns-clause-tries
+returns-clause-tries c = row_tries
 
 pub returns-clause-runs_out : goal.returns-clause-runs_out
 returns-clause-runs_out c = runs_out

@@ -1,5 +1,6 @@
 use Rattle.flat_core.proofs.Keeps.{row-keeps}
 use Rattle.flat_core.proofs.Blind.{row-blind}
+use Rattle.flat_core.proofs.Mrtd.{mrtd_is_the_digest}
 use Rattle.flat_core.proofs.laws.row_laws.Goals as goal
 
 pub returns-clause-keep : goal.returns-clause-keep
@@ -7,3 +8,6 @@ returns-clause-keep c = row-keeps
 
 pub returns-clause-blind : goal.returns-clause-blind
 returns-clause-blind c = row-blind
+
+pub returns-clause-mrtd : goal.returns-clause-mrtd
+returns-clause-mrtd c = mrtd_is_the_digest

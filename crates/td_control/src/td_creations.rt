@@ -1,8 +1,8 @@
 //! MNG.CREATE.
 
-use crate::host_accesses::says_host;
 use arrayvec::ArrayVec;
 use leaf_engine::{Leaf, Place, Plan, Planned, Stop, Told, Verdict, Write};
+use leaf_parts::says_host;
 use pamt_core::PamtWord;
 use step_core::WordStep;
 use td_words::places::{KEY_FIRST, KEY_LOCK, TDR_HKID};
@@ -22,7 +22,7 @@ pub struct Create {
 impl Create {
     ghost use Rattle.std.specs.Prelude.{◌≡◌};
     ghost use Rattle.leaf_engine.specs.Turns.{IsFresh};
-    ghost use Rattle.first_leaves.specs.TdTrees.{create_task};
+    ghost use Rattle.td_control.specs.CreationTrees.{create_task};
 
     /// The leaf of a call at a place.
     pub fn leaf(place: Place, tdr: u64, hkid: u64) -> Planned<Create>
@@ -34,8 +34,8 @@ impl Create {
 }
 
 impl Plan for Create {
-    ghost use Rattle.first_leaves.specs.TdTrees.{create_task};
-    ghost use Rattle.first_leaves.specs.TdMeanings.{create-means};
+    ghost use Rattle.td_control.specs.CreationTrees.{create_task};
+    ghost use Rattle.td_control.specs.CreationMeanings.{create-means};
 
     ghost task = { λ l. create_task l.place l.tdr l.hkid };
 

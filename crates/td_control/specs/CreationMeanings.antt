@@ -31,9 +31,11 @@ use Rattle.leaf_engine.specs.declared.needs.Place.{Place}
 use Rattle.lock_words.specs.Grips.{holds, holds_alone}
 use Rattle.leaf_engine.specs.Changes.{Memory, Put, Clear, changed, changed_all}
 use Rattle.leaf_engine.specs.Means.{Instant, MeansRow, MayOweAll, hold}
-use Rattle.first_leaves.specs.Words.{says_free}
-use Rattle.first_leaves.specs.TdTrees.{key_place, create_changes, create_task}
-use Rattle.first_leaves.specs.HostMeanings.{holds_newest, host_shown, host_kind}
+use Rattle.leaf_parts.specs.Words.{says_free}
+use Rattle.td_control.specs.CreationTrees.{key_place, create_changes, create_task}
+use Rattle.leaf_parts.proofs.Acted.{opening}
+use Rattle.leaf_parts.proofs.Begun.{holds-newest}
+use Rattle.leaf_parts.proofs.Told.{kind-shown, kind-is}
 
 -- numbers of key table words
 
@@ -121,7 +123,7 @@ module _ (m : Machine) (s : State) (mem : Memory) (t h : ℕ) (sh : Shows m mem.
 
   other-page : (locks : LockId → ℕ) (p i : ℕ) → (p == t) ≡ false → page_cell w' locks (w.pages.owners p) p (w.pages.kinds p) i ≡ page_cell w locks (w.pages.owners p) p (w.pages.kinds p) i
   other-page locks p i n = by_test (is_host_in w.pages p)
-      (λ o. host-word locks (w.pages.owners p) p i (w.pages.kinds p) n (host_kind (w.pages.kinds p) o))
+      (λ o. host-word locks (w.pages.owners p) p i (w.pages.kinds p) n (kind-is (w.pages.kinds p) kind.Nda o))
       (λ o. elsewhere locks (w.pages.owners p) p i (w.pages.kinds p) n (not-its p o))
 
   -- the words of the new TDR page
@@ -240,12 +242,8 @@ page_alone t hs = rw (eq-eqb t t refl) refl
 page_held : (t : ℕ) (hs : List Held) → holds (both_locks t ++ hs) (OfPage t) ≡ true
 page_held t hs = rw (eq-eqb t t refl) refl
 
-opening : Machine → Opening
-opening m = record { machine = m; codes = λ t i. []; calls = []; bundles = λ slot. None; secrets = λ i. 0 }
-
 create_respects : (m : Machine) (c : Instant) (t h : ℕ) → Lawful m c.state.world → nat_lt t m.pages ≡ true → (nat_le 1 h && nat_le h m.hkids) ≡ true → is_host c.state.world t ≡ true → is_key_free c.state.world h ≡ true
     → Respects (hold c (both_locks t)) c.state.world ((create m t h).act c.state.world)
-unfolding opening
 create_respects m c t h la a b host free =
     rows-respect (opening m) 0 (call.MngCreate t h) (hold c (both_locks t)) c.state.world la (a, (b, (host, (free, tt))))
     ((page_held t c.kept, page_alone t c.kept), ((refl, refl), tt))
@@ -300,9 +298,9 @@ create-means p t h = record {
             record { in_machine = in_page; at = refl; stands = tt; allowed = inl tt },
             (
               in_page,
-              inl (inl (holds_newest t Exclusive c.kept, tt)),
+              inl (inl (holds-newest t Exclusive c.kept, tt)),
               (
-                host_shown p.machine c t at.shown in_page,
+                kind-shown p.machine c.memory.words c.memory.slots c.state at.shown kind.Nda t in_page,
                 λ e. refl,
                 λ host. (
                   refl,
@@ -320,7 +318,7 @@ create-means p t h = record {
                           fills_allowed = tt;
                           respects = create_respects p.machine c t h at.lawful a b host free;
                           locks_stay = ((refl, λ x. x), ((refl, λ x. x), tt));
-                          shows = created p.machine c.state c.memory t h at.shown at.lawful (host_kind (c.state.world.pages.kinds t) host) first last;
+                          shows = created p.machine c.state c.memory t h at.shown at.lawful (kind-is (c.state.world.pages.kinds t) kind.Nda host) first last;
                         },
                         ((omega arith, (KeepsNothing, rw (key_class h) (inl (refl, tt)), tt)), owed p.machine c t h (changed (Put (key_place h) (key_word (AssignedTo t))) c.memory) in_page),
                       ),

@@ -1,0 +1,483 @@
+-- What the words that acts are written in keep of a lawful world.
+use Rattle.std.proofs.Common.{lit<, ◌≡◌, ◌≢◌, refl, sym, ◌∙◌, subst, ap, ℕ, zero, suc, ◌<◌, ◌≤◌, ◌^◌, List, [], ◌∷◌, ◌++◌, length, length-append, Some, None, true, false, not, ◌==◌, ◌&&◌, nat_lt, arith}
+use Rattle.std.specs.List.{list_any}
+use Rattle.std.proofs.lemmas.Bool.{eq-eqb, eqb-true, eqb-false, ne_eqb}
+use Rattle.td_words.specs.declared.names.PageKind.{PageKind}
+use Rattle.td_words.specs.declared.names.PageKind.TheVariants as kind
+use Rattle.td_words.specs.declared.names.LifeState.{LifeState}
+use Rattle.td_words.specs.declared.names.LifeState.TheVariants as life
+use Rattle.td_words.specs.declared.names.OpState.{OpState}
+use Rattle.td_words.specs.declared.machines.Machine.{Machine}
+use Rattle.td_words.specs.NameNumber.{life_number}
+use Rattle.td_words.specs.Packing.{Entry, Key, Unassigned}
+use Rattle.flat_core.specs.World.{World, Pages, Tds, KeyTable, put}
+use Rattle.flat_core.specs.Locks.{one_if}
+use Rattle.flat_core.specs.Conditions.{is_host_in, owned_below}
+use Rattle.flat_core.specs.Effects.{take_node, give_back, set_key, set_life, set_op, set_epoch, add_control, add_vp, begin_measurement, end_measurement, write_back, written_back}
+use Rattle.flat_core.specs.Lawful.{IsAlive, IsPageOf, AreControls, ArePagesOf, all_differ, LawfulTds, LawfulTree, LawfulKeys, LawfulBeginnings, Lawful, IsNew, is_free, key_owner}
+use Rattle.flat_core.proofs.Tests.{by_test, some_same, lt_of, not_true, and_left, and_right}
+use Rattle.flat_core.proofs.Pages.{node_kept, controls_kept, pages_kept, taken, other, taken_node, taken_controls, taken_list, taken_pages}
+
+-- a life that isn't at its end
+abbrev pub IsLive : LifeState → Type 0
+IsLive s = (life_number s == life_number life.Teardown) ≡ false
+
+-- what pages, map and HKIDs say of TDs
+pub record SameShape (tds tds' : Tds) : Type 0 where
+  pub hkids : tds'.hkids ≡ tds.hkids
+  pub controls : tds'.controls ≡ tds.controls
+  pub entries : tds'.entries ≡ tds.entries
+  pub vps : tds'.vps ≡ tds.vps
+  pub vps_expected : tds'.vps_expected ≡ tds.vps_expected
+  pub streams : tds'.streams ≡ tds.streams
+
+-- what of a TD stands as it began
+pub record Facts : Type 0 where
+  pub op : OpState
+  pub epoch : ℕ
+  pub entries : ℕ → ℕ → Entry
+  pub vps : List ℕ
+  pub vps_expected : ℕ
+  pub streams : List ℕ
+  pub mrtd : ℕ → ℕ
+  pub session : ℕ
+  pub mig_epoch : ℕ
+  pub td_exported : ℕ
+  pub vps_exported : ℕ
+  pub dirtied : ℕ
+  pub unrestored : ℕ
+  pub rtmr : ℕ → ℕ
+
+abbrev pub facts : Tds → (ℕ → ℕ → ℕ) → ℕ → Facts
+facts tds rtmrs t = record {
+  op = tds.ops t;
+  epoch = tds.epochs t;
+  entries = tds.entries t;
+  vps = tds.vps t;
+  vps_expected = tds.vps_expected t;
+  streams = tds.streams t;
+  mrtd = tds.mrtds t;
+  session = tds.sessions t;
+  mig_epoch = tds.mig_epochs t;
+  td_exported = tds.td_exported t;
+  vps_exported = tds.vps_exported t;
+  dirtied = tds.dirtied t;
+  unrestored = tds.unrestored t;
+  rtmr = rtmrs t;
+}
+
+pub new_kept : (tds tds' : Tds) (r r' : ℕ → ℕ → ℕ) (t : ℕ) → facts tds' r' t ≡ facts tds r t → IsNew tds r t → IsNew tds' r' t
+new_kept tds tds' r r' t e h = record {
+  op = ap (λ (f : Facts). f.op) e ∙ h.op;
+  epoch = ap (λ (f : Facts). f.epoch) e ∙ h.epoch;
+  entries = λ l n. ap (λ (f : Facts). f.entries l n) e ∙ h.entries l n;
+  vps = ap (λ (f : Facts). f.vps) e ∙ h.vps;
+  vps_expected = ap (λ (f : Facts). f.vps_expected) e ∙ h.vps_expected;
+  streams = ap (λ (f : Facts). f.streams) e ∙ h.streams;
+  mrtd = λ k. ap (λ (f : Facts). f.mrtd k) e ∙ h.mrtd k;
+  session = ap (λ (f : Facts). f.session) e ∙ h.session;
+  mig_epoch = ap (λ (f : Facts). f.mig_epoch) e ∙ h.mig_epoch;
+  td_exported = ap (λ (f : Facts). f.td_exported) e ∙ h.td_exported;
+  vps_exported = ap (λ (f : Facts). f.vps_exported) e ∙ h.vps_exported;
+  dirtied = ap (λ (f : Facts). f.dirtied) e ∙ h.dirtied;
+  unrestored = ap (λ (f : Facts). f.unrestored) e ∙ h.unrestored;
+  rtmr = λ k. ap (λ (f : Facts). f.rtmr k) e ∙ h.rtmr k;
+}
+
+-- TDs that are alive were so before, and have the pages and the map that they had
+module _ (pages : Pages) (tds tds' : Tds) (back : (x : ℕ) → IsAlive pages tds' x → IsAlive pages tds x) where
+  pub shape_tds : SameShape tds tds' → ((x : ℕ) → tds'.epochs x < 2 ^ 32) → LawfulTds pages tds → LawfulTds pages tds'
+  shape_tds same small l = record {
+    controls = λ x a. subst (λ (f : ℕ → List ℕ). AreControls pages x (f x)) (sym same.controls) (l.controls x (back x a));
+    vps = λ x a. subst (λ (f : ℕ → List ℕ). ArePagesOf pages x kind.Tdvpr (f x)) (sym same.vps) (l.vps x (back x a));
+    vps_few = λ x. subst (λ (f : ℕ → List ℕ). length (f x) ≤ 8) (sym same.vps) (l.vps_few x);
+    vps_differ = λ x. subst (λ (f : ℕ → List ℕ). all_differ (f x) ≡ true) (sym same.vps) (l.vps_differ x);
+    vps_expected = λ x. subst (λ (f : ℕ → ℕ). f x ≤ 8) (sym same.vps_expected) (l.vps_expected x);
+    streams = λ x a. subst (λ (f : ℕ → List ℕ). ArePagesOf pages x kind.Migsc (f x)) (sym same.streams) (l.streams x (back x a));
+    streams_few = λ x. subst (λ (f : ℕ → List ℕ). length (f x) ≤ 4) (sym same.streams) (l.streams_few x);
+    streams_differ = λ x. subst (λ (f : ℕ → List ℕ). all_differ (f x) ≡ true) (sym same.streams) (l.streams_differ x);
+    epoch = small;
+  }
+
+  pub shape_tree : tds'.entries ≡ tds.entries → LawfulTree pages tds → LawfulTree pages tds'
+  shape_tree same l = subst (λ (f : ℕ → ℕ → ℕ → Entry). LawfulTree pages (record tds' { entries = f })) (sym same) (record {
+    entry = l.entry;
+    upper = λ x k n a. l.upper x k n (back x (record { kind = a.kind; life = a.life }));
+    leaf = λ x n a. l.leaf x n (back x (record { kind = a.kind; life = a.life }));
+    below = λ x k n few a. l.below x k n few (back x (record { kind = a.kind; life = a.life }));
+    named = λ p k a. l.named p k (back (pages.owners p) (record { kind = a.kind; life = a.life }));
+  })
+
+  pub shape_keys : tds'.hkids ≡ tds.hkids → (count : ℕ) (table table' : KeyTable) → ((x : ℕ) → IsAlive pages tds x → IsAlive pages tds' x) → ((h : ℕ) → key_owner (table'.keys h) ≡ key_owner (table.keys h)) → LawfulKeys count pages tds table → LawfulKeys count pages tds' table'
+  shape_keys same count table table' forth owner l = record {
+    in_range = λ x a. subst (λ (f : ℕ → ℕ). (1 ≤ f x) × (f x ≤ count)) (sym same) (l.in_range x (back x a));
+    owner = λ x a. subst (λ (f : ℕ → ℕ). key_owner (table'.keys (f x)) ≡ Some x) (sym same) (owner (tds.hkids x) ∙ l.owner x (back x a));
+    owned = λ h x e. (let o = l.owned h x (sym (owner h) ∙ e) in (forth x o.0, ap (λ (f : ℕ → ℕ). f x) same ∙ o.1));
+  }
+
+  pub shape_beginnings : tds'.controls ≡ tds.controls → (r r' : ℕ → ℕ → ℕ) → ((x : ℕ) → (length (tds.controls x) == 2) ≡ false → facts tds' r' x ≡ facts tds r x) → LawfulBeginnings pages tds r → LawfulBeginnings pages tds' r'
+  shape_beginnings same r r' e l = record {
+    is_new = λ x a n. (let n' : (length (tds.controls x) == 2) ≡ false = subst (λ (f : ℕ → List ℕ). (length (f x) == 2) ≡ false) same n in
+        new_kept tds tds' r r' x (e x n') (l.is_new x (back x a) n'));
+  }
+
+-- a TD with its two TDCX pages isn't one without
+pub built_other : (controls : ℕ → List ℕ) (t x : ℕ) → (length (controls t) == 2) ≡ true → (length (controls x) == 2) ≡ false → (x == t) ≡ false
+built_other controls t x b n = by_test (x == t)
+    (λ y. absurd (let same : x ≡ t = eqb-true x t y in let no : true ≡ false = sym b ∙ (ap (λ (z : ℕ). length (controls z) == 2) (sym same) ∙ n) in cc))
+    (λ y. y)
+
+-- keys that are the same TDs'
+pub keys_kept : (m : Machine) (w : World) (keys : ℕ → Key) → ((h : ℕ) → key_owner (keys h) ≡ key_owner (w.key_table.keys h)) → Lawful m w → Lawful m (record w { key_table = record (w.key_table) { keys = keys } })
+keys_kept m w keys e l = record {
+  size = l.size;
+  pages = l.pages;
+  tds = l.tds;
+  tree = l.tree;
+  keys = shape_keys w.pages w.tds w.tds (λ x a. a) refl m.hkids w.key_table (record (w.key_table) { keys = keys }) (λ x a. a) e l.keys;
+  beginnings = l.beginnings;
+}
+
+pub key_kept : (m : Machine) (w : World) (h : ℕ) (k : Key) → key_owner k ≡ key_owner (w.key_table.keys h) → Lawful m w → Lawful m (set_key h k w)
+key_kept m w h k e = keys_kept m w (put w.key_table.keys h k)
+    (λ x. by_test (x == h) (λ y. rw y (e ∙ ap (λ (n : ℕ). key_owner (w.key_table.keys n)) (sym (eqb-true x h y)))) (λ y. rw y refl))
+
+pub write_back_kept : (m : Machine) (w : World) → Lawful m w → Lawful m (write_back w)
+write_back_kept m w = keys_kept m w (λ h. written_back (w.key_table.keys h)) (λ h. by (w.key_table.keys h))
+  where
+    by : (k : Key) → key_owner (written_back k) ≡ key_owner k
+    by Unassigned = refl
+    by _ = refl
+
+-- a TD that is alive, and stays so
+pub life_kept : (m : Machine) (w : World) (t : ℕ) (s : LifeState) → IsLive (w.tds.lives t) → IsLive s → Lawful m w → Lawful m (set_life t s w)
+life_kept m w t s before after l = record {
+  size = l.size;
+  pages = l.pages;
+  tds = shape_tds w.pages w.tds tds' back same l.tds.epoch l.tds;
+  tree = shape_tree w.pages w.tds tds' back refl l.tree;
+  keys = shape_keys w.pages w.tds tds' back refl m.hkids w.key_table w.key_table forth (λ h. refl) l.keys;
+  beginnings = shape_beginnings w.pages w.tds tds' back refl w.hidden.rtmrs w.hidden.rtmrs (λ x n. refl) l.beginnings;
+}
+  where
+    tds' : Tds
+    tds' = record (w.tds) { lives = put w.tds.lives t s }
+
+    same : SameShape w.tds tds'
+    same = record { hkids = refl; controls = refl; entries = refl; vps = refl; vps_expected = refl; streams = refl }
+
+    back : (x : ℕ) → IsAlive w.pages tds' x → IsAlive w.pages w.tds x
+    back x a = record { kind = a.kind; life = by_test (x == t) (λ y. subst (λ (z : ℕ). IsLive (w.tds.lives z)) (sym (eqb-true x t y)) before) (λ n. rw n at a.life) }
+
+    forth : (x : ℕ) → IsAlive w.pages w.tds x → IsAlive w.pages tds' x
+    forth x a = record { kind = a.kind; life = by_test (x == t) (λ y. rw y after) (λ n. rw n a.life) }
+
+-- a TD that has its two TDCX pages, and keeps its pages, map and life
+module _ (m : Machine) (w : World) (t : ℕ) (built : (length (w.tds.controls t) == 2) ≡ true) (l : Lawful m w) where
+  pub built_kept : (tds' : Tds) → SameShape w.tds tds' → tds'.lives ≡ w.tds.lives → ((x : ℕ) → tds'.epochs x < 2 ^ 32) → ((x : ℕ) → (x == t) ≡ false → facts tds' w.hidden.rtmrs x ≡ facts w.tds w.hidden.rtmrs x) → Lawful m (record w { tds = tds' })
+  built_kept tds' same lives small e = record {
+    size = l.size;
+    pages = l.pages;
+    tds = shape_tds w.pages w.tds tds' back same small l.tds;
+    tree = shape_tree w.pages w.tds tds' back same.entries l.tree;
+    keys = shape_keys w.pages w.tds tds' back same.hkids m.hkids w.key_table w.key_table forth (λ h. refl) l.keys;
+    beginnings = shape_beginnings w.pages w.tds tds' back same.controls w.hidden.rtmrs w.hidden.rtmrs (λ x n. e x (built_other w.tds.controls t x built n)) l.beginnings;
+  }
+    where
+      back : (x : ℕ) → IsAlive w.pages tds' x → IsAlive w.pages w.tds x
+      back x a = record { kind = a.kind; life = subst (λ (f : ℕ → LifeState). IsLive (f x)) lives a.life }
+
+      forth : (x : ℕ) → IsAlive w.pages w.tds x → IsAlive w.pages tds' x
+      forth x a = record { kind = a.kind; life = subst (λ (f : ℕ → LifeState). IsLive (f x)) (sym lives) a.life }
+
+  abbrev same_shape : (tds' : Tds) → tds'.hkids ≡ w.tds.hkids → tds'.controls ≡ w.tds.controls → tds'.entries ≡ w.tds.entries → tds'.vps ≡ w.tds.vps → tds'.vps_expected ≡ w.tds.vps_expected → tds'.streams ≡ w.tds.streams → SameShape w.tds tds'
+  same_shape tds' a b c d e f = record { hkids = a; controls = b; entries = c; vps = d; vps_expected = e; streams = f }
+
+  pub op_kept : (s : OpState) → Lawful m (set_op t s w)
+  op_kept s = built_kept (record (w.tds) { ops = put w.tds.ops t s }) (same_shape _ refl refl refl refl refl refl) refl l.tds.epoch (λ x n. rw n refl)
+
+  pub epoch_kept : (e : ℕ) → e < 2 ^ 32 → Lawful m (set_epoch t e w)
+  epoch_kept e small = built_kept (record (w.tds) { epochs = put w.tds.epochs t e }) (same_shape _ refl refl refl refl refl refl) refl
+      (λ x. by_test (x == t) (λ y. rw y small) (λ n. rw n (l.tds.epoch x))) (λ x n. rw n refl)
+
+  pub begin_kept : Lawful m (begin_measurement t w)
+  begin_kept = built_kept (record (w.tds) { measured = put w.tds.measured t [] }) (same_shape _ refl refl refl refl refl refl) refl l.tds.epoch (λ x n. refl)
+
+  pub end_kept : Lawful m (end_measurement t w)
+  end_kept = built_kept (end_measurement t w).tds (same_shape _ refl refl refl refl refl refl) refl l.tds.epoch (λ x n. rw n refl)
+
+-- a TDCX page is added to a TD that has room for it
+module _ (m : Machine) (w : World) (t p : ℕ) (l : Lawful m w) (page : IsPageOf w.pages t p kind.Tdcx) (room : nat_lt (length (w.tds.controls t)) 2 ≡ true) (apart : (c : ℕ) → w.tds.controls t ≡ c ∷ [] → (c == p) ≡ false) where
+  abbrev with_control : Tds
+  with_control = (add_control t p w).tds
+
+  control_back : (x : ℕ) → IsAlive w.pages with_control x → IsAlive w.pages w.tds x
+  control_back x a = record { kind = a.kind; life = a.life }
+
+  more_controls : (cs : List ℕ) → nat_lt (length cs) 2 ≡ true → ((c : ℕ) → cs ≡ c ∷ [] → (c == p) ≡ false) → AreControls w.pages t cs → AreControls w.pages t (cs ++ p ∷ [])
+  more_controls [] few d h = page
+  more_controls (c ∷ []) few d h = (h, page, d c refl)
+  more_controls (c ∷ r ∷ cs) few d h = absurd (let n : length (c ∷ r ∷ cs) < 2 = lt_of _ 2 few in omega arith)
+
+  not_two : (cs : List ℕ) → nat_lt (length cs) 2 ≡ true → (length cs == 2) ≡ false
+  not_two cs few = ne_eqb (length cs) 2 (λ e. let n : length cs < 2 = lt_of _ 2 few in omega arith)
+
+  pub control_kept : Lawful m (add_control t p w)
+  control_kept = record {
+    size = l.size;
+    pages = l.pages;
+    tds = record {
+      controls = λ x a. by_test (x == t)
+          (λ y. rw y (subst (λ (z : ℕ). AreControls w.pages z (w.tds.controls t ++ p ∷ [])) (sym (eqb-true x t y)) (more_controls (w.tds.controls t) room apart (subst (λ (z : ℕ). AreControls w.pages z (w.tds.controls z)) (eqb-true x t y) (l.tds.controls x (control_back x a))))))
+          (λ n. rw n (l.tds.controls x (control_back x a)));
+      vps = λ x a. l.tds.vps x (control_back x a);
+      vps_few = l.tds.vps_few;
+      vps_differ = l.tds.vps_differ;
+      vps_expected = l.tds.vps_expected;
+      streams = λ x a. l.tds.streams x (control_back x a);
+      streams_few = l.tds.streams_few;
+      streams_differ = l.tds.streams_differ;
+      epoch = l.tds.epoch;
+    };
+    tree = shape_tree w.pages w.tds with_control control_back refl l.tree;
+    keys = shape_keys w.pages w.tds with_control control_back refl m.hkids w.key_table w.key_table (λ x a. record { kind = a.kind; life = a.life }) (λ h. refl) l.keys;
+    beginnings = record {
+      is_new = λ x a n. new_kept w.tds with_control w.hidden.rtmrs w.hidden.rtmrs x refl (l.beginnings.is_new x (control_back x a)
+          (by_test (x == t) (λ y. let same : x ≡ t = eqb-true x t y in rw same (not_two (w.tds.controls t) room)) (λ y. rw y at n)));
+    };
+  }
+
+-- a virtual processor is added to a TD that has room for it
+module _ (m : Machine) (w : World) (t p : ℕ) (l : Lawful m w) (page : IsPageOf w.pages t p kind.Tdvpr) (built : (length (w.tds.controls t) == 2) ≡ true) (few : length (w.tds.vps t) < 8) (apart : list_any (λ q. q == p) (w.tds.vps t) ≡ false) where
+  abbrev with_vp : Tds
+  with_vp = (add_vp t p w).tds
+
+  vp_back : (x : ℕ) → IsAlive w.pages with_vp x → IsAlive w.pages w.tds x
+  vp_back x a = record { kind = a.kind; life = a.life }
+
+  more_pages : (ps : List ℕ) → ArePagesOf w.pages t kind.Tdvpr ps → ArePagesOf w.pages t kind.Tdvpr (ps ++ p ∷ [])
+  more_pages [] h = (page, tt)
+  more_pages (q ∷ qs) h = (h.0, more_pages qs h.1)
+
+  not_among : (q : ℕ) (ps : List ℕ) → (p == q) ≡ false → list_any (λ x. x == q) ps ≡ false → list_any (λ x. x == q) (ps ++ p ∷ []) ≡ false
+  not_among q [] n h = rw n refl
+  not_among q (x ∷ xs) n h = by_test (x == q) (λ y. absurd (let no : true ≡ false = rw y at h in cc)) (λ y. rw y (not_among q xs n (rw y at h)))
+
+  all_differ_more : (ps : List ℕ) → list_any (λ q. q == p) ps ≡ false → all_differ ps ≡ true → all_differ (ps ++ p ∷ []) ≡ true
+  all_differ_more [] h d = refl
+  all_differ_more (q ∷ qs) h d = by_test (q == p)
+      (λ y. absurd (let no : true ≡ false = rw y at h in cc))
+      (λ y. (let rest : list_any (λ x. x == p) qs ≡ false = rw y at h in
+      let apart' : (p == q) ≡ false = ne_eqb p q (λ e. absurd (let no : true ≡ false = sym (eq-eqb q p (sym e)) ∙ y in cc)) in
+      rw (not_among q qs apart' (not_true _ (and_left (not (list_any (λ x. x == q) qs)) (all_differ qs) d)), all_differ_more qs rest (and_right (not (list_any (λ x. x == q) qs)) (all_differ qs) d)) refl))
+
+  pub vp_kept : Lawful m (add_vp t p w)
+  vp_kept = record {
+    size = l.size;
+    pages = l.pages;
+    tds = record {
+      controls = λ x a. l.tds.controls x (vp_back x a);
+      vps = λ x a. by_test (x == t)
+          (λ y. rw y (subst (λ (z : ℕ). ArePagesOf w.pages z kind.Tdvpr (w.tds.vps t ++ p ∷ [])) (sym (eqb-true x t y)) (more_pages (w.tds.vps t) (subst (λ (z : ℕ). ArePagesOf w.pages z kind.Tdvpr (w.tds.vps z)) (eqb-true x t y) (l.tds.vps x (vp_back x a))))))
+          (λ n. rw n (l.tds.vps x (vp_back x a)));
+      vps_few = λ x. by_test (x == t) (λ y. rw y (omega (arith, length-append (w.tds.vps t) (p ∷ [])))) (λ n. rw n (l.tds.vps_few x));
+      vps_differ = λ x. by_test (x == t) (λ y. rw y (all_differ_more (w.tds.vps t) apart (l.tds.vps_differ t))) (λ n. rw n (l.tds.vps_differ x));
+      vps_expected = l.tds.vps_expected;
+      streams = λ x a. l.tds.streams x (vp_back x a);
+      streams_few = l.tds.streams_few;
+      streams_differ = l.tds.streams_differ;
+      epoch = l.tds.epoch;
+    };
+    tree = shape_tree w.pages w.tds with_vp vp_back refl l.tree;
+    keys = shape_keys w.pages w.tds with_vp vp_back refl m.hkids w.key_table w.key_table (λ x a. record { kind = a.kind; life = a.life }) (λ h. refl) l.keys;
+    beginnings = shape_beginnings w.pages w.tds with_vp vp_back refl w.hidden.rtmrs w.hidden.rtmrs (λ x n. rw (built_other w.tds.controls t x built n) refl) l.beginnings;
+  }
+
+-- a host page is taken by a TD
+module _ (m : Machine) (w : World) (p : ℕ) (k : PageKind) (t level number : ℕ) (host : w.pages.kinds p ≡ kind.Nda) (small : p < m.pages) (l : Lawful m w) (not_host : k ≢ kind.Nda) (not_tdr : k ≢ kind.Tdr) (root : w.pages.kinds t ≡ kind.Tdr) where
+  abbrev now : Pages
+  now = taken m.pages w.pages p k t level number host l.pages
+
+  pub taken_back : (x : ℕ) → IsAlive now w.tds x → IsAlive w.pages w.tds x
+  taken_back x a = record { kind = by_test (x == p) (λ y. absurd (not_tdr (rw y at a.kind))) (λ n. rw n at a.kind); life = a.life }
+
+  pub taken_forth : (x : ℕ) → IsAlive w.pages w.tds x → IsAlive now w.tds x
+  taken_forth x a = record { kind = rw (other m.pages w.pages p k t level number host l.pages x kind.Tdr a.kind (λ e. cc)) a.kind; life = a.life }
+
+  -- a secure EPT page is named by the entry at its node
+  abbrev IsNamed : ℕ → Pages → Type 0
+  IsNamed q pages = (is_free (w.tds.entries (pages.owners q) (pages.levels q) (pages.numbers q)).state ≡ false) × ((w.tds.entries (pages.owners q) (pages.levels q) (pages.numbers q)).page ≡ q)
+
+  named_there : (q : ℕ) → (q == p) ≡ false → now.kinds q ≡ kind.Ept → IsAlive now w.tds (now.owners q) → IsNamed q now
+  named_there q n e a =
+      let e' : w.pages.kinds q ≡ kind.Ept = rw n at e in
+      let a' : IsAlive now w.tds (w.pages.owners q) = rw n at a in
+      rw n (l.tree.named q e' (taken_back (w.pages.owners q) a'))
+
+  pub taken_kept : (k ≢ kind.Ept) → Lawful m (take_node p k t level number w)
+  taken_kept not_node = record {
+    size = l.size;
+    pages = taken_pages m.pages w.pages p k t level number host l.pages small not_host (λ e. absurd (not_tdr e)) (rw (other m.pages w.pages p k t level number host l.pages t kind.Tdr root (λ e. cc)) root);
+    tds = record {
+      controls = λ x a. taken_controls m.pages w.pages p k t level number host l.pages x (w.tds.controls x) (l.tds.controls x (taken_back x a));
+      vps = λ x a. taken_list m.pages w.pages p k t level number host l.pages x kind.Tdvpr (w.tds.vps x) (λ e. cc) (l.tds.vps x (taken_back x a));
+      vps_few = l.tds.vps_few;
+      vps_differ = l.tds.vps_differ;
+      vps_expected = l.tds.vps_expected;
+      streams = λ x a. taken_list m.pages w.pages p k t level number host l.pages x kind.Migsc (w.tds.streams x) (λ e. cc) (l.tds.streams x (taken_back x a));
+      streams_few = l.tds.streams_few;
+      streams_differ = l.tds.streams_differ;
+      epoch = l.tds.epoch;
+    };
+    tree = record {
+      entry = l.tree.entry;
+      upper = λ x j n a e. (let u = l.tree.upper x j n (taken_back x a) e in (u.0, taken_node m.pages w.pages p k t level number host l.pages x _ kind.Ept (suc j) n (λ e. cc) u.1));
+      leaf = λ x n a e. (let u = l.tree.leaf x n (taken_back x a) e in (u.0, taken_node m.pages w.pages p k t level number host l.pages x _ kind.Reg 0 n (λ e. cc) u.1));
+      below = λ x j n few a. l.tree.below x j n few (taken_back x a);
+      named = λ q e a. by_test (q == p) (λ y. absurd (not_node (rw y at e))) (λ n. named_there q n e a);
+    };
+    keys = record {
+      in_range = λ x a. l.keys.in_range x (taken_back x a);
+      owner = λ x a. l.keys.owner x (taken_back x a);
+      owned = λ h x e. (let o = l.keys.owned h x e in (taken_forth x o.0, o.1));
+    };
+    beginnings = record { is_new = λ x a n. l.beginnings.is_new x (taken_back x a) n };
+  }
+
+-- a TD ends: its HKID is free
+module _ (m : Machine) (w : World) (t : ℕ) (alive : IsAlive w.pages w.tds t) (l : Lawful m w) where
+  abbrev ended : Tds
+  ended = record (w.tds) { lives = put w.tds.lives t life.Teardown }
+
+  not_ended : (x : ℕ) → IsAlive w.pages ended x → (x == t) ≡ false
+  not_ended x a = by_test (x == t) (λ y. absurd (let no : true ≡ false = rw y at a.life in cc)) (λ n. n)
+
+  ended_back : (x : ℕ) → IsAlive w.pages ended x → IsAlive w.pages w.tds x
+  ended_back x a = record { kind = a.kind; life = rw (not_ended x a) at a.life }
+
+  own_hkid : (x : ℕ) → IsAlive w.pages w.tds x → (x == t) ≡ false → (w.tds.hkids x == w.tds.hkids t) ≡ false
+  own_hkid x a n = by_test (w.tds.hkids x == w.tds.hkids t)
+      (λ y. absurd (let here : w.tds.hkids x ≡ w.tds.hkids t = eqb-true _ _ y in
+      let both : Some x ≡ Some t = sym (l.keys.owner x a) ∙ (ap (λ (h : ℕ). key_owner (w.key_table.keys h)) here ∙ l.keys.owner t alive) in
+      let no : true ≡ false = sym (eq-eqb x t (some_same x t both)) ∙ n in cc))
+      (λ y. y)
+
+  freed_owned : (h x : ℕ) → (h == w.tds.hkids t) ≡ false → key_owner (w.key_table.keys h) ≡ Some x → IsAlive w.pages ended x × (ended.hkids x ≡ h)
+  freed_owned h x n e =
+      let o = l.keys.owned h x e in
+      let apart : (x == t) ≡ false = by_test (x == t) (λ y. absurd (let same : w.tds.hkids t ≡ h = ap w.tds.hkids (sym (eqb-true x t y)) ∙ o.1 in let no : true ≡ false = sym (eq-eqb h (w.tds.hkids t) (sym same)) ∙ n in cc)) (λ y. y) in
+      (record { kind = o.0.kind; life = rw apart o.0.life }, o.1)
+
+  pub ended_kept : Lawful m (set_key (w.tds.hkids t) Unassigned (set_life t life.Teardown w))
+  ended_kept = record {
+    size = l.size;
+    pages = l.pages;
+    tds = shape_tds w.pages w.tds ended ended_back (record { hkids = refl; controls = refl; entries = refl; vps = refl; vps_expected = refl; streams = refl }) l.tds.epoch l.tds;
+    tree = shape_tree w.pages w.tds ended ended_back refl l.tree;
+    keys = record {
+      in_range = λ x a. l.keys.in_range x (ended_back x a);
+      owner = λ x a. rw (own_hkid x (ended_back x a) (not_ended x a)) (l.keys.owner x (ended_back x a));
+      owned = λ h x. by_test (h == w.tds.hkids t) (λ y e. absurd (let no : None ≡ Some x = rw y at e in cc)) (λ n e. freed_owned h x n (rw n at e));
+    };
+    beginnings = shape_beginnings w.pages w.tds ended ended_back refl w.hidden.rtmrs w.hidden.rtmrs (λ x n. refl) l.beginnings;
+  }
+
+-- no child page is left
+pub childless : (pages : Pages) (t n q : ℕ) → owned_below pages t n ≡ 0 → q < n → (q == t) ≡ false → is_host_in pages q ≡ false → (pages.owners q == t) ≡ false
+childless pages t zero q none few n h = absurd (omega arith)
+childless pages t (suc k) q none few n h = by_test (q == k)
+    (λ y. (let here : q ≡ k = eqb-true q k y in
+    let counted : one_if (not (q == t) && (not (is_host_in pages q) && pages.owners q == t)) ≡ 0 = subst (λ (x : ℕ). one_if (not (x == t) && (not (is_host_in pages x) && pages.owners x == t)) ≡ 0) (sym here) (omega arith) in
+    by_test (pages.owners q == t) (λ o. absurd (let no : 1 ≡ 0 = rw (n, h, o) at counted in omega arith)) (λ o. o)))
+    (λ y. childless pages t k q (omega arith) (let apart : q ≢ k = eqb-false q k y in omega arith) n h)
+
+-- a page of a TD that has ended is given back, its TDR page last
+module _ (m : Machine) (w : World) (t p : ℕ) (l : Lawful m w) (root : w.pages.kinds t ≡ kind.Tdr) (dead : (life_number (w.tds.lives t) == life_number life.Teardown) ≡ true) (owned : is_host_in w.pages p ≡ false) (mine : w.pages.owners p ≡ t) (last : (p == t) ≡ true → owned_below w.pages t w.size ≡ 0) where
+  abbrev left : Pages
+  left = (take_node p kind.Nda 0 0 0 w).pages
+
+  -- a page of a TD that is alive is another one
+  elsewhere : (x : ℕ) → IsLive (w.tds.lives x) → (q : ℕ) → w.pages.owners q ≡ x → (q == p) ≡ false
+  elsewhere x alive q e = by_test (q == p)
+      (λ y. absurd (let same : x ≡ t = sym e ∙ (ap w.pages.owners (eqb-true q p y) ∙ mine) in
+      let no : true ≡ false = sym dead ∙ subst (λ (z : ℕ). IsLive (w.tds.lives z)) same alive in cc))
+      (λ n. n)
+
+  left_back : (x : ℕ) → IsAlive left w.tds x → IsAlive w.pages w.tds x
+  left_back x a = record { kind = by_test (x == p) (λ y. absurd (let no : kind.Nda ≡ kind.Tdr = rw y at a.kind in cc)) (λ n. rw n at a.kind); life = a.life }
+
+  left_forth : (x : ℕ) → IsAlive w.pages w.tds x → IsAlive left w.tds x
+  left_forth x a = record { kind = rw (elsewhere x a.life x (l.pages.tdr x a.kind)) a.kind; life = a.life }
+
+  of_another : (x : ℕ) → IsAlive left w.tds x → (q : ℕ) (j : PageKind) → IsPageOf w.pages x q j → j ≢ kind.Nda → (q == p) ≡ false
+  of_another x a q j h n = elsewhere x a.life q h.owner
+
+  abbrev kinds_left : (q : ℕ) → (q == p) ≡ false → left.kinds q ≡ w.pages.kinds q
+  kinds_left q n = rw n refl
+
+  abbrev owners_left : (q : ℕ) → (q == p) ≡ false → left.owners q ≡ w.pages.owners q
+  owners_left q n = rw n refl
+
+  abbrev levels_left : (q : ℕ) → (q == p) ≡ false → left.levels q ≡ w.pages.levels q
+  levels_left q n = rw n refl
+
+  abbrev numbers_left : (q : ℕ) → (q == p) ≡ false → left.numbers q ≡ w.pages.numbers q
+  numbers_left q n = rw n refl
+
+  -- a page that isn't the host's still has a TDR page as its owner
+  root_stays : (q : ℕ) → is_host_in w.pages q ≡ false → (q == p) ≡ false → (w.pages.owners q == p) ≡ false
+  root_stays q h n = by_test (w.pages.owners q == p)
+      (λ y. absurd (let here : w.pages.owners q ≡ p = eqb-true _ _ y in
+      let tdr : w.pages.kinds p ≡ kind.Tdr = ap w.pages.kinds (sym here) ∙ l.pages.owner q h in
+      let is : p ≡ t = sym (l.pages.tdr p tdr) ∙ mine in
+      let few : q < w.size = subst (λ (k : ℕ). q < k) (sym l.size) (l.pages.in_machine q h) in
+      let none = childless w.pages t w.size q (last (eq-eqb p t is)) few (subst (λ (z : ℕ). (q == z) ≡ false) is n) h in
+      let no : true ≡ false = sym (eq-eqb (w.pages.owners q) t (here ∙ is)) ∙ none in cc))
+      (λ y. y)
+
+  left_owner : (q : ℕ) → (q == p) ≡ false → is_host_in w.pages q ≡ false → left.kinds (left.owners q) ≡ kind.Tdr
+  left_owner q n h = rw (n, root_stays q h n) (l.pages.owner q h)
+
+  -- a secure EPT page is named by the entry at its node
+  named_left : (q : ℕ) → (q == p) ≡ false → left.kinds q ≡ kind.Ept → IsAlive left w.tds (left.owners q)
+      → (is_free (w.tds.entries (left.owners q) (left.levels q) (left.numbers q)).state ≡ false) × ((w.tds.entries (left.owners q) (left.levels q) (left.numbers q)).page ≡ q)
+  named_left q n e a =
+      let e' : w.pages.kinds q ≡ kind.Ept = rw n at e in
+      let a' : IsAlive left w.tds (w.pages.owners q) = rw n at a in
+      rw n (l.tree.named q e' (left_back (w.pages.owners q) a'))
+
+  pub left_kept : Lawful m (give_back p w)
+  left_kept = record {
+    size = l.size;
+    pages = record {
+      tdr = λ x. by_test (x == p) (λ y e. absurd (let no : kind.Nda ≡ kind.Tdr = rw y at e in cc)) (λ n e. rw n (l.pages.tdr x (rw n at e)));
+      owner = λ q. by_test (q == p) (λ y e. absurd (let no : true ≡ false = rw y at e in cc)) (λ n e. left_owner q n (rw n at e));
+      in_machine = λ q. by_test (q == p) (λ y e. absurd (let no : true ≡ false = rw y at e in cc)) (λ n e. l.pages.in_machine q (rw n at e));
+      host = λ q. by_test (q == p) (λ y e. rw y (refl, refl)) (λ n e. rw n (l.pages.host q (rw n at e)));
+      blocked = λ q. by_test (q == p) (λ y. rw y (lit< tt)) (λ n. rw n (l.pages.blocked q));
+    };
+    tds = record {
+      controls = λ x a. controls_kept w.pages left p kinds_left owners_left levels_left numbers_left x (of_another x a) (w.tds.controls x) (l.tds.controls x (left_back x a));
+      vps = λ x a. pages_kept w.pages left p kinds_left owners_left levels_left numbers_left x (of_another x a) kind.Tdvpr (w.tds.vps x) (λ e. cc) (l.tds.vps x (left_back x a));
+      vps_few = l.tds.vps_few;
+      vps_differ = l.tds.vps_differ;
+      vps_expected = l.tds.vps_expected;
+      streams = λ x a. pages_kept w.pages left p kinds_left owners_left levels_left numbers_left x (of_another x a) kind.Migsc (w.tds.streams x) (λ e. cc) (l.tds.streams x (left_back x a));
+      streams_few = l.tds.streams_few;
+      streams_differ = l.tds.streams_differ;
+      epoch = l.tds.epoch;
+    };
+    tree = record {
+      entry = l.tree.entry;
+      upper = λ x j n a e. (let u = l.tree.upper x j n (left_back x a) e in (u.0, node_kept w.pages left p kinds_left owners_left levels_left numbers_left x (of_another x a) _ kind.Ept (suc j) n (λ e. cc) u.1));
+      leaf = λ x n a e. (let u = l.tree.leaf x n (left_back x a) e in (u.0, node_kept w.pages left p kinds_left owners_left levels_left numbers_left x (of_another x a) _ kind.Reg 0 n (λ e. cc) u.1));
+      below = λ x j n few a. l.tree.below x j n few (left_back x a);
+      named = λ q e a. by_test (q == p) (λ y. absurd (let no : kind.Nda ≡ kind.Ept = rw y at e in cc)) (λ n. named_left q n e a);
+    };
+    keys = record {
+      in_range = λ x a. l.keys.in_range x (left_back x a);
+      owner = λ x a. l.keys.owner x (left_back x a);
+      owned = λ h x e. (let o = l.keys.owned h x e in (left_forth x o.0, o.1));
+    };
+    beginnings = record { is_new = λ x a n. l.beginnings.is_new x (left_back x a) n };
+  }

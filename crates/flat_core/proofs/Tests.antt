@@ -1,0 +1,48 @@
+-- Tests and what they tell.
+use Rattle.std.proofs.Common.{◌≡◌, ◌≢◌, refl, ℕ, ◌<◌, ◌≤◌, Some, Bool, true, false, not, ◌==◌, ◌&&◌, nat_lt, nat_le, arith}
+use Rattle.std.proofs.lemmas.Bool.{eq-eqb}
+use Rattle.std.proofs.lemmas.Bool.Decides.{nat_tests}
+use Rattle.td_words.specs.declared.names.PageKind.{PageKind}
+use Rattle.td_words.specs.declared.names.PageKind.TheVariants as kind
+use Rattle.flat_core.specs.Conditions.{same_kind}
+
+pub by_test : {A : Type 0} (b : Bool) → (b ≡ true → A) → (b ≡ false → A) → A
+by_test true t f = t refl
+by_test false t f = f refl
+
+pub host_kind : (k : PageKind) → same_kind k kind.Nda ≡ true → k ≡ kind.Nda
+host_kind kind.Nda h = refl
+host_kind _ h = cc
+
+pub tdr_kind : (k : PageKind) → same_kind k kind.Tdr ≡ true → k ≡ kind.Tdr
+tdr_kind kind.Tdr h = refl
+tdr_kind kind.Nda h = cc
+tdr_kind _ h = cc
+
+pub kind_owned : (k : PageKind) → k ≢ kind.Nda → same_kind k kind.Nda ≡ false
+kind_owned kind.Nda h = absurd (h refl)
+kind_owned _ h = refl
+
+pub lt_of : (a b : ℕ) → nat_lt a b ≡ true → a < b
+lt_of a b h = grind (arith, nat_tests)
+
+pub range_of : (h n : ℕ) → (nat_le 1 h && nat_le h n) ≡ true → (1 ≤ h) × (h ≤ n)
+range_of h n e = (grind (arith, nat_tests), grind (arith, nat_tests))
+
+pub some_same : (a b : ℕ) → Some a ≡ Some b → a ≡ b
+some_same a b e = cc
+
+pub same_self : (n : ℕ) → (n == n) ≡ true
+same_self n = eq-eqb n n refl
+
+pub not_true : (b : Bool) → not b ≡ true → b ≡ false
+not_true true h = cc
+not_true false h = refl
+
+pub and_left : (a b : Bool) → (a && b) ≡ true → a ≡ true
+and_left true b h = refl
+and_left false b h = cc
+
+pub and_right : (a b : Bool) → (a && b) ≡ true → b ≡ true
+and_right true b h = h
+and_right false b h = cc

@@ -1,0 +1,28 @@
+-- Calls that build virtual processors (Base Architecture, "TD VCPU Life Cycle").
+use Rattle.std.specs.Prelude.{ℕ, [], ◌∷◌, ◌++◌}
+use Rattle.td_words.specs.declared.names.PageKind.TheVariants as kind
+use Rattle.td_words.specs.declared.names.OpState.TheVariants as op
+use Rattle.td_words.specs.declared.names.VcpuState.TheVariants as vcpu
+use Rattle.td_words.specs.declared.replies.Value.TheVariants as value
+use Rattle.td_words.specs.declared.machines.Machine.{Machine}
+use Rattle.flat_core.specs.Row.{Row, call_row}
+use Rattle.flat_core.specs.Arguments.{page_argument, apart_argument}
+use Rattle.flat_core.specs.Conditions.{page_exclusive, host_page, td_page, vp_room, vp_in, td_shared, td_exclusive}
+use Rattle.flat_core.specs.Effects.{take_page, clear_page, add_vp, set_vp_state, set_register}
+
+-- VP.CREATE TDR PAGE: the page is cleared and becomes the TDVPR page of the next virtual processor (ABI Reference,
+-- "TDH.VP.CREATE")
+abbrev pub create_vp : Machine → ℕ → ℕ → Row
+create_vp m tdr page = call_row
+    (λ w. page_argument m 1 tdr ∷ page_argument m 2 page ∷ apart_argument 2 page tdr
+    ∷ (td_exclusive w tdr (op.Initialized ∷ op.MemoryImport ∷ []) ++ vp_room w tdr ∷ page_exclusive page ∷ host_page w page ∷ []))
+    (λ w. add_vp tdr page (clear_page page (take_page page kind.Tdvpr tdr w)))
+    (λ w. value.Nothing)
+
+-- VP.INIT TDR VP VALUE: register 0 is VALUE (ABI Reference, "TDH.VP.INIT")
+abbrev pub initialize_vp : Machine → ℕ → ℕ → ℕ → Row
+initialize_vp m tdr vp v = call_row
+    (λ w. page_argument m 1 tdr ∷ page_argument m 2 vp ∷ apart_argument 2 vp tdr
+    ∷ (td_shared w tdr (op.Initialized ∷ []) ++ page_exclusive vp ∷ td_page w tdr vp kind.Tdvpr ∷ vp_in w vp vcpu.Created ∷ []))
+    (λ w. set_register vp 0 v (set_vp_state vp vcpu.Ready w))
+    (λ w. value.Nothing)

@@ -1,0 +1,5 @@
+pub mod Parts
+pub mod Told
+pub mod Begun
+pub mod Owned
+pub mod Acted

@@ -1,0 +1,15 @@
+//! Parts that the rows of many calls share: the beginnings of a TD's rows, and what the words say
+//! that they load.
+//!
+//! Each part is a function of the words that it is told, a tree with a place for what comes after
+//! it, and a lemma that takes the meaning of what comes after it to the meaning of the whole.
+#![tactic(auto)]
+
+mod heads;
+mod words;
+
+pub use heads::{Td, life_in, op_in, root, td_head, tdcs, tdr_head};
+pub use words::{
+    is_among, is_life_among, life_told, lowered, op_told, page_told, raised, says_free, says_host,
+    says_kind,
+};

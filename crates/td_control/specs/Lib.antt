@@ -1,0 +1,4 @@
+pub mod CreationTrees
+pub mod CreationMeanings
+pub mod KeyTrees
+pub mod KeyMeanings

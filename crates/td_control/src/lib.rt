@@ -1,0 +1,12 @@
+//! Calls that build a TD and read of it, as leaves: MNG.CREATE, MNG.KEY.CONFIG, MNG.ADDCX and
+//! MNG.RD.
+//!
+//! Each leaf is a `Plan` of `leaf_engine`, whose tree mirrors its row, with the proof that it means
+//! that row.
+#![tactic(auto)]
+
+mod key_configurations;
+mod td_creations;
+
+pub use key_configurations::KeyConfig;
+pub use td_creations::Create;

@@ -1,0 +1,262 @@
+-- Behind the beginning of its row the leaf that creates a virtual processor means the row.
+use Rattle.std.proofs.Common.{◌≡◌, ℕ, zero, suc, ◌+◌, ◌<◌, ◌≤◌, Bool, true, false, ◌==◌, ◌&&◌, List, [], ◌∷◌, length, refl, ap, sym, ◌∙◌, subst, inl, inr, arith}
+use Rattle.std.specs.Prelude.{nat_lt, nat_le, not}
+use Rattle.std.proofs.lemmas.Bool.{eq-eqb, ltb-true, lt-ltb}
+use Rattle.td_words.specs.declared.names.PageKind.TheVariants as kind
+use Rattle.td_words.specs.declared.names.OpState.{OpState}
+use Rattle.td_words.specs.declared.names.OpState.TheVariants as op
+use Rattle.td_words.specs.declared.names.Mode.TheVariants.{Exclusive}
+use Rattle.td_words.specs.declared.calls.Call.TheVariants as call
+use Rattle.td_words.specs.declared.machines.Machine.{Machine}
+use Rattle.td_words.specs.declared.replies.Value.TheVariants as value
+use Rattle.td_words.specs.declared.replies.Reply.TheVariants.{Done}
+use Rattle.td_words.specs.Packing.{pamt_word}
+use Rattle.td_words.specs.Place.{WordPlace}
+use Rattle.td_words.specs.Place as place
+use Rattle.flat_core.specs.World.{World}
+use Rattle.flat_core.specs.Processor.{OfPage, OfOp}
+use Rattle.flat_core.specs.Conditions.{is_host, children, vp_limit, vp_room, host_page, page_exclusive}
+use Rattle.flat_core.specs.Lawful.{Lawful, IsPageOf}
+use Rattle.flat_core.specs.VpRows.{create_vp}
+use Rattle.word_rules.specs.Guards.{Grip, Locked, Meets}
+use Rattle.word_rules.specs.Rules.{Class, VcpuWord, Association, Unused, TdcsWord, ChildCount, Whole, KeepsNothing, reads, writes, owes}
+use Rattle.word_rules.specs.Lines.{Line, At, in_lines}
+use Rattle.word_rules.specs.Spots.{spot, guard_at, or_unused, run, tdcs_classes, vp_classes, is_current, is_empty}
+use Rattle.word_rules.specs.Permissions.{Respects, Reads, Owes}
+use Rattle.word_rules.specs.Cells.{Shows, IsAs, td_lock_lines, tdcs_lines, lock_word}
+use Rattle.act_rules.proofs.Rows.{rows-respect}
+use Rattle.act_rules.proofs.Respected.{host-kind, not-true}
+use Rattle.act_rules.proofs.Stored.{by_test}
+use Rattle.leaf_engine.specs.Changes.{Memory, Put, Clear, changed}
+use Rattle.leaf_engine.specs.Trees.{Load, acts}
+use Rattle.leaf_engine.specs.Means.{Instant, Means, Acts, MayOweAll, work_of, OfCall, hold}
+use Rattle.leaf_parts.specs.Words.{raised}
+use Rattle.leaf_parts.proofs.Acted.{opening}
+use Rattle.leaf_parts.proofs.Told.{kind-shown, tdr-shown, tdcs-shown, tdr-spot, tdcs-spot}
+use Rattle.leaf_parts.proofs.Begun.{IsTd}
+use Rattle.vcpu_control.specs.VpChanges.{create_changes}
+use Rattle.vcpu_control.specs.VpTrees.{create_page, create_room, create_rest}
+use Rattle.vcpu_control.specs.VpLocks.{td_locks, page_locks, td-held, op-held, held-td, held-op, held-page, alone-page, alone-op}
+use Rattle.vcpu_control.specs.VpSpots.{spot_of, at-spot, vp-spot}
+use Rattle.vcpu_control.specs.Children.{one-child, same-children}
+use Rattle.vcpu_control.specs.CreateShows.{created, apart}
+
+-- room
+
+limit_small : (o : OpState) (e : ℕ) → e ≤ 8 → vp_limit o e ≤ 8
+limit_small op.MemoryImport e h = h
+limit_small _ e h = omega arith
+
+room_told : (n l : ℕ) → l ≤ 8 → (nat_lt n 8 && nat_lt n l) ≡ nat_lt n l
+room_told n l few = by_test (nat_lt n l)
+    (λ y. (let lt : n < l = ltb-true n l y in let eight : nat_lt n 8 ≡ true = lt-ltb n 8 (omega arith) in rw (y, eight) refl))
+    (λ y. by_test (nat_lt n 8) (λ a. rw (y, a) refl) (λ a. rw (y, a) refl))
+
+room_few : (n l : ℕ) → l ≤ 8 → nat_lt n l ≡ true → n < 8
+room_few n l few y = (let lt : n < l = ltb-true n l y in omega arith)
+
+-- the words of the list of TDVPR pages
+listed-class : (current empty : ℕ → Bool) (k : ℕ) → k < 8 → or_unused (in_lines (tdcs_classes current empty) (40 + k)) ≡ TdcsWord
+listed-class current empty zero h = refl
+listed-class current empty (suc zero) h = refl
+listed-class current empty (suc (suc zero)) h = refl
+listed-class current empty (suc (suc (suc zero))) h = refl
+listed-class current empty (suc (suc (suc (suc zero)))) h = refl
+listed-class current empty (suc (suc (suc (suc (suc zero))))) h = refl
+listed-class current empty (suc (suc (suc (suc (suc (suc zero)))))) h = refl
+listed-class current empty (suc (suc (suc (suc (suc (suc (suc zero))))))) h = refl
+listed-class current empty (suc (suc (suc (suc (suc (suc (suc (suc k)))))))) h = absurd (omega arith)
+
+-- each word of the new TDVPR page may still be stored
+class-line : (P : Class → Type 0) (n i : ℕ) (c : Class) (rest : List (Line Class)) → P c → P (or_unused (in_lines rest i)) → P (or_unused (in_lines (At n c ∷ rest) i))
+class-line P n i c rest a b = by_test (i == n) (λ e. rw e a) (λ e. rw e b)
+
+vp-owed : (g : Grip) (t p i : ℕ) → g.has (Locked (OfPage t)) ≡ true → g.has (Locked (OfOp t)) ≡ true → g.sole (Locked (OfPage p)) ≡ true
+    → Meets g (guard_at (spot_of (or_unused (in_lines vp_classes i)) t p)) (owes (or_unused (in_lines vp_classes i)) KeepsNothing)
+vp-owed g t p i td op own =
+    let P : Class → Type 0 = λ c. Meets g (guard_at (spot_of c t p)) (owes c KeepsNothing) in
+    let vcpu : P VcpuWord = inr (inl (td, (op, (own, tt)))) in
+    let association : P Association = inl (td, (own, tt)) in
+    let unused : P Unused = inl (td, (own, tt)) in
+    class-line P 0 i VcpuWord (At 1 VcpuWord ∷ At 2 Association ∷ At 3 VcpuWord ∷ At 4 VcpuWord ∷ At 5 VcpuWord ∷ run 8 8 VcpuWord ∷ []) vcpu
+    (class-line P 1 i VcpuWord (At 2 Association ∷ At 3 VcpuWord ∷ At 4 VcpuWord ∷ At 5 VcpuWord ∷ run 8 8 VcpuWord ∷ []) vcpu
+    (class-line P 2 i Association (At 3 VcpuWord ∷ At 4 VcpuWord ∷ At 5 VcpuWord ∷ run 8 8 VcpuWord ∷ []) association
+    (class-line P 3 i VcpuWord (At 4 VcpuWord ∷ At 5 VcpuWord ∷ run 8 8 VcpuWord ∷ []) vcpu
+    (class-line P 4 i VcpuWord (At 5 VcpuWord ∷ run 8 8 VcpuWord ∷ []) vcpu
+    (class-line P 5 i VcpuWord (run 8 8 VcpuWord ∷ []) vcpu
+    (by_test (nat_le 8 i && nat_lt i 16) (λ e. rw e vcpu) (λ e. rw e unused)))))))
+
+module _ (m : Machine) (c : Instant) (t p : ℕ) (la : Lawful m c.state.world) (sh : Shows m c.memory.words c.memory.slots c.state)
+    (x : IsTd m c.state.world t (op.Initialized ∷ op.MemoryImport ∷ [])) (tdr_page : nat_lt t m.pages ≡ true) (page : nat_lt p m.pages ≡ true) (differ : not (p == t) ≡ true) where
+  abbrev w : World
+  w = c.state.world
+
+  abbrev w' : World
+  w' = (create_vp m t p).act w
+
+  abbrev n : ℕ
+  n = length (w.tds.vps t)
+
+  abbrev g : Grip
+  g = hold c (page_locks t p Exclusive)
+
+  other : (p == t) ≡ false
+  other = not-true (p == t) differ
+
+  in_page : p < m.pages
+  in_page = ltb-true p m.pages page
+
+  tdr_in : t < m.pages
+  tdr_in = ltb-true t m.pages tdr_page
+
+  -- its TDCS
+  abbrev d : ℕ
+  d = x.controls.tdcs
+
+  tdcs_in : d < m.pages
+  tdcs_in = x.controls.tdcs_in
+
+  tdcs-word : (i : ℕ) → i < 512 → IsAs (in_lines (td_lock_lines (lock_word c.state.lps c.state.lp_count) t (tdcs_lines w t)) i) (c.memory.words (place.Word d i))
+  tdcs-word i b = tdcs-shown m c.memory.words c.memory.slots c.state sh t i d (x.controls.root ∷ []) x.controls.list x.controls.tdcs_page x.alive.life tdcs_in b
+
+  count_word : c.memory.words (place.Word d 15) ≡ n
+  count_word = tdcs-word 15 (omega arith)
+
+  expected_word : c.memory.words (place.Word d 14) ≡ w.tds.vps_expected t
+  expected_word = tdcs-word 14 (omega arith)
+
+  children_word : c.memory.words (place.Word t 2) ≡ children w t
+  children_word = tdr-shown m c.memory.words c.memory.slots c.state sh t 2 x.alive.kind x.own tdr_in (omega arith)
+
+  limit : vp_limit (w.tds.ops t) (w.tds.vps_expected t) ≤ 8
+  limit = limit_small (w.tds.ops t) (w.tds.vps_expected t) (la.tds.vps_expected t)
+
+  -- what it holds
+  td : g.has (Locked (OfPage t)) ≡ true
+  td = held-td t p Exclusive c.kept other
+
+  op_held : g.has (Locked (OfOp t)) ≡ true
+  op_held = held-op t p Exclusive c.kept other
+
+  op_alone : g.sole (Locked (OfOp t)) ≡ true
+  op_alone = alone-op t p c.kept
+
+  own : g.sole (Locked (OfPage p)) ≡ true
+  own = alone-page t p Exclusive c.kept other
+
+  own_held : g.has (Locked (OfPage p)) ≡ true
+  own_held = held-page t p Exclusive c.kept other
+
+  module _ (room : nat_lt n (vp_limit (w.tds.ops t) (w.tds.vps_expected t)) ≡ true) (host : is_host w p ≡ true) where
+    nda : w.pages.kinds p ≡ kind.Nda
+    nda = host-kind (w.pages.kinds p) host
+
+    eight : n < 8
+    eight = room_few n (vp_limit (w.tds.ops t) (w.tds.vps_expected t)) limit room
+
+    respects : Respects g w w'
+    respects = rows-respect (opening m) 0 (call.VpCreate t p) g w la
+        (tdr_page, (page, (differ, (rw x.alive.kind refl, (rw x.configured refl, (x.two, (x.op, (room, (host, tt)))))))))
+        (td, ((op_held, op_alone), ((own_held, own), tt)))
+
+    itself : (p == p) ≡ true
+    itself = eq-eqb p p refl
+
+    d-p : (d == p) ≡ false
+    d-p = apart w.pages.kinds d p kind.Tdcx kind.Nda x.controls.tdcs_page.kind nda (λ e. cc)
+
+    t-p : (t == p) ≡ false
+    t-p = apart w.pages.kinds t p kind.Tdr kind.Nda x.alive.kind nda (λ e. cc)
+
+    -- what the pages are after the act
+    new-kind : w'.pages.kinds p ≡ kind.Tdvpr
+    new-kind = rw itself refl
+
+    new-owner : w'.pages.owners p ≡ t
+    new-owner = rw itself refl
+
+    after-tdcs : IsPageOf w'.pages t d kind.Tdcx
+    after-tdcs = record { kind = rw d-p x.controls.tdcs_page.kind; owner = rw d-p x.controls.tdcs_page.owner }
+
+    tdr-kind : w'.pages.kinds t ≡ kind.Tdr
+    tdr-kind = rw t-p x.alive.kind
+
+    tdr-owner : w'.pages.owners t ≡ t
+    tdr-owner = rw t-p x.own
+
+    its-act : Acts m c (work_of (OfCall (create_vp m t p))) (page_locks t p Exclusive) (Done value.Nothing) [] (create_changes m.pages t d p n (children w t))
+    its-act = record {
+      reply_is = refl;
+      fills_allowed = tt;
+      respects = respects;
+      locks_stay = ((refl, λ y. y), ((refl, λ y. record { alive = record { kind = tdr-kind; life = y.alive.life }; has_tdcs = y.has_tdcs }), ((refl, λ y. y), tt)));
+      shows = created m c.state c.memory t p d x.controls.root sh la x.alive x.controls.list nda eight
+          (one-child m w t p la in_page host other) (same-children m w t p la in_page host other);
+    }
+
+    new-owed : (i : ℕ) → Owes g w' (place.Word p i) KeepsNothing
+    new-owed i = at-spot g w' (place.Word p i) (spot_of (or_unused (in_lines vp_classes i)) t p) (λ z. owes z KeepsNothing) (vp-spot w' t p i new-kind new-owner) (vp-owed g t p i td op_held own)
+
+    owed : (mem : Memory) → MayOweAll m g w' mem
+        (Clear p ∷ Put (place.Pamt p) (pamt_word (record { kind = kind.Tdvpr; owner = t; epoch = 0 })) ∷ Put (place.Word p 0) n ∷ Put (place.Word d 15) (n + 1) ∷ Put (place.Word t 2) (raised m.pages (children w t)) ∷ [])
+    owed mem = (
+      (in_page, λ i b. new-owed i),
+      (
+        (in_page, (KeepsNothing, inl (own, tt), tt)),
+        (
+          ((in_page, omega arith), (KeepsNothing, new-owed 0, tt)),
+          (
+            ((tdcs_in, omega arith), (KeepsNothing, at-spot g w' (place.Word d 15) (spot_of TdcsWord t d) (λ z. owes z KeepsNothing) (tdcs-spot w' t 15 d (x.controls.root ∷ []) x.controls.list after-tdcs) (inr (inl (td, (op_alone, tt)))), tt)),
+            (((tdr_in, omega arith), (KeepsNothing, at-spot g w' (place.Word t 2) (spot_of ChildCount t t) (λ z. owes z KeepsNothing) (tdr-spot w' t 2 tdr-kind tdr-owner) (inr (inl (td, (op_alone, tt)))), tt)), tt),
+          ),
+        ),
+      ),
+    )
+
+    listed-spot : spot w (place.Word d (40 + n)) ≡ spot_of TdcsWord t d
+    listed-spot = tdcs-spot w t (40 + n) d (x.controls.root ∷ []) x.controls.list x.controls.tdcs_page ∙ ap (λ (x : Class). spot_of x t d) (listed-class (is_current w t) (is_empty w t) n eight)
+
+    its-end : Means m c (work_of (OfCall (create_vp m t p))) (page_locks t p Exclusive) (acts (Done value.Nothing) (create_changes m.pages t d p n (children w t))) []
+    its-end = (
+      its-act,
+      (
+        ((tdcs_in, omega (arith, eight)), (KeepsNothing, at-spot g w (place.Word d (40 + n)) (spot_of TdcsWord t d) (λ z. writes z KeepsNothing) listed-spot (inr (inl (td, (op_alone, tt)))), tt)),
+        owed (changed (Put (place.Word d (40 + n)) p) c.memory),
+      ),
+    )
+
+    -- the child count
+    counted : Means m c (work_of (OfCall (create_vp m t p))) (page_locks t p Exclusive) (Load Whole (place.Word t 2) (λ kids. acts (Done value.Nothing) (create_changes m.pages t d p n kids))) []
+    counted = (
+      (tdr_in, omega arith),
+      inl (at-spot g w (place.Word t 2) (spot_of ChildCount t t) (λ z. reads z Whole) (tdr-spot w t 2 x.alive.kind x.own) (inr (inl (td, (op_alone, tt))))),
+      subst (λ (kids : ℕ). Means m c (work_of (OfCall (create_vp m t p))) (page_locks t p Exclusive) (acts (Done value.Nothing) (create_changes m.pages t d p n kids)) []) (sym children_word) its-end,
+    )
+
+  -- the page
+  paged : nat_lt n (vp_limit (w.tds.ops t) (w.tds.vps_expected t)) ≡ true → Means m c (work_of (OfCall (create_vp m t p))) (td_locks t Exclusive) (create_page m.pages t d p n) (page_exclusive p ∷ host_page w p ∷ [])
+  paged room = (
+    refl,
+    refl,
+    record { in_machine = in_page; at = refl; stands = tt; allowed = inl tt },
+    (in_page, inl (inl (own_held, tt)), (kind-shown m c.memory.words c.memory.slots c.state sh kind.Nda p in_page, λ e. refl, λ host. counted room host)),
+  )
+
+  roomy : Means m c (work_of (OfCall (create_vp m t p))) (td_locks t Exclusive) (create_room m.pages t d (w.tds.ops t) p n (w.tds.vps_expected t)) (vp_room w t ∷ page_exclusive p ∷ host_page w p ∷ [])
+  roomy = (room_told n (vp_limit (w.tds.ops t) (w.tds.vps_expected t)) limit, λ e. refl, paged)
+
+  tdcs-read : (i : ℕ) → spot w (place.Word d i) ≡ spot_of TdcsWord t d → Reads (hold c (td_locks t Exclusive)) w (place.Word d i) Whole
+  tdcs-read i e = at-spot (hold c (td_locks t Exclusive)) w (place.Word d i) (spot_of TdcsWord t d) (λ z. reads z Whole) e (inr (inl (td-held t p Exclusive c.kept other, (op-held t p Exclusive c.kept other, tt))))
+
+  -- the expected number, and the number there is
+  pub create_rest-means : Means m c (work_of (OfCall (create_vp m t p))) (td_locks t Exclusive) (create_rest m.pages t (record { tdcs = d; op = w.tds.ops t }) p) (vp_room w t ∷ page_exclusive p ∷ host_page w p ∷ [])
+  create_rest-means = (
+    (tdcs_in, omega arith),
+    inl (tdcs-read 15 (tdcs-spot w t 15 d (x.controls.root ∷ []) x.controls.list x.controls.tdcs_page)),
+    (
+      (tdcs_in, omega arith),
+      inl (tdcs-read 14 (tdcs-spot w t 14 d (x.controls.root ∷ []) x.controls.list x.controls.tdcs_page)),
+      subst (λ (count : ℕ). Means m c (work_of (OfCall (create_vp m t p))) (td_locks t Exclusive) (create_room m.pages t d (w.tds.ops t) p count (c.memory.words (place.Word d 14))) (vp_room w t ∷ page_exclusive p ∷ host_page w p ∷ [])) (sym count_word)
+          (subst (λ (expected : ℕ). Means m c (work_of (OfCall (create_vp m t p))) (td_locks t Exclusive) (create_room m.pages t d (w.tds.ops t) p n expected) (vp_room w t ∷ page_exclusive p ∷ host_page w p ∷ [])) (sym expected_word) roomy),
+    ),
+  )
