@@ -17,11 +17,13 @@ pub struct HostRead {
 
 impl HostRead {
     ghost use Rattle.std.specs.Prelude.{◌≡◌};
+    ghost use Rattle.leaf_engine.specs.Turns.{IsFresh};
     ghost use Rattle.first_leaves.specs.HostTrees.{host_read_task};
 
     /// The leaf of a call at a place.
     pub fn leaf(place: Place, page: u64, word: u64) -> Planned<HostRead>
-        ensures { ⟦<Planned<HostRead> as Leaf>⟧.task result ≡ host_read_task place page word }
+        ensures task { ⟦<Planned<HostRead> as Leaf>⟧.task result ≡ host_read_task place page word }
+        ensures fresh { let leaf = ⟦<Planned<HostRead> as Leaf>⟧ in IsFresh (leaf.task result).tree (leaf.rest result) (leaf.tries result) (leaf.written result) (leaf.waits result) }
     {
         Planned::new(HostRead { place, page, word })
     }
@@ -66,11 +68,13 @@ pub struct HostWrite {
 
 impl HostWrite {
     ghost use Rattle.std.specs.Prelude.{◌≡◌};
+    ghost use Rattle.leaf_engine.specs.Turns.{IsFresh};
     ghost use Rattle.first_leaves.specs.HostTrees.{host_write_task};
 
     /// The leaf of a call at a place.
     pub fn leaf(place: Place, page: u64, word: u64, value: u64) -> Planned<HostWrite>
-        ensures { ⟦<Planned<HostWrite> as Leaf>⟧.task result ≡ host_write_task place page word value }
+        ensures task { ⟦<Planned<HostWrite> as Leaf>⟧.task result ≡ host_write_task place page word value }
+        ensures fresh { let leaf = ⟦<Planned<HostWrite> as Leaf>⟧ in IsFresh (leaf.task result).tree (leaf.rest result) (leaf.tries result) (leaf.written result) (leaf.waits result) }
     {
         Planned::new(HostWrite {
             place,

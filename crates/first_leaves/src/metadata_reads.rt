@@ -18,12 +18,14 @@ pub struct Rdmd {
 
 impl Rdmd {
     ghost use Rattle.std.specs.Prelude.{◌≡◌, ◌≤◌};
+    ghost use Rattle.leaf_engine.specs.Turns.{IsFresh};
     ghost use Rattle.first_leaves.specs.HostTrees.{rdmd_task};
 
     /// The leaf of a call at a place.
     pub fn leaf(place: Place, page: u64) -> Planned<Rdmd>
         requires { place.machine.pages ≤ 1024 }
-        ensures { ⟦<Planned<Rdmd> as Leaf>⟧.task result ≡ rdmd_task place page }
+        ensures task { ⟦<Planned<Rdmd> as Leaf>⟧.task result ≡ rdmd_task place page }
+        ensures fresh { let leaf = ⟦<Planned<Rdmd> as Leaf>⟧ in IsFresh (leaf.task result).tree (leaf.rest result) (leaf.tries result) (leaf.written result) (leaf.waits result) }
     {
         Planned::new(Rdmd { place, page })
     }

@@ -21,11 +21,13 @@ pub struct Create {
 
 impl Create {
     ghost use Rattle.std.specs.Prelude.{◌≡◌};
+    ghost use Rattle.leaf_engine.specs.Turns.{IsFresh};
     ghost use Rattle.first_leaves.specs.TdTrees.{create_task};
 
     /// The leaf of a call at a place.
     pub fn leaf(place: Place, tdr: u64, hkid: u64) -> Planned<Create>
-        ensures { ⟦<Planned<Create> as Leaf>⟧.task result ≡ create_task place tdr hkid }
+        ensures task { ⟦<Planned<Create> as Leaf>⟧.task result ≡ create_task place tdr hkid }
+        ensures fresh { let leaf = ⟦<Planned<Create> as Leaf>⟧ in IsFresh (leaf.task result).tree (leaf.rest result) (leaf.tries result) (leaf.written result) (leaf.waits result) }
     {
         Planned::new(Create { place, tdr, hkid })
     }

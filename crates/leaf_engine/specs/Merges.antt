@@ -9,7 +9,7 @@ use Rattle.flat_core.specs.Run.{play, run}
 use Rattle.word_rules.specs.Cells.{Shows}
 use Rattle.step_core.specs.Items.{Table, Taken, PlaysTo}
 use Rattle.leaf_engine.specs.Changes.{Memory, are_plain}
-use Rattle.leaf_engine.specs.Trees.{feed, changes_of, fills_of}
+use Rattle.leaf_engine.specs.Trees.{feed, changes_of}
 use Rattle.leaf_engine.specs.Means.{Task, OfCall, MeansRow}
 use Rattle.leaf_engine.specs.Tables.{IsMemory}
 use Rattle.leaf_engine.specs.OwnLists.{Piece, Quiet, Marked, Wordless, joined, WordLp, first_lp, OwnTurns}
@@ -61,7 +61,6 @@ pub record AreLeaves (o : Opening) (leaf : ℕ → Call → Task) : Type 0 where
   pub row : (p : ℕ) (c : Call) → (leaf p c).meaning ≡ OfCall (row_of o p c)
   pub means : (p : ℕ) (c : Call) → MeansRow (leaf p c)
   pub plain : (p : ℕ) (c : Call) (told : List ℕ) → are_plain (changes_of (feed (leaf p c).tree told)) ≡ true
-  pub unfilled : (p : ℕ) (c : Call) (told : List ℕ) → fills_of (feed (leaf p c).tree told) ≡ []
 
 -- A merge of own lists, one for each processor of a script, from the processor's first line on to where it then is, in
 -- which each load reads what the merge has stored.

@@ -60,11 +60,6 @@ changes_of (End r fs cs) = fs ++ cs
 changes_of (Since r cs) = cs
 changes_of _ = []
 
--- the stores before its act
-abbrev pub fills_of : Tree → List Change
-fills_of (End r fs cs) = fs
-fills_of _ = []
-
 -- those that are still to be handed out
 abbrev pub left_of : Tree → ℕ → List Change
 left_of t written = drop written (changes_of t)

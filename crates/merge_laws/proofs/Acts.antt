@@ -30,10 +30,10 @@ use Rattle.leaf_engine.specs.Calls.{IsCallAt, After}
 use Rattle.leaf_engine.specs.OwnLists.{WordLp, after_turn}
 use Rattle.leaf_engine.proofs.Turning.{instant, ends}
 use Rattle.merge_laws.proofs.Virtual.{table_of, holds-memory}
-use Rattle.merge_laws.proofs.Stores.{Due, last_at, later, or_else, laid, laid-one, laid-none, laid-same, last-each, EachDue, OwesAt}
+use Rattle.merge_laws.proofs.Stores.{Due, last_at, later, or_else, laid, laid-one, laid-none, laid-same, last-each, EachDue, OwesAt, FillsAt}
 use Rattle.merge_laws.proofs.Keeping.{Keeps, keeps-each, keeps-same}
 use Rattle.merge_laws.proofs.Holding.{bare}
-use Rattle.merge_laws.proofs.Standing.{Laws, leaf_for, AreTrees, Known, RunsAt, on_table, Position, Holds, Stands}
+use Rattle.merge_laws.proofs.Standing.{Laws, leaf_for, AreTrees, Known, RunsAt, on_table, Position, back, Holds, Stands}
 use Rattle.merge_laws.proofs.Others.{shown-of}
 use Rattle.merge_laws.proofs.Own.{AttemptTdr, tdrs-after, stands-after, world-of-event, at-own, at-other, Spares, gathered, none-due}
 use Rattle.merge_laws.proofs.LockSteps.{engine, turned-round, Moved}
@@ -47,8 +47,8 @@ IsAct _ = ⊥
 abbrev pub CanWrite : Grip → World → WordPlace → Type 0
 CanWrite g w q = (k : Grade) × Writes g w q k
 
--- the event of a turn that is its act: what its item stores, and what is owed then
-pub record OneAct (o : Opening) (trees : ℕ → Call → Tree) (s : State) (mem : Memory) (t t' : Table) (p : ℕ) (c : Call) (told : List ℕ) (run run' : Standing) (result : RunTurn) : Type 0 where
+-- the event of a turn that is its act: what was filled before, what its item stores, and what is owed then
+pub record OneAct (o : Opening) (trees : ℕ → Call → Tree) (s : State) (mem : Memory) (t t' : Table) (pos : ℕ → Position) (p : ℕ) (c : Call) (told : List ℕ) (run run' : Standing) (result : RunTurn) : Type 0 where
   pub move : Move Reply
   pub is_act : IsAct move
   pub next : next_event o s p ≡ Some (OfCall (row_of o p c) move)
@@ -58,12 +58,16 @@ pub record OneAct (o : Opening) (trees : ℕ → Call → Tree) (s : State) (mem
   pub ends : (u : Table) → IsMemory o.machine u run'.hasher after → EndsRow (leaf_for o trees p c) (instant (leaf_for o trees p c) s mem) told u run run'
   pub no_hasher : run'.hasher ≡ None
   pub reply : result.reply ≡ last_reply run'.stage run'.held
+  pub filled : List Due
   pub first : List Due
   pub owes : List Due
   pub spares : Spares o.machine s p (call_world (row_of o p c) move s.world) mem.words after.words (on_table o.machine t) (on_table o.machine t')
-  pub makes : (r : WordPlace) → IsIn o.machine r → after.words r ≡ or_else (last_at owes r) (or_else (last_at first r) (mem.words r))
+  pub makes : (r : WordPlace) → IsIn o.machine r → after.words r ≡ or_else (last_at owes r) (or_else (last_at first r) (or_else (last_at filled r) (mem.words r)))
   pub written : EachDue (CanWrite (bare (s.lps p).call.held) s.world) first
-  pub owed : Keeps o.machine (bare (s.lps p).call.held) (call_world (row_of o p c) move s.world) (λ q. or_else (last_at first q) (mem.words q)) owes
+  pub owed : Keeps o.machine (bare (s.lps p).call.held) (call_world (row_of o p c) move s.world) (λ q. or_else (last_at first q) (or_else (last_at filled q) (mem.words q))) owes
+  pub filled_may : EachDue (FillsAt o.machine (bare (s.lps p).call.held) s.world) filled
+  pub there : (r : WordPlace) (x : ℕ) → IsIn o.machine r → last_at filled r ≡ Some x → t.words (address o.machine.pages r) ≡ x
+  pub undo : (r : WordPlace) → last_at (pos p).owes r ≡ back (last_at filled r) (mem.words r)
   pub held_or_none : ((event o s p).lps p).call.held ≡ (s.lps p).call.held
   pub table : (r : WordPlace) → IsIn o.machine r → t'.words (address o.machine.pages r) ≡ or_else (last_at first r) (t.words (address o.machine.pages r))
   pub table_slots : t'.slots ≡ t.slots
@@ -72,10 +76,10 @@ same-memory : (m : Machine) (u : Table) (h : Option Measure) (a b : Memory) → 
 same-memory m u h a b x y r i = sym (x.words r i) ∙ y.words r i
 
 pub act-step : (ls : Laws) (o : Opening) (trees : ℕ → Call → Tree) (s : State) (mem : Memory) (t t' : Table) (pos : ℕ → Position) (p : ℕ) (c : Call) (cs : List Call) (rs : List Reply) (run run' : Standing) (result : RunTurn)
-    → AreTrees o trees → Known o s → Stands o trees s mem t pos → p < length o.calls → lines_left o p (s.lps p) ≡ c ∷ cs → (s.lps p).replies ≡ rs → (pos p).owes ≡ []
-    → (ra : RunsAt o (leaf_for o trees p c) (row_of o p c) s.world mem.words (s.lps p) run) → (e : run.stage ≡ stages.Trying) → (one : OneAct o trees s mem t t' p c (ra.call.told e).told run run' result)
-    → Moved o trees (event o s p) t' (put pos p (record { at = after_turn c cs rs run' result.reply; owes = one.owes }))
-act-step ls o trees s mem t t' pos p c cs rs run run' result are known sd i lines replies none ra e one =
+    → AreTrees o trees → Known o s → Stands o trees s mem t pos → p < length o.calls → lines_left o p (s.lps p) ≡ c ∷ cs → (s.lps p).replies ≡ rs
+    → (ra : RunsAt o (leaf_for o trees p c) (row_of o p c) s.world mem.words (s.lps p) run) → (e : run.stage ≡ stages.Trying) → (one : OneAct o trees s mem t t' pos p c (ra.call.told e).told run run' result)
+    → Moved o trees (event o s p) t' (put pos p (record { at = after_turn c cs rs run' result.reply; owes = one.owes; fill = None }))
+act-step ls o trees s mem t t' pos p c cs rs run run' result are known sd i lines replies ra e one =
     record {
       memory = made.mem;
       stands = gathered ls o trees s mem made.mem t t' pos p now are known sd i
@@ -83,16 +87,17 @@ act-step ls o trees s mem t t' pos p c cs rs run run' result are known sd i line
             respects = subst (λ (w : World). Respects (bare (s.lps p).call.held) s.world w) (sym world) one.spares.respects;
             looks = λ hs v r apart in_r reads. ap (look v) (made-is r in_r) ∙ one.spares.looks hs v r apart in_r reads;
             still = one.spares.still;
+            filled = λ hs r apart in_r fills. (let sp = one.spares.filled hs r apart in_r fills in (sp.0, made-is r in_r ∙ sp.1));
           })
           made.shown hand
           (λ h in_h. subst (λ (f : ℕ → Option Measure). IsHand (f (h - 1)) (made.mem.slots h)) (sym one.table_slots) (made.memory.slots h in_h))
           (record {
             stands = stands-after o trees p c cs (s.lps p) (event o s p) uV run' result.reply lines made one.no_hasher
                 (tdrs-after o s p (row_of o p c) one.move one.next (are.means p c).enters_none ra.tdrs (no-attempt one.move one.is_act) (no-rest one.move one.is_act) (no-release one.move one.is_act)) rs replies;
-            owed =
+            due =
                 subst (λ (w : World). Keeps m (bare ((event o s p).lps p).call.held) w (on_table m t') one.owes) (sym world)
                 (subst (λ (hs : List Held). Keeps m (bare hs) (call_world (row_of o p c) one.move s.world) (on_table m t') one.owes) (sym one.held_or_none)
-                (keeps-same m (bare (s.lps p).call.held) (bare (s.lps p).call.held) after-world after-world (λ q. or_else (last_at one.first q) (mem.words q)) (on_table m t') one.owes (λ q k owes. owes) kept-there one.owed));
+                (keeps-same m (bare (s.lps p).call.held) (bare (s.lps p).call.held) after-world after-world base (on_table m t') one.owes (λ q k owes. owes) kept-there one.owed));
           })
           (tdrs-after o s p (row_of o p c) one.move one.next (are.means p c).enters_none ra.tdrs (no-attempt one.move one.is_act) (no-rest one.move one.is_act) (no-release one.move one.is_act))
           laid-after;
@@ -102,7 +107,7 @@ act-step ls o trees s mem t t' pos p c cs rs run run' result are known sd i line
     m = o.machine
 
     now : Position
-    now = record { at = after_turn c cs rs run' result.reply; owes = one.owes }
+    now = record { at = after_turn c cs rs run' result.reply; owes = one.owes; fill = None }
 
     uV : Table
     uV = table_of m t.slots one.after.words
@@ -153,6 +158,9 @@ act-step ls o trees s mem t t' pos p c cs rs run run' result are known sd i line
     no-release (Releases y) a x h = absurd a
     no-release Rests a x h = absurd a
 
+    base : WordPlace → ℕ
+    base q = or_else (last_at one.first q) (or_else (last_at one.filled q) (mem.words q))
+
     owes-other : (k : ℕ) (r : WordPlace) → (k == p) ≡ false → last_at (put pos p now k).owes r ≡ last_at (pos k).owes r
     owes-other k r h = ap (λ (z : Position). last_at z.owes r) (at-other pos p k now h)
 
@@ -166,7 +174,19 @@ act-step ls o trees s mem t t' pos p c cs rs run run' result are known sd i line
     first-alone r x h =
         let may = last-each ls.places (CanWrite (bare (s.lps p).call.held) s.world) one.first r x one.written h in
         none-due ls o trees s mem t pos p r known sd i
-        (λ k hs g apart owes. (ls.words (bare (s.lps p).call.held) (bare hs) s.world (turned-round (bare hs) (bare (s.lps p).call.held) apart)).writes_owes r may.0 g may.1 owes)
+        (record {
+          owes = λ hs g apart owes. (ls.words (bare (s.lps p).call.held) (bare hs) s.world (turned-round (bare hs) (bare (s.lps p).call.held) apart)).writes_owes r may.0 g may.1 owes;
+          fills = λ hs apart fills. (ls.words (bare hs) (bare (s.lps p).call.held) s.world apart).fills_writes r may.0 fills may.1;
+        })
+
+    filled-alone : (r : WordPlace) (x : ℕ) → last_at one.filled r ≡ Some x → NoOther r
+    filled-alone r x h =
+        let may = last-each ls.places (FillsAt m (bare (s.lps p).call.held) s.world) one.filled r x one.filled_may h in
+        none-due ls o trees s mem t pos p r known sd i
+        (record {
+          owes = λ hs g apart owes. (ls.words (bare (s.lps p).call.held) (bare hs) s.world (turned-round (bare hs) (bare (s.lps p).call.held) apart)).fills_owes r g may.1 owes;
+          fills = λ hs apart fills. (ls.words (bare hs) (bare (s.lps p).call.held) s.world apart).fills_fills r fills may.1;
+        })
 
     after-world : World
     after-world = call_world (row_of o p c) one.move s.world
@@ -174,23 +194,30 @@ act-step ls o trees s mem t t' pos p c cs rs run run' result are known sd i line
     alone-owes : (r : WordPlace) (k : Grade) → Owes (bare (s.lps p).call.held) after-world r k → NoOther r
     alone-owes r k mine =
         none-due ls o trees s mem t pos p r known sd i
-        (λ j hs g apart owes. (ls.acts (bare hs) (bare (s.lps p).call.held) s.world after-world apart one.spares.respects).owes_later r g k owes mine)
+        (record {
+          owes = λ hs g apart owes. (ls.acts (bare hs) (bare (s.lps p).call.held) s.world after-world apart one.spares.respects).owes_later r g k owes mine;
+          fills = λ hs apart fills. (ls.acts (bare hs) (bare (s.lps p).call.held) s.world after-world apart one.spares.respects).fills_later r k fills mine;
+        })
 
-    mine-none : (r : WordPlace) (k : ℕ) → k < length o.calls → NoOther r → last_at (pos k).owes r ≡ None
-    mine-none r k j alone = test (k == p) refl
+    none-at : (r : WordPlace) → last_at one.filled r ≡ None → NoOther r → (k : ℕ) → k < length o.calls → last_at (pos k).owes r ≡ None
+    none-at r e alone k j = test (k == p) refl
       where
         test : (b : Bool) → (k == p) ≡ b → last_at (pos k).owes r ≡ None
-        test true h = (let k-is : k ≡ p = eqb-true k p h in ap (λ (z : ℕ). last_at (pos z).owes r) k-is ∙ ap (λ (ds : List Due). last_at ds r) none)
+        test true h = (let k-is : k ≡ p = eqb-true k p h in ap (λ (z : ℕ). last_at (pos z).owes r) k-is ∙ (one.undo r ∙ ap (λ (z : Option ℕ). back z (mem.words r)) e))
         test false h = alone k j h
 
-    kept-there : (r : WordPlace) (k : Grade) → IsIn m r → Owes (bare (s.lps p).call.held) after-world r k → or_else (last_at one.first r) (mem.words r) ≡ on_table m t' r
-    kept-there r k in_r mine =
-        ap (or_else (last_at one.first r)) (sd.laid_is r in_r ∙ laid-none (length o.calls) (λ j. (pos j).owes) (on_table m t) r (λ j l. mine-none r j l (alone-owes r k mine)))
-        ∙ sym (one.table r in_r)
+    kept-there : (r : WordPlace) (k : Grade) → IsIn m r → Owes (bare (s.lps p).call.held) after-world r k → base r ≡ on_table m t' r
+    kept-there r k in_r mine = ap (or_else (last_at one.first r)) (by (last_at one.filled r) refl) ∙ sym (one.table r in_r)
+      where
+        by : (x : Option ℕ) → last_at one.filled r ≡ x → or_else (last_at one.filled r) (mem.words r) ≡ on_table m t r
+        by (Some x) h = ap (λ (z : Option ℕ). or_else z (mem.words r)) h ∙ sym (one.there r x in_r h)
+        by None h =
+            ap (λ (z : Option ℕ). or_else z (mem.words r)) h
+            ∙ (sd.laid_is r in_r ∙ laid-none (length o.calls) (λ j. (pos j).owes) (on_table m t) r (none-at r h (alone-owes r k mine)))
 
     owed-alone : (r : WordPlace) (x : ℕ) → last_at one.owes r ≡ Some x → NoOther r
     owed-alone r x h =
-        let each = keeps-each m (bare (s.lps p).call.held) after-world (λ q. or_else (last_at one.first q) (mem.words q)) one.owes one.owed in
+        let each = keeps-each m (bare (s.lps p).call.held) after-world base one.owes one.owed in
         let may = last-each ls.places (OwesAt m (bare (s.lps p).call.held) after-world) one.owes r x each h in
         alone-owes r may.1.0 may.1.1
 
@@ -203,23 +230,31 @@ act-step ls o trees s mem t t' pos p c cs rs run run' result are known sd i line
         ∙ ap (λ (z : Option ℕ). or_else z (t'.words (address m.pages r))) (owes-own r)
 
     laid-after : (r : WordPlace) → IsIn m r → made.mem.words r ≡ lay r
-    laid-after r in_r = made-is r in_r ∙ (one.makes r in_r ∙ by (last_at one.owes r) (last_at one.first r) refl refl)
+    laid-after r in_r = made-is r in_r ∙ (one.makes r in_r ∙ by (last_at one.owes r) (last_at one.first r) (last_at one.filled r) refl refl refl)
       where
-        by : (x y : Option ℕ) → last_at one.owes r ≡ x → last_at one.first r ≡ y → or_else (last_at one.owes r) (or_else (last_at one.first r) (mem.words r)) ≡ lay r
-        by (Some x) y ex ey =
-            ap (λ (z : Option ℕ). or_else z (or_else (last_at one.first r) (mem.words r))) ex
-            ∙ sym (lay-alone r (owed-alone r x ex) ∙ ap (λ (z : Option ℕ). or_else z (t'.words (address m.pages r))) ex)
-        by None (Some y) ex ey =
-            ap (λ (z : Option ℕ). or_else z (or_else (last_at one.first r) (mem.words r))) ex
-            ∙ (ap (λ (z : Option ℕ). or_else z (mem.words r)) ey
+        owes-is : (x : Option ℕ) (y : ℕ) → last_at one.owes r ≡ x → or_else (last_at one.owes r) y ≡ or_else x y
+        owes-is x y e = ap (λ (z : Option ℕ). or_else z y) e
+
+        by : (x y z : Option ℕ) → last_at one.owes r ≡ x → last_at one.first r ≡ y → last_at one.filled r ≡ z → or_else (last_at one.owes r) (or_else (last_at one.first r) (or_else (last_at one.filled r) (mem.words r))) ≡ lay r
+        by (Some x) y z ex ey ez = owes-is (Some x) (or_else (last_at one.first r) (or_else (last_at one.filled r) (mem.words r))) ex ∙ sym (lay-alone r (owed-alone r x ex) ∙ owes-is (Some x) (t'.words (address m.pages r)) ex)
+        by None (Some y) z ex ey ez =
+            owes-is None (or_else (last_at one.first r) (or_else (last_at one.filled r) (mem.words r))) ex
+            ∙ (ap (λ (u : Option ℕ). or_else u (or_else (last_at one.filled r) (mem.words r))) ey
             ∙ sym (lay-alone r (first-alone r y ey)
-            ∙ (ap (λ (z : Option ℕ). or_else z (t'.words (address m.pages r))) ex ∙ (one.table r in_r ∙ ap (λ (z : Option ℕ). or_else z (t.words (address m.pages r))) ey))))
-        by None None ex ey =
-            ap (λ (z : Option ℕ). or_else z (or_else (last_at one.first r) (mem.words r))) ex
-            ∙ (ap (λ (z : Option ℕ). or_else z (mem.words r)) ey
+            ∙ (owes-is None (t'.words (address m.pages r)) ex ∙ (one.table r in_r ∙ ap (λ (u : Option ℕ). or_else u (t.words (address m.pages r))) ey))))
+        by None None (Some z) ex ey ez =
+            owes-is None (or_else (last_at one.first r) (or_else (last_at one.filled r) (mem.words r))) ex
+            ∙ (ap (λ (u : Option ℕ). or_else u (or_else (last_at one.filled r) (mem.words r))) ey
+            ∙ (ap (λ (u : Option ℕ). or_else u (mem.words r)) ez
+            ∙ sym (lay-alone r (filled-alone r z ez)
+            ∙ (owes-is None (t'.words (address m.pages r)) ex ∙ (one.table r in_r ∙ (ap (λ (u : Option ℕ). or_else u (t.words (address m.pages r))) ey ∙ one.there r z in_r ez))))))
+        by None None None ex ey ez =
+            owes-is None (or_else (last_at one.first r) (or_else (last_at one.filled r) (mem.words r))) ex
+            ∙ (ap (λ (u : Option ℕ). or_else u (or_else (last_at one.filled r) (mem.words r))) ey
+            ∙ (ap (λ (u : Option ℕ). or_else u (mem.words r)) ez
             ∙ (sd.laid_is r in_r
             ∙ laid-same (length o.calls) (λ k. (pos k).owes) (λ k. (put pos p now k).owes) (on_table m t) (on_table m t') r owes-same
-            (sym (one.table r in_r ∙ ap (λ (z : Option ℕ). or_else z (t.words (address m.pages r))) ey))))
+            (sym (one.table r in_r ∙ ap (λ (u : Option ℕ). or_else u (t.words (address m.pages r))) ey)))))
           where
             owes-same : (k : ℕ) → k < length o.calls → last_at (pos k).owes r ≡ last_at (put pos p now k).owes r
             owes-same k j = test (k == p) refl
@@ -227,6 +262,6 @@ act-step ls o trees s mem t t' pos p c cs rs run run' result are known sd i line
                 test : (b : Bool) → (k == p) ≡ b → last_at (pos k).owes r ≡ last_at (put pos p now k).owes r
                 test true h =
                     let k-is : k ≡ p = eqb-true k p h in
-                    subst (λ (z : ℕ). last_at (pos z).owes r ≡ last_at (put pos p now z).owes r) (sym k-is)
-                    (ap (λ (ds : List Due). last_at ds r) none ∙ sym (owes-own r ∙ ex))
+                    subst (λ (u : ℕ). last_at (pos u).owes r ≡ last_at (put pos p now u).owes r) (sym k-is)
+                    (one.undo r ∙ (ap (λ (u : Option ℕ). back u (mem.words r)) ez ∙ sym (owes-own r ∙ ex)))
                 test false h = sym (owes-other k r h)

@@ -15,7 +15,7 @@ use Rattle.flat_core.specs.Event.{State, OfCall, next_event, event, call_world, 
 use Rattle.word_rules.specs.Guards.{Apart, Grip}
 use Rattle.word_rules.specs.Rules.{View, Grade, KeepsNothing}
 use Rattle.word_rules.specs.Views.{look, IsKept}
-use Rattle.word_rules.specs.Permissions.{Reads, Owes, Writes, Respects}
+use Rattle.word_rules.specs.Permissions.{Reads, Owes, Writes, Fills, Respects}
 use Rattle.word_rules.specs.Cells.{Shows}
 use Rattle.lock_words.specs.LockWords.{put_word}
 use Rattle.step_core.specs.Items.{Table}
@@ -23,8 +23,8 @@ use Rattle.leaf_engine.specs.declared.events.RunTurn.{RunTurn}
 use Rattle.leaf_engine.specs.declared.events.Stage.TheVariants as stages
 use Rattle.leaf_engine.specs.declared.needs.Need.TheVariants as need
 use Rattle.leaf_engine.specs.Changes.{Memory, Change, Put, PutHash, Raise, Clear, Copy, Swap, changed, changed_all, is_plain, are_plain}
-use Rattle.leaf_engine.specs.Trees.{Tree, Lock, Load, Test, End, Since, feed, changes_of, fills_of}
-use Rattle.leaf_engine.specs.Means.{Task, Instant, Work, IsAt, work_of, hold, Acts, MayAct, MayChange, MayOweAll, acted, LocksStay, MeansRow}
+use Rattle.leaf_engine.specs.Trees.{Tree, Lock, Load, Test, End, Since, feed, changes_of}
+use Rattle.leaf_engine.specs.Means.{Task, Instant, Work, IsAt, work_of, hold, Acts, MayAct, MayFillAll, MayChange, MayOweAll, acted, LocksStay, MeansRow}
 use Rattle.leaf_engine.specs.Decides.{Gives}
 use Rattle.leaf_engine.specs.Tables.{IsMemory}
 use Rattle.leaf_engine.specs.Turns.{Standing, last_reply}
@@ -35,10 +35,10 @@ use Rattle.leaf_engine.proofs.Following.{leaves-follow-rows}
 use Rattle.leaf_engine.proofs.Turning.{instant, at-instant, due-is}
 use Rattle.leaf_engine.proofs.Showing.{EndsWith, ends-with}
 use Rattle.merge_laws.proofs.Virtual.{table_of}
-use Rattle.merge_laws.proofs.Stores.{Due, last_at, later, or_else, stores_of, all_stores, EachDue, last-each, last-append, or-later, changed-is, one-is, changed-rest, looks-owed}
-use Rattle.merge_laws.proofs.Keeping.{Keeps, keeps-same, owed-keeps}
+use Rattle.merge_laws.proofs.Stores.{Due, last_at, later, or_else, stores_of, all_stores, EachDue, OwesAt, FillsAt, last-each, last-append, or-later, changed-is, one-is, changed-rest, filled-stores, looks-owed, looks-filled}
+use Rattle.merge_laws.proofs.Keeping.{Keeps, keeps-each, keeps-same, owed-keeps}
 use Rattle.merge_laws.proofs.Holding.{bare}
-use Rattle.merge_laws.proofs.Standing.{Laws, leaf_for, AreTrees, Known, on_table, Position, Stands}
+use Rattle.merge_laws.proofs.Standing.{Laws, leaf_for, AreTrees, Known, on_table, Position, back, Stands}
 use Rattle.merge_laws.proofs.Others.{shown-of, hold-is}
 use Rattle.merge_laws.proofs.Own.{lp-of-event, Spares}
 use Rattle.merge_laws.proofs.LockSteps.{turned-round}
@@ -95,6 +95,17 @@ owed-looks : (ls : Laws) (m : Machine) (g h : Grip) (w w' : World) (mem : Memory
 owed-looks ls m g h w w' mem cs r v a rs in_r may pl rd =
     looks-owed ls.places m h w' mem cs r v in_r may pl (λ words q x k owes kept. (ls.keep g h w words a).left w' q r x v k rs rd owes kept)
 
+fill-looks : (ls : Laws) (m : Machine) (g h : Grip) (w : World) (mem : Memory) (fs : List Change) (r : WordPlace) (v : View) → Apart g h → IsIn m r → MayFillAll m h w fs → Reads g w r v → look v ((changed_all fs mem).words r) ≡ look v (mem.words r)
+fill-looks ls m g h w mem fs r v a in_r may rd = looks-filled ls.places m h w mem fs r v in_r may (λ words q x fills. (ls.keep g h w words a).filled q r x v rd fills)
+
+pub plain-parts : (fs cs : List Change) → are_plain (fs ++ cs) ≡ true → (are_plain fs ≡ true) × (are_plain cs ≡ true)
+plain-parts [] cs e = (refl, e)
+plain-parts (f ∷ fs) cs e =
+    let rest = plain-parts fs cs (and-second (is_plain f) (are_plain (fs ++ cs)) e) in
+    let one : is_plain f ≡ true = and-first (is_plain f) (are_plain (fs ++ cs)) e in
+    let fs-plain : are_plain fs ≡ true = rest.0 in
+    (rw (one, fs-plain) refl, rest.1)
+
 act-written : (m : Machine) (g : Grip) (w : World) (mem : Memory) (c : Change) → MayAct m g w mem c → is_plain c ≡ true → EachDue (CanWrite g w) (stores_of c mem)
 act-written m g w mem (Put q x) may pl = ((may.1.0, may.1.1), tt)
 act-written m g w mem (PutHash q x) may pl = cc
@@ -113,23 +124,32 @@ pub record AtEnd (o : Opening) (trees : ℕ → Call → Tree) (s : State) (mem 
   pub no_hasher : run'.hasher ≡ None
   pub last : result.reply ≡ last_reply run'.stage run'.held
 
--- what its end stores first, and owes
+-- what its end has filled, stores first, and owes
+abbrev pub filled_of : Tree → Memory → List Due
+filled_of (End r fs cs) mem = all_stores fs mem
+filled_of _ mem = []
+
 abbrev pub first_of : Tree → Memory → List Due
-first_of (End r fs cs) mem = act_first cs mem
+first_of (End r fs cs) mem = act_first cs (changed_all fs mem)
 first_of _ mem = []
 
 abbrev pub owes_of : Tree → Memory → List Due
-owes_of (End r fs cs) mem = act_owes cs mem
+owes_of (End r fs cs) mem = act_owes cs (changed_all fs mem)
 owes_of (Since r cs) mem = all_stores cs mem
 owes_of _ mem = []
 
+-- memory has what was filled, and what would take it back is due
+pub record HasFilled (o : Opening) (t : Table) (pos : ℕ → Position) (p : ℕ) (mem : Memory) (filled : List Due) : Type 0 where
+  pub there : (r : WordPlace) (x : ℕ) → IsIn o.machine r → last_at filled r ≡ Some x → t.words (address o.machine.pages r) ≡ x
+  pub undo : (r : WordPlace) → last_at (pos p).owes r ≡ back (last_at filled r) (mem.words r)
+
 pub one-act : (ls : Laws) (o : Opening) (trees : ℕ → Call → Tree) (s : State) (mem : Memory) (t t' : Table) (pos : ℕ → Position) (p : ℕ) (c : Call) (now : List ℕ) (reply : Reply) (run run' : Standing) (result : RunTurn)
     → AreTrees o trees → Known o s → Stands o trees s mem t pos → p < length o.calls → run.hasher ≡ None → (ca : IsCallAt o (leaf_for o trees p c) (row_of o p c) s.world mem.words (s.lps p) run) → (e : run.stage ≡ stages.Trying)
-    → AtEnd o trees s mem p c (ca.told e).told now reply run run' result
+    → AtEnd o trees s mem p c (ca.told e).told now reply run run' result → HasFilled o t pos p mem (filled_of (feed (trees p c) now) mem)
     → ((r : WordPlace) → IsIn o.machine r → t'.words (address o.machine.pages r) ≡ or_else (last_at (first_of (feed (trees p c) now) mem) r) (t.words (address o.machine.pages r))) → t'.slots ≡ t.slots
-    → (one : OneAct o trees s mem t t' p c (ca.told e).told run run' result) × (one.owes ≡ owes_of (feed (trees p c) now) mem)
-one-act ls o trees s mem t t' pos p c now reply run run' result are known sd i no_hasher ca e en table slots =
-    by (feed (trees p c) now) (leaves-follow-rows task inst now (are.means p c) at en.current) en.gives (are.plain p c now) (are.unfilled p c now) table (ends-with m inst k hs mv (feed (trees p c) now) reply (leaves-follow-rows task inst now (are.means p c) at en.current) en.gives)
+    → (one : OneAct o trees s mem t t' pos p c (ca.told e).told run run' result) × (one.owes ≡ owes_of (feed (trees p c) now) mem)
+one-act ls o trees s mem t t' pos p c now reply run run' result are known sd i no_hasher ca e en has table slots =
+    by (feed (trees p c) now) (leaves-follow-rows task inst now (are.means p c) at en.current) en.gives (are.plain p c now) has table
   where
     m : Machine
     m = o.machine
@@ -155,6 +175,9 @@ one-act ls o trees s mem t t' pos p c now reply run run' result are known sd i n
     told : List ℕ
     told = (ca.told e).told
 
+    mine : Grip
+    mine = bare (s.lps p).call.held
+
     at : IsAt task inst
     at = at-instant o task row s mem (table_of m t.slots mem.words) run refl (shown-of o trees s mem t pos p c run known sd i no_hasher) ca e
 
@@ -162,7 +185,7 @@ one-act ls o trees s mem t t' pos p c now reply run run' result are known sd i n
     held-is : hs ≡ (s.lps p).call.held
     held-is = en.locks ∙ (ca.told e).locks
 
-    grip : hold inst hs ≡ bare (s.lps p).call.held
+    grip : hold inst hs ≡ mine
     grip = hold-is s mem task hs sd.guests ∙ ap bare held-is
 
     due : move_due task inst told ≡ mv
@@ -191,8 +214,8 @@ one-act ls o trees s mem t t' pos p c now reply run run' result are known sd i n
       ends = inr (due ∙ h, q, sh, subst (λ (xs : List Held). LocksStay s.world (k.act s.world) xs) en.locks st);
     }
 
-    refused : (r : Reply) → mv ≡ Refuses r → r ≡ reply → ((x : WordPlace) → IsIn m x → t'.words (address m.pages x) ≡ t.words (address m.pages x)) → OneAct o trees s mem t t' p c told run run' result
-    refused r h q same = record {
+    refused : (r : Reply) → mv ≡ Refuses r → r ≡ reply → HasFilled o t pos p mem [] → ((x : WordPlace) → IsIn m x → t'.words (address m.pages x) ≡ t.words (address m.pages x)) → OneAct o trees s mem t t' pos p c told run run' result
+    refused r h q hf same = record {
       move = Refuses r;
       is_act = tt;
       next = next-is (Refuses r) h;
@@ -202,104 +225,161 @@ one-act ls o trees s mem t t' pos p c now reply run run' result are known sd i n
       ends = refusal r h q;
       no_hasher = en.no_hasher;
       reply = en.last;
+      filled = [];
       first = [];
       owes = [];
-      spares = record { respects = ls.compose.same (bare (s.lps p).call.held) s.world; looks = λ xs v x apart in_x reads. refl; still = λ xs x g apart in_x owes. sym (same x in_x) };
+      spares = record {
+        respects = ls.compose.same mine s.world;
+        looks = λ xs v x apart in_x reads. refl;
+        still = λ xs x g apart in_x owes. sym (same x in_x);
+        filled = λ xs x apart in_x fills. (sym (same x in_x), refl);
+      };
       makes = λ x in_x. refl;
       written = tt;
       owed = tt;
+      filled_may = tt;
+      there = hf.there;
+      undo = hf.undo;
       held_or_none = act-held o s p row (Refuses r) (next-is (Refuses r) h) (are.means p c).enters_none tt;
       table = same;
       table_slots = slots;
     }
 
-    -- a store that another owes isn't at a word that the act stores
-    no-write : (xs : List Held) (x : WordPlace) (g : Grade) → Apart (bare xs) (bare (s.lps p).call.held) → Owes (bare xs) s.world x g → (first : List Due) (y : ℕ) → EachDue (CanWrite (bare (s.lps p).call.held) s.world) first → last_at first x ≡ Some y → ⊥
+    -- what another owes or has filled isn't at a word that the act stores
+    no-write : (xs : List Held) (x : WordPlace) (g : Grade) → Apart (bare xs) mine → Owes (bare xs) s.world x g → (first : List Due) (y : ℕ) → EachDue (CanWrite mine s.world) first → last_at first x ≡ Some y → ⊥
     no-write xs x g apart owes first y written z =
-        let may = last-each ls.places (CanWrite (bare (s.lps p).call.held) s.world) first x y written z in
-        (ls.words (bare (s.lps p).call.held) (bare xs) s.world (turned-round (bare xs) (bare (s.lps p).call.held) apart)).writes_owes x may.0 g may.1 owes
+        let may = last-each ls.places (CanWrite mine s.world) first x y written z in
+        (ls.words mine (bare xs) s.world (turned-round (bare xs) mine apart)).writes_owes x may.0 g may.1 owes
+
+    no-write-filled : (xs : List Held) (x : WordPlace) → Apart (bare xs) mine → Fills (bare xs) s.world x → (first : List Due) (y : ℕ) → EachDue (CanWrite mine s.world) first → last_at first x ≡ Some y → ⊥
+    no-write-filled xs x apart fills first y written z =
+        let may = last-each ls.places (CanWrite mine s.world) first x y written z in
+        (ls.words (bare xs) mine s.world apart).fills_writes x may.0 fills may.1
 
     unwritten : (first : List Due) (x : WordPlace) → IsIn m x → (y : Option ℕ) → last_at first x ≡ y → ((y : ℕ) → last_at first x ≡ Some y → ⊥)
         → ((r : WordPlace) → IsIn m r → t'.words (address m.pages r) ≡ or_else (last_at first r) (t.words (address m.pages r))) → on_table m t x ≡ on_table m t' x
     unwritten first x in_x None e never same = sym (same x in_x ∙ ap (λ (z : Option ℕ). or_else z (t.words (address m.pages x))) e)
     unwritten first x in_x (Some y) e never same = absurd (never y e)
 
+    -- a word that nothing of it is stored at
+    untouched : (owes first filled : List Due) (x : WordPlace) → ((y : ℕ) → last_at owes x ≡ Some y → ⊥) → ((y : ℕ) → last_at first x ≡ Some y → ⊥) → ((y : ℕ) → last_at filled x ≡ Some y → ⊥)
+        → or_else (last_at owes x) (or_else (last_at first x) (or_else (last_at filled x) (mem.words x))) ≡ mem.words x
+    untouched owes first filled x a b d = go (last_at owes x) (last_at first x) (last_at filled x) refl refl refl
+      where
+        go : (u v z : Option ℕ) → last_at owes x ≡ u → last_at first x ≡ v → last_at filled x ≡ z → or_else (last_at owes x) (or_else (last_at first x) (or_else (last_at filled x) (mem.words x))) ≡ mem.words x
+        go (Some y) v z eu ev ez = absurd (a y eu)
+        go None (Some y) z eu ev ez = absurd (b y ev)
+        go None None (Some y) eu ev ez = absurd (d y ez)
+        go None None None eu ev ez = rw (eu, ev, ez) refl
+
     -- the act that succeeds, whose stores are these
-    succeeded : (cs : List Change) (first owes : List Due) → mv ≡ Succeeds → are_plain cs ≡ true → reply ≡ k.reply s.world
-        → Shows m (changed_all cs mem).words (changed_all cs mem).slots (acted k s) → LocksStay s.world (k.act s.world) hs → Respects (bare (s.lps p).call.held) s.world (row.act s.world)
-        → ((xs : List Held) (v : View) (r : WordPlace) → Apart (bare xs) (bare (s.lps p).call.held) → IsIn m r → Reads (bare xs) s.world r v → look v ((changed_all cs mem).words r) ≡ look v (mem.words r))
-        → ((r : WordPlace) → last_at (all_stores cs mem) r ≡ later (last_at owes r) (last_at first r))
-        → EachDue (CanWrite (bare (s.lps p).call.held) s.world) first → Keeps m (bare (s.lps p).call.held) (row.act s.world) (λ x. or_else (last_at first x) (mem.words x)) owes
+    succeeded : (fs cs : List Change) (first owes : List Due) → mv ≡ Succeeds → are_plain fs ≡ true → are_plain cs ≡ true → reply ≡ k.reply s.world
+        → (let after = changed_all cs (changed_all fs mem) in Shows m after.words after.slots (acted k s)) → LocksStay s.world (k.act s.world) hs → Respects mine s.world (row.act s.world)
+        → ((xs : List Held) (v : View) (r : WordPlace) → Apart (bare xs) mine → IsIn m r → Reads (bare xs) s.world r v → look v ((changed_all cs (changed_all fs mem)).words r) ≡ look v (mem.words r))
+        → ((r : WordPlace) → last_at (all_stores cs (changed_all fs mem)) r ≡ later (last_at owes r) (last_at first r))
+        → MayFillAll m mine s.world fs → EachDue (CanWrite mine s.world) first → Keeps m mine (row.act s.world) (λ x. or_else (last_at first x) ((changed_all fs mem).words x)) owes → HasFilled o t pos p mem (all_stores fs mem)
         → ((r : WordPlace) → IsIn m r → t'.words (address m.pages r) ≡ or_else (last_at first r) (t.words (address m.pages r)))
-        → OneAct o trees s mem t t' p c told run run' result
-    succeeded cs first owes h pl q sh st rs looks parts written owed same = record {
+        → OneAct o trees s mem t t' pos p c told run run' result
+    succeeded fs cs first owes h plf pl q sh st rs looks parts fills written owed hf same = record {
       move = Succeeds;
       is_act = tt;
       next = next-is Succeeds h;
-      after = changed_all cs mem;
-      hand = (changed-rest cs mem pl).1 ∙ sd.hand;
-      slots = (changed-rest cs mem pl).0;
-      ends = success (changed_all cs mem) h q sh st;
+      after = changed_all cs (changed_all fs mem);
+      hand = (changed-rest cs (changed_all fs mem) pl).1 ∙ ((changed-rest fs mem plf).1 ∙ sd.hand);
+      slots = (changed-rest cs (changed_all fs mem) pl).0 ∙ (changed-rest fs mem plf).0;
+      ends = success (changed_all cs (changed_all fs mem)) h q sh st;
       no_hasher = en.no_hasher;
       reply = en.last;
+      filled = all_stores fs mem;
       first = first;
       owes = owes;
-      spares = record { respects = rs; looks = looks; still = λ xs x g apart in_x owes. unwritten first x in_x (last_at first x) refl (λ y z. no-write xs x g apart owes first y written z) same };
-      makes = λ r in_r.
-          changed-is ls.places m cs mem r in_r pl ∙ (ap (λ (z : Option ℕ). or_else z (mem.words r)) (parts r) ∙ or-later (last_at owes r) (last_at first r) (mem.words r));
+      spares = record {
+        respects = rs;
+        looks = looks;
+        still = λ xs x g apart in_x owes'. unwritten first x in_x (last_at first x) refl (λ y z. no-write xs x g apart owes' first y written z) same;
+        filled = λ xs x apart in_x fill. (
+          unwritten first x in_x (last_at first x) refl (λ y z. no-write-filled xs x apart fill first y written z) same,
+          makes x in_x
+          ∙ untouched owes first (all_stores fs mem) x
+          (λ y z. (let may = last-each ls.places (OwesAt m mine (row.act s.world)) owes x y (keeps-each m mine (row.act s.world) base owes owed) z in (ls.acts (bare xs) mine s.world (row.act s.world) apart rs).fills_later x may.1.0 fill may.1.1))
+          (λ y z. no-write-filled xs x apart fill first y written z)
+          (λ y z. (let may = last-each ls.places (FillsAt m mine s.world) (all_stores fs mem) x y (filled-stores m mine s.world mem fs fills) z in (ls.words (bare xs) mine s.world apart).fills_fills x fill may.1)),
+        );
+      };
+      makes = makes;
       written = written;
-      owed = owed;
+      owed = keeps-same m mine mine (row.act s.world) (row.act s.world) base (λ x. or_else (last_at first x) (or_else (last_at (all_stores fs mem) x) (mem.words x))) owes (λ x g z. z)
+          (λ x g in_x z. ap (or_else (last_at first x)) (changed-is ls.places m fs mem x in_x plf)) owed;
+      filled_may = filled-stores m mine s.world mem fs fills;
+      there = hf.there;
+      undo = hf.undo;
       held_or_none = act-held o s p row Succeeds (next-is Succeeds h) (are.means p c).enters_none tt;
       table = same;
       table_slots = slots;
     }
+      where
+        base : WordPlace → ℕ
+        base x = or_else (last_at first x) ((changed_all fs mem).words x)
+
+        makes : (r : WordPlace) → IsIn m r → (changed_all cs (changed_all fs mem)).words r ≡ or_else (last_at owes r) (or_else (last_at first r) (or_else (last_at (all_stores fs mem) r) (mem.words r)))
+        makes r in_r =
+            changed-is ls.places m cs (changed_all fs mem) r in_r pl
+            ∙ (ap (λ (z : Option ℕ). or_else z ((changed_all fs mem).words r)) (parts r)
+            ∙ (or-later (last_at owes r) (last_at first r) ((changed_all fs mem).words r)
+            ∙ ap (λ (y : ℕ). or_else (last_at owes r) (or_else (last_at first r) y)) (changed-is ls.places m fs mem r in_r plf)))
 
     gives-is : (n : ℕ) (r r' : Reply) (fs cs : List Change) → Gives n (End r fs cs) (need.Verdict r') → r ≡ r'
     gives-is n r r' fs cs g = cc
 
-    ends-success : (r : Reply) (cs : List Change) → mv ≡ Succeeds → r ≡ reply → are_plain cs ≡ true → Acts m inst k hs r [] cs → MayChange m (hold inst hs) s.world (k.act s.world) mem cs
-        → ((x : WordPlace) → IsIn m x → t'.words (address m.pages x) ≡ or_else (last_at (act_first cs mem) x) (t.words (address m.pages x)))
-        → (one : OneAct o trees s mem t t' p c told run run' result) × (one.owes ≡ act_owes cs mem)
-    ends-success r [] h q pl ac may same = (
-      succeeded [] [] [] h refl (sym q ∙ ac.reply_is) ac.shows ac.locks_stay (subst (λ (g : Grip). Respects g s.world (row.act s.world)) grip ac.respects) (λ xs v x apart in_x reads. refl) (λ x. refl) tt tt same,
-      refl,
-    )
-    ends-success r (c1 ∷ cs) h q pl ac may same =
-        let rs : Respects (bare (s.lps p).call.held) s.world (row.act s.world) = subst (λ (g : Grip). Respects g s.world (row.act s.world)) grip ac.respects in
-        let may' : MayChange m (bare (s.lps p).call.held) s.world (k.act s.world) mem (c1 ∷ cs) = subst (λ (g : Grip). MayChange m g s.world (k.act s.world) mem (c1 ∷ cs)) grip may in
-        let pl1 : is_plain c1 ≡ true = and-first (is_plain c1) (are_plain cs) pl in
-        let pl2 : are_plain cs ≡ true = and-second (is_plain c1) (are_plain cs) pl in (
-          succeeded (c1 ∷ cs) (stores_of c1 mem) (all_stores cs (changed c1 mem)) h pl (sym q ∙ ac.reply_is) ac.shows ac.locks_stay rs
+    ends-success : (r : Reply) (fs cs : List Change) → mv ≡ Succeeds → r ≡ reply → are_plain (fs ++ cs) ≡ true → Acts m inst k hs r fs cs → MayChange m (hold inst hs) s.world (k.act s.world) (changed_all fs mem) cs
+        → HasFilled o t pos p mem (all_stores fs mem) → ((x : WordPlace) → IsIn m x → t'.words (address m.pages x) ≡ or_else (last_at (act_first cs (changed_all fs mem)) x) (t.words (address m.pages x)))
+        → (one : OneAct o trees s mem t t' pos p c told run run' result) × (one.owes ≡ act_owes cs (changed_all fs mem))
+    ends-success r fs [] h q pl ac may hf same =
+        let rs : Respects mine s.world (row.act s.world) = subst (λ (g : Grip). Respects g s.world (row.act s.world)) grip ac.respects in
+        let fills : MayFillAll m mine s.world fs = subst (λ (g : Grip). MayFillAll m g s.world fs) grip ac.fills_allowed in (
+          succeeded fs [] [] [] h (plain-parts fs [] pl).0 refl (sym q ∙ ac.reply_is) ac.shows ac.locks_stay rs
+          (λ xs v x apart in_x reads. fill-looks ls m (bare xs) mine s.world mem fs x v apart in_x fills reads) (λ x. refl) fills tt tt hf same,
+          refl,
+        )
+    ends-success r fs (c1 ∷ cs) h q pl ac may hf same =
+        let rs : Respects mine s.world (row.act s.world) = subst (λ (g : Grip). Respects g s.world (row.act s.world)) grip ac.respects in
+        let fills : MayFillAll m mine s.world fs = subst (λ (g : Grip). MayFillAll m g s.world fs) grip ac.fills_allowed in
+        let mem1 : Memory = changed_all fs mem in
+        let may' : MayChange m mine s.world (k.act s.world) mem1 (c1 ∷ cs) = subst (λ (g : Grip). MayChange m g s.world (k.act s.world) mem1 (c1 ∷ cs)) grip may in
+        let pls = plain-parts fs (c1 ∷ cs) pl in
+        let pl1 : is_plain c1 ≡ true = and-first (is_plain c1) (are_plain cs) pls.1 in
+        let pl2 : are_plain cs ≡ true = and-second (is_plain c1) (are_plain cs) pls.1 in (
+          succeeded fs (c1 ∷ cs) (stores_of c1 mem1) (all_stores cs (changed c1 mem1)) h pls.0 pls.1 (sym q ∙ ac.reply_is) ac.shows ac.locks_stay rs
           (λ xs v x apart in_x reads.
-              owed-looks ls m (bare xs) (bare (s.lps p).call.held) s.world (row.act s.world) (changed c1 mem) cs x v apart rs in_x may'.1 pl2 reads
-              ∙ act-looks ls m (bare xs) (bare (s.lps p).call.held) s.world mem c1 x v apart may'.0 pl1 reads)
-          (λ x. last-append (stores_of c1 mem) (all_stores cs (changed c1 mem)) x)
-          (act-written m (bare (s.lps p).call.held) s.world mem c1 may'.0 pl1)
-          (keeps-same m (bare (s.lps p).call.held) (bare (s.lps p).call.held) (row.act s.world) (row.act s.world) (changed c1 mem).words (λ x. or_else (last_at (stores_of c1 mem) x) (mem.words x)) (all_stores cs (changed c1 mem))
-          (λ x g owes. owes) (λ x g in_x owes. one-is m c1 mem x in_x pl1) (owed-keeps m (bare (s.lps p).call.held) (row.act s.world) (changed c1 mem) cs may'.1 pl2)) same,
+              owed-looks ls m (bare xs) mine s.world (row.act s.world) (changed c1 mem1) cs x v apart rs in_x may'.1 pl2 reads
+              ∙ (act-looks ls m (bare xs) mine s.world mem1 c1 x v apart may'.0 pl1 reads ∙ fill-looks ls m (bare xs) mine s.world mem fs x v apart in_x fills reads))
+          (λ x. last-append (stores_of c1 mem1) (all_stores cs (changed c1 mem1)) x) fills
+          (act-written m mine s.world mem1 c1 may'.0 pl1)
+          (keeps-same m mine mine (row.act s.world) (row.act s.world) (changed c1 mem1).words (λ x. or_else (last_at (stores_of c1 mem1) x) (mem1.words x)) (all_stores cs (changed c1 mem1))
+          (λ x g owes. owes) (λ x g in_x owes. one-is m c1 mem1 x in_x pl1) (owed-keeps m mine (row.act s.world) (changed c1 mem1) cs may'.1 pl2)) hf same,
           refl,
         )
 
     since-success : (r : Reply) (cs : List Change) → mv ≡ Succeeds → r ≡ reply → are_plain cs ≡ true → Acts m inst k hs r [] cs → MayOweAll m (hold inst hs) (k.act s.world) mem cs
-        → ((x : WordPlace) → IsIn m x → t'.words (address m.pages x) ≡ t.words (address m.pages x))
-        → (one : OneAct o trees s mem t t' p c told run run' result) × (one.owes ≡ all_stores cs mem)
-    since-success r cs h q pl ac may same =
-        let rs : Respects (bare (s.lps p).call.held) s.world (row.act s.world) = subst (λ (g : Grip). Respects g s.world (row.act s.world)) grip ac.respects in
-        let may' : MayOweAll m (bare (s.lps p).call.held) (k.act s.world) mem cs = subst (λ (g : Grip). MayOweAll m g (k.act s.world) mem cs) grip may in (
-          succeeded cs [] (all_stores cs mem) h pl (sym q ∙ ac.reply_is) ac.shows ac.locks_stay rs
-          (λ xs v x apart in_x reads. owed-looks ls m (bare xs) (bare (s.lps p).call.held) s.world (row.act s.world) mem cs x v apart rs in_x may' pl reads)
-          (λ x. last-append [] (all_stores cs mem) x) tt (owed-keeps m (bare (s.lps p).call.held) (row.act s.world) mem cs may' pl) same,
+        → HasFilled o t pos p mem [] → ((x : WordPlace) → IsIn m x → t'.words (address m.pages x) ≡ t.words (address m.pages x))
+        → (one : OneAct o trees s mem t t' pos p c told run run' result) × (one.owes ≡ all_stores cs mem)
+    since-success r cs h q pl ac may hf same =
+        let rs : Respects mine s.world (row.act s.world) = subst (λ (g : Grip). Respects g s.world (row.act s.world)) grip ac.respects in
+        let may' : MayOweAll m mine (k.act s.world) mem cs = subst (λ (g : Grip). MayOweAll m g (k.act s.world) mem cs) grip may in (
+          succeeded [] cs [] (all_stores cs mem) h refl pl (sym q ∙ ac.reply_is) ac.shows ac.locks_stay rs
+          (λ xs v x apart in_x reads. owed-looks ls m (bare xs) mine s.world (row.act s.world) mem cs x v apart rs in_x may' pl reads)
+          (λ x. last-append [] (all_stores cs mem) x) tt tt (owed-keeps m mine (row.act s.world) mem cs may' pl) hf same,
           refl,
         )
 
-    by : (tree : Tree) → Comes m inst k hs tree mv → Gives m.pages tree (need.Verdict reply) → are_plain (changes_of tree) ≡ true → fills_of tree ≡ []
+    by : (tree : Tree) → Comes m inst k hs tree mv → Gives m.pages tree (need.Verdict reply) → are_plain (changes_of tree) ≡ true → HasFilled o t pos p mem (filled_of tree mem)
         → ((r : WordPlace) → IsIn m r → t'.words (address m.pages r) ≡ or_else (last_at (first_of tree mem) r) (t.words (address m.pages r)))
-        → EndsWith m inst k hs mv tree reply → (one : OneAct o trees s mem t t' p c told run run' result) × (one.owes ≡ owes_of tree mem)
-    by (Lock l q mode x) co g pl nf same w = cc
-    by (Load v q x) co g pl nf same w = cc
-    by (Test b r x) co g pl nf same w = absurd g
-    by (End r [] []) (inl co) g pl nf same w = (refused r co.0 (gives-is m.pages r reply [] [] g) same, refl)
-    by (End r [] (c1 ∷ cs)) (inl co) g pl nf same w = (let bad = co.2 in cc)
-    by (End r (f ∷ fs) cs) co g pl nf same w = cc
-    by (End r [] cs) (inr co) g pl nf same w = ends-success r cs co.0 (gives-is m.pages r reply [] cs g) pl co.1 co.2 same
-    by (Since r cs) co g pl nf same w = since-success r cs co.0 (cc g) pl co.1 co.2 same
+        → (one : OneAct o trees s mem t t' pos p c told run run' result) × (one.owes ≡ owes_of tree mem)
+    by (Lock l q mode x) co g pl hf same = cc
+    by (Load v q x) co g pl hf same = cc
+    by (Test b r x) co g pl hf same = absurd g
+    by (End r [] []) (inl co) g pl hf same = (refused r co.0 (gives-is m.pages r reply [] [] g) hf same, refl)
+    by (End r [] (c1 ∷ cs)) (inl co) g pl hf same = (let bad = co.2 in cc)
+    by (End r (f ∷ fs) cs) (inl co) g pl hf same = (let bad = co.1 in cc)
+    by (End r fs cs) (inr co) g pl hf same = ends-success r fs cs co.0 (gives-is m.pages r reply fs cs g) pl co.1 co.2 hf same
+    by (Since r cs) co g pl hf same = since-success r cs co.0 (cc g) pl co.1 co.2 hf same

@@ -1,5 +1,6 @@
 pub mod Virtual
 pub mod Stores
+pub mod Filling
 pub mod Keeping
 pub mod Holding
 pub mod Standing
@@ -13,6 +14,7 @@ pub mod Pieces
 pub mod LockPieces
 pub mod EndPieces
 pub mod Turns
+pub mod FillSteps
 pub mod Verdicts
 pub mod Merged
 pub mod Runs

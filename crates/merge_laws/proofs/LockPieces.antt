@@ -49,7 +49,7 @@ use Rattle.merge_laws.proofs.Others.{shown-of, hold-is}
 use Rattle.merge_laws.proofs.LockSteps.{OneStep, Moved, lock-step}
 use Rattle.merge_laws.proofs.Pieces.{Came, PieceAnswers}
 
--- a processor at a turn of its present line, with nothing owed
+-- a processor at a turn of its present line
 pub record AtTurn (o : Opening) (trees : ℕ → Call → Tree) (s : State) (mem : Memory) (t : Table) (pos : ℕ → Position) (p : ℕ) (c : Call) (cs : List Call) (run : Standing) : Type 0 where
   pub are : AreTrees o trees
   pub known : Known o s
@@ -57,35 +57,34 @@ pub record AtTurn (o : Opening) (trees : ℕ → Call → Tree) (s : State) (mem
   pub inside : p < length o.calls
   pub lines : lines_left o p (s.lps p) ≡ c ∷ cs
   pub replies : (s.lps p).replies ≡ (pos p).at.replies
-  pub none : (pos p).owes ≡ []
   pub runs : RunsAt o (leaf_for o trees p c) (row_of o p c) s.world mem.words (s.lps p) run
   pub going : has_ended run.stage run.held ≡ false
 
 -- where it then is, with the turns that are left
 pub rest-after : (o : Opening) (trees : ℕ → Call → Tree) (p : ℕ) (at : WordLp) (tps : List (List Piece)) (end_ : WordLp) → OwnTurns (leaf_for o trees p) o.machine at tps end_
-    → Rest o trees p (record { at = at; owes = [] }) (joined tps) end_
+    → Rest o trees p at [] (joined tps) end_
 rest-after o trees p at tps end_ own = record { stores = []; turns = tps; are = tt; pieces = refl; own = own }
 
 came-by : (ls : Laws) (o : Opening) (trees : ℕ → Call → Tree) (s : State) (mem : Memory) (t : Table) (pos : ℕ → Position) (p : ℕ) (c : Call) (cs : List Call) (mv : Move Reply) (run run' : Standing) (st : WordStep) (a : ℕ) (q : WordPlace) (result : RunTurn)
-    (tps : List (List Piece)) (end_ : WordLp) → AtTurn o trees s mem t pos p c cs run → OneStep o trees s p c mv run run' st a q result → a ≡ answer_of t.words st
+    (tps : List (List Piece)) (end_ : WordLp) → AtTurn o trees s mem t pos p c cs run → (pos p).owes ≡ [] → OneStep o trees s p c mv run run' st a q result → a ≡ answer_of t.words st
     → OwnTurns (leaf_for o trees p) o.machine (after_turn c cs (pos p).at.replies run' result.reply) tps end_
     → Came o trees p s t pos (Marked (Stepped st a)) (joined tps) end_
-came-by ls o trees s mem t pos p c cs mv run run' st a q result tps end_ at one an own =
-    let m = lock-step ls o trees s mem t pos p c cs (pos p).at.replies mv run run' st a q result at.are at.known at.all at.inside at.lines at.replies at.none at.runs one an in
+came-by ls o trees s mem t pos p c cs mv run run' st a q result tps end_ at none one an own =
+    let m = lock-step ls o trees s mem t pos p c cs (pos p).at.replies mv run run' st a q result at.are at.known at.all at.inside at.lines at.replies none at.runs one an in
     record {
       memory = m.memory;
-      now = record { at = after_turn c cs (pos p).at.replies run' result.reply; owes = [] };
+      now = record { at = after_turn c cs (pos p).at.replies run' result.reply; owes = []; fill = None };
       stands = m.stands;
       rest = rest-after o trees p (after_turn c cs (pos p).at.replies run' result.reply) tps end_ own;
     }
 
 -- the undo
 pub undo-piece : (ls : Laws) (o : Opening) (trees : ℕ → Call → Tree) (s : State) (mem : Memory) (t : Table) (pos : ℕ → Position) (p : ℕ) (c : Call) (cs : List Call) (run run' : Standing) (items : List Taken) (e : RunEvent) (name : LockName) (at : ℕ)
-    (tps : List (List Piece)) (end_ : WordLp) → AtTurn o trees s mem t pos p c cs run → run.stage ≡ stages.Undoing name at → (turn : TurnBy run.stage o.machine run items run' e) → (tb : TakesBack run name at items run' e)
+    (tps : List (List Piece)) (end_ : WordLp) → AtTurn o trees s mem t pos p c cs run → (pos p).owes ≡ [] → run.stage ≡ stages.Undoing name at → (turn : TurnBy run.stage o.machine run items run' e) → (tb : TakesBack run name at items run' e)
     → tb.items.0 ≡ answer_of t.words (step.Sub at 1)
     → OwnTurns (leaf_for o trees p) o.machine (after_turn c cs (pos p).at.replies run' (last_reply run'.stage run'.held)) tps end_
     → Came o trees p s t pos (Marked (Stepped (step.Sub at 1) tb.items.0)) (joined tps) end_
-undo-piece ls o trees s mem t pos p c cs run run' items e name at tps end_ a st turn tb an own =
+undo-piece ls o trees s mem t pos p c cs run run' items e name at tps end_ a none st turn tb an own =
     by (s.lps p).call.phase refl (subst (λ (z : Stage). IsStage o.machine s.world z (s.lps p).call.phase) st a.runs.call.stage)
   where
     by : (ph : Phase Reply) → (s.lps p).call.phase ≡ ph → IsStage o.machine s.world (stages.Undoing name at) ph → Came o trees p s t pos (Marked (Stepped (step.Sub at 1) tb.items.0)) (joined tps) end_
@@ -106,7 +105,7 @@ undo-piece ls o trees s mem t pos p c cs run run' items e name at tps end_ a st 
           at = i.at_is;
           tries = may-try o.machine s.world (s.lps p).call.held l a.known.lawful i.stands tdr;
         } in
-        came-by ls o trees s mem t pos p c cs (Undoes l) run run' (step.Sub at 1) tb.items.0 (place_of s.world l) (record { event = e; reply = last_reply run'.stage run'.held }) tps end_ a one an own
+        came-by ls o trees s mem t pos p c cs (Undoes l) run run' (step.Sub at 1) tb.items.0 (place_of s.world l) (record { event = e; reply = last_reply run'.stage run'.held }) tps end_ a none one an own
 
 -- the release
 
@@ -123,11 +122,11 @@ tdr-more h hs (OfRtmr t) x = or-right _ _ x
 tdr-more h hs OfKeys x = tt
 
 pub free-piece : (ls : Laws) (o : Opening) (trees : ℕ → Call → Tree) (s : State) (mem : Memory) (t : Table) (pos : ℕ → Position) (p : ℕ) (c : Call) (cs : List Call) (run run' : Standing) (items : List Taken) (e : RunEvent) (r : Reply)
-    (tps : List (List Piece)) (end_ : WordLp) → AtTurn o trees s mem t pos p c cs run → run.stage ≡ stages.Answered r → (turn : TurnBy run.stage o.machine run items run' e) → (gb : GivesBack run.held items run'.held e) → run' ≡ record run { held = run'.held }
+    (tps : List (List Piece)) (end_ : WordLp) → AtTurn o trees s mem t pos p c cs run → (pos p).owes ≡ [] → run.stage ≡ stages.Answered r → (turn : TurnBy run.stage o.machine run items run' e) → (gb : GivesBack run.held items run'.held e) → run' ≡ record run { held = run'.held }
     → gb.items.0 ≡ answer_of t.words (step.Sub gb.newest.at (weight_of gb.newest.mode))
     → OwnTurns (leaf_for o trees p) o.machine (after_turn c cs (pos p).at.replies run' (last_reply run'.stage run'.held)) tps end_
     → Came o trees p s t pos (Marked (Stepped (step.Sub gb.newest.at (weight_of gb.newest.mode)) gb.items.0)) (joined tps) end_
-free-piece ls o trees s mem t pos p c cs run run' items e r tps end_ a st turn gb same an own =
+free-piece ls o trees s mem t pos p c cs run run' items e r tps end_ a none st turn gb same an own =
     by (s.lps p).call.phase (s.lps p).call.held refl refl (subst (λ (z : Stage). IsStage o.machine s.world z (s.lps p).call.phase) st a.runs.call.stage) a.runs.call.held
   where
     by : (ph : Phase Reply) (hs : List Held) → (s.lps p).call.phase ≡ ph → (s.lps p).call.held ≡ hs → IsStage o.machine s.world (stages.Answered r) ph → AreLocks o.machine s.world run.held hs
@@ -157,7 +156,7 @@ free-piece ls o trees s mem t pos p c cs run run' items e r tps end_ a st turn g
           at = it.at_is;
           tries = may;
         } in
-        came-by ls o trees s mem t pos p c cs (Releases x) run run' (step.Sub gb.newest.at (weight_of gb.newest.mode)) gb.items.0 (place_of s.world l) (record { event = e; reply = last_reply run'.stage run'.held }) tps end_ a one an own
+        came-by ls o trees s mem t pos p c cs (Releases x) run run' (step.Sub gb.newest.at (weight_of gb.newest.mode)) gb.items.0 (place_of s.world l) (record { event = e; reply = last_reply run'.stage run'.held }) tps end_ a none one an own
 
 -- the try
 
@@ -170,11 +169,11 @@ tried-hasher s t name at mode true = refl
 tried-hasher s t name at mode false = refl
 
 pub try-piece : (ls : Laws) (o : Opening) (trees : ℕ → Call → Tree) (s : State) (mem : Memory) (t : Table) (pos : ℕ → Position) (p : ℕ) (c : Call) (cs : List Call) (run run' : Standing) (e : RunEvent) (tree : Tree) (name : LockName) (at : ℕ) (mode : Mode)
-    (seen : ℕ) (tps : List (List Piece)) (end_ : WordLp) → AtTurn o trees s mem t pos p c cs run → (st : run.stage ≡ stages.Trying) → (turn : Goes o.machine run (Stepped (try_step at mode) seen ∷ []) run' e)
+    (seen : ℕ) (tps : List (List Piece)) (end_ : WordLp) → AtTurn o trees s mem t pos p c cs run → (pos p).owes ≡ [] → (st : run.stage ≡ stages.Trying) → (turn : Goes o.machine run (Stepped (try_step at mode) seen ∷ []) run' e)
     → Gives o.machine.pages (settle run.rest) (need.Lock name at mode) → run' ≡ tried run tree name at mode (grants mode seen) → seen ≡ answer_of t.words (try_step at mode)
     → OwnTurns (leaf_for o trees p) o.machine (after_turn c cs (pos p).at.replies run' (last_reply run'.stage run'.held)) tps end_
     → Came o trees p s t pos (Marked (Stepped (try_step at mode) seen)) (joined tps) end_
-try-piece ls o trees s mem t pos p c cs run run' e tree name at mode seen tps end_ a st turn gives after an own =
+try-piece ls o trees s mem t pos p c cs run run' e tree name at mode seen tps end_ a none st turn gives after an own =
     by (feed (trees p c) told) (leaves-follow-rows task inst told (a.are.means p c) (at-instant o task (row_of o p c) s mem (table_of m t.slots mem.words) run refl (shown-of o trees s mem t pos p c run a.known a.all a.inside a.runs.no_hasher) a.runs.call st) (a.runs.call.told st).current)
     (subst (λ (z : Tree). Gives m.pages z (need.Lock name at mode)) (ap settle (a.runs.call.told st).rest ∙ settled (trees p c) told) gives)
   where
@@ -219,4 +218,4 @@ try-piece ls o trees s mem t pos p c cs run run' e tree name at mode seen tps en
           at = try-at at mode ∙ at-is;
           tries = may;
         } in
-        came-by ls o trees s mem t pos p c cs (Attempts l mode) run run' (try_step at mode) seen q (record { event = e; reply = last_reply run'.stage run'.held }) tps end_ a one an own
+        came-by ls o trees s mem t pos p c cs (Attempts l mode) run run' (try_step at mode) seen q (record { event = e; reply = last_reply run'.stage run'.held }) tps end_ a none one an own

@@ -15,7 +15,7 @@ use Rattle.flat_core.specs.Event.{State, OfCall, next_event, lines_left, event, 
 use Rattle.word_rules.specs.Guards.{Apart}
 use Rattle.word_rules.specs.Rules.{View, Grade}
 use Rattle.word_rules.specs.Views.{look}
-use Rattle.word_rules.specs.Permissions.{Reads, Owes, Tries, Respects}
+use Rattle.word_rules.specs.Permissions.{Reads, Owes, Fills, Tries, Respects}
 use Rattle.step_core.specs.declared.steps.WordStep.{WordStep}
 use Rattle.step_core.specs.declared.steps.WordStep.TheVariants as step
 use Rattle.step_core.specs.Words.{Words, after_step, address_of, answer_of}
@@ -72,7 +72,7 @@ pub record Moved (o : Opening) (trees : ℕ → Call → Tree) (s : State) (t : 
 pub lock-step : (ls : Laws) (o : Opening) (trees : ℕ → Call → Tree) (s : State) (mem : Memory) (t : Table) (pos : ℕ → Position) (p : ℕ) (c : Call) (cs : List Call) (rs : List Reply) (mv : Move Reply) (run run' : Standing) (st : WordStep) (a : ℕ)
     (q : WordPlace) (result : RunTurn) → AreTrees o trees → Known o s → Stands o trees s mem t pos → p < length o.calls → lines_left o p (s.lps p) ≡ c ∷ cs → (s.lps p).replies ≡ rs → (pos p).owes ≡ []
     → RunsAt o (leaf_for o trees p c) (row_of o p c) s.world mem.words (s.lps p) run → OneStep o trees s p c mv run run' st a q result → a ≡ answer_of t.words st
-    → Moved o trees (event o s p) (record t { words = after_step t.words st }) (put pos p (record { at = after_turn c cs rs run' result.reply; owes = [] }))
+    → Moved o trees (event o s p) (record t { words = after_step t.words st }) (put pos p (record { at = after_turn c cs rs run' result.reply; owes = []; fill = None }))
 lock-step ls o trees s mem t pos p c cs rs mv run run' st a q result are known sd i lines replies none ra one an =
     record {
       memory = after.mem;
@@ -81,13 +81,14 @@ lock-step ls o trees s mem t pos p c cs rs mv run run' st a q result are known s
             respects = subst (λ (w : World). Respects (bare (s.lps p).call.held) s.world w) (sym world) (ls.compose.same (bare (s.lps p).call.held) s.world);
             looks = λ hs v r apart in_r reads. ap (look v) (by-place r in_r (λ e. absurd (no-read hs v r apart reads e)));
             still = λ hs r g apart in_r owes. sym (elsewhere r in_r (λ e. no-owed hs r g apart owes e));
+            filled = λ hs r apart in_r fills. (sym (elsewhere r in_r (λ e. no-filled hs r apart fills e)), by-place r in_r (λ e. absurd (no-filled hs r apart fills e)));
           })
           after.shown hand
           (λ h in_h. subst (λ (f : ℕ → Option Measure). IsHand (t.slots (h - 1)) (after.mem.slots h)) {x = t.slots} refl (after.memory.slots h in_h))
           (record {
             stands = stands-after o trees p c cs (s.lps p) (event o s p) uV run' result.reply lines after one.no_hasher
                 (tdrs-after o s p (row_of o p c) mv one.next (are.means p c).enters_none ra.tdrs one.tdr one.no_rest one.answered) rs replies;
-            owed = tt;
+            due = tt;
           })
           (tdrs-after o s p (row_of o p c) mv one.next (are.means p c).enters_none ra.tdrs one.tdr one.no_rest one.answered)
           laid-after;
@@ -97,7 +98,7 @@ lock-step ls o trees s mem t pos p c cs rs mv run run' st a q result are known s
     m = o.machine
 
     now : Position
-    now = record { at = after_turn c cs rs run' result.reply; owes = [] }
+    now = record { at = after_turn c cs rs run' result.reply; owes = []; fill = None }
 
     t' : Table
     t' = record t { words = after_step t.words st }
@@ -118,7 +119,10 @@ lock-step ls o trees s mem t pos p c cs rs mv run run' st a q result are known s
         by true e = (let k-is : k ≡ p = eqb-true k p e in ap (λ (z : ℕ). last_at (pos z).owes q) k-is ∙ ap (λ (ds : List Due). last_at ds q) none)
         by false e =
             none-due ls o trees s mem t pos p q known sd i
-            (λ j' hs g apart owes. (ls.words (bare (s.lps p).call.held) (bare hs) s.world (turned-round (bare hs) (bare (s.lps p).call.held) apart)).tries_owes q g one.tries owes) k j e
+            (record {
+              owes = λ hs g apart owes. (ls.words (bare (s.lps p).call.held) (bare hs) s.world (turned-round (bare hs) (bare (s.lps p).call.held) apart)).tries_owes q g one.tries owes;
+              fills = λ hs apart fills. (ls.words (bare (s.lps p).call.held) (bare hs) s.world (turned-round (bare hs) (bare (s.lps p).call.held) apart)).tries_fills q one.tries fills;
+            }) k j e
 
     here : mem.words q ≡ t.words (address m.pages q)
     here = sd.laid_is q one.inside ∙ laid-none (length o.calls) (λ k. (pos k).owes) (on_table m t) q none-at
@@ -162,6 +166,11 @@ lock-step ls o trees s mem t pos p c cs rs mv run run' st a q result are known s
     no-owed hs r g apart owes e =
         let r-is : r ≡ q = (ls.places.same r q).0 e in
         (ls.words (bare (s.lps p).call.held) (bare hs) s.world (turned-round (bare hs) (bare (s.lps p).call.held) apart)).tries_owes q g one.tries (subst (λ (z : WordPlace). Owes (bare hs) s.world z g) r-is owes)
+
+    no-filled : (hs : List Held) (r : WordPlace) → Apart (bare hs) (bare (s.lps p).call.held) → Fills (bare hs) s.world r → same_place r q ≡ true → ⊥
+    no-filled hs r apart fills e =
+        let r-is : r ≡ q = (ls.places.same r q).0 e in
+        (ls.words (bare (s.lps p).call.held) (bare hs) s.world (turned-round (bare hs) (bare (s.lps p).call.held) apart)).tries_fills q one.tries (subst (λ (z : WordPlace). Fills (bare hs) s.world z) r-is fills)
 
     elsewhere : (r : WordPlace) → IsIn m r → (same_place r q ≡ true → ⊥) → t'.words (address m.pages r) ≡ t.words (address m.pages r)
     elsewhere r in_r not-q = by (same_place r q) refl

@@ -29,32 +29,34 @@ use Rattle.leaf_engine.specs.declared.needs.Need.TheVariants as need
 use Rattle.leaf_engine.specs.Changes.{Memory}
 use Rattle.leaf_engine.specs.Trees.{Tree, settle, passed}
 use Rattle.leaf_engine.specs.Decides.{Gives, IsHand}
-use Rattle.leaf_engine.specs.Turns.{Standing, Goes, Comes as TurnComes, TurnBy, TakesBack, GivesBack, last_reply}
+use Rattle.leaf_engine.specs.Turns.{Standing, Goes, Comes as TurnComes, TurnBy, TakesBack, GivesBack, has_ended, last_reply}
 use Rattle.leaf_engine.specs.OwnLists.{Piece, Quiet, Marked, Wordless, joined, last_marked, pieces_for, behind, GoesIn, StepsIn, TurnIn, WordLp, running, after_turn, LineTurn, LinesTurn, LpTurns, OwnTurns}
 use Rattle.leaf_engine.specs.Merges.{Item, part, steps_taken, step_before, order, event_before}
 use Rattle.merge_laws.proofs.Stores.{Due, AreStores}
-use Rattle.merge_laws.proofs.Standing.{Laws, leaf_for, AreTrees, Known, Position, Rest, Holds, Stands}
+use Rattle.merge_laws.proofs.Holding.{bare}
+use Rattle.merge_laws.proofs.Standing.{Laws, leaf_for, AreTrees, Known, RunsAt, Fill, Position, Pending, Rest, RestFilling, RestBy, RestOf, on_table, Holds, Stands}
 use Rattle.merge_laws.proofs.Own.{at-own, at-other}
 use Rattle.merge_laws.proofs.QuietSteps.{owed-step}
 use Rattle.merge_laws.proofs.Pieces.{state_after, table_after, PieceAnswers, plays-piece, Came, came-as, answers-as, line-runs}
 use Rattle.merge_laws.proofs.LockPieces.{AtTurn, undo-piece, free-piece}
 use Rattle.merge_laws.proofs.Turns.{Heads, lock-turn}
+use Rattle.merge_laws.proofs.FillSteps.{fill-piece}
 use Rattle.merge_laws.proofs.Verdicts.{verdict-turn}
 
 -- the next piece of a turn
 turn-piece : (ls : Laws) (o : Opening) (trees : ℕ → Call → Tree) (s : State) (mem : Memory) (t : Table) (pos : ℕ → Position) (p : ℕ) (c : Call) (cs : List Call) (run run' : Standing) (e : RunEvent) (tp : List Piece) (tps : List (List Piece)) (end_ : WordLp)
-    (piece : Piece) (ps : List Piece) → AtTurn o trees s mem t pos p c cs run → TurnIn run.stage o.machine run tp run' e
+    (piece : Piece) (ps : List Piece) → AtTurn o trees s mem t pos p c cs run → (pos p).owes ≡ [] → TurnIn run.stage o.machine run tp run' e
     → OwnTurns (leaf_for o trees p) o.machine (after_turn c cs (pos p).at.replies run' (last_reply run'.stage run'.held)) tps end_
     → Heads tp tps piece ps → PieceAnswers t piece → Came o trees p s t pos piece ps end_
-turn-piece ls o trees s mem t pos p c cs run run' e tp tps end_ piece ps a tn own h an = by run.stage refl tn
+turn-piece ls o trees s mem t pos p c cs run run' e tp tps end_ piece ps a none tn own h an = by run.stage refl tn
   where
     by-need : (gi : GoesIn o.machine run tp run' e) → run.stage ≡ stages.Trying → (x : Need) → Gives o.machine.pages (settle gi.goes.tree) x → TurnComes o.machine run (passed (settle gi.goes.tree)) gi.goes.loads gi.items x run' e
         → tp ≡ pieces_for x (passed (settle gi.goes.tree)) gi.goes.loads gi.items (behind gi.goes.loads gi.items) → Came o trees p s t pos piece ps end_
     by-need gi st (need.Lock name at mode) g co q =
-        lock-turn ls o trees s mem t pos p c cs run run' e gi.goes.loads gi.items gi.goes.tree name at mode tps end_ piece ps a st gi.goes.loaded g co own (ap (λ (z : List Piece). z ++ joined tps) (sym q) ∙ h) an
+        lock-turn ls o trees s mem t pos p c cs run run' e gi.goes.loads gi.items gi.goes.tree name at mode tps end_ piece ps a none st gi.goes.loaded g co own (ap (λ (z : List Piece). z ++ joined tps) (sym q) ∙ h) an
     by-need gi st (need.Load at) g co q = absurd co
     by-need gi st (need.Verdict reply) g co q =
-        verdict-turn ls o trees s mem t pos p c cs run run' e gi.goes.loads gi.items gi.goes.tree reply tps end_ piece ps a st gi.goes.loaded g co own (ap (λ (z : List Piece). z ++ joined tps) (sym q) ∙ h) an
+        verdict-turn ls o trees s mem t pos p c cs run run' e gi.goes.loads gi.items gi.goes.tree reply tps end_ piece ps a none st gi.goes.loaded g co own (ap (λ (z : List Piece). z ++ joined tps) (sym q) ∙ h) an
 
     by : (st : Stage) → run.stage ≡ st → TurnIn st o.machine run tp run' e → Came o trees p s t pos piece ps end_
     by stages.Trying st gi = by-need gi st gi.goes.need gi.goes.gives gi.goes.comes gi.pieces
@@ -63,61 +65,78 @@ turn-piece ls o trees s mem t pos p c cs run run' e tp tps end_ piece ps a tn ow
         let x : Taken = Stepped (step.Sub at 1) tb.items.0 in
         let h' : Marked x ∷ joined tps ≡ piece ∷ ps = ap (λ (z : List Taken). last_marked z ++ joined tps) (sym tb.items.1) ∙ (ap (λ (z : List Piece). z ++ joined tps) (sym si.pieces) ∙ h) in
         came-as o trees p s t pos (Marked x) piece (joined tps) ps end_ h'
-        (undo-piece ls o trees s mem t pos p c cs run run' si.items e name at tps end_ a st si.turn tb (answers-as t (Marked x) piece (joined tps) ps h' an) own)
+        (undo-piece ls o trees s mem t pos p c cs run run' si.items e name at tps end_ a none st si.turn tb (answers-as t (Marked x) piece (joined tps) ps h' an) own)
     by (stages.Answered r) st si =
         let both : GivesBack run.held si.items run'.held e × (run' ≡ record run { held = run'.held }) = subst (λ (z : Stage). TurnBy z o.machine run si.items run' e) st si.turn in
         let x : Taken = Stepped (step.Sub both.0.newest.at (weight_of both.0.newest.mode)) both.0.items.0 in
         let h' : Marked x ∷ joined tps ≡ piece ∷ ps = ap (λ (z : List Taken). last_marked z ++ joined tps) (sym both.0.items.1) ∙ (ap (λ (z : List Piece). z ++ joined tps) (sym si.pieces) ∙ h) in
         came-as o trees p s t pos (Marked x) piece (joined tps) ps end_ h'
-        (free-piece ls o trees s mem t pos p c cs run run' si.items e r tps end_ a st si.turn both.0 both.1 (answers-as t (Marked x) piece (joined tps) ps h' an) own)
+        (free-piece ls o trees s mem t pos p c cs run run' si.items e r tps end_ a none st si.turn both.0 both.1 (answers-as t (Marked x) piece (joined tps) ps h' an) own)
 
 -- the next piece of what a processor has still to do
 next-piece : (ls : Laws) (o : Opening) (trees : ℕ → Call → Tree) (s : State) (mem : Memory) (t : Table) (pos : ℕ → Position) (p : ℕ) (end_ : WordLp) (piece : Piece) (ps : List Piece) → AreTrees o trees → Known o s → Stands o trees s mem t pos → p < length o.calls
-    → Rest o trees p (pos p) (piece ∷ ps) end_ → PieceAnswers t piece → Came o trees p s t pos piece ps end_
-next-piece ls o trees s mem t pos p end_ piece ps are known sd i rest an = by rest.stores (pos p).owes refl rest.are rest.pieces rest.turns rest.own
+    → RestOf o trees p (pos p) (piece ∷ ps) end_ → PieceAnswers t piece → Came o trees p s t pos piece ps end_
+next-piece ls o trees s mem t pos p end_ piece ps are known sd i rest an = by-fill (pos p).fill (pos p).at.lines (pos p).at.run refl refl refl rest
   where
-    h : Holds o trees p s.world mem.words (Rattle.merge_laws.proofs.Standing.on_table o.machine t) (s.lps p) (pos p)
+    h : Holds o trees p s.world mem.words (on_table o.machine t) (s.lps p) (pos p)
     h = sd.holds p i
+
+    at-turn : (c : Call) (cs : List Call) → (pos p).at.lines ≡ c ∷ cs → (run : Standing) → running (leaf_for o trees p c) (pos p).at.run ≡ run → has_ended run.stage run.held ≡ false → AtTurn o trees s mem t pos p c cs run
+    at-turn c cs l run is going = record {
+      are = are;
+      known = known;
+      all = sd;
+      inside = i;
+      lines = h.stands.lines ∙ l;
+      replies = h.stands.replies;
+      runs = subst (λ (z : Standing). RunsAt o (leaf_for o trees p c) (row_of o p c) s.world mem.words (s.lps p) z) is (line-runs o trees p c cs s.world mem.words (s.lps p) (pos p).at h.stands l);
+      going = going;
+    }
 
     line : (cs : List Call) → (pos p).at.lines ≡ cs → (pos p).owes ≡ [] → (e : RunEvent) (tp : List Piece) (tps : List (List Piece)) (after : WordLp) → LinesTurn (leaf_for o trees p) o.machine cs (pos p).at.run (pos p).at.replies e tp after
         → OwnTurns (leaf_for o trees p) o.machine after tps end_ → Heads tp tps piece ps → Came o trees p s t pos piece ps end_
     line [] l none e tp tps after lt own hd = absurd lt
     line (c ∷ cs) l none e tp tps after lt own hd =
-        let a : AtTurn o trees s mem t pos p c cs (running (leaf_for o trees p c) (pos p).at.run) = record {
-          are = are;
-          known = known;
-          all = sd;
-          inside = i;
-          lines = h.stands.lines ∙ l;
-          replies = h.stands.replies;
-          none = none;
-          runs = line-runs o trees p c cs s.world mem.words (s.lps p) (pos p).at h.stands l;
-          going = lt.going;
-        } in
-        turn-piece ls o trees s mem t pos p c cs (running (leaf_for o trees p c) (pos p).at.run) lt.stands e tp tps end_ piece ps a lt.turn
+        turn-piece ls o trees s mem t pos p c cs (running (leaf_for o trees p c) (pos p).at.run) lt.stands e tp tps end_ piece ps
+        (at-turn c cs l (running (leaf_for o trees p c) (pos p).at.run) refl lt.going) none lt.turn
         (subst (λ (z : WordLp). OwnTurns (leaf_for o trees p) o.machine z tps end_) lt.after_is own) hd an
 
-    by : (stores : List Taken) (owes : List Due) → (pos p).owes ≡ owes → AreStores o.machine.pages stores owes → piece ∷ ps ≡ map Quiet stores ++ joined rest.turns → (turns : List (List Piece)) → OwnTurns (leaf_for o trees p) o.machine (pos p).at turns end_
+    turned : (pos p).owes ≡ [] → (turns : List (List Piece)) → OwnTurns (leaf_for o trees p) o.machine (pos p).at turns end_ → joined turns ≡ piece ∷ ps → Came o trees p s t pos piece ps end_
+    turned q [] own f = cc
+    turned q (tp ∷ tps) own f = line (pos p).at.lines refl q own.0 tp tps own.1.0 own.1.1 own.1.2 f
+
+    owing : (pos p).fill ≡ None → (re : Rest o trees p (pos p).at (pos p).owes (piece ∷ ps) end_) → (stores : List Taken) (owes : List Due) → (pos p).owes ≡ owes → AreStores o.machine.pages stores owes → piece ∷ ps ≡ map Quiet stores ++ joined re.turns
         → Came o trees p s t pos piece ps end_
-    by [] (d ∷ ds) q st e turns own = absurd st
-    by (Stepped w x ∷ xs) [] q st e turns own = absurd st
-    by (Swapped k u v ∷ xs) owes q st e turns own = absurd st
-    by (Missed k ∷ xs) owes q st e turns own = absurd st
-    by (Stepped w x ∷ xs) (d ∷ ds) q st e turns own =
+    owing n re [] (d ∷ ds) q st e = absurd st
+    owing n re (Stepped w x ∷ xs) [] q st e = absurd st
+    owing n re (Swapped k u v ∷ xs) owes q st e = absurd st
+    owing n re (Missed k ∷ xs) owes q st e = absurd st
+    owing n re (Stepped w x ∷ xs) (d ∷ ds) q st e =
         let y : Taken = Stepped (step.Store (address o.machine.pages d.at) d.word) x in
-        let h' : Quiet y ∷ (map Quiet xs ++ joined rest.turns) ≡ piece ∷ ps = ap (λ (z : WordStep). Quiet (Stepped z x) ∷ (map Quiet xs ++ joined rest.turns)) (sym st.0) ∙ sym e in
-        came-as o trees p s t pos (Quiet y) piece (map Quiet xs ++ joined rest.turns) ps end_ h'
+        let h' : Quiet y ∷ (map Quiet xs ++ joined re.turns) ≡ piece ∷ ps = ap (λ (z : WordStep). Quiet (Stepped z x) ∷ (map Quiet xs ++ joined re.turns)) (sym st.0) ∙ sym e in
+        came-as o trees p s t pos (Quiet y) piece (map Quiet xs ++ joined re.turns) ps end_ h'
         (record {
           memory = mem;
-          now = record { at = (pos p).at; owes = ds };
-          stands = owed-step ls o trees s mem t pos p d ds known sd i q;
-          rest = record { stores = xs; turns = rest.turns; are = st.1; pieces = refl; own = rest.own };
+          now = record { at = (pos p).at; owes = ds; fill = None };
+          stands = owed-step ls o trees s mem t pos p d ds known sd i q n;
+          rest = record { stores = xs; turns = re.turns; are = st.1; pieces = refl; own = re.own };
         })
-    by [] [] q st e turns own = turned rest.turns rest.own (sym e)
-      where
-        turned : (turns : List (List Piece)) → OwnTurns (leaf_for o trees p) o.machine (pos p).at turns end_ → joined turns ≡ piece ∷ ps → Came o trees p s t pos piece ps end_
-        turned [] own f = cc
-        turned (tp ∷ tps) own f = line (pos p).at.lines refl q own.0 tp tps own.1.0 own.1.1 own.1.2 f
+    owing n re [] [] q st e = turned q re.turns re.own (sym e)
+
+    filling : (f : Fill) → (pos p).fill ≡ Some f → (c : Call) (cs : List Call) → (pos p).at.lines ≡ c ∷ cs → (run : Standing) → (pos p).at.run ≡ Some run → RestFilling o trees p c cs (pos p).at.replies run f (piece ∷ ps) end_
+        → Came o trees p s t pos piece ps end_
+    filling f n c cs l run r re =
+        let due : Pending o.machine (bare (s.lps p).call.held) s.world mem.words (on_table o.machine t) (pos p).owes (Some run) (Some f) =
+        subst (λ (z : Option Standing). Pending o.machine (bare (s.lps p).call.held) s.world mem.words (on_table o.machine t) (pos p).owes z (Some f)) r
+        (subst (λ (z : Option Fill). Pending o.machine (bare (s.lps p).call.held) s.world mem.words (on_table o.machine t) (pos p).owes (pos p).at.run z) n h.due) in
+        let going : has_ended run.stage run.held ≡ false = ap (λ (z : Stage). has_ended z run.held) due.at_end.0 in
+        fill-piece ls o trees s mem t pos p c cs run f end_ piece ps (at-turn c cs l run (ap (running (leaf_for o trees p c)) r) going) due re an
+
+    by-fill : (f : Option Fill) (cs : List Call) (r : Option Standing) → (pos p).fill ≡ f → (pos p).at.lines ≡ cs → (pos p).at.run ≡ r → RestBy o trees p (pos p) (piece ∷ ps) end_ f cs r → Came o trees p s t pos piece ps end_
+    by-fill None cs r n l q re = owing n re re.stores (pos p).owes refl re.are re.pieces
+    by-fill (Some f) (c ∷ cs) (Some run) n l q re = filling f n c cs l run q re
+    by-fill (Some f) [] r n l q re = absurd re
+    by-fill (Some f) (c ∷ cs) None n l q re = absurd re
 
 -- what is known of the state after an event
 
@@ -162,7 +181,7 @@ pub record Through (o : Opening) (trees : ℕ → Call → Tree) (s : State) (u 
   pub stands : Stands o trees s memory table pos
   pub words : u.words ≡ table.words
   pub slots : u.slots ≡ table.slots
-  pub rest : (p : ℕ) → p < length o.calls → Rest o trees p (pos p) [] (ends p)
+  pub rest : (p : ℕ) → p < length o.calls → RestOf o trees p (pos p) [] (ends p)
 
 order-plays : (o : Opening) (piece : Piece) (p : ℕ) (ps : List ℕ) (s : State) → play o (event_before piece p ps) s ≡ play o ps (state_after o s p piece)
 order-plays o (Quiet x) p ps s = refl
@@ -189,7 +208,7 @@ part-other i is k e = ap (λ (b : Bool). if b then i.piece ∷ part k is else pa
     by true f = (let t : (k == i.lp) ≡ true = eq-eqb k i.lp (sym (eqb-true i.lp k f)) in cc)
 
 pub through : (ls : Laws) (o : Opening) (trees : ℕ → Call → Tree) (is : List Item) (s : State) (mem : Memory) (t u : Table) (pos : ℕ → Position) (ends : ℕ → WordLp) → length o.calls ≤ 8 → AreTrees o trees → Known o s → Stands o trees s mem t pos
-    → ((p : ℕ) → p < length o.calls → Rest o trees p (pos p) (part p is) (ends p)) → ((p : ℕ) → length o.calls ≤ p → part p is ≡ []) → PlaysTo t (steps_taken is) u
+    → ((p : ℕ) → p < length o.calls → RestOf o trees p (pos p) (part p is) (ends p)) → ((p : ℕ) → length o.calls ≤ p → part p is ≡ []) → PlaysTo t (steps_taken is) u
     → Through o trees (play o (order is) s) u ends
 through ls o trees [] s mem t u pos ends most are known sd rests others plays =
     record { known = known; memory = mem; table = t; pos = pos; stands = sd; words = plays.0; slots = plays.1; rest = rests }
@@ -197,26 +216,26 @@ through ls o trees (i ∷ is) s mem t u pos ends most are known sd rests others 
     by (below-or (length o.calls) i.lp) (λ s' mem' t' pos' k d r x y. through ls o trees is s' mem' t' u pos' ends most are k d r x y)
   where
     by : (i.lp < length o.calls) ⊎ (length o.calls ≤ i.lp)
-        → ((s' : State) (mem' : Memory) (t' : Table) (pos' : ℕ → Position) → Known o s' → Stands o trees s' mem' t' pos' → ((p : ℕ) → p < length o.calls → Rest o trees p (pos' p) (part p is) (ends p)) → ((p : ℕ) → length o.calls ≤ p → part p is ≡ [])
+        → ((s' : State) (mem' : Memory) (t' : Table) (pos' : ℕ → Position) → Known o s' → Stands o trees s' mem' t' pos' → ((p : ℕ) → p < length o.calls → RestOf o trees p (pos' p) (part p is) (ends p)) → ((p : ℕ) → length o.calls ≤ p → part p is ≡ [])
         → PlaysTo t' (steps_taken is) u → Through o trees (play o (order is) s') u ends)
         → Through o trees (play o (order (i ∷ is)) s) u ends
     by (inr out) further = (let none : i.piece ∷ part i.lp is ≡ [] = sym (part-own i is) ∙ others i.lp out in cc)
     by (inl inside) further =
         let p = i.lp in
         let played = plays-piece t u i.piece (steps_taken is) plays in
-        let came = next-piece ls o trees s mem t pos p (ends p) i.piece (part p is) are known sd inside (subst (λ (z : List Piece). Rest o trees p (pos p) z (ends p)) (part-own i is) (rests p inside)) played.0 in
+        let came = next-piece ls o trees s mem t pos p (ends p) i.piece (part p is) are known sd inside (subst (λ (z : List Piece). RestOf o trees p (pos p) z (ends p)) (part-own i is) (rests p inside)) played.0 in
         subst (λ (z : State). Through o trees z u ends) (sym (order-plays o i.piece p (order is) s))
         (further (state_after o s p i.piece) came.memory (table_after t i.piece) (put pos p came.now) (known-after ls o s p i.piece most known) came.stands
         (λ k j. rest k j came (k == p) refl)
         (λ k out. no-part k out (k == p) refl) played.1)
       where
-        rest : (k : ℕ) → k < length o.calls → (came : Came o trees i.lp s t pos i.piece (part i.lp is) (ends i.lp)) → (b : Bool) → (k == i.lp) ≡ b → Rest o trees k (put pos i.lp came.now k) (part k is) (ends k)
+        rest : (k : ℕ) → k < length o.calls → (came : Came o trees i.lp s t pos i.piece (part i.lp is) (ends i.lp)) → (b : Bool) → (k == i.lp) ≡ b → RestOf o trees k (put pos i.lp came.now k) (part k is) (ends k)
         rest k j came true e =
             let q : i.lp ≡ k = sym (eqb-true k i.lp e) in
-            subst (λ (z : ℕ). Rest o trees z (put pos i.lp came.now z) (part z is) (ends z)) q (subst (λ (z : Position). Rest o trees i.lp z (part i.lp is) (ends i.lp)) (sym (at-own pos i.lp came.now)) came.rest)
+            subst (λ (z : ℕ). RestOf o trees z (put pos i.lp came.now z) (part z is) (ends z)) q (subst (λ (z : Position). RestOf o trees i.lp z (part i.lp is) (ends i.lp)) (sym (at-own pos i.lp came.now)) came.rest)
         rest k j came false e =
-            subst (λ (z : Position). Rest o trees k z (part k is) (ends k)) (sym (at-other pos i.lp k came.now e))
-            (subst (λ (z : List Piece). Rest o trees k (pos k) z (ends k)) (part-other i is k e) (rests k j))
+            subst (λ (z : Position). RestOf o trees k z (part k is) (ends k)) (sym (at-other pos i.lp k came.now e))
+            (subst (λ (z : List Piece). RestOf o trees k (pos k) z (ends k)) (part-other i is k e) (rests k j))
 
         no-part : (k : ℕ) → length o.calls ≤ k → (b : Bool) → (k == i.lp) ≡ b → part k is ≡ []
         no-part k out true e =

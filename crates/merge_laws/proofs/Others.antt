@@ -14,9 +14,9 @@ use Rattle.flat_core.specs.Table.{row_of}
 use Rattle.flat_core.specs.Lawful.{Lawful}
 use Rattle.flat_core.specs.Event.{State}
 use Rattle.word_rules.specs.Guards.{Grip, Apart}
-use Rattle.word_rules.specs.Rules.{View, Grade}
+use Rattle.word_rules.specs.Rules.{View, Whole, Grade}
 use Rattle.word_rules.specs.Views.{look}
-use Rattle.word_rules.specs.Permissions.{Reads, Owes, Respects}
+use Rattle.word_rules.specs.Permissions.{Reads, Owes, Fills, Respects, NoLaterConflict}
 use Rattle.lock_words.specs.LockWords.{place_of, Stands as LockStands}
 use Rattle.step_core.specs.Items.{Table}
 use Rattle.lock_words.specs.Grips.{HoldTdrs, HoldsTdr, UndoTdr}
@@ -32,9 +32,11 @@ use Rattle.leaf_engine.specs.Calls.{IsLockAt, AreLocks, IsStage, IsTold, IsCallA
 use Rattle.leaf_engine.specs.OwnLists.{WordLp}
 use Rattle.leaf_engine.proofs.Turning.{instant, at-instant}
 use Rattle.merge_laws.proofs.Virtual.{table_of, holds-memory}
+use Rattle.merge_laws.proofs.Stores.{Due, last_at, or_else, EachDue, each-map, FillsAt, last-each}
+use Rattle.merge_laws.proofs.Filling.{dues_of, all_todos, dues-same, todos-kept}
 use Rattle.merge_laws.proofs.Keeping.{Keeps, keeps-same}
 use Rattle.merge_laws.proofs.Holding.{bare, NoGuests, grip-is-bare, IsOlder, lock-stays, EachTold, told-reads, told-older, still-current}
-use Rattle.merge_laws.proofs.Standing.{Laws, leaf_for, AreTrees, Known, RunsAt, RunAt, StandsAt, on_table, Position, Holds, Stands}
+use Rattle.merge_laws.proofs.Standing.{Laws, leaf_for, AreTrees, Known, RunsAt, RunAt, StandsAt, on_table, Fill, Position, seen_by, back, FillHolds, Pending, Holds, Stands}
 
 -- words that show a state, on a table that holds them
 pub shown-of : (o : Opening) (trees : ℕ → Call → Tree) (s : State) (mem : Memory) (t : Table) (pos : ℕ → Position) (p : ℕ) (c : Call) (run : Standing) → Known o s → Stands o trees s mem t pos → p < length o.calls
@@ -130,6 +132,7 @@ pub record Leaves (m : Machine) (held ks : List Held) (w w' : World) (words word
   pub respects : Respects (bare ks) w w'
   pub looks : (hs : List Held) (v : View) (r : WordPlace) → IsOlder hs held → IsIn m r → Reads (bare hs) w r v → look v (words' r) ≡ look v (words r)
   pub still : (q : WordPlace) (g : Grade) → IsIn m q → Owes (bare held) w q g → a q ≡ a' q
+  pub filled : (q : WordPlace) → IsIn m q → Fills (bare held) w q → (a q ≡ a' q) × (words' q ≡ words q)
 
 pub others-stay : (ls : Laws) (o : Opening) (trees : ℕ → Call → Tree) (s : State) (mem : Memory) (t : Table) (pos : ℕ → Position) (k : ℕ) (w' : World) (words' a' : WordPlace → ℕ) (ks : List Held) → AreTrees o trees → Known o s → Stands o trees s mem t pos
     → k < length o.calls → Leaves o.machine (s.lps k).call.held ks s.world w' mem.words words' (on_table o.machine t) a' → Holds o trees k w' words' a' (s.lps k) (pos k)
@@ -138,9 +141,41 @@ others-stay ls o trees s mem t pos k w' words' a' ks are known st i lv =
     let whole : IsOlder (s.lps k).call.held (s.lps k).call.held = ([], refl) in
     record {
       stands = record { lines = h.stands.lines; replies = h.stands.replies; run = run (pos k).at.lines (pos k).at.run h.stands.run };
-      owed = keeps-same o.machine (bare (s.lps k).call.held) (bare (s.lps k).call.held) s.world w' (on_table o.machine t) a' (pos k).owes (ls.acts (bare (s.lps k).call.held) (bare ks) s.world w' (lv.apart (s.lps k).call.held whole) lv.respects).owes_kept lv.still h.owed;
+      due = pending (pos k).fill h.due;
     }
   where
+    held : List Held
+    held = (s.lps k).call.held
+
+    later : NoLaterConflict (bare held) (bare ks) s.world w'
+    later = ls.acts (bare held) (bare ks) s.world w' (lv.apart held ([], refl)) lv.respects
+
+    same-words : (q : WordPlace) → IsIn o.machine q → Reads (bare held) s.world q Whole → words' q ≡ mem.words q
+    same-words q in_q reads = lv.looks held Whole q ([], refl) in_q reads
+
+    filling : (f : Fill) → FillHolds o.machine (bare held) s.world mem.words (on_table o.machine t) (pos k).owes (pos k).at.run f → FillHolds o.machine (bare held) w' words' a' (pos k).owes (pos k).at.run f
+    filling f h = record {
+      at_end = h.at_end;
+      made_may = each-map (FillsAt o.machine (bare held) s.world) (FillsAt o.machine (bare held) w') f.made (λ q x. (x.0, later.fills_kept q x.1)) h.made_may;
+      left_may = todos-kept o.machine (bare held) s.world w' f.left (λ q x. later.reads_kept q Whole x) later.fills_kept h.left_may;
+      all_may = todos-kept o.machine (bare held) s.world w' (all_todos f.fills) (λ q x. later.reads_kept q Whole x) later.fills_kept h.all_may;
+      stores =
+          ap (λ (ds : List Due). f.made ++ ds) (dues-same o.machine (bare held) s.world f.left (seen_by f.made words') (seen_by f.made mem.words) h.left_may (λ q in_q reads. ap (or_else (last_at f.made q)) (same-words q in_q reads)))
+          ∙ (h.stores ∙ sym (dues-same o.machine (bare held) s.world (all_todos f.fills) words' mem.words h.all_may same-words));
+      there = λ r x in_r e. sym (lv.filled r in_r (last-each ls.places (FillsAt o.machine (bare held) s.world) f.made r x h.made_may e).1).0 ∙ h.there r x in_r e;
+      undo = λ r. h.undo r ∙ by r (last_at f.made r) refl;
+    }
+      where
+        by : (r : WordPlace) (x : Option ℕ) → last_at f.made r ≡ x → back (last_at f.made r) (mem.words r) ≡ back (last_at f.made r) (words' r)
+        by r None e = rw e refl
+        by r (Some x) e =
+            let may = last-each ls.places (FillsAt o.machine (bare held) s.world) f.made r x h.made_may e in
+            ap (back (last_at f.made r)) (sym (lv.filled r may.0 may.1).1)
+
+    pending : (f : Option Fill) → Pending o.machine (bare held) s.world mem.words (on_table o.machine t) (pos k).owes (pos k).at.run f → Pending o.machine (bare held) w' words' a' (pos k).owes (pos k).at.run f
+    pending None h = keeps-same o.machine (bare held) (bare held) s.world w' (on_table o.machine t) a' (pos k).owes later.owes_kept lv.still h
+    pending (Some f) h = filling f h
+
     begun : (c : Call) (r : Standing) → RunsAt o (leaf_for o trees k c) (row_of o k c) s.world mem.words (s.lps k) r → RunsAt o (leaf_for o trees k c) (row_of o k c) w' words' (s.lps k) r
     begun c r a =
         let ca = a.call in

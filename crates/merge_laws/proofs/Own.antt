@@ -17,10 +17,10 @@ use Rattle.flat_core.specs.Row.{Row, Move, Attempts, Undoes, Refuses, Succeeds, 
 use Rattle.flat_core.specs.Table.{row_of}
 use Rattle.flat_core.specs.Event.{State, OfCall, next_event, lines_left, event, call_lp, call_busy, call_world, settle, settled, succeeded, is_granted, calls_of}
 use Rattle.flat_core.specs.Laws.{IsBetween}
-use Rattle.word_rules.specs.Guards.{Apart}
+use Rattle.word_rules.specs.Guards.{Grip, Apart}
 use Rattle.word_rules.specs.Rules.{View, Grade}
 use Rattle.word_rules.specs.Views.{look}
-use Rattle.word_rules.specs.Permissions.{Reads, Owes, Respects}
+use Rattle.word_rules.specs.Permissions.{Reads, Owes, Fills, Respects}
 use Rattle.word_rules.specs.Cells.{Shows}
 use Rattle.step_core.specs.Items.{Table}
 use Rattle.lock_words.specs.Grips.{CallTdrs, HoldTdrs, HoldsTdr, UndoTdr, GuestTdrs, TdrsAreHeld}
@@ -32,10 +32,10 @@ use Rattle.leaf_engine.specs.Turns.{Standing, last_reply}
 use Rattle.leaf_engine.specs.Calls.{IsCallAt, GoesOn, IsOver, After}
 use Rattle.leaf_engine.specs.OwnLists.{WordLp, after_turn}
 use Rattle.leaf_engine.proofs.Calling.{event-is, lp-now}
-use Rattle.merge_laws.proofs.Stores.{Due, last_at, laid, last-each, OwesAt}
+use Rattle.merge_laws.proofs.Stores.{Due, last_at, laid, last-each, OwesAt, FillsAt}
 use Rattle.merge_laws.proofs.Keeping.{keeps-each}
 use Rattle.merge_laws.proofs.Holding.{bare, NoGuests, IsOlder, apart-held}
-use Rattle.merge_laws.proofs.Standing.{Laws, leaf_for, AreTrees, Known, RunsAt, RunAt, StandsAt, on_table, Position, Holds, Stands}
+use Rattle.merge_laws.proofs.Standing.{Laws, leaf_for, AreTrees, Known, RunsAt, RunAt, StandsAt, on_table, Fill, Position, back, Pending, Holds, Stands}
 use Rattle.merge_laws.proofs.Others.{Leaves, others-stay}
 
 -- its record
@@ -159,6 +159,7 @@ pub record Spares (m : Machine) (s : State) (p : ℕ) (w' : World) (words words'
   pub respects : Respects (bare (s.lps p).call.held) s.world w'
   pub looks : (hs : List Held) (v : View) (r : WordPlace) → Apart (bare hs) (bare (s.lps p).call.held) → IsIn m r → Reads (bare hs) s.world r v → look v (words' r) ≡ look v (words r)
   pub still : (hs : List Held) (q : WordPlace) (g : Grade) → Apart (bare hs) (bare (s.lps p).call.held) → IsIn m q → Owes (bare hs) s.world q g → a q ≡ a' q
+  pub filled : (hs : List Held) (q : WordPlace) → Apart (bare hs) (bare (s.lps p).call.held) → IsIn m q → Fills (bare hs) s.world q → (a q ≡ a' q) × (words' q ≡ words q)
 
 pub gathered : (ls : Laws) (o : Opening) (trees : ℕ → Call → Tree) (s : State) (mem mem' : Memory) (t t' : Table) (pos : ℕ → Position) (p : ℕ) (now : Position) → AreTrees o trees → Known o s → Stands o trees s mem t pos → p < length o.calls
     → Spares o.machine s p (event o s p).world mem.words mem'.words (on_table o.machine t) (on_table o.machine t') → Shows o.machine mem'.words mem'.slots (event o s p) → mem'.hand ≡ None
@@ -212,19 +213,36 @@ gathered ls o trees s mem mem' t t' pos p now are known st i sp shows hand slots
               respects = sp.respects;
               looks = λ hs v r older in_r reads. sp.looks hs v r (apart-from ls o trees s mem t pos p k hs known st i j e older) in_r reads;
               still = λ q g in_q owes. sp.still (s.lps k).call.held q g (apart-from ls o trees s mem t pos p k (s.lps k).call.held known st i j e (whole (s.lps k).call.held)) in_q owes;
+              filled = λ q in_q fills. sp.filled (s.lps k).call.held q (apart-from ls o trees s mem t pos p k (s.lps k).call.held known st i j e (whole (s.lps k).call.held)) in_q fills;
             } in
             let there = others-stay ls o trees s mem t pos k (event o s p).world mem'.words (on_table o.machine t') (s.lps p).call.held are known st j lv in
             subst (λ (z : Position). Holds o trees k (event o s p).world mem'.words (on_table o.machine t') ((event o s p).lps k) z) (sym (at-other pos p k now e))
             (subst (λ (z : Lp). Holds o trees k (event o s p).world mem'.words (on_table o.machine t') z (pos k)) (sym (other k e)) there)
 
--- nothing is due at a place that nobody may owe a store to
-pub none-due : (ls : Laws) (o : Opening) (trees : ℕ → Call → Tree) (s : State) (mem : Memory) (t : Table) (pos : ℕ → Position) (p : ℕ) (r : WordPlace) → Known o s → Stands o trees s mem t pos → p < length o.calls
-    → ((k : ℕ) (hs : List Held) (g : Grade) → Apart (bare hs) (bare (s.lps p).call.held) → Owes (bare hs) s.world r g → ⊥)
+-- a store that is due is at a place where one may be owed, or filled
+pub due-at : (ls : Laws) (m : Machine) (g : Grip) (w : World) (words a : WordPlace → ℕ) (owes : List Due) (run : Option Standing) (f : Option Fill) (r : WordPlace) (x : ℕ) → Pending m g w words a owes run f → last_at owes r ≡ Some x
+    → OwesAt m g w r ⊎ FillsAt m g w r
+due-at ls m g w words a owes run None r x pe e = inl (last-each ls.places (OwesAt m g w) owes r x (keeps-each m g w a owes pe) e)
+due-at ls m g w words a owes run (Some f) r x pe e = inr (by (last_at f.made r) refl)
+  where
+    by : (y : Option ℕ) → last_at f.made r ≡ y → FillsAt m g w r
+    by None h = (let none : last_at owes r ≡ None = pe.undo r ∙ ap (λ (z : Option ℕ). back z (words r)) h in cc)
+    by (Some y) h = last-each ls.places (FillsAt m g w) f.made r y pe.made_may h
+
+-- nobody else may owe a store there, or fill it
+pub record NobodyElse (g : Grip) (w : World) (r : WordPlace) : Type 0 where
+  pub owes : (hs : List Held) (k : Grade) → Apart (bare hs) g → Owes (bare hs) w r k → ⊥
+  pub fills : (hs : List Held) → Apart (bare hs) g → Fills (bare hs) w r → ⊥
+
+-- so nothing of others is due there
+pub none-due : (ls : Laws) (o : Opening) (trees : ℕ → Call → Tree) (s : State) (mem : Memory) (t : Table) (pos : ℕ → Position) (p : ℕ) (r : WordPlace) → Known o s → Stands o trees s mem t pos → p < length o.calls → NobodyElse (bare (s.lps p).call.held) s.world r
     → (k : ℕ) → k < length o.calls → (k == p) ≡ false → last_at (pos k).owes r ≡ None
 none-due ls o trees s mem t pos p r known st i never k j e = by (last_at (pos k).owes r) refl
   where
+    at : OwesAt o.machine (bare (s.lps k).call.held) s.world r ⊎ FillsAt o.machine (bare (s.lps k).call.held) s.world r → last_at (pos k).owes r ≡ None
+    at (inl owed) = absurd (never.owes (s.lps k).call.held owed.1.0 (apart-from ls o trees s mem t pos p k (s.lps k).call.held known st i j e (whole (s.lps k).call.held)) owed.1.1)
+    at (inr filled) = absurd (never.fills (s.lps k).call.held (apart-from ls o trees s mem t pos p k (s.lps k).call.held known st i j e (whole (s.lps k).call.held)) filled.1)
+
     by : (x : Option ℕ) → last_at (pos k).owes r ≡ x → last_at (pos k).owes r ≡ None
     by None h = h
-    by (Some x) h =
-        let owed = last-each ls.places (OwesAt o.machine (bare (s.lps k).call.held) s.world) (pos k).owes r x (keeps-each o.machine (bare (s.lps k).call.held) s.world (on_table o.machine t) (pos k).owes (st.holds k j).owed) h in
-        absurd (never k (s.lps k).call.held owed.1.0 (apart-from ls o trees s mem t pos p k (s.lps k).call.held known st i j e (whole (s.lps k).call.held)) owed.1.1)
+    by (Some x) h = at (due-at ls o.machine (bare (s.lps k).call.held) s.world mem.words (on_table o.machine t) (pos k).owes (pos k).at.run (pos k).fill r x (st.holds k j).due h)

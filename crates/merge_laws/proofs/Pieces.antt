@@ -25,7 +25,7 @@ use Rattle.leaf_engine.specs.OwnLists.{Piece, Quiet, Marked, Wordless, joined, b
 use Rattle.leaf_engine.specs.Merges.{step_before}
 use Rattle.leaf_engine.proofs.Beginning.{calls-begin}
 use Rattle.merge_laws.proofs.Stores.{Due, AreStores}
-use Rattle.merge_laws.proofs.Standing.{leaf_for, RunsAt, RunAt, StandsAt, Position, Rest, Stands}
+use Rattle.merge_laws.proofs.Standing.{leaf_for, RunsAt, RunAt, StandsAt, Position, RestOf, Stands}
 
 abbrev pub state_after : Opening → State → ℕ → Piece → State
 state_after o s p (Quiet x) = s
@@ -67,7 +67,7 @@ pub record Came (o : Opening) (trees : ℕ → Call → Tree) (p : ℕ) (s : Sta
   pub memory : Memory
   pub now : Position
   pub stands : Stands o trees (state_after o s p piece) memory (table_after t piece) (put pos p now)
-  pub rest : Rest o trees p now ps end_
+  pub rest : RestOf o trees p now ps end_
 
 -- it is this piece, and these are left
 pub came-as : (o : Opening) (trees : ℕ → Call → Tree) (p : ℕ) (s : State) (t : Table) (pos : ℕ → Position) (piece piece' : Piece) (ps ps' : List Piece) (end_ : WordLp) → piece ∷ ps ≡ piece' ∷ ps' → Came o trees p s t pos piece ps end_

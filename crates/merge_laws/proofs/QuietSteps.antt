@@ -15,7 +15,7 @@ use Rattle.flat_core.specs.Event.{State}
 use Rattle.word_rules.specs.Guards.{Apart, Grip}
 use Rattle.word_rules.specs.Rules.{View, Grade, spares}
 use Rattle.word_rules.specs.Views.{look}
-use Rattle.word_rules.specs.Permissions.{Reads, Sees, Owes}
+use Rattle.word_rules.specs.Permissions.{Reads, Sees, Owes, Fills}
 use Rattle.lock_words.specs.LockWords.{put_word}
 use Rattle.step_core.specs.declared.steps.WordStep.{WordStep}
 use Rattle.step_core.specs.declared.steps.WordStep.TheVariants as step
@@ -36,21 +36,22 @@ use Rattle.leaf_engine.proofs.Loading.{LooksRight, current-load, granted-load}
 use Rattle.leaf_engine.proofs.Turning.{instant, at-instant}
 use Rattle.leaf_engine.proofs.Changing.{word_put}
 use Rattle.merge_laws.proofs.Virtual.{table_of}
-use Rattle.merge_laws.proofs.Stores.{Due, last_at, later, or_else, laid, laid-one, laid-same, last-each, OwesAt}
-use Rattle.merge_laws.proofs.Keeping.{Keeps, keeps-each, keeps-same, laid-looks}
+use Rattle.merge_laws.proofs.Stores.{Due, last_at, later, or_else, laid, laid-one, laid-same, last-each, OwesAt, FillsAt}
+use Rattle.merge_laws.proofs.Keeping.{Keeps, keeps-same, laid-looks}
 use Rattle.merge_laws.proofs.Holding.{bare}
-use Rattle.merge_laws.proofs.Standing.{Laws, leaf_for, AreTrees, Known, RunsAt, StandsAt, on_table, Position, Holds, Stands}
+use Rattle.merge_laws.proofs.Standing.{Laws, leaf_for, AreTrees, Known, RunsAt, StandsAt, on_table, Fill, Position, back, Pending, Holds, Stands}
 use Rattle.merge_laws.proofs.Others.{shown-of, hold-is}
-use Rattle.merge_laws.proofs.Own.{at-own, at-other, whole, apart-from, none-due}
+use Rattle.merge_laws.proofs.Own.{at-own, at-other, whole, apart-from, due-at}
 use Rattle.merge_laws.proofs.LockSteps.{turned-round}
 
 -- one processor is elsewhere, in the same state
 pub rearranged : (ls : Laws) (o : Opening) (trees : ℕ → Call → Tree) (s : State) (mem : Memory) (t t' : Table) (pos : ℕ → Position) (p : ℕ) (now : Position) → Stands o trees s mem t pos → t'.slots ≡ t.slots
     → ((k : ℕ) → k < length o.calls → (k == p) ≡ false → (q : WordPlace) (g : Grade) → IsIn o.machine q → Owes (bare (s.lps k).call.held) s.world q g → on_table o.machine t q ≡ on_table o.machine t' q)
+    → ((k : ℕ) → k < length o.calls → (k == p) ≡ false → (q : WordPlace) → IsIn o.machine q → Fills (bare (s.lps k).call.held) s.world q → on_table o.machine t q ≡ on_table o.machine t' q)
     → Holds o trees p s.world mem.words (on_table o.machine t') (s.lps p) now
     → ((r : WordPlace) → IsIn o.machine r → mem.words r ≡ laid (length o.calls) (λ k. (put pos p now k).owes) (on_table o.machine t') r)
     → Stands o trees s mem t' (put pos p now)
-rearranged ls o trees s mem t t' pos p now sd slots still own laid_is = record {
+rearranged ls o trees s mem t t' pos p now sd slots still unfilled own laid_is = record {
   shows = sd.shows;
   hand = sd.hand;
   slots = λ h in_h. subst (λ (f : ℕ → Option Measure). IsHand (f (h - 1)) (mem.slots h)) (sym slots) (sd.slots h in_h);
@@ -60,6 +61,19 @@ rearranged ls o trees s mem t t' pos p now sd slots still own laid_is = record {
   laid_is = laid_is;
 }
   where
+    pending : (k : ℕ) → k < length o.calls → (k == p) ≡ false → (f : Option Fill) → Pending o.machine (bare (s.lps k).call.held) s.world mem.words (on_table o.machine t) (pos k).owes (pos k).at.run f
+        → Pending o.machine (bare (s.lps k).call.held) s.world mem.words (on_table o.machine t') (pos k).owes (pos k).at.run f
+    pending k j e None h = keeps-same o.machine (bare (s.lps k).call.held) (bare (s.lps k).call.held) s.world s.world (on_table o.machine t) (on_table o.machine t') (pos k).owes (λ q g owes. owes) (still k j e) h
+    pending k j e (Some f) h = record {
+      at_end = h.at_end;
+      made_may = h.made_may;
+      left_may = h.left_may;
+      all_may = h.all_may;
+      stores = h.stores;
+      there = λ r x in_r z. sym (unfilled k j e r in_r (last-each ls.places (FillsAt o.machine (bare (s.lps k).call.held) s.world) f.made r x h.made_may z).1) ∙ h.there r x in_r z;
+      undo = h.undo;
+    }
+
     holds : (k : ℕ) → k < length o.calls → Holds o trees k s.world mem.words (on_table o.machine t') (s.lps k) (put pos p now k)
     holds k j = by (k == p) refl
       where
@@ -73,7 +87,7 @@ rearranged ls o trees s mem t t' pos p now sd slots still own laid_is = record {
             subst (λ (z : Position). Holds o trees k s.world mem.words (on_table o.machine t') (s.lps k) z) (sym (at-other pos p k now e))
             (record {
               stands = h.stands;
-              owed = keeps-same o.machine (bare (s.lps k).call.held) (bare (s.lps k).call.held) s.world s.world (on_table o.machine t) (on_table o.machine t') (pos k).owes (λ q g owes. owes) (still k j e) h.owed;
+              due = pending k j e (pos k).fill h.due;
             })
 
 -- a load finds what it looks at as memory shows it
@@ -109,14 +123,31 @@ loads-right ls o trees s mem t pos p c run at a are known sd i none no_hasher ca
         (ls.words (bare (s.lps p).call.held) (bare (s.lps j).call.held) s.world (turned-round (bare (s.lps j).call.held) (bare (s.lps p).call.held) (apart-from ls o trees s mem t pos p j (s.lps j).call.held known sd i l n (whole (s.lps j).call.held)))).sees_owes q v g ns
         (subst (λ (x : Grip). Sees x s.world q v) grip sees.0) owes
 
-    each : (v : View) (q : WordPlace) (k : ℕ → Tree) → Loads inst hs v q k → (j : ℕ) → j < length o.calls
-        → (last_at (pos j).owes q ≡ None) ⊎ ((g : Grip) × (w : World) × Keeps m g w (on_table m t) (pos j).owes × ((x : Grade) → Owes g w q x → spares x v ≡ false → ⊥))
+    never-filled : (v : View) (q : WordPlace) (k : ℕ → Tree) → Loads inst hs v q k → (j : ℕ) → j < length o.calls → (j == p) ≡ false → Fills (bare (s.lps j).call.held) s.world q → ⊥
+    never-filled v q k (inl reads) j l n fills =
+        (ls.words (bare (s.lps j).call.held) (bare (s.lps p).call.held) s.world (apart-from ls o trees s mem t pos p j (s.lps j).call.held known sd i l n (whole (s.lps j).call.held))).fills_reads q v fills
+        (subst (λ (x : Grip). Reads x s.world q v) grip reads)
+    never-filled v q k (inr sees) j l n fills =
+        (ls.words (bare (s.lps j).call.held) (bare (s.lps p).call.held) s.world (apart-from ls o trees s mem t pos p j (s.lps j).call.held known sd i l n (whole (s.lps j).call.held))).fills_sees q v fills
+        (subst (λ (x : Grip). Sees x s.world q v) grip sees.0)
+
+    Either : (v : View) (q : WordPlace) (j : ℕ) → Type 0
+    Either v q j = (last_at (pos j).owes q ≡ None) ⊎ ((g : Grip) × (w : World) × Keeps m g w (on_table m t) (pos j).owes × ((x : Grade) → Owes g w q x → spares x v ≡ false → ⊥))
+
+    each : (v : View) (q : WordPlace) (k : ℕ → Tree) → Loads inst hs v q k → (j : ℕ) → j < length o.calls → Either v q j
     each v q k lo j l = test (j == p) refl
       where
-        test : (b : Bool) → (j == p) ≡ b
-            → (last_at (pos j).owes q ≡ None) ⊎ ((g : Grip) × (w : World) × Keeps m g w (on_table m t) (pos j).owes × ((x : Grade) → Owes g w q x → spares x v ≡ false → ⊥))
+        other : (j == p) ≡ false → (f : Option Fill) → Pending m (bare (s.lps j).call.held) s.world mem.words (on_table m t) (pos j).owes (pos j).at.run f → Either v q j
+        other h None pe = inr (bare (s.lps j).call.held, s.world, pe, never v q k lo j l h)
+        other h (Some f) pe = inl (pe.undo q ∙ made (last_at f.made q) refl)
+          where
+            made : (x : Option ℕ) → last_at f.made q ≡ x → back (last_at f.made q) (mem.words q) ≡ None
+            made None e = ap (λ (z : Option ℕ). back z (mem.words q)) e
+            made (Some x) e = absurd (never-filled v q k lo j l h (last-each ls.places (FillsAt m (bare (s.lps j).call.held) s.world) f.made q x pe.made_may e).1)
+
+        test : (b : Bool) → (j == p) ≡ b → Either v q j
         test true h = (let j-is : j ≡ p = eqb-true j p h in inl (ap (λ (z : ℕ). last_at (pos z).owes q) j-is ∙ ap (λ (ds : List Due). last_at ds q) none))
-        test false h = inr (bare (s.lps j).call.held, s.world, (sd.holds j l).owed, never v q k lo j l h)
+        test false h = other h (pos j).fill (sd.holds j l).due
 
     by : (tree : Tree) → Comes m inst (work_of task.meaning) hs tree (next ((work_of task.meaning).items s.world) (length hs)) → IsLoadAt m.pages tree at → LooksRight mem.words tree a
     by (Load v q k) co l =
@@ -172,11 +203,105 @@ told-load o trees p c w words lp run a ca e right on = record {
       };
 }
 
+-- a store at a place where nobody else may owe or fill: others stay where they are
+pub record SoleAt (o : Opening) (s : State) (p : ℕ) (at : WordPlace) : Type 0 where
+  pub owes : (k : ℕ) → k < length o.calls → (k == p) ≡ false → (g : Grade) → Owes (bare (s.lps k).call.held) s.world at g → ⊥
+  pub fills : (k : ℕ) → k < length o.calls → (k == p) ≡ false → Fills (bare (s.lps k).call.held) s.world at → ⊥
+
+pub store-step : (ls : Laws) (o : Opening) (trees : ℕ → Call → Tree) (s : State) (mem : Memory) (t : Table) (pos : ℕ → Position) (p : ℕ) (d : Due) (now : Position) → Stands o trees s mem t pos → p < length o.calls → IsIn o.machine d.at → SoleAt o s p d.at
+    → (let t' = record t { words = after_step t.words (step.Store (address o.machine.pages d.at) d.word) } in
+    Holds o trees p s.world mem.words (on_table o.machine t') (s.lps p) now
+    → ((r : WordPlace) → IsIn o.machine r → same_place r d.at ≡ true → mem.words r ≡ or_else (last_at (pos p).owes r) (on_table o.machine t r) → mem.words r ≡ or_else (last_at now.owes r) d.word)
+    → ((r : WordPlace) → same_place r d.at ≡ false → last_at now.owes r ≡ last_at (pos p).owes r)
+    → Stands o trees s mem t' (put pos p now))
+store-step ls o trees s mem t pos p d now sd i in_d sole own here there = rearranged ls o trees s mem t t' pos p now sd refl still unfilled own laid-after
+  where
+    m : Machine
+    m = o.machine
+
+    t' : Table
+    t' = record t { words = after_step t.words (step.Store (address m.pages d.at) d.word) }
+
+    stored-at : (r : WordPlace) → IsIn m r → on_table m t' r ≡ put_word (on_table m t) d.at d.word r
+    stored-at r in_r = word_put ls.places m t.words t'.words (on_table m t) d.at d.word in_d refl (λ x in_x. refl) r in_r
+
+    elsewhere : (r : WordPlace) → IsIn m r → (same_place r d.at ≡ true → ⊥) → on_table m t r ≡ on_table m t' r
+    elsewhere r in_r not = by (same_place r d.at) refl
+      where
+        by : (b : Bool) → same_place r d.at ≡ b → on_table m t r ≡ on_table m t' r
+        by true f = absurd (not f)
+        by false f = sym (stored-at r in_r ∙ ap (λ (b : Bool). if b then d.word else on_table m t r) f)
+
+    still : (k : ℕ) → k < length o.calls → (k == p) ≡ false → (q : WordPlace) (g : Grade) → IsIn m q → Owes (bare (s.lps k).call.held) s.world q g → on_table m t q ≡ on_table m t' q
+    still k j e q g in_q owes = elsewhere q in_q (λ f. sole.owes k j e g (subst (λ (z : WordPlace). Owes (bare (s.lps k).call.held) s.world z g) ((ls.places.same q d.at).0 f) owes))
+
+    unfilled : (k : ℕ) → k < length o.calls → (k == p) ≡ false → (q : WordPlace) → IsIn m q → Fills (bare (s.lps k).call.held) s.world q → on_table m t q ≡ on_table m t' q
+    unfilled k j e q in_q fills = elsewhere q in_q (λ f. sole.fills k j e (subst (λ (z : WordPlace). Fills (bare (s.lps k).call.held) s.world z) ((ls.places.same q d.at).0 f) fills))
+
+    none-else : (k : ℕ) → k < length o.calls → (k == p) ≡ false → (r : WordPlace) → same_place r d.at ≡ true → last_at (pos k).owes r ≡ None
+    none-else k j e r at = by (last_at (pos k).owes r) refl
+      where
+        r-is : r ≡ d.at
+        r-is = (ls.places.same r d.at).0 at
+
+        either : OwesAt m (bare (s.lps k).call.held) s.world r ⊎ FillsAt m (bare (s.lps k).call.held) s.world r → last_at (pos k).owes r ≡ None
+        either (inl owed) = absurd (sole.owes k j e owed.1.0 (subst (λ (z : WordPlace). Owes (bare (s.lps k).call.held) s.world z owed.1.0) r-is owed.1.1))
+        either (inr filled) = absurd (sole.fills k j e (subst (λ (z : WordPlace). Fills (bare (s.lps k).call.held) s.world z) r-is filled.1))
+
+        by : (x : Option ℕ) → last_at (pos k).owes r ≡ x → last_at (pos k).owes r ≡ None
+        by None f = f
+        by (Some x) f = either (due-at ls m (bare (s.lps k).call.held) s.world mem.words (on_table m t) (pos k).owes (pos k).at.run (pos k).fill r x (sd.holds k j).due f)
+
+    laid-after : (r : WordPlace) → IsIn m r → mem.words r ≡ laid (length o.calls) (λ k. (put pos p now k).owes) (on_table m t') r
+    laid-after r in_r = by (same_place r d.at) refl
+      where
+        other : (k : ℕ) → (k == p) ≡ false → last_at (put pos p now k).owes r ≡ last_at (pos k).owes r
+        other k e = ap (λ (z : Position). last_at z.owes r) (at-other pos p k now e)
+
+        mine : last_at (put pos p now p).owes r ≡ last_at now.owes r
+        mine = ap (λ (z : Position). last_at z.owes r) (at-own pos p now)
+
+        by : (b : Bool) → same_place r d.at ≡ b → mem.words r ≡ laid (length o.calls) (λ k. (put pos p now k).owes) (on_table m t') r
+        by true e =
+            here r in_r e (sd.laid_is r in_r ∙ laid-one (length o.calls) p (λ k. (pos k).owes) (on_table m t) r i (λ k j f. none-else k j f r e))
+            ∙ (ap (or_else (last_at now.owes r)) (sym (stored-at r in_r ∙ ap (λ (b : Bool). if b then d.word else on_table m t r) e))
+            ∙ sym (laid-one (length o.calls) p (λ k. (put pos p now k).owes) (on_table m t') r i (λ k j f. other k f ∙ none-else k j f r e) ∙ ap (λ (z : Option ℕ). or_else z (on_table m t' r)) mine))
+        by false e =
+            sd.laid_is r in_r
+            ∙ laid-same (length o.calls) (λ k. (pos k).owes) (λ k. (put pos p now k).owes) (on_table m t) (on_table m t') r same
+            (sym (stored-at r in_r ∙ ap (λ (b : Bool). if b then d.word else on_table m t r) e))
+          where
+            same : (k : ℕ) → k < length o.calls → last_at (pos k).owes r ≡ last_at (put pos p now k).owes r
+            same k j = test (k == p) refl
+              where
+                test : (b : Bool) → (k == p) ≡ b → last_at (pos k).owes r ≡ last_at (put pos p now k).owes r
+                test true f =
+                    let k-is : k ≡ p = eqb-true k p f in
+                    subst (λ (z : ℕ). last_at (pos z).owes r ≡ last_at (put pos p now z).owes r) (sym k-is) (sym (mine ∙ there r e))
+                test false f = sym (other k f)
+
+pub first-at : (x : Option ℕ) (b : Bool) (w y : ℕ) → b ≡ true → or_else (later x (if b then Some w else None)) y ≡ or_else x w
+first-at (Some z) b w y f = refl
+first-at None true w y f = refl
+first-at None false w y f = cc
+
+pub not-at : (x : Option ℕ) (b : Bool) (w : ℕ) → b ≡ false → later x (if b then Some w else None) ≡ x
+not-at (Some y) b w f = refl
+not-at None false w f = refl
+not-at None true w f = cc
+
 -- the first store that is owed is made
 pub owed-step : (ls : Laws) (o : Opening) (trees : ℕ → Call → Tree) (s : State) (mem : Memory) (t : Table) (pos : ℕ → Position) (p : ℕ) (d : Due) (ds : List Due) → Known o s → Stands o trees s mem t pos → p < length o.calls
-    → (pos p).owes ≡ d ∷ ds → Stands o trees s mem (record t { words = after_step t.words (step.Store (address o.machine.pages d.at) d.word) }) (put pos p (record { at = (pos p).at; owes = ds }))
-owed-step ls o trees s mem t pos p d ds known sd i is =
-    rearranged ls o trees s mem t t' pos p now sd refl still (record { stands = h.stands; owed = kept }) laid-after
+    → (pos p).owes ≡ d ∷ ds → (pos p).fill ≡ None → Stands o trees s mem (record t { words = after_step t.words (step.Store (address o.machine.pages d.at) d.word) }) (put pos p (record { at = (pos p).at; owes = ds; fill = None }))
+owed-step ls o trees s mem t pos p d ds known sd i is plain =
+    store-step ls o trees s mem t pos p d now sd i owed.0.0
+    (record {
+      owes = λ k j e g owes. (ls.words (bare (s.lps k).call.held) (bare (s.lps p).call.held) s.world (apart k j e)).owes_owes d.at g owed.0.1.0 owes owed.0.1.1;
+      fills = λ k j e fills. (ls.words (bare (s.lps k).call.held) (bare (s.lps p).call.held) s.world (apart k j e)).fills_owes d.at owed.0.1.0 fills owed.0.1.1;
+    })
+    (record { stands = (sd.holds p i).stands; due = kept })
+    (λ r in_r e was. was ∙ (ap (λ (z : List Due). or_else (last_at z r) (on_table m t r)) is ∙ first-at (last_at ds r) (same_place r d.at) d.word (on_table m t r) e))
+    (λ r e. sym (ap (λ (z : List Due). last_at z r) is ∙ not-at (last_at ds r) (same_place r d.at) d.word e))
   where
     m : Machine
     m = o.machine
@@ -185,79 +310,16 @@ owed-step ls o trees s mem t pos p d ds known sd i is =
     t' = record t { words = after_step t.words (step.Store (address m.pages d.at) d.word) }
 
     now : Position
-    now = record { at = (pos p).at; owes = ds }
+    now = record { at = (pos p).at; owes = ds; fill = None }
 
-    h : Holds o trees p s.world mem.words (on_table m t) (s.lps p) (pos p)
-    h = sd.holds p i
+    apart : (k : ℕ) → k < length o.calls → (k == p) ≡ false → Apart (bare (s.lps k).call.held) (bare (s.lps p).call.held)
+    apart k j e = apart-from ls o trees s mem t pos p k (s.lps k).call.held known sd i j e (whole (s.lps k).call.held)
 
     owed : Keeps m (bare (s.lps p).call.held) s.world (on_table m t) (d ∷ ds)
-    owed = subst (λ (z : List Due). Keeps m (bare (s.lps p).call.held) s.world (on_table m t) z) is h.owed
-
-    stored-at : (r : WordPlace) → IsIn m r → on_table m t' r ≡ put_word (on_table m t) d.at d.word r
-    stored-at r in_r = word_put ls.places m t.words t'.words (on_table m t) d.at d.word owed.0.0 refl (λ x in_x. refl) r in_r
+    owed =
+        subst (λ (z : List Due). Keeps m (bare (s.lps p).call.held) s.world (on_table m t) z) is
+        (subst (λ (f : Option Fill). Pending m (bare (s.lps p).call.held) s.world mem.words (on_table m t) (pos p).owes (pos p).at.run f) plain (sd.holds p i).due)
 
     kept : Keeps m (bare (s.lps p).call.held) s.world (on_table m t') ds
-    kept = keeps-same m (bare (s.lps p).call.held) (bare (s.lps p).call.held) s.world s.world (put_word (on_table m t) d.at d.word) (on_table m t') ds (λ q g x. x) (λ q g in_q x. sym (stored-at q in_q)) owed.1
-
-    -- nobody else owes a store there
-    sole : (k : ℕ) → k < length o.calls → (k == p) ≡ false → (q : WordPlace) (g : Grade) → Owes (bare (s.lps k).call.held) s.world q g → same_place q d.at ≡ true → ⊥
-    sole k j e q g owes at =
-        let q-is : q ≡ d.at = (ls.places.same q d.at).0 at in
-        (ls.words (bare (s.lps k).call.held) (bare (s.lps p).call.held) s.world (apart-from ls o trees s mem t pos p k (s.lps k).call.held known sd i j e (whole (s.lps k).call.held))).owes_owes d.at g owed.0.1.0
-        (subst (λ (z : WordPlace). Owes (bare (s.lps k).call.held) s.world z g) q-is owes) owed.0.1.1
-
-    still : (k : ℕ) → k < length o.calls → (k == p) ≡ false → (q : WordPlace) (g : Grade) → IsIn m q → Owes (bare (s.lps k).call.held) s.world q g → on_table m t q ≡ on_table m t' q
-    still k j e q g in_q owes = by (same_place q d.at) refl
-      where
-        by : (b : Bool) → same_place q d.at ≡ b → on_table m t q ≡ on_table m t' q
-        by true f = absurd (sole k j e q g owes f)
-        by false f = sym (stored-at q in_q ∙ ap (λ (b : Bool). if b then d.word else on_table m t q) f)
-
-    none-else : (k : ℕ) → k < length o.calls → (k == p) ≡ false → (r : WordPlace) → same_place r d.at ≡ true → last_at (pos k).owes r ≡ None
-    none-else k j e r at = by (last_at (pos k).owes r) refl
-      where
-        by : (x : Option ℕ) → last_at (pos k).owes r ≡ x → last_at (pos k).owes r ≡ None
-        by None f = f
-        by (Some x) f =
-            let may = last-each ls.places (OwesAt m (bare (s.lps k).call.held) s.world) (pos k).owes r x (keeps-each m (bare (s.lps k).call.held) s.world (on_table m t) (pos k).owes (sd.holds k j).owed) f in
-            absurd (sole k j e r may.1.0 may.1.1 at)
-
-    laid-after : (r : WordPlace) → IsIn m r → mem.words r ≡ laid (length o.calls) (λ k. (put pos p now k).owes) (on_table m t') r
-    laid-after r in_r = sd.laid_is r in_r ∙ by (same_place r d.at) refl
-      where
-        other : (k : ℕ) → (k == p) ≡ false → last_at (put pos p now k).owes r ≡ last_at (pos k).owes r
-        other k e = ap (λ (z : Position). last_at z.owes r) (at-other pos p k now e)
-
-        own : last_at (put pos p now p).owes r ≡ last_at ds r
-        own = ap (λ (z : Position). last_at z.owes r) (at-own pos p now)
-
-        by : (b : Bool) → same_place r d.at ≡ b → laid (length o.calls) (λ k. (pos k).owes) (on_table m t) r ≡ laid (length o.calls) (λ k. (put pos p now k).owes) (on_table m t') r
-        by true e =
-            laid-one (length o.calls) p (λ k. (pos k).owes) (on_table m t) r i (λ k j f. none-else k j f r e)
-            ∙ (ap (λ (z : List Due). or_else (last_at z r) (on_table m t r)) is
-            ∙ (both (last_at ds r) (same_place r d.at) e
-            ∙ (ap (or_else (last_at ds r)) (sym (stored-at r in_r ∙ ap (λ (b : Bool). if b then d.word else on_table m t r) e))
-            ∙ sym (laid-one (length o.calls) p (λ k. (put pos p now k).owes) (on_table m t') r i (λ k j f. other k f ∙ none-else k j f r e) ∙ ap (λ (z : Option ℕ). or_else z (on_table m t' r)) own))))
-          where
-            both : (x : Option ℕ) (b : Bool) → b ≡ true → or_else (later x (if b then Some d.word else None)) (on_table m t r) ≡ or_else x d.word
-            both (Some y) b f = refl
-            both None true f = refl
-            both None false f = cc
-        by false e =
-            laid-same (length o.calls) (λ k. (pos k).owes) (λ k. (put pos p now k).owes) (on_table m t) (on_table m t') r same
-            (sym (stored-at r in_r ∙ ap (λ (b : Bool). if b then d.word else on_table m t r) e))
-          where
-            without : (x : Option ℕ) (b : Bool) → b ≡ false → later x (if b then Some d.word else None) ≡ x
-            without (Some y) b f = refl
-            without None false f = refl
-            without None true f = cc
-
-            same : (k : ℕ) → k < length o.calls → last_at (pos k).owes r ≡ last_at (put pos p now k).owes r
-            same k j = test (k == p) refl
-              where
-                test : (b : Bool) → (k == p) ≡ b → last_at (pos k).owes r ≡ last_at (put pos p now k).owes r
-                test true f =
-                    let k-is : k ≡ p = eqb-true k p f in
-                    subst (λ (z : ℕ). last_at (pos z).owes r ≡ last_at (put pos p now z).owes r) (sym k-is)
-                    (ap (λ (z : List Due). last_at z r) is ∙ (without (last_at ds r) (same_place r d.at) e ∙ sym own))
-                test false f = sym (other k f)
+    kept = keeps-same m (bare (s.lps p).call.held) (bare (s.lps p).call.held) s.world s.world (put_word (on_table m t) d.at d.word) (on_table m t') ds (λ q g x. x)
+        (λ q g in_q x. sym (word_put ls.places m t.words t'.words (on_table m t) d.at d.word owed.0.0 refl (λ y in_y. refl) q in_q)) owed.1

@@ -19,10 +19,10 @@ use Rattle.leaf_engine.specs.Decides.{IsHand}
 use Rattle.leaf_engine.specs.Tables.{IsMemory}
 use Rattle.leaf_engine.specs.Turns.{Standing}
 use Rattle.leaf_engine.specs.Calls.{no_memory}
-use Rattle.leaf_engine.specs.OwnLists.{Piece, Quiet, joined, running, WordLp, first_lp, LinesTurn, OwnTurns}
+use Rattle.leaf_engine.specs.OwnLists.{Piece, Quiet, joined, marked_behind, running, WordLp, first_lp, LinesTurn, OwnTurns}
 use Rattle.leaf_engine.specs.Merges.{Item, part, steps_taken, order, no_table, AreLeaves, Merge, IsShownBy, IsWhere, MergesAreRuns}
 use Rattle.merge_laws.proofs.Stores.{Due, AreStores, laid, laid-none}
-use Rattle.merge_laws.proofs.Standing.{Laws, leaf_for, AreTrees, Known, StandsAt, on_table, Position, Rest, Holds, Stands}
+use Rattle.merge_laws.proofs.Standing.{Laws, leaf_for, AreTrees, Known, StandsAt, on_table, Fill, Position, Rest, RestBy, RestOf, Holds, Stands}
 use Rattle.merge_laws.proofs.Merged.{known-of, Through, through}
 
 -- leaves by their trees
@@ -37,13 +37,12 @@ trees-are : (o : Opening) (leaf : ℕ → Call → Task) → AreLeaves o leaf �
 trees-are o leaf are = record {
   means = λ p c. subst (λ (f : ℕ → Call → Task). MeansRow (f p c)) (leaves-are o leaf are) (are.means p c);
   plain = are.plain;
-  unfilled = are.unfilled;
 }
 
 -- the start
 
 first_position : Opening → ℕ → Position
-first_position o p = record { at = first_lp (calls_of o.calls p); owes = [] }
+first_position o p = record { at = first_lp (calls_of o.calls p); owes = []; fill = None }
 
 starts : (ls : Laws) (o : Opening) (trees : ℕ → Call → Tree) → Stands o trees (start o None) no_memory no_table (first_position o)
 unfolding first_position
@@ -53,14 +52,14 @@ starts ls o trees = record {
   slots = λ h in_h. tt;
   guests = λ p. refl;
   tdrs = λ p. ((tt, tt), tt);
-  holds = λ p i. record { stands = record { lines = refl; replies = refl; run = record { call = refl; guest = refl } }; owed = tt };
+  holds = λ p i. record { stands = record { lines = refl; replies = refl; run = record { call = refl; guest = refl } }; due = tt };
   laid_is = λ r in_r. sym (laid-none (length o.calls) (λ p. []) (λ q. 0) r (λ q l. refl));
 }
 
 -- the end
 
-nothing-left : (ls : Laws) (o : Opening) (trees : ℕ → Call → Tree) (p : ℕ) (pos : Position) (end_ : WordLp) → Rest o trees p pos [] end_ → (pos.owes ≡ []) × (pos.at ≡ end_)
-nothing-left ls o trees p pos end_ rest = by rest.stores pos.owes refl rest.are rest.turns rest.pieces rest.own
+nothing-left : (ls : Laws) (o : Opening) (trees : ℕ → Call → Tree) (p : ℕ) (pos : Position) (end_ : WordLp) → RestOf o trees p pos [] end_ → (pos.owes ≡ []) × (pos.at ≡ end_)
+nothing-left ls o trees p pos end_ rest = by-fill pos.fill pos.at.lines pos.at.run rest
   where
     turn : (cs : List Call) → pos.at.lines ≡ cs → (e : RunEvent) (after : WordLp) → LinesTurn (leaf_for o trees p) o.machine cs pos.at.run pos.at.replies e [] after → ⊥
     turn [] l e after lt = lt
@@ -76,6 +75,18 @@ nothing-left ls o trees p pos end_ rest = by rest.stores pos.owes refl rest.are 
     by [] [] q st tps e own = (q, turns tps e own)
     by [] (d ∷ ds) q st tps e own = absurd st
     by (x ∷ xs) owes q st tps e own = cc
+
+    -- an act is still to come
+    act-left : (stores act : List Taken) (ps : List Piece) → [] ≡ map Quiet stores ++ (marked_behind 0 act ++ ps) → ⊥
+    act-left [] [] ps e = cc
+    act-left [] (x ∷ xs) ps e = cc
+    act-left (x ∷ xs) act ps e = cc
+
+    by-fill : (f : Option Fill) (cs : List Call) (r : Option Standing) → RestBy o trees p pos [] end_ f cs r → (pos.owes ≡ []) × (pos.at ≡ end_)
+    by-fill None cs r re = by re.stores pos.owes refl re.are re.turns re.pieces re.own
+    by-fill (Some f) (c ∷ cs) (Some run) re = absurd (act-left re.stores re.act (joined re.turns) re.pieces)
+    by-fill (Some f) [] r re = absurd re
+    by-fill (Some f) (c ∷ cs) None re = absurd re
 
 ends-so : (ls : Laws) (o : Opening) (trees : ℕ → Call → Tree) (s : State) (u : Table) (ends : ℕ → WordLp) → Through o trees s u ends → IsShownBy o.machine u s × IsWhere o ends s
 ends-so ls o trees s u ends th =
@@ -110,7 +121,7 @@ merges ls o leaf is now u most are merge =
     (through ls o trees is (start o None) no_memory no_table u (first_position o) now most (trees-are o leaf are) known (starts ls o trees)
     (λ p i. rest-first p (part p is) (merge.own p) (merge.merge.each p i) (own p i)) merge.merge.nothing_else merge.plays)
   where
-    rest-first : (p : ℕ) (ps : List Piece) (tps : List (List Piece)) → ps ≡ joined tps → OwnTurns (leaf_for o (trees_of leaf) p) o.machine (first_lp (calls_of o.calls p)) tps (now p) → Rest o (trees_of leaf) p (first_position o p) ps (now p)
+    rest-first : (p : ℕ) (ps : List Piece) (tps : List (List Piece)) → ps ≡ joined tps → OwnTurns (leaf_for o (trees_of leaf) p) o.machine (first_lp (calls_of o.calls p)) tps (now p) → RestOf o (trees_of leaf) p (first_position o p) ps (now p)
     rest-first p ps tps e own = record { stores = []; turns = tps; are = tt; pieces = e; own = own }
 
 -- a state in which no processor has a line left

@@ -16,6 +16,7 @@ use Rattle.flat_core.specs.Lawful.{Lawful}
 use Rattle.flat_core.specs.Event.{State, start, event, lines_left}
 use Rattle.flat_core.specs.Run.{play}
 use Rattle.flat_core.specs.Laws.{EveryWorldIsLawful, LocksExclude, OthersStay, NoWordsToTell, IsBetween}
+use Rattle.word_rules.specs.Guards.{Grip}
 use Rattle.word_rules.specs.Permissions.{Owes, WordsNeverConflict, ActsNeverConflict, RespectsCompose}
 use Rattle.word_rules.specs.Views.{ViewsAreKept}
 use Rattle.word_rules.specs.Cells.{Shows, StartIsShown}
@@ -25,14 +26,17 @@ use Rattle.act_rules.specs.Stores.{OthersStoresKeepReads}
 use Rattle.step_core.specs.Items.{Table, Taken, PlaysTo}
 use Rattle.step_core.specs.Laws.{PagesChangeAlone}
 use Rattle.leaf_engine.specs.Changes.{Memory}
-use Rattle.leaf_engine.specs.Trees.{Tree, feed, changes_of, fills_of}
-use Rattle.leaf_engine.specs.Changes.{are_plain}
+use Rattle.leaf_engine.specs.Trees.{Tree, End, feed, changes_of}
+use Rattle.leaf_engine.specs.Changes.{Change, are_plain}
 use Rattle.leaf_engine.specs.Means.{Task, OfCall, MeansRow, IsHkid}
 use Rattle.leaf_engine.specs.Decides.{IsHand}
-use Rattle.leaf_engine.specs.Turns.{Standing}
+use Rattle.leaf_engine.specs.declared.events.Stage.TheVariants as stages
+use Rattle.leaf_engine.specs.Items.{AreChanged}
+use Rattle.leaf_engine.specs.Turns.{Standing, standing, last_reply}
 use Rattle.leaf_engine.specs.Calls.{IsCallAt}
-use Rattle.leaf_engine.specs.OwnLists.{Piece, Quiet, joined, TurnsInPieces, WordLp, OwnTurns}
-use Rattle.merge_laws.proofs.Stores.{Due, laid, AreStores}
+use Rattle.leaf_engine.specs.OwnLists.{Piece, Quiet, joined, marked_behind, TurnsInPieces, WordLp, after_turn, OwnTurns}
+use Rattle.merge_laws.proofs.Stores.{Due, last_at, or_else, laid, EachDue, FillsAt, AreStores}
+use Rattle.merge_laws.proofs.Filling.{Todo, all_todos, AreTodos, dues_of, EachTodo}
 use Rattle.merge_laws.proofs.Keeping.{Keeps}
 use Rattle.merge_laws.proofs.Holding.{bare, NoGuests}
 
@@ -64,7 +68,6 @@ leaf_for o trees p c = record { place = record { machine = o.machine; lp = p }; 
 pub record AreTrees (o : Opening) (trees : ℕ → Call → Tree) : Type 0 where
   pub means : (p : ℕ) (c : Call) → MeansRow (leaf_for o trees p c)
   pub plain : (p : ℕ) (c : Call) (told : List ℕ) → are_plain (changes_of (feed (trees p c) told)) ≡ true
-  pub unfilled : (p : ℕ) (c : Call) (told : List ℕ) → fills_of (feed (trees p c) told) ≡ []
 
 -- what is known of a state that a run reaches
 pub record Known (o : Opening) (s : State) : Type 0 where
@@ -92,26 +95,83 @@ pub record StandsAt (o : Opening) (trees : ℕ → Call → Tree) (p : ℕ) (w :
   pub replies : lp.replies ≡ at.replies
   pub run : RunAt o trees p w words lp at.lines at.run
 
--- a processor between two steps: at a turn, or within the loads of one; its last act is done, and these stores are owed
+-- a leaf that stores before its act: the end that it has come to, the stores that it made, and what it has still to do
+pub record Fill : Type 0 where
+  pub reply : Reply
+  pub fills : List Change
+  pub changes : List Change
+  pub made : List Due
+  pub left : List Todo
+
+-- a processor between two steps: at a turn, or within the loads of one. Either its last act is done, and these stores are
+-- owed; or it fills, and these would take its fills back
 pub record Position : Type 0 where
   pub at : WordLp
   pub owes : List Due
+  pub fill : Option Fill
+
+-- a word as a leaf that fills sees it, and what would take its fills back
+abbrev pub seen_by : List Due → (WordPlace → ℕ) → WordPlace → ℕ
+seen_by made words r = or_else (last_at made r) (words r)
+
+abbrev pub back : Option ℕ → ℕ → Option ℕ
+back None x = None
+back (Some y) x = Some x
+
+-- the end that a run has come to
+abbrev pub IsAtEnd : Option Standing → Fill → Type 0
+IsAtEnd None f = ⊥
+IsAtEnd (Some r) f = (r.stage ≡ stages.Trying) × (r.rest ≡ End f.reply f.fills f.changes)
+
+pub record FillHolds (m : Machine) (g : Grip) (w : World) (words a : WordPlace → ℕ) (owes : List Due) (run : Option Standing) (f : Fill) : Type 0 where
+  pub at_end : IsAtEnd run f
+  pub made_may : EachDue (FillsAt m g w) f.made
+  pub left_may : EachTodo m g w f.left
+  pub all_may : EachTodo m g w (all_todos f.fills)
+  pub stores : f.made ++ dues_of f.left (seen_by f.made words) ≡ dues_of (all_todos f.fills) words
+  pub there : (r : WordPlace) (x : ℕ) → IsIn m r → last_at f.made r ≡ Some x → a r ≡ x
+  pub undo : (r : WordPlace) → last_at owes r ≡ back (last_at f.made r) (words r)
+
+abbrev pub Pending : Machine → Grip → World → (words a : WordPlace → ℕ) → List Due → Option Standing → Option Fill → Type 0
+Pending m g w words a owes run None = Keeps m g w a owes
+Pending m g w words a owes run (Some f) = FillHolds m g w words a owes run f
 
 pub record Holds (o : Opening) (trees : ℕ → Call → Tree) (p : ℕ) (w : World) (words a : WordPlace → ℕ) (lp : Lp) (pos : Position) : Type 0 where
   pub stands : StandsAt o trees p w words lp pos.at
-  pub owed : Keeps o.machine (bare lp.call.held) w a pos.owes
+  pub due : Pending o.machine (bare lp.call.held) w words a pos.owes pos.at.run pos.fill
 
 -- a table's words by their places
 abbrev pub on_table : Machine → Table → WordPlace → ℕ
 on_table m t q = t.words (address m.pages q)
 
--- what it has still to do
-pub record Rest (o : Opening) (trees : ℕ → Call → Tree) (p : ℕ) (pos : Position) (ps : List Piece) (end_ : WordLp) : Type 0 where
+-- what it has still to do: the stores that are owed, and its turns
+pub record Rest (o : Opening) (trees : ℕ → Call → Tree) (p : ℕ) (at : WordLp) (owes : List Due) (ps : List Piece) (end_ : WordLp) : Type 0 where
   pub stores : List Taken
   pub turns : List (List Piece)
-  pub are : AreStores o.machine.pages stores pos.owes
+  pub are : AreStores o.machine.pages stores owes
   pub pieces : ps ≡ map Quiet stores ++ joined turns
-  pub own : OwnTurns (leaf_for o trees p) o.machine pos.at turns end_
+  pub own : OwnTurns (leaf_for o trees p) o.machine at turns end_
+
+-- or the fills that are left, its act, and its further turns
+pub record RestFilling (o : Opening) (trees : ℕ → Call → Tree) (p : ℕ) (c : Call) (cs : List Call) (replies : List Reply) (run : Standing) (f : Fill) (ps : List Piece) (end_ : WordLp) : Type 0 where
+  pub stores : List Taken
+  pub act : List Taken
+  pub turns : List (List Piece)
+  pub are : AreTodos o.machine.pages stores f.left
+  pub changed : AreChanged o.machine f.changes None act None
+  pub pieces : ps ≡ map Quiet stores ++ (marked_behind 0 act ++ joined turns)
+  pub after : Standing
+  pub after_is : after ≡ standing (End f.reply f.fills f.changes) (stages.Answered f.reply) run.held None
+  pub own : OwnTurns (leaf_for o trees p) o.machine (after_turn c cs replies after (last_reply after.stage after.held)) turns end_
+
+abbrev pub RestBy : Opening → (ℕ → Call → Tree) → ℕ → Position → List Piece → WordLp → Option Fill → List Call → Option Standing → Type 0
+RestBy o trees p pos ps end_ None cs run = Rest o trees p pos.at pos.owes ps end_
+RestBy o trees p pos ps end_ (Some f) (c ∷ cs) (Some run) = RestFilling o trees p c cs pos.at.replies run f ps end_
+RestBy o trees p pos ps end_ (Some f) [] run = ⊥
+RestBy o trees p pos ps end_ (Some f) (c ∷ cs) None = ⊥
+
+abbrev pub RestOf : Opening → (ℕ → Call → Tree) → ℕ → Position → List Piece → WordLp → Type 0
+RestOf o trees p pos ps end_ = RestBy o trees p pos ps end_ pos.fill pos.at.lines pos.at.run
 
 -- all of them: memory with what is due laid over it shows the state
 pub record Stands (o : Opening) (trees : ℕ → Call → Tree) (s : State) (mem : Memory) (t : Table) (pos : ℕ → Position) : Type 0 where

@@ -149,7 +149,7 @@ words-at p (suc n) xs i l = last-append (words_from p n xs) (due (Word p n) (xs 
         let s : i ≡ n → ⊥ = eqb-false i n e in
         rw (e, and_right (p == p) false refl) (further (omega arith))
 
-words-else : (p n : ℕ) (xs : ℕ → ℕ) (r : WordPlace) → ((i : ℕ) → i < n → same_place r (Word p i) ≡ false) → last_at (words_from p n xs) r ≡ None
+pub words-else : (p n : ℕ) (xs : ℕ → ℕ) (r : WordPlace) → ((i : ℕ) → i < n → same_place r (Word p i) ≡ false) → last_at (words_from p n xs) r ≡ None
 unfolding words_from
 words-else p zero xs r h = refl
 words-else p (suc n) xs r h = last-append (words_from p n xs) (due (Word p n) (xs n) ∷ []) r ∙ rw (h n (omega arith)) (words-else p n xs r (λ i l. h i (omega arith)))

@@ -53,14 +53,14 @@ pub told-tree : (o : Opening) (trees : ℕ → Call → Tree) (s : State) (mem :
 told-tree o trees s mem t pos p c cs run a st = ap settle (a.runs.call.told st).rest ∙ settled (trees p c) (a.runs.call.told st).told
 
 pub load-piece : (ls : Laws) (o : Opening) (trees : ℕ → Call → Tree) (s : State) (mem : Memory) (t : Table) (pos : ℕ → Position) (p : ℕ) (c : Call) (cs : List Call) (run run' : Standing) (e : RunEvent) (at x : ℕ) (tp : List Piece) (tps : List (List Piece)) (end_ : WordLp)
-    → AtTurn o trees s mem t pos p c cs run → run.stage ≡ stages.Trying → IsLoadAt o.machine.pages (settle run.rest) at → GoesOnBehind (settle run.rest) x → x ≡ t.words at → GoesIn o.machine (loaded run x) tp run' e
+    → AtTurn o trees s mem t pos p c cs run → (pos p).owes ≡ [] → run.stage ≡ stages.Trying → IsLoadAt o.machine.pages (settle run.rest) at → GoesOnBehind (settle run.rest) x → x ≡ t.words at → GoesIn o.machine (loaded run x) tp run' e
     → OwnTurns (leaf_for o trees p) o.machine (after_turn c cs (pos p).at.replies run' (last_reply run'.stage run'.held)) tps end_
     → Came o trees p s t pos (Quiet (Stepped (step.Load at) x)) (tp ++ joined tps) end_
-load-piece ls o trees s mem t pos p c cs run run' e at x tp tps end_ a st load on an goes own =
+load-piece ls o trees s mem t pos p c cs run run' e at x tp tps end_ a none st load on an goes own =
     record {
       memory = mem;
       now = now;
-      stands = rearranged ls o trees s mem t t pos p now a.all refl (λ k j f q g in_q owes. refl)
+      stands = rearranged ls o trees s mem t t pos p now a.all refl (λ k j f q g in_q owes. refl) (λ k j f q in_q fills. refl)
           (record {
             stands = record {
               lines = a.lines;
@@ -71,14 +71,14 @@ load-piece ls o trees s mem t pos p c cs run run' e at x tp tps end_ a st load o
                 tdrs = a.runs.tdrs;
               };
             };
-            owed = tt;
+            due = tt;
           })
           (λ r in_r. a.all.laid_is r in_r ∙ laid-same (length o.calls) (λ k. (pos k).owes) (λ k. (put pos p now k).owes) (on_table o.machine t) (on_table o.machine t) r (λ k j. same k r) refl);
       rest = record { stores = []; turns = tp ∷ tps; are = tt; pieces = refl; own = (e, (after, line, own)) };
     }
   where
     now : Position
-    now = record { at = record { lines = c ∷ cs; run = Some (loaded run x); replies = (pos p).at.replies }; owes = [] }
+    now = record { at = record { lines = c ∷ cs; run = Some (loaded run x); replies = (pos p).at.replies }; owes = []; fill = None }
 
     after : WordLp
     after = after_turn c cs (pos p).at.replies run' (last_reply run'.stage run'.held)
@@ -87,7 +87,7 @@ load-piece ls o trees s mem t pos p c cs run run' e at x tp tps end_ a st load o
     line = record { stands = run'; turn = subst (λ (z : Stage). TurnIn z o.machine (loaded run x) tp run' e) (sym st) goes; going = a.going; after_is = refl }
 
     right : LooksRight mem.words (feed (trees p c) (a.runs.call.told st).told) x
-    right = loads-right ls o trees s mem t pos p c run at x a.are a.known a.all a.inside a.none a.runs.no_hasher a.runs.call st (subst (λ (z : Tree). IsLoadAt o.machine.pages z at) (told-tree o trees s mem t pos p c cs run a st) load) an
+    right = loads-right ls o trees s mem t pos p c run at x a.are a.known a.all a.inside none a.runs.no_hasher a.runs.call st (subst (λ (z : Tree). IsLoadAt o.machine.pages z at) (told-tree o trees s mem t pos p c cs run a st) load) an
 
     same : (k : ℕ) (r : WordPlace) → last_at (pos k).owes r ≡ last_at (put pos p now k).owes r
     same k r = by (k == p) refl
@@ -96,7 +96,7 @@ load-piece ls o trees s mem t pos p c cs run run' e at x tp tps end_ a st load o
         by true f =
             let k-is : k ≡ p = eqb-true k p f in
             subst (λ (z : ℕ). last_at (pos z).owes r ≡ last_at (put pos p now z).owes r) (sym k-is)
-            (ap (λ (ds : List Due). last_at ds r) a.none ∙ sym (ap (λ (z : Position). last_at z.owes r) (at-own pos p now)))
+            (ap (λ (ds : List Due). last_at ds r) none ∙ sym (ap (λ (z : Position). last_at z.owes r) (at-own pos p now)))
         by false f = sym (ap (λ (z : Position). last_at z.owes r) (at-other pos p k now f))
 
 -- a tree that has ended without a store
@@ -169,11 +169,11 @@ no-lock-given n (Since r cs) name at mode d g = cc
 
 -- a turn that comes to a lock
 pub lock-turn : (ls : Laws) (o : Opening) (trees : ℕ → Call → Tree) (s : State) (mem : Memory) (t : Table) (pos : ℕ → Position) (p : ℕ) (c : Call) (cs : List Call) (run run' : Standing) (e : RunEvent) (loads items : List Taken) (tree : Tree) (name : LockName) (at : ℕ)
-    (mode : Mode) (tps : List (List Piece)) (end_ : WordLp) (piece : Piece) (ps : List Piece) → AtTurn o trees s mem t pos p c cs run → run.stage ≡ stages.Trying → IsLoaded o.machine.pages run.rest loads tree
+    (mode : Mode) (tps : List (List Piece)) (end_ : WordLp) (piece : Piece) (ps : List Piece) → AtTurn o trees s mem t pos p c cs run → (pos p).owes ≡ [] → run.stage ≡ stages.Trying → IsLoaded o.machine.pages run.rest loads tree
     → Gives o.machine.pages (settle tree) (need.Lock name at mode) → Tries run (passed (settle tree)) loads items name at mode run' e
     → OwnTurns (leaf_for o trees p) o.machine (after_turn c cs (pos p).at.replies run' (last_reply run'.stage run'.held)) tps end_
     → Heads (last_marked items) tps piece ps → PieceAnswers t piece → Came o trees p s t pos piece ps end_
-lock-turn ls o trees s mem t pos p c cs run run' e [] items tree name at mode tps end_ piece ps a st l g tr own h an =
+lock-turn ls o trees s mem t pos p c cs run run' e [] items tree name at mode tps end_ piece ps a none st l g tr own h an =
     let x : Taken = Stepped (try_step at mode) tr.seen in
     let h' : Marked x ∷ joined tps ≡ piece ∷ ps = ap (λ (z : List Taken). last_marked z ++ joined tps) (sym tr.items) ∙ h in
     let goes : Goes o.machine run (x ∷ []) run' e = record {
@@ -186,10 +186,10 @@ lock-turn ls o trees s mem t pos p c cs run run' e [] items tree name at mode tp
     } in
     let given : Gives o.machine.pages (settle run.rest) (need.Lock name at mode) = subst (λ (z : Tree). Gives o.machine.pages (settle z) (need.Lock name at mode)) (sym l) g in
     came-as o trees p s t pos (Marked x) piece (joined tps) ps end_ h'
-    (try-piece ls o trees s mem t pos p c cs run run' e (passed (settle tree)) name at mode tr.seen tps end_ a st goes given tr.after (answers-as t (Marked x) piece (joined tps) ps h' an) own)
-lock-turn ls o trees s mem t pos p c cs run run' e (Swapped k u v ∷ loads) items tree name at mode tps end_ piece ps a st l g tr own h an = absurd l
-lock-turn ls o trees s mem t pos p c cs run run' e (Missed k ∷ loads) items tree name at mode tps end_ piece ps a st l g tr own h an = absurd l
-lock-turn ls o trees s mem t pos p c cs run run' e (Stepped w x ∷ loads) items tree name at mode tps end_ piece ps a st l g tr own h an =
+    (try-piece ls o trees s mem t pos p c cs run run' e (passed (settle tree)) name at mode tr.seen tps end_ a none st goes given tr.after (answers-as t (Marked x) piece (joined tps) ps h' an) own)
+lock-turn ls o trees s mem t pos p c cs run run' e (Swapped k u v ∷ loads) items tree name at mode tps end_ piece ps a none st l g tr own h an = absurd l
+lock-turn ls o trees s mem t pos p c cs run run' e (Missed k ∷ loads) items tree name at mode tps end_ piece ps a none st l g tr own h an = absurd l
+lock-turn ls o trees s mem t pos p c cs run run' e (Stepped w x ∷ loads) items tree name at mode tps end_ piece ps a none st l g tr own h an =
     let n = o.machine.pages in
     let from : ℕ = l.0.0 in
     let y : Taken = Stepped (try_step at mode) tr.seen in
@@ -213,5 +213,5 @@ lock-turn ls o trees s mem t pos p c cs run run' e (Stepped w x ∷ loads) items
       pieces = refl;
     } in
     came-as o trees p s t pos (Quiet (Stepped (step.Load from) x)) piece (tp ++ joined tps) ps end_ h'
-    (load-piece ls o trees s mem t pos p c cs run run' e from x tp tps end_ a st l.0.1 (goes-on n (settle run.rest) from x l.0.1 never)
+    (load-piece ls o trees s mem t pos p c cs run run' e from x tp tps end_ a none st l.0.1 (goes-on n (settle run.rest) from x l.0.1 never)
     (answers-as t (Quiet (Stepped (step.Load from) x)) piece (tp ++ joined tps) ps h' an) goes own)

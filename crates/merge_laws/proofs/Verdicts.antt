@@ -21,7 +21,7 @@ use Rattle.leaf_engine.specs.declared.needs.Need.TheVariants as need
 use Rattle.leaf_engine.specs.declared.needs.Write.{Write}
 use Rattle.leaf_engine.specs.declared.needs.Write.TheVariants as write
 use Rattle.leaf_engine.specs.Changes.{Memory, Change, Put, PutHash, Raise, Clear, Copy, Swap, is_plain, are_plain, changed}
-use Rattle.leaf_engine.specs.Trees.{Tree, Lock, Load, Test, End, Since, feed, settle, fed, passed, changes_of, fills_of}
+use Rattle.leaf_engine.specs.Trees.{Tree, Lock, Load, Test, End, Since, feed, settle, fed, passed, changes_of}
 use Rattle.leaf_engine.specs.Decides.{Gives}
 use Rattle.leaf_engine.specs.Items.{IsLoadAt, IsLoaded, IsWritten, IsChanged, AreChanged}
 use Rattle.leaf_engine.specs.Turns.{Standing, standing, Goes, Ends, last_reply}
@@ -32,7 +32,10 @@ use Rattle.merge_laws.proofs.Stores.{Due, last_at, or_else, AreStores, stores_of
 use Rattle.merge_laws.proofs.Keeping.{and_parts}
 use Rattle.merge_laws.proofs.Holding.{bare}
 use Rattle.merge_laws.proofs.Standing.{Laws, leaf_for, Position, Rest, Stands}
-use Rattle.merge_laws.proofs.Ending.{AtEnd, first_of, owes_of}
+use Rattle.merge_laws.proofs.Ending.{AtEnd, filled_of, first_of, owes_of, HasFilled}
+use Rattle.merge_laws.proofs.Filling.{all_todos, two-parts, fills-items, fills-todo, behind-fills}
+use Rattle.merge_laws.proofs.FillSteps.{fill-piece}
+use Rattle.leaf_engine.specs.Means.{MayFillAll}
 use Rattle.merge_laws.proofs.QuietSteps.{loads-right, GoesOnBehind, loaded}
 use Rattle.merge_laws.proofs.Pieces.{Came, came-as, answers-as, PieceAnswers, behind-append}
 use Rattle.merge_laws.proofs.LockPieces.{AtTurn}
@@ -64,13 +67,13 @@ at-end o trees s mem t pos p c cs run run' e end_ changes reply a st en none is 
 
 -- what was told, with the load that is its act
 at-end-load : (ls : Laws) (o : Opening) (trees : ℕ → Call → Tree) (s : State) (mem : Memory) (t : Table) (pos : ℕ → Position) (p : ℕ) (c : Call) (cs : List Call) (run run' : Standing) (e : RunEvent) (end_ : Tree) (changes : List Taken) (reply : Reply) (at x : ℕ)
-    → (a : AtTurn o trees s mem t pos p c cs run) → (st : run.stage ≡ stages.Trying) → (en : Ended o.machine run run' end_ changes reply) → en.hasher ≡ None → IsLoadAt o.machine.pages (settle run.rest) at → x ≡ t.words at
+    → (a : AtTurn o trees s mem t pos p c cs run) → (pos p).owes ≡ [] → (st : run.stage ≡ stages.Trying) → (en : Ended o.machine run run' end_ changes reply) → en.hasher ≡ None → IsLoadAt o.machine.pages (settle run.rest) at → x ≡ t.words at
     → feed (trees p c) ((a.runs.call.told st).told ++ x ∷ []) ≡ end_ → Gives o.machine.pages end_ (need.Verdict reply)
     → AtEnd o trees s mem p c (a.runs.call.told st).told ((a.runs.call.told st).told ++ x ∷ []) reply run run' (record { event = e; reply = last_reply run'.stage run'.held })
-at-end-load ls o trees s mem t pos p c cs run run' e end_ changes reply at x a st en none load an is g =
+at-end-load ls o trees s mem t pos p c cs run run' e end_ changes reply at x a owed st en none load an is g =
     let told = (a.runs.call.told st).told in
     let right : LooksRight mem.words (feed (trees p c) told) x =
-    loads-right ls o trees s mem t pos p c run at x a.are a.known a.all a.inside a.none a.runs.no_hasher a.runs.call st (subst (λ (z : Tree). IsLoadAt o.machine.pages z at) (told-tree o trees s mem t pos p c cs run a st) load) an in
+    loads-right ls o trees s mem t pos p c run at x a.are a.known a.all a.inside owed a.runs.no_hasher a.runs.call st (subst (λ (z : Tree). IsLoadAt o.machine.pages z at) (told-tree o trees s mem t pos p c cs run a st) load) an in
     record {
       current = current-load mem.words (trees p c) told x (a.runs.call.told st).current right;
       locks = granted-load mem.words (trees p c) told x [] right;
@@ -104,28 +107,32 @@ plain-all m (c ∷ cs) h xs h' pl ch e =
     let parts = and_parts (is_plain c) (are_plain cs) pl in
     plain-all m cs ch.0 ch.1.1.0 h' parts.1 ch.1.1.3 (plain-one m c h ch.1.0 ch.0 parts.0 ch.1.1.2 e)
 
+-- nothing was filled
+not-filled : (o : Opening) (t : Table) (pos : ℕ → Position) (p : ℕ) (mem : Memory) → (pos p).owes ≡ [] → HasFilled o t pos p mem []
+not-filled o t pos p mem owed = record { there = λ r x in_r e. cc; undo = λ r. ap (λ (ds : List Due). last_at ds r) owed }
+
 -- the end without a load before it
 end-now : (ls : Laws) (o : Opening) (trees : ℕ → Call → Tree) (s : State) (mem : Memory) (t : Table) (pos : ℕ → Position) (p : ℕ) (c : Call) (cs : List Call) (run run' : Standing) (e : RunEvent) (end_ : Tree) (changes : List Taken) (reply : Reply)
-    (tps : List (List Piece)) (last : WordLp) (piece : Piece) (ps : List Piece) → (a : AtTurn o trees s mem t pos p c cs run) → (st : run.stage ≡ stages.Trying) → Ended o.machine run run' end_ changes reply → feed (trees p c) (a.runs.call.told st).told ≡ end_
+    (tps : List (List Piece)) (last : WordLp) (piece : Piece) (ps : List Piece) → (a : AtTurn o trees s mem t pos p c cs run) → (pos p).owes ≡ [] → (st : run.stage ≡ stages.Trying) → Ended o.machine run run' end_ changes reply → feed (trees p c) (a.runs.call.told st).told ≡ end_
     → Gives o.machine.pages end_ (need.Verdict reply) → OwnTurns (leaf_for o trees p) o.machine (after_turn c cs (pos p).at.replies run' (last_reply run'.stage run'.held)) tps last
     → Heads (act_pieces end_ [] changes) tps piece ps → PieceAnswers t piece → Came o trees p s t pos piece ps last
-end-now ls o trees s mem t pos p c cs run run' e (Lock l q m x) changes reply tps last piece ps a st en is g own h an = cc
-end-now ls o trees s mem t pos p c cs run run' e (Load v q k) changes reply tps last piece ps a st en is g own h an = cc
-end-now ls o trees s mem t pos p c cs run run' e (Test b r x) changes reply tps last piece ps a st en is g own h an = absurd g
-end-now ls o trees s mem t pos p c cs run run' e (End r [] []) changes reply tps last piece ps a st en is g own h an =
+end-now ls o trees s mem t pos p c cs run run' e (Lock l q m x) changes reply tps last piece ps a owed st en is g own h an = cc
+end-now ls o trees s mem t pos p c cs run run' e (Load v q k) changes reply tps last piece ps a owed st en is g own h an = cc
+end-now ls o trees s mem t pos p c cs run run' e (Test b r x) changes reply tps last piece ps a owed st en is g own h an = absurd g
+end-now ls o trees s mem t pos p c cs run run' e (End r [] []) changes reply tps last piece ps a owed st en is g own h an =
     let none = none-changed o.machine run run' (End r [] []) changes reply en refl in
     let en' = at-end o trees s mem t pos p c cs run run' e (End r [] []) changes reply a st en (none.0 ∙ a.runs.no_hasher) is g in
-    let moved = end-moved ls o trees s mem t t pos p c cs (a.runs.call.told st).told reply run run' (record { event = e; reply = last_reply run'.stage run'.held }) a st en'
+    let moved = end-moved ls o trees s mem t t pos p c cs (a.runs.call.told st).told reply run run' (record { event = e; reply = last_reply run'.stage run'.held }) a st en' (subst (λ (z : Tree). HasFilled o t pos p mem (filled_of z mem)) (sym is) (not-filled o t pos p mem owed))
     (λ y in_y. ap (λ (z : Tree). or_else (last_at (first_of z mem) y) (t.words (address o.machine.pages y))) {x = End r [] []} {y = feed (trees p c) (a.runs.call.told st).told} (sym is)) refl in
     came-as o trees p s t pos Wordless piece (joined tps) ps last h
     (record {
       memory = moved.memory;
-      now = record { at = after_turn c cs (pos p).at.replies run' (last_reply run'.stage run'.held); owes = owes_of (feed (trees p c) (a.runs.call.told st).told) mem };
+      now = record { at = after_turn c cs (pos p).at.replies run' (last_reply run'.stage run'.held); owes = owes_of (feed (trees p c) (a.runs.call.told st).told) mem; fill = None };
       stands = moved.stands;
       rest = rest-owed o trees p (after_turn c cs (pos p).at.replies run' (last_reply run'.stage run'.held)) [] (owes_of (feed (trees p c) (a.runs.call.told st).told) mem) tps last
           (subst (λ (z : Tree). AreStores o.machine.pages [] (owes_of z mem)) (sym is) tt) own;
     })
-end-now ls o trees s mem t pos p c cs run run' e (End r [] (c1 ∷ ds)) changes reply tps last piece ps a st en is g own h an =
+end-now ls o trees s mem t pos p c cs run run' e (End r [] (c1 ∷ ds)) changes reply tps last piece ps a owed st en is g own h an =
     let m = o.machine in
     let plain : are_plain (c1 ∷ ds) ≡ true = subst (λ (z : Tree). are_plain (changes_of z) ≡ true) is (a.are.plain p c (a.runs.call.told st).told) in
     let parts = and_parts (is_plain c1) (are_plain ds) plain in
@@ -137,18 +144,18 @@ end-now ls o trees s mem t pos p c cs run run' e (End r [] (c1 ∷ ds)) changes 
     let en' = at-end o trees s mem t pos p c cs run run' e (End r [] (c1 ∷ ds)) changes reply a st en hash.0 is g in
     let may : MayBoth c1 ds = subst (λ (z : Tree). EndMay m (bare (s.lps p).call.held) s.world ((row_of o p c).act s.world) mem z) is
     (end-may o trees s mem t pos p c cs (a.runs.call.told st).told reply run run' (record { event = e; reply = last_reply run'.stage run'.held }) a st en') in
-    let item = act-item m (bare (s.lps p).call.held) s.world mem c1 ys between may.0 parts.0 one in
-    let rest = owed-items m (bare (s.lps p).call.held) ((row_of o p c).act s.world) (changed c1 mem) ds between en.hasher zs may.1 parts.1 en.changed.1.1.3 item.no_hasher in
+    let item = act-item m (bare (s.lps p).call.held) s.world mem c1 ys between may.1.0 parts.0 one in
+    let rest = owed-items m (bare (s.lps p).call.held) ((row_of o p c).act s.world) (changed c1 mem) ds between en.hasher zs may.1.1 parts.1 en.changed.1.1.3 item.no_hasher in
     let x : Taken = Stepped item.step item.answer in
     let all : changes ≡ x ∷ zs = en.changed.1.1.1 ∙ ap (λ (z : List Taken). z ++ zs) item.items in
     let h' : Marked x ∷ (map Quiet zs ++ joined tps) ≡ piece ∷ ps = ap (λ (z : List Taken). marked_behind 0 z ++ joined tps) (sym all) ∙ h in
-    let moved = end-moved ls o trees s mem t (record t { words = after_step t.words item.step }) pos p c cs (a.runs.call.told st).told reply run run' (record { event = e; reply = last_reply run'.stage run'.held }) a st en'
-    (λ y in_y. act-table ls o trees s mem t pos p c cs run c1 item.step a may.0 item.is y in_y
+    let moved = end-moved ls o trees s mem t (record t { words = after_step t.words item.step }) pos p c cs (a.runs.call.told st).told reply run run' (record { event = e; reply = last_reply run'.stage run'.held }) a st en' (subst (λ (z : Tree). HasFilled o t pos p mem (filled_of z mem)) (sym is) (not-filled o t pos p mem owed))
+    (λ y in_y. act-table ls o trees s mem t pos p c cs run [] c1 item.step a refl (not-filled o t pos p mem owed) may.1.0 item.is y in_y
     ∙ ap (λ (z : Tree). or_else (last_at (first_of z mem) y) (t.words (address m.pages y))) {x = End r [] (c1 ∷ ds)} {y = feed (trees p c) (a.runs.call.told st).told} (sym is)) refl in
     came-as o trees p s t pos (Marked x) piece (map Quiet zs ++ joined tps) ps last h'
     (record {
       memory = moved.memory;
-      now = record { at = after_turn c cs (pos p).at.replies run' (last_reply run'.stage run'.held); owes = owes_of (feed (trees p c) (a.runs.call.told st).told) mem };
+      now = record { at = after_turn c cs (pos p).at.replies run' (last_reply run'.stage run'.held); owes = owes_of (feed (trees p c) (a.runs.call.told st).told) mem; fill = None };
       stands = moved.stands;
       rest = rest-owed o trees p (after_turn c cs (pos p).at.replies run' (last_reply run'.stage run'.held)) zs (owes_of (feed (trees p c) (a.runs.call.told st).told) mem) tps last
           (subst (λ (z : Tree). AreStores m.pages zs (owes_of z mem)) (sym is) rest.1) own;
@@ -163,9 +170,47 @@ end-now ls o trees s mem t pos p c cs run run' e (End r [] (c1 ∷ ds)) changes 
         let parts = and_parts (is_plain c1) (are_plain ds) pl in
         let b : between ≡ None = plain-one o.machine c1 None ys between parts.0 one refl in
         (plain-all o.machine ds between zs h' parts.1 many b, b)
-end-now ls o trees s mem t pos p c cs run run' e (End r (f ∷ fs) ds) changes reply tps last piece ps a st en is g own h an =
-    let bad : f ∷ fs ≡ [] = subst (λ (z : Tree). fills_of z ≡ []) is (a.are.unfilled p c (a.runs.call.told st).told) in cc
-end-now ls o trees s mem t pos p c cs run run' e (Since r ds) changes reply tps last piece ps a st en is g own h an =
+end-now ls o trees s mem t pos p c cs run run' e (End r (f ∷ fs) ds) changes reply tps last piece ps a owed st en is g own h an =
+    let m = o.machine in
+    let plain : are_plain (f ∷ fs ++ ds) ≡ true = subst (λ (z : Tree). are_plain (changes_of z) ≡ true) is (a.are.plain p c (a.runs.call.told st).told) in
+    let hash : en.hasher ≡ None = plain-all m (f ∷ fs ++ ds) run.hasher changes en.hasher plain en.changed a.runs.no_hasher in
+    let en' = at-end o trees s mem t pos p c cs run run' e (End r (f ∷ fs) ds) changes reply a st en hash is g in
+    let may = fills-of-may ds (subst (λ (z : Tree). EndMay m (bare (s.lps p).call.held) s.world ((row_of o p c).act s.world) mem z) is
+    (end-may o trees s mem t pos p c cs (a.runs.call.told st).told reply run run' (record { event = e; reply = last_reply run'.stage run'.held }) a st en')) in
+    let two = two-parts m (f ∷ fs) ds run.hasher en.hasher changes en.changed in
+    let items = fills-items m (bare (s.lps p).call.held) s.world (f ∷ fs) run.hasher two.between two.first may two.filled a.runs.no_hasher in
+    let many = behind-fills m (bare (s.lps p).call.held) s.world (f ∷ fs) run.hasher two.between two.first two.second may two.filled a.runs.no_hasher in
+    let todo = fills-todo m (bare (s.lps p).call.held) s.world (f ∷ fs) may in
+    let reply-is : reply ≡ r = cc g in
+    let heads : map Quiet two.first ++ (marked_behind 0 two.second ++ joined tps) ≡ piece ∷ ps =
+    sym (append_assoc (map Quiet two.first) (marked_behind 0 two.second) (joined tps))
+    ∙ (ap (λ (z : List Piece). z ++ joined tps) (sym many) ∙ (ap (λ (z : List Taken). marked_behind (items_in (f ∷ fs)) z ++ joined tps) (sym two.items) ∙ h)) in
+    fill-piece ls o trees s mem t pos p c cs run (record { reply = r; fills = f ∷ fs; changes = ds; made = []; left = all_todos (f ∷ fs) }) last piece ps a
+    (record {
+      at_end = (st, (a.runs.call.told st).rest ∙ is);
+      made_may = tt;
+      left_may = todo;
+      all_may = todo;
+      stores = refl;
+      there = λ y x in_y z. cc;
+      undo = λ y. ap (λ (z : List Due). last_at z y) owed;
+    })
+    (record {
+      stores = two.first;
+      act = two.second;
+      turns = tps;
+      are = items.1;
+      changed = subst (λ (z : Option Measure). AreChanged m ds z two.second None) items.0 (subst (λ (z : Option Measure). AreChanged m ds two.between two.second z) hash two.changed);
+      pieces = sym heads;
+      after = run';
+      after_is = en.after ∙ (ap (λ (z : Reply). standing (End r (f ∷ fs) ds) (stages.Answered z) run.held en.hasher) reply-is ∙ ap (λ (z : Option Measure). standing (End r (f ∷ fs) ds) (stages.Answered r) run.held z) hash);
+      own = own;
+    }) an
+  where
+    fills-of-may : (ds : List Change) → EndMay o.machine (bare (s.lps p).call.held) s.world ((row_of o p c).act s.world) mem (End r (f ∷ fs) ds) → MayFillAll o.machine (bare (s.lps p).call.held) s.world (f ∷ fs)
+    fills-of-may [] z = z
+    fills-of-may (c1 ∷ es) z = z.0
+end-now ls o trees s mem t pos p c cs run run' e (Since r ds) changes reply tps last piece ps a owed st en is g own h an =
     let m = o.machine in
     let plain : are_plain ds ≡ true = subst (λ (z : Tree). are_plain (changes_of z) ≡ true) is (a.are.plain p c (a.runs.call.told st).told) in
     let hash : en.hasher ≡ None = plain-all m ds run.hasher changes en.hasher plain en.changed a.runs.no_hasher in
@@ -173,12 +218,12 @@ end-now ls o trees s mem t pos p c cs run run' e (Since r ds) changes reply tps 
     let may = subst (λ (z : Tree). EndMay m (bare (s.lps p).call.held) s.world ((row_of o p c).act s.world) mem z) is
     (end-may o trees s mem t pos p c cs (a.runs.call.told st).told reply run run' (record { event = e; reply = last_reply run'.stage run'.held }) a st en') in
     let rest = owed-items m (bare (s.lps p).call.held) ((row_of o p c).act s.world) mem ds run.hasher en.hasher changes may plain en.changed a.runs.no_hasher in
-    let moved = end-moved ls o trees s mem t t pos p c cs (a.runs.call.told st).told reply run run' (record { event = e; reply = last_reply run'.stage run'.held }) a st en'
+    let moved = end-moved ls o trees s mem t t pos p c cs (a.runs.call.told st).told reply run run' (record { event = e; reply = last_reply run'.stage run'.held }) a st en' (subst (λ (z : Tree). HasFilled o t pos p mem (filled_of z mem)) (sym is) (not-filled o t pos p mem owed))
     (λ y in_y. ap (λ (z : Tree). or_else (last_at (first_of z mem) y) (t.words (address m.pages y))) {x = Since r ds} {y = feed (trees p c) (a.runs.call.told st).told} (sym is)) refl in
     came-as o trees p s t pos Wordless piece (map Quiet changes ++ joined tps) ps last h
     (record {
       memory = moved.memory;
-      now = record { at = after_turn c cs (pos p).at.replies run' (last_reply run'.stage run'.held); owes = owes_of (feed (trees p c) (a.runs.call.told st).told) mem };
+      now = record { at = after_turn c cs (pos p).at.replies run' (last_reply run'.stage run'.held); owes = owes_of (feed (trees p c) (a.runs.call.told st).told) mem; fill = None };
       stands = moved.stands;
       rest = rest-owed o trees p (after_turn c cs (pos p).at.replies run' (last_reply run'.stage run'.held)) changes (owes_of (feed (trees p c) (a.runs.call.told st).told) mem) tps last
           (subst (λ (z : Tree). AreStores m.pages changes (owes_of z mem)) (sym is) rest.1) own;
@@ -186,42 +231,42 @@ end-now ls o trees s mem t pos p c cs run run' e (Since r ds) changes reply tps 
 
 -- the end whose act is the load before it
 end-loaded : (ls : Laws) (o : Opening) (trees : ℕ → Call → Tree) (s : State) (mem : Memory) (t : Table) (pos : ℕ → Position) (p : ℕ) (c : Call) (cs : List Call) (run run' : Standing) (e : RunEvent) (end_ : Tree) (changes : List Taken) (reply : Reply) (at x : ℕ)
-    (tps : List (List Piece)) (last : WordLp) → (a : AtTurn o trees s mem t pos p c cs run) → (st : run.stage ≡ stages.Trying) → Ended o.machine run run' end_ changes reply → IsLoadAt o.machine.pages (settle run.rest) at → x ≡ t.words at
+    (tps : List (List Piece)) (last : WordLp) → (a : AtTurn o trees s mem t pos p c cs run) → (pos p).owes ≡ [] → (st : run.stage ≡ stages.Trying) → Ended o.machine run run' end_ changes reply → IsLoadAt o.machine.pages (settle run.rest) at → x ≡ t.words at
     → feed (trees p c) ((a.runs.call.told st).told ++ x ∷ []) ≡ end_ → Gives o.machine.pages end_ (need.Verdict reply) → IsDone end_
     → OwnTurns (leaf_for o trees p) o.machine (after_turn c cs (pos p).at.replies run' (last_reply run'.stage run'.held)) tps last
     → Came o trees p s t pos (Marked (Stepped (step.Load at) x)) (map Quiet changes ++ joined tps) last
-end-loaded ls o trees s mem t pos p c cs run run' e (Lock l q m z) changes reply at x tps last a st en load an is g d own = absurd d
-end-loaded ls o trees s mem t pos p c cs run run' e (Load v q k) changes reply at x tps last a st en load an is g d own = absurd d
-end-loaded ls o trees s mem t pos p c cs run run' e (Test b r z) changes reply at x tps last a st en load an is g d own = absurd d
-end-loaded ls o trees s mem t pos p c cs run run' e (End r (f ∷ fs) ds) changes reply at x tps last a st en load an is g d own = absurd d
-end-loaded ls o trees s mem t pos p c cs run run' e (End r [] (c1 ∷ ds)) changes reply at x tps last a st en load an is g d own = absurd d
-end-loaded ls o trees s mem t pos p c cs run run' e (End r [] []) changes reply at x tps last a st en load an is g d own =
+end-loaded ls o trees s mem t pos p c cs run run' e (Lock l q m z) changes reply at x tps last a owed st en load an is g d own = absurd d
+end-loaded ls o trees s mem t pos p c cs run run' e (Load v q k) changes reply at x tps last a owed st en load an is g d own = absurd d
+end-loaded ls o trees s mem t pos p c cs run run' e (Test b r z) changes reply at x tps last a owed st en load an is g d own = absurd d
+end-loaded ls o trees s mem t pos p c cs run run' e (End r (f ∷ fs) ds) changes reply at x tps last a owed st en load an is g d own = absurd d
+end-loaded ls o trees s mem t pos p c cs run run' e (End r [] (c1 ∷ ds)) changes reply at x tps last a owed st en load an is g d own = absurd d
+end-loaded ls o trees s mem t pos p c cs run run' e (End r [] []) changes reply at x tps last a owed st en load an is g d own =
     let now = (a.runs.call.told st).told ++ x ∷ [] in
     let none = none-changed o.machine run run' (End r [] []) changes reply en refl in
-    let en' = at-end-load ls o trees s mem t pos p c cs run run' e (End r [] []) changes reply at x a st en (none.0 ∙ a.runs.no_hasher) load an is g in
-    let moved = end-moved ls o trees s mem t t pos p c cs now reply run run' (record { event = e; reply = last_reply run'.stage run'.held }) a st en'
+    let en' = at-end-load ls o trees s mem t pos p c cs run run' e (End r [] []) changes reply at x a owed st en (none.0 ∙ a.runs.no_hasher) load an is g in
+    let moved = end-moved ls o trees s mem t t pos p c cs now reply run run' (record { event = e; reply = last_reply run'.stage run'.held }) a st en' (subst (λ (z : Tree). HasFilled o t pos p mem (filled_of z mem)) (sym is) (not-filled o t pos p mem owed))
     (λ y in_y. ap (λ (z : Tree). or_else (last_at (first_of z mem) y) (t.words (address o.machine.pages y))) {x = End r [] []} {y = feed (trees p c) now} (sym is)) refl in
     record {
       memory = moved.memory;
-      now = record { at = after_turn c cs (pos p).at.replies run' (last_reply run'.stage run'.held); owes = owes_of (feed (trees p c) now) mem };
+      now = record { at = after_turn c cs (pos p).at.replies run' (last_reply run'.stage run'.held); owes = owes_of (feed (trees p c) now) mem; fill = None };
       stands = moved.stands;
       rest = rest-owed o trees p (after_turn c cs (pos p).at.replies run' (last_reply run'.stage run'.held)) changes (owes_of (feed (trees p c) now) mem) tps last
           (subst (λ (z : Tree). AreStores o.machine.pages changes (owes_of z mem)) (sym is) (subst (λ (z : List Taken). AreStores o.machine.pages z []) (sym none.1) tt)) own;
     }
-end-loaded ls o trees s mem t pos p c cs run run' e (Since r ds) changes reply at x tps last a st en load an is g d own =
+end-loaded ls o trees s mem t pos p c cs run run' e (Since r ds) changes reply at x tps last a owed st en load an is g d own =
     let m = o.machine in
     let now = (a.runs.call.told st).told ++ x ∷ [] in
     let plain : are_plain ds ≡ true = subst (λ (z : Tree). are_plain (changes_of z) ≡ true) is (a.are.plain p c now) in
     let hash : en.hasher ≡ None = plain-all m ds run.hasher changes en.hasher plain en.changed a.runs.no_hasher in
-    let en' = at-end-load ls o trees s mem t pos p c cs run run' e (Since r ds) changes reply at x a st en hash load an is g in
+    let en' = at-end-load ls o trees s mem t pos p c cs run run' e (Since r ds) changes reply at x a owed st en hash load an is g in
     let may = subst (λ (z : Tree). EndMay m (bare (s.lps p).call.held) s.world ((row_of o p c).act s.world) mem z) is
     (end-may o trees s mem t pos p c cs now reply run run' (record { event = e; reply = last_reply run'.stage run'.held }) a st en') in
     let rest = owed-items m (bare (s.lps p).call.held) ((row_of o p c).act s.world) mem ds run.hasher en.hasher changes may plain en.changed a.runs.no_hasher in
-    let moved = end-moved ls o trees s mem t t pos p c cs now reply run run' (record { event = e; reply = last_reply run'.stage run'.held }) a st en'
+    let moved = end-moved ls o trees s mem t t pos p c cs now reply run run' (record { event = e; reply = last_reply run'.stage run'.held }) a st en' (subst (λ (z : Tree). HasFilled o t pos p mem (filled_of z mem)) (sym is) (not-filled o t pos p mem owed))
     (λ y in_y. ap (λ (z : Tree). or_else (last_at (first_of z mem) y) (t.words (address m.pages y))) {x = Since r ds} {y = feed (trees p c) now} (sym is)) refl in
     record {
       memory = moved.memory;
-      now = record { at = after_turn c cs (pos p).at.replies run' (last_reply run'.stage run'.held); owes = owes_of (feed (trees p c) now) mem };
+      now = record { at = after_turn c cs (pos p).at.replies run' (last_reply run'.stage run'.held); owes = owes_of (feed (trees p c) now) mem; fill = None };
       stands = moved.stands;
       rest = rest-owed o trees p (after_turn c cs (pos p).at.replies run' (last_reply run'.stage run'.held)) changes (owes_of (feed (trees p c) now) mem) tps last
           (subst (λ (z : Tree). AreStores m.pages changes (owes_of z mem)) (sym is) rest.1) own;
@@ -229,11 +274,11 @@ end-loaded ls o trees s mem t pos p c cs run run' e (Since r ds) changes reply a
 
 -- the load before the end goes on
 quiet-load : (ls : Laws) (o : Opening) (trees : ℕ → Call → Tree) (s : State) (mem : Memory) (t : Table) (pos : ℕ → Position) (p : ℕ) (c : Call) (cs : List Call) (run run' : Standing) (e : RunEvent) (from x : ℕ) (loads changes : List Taken) (tree : Tree) (reply : Reply)
-    (tps : List (List Piece)) (last : WordLp) → (a : AtTurn o trees s mem t pos p c cs run) → (st : run.stage ≡ stages.Trying) → Ended o.machine run run' (passed (settle tree)) changes reply → e ≡ events.Act → IsLoadAt o.machine.pages (settle run.rest) from
+    (tps : List (List Piece)) (last : WordLp) → (a : AtTurn o trees s mem t pos p c cs run) → (pos p).owes ≡ [] → (st : run.stage ≡ stages.Trying) → Ended o.machine run run' (passed (settle tree)) changes reply → e ≡ events.Act → IsLoadAt o.machine.pages (settle run.rest) from
     → IsLoaded o.machine.pages (fed (settle run.rest) x) loads tree → Gives o.machine.pages (settle tree) (need.Verdict reply) → (IsDone (fed (settle run.rest) x) → ⊥) → x ≡ t.words from
     → OwnTurns (leaf_for o trees p) o.machine (after_turn c cs (pos p).at.replies run' (last_reply run'.stage run'.held)) tps last
     → Came o trees p s t pos (Quiet (Stepped (step.Load from) x)) (act_pieces (passed (settle tree)) loads changes ++ joined tps) last
-quiet-load ls o trees s mem t pos p c cs run run' e from x loads changes tree reply tps last a st en ev load l g never an own =
+quiet-load ls o trees s mem t pos p c cs run run' e from x loads changes tree reply tps last a owed st en ev load l g never an own =
     let goes : GoesIn o.machine (loaded run x) (act_pieces (passed (settle tree)) loads changes) run' e = record {
       items = loads ++ changes;
       goes = record {
@@ -246,7 +291,7 @@ quiet-load ls o trees s mem t pos p c cs run run' e from x loads changes tree re
       };
       pieces = ap (act_pieces (passed (settle tree)) loads) (sym (behind-append loads changes));
     } in
-    load-piece ls o trees s mem t pos p c cs run run' e from x (act_pieces (passed (settle tree)) loads changes) tps last a st load (goes-on o.machine.pages (settle run.rest) from x load never) an goes own
+    load-piece ls o trees s mem t pos p c cs run run' e from x (act_pieces (passed (settle tree)) loads changes) tps last a owed st load (goes-on o.machine.pages (settle run.rest) from x load never) an goes own
 
 abbrev pub IsEnd : Tree → Type 0
 IsEnd (End r fs cs) = Unit {0}
@@ -293,11 +338,11 @@ one-load (Since r cs) l changes h nil = IsAct tt refl
 
 -- a turn that comes to its end
 pub verdict-turn : (ls : Laws) (o : Opening) (trees : ℕ → Call → Tree) (s : State) (mem : Memory) (t : Table) (pos : ℕ → Position) (p : ℕ) (c : Call) (cs : List Call) (run run' : Standing) (e : RunEvent) (loads items : List Taken) (tree : Tree) (reply : Reply)
-    (tps : List (List Piece)) (last : WordLp) (piece : Piece) (ps : List Piece) → AtTurn o trees s mem t pos p c cs run → run.stage ≡ stages.Trying → IsLoaded o.machine.pages run.rest loads tree
+    (tps : List (List Piece)) (last : WordLp) (piece : Piece) (ps : List Piece) → AtTurn o trees s mem t pos p c cs run → (pos p).owes ≡ [] → run.stage ≡ stages.Trying → IsLoaded o.machine.pages run.rest loads tree
     → Gives o.machine.pages (settle tree) (need.Verdict reply) → Ends o.machine run (passed (settle tree)) loads items reply run' e
     → OwnTurns (leaf_for o trees p) o.machine (after_turn c cs (pos p).at.replies run' (last_reply run'.stage run'.held)) tps last
     → Heads (act_pieces (passed (settle tree)) loads (behind loads items)) tps piece ps → PieceAnswers t piece → Came o trees p s t pos piece ps last
-verdict-turn ls o trees s mem t pos p c cs run run' e [] items tree reply tps last piece ps a st l g en own h an =
+verdict-turn ls o trees s mem t pos p c cs run run' e [] items tree reply tps last piece ps a owed st l g en own h an =
     let is-end = given-end o.machine.pages (settle tree) reply g in
     let at : passed (settle tree) ≡ settle tree = end-passed (settle tree) is-end in
     let told : feed (trees p c) (a.runs.call.told st).told ≡ settle tree = sym (told-tree o trees s mem t pos p c cs run a st) ∙ ap settle l in
@@ -306,11 +351,11 @@ verdict-turn ls o trees s mem t pos p c cs run run' e [] items tree reply tps la
       changed = subst (λ (z : Tree). AreChanged o.machine (changes_of z) run.hasher en.changes en.hasher) at en.changed;
       after = en.after ∙ ap (λ (z : Tree). standing z (stages.Answered reply) run.held en.hasher) at;
     } in
-    end-now ls o trees s mem t pos p c cs run run' e (settle tree) en.changes reply tps last piece ps a st en' told g own
+    end-now ls o trees s mem t pos p c cs run run' e (settle tree) en.changes reply tps last piece ps a owed st en' told g own
     (ap (λ (z : Tree). act_pieces z [] en.changes ++ joined tps) (sym at) ∙ (ap (λ (z : List Taken). act_pieces (passed (settle tree)) [] z ++ joined tps) (sym en.items) ∙ h)) an
-verdict-turn ls o trees s mem t pos p c cs run run' e (Swapped k u v ∷ loads) items tree reply tps last piece ps a st l g en own h an = absurd l
-verdict-turn ls o trees s mem t pos p c cs run run' e (Missed k ∷ loads) items tree reply tps last piece ps a st l g en own h an = absurd l
-verdict-turn ls o trees s mem t pos p c cs run run' e (Stepped w x ∷ loads) items tree reply tps last piece ps a st l g en own h an =
+verdict-turn ls o trees s mem t pos p c cs run run' e (Swapped k u v ∷ loads) items tree reply tps last piece ps a owed st l g en own h an = absurd l
+verdict-turn ls o trees s mem t pos p c cs run run' e (Missed k ∷ loads) items tree reply tps last piece ps a owed st l g en own h an = absurd l
+verdict-turn ls o trees s mem t pos p c cs run run' e (Stepped w x ∷ loads) items tree reply tps last piece ps a owed st l g en own h an =
     by loads refl
   where
     n : ℕ
@@ -342,7 +387,7 @@ verdict-turn ls o trees s mem t pos p c cs run run' e (Stepped w x ∷ loads) it
     quiet never parts =
         let h' : Quiet (Stepped (step.Load from) x) ∷ (act_pieces (passed (settle tree)) loads en.changes ++ joined tps) ≡ piece ∷ ps = ap (λ (z : List Piece). z ++ joined tps) (sym parts) ∙ heads in
         came-as o trees p s t pos (Quiet (Stepped (step.Load from) x)) piece (act_pieces (passed (settle tree)) loads en.changes ++ joined tps) ps last h'
-        (quiet-load ls o trees s mem t pos p c cs run run' e from x loads en.changes tree reply tps last a st ended en.event l.0.1 l.1 g never
+        (quiet-load ls o trees s mem t pos p c cs run run' e from x loads en.changes tree reply tps last a owed st ended en.event l.0.1 l.1 g never
         (answers-as t (Quiet (Stepped (step.Load from) x)) piece (act_pieces (passed (settle tree)) loads en.changes ++ joined tps) ps h' an) own)
 
     by : (ys : List Taken) → loads ≡ ys → Came o trees p s t pos piece ps last
@@ -369,5 +414,5 @@ verdict-turn ls o trees s mem t pos p c cs run run' e (Stepped w x ∷ loads) it
             sym (settled (trees p c) (told ++ x ∷ []))
             ∙ (ap settle (sym (ap (λ (z : Tree). fed z x) (told-tree o trees s mem t pos p c cs run a st) ∙ feed-append (trees p c) told (x ∷ [])) ∙ tree-is) ∙ sym at) in
             came-as o trees p s t pos (Marked (Stepped (step.Load from) x)) piece (map Quiet en.changes ++ joined tps) ps last h'
-            (end-loaded ls o trees s mem t pos p c cs run run' e (passed (settle tree)) en.changes reply from x tps last a st ended l.0.1
+            (end-loaded ls o trees s mem t pos p c cs run run' e (passed (settle tree)) en.changes reply from x tps last a owed st ended l.0.1
             (answers-as t (Marked (Stepped (step.Load from) x)) piece (map Quiet en.changes ++ joined tps) ps h' an) now-tree (subst (λ (z : Tree). Gives n z (need.Verdict reply)) (sym at) g) d own)

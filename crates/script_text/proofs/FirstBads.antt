@@ -32,14 +32,14 @@ line_fault : (read : Result SoFar Reason) (m n : ℕ) (r : Reason) (f : SoFar �
 line_fault (Ok e) m n r f h = inl (e, refl, h)
 line_fault (Err q) m n r f h = let s = same_fault m n r q h in inr (s.0, ap Err s.1)
 
-end_option : (m : Option Machine) (b : Option ℕ) (calls : List (List Call)) (k n : ℕ) (r : Reason) → script_of m b calls k ≡ Err (Bad n r) → k ≡ n
-end_option None b calls k n r h = (same_fault k n r reason.Machine h).0
-end_option (Some m) (Some lp) calls k n r h = (same_fault k n r reason.Endless h).0
-end_option (Some m) None calls k n r h = cc
+end_option : (m : Option Machine) (b : Option ℕ) (schedule : List ℕ) (calls : List (List Call)) (k n : ℕ) (r : Reason) → script_of m b schedule calls k ≡ Err (Bad n r) → k ≡ n
+end_option None b schedule calls k n r h = (same_fault k n r reason.Machine h).0
+end_option (Some m) (Some lp) schedule calls k n r h = (same_fault k n r reason.Endless h).0
+end_option (Some m) None schedule calls k n r h = cc
 
-end_cases : (empty : Bool) (d : SoFar) (k n : ℕ) (r : Reason) → cond (not empty) (Err (Bad k reason.Unterminated)) (script_of d.stage.machine d.stage.block d.calls k) ≡ Err (Bad n r) → k ≡ n
+end_cases : (empty : Bool) (d : SoFar) (k n : ℕ) (r : Reason) → cond (not empty) (Err (Bad k reason.Unterminated)) (script_of d.stage.machine d.stage.block d.schedule d.calls k) ≡ Err (Bad n r) → k ≡ n
 end_cases false d k n r h = (same_fault k n r reason.Unterminated h).0
-end_cases true d k n r h = end_option d.stage.machine d.stage.block d.calls k n r h
+end_cases true d k n r h = end_option d.stage.machine d.stage.block d.schedule d.calls k n r h
 
 end_number : (d : SoFar) (k n : ℕ) (piece : List ℕ) (r : Reason) → ended_of d k piece ≡ Err (Bad n r) → k ≡ n
 end_number d k n piece r h = end_cases (length piece == 0) d k n r h

@@ -4,4 +4,6 @@ pub mod Steps
 pub mod Calls
 pub mod Texts
 pub mod FirstBads
+pub mod Forms
+pub mod Items
 pub mod Spelled

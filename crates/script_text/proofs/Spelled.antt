@@ -1,87 +1,101 @@
 -- A script that is written out is read again.
-use Rattle.std.proofs.Common.{◌≡◌, ℕ, ◌+◌, ◌*◌, ◌^◌, ◌<◌, ◌≤◌, List, [], ◌∷◌, ◌++◌, length, map, replicate, Bool, true, false, leb, ltb, Some, None, Result, Ok, refl, ap, sym, ◌∙◌, arith}
+use Rattle.std.proofs.Common.{◌≡◌, ℕ, zero, suc, ◌+◌, ◌*◌, ◌^◌, ◌<◌, ◌≤◌, ◌≢◌, List, [], ◌∷◌, ◌++◌, length, map, take, get_or, set, replicate, Bool, true, false, leb, ltb, Option, Some, None, Result, Ok, refl, ap, sym, ◌∙◌, subst, arith}
 use Rattle.std.specs.Prelude.{codes}
-use Rattle.std.specs.List.{list_all}
+use Rattle.std.specs.List.{All, list_all}
 use Rattle.std.specs.Fmt.{decimal}
-use Rattle.std.proofs.lemmas.Fmt.{length-decimal-le}
-use Rattle.std.proofs.lemmas.List.{append_assoc, append-nil, take_all, length-map, length-append}
+use Rattle.std.proofs.lemmas.Fmt.{length-decimal-le, decimal_digit}
+use Rattle.std.proofs.lemmas.List.{append_assoc, append-nil, length-append, get_or-set_other}
+use Rattle.std.proofs.lemmas.List.Elements.{All-head, All-tail}
+use Rattle.std.proofs.Math.Seq.{get_or-append_seam, set-append_seam}
 use Rattle.td_words.specs.declared.calls.Call.{Call}
 use Rattle.td_words.specs.declared.calls.Call.TheVariants as calls
 use Rattle.td_words.specs.declared.machines.Machine.{Machine}
 use Rattle.script_text.specs.declared.faults.Reason.{Reason}
+use Rattle.script_text.specs.declared.faults.ScriptFault.{ScriptFault}
 use Rattle.script_text.specs.declared.lines.Entry.TheVariants as entry
 use Rattle.script_text.specs.declared.lines.Stage.{Stage}
-use Rattle.script_text.specs.Line.{entry_of, machine_of, three_of, block_of, one_of, end_of, call_of, ◌>>=◌}
+use Rattle.script_text.specs.Line.{entry_of, in_limits, machine_of, block_of, end_of, call_of, ◌>>=◌}
 use Rattle.script_text.specs.Words.{pieces, is_comment}
 use Rattle.script_text.specs.Reading.{SoFar, nothing_yet, entered_of, worded_of, line_of, read_from, read_of}
-use Rattle.script_text.specs.Spelling.{numbers_text, line_text, call_word, call_numbers, fits_call, calls_text, one_processor, script_text}
-use Rattle.script_text.specs.Laws.{ScriptsReadAgain}
+use Rattle.script_text.specs.Seen.{ScriptSeen}
+use Rattle.script_text.specs.Spelling.{numbers_text, line_text, call_word, call_numbers, FitsCall, calls_text, schedule_text, blocks_text, script_text}
+use Rattle.script_text.specs.Laws.{IsInForm, ScriptsReadAgain}
 use Rattle.script_text.proofs.Steps.{good_line}
-use Rattle.script_text.proofs.Texts.{IsWord, fits, fits_below, both, printable_text, words_text, numbers_read, pieces_text}
+use Rattle.script_text.proofs.Texts.{IsWord, fits, fits_below, both, and_true, printable_text, words_text, numbers_read, pieces_text}
+use Rattle.script_text.proofs.Items.{items_read}
 
 -- what a written line says
 abbrev said : SoFar → List ℕ → List ℕ → Result SoFar Reason
-said d w ns = entry_of d.stage w (map Some ns) >>= (λ e. entered_of d e)
+said d w ns = entry_of d.stage w (map Some (take 5 ns)) >>= (λ e. entered_of d e (map decimal ns))
 
 worded_text : (d : SoFar) (w ns : List ℕ) → is_comment w ≡ false → list_all fits ns ≡ true → worded_of d (w ∷ map decimal ns) ≡ said d w ns
 unfolding worded_of
-worded_text d w ns h k = rw (h, numbers_read ns k) refl
+worded_text d w ns h k = rw (h, numbers_read 5 ns k) refl
 
-line_said : (d : SoFar) (w ns : List ℕ) → IsWord w → is_comment w ≡ false → list_all fits ns ≡ true → length ns ≤ 5 → line_of d (w ++ numbers_text ns) ≡ said d w ns
+line_said : (d : SoFar) (w ns : List ℕ) → IsWord w → is_comment w ≡ false → list_all fits ns ≡ true → line_of d (w ++ numbers_text ns) ≡ said d w ns
 unfolding line_of
-line_said d w ns h c k few =
-    let short : length (w ∷ map decimal ns) ≤ 6 = simp length-map (omega arith) in
-    rw (printable_text w ns h k, words_text w ns h k, take_all 6 (w ∷ map decimal ns) short) (worded_text d w ns c k)
+line_said d w ns h c k = rw (printable_text w ns h k, words_text w ns h k) (worded_text d w ns c k)
 
 -- a written line is passed, and the rest goes on
-line_passed : (d e : SoFar) (n : ℕ) (w ns rest : List ℕ) → IsWord w → is_comment w ≡ false → list_all fits ns ≡ true → length ns ≤ 5 → said d w ns ≡ Ok e → read_from d n (pieces (line_text w ns ++ rest)) ≡ read_from e (n + 1) (pieces rest)
-line_passed d e n w ns rest h c k few s =
-    good_line d e n (line_text w ns ++ rest) (w ++ numbers_text ns) rest (pieces_text w ns rest h k) (line_said d w ns h c k few ∙ s)
+line_passed : (d e : SoFar) (n : ℕ) (w ns rest : List ℕ) → IsWord w → is_comment w ≡ false → list_all fits ns ≡ true → said d w ns ≡ Ok e → read_from d n (pieces (line_text w ns ++ rest)) ≡ read_from e (n + 1) (pieces rest)
+line_passed d e n w ns rest h c k s =
+    good_line d e n (line_text w ns ++ rest) (w ++ numbers_text ns) rest (pieces_text w ns rest h k) (line_said d w ns h c k ∙ s)
 
-abbrev machine_at : ℕ → ℕ → Machine
-machine_at pages hkids = record { lps = 1; pages = pages; hkids = hkids }
+-- numbers of 64 bits
+one_fits : (n : ℕ) (ns : List ℕ) → n < 2 ^ 64 → list_all fits ns ≡ true → list_all fits (n ∷ ns) ≡ true
+one_fits n ns h k = and_true (fits n) (list_all fits ns) (grind arith) k
 
-abbrev after_machine : ℕ → ℕ → SoFar
-after_machine pages hkids = record { stage = record { machine = Some (machine_at pages hkids); block = None; had = replicate 8 false }; calls = [] ∷ [] }
+all_fit : (ns : List ℕ) → All (λ n. n < 2 ^ 64) ns → list_all fits ns ≡ true
+all_fit [] h = refl
+all_fit (n ∷ ns) h = one_fits n ns (All-head (λ n. n < 2 ^ 64) n ns h) (all_fit ns (All-tail (λ n. n < 2 ^ 64) n ns h))
 
-abbrev had_first : List Bool
-had_first = true ∷ replicate 7 false
+below_fit : (lps : ℕ) (ns : List ℕ) → lps ≤ 8 → All (λ lp. lp < lps) ns → list_all fits ns ≡ true
+below_fit lps [] few h = refl
+below_fit lps (n ∷ ns) few h =
+    let small : n < lps = All-head (λ lp. lp < lps) n ns h in
+    one_fits n ns (omega arith) (below_fit lps ns few (All-tail (λ lp. lp < lps) n ns h))
 
-abbrev in_block : ℕ → ℕ → List Call → SoFar
-in_block pages hkids cs = record { stage = record { machine = Some (machine_at pages hkids); block = Some 0; had = had_first }; calls = cs ∷ [] }
+-- what the lines so far said of a machine
+abbrev so_far : Machine → Option ℕ → List Bool → List ℕ → List (List Call) → SoFar
+so_far m block had schedule calls = record { stage = record { machine = Some m; block = block; had = had }; schedule = schedule; calls = calls }
 
-abbrev after_block : ℕ → ℕ → List Call → SoFar
-after_block pages hkids cs = record { stage = record { machine = Some (machine_at pages hkids); block = None; had = had_first }; calls = cs ∷ [] }
+machine_said : (m : Machine) → in_limits m.lps m.pages m.hkids ≡ true → said nothing_yet (codes "machine") (m.lps ∷ m.pages ∷ m.hkids ∷ []) ≡ Ok (so_far m None (replicate 8 false) [] (replicate m.lps []))
+unfolding entry_of machine_of entered_of
+machine_said m h = rw h refl
 
-machine_said : (pages hkids : ℕ) → 8 ≤ pages → pages ≤ 1024 → 1 ≤ hkids → hkids ≤ 15 → said nothing_yet (codes "machine") (1 ∷ pages ∷ hkids ∷ []) ≡ Ok (after_machine pages hkids)
-unfolding entry_of machine_of three_of entered_of
-machine_said pages hkids a b c d =
-    let a' : leb 8 pages ≡ true = grind arith in
-    let b' : leb pages 1024 ≡ true = grind arith in
-    let c' : leb 1 hkids ≡ true = grind arith in
-    let d' : leb hkids 15 ≡ true = grind arith in
-    rw (a', b', c', d') refl
+schedule_said : (m : Machine) (had : List Bool) (calls : List (List Call)) (n : ℕ) (ns : List ℕ) → m.lps ≤ 8 → All (λ lp. lp < m.lps) (n ∷ ns) → length (n ∷ ns) ≤ 2 ^ 20
+    → said (so_far m None had [] calls) (codes "schedule") (n ∷ ns) ≡ Ok (so_far m None had (n ∷ ns) calls)
+unfolding entry_of entered_of
+schedule_said m had calls n ns few h room = rw (items_read m.lps n ns few h room) refl
 
-block_said : (pages hkids : ℕ) → said (after_machine pages hkids) (codes "lp") (0 ∷ []) ≡ Ok (in_block pages hkids [])
-unfolding entry_of block_of one_of entered_of
-block_said pages hkids = refl
+block_said : (m : Machine) (had : List Bool) (schedule : List ℕ) (calls : List (List Call)) (lp : ℕ) → lp < m.lps → get_or had lp false ≡ false
+    → said (so_far m None had schedule calls) (codes "lp") (lp ∷ []) ≡ Ok (so_far m (Some lp) (set had lp true) schedule calls)
+unfolding entry_of block_of entered_of
+block_said m had schedule calls lp h free =
+    let e : ltb lp m.lps ≡ true = grind arith in
+    rw (e, free) refl
 
-end_said : (pages hkids : ℕ) (cs : List Call) → said (in_block pages hkids cs) (codes "end") [] ≡ Ok (after_block pages hkids cs)
+end_said : (m : Machine) (lp : ℕ) (had : List Bool) (schedule : List ℕ) (calls : List (List Call)) → said (so_far m (Some lp) had schedule calls) (codes "end") [] ≡ Ok (so_far m None had schedule calls)
 unfolding entry_of end_of entered_of
-end_said pages hkids cs = refl
+end_said m lp had schedule calls = refl
 
-call_entry : (s : Stage) (m : Machine) (c : Call) → s.machine ≡ Some m → s.block ≡ Some 0 → entry_of s (call_word c) (map Some (call_numbers c)) ≡ Ok (entry.Call 0 c)
+call_entry : (s : Stage) (m : Machine) (lp : ℕ) (c : Call) → s.machine ≡ Some m → s.block ≡ Some lp → entry_of s (call_word c) (map Some (take 5 (call_numbers c))) ≡ Ok (entry.Call lp c)
 unfolding entry_of call_of
-call_entry s m (calls.HostRead a b) h k = rw (h, k) refl
-call_entry s m (calls.HostWrite a b c) h k = rw (h, k) refl
-call_entry s m (calls.PhymemPageRdmd a) h k = rw (h, k) refl
-call_entry s m (calls.MngCreate a b) h k = rw (h, k) refl
+call_entry s m lp (calls.HostRead a b) h k = rw (h, k) refl
+call_entry s m lp (calls.HostWrite a b c) h k = rw (h, k) refl
+call_entry s m lp (calls.PhymemPageRdmd a) h k = rw (h, k) refl
+call_entry s m lp (calls.MngCreate a b) h k = rw (h, k) refl
 
-call_said : (pages hkids : ℕ) (cs : List Call) (c : Call) → length cs < 4096 → said (in_block pages hkids cs) (call_word c) (call_numbers c) ≡ Ok (in_block pages hkids (cs ++ c ∷ []))
+-- in the block of the processor behind those that are done
+abbrev in_block : Machine → List Bool → List ℕ → List (List Call) → List Call → List (List Call) → SoFar
+in_block m had schedule done calls later = so_far m (Some (length done)) had schedule (done ++ calls ∷ later)
+
+call_said : (m : Machine) (had : List Bool) (schedule : List ℕ) (done : List (List Call)) (cs : List Call) (later : List (List Call)) (c : Call) → length cs < 4096
+    → said (in_block m had schedule done cs later) (call_word c) (call_numbers c) ≡ Ok (in_block m had schedule done (cs ++ c ∷ []) later)
 unfolding entered_of
-call_said pages hkids cs c room =
+call_said m had schedule done cs later c room =
     let r : leb 4096 (length cs) ≡ false = grind arith in
-    rw (call_entry (in_block pages hkids cs).stage (machine_at pages hkids) c refl refl, r) refl
+    rw (call_entry (in_block m had schedule done cs later).stage m (length done) c refl refl, get_or-append_seam done cs later [], r, set-append_seam done cs later (cs ++ c ∷ [])) refl
 
 call_is_word : (c : Call) → IsWord (call_word c)
 call_is_word (calls.HostRead a b) = record { bytes = refl; some = refl }
@@ -95,39 +109,106 @@ call_no_comment (calls.HostWrite a b c) = refl
 call_no_comment (calls.PhymemPageRdmd a) = refl
 call_no_comment (calls.MngCreate a b) = refl
 
-call_few : (c : Call) → length (call_numbers c) ≤ 5
-call_few (calls.HostRead a b) = omega arith
-call_few (calls.HostWrite a b c) = omega arith
-call_few (calls.PhymemPageRdmd a) = omega arith
-call_few (calls.MngCreate a b) = omega arith
-
--- the calls of the block and its end
-calls_passed : (pages hkids : ℕ) (cs old : List Call) (n : ℕ) → length old + length cs ≤ 4096 → list_all fits_call cs ≡ true → read_from (in_block pages hkids old) n (pieces (calls_text cs ++ line_text (codes "end") [])) ≡ Ok (one_processor pages hkids (old ++ cs))
-calls_passed pages hkids [] old n few h =
-    line_passed (in_block pages hkids old) (after_block pages hkids old) n (codes "end") [] [] (record { bytes = refl; some = refl }) refl refl (omega arith) (end_said pages hkids old)
-    ∙ ap (λ (cs : List Call). Ok (one_processor pages hkids cs)) (sym (append-nil old))
-calls_passed pages hkids (c ∷ cs) old n few h =
-    let f = both (fits_call c) (list_all fits_call cs) h in
-    let more : length (old ++ c ∷ []) + length cs ≤ 4096 = simp length-append (omega arith) in
+-- the calls of a block, whatever stands behind them
+calls_passed : (m : Machine) (had : List Bool) (schedule : List ℕ) (done later : List (List Call)) (cs old : List Call) (n : ℕ) (rest : List ℕ) (read : Result ScriptSeen ScriptFault) → length old + length cs ≤ 4096 → All FitsCall cs
+    → ((k : ℕ) → read_from (in_block m had schedule done (old ++ cs) later) k (pieces rest) ≡ read) → read_from (in_block m had schedule done old later) n (pieces (calls_text cs ++ rest)) ≡ read
+calls_passed m had schedule done later [] old n rest read few h go =
+    let P : List Call → Type 0 = λ cs. read_from (in_block m had schedule done cs later) n (pieces rest) ≡ read in
+    subst P (append-nil old) (go n)
+calls_passed m had schedule done later (c ∷ cs) old n rest read few h go =
+    let P : ℕ → List Call → Type 0 = λ k all. read_from (in_block m had schedule done all later) k (pieces rest) ≡ read in
     rw append_assoc
-    (line_passed (in_block pages hkids old) (in_block pages hkids (old ++ c ∷ [])) n (call_word c) (call_numbers c) (calls_text cs ++ line_text (codes "end") []) (call_is_word c) (call_no_comment c) f.0 (call_few c)
-    (call_said pages hkids old c (omega arith))
-    ∙ calls_passed pages hkids cs (old ++ c ∷ []) (n + 1) more f.1
-    ∙ ap (λ (all : List Call). Ok (one_processor pages hkids all)) (append_assoc old (c ∷ []) cs))
+    (line_passed (in_block m had schedule done old later) (in_block m had schedule done (old ++ c ∷ []) later) n (call_word c) (call_numbers c) (calls_text cs ++ rest) (call_is_word c) (call_no_comment c)
+    (all_fit (call_numbers c) (All-head FitsCall c cs h)) (call_said m had schedule done old later c (omega arith))
+    ∙ calls_passed m had schedule done later cs (old ++ c ∷ []) (n + 1) rest read (simp length-append (omega arith)) (All-tail FitsCall c cs h) (λ k. subst (P k) (sym (append_assoc old (c ∷ []) cs)) (go k)))
 
-machine_fits : (pages hkids : ℕ) → pages ≤ 1024 → hkids ≤ 15 → list_all fits (1 ∷ pages ∷ hkids ∷ []) ≡ true
-machine_fits pages hkids a b =
-    let p : ltb pages (2 ^ 64) ≡ true = grind arith in
-    let q : ltb hkids (2 ^ 64) ≡ true = grind arith in
-    rw (p, q) refl
+-- no processor from one on had a block
+record Free (lp : ℕ) (had : List Bool) : Type 0 where
+  pub from : (k : ℕ) → lp ≤ k → get_or had k false ≡ false
 
-read_text : (pages hkids : ℕ) (cs : List Call) → 8 ≤ pages → pages ≤ 1024 → 1 ≤ hkids → hkids ≤ 15 → length cs ≤ 4096 → list_all fits_call cs ≡ true → read_from nothing_yet 1 (pieces (script_text pages hkids cs)) ≡ Ok (one_processor pages hkids cs)
-read_text pages hkids cs a b c d few h =
-    let calls_end = calls_text cs ++ line_text (codes "end") [] in
-    line_passed nothing_yet (after_machine pages hkids) 1 (codes "machine") (1 ∷ pages ∷ hkids ∷ []) (line_text (codes "lp") (0 ∷ []) ++ calls_end) (record { bytes = refl; some = refl }) refl (machine_fits pages hkids b d) (omega arith)
-    (machine_said pages hkids a b c d)
-    ∙ line_passed (after_machine pages hkids) (in_block pages hkids []) 2 (codes "lp") (0 ∷ []) calls_end (record { bytes = refl; some = refl }) refl refl (omega arith) (block_said pages hkids)
-    ∙ calls_passed pages hkids cs [] 3 (omega arith) h
+all_free : (n k : ℕ) → get_or (replicate n false) k false ≡ false
+all_free zero k = refl
+all_free (suc n) zero = refl
+all_free (suc n) (suc k) = all_free n k
+
+free_more : (lp : ℕ) (had : List Bool) → Free lp had → Free (lp + 1) (set had lp true)
+free_more lp had h = record { from = λ k le. let ne : k ≢ lp = omega arith in rw (get_or-set_other had lp k true false ne) (h.from k (omega arith)) }
+
+abbrev no_calls : List (List Call) → List (List Call)
+no_calls lists = map (λ list. []) lists
+
+end_is_word : IsWord (codes "end")
+end_is_word = record { bytes = refl; some = refl }
+
+-- one block, whatever stands behind it
+block_passed : (m : Machine) (had : List Bool) (schedule : List ℕ) (done later : List (List Call)) (cs : List Call) (n : ℕ) (rest : List ℕ) (read : Result ScriptSeen ScriptFault) → length done < m.lps → m.lps ≤ 8 → Free (length done) had → length cs ≤ 4096 → All FitsCall cs
+    → ((k : ℕ) → read_from (so_far m None (set had (length done) true) schedule (done ++ cs ∷ later)) k (pieces rest) ≡ read)
+    → read_from (so_far m None had schedule (done ++ [] ∷ later)) n (pieces (line_text (codes "lp") (length done ∷ []) ++ (calls_text cs ++ (line_text (codes "end") [] ++ rest)))) ≡ read
+block_passed m had schedule done later cs n rest read below few free room h go =
+    let had' = set had (length done) true in
+    line_passed (so_far m None had schedule (done ++ [] ∷ later)) (in_block m had' schedule done [] later) n (codes "lp") (length done ∷ []) (calls_text cs ++ (line_text (codes "end") [] ++ rest)) (record { bytes = refl; some = refl }) refl
+    (one_fits (length done) [] (omega arith) refl) (block_said m had schedule (done ++ [] ∷ later) (length done) below (free.from (length done) (omega arith)))
+    ∙ calls_passed m had' schedule done later cs [] (n + 1) (line_text (codes "end") [] ++ rest) read (omega arith) h
+    (λ k. line_passed (in_block m had' schedule done cs later) (so_far m None had' schedule (done ++ cs ∷ later)) k (codes "end") [] rest end_is_word refl refl (end_said m (length done) had' schedule (done ++ cs ∷ later)) ∙ go (k + 1))
+
+abbrev whole : Machine → List ℕ → List (List Call) → Result ScriptSeen ScriptFault
+whole m schedule calls = Ok (record { machine = m; schedule = schedule; codes = []; calls = calls })
+
+abbrev AreFew : List Call → Type 0
+AreFew cs = length cs ≤ 4096
+
+blocks_passed : (m : Machine) (schedule : List ℕ) (more done : List (List Call)) (lp : ℕ) (had : List Bool) (n : ℕ) → lp ≡ length done → lp + length more ≤ m.lps → m.lps ≤ 8 → Free lp had → All AreFew more → All (λ cs. All FitsCall cs) more
+    → read_from (so_far m None had schedule (done ++ no_calls more)) n (pieces (blocks_text lp more)) ≡ whole m schedule (done ++ more)
+blocks_passed m schedule [] done lp had n is below few free room h = refl
+blocks_passed m schedule (cs ∷ more) done lp had n is below few free room h =
+    let P : ℕ → Type 0 = λ k. read_from (so_far m None had schedule (done ++ [] ∷ no_calls more)) n (pieces (line_text (codes "lp") (k ∷ []) ++ (calls_text cs ++ (line_text (codes "end") [] ++ blocks_text (k + 1) more)))) ≡ whole m schedule (done ++ cs ∷ more) in
+    let Q : List (List Call) → ℕ → Type 0 = λ calls k. read_from (so_far m None (set had (length done) true) schedule calls) k (pieces (blocks_text (length done + 1) more)) ≡ whole m schedule (done ++ cs ∷ more) in
+    let free' : Free (length done) had = subst (λ k. Free k had) is free in
+    subst P (sym is)
+    (block_passed m had schedule done (no_calls more) cs n (blocks_text (length done + 1) more) (whole m schedule (done ++ cs ∷ more)) (omega arith) few free' (All-head AreFew cs more room) (All-head (λ cs. All FitsCall cs) cs more h)
+    (λ k. subst (λ calls. Q calls k) (append_assoc done (cs ∷ []) (no_calls more))
+    (blocks_passed m schedule more (done ++ cs ∷ []) (length done + 1) (set had (length done) true) k (sym (length-append done (cs ∷ []))) (omega arith) few (free_more (length done) had free') (All-tail AreFew cs more room) (All-tail (λ cs. All FitsCall cs) cs more h)
+    ∙ ap (whole m schedule) (append_assoc done (cs ∷ []) more))))
+
+-- the schedule's line, where there is one
+schedule_passed : (m : Machine) (had : List Bool) (calls : List (List Call)) (schedule : List ℕ) (n : ℕ) (rest : List ℕ) (read : Result ScriptSeen ScriptFault) → m.lps ≤ 8 → All (λ lp. lp < m.lps) schedule → length schedule ≤ 2 ^ 20
+    → ((k : ℕ) → read_from (so_far m None had schedule calls) k (pieces rest) ≡ read) → read_from (so_far m None had [] calls) n (pieces (schedule_text schedule ++ rest)) ≡ read
+schedule_passed m had calls [] n rest read few h room go = go n
+schedule_passed m had calls (lp ∷ lps) n rest read few h room go =
+    line_passed (so_far m None had [] calls) (so_far m None had (lp ∷ lps) calls) n (codes "schedule") (lp ∷ lps) rest (record { bytes = refl; some = refl }) refl (below_fit m.lps (lp ∷ lps) few h) (schedule_said m had calls lp lps few h room)
+    ∙ go (n + 1)
+
+within_limits : (lps pages hkids : ℕ) → (1 ≤ lps) × (lps ≤ 8) → (8 ≤ pages) × (pages ≤ 1024) → (1 ≤ hkids) × (hkids ≤ 15) → in_limits lps pages hkids ≡ true
+within_limits lps pages hkids a b c =
+    let a0 : leb 1 lps ≡ true = grind (arith, a.0) in
+    let a1 : leb lps 8 ≡ true = grind (arith, a.1) in
+    let b0 : leb 8 pages ≡ true = grind (arith, b.0) in
+    let b1 : leb pages 1024 ≡ true = grind (arith, b.1) in
+    let c0 : leb 1 hkids ≡ true = grind (arith, c.0) in
+    let c1 : leb hkids 15 ≡ true = grind (arith, c.1) in
+    rw (a0, a1, b0, b1, c0, c1) refl
+
+machine_fits : (s : ScriptSeen) → IsInForm s → list_all fits (s.machine.lps ∷ s.machine.pages ∷ s.machine.hkids ∷ []) ≡ true
+machine_fits s h =
+    one_fits s.machine.lps (s.machine.pages ∷ s.machine.hkids ∷ []) (omega arith) (one_fits s.machine.pages (s.machine.hkids ∷ []) (omega arith) (one_fits s.machine.hkids [] (omega arith) refl))
+
+none_called : (lists : List (List Call)) → replicate (length lists) [] ≡ no_calls lists
+none_called [] = refl
+none_called (cs ∷ lists) = ap (λ (all : List (List Call)). [] ∷ all) (none_called lists)
+
+seen_again : (s : ScriptSeen) → s.codes ≡ [] → whole s.machine s.schedule s.calls ≡ Ok s
+seen_again s h = ap (λ codes. Ok (record { machine = s.machine; schedule = s.schedule; codes = codes; calls = s.calls })) (sym h)
+
+read_text : (s : ScriptSeen) → IsInForm s → read_from nothing_yet 1 (pieces (script_text s)) ≡ Ok s
+read_text s h =
+    let had = replicate 8 false in
+    let calls_are : replicate s.machine.lps [] ≡ no_calls s.calls = ap (λ n. replicate n []) (sym h.lists) ∙ none_called s.calls in
+    let P : List (List Call) → Type 0 = λ calls. (k : ℕ) → read_from (so_far s.machine None had s.schedule calls) k (pieces (blocks_text 0 s.calls)) ≡ whole s.machine s.schedule s.calls in
+    line_passed nothing_yet (so_far s.machine None had [] (replicate s.machine.lps [])) 1 (codes "machine") (s.machine.lps ∷ s.machine.pages ∷ s.machine.hkids ∷ []) (schedule_text s.schedule ++ blocks_text 0 s.calls) (record { bytes = refl; some = refl }) refl (machine_fits s h)
+    (machine_said s.machine (within_limits s.machine.lps s.machine.pages s.machine.hkids h.lps h.pages h.hkids))
+    ∙ schedule_passed s.machine had (replicate s.machine.lps []) s.schedule 2 (blocks_text 0 s.calls) (whole s.machine s.schedule s.calls) h.lps.1 h.items h.few_items
+    (subst P (sym calls_are) (λ k. blocks_passed s.machine s.schedule s.calls [] 0 had k refl (omega (arith, h.lists)) h.lps.1 (record { from = λ j le. all_free 8 j }) h.few_calls h.arguments))
+    ∙ seen_again s h.no_codes
 
 within : (bytes : List ℕ) → length bytes ≤ 2 ^ 24 → read_of bytes ≡ read_from nothing_yet 1 (pieces bytes)
 unfolding read_of
@@ -142,8 +223,25 @@ numbers_length (n ∷ ns) h =
     let more : length (numbers_text ns) ≤ 21 * length ns = numbers_length ns f.1 in
     simp length-append (omega arith)
 
+line_at_most : (w ns : List ℕ) (n : ℕ) → length (numbers_text ns) ≤ n → length (line_text w ns) ≤ length w + n + 1
+line_at_most w ns n h = simp length-append (omega arith)
+
 line_length : (w ns : List ℕ) → list_all fits ns ≡ true → length (line_text w ns) ≤ length w + 21 * length ns + 1
-line_length w ns h = let n : length (numbers_text ns) ≤ 21 * length ns = numbers_length ns h in simp length-append (omega arith)
+line_length w ns h = line_at_most w ns (21 * length ns) (numbers_length ns h)
+
+-- an item is a space and a digit
+items_length : (lps : ℕ) (ns : List ℕ) → lps ≤ 8 → All (λ lp. lp < lps) ns → length (numbers_text ns) ≤ 2 * length ns
+items_length lps [] few h = omega arith
+items_length lps (n ∷ ns) few h =
+    let small : n < lps = All-head (λ lp. lp < lps) n ns h in
+    let more : length (numbers_text ns) ≤ 2 * length ns = items_length lps ns few (All-tail (λ lp. lp < lps) n ns h) in
+    rw (decimal_digit n (omega arith)) (omega arith)
+
+schedule_length : (lps : ℕ) (ns : List ℕ) → lps ≤ 8 → All (λ lp. lp < lps) ns → length (schedule_text ns) ≤ 9 + 2 * length ns
+schedule_length lps [] few h = omega arith
+schedule_length lps (n ∷ ns) few h =
+    let line : length (line_text (codes "schedule") (n ∷ ns)) ≤ 8 + 2 * length (n ∷ ns) + 1 = line_at_most (codes "schedule") (n ∷ ns) (2 * length (n ∷ ns)) (items_length lps (n ∷ ns) few h) in
+    omega arith
 
 call_short : (c : Call) → (length (call_word c) ≤ 16) × (length (call_numbers c) ≤ 3)
 call_short (calls.HostRead a b) = (omega arith, omega arith)
@@ -151,25 +249,38 @@ call_short (calls.HostWrite a b c) = (omega arith, omega arith)
 call_short (calls.PhymemPageRdmd a) = (omega arith, omega arith)
 call_short (calls.MngCreate a b) = (omega arith, omega arith)
 
-calls_length : (cs : List Call) → list_all fits_call cs ≡ true → length (calls_text cs) ≤ 80 * length cs
+calls_length : (cs : List Call) → All FitsCall cs → length (calls_text cs) ≤ 80 * length cs
 calls_length [] h = omega arith
 calls_length (c ∷ cs) h =
-    let f = both (fits_call c) (list_all fits_call cs) h in
-    let one : length (line_text (call_word c) (call_numbers c)) ≤ length (call_word c) + 21 * length (call_numbers c) + 1 = line_length (call_word c) (call_numbers c) f.0 in
-    let more : length (calls_text cs) ≤ 80 * length cs = calls_length cs f.1 in
+    let one : length (line_text (call_word c) (call_numbers c)) ≤ length (call_word c) + 21 * length (call_numbers c) + 1 = line_length (call_word c) (call_numbers c) (all_fit (call_numbers c) (All-head FitsCall c cs h)) in
+    let more : length (calls_text cs) ≤ 80 * length cs = calls_length cs (All-tail FitsCall c cs h) in
     let short : (length (call_word c) ≤ 16) × (length (call_numbers c) ≤ 3) = call_short c in
     rw length-append (omega arith)
 
-joined : (a b c d : List ℕ) → length a ≤ 71 → length b ≤ 24 → length c ≤ 327680 → length d ≤ 4 → length (a ++ (b ++ (c ++ d))) ≤ 2 ^ 24
-joined a b c d p q r s = simp length-append (omega arith)
+joined : (a b c d : List ℕ) (n : ℕ) → length a ≤ 24 → length b ≤ 327680 → length c ≤ 4 → length d ≤ n → length (a ++ (b ++ (c ++ d))) ≤ 327708 + n
+joined a b c d n p q r s = simp length-append (omega arith)
 
-text_length : (pages hkids : ℕ) (cs : List Call) → pages ≤ 1024 → hkids ≤ 15 → length cs ≤ 4096 → list_all fits_call cs ≡ true → length (script_text pages hkids cs) ≤ 2 ^ 24
-text_length pages hkids cs a b few h =
-    let m : length (line_text (codes "machine") (1 ∷ pages ∷ hkids ∷ [])) ≤ 7 + 21 * 3 + 1 = line_length (codes "machine") (1 ∷ pages ∷ hkids ∷ []) (machine_fits pages hkids a b) in
-    let l : length (line_text (codes "lp") (0 ∷ [])) ≤ 2 + 21 * 1 + 1 = line_length (codes "lp") (0 ∷ []) refl in
+blocks_length : (more : List (List Call)) (lp : ℕ) → lp + length more ≤ 8 → All AreFew more → All (λ cs. All FitsCall cs) more → length (blocks_text lp more) ≤ 327708 * length more
+blocks_length [] lp below room h = omega arith
+blocks_length (cs ∷ more) lp below room h =
+    let few : length cs ≤ 4096 = All-head AreFew cs more room in
+    let l : length (line_text (codes "lp") (lp ∷ [])) ≤ 2 + 21 * 1 + 1 = line_length (codes "lp") (lp ∷ []) (one_fits lp [] (omega arith) refl) in
+    let c : length (calls_text cs) ≤ 80 * length cs = calls_length cs (All-head (λ cs. All FitsCall cs) cs more h) in
     let e : length (line_text (codes "end") []) ≤ 3 + 21 * 0 + 1 = line_length (codes "end") [] refl in
-    let c : length (calls_text cs) ≤ 80 * length cs = calls_length cs h in
-    joined (line_text (codes "machine") (1 ∷ pages ∷ hkids ∷ [])) (line_text (codes "lp") (0 ∷ [])) (calls_text cs) (line_text (codes "end") []) m l (omega arith) e
+    let b : length (blocks_text (lp + 1) more) ≤ 327708 * length more = blocks_length more (lp + 1) (omega arith) (All-tail AreFew cs more room) (All-tail (λ cs. All FitsCall cs) cs more h) in
+    let all : length (blocks_text lp (cs ∷ more)) ≤ 327708 + 327708 * length more = joined (line_text (codes "lp") (lp ∷ [])) (calls_text cs) (line_text (codes "end") []) (blocks_text (lp + 1) more) (327708 * length more) l (omega arith) e b in
+    omega arith
+
+whole_length : (a b c : List ℕ) (items lists : ℕ) → length a ≤ 71 → length b ≤ 9 + 2 * items → length c ≤ 327708 * lists → items ≤ 2 ^ 20 → lists ≤ 8 → length (a ++ (b ++ c)) ≤ 2 ^ 24
+whole_length a b c items lists p q r few short = simp length-append (omega arith)
+
+text_length : (s : ScriptSeen) → IsInForm s → length (script_text s) ≤ 2 ^ 24
+text_length s h =
+    let head = s.machine.lps ∷ s.machine.pages ∷ s.machine.hkids ∷ [] in
+    let m : length (line_text (codes "machine") head) ≤ 7 + 21 * 3 + 1 = line_length (codes "machine") head (machine_fits s h) in
+    let i : length (schedule_text s.schedule) ≤ 9 + 2 * length s.schedule = schedule_length s.machine.lps s.schedule h.lps.1 h.items in
+    let b : length (blocks_text 0 s.calls) ≤ 327708 * length s.calls = blocks_length s.calls 0 (omega (arith, h.lists)) h.few_calls h.arguments in
+    whole_length (line_text (codes "machine") head) (schedule_text s.schedule) (blocks_text 0 s.calls) (length s.schedule) (length s.calls) m i b h.few_items (omega (arith, h.lists, h.lps.1))
 
 pub spelled : ScriptsReadAgain
-spelled = record { read_again = λ pages hkids cs a b c d few h. within (script_text pages hkids cs) (text_length pages hkids cs b d few h) ∙ read_text pages hkids cs a b c d few h }
+spelled = record { read_again = λ s h. within (script_text s) (text_length s h) ∙ read_text s h }

@@ -1,5 +1,5 @@
 -- The words of a line that is written out, and its numbers.
-use Rattle.std.proofs.Common.{◌≡◌, ℕ, ◌+◌, ◌*◌, ◌/◌, ◌%◌, ◌^◌, ◌<◌, ◌≤◌, List, [], ◌∷◌, ◌++◌, length, map, Bool, true, false, not, cond, ◌==◌, ◌&&◌, Some, None, refl, ap, ◌∙◌, arith}
+use Rattle.std.proofs.Common.{◌≡◌, ℕ, zero, suc, ◌+◌, ◌*◌, ◌/◌, ◌%◌, ◌^◌, ◌<◌, ◌≤◌, List, [], ◌∷◌, ◌++◌, length, map, take, Bool, true, false, not, cond, ◌==◌, ◌&&◌, Some, None, refl, ap, ◌∙◌, arith}
 use Rattle.std.specs.Prelude.{nat_le, nat_lt, filter}
 use Rattle.std.specs.List.{list_all, slice_split}
 use Rattle.std.specs.Fmt.{decimal}
@@ -187,8 +187,9 @@ pieces_text w ns rest h k =
     rw append_assoc
     (cut_at (λ b. b == 10) (w ++ numbers_text ns) 10 rest (implied is_line_byte (λ b. not (b == 10)) unended (w ++ numbers_text ns) (line_bytes w ns h.bytes k)) refl)
 
-pub numbers_read : (ns : List ℕ) → list_all fits ns ≡ true → map number (map decimal ns) ≡ map Some ns
-numbers_read [] h = refl
-numbers_read (n ∷ ns) h =
+pub numbers_read : (k : ℕ) (ns : List ℕ) → list_all fits ns ≡ true → map number (take k (map decimal ns)) ≡ map Some (take k ns)
+numbers_read zero ns h = refl
+numbers_read (suc k) [] h = refl
+numbers_read (suc k) (n ∷ ns) h =
     let f = both (fits n) (list_all fits ns) h in
-    rw (number_decimal n (fits_below n f.0), numbers_read ns f.1) refl
+    rw (number_decimal n (fits_below n f.0), numbers_read k ns f.1) refl

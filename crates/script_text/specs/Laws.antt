@@ -1,19 +1,33 @@
 -- Laws of scripts in a reader's terms.
-use Rattle.std.specs.Prelude.{◌≡◌, ℕ, ◌+◌, ◌^◌, ◌<◌, ◌≤◌, List, [], ◌∷◌, ◌++◌, length, Ok, Err, true}
-use Rattle.std.specs.List.{list_all}
-use Rattle.td_words.specs.declared.calls.Call.{Call}
+use Rattle.std.specs.Prelude.{◌≡◌, ℕ, ◌+◌, ◌^◌, ◌<◌, ◌≤◌, List, [], ◌∷◌, ◌++◌, length, Ok, Err}
+use Rattle.std.specs.List.{All}
 use Rattle.script_text.specs.declared.faults.Reason.{Reason}
 use Rattle.script_text.specs.declared.faults.Reason.TheVariants as reason
 use Rattle.script_text.specs.declared.faults.ScriptFault.TheVariants.{Bad}
+use Rattle.script_text.specs.Seen.{ScriptSeen}
 use Rattle.script_text.specs.Words.{pieces}
 use Rattle.script_text.specs.Reading.{SoFar, nothing_yet, line_of, ended_of, read_of}
-use Rattle.script_text.specs.Spelling.{fits_call, one_processor, script_text}
+use Rattle.script_text.specs.Spelling.{FitsCall, script_text}
 
--- a script that is written out is read again as that script
+-- a script as the grammar has it: a machine within the limits, a schedule of its processors, and a list of calls for each
+pub record IsInForm (s : ScriptSeen) : Type 0 where
+  pub lps : (1 ≤ s.machine.lps) × (s.machine.lps ≤ 8)
+  pub pages : (8 ≤ s.machine.pages) × (s.machine.pages ≤ 1024)
+  pub hkids : (1 ≤ s.machine.hkids) × (s.machine.hkids ≤ 15)
+  pub items : All (λ lp. lp < s.machine.lps) s.schedule
+  pub few_items : length s.schedule ≤ 2 ^ 20
+  pub no_codes : s.codes ≡ []
+  pub lists : length s.calls ≡ s.machine.lps
+  pub few_calls : All (λ calls. length calls ≤ 4096) s.calls
+  pub arguments : All (λ calls. All FitsCall calls) s.calls
+
+-- each script that is read is in form
+pub record ScriptsAreInForm : Type 0 where
+  pub in_form : (bytes : List ℕ) (s : ScriptSeen) → read_of bytes ≡ Ok s → IsInForm s
+
+-- a script in form that is written out is read again as that script
 pub record ScriptsReadAgain : Type 0 where
-  pub read_again :
-      (pages hkids : ℕ) (calls : List Call) → 8 ≤ pages → pages ≤ 1024 → 1 ≤ hkids → hkids ≤ 15 → length calls ≤ 4096 → list_all fits_call calls ≡ true
-      → read_of (script_text pages hkids calls) ≡ Ok (one_processor pages hkids calls)
+  pub read_again : (s : ScriptSeen) → IsInForm s → read_of (script_text s) ≡ Ok s
 
 -- good lines, one after the other, and what they say
 pub data Good : List (List ℕ) → SoFar → Type 0 where

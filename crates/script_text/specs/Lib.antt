@@ -4,8 +4,8 @@ pub mod ReasonText
 pub mod Mnemonics
 pub mod Line
 pub mod Seen
+pub mod Schedule
 pub mod Reading
 pub mod Blocks
-pub mod Schedule
 pub mod Spelling
 pub mod Laws

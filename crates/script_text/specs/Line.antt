@@ -46,34 +46,23 @@ counted_of n numbers = if length numbers == n then Ok tt else Err reason.Count
 abbrev pub number_at : List (Option ℕ) → ℕ → Result ℕ Reason
 number_at numbers i = ok_or (slice_index_or numbers i None) reason.Number
 
-unfoldable pub one_of : List (Option ℕ) → Result ℕ Reason
-one_of numbers = do
-  _ ← counted_of 1 numbers
-  number_at numbers 0
-
-unfoldable pub three_of : List (Option ℕ) → Result (ℕ × ℕ × ℕ) Reason
-three_of numbers = do
-  _ ← counted_of 3 numbers
-  x ← number_at numbers 0
-  y ← number_at numbers 1
-  z ← number_at numbers 2
-  Ok (x, y, z)
-
 -- 1 to 8 processors, 8 to 1,024 pages, 1 to 15 HKIDs
 abbrev pub in_limits : ℕ → ℕ → ℕ → Bool
 in_limits lps pages hkids = nat_le 1 lps && nat_le lps 8 && nat_le 8 pages && nat_le pages 1024 && nat_le 1 hkids && nat_le hkids 15
 
--- a machine of more than one processor isn't built yet
 abbrev pub machine_in : ℕ → ℕ → ℕ → Result Entry Reason
 machine_in lps pages hkids =
     if not (in_limits lps pages hkids) then Err reason.Range
-    else if not (lps == 1) then Err reason.Unbuilt
     else Ok (entry.Machine (record { lps = lps; pages = pages; hkids = hkids }))
 
+-- `machine LPS PAGES HKIDS`
 unfoldable pub machine_of : List (Option ℕ) → Result Entry Reason
 machine_of numbers = do
-  m ← three_of numbers
-  machine_in m.0 m.1 m.2
+  _ ← counted_of 3 numbers
+  lps ← number_at numbers 0
+  pages ← number_at numbers 1
+  hkids ← number_at numbers 2
+  machine_in lps pages hkids
 
 abbrev pub block_in : Machine → List Bool → ℕ → Result Entry Reason
 block_in m had lp =
@@ -84,7 +73,8 @@ block_in m had lp =
 -- `lp L`, where `had` says which processors had a block
 unfoldable pub block_of : Machine → List Bool → List (Option ℕ) → Result Entry Reason
 block_of m had numbers = do
-  lp ← one_of numbers
+  _ ← counted_of 1 numbers
+  lp ← number_at numbers 0
   block_in m had lp
 
 unfoldable pub end_of : List (Option ℕ) → Result Entry Reason
@@ -123,11 +113,11 @@ abbrev pub first_of : Option Keyword → List (Option ℕ) → Result Entry Reas
 first_of (Some keyword.Machine) ns = machine_of ns
 first_of _ ns = Err reason.Machine
 
--- a later line outside blocks
+-- a later line outside blocks; the items of a schedule line aren't looked at here
 abbrev pub outside_of : Machine → List Bool → Option Keyword → List (Option ℕ) → Result Entry Reason
 outside_of m had (Some keyword.Machine) ns = Err reason.Machine
 outside_of m had (Some keyword.End) ns = Err reason.Place
-outside_of m had (Some keyword.Schedule) ns = Err reason.Unbuilt
+outside_of m had (Some keyword.Schedule) ns = Ok (entry.Schedule m.lps)
 outside_of m had (Some keyword.Code) ns = Err reason.Unbuilt
 outside_of m had (Some keyword.Lp) ns = block_of m had ns
 outside_of m had None ns = Err reason.Word
@@ -146,6 +136,6 @@ placed_of None block had word ns = first_of (keyword_of word) ns
 placed_of (Some m) None had word ns = outside_of m had (keyword_of word) ns
 placed_of (Some m) (Some lp) had word ns = inside_of lp (keyword_of word) word ns
 
--- what a line says that isn't skipped
+-- what a line says that isn't skipped, by its first word and the numbers behind it
 unfoldable pub entry_of : Stage → List ℕ → List (Option ℕ) → Result Entry Reason
 entry_of s word ns = placed_of s.machine s.block s.had word ns

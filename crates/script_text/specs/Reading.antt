@@ -12,19 +12,21 @@ use Rattle.script_text.specs.declared.lines.Stage.{Stage}
 use Rattle.script_text.specs.declared.drafts.Draft.{Draft}
 use Rattle.script_text.specs.Line.{entry_of, ◌>>=◌}
 use Rattle.script_text.specs.Number.{number}
+use Rattle.script_text.specs.Schedule.{schedule_of}
 use Rattle.script_text.specs.Words.{pieces, words, is_printable, is_comment}
 use Rattle.script_text.specs.Seen.{ScriptSeen}
 
 -- what the lines so far said
 pub record SoFar : Type 0 where
   pub stage : Stage
+  pub schedule : List ℕ  -- its items so far, written out
   pub calls : List (List Call)
 
 abbrev pub draft_seen : Draft → SoFar
-draft_seen d = record { stage = d.stage; calls = map (λ list. list.items) d.calls.items }
+draft_seen d = record { stage = d.stage; schedule = d.schedule.items; calls = map (λ list. list.items) d.calls.items }
 
 abbrev pub nothing_yet : SoFar
-nothing_yet = record { stage = record { machine = None; block = None; had = replicate 8 false }; calls = [] }
+nothing_yet = record { stage = record { machine = None; block = None; had = replicate 8 false }; schedule = []; calls = [] }
 
 -- at most 4,096 calls a processor
 abbrev pub with_call : List (List Call) → ℕ → Call → Result (List (List Call)) Reason
@@ -32,38 +34,42 @@ with_call calls lp c =
     if nat_le 4096 (length (slice_index_or calls lp [])) then Err reason.Full
     else Ok (slice_set calls lp (slice_index_or calls lp [] ++ c ∷ []))
 
--- a machine's processors have no calls yet; a block is open from its line to its `end`
-unfoldable pub entered_of : SoFar → Entry → Result SoFar Reason
-entered_of d (entry.Machine m) = Ok (record { stage = record { machine = Some m; block = d.stage.block; had = d.stage.had }; calls = replicate m.lps [] })
-entered_of d (entry.Open lp) = Ok (record { stage = record { machine = d.stage.machine; block = Some lp; had = slice_set d.stage.had lp true }; calls = d.calls })
-entered_of d entry.End = Ok (record { stage = record { machine = d.stage.machine; block = None; had = d.stage.had }; calls = d.calls })
-entered_of d (entry.Call lp c) = do
+-- a machine's processors have no calls yet; a block is open from its line to its `end`; the words behind the first are
+-- looked at as the items of a schedule line alone
+unfoldable pub entered_of : SoFar → Entry → List (List ℕ) → Result SoFar Reason
+entered_of d (entry.Machine m) words = Ok (record d { stage = record d.stage { machine = Some m }; calls = replicate m.lps [] })
+entered_of d (entry.Schedule lps) words = do
+  schedule ← schedule_of lps d.schedule words
+  Ok (record d { schedule = schedule })
+entered_of d (entry.Open lp) words = Ok (record d { stage = record d.stage { block = Some lp; had = slice_set d.stage.had lp true } })
+entered_of d entry.End words = Ok (record d { stage = record d.stage { block = None } })
+entered_of d (entry.Call lp c) words = do
   calls ← with_call d.calls lp c
-  Ok (record { stage = d.stage; calls = calls })
+  Ok (record d { calls = calls })
 
--- a line without words and a comment are skipped
+-- a line without words and a comment are skipped; five words behind the first tell whether there are too many of those
+-- that are counted
 unfoldable pub worded_of : SoFar → List (List ℕ) → Result SoFar Reason
 worded_of d [] = Ok d
 worded_of d (w ∷ ws) =
     if is_comment w then Ok d else do
-      e ← entry_of d.stage w (map number ws)
-      entered_of d e
+      e ← entry_of d.stage w (map number (take 5 ws))
+      entered_of d e ws
 
--- six words tell whether there are too many
 unfoldable pub line_of : SoFar → List ℕ → Result SoFar Reason
-line_of d line = if not (is_printable line) then Err reason.Byte else worded_of d (take 6 (words line))
+line_of d line = if not (is_printable line) then Err reason.Byte else worded_of d (words line)
 
 -- a script ends outside blocks, and has a machine
-abbrev pub script_of : Option Machine → Option ℕ → List (List Call) → ℕ → Result ScriptSeen ScriptFault
-script_of None block calls n = Err (Bad n reason.Machine)
-script_of (Some m) (Some lp) calls n = Err (Bad n reason.Endless)
-script_of (Some m) None calls n = Ok (record { machine = m; schedule = []; codes = []; calls = calls })
+abbrev pub script_of : Option Machine → Option ℕ → List ℕ → List (List Call) → ℕ → Result ScriptSeen ScriptFault
+script_of None block schedule calls n = Err (Bad n reason.Machine)
+script_of (Some m) (Some lp) schedule calls n = Err (Bad n reason.Endless)
+script_of (Some m) None schedule calls n = Ok (record { machine = m; schedule = schedule; codes = []; calls = calls })
 
 -- where the lines end; behind the last newline nothing may stand
 abbrev pub ended_of : SoFar → ℕ → List ℕ → Result ScriptSeen ScriptFault
 ended_of d n rest =
     if not (length rest == 0) then Err (Bad n reason.Unterminated)
-    else script_of d.stage.machine d.stage.block d.calls n
+    else script_of d.stage.machine d.stage.block d.schedule d.calls n
 
 -- a line's fault, at its number
 abbrev pub then_on : Result SoFar Reason → ℕ → (SoFar → Result ScriptSeen ScriptFault) → Result ScriptSeen ScriptFault

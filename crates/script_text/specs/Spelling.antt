@@ -1,6 +1,6 @@
 -- How a script is written: one word of its line, then each number in decimal behind a space, then a newline.
-use Rattle.std.specs.Prelude.{ℕ, ◌^◌, List, [], ◌∷◌, ◌++◌, Bool, nat_lt, codes}
-use Rattle.std.specs.List.{list_all}
+use Rattle.std.specs.Prelude.{ℕ, ◌+◌, ◌^◌, ◌<◌, List, [], ◌∷◌, ◌++◌, codes}
+use Rattle.std.specs.List.{All}
 use Rattle.std.specs.Fmt.{decimal}
 use Rattle.td_words.specs.declared.calls.Call.{Call}
 use Rattle.td_words.specs.declared.calls.Call.TheVariants as calls
@@ -26,18 +26,22 @@ call_numbers (calls.PhymemPageRdmd page) = page ∷ []
 call_numbers (calls.MngCreate tdr hkid) = tdr ∷ hkid ∷ []
 
 -- an argument is a number of 64 bits
-abbrev pub fits_call : Call → Bool
-fits_call c = list_all (λ n. nat_lt n (2 ^ 64)) (call_numbers c)
+abbrev pub FitsCall : Call → Type 0
+FitsCall c = All (λ n. n < 2 ^ 64) (call_numbers c)
 
 abbrev pub calls_text : List Call → List ℕ
 calls_text [] = []
 calls_text (c ∷ cs) = line_text (call_word c) (call_numbers c) ++ calls_text cs
 
--- a machine of one processor, and that processor's calls
-abbrev pub one_processor : ℕ → ℕ → List Call → ScriptSeen
-one_processor pages hkids calls = record { machine = record { lps = 1; pages = pages; hkids = hkids }; schedule = []; codes = []; calls = calls ∷ [] }
+-- one item for each turn; an empty schedule has no line
+abbrev pub schedule_text : List ℕ → List ℕ
+schedule_text [] = []
+schedule_text (lp ∷ lps) = line_text (codes "schedule") (lp ∷ lps)
 
-abbrev pub script_text : ℕ → ℕ → List Call → List ℕ
-script_text pages hkids calls =
-    line_text (codes "machine") (1 ∷ pages ∷ hkids ∷ [])
-    ++ (line_text (codes "lp") (0 ∷ []) ++ (calls_text calls ++ line_text (codes "end") []))
+-- a block for each processor, from lp on
+abbrev pub blocks_text : ℕ → List (List Call) → List ℕ
+blocks_text lp [] = []
+blocks_text lp (calls ∷ more) = line_text (codes "lp") (lp ∷ []) ++ (calls_text calls ++ (line_text (codes "end") [] ++ blocks_text (lp + 1) more))
+
+abbrev pub script_text : ScriptSeen → List ℕ
+script_text s = line_text (codes "machine") (s.machine.lps ∷ s.machine.pages ∷ s.machine.hkids ∷ []) ++ (schedule_text s.schedule ++ blocks_text 0 s.calls)

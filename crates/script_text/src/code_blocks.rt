@@ -1,10 +1,10 @@
 //! The first lines of guest code.
 
-ghost use Rattle.std.specs.Prelude.{◌≡◌, ◌<◌, slice_index_or, false};
+ghost use Rattle.std.specs.Prelude.{◌≡◌, ◌<◌};
 ghost use Rattle.script_text.specs.Blocks.{code_in, code_of};
 
 use crate::faults::Reason;
-use crate::lines::{check_count, number_of};
+use crate::lines::{check_count, is_marked, number_of};
 use td_words::Machine;
 
 /// The list of VCPU `index` (0 to 7) of the TD whose TDR is page `tdr`.
@@ -14,12 +14,6 @@ pub struct CodePlace {
     pub index: u8,
 }
 
-fn had_list(had: &[bool], place: usize) -> bool
-    ensures { result ≡ slice_index_or had.now place false }
-{
-    place < had.len() && had[place]
-}
-
 fn code_place(machine: Machine, had: &[bool], tdr: u64, index: u64) -> Result<CodePlace, Reason>
     ensures { result ≡ code_in machine had.now tdr index }
 {
@@ -27,7 +21,7 @@ fn code_place(machine: Machine, had: &[bool], tdr: u64, index: u64) -> Result<Co
         return Err(Reason::Range);
     }
     let (tdr, index) = (tdr as u16, index as u8);
-    if had_list(had, 8 * usize::from(tdr) + usize::from(index)) {
+    if is_marked(had, 8 * usize::from(tdr) + usize::from(index)) {
         return Err(Reason::Repeated);
     }
     Ok(CodePlace { tdr, index })

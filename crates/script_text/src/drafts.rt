@@ -1,20 +1,23 @@
 //! What the lines so far say.
 
-ghost use Rattle.std.specs.Prelude.{◌≡◌, map, take, replicate, [], slice_set, true, IfOk};
+ghost use Rattle.std.specs.Prelude.{◌≡◌, map, replicate, [], ◌∷◌, slice_set, true, IfOk};
 ghost use Rattle.script_text.specs.Line.{GivesAt};
 ghost use Rattle.script_text.specs.Reading.{draft_seen, with_call, entered_of, worded_of, line_of};
+ghost use Rattle.script_text.specs.Words.{words};
 
 use crate::faults::{Reason, ScriptFault, bad};
 use crate::lines::{Entry, Stage, entry_at};
-use crate::numbers::numbers;
-use crate::words::{first_words, is_comment, is_printable};
+use crate::numbers::first_numbers;
+use crate::schedules::schedule_line;
+use crate::words::{is_comment, is_printable, next_word};
 use std::alloc::{AllocError, Global};
 use td_words::Call;
 
-/// The state before the next line, and each processor's calls so far.
+/// The state before the next line, and the schedule's items and each processor's calls so far.
 #[derive(Drop)]
 pub struct Draft {
     pub stage: Stage,
+    pub schedule: Vec<u8>,
     pub calls: Vec<Vec<Call>>,
 }
 
@@ -54,8 +57,14 @@ fn add_call(calls: &mut Vec<Vec<Call>>, number: u64, lp: u8, call: Call) -> Resu
 }
 
 #[tactic(auto, unfolding(crate::specs::Reading::entered_of))]
-fn enter(draft: &mut Draft, alloc: Global, number: u64, entry: Entry) -> Result<(), ScriptFault>
-    ensures { GivesAt number (entered_of (draft_seen draft.old) entry) (draft_seen draft.new) result }
+fn enter(
+    draft: &mut Draft,
+    alloc: Global,
+    number: u64,
+    entry: Entry,
+    text: &[u8],
+) -> Result<(), ScriptFault>
+    ensures { GivesAt number (entered_of (draft_seen draft.old) entry (words text.now)) (draft_seen draft.new) result }
 {
     match entry {
         Entry::Machine(machine) => {
@@ -63,6 +72,7 @@ fn enter(draft: &mut Draft, alloc: Global, number: u64, entry: Entry) -> Result<
             draft.stage.machine = Some(machine);
             Ok(())
         }
+        Entry::Schedule(lps) => schedule_line(&mut draft.schedule, number, lps, text),
         Entry::Open(lp) => {
             mark(&mut draft.stage.had, lp);
             draft.stage.block = Some(lp);
@@ -76,27 +86,29 @@ fn enter(draft: &mut Draft, alloc: Global, number: u64, entry: Entry) -> Result<
     }
 }
 
+// A line's first word, and what stands behind it.
 #[tactic(auto, unfolding(crate::specs::Reading::worded_of))]
 fn take_words(
     draft: &mut Draft,
     alloc: Global,
     number: u64,
-    words: &[&[u8]],
+    word: &[u8],
+    text: &[u8],
 ) -> Result<(), ScriptFault>
-    ensures { GivesAt number (worded_of (draft_seen draft.old) (map (λ w. w.now) words.now)) (draft_seen draft.new) result }
+    ensures { GivesAt number (worded_of (draft_seen draft.old) (word.now ∷ words text.now)) (draft_seen draft.new) result }
 {
-    if words.is_empty() || is_comment(words[0]) {
+    if is_comment(word) {
         return Ok(());
     }
-    let numbers = numbers(alloc, &words[1..])?;
-    match entry_at(&draft.stage, words[0], &numbers) {
-        Ok(entry) => enter(draft, alloc, number, entry),
+    let numbers = first_numbers(alloc, text)?;
+    match entry_at(&draft.stage, word, &numbers) {
+        Ok(entry) => enter(draft, alloc, number, entry, text),
         Err(reason) => Err(bad(number, reason)),
     }
 }
 
 /// Takes in one line. After a fault the draft isn't read again.
-#[tactic(auto, unfolding(crate::specs::Reading::line_of))]
+#[tactic(auto, unfolding(crate::specs::Reading::line_of, crate::specs::Reading::worded_of))]
 pub fn take_line(
     draft: &mut Draft,
     alloc: Global,
@@ -108,6 +120,8 @@ pub fn take_line(
     if !is_printable(line) {
         return Err(bad(number, Reason::Byte));
     }
-    let words = first_words(alloc, line)?;
-    take_words(draft, alloc, number, &words)
+    match next_word(line) {
+        None => Ok(()),
+        Some((word, text)) => take_words(draft, alloc, number, word, text),
+    }
 }

@@ -1,9 +1,10 @@
 //! Arguments that the grammar judges: field names and output slots.
 
-ghost use Rattle.std.specs.Prelude.{◌≡◌, slice_index_or, false};
+ghost use Rattle.std.specs.Prelude.{◌≡◌};
 ghost use Rattle.script_text.specs.Blocks.{field_of, slot_place_of, slot_of};
 
 use crate::faults::Reason;
+use crate::lines::is_marked;
 use crate::mnemonics::{CallName, is};
 use td_words::ReadField;
 
@@ -39,12 +40,6 @@ pub fn slot_place(call: CallName) -> Option<usize>
     }
 }
 
-fn is_named(named: &[bool], slot: u64) -> bool
-    ensures { result ≡ slice_index_or named.now slot false }
-{
-    slot < named.len() as u64 && named[slot as usize]
-}
-
 /// The output slot that a number is: RANGE above 4,095, SLOT where an earlier line named it, as
 /// `named` says.
 pub fn output_slot(named: &[bool], number: u64) -> Result<u16, Reason>
@@ -53,7 +48,7 @@ pub fn output_slot(named: &[bool], number: u64) -> Result<u16, Reason>
     if number > 4095 {
         return Err(Reason::Range);
     }
-    if is_named(named, number) {
+    if is_marked(named, number as usize) {
         return Err(Reason::Slot);
     }
     Ok(number as u16)

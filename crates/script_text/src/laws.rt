@@ -1,8 +1,14 @@
 //! What the layers above may rest on, as contracts of functions that do nothing.
 
-ghost use Rattle.script_text.specs.Laws.{ScriptsReadAgain, FaultsAreFirst};
+ghost use Rattle.script_text.specs.Laws.{ScriptsAreInForm, ScriptsReadAgain, FaultsAreFirst};
 
-/// A script of one processor that is written out in decimal is read again as that script.
+/// Each script that is read has a machine within the limits, at most 2^20 schedule items, each one
+/// of its processors, and for each processor one list of at most 4,096 calls.
+pub fn scripts_are_in_form()
+    ensures { ScriptsAreInForm }
+{}
+
+/// A script in that form that is written out in decimal is read again as that script.
 pub fn scripts_read_again()
     ensures { ScriptsReadAgain }
 {}

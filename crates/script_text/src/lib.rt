@@ -1,12 +1,12 @@
-//! Scripts: from bytes to a machine and calls, or to the first bad line and its reason.
+//! Scripts: from bytes to a machine, a schedule and calls, or to the first bad line and its reason.
 //!
 //! A script is lines of words; this crate says what each line means and which reason counts where
 //! several hold. It stands on `td_words` alone. A layer above may use that `read_script` gives
-//! exactly what `specs/Reading.antt` defines, unless memory wasn't found, and the two laws: a
-//! script that is written out is read again (`scripts_read_again`), and a fault names the first
-//! bad line (`faults_are_first`). Four calls and machines of one processor are built; every other
-//! mnemonic, `schedule` and `code` are UNBUILT in a script. What their lines say is read by the
-//! public functions on schedule items, code heads, operands, fields and output slots.
+//! exactly what `specs/Reading.antt` defines, unless memory wasn't found, and the three laws: what
+//! is read is in form (`scripts_are_in_form`), a script in form that is written out is read again
+//! (`scripts_read_again`), and a fault names the first bad line (`faults_are_first`). Four calls
+//! are built; every other mnemonic, and `code`, is UNBUILT in a script. What their lines say is
+//! read by the public functions on code heads, operands, fields and output slots.
 #![tactic(auto)]
 
 mod code_blocks;
@@ -25,10 +25,9 @@ mod words;
 pub use code_blocks::{CodePlace, code_line};
 pub use faults::{Reason, ScriptFault};
 pub use fields::{field_at, output_slot, slot_place};
-pub use laws::{faults_are_first, scripts_read_again};
+pub use laws::{faults_are_first, scripts_are_in_form, scripts_read_again};
 pub use mnemonics::{CallName, Mnemonic, mnemonic_at};
 pub use operations::{OpName, Operand, check_operands, operation_at};
-pub use schedules::{Item, Turns, item_at, schedule_line, turns_of};
 pub use scripts::{Script, read_script};
 
 #[cfg(test)]

@@ -3,7 +3,7 @@
 ghost use Rattle.std.specs.Prelude.{◌≡◌, ◌<◌, length, is_some, slice_index_or, false};
 ghost use Rattle.std.specs.List.{list_all};
 ghost use Rattle.script_text.specs.Mnemonics.{mnemonics, mnemonic_in};
-ghost use Rattle.script_text.specs.Line.{keyword_of, counted_of, number_at, one_of, three_of, in_limits, machine_in, machine_of, block_in, block_of, end_of, argument, built_of, judged_of, call_of, first_of, outside_of, inside_of, entry_of};
+ghost use Rattle.script_text.specs.Line.{keyword_of, counted_of, number_at, in_limits, machine_in, machine_of, block_in, block_of, end_of, argument, built_of, judged_of, call_of, first_of, outside_of, inside_of, entry_of};
 
 use crate::faults::Reason;
 use crate::mnemonics::{CallName, Mnemonic, is, mnemonic_at};
@@ -32,6 +32,8 @@ pub struct Stage {
 #[derive(Clone, Copy, Debug, PartialEq, Eq)]
 pub enum Entry {
     Machine(Machine),
+    /// Schedule items follow, each of a processor below that number.
+    Schedule(u8),
     /// The block of that processor begins.
     Open(u8),
     End,
@@ -74,25 +76,6 @@ pub fn number_of(numbers: &[Option<u64>], i: usize) -> Result<u64, Reason>
     numbers[i].ok_or(Reason::Number)
 }
 
-#[tactic(auto, unfolding(crate::specs::Line::one_of))]
-fn one(numbers: &[Option<u64>]) -> Result<u64, Reason>
-    ensures { result ≡ one_of numbers.now }
-{
-    check_count(numbers, 1)?;
-    number_of(numbers, 0)
-}
-
-#[tactic(auto, unfolding(crate::specs::Line::three_of))]
-fn three(numbers: &[Option<u64>]) -> Result<(u64, u64, u64), Reason>
-    ensures { result ≡ three_of numbers.now }
-{
-    check_count(numbers, 3)?;
-    let first = number_of(numbers, 0)?;
-    let second = number_of(numbers, 1)?;
-    let third = number_of(numbers, 2)?;
-    Ok((first, second, third))
-}
-
 fn is_in_limits(lps: u64, pages: u64, hkids: u64) -> bool
     ensures { result ≡ in_limits lps pages hkids }
 {
@@ -105,9 +88,6 @@ fn machine_at(lps: u64, pages: u64, hkids: u64) -> Result<Entry, Reason>
     if !is_in_limits(lps, pages, hkids) {
         return Err(Reason::Range);
     }
-    if lps != 1 {
-        return Err(Reason::Unbuilt);
-    }
     Ok(Entry::Machine(Machine {
         lps: lps as u8,
         pages: pages as u16,
@@ -119,14 +99,18 @@ fn machine_at(lps: u64, pages: u64, hkids: u64) -> Result<Entry, Reason>
 fn machine_line(numbers: &[Option<u64>]) -> Result<Entry, Reason>
     ensures { result ≡ machine_of numbers.now }
 {
-    let (lps, pages, hkids) = three(numbers)?;
+    check_count(numbers, 3)?;
+    let lps = number_of(numbers, 0)?;
+    let pages = number_of(numbers, 1)?;
+    let hkids = number_of(numbers, 2)?;
     machine_at(lps, pages, hkids)
 }
 
-fn had_block(had: &[bool; 8], lp: u8) -> bool
-    ensures { result ≡ slice_index_or had.now lp false }
+/// Whether a place is marked; one past the end isn't.
+pub fn is_marked(marks: &[bool], place: usize) -> bool
+    ensures { result ≡ slice_index_or marks.now place false }
 {
-    usize::from(lp) < had.len() && had[usize::from(lp)]
+    place < marks.len() && marks[place]
 }
 
 fn block_at(machine: Machine, had: &[bool; 8], lp: u64) -> Result<Entry, Reason>
@@ -136,7 +120,7 @@ fn block_at(machine: Machine, had: &[bool; 8], lp: u64) -> Result<Entry, Reason>
         return Err(Reason::Range);
     }
     let lp = lp as u8;
-    if had_block(had, lp) {
+    if is_marked(had, usize::from(lp)) {
         return Err(Reason::Repeated);
     }
     Ok(Entry::Open(lp))
@@ -146,7 +130,8 @@ fn block_at(machine: Machine, had: &[bool; 8], lp: u64) -> Result<Entry, Reason>
 fn block_line(machine: Machine, had: &[bool; 8], numbers: &[Option<u64>]) -> Result<Entry, Reason>
     ensures { result ≡ block_of machine had.now numbers.now }
 {
-    let lp = one(numbers)?;
+    check_count(numbers, 1)?;
+    let lp = number_of(numbers, 0)?;
     block_at(machine, had, lp)
 }
 
@@ -241,7 +226,8 @@ fn outside_at(
     match keyword {
         Some(Keyword::Machine) => Err(Reason::Machine),
         Some(Keyword::End) => Err(Reason::Place),
-        Some(Keyword::Schedule) | Some(Keyword::Code) => Err(Reason::Unbuilt),
+        Some(Keyword::Schedule) => Ok(Entry::Schedule(machine.lps)),
+        Some(Keyword::Code) => Err(Reason::Unbuilt),
         Some(Keyword::Lp) => block_line(machine, had, numbers),
         None => Err(Reason::Word),
     }
@@ -263,7 +249,7 @@ fn inside_at(
     }
 }
 
-/// What a line says whose first word is that and whose other words are those numbers.
+/// What a line says whose first word is that and whose next words are those numbers.
 #[tactic(auto, unfolding(crate::specs::Line::entry_of))]
 pub fn entry_at(stage: &Stage, word: &[u8], numbers: &[Option<u64>]) -> Result<Entry, Reason>
     ensures { result ≡ entry_of stage.now word.now numbers.now }

@@ -1,7 +1,8 @@
 //! Numbers of a script.
 
-ghost use Rattle.std.specs.Prelude.{◌≡◌, map, IfOk};
+ghost use Rattle.std.specs.Prelude.{◌≡◌, map, take, IfOk};
 ghost use Rattle.script_text.specs.Number.{digit, number_on, digits_in, is_prefixed, number};
+ghost use Rattle.script_text.specs.Words.{words};
 
 use std::alloc::{AllocError, Global};
 
@@ -59,13 +60,14 @@ pub fn number(word: &[u8]) -> Option<u64>
     }
 }
 
-/// What words are as numbers.
-pub fn numbers(alloc: Global, words: &[&[u8]]) -> Result<Vec<Option<u64>>, AllocError>
-    ensures { IfOk result (λ v. v.items ≡ map number (map (λ w. w.now) words.now)) }
+/// What the first words of a text are as numbers, at most five: no line that counts its words has
+/// more than four behind its first, so five tell whether there are too many.
+pub fn first_numbers(alloc: Global, text: &[u8]) -> Result<Vec<Option<u64>>, AllocError>
+    ensures { IfOk result (λ v. v.items ≡ map number (take 5 (words text.now))) }
 {
-    let mut numbers = Vec::new(alloc);
-    for word in words {
-        numbers.push(number(word))?;
-    }
-    Ok(numbers)
+    text.split(|byte| *byte == b' ')
+        .filter(|word| !word.is_empty())
+        .take(5)
+        .map(number)
+        .collect(alloc)
 }

@@ -1,6 +1,6 @@
 //! The items of schedule lines.
 
-ghost use Rattle.std.specs.Prelude.{◌≡◌, ◌==◌, is_some, length, map, position};
+ghost use Rattle.std.specs.Prelude.{◌≡◌, is_some, map};
 ghost use Rattle.std.specs.List.{list_all};
 ghost use Rattle.script_text.specs.Number.{number};
 ghost use Rattle.script_text.specs.Line.{GivesAt};
@@ -9,7 +9,7 @@ ghost use Rattle.script_text.specs.Words.{words};
 
 use crate::faults::{Reason, ScriptFault, bad};
 use crate::numbers::number;
-use crate::words::next_word;
+use crate::words::{next_word, place_of};
 
 /// So many turns of a processor, one after the other.
 #[derive(Clone, Copy, Debug, PartialEq, Eq)]
@@ -27,12 +27,6 @@ pub struct Turns {
 
 const MOST_ITEMS: usize = 1 << 20;
 
-fn star_at(word: &[u8]) -> Option<usize>
-    ensures { result ≡ position (λ b. b == 42) word.now }
-{
-    word.iter().position(|byte| *byte == b'*')
-}
-
 fn item_from(lp: Option<u64>, times: Option<u64>) -> Option<Item>
     ensures { result ≡ item_from lp times }
 {
@@ -46,7 +40,7 @@ fn item_from(lp: Option<u64>, times: Option<u64>) -> Option<Item>
 pub fn item_at(word: &[u8]) -> Option<Item>
     ensures { result ≡ item_of word.now }
 {
-    match star_at(word) {
+    match place_of(word, b'*') {
         None => item_from(number(word), Some(1)),
         Some(star) => item_from(number(&word[..star]), number(&word[star + 1..])),
     }
@@ -67,18 +61,6 @@ pub fn turns_of(lps: u8, item: Option<Item>) -> Option<Turns>
     }
 }
 
-fn is_turns(lps: u8, word: &[u8]) -> bool
-    ensures { result ≡ is_some (turns_in lps word.now) }
-{
-    turns_of(lps, item_at(word)).is_some()
-}
-
-fn has_no_word(text: &[u8]) -> bool
-    ensures { result ≡ (length (words text.now) == 0) }
-{
-    next_word(text).is_none()
-}
-
 fn are_items(text: &[u8]) -> bool
     ensures { result ≡ list_all (λ w. is_some (item_of w)) (words text.now) }
 {
@@ -97,7 +79,7 @@ fn are_in_range(lps: u8, text: &[u8]) -> bool
 {
     let mut rest = text;
     while let Some((word, more)) = next_word(rest) {
-        if !is_turns(lps, word) {
+        if turns_of(lps, item_at(word)).is_none() {
             return false;
         }
         rest = more;
@@ -142,7 +124,7 @@ pub fn schedule_line(
 ) -> Result<(), ScriptFault>
     ensures { GivesAt line (schedule_of lps schedule.old.items (words text.now)) schedule.new.items result }
 {
-    if has_no_word(text) {
+    if next_word(text).is_none() {
         return Err(bad(line, Reason::Count));
     }
     if !are_items(text) {

@@ -44,7 +44,7 @@ fn ended(alloc: Global, draft: Draft, number: u64, rest: &[u8]) -> Result<Script
         Some(_) => Err(bad(number, Reason::Endless)),
         None => Ok(Script {
             machine,
-            schedule: Vec::new(alloc),
+            schedule: draft.schedule,
             codes: Vec::new(alloc),
             calls: draft.calls,
         }),
@@ -61,6 +61,7 @@ fn read_lines(alloc: Global, bytes: &[u8]) -> Result<Script, ScriptFault>
             block: None,
             had: [false; 8],
         },
+        schedule: Vec::new(alloc),
         calls: Vec::new(alloc),
     };
     let mut number = 1;

@@ -1,15 +1,14 @@
 //! Lines and words.
 
-ghost use Rattle.std.specs.Prelude.{◌≡◌, ◌≢◌, ◌<◌, ◌≤◌, slice_index, ◌==◌, [], ◌∷◌, length, map, position, take, IfOk, MatchOption};
+ghost use Rattle.std.specs.Prelude.{◌≡◌, ◌≢◌, ◌<◌, ◌≤◌, slice_index, ◌==◌, [], ◌∷◌, length, map, position, MatchOption};
 ghost use Rattle.std.specs.List.{slice_split};
 ghost use Rattle.script_text.specs.Words.{pieces, words, is_printable, is_comment};
 
-use std::alloc::{AllocError, Global};
-
-fn newline_at(bytes: &[u8]) -> Option<usize>
-    ensures { result ≡ position (λ b. b == 10) bytes.now }
+/// The first place at which that byte stands.
+pub fn place_of(bytes: &[u8], byte: u8) -> Option<usize>
+    ensures { result ≡ position (λ b. b == byte) bytes.now }
 {
-    bytes.iter().position(|byte| *byte == b'\n')
+    bytes.iter().position(|b| *b == byte)
 }
 
 /// The first line, and what stands behind its newline. None exactly where no newline stands.
@@ -18,14 +17,8 @@ pub fn first_line(bytes: &[u8]) -> Option<(&[u8], &[u8])>
     ensures cut { MatchOption result (pieces bytes.now ≡ bytes.now ∷ []) (λ x. pieces bytes.now ≡ x.0.now ∷ pieces x.1.now) }
     ensures shorter { MatchOption result Unit (λ x. length x.1.now < length bytes.now) }
 {
-    let end = newline_at(bytes)?;
+    let end = place_of(bytes, b'\n')?;
     Some((&bytes[..end], &bytes[end + 1..]))
-}
-
-fn space_at(bytes: &[u8]) -> Option<usize>
-    ensures { result ≡ position (λ b. b == 32) bytes.now }
-{
-    bytes.iter().position(|byte| *byte == b' ')
 }
 
 fn without_front_spaces(bytes: &[u8]) -> &[u8]
@@ -47,7 +40,7 @@ fn word_and_rest(text: &[u8]) -> (&[u8], &[u8])
     ensures cut { words text.now ≡ result.0.now ∷ words result.1.now }
     ensures shorter { length result.1.now < length text.now }
 {
-    match space_at(text) {
+    match place_of(text, b' ') {
         None => (text, &text[text.len()..]),
         Some(end) => (&text[..end], &text[end + 1..]),
     }
@@ -64,17 +57,6 @@ pub fn next_word(bytes: &[u8]) -> Option<(&[u8], &[u8])>
         return None;
     }
     Some(word_and_rest(text))
-}
-
-/// The first words of a line, at most six: no line that counts its words has more than five, so
-/// six tell whether there are too many.
-pub fn first_words(alloc: Global, line: &[u8]) -> Result<Vec<&[u8]>, AllocError>
-    ensures { IfOk result (λ v. map (λ x. x.now) v.items ≡ take 6 (words line.now)) }
-{
-    line.split(|byte| *byte == b' ')
-        .filter(|word| !word.is_empty())
-        .take(6)
-        .collect(alloc)
 }
 
 /// Whether each byte is printable ASCII.

@@ -1,0 +1,4 @@
+pub mod Lowering
+pub mod Turning
+pub mod Keeping
+pub mod Calls

@@ -1,0 +1,7 @@
+pub mod Table
+pub mod Leaves
+pub mod Bounds
+pub mod Running
+pub mod Kept
+pub mod States
+pub mod Laws

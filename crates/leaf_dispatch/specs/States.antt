@@ -1,0 +1,15 @@
+-- What contracts see of a logical processor with its calls.
+use Rattle.std.specs.Prelude.{◌≡◌, List}
+use Rattle.leaf_engine.specs.declared.events.Event.{Event}
+use Rattle.leaf_engine.specs.OwnLists.{Piece, WordLp, LpTurns}
+use Rattle.leaf_dispatch.specs.Table.{task_of}
+use Rattle.leaf_dispatch.specs.Running.{run_seen}
+use Rattle.leaf_dispatch.specs.declared.states.LpState.{LpState}
+
+-- where it is in its calls
+abbrev pub seen_of : LpState → WordLp
+seen_of s = record { lines = s.lines.now; run = run_seen s.run; replies = s.replies.items }
+
+-- its next turn is this event, in these pieces, of a processor whose calls have the leaves of the table
+abbrev pub Moves : LpState → Event → List Piece → LpState → Type 0
+Moves s e ps t = (t.place ≡ s.place) × LpTurns (task_of s.place) s.place.machine (seen_of s) e ps (seen_of t)

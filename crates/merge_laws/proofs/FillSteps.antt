@@ -1,0 +1,347 @@
+-- A leaf that stores before its act: its fills, store by store, and then its act.
+use Rattle.std.proofs.Common.{◌≡◌, ◌⊎◌, ℕ, zero, suc, ◌+◌, ◌-◌, ◌^◌, ◌<◌, Bool, true, false, ◌==◌, cond, if◌then◌else◌, List, [], ◌∷◌, ◌++◌, map, length, Option, Some, None, refl, ap, sym, ◌∙◌, subst, inl, inr, arith, append_assoc}
+use Rattle.std.proofs.lemmas.Bool.{eqb-true}
+use Rattle.std.proofs.lemmas.List.{append-nil}
+use Rattle.td_words.specs.declared.machines.Machine.{Machine}
+use Rattle.td_words.specs.declared.calls.Call.{Call}
+use Rattle.td_words.specs.declared.replies.Reply.{Reply}
+use Rattle.td_words.specs.Place.{WordPlace, IsIn, address, same_place}
+use Rattle.mrtd_measure.specs.declared.measures.Measure.{Measure}
+use Rattle.flat_core.specs.World.{World, put}
+use Rattle.flat_core.specs.Opening.{Opening}
+use Rattle.flat_core.specs.Table.{row_of}
+use Rattle.flat_core.specs.Event.{State, event}
+use Rattle.word_rules.specs.Guards.{Apart, Grip}
+use Rattle.word_rules.specs.Rules.{Grade, KeepsNothing, KeepsPage, KeepsRights, Whole, spares}
+use Rattle.word_rules.specs.Permissions.{Reads, Owes, Fills}
+use Rattle.lock_words.specs.LockWords.{put_word}
+use Rattle.step_core.specs.declared.steps.WordStep.{WordStep}
+use Rattle.step_core.specs.declared.steps.WordStep.TheVariants as step
+use Rattle.step_core.specs.Words.{after_step, answer_of}
+use Rattle.step_core.specs.Items.{Table, Taken, Stepped, Swapped, Missed}
+use Rattle.leaf_engine.specs.declared.events.Event.TheVariants as events
+use Rattle.leaf_engine.specs.declared.events.Stage.TheVariants as stages
+use Rattle.leaf_engine.specs.declared.needs.Need.TheVariants as need
+use Rattle.leaf_engine.specs.Changes.{Memory, Change, is_plain, are_plain, changed, changed_all}
+use Rattle.leaf_engine.specs.Trees.{Tree, End, feed, settle, changes_of}
+use Rattle.leaf_engine.specs.Decides.{Gives}
+use Rattle.leaf_engine.specs.Means.{MayFillAll, MayAct, MayOweAll}
+use Rattle.leaf_engine.specs.Items.{IsChanged, AreChanged}
+use Rattle.leaf_engine.specs.Turns.{Standing, standing, last_reply}
+use Rattle.leaf_engine.specs.OwnLists.{Piece, Quiet, Marked, Wordless, joined, marked_behind, WordLp, after_turn, OwnTurns}
+use Rattle.leaf_engine.proofs.Changing.{word_put}
+use Rattle.merge_laws.proofs.Stores.{Due, due, last_at, later, or_else, laid-none, laid-same, last-append, last-each, each-append, EachDue, OwesAt, FillsAt, AreStores, stores_of, all_stores, owed-items}
+use Rattle.merge_laws.proofs.Filling.{Todo, Puts, Takes, all_todos, AreTodos, dues_of, EachTodo, dues-same, fills-due}
+use Rattle.merge_laws.proofs.Keeping.{and_parts}
+use Rattle.merge_laws.proofs.Holding.{bare}
+use Rattle.merge_laws.proofs.Standing.{Laws, leaf_for, Fill, Position, seen_by, back, FillHolds, Pending, RestFilling, StandsAt, on_table, Holds, Stands}
+use Rattle.merge_laws.proofs.Own.{at-own, at-other, whole, apart-from, none-due, NobodyElse}
+use Rattle.merge_laws.proofs.LockSteps.{turned-round}
+use Rattle.merge_laws.proofs.Ending.{AtEnd, plain-parts, filled_of, first_of, owes_of, HasFilled}
+use Rattle.merge_laws.proofs.QuietSteps.{rearranged, store-step}
+use Rattle.merge_laws.proofs.Pieces.{Came, came-as, answers-as, PieceAnswers}
+use Rattle.merge_laws.proofs.LockPieces.{AtTurn}
+use Rattle.merge_laws.proofs.EndPieces.{EndMay, end-may, end-moved, rest-owed, ActItem, act-item, act-table}
+use Rattle.merge_laws.proofs.Turns.{told-tree}
+
+-- it stays where it is, but for its fills
+abbrev pub filling_at : (pos : ℕ → Position) (p : ℕ) → Call → List Call → Standing → List Due → Fill → Position
+filling_at pos p c cs run owes f = record { at = record { lines = c ∷ cs; run = Some run; replies = (pos p).at.replies }; owes = owes; fill = Some f }
+
+stands-filling : (o : Opening) (trees : ℕ → Call → Tree) (s : State) (mem : Memory) (t : Table) (pos : ℕ → Position) (p : ℕ) (c : Call) (cs : List Call) (run : Standing) → AtTurn o trees s mem t pos p c cs run
+    → StandsAt o trees p s.world mem.words (s.lps p) (record { lines = c ∷ cs; run = Some run; replies = (pos p).at.replies })
+stands-filling o trees s mem t pos p c cs run a = record { lines = a.lines; replies = a.replies; run = a.runs }
+
+seen-more : (made : List Due) (d : Due) (words : WordPlace → ℕ) (r : WordPlace) → seen_by (made ++ d ∷ []) words r ≡ put_word (seen_by made words) d.at d.word r
+seen-more made d words r = ap (λ (z : Option ℕ). or_else z (words r)) (last-append made (d ∷ []) r) ∙ by (same_place r d.at) (last_at made r)
+  where
+    by : (b : Bool) (x : Option ℕ) → or_else (later (if b then Some d.word else None) x) (words r) ≡ (if b then d.word else or_else x (words r))
+    by true x = refl
+    by false x = refl
+
+-- one store of it
+fill-store : (ls : Laws) (o : Opening) (trees : ℕ → Call → Tree) (s : State) (mem : Memory) (t : Table) (pos : ℕ → Position) (p : ℕ) (c : Call) (cs : List Call) (run : Standing) (f : Fill) (d : Due) (ts : List Todo) → (a : AtTurn o trees s mem t pos p c cs run)
+    → f.left ≡ Puts d ∷ ts → FillHolds o.machine (bare (s.lps p).call.held) s.world mem.words (on_table o.machine t) (pos p).owes (Some run) f
+    → Stands o trees s mem (record t { words = after_step t.words (step.Store (address o.machine.pages d.at) d.word) })
+    (put pos p (filling_at pos p c cs run ((pos p).owes ++ due d.at (mem.words d.at) ∷ []) (record f { made = f.made ++ d ∷ []; left = ts })))
+fill-store ls o trees s mem t pos p c cs run f d ts a left h =
+    store-step ls o trees s mem t pos p d now a.all a.inside may.0.0
+    (record {
+      owes = λ k j e g owes. (ls.words mine (bare (s.lps k).call.held) s.world (turned-round (bare (s.lps k).call.held) mine (apart k j e))).fills_owes d.at g may.0.1 owes;
+      fills = λ k j e fills. (ls.words (bare (s.lps k).call.held) mine s.world (apart k j e)).fills_fills d.at fills may.0.1;
+    })
+    (record {
+      stands = stands-filling o trees s mem t pos p c cs run a;
+      due = record {
+        at_end = h.at_end;
+        made_may = each-append (FillsAt m mine s.world) f.made (d ∷ []) h.made_may (may.0, tt);
+        left_may = may.1;
+        all_may = h.all_may;
+        stores =
+            append_assoc f.made (d ∷ []) (dues_of ts (seen_by (f.made ++ d ∷ []) mem.words))
+            ∙ (ap (λ (z : List Due). f.made ++ d ∷ z) (dues-same m mine s.world ts (seen_by (f.made ++ d ∷ []) mem.words) (put_word (seen_by f.made mem.words) d.at d.word) may.1 (λ q in_q reads. seen-more f.made d mem.words q))
+            ∙ (ap (λ (z : List Todo). f.made ++ dues_of z (seen_by f.made mem.words)) (sym left) ∙ h.stores));
+        there = there;
+        undo = undo;
+      };
+    })
+    (λ r in_r e was. ap mem.words ((ls.places.same r d.at).0 e) ∙ sym (ap (λ (z : Option ℕ). or_else z d.word) (undone r ∙ ap (λ (b : Bool). later (if b then Some (mem.words d.at) else None) (last_at (pos p).owes r)) e)))
+    (λ r e. undone r ∙ ap (λ (b : Bool). later (if b then Some (mem.words d.at) else None) (last_at (pos p).owes r)) e)
+  where
+    m : Machine
+    m = o.machine
+
+    mine : Grip
+    mine = bare (s.lps p).call.held
+
+    t' : Table
+    t' = record t { words = after_step t.words (step.Store (address m.pages d.at) d.word) }
+
+    now : Position
+    now = filling_at pos p c cs run ((pos p).owes ++ due d.at (mem.words d.at) ∷ []) (record f { made = f.made ++ d ∷ []; left = ts })
+
+    may : EachTodo m mine s.world (Puts d ∷ ts)
+    may = subst (λ (z : List Todo). EachTodo m mine s.world z) left h.left_may
+
+    apart : (k : ℕ) → k < length o.calls → (k == p) ≡ false → Apart (bare (s.lps k).call.held) mine
+    apart k j e = apart-from ls o trees s mem t pos p k (s.lps k).call.held a.known a.all a.inside j e (whole (s.lps k).call.held)
+
+    undone : (r : WordPlace) → last_at ((pos p).owes ++ due d.at (mem.words d.at) ∷ []) r ≡ later (if same_place r d.at then Some (mem.words d.at) else None) (last_at (pos p).owes r)
+    undone r = last-append (pos p).owes (due d.at (mem.words d.at) ∷ []) r
+
+    made-more : (r : WordPlace) → last_at (f.made ++ d ∷ []) r ≡ later (if same_place r d.at then Some d.word else None) (last_at f.made r)
+    made-more r = last-append f.made (d ∷ []) r
+
+    stored-at : (r : WordPlace) → IsIn m r → on_table m t' r ≡ put_word (on_table m t) d.at d.word r
+    stored-at r in_r = word_put ls.places m t.words t'.words (on_table m t) d.at d.word may.0.0 refl (λ x in_x. refl) r in_r
+
+    there : (r : WordPlace) (x : ℕ) → IsIn m r → last_at (f.made ++ d ∷ []) r ≡ Some x → on_table m t' r ≡ x
+    there r x in_r e = by (same_place r d.at) refl
+      where
+        by : (b : Bool) → same_place r d.at ≡ b → on_table m t' r ≡ x
+        by true z =
+            let last : Some d.word ≡ Some x = sym (made-more r ∙ ap (λ (b : Bool). later (if b then Some d.word else None) (last_at f.made r)) z) ∙ e in
+            let w : d.word ≡ x = cc in
+            stored-at r in_r ∙ (ap (λ (b : Bool). if b then d.word else on_table m t r) z ∙ w)
+        by false z =
+            let last : last_at f.made r ≡ Some x = sym (made-more r ∙ ap (λ (b : Bool). later (if b then Some d.word else None) (last_at f.made r)) z) ∙ e in
+            stored-at r in_r ∙ (ap (λ (b : Bool). if b then d.word else on_table m t r) z ∙ h.there r x in_r last)
+
+    undo : (r : WordPlace) → last_at ((pos p).owes ++ due d.at (mem.words d.at) ∷ []) r ≡ back (last_at (f.made ++ d ∷ []) r) (mem.words r)
+    undo r = undone r ∙ (by (same_place r d.at) refl ∙ ap (λ (z : Option ℕ). back z (mem.words r)) (sym (made-more r)))
+      where
+        by : (b : Bool) → same_place r d.at ≡ b
+            → later (if same_place r d.at then Some (mem.words d.at) else None) (last_at (pos p).owes r) ≡ back (later (if same_place r d.at then Some d.word else None) (last_at f.made r)) (mem.words r)
+        by true e =
+            let r-is : d.at ≡ r = sym ((ls.places.same r d.at).0 e) in
+            ap (λ (b : Bool). later (if b then Some (mem.words d.at) else None) (last_at (pos p).owes r)) e
+            ∙ (ap (λ (z : WordPlace). Some (mem.words z)) r-is ∙ sym (ap (λ (b : Bool). back (later (if b then Some d.word else None) (last_at f.made r)) (mem.words r)) e))
+        by false e =
+            ap (λ (b : Bool). later (if b then Some (mem.words d.at) else None) (last_at (pos p).owes r)) e
+            ∙ (h.undo r ∙ sym (ap (λ (b : Bool). back (later (if b then Some d.word else None) (last_at f.made r)) (mem.words r)) e))
+
+never-spared : (k : Grade) → spares k Whole ≡ false
+never-spared KeepsNothing = refl
+never-spared KeepsPage = refl
+never-spared KeepsRights = refl
+
+-- one word that it copies is loaded, as it sees it
+fill-seen : (ls : Laws) (o : Opening) (trees : ℕ → Call → Tree) (s : State) (mem : Memory) (t : Table) (pos : ℕ → Position) (p : ℕ) (c : Call) (cs : List Call) (run : Standing) (f : Fill) (q : WordPlace) → AtTurn o trees s mem t pos p c cs run
+    → FillHolds o.machine (bare (s.lps p).call.held) s.world mem.words (on_table o.machine t) (pos p).owes (Some run) f → IsIn o.machine q → Reads (bare (s.lps p).call.held) s.world q Whole → on_table o.machine t q ≡ seen_by f.made mem.words q
+fill-seen ls o trees s mem t pos p c cs run f q a h in_q reads = by (last_at f.made q) refl
+  where
+    mine : Grip
+    mine = bare (s.lps p).call.held
+
+    by : (x : Option ℕ) → last_at f.made q ≡ x → on_table o.machine t q ≡ seen_by f.made mem.words q
+    by (Some x) e = h.there q x in_q e ∙ sym (ap (λ (z : Option ℕ). or_else z (mem.words q)) e)
+    by None e =
+        sym (ap (λ (z : Option ℕ). or_else z (mem.words q)) e
+        ∙ (a.all.laid_is q in_q ∙ laid-none (length o.calls) (λ k. (pos k).owes) (on_table o.machine t) q none-at))
+      where
+        none-at : (k : ℕ) → k < length o.calls → last_at (pos k).owes q ≡ None
+        none-at k j = test (k == p) refl
+          where
+            test : (b : Bool) → (k == p) ≡ b → last_at (pos k).owes q ≡ None
+            test true z = (let k-is : k ≡ p = eqb-true k p z in ap (λ (y : ℕ). last_at (pos y).owes q) k-is ∙ (h.undo q ∙ ap (λ (y : Option ℕ). back y (mem.words q)) e))
+            test false z =
+                none-due ls o trees s mem t pos p q a.known a.all a.inside
+                (record {
+                  owes = λ hs g apart owes. (ls.words mine (bare hs) s.world (turned-round (bare hs) mine apart)).reads_owes q Whole g (never-spared g) reads owes;
+                  fills = λ hs apart fills. (ls.words (bare hs) mine s.world apart).fills_reads q Whole fills reads;
+                }) k j z
+
+-- the act behind its fills
+act-piece : (ls : Laws) (o : Opening) (trees : ℕ → Call → Tree) (s : State) (mem : Memory) (t : Table) (pos : ℕ → Position) (p : ℕ) (c : Call) (cs : List Call) (run after : Standing) (f : Fill) (act : List Taken) (tps : List (List Piece)) (end_ : WordLp)
+    (piece : Piece) (ps : List Piece) → (a : AtTurn o trees s mem t pos p c cs run) → f.left ≡ [] → FillHolds o.machine (bare (s.lps p).call.held) s.world mem.words (on_table o.machine t) (pos p).owes (Some run) f
+    → AreChanged o.machine f.changes None act None → after ≡ standing (End f.reply f.fills f.changes) (stages.Answered f.reply) run.held None
+    → OwnTurns (leaf_for o trees p) o.machine (after_turn c cs (pos p).at.replies after (last_reply after.stage after.held)) tps end_
+    → marked_behind 0 act ++ joined tps ≡ piece ∷ ps → PieceAnswers t piece → Came o trees p s t pos piece ps end_
+act-piece ls o trees s mem t pos p c cs run after f act tps end_ piece ps a left h ch after_is own hd an = by f.changes refl
+  where
+    m : Machine
+    m = o.machine
+
+    mine : Grip
+    mine = bare (s.lps p).call.held
+
+    st : run.stage ≡ stages.Trying
+    st = h.at_end.0
+
+    told : List ℕ
+    told = (a.runs.call.told st).told
+
+    tree-is : feed (trees p c) told ≡ End f.reply f.fills f.changes
+    tree-is = sym (told-tree o trees s mem t pos p c cs run a st) ∙ ap settle h.at_end.1
+
+    en : AtEnd o trees s mem p c told told f.reply run after (record { event = events.Act; reply = last_reply after.stage after.held })
+    en = record {
+      current = (a.runs.call.told st).current;
+      locks = refl;
+      gives = subst (λ (z : Tree). Gives m.pages z (need.Verdict f.reply)) (sym tree-is) refl;
+      answered = ap (λ (z : Standing). z.stage) after_is;
+      held = ap (λ (z : Standing). z.held) after_is;
+      no_hasher = ap (λ (z : Standing). z.hasher) after_is;
+      last = refl;
+    }
+
+    plain : (are_plain f.fills ≡ true) × (are_plain f.changes ≡ true)
+    plain = plain-parts f.fills f.changes (subst (λ (z : Tree). are_plain (changes_of z) ≡ true) tree-is (a.are.plain p c told))
+
+    may : EndMay m mine s.world ((row_of o p c).act s.world) mem (End f.reply f.fills f.changes)
+    may = subst (λ (z : Tree). EndMay m mine s.world ((row_of o p c).act s.world) mem z) tree-is (end-may o trees s mem t pos p c cs told f.reply run after (record { event = events.Act; reply = last_reply after.stage after.held }) a st en)
+
+    fills-may : (ds : List Change) → EndMay m mine s.world ((row_of o p c).act s.world) mem (End f.reply f.fills ds) → MayFillAll m mine s.world f.fills
+    fills-may [] e = e
+    fills-may (c1 ∷ ds) e = e.0
+
+    made-is : f.made ≡ all_stores f.fills mem
+    made-is =
+        sym (append-nil f.made)
+        ∙ (ap (λ (z : List Todo). f.made ++ dues_of z (seen_by f.made mem.words)) (sym left) ∙ (h.stores ∙ fills-due ls.places m mine s.world f.fills mem (fills-may f.changes may)))
+
+    has : HasFilled o t pos p mem (all_stores f.fills mem)
+    has = record {
+      there = λ r x in_r e. h.there r x in_r (ap (λ (ds : List Due). last_at ds r) made-is ∙ e);
+      undo = λ r. h.undo r ∙ ap (λ (ds : List Due). back (last_at ds r) (mem.words r)) made-is;
+    }
+
+    has-tree : HasFilled o t pos p mem (filled_of (feed (trees p c) told) mem)
+    has-tree = subst (λ (z : Tree). HasFilled o t pos p mem (filled_of z mem)) (sym tree-is) has
+
+    by : (ds : List Change) → f.changes ≡ ds → Came o trees p s t pos piece ps end_
+    by [] e =
+        let none : act ≡ [] = (subst (λ (z : List Change). AreChanged m z None act None) e ch).1 in
+        let hd' : Wordless ∷ joined tps ≡ piece ∷ ps = ap (λ (z : List Taken). marked_behind 0 z ++ joined tps) (sym none) ∙ hd in
+        let ended : feed (trees p c) told ≡ End f.reply f.fills [] = tree-is ∙ ap (End f.reply f.fills) e in
+        let moved = end-moved ls o trees s mem t t pos p c cs told f.reply run after (record { event = events.Act; reply = last_reply after.stage after.held }) a st en has-tree
+        (λ y in_y. ap (λ (z : Tree). or_else (last_at (first_of z mem) y) (t.words (address m.pages y))) {x = End f.reply f.fills []} {y = feed (trees p c) told} (sym ended)) refl in
+        came-as o trees p s t pos Wordless piece (joined tps) ps end_ hd'
+        (record {
+          memory = moved.memory;
+          now = record { at = after_turn c cs (pos p).at.replies after (last_reply after.stage after.held); owes = owes_of (feed (trees p c) told) mem; fill = None };
+          stands = moved.stands;
+          rest = rest-owed o trees p (after_turn c cs (pos p).at.replies after (last_reply after.stage after.held)) [] (owes_of (feed (trees p c) told) mem) tps end_
+              (subst (λ (z : Tree). AreStores m.pages [] (owes_of z mem)) (sym ended) tt) own;
+        })
+    by (c1 ∷ ds) e =
+        let ended : feed (trees p c) told ≡ End f.reply f.fills (c1 ∷ ds) = tree-is ∙ ap (End f.reply f.fills) e in
+        let all = subst (λ (z : List Change). AreChanged m z None act None) e ch in
+        let allowed = subst (λ (z : List Change). EndMay m mine s.world ((row_of o p c).act s.world) mem (End f.reply f.fills z)) e may in
+        let pls = and_parts (is_plain c1) (are_plain ds) (subst (λ (z : List Change). are_plain z ≡ true) e plain.1) in
+        let zs : List Taken = all.1.1.0 in
+        let one : IsChanged m c1 None all.1.0 all.0 = all.1.1.2 in
+        let item = act-item m mine s.world (changed_all f.fills mem) c1 all.1.0 all.0 allowed.1.0 pls.0 one in
+        let rest = owed-items m mine ((row_of o p c).act s.world) (changed c1 (changed_all f.fills mem)) ds all.0 None zs allowed.1.1 pls.1 all.1.1.3 item.no_hasher in
+        let x : Taken = Stepped item.step item.answer in
+        let acted : act ≡ x ∷ zs = all.1.1.1 ∙ ap (λ (z : List Taken). z ++ zs) item.items in
+        let hd' : Marked x ∷ (map Quiet zs ++ joined tps) ≡ piece ∷ ps = ap (λ (z : List Taken). marked_behind 0 z ++ joined tps) (sym acted) ∙ hd in
+        let moved = end-moved ls o trees s mem t (record t { words = after_step t.words item.step }) pos p c cs told f.reply run after (record { event = events.Act; reply = last_reply after.stage after.held }) a st en has-tree
+        (λ y in_y. act-table ls o trees s mem t pos p c cs run f.fills c1 item.step a plain.0 has allowed.1.0 item.is y in_y
+        ∙ ap (λ (z : Tree). or_else (last_at (first_of z mem) y) (t.words (address m.pages y))) {x = End f.reply f.fills (c1 ∷ ds)} {y = feed (trees p c) told} (sym ended)) refl in
+        came-as o trees p s t pos (Marked x) piece (map Quiet zs ++ joined tps) ps end_ hd'
+        (record {
+          memory = moved.memory;
+          now = record { at = after_turn c cs (pos p).at.replies after (last_reply after.stage after.held); owes = owes_of (feed (trees p c) told) mem; fill = None };
+          stands = moved.stands;
+          rest = rest-owed o trees p (after_turn c cs (pos p).at.replies after (last_reply after.stage after.held)) zs (owes_of (feed (trees p c) told) mem) tps end_
+              (subst (λ (z : Tree). AreStores m.pages zs (owes_of z mem)) (sym ended) rest.1) own;
+        })
+
+-- the next piece of a leaf that fills
+pub fill-piece : (ls : Laws) (o : Opening) (trees : ℕ → Call → Tree) (s : State) (mem : Memory) (t : Table) (pos : ℕ → Position) (p : ℕ) (c : Call) (cs : List Call) (run : Standing) (f : Fill) (end_ : WordLp) (piece : Piece) (ps : List Piece)
+    → AtTurn o trees s mem t pos p c cs run → FillHolds o.machine (bare (s.lps p).call.held) s.world mem.words (on_table o.machine t) (pos p).owes (Some run) f → RestFilling o trees p c cs (pos p).at.replies run f (piece ∷ ps) end_ → PieceAnswers t piece
+    → Came o trees p s t pos piece ps end_
+fill-piece ls o trees s mem t pos p c cs run f end_ piece ps a h rest an = by rest.stores f.left refl rest.are rest.pieces
+  where
+    m : Machine
+    m = o.machine
+
+    mine : Grip
+    mine = bare (s.lps p).call.held
+
+    tail : List Piece
+    tail = marked_behind 0 rest.act ++ joined rest.turns
+
+    by : (stores : List Taken) (left : List Todo) → f.left ≡ left → AreTodos m.pages stores left → piece ∷ ps ≡ map Quiet stores ++ tail → Came o trees p s t pos piece ps end_
+    by [] [] q are e = act-piece ls o trees s mem t pos p c cs run rest.after f rest.act rest.turns end_ piece ps a q h rest.changed rest.after_is rest.own (sym e) an
+    by [] (Puts d ∷ ts) q are e = absurd are
+    by [] (Takes fr at ∷ ts) q are e = absurd are
+    by (Stepped w x ∷ xs) [] q are e = absurd are
+    by (Swapped k u v ∷ xs) left q are e = absurd are
+    by (Missed k ∷ xs) left q are e = absurd are
+    by (Stepped w x ∷ xs) (Puts d ∷ ts) q are e =
+        let y : Taken = Stepped (step.Store (address m.pages d.at) d.word) x in
+        let h' : Quiet y ∷ (map Quiet xs ++ tail) ≡ piece ∷ ps = ap (λ (z : WordStep). Quiet (Stepped z x) ∷ (map Quiet xs ++ tail)) (sym are.0) ∙ sym e in
+        came-as o trees p s t pos (Quiet y) piece (map Quiet xs ++ tail) ps end_ h'
+        (record {
+          memory = mem;
+          now = filling_at pos p c cs run ((pos p).owes ++ due d.at (mem.words d.at) ∷ []) (record f { made = f.made ++ d ∷ []; left = ts });
+          stands = fill-store ls o trees s mem t pos p c cs run f d ts a q h;
+          rest = record { stores = xs; act = rest.act; turns = rest.turns; are = are.1; changed = rest.changed; pieces = refl; after = rest.after; after_is = rest.after_is; own = rest.own };
+        })
+    by (Stepped w x ∷ []) (Takes fr at ∷ ts) q are e = absurd are
+    by (Stepped w x ∷ (Swapped k u v ∷ xs)) (Takes fr at ∷ ts) q are e = absurd are
+    by (Stepped w x ∷ (Missed k ∷ xs)) (Takes fr at ∷ ts) q are e = absurd are
+    by (Stepped w x ∷ (Stepped w' b ∷ xs)) (Takes fr at ∷ ts) q are e =
+        let y : Taken = Stepped (step.Load (address m.pages fr)) x in
+        let xs' : List Taken = Stepped w' b ∷ xs in
+        let h' : Quiet y ∷ (map Quiet xs' ++ tail) ≡ piece ∷ ps = ap (λ (z : WordStep). Quiet (Stepped z x) ∷ (map Quiet xs' ++ tail)) (sym are.0) ∙ sym e in
+        let may : EachTodo m mine s.world (Takes fr at ∷ ts) = subst (λ (z : List Todo). EachTodo m mine s.world z) q h.left_may in
+        let seen : x ≡ seen_by f.made mem.words fr = answers-as t (Quiet y) piece (map Quiet xs' ++ tail) ps h' an ∙ fill-seen ls o trees s mem t pos p c cs run f fr a h may.0.0.0 may.0.0.1 in
+        let f' : Fill = record f { left = Puts (due at x) ∷ ts } in
+        let now : Position = filling_at pos p c cs run (pos p).owes f' in
+        came-as o trees p s t pos (Quiet y) piece (map Quiet xs' ++ tail) ps end_ h'
+        (record {
+          memory = mem;
+          now = now;
+          stands = rearranged ls o trees s mem t t pos p now a.all refl (λ k j z r g in_r owes. refl) (λ k j z r in_r fills. refl)
+              (record {
+                stands = stands-filling o trees s mem t pos p c cs run a;
+                due = record {
+                  at_end = h.at_end;
+                  made_may = h.made_may;
+                  left_may = ((may.0.1, may.0.2), may.1);
+                  all_may = h.all_may;
+                  stores =
+                      ap (λ (v : ℕ). f.made ++ due at v ∷ dues_of ts (put_word (seen_by f.made mem.words) at v)) seen
+                      ∙ (ap (λ (z : List Todo). f.made ++ dues_of z (seen_by f.made mem.words)) (sym q) ∙ h.stores);
+                  there = h.there;
+                  undo = h.undo;
+                };
+              })
+              (λ r in_r. a.all.laid_is r in_r ∙ laid-same (length o.calls) (λ k. (pos k).owes) (λ k. (put pos p now k).owes) (on_table m t) (on_table m t) r (λ k j. same k r) refl);
+          rest = record { stores = xs'; act = rest.act; turns = rest.turns; are = (are.1, are.2); changed = rest.changed; pieces = refl; after = rest.after; after_is = rest.after_is; own = rest.own };
+        })
+      where
+        same : (k : ℕ) (r : WordPlace) → last_at (pos k).owes r ≡ last_at (put pos p (filling_at pos p c cs run (pos p).owes (record f { left = Puts (due at x) ∷ ts })) k).owes r
+        same k r = test (k == p) refl
+          where
+            now : Position
+            now = filling_at pos p c cs run (pos p).owes (record f { left = Puts (due at x) ∷ ts })
+
+            test : (b : Bool) → (k == p) ≡ b → last_at (pos k).owes r ≡ last_at (put pos p now k).owes r
+            test true z =
+                let k-is : k ≡ p = eqb-true k p z in
+                subst (λ (y : ℕ). last_at (pos y).owes r ≡ last_at (put pos p now y).owes r) (sym k-is) (sym (ap (λ (y : Position). last_at y.owes r) (at-own pos p now)))
+            test false z = sym (ap (λ (y : Position). last_at y.owes r) (at-other pos p k now z))
