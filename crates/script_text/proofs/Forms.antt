@@ -6,6 +6,8 @@ use Rattle.std.proofs.lemmas.Bool.{cases_lt}
 use Rattle.std.proofs.lemmas.List.{length-append, length-replicate, length-set, get_or_past}
 use Rattle.std.proofs.lemmas.List.Elements.{All-nil, All-cons, All-head, All-tail, All-replicate, All-append, All-push, All-set}
 use Rattle.td_words.specs.declared.calls.Call.{Call}
+use Rattle.td_words.specs.declared.calls.Call.TheVariants as call
+use Rattle.td_words.specs.declared.names.ReadField.{ReadField}
 use Rattle.td_words.specs.declared.machines.Machine.{Machine}
 use Rattle.script_text.specs.declared.faults.Reason.{Reason}
 use Rattle.script_text.specs.declared.faults.Reason.TheVariants as reason
@@ -22,7 +24,8 @@ use Rattle.script_text.specs.declared.schedules.Item.{Item}
 use Rattle.script_text.specs.declared.schedules.Turns.{Turns}
 use Rattle.script_text.specs.Mnemonics.{mnemonics, mnemonic_in}
 use Rattle.script_text.specs.Number.{digit, number_on, digits_in, is_prefixed, number}
-use Rattle.script_text.specs.Line.{◌>>=◌, in_limits, machine_of, block_of, end_of, counted_of, number_at, argument, built_of, judged_of, call_of, first_of, outside_of, inside_of, placed_of, entry_of, keyword_of}
+use Rattle.script_text.specs.Line.{◌>>=◌, in_limits, machine_of, block_of, end_of, counted_of, number_at, argument, built_of, are_given, judged_of, call_of, first_of, outside_of, inside_of, placed_of, entry_of, keyword_of}
+use Rattle.script_text.specs.Blocks.{field_of}
 use Rattle.script_text.specs.Schedule.{item_of, in_range_of, turns_in, with_turns, written_of, schedule_of}
 use Rattle.script_text.specs.Words.{pieces, words, is_printable, is_comment}
 use Rattle.script_text.specs.Reading.{SoFar, nothing_yet, with_call, entered_of, worded_of, line_of, script_of, ended_of, then_on, read_from, read_of}
@@ -89,32 +92,6 @@ argument_in ns i h (inr past) = rw (get_or_past ns i None past) tt
 argument_fits : (ns : List (Option ℕ)) (i : ℕ) → All FitsNumber ns → argument ns i < 2 ^ 64
 argument_fits ns i h = unwrapped (get_or ns i None) (argument_in ns i h (cases_lt i (length ns)))
 
--- calls of such arguments
-abbrev IfCall : Option Call → Type 0
-IfCall (Some c) = FitsCall c
-IfCall None = Unit {0}
-
-abbrev fits : ℕ → Type 0
-fits n = n < 2 ^ 64
-
-one_fits : (a : ℕ) → a < 2 ^ 64 → All fits (a ∷ [])
-one_fits a h = All-cons fits a [] h (All-nil fits)
-
-built_fits : (n : CallName) (ns : List (Option ℕ)) → All FitsNumber ns → IfCall (built_of n ns)
-built_fits name.HostRead ns h = All-cons fits (argument ns 0) (argument ns 1 ∷ []) (argument_fits ns 0 h) (one_fits (argument ns 1) (argument_fits ns 1 h))
-built_fits name.HostWrite ns h =
-    All-cons fits (argument ns 0) (argument ns 1 ∷ argument ns 2 ∷ []) (argument_fits ns 0 h)
-    (All-cons fits (argument ns 1) (argument ns 2 ∷ []) (argument_fits ns 1 h) (one_fits (argument ns 2) (argument_fits ns 2 h)))
-built_fits name.PhymemPageRdmd ns h = one_fits (argument ns 0) (argument_fits ns 0 h)
-built_fits name.MngCreate ns h = All-cons fits (argument ns 0) (argument ns 1 ∷ []) (argument_fits ns 0 h) (one_fits (argument ns 1) (argument_fits ns 1 h))
-built_fits _ ns h = tt
-
-judged_fits : (c : Option Call) (m : Mnemonic) (ns : List (Option ℕ)) → IfCall c → IfGiven FitsCall (judged_of c m ns)
-judged_fits None m ns h = tt
-judged_fits (Some c) m ns h =
-    given_if FitsCall (not (leb m.least (length ns) && leb (length ns) m.most)) _ reason.Count _ refl
-    (λ e. given_if FitsCall (not (list_all is_some ns)) _ reason.Number (Ok c) refl (λ e. h))
-
 -- what a line says fits the machine so far
 abbrev FitsEntry : Option Machine → Entry → Type 0
 FitsEntry None (entry.Machine m) = in_limits m.lps m.pages m.hkids ≡ true
@@ -122,6 +99,7 @@ FitsEntry None _ = ⊥
 FitsEntry (Some m) (entry.Machine _) = ⊥
 FitsEntry (Some m) (entry.Schedule lps) = lps ≡ m.lps
 FitsEntry (Some m) (entry.Call lp c) = FitsCall c
+FitsEntry (Some m) (entry.Read lp tdr) = tdr < 2 ^ 64
 FitsEntry (Some m) _ = Unit {0}
 
 not_false : (b : Bool) → not b ≡ false → b ≡ true
@@ -132,6 +110,10 @@ not_false false h = cc
 given_number : {B : Type 0} (Q : B → Type 0) (r : Result ℕ Reason) (f : ℕ → Result B Reason) → ((n : ℕ) → IfGiven Q (f n)) → IfGiven Q (r >>= f)
 given_number Q (Ok n) f h = h n
 given_number Q (Err r) f h = tt
+
+given_field : {B : Type 0} (Q : B → Type 0) (r : Result ReadField Reason) (f : ReadField → Result B Reason) → ((x : ReadField) → IfGiven Q (f x)) → IfGiven Q (r >>= f)
+given_field Q (Ok x) f h = h x
+given_field Q (Err r) f h = tt
 
 given_count : {B : Type 0} (Q : B → Type 0) (r : Result (Unit {0}) Reason) (x : Result B Reason) → IfGiven Q x → IfGiven Q (r >>= (λ t. x))
 given_count Q (Ok t) x h = h
@@ -161,11 +143,51 @@ end_fits : (m : Machine) (ns : List (Option ℕ)) → IfGiven (FitsEntry (Some m
 unfolding end_of
 end_fits m ns = given_count (FitsEntry (Some m)) (counted_of 0 ns) (Ok entry.End) tt
 
+-- calls of such arguments
+abbrev fits : ℕ → Type 0
+fits n = n < 2 ^ 64
+
+one_fits : (ns : List (Option ℕ)) → All FitsNumber ns → All fits (argument ns 0 ∷ [])
+one_fits ns h = All-cons fits (argument ns 0) [] (argument_fits ns 0 h) (All-nil fits)
+
+two_fit : (ns : List (Option ℕ)) → All FitsNumber ns → All fits (argument ns 0 ∷ argument ns 1 ∷ [])
+two_fit ns h = All-push fits (argument ns 0 ∷ []) (argument ns 1) (one_fits ns h) (argument_fits ns 1 h)
+
+three_fit : (ns : List (Option ℕ)) → All FitsNumber ns → All fits (argument ns 0 ∷ argument ns 1 ∷ argument ns 2 ∷ [])
+three_fit ns h = All-push fits (argument ns 0 ∷ argument ns 1 ∷ []) (argument ns 2) (two_fit ns h) (argument_fits ns 2 h)
+
+abbrev IfBuilt : Machine → Option Entry → Type 0
+IfBuilt m (Some e) = FitsEntry (Some m) e
+IfBuilt m None = Unit {0}
+
+built_fits : (m : Machine) (lp : ℕ) (n : CallName) (ns : List (Option ℕ)) → All FitsNumber ns → IfBuilt m (built_of lp n ns)
+built_fits m lp name.HostRead ns h = two_fit ns h
+built_fits m lp name.HostWrite ns h = three_fit ns h
+built_fits m lp name.PhymemPageRdmd ns h = one_fits ns h
+built_fits m lp name.PhymemCacheWb ns h = All-nil fits
+built_fits m lp name.PhymemPageReclaim ns h = two_fit ns h
+built_fits m lp name.MngCreate ns h = two_fit ns h
+built_fits m lp name.MngKeyConfig ns h = one_fits ns h
+built_fits m lp name.MngAddcx ns h = two_fit ns h
+built_fits m lp name.MngInit ns h = one_fits ns h
+built_fits m lp name.MngRd ns h = argument_fits ns 0 h
+built_fits m lp name.MngVpflushdone ns h = one_fits ns h
+built_fits m lp name.MngKeyFreeid ns h = one_fits ns h
+built_fits m lp name.MrFinalize ns h = one_fits ns h
+built_fits m lp name.VpCreate ns h = two_fit ns h
+built_fits m lp name.VpInit ns h = three_fit ns h
+built_fits m lp _ ns h = tt
+
+judged_fits : (m : Machine) (e : Option Entry) (row : Mnemonic) (ns : List (Option ℕ)) → IfBuilt m e → IfGiven (FitsEntry (Some m)) (judged_of e row ns)
+judged_fits m None row ns h = tt
+judged_fits m (Some e) row ns h =
+    given_if (FitsEntry (Some m)) (not (leb row.least (length ns) && leb (length ns) row.most)) _ reason.Count _ refl
+    (λ c. given_if (FitsEntry (Some m)) (not (are_given row.call ns)) _ reason.Number (Ok e) refl (λ g. h))
+
 call_fits : (m : Machine) (lp : ℕ) (row : Option Mnemonic) (ns : List (Option ℕ)) → All FitsNumber ns → IfGiven (FitsEntry (Some m)) (call_of lp row ns)
 unfolding call_of
 call_fits m lp None ns h = tt
-call_fits m lp (Some row) ns h =
-    given_then FitsCall (FitsEntry (Some m)) (judged_of (built_of row.call ns) row ns) (λ c. Ok (entry.Call lp c)) (judged_fits (built_of row.call ns) row ns (built_fits row.call ns h)) (λ c f. f)
+call_fits m lp (Some row) ns h = judged_fits m (built_of lp row.call ns) row ns (built_fits m lp row.call ns h)
 
 outside_fits : (m : Machine) (had : List Bool) (k : Option Keyword) (ns : List (Option ℕ)) → IfGiven (FitsEntry (Some m)) (outside_of m had k ns)
 outside_fits m had (Some keyword.Machine) ns = tt
@@ -288,6 +310,7 @@ entered_fits None block had schedule calls (entry.Schedule lps) ws h k = absurd 
 entered_fits None block had schedule calls (entry.Open lp) ws h k = absurd k
 entered_fits None block had schedule calls entry.End ws h k = absurd k
 entered_fits None block had schedule calls (entry.Call lp c) ws h k = absurd k
+entered_fits None block had schedule calls (entry.Read lp tdr) ws h k = absurd k
 entered_fits (Some m) block had schedule calls (entry.Machine n) ws h k = absurd k
 entered_fits (Some m) block had schedule calls (entry.Schedule lps) ws h k =
     rw k
@@ -298,6 +321,10 @@ entered_fits (Some m) block had schedule calls entry.End ws h k = h
 entered_fits (Some m) block had schedule calls (entry.Call lp c) ws h k =
     given_then (FitsCalls m.lps) FitsSoFar (with_call calls lp c) _ (call_added m.lps lp calls c h.calls_fit k)
     (λ x f. record { limits = h.limits; items = h.items; calls_fit = f })
+entered_fits (Some m) block had schedule calls (entry.Read lp tdr) ws h k =
+    given_field FitsSoFar (field_of (get_or ws 1 [])) _
+    (λ field. given_then (FitsCalls m.lps) FitsSoFar (with_call calls lp (call.MngRd tdr field)) _ (call_added m.lps lp calls (call.MngRd tdr field) h.calls_fit (All-cons fits tdr [] k (All-nil fits)))
+    (λ x f. record { limits = h.limits; items = h.items; calls_fit = f }))
 
 entry_fits : (d : SoFar) (w : List ℕ) (ws : List (List ℕ)) → IfGiven (FitsEntry d.stage.machine) (entry_of d.stage w (map number (take 5 ws)))
 unfolding entry_of

@@ -1,14 +1,15 @@
 -- The words of a line that is written out, and its numbers.
-use Rattle.std.proofs.Common.{◌≡◌, ℕ, zero, suc, ◌+◌, ◌*◌, ◌/◌, ◌%◌, ◌^◌, ◌<◌, ◌≤◌, List, [], ◌∷◌, ◌++◌, length, map, take, Bool, true, false, not, cond, ◌==◌, ◌&&◌, Some, None, refl, ap, ◌∙◌, arith}
+use Rattle.std.proofs.Common.{◌≡◌, ℕ, zero, suc, ◌+◌, ◌*◌, ◌/◌, ◌%◌, ◌^◌, ◌<◌, ◌≤◌, List, [], ◌∷◌, ◌++◌, length, map, take, Bool, true, false, not, cond, ◌==◌, ◌&&◌, Some, None, refl, ap, sym, ◌∙◌, arith}
 use Rattle.std.specs.Prelude.{nat_le, nat_lt, filter}
-use Rattle.std.specs.List.{list_all, slice_split}
+use Rattle.std.specs.List.{All, list_all, slice_split}
 use Rattle.std.specs.Fmt.{decimal}
 use Rattle.std.proofs.lemmas.Fmt.{decimal_by_steps}
-use Rattle.std.proofs.lemmas.List.{length-append, append-nil, append_assoc}
+use Rattle.std.proofs.lemmas.List.{length-append, append-nil, append_assoc, take-map}
+use Rattle.std.proofs.lemmas.List.Elements.{All-nil, All-cons, All-head, All-tail}
 use Rattle.std.proofs.lemmas.List.Folds.{list_all-append}
 use Rattle.script_text.specs.Number.{digit, number, number_on}
 use Rattle.script_text.specs.Words.{words, pieces, is_printable}
-use Rattle.script_text.specs.Spelling.{numbers_text, line_text}
+use Rattle.script_text.specs.Spelling.{words_text, line_text}
 
 pub both : (a b : Bool) → (a && b) ≡ true → (a ≡ true) × (b ≡ true)
 both true b h = (refl, h)
@@ -135,15 +136,22 @@ fits n = nat_lt n (2 ^ 64)
 pub fits_below : (n : ℕ) → fits n ≡ true → n < 2 ^ 64
 fits_below n h = grind arith
 
-word_digits : (n : ℕ) → fits n ≡ true → list_all is_word_byte (decimal n) ≡ true
-word_digits n h = implied is_digit is_word_byte digit_in_word (decimal n) (decimal_is n (fits_below n h)).digits
+pub decimal_is_word : (n : ℕ) → fits n ≡ true → IsWord (decimal n)
+decimal_is_word n h =
+    let d : IsDecimal n (decimal n) = decimal_is n (fits_below n h) in
+    record { bytes = implied is_digit is_word_byte digit_in_word (decimal n) d.digits; some = d.some }
 
-split_text : (w : List ℕ) (ns : List ℕ) → list_all is_word_byte w ≡ true → list_all fits ns ≡ true → slice_split (λ b. b == 32) (w ++ numbers_text ns) ≡ w ∷ map decimal ns
-split_text w [] h k = rw append-nil (uncut (λ b. b == 32) w (implied is_word_byte (λ b. not (b == 32)) unspaced w h))
-split_text w (n ∷ ns) h k =
-    let f = both (fits n) (list_all fits ns) k in
-    cut_at (λ b. b == 32) w 32 (decimal n ++ numbers_text ns) (implied is_word_byte (λ b. not (b == 32)) unspaced w h) refl
-    ∙ ap (λ (t : List (List ℕ)). w ∷ t) (split_text (decimal n) ns (word_digits n f.0) f.1)
+pub decimals_are_words : (ns : List ℕ) → list_all fits ns ≡ true → All IsWord (map decimal ns)
+decimals_are_words [] h = All-nil IsWord
+decimals_are_words (n ∷ ns) h =
+    let f = both (fits n) (list_all fits ns) h in
+    All-cons IsWord (decimal n) (map decimal ns) (decimal_is_word n f.0) (decimals_are_words ns f.1)
+
+split_text : (w : List ℕ) (ws : List (List ℕ)) → IsWord w → All IsWord ws → slice_split (λ b. b == 32) (w ++ words_text ws) ≡ w ∷ ws
+split_text w [] h k = rw append-nil (uncut (λ b. b == 32) w (implied is_word_byte (λ b. not (b == 32)) unspaced w h.bytes))
+split_text w (v ∷ ws) h k =
+    cut_at (λ b. b == 32) w 32 (v ++ words_text ws) (implied is_word_byte (λ b. not (b == 32)) unspaced w h.bytes) refl
+    ∙ ap (λ (t : List (List ℕ)). w ∷ t) (split_text v ws (All-head IsWord v ws k) (All-tail IsWord v ws k))
 
 abbrev has_bytes : List ℕ → Bool
 has_bytes w = not (length w == 0)
@@ -151,14 +159,12 @@ has_bytes w = not (length w == 0)
 kept : (w : List ℕ) (ws : List (List ℕ)) → (length w == 0) ≡ false → filter has_bytes ws ≡ ws → filter has_bytes (w ∷ ws) ≡ w ∷ ws
 kept w ws h k = rw (h, k) refl
 
-kept_numbers : (ns : List ℕ) → list_all fits ns ≡ true → filter has_bytes (map decimal ns) ≡ map decimal ns
-kept_numbers [] h = refl
-kept_numbers (n ∷ ns) h =
-    let f = both (fits n) (list_all fits ns) h in
-    kept (decimal n) (map decimal ns) (decimal_is n (fits_below n f.0)).some (kept_numbers ns f.1)
+kept_words : (ws : List (List ℕ)) → All IsWord ws → filter has_bytes ws ≡ ws
+kept_words [] h = refl
+kept_words (w ∷ ws) h = let is : IsWord w = All-head IsWord w ws h in kept w ws is.some (kept_words ws (All-tail IsWord w ws h))
 
-pub words_text : (w : List ℕ) (ns : List ℕ) → IsWord w → list_all fits ns ≡ true → words (w ++ numbers_text ns) ≡ w ∷ map decimal ns
-words_text w ns h k = rw (split_text w ns h.bytes k) (kept w (map decimal ns) h.some (kept_numbers ns k))
+pub words_again : (w : List ℕ) (ws : List (List ℕ)) → IsWord w → All IsWord ws → words (w ++ words_text ws) ≡ w ∷ ws
+words_again w ws h k = rw (split_text w ws h k) (kept w ws h.some (kept_words ws k))
 
 -- the bytes of lines
 abbrev is_line_byte : ℕ → Bool
@@ -167,11 +173,11 @@ is_line_byte b = nat_le 32 b && nat_le b 126
 in_line : (b : ℕ) → is_word_byte b ≡ true → is_line_byte b ≡ true
 in_line b h = grind arith
 
-line_bytes : (w : List ℕ) (ns : List ℕ) → list_all is_word_byte w ≡ true → list_all fits ns ≡ true → list_all is_line_byte (w ++ numbers_text ns) ≡ true
-line_bytes w [] h k = rw append-nil (implied is_word_byte is_line_byte in_line w h)
-line_bytes w (n ∷ ns) h k =
-    let f = both (fits n) (list_all fits ns) k in
-    rw list_all-append (and_true (list_all is_line_byte w) (list_all is_line_byte (decimal n ++ numbers_text ns)) (implied is_word_byte is_line_byte in_line w h) (line_bytes (decimal n) ns (word_digits n f.0) f.1))
+line_bytes : (w : List ℕ) (ws : List (List ℕ)) → IsWord w → All IsWord ws → list_all is_line_byte (w ++ words_text ws) ≡ true
+line_bytes w [] h k = rw append-nil (implied is_word_byte is_line_byte in_line w h.bytes)
+line_bytes w (v ∷ ws) h k =
+    rw list_all-append
+    (and_true (list_all is_line_byte w) (list_all is_line_byte (v ++ words_text ws)) (implied is_word_byte is_line_byte in_line w h.bytes) (line_bytes v ws (All-head IsWord v ws k) (All-tail IsWord v ws k)))
 
 in_print : (b : ℕ) → is_line_byte b ≡ true → (nat_le 0x20 b && nat_le b 0x7e) ≡ true
 in_print b h = h
@@ -179,13 +185,13 @@ in_print b h = h
 unended : (b : ℕ) → is_line_byte b ≡ true → not (b == 10) ≡ true
 unended b h = grind arith
 
-pub printable_text : (w : List ℕ) (ns : List ℕ) → IsWord w → list_all fits ns ≡ true → is_printable (w ++ numbers_text ns) ≡ true
-printable_text w ns h k = implied is_line_byte (λ b. nat_le 0x20 b && nat_le b 0x7e) in_print (w ++ numbers_text ns) (line_bytes w ns h.bytes k)
+pub printable_text : (w : List ℕ) (ws : List (List ℕ)) → IsWord w → All IsWord ws → is_printable (w ++ words_text ws) ≡ true
+printable_text w ws h k = implied is_line_byte (λ b. nat_le 0x20 b && nat_le b 0x7e) in_print (w ++ words_text ws) (line_bytes w ws h k)
 
-pub pieces_text : (w : List ℕ) (ns : List ℕ) (rest : List ℕ) → IsWord w → list_all fits ns ≡ true → pieces (line_text w ns ++ rest) ≡ (w ++ numbers_text ns) ∷ pieces rest
-pieces_text w ns rest h k =
+pub pieces_text : (w : List ℕ) (ws : List (List ℕ)) (rest : List ℕ) → IsWord w → All IsWord ws → pieces (line_text w ws ++ rest) ≡ (w ++ words_text ws) ∷ pieces rest
+pieces_text w ws rest h k =
     rw append_assoc
-    (cut_at (λ b. b == 10) (w ++ numbers_text ns) 10 rest (implied is_line_byte (λ b. not (b == 10)) unended (w ++ numbers_text ns) (line_bytes w ns h.bytes k)) refl)
+    (cut_at (λ b. b == 10) (w ++ words_text ws) 10 rest (implied is_line_byte (λ b. not (b == 10)) unended (w ++ words_text ws) (line_bytes w ws h k)) refl)
 
 pub numbers_read : (k : ℕ) (ns : List ℕ) → list_all fits ns ≡ true → map number (take k (map decimal ns)) ≡ map Some (take k ns)
 numbers_read zero ns h = refl
@@ -193,3 +199,11 @@ numbers_read (suc k) [] h = refl
 numbers_read (suc k) (n ∷ ns) h =
     let f = both (fits n) (list_all fits ns) h in
     rw (number_decimal n (fits_below n f.0), numbers_read k ns f.1) refl
+
+-- numbers with names behind them
+pub names_read : (k : ℕ) (ns : List ℕ) (names : List (List ℕ)) → list_all fits ns ≡ true → map number (take k (map decimal ns ++ names)) ≡ take k (map Some ns ++ map number names)
+names_read zero ns names h = refl
+names_read (suc k) [] names h = sym (take-map number (suc k) names)
+names_read (suc k) (n ∷ ns) names h =
+    let f = both (fits n) (list_all fits ns) h in
+    rw (number_decimal n (fits_below n f.0), names_read k ns names f.1) refl

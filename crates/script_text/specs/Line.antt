@@ -86,27 +86,41 @@ end_of numbers = do
 abbrev pub argument : List (Option ℕ) → ℕ → ℕ
 argument numbers i = unwrap_or (slice_index_or numbers i None) 0
 
--- the call of a mnemonic, as far as it is built
-abbrev pub built_of : CallName → List (Option ℕ) → Option Call
-built_of name.HostRead ns = Some (calls.HostRead (argument ns 0) (argument ns 1))
-built_of name.HostWrite ns = Some (calls.HostWrite (argument ns 0) (argument ns 1) (argument ns 2))
-built_of name.PhymemPageRdmd ns = Some (calls.PhymemPageRdmd (argument ns 0))
-built_of name.MngCreate ns = Some (calls.MngCreate (argument ns 0) (argument ns 1))
-built_of _ ns = None
+-- the call of a mnemonic, as far as it is built; the field of MNG.RD isn't looked at here
+abbrev pub built_of : ℕ → CallName → List (Option ℕ) → Option Entry
+built_of lp name.HostRead ns = Some (entry.Call lp (calls.HostRead (argument ns 0) (argument ns 1)))
+built_of lp name.HostWrite ns = Some (entry.Call lp (calls.HostWrite (argument ns 0) (argument ns 1) (argument ns 2)))
+built_of lp name.PhymemPageRdmd ns = Some (entry.Call lp (calls.PhymemPageRdmd (argument ns 0)))
+built_of lp name.PhymemCacheWb ns = Some (entry.Call lp calls.PhymemCacheWb)
+built_of lp name.PhymemPageReclaim ns = Some (entry.Call lp (calls.PhymemPageReclaim (argument ns 0) (argument ns 1)))
+built_of lp name.MngCreate ns = Some (entry.Call lp (calls.MngCreate (argument ns 0) (argument ns 1)))
+built_of lp name.MngKeyConfig ns = Some (entry.Call lp (calls.MngKeyConfig (argument ns 0)))
+built_of lp name.MngAddcx ns = Some (entry.Call lp (calls.MngAddcx (argument ns 0) (argument ns 1)))
+built_of lp name.MngInit ns = Some (entry.Call lp (calls.MngInit (argument ns 0)))
+built_of lp name.MngRd ns = Some (entry.Read lp (argument ns 0))
+built_of lp name.MngVpflushdone ns = Some (entry.Call lp (calls.MngVpflushdone (argument ns 0)))
+built_of lp name.MngKeyFreeid ns = Some (entry.Call lp (calls.MngKeyFreeid (argument ns 0)))
+built_of lp name.MrFinalize ns = Some (entry.Call lp (calls.MrFinalize (argument ns 0)))
+built_of lp name.VpCreate ns = Some (entry.Call lp (calls.VpCreate (argument ns 0) (argument ns 1)))
+built_of lp name.VpInit ns = Some (entry.Call lp (calls.VpInit (argument ns 0) (argument ns 1) (argument ns 2)))
+built_of lp _ ns = None
 
--- as many arguments as the mnemonic has, each a number
-abbrev pub judged_of : Option Call → Mnemonic → List (Option ℕ) → Result Call Reason
+-- whether those arguments are numbers that must be: all but the field of MNG.RD
+abbrev pub are_given : CallName → List (Option ℕ) → Bool
+are_given name.MngRd ns = is_some (slice_index_or ns 0 None)
+are_given _ ns = list_all is_some ns
+
+-- as many arguments as the mnemonic has, and numbers where it has numbers
+abbrev pub judged_of : Option Entry → Mnemonic → List (Option ℕ) → Result Entry Reason
 judged_of None m ns = Err reason.Unbuilt
-judged_of (Some c) m ns =
+judged_of (Some e) m ns =
     if not (nat_le m.least (length ns) && nat_le (length ns) m.most) then Err reason.Count
-    else if not (list_all is_some ns) then Err reason.Number
-    else Ok c
+    else if not (are_given m.call ns) then Err reason.Number
+    else Ok e
 
 unfoldable pub call_of : ℕ → Option Mnemonic → List (Option ℕ) → Result Entry Reason
 call_of lp None ns = Err reason.Word
-call_of lp (Some m) ns = do
-  c ← judged_of (built_of m.call ns) m ns
-  Ok (entry.Call lp c)
+call_of lp (Some m) ns = judged_of (built_of lp m.call ns) m ns
 
 -- the first line that isn't skipped
 abbrev pub first_of : Option Keyword → List (Option ℕ) → Result Entry Reason

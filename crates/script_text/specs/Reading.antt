@@ -1,6 +1,7 @@
 -- A script, line by line.
 use Rattle.std.specs.Prelude.{◌≡◌, ℕ, ◌+◌, ◌^◌, List, [], ◌∷◌, ◌++◌, length, map, take, replicate, Option, Some, None, Result, Ok, Err, true, false, not, ◌==◌, nat_lt, nat_le, slice_index_or, slice_set, if◌then◌else◌}
 use Rattle.td_words.specs.declared.calls.Call.{Call}
+use Rattle.td_words.specs.declared.calls.Call.TheVariants as call
 use Rattle.td_words.specs.declared.machines.Machine.{Machine}
 use Rattle.script_text.specs.declared.faults.Reason.{Reason}
 use Rattle.script_text.specs.declared.faults.Reason.TheVariants as reason
@@ -10,6 +11,7 @@ use Rattle.script_text.specs.declared.lines.Entry.{Entry}
 use Rattle.script_text.specs.declared.lines.Entry.TheVariants as entry
 use Rattle.script_text.specs.declared.lines.Stage.{Stage}
 use Rattle.script_text.specs.declared.drafts.Draft.{Draft}
+use Rattle.script_text.specs.Blocks.{field_of}
 use Rattle.script_text.specs.Line.{entry_of, ◌>>=◌}
 use Rattle.script_text.specs.Number.{number}
 use Rattle.script_text.specs.Schedule.{schedule_of}
@@ -34,8 +36,8 @@ with_call calls lp c =
     if nat_le 4096 (length (slice_index_or calls lp [])) then Err reason.Full
     else Ok (slice_set calls lp (slice_index_or calls lp [] ++ c ∷ []))
 
--- a machine's processors have no calls yet; a block is open from its line to its `end`; the words behind the first are
--- looked at as the items of a schedule line alone
+-- a machine's processors have no calls yet; a block is open from its line to its `end`; words behind the first are looked
+-- at as the items of a schedule line, and as the field of MNG.RD, which is the second of them
 unfoldable pub entered_of : SoFar → Entry → List (List ℕ) → Result SoFar Reason
 entered_of d (entry.Machine m) words = Ok (record d { stage = record d.stage { machine = Some m }; calls = replicate m.lps [] })
 entered_of d (entry.Schedule lps) words = do
@@ -45,6 +47,10 @@ entered_of d (entry.Open lp) words = Ok (record d { stage = record d.stage { blo
 entered_of d entry.End words = Ok (record d { stage = record d.stage { block = None } })
 entered_of d (entry.Call lp c) words = do
   calls ← with_call d.calls lp c
+  Ok (record d { calls = calls })
+entered_of d (entry.Read lp tdr) words = do
+  field ← field_of (slice_index_or words 1 [])
+  calls ← with_call d.calls lp (call.MngRd tdr field)
   Ok (record d { calls = calls })
 
 -- a line without words and a comment are skipped; five words behind the first tell whether there are too many of those

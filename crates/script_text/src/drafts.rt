@@ -6,6 +6,7 @@ ghost use Rattle.script_text.specs.Reading.{draft_seen, with_call, entered_of, w
 ghost use Rattle.script_text.specs.Words.{words};
 
 use crate::faults::{Reason, ScriptFault, bad};
+use crate::fields::field_in;
 use crate::lines::{Entry, Stage, entry_at};
 use crate::numbers::first_numbers;
 use crate::schedules::schedule_line;
@@ -83,6 +84,10 @@ fn enter(
             Ok(())
         }
         Entry::Call(lp, call) => add_call(&mut draft.calls, number, lp, call),
+        Entry::Read(lp, tdr) => match field_in(text) {
+            Ok(field) => add_call(&mut draft.calls, number, lp, Call::MngRd { tdr, field }),
+            Err(reason) => Err(bad(number, reason)),
+        },
     }
 }
 

@@ -1,11 +1,13 @@
 //! Arguments that the grammar judges: field names and output slots.
 
-ghost use Rattle.std.specs.Prelude.{◌≡◌};
+ghost use Rattle.std.specs.Prelude.{◌≡◌, [], slice_index_or};
 ghost use Rattle.script_text.specs.Blocks.{field_of, slot_place_of, slot_of};
+ghost use Rattle.script_text.specs.Words.{words};
 
 use crate::faults::Reason;
 use crate::lines::is_marked;
 use crate::mnemonics::{CallName, is};
+use crate::words::next_word;
 use td_words::ReadField;
 
 /// The field of MNG.RD that a word names, or NAME.
@@ -23,6 +25,15 @@ pub fn field_at(word: &[u8]) -> Result<ReadField, Reason>
     } else {
         Err(Reason::Name)
     }
+}
+
+/// The field of MNG.RD that a text's second word names, or NAME.
+pub fn field_in(text: &[u8]) -> Result<ReadField, Reason>
+    ensures { result ≡ field_of (slice_index_or (words text.now) 1 []) }
+{
+    let (_, rest) = next_word(text).ok_or(Reason::Name)?;
+    let (word, _) = next_word(rest).ok_or(Reason::Name)?;
+    field_at(word)
 }
 
 /// Which argument of a call, from 0, is an output slot.

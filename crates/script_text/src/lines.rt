@@ -1,9 +1,9 @@
 //! What one line says.
 
-ghost use Rattle.std.specs.Prelude.{◌≡◌, ◌<◌, length, is_some, slice_index_or, false};
+ghost use Rattle.std.specs.Prelude.{◌≡◌, None, is_some, slice_index_or, false};
 ghost use Rattle.std.specs.List.{list_all};
 ghost use Rattle.script_text.specs.Mnemonics.{mnemonics, mnemonic_in};
-ghost use Rattle.script_text.specs.Line.{keyword_of, counted_of, number_at, in_limits, machine_in, machine_of, block_in, block_of, end_of, argument, built_of, judged_of, call_of, first_of, outside_of, inside_of, entry_of};
+ghost use Rattle.script_text.specs.Line.{keyword_of, counted_of, number_at, in_limits, machine_in, machine_of, block_in, block_of, end_of, argument, built_of, are_given, judged_of, call_of, first_of, outside_of, inside_of, entry_of};
 
 use crate::faults::Reason;
 use crate::mnemonics::{CallName, Mnemonic, is, mnemonic_at};
@@ -39,6 +39,8 @@ pub enum Entry {
     End,
     /// A call of that processor.
     Call(u8, Call),
+    /// That processor's MNG.RD of that TDR; the second word behind the first names the field.
+    Read(u8, u64),
 }
 
 fn keyword_at(word: &[u8]) -> Option<Keyword>
@@ -69,11 +71,16 @@ pub fn check_count(numbers: &[Option<u64>], count: usize) -> Result<(), Reason>
     }
 }
 
+fn given(numbers: &[Option<u64>], i: usize) -> Option<u64>
+    ensures { result ≡ slice_index_or numbers.now i None }
+{
+    if i < numbers.len() { numbers[i] } else { None }
+}
+
 pub fn number_of(numbers: &[Option<u64>], i: usize) -> Result<u64, Reason>
-    requires { i < length numbers.now }
     ensures { result ≡ number_at numbers.now i }
 {
-    numbers[i].ok_or(Reason::Number)
+    given(numbers, i).ok_or(Reason::Number)
 }
 
 fn is_in_limits(lps: u64, pages: u64, hkids: u64) -> bool
@@ -146,36 +153,47 @@ fn end_line(numbers: &[Option<u64>]) -> Result<Entry, Reason>
 pub fn argument(numbers: &[Option<u64>], i: usize) -> u64
     ensures { result ≡ argument numbers.now i }
 {
-    if i < numbers.len() {
-        numbers[i].unwrap_or(0)
-    } else {
-        0
-    }
+    given(numbers, i).unwrap_or(0)
 }
 
-fn built(call: CallName, numbers: &[Option<u64>]) -> Option<Call>
-    ensures { result ≡ built_of call numbers.now }
+fn built(lp: u8, call: CallName, numbers: &[Option<u64>]) -> Option<Entry>
+    ensures { result ≡ built_of lp call numbers.now }
 {
-    let first = argument(numbers, 0);
+    let tdr = argument(numbers, 0);
     let second = argument(numbers, 1);
-    let third = argument(numbers, 2);
-    match call {
-        CallName::HostRead => Some(Call::HostRead {
-            page: first,
+    let value = argument(numbers, 2);
+    let call = match call {
+        CallName::HostRead => Call::HostRead {
+            page: argument(numbers, 0),
             word: second,
-        }),
-        CallName::HostWrite => Some(Call::HostWrite {
-            page: first,
+        },
+        CallName::HostWrite => Call::HostWrite {
+            page: argument(numbers, 0),
             word: second,
-            value: third,
-        }),
-        CallName::PhymemPageRdmd => Some(Call::PhymemPageRdmd { page: first }),
-        CallName::MngCreate => Some(Call::MngCreate {
-            tdr: first,
-            hkid: second,
-        }),
-        _ => None,
-    }
+            value,
+        },
+        CallName::PhymemPageRdmd => Call::PhymemPageRdmd {
+            page: argument(numbers, 0),
+        },
+        CallName::PhymemCacheWb => Call::PhymemCacheWb,
+        CallName::PhymemPageReclaim => Call::PhymemPageReclaim { tdr, page: second },
+        CallName::MngCreate => Call::MngCreate { tdr, hkid: second },
+        CallName::MngKeyConfig => Call::MngKeyConfig { tdr },
+        CallName::MngAddcx => Call::MngAddcx { tdr, page: second },
+        CallName::MngInit => Call::MngInit { tdr },
+        CallName::MngRd => return Some(Entry::Read(lp, tdr)),
+        CallName::MngVpflushdone => Call::MngVpflushdone { tdr },
+        CallName::MngKeyFreeid => Call::MngKeyFreeid { tdr },
+        CallName::MrFinalize => Call::MrFinalize { tdr },
+        CallName::VpCreate => Call::VpCreate { tdr, page: second },
+        CallName::VpInit => Call::VpInit {
+            tdr,
+            vp: second,
+            value,
+        },
+        _ => return None,
+    };
+    Some(Entry::Call(lp, call))
 }
 
 pub fn are_numbers(numbers: &[Option<u64>]) -> bool
@@ -184,17 +202,30 @@ pub fn are_numbers(numbers: &[Option<u64>]) -> bool
     numbers.iter().all(|number| number.is_some())
 }
 
-fn judged(call: Option<Call>, mnemonic: Mnemonic, numbers: &[Option<u64>]) -> Result<Call, Reason>
-    ensures { result ≡ judged_of call mnemonic numbers.now }
+fn are_given(call: CallName, numbers: &[Option<u64>]) -> bool
+    ensures { result ≡ are_given call numbers.now }
 {
-    let call = call.ok_or(Reason::Unbuilt)?;
+    match call {
+        CallName::MngRd => given(numbers, 0).is_some(),
+        _ => are_numbers(numbers),
+    }
+}
+
+fn judged(
+    entry: Option<Entry>,
+    mnemonic: Mnemonic,
+    numbers: &[Option<u64>],
+) -> Result<Entry, Reason>
+    ensures { result ≡ judged_of entry mnemonic numbers.now }
+{
+    let entry = entry.ok_or(Reason::Unbuilt)?;
     if numbers.len() < mnemonic.least || numbers.len() > mnemonic.most {
         return Err(Reason::Count);
     }
-    if !are_numbers(numbers) {
+    if !are_given(mnemonic.call, numbers) {
         return Err(Reason::Number);
     }
-    Ok(call)
+    Ok(entry)
 }
 
 #[tactic(auto, unfolding(crate::specs::Line::call_of))]
@@ -202,8 +233,7 @@ fn call_line(lp: u8, mnemonic: Option<Mnemonic>, numbers: &[Option<u64>]) -> Res
     ensures { result ≡ call_of lp mnemonic numbers.now }
 {
     let mnemonic = mnemonic.ok_or(Reason::Word)?;
-    let call = judged(built(mnemonic.call, numbers), mnemonic, numbers)?;
-    Ok(Entry::Call(lp, call))
+    judged(built(lp, mnemonic.call, numbers), mnemonic, numbers)
 }
 
 fn first_at(keyword: Option<Keyword>, numbers: &[Option<u64>]) -> Result<Entry, Reason>
