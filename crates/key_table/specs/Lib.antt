@@ -1,0 +1,4 @@
+pub mod Words
+pub mod EndTrees
+pub mod Parts
+pub mod EndMeanings

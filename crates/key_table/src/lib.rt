@@ -1,0 +1,11 @@
+//! Leaves of the key table: the caches are written back, and a TD's life ends, its HKID and then
+//! its pages given back.
+//!
+//! Each leaf is a `Plan` of `leaf_engine`, whose tree mirrors its row, with the proof that it means
+//! that row.
+#![tactic(auto)]
+
+mod hkid_releases;
+mod words;
+
+pub use hkid_releases::FreeId;

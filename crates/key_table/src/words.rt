@@ -1,0 +1,48 @@
+//! What the words that leaves load say.
+
+ghost use Rattle.std.specs.Prelude.{◌≡◌, ◌<◌};
+ghost use Rattle.key_table.specs.Words.{says_root, life_said, key_number, is_marked};
+
+use td_words::places::{KEY_FIRST, KEY_LOCK};
+use td_words::{LifeState, Machine, PageKind};
+
+/// Whether a PAMT word says that its page is a TDR page.
+pub fn says_root(pamt: u64) -> bool
+    ensures { result ≡ says_root pamt }
+{
+    pamt % 16 == PageKind::Tdr as u64
+}
+
+/// The life state that a word of a TDR page says. Words that are none's never stand there.
+pub fn life_said(word: u64) -> LifeState
+    ensures { result ≡ life_said word }
+{
+    match word {
+        0 => LifeState::HkidAssigned,
+        1 => LifeState::KeysConfigured,
+        2 => LifeState::Blocked,
+        _ => LifeState::Teardown,
+    }
+}
+
+/// Which word of the key table is that of an HKID. A word that is none of the machine's HKIDs never
+/// stands in a TDR page.
+pub fn key_number(machine: Machine, hkid: u64) -> u16
+    ensures number { result ≡ key_number machine hkid }
+    ensures inside { result < 3 + machine.hkids }
+{
+    if 1 <= hkid && hkid <= u64::from(machine.hkids) {
+        KEY_FIRST + (hkid as u16 - 1)
+    } else {
+        KEY_LOCK
+    }
+}
+
+/// Whether a key table word is that of a flushed HKID that PHYMEM.CACHE.WB came for.
+pub fn is_marked(key: u64) -> bool
+    ensures { result ≡ is_marked key }
+{
+    key % 16 == 6
+}
+
+ghost use Rattle.std.specs.Prelude.{◌+◌};
