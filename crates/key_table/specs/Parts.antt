@@ -44,7 +44,7 @@ page_lock t = record { lock = OfPage t; mode = Exclusive } ∷ []
 
 -- what a PAMT word says
 
-kind_small : (k : PageKind) → kind_number k < 16
+pub kind_small : (k : PageKind) → kind_number k < 16
 kind_small kind.Nda = omega arith
 kind_small kind.Reg = omega arith
 kind_small kind.Tdr = omega arith

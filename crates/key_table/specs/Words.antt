@@ -1,5 +1,5 @@
 -- What the words that leaves load say.
-use Rattle.std.specs.Prelude.{ℕ, ◌+◌, ◌-◌, ◌%◌, Bool, ◌==◌, ◌&&◌, nat_le, if◌then◌else◌, List}
+use Rattle.std.specs.Prelude.{ℕ, ◌+◌, ◌-◌, ◌/◌, ◌%◌, Bool, not, ◌==◌, ◌&&◌, nat_le, if◌then◌else◌, List}
 use Rattle.std.specs.List.{list_any}
 use Rattle.td_words.specs.declared.names.PageKind.{PageKind}
 use Rattle.td_words.specs.declared.names.PageKind.TheVariants as kind
@@ -31,3 +31,11 @@ key_number m h = if nat_le 1 h && nat_le h m.hkids then KEY_FIRST + (h - 1) else
 -- a key table word of a flushed HKID that was written back
 abbrev pub is_marked : ℕ → Bool
 is_marked word = word % 16 == 6
+
+-- a key table word after PHYMEM.CACHE.WB, which marks it where the HKID is flushed
+abbrev pub marked : ℕ → ℕ
+marked word = if word % 16 == 2 then word + 4 else word
+
+-- a PAMT word of a page of that TD
+abbrev pub is_owned : ℕ → ℕ → Bool
+is_owned t word = not (word % 16 == kind_number kind.Nda) && word / 16 % 65536 == t

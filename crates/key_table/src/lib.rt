@@ -5,7 +5,11 @@
 //! that row.
 #![tactic(auto)]
 
+mod cache_write_backs;
 mod hkid_releases;
+mod page_reclaims;
 mod words;
 
+pub use cache_write_backs::CacheWb;
 pub use hkid_releases::FreeId;
+pub use page_reclaims::Reclaim;

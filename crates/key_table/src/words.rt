@@ -1,7 +1,7 @@
 //! What the words that leaves load say.
 
 ghost use Rattle.std.specs.Prelude.{◌≡◌, ◌<◌};
-ghost use Rattle.key_table.specs.Words.{says_root, life_said, key_number, is_marked};
+ghost use Rattle.key_table.specs.Words.{says_root, life_said, key_number, is_marked, is_owned, marked};
 
 use td_words::places::{KEY_FIRST, KEY_LOCK};
 use td_words::{LifeState, Machine, PageKind};
@@ -43,6 +43,20 @@ pub fn is_marked(key: u64) -> bool
     ensures { result ≡ is_marked key }
 {
     key % 16 == 6
+}
+
+/// A key table word after PHYMEM.CACHE.WB: a flushed HKID is marked as written back.
+pub fn marked(key: u64) -> u64
+    ensures { result ≡ marked key }
+{
+    if key % 16 == 2 { key + 4 } else { key }
+}
+
+/// Whether a PAMT word says that its page is one of that TD's.
+pub fn is_owned(tdr: u16, pamt: u64) -> bool
+    ensures { result ≡ is_owned tdr pamt }
+{
+    pamt % 16 != PageKind::Nda as u64 && pamt / 16 % 65536 == u64::from(tdr)
 }
 
 ghost use Rattle.std.specs.Prelude.{◌+◌};
