@@ -182,11 +182,11 @@ module _ (m : Machine) (s : State) (mem : Memory) (t : ℕ) (life' : LifeState) 
   slot_stays = built-as (Some t) (mem.slots h) (subst (λ (o : Option ℕ). IsAs (built_hasher w o) (mem.slots h)) (la.keys.owner t alive) (sh.hasher h))
 
 -- the locks of the rows
-abbrev both_locks : ℕ → List Held
+abbrev pub both_locks : ℕ → List Held
 both_locks t = record { lock = OfKeys; mode = Exclusive } ∷ page_lock t
 
 -- the store of the life state after the act
-life_owed : (m : Machine) (c : Instant) (t : ℕ) (life' : LifeState) (key' : Key) (mem : Memory) → Lawful m c.state.world → t < m.pages → c.state.world.pages.kinds t ≡ kind.Tdr
+pub life_owed : (m : Machine) (c : Instant) (t : ℕ) (life' : LifeState) (key' : Key) (mem : Memory) → Lawful m c.state.world → t < m.pages → c.state.world.pages.kinds t ≡ kind.Tdr
     → MayOweAll m (hold c (both_locks t)) (set_key (c.state.world.tds.hkids t) key' (set_life t life' c.state.world)) mem (Put (place.Word t 0) (life_number life') ∷ [])
 life_owed m c t life' key' mem la in_page is =
     let w' : World = set_key (c.state.world.tds.hkids t) key' (set_life t life' c.state.world) in

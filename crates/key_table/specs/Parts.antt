@@ -1,5 +1,5 @@
 -- Parts that the meanings of these leaves share.
-use Rattle.std.proofs.Common.{◌≡◌, ℕ, suc, ◌+◌, ◌-◌, ◌*◌, ◌%◌, ◌^◌, ◌<◌, ◌≤◌, Bool, true, false, ◌==◌, ◌&&◌, nat_le, if◌then◌else◌, List, [], ◌∷◌, ◌++◌, Option, Some, None, refl, ap, sym, ◌∙◌, subst, inl, arith}
+use Rattle.std.proofs.Common.{◌≡◌, ℕ, suc, ◌+◌, ◌-◌, ◌*◌, ◌%◌, ◌^◌, ◌<◌, ◌≤◌, Bool, true, false, ◌==◌, ◌&&◌, nat_lt, nat_le, if◌then◌else◌, List, [], ◌∷◌, ◌++◌, Option, Some, None, refl, ap, sym, ◌∙◌, subst, inl, arith}
 use Rattle.std.proofs.lemmas.Bool.{eq-eqb, eqb-true, lt-ltb, le-leb, ltb-true, leb-true}
 use Rattle.std.proofs.lemmas.Bool.Decides.{nat_tests}
 use Rattle.std.specs.List.{list_any}
@@ -21,10 +21,10 @@ use Rattle.flat_core.specs.Processor.{LockId, OfPage, OfKeys, Held}
 use Rattle.flat_core.specs.Row.{Item}
 use Rattle.flat_core.specs.Conditions.{same_kind, tdr_exclusive, is_written_back}
 use Rattle.flat_core.specs.Opening.{Opening}
-use Rattle.flat_core.specs.Lawful.{Lawful, IsAlive}
+use Rattle.flat_core.specs.Lawful.{Lawful, IsAlive, IsPageOf}
 use Rattle.flat_core.specs.Event.{State}
 use Rattle.word_rules.specs.Lines.{Line, At, in_lines}
-use Rattle.word_rules.specs.Cells.{Shows, IsAs, cell, page_cell, tdr_lines, lock_word}
+use Rattle.word_rules.specs.Cells.{Shows, IsAs, cell, page_cell, if_stands, tdr_lines, lock_word}
 use Rattle.word_rules.specs.Guards.{Grip, Rule}
 use Rattle.word_rules.specs.Rules.{Class, Whole, reads}
 use Rattle.word_rules.specs.Views.{no_page}
@@ -35,7 +35,7 @@ use Rattle.lock_words.specs.Grips.{holds, holds_alone}
 use Rattle.leaf_engine.specs.Changes.{Memory}
 use Rattle.leaf_engine.specs.Trees.{Tree}
 use Rattle.leaf_engine.specs.Means.{Instant, Means, Work, hold}
-use Rattle.key_table.specs.Words.{says_root, says_life, life_said, key_number, is_marked}
+use Rattle.key_table.specs.Words.{says_root, says_life, life_said, key_number, is_marked, page_said, count_said}
 use Rattle.key_table.specs.EndTrees.{tdr_alone}
 
 -- a TDR page's lock, held alone
@@ -178,3 +178,27 @@ alive_among allowed life.Teardown no_end among = cc
 -- the opening of a machine's runs
 unfoldable pub opening : Machine → Opening
 opening m = record { machine = m; codes = λ t i. []; calls = []; bundles = λ slot. None; secrets = λ i. 0 }
+
+-- what may be done at a word of a page of that kind, of that TD
+pub page_may : (g : Grip) (w : World) (p i u : ℕ) (k : PageKind) (rule : Class → Rule) → IsPageOf w.pages u p k → MayAt g (page_spot w u p k i) rule → MayAt g (spot w (place.Word p i)) rule
+page_may g w p i u k rule is may =
+    subst (λ (v : ℕ). MayAt g (page_spot w v p (w.pages.kinds p) i) rule) (sym is.owner)
+    (subst (λ (x : PageKind). MayAt g (page_spot w u p x i) rule) (sym is.kind) may)
+
+-- what it shows
+pub page_shown : (m : Machine) (c : Instant) (p i u : ℕ) (k : PageKind) → Shows m c.memory.words c.memory.slots c.state → IsPageOf c.state.world.pages u p k → p < m.pages → i < 512
+    → IsAs (page_cell c.state.world (lock_word c.state.lps c.state.lp_count) u p k i) (c.memory.words (place.Word p i))
+page_shown m c p i u k s is a b =
+    let locks : LockId → ℕ = lock_word c.state.lps c.state.lp_count in
+    subst (λ (v : ℕ). IsAs (page_cell c.state.world locks v p k i) (c.memory.words (place.Word p i))) is.owner
+    (subst (λ (x : PageKind). IsAs (page_cell c.state.world locks (c.state.world.pages.owners p) p x i) (c.memory.words (place.Word p i))) is.kind (s.word (place.Word p i) (a, b)))
+
+-- of a TD that stands
+pub standing_shown : {A : Type 0} (s : LifeState) (o : Option A) (x : A) → (life_number s == life_number life.Teardown) ≡ false → IsAs (if_stands s o) x → IsAs o x
+standing_shown s o x e a = subst (λ (b : Bool). IsAs (if b then None else o) x) e a
+
+pub said_page : (m : Machine) (t p : ℕ) → p < m.pages → page_said m t p ≡ p
+said_page m t p b = (let is : nat_lt p m.pages ≡ true = lt-ltb p m.pages b in rw is refl)
+
+pub said_count : (n : ℕ) → n ≤ 8 → count_said n ≡ n
+said_count n b = (let is : nat_le n 8 ≡ true = le-leb n 8 b in rw is refl)

@@ -1,5 +1,5 @@
 -- What the words that leaves load say.
-use Rattle.std.specs.Prelude.{ℕ, ◌+◌, ◌-◌, ◌/◌, ◌%◌, Bool, not, ◌==◌, ◌&&◌, nat_le, if◌then◌else◌, List}
+use Rattle.std.specs.Prelude.{ℕ, ◌+◌, ◌-◌, ◌/◌, ◌%◌, Bool, not, ◌==◌, ◌&&◌, nat_lt, nat_le, if◌then◌else◌, List}
 use Rattle.std.specs.List.{list_any}
 use Rattle.td_words.specs.declared.names.PageKind.{PageKind}
 use Rattle.td_words.specs.declared.names.PageKind.TheVariants as kind
@@ -39,3 +39,11 @@ marked word = if word % 16 == 2 then word + 4 else word
 -- a PAMT word of a page of that TD
 abbrev pub is_owned : ℕ → ℕ → Bool
 is_owned t word = not (word % 16 == kind_number kind.Nda) && word / 16 % 65536 == t
+
+-- the page that a word names, and the number of a TD's virtual processors. Other words, for which another page of the
+-- machine and 0 stand, are never told
+abbrev pub page_said : Machine → (other word : ℕ) → ℕ
+page_said m other word = if nat_lt word m.pages then word else other
+
+abbrev pub count_said : ℕ → ℕ
+count_said word = if nat_le word 8 then word else 0

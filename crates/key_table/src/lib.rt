@@ -6,10 +6,12 @@
 #![tactic(auto)]
 
 mod cache_write_backs;
+mod flush_ends;
 mod hkid_releases;
 mod page_reclaims;
 mod words;
 
 pub use cache_write_backs::CacheWb;
+pub use flush_ends::FlushDone;
 pub use hkid_releases::FreeId;
 pub use page_reclaims::Reclaim;

@@ -1,7 +1,7 @@
 //! What the words that leaves load say.
 
-ghost use Rattle.std.specs.Prelude.{◌≡◌, ◌<◌};
-ghost use Rattle.key_table.specs.Words.{says_root, life_said, key_number, is_marked, is_owned, marked};
+ghost use Rattle.std.specs.Prelude.{◌≡◌, ◌<◌, ◌≤◌};
+ghost use Rattle.key_table.specs.Words.{says_root, life_said, key_number, is_marked, is_owned, marked, page_said, count_said};
 
 use td_words::places::{KEY_FIRST, KEY_LOCK};
 use td_words::{LifeState, Machine, PageKind};
@@ -57,6 +57,28 @@ pub fn is_owned(tdr: u16, pamt: u64) -> bool
     ensures { result ≡ is_owned tdr pamt }
 {
     pamt % 16 != PageKind::Nda as u64 && pamt / 16 % 65536 == u64::from(tdr)
+}
+
+/// The page that a word names. Another word never stands there, and another page of the machine
+/// stands for it.
+pub fn page_said(machine: Machine, other: u16, word: u64) -> u16
+    requires { other < machine.pages }
+    ensures page { result ≡ page_said machine other word }
+    ensures inside { result < machine.pages }
+{
+    if word < u64::from(machine.pages) {
+        word as u16
+    } else {
+        other
+    }
+}
+
+/// The number of a TD's virtual processors. A word above 8 never stands there.
+pub fn count_said(word: u64) -> u16
+    ensures count { result ≡ count_said word }
+    ensures few { result ≤ 8 }
+{
+    if word <= 8 { word as u16 } else { 0 }
 }
 
 ghost use Rattle.std.specs.Prelude.{◌+◌};
