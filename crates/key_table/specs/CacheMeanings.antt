@@ -1,6 +1,6 @@
 -- The leaf that writes the caches back means its row.
-use Rattle.std.proofs.Common.{◌≡◌, ℕ, suc, zero, ◌+◌, ◌-◌, ◌*◌, ◌%◌, ◌<◌, ◌≤◌, Bool, true, false, ◌==◌, nat_lt, if◌then◌else◌, List, [], ◌∷◌, ◌++◌, Option, Some, None, refl, ap, sym, ◌∙◌, subst, inl, inr, arith}
-use Rattle.std.proofs.lemmas.Bool.{eq-eqb, eqb-true, ne_eqb, ltb-true}
+use Rattle.std.proofs.Common.{◌≡◌, ℕ, suc, zero, ◌+◌, ◌-◌, ◌*◌, ◌%◌, ◌<◌, ◌≤◌, true, false, ◌==◌, nat_lt, List, [], ◌∷◌, ◌++◌, Option, Some, None, refl, ap, sym, ◌∙◌, subst, inl, arith}
+use Rattle.std.proofs.lemmas.Bool.{eqb-true, ne_eqb, ltb-true}
 use Rattle.std.proofs.lemmas.Bool.Decides.{nat_tests}
 use Rattle.td_words.specs.declared.names.PageKind.{PageKind}
 use Rattle.td_words.specs.declared.names.PageKind.TheVariants as kind
@@ -129,13 +129,13 @@ module _ (m : Machine) (s : State) (mem : Memory) (sh : Shows m mem.words mem.sl
       let was : IsAs (cell s (place.Key j)) (mem.words (place.Key j)) = sh.word (place.Key j) b in
       by_test (nat_lt j 3)
       (λ e. (let low : j < 3 = ltb-true j 3 e in
-          rw (before mem.words 3 m.hkids j mem low) (subst (λ (x : Option ℕ). IsAs x (mem.words (place.Key j))) (sym (low_kept (lock_word s.lps s.lp_count OfKeys) j low)) was)))
+      rw (before mem.words 3 m.hkids j mem low) (subst (λ (x : Option ℕ). IsAs x (mem.words (place.Key j))) (sym (low_kept (lock_word s.lps s.lp_count OfKeys) j low)) was)))
       (λ e. (let from : 3 ≤ j = grind (arith, nat_tests) in
-          let x : (j == 0) ≡ false = grind (arith, nat_tests) in
-          let y : (j == 1) ≡ false = grind (arith, nat_tests) in
-          let z : (j == 2) ≡ false = grind (arith, nat_tests) in
-          let now : mem.words (place.Key j) ≡ key_word (s.world.key_table.keys (suc (j - 3))) = rw (x, y, z) at was in
-          rw (at_key mem.words 3 m.hkids j mem from b, now, x, y, z) (marks_key (s.world.key_table.keys (suc (j - 3))))))
+      let x : (j == 0) ≡ false = grind (arith, nat_tests) in
+      let y : (j == 1) ≡ false = grind (arith, nat_tests) in
+      let z : (j == 2) ≡ false = grind (arith, nat_tests) in
+      let now : mem.words (place.Key j) ≡ key_word (s.world.key_table.keys (suc (j - 3))) = rw (x, y, z) at was in
+      rw (at_key mem.words 3 m.hkids j mem from b, now, x, y, z) (marks_key (s.world.key_table.keys (suc (j - 3))))))
 
   pub marked_shown : Shows m after.words after.slots s'
   marked_shown = record { word = at; hasher = slot }
@@ -191,7 +191,7 @@ loads m c number (suc left) cs a b end =
       omega arith,
       inl (rw no (inl (refl, tt))),
       loads m c (suc number) left (cs ++ store ∷ []) (omega arith) (omega arith)
-        (subst (λ (xs : List Change). Means m c the_work keys_lock (mark_keys 0 zero xs) []) (sym (assoc cs store (all_marks c.memory.words (suc number) left))) end),
+          (subst (λ (xs : List Change). Means m c the_work keys_lock (mark_keys 0 zero xs) []) (sym (assoc cs store (all_marks c.memory.words (suc number) left))) end),
     )
 
 back_respects : (m : Machine) (c : Instant) → Lawful m c.state.world → Respects (hold c keys_lock) c.state.world (write_back c.state.world)

@@ -1,5 +1,5 @@
 -- The leaf that frees an HKID means its row.
-use Rattle.std.proofs.Common.{◌≡◌, ℕ, suc, zero, ◌+◌, ◌-◌, ◌*◌, ◌%◌, ◌<◌, ◌≤◌, Bool, true, false, ◌==◌, ◌&&◌, nat_lt, if◌then◌else◌, List, [], ◌∷◌, ◌++◌, length, Option, Some, None, refl, ap, sym, ◌∙◌, subst, inl, arith}
+use Rattle.std.proofs.Common.{◌≡◌, ℕ, suc, zero, ◌+◌, ◌-◌, ◌<◌, ◌≤◌, Bool, true, false, ◌==◌, nat_lt, if◌then◌else◌, List, [], ◌∷◌, length, Option, Some, None, refl, sym, subst, inl, arith}
 use Rattle.std.specs.Prelude.{slice_index}
 use Rattle.std.proofs.lemmas.Bool.{eq-eqb, eqb-true, ltb-true}
 use Rattle.std.proofs.lemmas.Bool.Decides.{nat_tests}
@@ -11,12 +11,11 @@ use Rattle.td_words.specs.declared.names.Mode.TheVariants.{Exclusive}
 use Rattle.td_words.specs.declared.machines.Machine.{Machine}
 use Rattle.td_words.specs.declared.calls.Call.TheVariants as call
 use Rattle.td_words.specs.NameNumber.{life_number}
-use Rattle.td_words.specs.Packing.{Key, Unassigned, AssignedTo, FlushedOf, key_word}
+use Rattle.td_words.specs.Packing.{Key, Unassigned, key_word}
 use Rattle.td_words.specs.Place.{WordPlace, IsIn}
 use Rattle.td_words.specs.Place as place
 use Rattle.flat_core.specs.World.{World}
-use Rattle.flat_core.specs.Processor.{LockId, OfPage, OfKeys, Held}
-use Rattle.flat_core.specs.Opening.{Opening}
+use Rattle.flat_core.specs.Processor.{LockId, OfKeys, Held}
 use Rattle.flat_core.specs.Effects.{set_key, set_life}
 use Rattle.flat_core.specs.KeyRows.{free_hkid}
 use Rattle.flat_core.specs.Conditions.{children, same_kind, keys_exclusive, is_written_back, written_back_key}
@@ -29,11 +28,10 @@ use Rattle.word_rules.specs.Cells.{Shows, IsAs, cell, page_cell, control_cell, r
 use Rattle.act_rules.proofs.Rows.{rows-respect}
 use Rattle.act_rules.proofs.Stored.{by_test}
 use Rattle.leaf_engine.specs.declared.needs.Place.{Place}
-use Rattle.lock_words.specs.Grips.{holds, holds_alone}
 use Rattle.leaf_engine.specs.Changes.{Memory, Put, changed, changed_all}
 use Rattle.leaf_engine.specs.Trees.{Lock, Load}
 use Rattle.leaf_engine.specs.Means.{Instant, Means, Work, work_of, OfCall, MeansRow, MayOweAll, hold}
-use Rattle.key_table.specs.Words.{says_life, key_number, is_marked}
+use Rattle.key_table.specs.Words.{says_life, key_number}
 use Rattle.key_table.specs.EndTrees.{end_changes, free_key, free_task}
 use Rattle.key_table.specs.Parts.{page_lock, tdr_kind, tdr_shown, tdr_may, holds_it, holds_it_alone, tdr-alone-means, key_inside, key_at, key_lock_apart, key_shown, marked_word, alive_among, opening}
 
@@ -228,8 +226,10 @@ module _ (m : Machine) (c : Instant) (t : ℕ) (shown : Shows m c.memory.words c
           locks_stay = ((refl, λ x. x), ((refl, λ x. x), tt));
           shows = ended_shown m c.state c.memory t life.Teardown Unassigned shown la free-alive tt;
         },
-        ((key_inside m fh, (KeepsNothing, rw (key_lock_apart m fh from to) (inl (refl, tt)), tt)),
-        life_owed m c t life.Teardown Unassigned (changed (Put (place.Key (key_number m fh)) 0) c.memory) la in_page free-alive.kind),
+        (
+          (key_inside m fh, (KeepsNothing, rw (key_lock_apart m fh from to) (inl (refl, tt)), tt)),
+          life_owed m c t life.Teardown Unassigned (changed (Put (place.Key (key_number m fh)) 0) c.memory) la in_page free-alive.kind,
+        ),
       ),
     ),
   )
@@ -250,8 +250,8 @@ free-means p t = record {
                 (in_page, omega arith),
                 inl (tdr_may (hold c (both_locks t)) w t 1 (λ x. reads x Whole) is (at.lawful.pages.tdr t is) (inl (holds_it t c.kept, tt))),
                 (let now : c.memory.words (place.Word t 1) ≡ w.tds.hkids t = tdr_shown p.machine c t 1 at.shown at.lawful in_page (omega arith) is in
-                let root : same_kind (w.pages.kinds t) kind.Tdr ≡ true = rw is refl in
-                subst (λ (h : ℕ). Means p.machine c k (both_locks t) (free_key p.machine t h) (written_back_key w t ∷ [])) (sym now) (free_key-means p.machine c t at.shown at.lawful a root among)),
+                    let root : same_kind (w.pages.kinds t) kind.Tdr ≡ true = rw is refl in
+                    subst (λ (h : ℕ). Means p.machine c k (both_locks t) (free_key p.machine t h) (written_back_key w t ∷ [])) (sym now) (free_key-means p.machine c t at.shown at.lawful a root among)),
               ),
             ))),
       ));

@@ -1,7 +1,7 @@
 -- The leaf that ends a flush means its row.
-use Rattle.std.proofs.Common.{◌≡◌, ℕ, suc, zero, ◌+◌, ◌-◌, ◌*◌, ◌<◌, ◌≤◌, Bool, true, false, not, ◌==◌, nat_lt, List, [], ◌∷◌, ◌++◌, length, Option, Some, None, refl, ap, sym, ◌∙◌, subst, inl, inr, arith}
+use Rattle.std.proofs.Common.{◌≡◌, ℕ, suc, zero, ◌+◌, ◌<◌, ◌≤◌, Bool, true, false, not, ◌==◌, nat_lt, List, [], ◌∷◌, length, Option, Some, None, refl, ap, sym, ◌∙◌, subst, inl, arith}
 use Rattle.std.specs.Prelude.{slice_index, slice_get}
-use Rattle.std.proofs.lemmas.Bool.{eq-eqb, eqb-true, ltb-true}
+use Rattle.std.proofs.lemmas.Bool.{eq-eqb, ltb-true}
 use Rattle.std.proofs.lemmas.Bool.Decides.{nat_tests}
 use Rattle.td_words.specs.declared.names.PageKind.{PageKind}
 use Rattle.td_words.specs.declared.names.PageKind.TheVariants as kind
@@ -19,7 +19,7 @@ use Rattle.td_words.specs.Place as place
 use Rattle.flat_core.specs.World.{World, Pages}
 use Rattle.flat_core.specs.Row.{Item}
 use Rattle.flat_core.specs.Locks.{one_if}
-use Rattle.flat_core.specs.Processor.{LockId, OfPage, OfKeys, Held}
+use Rattle.flat_core.specs.Processor.{LockId}
 use Rattle.flat_core.specs.KeyRows.{end_flush}
 use Rattle.flat_core.specs.Conditions.{same_kind, keys_exclusive, one_if_some, associated_in, associated_count, none_associated}
 use Rattle.flat_core.specs.Lawful.{Lawful, IsAlive, IsPageOf, AreControls, ArePagesOf}
@@ -30,15 +30,14 @@ use Rattle.word_rules.specs.Spots.{tdcs_classes, control_class, or_unused, is_cu
 use Rattle.word_rules.specs.Permissions.{MayAt, Reads, Respects}
 use Rattle.word_rules.specs.Cells.{Shows, IsAs, control_cell, td_lock_lines, tdcs_lines, vp_lines, associated_word, lock_word}
 use Rattle.act_rules.proofs.Rows.{rows-respect}
-use Rattle.act_rules.proofs.Stored.{by_test}
 use Rattle.leaf_engine.specs.declared.needs.Place.{Place}
 use Rattle.leaf_engine.specs.Changes.{Put, changed}
-use Rattle.leaf_engine.specs.Trees.{Tree, Load, acts}
+use Rattle.leaf_engine.specs.Trees.{Load, acts}
 use Rattle.leaf_engine.specs.Means.{Instant, Means, Work, work_of, OfCall, MeansRow, hold}
 use Rattle.key_table.specs.Words.{says_life, key_number, page_said, count_said}
 use Rattle.key_table.specs.EndTrees.{end_changes}
 use Rattle.key_table.specs.FlushTrees.{flush_counted, count_vps, flush_vps, flush_task}
-use Rattle.key_table.specs.Parts.{page_lock, tdr_kind, tdr_shown, tdr_may, page_may, page_shown, standing_shown, said_page, said_count, holds_it, holds_it_alone, tdr-alone-means, key_inside, key_lock_apart, alive_among, opening}
+use Rattle.key_table.specs.Parts.{page_lock, tdr_shown, tdr_may, page_may, page_shown, standing_shown, said_page, said_count, holds_it, holds_it_alone, tdr-alone-means, key_inside, key_lock_apart, alive_among, opening}
 use Rattle.key_table.specs.EndMeanings.{both_locks, life_owed, ended_shown, slot_stays}
 
 -- the lines of TDCS that name virtual processors
@@ -141,17 +140,19 @@ module _ (m : Machine) (c : Instant) (t : ℕ) (shown : Shows m c.memory.words c
         (in_page, omega arith),
         inl (tdr_may (hold c (both_locks t)) w t 1 (λ x. reads x Whole) is own (inl (holds_it t c.kept, tt))),
         (let now : c.memory.words (place.Word t 1) ≡ h = tdr_shown m c t 1 shown la in_page (omega arith) is in
-        subst (λ (k : ℕ). Means m c work (both_locks t) (acts (Done value.Nothing) (end_changes m t k (FlushedOf t false) life.Blocked)) []) (sym now) (
-          record {
-            reply_is = refl;
-            fills_allowed = tt;
-            respects = flush_respects none;
-            locks_stay = ((refl, λ x. x), ((refl, λ x. x), tt));
-            shows = ended_shown m c.state c.memory t life.Blocked (FlushedOf t false) shown la alive (slot_stays m c.state c.memory t life.Blocked (FlushedOf t false) shown la alive);
-          },
-          ((key_inside m h, (KeepsNothing, rw (key_lock_apart m h from to) (inl (refl, tt)), tt)),
-          life_owed m c t life.Blocked (FlushedOf t false) (changed (Put (place.Key (key_number m h)) (key_word (FlushedOf t false))) c.memory) la in_page is),
-        )),
+            subst (λ (k : ℕ). Means m c work (both_locks t) (acts (Done value.Nothing) (end_changes m t k (FlushedOf t false) life.Blocked)) []) (sym now) (
+              record {
+                reply_is = refl;
+                fills_allowed = tt;
+                respects = flush_respects none;
+                locks_stay = ((refl, λ x. x), ((refl, λ x. x), tt));
+                shows = ended_shown m c.state c.memory t life.Blocked (FlushedOf t false) shown la alive (slot_stays m c.state c.memory t life.Blocked (FlushedOf t false) shown la alive);
+              },
+              (
+                (key_inside m h, (KeepsNothing, rw (key_lock_apart m h from to) (inl (refl, tt)), tt)),
+                life_owed m c t life.Blocked (FlushedOf t false) (changed (Put (place.Key (key_number m h)) (key_word (FlushedOf t false))) c.memory) la in_page is,
+              ),
+            )),
       ),
     ),
   )
@@ -203,13 +204,13 @@ module _ (m : Machine) (c : Instant) (t : ℕ) (shown : Shows m c.memory.words c
           (tdcs_in, omega arith),
           inl (tdcs_reads (40 + number) (vp_class (is_current w t) (is_empty w t) number small)),
           subst (λ (x : ℕ). Means m c work (page_lock t) (Load Whole (place.Word (page_said m t x) 2) (λ y. count_vps m t tdcs (suc number) (length vs) (n + one_if (not (y == 0))))) items) (sym said)
-            (subst (λ (x : ℕ). Means m c work (page_lock t) (Load Whole (place.Word x 2) (λ y. count_vps m t tdcs (suc number) (length vs) (n + one_if (not (y == 0))))) items) (sym (said_page m t v v_in)) (
-              (v_in, omega arith),
-              inl (page_may (hold c (page_lock t)) w v 2 t kind.Tdvpr (λ x. reads x Whole) its.0 (inl (holds_it_alone t c.kept, tt))),
-              counts vs (suc number) (n + one_if (not (c.memory.words (place.Word v 2) == 0))) (omega arith) its.1
-                (λ i. (let more : suc number + i ≡ number + suc i = omega arith in ap (slice_get (w.tds.vps t)) more ∙ at (suc i)))
-                (ap (λ (x : ℕ). n + x + associated_in w.vps.associated vs) one ∙ (plus n (one_if_some (w.vps.associated v)) (associated_in w.vps.associated vs) ∙ sum)),
-            )),
+              (subst (λ (x : ℕ). Means m c work (page_lock t) (Load Whole (place.Word x 2) (λ y. count_vps m t tdcs (suc number) (length vs) (n + one_if (not (y == 0))))) items) (sym (said_page m t v v_in)) (
+                (v_in, omega arith),
+                inl (page_may (hold c (page_lock t)) w v 2 t kind.Tdvpr (λ x. reads x Whole) its.0 (inl (holds_it_alone t c.kept, tt))),
+                counts vs (suc number) (n + one_if (not (c.memory.words (place.Word v 2) == 0))) (omega arith) its.1
+                    (λ i. (let more : suc number + i ≡ number + suc i = omega arith in ap (slice_get (w.tds.vps t)) more ∙ at (suc i)))
+                    (ap (λ (x : ℕ). n + x + associated_in w.vps.associated vs) one ∙ (plus n (one_if_some (w.vps.associated v)) (associated_in w.vps.associated vs) ∙ sum)),
+              )),
         )
       where
         plus : (x y z : ℕ) → x + y + z ≡ x + (y + z)
@@ -226,12 +227,12 @@ module _ (m : Machine) (c : Instant) (t : ℕ) (shown : Shows m c.memory.words c
           (in_page, omega arith),
           inl (tdr_may (hold c (page_lock t)) w t 4 (λ x. reads x Whole) is own (inl (holds_it t c.kept, tt))),
           subst (λ (x : ℕ). Means m c work (page_lock t) (Load Whole (place.Word (page_said m t x) 15) (λ y. count_vps m t (page_said m t x) 0 (count_said y) 0)) items) (sym said)
-            (subst (λ (x : ℕ). Means m c work (page_lock t) (Load Whole (place.Word x 15) (λ y. count_vps m t x 0 (count_said y) 0)) items) (sym (said_page m t tdcs tdcs_in)) (
-              (tdcs_in, omega arith),
-              inl (tdcs_reads 15 refl),
-              subst (λ (x : ℕ). Means m c work (page_lock t) (count_vps m t tdcs 0 x 0) items) (sym (ap count_said count ∙ said_count (length (w.tds.vps t)) few))
-                (counts (w.tds.vps t) 0 0 (omega arith) (la.tds.vps t alive) (λ i. ap (slice_get (w.tds.vps t)) (from_zero i)) (from_zero (associated_count w t))),
-            )),
+              (subst (λ (x : ℕ). Means m c work (page_lock t) (Load Whole (place.Word x 15) (λ y. count_vps m t x 0 (count_said y) 0)) items) (sym (said_page m t tdcs tdcs_in)) (
+                (tdcs_in, omega arith),
+                inl (tdcs_reads 15 refl),
+                subst (λ (x : ℕ). Means m c work (page_lock t) (count_vps m t tdcs 0 x 0) items) (sym (ap count_said count ∙ said_count (length (w.tds.vps t)) few))
+                    (counts (w.tds.vps t) 0 0 (omega arith) (la.tds.vps t alive) (λ i. ap (slice_get (w.tds.vps t)) (from_zero i)) (from_zero (associated_count w t))),
+              )),
         )
 
   flush_vps-means : (b : Bool) → (length (w.tds.controls t) == 2) ≡ b → Means m c work (page_lock t) (flush_vps m t b) items
@@ -243,7 +244,7 @@ module _ (m : Machine) (c : Instant) (t : ℕ) (shown : Shows m c.memory.words c
     (in_page, omega arith),
     inl (tdr_may (hold c (page_lock t)) w t 3 (λ x. reads x Whole) is own (inl (holds_it t c.kept, tt))),
     (let now : c.memory.words (place.Word t 3) ≡ length (w.tds.controls t) = tdr_shown m c t 3 shown la in_page (omega arith) is in
-    subst (λ (x : ℕ). Means m c work (page_lock t) (flush_vps m t (x == 2)) items) (sym now) (flush_vps-means (length (w.tds.controls t) == 2) refl)),
+        subst (λ (x : ℕ). Means m c work (page_lock t) (flush_vps m t (x == 2)) items) (sym now) (flush_vps-means (length (w.tds.controls t) == 2) refl)),
   )
 
 pub flush-means : (p : Place) (t : ℕ) → MeansRow (flush_task p t)
@@ -253,6 +254,6 @@ flush-means p t = record {
     refl,
     λ e. refl,
     λ a. tdr-alone-means p.machine c (work_of (OfCall (end_flush p.machine t))) t flushable (Load Whole (place.Word t 3) (λ count. flush_vps p.machine t (count == 2))) (none_associated c.state.world t ∷ keys_exclusive ∷ [])
-      at.shown at.lawful (ltb-true t p.machine.pages a) (λ is among. count_loaded p.machine c t at.shown at.lawful a is among),
+        at.shown at.lawful (ltb-true t p.machine.pages a) (λ is among. count_loaded p.machine c t at.shown at.lawful a is among),
   );
 }

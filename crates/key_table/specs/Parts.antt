@@ -1,30 +1,27 @@
 -- Parts that the meanings of these leaves share.
-use Rattle.std.proofs.Common.{◌≡◌, ℕ, suc, ◌+◌, ◌-◌, ◌*◌, ◌%◌, ◌^◌, ◌<◌, ◌≤◌, Bool, true, false, ◌==◌, ◌&&◌, nat_lt, nat_le, if◌then◌else◌, List, [], ◌∷◌, ◌++◌, Option, Some, None, refl, ap, sym, ◌∙◌, subst, inl, arith}
-use Rattle.std.proofs.lemmas.Bool.{eq-eqb, eqb-true, lt-ltb, le-leb, ltb-true, leb-true}
+use Rattle.std.proofs.Common.{◌≡◌, ℕ, suc, ◌+◌, ◌-◌, ◌*◌, ◌%◌, ◌<◌, ◌≤◌, Bool, true, false, ◌==◌, ◌&&◌, nat_lt, nat_le, if◌then◌else◌, List, [], ◌∷◌, ◌++◌, Option, None, refl, sym, subst, inl, arith}
+use Rattle.std.proofs.lemmas.Bool.{eq-eqb, lt-ltb, le-leb, leb-true}
 use Rattle.std.proofs.lemmas.Bool.Decides.{nat_tests}
 use Rattle.std.specs.List.{list_any}
 use Rattle.td_words.specs.declared.names.PageKind.{PageKind}
 use Rattle.td_words.specs.declared.names.PageKind.TheVariants as kind
 use Rattle.td_words.specs.declared.names.LifeState.{LifeState}
 use Rattle.td_words.specs.declared.names.LifeState.TheVariants as life
-use Rattle.td_words.specs.declared.names.Mode.{Mode}
 use Rattle.td_words.specs.declared.names.Mode.TheVariants.{Exclusive}
 use Rattle.td_words.specs.declared.replies.Reply.{Reply}
 use Rattle.td_words.specs.declared.machines.Machine.{Machine}
-use Rattle.td_words.specs.declared.places.TheConstants.{TDR_LIFE}
 use Rattle.td_words.specs.NameNumber.{kind_number, life_number}
 use Rattle.td_words.specs.Packing.{Key, Unassigned, AssignedTo, FlushedOf, key_word, pamt_word}
 use Rattle.td_words.specs.Place.{WordPlace, IsIn}
 use Rattle.td_words.specs.Place as place
 use Rattle.flat_core.specs.World.{World}
-use Rattle.flat_core.specs.Processor.{LockId, OfPage, OfKeys, Held}
+use Rattle.flat_core.specs.Processor.{LockId, OfPage, Held}
 use Rattle.flat_core.specs.Row.{Item}
 use Rattle.flat_core.specs.Conditions.{same_kind, tdr_exclusive, is_written_back}
 use Rattle.flat_core.specs.Opening.{Opening}
-use Rattle.flat_core.specs.Lawful.{Lawful, IsAlive, IsPageOf}
-use Rattle.flat_core.specs.Event.{State}
-use Rattle.word_rules.specs.Lines.{Line, At, in_lines}
-use Rattle.word_rules.specs.Cells.{Shows, IsAs, cell, page_cell, if_stands, tdr_lines, lock_word}
+use Rattle.flat_core.specs.Lawful.{Lawful, IsPageOf}
+use Rattle.word_rules.specs.Lines.{in_lines}
+use Rattle.word_rules.specs.Cells.{Shows, IsAs, page_cell, if_stands, tdr_lines, lock_word}
 use Rattle.word_rules.specs.Guards.{Grip, Rule}
 use Rattle.word_rules.specs.Rules.{Class, Whole, reads}
 use Rattle.word_rules.specs.Views.{no_page}
@@ -32,7 +29,6 @@ use Rattle.word_rules.specs.Spots.{spot, page_spot, tdr_classes, or_unused}
 use Rattle.word_rules.specs.Permissions.{MayAt}
 use Rattle.act_rules.proofs.Stored.{by_test}
 use Rattle.lock_words.specs.Grips.{holds, holds_alone}
-use Rattle.leaf_engine.specs.Changes.{Memory}
 use Rattle.leaf_engine.specs.Trees.{Tree}
 use Rattle.leaf_engine.specs.Means.{Instant, Means, Work, hold}
 use Rattle.key_table.specs.Words.{says_root, says_life, life_said, key_number, is_marked, page_said, count_said}

@@ -1,11 +1,10 @@
 -- The leaf that gives a page back means its row.
-use Rattle.std.proofs.Common.{◌≡◌, ℕ, suc, zero, ◌+◌, ◌-◌, ◌*◌, ◌/◌, ◌%◌, ◌^◌, ◌<◌, ◌≤◌, Bool, true, false, not, ◌==◌, ◌&&◌, nat_lt, if◌then◌else◌, List, [], ◌∷◌, ◌++◌, length, Option, Some, None, refl, ap, sym, ◌∙◌, subst, inl, inr, arith}
+use Rattle.std.proofs.Common.{◌≡◌, ℕ, suc, zero, ◌+◌, ◌-◌, ◌/◌, ◌%◌, ◌<◌, ◌≤◌, Bool, true, false, not, ◌==◌, ◌&&◌, nat_lt, if◌then◌else◌, List, [], ◌∷◌, ◌++◌, length, Option, Some, None, refl, ap, sym, ◌∙◌, subst, inl, arith}
 use Rattle.std.specs.Prelude.{slice_index}
 use Rattle.std.proofs.lemmas.Bool.{eq-eqb, eqb-true, ne_eqb, ltb-true}
 use Rattle.std.proofs.lemmas.Bool.Decides.{nat_tests}
 use Rattle.td_words.specs.declared.names.PageKind.{PageKind}
 use Rattle.td_words.specs.declared.names.PageKind.TheVariants as kind
-use Rattle.td_words.specs.declared.names.LifeState.{LifeState}
 use Rattle.td_words.specs.declared.names.LifeState.TheVariants as life
 use Rattle.td_words.specs.declared.names.Mode.TheVariants.{Exclusive}
 use Rattle.td_words.specs.declared.machines.Machine.{Machine}
@@ -39,7 +38,7 @@ use Rattle.leaf_engine.specs.Trees.{acts}
 use Rattle.leaf_engine.specs.Means.{Instant, Means, Work, work_of, OfCall, MeansRow, MayOwe, hold}
 use Rattle.key_table.specs.Words.{says_life, is_owned}
 use Rattle.key_table.specs.ReclaimTrees.{give_back_tdr, give_back_child, reclaim_rest, reclaim_task}
-use Rattle.key_table.specs.Parts.{page_lock, tdr_kind, kind_bits, kind_small, pamt_shown, tdr_shown, tdr_may, holds_it, holds_it_alone, tdr-alone-means, opening}
+use Rattle.key_table.specs.Parts.{page_lock, kind_bits, kind_small, pamt_shown, tdr_shown, tdr_may, holds_it, holds_it_alone, tdr-alone-means, opening}
 
 -- A page of a TD is given back.
 module _ (m : Machine) (s : State) (mem : Memory) (t p : ℕ) (sh : Shows m mem.words mem.slots s) (la : Lawful m s.world) (root : s.world.pages.kinds t ≡ kind.Tdr) (no-host : is_host s.world p ≡ false) (its : s.world.pages.owners p ≡ t) where
@@ -58,9 +57,9 @@ module _ (m : Machine) (s : State) (mem : Memory) (t p : ℕ) (sh : Shows m mem.
   same-owned u zero d = refl
   same-owned u (suc n) d = by_test (n == p)
       (λ e. (let is : n ≡ p = eqb-true n p e in
-          let own : w.pages.owners n ≡ t = ap w.pages.owners is ∙ its in
-          let there : is_host_in w.pages n ≡ false = ap (is_host_in w.pages) is ∙ no-host in
-          rw (e, own, there, d, same-owned u n d) refl))
+      let own : w.pages.owners n ≡ t = ap w.pages.owners is ∙ its in
+      let there : is_host_in w.pages n ≡ false = ap (is_host_in w.pages) is ∙ no-host in
+      rw (e, own, there, d, same-owned u n d) refl))
       (λ e. rw (e, same-owned u n d) refl)
 
   kept-owned : (n : ℕ) → n ≤ p → owned_below w'.pages t n ≡ owned_below w.pages t n
@@ -77,13 +76,13 @@ module _ (m : Machine) (s : State) (mem : Memory) (t p : ℕ) (sh : Shows m mem.
   less-owned zero d b = absurd (omega arith)
   less-owned (suc n) d b = by_test (n == p)
       (λ e. (let is : n ≡ p = eqb-true n p e in
-          let apart : (n == t) ≡ false = ap (λ (x : ℕ). x == t) is ∙ d in
-          let own : w.pages.owners n ≡ t = ap w.pages.owners is ∙ its in
-          let there : is_host_in w.pages n ≡ false = ap (is_host_in w.pages) is ∙ no-host in
-          let k : owned_below w'.pages t n ≡ owned_below w.pages t n = kept-owned n (omega arith) in
-          rw (e, apart, own, there, k, eq-eqb t t refl) (one-plus (owned_below w.pages t n))))
+      let apart : (n == t) ≡ false = ap (λ (x : ℕ). x == t) is ∙ d in
+      let own : w.pages.owners n ≡ t = ap w.pages.owners is ∙ its in
+      let there : is_host_in w.pages n ≡ false = ap (is_host_in w.pages) is ∙ no-host in
+      let k : owned_below w'.pages t n ≡ owned_below w.pages t n = kept-owned n (omega arith) in
+      rw (e, apart, own, there, k, eq-eqb t t refl) (one-plus (owned_below w.pages t n))))
       (λ e. (let more : p < n = grind (arith, nat_tests) in
-          rw (e, less-owned n d more) (plus-suc (one_if (not (n == t) && (not (is_host_in w.pages n) && w.pages.owners n == t))) (owned_below w'.pages t n))))
+      rw (e, less-owned n d more) (plus-suc (one_if (not (n == t) && (not (is_host_in w.pages n) && w.pages.owners n == t))) (owned_below w'.pages t n))))
 
   fewer : (p == t) ≡ false → children w t ≡ suc (children w' t)
   fewer d = (let b : p < w.size = subst (λ (n : ℕ). p < n) (sym la.size) (la.pages.in_machine p no-host) in less-owned w.size d b)
@@ -151,17 +150,17 @@ module _ (m : Machine) (s : State) (mem : Memory) (t p : ℕ) (sh : Shows m mem.
       at (place.Key k) b = sh.word (place.Key k) b
       at (place.Word q i) b = by_test (q == p)
           (λ e. (let is : q ≡ p = eqb-true q p e in
-              subst (λ (x : ℕ). IsAs (cell (record s { world = w' }) (place.Word x i)) (ended.words (place.Word x i))) (sym is) (subst (λ (o : Option ℕ). IsAs o (ended.words (place.Word p i))) (sym (cleared i)) (rw (eq-eqb p p refl) refl))))
+          subst (λ (x : ℕ). IsAs (cell (record s { world = w' }) (place.Word x i)) (ended.words (place.Word x i))) (sym is) (subst (λ (o : Option ℕ). IsAs o (ended.words (place.Word p i))) (sym (cleared i)) (rw (eq-eqb p p refl) refl))))
           (λ e. (let apart : (q == t) ≡ false = ap (λ (x : ℕ). q == x) (sym is-t) ∙ e in
-              subst (λ (o : Option ℕ). IsAs o (ended.words (place.Word q i))) (sym (other-cell q i e apart)) (rw e (sh.word (place.Word q i) b))))
+          subst (λ (o : Option ℕ). IsAs o (ended.words (place.Word q i))) (sym (other-cell q i e apart)) (rw e (sh.word (place.Word q i) b))))
 
   -- a line of its table changes
   third-line : (i x a b c d : ℕ) (rest : List (Line ℕ)) → IsAs (in_lines (At 0 a ∷ At 1 b ∷ At 2 c ∷ rest) i) x → IsAs (in_lines (At 0 a ∷ At 1 b ∷ At 2 d ∷ rest) i) (if i == 2 then d else x)
   third-line i x a b c d rest y = by_test (i == 2)
       (λ e. (let is : i ≡ 2 = eqb-true i 2 e in
-          let n : (i == 0) ≡ false = grind (arith, nat_tests) in
-          let k : (i == 1) ≡ false = grind (arith, nat_tests) in
-          rw (n, k, e) refl))
+      let n : (i == 0) ≡ false = grind (arith, nat_tests) in
+      let k : (i == 1) ≡ false = grind (arith, nat_tests) in
+      rw (n, k, e) refl))
       (λ e. by_test (i == 0)
       (λ z. rw (z, e) (rw z at y))
       (λ z. by_test (i == 1)
@@ -186,7 +185,7 @@ module _ (m : Machine) (s : State) (mem : Memory) (t p : ℕ) (sh : Shows m mem.
     tdr-here i b =
         let was : IsAs (in_lines (tdr_lines w t) i) (mem.words (place.Word t i)) = tdr_shown m (record { state = s; memory = mem; me = 0; kept = [] }) t i sh la (la.pages.in_machine t (rw root refl)) b root in
         rw (itself, back, left) (third-line i (mem.words (place.Word t i)) (life_number (w.tds.lives t)) (w.tds.hkids t) (children w t) (children w' t)
-          (At 3 (length (w.tds.controls t)) ∷ At 4 (slice_index (w.tds.controls t) 0) ∷ At 5 (slice_index (w.tds.controls t) 1) ∷ []) was)
+        (At 3 (length (w.tds.controls t)) ∷ At 4 (slice_index (w.tds.controls t) 0) ∷ At 5 (slice_index (w.tds.controls t) 1) ∷ []) was)
 
     tdr-word : (i : ℕ) → i < 512 → IsAs (cell (record s { world = w' }) (place.Word t i)) (given.words (place.Word t i))
     tdr-word i b =
@@ -206,10 +205,10 @@ module _ (m : Machine) (s : State) (mem : Memory) (t p : ℕ) (sh : Shows m mem.
         at (place.Key k) b = sh.word (place.Key k) b
         at (place.Word q i) b = by_test (q == p)
             (λ e. (let is : q ≡ p = eqb-true q p e in
-                subst (λ (x : ℕ). IsAs (cell (record s { world = w' }) (place.Word x i)) (given.words (place.Word x i))) (sym is) (subst (λ (o : Option ℕ). IsAs o (given.words (place.Word p i))) (sym (cleared i)) (rw (eq-eqb p p refl, d) refl))))
+            subst (λ (x : ℕ). IsAs (cell (record s { world = w' }) (place.Word x i)) (given.words (place.Word x i))) (sym is) (subst (λ (o : Option ℕ). IsAs o (given.words (place.Word p i))) (sym (cleared i)) (rw (eq-eqb p p refl, d) refl))))
             (λ e. by_test (q == t)
             (λ y. (let is : q ≡ t = eqb-true q t y in
-                subst (λ (x : ℕ). IsAs (cell (record s { world = w' }) (place.Word x i)) (given.words (place.Word x i))) (sym is) (tdr-word i b.1)))
+            subst (λ (x : ℕ). IsAs (cell (record s { world = w' }) (place.Word x i)) (given.words (place.Word x i))) (sym is) (tdr-word i b.1)))
             (λ apart. subst (λ (o : Option ℕ). IsAs o (given.words (place.Word q i))) (sym (other-cell q i e apart)) (rw (e, apart) (sh.word (place.Word q i) b))))
 
 -- a PAMT word tells whether its page is that TD's
@@ -220,7 +219,7 @@ owner_small : (m : Machine) (w : World) (q : ℕ) → Lawful m w → m.pages < 6
 owner_small m w q la few = by_test (is_host_in w.pages q)
     (λ e. (let none : w.pages.owners q ≡ 0 = (la.pages.host q e).0 in omega arith))
     (λ e. (let tdr : is_host_in w.pages (w.pages.owners q) ≡ false = rw (la.pages.owner q e) refl in
-        let in_page : w.pages.owners q < m.pages = la.pages.in_machine (w.pages.owners q) tdr in omega arith))
+    let in_page : w.pages.owners q < m.pages = la.pages.in_machine (w.pages.owners q) tdr in omega arith))
 
 owned_shown : (m : Machine) (c : Instant) (t q : ℕ) → Shows m c.memory.words c.memory.slots c.state → Lawful m c.state.world → m.pages < 65536 → q < m.pages
     → is_owned t (c.memory.words (place.Pamt q)) ≡ (not (is_host c.state.world q) && c.state.world.pages.owners q == t)
@@ -281,8 +280,8 @@ module _ (m : Machine) (c : Instant) (t page : ℕ) (sh : Shows m c.memory.words
   unfolding opening
   back_respects hs x e has sole passes tries =
       rows-respect (opening m) 0 (call.PhymemPageReclaim t page) (hold c hs) the_world la
-        (a, (b, (root_is, (among, subst (λ (y : Bool). Passes (reclaim_conditions the_world t page y)) (sym e) passes))))
-        ((has, sole), subst (λ (y : Bool). HoldsTries (hold c hs) (reclaim_conditions the_world t page y)) (sym e) tries)
+      (a, (b, (root_is, (among, subst (λ (y : Bool). Passes (reclaim_conditions the_world t page y)) (sym e) passes))))
+      ((has, sole), subst (λ (y : Bool). HoldsTries (hold c hs) (reclaim_conditions the_world t page y)) (sym e) tries)
 
   -- the page is cleared as the host's
   clear_owed : (hs : List Held) (mem : Memory) → holds_alone (hs ++ c.kept) (OfPage page) ≡ true → MayOwe m (hold c hs) ((reclaim_page m t page).act the_world) mem (Clear page)
@@ -339,9 +338,13 @@ module _ (m : Machine) (c : Instant) (t page : ℕ) (sh : Shows m c.memory.words
                   locks_stay = ((refl, λ y. y), ((refl, λ y. y), tt));
                   shows = shown_child m c.state c.memory t page sh la is host its e;
                 },
-                ((page_in, (KeepsNothing, inl (alone, tt), tt)),
-                (clear_owed (two_locks t page) (changed (Put (place.Pamt page) 0) c.memory) alone,
-                (((tdr_in, omega arith), (KeepsNothing, tdr_may (hold c (two_locks t page)) w' t 2 (λ y. owes y KeepsNothing) (rw apart is) (rw apart own_tdr) (inl (sole, tt)), tt)), tt))),
+                (
+                  (page_in, (KeepsNothing, inl (alone, tt), tt)),
+                  (
+                    clear_owed (two_locks t page) (changed (Put (place.Pamt page) 0) c.memory) alone,
+                    (((tdr_in, omega arith), (KeepsNothing, tdr_may (hold c (two_locks t page)) w' t 2 (λ y. owes y KeepsNothing) (rw apart is) (rw apart own_tdr) (inl (sole, tt)), tt)), tt),
+                  ),
+                ),
               ),
             )),
       ),
@@ -358,7 +361,7 @@ reclaim-means p t page few = record {
       refl,
       λ e. refl,
       λ b. tdr-alone-means p.machine c (work_of (OfCall (reclaim_page p.machine t page))) t (life.Teardown ∷ []) (reclaim_rest t page (page == t)) (reclaim_conditions c.state.world t page (page == t)) at.shown at.lawful (ltb-true t p.machine.pages a)
-        (λ is among. rest-means p.machine c t page at.shown at.lawful few a b is among (page == t) refl),
+          (λ is among. rest-means p.machine c t page at.shown at.lawful few a b is among (page == t) refl),
     ),
   );
 }

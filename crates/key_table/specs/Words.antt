@@ -1,13 +1,13 @@
 -- What the words that leaves load say.
 use Rattle.std.specs.Prelude.{ℕ, ◌+◌, ◌-◌, ◌/◌, ◌%◌, Bool, not, ◌==◌, ◌&&◌, nat_lt, nat_le, if◌then◌else◌, List}
 use Rattle.std.specs.List.{list_any}
-use Rattle.td_words.specs.declared.names.PageKind.{PageKind}
 use Rattle.td_words.specs.declared.names.PageKind.TheVariants as kind
 use Rattle.td_words.specs.declared.names.LifeState.{LifeState}
 use Rattle.td_words.specs.declared.names.LifeState.TheVariants as life
+use Rattle.td_words.specs.declared.names.HkidState.TheVariants as hkid
 use Rattle.td_words.specs.declared.machines.Machine.{Machine}
 use Rattle.td_words.specs.declared.places.TheConstants.{KEY_LOCK, KEY_FIRST}
-use Rattle.td_words.specs.NameNumber.{kind_number, life_number}
+use Rattle.td_words.specs.NameNumber.{kind_number, life_number, hkid_number}
 
 -- a PAMT word of a TDR page
 abbrev pub says_root : ℕ → Bool
@@ -30,11 +30,11 @@ key_number m h = if nat_le 1 h && nat_le h m.hkids then KEY_FIRST + (h - 1) else
 
 -- a key table word of a flushed HKID that was written back
 abbrev pub is_marked : ℕ → Bool
-is_marked word = word % 16 == 6
+is_marked word = word % 16 == hkid_number hkid.Flushed + 4
 
 -- a key table word after PHYMEM.CACHE.WB, which marks it where the HKID is flushed
 abbrev pub marked : ℕ → ℕ
-marked word = if word % 16 == 2 then word + 4 else word
+marked word = if word % 16 == hkid_number hkid.Flushed then word + 4 else word
 
 -- a PAMT word of a page of that TD
 abbrev pub is_owned : ℕ → ℕ → Bool

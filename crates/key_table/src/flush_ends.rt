@@ -13,7 +13,7 @@ use td_words::places::{
     KEY_LOCK, TDCS_VP_COUNT, TDCS_VPS, TDR_HKID, TDR_LIFE, TDR_TDCS, TDR_TDCX_COUNT, VP_ASSOCIATED,
 };
 use td_words::{
-    LifeState, LockName, Machine, Mode, Reply, Status, Value, key_address, lock_address,
+    HkidState, LifeState, LockName, Machine, Mode, Reply, Status, Value, key_address, lock_address,
     pamt_address, word_address,
 };
 
@@ -114,7 +114,7 @@ fn flush_counted(told: Told, machine: Machine, tdr: u16, associated: u64) -> Res
     let hkid = told.load(word_address(tdr, TDR_HKID))?;
     let mut writes = ArrayVec::new();
     let at = key_address(machine.pages, key_number(machine, hkid));
-    let flushed = 2 + 16 * u64::from(tdr);
+    let flushed = HkidState::Flushed as u64 + 16 * u64::from(tdr);
     writes.push(Write::Word(WordStep::Store(at, flushed)));
     let blocked = LifeState::Blocked as u64;
     writes.push(Write::Word(WordStep::Store(word_address(tdr, TDR_LIFE), blocked)));

@@ -4,7 +4,10 @@ ghost use Rattle.std.specs.Prelude.{◌≡◌, ◌<◌, ◌≤◌};
 ghost use Rattle.key_table.specs.Words.{says_root, life_said, key_number, is_marked, is_owned, marked, page_said, count_said};
 
 use td_words::places::{KEY_FIRST, KEY_LOCK};
-use td_words::{LifeState, Machine, PageKind};
+use td_words::{HkidState, LifeState, Machine, PageKind};
+
+/// The bit of a key table word that says that its HKID was written back.
+const MARK: u64 = 4;
 
 /// Whether a PAMT word says that its page is a TDR page.
 pub fn says_root(pamt: u64) -> bool
@@ -42,14 +45,18 @@ pub fn key_number(machine: Machine, hkid: u64) -> u16
 pub fn is_marked(key: u64) -> bool
     ensures { result ≡ is_marked key }
 {
-    key % 16 == 6
+    key % 16 == HkidState::Flushed as u64 + MARK
 }
 
 /// A key table word after PHYMEM.CACHE.WB: a flushed HKID is marked as written back.
 pub fn marked(key: u64) -> u64
     ensures { result ≡ marked key }
 {
-    if key % 16 == 2 { key + 4 } else { key }
+    if key % 16 == HkidState::Flushed as u64 {
+        key + MARK
+    } else {
+        key
+    }
 }
 
 /// Whether a PAMT word says that its page is one of that TD's.

@@ -1,10 +1,7 @@
-use Rattle.std.proofs.Common.{refl, rules, ◌≡◌, ◌≤◌, [], length, ℕ, ◌+◌, ◌-◌, ◌*◌, ◌<◌, ◌/◌, ◌%◌, Bool, true, false, nat_eq, nat_lt, List, ◌∷◌, ◌++◌, slice_index_or, slice_set, bit_and, bit_or, Fits, w8, w32, w64, Bor, MutBor}
-use Rattle.leaf_engine.specs.Decides.{Decides}
-use Rattle.leaf_engine.specs.Inside.{DecisionIn, DecidesEarly}
+use Rattle.std.proofs.Common.{refl, rules, [], ◌∷◌, ◌++◌}
 use Rattle.td_words.specs.Place as place
 use Rattle.leaf_engine.specs.Changes.{Put}
 use Rattle.key_table.specs.Words.{marked}
-use Rattle.key_table.specs.CacheTrees.{mark_keys}
 use Rattle.key_table.proofs.Marking.{stops, goes, one-more, plain-too, inside-too}
 use Rattle.key_table.proofs.cache_write_backs.mark_keys.Goals as goal
 

@@ -1,10 +1,10 @@
-use Rattle.std.proofs.Common.{◌≡◌, ◌≤◌, true, List, [], length, map, ℕ, ◌+◌, ◌-◌, ◌*◌, ◌<◌}
+use Rattle.std.proofs.Common.{◌≡◌, true, List, [], length, map, ◌+◌}
 use Rattle.std.specs.Prelude.{Result, None}
 use Rattle.leaf_engine.specs.declared.plans.Stop.{Stop}
 use Rattle.leaf_engine.specs.declared.plans.Verdict.{Verdict}
 use Rattle.leaf_engine.specs.Changes.{Change, are_plain}
 use Rattle.leaf_engine.specs.Decides.{Decides, write_of}
-use Rattle.leaf_engine.specs.Inside.{DecisionIn, DecidesEarly, WritesInside}
+use Rattle.leaf_engine.specs.Inside.{WritesInside}
 use Rattle.key_table.specs.CacheTrees.{mark_keys}
 use Rattle.key_table.proofs.cache_write_backs.mark_keys.Given as goal
 
