@@ -1,0 +1,10 @@
+pub mod Words
+pub mod EndTrees
+pub mod CacheTrees
+pub mod ReclaimTrees
+pub mod FlushTrees
+pub mod Parts
+pub mod EndMeanings
+pub mod CacheMeanings
+pub mod ReclaimMeanings
+pub mod FlushMeanings

@@ -1,0 +1,125 @@
+//! MNG.VPFLUSHDONE.
+
+ghost use Rattle.std.specs.Prelude.{◌≡◌, ◌<◌, ◌≤◌, length};
+ghost use Rattle.leaf_engine.specs.Decides.{Decides};
+ghost use Rattle.leaf_engine.specs.Inside.{DecisionIn, DecidesEarly};
+ghost use Rattle.key_table.specs.FlushTrees.{flush_counted, count_vps};
+
+use crate::words::{count_said, key_number, life_said, page_said, says_root};
+use arrayvec::ArrayVec;
+use leaf_engine::{Leaf, Place, Plan, Planned, Stop, Told, Verdict, Write};
+use step_core::WordStep;
+use td_words::places::{
+    KEY_LOCK, TDCS_VP_COUNT, TDCS_VPS, TDR_HKID, TDR_LIFE, TDR_TDCS, TDR_TDCX_COUNT, VP_ASSOCIATED,
+};
+use td_words::{
+    HkidState, LifeState, LockName, Machine, Mode, Reply, Status, Value, key_address, lock_address,
+    pamt_address, word_address,
+};
+
+/// MNG.VPFLUSHDONE TDR: a TD whose virtual processors are all flushed is blocked, and its HKID is
+/// flushed.
+#[derive(Drop)]
+pub struct FlushDone {
+    place: Place,
+    tdr: u64,
+}
+
+impl FlushDone {
+    ghost use Rattle.std.specs.Prelude.{◌≡◌};
+    ghost use Rattle.key_table.specs.FlushTrees.{flush_task};
+
+    /// The leaf of a call at a place.
+    pub fn leaf(place: Place, tdr: u64) -> Planned<FlushDone>
+        ensures { ⟦<Planned<FlushDone> as Leaf>⟧.task result ≡ flush_task place tdr }
+    {
+        Planned::new(FlushDone { place, tdr })
+    }
+}
+
+impl Plan for FlushDone {
+    ghost use Rattle.key_table.specs.FlushTrees.{flush_task};
+    ghost use Rattle.key_table.specs.FlushMeanings.{flush-means};
+
+    ghost task = { λ l. flush_task l.place l.tdr };
+
+    fn decide(&self, told: Told) -> Result<Verdict, Stop> {
+        let mut told = told;
+        let machine = self.place.machine;
+        let pages = self.place.machine.pages;
+        told.check(self.tdr < u64::from(pages), Status::OperandInvalid(1))?;
+        let tdr = self.tdr as u16;
+        told.lock(LockName::Page(tdr), lock_address(tdr), Mode::Exclusive)?;
+        let pamt = told.load(pamt_address(tdr))?;
+        told.check(says_root(pamt), Status::PageMetadataIncorrect(tdr))?;
+        let life = told.load(word_address(tdr, TDR_LIFE))?;
+        told.check(
+            life == LifeState::HkidAssigned as u64 || life == LifeState::KeysConfigured as u64,
+            Status::LifecycleStateIncorrect(life_said(life)),
+        )?;
+        let controls = told.load(word_address(tdr, TDR_TDCX_COUNT))?;
+        if controls == 2 {
+            let word = told.load(word_address(tdr, TDR_TDCS))?;
+            let tdcs = page_said(machine, tdr, word);
+            let vps = told.load(word_address(tdcs, TDCS_VP_COUNT))?;
+            count_vps(told, machine, tdr, tdcs, count_said(vps))
+        } else {
+            flush_counted(told, machine, tdr, 0)
+        }
+    }
+
+    ghost means = { λ l. flush-means l.place l.tdr };
+}
+
+/// Counts the virtual processors that are associated.
+fn count_vps(told: Told, machine: Machine, tdr: u16, tdcs: u16, count: u16) -> Result<Verdict, Stop>
+    requires tdr { tdr < machine.pages }
+    requires tdcs { tdcs < machine.pages }
+    requires few { count ≤ 8 }
+    ensures decides { Decides machine.pages (count_vps machine tdr tdcs 0 count 0) told.entry.left.now result }
+    ensures inside { DecisionIn machine result }
+    ensures early { DecidesEarly 18 (length told.entry.left.now) result }
+{
+    let mut answers = told;
+    let mut number = 0;
+    let mut left = count;
+    let mut associated = 0;
+    while left > 0 {
+        let word = answers.load(word_address(tdcs, TDCS_VPS + number))?;
+        let vp = page_said(machine, tdr, word);
+        let lp = answers.load(word_address(vp, VP_ASSOCIATED))?;
+        if lp != 0 {
+            associated += 1;
+        }
+        number += 1;
+        left -= 1;
+    }
+    flush_counted(answers, machine, tdr, associated)
+}
+
+/// Ends the flush where none is.
+fn flush_counted(told: Told, machine: Machine, tdr: u16, associated: u64) -> Result<Verdict, Stop>
+    requires { tdr < machine.pages }
+    ensures decides { Decides machine.pages (flush_counted machine tdr associated) told.entry.left.now result }
+    ensures inside { DecisionIn machine result }
+    ensures early { DecidesEarly 2 (length told.entry.left.now) result }
+{
+    let mut told = told;
+    told.check(associated == 0, Status::FlushvpNotDone(associated))?;
+    told.lock(
+        LockName::Keys,
+        key_address(machine.pages, KEY_LOCK),
+        Mode::Exclusive,
+    )?;
+    let hkid = told.load(word_address(tdr, TDR_HKID))?;
+    let mut writes = ArrayVec::new();
+    let at = key_address(machine.pages, key_number(machine, hkid));
+    let flushed = HkidState::Flushed as u64 + 16 * u64::from(tdr);
+    writes.push(Write::Word(WordStep::Store(at, flushed)));
+    let blocked = LifeState::Blocked as u64;
+    writes.push(Write::Word(WordStep::Store(word_address(tdr, TDR_LIFE), blocked)));
+    Ok(Verdict {
+        reply: Reply::Done(Value::Nothing),
+        writes,
+    })
+}
