@@ -27,7 +27,8 @@ use Rattle.leaf_engine.specs.declared.processors.Turn.{Turn}
 use Rattle.leaf_engine.specs.declared.processors.Turn.TheVariants as turn
 use Rattle.leaf_engine.specs.Processors.{Turned, has_moved}
 use Rattle.leaf_engine.specs.OwnLists.{Piece, taken_in, WordLp, first_lp, LpTurns}
-use Rattle.leaf_engine.specs.Merges.{Item, Merge, IsWhere, steps_taken, order, no_table}
+use Rattle.leaf_engine.specs.Merges.{Item, Merge, steps_taken, order, no_table}
+use Rattle.merge_laws.specs.Laws.{IsWhere}
 use Rattle.leaf_dispatch.specs.Table.{task_of, leaf_table}
 use Rattle.leaf_dispatch.specs.States.{seen_of, Moves}
 use Rattle.leaf_dispatch.specs.Bounds.{events_left}
