@@ -1,7 +1,8 @@
 pub mod InMemory
-pub mod PlainWorld
-pub mod PlainRuns
-pub mod Unscheduled
 pub mod Part
 pub mod Long
 pub mod Fronts
+pub mod RunningOut
+pub mod Turning
+pub mod Places
+pub mod Replayed

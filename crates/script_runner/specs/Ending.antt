@@ -1,5 +1,5 @@
 -- How a command ends: its status and its text, over the contents that are told.
-use Rattle.std.specs.Prelude.{ℕ, List, [], ◌∷◌, ◌++◌, length, Option, Some, None, Result, Ok, Err, Bool, ◌==◌, ◌&&◌, not, slice_index_or, if◌then◌else◌, codes, string_bytes}
+use Rattle.std.specs.Prelude.{ℕ, List, [], ◌∷◌, ◌++◌, length, Option, Some, None, Result, Ok, Err, Bool, ◌==◌, ◌&&◌, not, slice_index_or, if◌then◌else◌, codes}
 use Rattle.std.specs.Str.{bytes_eq}
 use Rattle.std.specs.Fmt.{decimal}
 use Rattle.td_words.specs.Seen.{CodeSeen}
@@ -21,7 +21,7 @@ pub record Ended : Type 0 where
   pub text : List ℕ
 
 abbrev pub ending_seen : Ending → Ended
-ending_seen e = record { status = e.status; text = string_bytes e.text }
+ending_seen e = record { status = e.status; text = e.text.items }
 
 -- The words are `replay` and the script's name, which doesn't begin with a dash.
 abbrev pub begins_with_dash : List ℕ → Bool

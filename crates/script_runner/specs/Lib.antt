@@ -2,6 +2,6 @@ pub mod Seen
 pub mod Outside
 pub mod Held
 pub mod Listed
-pub mod Plain
 pub mod Ending
+pub mod Replaying
 pub mod Ends

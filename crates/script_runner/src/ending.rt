@@ -1,19 +1,21 @@
 //! How a command ends: its status, and the text that is put.
 
-ghost use Rattle.std.specs.Prelude.{◌≡◌, IfOk, Ok, [], map, string_bytes, option_map, not, codes};
+ghost use Rattle.std.specs.Prelude.{◌≡◌, IfOk, Ok, map, string_bytes, option_map, not, codes};
 ghost use Rattle.std.specs.Str.{bytes_eq};
 ghost use Rattle.script_text.specs.Reading.{read_of, Gives};
+ghost use Rattle.script_text.specs.Laws.{IsInForm};
 ghost use Rattle.script_runner.specs.Ending.{ending_seen, words_read, begins_with_dash, usage_end, unread_end, bad_end, script_end};
 
-use crate::flat_run::run_text;
-use script_text::{Reason, Script, ScriptFault, read_script};
+use crate::replay::replay_text;
+use script_text::{Reason, Script, ScriptFault, read_script, scripts_are_in_form};
 use std::alloc::{AllocError, Global};
+use td_words::OutOfMemory;
 
 /// An exit status, and the text that is put to the output before it.
 #[derive(Drop)]
 pub struct Ending {
     pub status: u8,
-    pub text: String,
+    pub text: Vec<u8>,
 }
 
 /// What is put where the words are no command.
@@ -56,7 +58,7 @@ pub fn usage(alloc: Global) -> Result<Ending, AllocError>
 {
     Ok(Ending {
         status: 1,
-        text: String::from_str(alloc, USAGE)?,
+        text: USAGE.as_bytes().to_vec(alloc)?,
     })
 }
 
@@ -66,7 +68,7 @@ pub fn bad(alloc: Global, line: u64, reason: Reason) -> Result<Ending, AllocErro
 {
     Ok(Ending {
         status: 2,
-        text: format!(in alloc; "script line {line} {reason}\n")?,
+        text: format!(in alloc; "script line {line} {reason}\n")?.into_bytes(),
     })
 }
 
@@ -76,24 +78,25 @@ pub fn unread(alloc: Global, name: &str) -> Result<Ending, AllocError>
 {
     Ok(Ending {
         status: 3,
-        text: format!(in alloc; "cannot read {name}\n")?,
+        text: format!(in alloc; "cannot read {name}\n")?.into_bytes(),
     })
 }
 
 fn run(alloc: Global, script: &Script) -> Result<Ending, AllocError>
-    requires { script.now.schedule ≡ [] }
+    requires { IsInForm script.now }
     ensures { IfOk result (λ e. ending_seen e ≡ script_end (Ok script.now)) }
 {
-    Ok(Ending {
-        status: 0,
-        text: run_text(alloc, script)?,
-    })
+    match replay_text(alloc, script) {
+        Ok(text) => Ok(Ending { status: 0, text }),
+        Err(OutOfMemory) => Err(AllocError),
+    }
 }
 
 /// What the bytes of a script come to.
 pub fn of_bytes(alloc: Global, bytes: &[u8]) -> Result<Ending, AllocError>
     ensures { IfOk result (λ e. ending_seen e ≡ script_end (read_of bytes.now)) }
 {
+    scripts_are_in_form();
     match read_script(alloc, bytes) {
         Ok(script) => run(alloc, &script),
         Err(ScriptFault::Bad { line, reason }) => bad(alloc, line, reason),

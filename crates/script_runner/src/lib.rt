@@ -7,23 +7,21 @@
 
 mod disk;
 mod ending;
-mod flat_run;
-mod gates;
 mod held;
 mod honest;
 mod listed;
 mod outside;
-mod plain;
+mod replay;
 mod report;
 mod standard_output;
 mod top;
 
 pub use disk::DiskFiles;
-pub use gates::{Gate, NoGate};
 pub use held::NamedFile;
 pub use honest::{HonestFiles, HonestSink};
 pub use listed::{MemFiles, MemSink};
 pub use outside::{Files, LoadFault, PutFault, SaveFault, Sink};
+pub use report::host_lines;
 pub use standard_output::StdSink;
 pub use top::{give_up, tdx_main};
 

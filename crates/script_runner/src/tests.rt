@@ -1,5 +1,7 @@
 use super::*;
+use leaf_engine::NoGate;
 use std::alloc::Global;
+use std::process::Abort;
 use std::test::Fail;
 
 fn one_file(alloc: Global, name: &str, bytes: &[u8]) -> Result<Vec<NamedFile>, Fail> {
@@ -58,9 +60,30 @@ fn words(alloc: Global, list: &[&str]) -> Result<Vec<String>, Fail> {
     Ok(words)
 }
 
+// Replays a script, and compares its status and its text.
+fn replays(
+    rt: &impl Abort,
+    alloc: Global,
+    script: &str,
+    want: &str,
+    status: u8,
+) -> Result<(), Fail> {
+    let replay = words(alloc, &["replay", "s"])?;
+    let mut files = MemFiles::new(
+        alloc,
+        one_file(alloc, "s", script.as_bytes())?,
+        Vec::new(alloc),
+    );
+    let mut out = MemSink::new(alloc, Vec::new(alloc));
+    let got = tdx_main(alloc, &replay, &mut files, &mut out, &NoGate);
+    assert_eq!(rt; got, status, "status of {script}");
+    assert_eq!(rt; out.bytes.as_slice(), want.as_bytes(), "text of {script}");
+    Ok(())
+}
+
 #[test]
 fn scripts_print_their_replies(rt: HostRuntime) -> Result<(), Fail> {
-    let table: [(&str, &str, u8); 9] = [
+    let table: [(&str, &str, u8); 11] = [
         ("machine 1 8 1\n", "", 0),
         (
             "machine 1 8 1\nlp 0\nHOST.WRITE 5 511 7\nHOST.READ 5 511\nHOST.READ 5 512\nHOST.READ 8 0\nend\n",
@@ -88,7 +111,13 @@ fn scripts_print_their_replies(rt: HostRuntime) -> Result<(), Fail> {
             "script line 3 COUNT\n",
             2,
         ),
-        ("machine 2 8 1\n", "script line 1 UNBUILT\n", 2),
+        ("machine 2 8 1\n", "", 0),
+        ("machine 1 8 1\ncode 1 0\n", "script line 2 UNBUILT\n", 2),
+        (
+            "machine 1 8 1\nlp 0\nMNG.RD 1 1\n",
+            "script line 3 UNBUILT\n",
+            2,
+        ),
         (
             "machine 1 8 1\nlp 0\nHOST.READ 5 0\n",
             "script line 4 ENDLESS\n",
@@ -96,18 +125,118 @@ fn scripts_print_their_replies(rt: HostRuntime) -> Result<(), Fail> {
         ),
         ("# nothing\n\n", "script line 3 MACHINE\n", 2),
     ];
-    let alloc = rt.alloc();
-    let replay = words(alloc, &["replay", "s"])?;
     for (script, want, status) in table {
-        let mut files = MemFiles::new(
-            alloc,
-            one_file(alloc, "s", script.as_bytes())?,
-            Vec::new(alloc),
-        );
-        let mut out = MemSink::new(alloc, Vec::new(alloc));
-        let got = tdx_main(alloc, &replay, &mut files, &mut out, &NoGate);
-        assert_eq!(rt; got, status, "status of {script}");
-        assert_eq!(rt; out.bytes.as_slice(), want.as_bytes(), "text of {script}");
+        replays(&rt, rt.alloc(), script, want, status)?;
+    }
+    Ok(())
+}
+
+#[test]
+fn processors_follow_the_schedule(rt: HostRuntime) -> Result<(), Fail> {
+    let table: [(&str, &str, u8); 20] = [
+        // A page that is held alone.
+        (
+            "machine 2 32 1\nlp 0\nMNG.CREATE 1 1\nend\nlp 1\nHOST.READ 1 0\nend\nschedule 0 1*2\n",
+            "0.1 SUCCESS\n1.1 OPERAND_BUSY P 1\n",
+            0,
+        ),
+        // Two processors meet at the key table.
+        (
+            "machine 2 32 2\nlp 0\nMNG.CREATE 1 1\nend\nlp 1\nMNG.CREATE 2 1\nend\nschedule 0*2 1*2\n",
+            "0.1 SUCCESS\n1.1 OPERAND_BUSY K\n",
+            0,
+        ),
+        // Processor 2 is denied by processor 1, which is being refused.
+        (
+            "machine 3 32 1\nlp 0\nMNG.CREATE 1 1\nend\nlp 1\nHOST.READ 1 0\nend\nlp 2\nMNG.CREATE 1 1\nend\nschedule 0 1 0*4 2 1\n",
+            "0.1 SUCCESS\n1.1 OPERAND_BUSY P 1\n2.1 OPERAND_BUSY P 1\n",
+            0,
+        ),
+        // Had processor 1 undone its try before, processor 2 would get the page as it is now.
+        (
+            "machine 3 32 1\nlp 0\nMNG.CREATE 1 1\nend\nlp 1\nHOST.READ 1 0\nend\nlp 2\nMNG.CREATE 1 1\nend\nschedule 0 1 0*4 1 2\n",
+            "0.1 SUCCESS\n1.1 OPERAND_BUSY P 1\n2.1 PAGE_METADATA_INCORRECT 1\n",
+            0,
+        ),
+        // HOST.READ against MNG.CREATE: before its first event, up to before its last, and after it.
+        (
+            "machine 2 32 1\nlp 0\nHOST.WRITE 1 0 7\nMNG.CREATE 1 1\nend\nlp 1\nHOST.READ 1 0\nend\nschedule 0*3 1\n",
+            "0.1 SUCCESS\n0.2 OPERAND_BUSY P 1\n1.1 SUCCESS 7\n",
+            0,
+        ),
+        (
+            "machine 2 32 1\nlp 0\nHOST.WRITE 1 0 7\nMNG.CREATE 1 1\nend\nlp 1\nHOST.READ 1 0\nend\nschedule 0*4 1\n",
+            "0.1 SUCCESS\n0.2 SUCCESS\n1.1 OPERAND_BUSY P 1\n",
+            0,
+        ),
+        (
+            "machine 2 32 1\nlp 0\nHOST.WRITE 1 0 7\nMNG.CREATE 1 1\nend\nlp 1\nHOST.READ 1 0\nend\nschedule 0*7 1\n",
+            "0.1 SUCCESS\n0.2 SUCCESS\n1.1 OPERAND_BUSY P 1\n",
+            0,
+        ),
+        (
+            "machine 2 32 1\nlp 0\nHOST.WRITE 1 0 7\nMNG.CREATE 1 1\nend\nlp 1\nHOST.READ 1 0\nend\nschedule 0*8 1\n",
+            "0.1 SUCCESS\n0.2 SUCCESS\n1.1 SUCCESS 0\n",
+            0,
+        ),
+        // Shared tries of a page don't deny one another.
+        (
+            "machine 2 32 1\nlp 0\nHOST.READ 1 0\nend\nlp 1\nHOST.READ 1 0\nend\nschedule 0 1 0 1\n",
+            "0.1 SUCCESS 0\n1.1 SUCCESS 0\n",
+            0,
+        ),
+        // Without a schedule the processors run in number order.
+        (
+            "machine 2 32 1\nlp 1\nMNG.CREATE 1 1\nend\nlp 0\nMNG.CREATE 1 1\nend\n",
+            "0.1 SUCCESS\n1.1 PAGE_METADATA_INCORRECT 1\n",
+            0,
+        ),
+        // One that names processors out of order.
+        (
+            "machine 3 32 1\nlp 0\nMNG.CREATE 1 1\nend\nlp 1\nMNG.CREATE 1 1\nend\nlp 2\nMNG.CREATE 1 1\nend\nschedule 2*5 1*3\n",
+            "0.1 PAGE_METADATA_INCORRECT 1\n1.1 PAGE_METADATA_INCORRECT 1\n2.1 SUCCESS\n",
+            0,
+        ),
+        // What is left of a processor when the schedule ends comes in number order.
+        (
+            "machine 2 32 1\nlp 0\nMNG.CREATE 2 1\nend\nlp 1\nMNG.CREATE 1 1\nend\nschedule 1*2\n",
+            "0.1 OPERAND_BUSY K\n1.1 SUCCESS\n",
+            0,
+        ),
+        // Items of a processor that has ended, or has no calls, do nothing.
+        (
+            "machine 3 32 1\nlp 0\nHOST.READ 1 0\nend\nlp 1\nMNG.CREATE 1 1\nend\nschedule 2*3 0*9 1*5 0 1 2\n",
+            "0.1 SUCCESS 0\n1.1 SUCCESS\n",
+            0,
+        ),
+        // Schedule lines stand anywhere outside blocks, and are one schedule.
+        (
+            "machine 2 32 1\nschedule 0\nlp 0\nMNG.CREATE 1 1\nend\nschedule 1\nlp 1\nHOST.READ 1 0\nend\nschedule 1\n",
+            "0.1 SUCCESS\n1.1 OPERAND_BUSY P 1\n",
+            0,
+        ),
+        // Eight processors.
+        (
+            "machine 8 8 1\nlp 7\nHOST.WRITE 7 7 7\nend\nlp 3\nHOST.READ 7 7\nend\nschedule 7*3\n",
+            "3.1 SUCCESS 7\n7.1 SUCCESS\n",
+            0,
+        ),
+        ("machine 1 8 1\nschedule 0*1048576\n", "", 0),
+        (
+            "machine 1 8 1\nschedule 0*1048576 0\n",
+            "script line 2 FULL\n",
+            2,
+        ),
+        (
+            "machine 1 8 1\nschedule 0*1048577\n",
+            "script line 2 RANGE\n",
+            2,
+        ),
+        ("machine 2 8 1\nschedule 2\n", "script line 2 RANGE\n", 2),
+        ("machine 9 8 1\n", "script line 1 RANGE\n", 2),
+    ];
+    for (script, want, status) in table {
+        replays(&rt, rt.alloc(), script, want, status)?;
     }
     Ok(())
 }

@@ -6,8 +6,8 @@ ghost use Rattle.script_runner.specs.Ending.{ending_seen, ending_of, words_read,
 ghost use Rattle.script_runner.specs.Ends.{IsNamedEnding, IsEnding, Tells, Ends, OneRun, IsBadScript, ReadCause, PutsPart, PutsFronts, success_text, IsComplete, own_text};
 
 use crate::ending::{Ending, bad, of_bytes, script_name, unread, usage};
-use crate::gates::Gate;
 use crate::outside::{Files, LoadFault, PutFault, Sink};
+use leaf_engine::Gate;
 use script_text::Reason;
 use std::alloc::{AllocError, Global};
 
@@ -64,7 +64,7 @@ fn tell<K: Sink>(how: &Ending, out: &mut K) -> u8
     ensures tells { Tells (K.faults out.old) (K.faults out.new) (K.told out.old) (K.told out.new) (ending_seen how.now) result }
     ensures later { K.faults out.old ≤ K.faults out.new }
 {
-    match out.put(how.text.as_bytes()) {
+    match out.put(&how.text) {
         Ok(()) => how.status,
         Err(PutFault::OutOfMemory) => give_up(out),
         Err(PutFault::Failed) => { if how.status == 0 { 4 } else { how.status } }

@@ -1,7 +1,8 @@
 //! `tdx`: runs scripts of calls on the modelled TDX module.
 #![tactic(auto)]
 
-use script_runner::{DiskFiles, NoGate, StdSink, give_up, tdx_main};
+use leaf_engine::NoGate;
+use script_runner::{DiskFiles, StdSink, give_up, tdx_main};
 use std::alloc::AllocError;
 use std::env;
 use std::io::ErrorKind;

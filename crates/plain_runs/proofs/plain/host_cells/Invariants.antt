@@ -1,0 +1,12 @@
+use Rattle.std.proofs.Common.{◌≡◌, ℕ, length, get_or}
+use Rattle.td_words.specs.declared.names.PageKind.TheVariants as kind
+use Rattle.plain_runs.specs.Plain.{blank}
+use Rattle.plain_runs.proofs.plain.host_cells.Given as goal
+
+abbrev pub invariant-loop : goal.invariant-loop
+invariant-loop l = record {
+  count : length l.cells.items ≡ l.counter;
+  kinds : (p : ℕ) → (get_or l.cells.items p blank).kind ≡ kind.Nda;
+  owners : (p : ℕ) → (get_or l.cells.items p blank).owner ≡ 0;
+  words : (p i : ℕ) → get_or (get_or l.cells.items p blank).words i 0 ≡ 0;
+}

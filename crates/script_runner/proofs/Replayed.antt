@@ -1,0 +1,260 @@
+-- What is left of a run, turn by turn, and what is printed at its end.
+use Rattle.std.proofs.Common.{◌≡◌, ◌≢◌, ◌⊎◌, inl, inr, refl, sym, ◌∙◌, ap, subst, ℕ, zero, suc, ◌+◌, ◌<◌, ◌≤◌, List, [], ◌∷◌, ◌++◌, length, get_or, set, take, drop, map, replicate, Option, Some, None, Result, Ok, Err, IfOk, true, false, not, ◌==◌, arith, slice_index, slice_index_or, append-nil, append_assoc, add-one}
+use Rattle.std.proofs.Math.Seq.{drop-cons}
+use Rattle.std.proofs.lemmas.Bool.Decides.{eqb_tells}
+use Rattle.std.proofs.lemmas.List.{set-get_or, length-map, length-take-le, take_more, map_push}
+use Rattle.std.proofs.lemmas.List.Folds.{concat-append}
+use Rattle.std.specs.Global.{Vec}
+use mathlib.Core.Path.{fun_ext}
+use Rattle.std.proofs.Math.ListN.{length-set}
+use Rattle.std.specs.List.{concat}
+use Rattle.td_words.specs.declared.machines.Machine.{Machine}
+use Rattle.td_words.specs.declared.calls.Call.{Call}
+use Rattle.td_words.specs.declared.replies.Reply.{Reply}
+use Rattle.flat_core.specs.Processor.{Lp}
+use Rattle.flat_core.specs.Opening.{Opening, IsMachine}
+use Rattle.flat_core.specs.Event.{State, Event as FlatEvent, start, event, next_event, after_event, lines_left}
+use Rattle.flat_core.specs.Run.{play, run, to_the_end}
+use Rattle.flat_core.specs.HostText.{reply_lines, lines_from, text_of, host_text}
+use Rattle.mrtd_measure.specs.declared.measures.Measure.{Measure}
+use Rattle.step_core.specs.Words.{word_count}
+use Rattle.step_core.specs.Items.{Taken, Table, PlaysTo}
+use Rattle.step_core.specs.Plain.{PlainSeen, table_of, start_of}
+use Rattle.step_core.specs.Playing.{PlaysTo-append}
+use Rattle.leaf_engine.specs.declared.needs.Place.{Place}
+use Rattle.leaf_engine.specs.declared.events.Event.{Event}
+use Rattle.leaf_engine.specs.declared.processors.Turn.{Turn}
+use Rattle.leaf_engine.specs.declared.processors.Turn.TheVariants as turn
+use Rattle.leaf_engine.specs.Processors.{Turned, has_moved}
+use Rattle.leaf_engine.specs.OwnLists.{Piece, taken_in, WordLp, first_lp, LpTurns}
+use Rattle.leaf_engine.specs.Merges.{Item, Merge, steps_taken, order, no_table}
+use Rattle.merge_laws.specs.Laws.{IsWhere}
+use Rattle.leaf_dispatch.specs.Table.{task_of, leaf_table}
+use Rattle.leaf_dispatch.specs.States.{seen_of, Moves}
+use Rattle.leaf_dispatch.specs.Bounds.{events_left}
+use Rattle.leaf_dispatch.specs.declared.states.LpState.{LpState}
+use Rattle.script_text.specs.Seen.{ScriptSeen}
+use Rattle.script_text.specs.Laws.{IsInForm}
+use Rattle.script_runner.specs.Ending.{opening_of}
+use Rattle.script_runner.specs.Replaying.{AreFirst, AreLeft, HaveEnded, TurnsAreEvents, seen_at, lines_seen}
+use Rattle.script_runner.proofs.RunningOut.{one-more-item, idle-item}
+use Rattle.script_runner.proofs.Turning.{made_by, one-event, merge-more, order-more}
+use Rattle.script_runner.proofs.Places.{seen-at, seen-own, seen-other, place-at, numbered-set, first-count, first-numbered, first-seen, first-more}
+
+-- of a machine that a script may have
+pub record IsOpen (o : Opening) : Type 0 where
+  pub machine : IsMachine o.machine
+  pub few : length o.calls ≤ 8
+
+-- words that are all 0 and slots without hashers
+
+zeros : (n i : ℕ) → slice_index (replicate n 0) i ≡ 0
+zeros zero i = refl
+zeros (suc n) zero = refl
+zeros (suc n) (suc i) = zeros n i
+
+nones : (n i : ℕ) → slice_index_or {A = Option Measure} (replicate n None) i None ≡ None
+nones zero i = refl
+nones (suc n) zero = refl
+nones (suc n) (suc i) = nones n i
+
+-- at the start the whole schedule is left
+pub at-start : (o : Opening) (schedule : List ℕ) (lps : List LpState) → AreFirst o.machine 0 lps o.calls → AreLeft o schedule schedule lps (start_of o.machine)
+at-start o schedule lps h = record {
+  machine = refl;
+  count = first-count o.machine 0 lps o.calls h;
+  numbered = first-numbered o.machine 0 lps o.calls h;
+  made = [];
+  merge = record {
+    own = λ p. [];
+    turns = λ p inside. first-seen o.machine 0 lps o.calls p h;
+    merge = record { each = λ p inside. refl; nothing_else = λ p out. refl };
+    plays = (fun_ext (zeros (word_count o.machine)), fun_ext (nones o.machine.hkids));
+  };
+  same = refl;
+}
+
+-- where the flat machine is after the events of a merge
+where-now : TurnsAreEvents → (o : Opening) (made : List Item) (now : ℕ → WordLp) (u : Table) → IsOpen o → Merge o (leaf_table o.machine) made now u → IsWhere o now (play o (order made) (start o None))
+where-now ls o made now u op m = (ls.merges.turns o (leaf_table o.machine) made now u op.few (ls.leaves o op.machine) m).1
+
+-- a processor without lines has none in the flat machine
+ended-flat : TurnsAreEvents → (o : Opening) (schedule left : List ℕ) (lps : List LpState) (b : PlainSeen) (p : ℕ) → IsOpen o → (l : AreLeft o schedule left lps b) → p < length lps → (seen_at lps p).lines ≡ []
+    → lines_left o p ((play o (order l.made) (start o None)).lps p) ≡ []
+ended-flat ls o schedule left lps b p op l inside e = (where-now ls o l.made (seen_at lps) (table_of b) op l.merge).lines p (omega (arith, l.count)) ∙ e
+
+-- an item of a processor more, where all before it have ended
+pub one-more-left : TurnsAreEvents → (o : Opening) (schedule : List ℕ) (lps : List LpState) (b : PlainSeen) (p : ℕ) → IsOpen o → p < length lps → HaveEnded p lps → AreLeft o schedule [] lps b → AreLeft o schedule (p ∷ []) lps b
+one-more-left ls o schedule lps b p op inside ended l = record {
+  machine = l.machine;
+  count = l.count;
+  numbered = l.numbered;
+  made = l.made;
+  merge = l.merge;
+  same = one-more-item ls.runs_out ls.others o (order l.made) p (omega (arith, l.count)) (λ q h. ended-flat ls o schedule [] lps b q op l (omega arith) (ended q h)) ∙ l.same;
+}
+
+no-lines : (cs : List Call) → false ≡ not (length cs == 0) → cs ≡ []
+no-lines cs e = by (eqb_tells (length cs) 0)
+  where
+    empty : (cs : List Call) → length cs ≡ 0 → cs ≡ []
+    empty [] z = refl
+    empty (c ∷ cs) z = absurd (omega (arith, z))
+
+    by : (((length cs == 0) ≡ true) × (length cs ≡ 0)) ⊎ (((length cs == 0) ≡ false) × (length cs ≢ 0)) → cs ≡ []
+    by (inl t) = empty cs t.1
+    by (inr f) = (let apart : false ≡ true = e ∙ ap not f.0 in cc)
+
+module _ (ls : TurnsAreEvents) (o : Opening) (schedule rest : List ℕ) (lps : List LpState) (p : ℕ) (d s' : LpState) (b b' : PlainSeen) (op : IsOpen o) (inside : p < length lps)
+    (l : AreLeft o schedule (p ∷ rest) lps b) (machine : b'.machine ≡ b.machine) where
+  abbrev s : LpState
+  s = get_or lps p d
+
+  place : s.place ≡ record { machine = o.machine; lp = p }
+  place = place-at o.machine 0 lps p d l.numbered inside ∙ ap (λ (k : ℕ). record { machine = o.machine; lp = k }) (omega arith)
+
+  -- its event, in these pieces
+  moved : (e : Event) (ps : List Piece) → PlaysTo (table_of b) (taken_in ps) (table_of b') → Moves s e ps s' → AreLeft o schedule rest (set lps p s') b'
+  moved e ps did moves = record {
+    machine = machine ∙ l.machine;
+    count = length-set lps p s' ∙ l.count;
+    numbered = numbered-set o.machine 0 lps p s' l.numbered (moves.0 ∙ place-at o.machine 0 lps p d l.numbered inside);
+    made = l.made ++ made_by p ps;
+    merge =
+        merge-more o (leaf_table o.machine) l.made (seen_at lps) (seen_at (set lps p s')) (table_of b) (table_of b') p e ps l.merge (omega (arith, l.count)) turns
+        (λ q ne. seen-other lps p s' q ne) did;
+    same = ap (run o) (order-more l.made p ps rest (one-event ls.pieces (task_of s.place) s.place.machine s.lines.now _ _ e ps (seen_of s') moves.1)) ∙ l.same;
+  }
+    where
+      turns : LpTurns (leaf_table o.machine p) o.machine (seen_at lps p) e ps (seen_at (set lps p s') p)
+      turns =
+          subst (λ (x : WordLp). LpTurns (leaf_table o.machine p) o.machine x e ps (seen_at (set lps p s') p)) (sym (seen-at lps p d inside))
+          (subst (λ (x : WordLp). LpTurns (leaf_table o.machine p) o.machine (seen_of s) e ps x) (sym (seen-own lps p s' inside))
+          (subst (λ (z : Place). LpTurns (task_of z) z.machine (seen_of s) e ps (seen_of s')) place moves.1))
+
+  -- or nothing, where it has ended
+  ended : PlaysTo (table_of b) [] (table_of b') → s' ≡ s → (seen_at lps p).lines ≡ [] → AreLeft o schedule rest (set lps p s') b'
+  ended did same none =
+      let stay : set lps p s' ≡ lps = ap (set lps p) same ∙ set-get_or lps p d in
+      subst (λ (z : List LpState). AreLeft o schedule rest z b') (sym stay) (record {
+        machine = machine ∙ l.machine;
+        count = l.count;
+        numbered = l.numbered;
+        made = l.made;
+        merge = record {
+          own = l.merge.own;
+          turns = l.merge.turns;
+          merge = l.merge.merge;
+          plays =
+              subst (λ (xs : List Taken). PlaysTo no_table xs (table_of b')) (append-nil (steps_taken l.made))
+              (PlaysTo-append no_table (table_of b) (table_of b') (steps_taken l.made) [] l.merge.plays did);
+        };
+        same = sym (idle-item o (order l.made) rest p (ended-flat ls o schedule (p ∷ rest) lps b p op l inside none)) ∙ l.same;
+      })
+
+  pub after-turn : (r : Turn) → Turned Moves (λ z. events_left (seen_of z)) (λ xs c. PlaysTo (table_of b) xs (table_of c)) s b' s' r → has_moved r ≡ not (length s.lines.now == 0) → AreLeft o schedule rest (set lps p s') b'
+  after-turn (turn.Moved e) t h = moved e t.0.0 t.0.1 t.0.2
+  after-turn turn.Ended t h = ended t.0 t.1 (ap (λ (z : WordLp). z.lines) (seen-at lps p d inside) ∙ no-lines s.lines.now h)
+
+pub machine-at : (o : Opening) (schedule left : List ℕ) (lps : List LpState) (b : PlainSeen) (p : ℕ) (d : LpState) → AreLeft o schedule left lps b → p < length lps → (get_or lps p d).place.machine ≡ b.machine
+machine-at o schedule left lps b p d l inside = ap (λ (z : Place). z.machine) (place-at o.machine 0 lps p d l.numbered inside) ∙ sym l.machine
+
+-- the item of the schedule whose turn it is
+pub item-inside : (script : ScriptSeen) (left : List ℕ) (lps : List LpState) (b : PlainSeen) (i d p : ℕ) → IsInForm script → AreLeft (opening_of script) script.schedule left lps b → i < length script.schedule
+    → p ≡ get_or script.schedule i d → p < length lps
+item-inside script left lps b i d p form l inside is =
+    let below : get_or script.schedule i d < script.machine.lps = form.items i d inside in
+    omega (arith, is, l.count, form.lists)
+
+pub item-next : (o : Opening) (schedule : List ℕ) (lps : List LpState) (b : PlainSeen) (i d p : ℕ) → AreLeft o schedule (drop i schedule) lps b → i < length schedule → p ≡ get_or schedule i d
+    → AreLeft o schedule (p ∷ drop (i + 1) schedule) lps b
+item-next o schedule lps b i d p l inside is =
+    let next : drop i schedule ≡ p ∷ drop (i + 1) schedule = rw add-one (drop-cons schedule i d inside ∙ ap (λ (x : ℕ). x ∷ drop (suc i) schedule) (sym is)) in
+    subst (λ (z : List ℕ). AreLeft o schedule z lps b) next l
+
+pub open-of : (script : ScriptSeen) → IsInForm script → IsOpen (opening_of script)
+open-of script form = record { machine = record { lps = form.lps; pages = form.pages; hkids = form.hkids }; few = omega (arith, form.lps.1, form.lists) }
+
+-- those before a processor stay at their ends
+pub still-ended : (lps : List LpState) (p : ℕ) (s' : LpState) → HaveEnded p lps → HaveEnded p (set lps p s')
+still-ended lps p s' h q less = ap (λ (z : WordLp). z.lines) (seen-other lps p s' q (λ e. absurd (omega (arith, e)))) ∙ h q less
+
+-- and one that had no event has ended too
+pub ended-more : (lps : List LpState) (p : ℕ) (d s' : LpState) → p < length lps → HaveEnded p lps → s' ≡ get_or lps p d → false ≡ not (length (get_or lps p d).lines.now == 0) → HaveEnded (p + 1) (set lps p s')
+ended-more lps p d s' inside h same none q less = by (eqb_tells q p)
+  where
+    by : (((q == p) ≡ true) × (q ≡ p)) ⊎ (((q == p) ≡ false) × (q ≢ p)) → (seen_at (set lps p s') q).lines ≡ []
+    by (inl t) =
+        subst (λ (z : ℕ). (seen_at (set lps p s') z).lines ≡ []) (sym t.1)
+        (ap (λ (x : WordLp). x.lines) (seen-own lps p s' inside) ∙ (ap (λ (z : LpState). z.lines.now) same ∙ no-lines (get_or lps p d).lines.now none))
+    by (inr f) = ap (λ (x : WordLp). x.lines) (seen-other lps p s' q f.1) ∙ h q (omega (arith, f.1))
+
+pub fewer-left : (lps : List LpState) (p : ℕ) (d s' : LpState) → p < length lps → events_left (seen_of s') < events_left (seen_of (get_or lps p d)) → events_left (seen_at (set lps p s') p) < events_left (seen_at lps p)
+fewer-left lps p d s' inside h =
+    subst (λ (x : WordLp). events_left x < events_left (seen_at lps p)) (sym (seen-own lps p s' inside))
+    (subst (λ (x : WordLp). events_left (seen_of s') < events_left x) (sym (seen-at lps p d inside)) h)
+
+-- at the end
+
+count-stays : (o : Opening) (s : State) (p : ℕ) → (event o s p).lp_count ≡ s.lp_count
+count-stays o s p = by (next_event o s p)
+  where
+    by : (e : Option FlatEvent) → (after_event p s e).lp_count ≡ s.lp_count
+    by None = refl
+    by (Some e) = refl
+
+count-of : (o : Opening) (xs : List ℕ) (s : State) → (play o xs s).lp_count ≡ s.lp_count
+count-of o [] s = refl
+count-of o (x ∷ xs) s = count-of o xs (event o s x) ∙ count-stays o s x
+
+same-lines : (n p : ℕ) (f : ℕ → Lp) (lps : List LpState) → length lps ≡ n → ((q : ℕ) → q < n → (f (p + q)).replies ≡ (seen_at lps q).replies) → lines_from n p f ≡ lines_seen p lps
+same-lines zero p f [] e h = refl
+same-lines zero p f (s ∷ ss) e h = absurd (omega (arith, e))
+same-lines (suc n) p f [] e h = absurd (omega (arith, e))
+same-lines (suc n) p f (s ∷ ss) e h =
+    let here : (f p).replies ≡ (seen_of s).replies = ap (λ (k : ℕ). (f k).replies) (omega arith) ∙ h 0 (omega arith) in
+    ap (λ (rs : List Reply). reply_lines p 1 rs ++ lines_from n (p + 1) f) here
+    ∙ ap (λ zs. reply_lines p 1 (seen_of s).replies ++ zs) (same-lines n (p + 1) f ss (omega (arith, e)) (λ q i. ap (λ (k : ℕ). (f k).replies) (omega arith) ∙ h (suc q) (omega arith)))
+
+-- one processor more
+pub first-next : (m : Machine) (lps : List LpState) (lists : List (Vec Call)) (i : ℕ) (v : Vec Call) (s : LpState) (cs : List Call) → i < length lists → v ≡ get_or lists i v → cs ≡ v.items
+    → AreFirst m 0 lps (map (λ list. list.items) (take i lists)) → s.place ≡ record { machine = m; lp = i } → seen_of s ≡ first_lp cs → AreFirst m 0 (lps ++ s ∷ []) (map (λ list. list.items) (take (i + 1) lists))
+first-next m lps lists i v s cs inside is calls h place seen =
+    let items : Vec Call → List Call = λ list. list.items in
+    let count : length lps ≡ i = first-count m 0 lps (map items (take i lists)) h ∙ (length-map (take i lists) items ∙ length-take-le i lists (omega arith)) in
+    let all : map items (take (i + 1) lists) ≡ map items (take i lists) ++ cs ∷ [] =
+    ap (map items) (take_more lists i v inside) ∙ (map_push items (take i lists) (get_or lists i v) ∙ ap (λ (x : List Call). map items (take i lists) ++ x ∷ []) (ap items (sym is) ∙ sym calls)) in
+    subst (AreFirst m 0 (lps ++ s ∷ [])) (sym all)
+    (first-more m 0 lps (map items (take i lists)) s cs h (place ∙ ap (λ (k : ℕ). record { machine = m; lp = k }) (omega (arith, count))) seen)
+
+-- the lines of one processor more
+pub lines-next : (lps : List LpState) (i : ℕ) (d : LpState) (text lines all : List ℕ) (rs : List Reply) → i < length lps → rs ≡ (seen_of (get_or lps i d)).replies → lines ≡ concat (reply_lines i 1 rs)
+    → text ++ concat (lines_seen i (drop i lps)) ≡ all → (text ++ lines) ++ concat (lines_seen (i + 1) (drop (i + 1) lps)) ≡ all
+lines-next lps i d text lines all rs inside replied printed so_far =
+    let here : drop i lps ≡ get_or lps i d ∷ drop (i + 1) lps = rw add-one (drop-cons lps i d inside) in
+    let rest : List (List ℕ) = lines_seen (i + 1) (drop (i + 1) lps) in
+    append_assoc text lines (concat rest)
+    ∙ (ap (λ x. text ++ (x ++ concat rest)) (printed ∙ ap (λ x. concat (reply_lines i 1 x)) replied)
+    ∙ (ap (λ x. text ++ x) (sym (concat-append (reply_lines i 1 (seen_of (get_or lps i d)).replies) rest)) ∙ (ap (λ (x : List LpState). text ++ concat (lines_seen i x)) (sym here) ∙ so_far)))
+
+-- of a script that was read
+pub starts : (script : ScriptSeen) (m : Machine) (lists : List (List Call)) (lps now : List LpState) (b : PlainSeen) → m ≡ script.machine → lists ≡ script.calls → now ≡ lps → b ≡ start_of m → AreFirst m 0 lps lists
+    → AreLeft (opening_of script) script.schedule script.schedule now b
+starts script m lists lps now b machine calls same new h =
+    let o : Opening = opening_of script in
+    let first : AreFirst script.machine 0 now script.calls =
+    subst (λ (x : List LpState). AreFirst script.machine 0 x script.calls) (sym same) (subst (AreFirst script.machine 0 lps) calls (subst (λ (x : Machine). AreFirst x 0 lps lists) machine h)) in
+    subst (λ (x : PlainSeen). AreLeft o script.schedule script.schedule now x) (sym (new ∙ ap start_of machine)) (at-start o script.schedule now first)
+
+pub prints : {E : Type 0} (r : Result (Vec ℕ) E) (lines all : List ℕ) → IfOk r (λ v. v.items ≡ lines) → lines ≡ all → IfOk r (λ v. v.items ≡ all)
+prints (Ok v) lines all h e = h ∙ e
+prints (Err x) lines all h e = tt
+
+pub prints-all : TurnsAreEvents → (o : Opening) (schedule : List ℕ) (lps : List LpState) (b : PlainSeen) → IsOpen o → AreLeft o schedule [] lps b → HaveEnded (length lps) lps → concat (lines_seen 0 lps) ≡ host_text o schedule
+unfolding host_text text_of
+prints-all ls o schedule lps b op l ended =
+    let there = ls.merges.ended o (leaf_table o.machine) l.made (seen_at lps) (table_of b) op.few (ls.leaves o op.machine) l.merge (λ p i. ended p (omega (arith, l.count))) in
+    let s : State = run o (order l.made) in
+    let lines : lines_from s.lp_count 0 s.lps ≡ lines_seen 0 lps =
+    same-lines s.lp_count 0 s.lps lps (l.count ∙ sym (count-of o (order l.made ++ to_the_end 0 o.calls) (start o None))) (λ q i. ap (λ (k : ℕ). (s.lps k).replies) (omega arith) ∙ there.1.replies q (omega (arith, count-of o (order l.made ++ to_the_end 0 o.calls) (start o None)))) in
+    ap concat (sym lines) ∙ ap text_of (ap (run o) (sym (append-nil (order l.made))) ∙ l.same)

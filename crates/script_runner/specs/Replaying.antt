@@ -1,0 +1,62 @@
+-- Where the logical processors of a script are, over words, while its run is replayed.
+use Rattle.std.specs.Prelude.{◌≡◌, ℕ, zero, suc, ◌+◌, ◌<◌, List, [], ◌∷◌, ◌++◌, length}
+use Rattle.td_words.specs.declared.machines.Machine.{Machine}
+use Rattle.td_words.specs.declared.calls.Call.{Call}
+use Rattle.flat_core.specs.Opening.{Opening}
+use Rattle.flat_core.specs.Run.{run}
+use Rattle.flat_core.specs.Bounds.{EventsRunOut}
+use Rattle.flat_core.specs.Laws.{OthersStay}
+use Rattle.flat_core.specs.HostText.{reply_lines}
+use Rattle.step_core.specs.Plain.{PlainSeen, table_of}
+use Rattle.leaf_engine.specs.OwnLists.{TurnsInPieces, WordLp, first_lp}
+use Rattle.leaf_engine.specs.Merges.{Item, Merge, order}
+use Rattle.merge_laws.specs.Laws.{MergesAreRuns}
+use Rattle.leaf_dispatch.specs.Table.{leaf_table}
+use Rattle.leaf_dispatch.specs.Laws.{CallsHaveLeaves}
+use Rattle.leaf_dispatch.specs.States.{seen_of}
+use Rattle.leaf_dispatch.specs.declared.states.LpState.{LpState}
+
+-- these are a machine's processors from number n on
+abbrev pub AreNumbered : Machine → ℕ → List LpState → Type 0
+AreNumbered m n [] = Unit {0}
+AreNumbered m n (s ∷ ss) = (s.place ≡ record { machine = m; lp = n }) × AreNumbered m (suc n) ss
+
+-- and each is at the first of its calls
+abbrev pub AreFirst : Machine → ℕ → List LpState → List (List Call) → Type 0
+AreFirst m n [] [] = Unit {0}
+AreFirst m n [] (cs ∷ css) = ⊥
+AreFirst m n (s ∷ ss) [] = ⊥
+AreFirst m n (s ∷ ss) (cs ∷ css) = (s.place ≡ record { machine = m; lp = n }) × (seen_of s ≡ first_lp cs) × AreFirst m (suc n) ss css
+
+-- what is seen of them, by number
+abbrev pub seen_at : List LpState → ℕ → WordLp
+seen_at [] p = first_lp []
+seen_at (s ∷ ss) zero = seen_of s
+seen_at (s ∷ ss) (suc p) = seen_at ss p
+
+-- the first n of them have no call left
+abbrev pub HaveEnded : ℕ → List LpState → Type 0
+HaveEnded n lps = (p : ℕ) → p < n → (seen_at lps p).lines ≡ []
+
+-- the reply lines of processor p and those behind it
+abbrev pub lines_seen : ℕ → List LpState → List (List ℕ)
+lines_seen p [] = []
+lines_seen p (s ∷ ss) = reply_lines p 1 (seen_of s).replies ++ lines_seen (p + 1) ss
+
+-- So far the turns that the processors made over these words are a merge; and its events, and then the items that are left,
+-- lead to the end of the flat machine's run under the schedule.
+pub record AreLeft (o : Opening) (schedule left : List ℕ) (lps : List LpState) (bench : PlainSeen) : Type 0 where
+  pub machine : bench.machine ≡ o.machine
+  pub count : length lps ≡ length o.calls
+  pub numbered : AreNumbered o.machine 0 lps
+  pub made : List Item
+  pub merge : Merge o (leaf_table o.machine) made (seen_at lps) (table_of bench)
+  pub same : run o (order made ++ left) ≡ run o schedule
+
+-- what ties turns over words to events of the flat machine
+pub record TurnsAreEvents : Type 0 where
+  pub merges : MergesAreRuns
+  pub leaves : CallsHaveLeaves
+  pub pieces : TurnsInPieces
+  pub runs_out : EventsRunOut
+  pub others : OthersStay

@@ -1,0 +1,119 @@
+//! A script's run over words: its processors under its schedule, and then each to its end.
+
+ghost use Rattle.std.specs.Prelude.{◌≡◌, ◌≤◌, ◌<◌, ◌+◌, [], length, map, IfOk};
+ghost use Rattle.std.specs.List.{concat};
+ghost use Rattle.flat_core.specs.Opening.{IsMachine};
+ghost use Rattle.flat_core.specs.HostText.{host_text};
+ghost use Rattle.script_text.specs.Laws.{IsInForm};
+ghost use Rattle.script_runner.specs.Ending.{opening_of};
+ghost use Rattle.script_runner.specs.Replaying.{AreFirst, AreLeft, HaveEnded, TurnsAreEvents, lines_seen};
+
+use crate::report::host_lines;
+use flat_core::{end_laws, event_laws};
+use leaf_dispatch::{LpState, calls_have_leaves};
+use leaf_engine::{Processor, Turn, turns_in_pieces};
+use merge_laws::merge_law;
+use script_text::Script;
+use std::alloc::Global;
+use step_core::PlainBench;
+use td_words::{Call, Machine, OutOfMemory};
+
+// What turns over words have to do with events of the flat machine.
+fn laws_of_turns()
+    ensures { TurnsAreEvents }
+{
+    merge_law();
+    calls_have_leaves();
+    turns_in_pieces();
+    end_laws();
+    event_laws();
+}
+
+// The processors of a machine, each at the first of its calls.
+fn processors<'a>(
+    alloc: Global,
+    machine: Machine,
+    lists: &'a [Vec<Call>],
+) -> Result<Vec<LpState<'a>>, OutOfMemory>
+    requires machine { IsMachine machine }
+    requires few { length lists.now ≤ 8 }
+    ensures { IfOk result (λ v. AreFirst machine 0 v.items (map (λ list. list.items) lists.now)) }
+{
+    let Ok(mut lps) = Vec::with_capacity(alloc, lists.len()) else {
+        return Err(OutOfMemory);
+    };
+    for lp in 0..lists.len() {
+        let state = LpState::new(alloc, machine, lp as u8, &lists[lp])?;
+        let Ok(()) = lps.push(state) else {
+            return Err(OutOfMemory);
+        };
+    }
+    Ok(lps)
+}
+
+// One turn for each item of the schedule.
+fn follow_schedule(script: &Script, lps: &mut [LpState<'_>], bench: &mut PlainBench)
+    requires form { IsInForm script.now }
+    requires left { AreLeft (opening_of script.now) script.now.schedule script.now.schedule lps.old bench.old }
+    ensures { AreLeft (opening_of script.now) script.now.schedule [] lps.new bench.new }
+{
+    laws_of_turns();
+    for item in 0..script.schedule.len() {
+        lps[usize::from(script.schedule[item])].turn(bench);
+    }
+}
+
+// The turns of a processor up to its end, where those before it have ended.
+fn finish(script: &Script, lps: &mut [LpState<'_>], lp: usize, bench: &mut PlainBench)
+    requires form { IsInForm script.now }
+    requires lp { lp < length lps.old }
+    requires ended { HaveEnded lp lps.old }
+    requires left { AreLeft (opening_of script.now) script.now.schedule [] lps.old bench.old }
+    ensures count { length lps.new ≡ length lps.old }
+    ensures ended { HaveEnded (lp + 1) lps.new }
+    ensures left { AreLeft (opening_of script.now) script.now.schedule [] lps.new bench.new }
+{
+    laws_of_turns();
+    while let Turn::Moved(_) = lps[lp].turn(bench) {}
+}
+
+// Each processor to its end, in number order.
+fn finish_all(script: &Script, lps: &mut [LpState<'_>], bench: &mut PlainBench)
+    requires form { IsInForm script.now }
+    requires left { AreLeft (opening_of script.now) script.now.schedule [] lps.old bench.old }
+    ensures ended { HaveEnded (length lps.new) lps.new }
+    ensures left { AreLeft (opening_of script.now) script.now.schedule [] lps.new bench.new }
+{
+    for lp in 0..lps.len() {
+        finish(script, lps, lp, bench);
+    }
+}
+
+// The reply lines of all processors.
+fn all_lines(alloc: Global, lps: &[LpState<'_>]) -> Result<Vec<u8>, OutOfMemory>
+    requires { length lps.now ≤ 8 }
+    ensures { IfOk result (λ v. v.items ≡ concat (lines_seen 0 lps.now)) }
+{
+    let mut text = Vec::new(alloc);
+    for lp in 0..lps.len() {
+        let lines = host_lines(alloc, lp as u8, lps[lp].replies())?;
+        let Ok(()) = text.extend_from_slice(&lines) else {
+            return Err(OutOfMemory);
+        };
+    }
+    Ok(text)
+}
+
+/// The reply lines of a script's run under its schedule.
+pub fn replay_text(alloc: Global, script: &Script) -> Result<Vec<u8>, OutOfMemory>
+    requires { IsInForm script.now }
+    ensures { IfOk result (λ v. v.items ≡ host_text (opening_of script.now) script.now.schedule) }
+{
+    laws_of_turns();
+    let mut states = processors(alloc, script.machine, &script.calls)?;
+    let lps = states.as_mut_slice();
+    let mut bench = PlainBench::new(alloc, script.machine)?;
+    follow_schedule(script, lps, &mut bench);
+    finish_all(script, lps, &mut bench);
+    all_lines(alloc, lps)
+}
