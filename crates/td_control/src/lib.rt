@@ -6,7 +6,9 @@
 #![tactic(auto)]
 
 mod key_configurations;
+mod reads;
 mod td_creations;
 
 pub use key_configurations::KeyConfig;
+pub use reads::Rd;
 pub use td_creations::Create;
