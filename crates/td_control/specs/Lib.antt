@@ -4,3 +4,5 @@ pub mod KeyTrees
 pub mod KeyMeanings
 pub mod ReadTrees
 pub mod ReadMeanings
+pub mod AddTrees
+pub mod AddMeanings
