@@ -40,5 +40,6 @@ start-is-met shown lawful locks o task run m lp none = record {
       let b : refusals (start o None).lps (start o None).lp_count l ≡ 0 = none-below (length o.calls) in omega (arith, a, b));
   nothing_to_tell = refl;
   tdrs = λ q. ((tt, tt), tt);
+  stand = λ q small. (tt, tt, tt);
   empty_hand = λ e. refl;
 }

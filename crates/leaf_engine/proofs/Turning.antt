@@ -156,6 +156,7 @@ at-instant o task row s mem t run mean sh ca st = record {
   empty_hand = sh.empty_hand st;
   nothing_to_tell = sh.nothing_to_tell;
   tdrs = sh.tdrs;
+  stand = sh.stand;
   maker = subst (λ (x : Meaning). Rattle.leaf_engine.specs.Means.IsMaker x (instant task s mem)) (sym mean) (ca.guest, refl);
 }
 

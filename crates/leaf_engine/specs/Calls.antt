@@ -16,7 +16,7 @@ use Rattle.flat_core.specs.Event.{State, start, lines_left, event}
 use Rattle.flat_core.specs.Laws.{IsBetween}
 use Rattle.word_rules.specs.Cells.{Shows}
 use Rattle.lock_words.specs.Grips.{IsExclusive, TdrsAreHeld}
-use Rattle.lock_words.specs.LockWords.{place_of, Stands}
+use Rattle.lock_words.specs.LockWords.{place_of, Stands, LocksStand}
 use Rattle.step_core.specs.Items.{Table, Taken, PlaysTo}
 use Rattle.leaf_engine.specs.declared.events.RunTurn.{RunTurn}
 use Rattle.leaf_engine.specs.declared.events.HeldLock.{HeldLock}
@@ -81,6 +81,7 @@ pub record IsShown (task : Task) (s : State) (mem : Memory) (t : Table) (run : S
   pub few_sharers : (l : LockId) → sharers s.lps s.lp_count l + refusals s.lps s.lp_count l + 1 < 2 ^ 63
   pub nothing_to_tell : s.world.outgoing.to_tell ≡ None
   pub tdrs : TdrsAreHeld s
+  pub stand : LocksStand s
   pub empty_hand : run.stage ≡ stages.Trying → mem.hand ≡ None
 
 -- it goes on, or its call is over, with its reply

@@ -22,7 +22,7 @@ use Rattle.word_rules.specs.Rules.{View, Whole, Grade, KeepsNothing}
 use Rattle.word_rules.specs.Permissions.{Reads, Sees, Writes, Owes, Fills, Tries, SwapsAct, SwapsOwed, Respects}
 use Rattle.word_rules.specs.Cells.{Shows}
 use Rattle.lock_words.specs.Grips.{holds, holds_alone, grip_with, TdrsAreHeld}
-use Rattle.lock_words.specs.LockWords.{place_of, Stands}
+use Rattle.lock_words.specs.LockWords.{place_of, Stands, LocksStand}
 use Rattle.leaf_engine.specs.declared.needs.Place.{Place}
 use Rattle.word_rules.specs.Views.{look, IsKept}
 use Rattle.leaf_engine.specs.Changes.{Memory, Change, Put, PutHash, Raise, Clear, Copy, Swap, changed, changed_all}
@@ -109,6 +109,7 @@ pub record IsAt (task : Task) (c : Instant) : Type 0 where
   pub empty_hand : c.memory.hand ≡ None
   pub nothing_to_tell : c.state.world.outgoing.to_tell ≡ None
   pub tdrs : TdrsAreHeld c.state
+  pub stand : LocksStand c.state
   pub maker : IsMaker task.meaning c
 
 -- a try is of that lock, at its place, which stands

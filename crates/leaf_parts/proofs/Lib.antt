@@ -3,3 +3,4 @@ pub mod Told
 pub mod Begun
 pub mod Owned
 pub mod Acted
+pub mod Unheld

@@ -8,7 +8,7 @@ use Rattle.td_words.specs.declared.names.Mode.TheVariants.{Shared, Exclusive}
 use Rattle.td_words.specs.declared.machines.Machine.{Machine}
 use Rattle.td_words.specs.Place.{WordPlace, IsIn, same_place, lock_place}
 use Rattle.flat_core.specs.World.{World}
-use Rattle.flat_core.specs.Processor.{LockId, OfPage, OfOp, OfTree, OfEpoch, OfRtmr, OfKeys, Trying, Guest, Lp, nothing_yet}
+use Rattle.flat_core.specs.Processor.{LockId, OfPage, OfOp, OfTree, OfEpoch, OfRtmr, OfKeys, Held, Phase, Trying, Undoing, Answered, Guest, Lp, nothing_yet}
 use Rattle.flat_core.specs.Locks.{same_lock, sum_below, sharers, refusals, grants}
 use Rattle.flat_core.specs.Lawful.{Lawful, IsAlive}
 use Rattle.flat_core.specs.Opening.{Opening}
@@ -46,6 +46,23 @@ Stands w (OfTree t) = TdStands w t
 Stands w (OfEpoch t) = TdStands w t
 Stands w (OfRtmr t) = TdStands w t
 Stands w OfKeys = Unit {0}
+
+-- the locks that are held, or being refused, stand: of every processor's call, and of its guest's operation
+abbrev pub HeldStand : World → List Held → Type 0
+HeldStand w [] = Unit {0}
+HeldStand w (h ∷ hs) = Stands w h.lock × HeldStand w hs
+
+abbrev pub UndoStands : {R : Type 0} → World → Phase R → Type 0
+UndoStands w Trying = Unit {0}
+UndoStands w (Undoing l) = Stands w l
+UndoStands w (Answered r) = Unit {0}
+
+abbrev pub GuestStands : World → Option Guest → Type 0
+GuestStands w None = Unit {0}
+GuestStands w (Some g) = HeldStand w g.operation.held × UndoStands w g.operation.phase
+
+abbrev pub LocksStand : State → Type 0
+LocksStand s = (q : ℕ) → q < s.lp_count → HeldStand s.world (s.lps q).call.held × UndoStands s.world (s.lps q).call.phase × GuestStands s.world (s.lps q).guest
 
 -- what a holder adds to a lock's word
 abbrev pub weight_of : Mode → ℕ

@@ -1,6 +1,5 @@
 -- The leaf that configures a TD's keys means its row.
-use Rattle.std.proofs.Common.{◌≡◌, ℕ, zero, suc, ◌<◌, Bool, true, false, ◌==◌, ◌&&◌, List, [], ◌∷◌, Option, Some, None, refl, ap, sym, ◌∙◌, subst, inl, arith}
-use Rattle.std.specs.Prelude.{nat_lt}
+use Rattle.std.proofs.Common.{◌≡◌, ℕ, ◌<◌, true, false, ◌==◌, List, [], ◌∷◌, Option, Some, None, refl, ap, sym, ◌∙◌, subst, inl, arith}
 use Rattle.std.specs.List.{list_any}
 use Rattle.std.proofs.lemmas.Bool.{eq-eqb, eqb-true, ltb-true}
 use Rattle.td_words.specs.declared.names.PageKind.{PageKind}
@@ -17,14 +16,12 @@ use Rattle.td_words.specs.NameNumber.{life_number}
 use Rattle.td_words.specs.Place.{WordPlace, IsIn}
 use Rattle.td_words.specs.Place as place
 use Rattle.flat_core.specs.World.{World}
-use Rattle.flat_core.specs.Processor.{LockId, OfPage, Held}
-use Rattle.flat_core.specs.Opening.{Opening}
+use Rattle.flat_core.specs.Processor.{LockId}
 use Rattle.flat_core.specs.Lawful.{Lawful, key_owner}
 use Rattle.flat_core.specs.Effects.{set_life}
 use Rattle.flat_core.specs.Event.{State}
 use Rattle.word_rules.specs.Rules.{KeepsNothing}
-use Rattle.word_rules.specs.Cells.{Shows, IsAs, cell, page_cell, if_stands, lock_word, built_hasher, hasher_cell, tdr_lines}
-use Rattle.word_rules.specs.Lines.{in_lines}
+use Rattle.word_rules.specs.Cells.{Shows, IsAs, cell, page_cell, if_stands, lock_word, built_hasher}
 use Rattle.lock_words.specs.LockWords.{put_word}
 use Rattle.act_rules.proofs.Rows.{rows-respect}
 use Rattle.act_rules.proofs.Stored.{by_test}
@@ -33,7 +30,7 @@ use Rattle.leaf_engine.specs.Changes.{Put}
 use Rattle.leaf_engine.specs.Trees.{acts}
 use Rattle.leaf_engine.specs.Means.{MeansRow, work_of, OfCall, hold}
 use Rattle.leaf_parts.proofs.Begun.{tdr-head-means, page_lock, alone-newest, holds-newest}
-use Rattle.leaf_parts.proofs.Told.{kind-is, tdr-spot, tdr-shown}
+use Rattle.leaf_parts.proofs.Told.{tdr-spot, tdr-shown}
 use Rattle.flat_core.specs.TdRows.{configure_key}
 use Rattle.td_control.specs.KeyTrees.{configure_task}
 use Rattle.leaf_parts.proofs.Acted.{opening}

@@ -40,10 +40,7 @@ impl Plan for KeyConfig {
         tdr_head(&mut told, self.place, tdr, &[LifeState::HkidAssigned])?;
         let mut writes = ArrayVec::new();
         let at = word_address(tdr, TDR_LIFE);
-        writes.push(Write::Word(WordStep::Store(
-            at,
-            LifeState::KeysConfigured as u64,
-        )));
+        writes.push(Write::Word(WordStep::Store(at, LifeState::KeysConfigured as u64)));
         Ok(Verdict {
             reply: Reply::Done(Value::Nothing),
             writes,

@@ -6,7 +6,11 @@
 #![tactic(auto)]
 
 mod key_configurations;
+mod page_additions;
+mod reads;
 mod td_creations;
 
 pub use key_configurations::KeyConfig;
+pub use page_additions::AddCx;
+pub use reads::Rd;
 pub use td_creations::Create;

@@ -1,4 +1,4 @@
-use Rattle.std.proofs.Common.{◌≡◌, [], ◌∷◌, true, nat_lt, refl, Ok, Err}
+use Rattle.std.proofs.Common.{[], ◌∷◌, nat_lt, refl, Err}
 use Rattle.td_words.specs.declared.names.LifeState.TheVariants as life
 use Rattle.td_words.specs.declared.places.TheConstants.{TDR_LIFE}
 use Rattle.td_words.specs.declared.refusals.Status.TheVariants.{OperandInvalid}
