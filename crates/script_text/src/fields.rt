@@ -10,8 +10,7 @@ use crate::mnemonics::{CallName, is};
 use crate::words::next_word;
 use td_words::ReadField;
 
-/// The field of MNG.RD that a word names, or NAME.
-pub fn field_at(word: &[u8]) -> Result<ReadField, Reason>
+fn field_at(word: &[u8]) -> Result<ReadField, Reason>
     ensures { result ≡ field_of word.now }
 {
     if is(word, "LIFE") {

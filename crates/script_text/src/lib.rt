@@ -4,9 +4,9 @@
 //! several hold. It stands on `td_words` alone. A layer above may use that `read_script` gives
 //! exactly what `specs/Reading.antt` defines, unless memory wasn't found, and the three laws: what
 //! is read is in form (`scripts_are_in_form`), a script in form that is written out is read again
-//! (`scripts_read_again`), and a fault names the first bad line (`faults_are_first`). Four calls
+//! (`scripts_read_again`), and a fault names the first bad line (`faults_are_first`). Fifteen calls
 //! are built; every other mnemonic, and `code`, is UNBUILT in a script. What their lines say is
-//! read by the public functions on code heads, operands, fields and output slots.
+//! read by the public functions on code heads, operands and output slots.
 #![tactic(auto)]
 
 mod code_blocks;
@@ -24,7 +24,7 @@ mod words;
 
 pub use code_blocks::{CodePlace, code_line};
 pub use faults::{Reason, ScriptFault};
-pub use fields::{field_at, output_slot, slot_place};
+pub use fields::{output_slot, slot_place};
 pub use laws::{faults_are_first, scripts_are_in_form, scripts_read_again};
 pub use mnemonics::{CallName, Mnemonic, mnemonic_at};
 pub use operations::{OpName, Operand, check_operands, operation_at};

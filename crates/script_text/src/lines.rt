@@ -3,7 +3,7 @@
 ghost use Rattle.std.specs.Prelude.{◌≡◌, None, is_some, slice_index_or, false};
 ghost use Rattle.std.specs.List.{list_all};
 ghost use Rattle.script_text.specs.Mnemonics.{mnemonics, mnemonic_in};
-ghost use Rattle.script_text.specs.Line.{keyword_of, counted_of, number_at, in_limits, machine_in, machine_of, block_in, block_of, end_of, argument, built_of, are_given, judged_of, call_of, first_of, outside_of, inside_of, entry_of};
+ghost use Rattle.script_text.specs.Line.{keyword_of, counted_of, number_at, machine_in, machine_of, block_in, block_of, end_of, argument, built_of, are_given, judged_of, call_of, outside_of, inside_of, entry_of};
 
 use crate::faults::Reason;
 use crate::mnemonics::{CallName, Mnemonic, is, mnemonic_at};
@@ -64,11 +64,10 @@ fn keyword_at(word: &[u8]) -> Option<Keyword>
 pub fn check_count(numbers: &[Option<u64>], count: usize) -> Result<(), Reason>
     ensures { result ≡ counted_of count numbers.now }
 {
-    if numbers.len() == count {
-        Ok(())
-    } else {
-        Err(Reason::Count)
+    if numbers.len() != count {
+        return Err(Reason::Count);
     }
+    Ok(())
 }
 
 fn given(numbers: &[Option<u64>], i: usize) -> Option<u64>
@@ -83,16 +82,10 @@ pub fn number_of(numbers: &[Option<u64>], i: usize) -> Result<u64, Reason>
     given(numbers, i).ok_or(Reason::Number)
 }
 
-fn is_in_limits(lps: u64, pages: u64, hkids: u64) -> bool
-    ensures { result ≡ in_limits lps pages hkids }
-{
-    1 <= lps && lps <= 8 && 8 <= pages && pages <= 1024 && 1 <= hkids && hkids <= 15
-}
-
 fn machine_at(lps: u64, pages: u64, hkids: u64) -> Result<Entry, Reason>
     ensures { result ≡ machine_in lps pages hkids }
 {
-    if !is_in_limits(lps, pages, hkids) {
+    if !(1 <= lps && lps <= 8 && 8 <= pages && pages <= 1024 && 1 <= hkids && hkids <= 15) {
         return Err(Reason::Range);
     }
     Ok(Entry::Machine(Machine {
@@ -138,8 +131,7 @@ fn block_line(machine: Machine, had: &[bool; 8], numbers: &[Option<u64>]) -> Res
     ensures { result ≡ block_of machine had.now numbers.now }
 {
     check_count(numbers, 1)?;
-    let lp = number_of(numbers, 0)?;
-    block_at(machine, had, lp)
+    block_at(machine, had, number_of(numbers, 0)?)
 }
 
 #[tactic(auto, unfolding(crate::specs::Line::end_of))]
@@ -159,22 +151,14 @@ pub fn argument(numbers: &[Option<u64>], i: usize) -> u64
 fn built(lp: u8, call: CallName, numbers: &[Option<u64>]) -> Option<Entry>
     ensures { result ≡ built_of lp call numbers.now }
 {
-    let tdr = argument(numbers, 0);
+    let first = argument(numbers, 0);
     let second = argument(numbers, 1);
     let value = argument(numbers, 2);
+    let (page, tdr, word, vp) = (first, first, second, second);
     let call = match call {
-        CallName::HostRead => Call::HostRead {
-            page: argument(numbers, 0),
-            word: second,
-        },
-        CallName::HostWrite => Call::HostWrite {
-            page: argument(numbers, 0),
-            word: second,
-            value,
-        },
-        CallName::PhymemPageRdmd => Call::PhymemPageRdmd {
-            page: argument(numbers, 0),
-        },
+        CallName::HostRead => Call::HostRead { page, word },
+        CallName::HostWrite => Call::HostWrite { page, word, value },
+        CallName::PhymemPageRdmd => Call::PhymemPageRdmd { page },
         CallName::PhymemCacheWb => Call::PhymemCacheWb,
         CallName::PhymemPageReclaim => Call::PhymemPageReclaim { tdr, page: second },
         CallName::MngCreate => Call::MngCreate { tdr, hkid: second },
@@ -186,11 +170,7 @@ fn built(lp: u8, call: CallName, numbers: &[Option<u64>]) -> Option<Entry>
         CallName::MngKeyFreeid => Call::MngKeyFreeid { tdr },
         CallName::MrFinalize => Call::MrFinalize { tdr },
         CallName::VpCreate => Call::VpCreate { tdr, page: second },
-        CallName::VpInit => Call::VpInit {
-            tdr,
-            vp: second,
-            value,
-        },
+        CallName::VpInit => Call::VpInit { tdr, vp, value },
         _ => return None,
     };
     Some(Entry::Call(lp, call))
@@ -211,18 +191,14 @@ fn are_given(call: CallName, numbers: &[Option<u64>]) -> bool
     }
 }
 
-fn judged(
-    entry: Option<Entry>,
-    mnemonic: Mnemonic,
-    numbers: &[Option<u64>],
-) -> Result<Entry, Reason>
-    ensures { result ≡ judged_of entry mnemonic numbers.now }
+fn judged(entry: Option<Entry>, row: Mnemonic, numbers: &[Option<u64>]) -> Result<Entry, Reason>
+    ensures { result ≡ judged_of entry row numbers.now }
 {
     let entry = entry.ok_or(Reason::Unbuilt)?;
-    if numbers.len() < mnemonic.least || numbers.len() > mnemonic.most {
+    if numbers.len() < row.least || numbers.len() > row.most {
         return Err(Reason::Count);
     }
-    if !are_given(mnemonic.call, numbers) {
+    if !are_given(row.call, numbers) {
         return Err(Reason::Number);
     }
     Ok(entry)
@@ -234,15 +210,6 @@ fn call_line(lp: u8, mnemonic: Option<Mnemonic>, numbers: &[Option<u64>]) -> Res
 {
     let mnemonic = mnemonic.ok_or(Reason::Word)?;
     judged(built(lp, mnemonic.call, numbers), mnemonic, numbers)
-}
-
-fn first_at(keyword: Option<Keyword>, numbers: &[Option<u64>]) -> Result<Entry, Reason>
-    ensures { result ≡ first_of keyword numbers.now }
-{
-    match keyword {
-        Some(Keyword::Machine) => machine_line(numbers),
-        _ => Err(Reason::Machine),
-    }
 }
 
 fn outside_at(
@@ -286,7 +253,10 @@ pub fn entry_at(stage: &Stage, word: &[u8], numbers: &[Option<u64>]) -> Result<E
 {
     let keyword = keyword_at(word);
     match stage.machine {
-        None => first_at(keyword, numbers),
+        None => match keyword {
+            Some(Keyword::Machine) => machine_line(numbers),
+            _ => Err(Reason::Machine),
+        },
         Some(machine) => match stage.block {
             None => outside_at(machine, &stage.had, keyword, numbers),
             Some(lp) => inside_at(lp, keyword, word, numbers),

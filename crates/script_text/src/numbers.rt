@@ -1,7 +1,7 @@
 //! Numbers of a script.
 
 ghost use Rattle.std.specs.Prelude.{◌≡◌, map, take, IfOk};
-ghost use Rattle.script_text.specs.Number.{digit, number_on, digits_in, is_prefixed, number};
+ghost use Rattle.script_text.specs.Number.{digit, number_on, digits_in, number};
 ghost use Rattle.script_text.specs.Words.{words};
 
 use std::alloc::{AllocError, Global};
@@ -43,17 +43,11 @@ fn in_base(base: u8, word: &[u8]) -> Option<u64>
     digits_at(base, word)
 }
 
-fn is_prefixed(word: &[u8]) -> bool
-    ensures { result ≡ is_prefixed word.now }
-{
-    word.len() >= 2 && word[0] == b'0' && word[1] == b'x'
-}
-
 /// The number that a word is: decimal digits, or `0x` and hexadecimal digits, below 2^64.
 pub fn number(word: &[u8]) -> Option<u64>
     ensures { result ≡ number word.now }
 {
-    if is_prefixed(word) && word.len() >= 2 {
+    if word.len() >= 2 && word[0] == b'0' && word[1] == b'x' {
         in_base(16, &word[2..])
     } else {
         in_base(10, word)

@@ -1,10 +1,10 @@
 //! The words of guest operations.
 
 ghost use Rattle.std.specs.Prelude.{◌≡◌};
-ghost use Rattle.script_text.specs.Blocks.{operation_of, first_operand_of, second_operand_of, is_operand, fits_second, operand_count, operands_of};
+ghost use Rattle.script_text.specs.Blocks.{operation_of, first_operand_of, second_operand_of, is_operand, operands_of};
 
 use crate::faults::Reason;
-use crate::lines::{are_numbers, argument};
+use crate::lines::{are_numbers, argument, check_count};
 use crate::mnemonics::is;
 
 /// A guest operation, whether or not it is built.
@@ -97,34 +97,20 @@ fn is_operand(operand: Operand, number: u64) -> bool
     }
 }
 
-fn fits_second(operand: Option<Operand>, number: u64) -> bool
-    ensures { result ≡ fits_second operand number }
-{
-    match operand {
-        None => true,
-        Some(operand) => is_operand(operand, number),
-    }
-}
-
-fn operand_count(op: OpName) -> usize
-    ensures { result ≡ operand_count op }
-{
-    if second_operand(op).is_some() { 2 } else { 1 }
-}
-
 /// Whether an operation's words behind the first may be those numbers, or the first reason why not.
 pub fn check_operands(op: OpName, numbers: &[Option<u64>]) -> Result<(), Reason>
     ensures { result ≡ operands_of op numbers.now }
 {
-    if numbers.len() != operand_count(op) {
-        return Err(Reason::Count);
-    }
+    let second = second_operand(op);
+    check_count(numbers, if second.is_some() { 2 } else { 1 })?;
     if !are_numbers(numbers) {
         return Err(Reason::Number);
     }
-    let first = is_operand(first_operand(op), argument(numbers, 0));
-    let second = fits_second(second_operand(op), argument(numbers, 1));
-    if !(first && second) {
+    let fits_second = match second {
+        None => true,
+        Some(operand) => is_operand(operand, argument(numbers, 1)),
+    };
+    if !(is_operand(first_operand(op), argument(numbers, 0)) && fits_second) {
         return Err(Reason::Range);
     }
     Ok(())
