@@ -1,12 +1,12 @@
 -- A lock of a TD that doesn't stand is held by nobody, and nobody is being refused it, so its word is 0.
-use Rattle.std.proofs.Common.{◌≡◌, ℕ, zero, suc, ◌+◌, ◌*◌, ◌^◌, ◌<◌, ◌≤◌, Bool, true, false, not, ◌==◌, ◌&&◌, List, [], ◌∷◌, Option, Some, None, refl, ap, sym, ◌∙◌, subst, arith}
+use Rattle.std.proofs.Common.{◌≡◌, ℕ, zero, suc, ◌+◌, ◌<◌, true, false, List, [], ◌∷◌, Option, Some, None, refl, ap, subst, arith}
 use Rattle.std.proofs.lemmas.Bool.{eqb-true}
 use Rattle.flat_core.specs.World.{World}
-use Rattle.flat_core.specs.Processor.{LockId, OfPage, OfOp, OfTree, OfEpoch, OfRtmr, OfKeys, Held, Phase, Trying, Undoing, Answered, Guest, Lp}
-use Rattle.flat_core.specs.Locks.{same_lock, is_alone, one_if, alone_in, shared_in, refused_in, guest_alone, guest_shared, guest_refused, alone_of, shared_of, refused_of, sum_below, holders, sharers, refusals}
+use Rattle.flat_core.specs.Processor.{LockId, OfPage, OfOp, OfTree, OfEpoch, OfRtmr, OfKeys, Held, Phase, Trying, Undoing, Answered, Guest}
+use Rattle.flat_core.specs.Locks.{same_lock, is_alone, alone_in, shared_in, refused_in, guest_alone, guest_shared, guest_refused, alone_of, shared_of, refused_of, sum_below, holders, sharers, refusals}
 use Rattle.flat_core.specs.Event.{State}
 use Rattle.word_rules.specs.Cells.{lock_word}
-use Rattle.lock_words.specs.LockWords.{TdStands, Stands, HeldStand, UndoStands, GuestStands, LocksStand}
+use Rattle.lock_words.specs.LockWords.{Stands, HeldStand, UndoStands, GuestStands, LocksStand}
 use Rattle.act_rules.proofs.Stored.{by_test}
 
 same-is : (k l : LockId) → same_lock k l ≡ true → k ≡ l
@@ -61,9 +61,9 @@ module _ (w : World) (l : LockId) (gone : Stands w l → ⊥) where
 pub unheld : (s : State) (l : LockId) → LocksStand s → (Stands s.world l → ⊥) → lock_word s.lps s.lp_count l ≡ 0
 unheld s l stand gone =
     let a : holders s.lps s.lp_count l ≡ 0 = none-below s.world l gone (λ q. alone_of l (s.lps q)) s.lp_count
-        (λ q small. both s.world l gone _ _ (none-alone s.world l gone (s.lps q).call.held (stand q small).0) (no-guest-alone s.world l gone (s.lps q).guest (stand q small).2)) in
+    (λ q small. both s.world l gone _ _ (none-alone s.world l gone (s.lps q).call.held (stand q small).0) (no-guest-alone s.world l gone (s.lps q).guest (stand q small).2)) in
     let b : sharers s.lps s.lp_count l ≡ 0 = none-below s.world l gone (λ q. shared_of l (s.lps q)) s.lp_count
-        (λ q small. both s.world l gone _ _ (none-shared s.world l gone (s.lps q).call.held (stand q small).0) (no-guest-shared s.world l gone (s.lps q).guest (stand q small).2)) in
+    (λ q small. both s.world l gone _ _ (none-shared s.world l gone (s.lps q).call.held (stand q small).0) (no-guest-shared s.world l gone (s.lps q).guest (stand q small).2)) in
     let d : refusals s.lps s.lp_count l ≡ 0 = none-below s.world l gone (λ q. refused_of l (s.lps q)) s.lp_count
-        (λ q small. both s.world l gone _ _ (none-refused s.world l gone (s.lps q).call.phase (stand q small).1) (no-guest-refused s.world l gone (s.lps q).guest (stand q small).2)) in
+    (λ q small. both s.world l gone _ _ (none-refused s.world l gone (s.lps q).call.phase (stand q small).1) (no-guest-refused s.world l gone (s.lps q).guest (stand q small).2)) in
     rw (a, b, d) refl
