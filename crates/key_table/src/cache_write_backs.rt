@@ -21,12 +21,14 @@ pub struct CacheWb {
 
 impl CacheWb {
     ghost use Rattle.std.specs.Prelude.{◌≡◌, ◌≤◌};
+    ghost use Rattle.leaf_engine.specs.Turns.{IsFresh};
     ghost use Rattle.key_table.specs.CacheTrees.{cache_task};
 
     /// The leaf of a call at a place.
     pub fn leaf(place: Place) -> Planned<CacheWb>
         requires { place.machine.hkids ≤ 15 }
-        ensures { ⟦<Planned<CacheWb> as Leaf>⟧.task result ≡ cache_task place }
+        ensures task { ⟦<Planned<CacheWb> as Leaf>⟧.task result ≡ cache_task place }
+        ensures fresh { let leaf = ⟦<Planned<CacheWb> as Leaf>⟧ in IsFresh (leaf.task result).tree (leaf.rest result) (leaf.tries result) (leaf.written result) (leaf.waits result) }
     {
         Planned::new(CacheWb { place })
     }

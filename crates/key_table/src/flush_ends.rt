@@ -27,11 +27,13 @@ pub struct FlushDone {
 
 impl FlushDone {
     ghost use Rattle.std.specs.Prelude.{◌≡◌};
+    ghost use Rattle.leaf_engine.specs.Turns.{IsFresh};
     ghost use Rattle.key_table.specs.FlushTrees.{flush_task};
 
     /// The leaf of a call at a place.
     pub fn leaf(place: Place, tdr: u64) -> Planned<FlushDone>
-        ensures { ⟦<Planned<FlushDone> as Leaf>⟧.task result ≡ flush_task place tdr }
+        ensures task { ⟦<Planned<FlushDone> as Leaf>⟧.task result ≡ flush_task place tdr }
+        ensures fresh { let leaf = ⟦<Planned<FlushDone> as Leaf>⟧ in IsFresh (leaf.task result).tree (leaf.rest result) (leaf.tries result) (leaf.written result) (leaf.waits result) }
     {
         Planned::new(FlushDone { place, tdr })
     }

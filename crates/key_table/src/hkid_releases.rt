@@ -20,11 +20,13 @@ pub struct FreeId {
 
 impl FreeId {
     ghost use Rattle.std.specs.Prelude.{◌≡◌};
+    ghost use Rattle.leaf_engine.specs.Turns.{IsFresh};
     ghost use Rattle.key_table.specs.EndTrees.{free_task};
 
     /// The leaf of a call at a place.
     pub fn leaf(place: Place, tdr: u64) -> Planned<FreeId>
-        ensures { ⟦<Planned<FreeId> as Leaf>⟧.task result ≡ free_task place tdr }
+        ensures task { ⟦<Planned<FreeId> as Leaf>⟧.task result ≡ free_task place tdr }
+        ensures fresh { let leaf = ⟦<Planned<FreeId> as Leaf>⟧ in IsFresh (leaf.task result).tree (leaf.rest result) (leaf.tries result) (leaf.written result) (leaf.waits result) }
     {
         Planned::new(FreeId { place, tdr })
     }

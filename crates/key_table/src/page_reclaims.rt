@@ -21,11 +21,13 @@ pub struct Reclaim {
 
 impl Reclaim {
     ghost use Rattle.std.specs.Prelude.{◌≡◌, ◌<◌};
+    ghost use Rattle.leaf_engine.specs.Turns.{IsFresh};
     ghost use Rattle.key_table.specs.ReclaimTrees.{reclaim_task};
 
     /// The leaf of a call at a place.
     pub fn leaf(place: Place, tdr: u64, page: u64) -> Planned<Reclaim>
-        ensures { ⟦<Planned<Reclaim> as Leaf>⟧.task result ≡ reclaim_task place tdr page }
+        ensures task { ⟦<Planned<Reclaim> as Leaf>⟧.task result ≡ reclaim_task place tdr page }
+        ensures fresh { let leaf = ⟦<Planned<Reclaim> as Leaf>⟧ in IsFresh (leaf.task result).tree (leaf.rest result) (leaf.tries result) (leaf.written result) (leaf.waits result) }
     {
         Planned::new(Reclaim { place, tdr, page })
     }

@@ -1,65 +1,77 @@
 -- The table's leaves, call by call.
-use Rattle.std.proofs.Common.{◌≡◌, ℕ, Bool, true, false, List, [], ◌∷◌, refl, ap}
+use Rattle.std.proofs.Common.{◌≡◌, ◌<◌, ℕ, List, refl, ap, arith}
 use Rattle.td_words.specs.declared.calls.Call.{Call}
 use Rattle.td_words.specs.declared.calls.Call.TheVariants as call
 use Rattle.flat_core.specs.Opening.{Opening, IsMachine}
 use Rattle.flat_core.specs.Table.{row_of}
-use Rattle.word_rules.specs.Views.{look}
 use Rattle.leaf_engine.specs.declared.needs.Place.{Place}
-use Rattle.leaf_engine.specs.Trees.{Tree, Lock, Load, Test, End, Since, feed, swaps_as_act}
 use Rattle.leaf_engine.specs.Means.{OfCall, MeansRow}
-use Rattle.first_leaves.specs.Words.{says_host}
-use Rattle.first_leaves.specs.HostTrees.{read_word}
 use Rattle.first_leaves.specs.HostMeanings.{host_read-means, host_write-means, rdmd-means}
-use Rattle.first_leaves.specs.TdMeanings.{create-means}
+use Rattle.key_table.specs.CacheMeanings.{cache-means}
+use Rattle.key_table.specs.ReclaimMeanings.{reclaim-means}
+use Rattle.td_control.specs.CreationMeanings.{create-means}
+use Rattle.td_control.specs.KeyMeanings.{configure-means}
+use Rattle.td_control.specs.AddMeanings.{add-means}
+use Rattle.td_control.specs.InitMeanings.{init-means}
+use Rattle.td_control.specs.ReadMeanings.{read-means}
+use Rattle.key_table.specs.FlushMeanings.{flush-means}
+use Rattle.key_table.specs.EndMeanings.{free-means}
+use Rattle.td_control.specs.FinalMeanings.{finalize-means}
+use Rattle.vcpu_control.specs.VpMeanings.{create-means as vp_create-means, init-means as vp_init-means}
 use Rattle.leaf_dispatch.specs.Table.{task_of}
 use Rattle.leaf_dispatch.specs.Laws.{CallsHaveLeaves}
-
--- whatever a tree is told, a hasher is exchanged by its act alone
-abbrev SwapsAsAct : Tree → Type 0
-SwapsAsAct (Lock l q m t) = SwapsAsAct t
-SwapsAsAct (Load v q k) = (x : ℕ) → SwapsAsAct (k x)
-SwapsAsAct (Test b r t) = SwapsAsAct t
-SwapsAsAct (End r fs cs) = swaps_as_act (End r fs cs) ≡ true
-SwapsAsAct (Since r cs) = swaps_as_act (Since r cs) ≡ true
-
-fed-swaps : (t : Tree) (told : List ℕ) → SwapsAsAct t → swaps_as_act (feed t told) ≡ true
-fed-swaps (Lock l q m t) [] well = refl
-fed-swaps (Lock l q m t) (x ∷ xs) well = fed-swaps t xs well
-fed-swaps (Load v q k) [] well = refl
-fed-swaps (Load v q k) (x ∷ xs) well = fed-swaps (k (look v x)) xs (well (look v x))
-fed-swaps (Test true r t) xs well = fed-swaps t xs well
-fed-swaps (Test false r t) xs well = refl
-fed-swaps (End r fs cs) xs well = well
-fed-swaps (Since r cs) xs well = well
-
-read-swaps : (page i : ℕ) (host : Bool) → SwapsAsAct (read_word page i host)
-read-swaps page i true = λ word. refl
-read-swaps page i false = refl
-
-ends-swap : (p : Place) (c : Call) → SwapsAsAct (task_of p c).tree
-ends-swap p (call.HostRead page word) = λ pamt. read-swaps page word (says_host pamt)
-ends-swap p (call.HostWrite page word value) = λ pamt. refl
-ends-swap p (call.PhymemPageRdmd page) = λ pamt. refl
-ends-swap p (call.MngCreate tdr hkid) = λ pamt key. refl
+use Rattle.leaf_dispatch.proofs.Swaps.{fed-swaps, ends-swap}
 
 of-place : (p : Place) (c : Call) → (task_of p c).place ≡ p
 of-place p (call.HostRead page word) = refl
 of-place p (call.HostWrite page word value) = refl
 of-place p (call.PhymemPageRdmd page) = refl
+of-place p call.PhymemCacheWb = refl
+of-place p (call.PhymemPageReclaim tdr page) = refl
 of-place p (call.MngCreate tdr hkid) = refl
+of-place p (call.MngKeyConfig tdr) = refl
+of-place p (call.MngAddcx tdr page) = refl
+of-place p (call.MngInit tdr) = refl
+of-place p (call.MngRd tdr field) = refl
+of-place p (call.MngVpflushdone tdr) = refl
+of-place p (call.MngKeyFreeid tdr) = refl
+of-place p (call.MrFinalize tdr) = refl
+of-place p (call.VpCreate tdr page) = refl
+of-place p (call.VpInit tdr vp value) = refl
 
 of-row : (o : Opening) (p : ℕ) (c : Call) → (task_of (record { machine = o.machine; lp = p }) c).meaning ≡ OfCall (row_of o p c)
 of-row o p (call.HostRead page word) = refl
 of-row o p (call.HostWrite page word value) = refl
 of-row o p (call.PhymemPageRdmd page) = refl
+of-row o p call.PhymemCacheWb = refl
+of-row o p (call.PhymemPageReclaim tdr page) = refl
 of-row o p (call.MngCreate tdr hkid) = refl
+of-row o p (call.MngKeyConfig tdr) = refl
+of-row o p (call.MngAddcx tdr page) = refl
+of-row o p (call.MngInit tdr) = refl
+of-row o p (call.MngRd tdr field) = refl
+of-row o p (call.MngVpflushdone tdr) = refl
+of-row o p (call.MngKeyFreeid tdr) = refl
+of-row o p (call.MrFinalize tdr) = refl
+of-row o p (call.VpCreate tdr page) = refl
+of-row o p (call.VpInit tdr vp value) = refl
 
 means : (p : Place) (c : Call) → IsMachine p.machine → MeansRow (task_of p c)
 means p (call.HostRead page word) m = host_read-means p page word
 means p (call.HostWrite page word value) m = host_write-means p page word value
 means p (call.PhymemPageRdmd page) m = rdmd-means p page m.pages.1
+means p call.PhymemCacheWb m = cache-means p
+means p (call.PhymemPageReclaim tdr page) m = reclaim-means p tdr page (let few = m.pages.1 in omega arith)
 means p (call.MngCreate tdr hkid) m = create-means p tdr hkid
+means p (call.MngKeyConfig tdr) m = configure-means p tdr
+means p (call.MngAddcx tdr page) m = add-means p tdr page
+means p (call.MngInit tdr) m = init-means p tdr
+means p (call.MngRd tdr field) m = read-means p tdr field
+means p (call.MngVpflushdone tdr) m = flush-means p tdr
+means p (call.MngKeyFreeid tdr) m = free-means p tdr
+means p (call.MrFinalize tdr) m = finalize-means p tdr
+means p (call.VpCreate tdr page) m = vp_create-means p tdr page
+means p (call.VpInit tdr vp value) m = vp_init-means p tdr vp value (let few = m.pages.1 in omega arith)
 
 pub calls-have-leaves : CallsHaveLeaves
 calls-have-leaves o m = record {

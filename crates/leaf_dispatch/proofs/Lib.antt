@@ -1,4 +1,5 @@
 pub mod Lowering
 pub mod Turning
 pub mod Keeping
+pub mod Swaps
 pub mod Calls

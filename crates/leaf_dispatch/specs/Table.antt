@@ -6,14 +6,35 @@ use Rattle.td_words.specs.declared.calls.Call.TheVariants as call
 use Rattle.leaf_engine.specs.declared.needs.Place.{Place}
 use Rattle.leaf_engine.specs.Means.{Task}
 use Rattle.first_leaves.specs.HostTrees.{host_read_task, host_write_task, rdmd_task}
-use Rattle.first_leaves.specs.TdTrees.{create_task}
+use Rattle.key_table.specs.CacheTrees.{cache_task}
+use Rattle.key_table.specs.ReclaimTrees.{reclaim_task}
+use Rattle.td_control.specs.CreationTrees.{create_task}
+use Rattle.td_control.specs.KeyTrees.{configure_task}
+use Rattle.td_control.specs.AddTrees.{add_task}
+use Rattle.td_control.specs.InitTrees.{init_task}
+use Rattle.td_control.specs.ReadTrees.{read_task}
+use Rattle.key_table.specs.FlushTrees.{flush_task}
+use Rattle.key_table.specs.EndTrees.{free_task}
+use Rattle.td_control.specs.FinalTrees.{finalize_task}
+use Rattle.vcpu_control.specs.VpTrees.{create_task as vp_create_task, init_task as vp_init_task}
 
 -- what the leaf of a call at a place has to do
 abbrev pub task_of : Place → Call → Task
 task_of p (call.HostRead page word) = host_read_task p page word
 task_of p (call.HostWrite page word value) = host_write_task p page word value
 task_of p (call.PhymemPageRdmd page) = rdmd_task p page
+task_of p call.PhymemCacheWb = cache_task p
+task_of p (call.PhymemPageReclaim tdr page) = reclaim_task p tdr page
 task_of p (call.MngCreate tdr hkid) = create_task p tdr hkid
+task_of p (call.MngKeyConfig tdr) = configure_task p tdr
+task_of p (call.MngAddcx tdr page) = add_task p tdr page
+task_of p (call.MngInit tdr) = init_task p tdr
+task_of p (call.MngRd tdr field) = read_task p tdr field
+task_of p (call.MngVpflushdone tdr) = flush_task p tdr
+task_of p (call.MngKeyFreeid tdr) = free_task p tdr
+task_of p (call.MrFinalize tdr) = finalize_task p tdr
+task_of p (call.VpCreate tdr page) = vp_create_task p tdr page
+task_of p (call.VpInit tdr vp value) = vp_init_task p tdr vp value
 
 -- the leaves of each processor of a machine
 abbrev pub leaf_table : Machine → ℕ → Call → Task

@@ -5,10 +5,13 @@ ghost use Rattle.flat_core.specs.Opening.{IsMachine};
 ghost use Rattle.leaf_engine.specs.Turns.{IsFresh};
 ghost use Rattle.leaf_dispatch.specs.Table.{task_of};
 
-use first_leaves::{Create, HostRead, HostWrite, Rdmd};
+use first_leaves::{HostRead, HostWrite, Rdmd};
+use key_table::{CacheWb, FlushDone, FreeId, Reclaim};
 use leaf_engine::{Leaf, Need, Place, Planned, Write};
 use mrtd_measure::Measure;
+use td_control::{AddCx, Create, Finalize, Init, KeyConfig, Rd};
 use td_words::Call;
+use vcpu_control::{Create as VpCreate, Init as VpInit};
 
 /// A leaf of any call that is built.
 #[derive(Drop)]
@@ -16,7 +19,18 @@ pub enum AnyLeaf {
     HostRead(Planned<HostRead>),
     HostWrite(Planned<HostWrite>),
     Rdmd(Planned<Rdmd>),
+    CacheWb(Planned<CacheWb>),
+    Reclaim(Planned<Reclaim>),
     Create(Planned<Create>),
+    KeyConfig(Planned<KeyConfig>),
+    AddCx(Planned<AddCx>),
+    Init(Planned<Init>),
+    Rd(Planned<Rd>),
+    FlushDone(Planned<FlushDone>),
+    FreeId(Planned<FreeId>),
+    Finalize(Planned<Finalize>),
+    VpCreate(Planned<VpCreate>),
+    VpInit(Planned<VpInit>),
 }
 
 impl Leaf for AnyLeaf {
@@ -39,7 +53,18 @@ impl Leaf for AnyLeaf {
             AnyLeaf::HostRead(leaf) => leaf.need(),
             AnyLeaf::HostWrite(leaf) => leaf.need(),
             AnyLeaf::Rdmd(leaf) => leaf.need(),
+            AnyLeaf::CacheWb(leaf) => leaf.need(),
+            AnyLeaf::Reclaim(leaf) => leaf.need(),
             AnyLeaf::Create(leaf) => leaf.need(),
+            AnyLeaf::KeyConfig(leaf) => leaf.need(),
+            AnyLeaf::AddCx(leaf) => leaf.need(),
+            AnyLeaf::Init(leaf) => leaf.need(),
+            AnyLeaf::Rd(leaf) => leaf.need(),
+            AnyLeaf::FlushDone(leaf) => leaf.need(),
+            AnyLeaf::FreeId(leaf) => leaf.need(),
+            AnyLeaf::Finalize(leaf) => leaf.need(),
+            AnyLeaf::VpCreate(leaf) => leaf.need(),
+            AnyLeaf::VpInit(leaf) => leaf.need(),
         }
     }
 
@@ -48,7 +73,18 @@ impl Leaf for AnyLeaf {
             AnyLeaf::HostRead(leaf) => leaf.tell(word),
             AnyLeaf::HostWrite(leaf) => leaf.tell(word),
             AnyLeaf::Rdmd(leaf) => leaf.tell(word),
+            AnyLeaf::CacheWb(leaf) => leaf.tell(word),
+            AnyLeaf::Reclaim(leaf) => leaf.tell(word),
             AnyLeaf::Create(leaf) => leaf.tell(word),
+            AnyLeaf::KeyConfig(leaf) => leaf.tell(word),
+            AnyLeaf::AddCx(leaf) => leaf.tell(word),
+            AnyLeaf::Init(leaf) => leaf.tell(word),
+            AnyLeaf::Rd(leaf) => leaf.tell(word),
+            AnyLeaf::FlushDone(leaf) => leaf.tell(word),
+            AnyLeaf::FreeId(leaf) => leaf.tell(word),
+            AnyLeaf::Finalize(leaf) => leaf.tell(word),
+            AnyLeaf::VpCreate(leaf) => leaf.tell(word),
+            AnyLeaf::VpInit(leaf) => leaf.tell(word),
         }
     }
 
@@ -57,7 +93,18 @@ impl Leaf for AnyLeaf {
             AnyLeaf::HostRead(leaf) => leaf.write(hasher),
             AnyLeaf::HostWrite(leaf) => leaf.write(hasher),
             AnyLeaf::Rdmd(leaf) => leaf.write(hasher),
+            AnyLeaf::CacheWb(leaf) => leaf.write(hasher),
+            AnyLeaf::Reclaim(leaf) => leaf.write(hasher),
             AnyLeaf::Create(leaf) => leaf.write(hasher),
+            AnyLeaf::KeyConfig(leaf) => leaf.write(hasher),
+            AnyLeaf::AddCx(leaf) => leaf.write(hasher),
+            AnyLeaf::Init(leaf) => leaf.write(hasher),
+            AnyLeaf::Rd(leaf) => leaf.write(hasher),
+            AnyLeaf::FlushDone(leaf) => leaf.write(hasher),
+            AnyLeaf::FreeId(leaf) => leaf.write(hasher),
+            AnyLeaf::Finalize(leaf) => leaf.write(hasher),
+            AnyLeaf::VpCreate(leaf) => leaf.write(hasher),
+            AnyLeaf::VpInit(leaf) => leaf.write(hasher),
         }
     }
 
@@ -72,10 +119,19 @@ pub fn leaf_of(place: Place, call: &Call) -> AnyLeaf
 {
     match *call {
         Call::HostRead { page, word } => AnyLeaf::HostRead(HostRead::leaf(place, page, word)),
-        Call::HostWrite { page, word, value } => {
-            AnyLeaf::HostWrite(HostWrite::leaf(place, page, word, value))
-        }
+        Call::HostWrite { page, word, value } => AnyLeaf::HostWrite(HostWrite::leaf(place, page, word, value)),
         Call::PhymemPageRdmd { page } => AnyLeaf::Rdmd(Rdmd::leaf(place, page)),
+        Call::PhymemCacheWb => AnyLeaf::CacheWb(CacheWb::leaf(place)),
+        Call::PhymemPageReclaim { tdr, page } => AnyLeaf::Reclaim(Reclaim::leaf(place, tdr, page)),
         Call::MngCreate { tdr, hkid } => AnyLeaf::Create(Create::leaf(place, tdr, hkid)),
+        Call::MngKeyConfig { tdr } => AnyLeaf::KeyConfig(KeyConfig::leaf(place, tdr)),
+        Call::MngAddcx { tdr, page } => AnyLeaf::AddCx(AddCx::leaf(place, tdr, page)),
+        Call::MngInit { tdr } => AnyLeaf::Init(Init::leaf(place, tdr)),
+        Call::MngRd { tdr, field } => AnyLeaf::Rd(Rd::leaf(place, tdr, field)),
+        Call::MngVpflushdone { tdr } => AnyLeaf::FlushDone(FlushDone::leaf(place, tdr)),
+        Call::MngKeyFreeid { tdr } => AnyLeaf::FreeId(FreeId::leaf(place, tdr)),
+        Call::MrFinalize { tdr } => AnyLeaf::Finalize(Finalize::leaf(place, tdr)),
+        Call::VpCreate { tdr, page } => AnyLeaf::VpCreate(VpCreate::leaf(place, tdr, page)),
+        Call::VpInit { tdr, vp, value } => AnyLeaf::VpInit(VpInit::leaf(place, tdr, vp, value)),
     }
 }

@@ -16,11 +16,13 @@ pub struct KeyConfig {
 
 impl KeyConfig {
     ghost use Rattle.std.specs.Prelude.{◌≡◌};
+    ghost use Rattle.leaf_engine.specs.Turns.{IsFresh};
     ghost use Rattle.td_control.specs.KeyTrees.{configure_task};
 
     /// The leaf of a call at a place.
     pub fn leaf(place: Place, tdr: u64) -> Planned<KeyConfig>
-        ensures { ⟦<Planned<KeyConfig> as Leaf>⟧.task result ≡ configure_task place tdr }
+        ensures task { ⟦<Planned<KeyConfig> as Leaf>⟧.task result ≡ configure_task place tdr }
+        ensures fresh { let leaf = ⟦<Planned<KeyConfig> as Leaf>⟧ in IsFresh (leaf.task result).tree (leaf.rest result) (leaf.tries result) (leaf.written result) (leaf.waits result) }
     {
         Planned::new(KeyConfig { place, tdr })
     }

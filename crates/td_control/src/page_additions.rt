@@ -21,11 +21,13 @@ pub struct AddCx {
 
 impl AddCx {
     ghost use Rattle.std.specs.Prelude.{◌≡◌};
+    ghost use Rattle.leaf_engine.specs.Turns.{IsFresh};
     ghost use Rattle.td_control.specs.AddTrees.{add_task};
 
     /// The leaf of a call at a place.
     pub fn leaf(place: Place, tdr: u64, page: u64) -> Planned<AddCx>
-        ensures { ⟦<Planned<AddCx> as Leaf>⟧.task result ≡ add_task place tdr page }
+        ensures task { ⟦<Planned<AddCx> as Leaf>⟧.task result ≡ add_task place tdr page }
+        ensures fresh { let leaf = ⟦<Planned<AddCx> as Leaf>⟧ in IsFresh (leaf.task result).tree (leaf.rest result) (leaf.tries result) (leaf.written result) (leaf.waits result) }
     {
         Planned::new(AddCx { place, tdr, page })
     }

@@ -64,11 +64,13 @@ pub struct Rd {
 
 impl Rd {
     ghost use Rattle.std.specs.Prelude.{◌≡◌};
+    ghost use Rattle.leaf_engine.specs.Turns.{IsFresh};
     ghost use Rattle.td_control.specs.ReadTrees.{read_task};
 
     /// The leaf of a call at a place.
     pub fn leaf(place: Place, tdr: u64, field: ReadField) -> Planned<Rd>
-        ensures { ⟦<Planned<Rd> as Leaf>⟧.task result ≡ read_task place tdr field }
+        ensures task { ⟦<Planned<Rd> as Leaf>⟧.task result ≡ read_task place tdr field }
+        ensures fresh { let leaf = ⟦<Planned<Rd> as Leaf>⟧ in IsFresh (leaf.task result).tree (leaf.rest result) (leaf.tries result) (leaf.written result) (leaf.waits result) }
     {
         Planned::new(Rd { place, tdr, field })
     }

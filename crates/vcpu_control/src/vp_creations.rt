@@ -27,11 +27,13 @@ pub struct Create {
 
 impl Create {
     ghost use Rattle.std.specs.Prelude.{◌≡◌};
+    ghost use Rattle.leaf_engine.specs.Turns.{IsFresh};
     ghost use Rattle.vcpu_control.specs.VpTrees.{create_task};
 
     /// The leaf of a call at a place.
     pub fn leaf(place: Place, tdr: u64, page: u64) -> Planned<Create>
-        ensures { ⟦<Planned<Create> as Leaf>⟧.task result ≡ create_task place tdr page }
+        ensures task { ⟦<Planned<Create> as Leaf>⟧.task result ≡ create_task place tdr page }
+        ensures fresh { let leaf = ⟦<Planned<Create> as Leaf>⟧ in IsFresh (leaf.task result).tree (leaf.rest result) (leaf.tries result) (leaf.written result) (leaf.waits result) }
     {
         Planned::new(Create { place, tdr, page })
     }

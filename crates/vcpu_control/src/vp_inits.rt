@@ -28,11 +28,13 @@ pub struct Init {
 
 impl Init {
     ghost use Rattle.std.specs.Prelude.{◌≡◌};
+    ghost use Rattle.leaf_engine.specs.Turns.{IsFresh};
     ghost use Rattle.vcpu_control.specs.VpTrees.{init_task};
 
     /// The leaf of a call at a place.
     pub fn leaf(place: Place, tdr: u64, vp: u64, value: u64) -> Planned<Init>
-        ensures { ⟦<Planned<Init> as Leaf>⟧.task result ≡ init_task place tdr vp value }
+        ensures task { ⟦<Planned<Init> as Leaf>⟧.task result ≡ init_task place tdr vp value }
+        ensures fresh { let leaf = ⟦<Planned<Init> as Leaf>⟧ in IsFresh (leaf.task result).tree (leaf.rest result) (leaf.tries result) (leaf.written result) (leaf.waits result) }
     {
         Planned::new(Init {
             place,
