@@ -1,0 +1,95 @@
+-- Each call's leaf exchanges a hasher by its act alone.
+use Rattle.std.proofs.Common.{◌≡◌, ℕ, zero, suc, Bool, true, false, ◌==◌, List, [], ◌∷◌, ◌++◌, refl}
+use Rattle.td_words.specs.declared.machines.Machine.{Machine}
+use Rattle.td_words.specs.declared.replies.Reply.{Reply}
+use Rattle.td_words.specs.declared.calls.Call.{Call}
+use Rattle.td_words.specs.declared.calls.Call.TheVariants as call
+use Rattle.td_words.specs.declared.names.ReadField.{ReadField}
+use Rattle.td_words.specs.declared.names.ReadField.TheVariants as field
+use Rattle.word_rules.specs.Views.{look}
+use Rattle.leaf_engine.specs.declared.needs.Place.{Place}
+use Rattle.leaf_engine.specs.Changes.{Change, Put, Raise, PutHash, Clear, Copy, Swap, has_no_swap}
+use Rattle.leaf_engine.specs.Trees.{Tree, Lock, Load, Test, End, Since, acts, feed, swaps_as_act}
+use Rattle.first_leaves.specs.Words.{says_host}
+use Rattle.first_leaves.specs.HostTrees.{read_word}
+use Rattle.key_table.specs.CacheTrees.{mark_keys}
+use Rattle.key_table.specs.FlushTrees.{count_vps, flush_vps}
+use Rattle.key_table.specs.ReclaimTrees.{reclaim_rest}
+use Rattle.leaf_dispatch.specs.Table.{task_of}
+
+-- whatever a tree is told, a hasher is exchanged by its act alone
+abbrev SwapsAsAct : Tree → Type 0
+SwapsAsAct (Lock l q m t) = SwapsAsAct t
+SwapsAsAct (Load v q k) = (x : ℕ) → SwapsAsAct (k x)
+SwapsAsAct (Test b r t) = SwapsAsAct t
+SwapsAsAct (End r fs cs) = swaps_as_act (End r fs cs) ≡ true
+SwapsAsAct (Since r cs) = swaps_as_act (Since r cs) ≡ true
+
+pub fed-swaps : (t : Tree) (told : List ℕ) → SwapsAsAct t → swaps_as_act (feed t told) ≡ true
+fed-swaps (Lock l q m t) [] well = refl
+fed-swaps (Lock l q m t) (x ∷ xs) well = fed-swaps t xs well
+fed-swaps (Load v q k) [] well = refl
+fed-swaps (Load v q k) (x ∷ xs) well = fed-swaps (k (look v x)) xs (well (look v x))
+fed-swaps (Test true r t) xs well = fed-swaps t xs well
+fed-swaps (Test false r t) xs well = refl
+fed-swaps (End r fs cs) xs well = well
+fed-swaps (Since r cs) xs well = well
+
+read-swaps : (page i : ℕ) (host : Bool) → SwapsAsAct (read_word page i host)
+read-swaps page i true = λ word. refl
+read-swaps page i false = refl
+
+-- stores alone hold no exchange
+one-more : (cs : List Change) (c : Change) → has_no_swap cs ≡ true → has_no_swap (c ∷ []) ≡ true → has_no_swap (cs ++ c ∷ []) ≡ true
+one-more [] c none more = more
+one-more (Put q x ∷ cs) c none more = one-more cs c none more
+one-more (PutHash q x ∷ cs) c none more = one-more cs c none more
+one-more (Raise q ∷ cs) c none more = one-more cs c none more
+one-more (Clear p ∷ cs) c none more = one-more cs c none more
+one-more (Copy p q ∷ cs) c none more = one-more cs c none more
+one-more (Swap h made ∷ cs) c none more = cc
+
+acts-alone : (r : Reply) (cs : List Change) → has_no_swap cs ≡ true → SwapsAsAct (acts r cs)
+acts-alone r [] none = refl
+acts-alone r (Put q x ∷ cs) none = none
+acts-alone r (PutHash q x ∷ cs) none = none
+acts-alone r (Raise q ∷ cs) none = none
+acts-alone r (Clear p ∷ cs) none = none
+acts-alone r (Copy p q ∷ cs) none = none
+acts-alone r (Swap h made ∷ cs) none = cc
+
+mark-swaps : (number left : ℕ) (cs : List Change) → has_no_swap cs ≡ true → SwapsAsAct (mark_keys number left cs)
+mark-swaps number zero cs none = acts-alone _ cs none
+mark-swaps number (suc left) cs none = λ key. mark-swaps (suc number) left _ (one-more cs _ none refl)
+
+count-swaps : (m : Machine) (t tdcs number left associated : ℕ) → SwapsAsAct (count_vps m t tdcs number left associated)
+count-swaps m t tdcs number zero associated = λ hkid. refl
+count-swaps m t tdcs number (suc left) associated = λ vp lp. count-swaps m t tdcs (suc number) left _
+
+flush-swaps : (m : Machine) (t : ℕ) (two : Bool) → SwapsAsAct (flush_vps m t two)
+flush-swaps m t true = λ tdcs count. count-swaps m t _ 0 _ 0
+flush-swaps m t false = λ hkid. refl
+
+reclaim-swaps : (t page : ℕ) (same : Bool) → SwapsAsAct (reclaim_rest t page same)
+reclaim-swaps t page true = λ children. refl
+reclaim-swaps t page false = λ pamt children. refl
+
+pub ends-swap : (p : Place) (c : Call) → SwapsAsAct (task_of p c).tree
+ends-swap p (call.HostRead page word) = λ pamt. read-swaps page word (says_host pamt)
+ends-swap p (call.HostWrite page word value) = λ pamt. refl
+ends-swap p (call.PhymemPageRdmd page) = λ pamt. refl
+ends-swap p call.PhymemCacheWb = mark-swaps _ p.machine.hkids [] refl
+ends-swap p (call.PhymemPageReclaim tdr page) = λ pamt life. reclaim-swaps tdr page (page == tdr)
+ends-swap p (call.MngCreate tdr hkid) = λ pamt key. refl
+ends-swap p (call.MngKeyConfig tdr) = λ pamt life. refl
+ends-swap p (call.MngAddcx tdr page) = λ pamt life count host children. refl
+ends-swap p (call.MngInit tdr) = λ pamt life count tdcs op. refl
+ends-swap p (call.MngRd tdr field.Life) = λ pamt life. refl
+ends-swap p (call.MngRd tdr field.Op) = λ pamt life count tdcs op. refl
+ends-swap p (call.MngRd tdr field.Epoch) = λ pamt life count tdcs op epoch. refl
+ends-swap p (call.MngRd tdr field.Mrtd) = λ pamt life count tdcs op a b c d e f. refl
+ends-swap p (call.MngVpflushdone tdr) = λ pamt life count. flush-swaps p.machine tdr (count == 2)
+ends-swap p (call.MngKeyFreeid tdr) = λ pamt life hkid key. refl
+ends-swap p (call.MrFinalize tdr) = λ pamt life count tdcs op. refl
+ends-swap p (call.VpCreate tdr page) = λ pamt life count tdcs op vps expected host children. refl
+ends-swap p (call.VpInit tdr vp value) = λ pamt life count tdcs op host state. refl
