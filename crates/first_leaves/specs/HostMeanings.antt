@@ -28,39 +28,8 @@ use Rattle.lock_words.specs.Grips.{holds}
 use Rattle.leaf_engine.specs.declared.needs.Place.{Place}
 use Rattle.lock_words.specs.LockWords.{put_word}
 use Rattle.leaf_engine.specs.Means.{Instant, Means, MeansRow, work_of, OfCall, hold}
-use Rattle.first_leaves.specs.Words.{says_host}
+use Rattle.leaf_parts.proofs.Told.{holds_newest, host_shown, host_kind}
 use Rattle.first_leaves.specs.HostTrees.{host_read_task, host_write_task, rdmd_task, read_word}
-
--- a lock that was tried last is held
-pub holds_newest : (p : ℕ) (m : Mode) (hs : List Held) → holds (record { lock = OfPage p; mode = m } ∷ hs) (OfPage p) ≡ true
-holds_newest p m hs = rw (eq-eqb p p refl) refl
-
-kind_small : (k : PageKind) → kind_number k < 16
-kind_small kind.Nda = omega arith
-kind_small kind.Reg = omega arith
-kind_small kind.Tdr = omega arith
-kind_small kind.Tdcx = omega arith
-kind_small kind.Tdvpr = omega arith
-kind_small kind.Ept = omega arith
-kind_small kind.Migsc = omega arith
-
-kind_bits : (k : PageKind) (o e : ℕ) → pamt_word (record { kind = k; owner = o; epoch = e }) % 16 ≡ kind_number k
-kind_bits k o e = (let small : kind_number k < 16 = kind_small k in omega arith)
-
--- a PAMT word tells whether its page is the host's
-pub host_shown : (m : Machine) (c : Instant) (p : ℕ) → Shows m c.memory.words c.memory.slots c.state → p < m.pages → says_host (c.memory.words (place.Pamt p)) ≡ is_host c.state.world p
-host_shown m c p s i =
-    let at : c.memory.words (place.Pamt p) ≡ pamt_word (record { kind = c.state.world.pages.kinds p; owner = c.state.world.pages.owners p; epoch = c.state.world.pages.blocked p }) = s.word (place.Pamt p) i in
-    rw (at, kind_bits (c.state.world.pages.kinds p) (c.state.world.pages.owners p) (c.state.world.pages.blocked p)) refl
-
-pub host_kind : (k : PageKind) → same_kind k kind.Nda ≡ true → k ≡ kind.Nda
-host_kind kind.Nda h = refl
-host_kind kind.Reg h = cc
-host_kind kind.Tdr h = cc
-host_kind kind.Tdcx h = cc
-host_kind kind.Tdvpr h = cc
-host_kind kind.Ept h = cc
-host_kind kind.Migsc h = cc
 
 respects_same : (g : Grip) (w : World) → Respects g w w
 respects_same g w = record { word = λ q. inl refl; slot = λ h. inl refl; life = λ t. inl refl }

@@ -14,7 +14,8 @@ use Rattle.leaf_engine.specs.declared.needs.Place.{Place}
 use Rattle.leaf_engine.specs.Changes.{Put}
 use Rattle.leaf_engine.specs.Trees.{Tree, Lock, Load, needs, answers, acts}
 use Rattle.leaf_engine.specs.Means.{Task, OfCall}
-use Rattle.first_leaves.specs.Words.{says_host, metadata}
+use Rattle.leaf_parts.specs.Words.{says_host}
+use Rattle.first_leaves.specs.Words.{metadata}
 
 -- the arguments, the page's lock and its PAMT word
 abbrev pub host_access : Machine → (page i : ℕ) → (ℕ → Tree) → Tree

@@ -31,24 +31,13 @@ use Rattle.leaf_engine.specs.declared.needs.Place.{Place}
 use Rattle.lock_words.specs.Grips.{holds, holds_alone}
 use Rattle.leaf_engine.specs.Changes.{Memory, Put, Clear, changed, changed_all}
 use Rattle.leaf_engine.specs.Means.{Instant, MeansRow, MayOweAll, hold}
-use Rattle.first_leaves.specs.Words.{says_free}
+use Rattle.leaf_parts.proofs.Told.{holds_newest, host_shown, host_kind, key_index, free_shown}
 use Rattle.first_leaves.specs.TdTrees.{key_place, create_changes, create_task}
-use Rattle.first_leaves.specs.HostMeanings.{holds_newest, host_shown, host_kind}
 
 -- numbers of key table words
 
-key_index : (h : ℕ) → 1 ≤ h → suc (3 + (h - 1) - 3) ≡ h
-key_index h a = omega arith
-
 other_key : (k h : ℕ) → 1 ≤ h → 3 ≤ k → suc (k - 3) ≡ h → k ≡ 3 + (h - 1)
 other_key k h a b e = omega arith
-
--- a key table word tells whether its HKID is free
-free_word : (k : Key) → says_free (key_word k) ≡ is_free_key k
-free_word Unassigned = refl
-free_word (AssignedTo t) = grind (arith, nat_tests)
-free_word (FlushedOf t true) = grind (arith, nat_tests)
-free_word (FlushedOf t false) = grind (arith, nat_tests)
 
 module _ (m : Machine) (s : State) (mem : Memory) (t h : ℕ) (sh : Shows m mem.words mem.slots s) (la : Lawful m s.world) (nda : s.world.pages.kinds t ≡ kind.Nda) (first : 1 ≤ h) (last : h ≤ m.hkids) where
   abbrev w : World
@@ -272,16 +261,6 @@ and_right false b h = cc
 
 key_class : (h : ℕ) → (3 + (h - 1) == 0) ≡ false
 key_class h = grind (arith, nat_tests)
-
-free_shown : (m : Machine) (c : Instant) (h : ℕ) → Shows m c.memory.words c.memory.slots c.state → 1 ≤ h → h ≤ m.hkids → says_free (c.memory.words (key_place h)) ≡ is_key_free c.state.world h
-free_shown m c h sh a b =
-    let e0 : (3 + (h - 1) == 0) ≡ false = grind (arith, nat_tests) in
-    let e1 : (3 + (h - 1) == 1) ≡ false = grind (arith, nat_tests) in
-    let e2 : (3 + (h - 1) == 2) ≡ false = grind (arith, nat_tests) in
-    let it : suc (3 + (h - 1) - 3) ≡ h = key_index h a in
-    let at = sh.word (place.Key (3 + (h - 1))) (omega arith) in
-    let word : c.memory.words (key_place h) ≡ key_word (c.state.world.key_table.keys h) = rw (e0, e1, e2, it) at at in
-    rw word (free_word (c.state.world.key_table.keys h))
 
 pub create-means : (p : Place) (t h : ℕ) → MeansRow (create_task p t h)
 create-means p t h = record {

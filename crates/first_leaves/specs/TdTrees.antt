@@ -17,7 +17,7 @@ use Rattle.leaf_engine.specs.declared.needs.Place.{Place}
 use Rattle.leaf_engine.specs.Changes.{Change, Put, Clear}
 use Rattle.leaf_engine.specs.Trees.{Tree, Lock, Load, needs, acts}
 use Rattle.leaf_engine.specs.Means.{Task, OfCall}
-use Rattle.first_leaves.specs.Words.{says_host, says_free}
+use Rattle.leaf_parts.specs.Words.{says_host, says_free}
 
 -- the word of an HKID
 abbrev pub key_place : ℕ → WordPlace

@@ -1,22 +1,8 @@
--- What the words that leaves load say.
-use Rattle.std.specs.Prelude.{ℕ, ◌%◌, Bool, ◌==◌, Option, Some, None}
-use Rattle.td_words.specs.declared.names.PageKind.{PageKind}
-use Rattle.td_words.specs.declared.names.PageKind.TheVariants as kind
+-- What the host is told of words.
+use Rattle.std.specs.Prelude.{Option, Some, None}
 use Rattle.td_words.specs.declared.replies.Value.{Value}
 use Rattle.td_words.specs.declared.replies.Value.TheVariants as value
-use Rattle.td_words.specs.NameNumber.{kind_number}
 use Rattle.td_words.specs.Packing.{Pamt}
-
--- a PAMT word of a page of that kind
-abbrev pub says_kind : PageKind → ℕ → Bool
-says_kind k word = word % 16 == kind_number k
-
-abbrev pub says_host : ℕ → Bool
-says_host word = says_kind kind.Nda word
-
--- a key table word of a free HKID
-abbrev pub says_free : ℕ → Bool
-says_free word = word == 0
 
 -- what the metadata of a page say, as an answer
 abbrev pub metadata : Option Pamt → Value

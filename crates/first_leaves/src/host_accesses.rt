@@ -2,9 +2,10 @@
 
 use arrayvec::ArrayVec;
 use leaf_engine::{Leaf, Place, Plan, Planned, Stop, Told, Verdict, Write};
+use leaf_parts::says_host;
 use step_core::WordStep;
 use td_words::{
-    LockName, Mode, PageKind, Reply, Status, Value, lock_address, pamt_address, word_address,
+    LockName, Mode, Reply, Status, Value, lock_address, pamt_address, word_address,
 };
 
 /// HOST.READ PAGE WORD: the word of a host page, and 0 of any other page.
@@ -111,13 +112,3 @@ impl Plan for HostWrite {
 
     ghost means = { λ l. host_write-means l.place l.page l.word l.value };
 }
-
-/// Whether a PAMT word says that its page is the host's.
-pub fn says_host(pamt: u64) -> bool
-    ensures { result ≡ says_host pamt }
-{
-    pamt % 16 == PageKind::Nda as u64
-}
-
-ghost use Rattle.std.specs.Prelude.{◌≡◌};
-ghost use Rattle.first_leaves.specs.Words.{says_host};

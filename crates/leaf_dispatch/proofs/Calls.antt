@@ -8,7 +8,7 @@ use Rattle.word_rules.specs.Views.{look}
 use Rattle.leaf_engine.specs.declared.needs.Place.{Place}
 use Rattle.leaf_engine.specs.Trees.{Tree, Lock, Load, Test, End, Since, feed, swaps_as_act}
 use Rattle.leaf_engine.specs.Means.{OfCall, MeansRow}
-use Rattle.first_leaves.specs.Words.{says_host}
+use Rattle.leaf_parts.specs.Words.{says_host}
 use Rattle.first_leaves.specs.HostTrees.{read_word}
 use Rattle.first_leaves.specs.HostMeanings.{host_read-means, host_write-means, rdmd-means}
 use Rattle.first_leaves.specs.TdMeanings.{create-means}
