@@ -8,13 +8,13 @@ use Rattle.td_words.specs.declared.names.Mode.TheVariants.{Exclusive}
 use Rattle.td_words.specs.declared.machines.Machine.{Machine}
 use Rattle.td_words.specs.declared.calls.Call.TheVariants as call
 use Rattle.td_words.specs.declared.places.TheConstants.{TDR_HKID}
-use Rattle.td_words.specs.Packing.{Key, Unassigned, AssignedTo, FlushedOf, key_word, pamt_word}
+use Rattle.td_words.specs.Packing.{AssignedTo, key_word, pamt_word}
 use Rattle.td_words.specs.Place.{WordPlace, IsIn}
 use Rattle.td_words.specs.Place as place
 use Rattle.flat_core.specs.World.{World}
 use Rattle.flat_core.specs.Processor.{LockId, OfPage, OfKeys, Held}
 use Rattle.flat_core.specs.Opening.{Opening}
-use Rattle.flat_core.specs.Conditions.{is_host, is_host_in, is_free_key, is_key_free, owned_below}
+use Rattle.flat_core.specs.Conditions.{is_host, is_host_in, is_key_free, owned_below}
 use Rattle.flat_core.specs.Lawful.{Lawful, key_owner}
 use Rattle.flat_core.specs.TdRows.{create}
 use Rattle.flat_core.specs.Event.{State}

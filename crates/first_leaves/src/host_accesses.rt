@@ -4,9 +4,7 @@ use arrayvec::ArrayVec;
 use leaf_engine::{Leaf, Place, Plan, Planned, Stop, Told, Verdict, Write};
 use leaf_parts::says_host;
 use step_core::WordStep;
-use td_words::{
-    LockName, Mode, Reply, Status, Value, lock_address, pamt_address, word_address,
-};
+use td_words::{LockName, Mode, Reply, Status, Value, lock_address, pamt_address, word_address};
 
 /// HOST.READ PAGE WORD: the word of a host page, and 0 of any other page.
 #[derive(Drop)]

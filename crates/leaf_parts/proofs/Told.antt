@@ -1,5 +1,5 @@
 -- What words say over a state that they show.
-use Rattle.std.proofs.Common.{◌≡◌, ℕ, zero, suc, ◌+◌, ◌-◌, ◌%◌, ◌<◌, ◌≤◌, true, false, ◌==◌, List, ◌∷◌, refl, arith}
+use Rattle.std.proofs.Common.{◌≡◌, ℕ, suc, ◌+◌, ◌-◌, ◌%◌, ◌<◌, ◌≤◌, true, false, ◌==◌, List, ◌∷◌, refl, arith}
 use Rattle.std.proofs.lemmas.Bool.{eq-eqb}
 use Rattle.std.proofs.lemmas.Bool.Decides.{nat_tests}
 use Rattle.td_words.specs.declared.names.PageKind.{PageKind}
@@ -67,4 +67,3 @@ free_shown m c h sh a b =
     let at = sh.word (place.Key (3 + (h - 1))) (omega arith) in
     let word : c.memory.words (place.Key (KEY_FIRST + (h - 1))) ≡ key_word (c.state.world.key_table.keys h) = rw (e0, e1, e2, it) at at in
     rw word (free_word (c.state.world.key_table.keys h))
-
