@@ -2,7 +2,7 @@
 
 use arrayvec::ArrayVec;
 use leaf_engine::{Leaf, Place, Plan, Planned, Stop, Told, Verdict, Write};
-use leaf_parts::says_host;
+use leaf_parts::{says_free, says_host};
 use pamt_core::PamtWord;
 use step_core::WordStep;
 use td_words::places::{KEY_FIRST, KEY_LOCK, TDR_HKID};
@@ -59,7 +59,7 @@ impl Plan for Create {
         )?;
         let at = key_address(pages, KEY_FIRST + (self.hkid as u16 - 1));
         let key = told.load(at)?;
-        told.check(key == 0, Status::HkidNotFree)?;
+        told.check(says_free(key), Status::HkidNotFree)?;
         let mut writes = ArrayVec::new();
         let owned = PamtWord {
             kind: PageKind::Tdr,
