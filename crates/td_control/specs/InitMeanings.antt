@@ -41,10 +41,6 @@ use Rattle.leaf_parts.proofs.Begun.{td-head-means, page_lock, op_lock, holds-new
 use Rattle.leaf_parts.proofs.Told.{tdr-spot, tdr-shown, tdcs-spot, tdcs-shown}
 use Rattle.td_control.specs.InitTrees.{is_hkid, begin_changes, init_changes, begin_tree, init_task}
 
-new-op : (s : OpState) → list_any (λ a. op_number a == op_number s) (op.Uninitialized ∷ []) ≡ true → s ≡ op.Uninitialized
-new-op op.Uninitialized h = refl
-new-op _ h = cc
-
 module _ (m : Machine) (s : State) (mem : Memory) (t : ℕ) (sh : Shows m mem.words mem.slots s) (la : Lawful m s.world) (x : IsTd m s.world t (op.Uninitialized ∷ [])) where
   abbrev w : World
   w = s.world
