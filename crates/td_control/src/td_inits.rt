@@ -101,7 +101,7 @@ impl Leaf for Init {
     ghost means = { λ l. init-means l.place l.tdr };
 }
 
-/// What is beginning: the measurement in the slot of that HKID, for the TD with that TDCS page.
+/// What the call begins: a measurement in the slot of that HKID, for the TD with that TDCS page.
 #[derive(Clone, Copy, Debug, PartialEq, Eq)]
 pub struct Beginning {
     pub tdcs: u16,
