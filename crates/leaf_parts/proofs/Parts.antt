@@ -1,5 +1,5 @@
 -- Parts of leaves: where they stop, and one after another.
-use Rattle.std.proofs.Common.{◌≡◌, ℕ, ◌+◌, ◌≤◌, List, Result, Ok, Err, sym, ap, subst, Bool, true, false, arith}
+use Rattle.std.proofs.Common.{◌≡◌, ℕ, ◌+◌, ◌≤◌, List, Result, Ok, Err, refl, sym, ap, ◌∙◌, subst, Bool, true, false, arith}
 use Rattle.std.specs.Prelude.{MatchResult}
 use Rattle.std.specs.Result.{IsErrAnd}
 use Rattle.td_words.specs.declared.refusals.Status.{Status}
@@ -7,10 +7,10 @@ use Rattle.td_words.specs.declared.replies.Reply.TheVariants.{Refused}
 use Rattle.leaf_engine.specs.declared.plans.Stop.{Stop}
 use Rattle.leaf_engine.specs.declared.plans.Stop.TheVariants as stop
 use Rattle.leaf_engine.specs.declared.plans.Verdict.{Verdict}
-use Rattle.leaf_engine.specs.Trees.{Tree, needs}
+use Rattle.leaf_engine.specs.Trees.{Tree, needs, feed}
 use Rattle.leaf_engine.specs.Decides.{Decides}
 use Rattle.leaf_engine.specs.Inside.{StopEarly}
-use Rattle.leaf_parts.specs.Parts.{Goes}
+use Rattle.leaf_parts.specs.Parts.{Goes, Feeds}
 
 -- it stops
 pub goes-stop : {A : Type 0} (n : ℕ) (tree : (A → Tree) → Tree) (before after : List ℕ) (r : Result A Stop) (e : Stop) → r ≡ Err e → ((further : A → Tree) → Decides n (tree further) before (Err e)) → Goes n tree before after r
@@ -48,6 +48,21 @@ pub goes-refused : {A : Type 0} (n : ℕ) (tree : (A → Tree) → Tree) (before
     → r ≡ Err e → (b ≡ false) × (e ≡ stop.Refused (Refused s)) → ((f : A → Tree) (v : Result Verdict Stop) → Decides n (needs b s (rest f)) after v → Decides n (tree f) before v)
     → Goes n tree before last r
 goes-refused n tree before after last b s e r rest is k h = goes-stop n tree before last r e is (λ f. h f (Err e) (refuses n b s (rest f) after e k.0 k.1))
+
+-- what is left of a tree behind a condition that holds, and behind parts that pass
+pub feed-passes : (b : Bool) (s : Status) (t : Tree) (after : List ℕ) → b ≡ true → feed (needs b s t) after ≡ feed t after
+feed-passes true s t after e = refl
+feed-passes false s t after e = cc
+
+pub feeds-check : (tree : (Unit {0} → Tree) → Tree) (before after : List ℕ) (b : Bool) (s : Status) (r : Result (Unit {0}) Stop)
+    → ((f : Unit {0} → Tree) → feed (tree f) before ≡ feed (needs b s (f tt)) after) → Checked b s r → Feeds tree before after r
+feeds-check tree before after b s (Ok u) h k = λ further. h further ∙ feed-passes b s (further tt) after k
+feeds-check tree before after b s (Err e) h k = tt
+
+pub feeds-on : {A B : Type 0} (first : (A → Tree) → Tree) (second : A → (B → Tree) → Tree) (before between after : List ℕ) (x : A) (r : Result B Stop)
+    → Feeds first before between (Ok x) → Feeds (second x) between after r → Feeds (λ f. first (λ y. second y f)) before after r
+feeds-on first second before between after x (Ok y) a b = λ further. a (λ z. second z further) ∙ b further
+feeds-on first second before between after x (Err e) a b = tt
 
 -- the exit of a `?`
 pub exit : {A : Type 0} (r : Result A Stop) (e : Stop) (Q : Stop → Type 0) → IsErrAnd r Q → ((y : Stop) → Q y → y ≡ e) → r ≡ Err e

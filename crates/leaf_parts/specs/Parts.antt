@@ -2,7 +2,7 @@
 use Rattle.std.specs.Prelude.{◌≡◌, ℕ, ◌+◌, List, length, Result, Ok, Err}
 use Rattle.leaf_engine.specs.declared.plans.Stop.{Stop}
 use Rattle.leaf_engine.specs.declared.plans.Verdict.{Verdict}
-use Rattle.leaf_engine.specs.Trees.{Tree}
+use Rattle.leaf_engine.specs.Trees.{Tree, feed}
 use Rattle.leaf_engine.specs.Decides.{Decides}
 use Rattle.leaf_engine.specs.Inside.{StopEarly}
 
@@ -15,3 +15,8 @@ Goes {A = A} n tree before after (Err e) = (further : A → Tree) → Decides n 
 abbrev pub Uses : {A : Type 0} → (count : ℕ) → (before after : List ℕ) → Result A Stop → Type 0
 Uses count before after (Ok x) = length before ≡ count + length after
 Uses count before after (Err e) = StopEarly count (length before) e
+
+-- where it passes, the whole with the answers before it is what comes after it, with those that it leaves
+abbrev pub Feeds : {A : Type 0} → ((A → Tree) → Tree) → (before after : List ℕ) → Result A Stop → Type 0
+Feeds {A = A} tree before after (Ok x) = (further : A → Tree) → feed (tree further) before ≡ feed (further x) after
+Feeds {A = A} tree before after (Err e) = Unit {0}

@@ -2,7 +2,7 @@
 
 ghost use Rattle.std.specs.Prelude.{◌≡◌, ℕ, ◌<◌, MatchResult};
 ghost use Rattle.leaf_engine.specs.Inside.{StopIn};
-ghost use Rattle.leaf_parts.specs.Parts.{Goes, Uses};
+ghost use Rattle.leaf_parts.specs.Parts.{Goes, Feeds, Uses};
 ghost use Rattle.leaf_parts.specs.Heads.{root_tree, life_tree, tdcs_tree, op_tree, td_head_tree, tdr_head_tree};
 
 use crate::words::{is_among, is_life_among, life_told, op_told, page_told, says_kind};
@@ -23,6 +23,7 @@ pub struct Td {
 pub fn root(told: &mut Told, place: Place, tdr: u16, mode: Mode) -> Result<(), Stop>
     requires { tdr < place.machine.pages }
     ensures goes { Goes place.machine.pages (λ f. root_tree tdr mode (f tt)) told.old.left.now told.new.left.now result }
+    ensures feeds { Feeds (λ f. root_tree tdr mode (f tt)) told.old.left.now told.new.left.now result }
     ensures uses { Uses 2 told.old.left.now told.new.left.now result }
     ensures inside { MatchResult result (λ u. Unit {0}) (λ e. StopIn place.machine e) }
 {
@@ -38,6 +39,7 @@ pub fn root(told: &mut Told, place: Place, tdr: u16, mode: Mode) -> Result<(), S
 pub fn life_in(told: &mut Told, place: Place, tdr: u16, allowed: &[LifeState]) -> Result<(), Stop>
     requires { tdr < place.machine.pages }
     ensures goes { Goes place.machine.pages (λ f. life_tree tdr allowed.now (f tt)) told.old.left.now told.new.left.now result }
+    ensures feeds { Feeds (λ f. life_tree tdr allowed.now (f tt)) told.old.left.now told.new.left.now result }
     ensures uses { Uses 1 told.old.left.now told.new.left.now result }
     ensures inside { MatchResult result (λ u. Unit {0}) (λ e. StopIn place.machine e) }
 {
@@ -52,6 +54,7 @@ pub fn life_in(told: &mut Told, place: Place, tdr: u16, allowed: &[LifeState]) -
 pub fn tdcs(told: &mut Told, place: Place, tdr: u16) -> Result<u16, Stop>
     requires { tdr < place.machine.pages }
     ensures goes { Goes place.machine.pages (λ f. tdcs_tree place.machine.pages tdr f) told.old.left.now told.new.left.now result }
+    ensures feeds { Feeds (λ f. tdcs_tree place.machine.pages tdr f) told.old.left.now told.new.left.now result }
     ensures uses { Uses 2 told.old.left.now told.new.left.now result }
     ensures inside { MatchResult result (λ p. p < place.machine.pages) (λ e. StopIn place.machine e) }
 {
@@ -71,6 +74,7 @@ pub fn op_in(
 ) -> Result<Td, Stop>
     requires { tdcs < place.machine.pages }
     ensures goes { (t : ℕ) → Goes place.machine.pages (λ f. op_tree t tdcs mode allowed.now f) told.old.left.now told.new.left.now result }
+    ensures feeds { (t : ℕ) → Feeds (λ f. op_tree t tdcs mode allowed.now f) told.old.left.now told.new.left.now result }
     ensures uses { Uses 2 told.old.left.now told.new.left.now result }
     ensures inside { MatchResult result (λ td. td.tdcs ≡ tdcs) (λ e. StopIn place.machine e) }
 {
@@ -90,6 +94,7 @@ pub fn td_head(
 ) -> Result<Td, Stop>
     requires { tdr < place.machine.pages }
     ensures goes { Goes place.machine.pages (λ f. td_head_tree place.machine.pages tdr mode allowed.now f) told.old.left.now told.new.left.now result }
+    ensures feeds { Feeds (λ f. td_head_tree place.machine.pages tdr mode allowed.now f) told.old.left.now told.new.left.now result }
     ensures uses { Uses 7 told.old.left.now told.new.left.now result }
     ensures inside { MatchResult result (λ td. td.tdcs < place.machine.pages) (λ e. StopIn place.machine e) }
 {

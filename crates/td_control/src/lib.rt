@@ -1,16 +1,18 @@
-//! Calls that build a TD and read of it, as leaves: MNG.CREATE, MNG.KEY.CONFIG, MNG.ADDCX and
-//! MNG.RD.
+//! Calls that build a TD and read of it, as leaves: MNG.CREATE, MNG.KEY.CONFIG, MNG.ADDCX,
+//! MNG.INIT and MNG.RD.
 //!
-//! Each leaf is a `Plan` of `leaf_engine`, whose tree mirrors its row, with the proof that it means
-//! that row.
+//! Each leaf has a tree that mirrors its row, with the proof that it means that row. All are `Plan`s
+//! of `leaf_engine`, but MNG.INIT, whose act puts a hasher into a slot.
 #![tactic(auto)]
 
 mod key_configurations;
 mod page_additions;
 mod reads;
 mod td_creations;
+mod td_inits;
 
 pub use key_configurations::KeyConfig;
 pub use page_additions::AddCx;
 pub use reads::Rd;
 pub use td_creations::Create;
+pub use td_inits::Init;

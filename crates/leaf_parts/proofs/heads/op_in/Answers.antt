@@ -1,8 +1,9 @@
+use Rattle.std.proofs.Common.{◌≡◌, ◌∙◌, refl}
 use Rattle.td_words.specs.declared.refusals.Status.TheVariants.{OpStateIncorrect}
-use Rattle.leaf_engine.specs.Trees.{Tree}
+use Rattle.leaf_engine.specs.Trees.{Tree, needs, feed}
 use Rattle.leaf_parts.specs.declared.heads.Td.{Td}
 use Rattle.leaf_parts.specs.Heads.{op_tree}
-use Rattle.leaf_parts.proofs.Parts.{goes-refused, exit, passes}
+use Rattle.leaf_parts.proofs.Parts.{goes-refused, exit, passes, feed-passes}
 use Rattle.leaf_parts.proofs.heads.op_in.Goals as goal
 
 pub returns-in_err-check-clause-goes : goal.returns-in_err-check-clause-goes
@@ -17,3 +18,8 @@ pub returns-clause-goes : goal.returns-clause-goes
 returns-clause-goes c = λ t further r d.
     let e = passes c.args.place.machine.pages c.is_among.result (OpStateIncorrect c.op_told-op.result) (further (record { tdcs = c.args.tdcs; op = c.op_told-op.result })) c.load.new.self.left.now r c.in_ok-check.ensures d in
     rw (c.in_ok-lock.ensures.1, c.in_ok-load.ensures) (rw (c.is_among.ensures, c.op_told-op.ensures) at e)
+
+pub returns-clause-feeds : goal.returns-clause-feeds
+returns-clause-feeds c = λ t further.
+    let checked : feed (op_tree t c.args.tdcs c.args.mode c.args.allowed.now further) c.args.told.now.left.now ≡ feed (needs c.is_among.result (OpStateIncorrect c.op_told-op.result) (further (record { tdcs = c.args.tdcs; op = c.op_told-op.result }))) c.load.new.self.left.now = rw (c.in_ok-lock.ensures.1, c.in_ok-load.ensures, c.is_among.ensures, c.op_told-op.ensures) refl in
+    checked ∙ feed-passes c.is_among.result (OpStateIncorrect c.op_told-op.result) (further (record { tdcs = c.args.tdcs; op = c.op_told-op.result })) c.load.new.self.left.now c.in_ok-check.ensures

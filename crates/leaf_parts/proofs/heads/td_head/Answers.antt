@@ -4,7 +4,7 @@ use Rattle.td_words.specs.declared.names.LifeState.TheVariants.{KeysConfigured}
 use Rattle.leaf_engine.specs.Trees.{Tree}
 use Rattle.leaf_parts.specs.declared.heads.Td.{Td}
 use Rattle.leaf_parts.specs.Heads.{root_tree, life_tree, tdcs_tree, op_tree}
-use Rattle.leaf_parts.proofs.Parts.{goes-on, goes-off, exit}
+use Rattle.leaf_parts.proofs.Parts.{goes-on, goes-off, feeds-on, exit}
 use Rattle.leaf_parts.proofs.heads.td_head.Goals as goal
 
 pub returns-in_err-root-clause-goes : goal.returns-in_err-root-clause-goes
@@ -34,3 +34,13 @@ returns-clause-goes c =
     (goes-on c.args.place.machine.pages (λ (f : ℕ → Tree). tdcs_tree c.args.place.machine.pages c.args.tdr f) (λ (p : ℕ) (f : Td → Tree). op_tree c.args.tdr p c.args.mode c.args.allowed.now f) c.life_in.new.told.left.now c.tdcs.new.told.left.now c.op_in.new.told.left.now c.in_ok-tdcs.tdcs c.op_in.result
     c.in_ok-tdcs.ensures.goes
     (c.op_in.ensures.goes c.args.tdr)))
+
+pub returns-clause-feeds : goal.returns-clause-feeds
+returns-clause-feeds c =
+    feeds-on (λ (f : Unit {0} → Tree). root_tree c.args.tdr Shared (f tt)) (λ (y : Unit {0}). λ (f : Td → Tree). life_tree c.args.tdr (KeysConfigured ∷ []) (tdcs_tree c.args.place.machine.pages c.args.tdr (λ p. op_tree c.args.tdr p c.args.mode c.args.allowed.now f))) c.args.told.now.left.now c.root.new.told.left.now c.op_in.new.told.left.now tt c.op_in.result
+    c.in_ok-root.ensures.feeds
+    (feeds-on (λ (f : Unit {0} → Tree). life_tree c.args.tdr (KeysConfigured ∷ []) (f tt)) (λ (y : Unit {0}). λ (f : Td → Tree). tdcs_tree c.args.place.machine.pages c.args.tdr (λ p. op_tree c.args.tdr p c.args.mode c.args.allowed.now f)) c.root.new.told.left.now c.life_in.new.told.left.now c.op_in.new.told.left.now tt c.op_in.result
+    c.in_ok-life_in.ensures.feeds
+    (feeds-on (λ (f : ℕ → Tree). tdcs_tree c.args.place.machine.pages c.args.tdr f) (λ (p : ℕ) (f : Td → Tree). op_tree c.args.tdr p c.args.mode c.args.allowed.now f) c.life_in.new.told.left.now c.tdcs.new.told.left.now c.op_in.new.told.left.now c.in_ok-tdcs.tdcs c.op_in.result
+    c.in_ok-tdcs.ensures.feeds
+    (c.op_in.ensures.feeds c.args.tdr)))

@@ -1,0 +1,31 @@
+-- The writes of the call that begins a TD's measurement are its changes, one after another.
+use Rattle.std.proofs.Common.{◌≡◌, ℕ, ◌-◌, ◌<◌, true, ◌&&◌, drop, [], Option, Some, refl, arith}
+use Rattle.std.specs.Prelude.{nat_le}
+use Rattle.std.proofs.lemmas.Bool.Decides.{nat_tests}
+use Rattle.sha2.specs.Hashers.{Holds384}
+use Rattle.td_words.specs.declared.machines.Machine.{Machine}
+use Rattle.td_words.specs.Place.{address}
+use Rattle.td_words.specs.Place as place
+use Rattle.mrtd_measure.specs.declared.measures.Measure.{Measure}
+use Rattle.step_core.specs.Words.{word_count}
+use Rattle.step_core.specs.declared.steps.WordStep.TheVariants as step
+use Rattle.leaf_engine.specs.declared.needs.Write.TheVariants as write
+use Rattle.leaf_engine.specs.Changes.{Put, Swap}
+use Rattle.leaf_engine.specs.Decides.{HandsNext}
+use Rattle.td_control.specs.InitTrees.{is_hkid, init_changes}
+
+module _ (m : Machine) (tdcs h : ℕ) (is : is_hkid m h ≡ true) (in_page : tdcs < m.pages) where
+  first : (a b : ℕ) → (nat_le 1 a && nat_le a b) ≡ true → a - 1 < b
+  first a b e = grind (arith, nat_tests)
+
+  pub slot-first : (hasher : Option Measure) (new : Measure) → Holds384 new [] → HandsNext m (drop 0 (init_changes m tdcs h)) (drop 1 (init_changes m tdcs h)) hasher (Some new) (Some (write.Swap (h - 1)))
+  slot-first hasher new holds = rw is (Swap h (λ hand. Some []), refl, first h m.hkids is, λ hand was. (refl, holds))
+
+  word-in : (i : ℕ) → i < 512 → address m.pages (place.Word tdcs i) < word_count m
+  word-in i b = omega (arith, in_page, b)
+
+  pub op-second : (hasher : Option Measure) → HandsNext m (drop 1 (init_changes m tdcs h)) (drop 2 (init_changes m tdcs h)) hasher hasher (Some (write.Word (step.Store (address m.pages (place.Word tdcs 4)) 1)))
+  op-second hasher = rw is (Put (place.Word tdcs 4) 1, refl, word-in 4 (omega arith), λ hand was. (refl, was))
+
+  pub epoch-third : (hasher : Option Measure) → HandsNext m (drop 2 (init_changes m tdcs h)) (drop 3 (init_changes m tdcs h)) hasher hasher (Some (write.Word (step.Store (address m.pages (place.Word tdcs 5)) 1)))
+  epoch-third hasher = rw is (Put (place.Word tdcs 5) 1, refl, word-in 5 (omega arith), λ hand was. (refl, was))
