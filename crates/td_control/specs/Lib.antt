@@ -6,3 +6,5 @@ pub mod ReadTrees
 pub mod ReadMeanings
 pub mod AddTrees
 pub mod AddMeanings
+pub mod FinalTrees
+pub mod FinalMeanings
