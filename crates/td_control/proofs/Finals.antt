@@ -56,8 +56,66 @@ vps-twins pages tdcs number zero ready f g h = (refl, refl, h)
 vps-twins pages tdcs number (suc left) ready f g h = (refl, refl, λ x. (refl, refl, λ y. vps-twins pages tdcs (suc number) left (ready && y == vcpu_number vcpu.Ready) f g h))
 
 final-twins : (m : Machine) (t : ℕ) → Twins (bare_tree m t) (changing_tree m t)
-final-twins m t = (refl, refl, (refl, refl, refl, (refl, refl, λ p. (refl, refl, (refl, refl, λ l. (refl, refl, (refl, refl, λ c. (refl, refl, (refl, refl, λ d. (refl, refl, refl, (refl, refl, λ o. (refl, refl, (refl, refl, λ h. (refl, refl, λ k.
-    vps-twins m.pages (page_told m.pages d) 0 (vps_told k) true (answers (Done value.Nothing)) (acts (Done value.Nothing) (final_changes m (page_told m.pages d) h)) refl))))))))))))))
+final-twins m t = (
+  refl,
+  refl,
+  (
+    refl,
+    refl,
+    refl,
+    (
+      refl,
+      refl,
+      λ p. (
+        refl,
+        refl,
+        (
+          refl,
+          refl,
+          λ l. (
+            refl,
+            refl,
+            (
+              refl,
+              refl,
+              λ c. (
+                refl,
+                refl,
+                (
+                  refl,
+                  refl,
+                  λ d. (
+                    refl,
+                    refl,
+                    refl,
+                    (
+                      refl,
+                      refl,
+                      λ o. (
+                        refl,
+                        refl,
+                        (
+                          refl,
+                          refl,
+                          λ h. (
+                            refl,
+                            refl,
+                            λ k.
+                                vps-twins m.pages (page_told m.pages d) 0 (vps_told k) true (answers (Done value.Nothing)) (acts (Done value.Nothing) (final_changes m (page_told m.pages d) h)) refl,
+                          ),
+                        ),
+                      ),
+                    ),
+                  ),
+                ),
+              ),
+            ),
+          ),
+        ),
+      ),
+    ),
+  ),
+)
 
 pub stopped : (m : Machine) (t : ℕ) (xs : List ℕ) (e : Stop) → Decides m.pages (bare_tree m t) xs (Err e) → Decides m.pages (changing_tree m t) xs (Err e)
 stopped m t xs e h = stops m.pages (bare_tree m t) (changing_tree m t) xs e (final-twins m t) h

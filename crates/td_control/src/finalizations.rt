@@ -204,11 +204,26 @@ fn next_write(
     let write = match *written {
         0 => Write::Swap((hkid - 1) as u8),
         1 => Write::Word(WordStep::Store(word_address(tdcs, TDCS_MRTD), word_in_hand(hasher, 0))),
-        2 => Write::Word(WordStep::Store(word_address(tdcs, TDCS_MRTD + 1), word_in_hand(hasher, 1))),
-        3 => Write::Word(WordStep::Store(word_address(tdcs, TDCS_MRTD + 2), word_in_hand(hasher, 2))),
-        4 => Write::Word(WordStep::Store(word_address(tdcs, TDCS_MRTD + 3), word_in_hand(hasher, 3))),
-        5 => Write::Word(WordStep::Store(word_address(tdcs, TDCS_MRTD + 4), word_in_hand(hasher, 4))),
-        6 => Write::Word(WordStep::Store(word_address(tdcs, TDCS_MRTD + 5), word_in_hand(hasher, 5))),
+        2 => Write::Word(WordStep::Store(
+            word_address(tdcs, TDCS_MRTD + 1),
+            word_in_hand(hasher, 1),
+        )),
+        3 => Write::Word(WordStep::Store(
+            word_address(tdcs, TDCS_MRTD + 2),
+            word_in_hand(hasher, 2),
+        )),
+        4 => Write::Word(WordStep::Store(
+            word_address(tdcs, TDCS_MRTD + 3),
+            word_in_hand(hasher, 3),
+        )),
+        5 => Write::Word(WordStep::Store(
+            word_address(tdcs, TDCS_MRTD + 4),
+            word_in_hand(hasher, 4),
+        )),
+        6 => Write::Word(WordStep::Store(
+            word_address(tdcs, TDCS_MRTD + 5),
+            word_in_hand(hasher, 5),
+        )),
         7 => Write::Word(WordStep::Store(word_address(tdcs, TDCS_OP), OpState::Runnable as u64)),
         _ => return None,
     };
