@@ -1,14 +1,12 @@
 -- The decision over the bare tree is that over the tree with its changes, up to its end; and the changes that come there.
-use Rattle.std.proofs.Common.{◌≡◌, ℕ, zero, suc, ◌+◌, ◌-◌, ◌*◌, ◌<◌, ◌≤◌, Bool, true, false, ◌==◌, ◌&&◌, nat_lt, List, [], ◌∷◌, length, drop, slice_index, Option, Some, None, Result, Ok, Err, refl, ap, sym, ◌∙◌, subst, arith}
+use Rattle.std.proofs.Common.{◌≡◌, ℕ, zero, suc, ◌+◌, ◌-◌, ◌*◌, ◌<◌, ◌≤◌, Bool, true, false, ◌==◌, ◌&&◌, nat_lt, List, [], ◌∷◌, length, drop, slice_index, Option, Some, Result, Ok, Err, refl, ap, sym, ◌∙◌, subst, arith}
 use Rattle.std.specs.List.{list_any}
-use Rattle.std.specs.Prelude.{if◌then◌else◌, nat_le}
 use Rattle.std.proofs.lemmas.Bool.{ltb-true}
 use Rattle.std.proofs.lemmas.Bool.Decides.{nat_tests}
 use Rattle.td_words.specs.declared.names.PageKind.TheVariants as kind
 use Rattle.td_words.specs.declared.names.LifeState.TheVariants as life
 use Rattle.td_words.specs.declared.names.OpState.TheVariants as op
 use Rattle.td_words.specs.declared.names.VcpuState.TheVariants as vcpu
-use Rattle.td_words.specs.declared.names.Mode.TheVariants.{Exclusive}
 use Rattle.td_words.specs.declared.machines.Machine.{Machine}
 use Rattle.td_words.specs.declared.refusals.Status.TheVariants.{OperandInvalid, PageMetadataIncorrect, LifecycleStateIncorrect, TdcxNumIncorrect, OpStateIncorrect, VcpuStateIncorrect}
 use Rattle.td_words.specs.declared.replies.Value.TheVariants as value
@@ -26,7 +24,7 @@ use Rattle.leaf_engine.specs.declared.plans.Stop.{Stop}
 use Rattle.leaf_engine.specs.declared.plans.Stop.TheVariants as stop
 use Rattle.leaf_engine.specs.declared.plans.Verdict.{Verdict}
 use Rattle.leaf_engine.specs.Changes.{Hand, Change, Put, Swap}
-use Rattle.leaf_engine.specs.Trees.{Tree, Lock, Load, Test, End, Since, feed, settle, passed, answers, acts}
+use Rattle.leaf_engine.specs.Trees.{Tree, Lock, Load, Test, End, feed, settle, passed, answers, acts}
 use Rattle.leaf_engine.specs.Inside.{WriteInside}
 use Rattle.leaf_engine.specs.Decides.{Decides, Gives, IsHand, HandsOut, HandsNext}
 use Rattle.leaf_parts.specs.Words.{says_kind, life_told, op_told, page_told}

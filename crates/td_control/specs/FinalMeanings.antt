@@ -2,12 +2,10 @@
 use Rattle.std.proofs.Common.{◌≡◌, ℕ, zero, suc, ◌+◌, ◌-◌, ◌<◌, ◌≤◌, Bool, true, false, ◌==◌, ◌&&◌, nat_lt, List, [], ◌∷◌, ◌++◌, length, Option, Some, None, refl, ap, sym, ◌∙◌, subst, inl, inr, arith}
 use Rattle.std.specs.List.{list_all, list_any}
 use Rattle.std.specs.Prelude.{if◌then◌else◌, nat_le, slice_get}
-use Rattle.std.proofs.lemmas.Bool.{eq-eqb, eqb-true, ltb-true, lt-ltb}
+use Rattle.std.proofs.lemmas.Bool.{eq-eqb, eqb-true, ltb-true}
 use Rattle.std.proofs.lemmas.Bool.Decides.{nat_tests}
-use Rattle.sha2.specs.Sha512.{sha384}
 use Rattle.td_words.specs.declared.names.PageKind.{PageKind}
 use Rattle.td_words.specs.declared.names.PageKind.TheVariants as kind
-use Rattle.td_words.specs.declared.names.LifeState.TheVariants as life
 use Rattle.td_words.specs.declared.names.OpState.{OpState}
 use Rattle.td_words.specs.declared.names.OpState.TheVariants as op
 use Rattle.td_words.specs.declared.names.VcpuState.TheVariants as vcpu
@@ -21,8 +19,7 @@ use Rattle.td_words.specs.Place.{WordPlace, IsIn}
 use Rattle.td_words.specs.Place as place
 use Rattle.flat_core.specs.World.{World}
 use Rattle.flat_core.specs.Processor.{LockId, OfPage, OfOp, Held}
-use Rattle.flat_core.specs.Digests.{digest_word}
-use Rattle.flat_core.specs.Conditions.{same_kind, same_vp_state, vps_ready}
+use Rattle.flat_core.specs.Conditions.{same_vp_state, vps_ready}
 use Rattle.flat_core.specs.Lawful.{Lawful, IsPageOf, ArePagesOf, key_owner}
 use Rattle.flat_core.specs.TdRows.{finalize}
 use Rattle.flat_core.specs.Event.{State}
@@ -33,11 +30,10 @@ use Rattle.word_rules.specs.Views.{no_page}
 use Rattle.word_rules.specs.Permissions.{MayAt, Owes, Reads}
 use Rattle.word_rules.specs.Cells.{Shows, IsAs, cell, page_cell, control_cell, lock_word, td_lock_lines, tdcs_lines, vp_lines, built_hasher}
 use Rattle.lock_words.specs.Grips.{holds, holds_alone}
-use Rattle.lock_words.specs.LockWords.{TdStands}
 use Rattle.act_rules.proofs.Stored.{by_test}
 use Rattle.act_rules.proofs.Rows.{rows-respect}
 use Rattle.leaf_engine.specs.declared.needs.Place.{Place}
-use Rattle.leaf_engine.specs.Changes.{Hand, Memory, Change, changed, changed_all}
+use Rattle.leaf_engine.specs.Changes.{Hand, Memory, changed_all}
 use Rattle.leaf_engine.specs.Trees.{Tree, Load, acts}
 use Rattle.leaf_engine.specs.Means.{Instant, IsHkid, Means, MeansRow, MayChange, Work, work_of, OfCall, hold}
 use Rattle.leaf_parts.specs.Words.{page_told}

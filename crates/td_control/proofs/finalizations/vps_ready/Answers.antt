@@ -1,10 +1,5 @@
-use Rattle.std.proofs.Common.{rules, ◌≡◌}
-use Rattle.td_words.specs.declared.names.VcpuState.TheVariants as vcpu
-use Rattle.td_words.specs.declared.refusals.Status.TheVariants.{VcpuStateIncorrect}
-use Rattle.td_words.specs.declared.replies.Value.TheVariants as value
-use Rattle.td_words.specs.declared.replies.Reply.TheVariants.{Done}
-use Rattle.leaf_engine.specs.Trees.{answers}
-use Rattle.td_control.proofs.Finals.{wants-vp, wants-state, goes-by, all-gone, two-more}
+use Rattle.std.proofs.Common.{rules}
+use Rattle.td_control.proofs.Finals.{wants-vp, wants-state, goes-by, two-more}
 use Rattle.td_control.proofs.finalizations.vps_ready.Goals as goal
 
 pub returns-in_err-word-clause-decides : goal.returns-in_err-word-clause-decides

@@ -1,4 +1,4 @@
-use Rattle.std.proofs.Common.{◌≡◌, ◌≤◌, ◌<◌, length, sym, subst, refl, Ok, Err}
+use Rattle.std.proofs.Common.{sym, subst, refl, Ok, Err}
 use Rattle.leaf_engine.specs.Trees.{Tree, left_of}
 use Rattle.leaf_engine.specs.Decides.{Decides, HandsNext}
 use Rattle.leaf_engine.proofs.Decided.{left-none}
