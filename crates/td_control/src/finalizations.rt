@@ -19,6 +19,11 @@ use step_core::WordStep;
 use td_words::places::{TDCS_MRTD, TDCS_OP, TDCS_VP_COUNT, TDCS_VPS, TDR_HKID, VP_STATE};
 use td_words::{Machine, Mode, OpState, Reply, Status, Value, VcpuState, word_address};
 
+/// Which of its answers is the page of TDCS, and which the HKID.
+const TDCS_ANSWER: usize = 4;
+
+const HKID_ANSWER: usize = 7;
+
 /// MR.FINALIZE TDR: the measurement of a TD ends, and its virtual processors may run.
 #[derive(Drop)]
 pub struct Finalize {
@@ -196,8 +201,8 @@ fn next_write(
     ensures next { let cs = final_changes machine (page_told machine.pages (slice_index told.now 4)) (slice_index told.now 7) in HandsNext machine (drop written.old cs) (drop written.new cs) hasher.now hasher.now result }
     ensures count { MatchOption result (written.new ≡ written.old) (λ w. (written.new ≡ written.old + 1) × (written.old < 16)) }
 {
-    let tdcs = page_told(machine.pages, told[4]);
-    let hkid = told[7];
+    let tdcs = page_told(machine.pages, told[TDCS_ANSWER]);
+    let hkid = told[HKID_ANSWER];
     if !is_hkid(machine, hkid) {
         return None;
     }
