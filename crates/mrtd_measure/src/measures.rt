@@ -53,6 +53,16 @@ impl Measure {
         self.hasher.update(chunk);
     }
 
+    /// The SHA-384 of the records so far.
+    pub fn digest(&self) -> [u8; 48]
+        ensures { (m : List ℕ) → Holds384 self.now m → result ≡ sha384 m }
+    {
+        let Ok(hasher) = self.hasher.clone() else {
+            unreachable!()
+        };
+        hasher.finalize()
+    }
+
     /// MRTD: the SHA-384 of all records.
     pub fn finish(self) -> [u8; 48]
         ensures { (m : List ℕ) → Holds384 self m → result ≡ sha384 m }

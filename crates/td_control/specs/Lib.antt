@@ -8,3 +8,5 @@ pub mod AddTrees
 pub mod AddMeanings
 pub mod InitTrees
 pub mod InitMeanings
+pub mod FinalTrees
+pub mod FinalMeanings

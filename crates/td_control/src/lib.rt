@@ -1,16 +1,18 @@
 //! Calls that build a TD and read of it, as leaves: MNG.CREATE, MNG.KEY.CONFIG, MNG.ADDCX,
-//! MNG.INIT and MNG.RD.
+//! MNG.INIT, MNG.RD and MR.FINALIZE.
 //!
 //! Each leaf has a tree that mirrors its row, with the proof that it means that row. All are `Plan`s
-//! of `leaf_engine`, but MNG.INIT, whose act puts a hasher into a slot.
+//! of `leaf_engine`, but MNG.INIT and MR.FINALIZE, whose acts exchange a hasher.
 #![tactic(auto)]
 
+mod finalizations;
 mod key_configurations;
 mod page_additions;
 mod reads;
 mod td_creations;
 mod td_inits;
 
+pub use finalizations::Finalize;
 pub use key_configurations::KeyConfig;
 pub use page_additions::AddCx;
 pub use reads::Rd;

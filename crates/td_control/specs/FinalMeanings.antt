@@ -1,0 +1,410 @@
+-- The leaf that ends a TD's building means its row.
+use Rattle.std.proofs.Common.{◌≡◌, ℕ, zero, suc, ◌+◌, ◌-◌, ◌<◌, ◌≤◌, Bool, true, false, ◌==◌, ◌&&◌, nat_lt, List, [], ◌∷◌, ◌++◌, length, Option, Some, None, refl, ap, sym, ◌∙◌, subst, inl, inr, arith}
+use Rattle.std.specs.List.{list_all, list_any}
+use Rattle.std.specs.Prelude.{if◌then◌else◌, nat_le, slice_get}
+use Rattle.std.proofs.lemmas.Bool.{eq-eqb, eqb-true, ltb-true}
+use Rattle.std.proofs.lemmas.Bool.Decides.{nat_tests}
+use Rattle.td_words.specs.declared.names.PageKind.{PageKind}
+use Rattle.td_words.specs.declared.names.PageKind.TheVariants as kind
+use Rattle.td_words.specs.declared.names.OpState.{OpState}
+use Rattle.td_words.specs.declared.names.OpState.TheVariants as op
+use Rattle.td_words.specs.declared.names.VcpuState.TheVariants as vcpu
+use Rattle.td_words.specs.declared.names.Mode.TheVariants.{Shared, Exclusive}
+use Rattle.td_words.specs.declared.machines.Machine.{Machine}
+use Rattle.td_words.specs.declared.calls.Call.TheVariants as call
+use Rattle.td_words.specs.declared.replies.Value.TheVariants as value
+use Rattle.td_words.specs.declared.replies.Reply.TheVariants.{Done}
+use Rattle.td_words.specs.NameNumber.{op_number, vcpu_number}
+use Rattle.td_words.specs.Place.{WordPlace, IsIn}
+use Rattle.td_words.specs.Place as place
+use Rattle.flat_core.specs.World.{World}
+use Rattle.flat_core.specs.Processor.{LockId, OfPage, OfOp, Held}
+use Rattle.flat_core.specs.Conditions.{same_vp_state, vps_ready}
+use Rattle.flat_core.specs.Lawful.{Lawful, IsPageOf, ArePagesOf, key_owner}
+use Rattle.flat_core.specs.TdRows.{finalize}
+use Rattle.flat_core.specs.Event.{State}
+use Rattle.word_rules.specs.Lines.{in_lines}
+use Rattle.word_rules.specs.Rules.{TdcsWord, Whole, KeepsNothing}
+use Rattle.word_rules.specs.Spots.{spot, or_unused, tdcs_classes, vp_classes, is_current, is_empty, slot_of}
+use Rattle.word_rules.specs.Views.{no_page}
+use Rattle.word_rules.specs.Permissions.{MayAt, Owes, Reads}
+use Rattle.word_rules.specs.Cells.{Shows, IsAs, cell, page_cell, control_cell, lock_word, td_lock_lines, tdcs_lines, vp_lines, built_hasher}
+use Rattle.lock_words.specs.Grips.{holds, holds_alone}
+use Rattle.act_rules.proofs.Stored.{by_test}
+use Rattle.act_rules.proofs.Rows.{rows-respect}
+use Rattle.leaf_engine.specs.declared.needs.Place.{Place}
+use Rattle.leaf_engine.specs.Changes.{Hand, Memory, changed_all}
+use Rattle.leaf_engine.specs.Trees.{Tree, Load, acts}
+use Rattle.leaf_engine.specs.Means.{Instant, IsHkid, Means, MeansRow, MayChange, Work, work_of, OfCall, hold}
+use Rattle.leaf_parts.specs.Words.{page_told}
+use Rattle.leaf_parts.proofs.Acted.{opening}
+use Rattle.leaf_parts.proofs.Begun.{td-head-means, page_lock, op_lock, IsTd, TwoControls, page-in}
+use Rattle.leaf_parts.proofs.Told.{page-back, tdr-spot, tdr-shown, tdcs-spot, tdcs-shown}
+use Rattle.td_control.specs.FinalTrees.{word_in_hand, end_changes, is_hkid, changes_where, final_changes, vps_told, vps_tree, ready_tree, finalize_task}
+
+abbrev initialized : List OpState
+initialized = op.Initialized ∷ []
+
+is-initialized : (s : OpState) → list_any (λ a. op_number a == op_number s) initialized ≡ true → s ≡ op.Initialized
+is-initialized op.Initialized h = refl
+is-initialized op.Uninitialized h = cc
+is-initialized op.Runnable h = cc
+is-initialized op.LiveExport h = cc
+is-initialized op.PausedExport h = cc
+is-initialized op.PostExport h = cc
+is-initialized op.MemoryImport h = cc
+is-initialized op.StateImport h = cc
+is-initialized op.PostImport h = cc
+is-initialized op.LiveImport h = cc
+is-initialized op.FailedImport h = cc
+
+-- another word of TDCS than MRTD's
+outside : (i j : ℕ) → (nat_le 64 j && nat_lt j 70) ≡ true → (nat_le 64 i && nat_lt i 70) ≡ false → (i == j) ≡ false
+outside i j within beyond = by_test (i == j)
+    (λ y. (let same : i ≡ j = eqb-true i j y in let bad : true ≡ false = sym within ∙ (sym (ap (λ (x : ℕ). nat_le 64 x && nat_lt x 70) same) ∙ beyond) in cc))
+    (λ n. n)
+
+inside : (i : ℕ) → (nat_le 64 i && nat_lt i 70) ≡ true → (i ≡ 64 + (i - 64)) × (i - 64 < 6)
+inside i h = (grind (arith, nat_tests), grind (arith, nat_tests))
+
+-- words that show the state before show the one after, with these changes
+module _ (m : Machine) (s : State) (mem : Memory) (t : ℕ) (sh : Shows m mem.words mem.slots s) (la : Lawful m s.world) (empty : mem.hand ≡ None) (x : IsTd m s.world t initialized) where
+  abbrev w : World
+  w = s.world
+
+  abbrev w' : World
+  w' = (finalize m t).act s.world
+
+  abbrev y : TwoControls m s.world t
+  y = x.controls
+
+  abbrev h : ℕ
+  h = s.world.tds.hkids t
+
+  abbrev locks : LockId → ℕ
+  locks = lock_word s.lps s.lp_count
+
+  abbrev after : Memory
+  after = changed_all (end_changes x.controls.tdcs (s.world.tds.hkids t)) mem
+
+  itself : (t == t) ≡ true
+  itself = eq-eqb t t refl
+
+  its-page : (y.tdcs == y.tdcs) ≡ true
+  its-page = eq-eqb y.tdcs y.tdcs refl
+
+  owner : key_owner (w.key_table.keys h) ≡ Some t
+  owner = la.keys.owner t x.alive
+
+  building : w.tds.ops t ≡ op.Initialized
+  building = is-initialized (w.tds.ops t) x.op
+
+  -- the slot has the TD's hasher
+  hasher-is : mem.slots h ≡ Some (w.tds.measured t)
+  hasher-is = rw (owner, x.configured, building) at (sh.hasher h)
+
+  -- MRTD's words
+  mrtd-word : (k : ℕ) → word_in_hand k (mem.slots h) ≡ w'.tds.mrtds t k
+  mrtd-word k = rw (hasher-is, itself) refl
+
+  abbrev told : ℕ → ℕ → ℕ
+  told i old =
+      if i == 4 then 2
+      else if i == 69 then word_in_hand 5 (mem.slots (s.world.tds.hkids t))
+      else if i == 68 then word_in_hand 4 (mem.slots (s.world.tds.hkids t))
+      else if i == 67 then word_in_hand 3 (mem.slots (s.world.tds.hkids t))
+      else if i == 66 then word_in_hand 2 (mem.slots (s.world.tds.hkids t))
+      else if i == 65 then word_in_hand 1 (mem.slots (s.world.tds.hkids t))
+      else if i == 64 then word_in_hand 0 (mem.slots (s.world.tds.hkids t))
+      else old
+
+  abbrev After : ℕ → ℕ → Type 0
+  After i old = IsAs (in_lines (td_lock_lines locks t (tdcs_lines w' t)) i) (told i old)
+
+  mrtd-told : (k old : ℕ) → k < 6 → After (64 + k) old
+  mrtd-told zero old b = mrtd-word 0
+  mrtd-told (suc zero) old b = mrtd-word 1
+  mrtd-told (suc (suc zero)) old b = mrtd-word 2
+  mrtd-told (suc (suc (suc zero))) old b = mrtd-word 3
+  mrtd-told (suc (suc (suc (suc zero)))) old b = mrtd-word 4
+  mrtd-told (suc (suc (suc (suc (suc zero))))) old b = mrtd-word 5
+  mrtd-told (suc (suc (suc (suc (suc (suc k)))))) old b = absurd (omega (arith, b))
+
+  op-told : (old : ℕ) → After 4 old
+  op-told old = rw itself refl
+
+  same-lines : (i : ℕ) → (i == 4) ≡ false → (nat_le 64 i && nat_lt i 70) ≡ false → in_lines (td_lock_lines locks t (tdcs_lines w' t)) i ≡ in_lines (td_lock_lines locks t (tdcs_lines w t)) i
+  same-lines i a b = rw (a, b) refl
+
+  same-told : (i old : ℕ) → (i == 4) ≡ false → (nat_le 64 i && nat_lt i 70) ≡ false → told i old ≡ old
+  same-told i old a b = rw (a, outside i 69 refl b, outside i 68 refl b, outside i 67 refl b, outside i 66 refl b, outside i 65 refl b, outside i 64 refl b) refl
+
+  lines-told : (i old : ℕ) → IsAs (in_lines (td_lock_lines locks t (tdcs_lines w t)) i) old → After i old
+  lines-told i old was = by_test (i == 4)
+      (λ e. subst (λ (j : ℕ). After j old) (sym (eqb-true i 4 e)) (op-told old))
+      (λ a. by_test (nat_le 64 i && nat_lt i 70)
+      (λ e. (let at = inside i e in subst (λ (j : ℕ). After j old) (sym at.0) (mrtd-told (i - 64) old at.1)))
+      (λ b. subst (λ (v : ℕ). IsAs (in_lines (td_lock_lines locks t (tdcs_lines w' t)) i) v) (sym (same-told i old a b))
+      (subst (λ (c : Option ℕ). IsAs c old) (sym (same-lines i a b)) was)))
+
+  tdcs-word : (i : ℕ) → IsIn m (place.Word y.tdcs i) → IsAs (cell (record s { world = w' }) (place.Word y.tdcs i)) (after.words (place.Word y.tdcs i))
+  tdcs-word i b =
+      let was = tdcs-shown m mem.words mem.slots s sh t i y.tdcs (y.root ∷ []) y.list y.tdcs_page x.alive.life b.0 b.1 in
+      rw (y.tdcs_page.kind, y.tdcs_page.owner, x.alive.life, y.list, its-page) (lines-told i (mem.words (place.Word y.tdcs i)) was)
+
+  -- the words of another page
+  control-same : (u p i : ℕ) (cs : List ℕ) → (u == t) ≡ false → control_cell w' locks u p cs i ≡ control_cell w locks u p cs i
+  control-same u p i [] n = refl
+  control-same u p i (c ∷ []) n = rw n refl
+  control-same u p i (c ∷ r ∷ rest) n = rw n refl
+
+  its-controls : (p i : ℕ) → (y.tdcs == p) ≡ false → control_cell w' locks t p (w.tds.controls t) i ≡ control_cell w locks t p (w.tds.controls t) i
+  its-controls p i n = rw (y.list, n) refl
+
+  controls-same : (u p i : ℕ) → (y.tdcs == p) ≡ false → control_cell w' locks u p (w.tds.controls u) i ≡ control_cell w locks u p (w.tds.controls u) i
+  controls-same u p i n = by_test (u == t)
+      (λ e. subst (λ (z : ℕ). control_cell w' locks z p (w.tds.controls z) i ≡ control_cell w locks z p (w.tds.controls z) i) (sym (eqb-true u t e)) (its-controls p i n))
+      (λ d. control-same u p i (w.tds.controls u) d)
+
+  elsewhere : (u p i : ℕ) (k : PageKind) → (y.tdcs == p) ≡ false → page_cell w' locks u p k i ≡ page_cell w locks u p k i
+  elsewhere u p i kind.Nda n = refl
+  elsewhere u p i kind.Reg n = refl
+  elsewhere u p i kind.Tdr n = refl
+  elsewhere u p i kind.Tdcx n = ap (λ (c : Option ℕ). Rattle.word_rules.specs.Cells.if_stands (w.tds.lives u) c) (controls-same u p i n)
+  elsewhere u p i kind.Tdvpr n = refl
+  elsewhere u p i kind.Ept n = refl
+  elsewhere u p i kind.Migsc n = refl
+
+  apart : (p : ℕ) → (p == y.tdcs) ≡ false → (y.tdcs == p) ≡ false
+  apart p n = by_test (y.tdcs == p)
+      (λ e. (let no : true ≡ false = sym (eq-eqb p y.tdcs (sym (eqb-true y.tdcs p e))) ∙ n in cc))
+      (λ d. d)
+
+  content : (p i : ℕ) → IsIn m (place.Word p i) → IsAs (cell (record s { world = w' }) (place.Word p i)) (after.words (place.Word p i))
+  content p i b = by_test (p == y.tdcs)
+      (λ e. subst (λ (q : ℕ). IsIn m (place.Word q i) → IsAs (cell (record s { world = w' }) (place.Word q i)) (after.words (place.Word q i))) (sym (eqb-true p y.tdcs e)) (tdcs-word i) b)
+      (λ n. rw n (subst (λ (c : Option ℕ). IsAs c (mem.words (place.Word p i))) (sym (elsewhere (w.pages.owners p) p i (w.pages.kinds p) (apart p n))) (sh.word (place.Word p i) b)))
+
+  -- the hashers
+  built-same : (o : Option ℕ) (v : Hand) → ((u : ℕ) → o ≡ Some u → (u == t) ≡ false) → IsAs (built_hasher w o) v → IsAs (built_hasher w' o) v
+  built-same None v other was = was
+  built-same (Some u) v other was = rw (other u refl) was
+
+  other-slot : (k : ℕ) → (k == h) ≡ false → (u : ℕ) → key_owner (w.key_table.keys k) ≡ Some u → (u == t) ≡ false
+  other-slot k n u e = by_test (u == t)
+      (λ z. (let its : w.tds.hkids u ≡ k = (la.keys.owned k u e).1 in
+      let same : k ≡ h = sym its ∙ ap w.tds.hkids (eqb-true u t z) in
+      let no : true ≡ false = sym (eq-eqb k h same) ∙ n in cc))
+      (λ d. d)
+
+  its-slot : (v : Hand) → IsAs (built_hasher w' (key_owner (w.key_table.keys h))) v
+  its-slot v = rw (owner, x.configured, itself) tt
+
+  slot : (k : ℕ) → IsAs (built_hasher w' (key_owner (w.key_table.keys k))) (after.slots k)
+  slot k = by_test (k == h)
+      (λ e. subst (λ (j : ℕ). IsAs (built_hasher w' (key_owner (w.key_table.keys j))) (after.slots j)) (sym (eqb-true k h e)) (its-slot (after.slots h)))
+      (λ n. rw n (built-same (key_owner (w.key_table.keys k)) (mem.slots k) (other-slot k n) (sh.hasher k)))
+
+  pub finalized : Shows m after.words after.slots (record s { world = w' })
+  finalized = record { word = at; hasher = slot }
+    where
+      at : (q : WordPlace) → IsIn m q → IsAs (cell (record s { world = w' }) q) (after.words q)
+      at (place.Lock p) b = sh.word (place.Lock p) b
+      at (place.Pamt p) b = sh.word (place.Pamt p) b
+      at (place.Key k) b = sh.word (place.Key k) b
+      at (place.Word p i) b = content p i b
+
+-- the lines of TDCS that name virtual processors
+vp-line : (w : World) (locks : LockId → ℕ) (t k : ℕ) → k < 8 → in_lines (td_lock_lines locks t (tdcs_lines w t)) (40 + k) ≡ slice_get (w.tds.vps t) k
+vp-line w locks t zero b = refl
+vp-line w locks t (suc zero) b = refl
+vp-line w locks t (suc (suc zero)) b = refl
+vp-line w locks t (suc (suc (suc zero))) b = refl
+vp-line w locks t (suc (suc (suc (suc zero)))) b = refl
+vp-line w locks t (suc (suc (suc (suc (suc zero))))) b = refl
+vp-line w locks t (suc (suc (suc (suc (suc (suc zero)))))) b = refl
+vp-line w locks t (suc (suc (suc (suc (suc (suc (suc zero))))))) b = refl
+vp-line w locks t (suc (suc (suc (suc (suc (suc (suc (suc k)))))))) b = absurd (omega (arith, b))
+
+vp-class : (current empty : ℕ → Bool) (k : ℕ) → k < 8 → or_unused (in_lines (tdcs_classes current empty) (40 + k)) ≡ TdcsWord
+vp-class current empty zero b = refl
+vp-class current empty (suc zero) b = refl
+vp-class current empty (suc (suc zero)) b = refl
+vp-class current empty (suc (suc (suc zero))) b = refl
+vp-class current empty (suc (suc (suc (suc zero)))) b = refl
+vp-class current empty (suc (suc (suc (suc (suc zero))))) b = refl
+vp-class current empty (suc (suc (suc (suc (suc (suc zero)))))) b = refl
+vp-class current empty (suc (suc (suc (suc (suc (suc (suc zero))))))) b = refl
+vp-class current empty (suc (suc (suc (suc (suc (suc (suc (suc k)))))))) b = absurd (omega (arith, b))
+
+and-true : (b : Bool) → (b && true) ≡ b
+and-true true = refl
+and-true false = refl
+
+and-more : (a b c : Bool) → ((a && b) && c) ≡ (a && (b && c))
+and-more true b c = refl
+and-more false b c = refl
+
+few-told : (n : ℕ) → n ≤ 8 → vps_told n ≡ n
+few-told n few = by_test (nat_lt n 8) (λ e. rw e refl) (λ e. (let all : n ≡ 8 = grind (arith, nat_tests) in rw e (sym all)))
+
+hkid-in : (m : Machine) (h : ℕ) → IsHkid m h → is_hkid m h ≡ true
+hkid-in m h i = grind (arith, nat_tests)
+
+module _ (m : Machine) (c : Instant) (t : ℕ) (in_page : nat_lt t m.pages ≡ true) (la : Lawful m c.state.world) (sh : Shows m c.memory.words c.memory.slots c.state) (empty : c.memory.hand ≡ None) (x : IsTd m c.state.world t initialized) where
+  abbrev v : World
+  v = c.state.world
+
+  abbrev v' : World
+  v' = (finalize m t).act c.state.world
+
+  abbrev work : Work
+  work = work_of (OfCall (finalize m t))
+
+  abbrev both : List Held
+  both = op_lock t Exclusive ∷ page_lock t Shared ∷ []
+
+  abbrev z : TwoControls m c.state.world t
+  z = x.controls
+
+  abbrev hkid : ℕ
+  hkid = c.state.world.tds.hkids t
+
+  its-in : t < m.pages
+  its-in = ltb-true t m.pages in_page
+
+  tdr-held : holds (both ++ c.kept) (OfPage t) ≡ true
+  tdr-held = rw (eq-eqb t t refl) refl
+
+  op-held : holds (both ++ c.kept) (OfOp t) ≡ true
+  op-held = rw (eq-eqb t t refl) refl
+
+  op-alone : holds_alone (both ++ c.kept) (OfOp t) ≡ true
+  op-alone = rw (eq-eqb t t refl) refl
+
+  range : IsHkid m hkid
+  range = la.keys.in_range t x.alive
+
+  -- words of TDCS
+
+  reads-tdcs : (i : ℕ) → or_unused (in_lines (tdcs_classes (is_current v t) (is_empty v t)) i) ≡ TdcsWord → Reads (hold c both) v (place.Word z.tdcs i) Whole
+  reads-tdcs i e = rw (tdcs-spot v t i z.tdcs (z.root ∷ []) z.list z.tdcs_page, e) (inr (inl (tdr-held, (op-held, tt))))
+
+  owes-tdcs : (i : ℕ) → or_unused (in_lines (tdcs_classes (is_current v' t) (is_empty v' t)) i) ≡ TdcsWord → Owes (hold c both) v' (place.Word z.tdcs i) KeepsNothing
+  owes-tdcs i e = rw (tdcs-spot v' t i z.tdcs (z.root ∷ []) z.list (record { kind = z.tdcs_page.kind; owner = z.tdcs_page.owner }), e) (inr (inl (tdr-held, (op-alone, tt))))
+
+  may-swap : MayAt (hold c both) (slot_of (key_owner (v.key_table.keys hkid))) (λ k. Rattle.word_rules.specs.Rules.writes k KeepsNothing)
+  may-swap = rw (la.keys.owner t x.alive) (inl (tdr-held, (op-alone, tt)))
+
+  may-change : MayChange m (hold c both) v v' c.memory (end_changes z.tdcs hkid)
+  may-change = (
+    (range, may-swap),
+    (
+      ((z.tdcs_in, omega arith), owes-tdcs 64 refl),
+      (
+        ((z.tdcs_in, omega arith), owes-tdcs 65 refl),
+        (
+          ((z.tdcs_in, omega arith), owes-tdcs 66 refl),
+          (
+            ((z.tdcs_in, omega arith), owes-tdcs 67 refl),
+            (
+              ((z.tdcs_in, omega arith), owes-tdcs 68 refl),
+              (
+                ((z.tdcs_in, omega arith), owes-tdcs 69 refl),
+                (((z.tdcs_in, omega arith), (KeepsNothing, owes-tdcs 4 refl, tt)), tt),
+              ),
+            ),
+          ),
+        ),
+      ),
+    ),
+  )
+
+  abbrev ready : List ℕ → Bool
+  ready vs = list_all (λ p. same_vp_state (v.vps.states p) vcpu.Ready) vs
+
+  ended : ready (v.tds.vps t) ≡ true → Means m c work both (acts (Done value.Nothing) (end_changes z.tdcs hkid)) []
+  ended all = (
+    record {
+      reply_is = refl;
+      fills_allowed = tt;
+      respects = rows-respect (opening m) 0 (call.MrFinalize t) (hold c both) v la (in_page, (rw x.alive.kind refl, (rw x.configured refl, (x.two, (x.op, (all, tt))))))
+          (tdr-held, ((op-held, op-alone), tt));
+      locks_stay = ((refl, λ a. record { alive = record { kind = a.alive.kind; life = a.alive.life }; has_tdcs = a.has_tdcs }), ((refl, λ a. a), tt));
+      shows = finalized m c.state c.memory t sh la empty x;
+    },
+    may-change,
+  )
+
+  ends : ready (v.tds.vps t) ≡ true → Means m c work both (acts (Done value.Nothing) (final_changes m z.tdcs hkid)) []
+  ends all = subst (λ (b : Bool). Means m c work both (acts (Done value.Nothing) (changes_where b (end_changes z.tdcs hkid))) []) (sym (hkid-in m hkid range)) (ended all)
+
+  abbrev last : Tree
+  last = acts (Done value.Nothing) (final_changes m x.controls.tdcs (c.state.world.tds.hkids t))
+
+  vp-said : (k p : ℕ) → k < 8 → slice_get (v.tds.vps t) k ≡ Some p → c.memory.words (place.Word z.tdcs (40 + k)) ≡ p
+  vp-said k p b e = subst (λ (o : Option ℕ). IsAs o (c.memory.words (place.Word z.tdcs (40 + k)))) (vp-line v (lock_word c.state.lps c.state.lp_count) t k b ∙ e)
+      (tdcs-shown m c.memory.words c.memory.slots c.state sh t (40 + k) z.tdcs (z.root ∷ []) z.list z.tdcs_page x.alive.life z.tdcs_in (omega (arith, b)))
+
+  state-said : (p : ℕ) → IsPageOf v.pages t p kind.Tdvpr → p < m.pages → c.memory.words (place.Word p 1) ≡ vcpu_number (v.vps.states p)
+  state-said p its b = rw (its.kind, its.owner, x.alive.life) at (sh.word (place.Word p 1) (b, omega arith))
+
+  vp-spot : (p : ℕ) → IsPageOf v.pages t p kind.Tdvpr → spot v (place.Word p 1) ≡ record { class = or_unused (in_lines vp_classes 1); td = t; page = p; named = no_page }
+  vp-spot p its = rw (its.kind, its.owner) refl
+
+  reads-state : (p : ℕ) → IsPageOf v.pages t p kind.Tdvpr → Reads (hold c both) v (place.Word p 1) Whole
+  reads-state p its = rw (vp-spot p its) (inr (inl (tdr-held, (op-alone, tt))))
+
+  -- the virtual processors from that number on
+  vps-mean : (rest : List ℕ) (number : ℕ) (so_far : Bool) → number + length rest ≤ 8 → ArePagesOf v.pages t kind.Tdvpr rest → ((i : ℕ) → slice_get (v.tds.vps t) (number + i) ≡ slice_get rest i)
+      → (so_far && ready rest) ≡ ready (v.tds.vps t) → Means m c work both (vps_tree m.pages z.tdcs number (length rest) so_far last) (vps_ready v t ∷ [])
+  vps-mean [] number so_far few its at all = (sym (and-true so_far) ∙ all, λ e. refl, λ e. ends e)
+  vps-mean (p ∷ ps) number so_far few its at all =
+      let base : number + 0 ≡ number = omega arith in
+      let small : number < 8 = omega (arith, few) in
+      let said : c.memory.words (place.Word z.tdcs (40 + number)) ≡ p = vp-said number p small (ap (slice_get (v.tds.vps t)) (sym base) ∙ at 0) in
+      let p_in : p < m.pages = page-in m v t p kind.Tdvpr la its.0 refl in
+      let state : c.memory.words (place.Word p 1) ≡ vcpu_number (v.vps.states p) = state-said p its.0 p_in in (
+        (z.tdcs_in, omega (arith, small)),
+        inl (reads-tdcs (40 + number) (vp-class (is_current v t) (is_empty v t) number small)),
+        subst (λ (a : ℕ). Means m c work both (Load Whole (place.Word (page_told m.pages a) 1) (λ b. vps_tree m.pages z.tdcs (suc number) (length ps) (so_far && b == vcpu_number vcpu.Ready) last)) (vps_ready v t ∷ [])) (sym said)
+            (subst (λ (a : ℕ). Means m c work both (Load Whole (place.Word a 1) (λ b. vps_tree m.pages z.tdcs (suc number) (length ps) (so_far && b == vcpu_number vcpu.Ready) last)) (vps_ready v t ∷ [])) (sym (page-back m.pages p p_in)) (
+              (p_in, omega arith),
+              inl (reads-state p its.0),
+              subst (λ (a : ℕ). Means m c work both (vps_tree m.pages z.tdcs (suc number) (length ps) (so_far && a == vcpu_number vcpu.Ready) last) (vps_ready v t ∷ [])) (sym state)
+                  (vps-mean ps (suc number) (so_far && same_vp_state (v.vps.states p) vcpu.Ready) (omega (arith, few)) its.1
+                  (λ i. (let more : suc number + i ≡ number + suc i = omega arith in ap (slice_get (v.tds.vps t)) more ∙ at (suc i)))
+                  (and-more so_far (same_vp_state (v.vps.states p) vcpu.Ready) (ready ps) ∙ all)),
+            )),
+      )
+
+  from-zero : (n : ℕ) → 0 + n ≡ n
+  from-zero n = omega arith
+
+  ready-means : Means m c work both (ready_tree m.pages t z.tdcs (λ k. acts (Done value.Nothing) (final_changes m z.tdcs k))) (vps_ready v t ∷ [])
+  ready-means =
+      let key : c.memory.words (place.Word t 1) ≡ hkid = tdr-shown m c.memory.words c.memory.slots c.state sh t 1 x.alive.kind x.own its-in (omega arith) in
+      let count : c.memory.words (place.Word z.tdcs 15) ≡ length (v.tds.vps t) = tdcs-shown m c.memory.words c.memory.slots c.state sh t 15 z.tdcs (z.root ∷ []) z.list z.tdcs_page x.alive.life z.tdcs_in (omega arith) in
+      let few : length (v.tds.vps t) ≤ 8 = la.tds.vps_few t in (
+        (its-in, omega arith),
+        inl (rw (tdr-spot v t 1 x.alive.kind x.own) (inl (tdr-held, tt))),
+        (
+          (z.tdcs_in, omega arith),
+          inl (reads-tdcs 15 refl),
+          subst (λ (a : ℕ). Means m c work both (vps_tree m.pages z.tdcs 0 (vps_told (c.memory.words (place.Word z.tdcs 15))) true (acts (Done value.Nothing) (final_changes m z.tdcs a))) (vps_ready v t ∷ [])) (sym key)
+              (subst (λ (n : ℕ). Means m c work both (vps_tree m.pages z.tdcs 0 n true last) (vps_ready v t ∷ [])) (sym (ap vps_told count ∙ few-told (length (v.tds.vps t)) few))
+              (vps-mean (v.tds.vps t) 0 true (omega (arith, few)) (la.tds.vps t x.alive) (λ i. ap (slice_get (v.tds.vps t)) (from-zero i)) refl)),
+        ),
+      )
+
+pub finalize-means : (p : Place) (t : ℕ) → MeansRow (finalize_task p t)
+finalize-means p t = record {
+  enters_none = refl;
+  means = λ c at. (
+    refl,
+    λ e. refl,
+    λ a. td-head-means p.machine c (work_of (OfCall (finalize p.machine t))) t (ltb-true t p.machine.pages a) at.lawful at.shown Exclusive initialized
+        (λ td. ready_tree p.machine.pages t td.tdcs (λ k. acts (Done value.Nothing) (final_changes p.machine td.tdcs k))) (vps_ready c.state.world t ∷ [])
+        (λ x. ready-means p.machine c t a at.lawful at.shown at.empty_hand x),
+  );
+}
