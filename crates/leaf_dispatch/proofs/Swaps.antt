@@ -1,7 +1,9 @@
 -- Each call's leaf exchanges a hasher by its act alone.
-use Rattle.std.proofs.Common.{◌≡◌, ℕ, zero, suc, Bool, true, false, ◌==◌, List, [], ◌∷◌, ◌++◌, refl}
+use Rattle.std.proofs.Common.{if◌then◌else◌, ◌≡◌, ℕ, zero, suc, Bool, true, false, ◌==◌, List, [], ◌∷◌, ◌++◌, refl}
 use Rattle.td_words.specs.declared.machines.Machine.{Machine}
 use Rattle.td_words.specs.declared.replies.Reply.{Reply}
+use Rattle.td_words.specs.declared.replies.Reply.TheVariants.{Done}
+use Rattle.td_words.specs.declared.replies.Value.TheVariants as value
 use Rattle.td_words.specs.declared.calls.Call.{Call}
 use Rattle.td_words.specs.declared.calls.Call.TheVariants as call
 use Rattle.td_words.specs.declared.names.ReadField.{ReadField}
@@ -10,11 +12,15 @@ use Rattle.word_rules.specs.Views.{look}
 use Rattle.leaf_engine.specs.declared.needs.Place.{Place}
 use Rattle.leaf_engine.specs.Changes.{Change, Put, Raise, PutHash, Clear, Copy, Swap, has_no_swap}
 use Rattle.leaf_engine.specs.Trees.{Tree, Lock, Load, Test, End, Since, acts, feed, swaps_as_act}
-use Rattle.first_leaves.specs.Words.{says_host}
+use Rattle.leaf_parts.specs.Words.{says_host, page_told}
 use Rattle.first_leaves.specs.HostTrees.{read_word}
+use Rattle.td_words.specs.Place as place
 use Rattle.key_table.specs.CacheTrees.{mark_keys}
+use Rattle.key_table.specs.Words.{marked}
+use Rattle.td_control.specs.InitTrees.{is_hkid, begin_changes, begin_tree}
 use Rattle.key_table.specs.FlushTrees.{count_vps, flush_vps}
 use Rattle.key_table.specs.ReclaimTrees.{reclaim_rest}
+use Rattle.td_control.proofs.FinalSwaps.{finalize-swaps}
 use Rattle.leaf_dispatch.specs.Table.{task_of}
 
 -- whatever a tree is told, a hasher is exchanged by its act alone
@@ -25,7 +31,7 @@ SwapsAsAct (Test b r t) = SwapsAsAct t
 SwapsAsAct (End r fs cs) = swaps_as_act (End r fs cs) ≡ true
 SwapsAsAct (Since r cs) = swaps_as_act (Since r cs) ≡ true
 
-pub fed-swaps : (t : Tree) (told : List ℕ) → SwapsAsAct t → swaps_as_act (feed t told) ≡ true
+fed-swaps : (t : Tree) (told : List ℕ) → SwapsAsAct t → swaps_as_act (feed t told) ≡ true
 fed-swaps (Lock l q m t) [] well = refl
 fed-swaps (Lock l q m t) (x ∷ xs) well = fed-swaps t xs well
 fed-swaps (Load v q k) [] well = refl
@@ -59,8 +65,8 @@ acts-alone r (Copy p q ∷ cs) none = none
 acts-alone r (Swap h made ∷ cs) none = cc
 
 mark-swaps : (number left : ℕ) (cs : List Change) → has_no_swap cs ≡ true → SwapsAsAct (mark_keys number left cs)
-mark-swaps number zero cs none = acts-alone _ cs none
-mark-swaps number (suc left) cs none = λ key. mark-swaps (suc number) left _ (one-more cs _ none refl)
+mark-swaps number zero cs none = acts-alone (Done value.Nothing) cs none
+mark-swaps number (suc left) cs none = λ key. mark-swaps (suc number) left (cs ++ Put (place.Key number) (marked key) ∷ []) (one-more cs (Put (place.Key number) (marked key)) none refl)
 
 count-swaps : (m : Machine) (t tdcs number left associated : ℕ) → SwapsAsAct (count_vps m t tdcs number left associated)
 count-swaps m t tdcs number zero associated = λ hkid. refl
@@ -74,22 +80,26 @@ reclaim-swaps : (t page : ℕ) (same : Bool) → SwapsAsAct (reclaim_rest t page
 reclaim-swaps t page true = λ children. refl
 reclaim-swaps t page false = λ pamt children. refl
 
-pub ends-swap : (p : Place) (c : Call) → SwapsAsAct (task_of p c).tree
-ends-swap p (call.HostRead page word) = λ pamt. read-swaps page word (says_host pamt)
-ends-swap p (call.HostWrite page word value) = λ pamt. refl
-ends-swap p (call.PhymemPageRdmd page) = λ pamt. refl
-ends-swap p call.PhymemCacheWb = mark-swaps _ p.machine.hkids [] refl
-ends-swap p (call.PhymemPageReclaim tdr page) = λ pamt life. reclaim-swaps tdr page (page == tdr)
-ends-swap p (call.MngCreate tdr hkid) = λ pamt key. refl
-ends-swap p (call.MngKeyConfig tdr) = λ pamt life. refl
-ends-swap p (call.MngAddcx tdr page) = λ pamt life count host children. refl
-ends-swap p (call.MngInit tdr) = λ pamt life count tdcs op. refl
-ends-swap p (call.MngRd tdr field.Life) = λ pamt life. refl
-ends-swap p (call.MngRd tdr field.Op) = λ pamt life count tdcs op. refl
-ends-swap p (call.MngRd tdr field.Epoch) = λ pamt life count tdcs op epoch. refl
-ends-swap p (call.MngRd tdr field.Mrtd) = λ pamt life count tdcs op a b c d e f. refl
-ends-swap p (call.MngVpflushdone tdr) = λ pamt life count. flush-swaps p.machine tdr (count == 2)
-ends-swap p (call.MngKeyFreeid tdr) = λ pamt life hkid key. refl
-ends-swap p (call.MrFinalize tdr) = λ pamt life count tdcs op. refl
-ends-swap p (call.VpCreate tdr page) = λ pamt life count tdcs op vps expected host children. refl
-ends-swap p (call.VpInit tdr vp value) = λ pamt life count tdcs op host state. refl
+where-begins : (b : Bool) (tdcs hkid : ℕ) → SwapsAsAct (acts (Done value.Nothing) (if b then begin_changes tdcs hkid else []))
+where-begins true tdcs hkid = refl
+where-begins false tdcs hkid = refl
+
+pub swaps : (p : Place) (c : Call) (told : List ℕ) → swaps_as_act (feed (task_of p c).tree told) ≡ true
+swaps p (call.HostRead page word) told = fed-swaps (task_of p (call.HostRead page word)).tree told (λ pamt. read-swaps page word (says_host pamt))
+swaps p (call.HostWrite page word value) told = fed-swaps (task_of p (call.HostWrite page word value)).tree told (λ pamt. refl)
+swaps p (call.PhymemPageRdmd page) told = fed-swaps (task_of p (call.PhymemPageRdmd page)).tree told (λ pamt. refl)
+swaps p call.PhymemCacheWb told = fed-swaps (task_of p call.PhymemCacheWb).tree told (mark-swaps _ p.machine.hkids [] refl)
+swaps p (call.PhymemPageReclaim tdr page) told = fed-swaps (task_of p (call.PhymemPageReclaim tdr page)).tree told (λ pamt life. reclaim-swaps tdr page (page == tdr))
+swaps p (call.MngCreate tdr hkid) told = fed-swaps (task_of p (call.MngCreate tdr hkid)).tree told (λ pamt key. refl)
+swaps p (call.MngKeyConfig tdr) told = fed-swaps (task_of p (call.MngKeyConfig tdr)).tree told (λ pamt life. refl)
+swaps p (call.MngAddcx tdr page) told = fed-swaps (task_of p (call.MngAddcx tdr page)).tree told (λ pamt life count host children. refl)
+swaps p (call.MngInit tdr) told = fed-swaps (task_of p (call.MngInit tdr)).tree told (λ pamt life count tdcs op hkid. where-begins (is_hkid p.machine hkid) (page_told p.machine.pages tdcs) hkid)
+swaps p (call.MngRd tdr field.Life) told = fed-swaps (task_of p (call.MngRd tdr field.Life)).tree told (λ pamt life. refl)
+swaps p (call.MngRd tdr field.Op) told = fed-swaps (task_of p (call.MngRd tdr field.Op)).tree told (λ pamt life count tdcs op. refl)
+swaps p (call.MngRd tdr field.Epoch) told = fed-swaps (task_of p (call.MngRd tdr field.Epoch)).tree told (λ pamt life count tdcs op epoch. refl)
+swaps p (call.MngRd tdr field.Mrtd) told = fed-swaps (task_of p (call.MngRd tdr field.Mrtd)).tree told (λ pamt life count tdcs op a b c d e f. refl)
+swaps p (call.MngVpflushdone tdr) told = fed-swaps (task_of p (call.MngVpflushdone tdr)).tree told (λ pamt life count. flush-swaps p.machine tdr (count == 2))
+swaps p (call.MngKeyFreeid tdr) told = fed-swaps (task_of p (call.MngKeyFreeid tdr)).tree told (λ pamt life hkid key. refl)
+swaps p (call.MrFinalize tdr) told = finalize-swaps p tdr told
+swaps p (call.VpCreate tdr page) told = fed-swaps (task_of p (call.VpCreate tdr page)).tree told (λ pamt life count tdcs op vps expected host children. refl)
+swaps p (call.VpInit tdr vp value) told = fed-swaps (task_of p (call.VpInit tdr vp value)).tree told (λ pamt life count tdcs op host state. refl)

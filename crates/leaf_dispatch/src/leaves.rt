@@ -24,11 +24,11 @@ pub enum AnyLeaf {
     Create(Planned<Create>),
     KeyConfig(Planned<KeyConfig>),
     AddCx(Planned<AddCx>),
-    Init(Planned<Init>),
+    Init(Init),
     Rd(Planned<Rd>),
     FlushDone(Planned<FlushDone>),
     FreeId(Planned<FreeId>),
-    Finalize(Planned<Finalize>),
+    Finalize(Finalize),
     VpCreate(Planned<VpCreate>),
     VpInit(Planned<VpInit>),
 }
