@@ -1,5 +1,6 @@
 pub mod Lowering
 pub mod Turning
 pub mod Keeping
+pub mod Tries
 pub mod Swaps
 pub mod Calls

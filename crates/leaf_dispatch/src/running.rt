@@ -37,6 +37,7 @@ pub fn present_run(kept: &mut Option<Running>, place: Place, call: &Call) -> Run
 }
 
 /// The run of a call at its first event.
+#[tactic(auto, using(crate::proofs::Tries::few_tries))]
 fn begin(place: Place, call: &Call) -> Running
     requires { IsMachine place.machine }
     ensures stands { standing_of result ≡ running (task_of place call.now) None }

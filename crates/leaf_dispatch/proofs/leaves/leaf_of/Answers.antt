@@ -1,0 +1,9 @@
+use Rattle.std.proofs.Common.{◌≡◌, ◌∙◌, sym, ap}
+use Rattle.leaf_dispatch.specs.Table.{task_of}
+use Rattle.leaf_dispatch.proofs.leaves.leaf_of.Goals as goal
+
+pub returns-in-VpCreate-clause-task : goal.returns-in-VpCreate-clause-task
+returns-in-VpCreate-clause-task c = c.leaf-in-VpCreate.ensures.task ∙ sym (ap (task_of c.args.place) c.in-VpCreate.is)
+
+pub returns-in-VpInit-clause-task : goal.returns-in-VpInit-clause-task
+returns-in-VpInit-clause-task c = c.leaf-in-VpInit.ensures.task ∙ sym (ap (task_of c.args.place) c.in-VpInit.is)
