@@ -22,7 +22,7 @@ use Rattle.leaf_dispatch.specs.Table.{task_of}
 use Rattle.leaf_dispatch.specs.Laws.{CallsHaveLeaves}
 use Rattle.leaf_dispatch.proofs.Swaps.{swaps}
 
-of-place : (p : Place) (c : Call) → (task_of p c).place ≡ p
+pub of-place : (p : Place) (c : Call) → (task_of p c).place ≡ p
 of-place p (call.HostRead page word) = refl
 of-place p (call.HostWrite page word value) = refl
 of-place p (call.PhymemPageRdmd page) = refl

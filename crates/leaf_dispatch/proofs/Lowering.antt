@@ -27,7 +27,7 @@ few-more a b (Test c r t) le few = few-more a b t le few
 few-more a b (End r fs cs) le few = tt
 few-more a b (Since r cs) le few = tt
 
-few-fed : (n : ℕ) (t : Tree) (xs : List ℕ) → TriesAtMost n t → TriesAtMost n (feed t xs)
+pub few-fed : (n : ℕ) (t : Tree) (xs : List ℕ) → TriesAtMost n t → TriesAtMost n (feed t xs)
 few-fed n (Lock l q m t) [] few = few
 few-fed n (Lock l q m t) (x ∷ xs) few = few-more (n - 1) n (feed t xs) (omega arith) (few-fed (n - 1) t xs few.1)
 few-fed n (Load v q k) [] few = few
