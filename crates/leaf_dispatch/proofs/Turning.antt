@@ -11,9 +11,13 @@ use Rattle.leaf_engine.specs.declared.events.HeldLock.{HeldLock}
 use Rattle.leaf_engine.specs.declared.events.Stage.{Stage}
 use Rattle.leaf_engine.specs.declared.events.Stage.TheVariants as stages
 use Rattle.leaf_engine.specs.Means.{Task}
-use Rattle.leaf_engine.specs.Turns.{Standing, Turned, has_ended, last_reply}
+use Rattle.leaf_engine.specs.declared.needs.Place.{Place}
+use Rattle.leaf_engine.specs.Turns.{Standing, has_ended, last_reply}
 use Rattle.leaf_engine.specs.OwnLists.{Piece, taken_in, TurnIn, TurnsInPieces, WordLp, running, after_turn, LpTurns}
-use Rattle.leaf_dispatch.specs.Bounds.{FewTries, stage_left, left_of, events_left}
+use Rattle.leaf_dispatch.specs.Bounds.{stage_left, left_of, events_left}
+use Rattle.leaf_dispatch.specs.Table.{task_of}
+use Rattle.leaf_dispatch.specs.Running.{run_seen, kept_after, CallTurned}
+use Rattle.leaf_dispatch.specs.declared.running.Running.{Running}
 use Rattle.leaf_dispatch.proofs.Lowering.{Lowers, turn-lowers}
 
 -- a call that goes on has something left to do
@@ -44,46 +48,47 @@ pub record Moved {B : Type 0} (did : List Taken → B → Type 0) (bench : B) (l
   pub fewer : events_left q < events_left p
 
 -- from the lines on: a turn of the run of the first
-lines-move : TurnsInPieces → {B : Type 0} (did : List Taken → B → Type 0) (bench : B) (leaf : Call → Task) (m : Machine) (c : Call) (cs : List Call) (run : Option Standing) (rs : List Reply) (s s' : Standing) (q : WordLp) (result : RunTurn)
-    → s ≡ running (leaf c) run → has_ended s.stage s.held ≡ false → FewTries (most_tries c) s → Turned did m s bench s' result → q ≡ after_turn c cs rs s' result.reply
-    → Moved did bench leaf m (record { lines = c ∷ cs; run = run; replies = rs }) q result
-lines-move law did bench leaf m c cs run rs s s' q result is going few t after =
-    let told = law.told m s s' t.0 result t.2 in
-    let lower : Lowers (most_tries c) s s' = turn-lowers m (most_tries c) s s' t.0 result.event few t.2.turn in
-    let before : stage_left (most_tries c) s.stage (length s.held) + events_in cs ≡ left_of (c ∷ cs) run =
-    ap (λ (z : Standing). stage_left (most_tries c) z.stage (length z.held) + events_in cs) is ∙ sym (bound-before leaf c cs run) in
-    let left : events_left q ≡ events_left (after_turn c cs rs s' result.reply) = ap events_left after in
+lines-move : TurnsInPieces → {B : Type 0} (did : List Taken → B → Type 0) (bench : B) (p : Place) (c : Call) (cs : List Call) (run : Option Standing) (rs : List Reply) (kept : Option Running) (q : WordLp) (result : RunTurn)
+    → (t : CallTurned did p c run bench kept result) → q ≡ after_turn c cs rs t.stands result.reply
+    → Moved did bench (task_of p) p.machine (record { lines = c ∷ cs; run = run; replies = rs }) q result
+lines-move law did bench p c cs run rs kept q result t after =
+    let s = running (task_of p c) run in
+    let told = law.told p.machine s t.stands t.turned.0 result t.turned.2 in
+    let lower : Lowers (most_tries c) s t.stands = turn-lowers p.machine (most_tries c) s t.stands t.turned.0 result.event t.few_tries t.turned.2.turn in
+    let left : events_left q ≡ events_left (after_turn c cs rs t.stands result.reply) = ap events_left after in
     record {
       pieces = told.0;
-      did_them = subst (λ (zs : List Taken). did zs bench) (sym told.2) t.1;
+      did_them = subst (λ (zs : List Taken). did zs bench) (sym told.2) t.turned.1;
       turn = record {
-        stands = s';
-        turn = subst (λ (z : Standing). TurnIn z.stage m z told.0 s' result.event) is told.1;
-        going = subst (λ (z : Standing). has_ended z.stage z.held ≡ false) is going;
-        after_is = after ∙ ap (after_turn c cs rs s') t.2.reply;
+        stands = t.stands;
+        turn = told.1;
+        going = t.going;
+        after_is = after ∙ ap (after_turn c cs rs t.stands) t.turned.2.reply;
       };
-      fewer = rw (left, ← before) (bound-after c cs rs s' result.reply (stage_left (most_tries c) s.stage (length s.held)) lower.fewer);
+      fewer = rw (left, bound-before (task_of p) c cs run) (bound-after c cs rs t.stands result.reply (stage_left (most_tries c) s.stage (length s.held)) lower.fewer);
     }
 
-lp-moves : TurnsInPieces → {B : Type 0} (did : List Taken → B → Type 0) (bench : B) (leaf : Call → Task) (m n : Machine) (c : Call) (cs : List Call) (s s' : Standing) (p q : WordLp) (result : RunTurn)
-    → p.lines ≡ c ∷ cs → s ≡ running (leaf c) p.run → has_ended s.stage s.held ≡ false → FewTries (most_tries c) s → m ≡ n → Turned did n s bench s' result → q ≡ after_turn c cs p.replies s' result.reply
-    → Moved did bench leaf m p q result
-lp-moves law did bench leaf m n c cs s s' p q result lines is going few at t after =
-    subst (λ (z : List Call). Moved did bench leaf m (record { lines = z; run = p.run; replies = p.replies }) q result) (sym lines)
-    (lines-move law did bench leaf m c cs p.run p.replies s s' q result is going few (subst (λ (z : Machine). Turned did z s bench s' result) (sym at) t) after)
+lp-moves : TurnsInPieces → {B : Type 0} (did : List Taken → B → Type 0) (bench : B) (p : Place) (c : Call) (cs : List Call) (l q : WordLp) (kept : Option Running) (result : RunTurn)
+    → l.lines ≡ c ∷ cs → (t : CallTurned did p c l.run bench kept result) → q ≡ after_turn c cs l.replies t.stands result.reply
+    → Moved did bench (task_of p) p.machine l q result
+lp-moves law did bench p c cs l q kept result lines t after =
+    subst (λ (z : List Call). Moved did bench (task_of p) p.machine (record { lines = z; run = l.run; replies = l.replies }) q result) (sym lines)
+    (lines-move law did bench p c cs l.run l.replies kept q result t after)
 
 -- a call that goes on, and one that has its reply
 
-pub call-goes-on : TurnsInPieces → {B : Type 0} (did : List Taken → B → Type 0) (bench : B) (leaf : Call → Task) (m n : Machine) (c : Call) (cs : List Call) (s s' : Standing) (p : WordLp) (result : RunTurn)
-    → p.lines ≡ c ∷ cs → s ≡ running (leaf c) p.run → has_ended s.stage s.held ≡ false → FewTries (most_tries c) s → m ≡ n → Turned did n s bench s' result → result.reply ≡ None
-    → Moved did bench leaf m p (record { lines = p.lines; run = Some s'; replies = p.replies }) result
-call-goes-on law did bench leaf m n c cs s s' p result lines is going few at t none =
-    lp-moves law did bench leaf m n c cs s s' p _ result lines is going few at t
-    (ap (λ (z : List Call). record { lines = z; run = Some s'; replies = p.replies }) lines ∙ sym (ap (after_turn c cs p.replies s') none))
+pub lp-goes-on : TurnsInPieces → {B : Type 0} (did : List Taken → B → Type 0) (bench : B) (p : Place) (c : Call) (cs : List Call) (l : WordLp) (kept : Option Running) (result : RunTurn)
+    → l.lines ≡ c ∷ cs → CallTurned did p c l.run bench kept result → result.reply ≡ None
+    → Moved did bench (task_of p) p.machine l (record { lines = l.lines; run = run_seen kept; replies = l.replies }) result
+lp-goes-on law did bench p c cs l kept result lines t none =
+    lp-moves law did bench p c cs l _ kept result lines t
+    (ap (λ (z : List Call). record { lines = z; run = run_seen kept; replies = l.replies }) lines
+    ∙ (ap (λ (z : Option Standing). record { lines = c ∷ cs; run = z; replies = l.replies }) (t.seen ∙ ap (λ (z : Option Reply). kept_after z t.stands) none) ∙ sym (ap (after_turn c cs l.replies t.stands) none)))
 
-pub call-is-over : TurnsInPieces → {B : Type 0} (did : List Taken → B → Type 0) (bench : B) (leaf : Call → Task) (m n : Machine) (c : Call) (cs : List Call) (s s' : Standing) (p : WordLp) (result : RunTurn) (reply : Reply) (run : Option Standing) (replies : List Reply)
-    → p.lines ≡ c ∷ cs → s ≡ running (leaf c) p.run → has_ended s.stage s.held ≡ false → FewTries (most_tries c) s → m ≡ n → Turned did n s bench s' result → result.reply ≡ Some reply → run ≡ None → replies ≡ p.replies ++ reply ∷ []
-    → Moved did bench leaf m p (record { lines = cs; run = run; replies = replies }) result
-call-is-over law did bench leaf m n c cs s s' p result reply run replies lines is going few at t some none more =
-    lp-moves law did bench leaf m n c cs s s' p _ result lines is going few at t
-    (ap (λ (z : Option Standing). record { lines = cs; run = z; replies = replies }) none ∙ (ap (λ (z : List Reply). record { lines = cs; run = None; replies = z }) more ∙ sym (ap (after_turn c cs p.replies s') some)))
+pub lp-has-reply : TurnsInPieces → {B : Type 0} (did : List Taken → B → Type 0) (bench : B) (p : Place) (c : Call) (cs : List Call) (l : WordLp) (kept : Option Running) (result : RunTurn) (reply : Reply) (replies : List Reply)
+    → l.lines ≡ c ∷ cs → CallTurned did p c l.run bench kept result → result.reply ≡ Some reply → replies ≡ l.replies ++ reply ∷ []
+    → Moved did bench (task_of p) p.machine l (record { lines = cs; run = run_seen kept; replies = replies }) result
+lp-has-reply law did bench p c cs l kept result reply replies lines t some more =
+    lp-moves law did bench p c cs l _ kept result lines t
+    (ap (λ (z : Option Standing). record { lines = cs; run = z; replies = replies }) (t.seen ∙ ap (λ (z : Option Reply). kept_after z t.stands) some)
+    ∙ (ap (λ (z : List Reply). record { lines = cs; run = None; replies = z }) more ∙ sym (ap (after_turn c cs l.replies t.stands) some)))

@@ -119,7 +119,9 @@ pub fn leaf_of(place: Place, call: &Call) -> AnyLeaf
 {
     match *call {
         Call::HostRead { page, word } => AnyLeaf::HostRead(HostRead::leaf(place, page, word)),
-        Call::HostWrite { page, word, value } => AnyLeaf::HostWrite(HostWrite::leaf(place, page, word, value)),
+        Call::HostWrite { page, word, value } => AnyLeaf::HostWrite(HostWrite::leaf(
+            place, page, word, value,
+        )),
         Call::PhymemPageRdmd { page } => AnyLeaf::Rdmd(Rdmd::leaf(place, page)),
         Call::PhymemCacheWb => AnyLeaf::CacheWb(CacheWb::leaf(place)),
         Call::PhymemPageReclaim { tdr, page } => AnyLeaf::Reclaim(Reclaim::leaf(place, tdr, page)),

@@ -4,10 +4,11 @@ ghost use Rattle.std.specs.Prelude.{◌≡◌, None};
 ghost use Rattle.flat_core.specs.Opening.{IsMachine};
 ghost use Rattle.leaf_engine.specs.OwnLists.{running};
 ghost use Rattle.leaf_dispatch.specs.Table.{task_of};
-ghost use Rattle.leaf_dispatch.specs.Running.{standing_of, run_seen, IsUnderWay, IsRunOf};
+ghost use Rattle.leaf_dispatch.specs.Running.{standing_of, run_seen, IsUnderWay, IsRunOf, IsBegun, CanTurn, HasTurned, CallTurned};
 
 use crate::leaves::{AnyLeaf, leaf_of};
-use leaf_engine::{Place, Run};
+use leaf_engine::{Place, Run, RunTurn};
+use step_core::Bench;
 use td_words::Call;
 
 /// A run of any leaf, which may be given up.
@@ -22,17 +23,48 @@ impl Drop for Running {
     }
 }
 
-/// The run of a call, which is taken out of where it is kept, or begins.
-pub fn present_run(kept: &mut Option<Running>, place: Place, call: &Call) -> Running
+/// The next turn of a call's run, which is kept until its reply comes, and begins where none is kept.
+pub fn turn_call<B: Bench>(
+    kept: &mut Option<Running>,
+    place: Place,
+    call: &Call,
+    bench: &mut B,
+) -> RunTurn
+    requires machine { IsMachine place.machine }
+    requires at { place.machine ≡ B.machine bench.old }
+    requires under_way { IsRunOf place.machine call.now kept.old }
+    ensures turned { CallTurned (B.did bench.old) place call.now (run_seen kept.old) bench.new kept.new result }
+    ensures machine { B.machine bench.new ≡ B.machine bench.old }
+{
+    begin_where_none(kept, place, call);
+    let turn = turn_kept(kept, bench);
+    if let Some(_) = turn.reply {
+        *kept = None;
+    }
+    turn
+}
+
+// Where no run is kept, that of a call begins.
+fn begin_where_none(kept: &mut Option<Running>, place: Place, call: &Call)
     requires machine { IsMachine place.machine }
     requires under_way { IsRunOf place.machine call.now kept.old }
-    ensures stands { standing_of result ≡ running (task_of place call.now) (run_seen kept.old) }
-    ensures under_way { IsUnderWay place.machine call.now result }
-    ensures taken { kept.new ≡ None }
+    ensures { IsBegun place call.now (run_seen kept.old) kept.new }
 {
-    match kept.take() {
-        Some(running) => running,
-        None => begin(place, call),
+    match kept {
+        Some(_) => (),
+        None => *kept = Some(begin(place, call)),
+    }
+}
+
+// The next turn of a run that is kept.
+fn turn_kept<B: Bench>(kept: &mut Option<Running>, bench: &mut B) -> RunTurn
+    requires { CanTurn (B.machine bench.old) kept.old }
+    ensures turned { HasTurned (B.did bench.old) (B.machine bench.old) kept.old bench.new kept.new result }
+    ensures machine { B.machine bench.new ≡ B.machine bench.old }
+{
+    match kept {
+        Some(Running { run }) => run.turn(bench),
+        None => unreachable!(),
     }
 }
 

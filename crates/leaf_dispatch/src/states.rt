@@ -5,7 +5,7 @@ ghost use Rattle.flat_core.specs.Opening.{IsMachine};
 ghost use Rattle.leaf_dispatch.specs.Running.{IsRunAt};
 ghost use Rattle.leaf_dispatch.specs.Kept.{IsRunAt-prop};
 
-use crate::running::{Running, present_run};
+use crate::running::{Running, turn_call};
 use leaf_engine::{Place, Processor, RunTurn, Turn, turns_in_pieces};
 use std::alloc::Global;
 use step_core::Bench;
@@ -79,16 +79,12 @@ impl<'a> Processor for LpState<'a> {
         };
         // The law that the run's turn can be told in pieces.
         turns_in_pieces();
-        let mut running = present_run(&mut self.run, self.place, call);
-        let RunTurn { event, reply } = running.run.turn(bench);
-        match reply {
-            None => self.run = Some(running),
-            Some(reply) => {
-                let Ok(()) = self.replies.push(reply) else {
-                    unreachable!()
-                };
-                self.lines = further;
-            }
+        let RunTurn { event, reply } = turn_call(&mut self.run, self.place, call, bench);
+        if let Some(reply) = reply {
+            let Ok(()) = self.replies.push(reply) else {
+                unreachable!()
+            };
+            self.lines = further;
         }
         Turn::Moved(event)
     }
