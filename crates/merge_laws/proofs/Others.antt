@@ -16,7 +16,7 @@ use Rattle.word_rules.specs.Guards.{Grip, Apart}
 use Rattle.word_rules.specs.Rules.{View, Whole, Grade}
 use Rattle.word_rules.specs.Views.{look}
 use Rattle.word_rules.specs.Permissions.{Reads, Owes, Fills, Respects, NoLaterConflict}
-use Rattle.lock_words.specs.LockWords.{place_of, Stands as LockStands, HeldStand, UndoStands, GuestStands, LocksStand}
+use Rattle.lock_words.specs.LockWords.{HeldStand, UndoStands, GuestStands, LocksStand}
 use Rattle.step_core.specs.Items.{Table}
 use Rattle.lock_words.specs.Grips.{HoldTdrs, HoldsTdr, UndoTdr}
 use Rattle.leaf_engine.specs.declared.events.HeldLock.{HeldLock}
