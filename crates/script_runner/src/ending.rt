@@ -93,11 +93,14 @@ fn run(alloc: Global, script: &Script) -> Result<Ending, AllocError>
 }
 
 /// What the bytes of a script come to.
-pub fn of_bytes(alloc: Global, bytes: &[u8]) -> Result<Ending, AllocError>
-    ensures { IfOk result (λ e. ending_seen e ≡ script_end (read_of bytes.now)) }
+pub fn of_bytes(alloc: Global, bytes: Vec<u8>) -> Result<Ending, AllocError>
+    ensures { IfOk result (λ e. ending_seen e ≡ script_end (read_of bytes.items)) }
 {
     scripts_are_in_form();
-    match read_script(alloc, bytes) {
+    let read = read_script(alloc, &bytes);
+    // The bytes' memory goes back before the run takes its own.
+    drop(bytes);
+    match read {
         Ok(script) => run(alloc, &script),
         Err(ScriptFault::Bad { line, reason }) => bad(alloc, line, reason),
         Err(ScriptFault::OutOfMemory) => Err(AllocError),

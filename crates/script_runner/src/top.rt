@@ -26,7 +26,7 @@ fn of_name<F: Files>(alloc: Global, name: &str, files: &mut F) -> Result<Ending,
     ensures few { IfOk result (λ e. e.status ≤ 5) }
 {
     match files.load(alloc, name, MOST_SCRIPT) {
-        Ok(bytes) => of_bytes(alloc, &bytes),
+        Ok(bytes) => of_bytes(alloc, bytes),
         Err(LoadFault::TooLong) => bad(alloc, 0, Reason::Length),
         Err(LoadFault::Absent) => unread(alloc, name),
         Err(LoadFault::Failed) => unread(alloc, name),
