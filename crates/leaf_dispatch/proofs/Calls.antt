@@ -1,5 +1,5 @@
 -- The table's leaves, call by call.
-use Rattle.std.proofs.Common.{◌≡◌, ◌<◌, ℕ, List, refl, ap, arith}
+use Rattle.std.proofs.Common.{◌≡◌, ℕ, refl, ap, arith}
 use Rattle.td_words.specs.declared.calls.Call.{Call}
 use Rattle.td_words.specs.declared.calls.Call.TheVariants as call
 use Rattle.flat_core.specs.Opening.{Opening, IsMachine}

@@ -6,7 +6,6 @@ use Rattle.td_words.specs.declared.replies.Reply.TheVariants.{Done}
 use Rattle.td_words.specs.declared.replies.Value.TheVariants as value
 use Rattle.td_words.specs.declared.calls.Call.{Call}
 use Rattle.td_words.specs.declared.calls.Call.TheVariants as call
-use Rattle.td_words.specs.declared.names.ReadField.{ReadField}
 use Rattle.td_words.specs.declared.names.ReadField.TheVariants as field
 use Rattle.word_rules.specs.Views.{look}
 use Rattle.leaf_engine.specs.declared.needs.Place.{Place}
@@ -17,7 +16,7 @@ use Rattle.first_leaves.specs.HostTrees.{read_word}
 use Rattle.td_words.specs.Place as place
 use Rattle.key_table.specs.CacheTrees.{mark_keys}
 use Rattle.key_table.specs.Words.{marked}
-use Rattle.td_control.specs.InitTrees.{is_hkid, begin_changes, begin_tree}
+use Rattle.td_control.specs.InitTrees.{is_hkid, begin_changes}
 use Rattle.key_table.specs.FlushTrees.{count_vps, flush_vps}
 use Rattle.key_table.specs.ReclaimTrees.{reclaim_rest}
 use Rattle.td_control.proofs.FinalSwaps.{finalize-swaps}

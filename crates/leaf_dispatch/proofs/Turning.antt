@@ -13,7 +13,7 @@ use Rattle.leaf_engine.specs.declared.events.Stage.TheVariants as stages
 use Rattle.leaf_engine.specs.Means.{Task}
 use Rattle.leaf_engine.specs.declared.needs.Place.{Place}
 use Rattle.leaf_engine.specs.Turns.{Standing, has_ended, last_reply}
-use Rattle.leaf_engine.specs.OwnLists.{Piece, taken_in, TurnIn, TurnsInPieces, WordLp, running, after_turn, LpTurns}
+use Rattle.leaf_engine.specs.OwnLists.{Piece, taken_in, TurnsInPieces, WordLp, running, after_turn, LpTurns}
 use Rattle.leaf_dispatch.specs.Bounds.{stage_left, left_of, events_left}
 use Rattle.leaf_dispatch.specs.Table.{task_of}
 use Rattle.leaf_dispatch.specs.Running.{run_seen, kept_after, CallTurned}

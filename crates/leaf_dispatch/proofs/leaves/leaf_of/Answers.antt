@@ -1,4 +1,4 @@
-use Rattle.std.proofs.Common.{◌≡◌, ◌∙◌, sym, ap}
+use Rattle.std.proofs.Common.{◌∙◌, sym, ap}
 use Rattle.leaf_dispatch.specs.Table.{task_of}
 use Rattle.leaf_dispatch.proofs.leaves.leaf_of.Goals as goal
 

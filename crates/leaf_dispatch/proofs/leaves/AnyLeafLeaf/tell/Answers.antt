@@ -1,4 +1,3 @@
-use Rattle.std.proofs.Common.{◌≡◌}
 use Rattle.leaf_dispatch.proofs.leaves.AnyLeafLeaf.tell.Goals as goal
 
 pub returns-in-AddCx-clause-same : goal.returns-in-AddCx-clause-same

@@ -1,5 +1,4 @@
-use Rattle.std.proofs.Common.{refl, ap, ◌∙◌, Option}
-use Rattle.leaf_dispatch.specs.Running.{kept_after}
+use Rattle.std.proofs.Common.{refl}
 use Rattle.leaf_dispatch.specs.States.{seen_of}
 use Rattle.leaf_dispatch.proofs.Turning.{lp-goes-on, lp-has-reply}
 use Rattle.leaf_dispatch.proofs.states.LpStateProcessor.turn.Goals as goal
