@@ -114,7 +114,7 @@ fn scripts_print_their_replies(rt: HostRuntime) -> Result<(), Fail> {
         ("machine 2 8 1\n", "", 0),
         ("machine 1 8 1\ncode 1 0\n", "script line 2 UNBUILT\n", 2),
         (
-            "machine 1 8 1\nlp 0\nMNG.RD 1 1\n",
+            "machine 1 8 1\nlp 0\nMEM.TRACK 1\n",
             "script line 3 UNBUILT\n",
             2,
         ),
