@@ -1,0 +1,385 @@
+//! Several processors, under a schedule and without one.
+//!
+//! A call that succeeds with n locks has 2n + 1 events: its tries, its act, and its releases in
+//! reverse order. So the calls of KEYS have 8 events, those of BUILT 23, and those of ENDED 13.
+
+use crate::rows::{BUILT, EMPTY, ENDED, KEYS, replays};
+use std::test::Fail;
+
+// Rows of processors 0, 1 and 2 under a schedule.
+const AT_THE_TDR: &[(&str, &[&[&str]])] = &[
+    // Processor 2 is denied by processor 1, which is being refused.
+    (
+        "0*6 1 0*2 2 1",
+        &[
+            &[KEYS],
+            &["OPERAND_BUSY P 1 | HOST.READ 1 0"],
+            &["OPERAND_BUSY P 1 | MNG.ADDCX 1 2"],
+        ],
+    ),
+    // It isn't where processor 1 undid its try before.
+    (
+        "0*6 1 0*2 1 2",
+        &[
+            &[KEYS],
+            &["OPERAND_BUSY P 1 | HOST.READ 1 0"],
+            &["SUCCESS | MNG.ADDCX 1 2"],
+        ],
+    ),
+    // Nor where processor 1 comes after the last event of MNG.KEY.CONFIG.
+    (
+        "0*8 1 2*2",
+        &[
+            &[KEYS],
+            &["SUCCESS 0 | HOST.READ 1 0"],
+            &["OPERAND_BUSY P 1 | MNG.ADDCX 1 2"],
+        ],
+    ),
+    // The keys come too late, or not at all.
+    (
+        "0*5 1*5",
+        &[
+            &[
+                "SUCCESS | MNG.CREATE 1 1",
+                "LIFECYCLE_STATE_INCORRECT TD_BLOCKED | MNG.KEY.CONFIG 1",
+            ],
+            &["SUCCESS | MNG.VPFLUSHDONE 1"],
+            &["SUCCESS TD_BLOCKED | MNG.RD 1 LIFE"],
+        ],
+    ),
+    (
+        "0*6 1 2*2",
+        &[
+            &[KEYS],
+            &["OPERAND_BUSY P 1 | MNG.VPFLUSHDONE 1"],
+            &["OPERAND_BUSY P 1 | MNG.RD 1 LIFE"],
+        ],
+    ),
+    // Reads share the TDR.
+    (
+        "0*8 0 1 2 0 1 2 0 1 2",
+        &[
+            &[KEYS, "SUCCESS TD_KEYS_CONFIGURED | MNG.RD 1 LIFE"],
+            &["SUCCESS TD_KEYS_CONFIGURED | MNG.RD 1 LIFE"],
+            &["SUCCESS PT_TDR 1 0 | PHYMEM.PAGE.RDMD 1"],
+        ],
+    ),
+    // A bad argument is answered whoever holds the page.
+    (
+        "0 1 2",
+        &[
+            &["SUCCESS | MNG.CREATE 1 1"],
+            &["OPERAND_INVALID 2 | MNG.ADDCX 1 1"],
+            &["OPERAND_INVALID 2 | VP.INIT 1 1 0"],
+        ],
+    ),
+];
+
+const AT_A_PAGE: &[(&str, &[&[&str]])] = &[
+    // MNG.ADDCX has page 2 alone until its last event but one, and the TDR until its last.
+    (
+        "0*10 1*2 2*2",
+        &[
+            &[KEYS, "SUCCESS | MNG.ADDCX 1 2"],
+            &["OPERAND_BUSY P 2 | HOST.READ 2 0"],
+            &["OPERAND_BUSY P 1 | MNG.RD 1 LIFE"],
+        ],
+    ),
+    (
+        "0*11 1*2 2*2",
+        &[
+            &[KEYS, "SUCCESS | MNG.ADDCX 1 2"],
+            &["OPERAND_BUSY P 2 | HOST.WRITE 2 0 9"],
+            &["OPERAND_BUSY P 1 | HOST.READ 1 0"],
+        ],
+    ),
+    (
+        "0*12 1*3 2*2",
+        &[
+            &[KEYS, "SUCCESS | MNG.ADDCX 1 2"],
+            &["NOT_HOST | HOST.WRITE 2 0 9"],
+            &["OPERAND_BUSY P 1 | MNG.RD 1 LIFE"],
+        ],
+    ),
+    (
+        "0*13 1*3 2*3",
+        &[
+            &[KEYS, "SUCCESS | MNG.ADDCX 1 2"],
+            &["SUCCESS PT_TDCX 1 0 | PHYMEM.PAGE.RDMD 2"],
+            &["SUCCESS TD_KEYS_CONFIGURED | MNG.RD 1 LIFE"],
+        ],
+    ),
+    // A call that is denied its second lock gives the first one back.
+    (
+        "1*8 0 1*2 2*2 1 2*3",
+        &[
+            &["SUCCESS 0 | HOST.READ 2 0"],
+            &[KEYS, "OPERAND_BUSY P 2 | MNG.ADDCX 1 2"],
+            &[
+                "OPERAND_BUSY P 1 | MNG.RD 1 LIFE",
+                "SUCCESS TD_KEYS_CONFIGURED | MNG.RD 1 LIFE",
+            ],
+        ],
+    ),
+    // Two TDs want the same page.
+    (
+        "1*8 0*10 1*3",
+        &[
+            &[KEYS, "SUCCESS | MNG.ADDCX 1 9"],
+            &[
+                "SUCCESS | MNG.CREATE 5 2 | MNG.KEY.CONFIG 5",
+                "OPERAND_BUSY P 9 | MNG.ADDCX 5 9",
+            ],
+        ],
+    ),
+    (
+        "1*8 0*12 1*5",
+        &[
+            &[KEYS, "SUCCESS | MNG.ADDCX 1 9"],
+            &[
+                "SUCCESS | MNG.CREATE 5 2 | MNG.KEY.CONFIG 5",
+                "PAGE_METADATA_INCORRECT 9 | MNG.ADDCX 5 9",
+            ],
+        ],
+    ),
+];
+
+const AT_THE_OP_STATE: &[(&str, &[&[&str]])] = &[
+    // MNG.RD shares the op state, and MR.FINALIZE wants it alone.
+    (
+        "0*25 1*3",
+        &[
+            &[BUILT, "SUCCESS 1 | MNG.RD 1 EPOCH"],
+            &["OPERAND_BUSY O | MR.FINALIZE 1"],
+        ],
+    ),
+    (
+        "0*25 1*3",
+        &[
+            &[BUILT, "OP_STATE_INCORRECT INITIALIZED | MNG.RD 1 MRTD"],
+            &[
+                "OPERAND_BUSY O | MR.FINALIZE 1",
+                "OP_STATE_INCORRECT INITIALIZED | MNG.RD 1 MRTD",
+            ],
+        ],
+    ),
+    // The op state is judged only once it is locked.
+    ("0*24 1*5", &[&[BUILT, EMPTY], &["SUCCESS | MR.FINALIZE 1"]]),
+    // Only one MR.FINALIZE measures.
+    (
+        "0*24 1*2 0",
+        &[
+            &[BUILT, "OPERAND_BUSY O | MR.FINALIZE 1"],
+            &["SUCCESS | MR.FINALIZE 1", EMPTY],
+        ],
+    ),
+    (
+        "0*24 1*5",
+        &[
+            &[BUILT, "OP_STATE_INCORRECT RUNNABLE | MR.FINALIZE 1"],
+            &["SUCCESS | MR.FINALIZE 1", EMPTY],
+        ],
+    ),
+    // Calls that share the op state run side by side.
+    (
+        "0*37 0 1 0 1 0 1 0 1 0 1 0 1 0 1",
+        &[
+            &[
+                BUILT,
+                "SUCCESS | VP.CREATE 1 4 | VP.CREATE 1 5 | VP.INIT 1 4 1",
+            ],
+            &["SUCCESS | VP.INIT 1 5 2 | MR.FINALIZE 1"],
+        ],
+    ),
+    // The same VCPU, held by the other processor and after it.
+    (
+        "0*33 1*5",
+        &[
+            &[BUILT, "SUCCESS | VP.CREATE 1 4 | VP.INIT 1 4 1"],
+            &["OPERAND_BUSY P 4 | VP.INIT 1 4 2"],
+        ],
+    ),
+    (
+        "0*35 1*7",
+        &[
+            &[BUILT, "SUCCESS | VP.CREATE 1 4 | VP.INIT 1 4 1"],
+            &["VCPU_STATE_INCORRECT READY | VP.INIT 1 4 2"],
+        ],
+    ),
+    (
+        "0*33 1*3",
+        &[
+            &[BUILT, "SUCCESS | VP.CREATE 1 4 | VP.INIT 1 4 1"],
+            &["OPERAND_BUSY O | MR.FINALIZE 1", "SUCCESS | MR.FINALIZE 1"],
+        ],
+    ),
+    // VCPUs are created one after the other.
+    (
+        "0*25 1*3",
+        &[
+            &[BUILT, "SUCCESS | VP.CREATE 1 4"],
+            &["OPERAND_BUSY O | VP.CREATE 1 5", "SUCCESS | VP.CREATE 1 5"],
+            &["PAGE_METADATA_INCORRECT 4 | VP.CREATE 1 4"],
+        ],
+    ),
+];
+
+const AT_THE_KEY_TABLE: &[(&str, &[&[&str]])] = &[
+    (
+        "0*11 1*3 2",
+        &[
+            &["SUCCESS | MNG.CREATE 1 1 | MNG.VPFLUSHDONE 1 | PHYMEM.CACHE.WB"],
+            &["OPERAND_BUSY K | MNG.CREATE 2 2"],
+            &["OPERAND_BUSY K | PHYMEM.CACHE.WB"],
+        ],
+    ),
+    // A write-back while the flush holds the key table is refused, and so it counts for nothing.
+    (
+        "0*8 1",
+        &[
+            &[
+                "SUCCESS | MNG.CREATE 1 1 | MNG.VPFLUSHDONE 1",
+                "CACHE_WB_NOT_DONE | MNG.KEY.FREEID 1",
+            ],
+            &["OPERAND_BUSY K | PHYMEM.CACHE.WB"],
+        ],
+    ),
+    (
+        "0*9 1*3",
+        &[
+            &["SUCCESS | MNG.CREATE 1 1 | MNG.VPFLUSHDONE 1 | MNG.KEY.FREEID 1"],
+            &["SUCCESS | PHYMEM.CACHE.WB"],
+        ],
+    ),
+    // The HKID is free with the act of MNG.KEY.FREEID, and given once the key table is released.
+    (
+        "0*13 1*5",
+        &[
+            &["SUCCESS | MNG.CREATE 1 1", ENDED],
+            &["HKID_NOT_FREE | MNG.CREATE 2 1"],
+        ],
+    ),
+    (
+        "0*16 1*3",
+        &[
+            &["SUCCESS | MNG.CREATE 1 1", ENDED],
+            &["OPERAND_BUSY K | MNG.CREATE 2 1"],
+        ],
+    ),
+    (
+        "0*17 1*5",
+        &[
+            &["SUCCESS | MNG.CREATE 1 1", ENDED],
+            &["SUCCESS | MNG.CREATE 2 1"],
+        ],
+    ),
+];
+
+const GIVEN_BACK: &[&str] = &[
+    KEYS,
+    "SUCCESS | MNG.ADDCX 1 2",
+    ENDED,
+    "SUCCESS | PHYMEM.PAGE.RECLAIM 1 2",
+];
+
+const AT_A_RECLAIM: &[(&str, &[&[&str]])] = &[
+    // A page is the host's with the act, and can be read once it is released.
+    (
+        "0*28 1*2 2",
+        &[
+            GIVEN_BACK,
+            &["OPERAND_BUSY P 2 | HOST.READ 2 0"],
+            &["OPERAND_BUSY P 1 | PHYMEM.PAGE.RECLAIM 1 1"],
+        ],
+    ),
+    (
+        "0*29 1*2 2",
+        &[
+            GIVEN_BACK,
+            &["OPERAND_BUSY P 2 | HOST.WRITE 2 0 9"],
+            &["OPERAND_BUSY P 1 | PHYMEM.PAGE.RECLAIM 1 1"],
+        ],
+    ),
+    (
+        "0*30 1*6 2",
+        &[
+            GIVEN_BACK,
+            &["SUCCESS | HOST.WRITE 2 0 9", "SUCCESS 9 | HOST.READ 2 0"],
+            &["OPERAND_BUSY P 1 | PHYMEM.PAGE.RECLAIM 1 1"],
+        ],
+    ),
+    (
+        "0*31 2*3",
+        &[
+            GIVEN_BACK,
+            &["PAGE_METADATA_INCORRECT 1 | MNG.RD 1 LIFE"],
+            &["SUCCESS | PHYMEM.PAGE.RECLAIM 1 1"],
+        ],
+    ),
+    // A plain read of the host's holds a page as well.
+    (
+        "0*26 1 0*3",
+        &[
+            &[
+                KEYS,
+                "SUCCESS | MNG.ADDCX 1 2",
+                ENDED,
+                "OPERAND_BUSY P 2 | PHYMEM.PAGE.RECLAIM 1 2",
+                "PAGES_EXIST 1 | PHYMEM.PAGE.RECLAIM 1 1",
+            ],
+            &["SUCCESS 0 | HOST.READ 2 0"],
+        ],
+    ),
+];
+
+#[test]
+fn calls_meet_at_locks(rt: HostRuntime) -> Result<(), Fail> {
+    for table in [
+        AT_THE_TDR,
+        AT_A_PAGE,
+        AT_THE_OP_STATE,
+        AT_THE_KEY_TABLE,
+        AT_A_RECLAIM,
+    ] {
+        for (schedule, rows) in table {
+            replays(&rt, rt.alloc(), "3 32 2", schedule, rows)?;
+        }
+    }
+    Ok(())
+}
+
+// Without a schedule each processor runs to its end, in the order of their numbers.
+const IN_NUMBER_ORDER: &[&[&[&str]]] = &[
+    &[
+        &[BUILT, "SUCCESS | VP.CREATE 1 4"],
+        &["SUCCESS | VP.INIT 1 4 0 | MR.FINALIZE 1", EMPTY],
+        &[
+            ENDED,
+            "SUCCESS | PHYMEM.PAGE.RECLAIM 1 2 | PHYMEM.PAGE.RECLAIM 1 3",
+        ],
+        &["SUCCESS | PHYMEM.PAGE.RECLAIM 1 4 | PHYMEM.PAGE.RECLAIM 1 1 | MNG.CREATE 4 1"],
+    ],
+    // Processor 0 asks too early, and processors 1 and 2 have their own TDs.
+    &[
+        &["PAGE_METADATA_INCORRECT 1 | MNG.RD 1 LIFE | MNG.VPFLUSHDONE 1"],
+        &[BUILT, "SUCCESS | MR.FINALIZE 1", EMPTY],
+        &[
+            "HKID_NOT_FREE | MNG.CREATE 5 1",
+            "SUCCESS | MNG.CREATE 5 2 | MNG.KEY.CONFIG 5",
+            "PAGE_METADATA_INCORRECT 3 | MNG.ADDCX 5 3",
+            "SUCCESS | MNG.ADDCX 5 6",
+        ],
+        &[
+            "SUCCESS RUNNABLE | MNG.RD 1 OP",
+            "TDCX_NUM_INCORRECT 1 | MNG.RD 5 OP",
+        ],
+    ],
+];
+
+#[test]
+fn processors_follow_one_another(rt: HostRuntime) -> Result<(), Fail> {
+    for rows in IN_NUMBER_ORDER {
+        replays(&rt, rt.alloc(), "4 32 2", "", rows)?;
+    }
+    Ok(())
+}
