@@ -1,2 +1,3 @@
 pub mod PlainWorld
+pub mod PlainCalls
 pub mod PlainRuns

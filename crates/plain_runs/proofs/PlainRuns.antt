@@ -1,11 +1,13 @@
 -- Calls read and change no more of a world than the plain machine keeps, so that a run over it is a run over the world.
-use Rattle.std.proofs.Common.{◌≡◌, refl, sym, ◌∙◌, ap, ℕ, suc, ◌+◌, ◌<◌, List, [], ◌∷◌, ◌++◌, length, drop, map, get_or, Option, Some, None, Result, Ok, Err, IfOk, append_assoc, add-one}
+use Rattle.std.proofs.Common.{◌≡◌, refl, sym, ◌∙◌, ap, ℕ, suc, ◌+◌, ◌<◌, List, [], ◌∷◌, ◌++◌, length, drop, map, get_or, Option, Some, None, Bool, true, false, ◌==◌, Result, Ok, Err, IfOk, append_assoc, add-one}
 use Rattle.std.proofs.Math.Seq.{drop-cons}
 use Rattle.std.proofs.lemmas.List.Folds.{concat-append}
 use Rattle.std.specs.List.{concat}
 use Rattle.std.specs.Global.{Vec}
 use Rattle.td_words.specs.declared.calls.Call.{Call}
 use Rattle.td_words.specs.declared.calls.Call.TheVariants as call
+use Rattle.td_words.specs.declared.names.LifeState.TheVariants as life
+use Rattle.td_words.specs.declared.names.ReadField.TheVariants as field
 use Rattle.td_words.specs.declared.machines.Machine.{Machine}
 use Rattle.td_words.specs.declared.replies.Value.{Value}
 use Rattle.td_words.specs.declared.replies.Reply.{Reply}
@@ -13,6 +15,9 @@ use Rattle.td_words.specs.declared.replies.Reply.TheVariants.{Done}
 use Rattle.flat_core.specs.World.{World, first_world}
 use Rattle.flat_core.specs.Opening.{Opening}
 use Rattle.flat_core.specs.Row.{Item}
+use Rattle.flat_core.specs.Arguments.{page_argument}
+use Rattle.flat_core.specs.Conditions.{tdr_exclusive}
+use Rattle.flat_core.specs.KeyRows.{reclaim_conditions}
 use Rattle.flat_core.specs.Table.{row_of}
 use Rattle.flat_core.specs.HostText.{reply_lines, host_text}
 use Rattle.std.specs.declared.alloc.AllocError.{AllocError}
@@ -25,25 +30,79 @@ same_row : (o : Opening) (p : ℕ) (c : Call) → row_of o p c ≡ row_in o.mach
 same_row o p (call.HostRead page word) = refl
 same_row o p (call.HostWrite page word v) = refl
 same_row o p (call.PhymemPageRdmd page) = refl
+same_row o p call.PhymemCacheWb = refl
+same_row o p (call.PhymemPageReclaim tdr page) = refl
 same_row o p (call.MngCreate tdr hkid) = refl
+same_row o p (call.MngKeyConfig tdr) = refl
+same_row o p (call.MngAddcx tdr page) = refl
+same_row o p (call.MngInit tdr) = refl
+same_row o p (call.MngRd tdr f) = refl
+same_row o p (call.MngVpflushdone tdr) = refl
+same_row o p (call.MngKeyFreeid tdr) = refl
+same_row o p (call.MrFinalize tdr) = refl
+same_row o p (call.VpCreate tdr page) = refl
+same_row o p (call.VpInit tdr vp v) = refl
+
+same_reclaim : (tdr page : ℕ) (is : Bool) (w : World) → reclaim_conditions w tdr page is ≡ reclaim_conditions (shown w) tdr page is
+same_reclaim tdr page true w = refl
+same_reclaim tdr page false w = refl
 
 same_items : (m : Machine) (c : Call) (w : World) → (row_in m c).items w ≡ (row_in m c).items (shown w)
 same_items m (call.HostRead page word) w = refl
 same_items m (call.HostWrite page word v) w = refl
 same_items m (call.PhymemPageRdmd page) w = refl
+same_items m call.PhymemCacheWb w = refl
+same_items m (call.PhymemPageReclaim tdr page) w = ap (λ (items : List (Item Reply)). page_argument m 1 tdr ∷ page_argument m 2 page ∷ (tdr_exclusive w tdr (life.Teardown ∷ []) ++ items)) (same_reclaim tdr page (page == tdr) w)
 same_items m (call.MngCreate tdr hkid) w = refl
+same_items m (call.MngKeyConfig tdr) w = refl
+same_items m (call.MngAddcx tdr page) w = refl
+same_items m (call.MngInit tdr) w = refl
+same_items m (call.MngRd tdr field.Life) w = refl
+same_items m (call.MngRd tdr field.Op) w = refl
+same_items m (call.MngRd tdr field.Epoch) w = refl
+same_items m (call.MngRd tdr field.Mrtd) w = refl
+same_items m (call.MngVpflushdone tdr) w = refl
+same_items m (call.MngKeyFreeid tdr) w = refl
+same_items m (call.MrFinalize tdr) w = refl
+same_items m (call.VpCreate tdr page) w = refl
+same_items m (call.VpInit tdr vp v) w = refl
 
 same_value : (m : Machine) (c : Call) (w : World) → (row_in m c).value w ≡ (row_in m c).value (shown w)
 same_value m (call.HostRead page word) w = refl
 same_value m (call.HostWrite page word v) w = refl
 same_value m (call.PhymemPageRdmd page) w = refl
+same_value m call.PhymemCacheWb w = refl
+same_value m (call.PhymemPageReclaim tdr page) w = refl
 same_value m (call.MngCreate tdr hkid) w = refl
+same_value m (call.MngKeyConfig tdr) w = refl
+same_value m (call.MngAddcx tdr page) w = refl
+same_value m (call.MngInit tdr) w = refl
+same_value m (call.MngRd tdr field.Life) w = refl
+same_value m (call.MngRd tdr field.Op) w = refl
+same_value m (call.MngRd tdr field.Epoch) w = refl
+same_value m (call.MngRd tdr field.Mrtd) w = refl
+same_value m (call.MngVpflushdone tdr) w = refl
+same_value m (call.MngKeyFreeid tdr) w = refl
+same_value m (call.MrFinalize tdr) w = refl
+same_value m (call.VpCreate tdr page) w = refl
+same_value m (call.VpInit tdr vp v) w = refl
 
 same_act : (m : Machine) (c : Call) (w : World) → shown ((row_in m c).act w) ≡ shown ((row_in m c).act (shown w))
 same_act m (call.HostRead page word) w = refl
 same_act m (call.HostWrite page word v) w = refl
 same_act m (call.PhymemPageRdmd page) w = refl
+same_act m call.PhymemCacheWb w = refl
+same_act m (call.PhymemPageReclaim tdr page) w = refl
 same_act m (call.MngCreate tdr hkid) w = refl
+same_act m (call.MngKeyConfig tdr) w = refl
+same_act m (call.MngAddcx tdr page) w = refl
+same_act m (call.MngInit tdr) w = refl
+same_act m (call.MngRd tdr f) w = refl
+same_act m (call.MngVpflushdone tdr) w = refl
+same_act m (call.MngKeyFreeid tdr) w = refl
+same_act m (call.MrFinalize tdr) w = refl
+same_act m (call.VpCreate tdr page) w = refl
+same_act m (call.VpInit tdr vp v) w = refl
 
 same_reply : (m : Machine) (c : Call) (w : World) → row_reply (row_in m c) w ≡ row_reply (row_in m c) (shown w)
 same_reply m c w = ap (λ (items : List (Item Reply)). reply_unless (first_fault items) (row_in m c) w) (same_items m c w) ∙ by (first_fault ((row_in m c).items (shown w)))

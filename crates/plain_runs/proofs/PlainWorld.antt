@@ -1,43 +1,37 @@
 -- What changes of the plain machine's lists make of its world.
-use Rattle.std.proofs.Common.{◌≡◌, refl, sym, ◌∙◌, ap, ℕ, zero, suc, ◌<◌, ◌≤◌, List, [], ◌∷◌, length, get_or, set, replicate, Option, Some, None, arith, inl, inr, Bool, true, false, ◌&&◌, nat_lt, nat_le}
+use Rattle.std.proofs.Common.{◌≡◌, refl, sym, ◌∙◌, ap, subst, ℕ, zero, suc, ◌<◌, List, [], ◌∷◌, ◌++◌, length, get_or, set, replicate, Option, None, true, ◌==◌, ◌&&◌, if◌then◌else◌, arith, inl, inr}
 use mathlib.Core.Path.{fun_ext}
 use Rattle.std.proofs.Math.ListN.{length-set}
 use Rattle.std.proofs.lemmas.List.{get_or-set_same, get_or-set_other}
-use Rattle.std.proofs.lemmas.Bool.{lt-ltb, le-leb, ne_eqb}
+use Rattle.std.proofs.lemmas.Bool.{ne_eqb}
 use Rattle.std.proofs.lemmas.Bool.Decides.{eqb_tells}
 use Rattle.td_words.specs.declared.names.PageKind.{PageKind}
+use Rattle.td_words.specs.declared.names.LifeState.{LifeState}
+use Rattle.td_words.specs.declared.names.VcpuState.{VcpuState}
 use Rattle.td_words.specs.declared.names.PageKind.TheVariants as kind
-use Rattle.td_words.specs.declared.calls.Call.{Call}
-use Rattle.td_words.specs.declared.calls.Call.TheVariants as call
-use Rattle.td_words.specs.declared.machines.Machine.{Machine}
-use Rattle.td_words.specs.declared.replies.Value.{Value}
-use Rattle.td_words.specs.declared.replies.Value.TheVariants as value
-use Rattle.td_words.specs.declared.replies.Reply.{Reply}
-use Rattle.td_words.specs.declared.replies.Reply.TheVariants.{Done}
-use Rattle.td_words.specs.Packing.{Key, Unassigned}
-use Rattle.flat_core.specs.World.{World, first_world, host_pages, put}
-use Rattle.flat_core.specs.Row.{Item, Check}
-use Rattle.flat_core.specs.Conditions.{is_host, is_key_free, is_free_key, same_kind}
-use Rattle.flat_alone.specs.Whole.{first_fault, row_reply, reply_unless, world_unless}
+use Rattle.td_words.specs.declared.names.OpState.TheVariants as op
+use Rattle.td_words.specs.declared.names.VcpuState.TheVariants as vcpu
+use Rattle.td_words.specs.Packing.{Key}
+use Rattle.flat_core.specs.World.{World, Tds, first_world, host_pages, no_tds, no_vps, put}
+use Rattle.flat_core.specs.Effects as effects
+use Rattle.flat_core.specs.Digests.{digest_word}
+use Rattle.sha2.specs.Sha512.{sha384}
+use Rattle.arrayvec.specs.ArrayVec.{ArrayVec}
 use Rattle.plain_runs.specs.declared.plain.Cell.{Cell}
-use Rattle.plain_runs.specs.Plain.{world_in, shown, row_in, key_of, blank, create_fault}
+use Rattle.plain_runs.specs.declared.plain.Td.{Td}
+use Rattle.plain_runs.specs.declared.plain.Owner.{Owner}
+use Rattle.plain_runs.specs.declared.plain.Owner.TheVariants as owner
+use Rattle.plain_runs.specs.Plain.{world_in, tds_of, shown, key_of, mrtd_if, blank, no_td}
 
-abbrev world_with : ℕ → (ℕ → PageKind) → (ℕ → ℕ) → (ℕ → ℕ) → (ℕ → ℕ → ℕ) → (ℕ → Key) → World
-world_with size kinds owners blocked words keys = record (first_world size None) {
-  pages = record host_pages { kinds = kinds; owners = owners; blocked = blocked };
-  words = words;
-  key_table = record { keys = keys; last_exported = 0; last_imported = 0 };
-}
+pub zeros : (n i : ℕ) → get_or {A = ℕ} (replicate n 0) i 0 ≡ 0
+zeros zero i = refl
+zeros (suc n) zero = refl
+zeros (suc n) (suc i) = zeros n i
 
-same_with : (n n' : ℕ) (k k' : ℕ → PageKind) (o o' b b' : ℕ → ℕ) (w w' : ℕ → ℕ → ℕ) (y y' : ℕ → Key) → n ≡ n' → ((p : ℕ) → k p ≡ k' p) → ((p : ℕ) → o p ≡ o' p)
-    → ((p : ℕ) → b p ≡ b' p) → ((p i : ℕ) → w p i ≡ w' p i) → ((h : ℕ) → y h ≡ y' h) → world_with n k o b w y ≡ world_with n' k' o' b' w' y'
-same_with n n' k k' o o' b b' w w' y y' en ek eo eb ew ey =
-    ap (λ x. world_with x k o b w y) en
-    ∙ (ap (λ x. world_with n' x o b w y) (fun_ext ek)
-    ∙ (ap (λ x. world_with n' k' x b w y) (fun_ext eo)
-    ∙ (ap (λ x. world_with n' k' o' x w y) (fun_ext eb)
-    ∙ (ap (λ x. world_with n' k' o' b' x y) (fun_ext (λ p. fun_ext (ew p)))
-    ∙ ap (λ x. world_with n' k' o' b' w' x) (fun_ext ey)))))
+pub same_default : {A : Type 0} (xs : List A) (i : ℕ) (d d' : A) → i < length xs → get_or xs i d ≡ get_or xs i d'
+same_default [] i d d' h = absurd (omega arith)
+same_default (x ∷ xs) zero d d' h = refl
+same_default (x ∷ xs) (suc i) d d' h = same_default xs i d d' (omega arith)
 
 -- what f reads of a list that changed in one place
 read_set : {A B : Type 0} (f : A → B) (d v : A) (xs : List A) (i : ℕ) → i < length xs → (j : ℕ) → f (get_or (set xs i v) j d) ≡ put (λ n. f (get_or xs n d)) i (f v) j
@@ -46,73 +40,235 @@ read_set f d v xs i h j = elim (eqb_tells j i) [
   | inr x ↦ rw (ne_eqb j i x.1) (ap f (get_or-set_other xs i j v d x.1))
 ]
 
-put_again : (p q : ℕ) → ◌≡◌ {A = ℕ} 0 (put (λ n. 0) p 0 q)
-put_again p q = elim (eqb_tells q p) [ inl t ↦ rw t.0 refl | inr x ↦ rw (ne_eqb q p x.1) refl ]
+pub changed : {A B : Type 0} (f : A → B) (d v : A) (xs : List A) (i : ℕ) → i < length xs → ◌≡◌ {A = ℕ → B} (λ j. f (get_or (set xs i v) j d)) (put (λ n. f (get_or xs n d)) i (f v))
+changed f d v xs i h = fun_ext (read_set f d v xs i h)
 
-pub same_default : {A : Type 0} (xs : List A) (i : ℕ) (d d' : A) → i < length xs → get_or xs i d ≡ get_or xs i d'
-same_default [] i d d' h = absurd (omega arith)
-same_default (x ∷ xs) zero d d' h = refl
-same_default (x ∷ xs) (suc i) d d' h = same_default xs i d d' (omega arith)
-
-pub zeros : (n i : ℕ) → get_or {A = ℕ} (replicate n 0) i 0 ≡ 0
-zeros zero i = refl
-zeros (suc n) zero = refl
-zeros (suc n) (suc i) = zeros n i
-
-pub at_first : (cells : List Cell) (hkids : List (Option ℕ)) (n : ℕ) → length cells ≡ n → ((p : ℕ) → (get_or cells p blank).kind ≡ kind.Nda)
-    → ((p : ℕ) → (get_or cells p blank).owner ≡ 0) → ((p i : ℕ) → get_or (get_or cells p blank).words i 0 ≡ 0) → ((h : ℕ) → key_of (get_or hkids h None) ≡ Unassigned)
-    → world_in cells hkids ≡ first_world n None
-at_first cells hkids n size kinds owners words keys = same_with _ _ _ _ _ _ _ _ _ _ _ _ size kinds owners (λ p. refl) words keys
-
-pub created : (m : Machine) (cells : List Cell) (hkids : List (Option ℕ)) (t h : ℕ) (ws : List ℕ) → t < length cells → h < length hkids → ((i : ℕ) → get_or ws i 0 ≡ 0)
-    → world_in (set cells t (record { kind = kind.Tdr; owner = t; words = ws })) (set hkids h (Some t)) ≡ shown ((row_in m (call.MngCreate t h)).act (world_in cells hkids))
-created m cells hkids t h ws ht hh zero_words =
-    let c : Cell = record { kind = kind.Tdr; owner = t; words = ws } in
-    same_with _ _ _ _ _ _ _ _ _ _ _ _ (length-set cells t c)
-    (read_set {B = PageKind} (λ (x : Cell). x.kind) blank c cells t ht)
-    (read_set {B = ℕ} (λ (x : Cell). x.owner) blank c cells t ht)
-    (put_again t)
-    (λ p i. ap (λ (f : ℕ → ℕ). f i) (words_at p))
-    (read_set {B = Key} key_of None (Some t) hkids h hh)
+-- v, in place of x, reads the same
+pub kept : {A B : Type 0} (f : A → B) (d v x : A) (xs : List A) (i : ℕ) → i < length xs → x ≡ get_or xs i x → f v ≡ f x → ◌≡◌ {A = ℕ → B} (λ j. f (get_or (set xs i v) j d)) (λ j. f (get_or xs j d))
+kept {A} {B} f d v x xs i h is e = fun_ext here
   where
-    words_at : (p : ℕ) → ◌≡◌ {A = ℕ → ℕ} (λ i. get_or (get_or (set cells t (record { kind = kind.Tdr; owner = t; words = ws })) p blank).words i 0)
-        (put (λ q i. get_or (get_or cells q blank).words i 0) t (λ i. 0) p)
-    words_at p =
-        let c : Cell = record { kind = kind.Tdr; owner = t; words = ws } in
-        read_set {B = ℕ → ℕ} (λ (x : Cell) (i : ℕ). get_or x.words i 0) blank c cells t ht p
-        ∙ ap (λ (v : ℕ → ℕ). put (λ q i. get_or (get_or cells q blank).words i 0) t v p) (fun_ext zero_words)
+    here : (j : ℕ) → f (get_or (set xs i v) j d) ≡ f (get_or xs j d)
+    here j = elim (eqb_tells j i) [
+      | inl t ↦ ap (λ n. f (get_or (set xs i v) n d)) t.1 ∙ (ap f (get_or-set_same xs i v d h) ∙ (e ∙ (ap f (is ∙ same_default xs i x d h) ∙ ap (λ n. f (get_or xs n d)) (sym t.1))))
+      | inr t ↦ ap f (get_or-set_other xs i j v d t.1)
+    ]
 
-passes : (b : Bool) (r : Reply) (items : List (Item Reply)) → b ≡ true → first_fault (Check b r ∷ items) ≡ first_fault items
-passes true r items e = refl
-passes false r items e = cc
+put_again : {A : Type 0} (a : A) (p q : ℕ) → a ≡ put (λ n. a) p a q
+put_again a p q = elim (eqb_tells q p) [ inl t ↦ rw t.0 refl | inr x ↦ rw (ne_eqb q p x.1) refl ]
 
-both : (a b : Bool) → a ≡ true → b ≡ true → (a && b) ≡ true
-both true true e f = refl
-both true false e f = cc
-both false b e f = cc
+constant : {A : Type 0} (a : A) (p : ℕ) → ◌≡◌ {A = ℕ → A} (λ n. a) (put (λ n. a) p a)
+constant a p = fun_ext (put_again a p)
 
-pub created_there : (m : Machine) (cells : List Cell) (hkids : List (Option ℕ)) (t h : ℕ) (ws : List ℕ) → t < length cells → h < length hkids → ((i : ℕ) → get_or ws i 0 ≡ 0)
-    → (get_or cells t blank).kind ≡ kind.Nda → get_or hkids h None ≡ None
-    → world_in (set cells t (record { kind = kind.Tdr; owner = t; words = ws })) (set hkids h (Some t))
-    ≡ shown (world_unless (create_fault (world_in cells hkids) t h) (row_in m (call.MngCreate t h)) (world_in cells hkids))
-created_there m cells hkids t h ws ht hh zero_words host unassigned =
-    let w : World = world_in cells hkids in
-    let none : create_fault w t h ≡ None =
-    passes (is_host w t) _ _ (ap (λ (k : PageKind). same_kind k kind.Nda) host) ∙ passes (is_key_free w h) _ _ (ap (λ (k : Option ℕ). is_free_key (key_of k)) unassigned) in
-    created m cells hkids t h ws ht hh zero_words ∙ ap (λ (f : Option Reply). shown (world_unless f (row_in m (call.MngCreate t h)) w)) (sym none)
+abbrev world_with : ℕ → (ℕ → PageKind) → (ℕ → ℕ) → (ℕ → ℕ) → (ℕ → ℕ → ℕ) → Tds → (ℕ → VcpuState) → (ℕ → Key) → World
+world_with size kinds owners blocked words tds states keys = record (first_world size None) {
+  pages = record host_pages { kinds = kinds; owners = owners; blocked = blocked };
+  words = words;
+  tds = tds;
+  vps = record no_vps { states = states };
+  key_table = record { keys = keys; last_exported = 0; last_imported = 0 };
+}
 
-pub read_replies : (m : Machine) (c : Call) (p i r : ℕ) (cells seen : List Cell) (hkids : List (Option ℕ)) → c ≡ call.HostRead p i → p < m.pages → i < 512 → seen ≡ cells
-    → value.Number r ≡ (row_in m (call.HostRead p i)).value (world_in seen []) → Done (value.Number r) ≡ row_reply (row_in m c) (world_in cells hkids)
-read_replies m c p i r cells seen hkids is hp hi same reads =
-    let w : World = world_in cells hkids in
-    let none : first_fault ((row_in m (call.HostRead p i)).items w) ≡ None =
-    passes (nat_lt p m.pages) _ _ (lt-ltb p m.pages hp) ∙ passes (nat_lt i 512) _ _ (lt-ltb i 512 hi) in
-    ap (λ (v : Value). Done v) (reads ∙ ap (λ x. (row_in m (call.HostRead p i)).value (world_in x [])) same)
-    ∙ (ap (λ (f : Option Reply). reply_unless f (row_in m (call.HostRead p i)) w) (sym none) ∙ ap (λ x. row_reply (row_in m x) w) (sym is))
+-- pages
+words_read : (cells : List Cell) (p : ℕ) (v : Cell) (ws : ℕ → ℕ) → p < length cells → ((i : ℕ) → get_or v.words i 0 ≡ ws i)
+    → ◌≡◌ {A = ℕ → ℕ → ℕ} (λ q i. get_or (get_or (set cells p v) q blank).words i 0) (put (λ q i. get_or (get_or cells q blank).words i 0) p ws)
+words_read cells p v ws h e =
+    changed {B = ℕ → ℕ} (λ (x : Cell) (i : ℕ). get_or x.words i 0) blank v cells p h ∙ ap (λ (f : ℕ → ℕ). put (λ q i. get_or (get_or cells q blank).words i 0) p f) (fun_ext e)
 
-pub create_replies : (m : Machine) (c : Call) (t h : ℕ) (r : Reply) (w : World) → c ≡ call.MngCreate t h → t < m.pages → 1 ≤ h → h ≤ m.hkids
-    → r ≡ reply_unless (create_fault w t h) (row_in m (call.MngCreate t h)) w → r ≡ row_reply (row_in m c) w
-create_replies m c t h r w is ht low high replied =
-    let past : first_fault ((row_in m (call.MngCreate t h)).items w) ≡ create_fault w t h =
-    passes (nat_lt t m.pages) _ _ (lt-ltb t m.pages ht) ∙ passes (nat_le 1 h && nat_le h m.hkids) _ _ (both _ _ (le-leb 1 h low) (le-leb h m.hkids high)) in
-    replied ∙ (ap (λ (f : Option Reply). reply_unless f (row_in m (call.MngCreate t h)) w) (sym past) ∙ ap (λ x. row_reply (row_in m x) w) (sym is))
+pub taken : (cells : List Cell) (p : ℕ) (c : Cell) (k : PageKind) (t : ℕ) (ws : List ℕ) (tds : List Td) (keys : List Owner) → p < length cells → c ≡ get_or cells p c → ((i : ℕ) → get_or ws i 0 ≡ 0)
+    → world_in (set cells p (record { kind = k; owner = t; words = ws; vcpu = c.vcpu })) tds keys ≡ shown (effects.clear_page p (effects.take_page p k t (world_in cells tds keys)))
+taken cells p c k t ws tds keys h is zero_words =
+    let v : Cell = record { kind = k; owner = t; words = ws; vcpu = c.vcpu } in
+    λ j. world_with (length-set cells p v j)
+    (changed {B = PageKind} (λ (x : Cell). x.kind) blank v cells p h j)
+    (changed {B = ℕ} (λ (x : Cell). x.owner) blank v cells p h j)
+    (constant 0 p j)
+    (words_read cells p v (λ i. 0) h zero_words j)
+    (tds_of tds)
+    (kept {B = VcpuState} (λ (x : Cell). x.vcpu) blank v c cells p h is refl j)
+    (λ h. key_of (get_or keys h owner.Nobody))
+
+pub vcpu_set : (cells : List Cell) (p : ℕ) (c : Cell) (s : VcpuState) (tds : List Td) (keys : List Owner) → p < length cells → c ≡ get_or cells p c
+    → world_in (set cells p (record c { vcpu = s })) tds keys ≡ effects.set_vp_state p s (world_in cells tds keys)
+vcpu_set cells p c s tds keys h is =
+    let v : Cell = record c { vcpu = s } in
+    λ j. world_with (length-set cells p v j)
+    (kept {B = PageKind} (λ (x : Cell). x.kind) blank v c cells p h is refl j)
+    (kept {B = ℕ} (λ (x : Cell). x.owner) blank v c cells p h is refl j)
+    (λ q. 0)
+    (kept {B = ℕ → ℕ} (λ (x : Cell) (i : ℕ). get_or x.words i 0) blank v c cells p h is refl j)
+    (tds_of tds)
+    (changed {B = VcpuState} (λ (x : Cell). x.vcpu) blank v cells p h j)
+    (λ h. key_of (get_or keys h owner.Nobody))
+
+-- HKIDs
+pub key_set : (cells : List Cell) (tds : List Td) (keys : List Owner) (h : ℕ) (o : Owner) → h < length keys → world_in cells tds (set keys h o) ≡ effects.set_key h (key_of o) (world_in cells tds keys)
+key_set cells tds keys h o small = λ j. record (world_in cells tds keys) { key_table = record { keys = changed {B = Key} key_of owner.Nobody o keys h small j; last_exported = 0; last_imported = 0 } }
+
+-- TDs
+abbrev of_life : Td → LifeState
+of_life x = x.life
+
+abbrev of_controls : Td → List ℕ
+of_controls x = x.controls.items
+
+abbrev of_vps : Td → List ℕ
+of_vps x = x.vps.items
+
+abbrev of_mrtd : Td → ℕ → ℕ
+of_mrtd x = mrtd_if x.finished
+
+pub life_set : (tds : List Td) (t : ℕ) (td : Td) (s : LifeState) → t < length tds → td ≡ get_or tds t td
+    → tds_of (set tds t (record td { life = s })) ≡ record (tds_of tds) { lives = put (tds_of tds).lives t s }
+life_set tds t td s h is =
+    let v : Td = record td { life = s } in
+    λ j. record no_tds {
+      lives = changed of_life no_td v tds t h j;
+      hkids = kept (λ (x : Td). x.hkid) no_td v td tds t h is refl j;
+      controls = kept of_controls no_td v td tds t h is refl j;
+      ops = kept (λ (x : Td). x.op) no_td v td tds t h is refl j;
+      epochs = kept (λ (x : Td). x.epoch) no_td v td tds t h is refl j;
+      vps = kept of_vps no_td v td tds t h is refl j;
+      mrtds = kept of_mrtd no_td v td tds t h is refl j;
+    }
+
+pub td_begun : (tds : List Td) (t : ℕ) (td : Td) → t < length tds → td ≡ get_or tds t td
+    → tds_of (set tds t (record td { op = op.Initialized; epoch = 1 })) ≡ record (tds_of tds) { ops = put (tds_of tds).ops t op.Initialized; epochs = put (tds_of tds).epochs t 1; measured = put (λ n. []) t [] }
+td_begun tds t td h is =
+    let v : Td = record td { op = op.Initialized; epoch = 1 } in
+    λ j. record no_tds {
+      lives = kept of_life no_td v td tds t h is refl j;
+      hkids = kept (λ (x : Td). x.hkid) no_td v td tds t h is refl j;
+      controls = kept of_controls no_td v td tds t h is refl j;
+      ops = changed (λ (x : Td). x.op) no_td v tds t h j;
+      epochs = changed (λ (x : Td). x.epoch) no_td v tds t h j;
+      vps = kept of_vps no_td v td tds t h is refl j;
+      measured = constant {A = List ℕ} [] t j;
+      mrtds = kept of_mrtd no_td v td tds t h is refl j;
+    }
+
+-- MRTD of a TD of which nothing was measured
+pub td_finished : (tds : List Td) (t : ℕ) (td : Td) → t < length tds → td ≡ get_or tds t td
+    → tds_of (set tds t (record td { op = op.Runnable; finished = true }))
+    ≡ record (tds_of tds) { ops = put (tds_of tds).ops t op.Runnable; mrtds = put (tds_of tds).mrtds t (digest_word (sha384 [])) }
+td_finished tds t td h is =
+    let v : Td = record td { op = op.Runnable; finished = true } in
+    λ j. record no_tds {
+      lives = kept of_life no_td v td tds t h is refl j;
+      hkids = kept (λ (x : Td). x.hkid) no_td v td tds t h is refl j;
+      controls = kept of_controls no_td v td tds t h is refl j;
+      ops = changed (λ (x : Td). x.op) no_td v tds t h j;
+      epochs = kept (λ (x : Td). x.epoch) no_td v td tds t h is refl j;
+      vps = kept of_vps no_td v td tds t h is refl j;
+      mrtds = changed of_mrtd no_td v tds t h j;
+    }
+
+-- another TDCX page, or another virtual processor
+pub control_added : (tds : List Td) (t p : ℕ) (td : Td) (new : ArrayVec ℕ) → t < length tds → td ≡ get_or tds t td → new.items ≡ td.controls.items ++ p ∷ []
+    → tds_of (set tds t (record td { controls = new })) ≡ record (tds_of tds) { controls = put (tds_of tds).controls t ((tds_of tds).controls t ++ p ∷ []) }
+control_added tds t p td new h is e =
+    let v : Td = record td { controls = new } in
+    let now : v.controls.items ≡ (tds_of tds).controls t ++ p ∷ [] = e ∙ ap (λ (x : Td). x.controls.items ++ p ∷ []) (is ∙ same_default tds t td no_td h) in
+    λ j. record no_tds {
+      lives = kept of_life no_td v td tds t h is refl j;
+      hkids = kept (λ (x : Td). x.hkid) no_td v td tds t h is refl j;
+      controls = (changed of_controls no_td v tds t h ∙ ap (λ (x : List ℕ). put (tds_of tds).controls t x) now) j;
+      ops = kept (λ (x : Td). x.op) no_td v td tds t h is refl j;
+      epochs = kept (λ (x : Td). x.epoch) no_td v td tds t h is refl j;
+      vps = kept of_vps no_td v td tds t h is refl j;
+      mrtds = kept of_mrtd no_td v td tds t h is refl j;
+    }
+
+pub vp_added : (tds : List Td) (t p : ℕ) (td : Td) (new : ArrayVec ℕ) → t < length tds → td ≡ get_or tds t td → new.items ≡ td.vps.items ++ p ∷ []
+    → tds_of (set tds t (record td { vps = new })) ≡ record (tds_of tds) { vps = put (tds_of tds).vps t ((tds_of tds).vps t ++ p ∷ []) }
+vp_added tds t p td new h is e =
+    let v : Td = record td { vps = new } in
+    let now : v.vps.items ≡ (tds_of tds).vps t ++ p ∷ [] = e ∙ ap (λ (x : Td). x.vps.items ++ p ∷ []) (is ∙ same_default tds t td no_td h) in
+    λ j. record no_tds {
+      lives = kept of_life no_td v td tds t h is refl j;
+      hkids = kept (λ (x : Td). x.hkid) no_td v td tds t h is refl j;
+      controls = kept of_controls no_td v td tds t h is refl j;
+      ops = kept (λ (x : Td). x.op) no_td v td tds t h is refl j;
+      epochs = kept (λ (x : Td). x.epoch) no_td v td tds t h is refl j;
+      vps = (changed of_vps no_td v tds t h ∙ ap (λ (x : List ℕ). put (tds_of tds).vps t x) now) j;
+      mrtds = kept of_mrtd no_td v td tds t h is refl j;
+    }
+
+-- a TD with a virtual processor more, which is associated with none
+abbrev pub with_vp : ℕ → ℕ → World → World
+with_vp t p w = record w { tds = record (w.tds) { vps = put w.tds.vps t (w.tds.vps t ++ p ∷ []) } }
+
+pub none_put : (t p : ℕ) (w : World) → w.vps.associated ≡ (λ v. None) → with_vp t p (effects.set_vp_state p vcpu.Created (shown w)) ≡ shown (effects.add_vp t p w)
+none_put t p w e =
+    let same : w.vps.associated ≡ put w.vps.associated p None = e ∙ (constant None p ∙ ap (λ (g : ℕ → Option ℕ). put g p None) (sym e)) in
+    λ j. record (with_vp t p (effects.set_vp_state p vcpu.Created (shown w))) { vps = record no_vps { states = put w.vps.states p vcpu.Created; associated = same j } }
+
+-- a TD that begins
+pub td_new : (cells : List Cell) (tds : List Td) (keys : List Owner) (t h : ℕ) → t < length tds
+    → world_in cells (set tds t (record no_td { hkid = h })) keys ≡ shown (effects.new_td t h (world_in cells tds keys))
+td_new cells tds keys t h small =
+    let v : Td = record no_td { hkid = h } in
+    λ j. record (world_in cells tds keys) { tds = record no_tds {
+      lives = changed of_life no_td v tds t small j;
+      hkids = changed (λ (x : Td). x.hkid) no_td v tds t small j;
+      controls = changed of_controls no_td v tds t small j;
+      ops = changed (λ (x : Td). x.op) no_td v tds t small j;
+      epochs = changed (λ (x : Td). x.epoch) no_td v tds t small j;
+      vps = changed of_vps no_td v tds t small j;
+      vps_expected = constant 0 t j;
+      measured = constant {A = List ℕ} [] t j;
+      mrtds = changed of_mrtd no_td v tds t small j;
+    } }
+
+-- the start
+pub at_first : (cells : List Cell) (tds : List Td) (keys : List Owner) (n : ℕ) → length cells ≡ n → ((p : ℕ) → (get_or cells p blank).kind ≡ kind.Nda) → ((p : ℕ) → (get_or cells p blank).owner ≡ 0)
+    → ((p i : ℕ) → get_or (get_or cells p blank).words i 0 ≡ 0) → ((p : ℕ) → (get_or cells p blank).vcpu ≡ vcpu.Created) → ((t : ℕ) → get_or tds t no_td ≡ no_td)
+    → ((h : ℕ) → get_or keys h owner.Nobody ≡ owner.Nobody) → world_in cells tds keys ≡ first_world n None
+at_first cells tds keys n size kinds owners words states new free = λ j. world_with (size j) (λ p. kinds p j) (λ p. owners p j) (λ p. 0) (λ p i. words p i j)
+    (record no_tds {
+      lives = λ t. (new t j).life;
+      hkids = λ t. (new t j).hkid;
+      controls = λ t. (new t j).controls.items;
+      ops = λ t. (new t j).op;
+      epochs = λ t. (new t j).epoch;
+      vps = λ t. (new t j).vps.items;
+      mrtds = λ t. mrtd_if (new t j).finished;
+    })
+    (λ v. states v j) (λ h. key_of (free h j))
+
+pub nobodies : (n h : ℕ) → get_or (replicate n owner.Nobody) h owner.Nobody ≡ owner.Nobody
+nobodies zero h = refl
+nobodies (suc n) zero = refl
+nobodies (suc n) (suc h) = nobodies n h
+
+-- a word of a page
+word_in : (ws : List ℕ) (i v b : ℕ) → i < length ws → get_or (set ws i v) b 0 ≡ (if b == i then v else get_or ws b 0)
+word_in ws i v b h = elim (eqb_tells b i) [
+  | inl t ↦ rw t.0 (ap (λ n. get_or (set ws i v) n 0) t.1 ∙ get_or-set_same ws i v 0 h)
+  | inr x ↦ rw (ne_eqb b i x.1) (get_or-set_other ws i b v 0 x.1)
+]
+
+word_read : (cells : List Cell) (p i v : ℕ) (c : Cell) → p < length cells → c ≡ get_or cells p c → i < length c.words
+    → ◌≡◌ {A = ℕ → ℕ → ℕ} (λ q b. get_or (get_or (set cells p (record c { words = set c.words i v })) q blank).words b 0) (effects.put_in (λ q b. get_or (get_or cells q blank).words b 0) p i v)
+word_read cells p i v c h is small = fun_ext (λ q. fun_ext (here q))
+  where
+    here : (q b : ℕ) → get_or (get_or (set cells p (record c { words = set c.words i v })) q blank).words b 0 ≡ (if q == p && b == i then v else get_or (get_or cells q blank).words b 0)
+    here q b = elim (eqb_tells q p) [
+      | inl t ↦ rw t.0 (ap (λ n. get_or (get_or (set cells p (record c { words = set c.words i v })) n blank).words b 0) t.1
+          ∙ (ap (λ (x : Cell). get_or x.words b 0) (get_or-set_same cells p (record c { words = set c.words i v }) blank h)
+          ∙ (word_in c.words i v b small
+          ∙ ap (λ (x : Cell). if b == i then v else get_or x.words b 0) (is ∙ (same_default cells p c blank h ∙ ap (λ n. get_or cells n blank) (sym t.1))))))
+      | inr x ↦ rw (ne_eqb q p x.1) (ap (λ (x : Cell). get_or x.words b 0) (get_or-set_other cells p q (record c { words = set c.words i v }) blank x.1))
+    ]
+
+pub word_set : (cells : List Cell) (p i v : ℕ) (c : Cell) (tds : List Td) (keys : List Owner) → p < length cells → c ≡ get_or cells p c → i < length c.words
+    → world_in (set cells p (record c { words = set c.words i v })) tds keys ≡ effects.set_word p i v (world_in cells tds keys)
+word_set cells p i v c tds keys h is small =
+    let x : Cell = record c { words = set c.words i v } in
+    λ j. world_with (length-set cells p x j)
+    (kept {B = PageKind} (λ (x : Cell). x.kind) blank x c cells p h is refl j)
+    (kept {B = ℕ} (λ (x : Cell). x.owner) blank x c cells p h is refl j)
+    (λ q. 0)
+    (word_read cells p i v c h is small j)
+    (tds_of tds)
+    (kept {B = VcpuState} (λ (x : Cell). x.vcpu) blank x c cells p h is refl j)
+    (λ h. key_of (get_or keys h owner.Nobody))

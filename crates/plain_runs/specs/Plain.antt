@@ -1,49 +1,101 @@
--- What the plain machine's lists mean, and that a row of a call that is built reads and changes no more of a world.
-use Rattle.std.specs.Prelude.{◌≡◌, ℕ, ◌+◌, List, [], ◌∷◌, length, Option, Some, None, slice_index_or}
+-- What the plain machine's lists mean, what the calls that are built read of a world, and what it is to do a call at once.
+use Rattle.std.specs.Prelude.{◌≡◌, ℕ, ◌+◌, List, [], ◌∷◌, length, Option, Some, None, Bool, true, false, Result, Ok, Err, slice_index_or}
+use Rattle.sha2.specs.Sha512.{sha384}
 use Rattle.td_words.specs.declared.names.PageKind.TheVariants as kind
+use Rattle.td_words.specs.declared.names.LifeState.TheVariants as life
+use Rattle.td_words.specs.declared.names.OpState.TheVariants as op
+use Rattle.td_words.specs.declared.names.VcpuState.TheVariants as vcpu
 use Rattle.td_words.specs.declared.calls.Call.{Call}
 use Rattle.td_words.specs.declared.machines.Machine.{Machine}
-use Rattle.td_words.specs.declared.refusals.Status.TheVariants.{NotHost, HkidNotFree}
+use Rattle.td_words.specs.declared.refusals.Status.{Status}
+use Rattle.td_words.specs.declared.replies.Value.{Value}
 use Rattle.td_words.specs.declared.replies.Reply.{Reply}
-use Rattle.td_words.specs.Packing.{Key, Unassigned, AssignedTo}
-use Rattle.flat_core.specs.World.{World, first_world, host_pages}
+use Rattle.td_words.specs.declared.replies.Reply.TheVariants.{Done, Refused}
+use Rattle.td_words.specs.Packing.{Key, Unassigned, AssignedTo, FlushedOf}
+use Rattle.flat_core.specs.World.{World, Tds, first_world, host_pages, no_tds, no_vps}
+use Rattle.flat_core.specs.Digests.{digest_word}
 use Rattle.flat_core.specs.Opening.{Opening}
-use Rattle.flat_core.specs.Row.{Row, needs}
-use Rattle.flat_core.specs.Conditions.{is_host, is_key_free, host_page, keys_exclusive}
+use Rattle.flat_core.specs.Row.{Item, Row, needs}
 use Rattle.flat_core.specs.Table.{row_of}
-use Rattle.flat_alone.specs.Whole.{first_fault}
+use Rattle.flat_alone.specs.Whole.{first_fault, row_reply, row_world}
 use Rattle.plain_runs.specs.declared.plain.Cell.{Cell}
+use Rattle.plain_runs.specs.declared.plain.Td.{Td}
+use Rattle.plain_runs.specs.declared.plain.Owner.{Owner}
+use Rattle.plain_runs.specs.declared.plain.Owner.TheVariants as owner
 use Rattle.plain_runs.specs.declared.plain.Plain.{Plain}
+use Rattle.plain_runs.specs.declared.checks.Check.{Check as Condition}
 
 -- what the calls that are built read of a world; all else as at the start of a run
 abbrev pub shown : World → World
 shown w = record (first_world w.size None) {
   pages = record host_pages { kinds = w.pages.kinds; owners = w.pages.owners; blocked = w.pages.blocked };
   words = w.words;
+  tds = record no_tds {
+    lives = w.tds.lives;
+    hkids = w.tds.hkids;
+    controls = w.tds.controls;
+    ops = w.tds.ops;
+    epochs = w.tds.epochs;
+    vps = w.tds.vps;
+    vps_expected = w.tds.vps_expected;
+    measured = w.tds.measured;
+    mrtds = w.tds.mrtds;
+  };
+  vps = record no_vps { states = w.vps.states; associated = w.vps.associated };
   key_table = record { keys = w.key_table.keys; last_exported = 0; last_imported = 0 };
 }
 
 abbrev pub blank : Cell
-blank = record { kind = kind.Nda; owner = 0; words = [] }
+blank = record { kind = kind.Nda; owner = 0; words = []; vcpu = vcpu.Created }
 
-abbrev pub key_of : Option ℕ → Key
-key_of None = Unassigned
-key_of (Some t) = AssignedTo t
+abbrev pub no_td : Td
+no_td = record {
+  life = life.HkidAssigned;
+  hkid = 0;
+  op = op.Uninitialized;
+  epoch = 0;
+  finished = false;
+  controls = record { items = [] };
+  vps = record { items = [] };
+}
 
--- the world of these pages and HKIDs
-abbrev pub world_in : List Cell → List (Option ℕ) → World
-world_in cells hkids = record (first_world (length cells) None) {
+abbrev pub key_of : Owner → Key
+key_of owner.Nobody = Unassigned
+key_of (owner.Assigned t) = AssignedTo t
+key_of (owner.Flushed t b) = FlushedOf t b
+
+-- MRTD of a TD of which nothing was measured
+abbrev pub mrtd_if : Bool → ℕ → ℕ
+mrtd_if false = λ i. 0
+mrtd_if true = digest_word (sha384 [])
+
+abbrev pub tds_of : List Td → Tds
+tds_of tds = record no_tds {
+  lives = λ t. (slice_index_or tds t no_td).life;
+  hkids = λ t. (slice_index_or tds t no_td).hkid;
+  controls = λ t. (slice_index_or tds t no_td).controls.items;
+  ops = λ t. (slice_index_or tds t no_td).op;
+  epochs = λ t. (slice_index_or tds t no_td).epoch;
+  vps = λ t. (slice_index_or tds t no_td).vps.items;
+  mrtds = λ t. mrtd_if (slice_index_or tds t no_td).finished;
+}
+
+-- the world of these pages, TDs and HKIDs
+abbrev pub world_in : List Cell → List Td → List Owner → World
+world_in cells tds keys = record (first_world (length cells) None) {
   pages = record host_pages { kinds = λ p. (slice_index_or cells p blank).kind; owners = λ p. (slice_index_or cells p blank).owner };
   words = λ p i. slice_index_or (slice_index_or cells p blank).words i 0;
-  key_table = record { keys = λ h. key_of (slice_index_or hkids h None); last_exported = 0; last_imported = 0 };
+  tds = tds_of tds;
+  vps = record no_vps { states = λ v. (slice_index_or cells v blank).vcpu };
+  key_table = record { keys = λ h. key_of (slice_index_or keys h owner.Nobody); last_exported = 0; last_imported = 0 };
 }
 
 abbrev pub world_of : Plain → World
-world_of p = world_in p.cells.items p.hkids.items
+world_of p = world_in p.cells.items p.tds.items p.keys
 
-pub record FitsMachine (m : Machine) (cells : List Cell) (hkids : List (Option ℕ)) : Type 0 where
-  pub every_page : length cells ≡ m.pages
-  pub every_hkid : length hkids ≡ m.hkids + 1
+pub record FitsMachine (m : Machine) (p : Plain) : Type 0 where
+  pub every_page : length p.cells.items ≡ m.pages
+  pub every_td : length p.tds.items ≡ m.pages
 
 -- no calls, guest code, bundles or secrets
 abbrev pub bare_opening : Machine → Opening
@@ -53,9 +105,19 @@ bare_opening m = record { machine = m; codes = λ t v. []; calls = []; bundles =
 abbrev pub row_in : Machine → Call → Row
 row_in m c = row_of (bare_opening m) 0 c
 
--- the conditions behind a call's first try
-abbrev pub write_fault : World → ℕ → Option Reply
-write_fault w p = first_fault (needs (is_host w p) NotHost ∷ [])
+-- a condition as an item of a row; and what the first one that fails of these items answers
+abbrev pub item_of : Condition → Item Reply
+item_of c = needs c.holds c.otherwise
 
-abbrev pub create_fault : World → ℕ → ℕ → Option Reply
-create_fault w t h = first_fault (host_page w t ∷ keys_exclusive ∷ needs (is_key_free w h) HkidNotFree ∷ [])
+abbrev pub Judges : {A : Type 0} → List (Item Reply) → Result A Status → Type 0
+Judges items (Ok a) = first_fault items ≡ None
+Judges items (Err e) = first_fault items ≡ Some (Refused e)
+
+abbrev pub replied : Result Value Status → Reply
+replied (Ok v) = Done v
+replied (Err e) = Refused e
+
+-- a row is done at once: what it answers, and what the world after it shows
+pub record Does (row : Row) (w w' : World) (r : Result Value Status) : Type 0 where
+  pub replies : replied r ≡ row_reply row w
+  pub leaves : w' ≡ shown (row_world row w)

@@ -9,7 +9,8 @@ ghost use Rattle.script_text.specs.Laws.{IsInForm};
 ghost use Rattle.plain_runs.specs.Plain.{world_of as plain_world, shown, bare_opening, FitsMachine};
 ghost use Rattle.script_runner.specs.Ending.{opening_of};
 
-use crate::plain::{Plain, at_start, perform};
+use crate::calls::perform;
+use crate::plain::{Plain, at_start};
 use flat_alone::in_number_order;
 use script_runner::host_lines;
 use script_text::Script;
@@ -23,8 +24,8 @@ fn replies(
     plain: &mut Plain,
     calls: &[Call],
 ) -> Result<Vec<Reply>, AllocError>
-    requires { FitsMachine machine plain.old.cells.items plain.old.hkids.items }
-    ensures fits { FitsMachine machine plain.new.cells.items plain.new.hkids.items }
+    requires { FitsMachine machine plain.old }
+    ensures fits { FitsMachine machine plain.new }
     ensures replies { IfOk result (λ v. v.items ≡ replies_of (bare_opening machine) 0 (plain_world plain.old) calls.now) }
     ensures after { IfOk result (λ v. plain_world plain.new ≡ shown (world_of (bare_opening machine) 0 (plain_world plain.old) calls.now)) }
 {

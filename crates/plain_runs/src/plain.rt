@@ -1,42 +1,69 @@
-//! The flat machine in memory, a call at a time: what the built calls read and change of a world.
+//! The flat machine in memory: what the built calls read and change of a world.
 
-ghost use Rattle.std.specs.Prelude.{◌≡◌, ◌<◌, ◌^◌, [], None, ℕ, slice_index_or, length, IfOk};
+ghost use Rattle.std.specs.Prelude.{◌≡◌, ◌<◌, List, [], ℕ, slice_index_or, length, IfOk};
 ghost use Rattle.td_words.specs.declared.names.PageKind.TheVariants as kind;
-ghost use Rattle.td_words.specs.declared.replies.Value.TheVariants as value;
+ghost use Rattle.td_words.specs.declared.names.VcpuState.TheVariants as vcpu;
 ghost use Rattle.td_words.specs.Packing.{Unassigned};
-ghost use Rattle.td_words.specs.declared.machines.Machine.{Machine};
-ghost use Rattle.td_words.specs.declared.calls.Call.TheVariants as Call;
 ghost use Rattle.flat_core.specs.World.{first_world};
-ghost use Rattle.flat_alone.specs.Whole.{row_reply, row_world, reply_unless, world_unless};
-ghost use Rattle.plain_runs.specs.Plain.{world_of, world_in, shown, row_in, key_of, blank, FitsMachine, write_fault, create_fault};
+ghost use Rattle.flat_core.specs.Effects.{take_page, clear_page, set_vp_state, set_life};
+ghost use Rattle.plain_runs.specs.declared.plain.Cell.{Cell};
+ghost use Rattle.plain_runs.specs.declared.plain.Td.{Td};
+ghost use Rattle.plain_runs.specs.declared.plain.Owner.{Owner};
+ghost use Rattle.plain_runs.specs.Plain.{world_of, world_in, shown, blank, no_td, FitsMachine};
 
+use arrayvec::ArrayVec;
 use std::alloc::{AllocError, Global};
-use td_words::{Call, Machine, PageKind, Reply, Status, Value};
+use td_words::{LifeState, Machine, OpState, PageKind, VcpuState};
 
-/// A page: its kind, the TDR page of its owner (0 for a host page), and its words.
+/// A page: its kind, the TDR page of its owner (0 for a host page), its words, and the state of
+/// the virtual processor whose page it is.
 #[derive(Clone, Copy)]
 pub struct Cell {
     pub kind: PageKind,
     pub owner: u16,
     pub words: [u64; 512],
+    pub vcpu: VcpuState,
 }
 
-/// The pages, and to which TDR page each HKID is assigned; none to HKID 0.
+/// A TD: its states, its HKID, TD_EPOCH, whether MRTD is there, and its TDCX and TDVPR pages.
+#[derive(Drop)]
+pub struct Td {
+    pub life: LifeState,
+    pub hkid: u8,
+    pub op: OpState,
+    pub epoch: u64,
+    pub finished: bool,
+    pub controls: ArrayVec<u16, 2>,
+    pub vps: ArrayVec<u16, 8>,
+}
+
+/// What the key ownership table says of an HKID.
+#[derive(Clone, Copy)]
+pub enum Owner {
+    Nobody,
+    Assigned(u16),
+    Flushed { tdr: u16, written_back: bool },
+}
+
+/// The pages, a TD for each page that is its TDR or may become one, and the key ownership table.
 #[derive(Drop)]
 pub struct Plain {
     pub cells: Vec<Cell>,
-    pub hkids: Vec<Option<u16>>,
+    pub tds: Vec<Td>,
+    pub keys: [Owner; 256],
 }
 
 fn host_cell() -> Cell
     ensures kind { result.kind ≡ kind.Nda }
     ensures owner { result.owner ≡ 0 }
     ensures words { (i : ℕ) → slice_index_or result.words i 0 ≡ 0 }
+    ensures vcpu { result.vcpu ≡ vcpu.Created }
 {
     Cell {
         kind: PageKind::Nda,
         owner: 0,
         words: [0; 512],
+        vcpu: VcpuState::Created,
     }
 }
 
@@ -45,6 +72,7 @@ fn host_cells(alloc: Global, count: u16) -> Result<Vec<Cell>, AllocError>
     ensures kind { IfOk result (λ v. (p : ℕ) → (slice_index_or v.items p blank).kind ≡ kind.Nda) }
     ensures owner { IfOk result (λ v. (p : ℕ) → (slice_index_or v.items p blank).owner ≡ 0) }
     ensures words { IfOk result (λ v. (p i : ℕ) → slice_index_or (slice_index_or v.items p blank).words i 0 ≡ 0) }
+    ensures vcpu { IfOk result (λ v. (p : ℕ) → (slice_index_or v.items p blank).vcpu ≡ vcpu.Created) }
 {
     let mut cells = Vec::with_capacity(alloc, usize::from(count))?;
     for _ in 0..count {
@@ -53,125 +81,69 @@ fn host_cells(alloc: Global, count: u16) -> Result<Vec<Cell>, AllocError>
     Ok(cells)
 }
 
-fn free_hkids(alloc: Global, count: u16) -> Result<Vec<Option<u16>>, AllocError>
-    ensures count { IfOk result (λ v. length v.items ≡ count) }
-    ensures free { IfOk result (λ v. (h : ℕ) → key_of (slice_index_or v.items h None) ≡ Unassigned) }
+/// A TD that begins.
+pub fn new_td(hkid: u8) -> Td
+    ensures { result ≡ record no_td { hkid = hkid } }
 {
-    let mut hkids = Vec::with_capacity(alloc, usize::from(count))?;
-    for _ in 0..count {
-        hkids.push(None)?;
+    Td {
+        life: LifeState::HkidAssigned,
+        hkid,
+        op: OpState::Uninitialized,
+        epoch: 0,
+        finished: false,
+        controls: ArrayVec::new(),
+        vps: ArrayVec::new(),
     }
-    Ok(hkids)
+}
+
+fn new_tds(alloc: Global, count: u16) -> Result<Vec<Td>, AllocError>
+    ensures count { IfOk result (λ v. length v.items ≡ count) }
+    ensures new { IfOk result (λ v. (t : ℕ) → slice_index_or v.items t no_td ≡ no_td) }
+{
+    let mut tds = Vec::with_capacity(alloc, usize::from(count))?;
+    for _ in 0..count {
+        tds.push(new_td(0))?;
+    }
+    Ok(tds)
 }
 
 /// All pages are host pages of zeros, and all HKIDs free.
 pub fn at_start(alloc: Global, machine: Machine) -> Result<Plain, AllocError>
-    ensures fits { IfOk result (λ p. FitsMachine machine p.cells.items p.hkids.items) }
+    ensures fits { IfOk result (λ p. FitsMachine machine p) }
     ensures start { IfOk result (λ p. world_of p ≡ first_world machine.pages None) }
 {
     let cells = host_cells(alloc, machine.pages)?;
-    let hkids = free_hkids(alloc, u16::from(machine.hkids) + 1)?;
-    Ok(Plain { cells, hkids })
+    let tds = new_tds(alloc, machine.pages)?;
+    let keys = [Owner::Nobody; 256];
+    Ok(Plain { cells, tds, keys })
 }
 
-fn read(cells: &[Cell], page: usize, word: usize) -> u64
-    requires page { page < length cells.now }
-    requires word { word < 512 }
-    ensures { (m : Machine) → value.Number result ≡ (row_in m (Call.HostRead page word)).value (world_in cells.now []) }
+/// A page is cleared, and gets its kind and its owner.
+pub fn take(cells: &mut Vec<Cell>, page: u16, kind: PageKind, owner: u16)
+    requires { page < length cells.old.items }
+    ensures count { length cells.new.items ≡ length cells.old.items }
+    ensures taken { (tds : List Td) (keys : List Owner) → world_in cells.new.items tds keys ≡ shown (clear_page page (take_page page kind owner (world_in cells.old.items tds keys))) }
 {
-    let cell = &cells[page];
-    match cell.kind {
-        PageKind::Nda => cell.words[word],
-        _ => 0,
-    }
-}
-
-fn host_write(plain: &mut Plain, page: usize, word: usize, value: u64) -> Reply
-    requires page { page < length plain.old.cells.items }
-    requires word { word < 512 }
-    ensures cells { length plain.new.cells.items ≡ length plain.old.cells.items }
-    ensures hkids { plain.new.hkids.items ≡ plain.old.hkids.items }
-    ensures reply { (m : Machine) → result ≡ reply_unless (write_fault (world_of plain.old) page) (row_in m (Call.HostWrite page word value)) (world_of plain.old) }
-    ensures after { (m : Machine) → world_of plain.new ≡ shown (world_unless (write_fault (world_of plain.old) page) (row_in m (Call.HostWrite page word value)) (world_of plain.old)) }
-{
-    let cell = &mut plain.cells[page];
-    match cell.kind {
-        PageKind::Nda => {
-            cell.words[word] = value;
-            Reply::Done(Value::Nothing)
-        }
-        _ => Reply::Refused(Status::NotHost),
-    }
-}
-
-fn create(plain: &mut Plain, tdr: usize, hkid: usize) -> Reply
-    requires tdr { tdr < length plain.old.cells.items }
-    requires hkid { hkid < length plain.old.hkids.items }
-    requires small { tdr < 2 ^ 16 }
-    ensures cells { length plain.new.cells.items ≡ length plain.old.cells.items }
-    ensures hkids { length plain.new.hkids.items ≡ length plain.old.hkids.items }
-    ensures reply { (m : Machine) → result ≡ reply_unless (create_fault (world_of plain.old) tdr hkid) (row_in m (Call.MngCreate tdr hkid)) (world_of plain.old) }
-    ensures after { (m : Machine) → world_of plain.new ≡ shown (world_unless (create_fault (world_of plain.old) tdr hkid) (row_in m (Call.MngCreate tdr hkid)) (world_of plain.old)) }
-{
-    let PageKind::Nda = plain.cells[tdr].kind else {
-        return Reply::Refused(Status::PageMetadataIncorrect(tdr as u16));
-    };
-    let None = plain.hkids[hkid] else {
-        return Reply::Refused(Status::HkidNotFree);
-    };
-    let cell = &mut plain.cells[tdr];
-    cell.kind = PageKind::Tdr;
-    cell.owner = tdr as u16;
+    let cell = &mut cells[usize::from(page)];
+    cell.kind = kind;
+    cell.owner = owner;
     cell.words = [0; 512];
-    plain.hkids[hkid] = Some(tdr as u16);
-    Reply::Done(Value::Nothing)
 }
 
-/// Does one call.
-pub fn perform(machine: Machine, plain: &mut Plain, call: &Call) -> Reply
-    requires { FitsMachine machine plain.old.cells.items plain.old.hkids.items }
-    ensures fits { FitsMachine machine plain.new.cells.items plain.new.hkids.items }
-    ensures reply { result ≡ row_reply (row_in machine call.now) (world_of plain.old) }
-    ensures after { world_of plain.new ≡ shown (row_world (row_in machine call.now) (world_of plain.old)) }
+/// A virtual processor comes to that state.
+pub fn set_vcpu(cells: &mut Vec<Cell>, page: u16, state: VcpuState)
+    requires { page < length cells.old.items }
+    ensures count { length cells.new.items ≡ length cells.old.items }
+    ensures set { (tds : List Td) (keys : List Owner) → world_in cells.new.items tds keys ≡ set_vp_state page state (world_in cells.old.items tds keys) }
 {
-    match *call {
-        Call::HostRead { page, word } => {
-            if page >= u64::from(machine.pages) {
-                return Reply::Refused(Status::OperandInvalid(1));
-            }
-            if word >= 512 {
-                return Reply::Refused(Status::OperandInvalid(2));
-            }
-            Reply::Done(Value::Number(read(&plain.cells, page as usize, word as usize)))
-        }
-        Call::HostWrite { page, word, value } => {
-            if page >= u64::from(machine.pages) {
-                return Reply::Refused(Status::OperandInvalid(1));
-            }
-            if word >= 512 {
-                return Reply::Refused(Status::OperandInvalid(2));
-            }
-            host_write(plain, page as usize, word as usize, value)
-        }
-        Call::PhymemPageRdmd { page } => {
-            if page >= u64::from(machine.pages) {
-                return Reply::Refused(Status::OperandInvalid(1));
-            }
-            let cell = &plain.cells[page as usize];
-            Reply::Done(Value::Page {
-                kind: cell.kind,
-                owner: cell.owner,
-                epoch: 0,
-            })
-        }
-        Call::MngCreate { tdr, hkid } => {
-            if tdr >= u64::from(machine.pages) {
-                return Reply::Refused(Status::OperandInvalid(1));
-            }
-            if hkid < 1 || hkid > u64::from(machine.hkids) {
-                return Reply::Refused(Status::OperandInvalid(2));
-            }
-            create(plain, tdr as usize, hkid as usize)
-        }
-    }
+    cells[usize::from(page)].vcpu = state;
+}
+
+/// A TD comes to that life state.
+pub fn set_life(tds: &mut Vec<Td>, tdr: u16, life: LifeState)
+    requires { tdr < length tds.old.items }
+    ensures count { length tds.new.items ≡ length tds.old.items }
+    ensures set { (cells : List Cell) (keys : List Owner) → world_in cells tds.new.items keys ≡ set_life tdr life (world_in cells tds.old.items keys) }
+{
+    tds[usize::from(tdr)].life = life;
 }

@@ -7,7 +7,7 @@ use Rattle.plain_runs.proofs.flat_run.all_lines.Given as goal
 
 abbrev pub invariant-loop-lp : goal.invariant-loop-lp
 invariant-loop-lp l = record {
-  fits : FitsMachine l.machine l.plain.cells.items l.plain.hkids.items;
+  fits : FitsMachine l.machine l.plain;
   printed : l.text.items ++ concat (lines_at_once (bare_opening l.machine) l.lp (plain_world l.plain) (map (λ list. list.items) (drop l.lp l.lists)))
       ≡ concat (lines_at_once (bare_opening l.machine) 0 (first_world l.machine.pages None) (map (λ list. list.items) l.lists));
 }

@@ -5,7 +5,7 @@ use Rattle.plain_runs.proofs.flat_run.replies.Given as goal
 
 abbrev pub invariant-loop-call : goal.invariant-loop-call
 invariant-loop-call l = record {
-  fits : FitsMachine l.machine l.plain.cells.items l.plain.hkids.items;
+  fits : FitsMachine l.machine l.plain;
   replies : l.replies.items ++ replies_of (bare_opening l.machine) 0 (plain_world l.plain) (drop l.call-index l.calls) ≡ replies_of (bare_opening l.machine) 0 (plain_world l.initial.plain) l.calls;
   after : shown (world_of (bare_opening l.machine) 0 (plain_world l.plain) (drop l.call-index l.calls)) ≡ shown (world_of (bare_opening l.machine) 0 (plain_world l.initial.plain) l.calls);
 }

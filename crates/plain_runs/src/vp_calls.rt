@@ -1,0 +1,51 @@
+//! Calls that build virtual processors.
+
+ghost use Rattle.std.specs.Prelude.{◌≡◌};
+ghost use Rattle.td_words.specs.declared.calls.Call.TheVariants as call;
+ghost use Rattle.plain_runs.specs.Plain.{world_of, row_in, FitsMachine, Does};
+
+use crate::checks::{apart, judge, page_in};
+use crate::plain::{Plain, set_vcpu, take};
+use crate::td_calls::td_head;
+use td_words::{Machine, OpState, PageKind, Status, Value, VcpuState};
+
+/// VP.CREATE TDR PAGE.
+pub fn create_vp(machine: Machine, plain: &mut Plain, tdr: u64, page: u64) -> Result<Value, Status>
+    requires { FitsMachine machine plain.old }
+    ensures fits { FitsMachine machine plain.new }
+    ensures does { Does (row_in machine (call.VpCreate tdr page)) (world_of plain.old) (world_of plain.new) result }
+{
+    let tdr = page_in(machine, 1, tdr)?;
+    let page = page_in(machine, 2, page)?;
+    judge(&[apart(page, tdr)])?;
+    td_head(plain, tdr, &[OpState::Initialized, OpState::MemoryImport])?;
+    judge(&[plain.vp_room(tdr), plain.host_page(page)])?;
+    take(&mut plain.cells, page, PageKind::Tdvpr, tdr);
+    set_vcpu(&mut plain.cells, page, VcpuState::Created);
+    plain.tds[usize::from(tdr)].vps.push(page);
+    Ok(Value::Nothing)
+}
+
+/// VP.INIT TDR VP VALUE. No call that is built reads registers.
+pub fn initialize_vp(
+    machine: Machine,
+    plain: &mut Plain,
+    tdr: u64,
+    vp: u64,
+    value: u64,
+) -> Result<Value, Status>
+    requires { FitsMachine machine plain.old }
+    ensures fits { FitsMachine machine plain.new }
+    ensures does { Does (row_in machine (call.VpInit tdr vp value)) (world_of plain.old) (world_of plain.new) result }
+{
+    let tdr = page_in(machine, 1, tdr)?;
+    let vp = page_in(machine, 2, vp)?;
+    judge(&[apart(vp, tdr)])?;
+    td_head(plain, tdr, &[OpState::Initialized])?;
+    judge(&[
+        plain.td_page(tdr, vp, PageKind::Tdvpr),
+        plain.vp_in(vp, VcpuState::Created),
+    ])?;
+    set_vcpu(&mut plain.cells, vp, VcpuState::Ready);
+    Ok(Value::Nothing)
+}
