@@ -6,6 +6,10 @@ use Rattle.sha2.specs.Sha512.{sha384}
 use Rattle.std.proofs.lemmas.Bool.{eqb-true}
 use Rattle.td_words.specs.declared.names.PageKind.{PageKind}
 use Rattle.td_words.specs.declared.names.PageKind.TheVariants as kind
+use Rattle.mrtd_measure.specs.Records.{page_record, chunk_records}
+use Rattle.td_words.specs.declared.names.EntryState.{EntryState}
+use Rattle.td_words.specs.declared.names.EntryState.TheVariants as entry
+use Rattle.td_words.specs.declared.names.LifeState.{LifeState}
 use Rattle.td_words.specs.declared.names.LifeState.TheVariants as life
 use Rattle.td_words.specs.declared.names.OpState.{OpState}
 use Rattle.td_words.specs.declared.names.OpState.TheVariants as op
@@ -16,22 +20,25 @@ use Rattle.td_words.specs.declared.machines.Machine.{Machine}
 use Rattle.td_words.specs.declared.calls.Call.{Call}
 use Rattle.td_words.specs.declared.calls.Call.TheVariants as call
 use Rattle.td_words.specs.declared.replies.Value.TheVariants as value
-use Rattle.td_words.specs.NameNumber.{op_number}
+use Rattle.td_words.specs.NameNumber.{op_number, life_number}
 use Rattle.td_words.specs.Packing.{Key, Unassigned, AssignedTo, FlushedOf}
 use Rattle.flat_core.specs.World.{World, Pages, Tds, Vps, KeyTable, Hidden, put}
 use Rattle.flat_core.specs.Opening.{Opening, Agree}
 use Rattle.flat_core.specs.Row.{Row}
 use Rattle.flat_core.specs.Digests.{digest_word}
-use Rattle.flat_core.specs.Conditions.{same_kind, is_host_in}
-use Rattle.flat_core.specs.Effects.{new_td, take_node, take_page, clear_page, give_back, end_memory_in, set_key, set_life, set_op, add_vp, set_vp_state, set_register, end_measurement, set_epoch, written_back}
+use Rattle.flat_core.specs.Conditions.{same_kind, is_host_in, host_page, page_exclusive}
+use Rattle.flat_core.specs.Effects.{put_in, new_td, take_node, take_page, map_page, set_page, begin_memory, measure, clear_page, give_back, end_memory_in, set_key, set_life, set_op, add_vp, set_vp_state, set_register, end_measurement, set_epoch, written_back}
 use Rattle.flat_core.specs.HostRows.{host_read, host_write, read_metadata}
 use Rattle.flat_core.specs.TdRows.{create, configure_key, add_tdcx, initialize, read_conditions, field_value, read_td, finalize}
 use Rattle.flat_core.specs.KeyRows.{write_caches_back, reclaim_conditions, reclaim_page, end_flush, free_hkid}
 use Rattle.flat_core.specs.VpRows.{create_vp, initialize_vp}
+use Rattle.flat_core.specs.MemRows.{add_sept, read_sept, add_page, chunk_bytes, extend}
+use Rattle.flat_core.specs.Tree.{page_of_gpa, number_at, entry_at, same_state, state_in}
 use Rattle.flat_core.specs.Table.{row_of}
-use Rattle.flat_core.specs.Lawful.{LawfulPages}
+use Rattle.flat_core.specs.Lawful.{IsAlive, LawfulPages, Lawful, is_free}
 use Rattle.flat_core.specs.Alike.{Alike, AreBlind, is_public, is_being_built}
-use Rattle.flat_core.proofs.Tests.{by_test, host_kind}
+use Rattle.flat_core.proofs.Tests.{by_test, host_kind, tdr_kind, range_of}
+use Rattle.flat_core.proofs.Maps.{walk_passed}
 
 -- a host page's words are public
 host_public : (pages : Pages) (tds : Tds) (p : ℕ) → is_host_in pages p ≡ true → is_public pages tds p ≡ true
@@ -144,6 +151,30 @@ module _ (v w : World) (a : Alike v w) where
     told = a.told;
     bundles = a.bundles;
   }
+
+-- a page that is filled with the same words; and one that becomes the page that an entry of a TD names
+filled_alike : (v w : World) (p : ℕ) (f g : ℕ → ℕ) → ((i : ℕ) → f i ≡ g i) → Alike v w → Alike (set_page p f v) (set_page p g w)
+filled_alike v w p f g same a = record {
+  size = a.size;
+  pages = a.pages;
+  words = λ q i known. by_test (q == p) (λ y. rw y (same i)) (λ n. rw n (a.words q i known));
+  tds = a.tds;
+  vps = a.vps;
+  streams = a.streams;
+  key_table = a.key_table;
+  told = a.told;
+  bundles = a.bundles;
+}
+
+mapped_alike : (v w : World) (p : ℕ) (k : PageKind) (s : EntryState) (t level number : ℕ) → v.pages.kinds p ≡ kind.Nda → Alike v w → Alike (map_page p k s t level number v) (map_page p k s t level number w)
+mapped_alike v w p k s t level number host a =
+    tds_alike (take_node p k t level number v) (take_node p k t level number w) (taken_alike v w a p k t level number host)
+    (λ x. record x { entries = put x.entries t (put_in (x.entries t) level number (record { state = s; page = p; mark = 0 })) }) (λ x. refl)
+
+-- the same is measured
+measured_alike : (v w : World) (t : ℕ) (xs ys : List ℕ) → xs ≡ ys → Alike v w → Alike (measure t xs v) (measure t ys w)
+measured_alike v w t xs ys e a =
+    subst (λ (zs : List ℕ). Alike (measure t xs v) (measure t zs w)) e (tds_alike v w a (λ x. record x { measured = put x.measured t (x.measured t ++ xs) }) (λ x. refl))
 
 -- a TDVPR page that is added
 abbrev with_vp : Vps → ℕ → List ℕ → Vps
@@ -380,6 +411,87 @@ initialize_vp-blind m t vp x = record {
       (set_register vp 0 x v1).hidden (set_register vp 0 x w1).hidden;
 }
 
+pub add_sept-blind : (m : Machine) (t gpa level p : ℕ) → AreBlind m (add_sept m t gpa level p) (add_sept m t gpa level p)
+add_sept-blind m t gpa level p = record {
+  enters = refl;
+  items = λ v w a. rw (a.pages, a.tds) refl;
+  value = λ v w a. refl;
+  cached = λ v w ts a. refl;
+  act = λ v w lv lw a ps.
+      let at = range_of level 3 ps.1.1.0 in
+      let behind = walk_passed v t gpa (state_in v t gpa level (entry.Free ∷ []) ∷ page_exclusive p ∷ host_page v p ∷ []) level at.1 ps.1.1.1.1.1.1.1.1.1.1 in
+      let n : ℕ = number_at level gpa in
+      cleared_alike (map_page p kind.Ept entry.NlMapped t level n v) (map_page p kind.Ept entry.NlMapped t level n w)
+      (mapped_alike v w p kind.Ept entry.NlMapped t level n (host_kind _ behind.0.1.0) a) p;
+}
+
+pub read_sept-blind : (m : Machine) (t gpa level : ℕ) → AreBlind m (read_sept m t gpa level) (read_sept m t gpa level)
+read_sept-blind m t gpa level = record {
+  enters = refl;
+  items = λ v w a. rw (a.pages, a.tds) refl;
+  value = λ v w a. rw a.tds refl;
+  cached = λ v w ts a. refl;
+  act = λ v w lv lw a ps. a;
+}
+
+pub add_page-blind : (m : Machine) (t gpa p source : ℕ) → AreBlind m (add_page m t gpa p source) (add_page m t gpa p source)
+add_page-blind m t gpa p source = record {
+  enters = refl;
+  items = λ v w a. rw (a.pages, a.tds) refl;
+  value = λ v w a. refl;
+  cached = λ v w ts a. refl;
+  act = λ v w lv lw a ps.
+      let behind = ps.1.1.1.1.1.1.1.1.1.1.1.1.1.1.1 in
+      let v1 : World = map_page p kind.Reg entry.Mapped t 0 (number_at 0 gpa) v in
+      let w1 : World = map_page p kind.Reg entry.Mapped t 0 (number_at 0 gpa) w in
+      let a1 : Alike v1 w1 = mapped_alike v w p kind.Reg entry.Mapped t 0 (number_at 0 gpa) (host_kind _ behind.1.1.0) a in
+      let v2 : World = set_page p (v.words source) v1 in
+      let w2 : World = set_page p (w.words source) w1 in
+      let a2 : Alike v2 w2 = filled_alike v1 w1 p (v.words source) (w.words source) (λ i. a.words source i (host_public v.pages v.tds source behind.1.0)) a1 in
+      let v3 : World = begin_memory t (page_of_gpa gpa) (v.words source) v2 in
+      let w3 : World = begin_memory t (page_of_gpa gpa) (w.words source) w2 in
+      measured_alike v3 w3 t (page_record gpa) (page_record gpa) refl (hidden_alike v2 w2 a2 v3.hidden w3.hidden);
+}
+
+-- MR.EXTEND measures a page of a TD that is still being built, whose words are public
+mapped_used : (s : EntryState) → list_any (λ a. same_state a s) (entry.Mapped ∷ []) ≡ true → is_free s ≡ false
+mapped_used entry.Mapped h = refl
+mapped_used _ h = cc
+
+is_begun : (s : OpState) → list_any (λ a. op_number a == op_number s) (op.Initialized ∷ []) ≡ true → is_being_built s ≡ true
+is_begun op.Initialized h = refl
+is_begun _ h = cc
+
+is_living : (s : LifeState) → list_any (λ a. life_number a == life_number s) (life.KeysConfigured ∷ []) ≡ true → (life_number s == life_number life.Teardown) ≡ false
+is_living life.KeysConfigured h = refl
+is_living _ h = cc
+
+same_chunk : (f g : ℕ → ℕ) (gpa : ℕ) → ((i : ℕ) → f i ≡ g i) → chunk_bytes f gpa ≡ chunk_bytes g gpa
+same_chunk f g gpa h = ap (λ (ws : ℕ → ℕ). chunk_bytes ws gpa) (λ j i. h i j)
+
+measured_chunk : (m : Machine) (v w : World) (t gpa : ℕ) → Lawful m v → Alike v w → IsAlive v.pages v.tds t → is_being_built (v.tds.ops t) ≡ true → is_free (entry_at v t 0 gpa).state ≡ false
+    → chunk_bytes (v.words (entry_at v t 0 gpa).page) gpa ≡ chunk_bytes (w.words (entry_at w t 0 gpa).page) gpa
+measured_chunk m v w t gpa lv a alive built used =
+    let page : ℕ = (entry_at v t 0 gpa).page in
+    let node = (lv.tree.leaf t (number_at 0 gpa) alive used).1 in
+    let known : is_public v.pages v.tds page ≡ true = rw (node.page.kind, node.page.owner, built) refl in
+    same_chunk (v.words page) (w.words page) gpa (λ i. a.words page i known)
+    ∙ ap (λ (x : Tds). chunk_bytes (w.words (x.entries t 0 (number_at 0 gpa)).page) gpa) a.tds
+
+pub extend-blind : (m : Machine) (t gpa : ℕ) → AreBlind m (extend m t gpa) (extend m t gpa)
+extend-blind m t gpa = record {
+  enters = refl;
+  items = λ v w a. rw (a.pages, a.tds) refl;
+  value = λ v w a. refl;
+  cached = λ v w ts a. refl;
+  act = λ v w lv lw a ps.
+      let head = ps.1.1.1 in
+      let behind = head.1.1.1.1.1.1.1 in
+      let alive : IsAlive v.pages v.tds t = record { kind = tdr_kind _ head.0; life = is_living (v.tds.lives t) head.1.0 } in
+      measured_alike v w t _ _
+      (ap (λ (bytes : List ℕ). chunk_records gpa bytes) (measured_chunk m v w t gpa lv a alive (is_begun (v.tds.ops t) head.1.1.1.0) (mapped_used (entry_at v t 0 gpa).state behind.0))) a;
+}
+
 -- rows of one machine
 blind_at : (o q : Opening) → o.machine ≡ q.machine → (r : Machine → Row) → AreBlind o.machine (r o.machine) (r o.machine) → AreBlind o.machine (r o.machine) (r q.machine)
 blind_at o q e r h = subst (λ (m : Machine). AreBlind o.machine (r o.machine) (r m)) e h
@@ -397,6 +509,10 @@ row-blind o q a me (call.MngInit t) = blind_at o q a.machine (λ m. initialize m
 row-blind o q a me (call.MngRd t f) = blind_at o q a.machine (λ m. read_td m t f) (read_td-blind o.machine t f)
 row-blind o q a me (call.MngVpflushdone t) = blind_at o q a.machine (λ m. end_flush m t) (end_flush-blind o.machine t)
 row-blind o q a me (call.MngKeyFreeid t) = blind_at o q a.machine (λ m. free_hkid m t) (free_hkid-blind o.machine t)
+row-blind o q a me (call.MrExtend t gpa) = blind_at o q a.machine (λ m. extend m t gpa) (extend-blind o.machine t gpa)
 row-blind o q a me (call.MrFinalize t) = blind_at o q a.machine (λ m. finalize m t) (finalize-blind o.machine t)
 row-blind o q a me (call.VpCreate t p) = blind_at o q a.machine (λ m. create_vp m t p) (create_vp-blind o.machine t p)
 row-blind o q a me (call.VpInit t vp x) = blind_at o q a.machine (λ m. initialize_vp m t vp x) (initialize_vp-blind o.machine t vp x)
+row-blind o q a me (call.MemSeptAdd t gpa level p) = blind_at o q a.machine (λ m. add_sept m t gpa level p) (add_sept-blind o.machine t gpa level p)
+row-blind o q a me (call.MemSeptRd t gpa level) = blind_at o q a.machine (λ m. read_sept m t gpa level) (read_sept-blind o.machine t gpa level)
+row-blind o q a me (call.MemPageAdd t gpa p source) = blind_at o q a.machine (λ m. add_page m t gpa p source) (add_page-blind o.machine t gpa p source)

@@ -1,5 +1,5 @@
 -- Every call ends, and so does every run.
-use Rattle.std.proofs.Common.{◌≡◌, ◌≢◌, refl, sym, ◌∙◌, subst, ap, ℕ, zero, suc, ◌+◌, ◌-◌, ◌<◌, ◌≤◌, List, [], ◌∷◌, ◌++◌, length, drop, replicate, Option, Some, None, Bool, true, false, ◌==◌, if◌then◌else◌, arith, length-append}
+use Rattle.std.proofs.Common.{◌≡◌, ◌≢◌, refl, sym, ◌∙◌, subst, ap, ℕ, zero, suc, ◌+◌, ◌-◌, ◌<◌, ◌≤◌, List, [], ◌∷◌, ◌++◌, length, drop, map, replicate, Option, Some, None, Bool, true, false, ◌==◌, if◌then◌else◌, arith, length-append}
 use Rattle.std.proofs.lemmas.Bool.{eq-eqb, eqb-true, eqb-false, ne_eqb}
 use Rattle.td_words.specs.declared.names.Mode.{Mode}
 use Rattle.td_words.specs.declared.names.Mode.TheVariants.{Shared, Exclusive}
@@ -7,7 +7,12 @@ use Rattle.td_words.specs.declared.calls.Call.{Call}
 use Rattle.td_words.specs.declared.calls.Call.TheVariants as call
 use Rattle.td_words.specs.declared.names.ReadField.TheVariants as field
 use Rattle.td_words.specs.declared.replies.Reply.{Reply}
-use Rattle.td_words.specs.declared.replies.Reply.TheVariants.{Done}
+use Rattle.td_words.specs.declared.replies.Reply.TheVariants.{Done, Refused}
+use Rattle.td_words.specs.declared.refusals.Status.TheVariants.{EptWalkFailed}
+use Rattle.td_words.specs.declared.names.EntryState.TheVariants as entry
+use Rattle.std.specs.Prelude.{filter, nat_lt}
+use Rattle.flat_core.specs.Conditions.{page_exclusive, host_page}
+use Rattle.flat_core.specs.Tree.{entry_at, same_state, state_in}
 use Rattle.flat_core.specs.World.{World, put}
 use Rattle.flat_core.specs.Processor.{LockId, Held, Phase, Trying, Undoing, Answered, Progress, Guest, Entering, Lp, idle, nothing_yet}
 use Rattle.flat_core.specs.Opening.{Opening}
@@ -28,12 +33,29 @@ next_is C (Check false r ∷ items) k refuses succeeds attempts = refuses r
 next_is C (Try l m ∷ items) zero refuses succeeds attempts = attempts l m (omega arith)
 next_is C (Try l m ∷ items) (suc k) refuses succeeds attempts = next_is C items k refuses succeeds (λ l m h. attempts l m (omega arith))
 
+-- a walk is conditions alone
+checks_tried : (b : ℕ → Bool) (r : ℕ → Reply) (ls : List ℕ) (items : List (Item Reply)) → tries_in (map (λ l. Check (b l) (r l)) ls ++ items) ≡ tries_in items
+checks_tried b r [] items = refl
+checks_tried b r (l ∷ ls) items = checks_tried b r ls items
+
+checks_alone : (b : ℕ → Bool) (r : ℕ → Reply) (ls : List ℕ) → tries_in (map (λ l. Check (b l) (r l)) ls) ≡ 0
+checks_alone b r [] = refl
+checks_alone b r (l ∷ ls) = checks_alone b r ls
+
+abbrev levels_above : ℕ → List ℕ
+levels_above level = filter (λ l. nat_lt level l) (3 ∷ 2 ∷ 1 ∷ [])
+
 pub row_tries : (o : Opening) (me : ℕ) (c : Call) (w : World) → tries_in ((row_of o me c).items w) ≤ most_tries c
 row_tries o me (call.PhymemPageReclaim t page) w = reclaim_tries (page == t)
   where
     reclaim_tries : (b : Bool) → suc (tries_in (reclaim_conditions w t page b)) ≤ 2
     reclaim_tries true = omega arith
     reclaim_tries false = omega arith
+row_tries o me (call.MemSeptAdd t gpa level page) w =
+    let tail : List (Item Reply) = state_in w t gpa level (entry.Free ∷ []) ∷ page_exclusive page ∷ host_page w page ∷ [] in
+    subst (λ (n : ℕ). suc (suc (suc n)) ≤ 4) (sym (checks_tried (λ l. same_state (entry_at w t l gpa).state entry.NlMapped) (λ l. Refused (EptWalkFailed l)) (levels_above level) tail)) (omega arith)
+row_tries o me (call.MemSeptRd t gpa level) w =
+    subst (λ (n : ℕ). suc (suc (suc n)) ≤ 3) (sym (checks_alone (λ l. same_state (entry_at w t l gpa).state entry.NlMapped) (λ l. Refused (EptWalkFailed l)) (levels_above level))) (omega arith)
 row_tries o me (call.MngRd t field.Life) w = omega arith
 row_tries o me (call.MngRd t field.Op) w = omega arith
 row_tries o me (call.MngRd t field.Epoch) w = omega arith

@@ -11,7 +11,8 @@ use Rattle.flat_core.specs.Processor.{Phase, Trying, Undoing, Answered, Held, Gu
 use Rattle.flat_core.specs.Opening.{Opening}
 use Rattle.flat_core.specs.Row.{Item, Check, Try, Row, OperationRow, Passes, next, next_in}
 use Rattle.flat_core.specs.Table.{row_of}
-use Rattle.flat_core.specs.Guest.{Operation, ByRow, Private, operation_of, reach, page_of_gpa}
+use Rattle.flat_core.specs.Tree.{page_of_gpa}
+use Rattle.flat_core.specs.Guest.{Operation, ByRow, Private, operation_of, reach}
 use Rattle.flat_core.specs.Effects.{leave_guest, tell_words}
 use Rattle.flat_core.specs.Translations.{look_up}
 use Rattle.flat_core.specs.Event.{State, Event, next_event, event_for, line_event, entered_event, epoch_event, max_event, guest_event, staying_event, due_event, operation_due, operation_event, private_event, lines_left, is_epoch_lock, nothing_more, world_after, call_world, operation_world, after_event, event}

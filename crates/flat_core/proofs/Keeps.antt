@@ -1,8 +1,12 @@
 -- Each row's act keeps what every world keeps.
-use Rattle.std.proofs.Common.{lit<, lit≤, ◌≡◌, refl, sym, ◌∙◌, subst, ap, ℕ, suc, ◌<◌, ◌≤◌, List, [], ◌∷◌, length, Option, Some, None, Bool, true, false, not, ◌==◌, arith}
+use Rattle.std.proofs.Common.{lit<, lit≤, ◌≡◌, refl, sym, ◌∙◌, subst, ap, ℕ, zero, suc, ◌<◌, ◌≤◌, List, [], ◌∷◌, length, Option, Some, None, Bool, true, false, not, ◌==◌, ◌&&◌, nat_le, arith}
 use Rattle.std.specs.List.{list_any}
 use Rattle.std.proofs.lemmas.Bool.{eqb-true}
+use Rattle.mrtd_measure.specs.Records.{page_record, chunk_records}
+use Rattle.td_words.specs.declared.names.PageKind.{PageKind}
 use Rattle.td_words.specs.declared.names.PageKind.TheVariants as kind
+use Rattle.td_words.specs.declared.names.EntryState.{EntryState}
+use Rattle.td_words.specs.declared.names.EntryState.TheVariants as entry
 use Rattle.td_words.specs.declared.names.LifeState.{LifeState}
 use Rattle.td_words.specs.declared.names.LifeState.TheVariants as life
 use Rattle.td_words.specs.declared.names.OpState.{OpState}
@@ -16,17 +20,20 @@ use Rattle.td_words.specs.Packing.{Key, Unassigned, AssignedTo, FlushedOf}
 use Rattle.flat_core.specs.World.{World, Pages, Tds, KeyTable, put, first_world}
 use Rattle.flat_core.specs.Opening.{Opening}
 use Rattle.flat_core.specs.Row.{Passes}
-use Rattle.flat_core.specs.Conditions.{is_free_key, is_host, vp_limit}
-use Rattle.flat_core.specs.Effects.{new_td, clear_page, take_page, end_memory_in, set_life, set_op, set_epoch, end_measurement}
+use Rattle.flat_core.specs.Conditions.{is_free_key, is_host, vp_limit, host_page, page_exclusive}
+use Rattle.flat_core.specs.Tree.{page_of_gpa, number_at, entry_at, same_state, state_in}
+use Rattle.flat_core.specs.Effects.{new_td, set_page, clear_page, take_page, map_page, begin_memory, end_memory_in, set_life, set_op, set_epoch, end_measurement}
 use Rattle.flat_core.specs.HostRows.{host_read, host_write, read_metadata}
 use Rattle.flat_core.specs.TdRows.{create, configure_key, add_tdcx, initialize, read_td, finalize}
 use Rattle.flat_core.specs.KeyRows.{write_caches_back, reclaim_conditions, reclaim_page, end_flush, free_hkid}
 use Rattle.flat_core.specs.VpRows.{create_vp, initialize_vp}
+use Rattle.flat_core.specs.MemRows.{add_sept, read_sept, add_page, chunk_bytes, extend}
 use Rattle.flat_core.specs.Table.{row_of}
 use Rattle.flat_core.specs.Lawful.{IsAlive, AreControls, ArePagesOf, LawfulPages, LawfulTds, LawfulTree, LawfulKeys, LawfulBeginnings, Lawful, RowKeeps, is_free, key_owner}
 use Rattle.flat_core.proofs.Tests.{by_test, host_kind, tdr_kind, lt_of, range_of, some_same, same_self, not_true, and_left, and_right}
 use Rattle.flat_core.proofs.Pages.{taken, other, taken_node, taken_controls, taken_list, unowned, taken_pages}
-use Rattle.flat_core.proofs.Parts.{IsLive, new_kept, key_kept, write_back_kept, life_kept, op_kept, epoch_kept, begin_kept, end_kept, control_kept, vp_kept, taken_kept, ended_kept, left_kept}
+use Rattle.flat_core.proofs.Maps.{kind_named, is_upper, map_kept, walk_passed}
+use Rattle.flat_core.proofs.Parts.{IsLive, new_kept, key_kept, write_back_kept, life_kept, op_kept, epoch_kept, begin_kept, measure_kept, end_kept, control_kept, vp_kept, taken_kept, ended_kept, left_kept}
 
 pub host_read-keeps : (m : Machine) (page i : ℕ) → RowKeeps m (host_read m page i)
 host_read-keeps m page i = record { act = λ w l ps. l; to_tell = λ w. refl }
@@ -103,7 +110,7 @@ module _ (count : ℕ) (old : Pages) (tds : Tds) (table : KeyTable) (t h : ℕ) 
     epoch = λ x. by_test (x == t) (λ y. rw y (lit< tt)) (λ y. rw y (l.epoch x));
   }
 
-  named_kept : LawfulTree old tds → (p : ℕ) → (p == t) ≡ false → (old.owners p == t) ≡ false → pages.kinds p ≡ kind.Ept → IsAlive pages begun (pages.owners p)
+  named_kept : LawfulTree count old tds → (p : ℕ) → (p == t) ≡ false → (old.owners p == t) ≡ false → pages.kinds p ≡ kind.Ept → IsAlive pages begun (pages.owners p)
       → (is_free (begun.entries (pages.owners p) (pages.levels p) (pages.numbers p)).state ≡ false) × ((begun.entries (pages.owners p) (pages.levels p) (pages.numbers p)).page ≡ p)
   named_kept l p e o k a =
       let k' : old.kinds p ≡ kind.Ept = rw e at k in
@@ -111,9 +118,9 @@ module _ (count : ℕ) (old : Pages) (tds : Tds) (table : KeyTable) (t h : ℕ) 
       let kept = l.named p k' (alive_before (old.owners p) o a') in
       rw (e, o) kept
 
-  new_tree : LawfulTree old tds → LawfulTree pages begun
+  new_tree : LawfulTree count old tds → LawfulTree count pages begun
   new_tree l = record {
-    entry = λ x k n. by_test (x == t) (λ y. rw y refl) (λ y. rw y (l.entry x k n));
+    entry = λ few x k n. by_test (x == t) (λ y. rw y refl) (λ y. rw y (l.entry few x k n));
     upper = λ x k n a. by_test (x == t)
         (λ y e. absurd (let no : true ≡ false = rw y at e in cc))
         (λ y e. rw y (let u = l.upper x k n (alive_before x y a) (rw y at e) in (u.0, taken_node count old t kind.Tdr t 0 0 host lawful x _ kind.Ept (suc k) n (λ e. cc) u.1)));
@@ -287,6 +294,57 @@ create_vp-keeps m t p = record {
 pub initialize_vp-keeps : (m : Machine) (t v x : ℕ) → RowKeeps m (initialize_vp m t v x)
 initialize_vp-keeps m t v x = record { act = λ w l ps. record { size = l.size; pages = l.pages; tds = l.tds; tree = l.tree; keys = l.keys; beginnings = l.beginnings }; to_tell = λ w. refl }
 
+-- MEM.SEPT.ADD
+free_of : (s : EntryState) → list_any (λ a. same_state a s) (entry.Free ∷ []) ≡ true → is_free s ≡ true
+free_of entry.Free h = refl
+free_of _ h = cc
+
+sept_level : (level : ℕ) → (nat_le 1 level && nat_le level 3) ≡ true → (level ≤ 3) × (is_upper level ≡ true) × (kind.Ept ≡ kind_named level)
+sept_level zero h = cc
+sept_level (suc l) h = ((range_of (suc l) 3 h).1, refl, refl)
+
+pub add_sept-keeps : (m : Machine) (t gpa level p : ℕ) → RowKeeps m (add_sept m t gpa level p)
+add_sept-keeps m t gpa level p = record {
+  act = λ w l ps.
+      let at = sept_level level ps.1.1.0 in
+      let behind = walk_passed w t gpa (state_in w t gpa level (entry.Free ∷ []) ∷ page_exclusive p ∷ host_page w p ∷ []) level at.0 ps.1.1.1.1.1.1.1.1.1.1 in
+      let kept : Lawful m (map_page p (kind_named level) entry.NlMapped t level (number_at level gpa) w) =
+          map_kept m w p t level (number_at level gpa) entry.NlMapped (host_kind _ behind.0.1.0) (lt_of p m.pages ps.1.1.1.0) l (tdr_kind _ ps.1.1.1.1.1.1.0) ps.1.1.1.1.1.1.1.1.0
+          (free_of (entry_at w t level gpa).state behind.0.0) behind.1 refl (sym at.1) refl in
+      cleared m p (map_page p kind.Ept entry.NlMapped t level (number_at level gpa) w)
+      (subst (λ (k : PageKind). Lawful m (map_page p k entry.NlMapped t level (number_at level gpa) w)) (sym at.2) kept);
+  to_tell = λ w. refl;
+}
+
+pub read_sept-keeps : (m : Machine) (t gpa level : ℕ) → RowKeeps m (read_sept m t gpa level)
+read_sept-keeps m t gpa level = record { act = λ w l ps. l; to_tell = λ w. refl }
+
+-- MEM.PAGE.ADD
+added_words : (m : Machine) (t g p : ℕ) (ws : ℕ → ℕ) (w : World) → Lawful m w → Lawful m (begin_memory t g ws (set_page p ws w))
+added_words m t g p ws w l = record { size = l.size; pages = l.pages; tds = l.tds; tree = l.tree; keys = l.keys; beginnings = l.beginnings }
+
+pub add_page-keeps : (m : Machine) (t gpa p source : ℕ) → RowKeeps m (add_page m t gpa p source)
+add_page-keeps m t gpa p source = record {
+  act = λ w l ps.
+      let head = ps.1.1.1.1.1.1.1.1 in
+      let built = head.1.1.0 in
+      let behind = walk_passed w t gpa (state_in w t gpa 0 (entry.Free ∷ []) ∷ page_exclusive source ∷ host_page w source ∷ page_exclusive p ∷ host_page w p ∷ []) 0 (lit≤ tt) head.1.1.1.1 in
+      let w1 : World = map_page p kind.Reg entry.Mapped t 0 (number_at 0 gpa) w in
+      let l1 : Lawful m w1 =
+          map_kept m w p t 0 (number_at 0 gpa) entry.Mapped (host_kind _ behind.0.1.1.0) (lt_of p m.pages ps.1.1.0) l (tdr_kind _ head.0) built
+          (free_of (entry_at w t 0 gpa).state behind.0.0) behind.1 refl refl refl in
+      let w2 : World = begin_memory t (page_of_gpa gpa) (w.words source) (set_page p (w.words source) w1) in
+      measure_kept m w2 t built (added_words m t (page_of_gpa gpa) p (w.words source) w1 l1) (page_record gpa);
+  to_tell = λ w. refl;
+}
+
+-- MR.EXTEND
+pub extend-keeps : (m : Machine) (t gpa : ℕ) → RowKeeps m (extend m t gpa)
+extend-keeps m t gpa = record {
+  act = λ w l ps. measure_kept m w t ps.1.1.1.1.1.0 l (chunk_records gpa (chunk_bytes (w.words (entry_at w t 0 gpa).page) gpa));
+  to_tell = λ w. refl;
+}
+
 pub row-keeps : (o : Opening) (me : ℕ) (c : Call) → RowKeeps o.machine (row_of o me c)
 row-keeps o me (call.HostRead page i) = host_read-keeps o.machine page i
 row-keeps o me (call.HostWrite page i v) = host_write-keeps o.machine page i v
@@ -300,16 +358,20 @@ row-keeps o me (call.MngInit t) = initialize-keeps o.machine t
 row-keeps o me (call.MngRd t f) = read_td-keeps o.machine t f
 row-keeps o me (call.MngVpflushdone t) = end_flush-keeps o.machine t
 row-keeps o me (call.MngKeyFreeid t) = free_hkid-keeps o.machine t
+row-keeps o me (call.MrExtend t gpa) = extend-keeps o.machine t gpa
 row-keeps o me (call.MrFinalize t) = finalize-keeps o.machine t
 row-keeps o me (call.VpCreate t page) = create_vp-keeps o.machine t page
 row-keeps o me (call.VpInit t v x) = initialize_vp-keeps o.machine t v x
+row-keeps o me (call.MemSeptAdd t gpa level page) = add_sept-keeps o.machine t gpa level page
+row-keeps o me (call.MemSeptRd t gpa level) = read_sept-keeps o.machine t gpa level
+row-keeps o me (call.MemPageAdd t gpa page source) = add_page-keeps o.machine t gpa page source
 
 pub first-lawful : (m : Machine) (words_to_tell : Option (List ℕ)) → Lawful m (first_world m.pages words_to_tell)
 first-lawful m ws = record {
   size = refl;
   pages = record { tdr = λ t h. cc; owner = λ p h. cc; in_machine = λ p h. cc; host = λ p h. (refl, refl); blocked = λ p. lit< tt };
   tds = record { controls = λ t a. tt; vps = λ t a. tt; streams = λ t a. tt; vps_few = λ t. lit≤ tt; vps_differ = λ t. refl; vps_expected = λ t. lit≤ tt; streams_few = λ t. lit≤ tt; streams_differ = λ t. refl; epoch = λ t. lit< tt };
-  tree = record { entry = λ t l n. refl; upper = λ t l n a h. absurd (let no : true ≡ false = h in cc); leaf = λ t n a h. absurd (let no : true ≡ false = h in cc); below = λ t l n few a h. absurd (let no : true ≡ false = h in cc); named = λ p h a. cc };
+  tree = record { entry = λ few t l n. refl; upper = λ t l n a h. absurd (let no : true ≡ false = h in cc); leaf = λ t n a h. absurd (let no : true ≡ false = h in cc); below = λ t l n few a h. absurd (let no : true ≡ false = h in cc); named = λ p h a. cc };
   keys = record {
     in_range = λ t a. absurd (let no : kind.Nda ≡ kind.Tdr = a.kind in cc);
     owner = λ t a. absurd (let no : kind.Nda ≡ kind.Tdr = a.kind in cc);

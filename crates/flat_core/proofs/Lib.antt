@@ -2,11 +2,13 @@ pub mod Worked
 pub mod Tests
 pub mod Pages
 pub mod Parts
+pub mod Maps
 pub mod Induction
 pub mod Keeps
 pub mod Blind
 pub mod Mrtd
 pub mod Kept
+pub mod Owned
 pub mod LockLaw
 pub mod Ends
 pub mod TwoWorlds

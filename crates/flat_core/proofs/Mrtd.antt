@@ -5,9 +5,10 @@ use Rattle.std.specs.Int.{w64, byte_at, bytes_high_first, from_le_bytes, to_le_b
 use Rattle.std.proofs.lemmas.Nat.{le_bytes_8}
 use Rattle.sha2.specs.Sha512.{sha384, digest_bytes as hash_bytes, final_hash, initial_hash_384}
 use Rattle.td_words.specs.declared.replies.Value.TheVariants as value
+use Rattle.td_words.specs.declared.calls.Call.TheVariants as call
 use Rattle.flat_core.specs.World.{put}
 use Rattle.flat_core.specs.Digests.{digest_word, digest_bytes, six_words}
-use Rattle.flat_core.specs.Laws.{MrtdIsTheDigest}
+use Rattle.flat_core.specs.Laws.{MrtdIsTheDigest, RecordsAreMeasured}
 use Rattle.flat_core.proofs.Tests.{same_self}
 
 byte_small : (i n : ℕ) → byte_at i n < 256
@@ -51,3 +52,7 @@ pub mrtd_is_the_digest : MrtdIsTheDigest
 mrtd_is_the_digest m w t =
     ap (λ (f : ℕ → ℕ). value.Digest (digest_bytes (six_words f))) (put_same w.tds.mrtds t (digest_word (sha384 (w.tds.measured t))))
     ∙ ap (λ (l : List ℕ). value.Digest l) (digest_read (w.tds.measured t))
+
+pub records_are_measured : RecordsAreMeasured
+records_are_measured o me (call.HostRead page i) w t = refl
+records_are_measured o me _ w t = refl

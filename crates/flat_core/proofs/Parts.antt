@@ -13,8 +13,8 @@ use Rattle.td_words.specs.Packing.{Entry, Key, Unassigned}
 use Rattle.flat_core.specs.World.{World, Pages, Tds, KeyTable, put}
 use Rattle.flat_core.specs.Locks.{one_if}
 use Rattle.flat_core.specs.Conditions.{is_host_in, owned_below}
-use Rattle.flat_core.specs.Effects.{take_node, give_back, set_key, set_life, set_op, set_epoch, add_control, add_vp, begin_measurement, end_measurement, write_back, written_back}
-use Rattle.flat_core.specs.Lawful.{IsAlive, IsPageOf, AreControls, ArePagesOf, all_differ, LawfulTds, LawfulTree, LawfulKeys, LawfulBeginnings, Lawful, IsNew, is_free, key_owner}
+use Rattle.flat_core.specs.Effects.{take_node, give_back, set_key, set_life, set_op, set_epoch, add_control, add_vp, begin_measurement, measure, end_measurement, write_back, written_back}
+use Rattle.flat_core.specs.Lawful.{IsAlive, IsPageOf, IsNodeOf, AreControls, ArePagesOf, all_differ, LawfulPages, LawfulTds, LawfulTree, LawfulKeys, LawfulBeginnings, Lawful, IsNew, is_node, is_free, key_owner}
 use Rattle.flat_core.proofs.Tests.{by_test, some_same, lt_of, not_true, and_left, and_right}
 use Rattle.flat_core.proofs.Pages.{node_kept, controls_kept, pages_kept, taken, other, taken_node, taken_controls, taken_list, taken_pages}
 
@@ -99,8 +99,8 @@ module _ (pages : Pages) (tds tds' : Tds) (back : (x : ℕ) → IsAlive pages td
     epoch = small;
   }
 
-  pub shape_tree : tds'.entries ≡ tds.entries → LawfulTree pages tds → LawfulTree pages tds'
-  shape_tree same l = subst (λ (f : ℕ → ℕ → ℕ → Entry). LawfulTree pages (record tds' { entries = f })) (sym same) (record {
+  pub shape_tree : (count : ℕ) → tds'.entries ≡ tds.entries → LawfulTree count pages tds → LawfulTree count pages tds'
+  shape_tree count same l = subst (λ (f : ℕ → ℕ → ℕ → Entry). LawfulTree count pages (record tds' { entries = f })) (sym same) (record {
     entry = l.entry;
     upper = λ x k n a. l.upper x k n (back x (record { kind = a.kind; life = a.life }));
     leaf = λ x n a. l.leaf x n (back x (record { kind = a.kind; life = a.life }));
@@ -155,7 +155,7 @@ life_kept m w t s before after l = record {
   size = l.size;
   pages = l.pages;
   tds = shape_tds w.pages w.tds tds' back same l.tds.epoch l.tds;
-  tree = shape_tree w.pages w.tds tds' back refl l.tree;
+  tree = shape_tree w.pages w.tds tds' back m.pages refl l.tree;
   keys = shape_keys w.pages w.tds tds' back refl m.hkids w.key_table w.key_table forth (λ h. refl) l.keys;
   beginnings = shape_beginnings w.pages w.tds tds' back refl w.hidden.rtmrs w.hidden.rtmrs (λ x n. refl) l.beginnings;
 }
@@ -179,7 +179,7 @@ module _ (m : Machine) (w : World) (t : ℕ) (built : (length (w.tds.controls t)
     size = l.size;
     pages = l.pages;
     tds = shape_tds w.pages w.tds tds' back same small l.tds;
-    tree = shape_tree w.pages w.tds tds' back same.entries l.tree;
+    tree = shape_tree w.pages w.tds tds' back m.pages same.entries l.tree;
     keys = shape_keys w.pages w.tds tds' back same.hkids m.hkids w.key_table w.key_table forth (λ h. refl) l.keys;
     beginnings = shape_beginnings w.pages w.tds tds' back same.controls w.hidden.rtmrs w.hidden.rtmrs (λ x n. e x (built_other w.tds.controls t x built n)) l.beginnings;
   }
@@ -202,6 +202,9 @@ module _ (m : Machine) (w : World) (t : ℕ) (built : (length (w.tds.controls t)
 
   pub begin_kept : Lawful m (begin_measurement t w)
   begin_kept = built_kept (record (w.tds) { measured = put w.tds.measured t [] }) (same_shape _ refl refl refl refl refl refl) refl l.tds.epoch (λ x n. refl)
+
+  pub measure_kept : (records : List ℕ) → Lawful m (measure t records w)
+  measure_kept records = built_kept (measure t records w).tds (same_shape _ refl refl refl refl refl refl) refl l.tds.epoch (λ x n. refl)
 
   pub end_kept : Lawful m (end_measurement t w)
   end_kept = built_kept (end_measurement t w).tds (same_shape _ refl refl refl refl refl refl) refl l.tds.epoch (λ x n. rw n refl)
@@ -239,7 +242,7 @@ module _ (m : Machine) (w : World) (t p : ℕ) (l : Lawful m w) (page : IsPageOf
       streams_differ = l.tds.streams_differ;
       epoch = l.tds.epoch;
     };
-    tree = shape_tree w.pages w.tds with_control control_back refl l.tree;
+    tree = shape_tree w.pages w.tds with_control control_back m.pages refl l.tree;
     keys = shape_keys w.pages w.tds with_control control_back refl m.hkids w.key_table w.key_table (λ x a. record { kind = a.kind; life = a.life }) (λ h. refl) l.keys;
     beginnings = record {
       is_new = λ x a n. new_kept w.tds with_control w.hidden.rtmrs w.hidden.rtmrs x refl (l.beginnings.is_new x (control_back x a)
@@ -288,14 +291,14 @@ module _ (m : Machine) (w : World) (t p : ℕ) (l : Lawful m w) (page : IsPageOf
       streams_differ = l.tds.streams_differ;
       epoch = l.tds.epoch;
     };
-    tree = shape_tree w.pages w.tds with_vp vp_back refl l.tree;
+    tree = shape_tree w.pages w.tds with_vp vp_back m.pages refl l.tree;
     keys = shape_keys w.pages w.tds with_vp vp_back refl m.hkids w.key_table w.key_table (λ x a. record { kind = a.kind; life = a.life }) (λ h. refl) l.keys;
     beginnings = shape_beginnings w.pages w.tds with_vp vp_back refl w.hidden.rtmrs w.hidden.rtmrs (λ x n. rw (built_other w.tds.controls t x built n) refl) l.beginnings;
   }
 
 -- a host page is taken by a TD
 module _ (m : Machine) (w : World) (p : ℕ) (k : PageKind) (t level number : ℕ) (host : w.pages.kinds p ≡ kind.Nda) (small : p < m.pages) (l : Lawful m w) (not_host : k ≢ kind.Nda) (not_tdr : k ≢ kind.Tdr) (root : w.pages.kinds t ≡ kind.Tdr) where
-  abbrev now : Pages
+  abbrev pub now : Pages
   now = taken m.pages w.pages p k t level number host l.pages
 
   pub taken_back : (x : ℕ) → IsAlive now w.tds x → IsAlive w.pages w.tds x
@@ -305,42 +308,60 @@ module _ (m : Machine) (w : World) (p : ℕ) (k : PageKind) (t level number : �
   taken_forth x a = record { kind = rw (other m.pages w.pages p k t level number host l.pages x kind.Tdr a.kind (λ e. cc)) a.kind; life = a.life }
 
   -- a secure EPT page is named by the entry at its node
-  abbrev IsNamed : ℕ → Pages → Type 0
+  abbrev pub IsNamed : ℕ → Pages → Type 0
   IsNamed q pages = (is_free (w.tds.entries (pages.owners q) (pages.levels q) (pages.numbers q)).state ≡ false) × ((w.tds.entries (pages.owners q) (pages.levels q) (pages.numbers q)).page ≡ q)
 
-  named_there : (q : ℕ) → (q == p) ≡ false → now.kinds q ≡ kind.Ept → IsAlive now w.tds (now.owners q) → IsNamed q now
+  pub named_there : (q : ℕ) → (q == p) ≡ false → now.kinds q ≡ kind.Ept → IsAlive now w.tds (now.owners q) → IsNamed q now
   named_there q n e a =
       let e' : w.pages.kinds q ≡ kind.Ept = rw n at e in
       let a' : IsAlive now w.tds (w.pages.owners q) = rw n at a in
       rw n (l.tree.named q e' (taken_back (w.pages.owners q) a'))
 
+  pub taken_page_facts : LawfulPages m.pages now
+  taken_page_facts = taken_pages m.pages w.pages p k t level number host l.pages small not_host (λ e. absurd (not_tdr e)) (rw (other m.pages w.pages p k t level number host l.pages t kind.Tdr root (λ e. cc)) root)
+
+  pub taken_tds : LawfulTds now w.tds
+  taken_tds = record {
+    controls = λ x a. taken_controls m.pages w.pages p k t level number host l.pages x (w.tds.controls x) (l.tds.controls x (taken_back x a));
+    vps = λ x a. taken_list m.pages w.pages p k t level number host l.pages x kind.Tdvpr (w.tds.vps x) (λ e. cc) (l.tds.vps x (taken_back x a));
+    vps_few = l.tds.vps_few;
+    vps_differ = l.tds.vps_differ;
+    vps_expected = l.tds.vps_expected;
+    streams = λ x a. taken_list m.pages w.pages p k t level number host l.pages x kind.Migsc (w.tds.streams x) (λ e. cc) (l.tds.streams x (taken_back x a));
+    streams_few = l.tds.streams_few;
+    streams_differ = l.tds.streams_differ;
+    epoch = l.tds.epoch;
+  }
+
+  -- what an entry of a level says of the page that it names
+  pub taken_upper : (x j n : ℕ) → IsAlive now w.tds x → is_free (w.tds.entries x (suc j) n).state ≡ false
+      → (is_node (w.tds.entries x (suc j) n).state ≡ true) × IsNodeOf now x (w.tds.entries x (suc j) n).page kind.Ept (suc j) n
+  taken_upper x j n a e = let u = l.tree.upper x j n (taken_back x a) e in (u.0, taken_node m.pages w.pages p k t level number host l.pages x _ kind.Ept (suc j) n (λ e. cc) u.1)
+
+  pub taken_leaf : (x n : ℕ) → IsAlive now w.tds x → is_free (w.tds.entries x 0 n).state ≡ false
+      → (is_node (w.tds.entries x 0 n).state ≡ false) × IsNodeOf now x (w.tds.entries x 0 n).page kind.Reg 0 n
+  taken_leaf x n a e = let u = l.tree.leaf x n (taken_back x a) e in (u.0, taken_node m.pages w.pages p k t level number host l.pages x _ kind.Reg 0 n (λ e. cc) u.1)
+
+  pub taken_keys : LawfulKeys m.hkids now w.tds w.key_table
+  taken_keys = record {
+    in_range = λ x a. l.keys.in_range x (taken_back x a);
+    owner = λ x a. l.keys.owner x (taken_back x a);
+    owned = λ h x e. (let o = l.keys.owned h x e in (taken_forth x o.0, o.1));
+  }
+
   pub taken_kept : (k ≢ kind.Ept) → Lawful m (take_node p k t level number w)
   taken_kept not_node = record {
     size = l.size;
-    pages = taken_pages m.pages w.pages p k t level number host l.pages small not_host (λ e. absurd (not_tdr e)) (rw (other m.pages w.pages p k t level number host l.pages t kind.Tdr root (λ e. cc)) root);
-    tds = record {
-      controls = λ x a. taken_controls m.pages w.pages p k t level number host l.pages x (w.tds.controls x) (l.tds.controls x (taken_back x a));
-      vps = λ x a. taken_list m.pages w.pages p k t level number host l.pages x kind.Tdvpr (w.tds.vps x) (λ e. cc) (l.tds.vps x (taken_back x a));
-      vps_few = l.tds.vps_few;
-      vps_differ = l.tds.vps_differ;
-      vps_expected = l.tds.vps_expected;
-      streams = λ x a. taken_list m.pages w.pages p k t level number host l.pages x kind.Migsc (w.tds.streams x) (λ e. cc) (l.tds.streams x (taken_back x a));
-      streams_few = l.tds.streams_few;
-      streams_differ = l.tds.streams_differ;
-      epoch = l.tds.epoch;
-    };
+    pages = taken_page_facts;
+    tds = taken_tds;
     tree = record {
       entry = l.tree.entry;
-      upper = λ x j n a e. (let u = l.tree.upper x j n (taken_back x a) e in (u.0, taken_node m.pages w.pages p k t level number host l.pages x _ kind.Ept (suc j) n (λ e. cc) u.1));
-      leaf = λ x n a e. (let u = l.tree.leaf x n (taken_back x a) e in (u.0, taken_node m.pages w.pages p k t level number host l.pages x _ kind.Reg 0 n (λ e. cc) u.1));
+      upper = taken_upper;
+      leaf = taken_leaf;
       below = λ x j n few a. l.tree.below x j n few (taken_back x a);
       named = λ q e a. by_test (q == p) (λ y. absurd (not_node (rw y at e))) (λ n. named_there q n e a);
     };
-    keys = record {
-      in_range = λ x a. l.keys.in_range x (taken_back x a);
-      owner = λ x a. l.keys.owner x (taken_back x a);
-      owned = λ h x e. (let o = l.keys.owned h x e in (taken_forth x o.0, o.1));
-    };
+    keys = taken_keys;
     beginnings = record { is_new = λ x a n. l.beginnings.is_new x (taken_back x a) n };
   }
 
@@ -373,7 +394,7 @@ module _ (m : Machine) (w : World) (t : ℕ) (alive : IsAlive w.pages w.tds t) (
     size = l.size;
     pages = l.pages;
     tds = shape_tds w.pages w.tds ended ended_back (record { hkids = refl; controls = refl; entries = refl; vps = refl; vps_expected = refl; streams = refl }) l.tds.epoch l.tds;
-    tree = shape_tree w.pages w.tds ended ended_back refl l.tree;
+    tree = shape_tree w.pages w.tds ended ended_back m.pages refl l.tree;
     keys = record {
       in_range = λ x a. l.keys.in_range x (ended_back x a);
       owner = λ x a. rw (own_hkid x (ended_back x a) (not_ended x a)) (l.keys.owner x (ended_back x a));

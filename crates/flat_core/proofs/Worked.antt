@@ -23,4 +23,11 @@ examples = record {
   virtual_processors = refl;
   eight_processors = refl;
   end_of_life = refl;
+  building_events = refl;
+  septs = refl;
+  operands = refl;
+  pages = refl;
+  one_page = refl;
+  one_chunk = refl;
+  page_under_way_1 = refl;
 }

@@ -17,7 +17,7 @@ use Rattle.td_words.specs.declared.replies.Reply.{Reply}
 use Rattle.td_words.specs.NameNumber.{kind_number, life_number, op_number, vcpu_number}
 use Rattle.td_words.specs.Packing.{Key, Unassigned, AssignedTo, FlushedOf}
 use Rattle.flat_core.specs.World.{World, Pages}
-use Rattle.flat_core.specs.Processor.{OfPage, OfOp, OfEpoch, OfKeys}
+use Rattle.flat_core.specs.Processor.{OfPage, OfOp, OfTree, OfEpoch, OfKeys}
 use Rattle.flat_core.specs.Locks.{one_if}
 use Rattle.flat_core.specs.Row.{Item, Try, needs}
 
@@ -85,6 +85,12 @@ page_shared p = Try (OfPage p) Shared
 abbrev pub page_exclusive : ℕ → Item Reply
 page_exclusive p = Try (OfPage p) Exclusive
 
+abbrev pub tree_shared : ℕ → Item Reply
+tree_shared t = Try (OfTree t) Shared
+
+abbrev pub tree_exclusive : ℕ → Item Reply
+tree_exclusive t = Try (OfTree t) Exclusive
+
 abbrev pub epoch_shared : ℕ → Item Reply
 epoch_shared t = Try (OfEpoch t) Shared
 
@@ -149,6 +155,10 @@ begun_ops = op.Initialized ∷ later_ops
 
 abbrev pub all_ops : List OpState
 all_ops = op.Uninitialized ∷ begun_ops
+
+-- those in which a TD may get secure EPT pages: while it is built or imported, and while it runs
+abbrev pub growing_ops : List OpState
+growing_ops = op.Initialized ∷ op.Runnable ∷ op.LiveExport ∷ op.MemoryImport ∷ op.StateImport ∷ op.PostImport ∷ op.LiveImport ∷ []
 
 -- The beginning of the rows that begin and end a TD's life: its TDR page is held alone and is one, and its life state is
 -- one of these.

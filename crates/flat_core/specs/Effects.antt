@@ -7,6 +7,7 @@ use Rattle.td_words.specs.declared.names.LifeState.{LifeState}
 use Rattle.td_words.specs.declared.names.LifeState.TheVariants as life
 use Rattle.td_words.specs.declared.names.OpState.{OpState}
 use Rattle.td_words.specs.declared.names.OpState.TheVariants as op
+use Rattle.td_words.specs.declared.names.EntryState.{EntryState}
 use Rattle.td_words.specs.declared.names.VcpuState.{VcpuState}
 use Rattle.td_words.specs.declared.names.VcpuState.TheVariants as vcpu
 use Rattle.td_words.specs.Packing.{Entry, Key, FlushedOf}
@@ -74,13 +75,20 @@ set_epoch t e w = record w { tds = record (w.tds) { epochs = put w.tds.epochs t 
 abbrev pub set_entry : ℕ → ℕ → ℕ → Entry → World → World
 set_entry t level number e w = record w { tds = record (w.tds) { entries = put w.tds.entries t (put_in (w.tds.entries t) level number e) } }
 
+-- a host page becomes the one that an entry of a TD names: it is taken as the node there, and the entry gets that state
+abbrev pub map_page : ℕ → PageKind → EntryState → (t level number : ℕ) → World → World
+map_page p k s t level number w = set_entry t level number (record { state = s; page = p; mark = 0 }) (take_node p k t level number w)
+
 -- a page becomes the TD's next TDCX page
 abbrev pub add_control : ℕ → ℕ → World → World
 add_control t p w = record w { tds = record (w.tds) { controls = put w.tds.controls t (w.tds.controls t ++ p ∷ []) } }
 
--- nothing is measured yet; and MRTD is the digest of what was
+-- nothing is measured yet; records are measured; and MRTD is the digest of all that were
 abbrev pub begin_measurement : ℕ → World → World
 begin_measurement t w = record w { tds = record (w.tds) { measured = put w.tds.measured t [] } }
+
+abbrev pub measure : ℕ → List ℕ → World → World
+measure t records w = record w { tds = record (w.tds) { measured = put w.tds.measured t (w.tds.measured t ++ records) } }
 
 abbrev pub end_measurement : ℕ → World → World
 end_measurement t w = record w { tds = record (w.tds) { mrtds = put w.tds.mrtds t (digest_word (sha384 (w.tds.measured t))) } }

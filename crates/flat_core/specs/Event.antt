@@ -17,7 +17,8 @@ use Rattle.flat_core.specs.Row.{Row, OperationRow, Move, Attempts, Undoes, Succe
 use Rattle.flat_core.specs.Table.{row_of}
 use Rattle.flat_core.specs.Effects.{leave_guest, tell_words}
 use Rattle.flat_core.specs.Translations.{look_up}
-use Rattle.flat_core.specs.Guest.{Operation, ByRow, Private, operation_of, page_of_gpa, reach, reach_notes, answered, walk_step, walk_cached}
+use Rattle.flat_core.specs.Tree.{page_of_gpa}
+use Rattle.flat_core.specs.Guest.{Operation, ByRow, Private, operation_of, reach, reach_notes, answered, walk_step, walk_cached}
 
 -- a state of the flat machine, with as many processors as take part
 pub record State : Type 0 where

@@ -1,6 +1,6 @@
 -- Guest operations. One that has locks of its own, or none, goes by a row; a private access goes by a cached translation,
 -- or walks the secure EPT from its root until there is one (Base Architecture, "Secure EPT Walk").
-use Rattle.std.specs.Prelude.{ℕ, zero, suc, ◌/◌, ◌%◌, List, [], ◌∷◌, Option, Some, None, Bool, true, false}
+use Rattle.std.specs.Prelude.{ℕ, zero, suc, List, [], ◌∷◌, Option, Some, None, Bool, true, false}
 use Rattle.td_words.specs.declared.names.EntryState.TheVariants as entry
 use Rattle.td_words.specs.declared.names.Access.{Access}
 use Rattle.td_words.specs.declared.names.Access.TheVariants.{Read, Write}
@@ -12,7 +12,7 @@ use Rattle.flat_core.specs.World.{World}
 use Rattle.flat_core.specs.Processor.{Answered, Translation, Walk, Guest, Note, LoadNote}
 use Rattle.flat_core.specs.Opening.{Opening}
 use Rattle.flat_core.specs.Row.{OperationRow}
-use Rattle.flat_core.specs.Tree.{entry_at, same_state, may_write, allows}
+use Rattle.flat_core.specs.Tree.{page_of_gpa, word_of_gpa, entry_at, same_state, may_write, allows}
 use Rattle.flat_core.specs.Effects.{set_word, set_register, store_memory, pass_operation}
 use Rattle.flat_core.specs.Translations.{cache}
 
@@ -24,13 +24,6 @@ pub data Operation : Type 0 where
 -- the operation of a virtual processor of a TD, at a call line. None is built yet
 abbrev pub operation_of : Opening → (tdr vp line : ℕ) → GuestOp → Operation
 operation_of o t v line op = elim op [ ]
-
--- the GPA page and the word of its page that a GPA is in
-abbrev pub page_of_gpa : ℕ → ℕ
-page_of_gpa gpa = gpa / 4096
-
-abbrev pub word_of_gpa : ℕ → ℕ
-word_of_gpa gpa = gpa % 4096 / 8
 
 abbrev pub word_reached : World → ℕ → ℕ → ℕ
 word_reached w page gpa = w.words page (word_of_gpa gpa)

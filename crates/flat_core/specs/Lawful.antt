@@ -81,8 +81,9 @@ is_free _ = false
 
 -- Ownership: an entry that names a page names one that its TD owns, at its own node, so no page is named twice and a
 -- host page by none; each secure EPT page is named by the entry at its node; and nothing is mapped below a FREE entry.
-pub record LawfulTree (pages : Pages) (tds : Tds) : Type 0 where
-  pub entry : (t l n : ℕ) → is_lawful_entry (tds.entries t l n) ≡ true
+-- In a machine within the limits each entry has a packing.
+pub record LawfulTree (count : ℕ) (pages : Pages) (tds : Tds) : Type 0 where
+  pub entry : count ≤ 1024 → (t l n : ℕ) → is_lawful_entry (tds.entries t l n) ≡ true
   pub upper : (t l n : ℕ) → IsAlive pages tds t → is_free (tds.entries t (suc l) n).state ≡ false
       → (is_node (tds.entries t (suc l) n).state ≡ true) × IsNodeOf pages t (tds.entries t (suc l) n).page kind.Ept (suc l) n
   pub leaf : (t n : ℕ) → IsAlive pages tds t → is_free (tds.entries t 0 n).state ≡ false
@@ -130,7 +131,7 @@ pub record Lawful (m : Machine) (w : World) : Type 0 where
   pub size : w.size ≡ m.pages
   pub pages : LawfulPages m.pages w.pages
   pub tds : LawfulTds w.pages w.tds
-  pub tree : LawfulTree w.pages w.tds
+  pub tree : LawfulTree m.pages w.pages w.tds
   pub keys : LawfulKeys m.hkids w.pages w.tds w.key_table
   pub beginnings : LawfulBeginnings w.pages w.tds w.hidden.rtmrs
 

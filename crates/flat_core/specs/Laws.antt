@@ -1,6 +1,7 @@
 -- Laws of the flat machine, for every opening and every schedule.
-use Rattle.std.specs.Prelude.{◌≡◌, ◌≢◌, ◌⊎◌, ℕ, ◌≤◌, List, [], ◌∷◌, ◌++◌, Option, None, IfSome}
+use Rattle.std.specs.Prelude.{◌≡◌, ◌≢◌, ◌⊎◌, ℕ, ◌≤◌, List, [], ◌∷◌, ◌++◌, Option, None, IfSome, false}
 use Rattle.sha2.specs.Sha512.{sha384}
+use Rattle.mrtd_measure.specs.Records.{page_record, chunk_records}
 use Rattle.td_words.specs.declared.machines.Machine.{Machine}
 use Rattle.td_words.specs.declared.names.ReadField.TheVariants.{Mrtd}
 use Rattle.td_words.specs.declared.replies.Value.TheVariants.{Digest}
@@ -8,17 +9,21 @@ use Rattle.td_words.specs.declared.refusals.Status.{Status}
 use Rattle.td_words.specs.declared.replies.Reply.{Reply}
 use Rattle.td_words.specs.declared.replies.Reply.TheVariants.{Refused}
 use Rattle.td_words.specs.declared.calls.Call.{Call}
-use Rattle.flat_core.specs.World.{World}
+use Rattle.td_words.specs.declared.calls.Call.TheVariants as call
+use Rattle.flat_core.specs.World.{World, Pages, Tds, put}
 use Rattle.flat_core.specs.Processor.{LockId, Lp, nothing_yet}
 use Rattle.flat_core.specs.Locks.{holders, sharers}
 use Rattle.flat_core.specs.Opening.{Opening, Agree, blind}
 use Rattle.flat_core.specs.Row.{Succeeds}
+use Rattle.flat_core.specs.Conditions.{is_host_in}
+use Rattle.flat_core.specs.Tree.{entry_at}
 use Rattle.flat_core.specs.TdRows.{read_td, finalize}
+use Rattle.flat_core.specs.MemRows.{chunk_bytes}
 use Rattle.flat_core.specs.Table.{row_of}
 use Rattle.flat_core.specs.Event.{State, Event, OfCall, OfOperation, Reaches, Leaves, start, next_event, event, world_after}
 use Rattle.flat_core.specs.Run.{play, run, run_told, told_in}
 use Rattle.flat_core.specs.HostText.{host_text, text_of}
-use Rattle.flat_core.specs.Lawful.{Lawful, RowKeeps}
+use Rattle.flat_core.specs.Lawful.{IsAlive, Lawful, RowKeeps, is_free}
 use Rattle.flat_core.specs.Alike.{AreBlind}
 
 -- beside each row, its two facts
@@ -32,12 +37,35 @@ RowsAreBlind = (o q : Opening) → Agree o q → (me : ℕ) (c : Call) → AreBl
 abbrev pub MrtdIsTheDigest : Type 0
 MrtdIsTheDigest = (m : Machine) (w : World) (tdr : ℕ) → (read_td m tdr Mrtd).value ((finalize m tdr).act w) ≡ Digest (sha384 (w.tds.measured tdr))
 
+-- what a TD has measured once a call has succeeded: MNG.INIT begins with nothing, adding a page adds its record, and
+-- extending adds the chunk's records. Nothing is left of a TD that had the TDR page before.
+abbrev pub measured_after : Call → World → ℕ → List ℕ
+measured_after (call.MngCreate tdr hkid) w = put w.tds.measured tdr []
+measured_after (call.MngInit tdr) w = put w.tds.measured tdr []
+measured_after (call.MemPageAdd tdr gpa page source) w = put w.tds.measured tdr (w.tds.measured tdr ++ page_record gpa)
+measured_after (call.MrExtend tdr gpa) w = put w.tds.measured tdr (w.tds.measured tdr ++ chunk_records gpa (chunk_bytes (w.words (entry_at w tdr 0 gpa).page) gpa))
+measured_after _ w = w.tds.measured
+
+abbrev pub RecordsAreMeasured : Type 0
+RecordsAreMeasured = (o : Opening) (me : ℕ) (c : Call) (w : World) (t : ℕ) → ((row_of o me c).act w).tds.measured t ≡ measured_after c w t
+
 -- a state that a schedule leads to
 abbrev pub reached : Opening → Option (List ℕ) → List ℕ → State
 reached o words_to_tell schedule = play o schedule (start o words_to_tell)
 
 abbrev pub EveryWorldIsLawful : Type 0
 EveryWorldIsLawful = (o : Opening) (words_to_tell : Option (List ℕ)) (schedule : List ℕ) → Lawful o.machine (reached o words_to_tell schedule).world
+
+-- Ownership in a reader's terms: an entry that isn't FREE names a page that its TD owns, and so none of the host's; and no
+-- other entry names that page.
+pub record IsOwned (pages : Pages) (tds : Tds) : Type 0 where
+  pub own : (t l n : ℕ) → IsAlive pages tds t → is_free (tds.entries t l n).state ≡ false
+      → let p = (tds.entries t l n).page in (is_host_in pages p ≡ false) × (pages.owners p ≡ t)
+  pub once : (t l n u k i : ℕ) → IsAlive pages tds t → IsAlive pages tds u → is_free (tds.entries t l n).state ≡ false → is_free (tds.entries u k i).state ≡ false
+      → (tds.entries t l n).page ≡ (tds.entries u k i).page → (t ≡ u) × (l ≡ k) × (n ≡ i)
+
+abbrev pub EveryPageIsOwned : Type 0
+EveryPageIsOwned = (o : Opening) (words_to_tell : Option (List ℕ)) (schedule : List ℕ) → let w = (reached o words_to_tell schedule).world in IsOwned w.pages w.tds
 
 -- one event keeps it, whatever bundles have come in
 abbrev pub EventsKeepLawful : Type 0

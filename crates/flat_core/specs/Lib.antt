@@ -14,6 +14,7 @@ pub mod HostRows
 pub mod TdRows
 pub mod KeyRows
 pub mod VpRows
+pub mod MemRows
 pub mod Table
 pub mod Guest
 pub mod Event

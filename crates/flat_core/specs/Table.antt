@@ -8,6 +8,7 @@ use Rattle.flat_core.specs.HostRows.{host_read, host_write, read_metadata}
 use Rattle.flat_core.specs.TdRows.{create, configure_key, add_tdcx, initialize, read_td, finalize}
 use Rattle.flat_core.specs.KeyRows.{write_caches_back, reclaim_page, end_flush, free_hkid}
 use Rattle.flat_core.specs.VpRows.{create_vp, initialize_vp}
+use Rattle.flat_core.specs.MemRows.{add_sept, read_sept, add_page, extend}
 
 abbrev pub row_of : Opening → ℕ → Call → Row
 row_of o me (call.HostRead page word) = host_read o.machine page word
@@ -22,9 +23,13 @@ row_of o me (call.MngInit tdr) = initialize o.machine tdr
 row_of o me (call.MngRd tdr field) = read_td o.machine tdr field
 row_of o me (call.MngVpflushdone tdr) = end_flush o.machine tdr
 row_of o me (call.MngKeyFreeid tdr) = free_hkid o.machine tdr
+row_of o me (call.MrExtend tdr gpa) = extend o.machine tdr gpa
 row_of o me (call.MrFinalize tdr) = finalize o.machine tdr
 row_of o me (call.VpCreate tdr page) = create_vp o.machine tdr page
 row_of o me (call.VpInit tdr vp value) = initialize_vp o.machine tdr vp value
+row_of o me (call.MemSeptAdd tdr gpa level page) = add_sept o.machine tdr gpa level page
+row_of o me (call.MemSeptRd tdr gpa level) = read_sept o.machine tdr gpa level
+row_of o me (call.MemPageAdd tdr gpa page source) = add_page o.machine tdr gpa page source
 
 -- at most how many locks a call tries
 abbrev pub most_tries : Call → ℕ
@@ -40,9 +45,13 @@ most_tries (call.MngInit tdr) = 2
 most_tries (call.MngRd tdr field) = 3
 most_tries (call.MngVpflushdone tdr) = 2
 most_tries (call.MngKeyFreeid tdr) = 2
+most_tries (call.MrExtend tdr gpa) = 4
 most_tries (call.MrFinalize tdr) = 2
 most_tries (call.VpCreate tdr page) = 3
 most_tries (call.VpInit tdr vp value) = 3
+most_tries (call.MemSeptAdd tdr gpa level page) = 4
+most_tries (call.MemSeptRd tdr gpa level) = 3
+most_tries (call.MemPageAdd tdr gpa page source) = 5
 
 -- its tries, its act, and the releases
 abbrev pub most_events : Call → ℕ

@@ -1,7 +1,7 @@
 -- The secure EPT of a TD: four levels of 512 entries, the root's being level 3 and those that name private pages level 0
 -- (Base Architecture, "Secure EPT"). An entry is known by its level and its number: the GPA that it maps from, in units
 -- of what an entry of its level maps. The entries below an entry n have the numbers 512 n to 512 n + 511.
-use Rattle.std.specs.Prelude.{ℕ, ◌/◌, List, [], ◌∷◌, map, filter, Bool, true, false, not, ◌==◌, nat_lt}
+use Rattle.std.specs.Prelude.{ℕ, ◌/◌, ◌%◌, List, [], ◌∷◌, map, filter, Bool, true, false, not, ◌==◌, nat_lt}
 use Rattle.std.specs.List.{list_any}
 use Rattle.td_words.specs.declared.names.EntryState.{EntryState}
 use Rattle.td_words.specs.declared.names.EntryState.TheVariants as entry
@@ -16,6 +16,13 @@ use Rattle.flat_core.specs.World.{World}
 use Rattle.flat_core.specs.Processor.{OfPage}
 use Rattle.flat_core.specs.Arguments.{level_size}
 use Rattle.flat_core.specs.Row.{Item, Try, needs}
+
+-- the GPA page and the word of its page that a GPA is in
+abbrev pub page_of_gpa : ℕ → ℕ
+page_of_gpa gpa = gpa / 4096
+
+abbrev pub word_of_gpa : ℕ → ℕ
+word_of_gpa gpa = gpa % 4096 / 8
 
 -- the number at a level of the entry that maps a GPA
 abbrev pub number_at : ℕ → ℕ → ℕ

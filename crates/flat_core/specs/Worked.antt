@@ -1,17 +1,18 @@
 -- Worked examples, which compute: the replies of runs, and how many events they take. Where no machine is named it has 32
 -- pages, one HKID and as many processors as there are lists of calls.
-use Rattle.std.specs.Prelude.{◌≡◌, ℕ, zero, suc, ◌+◌, List, [], ◌∷◌, ◌++◌, length, replicate, Option, Some, None}
+use Rattle.std.specs.Prelude.{◌≡◌, ℕ, zero, suc, ◌+◌, List, [], ◌∷◌, ◌++◌, length, replicate, codes, Option, Some, None}
 use Rattle.td_words.specs.declared.names.LockName.TheVariants as lock
 use Rattle.td_words.specs.declared.names.PageKind.TheVariants as kind
 use Rattle.td_words.specs.declared.names.LifeState.TheVariants as life
 use Rattle.td_words.specs.declared.names.OpState.TheVariants as op
+use Rattle.td_words.specs.declared.names.EntryState.TheVariants as entry
 use Rattle.td_words.specs.declared.names.VcpuState.TheVariants as vcpu
 use Rattle.td_words.specs.declared.names.LimitName.TheVariants.{Vcpus}
 use Rattle.td_words.specs.declared.names.ReadField.TheVariants as field
 use Rattle.td_words.specs.declared.calls.Call.{Call}
-use Rattle.td_words.specs.declared.calls.Call.TheVariants.{HostRead, HostWrite, PhymemPageRdmd, PhymemCacheWb, PhymemPageReclaim, MngCreate, MngKeyConfig, MngAddcx, MngInit, MngRd, MngVpflushdone, MngKeyFreeid, MrFinalize, VpCreate, VpInit}
-use Rattle.td_words.specs.declared.refusals.Status.TheVariants.{OperandInvalid, OperandBusy, NotHost, PageMetadataIncorrect, LifecycleStateIncorrect, OpStateIncorrect, HkidNotFree, TdcxNumIncorrect, VcpuStateIncorrect, PagesExist, Limit, CacheWbNotDone}
-use Rattle.td_words.specs.declared.replies.Value.TheVariants.{Nothing, Number, Life, Op, Page}
+use Rattle.td_words.specs.declared.calls.Call.TheVariants.{HostRead, HostWrite, PhymemPageRdmd, PhymemCacheWb, PhymemPageReclaim, MngCreate, MngKeyConfig, MngAddcx, MngInit, MngRd, MngVpflushdone, MngKeyFreeid, MrExtend, MrFinalize, VpCreate, VpInit, MemSeptAdd, MemSeptRd, MemPageAdd}
+use Rattle.td_words.specs.declared.refusals.Status.TheVariants.{OperandInvalid, OperandBusy, NotHost, PageMetadataIncorrect, LifecycleStateIncorrect, OpStateIncorrect, EptWalkFailed, EptEntryStateIncorrect, HkidNotFree, TdcxNumIncorrect, VcpuStateIncorrect, PagesExist, Limit, CacheWbNotDone}
+use Rattle.td_words.specs.declared.replies.Value.TheVariants.{Nothing, Number, Life, Op, Page, Entry}
 use Rattle.td_words.specs.declared.replies.Reply.{Reply}
 use Rattle.td_words.specs.declared.replies.Reply.TheVariants.{Done, Refused}
 use Rattle.flat_core.specs.Opening.{Opening}
@@ -47,7 +48,7 @@ events_taken o zero s = 0
 events_taken o (suc n) s = one_event_if (next_event o s 0) + events_taken o n (event o s 0)
 
 abbrev pub events_of : List Call → ℕ
-events_of calls = events_taken (usual_opening (calls ∷ [])) 64 (start (usual_opening (calls ∷ [])) None)
+events_of calls = events_taken (usual_opening (calls ∷ [])) 128 (start (usual_opening (calls ∷ [])) None)
 
 -- a page of the host's is written and read; a word and a page that aren't there
 abbrev pub host_words : Opening
@@ -67,6 +68,29 @@ beginning = MngCreate 1 1 ∷ MngKeyConfig 1 ∷ MngAddcx 1 2 ∷ MngAddcx 1 3 �
 
 abbrev pub five_successes : List Reply
 five_successes = replicate 5 success
+
+-- and is built as far as its secure EPT for the first GPAs: TDVPR page 4, secure EPT pages 5, 6 and 7
+abbrev pub building : List Call
+building = beginning ++ VpCreate 1 4 ∷ VpInit 1 4 0 ∷ MemSeptAdd 1 0 3 5 ∷ MemSeptAdd 1 0 2 6 ∷ MemSeptAdd 1 0 1 7 ∷ []
+
+-- the replies to what follows
+abbrev pub ten_successes : List Reply
+ten_successes = replicate 10 success
+
+-- the bytes that it has measured after further calls
+abbrev pub measured_by : List Call → List ℕ
+measured_by calls = (run (usual_opening ((building ++ calls) ∷ [])) []).world.tds.measured 1
+
+-- a page that a host wrote to is added at GPA 4096: one record
+abbrev pub added_page : List Call
+added_page = HostWrite 0 32 258 ∷ MemPageAdd 1 4096 8 0 ∷ []
+
+abbrev pub added_record : List ℕ
+added_record = codes "MEM.PAGE.ADD" ++ (replicate 4 0 ++ (0 ∷ 16 ∷ replicate 110 0))
+
+-- a page that is being added is held alone
+abbrev pub page_under_way : State
+page_under_way = run (usual_opening ((building ++ MemPageAdd 1 0 8 0 ∷ []) ∷ (HostRead 8 0 ∷ []) ∷ [])) (replicate 69 0 ++ 1 ∷ 1 ∷ [])
 
 -- processor 2 is denied by processor 1, which is being refused
 abbrev pub being_refused : State
@@ -114,3 +138,22 @@ pub record Examples : Type 0 where
   -- a TD ends: its HKID is free after a write-back alone, and its TDR page is given back last
   pub end_of_life : answers_to (beginning ++ MngVpflushdone 1 ∷ MngKeyFreeid 1 ∷ PhymemCacheWb ∷ MngKeyFreeid 1 ∷ PhymemPageReclaim 1 2 ∷ PhymemPageReclaim 1 1 ∷ PhymemPageReclaim 1 3 ∷ PhymemPageReclaim 1 1 ∷ PhymemPageRdmd 1 ∷ [])
       ≡ five_successes ++ success ∷ Refused CacheWbNotDone ∷ success ∷ success ∷ success ∷ Refused (PagesExist 1) ∷ success ∷ success ∷ Done (Page kind.Nda 0 0) ∷ []
+  -- the secure EPT of a TD is built in 64 events from its beginning; its entries are read at each level, and a walk fails at
+  -- the first level where nothing is mapped
+  pub building_events : events_of building ≡ 64
+  pub septs : answers_to (building ++ MemSeptRd 1 0 3 ∷ MemSeptRd 1 0 0 ∷ MemSeptRd 1 0x8000000000 0 ∷ MemSeptRd 1 0x40000000 1 ∷ MemSeptRd 1 0x800000000000 0 ∷ MemSeptAdd 1 0 1 11 ∷ PhymemPageRdmd 7 ∷ HostRead 7 0 ∷ [])
+      ≡ ten_successes ++ Done (Entry entry.NlMapped (Some 5)) ∷ Done (Entry entry.Free None) ∷ Refused (EptWalkFailed 3) ∷ Refused (EptWalkFailed 2) ∷ Refused (OperandInvalid 2)
+      ∷ Refused (EptEntryStateIncorrect entry.NlMapped) ∷ Done (Page kind.Ept 1 0) ∷ Done (Number 0) ∷ []
+  -- ranges come first, then a page that is named twice, then alignment at the GPA's place
+  pub operands : answers_to (building ++ MemSeptAdd 1 1 0 1 ∷ MemSeptAdd 1 1 1 1 ∷ MemSeptAdd 1 4096 1 8 ∷ MemSeptRd 1 0 4 ∷ MemPageAdd 1 1 8 0 ∷ MemPageAdd 1 0 1 1 ∷ MemPageAdd 1 0 8 8 ∷ MemPageAdd 1 0 8 1 ∷ MrExtend 1 128 ∷ [])
+      ≡ ten_successes ++ Refused (OperandInvalid 3) ∷ Refused (OperandInvalid 4) ∷ Refused (OperandInvalid 2) ∷ Refused (OperandInvalid 3) ∷ Refused (OperandInvalid 2) ∷ Refused (OperandInvalid 3)
+      ∷ Refused (OperandInvalid 4) ∷ Refused (OperandInvalid 4) ∷ Refused (OperandInvalid 2) ∷ []
+  -- a page is added once, in one place, while its TD is built
+  pub pages : answers_to (building ++ MrExtend 1 0 ∷ MemPageAdd 1 0 8 0 ∷ MemPageAdd 1 0 9 0 ∷ MemPageAdd 1 4096 8 0 ∷ MemPageAdd 1 0x200000 9 0 ∷ MemSeptRd 1 0 0 ∷ HostRead 8 0 ∷ MrFinalize 1 ∷ MrExtend 1 0 ∷ [])
+      ≡ ten_successes ++ Refused (EptEntryStateIncorrect entry.Free) ∷ success ∷ Refused (EptEntryStateIncorrect entry.Mapped) ∷ Refused (PageMetadataIncorrect 8) ∷ Refused (EptWalkFailed 1)
+      ∷ Done (Entry entry.Mapped (Some 8)) ∷ Done (Number 0) ∷ success ∷ Refused (OpStateIncorrect op.Runnable) ∷ []
+  -- what is measured: that the page was added; and where a chunk of it is, and its bytes
+  pub one_page : measured_by added_page ≡ added_record
+  pub one_chunk : measured_by (added_page ++ MrExtend 1 4352 ∷ [])
+      ≡ added_record ++ (codes "MR.EXTEND" ++ (replicate 7 0 ++ (0 ∷ 17 ∷ replicate 110 0))) ++ (2 ∷ 1 ∷ replicate 254 0)
+  pub page_under_way_1 : replies_of page_under_way 1 ≡ Refused (OperandBusy (lock.Page 8)) ∷ []

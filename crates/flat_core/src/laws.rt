@@ -2,7 +2,7 @@
 
 ghost use Rattle.flat_core.specs.Worked.{Examples};
 ghost use Rattle.flat_core.specs.Bounds.{RowsTryFew, EventsRunOut, RunsEnd};
-ghost use Rattle.flat_core.specs.Laws.{RowsKeep, RowsAreBlind, MrtdIsTheDigest, EveryWorldIsLawful, OthersStay, QuietEventsStay, NoWordsToTell, LocksExclude, BlindRunsPrintTheSame, RefusedCallsStay, EventsKeepLawful};
+ghost use Rattle.flat_core.specs.Laws.{RowsKeep, RowsAreBlind, MrtdIsTheDigest, RecordsAreMeasured, EveryWorldIsLawful, EveryPageIsOwned, OthersStay, QuietEventsStay, NoWordsToTell, LocksExclude, BlindRunsPrintTheSame, RefusedCallsStay, EventsKeepLawful};
 
 /// The worked examples: replies of small runs, and how many events they take.
 pub fn worked_examples()
@@ -10,11 +10,13 @@ pub fn worked_examples()
 {}
 
 /// The two facts beside each row: its act keeps what every world keeps, and it is blind to private
-/// words. And MRTD is read as the digest of what was measured.
+/// words. And MRTD is read as the digest of what was measured: the records of pages added and of
+/// chunks, in their order, and nothing else.
 pub fn row_laws()
     ensures keep { RowsKeep }
     ensures blind { RowsAreBlind }
     ensures mrtd { MrtdIsTheDigest }
+    ensures records { RecordsAreMeasured }
 {}
 
 /// Each event keeps a world lawful, and every schedule leads to a lawful one: who owns which page, which pages a TD's entries name,
@@ -22,6 +24,12 @@ pub fn row_laws()
 pub fn lawful_law()
     ensures event { EventsKeepLawful }
     ensures run { EveryWorldIsLawful }
+{}
+
+/// In every world that a schedule leads to, an entry that names a page names one that its TD owns, no
+/// page is named twice, and a page of the host's by none.
+pub fn ownership_law()
+    ensures { EveryPageIsOwned }
 {}
 
 /// An event of one processor leaves the others' records alone; what is refused, tried, undone or

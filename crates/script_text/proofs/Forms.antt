@@ -156,6 +156,9 @@ two_fit ns h = All-push fits (argument ns 0 ∷ []) (argument ns 1) (one_fits ns
 three_fit : (ns : List (Option ℕ)) → All FitsNumber ns → All fits (argument ns 0 ∷ argument ns 1 ∷ argument ns 2 ∷ [])
 three_fit ns h = All-push fits (argument ns 0 ∷ argument ns 1 ∷ []) (argument ns 2) (two_fit ns h) (argument_fits ns 2 h)
 
+four_fit : (ns : List (Option ℕ)) → All FitsNumber ns → All fits (argument ns 0 ∷ argument ns 1 ∷ argument ns 2 ∷ argument ns 3 ∷ [])
+four_fit ns h = All-push fits (argument ns 0 ∷ argument ns 1 ∷ argument ns 2 ∷ []) (argument ns 3) (three_fit ns h) (argument_fits ns 3 h)
+
 abbrev IfBuilt : Machine → Option Entry → Type 0
 IfBuilt m (Some e) = FitsEntry (Some m) e
 IfBuilt m None = Unit {0}
@@ -173,9 +176,13 @@ built_fits m lp name.MngInit ns h = one_fits ns h
 built_fits m lp name.MngRd ns h = argument_fits ns 0 h
 built_fits m lp name.MngVpflushdone ns h = one_fits ns h
 built_fits m lp name.MngKeyFreeid ns h = one_fits ns h
+built_fits m lp name.MrExtend ns h = two_fit ns h
 built_fits m lp name.MrFinalize ns h = one_fits ns h
 built_fits m lp name.VpCreate ns h = two_fit ns h
 built_fits m lp name.VpInit ns h = three_fit ns h
+built_fits m lp name.MemSeptAdd ns h = four_fit ns h
+built_fits m lp name.MemSeptRd ns h = three_fit ns h
+built_fits m lp name.MemPageAdd ns h = four_fit ns h
 built_fits m lp _ ns h = tt
 
 judged_fits : (m : Machine) (e : Option Entry) (row : Mnemonic) (ns : List (Option ℕ)) → IfBuilt m e → IfGiven (FitsEntry (Some m)) (judged_of e row ns)

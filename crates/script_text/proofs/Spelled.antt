@@ -118,9 +118,13 @@ call_entry s m lp (calls.MngInit a) h k = rw (h, k) refl
 call_entry s m lp (calls.MngRd a f) h k = rw (h, k) refl
 call_entry s m lp (calls.MngVpflushdone a) h k = rw (h, k) refl
 call_entry s m lp (calls.MngKeyFreeid a) h k = rw (h, k) refl
+call_entry s m lp (calls.MrExtend a b) h k = rw (h, k) refl
 call_entry s m lp (calls.MrFinalize a) h k = rw (h, k) refl
 call_entry s m lp (calls.VpCreate a b) h k = rw (h, k) refl
 call_entry s m lp (calls.VpInit a b c) h k = rw (h, k) refl
+call_entry s m lp (calls.MemSeptAdd a b c d) h k = rw (h, k) refl
+call_entry s m lp (calls.MemSeptRd a b c) h k = rw (h, k) refl
+call_entry s m lp (calls.MemPageAdd a b c d) h k = rw (h, k) refl
 
 field_again : (f : ReadField) → field_of (read_text f) ≡ Ok f
 field_again field.Life = refl
@@ -317,41 +321,41 @@ names_short : (c : Call) → length (words_text (call_names c)) ≤ 6
 names_short (calls.MngRd a f) = let short : length (read_text f) ≤ 5 = field_short f in simp length-append (omega arith)
 names_short _ = omega arith
 
-call_short : (c : Call) → (length (call_word c) ≤ 20) × (length (call_numbers c) ≤ 3)
+call_short : (c : Call) → (length (call_word c) ≤ 20) × (length (call_numbers c) ≤ 4)
 call_short (calls.HostRead a b) = (omega arith, omega arith)
 call_short _ = (omega arith, omega arith)
 
-call_length : (c : Call) → FitsCall c → length (line_text (call_word c) (call_words c)) ≤ 90
+call_length : (c : Call) → FitsCall c → length (line_text (call_word c) (call_words c)) ≤ 111
 call_length c h =
     let numbers : length (words_text (map decimal (call_numbers c))) ≤ 21 * length (call_numbers c) = numbers_length (call_numbers c) (all_fit (call_numbers c) h) in
     let names : length (words_text (call_names c)) ≤ 6 = names_short c in
-    let short : (length (call_word c) ≤ 20) × (length (call_numbers c) ≤ 3) = call_short c in
-    let all : length (words_text (call_words c)) ≤ 69 = rw (words_length (map decimal (call_numbers c)) (call_names c)) (omega arith) in
-    let line : length (line_text (call_word c) (call_words c)) ≤ length (call_word c) + 69 + 1 = line_at_most (call_word c) (call_words c) 69 all in
+    let short : (length (call_word c) ≤ 20) × (length (call_numbers c) ≤ 4) = call_short c in
+    let all : length (words_text (call_words c)) ≤ 90 = rw (words_length (map decimal (call_numbers c)) (call_names c)) (omega arith) in
+    let line : length (line_text (call_word c) (call_words c)) ≤ length (call_word c) + 90 + 1 = line_at_most (call_word c) (call_words c) 90 all in
     omega arith
 
-calls_length : (cs : List Call) → All FitsCall cs → length (calls_text cs) ≤ 90 * length cs
+calls_length : (cs : List Call) → All FitsCall cs → length (calls_text cs) ≤ 111 * length cs
 calls_length [] h = omega arith
 calls_length (c ∷ cs) h =
-    let one : length (line_text (call_word c) (call_words c)) ≤ 90 = call_length c (All-head FitsCall c cs h) in
-    let more : length (calls_text cs) ≤ 90 * length cs = calls_length cs (All-tail FitsCall c cs h) in
+    let one : length (line_text (call_word c) (call_words c)) ≤ 111 = call_length c (All-head FitsCall c cs h) in
+    let more : length (calls_text cs) ≤ 111 * length cs = calls_length cs (All-tail FitsCall c cs h) in
     rw length-append (omega arith)
 
-joined : (a b c d : List ℕ) (n : ℕ) → length a ≤ 24 → length b ≤ 368640 → length c ≤ 4 → length d ≤ n → length (a ++ (b ++ (c ++ d))) ≤ 368668 + n
+joined : (a b c d : List ℕ) (n : ℕ) → length a ≤ 24 → length b ≤ 454656 → length c ≤ 4 → length d ≤ n → length (a ++ (b ++ (c ++ d))) ≤ 454684 + n
 joined a b c d n p q r s = simp length-append (omega arith)
 
-blocks_length : (more : List (List Call)) (lp : ℕ) → lp + length more ≤ 8 → All AreFew more → All (λ cs. All FitsCall cs) more → length (blocks_text lp more) ≤ 368668 * length more
+blocks_length : (more : List (List Call)) (lp : ℕ) → lp + length more ≤ 8 → All AreFew more → All (λ cs. All FitsCall cs) more → length (blocks_text lp more) ≤ 454684 * length more
 blocks_length [] lp below room h = omega arith
 blocks_length (cs ∷ more) lp below room h =
     let few : length cs ≤ 4096 = All-head AreFew cs more room in
     let l : length (line_text (codes "lp") (decimal lp ∷ [])) ≤ 2 + 21 * 1 + 1 = line_length (codes "lp") (lp ∷ []) (one_fits lp [] (omega arith) refl) in
-    let c : length (calls_text cs) ≤ 90 * length cs = calls_length cs (All-head (λ cs. All FitsCall cs) cs more h) in
+    let c : length (calls_text cs) ≤ 111 * length cs = calls_length cs (All-head (λ cs. All FitsCall cs) cs more h) in
     let e : length (line_text (codes "end") []) ≤ 3 + 21 * 0 + 1 = line_length (codes "end") [] refl in
-    let b : length (blocks_text (lp + 1) more) ≤ 368668 * length more = blocks_length more (lp + 1) (omega arith) (All-tail AreFew cs more room) (All-tail (λ cs. All FitsCall cs) cs more h) in
-    let all : length (blocks_text lp (cs ∷ more)) ≤ 368668 + 368668 * length more = joined (line_text (codes "lp") (decimal lp ∷ [])) (calls_text cs) (line_text (codes "end") []) (blocks_text (lp + 1) more) (368668 * length more) l (omega arith) e b in
+    let b : length (blocks_text (lp + 1) more) ≤ 454684 * length more = blocks_length more (lp + 1) (omega arith) (All-tail AreFew cs more room) (All-tail (λ cs. All FitsCall cs) cs more h) in
+    let all : length (blocks_text lp (cs ∷ more)) ≤ 454684 + 454684 * length more = joined (line_text (codes "lp") (decimal lp ∷ [])) (calls_text cs) (line_text (codes "end") []) (blocks_text (lp + 1) more) (454684 * length more) l (omega arith) e b in
     omega arith
 
-whole_length : (a b c : List ℕ) (items lists : ℕ) → length a ≤ 71 → length b ≤ 9 + 2 * items → length c ≤ 368668 * lists → items ≤ 2 ^ 20 → lists ≤ 8 → length (a ++ (b ++ c)) ≤ 2 ^ 24
+whole_length : (a b c : List ℕ) (items lists : ℕ) → length a ≤ 71 → length b ≤ 9 + 2 * items → length c ≤ 454684 * lists → items ≤ 2 ^ 20 → lists ≤ 8 → length (a ++ (b ++ c)) ≤ 2 ^ 24
 whole_length a b c items lists p q r few short = simp length-append (omega arith)
 
 text_length : (s : ScriptSeen) → IsInForm s → length (script_text s) ≤ 2 ^ 24
@@ -359,7 +363,7 @@ text_length s h =
     let head = s.machine.lps ∷ s.machine.pages ∷ s.machine.hkids ∷ [] in
     let m : length (line_text (codes "machine") (map decimal head)) ≤ 7 + 21 * 3 + 1 = line_length (codes "machine") head (machine_fits s h) in
     let i : length (schedule_text s.schedule) ≤ 9 + 2 * length s.schedule = schedule_length s.machine.lps s.schedule h.lps.1 h.items in
-    let b : length (blocks_text 0 s.calls) ≤ 368668 * length s.calls = blocks_length s.calls 0 (omega (arith, h.lists)) h.few_calls h.arguments in
+    let b : length (blocks_text 0 s.calls) ≤ 454684 * length s.calls = blocks_length s.calls 0 (omega (arith, h.lists)) h.few_calls h.arguments in
     whole_length (line_text (codes "machine") (map decimal head)) (schedule_text s.schedule) (blocks_text 0 s.calls) (length s.schedule) (length s.calls) m i b h.few_items (omega (arith, h.lists, h.lps.1))
 
 pub spelled : ScriptsReadAgain

@@ -99,9 +99,13 @@ built_of lp name.MngInit ns = Some (entry.Call lp (calls.MngInit (argument ns 0)
 built_of lp name.MngRd ns = Some (entry.Read lp (argument ns 0))
 built_of lp name.MngVpflushdone ns = Some (entry.Call lp (calls.MngVpflushdone (argument ns 0)))
 built_of lp name.MngKeyFreeid ns = Some (entry.Call lp (calls.MngKeyFreeid (argument ns 0)))
+built_of lp name.MrExtend ns = Some (entry.Call lp (calls.MrExtend (argument ns 0) (argument ns 1)))
 built_of lp name.MrFinalize ns = Some (entry.Call lp (calls.MrFinalize (argument ns 0)))
 built_of lp name.VpCreate ns = Some (entry.Call lp (calls.VpCreate (argument ns 0) (argument ns 1)))
 built_of lp name.VpInit ns = Some (entry.Call lp (calls.VpInit (argument ns 0) (argument ns 1) (argument ns 2)))
+built_of lp name.MemSeptAdd ns = Some (entry.Call lp (calls.MemSeptAdd (argument ns 0) (argument ns 1) (argument ns 2) (argument ns 3)))
+built_of lp name.MemSeptRd ns = Some (entry.Call lp (calls.MemSeptRd (argument ns 0) (argument ns 1) (argument ns 2)))
+built_of lp name.MemPageAdd ns = Some (entry.Call lp (calls.MemPageAdd (argument ns 0) (argument ns 1) (argument ns 2) (argument ns 3)))
 built_of lp _ ns = None
 
 -- whether those arguments are numbers that must be: all but the field of MNG.RD

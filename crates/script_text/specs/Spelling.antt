@@ -27,9 +27,13 @@ call_word (calls.MngInit tdr) = codes "MNG.INIT"
 call_word (calls.MngRd tdr field) = codes "MNG.RD"
 call_word (calls.MngVpflushdone tdr) = codes "MNG.VPFLUSHDONE"
 call_word (calls.MngKeyFreeid tdr) = codes "MNG.KEY.FREEID"
+call_word (calls.MrExtend tdr gpa) = codes "MR.EXTEND"
 call_word (calls.MrFinalize tdr) = codes "MR.FINALIZE"
 call_word (calls.VpCreate tdr page) = codes "VP.CREATE"
 call_word (calls.VpInit tdr vp value) = codes "VP.INIT"
+call_word (calls.MemSeptAdd tdr gpa level page) = codes "MEM.SEPT.ADD"
+call_word (calls.MemSeptRd tdr gpa level) = codes "MEM.SEPT.RD"
+call_word (calls.MemPageAdd tdr gpa page source) = codes "MEM.PAGE.ADD"
 
 abbrev pub call_numbers : Call → List ℕ
 call_numbers (calls.HostRead page word) = page ∷ word ∷ []
@@ -44,9 +48,13 @@ call_numbers (calls.MngInit tdr) = tdr ∷ []
 call_numbers (calls.MngRd tdr field) = tdr ∷ []
 call_numbers (calls.MngVpflushdone tdr) = tdr ∷ []
 call_numbers (calls.MngKeyFreeid tdr) = tdr ∷ []
+call_numbers (calls.MrExtend tdr gpa) = tdr ∷ gpa ∷ []
 call_numbers (calls.MrFinalize tdr) = tdr ∷ []
 call_numbers (calls.VpCreate tdr page) = tdr ∷ page ∷ []
 call_numbers (calls.VpInit tdr vp value) = tdr ∷ vp ∷ value ∷ []
+call_numbers (calls.MemSeptAdd tdr gpa level page) = tdr ∷ gpa ∷ level ∷ page ∷ []
+call_numbers (calls.MemSeptRd tdr gpa level) = tdr ∷ gpa ∷ level ∷ []
+call_numbers (calls.MemPageAdd tdr gpa page source) = tdr ∷ gpa ∷ page ∷ source ∷ []
 
 -- MNG.RD names its field behind its numbers
 abbrev pub call_names : Call → List (List ℕ)

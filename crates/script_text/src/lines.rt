@@ -153,8 +153,10 @@ fn built(lp: u8, call: CallName, numbers: &[Option<u64>]) -> Option<Entry>
 {
     let first = argument(numbers, 0);
     let second = argument(numbers, 1);
-    let value = argument(numbers, 2);
-    let (page, tdr, word, vp) = (first, first, second, second);
+    let third = argument(numbers, 2);
+    let fourth = argument(numbers, 3);
+    let (page, tdr, word, vp, gpa) = (first, first, second, second, second);
+    let (value, level) = (third, third);
     let call = match call {
         CallName::HostRead => Call::HostRead { page, word },
         CallName::HostWrite => Call::HostWrite { page, word, value },
@@ -168,9 +170,23 @@ fn built(lp: u8, call: CallName, numbers: &[Option<u64>]) -> Option<Entry>
         CallName::MngRd => return Some(Entry::Read(lp, tdr)),
         CallName::MngVpflushdone => Call::MngVpflushdone { tdr },
         CallName::MngKeyFreeid => Call::MngKeyFreeid { tdr },
+        CallName::MrExtend => Call::MrExtend { tdr, gpa },
         CallName::MrFinalize => Call::MrFinalize { tdr },
         CallName::VpCreate => Call::VpCreate { tdr, page: second },
         CallName::VpInit => Call::VpInit { tdr, vp, value },
+        CallName::MemSeptAdd => Call::MemSeptAdd {
+            tdr,
+            gpa,
+            level,
+            page: fourth,
+        },
+        CallName::MemSeptRd => Call::MemSeptRd { tdr, gpa, level },
+        CallName::MemPageAdd => Call::MemPageAdd {
+            tdr,
+            gpa,
+            page: third,
+            source: fourth,
+        },
         _ => return None,
     };
     Some(Entry::Call(lp, call))

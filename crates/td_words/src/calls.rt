@@ -18,9 +18,13 @@ pub enum Call {
     MngRd { tdr: u64, field: ReadField },
     MngVpflushdone { tdr: u64 },
     MngKeyFreeid { tdr: u64 },
+    MrExtend { tdr: u64, gpa: u64 },
     MrFinalize { tdr: u64 },
     VpCreate { tdr: u64, page: u64 },
     VpInit { tdr: u64, vp: u64, value: u64 },
+    MemSeptAdd { tdr: u64, gpa: u64, level: u64, page: u64 },
+    MemSeptRd { tdr: u64, gpa: u64, level: u64 },
+    MemPageAdd { tdr: u64, gpa: u64, page: u64, source: u64 },
 }
 
 /// An operation of guest code. None is built yet.

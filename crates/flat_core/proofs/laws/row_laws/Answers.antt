@@ -1,6 +1,6 @@
 use Rattle.flat_core.proofs.Keeps.{row-keeps}
 use Rattle.flat_core.proofs.Blind.{row-blind}
-use Rattle.flat_core.proofs.Mrtd.{mrtd_is_the_digest}
+use Rattle.flat_core.proofs.Mrtd.{mrtd_is_the_digest, records_are_measured}
 use Rattle.flat_core.proofs.laws.row_laws.Goals as goal
 
 pub returns-clause-keep : goal.returns-clause-keep
@@ -11,3 +11,6 @@ returns-clause-blind c = row-blind
 
 pub returns-clause-mrtd : goal.returns-clause-mrtd
 returns-clause-mrtd c = mrtd_is_the_digest
+
+pub returns-clause-records : goal.returns-clause-records
+returns-clause-records c = records_are_measured
