@@ -1,2 +1,2 @@
-mod Ends
-mod Meets
+pub mod Ends
+pub mod Meets

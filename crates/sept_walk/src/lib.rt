@@ -14,4 +14,4 @@ mod tests;
 mod walks;
 
 pub use laws::{numbers_split, walks_find, walks_meet_maps};
-pub use walks::{Walk, Walked};
+pub use walks::{Walk, Walked, index};

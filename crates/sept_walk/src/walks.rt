@@ -82,9 +82,10 @@ impl Walk {
 }
 
 /// Where the entry of a level that maps a GPA stands in its page: the nine bits of that level.
-fn index(level: u8, gpa: u64) -> u16
+pub fn index(level: u8, gpa: u64) -> u16
     requires { level ≤ 3 }
-    ensures { result ≡ index_at level gpa }
+    ensures index { result ≡ index_at level gpa }
+    ensures below { result < 512 }
 {
     let number = match level {
         0 => gpa >> 12,

@@ -1,0 +1,4 @@
+pub mod Walks
+pub mod SeptTold
+pub mod SeptLocks
+pub mod SeptBegun

@@ -1,0 +1,3 @@
+pub mod SeptWords
+pub mod SeptTrees
+pub mod SeptPages
