@@ -36,7 +36,7 @@ use Rattle.sept_parts.specs.SeptPages.{HasEntry, HoldsTree, HoldsEntries}
 use Rattle.sept_parts.proofs.SeptTold.{mapped-on, told-back, said}
 use Rattle.sept_parts.proofs.SeptLocks.{tree_held, holds-tree, tree-alone, op-alone, entry-reads, upper-reads}
 
-module _ (m : Machine) (c : Instant) (k : Work) (t : ℕ) (in_page : t < m.pages) (la : Lawful m c.state.world) (sh : Shows m c.memory.words c.memory.slots c.state) (alive : IsAlive c.state.world.pages c.state.world.tds t) (x : TwoControls m c.state.world t) (hs : List Held) where
+module _ (m : Machine) (c : Instant) (k : Work) (t : ℕ) (in_page : t < m.pages) (limit : m.pages ≤ 1024) (la : Lawful m c.state.world) (sh : Shows m c.memory.words c.memory.slots c.state) (alive : IsAlive c.state.world.pages c.state.world.tds t) (x : TwoControls m c.state.world t) (hs : List Held) where
   abbrev w : World
   w = c.state.world
 
@@ -72,7 +72,7 @@ module _ (m : Machine) (c : Instant) (k : Work) (t : ℕ) (in_page : t < m.pages
         → Means m c k hs (further (entry_at w t level gpa)) rest → Means m c k hs (entry_tree m.pages page gpa level further) rest
     entry-means page level further rest has reads h =
         let word : entry_told m.pages (c.memory.words (place.Word page (index_at level gpa))) ≡ entry_at w t level gpa =
-        ap (entry_told m.pages) (said m c.memory c.state t sh alive x gpa small page level has) ∙ told-back m w t in_page la alive level (number_at level gpa) in (
+        ap (entry_told m.pages) (said m c.memory c.state t sh alive x gpa small page level has) ∙ told-back m w t in_page limit la alive level (number_at level gpa) in (
           (has.in_machine, split.index level gpa),
           inl reads,
           subst (λ (e : Entry). Means m c k hs (further e) rest) (sym word) h,
@@ -145,12 +145,12 @@ stable-entries t Shared Exclusive page hs a = inr (op-alone t Shared (page_lock 
 stable-entries t Shared Shared page hs a = absurd a
 
 -- Behind the beginning of a TD's row: the try of T, and the entry by a walk from the root.
-pub td-find-means : (m : Machine) (c : Instant) (k : Work) (t : ℕ) → t < m.pages → Lawful m c.state.world → Shows m c.memory.words c.memory.slots c.state → (ops : List OpState) → (y : IsTd m c.state.world t ops)
+pub td-find-means : (m : Machine) (c : Instant) (k : Work) (t : ℕ) → t < m.pages → m.pages ≤ 1024 → Lawful m c.state.world → Shows m c.memory.words c.memory.slots c.state → (ops : List OpState) → (y : IsTd m c.state.world t ops)
     → (tree_mode op : Mode) → AreStable tree_mode op → (gpa level : ℕ) → gpa < 2 ^ 47 → level ≤ 3 → (further : Found → Tree) (rest : List (Item Reply))
     → ((page : ℕ) → HasEntry m c.state.world t y.controls.root page gpa level → Means m c k (tree_held t tree_mode ∷ op_lock t op ∷ page_lock t Shared ∷ []) (further (record { page = page; entry = entry_at c.state.world t level gpa })) rest)
     → Means m c k (op_lock t op ∷ page_lock t Shared ∷ []) (tree_lock_tree t y.controls.tdcs tree_mode (find_tree m.pages t gpa level further)) (Try (OfTree t) tree_mode ∷ (walk c.state.world t gpa level ++ rest))
-td-find-means m c k t in_page la sh ops y tree_mode op stable gpa level small few further rest h =
+td-find-means m c k t in_page limit la sh ops y tree_mode op stable gpa level small few further rest h =
     let locks : HoldsTree (tree_held t tree_mode ∷ op_lock t op ∷ page_lock t Shared ∷ c.kept) t = holds-tree t tree_mode op Shared c.kept in
-    tree-lock-means m c k t in_page la sh y.alive y.controls (op_lock t op ∷ page_lock t Shared ∷ []) tree_mode (find_tree m.pages t gpa level further) (walk c.state.world t gpa level ++ rest) locks.tdr
-    (find-means m c k t in_page la sh y.alive y.controls (tree_held t tree_mode ∷ op_lock t op ∷ page_lock t Shared ∷ []) gpa small locks level further rest few
+    tree-lock-means m c k t in_page limit la sh y.alive y.controls (op_lock t op ∷ page_lock t Shared ∷ []) tree_mode (find_tree m.pages t gpa level further) (walk c.state.world t gpa level ++ rest) locks.tdr
+    (find-means m c k t in_page limit la sh y.alive y.controls (tree_held t tree_mode ∷ op_lock t op ∷ page_lock t Shared ∷ []) gpa small locks level further rest few
     (stable-entries t tree_mode op Shared c.kept stable) h)

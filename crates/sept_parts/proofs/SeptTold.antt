@@ -1,5 +1,5 @@
 -- What the words of a TD's secure EPT say over a lawful state, and what these words are.
-use Rattle.std.proofs.Common.{◌≡◌, ◌⊎◌, ℕ, zero, suc, ◌+◌, ◌*◌, ◌^◌, ◌<◌, true, false, ◌==◌, nat_lt, if◌then◌else◌, Option, None, refl, ap, sym, ◌∙◌, subst, inl, inr, arith}
+use Rattle.std.proofs.Common.{◌≡◌, ◌⊎◌, ℕ, zero, suc, ◌+◌, ◌*◌, ◌^◌, ◌<◌, ◌≤◌, true, false, ◌==◌, nat_lt, if◌then◌else◌, Option, None, refl, ap, sym, ◌∙◌, subst, inl, inr, arith}
 use Rattle.std.proofs.lemmas.Bool.{eq-eqb, eqb-true, lt-ltb}
 use Rattle.td_words.specs.declared.names.EntryState.{EntryState}
 use Rattle.td_words.specs.declared.names.EntryState.TheVariants as entry
@@ -55,7 +55,7 @@ abbrev pub named_at : World → (t gpa level : ℕ) → ℕ
 named_at w t gpa zero = named_by (entry_at w t 0 gpa)
 named_at w t gpa (suc level) = no_page
 
-module _ (m : Machine) (w : World) (t : ℕ) (in_page : t < m.pages) (la : Lawful m w) (alive : IsAlive w.pages w.tds t) where
+module _ (m : Machine) (w : World) (t : ℕ) (in_page : t < m.pages) (limit : m.pages ≤ 1024) (la : Lawful m w) (alive : IsAlive w.pages w.tds t) where
   -- an entry that isn't FREE names a page of its TD, at its own node
   pub named-in : (l n : ℕ) → is_free (w.tds.entries t l n).state ≡ false → (w.tds.entries t l n).page < m.pages
   named-in zero n f = page-in m w t (w.tds.entries t 0 n).page kind.Reg la (la.tree.leaf t n alive f).1.page refl
@@ -63,11 +63,11 @@ module _ (m : Machine) (w : World) (t : ℕ) (in_page : t < m.pages) (la : Lawfu
 
   pub entry-small : (l n : ℕ) → (w.tds.entries t l n).page < m.pages
   entry-small l n = by_test (is_free (w.tds.entries t l n).state)
-      (λ y. (let none : (w.tds.entries t l n).page ≡ 0 = free-page (w.tds.entries t l n).state (w.tds.entries t l n).page (w.tds.entries t l n).mark (la.tree.entry t l n) y in omega (arith, none, in_page)))
+      (λ y. (let none : (w.tds.entries t l n).page ≡ 0 = free-page (w.tds.entries t l n).state (w.tds.entries t l n).page (w.tds.entries t l n).mark (la.tree.entry limit t l n) y in omega (arith, none, in_page)))
       (λ f. named-in l n f)
 
   pub told-back : (l n : ℕ) → entry_told m.pages (entry_word (w.tds.entries t l n)) ≡ w.tds.entries t l n
-  told-back l n = entry-back m.pages (w.tds.entries t l n) (la.tree.entry t l n) (entry-small l n)
+  told-back l n = entry-back m.pages (w.tds.entries t l n) (la.tree.entry limit t l n) (entry-small l n)
 
 module _ (m : Machine) (mem : Memory) (s : State) (t : ℕ) (sh : Shows m mem.words mem.slots s) (alive : IsAlive s.world.pages s.world.tds t) (x : TwoControls m s.world t) where
   abbrev w : World
