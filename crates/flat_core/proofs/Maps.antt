@@ -50,7 +50,7 @@ new_entry s p small taken unmarked = by s taken unmarked
 
 module _ (m : Machine) (w : World) (p t level number : ℕ) (s : EntryState) (host : w.pages.kinds p ≡ kind.Nda) (small : p < m.pages) (l : Lawful m w) (root : w.pages.kinds t ≡ kind.Tdr)
     (built : (length (w.tds.controls t) == 2) ≡ true) (free : is_free (w.tds.entries t level number).state ≡ true) (parent : level < 3 → is_free (w.tds.entries t (suc level) (number / 512)).state ≡ false)
-    (used : is_free s ≡ false) (node : is_node s ≡ is_upper level) (unmarked : is_exported s ≡ false) where
+    (used : is_free s ≡ false) (node : is_node s ≡ is_upper level) (unmarked : is_exported s ≡ false) (low : level ≤ 3) where
   abbrev k : PageKind
   k = kind_named level
 
@@ -112,10 +112,10 @@ module _ (m : Machine) (w : World) (p t level number : ℕ) (s : EntryState) (ho
 
   -- a secure EPT page is named by the entry at its node
   abbrev Names : ℕ → Entry → Type 0
-  Names q e = (is_free e.state ≡ false) × (e.page ≡ q)
+  Names q e = (is_free e.state ≡ false) × (e.page ≡ q) × (pages.levels q ≤ 3)
 
   named_new : Names p (mapped.entries (pages.owners p) (pages.levels p) (pages.numbers p))
-  named_new = at_place (Names p) (pages.owners p) (pages.levels p) (pages.numbers p) (λ a b c. (used, refl)) (λ apart. absurd (apart owner_here node_here.level_is node_here.number_is))
+  named_new = at_place (Names p) (pages.owners p) (pages.levels p) (pages.numbers p) (λ a b c. (used, refl, subst (λ (l : ℕ). l ≤ 3) (sym node_here.level_is) low)) (λ apart. absurd (apart owner_here node_here.level_is node_here.number_is))
 
   named_old : (q : ℕ) → IsNamed m w p k t level number host small l (never_host level) (never_tdr level) root q pages → Names q (mapped.entries (pages.owners q) (pages.levels q) (pages.numbers q))
   named_old q h = at_place (Names q) (pages.owners q) (pages.levels q) (pages.numbers q)

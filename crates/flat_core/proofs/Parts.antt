@@ -309,7 +309,7 @@ module _ (m : Machine) (w : World) (p : ℕ) (k : PageKind) (t level number : �
 
   -- a secure EPT page is named by the entry at its node
   abbrev pub IsNamed : ℕ → Pages → Type 0
-  IsNamed q pages = (is_free (w.tds.entries (pages.owners q) (pages.levels q) (pages.numbers q)).state ≡ false) × ((w.tds.entries (pages.owners q) (pages.levels q) (pages.numbers q)).page ≡ q)
+  IsNamed q pages = (is_free (w.tds.entries (pages.owners q) (pages.levels q) (pages.numbers q)).state ≡ false) × ((w.tds.entries (pages.owners q) (pages.levels q) (pages.numbers q)).page ≡ q) × (pages.levels q ≤ 3)
 
   pub named_there : (q : ℕ) → (q == p) ≡ false → now.kinds q ≡ kind.Ept → IsAlive now w.tds (now.owners q) → IsNamed q now
   named_there q n e a =
@@ -461,7 +461,7 @@ module _ (m : Machine) (w : World) (t p : ℕ) (l : Lawful m w) (root : w.pages.
 
   -- a secure EPT page is named by the entry at its node
   named_left : (q : ℕ) → (q == p) ≡ false → left.kinds q ≡ kind.Ept → IsAlive left w.tds (left.owners q)
-      → (is_free (w.tds.entries (left.owners q) (left.levels q) (left.numbers q)).state ≡ false) × ((w.tds.entries (left.owners q) (left.levels q) (left.numbers q)).page ≡ q)
+      → (is_free (w.tds.entries (left.owners q) (left.levels q) (left.numbers q)).state ≡ false) × ((w.tds.entries (left.owners q) (left.levels q) (left.numbers q)).page ≡ q) × (left.levels q ≤ 3)
   named_left q n e a =
       let e' : w.pages.kinds q ≡ kind.Ept = rw n at e in
       let a' : IsAlive left w.tds (w.pages.owners q) = rw n at a in

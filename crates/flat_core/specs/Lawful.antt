@@ -80,7 +80,8 @@ is_free entry.Free = true
 is_free _ = false
 
 -- Ownership: an entry that names a page names one that its TD owns, at its own node, so no page is named twice and a
--- host page by none; each secure EPT page is named by the entry at its node; and nothing is mapped below a FREE entry.
+-- host page by none; each secure EPT page is named by the entry at its node, of level 3 at most; and nothing is mapped below
+-- a FREE entry.
 -- In a machine within the limits each entry has a packing.
 pub record LawfulTree (count : ℕ) (pages : Pages) (tds : Tds) : Type 0 where
   pub entry : count ≤ 1024 → (t l n : ℕ) → is_lawful_entry (tds.entries t l n) ≡ true
@@ -92,6 +93,7 @@ pub record LawfulTree (count : ℕ) (pages : Pages) (tds : Tds) : Type 0 where
   pub named : (p : ℕ) → pages.kinds p ≡ kind.Ept → IsAlive pages tds (pages.owners p)
       → (is_free (tds.entries (pages.owners p) (pages.levels p) (pages.numbers p)).state ≡ false)
       × ((tds.entries (pages.owners p) (pages.levels p) (pages.numbers p)).page ≡ p)
+      × (pages.levels p ≤ 3)
 
 -- the TD that the key table gives an HKID to
 abbrev pub key_owner : Key → Option ℕ
