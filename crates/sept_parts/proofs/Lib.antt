@@ -2,3 +2,4 @@ pub mod Walks
 pub mod SeptTold
 pub mod SeptLocks
 pub mod SeptBegun
+pub mod SeptPut
