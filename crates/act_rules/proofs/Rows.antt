@@ -1,6 +1,6 @@
 -- The act of each row changes what words are only as the rules say.
-use Rattle.std.proofs.Common.{◌≡◌, ◌⊎◌, refl, sym, ◌∙◌, ap, subst, inl, inr, ℕ, ◌+◌, List, [], ◌∷◌, ◌++◌, length, Bool, true, false, not, ◌==◌, nat_lt, arith}
-use Rattle.std.specs.Prelude.{Option, Some, None}
+use Rattle.std.proofs.Common.{◌≡◌, ◌⊎◌, refl, sym, ◌∙◌, ap, subst, inl, inr, ℕ, ◌+◌, List, [], ◌∷◌, ◌++◌, length, map, Bool, true, false, not, ◌==◌, nat_lt, arith}
+use Rattle.std.specs.Prelude.{Option, Some, None, filter}
 use Rattle.std.specs.List.{list_any}
 use Rattle.std.proofs.lemmas.Bool.{eq-eqb, eqb-true, ne_eqb}
 use Rattle.std.proofs.lemmas.Bool.Decides.{nat_tests}
@@ -11,19 +11,25 @@ use Rattle.td_words.specs.declared.names.LifeState.{LifeState}
 use Rattle.td_words.specs.declared.names.LifeState.TheVariants as life
 use Rattle.td_words.specs.declared.names.OpState.TheVariants as op
 use Rattle.td_words.specs.declared.names.VcpuState.TheVariants as vcpu
+use Rattle.td_words.specs.declared.names.EntryState.{EntryState}
+use Rattle.td_words.specs.declared.names.EntryState.TheVariants as entry
+use Rattle.td_words.specs.declared.replies.Reply.{Reply}
+use Rattle.td_words.specs.declared.replies.Reply.TheVariants.{Refused}
+use Rattle.td_words.specs.declared.refusals.Status.TheVariants.{EptWalkFailed}
 use Rattle.td_words.specs.declared.machines.Machine.{Machine}
 use Rattle.td_words.specs.NameNumber.{life_number}
 use Rattle.td_words.specs.Packing.{Key as KeyState, Unassigned, AssignedTo, FlushedOf}
 use Rattle.td_words.specs.Place.{WordPlace, Lock, Pamt, Word, Key}
 use Rattle.flat_core.specs.World.{World, put}
-use Rattle.flat_core.specs.Processor.{OfPage, OfOp, OfKeys}
+use Rattle.flat_core.specs.Processor.{OfPage, OfOp, OfTree, OfKeys}
 use Rattle.flat_core.specs.Lawful.{Lawful, ArePagesOf, key_owner}
-use Rattle.flat_core.specs.Row.{Passes}
+use Rattle.flat_core.specs.Row.{Item, Check, Passes}
 use Rattle.flat_core.specs.Conditions.{same_kind, is_host, is_host_in, is_free_key}
-use Rattle.flat_core.specs.Effects.{set_word, take_node, clear_page, give_back, end_memory_in, set_key, set_life, set_op, set_epoch, set_register, set_vp_state, begin_measurement, end_measurement, write_back, written_back}
+use Rattle.flat_core.specs.Effects.{set_word, take_node, clear_page, give_back, end_memory_in, set_key, set_life, set_op, set_epoch, set_register, set_vp_state, begin_measurement, measure, end_measurement, begin_memory, set_page, map_page, write_back, written_back}
 use Rattle.flat_core.specs.TdRows.{create, add_tdcx}
 use Rattle.flat_core.specs.KeyRows.{reclaim_conditions}
 use Rattle.flat_core.specs.VpRows.{create_vp}
+use Rattle.flat_core.specs.Tree.{page_of_gpa, number_at, entry_at, same_state}
 use Rattle.word_rules.specs.Guards.{Grip, Locked}
 use Rattle.word_rules.specs.Rules.{moves}
 use Rattle.word_rules.specs.Views.{named_by}
@@ -31,7 +37,7 @@ use Rattle.word_rules.specs.Cells.{one_of_parity, entered_of_parity}
 use Rattle.word_rules.specs.Spots.{spot, slot_spot, slot_of, page_spot, control_class, is_empty, is_at_end}
 use Rattle.word_rules.specs.Permissions.{MayAt, Moves, Respects}
 use Rattle.word_rules.proofs.Conflicts.{respects-compose}
-use Rattle.act_rules.specs.Acts.{SameTd, HoldsTries, RowsRespect}
+use Rattle.act_rules.specs.Acts.{SameTd, HoldsTd, HoldsTries, RowsRespect}
 use Rattle.act_rules.proofs.Stored.{by_test}
 use Rattle.act_rules.proofs.Respected.{page-same, page-as, control-same, leaves, all-same, host-kind, host-moves, at-end, not-true, and-left, and-right, effects-respect}
 
@@ -240,6 +246,45 @@ module _ (g : Grip) (w : World) where
       let w' : World = set_register v 0 x (set_vp_state v vcpu.Ready w) in
       leaves g w w' (all-same w w' refl (λ u. same-td w w' u refl refl refl (λ b. refl) (λ n. refl))) (λ h. refl) refl
 
+  -- MEM.SEPT.ADD and MEM.PAGE.ADD: a host page becomes the one that an entry names
+  mapped : (p : ℕ) (k : PageKind) (s : EntryState) (t level number : ℕ) → is_host w p ≡ true → g.sole (Locked (OfPage p)) ≡ true → HoldsTd g t → g.sole (Locked (OfTree t)) ≡ true → Respects g w (map_page p k s t level number w)
+  mapped p k s t level number host own td tree =
+      let w1 : World = take_node p k t level number w in
+      respects-compose.both g w w1 (map_page p k s t level number w) ((effects-respect g w).taken p k t level number host own)
+      ((effects-respect g w1).entry t level number (record { state = s; page = p; mark = 0 }) td tree)
+
+  sept-added : (t gpa level p : ℕ) → is_host w p ≡ true → g.sole (Locked (OfPage p)) ≡ true → HoldsTd g t → g.sole (Locked (OfTree t)) ≡ true
+      → Respects g w (clear_page p (map_page p kind.Ept entry.NlMapped t level (number_at level gpa) w))
+  sept-added t gpa level p host own td tree =
+      let w1 : World = map_page p kind.Ept entry.NlMapped t level (number_at level gpa) w in
+      let w2 : World = clear_page p w1 in
+      respects-compose.both g w w1 w2 (mapped p kind.Ept entry.NlMapped t level (number_at level gpa) host own td tree)
+      (leaves g w1 w2 (all-same w1 w2 refl (λ u. same-td w1 w2 u refl refl refl (λ b. refl) (λ n. refl))) (λ h. refl) refl)
+
+  page-added : (t gpa p : ℕ) (ws : ℕ → ℕ) (records : List ℕ) → is_host w p ≡ true → g.sole (Locked (OfPage p)) ≡ true → HoldsTd g t → g.sole (Locked (OfTree t)) ≡ true
+      → Respects g w (measure t records (begin_memory t (page_of_gpa gpa) ws (set_page p ws (map_page p kind.Reg entry.Mapped t 0 (number_at 0 gpa) w))))
+  page-added t gpa p ws records host own td tree =
+      let w1 : World = map_page p kind.Reg entry.Mapped t 0 (number_at 0 gpa) w in
+      let w2 : World = measure t records (begin_memory t (page_of_gpa gpa) ws (set_page p ws w1)) in
+      respects-compose.both g w w1 w2 (mapped p kind.Reg entry.Mapped t 0 (number_at 0 gpa) host own td tree)
+      (leaves g w1 w2 (all-same w1 w2 refl (λ u. same-td w1 w2 u refl refl refl (λ b. refl) (λ n. refl))) (λ h. refl) refl)
+
+  -- MR.EXTEND
+  measured : (t : ℕ) (records : List ℕ) → Respects g w (measure t records w)
+  measured t records = let w' : World = measure t records w in leaves g w w' (all-same w w' refl (λ u. same-td w w' u refl refl refl (λ b. refl) (λ n. refl))) (λ h. refl) refl
+
+-- a walk is conditions alone
+abbrev levels-above : ℕ → List ℕ
+levels-above level = filter (λ l. nat_lt level l) (3 ∷ 2 ∷ 1 ∷ [])
+
+behind-walk : (b : ℕ → Bool) (r : ℕ → Reply) (ls : List ℕ) (items : List (Item Reply)) → Passes (map (λ l. Check (b l) (r l)) ls ++ items) → Passes items
+behind-walk b r [] items ps = ps
+behind-walk b r (l ∷ ls) items ps = behind-walk b r ls items ps.1
+
+held-behind : (g : Grip) (b : ℕ → Bool) (r : ℕ → Reply) (ls : List ℕ) (items : List (Item Reply)) → HoldsTries g (map (λ l. Check (b l) (r l)) ls ++ items) → HoldsTries g items
+held-behind g b r [] items h = h
+held-behind g b r (l ∷ ls) items h = held-behind g b r ls items h
+
 -- a TD whose life is one of those allowed is alive
 live-of : (allowed : List LifeState) (s : LifeState) → list_any (λ a. life_number a == life_number life.Teardown) allowed ≡ false → list_any (λ a. life_number a == life_number s) allowed ≡ true → (life_number s == life_number life.Teardown) ≡ false
 live-of allowed life.HkidAssigned no-end among = refl
@@ -273,3 +318,12 @@ rows-respect o me (call.MrFinalize tdr) g w la ps h = finalized g w tdr h.0 h.1.
 rows-respect o me (call.VpCreate tdr page) g w la ps h =
     vp-added o.machine g w tdr page la (host-kind (w.pages.kinds page) ps.1.1.1.1.1.1.1.1.0) h.1.1.0.1
 rows-respect o me (call.VpInit tdr vp value) g w la ps h = vp-initialized g w vp value
+rows-respect o me (call.MrExtend tdr gpa) g w la ps h = measured g w tdr _
+rows-respect o me (call.MemSeptAdd tdr gpa level page) g w la ps h =
+    let passes : ℕ → Bool = λ l. same_state (entry_at w tdr l gpa).state entry.NlMapped in
+    let behind = behind-walk passes (λ l. Refused (EptWalkFailed l)) (levels-above level) _ ps.1.1.1.1.1.1.1.1.1.1 in
+    let held = held-behind g passes (λ l. Refused (EptWalkFailed l)) (levels-above level) _ h.1.1.1 in
+    sept-added g w tdr gpa level page behind.1.0 held.0.1 (record { tdr = h.0; op = h.1.0 }) h.1.1.0.1
+rows-respect o me (call.MemSeptRd tdr gpa level) g w la ps h = stays g w
+rows-respect o me (call.MemPageAdd tdr gpa page source) g w la ps h =
+    page-added g w tdr gpa page (w.words source) _ ps.1.1.1.1.1.1.1.1.1.1.1.1.1.1.1.1.1.0 h.1.1.1.1.0.1 (record { tdr = h.0; op = h.1.0.0 }) h.1.1.0.1

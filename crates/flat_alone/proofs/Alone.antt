@@ -1,5 +1,5 @@
 -- A processor that runs while nobody else holds a lock: each try is granted, and a call is as good as done at once.
-use Rattle.std.proofs.Common.{◌≡◌, ◌≢◌, refl, sym, ◌∙◌, ap, subst, ℕ, zero, suc, ◌+◌, ◌-◌, ◌*◌, ◌<◌, ◌≤◌, List, [], ◌∷◌, ◌++◌, length, drop, replicate, Option, Some, None, Bool, true, false, not, ◌==◌, arith, append_assoc, append-nil, length-append, inl, inr}
+use Rattle.std.proofs.Common.{◌≡◌, ◌≢◌, refl, sym, ◌∙◌, ap, subst, ℕ, zero, suc, ◌+◌, ◌-◌, ◌*◌, ◌<◌, ◌≤◌, List, [], ◌∷◌, ◌++◌, length, map, drop, replicate, Option, Some, None, Bool, true, false, not, ◌==◌, arith, append_assoc, append-nil, length-append, inl, inr}
 use Rattle.std.specs.List.{concat}
 use Rattle.std.proofs.lemmas.Bool.{ne_eqb}
 use Rattle.std.proofs.lemmas.Bool.Decides.{eqb_tells}
@@ -10,7 +10,11 @@ use Rattle.td_words.specs.declared.names.Mode.TheVariants.{Shared, Exclusive}
 use Rattle.td_words.specs.declared.calls.Call.{Call}
 use Rattle.td_words.specs.declared.calls.Call.TheVariants as call
 use Rattle.td_words.specs.declared.replies.Reply.{Reply}
-use Rattle.td_words.specs.declared.replies.Reply.TheVariants.{Done}
+use Rattle.td_words.specs.declared.replies.Reply.TheVariants.{Done, Refused}
+use Rattle.td_words.specs.declared.refusals.Status.TheVariants.{EptWalkFailed}
+use Rattle.td_words.specs.declared.names.EntryState.TheVariants as entry
+use Rattle.std.specs.Prelude.{filter, nat_lt}
+use Rattle.flat_core.specs.Tree.{entry_at, same_state}
 use Rattle.flat_core.specs.World.{World, first_world, put}
 use Rattle.flat_core.specs.Processor.{LockId, OfPage, Held, Phase, Trying, Answered, Lp, idle}
 use Rattle.flat_core.specs.Locks.{alone_in, shared_in, alone_of, shared_of, refused_of, sum_below, holders, sharers, refusals, grants}
@@ -35,11 +39,16 @@ pub record Quiet (lp : Lp) : Type 0 where
 abbrev lp_of : Phase Reply → List Held → List Reply → Lp
 lp_of phase hs rs = record { call = record { phase = phase; held = hs }; guest = None; cached = []; replies = rs; notes = []; told = [] }
 
--- a lock that is tried isn't held yet, where the conditions before it hold
+-- how often it shares a lock that it tries to hold alone; one that it tries to share it may share already
+abbrev shared_for : Mode → LockId → List Held → ℕ
+shared_for Shared l hs = 0
+shared_for Exclusive l hs = shared_in l hs
+
+-- a lock that is tried isn't held yet as the try forbids, where the conditions before it hold
 abbrev FreeTries : List Held → List (Item Reply) → Type 0
 FreeTries hs [] = Unit {0}
 FreeTries hs (Check b r ∷ items) = b ≡ true → FreeTries hs items
-FreeTries hs (Try l m ∷ items) = (alone_in l hs ≡ 0) × (shared_in l hs ≡ 0) × FreeTries (record { lock = l; mode = m } ∷ hs) items
+FreeTries hs (Try l m ∷ items) = (alone_in l hs ≡ 0) × (shared_for m l hs ≡ 0) × FreeTries (record { lock = l; mode = m } ∷ hs) items
 
 eq_self : (n : ℕ) → (n == n) ≡ true
 eq_self n = elim (eqb_tells n n) [ inl t ↦ t.0 | inr f ↦ absurd (f.1 refl) ]
@@ -89,6 +98,25 @@ free_read w tdr field.Op = (refl, refl, λ a b c. (refl, refl, λ d. tt))
 free_read w tdr field.Epoch = (refl, refl, λ a b c. (refl, refl, λ d. (refl, refl, tt)))
 free_read w tdr field.Mrtd = (refl, refl, λ a b c. (refl, refl, λ d. tt))
 
+-- a walk is conditions alone
+free_walk : (hs : List Held) (b : ℕ → Bool) (r : ℕ → Reply) (ls : List ℕ) (items : List (Item Reply)) → FreeTries hs items → FreeTries hs (map (λ l. Check (b l) (r l)) ls ++ items)
+free_walk hs b r [] items h = h
+free_walk hs b r (l ∷ ls) items h = λ e. free_walk hs b r ls items h
+
+free_checks : (hs : List Held) (b : ℕ → Bool) (r : ℕ → Reply) (ls : List ℕ) → FreeTries hs (map (λ l. Check (b l) (r l)) ls)
+free_checks hs b r [] = tt
+free_checks hs b r (l ∷ ls) = λ e. free_checks hs b r ls
+
+apart_false : (b : Bool) → not b ≡ true → b ≡ false
+apart_false true h = cc
+apart_false false h = refl
+
+abbrev levels_above : ℕ → List ℕ
+levels_above level = filter (λ l. nat_lt level l) (3 ∷ 2 ∷ 1 ∷ [])
+
+abbrev is_passed : World → (t gpa l : ℕ) → Bool
+is_passed w t gpa l = same_state (entry_at w t l gpa).state entry.NlMapped
+
 free_row : (o : Opening) (p : ℕ) (c : Call) (w : World) → FreeTries [] ((row_of o p c).items w)
 free_row o p (call.HostRead page word) w = λ a b. (refl, refl, tt)
 free_row o p (call.HostWrite page word value) w = λ a b. (refl, refl, λ d. tt)
@@ -105,6 +133,17 @@ free_row o p (call.MngKeyFreeid tdr) w = λ a. (refl, refl, λ b d. (refl, refl,
 free_row o p (call.MrFinalize tdr) w = λ a. (refl, refl, λ b d e. (refl, refl, λ f g. tt))
 free_row o p (call.VpCreate tdr page) w = λ a b apart. (refl, refl, λ d e f. (refl, refl, λ g h. let n : (tdr == page) ≡ false = other_page page tdr apart in (refl, rw n refl, λ i. tt)))
 free_row o p (call.VpInit tdr vp v) w = λ a b apart. (refl, refl, λ d e f. (refl, refl, λ g. let n : (tdr == vp) ≡ false = other_page vp tdr apart in (refl, rw n refl, λ h i. tt)))
+free_row o p (call.MrExtend tdr gpa) w = λ a b d. (refl, refl, λ e f g. (refl, refl, λ h. (refl, refl, λ i j k l. (refl, refl, tt))))
+free_row o p (call.MemSeptAdd tdr gpa level page) w = λ a b d e apart f. (refl, refl, λ g h i. (refl, refl, λ j. (refl, refl,
+    free_walk _ (is_passed w tdr gpa) (λ l. Refused (EptWalkFailed l)) (levels_above level) _
+    (λ k. let n : (tdr == page) ≡ false = other_page page tdr apart in (refl, rw n refl, λ m. tt)))))
+free_row o p (call.MemSeptRd tdr gpa level) w = λ a b d e. (refl, refl, λ g h i. (refl, refl, λ j. (refl, refl,
+    free_checks _ (is_passed w tdr gpa) (λ l. Refused (EptWalkFailed l)) (levels_above level))))
+free_row o p (call.MemPageAdd tdr gpa page source) w = λ a b d e first second third f. (refl, refl, λ g h i. (refl, refl, λ j. (refl, refl, λ k l m n.
+    let t : (tdr == source) ≡ false = other_page source tdr second in
+    let u : (tdr == page) ≡ false = other_page page tdr first in
+    let v : (source == page) ≡ false = apart_false (source == page) third in
+    (refl, rw t refl, λ x. (rw v refl, rw u refl, λ y. tt)))))
 
 module _ (tries : RowsTryFew) (o : Opening) (p : ℕ) (before : ℕ → Lp) (quiet : (q : ℕ) → q ≢ p → Quiet (before q)) where
   -- the world and its own record; the others' are as before
@@ -145,9 +184,9 @@ module _ (tries : RowsTryFew) (o : Opening) (p : ℕ) (before : ℕ → Lp) (qui
       (suc k, omega arith, at')
 
   -- a lock that it doesn't hold is granted
-  granted_to : (s : State) (w : World) (hs : List Held) (rs : List Reply) (l : LockId) (m : Mode) → At s w (lp_of Trying hs rs) → alone_in l hs ≡ 0 → shared_in l hs ≡ 0
+  granted_to : (s : State) (w : World) (hs : List Held) (rs : List Reply) (l : LockId) (m : Mode) → At s w (lp_of Trying hs rs) → alone_in l hs ≡ 0 → shared_for m l hs ≡ 0
       → grants s.lps s.lp_count l m ≡ true
-  granted_to s w hs rs l m at alone shared = by m
+  granted_to s w hs rs l m at alone shared = by m shared
     where
       own_or : (f : Lp → ℕ) → f (lp_of Trying hs rs) ≡ 0 → ((q : ℕ) → q ≢ p → f (before q) ≡ 0) → (q : ℕ) → f (s.lps q) ≡ 0
       own_or f own rest q = elim (eqb_tells q p) [
@@ -158,15 +197,15 @@ module _ (tries : RowsTryFew) (o : Opening) (p : ℕ) (before : ℕ → Lp) (qui
       none_alone : holders s.lps s.lp_count l ≡ 0
       none_alone = sum_zero _ s.lp_count (own_or (alone_of l) (omega (arith, alone)) (λ q ne. (quiet q ne).alone l))
 
-      none_shared : sharers s.lps s.lp_count l ≡ 0
-      none_shared = sum_zero _ s.lp_count (own_or (shared_of l) (omega (arith, shared)) (λ q ne. (quiet q ne).shared l))
+      none_shared : shared_in l hs ≡ 0 → sharers s.lps s.lp_count l ≡ 0
+      none_shared none = sum_zero _ s.lp_count (own_or (shared_of l) (omega (arith, none)) (λ q ne. (quiet q ne).shared l))
 
       none_refused : refusals s.lps s.lp_count l ≡ 0
       none_refused = sum_zero _ s.lp_count (own_or (refused_of l) (omega arith) (λ q ne. (quiet q ne).refused l))
 
-      by : (m : Mode) → grants s.lps s.lp_count l m ≡ true
-      by Shared = rw none_alone refl
-      by Exclusive = rw (none_alone, none_shared, none_refused) refl
+      by : (m : Mode) → shared_for m l hs ≡ 0 → grants s.lps s.lp_count l m ≡ true
+      by Shared none = rw none_alone refl
+      by Exclusive none = rw (none_alone, none_shared none, none_refused) refl
 
   -- the releases of a call that is answered
   back : (w : World) (c : Call) (cs : List Call) (rs : List Reply) (r : Reply) → drop (length rs) (calls_of o.calls p) ≡ c ∷ cs
