@@ -134,16 +134,50 @@ free_row o p (call.MrFinalize tdr) w = λ a. (refl, refl, λ b d e. (refl, refl,
 free_row o p (call.VpCreate tdr page) w = λ a b apart. (refl, refl, λ d e f. (refl, refl, λ g h. let n : (tdr == page) ≡ false = other_page page tdr apart in (refl, rw n refl, λ i. tt)))
 free_row o p (call.VpInit tdr vp v) w = λ a b apart. (refl, refl, λ d e f. (refl, refl, λ g. let n : (tdr == vp) ≡ false = other_page vp tdr apart in (refl, rw n refl, λ h i. tt)))
 free_row o p (call.MrExtend tdr gpa) w = λ a b d. (refl, refl, λ e f g. (refl, refl, λ h. (refl, refl, λ i j k l. (refl, refl, tt))))
-free_row o p (call.MemSeptAdd tdr gpa level page) w = λ a b d e apart f. (refl, refl, λ g h i. (refl, refl, λ j. (refl, refl,
-    free_walk _ (is_passed w tdr gpa) (λ l. Refused (EptWalkFailed l)) (levels_above level) _
-    (λ k. let n : (tdr == page) ≡ false = other_page page tdr apart in (refl, rw n refl, λ m. tt)))))
-free_row o p (call.MemSeptRd tdr gpa level) w = λ a b d e. (refl, refl, λ g h i. (refl, refl, λ j. (refl, refl,
-    free_checks _ (is_passed w tdr gpa) (λ l. Refused (EptWalkFailed l)) (levels_above level))))
-free_row o p (call.MemPageAdd tdr gpa page source) w = λ a b d e first second third f. (refl, refl, λ g h i. (refl, refl, λ j. (refl, refl, λ k l m n.
-    let t : (tdr == source) ≡ false = other_page source tdr second in
-    let u : (tdr == page) ≡ false = other_page page tdr first in
-    let v : (source == page) ≡ false = apart_false (source == page) third in
-    (refl, rw t refl, λ x. (rw v refl, rw u refl, λ y. tt)))))
+free_row o p (call.MemSeptAdd tdr gpa level page) w = λ a b d e apart f. (
+  refl,
+  refl,
+  λ g h i. (
+    refl,
+    refl,
+    λ j. (
+      refl,
+      refl,
+      free_walk _ (is_passed w tdr gpa) (λ l. Refused (EptWalkFailed l)) (levels_above level) _
+          (λ k. let n : (tdr == page) ≡ false = other_page page tdr apart in (refl, rw n refl, λ m. tt)),
+    ),
+  ),
+)
+free_row o p (call.MemSeptRd tdr gpa level) w = λ a b d e. (
+  refl,
+  refl,
+  λ g h i. (
+    refl,
+    refl,
+    λ j. (
+      refl,
+      refl,
+      free_checks _ (is_passed w tdr gpa) (λ l. Refused (EptWalkFailed l)) (levels_above level),
+    ),
+  ),
+)
+free_row o p (call.MemPageAdd tdr gpa page source) w = λ a b d e first second third f. (
+  refl,
+  refl,
+  λ g h i. (
+    refl,
+    refl,
+    λ j. (
+      refl,
+      refl,
+      λ k l m n.
+          let t : (tdr == source) ≡ false = other_page source tdr second in
+          let u : (tdr == page) ≡ false = other_page page tdr first in
+          let v : (source == page) ≡ false = apart_false (source == page) third in
+          (refl, rw t refl, λ x. (rw v refl, rw u refl, λ y. tt)),
+    ),
+  ),
+)
 
 module _ (tries : RowsTryFew) (o : Opening) (p : ℕ) (before : ℕ → Lp) (quiet : (q : ℕ) → q ≢ p → Quiet (before q)) where
   -- the world and its own record; the others' are as before

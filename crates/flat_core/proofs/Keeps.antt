@@ -309,8 +309,8 @@ add_sept-keeps m t gpa level p = record {
       let at = sept_level level ps.1.1.0 in
       let behind = walk_passed w t gpa (state_in w t gpa level (entry.Free ∷ []) ∷ page_exclusive p ∷ host_page w p ∷ []) level at.0 ps.1.1.1.1.1.1.1.1.1.1 in
       let kept : Lawful m (map_page p (kind_named level) entry.NlMapped t level (number_at level gpa) w) =
-          map_kept m w p t level (number_at level gpa) entry.NlMapped (host_kind _ behind.0.1.0) (lt_of p m.pages ps.1.1.1.0) l (tdr_kind _ ps.1.1.1.1.1.1.0) ps.1.1.1.1.1.1.1.1.0
-          (free_of (entry_at w t level gpa).state behind.0.0) behind.1 refl (sym at.1) refl at.0 in
+      map_kept m w p t level (number_at level gpa) entry.NlMapped (host_kind _ behind.0.1.0) (lt_of p m.pages ps.1.1.1.0) l (tdr_kind _ ps.1.1.1.1.1.1.0) ps.1.1.1.1.1.1.1.1.0
+      (free_of (entry_at w t level gpa).state behind.0.0) behind.1 refl (sym at.1) refl at.0 in
       cleared m p (map_page p kind.Ept entry.NlMapped t level (number_at level gpa) w)
       (subst (λ (k : PageKind). Lawful m (map_page p k entry.NlMapped t level (number_at level gpa) w)) (sym at.2) kept);
   to_tell = λ w. refl;
@@ -331,8 +331,8 @@ add_page-keeps m t gpa p source = record {
       let behind = walk_passed w t gpa (state_in w t gpa 0 (entry.Free ∷ []) ∷ page_exclusive source ∷ host_page w source ∷ page_exclusive p ∷ host_page w p ∷ []) 0 (lit≤ tt) head.1.1.1.1 in
       let w1 : World = map_page p kind.Reg entry.Mapped t 0 (number_at 0 gpa) w in
       let l1 : Lawful m w1 =
-          map_kept m w p t 0 (number_at 0 gpa) entry.Mapped (host_kind _ behind.0.1.1.0) (lt_of p m.pages ps.1.1.0) l (tdr_kind _ head.0) built
-          (free_of (entry_at w t 0 gpa).state behind.0.0) behind.1 refl refl refl (lit≤ tt) in
+      map_kept m w p t 0 (number_at 0 gpa) entry.Mapped (host_kind _ behind.0.1.1.0) (lt_of p m.pages ps.1.1.0) l (tdr_kind _ head.0) built
+      (free_of (entry_at w t 0 gpa).state behind.0.0) behind.1 refl refl refl (lit≤ tt) in
       let w2 : World = begin_memory t (page_of_gpa gpa) (w.words source) (set_page p (w.words source) w1) in
       measure_kept m w2 t built (added_words m t (page_of_gpa gpa) p (w.words source) w1 l1) (page_record gpa);
   to_tell = λ w. refl;

@@ -1,6 +1,6 @@
 -- A host page becomes the one that a FREE entry of a TD names: what every world keeps.
-use Rattle.std.proofs.Common.{◌≡◌, ◌≢◌, refl, sym, ◌∙◌, subst, ap, ℕ, zero, suc, ◌+◌, ◌*◌, ◌/◌, ◌^◌, ◌<◌, ◌≤◌, List, [], ◌∷◌, ◌++◌, length, Bool, true, false, ◌==◌, ltb, map, arith}
-use Rattle.std.specs.Prelude.{filter, nat_lt}
+use Rattle.std.proofs.Common.{◌≡◌, ◌≢◌, refl, sym, ◌∙◌, subst, ℕ, zero, suc, ◌/◌, ◌<◌, ◌≤◌, List, ◌++◌, length, Bool, true, false, ◌==◌, arith}
+use Rattle.std.specs.Prelude.{nat_lt}
 use Rattle.std.proofs.lemmas.Bool.{eqb-true}
 use Rattle.td_words.specs.declared.names.PageKind.{PageKind}
 use Rattle.td_words.specs.declared.names.PageKind.TheVariants as kind
@@ -11,12 +11,11 @@ use Rattle.td_words.specs.declared.replies.Reply.{Reply}
 use Rattle.td_words.specs.Packing.{Entry, is_lawful_entry, is_exported}
 use Rattle.flat_core.specs.World.{World, Tds}
 use Rattle.flat_core.specs.Row.{Item, Passes}
-use Rattle.flat_core.specs.Arguments.{level_size}
 use Rattle.flat_core.specs.Tree.{number_at, same_state, walk}
 use Rattle.flat_core.specs.Effects.{map_page}
 use Rattle.flat_core.specs.Lawful.{IsAlive, IsNodeOf, Lawful, LawfulTree, is_free, is_node}
 use Rattle.flat_core.proofs.Tests.{by_test, same_self}
-use Rattle.flat_core.proofs.Parts.{now, IsNamed, new_kept, built_other, taken_back, taken_forth, taken_page_facts, taken_tds, taken_upper, taken_leaf, taken_keys, named_there}
+use Rattle.flat_core.proofs.Parts.{now, IsNamed, new_kept, built_other, taken_back, taken_page_facts, taken_tds, taken_upper, taken_leaf, taken_keys, named_there}
 
 -- what an entry of a level names: an upper one a secure EPT page, one of level 0 a private page
 abbrev pub kind_named : ℕ → PageKind

@@ -12,7 +12,6 @@ use Rattle.td_words.specs.declared.replies.Value.{Value}
 use Rattle.td_words.specs.declared.replies.Value.TheVariants as value
 use Rattle.td_words.specs.declared.machines.Machine.{Machine}
 use Rattle.td_words.specs.Packing.{Entry}
-use Rattle.flat_core.specs.World.{World}
 use Rattle.flat_core.specs.Row.{Row, call_row}
 use Rattle.flat_core.specs.Arguments.{page_argument, gpa_argument, level_argument, upper_level_argument, apart_argument, aligned_argument, chunk_argument}
 use Rattle.flat_core.specs.Digests.{digest_bytes}
