@@ -1,24 +1,21 @@
 -- How a call that succeeds is told, item by item of its row.
-use Rattle.std.proofs.Common.{◌≡◌, refl, sym, ◌∙◌, ap, subst, ℕ, ◌<◌, ◌≤◌, List, [], ◌∷◌, ◌++◌, ◌+◌, length, get_or, set, map, drop, Option, Some, None, Bool, true, false, ◌&&◌, Result, Ok, nat_lt, nat_le, add-one}
-use Rattle.std.proofs.Math.Seq.{drop-cons}
+use Rattle.std.proofs.Common.{◌≡◌, refl, sym, ◌∙◌, ap, subst, ℕ, ◌<◌, ◌≤◌, List, [], ◌∷◌, ◌++◌, ◌+◌, length, get_or, set, Option, None, Bool, true, false, ◌&&◌, Ok, nat_lt, nat_le}
 use Rattle.std.proofs.lemmas.Bool.{lt-ltb, le-leb}
 use Rattle.td_words.specs.declared.machines.Machine.{Machine}
-use Rattle.td_words.specs.declared.refusals.Status.{Status}
 use Rattle.td_words.specs.declared.replies.Value.{Value}
 use Rattle.td_words.specs.declared.replies.Reply.{Reply}
-use Rattle.td_words.specs.declared.replies.Reply.TheVariants.{Done, Refused}
+use Rattle.td_words.specs.declared.replies.Reply.TheVariants.{Done}
 use Rattle.td_words.specs.declared.names.LifeState.{LifeState}
-use Rattle.td_words.specs.declared.names.VcpuState.TheVariants as vcpu
 use Rattle.td_words.specs.declared.names.LifeState.TheVariants as life
 use Rattle.td_words.specs.declared.names.OpState.{OpState}
 use Rattle.td_words.specs.declared.names.Mode.{Mode}
 use Rattle.flat_core.specs.Processor.{LockId}
-use Rattle.flat_core.specs.World.{World, put}
+use Rattle.flat_core.specs.World.{World}
 use Rattle.flat_core.specs.Row.{Item, Check, Try, Row}
 use Rattle.flat_core.specs.Arguments.{page_argument, hkid_argument, apart_argument}
 use Rattle.flat_core.specs.Conditions as conditions
 use Rattle.flat_core.specs.Effects as effects
-use Rattle.flat_alone.specs.Whole.{first_fault, row_reply, row_world, reply_unless, world_unless}
+use Rattle.flat_alone.specs.Whole.{first_fault, reply_unless, world_unless}
 use Rattle.plain_runs.specs.declared.plain.Cell.{Cell}
 use Rattle.plain_runs.specs.declared.plain.Td.{Td}
 use Rattle.plain_runs.specs.declared.plain.Owner.{Owner}
@@ -99,4 +96,3 @@ hkid_passes m h items low high = passes (nat_le 1 h && nat_le h m.hkids) _ items
     both true true e f = refl
     both true false e f = cc
     both false b e f = cc
-

@@ -1,5 +1,5 @@
 -- What changes of the plain machine's lists make of its world.
-use Rattle.std.proofs.Common.{◌≡◌, refl, sym, ◌∙◌, ap, subst, ℕ, zero, suc, ◌<◌, List, [], ◌∷◌, ◌++◌, length, get_or, set, replicate, Option, None, true, ◌==◌, ◌&&◌, if◌then◌else◌, arith, inl, inr}
+use Rattle.std.proofs.Common.{◌≡◌, refl, sym, ◌∙◌, ap, ℕ, zero, suc, ◌<◌, List, [], ◌∷◌, ◌++◌, length, get_or, set, replicate, Option, None, true, ◌==◌, ◌&&◌, if◌then◌else◌, arith, inl, inr}
 use mathlib.Core.Path.{fun_ext}
 use Rattle.std.proofs.Math.ListN.{length-set}
 use Rattle.std.proofs.lemmas.List.{get_or-set_same, get_or-set_other}
@@ -207,17 +207,19 @@ pub td_new : (cells : List Cell) (tds : List Td) (keys : List Owner) (t h : ℕ)
     → world_in cells (set tds t (record no_td { hkid = h })) keys ≡ shown (effects.new_td t h (world_in cells tds keys))
 td_new cells tds keys t h small =
     let v : Td = record no_td { hkid = h } in
-    λ j. record (world_in cells tds keys) { tds = record no_tds {
-      lives = changed of_life no_td v tds t small j;
-      hkids = changed (λ (x : Td). x.hkid) no_td v tds t small j;
-      controls = changed of_controls no_td v tds t small j;
-      ops = changed (λ (x : Td). x.op) no_td v tds t small j;
-      epochs = changed (λ (x : Td). x.epoch) no_td v tds t small j;
-      vps = changed of_vps no_td v tds t small j;
-      vps_expected = constant 0 t j;
-      measured = constant {A = List ℕ} [] t j;
-      mrtds = changed of_mrtd no_td v tds t small j;
-    } }
+    λ j. record (world_in cells tds keys) {
+      tds = record no_tds {
+        lives = changed of_life no_td v tds t small j;
+        hkids = changed (λ (x : Td). x.hkid) no_td v tds t small j;
+        controls = changed of_controls no_td v tds t small j;
+        ops = changed (λ (x : Td). x.op) no_td v tds t small j;
+        epochs = changed (λ (x : Td). x.epoch) no_td v tds t small j;
+        vps = changed of_vps no_td v tds t small j;
+        vps_expected = constant 0 t j;
+        measured = constant {A = List ℕ} [] t j;
+        mrtds = changed of_mrtd no_td v tds t small j;
+      };
+    }
 
 -- the start
 pub at_first : (cells : List Cell) (tds : List Td) (keys : List Owner) (n : ℕ) → length cells ≡ n → ((p : ℕ) → (get_or cells p blank).kind ≡ kind.Nda) → ((p : ℕ) → (get_or cells p blank).owner ≡ 0)

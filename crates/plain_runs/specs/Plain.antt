@@ -1,5 +1,5 @@
 -- What the plain machine's lists mean, what the calls that are built read of a world, and what it is to do a call at once.
-use Rattle.std.specs.Prelude.{◌≡◌, ℕ, ◌+◌, List, [], ◌∷◌, length, Option, Some, None, Bool, true, false, Result, Ok, Err, slice_index_or}
+use Rattle.std.specs.Prelude.{◌≡◌, ℕ, List, [], length, Some, None, Bool, true, false, Result, Ok, Err, slice_index_or}
 use Rattle.sha2.specs.Sha512.{sha384}
 use Rattle.td_words.specs.declared.names.PageKind.TheVariants as kind
 use Rattle.td_words.specs.declared.names.LifeState.TheVariants as life

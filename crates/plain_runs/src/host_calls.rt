@@ -1,6 +1,5 @@
 //! The host's memory accesses, and its look at page metadata.
 
-ghost use Rattle.std.specs.Prelude.{◌≡◌};
 ghost use Rattle.td_words.specs.declared.calls.Call.TheVariants as call;
 ghost use Rattle.plain_runs.specs.Plain.{world_of, row_in, FitsMachine, Does};
 

@@ -50,7 +50,11 @@ pub fn end_flush(machine: Machine, plain: &mut Plain, tdr: u64) -> Result<Value,
     ensures does { Does (row_in machine (call.MngVpflushdone tdr)) (world_of plain.old) (world_of plain.new) result }
 {
     let tdr = page_in(machine, 1, tdr)?;
-    life_head(plain, tdr, &[LifeState::HkidAssigned, LifeState::KeysConfigured])?;
+    life_head(
+        plain,
+        tdr,
+        &[LifeState::HkidAssigned, LifeState::KeysConfigured],
+    )?;
     let hkid = plain.tds[usize::from(tdr)].hkid;
     set_life(&mut plain.tds, tdr, LifeState::Blocked);
     plain.keys[usize::from(hkid)] = Owner::Flushed {

@@ -1,9 +1,8 @@
 //! The flat machine in memory: what the built calls read and change of a world.
 
-ghost use Rattle.std.specs.Prelude.{◌≡◌, ◌<◌, List, [], ℕ, slice_index_or, length, IfOk};
+ghost use Rattle.std.specs.Prelude.{◌≡◌, ◌<◌, List, ℕ, slice_index_or, length, IfOk};
 ghost use Rattle.td_words.specs.declared.names.PageKind.TheVariants as kind;
 ghost use Rattle.td_words.specs.declared.names.VcpuState.TheVariants as vcpu;
-ghost use Rattle.td_words.specs.Packing.{Unassigned};
 ghost use Rattle.flat_core.specs.World.{first_world};
 ghost use Rattle.flat_core.specs.Effects.{take_page, clear_page, set_vp_state, set_life};
 ghost use Rattle.plain_runs.specs.declared.plain.Cell.{Cell};

@@ -1,6 +1,6 @@
 //! Calls that build a TD.
 
-ghost use Rattle.std.specs.Prelude.{◌≡◌, ◌<◌, ◌∷◌, [], length};
+ghost use Rattle.std.specs.Prelude.{◌<◌, length};
 ghost use Rattle.td_words.specs.declared.calls.Call.TheVariants as call;
 ghost use Rattle.flat_core.specs.Conditions as conditions;
 ghost use Rattle.plain_runs.specs.Plain.{world_of, row_in, FitsMachine, Judges, Does};

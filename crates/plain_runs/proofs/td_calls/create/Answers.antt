@@ -1,4 +1,4 @@
-use Rattle.std.proofs.Common.{◌∙◌, refl, ap, ◌<◌, ◌∷◌, [], length, set, arith}
+use Rattle.std.proofs.Common.{◌∙◌, refl, ap, ◌<◌, length, set, arith}
 use Rattle.td_words.specs.declared.calls.Call.TheVariants as call
 use Rattle.td_words.specs.declared.replies.Value.TheVariants as value
 use Rattle.td_words.specs.Packing.{AssignedTo}
