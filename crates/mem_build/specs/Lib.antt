@@ -1,0 +1,2 @@
+pub mod SeptReadTrees
+pub mod SeptReadMeanings
