@@ -6,6 +6,8 @@
 #![tactic(auto)]
 
 mod arguments;
+mod sept_additions;
 mod sept_reads;
 
+pub use sept_additions::SeptAdd;
 pub use sept_reads::SeptRd;
