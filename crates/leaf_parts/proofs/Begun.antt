@@ -15,7 +15,7 @@ use Rattle.td_words.specs.declared.places.TheConstants.{TDR_LIFE, TDR_TDCX_COUNT
 use Rattle.td_words.specs.NameNumber.{life_number, op_number}
 use Rattle.td_words.specs.Place as place
 use Rattle.flat_core.specs.World.{World}
-use Rattle.flat_core.specs.Processor.{OfPage, OfOp, Held}
+use Rattle.flat_core.specs.Processor.{OfPage, OfOp, OfKeys, Held}
 use Rattle.flat_core.specs.Row.{Item, Try}
 use Rattle.flat_core.specs.Conditions.{same_kind, root, life_in, tdcx_count, op_in, td_row, tdr_exclusive}
 use Rattle.flat_core.specs.Lawful.{Lawful, IsAlive, IsPageOf, AreControls}
@@ -41,6 +41,16 @@ page_lock p mode = record { lock = OfPage p; mode = mode }
 
 abbrev pub op_lock : ℕ → Mode → Held
 op_lock t mode = record { lock = OfOp t; mode = mode }
+
+-- P of a page that is held alone, and K besides
+abbrev pub page_alone : ℕ → List Held
+page_alone p = page_lock p Exclusive ∷ []
+
+abbrev pub keys_lock : Held
+keys_lock = record { lock = OfKeys; mode = Exclusive }
+
+abbrev pub both_locks : ℕ → List Held
+both_locks p = keys_lock ∷ page_alone p
 
 -- the TDCX pages of a TD with two
 pub record TwoControls (m : Machine) (w : World) (t : ℕ) : Type 0 where
