@@ -1,6 +1,6 @@
 -- The words of HKIDs in the key table.
-use Rattle.std.proofs.Common.{◌≡◌, ℕ, suc, ◌+◌, ◌-◌, ◌<◌, ◌≤◌, false, ◌==◌, if◌then◌else◌, List, Option, Some, refl, sym, subst, arith}
-use Rattle.std.proofs.lemmas.Bool.{eqb-true, eqb-false, ne_eqb}
+use Rattle.std.proofs.Common.{◌≡◌, ℕ, suc, ◌+◌, ◌-◌, ◌<◌, ◌≤◌, true, false, ◌==◌, if◌then◌else◌, List, Option, Some, refl, sym, subst, arith}
+use Rattle.std.proofs.lemmas.Bool.{eqb-true, ne_eqb}
 use Rattle.std.proofs.lemmas.Bool.Decides.{nat_tests}
 use Rattle.td_words.specs.declared.machines.Machine.{Machine}
 use Rattle.td_words.specs.Packing.{key_word}
@@ -10,6 +10,11 @@ use Rattle.flat_core.specs.World.{World}
 use Rattle.flat_core.specs.Event.{State}
 use Rattle.word_rules.specs.Cells.{Shows, IsAs, key_cell}
 use Rattle.act_rules.proofs.Stored.{by_test}
+use Rattle.leaf_engine.specs.Means.{IsHkid}
+use Rattle.leaf_parts.specs.Words.{is_hkid}
+
+pub hkid-in : (m : Machine) (h : ℕ) → IsHkid m h → is_hkid m h ≡ true
+hkid-in m h i = grind (arith, nat_tests)
 
 -- none is one of the three words that the table begins with
 pub key-apart : (h n : ℕ) → n < 3 → (3 + (h - 1) == n) ≡ false
@@ -20,8 +25,8 @@ key-here w lock h first =
     let it : suc (3 + (h - 1) - 3) ≡ h = omega (arith, first) in
     rw (key-apart h 0 (omega arith), key-apart h 1 (omega arith), key-apart h 2 (omega arith), it) refl
 
-pub key-shown : (m : Machine) (words : WordPlace → ℕ) (slots : ℕ → Option (List ℕ)) (s : State) (h : ℕ) → Shows m words slots s → 1 ≤ h → h ≤ m.hkids → words (place.Key (3 + (h - 1))) ≡ key_word (s.world.key_table.keys h)
-key-shown m words slots s h sh first last = rw (key-here s.world _ h first) at (sh.word (place.Key (3 + (h - 1))) (omega (arith, first, last)))
+pub key-shown : (m : Machine) (words : WordPlace → ℕ) (slots : ℕ → Option (List ℕ)) (s : State) (h : ℕ) → Shows m words slots s → IsHkid m h → words (place.Key (3 + (h - 1))) ≡ key_word (s.world.key_table.keys h)
+key-shown m words slots s h sh i = rw (key-here s.world _ h i.0) at (sh.word (place.Key (3 + (h - 1))) (let first = i.0 in let last = i.1 in omega (arith, first, last)))
 
 -- where the key of one HKID changes, its word does, and no other
 module _ (w w' : World) (h : ℕ) (first : 1 ≤ h) (keys : (j : ℕ) → (j == h) ≡ false → w'.key_table.keys j ≡ w.key_table.keys j) (exported : w'.key_table.last_exported ≡ w.key_table.last_exported) (imported : w'.key_table.last_imported ≡ w.key_table.last_imported) where
