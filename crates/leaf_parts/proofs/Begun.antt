@@ -75,11 +75,13 @@ two-of m w t (c ∷ r ∷ x ∷ cs) la is are two = absurd are
 pub two-controls : (m : Machine) (w : World) (t : ℕ) → Lawful m w → IsAlive w.pages w.tds t → (length (w.tds.controls t) == 2) ≡ true → TwoControls m w t
 two-controls m w t la alive two = two-of m w t (w.tds.controls t) la refl (la.tds.controls t alive) two
 
-life-is : (s : LifeState) → list_any (λ a. life_number a == life_number s) (life.KeysConfigured ∷ []) ≡ true → s ≡ life.KeysConfigured
-life-is life.KeysConfigured h = refl
-life-is life.HkidAssigned h = cc
-life-is life.Blocked h = cc
-life-is life.Teardown h = cc
+-- the only one that is allowed
+pub life-is : (a s : LifeState) → list_any (λ x. life_number x == life_number s) (a ∷ []) ≡ true → s ≡ a
+life-is life.HkidAssigned life.HkidAssigned h = refl
+life-is life.KeysConfigured life.KeysConfigured h = refl
+life-is life.Blocked life.Blocked h = refl
+life-is life.Teardown life.Teardown h = refl
+life-is _ _ h = cc
 
 -- what the beginning of a TD's row tells of it
 pub record IsTd (m : Machine) (w : World) (t : ℕ) (allowed : List OpState) : Type 0 where
@@ -169,7 +171,7 @@ module _ (m : Machine) (c : Instant) (k : Work) (t : ℕ) (in_page : t < m.pages
       root-means Shared (life_tree t (life.KeysConfigured ∷ []) (tdcs_tree m.pages t (λ tdcs. op_tree t tdcs mode allowed further))) (life_in w t (life.KeysConfigured ∷ []) ∷ tdcx_count w t 2 ∷ Try (OfOp t) mode ∷ op_in w t allowed ∷ rest)
       (λ is. let held : holds (page_lock t Shared ∷ c.kept) (OfPage t) ≡ true = holds-newest t Shared c.kept in
       life-means is (page_lock t Shared ∷ []) held (life.KeysConfigured ∷ []) (tdcs_tree m.pages t (λ tdcs. op_tree t tdcs mode allowed further)) (tdcx_count w t 2 ∷ Try (OfOp t) mode ∷ op_in w t allowed ∷ rest)
-      (λ lives. let configured : w.tds.lives t ≡ life.KeysConfigured = life-is (w.tds.lives t) lives in
+      (λ lives. let configured : w.tds.lives t ≡ life.KeysConfigured = life-is life.KeysConfigured (w.tds.lives t) lives in
       let alive : IsAlive w.pages w.tds t = record { kind = is; life = rw configured refl } in
       tdcs-means is (page_lock t Shared ∷ []) held (λ tdcs. op_tree t tdcs mode allowed further) (Try (OfOp t) mode ∷ op_in w t allowed ∷ rest)
       (λ two. let x : TwoControls m w t = two-controls m w t la alive two in

@@ -7,8 +7,8 @@ use Rattle.td_words.specs.NameNumber.{vcpu_number}
 use Rattle.word_rules.specs.Views.{look}
 use Rattle.leaf_engine.specs.declared.needs.Place.{Place}
 use Rattle.leaf_engine.specs.Trees.{Tree, Lock, Load, Test, End, Since, feed, acts, swaps_as_act}
-use Rattle.leaf_parts.specs.Words.{page_told}
-use Rattle.td_control.specs.FinalTrees.{end_changes, is_hkid, changes_where, final_changes, vps_told, vps_tree, finalize_task}
+use Rattle.leaf_parts.specs.Words.{is_hkid, page_told, vps_told}
+use Rattle.td_control.specs.FinalTrees.{end_changes, changes_where, final_changes, vps_tree, finalize_task}
 
 -- at each of its ends
 abbrev SwapsAtEnds : Tree → Type 0
