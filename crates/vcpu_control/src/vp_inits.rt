@@ -18,7 +18,7 @@ use td_words::{
 
 /// VP.INIT TDR VP VALUE: a virtual processor becomes READY, and its register 0 is VALUE.
 #[derive(Drop)]
-pub struct Init {
+pub struct VpInit {
     place: Place,
     tdr: u64,
     vp: u64,
@@ -26,17 +26,17 @@ pub struct Init {
     ghost few_pages: { place.machine.pages < 65536 },
 }
 
-impl Init {
+impl VpInit {
     ghost use Rattle.std.specs.Prelude.{◌≡◌};
     ghost use Rattle.leaf_engine.specs.Turns.{IsFresh};
     ghost use Rattle.vcpu_control.specs.VpTrees.{init_task};
 
     /// The leaf of a call at a place.
-    pub fn leaf(place: Place, tdr: u64, vp: u64, value: u64) -> Planned<Init>
-        ensures task { ⟦<Planned<Init> as Leaf>⟧.task result ≡ init_task place tdr vp value }
-        ensures fresh { let leaf = ⟦<Planned<Init> as Leaf>⟧ in IsFresh (leaf.task result).tree (leaf.rest result) (leaf.tries result) (leaf.written result) (leaf.waits result) }
+    pub fn leaf(place: Place, tdr: u64, vp: u64, value: u64) -> Planned<VpInit>
+        ensures task { ⟦<Planned<VpInit> as Leaf>⟧.task result ≡ init_task place tdr vp value }
+        ensures fresh { let leaf = ⟦<Planned<VpInit> as Leaf>⟧ in IsFresh (leaf.task result).tree (leaf.rest result) (leaf.tries result) (leaf.written result) (leaf.waits result) }
     {
-        Planned::new(Init {
+        Planned::new(VpInit {
             place,
             tdr,
             vp,
@@ -45,7 +45,7 @@ impl Init {
     }
 }
 
-impl Plan for Init {
+impl Plan for VpInit {
     ghost use Rattle.vcpu_control.specs.VpTrees.{init_task};
     ghost use Rattle.vcpu_control.specs.VpMeanings.{init-means};
 
