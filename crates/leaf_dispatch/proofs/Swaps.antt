@@ -11,12 +11,12 @@ use Rattle.word_rules.specs.Views.{look}
 use Rattle.leaf_engine.specs.declared.needs.Place.{Place}
 use Rattle.leaf_engine.specs.Changes.{Change, Put, Raise, PutHash, Clear, Copy, Swap, has_no_swap}
 use Rattle.leaf_engine.specs.Trees.{Tree, Lock, Load, Test, End, Since, acts, feed, swaps_as_act}
-use Rattle.leaf_parts.specs.Words.{says_host, page_told}
+use Rattle.leaf_parts.specs.Words.{says_host, is_hkid, page_told}
 use Rattle.first_leaves.specs.HostTrees.{read_word}
 use Rattle.td_words.specs.Place as place
 use Rattle.key_table.specs.CacheTrees.{mark_keys}
 use Rattle.key_table.specs.Words.{marked}
-use Rattle.td_control.specs.InitTrees.{is_hkid, begin_changes}
+use Rattle.td_control.specs.InitTrees.{begin_changes}
 use Rattle.key_table.specs.FlushTrees.{count_vps, flush_vps}
 use Rattle.key_table.specs.ReclaimTrees.{reclaim_rest}
 use Rattle.td_control.proofs.FinalSwaps.{finalize-swaps}
