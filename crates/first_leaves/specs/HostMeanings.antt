@@ -1,21 +1,19 @@
 -- The leaves of the host's plain memory accesses mean their rows.
-use Rattle.std.proofs.Common.{◌≡◌, ℕ, ◌%◌, ◌^◌, ◌<◌, ◌≤◌, ◌⊎◌, Bool, true, false, ◌==◌, ◌&&◌, cond, List, [], ◌∷◌, Option, refl, ap, ◌∙◌, inl, inr, arith}
+use Rattle.std.proofs.Common.{◌≡◌, ℕ, ◌^◌, ◌<◌, ◌≤◌, ◌⊎◌, Bool, true, false, ◌==◌, ◌&&◌, cond, List, [], ◌∷◌, Option, refl, ap, ◌∙◌, inl, inr, arith}
 use Rattle.std.specs.Prelude.{nat_lt}
-use Rattle.std.proofs.lemmas.Bool.{eq-eqb, eqb-true, ltb-true, lt-ltb}
+use Rattle.std.proofs.lemmas.Bool.{eqb-true, ltb-true, lt-ltb}
 use Rattle.td_words.specs.declared.names.PageKind.{PageKind}
 use Rattle.td_words.specs.declared.names.PageKind.TheVariants as kind
-use Rattle.td_words.specs.declared.names.Mode.{Mode}
 use Rattle.td_words.specs.declared.names.Mode.TheVariants.{Shared}
 use Rattle.td_words.specs.declared.machines.Machine.{Machine}
-use Rattle.td_words.specs.NameNumber.{kind_number}
 use Rattle.td_words.specs.Packing.{pamt_word, is_lawful_pamt}
 use Rattle.td_words.proofs.Unpacked.{packings}
 use Rattle.td_words.specs.Place.{WordPlace, IsIn, same_place}
 use Rattle.td_words.specs.Place as place
 use Rattle.flat_core.proofs.Tests.{host_kind}
 use Rattle.flat_core.specs.World.{World}
-use Rattle.flat_core.specs.Processor.{LockId, OfPage, Held}
-use Rattle.flat_core.specs.Conditions.{is_host, is_host_in, same_kind}
+use Rattle.flat_core.specs.Processor.{LockId, OfPage}
+use Rattle.flat_core.specs.Conditions.{is_host, is_host_in}
 use Rattle.flat_core.specs.Lawful.{Lawful}
 use Rattle.flat_core.specs.Effects.{set_word}
 use Rattle.flat_core.specs.HostRows.{host_read}
@@ -26,7 +24,6 @@ use Rattle.word_rules.specs.Rules.{KeepsNothing}
 use Rattle.word_rules.specs.Spots.{spot, page_spot}
 use Rattle.word_rules.specs.Guards.{Grip}
 use Rattle.word_rules.specs.Cells.{Shows, IsAs, cell, page_cell, lock_word}
-use Rattle.lock_words.specs.Grips.{holds}
 use Rattle.leaf_engine.specs.declared.needs.Place.{Place}
 use Rattle.lock_words.specs.LockWords.{put_word}
 use Rattle.leaf_engine.specs.Means.{Instant, Means, MeansRow, work_of, OfCall, hold}

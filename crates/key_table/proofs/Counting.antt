@@ -1,5 +1,5 @@
 -- The loop over a TD's virtual processors goes by its tree.
-use Rattle.std.proofs.Common.{◌≡◌, ℕ, zero, suc, ◌+◌, ◌-◌, ◌*◌, ◌<◌, ◌≤◌, length, refl, ap, ◌∙◌, true, not, ◌==◌, List, [], ◌∷◌, sym, subst, arith}
+use Rattle.std.proofs.Common.{◌≡◌, ℕ, zero, suc, ◌+◌, ◌-◌, ◌<◌, ◌≤◌, refl, ◌∙◌, true, not, ◌==◌, List, [], ◌∷◌, sym, subst, arith}
 use Rattle.std.specs.Prelude.{Result, Err}
 use Rattle.td_words.specs.declared.machines.Machine.{Machine}
 use Rattle.td_words.specs.Address.{word_at}

@@ -1,9 +1,8 @@
 -- The leaf that frees an HKID means its row.
-use Rattle.std.proofs.Common.{◌≡◌, ℕ, suc, zero, ◌+◌, ◌-◌, ◌<◌, ◌≤◌, Bool, true, false, ◌==◌, nat_lt, if◌then◌else◌, List, [], ◌∷◌, length, Option, Some, None, refl, sym, subst, inl, arith}
+use Rattle.std.proofs.Common.{◌≡◌, ℕ, suc, zero, ◌<◌, Bool, true, false, ◌==◌, nat_lt, if◌then◌else◌, List, [], ◌∷◌, length, Option, Some, None, refl, sym, subst, inl, arith}
 use Rattle.std.specs.Prelude.{slice_index}
 use Rattle.std.specs.List.{list_any}
 use Rattle.std.proofs.lemmas.Bool.{eq-eqb, eqb-true, ltb-true}
-use Rattle.std.proofs.lemmas.Bool.Decides.{nat_tests}
 use Rattle.td_words.specs.declared.names.PageKind.{PageKind}
 use Rattle.td_words.specs.declared.names.PageKind.TheVariants as kind
 use Rattle.td_words.specs.declared.names.LifeState.{LifeState}
@@ -12,7 +11,7 @@ use Rattle.td_words.specs.declared.names.Mode.TheVariants.{Exclusive}
 use Rattle.td_words.specs.declared.machines.Machine.{Machine}
 use Rattle.td_words.specs.declared.calls.Call.TheVariants as call
 use Rattle.td_words.specs.NameNumber.{life_number}
-use Rattle.td_words.specs.Packing.{Key, Unassigned, key_word}
+use Rattle.td_words.specs.Packing.{Key, Unassigned}
 use Rattle.td_words.specs.Place.{WordPlace, IsIn}
 use Rattle.td_words.specs.Place as place
 use Rattle.flat_core.specs.World.{World}
@@ -25,7 +24,7 @@ use Rattle.flat_core.specs.Event.{State}
 use Rattle.word_rules.specs.Rules.{KeepsNothing}
 use Rattle.word_rules.specs.Lines.{Line, At, in_lines}
 use Rattle.word_rules.specs.Permissions.{Respects}
-use Rattle.word_rules.specs.Cells.{Shows, IsAs, cell, page_cell, control_cell, root_cell, entry_cell, if_stands, key_cell, lock_word, tdr_lines, built_hasher, is_built, hasher_cell}
+use Rattle.word_rules.specs.Cells.{Shows, IsAs, cell, page_cell, control_cell, root_cell, entry_cell, if_stands, lock_word, tdr_lines, built_hasher, is_built, hasher_cell}
 use Rattle.act_rules.proofs.Rows.{rows-respect}
 use Rattle.act_rules.proofs.Stored.{by_test}
 use Rattle.leaf_engine.specs.declared.needs.Place.{Place}

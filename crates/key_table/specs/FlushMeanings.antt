@@ -1,12 +1,10 @@
 -- The leaf that ends a flush means its row.
-use Rattle.std.proofs.Common.{◌≡◌, ℕ, suc, zero, ◌+◌, ◌<◌, ◌≤◌, Bool, true, false, not, ◌==◌, nat_lt, List, [], ◌∷◌, length, Option, Some, None, refl, ap, sym, ◌∙◌, subst, inl, arith}
+use Rattle.std.proofs.Common.{◌≡◌, ℕ, suc, ◌+◌, ◌<◌, ◌≤◌, Bool, true, false, not, ◌==◌, nat_lt, List, [], ◌∷◌, length, Option, Some, None, refl, ap, sym, ◌∙◌, subst, inl, arith}
 use Rattle.std.specs.Prelude.{slice_index, slice_get}
 use Rattle.std.specs.List.{list_any}
-use Rattle.std.proofs.lemmas.Bool.{eq-eqb, ltb-true}
+use Rattle.std.proofs.lemmas.Bool.{ltb-true}
 use Rattle.std.proofs.lemmas.Bool.Decides.{nat_tests}
-use Rattle.td_words.specs.declared.names.PageKind.{PageKind}
 use Rattle.td_words.specs.declared.names.PageKind.TheVariants as kind
-use Rattle.td_words.specs.declared.names.LifeState.{LifeState}
 use Rattle.td_words.specs.declared.names.LifeState.TheVariants as life
 use Rattle.td_words.specs.declared.names.Mode.TheVariants.{Exclusive}
 use Rattle.td_words.specs.declared.machines.Machine.{Machine}
@@ -18,19 +16,18 @@ use Rattle.td_words.specs.NameNumber.{life_number}
 use Rattle.td_words.specs.Packing.{FlushedOf, key_word}
 use Rattle.td_words.specs.Place.{WordPlace}
 use Rattle.td_words.specs.Place as place
-use Rattle.flat_core.specs.World.{World, Pages}
+use Rattle.flat_core.specs.World.{World}
 use Rattle.flat_core.specs.Row.{Item}
 use Rattle.flat_core.specs.Locks.{one_if}
 use Rattle.flat_core.specs.Processor.{LockId}
 use Rattle.flat_core.specs.KeyRows.{end_flush}
-use Rattle.flat_core.specs.Conditions.{same_kind, keys_exclusive, one_if_some, associated_in, associated_count, none_associated}
-use Rattle.flat_core.specs.Lawful.{Lawful, IsAlive, IsPageOf, AreControls, ArePagesOf}
-use Rattle.word_rules.specs.Rules.{Class, TdcsWord, Whole, KeepsNothing, reads}
+use Rattle.flat_core.specs.Conditions.{keys_exclusive, one_if_some, associated_in, associated_count, none_associated}
+use Rattle.flat_core.specs.Lawful.{Lawful, IsAlive, ArePagesOf}
+use Rattle.word_rules.specs.Rules.{TdcsWord, Whole, KeepsNothing}
 use Rattle.word_rules.specs.Lines.{in_lines}
-use Rattle.word_rules.specs.Views.{no_page}
-use Rattle.word_rules.specs.Spots.{tdcs_classes, control_class, or_unused, is_current, is_empty}
-use Rattle.word_rules.specs.Permissions.{MayAt, Reads, Respects}
-use Rattle.word_rules.specs.Cells.{Shows, IsAs, control_cell, td_lock_lines, tdcs_lines, vp_lines, associated_word, lock_word}
+use Rattle.word_rules.specs.Spots.{tdcs_classes, or_unused, is_current, is_empty}
+use Rattle.word_rules.specs.Permissions.{Reads, Respects}
+use Rattle.word_rules.specs.Cells.{Shows, IsAs, td_lock_lines, tdcs_lines, associated_word, lock_word}
 use Rattle.act_rules.proofs.Rows.{rows-respect}
 use Rattle.leaf_engine.specs.declared.needs.Place.{Place}
 use Rattle.leaf_engine.specs.Changes.{Put, changed}

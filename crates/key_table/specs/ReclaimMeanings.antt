@@ -1,5 +1,5 @@
 -- The leaf that gives a page back means its row.
-use Rattle.std.proofs.Common.{◌≡◌, ℕ, suc, zero, ◌+◌, ◌-◌, ◌/◌, ◌%◌, ◌<◌, ◌≤◌, Bool, true, false, not, ◌==◌, ◌&&◌, nat_lt, if◌then◌else◌, List, [], ◌∷◌, ◌++◌, length, Option, Some, None, refl, ap, sym, ◌∙◌, subst, inl, arith}
+use Rattle.std.proofs.Common.{◌≡◌, ℕ, suc, zero, ◌+◌, ◌-◌, ◌<◌, Bool, true, false, not, ◌==◌, ◌&&◌, nat_lt, if◌then◌else◌, List, [], ◌∷◌, ◌++◌, length, Option, Some, None, refl, ap, sym, ◌∙◌, subst, inl, arith}
 use Rattle.std.specs.Prelude.{slice_index}
 use Rattle.std.specs.List.{list_any}
 use Rattle.flat_core.proofs.Tests.{and_left, and_right, not_true}
@@ -11,10 +11,9 @@ use Rattle.td_words.specs.declared.names.LifeState.TheVariants as life
 use Rattle.td_words.specs.declared.names.Mode.TheVariants.{Exclusive}
 use Rattle.td_words.specs.declared.machines.Machine.{Machine}
 use Rattle.td_words.specs.declared.calls.Call.TheVariants as call
-use Rattle.td_words.specs.NameNumber.{kind_number, life_number}
+use Rattle.td_words.specs.NameNumber.{life_number}
 use Rattle.td_words.specs.declared.replies.Value.TheVariants as value
 use Rattle.td_words.specs.declared.replies.Reply.TheVariants.{Done}
-use Rattle.td_words.specs.Packing.{pamt_word}
 use Rattle.td_words.specs.Place.{WordPlace, IsIn}
 use Rattle.td_words.specs.Place as place
 use Rattle.flat_core.specs.World.{World}
@@ -22,11 +21,10 @@ use Rattle.flat_core.specs.Row.{Passes}
 use Rattle.flat_core.specs.Processor.{LockId, OfPage, Held}
 use Rattle.flat_core.specs.Effects.{give_back, end_memory_in}
 use Rattle.flat_core.specs.KeyRows.{reclaim_page, reclaim_conditions}
-use Rattle.flat_core.specs.Conditions.{same_kind, is_host, is_host_in, children, owned_below}
-use Rattle.flat_core.specs.Locks.{one_if}
+use Rattle.flat_core.specs.Conditions.{same_kind, is_host, is_host_in, children}
 use Rattle.flat_core.specs.Lawful.{Lawful, key_owner}
 use Rattle.flat_core.specs.Event.{State}
-use Rattle.word_rules.specs.Rules.{Whole, KeepsNothing, reads, owes}
+use Rattle.word_rules.specs.Rules.{KeepsNothing}
 use Rattle.word_rules.specs.Lines.{Line, At, in_lines}
 use Rattle.word_rules.specs.Permissions.{Respects}
 use Rattle.word_rules.specs.Cells.{Shows, IsAs, cell, page_cell, control_cell, root_cell, entry_cell, if_stands, lock_word, tdr_lines, built_hasher, hasher_cell}

@@ -1,5 +1,5 @@
 -- Lines of words and of what words are, one by one.
-use Rattle.std.proofs.Common.{◌≡◌, ℕ, ◌+◌, ◌-◌, false, ◌==◌, ◌&&◌, nat_lt, nat_le, List, [], ◌∷◌, refl}
+use Rattle.std.proofs.Common.{◌≡◌, ℕ, ◌+◌, ◌-◌, false, ◌==◌, ◌&&◌, nat_lt, nat_le, List, [], ◌∷◌}
 use Rattle.std.proofs.lemmas.Bool.{eqb-true}
 use Rattle.word_rules.specs.Lines.{Line, At, Run, in_lines}
 use Rattle.word_rules.specs.Cells.{IsAs}

@@ -57,7 +57,8 @@ page_told pages word = if nat_lt word pages then word else 0
 abbrev pub vps_told : ℕ → ℕ
 vps_told count = if nat_lt count 8 then count else 8
 
--- a child count after a page was taken, and after one was given back. It is never more than the machine has pages
+-- a child count after a page was taken, and after one was given back. Before a page is taken it is less than the machine
+-- has pages; any other number, for which 0 stands, is never told
 abbrev pub raised : (pages count : ℕ) → ℕ
 raised pages count = if nat_lt count pages then count + 1 else 0
 

@@ -1,12 +1,11 @@
 -- The leaf that adds a TDCX page means its row.
-use Rattle.std.proofs.Common.{◌≡◌, ℕ, ◌+◌, ◌-◌, ◌<◌, Bool, true, false, not, ◌==◌, ◌&&◌, nat_lt, ◌*◌, List, [], ◌∷◌, ◌++◌, length, slice_index, Option, refl, ap, sym, ◌∙◌, subst, inl, arith}
+use Rattle.std.proofs.Common.{◌≡◌, ℕ, ◌+◌, ◌-◌, ◌<◌, Bool, true, false, ◌==◌, ◌&&◌, nat_lt, ◌*◌, List, [], ◌∷◌, ◌++◌, length, slice_index, Option, refl, ap, sym, ◌∙◌, subst, inl, arith}
 use Rattle.std.specs.List.{list_any}
 use Rattle.std.specs.Prelude.{if◌then◌else◌, nat_le, slice_get}
 use Rattle.std.proofs.lemmas.Bool.{eq-eqb, eqb-true, ltb-true, lt-ltb, ne_eqb}
 use Rattle.std.proofs.lemmas.Bool.Decides.{nat_tests}
 use Rattle.td_words.specs.declared.names.PageKind.{PageKind}
 use Rattle.td_words.specs.declared.names.PageKind.TheVariants as kind
-use Rattle.td_words.specs.declared.names.LifeState.{LifeState}
 use Rattle.td_words.specs.declared.names.LifeState.TheVariants as life
 use Rattle.td_words.specs.declared.machines.Machine.{Machine}
 use Rattle.td_words.specs.declared.places.TheConstants.{TDR_CHILDREN, TDR_TDCX_COUNT}

@@ -1,5 +1,5 @@
 -- The leaf that creates a TD means its row.
-use Rattle.std.proofs.Common.{◌≡◌, ℕ, zero, suc, ◌+◌, ◌-◌, ◌<◌, ◌≤◌, Bool, true, false, ◌==◌, ◌&&◌, nat_le, nat_lt, if◌then◌else◌, List, [], ◌∷◌, ◌++◌, Option, Some, None, refl, ap, sym, ◌∙◌, subst, inl, arith}
+use Rattle.std.proofs.Common.{◌≡◌, ℕ, zero, suc, ◌<◌, true, false, ◌==◌, nat_lt, if◌then◌else◌, List, [], ◌∷◌, ◌++◌, Option, Some, None, refl, ap, sym, ◌∙◌, subst, inl, arith}
 use Rattle.std.proofs.lemmas.Bool.{eq-eqb, eqb-true, ltb-true, ne_eqb}
 use Rattle.std.proofs.lemmas.Bool.Decides.{nat_tests}
 use Rattle.td_words.specs.declared.names.PageKind.{PageKind}
@@ -12,7 +12,7 @@ use Rattle.td_words.specs.Packing.{Key, Unassigned, AssignedTo, FlushedOf, key_w
 use Rattle.td_words.specs.Place.{WordPlace, IsIn}
 use Rattle.td_words.specs.Place as place
 use Rattle.flat_core.specs.World.{World}
-use Rattle.flat_core.specs.Processor.{LockId, OfPage, OfKeys, Held}
+use Rattle.flat_core.specs.Processor.{LockId, OfPage, OfKeys}
 use Rattle.flat_core.specs.Conditions.{is_host, is_host_in, is_free_key, is_key_free, children, owned_below}
 use Rattle.flat_core.proofs.Tests.{range_of}
 use Rattle.flat_core.specs.Lawful.{Lawful, key_owner}
@@ -20,11 +20,11 @@ use Rattle.flat_core.specs.TdRows.{create}
 use Rattle.flat_core.specs.Event.{State}
 use Rattle.word_rules.specs.Views.{no_page}
 use Rattle.word_rules.specs.Guards.{Grip, Locked, Meets}
-use Rattle.word_rules.specs.Rules.{Class, TdrWord, ChildCount, KeepsNothing, owes}
+use Rattle.word_rules.specs.Rules.{KeepsNothing, owes}
 use Rattle.word_rules.specs.Spots.{guard_at, tdr_classes, or_unused}
-use Rattle.word_rules.specs.Lines.{Line, At, in_lines}
+use Rattle.word_rules.specs.Lines.{At, in_lines}
 use Rattle.word_rules.specs.Permissions.{Respects}
-use Rattle.word_rules.specs.Cells.{Shows, IsAs, cell, page_cell, control_cell, root_cell, entry_cell, if_stands, key_cell, lock_word, built_hasher, hasher_cell}
+use Rattle.word_rules.specs.Cells.{Shows, IsAs, cell, page_cell, control_cell, root_cell, entry_cell, if_stands, lock_word, built_hasher, hasher_cell}
 use Rattle.act_rules.proofs.Rows.{rows-respect}
 use Rattle.act_rules.proofs.Stored.{by_test}
 use Rattle.leaf_engine.specs.declared.needs.Place.{Place}

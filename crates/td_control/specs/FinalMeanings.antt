@@ -25,8 +25,7 @@ use Rattle.flat_core.specs.TdRows.{finalize}
 use Rattle.flat_core.specs.Event.{State}
 use Rattle.word_rules.specs.Lines.{in_lines}
 use Rattle.word_rules.specs.Rules.{TdcsWord, Whole, KeepsNothing}
-use Rattle.word_rules.specs.Spots.{spot, or_unused, tdcs_classes, vp_classes, is_current, is_empty, slot_of}
-use Rattle.word_rules.specs.Views.{no_page}
+use Rattle.word_rules.specs.Spots.{or_unused, tdcs_classes, is_current, is_empty, slot_of}
 use Rattle.word_rules.specs.Permissions.{MayAt, Owes, Reads}
 use Rattle.word_rules.specs.Cells.{Shows, IsAs, cell, page_cell, control_cell, lock_word, td_lock_lines, tdcs_lines, vp_lines, built_hasher}
 use Rattle.lock_words.specs.Grips.{holds, holds_alone}
@@ -36,7 +35,7 @@ use Rattle.leaf_engine.specs.declared.needs.Place.{Place}
 use Rattle.leaf_engine.specs.Changes.{Hand, Memory, changed_all}
 use Rattle.leaf_engine.specs.Trees.{Tree, Load, acts}
 use Rattle.leaf_engine.specs.Means.{Instant, IsHkid, Means, MeansRow, MayChange, Work, work_of, OfCall, hold}
-use Rattle.leaf_parts.specs.Words.{is_hkid, page_told, vps_told}
+use Rattle.leaf_parts.specs.Words.{page_told, vps_told}
 use Rattle.leaf_parts.proofs.Acted.{opening}
 use Rattle.leaf_parts.proofs.Begun.{td-head-means, page_lock, op_lock, IsTd, TwoControls, page-in}
 use Rattle.leaf_parts.proofs.Keys.{hkid-in}

@@ -1,29 +1,26 @@
 -- Behind the beginning of its row the leaf that initializes a virtual processor means the row.
-use Rattle.std.proofs.Common.{◌≡◌, ℕ, ◌+◌, ◌*◌, ◌/◌, ◌%◌, ◌^◌, ◌<◌, false, ◌==◌, ◌&&◌, [], ◌∷◌, refl, inl, inr, arith}
+use Rattle.std.proofs.Common.{◌≡◌, ℕ, ◌<◌, false, ◌==◌, [], ◌∷◌, refl, inl, inr, arith}
 use Rattle.std.proofs.lemmas.Bool.{eqb-true}
-use Rattle.td_words.specs.declared.names.PageKind.{PageKind}
 use Rattle.td_words.specs.declared.names.PageKind.TheVariants as kind
 use Rattle.td_words.specs.declared.names.VcpuState.{VcpuState}
 use Rattle.td_words.specs.declared.names.VcpuState.TheVariants as vcpu
 use Rattle.td_words.specs.declared.names.Mode.TheVariants.{Shared}
 use Rattle.td_words.specs.declared.machines.Machine.{Machine}
-use Rattle.td_words.specs.NameNumber.{kind_number, vcpu_number}
-use Rattle.td_words.specs.Packing.{pamt_word}
+use Rattle.td_words.specs.NameNumber.{vcpu_number}
 use Rattle.td_words.specs.declared.replies.Value.TheVariants as value
 use Rattle.td_words.specs.declared.replies.Reply.TheVariants.{Done}
 use Rattle.td_words.specs.Place as place
 use Rattle.flat_core.specs.World.{World}
-use Rattle.flat_core.specs.Conditions.{is_host_in, is_page_of, same_kind, td_page, vp_in, page_exclusive}
+use Rattle.flat_core.specs.Conditions.{is_page_of, same_kind, td_page, vp_in, page_exclusive}
 use Rattle.flat_core.specs.Lawful.{Lawful, IsAlive, IsPageOf}
 use Rattle.flat_core.specs.VpRows.{initialize_vp}
 use Rattle.word_rules.specs.Guards.{Grip, Meets}
 use Rattle.word_rules.specs.Rules.{VcpuWord, Whole, KeepsNothing, reads, writes, owes}
 use Rattle.word_rules.specs.Spots.{guard_at}
 use Rattle.word_rules.specs.Permissions.{Respects}
-use Rattle.word_rules.specs.Cells.{Shows, IsAs, page_cell, lock_word}
+use Rattle.word_rules.specs.Cells.{Shows}
 use Rattle.act_rules.proofs.Respected.{leaves, all-same}
 use Rattle.flat_core.proofs.Tests.{and_left, and_right}
-use Rattle.act_rules.proofs.Stored.{by_test}
 use Rattle.leaf_engine.specs.Trees.{acts}
 use Rattle.leaf_engine.specs.Means.{Instant, Means, work_of, OfCall, hold}
 use Rattle.leaf_parts.proofs.Told.{kind-is, kind-shown, owner-shown}

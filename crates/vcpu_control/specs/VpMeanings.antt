@@ -11,12 +11,12 @@ use Rattle.flat_core.proofs.Tests.{not_true}
 use Rattle.leaf_engine.specs.declared.needs.Place.{Place}
 use Rattle.leaf_engine.specs.Means.{MeansRow, OfCall, work_of}
 use Rattle.leaf_parts.proofs.Begun.{td-head-means}
-use Rattle.vcpu_control.specs.VpTrees.{init_rest, init_task, create_rest, create_task}
+use Rattle.vcpu_control.specs.VpTrees.{init_rest, vp_init_task, create_rest, vp_create_task}
 use Rattle.vcpu_control.specs.InitMeans.{init_rest-means}
 use Rattle.vcpu_control.specs.CreateMeans.{create_rest-means}
 
-pub init-means : (p : Place) (t v x : ℕ) → p.machine.pages < 65536 → MeansRow (init_task p t v x)
-init-means p t v x few = record {
+pub vp_init-means : (p : Place) (t v x : ℕ) → p.machine.pages < 65536 → MeansRow (vp_init_task p t v x)
+vp_init-means p t v x few = record {
   enters_none = refl;
   means = λ c at. (
     refl,
@@ -35,8 +35,8 @@ init-means p t v x few = record {
   );
 }
 
-pub create-means : (p : Place) (t q : ℕ) → MeansRow (create_task p t q)
-create-means p t q = record {
+pub vp_create-means : (p : Place) (t q : ℕ) → MeansRow (vp_create_task p t q)
+vp_create-means p t q = record {
   enters_none = refl;
   means = λ c at. (
     refl,

@@ -29,11 +29,11 @@ pub struct VpCreate {
 impl VpCreate {
     ghost use Rattle.std.specs.Prelude.{◌≡◌};
     ghost use Rattle.leaf_engine.specs.Turns.{IsFresh};
-    ghost use Rattle.vcpu_control.specs.VpTrees.{create_task};
+    ghost use Rattle.vcpu_control.specs.VpTrees.{vp_create_task};
 
     /// The leaf of a call at a place.
     pub fn leaf(place: Place, tdr: u64, page: u64) -> Planned<VpCreate>
-        ensures task { ⟦<Planned<VpCreate> as Leaf>⟧.task result ≡ create_task place tdr page }
+        ensures task { ⟦<Planned<VpCreate> as Leaf>⟧.task result ≡ vp_create_task place tdr page }
         ensures fresh { let leaf = ⟦<Planned<VpCreate> as Leaf>⟧ in IsFresh (leaf.task result).tree (leaf.rest result) (leaf.tries result) (leaf.written result) (leaf.waits result) }
     {
         Planned::new(VpCreate { place, tdr, page })
@@ -41,10 +41,10 @@ impl VpCreate {
 }
 
 impl Plan for VpCreate {
-    ghost use Rattle.vcpu_control.specs.VpTrees.{create_task};
-    ghost use Rattle.vcpu_control.specs.VpMeanings.{create-means};
+    ghost use Rattle.vcpu_control.specs.VpTrees.{vp_create_task};
+    ghost use Rattle.vcpu_control.specs.VpMeanings.{vp_create-means};
 
-    ghost task = { λ l. create_task l.place l.tdr l.page };
+    ghost task = { λ l. vp_create_task l.place l.tdr l.page };
 
     fn decide(&self, told: Told) -> Result<Verdict, Stop> {
         let mut told = told;
@@ -63,7 +63,7 @@ impl Plan for VpCreate {
         add_vp(told, self.place, tdr, td, self.page as u16)
     }
 
-    ghost means = { λ l. create-means l.place l.tdr l.page };
+    ghost means = { λ l. vp_create-means l.place l.tdr l.page };
 }
 
 /// What comes behind the beginning of the row: there is room for another virtual processor.

@@ -29,11 +29,11 @@ pub struct VpInit {
 impl VpInit {
     ghost use Rattle.std.specs.Prelude.{◌≡◌};
     ghost use Rattle.leaf_engine.specs.Turns.{IsFresh};
-    ghost use Rattle.vcpu_control.specs.VpTrees.{init_task};
+    ghost use Rattle.vcpu_control.specs.VpTrees.{vp_init_task};
 
     /// The leaf of a call at a place.
     pub fn leaf(place: Place, tdr: u64, vp: u64, value: u64) -> Planned<VpInit>
-        ensures task { ⟦<Planned<VpInit> as Leaf>⟧.task result ≡ init_task place tdr vp value }
+        ensures task { ⟦<Planned<VpInit> as Leaf>⟧.task result ≡ vp_init_task place tdr vp value }
         ensures fresh { let leaf = ⟦<Planned<VpInit> as Leaf>⟧ in IsFresh (leaf.task result).tree (leaf.rest result) (leaf.tries result) (leaf.written result) (leaf.waits result) }
     {
         Planned::new(VpInit {
@@ -46,10 +46,10 @@ impl VpInit {
 }
 
 impl Plan for VpInit {
-    ghost use Rattle.vcpu_control.specs.VpTrees.{init_task};
-    ghost use Rattle.vcpu_control.specs.VpMeanings.{init-means};
+    ghost use Rattle.vcpu_control.specs.VpTrees.{vp_init_task};
+    ghost use Rattle.vcpu_control.specs.VpMeanings.{vp_init-means};
 
-    ghost task = { λ l. init_task l.place l.tdr l.vp l.value };
+    ghost task = { λ l. vp_init_task l.place l.tdr l.vp l.value };
 
     fn decide(&self, told: Told) -> Result<Verdict, Stop> {
         let mut told = told;
@@ -68,7 +68,7 @@ impl Plan for VpInit {
         initialize(told, self.place, tdr, self.vp as u16, self.value)
     }
 
-    ghost means = { λ l. init-means l.place l.tdr l.vp l.value l.few_pages };
+    ghost means = { λ l. vp_init-means l.place l.tdr l.vp l.value l.few_pages };
 }
 
 /// What comes behind the beginning of the row.

@@ -1,5 +1,4 @@
-use Rattle.std.proofs.Common.{[], ◌∷◌, nat_lt, Err}
-use Rattle.td_words.specs.declared.names.LifeState.TheVariants as life
+use Rattle.std.proofs.Common.{nat_lt, Err}
 use Rattle.td_words.specs.declared.refusals.Status.TheVariants.{OperandInvalid}
 use Rattle.leaf_parts.specs.Heads.{tdr_head_tree}
 use Rattle.leaf_parts.proofs.Parts.{exit, passes}
