@@ -1,0 +1,5 @@
+pub mod SeptReadTrees
+pub mod SeptReadMeanings
+pub mod SeptAddTrees
+pub mod SeptAddShows
+pub mod SeptAddMeanings

@@ -4,3 +4,8 @@
 //! Stands on `leaf_parts` and `sept_parts`, whose beginnings and walk its leaves share. A layer above
 //! may use that each leaf is made for its call's row, and means that row.
 #![tactic(auto)]
+
+mod arguments;
+mod sept_reads;
+
+pub use sept_reads::SeptRd;
