@@ -1,0 +1,3 @@
+pub mod PageAddTrees
+pub mod PageAddParts
+pub mod PageAddMeanings
