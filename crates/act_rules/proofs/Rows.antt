@@ -253,7 +253,7 @@ module _ (g : Grip) (w : World) where
       respects-compose.both g w w1 (map_page p k s t level number w) ((effects-respect g w).taken p k t level number host own)
       ((effects-respect g w1).entry t level number (record { state = s; page = p; mark = 0 }) td tree)
 
-  sept-added : (t gpa level p : ℕ) → is_host w p ≡ true → g.sole (Locked (OfPage p)) ≡ true → HoldsTd g t → g.sole (Locked (OfTree t)) ≡ true
+  pub sept-added : (t gpa level p : ℕ) → is_host w p ≡ true → g.sole (Locked (OfPage p)) ≡ true → HoldsTd g t → g.sole (Locked (OfTree t)) ≡ true
       → Respects g w (clear_page p (map_page p kind.Ept entry.NlMapped t level (number_at level gpa) w))
   sept-added t gpa level p host own td tree =
       let w1 : World = map_page p kind.Ept entry.NlMapped t level (number_at level gpa) w in
@@ -261,7 +261,7 @@ module _ (g : Grip) (w : World) where
       respects-compose.both g w w1 w2 (mapped p kind.Ept entry.NlMapped t level (number_at level gpa) host own td tree)
       (leaves g w1 w2 (all-same w1 w2 refl (λ u. same-td w1 w2 u refl refl refl (λ b. refl) (λ n. refl))) (λ h. refl) refl)
 
-  page-added : (t gpa p : ℕ) (ws : ℕ → ℕ) (records : List ℕ) → is_host w p ≡ true → g.sole (Locked (OfPage p)) ≡ true → HoldsTd g t → g.sole (Locked (OfTree t)) ≡ true
+  pub page-added : (t gpa p : ℕ) (ws : ℕ → ℕ) (records : List ℕ) → is_host w p ≡ true → g.sole (Locked (OfPage p)) ≡ true → HoldsTd g t → g.sole (Locked (OfTree t)) ≡ true
       → Respects g w (measure t records (begin_memory t (page_of_gpa gpa) ws (set_page p ws (map_page p kind.Reg entry.Mapped t 0 (number_at 0 gpa) w))))
   page-added t gpa p ws records host own td tree =
       let w1 : World = map_page p kind.Reg entry.Mapped t 0 (number_at 0 gpa) w in
@@ -270,7 +270,7 @@ module _ (g : Grip) (w : World) where
       (leaves g w1 w2 (all-same w1 w2 refl (λ u. same-td w1 w2 u refl refl refl (λ b. refl) (λ n. refl))) (λ h. refl) refl)
 
   -- MR.EXTEND
-  measured : (t : ℕ) (records : List ℕ) → Respects g w (measure t records w)
+  pub measured : (t : ℕ) (records : List ℕ) → Respects g w (measure t records w)
   measured t records = let w' : World = measure t records w in leaves g w w' (all-same w w' refl (λ u. same-td w w' u refl refl refl (λ b. refl) (λ n. refl))) (λ h. refl) refl
 
 -- a walk is conditions alone

@@ -3,3 +3,5 @@ pub mod SeptTold
 pub mod SeptLocks
 pub mod SeptBegun
 pub mod SeptPut
+pub mod Filled
+pub mod Nodes

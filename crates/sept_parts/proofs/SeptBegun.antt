@@ -15,6 +15,7 @@ use Rattle.td_words.specs.Place as place
 use Rattle.flat_core.specs.World.{World}
 use Rattle.flat_core.specs.Processor.{OfPage, OfTree, Held}
 use Rattle.flat_core.specs.Row.{Item, Try, needs}
+use Rattle.flat_core.specs.Conditions.{td_row}
 use Rattle.flat_core.specs.Lawful.{Lawful, IsAlive}
 use Rattle.flat_core.specs.Tree.{entry_at, number_at, same_state, walk, state_in}
 use Rattle.sept_walk.specs.SecureEpt.{index_at, is_mapped_on}
@@ -28,10 +29,11 @@ use Rattle.leaf_engine.specs.Trees as tree
 use Rattle.leaf_engine.specs.Means.{Instant, Work, Means, hold}
 use Rattle.leaf_parts.specs.Words.{page_told}
 use Rattle.leaf_parts.proofs.Told.{page-back, tdr-shown, tdr-spot, tdcs-spot}
-use Rattle.leaf_parts.proofs.Begun.{TwoControls, IsTd, page-in, page_lock, op_lock}
+use Rattle.leaf_parts.proofs.Begun.{TwoControls, IsTd, page-in, page_lock, op_lock, td-head-means}
 use Rattle.sept_parts.specs.declared.finds.Found.{Found}
+use Rattle.sept_parts.specs.declared.finds.Modes.{Modes}
 use Rattle.sept_parts.specs.SeptWords.{entry_told}
-use Rattle.sept_parts.specs.SeptTrees.{tree_lock_tree, root_page_tree, entry_tree, state_tree, below_tree, walk_tree, find_tree}
+use Rattle.sept_parts.specs.SeptTrees.{tree_lock_tree, root_page_tree, entry_tree, state_tree, below_tree, walk_tree, find_tree, td_find_tree}
 use Rattle.sept_parts.specs.SeptPages.{HasEntry, HoldsTree, HoldsEntries}
 use Rattle.sept_parts.proofs.SeptTold.{mapped-on, told-back, said}
 use Rattle.sept_parts.proofs.SeptLocks.{tree_held, holds-tree, tree-alone, op-alone, entry-reads, upper-reads}
@@ -154,3 +156,13 @@ td-find-means m c k t in_page limit la sh ops y tree_mode op stable gpa level sm
     tree-lock-means m c k t in_page limit la sh y.alive y.controls (op_lock t op ∷ page_lock t Shared ∷ []) tree_mode (find_tree m.pages t gpa level further) (walk c.state.world t gpa level ++ rest) locks.tdr
     (find-means m c k t in_page limit la sh y.alive y.controls (tree_held t tree_mode ∷ op_lock t op ∷ page_lock t Shared ∷ []) gpa small locks level further rest few
     (stable-entries t tree_mode op Shared c.kept stable) h)
+
+-- The whole beginning of the row of a call that walks.
+pub row-find-means : (m : Machine) (c : Instant) (k : Work) (t : ℕ) → t < m.pages → m.pages ≤ 1024 → Lawful m c.state.world → Shows m c.memory.words c.memory.slots c.state → (modes : Modes) (ops : List OpState) → AreStable modes.tree modes.op
+    → (gpa level : ℕ) → gpa < 2 ^ 47 → level ≤ 3 → (further : Found → Tree) (rest : List (Item Reply))
+    → ((y : IsTd m c.state.world t ops) (page : ℕ) → HasEntry m c.state.world t y.controls.root page gpa level
+    → Means m c k (tree_held t modes.tree ∷ op_lock t modes.op ∷ page_lock t Shared ∷ []) (further (record { page = page; entry = entry_at c.state.world t level gpa })) rest)
+    → Means m c k [] (td_find_tree m.pages t modes ops gpa level further) (td_row c.state.world t modes.op ops ++ Try (OfTree t) modes.tree ∷ (walk c.state.world t gpa level ++ rest))
+row-find-means m c k t in_page limit la sh modes ops stable gpa level small few further rest h =
+    td-head-means m c k t in_page la sh modes.op ops (λ td. tree_lock_tree t td.tdcs modes.tree (find_tree m.pages t gpa level further)) (Try (OfTree t) modes.tree ∷ (walk c.state.world t gpa level ++ rest))
+    (λ y. td-find-means m c k t in_page limit la sh ops y modes.tree modes.op stable gpa level small few further rest (λ page has. h y page has))

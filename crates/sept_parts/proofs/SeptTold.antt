@@ -32,7 +32,7 @@ entry-back n e lawful small =
     read ∙ rw (lt-ltb e.page n small) refl
 
 -- a FREE entry names page 0
-free-page : (s : EntryState) (p mark : ℕ) → is_lawful_entry (record { state = s; page = p; mark = mark }) ≡ true → is_free s ≡ true → p ≡ 0
+pub free-page : (s : EntryState) (p mark : ℕ) → is_lawful_entry (record { state = s; page = p; mark = mark }) ≡ true → is_free s ≡ true → p ≡ 0
 free-page entry.Free p mark h f = eqb-true p 0 (and-left (p == 0) _ (and-right (nat_lt mark (2 ^ 32)) _ (and-right (nat_lt p 1024) _ h)))
 free-page _ p mark h f = cc
 

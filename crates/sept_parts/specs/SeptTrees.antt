@@ -3,6 +3,7 @@ use Rattle.std.specs.Prelude.{ℕ, zero, suc, ◌-◌, List}
 use Rattle.std.specs.List.{list_any}
 use Rattle.td_words.specs.declared.names.EntryState.{EntryState}
 use Rattle.td_words.specs.declared.names.Mode.{Mode}
+use Rattle.td_words.specs.declared.names.OpState.{OpState}
 use Rattle.td_words.specs.declared.places.TheConstants.{TDR_ROOT, TDCS_TREE_LOCK}
 use Rattle.td_words.specs.declared.refusals.Status.TheVariants.{EptWalkFailed, EptEntryStateIncorrect}
 use Rattle.td_words.specs.Packing.{Entry}
@@ -13,7 +14,9 @@ use Rattle.sept_walk.specs.SecureEpt.{index_at, is_mapped_on}
 use Rattle.word_rules.specs.Rules.{Whole}
 use Rattle.leaf_engine.specs.Trees.{Tree, Lock, Load, needs}
 use Rattle.leaf_parts.specs.Words.{page_told}
+use Rattle.leaf_parts.specs.Heads.{td_head_tree}
 use Rattle.sept_parts.specs.declared.finds.Found.{Found}
+use Rattle.sept_parts.specs.declared.finds.Modes.{Modes}
 use Rattle.sept_parts.specs.SeptWords.{entry_told}
 
 -- the secure EPT is held in that mode
@@ -51,3 +54,8 @@ find_tree pages t gpa level further =
     root_page_tree pages t (λ root.
     walk_tree pages root gpa level (λ page.
     entry_tree pages page gpa level (λ e. further (record { page = page; entry = e }))))
+
+-- the beginning of the rows of calls that walk: that of a TD's rows, then the secure EPT, and the entry of a level that
+-- maps a GPA
+abbrev pub td_find_tree : (pages t : ℕ) → Modes → List OpState → (gpa level : ℕ) → (Found → Tree) → Tree
+td_find_tree pages t modes allowed gpa level further = td_head_tree pages t modes.op allowed (λ td. tree_lock_tree t td.tdcs modes.tree (find_tree pages t gpa level further))

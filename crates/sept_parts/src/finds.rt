@@ -3,12 +3,13 @@
 ghost use Rattle.std.specs.Prelude.{◌≡◌, ◌-◌, ◌<◌, ◌≤◌, MatchResult};
 ghost use Rattle.leaf_engine.specs.Inside.{StopIn};
 ghost use Rattle.leaf_parts.specs.Parts.{Goes, Feeds, Uses};
-ghost use Rattle.sept_parts.specs.SeptTrees.{below_tree, walk_on_tree, walk_tree, find_tree};
+ghost use Rattle.sept_parts.specs.SeptTrees.{below_tree, walk_on_tree, walk_tree, find_tree, td_find_tree};
 
-use crate::entries::{entry, is_mapped_on, root_page};
+use crate::entries::{entry, is_mapped_on, root_page, tree_lock};
 use leaf_engine::{Place, Stop, Told};
+use leaf_parts::td_head;
 use sept_entry::Entry;
-use td_words::Status;
+use td_words::{Mode, OpState, Status};
 
 /// The level of the root's entries.
 const TOP: u8 = 3;
@@ -80,4 +81,33 @@ pub fn find(told: &mut Told, place: Place, tdr: u16, gpa: u64, level: u8) -> Res
     let page = walk(told, place, root, gpa, level)?;
     let entry = entry(told, place, page, gpa, level)?;
     Ok(Found { page, entry })
+}
+
+/// The modes in which a call that walks holds the operation state and the secure EPT of its TD.
+#[derive(Clone, Copy, Debug, PartialEq, Eq)]
+pub struct Modes {
+    pub op: Mode,
+    pub tree: Mode,
+}
+
+/// The beginning of the rows of calls that walk: that of a TD's rows, with these operation states,
+/// and then the secure EPT and the entry of a level that maps a GPA.
+pub fn td_find(
+    told: &mut Told,
+    place: Place,
+    tdr: u16,
+    modes: Modes,
+    allowed: &[OpState],
+    gpa: u64,
+    level: u8,
+) -> Result<Found, Stop>
+    requires { (tdr < place.machine.pages) × (level ≤ 3) }
+    ensures goes { Goes place.machine.pages (λ f. td_find_tree place.machine.pages tdr modes allowed.now gpa level f) told.old.left.now told.new.left.now result }
+    ensures feeds { Feeds (λ f. td_find_tree place.machine.pages tdr modes allowed.now gpa level f) told.old.left.now told.new.left.now result }
+    ensures uses { Uses (13 - level) told.old.left.now told.new.left.now result }
+    ensures inside { MatchResult result (λ f. (f.page < place.machine.pages) × (f.entry.page < place.machine.pages)) (λ e. StopIn place.machine e) }
+{
+    let td = td_head(told, place, tdr, modes.op, allowed)?;
+    tree_lock(told, place, td.tdcs, modes.tree)?;
+    find(told, place, tdr, gpa, level)
 }

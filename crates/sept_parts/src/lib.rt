@@ -11,4 +11,4 @@ mod entries;
 mod finds;
 
 pub use entries::{entry, entry_told, is_mapped_on, is_state_among, root_page, tree_lock};
-pub use finds::{Found, find, walk};
+pub use finds::{Found, Modes, find, td_find, walk};
