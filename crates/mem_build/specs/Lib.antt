@@ -1,3 +1,4 @@
 pub mod PageAddTrees
 pub mod PageAddParts
+pub mod PageAdded
 pub mod PageAddMeanings

@@ -22,8 +22,8 @@ use Rattle.leaf_engine.specs.Changes.{Hand, Change, Put, Copy, Swap}
 use Rattle.leaf_engine.specs.Trees.{Tree, Lock, Load, End, needs}
 use Rattle.leaf_engine.specs.Means.{Task, OfCall}
 use Rattle.leaf_parts.specs.Words.{says_host, raised}
-use Rattle.leaf_parts.specs.Heads.{td_head_tree}
-use Rattle.sept_parts.specs.SeptTrees.{tree_lock_tree, find_tree, state_tree}
+use Rattle.sept_parts.specs.declared.finds.Modes.{Modes}
+use Rattle.sept_parts.specs.SeptTrees.{td_find_tree, state_tree}
 use Rattle.mem_build.specs.declared.page_additions.Addition.{Addition}
 
 -- an HKID of the machine, which is all that a TDR ever tells
@@ -68,9 +68,12 @@ arguments_tree m tdr gpa page source further =
     (needs (not (source == page)) (OperandInvalid 4)
     (needs (gpa % level_size 0 == 0) (OperandInvalid 2) further)))))))
 
--- the entry of the GPA is FREE
-abbrev pub free_tree : (pages tdr tdcs gpa : ℕ) → (ℕ → Tree) → Tree
-free_tree pages tdr tdcs gpa further = tree_lock_tree tdr tdcs Exclusive (find_tree pages tdr gpa 0 (λ found. state_tree found.entry (entry.Free ∷ []) (further found.page)))
+-- the beginning of the row: the entry of the GPA is FREE, and stands in this page
+abbrev pub alone : Modes
+alone = record { op = Exclusive; tree = Exclusive }
+
+abbrev pub free_tree : (pages tdr gpa : ℕ) → (ℕ → Tree) → Tree
+free_tree pages tdr gpa further = td_find_tree pages tdr alone (op.Initialized ∷ []) gpa 0 (λ found. state_tree found.entry (entry.Free ∷ []) (further found.page))
 
 -- a page is held alone, and is the host's
 abbrev pub host_tree : ℕ → Tree → Tree
@@ -86,16 +89,12 @@ pages_tree tdr page source further =
 -- behind the arguments
 abbrev pub td_tree : (pages tdr gpa page source : ℕ) → (Addition → Tree) → Tree
 td_tree pages tdr gpa page source further =
-    td_head_tree pages tdr Exclusive (op.Initialized ∷ []) (λ td.
-    free_tree pages tdr td.tdcs gpa (λ table.
+    free_tree pages tdr gpa (λ table.
     pages_tree tdr page source (λ hkid children.
-    further (record { tdr = tdr; gpa = gpa; page = page; source = source; table = table; hkid = hkid; children = children }))))
+    further (record { tdr = tdr; gpa = gpa; page = page; source = source; table = table; hkid = hkid; children = children })))
 
-abbrev pub conditions_tree : Machine → (tdr gpa page source : ℕ) → (Addition → Tree) → Tree
-conditions_tree m tdr gpa page source further = arguments_tree m tdr gpa page source (td_tree m.pages tdr gpa page source further)
-
-abbrev pub page_add_tree : Machine → (tdr gpa page source : ℕ) → Tree
-page_add_tree m tdr gpa page source = conditions_tree m tdr gpa page source (λ a. addition_end m a)
+unfoldable pub page_add_tree : Machine → (tdr gpa page source : ℕ) → Tree
+page_add_tree m tdr gpa page source = arguments_tree m tdr gpa page source (td_tree m.pages tdr gpa page source (λ a. addition_end m a))
 
 abbrev pub page_add_task : Place → (tdr gpa page source : ℕ) → Task
 page_add_task p tdr gpa page source = record { place = p; tree = page_add_tree p.machine tdr gpa page source; meaning = OfCall (add_page p.machine tdr gpa page source) }

@@ -2,11 +2,11 @@
 
 use arrayvec::ArrayVec;
 use leaf_engine::{ANSWERS, Leaf, Need, Place, Stop, Told, Write};
-use leaf_parts::{raised, says_host, td_head};
+use leaf_parts::{raised, says_host};
 use mrtd_measure::Measure;
 use pamt_core::PamtWord;
 use sept_entry::Entry;
-use sept_parts::{find, is_state_among, tree_lock};
+use sept_parts::{Found, Modes, is_state_among, td_find};
 use sept_walk::index;
 use step_core::WordStep;
 use td_words::places::{TDR_CHILDREN, TDR_HKID};
@@ -202,8 +202,7 @@ fn of_td(
     ensures uses { Uses 19 told.old.left.now told.new.left.now result }
     ensures inside { MatchResult result (λ a. (a.tdr ≡ tdr) × (a.gpa ≡ gpa) × (a.page ≡ page) × (a.source ≡ source) × (a.table < place.machine.pages)) (λ e. StopIn place.machine e) }
 {
-    let td = td_head(told, place, tdr, Mode::Exclusive, &[OpState::Initialized])?;
-    let table = free_entry(told, place, tdr, td.tdcs, gpa)?;
+    let table = free_entry(told, place, tdr, gpa)?;
     let counts = host_pages(told, place, tdr, page, source)?;
     Ok(Addition {
         tdr,
@@ -216,16 +215,28 @@ fn of_td(
     })
 }
 
-/// The secure EPT is held alone, and the entry of the GPA is FREE: the page in which it stands.
-fn free_entry(told: &mut Told, place: Place, tdr: u16, tdcs: u16, gpa: u64) -> Result<u16, Stop>
-    requires { (tdr < place.machine.pages) × (tdcs < place.machine.pages) }
-    ensures goes { Goes place.machine.pages (λ f. free_tree place.machine.pages tdr tdcs gpa f) told.old.left.now told.new.left.now result }
-    ensures feeds { Feeds (λ f. free_tree place.machine.pages tdr tdcs gpa f) told.old.left.now told.new.left.now result }
-    ensures uses { Uses 6 told.old.left.now told.new.left.now result }
+/// The beginning of the row: the entry of the GPA is FREE. The secure EPT page in which it stands.
+fn free_entry(told: &mut Told, place: Place, tdr: u16, gpa: u64) -> Result<u16, Stop>
+    requires { tdr < place.machine.pages }
+    ensures goes { Goes place.machine.pages (λ f. free_tree place.machine.pages tdr gpa f) told.old.left.now told.new.left.now result }
+    ensures feeds { Feeds (λ f. free_tree place.machine.pages tdr gpa f) told.old.left.now told.new.left.now result }
+    ensures uses { Uses 13 told.old.left.now told.new.left.now result }
     ensures inside { MatchResult result (λ p. p < place.machine.pages) (λ e. StopIn place.machine e) }
 {
-    tree_lock(told, place, tdcs, Mode::Exclusive)?;
-    let found = find(told, place, tdr, gpa, 0)?;
+    let modes = Modes {
+        op: Mode::Exclusive,
+        tree: Mode::Exclusive,
+    };
+    let found = td_find(told, place, tdr, modes, &[OpState::Initialized], gpa, 0)?;
+    table_of(told, found)
+}
+
+ghost use Rattle.mem_build.specs.PageAddParts.{TableOf};
+
+/// The secure EPT page in which an entry stands that is FREE.
+fn table_of(told: &Told, found: Found) -> Result<u16, Stop>
+    ensures { TableOf found result }
+{
     let state = found.entry.state;
     told.check(
         is_state_among(state, &[EntryState::Free]),
@@ -294,30 +305,37 @@ fn next_write(
     if !is_hkid(machine, addition.hkid) {
         return None;
     }
-    let slot = (addition.hkid - 1) as u8;
-    let write = match *written {
-        0 => Write::Copy {
-            from: addition.source,
-            to: addition.page,
-        },
-        1 => entry_store(addition),
-        2 => owner_store(addition),
-        3 => Write::Word(WordStep::Store(
-            word_address(addition.tdr, TDR_CHILDREN),
-            raised(machine.pages, addition.children),
-        )),
+    match *written {
+        0 => {
+            *written = 1;
+            let from = addition.source;
+            let to = addition.page;
+            Some(Write::Copy { from, to })
+        }
+        1 => {
+            *written = 2;
+            Some(entry_store(addition))
+        }
+        2 => {
+            *written = 3;
+            Some(owner_store(addition))
+        }
+        3 => {
+            *written = 4;
+            Some(count_store(machine, addition))
+        }
         4 => {
+            *written = 5;
             *hasher = None;
-            Write::Swap(slot)
+            Some(Write::Swap(addition.hkid as u8 - 1))
         }
         5 => {
+            *written = 6;
             measure(hasher, addition.gpa);
-            Write::Swap(slot)
+            Some(Write::Swap(addition.hkid as u8 - 1))
         }
-        _ => return None,
-    };
-    *written += 1;
-    Some(write)
+        _ => None,
+    }
 }
 
 ghost use Rattle.td_words.specs.declared.names.PageKind.TheVariants as kind;
@@ -327,6 +345,7 @@ ghost use Rattle.td_words.specs.Address.{word_at, pamt_at};
 ghost use Rattle.sept_walk.specs.SecureEpt.{index_at};
 ghost use Rattle.leaf_engine.specs.Changes.{Hand};
 ghost use Rattle.leaf_engine.specs.Decides.{IsHand};
+ghost use Rattle.leaf_parts.specs.Words.{raised};
 ghost use Rattle.mem_build.specs.PageAddTrees.{is_hkid, with_page};
 
 /// The entry's word.
@@ -354,6 +373,17 @@ fn owner_store(addition: Addition) -> Write
     Write::Word(WordStep::Store(
         pamt_address(addition.page),
         owned.pack(),
+    ))
+}
+
+/// The child count's word.
+fn count_store(machine: Machine, addition: Addition) -> Write
+    ensures { result ≡ Write.Word (WordStep.Store (word_at addition.tdr 2) (raised machine.pages addition.children)) }
+{
+    let at = word_address(addition.tdr, TDR_CHILDREN);
+    Write::Word(WordStep::Store(
+        at,
+        raised(machine.pages, addition.children),
     ))
 }
 
