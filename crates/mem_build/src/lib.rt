@@ -5,7 +5,13 @@
 //! may use that each leaf is made for its call's row, and means that row.
 #![tactic(auto)]
 
+<<<<<<< HEAD
 mod arguments;
 mod sept_reads;
 
 pub use sept_reads::SeptRd;
+=======
+mod page_additions;
+
+pub use page_additions::PageAdd;
+>>>>>>> 032e7bac1510e5cb6973a1b8ca0a013fa5b94599
