@@ -4,3 +4,7 @@
 //! Stands on `leaf_parts` and `sept_parts`, whose beginnings and walk its leaves share. A layer above
 //! may use that each leaf is made for its call's row, and means that row.
 #![tactic(auto)]
+
+mod extensions;
+
+pub use extensions::Chunk;
