@@ -1,1 +1,2 @@
 pub mod ExtendTrees
+pub mod ExtendMeanings
