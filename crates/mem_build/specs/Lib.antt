@@ -1,2 +1,3 @@
 pub mod ExtendTrees
 pub mod ExtendMeanings
+pub mod Extending
