@@ -6,6 +6,7 @@
 #![tactic(auto)]
 
 <<<<<<< HEAD
+<<<<<<< HEAD
 mod arguments;
 mod sept_reads;
 
@@ -15,3 +16,8 @@ mod page_additions;
 
 pub use page_additions::PageAdd;
 >>>>>>> 032e7bac1510e5cb6973a1b8ca0a013fa5b94599
+=======
+mod extensions;
+
+pub use extensions::{Chunk, Extend};
+>>>>>>> b67b8873ae7b4264d79eb155ad04419f3c40ae0c
