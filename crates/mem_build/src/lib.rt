@@ -5,19 +5,11 @@
 //! may use that each leaf is made for its call's row, and means that row.
 #![tactic(auto)]
 
-<<<<<<< HEAD
-<<<<<<< HEAD
 mod arguments;
+mod extensions;
+mod page_additions;
 mod sept_reads;
 
-pub use sept_reads::SeptRd;
-=======
-mod page_additions;
-
-pub use page_additions::PageAdd;
->>>>>>> 032e7bac1510e5cb6973a1b8ca0a013fa5b94599
-=======
-mod extensions;
-
 pub use extensions::{Chunk, Extend};
->>>>>>> b67b8873ae7b4264d79eb155ad04419f3c40ae0c
+pub use page_additions::PageAdd;
+pub use sept_reads::SeptRd;
