@@ -1,5 +1,5 @@
 -- Each call's leaf tries at most as many locks as its row.
-use Rattle.std.proofs.Common.{ℕ, zero, suc, ◌==◌, Bool, true, false, List, arith}
+use Rattle.std.proofs.Common.{ℕ, zero, suc, ◌+◌, ◌-◌, ◌==◌, Bool, true, false, List, [], arith}
 use Rattle.td_words.specs.declared.machines.Machine.{Machine}
 use Rattle.td_words.specs.declared.calls.Call.{Call}
 use Rattle.td_words.specs.declared.calls.Call.TheVariants as call
@@ -56,6 +56,7 @@ find-few : (n pages t gpa level : ℕ) (k : Found → Tree) → ((f : Found) →
 find-few n pages t gpa level k few = λ root. walk-few n pages gpa (3 - level) 3 _ _ (λ page word. few _)
 
 words-few : (n page at left : ℕ) (seen : List ℕ) (k : List ℕ → Tree) → ((xs : List ℕ) → TriesAtMost n (k xs)) → TriesAtMost n (words_tree page at left seen k)
+unfolding words_tree
 words-few n page at zero seen k few = few seen
 words-few n page at (suc left) seen k few = λ word. words-few n page (at + 1) left _ k few
 
