@@ -1,3 +1,8 @@
+pub mod SeptReadTrees
+pub mod SeptReadMeanings
+pub mod SeptAddTrees
+pub mod SeptAddShows
+pub mod SeptAddMeanings
 pub mod PageAddTrees
 pub mod PageAddParts
 pub mod PageAdded

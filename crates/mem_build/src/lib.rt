@@ -5,6 +5,9 @@
 //! may use that each leaf is made for its call's row, and means that row.
 #![tactic(auto)]
 
+mod arguments;
 mod page_additions;
+mod sept_reads;
 
 pub use page_additions::PageAdd;
+pub use sept_reads::SeptRd;
