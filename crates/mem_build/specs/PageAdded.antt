@@ -158,12 +158,12 @@ module _ (m : Machine) (s : State) (mem : Memory) (t gpa p q table : ℕ) (sh : 
       gpa table 0 small (record { in_machine = has.in_machine; node = has.node }) mapped
 
   -- the entry stands in another page
-  table-kind : ((0 ≡ 3) × (table ≡ y.root)) ⊎ ((0 < 3) × IsNodeOf w.pages t table kind.Ept 1 (number_at 1 gpa)) → w.pages.kinds table ≡ kind.Ept
-  table-kind (inl e) = cc
-  table-kind (inr e) = e.1.page.kind
+  table-kind : (level : ℕ) → level ≡ 0 → ((level ≡ 3) × (table ≡ y.root)) ⊎ ((level < 3) × IsNodeOf w.pages t table kind.Ept (suc level) (number_at (suc level) gpa)) → w.pages.kinds table ≡ kind.Ept
+  table-kind level is (inl e) = absurd (omega (arith, is, e.0))
+  table-kind level is (inr e) = e.1.page.kind
 
   apart : (p == table) ≡ false
-  apart = ne_eqb p table (λ e. (let no : kind.Nda ≡ kind.Ept = sym nda ∙ (ap w.pages.kinds e ∙ table-kind has.node) in cc))
+  apart = ne_eqb p table (λ e. (let no : kind.Nda ≡ kind.Ept = sym nda ∙ (ap w.pages.kinds e ∙ table-kind 0 refl has.node) in cc))
 
   page-word : (i : ℕ) → i < 512 → IsAs (page_cell taken (lock_word s.lps s.lp_count) t p kind.Reg i) (entry-words (place.Word p i))
   page-word i few = rw (eq-eqb p p refl, apart) (source-word i few)
