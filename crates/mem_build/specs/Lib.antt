@@ -5,5 +5,5 @@ pub mod SeptAddShows
 pub mod SeptAddMeanings
 pub mod PageAddTrees
 pub mod PageAddParts
-pub mod PageAdded
+pub mod PageAddShows
 pub mod PageAddMeanings
