@@ -18,6 +18,7 @@ use Rattle.flat_core.specs.Lawful.{Lawful, IsAlive, is_free}
 use Rattle.flat_core.specs.Opening.{IsMachine}
 use Rattle.flat_core.specs.Tree.{entry_at, same_state, state_in}
 use Rattle.flat_core.specs.MemRows.{add_sept}
+use Rattle.sept_walk.specs.SecureEpt.{index_at}
 use Rattle.sept_walk.proofs.Meets.{split}
 use Rattle.word_rules.specs.Cells.{Shows}
 use Rattle.word_rules.specs.Guards.{Grip}
@@ -92,7 +93,7 @@ module _ (m : Machine) (c : Instant) (t gpa level p : ℕ) (in_tdr : t < m.pages
     filled : (i : ℕ) → Fills g w (place.Word p i)
     filled i = (let nda : w.pages.kinds p ≡ kind.Nda = host-kind (w.pages.kinds p) host in rw nda (inl (page_alone, tt)))
 
-    its-act : Acts m c k held (Done value.Nothing) (Clear p ∷ []) (sept_add_changes m.pages t gpa level p at (children w t))
+    its-act : Acts m c k held (Done value.Nothing) (Clear p ∷ []) (sept_add_changes m.pages t p at (index_at level gpa) (children w t))
     its-act = record {
       reply_is = refl;
       fills_allowed = ((in_page, λ i b. filled i), tt);
@@ -101,7 +102,7 @@ module _ (m : Machine) (c : Instant) (t gpa level p : ℕ) (in_tdr : t < m.pages
       shows = sept-added-shown m c.state c.memory t gpa level p at sh la limit y.alive y.controls small least most has host free in_tdr in_page;
     }
 
-    its-end : Means m c k held (End (Done value.Nothing) (Clear p ∷ []) (sept_add_changes m.pages t gpa level p at (children w t))) []
+    its-end : Means m c k held (End (Done value.Nothing) (Clear p ∷ []) (sept_add_changes m.pages t p at (index_at level gpa) (children w t))) []
     its-end = (
       its-act,
       (
@@ -113,7 +114,7 @@ module _ (m : Machine) (c : Instant) (t gpa level p : ℕ) (in_tdr : t < m.pages
       ),
     )
 
-  page-means : is_free (entry_at w t level gpa).state ≡ true → Means m c k tree_locks (sept_add_page m.pages t gpa level p at) (page_exclusive p ∷ host_page w p ∷ [])
+  page-means : is_free (entry_at w t level gpa).state ≡ true → Means m c k tree_locks (sept_add_page m.pages t p at (index_at level gpa)) (page_exclusive p ∷ host_page w p ∷ [])
   page-means free = (
     refl,
     refl,
@@ -127,13 +128,13 @@ module _ (m : Machine) (c : Instant) (t gpa level p : ℕ) (in_tdr : t < m.pages
         λ host. (
           (in_tdr, omega arith),
           inl (count-reads m c t sh y.alive y.controls held locks la tree_alone),
-          subst (λ (n : ℕ). Means m c k held (End (Done value.Nothing) (Clear p ∷ []) (sept_add_changes m.pages t gpa level p at n)) []) (sym children_word) (its-end free host),
+          subst (λ (n : ℕ). Means m c k held (End (Done value.Nothing) (Clear p ∷ []) (sept_add_changes m.pages t p at (index_at level gpa) n)) []) (sym children_word) (its-end free host),
         ),
       ),
     ),
   )
 
-  pub rest-means : Means m c k tree_locks (sept_add_rest m.pages t gpa level p (record { page = at; entry = entry_at w t level gpa })) (state_in w t gpa level (entry.Free ∷ []) ∷ page_exclusive p ∷ host_page w p ∷ [])
+  pub rest-means : Means m c k tree_locks (sept_add_rest m.pages t p (index_at level gpa) (record { page = at; entry = entry_at w t level gpa })) (state_in w t gpa level (entry.Free ∷ []) ∷ page_exclusive p ∷ host_page w p ∷ [])
   rest-means = (refl, λ e. refl, λ free. page-means (is-free (entry_at w t level gpa).state free))
 
 pub sept_add-means : (q : Place) (t gpa level page : ℕ) → IsMachine q.machine → MeansRow (sept_add_task q t gpa level page)
@@ -162,7 +163,7 @@ sept_add-means q t gpa level page limits = record {
                   let least : 1 ≤ level = leb-true 1 level (and-left (nat_le 1 level) (nat_le level 3) d) in
                   let most : level ≤ 3 = leb-true level 3 (and-right (nat_le 1 level) (nat_le level 3) d) in
                   row-find-means q.machine c (work_of (OfCall (add_sept q.machine t gpa level page))) t in_tdr limits.pages.1 at.lawful at.shown (record { op = Shared; tree = Exclusive }) growing_ops tt gpa level small most
-                  (sept_add_rest q.machine.pages t gpa level page) (state_in c.state.world t gpa level (entry.Free ∷ []) ∷ page_exclusive page ∷ host_page c.state.world page ∷ [])
+                  (sept_add_rest q.machine.pages t page (index_at level gpa)) (state_in c.state.world t gpa level (entry.Free ∷ []) ∷ page_exclusive page ∷ host_page c.state.world page ∷ [])
                   (λ y at' has. rest-means q.machine c t gpa level page in_tdr limits.pages.1 at.lawful at.shown small least most (ltb-true page q.machine.pages f) (not-true (page == t) h) y at' has)),
             ),
           ),

@@ -40,7 +40,7 @@ module _ (m : Machine) (s : State) (mem : Memory) (t gpa level p at : ℕ) (sh :
   e = record { state = entry.NlMapped; page = p; mark = 0 }
 
   abbrev after : Memory
-  after = changed_all (sept_add_changes m.pages t gpa level p at (children w t)) (changed (Clear p) mem)
+  after = changed_all (sept_add_changes m.pages t p at (index_at level gpa) (children w t)) (changed (Clear p) mem)
 
   nda : w.pages.kinds p ≡ kind.Nda
   nda = host-kind (w.pages.kinds p) host

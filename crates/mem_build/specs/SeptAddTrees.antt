@@ -36,27 +36,27 @@ add_arguments m tdr gpa level page further =
 
 -- the entry that names the page is the act, after which it may be walked through; then the page is the TD's, and is
 -- counted
-abbrev pub sept_add_changes : (pages tdr gpa level page at children : ℕ) → List Change
-sept_add_changes pages tdr gpa level page at children =
-    Put (place.Word at (index_at level gpa)) (entry_word (record { state = entry.NlMapped; page = page; mark = 0 }))
+abbrev pub sept_add_changes : (pages tdr page at index children : ℕ) → List Change
+sept_add_changes pages tdr page at index children =
+    Put (place.Word at index) (entry_word (record { state = entry.NlMapped; page = page; mark = 0 }))
     ∷ Put (place.Pamt page) (pamt_word (record { kind = kind.Ept; owner = tdr; epoch = 0 }))
     ∷ Put (place.Word tdr TDR_CHILDREN) (raised pages children)
     ∷ []
 
 -- the entry is FREE, and the page is the host's, and is cleared before the act
-abbrev pub sept_add_page : (pages tdr gpa level page at : ℕ) → Tree
-sept_add_page pages tdr gpa level page at =
+abbrev pub sept_add_page : (pages tdr page at index : ℕ) → Tree
+sept_add_page pages tdr page at index =
     Lock (OfPage page) (place.Lock page) Exclusive
     (Load Whole (place.Pamt page) (λ pamt.
     needs (says_host pamt) (PageMetadataIncorrect page)
-    (Load Whole (place.Word tdr TDR_CHILDREN) (λ children. End (Done value.Nothing) (Clear page ∷ []) (sept_add_changes pages tdr gpa level page at children)))))
+    (Load Whole (place.Word tdr TDR_CHILDREN) (λ children. End (Done value.Nothing) (Clear page ∷ []) (sept_add_changes pages tdr page at index children)))))
 
-abbrev pub sept_add_rest : (pages tdr gpa level page : ℕ) → Found → Tree
-sept_add_rest pages tdr gpa level page found = state_tree found.entry (entry.Free ∷ []) (sept_add_page pages tdr gpa level page found.page)
+abbrev pub sept_add_rest : (pages tdr page index : ℕ) → Found → Tree
+sept_add_rest pages tdr page index found = state_tree found.entry (entry.Free ∷ []) (sept_add_page pages tdr page found.page index)
 
 abbrev pub sept_add_tree : Machine → (tdr gpa level page : ℕ) → Tree
 sept_add_tree m tdr gpa level page =
-    add_arguments m tdr gpa level page (td_find_tree m.pages tdr (record { op = Shared; tree = Exclusive }) growing_ops gpa level (sept_add_rest m.pages tdr gpa level page))
+    add_arguments m tdr gpa level page (td_find_tree m.pages tdr (record { op = Shared; tree = Exclusive }) growing_ops gpa level (sept_add_rest m.pages tdr page (index_at level gpa)))
 
 abbrev pub sept_add_task : Place → (tdr gpa level page : ℕ) → Task
 sept_add_task p tdr gpa level page = record { place = p; tree = sept_add_tree p.machine tdr gpa level page; meaning = OfCall (add_sept p.machine tdr gpa level page) }

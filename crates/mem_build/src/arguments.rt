@@ -1,6 +1,6 @@
 //! Arguments of calls on guest physical addresses.
 
-ghost use Rattle.std.specs.Prelude.{◌≡◌, ◌%◌, ◌≤◌, ◌==◌};
+ghost use Rattle.std.specs.Prelude.{◌≡◌, ◌%◌, ◌≤◌, ◌==◌, ◌&&◌, nat_le};
 ghost use Rattle.flat_core.specs.Arguments.{level_size};
 
 /// GPAs are below this one.
@@ -8,6 +8,13 @@ pub const GPAS: u64 = 1 << 47;
 
 /// The level of the root's entries, and of no higher ones.
 pub const TOP: u64 = 3;
+
+/// Whether a level is one whose entries name secure EPT pages.
+pub fn is_upper(level: u64) -> bool
+    ensures { result ≡ (nat_le 1 level && nat_le level 3) }
+{
+    1 <= level && level <= TOP
+}
 
 /// Whether a GPA is the first that an entry of a level maps.
 pub fn is_aligned(level: u8, gpa: u64) -> bool

@@ -7,7 +7,9 @@
 
 mod arguments;
 mod page_additions;
+mod sept_additions;
 mod sept_reads;
 
 pub use page_additions::PageAdd;
+pub use sept_additions::SeptAdd;
 pub use sept_reads::SeptRd;
