@@ -30,7 +30,7 @@ use Rattle.leaf_parts.proofs.Parts.{passes, refuses, feed-passes}
 use Rattle.sept_parts.specs.declared.finds.Found.{Found}
 use Rattle.sept_parts.specs.SeptTrees.{state_tree}
 use Rattle.mem_build.specs.declared.page_additions.Addition.{Addition}
-use Rattle.mem_build.specs.declared.page_additions.Arguments.{Arguments}
+use Rattle.mem_build.specs.declared.page_additions.Given.{Given}
 use Rattle.mem_build.specs.PageAddTrees.{is_hkid, changes_where, with_page, page_fills, page_changes, addition_end, arguments_tree, td_tree, page_add_tree}
 use Rattle.mem_build.specs.PageAddParts.{is_free, TableOf, ComesTo, IsInside, all_changes}
 
@@ -101,7 +101,7 @@ table-feeds x left (Ok page) h = λ further. feed-passes (is_free x) (EptEntrySt
 table-feeds x left (Err e) h = tt
 
 -- behind the arguments
-module _ (m : Machine) (g : Arguments) where
+module _ (m : Machine) (g : Given) where
   abbrev allowed : (Unit {0} → Tree) → Tree
   allowed f = arguments_tree m g.tdr g.gpa g.page g.source (f tt)
 

@@ -5,7 +5,7 @@ pub mod SeptAddShows
 pub mod SeptAddMeanings
 pub mod PageAddTrees
 pub mod PageAddParts
-pub mod PageAdded
+pub mod PageAddShows
 pub mod PageAddMeanings
 pub mod ExtendTrees
 pub mod ExtendMeanings

@@ -27,7 +27,7 @@ use Rattle.word_rules.specs.Spots.{slot_of}
 use Rattle.word_rules.specs.Cells.{Shows}
 use Rattle.lock_words.specs.Grips.{holds, holds_alone}
 use Rattle.lock_words.specs.LockWords.{TdStands}
-use Rattle.act_rules.proofs.Respected.{host-kind}
+use Rattle.act_rules.proofs.Respected.{host-kind, not-true}
 use Rattle.act_rules.proofs.Rows.{page-added}
 use Rattle.leaf_engine.specs.declared.needs.Place.{Place}
 use Rattle.leaf_engine.specs.Changes.{changed_all}
@@ -41,11 +41,7 @@ use Rattle.sept_parts.proofs.SeptLocks.{tree_held, entry-writes, count-reads, co
 use Rattle.sept_parts.proofs.SeptBegun.{row-find-means}
 use Rattle.mem_build.specs.declared.page_additions.Addition.{Addition}
 use Rattle.mem_build.specs.PageAddTrees.{is_hkid, changes_where, page_fills, page_changes, addition_end, alone, host_tree, pages_tree, page_add_tree, page_add_task}
-use Rattle.mem_build.specs.PageAdded.{initialized, page-added-shown}
-
-differ : (b : Bool) → not b ≡ true → b ≡ false
-differ false h = refl
-differ true h = cc
+use Rattle.mem_build.specs.PageAddShows.{initialized, page-added-shown}
 
 turned : (a b : ℕ) → (a == b) ≡ false → (b == a) ≡ false
 turned a b n = ne_eqb b a (λ e. (let no : true ≡ false = sym (eq-eqb a b (sym e)) ∙ n in cc))
@@ -183,9 +179,9 @@ module _ (m : Machine) (c : Instant) (t gpa p q : ℕ) (limits : IsMachine m) (i
         host-means (tree_held t Exclusive ∷ op_lock t Exclusive ∷ page_lock t Shared ∷ []) q in_source (host_tree p counts) (page_exclusive p ∷ host_page v p ∷ [])
         (λ source. host-means (page_lock q Exclusive ∷ tree_held t Exclusive ∷ op_lock t Exclusive ∷ page_lock t Shared ∷ []) p in_page counts [] (λ host. counts-mean source host))
 
-pub page-add-means : (pl : Place) (t gpa p q : ℕ) → IsMachine pl.machine → MeansRow (page_add_task pl t gpa p q)
+pub page_add-means : (pl : Place) (t gpa p q : ℕ) → IsMachine pl.machine → MeansRow (page_add_task pl t gpa p q)
 unfolding page_add_tree
-page-add-means pl t gpa p q limits = record {
+page_add-means pl t gpa p q limits = record {
   enters_none = refl;
   means = λ c at. (
     refl,
@@ -221,7 +217,7 @@ page-add-means pl t gpa p q limits = record {
                       (λ x page has. (
                         refl,
                         λ e. refl,
-                        λ free. pages-mean pl.machine c t gpa p q limits in_tdr small in_page in_source (differ (p == t) g) (differ (q == t) h) (differ (q == p) i) at.lawful at.shown x page has,
+                        λ free. pages-mean pl.machine c t gpa p q limits in_tdr small in_page in_source (not-true (p == t) g) (not-true (q == t) h) (not-true (q == p) i) at.lawful at.shown x page has,
                       ))),
                 ),
               ),

@@ -12,17 +12,17 @@ use Rattle.leaf_engine.specs.declared.plans.Stop.{Stop}
 use Rattle.leaf_engine.specs.Changes.{Change}
 use Rattle.leaf_engine.specs.Decides.{Decides}
 use Rattle.leaf_engine.specs.Trees.{feed}
-use Rattle.mem_build.specs.declared.page_additions.Arguments.{Arguments}
+use Rattle.mem_build.specs.declared.page_additions.Given.{Given}
 use Rattle.mem_build.specs.declared.page_additions.Addition.{Addition}
 use Rattle.mem_build.specs.PageAddTrees.{is_hkid, changes_where, page_fills, page_changes, addition_end, page_add_tree}
 
 -- what it comes to after these answers: its act, or what stops it
-abbrev pub ComesTo : Machine → Arguments → List ℕ → Result Addition Stop → Type 0
+abbrev pub ComesTo : Machine → Given → List ℕ → Result Addition Stop → Type 0
 ComesTo m g told (Ok a) = feed (page_add_tree m g.tdr g.gpa g.page g.source) told ≡ addition_end m a
 ComesTo m g told (Err e) = Decides m.pages (page_add_tree m g.tdr g.gpa g.page g.source) told (Err e)
 
 -- what the argument rules tell
-abbrev pub AreAllowed : Machine → Arguments → Type 0
+abbrev pub AreAllowed : Machine → Given → Type 0
 AreAllowed m g = (g.tdr < m.pages) × (g.gpa < 2 ^ 47) × (g.page < m.pages) × (g.source < m.pages) × (g.source ≢ g.page)
 
 -- the entry that was found is FREE

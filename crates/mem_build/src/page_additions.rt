@@ -1,5 +1,6 @@
 //! MEM.PAGE.ADD.
 
+use crate::arguments::{GPAS, is_aligned};
 use arrayvec::ArrayVec;
 use leaf_engine::{ANSWERS, Leaf, Need, Place, Stop, Told, Write};
 use leaf_parts::{raised, says_host};
@@ -22,7 +23,7 @@ ghost use Rattle.flat_core.specs.Opening.{IsMachine};
 #[derive(Drop)]
 pub struct PageAdd {
     place: Place,
-    arguments: Arguments,
+    given: Given,
     told: ArrayVec<u64, ANSWERS>,
     written: usize,
     waits: bool,
@@ -34,11 +35,11 @@ ghost use Rattle.std.specs.Prelude.{◌≡◌, ◌≢◌, ℕ, ◌<◌, ◌+◌,
 
 /// What the call is given.
 #[derive(Clone, Copy, Debug, PartialEq, Eq)]
-pub struct Arguments {
-    pub tdr: u64,
-    pub gpa: u64,
-    pub page: u64,
-    pub source: u64,
+struct Given {
+    tdr: u64,
+    gpa: u64,
+    page: u64,
+    source: u64,
 }
 
 impl PageAdd {
@@ -55,7 +56,7 @@ impl PageAdd {
     {
         PageAdd {
             place,
-            arguments: Arguments {
+            given: Given {
                 tdr,
                 gpa,
                 page,
@@ -72,11 +73,11 @@ impl Leaf for PageAdd {
     ghost use Rattle.std.specs.Prelude.{◌≡◌, ℕ, ◌+◌, ◌-◌, ◌*◌, length, if◌then◌else◌};
     ghost use Rattle.leaf_engine.specs.Trees.{feed};
     ghost use Rattle.mem_build.specs.PageAddTrees.{page_add_task};
-    ghost use Rattle.mem_build.specs.PageAddMeanings.{page-add-means};
+    ghost use Rattle.mem_build.specs.PageAddMeanings.{page_add-means};
 
-    ghost task = { λ l. page_add_task l.place l.arguments.tdr l.arguments.gpa l.arguments.page l.arguments.source };
+    ghost task = { λ l. page_add_task l.place l.given.tdr l.given.gpa l.given.page l.given.source };
 
-    ghost rest = { λ l. feed (page_add_task l.place l.arguments.tdr l.arguments.gpa l.arguments.page l.arguments.source).tree l.told.items };
+    ghost rest = { λ l. feed (page_add_task l.place l.given.tdr l.given.gpa l.given.page l.given.source).tree l.told.items };
 
     ghost written = { λ l. l.written };
 
@@ -92,7 +93,7 @@ impl Leaf for PageAdd {
                 left: self.told.as_slice(),
             },
             self.place,
-            self.arguments,
+            self.given,
         ) {
             Ok(_) => Need::Verdict(Reply::Done(Value::Nothing)),
             Err(Stop::Lock { name, at, mode }) => {
@@ -118,27 +119,27 @@ impl Leaf for PageAdd {
                 left: self.told.as_slice(),
             },
             self.place,
-            self.arguments,
+            self.given,
         ) {
             Ok(addition) => next_write(self.place.machine, addition, &mut self.written, hasher),
             Err(_) => None,
         }
     }
 
-    ghost means = { λ l. page-add-means l.place l.arguments.tdr l.arguments.gpa l.arguments.page l.arguments.source l.machine };
+    ghost means = { λ l. page_add-means l.place l.given.tdr l.given.gpa l.given.page l.given.source l.machine };
 }
 
 /// What the call adds: its arguments, the secure EPT page in which the entry of the GPA stands, and
 /// the HKID and the child count that the TDR tells.
 #[derive(Clone, Copy, Debug, PartialEq, Eq)]
-pub struct Addition {
-    pub tdr: u16,
-    pub gpa: u64,
-    pub page: u16,
-    pub source: u16,
-    pub table: u16,
-    pub hkid: u64,
-    pub children: u64,
+struct Addition {
+    tdr: u16,
+    gpa: u64,
+    page: u16,
+    source: u16,
+    table: u16,
+    hkid: u64,
+    children: u64,
 }
 
 ghost use Rattle.std.specs.Prelude.{MatchResult};
@@ -148,7 +149,7 @@ ghost use Rattle.mem_build.specs.PageAddTrees.{arguments_tree, free_tree, host_t
 ghost use Rattle.mem_build.specs.PageAddParts.{ComesTo, IsInside};
 
 /// The conditions of the call, and what it adds.
-fn to_add(told: Told, place: Place, given: Arguments) -> Result<Addition, Stop>
+fn to_add(told: Told, place: Place, given: Given) -> Result<Addition, Stop>
     requires { IsMachine place.machine }
     ensures comes { ComesTo place.machine given told.entry.left.now result }
     ensures inside { MatchResult result (λ a. IsInside place.machine.pages a) (λ e. StopIn place.machine e) }
@@ -170,7 +171,7 @@ ghost use Rattle.std.specs.Prelude.{◌^◌};
 ghost use Rattle.mem_build.specs.PageAddParts.{AreAllowed};
 
 /// The argument rules.
-fn are_allowed(told: &mut Told, machine: Machine, given: Arguments) -> Result<(), Stop>
+fn are_allowed(told: &mut Told, machine: Machine, given: Given) -> Result<(), Stop>
     ensures goes { Goes machine.pages (λ f. arguments_tree machine given.tdr given.gpa given.page given.source (f tt)) told.old.left.now told.new.left.now result }
     ensures feeds { Feeds (λ f. arguments_tree machine given.tdr given.gpa given.page given.source (f tt)) told.old.left.now told.new.left.now result }
     ensures uses { Uses 0 told.old.left.now told.new.left.now result }
@@ -178,13 +179,13 @@ fn are_allowed(told: &mut Told, machine: Machine, given: Arguments) -> Result<()
 {
     let pages = u64::from(machine.pages);
     told.check(given.tdr < pages, Status::OperandInvalid(1))?;
-    told.check(given.gpa < 1 << 47, Status::OperandInvalid(2))?;
+    told.check(given.gpa < GPAS, Status::OperandInvalid(2))?;
     told.check(given.page < pages, Status::OperandInvalid(3))?;
     told.check(given.source < pages, Status::OperandInvalid(4))?;
     told.check(given.page != given.tdr, Status::OperandInvalid(3))?;
     told.check(given.source != given.tdr, Status::OperandInvalid(4))?;
     told.check(given.source != given.page, Status::OperandInvalid(4))?;
-    told.check(given.gpa % 4096 == 0, Status::OperandInvalid(2))
+    told.check(is_aligned(0, given.gpa), Status::OperandInvalid(2))
 }
 
 /// What comes behind the argument rules.
