@@ -18,6 +18,10 @@ use Rattle.key_table.specs.FlushMeanings.{flush-means}
 use Rattle.key_table.specs.EndMeanings.{free-means}
 use Rattle.td_control.specs.FinalMeanings.{finalize-means}
 use Rattle.vcpu_control.specs.VpMeanings.{vp_create-means, vp_init-means}
+use Rattle.mem_build.specs.SeptAddMeanings.{sept_add-means}
+use Rattle.mem_build.specs.SeptReadMeanings.{sept_read-means}
+use Rattle.mem_build.specs.PageAddMeanings.{page-add-means}
+use Rattle.mem_build.specs.ExtendMeanings.{extend-means}
 use Rattle.leaf_dispatch.specs.Table.{task_of}
 use Rattle.leaf_dispatch.specs.Laws.{CallsHaveLeaves}
 
@@ -37,6 +41,10 @@ of-place p (call.MngKeyFreeid tdr) = refl
 of-place p (call.MrFinalize tdr) = refl
 of-place p (call.VpCreate tdr page) = refl
 of-place p (call.VpInit tdr vp value) = refl
+of-place p (call.MemSeptAdd tdr gpa level page) = refl
+of-place p (call.MemSeptRd tdr gpa level) = refl
+of-place p (call.MemPageAdd tdr gpa page source) = refl
+of-place p (call.MrExtend tdr gpa) = refl
 
 of-row : (o : Opening) (p : ℕ) (c : Call) → (task_of (record { machine = o.machine; lp = p }) c).meaning ≡ OfCall (row_of o p c)
 of-row o p (call.HostRead page word) = refl
@@ -54,6 +62,10 @@ of-row o p (call.MngKeyFreeid tdr) = refl
 of-row o p (call.MrFinalize tdr) = refl
 of-row o p (call.VpCreate tdr page) = refl
 of-row o p (call.VpInit tdr vp value) = refl
+of-row o p (call.MemSeptAdd tdr gpa level page) = refl
+of-row o p (call.MemSeptRd tdr gpa level) = refl
+of-row o p (call.MemPageAdd tdr gpa page source) = refl
+of-row o p (call.MrExtend tdr gpa) = refl
 
 means : (p : Place) (c : Call) → IsMachine p.machine → MeansRow (task_of p c)
 means p (call.HostRead page word) m = host_read-means p page word
@@ -71,6 +83,10 @@ means p (call.MngKeyFreeid tdr) m = free-means p tdr
 means p (call.MrFinalize tdr) m = finalize-means p tdr
 means p (call.VpCreate tdr page) m = vp_create-means p tdr page
 means p (call.VpInit tdr vp value) m = vp_init-means p tdr vp value (let few = m.pages.1 in omega arith)
+means p (call.MemSeptAdd tdr gpa level page) m = sept_add-means p tdr gpa level page m
+means p (call.MemSeptRd tdr gpa level) m = sept_read-means p tdr gpa level m
+means p (call.MemPageAdd tdr gpa page source) m = page-add-means p tdr gpa page source m
+means p (call.MrExtend tdr gpa) m = extend-means p tdr gpa m
 
 pub calls-have-leaves : CallsHaveLeaves
 calls-have-leaves o m = record {

@@ -1,5 +1,5 @@
 -- Each call's leaf tries at most as many locks as its row.
-use Rattle.std.proofs.Common.{ℕ, zero, suc, ◌==◌, Bool, true, false, List, arith}
+use Rattle.std.proofs.Common.{ℕ, zero, suc, ◌+◌, ◌-◌, ◌==◌, Bool, true, false, List, [], arith}
 use Rattle.td_words.specs.declared.machines.Machine.{Machine}
 use Rattle.td_words.specs.declared.calls.Call.{Call}
 use Rattle.td_words.specs.declared.calls.Call.TheVariants as call
@@ -16,6 +16,10 @@ use Rattle.key_table.specs.CacheTrees.{mark_keys}
 use Rattle.key_table.specs.FlushTrees.{count_vps, flush_vps}
 use Rattle.key_table.specs.ReclaimTrees.{reclaim_rest}
 use Rattle.td_control.specs.FinalTrees.{vps_tree, final_changes}
+use Rattle.sept_parts.specs.declared.finds.Found.{Found}
+use Rattle.sept_parts.specs.SeptTrees.{walk_on_tree, find_tree}
+use Rattle.mem_build.specs.PageAddTrees.{page_add_tree}
+use Rattle.mem_build.specs.ExtendTrees.{words_tree}
 use Rattle.leaf_dispatch.specs.Bounds.{TriesAtMost}
 use Rattle.leaf_dispatch.specs.Table.{task_of}
 
@@ -43,6 +47,23 @@ vps-few : (n pages tdcs number left : ℕ) (ready : Bool) (t : Tree) → TriesAt
 vps-few n pages tdcs number zero ready t few = few
 vps-few n pages tdcs number (suc left) ready t few = λ x y. vps-few n pages tdcs (suc number) left _ t few
 
+-- a walk tries none
+walk-few : (n pages gpa count level page : ℕ) (k : ℕ → Tree) → ((q : ℕ) → TriesAtMost n (k q)) → TriesAtMost n (walk_on_tree pages gpa count level page k)
+walk-few n pages gpa zero level page k few = few page
+walk-few n pages gpa (suc count) level page k few = λ word. walk-few n pages gpa count (level - 1) _ k few
+
+find-few : (n pages t gpa level : ℕ) (k : Found → Tree) → ((f : Found) → TriesAtMost n (k f)) → TriesAtMost n (find_tree pages t gpa level k)
+find-few n pages t gpa level k few = λ root. walk-few n pages gpa (3 - level) 3 _ _ (λ page word. few _)
+
+words-few : (n page at left : ℕ) (seen : List ℕ) (k : List ℕ → Tree) → ((xs : List ℕ) → TriesAtMost n (k xs)) → TriesAtMost n (words_tree page at left seen k)
+unfolding words_tree
+words-few n page at zero seen k few = few seen
+words-few n page at (suc left) seen k few = λ word. words-few n page (at + 1) left _ k few
+
+page_add-few : (m : Machine) (t gpa page source : ℕ) → TriesAtMost 5 (page_add_tree m t gpa page source)
+unfolding page_add_tree
+page_add-few m t gpa page source = (omega arith, λ pamt life count tdcs. (omega arith, λ op. (omega arith, find-few 2 m.pages t gpa 0 _ (λ f. (omega arith, λ other. (omega arith, λ host hkid children. tt))))))
+
 pub few_tries : (p : Place) (c : Call) → TriesAtMost (most_tries c) (task_of p c).tree
 few_tries p (call.HostRead page word) = (omega arith, λ pamt. read-few 0 page word (says_host pamt))
 few_tries p (call.HostWrite page word value) = (omega arith, λ pamt. tt)
@@ -62,3 +83,7 @@ few_tries p (call.MngKeyFreeid tdr) = (omega arith, λ pamt life. (omega arith, 
 few_tries p (call.MrFinalize tdr) = (omega arith, λ pamt life count tdcs. (omega arith, λ op hkid n. vps-few 0 p.machine.pages (page_told p.machine.pages tdcs) 0 (vps_told n) true (acts (Done value.Nothing) (final_changes p.machine (page_told p.machine.pages tdcs) hkid)) tt))
 few_tries p (call.VpCreate tdr page) = (omega arith, λ pamt life count tdcs. (omega arith, λ op vps expected. (omega arith, λ host children. tt)))
 few_tries p (call.VpInit tdr vp value) = (omega arith, λ pamt life count tdcs. (omega arith, λ op. (omega arith, λ host state. tt)))
+few_tries p (call.MemSeptAdd tdr gpa level page) = (omega arith, λ pamt life count tdcs. (omega arith, λ op. (omega arith, find-few 1 p.machine.pages tdr gpa level _ (λ f. (omega arith, λ host children. tt)))))
+few_tries p (call.MemSeptRd tdr gpa level) = (omega arith, λ pamt life count tdcs. (omega arith, λ op. (omega arith, find-few 0 p.machine.pages tdr gpa level _ (λ f. tt))))
+few_tries p (call.MemPageAdd tdr gpa page source) = page_add-few p.machine tdr gpa page source
+few_tries p (call.MrExtend tdr gpa) = (omega arith, λ pamt life count tdcs. (omega arith, λ op. (omega arith, find-few 1 p.machine.pages tdr gpa 0 _ (λ f. (omega arith, λ hkid. words-few 0 f.entry.page _ 32 [] _ (λ xs. tt))))))

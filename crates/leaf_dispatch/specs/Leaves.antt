@@ -15,6 +15,11 @@ use Rattle.key_table.specs.FlushTrees.{flush_task}
 use Rattle.key_table.specs.EndTrees.{free_task}
 use Rattle.td_control.specs.FinalTrees.{finalize_task}
 use Rattle.vcpu_control.specs.VpTrees.{vp_create_task, vp_init_task}
+use Rattle.mem_build.specs.SeptAddTrees.{sept_add_task}
+use Rattle.mem_build.specs.SeptReadTrees.{sept_read_task}
+use Rattle.mem_build.specs.PageAddTrees.{page_add_task}
+use Rattle.mem_build.specs.ExtendTrees.{extend_task}
+use Rattle.mem_build.specs.Extending.{rest_of}
 use Rattle.first_leaves.specs.HostMeanings.{host_read-means, host_write-means, rdmd-means}
 use Rattle.key_table.specs.CacheMeanings.{cache-means}
 use Rattle.key_table.specs.ReclaimMeanings.{reclaim-means}
@@ -27,6 +32,10 @@ use Rattle.key_table.specs.FlushMeanings.{flush-means}
 use Rattle.key_table.specs.EndMeanings.{free-means}
 use Rattle.td_control.specs.FinalMeanings.{finalize-means}
 use Rattle.vcpu_control.specs.VpMeanings.{vp_create-means, vp_init-means}
+use Rattle.mem_build.specs.SeptAddMeanings.{sept_add-means}
+use Rattle.mem_build.specs.SeptReadMeanings.{sept_read-means}
+use Rattle.mem_build.specs.PageAddMeanings.{page-add-means}
+use Rattle.mem_build.specs.ExtendMeanings.{extend-means}
 use Rattle.leaf_dispatch.specs.declared.leaves.AnyLeaf.{AnyLeaf}
 use Rattle.leaf_dispatch.specs.declared.leaves.AnyLeaf.TheVariants as leaf
 
@@ -68,6 +77,17 @@ leaf_seen (leaf.FreeId l) = planned (free_task l.plan.place l.plan.tdr) l.told.i
 leaf_seen (leaf.Finalize l) = planned (finalize_task l.place l.tdr) l.told.items l.written l.waits
 leaf_seen (leaf.VpCreate l) = planned (vp_create_task l.plan.place l.plan.tdr l.plan.page) l.told.items l.written l.waits
 leaf_seen (leaf.VpInit l) = planned (vp_init_task l.plan.place l.plan.tdr l.plan.vp l.plan.value) l.told.items l.written l.waits
+leaf_seen (leaf.SeptAdd l) = planned (sept_add_task l.plan.place l.plan.tdr l.plan.gpa l.plan.level l.plan.page) l.told.items l.written l.waits
+leaf_seen (leaf.SeptRd l) = planned (sept_read_task l.plan.place l.plan.tdr l.plan.gpa l.plan.level) l.told.items l.written l.waits
+leaf_seen (leaf.PageAdd l) = planned (page_add_task l.place l.arguments.tdr l.arguments.gpa l.arguments.page l.arguments.source) l.told.items l.written l.waits
+leaf_seen (leaf.Extend l) = record {
+  task = extend_task l.place l.tdr l.gpa;
+  rest = rest_of l.place l.tdr l.gpa l.chunk l.told.items l.words.items;
+  written = l.written;
+  waits = l.waits;
+  bound = 2 * (ANSWERS - length l.told.items) + 2 * (32 - length l.words.items) + (WRITES - l.written) - (if l.waits then 1 else 0);
+  tries = ANSWERS - length l.told.items;
+}
 
 -- each means its row
 pub leaves-mean : (l : AnyLeaf) → MeansRow (leaf_seen l).task
@@ -86,3 +106,7 @@ leaves-mean (leaf.FreeId l) = free-means l.plan.place l.plan.tdr
 leaves-mean (leaf.Finalize l) = finalize-means l.place l.tdr
 leaves-mean (leaf.VpCreate l) = vp_create-means l.plan.place l.plan.tdr l.plan.page
 leaves-mean (leaf.VpInit l) = vp_init-means l.plan.place l.plan.tdr l.plan.vp l.plan.value l.plan.few_pages
+leaves-mean (leaf.SeptAdd l) = sept_add-means l.plan.place l.plan.tdr l.plan.gpa l.plan.level l.plan.page l.plan.machine
+leaves-mean (leaf.SeptRd l) = sept_read-means l.plan.place l.plan.tdr l.plan.gpa l.plan.level l.plan.machine
+leaves-mean (leaf.PageAdd l) = page-add-means l.place l.arguments.tdr l.arguments.gpa l.arguments.page l.arguments.source l.machine
+leaves-mean (leaf.Extend l) = extend-means l.place l.tdr l.gpa l.machine

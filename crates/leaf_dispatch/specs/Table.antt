@@ -17,6 +17,10 @@ use Rattle.key_table.specs.FlushTrees.{flush_task}
 use Rattle.key_table.specs.EndTrees.{free_task}
 use Rattle.td_control.specs.FinalTrees.{finalize_task}
 use Rattle.vcpu_control.specs.VpTrees.{vp_create_task, vp_init_task}
+use Rattle.mem_build.specs.SeptAddTrees.{sept_add_task}
+use Rattle.mem_build.specs.SeptReadTrees.{sept_read_task}
+use Rattle.mem_build.specs.PageAddTrees.{page_add_task}
+use Rattle.mem_build.specs.ExtendTrees.{extend_task}
 
 -- what the leaf of a call at a place has to do
 abbrev pub task_of : Place → Call → Task
@@ -35,6 +39,10 @@ task_of p (call.MngKeyFreeid tdr) = free_task p tdr
 task_of p (call.MrFinalize tdr) = finalize_task p tdr
 task_of p (call.VpCreate tdr page) = vp_create_task p tdr page
 task_of p (call.VpInit tdr vp value) = vp_init_task p tdr vp value
+task_of p (call.MemSeptAdd tdr gpa level page) = sept_add_task p tdr gpa level page
+task_of p (call.MemSeptRd tdr gpa level) = sept_read_task p tdr gpa level
+task_of p (call.MemPageAdd tdr gpa page source) = page_add_task p tdr gpa page source
+task_of p (call.MrExtend tdr gpa) = extend_task p tdr gpa
 
 -- the leaves of each processor of a machine
 abbrev pub leaf_table : Machine → ℕ → Call → Task

@@ -8,6 +8,7 @@ ghost use Rattle.leaf_dispatch.specs.Table.{task_of};
 use first_leaves::{HostRead, HostWrite, Rdmd};
 use key_table::{CacheWb, FlushDone, FreeId, Reclaim};
 use leaf_engine::{Leaf, Need, Place, Planned, Write};
+use mem_build::{Extend, PageAdd, SeptAdd, SeptRd};
 use mrtd_measure::Measure;
 use td_control::{AddCx, Create, Finalize, Init, KeyConfig, Rd};
 use td_words::Call;
@@ -31,6 +32,10 @@ pub enum AnyLeaf {
     Finalize(Finalize),
     VpCreate(Planned<VpCreate>),
     VpInit(Planned<VpInit>),
+    SeptAdd(Planned<SeptAdd>),
+    SeptRd(Planned<SeptRd>),
+    PageAdd(PageAdd),
+    Extend(Extend),
 }
 
 impl Leaf for AnyLeaf {
@@ -65,6 +70,10 @@ impl Leaf for AnyLeaf {
             AnyLeaf::Finalize(leaf) => leaf.need(),
             AnyLeaf::VpCreate(leaf) => leaf.need(),
             AnyLeaf::VpInit(leaf) => leaf.need(),
+            AnyLeaf::SeptAdd(leaf) => leaf.need(),
+            AnyLeaf::SeptRd(leaf) => leaf.need(),
+            AnyLeaf::PageAdd(leaf) => leaf.need(),
+            AnyLeaf::Extend(leaf) => leaf.need(),
         }
     }
 
@@ -85,6 +94,10 @@ impl Leaf for AnyLeaf {
             AnyLeaf::Finalize(leaf) => leaf.tell(word),
             AnyLeaf::VpCreate(leaf) => leaf.tell(word),
             AnyLeaf::VpInit(leaf) => leaf.tell(word),
+            AnyLeaf::SeptAdd(leaf) => leaf.tell(word),
+            AnyLeaf::SeptRd(leaf) => leaf.tell(word),
+            AnyLeaf::PageAdd(leaf) => leaf.tell(word),
+            AnyLeaf::Extend(leaf) => leaf.tell(word),
         }
     }
 
@@ -105,6 +118,10 @@ impl Leaf for AnyLeaf {
             AnyLeaf::Finalize(leaf) => leaf.write(hasher),
             AnyLeaf::VpCreate(leaf) => leaf.write(hasher),
             AnyLeaf::VpInit(leaf) => leaf.write(hasher),
+            AnyLeaf::SeptAdd(leaf) => leaf.write(hasher),
+            AnyLeaf::SeptRd(leaf) => leaf.write(hasher),
+            AnyLeaf::PageAdd(leaf) => leaf.write(hasher),
+            AnyLeaf::Extend(leaf) => leaf.write(hasher),
         }
     }
 
@@ -135,5 +152,9 @@ pub fn leaf_of(place: Place, call: &Call) -> AnyLeaf
         Call::MrFinalize { tdr } => AnyLeaf::Finalize(Finalize::leaf(place, tdr)),
         Call::VpCreate { tdr, page } => AnyLeaf::VpCreate(VpCreate::leaf(place, tdr, page)),
         Call::VpInit { tdr, vp, value } => AnyLeaf::VpInit(VpInit::leaf(place, tdr, vp, value)),
+        Call::MemSeptAdd { tdr, gpa, level, page } => AnyLeaf::SeptAdd(SeptAdd::leaf(place, tdr, gpa, level, page)),
+        Call::MemSeptRd { tdr, gpa, level } => AnyLeaf::SeptRd(SeptRd::leaf(place, tdr, gpa, level)),
+        Call::MemPageAdd { tdr, gpa, page, source } => AnyLeaf::PageAdd(PageAdd::leaf(place, tdr, gpa, page, source)),
+        Call::MrExtend { tdr, gpa } => AnyLeaf::Extend(Extend::leaf(place, tdr, gpa)),
     }
 }

@@ -1,1 +1,5 @@
 pub mod Decided
+pub mod PageAdds
+pub mod Extends
+pub mod ChunkBytes
+pub mod Extending

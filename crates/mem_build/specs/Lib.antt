@@ -3,3 +3,10 @@ pub mod SeptReadMeanings
 pub mod SeptAddTrees
 pub mod SeptAddShows
 pub mod SeptAddMeanings
+pub mod PageAddTrees
+pub mod PageAddParts
+pub mod PageAddShows
+pub mod PageAddMeanings
+pub mod ExtendTrees
+pub mod ExtendMeanings
+pub mod Extending

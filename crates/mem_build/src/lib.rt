@@ -6,8 +6,12 @@
 #![tactic(auto)]
 
 mod arguments;
+mod extensions;
+mod page_additions;
 mod sept_additions;
 mod sept_reads;
 
+pub use extensions::{Chunk, Extend};
+pub use page_additions::PageAdd;
 pub use sept_additions::SeptAdd;
 pub use sept_reads::SeptRd;

@@ -1,0 +1,230 @@
+-- The leaf that adds a private page means its row.
+use Rattle.std.proofs.Common.{◌≡◌, ◌≢◌, ℕ, ◌^◌, ◌%◌, ◌<◌, Bool, true, false, not, ◌==◌, ◌&&◌, List, [], ◌∷◌, ◌++◌, Option, refl, ap, sym, ◌∙◌, subst, inl, inr, arith}
+use Rattle.std.proofs.lemmas.Bool.{eq-eqb, eqb-true, ltb-true, le-leb, ne_eqb}
+use Rattle.td_words.specs.declared.names.PageKind.TheVariants as kind
+use Rattle.td_words.specs.declared.names.OpState.TheVariants as op
+use Rattle.td_words.specs.declared.names.EntryState.TheVariants as entry
+use Rattle.td_words.specs.declared.names.Mode.TheVariants.{Shared, Exclusive}
+use Rattle.td_words.specs.declared.machines.Machine.{Machine}
+use Rattle.td_words.specs.declared.places.TheConstants.{TDR_HKID, TDR_CHILDREN}
+use Rattle.td_words.specs.declared.replies.Value.TheVariants as value
+use Rattle.td_words.specs.declared.replies.Reply.{Reply}
+use Rattle.td_words.specs.declared.replies.Reply.TheVariants.{Done}
+use Rattle.td_words.specs.Place as place
+use Rattle.flat_core.specs.World.{World}
+use Rattle.flat_core.specs.Processor.{OfPage, OfOp, OfTree, Held}
+use Rattle.flat_core.specs.Row.{Item}
+use Rattle.flat_core.specs.Conditions.{is_host, children, page_exclusive, host_page}
+use Rattle.flat_core.specs.Lawful.{Lawful, IsAlive}
+use Rattle.flat_core.specs.MemRows.{add_page}
+use Rattle.flat_core.specs.Opening.{IsMachine}
+use Rattle.flat_core.specs.Tree.{state_in}
+use Rattle.mrtd_measure.specs.Records.{page_record}
+use Rattle.sept_walk.proofs.Meets.{split}
+use Rattle.word_rules.specs.Rules.{Whole, KeepsNothing, owes}
+use Rattle.word_rules.specs.Permissions.{MayAt, Reads, Fills, SwapsOwed}
+use Rattle.word_rules.specs.Spots.{slot_of}
+use Rattle.word_rules.specs.Cells.{Shows}
+use Rattle.lock_words.specs.Grips.{holds, holds_alone}
+use Rattle.lock_words.specs.LockWords.{TdStands}
+use Rattle.act_rules.proofs.Respected.{host-kind, not-true}
+use Rattle.act_rules.proofs.Rows.{page-added}
+use Rattle.leaf_engine.specs.declared.needs.Place.{Place}
+use Rattle.leaf_engine.specs.Changes.{changed_all}
+use Rattle.leaf_engine.specs.Trees.{Tree, Load, End}
+use Rattle.leaf_engine.specs.Means.{Instant, Means, MeansRow, MayFillAll, MayChange, Work, work_of, OfCall, hold}
+use Rattle.leaf_parts.proofs.Begun.{page_lock, op_lock, holds-newest, IsTd}
+use Rattle.leaf_parts.proofs.Told.{kind-shown, tdr-spot, tdr-shown}
+use Rattle.sept_parts.specs.SeptPages.{HasEntry, HoldsTree}
+use Rattle.sept_parts.specs.SeptTrees.{state_tree}
+use Rattle.sept_parts.proofs.SeptLocks.{tree_held, entry-writes, count-reads, count-owes}
+use Rattle.sept_parts.proofs.SeptBegun.{row-find-means}
+use Rattle.mem_build.specs.declared.page_additions.Addition.{Addition}
+use Rattle.mem_build.specs.PageAddTrees.{is_hkid, changes_where, page_fills, page_changes, addition_end, alone, host_tree, pages_tree, page_add_tree, page_add_task}
+use Rattle.mem_build.specs.PageAddShows.{initialized, page-added-shown}
+
+turned : (a b : ℕ) → (a == b) ≡ false → (b == a) ≡ false
+turned a b n = ne_eqb b a (λ e. (let no : true ≡ false = sym (eq-eqb a b (sym e)) ∙ n in cc))
+
+module _ (m : Machine) (c : Instant) (t gpa p q : ℕ) (limits : IsMachine m) (in_tdr : t < m.pages) (small : gpa < 2 ^ 47) (in_page : p < m.pages) (in_source : q < m.pages)
+    (p-t : (p == t) ≡ false) (q-t : (q == t) ≡ false) (q-p : (q == p) ≡ false) (la : Lawful m c.state.world) (sh : Shows m c.memory.words c.memory.slots c.state) where
+  abbrev v : World
+  v = c.state.world
+
+  abbrev k : Work
+  k = work_of (OfCall (add_page m t gpa p q))
+
+  abbrev v' : World
+  v' = (add_page m t gpa p q).act c.state.world
+
+  -- a page is held alone, and is the host's
+  host-means : (hs : List Held) (r : ℕ) → r < m.pages → (further : Tree) (rest : List (Item Reply)) → (is_host v r ≡ true → Means m c k (page_lock r Exclusive ∷ hs) further rest)
+      → Means m c k hs (host_tree r further) (page_exclusive r ∷ host_page v r ∷ rest)
+  host-means hs r b further rest h = (
+    refl,
+    refl,
+    record { in_machine = b; at = refl; stands = tt; allowed = inl tt },
+    (b, inl (inl (holds-newest r Exclusive (hs ++ c.kept), tt)), (kind-shown m c.memory.words c.memory.slots c.state sh kind.Nda r b, λ e. refl, λ e. h e)),
+  )
+
+  module _ (x : IsTd m v t initialized) (table : ℕ) (has : HasEntry m v t x.controls.root table gpa 0) where
+    abbrev held : List Held
+    held = page_lock p Exclusive ∷ page_lock q Exclusive ∷ tree_held t Exclusive ∷ op_lock t Exclusive ∷ page_lock t Shared ∷ []
+
+    abbrev addition : ℕ → ℕ → Addition
+    addition h n = record { tdr = t; gpa = gpa; page = p; source = q; table = table; hkid = h; children = n }
+
+    abbrev full : Addition
+    full = addition (v.tds.hkids t) (children v t)
+
+    -- what is held
+    itself : (a : ℕ) → (a == a) ≡ true
+    itself a = eq-eqb a a refl
+
+    locks : HoldsTree (held ++ c.kept) t
+    locks = record { tdr = rw (p-t, q-t, itself t) refl; op = rw (itself t) refl; tree = rw (itself t) refl }
+
+    tree-alone : holds_alone (held ++ c.kept) (OfTree t) ≡ true
+    tree-alone = rw (itself t) refl
+
+    op-alone : holds_alone (held ++ c.kept) (OfOp t) ≡ true
+    op-alone = rw (itself t) refl
+
+    page-alone : holds_alone (held ++ c.kept) (OfPage p) ≡ true
+    page-alone = rw (itself p) refl
+
+    source-alone : holds_alone (held ++ c.kept) (OfPage q) ≡ true
+    source-alone = rw (turned q p q-p, itself q) refl
+
+    -- the TDR page stays
+    t-p : (t == p) ≡ false
+    t-p = turned p t p-t
+
+    alive-then : IsAlive v'.pages v'.tds t
+    alive-then = record { kind = rw t-p x.alive.kind; life = x.alive.life }
+
+    own-then : v'.pages.owners t ≡ t
+    own-then = rw t-p x.own
+
+    stands-then : TdStands v t → TdStands v' t
+    stands-then a = record { alive = record { kind = rw t-p a.alive.kind; life = a.alive.life }; has_tdcs = a.has_tdcs }
+
+    owes-swap : SwapsOwed (hold c held) v' (v.tds.hkids t)
+    owes-swap = subst (λ (o : Option ℕ). MayAt (hold c held) (slot_of o) (λ a. owes a KeepsNothing)) (sym (la.keys.owner t x.alive)) (inl (locks.tdr, (op-alone, tt)))
+
+    -- the changes are allowed
+    host-reads : (r i : ℕ) → is_host v r ≡ true → holds_alone (held ++ c.kept) (OfPage r) ≡ true → Reads (hold c held) v (place.Word r i) Whole
+    host-reads r i host own = rw (host-kind (v.pages.kinds r) host) (inl (own, tt))
+
+    host-fills : (r i : ℕ) → is_host v r ≡ true → holds_alone (held ++ c.kept) (OfPage r) ≡ true → Fills (hold c held) v (place.Word r i)
+    host-fills r i host own = rw (host-kind (v.pages.kinds r) host) (inl (own, tt))
+
+    not-same : q ≢ p
+    not-same e = (let no : true ≡ false = sym (eq-eqb q p e) ∙ q-p in cc)
+
+    may-fill : is_host v q ≡ true → is_host v p ≡ true → MayFillAll m (hold c held) v (page_fills full)
+    may-fill source host = ((in_source, in_page, not-same, (λ i b. host-reads q i source source-alone), λ i b. host-fills p i host page-alone), tt)
+
+    may-change : MayChange m (hold c held) v v' (changed_all (page_fills full) c.memory) (page_changes m.pages full)
+    may-change = (
+      ((has.in_machine, split.index 0 gpa), (KeepsNothing, entry-writes m c t sh x.alive x.controls held locks gpa table 0 small has KeepsNothing tree-alone, tt)),
+      (
+        (in_page, (KeepsNothing, inl (page-alone, tt), tt)),
+        (
+          ((in_tdr, omega arith), (KeepsNothing, count-owes m c t sh x.alive x.controls held locks la tree-alone v' alive-then own-then, tt)),
+          ((la.keys.in_range t x.alive, owes-swap), ((la.keys.in_range t x.alive, owes-swap), tt)),
+        ),
+      ),
+    )
+
+    ended : is_host v q ≡ true → is_host v p ≡ true → Means m c k held (End (Done value.Nothing) (page_fills full) (page_changes m.pages full)) []
+    ended source host = (
+      record {
+        reply_is = refl;
+        fills_allowed = may-fill source host;
+        respects = page-added (hold c held) v t gpa p (v.words q) (page_record gpa) host page-alone (record { tdr = locks.tdr; op = locks.op }) tree-alone;
+        locks_stay = ((refl, λ a. a), ((refl, λ a. a), ((refl, stands-then), ((refl, stands-then), ((refl, λ a. a), tt)))));
+        shows = page-added-shown m c.state c.memory t gpa p q table sh la x small has host source in_tdr in_page in_source;
+      },
+      may-change,
+    )
+
+    is-one : is_hkid m (v.tds.hkids t) ≡ true
+    is-one = (let r = la.keys.in_range t x.alive in rw (le-leb 1 (v.tds.hkids t) r.0, le-leb (v.tds.hkids t) m.hkids r.1) refl)
+
+    ends : is_host v q ≡ true → is_host v p ≡ true → Means m c k held (addition_end m full) []
+    ends source host =
+        subst (λ (b : Bool). Means m c k held (End (Done value.Nothing) (changes_where b (page_fills full)) (changes_where b (page_changes m.pages full))) []) (sym is-one) (ended source host)
+
+    -- the HKID and the child count
+    counts-mean : is_host v q ≡ true → is_host v p ≡ true
+        → Means m c k held (Load Whole (place.Word t TDR_HKID) (λ h. Load Whole (place.Word t TDR_CHILDREN) (λ n. addition_end m (addition h n)))) []
+    counts-mean source host =
+        let hkid : c.memory.words (place.Word t TDR_HKID) ≡ v.tds.hkids t = tdr-shown m c.memory.words c.memory.slots c.state sh t 1 x.alive.kind x.own in_tdr (omega arith) in
+        let count : c.memory.words (place.Word t TDR_CHILDREN) ≡ children v t = tdr-shown m c.memory.words c.memory.slots c.state sh t 2 x.alive.kind x.own in_tdr (omega arith) in (
+          (in_tdr, omega arith),
+          inl (rw (tdr-spot v t 1 x.alive.kind x.own) (inl (locks.tdr, tt))),
+          (
+            (in_tdr, omega arith),
+            inl (count-reads m c t sh x.alive x.controls held locks la tree-alone),
+            subst (λ (h : ℕ). Means m c k held (addition_end m (addition h (c.memory.words (place.Word t TDR_CHILDREN)))) []) (sym hkid)
+                (subst (λ (n : ℕ). Means m c k held (addition_end m (addition (v.tds.hkids t) n)) []) (sym count) (ends source host)),
+          ),
+        )
+
+    pages-mean : Means m c k (tree_held t Exclusive ∷ op_lock t Exclusive ∷ page_lock t Shared ∷ []) (pages_tree t p q (λ h n. addition_end m (addition h n)))
+        (page_exclusive q ∷ host_page v q ∷ page_exclusive p ∷ host_page v p ∷ [])
+    pages-mean =
+        let counts : Tree = Load Whole (place.Word t TDR_HKID) (λ h. Load Whole (place.Word t TDR_CHILDREN) (λ n. addition_end m (addition h n))) in
+        host-means (tree_held t Exclusive ∷ op_lock t Exclusive ∷ page_lock t Shared ∷ []) q in_source (host_tree p counts) (page_exclusive p ∷ host_page v p ∷ [])
+        (λ source. host-means (page_lock q Exclusive ∷ tree_held t Exclusive ∷ op_lock t Exclusive ∷ page_lock t Shared ∷ []) p in_page counts [] (λ host. counts-mean source host))
+
+pub page_add-means : (pl : Place) (t gpa p q : ℕ) → IsMachine pl.machine → MeansRow (page_add_task pl t gpa p q)
+unfolding page_add_tree
+page_add-means pl t gpa p q limits = record {
+  enters_none = refl;
+  means = λ c at. (
+    refl,
+    λ e. refl,
+    λ a. (
+      refl,
+      λ e. refl,
+      λ b. (
+        refl,
+        λ e. refl,
+        λ d. (
+          refl,
+          λ e. refl,
+          λ f. (
+            refl,
+            λ e. refl,
+            λ g. (
+              refl,
+              λ e. refl,
+              λ h. (
+                refl,
+                λ e. refl,
+                λ i. (
+                  refl,
+                  λ e. refl,
+                  λ j. (let in_tdr : t < pl.machine.pages = ltb-true t pl.machine.pages a in
+                      let small : gpa < 2 ^ 47 = ltb-true gpa (2 ^ 47) b in
+                      let in_page : p < pl.machine.pages = ltb-true p pl.machine.pages d in
+                      let in_source : q < pl.machine.pages = ltb-true q pl.machine.pages f in
+                      row-find-means pl.machine c (work_of (OfCall (add_page pl.machine t gpa p q))) t in_tdr limits.pages.1 at.lawful at.shown alone initialized tt gpa 0 small (omega arith)
+                      (λ found. state_tree found.entry (entry.Free ∷ []) (pages_tree t p q (λ hk n. addition_end pl.machine (record { tdr = t; gpa = gpa; page = p; source = q; table = found.page; hkid = hk; children = n }))))
+                      (state_in c.state.world t gpa 0 (entry.Free ∷ []) ∷ page_exclusive q ∷ host_page c.state.world q ∷ page_exclusive p ∷ host_page c.state.world p ∷ [])
+                      (λ x page has. (
+                        refl,
+                        λ e. refl,
+                        λ free. pages-mean pl.machine c t gpa p q limits in_tdr small in_page in_source (not-true (p == t) g) (not-true (q == t) h) (not-true (q == p) i) at.lawful at.shown x page has,
+                      ))),
+                ),
+              ),
+            ),
+          ),
+        ),
+      ),
+    ),
+  );
+}
