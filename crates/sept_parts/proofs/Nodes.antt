@@ -1,6 +1,6 @@
 -- A host page whose words are what they will show is taken as a node of a TD's secure EPT, and its TDR page counts it; and
 -- nothing is mapped below an entry that is FREE.
-use Rattle.std.proofs.Common.{◌≡◌, ℕ, zero, suc, ◌+◌, ◌*◌, ◌/◌, ◌^◌, ◌<◌, ◌≤◌, true, false, ◌==◌, ◌&&◌, nat_lt, List, [], ◌∷◌, Option, refl, if◌then◌else◌, ap, sym, ◌∙◌, subst, arith}
+use Rattle.std.proofs.Common.{◌≡◌, ℕ, zero, suc, ◌+◌, ◌*◌, ◌/◌, ◌^◌, ◌<◌, ◌≤◌, true, false, ◌==◌, nat_lt, List, [], ◌∷◌, Option, refl, if◌then◌else◌, ap, sym, ◌∙◌, subst, arith}
 use Rattle.std.specs.List.{list_any}
 use Rattle.std.proofs.lemmas.Bool.{eq-eqb, eqb-true, ne_eqb}
 use Rattle.td_words.specs.declared.names.EntryState.{EntryState}
@@ -15,7 +15,7 @@ use Rattle.td_words.specs.Place as place
 use Rattle.flat_core.specs.World.{World}
 use Rattle.flat_core.specs.Processor.{LockId}
 use Rattle.flat_core.specs.Conditions.{same_kind, is_host, children}
-use Rattle.flat_core.specs.Effects.{set_page, take_node}
+use Rattle.flat_core.specs.Effects.{take_node}
 use Rattle.flat_core.specs.Lawful.{Lawful, LawfulPages, IsAlive, is_free}
 use Rattle.flat_core.specs.Tree.{same_state}
 use Rattle.flat_core.specs.Event.{State}
@@ -24,7 +24,6 @@ use Rattle.word_rules.specs.Cells.{Shows, IsAs, cell, page_cell, entry_cell, roo
 use Rattle.lock_words.specs.LockWords.{put_word}
 use Rattle.act_rules.proofs.Stored.{by_test}
 use Rattle.act_rules.proofs.Respected.{host-kind, and-right}
-use Rattle.leaf_engine.specs.Changes.{Memory, put_page}
 use Rattle.leaf_parts.specs.Words.{raised}
 use Rattle.leaf_parts.proofs.Owned.{counted-host, counted-other, owned-taken, owned-same, raised-is}
 use Rattle.leaf_parts.proofs.Told.{tdr-shown}
