@@ -3,7 +3,7 @@
 use crate::arguments::{GPAS, is_aligned};
 use arrayvec::ArrayVec;
 use leaf_engine::{ANSWERS, Leaf, Need, Place, Stop, Told, Write};
-use leaf_parts::{raised, says_host};
+use leaf_parts::{is_hkid, raised, says_host};
 use mrtd_measure::Measure;
 use pamt_core::PamtWord;
 use sept_entry::Entry;
@@ -347,7 +347,7 @@ ghost use Rattle.sept_walk.specs.SecureEpt.{index_at};
 ghost use Rattle.leaf_engine.specs.Changes.{Hand};
 ghost use Rattle.leaf_engine.specs.Decides.{IsHand};
 ghost use Rattle.leaf_parts.specs.Words.{raised};
-ghost use Rattle.mem_build.specs.PageAddTrees.{is_hkid, with_page};
+ghost use Rattle.mem_build.specs.PageAddTrees.{with_page};
 
 /// The entry's word.
 fn entry_store(addition: Addition) -> Write
@@ -395,11 +395,4 @@ fn measure(hasher: &mut Option<Measure>, gpa: u64)
     if let Some(measure) = hasher {
         measure.add_page(gpa);
     }
-}
-
-/// Whether a number is an HKID of the machine. No TDR tells another.
-fn is_hkid(machine: Machine, hkid: u64) -> bool
-    ensures { result ≡ is_hkid machine hkid }
-{
-    1 <= hkid && hkid <= u64::from(machine.hkids)
 }
