@@ -1,8 +1,7 @@
 -- The leaf that adds a private page means its row.
-use Rattle.std.proofs.Common.{◌≡◌, ◌≢◌, ℕ, ◌^◌, ◌%◌, ◌<◌, Bool, true, false, not, ◌==◌, ◌&&◌, List, [], ◌∷◌, ◌++◌, Option, refl, ap, sym, ◌∙◌, subst, inl, inr, arith}
-use Rattle.std.proofs.lemmas.Bool.{eq-eqb, eqb-true, ltb-true, le-leb, ne_eqb}
+use Rattle.std.proofs.Common.{◌≡◌, ◌≢◌, ℕ, ◌^◌, ◌<◌, Bool, true, false, ◌==◌, List, [], ◌∷◌, ◌++◌, Option, refl, sym, ◌∙◌, subst, inl, arith}
+use Rattle.std.proofs.lemmas.Bool.{eq-eqb, ltb-true, ne_eqb}
 use Rattle.td_words.specs.declared.names.PageKind.TheVariants as kind
-use Rattle.td_words.specs.declared.names.OpState.TheVariants as op
 use Rattle.td_words.specs.declared.names.EntryState.TheVariants as entry
 use Rattle.td_words.specs.declared.names.Mode.TheVariants.{Shared, Exclusive}
 use Rattle.td_words.specs.declared.machines.Machine.{Machine}
@@ -25,7 +24,7 @@ use Rattle.word_rules.specs.Rules.{Whole, KeepsNothing, owes}
 use Rattle.word_rules.specs.Permissions.{MayAt, Reads, Fills, SwapsOwed}
 use Rattle.word_rules.specs.Spots.{slot_of}
 use Rattle.word_rules.specs.Cells.{Shows}
-use Rattle.lock_words.specs.Grips.{holds, holds_alone}
+use Rattle.lock_words.specs.Grips.{holds_alone}
 use Rattle.lock_words.specs.LockWords.{TdStands}
 use Rattle.act_rules.proofs.Respected.{host-kind, not-true}
 use Rattle.act_rules.proofs.Rows.{page-added}

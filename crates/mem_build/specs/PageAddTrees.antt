@@ -65,10 +65,11 @@ arguments_tree m tdr gpa page source further =
     (needs (not (source == page)) (OperandInvalid 4)
     (needs (gpa % level_size 0 == 0) (OperandInvalid 2) further)))))))
 
--- the beginning of the row: the entry of the GPA is FREE, and stands in this page
+-- O and T are held alone
 abbrev pub alone : Modes
 alone = record { op = Exclusive; tree = Exclusive }
 
+-- the beginning of the row: the entry of the GPA is FREE, and stands in this page
 abbrev pub free_tree : (pages tdr gpa : ℕ) → (ℕ → Tree) → Tree
 free_tree pages tdr gpa further = td_find_tree pages tdr alone (op.Initialized ∷ []) gpa 0 (λ found. state_tree found.entry (entry.Free ∷ []) (further found.page))
 
