@@ -1,6 +1,5 @@
 -- What MEM.PAGE.ADD comes to part by part, what is left of its tree at its end, and its changes one by one.
-use Rattle.std.proofs.Common.{◌≡◌, ℕ, ◌+◌, ◌-◌, ◌<◌, Bool, true, ◌&&◌, drop, List, [], ◌∷◌, ◌++◌, Option, Some, None, Result, Ok, Err, refl, ap, sym, ◌∙◌, subst, arith}
-use Rattle.std.specs.Prelude.{nat_le}
+use Rattle.std.proofs.Common.{◌≡◌, ℕ, ◌+◌, ◌-◌, ◌<◌, Bool, true, drop, List, [], ◌∷◌, ◌++◌, Option, Some, None, Result, Ok, Err, refl, ap, sym, ◌∙◌, subst, arith}
 use Rattle.std.proofs.lemmas.Bool.Decides.{nat_tests}
 use Rattle.td_words.specs.declared.names.PageKind.TheVariants as kind
 use Rattle.td_words.specs.declared.names.EntryState.TheVariants as entry
@@ -25,13 +24,13 @@ use Rattle.leaf_engine.specs.Decides.{Decides, Gives, IsHand, HandsOut, HandsNex
 use Rattle.leaf_engine.specs.declared.plans.Stop.{Stop}
 use Rattle.td_words.specs.declared.refusals.Status.TheVariants.{EptEntryStateIncorrect}
 use Rattle.leaf_parts.specs.Parts.{Goes, Feeds}
-use Rattle.leaf_parts.specs.Words.{raised}
+use Rattle.leaf_parts.specs.Words.{is_hkid, raised}
 use Rattle.leaf_parts.proofs.Parts.{passes, refuses, feed-passes}
 use Rattle.sept_parts.specs.declared.finds.Found.{Found}
 use Rattle.sept_parts.specs.SeptTrees.{state_tree}
 use Rattle.mem_build.specs.declared.page_additions.Addition.{Addition}
 use Rattle.mem_build.specs.declared.page_additions.Given.{Given}
-use Rattle.mem_build.specs.PageAddTrees.{is_hkid, changes_where, with_page, page_fills, page_changes, addition_end, arguments_tree, td_tree, page_add_tree}
+use Rattle.mem_build.specs.PageAddTrees.{changes_where, with_page, page_fills, page_changes, addition_end, arguments_tree, td_tree, page_add_tree}
 use Rattle.mem_build.specs.PageAddParts.{is_free, TableOf, ComesTo, IsInside, all_changes}
 
 -- at its end

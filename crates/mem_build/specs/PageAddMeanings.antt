@@ -1,8 +1,7 @@
 -- The leaf that adds a private page means its row.
-use Rattle.std.proofs.Common.{◌≡◌, ◌≢◌, ℕ, ◌^◌, ◌%◌, ◌<◌, Bool, true, false, not, ◌==◌, ◌&&◌, List, [], ◌∷◌, ◌++◌, Option, refl, ap, sym, ◌∙◌, subst, inl, inr, arith}
-use Rattle.std.proofs.lemmas.Bool.{eq-eqb, eqb-true, ltb-true, le-leb, ne_eqb}
+use Rattle.std.proofs.Common.{◌≡◌, ◌≢◌, ℕ, ◌^◌, ◌<◌, Bool, true, false, ◌==◌, List, [], ◌∷◌, ◌++◌, Option, refl, sym, ◌∙◌, subst, inl, arith}
+use Rattle.std.proofs.lemmas.Bool.{eq-eqb, ltb-true, ne_eqb}
 use Rattle.td_words.specs.declared.names.PageKind.TheVariants as kind
-use Rattle.td_words.specs.declared.names.OpState.TheVariants as op
 use Rattle.td_words.specs.declared.names.EntryState.TheVariants as entry
 use Rattle.td_words.specs.declared.names.Mode.TheVariants.{Shared, Exclusive}
 use Rattle.td_words.specs.declared.machines.Machine.{Machine}
@@ -25,7 +24,7 @@ use Rattle.word_rules.specs.Rules.{Whole, KeepsNothing, owes}
 use Rattle.word_rules.specs.Permissions.{MayAt, Reads, Fills, SwapsOwed}
 use Rattle.word_rules.specs.Spots.{slot_of}
 use Rattle.word_rules.specs.Cells.{Shows}
-use Rattle.lock_words.specs.Grips.{holds, holds_alone}
+use Rattle.lock_words.specs.Grips.{holds_alone}
 use Rattle.lock_words.specs.LockWords.{TdStands}
 use Rattle.act_rules.proofs.Respected.{host-kind, not-true}
 use Rattle.act_rules.proofs.Rows.{page-added}
@@ -35,12 +34,13 @@ use Rattle.leaf_engine.specs.Trees.{Tree, Load, End}
 use Rattle.leaf_engine.specs.Means.{Instant, Means, MeansRow, MayFillAll, MayChange, Work, work_of, OfCall, hold}
 use Rattle.leaf_parts.proofs.Begun.{page_lock, op_lock, holds-newest, IsTd}
 use Rattle.leaf_parts.proofs.Told.{kind-shown, tdr-spot, tdr-shown}
+use Rattle.leaf_parts.proofs.Keys.{hkid-in}
 use Rattle.sept_parts.specs.SeptPages.{HasEntry, HoldsTree}
 use Rattle.sept_parts.specs.SeptTrees.{state_tree}
 use Rattle.sept_parts.proofs.SeptLocks.{tree_held, entry-writes, count-reads, count-owes}
 use Rattle.sept_parts.proofs.SeptBegun.{row-find-means}
 use Rattle.mem_build.specs.declared.page_additions.Addition.{Addition}
-use Rattle.mem_build.specs.PageAddTrees.{is_hkid, changes_where, page_fills, page_changes, addition_end, alone, host_tree, pages_tree, page_add_tree, page_add_task}
+use Rattle.mem_build.specs.PageAddTrees.{changes_where, page_fills, page_changes, addition_end, alone, host_tree, pages_tree, page_add_tree, page_add_task}
 use Rattle.mem_build.specs.PageAddShows.{initialized, page-added-shown}
 
 turned : (a b : ℕ) → (a == b) ≡ false → (b == a) ≡ false
@@ -149,12 +149,9 @@ module _ (m : Machine) (c : Instant) (t gpa p q : ℕ) (limits : IsMachine m) (i
       may-change,
     )
 
-    is-one : is_hkid m (v.tds.hkids t) ≡ true
-    is-one = (let r = la.keys.in_range t x.alive in rw (le-leb 1 (v.tds.hkids t) r.0, le-leb (v.tds.hkids t) m.hkids r.1) refl)
-
     ends : is_host v q ≡ true → is_host v p ≡ true → Means m c k held (addition_end m full) []
     ends source host =
-        subst (λ (b : Bool). Means m c k held (End (Done value.Nothing) (changes_where b (page_fills full)) (changes_where b (page_changes m.pages full))) []) (sym is-one) (ended source host)
+        subst (λ (b : Bool). Means m c k held (End (Done value.Nothing) (changes_where b (page_fills full)) (changes_where b (page_changes m.pages full))) []) (sym (hkid-in m (v.tds.hkids t) (la.keys.in_range t x.alive))) (ended source host)
 
     -- the HKID and the child count
     counts-mean : is_host v q ≡ true → is_host v p ≡ true

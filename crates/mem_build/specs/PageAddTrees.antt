@@ -1,5 +1,5 @@
 -- The addition of a TD's private page as a decision over the words that it is told, and its changes.
-use Rattle.std.specs.Prelude.{ℕ, ◌^◌, ◌%◌, Bool, ◌==◌, ◌&&◌, not, nat_lt, nat_le, if◌then◌else◌, Some, None, List, [], ◌∷◌, ◌++◌}
+use Rattle.std.specs.Prelude.{ℕ, ◌^◌, ◌%◌, Bool, ◌==◌, not, nat_lt, if◌then◌else◌, Some, None, List, [], ◌∷◌, ◌++◌}
 use Rattle.mrtd_measure.specs.Records.{page_record}
 use Rattle.td_words.specs.declared.names.PageKind.TheVariants as kind
 use Rattle.td_words.specs.declared.names.OpState.TheVariants as op
@@ -21,15 +21,12 @@ use Rattle.leaf_engine.specs.declared.needs.Place.{Place}
 use Rattle.leaf_engine.specs.Changes.{Hand, Change, Put, Copy, Swap}
 use Rattle.leaf_engine.specs.Trees.{Tree, Lock, Load, End, needs}
 use Rattle.leaf_engine.specs.Means.{Task, OfCall}
-use Rattle.leaf_parts.specs.Words.{says_host, raised}
+use Rattle.leaf_parts.specs.Words.{says_host, is_hkid, raised}
 use Rattle.sept_parts.specs.declared.finds.Modes.{Modes}
 use Rattle.sept_parts.specs.SeptTrees.{td_find_tree, state_tree}
 use Rattle.mem_build.specs.declared.page_additions.Addition.{Addition}
 
--- an HKID of the machine, which is all that a TDR ever tells
-abbrev pub is_hkid : Machine → ℕ → Bool
-is_hkid m h = nat_le 1 h && nat_le h m.hkids
-
+-- where the HKID told is one of the machine's, as it always is
 abbrev pub changes_where : Bool → List Change → List Change
 changes_where b cs = if b then cs else []
 
@@ -68,10 +65,11 @@ arguments_tree m tdr gpa page source further =
     (needs (not (source == page)) (OperandInvalid 4)
     (needs (gpa % level_size 0 == 0) (OperandInvalid 2) further)))))))
 
--- the beginning of the row: the entry of the GPA is FREE, and stands in this page
+-- O and T are held alone
 abbrev pub alone : Modes
 alone = record { op = Exclusive; tree = Exclusive }
 
+-- the beginning of the row: the entry of the GPA is FREE, and stands in this page
 abbrev pub free_tree : (pages tdr gpa : ℕ) → (ℕ → Tree) → Tree
 free_tree pages tdr gpa further = td_find_tree pages tdr alone (op.Initialized ∷ []) gpa 0 (λ found. state_tree found.entry (entry.Free ∷ []) (further found.page))
 

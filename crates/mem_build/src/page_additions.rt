@@ -1,9 +1,11 @@
 //! MEM.PAGE.ADD.
 
+ghost use Rattle.flat_core.specs.Opening.{IsMachine};
+
 use crate::arguments::{GPAS, is_aligned};
 use arrayvec::ArrayVec;
 use leaf_engine::{ANSWERS, Leaf, Need, Place, Stop, Told, Write};
-use leaf_parts::{raised, says_host};
+use leaf_parts::{is_hkid, raised, says_host};
 use mrtd_measure::Measure;
 use pamt_core::PamtWord;
 use sept_entry::Entry;
@@ -15,8 +17,6 @@ use td_words::{
     EntryState, LockName, Machine, Mode, OpState, PageKind, Reply, Status, Value, lock_address,
     pamt_address, word_address,
 };
-
-ghost use Rattle.flat_core.specs.Opening.{IsMachine};
 
 /// MEM.PAGE.ADD TDR GPA PAGE SOURCE: a host page with the source's words becomes a TD's private
 /// page at a GPA, and that it was added there is measured.
@@ -347,7 +347,7 @@ ghost use Rattle.sept_walk.specs.SecureEpt.{index_at};
 ghost use Rattle.leaf_engine.specs.Changes.{Hand};
 ghost use Rattle.leaf_engine.specs.Decides.{IsHand};
 ghost use Rattle.leaf_parts.specs.Words.{raised};
-ghost use Rattle.mem_build.specs.PageAddTrees.{is_hkid, with_page};
+ghost use Rattle.mem_build.specs.PageAddTrees.{with_page};
 
 /// The entry's word.
 fn entry_store(addition: Addition) -> Write
@@ -371,10 +371,7 @@ fn owner_store(addition: Addition) -> Write
         owner: addition.tdr,
         epoch: 0,
     };
-    Write::Word(WordStep::Store(
-        pamt_address(addition.page),
-        owned.pack(),
-    ))
+    Write::Word(WordStep::Store(pamt_address(addition.page), owned.pack()))
 }
 
 /// The child count's word.
@@ -382,10 +379,7 @@ fn count_store(machine: Machine, addition: Addition) -> Write
     ensures { result ≡ Write.Word (WordStep.Store (word_at addition.tdr 2) (raised machine.pages addition.children)) }
 {
     let at = word_address(addition.tdr, TDR_CHILDREN);
-    Write::Word(WordStep::Store(
-        at,
-        raised(machine.pages, addition.children),
-    ))
+    Write::Word(WordStep::Store(at, raised(machine.pages, addition.children)))
 }
 
 /// The record of a page is appended to what the hasher in hand has measured.
@@ -395,11 +389,4 @@ fn measure(hasher: &mut Option<Measure>, gpa: u64)
     if let Some(measure) = hasher {
         measure.add_page(gpa);
     }
-}
-
-/// Whether a number is an HKID of the machine. No TDR tells another.
-fn is_hkid(machine: Machine, hkid: u64) -> bool
-    ensures { result ≡ is_hkid machine hkid }
-{
-    1 <= hkid && hkid <= u64::from(machine.hkids)
 }

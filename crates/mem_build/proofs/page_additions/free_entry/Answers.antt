@@ -1,4 +1,4 @@
-use Rattle.std.proofs.Common.{◌≡◌, ℕ, List, [], ◌∷◌, Result, Ok, Err, refl, sym, ◌∙◌, ap, subst}
+use Rattle.std.proofs.Common.{ℕ, [], ◌∷◌}
 use Rattle.td_words.specs.declared.names.EntryState.TheVariants as entry
 use Rattle.leaf_engine.specs.Trees.{Tree}
 use Rattle.leaf_parts.proofs.Parts.{goes-stop, goes-on, feeds-on, exit}

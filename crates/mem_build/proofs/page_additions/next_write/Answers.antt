@@ -1,5 +1,5 @@
 use Rattle.std.proofs.Common.{◌≡◌, true, sym, ◌∙◌}
-use Rattle.mem_build.specs.PageAddTrees.{is_hkid}
+use Rattle.leaf_parts.specs.Words.{is_hkid}
 use Rattle.mem_build.proofs.PageAdds.{copy-first, entry-second, owner-third, count-fourth, taken-fifth, back-sixth}
 use Rattle.mem_build.proofs.page_additions.next_write.Goals as goal
 

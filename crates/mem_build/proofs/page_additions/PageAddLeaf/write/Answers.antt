@@ -1,6 +1,5 @@
-use Rattle.std.proofs.Common.{◌≡◌, sym, refl, Err}
+use Rattle.std.proofs.Common.{◌≡◌, sym, refl}
 use Rattle.leaf_engine.specs.Trees.{feed}
-use Rattle.leaf_engine.specs.Decides.{Decides}
 use Rattle.leaf_engine.proofs.Decided.{left-none}
 use Rattle.mem_build.specs.PageAddTrees.{addition_end, page_add_tree}
 use Rattle.mem_build.proofs.PageAdds.{end-next}
