@@ -1,3 +1,3 @@
-pub mod Extends
+pub mod ExtendDecided
+pub mod ExtendSteps
 pub mod ChunkBytes
-pub mod Extending

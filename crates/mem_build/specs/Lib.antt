@@ -1,3 +1,3 @@
 pub mod ExtendTrees
+pub mod ExtendStages
 pub mod ExtendMeanings
-pub mod Extending

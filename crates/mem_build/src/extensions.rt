@@ -10,7 +10,7 @@ ghost use Rattle.leaf_engine.specs.Decides.{HandsNext, IsHand};
 ghost use Rattle.leaf_engine.specs.Inside.{StopIn};
 ghost use Rattle.leaf_parts.specs.Parts.{Goes, Feeds, Uses};
 ghost use Rattle.mem_build.specs.ExtendTrees.{is_hkid, with_chunk, extend_changes, mapped_tree, ComesTo};
-ghost use Rattle.mem_build.specs.Extending.{HasRoom, IsKnown, HasRoom-prop, IsKnown-prop};
+ghost use Rattle.mem_build.specs.ExtendStages.{HasRoom, IsKnown, HasRoom-prop, IsKnown-prop};
 
 use arrayvec::ArrayVec;
 use leaf_engine::{ANSWERS, Leaf, Need, Place, Stop, Told, Write};
@@ -77,7 +77,7 @@ impl Extend {
 impl Leaf for Extend {
     ghost use Rattle.std.specs.Prelude.{◌≡◌, ℕ, ◌+◌, ◌-◌, ◌*◌, length, if◌then◌else◌};
     ghost use Rattle.mem_build.specs.ExtendTrees.{extend_task};
-    ghost use Rattle.mem_build.specs.Extending.{rest_of};
+    ghost use Rattle.mem_build.specs.ExtendStages.{rest_of};
     ghost use Rattle.mem_build.specs.ExtendMeanings.{extend-means};
 
     ghost task = { λ l. extend_task l.place l.tdr l.gpa };
@@ -164,13 +164,7 @@ fn to_extend(told: &mut Told, place: Place, tdr: u64, gpa: u64) -> Result<Chunk,
     told.check(gpa < 1 << 47, Status::OperandInvalid(2))?;
     told.check(gpa % 256 == 0, Status::OperandInvalid(2))?;
     let tdr = tdr as u16;
-    let td = td_head(
-        told,
-        place,
-        tdr,
-        Mode::Exclusive,
-        &[OpState::Initialized],
-    )?;
+    let td = td_head(told, place, tdr, Mode::Exclusive, &[OpState::Initialized])?;
     let page = mapped(told, place, tdr, td.tdcs, gpa)?;
     let hkid = told.load(word_address(tdr, TDR_HKID))?;
     Ok(Chunk { page, hkid })

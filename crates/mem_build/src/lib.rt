@@ -7,4 +7,4 @@
 
 mod extensions;
 
-pub use extensions::{Chunk, Extend};
+pub use extensions::Extend;

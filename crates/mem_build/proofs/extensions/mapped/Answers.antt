@@ -1,7 +1,7 @@
 use Rattle.std.proofs.Common.{◌≡◌, sym, ◌∙◌, true, false}
 use Rattle.td_words.specs.Packing.{Entry}
 use Rattle.leaf_parts.proofs.Parts.{exit}
-use Rattle.mem_build.proofs.Extends.{is_mapped, unlocked, unfound, unmapped, unheld, held, fed-on}
+use Rattle.mem_build.proofs.ExtendDecided.{is_mapped, unlocked, unfound, unmapped, unheld, held, fed-on}
 use Rattle.mem_build.proofs.extensions.mapped.Goals as goal
 
 pub returns-in_err-tree_lock-clause-goes : goal.returns-in_err-tree_lock-clause-goes
