@@ -1,7 +1,7 @@
 //! MR.EXTEND.
 
-ghost use Rattle.td_words.specs.Address.{word_at};
 ghost use Rattle.std.specs.Prelude.{◌≡◌, ℕ, ◌+◌, ◌<◌, ◌%◌, true, drop, length, MatchOption, MatchResult};
+ghost use Rattle.td_words.specs.Address.{word_at};
 ghost use Rattle.flat_core.specs.Digests.{digest_bytes};
 ghost use Rattle.flat_core.specs.Opening.{IsMachine};
 ghost use Rattle.flat_core.specs.Tree.{word_of_gpa};
@@ -179,7 +179,8 @@ fn mapped(told: &mut Told, place: Place, tdr: u16, tdcs: u16, gpa: u64) -> Resul
     ensures inside { MatchResult result (λ p. p < place.machine.pages) (λ e. StopIn place.machine e) }
 {
     tree_lock(told, place, tdcs, Mode::Shared)?;
-    let entry = find(told, place, tdr, gpa, 0)?.entry;
+    let found = find(told, place, tdr, gpa, 0)?;
+    let entry = found.entry;
     told.check(
         is_state_among(entry.state, &[EntryState::Mapped]),
         Status::EptEntryStateIncorrect(entry.state),
