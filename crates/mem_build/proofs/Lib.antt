@@ -1,5 +1,5 @@
 pub mod Decided
 pub mod PageAdds
-pub mod Extends
+pub mod ExtendDecided
+pub mod ExtendSteps
 pub mod ChunkBytes
-pub mod Extending

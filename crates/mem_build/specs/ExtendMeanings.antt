@@ -1,6 +1,5 @@
 -- The leaf that extends a TD's measurement by a chunk means its row.
-use Rattle.std.proofs.Common.{◌≡◌, ℕ, zero, suc, ◌+◌, ◌/◌, ◌%◌, ◌^◌, ◌<◌, ◌≤◌, Bool, true, false, ◌==◌, ◌&&◌, ◌||◌, nat_lt, List, [], ◌∷◌, ◌++◌, map, Option, Some, None, refl, ap, sym, ◌∙◌, subst, inl, inr, arith, append_assoc, append-nil}
-use Rattle.std.specs.Prelude.{nat_le, if◌then◌else◌}
+use Rattle.std.proofs.Common.{◌≡◌, ℕ, zero, suc, ◌+◌, ◌/◌, ◌%◌, ◌^◌, ◌<◌, ◌≤◌, Bool, true, false, ◌==◌, ◌||◌, List, [], ◌∷◌, ◌++◌, map, Option, Some, None, refl, ap, sym, ◌∙◌, subst, inl, arith, append_assoc, append-nil}
 use Rattle.std.specs.List.{list_any, range_with_len}
 use Rattle.std.proofs.lemmas.Bool.{eq-eqb, eqb-true, ltb-true}
 use Rattle.std.proofs.lemmas.Bool.Decides.{nat_tests}
@@ -14,7 +13,6 @@ use Rattle.td_words.specs.declared.names.Mode.TheVariants.{Shared, Exclusive}
 use Rattle.td_words.specs.declared.machines.Machine.{Machine}
 use Rattle.td_words.specs.declared.places.TheConstants.{TDR_HKID}
 use Rattle.td_words.specs.declared.replies.Value.TheVariants as value
-use Rattle.td_words.specs.declared.replies.Reply.{Reply}
 use Rattle.td_words.specs.declared.replies.Reply.TheVariants.{Done}
 use Rattle.td_words.specs.NameNumber.{op_number}
 use Rattle.td_words.specs.Packing.{Entry}
@@ -23,20 +21,18 @@ use Rattle.td_words.specs.Place as place
 use Rattle.mrtd_measure.specs.Records.{chunk_records}
 use Rattle.flat_core.specs.World.{World}
 use Rattle.flat_core.specs.Digests.{digest_bytes}
-use Rattle.flat_core.specs.Processor.{LockId, OfPage, OfOp, OfTree, Held}
+use Rattle.flat_core.specs.Processor.{LockId, OfPage, OfOp, Held}
 use Rattle.flat_core.specs.Effects.{measure}
 use Rattle.flat_core.specs.Lawful.{Lawful, IsNodeOf, key_owner, is_free}
 use Rattle.flat_core.specs.MemRows.{extend, chunk_bytes}
 use Rattle.flat_core.specs.Opening.{IsMachine}
-use Rattle.flat_core.specs.Row.{Item}
 use Rattle.flat_core.specs.Tree.{entry_at, number_at, named_page, same_state, state_in, walk, word_of_gpa}
 use Rattle.flat_core.specs.Conditions.{tree_shared}
 use Rattle.flat_core.specs.Event.{State}
-use Rattle.word_rules.specs.Guards.{Grip}
 use Rattle.word_rules.specs.Rules.{Whole, KeepsNothing, GuestWord, writes, owes}
 use Rattle.word_rules.specs.Views.{no_page}
 use Rattle.word_rules.specs.Spots.{spot, slot_of}
-use Rattle.word_rules.specs.Permissions.{MayAt, Reads, Respects}
+use Rattle.word_rules.specs.Permissions.{MayAt, Reads}
 use Rattle.word_rules.specs.Cells.{Shows, IsAs, cell, page_cell, control_cell, if_stands, lock_word, built_hasher}
 use Rattle.lock_words.specs.Grips.{holds, holds_alone}
 use Rattle.lock_words.specs.LockWords.{TdStands}
@@ -44,15 +40,15 @@ use Rattle.act_rules.specs.Acts.{SameSpots}
 use Rattle.act_rules.proofs.Respected.{effects-respect}
 use Rattle.act_rules.proofs.Stored.{by_test}
 use Rattle.leaf_engine.specs.declared.needs.Place.{Place}
-use Rattle.leaf_engine.specs.Changes.{Hand, Memory, Change, changed_all}
+use Rattle.leaf_engine.specs.Changes.{Hand, Memory, changed_all}
 use Rattle.leaf_engine.specs.Trees.{Tree, acts}
 use Rattle.leaf_engine.specs.Means.{Instant, IsHkid, Means, MeansRow, MayChange, Work, work_of, OfCall, hold}
-use Rattle.leaf_parts.proofs.Begun.{td-head-means, page_lock, op_lock, page-in, IsTd, TwoControls}
+use Rattle.leaf_parts.proofs.Begun.{td-head-means, page_lock, op_lock, page-in, IsTd}
 use Rattle.leaf_parts.proofs.Told.{tdr-spot, tdr-shown}
 use Rattle.sept_parts.specs.SeptTrees.{state_tree}
 use Rattle.sept_parts.proofs.SeptBegun.{td-find-means}
 use Rattle.sept_parts.proofs.SeptLocks.{tree_held}
-use Rattle.mem_build.specs.ExtendTrees.{with_chunk, measure_changes, is_hkid, changes_where, extend_changes, words_tree, measure_tree, chunk_tree, mapped_tree, measured_tree, conditions_tree, extend_task}
+use Rattle.mem_build.specs.ExtendTrees.{measure_changes, is_hkid, changes_where, words_tree, measure_tree, chunk_tree, mapped_tree, measured_tree, extend_task}
 
 abbrev initialized : List OpState
 initialized = op.Initialized ∷ []
@@ -287,12 +283,12 @@ module _ (m : Machine) (c : Instant) (t gpa : ℕ) (in_page : t < m.pages) (limi
     refl,
     λ f. refl,
     λ f. (let node : IsNodeOf v.pages t p kind.Reg 0 (number_at 0 gpa) = (la.tree.leaf t (number_at 0 gpa) x.alive (mapped-names e.state f)).1 in
-    let p_in : p < m.pages = page-in m v t p kind.Reg la node.page refl in (
-      refl,
-      refl,
-      record { in_machine = p_in; at = refl; stands = tt; allowed = inl tt },
-      measures node p_in,
-    )),
+        let p_in : p < m.pages = page-in m v t p kind.Reg la node.page refl in (
+          refl,
+          refl,
+          record { in_machine = p_in; at = refl; stands = tt; allowed = inl tt },
+          measures node p_in,
+        )),
   )
 
   conditions-mean : Means m c k (op_lock t Exclusive ∷ page_lock t Shared ∷ []) (mapped_tree m.pages t x.controls.tdcs gpa (measured_tree m t gpa)) (tree_shared t ∷ (walk v t gpa 0 ++ state_in v t gpa 0 (entry.Mapped ∷ []) ∷ named_page v t gpa 0 Shared ∷ []))

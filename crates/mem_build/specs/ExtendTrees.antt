@@ -1,5 +1,5 @@
 -- The extension of a TD's measurement by a chunk as a decision over the words that it is told.
-use Rattle.std.specs.Prelude.{◌≡◌, ℕ, zero, suc, ◌+◌, ◌%◌, ◌^◌, Bool, ◌==◌, ◌&&◌, nat_lt, nat_le, if◌then◌else◌, Option, Some, None, List, [], ◌∷◌, ◌++◌, Result, Ok, Err}
+use Rattle.std.specs.Prelude.{◌≡◌, ℕ, zero, suc, ◌+◌, ◌%◌, ◌^◌, Bool, ◌==◌, ◌&&◌, nat_lt, nat_le, if◌then◌else◌, Some, None, List, [], ◌∷◌, ◌++◌, Result, Ok, Err}
 use Rattle.td_words.specs.declared.names.EntryState.TheVariants as entry
 use Rattle.td_words.specs.declared.names.OpState.TheVariants as op
 use Rattle.td_words.specs.declared.names.Mode.TheVariants.{Shared, Exclusive}

@@ -8,5 +8,5 @@ pub mod PageAddParts
 pub mod PageAddShows
 pub mod PageAddMeanings
 pub mod ExtendTrees
+pub mod ExtendStages
 pub mod ExtendMeanings
-pub mod Extending

@@ -1,7 +1,7 @@
 //! MR.EXTEND.
 
-ghost use Rattle.td_words.specs.Address.{word_at};
 ghost use Rattle.std.specs.Prelude.{◌≡◌, ℕ, ◌+◌, ◌<◌, ◌%◌, true, drop, length, MatchOption, MatchResult};
+ghost use Rattle.td_words.specs.Address.{word_at};
 ghost use Rattle.flat_core.specs.Digests.{digest_bytes};
 ghost use Rattle.flat_core.specs.Opening.{IsMachine};
 ghost use Rattle.flat_core.specs.Tree.{word_of_gpa};
@@ -10,7 +10,7 @@ ghost use Rattle.leaf_engine.specs.Decides.{HandsNext, IsHand};
 ghost use Rattle.leaf_engine.specs.Inside.{StopIn};
 ghost use Rattle.leaf_parts.specs.Parts.{Goes, Feeds, Uses};
 ghost use Rattle.mem_build.specs.ExtendTrees.{is_hkid, with_chunk, extend_changes, mapped_tree, ComesTo};
-ghost use Rattle.mem_build.specs.Extending.{HasRoom, IsKnown, HasRoom-prop, IsKnown-prop};
+ghost use Rattle.mem_build.specs.ExtendStages.{HasRoom, IsKnown, HasRoom-prop, IsKnown-prop};
 
 use arrayvec::ArrayVec;
 use leaf_engine::{ANSWERS, Leaf, Need, Place, Stop, Told, Write};
@@ -77,7 +77,7 @@ impl Extend {
 impl Leaf for Extend {
     ghost use Rattle.std.specs.Prelude.{◌≡◌, ℕ, ◌+◌, ◌-◌, ◌*◌, length, if◌then◌else◌};
     ghost use Rattle.mem_build.specs.ExtendTrees.{extend_task};
-    ghost use Rattle.mem_build.specs.Extending.{rest_of};
+    ghost use Rattle.mem_build.specs.ExtendStages.{rest_of};
     ghost use Rattle.mem_build.specs.ExtendMeanings.{extend-means};
 
     ghost task = { λ l. extend_task l.place l.tdr l.gpa };
@@ -164,13 +164,7 @@ fn to_extend(told: &mut Told, place: Place, tdr: u64, gpa: u64) -> Result<Chunk,
     told.check(gpa < 1 << 47, Status::OperandInvalid(2))?;
     told.check(gpa % 256 == 0, Status::OperandInvalid(2))?;
     let tdr = tdr as u16;
-    let td = td_head(
-        told,
-        place,
-        tdr,
-        Mode::Exclusive,
-        &[OpState::Initialized],
-    )?;
+    let td = td_head(told, place, tdr, Mode::Exclusive, &[OpState::Initialized])?;
     let page = mapped(told, place, tdr, td.tdcs, gpa)?;
     let hkid = told.load(word_address(tdr, TDR_HKID))?;
     Ok(Chunk { page, hkid })
@@ -185,7 +179,8 @@ fn mapped(told: &mut Told, place: Place, tdr: u16, tdcs: u16, gpa: u64) -> Resul
     ensures inside { MatchResult result (λ p. p < place.machine.pages) (λ e. StopIn place.machine e) }
 {
     tree_lock(told, place, tdcs, Mode::Shared)?;
-    let entry = find(told, place, tdr, gpa, 0)?.entry;
+    let found = find(told, place, tdr, gpa, 0)?;
+    let entry = found.entry;
     told.check(
         is_state_among(entry.state, &[EntryState::Mapped]),
         Status::EptEntryStateIncorrect(entry.state),

@@ -1,8 +1,6 @@
 use Rattle.std.proofs.Common.{◌≡◌, true, sym, ◌∙◌}
-use Rattle.leaf_engine.specs.Changes.{Hand}
-use Rattle.leaf_engine.specs.Decides.{IsHand}
-use Rattle.mem_build.specs.ExtendTrees.{is_hkid, with_chunk}
-use Rattle.mem_build.proofs.Extending.{taken-next, put-next}
+use Rattle.mem_build.specs.ExtendTrees.{is_hkid}
+use Rattle.mem_build.proofs.ExtendSteps.{taken-next, put-next}
 use Rattle.mem_build.proofs.extensions.next_write.Goals as goal
 use Rattle.mem_build.proofs.extensions.next_write.Goals.{in-0, in-1}
 

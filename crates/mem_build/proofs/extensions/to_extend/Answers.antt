@@ -1,12 +1,7 @@
-use Rattle.std.proofs.Common.{◌≡◌, [], ◌∷◌, ℕ, ◌%◌, ◌^◌, ◌==◌, true, nat_lt, refl, sym, ◌∙◌, Err}
-use Rattle.td_words.specs.declared.names.Mode.TheVariants.{Exclusive}
-use Rattle.td_words.specs.declared.names.OpState.TheVariants.{Initialized}
-use Rattle.leaf_engine.specs.Trees.{feed}
-use Rattle.leaf_parts.specs.Heads.{td_head_tree}
+use Rattle.std.proofs.Common.{refl, ◌∙◌, Err}
 use Rattle.leaf_parts.proofs.Parts.{exit}
-use Rattle.flat_core.specs.Tree.{word_of_gpa}
-use Rattle.mem_build.specs.ExtendTrees.{mapped_tree, measured_tree, chunk_tree}
-use Rattle.mem_build.proofs.Extends.{argued, argued-fed}
+use Rattle.mem_build.specs.ExtendTrees.{mapped_tree, measured_tree}
+use Rattle.mem_build.proofs.ExtendDecided.{argued, argued-fed}
 use Rattle.mem_build.proofs.extensions.to_extend.Goals as goal
 
 pub returns-in_err-td-clause-comes : goal.returns-in_err-td-clause-comes

@@ -6,7 +6,7 @@ use Rattle.leaf_engine.specs.declared.plans.Stop.TheVariants as stop
 use Rattle.leaf_engine.specs.Trees.{Tree, settle, passed}
 use Rattle.leaf_engine.specs.Decides.{Gives, Decides}
 use Rattle.mem_build.specs.ExtendTrees.{extend_tree, ComesTo}
-use Rattle.mem_build.proofs.Extending.{at-chunk, chunk-known, asks-gives, asks-kept, ends-gives, ends-kept, found-gives, found-kept, stop-gives, refused-kept, lock-passed}
+use Rattle.mem_build.proofs.ExtendSteps.{at-chunk, chunk-known, asks-gives, asks-kept, ends-gives, ends-kept, found-gives, found-kept, stop-gives, refused-kept, lock-passed}
 use Rattle.mem_build.proofs.extensions.ExtendLeaf.need.Goals as goal
 
 pub returns-then-number-eq-WORDS-clause-gives : goal.returns-then-number-eq-WORDS-clause-gives

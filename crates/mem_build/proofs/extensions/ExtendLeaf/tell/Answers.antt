@@ -1,4 +1,4 @@
-use Rattle.mem_build.proofs.Extending.{word-told, answer-told}
+use Rattle.mem_build.proofs.ExtendSteps.{word-told, answer-told}
 use Rattle.mem_build.proofs.extensions.ExtendLeaf.tell.Goals as goal
 
 pub returns-in-Some-clause-rest : goal.returns-in-Some-clause-rest

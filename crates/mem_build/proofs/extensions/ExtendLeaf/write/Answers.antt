@@ -1,8 +1,8 @@
 use Rattle.std.proofs.Common.{◌≡◌, ◌<◌, [], length, refl, sym, ◌∙◌, subst, arith}
 use Rattle.leaf_engine.specs.Trees.{Tree, left_of}
 use Rattle.leaf_engine.specs.Decides.{HandsNext}
-use Rattle.mem_build.specs.Extending.{rest_of}
-use Rattle.mem_build.proofs.Extending.{at-chunk, chunk-known, conditions-known, ends-hand, asks-none, conditions-none}
+use Rattle.mem_build.specs.ExtendStages.{rest_of}
+use Rattle.mem_build.proofs.ExtendSteps.{at-chunk, chunk-known, conditions-known, ends-hand, asks-none, conditions-none}
 use Rattle.mem_build.proofs.extensions.ExtendLeaf.write.Goals as goal
 
 pub returns-in-Some-clause-next : goal.returns-in-Some-clause-next
@@ -19,8 +19,8 @@ returns-in_default-clause-next c =
     let known = chunk-known l.place l.tdr l.gpa l.chunk l.told.items l.words.items c.in-Some.chunk c.in-Some.is l.known in
     let few : length l.words.items < 32 = omega (arith, known.2, c.len.ensures.value, c.if-len-eq-WORDS.false) in
     let none : left_of (rest_of l.place l.tdr l.gpa l.chunk l.told.items l.words.items) l.written ≡ [] =
-        subst (λ (t : Tree). left_of t l.written ≡ []) (sym (at-chunk l.place l.tdr l.gpa l.chunk l.told.items l.words.items c.in-Some.chunk c.in-Some.is))
-        (asks-none l.place.machine l.gpa c.in-Some.chunk.page c.in-Some.chunk.hkid l.words.items l.written few) in
+    subst (λ (t : Tree). left_of t l.written ≡ []) (sym (at-chunk l.place l.tdr l.gpa l.chunk l.told.items l.words.items c.in-Some.chunk c.in-Some.is))
+    (asks-none l.place.machine l.gpa c.in-Some.chunk.page c.in-Some.chunk.hkid l.words.items l.written few) in
     (none, none, refl)
 
 pub returns-in_default-2-clause-next : goal.returns-in_default-2-clause-next
@@ -28,5 +28,5 @@ returns-in_default-2-clause-next c =
     let l = c.args.self.now in
     let known = conditions-known l.place l.tdr l.gpa l.chunk l.told.items l.words.items c.in_default.is l.known in
     let none : left_of (rest_of l.place l.tdr l.gpa l.chunk l.told.items l.words.items) l.written ≡ [] =
-        conditions-none l.place l.tdr l.gpa l.chunk l.told.items l.words.items c.in_default.is l.written known.1 in
+    conditions-none l.place l.tdr l.gpa l.chunk l.told.items l.words.items c.in_default.is l.written known.1 in
     (none, none, refl)

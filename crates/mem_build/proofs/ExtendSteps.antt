@@ -1,5 +1,5 @@
 -- What is left of the tree of the call that extends a TD's measurement, step by step.
-use Rattle.std.proofs.Common.{◌≡◌, ℕ, zero, suc, ◌+◌, ◌-◌, ◌%◌, ◌<◌, ◌≤◌, Bool, true, false, ◌&&◌, List, [], ◌∷◌, ◌++◌, length, drop, Option, Some, None, Result, Ok, Err, refl, ap, sym, ◌∙◌, subst, arith, append_assoc, append-nil}
+use Rattle.std.proofs.Common.{◌≡◌, ℕ, zero, suc, ◌+◌, ◌-◌, ◌%◌, ◌<◌, ◌≤◌, Bool, true, false, ◌&&◌, List, [], ◌∷◌, ◌++◌, length, drop, Option, Some, None, Ok, Err, refl, ap, sym, ◌∙◌, subst, arith, append_assoc, append-nil}
 use Rattle.std.specs.Prelude.{nat_le}
 use Rattle.std.proofs.lemmas.Bool.Decides.{nat_tests}
 use Rattle.td_words.specs.declared.names.LockName.{LockName}
@@ -26,7 +26,7 @@ use Rattle.leaf_engine.specs.Trees.{Tree, Lock, Load, Test, End, Since, feed, fe
 use Rattle.leaf_engine.proofs.Decided.{feed-append, decided, decided-kept, decided-lock}
 use Rattle.mem_build.specs.declared.extensions.Chunk.{Chunk}
 use Rattle.mem_build.specs.ExtendTrees.{with_chunk, measure_changes, is_hkid, changes_where, extend_changes, words_tree, measure_tree, chunk_tree, extend_tree, ComesTo}
-use Rattle.mem_build.specs.Extending.{rest_of, IsKnown}
+use Rattle.mem_build.specs.ExtendStages.{rest_of, IsKnown}
 
 -- the words of a page: one more is asked for, or all are told
 pub words-ask : (page at left : ℕ) (seen ws : List ℕ) (f : List ℕ → Tree) → length ws < left
