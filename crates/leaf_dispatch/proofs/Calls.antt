@@ -20,7 +20,7 @@ use Rattle.td_control.specs.FinalMeanings.{finalize-means}
 use Rattle.vcpu_control.specs.VpMeanings.{vp_create-means, vp_init-means}
 use Rattle.mem_build.specs.SeptAddMeanings.{sept_add-means}
 use Rattle.mem_build.specs.SeptReadMeanings.{sept_read-means}
-use Rattle.mem_build.specs.PageAddMeanings.{page-add-means}
+use Rattle.mem_build.specs.PageAddMeanings.{page_add-means}
 use Rattle.mem_build.specs.ExtendMeanings.{extend-means}
 use Rattle.leaf_dispatch.specs.Table.{task_of}
 use Rattle.leaf_dispatch.specs.Laws.{CallsHaveLeaves}
@@ -85,7 +85,7 @@ means p (call.VpCreate tdr page) m = vp_create-means p tdr page
 means p (call.VpInit tdr vp value) m = vp_init-means p tdr vp value (let few = m.pages.1 in omega arith)
 means p (call.MemSeptAdd tdr gpa level page) m = sept_add-means p tdr gpa level page m
 means p (call.MemSeptRd tdr gpa level) m = sept_read-means p tdr gpa level m
-means p (call.MemPageAdd tdr gpa page source) m = page-add-means p tdr gpa page source m
+means p (call.MemPageAdd tdr gpa page source) m = page_add-means p tdr gpa page source m
 means p (call.MrExtend tdr gpa) m = extend-means p tdr gpa m
 
 pub calls-have-leaves : CallsHaveLeaves

@@ -19,7 +19,7 @@ use Rattle.mem_build.specs.SeptAddTrees.{sept_add_task}
 use Rattle.mem_build.specs.SeptReadTrees.{sept_read_task}
 use Rattle.mem_build.specs.PageAddTrees.{page_add_task}
 use Rattle.mem_build.specs.ExtendTrees.{extend_task}
-use Rattle.mem_build.specs.Extending.{rest_of}
+use Rattle.mem_build.specs.ExtendStages.{rest_of}
 use Rattle.first_leaves.specs.HostMeanings.{host_read-means, host_write-means, rdmd-means}
 use Rattle.key_table.specs.CacheMeanings.{cache-means}
 use Rattle.key_table.specs.ReclaimMeanings.{reclaim-means}
@@ -34,7 +34,7 @@ use Rattle.td_control.specs.FinalMeanings.{finalize-means}
 use Rattle.vcpu_control.specs.VpMeanings.{vp_create-means, vp_init-means}
 use Rattle.mem_build.specs.SeptAddMeanings.{sept_add-means}
 use Rattle.mem_build.specs.SeptReadMeanings.{sept_read-means}
-use Rattle.mem_build.specs.PageAddMeanings.{page-add-means}
+use Rattle.mem_build.specs.PageAddMeanings.{page_add-means}
 use Rattle.mem_build.specs.ExtendMeanings.{extend-means}
 use Rattle.leaf_dispatch.specs.declared.leaves.AnyLeaf.{AnyLeaf}
 use Rattle.leaf_dispatch.specs.declared.leaves.AnyLeaf.TheVariants as leaf
@@ -108,5 +108,5 @@ leaves-mean (leaf.VpCreate l) = vp_create-means l.plan.place l.plan.tdr l.plan.p
 leaves-mean (leaf.VpInit l) = vp_init-means l.plan.place l.plan.tdr l.plan.vp l.plan.value l.plan.few_pages
 leaves-mean (leaf.SeptAdd l) = sept_add-means l.plan.place l.plan.tdr l.plan.gpa l.plan.level l.plan.page l.plan.machine
 leaves-mean (leaf.SeptRd l) = sept_read-means l.plan.place l.plan.tdr l.plan.gpa l.plan.level l.plan.machine
-leaves-mean (leaf.PageAdd l) = page-add-means l.place l.arguments.tdr l.arguments.gpa l.arguments.page l.arguments.source l.machine
+leaves-mean (leaf.PageAdd l) = page_add-means l.place l.arguments.tdr l.arguments.gpa l.arguments.page l.arguments.source l.machine
 leaves-mean (leaf.Extend l) = extend-means l.place l.tdr l.gpa l.machine
