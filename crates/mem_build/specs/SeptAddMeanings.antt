@@ -1,7 +1,6 @@
 -- The leaf that adds a secure EPT page means its row.
-use Rattle.std.proofs.Common.{◌≡◌, ℕ, ◌^◌, ◌<◌, ◌≤◌, true, false, ◌==◌, not, List, [], ◌∷◌, ◌++◌, refl, ap, sym, ◌∙◌, subst, inl, arith}
-use Rattle.std.specs.Prelude.{nat_lt, nat_le}
-use Rattle.std.specs.List.{list_any}
+use Rattle.std.proofs.Common.{◌≡◌, ℕ, ◌^◌, ◌<◌, ◌≤◌, true, false, ◌==◌, List, [], ◌∷◌, ◌++◌, refl, sym, ◌∙◌, subst, inl, arith}
+use Rattle.std.specs.Prelude.{nat_le}
 use Rattle.std.proofs.lemmas.Bool.{eq-eqb, ne_eqb, ltb-true, leb-true}
 use Rattle.td_words.specs.declared.names.EntryState.TheVariants as entry
 use Rattle.td_words.specs.declared.names.PageKind.TheVariants as kind
@@ -16,7 +15,7 @@ use Rattle.flat_core.specs.Processor.{OfPage, OfTree, Held}
 use Rattle.flat_core.specs.Conditions.{is_host, children, growing_ops, page_exclusive, host_page}
 use Rattle.flat_core.specs.Lawful.{Lawful, IsAlive, is_free}
 use Rattle.flat_core.specs.Opening.{IsMachine}
-use Rattle.flat_core.specs.Tree.{entry_at, same_state, state_in}
+use Rattle.flat_core.specs.Tree.{entry_at, state_in}
 use Rattle.flat_core.specs.MemRows.{add_sept}
 use Rattle.sept_walk.specs.SecureEpt.{index_at}
 use Rattle.sept_walk.proofs.Meets.{split}
@@ -36,7 +35,7 @@ use Rattle.leaf_parts.proofs.Begun.{IsTd, page_lock, op_lock}
 use Rattle.leaf_parts.proofs.Told.{kind-shown, tdr-shown}
 use Rattle.sept_parts.specs.SeptPages.{HasEntry, HoldsTree}
 use Rattle.sept_parts.proofs.SeptLocks.{tree_held, entry-writes, count-reads, count-owes}
-use Rattle.sept_parts.proofs.SeptBegun.{state-means, row-find-means}
+use Rattle.sept_parts.proofs.SeptBegun.{row-find-means}
 use Rattle.sept_parts.proofs.Nodes.{is-free}
 use Rattle.mem_build.specs.SeptAddTrees.{sept_add_changes, sept_add_page, sept_add_rest, sept_add_task}
 use Rattle.mem_build.specs.SeptAddShows.{sept-added-shown}

@@ -1,6 +1,6 @@
 -- The words that MEM.SEPT.ADD leaves show its act: the page is cleared, its entry is stored, and it is taken and counted.
-use Rattle.std.proofs.Common.{◌≡◌, ◌⊎◌, ℕ, zero, suc, ◌+◌, ◌*◌, ◌^◌, ◌<◌, ◌≤◌, true, false, ◌==◌, ◌&&◌, [], ◌∷◌, refl, ap, sym, ◌∙◌, subst, inl, inr, arith}
-use Rattle.std.proofs.lemmas.Bool.{eq-eqb, eqb-true, ne_eqb}
+use Rattle.std.proofs.Common.{◌≡◌, ◌⊎◌, ℕ, zero, suc, ◌+◌, ◌*◌, ◌^◌, ◌<◌, ◌≤◌, true, false, ◌==◌, [], ◌∷◌, refl, ap, sym, ◌∙◌, subst, inl, inr, arith}
+use Rattle.std.proofs.lemmas.Bool.{eq-eqb, ne_eqb}
 use Rattle.td_words.specs.declared.names.EntryState.TheVariants as entry
 use Rattle.td_words.specs.declared.names.PageKind.TheVariants as kind
 use Rattle.td_words.specs.declared.machines.Machine.{Machine}
@@ -17,7 +17,7 @@ use Rattle.flat_core.specs.Event.{State}
 use Rattle.sept_walk.specs.SecureEpt.{index_at}
 use Rattle.word_rules.specs.Cells.{Shows, IsAs, page_cell, lock_word}
 use Rattle.act_rules.proofs.Respected.{host-kind}
-use Rattle.leaf_engine.specs.Changes.{Memory, Clear, changed, changed_all}
+use Rattle.leaf_engine.specs.Changes.{Memory, Put, Clear, changed, changed_all}
 use Rattle.leaf_parts.proofs.Begun.{TwoControls}
 use Rattle.sept_parts.specs.SeptPages.{HasEntry}
 use Rattle.sept_parts.proofs.SeptPut.{entry-put}
@@ -80,7 +80,7 @@ module _ (m : Machine) (s : State) (mem : Memory) (t gpa level p at : ℕ) (sh :
   s2 = record s1 { world = set_entry t level (number_at level gpa) e s1.world }
 
   abbrev words2 : WordPlace → ℕ
-  words2 = (changed_all (Rattle.leaf_engine.specs.Changes.Put (place.Word at (index_at level gpa)) (entry_word e) ∷ []) cleared).words
+  words2 = (changed (Put (place.Word at (index_at level gpa)) (entry_word e)) cleared).words
 
   sh2 : Shows m words2 mem.slots s2
   sh2 = entry-put m cleared s1 t sh1 la1 alive1 x1 gpa at level small has1 e
