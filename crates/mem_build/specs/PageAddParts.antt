@@ -1,5 +1,5 @@
 -- What the parts of MEM.PAGE.ADD tell one another.
-use Rattle.std.specs.Prelude.{◌≡◌, ◌≢◌, ℕ, ◌^◌, ◌<◌, ◌++◌, Bool, true, false, List, [], ◌∷◌, Result, Ok, Err}
+use Rattle.std.specs.Prelude.{◌≡◌, ◌≢◌, ℕ, ◌<◌, ◌++◌, Bool, true, false, List, [], ◌∷◌, Result, Ok, Err}
 use Rattle.std.specs.List.{list_any}
 use Rattle.td_words.specs.declared.names.EntryState.TheVariants as entry
 use Rattle.td_words.specs.declared.refusals.Status.TheVariants.{EptEntryStateIncorrect}
@@ -22,9 +22,9 @@ abbrev pub ComesTo : Machine → Given → List ℕ → Result Addition Stop →
 ComesTo m g told (Ok a) = feed (page_add_tree m g.tdr g.gpa g.page g.source) told ≡ addition_end m a
 ComesTo m g told (Err e) = Decides m.pages (page_add_tree m g.tdr g.gpa g.page g.source) told (Err e)
 
--- what the argument rules tell
+-- what the argument rules tell of the pages
 abbrev pub AreAllowed : Machine → Given → Type 0
-AreAllowed m g = (g.tdr < m.pages) × (g.gpa < 2 ^ 47) × (g.page < m.pages) × (g.source < m.pages) × (g.source ≢ g.page)
+AreAllowed m g = (g.tdr < m.pages) × (g.page < m.pages) × (g.source < m.pages) × (g.source ≢ g.page)
 
 -- the entry that was found is FREE
 abbrev pub is_free : Found → Bool

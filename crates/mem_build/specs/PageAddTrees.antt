@@ -50,6 +50,7 @@ page_changes pages a =
     ∷ Swap a.hkid (with_page a.gpa)
     ∷ []
 
+-- the end of the call
 abbrev pub addition_end : Machine → Addition → Tree
 addition_end m a = End (Done value.Nothing) (changes_where (is_hkid m a.hkid) (page_fills a)) (changes_where (is_hkid m a.hkid) (page_changes m.pages a))
 
@@ -91,6 +92,7 @@ td_tree pages tdr gpa page source further =
     pages_tree tdr page source (λ hkid children.
     further (record { tdr = tdr; gpa = gpa; page = page; source = source; table = table; hkid = hkid; children = children })))
 
+-- the whole tree, which a proof unfolds only where it speaks of its nodes
 unfoldable pub page_add_tree : Machine → (tdr gpa page source : ℕ) → Tree
 page_add_tree m tdr gpa page source = arguments_tree m tdr gpa page source (td_tree m.pages tdr gpa page source (λ a. addition_end m a))
 

@@ -150,7 +150,6 @@ ghost use Rattle.mem_build.specs.PageAddParts.{ComesTo, IsInside};
 
 /// The conditions of the call, and what it adds.
 fn to_add(told: Told, place: Place, given: Given) -> Result<Addition, Stop>
-    requires { IsMachine place.machine }
     ensures comes { ComesTo place.machine given told.entry.left.now result }
     ensures inside { MatchResult result (λ a. IsInside place.machine.pages a) (λ e. StopIn place.machine e) }
     ensures early { MatchResult result (λ a. Unit {0}) (λ e. StopEarly 19 (length told.entry.left.now) e) }
@@ -167,7 +166,6 @@ fn to_add(told: Told, place: Place, given: Given) -> Result<Addition, Stop>
     )
 }
 
-ghost use Rattle.std.specs.Prelude.{◌^◌};
 ghost use Rattle.mem_build.specs.PageAddParts.{AreAllowed};
 
 /// The argument rules.
