@@ -20,7 +20,6 @@ use Rattle.td_control.specs.FinalMeanings.{finalize-means}
 use Rattle.vcpu_control.specs.VpMeanings.{create-means as vp_create-means, init-means as vp_init-means}
 use Rattle.leaf_dispatch.specs.Table.{task_of}
 use Rattle.leaf_dispatch.specs.Laws.{CallsHaveLeaves}
-use Rattle.leaf_dispatch.proofs.Swaps.{swaps}
 
 pub of-place : (p : Place) (c : Call) → (task_of p c).place ≡ p
 of-place p (call.HostRead page word) = refl
@@ -79,5 +78,4 @@ calls-have-leaves o m = record {
   processor = λ p c. ap (λ (z : Place). z.lp) (of-place (record { machine = o.machine; lp = p }) c);
   row = of-row o;
   means = λ p c. means (record { machine = o.machine; lp = p }) c m;
-  swaps = λ p c. swaps (record { machine = o.machine; lp = p }) c;
 }

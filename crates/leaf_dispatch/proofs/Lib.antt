@@ -2,5 +2,4 @@ pub mod Lowering
 pub mod Turning
 pub mod Keeping
 pub mod Tries
-pub mod Swaps
 pub mod Calls

@@ -1,5 +1,5 @@
 -- What a leaf changes: words by their places, and the hashers in the slots of HKIDs.
-use Rattle.std.specs.Prelude.{ℕ, ◌+◌, ◌%◌, ◌^◌, Bool, true, false, not, ◌==◌, ◌&&◌, if◌then◌else◌, Option, List, [], ◌∷◌}
+use Rattle.std.specs.Prelude.{ℕ, ◌+◌, ◌%◌, ◌^◌, Bool, true, false, ◌==◌, ◌&&◌, if◌then◌else◌, Option, List, [], ◌∷◌}
 use Rattle.td_words.specs.Place.{WordPlace, Lock, Pamt, Word, Key}
 use Rattle.lock_words.specs.LockWords.{put_word}
 
@@ -54,12 +54,3 @@ is_plain _ = true
 abbrev pub are_plain : List Change → Bool
 are_plain [] = true
 are_plain (c ∷ cs) = is_plain c && are_plain cs
-
--- no hasher is exchanged
-abbrev pub is_swap : Change → Bool
-is_swap (Swap h made) = true
-is_swap _ = false
-
-abbrev pub has_no_swap : List Change → Bool
-has_no_swap [] = true
-has_no_swap (c ∷ cs) = not (is_swap c) && has_no_swap cs

@@ -1,11 +1,10 @@
 -- Merges of the own lists of logical processors.
-use Rattle.std.specs.Prelude.{◌≡◌, ℕ, ◌<◌, ◌≤◌, ◌==◌, true, if◌then◌else◌, None, List, [], ◌∷◌, length}
+use Rattle.std.specs.Prelude.{◌≡◌, ℕ, ◌<◌, ◌≤◌, ◌==◌, if◌then◌else◌, None, List, [], ◌∷◌, length}
 use Rattle.td_words.specs.declared.calls.Call.{Call}
 use Rattle.flat_core.specs.Opening.{Opening}
 use Rattle.flat_core.specs.Table.{row_of}
 use Rattle.flat_core.specs.Event.{calls_of}
 use Rattle.step_core.specs.Items.{Table, Taken, PlaysTo}
-use Rattle.leaf_engine.specs.Trees.{feed, swaps_as_act}
 use Rattle.leaf_engine.specs.Means.{Task, OfCall, MeansRow}
 use Rattle.leaf_engine.specs.OwnLists.{Piece, Quiet, Marked, Wordless, joined, WordLp, first_lp, OwnTurns}
 
@@ -48,14 +47,12 @@ pub record IsMerge (n : ℕ) (own : ℕ → List Piece) (is : List Item) : Type 
 abbrev pub no_table : Table
 no_table = record { words = λ n. 0; slots = λ k. None }
 
--- what each processor makes its calls by: a leaf made for it, whose row is the call's, and which means that row. A
--- hasher is exchanged by an act alone
+-- what each processor makes its calls by: a leaf made for it, whose row is the call's, and which means that row
 pub record AreLeaves (o : Opening) (leaf : ℕ → Call → Task) : Type 0 where
   pub machine : (p : ℕ) (c : Call) → (leaf p c).place.machine ≡ o.machine
   pub processor : (p : ℕ) (c : Call) → (leaf p c).place.lp ≡ p
   pub row : (p : ℕ) (c : Call) → (leaf p c).meaning ≡ OfCall (row_of o p c)
   pub means : (p : ℕ) (c : Call) → MeansRow (leaf p c)
-  pub swaps : (p : ℕ) (c : Call) (told : List ℕ) → swaps_as_act (feed (leaf p c).tree told) ≡ true
 
 -- A merge of own lists, one for each processor of a script, from the processor's first line on to where it then is, in
 -- which each load reads what the merge has stored.

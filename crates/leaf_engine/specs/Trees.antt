@@ -9,7 +9,7 @@ use Rattle.td_words.specs.Place.{WordPlace}
 use Rattle.flat_core.specs.Processor.{LockId}
 use Rattle.word_rules.specs.Rules.{View}
 use Rattle.word_rules.specs.Views.{look}
-use Rattle.leaf_engine.specs.Changes.{Change, has_no_swap}
+use Rattle.leaf_engine.specs.Changes.{Change}
 
 -- the try of a lock; a load, of which it depends on a part; a condition, with the reply where it fails; the end, with the
 -- stores before the act, and the act's first store with those after it; and the end of a leaf whose load was the act
@@ -59,12 +59,6 @@ abbrev pub changes_of : Tree → List Change
 changes_of (End r fs cs) = fs ++ cs
 changes_of (Since r cs) = cs
 changes_of _ = []
-
--- a hasher is exchanged by the act alone
-abbrev pub swaps_as_act : Tree → Bool
-swaps_as_act (End r fs (c ∷ cs)) = has_no_swap cs
-swaps_as_act (Since r cs) = has_no_swap cs
-swaps_as_act _ = true
 
 -- those that are still to be handed out
 abbrev pub left_of : Tree → ℕ → List Change

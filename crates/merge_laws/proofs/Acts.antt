@@ -1,6 +1,6 @@
 -- An act in a merge: its event's item, and the stores that are owed after it.
 use Rattle.leaf_engine.specs.Means.{IsHkid}
-use Rattle.std.proofs.Common.{◌≡◌, ℕ, ◌-◌, ◌<◌, Bool, true, false, ◌==◌, List, ◌∷◌, length, Option, Some, None, refl, ap, sym, ◌∙◌, subst}
+use Rattle.std.proofs.Common.{◌≡◌, ℕ, ◌-◌, ◌<◌, Bool, true, false, ◌==◌, List, [], ◌∷◌, length, Option, Some, None, refl, ap, sym, ◌∙◌, subst}
 use Rattle.std.proofs.lemmas.Bool.{eqb-true}
 use Rattle.td_words.specs.declared.machines.Machine.{Machine}
 use Rattle.td_words.specs.declared.calls.Call.{Call}
@@ -16,11 +16,12 @@ use Rattle.flat_core.specs.Event.{State, OfCall, next_event, lines_left, event, 
 use Rattle.word_rules.specs.Guards.{Grip}
 use Rattle.word_rules.specs.Rules.{Grade}
 use Rattle.word_rules.specs.Views.{look}
-use Rattle.word_rules.specs.Permissions.{Owes, Writes, Respects}
+use Rattle.word_rules.specs.Cells.{IsAs, hasher_cell}
+use Rattle.word_rules.specs.Permissions.{Owes, Writes, SwapsAct, Respects}
 use Rattle.step_core.specs.Items.{Table}
 use Rattle.leaf_engine.specs.declared.events.RunTurn.{RunTurn}
 use Rattle.leaf_engine.specs.declared.events.Stage.TheVariants as stages
-use Rattle.leaf_engine.specs.Changes.{Memory}
+use Rattle.leaf_engine.specs.Changes.{Hand, Memory}
 use Rattle.leaf_engine.specs.Trees.{Tree}
 use Rattle.leaf_engine.specs.Decides.{IsHand}
 use Rattle.leaf_engine.specs.Tables.{IsMemory}
@@ -29,14 +30,16 @@ use Rattle.leaf_engine.specs.Shown.{EndsRow}
 use Rattle.leaf_engine.specs.Calls.{After}
 use Rattle.leaf_engine.specs.OwnLists.{after_turn}
 use Rattle.leaf_engine.proofs.Turning.{instant, ends}
-use Rattle.merge_laws.proofs.Virtual.{table_of, holds-memory}
+use Rattle.merge_laws.proofs.Virtual.{hasher_for, is-measured, table_of, holds-memory}
 use Rattle.merge_laws.proofs.Stores.{Due, last_at, or_else, laid, laid-one, laid-none, laid-same, last-each, EachDue, OwesAt, FillsAt}
+use Rattle.merge_laws.proofs.Swaps.{SwapDue, last_put, SwapsMay}
 use Rattle.merge_laws.proofs.Keeping.{Keeps, keeps-each, keeps-same}
-use Rattle.merge_laws.proofs.Holding.{bare}
+use Rattle.merge_laws.proofs.Holding.{bare, turned-round}
 use Rattle.merge_laws.proofs.Standing.{Laws, leaf_for, AreTrees, Known, RunsAt, on_table, Position, back, Stands}
 use Rattle.merge_laws.proofs.Others.{shown-of}
-use Rattle.merge_laws.proofs.Own.{AttemptTdr, tdrs-after, stands-after, world-of-event, at-own, at-other, Spares, gathered, none-due}
-use Rattle.merge_laws.proofs.LockSteps.{engine, turned-round, Moved}
+use Rattle.merge_laws.proofs.SlotSteps.{slots-event}
+use Rattle.merge_laws.proofs.Own.{AttemptTdr, tdrs-after, with_hasher, stands-after, world-of-event, at-own, at-other, Spares, gathered, none-due}
+use Rattle.merge_laws.proofs.LockSteps.{engine, Moved}
 
 -- a refusal, or the act that succeeds
 abbrev pub IsAct : Move Reply → Type 0
@@ -48,19 +51,24 @@ abbrev pub CanWrite : Grip → World → WordPlace → Type 0
 CanWrite g w q = (k : Grade) × Writes g w q k
 
 -- the event of a turn that is its act: what was filled before, what its item stores, and what is owed then
-pub record OneAct (o : Opening) (trees : ℕ → Call → Tree) (s : State) (mem : Memory) (t t' : Table) (pos : ℕ → Position) (p : ℕ) (c : Call) (told : List ℕ) (run run' : Standing) (result : RunTurn) : Type 0 where
+pub record OneAct (o : Opening) (trees : ℕ → Call → Tree) (s : State) (mem : Memory) (t t' : Table) (pos : ℕ → Position) (p : ℕ) (c : Call) (told : List ℕ) (run run' : Standing) (result : RunTurn) (slots_now : ℕ → Hand) : Type 0 where
   pub move : Move Reply
   pub is_act : IsAct move
   pub next : next_event o s p ≡ Some (OfCall (row_of o p c) move)
   pub after : Memory
-  pub hand_is : IsHand run'.hasher after.hand
-  pub slots : (h : ℕ) → IsHkid o.machine h → IsHand (t'.slots (h - 1)) (after.slots h)
-  pub ends : (u : Table) → IsMemory o.machine u run'.hasher after → EndsRow (leaf_for o trees p c) (instant (leaf_for o trees p c) s mem) told u run run'
+  pub hashers : (h : ℕ) → IsAs (hasher_cell (call_world (row_of o p c) move s.world) h) (after.slots h)
+  pub ends : (u : Table) (h : Option Measure) → IsMemory o.machine u h after → EndsRow (leaf_for o trees p c) (instant (leaf_for o trees p c) s mem) told u run (with_hasher run' h)
   pub answered : run'.stage ≡ stages.Trying → ⊥
   pub reply : result.reply ≡ last_reply run'.stage run'.held
   pub filled : List Due
   pub first : List Due
   pub owes : List Due
+  pub put : List SwapDue
+  pub swaps : List SwapDue
+  pub slots_there : (h : ℕ) → IsHkid o.machine h → IsHand (t'.slots (h - 1)) (or_else (last_put put h) (slots_now h))
+  pub slots_makes : (h : ℕ) → IsHkid o.machine h → after.slots h ≡ or_else (last_put swaps h) (or_else (last_put put h) (mem.slots h))
+  pub slots_written : (h : ℕ) (x : Hand) → last_put put h ≡ Some x → SwapsAct (bare (s.lps p).call.held) s.world h
+  pub slots_may : SwapsMay o.machine (bare (s.lps p).call.held) (call_world (row_of o p c) move s.world) (λ h. or_else (last_put put h) (mem.slots h)) swaps
   pub spares : Spares o.machine s p (call_world (row_of o p c) move s.world) mem.words after.words (on_table o.machine t) (on_table o.machine t')
   pub makes : (r : WordPlace) → IsIn o.machine r → after.words r ≡ or_else (last_at owes r) (or_else (last_at first r) (or_else (last_at filled r) (mem.words r)))
   pub written : EachDue (CanWrite (bare (s.lps p).call.held) s.world) first
@@ -75,10 +83,10 @@ same-memory : (m : Machine) (u : Table) (h : Option Measure) (a b : Memory) → 
 same-memory m u h a b x y r i = sym (x.words r i) ∙ y.words r i
 
 pub act-step : (ls : Laws) (o : Opening) (trees : ℕ → Call → Tree) (s : State) (mem : Memory) (t t' : Table) (pos : ℕ → Position) (p : ℕ) (c : Call) (cs : List Call) (rs : List Reply) (run run' : Standing) (result : RunTurn)
-    → AreTrees o trees → Known o s → Stands o trees s mem t pos → p < length o.calls → lines_left o p (s.lps p) ≡ c ∷ cs → (s.lps p).replies ≡ rs
-    → (ra : RunsAt o (leaf_for o trees p c) (row_of o p c) s.world mem.words (s.lps p) run) → (e : run.stage ≡ stages.Trying) → (one : OneAct o trees s mem t t' pos p c (ra.call.told e).told run run' result)
-    → Moved o trees (event o s p) t' (put pos p (record { at = after_turn c cs rs run' result.reply; owes = one.owes; fill = None }))
-act-step ls o trees s mem t t' pos p c cs rs run run' result are known sd i lines replies ra e one =
+    → AreTrees o trees → Known o s → (sd : Stands o trees s mem t pos) → p < length o.calls → (pos p).swaps ≡ [] → lines_left o p (s.lps p) ≡ c ∷ cs → (s.lps p).replies ≡ rs
+    → (ra : RunsAt o (leaf_for o trees p c) (row_of o p c) s.world mem.words (s.lps p) run) → (e : run.stage ≡ stages.Trying) → (one : OneAct o trees s mem t t' pos p c (ra.call.told e).told run run' result sd.slots.now)
+    → Moved o trees (event o s p) t' (put pos p (record { at = after_turn c cs rs run' result.reply; owes = one.owes; swaps = one.swaps; fill = None }))
+act-step ls o trees s mem t t' pos p c cs rs run run' result are known sd i no-swaps lines replies ra e one =
     record {
       memory = mem';
       stands = gathered ls o trees s mem mem' t t' pos p now are known sd i
@@ -88,9 +96,18 @@ act-step ls o trees s mem t t' pos p c cs rs run run' result are known sd i line
             still = one.spares.still;
             filled = λ hs r apart in_r fills. (let sp = one.spares.filled hs r apart in_r fills in (sp.0, made-is r in_r ∙ sp.1));
           })
-          made.shown refl made.memory.slots
+          (record { word = made.shown.word; hasher = λ h. subst (λ (w : World). IsAs (hasher_cell w h) (one.after.slots h)) (sym world) (one.hashers h) }) refl
+          (slots-event ls o trees s mem t t'.slots pos p one.after.slots one.put now known sd i no-swaps
           (record {
-            stands = stands-after o trees p c cs (s.lps p) (event o s p) uV run' result.reply lines made (record { hand = one.after.hand; is = one.hand_is; trying = λ z. absurd (one.answered z) })
+            respects = subst (λ (w : World). Respects (bare (s.lps p).call.held) s.world w) (sym world) one.spares.respects;
+            there = one.slots_there;
+            makes = one.slots_makes;
+            written = one.slots_written;
+            may = subst (λ (w : World). SwapsMay m (bare (s.lps p).call.held) w (λ h. or_else (last_put one.put h) (mem.slots h)) one.swaps) (sym world) one.slots_may;
+            held = λ x. subst (λ (hs : List Held). SwapsMay m (bare hs) (event o s p).world (λ h. or_else (last_put one.put h) (sd.slots.now h)) one.swaps) (sym one.held_or_none) x;
+          }))
+          (record {
+            stands = stands-after o trees p c cs (s.lps p) (event o s p) uV run' (hasher_for one.after.hand) result.reply lines made (λ z. absurd (one.answered z))
                 (tdrs-after o s p (row_of o p c) one.move one.next (are.means p c).enters_none ra.tdrs (no-attempt one.move one.is_act) (no-rest one.move one.is_act) (no-release one.move one.is_act)) rs replies;
             due =
                 subst (λ (w : World). Keeps m (bare ((event o s p).lps p).call.held) w (on_table m t') one.owes) (sym world)
@@ -105,25 +122,25 @@ act-step ls o trees s mem t t' pos p c cs rs run run' result are known sd i line
     m = o.machine
 
     now : Position
-    now = record { at = after_turn c cs rs run' result.reply; owes = one.owes; fill = None }
+    now = record { at = after_turn c cs rs run' result.reply; owes = one.owes; swaps = one.swaps; fill = None }
 
     uV : Table
-    uV = table_of m t'.slots one.after.words
+    uV = table_of m one.after.slots one.after.words
 
-    holds : IsMemory m uV run'.hasher one.after
-    holds = holds-memory m t'.slots run'.hasher one.after one.slots one.hand_is
+    holds : IsMemory m uV (hasher_for one.after.hand) one.after
+    holds = holds-memory m (hasher_for one.after.hand) one.after (is-measured one.after.hand)
 
-    made : After o (leaf_for o trees p c) (row_of o p c) (s.lps p).replies (event o s p) uV run' result.reply
+    made : After o (leaf_for o trees p c) (row_of o p c) (s.lps p).replies (event o s p) uV (with_hasher run' (hasher_for one.after.hand)) result.reply
     made =
-        ends (engine ls) o (leaf_for o trees p c) (row_of o p c) s mem (table_of m t.slots mem.words) uV run run' result (are.means p c) refl
-        (shown-of o trees s mem t pos p c run known sd i (ra.hand.trying e)) ra.call e
-        (one.ends uV holds) one.reply
+        ends (engine ls) o (leaf_for o trees p c) (row_of o p c) s mem (table_of m mem.slots mem.words) uV run (with_hasher run' (hasher_for one.after.hand)) result (are.means p c) refl
+        (shown-of o trees s mem t pos p c run known sd i (ra.trying e)) ra.call e
+        (one.ends uV (hasher_for one.after.hand) holds) one.reply
 
     mem' : Memory
-    mem' = record (made.mem) { hand = None }
+    mem' = record { words = made.mem.words; slots = one.after.slots; hand = None }
 
     made-is : (r : WordPlace) → IsIn m r → made.mem.words r ≡ one.after.words r
-    made-is r in_r = same-memory m uV run'.hasher made.mem one.after made.memory holds r in_r
+    made-is r in_r = same-memory m uV (hasher_for one.after.hand) made.mem one.after made.memory holds r in_r
 
     world : (event o s p).world ≡ call_world (row_of o p c) one.move s.world
     world = world-of-event o s p (row_of o p c) one.move one.next

@@ -16,7 +16,7 @@ use Rattle.flat_core.specs.Table.{row_of}
 use Rattle.flat_core.specs.Event.{State, event}
 use Rattle.word_rules.specs.Guards.{Grip}
 use Rattle.word_rules.specs.Rules.{Grade}
-use Rattle.word_rules.specs.Permissions.{Writes}
+use Rattle.word_rules.specs.Permissions.{Writes, SwapsAct}
 use Rattle.lock_words.specs.LockWords.{put_word}
 use Rattle.step_core.specs.declared.steps.WordStep.{WordStep}
 use Rattle.step_core.specs.declared.steps.WordStep.TheVariants as step
@@ -30,22 +30,25 @@ use Rattle.leaf_engine.specs.Changes.{Memory, Change, Put, PutHash, Raise, Clear
 use Rattle.leaf_engine.specs.Trees.{Tree, Lock, Load, Test, End, Since, feed}
 use Rattle.leaf_engine.specs.Means.{Task, Instant, work_of, hold, MayAct, MayFillAll, MayOweAll, IsHkid}
 use Rattle.leaf_engine.specs.Items.{IsWritten, IsChanged}
-use Rattle.leaf_engine.specs.Turns.{Standing}
+use Rattle.leaf_engine.specs.Turns.{Standing, last_reply}
 use Rattle.leaf_engine.specs.Follows.{granted, Comes}
 use Rattle.leaf_engine.specs.OwnLists.{Piece, Quiet, joined, WordLp, after_turn, OwnTurns}
 use Rattle.leaf_engine.proofs.Following.{leaves-follow-rows}
 use Rattle.leaf_engine.proofs.Turning.{instant, at-instant}
 use Rattle.leaf_engine.proofs.Changing.{word_put, slot_put}
 use Rattle.merge_laws.proofs.Virtual.{table_of}
-use Rattle.merge_laws.proofs.Stores.{Due, last_at, or_else, laid-none, stores_of, all_stores, AreStores, changed-is, or-test}
-use Rattle.merge_laws.proofs.Holding.{bare}
+use Rattle.merge_laws.proofs.Stores.{Due, last_at, or_else, laid-none, stores_of, all_stores, changed-is, or-test}
+use Rattle.merge_laws.proofs.Swaps.{SwapDue, last_put, swaps_of}
+use Rattle.merge_laws.proofs.Owing.{Owed, stores_in, swaps_in, AreOwed, all_owed, stores-are, swaps-are}
+use Rattle.merge_laws.proofs.SlotSteps.{slot-shown}
+use Rattle.merge_laws.proofs.Holding.{bare, turned-round}
 use Rattle.merge_laws.proofs.Standing.{Laws, leaf_for, on_table, Position, back, Rest}
 use Rattle.merge_laws.proofs.Others.{shown-of, hold-is}
 use Rattle.merge_laws.proofs.Own.{none-due}
-use Rattle.merge_laws.proofs.LockSteps.{turned-round, Moved}
+use Rattle.merge_laws.proofs.LockSteps.{Moved}
 use Rattle.merge_laws.proofs.Acts.{act-step}
-use Rattle.merge_laws.proofs.Ending.{AtEnd, filled_of, first_of, owes_of, after_of, HasFilled, one-act}
-use Rattle.merge_laws.proofs.LockPieces.{AtTurn}
+use Rattle.merge_laws.proofs.Ending.{AtEnd, filled_of, first_of, owes_of, puts_of, swaps_left, HasFilled, one-act}
+use Rattle.merge_laws.proofs.LockPieces.{AtTurn, in-hand-after}
 
 -- what it may change
 abbrev pub EndMay : Machine → Grip → (before after : World) → Memory → Tree → Type 0
@@ -58,7 +61,7 @@ pub end-may : (o : Opening) (trees : ℕ → Call → Tree) (s : State) (mem : M
     → (a : AtTurn o trees s mem t pos p c cs run) → (st : run.stage ≡ stages.Trying) → AtEnd o trees s mem p c (a.runs.call.told st).told now reply run run' result
     → EndMay o.machine (bare (s.lps p).call.held) s.world ((row_of o p c).act s.world) mem (feed (trees p c) now)
 end-may o trees s mem t pos p c cs now reply run run' result a st en =
-    by (feed (trees p c) now) (leaves-follow-rows task inst now (a.are.means p c) (at-instant o task (row_of o p c) s mem (table_of m t.slots mem.words) run refl (shown-of o trees s mem t pos p c run a.known a.all a.inside (a.runs.hand.trying st)) a.runs.call st) en.current)
+    by (feed (trees p c) now) (leaves-follow-rows task inst now (a.are.means p c) (at-instant o task (row_of o p c) s mem (table_of m mem.slots mem.words) run refl (shown-of o trees s mem t pos p c run a.known a.all a.inside (a.hand.trying st)) a.runs.call st) en.current)
   where
     m : Machine
     m = o.machine
@@ -98,17 +101,49 @@ end-may o trees s mem t pos p c cs now reply run run' result a st en =
 pub end-moved : (ls : Laws) (o : Opening) (trees : ℕ → Call → Tree) (s : State) (mem : Memory) (t t' : Table) (pos : ℕ → Position) (p : ℕ) (c : Call) (cs : List Call) (now : List ℕ) (reply : Reply) (run run' : Standing) (result : RunTurn)
     → (a : AtTurn o trees s mem t pos p c cs run) → (st : run.stage ≡ stages.Trying) → AtEnd o trees s mem p c (a.runs.call.told st).told now reply run run' result → HasFilled o t pos p mem (filled_of (feed (trees p c) now) mem)
     → ((r : WordPlace) → IsIn o.machine r → t'.words (address o.machine.pages r) ≡ or_else (last_at (first_of (feed (trees p c) now) mem) r) (t.words (address o.machine.pages r)))
-    → IsHand run'.hasher (after_of (feed (trees p c) now) mem).hand → ((h : ℕ) → IsHkid o.machine h → IsHand (t'.slots (h - 1)) ((after_of (feed (trees p c) now) mem).slots h))
-    → Moved o trees (event o s p) t' (put pos p (record { at = after_turn c cs (pos p).at.replies run' result.reply; owes = owes_of (feed (trees p c) now) mem; fill = None }))
-end-moved ls o trees s mem t t' pos p c cs now reply run run' result a st en has table hand slots =
-    let one = one-act ls o trees s mem t t' pos p c now reply run run' result a.are a.known a.all a.inside (a.runs.hand.trying st) a.runs.call st en has table hand slots in
-    let moved = act-step ls o trees s mem t t' pos p c cs (pos p).at.replies run run' result a.are a.known a.all a.inside a.lines a.replies a.runs st one.0 in
-    subst (λ (ds : List Due). Moved o trees (event o s p) t' (put pos p (record { at = after_turn c cs (pos p).at.replies run' result.reply; owes = ds; fill = None }))) one.1 moved
+    → ((h : ℕ) → IsHkid o.machine h → IsHand (t'.slots (h - 1)) (or_else (last_put (puts_of (feed (trees p c) now) mem) h) (a.all.slots.now h)))
+    → Moved o trees (event o s p) t' (put pos p (record { at = after_turn c cs (pos p).at.replies run' result.reply; owes = owes_of (feed (trees p c) now) mem; swaps = swaps_left (feed (trees p c) now) mem; fill = None }))
+end-moved ls o trees s mem t t' pos p c cs now reply run run' result a st en has table slots =
+    let one = one-act ls o trees s mem t t' pos p c now reply run run' result a.are a.known a.all a.inside (a.hand.trying st) a.runs.call st en has table slots in
+    let moved = act-step ls o trees s mem t t' pos p c cs (pos p).at.replies run run' result a.are a.known a.all a.inside a.no_swaps a.lines a.replies a.runs st one.0 in
+    subst (λ (es : List SwapDue). Moved o trees (event o s p) t' (put pos p (record { at = after_turn c cs (pos p).at.replies run' result.reply; owes = owes_of (feed (trees p c) now) mem; swaps = es; fill = None }))) one.2
+    (subst (λ (ds : List Due). Moved o trees (event o s p) t' (put pos p (record { at = after_turn c cs (pos p).at.replies run' result.reply; owes = ds; swaps = one.0.swaps; fill = None }))) one.1 moved)
 
 -- with the items that are left of the turn
-pub rest-owed : (o : Opening) (trees : ℕ → Call → Tree) (p : ℕ) (at : WordLp) (stores : List Taken) (owes : List Due) (tps : List (List Piece)) (end_ : WordLp) → AreStores o.machine.pages stores owes → OwnTurns (leaf_for o trees p) o.machine at tps end_
-    → Rest o trees p at owes (map Quiet stores ++ joined tps) end_
-rest-owed o trees p at stores owes tps end_ are own = record { stores = stores; turns = tps; are = are; pieces = refl; own = own }
+abbrev pub left_at : Tree → Memory → List Owed
+left_at (End r fs []) mem = []
+left_at (End r fs (c ∷ cs)) mem = all_owed cs (changed c (changed_all fs mem))
+left_at (Since r cs) mem = all_owed cs mem
+left_at _ mem = []
+
+ends-left : (tree : Tree) (mem : Memory) → (owes_of tree mem ≡ stores_in (left_at tree mem)) × (swaps_left tree mem ≡ swaps_in (left_at tree mem))
+ends-left (Lock l q m t) mem = (refl, refl)
+ends-left (Load v q k) mem = (refl, refl)
+ends-left (Test b r t) mem = (refl, refl)
+ends-left (End r fs []) mem = (refl, refl)
+ends-left (End r fs (c ∷ cs)) mem = (sym (stores-are cs (changed c (changed_all fs mem))), sym (swaps-are cs (changed c (changed_all fs mem))))
+ends-left (Since r cs) mem = (sym (stores-are cs mem), sym (swaps-are cs mem))
+
+pub rest-owed : (o : Opening) (trees : ℕ → Call → Tree) (p : ℕ) (c : Call) (cs : List Call) (rs : List Reply) (run' : Standing) (tree ended : Tree) (mem : Memory) (items : List Taken) (hasher last : Option Measure) (hand : Hand) (tps : List (List Piece)) (end_ : WordLp)
+    → tree ≡ ended → IsHand hasher hand → AreOwed o.machine.pages hasher hand items (left_at ended mem) last → run'.hasher ≡ last → OwnTurns (leaf_for o trees p) o.machine (after_turn c cs rs run' (last_reply run'.stage run'.held)) tps end_
+    → Rest o trees p (after_turn c cs rs run' (last_reply run'.stage run'.held)) (owes_of tree mem) (swaps_left tree mem) (map Quiet items ++ joined tps) end_
+rest-owed o trees p c cs rs run' tree ended mem items hasher last hand tps end_ is in_hand are last_is own =
+    let left = ends-left ended mem in
+    record {
+      owed = left_at ended mem;
+      owes_are = ap (λ (z : Tree). owes_of z mem) is ∙ left.0;
+      swaps_are = ap (λ (z : Tree). swaps_left z mem) is ∙ left.1;
+      hasher = hasher;
+      hand = hand;
+      in_hand = in_hand;
+      items = items;
+      last = last;
+      are = are;
+      last_is = in-hand-after c cs rs run' (last_reply run'.stage run'.held) last last_is;
+      turns = tps;
+      pieces = refl;
+      own = own;
+    }
 
 -- an act's first item
 
@@ -149,43 +184,39 @@ act-item m g w mem (Swap k made) xs h h' may ch i = by (subst (λ (z : Write). I
     by (inl e) = record { taken = Swapped (k - 1) ch.between h'; items = e; is = (refl, handed.1, refl, may.0) }
     by (inr e) = record { taken = Missed (k - 1); items = e.1; is = tt }
 
--- the hasher in hand and those in slots after it
-pub act-rest : (m : Machine) (mem : Memory) (t : Table) (c : Change) (taken : Taken) (h' : Option Measure) → IsActTaken m mem c taken h' → Answers t taken → ((k : ℕ) → IsHkid m k → IsHand (t.slots (k - 1)) (mem.slots k))
-    → IsHand h' (changed c mem).hand × ((k : ℕ) → IsHkid m k → IsHand ((taken_after t taken).slots (k - 1)) ((changed c mem).slots k))
-act-rest m mem t (Put q x) (Stepped s a) h' is an slots = (is.1, slots)
-act-rest m mem t (PutHash q x) (Stepped s a) h' is an slots = (is.1, slots)
-act-rest m mem t (Raise q) (Stepped s a) h' is an slots = (is.1, slots)
-act-rest m mem t (Swap k made) (Swapped slot put taken) h' is an slots = (
-  subst (λ (z : Option Measure). IsHand z (mem.slots k)) (sym (ap t.slots is.0) ∙ (sym an ∙ is.2)) (slots k is.3),
-  slot_put m t.slots (with_slot t.slots slot put) mem.slots k put (made mem.hand) is.3 (ap (λ (z : ℕ). with_slot t.slots z put) is.0) is.1 slots,
+-- where it may swap by its act, a slot of the table is as it is shown
+pub slot-seen : (ls : Laws) (o : Opening) (trees : ℕ → Call → Tree) (s : State) (mem : Memory) (t : Table) (pos : ℕ → Position) (p : ℕ) (c : Call) (cs : List Call) (run : Standing) (slots : ℕ → Hand) → AtTurn o trees s mem t pos p c cs run → slots ≡ mem.slots
+    → (k : ℕ) → IsHkid o.machine k → SwapsAct (bare (s.lps p).call.held) s.world k → IsHand (t.slots (k - 1)) (slots k)
+slot-seen ls o trees s mem t pos p c cs run slots a same k in_k may =
+    subst (λ (x : Hand). IsHand (t.slots (k - 1)) x)
+    (sym (ap (λ (f : ℕ → Hand). f k) same
+    ∙ slot-shown ls o trees s mem t pos p k a.known a.all a.inside a.no_swaps in_k
+    (λ j apart owes. (ls.words (bare (s.lps p).call.held) (bare (s.lps j).call.held) s.world (turned-round (bare (s.lps j).call.held) (bare (s.lps p).call.held) apart)).swaps_owed k may owes)))
+    (a.all.slots.there k in_k)
+
+-- the hasher in hand after it, and the slots
+pub act-rest : (m : Machine) (g : Grip) (w : World) (mem : Memory) (t : Table) (c : Change) (taken : Taken) (h' : Option Measure) (now : ℕ → Hand) → MayAct m g w mem c → IsActTaken m mem c taken h' → Answers t taken
+    → ((k : ℕ) → IsHkid m k → SwapsAct g w k → IsHand (t.slots (k - 1)) (mem.slots k)) → ((k : ℕ) → IsHkid m k → IsHand (t.slots (k - 1)) (now k))
+    → IsHand h' (changed c mem).hand × ((k : ℕ) → IsHkid m k → IsHand ((taken_after t taken).slots (k - 1)) (or_else (last_put (swaps_of c mem) k) (now k)))
+act-rest m g w mem t (Put q x) (Stepped s a) h' now may is an seen there = (is.1, there)
+act-rest m g w mem t (PutHash q x) (Stepped s a) h' now may is an seen there = (is.1, there)
+act-rest m g w mem t (Raise q) (Stepped s a) h' now may is an seen there = (is.1, there)
+act-rest m g w mem t (Swap j made) (Swapped slot put taken) h' now may is an seen there = (
+  subst (λ (z : Option Measure). IsHand z (mem.slots j)) (sym (ap t.slots is.0) ∙ (sym an ∙ is.2)) (seen j is.3 may.1),
+  λ k in_k.
+      subst (λ (x : Hand). IsHand (with_slot t.slots slot put (k - 1)) x) (or-test (k == j) (made mem.hand) (now k))
+      (slot_put m t.slots (with_slot t.slots slot put) now j put (made mem.hand) is.3 (ap (λ (z : ℕ). with_slot t.slots z put) is.0) is.1 there k in_k),
 )
-act-rest m mem t (Swap k made) (Missed slot) h' is an slots = absurd an
-act-rest m mem t (Swap k made) (Stepped s a) h' is an slots = absurd is
-act-rest m mem t (Put q x) (Swapped slot put taken) h' is an slots = absurd is
-act-rest m mem t (Put q x) (Missed slot) h' is an slots = absurd is
-act-rest m mem t (PutHash q x) (Swapped slot put taken) h' is an slots = absurd is
-act-rest m mem t (PutHash q x) (Missed slot) h' is an slots = absurd is
-act-rest m mem t (Raise q) (Swapped slot put taken) h' is an slots = absurd is
-act-rest m mem t (Raise q) (Missed slot) h' is an slots = absurd is
-act-rest m mem t (Clear q) (Stepped s a) h' is an slots = absurd is
-act-rest m mem t (Clear q) (Swapped slot put taken) h' is an slots = absurd is
-act-rest m mem t (Clear q) (Missed slot) h' is an slots = absurd is
-act-rest m mem t (Copy q r) (Stepped s a) h' is an slots = absurd is
-act-rest m mem t (Copy q r) (Swapped slot put taken) h' is an slots = absurd is
-act-rest m mem t (Copy q r) (Missed slot) h' is an slots = absurd is
-
--- fills leave both
-pub fills-rest : (m : Machine) (g : Grip) (w : World) (fs : List Change) (mem : Memory) → MayFillAll m g w fs → ((changed_all fs mem).slots ≡ mem.slots) × ((changed_all fs mem).hand ≡ mem.hand)
-fills-rest m g w [] mem may = (refl, refl)
-fills-rest m g w (Put q x ∷ fs) mem may = fills-rest m g w fs (changed (Put q x) mem) may.1
-fills-rest m g w (Clear p ∷ fs) mem may = fills-rest m g w fs (changed (Clear p) mem) may.1
-fills-rest m g w (Copy p q ∷ fs) mem may = fills-rest m g w fs (changed (Copy p q) mem) may.1
-fills-rest m g w (PutHash q x ∷ fs) mem may = absurd may.0
-fills-rest m g w (Raise q ∷ fs) mem may = absurd may.0
-fills-rest m g w (Swap k made ∷ fs) mem may = absurd may.0
-
-pub slots-as : (m : Machine) (t : ℕ → Option Measure) (x y : ℕ → Hand) → x ≡ y → ((k : ℕ) → IsHkid m k → IsHand (t (k - 1)) (y k)) → (k : ℕ) → IsHkid m k → IsHand (t (k - 1)) (x k)
-slots-as m t x y e h k i = subst (λ (f : ℕ → Hand). IsHand (t (k - 1)) (f k)) (sym e) (h k i)
+act-rest m g w mem t (Swap j made) (Missed slot) h' now may is an seen there = absurd an
+act-rest m g w mem t (Swap j made) (Stepped s a) h' now may is an seen there = absurd is
+act-rest m g w mem t (Put q x) (Swapped slot put taken) h' now may is an seen there = absurd is
+act-rest m g w mem t (Put q x) (Missed slot) h' now may is an seen there = absurd is
+act-rest m g w mem t (PutHash q x) (Swapped slot put taken) h' now may is an seen there = absurd is
+act-rest m g w mem t (PutHash q x) (Missed slot) h' now may is an seen there = absurd is
+act-rest m g w mem t (Raise q) (Swapped slot put taken) h' now may is an seen there = absurd is
+act-rest m g w mem t (Raise q) (Missed slot) h' now may is an seen there = absurd is
+act-rest m g w mem t (Clear q) taken h' now may is an seen there = absurd may
+act-rest m g w mem t (Copy q r) taken h' now may is an seen there = absurd may
 
 pub hand-as : (h k : Option Measure) (x y : Hand) → h ≡ k → x ≡ y → IsHand k y → IsHand h x
 hand-as h k x y e f i = subst (λ (z : Option Measure). IsHand z x) (sym e) (subst (λ (z : Hand). IsHand k z) (sym f) i)

@@ -1,5 +1,7 @@
 -- How a leaf's tree ends: the refusal, or the act, with what its first item stores and what is owed then.
-use Rattle.std.proofs.Common.{◌≡◌, ℕ, ◌+◌, ◌%◌, ◌^◌, ◌<◌, Bool, true, false, ◌&&◌, List, [], ◌∷◌, length, Option, Some, None, refl, ap, sym, ◌∙◌, subst, inl, inr, ◌-◌}
+use Rattle.std.proofs.lemmas.Bool.{eqb-true}
+use Rattle.mrtd_measure.specs.declared.measures.Measure.{Measure}
+use Rattle.std.proofs.Common.{◌==◌, ◌≡◌, ℕ, ◌+◌, ◌%◌, ◌^◌, ◌<◌, Bool, true, false, List, [], ◌∷◌, length, Option, Some, None, refl, ap, sym, ◌∙◌, subst, inl, inr, ◌-◌}
 use Rattle.td_words.specs.declared.machines.Machine.{Machine}
 use Rattle.td_words.specs.declared.calls.Call.{Call}
 use Rattle.td_words.specs.declared.replies.Reply.{Reply}
@@ -13,14 +15,14 @@ use Rattle.flat_core.specs.Event.{State, OfCall, next_event, event, call_lp, set
 use Rattle.word_rules.specs.Guards.{Apart, Grip}
 use Rattle.word_rules.specs.Rules.{View, Grade, KeepsNothing}
 use Rattle.word_rules.specs.Views.{look}
-use Rattle.word_rules.specs.Permissions.{Reads, Owes, Fills, Respects}
+use Rattle.word_rules.specs.Permissions.{Reads, Owes, Fills, SwapsAct, Respects}
 use Rattle.word_rules.specs.Cells.{Shows}
 use Rattle.step_core.specs.Items.{Table}
 use Rattle.leaf_engine.specs.declared.events.RunTurn.{RunTurn}
 use Rattle.leaf_engine.specs.declared.events.Stage.TheVariants as stages
 use Rattle.leaf_engine.specs.declared.needs.Need.TheVariants as need
-use Rattle.leaf_engine.specs.Changes.{Memory, Change, Put, PutHash, Raise, Clear, Copy, Swap, changed, changed_all, has_no_swap}
-use Rattle.leaf_engine.specs.Trees.{Tree, Lock, Load, Test, End, Since, feed, swaps_as_act}
+use Rattle.leaf_engine.specs.Changes.{Hand, Memory, Change, Put, PutHash, Raise, Clear, Copy, Swap, changed, changed_all}
+use Rattle.leaf_engine.specs.Trees.{Tree, Lock, Load, Test, End, Since, feed}
 use Rattle.leaf_engine.specs.Means.{Task, Instant, Work, IsAt, work_of, hold, Acts, MayAct, MayFillAll, MayChange, MayOweAll, acted, LocksStay, IsHkid}
 use Rattle.leaf_engine.specs.Decides.{Gives, IsHand}
 use Rattle.leaf_engine.specs.Tables.{IsMemory}
@@ -32,12 +34,12 @@ use Rattle.leaf_engine.proofs.Following.{leaves-follow-rows}
 use Rattle.leaf_engine.proofs.Turning.{instant, at-instant, due-is}
 use Rattle.merge_laws.proofs.Virtual.{table_of}
 use Rattle.merge_laws.proofs.Stores.{Due, last_at, later, or_else, stores_of, all_stores, EachDue, OwesAt, FillsAt, last-each, last-append, or-later, changed-is, one-is, filled-stores, looks-owed, looks-filled}
+use Rattle.merge_laws.proofs.Swaps.{SwapDue, last_put, swaps_of, all_swaps, SwapsMay, swaps-same, one-slot, changed-slots, owed-swaps}
 use Rattle.merge_laws.proofs.Keeping.{Keeps, keeps-each, keeps-same, owed-keeps}
-use Rattle.merge_laws.proofs.Holding.{bare}
+use Rattle.merge_laws.proofs.Holding.{bare, turned-round}
 use Rattle.merge_laws.proofs.Standing.{Laws, leaf_for, AreTrees, Known, on_table, Position, back, Stands}
 use Rattle.merge_laws.proofs.Others.{shown-of, hold-is}
-use Rattle.merge_laws.proofs.Own.{lp-of-event}
-use Rattle.merge_laws.proofs.LockSteps.{turned-round}
+use Rattle.merge_laws.proofs.Own.{lp-of-event, with_hasher}
 use Rattle.merge_laws.proofs.Acts.{IsAct, CanWrite, OneAct}
 
 -- what the first item of an act stores, and what is owed then
@@ -68,14 +70,6 @@ act-held o s p row mv e none a =
     by (Releases h) a = absurd a
     by Rests a = absurd a
 
-and-first : (a b : Bool) → (a && b) ≡ true → a ≡ true
-and-first true b h = refl
-and-first false b h = cc
-
-and-second : (a b : Bool) → (a && b) ≡ true → b ≡ true
-and-second true b h = h
-and-second false b h = cc
-
 -- a store that is the act leaves what others have read
 act-looks : (ls : Laws) (m : Machine) (g h : Grip) (w : World) (mem : Memory) (c : Change) (r : WordPlace) (v : View) → Apart g h → MayAct m h w mem c → Reads g w r v
     → look v ((changed c mem).words r) ≡ look v (mem.words r)
@@ -86,10 +80,10 @@ act-looks ls m g h w mem (Clear p) r v a may rd = absurd may
 act-looks ls m g h w mem (Copy p q) r v a may rd = absurd may
 act-looks ls m g h w mem (Swap k made) r v a may rd = refl
 
-owed-looks : (ls : Laws) (m : Machine) (g h : Grip) (w w' : World) (mem : Memory) (cs : List Change) (r : WordPlace) (v : View) → Apart g h → Respects h w w' → IsIn m r → MayOweAll m h w' mem cs → has_no_swap cs ≡ true → Reads g w r v
+owed-looks : (ls : Laws) (m : Machine) (g h : Grip) (w w' : World) (mem : Memory) (cs : List Change) (r : WordPlace) (v : View) → Apart g h → Respects h w w' → IsIn m r → MayOweAll m h w' mem cs → Reads g w r v
     → look v ((changed_all cs mem).words r) ≡ look v (mem.words r)
-owed-looks ls m g h w w' mem cs r v a rs in_r may pl rd =
-    looks-owed ls.places m h w' mem cs r v in_r may pl (λ words q x k owes kept. (ls.keep g h w words a).left w' q r x v k rs rd owes kept)
+owed-looks ls m g h w w' mem cs r v a rs in_r may rd =
+    looks-owed ls.places m h w' mem cs r v in_r may (λ words q x k owes kept. (ls.keep g h w words a).left w' q r x v k rs rd owes kept)
 
 fill-looks : (ls : Laws) (m : Machine) (g h : Grip) (w : World) (mem : Memory) (fs : List Change) (r : WordPlace) (v : View) → Apart g h → IsIn m r → MayFillAll m h w fs → Reads g w r v → look v ((changed_all fs mem).words r) ≡ look v (mem.words r)
 fill-looks ls m g h w mem fs r v a in_r may rd = looks-filled ls.places m h w mem fs r v in_r may (λ words q x fills. (ls.keep g h w words a).filled q r x v rd fills)
@@ -101,6 +95,29 @@ act-written m g w mem (Raise q) may = ((KeepsNothing, may.1), tt)
 act-written m g w mem (Clear p) may = absurd may
 act-written m g w mem (Copy p q) may = absurd may
 act-written m g w mem (Swap k made) may = tt
+
+-- and puts a hasher only where it may
+act-put : (m : Machine) (g : Grip) (w : World) (mem : Memory) (c : Change) → MayAct m g w mem c → (h : ℕ) (x : Hand) → last_put (swaps_of c mem) h ≡ Some x → SwapsAct g w h
+act-put m g w mem (Put q v) may h x e = cc
+act-put m g w mem (PutHash q v) may h x e = cc
+act-put m g w mem (Raise q) may h x e = cc
+act-put m g w mem (Clear p) may h x e = cc
+act-put m g w mem (Copy p q) may h x e = cc
+act-put m g w mem (Swap k made) may h x e = by (h == k) refl
+  where
+    by : (b : Bool) → (h == k) ≡ b → SwapsAct g w h
+    by true f = (let k-is : h ≡ k = eqb-true h k f in subst (λ (z : ℕ). SwapsAct g w z) (sym k-is) may.1)
+    by false f = (let none : last_put (swaps_of (Swap k made) mem) h ≡ None = rw f refl in cc)
+
+-- fills leave slots and the hand
+pub fills-rest : (m : Machine) (g : Grip) (w : World) (fs : List Change) (mem : Memory) → MayFillAll m g w fs → ((changed_all fs mem).slots ≡ mem.slots) × ((changed_all fs mem).hand ≡ mem.hand)
+fills-rest m g w [] mem may = (refl, refl)
+fills-rest m g w (Put q x ∷ fs) mem may = fills-rest m g w fs (changed (Put q x) mem) may.1
+fills-rest m g w (Clear p ∷ fs) mem may = fills-rest m g w fs (changed (Clear p) mem) may.1
+fills-rest m g w (Copy p q ∷ fs) mem may = fills-rest m g w fs (changed (Copy p q) mem) may.1
+fills-rest m g w (PutHash q x ∷ fs) mem may = absurd may.0
+fills-rest m g w (Raise q ∷ fs) mem may = absurd may.0
+fills-rest m g w (Swap k made ∷ fs) mem may = absurd may.0
 
 -- where a turn stands that comes to its end, having been told these words
 pub record AtEnd (o : Opening) (trees : ℕ → Call → Tree) (s : State) (mem : Memory) (p : ℕ) (c : Call) (told now : List ℕ) (reply : Reply) (run run' : Standing) (result : RunTurn) : Type 0 where
@@ -125,11 +142,23 @@ owes_of (End r fs cs) mem = act_owes cs (changed_all fs mem)
 owes_of (Since r cs) mem = all_stores cs mem
 owes_of _ mem = []
 
--- memory behind its end
-abbrev pub after_of : Tree → Memory → Memory
-after_of (End r fs cs) mem = changed_all cs (changed_all fs mem)
-after_of (Since r cs) mem = changed_all cs mem
-after_of _ mem = mem
+-- what its first item puts into slots, and the swaps that it owes then
+abbrev pub act_puts : List Change → Memory → List SwapDue
+act_puts [] mem = []
+act_puts (c ∷ cs) mem = swaps_of c mem
+
+abbrev pub act_swaps : List Change → Memory → List SwapDue
+act_swaps [] mem = []
+act_swaps (c ∷ cs) mem = all_swaps cs (changed c mem)
+
+abbrev pub puts_of : Tree → Memory → List SwapDue
+puts_of (End r fs cs) mem = act_puts cs (changed_all fs mem)
+puts_of _ mem = []
+
+abbrev pub swaps_left : Tree → Memory → List SwapDue
+swaps_left (End r fs cs) mem = act_swaps cs (changed_all fs mem)
+swaps_left (Since r cs) mem = all_swaps cs mem
+swaps_left _ mem = []
 
 -- memory has what was filled, and what would take it back is due
 pub record HasFilled (o : Opening) (t : Table) (pos : ℕ → Position) (p : ℕ) (mem : Memory) (filled : List Due) : Type 0 where
@@ -137,13 +166,13 @@ pub record HasFilled (o : Opening) (t : Table) (pos : ℕ → Position) (p : ℕ
   pub undo : (r : WordPlace) → last_at (pos p).owes r ≡ back (last_at filled r) (mem.words r)
 
 pub one-act : (ls : Laws) (o : Opening) (trees : ℕ → Call → Tree) (s : State) (mem : Memory) (t t' : Table) (pos : ℕ → Position) (p : ℕ) (c : Call) (now : List ℕ) (reply : Reply) (run run' : Standing) (result : RunTurn)
-    → AreTrees o trees → Known o s → Stands o trees s mem t pos → p < length o.calls → run.hasher ≡ None → (ca : IsCallAt o (leaf_for o trees p c) (row_of o p c) s.world mem.words (s.lps p) run) → (e : run.stage ≡ stages.Trying)
+    → AreTrees o trees → Known o s → (sd : Stands o trees s mem t pos) → p < length o.calls → run.hasher ≡ None → (ca : IsCallAt o (leaf_for o trees p c) (row_of o p c) s.world mem.words (s.lps p) run) → (e : run.stage ≡ stages.Trying)
     → AtEnd o trees s mem p c (ca.told e).told now reply run run' result → HasFilled o t pos p mem (filled_of (feed (trees p c) now) mem)
     → ((r : WordPlace) → IsIn o.machine r → t'.words (address o.machine.pages r) ≡ or_else (last_at (first_of (feed (trees p c) now) mem) r) (t.words (address o.machine.pages r)))
-    → IsHand run'.hasher (after_of (feed (trees p c) now) mem).hand → ((h : ℕ) → IsHkid o.machine h → IsHand (t'.slots (h - 1)) ((after_of (feed (trees p c) now) mem).slots h))
-    → (one : OneAct o trees s mem t t' pos p c (ca.told e).told run run' result) × (one.owes ≡ owes_of (feed (trees p c) now) mem)
-one-act ls o trees s mem t t' pos p c now reply run run' result are known sd i no_hasher ca e en has table hand slots =
-    by (feed (trees p c) now) (leaves-follow-rows task inst now (are.means p c) at en.current) en.gives (are.swaps p c now) has table hand slots
+    → ((h : ℕ) → IsHkid o.machine h → IsHand (t'.slots (h - 1)) (or_else (last_put (puts_of (feed (trees p c) now) mem) h) (sd.slots.now h)))
+    → (one : OneAct o trees s mem t t' pos p c (ca.told e).told run run' result sd.slots.now) × (one.owes ≡ owes_of (feed (trees p c) now) mem) × (one.swaps ≡ swaps_left (feed (trees p c) now) mem)
+one-act ls o trees s mem t t' pos p c now reply run run' result are known sd i no_hasher ca e en has table slots =
+    by (feed (trees p c) now) (leaves-follow-rows task inst now (are.means p c) at en.current) en.gives has table slots
   where
     m : Machine
     m = o.machine
@@ -173,7 +202,7 @@ one-act ls o trees s mem t t' pos p c now reply run run' result are known sd i n
     mine = bare (s.lps p).call.held
 
     at : IsAt task inst
-    at = at-instant o task row s mem (table_of m t.slots mem.words) run refl (shown-of o trees s mem t pos p c run known sd i no_hasher) ca e
+    at = at-instant o task row s mem (table_of m mem.slots mem.words) run refl (shown-of o trees s mem t pos p c run known sd i no_hasher) ca e
 
     -- the locks held
     held-is : hs ≡ (s.lps p).call.held
@@ -188,8 +217,8 @@ one-act ls o trees s mem t t' pos p c now reply run run' result are known sd i n
     next-is : (mv' : Move Reply) → mv ≡ mv' → next_event o s p ≡ Some (OfCall row mv')
     next-is mv' h = due-is o task row s mem run mv' refl ca e (due ∙ h)
 
-    refusal : (r : Reply) → mv ≡ Refuses r → r ≡ reply → (u : Table) → IsMemory m u run'.hasher mem → EndsRow task inst told u run run'
-    refusal r h q u mm = record {
+    refusal : (r : Reply) → mv ≡ Refuses r → r ≡ reply → (u : Table) (h : Option Measure) → IsMemory m u h mem → EndsRow task inst told u run (with_hasher run' h)
+    refusal r h q u hasher mm = record {
       reply = reply;
       after = mem;
       answered = en.answered;
@@ -198,8 +227,8 @@ one-act ls o trees s mem t t' pos p c now reply run run' result are known sd i n
       ends = inl (due ∙ (h ∙ ap Refuses q), refl);
     }
 
-    success : (after : Memory) → mv ≡ Succeeds → reply ≡ k.reply s.world → Shows m after.words after.slots (acted k s) → LocksStay s.world (k.act s.world) hs → (u : Table) → IsMemory m u run'.hasher after → EndsRow task inst told u run run'
-    success after h q sh st u mm = record {
+    success : (after : Memory) → mv ≡ Succeeds → reply ≡ k.reply s.world → Shows m after.words after.slots (acted k s) → LocksStay s.world (k.act s.world) hs → (u : Table) (h : Option Measure) → IsMemory m u h after → EndsRow task inst told u run (with_hasher run' h)
+    success after h q sh st u hasher mm = record {
       reply = reply;
       after = after;
       answered = en.answered;
@@ -211,23 +240,31 @@ one-act ls o trees s mem t t' pos p c now reply run run' result are known sd i n
     not-trying : run'.stage ≡ stages.Trying → ⊥
     not-trying z = (let bad = sym en.answered ∙ z in cc)
 
-    Slots : Memory → Type 0
-    Slots after = (h : ℕ) → IsHkid m h → IsHand (t'.slots (h - 1)) (after.slots h)
+    PutAt : List SwapDue → Type 0
+    PutAt put = (h : ℕ) → IsHkid m h → IsHand (t'.slots (h - 1)) (or_else (last_put put h) (sd.slots.now h))
 
-    refused : (r : Reply) → mv ≡ Refuses r → r ≡ reply → HasFilled o t pos p mem [] → ((x : WordPlace) → IsIn m x → t'.words (address m.pages x) ≡ t.words (address m.pages x)) → IsHand run'.hasher mem.hand → Slots mem → OneAct o trees s mem t t' pos p c told run run' result
-    refused r h q hf same hand slots = record {
+    Act : Type 0
+    Act = OneAct o trees s mem t t' pos p c told run run' result sd.slots.now
+
+    refused : (r : Reply) → mv ≡ Refuses r → r ≡ reply → HasFilled o t pos p mem [] → ((x : WordPlace) → IsIn m x → t'.words (address m.pages x) ≡ t.words (address m.pages x)) → PutAt [] → Act
+    refused r h q hf same slots = record {
       move = Refuses r;
       is_act = tt;
       next = next-is (Refuses r) h;
       after = mem;
-      hand_is = hand;
-      slots = slots;
+      hashers = sd.shows.hasher;
       ends = refusal r h q;
       answered = not-trying;
       reply = en.last;
       filled = [];
       first = [];
       owes = [];
+      put = [];
+      swaps = [];
+      slots_there = slots;
+      slots_makes = λ h in_h. refl;
+      slots_written = λ h x e. cc;
+      slots_may = tt;
       spares = record {
         respects = ls.compose.same mine s.world;
         looks = λ xs v x apart in_x reads. refl;
@@ -272,26 +309,32 @@ one-act ls o trees s mem t t' pos p c now reply run run' result are known sd i n
         go None None None eu ev ez = rw (eu, ev, ez) refl
 
     -- the act that succeeds, whose stores are these
-    succeeded : (fs cs : List Change) (first owes : List Due) → mv ≡ Succeeds → reply ≡ k.reply s.world
+    succeeded : (fs cs : List Change) (first owes : List Due) (put swaps : List SwapDue) → mv ≡ Succeeds → reply ≡ k.reply s.world
         → (let after = changed_all cs (changed_all fs mem) in Shows m after.words after.slots (acted k s)) → LocksStay s.world (k.act s.world) hs → Respects mine s.world (row.act s.world)
         → ((xs : List Held) (v : View) (r : WordPlace) → Apart (bare xs) mine → IsIn m r → Reads (bare xs) s.world r v → look v ((changed_all cs (changed_all fs mem)).words r) ≡ look v (mem.words r))
         → ((r : WordPlace) → last_at (all_stores cs (changed_all fs mem)) r ≡ later (last_at owes r) (last_at first r))
         → MayFillAll m mine s.world fs → EachDue (CanWrite mine s.world) first → Keeps m mine (row.act s.world) (λ x. or_else (last_at first x) ((changed_all fs mem).words x)) owes → HasFilled o t pos p mem (all_stores fs mem)
         → ((r : WordPlace) → IsIn m r → t'.words (address m.pages r) ≡ or_else (last_at first r) (t.words (address m.pages r)))
-        → IsHand run'.hasher (changed_all cs (changed_all fs mem)).hand → Slots (changed_all cs (changed_all fs mem)) → OneAct o trees s mem t t' pos p c told run run' result
-    succeeded fs cs first owes h q sh st rs looks parts fills written owed hf same hand slots = record {
+        → PutAt put → ((h : ℕ) → (changed_all cs (changed_all fs mem)).slots h ≡ or_else (last_put swaps h) (or_else (last_put put h) (mem.slots h)))
+        → ((h : ℕ) (x : Hand) → last_put put h ≡ Some x → SwapsAct mine s.world h) → SwapsMay m mine (row.act s.world) (λ h. or_else (last_put put h) (mem.slots h)) swaps → Act
+    succeeded fs cs first owes put swaps h q sh st rs looks parts fills written owed hf same slots makes-slots put-may swaps-may = record {
       move = Succeeds;
       is_act = tt;
       next = next-is Succeeds h;
       after = changed_all cs (changed_all fs mem);
-      hand_is = hand;
-      slots = slots;
+      hashers = sh.hasher;
       ends = success (changed_all cs (changed_all fs mem)) h q sh st;
       answered = not-trying;
       reply = en.last;
       filled = all_stores fs mem;
       first = first;
       owes = owes;
+      put = put;
+      swaps = swaps;
+      slots_there = slots;
+      slots_makes = λ h in_h. makes-slots h;
+      slots_written = put-may;
+      slots_may = swaps-may;
       spares = record {
         respects = rs;
         looks = looks;
@@ -329,55 +372,62 @@ one-act ls o trees s mem t t' pos p c now reply run run' result are known sd i n
     gives-is : (n : ℕ) (r r' : Reply) (fs cs : List Change) → Gives n (End r fs cs) (need.Verdict r') → r ≡ r'
     gives-is n r r' fs cs g = cc
 
-    ends-success : (r : Reply) (fs cs : List Change) → mv ≡ Succeeds → r ≡ reply → swaps_as_act (End r fs cs) ≡ true → Acts m inst k hs r fs cs → MayChange m (hold inst hs) s.world (k.act s.world) (changed_all fs mem) cs
+    ends-success : (r : Reply) (fs cs : List Change) → mv ≡ Succeeds → r ≡ reply → Acts m inst k hs r fs cs → MayChange m (hold inst hs) s.world (k.act s.world) (changed_all fs mem) cs
         → HasFilled o t pos p mem (all_stores fs mem) → ((x : WordPlace) → IsIn m x → t'.words (address m.pages x) ≡ or_else (last_at (act_first cs (changed_all fs mem)) x) (t.words (address m.pages x)))
-        → IsHand run'.hasher (changed_all cs (changed_all fs mem)).hand → Slots (changed_all cs (changed_all fs mem))
-        → (one : OneAct o trees s mem t t' pos p c told run run' result) × (one.owes ≡ act_owes cs (changed_all fs mem))
-    ends-success r fs [] h q sw ac may hf same hand slots =
+        → PutAt (act_puts cs (changed_all fs mem)) → (one : Act) × (one.owes ≡ act_owes cs (changed_all fs mem)) × (one.swaps ≡ act_swaps cs (changed_all fs mem))
+    ends-success r fs [] h q ac may hf same slots =
         let rs : Respects mine s.world (row.act s.world) = subst (λ (g : Grip). Respects g s.world (row.act s.world)) grip ac.respects in
         let fills : MayFillAll m mine s.world fs = subst (λ (g : Grip). MayFillAll m g s.world fs) grip ac.fills_allowed in (
-          succeeded fs [] [] [] h (sym q ∙ ac.reply_is) ac.shows ac.locks_stay rs
-              (λ xs v x apart in_x reads. fill-looks ls m (bare xs) mine s.world mem fs x v apart in_x fills reads) (λ x. refl) fills tt tt hf same hand slots,
+          succeeded fs [] [] [] [] [] h (sym q ∙ ac.reply_is) ac.shows ac.locks_stay rs
+              (λ xs v x apart in_x reads. fill-looks ls m (bare xs) mine s.world mem fs x v apart in_x fills reads) (λ x. refl) fills tt tt hf same slots
+              (λ k. ap (λ (f : ℕ → Hand). f k) (fills-rest m mine s.world fs mem fills).0) (λ k x e. cc) tt,
+          refl,
           refl,
         )
-    ends-success r fs (c1 ∷ cs) h q sw ac may hf same hand slots =
+    ends-success r fs (c1 ∷ cs) h q ac may hf same slots =
         let rs : Respects mine s.world (row.act s.world) = subst (λ (g : Grip). Respects g s.world (row.act s.world)) grip ac.respects in
         let fills : MayFillAll m mine s.world fs = subst (λ (g : Grip). MayFillAll m g s.world fs) grip ac.fills_allowed in
         let mem1 : Memory = changed_all fs mem in
         let may' : MayChange m mine s.world (k.act s.world) mem1 (c1 ∷ cs) = subst (λ (g : Grip). MayChange m g s.world (k.act s.world) mem1 (c1 ∷ cs)) grip may in (
-          succeeded fs (c1 ∷ cs) (stores_of c1 mem1) (all_stores cs (changed c1 mem1)) h (sym q ∙ ac.reply_is) ac.shows ac.locks_stay rs
+          succeeded fs (c1 ∷ cs) (stores_of c1 mem1) (all_stores cs (changed c1 mem1)) (swaps_of c1 mem1) (all_swaps cs (changed c1 mem1)) h (sym q ∙ ac.reply_is) ac.shows ac.locks_stay rs
               (λ xs v x apart in_x reads.
-              owed-looks ls m (bare xs) mine s.world (row.act s.world) (changed c1 mem1) cs x v apart rs in_x may'.1 sw reads
+              owed-looks ls m (bare xs) mine s.world (row.act s.world) (changed c1 mem1) cs x v apart rs in_x may'.1 reads
               ∙ (act-looks ls m (bare xs) mine s.world mem1 c1 x v apart may'.0 reads ∙ fill-looks ls m (bare xs) mine s.world mem fs x v apart in_x fills reads))
               (λ x. last-append (stores_of c1 mem1) (all_stores cs (changed c1 mem1)) x) fills
               (act-written m mine s.world mem1 c1 may'.0)
               (keeps-same m mine mine (row.act s.world) (row.act s.world) (changed c1 mem1).words (λ x. or_else (last_at (stores_of c1 mem1) x) (mem1.words x)) (all_stores cs (changed c1 mem1))
-              (λ x g owes. owes) (λ x g in_x owes. one-is m c1 mem1 x in_x) (owed-keeps m mine (row.act s.world) (changed c1 mem1) cs may'.1 sw)) hf same hand slots,
+              (λ x g owes. owes) (λ x g in_x owes. one-is m c1 mem1 x in_x) (owed-keeps m mine (row.act s.world) (changed c1 mem1) cs may'.1)) hf same slots
+              (λ k. changed-slots cs (changed c1 mem1) k ∙ ap (or_else (last_put (all_swaps cs (changed c1 mem1)) k)) (one-slot c1 mem1 k ∙ ap (λ (f : ℕ → Hand). or_else (last_put (swaps_of c1 mem1) k) (f k)) (fills-rest m mine s.world fs mem fills).0))
+              (act-put m mine s.world mem1 c1 may'.0)
+              (swaps-same m mine mine (row.act s.world) (row.act s.world) (changed c1 mem1).slots (λ k. or_else (last_put (swaps_of c1 mem1) k) (mem.slots k)) (all_swaps cs (changed c1 mem1)) (λ k x. x)
+              (λ k in_k owes. one-slot c1 mem1 k ∙ ap (λ (f : ℕ → Hand). or_else (last_put (swaps_of c1 mem1) k) (f k)) (fills-rest m mine s.world fs mem fills).0)
+              (owed-swaps m mine (row.act s.world) (changed c1 mem1) cs may'.1)),
+          refl,
           refl,
         )
 
-    since-success : (r : Reply) (cs : List Change) → mv ≡ Succeeds → r ≡ reply → has_no_swap cs ≡ true → Acts m inst k hs r [] cs → MayOweAll m (hold inst hs) (k.act s.world) mem cs
+    since-success : (r : Reply) (cs : List Change) → mv ≡ Succeeds → r ≡ reply → Acts m inst k hs r [] cs → MayOweAll m (hold inst hs) (k.act s.world) mem cs
         → HasFilled o t pos p mem [] → ((x : WordPlace) → IsIn m x → t'.words (address m.pages x) ≡ t.words (address m.pages x))
-        → IsHand run'.hasher (changed_all cs mem).hand → Slots (changed_all cs mem)
-        → (one : OneAct o trees s mem t t' pos p c told run run' result) × (one.owes ≡ all_stores cs mem)
-    since-success r cs h q sw ac may hf same hand slots =
+        → PutAt [] → (one : Act) × (one.owes ≡ all_stores cs mem) × (one.swaps ≡ all_swaps cs mem)
+    since-success r cs h q ac may hf same slots =
         let rs : Respects mine s.world (row.act s.world) = subst (λ (g : Grip). Respects g s.world (row.act s.world)) grip ac.respects in
         let may' : MayOweAll m mine (k.act s.world) mem cs = subst (λ (g : Grip). MayOweAll m g (k.act s.world) mem cs) grip may in (
-          succeeded [] cs [] (all_stores cs mem) h (sym q ∙ ac.reply_is) ac.shows ac.locks_stay rs
-              (λ xs v x apart in_x reads. owed-looks ls m (bare xs) mine s.world (row.act s.world) mem cs x v apart rs in_x may' sw reads)
-              (λ x. last-append [] (all_stores cs mem) x) tt tt (owed-keeps m mine (row.act s.world) mem cs may' sw) hf same hand slots,
+          succeeded [] cs [] (all_stores cs mem) [] (all_swaps cs mem) h (sym q ∙ ac.reply_is) ac.shows ac.locks_stay rs
+              (λ xs v x apart in_x reads. owed-looks ls m (bare xs) mine s.world (row.act s.world) mem cs x v apart rs in_x may' reads)
+              (λ x. last-append [] (all_stores cs mem) x) tt tt (owed-keeps m mine (row.act s.world) mem cs may') hf same slots
+              (changed-slots cs mem) (λ k x e. cc) (owed-swaps m mine (row.act s.world) mem cs may'),
+          refl,
           refl,
         )
 
-    by : (tree : Tree) → Comes m inst k hs tree mv → Gives m.pages tree (need.Verdict reply) → swaps_as_act tree ≡ true → HasFilled o t pos p mem (filled_of tree mem)
+    by : (tree : Tree) → Comes m inst k hs tree mv → Gives m.pages tree (need.Verdict reply) → HasFilled o t pos p mem (filled_of tree mem)
         → ((r : WordPlace) → IsIn m r → t'.words (address m.pages r) ≡ or_else (last_at (first_of tree mem) r) (t.words (address m.pages r)))
-        → IsHand run'.hasher (after_of tree mem).hand → Slots (after_of tree mem)
-        → (one : OneAct o trees s mem t t' pos p c told run run' result) × (one.owes ≡ owes_of tree mem)
-    by (Lock l q mode x) co g sw hf same hand slots = cc
-    by (Load v q x) co g sw hf same hand slots = cc
-    by (Test b r x) co g sw hf same hand slots = absurd g
-    by (End r [] []) (inl co) g sw hf same hand slots = (refused r co.0 (gives-is m.pages r reply [] [] g) hf same hand slots, refl)
-    by (End r [] (c1 ∷ cs)) (inl co) g sw hf same hand slots = (let bad = co.2 in cc)
-    by (End r (f ∷ fs) cs) (inl co) g sw hf same hand slots = (let bad = co.1 in cc)
-    by (End r fs cs) (inr co) g sw hf same hand slots = ends-success r fs cs co.0 (gives-is m.pages r reply fs cs g) sw co.1 co.2 hf same hand slots
-    by (Since r cs) co g sw hf same hand slots = since-success r cs co.0 (cc g) sw co.1 co.2 hf same hand slots
+        → PutAt (puts_of tree mem) → (one : Act) × (one.owes ≡ owes_of tree mem) × (one.swaps ≡ swaps_left tree mem)
+    by (Lock l q mode x) co g hf same slots = cc
+    by (Load v q x) co g hf same slots = cc
+    by (Test b r x) co g hf same slots = absurd g
+    by (End r [] []) (inl co) g hf same slots = (refused r co.0 (gives-is m.pages r reply [] [] g) hf same slots, refl, refl)
+    by (End r [] (c1 ∷ cs)) (inl co) g hf same slots = (let bad = co.2 in cc)
+    by (End r (f ∷ fs) cs) (inl co) g hf same slots = (let bad = co.1 in cc)
+    by (End r fs cs) (inr co) g hf same slots = ends-success r fs cs co.0 (gives-is m.pages r reply fs cs g) co.1 co.2 hf same slots
+    by (Since r cs) co g hf same slots = since-success r cs co.0 (cc g) co.1 co.2 hf same slots

@@ -21,30 +21,32 @@ use Rattle.step_core.specs.Items.{Table, Taken, Stepped, Swapped, Missed}
 use Rattle.leaf_engine.specs.declared.events.Event.TheVariants as events
 use Rattle.leaf_engine.specs.declared.events.Stage.TheVariants as stages
 use Rattle.leaf_engine.specs.declared.needs.Need.TheVariants as need
-use Rattle.leaf_engine.specs.Changes.{Memory, Change, changed, changed_all, has_no_swap}
-use Rattle.leaf_engine.specs.Trees.{Tree, End, feed, settle, swaps_as_act}
+use Rattle.leaf_engine.specs.Changes.{Memory, Change, changed, changed_all}
+use Rattle.leaf_engine.specs.Trees.{Tree, End, feed, settle}
 use Rattle.leaf_engine.specs.Decides.{Gives, IsHand}
 use Rattle.leaf_engine.specs.Means.{MayFillAll, IsHkid}
 use Rattle.leaf_engine.specs.Items.{IsChanged, AreChanged}
 use Rattle.leaf_engine.specs.Turns.{Standing, standing, last_reply}
 use Rattle.leaf_engine.specs.OwnLists.{Piece, Quiet, Marked, Wordless, joined, marked_behind, WordLp, after_turn, OwnTurns}
 use Rattle.leaf_engine.proofs.Changing.{word_put}
-use Rattle.merge_laws.proofs.Stores.{Due, due, last_at, later, or_else, laid-none, laid-same, last-append, each-append, FillsAt, AreStores, all_stores, owed-items, changed-rest}
+use Rattle.merge_laws.proofs.Stores.{Due, due, last_at, later, or_else, laid-none, laid-same, last-append, each-append, FillsAt, all_stores}
+use Rattle.merge_laws.proofs.Swaps.{last_put}
+use Rattle.merge_laws.proofs.Owing.{owed-items}
+use Rattle.merge_laws.proofs.SlotSteps.{slots-stay}
 use Rattle.merge_laws.proofs.Filling.{Todo, Puts, Takes, AreTodos, dues_of, EachTodo, dues-same, fills-due}
-use Rattle.merge_laws.proofs.Holding.{bare}
+use Rattle.merge_laws.proofs.Holding.{bare, turned-round}
 use Rattle.merge_laws.proofs.Standing.{Laws, leaf_for, Fill, Position, seen_by, back, FillHolds, RestFilling, StandsAt, on_table, Stands}
 use Rattle.merge_laws.proofs.Own.{at-own, at-other, whole, apart-from, none-due}
-use Rattle.merge_laws.proofs.LockSteps.{turned-round}
-use Rattle.merge_laws.proofs.Ending.{AtEnd, filled_of, first_of, owes_of, after_of, HasFilled}
+use Rattle.merge_laws.proofs.Ending.{AtEnd, filled_of, first_of, owes_of, puts_of, swaps_left, HasFilled, fills-rest}
 use Rattle.merge_laws.proofs.QuietSteps.{rearranged, store-step}
 use Rattle.merge_laws.proofs.Pieces.{taken_after, Came, came-as, answers-as, PieceAnswers}
 use Rattle.merge_laws.proofs.LockPieces.{AtTurn}
-use Rattle.merge_laws.proofs.EndPieces.{EndMay, end-may, end-moved, rest-owed, act-item, act-rest, fills-rest, slots-as, hand-as, act-table}
+use Rattle.merge_laws.proofs.EndPieces.{EndMay, end-may, end-moved, rest-owed, act-item, act-rest, slot-seen, hand-as, act-table}
 use Rattle.merge_laws.proofs.Turns.{told-tree}
 
 -- it stays where it is, but for its fills
 abbrev pub filling_at : (pos : ℕ → Position) (p : ℕ) → Call → List Call → Standing → List Due → Fill → Position
-filling_at pos p c cs run owes f = record { at = record { lines = c ∷ cs; run = Some run; replies = (pos p).at.replies }; owes = owes; fill = Some f }
+filling_at pos p c cs run owes f = record { at = record { lines = c ∷ cs; run = Some run; replies = (pos p).at.replies }; owes = owes; swaps = []; fill = Some f }
 
 stands-filling : (o : Opening) (trees : ℕ → Call → Tree) (s : State) (mem : Memory) (t : Table) (pos : ℕ → Position) (p : ℕ) (c : Call) (cs : List Call) (run : Standing) → AtTurn o trees s mem t pos p c cs run
     → StandsAt o trees p s.world mem.words (s.lps p) (record { lines = c ∷ cs; run = Some run; replies = (pos p).at.replies })
@@ -84,7 +86,7 @@ fill-store ls o trees s mem t pos p c cs run f d ts a left h =
       };
     })
     (λ r in_r e was. ap mem.words ((ls.places.same r d.at).0 e) ∙ sym (ap (λ (z : Option ℕ). or_else z d.word) (undone r ∙ ap (λ (b : Bool). later (if b then Some (mem.words d.at) else None) (last_at (pos p).owes r)) e)))
-    (λ r e. undone r ∙ ap (λ (b : Bool). later (if b then Some (mem.words d.at) else None) (last_at (pos p).owes r)) e)
+    (λ r e. undone r ∙ ap (λ (b : Bool). later (if b then Some (mem.words d.at) else None) (last_at (pos p).owes r)) e) (sym a.no_swaps)
   where
     m : Machine
     m = o.machine
@@ -202,9 +204,6 @@ act-piece ls o trees s mem t pos p c cs run after f act tps end_ piece ps a left
       last = refl;
     }
 
-    swaps : swaps_as_act (End f.reply f.fills f.changes) ≡ true
-    swaps = subst (λ (z : Tree). swaps_as_act z ≡ true) tree-is (a.are.swaps p c told)
-
     hasher-is : after.hasher ≡ hasher
     hasher-is = ap (λ (z : Standing). z.hasher) after_is
 
@@ -238,9 +237,6 @@ act-piece ls o trees s mem t pos p c cs run after f act tps end_ piece ps a left
     empty : IsHand None (changed_all f.fills mem).hand
     empty = hand-as None None (changed_all f.fills mem).hand None refl (rest-1.1 ∙ a.all.hand) tt
 
-    slots-1 : (k : ℕ) → IsHkid m k → IsHand (t.slots (k - 1)) ((changed_all f.fills mem).slots k)
-    slots-1 = slots-as m t.slots (changed_all f.fills mem).slots mem.slots rest-1.0 a.all.slots
-
     by : (ds : List Change) → f.changes ≡ ds → Came o trees p s t pos piece ps end_
     by [] e =
         let two = subst (λ (z : List Change). AreChanged m z None act hasher) e ch in
@@ -249,21 +245,18 @@ act-piece ls o trees s mem t pos p c cs run after f act tps end_ piece ps a left
         let ended : feed (trees p c) told ≡ End f.reply f.fills [] = tree-is ∙ ap (End f.reply f.fills) e in
         let moved = end-moved ls o trees s mem t t pos p c cs told f.reply run after (record { event = events.Act; reply = last_reply after.stage after.held }) a st en has-tree
         (λ y in_y. ap (λ (z : Tree). or_else (last_at (first_of z mem) y) (t.words (address m.pages y))) {x = End f.reply f.fills []} {y = feed (trees p c) told} (sym ended))
-        (subst (λ (z : Tree). IsHand after.hasher (after_of z mem).hand) (sym ended) (hand-as after.hasher None (changed_all f.fills mem).hand (changed_all f.fills mem).hand (hasher-is ∙ two.0) refl empty))
-        (subst (λ (z : Tree). (k : ℕ) → IsHkid m k → IsHand (t.slots (k - 1)) ((after_of z mem).slots k)) (sym ended) slots-1) in
+        (subst (λ (z : Tree). (k : ℕ) → IsHkid m k → IsHand (t.slots (k - 1)) (or_else (last_put (puts_of z mem) k) (a.all.slots.now k))) (sym ended) a.all.slots.there) in
         came-as o trees p s t pos Wordless piece (joined tps) ps end_ hd'
         (record {
           memory = moved.memory;
-          now = record { at = after_turn c cs (pos p).at.replies after (last_reply after.stage after.held); owes = owes_of (feed (trees p c) told) mem; fill = None };
+          now = record { at = after_turn c cs (pos p).at.replies after (last_reply after.stage after.held); owes = owes_of (feed (trees p c) told) mem; swaps = swaps_left (feed (trees p c) told) mem; fill = None };
           stands = moved.stands;
-          rest = rest-owed o trees p (after_turn c cs (pos p).at.replies after (last_reply after.stage after.held)) [] (owes_of (feed (trees p c) told) mem) tps end_
-              (subst (λ (z : Tree). AreStores m.pages [] (owes_of z mem)) (sym ended) tt) own;
+          rest = rest-owed o trees p c cs (pos p).at.replies after (feed (trees p c) told) (End f.reply f.fills []) mem [] None None (changed_all f.fills mem).hand tps end_ ended empty (λ i. (refl, i)) (hasher-is ∙ two.0) own;
         })
     by (c1 ∷ ds) e =
         let ended : feed (trees p c) told ≡ End f.reply f.fills (c1 ∷ ds) = tree-is ∙ ap (End f.reply f.fills) e in
         let all = subst (λ (z : List Change). AreChanged m z None act hasher) e ch in
         let allowed = subst (λ (z : List Change). EndMay m mine s.world ((row_of o p c).act s.world) mem (End f.reply f.fills z)) e may in
-        let sw : has_no_swap ds ≡ true = subst (λ (z : List Change). swaps_as_act (End f.reply f.fills z) ≡ true) e swaps in
         let zs : List Taken = all.1.1.0 in
         let mem1 : Memory = changed_all f.fills mem in
         let one : IsChanged m c1 None all.1.0 all.0 = all.1.1.2 in
@@ -271,26 +264,24 @@ act-piece ls o trees s mem t pos p c cs run after f act tps end_ piece ps a left
         let x : Taken = item.taken in
         let acted : act ≡ x ∷ zs = all.1.1.1 ∙ ap (λ (z : List Taken). z ++ zs) item.items in
         let hd' : Marked x ∷ (map Quiet zs ++ joined tps) ≡ piece ∷ ps = ap (λ (z : List Taken). marked_behind 0 z ++ joined tps) (sym acted) ∙ hd in
-        let rest-2 = act-rest m mem1 t c1 x all.0 item.is (answers-as t (Marked x) piece (map Quiet zs ++ joined tps) ps hd' an) slots-1 in
-        let rest = owed-items m mine ((row_of o p c).act s.world) (changed c1 mem1) ds all.0 hasher zs allowed.1.1 sw all.1.1.3 rest-2.0 in
+        let answers = answers-as t (Marked x) piece (map Quiet zs ++ joined tps) ps hd' an in
+        let slots = act-rest m mine s.world mem1 t c1 x all.0 a.all.slots.now allowed.1.0 item.is answers (slot-seen ls o trees s mem t pos p c cs run mem1.slots a rest-1.0) a.all.slots.there in
         let moved = end-moved ls o trees s mem t (taken_after t x) pos p c cs told f.reply run after (record { event = events.Act; reply = last_reply after.stage after.held }) a st en has-tree
         (λ y in_y. act-table ls o trees s mem t pos p c cs run f.fills c1 x all.0 a has allowed.1.0 item.is y in_y
         ∙ ap (λ (z : Tree). or_else (last_at (first_of z mem) y) (t.words (address m.pages y))) {x = End f.reply f.fills (c1 ∷ ds)} {y = feed (trees p c) told} (sym ended))
-        (subst (λ (z : Tree). IsHand after.hasher (after_of z mem).hand) (sym ended) (hand-as after.hasher hasher (changed_all ds (changed c1 mem1)).hand (changed_all ds (changed c1 mem1)).hand hasher-is refl rest.0))
-        (subst (λ (z : Tree). (k : ℕ) → IsHkid m k → IsHand ((taken_after t x).slots (k - 1)) ((after_of z mem).slots k)) (sym ended)
-        (slots-as m (taken_after t x).slots (changed_all ds (changed c1 mem1)).slots (changed c1 mem1).slots (changed-rest ds (changed c1 mem1) sw).0 rest-2.1)) in
+        (subst (λ (z : Tree). (k : ℕ) → IsHkid m k → IsHand ((taken_after t x).slots (k - 1)) (or_else (last_put (puts_of z mem) k) (a.all.slots.now k))) (sym ended) slots.1) in
         came-as o trees p s t pos (Marked x) piece (map Quiet zs ++ joined tps) ps end_ hd'
         (record {
           memory = moved.memory;
-          now = record { at = after_turn c cs (pos p).at.replies after (last_reply after.stage after.held); owes = owes_of (feed (trees p c) told) mem; fill = None };
+          now = record { at = after_turn c cs (pos p).at.replies after (last_reply after.stage after.held); owes = owes_of (feed (trees p c) told) mem; swaps = swaps_left (feed (trees p c) told) mem; fill = None };
           stands = moved.stands;
-          rest = rest-owed o trees p (after_turn c cs (pos p).at.replies after (last_reply after.stage after.held)) zs (owes_of (feed (trees p c) told) mem) tps end_
-              (subst (λ (z : Tree). AreStores m.pages zs (owes_of z mem)) (sym ended) rest.1) own;
+          rest = rest-owed o trees p c cs (pos p).at.replies after (feed (trees p c) told) (End f.reply f.fills (c1 ∷ ds)) mem zs all.0 hasher (changed c1 mem1).hand tps end_ ended slots.0
+              (owed-items m mine ((row_of o p c).act s.world) (changed c1 mem1) ds all.0 hasher zs allowed.1.1 all.1.1.3) hasher-is own;
         })
 
 -- the next piece of a leaf that fills
 pub fill-piece : (ls : Laws) (o : Opening) (trees : ℕ → Call → Tree) (s : State) (mem : Memory) (t : Table) (pos : ℕ → Position) (p : ℕ) (c : Call) (cs : List Call) (run : Standing) (f : Fill) (end_ : WordLp) (piece : Piece) (ps : List Piece)
-    → AtTurn o trees s mem t pos p c cs run → FillHolds o.machine (bare (s.lps p).call.held) s.world mem.words (on_table o.machine t) (pos p).owes (Some run) f → RestFilling o trees p c cs (pos p).at.replies run f (piece ∷ ps) end_ → PieceAnswers t piece
+    → AtTurn o trees s mem t pos p c cs run → FillHolds o.machine (bare (s.lps p).call.held) s.world mem.words (on_table o.machine t) (pos p).owes (Some run) f → RestFilling o trees p c cs (pos p).at.replies (pos p).swaps run f (piece ∷ ps) end_ → PieceAnswers t piece
     → Came o trees p s t pos piece ps end_
 fill-piece ls o trees s mem t pos p c cs run f end_ piece ps a h rest an = by rest.stores f.left refl rest.are rest.pieces
   where
@@ -318,7 +309,7 @@ fill-piece ls o trees s mem t pos p c cs run f end_ piece ps a h rest an = by re
           memory = mem;
           now = filling_at pos p c cs run ((pos p).owes ++ due d.at (mem.words d.at) ∷ []) (record f { made = f.made ++ d ∷ []; left = ts });
           stands = fill-store ls o trees s mem t pos p c cs run f d ts a q h;
-          rest = record { stores = xs; act = rest.act; turns = rest.turns; are = are.1; hasher = rest.hasher; changed = rest.changed; pieces = refl; after = rest.after; after_is = rest.after_is; own = rest.own };
+          rest = record { no_swaps = refl; stores = xs; act = rest.act; turns = rest.turns; are = are.1; hasher = rest.hasher; changed = rest.changed; pieces = refl; after = rest.after; after_is = rest.after_is; own = rest.own };
         })
     by (Stepped w x ∷ []) (Takes fr at ∷ ts) q are e = absurd are
     by (Stepped w x ∷ (Swapped k u v ∷ xs)) (Takes fr at ∷ ts) q are e = absurd are
@@ -335,7 +326,7 @@ fill-piece ls o trees s mem t pos p c cs run f end_ piece ps a h rest an = by re
         (record {
           memory = mem;
           now = now;
-          stands = rearranged ls o trees s mem t t pos p now a.all refl (λ k j z r g in_r owes. refl) (λ k j z r in_r fills. refl)
+          stands = rearranged ls o trees s mem t t pos p now a.all (slots-stay o s mem.slots t.slots pos p now a.all.slots (sym a.no_swaps)) (λ k j z r g in_r owes. refl) (λ k j z r in_r fills. refl)
               (record {
                 stands = stands-filling o trees s mem t pos p c cs run a;
                 due = record {
@@ -351,7 +342,7 @@ fill-piece ls o trees s mem t pos p c cs run f end_ piece ps a h rest an = by re
                 };
               })
               (λ r in_r. a.all.laid_is r in_r ∙ laid-same (length o.calls) (λ k. (pos k).owes) (λ k. (put pos p now k).owes) (on_table m t) (on_table m t) r (λ k j. same k r) refl);
-          rest = record { stores = xs'; act = rest.act; turns = rest.turns; are = (are.1, are.2); hasher = rest.hasher; changed = rest.changed; pieces = refl; after = rest.after; after_is = rest.after_is; own = rest.own };
+          rest = record { no_swaps = refl; stores = xs'; act = rest.act; turns = rest.turns; are = (are.1, are.2); hasher = rest.hasher; changed = rest.changed; pieces = refl; after = rest.after; after_is = rest.after_is; own = rest.own };
         })
       where
         same : (k : ℕ) (r : WordPlace) → last_at (pos k).owes r ≡ last_at (put pos p (filling_at pos p c cs run (pos p).owes (record f { left = Puts (due at x) ∷ ts })) k).owes r

@@ -1,5 +1,5 @@
 -- Stores that are due, each of which keeps what its grade says of the word that stands there.
-use Rattle.std.proofs.Common.{◌≡◌, ◌⊎◌, ℕ, zero, suc, ◌<◌, Bool, true, false, not, ◌&&◌, if◌then◌else◌, List, [], ◌∷◌, ◌++◌, Option, Some, None, refl, ap, sym, ◌∙◌, subst, inl, inr, arith}
+use Rattle.std.proofs.Common.{◌≡◌, ◌⊎◌, ℕ, zero, suc, ◌<◌, Bool, true, false, if◌then◌else◌, List, [], ◌∷◌, ◌++◌, Option, Some, None, refl, ap, sym, ◌∙◌, subst, inl, inr, arith}
 use Rattle.td_words.specs.declared.machines.Machine.{Machine}
 use Rattle.td_words.specs.Place.{WordPlace, Word, IsIn, same_place}
 use Rattle.td_words.specs.Laws.{PlacesInjective}
@@ -9,7 +9,7 @@ use Rattle.word_rules.specs.Rules.{View, Grade, KeepsNothing, spares}
 use Rattle.word_rules.specs.Views.{look, IsKept, ViewsAreKept}
 use Rattle.word_rules.specs.Permissions.{Owes}
 use Rattle.lock_words.specs.LockWords.{put_word}
-use Rattle.leaf_engine.specs.Changes.{Memory, Change, Put, PutHash, Raise, Clear, Copy, Swap, changed, is_swap, has_no_swap}
+use Rattle.leaf_engine.specs.Changes.{Memory, Change, Put, PutHash, Raise, Clear, Copy, Swap, changed}
 use Rattle.leaf_engine.specs.Means.{MayOwe, MayOweAll}
 use Rattle.merge_laws.proofs.Stores.{Due, due, last_at, later, or_else, laid, EachDue, words_from, stores_of, all_stores, one-is, OwesAt}
 
@@ -60,24 +60,19 @@ keeps-page m g w a p (suc n) xs h =
     let one = h n (omega arith) in
     keeps-append m g w a (words_from p n xs) (due (Word p n) (xs n) ∷ []) (keeps-page m g w a p n xs (λ i l. h i (omega arith))) ((one.0, (KeepsNothing, one.1, tt)), tt)
 
-pub and_parts : (a b : Bool) → (a && b) ≡ true → (a ≡ true) × (b ≡ true)
-and_parts true b h = (refl, h)
-and_parts false b h = cc
+one-keeps : (m : Machine) (g : Grip) (w : World) (mem : Memory) (c : Change) → MayOwe m g w mem c → Keeps m g w mem.words (stores_of c mem)
+one-keeps m g w mem (Put q x) may = ((may.0, (may.1.0, may.1.1, may.1.2)), tt)
+one-keeps m g w mem (PutHash q x) may = ((may.0, (KeepsNothing, may.1, tt)), tt)
+one-keeps m g w mem (Raise q) may = absurd may
+one-keeps m g w mem (Clear p) may = keeps-page m g w mem.words p 512 (λ i. 0) (λ i l. ((may.0, l), may.1 i l))
+one-keeps m g w mem (Copy p q) may = absurd may
+one-keeps m g w mem (Swap h made) may = tt
 
-one-keeps : (m : Machine) (g : Grip) (w : World) (mem : Memory) (c : Change) → MayOwe m g w mem c → not (is_swap c) ≡ true → Keeps m g w mem.words (stores_of c mem)
-one-keeps m g w mem (Put q x) may pl = ((may.0, (may.1.0, may.1.1, may.1.2)), tt)
-one-keeps m g w mem (PutHash q x) may pl = ((may.0, (KeepsNothing, may.1, tt)), tt)
-one-keeps m g w mem (Raise q) may pl = absurd may
-one-keeps m g w mem (Clear p) may pl = keeps-page m g w mem.words p 512 (λ i. 0) (λ i l. ((may.0, l), may.1 i l))
-one-keeps m g w mem (Copy p q) may pl = absurd may
-one-keeps m g w mem (Swap h made) may pl = cc
-
-pub owed-keeps : (m : Machine) (g : Grip) (w : World) (mem : Memory) (cs : List Change) → MayOweAll m g w mem cs → has_no_swap cs ≡ true → Keeps m g w mem.words (all_stores cs mem)
-owed-keeps m g w mem [] may pl = tt
-owed-keeps m g w mem (c ∷ cs) may pl =
-    let parts = and_parts (not (is_swap c)) (has_no_swap cs) pl in
-    let rest = owed-keeps m g w (changed c mem) cs may.1 parts.1 in
-    keeps-append m g w mem.words (stores_of c mem) (all_stores cs (changed c mem)) (one-keeps m g w mem c may.0 parts.0)
+pub owed-keeps : (m : Machine) (g : Grip) (w : World) (mem : Memory) (cs : List Change) → MayOweAll m g w mem cs → Keeps m g w mem.words (all_stores cs mem)
+owed-keeps m g w mem [] may = tt
+owed-keeps m g w mem (c ∷ cs) may =
+    let rest = owed-keeps m g w (changed c mem) cs may.1 in
+    keeps-append m g w mem.words (stores_of c mem) (all_stores cs (changed c mem)) (one-keeps m g w mem c may.0)
     (keeps-same m g g w w (changed c mem).words (stored (stores_of c mem) mem.words) (all_stores cs (changed c mem)) (λ q k o. o)
     (λ q k in_q o. one-is m c mem q in_q ∙ sym (stored-is (stores_of c mem) mem.words q)) rest)
 

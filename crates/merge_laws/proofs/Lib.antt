@@ -1,11 +1,14 @@
 pub mod Virtual
 pub mod Stores
+pub mod Swaps
+pub mod Owing
 pub mod Filling
 pub mod Keeping
 pub mod Holding
 pub mod Standing
 pub mod Others
 pub mod Own
+pub mod SlotSteps
 pub mod LockSteps
 pub mod Acts
 pub mod Ending

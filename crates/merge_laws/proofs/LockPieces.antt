@@ -1,6 +1,6 @@
 -- The pieces that are steps on lock words: undos, releases and tries.
 use Rattle.mrtd_measure.specs.declared.measures.Measure.{Measure}
-use Rattle.std.proofs.Common.{◌≡◌, ℕ, ◌<◌, Bool, true, false, ◌||◌, List, [], ◌∷◌, length, None, refl, ap, sym, ◌∙◌, subst, Option}
+use Rattle.std.proofs.Common.{◌≡◌, ℕ, ◌<◌, Bool, true, false, ◌||◌, List, [], ◌∷◌, length, Some, None, refl, ap, sym, ◌∙◌, subst, Option}
 use Rattle.td_words.specs.declared.names.LockName.{LockName}
 use Rattle.td_words.specs.declared.names.Mode.{Mode}
 use Rattle.td_words.specs.declared.names.Mode.TheVariants.{Shared, Exclusive}
@@ -42,7 +42,7 @@ use Rattle.leaf_engine.proofs.Turning.{instant, at-instant, due-is}
 use Rattle.leaf_engine.proofs.Calling.{next-is, snoc}
 use Rattle.merge_laws.proofs.Virtual.{table_of}
 use Rattle.merge_laws.proofs.Holding.{bare, tdr-held, may-try}
-use Rattle.merge_laws.proofs.Standing.{Laws, leaf_for, AreTrees, Known, RunsAt, Position, Rest, Stands}
+use Rattle.merge_laws.proofs.Standing.{Laws, leaf_for, AreTrees, Known, HandOf, RunsAt, Position, HasInHand, Rest, Stands}
 use Rattle.merge_laws.proofs.Others.{shown-of, hold-is}
 use Rattle.merge_laws.proofs.LockSteps.{OneStep, lock-step}
 use Rattle.merge_laws.proofs.Pieces.{Came}
@@ -56,24 +56,45 @@ pub record AtTurn (o : Opening) (trees : ℕ → Call → Tree) (s : State) (mem
   pub lines : lines_left o p (s.lps p) ≡ c ∷ cs
   pub replies : (s.lps p).replies ≡ (pos p).at.replies
   pub runs : RunsAt o (leaf_for o trees p c) (row_of o p c) s.world mem.words (s.lps p) run
+  pub hand : HandOf run
+  pub no_swaps : (pos p).swaps ≡ []
   pub going : has_ended run.stage run.held ≡ false
 
+-- a run has its hasher in hand when it is then under way
+pub in-hand-after : (c : Call) (cs : List Call) (rs : List Reply) (run' : Standing) (reply : Option Reply) (h : Option Measure) → run'.hasher ≡ h → HasInHand (after_turn c cs rs run' reply).run h
+in-hand-after c cs rs run' None h e = e
+in-hand-after c cs rs run' (Some r) h e = tt
+
 -- where it then is, with the turns that are left
-pub rest-after : (o : Opening) (trees : ℕ → Call → Tree) (p : ℕ) (at : WordLp) (tps : List (List Piece)) (end_ : WordLp) → OwnTurns (leaf_for o trees p) o.machine at tps end_
-    → Rest o trees p at [] (joined tps) end_
-rest-after o trees p at tps end_ own = record { stores = []; turns = tps; are = tt; pieces = refl; own = own }
+rest-after : (o : Opening) (trees : ℕ → Call → Tree) (p : ℕ) (c : Call) (cs : List Call) (rs : List Reply) (run' : Standing) (reply : Option Reply) (tps : List (List Piece)) (end_ : WordLp) → HandOf run'
+    → OwnTurns (leaf_for o trees p) o.machine (after_turn c cs rs run' reply) tps end_ → Rest o trees p (after_turn c cs rs run' reply) [] [] (joined tps) end_
+rest-after o trees p c cs rs run' reply tps end_ ho own = record {
+  owed = [];
+  owes_are = refl;
+  swaps_are = refl;
+  hasher = run'.hasher;
+  hand = ho.hand;
+  in_hand = ho.is;
+  items = [];
+  last = run'.hasher;
+  are = λ i. (refl, i);
+  last_is = in-hand-after c cs rs run' reply run'.hasher refl;
+  turns = tps;
+  pieces = refl;
+  own = own;
+}
 
 came-by : (ls : Laws) (o : Opening) (trees : ℕ → Call → Tree) (s : State) (mem : Memory) (t : Table) (pos : ℕ → Position) (p : ℕ) (c : Call) (cs : List Call) (mv : Move Reply) (run run' : Standing) (st : WordStep) (a : ℕ) (q : WordPlace) (result : RunTurn)
     (tps : List (List Piece)) (end_ : WordLp) → AtTurn o trees s mem t pos p c cs run → (pos p).owes ≡ [] → OneStep o trees s p c mv run run' st a q result → a ≡ answer_of t.words st
     → OwnTurns (leaf_for o trees p) o.machine (after_turn c cs (pos p).at.replies run' result.reply) tps end_
     → Came o trees p s t pos (Marked (Stepped st a)) (joined tps) end_
 came-by ls o trees s mem t pos p c cs mv run run' st a q result tps end_ at none one an own =
-    let m = lock-step ls o trees s mem t pos p c cs (pos p).at.replies mv run run' st a q result at.are at.known at.all at.inside at.lines at.replies none at.runs one an in
+    let m = lock-step ls o trees s mem t pos p c cs (pos p).at.replies mv run run' st a q result at.are at.known at.all at.inside at.lines at.replies none at.no_swaps at.runs at.hand one an in
     record {
       memory = m.memory;
-      now = record { at = after_turn c cs (pos p).at.replies run' result.reply; owes = []; fill = None };
+      now = record { at = after_turn c cs (pos p).at.replies run' result.reply; owes = []; swaps = []; fill = None };
       stands = m.stands;
-      rest = rest-after o trees p (after_turn c cs (pos p).at.replies run' result.reply) tps end_ own;
+      rest = rest-after o trees p c cs (pos p).at.replies run' result.reply tps end_ one.hand own;
     }
 
 -- the undo
@@ -94,8 +115,8 @@ undo-piece ls o trees s mem t pos p c cs run run' items e name at tps end_ a non
           turn = record { turn = subst (λ (z : List Taken). TurnBy run.stage o.machine run z run' e) tb.items.1 turn; reply = refl };
           going = a.going;
           hand = record {
-            hand = a.runs.hand.hand;
-            is = subst (λ (h : Option Measure). IsHand h a.runs.hand.hand) (sym (ap (λ (z : Standing). z.hasher) tb.after)) a.runs.hand.is;
+            hand = a.hand.hand;
+            is = subst (λ (h : Option Measure). IsHand h a.hand.hand) (sym (ap (λ (z : Standing). z.hasher) tb.after)) a.hand.is;
             trying = λ z. (let bad = sym (ap (λ (y : Standing). y.stage) tb.after) ∙ z in cc);
           };
           next = next-is o s p (row_of o p c) (Undoing l) (s.lps p).call.held a.runs.call.line a.runs.call.guest h refl;
@@ -149,9 +170,9 @@ free-piece ls o trees s mem t pos p c cs run run' items e r tps end_ a none st t
           turn = record { turn = subst (λ (z : List Taken). TurnBy run.stage o.machine run z run' e) gb.items.1 turn; reply = refl };
           going = a.going;
           hand = record {
-            hand = a.runs.hand.hand;
-            is = subst (λ (h : Option Measure). IsHand h a.runs.hand.hand) (sym (ap (λ (z : Standing). z.hasher) same)) a.runs.hand.is;
-            trying = λ z. ap (λ (y : Standing). y.hasher) same ∙ a.runs.hand.trying (sym (ap (λ (y : Standing). y.stage) same) ∙ z);
+            hand = a.hand.hand;
+            is = subst (λ (h : Option Measure). IsHand h a.hand.hand) (sym (ap (λ (z : Standing). z.hasher) same)) a.hand.is;
+            trying = λ z. ap (λ (y : Standing). y.hasher) same ∙ a.hand.trying (sym (ap (λ (y : Standing). y.stage) same) ∙ z);
           };
           next = next-is o s p (row_of o p c) (Answered r') (x ∷ hs) a.runs.call.line a.runs.call.guest h k;
           quiet = refl;
@@ -180,7 +201,7 @@ pub try-piece : (ls : Laws) (o : Opening) (trees : ℕ → Call → Tree) (s : S
     → OwnTurns (leaf_for o trees p) o.machine (after_turn c cs (pos p).at.replies run' (last_reply run'.stage run'.held)) tps end_
     → Came o trees p s t pos (Marked (Stepped (try_step at mode) seen)) (joined tps) end_
 try-piece ls o trees s mem t pos p c cs run run' e tree name at mode seen tps end_ a none st turn gives after an own =
-    by (feed (trees p c) told) (leaves-follow-rows task inst told (a.are.means p c) (at-instant o task (row_of o p c) s mem (table_of m t.slots mem.words) run refl (shown-of o trees s mem t pos p c run a.known a.all a.inside (a.runs.hand.trying st)) a.runs.call st) (a.runs.call.told st).current)
+    by (feed (trees p c) told) (leaves-follow-rows task inst told (a.are.means p c) (at-instant o task (row_of o p c) s mem (table_of m mem.slots mem.words) run refl (shown-of o trees s mem t pos p c run a.known a.all a.inside (a.hand.trying st)) a.runs.call st) (a.runs.call.told st).current)
     (subst (λ (z : Tree). Gives m.pages z (need.Lock name at mode)) (ap settle (a.runs.call.told st).rest ∙ settled (trees p c) told) gives)
   where
     m : Machine
@@ -215,9 +236,9 @@ try-piece ls o trees s mem t pos p c cs run run' e tree name at mode seen tps en
           turn = record { turn = subst (λ (z : Stage). TurnBy z m run (Stepped (try_step at mode) seen ∷ []) run' e) (sym st) turn; reply = refl };
           going = a.going;
           hand = record {
-            hand = a.runs.hand.hand;
-            is = subst (λ (h : Option Measure). IsHand h a.runs.hand.hand) (sym (ap (λ (z : Standing). z.hasher) after ∙ tried-hasher run tree name at mode (grants mode seen))) a.runs.hand.is;
-            trying = λ z. ap (λ (y : Standing). y.hasher) after ∙ (tried-hasher run tree name at mode (grants mode seen) ∙ a.runs.hand.trying st);
+            hand = a.hand.hand;
+            is = subst (λ (h : Option Measure). IsHand h a.hand.hand) (sym (ap (λ (z : Standing). z.hasher) after ∙ tried-hasher run tree name at mode (grants mode seen))) a.hand.is;
+            trying = λ z. ap (λ (y : Standing). y.hasher) after ∙ (tried-hasher run tree name at mode (grants mode seen) ∙ a.hand.trying st);
           };
           next = due-is o task (row_of o p c) s mem run (Attempts l mode) refl a.runs.call st (co.0 ∙ ap (Attempts l) mode-is);
           quiet = refl;

@@ -1,11 +1,10 @@
 -- A try, an undo or a release in a merge: one step on the word of a lock, which is the flat machine's next event.
-use Rattle.std.proofs.Common.{◌≡◌, ℕ, ◌-◌, ◌<◌, Bool, true, false, ◌==◌, List, [], ◌∷◌, length, Option, Some, None, refl, ap, sym, ◌∙◌, subst}
+use Rattle.std.proofs.Common.{◌≡◌, ℕ, ◌<◌, Bool, true, false, ◌==◌, List, [], ◌∷◌, length, Some, None, refl, ap, sym, ◌∙◌, subst}
 use Rattle.std.proofs.lemmas.Bool.{eqb-true}
 use Rattle.td_words.specs.declared.machines.Machine.{Machine}
 use Rattle.td_words.specs.declared.calls.Call.{Call}
 use Rattle.td_words.specs.declared.replies.Reply.{Reply}
 use Rattle.td_words.specs.Place.{WordPlace, IsIn, address, same_place}
-use Rattle.mrtd_measure.specs.declared.measures.Measure.{Measure}
 use Rattle.flat_core.specs.World.{World, put}
 use Rattle.flat_core.specs.Processor.{Held, Answered}
 use Rattle.flat_core.specs.Opening.{Opening}
@@ -15,6 +14,7 @@ use Rattle.flat_core.specs.Event.{State, OfCall, next_event, lines_left, event, 
 use Rattle.word_rules.specs.Guards.{Apart}
 use Rattle.word_rules.specs.Rules.{View, Grade}
 use Rattle.word_rules.specs.Views.{look}
+use Rattle.word_rules.specs.Cells.{IsAs, hasher_cell}
 use Rattle.word_rules.specs.Permissions.{Reads, Owes, Fills, Tries, Respects}
 use Rattle.step_core.specs.declared.steps.WordStep.{WordStep}
 use Rattle.step_core.specs.declared.steps.WordStep.TheVariants as step
@@ -23,7 +23,6 @@ use Rattle.step_core.specs.Items.{Table, Stepped}
 use Rattle.leaf_engine.specs.declared.events.RunTurn.{RunTurn}
 use Rattle.leaf_engine.specs.Changes.{Memory}
 use Rattle.leaf_engine.specs.Trees.{Tree}
-use Rattle.leaf_engine.specs.Decides.{IsHand}
 use Rattle.leaf_engine.specs.Tables.{IsMemory}
 use Rattle.leaf_engine.specs.Turns.{Standing, IsTurn, has_ended}
 use Rattle.leaf_engine.specs.Calls.{After}
@@ -31,16 +30,14 @@ use Rattle.leaf_engine.specs.OwnLists.{after_turn}
 use Rattle.leaf_engine.proofs.Turning.{Laws as EngineLaws, calls-follow}
 use Rattle.merge_laws.proofs.Virtual.{table_of, holds-memory, step-same, step-elsewhere}
 use Rattle.merge_laws.proofs.Stores.{Due, last_at, laid, laid-none, laid-same}
-use Rattle.merge_laws.proofs.Holding.{bare}
+use Rattle.merge_laws.proofs.Holding.{bare, turned-round}
 use Rattle.merge_laws.proofs.Standing.{Laws, leaf_for, AreTrees, Known, HandOf, RunsAt, on_table, Position, Stands}
 use Rattle.merge_laws.proofs.Others.{shown-hand}
+use Rattle.merge_laws.proofs.SlotSteps.{slots-event}
 use Rattle.merge_laws.proofs.Own.{AttemptTdr, tdrs-after, stands-after, world-of-event, at-own, at-other, gathered, none-due}
 
 pub engine : Laws → EngineLaws
 engine ls = record { follow = ls.follow; steps = ls.steps; places = ls.places; pages = ls.pages }
-
-pub turned-round : (g h : Rattle.word_rules.specs.Guards.Grip) → Apart g h → Apart h g
-turned-round g h a = record { there = a.back; back = a.there }
 
 pub answers-same : (w v : Words) (s : WordStep) (at : ℕ) → address_of s ≡ at → w at ≡ v at → answer_of w s ≡ answer_of v s
 answers-same w v (step.Load n) at a e = ap w a ∙ (e ∙ ap v (sym a))
@@ -70,9 +67,9 @@ pub record Moved (o : Opening) (trees : ℕ → Call → Tree) (s : State) (t : 
 
 pub lock-step : (ls : Laws) (o : Opening) (trees : ℕ → Call → Tree) (s : State) (mem : Memory) (t : Table) (pos : ℕ → Position) (p : ℕ) (c : Call) (cs : List Call) (rs : List Reply) (mv : Move Reply) (run run' : Standing) (st : WordStep) (a : ℕ)
     (q : WordPlace) (result : RunTurn) → AreTrees o trees → Known o s → Stands o trees s mem t pos → p < length o.calls → lines_left o p (s.lps p) ≡ c ∷ cs → (s.lps p).replies ≡ rs → (pos p).owes ≡ []
-    → RunsAt o (leaf_for o trees p c) (row_of o p c) s.world mem.words (s.lps p) run → OneStep o trees s p c mv run run' st a q result → a ≡ answer_of t.words st
-    → Moved o trees (event o s p) (record t { words = after_step t.words st }) (put pos p (record { at = after_turn c cs rs run' result.reply; owes = []; fill = None }))
-lock-step ls o trees s mem t pos p c cs rs mv run run' st a q result are known sd i lines replies none ra one an =
+    → (pos p).swaps ≡ [] → RunsAt o (leaf_for o trees p c) (row_of o p c) s.world mem.words (s.lps p) run → HandOf run → OneStep o trees s p c mv run run' st a q result → a ≡ answer_of t.words st
+    → Moved o trees (event o s p) (record t { words = after_step t.words st }) (put pos p (record { at = after_turn c cs rs run' result.reply; owes = []; swaps = []; fill = None }))
+lock-step ls o trees s mem t pos p c cs rs mv run run' st a q result are known sd i lines replies none no-swaps ra ho one an =
     record {
       memory = mem';
       stands = gathered ls o trees s mem mem' t t' pos p now are known sd i
@@ -82,10 +79,18 @@ lock-step ls o trees s mem t pos p c cs rs mv run run' st a q result are known s
             still = λ hs r g apart in_r owes. sym (elsewhere r in_r (λ e. no-owed hs r g apart owes e));
             filled = λ hs r apart in_r fills. (sym (elsewhere r in_r (λ e. no-filled hs r apart fills e)), by-place r in_r (λ e. absurd (no-filled hs r apart fills e)));
           })
-          after.shown refl
-          (λ h in_h. subst (λ (f : ℕ → Option Measure). IsHand (t.slots (h - 1)) (after.mem.slots h)) {x = t.slots} refl (after.memory.slots h in_h))
+          (record { word = after.shown.word; hasher = λ h. subst (λ (w : World). IsAs (hasher_cell w h) (mem.slots h)) (sym world) (sd.shows.hasher h) }) refl
+          (slots-event ls o trees s mem t t.slots pos p mem.slots [] now known sd i no-swaps
           (record {
-            stands = stands-after o trees p c cs (s.lps p) (event o s p) uV run' result.reply lines after one.hand
+            respects = subst (λ (w : World). Respects (bare (s.lps p).call.held) s.world w) (sym world) (ls.compose.same (bare (s.lps p).call.held) s.world);
+            there = sd.slots.there;
+            makes = λ h in_h. refl;
+            written = λ h x e. cc;
+            may = tt;
+            held = λ x. tt;
+          }))
+          (record {
+            stands = stands-after o trees p c cs (s.lps p) (event o s p) uV run' run'.hasher result.reply lines after one.hand.trying
                 (tdrs-after o s p (row_of o p c) mv one.next (are.means p c).enters_none ra.tdrs one.tdr one.no_rest one.answered) rs replies;
             due = tt;
           })
@@ -97,22 +102,22 @@ lock-step ls o trees s mem t pos p c cs rs mv run run' st a q result are known s
     m = o.machine
 
     now : Position
-    now = record { at = after_turn c cs rs run' result.reply; owes = []; fill = None }
+    now = record { at = after_turn c cs rs run' result.reply; owes = []; swaps = []; fill = None }
 
     t' : Table
     t' = record t { words = after_step t.words st }
 
     tV : Table
-    tV = table_of m t.slots mem.words
+    tV = table_of m mem.slots mem.words
 
     uV : Table
     uV = record tV { words = after_step tV.words st }
 
     mem-h : Memory
-    mem-h = record mem { hand = ra.hand.hand }
+    mem-h = record mem { hand = ho.hand }
 
     holds : IsMemory m tV run.hasher mem-h
-    holds = holds-memory m t.slots run.hasher mem-h sd.slots ra.hand.is
+    holds = holds-memory m run.hasher mem-h ho.is
 
     none-at : (k : ℕ) → k < length o.calls → last_at (pos k).owes q ≡ None
     none-at k j = by (k == p) refl
@@ -135,14 +140,14 @@ lock-step ls o trees s mem t pos p c cs rs mv run run' st a q result are known s
     after : After o (leaf_for o trees p c) (row_of o p c) (s.lps p).replies (event o s p) uV run' result.reply
     after =
         calls-follow (engine ls) o (leaf_for o trees p c) (row_of o p c) s mem-h tV uV run run' (Stepped st a ∷ []) result (are.means p c) refl
-        (shown-hand o trees s mem t pos p c run known sd i ra.hand) ra.call one.going one.turn
+        (shown-hand o trees s mem t pos p c run known sd i ho) ra.call one.going one.turn
         (an ∙ answers-same t.words tV.words st (address m.pages q) one.at virtual, (refl, refl))
 
     world : (event o s p).world ≡ s.world
     world = world-of-event o s p (row_of o p c) mv one.next ∙ one.quiet
 
     mem' : Memory
-    mem' = record (after.mem) { hand = None }
+    mem' = record { words = after.mem.words; slots = mem.slots; hand = None }
 
     same-test : (r : WordPlace) → (b : Bool) → same_place r q ≡ b → ((b ≡ true) → r ≡ q)
     same-test r b e h = (ls.places.same r q).0 (e ∙ h)

@@ -1,5 +1,5 @@
 -- A merge, gone through piece by piece.
-use Rattle.std.proofs.Common.{◌≡◌, ◌⊎◌, ℕ, zero, suc, ◌+◌, ◌^◌, ◌<◌, ◌≤◌, Bool, true, false, ◌==◌, if◌then◌else◌, List, [], ◌∷◌, ◌++◌, map, length, Option, Some, None, refl, ap, sym, ◌∙◌, subst, inl, inr, arith}
+use Rattle.std.proofs.Common.{◌≡◌, ◌⊎◌, ℕ, zero, suc, ◌+◌, ◌-◌, ◌^◌, ◌<◌, ◌≤◌, Bool, true, false, ◌==◌, if◌then◌else◌, List, [], ◌∷◌, ◌++◌, map, length, Option, Some, None, refl, ap, sym, ◌∙◌, subst, inl, inr, arith}
 use Rattle.std.proofs.lemmas.Bool.{eq-eqb, eqb-true}
 use Rattle.td_words.specs.declared.calls.Call.{Call}
 use Rattle.td_words.specs.Place.{address}
@@ -11,7 +11,7 @@ use Rattle.flat_core.specs.Table.{row_of}
 use Rattle.flat_core.specs.Event.{State, start, event, next_event, after_event, event_for, lines_left, calls_of}
 use Rattle.flat_core.specs.Run.{play, run}
 use Rattle.lock_words.specs.Grips.{IsExclusive}
-use Rattle.step_core.specs.declared.steps.WordStep.{WordStep}
+use Rattle.mrtd_measure.specs.declared.measures.Measure.{Measure}
 use Rattle.step_core.specs.declared.steps.WordStep.TheVariants as step
 use Rattle.step_core.specs.Locks.{weight_of}
 use Rattle.step_core.specs.Items.{Table, Taken, Stepped, Swapped, Missed, PlaysTo}
@@ -20,17 +20,18 @@ use Rattle.leaf_engine.specs.declared.events.Stage.{Stage}
 use Rattle.leaf_engine.specs.declared.events.Stage.TheVariants as stages
 use Rattle.leaf_engine.specs.declared.needs.Need.{Need}
 use Rattle.leaf_engine.specs.declared.needs.Need.TheVariants as need
-use Rattle.leaf_engine.specs.Changes.{Memory}
+use Rattle.leaf_engine.specs.Changes.{Hand, Memory}
 use Rattle.leaf_engine.specs.Trees.{Tree, settle, passed}
-use Rattle.leaf_engine.specs.Decides.{Gives}
+use Rattle.leaf_engine.specs.Decides.{Gives, IsHand}
 use Rattle.leaf_engine.specs.Turns.{Standing, Comes as TurnComes, TurnBy, TakesBack, GivesBack, has_ended, last_reply}
 use Rattle.leaf_engine.specs.OwnLists.{Piece, Quiet, Marked, Wordless, joined, last_marked, pieces_for, behind, GoesIn, TurnIn, WordLp, running, after_turn, LinesTurn, OwnTurns}
 use Rattle.leaf_engine.specs.Merges.{Item, part, steps_taken, order, event_before}
-use Rattle.merge_laws.proofs.Stores.{Due, AreStores}
+use Rattle.merge_laws.proofs.Owing.{Owed, Stores, Swaps, stores_in, swaps_in, FirstSwaps, FirstMisses, AreOwed}
 use Rattle.merge_laws.proofs.Holding.{bare}
-use Rattle.merge_laws.proofs.Standing.{Laws, leaf_for, AreTrees, Known, RunsAt, Fill, Position, Pending, Rest, RestFilling, RestBy, RestOf, on_table, Holds, Stands}
+use Rattle.merge_laws.proofs.Standing.{Laws, leaf_for, AreTrees, Known, RunsAt, Fill, Position, Pending, HasInHand, Rest, RestFilling, RestBy, RestOf, on_table, Holds, Stands}
 use Rattle.merge_laws.proofs.Own.{at-own, at-other}
-use Rattle.merge_laws.proofs.QuietSteps.{owed-step}
+use Rattle.merge_laws.proofs.Swaps.{SwapDue, SwapsMay}
+use Rattle.merge_laws.proofs.QuietSteps.{owed-step, swap-step}
 use Rattle.merge_laws.proofs.Pieces.{state_after, table_after, PieceAnswers, plays-piece, Came, came-as, answers-as, line-runs}
 use Rattle.merge_laws.proofs.LockPieces.{AtTurn, undo-piece, free-piece}
 use Rattle.merge_laws.proofs.Turns.{Heads, lock-turn}
@@ -75,59 +76,128 @@ next-piece ls o trees s mem t pos p end_ piece ps are known sd i rest an = by-fi
     h : Holds o trees p s.world mem.words (on_table o.machine t) (s.lps p) (pos p)
     h = sd.holds p i
 
-    at-turn : (c : Call) (cs : List Call) → (pos p).at.lines ≡ c ∷ cs → (run : Standing) → running (leaf_for o trees p c) (pos p).at.run ≡ run → has_ended run.stage run.held ≡ false → AtTurn o trees s mem t pos p c cs run
-    at-turn c cs l run is going = record {
-      are = are;
-      known = known;
-      all = sd;
-      inside = i;
-      lines = h.stands.lines ∙ l;
-      replies = h.stands.replies;
-      runs = subst (λ (z : Standing). RunsAt o (leaf_for o trees p c) (row_of o p c) s.world mem.words (s.lps p) z) is (line-runs o trees p c cs s.world mem.words (s.lps p) (pos p).at h.stands l);
-      going = going;
-    }
+    runs-at : (c : Call) (cs : List Call) → (pos p).at.lines ≡ c ∷ cs → (run : Standing) → running (leaf_for o trees p c) (pos p).at.run ≡ run → RunsAt o (leaf_for o trees p c) (row_of o p c) s.world mem.words (s.lps p) run
+    runs-at c cs l run is = subst (λ (z : Standing). RunsAt o (leaf_for o trees p c) (row_of o p c) s.world mem.words (s.lps p) z) is (line-runs o trees p c cs s.world mem.words (s.lps p) (pos p).at h.stands l)
 
-    line : (cs : List Call) → (pos p).at.lines ≡ cs → (pos p).owes ≡ [] → (e : RunEvent) (tp : List Piece) (tps : List (List Piece)) (after : WordLp) → LinesTurn (leaf_for o trees p) o.machine cs (pos p).at.run (pos p).at.replies e tp after
+    at-turn : (c : Call) (cs : List Call) → (pos p).at.lines ≡ c ∷ cs → (run : Standing) → running (leaf_for o trees p c) (pos p).at.run ≡ run → has_ended run.stage run.held ≡ false → (pos p).swaps ≡ [] → (hand : Hand) → IsHand run.hasher hand
+        → AtTurn o trees s mem t pos p c cs run
+    at-turn c cs l run is going no-swaps hand in-hand =
+        let runs = runs-at c cs l run is in
+        record {
+          are = are;
+          known = known;
+          all = sd;
+          inside = i;
+          lines = h.stands.lines ∙ l;
+          replies = h.stands.replies;
+          runs = runs;
+          hand = record { hand = hand; is = in-hand; trying = runs.trying };
+          no_swaps = no-swaps;
+          going = going;
+        }
+
+    -- the hasher in hand of the run that goes on, or of one that begins
+    in-hand : (c : Call) (r : Option Standing) (last : Option Measure) (hand : Hand) → HasInHand r last → IsHand last hand → (x : Hand) × IsHand (running (leaf_for o trees p c) r).hasher x
+    in-hand c None last hand e k = (None, tt)
+    in-hand c (Some r) last hand e k = (hand, subst (λ (z : Option Measure). IsHand z hand) (sym e) k)
+
+    line : (cs : List Call) → (pos p).at.lines ≡ cs → (pos p).owes ≡ [] → (pos p).swaps ≡ [] → (last : Option Measure) (hand : Hand) → HasInHand (pos p).at.run last → IsHand last hand
+        → (e : RunEvent) (tp : List Piece) (tps : List (List Piece)) (after : WordLp) → LinesTurn (leaf_for o trees p) o.machine cs (pos p).at.run (pos p).at.replies e tp after
         → OwnTurns (leaf_for o trees p) o.machine after tps end_ → Heads tp tps piece ps → Came o trees p s t pos piece ps end_
-    line [] l none e tp tps after lt own hd = absurd lt
-    line (c ∷ cs) l none e tp tps after lt own hd =
+    line [] l none no-swaps last hand has k e tp tps after lt own hd = absurd lt
+    line (c ∷ cs) l none no-swaps last hand has k e tp tps after lt own hd =
+        let held = in-hand c (pos p).at.run last hand has k in
         turn-piece ls o trees s mem t pos p c cs (running (leaf_for o trees p c) (pos p).at.run) lt.stands e tp tps end_ piece ps
-        (at-turn c cs l (running (leaf_for o trees p c) (pos p).at.run) refl lt.going) none lt.turn
+        (at-turn c cs l (running (leaf_for o trees p c) (pos p).at.run) refl lt.going no-swaps held.0 held.1) none lt.turn
         (subst (λ (z : WordLp). OwnTurns (leaf_for o trees p) o.machine z tps end_) lt.after_is own) hd an
 
-    turned : (pos p).owes ≡ [] → (turns : List (List Piece)) → OwnTurns (leaf_for o trees p) o.machine (pos p).at turns end_ → joined turns ≡ piece ∷ ps → Came o trees p s t pos piece ps end_
-    turned q [] own f = cc
-    turned q (tp ∷ tps) own f = line (pos p).at.lines refl q own.0 tp tps own.1.0 own.1.1 own.1.2 f
-
-    owing : (pos p).fill ≡ None → (re : Rest o trees p (pos p).at (pos p).owes (piece ∷ ps) end_) → (stores : List Taken) (owes : List Due) → (pos p).owes ≡ owes → AreStores o.machine.pages stores owes → piece ∷ ps ≡ map Quiet stores ++ joined re.turns
+    turned : (pos p).owes ≡ [] → (pos p).swaps ≡ [] → (last : Option Measure) (hand : Hand) → HasInHand (pos p).at.run last → IsHand last hand → (turns : List (List Piece)) → OwnTurns (leaf_for o trees p) o.machine (pos p).at turns end_ → joined turns ≡ piece ∷ ps
         → Came o trees p s t pos piece ps end_
-    owing n re [] (d ∷ ds) q st e = absurd st
-    owing n re (Stepped w x ∷ xs) [] q st e = absurd st
-    owing n re (Swapped k u v ∷ xs) owes q st e = absurd st
-    owing n re (Missed k ∷ xs) owes q st e = absurd st
-    owing n re (Stepped w x ∷ xs) (d ∷ ds) q st e =
-        let y : Taken = Stepped (step.Store (address o.machine.pages d.at) d.word) x in
-        let h' : Quiet y ∷ (map Quiet xs ++ joined re.turns) ≡ piece ∷ ps = ap (λ (z : WordStep). Quiet (Stepped z x) ∷ (map Quiet xs ++ joined re.turns)) (sym st.0) ∙ sym e in
-        came-as o trees p s t pos (Quiet y) piece (map Quiet xs ++ joined re.turns) ps end_ h'
+    turned q no-swaps last hand has k [] own f = cc
+    turned q no-swaps last hand has k (tp ∷ tps) own f = line (pos p).at.lines refl q no-swaps last hand has k own.0 tp tps own.1.0 own.1.1 own.1.2 f
+
+    owing : (pos p).fill ≡ None → (re : Rest o trees p (pos p).at (pos p).owes (pos p).swaps (piece ∷ ps) end_) → (os : List Owed) → re.owed ≡ os → AreOwed o.machine.pages re.hasher re.hand re.items os re.last → Came o trees p s t pos piece ps end_
+    owing n re [] q of =
+        let r = of re.in_hand in
+        turned (re.owes_are ∙ ap stores_in q) (re.swaps_are ∙ ap swaps_in q) re.last re.hand re.last_is r.1 re.turns re.own
+        (ap (λ (z : List Taken). map Quiet z ++ joined re.turns) (sym r.0) ∙ sym re.pieces)
+    owing n re (Stores d ∷ os) q of =
+        let r = of re.in_hand in
+        let y : Taken = Stepped (step.Store (address o.machine.pages d.at) d.word) r.answer in
+        let h' : Quiet y ∷ (map Quiet r.further ++ joined re.turns) ≡ piece ∷ ps = ap (λ (z : List Taken). map Quiet z ++ joined re.turns) (sym r.items) ∙ sym re.pieces in
+        came-as o trees p s t pos (Quiet y) piece (map Quiet r.further ++ joined re.turns) ps end_ h'
         (record {
           memory = mem;
-          now = record { at = (pos p).at; owes = ds; fill = None };
-          stands = owed-step ls o trees s mem t pos p d ds known sd i q n;
-          rest = record { stores = xs; turns = re.turns; are = st.1; pieces = refl; own = re.own };
+          now = record { at = (pos p).at; owes = stores_in os; swaps = (pos p).swaps; fill = None };
+          stands = owed-step ls o trees s mem t pos p d (stores_in os) known sd i (re.owes_are ∙ ap stores_in q) n;
+          rest = record {
+            owed = os;
+            owes_are = refl;
+            swaps_are = re.swaps_are ∙ ap swaps_in q;
+            hasher = re.hasher;
+            hand = re.hand;
+            in_hand = re.in_hand;
+            items = r.further;
+            last = re.last;
+            are = r.then_;
+            last_is = re.last_is;
+            turns = re.turns;
+            pieces = refl;
+            own = re.own;
+          };
         })
-    owing n re [] [] q st e = turned q re.turns re.own (sym e)
+    owing n re (Swaps d ∷ os) q of = by (of re.in_hand)
+      where
+        left : (pos p).swaps ≡ d ∷ swaps_in os
+        left = re.swaps_are ∙ ap swaps_in q
 
-    filling : (f : Fill) → (pos p).fill ≡ Some f → (c : Call) (cs : List Call) → (pos p).at.lines ≡ c ∷ cs → (run : Standing) → (pos p).at.run ≡ Some run → RestFilling o trees p c cs (pos p).at.replies run f (piece ∷ ps) end_
+        may : SwapsMay o.machine (bare (s.lps p).call.held) s.world sd.slots.now (d ∷ swaps_in os)
+        may = subst (λ (z : List SwapDue). SwapsMay o.machine (bare (s.lps p).call.held) s.world sd.slots.now z) left (sd.slots.may p i)
+
+        by : FirstSwaps re.items d (λ k ys. AreOwed o.machine.pages k d.taken ys os re.last) ⊎ FirstMisses re.items d → Came o trees p s t pos piece ps end_
+        by (inr r) =
+            let y : Taken = Missed (d.hkid - 1) in
+            let h' : Quiet y ∷ (map Quiet r.further ++ joined re.turns) ≡ piece ∷ ps = ap (λ (z : List Taken). map Quiet z ++ joined re.turns) (sym r.items) ∙ sym re.pieces in
+            absurd (answers-as t (Quiet y) piece (map Quiet r.further ++ joined re.turns) ps h' an)
+        by (inl r) =
+            let y : Taken = Swapped (d.hkid - 1) r.put r.taken in
+            let h' : Quiet y ∷ (map Quiet r.further ++ joined re.turns) ≡ piece ∷ ps = ap (λ (z : List Taken). map Quiet z ++ joined re.turns) (sym r.items) ∙ sym re.pieces in
+            let took : r.taken ≡ t.slots (d.hkid - 1) = answers-as t (Quiet y) piece (map Quiet r.further ++ joined re.turns) ps h' an in
+            came-as o trees p s t pos (Quiet y) piece (map Quiet r.further ++ joined re.turns) ps end_ h'
+            (record {
+              memory = mem;
+              now = record { at = (pos p).at; owes = (pos p).owes; swaps = swaps_in os; fill = None };
+              stands = swap-step ls o trees s mem t pos p d (swaps_in os) r.put known sd i left n r.is_put;
+              rest = record {
+                owed = os;
+                owes_are = re.owes_are ∙ ap stores_in q;
+                swaps_are = refl;
+                hasher = r.taken;
+                hand = d.taken;
+                in_hand = subst (λ (z : Option Measure). IsHand z d.taken) (sym took) (subst (λ (z : Hand). IsHand (t.slots (d.hkid - 1)) z) (sym may.0.2) (sd.slots.there d.hkid may.0.0));
+                items = r.further;
+                last = re.last;
+                are = r.then_;
+                last_is = re.last_is;
+                turns = re.turns;
+                pieces = refl;
+                own = re.own;
+              };
+            })
+
+    filling : (f : Fill) → (pos p).fill ≡ Some f → (c : Call) (cs : List Call) → (pos p).at.lines ≡ c ∷ cs → (run : Standing) → (pos p).at.run ≡ Some run → RestFilling o trees p c cs (pos p).at.replies (pos p).swaps run f (piece ∷ ps) end_
         → Came o trees p s t pos piece ps end_
     filling f n c cs l run r re =
         let due : Pending o.machine (bare (s.lps p).call.held) s.world mem.words (on_table o.machine t) (pos p).owes (Some run) (Some f) =
         subst (λ (z : Option Standing). Pending o.machine (bare (s.lps p).call.held) s.world mem.words (on_table o.machine t) (pos p).owes z (Some f)) r
         (subst (λ (z : Option Fill). Pending o.machine (bare (s.lps p).call.held) s.world mem.words (on_table o.machine t) (pos p).owes (pos p).at.run z) n h.due) in
         let going : has_ended run.stage run.held ≡ false = ap (λ (z : Stage). has_ended z run.held) due.at_end.0 in
-        fill-piece ls o trees s mem t pos p c cs run f end_ piece ps (at-turn c cs l run (ap (running (leaf_for o trees p c)) r) going) due re an
+        let is : running (leaf_for o trees p c) (pos p).at.run ≡ run = ap (running (leaf_for o trees p c)) r in
+        let none : IsHand run.hasher None = subst (λ (z : Option Measure). IsHand z None) (sym ((runs-at c cs l run is).trying due.at_end.0)) tt in
+        fill-piece ls o trees s mem t pos p c cs run f end_ piece ps (at-turn c cs l run is going re.no_swaps None none) due re an
 
     by-fill : (f : Option Fill) (cs : List Call) (r : Option Standing) → (pos p).fill ≡ f → (pos p).at.lines ≡ cs → (pos p).at.run ≡ r → RestBy o trees p (pos p) (piece ∷ ps) end_ f cs r → Came o trees p s t pos piece ps end_
-    by-fill None cs r n l q re = owing n re re.stores (pos p).owes refl re.are re.pieces
+    by-fill None cs r n l q re = owing n re re.owed refl re.are
     by-fill (Some f) (c ∷ cs) (Some run) n l q re = filling f n c cs l run q re
     by-fill (Some f) [] r n l q re = absurd re
     by-fill (Some f) (c ∷ cs) None n l q re = absurd re

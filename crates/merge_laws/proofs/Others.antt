@@ -66,12 +66,12 @@ all-stand o trees s mem t pos known st q small =
 
 -- words that show a state, on a table that holds them, with the hasher that a run has in hand
 pub shown-hand : (o : Opening) (trees : ℕ → Call → Tree) (s : State) (mem : Memory) (t : Table) (pos : ℕ → Position) (p : ℕ) (c : Call) (run : Standing) → Known o s → Stands o trees s mem t pos → p < length o.calls
-    → (ho : HandOf run) → IsShown (leaf_for o trees p c) s (record mem { hand = ho.hand }) (table_of o.machine t.slots mem.words) run
+    → (ho : HandOf run) → IsShown (leaf_for o trees p c) s (record mem { hand = ho.hand }) (table_of o.machine mem.slots mem.words) run
 shown-hand o trees s mem t pos p c run known st i ho = record {
   processor = subst (λ (n : ℕ). p < n) (sym known.count) i;
   lawful = known.lawful;
   shown = st.shows;
-  memory = holds-memory o.machine t.slots run.hasher (record mem { hand = ho.hand }) st.slots ho.is;
+  memory = holds-memory o.machine run.hasher (record mem { hand = ho.hand }) ho.is;
   exclusive = known.exclusive;
   few_sharers = known.few;
   nothing_to_tell = known.nothing_to_tell;
@@ -85,7 +85,7 @@ shown-hand o trees s mem t pos p c run known st i ho = record {
     empty (Some bytes) x = absurd x
 
 pub shown-of : (o : Opening) (trees : ℕ → Call → Tree) (s : State) (mem : Memory) (t : Table) (pos : ℕ → Position) (p : ℕ) (c : Call) (run : Standing) → Known o s → Stands o trees s mem t pos → p < length o.calls
-    → run.hasher ≡ None → IsShown (leaf_for o trees p c) s mem (table_of o.machine t.slots mem.words) run
+    → run.hasher ≡ None → IsShown (leaf_for o trees p c) s mem (table_of o.machine mem.slots mem.words) run
 shown-of o trees s mem t pos p c run known st i none =
     let empty : IsHand run.hasher mem.hand = subst (λ (h : Option Measure). IsHand h mem.hand) (sym none) (subst (λ (h : Hand). IsHand None h) (sym st.hand) tt) in
     shown-hand o trees s mem t pos p c run known st i (record { hand = mem.hand; is = empty; trying = λ e. none })
@@ -104,7 +104,7 @@ pub stable-told : (o : Opening) (trees : ℕ → Call → Tree) (s : State) (mem
 stable-told o trees s mem t pos p c run are known st i none ca e =
     let task : Task = leaf_for o trees p c in
     let told = ca.told e in
-    let at : IsAt task (instant task s mem) = at-instant o task (row_of o p c) s mem (table_of o.machine t.slots mem.words) run refl (shown-of o trees s mem t pos p c run known st i none) ca e in
+    let at : IsAt task (instant task s mem) = at-instant o task (row_of o p c) s mem (table_of o.machine mem.slots mem.words) run refl (shown-of o trees s mem t pos p c run known st i none) ca e in
     let reads = told-reads o.machine (instant task s mem) (work_of task.meaning) [] (trees p c) ((work_of task.meaning).items s.world) told.told ((are.means p c).means (instant task s mem) at) told.current told.waits in
     let older = told-older (trees p c) told.told [] _ reads in
     each (trees p c) told.told [] (λ ks v q x. (
@@ -227,13 +227,13 @@ others-stay ls o trees s mem t pos k w' words' a' ks are known st i lv =
                 let told = ca.told e in
                 record {
                   told = told.told;
-                  current = still-current (trees k c) told.told [] mem.words words' _ (stable-told o trees s mem t pos k c r are known st i (a.hand.trying e) ca e) (λ hs v q x. lv.looks hs v q x.0 x.1 x.2) told.current;
+                  current = still-current (trees k c) told.told [] mem.words words' _ (stable-told o trees s mem t pos k c r are known st i (a.trying e) ca e) (λ hs v q x. lv.looks hs v q x.0 x.1 x.2) told.current;
                   waits = told.waits;
                   rest = told.rest;
                   locks = told.locks;
                 };
           };
-          hand = a.hand;
+          trying = a.trying;
           tdrs = a.tdrs;
         }
 

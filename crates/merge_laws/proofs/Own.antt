@@ -1,5 +1,5 @@
 -- What an event of a processor makes of where it is itself, and of all of them together.
-use Rattle.std.proofs.Common.{◌≡◌, ◌≢◌, ◌⊎◌, ℕ, zero, suc, ◌+◌, ◌-◌, ◌<◌, Bool, true, false, ◌==◌, cond, List, [], ◌∷◌, ◌++◌, length, drop, Option, Some, None, refl, ap, sym, ◌∙◌, subst, inl, inr, arith, length-append}
+use Rattle.std.proofs.Common.{◌≡◌, ◌≢◌, ◌⊎◌, ℕ, zero, suc, ◌+◌, ◌<◌, Bool, true, false, ◌==◌, cond, List, [], ◌∷◌, ◌++◌, length, drop, Option, Some, None, refl, ap, sym, ◌∙◌, subst, inl, inr, arith, length-append}
 use Rattle.std.proofs.lemmas.Bool.{eq-eqb, eqb-true}
 use Rattle.td_words.specs.declared.names.Mode.TheVariants.{Shared, Exclusive}
 use Rattle.td_words.specs.declared.machines.Machine.{Machine}
@@ -17,20 +17,19 @@ use Rattle.word_rules.specs.Rules.{View, Grade}
 use Rattle.word_rules.specs.Views.{look}
 use Rattle.word_rules.specs.Permissions.{Reads, Owes, Fills, Respects}
 use Rattle.word_rules.specs.Cells.{Shows}
+use Rattle.mrtd_measure.specs.declared.measures.Measure.{Measure}
 use Rattle.step_core.specs.Items.{Table}
 use Rattle.lock_words.specs.Grips.{CallTdrs, HoldTdrs, HoldsTdr, UndoTdr, GuestTdrs, TdrsAreHeld}
 use Rattle.leaf_engine.specs.Changes.{Memory}
 use Rattle.leaf_engine.specs.Trees.{Tree}
-use Rattle.leaf_engine.specs.Means.{IsHkid}
-use Rattle.leaf_engine.specs.Decides.{IsHand}
 use Rattle.leaf_engine.specs.Turns.{Standing}
-use Rattle.leaf_engine.specs.Calls.{GoesOn, IsOver, After}
+use Rattle.leaf_engine.specs.Calls.{IsCallAt, GoesOn, IsOver, After}
 use Rattle.leaf_engine.specs.OwnLists.{WordLp, after_turn}
 use Rattle.leaf_engine.proofs.Calling.{event-is, lp-now}
 use Rattle.merge_laws.proofs.Stores.{Due, last_at, laid, last-each, OwesAt, FillsAt}
 use Rattle.merge_laws.proofs.Keeping.{keeps-each}
 use Rattle.merge_laws.proofs.Holding.{bare, NoGuests, IsOlder, apart-held}
-use Rattle.merge_laws.proofs.Standing.{Laws, leaf_for, AreTrees, Known, HandOf, RunAt, StandsAt, on_table, Fill, Position, back, Pending, Holds, Stands}
+use Rattle.merge_laws.proofs.Standing.{Laws, leaf_for, AreTrees, Known, NoneOnWay, RunAt, StandsAt, on_table, Fill, Position, back, Pending, Holds, Slots, Stands}
 use Rattle.merge_laws.proofs.Others.{Leaves, others-stay}
 
 -- its record
@@ -98,17 +97,30 @@ drop-next (suc n) (x ∷ xs) c cs e = (let k : suc n + 1 ≡ suc (n + 1) = omega
 one-more : (rs : List Reply) (r : Reply) → length (rs ++ r ∷ []) ≡ length rs + 1
 one-more rs r = length-append rs (r ∷ [])
 
-pub stands-after : (o : Opening) (trees : ℕ → Call → Tree) (p : ℕ) (c : Call) (cs : List Call) (lp : Lp) (s' : State) (u : Table) (run' : Standing) (reply : Option Reply) → lines_left o p lp ≡ c ∷ cs
-    → (after : After o (leaf_for o trees p c) (row_of o p c) lp.replies s' u run' reply) → HandOf run' → CallTdrs (s'.lps p).call → (rs : List Reply) → lp.replies ≡ rs
+-- where it then is doesn't hang on the hasher in hand
+abbrev pub with_hasher : Standing → Option Measure → Standing
+with_hasher run h = record run { hasher = h }
+
+pub stands-after : (o : Opening) (trees : ℕ → Call → Tree) (p : ℕ) (c : Call) (cs : List Call) (lp : Lp) (s' : State) (u : Table) (run' : Standing) (h : Option Measure) (reply : Option Reply) → lines_left o p lp ≡ c ∷ cs
+    → (after : After o (leaf_for o trees p c) (row_of o p c) lp.replies s' u (with_hasher run' h) reply) → NoneOnWay run' → CallTdrs (s'.lps p).call → (rs : List Reply) → lp.replies ≡ rs
     → StandsAt o trees p s'.world after.mem.words (s'.lps p) (after_turn c cs rs run' reply)
-stands-after o trees p c cs lp s' u run' reply lines after none tdrs rs same = by reply after.then_
+stands-after o trees p c cs lp s' u run' h reply lines after none tdrs rs same = by reply after.then_
   where
-    by : (reply : Option Reply) → GoesOn o (leaf_for o trees p c) (row_of o p c) lp.replies s'.world after.mem (s'.lps p) run' reply ⊎ IsOver lp.replies (s'.lps p) reply
+    same-call : IsCallAt o (leaf_for o trees p c) (row_of o p c) s'.world after.mem.words (s'.lps p) (with_hasher run' h) → IsCallAt o (leaf_for o trees p c) (row_of o p c) s'.world after.mem.words (s'.lps p) run'
+    same-call ca = record {
+      line = ca.line;
+      guest = ca.guest;
+      stage = ca.stage;
+      held = ca.held;
+      told = λ e. (let told = ca.told e in record { told = told.told; current = told.current; waits = told.waits; rest = told.rest; locks = told.locks });
+    }
+
+    by : (reply : Option Reply) → GoesOn o (leaf_for o trees p c) (row_of o p c) lp.replies s'.world after.mem (s'.lps p) (with_hasher run' h) reply ⊎ IsOver lp.replies (s'.lps p) reply
         → StandsAt o trees p s'.world after.mem.words (s'.lps p) (after_turn c cs rs run' reply)
     by None (inl g) = record {
       lines = ap (λ (z : List Reply). drop (length z) (calls_of o.calls p)) g.replies_are ∙ lines;
       replies = g.replies_are ∙ same;
-      run = record { call = g.call; hand = none; tdrs = tdrs };
+      run = record { call = same-call g.call; trying = none; tdrs = tdrs };
     }
     by (Some r) (inl g) = (let e = g.no_reply in cc)
     by None (inr v) = (let e = v.reply_is in cc)
@@ -158,7 +170,7 @@ pub record Spares (m : Machine) (s : State) (p : ℕ) (w' : World) (words words'
 
 pub gathered : (ls : Laws) (o : Opening) (trees : ℕ → Call → Tree) (s : State) (mem mem' : Memory) (t t' : Table) (pos : ℕ → Position) (p : ℕ) (now : Position) → AreTrees o trees → Known o s → Stands o trees s mem t pos → p < length o.calls
     → Spares o.machine s p (event o s p).world mem.words mem'.words (on_table o.machine t) (on_table o.machine t') → Shows o.machine mem'.words mem'.slots (event o s p) → mem'.hand ≡ None
-    → ((h : ℕ) → IsHkid o.machine h → IsHand (t'.slots (h - 1)) (mem'.slots h))
+    → Slots o (event o s p) mem'.slots t'.slots (put pos p now)
     → Holds o trees p (event o s p).world mem'.words (on_table o.machine t') ((event o s p).lps p) now → CallTdrs ((event o s p).lps p).call
     → ((r : WordPlace) → IsIn o.machine r → mem'.words r ≡ laid (length o.calls) (λ k. (put pos p now k).owes) (on_table o.machine t') r)
     → Stands o trees (event o s p) mem' t' (put pos p now)

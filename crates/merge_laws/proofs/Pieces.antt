@@ -83,7 +83,7 @@ line-runs o trees p c cs w words lp at st lines = by at.run (subst (λ (z : List
     by : (r : Option Standing) → RunAt o trees p w words lp (c ∷ cs) r → RunsAt o (leaf_for o trees p c) (row_of o p c) w words lp (running (leaf_for o trees p c) r)
     by None between = record {
       call = calls-begin o (leaf_for o trees p c) (row_of o p c) w words lp (record { call = c; further = cs; lines = st.lines ∙ lines; row_is = refl }) between;
-      hand = record { hand = None; is = tt; trying = λ e. refl };
+      trying = λ e. refl;
       tdrs = subst (λ z. CallTdrs z) (sym between.call) (tt, tt);
     }
     by (Some r) a = a

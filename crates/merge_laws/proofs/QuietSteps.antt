@@ -18,7 +18,7 @@ use Rattle.word_rules.specs.Permissions.{Reads, Sees, Owes, Fills}
 use Rattle.lock_words.specs.LockWords.{put_word}
 use Rattle.step_core.specs.declared.steps.WordStep.TheVariants as step
 use Rattle.step_core.specs.Words.{after_step}
-use Rattle.step_core.specs.Items.{Table}
+use Rattle.step_core.specs.Items.{Table, with_slot}
 use Rattle.leaf_engine.specs.declared.events.Stage.TheVariants as stages
 use Rattle.leaf_engine.specs.Changes.{Memory}
 use Rattle.leaf_engine.specs.Trees.{Tree, Lock, Load, Test, End, Since, feed, settle, fed, has_acted}
@@ -34,16 +34,17 @@ use Rattle.leaf_engine.proofs.Loading.{LooksRight, current-load, granted-load}
 use Rattle.leaf_engine.proofs.Turning.{instant, at-instant}
 use Rattle.leaf_engine.proofs.Changing.{word_put}
 use Rattle.merge_laws.proofs.Virtual.{table_of}
-use Rattle.merge_laws.proofs.Stores.{Due, last_at, later, or_else, laid, laid-one, laid-same, last-each, OwesAt, FillsAt}
+use Rattle.merge_laws.proofs.Stores.{Due, last_at, or_else, first-at, not-at, laid, laid-one, laid-same, last-each, OwesAt, FillsAt}
 use Rattle.merge_laws.proofs.Keeping.{Keeps, keeps-same, laid-looks}
-use Rattle.merge_laws.proofs.Holding.{bare}
-use Rattle.merge_laws.proofs.Standing.{Laws, leaf_for, AreTrees, Known, on_table, Fill, Position, back, Pending, Holds, Stands}
+use Rattle.merge_laws.proofs.Holding.{bare, turned-round}
+use Rattle.merge_laws.proofs.Standing.{Laws, leaf_for, AreTrees, Known, on_table, Fill, Position, back, Pending, Holds, Slots, Stands}
 use Rattle.merge_laws.proofs.Others.{shown-of, hold-is}
+use Rattle.merge_laws.proofs.Swaps.{SwapDue}
+use Rattle.merge_laws.proofs.SlotSteps.{slots-stay, slots-swap}
 use Rattle.merge_laws.proofs.Own.{at-own, at-other, whole, apart-from, due-at}
-use Rattle.merge_laws.proofs.LockSteps.{turned-round}
 
 -- one processor is elsewhere, in the same state
-pub rearranged : (ls : Laws) (o : Opening) (trees : ℕ → Call → Tree) (s : State) (mem : Memory) (t t' : Table) (pos : ℕ → Position) (p : ℕ) (now : Position) → Stands o trees s mem t pos → t'.slots ≡ t.slots
+pub rearranged : (ls : Laws) (o : Opening) (trees : ℕ → Call → Tree) (s : State) (mem : Memory) (t t' : Table) (pos : ℕ → Position) (p : ℕ) (now : Position) → Stands o trees s mem t pos → Slots o s mem.slots t'.slots (put pos p now)
     → ((k : ℕ) → k < length o.calls → (k == p) ≡ false → (q : WordPlace) (g : Grade) → IsIn o.machine q → Owes (bare (s.lps k).call.held) s.world q g → on_table o.machine t q ≡ on_table o.machine t' q)
     → ((k : ℕ) → k < length o.calls → (k == p) ≡ false → (q : WordPlace) → IsIn o.machine q → Fills (bare (s.lps k).call.held) s.world q → on_table o.machine t q ≡ on_table o.machine t' q)
     → Holds o trees p s.world mem.words (on_table o.machine t') (s.lps p) now
@@ -52,7 +53,7 @@ pub rearranged : (ls : Laws) (o : Opening) (trees : ℕ → Call → Tree) (s : 
 rearranged ls o trees s mem t t' pos p now sd slots still unfilled own laid_is = record {
   shows = sd.shows;
   hand = sd.hand;
-  slots = λ h in_h. subst (λ (f : ℕ → Option Measure). IsHand (f (h - 1)) (mem.slots h)) (sym slots) (sd.slots h in_h);
+  slots = slots;
   guests = sd.guests;
   tdrs = sd.tdrs;
   holds = holds;
@@ -93,7 +94,7 @@ pub loads-right : (ls : Laws) (o : Opening) (trees : ℕ → Call → Tree) (s :
     → (pos p).owes ≡ [] → run.hasher ≡ None → (ca : IsCallAt o (leaf_for o trees p c) (row_of o p c) s.world mem.words (s.lps p) run) → (e : run.stage ≡ stages.Trying)
     → IsLoadAt o.machine.pages (feed (trees p c) (ca.told e).told) at → a ≡ t.words at → LooksRight mem.words (feed (trees p c) (ca.told e).told) a
 loads-right ls o trees s mem t pos p c run at a are known sd i none no_hasher ca e load is =
-    by (feed (trees p c) told) (leaves-follow-rows task inst told (are.means p c) (at-instant o task (row_of o p c) s mem (table_of m t.slots mem.words) run refl (shown-of o trees s mem t pos p c run known sd i no_hasher) ca e) (ca.told e).current) load
+    by (feed (trees p c) told) (leaves-follow-rows task inst told (are.means p c) (at-instant o task (row_of o p c) s mem (table_of m mem.slots mem.words) run refl (shown-of o trees s mem t pos p c run known sd i no_hasher) ca e) (ca.told e).current) load
   where
     m : Machine
     m = o.machine
@@ -210,9 +211,9 @@ pub store-step : (ls : Laws) (o : Opening) (trees : ℕ → Call → Tree) (s : 
     → (let t' = record t { words = after_step t.words (step.Store (address o.machine.pages d.at) d.word) } in
     Holds o trees p s.world mem.words (on_table o.machine t') (s.lps p) now
     → ((r : WordPlace) → IsIn o.machine r → same_place r d.at ≡ true → mem.words r ≡ or_else (last_at (pos p).owes r) (on_table o.machine t r) → mem.words r ≡ or_else (last_at now.owes r) d.word)
-    → ((r : WordPlace) → same_place r d.at ≡ false → last_at now.owes r ≡ last_at (pos p).owes r)
+    → ((r : WordPlace) → same_place r d.at ≡ false → last_at now.owes r ≡ last_at (pos p).owes r) → now.swaps ≡ (pos p).swaps
     → Stands o trees s mem t' (put pos p now))
-store-step ls o trees s mem t pos p d now sd i in_d sole own here there = rearranged ls o trees s mem t t' pos p now sd refl still unfilled own laid-after
+store-step ls o trees s mem t pos p d now sd i in_d sole own here there swaps = rearranged ls o trees s mem t t' pos p now sd (slots-stay o s mem.slots t.slots pos p now sd.slots swaps) still unfilled own laid-after
   where
     m : Machine
     m = o.machine
@@ -278,19 +279,9 @@ store-step ls o trees s mem t pos p d now sd i in_d sole own here there = rearra
                     subst (λ (z : ℕ). last_at (pos z).owes r ≡ last_at (put pos p now z).owes r) (sym k-is) (sym (mine ∙ there r e))
                 test false f = sym (other k f)
 
-pub first-at : (x : Option ℕ) (b : Bool) (w y : ℕ) → b ≡ true → or_else (later x (if b then Some w else None)) y ≡ or_else x w
-first-at (Some z) b w y f = refl
-first-at None true w y f = refl
-first-at None false w y f = cc
-
-pub not-at : (x : Option ℕ) (b : Bool) (w : ℕ) → b ≡ false → later x (if b then Some w else None) ≡ x
-not-at (Some y) b w f = refl
-not-at None false w f = refl
-not-at None true w f = cc
-
 -- the first store that is owed is made
 pub owed-step : (ls : Laws) (o : Opening) (trees : ℕ → Call → Tree) (s : State) (mem : Memory) (t : Table) (pos : ℕ → Position) (p : ℕ) (d : Due) (ds : List Due) → Known o s → Stands o trees s mem t pos → p < length o.calls
-    → (pos p).owes ≡ d ∷ ds → (pos p).fill ≡ None → Stands o trees s mem (record t { words = after_step t.words (step.Store (address o.machine.pages d.at) d.word) }) (put pos p (record { at = (pos p).at; owes = ds; fill = None }))
+    → (pos p).owes ≡ d ∷ ds → (pos p).fill ≡ None → Stands o trees s mem (record t { words = after_step t.words (step.Store (address o.machine.pages d.at) d.word) }) (put pos p (record { at = (pos p).at; owes = ds; swaps = (pos p).swaps; fill = None }))
 owed-step ls o trees s mem t pos p d ds known sd i is plain =
     store-step ls o trees s mem t pos p d now sd i owed.0.0
     (record {
@@ -299,7 +290,7 @@ owed-step ls o trees s mem t pos p d ds known sd i is plain =
     })
     (record { stands = (sd.holds p i).stands; due = kept })
     (λ r in_r e was. was ∙ (ap (λ (z : List Due). or_else (last_at z r) (on_table m t r)) is ∙ first-at (last_at ds r) (same_place r d.at) d.word (on_table m t r) e))
-    (λ r e. sym (ap (λ (z : List Due). last_at z r) is ∙ not-at (last_at ds r) (same_place r d.at) d.word e))
+    (λ r e. sym (ap (λ (z : List Due). last_at z r) is ∙ not-at (last_at ds r) (same_place r d.at) d.word e)) refl
   where
     m : Machine
     m = o.machine
@@ -308,7 +299,7 @@ owed-step ls o trees s mem t pos p d ds known sd i is plain =
     t' = record t { words = after_step t.words (step.Store (address m.pages d.at) d.word) }
 
     now : Position
-    now = record { at = (pos p).at; owes = ds; fill = None }
+    now = record { at = (pos p).at; owes = ds; swaps = (pos p).swaps; fill = None }
 
     apart : (k : ℕ) → k < length o.calls → (k == p) ≡ false → Apart (bare (s.lps k).call.held) (bare (s.lps p).call.held)
     apart k j e = apart-from ls o trees s mem t pos p k (s.lps k).call.held known sd i j e (whole (s.lps k).call.held)
@@ -321,3 +312,30 @@ owed-step ls o trees s mem t pos p d ds known sd i is plain =
     kept : Keeps m (bare (s.lps p).call.held) s.world (on_table m t') ds
     kept = keeps-same m (bare (s.lps p).call.held) (bare (s.lps p).call.held) s.world s.world (put_word (on_table m t) d.at d.word) (on_table m t') ds (λ q g x. x)
         (λ q g in_q x. sym (word_put ls.places m t.words t'.words (on_table m t) d.at d.word owed.0.0 refl (λ y in_y. refl) q in_q)) owed.1
+
+-- the first swap that is owed is made
+pub swap-step : (ls : Laws) (o : Opening) (trees : ℕ → Call → Tree) (s : State) (mem : Memory) (t : Table) (pos : ℕ → Position) (p : ℕ) (d : SwapDue) (ds : List SwapDue) (made : Option Measure) → Known o s → Stands o trees s mem t pos → p < length o.calls
+    → (pos p).swaps ≡ d ∷ ds → (pos p).fill ≡ None → IsHand made d.put
+    → Stands o trees s mem (record t { slots = with_slot t.slots (d.hkid - 1) made }) (put pos p (record { at = (pos p).at; owes = (pos p).owes; swaps = ds; fill = None }))
+swap-step ls o trees s mem t pos p d ds made known sd i is plain put_is =
+    rearranged ls o trees s mem t t' pos p now sd (slots-swap ls o trees s mem t pos p d ds made now known sd i is refl put_is) (λ k j e q g in_q owes. refl) (λ k j e q in_q fills. refl)
+    (record {
+      stands = (sd.holds p i).stands;
+      due = subst (λ (f : Option Fill). Pending m (bare (s.lps p).call.held) s.world mem.words (on_table m t) (pos p).owes (pos p).at.run f) plain (sd.holds p i).due;
+    })
+    (λ r in_r. sd.laid_is r in_r ∙ laid-same (length o.calls) (λ k. (pos k).owes) (λ k. (put pos p now k).owes) (on_table m t) (on_table m t) r (λ k j. same k r (k == p) refl) refl)
+  where
+    m : Machine
+    m = o.machine
+
+    t' : Table
+    t' = record t { slots = with_slot t.slots (d.hkid - 1) made }
+
+    now : Position
+    now = record { at = (pos p).at; owes = (pos p).owes; swaps = ds; fill = None }
+
+    same : (k : ℕ) (r : WordPlace) → (b : Bool) → (k == p) ≡ b → last_at (pos k).owes r ≡ last_at (put pos p now k).owes r
+    same k r true e =
+        let k-is : k ≡ p = eqb-true k p e in
+        subst (λ (z : ℕ). last_at (pos z).owes r ≡ last_at (put pos p now z).owes r) (sym k-is) (sym (ap (λ (z : Position). last_at z.owes r) (at-own pos p now)))
+    same k r false e = sym (ap (λ (z : Position). last_at z.owes r) (at-other pos p k now e))

@@ -11,14 +11,17 @@ use Rattle.step_core.specs.Items.{Table, Taken}
 use Rattle.leaf_engine.specs.declared.events.Event.{Event as RunEvent}
 use Rattle.leaf_engine.specs.Trees.{Tree}
 use Rattle.leaf_engine.specs.Means.{Task, MeansRow}
+use Rattle.leaf_engine.specs.Changes.{Hand}
 use Rattle.leaf_engine.specs.Decides.{IsHand}
 use Rattle.leaf_engine.specs.Turns.{Standing}
 use Rattle.leaf_engine.specs.Calls.{no_memory}
 use Rattle.leaf_engine.specs.OwnLists.{Piece, Quiet, joined, marked_behind, running, WordLp, first_lp, LinesTurn, OwnTurns}
 use Rattle.leaf_engine.specs.Merges.{Item, part, order, no_table, AreLeaves, Merge}
 use Rattle.merge_laws.specs.Laws.{IsShownBy, IsWhere, MergesAreRuns}
-use Rattle.merge_laws.proofs.Stores.{Due, AreStores, laid, laid-none}
-use Rattle.merge_laws.proofs.Standing.{Laws, leaf_for, AreTrees, Known, on_table, Fill, Position, RestBy, RestOf, Stands}
+use Rattle.merge_laws.proofs.Stores.{Due, over-none, laid-none}
+use Rattle.merge_laws.proofs.Swaps.{SwapDue, last_put}
+use Rattle.merge_laws.proofs.Owing.{Owed, Stores, Swaps, stores_in, swaps_in, FirstSwaps, FirstMisses, AreOwed}
+use Rattle.merge_laws.proofs.Standing.{Laws, leaf_for, AreTrees, Known, on_table, Fill, Position, Rest, RestBy, RestOf, Stands}
 use Rattle.merge_laws.proofs.Merged.{known-of, Through, through}
 
 -- leaves by their trees
@@ -32,20 +35,24 @@ leaves-are o leaf are = λ i p c. record { place = record { machine = are.machin
 trees-are : (o : Opening) (leaf : ℕ → Call → Task) → AreLeaves o leaf → AreTrees o (trees_of leaf)
 trees-are o leaf are = record {
   means = λ p c. subst (λ (f : ℕ → Call → Task). MeansRow (f p c)) (leaves-are o leaf are) (are.means p c);
-  swaps = are.swaps;
 }
 
 -- the start
 
 first_position : Opening → ℕ → Position
-first_position o p = record { at = first_lp (calls_of o.calls p); owes = []; fill = None }
+first_position o p = record { at = first_lp (calls_of o.calls p); owes = []; swaps = []; fill = None }
 
 starts : (ls : Laws) (o : Opening) (trees : ℕ → Call → Tree) → Stands o trees (start o None) no_memory no_table (first_position o)
 unfolding first_position
 starts ls o trees = record {
   shows = ls.start o None;
   hand = refl;
-  slots = λ h in_h. tt;
+  slots = record {
+    now = λ h. None;
+    there = λ h in_h. tt;
+    laid_is = λ h in_h. sym (over-none (length o.calls) (λ p. None) None (λ q l. refl));
+    may = λ p i. tt;
+  };
   guests = λ p. refl;
   tdrs = λ p. ((tt, tt), tt);
   holds = λ p i. record { stands = record { lines = refl; replies = refl; run = record { call = refl; guest = refl } }; due = tt };
@@ -54,7 +61,7 @@ starts ls o trees = record {
 
 -- the end
 
-nothing-left : (ls : Laws) (o : Opening) (trees : ℕ → Call → Tree) (p : ℕ) (pos : Position) (end_ : WordLp) → RestOf o trees p pos [] end_ → (pos.owes ≡ []) × (pos.at ≡ end_)
+nothing-left : (ls : Laws) (o : Opening) (trees : ℕ → Call → Tree) (p : ℕ) (pos : Position) (end_ : WordLp) → RestOf o trees p pos [] end_ → (pos.owes ≡ []) × (pos.swaps ≡ []) × (pos.at ≡ end_)
 nothing-left ls o trees p pos end_ rest = by-fill pos.fill pos.at.lines pos.at.run rest
   where
     turn : (cs : List Call) → pos.at.lines ≡ cs → (e : RunEvent) (after : WordLp) → LinesTurn (leaf_for o trees p) o.machine cs pos.at.run pos.at.replies e [] after → ⊥
@@ -66,11 +73,18 @@ nothing-left ls o trees p pos end_ rest = by-fill pos.fill pos.at.lines pos.at.r
     turns ([] ∷ tps) e own = absurd (turn pos.at.lines refl own.0 own.1.0 own.1.1)
     turns ((x ∷ tp) ∷ tps) e own = cc
 
-    by : (stores : List Taken) (owes : List Due) → pos.owes ≡ owes → AreStores o.machine.pages stores owes → (tps : List (List Piece)) → [] ≡ map Quiet stores ++ joined tps → OwnTurns (leaf_for o trees p) o.machine pos.at tps end_
-        → (pos.owes ≡ []) × (pos.at ≡ end_)
-    by [] [] q st tps e own = (q, turns tps e own)
-    by [] (d ∷ ds) q st tps e own = absurd st
-    by (x ∷ xs) owes q st tps e own = cc
+    no-items : (xs : List Taken) (ps : List Piece) → [] ≡ map Quiet xs ++ ps → (xs ≡ []) × ([] ≡ ps)
+    no-items [] ps e = (refl, e)
+    no-items (x ∷ xs) ps e = cc
+
+    by : (re : Rest o trees p pos.at pos.owes pos.swaps [] end_) → (os : List Owed) → re.owed ≡ os → AreOwed o.machine.pages re.hasher re.hand re.items os re.last → (pos.owes ≡ []) × (pos.swaps ≡ []) × (pos.at ≡ end_)
+    by re [] q of = (re.owes_are ∙ ap stores_in q, re.swaps_are ∙ ap swaps_in q, turns re.turns (no-items re.items (joined re.turns) re.pieces).1 re.own)
+    by re (Stores d ∷ os) q of = (let r = of re.in_hand in let bad = sym (no-items re.items (joined re.turns) re.pieces).0 ∙ r.items in cc)
+    by re (Swaps d ∷ os) q of = absurd (no-swap (of re.in_hand))
+      where
+        no-swap : FirstSwaps re.items d (λ k ys. AreOwed o.machine.pages k d.taken ys os re.last) ⊎ FirstMisses re.items d → ⊥
+        no-swap (inl r) = (let bad = sym (no-items re.items (joined re.turns) re.pieces).0 ∙ r.items in cc)
+        no-swap (inr r) = (let bad = sym (no-items re.items (joined re.turns) re.pieces).0 ∙ r.items in cc)
 
     -- an act is still to come
     act-left : (stores act : List Taken) (ps : List Piece) → [] ≡ map Quiet stores ++ (marked_behind 0 act ++ ps) → ⊥
@@ -78,15 +92,15 @@ nothing-left ls o trees p pos end_ rest = by-fill pos.fill pos.at.lines pos.at.r
     act-left [] (x ∷ xs) ps e = cc
     act-left (x ∷ xs) act ps e = cc
 
-    by-fill : (f : Option Fill) (cs : List Call) (r : Option Standing) → RestBy o trees p pos [] end_ f cs r → (pos.owes ≡ []) × (pos.at ≡ end_)
-    by-fill None cs r re = by re.stores pos.owes refl re.are re.turns re.pieces re.own
+    by-fill : (f : Option Fill) (cs : List Call) (r : Option Standing) → RestBy o trees p pos [] end_ f cs r → (pos.owes ≡ []) × (pos.swaps ≡ []) × (pos.at ≡ end_)
+    by-fill None cs r re = by re re.owed refl re.are
     by-fill (Some f) (c ∷ cs) (Some run) re = absurd (act-left re.stores re.act (joined re.turns) re.pieces)
     by-fill (Some f) [] r re = absurd re
     by-fill (Some f) (c ∷ cs) None re = absurd re
 
 ends-so : (ls : Laws) (o : Opening) (trees : ℕ → Call → Tree) (s : State) (u : Table) (ends : ℕ → WordLp) → Through o trees s u ends → IsShownBy o.machine u s × IsWhere o ends s
 ends-so ls o trees s u ends th =
-    let left : (p : ℕ) → p < length o.calls → ((th.pos p).owes ≡ []) × ((th.pos p).at ≡ ends p) = λ p i. nothing-left ls o trees p (th.pos p) (ends p) (th.rest p i) in (
+    let left : (p : ℕ) → p < length o.calls → ((th.pos p).owes ≡ []) × ((th.pos p).swaps ≡ []) × ((th.pos p).at ≡ ends p) = λ p i. nothing-left ls o trees p (th.pos p) (ends p) (th.rest p i) in (
       record {
         memory = th.memory;
         is = record {
@@ -94,14 +108,18 @@ ends-so ls o trees s u ends th =
               ap (λ (w : Words). w (address o.machine.pages q)) th.words
               ∙ sym (th.stands.laid_is q in_q
               ∙ laid-none (length o.calls) (λ p. (th.pos p).owes) (on_table o.machine th.table) q (λ p i. ap (λ (ds : List Due). Rattle.merge_laws.proofs.Stores.last_at ds q) (left p i).0));
-          slots = λ h in_h. subst (λ (f : ℕ → Option Measure). IsHand (f (h - 1)) (th.memory.slots h)) (sym th.slots) (th.stands.slots h in_h);
+          slots = λ h in_h.
+              subst (λ (f : ℕ → Option Measure). IsHand (f (h - 1)) (th.memory.slots h)) (sym th.slots)
+              (subst (λ (x : Hand). IsHand (th.table.slots (h - 1)) x)
+              (sym (th.stands.slots.laid_is h in_h ∙ over-none (length o.calls) (λ p. last_put (th.pos p).swaps h) (th.stands.slots.now h) (λ p i. ap (λ (ds : List SwapDue). last_put ds h) (left p i).1)))
+              (th.stands.slots.there h in_h));
           hand = subst (λ z. IsHand None z) (sym th.stands.hand) tt;
         };
         shows = th.stands.shows;
       },
       record {
-        lines = λ p i. (th.stands.holds p i).stands.lines ∙ ap (λ (w : WordLp). w.lines) (left p i).1;
-        replies = λ p i. (th.stands.holds p i).stands.replies ∙ ap (λ (w : WordLp). w.replies) (left p i).1;
+        lines = λ p i. (th.stands.holds p i).stands.lines ∙ ap (λ (w : WordLp). w.lines) (left p i).2;
+        replies = λ p i. (th.stands.holds p i).stands.replies ∙ ap (λ (w : WordLp). w.replies) (left p i).2;
       },
     )
 
@@ -118,7 +136,21 @@ merges ls o leaf is now u most are merge =
     (λ p i. rest-first p (part p is) (merge.own p) (merge.merge.each p i) (own p i)) merge.merge.nothing_else merge.plays)
   where
     rest-first : (p : ℕ) (ps : List Piece) (tps : List (List Piece)) → ps ≡ joined tps → OwnTurns (leaf_for o (trees_of leaf) p) o.machine (first_lp (calls_of o.calls p)) tps (now p) → RestOf o (trees_of leaf) p (first_position o p) ps (now p)
-    rest-first p ps tps e own = record { stores = []; turns = tps; are = tt; pieces = e; own = own }
+    rest-first p ps tps e own = record {
+      owed = [];
+      owes_are = refl;
+      swaps_are = refl;
+      hasher = None;
+      hand = None;
+      in_hand = tt;
+      items = [];
+      last = None;
+      are = λ i. (refl, i);
+      last_is = tt;
+      turns = tps;
+      pieces = e;
+      own = own;
+    }
 
 -- a state in which no processor has a line left
 

@@ -1,6 +1,6 @@
 -- Where each processor is beside the flat machine, while a merge is gone through.
 use Rattle.mrtd_measure.specs.declared.measures.Measure.{Measure}
-use Rattle.std.proofs.Common.{◌≡◌, ℕ, ◌+◌, ◌-◌, ◌^◌, ◌<◌, true, List, [], ◌∷◌, ◌++◌, map, length, Option, Some, None}
+use Rattle.std.proofs.Common.{◌≡◌, ℕ, ◌+◌, ◌-◌, ◌^◌, ◌<◌, List, [], ◌∷◌, ◌++◌, map, length, Option, Some, None}
 use Rattle.td_words.specs.declared.machines.Machine.{Machine}
 use Rattle.td_words.specs.declared.calls.Call.{Call}
 use Rattle.td_words.specs.declared.replies.Reply.{Reply}
@@ -26,7 +26,7 @@ use Rattle.act_rules.specs.Stores.{OthersStoresKeepReads}
 use Rattle.step_core.specs.Items.{Table, Taken}
 use Rattle.step_core.specs.Laws.{PagesChangeAlone}
 use Rattle.leaf_engine.specs.Changes.{Memory}
-use Rattle.leaf_engine.specs.Trees.{Tree, End, feed, swaps_as_act}
+use Rattle.leaf_engine.specs.Trees.{Tree, End}
 use Rattle.leaf_engine.specs.Changes.{Hand, Change}
 use Rattle.leaf_engine.specs.Means.{Task, OfCall, MeansRow, IsHkid}
 use Rattle.leaf_engine.specs.Decides.{IsHand}
@@ -35,7 +35,9 @@ use Rattle.leaf_engine.specs.Items.{AreChanged}
 use Rattle.leaf_engine.specs.Turns.{Standing, standing, last_reply}
 use Rattle.leaf_engine.specs.Calls.{IsCallAt}
 use Rattle.leaf_engine.specs.OwnLists.{Piece, Quiet, joined, marked_behind, TurnsInPieces, WordLp, after_turn, OwnTurns}
-use Rattle.merge_laws.proofs.Stores.{Due, last_at, or_else, laid, EachDue, FillsAt, AreStores}
+use Rattle.merge_laws.proofs.Stores.{Due, last_at, or_else, laid, EachDue, FillsAt}
+use Rattle.merge_laws.proofs.Swaps.{SwapDue, slots_laid, SwapsMay}
+use Rattle.merge_laws.proofs.Owing.{Owed, stores_in, swaps_in, AreOwed}
 use Rattle.merge_laws.proofs.Filling.{Todo, all_todos, AreTodos, dues_of, EachTodo}
 use Rattle.merge_laws.proofs.Keeping.{Keeps}
 use Rattle.merge_laws.proofs.Holding.{bare, NoGuests}
@@ -67,7 +69,6 @@ leaf_for o trees p c = record { place = record { machine = o.machine; lp = p }; 
 
 pub record AreTrees (o : Opening) (trees : ℕ → Call → Tree) : Type 0 where
   pub means : (p : ℕ) (c : Call) → MeansRow (leaf_for o trees p c)
-  pub swaps : (p : ℕ) (c : Call) (told : List ℕ) → swaps_as_act (feed (trees p c) told) ≡ true
 
 -- what is known of a state that a run reaches
 pub record Known (o : Opening) (s : State) : Type 0 where
@@ -79,16 +80,19 @@ pub record Known (o : Opening) (s : State) : Type 0 where
   pub few : (l : LockId) → sharers s.lps s.lp_count l + refusals s.lps s.lp_count l + 1 < 2 ^ 63
   pub nothing_to_tell : s.world.outgoing.to_tell ≡ None
 
+abbrev pub NoneOnWay : Standing → Type 0
+NoneOnWay run = run.stage ≡ stages.Trying → run.hasher ≡ None
+
 -- the hasher that a run has in hand: none on its way
 pub record HandOf (run : Standing) : Type 0 where
   pub hand : Hand
   pub is : IsHand run.hasher hand
-  pub trying : run.stage ≡ stages.Trying → run.hasher ≡ None
+  pub trying : NoneOnWay run
 
 -- a run that has begun
 pub record RunsAt (o : Opening) (task : Task) (row : Row) (w : World) (words : WordPlace → ℕ) (lp : Lp) (run : Standing) : Type 0 where
   pub call : IsCallAt o task row w words lp run
-  pub hand : HandOf run
+  pub trying : NoneOnWay run
   pub tdrs : CallTdrs lp.call
 
 abbrev pub RunAt : Opening → (ℕ → Call → Tree) → ℕ → World → (WordPlace → ℕ) → Lp → List Call → Option Standing → Type 0
@@ -109,11 +113,12 @@ pub record Fill : Type 0 where
   pub made : List Due
   pub left : List Todo
 
--- a processor between two steps: at a turn, or within the loads of one. Either its last act is done, and these stores are
--- owed; or it fills, and these would take its fills back
+-- a processor between two steps: at a turn, or within the loads of one. Either its last act is done, and these stores and
+-- swaps are owed; or it fills, and these stores would take its fills back
 pub record Position : Type 0 where
   pub at : WordLp
   pub owes : List Due
+  pub swaps : List SwapDue
   pub fill : Option Fill
 
 -- a word as a leaf that fills sees it, and what would take its fills back
@@ -150,16 +155,30 @@ pub record Holds (o : Opening) (trees : ℕ → Call → Tree) (p : ℕ) (w : Wo
 abbrev pub on_table : Machine → Table → WordPlace → ℕ
 on_table m t q = t.words (address m.pages q)
 
--- what it has still to do: the stores that are owed, and its turns
-pub record Rest (o : Opening) (trees : ℕ → Call → Tree) (p : ℕ) (at : WordLp) (owes : List Due) (ps : List Piece) (end_ : WordLp) : Type 0 where
-  pub stores : List Taken
+-- a run has this hasher in hand
+abbrev pub HasInHand : Option Standing → Option Measure → Type 0
+HasInHand None h = Unit {0}
+HasInHand (Some r) h = r.hasher ≡ h
+
+-- what it has still to do: the stores and swaps that are owed, and its turns
+pub record Rest (o : Opening) (trees : ℕ → Call → Tree) (p : ℕ) (at : WordLp) (owes : List Due) (swaps : List SwapDue) (ps : List Piece) (end_ : WordLp) : Type 0 where
+  pub owed : List Owed
+  pub owes_are : owes ≡ stores_in owed
+  pub swaps_are : swaps ≡ swaps_in owed
+  pub hasher : Option Measure
+  pub hand : Hand
+  pub in_hand : IsHand hasher hand
+  pub items : List Taken
+  pub last : Option Measure
+  pub are : AreOwed o.machine.pages hasher hand items owed last
+  pub last_is : HasInHand at.run last
   pub turns : List (List Piece)
-  pub are : AreStores o.machine.pages stores owes
-  pub pieces : ps ≡ map Quiet stores ++ joined turns
+  pub pieces : ps ≡ map Quiet items ++ joined turns
   pub own : OwnTurns (leaf_for o trees p) o.machine at turns end_
 
 -- or the fills that are left, its act, and its further turns
-pub record RestFilling (o : Opening) (trees : ℕ → Call → Tree) (p : ℕ) (c : Call) (cs : List Call) (replies : List Reply) (run : Standing) (f : Fill) (ps : List Piece) (end_ : WordLp) : Type 0 where
+pub record RestFilling (o : Opening) (trees : ℕ → Call → Tree) (p : ℕ) (c : Call) (cs : List Call) (replies : List Reply) (swaps : List SwapDue) (run : Standing) (f : Fill) (ps : List Piece) (end_ : WordLp) : Type 0 where
+  pub no_swaps : swaps ≡ []
   pub stores : List Taken
   pub act : List Taken
   pub turns : List (List Piece)
@@ -172,19 +191,26 @@ pub record RestFilling (o : Opening) (trees : ℕ → Call → Tree) (p : ℕ) (
   pub own : OwnTurns (leaf_for o trees p) o.machine (after_turn c cs replies after (last_reply after.stage after.held)) turns end_
 
 abbrev pub RestBy : Opening → (ℕ → Call → Tree) → ℕ → Position → List Piece → WordLp → Option Fill → List Call → Option Standing → Type 0
-RestBy o trees p pos ps end_ None cs run = Rest o trees p pos.at pos.owes ps end_
-RestBy o trees p pos ps end_ (Some f) (c ∷ cs) (Some run) = RestFilling o trees p c cs pos.at.replies run f ps end_
+RestBy o trees p pos ps end_ None cs run = Rest o trees p pos.at pos.owes pos.swaps ps end_
+RestBy o trees p pos ps end_ (Some f) (c ∷ cs) (Some run) = RestFilling o trees p c cs pos.at.replies pos.swaps run f ps end_
 RestBy o trees p pos ps end_ (Some f) [] run = ⊥
 RestBy o trees p pos ps end_ (Some f) (c ∷ cs) None = ⊥
 
 abbrev pub RestOf : Opening → (ℕ → Call → Tree) → ℕ → Position → List Piece → WordLp → Type 0
 RestOf o trees p pos ps end_ = RestBy o trees p pos ps end_ pos.fill pos.at.lines pos.at.run
 
+-- the slots of a table, with the swaps that are due laid over them, are these
+pub record Slots (o : Opening) (s : State) (shown : ℕ → Hand) (table : ℕ → Option Measure) (pos : ℕ → Position) : Type 0 where
+  pub now : ℕ → Hand
+  pub there : (h : ℕ) → IsHkid o.machine h → IsHand (table (h - 1)) (now h)
+  pub laid_is : (h : ℕ) → IsHkid o.machine h → shown h ≡ slots_laid (length o.calls) (λ p. (pos p).swaps) now h
+  pub may : (p : ℕ) → p < length o.calls → SwapsMay o.machine (bare (s.lps p).call.held) s.world now (pos p).swaps
+
 -- all of them: memory with what is due laid over it shows the state
 pub record Stands (o : Opening) (trees : ℕ → Call → Tree) (s : State) (mem : Memory) (t : Table) (pos : ℕ → Position) : Type 0 where
   pub shows : Shows o.machine mem.words mem.slots s
   pub hand : mem.hand ≡ None
-  pub slots : (h : ℕ) → IsHkid o.machine h → IsHand (t.slots (h - 1)) (mem.slots h)
+  pub slots : Slots o s mem.slots t.slots pos
   pub guests : NoGuests s
   pub tdrs : TdrsAreHeld s
   pub holds : (p : ℕ) → p < length o.calls → Holds o trees p s.world mem.words (on_table o.machine t) (s.lps p) (pos p)

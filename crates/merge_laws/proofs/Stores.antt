@@ -1,6 +1,6 @@
 -- Stores that are due: what processors have still to store, or what they would put back, laid over memory.
-use Rattle.std.proofs.Common.{◌≡◌, ℕ, zero, suc, ◌+◌, ◌%◌, ◌^◌, ◌<◌, Bool, true, false, not, ◌==◌, if◌then◌else◌, List, [], ◌∷◌, ◌++◌, Option, Some, None, refl, ap, sym, ◌∙◌, subst, arith}
-use Rattle.std.proofs.lemmas.Bool.{eqb-true, eqb-false, eq-eqb, ne_eqb, and_parts, and_right}
+use Rattle.std.proofs.Common.{◌≡◌, ℕ, zero, suc, ◌+◌, ◌%◌, ◌^◌, ◌<◌, Bool, true, false, ◌==◌, if◌then◌else◌, List, [], ◌∷◌, ◌++◌, Option, Some, None, refl, ap, sym, ◌∙◌, subst, arith}
+use Rattle.std.proofs.lemmas.Bool.{eqb-true, eqb-false, eq-eqb, ne_eqb, and_right}
 use Rattle.td_words.specs.declared.machines.Machine.{Machine}
 use Rattle.td_words.specs.Address.{word_at}
 use Rattle.td_words.specs.Place.{WordPlace, Lock, Pamt, Word, Key, IsIn, address, same_place}
@@ -15,12 +15,9 @@ use Rattle.lock_words.specs.LockWords.{put_word}
 use Rattle.step_core.specs.declared.steps.WordStep.TheVariants as step
 use Rattle.step_core.specs.Items.{Taken, Stepped, Swapped, Missed}
 use Rattle.step_core.specs.Pages.{clearing}
-use Rattle.leaf_engine.specs.Changes.{Memory, Change, Put, PutHash, Raise, Clear, Copy, Swap, put_page, changed, changed_all, is_swap, has_no_swap}
-use Rattle.leaf_engine.specs.Means.{MayFillAll, MayOwe, MayOweAll}
-use Rattle.leaf_engine.specs.declared.needs.Write.{Write}
-use Rattle.leaf_engine.specs.declared.needs.Write.TheVariants as write
+use Rattle.leaf_engine.specs.Changes.{Memory, Change, Put, PutHash, Raise, Clear, Copy, Swap, put_page, changed, changed_all}
+use Rattle.leaf_engine.specs.Means.{MayFillAll, MayOweAll}
 use Rattle.leaf_engine.specs.Decides.{IsHand}
-use Rattle.leaf_engine.specs.Items.{IsWritten, IsChanged, AreChanged}
 
 pub record Due : Type 0 where
   pub at : WordPlace
@@ -29,7 +26,7 @@ pub record Due : Type 0 where
 abbrev pub due : WordPlace → ℕ → Due
 due q x = record { at = q; word = x }
 
-abbrev pub later : Option ℕ → Option ℕ → Option ℕ
+abbrev pub later : {A : Type 0} → Option A → Option A → Option A
 later (Some x) earlier = Some x
 later None earlier = earlier
 
@@ -38,14 +35,18 @@ abbrev pub last_at : List Due → WordPlace → Option ℕ
 last_at [] r = None
 last_at (d ∷ ds) r = later (last_at ds r) (if same_place r d.at then Some d.word else None)
 
-abbrev pub or_else : Option ℕ → ℕ → ℕ
+abbrev pub or_else : {A : Type 0} → Option A → A → A
 or_else (Some x) y = x
 or_else None y = y
 
--- memory with the stores that each of the first n processors has due laid over it
+-- what stands at a place with what each of the first n processors has due there laid over it
+abbrev pub over : {A : Type 0} → ℕ → (ℕ → Option A) → A → A
+over zero f x = x
+over (suc n) f x = or_else (f n) (over n f x)
+
+-- memory with their stores laid over it
 abbrev pub laid : ℕ → (ℕ → List Due) → (WordPlace → ℕ) → WordPlace → ℕ
-laid zero pend a r = a r
-laid (suc n) pend a r = or_else (last_at (pend n) r) (laid n pend a r)
+laid n pend a r = over n (λ q. last_at (pend q) r) (a r)
 
 -- each store is at a place of that kind
 abbrev pub EachDue : (WordPlace → Type 0) → List Due → Type 0
@@ -77,37 +78,55 @@ AreStores n _ _ = ⊥
 
 -- laid over memory
 
-pub laid-none : (n : ℕ) (pend : ℕ → List Due) (a : WordPlace → ℕ) (r : WordPlace) → ((q : ℕ) → q < n → last_at (pend q) r ≡ None) → laid n pend a r ≡ a r
-laid-none zero pend a r h = refl
-laid-none (suc n) pend a r h = rw (h n (omega arith)) (laid-none n pend a r (λ q l. h q (omega arith)))
+pub over-none : {A : Type 0} (n : ℕ) (f : ℕ → Option A) (x : A) → ((q : ℕ) → q < n → f q ≡ None) → over n f x ≡ x
+over-none zero f x h = refl
+over-none (suc n) f x h = rw (h n (omega arith)) (over-none n f x (λ q l. h q (omega arith)))
 
-pub laid-one : (n p : ℕ) (pend : ℕ → List Due) (a : WordPlace → ℕ) (r : WordPlace) → p < n → ((q : ℕ) → q < n → (q == p) ≡ false → last_at (pend q) r ≡ None)
-    → laid n pend a r ≡ or_else (last_at (pend p) r) (a r)
-laid-one zero p pend a r b h = absurd (omega arith)
-laid-one (suc n) p pend a r b h = by (n == p) refl (λ l k. laid-one n p pend a r l k)
+pub over-one : {A : Type 0} (n p : ℕ) (f : ℕ → Option A) (x : A) → p < n → ((q : ℕ) → q < n → (q == p) ≡ false → f q ≡ None) → over n f x ≡ or_else (f p) x
+over-one zero p f x b h = absurd (omega arith)
+over-one {A} (suc n) p f x b h = by (n == p) refl (λ l k. over-one n p f x l k)
   where
-    by : (t : Bool) → (n == p) ≡ t → (p < n → ((q : ℕ) → q < n → (q == p) ≡ false → last_at (pend q) r ≡ None) → laid n pend a r ≡ or_else (last_at (pend p) r) (a r))
-        → laid (suc n) pend a r ≡ or_else (last_at (pend p) r) (a r)
+    by : (t : Bool) → (n == p) ≡ t → (p < n → ((q : ℕ) → q < n → (q == p) ≡ false → f q ≡ None) → over n f x ≡ or_else (f p) x) → over (suc n) f x ≡ or_else (f p) x
     by true e below =
         let s : n ≡ p = eqb-true n p e in
-        ap (λ (y : ℕ). or_else (last_at (pend n) r) y) (laid-none n pend a r (λ q l. h q (omega arith) (ne_eqb q p (λ z. omega arith))))
-        ∙ ap (λ (k : ℕ). or_else (last_at (pend k) r) (a r)) s
+        ap (λ (y : A). or_else (f n) y) (over-none n f x (λ q l. h q (omega arith) (ne_eqb q p (λ z. omega arith)))) ∙ ap (λ (k : ℕ). or_else (f k) x) s
     by false e below =
         let s : n ≡ p → ⊥ = eqb-false n p e in
         rw (h n (omega arith) e) (below (omega arith) (λ q l. h q (omega arith)))
 
+pub over-same : {A : Type 0} (n : ℕ) (f g : ℕ → Option A) (x y : A) → ((q : ℕ) → q < n → f q ≡ g q) → x ≡ y → over n f x ≡ over n g y
+over-same zero f g x y h e = e
+over-same (suc n) f g x y h e = rw (h n (omega arith), over-same n f g x y (λ q l. h q (omega arith)) e) refl
+
+pub laid-none : (n : ℕ) (pend : ℕ → List Due) (a : WordPlace → ℕ) (r : WordPlace) → ((q : ℕ) → q < n → last_at (pend q) r ≡ None) → laid n pend a r ≡ a r
+laid-none n pend a r h = over-none n (λ q. last_at (pend q) r) (a r) h
+
+pub laid-one : (n p : ℕ) (pend : ℕ → List Due) (a : WordPlace → ℕ) (r : WordPlace) → p < n → ((q : ℕ) → q < n → (q == p) ≡ false → last_at (pend q) r ≡ None)
+    → laid n pend a r ≡ or_else (last_at (pend p) r) (a r)
+laid-one n p pend a r b h = over-one n p (λ q. last_at (pend q) r) (a r) b h
+
 pub laid-same : (n : ℕ) (pend pend' : ℕ → List Due) (a b : WordPlace → ℕ) (r : WordPlace) → ((q : ℕ) → q < n → last_at (pend q) r ≡ last_at (pend' q) r) → a r ≡ b r
     → laid n pend a r ≡ laid n pend' b r
-laid-same zero pend pend' a b r h e = e
-laid-same (suc n) pend pend' a b r h e = rw (h n (omega arith), laid-same n pend pend' a b r (λ q l. h q (omega arith)) e) refl
+laid-same n pend pend' a b r h e = over-same n (λ q. last_at (pend q) r) (λ q. last_at (pend' q) r) (a r) (b r) h e
 
-later-none : (x : Option ℕ) → later x None ≡ x
+pub later-none : {A : Type 0} (x : Option A) → later x None ≡ x
 later-none (Some x) = refl
 later-none None = refl
 
-later-later : (x y z : Option ℕ) → later (later x y) z ≡ later x (later y z)
+pub later-later : {A : Type 0} (x y z : Option A) → later (later x y) z ≡ later x (later y z)
 later-later (Some x) y z = refl
 later-later None y z = refl
+
+-- what comes first of a list, at its place and elsewhere
+pub first-at : {A : Type 0} (x : Option A) (b : Bool) (w y : A) → b ≡ true → or_else (later x (if b then Some w else None)) y ≡ or_else x w
+first-at (Some z) b w y f = refl
+first-at None true w y f = refl
+first-at None false w y f = cc
+
+pub not-at : {A : Type 0} (x : Option A) (b : Bool) (w : A) → b ≡ false → later x (if b then Some w else None) ≡ x
+not-at (Some y) b w f = refl
+not-at None false w f = refl
+not-at None true w f = cc
 
 pub last-append : (xs ys : List Due) (r : WordPlace) → last_at (xs ++ ys) r ≡ later (last_at ys r) (last_at xs r)
 last-append [] ys r = sym (later-none (last_at ys r))
@@ -173,7 +192,7 @@ page-is m words p xs (Word q j) i = by (q == p) refl
         rw (e, w) refl
     by false e = rw (e, words-else p 512 xs (Word q j) (λ k l. rw e refl)) refl
 
-pub or-test : (b : Bool) (x y : ℕ) → (if b then x else y) ≡ or_else (if b then Some x else None) y
+pub or-test : {A : Type 0} (b : Bool) (x y : A) → (if b then x else y) ≡ or_else (if b then Some x else None) y
 or-test true x y = refl
 or-test false x y = refl
 
@@ -186,7 +205,7 @@ one-is m (Clear p) mem r i = page-is m mem.words p (λ j. 0) r i
 one-is m (Copy p q) mem r i = page-is m mem.words q (λ j. mem.words (Word p j)) r i
 one-is m (Swap h made) mem r i = refl
 
-pub or-later : (a b : Option ℕ) (y : ℕ) → or_else (later a b) y ≡ or_else a (or_else b y)
+pub or-later : {A : Type 0} (a b : Option A) (y : A) → or_else (later a b) y ≡ or_else a (or_else b y)
 or-later (Some x) b y = refl
 or-later None b y = refl
 
@@ -200,33 +219,12 @@ changed-is inj m (c ∷ cs) mem r i =
     ∙ (sym (or-later after (last_at (stores_of c mem) r) (mem.words r))
     ∙ ap (λ (o : Option ℕ). or_else o (mem.words r)) (sym (last-append (stores_of c mem) (all_stores cs (changed c mem)) r))))
 
--- and leaves slots and the hand
-pub changed-rest : (cs : List Change) (mem : Memory) → has_no_swap cs ≡ true → ((changed_all cs mem).slots ≡ mem.slots) × ((changed_all cs mem).hand ≡ mem.hand)
-changed-rest [] mem pl = (refl, refl)
-changed-rest (Put q x ∷ cs) mem pl = changed-rest cs (changed (Put q x) mem) pl
-changed-rest (PutHash q x ∷ cs) mem pl = changed-rest cs (changed (PutHash q x) mem) pl
-changed-rest (Raise q ∷ cs) mem pl = changed-rest cs (changed (Raise q) mem) pl
-changed-rest (Clear p ∷ cs) mem pl = changed-rest cs (changed (Clear p) mem) pl
-changed-rest (Copy p q ∷ cs) mem pl = changed-rest cs (changed (Copy p q) mem) pl
-changed-rest (Swap h made ∷ cs) mem pl = cc
-
 -- stores that are allowed, each at its place
 abbrev pub OwesAt : Machine → Grip → World → WordPlace → Type 0
 OwesAt m g w q = IsIn m q × ((k : Grade) × Owes g w q k)
 
 abbrev pub FillsAt : Machine → Grip → World → WordPlace → Type 0
 FillsAt m g w q = IsIn m q × Fills g w q
-
-pub owed-stores : (m : Machine) (g : Grip) (w : World) (mem : Memory) (cs : List Change) → MayOweAll m g w mem cs → has_no_swap cs ≡ true → EachDue (OwesAt m g w) (all_stores cs mem)
-owed-stores m g w mem [] may pl = tt
-owed-stores m g w mem (Put q x ∷ cs) may pl = ((may.0.0, (may.0.1.0, may.0.1.1)), owed-stores m g w (changed (Put q x) mem) cs may.1 pl)
-owed-stores m g w mem (PutHash q x ∷ cs) may pl = ((may.0.0, (KeepsNothing, may.0.1)), owed-stores m g w (changed (PutHash q x) mem) cs may.1 pl)
-owed-stores m g w mem (Raise q ∷ cs) may pl = absurd may.0
-owed-stores m g w mem (Clear p ∷ cs) may pl = each-append (OwesAt m g w) (words_from p 512 (λ i. 0)) (all_stores cs (changed (Clear p) mem))
-    (words-each (OwesAt m g w) p 512 (λ i. 0) (λ i l. ((may.0.0, l), (KeepsNothing, may.0.1 i l))))
-    (owed-stores m g w (changed (Clear p) mem) cs may.1 pl)
-owed-stores m g w mem (Copy p q ∷ cs) may pl = absurd may.0
-owed-stores m g w mem (Swap h made ∷ cs) may pl = cc
 
 pub filled-stores : (m : Machine) (g : Grip) (w : World) (mem : Memory) (fs : List Change) → MayFillAll m g w fs → EachDue (FillsAt m g w) (all_stores fs mem)
 filled-stores m g w mem [] may = tt
@@ -249,7 +247,7 @@ are-append n (Stepped s z ∷ xs) ys (d ∷ ds) es a b = (a.0, are-append n xs y
 are-append n (Swapped k put taken ∷ xs) ys ds es a b = absurd a
 are-append n (Missed k ∷ xs) ys ds es a b = absurd a
 
-clears-are : (pages p n : ℕ) → AreStores pages (clearing p n) (words_from p n (λ i. 0))
+pub clears-are : (pages p n : ℕ) → AreStores pages (clearing p n) (words_from p n (λ i. 0))
 unfolding clearing words_from
 clears-are pages p zero = tt
 clears-are pages p (suc n) =
@@ -258,38 +256,6 @@ clears-are pages p (suc n) =
 pub none-is : (h : Option Measure) → IsHand h None → h ≡ None
 none-is None i = refl
 none-is (Some h) i = absurd i
-
--- the items of one change
-one-items : (m : Machine) (g : Grip) (w : World) (mem : Memory) (c : Change) (h h' : Option Measure) (xs : List Taken) → MayOwe m g w mem c → not (is_swap c) ≡ true → IsChanged m c h xs h' → IsHand h mem.hand
-    → IsHand h' (changed c mem).hand × AreStores m.pages xs (stores_of c mem)
-one-items m g w mem (Put q x) h h' xs may ns ch i =
-    let handed = ch.handed mem.hand i in
-    let written : IsWritten (write.Word (step.Store (address m.pages q) x)) ch.between xs h' = subst (λ (z : Write). IsWritten z ch.between xs h') handed.0 ch.written in
-    (subst (λ (z : Option Measure). IsHand z mem.hand) (sym written.0) handed.1, subst (λ (z : List Taken). AreStores m.pages z (due q x ∷ [])) (sym written.1.1) (refl, tt))
-one-items m g w mem (PutHash q x) h h' xs may ns ch i =
-    let handed = ch.handed mem.hand i in
-    let written : IsWritten (write.Word (step.Store (address m.pages q) (x mem.hand))) ch.between xs h' = subst (λ (z : Write). IsWritten z ch.between xs h') handed.0 ch.written in
-    (subst (λ (z : Option Measure). IsHand z mem.hand) (sym written.0) handed.1, subst (λ (z : List Taken). AreStores m.pages z (due q (x mem.hand) ∷ [])) (sym written.1.1) (refl, tt))
-one-items m g w mem (Raise q) h h' xs may ns ch i = absurd may
-one-items m g w mem (Clear p) h h' xs may ns ch i =
-    let handed = ch.handed mem.hand i in
-    let written : IsWritten (write.Zero p) ch.between xs h' = subst (λ (z : Write). IsWritten z ch.between xs h') handed.0 ch.written in
-    (subst (λ (z : Option Measure). IsHand z mem.hand) (sym written.0) handed.1, subst (λ (z : List Taken). AreStores m.pages z (words_from p 512 (λ k. 0))) (sym written.1) (clears-are m.pages p 512))
-one-items m g w mem (Copy p q) h h' xs may ns ch i = absurd may
-one-items m g w mem (Swap k made) h h' xs may ns ch i = cc
-
--- the items of changes that are owed are their stores
-pub owed-items : (m : Machine) (g : Grip) (w : World) (mem : Memory) (cs : List Change) (h h' : Option Measure) (xs : List Taken) → MayOweAll m g w mem cs → has_no_swap cs ≡ true
-    → AreChanged m cs h xs h' → IsHand h mem.hand → IsHand h' (changed_all cs mem).hand × AreStores m.pages xs (all_stores cs mem)
-owed-items m g w mem [] h h' xs may pl ch i = (subst (λ (z : Option Measure). IsHand z mem.hand) (sym ch.0) i, subst (λ (z : List Taken). AreStores m.pages z []) (sym ch.1) tt)
-owed-items m g w mem (c ∷ cs) h h' xs may pl ch i =
-    let between : Option Measure = ch.0 in
-    let ys : List Taken = ch.1.0 in
-    let zs : List Taken = ch.1.1.0 in
-    let parts = and_parts (not (is_swap c)) (has_no_swap cs) pl in
-    let one = one-items m g w mem c h between ys may.0 parts.0 ch.1.1.2 i in
-    let rest = owed-items m g w (changed c mem) cs between h' zs may.1 parts.1 ch.1.1.3 one.0 in
-    (rest.0, subst (λ (z : List Taken). AreStores m.pages z (all_stores (c ∷ cs) mem)) (sym ch.1.1.1) (are-append m.pages ys zs (stores_of c mem) (all_stores cs (changed c mem)) one.1 rest.1))
 
 -- a page of new words, where each of their stores leaves what is looked at
 page-looks : (m : Machine) (v : View) (words : WordPlace → ℕ) (p : ℕ) (xs : ℕ → ℕ) (r : WordPlace) → IsIn m r
@@ -306,19 +272,19 @@ page-looks m v words p xs (Word q j) i keeps = by (q == p) refl
     by false e = rw e refl
 
 -- what a load looks at stays through changes that are owed, and through fills, where it stays through each of their stores
-pub looks-owed : PlacesInjective → (m : Machine) (g : Grip) (w : World) (mem : Memory) (cs : List Change) (r : WordPlace) (v : View) → IsIn m r → MayOweAll m g w mem cs → has_no_swap cs ≡ true
+pub looks-owed : PlacesInjective → (m : Machine) (g : Grip) (w : World) (mem : Memory) (cs : List Change) (r : WordPlace) (v : View) → IsIn m r → MayOweAll m g w mem cs
     → ((words : WordPlace → ℕ) (q : WordPlace) (x : ℕ) (k : Grade) → Owes g w q k → IsKept k (words q) x → look v (put_word words q x r) ≡ look v (words r))
     → look v ((changed_all cs mem).words r) ≡ look v (mem.words r)
-looks-owed inj m g w mem [] r v i may pl keeps = refl
-looks-owed inj m g w mem (Put q x ∷ cs) r v i may pl keeps =
-    looks-owed inj m g w (changed (Put q x) mem) cs r v i may.1 pl keeps ∙ keeps mem.words q x may.0.1.0 may.0.1.1 may.0.1.2
-looks-owed inj m g w mem (PutHash q x ∷ cs) r v i may pl keeps = looks-owed inj m g w (changed (PutHash q x) mem) cs r v i may.1 pl keeps ∙ keeps mem.words q (x mem.hand) KeepsNothing may.0.1 tt
-looks-owed inj m g w mem (Raise q ∷ cs) r v i may pl keeps = absurd may.0
-looks-owed inj m g w mem (Clear p ∷ cs) r v i may pl keeps =
-    looks-owed inj m g w (changed (Clear p) mem) cs r v i may.1 pl keeps
+looks-owed inj m g w mem [] r v i may keeps = refl
+looks-owed inj m g w mem (Put q x ∷ cs) r v i may keeps =
+    looks-owed inj m g w (changed (Put q x) mem) cs r v i may.1 keeps ∙ keeps mem.words q x may.0.1.0 may.0.1.1 may.0.1.2
+looks-owed inj m g w mem (PutHash q x ∷ cs) r v i may keeps = looks-owed inj m g w (changed (PutHash q x) mem) cs r v i may.1 keeps ∙ keeps mem.words q (x mem.hand) KeepsNothing may.0.1 tt
+looks-owed inj m g w mem (Raise q ∷ cs) r v i may keeps = absurd may.0
+looks-owed inj m g w mem (Clear p ∷ cs) r v i may keeps =
+    looks-owed inj m g w (changed (Clear p) mem) cs r v i may.1 keeps
     ∙ page-looks m v mem.words p (λ j. 0) r i (λ j x l. keeps mem.words (Word p j) x KeepsNothing (may.0.1 j l) tt)
-looks-owed inj m g w mem (Copy p q ∷ cs) r v i may pl keeps = absurd may.0
-looks-owed inj m g w mem (Swap h made ∷ cs) r v i may pl keeps = cc
+looks-owed inj m g w mem (Copy p q ∷ cs) r v i may keeps = absurd may.0
+looks-owed inj m g w mem (Swap h made ∷ cs) r v i may keeps = looks-owed inj m g w (changed (Swap h made) mem) cs r v i may.1 keeps
 
 pub looks-filled : PlacesInjective → (m : Machine) (g : Grip) (w : World) (mem : Memory) (fs : List Change) (r : WordPlace) (v : View) → IsIn m r → MayFillAll m g w fs
     → ((words : WordPlace → ℕ) (q : WordPlace) (x : ℕ) → Fills g w q → look v (put_word words q x r) ≡ look v (words r))

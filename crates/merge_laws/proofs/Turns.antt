@@ -26,6 +26,7 @@ use Rattle.leaf_engine.proofs.Decided.{settled}
 use Rattle.leaf_engine.proofs.Loading.{LooksRight}
 use Rattle.merge_laws.proofs.Stores.{Due, last_at, laid-same}
 use Rattle.merge_laws.proofs.Standing.{Laws, leaf_for, on_table, Position}
+use Rattle.merge_laws.proofs.SlotSteps.{slots-stay}
 use Rattle.merge_laws.proofs.Own.{at-own, at-other}
 use Rattle.merge_laws.proofs.QuietSteps.{rearranged, loads-right, GoesOnBehind, loaded, told-load}
 use Rattle.merge_laws.proofs.Pieces.{Came, came-as, answers-as, PieceAnswers}
@@ -45,25 +46,39 @@ load-piece ls o trees s mem t pos p c cs run run' e at x tp tps end_ a none st l
     record {
       memory = mem;
       now = now;
-      stands = rearranged ls o trees s mem t t pos p now a.all refl (λ k j f q g in_q owes. refl) (λ k j f q in_q fills. refl)
+      stands = rearranged ls o trees s mem t t pos p now a.all (slots-stay o s mem.slots t.slots pos p now a.all.slots (sym a.no_swaps)) (λ k j f q g in_q owes. refl) (λ k j f q in_q fills. refl)
           (record {
             stands = record {
               lines = a.lines;
               replies = a.replies;
               run = record {
                 call = told-load o trees p c s.world mem.words (s.lps p) run x a.runs.call st right (subst (λ (z : Tree). GoesOnBehind z x) (told-tree o trees s mem t pos p c cs run a st) on);
-                hand = record { hand = a.runs.hand.hand; is = a.runs.hand.is; trying = a.runs.hand.trying };
+                trying = a.runs.trying;
                 tdrs = a.runs.tdrs;
               };
             };
             due = tt;
           })
           (λ r in_r. a.all.laid_is r in_r ∙ laid-same (length o.calls) (λ k. (pos k).owes) (λ k. (put pos p now k).owes) (on_table o.machine t) (on_table o.machine t) r (λ k j. same k r) refl);
-      rest = record { stores = []; turns = tp ∷ tps; are = tt; pieces = refl; own = (e, (after, line, own)) };
+      rest = record {
+        owed = [];
+        owes_are = refl;
+        swaps_are = refl;
+        hasher = run.hasher;
+        hand = a.hand.hand;
+        in_hand = a.hand.is;
+        items = [];
+        last = run.hasher;
+        are = λ i. (refl, i);
+        last_is = refl;
+        turns = tp ∷ tps;
+        pieces = refl;
+        own = (e, (after, line, own));
+      };
     }
   where
     now : Position
-    now = record { at = record { lines = c ∷ cs; run = Some (loaded run x); replies = (pos p).at.replies }; owes = []; fill = None }
+    now = record { at = record { lines = c ∷ cs; run = Some (loaded run x); replies = (pos p).at.replies }; owes = []; swaps = []; fill = None }
 
     after : WordLp
     after = after_turn c cs (pos p).at.replies run' (last_reply run'.stage run'.held)
@@ -72,7 +87,7 @@ load-piece ls o trees s mem t pos p c cs run run' e at x tp tps end_ a none st l
     line = record { stands = run'; turn = subst (λ (z : Stage). TurnIn z o.machine (loaded run x) tp run' e) (sym st) goes; going = a.going; after_is = refl }
 
     right : LooksRight mem.words (feed (trees p c) (a.runs.call.told st).told) x
-    right = loads-right ls o trees s mem t pos p c run at x a.are a.known a.all a.inside none (a.runs.hand.trying st) a.runs.call st (subst (λ (z : Tree). IsLoadAt o.machine.pages z at) (told-tree o trees s mem t pos p c cs run a st) load) an
+    right = loads-right ls o trees s mem t pos p c run at x a.are a.known a.all a.inside none (a.hand.trying st) a.runs.call st (subst (λ (z : Tree). IsLoadAt o.machine.pages z at) (told-tree o trees s mem t pos p c cs run a st) load) an
 
     same : (k : ℕ) (r : WordPlace) → last_at (pos k).owes r ≡ last_at (put pos p now k).owes r
     same k r = by (k == p) refl

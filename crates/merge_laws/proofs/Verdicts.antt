@@ -1,5 +1,5 @@
 -- The next piece of a turn that comes to its end.
-use Rattle.std.proofs.Common.{◌≡◌, ℕ, true, List, [], ◌∷◌, ◌++◌, map, Option, None, refl, ap, sym, ◌∙◌, subst, append_assoc, ◌-◌}
+use Rattle.std.proofs.Common.{◌≡◌, ℕ, List, [], ◌∷◌, ◌++◌, map, Option, None, refl, ap, sym, ◌∙◌, subst, append_assoc, ◌-◌}
 use Rattle.td_words.specs.declared.machines.Machine.{Machine}
 use Rattle.td_words.specs.declared.calls.Call.{Call}
 use Rattle.td_words.specs.declared.replies.Reply.{Reply}
@@ -16,25 +16,27 @@ use Rattle.leaf_engine.specs.declared.events.Event.TheVariants as events
 use Rattle.leaf_engine.specs.declared.events.RunTurn.{RunTurn}
 use Rattle.leaf_engine.specs.declared.events.Stage.TheVariants as stages
 use Rattle.leaf_engine.specs.declared.needs.Need.TheVariants as need
-use Rattle.leaf_engine.specs.Changes.{Memory, Change, changed, has_no_swap, changed_all}
-use Rattle.leaf_engine.specs.Trees.{Tree, Lock, Load, Test, End, Since, feed, settle, fed, passed, changes_of, swaps_as_act}
+use Rattle.leaf_engine.specs.Changes.{Memory, Change, changed}
+use Rattle.leaf_engine.specs.Trees.{Tree, Lock, Load, Test, End, Since, feed, settle, fed, passed, changes_of}
 use Rattle.leaf_engine.specs.Decides.{Gives, IsHand}
 use Rattle.leaf_engine.specs.Items.{IsLoadAt, IsLoaded, IsChanged, AreChanged}
 use Rattle.leaf_engine.specs.Turns.{Standing, standing, Ends, last_reply}
 use Rattle.leaf_engine.specs.OwnLists.{Piece, Quiet, Marked, Wordless, joined, marked_behind, act_pieces, behind, items_in, GoesIn, WordLp, after_turn, OwnTurns}
 use Rattle.leaf_engine.proofs.Decided.{feed-append, settled}
 use Rattle.leaf_engine.proofs.Loading.{LooksRight, current-load, granted-load}
-use Rattle.merge_laws.proofs.Stores.{Due, last_at, or_else, AreStores, owed-items, changed-rest}
+use Rattle.merge_laws.proofs.Stores.{Due, last_at, or_else}
+use Rattle.merge_laws.proofs.Swaps.{last_put}
+use Rattle.merge_laws.proofs.Owing.{owed-items}
 use Rattle.merge_laws.proofs.Holding.{bare}
 use Rattle.merge_laws.proofs.Standing.{Laws, leaf_for, Position}
-use Rattle.merge_laws.proofs.Ending.{AtEnd, filled_of, first_of, owes_of, after_of, HasFilled}
+use Rattle.merge_laws.proofs.Ending.{AtEnd, filled_of, first_of, owes_of, puts_of, swaps_left, HasFilled}
 use Rattle.merge_laws.proofs.Filling.{all_todos, two-parts, fills-items, fills-todo, behind-fills}
 use Rattle.merge_laws.proofs.FillSteps.{fill-piece}
 use Rattle.leaf_engine.specs.Means.{MayFillAll, IsHkid}
 use Rattle.merge_laws.proofs.QuietSteps.{loads-right, loaded}
 use Rattle.merge_laws.proofs.Pieces.{taken_after, Came, came-as, answers-as, PieceAnswers, behind-append}
 use Rattle.merge_laws.proofs.LockPieces.{AtTurn}
-use Rattle.merge_laws.proofs.EndPieces.{EndMay, end-may, end-moved, rest-owed, act-item, act-rest, slots-as, hand-as, act-table}
+use Rattle.merge_laws.proofs.EndPieces.{EndMay, end-may, end-moved, rest-owed, act-item, act-rest, slot-seen, hand-as, act-table}
 use Rattle.merge_laws.proofs.Turns.{told-tree, load-piece, IsDone, done-settled, done-loads, goes-on, Heads}
 
 -- its reply, whose loads and changes these are
@@ -67,7 +69,7 @@ at-end-load : (ls : Laws) (o : Opening) (trees : ℕ → Call → Tree) (s : Sta
 at-end-load ls o trees s mem t pos p c cs run run' e end_ changes reply at x a owed st en load an is g =
     let told = (a.runs.call.told st).told in
     let right : LooksRight mem.words (feed (trees p c) told) x =
-    loads-right ls o trees s mem t pos p c run at x a.are a.known a.all a.inside owed (a.runs.hand.trying st) a.runs.call st (subst (λ (z : Tree). IsLoadAt o.machine.pages z at) (told-tree o trees s mem t pos p c cs run a st) load) an in
+    loads-right ls o trees s mem t pos p c run at x a.are a.known a.all a.inside owed (a.hand.trying st) a.runs.call st (subst (λ (z : Tree). IsLoadAt o.machine.pages z at) (told-tree o trees s mem t pos p c cs run a st) load) an in
     record {
       current = current-load mem.words (trees p c) told x (a.runs.call.told st).current right;
       locks = granted-load mem.words (trees p c) told x [] right;
@@ -83,7 +85,7 @@ none-changed m run run' end_ changes reply en e = subst (λ (cs : List Change). 
 
 -- no hasher is in hand on the way
 hand-now : (o : Opening) (trees : ℕ → Call → Tree) (s : State) (mem : Memory) (t : Table) (pos : ℕ → Position) (p : ℕ) (c : Call) (cs : List Call) (run : Standing) → AtTurn o trees s mem t pos p c cs run → run.stage ≡ stages.Trying → IsHand run.hasher mem.hand
-hand-now o trees s mem t pos p c cs run a st = hand-as run.hasher None mem.hand None (a.runs.hand.trying st) a.all.hand tt
+hand-now o trees s mem t pos p c cs run a st = hand-as run.hasher None mem.hand None (a.hand.trying st) a.all.hand tt
 
 hasher-of : (m : Machine) (run run' : Standing) (end_ : Tree) (changes : List Taken) (reply : Reply) → (en : Ended m run run' end_ changes reply) → run'.hasher ≡ en.hasher
 hasher-of m run run' end_ changes reply en = ap (λ (z : Standing). z.hasher) en.after
@@ -105,19 +107,17 @@ end-now ls o trees s mem t pos p c cs run run' e (End r [] []) changes reply tps
     let en' = at-end o trees s mem t pos p c cs run run' e (End r [] []) changes reply a st en is g in
     let moved = end-moved ls o trees s mem t t pos p c cs (a.runs.call.told st).told reply run run' (record { event = e; reply = last_reply run'.stage run'.held }) a st en' (subst (λ (z : Tree). HasFilled o t pos p mem (filled_of z mem)) (sym is) (not-filled o t pos p mem owed))
     (λ y in_y. ap (λ (z : Tree). or_else (last_at (first_of z mem) y) (t.words (address o.machine.pages y))) {x = End r [] []} {y = feed (trees p c) (a.runs.call.told st).told} (sym is))
-    (subst (λ (z : Tree). IsHand run'.hasher (after_of z mem).hand) (sym is) (hand-as run'.hasher run.hasher mem.hand mem.hand (hasher-of o.machine run run' (End r [] []) changes reply en ∙ none.0) refl (hand-now o trees s mem t pos p c cs run a st)))
-    (subst (λ (z : Tree). (k : ℕ) → IsHkid o.machine k → IsHand (t.slots (k - 1)) ((after_of z mem).slots k)) (sym is) a.all.slots) in
+    (subst (λ (z : Tree). (k : ℕ) → IsHkid o.machine k → IsHand (t.slots (k - 1)) (or_else (last_put (puts_of z mem) k) (a.all.slots.now k))) (sym is) a.all.slots.there) in
     came-as o trees p s t pos Wordless piece (joined tps) ps last h
     (record {
       memory = moved.memory;
-      now = record { at = after_turn c cs (pos p).at.replies run' (last_reply run'.stage run'.held); owes = owes_of (feed (trees p c) (a.runs.call.told st).told) mem; fill = None };
+      now = record { at = after_turn c cs (pos p).at.replies run' (last_reply run'.stage run'.held); owes = owes_of (feed (trees p c) (a.runs.call.told st).told) mem; swaps = swaps_left (feed (trees p c) (a.runs.call.told st).told) mem; fill = None };
       stands = moved.stands;
-      rest = rest-owed o trees p (after_turn c cs (pos p).at.replies run' (last_reply run'.stage run'.held)) [] (owes_of (feed (trees p c) (a.runs.call.told st).told) mem) tps last
-          (subst (λ (z : Tree). AreStores o.machine.pages [] (owes_of z mem)) (sym is) tt) own;
+      rest = rest-owed o trees p c cs (pos p).at.replies run' (feed (trees p c) (a.runs.call.told st).told) (End r [] []) mem [] run.hasher run.hasher mem.hand tps last is (hand-now o trees s mem t pos p c cs run a st) (λ i. (refl, i))
+          (hasher-of o.machine run run' (End r [] []) changes reply en ∙ none.0) own;
     })
 end-now ls o trees s mem t pos p c cs run run' e (End r [] (c1 ∷ ds)) changes reply tps last piece ps a owed st en is g own h an =
     let m = o.machine in
-    let sw : has_no_swap ds ≡ true = subst (λ (z : Tree). swaps_as_act z ≡ true) is (a.are.swaps p c (a.runs.call.told st).told) in
     let between : Option Measure = en.changed.0 in
     let ys : List Taken = en.changed.1.0 in
     let zs : List Taken = en.changed.1.1.0 in
@@ -129,21 +129,19 @@ end-now ls o trees s mem t pos p c cs run run' e (End r [] (c1 ∷ ds)) changes 
     let x : Taken = item.taken in
     let all : changes ≡ x ∷ zs = en.changed.1.1.1 ∙ ap (λ (z : List Taken). z ++ zs) item.items in
     let h' : Marked x ∷ (map Quiet zs ++ joined tps) ≡ piece ∷ ps = ap (λ (z : List Taken). marked_behind 0 z ++ joined tps) (sym all) ∙ h in
-    let rest-2 = act-rest m mem t c1 x between item.is (answers-as t (Marked x) piece (map Quiet zs ++ joined tps) ps h' an) a.all.slots in
-    let rest = owed-items m (bare (s.lps p).call.held) ((row_of o p c).act s.world) (changed c1 mem) ds between en.hasher zs may.1.1 sw en.changed.1.1.3 rest-2.0 in
+    let answers = answers-as t (Marked x) piece (map Quiet zs ++ joined tps) ps h' an in
+    let slots = act-rest m (bare (s.lps p).call.held) s.world mem t c1 x between a.all.slots.now may.1.0 item.is answers (slot-seen ls o trees s mem t pos p c cs run mem.slots a refl) a.all.slots.there in
     let moved = end-moved ls o trees s mem t (taken_after t x) pos p c cs (a.runs.call.told st).told reply run run' (record { event = e; reply = last_reply run'.stage run'.held }) a st en' (subst (λ (z : Tree). HasFilled o t pos p mem (filled_of z mem)) (sym is) (not-filled o t pos p mem owed))
     (λ y in_y. act-table ls o trees s mem t pos p c cs run [] c1 x between a (not-filled o t pos p mem owed) may.1.0 item.is y in_y
     ∙ ap (λ (z : Tree). or_else (last_at (first_of z mem) y) (t.words (address m.pages y))) {x = End r [] (c1 ∷ ds)} {y = feed (trees p c) (a.runs.call.told st).told} (sym is))
-    (subst (λ (z : Tree). IsHand run'.hasher (after_of z mem).hand) (sym is) (hand-as run'.hasher en.hasher (changed_all ds (changed c1 mem)).hand (changed_all ds (changed c1 mem)).hand (hasher-of m run run' (End r [] (c1 ∷ ds)) changes reply en) refl rest.0))
-    (subst (λ (z : Tree). (k : ℕ) → IsHkid m k → IsHand ((taken_after t x).slots (k - 1)) ((after_of z mem).slots k)) (sym is)
-    (slots-as m (taken_after t x).slots (changed_all ds (changed c1 mem)).slots (changed c1 mem).slots (changed-rest ds (changed c1 mem) sw).0 rest-2.1)) in
+    (subst (λ (z : Tree). (k : ℕ) → IsHkid m k → IsHand ((taken_after t x).slots (k - 1)) (or_else (last_put (puts_of z mem) k) (a.all.slots.now k))) (sym is) slots.1) in
     came-as o trees p s t pos (Marked x) piece (map Quiet zs ++ joined tps) ps last h'
     (record {
       memory = moved.memory;
-      now = record { at = after_turn c cs (pos p).at.replies run' (last_reply run'.stage run'.held); owes = owes_of (feed (trees p c) (a.runs.call.told st).told) mem; fill = None };
+      now = record { at = after_turn c cs (pos p).at.replies run' (last_reply run'.stage run'.held); owes = owes_of (feed (trees p c) (a.runs.call.told st).told) mem; swaps = swaps_left (feed (trees p c) (a.runs.call.told st).told) mem; fill = None };
       stands = moved.stands;
-      rest = rest-owed o trees p (after_turn c cs (pos p).at.replies run' (last_reply run'.stage run'.held)) zs (owes_of (feed (trees p c) (a.runs.call.told st).told) mem) tps last
-          (subst (λ (z : Tree). AreStores m.pages zs (owes_of z mem)) (sym is) rest.1) own;
+      rest = rest-owed o trees p c cs (pos p).at.replies run' (feed (trees p c) (a.runs.call.told st).told) (End r [] (c1 ∷ ds)) mem zs between en.hasher (changed c1 mem).hand tps last is slots.0
+          (owed-items m (bare (s.lps p).call.held) ((row_of o p c).act s.world) (changed c1 mem) ds between en.hasher zs may.1.1 en.changed.1.1.3) (hasher-of m run run' (End r [] (c1 ∷ ds)) changes reply en) own;
     })
   where
     MayBoth : Change → List Change → Type 0
@@ -154,8 +152,8 @@ end-now ls o trees s mem t pos p c cs run run' e (End r (f ∷ fs) ds) changes r
     let may = fills-of-may ds (subst (λ (z : Tree). EndMay m (bare (s.lps p).call.held) s.world ((row_of o p c).act s.world) mem z) is
     (end-may o trees s mem t pos p c cs (a.runs.call.told st).told reply run run' (record { event = e; reply = last_reply run'.stage run'.held }) a st en')) in
     let two = two-parts m (f ∷ fs) ds run.hasher en.hasher changes en.changed in
-    let items = fills-items m (bare (s.lps p).call.held) s.world (f ∷ fs) run.hasher two.between two.first may two.filled (a.runs.hand.trying st) in
-    let many = behind-fills m (bare (s.lps p).call.held) s.world (f ∷ fs) run.hasher two.between two.first two.second may two.filled (a.runs.hand.trying st) in
+    let items = fills-items m (bare (s.lps p).call.held) s.world (f ∷ fs) run.hasher two.between two.first may two.filled (a.hand.trying st) in
+    let many = behind-fills m (bare (s.lps p).call.held) s.world (f ∷ fs) run.hasher two.between two.first two.second may two.filled (a.hand.trying st) in
     let todo = fills-todo m (bare (s.lps p).call.held) s.world (f ∷ fs) may in
     let reply-is : reply ≡ r = cc g in
     let heads : map Quiet two.first ++ (marked_behind 0 two.second ++ joined tps) ≡ piece ∷ ps =
@@ -172,6 +170,7 @@ end-now ls o trees s mem t pos p c cs run run' e (End r (f ∷ fs) ds) changes r
       undo = λ y. ap (λ (z : List Due). last_at z y) owed;
     })
     (record {
+      no_swaps = a.no_swaps;
       stores = two.first;
       act = two.second;
       turns = tps;
@@ -189,22 +188,19 @@ end-now ls o trees s mem t pos p c cs run run' e (End r (f ∷ fs) ds) changes r
     fills-of-may (c1 ∷ es) z = z.0
 end-now ls o trees s mem t pos p c cs run run' e (Since r ds) changes reply tps last piece ps a owed st en is g own h an =
     let m = o.machine in
-    let sw : has_no_swap ds ≡ true = subst (λ (z : Tree). swaps_as_act z ≡ true) is (a.are.swaps p c (a.runs.call.told st).told) in
     let en' = at-end o trees s mem t pos p c cs run run' e (Since r ds) changes reply a st en is g in
     let may = subst (λ (z : Tree). EndMay m (bare (s.lps p).call.held) s.world ((row_of o p c).act s.world) mem z) is
     (end-may o trees s mem t pos p c cs (a.runs.call.told st).told reply run run' (record { event = e; reply = last_reply run'.stage run'.held }) a st en') in
-    let rest = owed-items m (bare (s.lps p).call.held) ((row_of o p c).act s.world) mem ds run.hasher en.hasher changes may sw en.changed (hand-now o trees s mem t pos p c cs run a st) in
     let moved = end-moved ls o trees s mem t t pos p c cs (a.runs.call.told st).told reply run run' (record { event = e; reply = last_reply run'.stage run'.held }) a st en' (subst (λ (z : Tree). HasFilled o t pos p mem (filled_of z mem)) (sym is) (not-filled o t pos p mem owed))
     (λ y in_y. ap (λ (z : Tree). or_else (last_at (first_of z mem) y) (t.words (address m.pages y))) {x = Since r ds} {y = feed (trees p c) (a.runs.call.told st).told} (sym is))
-    (subst (λ (z : Tree). IsHand run'.hasher (after_of z mem).hand) (sym is) (hand-as run'.hasher en.hasher (changed_all ds mem).hand (changed_all ds mem).hand (hasher-of m run run' (Since r ds) changes reply en) refl rest.0))
-    (subst (λ (z : Tree). (k : ℕ) → IsHkid m k → IsHand (t.slots (k - 1)) ((after_of z mem).slots k)) (sym is) (slots-as m t.slots (changed_all ds mem).slots mem.slots (changed-rest ds mem sw).0 a.all.slots)) in
+    (subst (λ (z : Tree). (k : ℕ) → IsHkid m k → IsHand (t.slots (k - 1)) (or_else (last_put (puts_of z mem) k) (a.all.slots.now k))) (sym is) a.all.slots.there) in
     came-as o trees p s t pos Wordless piece (map Quiet changes ++ joined tps) ps last h
     (record {
       memory = moved.memory;
-      now = record { at = after_turn c cs (pos p).at.replies run' (last_reply run'.stage run'.held); owes = owes_of (feed (trees p c) (a.runs.call.told st).told) mem; fill = None };
+      now = record { at = after_turn c cs (pos p).at.replies run' (last_reply run'.stage run'.held); owes = owes_of (feed (trees p c) (a.runs.call.told st).told) mem; swaps = swaps_left (feed (trees p c) (a.runs.call.told st).told) mem; fill = None };
       stands = moved.stands;
-      rest = rest-owed o trees p (after_turn c cs (pos p).at.replies run' (last_reply run'.stage run'.held)) changes (owes_of (feed (trees p c) (a.runs.call.told st).told) mem) tps last
-          (subst (λ (z : Tree). AreStores m.pages changes (owes_of z mem)) (sym is) rest.1) own;
+      rest = rest-owed o trees p c cs (pos p).at.replies run' (feed (trees p c) (a.runs.call.told st).told) (Since r ds) mem changes run.hasher en.hasher mem.hand tps last is (hand-now o trees s mem t pos p c cs run a st)
+          (owed-items m (bare (s.lps p).call.held) ((row_of o p c).act s.world) mem ds run.hasher en.hasher changes may en.changed) (hasher-of m run run' (Since r ds) changes reply en) own;
     })
 
 -- the end whose act is the load before it
@@ -224,33 +220,29 @@ end-loaded ls o trees s mem t pos p c cs run run' e (End r [] []) changes reply 
     let en' = at-end-load ls o trees s mem t pos p c cs run run' e (End r [] []) changes reply at x a owed st en load an is g in
     let moved = end-moved ls o trees s mem t t pos p c cs now reply run run' (record { event = e; reply = last_reply run'.stage run'.held }) a st en' (subst (λ (z : Tree). HasFilled o t pos p mem (filled_of z mem)) (sym is) (not-filled o t pos p mem owed))
     (λ y in_y. ap (λ (z : Tree). or_else (last_at (first_of z mem) y) (t.words (address o.machine.pages y))) {x = End r [] []} {y = feed (trees p c) now} (sym is))
-    (subst (λ (z : Tree). IsHand run'.hasher (after_of z mem).hand) (sym is) (hand-as run'.hasher run.hasher mem.hand mem.hand (hasher-of o.machine run run' (End r [] []) changes reply en ∙ none.0) refl (hand-now o trees s mem t pos p c cs run a st)))
-    (subst (λ (z : Tree). (k : ℕ) → IsHkid o.machine k → IsHand (t.slots (k - 1)) ((after_of z mem).slots k)) (sym is) a.all.slots) in
+    (subst (λ (z : Tree). (k : ℕ) → IsHkid o.machine k → IsHand (t.slots (k - 1)) (or_else (last_put (puts_of z mem) k) (a.all.slots.now k))) (sym is) a.all.slots.there) in
     record {
       memory = moved.memory;
-      now = record { at = after_turn c cs (pos p).at.replies run' (last_reply run'.stage run'.held); owes = owes_of (feed (trees p c) now) mem; fill = None };
+      now = record { at = after_turn c cs (pos p).at.replies run' (last_reply run'.stage run'.held); owes = owes_of (feed (trees p c) now) mem; swaps = swaps_left (feed (trees p c) now) mem; fill = None };
       stands = moved.stands;
-      rest = rest-owed o trees p (after_turn c cs (pos p).at.replies run' (last_reply run'.stage run'.held)) changes (owes_of (feed (trees p c) now) mem) tps last
-          (subst (λ (z : Tree). AreStores o.machine.pages changes (owes_of z mem)) (sym is) (subst (λ (z : List Taken). AreStores o.machine.pages z []) (sym none.1) tt)) own;
+      rest = rest-owed o trees p c cs (pos p).at.replies run' (feed (trees p c) now) (End r [] []) mem changes run.hasher run.hasher mem.hand tps last is (hand-now o trees s mem t pos p c cs run a st) (λ i. (none.1, i))
+          (hasher-of o.machine run run' (End r [] []) changes reply en ∙ none.0) own;
     }
 end-loaded ls o trees s mem t pos p c cs run run' e (Since r ds) changes reply at x tps last a owed st en load an is g d own =
     let m = o.machine in
     let now = (a.runs.call.told st).told ++ x ∷ [] in
-    let sw : has_no_swap ds ≡ true = subst (λ (z : Tree). swaps_as_act z ≡ true) is (a.are.swaps p c now) in
     let en' = at-end-load ls o trees s mem t pos p c cs run run' e (Since r ds) changes reply at x a owed st en load an is g in
     let may = subst (λ (z : Tree). EndMay m (bare (s.lps p).call.held) s.world ((row_of o p c).act s.world) mem z) is
     (end-may o trees s mem t pos p c cs now reply run run' (record { event = e; reply = last_reply run'.stage run'.held }) a st en') in
-    let rest = owed-items m (bare (s.lps p).call.held) ((row_of o p c).act s.world) mem ds run.hasher en.hasher changes may sw en.changed (hand-now o trees s mem t pos p c cs run a st) in
     let moved = end-moved ls o trees s mem t t pos p c cs now reply run run' (record { event = e; reply = last_reply run'.stage run'.held }) a st en' (subst (λ (z : Tree). HasFilled o t pos p mem (filled_of z mem)) (sym is) (not-filled o t pos p mem owed))
     (λ y in_y. ap (λ (z : Tree). or_else (last_at (first_of z mem) y) (t.words (address m.pages y))) {x = Since r ds} {y = feed (trees p c) now} (sym is))
-    (subst (λ (z : Tree). IsHand run'.hasher (after_of z mem).hand) (sym is) (hand-as run'.hasher en.hasher (changed_all ds mem).hand (changed_all ds mem).hand (hasher-of m run run' (Since r ds) changes reply en) refl rest.0))
-    (subst (λ (z : Tree). (k : ℕ) → IsHkid m k → IsHand (t.slots (k - 1)) ((after_of z mem).slots k)) (sym is) (slots-as m t.slots (changed_all ds mem).slots mem.slots (changed-rest ds mem sw).0 a.all.slots)) in
+    (subst (λ (z : Tree). (k : ℕ) → IsHkid m k → IsHand (t.slots (k - 1)) (or_else (last_put (puts_of z mem) k) (a.all.slots.now k))) (sym is) a.all.slots.there) in
     record {
       memory = moved.memory;
-      now = record { at = after_turn c cs (pos p).at.replies run' (last_reply run'.stage run'.held); owes = owes_of (feed (trees p c) now) mem; fill = None };
+      now = record { at = after_turn c cs (pos p).at.replies run' (last_reply run'.stage run'.held); owes = owes_of (feed (trees p c) now) mem; swaps = swaps_left (feed (trees p c) now) mem; fill = None };
       stands = moved.stands;
-      rest = rest-owed o trees p (after_turn c cs (pos p).at.replies run' (last_reply run'.stage run'.held)) changes (owes_of (feed (trees p c) now) mem) tps last
-          (subst (λ (z : Tree). AreStores m.pages changes (owes_of z mem)) (sym is) rest.1) own;
+      rest = rest-owed o trees p c cs (pos p).at.replies run' (feed (trees p c) now) (Since r ds) mem changes run.hasher en.hasher mem.hand tps last is (hand-now o trees s mem t pos p c cs run a st)
+          (owed-items m (bare (s.lps p).call.held) ((row_of o p c).act s.world) mem ds run.hasher en.hasher changes may en.changed) (hasher-of m run run' (Since r ds) changes reply en) own;
     }
 
 -- the load before the end goes on

@@ -1,6 +1,9 @@
 -- A table that holds given memory, and what a step makes of two tables that agree where it steps.
-use Rattle.std.proofs.Common.{◌≡◌, ℕ, zero, suc, ◌+◌, ◌-◌, ◌*◌, ◌/◌, ◌%◌, ◌<◌, true, false, ◌==◌, nat_lt, cond, Option, refl, ap, sym, ◌∙◌, arith}
+use Rattle.std.proofs.Common.{◌≡◌, ℕ, zero, suc, ◌+◌, ◌-◌, ◌*◌, ◌/◌, ◌%◌, ◌^◌, ◌<◌, ◌≤◌, true, false, ◌==◌, nat_lt, cond, List, length, drop, Option, Some, None, refl, ap, sym, ◌∙◌, subst, arith, length-drop}
 use Rattle.std.proofs.lemmas.Bool.{eq-eqb, lt-ltb}
+use Rattle.std.proofs.lemmas.List.{take_all}
+use Rattle.sha2.specs.Sha512.{initial_hash_384, hash_after, Holds}
+use Rattle.sha2.specs.Hashers.{Holds384}
 use Rattle.td_words.specs.declared.machines.Machine.{Machine}
 use Rattle.td_words.specs.Address.{lock_at, word_at}
 use Rattle.td_words.specs.Place.{WordPlace, Lock, Pamt, Word, Key, IsIn, address, same_place}
@@ -10,7 +13,7 @@ use Rattle.step_core.specs.declared.steps.WordStep.{WordStep}
 use Rattle.step_core.specs.declared.steps.WordStep.TheVariants as step
 use Rattle.step_core.specs.Words.{Words, after_step, address_of}
 use Rattle.step_core.specs.Items.{Table}
-use Rattle.leaf_engine.specs.Changes.{Memory}
+use Rattle.leaf_engine.specs.Changes.{Hand, Memory}
 use Rattle.leaf_engine.specs.Decides.{IsHand}
 use Rattle.leaf_engine.specs.Means.{IsHkid}
 use Rattle.leaf_engine.specs.Tables.{IsMemory}
@@ -56,12 +59,37 @@ place-back m (Key k) i =
     let d : 514 * m.pages + k - 514 * m.pages ≡ k = omega arith in
     rw (b, d) refl
 
--- a table with these words and slots
-abbrev pub table_of : Machine → (ℕ → Option Measure) → (WordPlace → ℕ) → Table
-table_of m slots words = record { words = λ n. words (place_at m.pages n); slots = slots }
+-- a hasher that has measured these bytes
 
-pub holds-memory : (m : Machine) (slots : ℕ → Option Measure) (hasher : Option Measure) (mem : Memory) → ((h : ℕ) → IsHkid m h → IsHand (slots (h - 1)) (mem.slots h)) → IsHand hasher mem.hand → IsMemory m (table_of m slots mem.words) hasher mem
-holds-memory m slots hasher mem sl is = record { words = λ q i. ap mem.words (place-back m q i); slots = sl; hand = is }
+abbrev hasher_at : List ℕ → Measure
+hasher_at bytes = record { core = record { h = hash_after initial_hash_384 bytes (length bytes / 128); buffer = drop (length bytes / 128 * 128) bytes; total = length bytes % 2 ^ 128 } }
+
+measured : (bytes : List ℕ) → Holds384 (hasher_at bytes) bytes
+unfolding Holds
+measured bytes =
+    let left : length (drop (length bytes / 128 * 128) bytes) ≡ length bytes % 128 = omega (arith, length-drop (length bytes / 128 * 128) bytes) in
+    (refl, (refl, take_all (length bytes % 128) (drop (length bytes / 128 * 128) bytes) (omega (arith, left))))
+
+abbrev pub hasher_for : Hand → Option Measure
+hasher_for None = None
+hasher_for (Some bytes) = Some (hasher_at bytes)
+
+pub is-measured : (x : Hand) → IsHand (hasher_for x) x
+is-measured None = tt
+is-measured (Some bytes) = measured bytes
+
+-- a table with these words, and such hashers in its slots
+abbrev pub table_of : Machine → (ℕ → Hand) → (WordPlace → ℕ) → Table
+table_of m slots words = record { words = λ n. words (place_at m.pages n); slots = λ k. hasher_for (slots (k + 1)) }
+
+pub holds-memory : (m : Machine) (hasher : Option Measure) (mem : Memory) → IsHand hasher mem.hand → IsMemory m (table_of m mem.slots mem.words) hasher mem
+holds-memory m hasher mem is = record { words = λ q i. ap mem.words (place-back m q i); slots = at; hand = is }
+  where
+    at : (h : ℕ) → IsHkid m h → IsHand (hasher_for (mem.slots (h - 1 + 1))) (mem.slots h)
+    at h i =
+        let low : 1 ≤ h = i.0 in
+        let e : h - 1 + 1 ≡ h = omega (arith, low) in
+        subst (λ (k : ℕ). IsHand (hasher_for (mem.slots k)) (mem.slots h)) (sym e) (is-measured (mem.slots h))
 
 -- two tables after one step
 
