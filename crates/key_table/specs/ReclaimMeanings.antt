@@ -279,8 +279,7 @@ module _ (m : Machine) (c : Instant) (t page : ℕ) (sh : Shows m c.memory.words
             let has : holds (two_locks t page ++ c.kept) (OfPage t) ≡ true = tdr_held t page c.kept e in
             let sole : holds_alone (two_locks t page ++ c.kept) (OfPage t) ≡ true = tdr_held_alone t page c.kept e in
             let apart : (t == page) ≡ false = ne_eqb t page (λ y. (let bad : (page == t) ≡ true = eq-eqb page t (sym y) in cc)) in
-            let w' : World = (reclaim_page m t page).act the_world in
-            (
+            let w' : World = (reclaim_page m t page).act the_world in (
               (tdr_in, omega arith),
               inl (rw (tdr-spot the_world t 2 is own_tdr) (inl (sole, tt))),
               subst (λ (n : ℕ). Means m c the_work (two_locks t page) (acts (Done value.Nothing) (give_back_child t page n)) []) (sym child-count) (

@@ -1,15 +1,20 @@
 -- Each call's leaf tries at most as many locks as its row.
-use Rattle.std.proofs.Common.{ℕ, zero, suc, ◌+◌, ◌-◌, ◌==◌, Bool, true, false, List, [], arith}
+use Rattle.std.proofs.Common.{ℕ, zero, suc, ◌+◌, ◌-◌, ◌==◌, Bool, true, false, List, [], ◌∷◌, arith}
 use Rattle.td_words.specs.declared.machines.Machine.{Machine}
 use Rattle.td_words.specs.declared.calls.Call.{Call}
 use Rattle.td_words.specs.declared.calls.Call.TheVariants as call
 use Rattle.td_words.specs.declared.names.ReadField.TheVariants as field
+use Rattle.td_words.specs.declared.names.EntryState.TheVariants as entry
+use Rattle.td_words.specs.declared.names.Mode.TheVariants.{Shared}
+use Rattle.td_words.specs.Place as place
 use Rattle.td_words.specs.declared.replies.Reply.TheVariants.{Done}
 use Rattle.td_words.specs.declared.replies.Value.TheVariants as value
+use Rattle.flat_core.specs.Processor.{OfPage}
+use Rattle.flat_core.specs.Tree.{word_of_gpa}
 use Rattle.flat_core.specs.Table.{most_tries}
 use Rattle.leaf_engine.specs.declared.needs.Place.{Place}
 use Rattle.leaf_engine.specs.Changes.{Change}
-use Rattle.leaf_engine.specs.Trees.{Tree, acts}
+use Rattle.leaf_engine.specs.Trees.{Tree, Lock, acts}
 use Rattle.leaf_parts.specs.Words.{says_host, page_told, vps_told}
 use Rattle.first_leaves.specs.HostTrees.{read_word}
 use Rattle.key_table.specs.CacheTrees.{mark_keys}
@@ -17,9 +22,10 @@ use Rattle.key_table.specs.FlushTrees.{count_vps, flush_vps}
 use Rattle.key_table.specs.ReclaimTrees.{reclaim_rest}
 use Rattle.td_control.specs.FinalTrees.{vps_tree, final_changes}
 use Rattle.sept_parts.specs.declared.finds.Found.{Found}
-use Rattle.sept_parts.specs.SeptTrees.{walk_on_tree, find_tree}
-use Rattle.mem_build.specs.PageAddTrees.{page_add_tree}
-use Rattle.mem_build.specs.ExtendTrees.{words_tree}
+use Rattle.sept_parts.specs.SeptTrees.{walk_on_tree, find_tree, state_tree}
+use Rattle.mem_build.specs.SeptAddTrees.{sept_add_rest}
+use Rattle.mem_build.specs.PageAddTrees.{page_add_tree, pages_tree, addition_end}
+use Rattle.mem_build.specs.ExtendTrees.{words_tree, measured_tree, measure_tree}
 use Rattle.leaf_dispatch.specs.Bounds.{TriesAtMost}
 use Rattle.leaf_dispatch.specs.Table.{task_of}
 
@@ -62,7 +68,7 @@ words-few n page at (suc left) seen k few = λ word. words-few n page (at + 1) l
 
 page_add-few : (m : Machine) (t gpa page source : ℕ) → TriesAtMost 5 (page_add_tree m t gpa page source)
 unfolding page_add_tree
-page_add-few m t gpa page source = (omega arith, λ pamt life count tdcs. (omega arith, λ op. (omega arith, find-few 2 m.pages t gpa 0 _ (λ f. (omega arith, λ other. (omega arith, λ host hkid children. tt))))))
+page_add-few m t gpa page source = (omega arith, λ pamt life count tdcs. (omega arith, λ op. (omega arith, find-few 2 m.pages t gpa 0 (λ (f : Found). state_tree f.entry (entry.Free ∷ []) (pages_tree t page source (λ hkid children. addition_end m (record { tdr = t; gpa = gpa; page = page; source = source; table = f.page; hkid = hkid; children = children })))) (λ f. (omega arith, λ other. (omega arith, λ host hkid children. tt))))))
 
 pub few_tries : (p : Place) (c : Call) → TriesAtMost (most_tries c) (task_of p c).tree
 few_tries p (call.HostRead page word) = (omega arith, λ pamt. read-few 0 page word (says_host pamt))
@@ -83,7 +89,8 @@ few_tries p (call.MngKeyFreeid tdr) = (omega arith, λ pamt life. (omega arith, 
 few_tries p (call.MrFinalize tdr) = (omega arith, λ pamt life count tdcs. (omega arith, λ op hkid n. vps-few 0 p.machine.pages (page_told p.machine.pages tdcs) 0 (vps_told n) true (acts (Done value.Nothing) (final_changes p.machine (page_told p.machine.pages tdcs) hkid)) tt))
 few_tries p (call.VpCreate tdr page) = (omega arith, λ pamt life count tdcs. (omega arith, λ op vps expected. (omega arith, λ host children. tt)))
 few_tries p (call.VpInit tdr vp value) = (omega arith, λ pamt life count tdcs. (omega arith, λ op. (omega arith, λ host state. tt)))
-few_tries p (call.MemSeptAdd tdr gpa level page) = (omega arith, λ pamt life count tdcs. (omega arith, λ op. (omega arith, find-few 1 p.machine.pages tdr gpa level _ (λ f. (omega arith, λ host children. tt)))))
+few_tries p (call.MemSeptAdd tdr gpa level page) = (omega arith, λ pamt life count tdcs. (omega arith, λ op. (omega arith, find-few 1 p.machine.pages tdr gpa level (sept_add_rest p.machine.pages tdr gpa level page) (λ f. (omega arith, λ host children. tt)))))
 few_tries p (call.MemSeptRd tdr gpa level) = (omega arith, λ pamt life count tdcs. (omega arith, λ op. (omega arith, find-few 0 p.machine.pages tdr gpa level _ (λ f. tt))))
 few_tries p (call.MemPageAdd tdr gpa page source) = page_add-few p.machine tdr gpa page source
-few_tries p (call.MrExtend tdr gpa) = (omega arith, λ pamt life count tdcs. (omega arith, λ op. (omega arith, find-few 1 p.machine.pages tdr gpa 0 _ (λ f. (omega arith, λ hkid. words-few 0 f.entry.page _ 32 [] _ (λ xs. tt))))))
+few_tries p (call.MrExtend tdr gpa) = (omega arith, λ pamt life count tdcs. (omega arith, λ op. (omega arith, find-few 1 p.machine.pages tdr gpa 0 (λ (f : Found). state_tree f.entry (entry.Mapped ∷ []) (Lock (OfPage f.entry.page) (place.Lock f.entry.page) Shared (measured_tree p.machine tdr gpa f.entry.page)))
+    (λ f. (omega arith, λ hkid. words-few 0 f.entry.page (word_of_gpa gpa) 32 [] (measure_tree p.machine gpa hkid) (λ xs. tt))))))

@@ -96,10 +96,10 @@ module _ (m : Machine) (c : Instant) (t v x : ℕ) (few : m.pages < 65536) (la :
         pamt_shown,
         λ e. refl,
         λ e. (let its : IsPageOf w.pages t v kind.Tdvpr = record { kind = kind-is (w.pages.kinds v) kind.Tdvpr (and_left (same_kind (w.pages.kinds v) kind.Tdvpr) (w.pages.owners v == t) e); owner = eqb-true (w.pages.owners v) t (and_right (same_kind (w.pages.kinds v) kind.Tdvpr) (w.pages.owners v == t) e) } in (
-              (in_page, omega arith),
-              inl (at-spot (hold c (page_locks t v Shared)) w (place.Word v 1) (spot_of VcpuWord t v) (λ z. reads z Whole) (vp-spot w t v 1 its) (may_load its)),
-              rw (state_shown its) (refl, λ f. refl, λ f. its_end its),
-            )),
+          (in_page, omega arith),
+          inl (at-spot (hold c (page_locks t v Shared)) w (place.Word v 1) (spot_of VcpuWord t v) (λ z. reads z Whole) (vp-spot w t v 1 its) (may_load its)),
+          rw (state_shown its) (refl, λ f. refl, λ f. its_end its),
+        )),
       ),
     ),
   )
