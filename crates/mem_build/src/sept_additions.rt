@@ -82,9 +82,7 @@ impl Plan for SeptAdd {
             tree: Mode::Exclusive,
         };
         let tdr = self.tdr as u16;
-        let found = td_find(
-            &mut told, self.place, tdr, modes, &GROWING, self.gpa, level,
-        )?;
+        let found = td_find(&mut told, self.place, tdr, modes, &GROWING, self.gpa, level)?;
         add(
             told,
             self.place,

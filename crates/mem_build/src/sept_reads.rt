@@ -72,9 +72,7 @@ impl Plan for SeptRd {
             tree: Mode::Exclusive,
         };
         let tdr = self.tdr as u16;
-        let found = td_find(
-            &mut told, self.place, tdr, modes, &BEGUN, self.gpa, level,
-        )?;
+        let found = td_find(&mut told, self.place, tdr, modes, &BEGUN, self.gpa, level)?;
         Ok(Verdict {
             reply: Reply::Done(entry_value(found.entry)),
             writes: ArrayVec::new(),
