@@ -1,5 +1,5 @@
 -- The walk of a TD's secure EPT means what its row says.
-use Rattle.std.proofs.Common.{◌≡◌, ◌⊎◌, ℕ, zero, suc, ◌^◌, ◌<◌, ◌≤◌, true, List, [], ◌∷◌, ◌++◌, slice_index, refl, ap, sym, ◌∙◌, subst, inl, inr, lit<, arith}
+use Rattle.std.proofs.Common.{◌≡◌, ℕ, zero, suc, ◌^◌, ◌<◌, ◌≤◌, true, List, [], ◌∷◌, ◌++◌, slice_index, refl, ap, sym, ◌∙◌, subst, inl, inr, lit<, arith}
 use Rattle.td_words.specs.declared.names.EntryState.{EntryState}
 use Rattle.td_words.specs.declared.names.EntryState.TheVariants as entry
 use Rattle.td_words.specs.declared.names.OpState.{OpState}
@@ -90,8 +90,7 @@ module _ (m : Machine) (c : Instant) (k : Work) (t : ℕ) (in_page : t < m.pages
           → Means m c k hs (below_tree m.pages page gpa (suc l) further) (needs (same_state (entry_at w t (suc l) gpa).state entry.NlMapped) (EptWalkFailed (suc l)) ∷ rest)
       below-means page l further rest below has h =
           entry-means page (suc l) (λ e. tree.needs (is_mapped_on e) (EptWalkFailed (suc l)) (further e.page)) (needs (same_state (entry_at w t (suc l) gpa).state entry.NlMapped) (EptWalkFailed (suc l)) ∷ rest) has
-          (upper-reads m c t sh alive x hs locks gpa page l small has)
-          (
+          (upper-reads m c t sh alive x hs locks gpa page l small has) (
             refl,
             λ e. refl,
             λ on. (let named = la.tree.upper t l (number_at (suc l) gpa) alive (mapped-on (entry_at w t (suc l) gpa).state on) in

@@ -11,7 +11,7 @@ use Rattle.flat_core.specs.Processor.{OfPage, OfOp, OfTree, Held}
 use Rattle.flat_core.specs.Lawful.{IsAlive, Lawful}
 use Rattle.sept_walk.specs.SecureEpt.{index_at}
 use Rattle.word_rules.specs.Guards.{Grip, Locked}
-use Rattle.word_rules.specs.Rules.{View, Whole, ThePage, TheRights, Grade, KeepsNothing, KeepsPage, KeepsRights, reads, writes, owes}
+use Rattle.word_rules.specs.Rules.{Whole, ThePage, Grade, KeepsNothing, KeepsPage, KeepsRights, reads, writes}
 use Rattle.word_rules.specs.Spots.{Spot, spot, entry_class}
 use Rattle.word_rules.specs.Permissions.{MayAt, Reads, Writes, Owes}
 use Rattle.word_rules.specs.Cells.{Shows}

@@ -155,7 +155,7 @@ module _ (m : Machine) (mem : Memory) (s : State) (t : ℕ) (sh : Shows m mem.wo
         (λ y. rw y (subst (λ (v : ℕ). IsAs (in_lines (td_lock_lines locks t (tdcs_lines w t)) i) v) (sym (away (not-page (eqb-true x.tdcs q y) has.node))) (rw (own, alive.life, x.list, y) at (was kind.Tdcx is))))
         (λ y. rw y (by_test (x.root == q)
         (λ z. rw z (let at : x.root ≡ q = eqb-true x.root q z in
-            entry_word-at q i 3 (512 * 0 + i) inside.1 (inl (refl, sym at, refl)) (subst (λ (p : ℕ). mem.words (place.Word p i) ≡ entry_word (w.tds.entries t 3 (512 * 0 + i))) at (root-shown m mem s t sh alive x i inside.1))))
+        entry_word-at q i 3 (512 * 0 + i) inside.1 (inl (refl, sym at, refl)) (subst (λ (p : ℕ). mem.words (place.Word p i) ≡ entry_word (w.tds.entries t 3 (512 * 0 + i))) at (root-shown m mem s t sh alive x i inside.1))))
         (λ z. rw z tt)))
       where
         not-page : x.tdcs ≡ q → Node → q ≡ page → ⊥

@@ -1,10 +1,9 @@
 -- A walk level by level: at its end, and one level down.
-use Rattle.std.proofs.Common.{◌≡◌, ℕ, zero, suc, ◌+◌, ◌-◌, List, length, Result, Ok, Err, refl, sym, subst}
+use Rattle.std.proofs.Common.{◌≡◌, ℕ, zero, suc, ◌-◌, List, Result, Ok, Err, refl, sym, subst}
 use Rattle.leaf_engine.specs.declared.plans.Stop.{Stop}
 use Rattle.leaf_engine.specs.Trees.{Tree}
-use Rattle.leaf_engine.specs.Inside.{StopEarly}
-use Rattle.leaf_parts.specs.Parts.{Goes, Feeds, Uses}
-use Rattle.leaf_parts.proofs.Parts.{goes-on, goes-off, feeds-on, early-after, early-more}
+use Rattle.leaf_parts.specs.Parts.{Goes, Feeds}
+use Rattle.leaf_parts.proofs.Parts.{goes-on, goes-off, feeds-on}
 use Rattle.sept_parts.specs.SeptTrees.{below_tree, walk_on_tree}
 
 module _ (pages gpa : ℕ) where

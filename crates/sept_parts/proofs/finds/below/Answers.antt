@@ -20,7 +20,7 @@ returns-clause-feeds c = λ further.
     let is : c.in_ok-upper.upper ≡ e = cc in
     let on : is_mapped_on c.in_ok-upper.upper ≡ true = sym c.is_mapped_on.ensures ∙ c.in_ok-check.ensures in
     let f : feed (entry_tree c.args.place.machine.pages c.args.page c.args.gpa c.args.level (λ x. needs (is_mapped_on x) (EptWalkFailed c.args.level) (further x.page))) c.args.told.now.left.now
-        ≡ feed (needs (is_mapped_on c.in_ok-upper.upper) (EptWalkFailed c.args.level) (further c.in_ok-upper.upper.page)) c.entry.new.told.left.now
-        = c.in_ok-upper.ensures.feeds (λ x. needs (is_mapped_on x) (EptWalkFailed c.args.level) (further x.page)) in
+    ≡ feed (needs (is_mapped_on c.in_ok-upper.upper) (EptWalkFailed c.args.level) (further c.in_ok-upper.upper.page)) c.entry.new.told.left.now
+    = c.in_ok-upper.ensures.feeds (λ x. needs (is_mapped_on x) (EptWalkFailed c.args.level) (further x.page)) in
     f ∙ (feed-passes (is_mapped_on c.in_ok-upper.upper) (EptWalkFailed c.args.level) (further c.in_ok-upper.upper.page) c.entry.new.told.left.now on
     ∙ ap (λ (x : Entry). feed (further x.page) c.entry.new.told.left.now) is)
