@@ -1,81 +1,52 @@
 -- The leaves of the host's plain memory accesses mean their rows.
-use Rattle.std.proofs.Common.{◌≡◌, ℕ, ◌%◌, ◌^◌, ◌<◌, ◌≤◌, ◌⊎◌, Bool, true, false, ◌==◌, ◌&&◌, cond, List, [], ◌∷◌, Option, refl, ap, ◌∙◌, inl, inr, arith}
+use Rattle.std.proofs.Common.{◌≡◌, ℕ, ◌^◌, ◌<◌, ◌≤◌, ◌⊎◌, Bool, true, false, ◌==◌, ◌&&◌, cond, List, [], ◌∷◌, Option, refl, ap, ◌∙◌, inl, inr, arith}
 use Rattle.std.specs.Prelude.{nat_lt}
-use Rattle.std.proofs.lemmas.Bool.{eq-eqb, eqb-true, ltb-true, lt-ltb}
+use Rattle.std.proofs.lemmas.Bool.{eqb-true, ltb-true, lt-ltb}
 use Rattle.td_words.specs.declared.names.PageKind.{PageKind}
 use Rattle.td_words.specs.declared.names.PageKind.TheVariants as kind
-use Rattle.td_words.specs.declared.names.Mode.{Mode}
 use Rattle.td_words.specs.declared.names.Mode.TheVariants.{Shared}
 use Rattle.td_words.specs.declared.machines.Machine.{Machine}
-use Rattle.td_words.specs.NameNumber.{kind_number}
 use Rattle.td_words.specs.Packing.{pamt_word, is_lawful_pamt}
 use Rattle.td_words.proofs.Unpacked.{packings}
 use Rattle.td_words.specs.Place.{WordPlace, IsIn, same_place}
 use Rattle.td_words.specs.Place as place
+use Rattle.flat_core.proofs.Tests.{host_kind}
 use Rattle.flat_core.specs.World.{World}
-use Rattle.flat_core.specs.Processor.{LockId, OfPage, Held}
-use Rattle.flat_core.specs.Conditions.{is_host, is_host_in, same_kind}
+use Rattle.flat_core.specs.Processor.{LockId, OfPage}
+use Rattle.flat_core.specs.Conditions.{is_host, is_host_in}
 use Rattle.flat_core.specs.Lawful.{Lawful}
 use Rattle.flat_core.specs.Effects.{set_word}
 use Rattle.flat_core.specs.HostRows.{host_read}
 use Rattle.flat_core.specs.Event.{State}
 use Rattle.word_rules.specs.Permissions.{Respects, Moves}
+use Rattle.word_rules.proofs.Conflicts.{respects-compose}
 use Rattle.word_rules.specs.Rules.{KeepsNothing}
 use Rattle.word_rules.specs.Spots.{spot, page_spot}
 use Rattle.word_rules.specs.Guards.{Grip}
 use Rattle.word_rules.specs.Cells.{Shows, IsAs, cell, page_cell, lock_word}
-use Rattle.lock_words.specs.Grips.{holds}
 use Rattle.leaf_engine.specs.declared.needs.Place.{Place}
 use Rattle.lock_words.specs.LockWords.{put_word}
 use Rattle.leaf_engine.specs.Means.{Instant, Means, MeansRow, work_of, OfCall, hold}
 use Rattle.leaf_parts.specs.Words.{says_host}
+use Rattle.leaf_parts.proofs.Begun.{holds-newest}
+use Rattle.leaf_parts.proofs.Told.{kind-shown}
 use Rattle.first_leaves.specs.HostTrees.{host_read_task, host_write_task, rdmd_task, read_word}
-
--- a lock that was tried last is held
-pub holds_newest : (p : ℕ) (m : Mode) (hs : List Held) → holds (record { lock = OfPage p; mode = m } ∷ hs) (OfPage p) ≡ true
-holds_newest p m hs = rw (eq-eqb p p refl) refl
-
-kind_small : (k : PageKind) → kind_number k < 16
-kind_small kind.Nda = omega arith
-kind_small kind.Reg = omega arith
-kind_small kind.Tdr = omega arith
-kind_small kind.Tdcx = omega arith
-kind_small kind.Tdvpr = omega arith
-kind_small kind.Ept = omega arith
-kind_small kind.Migsc = omega arith
-
-kind_bits : (k : PageKind) (o e : ℕ) → pamt_word (record { kind = k; owner = o; epoch = e }) % 16 ≡ kind_number k
-kind_bits k o e = (let small : kind_number k < 16 = kind_small k in omega arith)
 
 -- a PAMT word tells whether its page is the host's
 pub host_shown : (m : Machine) (c : Instant) (p : ℕ) → Shows m c.memory.words c.memory.slots c.state → p < m.pages → says_host (c.memory.words (place.Pamt p)) ≡ is_host c.state.world p
-host_shown m c p s i =
-    let at : c.memory.words (place.Pamt p) ≡ pamt_word (record { kind = c.state.world.pages.kinds p; owner = c.state.world.pages.owners p; epoch = c.state.world.pages.blocked p }) = s.word (place.Pamt p) i in
-    rw (at, kind_bits (c.state.world.pages.kinds p) (c.state.world.pages.owners p) (c.state.world.pages.blocked p)) refl
-
-pub host_kind : (k : PageKind) → same_kind k kind.Nda ≡ true → k ≡ kind.Nda
-host_kind kind.Nda h = refl
-host_kind kind.Reg h = cc
-host_kind kind.Tdr h = cc
-host_kind kind.Tdcx h = cc
-host_kind kind.Tdvpr h = cc
-host_kind kind.Ept h = cc
-host_kind kind.Migsc h = cc
-
-respects_same : (g : Grip) (w : World) → Respects g w w
-respects_same g w = record { word = λ q. inl refl; slot = λ h. inl refl; life = λ t. inl refl }
+host_shown m c p s i = kind-shown m c.memory.words c.memory.slots c.state s kind.Nda p i
 
 read_end : (p : Place) (page i : ℕ) (c : Instant) (b : Bool) → is_host c.state.world page ≡ b → Shows p.machine c.memory.words c.memory.slots c.state → page < p.machine.pages → i < 512
     → Means p.machine c (work_of (OfCall (host_read p.machine page i))) (record { lock = OfPage page; mode = Shared } ∷ []) (read_word page i b) []
 read_end p page i c true e s in_page in_word =
-    let nda : c.state.world.pages.kinds page ≡ kind.Nda = host_kind _ e in
+    let nda : c.state.world.pages.kinds page ≡ kind.Nda = host_kind (c.state.world.pages.kinds page) e in
     let now : c.memory.words (place.Word page i) ≡ c.state.world.words page i = rw nda at (s.word (place.Word page i) (in_page, in_word)) in (
       (in_page, in_word),
-      inr (rw nda (inl (holds_newest page Shared c.kept, tt)), refl),
-      (record { reply_is = rw (e, now) refl; fills_allowed = tt; respects = respects_same (hold c (record { lock = OfPage page; mode = Shared } ∷ [])) c.state.world; locks_stay = ((refl, λ x. x), tt); shows = s }, tt),
+      inr (rw nda (inl (holds-newest page Shared c.kept, tt)), refl),
+      (record { reply_is = rw (e, now) refl; fills_allowed = tt; respects = respects-compose.same (hold c (record { lock = OfPage page; mode = Shared } ∷ [])) c.state.world; locks_stay = ((refl, λ x. x), tt); shows = s }, tt),
     )
 read_end p page i c false e s in_page in_word =
-    (record { reply_is = rw e refl; fills_allowed = tt; respects = respects_same (hold c (record { lock = OfPage page; mode = Shared } ∷ [])) c.state.world; locks_stay = ((refl, λ x. x), tt); shows = s }, tt)
+    (record { reply_is = rw e refl; fills_allowed = tt; respects = respects-compose.same (hold c (record { lock = OfPage page; mode = Shared } ∷ [])) c.state.world; locks_stay = ((refl, λ x. x), tt); shows = s }, tt)
 
 pub host_read-means : (p : Place) (page i : ℕ) → MeansRow (host_read_task p page i)
 host_read-means p page i = record {
@@ -93,7 +64,7 @@ host_read-means p page i = record {
             record { in_machine = in_page; at = refl; stands = tt; allowed = inl tt },
             (
               in_page,
-              inl (inl (holds_newest page Shared c.kept, tt)),
+              inl (inl (holds-newest page Shared c.kept, tt)),
               rw (host_shown p.machine c page at.shown in_page) (read_end p page i c (is_host c.state.world page) refl at.shown in_page in_word),
             ),
           )),
@@ -172,11 +143,11 @@ host_write-means p page i v = record {
             record { in_machine = in_page; at = refl; stands = tt; allowed = inl tt },
             (
               in_page,
-              inl (inl (holds_newest page Shared c.kept, tt)),
+              inl (inl (holds-newest page Shared c.kept, tt)),
               (
                 host_shown p.machine c page at.shown in_page,
                 λ e. refl,
-                λ e. (let nda : c.state.world.pages.kinds page ≡ kind.Nda = host_kind _ e in (
+                λ e. (let nda : c.state.world.pages.kinds page ≡ kind.Nda = host_kind (c.state.world.pages.kinds page) e in (
                   record {
                     reply_is = refl;
                     fills_allowed = tt;
@@ -184,7 +155,7 @@ host_write-means p page i v = record {
                     locks_stay = ((refl, λ x. x), tt);
                     shows = shows_stored p.machine c.memory.words c.memory.slots c.state page i v at.shown nda;
                   },
-                  (((in_page, in_word), (KeepsNothing, rw nda (inl (holds_newest page Shared c.kept, tt)), tt)), tt),
+                  (((in_page, in_word), (KeepsNothing, rw nda (inl (holds-newest page Shared c.kept, tt)), tt)), tt),
                 )),
               ),
             ),
@@ -194,9 +165,6 @@ host_write-means p page i v = record {
 }
 
 -- the metadata of a page are lawful, in a machine of at most 1,024 pages
-
-both_true : (a b : Bool) → a ≡ true → b ≡ true → (a && b) ≡ true
-both_true a b x y = rw (x, y) refl
 
 pamt_lawful : (m : Machine) (w : World) (p : ℕ) → m.pages ≤ 1024 → Lawful m w → is_lawful_pamt (record { kind = w.pages.kinds p; owner = w.pages.owners p; epoch = w.pages.blocked p }) ≡ true
 pamt_lawful m w p few la = by (is_host_in w.pages p) refl
@@ -228,12 +196,12 @@ rdmd-means p page few = record {
           record { in_machine = in_page; at = refl; stands = tt; allowed = inl tt },
           (
             in_page,
-            inl (inl (holds_newest page Shared c.kept, tt)),
+            inl (inl (holds-newest page Shared c.kept, tt)),
             (
               record {
                 reply_is = rw (word, read) refl;
                 fills_allowed = tt;
-                respects = respects_same (hold c (record { lock = OfPage page; mode = Shared } ∷ [])) c.state.world;
+                respects = respects-compose.same (hold c (record { lock = OfPage page; mode = Shared } ∷ [])) c.state.world;
                 locks_stay = ((refl, λ x. x), tt);
                 shows = at.shown;
               },

@@ -1,6 +1,7 @@
 //! PHYMEM.PAGE.RDMD.
 
 ghost use Rattle.std.specs.Prelude.{◌≡◌, ◌≤◌};
+ghost use Rattle.td_words.specs.Packing.{pamt_in};
 ghost use Rattle.first_leaves.specs.Words.{metadata};
 
 use arrayvec::ArrayVec;
@@ -62,5 +63,3 @@ fn metadata(pamt: u64) -> Value
         None => Value::Nothing,
     }
 }
-
-ghost use Rattle.td_words.specs.Packing.{pamt_in};

@@ -1,5 +1,5 @@
 -- The loop over a TD's virtual processors goes by its tree.
-use Rattle.std.proofs.Common.{◌≡◌, ℕ, zero, suc, ◌+◌, ◌-◌, ◌*◌, ◌<◌, ◌≤◌, length, refl, ap, ◌∙◌, true, not, ◌==◌, List, [], ◌∷◌, sym, subst, arith}
+use Rattle.std.proofs.Common.{◌≡◌, ℕ, zero, suc, ◌+◌, ◌-◌, ◌<◌, ◌≤◌, refl, ◌∙◌, true, not, ◌==◌, List, [], ◌∷◌, sym, subst, arith}
 use Rattle.std.specs.Prelude.{Result, Err}
 use Rattle.td_words.specs.declared.machines.Machine.{Machine}
 use Rattle.td_words.specs.Address.{word_at}
@@ -10,7 +10,7 @@ use Rattle.leaf_engine.specs.declared.plans.Stop.{Stop}
 use Rattle.leaf_engine.specs.declared.plans.Stop.TheVariants as stop
 use Rattle.leaf_engine.specs.declared.plans.Verdict.{Verdict}
 use Rattle.leaf_engine.specs.Decides.{Decides}
-use Rattle.key_table.specs.Words.{page_said}
+use Rattle.leaf_parts.specs.Words.{page_told}
 use Rattle.key_table.specs.FlushTrees.{count_vps}
 
 module _ (m : Machine) (t tdcs number : ℕ) where
@@ -20,7 +20,7 @@ module _ (m : Machine) (t tdcs number : ℕ) where
   wants-vp (suc left) n xs r a b e = subst (λ (ys : List ℕ). Decides m.pages (count_vps m t tdcs number (suc left) n) ys r) (sym b) e
 
   -- it wants the word of its logical processor
-  pub wants-lp : (left n vp : ℕ) (xs ys : List ℕ) (r : Result Verdict Stop) → 0 < left → xs ≡ vp ∷ ys → ys ≡ [] → r ≡ Err (stop.Load (word_at (page_said m t vp) 2)) → Decides m.pages (count_vps m t tdcs number left n) xs r
+  pub wants-lp : (left n vp : ℕ) (xs ys : List ℕ) (r : Result Verdict Stop) → 0 < left → xs ≡ vp ∷ ys → ys ≡ [] → r ≡ Err (stop.Load (word_at (page_told m.pages vp) 2)) → Decides m.pages (count_vps m t tdcs number left n) xs r
   wants-lp zero n vp xs ys r a b c e = absurd (omega arith)
   wants-lp (suc left) n vp xs ys r a b c e =
       subst (λ (zs : List ℕ). Decides m.pages (count_vps m t tdcs number (suc left) n) zs r) (sym b)
@@ -53,10 +53,3 @@ pub one-more-few : (lp next n number : ℕ) → next ≡ n + one_if (not (lp == 
 one-more-few lp next n number e b = by_test (lp == 0)
     (λ z. (let is : next ≡ n + 0 = e ∙ rw z refl in omega arith))
     (λ z. (let is : next ≡ n + 1 = e ∙ rw z refl in omega arith))
-
--- each takes two answers
-pub two-more : (vp lp number : ℕ) (all xs ys zs : List ℕ) → length all ≡ length xs + 2 * number → xs ≡ vp ∷ ys → ys ≡ lp ∷ zs → length all ≡ length zs + 2 * (number + 1)
-two-more vp lp number all xs ys zs e a b =
-    let x : length xs ≡ suc (length ys) = ap length a in
-    let y : length ys ≡ suc (length zs) = ap length b in
-    omega arith

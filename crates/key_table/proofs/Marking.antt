@@ -1,9 +1,10 @@
 -- The loop over the words of HKIDs goes by its tree.
-use Rattle.std.proofs.Common.{◌≡◌, ℕ, zero, suc, ◌+◌, ◌-◌, ◌<◌, Bool, true, false, ◌&&◌, List, [], ◌∷◌, ◌++◌, map, refl, ap, sym, subst, arith}
+use Rattle.std.proofs.Common.{◌≡◌, ℕ, zero, suc, ◌+◌, ◌-◌, ◌<◌, true, List, [], ◌∷◌, ◌++◌, map, refl, ap, sym, subst, arith}
 use Rattle.std.specs.Prelude.{Result, Err, None}
 use Rattle.td_words.specs.declared.machines.Machine.{Machine}
 use Rattle.td_words.specs.Address.{key_at}
 use Rattle.td_words.specs.Place as place
+use Rattle.flat_core.proofs.Tests.{and_left, and_right}
 use Rattle.leaf_engine.specs.declared.needs.Write.{Write}
 use Rattle.leaf_engine.specs.declared.plans.Stop.{Stop}
 use Rattle.leaf_engine.specs.declared.plans.Stop.TheVariants as stop
@@ -34,17 +35,9 @@ pub one-more : (pages : ℕ) (cs : List Change) (c : Change) → map (write_of p
 one-more pages [] c = refl
 one-more pages (b ∷ cs) c = ap (λ (ws : List Write). write_of pages None b ∷ ws) (one-more pages cs c)
 
-and-left : (a b : Bool) → (a && b) ≡ true → a ≡ true
-and-left true b h = refl
-and-left false b h = cc
-
-and-right : (a b : Bool) → (a && b) ≡ true → b ≡ true
-and-right true b h = h
-and-right false b h = cc
-
 pub plain-too : (cs : List Change) (c : Change) → are_plain cs ≡ true → is_plain c ≡ true → are_plain (cs ++ c ∷ []) ≡ true
 plain-too [] c a b = rw b refl
-plain-too (d ∷ cs) c a b = rw (and-left (is_plain d) (are_plain cs) a, plain-too cs c (and-right (is_plain d) (are_plain cs) a) b) refl
+plain-too (d ∷ cs) c a b = rw (and_left (is_plain d) (are_plain cs) a, plain-too cs c (and_right (is_plain d) (are_plain cs) a) b) refl
 
 pub inside-too : (m : Machine) (ws : List Write) (w : Write) → WritesInside m ws → WriteInside m w → WritesInside m (ws ++ w ∷ [])
 inside-too m [] w a b = (b, tt)

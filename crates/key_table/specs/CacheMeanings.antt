@@ -4,14 +4,13 @@ use Rattle.std.proofs.lemmas.Bool.{eqb-true, ne_eqb, ltb-true}
 use Rattle.std.proofs.lemmas.Bool.Decides.{nat_tests}
 use Rattle.td_words.specs.declared.names.PageKind.{PageKind}
 use Rattle.td_words.specs.declared.names.PageKind.TheVariants as kind
-use Rattle.td_words.specs.declared.names.Mode.TheVariants.{Exclusive}
 use Rattle.td_words.specs.declared.machines.Machine.{Machine}
 use Rattle.td_words.specs.declared.calls.Call.TheVariants as call
 use Rattle.td_words.specs.Packing.{Key, Unassigned, AssignedTo, FlushedOf, key_word}
 use Rattle.td_words.specs.Place.{WordPlace, IsIn}
 use Rattle.td_words.specs.Place as place
 use Rattle.flat_core.specs.World.{World, KeyTable}
-use Rattle.flat_core.specs.Processor.{LockId, OfKeys, Held}
+use Rattle.flat_core.specs.Processor.{LockId, OfKeys}
 use Rattle.flat_core.specs.Effects.{write_back, written_back}
 use Rattle.flat_core.specs.KeyRows.{write_caches_back}
 use Rattle.flat_core.specs.Lawful.{Lawful, key_owner}
@@ -24,9 +23,10 @@ use Rattle.act_rules.proofs.Stored.{by_test}
 use Rattle.leaf_engine.specs.declared.needs.Place.{Place}
 use Rattle.leaf_engine.specs.Changes.{Memory, Change, Put, changed, changed_all}
 use Rattle.leaf_engine.specs.Means.{Instant, Means, Work, work_of, OfCall, MeansRow, MayChange, MayOweAll, hold}
+use Rattle.leaf_parts.proofs.Acted.{opening}
+use Rattle.leaf_parts.proofs.Begun.{keys_lock}
 use Rattle.key_table.specs.Words.{marked}
 use Rattle.key_table.specs.CacheTrees.{mark_keys, cache_task}
-use Rattle.key_table.specs.Parts.{opening}
 
 -- the stores of so many HKIDs' words from that number on
 abbrev all_marks : (WordPlace → ℕ) → (number left : ℕ) → List Change
@@ -151,14 +151,11 @@ module _ (m : Machine) (s : State) (mem : Memory) (sh : Shows m mem.words mem.sl
       slot h = rw (slots_stay mem.words 3 m.hkids mem, same_owner (s.world.key_table.keys h)) (subst (λ (x : Option (Option (List ℕ))). IsAs x (mem.slots h))
           (sym (hasher-kept s.world s'.world.key_table (lock_word s.lps s.lp_count) (key_owner (s.world.key_table.keys h)))) (sh.hasher h))
 
-abbrev keys_lock : List Held
-keys_lock = record { lock = OfKeys; mode = Exclusive } ∷ []
-
 abbrev the_work : Work
 the_work = work_of (OfCall write_caches_back)
 
 -- every store is allowed
-owed : (m : Machine) (c : Instant) (words : WordPlace → ℕ) (number left : ℕ) (mem : Memory) → 1 ≤ number → number + left ≤ 3 + m.hkids → MayOweAll m (hold c keys_lock) (write_back c.state.world) mem (all_marks words number left)
+owed : (m : Machine) (c : Instant) (words : WordPlace → ℕ) (number left : ℕ) (mem : Memory) → 1 ≤ number → number + left ≤ 3 + m.hkids → MayOweAll m (hold c (keys_lock ∷ [])) (write_back c.state.world) mem (all_marks words number left)
 owed m c words number zero mem a b = tt
 owed m c words number (suc left) mem a b =
     let no : (number == 0) ≡ false = grind (arith, nat_tests) in (
@@ -166,7 +163,7 @@ owed m c words number (suc left) mem a b =
       owed m c words (suc number) left (changed (Put (place.Key number) (marked (words (place.Key number)))) mem) (omega arith) (omega arith),
     )
 
-allowed : (m : Machine) (c : Instant) (left : ℕ) → 3 + left ≤ 3 + m.hkids → MayChange m (hold c keys_lock) c.state.world (write_back c.state.world) c.memory (all_marks c.memory.words 3 left)
+allowed : (m : Machine) (c : Instant) (left : ℕ) → 3 + left ≤ 3 + m.hkids → MayChange m (hold c (keys_lock ∷ [])) c.state.world (write_back c.state.world) c.memory (all_marks c.memory.words 3 left)
 allowed m c zero b = tt
 allowed m c (suc left) b = (
   (omega arith, (KeepsNothing, inl (refl, tt), tt)),
@@ -183,20 +180,19 @@ unit [] = refl
 unit (c ∷ cs) = ap (λ (xs : List Change). c ∷ xs) (unit cs)
 
 loads : (m : Machine) (c : Instant) (number left : ℕ) (cs : List Change) → 1 ≤ number → number + left ≤ 3 + m.hkids
-    → Means m c the_work keys_lock (mark_keys 0 zero (cs ++ all_marks c.memory.words number left)) [] → Means m c the_work keys_lock (mark_keys number left cs) []
-loads m c number zero cs a b end = subst (λ (xs : List Change). Means m c the_work keys_lock (mark_keys 0 zero xs) []) (unit cs) end
+    → Means m c the_work (keys_lock ∷ []) (mark_keys 0 zero (cs ++ all_marks c.memory.words number left)) [] → Means m c the_work (keys_lock ∷ []) (mark_keys number left cs) []
+loads m c number zero cs a b end = subst (λ (xs : List Change). Means m c the_work (keys_lock ∷ []) (mark_keys 0 zero xs) []) (unit cs) end
 loads m c number (suc left) cs a b end =
     let no : (number == 0) ≡ false = grind (arith, nat_tests) in
     let store : Change = Put (place.Key number) (marked (c.memory.words (place.Key number))) in (
       omega arith,
       inl (rw no (inl (refl, tt))),
       loads m c (suc number) left (cs ++ store ∷ []) (omega arith) (omega arith)
-          (subst (λ (xs : List Change). Means m c the_work keys_lock (mark_keys 0 zero xs) []) (sym (assoc cs store (all_marks c.memory.words (suc number) left))) end),
+          (subst (λ (xs : List Change). Means m c the_work (keys_lock ∷ []) (mark_keys 0 zero xs) []) (sym (assoc cs store (all_marks c.memory.words (suc number) left))) end),
     )
 
-back_respects : (m : Machine) (c : Instant) → Lawful m c.state.world → Respects (hold c keys_lock) c.state.world (write_back c.state.world)
-unfolding opening
-back_respects m c la = rows-respect (opening m) 0 call.PhymemCacheWb (hold c keys_lock) c.state.world la tt ((refl, refl), tt)
+back_respects : (m : Machine) (c : Instant) → Lawful m c.state.world → Respects (hold c (keys_lock ∷ [])) c.state.world (write_back c.state.world)
+back_respects m c la = rows-respect (opening m) 0 call.PhymemCacheWb (hold c (keys_lock ∷ [])) c.state.world la tt ((refl, refl), tt)
 
 pub cache-means : (p : Place) → MeansRow (cache_task p)
 cache-means p = record {

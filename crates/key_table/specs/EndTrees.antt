@@ -5,29 +5,21 @@ use Rattle.td_words.specs.declared.names.LifeState.TheVariants as life
 use Rattle.td_words.specs.declared.names.Mode.TheVariants.{Exclusive}
 use Rattle.td_words.specs.declared.machines.Machine.{Machine}
 use Rattle.td_words.specs.declared.places.TheConstants.{KEY_LOCK, TDR_LIFE, TDR_HKID}
-use Rattle.td_words.specs.declared.refusals.Status.TheVariants.{OperandInvalid, PageMetadataIncorrect, LifecycleStateIncorrect, CacheWbNotDone}
+use Rattle.td_words.specs.declared.refusals.Status.TheVariants.{OperandInvalid, CacheWbNotDone}
 use Rattle.td_words.specs.declared.replies.Value.TheVariants as value
 use Rattle.td_words.specs.declared.replies.Reply.TheVariants.{Done}
 use Rattle.td_words.specs.NameNumber.{life_number}
 use Rattle.td_words.specs.Packing.{Key, Unassigned, key_word}
 use Rattle.td_words.specs.Place as place
-use Rattle.flat_core.specs.Processor.{OfPage, OfKeys}
+use Rattle.flat_core.specs.Processor.{OfKeys}
 use Rattle.flat_core.specs.KeyRows.{free_hkid}
 use Rattle.word_rules.specs.Rules.{Whole}
 use Rattle.leaf_engine.specs.declared.needs.Place.{Place}
 use Rattle.leaf_engine.specs.Changes.{Change, Put}
 use Rattle.leaf_engine.specs.Trees.{Tree, Lock, Load, needs, acts}
 use Rattle.leaf_engine.specs.Means.{Task, OfCall}
-use Rattle.key_table.specs.Words.{says_root, says_life, life_said, key_number, is_marked}
-
--- a TDR page that is held alone, of a TD whose life state is one of these
-abbrev pub tdr_alone : ℕ → List LifeState → Tree → Tree
-tdr_alone t allowed further =
-    Lock (OfPage t) (place.Lock t) Exclusive
-    (Load Whole (place.Pamt t) (λ pamt.
-    needs (says_root pamt) (PageMetadataIncorrect t)
-    (Load Whole (place.Word t TDR_LIFE) (λ life.
-    needs (says_life allowed life) (LifecycleStateIncorrect (life_said life)) further))))
+use Rattle.leaf_parts.specs.Heads.{tdr_head_tree}
+use Rattle.key_table.specs.Words.{key_number, is_marked}
 
 -- the word of the TD's HKID is the act; then its life state follows
 abbrev pub end_changes : Machine → (t hkid : ℕ) → Key → LifeState → List Change
@@ -40,12 +32,11 @@ free_key m t hkid =
     needs (is_marked key) CacheWbNotDone
     (acts (Done value.Nothing) (end_changes m t hkid Unassigned life.Teardown)))
 
+abbrev pub free_rest : Machine → ℕ → Tree
+free_rest m t = Lock OfKeys (place.Key KEY_LOCK) Exclusive (Load Whole (place.Word t TDR_HKID) (free_key m t))
+
 abbrev pub free_tree : Machine → ℕ → Tree
-free_tree m t =
-    needs (nat_lt t m.pages) (OperandInvalid 1)
-    (tdr_alone t (life.Blocked ∷ [])
-    (Lock OfKeys (place.Key KEY_LOCK) Exclusive
-    (Load Whole (place.Word t TDR_HKID) (free_key m t))))
+free_tree m t = needs (nat_lt t m.pages) (OperandInvalid 1) (tdr_head_tree t (life.Blocked ∷ []) (free_rest m t))
 
 abbrev pub free_task : Place → ℕ → Task
 free_task p t = record { place = p; tree = free_tree p.machine t; meaning = OfCall (free_hkid p.machine t) }

@@ -1,5 +1,6 @@
 -- The end of a flush as a decision over the words that it is told.
-use Rattle.std.specs.Prelude.{ℕ, zero, suc, ◌+◌, Bool, false, not, ◌==◌, nat_lt, if◌then◌else◌, [], ◌∷◌}
+use Rattle.std.specs.Prelude.{ℕ, zero, suc, ◌+◌, Bool, false, not, ◌==◌, nat_lt, if◌then◌else◌, List, [], ◌∷◌}
+use Rattle.td_words.specs.declared.names.LifeState.{LifeState}
 use Rattle.td_words.specs.declared.names.LifeState.TheVariants as life
 use Rattle.td_words.specs.declared.names.Mode.TheVariants.{Exclusive}
 use Rattle.td_words.specs.declared.machines.Machine.{Machine}
@@ -16,8 +17,9 @@ use Rattle.word_rules.specs.Rules.{Whole}
 use Rattle.leaf_engine.specs.declared.needs.Place.{Place}
 use Rattle.leaf_engine.specs.Trees.{Tree, Lock, Load, needs, acts}
 use Rattle.leaf_engine.specs.Means.{Task, OfCall}
-use Rattle.key_table.specs.Words.{page_said, count_said}
-use Rattle.key_table.specs.EndTrees.{tdr_alone, end_changes}
+use Rattle.leaf_parts.specs.Words.{page_told, vps_told}
+use Rattle.leaf_parts.specs.Heads.{tdr_head_tree}
+use Rattle.key_table.specs.EndTrees.{end_changes}
 
 -- so many virtual processors are associated
 abbrev pub flush_counted : Machine → (t associated : ℕ) → Tree
@@ -31,22 +33,25 @@ abbrev pub count_vps : Machine → (t tdcs number left associated : ℕ) → Tre
 count_vps m t tdcs number zero associated = flush_counted m t associated
 count_vps m t tdcs number (suc left) associated =
     Load Whole (place.Word tdcs (TDCS_VPS + number)) (λ vp.
-    Load Whole (place.Word (page_said m t vp) VP_ASSOCIATED) (λ lp. count_vps m t tdcs (suc number) left (associated + one_if (not (lp == 0)))))
+    Load Whole (place.Word (page_told m.pages vp) VP_ASSOCIATED) (λ lp. count_vps m t tdcs (suc number) left (associated + one_if (not (lp == 0)))))
 
 -- before a TD has its two TDCX pages it has no virtual processor
 abbrev pub flush_vps : Machine → (t : ℕ) → Bool → Tree
 flush_vps m t has_tdcs =
     if has_tdcs
     then Load Whole (place.Word t TDR_TDCS) (λ tdcs.
-    Load Whole (place.Word (page_said m t tdcs) TDCS_VP_COUNT) (λ count. count_vps m t (page_said m t tdcs) 0 (count_said count) 0))
+    Load Whole (place.Word (page_told m.pages tdcs) TDCS_VP_COUNT) (λ count. count_vps m t (page_told m.pages tdcs) 0 (vps_told count) 0))
     else flush_counted m t 0
 
+abbrev pub flush_rest : Machine → (t : ℕ) → Tree
+flush_rest m t = Load Whole (place.Word t TDR_TDCX_COUNT) (λ count. flush_vps m t (count == 2))
+
 -- MNG.VPFLUSHDONE
+abbrev pub flushable : List LifeState
+flushable = life.HkidAssigned ∷ life.KeysConfigured ∷ []
+
 abbrev pub flush_tree : Machine → (t : ℕ) → Tree
-flush_tree m t =
-    needs (nat_lt t m.pages) (OperandInvalid 1)
-    (tdr_alone t (life.HkidAssigned ∷ life.KeysConfigured ∷ [])
-    (Load Whole (place.Word t TDR_TDCX_COUNT) (λ count. flush_vps m t (count == 2))))
+flush_tree m t = needs (nat_lt t m.pages) (OperandInvalid 1) (tdr_head_tree t flushable (flush_rest m t))
 
 abbrev pub flush_task : Place → ℕ → Task
 flush_task p t = record { place = p; tree = flush_tree p.machine t; meaning = OfCall (end_flush p.machine t) }

@@ -1,5 +1,5 @@
 -- The reclaim of a page as a decision over the words that it is told.
-use Rattle.std.specs.Prelude.{ℕ, ◌-◌, Bool, true, false, ◌==◌, nat_lt, List, [], ◌∷◌}
+use Rattle.std.specs.Prelude.{ℕ, Bool, true, false, ◌==◌, nat_lt, List, [], ◌∷◌}
 use Rattle.td_words.specs.declared.names.LifeState.TheVariants as life
 use Rattle.td_words.specs.declared.names.Mode.TheVariants.{Exclusive}
 use Rattle.td_words.specs.declared.machines.Machine.{Machine}
@@ -15,15 +15,17 @@ use Rattle.leaf_engine.specs.declared.needs.Place.{Place}
 use Rattle.leaf_engine.specs.Changes.{Change, Put, Clear}
 use Rattle.leaf_engine.specs.Trees.{Tree, Lock, Load, needs, acts}
 use Rattle.leaf_engine.specs.Means.{Task, OfCall}
+use Rattle.leaf_parts.specs.Words.{lowered}
+use Rattle.leaf_parts.specs.Heads.{tdr_head_tree}
 use Rattle.key_table.specs.Words.{is_owned}
-use Rattle.key_table.specs.EndTrees.{tdr_alone}
 
--- the page's PAMT word is the act; then the page is cleared, and the child count falls
+-- the page's PAMT word is the act; then the page is cleared
 abbrev pub give_back_tdr : ℕ → List Change
 give_back_tdr page = Put (place.Pamt page) 0 ∷ Clear page ∷ []
 
+-- and then the child count falls
 abbrev pub give_back_child : (t page children : ℕ) → List Change
-give_back_child t page children = Put (place.Pamt page) 0 ∷ Clear page ∷ Put (place.Word t TDR_CHILDREN) (children - 1) ∷ []
+give_back_child t page children = Put (place.Pamt page) 0 ∷ Clear page ∷ Put (place.Word t TDR_CHILDREN) (lowered children) ∷ []
 
 -- the TDR page itself, or another page of the TD
 abbrev pub reclaim_rest : (t page : ℕ) → Bool → Tree
@@ -41,7 +43,7 @@ abbrev pub reclaim_tree : Machine → (t page : ℕ) → Tree
 reclaim_tree m t page =
     needs (nat_lt t m.pages) (OperandInvalid 1)
     (needs (nat_lt page m.pages) (OperandInvalid 2)
-    (tdr_alone t (life.Teardown ∷ []) (reclaim_rest t page (page == t))))
+    (tdr_head_tree t (life.Teardown ∷ []) (reclaim_rest t page (page == t))))
 
 abbrev pub reclaim_task : Place → (t page : ℕ) → Task
 reclaim_task p t page = record { place = p; tree = reclaim_tree p.machine t page; meaning = OfCall (reclaim_page p.machine t page) }

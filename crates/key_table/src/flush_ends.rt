@@ -3,18 +3,18 @@
 ghost use Rattle.std.specs.Prelude.{◌≡◌, ◌<◌, ◌≤◌, length};
 ghost use Rattle.leaf_engine.specs.Decides.{Decides};
 ghost use Rattle.leaf_engine.specs.Inside.{DecisionIn, DecidesEarly};
-ghost use Rattle.key_table.specs.FlushTrees.{flush_counted, count_vps};
+ghost use Rattle.key_table.specs.FlushTrees.{flush_counted, count_vps, flush_rest};
 
-use crate::words::{count_said, key_number, life_said, page_said, says_root};
+use crate::words::key_number;
 use arrayvec::ArrayVec;
 use leaf_engine::{Leaf, Place, Plan, Planned, Stop, Told, Verdict, Write};
+use leaf_parts::{page_told, tdr_head, vps_told};
 use step_core::WordStep;
 use td_words::places::{
     KEY_LOCK, TDCS_VP_COUNT, TDCS_VPS, TDR_HKID, TDR_LIFE, TDR_TDCS, TDR_TDCX_COUNT, VP_ASSOCIATED,
 };
 use td_words::{
-    HkidState, LifeState, LockName, Machine, Mode, Reply, Status, Value, key_address, lock_address,
-    pamt_address, word_address,
+    HkidState, LifeState, LockName, Machine, Mode, Reply, Status, Value, key_address, word_address,
 };
 
 /// MNG.VPFLUSHDONE TDR: a TD whose virtual processors are all flushed is blocked, and its HKID is
@@ -47,30 +47,38 @@ impl Plan for FlushDone {
 
     fn decide(&self, told: Told) -> Result<Verdict, Stop> {
         let mut told = told;
-        let machine = self.place.machine;
         let pages = self.place.machine.pages;
         told.check(self.tdr < u64::from(pages), Status::OperandInvalid(1))?;
         let tdr = self.tdr as u16;
-        told.lock(LockName::Page(tdr), lock_address(tdr), Mode::Exclusive)?;
-        let pamt = told.load(pamt_address(tdr))?;
-        told.check(says_root(pamt), Status::PageMetadataIncorrect(tdr))?;
-        let life = told.load(word_address(tdr, TDR_LIFE))?;
-        told.check(
-            life == LifeState::HkidAssigned as u64 || life == LifeState::KeysConfigured as u64,
-            Status::LifecycleStateIncorrect(life_said(life)),
+        tdr_head(
+            &mut told,
+            self.place,
+            tdr,
+            &[LifeState::HkidAssigned, LifeState::KeysConfigured],
         )?;
-        let controls = told.load(word_address(tdr, TDR_TDCX_COUNT))?;
-        if controls == 2 {
-            let word = told.load(word_address(tdr, TDR_TDCS))?;
-            let tdcs = page_said(machine, tdr, word);
-            let vps = told.load(word_address(tdcs, TDCS_VP_COUNT))?;
-            count_vps(told, machine, tdr, tdcs, count_said(vps))
-        } else {
-            flush_counted(told, machine, tdr, 0)
-        }
+        end_flush(told, self.place.machine, tdr)
     }
 
     ghost means = { λ l. flush-means l.place l.tdr };
+}
+
+/// What comes after the head. Before a TD has its two TDCX pages it has no virtual processor.
+fn end_flush(told: Told, machine: Machine, tdr: u16) -> Result<Verdict, Stop>
+    requires { tdr < machine.pages }
+    ensures decides { Decides machine.pages (flush_rest machine tdr) told.entry.left.now result }
+    ensures inside { DecisionIn machine result }
+    ensures early { DecidesEarly 21 (length told.entry.left.now) result }
+{
+    let mut told = told;
+    let controls = told.load(word_address(tdr, TDR_TDCX_COUNT))?;
+    if controls == 2 {
+        let word = told.load(word_address(tdr, TDR_TDCS))?;
+        let tdcs = page_told(machine.pages, word);
+        let vps = told.load(word_address(tdcs, TDCS_VP_COUNT))?;
+        count_vps(told, machine, tdr, tdcs, vps_told(vps))
+    } else {
+        flush_counted(told, machine, tdr, 0)
+    }
 }
 
 /// Counts the virtual processors that are associated.
@@ -88,7 +96,7 @@ fn count_vps(told: Told, machine: Machine, tdr: u16, tdcs: u16, count: u16) -> R
     let mut associated = 0;
     while left > 0 {
         let word = answers.load(word_address(tdcs, TDCS_VPS + number))?;
-        let vp = page_said(machine, tdr, word);
+        let vp = page_told(machine.pages, word);
         let lp = answers.load(word_address(vp, VP_ASSOCIATED))?;
         if lp != 0 {
             associated += 1;

@@ -1,13 +1,18 @@
 //! MNG.KEY.FREEID.
 
-use crate::words::{is_marked, key_number, life_said, says_root};
+ghost use Rattle.std.specs.Prelude.{◌<◌, length};
+ghost use Rattle.leaf_engine.specs.Decides.{Decides};
+ghost use Rattle.leaf_engine.specs.Inside.{DecisionIn, DecidesEarly};
+ghost use Rattle.key_table.specs.EndTrees.{free_rest};
+
+use crate::words::{is_marked, key_number};
 use arrayvec::ArrayVec;
 use leaf_engine::{Leaf, Place, Plan, Planned, Stop, Told, Verdict, Write};
+use leaf_parts::tdr_head;
 use step_core::WordStep;
 use td_words::places::{KEY_LOCK, TDR_HKID, TDR_LIFE};
 use td_words::{
-    LifeState, LockName, Mode, Reply, Status, Value, key_address, lock_address, pamt_address,
-    word_address,
+    LifeState, LockName, Machine, Mode, Reply, Status, Value, key_address, word_address,
 };
 
 /// MNG.KEY.FREEID TDR: the HKID of a TD whose caches were written back is free again, and the TD
@@ -40,36 +45,39 @@ impl Plan for FreeId {
 
     fn decide(&self, told: Told) -> Result<Verdict, Stop> {
         let mut told = told;
-        let machine = self.place.machine;
         let pages = self.place.machine.pages;
         told.check(self.tdr < u64::from(pages), Status::OperandInvalid(1))?;
         let tdr = self.tdr as u16;
-        told.lock(LockName::Page(tdr), lock_address(tdr), Mode::Exclusive)?;
-        let pamt = told.load(pamt_address(tdr))?;
-        told.check(says_root(pamt), Status::PageMetadataIncorrect(tdr))?;
-        let life = told.load(word_address(tdr, TDR_LIFE))?;
-        told.check(
-            life == LifeState::Blocked as u64,
-            Status::LifecycleStateIncorrect(life_said(life)),
-        )?;
-        told.lock(
-            LockName::Keys,
-            key_address(pages, KEY_LOCK),
-            Mode::Exclusive,
-        )?;
-        let hkid = told.load(word_address(tdr, TDR_HKID))?;
-        let at = key_address(pages, key_number(machine, hkid));
-        let key = told.load(at)?;
-        told.check(is_marked(key), Status::CacheWbNotDone)?;
-        let mut writes = ArrayVec::new();
-        writes.push(Write::Word(WordStep::Store(at, 0)));
-        let ended = LifeState::Teardown as u64;
-        writes.push(Write::Word(WordStep::Store(word_address(tdr, TDR_LIFE), ended)));
-        Ok(Verdict {
-            reply: Reply::Done(Value::Nothing),
-            writes,
-        })
+        tdr_head(&mut told, self.place, tdr, &[LifeState::Blocked])?;
+        free(told, self.place.machine, tdr)
     }
 
     ghost means = { λ l. free-means l.place l.tdr };
+}
+
+/// What comes after the head: the caches were written back, and the HKID is freed.
+fn free(told: Told, machine: Machine, tdr: u16) -> Result<Verdict, Stop>
+    requires { tdr < machine.pages }
+    ensures decides { Decides machine.pages (free_rest machine tdr) told.entry.left.now result }
+    ensures inside { DecisionIn machine result }
+    ensures early { DecidesEarly 3 (length told.entry.left.now) result }
+{
+    let mut told = told;
+    told.lock(
+        LockName::Keys,
+        key_address(machine.pages, KEY_LOCK),
+        Mode::Exclusive,
+    )?;
+    let hkid = told.load(word_address(tdr, TDR_HKID))?;
+    let at = key_address(machine.pages, key_number(machine, hkid));
+    let key = told.load(at)?;
+    told.check(is_marked(key), Status::CacheWbNotDone)?;
+    let mut writes = ArrayVec::new();
+    writes.push(Write::Word(WordStep::Store(at, 0)));
+    let ended = LifeState::Teardown as u64;
+    writes.push(Write::Word(WordStep::Store(word_address(tdr, TDR_LIFE), ended)));
+    Ok(Verdict {
+        reply: Reply::Done(Value::Nothing),
+        writes,
+    })
 }

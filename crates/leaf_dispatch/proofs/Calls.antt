@@ -17,7 +17,7 @@ use Rattle.td_control.specs.ReadMeanings.{read-means}
 use Rattle.key_table.specs.FlushMeanings.{flush-means}
 use Rattle.key_table.specs.EndMeanings.{free-means}
 use Rattle.td_control.specs.FinalMeanings.{finalize-means}
-use Rattle.vcpu_control.specs.VpMeanings.{create-means as vp_create-means, init-means as vp_init-means}
+use Rattle.vcpu_control.specs.VpMeanings.{vp_create-means, vp_init-means}
 use Rattle.leaf_dispatch.specs.Table.{task_of}
 use Rattle.leaf_dispatch.specs.Laws.{CallsHaveLeaves}
 

@@ -10,12 +10,12 @@ use Rattle.flat_core.specs.Table.{most_tries}
 use Rattle.leaf_engine.specs.declared.needs.Place.{Place}
 use Rattle.leaf_engine.specs.Changes.{Change}
 use Rattle.leaf_engine.specs.Trees.{Tree, acts}
-use Rattle.leaf_parts.specs.Words.{says_host, page_told}
+use Rattle.leaf_parts.specs.Words.{says_host, page_told, vps_told}
 use Rattle.first_leaves.specs.HostTrees.{read_word}
 use Rattle.key_table.specs.CacheTrees.{mark_keys}
 use Rattle.key_table.specs.FlushTrees.{count_vps, flush_vps}
 use Rattle.key_table.specs.ReclaimTrees.{reclaim_rest}
-use Rattle.td_control.specs.FinalTrees.{vps_tree, vps_told, final_changes}
+use Rattle.td_control.specs.FinalTrees.{vps_tree, final_changes}
 use Rattle.leaf_dispatch.specs.Bounds.{TriesAtMost}
 use Rattle.leaf_dispatch.specs.Table.{task_of}
 

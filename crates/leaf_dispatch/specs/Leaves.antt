@@ -14,7 +14,7 @@ use Rattle.td_control.specs.ReadTrees.{read_task}
 use Rattle.key_table.specs.FlushTrees.{flush_task}
 use Rattle.key_table.specs.EndTrees.{free_task}
 use Rattle.td_control.specs.FinalTrees.{finalize_task}
-use Rattle.vcpu_control.specs.VpTrees.{create_task as vp_create_task, init_task as vp_init_task}
+use Rattle.vcpu_control.specs.VpTrees.{vp_create_task, vp_init_task}
 use Rattle.first_leaves.specs.HostMeanings.{host_read-means, host_write-means, rdmd-means}
 use Rattle.key_table.specs.CacheMeanings.{cache-means}
 use Rattle.key_table.specs.ReclaimMeanings.{reclaim-means}
@@ -26,7 +26,7 @@ use Rattle.td_control.specs.ReadMeanings.{read-means}
 use Rattle.key_table.specs.FlushMeanings.{flush-means}
 use Rattle.key_table.specs.EndMeanings.{free-means}
 use Rattle.td_control.specs.FinalMeanings.{finalize-means}
-use Rattle.vcpu_control.specs.VpMeanings.{create-means as vp_create-means, init-means as vp_init-means}
+use Rattle.vcpu_control.specs.VpMeanings.{vp_create-means, vp_init-means}
 use Rattle.leaf_dispatch.specs.declared.leaves.AnyLeaf.{AnyLeaf}
 use Rattle.leaf_dispatch.specs.declared.leaves.AnyLeaf.TheVariants as leaf
 

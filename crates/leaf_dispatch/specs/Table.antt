@@ -16,7 +16,7 @@ use Rattle.td_control.specs.ReadTrees.{read_task}
 use Rattle.key_table.specs.FlushTrees.{flush_task}
 use Rattle.key_table.specs.EndTrees.{free_task}
 use Rattle.td_control.specs.FinalTrees.{finalize_task}
-use Rattle.vcpu_control.specs.VpTrees.{create_task as vp_create_task, init_task as vp_init_task}
+use Rattle.vcpu_control.specs.VpTrees.{vp_create_task, vp_init_task}
 
 -- what the leaf of a call at a place has to do
 abbrev pub task_of : Place → Call → Task

@@ -11,7 +11,7 @@ use leaf_engine::{Leaf, Need, Place, Planned, Write};
 use mrtd_measure::Measure;
 use td_control::{AddCx, Create, Finalize, Init, KeyConfig, Rd};
 use td_words::Call;
-use vcpu_control::{Create as VpCreate, Init as VpInit};
+use vcpu_control::{VpCreate, VpInit};
 
 /// A leaf of any call that is built.
 #[derive(Drop)]

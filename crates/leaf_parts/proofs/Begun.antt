@@ -15,7 +15,7 @@ use Rattle.td_words.specs.declared.places.TheConstants.{TDR_LIFE, TDR_TDCX_COUNT
 use Rattle.td_words.specs.NameNumber.{life_number, op_number}
 use Rattle.td_words.specs.Place as place
 use Rattle.flat_core.specs.World.{World}
-use Rattle.flat_core.specs.Processor.{OfPage, OfOp, Held}
+use Rattle.flat_core.specs.Processor.{OfPage, OfOp, OfKeys, Held}
 use Rattle.flat_core.specs.Row.{Item, Try}
 use Rattle.flat_core.specs.Conditions.{same_kind, root, life_in, tdcx_count, op_in, td_row, tdr_exclusive}
 use Rattle.flat_core.specs.Lawful.{Lawful, IsAlive, IsPageOf, AreControls}
@@ -42,6 +42,16 @@ page_lock p mode = record { lock = OfPage p; mode = mode }
 abbrev pub op_lock : ℕ → Mode → Held
 op_lock t mode = record { lock = OfOp t; mode = mode }
 
+-- P of a page that is held alone, and K besides
+abbrev pub page_alone : ℕ → List Held
+page_alone p = page_lock p Exclusive ∷ []
+
+abbrev pub keys_lock : Held
+keys_lock = record { lock = OfKeys; mode = Exclusive }
+
+abbrev pub both_locks : ℕ → List Held
+both_locks p = keys_lock ∷ page_alone p
+
 -- the TDCX pages of a TD with two
 pub record TwoControls (m : Machine) (w : World) (t : ℕ) : Type 0 where
   pub tdcs : ℕ
@@ -65,11 +75,13 @@ two-of m w t (c ∷ r ∷ x ∷ cs) la is are two = absurd are
 pub two-controls : (m : Machine) (w : World) (t : ℕ) → Lawful m w → IsAlive w.pages w.tds t → (length (w.tds.controls t) == 2) ≡ true → TwoControls m w t
 two-controls m w t la alive two = two-of m w t (w.tds.controls t) la refl (la.tds.controls t alive) two
 
-life-is : (s : LifeState) → list_any (λ a. life_number a == life_number s) (life.KeysConfigured ∷ []) ≡ true → s ≡ life.KeysConfigured
-life-is life.KeysConfigured h = refl
-life-is life.HkidAssigned h = cc
-life-is life.Blocked h = cc
-life-is life.Teardown h = cc
+-- the only one that is allowed
+pub life-is : (a s : LifeState) → list_any (λ x. life_number x == life_number s) (a ∷ []) ≡ true → s ≡ a
+life-is life.HkidAssigned life.HkidAssigned h = refl
+life-is life.KeysConfigured life.KeysConfigured h = refl
+life-is life.Blocked life.Blocked h = refl
+life-is life.Teardown life.Teardown h = refl
+life-is _ _ h = cc
 
 -- what the beginning of a TD's row tells of it
 pub record IsTd (m : Machine) (w : World) (t : ℕ) (allowed : List OpState) : Type 0 where
@@ -159,7 +171,7 @@ module _ (m : Machine) (c : Instant) (k : Work) (t : ℕ) (in_page : t < m.pages
       root-means Shared (life_tree t (life.KeysConfigured ∷ []) (tdcs_tree m.pages t (λ tdcs. op_tree t tdcs mode allowed further))) (life_in w t (life.KeysConfigured ∷ []) ∷ tdcx_count w t 2 ∷ Try (OfOp t) mode ∷ op_in w t allowed ∷ rest)
       (λ is. let held : holds (page_lock t Shared ∷ c.kept) (OfPage t) ≡ true = holds-newest t Shared c.kept in
       life-means is (page_lock t Shared ∷ []) held (life.KeysConfigured ∷ []) (tdcs_tree m.pages t (λ tdcs. op_tree t tdcs mode allowed further)) (tdcx_count w t 2 ∷ Try (OfOp t) mode ∷ op_in w t allowed ∷ rest)
-      (λ lives. let configured : w.tds.lives t ≡ life.KeysConfigured = life-is (w.tds.lives t) lives in
+      (λ lives. let configured : w.tds.lives t ≡ life.KeysConfigured = life-is life.KeysConfigured (w.tds.lives t) lives in
       let alive : IsAlive w.pages w.tds t = record { kind = is; life = rw configured refl } in
       tdcs-means is (page_lock t Shared ∷ []) held (λ tdcs. op_tree t tdcs mode allowed further) (Try (OfOp t) mode ∷ op_in w t allowed ∷ rest)
       (λ two. let x : TwoControls m w t = two-controls m w t la alive two in

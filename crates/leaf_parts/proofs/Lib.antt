@@ -1,5 +1,8 @@
 pub mod Parts
 pub mod Told
+pub mod Lines
+pub mod Keys
+pub mod Vps
 pub mod Begun
 pub mod Owned
 pub mod Acted

@@ -1,5 +1,5 @@
 -- Parts of leaves: where they stop, and one after another.
-use Rattle.std.proofs.Common.{◌≡◌, ℕ, ◌+◌, ◌≤◌, List, Result, Ok, Err, refl, sym, ap, ◌∙◌, subst, Bool, true, false, arith}
+use Rattle.std.proofs.Common.{◌≡◌, ℕ, suc, ◌+◌, ◌*◌, ◌≤◌, List, ◌∷◌, length, Result, Ok, Err, refl, sym, ap, ◌∙◌, subst, Bool, true, false, arith}
 use Rattle.std.specs.Prelude.{MatchResult}
 use Rattle.std.specs.Result.{IsErrAnd}
 use Rattle.td_words.specs.declared.refusals.Status.{Status}
@@ -79,3 +79,10 @@ pub early-after : (used few n left : ℕ) (e : Stop) → n ≡ used + left → S
 early-after used few n left (stop.Load at) a h = omega (arith, a, h)
 early-after used few n left (stop.Lock name at mode) a h = omega (arith, a, h)
 early-after used few n left (stop.Refused reply) a h = tt
+
+-- each of so many takes two answers
+pub two-more : (a b number : ℕ) (all xs ys zs : List ℕ) → length all ≡ length xs + 2 * number → xs ≡ a ∷ ys → ys ≡ b ∷ zs → length all ≡ length zs + 2 * (number + 1)
+two-more a b number all xs ys zs e first second =
+    let x : length xs ≡ suc (length ys) = ap length first in
+    let y : length ys ≡ suc (length zs) = ap length second in
+    omega (arith, e, x, y)

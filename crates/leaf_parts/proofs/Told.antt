@@ -1,5 +1,5 @@
 -- What words say over a lawful state: page metadata, TDR and TDCS words, and what these words are.
-use Rattle.std.proofs.Common.{◌≡◌, ◌≢◌, ℕ, ◌%◌, ◌<◌, true, false, ◌==◌, List, ◌∷◌, Option, refl, arith}
+use Rattle.std.proofs.Common.{◌≡◌, ◌≢◌, ℕ, ◌/◌, ◌%◌, ◌<◌, true, false, ◌==◌, List, ◌∷◌, Option, refl, arith}
 use Rattle.std.proofs.lemmas.Bool.{eq-eqb, lt-ltb}
 use Rattle.td_words.specs.declared.names.PageKind.{PageKind}
 use Rattle.td_words.specs.declared.names.PageKind.TheVariants as kind
@@ -13,14 +13,15 @@ use Rattle.td_words.specs.Packing.{pamt_word}
 use Rattle.td_words.specs.Place.{WordPlace, IsIn}
 use Rattle.td_words.specs.Place as place
 use Rattle.flat_core.specs.World.{World}
-use Rattle.flat_core.specs.Conditions.{same_kind}
-use Rattle.flat_core.specs.Lawful.{IsPageOf}
+use Rattle.flat_core.specs.Conditions.{is_host_in, same_kind}
+use Rattle.flat_core.specs.Lawful.{Lawful, IsPageOf}
 use Rattle.flat_core.specs.Event.{State}
 use Rattle.word_rules.specs.Lines.{in_lines}
 use Rattle.word_rules.specs.Views.{no_page}
 use Rattle.word_rules.specs.Spots.{spot, or_unused, tdr_classes, tdcs_classes, is_current, is_empty}
 use Rattle.word_rules.specs.Cells.{Shows, IsAs, lock_word, tdr_lines, td_lock_lines, tdcs_lines}
-use Rattle.leaf_parts.specs.Words.{says_kind, life_told, op_told, page_told}
+use Rattle.act_rules.proofs.Stored.{by_test}
+use Rattle.leaf_parts.specs.Words.{says_kind, says_owner, life_told, op_told, page_told}
 
 -- numbers of names, read back
 pub life-back : (s : LifeState) → life_told (life_number s) ≡ s
@@ -67,6 +68,16 @@ kind-small kind.Migsc = omega arith
 kind-bits : (k : PageKind) (o e : ℕ) → pamt_word (record { kind = k; owner = o; epoch = e }) % 16 ≡ kind_number k
 kind-bits k o e = (let small : kind_number k < 16 = kind-small k in omega arith)
 
+-- a page's owner is one of the machine's pages
+owner-bits : (k : PageKind) (o e : ℕ) → o < 65536 → pamt_word (record { kind = k; owner = o; epoch = e }) / 16 % 65536 ≡ o
+owner-bits k o e few = (let small : kind_number k < 16 = kind-small k in omega arith)
+
+pub owner-small : (m : Machine) (w : World) (p : ℕ) → Lawful m w → m.pages < 65536 → w.pages.owners p < 65536
+owner-small m w p la few = by_test (is_host_in w.pages p)
+    (λ h. (let none : w.pages.owners p ≡ 0 = (la.pages.host p h).0 in omega arith))
+    (λ h. (let tdr : is_host_in w.pages (w.pages.owners p) ≡ false = rw (la.pages.owner p h) refl in
+    let in_page : w.pages.owners p < m.pages = la.pages.in_machine (w.pages.owners p) tdr in omega arith))
+
 -- a kind that isn't the host's is owned
 pub kind-owned : (k : PageKind) → k ≢ kind.Nda → same_kind k kind.Nda ≡ false
 kind-owned kind.Nda h = absurd (h refl)
@@ -84,6 +95,9 @@ module _ (m : Machine) (words : WordPlace → ℕ) (slots : ℕ → Option (List
 
   pub kind-shown : (k : PageKind) (p : ℕ) → p < m.pages → says_kind k (words (place.Pamt p)) ≡ same_kind (s.world.pages.kinds p) k
   kind-shown k p i = rw (pamt-shown p i, kind-bits (s.world.pages.kinds p) (s.world.pages.owners p) (s.world.pages.blocked p)) refl
+
+  pub owner-shown : (t p : ℕ) → Lawful m s.world → m.pages < 65536 → p < m.pages → says_owner t (words (place.Pamt p)) ≡ (s.world.pages.owners p == t)
+  owner-shown t p la few i = rw (pamt-shown p i, owner-bits (s.world.pages.kinds p) (s.world.pages.owners p) (s.world.pages.blocked p) (owner-small m s.world p la few)) refl
 
   -- a word of a TDR page
   pub tdr-shown : (t i : ℕ) → s.world.pages.kinds t ≡ kind.Tdr → s.world.pages.owners t ≡ t → t < m.pages → i < 512 → IsAs (in_lines (tdr_lines s.world t) i) (words (place.Word t i))

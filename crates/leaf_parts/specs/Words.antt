@@ -1,11 +1,12 @@
 -- What the words that leaves load say.
-use Rattle.std.specs.Prelude.{ℕ, ◌+◌, ◌-◌, ◌%◌, Bool, ◌==◌, nat_lt, if◌then◌else◌}
+use Rattle.std.specs.Prelude.{ℕ, ◌+◌, ◌-◌, ◌/◌, ◌%◌, Bool, ◌==◌, ◌&&◌, nat_lt, nat_le, if◌then◌else◌}
 use Rattle.td_words.specs.declared.names.PageKind.{PageKind}
 use Rattle.td_words.specs.declared.names.PageKind.TheVariants as kind
 use Rattle.td_words.specs.declared.names.LifeState.{LifeState}
 use Rattle.td_words.specs.declared.names.LifeState.TheVariants as life
 use Rattle.td_words.specs.declared.names.OpState.{OpState}
 use Rattle.td_words.specs.declared.names.OpState.TheVariants as op
+use Rattle.td_words.specs.declared.machines.Machine.{Machine}
 use Rattle.td_words.specs.NameNumber.{kind_number}
 
 -- a PAMT word of a page of that kind
@@ -15,9 +16,17 @@ says_kind k word = word % 16 == kind_number k
 abbrev pub says_host : ℕ → Bool
 says_host word = says_kind kind.Nda word
 
+-- a PAMT word of a page with that owner
+abbrev pub says_owner : (t word : ℕ) → Bool
+says_owner t word = word / 16 % 65536 == t
+
 -- a key table word of a free HKID
 abbrev pub says_free : ℕ → Bool
 says_free word = word == 0
+
+-- an HKID of the machine, which is all that a TDR page ever tells
+abbrev pub is_hkid : Machine → ℕ → Bool
+is_hkid m h = nat_le 1 h && nat_le h m.hkids
 
 -- the life state, the operation state and the page of a number
 abbrev pub life_told : ℕ → LifeState
@@ -44,7 +53,12 @@ op_told n =
 abbrev pub page_told : (pages word : ℕ) → ℕ
 page_told pages word = if nat_lt word pages then word else 0
 
--- a child count after a page was taken, and after one was given back. It is never more than the machine has pages
+-- the number of a TD's virtual processors, and 8 where more are told, as never happens
+abbrev pub vps_told : ℕ → ℕ
+vps_told count = if nat_lt count 8 then count else 8
+
+-- a child count after a page was taken, and after one was given back. Before a page is taken it is less than the machine
+-- has pages; any other number, for which 0 stands, is never told
 abbrev pub raised : (pages count : ℕ) → ℕ
 raised pages count = if nat_lt count pages then count + 1 else 0
 

@@ -10,6 +10,6 @@ mod words;
 
 pub use heads::{Td, life_in, op_in, root, td_head, tdcs, tdr_head};
 pub use words::{
-    is_among, is_life_among, life_told, lowered, op_told, page_told, raised, says_free, says_host,
-    says_kind,
+    is_among, is_hkid, is_life_among, life_told, lowered, op_told, page_told, raised, says_free,
+    says_host, says_kind, says_owner, vps_told,
 };

@@ -1,11 +1,11 @@
 //! What words say that leaves load.
 
-ghost use Rattle.std.specs.Prelude.{◌≡◌, ◌==◌};
+ghost use Rattle.std.specs.Prelude.{◌≡◌, ◌≤◌, ◌==◌};
 ghost use Rattle.std.specs.List.{list_any};
 ghost use Rattle.td_words.specs.NameNumber.{op_number, life_number};
-ghost use Rattle.leaf_parts.specs.Words.{says_kind, says_host, says_free, life_told, op_told, page_told, raised, lowered};
+ghost use Rattle.leaf_parts.specs.Words.{says_kind, says_host, says_owner, says_free, is_hkid, life_told, op_told, page_told, vps_told, raised, lowered};
 
-use td_words::{LifeState, OpState, PageKind};
+use td_words::{LifeState, Machine, OpState, PageKind};
 
 /// Whether a PAMT word says that its page is of that kind.
 pub fn says_kind(kind: PageKind, pamt: u64) -> bool
@@ -21,11 +21,25 @@ pub fn says_host(pamt: u64) -> bool
     says_kind(PageKind::Nda, pamt)
 }
 
+/// Whether a PAMT word says that its page's owner is that TDR page.
+pub fn says_owner(tdr: u16, pamt: u64) -> bool
+    ensures { result ≡ says_owner tdr pamt }
+{
+    pamt / 16 % 65536 == u64::from(tdr)
+}
+
 /// Whether a key table word says that its HKID is free.
 pub fn says_free(key: u64) -> bool
     ensures { result ≡ says_free key }
 {
     key == 0
+}
+
+/// Whether a number is an HKID of the machine. No other number stands in a TDR page.
+pub fn is_hkid(machine: Machine, hkid: u64) -> bool
+    ensures { result ≡ is_hkid machine hkid }
+{
+    1 <= hkid && hkid <= u64::from(machine.hkids)
 }
 
 /// The life state of that number. Any other number never stands where it is told.
@@ -67,7 +81,16 @@ pub fn page_told(pages: u16, word: u64) -> u16
     if word < pages as u64 { word as u16 } else { 0 }
 }
 
-/// A child count after a page was taken, in a machine of so many pages.
+/// The number of a TD's virtual processors that is told, and 8 where it is more, which never stands
+/// where it is told.
+pub fn vps_told(count: u64) -> u16
+    ensures { (result ≡ vps_told count) × (result ≤ 8) }
+{
+    if count < 8 { count as u16 } else { 8 }
+}
+
+/// A child count after a page was taken, in a machine of so many pages. From that many on, where no
+/// page is left to take, it answers 0.
 pub fn raised(pages: u16, count: u64) -> u64
     ensures { result ≡ raised pages count }
 {

@@ -34,12 +34,12 @@ use Rattle.merge_laws.proofs.Virtual.{hasher_for, is-measured, table_of, holds-m
 use Rattle.merge_laws.proofs.Stores.{Due, last_at, or_else, laid, laid-one, laid-none, laid-same, last-each, EachDue, OwesAt, FillsAt}
 use Rattle.merge_laws.proofs.Swaps.{SwapDue, last_put, SwapsMay}
 use Rattle.merge_laws.proofs.Keeping.{Keeps, keeps-each, keeps-same}
-use Rattle.merge_laws.proofs.Holding.{bare}
+use Rattle.merge_laws.proofs.Holding.{bare, turned-round}
 use Rattle.merge_laws.proofs.Standing.{Laws, leaf_for, AreTrees, Known, RunsAt, on_table, Position, back, Stands}
 use Rattle.merge_laws.proofs.Others.{shown-of}
 use Rattle.merge_laws.proofs.SlotSteps.{slots-event}
 use Rattle.merge_laws.proofs.Own.{AttemptTdr, tdrs-after, with_hasher, stands-after, world-of-event, at-own, at-other, Spares, gathered, none-due}
-use Rattle.merge_laws.proofs.LockSteps.{engine, turned-round, Moved}
+use Rattle.merge_laws.proofs.LockSteps.{engine, Moved}
 
 -- a refusal, or the act that succeeds
 abbrev pub IsAct : Move Reply → Type 0

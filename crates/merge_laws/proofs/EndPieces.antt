@@ -41,11 +41,11 @@ use Rattle.merge_laws.proofs.Stores.{Due, last_at, or_else, laid-none, stores_of
 use Rattle.merge_laws.proofs.Swaps.{SwapDue, last_put, swaps_of}
 use Rattle.merge_laws.proofs.Owing.{Owed, stores_in, swaps_in, AreOwed, all_owed, stores-are, swaps-are}
 use Rattle.merge_laws.proofs.SlotSteps.{slot-shown}
-use Rattle.merge_laws.proofs.Holding.{bare}
+use Rattle.merge_laws.proofs.Holding.{bare, turned-round}
 use Rattle.merge_laws.proofs.Standing.{Laws, leaf_for, on_table, Position, back, Rest}
 use Rattle.merge_laws.proofs.Others.{shown-of, hold-is}
 use Rattle.merge_laws.proofs.Own.{none-due}
-use Rattle.merge_laws.proofs.LockSteps.{turned-round, Moved}
+use Rattle.merge_laws.proofs.LockSteps.{Moved}
 use Rattle.merge_laws.proofs.Acts.{act-step}
 use Rattle.merge_laws.proofs.Ending.{AtEnd, filled_of, first_of, owes_of, puts_of, swaps_left, HasFilled, one-act}
 use Rattle.merge_laws.proofs.LockPieces.{AtTurn, in-hand-after}
@@ -194,43 +194,29 @@ slot-seen ls o trees s mem t pos p c cs run slots a same k in_k may =
     (λ j apart owes. (ls.words (bare (s.lps p).call.held) (bare (s.lps j).call.held) s.world (turned-round (bare (s.lps j).call.held) (bare (s.lps p).call.held) apart)).swaps_owed k may owes)))
     (a.all.slots.there k in_k)
 
--- the hasher in hand after it
-pub act-hand : (m : Machine) (g : Grip) (w : World) (mem : Memory) (t : Table) (c : Change) (taken : Taken) (h' : Option Measure) → MayAct m g w mem c → IsActTaken m mem c taken h' → Answers t taken
-    → ((k : ℕ) → IsHkid m k → SwapsAct g w k → IsHand (t.slots (k - 1)) (mem.slots k)) → IsHand h' (changed c mem).hand
-act-hand m g w mem t (Put q x) (Stepped s a) h' may is an slots = is.1
-act-hand m g w mem t (PutHash q x) (Stepped s a) h' may is an slots = is.1
-act-hand m g w mem t (Raise q) (Stepped s a) h' may is an slots = is.1
-act-hand m g w mem t (Swap k made) (Swapped slot put taken) h' may is an slots = subst (λ (z : Option Measure). IsHand z (mem.slots k)) (sym (ap t.slots is.0) ∙ (sym an ∙ is.2)) (slots k is.3 may.1)
-act-hand m g w mem t (Swap k made) (Missed slot) h' may is an slots = absurd an
-act-hand m g w mem t (Swap k made) (Stepped s a) h' may is an slots = absurd is
-act-hand m g w mem t (Put q x) (Swapped slot put taken) h' may is an slots = absurd is
-act-hand m g w mem t (Put q x) (Missed slot) h' may is an slots = absurd is
-act-hand m g w mem t (PutHash q x) (Swapped slot put taken) h' may is an slots = absurd is
-act-hand m g w mem t (PutHash q x) (Missed slot) h' may is an slots = absurd is
-act-hand m g w mem t (Raise q) (Swapped slot put taken) h' may is an slots = absurd is
-act-hand m g w mem t (Raise q) (Missed slot) h' may is an slots = absurd is
-act-hand m g w mem t (Clear q) taken h' may is an slots = absurd may
-act-hand m g w mem t (Copy q r) taken h' may is an slots = absurd may
-
--- and the slots
-pub act-slots : (m : Machine) (g : Grip) (w : World) (mem : Memory) (t : Table) (c : Change) (taken : Taken) (h' : Option Measure) (now : ℕ → Hand) → MayAct m g w mem c → IsActTaken m mem c taken h' → Answers t taken → ((k : ℕ) → IsHkid m k → IsHand (t.slots (k - 1)) (now k))
-    → (k : ℕ) → IsHkid m k → IsHand ((taken_after t taken).slots (k - 1)) (or_else (last_put (swaps_of c mem) k) (now k))
-act-slots m g w mem t (Put q x) (Stepped s a) h' now may is an slots k in_k = slots k in_k
-act-slots m g w mem t (PutHash q x) (Stepped s a) h' now may is an slots k in_k = slots k in_k
-act-slots m g w mem t (Raise q) (Stepped s a) h' now may is an slots k in_k = slots k in_k
-act-slots m g w mem t (Swap j made) (Swapped slot put taken) h' now may is an slots k in_k =
-    subst (λ (x : Hand). IsHand (with_slot t.slots slot put (k - 1)) x) (or-test (k == j) (made mem.hand) (now k))
-    (slot_put m t.slots (with_slot t.slots slot put) now j put (made mem.hand) is.3 (ap (λ (z : ℕ). with_slot t.slots z put) is.0) is.1 slots k in_k)
-act-slots m g w mem t (Swap j made) (Missed slot) h' now may is an slots k in_k = absurd an
-act-slots m g w mem t (Swap j made) (Stepped s a) h' now may is an slots k in_k = absurd is
-act-slots m g w mem t (Put q x) (Swapped slot put taken) h' now may is an slots k in_k = absurd is
-act-slots m g w mem t (Put q x) (Missed slot) h' now may is an slots k in_k = absurd is
-act-slots m g w mem t (PutHash q x) (Swapped slot put taken) h' now may is an slots k in_k = absurd is
-act-slots m g w mem t (PutHash q x) (Missed slot) h' now may is an slots k in_k = absurd is
-act-slots m g w mem t (Raise q) (Swapped slot put taken) h' now may is an slots k in_k = absurd is
-act-slots m g w mem t (Raise q) (Missed slot) h' now may is an slots k in_k = absurd is
-act-slots m g w mem t (Clear q) taken h' now may is an slots k in_k = absurd may
-act-slots m g w mem t (Copy q r) taken h' now may is an slots k in_k = absurd may
+-- the hasher in hand after it, and the slots
+pub act-rest : (m : Machine) (g : Grip) (w : World) (mem : Memory) (t : Table) (c : Change) (taken : Taken) (h' : Option Measure) (now : ℕ → Hand) → MayAct m g w mem c → IsActTaken m mem c taken h' → Answers t taken
+    → ((k : ℕ) → IsHkid m k → SwapsAct g w k → IsHand (t.slots (k - 1)) (mem.slots k)) → ((k : ℕ) → IsHkid m k → IsHand (t.slots (k - 1)) (now k))
+    → IsHand h' (changed c mem).hand × ((k : ℕ) → IsHkid m k → IsHand ((taken_after t taken).slots (k - 1)) (or_else (last_put (swaps_of c mem) k) (now k)))
+act-rest m g w mem t (Put q x) (Stepped s a) h' now may is an seen there = (is.1, there)
+act-rest m g w mem t (PutHash q x) (Stepped s a) h' now may is an seen there = (is.1, there)
+act-rest m g w mem t (Raise q) (Stepped s a) h' now may is an seen there = (is.1, there)
+act-rest m g w mem t (Swap j made) (Swapped slot put taken) h' now may is an seen there = (
+  subst (λ (z : Option Measure). IsHand z (mem.slots j)) (sym (ap t.slots is.0) ∙ (sym an ∙ is.2)) (seen j is.3 may.1),
+  λ k in_k.
+      subst (λ (x : Hand). IsHand (with_slot t.slots slot put (k - 1)) x) (or-test (k == j) (made mem.hand) (now k))
+      (slot_put m t.slots (with_slot t.slots slot put) now j put (made mem.hand) is.3 (ap (λ (z : ℕ). with_slot t.slots z put) is.0) is.1 there k in_k),
+)
+act-rest m g w mem t (Swap j made) (Missed slot) h' now may is an seen there = absurd an
+act-rest m g w mem t (Swap j made) (Stepped s a) h' now may is an seen there = absurd is
+act-rest m g w mem t (Put q x) (Swapped slot put taken) h' now may is an seen there = absurd is
+act-rest m g w mem t (Put q x) (Missed slot) h' now may is an seen there = absurd is
+act-rest m g w mem t (PutHash q x) (Swapped slot put taken) h' now may is an seen there = absurd is
+act-rest m g w mem t (PutHash q x) (Missed slot) h' now may is an seen there = absurd is
+act-rest m g w mem t (Raise q) (Swapped slot put taken) h' now may is an seen there = absurd is
+act-rest m g w mem t (Raise q) (Missed slot) h' now may is an seen there = absurd is
+act-rest m g w mem t (Clear q) taken h' now may is an seen there = absurd may
+act-rest m g w mem t (Copy q r) taken h' now may is an seen there = absurd may
 
 pub hand-as : (h k : Option Measure) (x y : Hand) → h ≡ k → x ≡ y → IsHand k y → IsHand h x
 hand-as h k x y e f i = subst (λ (z : Option Measure). IsHand z x) (sym e) (subst (λ (z : Hand). IsHand k z) (sym f) i)

@@ -21,7 +21,7 @@ use Rattle.step_core.specs.Items.{Table, Taken, Stepped, Swapped, Missed}
 use Rattle.leaf_engine.specs.declared.events.Event.TheVariants as events
 use Rattle.leaf_engine.specs.declared.events.Stage.TheVariants as stages
 use Rattle.leaf_engine.specs.declared.needs.Need.TheVariants as need
-use Rattle.leaf_engine.specs.Changes.{Memory, Change, changed, changed_all, Hand}
+use Rattle.leaf_engine.specs.Changes.{Memory, Change, changed, changed_all}
 use Rattle.leaf_engine.specs.Trees.{Tree, End, feed, settle}
 use Rattle.leaf_engine.specs.Decides.{Gives, IsHand}
 use Rattle.leaf_engine.specs.Means.{MayFillAll, IsHkid}
@@ -30,19 +30,18 @@ use Rattle.leaf_engine.specs.Turns.{Standing, standing, last_reply}
 use Rattle.leaf_engine.specs.OwnLists.{Piece, Quiet, Marked, Wordless, joined, marked_behind, WordLp, after_turn, OwnTurns}
 use Rattle.leaf_engine.proofs.Changing.{word_put}
 use Rattle.merge_laws.proofs.Stores.{Due, due, last_at, later, or_else, laid-none, laid-same, last-append, each-append, FillsAt, all_stores}
-use Rattle.merge_laws.proofs.Swaps.{SwapDue, last_put}
-use Rattle.merge_laws.proofs.Owing.{AreOwed, owed-items}
+use Rattle.merge_laws.proofs.Swaps.{last_put}
+use Rattle.merge_laws.proofs.Owing.{owed-items}
 use Rattle.merge_laws.proofs.SlotSteps.{slots-stay}
 use Rattle.merge_laws.proofs.Filling.{Todo, Puts, Takes, AreTodos, dues_of, EachTodo, dues-same, fills-due}
-use Rattle.merge_laws.proofs.Holding.{bare}
+use Rattle.merge_laws.proofs.Holding.{bare, turned-round}
 use Rattle.merge_laws.proofs.Standing.{Laws, leaf_for, Fill, Position, seen_by, back, FillHolds, RestFilling, StandsAt, on_table, Stands}
 use Rattle.merge_laws.proofs.Own.{at-own, at-other, whole, apart-from, none-due}
-use Rattle.merge_laws.proofs.LockSteps.{turned-round}
 use Rattle.merge_laws.proofs.Ending.{AtEnd, filled_of, first_of, owes_of, puts_of, swaps_left, HasFilled, fills-rest}
 use Rattle.merge_laws.proofs.QuietSteps.{rearranged, store-step}
 use Rattle.merge_laws.proofs.Pieces.{taken_after, Came, came-as, answers-as, PieceAnswers}
 use Rattle.merge_laws.proofs.LockPieces.{AtTurn}
-use Rattle.merge_laws.proofs.EndPieces.{EndMay, end-may, end-moved, rest-owed, act-item, act-hand, act-slots, slot-seen, hand-as, act-table}
+use Rattle.merge_laws.proofs.EndPieces.{EndMay, end-may, end-moved, rest-owed, act-item, act-rest, slot-seen, hand-as, act-table}
 use Rattle.merge_laws.proofs.Turns.{told-tree}
 
 -- it stays where it is, but for its fills
@@ -266,18 +265,17 @@ act-piece ls o trees s mem t pos p c cs run after f act tps end_ piece ps a left
         let acted : act ≡ x ∷ zs = all.1.1.1 ∙ ap (λ (z : List Taken). z ++ zs) item.items in
         let hd' : Marked x ∷ (map Quiet zs ++ joined tps) ≡ piece ∷ ps = ap (λ (z : List Taken). marked_behind 0 z ++ joined tps) (sym acted) ∙ hd in
         let answers = answers-as t (Marked x) piece (map Quiet zs ++ joined tps) ps hd' an in
-        let hand = act-hand m mine s.world mem1 t c1 x all.0 allowed.1.0 item.is answers (slot-seen ls o trees s mem t pos p c cs run mem1.slots a rest-1.0) in
+        let slots = act-rest m mine s.world mem1 t c1 x all.0 a.all.slots.now allowed.1.0 item.is answers (slot-seen ls o trees s mem t pos p c cs run mem1.slots a rest-1.0) a.all.slots.there in
         let moved = end-moved ls o trees s mem t (taken_after t x) pos p c cs told f.reply run after (record { event = events.Act; reply = last_reply after.stage after.held }) a st en has-tree
         (λ y in_y. act-table ls o trees s mem t pos p c cs run f.fills c1 x all.0 a has allowed.1.0 item.is y in_y
         ∙ ap (λ (z : Tree). or_else (last_at (first_of z mem) y) (t.words (address m.pages y))) {x = End f.reply f.fills (c1 ∷ ds)} {y = feed (trees p c) told} (sym ended))
-        (subst (λ (z : Tree). (k : ℕ) → IsHkid m k → IsHand ((taken_after t x).slots (k - 1)) (or_else (last_put (puts_of z mem) k) (a.all.slots.now k))) (sym ended)
-        (act-slots m mine s.world mem1 t c1 x all.0 a.all.slots.now allowed.1.0 item.is answers a.all.slots.there)) in
+        (subst (λ (z : Tree). (k : ℕ) → IsHkid m k → IsHand ((taken_after t x).slots (k - 1)) (or_else (last_put (puts_of z mem) k) (a.all.slots.now k))) (sym ended) slots.1) in
         came-as o trees p s t pos (Marked x) piece (map Quiet zs ++ joined tps) ps end_ hd'
         (record {
           memory = moved.memory;
           now = record { at = after_turn c cs (pos p).at.replies after (last_reply after.stage after.held); owes = owes_of (feed (trees p c) told) mem; swaps = swaps_left (feed (trees p c) told) mem; fill = None };
           stands = moved.stands;
-          rest = rest-owed o trees p c cs (pos p).at.replies after (feed (trees p c) told) (End f.reply f.fills (c1 ∷ ds)) mem zs all.0 hasher (changed c1 mem1).hand tps end_ ended hand
+          rest = rest-owed o trees p c cs (pos p).at.replies after (feed (trees p c) told) (End f.reply f.fills (c1 ∷ ds)) mem zs all.0 hasher (changed c1 mem1).hand tps end_ ended slots.0
               (owed-items m mine ((row_of o p c).act s.world) (changed c1 mem1) ds all.0 hasher zs allowed.1.1 all.1.1.3) hasher-is own;
         })
 

@@ -127,6 +127,9 @@ parted-held s p q hs ks all older older' = record { sole = sole; both = both; cl
     clear (Reached r) a b = cc
     clear (Written r) a b = cc
 
+pub turned-round : (g h : Grip) → Apart g h → Apart h g
+turned-round g h a = record { there = a.back; back = a.there }
+
 pub apart-held : GripsAreApart → (s : State) (p q : ℕ) (hs ks : List Held) → NoGuests s → IsExclusive s → p < s.lp_count → q < s.lp_count → (p == q) ≡ false
     → IsOlder hs (s.lps p).call.held → IsOlder ks (s.lps q).call.held → Apart (bare hs) (bare ks)
 apart-held apart s p q hs ks none ex a b e older older' =

@@ -1,11 +1,10 @@
 -- A try, an undo or a release in a merge: one step on the word of a lock, which is the flat machine's next event.
-use Rattle.std.proofs.Common.{◌≡◌, ℕ, ◌-◌, ◌<◌, Bool, true, false, ◌==◌, List, [], ◌∷◌, length, Option, Some, None, refl, ap, sym, ◌∙◌, subst}
+use Rattle.std.proofs.Common.{◌≡◌, ℕ, ◌<◌, Bool, true, false, ◌==◌, List, [], ◌∷◌, length, Some, None, refl, ap, sym, ◌∙◌, subst}
 use Rattle.std.proofs.lemmas.Bool.{eqb-true}
 use Rattle.td_words.specs.declared.machines.Machine.{Machine}
 use Rattle.td_words.specs.declared.calls.Call.{Call}
 use Rattle.td_words.specs.declared.replies.Reply.{Reply}
 use Rattle.td_words.specs.Place.{WordPlace, IsIn, address, same_place}
-use Rattle.mrtd_measure.specs.declared.measures.Measure.{Measure}
 use Rattle.flat_core.specs.World.{World, put}
 use Rattle.flat_core.specs.Processor.{Held, Answered}
 use Rattle.flat_core.specs.Opening.{Opening}
@@ -24,7 +23,6 @@ use Rattle.step_core.specs.Items.{Table, Stepped}
 use Rattle.leaf_engine.specs.declared.events.RunTurn.{RunTurn}
 use Rattle.leaf_engine.specs.Changes.{Memory}
 use Rattle.leaf_engine.specs.Trees.{Tree}
-use Rattle.leaf_engine.specs.Decides.{IsHand}
 use Rattle.leaf_engine.specs.Tables.{IsMemory}
 use Rattle.leaf_engine.specs.Turns.{Standing, IsTurn, has_ended}
 use Rattle.leaf_engine.specs.Calls.{After}
@@ -32,7 +30,7 @@ use Rattle.leaf_engine.specs.OwnLists.{after_turn}
 use Rattle.leaf_engine.proofs.Turning.{Laws as EngineLaws, calls-follow}
 use Rattle.merge_laws.proofs.Virtual.{table_of, holds-memory, step-same, step-elsewhere}
 use Rattle.merge_laws.proofs.Stores.{Due, last_at, laid, laid-none, laid-same}
-use Rattle.merge_laws.proofs.Holding.{bare}
+use Rattle.merge_laws.proofs.Holding.{bare, turned-round}
 use Rattle.merge_laws.proofs.Standing.{Laws, leaf_for, AreTrees, Known, HandOf, RunsAt, on_table, Position, Stands}
 use Rattle.merge_laws.proofs.Others.{shown-hand}
 use Rattle.merge_laws.proofs.SlotSteps.{slots-event}
@@ -40,9 +38,6 @@ use Rattle.merge_laws.proofs.Own.{AttemptTdr, tdrs-after, stands-after, world-of
 
 pub engine : Laws → EngineLaws
 engine ls = record { follow = ls.follow; steps = ls.steps; places = ls.places; pages = ls.pages }
-
-pub turned-round : (g h : Rattle.word_rules.specs.Guards.Grip) → Apart g h → Apart h g
-turned-round g h a = record { there = a.back; back = a.there }
 
 pub answers-same : (w v : Words) (s : WordStep) (at : ℕ) → address_of s ≡ at → w at ≡ v at → answer_of w s ≡ answer_of v s
 answers-same w v (step.Load n) at a e = ap w a ∙ (e ∙ ap v (sym a))

@@ -1,7 +1,7 @@
 -- What a processor owes after its act, item by item. What an item stores or puts into a slot may depend on the hasher in
 -- hand, and which one it takes out of a slot shows only when it is made: so each says of the next only what holds while the
 -- hasher in hand is the one expected.
-use Rattle.std.proofs.Common.{◌≡◌, ◌⊎◌, ℕ, zero, suc, ◌-◌, List, [], ◌∷◌, ◌++◌, Option, refl, ap, sym, ◌∙◌, subst, inl, inr}
+use Rattle.std.proofs.Common.{◌≡◌, ◌⊎◌, ℕ, ◌-◌, List, [], ◌∷◌, ◌++◌, Option, refl, ap, sym, ◌∙◌, subst, inl, inr}
 use Rattle.td_words.specs.declared.machines.Machine.{Machine}
 use Rattle.td_words.specs.Place.{address}
 use Rattle.mrtd_measure.specs.declared.measures.Measure.{Measure}
@@ -10,7 +10,6 @@ use Rattle.word_rules.specs.Guards.{Grip}
 use Rattle.step_core.specs.declared.steps.WordStep.{WordStep}
 use Rattle.step_core.specs.declared.steps.WordStep.TheVariants as step
 use Rattle.step_core.specs.Items.{Taken, Stepped, Swapped, Missed}
-use Rattle.step_core.specs.Pages.{clearing}
 use Rattle.leaf_engine.specs.Changes.{Hand, Memory, Change, Put, PutHash, Raise, Clear, Copy, Swap, changed}
 use Rattle.leaf_engine.specs.Means.{MayOwe, MayOweAll}
 use Rattle.leaf_engine.specs.declared.needs.Write.{Write}

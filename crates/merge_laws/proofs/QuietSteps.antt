@@ -34,15 +34,14 @@ use Rattle.leaf_engine.proofs.Loading.{LooksRight, current-load, granted-load}
 use Rattle.leaf_engine.proofs.Turning.{instant, at-instant}
 use Rattle.leaf_engine.proofs.Changing.{word_put}
 use Rattle.merge_laws.proofs.Virtual.{table_of}
-use Rattle.merge_laws.proofs.Stores.{Due, last_at, later, or_else, laid, laid-one, laid-same, last-each, OwesAt, FillsAt}
+use Rattle.merge_laws.proofs.Stores.{Due, last_at, or_else, first-at, not-at, laid, laid-one, laid-same, last-each, OwesAt, FillsAt}
 use Rattle.merge_laws.proofs.Keeping.{Keeps, keeps-same, laid-looks}
-use Rattle.merge_laws.proofs.Holding.{bare}
+use Rattle.merge_laws.proofs.Holding.{bare, turned-round}
 use Rattle.merge_laws.proofs.Standing.{Laws, leaf_for, AreTrees, Known, on_table, Fill, Position, back, Pending, Holds, Slots, Stands}
 use Rattle.merge_laws.proofs.Others.{shown-of, hold-is}
 use Rattle.merge_laws.proofs.Swaps.{SwapDue}
 use Rattle.merge_laws.proofs.SlotSteps.{slots-stay, slots-swap}
 use Rattle.merge_laws.proofs.Own.{at-own, at-other, whole, apart-from, due-at}
-use Rattle.merge_laws.proofs.LockSteps.{turned-round}
 
 -- one processor is elsewhere, in the same state
 pub rearranged : (ls : Laws) (o : Opening) (trees : ℕ → Call → Tree) (s : State) (mem : Memory) (t t' : Table) (pos : ℕ → Position) (p : ℕ) (now : Position) → Stands o trees s mem t pos → Slots o s mem.slots t'.slots (put pos p now)
@@ -279,16 +278,6 @@ store-step ls o trees s mem t pos p d now sd i in_d sole own here there swaps = 
                     let k-is : k ≡ p = eqb-true k p f in
                     subst (λ (z : ℕ). last_at (pos z).owes r ≡ last_at (put pos p now z).owes r) (sym k-is) (sym (mine ∙ there r e))
                 test false f = sym (other k f)
-
-pub first-at : (x : Option ℕ) (b : Bool) (w y : ℕ) → b ≡ true → or_else (later x (if b then Some w else None)) y ≡ or_else x w
-first-at (Some z) b w y f = refl
-first-at None true w y f = refl
-first-at None false w y f = cc
-
-pub not-at : (x : Option ℕ) (b : Bool) (w : ℕ) → b ≡ false → later x (if b then Some w else None) ≡ x
-not-at (Some y) b w f = refl
-not-at None false w f = refl
-not-at None true w f = cc
 
 -- the first store that is owed is made
 pub owed-step : (ls : Laws) (o : Opening) (trees : ℕ → Call → Tree) (s : State) (mem : Memory) (t : Table) (pos : ℕ → Position) (p : ℕ) (d : Due) (ds : List Due) → Known o s → Stands o trees s mem t pos → p < length o.calls

@@ -16,14 +16,11 @@ use Rattle.leaf_engine.specs.Trees.{Tree}
 use Rattle.leaf_engine.specs.Means.{IsHkid}
 use Rattle.leaf_engine.specs.Decides.{IsHand}
 use Rattle.leaf_engine.proofs.Changing.{slot_put}
-use Rattle.merge_laws.proofs.Stores.{later, or_else, over-none, over-one, over-same}
+use Rattle.merge_laws.proofs.Stores.{or_else, first-at, not-at, over-none, over-one, over-same}
 use Rattle.merge_laws.proofs.Swaps.{SwapDue, last_put, slots_laid, SwapsMay, swap-at, swaps-same}
-use Rattle.merge_laws.proofs.Holding.{bare}
+use Rattle.merge_laws.proofs.Holding.{bare, turned-round}
 use Rattle.merge_laws.proofs.Standing.{Laws, Known, Position, Slots, Stands}
 use Rattle.merge_laws.proofs.Own.{at-own, at-other, whole, apart-from}
-
-turned-round : (g h : Grip) → Apart g h → Apart h g
-turned-round g h a = record { there = a.back; back = a.there }
 
 -- its own swaps stay as they are
 pub slots-stay : (o : Opening) (s : State) (shown : ℕ → Hand) (table : ℕ → Option Measure) (pos : ℕ → Position) (p : ℕ) (now : Position) → Slots o s shown table pos → now.swaps ≡ (pos p).swaps → Slots o s shown table (put pos p now)
@@ -181,33 +178,24 @@ slots-swap ls o trees s mem t pos p d ds made now known sd i is left put_is = re
     none-else : (h : ℕ) → h ≡ d.hkid → (k : ℕ) → k < length o.calls → (k == p) ≡ false → last_put (pos k).swaps h ≡ None
     none-else h e k j f = no-other ls o trees s mem t pos p h known sd i (λ l apart owes. never l apart (subst (λ (z : ℕ). SwapsOwed (bare (s.lps l).call.held) s.world z) e owes)) k j f
 
-    first-at : (x : Option Hand) (b : Bool) (y : Hand) → b ≡ true → or_else (later x (if b then Some d.put else None)) y ≡ or_else x (if b then d.put else y)
-    first-at (Some z) b y f = refl
-    first-at None true y f = refl
-    first-at None false y f = cc
-
     laid-after : (h : ℕ) → IsHkid o.machine h → (b : Bool) → (h == d.hkid) ≡ b → mem.slots h ≡ slots_laid (length o.calls) (λ k. (put pos p now k).swaps) base h
     laid-after h in_h true e =
         let h-is : h ≡ d.hkid = eqb-true h d.hkid e in
         sd.slots.laid_is h in_h
         ∙ (over-one (length o.calls) p (λ k. last_put (pos k).swaps h) (sd.slots.now h) i (none-else h h-is)
         ∙ (ap (λ (z : List SwapDue). or_else (last_put z h) (sd.slots.now h)) is
-        ∙ (first-at (last_put ds h) (h == d.hkid) (sd.slots.now h) e
-        ∙ sym (over-one (length o.calls) p (λ k. last_put (put pos p now k).swaps h) (base h) i (λ k j f. other k h f ∙ none-else h h-is k j f) ∙ ap (λ (z : Option Hand). or_else z (base h)) (own h)))))
+        ∙ (first-at (last_put ds h) (h == d.hkid) d.put (sd.slots.now h) e
+        ∙ (ap (λ (b : Bool). or_else (last_put ds h) (if b then d.put else sd.slots.now h)) (sym e)
+        ∙ sym (over-one (length o.calls) p (λ k. last_put (put pos p now k).swaps h) (base h) i (λ k j f. other k h f ∙ none-else h h-is k j f) ∙ ap (λ (z : Option Hand). or_else z (base h)) (own h))))))
     laid-after h in_h false e =
         sd.slots.laid_is h in_h
         ∙ over-same (length o.calls) (λ k. last_put (pos k).swaps h) (λ k. last_put (put pos p now k).swaps h) (sd.slots.now h) (base h) (λ k j. same k (k == p) refl) (sym (ap (λ (b : Bool). if b then d.put else sd.slots.now h) e))
       where
-        not-at : (x : Option Hand) (b : Bool) → b ≡ false → later x (if b then Some d.put else None) ≡ x
-        not-at (Some y) b f = refl
-        not-at None false f = refl
-        not-at None true f = cc
-
         same : (k : ℕ) → (b : Bool) → (k == p) ≡ b → last_put (pos k).swaps h ≡ last_put (put pos p now k).swaps h
         same k true f =
             let k-is : k ≡ p = eqb-true k p f in
             subst (λ (z : ℕ). last_put (pos z).swaps h ≡ last_put (put pos p now z).swaps h) (sym k-is)
-            (ap (λ (z : List SwapDue). last_put z h) is ∙ (not-at (last_put ds h) (h == d.hkid) e ∙ sym (own h)))
+            (ap (λ (z : List SwapDue). last_put z h) is ∙ (not-at (last_put ds h) (h == d.hkid) d.put e ∙ sym (own h)))
         same k false f = sym (other k h f)
 
     may : (k : ℕ) → k < length o.calls → (b : Bool) → (k == p) ≡ b → SwapsMay o.machine (bare (s.lps k).call.held) s.world base (put pos p now k).swaps

@@ -1,6 +1,6 @@
 -- Stores that are due: what processors have still to store, or what they would put back, laid over memory.
-use Rattle.std.proofs.Common.{◌≡◌, ℕ, zero, suc, ◌+◌, ◌%◌, ◌^◌, ◌<◌, Bool, true, false, not, ◌==◌, if◌then◌else◌, List, [], ◌∷◌, ◌++◌, Option, Some, None, refl, ap, sym, ◌∙◌, subst, arith}
-use Rattle.std.proofs.lemmas.Bool.{eqb-true, eqb-false, eq-eqb, ne_eqb, and_parts, and_right}
+use Rattle.std.proofs.Common.{◌≡◌, ℕ, zero, suc, ◌+◌, ◌%◌, ◌^◌, ◌<◌, Bool, true, false, ◌==◌, if◌then◌else◌, List, [], ◌∷◌, ◌++◌, Option, Some, None, refl, ap, sym, ◌∙◌, subst, arith}
+use Rattle.std.proofs.lemmas.Bool.{eqb-true, eqb-false, eq-eqb, ne_eqb, and_right}
 use Rattle.td_words.specs.declared.machines.Machine.{Machine}
 use Rattle.td_words.specs.Address.{word_at}
 use Rattle.td_words.specs.Place.{WordPlace, Lock, Pamt, Word, Key, IsIn, address, same_place}
@@ -16,11 +16,8 @@ use Rattle.step_core.specs.declared.steps.WordStep.TheVariants as step
 use Rattle.step_core.specs.Items.{Taken, Stepped, Swapped, Missed}
 use Rattle.step_core.specs.Pages.{clearing}
 use Rattle.leaf_engine.specs.Changes.{Memory, Change, Put, PutHash, Raise, Clear, Copy, Swap, put_page, changed, changed_all}
-use Rattle.leaf_engine.specs.Means.{MayFillAll, MayOwe, MayOweAll}
-use Rattle.leaf_engine.specs.declared.needs.Write.{Write}
-use Rattle.leaf_engine.specs.declared.needs.Write.TheVariants as write
+use Rattle.leaf_engine.specs.Means.{MayFillAll, MayOweAll}
 use Rattle.leaf_engine.specs.Decides.{IsHand}
-use Rattle.leaf_engine.specs.Items.{IsWritten, IsChanged, AreChanged}
 
 pub record Due : Type 0 where
   pub at : WordPlace
@@ -120,6 +117,17 @@ pub later-later : {A : Type 0} (x y z : Option A) → later (later x y) z ≡ la
 later-later (Some x) y z = refl
 later-later None y z = refl
 
+-- what comes first of a list, at its place and elsewhere
+pub first-at : {A : Type 0} (x : Option A) (b : Bool) (w y : A) → b ≡ true → or_else (later x (if b then Some w else None)) y ≡ or_else x w
+first-at (Some z) b w y f = refl
+first-at None true w y f = refl
+first-at None false w y f = cc
+
+pub not-at : {A : Type 0} (x : Option A) (b : Bool) (w : A) → b ≡ false → later x (if b then Some w else None) ≡ x
+not-at (Some y) b w f = refl
+not-at None false w f = refl
+not-at None true w f = cc
+
 pub last-append : (xs ys : List Due) (r : WordPlace) → last_at (xs ++ ys) r ≡ later (last_at ys r) (last_at xs r)
 last-append [] ys r = sym (later-none (last_at ys r))
 last-append (d ∷ xs) ys r = rw (last-append xs ys r) (later-later (last_at ys r) (last_at xs r) (if same_place r d.at then Some d.word else None))
@@ -217,17 +225,6 @@ OwesAt m g w q = IsIn m q × ((k : Grade) × Owes g w q k)
 
 abbrev pub FillsAt : Machine → Grip → World → WordPlace → Type 0
 FillsAt m g w q = IsIn m q × Fills g w q
-
-pub owed-stores : (m : Machine) (g : Grip) (w : World) (mem : Memory) (cs : List Change) → MayOweAll m g w mem cs → EachDue (OwesAt m g w) (all_stores cs mem)
-owed-stores m g w mem [] may = tt
-owed-stores m g w mem (Put q x ∷ cs) may = ((may.0.0, (may.0.1.0, may.0.1.1)), owed-stores m g w (changed (Put q x) mem) cs may.1)
-owed-stores m g w mem (PutHash q x ∷ cs) may = ((may.0.0, (KeepsNothing, may.0.1)), owed-stores m g w (changed (PutHash q x) mem) cs may.1)
-owed-stores m g w mem (Raise q ∷ cs) may = absurd may.0
-owed-stores m g w mem (Clear p ∷ cs) may = each-append (OwesAt m g w) (words_from p 512 (λ i. 0)) (all_stores cs (changed (Clear p) mem))
-    (words-each (OwesAt m g w) p 512 (λ i. 0) (λ i l. ((may.0.0, l), (KeepsNothing, may.0.1 i l))))
-    (owed-stores m g w (changed (Clear p) mem) cs may.1)
-owed-stores m g w mem (Copy p q ∷ cs) may = absurd may.0
-owed-stores m g w mem (Swap h made ∷ cs) may = owed-stores m g w (changed (Swap h made) mem) cs may.1
 
 pub filled-stores : (m : Machine) (g : Grip) (w : World) (mem : Memory) (fs : List Change) → MayFillAll m g w fs → EachDue (FillsAt m g w) (all_stores fs mem)
 filled-stores m g w mem [] may = tt

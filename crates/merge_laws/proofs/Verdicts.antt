@@ -1,5 +1,5 @@
 -- The next piece of a turn that comes to its end.
-use Rattle.std.proofs.Common.{◌≡◌, ℕ, true, List, [], ◌∷◌, ◌++◌, map, Option, None, refl, ap, sym, ◌∙◌, subst, append_assoc, ◌-◌}
+use Rattle.std.proofs.Common.{◌≡◌, ℕ, List, [], ◌∷◌, ◌++◌, map, Option, None, refl, ap, sym, ◌∙◌, subst, append_assoc, ◌-◌}
 use Rattle.td_words.specs.declared.machines.Machine.{Machine}
 use Rattle.td_words.specs.declared.calls.Call.{Call}
 use Rattle.td_words.specs.declared.replies.Reply.{Reply}
@@ -16,7 +16,7 @@ use Rattle.leaf_engine.specs.declared.events.Event.TheVariants as events
 use Rattle.leaf_engine.specs.declared.events.RunTurn.{RunTurn}
 use Rattle.leaf_engine.specs.declared.events.Stage.TheVariants as stages
 use Rattle.leaf_engine.specs.declared.needs.Need.TheVariants as need
-use Rattle.leaf_engine.specs.Changes.{Memory, Change, changed, changed_all}
+use Rattle.leaf_engine.specs.Changes.{Memory, Change, changed}
 use Rattle.leaf_engine.specs.Trees.{Tree, Lock, Load, Test, End, Since, feed, settle, fed, passed, changes_of}
 use Rattle.leaf_engine.specs.Decides.{Gives, IsHand}
 use Rattle.leaf_engine.specs.Items.{IsLoadAt, IsLoaded, IsChanged, AreChanged}
@@ -26,7 +26,7 @@ use Rattle.leaf_engine.proofs.Decided.{feed-append, settled}
 use Rattle.leaf_engine.proofs.Loading.{LooksRight, current-load, granted-load}
 use Rattle.merge_laws.proofs.Stores.{Due, last_at, or_else}
 use Rattle.merge_laws.proofs.Swaps.{last_put}
-use Rattle.merge_laws.proofs.Owing.{AreOwed, owed-items}
+use Rattle.merge_laws.proofs.Owing.{owed-items}
 use Rattle.merge_laws.proofs.Holding.{bare}
 use Rattle.merge_laws.proofs.Standing.{Laws, leaf_for, Position}
 use Rattle.merge_laws.proofs.Ending.{AtEnd, filled_of, first_of, owes_of, puts_of, swaps_left, HasFilled}
@@ -36,7 +36,7 @@ use Rattle.leaf_engine.specs.Means.{MayFillAll, IsHkid}
 use Rattle.merge_laws.proofs.QuietSteps.{loads-right, loaded}
 use Rattle.merge_laws.proofs.Pieces.{taken_after, Came, came-as, answers-as, PieceAnswers, behind-append}
 use Rattle.merge_laws.proofs.LockPieces.{AtTurn}
-use Rattle.merge_laws.proofs.EndPieces.{EndMay, end-may, end-moved, rest-owed, act-item, act-hand, act-slots, slot-seen, hand-as, act-table}
+use Rattle.merge_laws.proofs.EndPieces.{EndMay, end-may, end-moved, rest-owed, act-item, act-rest, slot-seen, hand-as, act-table}
 use Rattle.merge_laws.proofs.Turns.{told-tree, load-piece, IsDone, done-settled, done-loads, goes-on, Heads}
 
 -- its reply, whose loads and changes these are
@@ -130,18 +130,17 @@ end-now ls o trees s mem t pos p c cs run run' e (End r [] (c1 ∷ ds)) changes 
     let all : changes ≡ x ∷ zs = en.changed.1.1.1 ∙ ap (λ (z : List Taken). z ++ zs) item.items in
     let h' : Marked x ∷ (map Quiet zs ++ joined tps) ≡ piece ∷ ps = ap (λ (z : List Taken). marked_behind 0 z ++ joined tps) (sym all) ∙ h in
     let answers = answers-as t (Marked x) piece (map Quiet zs ++ joined tps) ps h' an in
-    let hand = act-hand m (bare (s.lps p).call.held) s.world mem t c1 x between may.1.0 item.is answers (slot-seen ls o trees s mem t pos p c cs run mem.slots a refl) in
+    let slots = act-rest m (bare (s.lps p).call.held) s.world mem t c1 x between a.all.slots.now may.1.0 item.is answers (slot-seen ls o trees s mem t pos p c cs run mem.slots a refl) a.all.slots.there in
     let moved = end-moved ls o trees s mem t (taken_after t x) pos p c cs (a.runs.call.told st).told reply run run' (record { event = e; reply = last_reply run'.stage run'.held }) a st en' (subst (λ (z : Tree). HasFilled o t pos p mem (filled_of z mem)) (sym is) (not-filled o t pos p mem owed))
     (λ y in_y. act-table ls o trees s mem t pos p c cs run [] c1 x between a (not-filled o t pos p mem owed) may.1.0 item.is y in_y
     ∙ ap (λ (z : Tree). or_else (last_at (first_of z mem) y) (t.words (address m.pages y))) {x = End r [] (c1 ∷ ds)} {y = feed (trees p c) (a.runs.call.told st).told} (sym is))
-    (subst (λ (z : Tree). (k : ℕ) → IsHkid m k → IsHand ((taken_after t x).slots (k - 1)) (or_else (last_put (puts_of z mem) k) (a.all.slots.now k))) (sym is)
-    (act-slots m (bare (s.lps p).call.held) s.world mem t c1 x between a.all.slots.now may.1.0 item.is answers a.all.slots.there)) in
+    (subst (λ (z : Tree). (k : ℕ) → IsHkid m k → IsHand ((taken_after t x).slots (k - 1)) (or_else (last_put (puts_of z mem) k) (a.all.slots.now k))) (sym is) slots.1) in
     came-as o trees p s t pos (Marked x) piece (map Quiet zs ++ joined tps) ps last h'
     (record {
       memory = moved.memory;
       now = record { at = after_turn c cs (pos p).at.replies run' (last_reply run'.stage run'.held); owes = owes_of (feed (trees p c) (a.runs.call.told st).told) mem; swaps = swaps_left (feed (trees p c) (a.runs.call.told st).told) mem; fill = None };
       stands = moved.stands;
-      rest = rest-owed o trees p c cs (pos p).at.replies run' (feed (trees p c) (a.runs.call.told st).told) (End r [] (c1 ∷ ds)) mem zs between en.hasher (changed c1 mem).hand tps last is hand
+      rest = rest-owed o trees p c cs (pos p).at.replies run' (feed (trees p c) (a.runs.call.told st).told) (End r [] (c1 ∷ ds)) mem zs between en.hasher (changed c1 mem).hand tps last is slots.0
           (owed-items m (bare (s.lps p).call.held) ((row_of o p c).act s.world) (changed c1 mem) ds between en.hasher zs may.1.1 en.changed.1.1.3) (hasher-of m run run' (End r [] (c1 ∷ ds)) changes reply en) own;
     })
   where

@@ -12,7 +12,8 @@ use Rattle.step_core.specs.declared.steps.WordStep.TheVariants as step
 use Rattle.leaf_engine.specs.declared.needs.Write.TheVariants as write
 use Rattle.leaf_engine.specs.Changes.{Put, Swap}
 use Rattle.leaf_engine.specs.Decides.{HandsNext}
-use Rattle.td_control.specs.InitTrees.{is_hkid, init_changes}
+use Rattle.leaf_parts.specs.Words.{is_hkid}
+use Rattle.td_control.specs.InitTrees.{init_changes}
 
 module _ (m : Machine) (tdcs h : ℕ) (is : is_hkid m h ≡ true) (in_page : tdcs < m.pages) where
   first : (a b : ℕ) → (nat_le 1 a && nat_le a b) ≡ true → a - 1 < b

@@ -1,5 +1,5 @@
 -- The decision over the bare tree is that over the tree with its changes, up to its end; and the changes that come there.
-use Rattle.std.proofs.Common.{◌≡◌, ℕ, zero, suc, ◌+◌, ◌-◌, ◌*◌, ◌<◌, ◌≤◌, Bool, true, false, ◌==◌, ◌&&◌, nat_lt, List, [], ◌∷◌, length, drop, slice_index, Option, Some, Result, Ok, Err, refl, ap, sym, ◌∙◌, subst, arith}
+use Rattle.std.proofs.Common.{◌≡◌, ℕ, zero, suc, ◌+◌, ◌-◌, ◌<◌, ◌≤◌, Bool, true, false, ◌==◌, ◌&&◌, nat_lt, List, [], ◌∷◌, length, drop, slice_index, Option, Some, Result, Ok, Err, refl, ap, sym, ◌∙◌, subst, arith}
 use Rattle.std.specs.List.{list_any}
 use Rattle.std.proofs.lemmas.Bool.{ltb-true}
 use Rattle.std.proofs.lemmas.Bool.Decides.{nat_tests}
@@ -27,8 +27,8 @@ use Rattle.leaf_engine.specs.Changes.{Hand, Change, Put, Swap}
 use Rattle.leaf_engine.specs.Trees.{Tree, Lock, Load, Test, End, feed, settle, passed, answers, acts}
 use Rattle.leaf_engine.specs.Inside.{WriteInside}
 use Rattle.leaf_engine.specs.Decides.{Decides, Gives, IsHand, HandsOut, HandsNext}
-use Rattle.leaf_parts.specs.Words.{says_kind, life_told, op_told, page_told}
-use Rattle.td_control.specs.FinalTrees.{word_in_hand, put_mrtd, end_changes, is_hkid, changes_where, final_changes, vps_told, vps_tree, changing_tree, bare_tree}
+use Rattle.leaf_parts.specs.Words.{says_kind, is_hkid, life_told, op_told, page_told, vps_told}
+use Rattle.td_control.specs.FinalTrees.{word_in_hand, put_mrtd, end_changes, changes_where, final_changes, vps_tree, changing_tree, bare_tree}
 use Rattle.td_words.specs.Place as place
 
 -- trees that differ at their ends alone, which answer the same
@@ -274,10 +274,3 @@ module _ (n pages tdcs number : ℕ) where
 
   pub all-gone : (left : ℕ) (ready : Bool) (xs : List ℕ) (r : Result Verdict Stop) → left ≡ 0 → Decides n (vps_tree pages tdcs number 0 ready (answers (Done value.Nothing))) xs r → Rest left ready xs r
   all-gone left ready xs r e d = subst (λ (x : ℕ). Rest x ready xs r) (sym e) d
-
--- each takes two answers
-pub two-more : (vp state number : ℕ) (all xs ys zs : List ℕ) → length all ≡ length xs + 2 * number → xs ≡ vp ∷ ys → ys ≡ state ∷ zs → length all ≡ length zs + 2 * (number + 1)
-two-more vp state number all xs ys zs e a b =
-    let x : length xs ≡ suc (length ys) = ap length a in
-    let y : length ys ≡ suc (length zs) = ap length b in
-    omega arith

@@ -1,18 +1,18 @@
 -- The leaf that adds a TDCX page means its row.
-use Rattle.std.proofs.Common.{◌≡◌, ℕ, ◌+◌, ◌-◌, ◌<◌, Bool, true, false, not, ◌==◌, ◌&&◌, nat_lt, ◌*◌, List, [], ◌∷◌, ◌++◌, length, slice_index, Option, refl, ap, sym, ◌∙◌, subst, inl, arith}
+use Rattle.std.proofs.Common.{◌≡◌, ℕ, ◌+◌, ◌-◌, ◌<◌, Bool, true, false, ◌==◌, ◌&&◌, nat_lt, ◌*◌, List, [], ◌∷◌, ◌++◌, length, slice_index, Option, refl, ap, sym, ◌∙◌, subst, inl, arith}
 use Rattle.std.specs.List.{list_any}
 use Rattle.std.specs.Prelude.{if◌then◌else◌, nat_le, slice_get}
 use Rattle.std.proofs.lemmas.Bool.{eq-eqb, eqb-true, ltb-true, lt-ltb, ne_eqb}
 use Rattle.std.proofs.lemmas.Bool.Decides.{nat_tests}
 use Rattle.td_words.specs.declared.names.PageKind.{PageKind}
 use Rattle.td_words.specs.declared.names.PageKind.TheVariants as kind
-use Rattle.td_words.specs.declared.names.LifeState.{LifeState}
 use Rattle.td_words.specs.declared.names.LifeState.TheVariants as life
 use Rattle.td_words.specs.declared.machines.Machine.{Machine}
 use Rattle.td_words.specs.declared.places.TheConstants.{TDR_CHILDREN, TDR_TDCX_COUNT}
 use Rattle.td_words.specs.NameNumber.{life_number, op_number}
 use Rattle.td_words.specs.Place.{WordPlace, IsIn}
 use Rattle.td_words.specs.Place as place
+use Rattle.flat_core.proofs.Tests.{not_true}
 use Rattle.flat_core.specs.World.{World}
 use Rattle.flat_core.specs.Processor.{LockId, OfPage, OfOp, OfTree, OfEpoch, OfRtmr, Held}
 use Rattle.flat_core.specs.Conditions.{is_host, is_host_in, children}
@@ -39,7 +39,8 @@ use Rattle.leaf_engine.specs.declared.needs.Place.{Place}
 use Rattle.leaf_engine.specs.Trees.{acts}
 use Rattle.leaf_engine.specs.Means.{Instant, Means, MeansRow, Work, MayChange, work_of, OfCall, hold}
 use Rattle.leaf_parts.proofs.Acted.{opening}
-use Rattle.leaf_parts.proofs.Begun.{tdr-head-means, page_lock, holds-newest}
+use Rattle.leaf_parts.proofs.Begun.{tdr-head-means, life-is, page_lock, holds-newest}
+use Rattle.leaf_parts.proofs.Lines.{line, each-may}
 use Rattle.leaf_parts.proofs.Told.{kind-shown, tdr-spot}
 use Rattle.td_control.specs.AddTrees.{room_tree, add_task}
 use Rattle.leaf_engine.specs.Changes.{Memory, changed_all}
@@ -145,10 +146,7 @@ module _ (m : Machine) (s : State) (mem : Memory) (t p : ℕ) (sh : Shows m mem.
   elsewhere u q i kind.Ept n other = rw n refl
   elsewhere u q i kind.Migsc n other = refl
 
-  -- the words of the TDR page
-  line : (n i x : ℕ) (rest : List (Line ℕ)) (v : ℕ) → (i ≡ n → v ≡ x) → ((i == n) ≡ false → IsAs (in_lines rest i) v) → IsAs (in_lines (At n x ∷ rest) i) v
-  line n i x rest v here further = by_test (i == n) (λ e. rw e (here (eqb-true i n e))) (λ e. rw e (further e))
-
+  -- the words of the TDR page, line by line
   first-told : (i x a b n r : ℕ) → IsAs (in_lines (At 0 a ∷ At 1 b ∷ At 2 n ∷ At 3 0 ∷ At 4 0 ∷ At 5 0 ∷ []) i) x
       → IsAs (in_lines (At 0 a ∷ At 1 b ∷ At 2 r ∷ At 3 1 ∷ At 4 p ∷ At 5 0 ∷ []) i) (if i == 2 then r else if i == 4 then p else if i == 3 then 1 else x)
   first-told i x a b n r h =
@@ -295,16 +293,6 @@ module _ (m : Machine) (s : State) (mem : Memory) (t p : ℕ) (sh : Shows m mem.
       at (place.Word q i) b = content q i b
 
 -- the words of the page that is added may still be stored
-abbrev AllMay : (Class → Type 0) → List (Line Class) → Type 0
-AllMay P [] = P Unused
-AllMay P (At n c ∷ rest) = P c × AllMay P rest
-AllMay P (Run n k f ∷ rest) = ((j : ℕ) → P (or_unused (f j))) × AllMay P rest
-
-each-may : (P : Class → Type 0) (ls : List (Line Class)) → AllMay P ls → (i : ℕ) → P (or_unused (in_lines ls i))
-each-may P [] h i = h
-each-may P (At n c ∷ rest) h i = by_test (i == n) (λ e. rw e h.0) (λ e. rw e (each-may P rest h.1 i))
-each-may P (Run n k f ∷ rest) h i = by_test (nat_le n i && nat_lt i (n + k)) (λ e. rw e (h.0 (i - n))) (λ e. rw e (each-may P rest h.1 i))
-
 module _ (g : Grip) (t p : ℕ) (has : g.has (Locked (OfPage t)) ≡ true) (alone : g.sole (Locked (OfPage t)) ≡ true) (page : g.sole (Locked (OfPage p)) ≡ true) where
   abbrev May : Class → Type 0
   May c = Meets g (guard_at (record { class = c; td = t; page = p; named = no_page })) (owes c KeepsNothing)
@@ -458,16 +446,6 @@ module _ (m : Machine) (c : Instant) (t p : ℕ) (in_tdr : t < m.pages) (in_page
         ),
       )
 
-configured-is : (s : LifeState) → list_any (λ a. life_number a == life_number s) (life.KeysConfigured ∷ []) ≡ true → s ≡ life.KeysConfigured
-configured-is life.KeysConfigured h = refl
-configured-is life.HkidAssigned h = cc
-configured-is life.Blocked h = cc
-configured-is life.Teardown h = cc
-
-differ : (b : Bool) → not b ≡ true → b ≡ false
-differ false h = refl
-differ true h = cc
-
 pub add-means : (p : Place) (t page : ℕ) → MeansRow (add_task p t page)
 add-means p t page = record {
   enters_none = refl;
@@ -484,7 +462,7 @@ add-means p t page = record {
             let in_page : page < p.machine.pages = ltb-true page p.machine.pages b in
             tdr-head-means p.machine c (work_of (OfCall (add_tdcx p.machine t page))) t in_tdr at.lawful at.shown (life.KeysConfigured ∷ []) (room_tree p.machine.pages t page)
             (tdcx_room c.state.world t ∷ page_exclusive page ∷ host_page c.state.world page ∷ [])
-            (λ is lives. room-means p.machine c t page in_tdr in_page (differ (page == t) d) at.lawful at.shown at.stand is lives (configured-is (c.state.world.tds.lives t) lives))),
+            (λ is lives. room-means p.machine c t page in_tdr in_page (not_true (page == t) d) at.lawful at.shown at.stand is lives (life-is life.KeysConfigured (c.state.world.tds.lives t) lives))),
       ),
     ),
   );

@@ -1,6 +1,6 @@
 -- The leaf that creates a TD means its row.
-use Rattle.std.proofs.Common.{◌≡◌, ℕ, zero, suc, ◌+◌, ◌-◌, ◌<◌, ◌≤◌, Bool, true, false, ◌==◌, ◌&&◌, nat_le, nat_lt, if◌then◌else◌, List, [], ◌∷◌, ◌++◌, Option, Some, None, refl, ap, sym, ◌∙◌, subst, inl, arith}
-use Rattle.std.proofs.lemmas.Bool.{eq-eqb, eqb-true, ltb-true, leb-true}
+use Rattle.std.proofs.Common.{◌≡◌, ℕ, zero, suc, ◌<◌, true, false, ◌==◌, nat_lt, if◌then◌else◌, List, [], ◌∷◌, ◌++◌, Option, Some, None, refl, ap, sym, ◌∙◌, subst, inl, arith}
+use Rattle.std.proofs.lemmas.Bool.{eq-eqb, eqb-true, ltb-true, ne_eqb}
 use Rattle.std.proofs.lemmas.Bool.Decides.{nat_tests}
 use Rattle.td_words.specs.declared.names.PageKind.{PageKind}
 use Rattle.td_words.specs.declared.names.PageKind.TheVariants as kind
@@ -12,37 +12,33 @@ use Rattle.td_words.specs.Packing.{Key, Unassigned, AssignedTo, FlushedOf, key_w
 use Rattle.td_words.specs.Place.{WordPlace, IsIn}
 use Rattle.td_words.specs.Place as place
 use Rattle.flat_core.specs.World.{World}
-use Rattle.flat_core.specs.Processor.{LockId, OfPage, OfKeys, Held}
-use Rattle.flat_core.specs.Conditions.{is_host, is_host_in, is_free_key, is_key_free, owned_below}
+use Rattle.flat_core.specs.Processor.{LockId, OfPage, OfKeys}
+use Rattle.flat_core.specs.Conditions.{is_host, is_host_in, is_free_key, is_key_free, children, owned_below}
+use Rattle.flat_core.proofs.Tests.{range_of}
 use Rattle.flat_core.specs.Lawful.{Lawful, key_owner}
 use Rattle.flat_core.specs.TdRows.{create}
 use Rattle.flat_core.specs.Event.{State}
 use Rattle.word_rules.specs.Views.{no_page}
 use Rattle.word_rules.specs.Guards.{Grip, Locked, Meets}
-use Rattle.word_rules.specs.Rules.{Class, TdrWord, ChildCount, KeepsNothing, owes}
+use Rattle.word_rules.specs.Rules.{KeepsNothing, owes}
 use Rattle.word_rules.specs.Spots.{guard_at, tdr_classes, or_unused}
-use Rattle.word_rules.specs.Lines.{Line, At, in_lines}
+use Rattle.word_rules.specs.Lines.{At, in_lines}
 use Rattle.word_rules.specs.Permissions.{Respects}
-use Rattle.word_rules.specs.Cells.{Shows, IsAs, cell, page_cell, control_cell, root_cell, entry_cell, if_stands, key_cell, lock_word, built_hasher, hasher_cell}
+use Rattle.word_rules.specs.Cells.{Shows, IsAs, cell, page_cell, control_cell, root_cell, entry_cell, if_stands, lock_word, built_hasher, hasher_cell}
 use Rattle.act_rules.proofs.Rows.{rows-respect}
 use Rattle.act_rules.proofs.Stored.{by_test}
 use Rattle.leaf_engine.specs.declared.needs.Place.{Place}
 use Rattle.lock_words.specs.Grips.{holds, holds_alone}
 use Rattle.leaf_engine.specs.Changes.{Memory, Put, Clear, changed, changed_all}
-use Rattle.leaf_engine.specs.Means.{Instant, MeansRow, MayOweAll, hold}
-use Rattle.leaf_parts.specs.Words.{says_free}
+use Rattle.leaf_engine.specs.Means.{Instant, IsHkid, MeansRow, MayOweAll, hold}
+use Rattle.leaf_parts.specs.Words.{says_free, is_hkid}
 use Rattle.td_control.specs.CreationTrees.{key_place, create_changes, create_task}
 use Rattle.leaf_parts.proofs.Acted.{opening}
-use Rattle.leaf_parts.proofs.Begun.{holds-newest}
+use Rattle.leaf_parts.proofs.Begun.{both_locks, holds-newest, alone-newest}
+use Rattle.leaf_parts.proofs.Keys.{key-apart, key-shown, key-changed}
+use Rattle.leaf_parts.proofs.Lines.{line, each-may}
+use Rattle.leaf_parts.proofs.Owned.{counted-host, counted-other, owned-same}
 use Rattle.leaf_parts.proofs.Told.{kind-shown, kind-is}
-
--- numbers of key table words
-
-key_index : (h : ℕ) → 1 ≤ h → suc (3 + (h - 1) - 3) ≡ h
-key_index h a = omega arith
-
-other_key : (k h : ℕ) → 1 ≤ h → 3 ≤ k → suc (k - 3) ≡ h → k ≡ 3 + (h - 1)
-other_key k h a b e = omega arith
 
 -- a key table word tells whether its HKID is free
 free_word : (k : Key) → says_free (key_word k) ≡ is_free_key k
@@ -51,7 +47,7 @@ free_word (AssignedTo t) = grind (arith, nat_tests)
 free_word (FlushedOf t true) = grind (arith, nat_tests)
 free_word (FlushedOf t false) = grind (arith, nat_tests)
 
-module _ (m : Machine) (s : State) (mem : Memory) (t h : ℕ) (sh : Shows m mem.words mem.slots s) (la : Lawful m s.world) (nda : s.world.pages.kinds t ≡ kind.Nda) (first : 1 ≤ h) (last : h ≤ m.hkids) where
+module _ (m : Machine) (s : State) (mem : Memory) (t h : ℕ) (sh : Shows m mem.words mem.slots s) (la : Lawful m s.world) (nda : s.world.pages.kinds t ≡ kind.Nda) (in_page : t < m.pages) (range : IsHkid m h) where
   abbrev w : World
   w = s.world
 
@@ -84,14 +80,10 @@ module _ (m : Machine) (s : State) (mem : Memory) (t h : ℕ) (sh : Shows m mem.
       (λ o. (let d : (w.pages.owners n == t) ≡ false = not-its n o in rw (e, o, d, none-owned n) refl)))
 
   -- and other TDs have those that they had
-  same-owned : (u n : ℕ) → (u == t) ≡ false → owned_below w'.pages u n ≡ owned_below w.pages u n
-  same-owned u zero d = refl
-  same-owned u (suc n) d = by_test (n == t)
-      (λ e. (let is : n ≡ t = eqb-true n t e in
-      let back : (t == u) ≡ false = by_test (t == u) (λ y. (let z : t ≡ u = eqb-true t u y in let bad : (u == t) ≡ true = rw z (eq-eqb u u refl) in cc)) (λ y. y) in
-      let was : is_host_in w.pages n ≡ true = ap (is_host_in w.pages) is ∙ was-host in
-      rw (e, back, was, same-owned u n d) refl))
-      (λ e. rw (e, same-owned u n d) refl)
+  same-owned : (u : ℕ) → (u == t) ≡ false → children w' u ≡ children w u
+  same-owned u d =
+      let back : (t == u) ≡ false = ne_eqb t u (λ e. (let bad : (u == t) ≡ true = eq-eqb u t (sym e) in cc)) in
+      owned-same w.pages w'.pages t (λ q n. rw n refl) (λ q n. rw n refl) u w.size (rw la.size in_page) (counted-host w.pages u t was-host) (counted-other w'.pages u t (rw itself back))
 
   -- a word of a page of another TD
   root-same : (u p i : ℕ) (cs : List ℕ) → (u == t) ≡ false → root_cell w' u p cs i ≡ root_cell w u p cs i
@@ -109,7 +101,7 @@ module _ (m : Machine) (s : State) (mem : Memory) (t h : ℕ) (sh : Shows m mem.
   elsewhere : (locks : LockId → ℕ) (u p i : ℕ) (k : PageKind) → (p == t) ≡ false → (u == t) ≡ false → page_cell w' locks u p k i ≡ page_cell w locks u p k i
   elsewhere locks u p i kind.Nda n d = rw n refl
   elsewhere locks u p i kind.Reg n d = rw n refl
-  elsewhere locks u p i kind.Tdr n d = rw (d, same-owned u w.size d) refl
+  elsewhere locks u p i kind.Tdr n d = rw (d, same-owned u d) refl
   elsewhere locks u p i kind.Tdcx n d = rw d (ap (λ (x : Option ℕ). if_stands (w.tds.lives u) x) (control-same locks u p i (w.tds.controls u) d))
   elsewhere locks u p i kind.Tdvpr n d = rw d refl
   elsewhere locks u p i kind.Ept n d = rw (n, d) (ap (λ (x : Option ℕ). if_stands (w.tds.lives u) x) (entry-same u (w.pages.levels p) (w.pages.numbers p) i d))
@@ -125,12 +117,7 @@ module _ (m : Machine) (s : State) (mem : Memory) (t h : ℕ) (sh : Shows m mem.
       (λ o. host-word locks (w.pages.owners p) p i (w.pages.kinds p) n (kind-is (w.pages.kinds p) kind.Nda o))
       (λ o. elsewhere locks (w.pages.owners p) p i (w.pages.kinds p) n (not-its p o))
 
-  -- the words of the new TDR page
-  line : (n i x : ℕ) (rest : List (Line ℕ)) (v : ℕ) → (i ≡ n → v ≡ x) → ((i == n) ≡ false → IsAs (in_lines rest i) v) → IsAs (in_lines (At n x ∷ rest) i) v
-  line n i x rest v here further = by_test (i == n)
-      (λ e. rw e (here (eqb-true i n e)))
-      (λ e. rw e (further e))
-
+  -- the words of the new TDR page, line by line
   new-word : (i children : ℕ) → children ≡ 0 → IsAs (in_lines (At 0 0 ∷ At 1 h ∷ At 2 children ∷ At 3 0 ∷ At 4 0 ∷ At 5 0 ∷ []) i) (if i == 1 then h else 0)
   new-word i children none =
       let v : ℕ = if i == 1 then h else 0 in
@@ -162,34 +149,8 @@ module _ (m : Machine) (s : State) (mem : Memory) (t h : ℕ) (sh : Shows m mem.
       (λ e. rw e (subst (λ (c : Option ℕ). IsAs c (mem.words (place.Word p i))) (sym (other-page (lock_word s.lps s.lp_count) p i e)) (sh.word (place.Word p i) b)))
 
   -- the key table
-  lock-index : (3 + (h - 1) == 0) ≡ false
-  lock-index = grind (arith, nat_tests)
-
-  exported-index : (3 + (h - 1) == 1) ≡ false
-  exported-index = grind (arith, nat_tests)
-
-  imported-index : (3 + (h - 1) == 2) ≡ false
-  imported-index = grind (arith, nat_tests)
-
-  key-here : (locks : ℕ) → IsAs (key_cell w' locks (3 + (h - 1))) (key_word (AssignedTo t))
-  key-here locks = (let it : suc (3 + (h - 1) - 3) ≡ h = key_index h first in rw (lock-index, exported-index, imported-index, it) (rw (eq-eqb h h refl) refl))
-
-  key-there : (locks k : ℕ) → (k == 3 + (h - 1)) ≡ false → key_cell w' locks k ≡ key_cell w locks k
-  key-there locks k n = by_test (suc (k - 3) == h)
-      (λ e. by_test (k == 0) (λ z. rw z refl)
-      (λ a. by_test (k == 1) (λ z. rw (a, z) refl)
-      (λ b. by_test (k == 2) (λ z. rw (a, b, z) refl)
-      (λ c. absurd (let is : suc (k - 3) ≡ h = eqb-true (suc (k - 3)) h e in
-      let big : 3 ≤ k = grind (arith, nat_tests) in
-      let k-is : k ≡ 3 + (h - 1) = other_key k h first big is in
-      let bad : (k == 3 + (h - 1)) ≡ true = eq-eqb k (3 + (h - 1)) k-is in cc)))))
-      (λ e. rw e refl)
-
   key : (k : ℕ) → IsIn m (place.Key k) → IsAs (cell (record s { world = w' }) (place.Key k)) (after.words (place.Key k))
-  key k b = by_test (k == 3 + (h - 1))
-      (λ e. (let is : k ≡ 3 + (h - 1) = eqb-true k (3 + (h - 1)) e in
-      rw e (subst (λ (j : ℕ). IsAs (key_cell w' (lock_word s.lps s.lp_count OfKeys) j) (key_word (AssignedTo t))) (sym is) (key-here (lock_word s.lps s.lp_count OfKeys)))))
-      (λ e. rw e (subst (λ (c : Option ℕ). IsAs c (mem.words (place.Key k))) (sym (key-there (lock_word s.lps s.lp_count OfKeys) k e)) (sh.word (place.Key k) b)))
+  key k b = (let now = key-changed w w' h range.0 (λ j n. rw n refl) refl refl (lock_word s.lps s.lp_count OfKeys) k (mem.words (place.Key k)) (sh.word (place.Key k) b) in rw (eq-eqb h h refl) at now)
 
   pamt : (p : ℕ) → IsIn m (place.Pamt p) → IsAs (cell (record s { world = w' }) (place.Pamt p)) (after.words (place.Pamt p))
   pamt p b = by_test (p == t) (λ e. rw e refl) (λ e. rw e (sh.word (place.Pamt p) b))
@@ -217,41 +178,23 @@ module _ (m : Machine) (s : State) (mem : Memory) (t h : ℕ) (sh : Shows m mem.
       at (place.Word p i) b = content p i b
 
 -- the words of a TDR page may still be stored by who holds it alone
-class_line : (P : Class → Type 0) (n i : ℕ) (c : Class) (rest : List (Line Class)) → P c → P (or_unused (in_lines rest i)) → P (or_unused (in_lines (At n c ∷ rest) i))
-class_line P n i c rest a b = by_test (i == n) (λ e. rw e a) (λ e. rw e b)
-
 tdr_owed : (g : Grip) (t i : ℕ) → g.has (Locked (OfPage t)) ≡ true → g.sole (Locked (OfPage t)) ≡ true
     → Meets g (guard_at (record { class = or_unused (in_lines tdr_classes i); td = t; page = t; named = no_page })) (owes (or_unused (in_lines tdr_classes i)) KeepsNothing)
 tdr_owed g t i held alone =
-    let P : Class → Type 0 = λ c. Meets g (guard_at (record { class = c; td = t; page = t; named = no_page })) (owes c KeepsNothing) in
-    class_line P 0 i TdrWord (At 1 TdrWord ∷ At 2 ChildCount ∷ At 3 TdrWord ∷ At 4 TdrWord ∷ At 5 TdrWord ∷ []) (inl (alone, tt))
-    (class_line P 1 i TdrWord (At 2 ChildCount ∷ At 3 TdrWord ∷ At 4 TdrWord ∷ At 5 TdrWord ∷ []) (inl (alone, tt))
-    (class_line P 2 i ChildCount (At 3 TdrWord ∷ At 4 TdrWord ∷ At 5 TdrWord ∷ []) (inl (alone, tt))
-    (class_line P 3 i TdrWord (At 4 TdrWord ∷ At 5 TdrWord ∷ []) (inl (alone, tt))
-    (class_line P 4 i TdrWord (At 5 TdrWord ∷ []) (inl (alone, tt))
-    (class_line P 5 i TdrWord [] (inl (alone, tt)) (inl (held, (alone, tt))))))))
+    each-may (λ c. Meets g (guard_at (record { class = c; td = t; page = t; named = no_page })) (owes c KeepsNothing)) tdr_classes
+    (inl (alone, tt), (inl (alone, tt), (inl (alone, tt), (inl (alone, tt), (inl (alone, tt), (inl (alone, tt), inl (held, (alone, tt)))))))) i
 
--- the locks of the row
-abbrev pub both_locks : ℕ → List Held
-both_locks t = record { lock = OfKeys; mode = Exclusive } ∷ record { lock = OfPage t; mode = Exclusive } ∷ []
-
-page_alone : (t : ℕ) (hs : List Held) → holds_alone (both_locks t ++ hs) (OfPage t) ≡ true
-page_alone t hs = rw (eq-eqb t t refl) refl
-
-page_held : (t : ℕ) (hs : List Held) → holds (both_locks t ++ hs) (OfPage t) ≡ true
-page_held t hs = rw (eq-eqb t t refl) refl
-
-create_respects : (m : Machine) (c : Instant) (t h : ℕ) → Lawful m c.state.world → nat_lt t m.pages ≡ true → (nat_le 1 h && nat_le h m.hkids) ≡ true → is_host c.state.world t ≡ true → is_key_free c.state.world h ≡ true
+create_respects : (m : Machine) (c : Instant) (t h : ℕ) → Lawful m c.state.world → nat_lt t m.pages ≡ true → is_hkid m h ≡ true → is_host c.state.world t ≡ true → is_key_free c.state.world h ≡ true
     → Respects (hold c (both_locks t)) c.state.world ((create m t h).act c.state.world)
 create_respects m c t h la a b host free =
     rows-respect (opening m) 0 (call.MngCreate t h) (hold c (both_locks t)) c.state.world la (a, (b, (host, (free, tt))))
-    ((page_held t c.kept, page_alone t c.kept), ((refl, refl), tt))
+    ((holds-newest t Exclusive c.kept, alone-newest t c.kept), ((refl, refl), tt))
 
 -- the stores after the act
 owed : (m : Machine) (c : Instant) (t h : ℕ) (mem : Memory) → t < m.pages → MayOweAll m (hold c (both_locks t)) ((create m t h).act c.state.world) mem (Clear t ∷ Put (place.Pamt t) (pamt_word (record { kind = kind.Tdr; owner = t; epoch = 0 })) ∷ Put (place.Word t TDR_HKID) h ∷ [])
 owed m c t h mem in_page =
-    let held : holds (both_locks t ++ c.kept) (OfPage t) ≡ true = page_held t c.kept in
-    let alone : holds_alone (both_locks t ++ c.kept) (OfPage t) ≡ true = page_alone t c.kept in (
+    let held : holds (both_locks t ++ c.kept) (OfPage t) ≡ true = holds-newest t Exclusive c.kept in
+    let alone : holds_alone (both_locks t ++ c.kept) (OfPage t) ≡ true = alone-newest t c.kept in (
       (in_page, λ i b. rw (eq-eqb t t refl) (tdr_owed (hold c (both_locks t)) t i held alone)),
       (
         (in_page, (KeepsNothing, inl (alone, tt), tt)),
@@ -259,26 +202,8 @@ owed m c t h mem in_page =
       ),
     )
 
-and_left : (a b : Bool) → (a && b) ≡ true → a ≡ true
-and_left true b h = refl
-and_left false b h = cc
-
-and_right : (a b : Bool) → (a && b) ≡ true → b ≡ true
-and_right true b h = h
-and_right false b h = cc
-
-key_class : (h : ℕ) → (3 + (h - 1) == 0) ≡ false
-key_class h = grind (arith, nat_tests)
-
-free_shown : (m : Machine) (c : Instant) (h : ℕ) → Shows m c.memory.words c.memory.slots c.state → 1 ≤ h → h ≤ m.hkids → says_free (c.memory.words (key_place h)) ≡ is_key_free c.state.world h
-free_shown m c h sh a b =
-    let e0 : (3 + (h - 1) == 0) ≡ false = grind (arith, nat_tests) in
-    let e1 : (3 + (h - 1) == 1) ≡ false = grind (arith, nat_tests) in
-    let e2 : (3 + (h - 1) == 2) ≡ false = grind (arith, nat_tests) in
-    let it : suc (3 + (h - 1) - 3) ≡ h = key_index h a in
-    let at = sh.word (place.Key (3 + (h - 1))) (omega arith) in
-    let word : c.memory.words (key_place h) ≡ key_word (c.state.world.key_table.keys h) = rw (e0, e1, e2, it) at at in
-    rw word (free_word (c.state.world.key_table.keys h))
+free_shown : (m : Machine) (c : Instant) (h : ℕ) → Shows m c.memory.words c.memory.slots c.state → IsHkid m h → says_free (c.memory.words (key_place h)) ≡ is_key_free c.state.world h
+free_shown m c h sh range = rw (key-shown m c.memory.words c.memory.slots c.state h sh range) (free_word (c.state.world.key_table.keys h))
 
 pub create-means : (p : Place) (t h : ℕ) → MeansRow (create_task p t h)
 create-means p t h = record {
@@ -290,8 +215,7 @@ create-means p t h = record {
       refl,
       λ e. refl,
       λ b. (let in_page : t < p.machine.pages = ltb-true t p.machine.pages a in
-          let first : 1 ≤ h = leb-true 1 h (and_left (nat_le 1 h) (nat_le h p.machine.hkids) b) in
-          let last : h ≤ p.machine.hkids = leb-true h p.machine.hkids (and_right (nat_le 1 h) (nat_le h p.machine.hkids) b) in (
+          let range : IsHkid p.machine h = range_of h p.machine.hkids b in (
             refl,
             refl,
             record { in_machine = in_page; at = refl; stands = tt; allowed = inl tt },
@@ -307,9 +231,9 @@ create-means p t h = record {
                   record { in_machine = omega arith; at = refl; stands = tt; allowed = inl tt },
                   (
                     omega arith,
-                    inl (rw (key_class h) (inl (refl, tt))),
+                    inl (rw (key-apart h 0 (omega arith)) (inl (refl, tt))),
                     (
-                      free_shown p.machine c h at.shown first last,
+                      free_shown p.machine c h at.shown range,
                       λ e. refl,
                       λ free. (
                         record {
@@ -317,9 +241,9 @@ create-means p t h = record {
                           fills_allowed = tt;
                           respects = create_respects p.machine c t h at.lawful a b host free;
                           locks_stay = ((refl, λ x. x), ((refl, λ x. x), tt));
-                          shows = created p.machine c.state c.memory t h at.shown at.lawful (kind-is (c.state.world.pages.kinds t) kind.Nda host) first last;
+                          shows = created p.machine c.state c.memory t h at.shown at.lawful (kind-is (c.state.world.pages.kinds t) kind.Nda host) in_page range;
                         },
-                        ((omega arith, (KeepsNothing, rw (key_class h) (inl (refl, tt)), tt)), owed p.machine c t h (changed (Put (key_place h) (key_word (AssignedTo t))) c.memory) in_page),
+                        ((omega arith, (KeepsNothing, rw (key-apart h 0 (omega arith)) (inl (refl, tt)), tt)), owed p.machine c t h (changed (Put (key_place h) (key_word (AssignedTo t))) c.memory) in_page),
                       ),
                     ),
                   ),

@@ -1,5 +1,5 @@
 -- The creation of a TD as a decision over the words that it is told.
-use Rattle.std.specs.Prelude.{ℕ, ◌+◌, ◌-◌, nat_lt, nat_le, ◌&&◌, List, [], ◌∷◌}
+use Rattle.std.specs.Prelude.{ℕ, ◌+◌, ◌-◌, nat_lt, List, [], ◌∷◌}
 use Rattle.td_words.specs.declared.names.PageKind.TheVariants as kind
 use Rattle.td_words.specs.declared.names.Mode.TheVariants.{Exclusive}
 use Rattle.td_words.specs.declared.machines.Machine.{Machine}
@@ -17,7 +17,7 @@ use Rattle.leaf_engine.specs.declared.needs.Place.{Place}
 use Rattle.leaf_engine.specs.Changes.{Change, Put, Clear}
 use Rattle.leaf_engine.specs.Trees.{Tree, Lock, Load, needs, acts}
 use Rattle.leaf_engine.specs.Means.{Task, OfCall}
-use Rattle.leaf_parts.specs.Words.{says_host, says_free}
+use Rattle.leaf_parts.specs.Words.{says_host, says_free, is_hkid}
 
 -- the word of an HKID
 abbrev pub key_place : ℕ → WordPlace
@@ -35,7 +35,7 @@ create_changes tdr h =
 abbrev pub create_tree : Machine → ℕ → ℕ → Tree
 create_tree m tdr h =
     needs (nat_lt tdr m.pages) (OperandInvalid 1)
-    (needs (nat_le 1 h && nat_le h m.hkids) (OperandInvalid 2)
+    (needs (is_hkid m h) (OperandInvalid 2)
     (Lock (OfPage tdr) (place.Lock tdr) Exclusive
     (Load Whole (place.Pamt tdr) (λ pamt.
     needs (says_host pamt) (PageMetadataIncorrect tdr)

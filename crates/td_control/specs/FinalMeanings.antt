@@ -25,8 +25,7 @@ use Rattle.flat_core.specs.TdRows.{finalize}
 use Rattle.flat_core.specs.Event.{State}
 use Rattle.word_rules.specs.Lines.{in_lines}
 use Rattle.word_rules.specs.Rules.{TdcsWord, Whole, KeepsNothing}
-use Rattle.word_rules.specs.Spots.{spot, or_unused, tdcs_classes, vp_classes, is_current, is_empty, slot_of}
-use Rattle.word_rules.specs.Views.{no_page}
+use Rattle.word_rules.specs.Spots.{or_unused, tdcs_classes, is_current, is_empty, slot_of}
 use Rattle.word_rules.specs.Permissions.{MayAt, Owes, Reads}
 use Rattle.word_rules.specs.Cells.{Shows, IsAs, cell, page_cell, control_cell, lock_word, td_lock_lines, tdcs_lines, vp_lines, built_hasher}
 use Rattle.lock_words.specs.Grips.{holds, holds_alone}
@@ -36,11 +35,13 @@ use Rattle.leaf_engine.specs.declared.needs.Place.{Place}
 use Rattle.leaf_engine.specs.Changes.{Hand, Memory, changed_all}
 use Rattle.leaf_engine.specs.Trees.{Tree, Load, acts}
 use Rattle.leaf_engine.specs.Means.{Instant, IsHkid, Means, MeansRow, MayChange, Work, work_of, OfCall, hold}
-use Rattle.leaf_parts.specs.Words.{page_told}
+use Rattle.leaf_parts.specs.Words.{page_told, vps_told}
 use Rattle.leaf_parts.proofs.Acted.{opening}
 use Rattle.leaf_parts.proofs.Begun.{td-head-means, page_lock, op_lock, IsTd, TwoControls, page-in}
+use Rattle.leaf_parts.proofs.Keys.{hkid-in}
+use Rattle.leaf_parts.proofs.Vps.{vp-class, vps-back, vp-said, vp-shown, vp-spot}
 use Rattle.leaf_parts.proofs.Told.{page-back, tdr-spot, tdr-shown, tdcs-spot, tdcs-shown}
-use Rattle.td_control.specs.FinalTrees.{word_in_hand, end_changes, is_hkid, changes_where, final_changes, vps_told, vps_tree, ready_tree, finalize_task}
+use Rattle.td_control.specs.FinalTrees.{word_in_hand, end_changes, changes_where, final_changes, vps_tree, ready_tree, finalize_task}
 
 abbrev initialized : List OpState
 initialized = op.Initialized ∷ []
@@ -214,29 +215,6 @@ module _ (m : Machine) (s : State) (mem : Memory) (t : ℕ) (sh : Shows m mem.wo
       at (place.Key k) b = sh.word (place.Key k) b
       at (place.Word p i) b = content p i b
 
--- the lines of TDCS that name virtual processors
-vp-line : (w : World) (locks : LockId → ℕ) (t k : ℕ) → k < 8 → in_lines (td_lock_lines locks t (tdcs_lines w t)) (40 + k) ≡ slice_get (w.tds.vps t) k
-vp-line w locks t zero b = refl
-vp-line w locks t (suc zero) b = refl
-vp-line w locks t (suc (suc zero)) b = refl
-vp-line w locks t (suc (suc (suc zero))) b = refl
-vp-line w locks t (suc (suc (suc (suc zero)))) b = refl
-vp-line w locks t (suc (suc (suc (suc (suc zero))))) b = refl
-vp-line w locks t (suc (suc (suc (suc (suc (suc zero)))))) b = refl
-vp-line w locks t (suc (suc (suc (suc (suc (suc (suc zero))))))) b = refl
-vp-line w locks t (suc (suc (suc (suc (suc (suc (suc (suc k)))))))) b = absurd (omega (arith, b))
-
-vp-class : (current empty : ℕ → Bool) (k : ℕ) → k < 8 → or_unused (in_lines (tdcs_classes current empty) (40 + k)) ≡ TdcsWord
-vp-class current empty zero b = refl
-vp-class current empty (suc zero) b = refl
-vp-class current empty (suc (suc zero)) b = refl
-vp-class current empty (suc (suc (suc zero))) b = refl
-vp-class current empty (suc (suc (suc (suc zero)))) b = refl
-vp-class current empty (suc (suc (suc (suc (suc zero))))) b = refl
-vp-class current empty (suc (suc (suc (suc (suc (suc zero)))))) b = refl
-vp-class current empty (suc (suc (suc (suc (suc (suc (suc zero))))))) b = refl
-vp-class current empty (suc (suc (suc (suc (suc (suc (suc (suc k)))))))) b = absurd (omega (arith, b))
-
 and-true : (b : Bool) → (b && true) ≡ b
 and-true true = refl
 and-true false = refl
@@ -244,12 +222,6 @@ and-true false = refl
 and-more : (a b c : Bool) → ((a && b) && c) ≡ (a && (b && c))
 and-more true b c = refl
 and-more false b c = refl
-
-few-told : (n : ℕ) → n ≤ 8 → vps_told n ≡ n
-few-told n few = by_test (nat_lt n 8) (λ e. rw e refl) (λ e. (let all : n ≡ 8 = grind (arith, nat_tests) in rw e (sym all)))
-
-hkid-in : (m : Machine) (h : ℕ) → IsHkid m h → is_hkid m h ≡ true
-hkid-in m h i = grind (arith, nat_tests)
 
 module _ (m : Machine) (c : Instant) (t : ℕ) (in_page : nat_lt t m.pages ≡ true) (la : Lawful m c.state.world) (sh : Shows m c.memory.words c.memory.slots c.state) (empty : c.memory.hand ≡ None) (x : IsTd m c.state.world t initialized) where
   abbrev v : World
@@ -342,18 +314,8 @@ module _ (m : Machine) (c : Instant) (t : ℕ) (in_page : nat_lt t m.pages ≡ t
   abbrev last : Tree
   last = acts (Done value.Nothing) (final_changes m x.controls.tdcs (c.state.world.tds.hkids t))
 
-  vp-said : (k p : ℕ) → k < 8 → slice_get (v.tds.vps t) k ≡ Some p → c.memory.words (place.Word z.tdcs (40 + k)) ≡ p
-  vp-said k p b e = subst (λ (o : Option ℕ). IsAs o (c.memory.words (place.Word z.tdcs (40 + k)))) (vp-line v (lock_word c.state.lps c.state.lp_count) t k b ∙ e)
-      (tdcs-shown m c.memory.words c.memory.slots c.state sh t (40 + k) z.tdcs (z.root ∷ []) z.list z.tdcs_page x.alive.life z.tdcs_in (omega (arith, b)))
-
-  state-said : (p : ℕ) → IsPageOf v.pages t p kind.Tdvpr → p < m.pages → c.memory.words (place.Word p 1) ≡ vcpu_number (v.vps.states p)
-  state-said p its b = rw (its.kind, its.owner, x.alive.life) at (sh.word (place.Word p 1) (b, omega arith))
-
-  vp-spot : (p : ℕ) → IsPageOf v.pages t p kind.Tdvpr → spot v (place.Word p 1) ≡ record { class = or_unused (in_lines vp_classes 1); td = t; page = p; named = no_page }
-  vp-spot p its = rw (its.kind, its.owner) refl
-
   reads-state : (p : ℕ) → IsPageOf v.pages t p kind.Tdvpr → Reads (hold c both) v (place.Word p 1) Whole
-  reads-state p its = rw (vp-spot p its) (inr (inl (tdr-held, (op-alone, tt))))
+  reads-state p its = rw (vp-spot v t p 1 its) (inr (inl (tdr-held, (op-alone, tt))))
 
   -- the virtual processors from that number on
   vps-mean : (rest : List ℕ) (number : ℕ) (so_far : Bool) → number + length rest ≤ 8 → ArePagesOf v.pages t kind.Tdvpr rest → ((i : ℕ) → slice_get (v.tds.vps t) (number + i) ≡ slice_get rest i)
@@ -362,9 +324,9 @@ module _ (m : Machine) (c : Instant) (t : ℕ) (in_page : nat_lt t m.pages ≡ t
   vps-mean (p ∷ ps) number so_far few its at all =
       let base : number + 0 ≡ number = omega arith in
       let small : number < 8 = omega (arith, few) in
-      let said : c.memory.words (place.Word z.tdcs (40 + number)) ≡ p = vp-said number p small (ap (slice_get (v.tds.vps t)) (sym base) ∙ at 0) in
+      let said : c.memory.words (place.Word z.tdcs (40 + number)) ≡ p = vp-said m c.memory.words c.memory.slots c.state sh t x.alive.life z.tdcs (z.root ∷ []) z.list z.tdcs_page z.tdcs_in number p small (ap (slice_get (v.tds.vps t)) (sym base) ∙ at 0) in
       let p_in : p < m.pages = page-in m v t p kind.Tdvpr la its.0 refl in
-      let state : c.memory.words (place.Word p 1) ≡ vcpu_number (v.vps.states p) = state-said p its.0 p_in in (
+      let state : c.memory.words (place.Word p 1) ≡ vcpu_number (v.vps.states p) = vp-shown m c.memory.words c.memory.slots c.state sh t x.alive.life p 1 its.0 p_in (omega arith) in (
         (z.tdcs_in, omega (arith, small)),
         inl (reads-tdcs (40 + number) (vp-class (is_current v t) (is_empty v t) number small)),
         subst (λ (a : ℕ). Means m c work both (Load Whole (place.Word (page_told m.pages a) 1) (λ b. vps_tree m.pages z.tdcs (suc number) (length ps) (so_far && b == vcpu_number vcpu.Ready) last)) (vps_ready v t ∷ [])) (sym said)
@@ -392,7 +354,7 @@ module _ (m : Machine) (c : Instant) (t : ℕ) (in_page : nat_lt t m.pages ≡ t
           (z.tdcs_in, omega arith),
           inl (reads-tdcs 15 refl),
           subst (λ (a : ℕ). Means m c work both (vps_tree m.pages z.tdcs 0 (vps_told (c.memory.words (place.Word z.tdcs 15))) true (acts (Done value.Nothing) (final_changes m z.tdcs a))) (vps_ready v t ∷ [])) (sym key)
-              (subst (λ (n : ℕ). Means m c work both (vps_tree m.pages z.tdcs 0 n true last) (vps_ready v t ∷ [])) (sym (ap vps_told count ∙ few-told (length (v.tds.vps t)) few))
+              (subst (λ (n : ℕ). Means m c work both (vps_tree m.pages z.tdcs 0 n true last) (vps_ready v t ∷ [])) (sym (ap vps_told count ∙ vps-back (length (v.tds.vps t)) few))
               (vps-mean (v.tds.vps t) 0 true (omega (arith, few)) (la.tds.vps t x.alive) (λ i. ap (slice_get (v.tds.vps t)) (from-zero i)) refl)),
         ),
       )

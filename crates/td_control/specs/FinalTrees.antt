@@ -1,5 +1,5 @@
 -- The end of a TD's building as a decision over the words that it is told, and its changes.
-use Rattle.std.specs.Prelude.{ℕ, zero, suc, ◌+◌, Bool, true, ◌==◌, ◌&&◌, nat_lt, nat_le, if◌then◌else◌, Some, None, List, [], ◌∷◌}
+use Rattle.std.specs.Prelude.{ℕ, zero, suc, ◌+◌, Bool, true, ◌==◌, ◌&&◌, nat_lt, if◌then◌else◌, Some, None, List, [], ◌∷◌}
 use Rattle.sha2.specs.Sha512.{sha384}
 use Rattle.td_words.specs.declared.names.OpState.TheVariants as op
 use Rattle.td_words.specs.declared.names.VcpuState.TheVariants as vcpu
@@ -18,7 +18,7 @@ use Rattle.leaf_engine.specs.declared.needs.Place.{Place}
 use Rattle.leaf_engine.specs.Changes.{Hand, Change, Put, PutHash, Swap}
 use Rattle.leaf_engine.specs.Trees.{Tree, Load, needs, answers, acts}
 use Rattle.leaf_engine.specs.Means.{Task, OfCall}
-use Rattle.leaf_parts.specs.Words.{page_told}
+use Rattle.leaf_parts.specs.Words.{is_hkid, page_told, vps_told}
 use Rattle.leaf_parts.specs.Heads.{td_head_tree}
 
 -- the digest's word of that number, of what the hasher in hand has measured
@@ -42,19 +42,11 @@ end_changes tdcs hkid =
     ∷ Put (place.Word tdcs TDCS_OP) (op_number op.Runnable)
     ∷ []
 
--- an HKID of the machine. No other number stands where it is told
-abbrev pub is_hkid : Machine → ℕ → Bool
-is_hkid m h = nat_le 1 h && nat_le h m.hkids
-
 abbrev pub changes_where : Bool → List Change → List Change
 changes_where b cs = if b then cs else []
 
 abbrev pub final_changes : Machine → (tdcs hkid : ℕ) → List Change
 final_changes m tdcs hkid = changes_where (is_hkid m hkid) (end_changes tdcs hkid)
-
--- at most eight virtual processors
-abbrev pub vps_told : ℕ → ℕ
-vps_told count = if nat_lt count 8 then count else 8
 
 -- those from that number on are READY, as are those before them
 abbrev pub vps_tree : (pages tdcs number left : ℕ) → (ready : Bool) → Tree → Tree

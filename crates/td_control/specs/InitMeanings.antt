@@ -1,7 +1,7 @@
 -- The leaf that begins a TD's measurement means its row.
 use Rattle.std.proofs.Common.{◌≡◌, ℕ, ◌<◌, true, false, ◌==◌, List, [], ◌∷◌, ◌++◌, Option, Some, None, refl, ap, sym, ◌∙◌, subst, inl, inr, arith}
 use Rattle.std.specs.List.{list_any}
-use Rattle.std.proofs.lemmas.Bool.{eq-eqb, eqb-true, ltb-true, lt-ltb, le-leb, ne_eqb}
+use Rattle.std.proofs.lemmas.Bool.{eq-eqb, eqb-true, ltb-true, lt-ltb, ne_eqb}
 use Rattle.td_words.specs.declared.names.PageKind.{PageKind}
 use Rattle.td_words.specs.declared.names.PageKind.TheVariants as kind
 use Rattle.td_words.specs.declared.names.OpState.TheVariants as op
@@ -34,8 +34,9 @@ use Rattle.leaf_engine.specs.Trees.{acts}
 use Rattle.leaf_engine.specs.Means.{Instant, Means, MeansRow, MayChange, Work, work_of, OfCall, hold}
 use Rattle.leaf_parts.proofs.Acted.{opening}
 use Rattle.leaf_parts.proofs.Begun.{td-head-means, page_lock, op_lock, holds-newest, IsTd, TwoControls}
+use Rattle.leaf_parts.proofs.Keys.{hkid-in}
 use Rattle.leaf_parts.proofs.Told.{tdr-spot, tdr-shown, tdcs-spot, tdcs-shown}
-use Rattle.td_control.specs.InitTrees.{is_hkid, begin_changes, init_changes, begin_tree, init_task}
+use Rattle.td_control.specs.InitTrees.{begin_changes, init_changes, begin_tree, init_task}
 
 module _ (m : Machine) (s : State) (mem : Memory) (t : ℕ) (sh : Shows m mem.words mem.slots s) (la : Lawful m s.world) (x : IsTd m s.world t (op.Uninitialized ∷ [])) where
   abbrev w : World
@@ -172,13 +173,10 @@ module _ (m : Machine) (c : Instant) (t : ℕ) (in_tdr : t < m.pages) (la : Lawf
       may-change,
     )
 
-    is-one : is_hkid m (v.tds.hkids t) ≡ true
-    is-one = (let r = la.keys.in_range t x.alive in rw (le-leb 1 (v.tds.hkids t) r.0, le-leb (v.tds.hkids t) m.hkids r.1) refl)
-
     begins : Means m c k held (begin_tree m t z.tdcs) []
     begins =
         let word : c.memory.words (place.Word t TDR_HKID) ≡ v.tds.hkids t = tdr-shown m c.memory.words c.memory.slots c.state sh t 1 x.alive.kind x.own in_tdr (omega arith) in
-        let listed : init_changes m z.tdcs (v.tds.hkids t) ≡ begin_changes z.tdcs (v.tds.hkids t) = rw is-one refl in (
+        let listed : init_changes m z.tdcs (v.tds.hkids t) ≡ begin_changes z.tdcs (v.tds.hkids t) = rw (hkid-in m (v.tds.hkids t) (la.keys.in_range t x.alive)) refl in (
           (in_tdr, omega arith),
           inl (rw (tdr-spot v t 1 x.alive.kind x.own) (inl (tdr-held, tt))),
           subst (λ (n : ℕ). Means m c k held (acts (Done value.Nothing) (init_changes m z.tdcs n)) []) (sym word)

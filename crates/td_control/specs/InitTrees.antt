@@ -1,5 +1,5 @@
 -- The beginning of a TD's measurement as a decision over the words that it is told.
-use Rattle.std.specs.Prelude.{◌≡◌, ℕ, Bool, nat_lt, nat_le, ◌&&◌, if◌then◌else◌, Some, List, [], ◌∷◌, Result, Ok, Err}
+use Rattle.std.specs.Prelude.{◌≡◌, ℕ, nat_lt, if◌then◌else◌, Some, List, [], ◌∷◌, Result, Ok, Err}
 use Rattle.td_words.specs.declared.names.Mode.TheVariants.{Exclusive}
 use Rattle.td_words.specs.declared.names.OpState.TheVariants.{Uninitialized, Initialized}
 use Rattle.td_words.specs.declared.machines.Machine.{Machine}
@@ -17,12 +17,9 @@ use Rattle.leaf_engine.specs.Changes.{Change, Put, Swap}
 use Rattle.leaf_engine.specs.Decides.{Decides}
 use Rattle.leaf_engine.specs.Trees.{Tree, Load, needs, acts, feed}
 use Rattle.leaf_engine.specs.Means.{Task, OfCall}
+use Rattle.leaf_parts.specs.Words.{is_hkid}
 use Rattle.leaf_parts.specs.Heads.{td_head_tree}
 use Rattle.td_control.specs.declared.td_inits.Beginning.{Beginning}
-
--- an HKID of the machine, which is all that a TDR ever tells
-abbrev pub is_hkid : Machine → ℕ → Bool
-is_hkid m h = nat_le 1 h && nat_le h m.hkids
 
 -- a hasher that has measured nothing is put into the HKID's slot, which is the act; then the operation state and TD_EPOCH
 -- are stored

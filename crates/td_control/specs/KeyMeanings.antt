@@ -1,6 +1,5 @@
 -- The leaf that configures a TD's keys means its row.
-use Rattle.std.proofs.Common.{◌≡◌, ℕ, ◌<◌, true, false, ◌==◌, List, [], ◌∷◌, Option, Some, None, refl, ap, sym, ◌∙◌, subst, inl, arith}
-use Rattle.std.specs.List.{list_any}
+use Rattle.std.proofs.Common.{◌≡◌, ℕ, ◌<◌, false, ◌==◌, List, [], ◌∷◌, Option, Some, None, refl, ap, sym, ◌∙◌, subst, inl, arith}
 use Rattle.std.proofs.lemmas.Bool.{eq-eqb, eqb-true, ltb-true}
 use Rattle.td_words.specs.declared.names.PageKind.{PageKind}
 use Rattle.td_words.specs.declared.names.PageKind.TheVariants as kind
@@ -29,7 +28,7 @@ use Rattle.leaf_engine.specs.declared.needs.Place.{Place}
 use Rattle.leaf_engine.specs.Changes.{Put}
 use Rattle.leaf_engine.specs.Trees.{acts}
 use Rattle.leaf_engine.specs.Means.{MeansRow, work_of, OfCall, hold}
-use Rattle.leaf_parts.proofs.Begun.{tdr-head-means, page_lock, alone-newest, holds-newest}
+use Rattle.leaf_parts.proofs.Begun.{tdr-head-means, life-is, page_lock, alone-newest, holds-newest}
 use Rattle.leaf_parts.proofs.Told.{tdr-spot, tdr-shown}
 use Rattle.flat_core.specs.TdRows.{configure_key}
 use Rattle.td_control.specs.KeyTrees.{configure_task}
@@ -38,12 +37,6 @@ use Rattle.leaf_parts.proofs.Acted.{opening}
 -- what stands of a TD that isn't in TD_TEARDOWN stands after another such life
 stands-same : {A : Type 0} (s s' : LifeState) (x : Option A) → (life_number s == life_number life.Teardown) ≡ false → (life_number s' == life_number life.Teardown) ≡ false → if_stands s' x ≡ if_stands s x
 stands-same s s' x a b = rw (a, b) refl
-
-assigned : (s : LifeState) → list_any (λ a. life_number a == life_number s) (life.HkidAssigned ∷ []) ≡ true → s ≡ life.HkidAssigned
-assigned life.HkidAssigned h = refl
-assigned life.KeysConfigured h = cc
-assigned life.Blocked h = cc
-assigned life.Teardown h = cc
 
 module _ (m : Machine) (s : State) (words : WordPlace → ℕ) (slots : ℕ → Option (List ℕ)) (t : ℕ) (sh : Shows m words slots s) (la : Lawful m s.world) (is : s.world.pages.kinds t ≡ kind.Tdr) (lives : s.world.tds.lives t ≡ life.HkidAssigned) where
   abbrev w : World
@@ -107,7 +100,7 @@ configure-means p t = record {
             fills_allowed = tt;
             respects = rows-respect (opening p.machine) 0 (call.MngKeyConfig t) (hold c (page_lock t Exclusive ∷ [])) c.state.world at.lawful (a, (rw is refl, (among, tt))) ((holds-newest t Exclusive c.kept, alone-newest t c.kept), tt);
             locks_stay = ((refl, λ x. x), tt);
-            shows = configured p.machine c.state c.memory.words c.memory.slots t at.shown at.lawful is (assigned (c.state.world.tds.lives t) among);
+            shows = configured p.machine c.state c.memory.words c.memory.slots t at.shown at.lawful is (life-is life.HkidAssigned (c.state.world.tds.lives t) among);
           },
           (((in_page, omega arith), (KeepsNothing, rw (tdr-spot c.state.world t 0 is (at.lawful.pages.tdr t is)) (inl (alone-newest t c.kept, tt)), tt)), tt),
         ))),

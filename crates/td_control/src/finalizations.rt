@@ -1,6 +1,8 @@
 //! MR.FINALIZE.
 
-ghost use Rattle.std.specs.Prelude.{◌≡◌, ℕ, ◌<◌, ◌≤◌, ◌+◌, true, length, drop, slice_index, MatchOption};
+ghost use Rattle.std.specs.Prelude.{◌≡◌, ℕ, ◌<◌, ◌≤◌, ◌+◌, true, ◌&&◌, ◌==◌, length, drop, slice_index, MatchOption};
+ghost use Rattle.td_words.specs.NameNumber.{vcpu_number};
+ghost use Rattle.td_words.specs.declared.names.VcpuState.TheVariants as vcpu;
 ghost use Rattle.td_words.specs.declared.replies.Value.TheVariants as value;
 ghost use Rattle.td_words.specs.declared.replies.Reply.TheVariants.{Done};
 ghost use Rattle.flat_core.specs.Digests.{digest_word};
@@ -9,19 +11,20 @@ ghost use Rattle.leaf_engine.specs.Trees.{answers};
 ghost use Rattle.leaf_engine.specs.Decides.{Decides, IsHand, HandsNext};
 ghost use Rattle.leaf_engine.specs.Inside.{DecisionIn, DecidesEarly};
 ghost use Rattle.leaf_parts.specs.Words.{page_told};
-ghost use Rattle.td_control.specs.FinalTrees.{bare_tree, ready_tree, vps_tree, vps_told, final_changes, word_in_hand};
+ghost use Rattle.td_control.specs.FinalTrees.{bare_tree, ready_tree, vps_tree, final_changes, word_in_hand};
 
 use arrayvec::ArrayVec;
 use leaf_engine::{ANSWERS, Leaf, Need, Place, Stop, Told, Verdict, Write};
-use leaf_parts::{page_told, td_head};
+use leaf_parts::{is_hkid, page_told, td_head, vps_told};
 use mrtd_measure::Measure;
 use step_core::WordStep;
 use td_words::places::{TDCS_MRTD, TDCS_OP, TDCS_VP_COUNT, TDCS_VPS, TDR_HKID, VP_STATE};
 use td_words::{Machine, Mode, OpState, Reply, Status, Value, VcpuState, word_address};
 
-/// Which of its answers is the page of TDCS, and which the HKID.
+/// Which of its answers is the page of TDCS.
 const TDCS_ANSWER: usize = 4;
 
+/// Which of its answers is the HKID.
 const HKID_ANSWER: usize = 7;
 
 /// MR.FINALIZE TDR: the measurement of a TD ends, and its virtual processors may run.
@@ -143,13 +146,6 @@ fn all_ready(told: Told, place: Place, tdr: u16, tdcs: u16) -> Result<Verdict, S
     vps_ready(told, place, tdcs, vps_told(count))
 }
 
-/// At most eight virtual processors.
-fn vps_told(count: u64) -> u16
-    ensures { (result ≡ vps_told count) × (result ≤ 8) }
-{
-    if count < 8 { count as u16 } else { 8 }
-}
-
 /// So many virtual processors are READY.
 fn vps_ready(told: Told, place: Place, tdcs: u16, count: u16) -> Result<Verdict, Stop>
     requires tdcs { tdcs < place.machine.pages }
@@ -176,10 +172,6 @@ fn vps_ready(told: Told, place: Place, tdcs: u16, count: u16) -> Result<Verdict,
         writes: ArrayVec::new(),
     })
 }
-
-ghost use Rattle.std.specs.Prelude.{◌&&◌, ◌==◌};
-ghost use Rattle.td_words.specs.NameNumber.{vcpu_number};
-ghost use Rattle.td_words.specs.declared.names.VcpuState.TheVariants as vcpu;
 
 /// Whether those before are READY, and so is one of this state.
 fn is_ready_too(ready: bool, state: u64) -> bool
@@ -208,41 +200,16 @@ fn next_write(
     }
     let write = match *written {
         0 => Write::Swap((hkid - 1) as u8),
-        1 => Write::Word(WordStep::Store(word_address(tdcs, TDCS_MRTD), word_in_hand(hasher, 0))),
-        2 => Write::Word(WordStep::Store(
-            word_address(tdcs, TDCS_MRTD + 1),
-            word_in_hand(hasher, 1),
-        )),
-        3 => Write::Word(WordStep::Store(
-            word_address(tdcs, TDCS_MRTD + 2),
-            word_in_hand(hasher, 2),
-        )),
-        4 => Write::Word(WordStep::Store(
-            word_address(tdcs, TDCS_MRTD + 3),
-            word_in_hand(hasher, 3),
-        )),
-        5 => Write::Word(WordStep::Store(
-            word_address(tdcs, TDCS_MRTD + 4),
-            word_in_hand(hasher, 4),
-        )),
-        6 => Write::Word(WordStep::Store(
-            word_address(tdcs, TDCS_MRTD + 5),
-            word_in_hand(hasher, 5),
-        )),
+        1..=6 => {
+            let k = *written - 1;
+            let at = word_address(tdcs, TDCS_MRTD + k as u16);
+            Write::Word(WordStep::Store(at, word_in_hand(hasher, k)))
+        }
         7 => Write::Word(WordStep::Store(word_address(tdcs, TDCS_OP), OpState::Runnable as u64)),
         _ => return None,
     };
     *written += 1;
     Some(write)
-}
-
-ghost use Rattle.td_control.specs.FinalTrees.{is_hkid};
-
-/// Whether a number is an HKID of the machine.
-fn is_hkid(machine: Machine, hkid: u64) -> bool
-    ensures { result ≡ is_hkid machine hkid }
-{
-    1 <= hkid && hkid <= u64::from(machine.hkids)
 }
 
 /// The digest's word of that number, of what the hasher in hand has measured.

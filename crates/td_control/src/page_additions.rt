@@ -1,5 +1,10 @@
 //! MNG.ADDCX.
 
+ghost use Rattle.std.specs.Prelude.{◌≡◌, ◌<◌, length, map, None};
+ghost use Rattle.leaf_engine.specs.Decides.{Decides, write_of};
+ghost use Rattle.leaf_engine.specs.Inside.{DecisionIn, DecidesEarly, WritesInside};
+ghost use Rattle.td_control.specs.AddTrees.{control_at, room_tree, add_changes};
+
 use arrayvec::ArrayVec;
 use leaf_engine::{Leaf, Place, Plan, Planned, Stop, Told, Verdict, Write};
 use leaf_parts::{raised, says_host, tdr_head};
@@ -53,11 +58,6 @@ impl Plan for AddCx {
     ghost means = { λ l. add-means l.place l.tdr l.page };
 }
 
-ghost use Rattle.std.specs.Prelude.{◌≡◌, ◌<◌, length};
-ghost use Rattle.leaf_engine.specs.Decides.{Decides};
-ghost use Rattle.leaf_engine.specs.Inside.{DecisionIn, DecidesEarly};
-ghost use Rattle.td_control.specs.AddTrees.{control_at, room_tree};
-
 /// What comes after the head: there is room, and the page is the host's and is taken.
 fn add(told: Told, place: Place, tdr: u16, page: u16) -> Result<Verdict, Stop>
     requires { (tdr < place.machine.pages) × (page < place.machine.pages) }
@@ -77,11 +77,6 @@ fn add(told: Told, place: Place, tdr: u16, page: u16) -> Result<Verdict, Stop>
         writes: additions(place, tdr, page, count, children),
     })
 }
-
-ghost use Rattle.std.specs.Prelude.{map, None};
-ghost use Rattle.leaf_engine.specs.Inside.{WritesInside};
-ghost use Rattle.leaf_engine.specs.Decides.{write_of};
-ghost use Rattle.td_control.specs.AddTrees.{add_changes};
 
 /// The number of TDCX pages is the act; then its page is told, the child count is raised, and the
 /// page is cleared and taken.

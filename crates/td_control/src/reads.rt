@@ -1,10 +1,10 @@
 //! MNG.RD.
 
-ghost use Rattle.std.specs.Prelude.{◌≡◌, ◌<◌, MatchResult};
+ghost use Rattle.std.specs.Prelude.{◌≡◌, ◌<◌, length, MatchResult};
 ghost use Rattle.flat_core.specs.Digests.{digest_bytes};
-ghost use Rattle.leaf_engine.specs.Inside.{StopIn};
+ghost use Rattle.leaf_engine.specs.Inside.{StopIn, StopEarly};
 ghost use Rattle.leaf_parts.specs.Parts.{Goes, Uses};
-ghost use Rattle.td_control.specs.ReadTrees.{life_tree, op_tree, epoch_tree, mrtd_tree, words_tree};
+ghost use Rattle.td_control.specs.ReadTrees.{value_tree, life_tree, op_tree, epoch_tree, mrtd_tree, words_tree};
 
 use arrayvec::ArrayVec;
 use leaf_engine::{Leaf, Place, Plan, Planned, Stop, Told, Verdict};
@@ -96,9 +96,6 @@ impl Plan for Rd {
     ghost means = { λ l. read-means l.place l.tdr l.field };
 }
 
-ghost use Rattle.td_control.specs.ReadTrees.{value_tree};
-ghost use Rattle.std.specs.Prelude.{ℕ, ◌≤◌, length};
-
 /// The value of a field, behind the conditions of its reading.
 fn value_read(told: &mut Told, place: Place, tdr: u16, field: ReadField) -> Result<Value, Stop>
     requires { tdr < place.machine.pages }
@@ -113,8 +110,6 @@ fn value_read(told: &mut Told, place: Place, tdr: u16, field: ReadField) -> Resu
         ReadField::Mrtd => mrtd(told, place, tdr),
     }
 }
-
-ghost use Rattle.leaf_engine.specs.Inside.{StopEarly};
 
 /// The life state.
 fn life(told: &mut Told, place: Place, tdr: u16) -> Result<Value, Stop>

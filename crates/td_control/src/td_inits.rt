@@ -1,8 +1,13 @@
 //! MNG.INIT.
 
+ghost use Rattle.std.specs.Prelude.{◌≡◌, ◌<◌, ◌+◌, true, length, drop, MatchOption, MatchResult};
+ghost use Rattle.leaf_engine.specs.Decides.{HandsNext};
+ghost use Rattle.leaf_engine.specs.Inside.{StopIn, StopEarly};
+ghost use Rattle.td_control.specs.InitTrees.{ComesTo, init_changes};
+
 use arrayvec::ArrayVec;
 use leaf_engine::{ANSWERS, Leaf, Need, Place, Stop, Told, Write};
-use leaf_parts::td_head;
+use leaf_parts::{is_hkid, td_head};
 use mrtd_measure::Measure;
 use step_core::WordStep;
 use td_words::places::{TDCS_EPOCH, TDCS_OP, TDR_HKID};
@@ -18,8 +23,6 @@ pub struct Init {
     waits: bool,
     ghost room: { waits ≡ true → length told.items < 32 },
 }
-
-ghost use Rattle.std.specs.Prelude.{◌≡◌, ◌<◌, ◌+◌, true, length};
 
 impl Init {
     ghost use Rattle.std.specs.Prelude.{◌≡◌};
@@ -108,10 +111,6 @@ pub struct Beginning {
     pub hkid: u64,
 }
 
-ghost use Rattle.std.specs.Prelude.{MatchResult};
-ghost use Rattle.leaf_engine.specs.Inside.{StopIn, StopEarly};
-ghost use Rattle.td_control.specs.InitTrees.{ComesTo};
-
 /// The conditions of the call, and what it begins.
 fn to_begin(told: Told, place: Place, tdr: u64) -> Result<Beginning, Stop>
     ensures comes { ComesTo place tdr told.entry.left.now result }
@@ -137,10 +136,6 @@ fn to_begin(told: Told, place: Place, tdr: u64) -> Result<Beginning, Stop>
         hkid,
     })
 }
-
-ghost use Rattle.std.specs.Prelude.{drop, MatchOption};
-ghost use Rattle.leaf_engine.specs.Decides.{HandsNext};
-ghost use Rattle.td_control.specs.InitTrees.{init_changes};
 
 /// The next of the writes: the slot gets a hasher that has measured nothing, then the operation
 /// state is stored, and then TD_EPOCH.
@@ -175,13 +170,4 @@ fn next_write(
         }
         _ => None,
     }
-}
-
-ghost use Rattle.td_control.specs.InitTrees.{is_hkid};
-
-/// Whether a number is an HKID of the machine. No TDR tells another.
-fn is_hkid(machine: Machine, hkid: u64) -> bool
-    ensures { result ≡ is_hkid machine hkid }
-{
-    1 <= hkid && hkid <= u64::from(machine.hkids)
 }

@@ -6,25 +6,80 @@ use crate::names::ReadField;
 /// judges it.
 #[derive(Clone, Copy, Debug, PartialEq, Eq)]
 pub enum Call {
-    HostRead { page: u64, word: u64 },
-    HostWrite { page: u64, word: u64, value: u64 },
-    PhymemPageRdmd { page: u64 },
+    HostRead {
+        page: u64,
+        word: u64,
+    },
+    HostWrite {
+        page: u64,
+        word: u64,
+        value: u64,
+    },
+    PhymemPageRdmd {
+        page: u64,
+    },
     PhymemCacheWb,
-    PhymemPageReclaim { tdr: u64, page: u64 },
-    MngCreate { tdr: u64, hkid: u64 },
-    MngKeyConfig { tdr: u64 },
-    MngAddcx { tdr: u64, page: u64 },
-    MngInit { tdr: u64 },
-    MngRd { tdr: u64, field: ReadField },
-    MngVpflushdone { tdr: u64 },
-    MngKeyFreeid { tdr: u64 },
-    MrExtend { tdr: u64, gpa: u64 },
-    MrFinalize { tdr: u64 },
-    VpCreate { tdr: u64, page: u64 },
-    VpInit { tdr: u64, vp: u64, value: u64 },
-    MemSeptAdd { tdr: u64, gpa: u64, level: u64, page: u64 },
-    MemSeptRd { tdr: u64, gpa: u64, level: u64 },
-    MemPageAdd { tdr: u64, gpa: u64, page: u64, source: u64 },
+    PhymemPageReclaim {
+        tdr: u64,
+        page: u64,
+    },
+    MngCreate {
+        tdr: u64,
+        hkid: u64,
+    },
+    MngKeyConfig {
+        tdr: u64,
+    },
+    MngAddcx {
+        tdr: u64,
+        page: u64,
+    },
+    MngInit {
+        tdr: u64,
+    },
+    MngRd {
+        tdr: u64,
+        field: ReadField,
+    },
+    MngVpflushdone {
+        tdr: u64,
+    },
+    MngKeyFreeid {
+        tdr: u64,
+    },
+    MrExtend {
+        tdr: u64,
+        gpa: u64,
+    },
+    MrFinalize {
+        tdr: u64,
+    },
+    VpCreate {
+        tdr: u64,
+        page: u64,
+    },
+    VpInit {
+        tdr: u64,
+        vp: u64,
+        value: u64,
+    },
+    MemSeptAdd {
+        tdr: u64,
+        gpa: u64,
+        level: u64,
+        page: u64,
+    },
+    MemSeptRd {
+        tdr: u64,
+        gpa: u64,
+        level: u64,
+    },
+    MemPageAdd {
+        tdr: u64,
+        gpa: u64,
+        page: u64,
+        source: u64,
+    },
 }
 
 /// An operation of guest code. None is built yet.

@@ -1,6 +1,6 @@
 -- Behind the beginning of its row the leaf that creates a virtual processor means the row.
-use Rattle.std.proofs.Common.{◌≡◌, ℕ, zero, suc, ◌+◌, ◌<◌, ◌≤◌, Bool, true, false, ◌==◌, ◌&&◌, List, [], ◌∷◌, length, refl, ap, sym, ◌∙◌, subst, inl, inr, arith}
-use Rattle.std.specs.Prelude.{nat_lt, nat_le, not}
+use Rattle.std.proofs.Common.{◌≡◌, ℕ, ◌+◌, ◌<◌, ◌≤◌, true, false, ◌==◌, ◌&&◌, [], ◌∷◌, length, refl, ap, sym, ◌∙◌, subst, inl, inr, arith}
+use Rattle.std.specs.Prelude.{nat_lt, not}
 use Rattle.std.proofs.lemmas.Bool.{eq-eqb, ltb-true, lt-ltb}
 use Rattle.td_words.specs.declared.names.PageKind.TheVariants as kind
 use Rattle.td_words.specs.declared.names.OpState.{OpState}
@@ -20,24 +20,26 @@ use Rattle.flat_core.specs.Lawful.{Lawful, IsPageOf}
 use Rattle.flat_core.specs.VpRows.{create_vp}
 use Rattle.word_rules.specs.Guards.{Grip, Locked, Meets}
 use Rattle.word_rules.specs.Rules.{Class, VcpuWord, Association, Unused, TdcsWord, ChildCount, Whole, KeepsNothing, reads, writes, owes}
-use Rattle.word_rules.specs.Lines.{Line, At, in_lines}
-use Rattle.word_rules.specs.Spots.{spot, guard_at, or_unused, run, tdcs_classes, vp_classes, is_current, is_empty}
+use Rattle.word_rules.specs.Lines.{in_lines}
+use Rattle.word_rules.specs.Spots.{spot, guard_at, or_unused, vp_classes, is_current, is_empty}
 use Rattle.word_rules.specs.Permissions.{Respects, Reads, Owes}
 use Rattle.word_rules.specs.Cells.{Shows, IsAs, td_lock_lines, tdcs_lines, lock_word}
 use Rattle.act_rules.proofs.Rows.{rows-respect}
-use Rattle.act_rules.proofs.Respected.{host-kind, not-true}
+use Rattle.flat_core.proofs.Tests.{not_true}
 use Rattle.act_rules.proofs.Stored.{by_test}
 use Rattle.leaf_engine.specs.Changes.{Memory, Put, Clear, changed}
 use Rattle.leaf_engine.specs.Trees.{Load, acts}
 use Rattle.leaf_engine.specs.Means.{Instant, Means, Acts, MayOweAll, work_of, OfCall, hold}
 use Rattle.leaf_parts.specs.Words.{raised}
 use Rattle.leaf_parts.proofs.Acted.{opening}
-use Rattle.leaf_parts.proofs.Told.{kind-shown, tdr-shown, tdcs-shown, tdr-spot, tdcs-spot}
+use Rattle.leaf_parts.proofs.Told.{kind-is, kind-shown, tdr-shown, tdcs-shown, tdr-spot, tdcs-spot}
 use Rattle.leaf_parts.proofs.Begun.{IsTd}
+use Rattle.leaf_parts.proofs.Lines.{each-may}
+use Rattle.leaf_parts.proofs.Vps.{vp-class, vp-spot}
 use Rattle.vcpu_control.specs.VpChanges.{create_changes}
 use Rattle.vcpu_control.specs.VpTrees.{create_page, create_room, create_rest}
 use Rattle.vcpu_control.specs.VpLocks.{td_locks, page_locks, td-held, op-held, held-td, held-op, held-page, alone-page, alone-op}
-use Rattle.vcpu_control.specs.VpSpots.{spot_of, at-spot, vp-spot}
+use Rattle.vcpu_control.specs.VpSpots.{spot_of, at-spot}
 use Rattle.vcpu_control.specs.Children.{one-child, same-children}
 use Rattle.vcpu_control.specs.CreateShows.{created, apart}
 
@@ -55,22 +57,7 @@ room_told n l few = by_test (nat_lt n l)
 room_few : (n l : ℕ) → l ≤ 8 → nat_lt n l ≡ true → n < 8
 room_few n l few y = (let lt : n < l = ltb-true n l y in omega arith)
 
--- the words of the list of TDVPR pages
-listed-class : (current empty : ℕ → Bool) (k : ℕ) → k < 8 → or_unused (in_lines (tdcs_classes current empty) (40 + k)) ≡ TdcsWord
-listed-class current empty zero h = refl
-listed-class current empty (suc zero) h = refl
-listed-class current empty (suc (suc zero)) h = refl
-listed-class current empty (suc (suc (suc zero))) h = refl
-listed-class current empty (suc (suc (suc (suc zero)))) h = refl
-listed-class current empty (suc (suc (suc (suc (suc zero))))) h = refl
-listed-class current empty (suc (suc (suc (suc (suc (suc zero)))))) h = refl
-listed-class current empty (suc (suc (suc (suc (suc (suc (suc zero))))))) h = refl
-listed-class current empty (suc (suc (suc (suc (suc (suc (suc (suc k)))))))) h = absurd (omega arith)
-
 -- each word of the new TDVPR page may still be stored
-class-line : (P : Class → Type 0) (n i : ℕ) (c : Class) (rest : List (Line Class)) → P c → P (or_unused (in_lines rest i)) → P (or_unused (in_lines (At n c ∷ rest) i))
-class-line P n i c rest a b = by_test (i == n) (λ e. rw e a) (λ e. rw e b)
-
 vp-owed : (g : Grip) (t p i : ℕ) → g.has (Locked (OfPage t)) ≡ true → g.has (Locked (OfOp t)) ≡ true → g.sole (Locked (OfPage p)) ≡ true
     → Meets g (guard_at (spot_of (or_unused (in_lines vp_classes i)) t p)) (owes (or_unused (in_lines vp_classes i)) KeepsNothing)
 vp-owed g t p i td op own =
@@ -78,13 +65,7 @@ vp-owed g t p i td op own =
     let vcpu : P VcpuWord = inr (inl (td, (op, (own, tt)))) in
     let association : P Association = inl (td, (own, tt)) in
     let unused : P Unused = inl (td, (own, tt)) in
-    class-line P 0 i VcpuWord (At 1 VcpuWord ∷ At 2 Association ∷ At 3 VcpuWord ∷ At 4 VcpuWord ∷ At 5 VcpuWord ∷ run 8 8 VcpuWord ∷ []) vcpu
-    (class-line P 1 i VcpuWord (At 2 Association ∷ At 3 VcpuWord ∷ At 4 VcpuWord ∷ At 5 VcpuWord ∷ run 8 8 VcpuWord ∷ []) vcpu
-    (class-line P 2 i Association (At 3 VcpuWord ∷ At 4 VcpuWord ∷ At 5 VcpuWord ∷ run 8 8 VcpuWord ∷ []) association
-    (class-line P 3 i VcpuWord (At 4 VcpuWord ∷ At 5 VcpuWord ∷ run 8 8 VcpuWord ∷ []) vcpu
-    (class-line P 4 i VcpuWord (At 5 VcpuWord ∷ run 8 8 VcpuWord ∷ []) vcpu
-    (class-line P 5 i VcpuWord (run 8 8 VcpuWord ∷ []) vcpu
-    (by_test (nat_le 8 i && nat_lt i 16) (λ e. rw e vcpu) (λ e. rw e unused)))))))
+    each-may P vp_classes (vcpu, (vcpu, (association, (vcpu, (vcpu, (vcpu, (λ j. vcpu, unused))))))) i
 
 module _ (m : Machine) (c : Instant) (t p : ℕ) (la : Lawful m c.state.world) (sh : Shows m c.memory.words c.memory.slots c.state)
     (x : IsTd m c.state.world t (op.Initialized ∷ op.MemoryImport ∷ [])) (tdr_page : nat_lt t m.pages ≡ true) (page : nat_lt p m.pages ≡ true) (differ : not (p == t) ≡ true) where
@@ -101,7 +82,7 @@ module _ (m : Machine) (c : Instant) (t p : ℕ) (la : Lawful m c.state.world) (
   g = hold c (page_locks t p Exclusive)
 
   other : (p == t) ≡ false
-  other = not-true (p == t) differ
+  other = not_true (p == t) differ
 
   in_page : p < m.pages
   in_page = ltb-true p m.pages page
@@ -149,7 +130,7 @@ module _ (m : Machine) (c : Instant) (t p : ℕ) (la : Lawful m c.state.world) (
 
   module _ (room : nat_lt n (vp_limit (w.tds.ops t) (w.tds.vps_expected t)) ≡ true) (host : is_host w p ≡ true) where
     nda : w.pages.kinds p ≡ kind.Nda
-    nda = host-kind (w.pages.kinds p) host
+    nda = kind-is (w.pages.kinds p) kind.Nda host
 
     eight : n < 8
     eight = room_few n (vp_limit (w.tds.ops t) (w.tds.vps_expected t)) limit room
@@ -195,7 +176,7 @@ module _ (m : Machine) (c : Instant) (t p : ℕ) (la : Lawful m c.state.world) (
     }
 
     new-owed : (i : ℕ) → Owes g w' (place.Word p i) KeepsNothing
-    new-owed i = at-spot g w' (place.Word p i) (spot_of (or_unused (in_lines vp_classes i)) t p) (λ z. owes z KeepsNothing) (vp-spot w' t p i new-kind new-owner) (vp-owed g t p i td op_held own)
+    new-owed i = at-spot g w' (place.Word p i) (spot_of (or_unused (in_lines vp_classes i)) t p) (λ z. owes z KeepsNothing) (vp-spot w' t p i (record { kind = new-kind; owner = new-owner })) (vp-owed g t p i td op_held own)
 
     owed : (mem : Memory) → MayOweAll m g w' mem
         (Clear p ∷ Put (place.Pamt p) (pamt_word (record { kind = kind.Tdvpr; owner = t; epoch = 0 })) ∷ Put (place.Word p 0) n ∷ Put (place.Word d 15) (n + 1) ∷ Put (place.Word t 2) (raised m.pages (children w t)) ∷ [])
@@ -214,7 +195,7 @@ module _ (m : Machine) (c : Instant) (t p : ℕ) (la : Lawful m c.state.world) (
     )
 
     listed-spot : spot w (place.Word d (40 + n)) ≡ spot_of TdcsWord t d
-    listed-spot = tdcs-spot w t (40 + n) d (x.controls.root ∷ []) x.controls.list x.controls.tdcs_page ∙ ap (λ (x : Class). spot_of x t d) (listed-class (is_current w t) (is_empty w t) n eight)
+    listed-spot = tdcs-spot w t (40 + n) d (x.controls.root ∷ []) x.controls.list x.controls.tdcs_page ∙ ap (λ (x : Class). spot_of x t d) (vp-class (is_current w t) (is_empty w t) n eight)
 
     its-end : Means m c (work_of (OfCall (create_vp m t p))) (page_locks t p Exclusive) (acts (Done value.Nothing) (create_changes m.pages t d p n (children w t))) []
     its-end = (

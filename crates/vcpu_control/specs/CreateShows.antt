@@ -20,6 +20,7 @@ use Rattle.word_rules.specs.Cells.{Shows, IsAs, cell, page_cell, root_cell, cont
 use Rattle.word_rules.specs.Lines.{in_lines}
 use Rattle.act_rules.proofs.Stored.{by_test}
 use Rattle.leaf_parts.specs.Words.{raised}
+use Rattle.leaf_parts.proofs.Vps.{vp-line}
 use Rattle.leaf_engine.specs.Changes.{Memory, changed_all}
 use Rattle.vcpu_control.specs.VpChanges.{create_changes}
 use Rattle.vcpu_control.specs.Shown.{shown-again}
@@ -62,7 +63,7 @@ module _ (m : Machine) (s : State) (mem : Memory) (t p d r : ℕ) (sh : Shows m 
   itself : (q : ℕ) → (q == q) ≡ true
   itself q = eq-eqb q q refl
 
-  -- nobody is in guest at the page
+  -- the count over other pages' virtual processors stays
   not-entered : (u b : ℕ) (vs : List ℕ) → ArePagesOf w.pages u kind.Tdvpr vs → entered_of_parity b (put w.vps.entered p None) vs ≡ entered_of_parity b w.vps.entered vs
   not-entered u b [] h = refl
   not-entered u b (v ∷ vs) h =
@@ -82,18 +83,6 @@ module _ (m : Machine) (s : State) (mem : Memory) (t p d r : ℕ) (sh : Shows m 
       (λ y. (let long : 40 ≤ i = leb-true 40 i y in
       let o : (i - 40 == n) ≡ false = grind (arith, nat_tests) in rw (itself t, a, entered-same (i - 6), y, others p (w.tds.vps t) (i - 40) o) refl))
       (λ y. rw (itself t, a, entered-same (i - 6), y) refl)
-
-  -- the TDVPR pages stand at 40 to 47
-  at-place : (locks : LockId → ℕ) (k : ℕ) → k < 8 → in_lines (td_lock_lines locks t (tdcs_lines w' t)) (40 + k) ≡ slice_get (w'.tds.vps t) k
-  at-place locks zero h = refl
-  at-place locks (suc zero) h = refl
-  at-place locks (suc (suc zero)) h = refl
-  at-place locks (suc (suc (suc zero))) h = refl
-  at-place locks (suc (suc (suc (suc zero)))) h = refl
-  at-place locks (suc (suc (suc (suc (suc zero))))) h = refl
-  at-place locks (suc (suc (suc (suc (suc (suc zero)))))) h = refl
-  at-place locks (suc (suc (suc (suc (suc (suc (suc zero))))))) h = refl
-  at-place locks (suc (suc (suc (suc (suc (suc (suc (suc k)))))))) h = absurd (omega arith)
 
   -- three pages
   controls : AreControls w.pages t (d ∷ r ∷ [])
@@ -137,7 +126,7 @@ module _ (m : Machine) (s : State) (mem : Memory) (t p d r : ℕ) (sh : Shows m 
       its-place = rw (itself t) (last-one p (w.tds.vps t))
 
       listed : IsAs (in_lines (td_lock_lines locks t (tdcs_lines w' t)) (40 + n)) (after.words (place.Word d (40 + n)))
-      listed = subst (λ (c : Option ℕ). IsAs c (after.words (place.Word d (40 + n)))) (sym (at-place locks n few ∙ its-place)) (rw (d-t, itself d, d-p, not-count, itself (40 + n)) refl)
+      listed = subst (λ (c : Option ℕ). IsAs c (after.words (place.Word d (40 + n)))) (sym (vp-line w' locks t n few ∙ its-place)) (rw (d-t, itself d, d-p, not-count, itself (40 + n)) refl)
 
   -- its TDR page
   tdr-here : (i : ℕ) → IsAs (in_lines (tdr_lines w t) i) (mem.words (place.Word t i)) → IsAs (in_lines (tdr_lines w' t) i) (after.words (place.Word t i))

@@ -1,17 +1,18 @@
--- The locks that the calls of virtual processors hold at their ends.
+-- The locks that the calls of virtual processors hold behind the beginnings of their rows, and at their ends.
 use Rattle.std.proofs.Common.{◌≡◌, ℕ, true, false, ◌==◌, List, [], ◌∷◌, ◌++◌, refl}
 use Rattle.std.proofs.lemmas.Bool.{eq-eqb}
 use Rattle.td_words.specs.declared.names.Mode.{Mode}
 use Rattle.td_words.specs.declared.names.Mode.TheVariants.{Shared, Exclusive}
 use Rattle.flat_core.specs.Processor.{OfPage, OfOp, Held}
 use Rattle.lock_words.specs.Grips.{holds, holds_alone}
+use Rattle.leaf_parts.proofs.Begun.{page_lock, op_lock}
 
--- P of the TDR page and O; and then P of the page besides
+-- behind the beginning: P of the TDR page and O; and at the end P of the page besides
 abbrev pub td_locks : ℕ → Mode → List Held
-td_locks t mode = record { lock = OfOp t; mode = mode } ∷ record { lock = OfPage t; mode = Shared } ∷ []
+td_locks t mode = op_lock t mode ∷ page_lock t Shared ∷ []
 
 abbrev pub page_locks : (t p : ℕ) → Mode → List Held
-page_locks t p mode = record { lock = OfPage p; mode = Exclusive } ∷ td_locks t mode
+page_locks t p mode = page_lock p Exclusive ∷ td_locks t mode
 
 module _ (t p : ℕ) (mode : Mode) (kept : List Held) (other : (p == t) ≡ false) where
   pub td-held : holds (td_locks t mode ++ kept) (OfPage t) ≡ true

@@ -7,16 +7,16 @@ use Rattle.td_words.specs.declared.names.VcpuState.TheVariants as vcpu
 use Rattle.td_words.specs.declared.names.Mode.TheVariants.{Shared, Exclusive}
 use Rattle.flat_core.specs.Conditions.{td_page, vp_in, vp_room, host_page, page_exclusive}
 use Rattle.flat_core.specs.VpRows.{create_vp, initialize_vp}
-use Rattle.act_rules.proofs.Respected.{not-true}
+use Rattle.flat_core.proofs.Tests.{not_true}
 use Rattle.leaf_engine.specs.declared.needs.Place.{Place}
 use Rattle.leaf_engine.specs.Means.{MeansRow, OfCall, work_of}
 use Rattle.leaf_parts.proofs.Begun.{td-head-means}
-use Rattle.vcpu_control.specs.VpTrees.{init_rest, init_task, create_rest, create_task}
+use Rattle.vcpu_control.specs.VpTrees.{init_rest, vp_init_task, create_rest, vp_create_task}
 use Rattle.vcpu_control.specs.InitMeans.{init_rest-means}
 use Rattle.vcpu_control.specs.CreateMeans.{create_rest-means}
 
-pub init-means : (p : Place) (t v x : ℕ) → p.machine.pages < 65536 → MeansRow (init_task p t v x)
-init-means p t v x few = record {
+pub vp_init-means : (p : Place) (t v x : ℕ) → p.machine.pages < 65536 → MeansRow (vp_init_task p t v x)
+vp_init-means p t v x few = record {
   enters_none = refl;
   means = λ c at. (
     refl,
@@ -29,14 +29,14 @@ init-means p t v x few = record {
         λ e. refl,
         λ differ. td-head-means p.machine c (work_of (OfCall (initialize_vp p.machine t v x))) t (ltb-true t p.machine.pages a) at.lawful at.shown Shared (op.Initialized ∷ [])
             (λ td. init_rest t v x) (page_exclusive v ∷ td_page c.state.world t v kind.Tdvpr ∷ vp_in c.state.world v vcpu.Created ∷ [])
-            (λ y. init_rest-means p.machine c t v x few at.lawful at.shown y.alive (ltb-true v p.machine.pages b) (not-true (v == t) differ)),
+            (λ y. init_rest-means p.machine c t v x few at.lawful at.shown y.alive (ltb-true v p.machine.pages b) (not_true (v == t) differ)),
       ),
     ),
   );
 }
 
-pub create-means : (p : Place) (t q : ℕ) → MeansRow (create_task p t q)
-create-means p t q = record {
+pub vp_create-means : (p : Place) (t q : ℕ) → MeansRow (vp_create_task p t q)
+vp_create-means p t q = record {
   enters_none = refl;
   means = λ c at. (
     refl,

@@ -1,14 +1,11 @@
 -- What the words are that the calls of virtual processors load and store.
 use Rattle.std.proofs.Common.{◌≡◌, ℕ, sym, subst}
-use Rattle.td_words.specs.declared.names.PageKind.TheVariants as kind
 use Rattle.td_words.specs.Place.{WordPlace}
-use Rattle.td_words.specs.Place as place
 use Rattle.flat_core.specs.World.{World}
 use Rattle.word_rules.specs.Guards.{Grip, Rule}
 use Rattle.word_rules.specs.Rules.{Class}
 use Rattle.word_rules.specs.Views.{no_page}
-use Rattle.word_rules.specs.Lines.{in_lines}
-use Rattle.word_rules.specs.Spots.{Spot, spot, page_spot, or_unused, vp_classes}
+use Rattle.word_rules.specs.Spots.{Spot, spot}
 use Rattle.word_rules.specs.Permissions.{MayAt}
 
 -- a word of that class, of a page of that TD
@@ -18,7 +15,3 @@ spot_of c t p = record { class = c; td = t; page = p; named = no_page }
 -- a permission at a word is one at what the word is
 pub at-spot : (g : Grip) (w : World) (q : WordPlace) (s : Spot) (rule : Class → Rule) → spot w q ≡ s → MayAt g s rule → MayAt g (spot w q) rule
 at-spot g w q s rule e a = subst (λ (x : Spot). MayAt g x rule) (sym e) a
-
--- of a TDVPR page
-pub vp-spot : (w : World) (t v i : ℕ) → w.pages.kinds v ≡ kind.Tdvpr → w.pages.owners v ≡ t → spot w (place.Word v i) ≡ spot_of (or_unused (in_lines vp_classes i)) t v
-vp-spot w t v i is its = λ j. page_spot w (its j) v (is j) i

@@ -61,11 +61,11 @@ two_pages m tdr page further =
 abbrev pub create_tree : Machine → (tdr page : ℕ) → Tree
 create_tree m tdr page = two_pages m tdr page (td_head_tree m.pages tdr Exclusive (op.Initialized ∷ op.MemoryImport ∷ []) (λ td. create_rest m.pages tdr td page))
 
-abbrev pub create_task : Place → (tdr page : ℕ) → Task
-create_task p tdr page = record { place = p; tree = create_tree p.machine tdr page; meaning = OfCall (create_vp p.machine tdr page) }
+abbrev pub vp_create_task : Place → (tdr page : ℕ) → Task
+vp_create_task p tdr page = record { place = p; tree = create_tree p.machine tdr page; meaning = OfCall (create_vp p.machine tdr page) }
 
 abbrev pub init_tree : Machine → (tdr vp x : ℕ) → Tree
 init_tree m tdr vp x = two_pages m tdr vp (td_head_tree m.pages tdr Shared (op.Initialized ∷ []) (λ td. init_rest tdr vp x))
 
-abbrev pub init_task : Place → (tdr vp x : ℕ) → Task
-init_task p tdr vp x = record { place = p; tree = init_tree p.machine tdr vp x; meaning = OfCall (initialize_vp p.machine tdr vp x) }
+abbrev pub vp_init_task : Place → (tdr vp x : ℕ) → Task
+vp_init_task p tdr vp x = record { place = p; tree = init_tree p.machine tdr vp x; meaning = OfCall (initialize_vp p.machine tdr vp x) }

@@ -8,5 +8,5 @@ mod vp_creations;
 mod vp_inits;
 mod words;
 
-pub use vp_creations::Create;
-pub use vp_inits::Init;
+pub use vp_creations::VpCreate;
+pub use vp_inits::VpInit;

@@ -1,8 +1,9 @@
 //! VP.CREATE.
 
-ghost use Rattle.std.specs.Prelude.{◌≡◌, ◌<◌, length};
-ghost use Rattle.leaf_engine.specs.Decides.{Decides};
-ghost use Rattle.leaf_engine.specs.Inside.{DecisionIn, DecidesEarly};
+ghost use Rattle.std.specs.Prelude.{◌≡◌, ◌<◌, length, map, None};
+ghost use Rattle.leaf_engine.specs.Decides.{Decides, write_of};
+ghost use Rattle.leaf_engine.specs.Inside.{DecisionIn, DecidesEarly, WritesInside};
+ghost use Rattle.vcpu_control.specs.VpChanges.{create_changes};
 ghost use Rattle.vcpu_control.specs.VpTrees.{create_rest, create_page};
 
 use crate::words::has_room;
@@ -19,31 +20,31 @@ use td_words::{
 
 /// VP.CREATE TDR PAGE: a host page becomes the TDVPR page of the TD's next virtual processor.
 #[derive(Drop)]
-pub struct Create {
+pub struct VpCreate {
     place: Place,
     tdr: u64,
     page: u64,
 }
 
-impl Create {
+impl VpCreate {
     ghost use Rattle.std.specs.Prelude.{◌≡◌};
     ghost use Rattle.leaf_engine.specs.Turns.{IsFresh};
-    ghost use Rattle.vcpu_control.specs.VpTrees.{create_task};
+    ghost use Rattle.vcpu_control.specs.VpTrees.{vp_create_task};
 
     /// The leaf of a call at a place.
-    pub fn leaf(place: Place, tdr: u64, page: u64) -> Planned<Create>
-        ensures task { ⟦<Planned<Create> as Leaf>⟧.task result ≡ create_task place tdr page }
-        ensures fresh { let leaf = ⟦<Planned<Create> as Leaf>⟧ in IsFresh (leaf.task result).tree (leaf.rest result) (leaf.tries result) (leaf.written result) (leaf.waits result) }
+    pub fn leaf(place: Place, tdr: u64, page: u64) -> Planned<VpCreate>
+        ensures task { ⟦<Planned<VpCreate> as Leaf>⟧.task result ≡ vp_create_task place tdr page }
+        ensures fresh { let leaf = ⟦<Planned<VpCreate> as Leaf>⟧ in IsFresh (leaf.task result).tree (leaf.rest result) (leaf.tries result) (leaf.written result) (leaf.waits result) }
     {
-        Planned::new(Create { place, tdr, page })
+        Planned::new(VpCreate { place, tdr, page })
     }
 }
 
-impl Plan for Create {
-    ghost use Rattle.vcpu_control.specs.VpTrees.{create_task};
-    ghost use Rattle.vcpu_control.specs.VpMeanings.{create-means};
+impl Plan for VpCreate {
+    ghost use Rattle.vcpu_control.specs.VpTrees.{vp_create_task};
+    ghost use Rattle.vcpu_control.specs.VpMeanings.{vp_create-means};
 
-    ghost task = { λ l. create_task l.place l.tdr l.page };
+    ghost task = { λ l. vp_create_task l.place l.tdr l.page };
 
     fn decide(&self, told: Told) -> Result<Verdict, Stop> {
         let mut told = told;
@@ -62,7 +63,7 @@ impl Plan for Create {
         add_vp(told, self.place, tdr, td, self.page as u16)
     }
 
-    ghost means = { λ l. create-means l.place l.tdr l.page };
+    ghost means = { λ l. vp_create-means l.place l.tdr l.page };
 }
 
 /// What comes behind the beginning of the row: there is room for another virtual processor.
@@ -101,24 +102,39 @@ fn take_page(
     let pamt = told.load(pamt_address(page))?;
     told.check(says_host(pamt), Status::PageMetadataIncorrect(page))?;
     let children = told.load(word_address(tdr, TDR_CHILDREN))?;
+    Ok(Verdict {
+        reply: Reply::Done(Value::Nothing),
+        writes: creations(place, tdr, tdcs, page, count, children),
+    })
+}
+
+/// The page's place in the TD's list is the act; then the page is cleared, becomes the TDVPR page of
+/// that index, and is counted, among the virtual processors and among the children.
+fn creations(
+    place: Place,
+    tdr: u16,
+    tdcs: u16,
+    page: u16,
+    count: u64,
+    children: u64,
+) -> ArrayVec<Write, 16>
+    requires { (tdr < place.machine.pages) × (tdcs < place.machine.pages) × (page < place.machine.pages) × (count < 8) }
+    ensures writes { result.items ≡ map (write_of place.machine.pages None) (create_changes place.machine.pages tdr tdcs page count children) }
+    ensures inside { WritesInside place.machine result.items }
+{
+    let mut writes = ArrayVec::new();
     let vcpu = PamtWord {
         kind: PageKind::Tdvpr,
         owner: tdr,
         epoch: 0,
     };
     let listed = word_address(tdcs, TDCS_VPS + count as u16);
-    let mut writes = ArrayVec::new();
+    let more = raised(place.machine.pages, children);
     writes.push(Write::Word(WordStep::Store(listed, u64::from(page))));
     writes.push(Write::Zero(page));
     writes.push(Write::Word(WordStep::Store(pamt_address(page), vcpu.pack())));
     writes.push(Write::Word(WordStep::Store(word_address(page, VP_INDEX), count)));
     writes.push(Write::Word(WordStep::Store(word_address(tdcs, TDCS_VP_COUNT), count + 1)));
-    writes.push(Write::Word(WordStep::Store(
-        word_address(tdr, TDR_CHILDREN),
-        raised(place.machine.pages, children),
-    )));
-    Ok(Verdict {
-        reply: Reply::Done(Value::Nothing),
-        writes,
-    })
+    writes.push(Write::Word(WordStep::Store(word_address(tdr, TDR_CHILDREN), more)));
+    writes
 }

@@ -18,7 +18,7 @@ use td_words::{
 
 /// VP.INIT TDR VP VALUE: a virtual processor becomes READY, and its register 0 is VALUE.
 #[derive(Drop)]
-pub struct Init {
+pub struct VpInit {
     place: Place,
     tdr: u64,
     vp: u64,
@@ -26,17 +26,17 @@ pub struct Init {
     ghost few_pages: { place.machine.pages < 65536 },
 }
 
-impl Init {
+impl VpInit {
     ghost use Rattle.std.specs.Prelude.{◌≡◌};
     ghost use Rattle.leaf_engine.specs.Turns.{IsFresh};
-    ghost use Rattle.vcpu_control.specs.VpTrees.{init_task};
+    ghost use Rattle.vcpu_control.specs.VpTrees.{vp_init_task};
 
     /// The leaf of a call at a place.
-    pub fn leaf(place: Place, tdr: u64, vp: u64, value: u64) -> Planned<Init>
-        ensures task { ⟦<Planned<Init> as Leaf>⟧.task result ≡ init_task place tdr vp value }
-        ensures fresh { let leaf = ⟦<Planned<Init> as Leaf>⟧ in IsFresh (leaf.task result).tree (leaf.rest result) (leaf.tries result) (leaf.written result) (leaf.waits result) }
+    pub fn leaf(place: Place, tdr: u64, vp: u64, value: u64) -> Planned<VpInit>
+        ensures task { ⟦<Planned<VpInit> as Leaf>⟧.task result ≡ vp_init_task place tdr vp value }
+        ensures fresh { let leaf = ⟦<Planned<VpInit> as Leaf>⟧ in IsFresh (leaf.task result).tree (leaf.rest result) (leaf.tries result) (leaf.written result) (leaf.waits result) }
     {
-        Planned::new(Init {
+        Planned::new(VpInit {
             place,
             tdr,
             vp,
@@ -45,11 +45,11 @@ impl Init {
     }
 }
 
-impl Plan for Init {
-    ghost use Rattle.vcpu_control.specs.VpTrees.{init_task};
-    ghost use Rattle.vcpu_control.specs.VpMeanings.{init-means};
+impl Plan for VpInit {
+    ghost use Rattle.vcpu_control.specs.VpTrees.{vp_init_task};
+    ghost use Rattle.vcpu_control.specs.VpMeanings.{vp_init-means};
 
-    ghost task = { λ l. init_task l.place l.tdr l.vp l.value };
+    ghost task = { λ l. vp_init_task l.place l.tdr l.vp l.value };
 
     fn decide(&self, told: Told) -> Result<Verdict, Stop> {
         let mut told = told;
@@ -68,7 +68,7 @@ impl Plan for Init {
         initialize(told, self.place, tdr, self.vp as u16, self.value)
     }
 
-    ghost means = { λ l. init-means l.place l.tdr l.vp l.value l.few_pages };
+    ghost means = { λ l. vp_init-means l.place l.tdr l.vp l.value l.few_pages };
 }
 
 /// What comes behind the beginning of the row.

@@ -3,13 +3,14 @@
 ghost use Rattle.std.specs.Prelude.{◌≡◌};
 ghost use Rattle.vcpu_control.specs.Words.{says_page_of, vcpu_told, has_room};
 
+use leaf_parts::{says_kind, says_owner};
 use td_words::{OpState, PageKind, VcpuState};
 
 /// Whether a PAMT word says that its page is of that kind and TD.
 pub fn says_page_of(tdr: u16, kind: PageKind, pamt: u64) -> bool
     ensures { result ≡ says_page_of tdr kind pamt }
 {
-    pamt % 16 == kind as u64 && pamt / 16 % 65536 == tdr as u64
+    says_kind(kind, pamt) && says_owner(tdr, pamt)
 }
 
 /// The state of a virtual processor of that number. Any other number never stands where it is told.

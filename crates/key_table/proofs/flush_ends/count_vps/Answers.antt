@@ -1,7 +1,8 @@
 use Rattle.std.proofs.Common.{rules, ◌≡◌, ◌+◌}
 use Rattle.std.specs.Prelude.{not, ◌==◌}
 use Rattle.flat_core.specs.Locks.{one_if}
-use Rattle.key_table.proofs.Counting.{wants-vp, wants-lp, counts-on, is-one, is-none, one-more-few, two-more}
+use Rattle.leaf_parts.proofs.Parts.{two-more}
+use Rattle.key_table.proofs.Counting.{wants-vp, wants-lp, counts-on, is-one, is-none, one-more-few}
 use Rattle.key_table.proofs.flush_ends.count_vps.Goals.{then-lp-ne0, else-lp-ne0}
 use Rattle.key_table.proofs.flush_ends.count_vps.Goals as goal
 

@@ -1,5 +1,6 @@
 use Rattle.std.proofs.Common.{rules}
-use Rattle.td_control.proofs.Finals.{wants-vp, wants-state, goes-by, two-more}
+use Rattle.leaf_parts.proofs.Parts.{two-more}
+use Rattle.td_control.proofs.Finals.{wants-vp, wants-state, goes-by}
 use Rattle.td_control.proofs.finalizations.vps_ready.Goals as goal
 
 pub returns-in_err-word-clause-decides : goal.returns-in_err-word-clause-decides

@@ -1,5 +1,5 @@
 use Rattle.std.proofs.Common.{◌≡◌, true, sym, ◌∙◌}
-use Rattle.td_control.specs.InitTrees.{is_hkid}
+use Rattle.leaf_parts.specs.Words.{is_hkid}
 use Rattle.td_control.proofs.Begun.{slot-first, op-second, epoch-third}
 use Rattle.td_control.proofs.td_inits.next_write.Goals as goal
 

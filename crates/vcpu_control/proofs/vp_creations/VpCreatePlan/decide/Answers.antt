@@ -7,7 +7,7 @@ use Rattle.leaf_parts.specs.Heads.{td_head_tree}
 use Rattle.leaf_parts.proofs.Parts.{exit}
 use Rattle.vcpu_control.specs.VpTrees.{create_rest}
 use Rattle.vcpu_control.proofs.Decided.{behind-stop, behind-go}
-use Rattle.vcpu_control.proofs.vp_creations.CreatePlan.decide.Goals as goal
+use Rattle.vcpu_control.proofs.vp_creations.VpCreatePlan.decide.Goals as goal
 
 pub returns-in_err-td-clause-decides : goal.returns-in_err-td-clause-decides
 returns-in_err-td-clause-decides c =

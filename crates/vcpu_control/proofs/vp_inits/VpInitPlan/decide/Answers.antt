@@ -7,7 +7,7 @@ use Rattle.leaf_parts.specs.Heads.{td_head_tree}
 use Rattle.leaf_parts.proofs.Parts.{exit}
 use Rattle.vcpu_control.specs.VpTrees.{init_rest}
 use Rattle.vcpu_control.proofs.Decided.{behind-stop, behind-go}
-use Rattle.vcpu_control.proofs.vp_inits.InitPlan.decide.Goals as goal
+use Rattle.vcpu_control.proofs.vp_inits.VpInitPlan.decide.Goals as goal
 
 pub returns-in_err-td_head-clause-decides : goal.returns-in_err-td_head-clause-decides
 returns-in_err-td_head-clause-decides c =

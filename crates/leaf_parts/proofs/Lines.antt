@@ -1,0 +1,23 @@
+-- Lines of words and of what words are, one by one.
+use Rattle.std.proofs.Common.{◌≡◌, ℕ, ◌+◌, ◌-◌, false, ◌==◌, ◌&&◌, nat_lt, nat_le, List, [], ◌∷◌}
+use Rattle.std.proofs.lemmas.Bool.{eqb-true}
+use Rattle.word_rules.specs.Lines.{Line, At, Run, in_lines}
+use Rattle.word_rules.specs.Cells.{IsAs}
+use Rattle.word_rules.specs.Rules.{Class, Unused}
+use Rattle.word_rules.specs.Spots.{or_unused}
+use Rattle.act_rules.proofs.Stored.{by_test}
+
+-- a word is as the line says that stands at its place, or as the lines behind it say
+pub line : (n i x : ℕ) (rest : List (Line ℕ)) (v : ℕ) → (i ≡ n → v ≡ x) → ((i == n) ≡ false → IsAs (in_lines rest i) v) → IsAs (in_lines (At n x ∷ rest) i) v
+line n i x rest v here further = by_test (i == n) (λ e. rw e (here (eqb-true i n e))) (λ e. rw e (further e))
+
+-- what holds of the class of each line, and of unused words, holds of each word's
+abbrev pub AllMay : (Class → Type 0) → List (Line Class) → Type 0
+AllMay P [] = P Unused
+AllMay P (At n c ∷ rest) = P c × AllMay P rest
+AllMay P (Run n k f ∷ rest) = ((j : ℕ) → P (or_unused (f j))) × AllMay P rest
+
+pub each-may : (P : Class → Type 0) (ls : List (Line Class)) → AllMay P ls → (i : ℕ) → P (or_unused (in_lines ls i))
+each-may P [] h i = h
+each-may P (At n c ∷ rest) h i = by_test (i == n) (λ e. rw e h.0) (λ e. rw e (each-may P rest h.1 i))
+each-may P (Run n k f ∷ rest) h i = by_test (nat_le n i && nat_lt i (n + k)) (λ e. rw e (h.0 (i - n))) (λ e. rw e (each-may P rest h.1 i))
