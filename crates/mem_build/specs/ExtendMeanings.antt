@@ -2,7 +2,6 @@
 use Rattle.std.proofs.Common.{◌≡◌, ℕ, zero, suc, ◌+◌, ◌/◌, ◌%◌, ◌^◌, ◌<◌, ◌≤◌, Bool, true, false, ◌==◌, ◌||◌, List, [], ◌∷◌, ◌++◌, map, Option, Some, None, refl, ap, sym, ◌∙◌, subst, inl, arith, append_assoc, append-nil}
 use Rattle.std.specs.List.{list_any, range_with_len}
 use Rattle.std.proofs.lemmas.Bool.{eq-eqb, eqb-true, ltb-true}
-use Rattle.std.proofs.lemmas.Bool.Decides.{nat_tests}
 use Rattle.td_words.specs.declared.names.PageKind.{PageKind}
 use Rattle.td_words.specs.declared.names.PageKind.TheVariants as kind
 use Rattle.td_words.specs.declared.names.EntryState.{EntryState}
@@ -44,11 +43,12 @@ use Rattle.leaf_engine.specs.Changes.{Hand, Memory, changed_all}
 use Rattle.leaf_engine.specs.Trees.{Tree, acts}
 use Rattle.leaf_engine.specs.Means.{Instant, IsHkid, Means, MeansRow, MayChange, Work, work_of, OfCall, hold}
 use Rattle.leaf_parts.proofs.Begun.{td-head-means, page_lock, op_lock, page-in, IsTd}
+use Rattle.leaf_parts.proofs.Keys.{hkid-in}
 use Rattle.leaf_parts.proofs.Told.{tdr-spot, tdr-shown}
 use Rattle.sept_parts.specs.SeptTrees.{state_tree}
 use Rattle.sept_parts.proofs.SeptBegun.{td-find-means}
 use Rattle.sept_parts.proofs.SeptLocks.{tree_held}
-use Rattle.mem_build.specs.ExtendTrees.{measure_changes, is_hkid, changes_where, words_tree, measure_tree, chunk_tree, mapped_tree, measured_tree, extend_task}
+use Rattle.mem_build.specs.ExtendTrees.{measure_changes, changes_where, words_tree, measure_tree, chunk_tree, mapped_tree, measured_tree, extend_task}
 
 abbrev initialized : List OpState
 initialized = op.Initialized ∷ []
@@ -84,9 +84,6 @@ mapped-names entry.ExportedDirtyBlockedW h = refl
 or-more : (a b : Bool) → b ≡ true → (a || b) ≡ true
 or-more true b h = refl
 or-more false b h = h
-
-pub hkid-in : (m : Machine) (h : ℕ) → IsHkid m h → is_hkid m h ≡ true
-hkid-in m h i = grind (arith, nat_tests)
 
 -- the chunk stands in its page
 chunk-fits : (gpa : ℕ) → gpa % 256 ≡ 0 → gpa % 4096 / 8 + 32 ≤ 512

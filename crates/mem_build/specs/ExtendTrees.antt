@@ -1,5 +1,5 @@
 -- The extension of a TD's measurement by a chunk as a decision over the words that it is told.
-use Rattle.std.specs.Prelude.{◌≡◌, ℕ, zero, suc, ◌+◌, ◌%◌, ◌^◌, Bool, ◌==◌, ◌&&◌, nat_lt, nat_le, if◌then◌else◌, Some, None, List, [], ◌∷◌, ◌++◌, Result, Ok, Err}
+use Rattle.std.specs.Prelude.{◌≡◌, ℕ, zero, suc, ◌+◌, ◌%◌, ◌^◌, Bool, ◌==◌, nat_lt, if◌then◌else◌, Some, None, List, [], ◌∷◌, ◌++◌, Result, Ok, Err}
 use Rattle.td_words.specs.declared.names.EntryState.TheVariants as entry
 use Rattle.td_words.specs.declared.names.OpState.TheVariants as op
 use Rattle.td_words.specs.declared.names.Mode.TheVariants.{Shared, Exclusive}
@@ -21,6 +21,7 @@ use Rattle.leaf_engine.specs.Changes.{Hand, Change, Swap}
 use Rattle.leaf_engine.specs.Decides.{Decides}
 use Rattle.leaf_engine.specs.Trees.{Tree, Lock, Load, needs, acts, feed}
 use Rattle.leaf_engine.specs.Means.{Task, OfCall}
+use Rattle.leaf_parts.specs.Words.{is_hkid}
 use Rattle.leaf_parts.specs.Heads.{td_head_tree}
 use Rattle.sept_parts.specs.SeptTrees.{tree_lock_tree, find_tree, state_tree}
 use Rattle.mem_build.specs.declared.extensions.Chunk.{Chunk}
@@ -33,10 +34,6 @@ with_chunk gpa words (Some bytes) = Some (bytes ++ chunk_records gpa (digest_byt
 -- the hasher is taken out of its slot, which is the act; it measures the chunk, and is put back
 abbrev pub measure_changes : (gpa hkid : ℕ) → List ℕ → List Change
 measure_changes gpa h words = Swap h (λ hand. None) ∷ Swap h (with_chunk gpa words) ∷ []
-
--- an HKID of the machine, which is all that a TDR ever tells
-abbrev pub is_hkid : Machine → ℕ → Bool
-is_hkid m h = nat_le 1 h && nat_le h m.hkids
 
 abbrev pub changes_where : Bool → List Change → List Change
 changes_where b cs = if b then cs else []

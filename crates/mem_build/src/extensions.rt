@@ -9,12 +9,12 @@ ghost use Rattle.leaf_engine.specs.Changes.{Hand};
 ghost use Rattle.leaf_engine.specs.Decides.{HandsNext, IsHand};
 ghost use Rattle.leaf_engine.specs.Inside.{StopIn};
 ghost use Rattle.leaf_parts.specs.Parts.{Goes, Feeds, Uses};
-ghost use Rattle.mem_build.specs.ExtendTrees.{is_hkid, with_chunk, extend_changes, mapped_tree, ComesTo};
+ghost use Rattle.mem_build.specs.ExtendTrees.{with_chunk, extend_changes, mapped_tree, ComesTo};
 ghost use Rattle.mem_build.specs.ExtendStages.{HasRoom, IsKnown, HasRoom-prop, IsKnown-prop};
 
 use arrayvec::ArrayVec;
 use leaf_engine::{ANSWERS, Leaf, Need, Place, Stop, Told, Write};
-use leaf_parts::td_head;
+use leaf_parts::{is_hkid, td_head};
 use mrtd_measure::Measure;
 use sept_parts::{find, is_state_among, tree_lock};
 use td_words::places::TDR_HKID;
@@ -225,13 +225,6 @@ fn next_write(
     }
     *written += 1;
     Some(Write::Swap((hkid - 1) as u8))
-}
-
-/// Whether a number is an HKID of the machine. No TDR tells another.
-fn is_hkid(machine: Machine, hkid: u64) -> bool
-    ensures { result ≡ is_hkid machine hkid }
-{
-    1 <= hkid && hkid <= u64::from(machine.hkids)
 }
 
 /// The hasher in hand measures the chunk at a GPA that has these words.

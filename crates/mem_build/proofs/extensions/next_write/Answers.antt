@@ -1,5 +1,5 @@
 use Rattle.std.proofs.Common.{◌≡◌, true, sym, ◌∙◌}
-use Rattle.mem_build.specs.ExtendTrees.{is_hkid}
+use Rattle.leaf_parts.specs.Words.{is_hkid}
 use Rattle.mem_build.proofs.ExtendSteps.{taken-next, put-next}
 use Rattle.mem_build.proofs.extensions.next_write.Goals as goal
 use Rattle.mem_build.proofs.extensions.next_write.Goals.{in-0, in-1}
