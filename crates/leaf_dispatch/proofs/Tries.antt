@@ -11,16 +11,18 @@ use Rattle.td_words.specs.declared.replies.Reply.TheVariants.{Done}
 use Rattle.td_words.specs.declared.replies.Value.TheVariants as value
 use Rattle.flat_core.specs.Processor.{OfPage}
 use Rattle.flat_core.specs.Tree.{word_of_gpa}
+use Rattle.flat_core.specs.MemRows.{entry_value}
 use Rattle.flat_core.specs.Table.{most_tries}
 use Rattle.leaf_engine.specs.declared.needs.Place.{Place}
 use Rattle.leaf_engine.specs.Changes.{Change}
-use Rattle.leaf_engine.specs.Trees.{Tree, Lock, acts}
+use Rattle.leaf_engine.specs.Trees.{Tree, Lock, answers, acts}
 use Rattle.leaf_parts.specs.Words.{says_host, page_told, vps_told}
 use Rattle.first_leaves.specs.HostTrees.{read_word}
 use Rattle.key_table.specs.CacheTrees.{mark_keys}
 use Rattle.key_table.specs.FlushTrees.{count_vps, flush_vps}
 use Rattle.key_table.specs.ReclaimTrees.{reclaim_rest}
 use Rattle.td_control.specs.FinalTrees.{vps_tree, final_changes}
+use Rattle.sept_walk.specs.SecureEpt.{index_at}
 use Rattle.sept_parts.specs.declared.finds.Found.{Found}
 use Rattle.sept_parts.specs.SeptTrees.{walk_on_tree, find_tree, state_tree}
 use Rattle.mem_build.specs.SeptAddTrees.{sept_add_rest}
@@ -89,8 +91,8 @@ few_tries p (call.MngKeyFreeid tdr) = (omega arith, λ pamt life. (omega arith, 
 few_tries p (call.MrFinalize tdr) = (omega arith, λ pamt life count tdcs. (omega arith, λ op hkid n. vps-few 0 p.machine.pages (page_told p.machine.pages tdcs) 0 (vps_told n) true (acts (Done value.Nothing) (final_changes p.machine (page_told p.machine.pages tdcs) hkid)) tt))
 few_tries p (call.VpCreate tdr page) = (omega arith, λ pamt life count tdcs. (omega arith, λ op vps expected. (omega arith, λ host children. tt)))
 few_tries p (call.VpInit tdr vp value) = (omega arith, λ pamt life count tdcs. (omega arith, λ op. (omega arith, λ host state. tt)))
-few_tries p (call.MemSeptAdd tdr gpa level page) = (omega arith, λ pamt life count tdcs. (omega arith, λ op. (omega arith, find-few 1 p.machine.pages tdr gpa level (sept_add_rest p.machine.pages tdr gpa level page) (λ f. (omega arith, λ host children. tt)))))
-few_tries p (call.MemSeptRd tdr gpa level) = (omega arith, λ pamt life count tdcs. (omega arith, λ op. (omega arith, find-few 0 p.machine.pages tdr gpa level _ (λ f. tt))))
+few_tries p (call.MemSeptAdd tdr gpa level page) = (omega arith, λ pamt life count tdcs. (omega arith, λ op. (omega arith, find-few 1 p.machine.pages tdr gpa level (sept_add_rest p.machine.pages tdr page (index_at level gpa)) (λ f. (omega arith, λ host children. tt)))))
+few_tries p (call.MemSeptRd tdr gpa level) = (omega arith, λ pamt life count tdcs. (omega arith, λ op. (omega arith, find-few 0 p.machine.pages tdr gpa level (λ (f : Found). answers (Done (entry_value f.entry))) (λ f. tt))))
 few_tries p (call.MemPageAdd tdr gpa page source) = page_add-few p.machine tdr gpa page source
 few_tries p (call.MrExtend tdr gpa) = (omega arith, λ pamt life count tdcs. (omega arith, λ op. (omega arith, find-few 1 p.machine.pages tdr gpa 0 (λ (f : Found). state_tree f.entry (entry.Mapped ∷ []) (Lock (OfPage f.entry.page) (place.Lock f.entry.page) Shared (measured_tree p.machine tdr gpa f.entry.page)))
     (λ f. (omega arith, λ hkid. words-few 0 f.entry.page (word_of_gpa gpa) 32 [] (measure_tree p.machine gpa hkid) (λ xs. tt))))))

@@ -7,3 +7,12 @@ returns-in-VpCreate-clause-task c = c.leaf-in-VpCreate.ensures.task ∙ sym (ap 
 
 pub returns-in-VpInit-clause-task : goal.returns-in-VpInit-clause-task
 returns-in-VpInit-clause-task c = c.leaf-in-VpInit.ensures.task ∙ sym (ap (task_of c.args.place) c.in-VpInit.is)
+
+pub returns-in-MemSeptAdd-clause-task : goal.returns-in-MemSeptAdd-clause-task
+returns-in-MemSeptAdd-clause-task c = c.leaf-in-MemSeptAdd.ensures.task ∙ sym (ap (task_of c.args.place) c.in-MemSeptAdd.is)
+
+pub returns-in-MemSeptRd-clause-task : goal.returns-in-MemSeptRd-clause-task
+returns-in-MemSeptRd-clause-task c = c.leaf-in-MemSeptRd.ensures.task ∙ sym (ap (task_of c.args.place) c.in-MemSeptRd.is)
+
+pub returns-in-MrExtend-clause-task : goal.returns-in-MrExtend-clause-task
+returns-in-MrExtend-clause-task c = c.leaf-in-MrExtend.ensures.task ∙ sym (ap (task_of c.args.place) c.in-MrExtend.is)
