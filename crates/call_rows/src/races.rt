@@ -3,7 +3,7 @@
 //! A call that succeeds with n locks has 2n + 1 events: its tries, its act, and its releases in
 //! reverse order. So the calls of KEYS have 8 events, those of BUILT 23, and those of ENDED 13.
 
-use crate::rows::{BUILT, EMPTY, ENDED, KEYS, replays};
+use crate::rows::{BUILT, EMPTY, ENDED, KEYS, replay_races, replays};
 use std::test::Fail;
 
 // Rows of processors 0, 1 and 2 under a schedule.
@@ -76,39 +76,6 @@ const AT_THE_TDR: &[(&str, &[&[&str]])] = &[
 ];
 
 const AT_A_PAGE: &[(&str, &[&[&str]])] = &[
-    // MNG.ADDCX has page 2 alone until its last event but one, and the TDR until its last.
-    (
-        "0*10 1*2 2*2",
-        &[
-            &[KEYS, "SUCCESS | MNG.ADDCX 1 2"],
-            &["OPERAND_BUSY P 2 | HOST.READ 2 0"],
-            &["OPERAND_BUSY P 1 | MNG.RD 1 LIFE"],
-        ],
-    ),
-    (
-        "0*11 1*2 2*2",
-        &[
-            &[KEYS, "SUCCESS | MNG.ADDCX 1 2"],
-            &["OPERAND_BUSY P 2 | HOST.WRITE 2 0 9"],
-            &["OPERAND_BUSY P 1 | HOST.READ 1 0"],
-        ],
-    ),
-    (
-        "0*12 1*3 2*2",
-        &[
-            &[KEYS, "SUCCESS | MNG.ADDCX 1 2"],
-            &["NOT_HOST | HOST.WRITE 2 0 9"],
-            &["OPERAND_BUSY P 1 | MNG.RD 1 LIFE"],
-        ],
-    ),
-    (
-        "0*13 1*3 2*3",
-        &[
-            &[KEYS, "SUCCESS | MNG.ADDCX 1 2"],
-            &["SUCCESS PT_TDCX 1 0 | PHYMEM.PAGE.RDMD 2"],
-            &["SUCCESS TD_KEYS_CONFIGURED | MNG.RD 1 LIFE"],
-        ],
-    ),
     // A call that is denied its second lock gives the first one back.
     (
         "1*8 0 1*2 2*2 1 2*3",
@@ -145,14 +112,6 @@ const AT_A_PAGE: &[(&str, &[&[&str]])] = &[
 ];
 
 const AT_THE_OP_STATE: &[(&str, &[&[&str]])] = &[
-    // MNG.RD shares the op state, and MR.FINALIZE wants it alone.
-    (
-        "0*25 1*3",
-        &[
-            &[BUILT, "SUCCESS 1 | MNG.RD 1 EPOCH"],
-            &["OPERAND_BUSY O | MR.FINALIZE 1"],
-        ],
-    ),
     (
         "0*25 1*3",
         &[
@@ -163,8 +122,6 @@ const AT_THE_OP_STATE: &[(&str, &[&[&str]])] = &[
             ],
         ],
     ),
-    // The op state is judged only once it is locked.
-    ("0*24 1*5", &[&[BUILT, EMPTY], &["SUCCESS | MR.FINALIZE 1"]]),
     // Only one MR.FINALIZE measures.
     (
         "0*24 1*2 0",
@@ -191,21 +148,6 @@ const AT_THE_OP_STATE: &[(&str, &[&[&str]])] = &[
             &["SUCCESS | VP.INIT 1 5 2 | MR.FINALIZE 1"],
         ],
     ),
-    // The same VCPU, held by the other processor and after it.
-    (
-        "0*33 1*5",
-        &[
-            &[BUILT, "SUCCESS | VP.CREATE 1 4 | VP.INIT 1 4 1"],
-            &["OPERAND_BUSY P 4 | VP.INIT 1 4 2"],
-        ],
-    ),
-    (
-        "0*35 1*7",
-        &[
-            &[BUILT, "SUCCESS | VP.CREATE 1 4 | VP.INIT 1 4 1"],
-            &["VCPU_STATE_INCORRECT READY | VP.INIT 1 4 2"],
-        ],
-    ),
     (
         "0*33 1*3",
         &[
@@ -224,55 +166,63 @@ const AT_THE_OP_STATE: &[(&str, &[&[&str]])] = &[
     ),
 ];
 
-const AT_THE_KEY_TABLE: &[(&str, &[&[&str]])] = &[
-    (
-        "0*11 1*3 2",
-        &[
-            &["SUCCESS | MNG.CREATE 1 1 | MNG.VPFLUSHDONE 1 | PHYMEM.CACHE.WB"],
-            &["OPERAND_BUSY K | MNG.CREATE 2 2"],
-            &["OPERAND_BUSY K | PHYMEM.CACHE.WB"],
-        ],
-    ),
+const AT_THE_KEY_TABLE: &[(&str, &[&[&str]])] = &[(
+    "0*11 1*3 2",
+    &[
+        &["SUCCESS | MNG.CREATE 1 1 | MNG.VPFLUSHDONE 1 | PHYMEM.CACHE.WB"],
+        &["OPERAND_BUSY K | MNG.CREATE 2 2"],
+        &["OPERAND_BUSY K | PHYMEM.CACHE.WB"],
+    ],
+)];
+
+const PAIRS: &[&[&str]] = &[
+    // MNG.ADDCX has page 2 alone until its last event but one, and the TDR until its last.
+    &[
+        KEYS,
+        "SUCCESS | MNG.ADDCX 1 2",
+        "0*10 1*2 | OPERAND_BUSY P 2 | HOST.READ 2 0",
+        "0*10 1*2 | OPERAND_BUSY P 1 | MNG.RD 1 LIFE",
+        "0*11 1*2 | OPERAND_BUSY P 2 | HOST.WRITE 2 0 9",
+        "0*11 1*2 | OPERAND_BUSY P 1 | HOST.READ 1 0",
+        "0*12 1*3 | NOT_HOST | HOST.WRITE 2 0 9",
+        "0*12 1*2 | OPERAND_BUSY P 1 | MNG.RD 1 LIFE",
+        "0*13 1*3 | SUCCESS PT_TDCX 1 0 | PHYMEM.PAGE.RDMD 2",
+        "0*13 1*3 | SUCCESS TD_KEYS_CONFIGURED | MNG.RD 1 LIFE",
+    ],
+    // MNG.RD shares the op state, and MR.FINALIZE wants it alone.
+    &[
+        BUILT,
+        "SUCCESS 1 | MNG.RD 1 EPOCH",
+        "0*25 1*3 | OPERAND_BUSY O | MR.FINALIZE 1",
+    ],
+    // The op state is judged only once it is locked.
+    &[BUILT, EMPTY, "0*24 1*5 | SUCCESS | MR.FINALIZE 1"],
+    // The same VCPU, held by the other processor and after it.
+    &[
+        BUILT,
+        "SUCCESS | VP.CREATE 1 4 | VP.INIT 1 4 1",
+        "0*33 1*5 | OPERAND_BUSY P 4 | VP.INIT 1 4 2",
+        "0*35 1*7 | VCPU_STATE_INCORRECT READY | VP.INIT 1 4 2",
+    ],
     // A write-back while the flush holds the key table is refused, and so it counts for nothing.
-    (
-        "0*8 1",
-        &[
-            &[
-                "SUCCESS | MNG.CREATE 1 1 | MNG.VPFLUSHDONE 1",
-                "CACHE_WB_NOT_DONE | MNG.KEY.FREEID 1",
-            ],
-            &["OPERAND_BUSY K | PHYMEM.CACHE.WB"],
-        ],
-    ),
-    (
-        "0*9 1*3",
-        &[
-            &["SUCCESS | MNG.CREATE 1 1 | MNG.VPFLUSHDONE 1 | MNG.KEY.FREEID 1"],
-            &["SUCCESS | PHYMEM.CACHE.WB"],
-        ],
-    ),
+    &[
+        "SUCCESS | MNG.CREATE 1 1 | MNG.VPFLUSHDONE 1",
+        "CACHE_WB_NOT_DONE | MNG.KEY.FREEID 1",
+        "0*8 1 | OPERAND_BUSY K | PHYMEM.CACHE.WB",
+    ],
+    &[
+        "SUCCESS | MNG.CREATE 1 1 | MNG.VPFLUSHDONE 1",
+        "SUCCESS | MNG.KEY.FREEID 1",
+        "0*9 1*3 | SUCCESS | PHYMEM.CACHE.WB",
+    ],
     // The HKID is free with the act of MNG.KEY.FREEID, and given once the key table is released.
-    (
-        "0*13 1*5",
-        &[
-            &["SUCCESS | MNG.CREATE 1 1", ENDED],
-            &["HKID_NOT_FREE | MNG.CREATE 2 1"],
-        ],
-    ),
-    (
-        "0*16 1*3",
-        &[
-            &["SUCCESS | MNG.CREATE 1 1", ENDED],
-            &["OPERAND_BUSY K | MNG.CREATE 2 1"],
-        ],
-    ),
-    (
-        "0*17 1*5",
-        &[
-            &["SUCCESS | MNG.CREATE 1 1", ENDED],
-            &["SUCCESS | MNG.CREATE 2 1"],
-        ],
-    ),
+    &[
+        "SUCCESS | MNG.CREATE 1 1",
+        ENDED,
+        "0*13 1*5 | HKID_NOT_FREE | MNG.CREATE 2 1",
+        "0*16 1*3 | OPERAND_BUSY K | MNG.CREATE 2 1",
+        "0*17 1*5 | SUCCESS | MNG.CREATE 2 1",
+    ],
 ];
 
 const GIVEN_BACK: &[&str] = &[
@@ -345,7 +295,7 @@ fn calls_meet_at_locks(rt: HostRuntime) -> Result<(), Fail> {
             replays(&rt, rt.alloc(), "3 32 2", schedule, rows)?;
         }
     }
-    Ok(())
+    replay_races(&rt, rt.alloc(), PAIRS)
 }
 
 // Without a schedule each processor runs to its end, in the order of their numbers.

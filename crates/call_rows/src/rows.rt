@@ -13,6 +13,12 @@ pub const KEYS: &str = "SUCCESS | MNG.CREATE 1 1 | MNG.KEY.CONFIG 1";
 pub const BUILT: &str =
     "SUCCESS | MNG.CREATE 1 1 | MNG.KEY.CONFIG 1 | MNG.ADDCX 1 2 | MNG.ADDCX 1 3 | MNG.INIT 1";
 
+/// The same with a VCPU and with the secure EPT of its first 2 MB, in 64 events.
+pub const TREE: &str =
+    "SUCCESS | MNG.CREATE 1 1 | MNG.KEY.CONFIG 1 | MNG.ADDCX 1 2 | MNG.ADDCX 1 3 | MNG.INIT 1 \
+    | VP.CREATE 1 4 | VP.INIT 1 4 0 | MEM.SEPT.ADD 1 0 3 5 | MEM.SEPT.ADD 1 0 2 6 \
+    | MEM.SEPT.ADD 1 0 1 7";
+
 /// From there to the first page that may be reclaimed.
 pub const ENDED: &str = "SUCCESS | MNG.VPFLUSHDONE 1 | PHYMEM.CACHE.WB | MNG.KEY.FREEID 1";
 
@@ -77,5 +83,32 @@ pub fn replays(
     let status = tdx_main(alloc, &words, &mut files, &mut out, &NoGate);
     assert_eq!(rt; status, 0, "status of {script}");
     assert_eq!(rt; out.bytes.as_slice(), want.as_bytes(), "text of {script}");
+    Ok(())
+}
+
+/// Replays rows of one processor each, on a machine.
+pub fn replay_each(
+    rt: &impl Abort,
+    alloc: Global,
+    machine: &str,
+    rows: &[&[&str]],
+) -> Result<(), Fail> {
+    for row in rows {
+        replays(rt, alloc, machine, "", &[row])?;
+    }
+    Ok(())
+}
+
+/// Replays races of two processors. Each row has what processor 0 calls first, what it calls then,
+/// and schedules, each with what processor 1 calls under it.
+pub fn replay_races(rt: &impl Abort, alloc: Global, rows: &[&[&str]]) -> Result<(), Fail> {
+    for row in rows {
+        let (first, row) = row.split_first().ok_or("no calls")?;
+        let (then, races) = row.split_first().ok_or("no calls")?;
+        for race in races {
+            let (schedule, one) = race.split_once(" | ").ok_or("no bar")?;
+            replays(rt, alloc, "2 32 1", schedule, &[&[first, then], &[one]])?;
+        }
+    }
     Ok(())
 }

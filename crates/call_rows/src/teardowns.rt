@@ -1,6 +1,6 @@
 //! From MNG.VPFLUSHDONE to the return of the last page, and what the next TD finds.
 
-use crate::rows::{BUILT, EMPTY, ENDED, replays};
+use crate::rows::{BUILT, EMPTY, ENDED, replay_each};
 use std::test::Fail;
 
 const ORDERS: &[&[&str]] = &[
@@ -55,10 +55,7 @@ const ORDERS: &[&[&str]] = &[
 
 #[test]
 fn pages_come_back_with_the_tdr_last(rt: HostRuntime) -> Result<(), Fail> {
-    for row in ORDERS {
-        replays(&rt, rt.alloc(), "1 32 2", "", &[row])?;
-    }
-    Ok(())
+    replay_each(&rt, rt.alloc(), "1 32 2", ORDERS)
 }
 
 // Words of TDR, TDCS and TDVPR that weren't 0 while the pages were the TD's.
@@ -102,10 +99,7 @@ const CLEAN: &[&[&str]] = &[
 
 #[test]
 fn pages_come_back_cleared(rt: HostRuntime) -> Result<(), Fail> {
-    for row in CLEAN {
-        replays(&rt, rt.alloc(), "1 32 1", "", &[row])?;
-    }
-    Ok(())
+    replay_each(&rt, rt.alloc(), "1 32 1", CLEAN)
 }
 
 // Another TD with HKID 1, and with HKID 2.
@@ -202,8 +196,5 @@ const HKIDS: &[&[&str]] = &[
 
 #[test]
 fn hkids_go_from_td_to_td(rt: HostRuntime) -> Result<(), Fail> {
-    for row in HKIDS {
-        replays(&rt, rt.alloc(), "1 32 3", "", &[row])?;
-    }
-    Ok(())
+    replay_each(&rt, rt.alloc(), "1 32 3", HKIDS)
 }

@@ -1,6 +1,6 @@
 //! VCPUs, and the measurement that ends where all of them are READY.
 
-use crate::rows::{BUILT, EMPTY, KEYS, replays};
+use crate::rows::{BUILT, EMPTY, KEYS, replay_each};
 use std::test::Fail;
 
 const EIGHT: &str = "SUCCESS | VP.CREATE 1 10 | VP.CREATE 1 11 | VP.CREATE 1 12 | VP.CREATE 1 13 \
@@ -89,8 +89,5 @@ const ROWS: &[&[&str]] = &[
 
 #[test]
 fn vcpus_are_made_ready_one_by_one(rt: HostRuntime) -> Result<(), Fail> {
-    for row in ROWS {
-        replays(&rt, rt.alloc(), "1 32 2", "", &[row])?;
-    }
-    Ok(())
+    replay_each(&rt, rt.alloc(), "1 32 2", ROWS)
 }
