@@ -94,5 +94,14 @@ few_tries p (call.VpInit tdr vp value) = (omega arith, λ pamt life count tdcs. 
 few_tries p (call.MemSeptAdd tdr gpa level page) = (omega arith, λ pamt life count tdcs. (omega arith, λ op. (omega arith, find-few 1 p.machine.pages tdr gpa level (sept_add_rest p.machine.pages tdr page (index_at level gpa)) (λ f. (omega arith, λ host children. tt)))))
 few_tries p (call.MemSeptRd tdr gpa level) = (omega arith, λ pamt life count tdcs. (omega arith, λ op. (omega arith, find-few 0 p.machine.pages tdr gpa level (λ (f : Found). answers (Done (entry_value f.entry))) (λ f. tt))))
 few_tries p (call.MemPageAdd tdr gpa page source) = page_add-few p.machine tdr gpa page source
-few_tries p (call.MrExtend tdr gpa) = (omega arith, λ pamt life count tdcs. (omega arith, λ op. (omega arith, find-few 1 p.machine.pages tdr gpa 0 (λ (f : Found). state_tree f.entry (entry.Mapped ∷ []) (Lock (OfPage f.entry.page) (place.Lock f.entry.page) Shared (measured_tree p.machine tdr gpa f.entry.page)))
-    (λ f. (omega arith, λ hkid. words-few 0 f.entry.page (word_of_gpa gpa) 32 [] (measure_tree p.machine gpa hkid) (λ xs. tt))))))
+few_tries p (call.MrExtend tdr gpa) = (
+  omega arith,
+  λ pamt life count tdcs. (
+    omega arith,
+    λ op. (
+      omega arith,
+      find-few 1 p.machine.pages tdr gpa 0 (λ (f : Found). state_tree f.entry (entry.Mapped ∷ []) (Lock (OfPage f.entry.page) (place.Lock f.entry.page) Shared (measured_tree p.machine tdr gpa f.entry.page)))
+          (λ f. (omega arith, λ hkid. words-few 0 f.entry.page (word_of_gpa gpa) 32 [] (measure_tree p.machine gpa hkid) (λ xs. tt))),
+    ),
+  ),
+)

@@ -152,9 +152,21 @@ pub fn leaf_of(place: Place, call: &Call) -> AnyLeaf
         Call::MrFinalize { tdr } => AnyLeaf::Finalize(Finalize::leaf(place, tdr)),
         Call::VpCreate { tdr, page } => AnyLeaf::VpCreate(VpCreate::leaf(place, tdr, page)),
         Call::VpInit { tdr, vp, value } => AnyLeaf::VpInit(VpInit::leaf(place, tdr, vp, value)),
-        Call::MemSeptAdd { tdr, gpa, level, page } => AnyLeaf::SeptAdd(SeptAdd::leaf(place, tdr, gpa, level, page)),
-        Call::MemSeptRd { tdr, gpa, level } => AnyLeaf::SeptRd(SeptRd::leaf(place, tdr, gpa, level)),
-        Call::MemPageAdd { tdr, gpa, page, source } => AnyLeaf::PageAdd(PageAdd::leaf(place, tdr, gpa, page, source)),
+        Call::MemSeptAdd {
+            tdr,
+            gpa,
+            level,
+            page,
+        } => AnyLeaf::SeptAdd(SeptAdd::leaf(place, tdr, gpa, level, page)),
+        Call::MemSeptRd { tdr, gpa, level } => AnyLeaf::SeptRd(SeptRd::leaf(
+            place, tdr, gpa, level,
+        )),
+        Call::MemPageAdd {
+            tdr,
+            gpa,
+            page,
+            source,
+        } => AnyLeaf::PageAdd(PageAdd::leaf(place, tdr, gpa, page, source)),
         Call::MrExtend { tdr, gpa } => AnyLeaf::Extend(Extend::leaf(place, tdr, gpa)),
     }
 }
