@@ -7,3 +7,4 @@ pub mod FirstBads
 pub mod Forms
 pub mod Items
 pub mod Spelled
+pub mod InRange

@@ -115,7 +115,7 @@ fn write_items(schedule: &mut Vec<u8>, line: u64, lps: u8, text: &[u8]) -> Resul
 
 /// Puts the items of a schedule line behind those of the lines before, written out. `text` is what
 /// stands in the line behind its first word. After a fault the schedule isn't read again.
-#[tactic(auto, unfolding(crate::specs::Schedule::schedule_of))]
+#[tactic(auto, unfolding(crate::specs::Schedule::schedule_of), using(crate::proofs::InRange::in_range_are_items))]
 pub fn schedule_line(
     schedule: &mut Vec<u8>,
     line: u64,
@@ -127,11 +127,11 @@ pub fn schedule_line(
     if next_word(text).is_none() {
         return Err(bad(line, Reason::Count));
     }
-    if !are_items(text) {
-        return Err(bad(line, Reason::Number));
+    if are_in_range(lps, text) {
+        write_items(schedule, line, lps, text)
+    } else if are_items(text) {
+        Err(bad(line, Reason::Range))
+    } else {
+        Err(bad(line, Reason::Number))
     }
-    if !are_in_range(lps, text) {
-        return Err(bad(line, Reason::Range));
-    }
-    write_items(schedule, line, lps, text)
 }
