@@ -1,6 +1,6 @@
 //! Arguments are judged before anything else.
 
-use crate::rows::{BUILT, ENDED, replay_each};
+use crate::rows::{BUILT, ENDED, replays};
 use std::test::Fail;
 
 // Of two bad arguments the first counts, whether the page is out of range or named twice.
@@ -55,66 +55,56 @@ const EQUAL: &str = "OPERAND_INVALID 2 | MNG.ADDCX 1 1 | VP.CREATE 1 1 | VP.INIT
     | MNG.ADDCX 5 5 | VP.CREATE 5 5 | VP.INIT 5 5 0";
 
 // Numbers that would be in range if only their low bits counted.
-const LONG_FIRST: &str = "OPERAND_INVALID 1 | HOST.READ 65537 0 | PHYMEM.PAGE.RDMD 65537 \
+const BIG_FIRST: &str = "OPERAND_INVALID 1 | HOST.READ 65537 0 | PHYMEM.PAGE.RDMD 65537 \
     | PHYMEM.PAGE.RECLAIM 65537 1 | MNG.CREATE 4294967301 1 | MNG.KEY.CONFIG 65537 \
     | MNG.ADDCX 65537 5 | MNG.INIT 4294967297 | MNG.RD 65537 LIFE | MNG.RD 65537 OP \
     | MR.FINALIZE 4294967297 | MNG.VPFLUSHDONE 65537 | MNG.KEY.FREEID 18446744073709551615 \
     | VP.CREATE 65537 5 | VP.INIT 65537 5 0 | MR.EXTEND 65537 0 | MEM.SEPT.ADD 65537 0 3 5 \
     | MEM.SEPT.RD 65537 0 3 | MEM.PAGE.ADD 4294967297 0 5 0";
 
-const LONG_SECOND: &str = "OPERAND_INVALID 2 | HOST.READ 5 65536 | HOST.WRITE 5 4294967296 1 \
+const BIG_SECOND: &str = "OPERAND_INVALID 2 | HOST.READ 5 65536 | HOST.WRITE 5 4294967296 1 \
     | PHYMEM.PAGE.RECLAIM 1 65537 | MNG.CREATE 5 257 | MNG.CREATE 5 258 | MNG.CREATE 5 65538 \
     | MNG.CREATE 5 4294967298 | MNG.ADDCX 1 65541 | VP.CREATE 1 4294967301 \
     | VP.INIT 1 18446744073709551615 0 | MR.EXTEND 1 0xffffffffffffff00 \
     | MEM.SEPT.ADD 1 0x1000000000000 3 5 | MEM.SEPT.RD 1 0x8000000000000000 0 \
     | MEM.PAGE.ADD 1 0xfffffffffffff000 5 0";
 
-const ROWS: &[&[&str]] = &[
-    &[
-        FIRST,
-        SECOND,
-        EQUAL,
-        THIRD,
-        FOURTH,
-        BETWEEN,
-        LONG_FIRST,
-        LONG_SECOND,
-        "SUCCESS PT_NDA 0 0 | PHYMEM.PAGE.RDMD 1 | PHYMEM.PAGE.RDMD 5",
-        "PAGE_METADATA_INCORRECT 1 | PHYMEM.PAGE.RECLAIM 1 1",
-    ],
-    &[
-        BUILT,
-        FIRST,
-        SECOND,
-        EQUAL,
-        THIRD,
-        FOURTH,
-        BETWEEN,
-        LONG_FIRST,
-        LONG_SECOND,
-        AT_ENTRIES,
-        "SUCCESS FREE | MEM.SEPT.RD 1 0x8000000000 3 | MEM.SEPT.RD 1 0x7f8000000000 3",
-        "SUCCESS INITIALIZED | MNG.RD 1 OP",
-        "SUCCESS PT_NDA 0 0 | PHYMEM.PAGE.RDMD 5",
-        // VALUE may be any number.
-        "SUCCESS | VP.CREATE 1 5 | VP.INIT 1 5 18446744073709551615",
-    ],
-    &[
-        BUILT,
-        ENDED,
-        FIRST,
-        SECOND,
-        EQUAL,
-        THIRD,
-        FOURTH,
-        BETWEEN,
-        LONG_FIRST,
-        LONG_SECOND,
-        "SUCCESS TD_TEARDOWN | MNG.RD 1 LIFE",
-    ],
+// In the order in which a row has them.
+const FAULTS: &[&str] = &[
+    FIRST, SECOND, EQUAL, THIRD, FOURTH, BETWEEN, BIG_FIRST, BIG_SECOND,
+];
+
+// What is called before the faults, and behind them.
+const ROWS: &[(&[&str], &[&str])] = &[
+    (
+        &[],
+        &[
+            "SUCCESS PT_NDA 0 0 | PHYMEM.PAGE.RDMD 1 | PHYMEM.PAGE.RDMD 5",
+            "PAGE_METADATA_INCORRECT 1 | PHYMEM.PAGE.RECLAIM 1 1",
+        ],
+    ),
+    (
+        &[BUILT],
+        &[
+            AT_ENTRIES,
+            "SUCCESS FREE | MEM.SEPT.RD 1 0x8000000000 3 | MEM.SEPT.RD 1 0x7f8000000000 3",
+            "SUCCESS INITIALIZED | MNG.RD 1 OP",
+            "SUCCESS PT_NDA 0 0 | PHYMEM.PAGE.RDMD 5",
+            // VALUE may be any number.
+            "SUCCESS | VP.CREATE 1 5 | VP.INIT 1 5 18446744073709551615",
+        ],
+    ),
+    (&[BUILT, ENDED], &["SUCCESS TD_TEARDOWN | MNG.RD 1 LIFE"]),
 ];
 
 #[test]
 fn arguments_are_judged_first(rt: HostRuntime) -> Result<(), Fail> {
-    replay_each(&rt, rt.alloc(), "1 8 2", ROWS)
+    for (before, behind) in ROWS {
+        let mut row = Vec::new(rt.alloc());
+        for lists in [*before, FAULTS, *behind] {
+            row.extend_from_slice(lists)?;
+        }
+        replays(&rt, rt.alloc(), "1 8 2", "", &[row.as_slice()])?;
+    }
+    Ok(())
 }

@@ -6,174 +6,123 @@
 use crate::rows::{BUILT, EMPTY, ENDED, KEYS, replay_races, replays};
 use std::test::Fail;
 
-// Rows of processors 0, 1 and 2 under a schedule.
-const AT_THE_TDR: &[(&str, &[&[&str]])] = &[
-    // Processor 2 is denied by processor 1, which is being refused.
-    (
-        "0*6 1 0*2 2 1",
-        &[
-            &[KEYS],
-            &["OPERAND_BUSY P 1 | HOST.READ 1 0"],
-            &["OPERAND_BUSY P 1 | MNG.ADDCX 1 2"],
-        ],
-    ),
-    // It isn't where processor 1 undid its try before.
-    (
-        "0*6 1 0*2 1 2",
-        &[
-            &[KEYS],
-            &["OPERAND_BUSY P 1 | HOST.READ 1 0"],
-            &["SUCCESS | MNG.ADDCX 1 2"],
-        ],
-    ),
-    // Nor where processor 1 comes after the last event of MNG.KEY.CONFIG.
-    (
-        "0*8 1 2*2",
-        &[
-            &[KEYS],
-            &["SUCCESS 0 | HOST.READ 1 0"],
-            &["OPERAND_BUSY P 1 | MNG.ADDCX 1 2"],
-        ],
-    ),
-    // The keys come too late, or not at all.
-    (
-        "0*5 1*5",
-        &[
-            &[
-                "SUCCESS | MNG.CREATE 1 1",
-                "LIFECYCLE_STATE_INCORRECT TD_BLOCKED | MNG.KEY.CONFIG 1",
-            ],
-            &["SUCCESS | MNG.VPFLUSHDONE 1"],
-            &["SUCCESS TD_BLOCKED | MNG.RD 1 LIFE"],
-        ],
-    ),
-    (
-        "0*6 1 2*2",
-        &[
-            &[KEYS],
-            &["OPERAND_BUSY P 1 | MNG.VPFLUSHDONE 1"],
-            &["OPERAND_BUSY P 1 | MNG.RD 1 LIFE"],
-        ],
-    ),
-    // Reads share the TDR.
-    (
-        "0*8 0 1 2 0 1 2 0 1 2",
-        &[
-            &[KEYS, "SUCCESS TD_KEYS_CONFIGURED | MNG.RD 1 LIFE"],
-            &["SUCCESS TD_KEYS_CONFIGURED | MNG.RD 1 LIFE"],
-            &["SUCCESS PT_TDR 1 0 | PHYMEM.PAGE.RDMD 1"],
-        ],
-    ),
-    // A bad argument is answered whoever holds the page.
-    (
-        "0 1 2",
-        &[
-            &["SUCCESS | MNG.CREATE 1 1"],
-            &["OPERAND_INVALID 2 | MNG.ADDCX 1 1"],
-            &["OPERAND_INVALID 2 | VP.INIT 1 1 0"],
-        ],
-    ),
-];
-
-const AT_A_PAGE: &[(&str, &[&[&str]])] = &[
-    // A call that is denied its second lock gives the first one back.
-    (
-        "1*8 0 1*2 2*2 1 2*3",
-        &[
-            &["SUCCESS 0 | HOST.READ 2 0"],
-            &[KEYS, "OPERAND_BUSY P 2 | MNG.ADDCX 1 2"],
-            &[
-                "OPERAND_BUSY P 1 | MNG.RD 1 LIFE",
-                "SUCCESS TD_KEYS_CONFIGURED | MNG.RD 1 LIFE",
-            ],
-        ],
-    ),
-    // Two TDs want the same page.
-    (
-        "1*8 0*10 1*3",
-        &[
-            &[KEYS, "SUCCESS | MNG.ADDCX 1 9"],
-            &[
-                "SUCCESS | MNG.CREATE 5 2 | MNG.KEY.CONFIG 5",
-                "OPERAND_BUSY P 9 | MNG.ADDCX 5 9",
-            ],
-        ],
-    ),
-    (
-        "1*8 0*12 1*5",
-        &[
-            &[KEYS, "SUCCESS | MNG.ADDCX 1 9"],
-            &[
-                "SUCCESS | MNG.CREATE 5 2 | MNG.KEY.CONFIG 5",
-                "PAGE_METADATA_INCORRECT 9 | MNG.ADDCX 5 9",
-            ],
-        ],
-    ),
-];
-
-const AT_THE_OP_STATE: &[(&str, &[&[&str]])] = &[
-    (
-        "0*25 1*3",
-        &[
-            &[BUILT, "OP_STATE_INCORRECT INITIALIZED | MNG.RD 1 MRTD"],
-            &[
-                "OPERAND_BUSY O | MR.FINALIZE 1",
-                "OP_STATE_INCORRECT INITIALIZED | MNG.RD 1 MRTD",
-            ],
-        ],
-    ),
-    // Only one MR.FINALIZE measures.
-    (
-        "0*24 1*2 0",
-        &[
-            &[BUILT, "OPERAND_BUSY O | MR.FINALIZE 1"],
-            &["SUCCESS | MR.FINALIZE 1", EMPTY],
-        ],
-    ),
-    (
-        "0*24 1*5",
-        &[
-            &[BUILT, "OP_STATE_INCORRECT RUNNABLE | MR.FINALIZE 1"],
-            &["SUCCESS | MR.FINALIZE 1", EMPTY],
-        ],
-    ),
-    // Calls that share the op state run side by side.
-    (
-        "0*37 0 1 0 1 0 1 0 1 0 1 0 1 0 1",
-        &[
-            &[
-                BUILT,
-                "SUCCESS | VP.CREATE 1 4 | VP.CREATE 1 5 | VP.INIT 1 4 1",
-            ],
-            &["SUCCESS | VP.INIT 1 5 2 | MR.FINALIZE 1"],
-        ],
-    ),
-    (
-        "0*33 1*3",
-        &[
-            &[BUILT, "SUCCESS | VP.CREATE 1 4 | VP.INIT 1 4 1"],
-            &["OPERAND_BUSY O | MR.FINALIZE 1", "SUCCESS | MR.FINALIZE 1"],
-        ],
-    ),
-    // VCPUs are created one after the other.
-    (
-        "0*25 1*3",
-        &[
-            &[BUILT, "SUCCESS | VP.CREATE 1 4"],
-            &["OPERAND_BUSY O | VP.CREATE 1 5", "SUCCESS | VP.CREATE 1 5"],
-            &["PAGE_METADATA_INCORRECT 4 | VP.CREATE 1 4"],
-        ],
-    ),
-];
-
-const AT_THE_KEY_TABLE: &[(&str, &[&[&str]])] = &[(
-    "0*11 1*3 2",
+const AT_THE_TDR: &[&[&str]] = &[
     &[
-        &["SUCCESS | MNG.CREATE 1 1 | MNG.VPFLUSHDONE 1 | PHYMEM.CACHE.WB"],
-        &["OPERAND_BUSY K | MNG.CREATE 2 2"],
-        &["OPERAND_BUSY K | PHYMEM.CACHE.WB"],
+        KEYS,
+        // Processor 2 is denied by processor 1, which is being refused.
+        "0*6 1 0*2 2 1 | OPERAND_BUSY P 1 | HOST.READ 1 0 || OPERAND_BUSY P 1 | MNG.ADDCX 1 2",
+        // It isn't where processor 1 undid its try before.
+        "0*6 1 0*2 1 2 | OPERAND_BUSY P 1 | HOST.READ 1 0 || SUCCESS | MNG.ADDCX 1 2",
+        // Nor where processor 1 comes after the last event of MNG.KEY.CONFIG.
+        "0*8 1 2*2 | SUCCESS 0 | HOST.READ 1 0 || OPERAND_BUSY P 1 | MNG.ADDCX 1 2",
+        // The TD can't be ended while its key is configured.
+        "0*6 1 2*2 | OPERAND_BUSY P 1 | MNG.VPFLUSHDONE 1 || OPERAND_BUSY P 1 | MNG.RD 1 LIFE",
     ],
-)];
+    // The key comes too late.
+    &[
+        "SUCCESS | MNG.CREATE 1 1",
+        "LIFECYCLE_STATE_INCORRECT TD_BLOCKED | MNG.KEY.CONFIG 1",
+        "0*5 1*5 | SUCCESS | MNG.VPFLUSHDONE 1 || SUCCESS TD_BLOCKED | MNG.RD 1 LIFE",
+    ],
+    // Reads share the TDR.
+    &[
+        KEYS,
+        "SUCCESS TD_KEYS_CONFIGURED | MNG.RD 1 LIFE",
+        "0*8 0 1 2 0 1 2 0 1 2 | SUCCESS TD_KEYS_CONFIGURED | MNG.RD 1 LIFE \
+        || SUCCESS PT_TDR 1 0 | PHYMEM.PAGE.RDMD 1",
+    ],
+    // A bad argument is answered whoever holds the page.
+    &[
+        "SUCCESS | MNG.CREATE 1 1",
+        "0 1 2 | OPERAND_INVALID 2 | MNG.ADDCX 1 1 || OPERAND_INVALID 2 | VP.INIT 1 1 0",
+    ],
+];
+
+const AT_A_PAGE: &[&[&str]] = &[
+    // A call that is denied its second lock gives the first one back.
+    &[
+        "SUCCESS 0 | HOST.READ 2 0",
+        "1*8 0 1*2 2*2 1 2*3 | SUCCESS | MNG.CREATE 1 1 | MNG.KEY.CONFIG 1 \
+        ; OPERAND_BUSY P 2 | MNG.ADDCX 1 2 \
+        || OPERAND_BUSY P 1 | MNG.RD 1 LIFE ; SUCCESS TD_KEYS_CONFIGURED | MNG.RD 1 LIFE",
+    ],
+    // Two TDs want the same page.
+    &[
+        KEYS,
+        "SUCCESS | MNG.ADDCX 1 9",
+        "1*8 0*10 1*3 | SUCCESS | MNG.CREATE 5 2 | MNG.KEY.CONFIG 5 \
+        ; OPERAND_BUSY P 9 | MNG.ADDCX 5 9",
+        "1*8 0*12 1*5 | SUCCESS | MNG.CREATE 5 2 | MNG.KEY.CONFIG 5 \
+        ; PAGE_METADATA_INCORRECT 9 | MNG.ADDCX 5 9",
+    ],
+];
+
+const AT_THE_OP_STATE: &[&[&str]] = &[
+    &[
+        BUILT,
+        "OP_STATE_INCORRECT INITIALIZED | MNG.RD 1 MRTD",
+        "0*25 1*3 | OPERAND_BUSY O | MR.FINALIZE 1 \
+        ; OP_STATE_INCORRECT INITIALIZED | MNG.RD 1 MRTD",
+    ],
+    // Only one MR.FINALIZE measures.
+    &[
+        BUILT,
+        "SUCCESS | MR.FINALIZE 1",
+        EMPTY,
+        "0*23 1 0*2 1 | OPERAND_BUSY O | MR.FINALIZE 1",
+        "0*23 1 0*5 | OP_STATE_INCORRECT RUNNABLE | MR.FINALIZE 1",
+    ],
+    // Calls that share the op state run side by side.
+    &[
+        BUILT,
+        "SUCCESS | VP.CREATE 1 4 | VP.CREATE 1 5 | VP.INIT 1 4 1",
+        "0*37 0 1 0 1 0 1 0 1 0 1 0 1 0 1 | SUCCESS | VP.INIT 1 5 2 | MR.FINALIZE 1",
+    ],
+    &[
+        BUILT,
+        "SUCCESS | VP.CREATE 1 4 | VP.INIT 1 4 1",
+        "0*33 1*3 | OPERAND_BUSY O | MR.FINALIZE 1 ; SUCCESS | MR.FINALIZE 1",
+    ],
+    // VCPUs are created one after the other.
+    &[
+        BUILT,
+        "SUCCESS | VP.CREATE 1 4",
+        "0*25 1*3 | OPERAND_BUSY O | VP.CREATE 1 5 ; SUCCESS | VP.CREATE 1 5 \
+        || PAGE_METADATA_INCORRECT 4 | VP.CREATE 1 4",
+    ],
+];
+
+const AT_THE_KEY_TABLE: &[&[&str]] = &[&[
+    "SUCCESS | MNG.CREATE 1 1 | MNG.VPFLUSHDONE 1 | PHYMEM.CACHE.WB",
+    "0*11 1*3 2 | OPERAND_BUSY K | MNG.CREATE 2 2 || OPERAND_BUSY K | PHYMEM.CACHE.WB",
+]];
+
+const AT_A_RECLAIM: &[&[&str]] = &[
+    // A page is the host's with the act, and can be read once it is released.
+    &[
+        KEYS,
+        "SUCCESS | MNG.ADDCX 1 2",
+        ENDED,
+        "SUCCESS | PHYMEM.PAGE.RECLAIM 1 2",
+        "0*28 1*2 2 | OPERAND_BUSY P 2 | HOST.READ 2 0 \
+        || OPERAND_BUSY P 1 | PHYMEM.PAGE.RECLAIM 1 1",
+        "0*29 1*2 2 | OPERAND_BUSY P 2 | HOST.WRITE 2 0 9 \
+        || OPERAND_BUSY P 1 | PHYMEM.PAGE.RECLAIM 1 1",
+        "0*30 1*6 2 | SUCCESS | HOST.WRITE 2 0 9 ; SUCCESS 9 | HOST.READ 2 0 \
+        || OPERAND_BUSY P 1 | PHYMEM.PAGE.RECLAIM 1 1",
+        "0*31 2*3 | PAGE_METADATA_INCORRECT 1 | MNG.RD 1 LIFE \
+        || SUCCESS | PHYMEM.PAGE.RECLAIM 1 1",
+    ],
+    // A plain read of the host's holds a page as well.
+    &[
+        KEYS,
+        "SUCCESS | MNG.ADDCX 1 2",
+        ENDED,
+        "OPERAND_BUSY P 2 | PHYMEM.PAGE.RECLAIM 1 2",
+        "PAGES_EXIST 1 | PHYMEM.PAGE.RECLAIM 1 1",
+        "0*26 1 0*3 | SUCCESS 0 | HOST.READ 2 0",
+    ],
+];
 
 const PAIRS: &[&[&str]] = &[
     // MNG.ADDCX has page 2 alone until its last event but one, and the TDR until its last.
@@ -225,63 +174,6 @@ const PAIRS: &[&[&str]] = &[
     ],
 ];
 
-const GIVEN_BACK: &[&str] = &[
-    KEYS,
-    "SUCCESS | MNG.ADDCX 1 2",
-    ENDED,
-    "SUCCESS | PHYMEM.PAGE.RECLAIM 1 2",
-];
-
-const AT_A_RECLAIM: &[(&str, &[&[&str]])] = &[
-    // A page is the host's with the act, and can be read once it is released.
-    (
-        "0*28 1*2 2",
-        &[
-            GIVEN_BACK,
-            &["OPERAND_BUSY P 2 | HOST.READ 2 0"],
-            &["OPERAND_BUSY P 1 | PHYMEM.PAGE.RECLAIM 1 1"],
-        ],
-    ),
-    (
-        "0*29 1*2 2",
-        &[
-            GIVEN_BACK,
-            &["OPERAND_BUSY P 2 | HOST.WRITE 2 0 9"],
-            &["OPERAND_BUSY P 1 | PHYMEM.PAGE.RECLAIM 1 1"],
-        ],
-    ),
-    (
-        "0*30 1*6 2",
-        &[
-            GIVEN_BACK,
-            &["SUCCESS | HOST.WRITE 2 0 9", "SUCCESS 9 | HOST.READ 2 0"],
-            &["OPERAND_BUSY P 1 | PHYMEM.PAGE.RECLAIM 1 1"],
-        ],
-    ),
-    (
-        "0*31 2*3",
-        &[
-            GIVEN_BACK,
-            &["PAGE_METADATA_INCORRECT 1 | MNG.RD 1 LIFE"],
-            &["SUCCESS | PHYMEM.PAGE.RECLAIM 1 1"],
-        ],
-    ),
-    // A plain read of the host's holds a page as well.
-    (
-        "0*26 1 0*3",
-        &[
-            &[
-                KEYS,
-                "SUCCESS | MNG.ADDCX 1 2",
-                ENDED,
-                "OPERAND_BUSY P 2 | PHYMEM.PAGE.RECLAIM 1 2",
-                "PAGES_EXIST 1 | PHYMEM.PAGE.RECLAIM 1 1",
-            ],
-            &["SUCCESS 0 | HOST.READ 2 0"],
-        ],
-    ),
-];
-
 #[test]
 fn calls_meet_at_locks(rt: HostRuntime) -> Result<(), Fail> {
     for table in [
@@ -290,12 +182,11 @@ fn calls_meet_at_locks(rt: HostRuntime) -> Result<(), Fail> {
         AT_THE_OP_STATE,
         AT_THE_KEY_TABLE,
         AT_A_RECLAIM,
+        PAIRS,
     ] {
-        for (schedule, rows) in table {
-            replays(&rt, rt.alloc(), "3 32 2", schedule, rows)?;
-        }
+        replay_races(&rt, rt.alloc(), table)?;
     }
-    replay_races(&rt, rt.alloc(), PAIRS)
+    Ok(())
 }
 
 // Without a schedule each processor runs to its end, in the order of their numbers.

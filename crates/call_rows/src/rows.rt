@@ -19,12 +19,35 @@ pub const TREE: &str =
     | VP.CREATE 1 4 | VP.INIT 1 4 0 | MEM.SEPT.ADD 1 0 3 5 | MEM.SEPT.ADD 1 0 2 6 \
     | MEM.SEPT.ADD 1 0 1 7";
 
-/// From there to the first page that may be reclaimed.
+/// Another TD, with HKID 2, that is initialized.
+pub const OTHER: &str =
+    "SUCCESS | MNG.CREATE 20 2 | MNG.KEY.CONFIG 20 | MNG.ADDCX 20 21 | MNG.ADDCX 20 22 \
+    | MNG.INIT 20";
+
+/// From BUILT or TREE to the first page that may be reclaimed.
 pub const ENDED: &str = "SUCCESS | MNG.VPFLUSHDONE 1 | PHYMEM.CACHE.WB | MNG.KEY.FREEID 1";
 
 /// The measurement of a TD without private pages is SHA-384 of no bytes.
 pub const EMPTY: &str = "SUCCESS 38b060a751ac96384cd9327eb1b1e36a21fdb71114be07434c0cc7bf63f6e1da\
     274edebfe76f65fbd51ad2f14898b95b | MNG.RD 1 MRTD";
+
+// Adds a list's calls to a processor's block, and their replies to what is wanted.
+fn add_list(
+    alloc: Global,
+    script: &mut String,
+    want: &mut String,
+    lp: usize,
+    number: &mut u32,
+    list: &str,
+) -> Result<(), Fail> {
+    let (reply, calls) = list.split_once(" | ").ok_or("no bar")?;
+    for call in calls.split(" | ") {
+        script.push_str(&format!(in alloc; "{call}\n")?)?;
+        want.push_str(&format!(in alloc; "{lp}.{number} {reply}\n")?)?;
+        *number = number.wrapping_add(1);
+    }
+    Ok(())
+}
 
 // Adds a processor's block to the script, and its replies to what is wanted.
 fn add_processor(
@@ -36,12 +59,9 @@ fn add_processor(
 ) -> Result<(), Fail> {
     script.push_str(&format!(in alloc; "lp {lp}\n")?)?;
     let mut number: u32 = 1;
-    for list in row {
-        let (reply, calls) = list.split_once(" | ").ok_or("no bar")?;
-        for call in calls.split(" | ") {
-            script.push_str(&format!(in alloc; "{call}\n")?)?;
-            want.push_str(&format!(in alloc; "{lp}.{number} {reply}\n")?)?;
-            number = number.wrapping_add(1);
+    for lists in row {
+        for list in lists.split(" ; ") {
+            add_list(alloc, script, want, lp, &mut number, list)?;
         }
     }
     script.push_str("end\n")?;
@@ -99,15 +119,25 @@ pub fn replay_each(
     Ok(())
 }
 
-/// Replays races of two processors. Each row has what processor 0 calls first, what it calls then,
-/// and schedules, each with what processor 1 calls under it.
+// A race: a schedule, and what processor 1 calls under it; behind two bars what processor 2 calls.
+fn replay_race(rt: &impl Abort, alloc: Global, zero: &[&str], race: &str) -> Result<(), Fail> {
+    let (schedule, others) = race.split_once(" | ").ok_or("no bar")?;
+    match others.split_once(" || ") {
+        Some((one, two)) => replays(rt, alloc, "3 32 2", schedule, &[zero, &[one], &[two]]),
+        None => replays(rt, alloc, "2 32 2", schedule, &[zero, &[others]]),
+    }
+}
+
+/// Replays races of two or three processors. Each row has what processor 0 calls, and then races,
+/// which begin with a number. There a semicolon stands between two lists of a processor.
 pub fn replay_races(rt: &impl Abort, alloc: Global, rows: &[&[&str]]) -> Result<(), Fail> {
     for row in rows {
-        let (first, row) = row.split_first().ok_or("no calls")?;
-        let (then, races) = row.split_first().ok_or("no calls")?;
-        for race in races {
-            let (schedule, one) = race.split_once(" | ").ok_or("no bar")?;
-            replays(rt, alloc, "2 32 1", schedule, &[&[first, then], &[one]])?;
+        let mut zero = Vec::new(alloc);
+        for text in *row {
+            match text.as_bytes().first() {
+                Some(b'0'..=b'9') => replay_race(rt, alloc, zero.as_slice(), text)?,
+                _ => zero.push(*text)?,
+            }
         }
     }
     Ok(())

@@ -3,7 +3,7 @@
 //! The ten calls of TREE have 64 events. MEM.SEPT.RD has 7, MEM.SEPT.ADD and MR.EXTEND have 9, and
 //! MEM.PAGE.ADD has 11.
 
-use crate::rows::{TREE, replay_races, replays};
+use crate::rows::{OTHER, TREE, replay_races, replays};
 use std::test::Fail;
 
 // The last event of each call releases the TDR, which is to be held alone to end the TD.
@@ -108,8 +108,8 @@ const BY_TURNS: &[&[&str]] = &[
             5f517906e2deb3 | MNG.RD 1 MRTD",
     ],
     &[
-        "SUCCESS | MNG.CREATE 20 2 | MNG.KEY.CONFIG 20 | MNG.ADDCX 20 21 | MNG.ADDCX 20 22 \
-            | MNG.INIT 20 | VP.CREATE 20 23 | VP.INIT 20 23 0 | MEM.SEPT.ADD 20 0 3 9 \
+        OTHER,
+        "SUCCESS | VP.CREATE 20 23 | VP.INIT 20 23 0 | MEM.SEPT.ADD 20 0 3 9 \
             | MEM.SEPT.ADD 20 0 2 10 | MEM.SEPT.ADD 20 0 1 11 | HOST.WRITE 12 0 2 \
             | MEM.PAGE.ADD 20 0 13 12 | MR.EXTEND 20 0 | MR.FINALIZE 20",
         "SUCCESS 1313593d65d9447d61cb6ed51b0d370ac0fe4c16a02ade0c7fb9f9affdd15c641f8d9dcc1084651634\

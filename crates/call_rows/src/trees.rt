@@ -1,6 +1,6 @@
 //! The secure EPT of a TD: what is read of its entries, where a walk ends, and whose each page is.
 
-use crate::rows::{BUILT, EMPTY, TREE, replay_each};
+use crate::rows::{BUILT, EMPTY, OTHER, TREE, replay_each};
 use std::test::Fail;
 
 const ENTRIES: &[&[&str]] = &[
@@ -102,8 +102,8 @@ const ENTRIES: &[&[&str]] = &[
     // Two TDs whose trees grow side by side, in pages by turns, at the same GPAs.
     &[
         BUILT,
-        "SUCCESS | MNG.CREATE 20 2 | MNG.KEY.CONFIG 20 | MNG.ADDCX 20 21 | MNG.ADDCX 20 22 \
-            | MNG.INIT 20 | MEM.SEPT.ADD 1 0 3 5 | MEM.SEPT.ADD 20 0 3 6 | MEM.SEPT.ADD 20 0 2 7 \
+        OTHER,
+        "SUCCESS | MEM.SEPT.ADD 1 0 3 5 | MEM.SEPT.ADD 20 0 3 6 | MEM.SEPT.ADD 20 0 2 7 \
             | MEM.SEPT.ADD 1 0 2 8",
         "EPT_WALK_FAILED 1 | MEM.SEPT.RD 1 0 0 | MEM.SEPT.RD 20 0 0",
         "SUCCESS | MEM.SEPT.ADD 1 0 1 9",
