@@ -48,13 +48,13 @@ pub write_caches_back-keeps : (m : Machine) → RowKeeps m write_caches_back
 write_caches_back-keeps m = record { act = λ w l ps. write_back_kept m w l; to_tell = λ w. refl }
 
 -- lives: one of those allowed isn't at its end; and one at its end
-live_of : (allowed : List LifeState) (s : LifeState) → list_any (λ a. life_number a == life_number life.Teardown) allowed ≡ false → list_any (λ a. life_number a == life_number s) allowed ≡ true → IsLive s
+pub live_of : (allowed : List LifeState) (s : LifeState) → list_any (λ a. life_number a == life_number life.Teardown) allowed ≡ false → list_any (λ a. life_number a == life_number s) allowed ≡ true → IsLive s
 live_of allowed life.HkidAssigned no_end among = refl
 live_of allowed life.KeysConfigured no_end among = refl
 live_of allowed life.Blocked no_end among = refl
 live_of allowed life.Teardown no_end among = cc
 
-ended_of : (s : LifeState) → list_any (λ a. life_number a == life_number s) (life.Teardown ∷ []) ≡ true → (life_number s == life_number life.Teardown) ≡ true
+pub ended_of : (s : LifeState) → list_any (λ a. life_number a == life_number s) (life.Teardown ∷ []) ≡ true → (life_number s == life_number life.Teardown) ≡ true
 ended_of life.Teardown among = refl
 ended_of life.HkidAssigned among = cc
 ended_of life.KeysConfigured among = cc

@@ -23,7 +23,7 @@ events_keep o s p l =
     world_event o (Lawful o.machine)
     (λ me c w l ps. (row-keeps o me c).act w l ps)
     (λ t v line op row w e l ps. elim op [ ])
-    (reach_lawful o)
+    (λ t v line op access r gpa page w e. reach_lawful o t v access r gpa page w)
     (λ v w l. record { size = l.size; pages = l.pages; tds = l.tds; tree = l.tree; keys = l.keys; beginnings = l.beginnings })
     s p l
 
@@ -32,7 +32,7 @@ every_lawful o ws schedule =
     world_kept o (Lawful o.machine)
     (λ me c w l ps. (row-keeps o me c).act w l ps)
     (λ t v line op row w e l ps. elim op [ ])
-    (reach_lawful o)
+    (λ t v line op access r gpa page w e. reach_lawful o t v access r gpa page w)
     (λ v w l. record { size = l.size; pages = l.pages; tds = l.tds; tree = l.tree; keys = l.keys; beginnings = l.beginnings })
     schedule (start o ws) (first-lawful o.machine ws)
 
@@ -69,6 +69,6 @@ no_words_to_tell o s p h =
     world_event o (λ w. w.outgoing.to_tell ≡ None)
     (λ me c w none ps. (row-keeps o me c).to_tell w ∙ none)
     (λ t v line op row w e none ps. elim op [ ])
-    reach_tells
+    (λ t v line op access r gpa page w e. reach_tells t v access r gpa page w)
     (λ v w none. none)
     s p h

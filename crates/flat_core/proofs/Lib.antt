@@ -9,6 +9,9 @@ pub mod Blind
 pub mod Mrtd
 pub mod Kept
 pub mod Owned
+pub mod Measured
+pub mod OneUse
+pub mod Memories
 pub mod LockLaw
 pub mod Ends
 pub mod TwoWorlds

@@ -1,8 +1,9 @@
 -- Laws of the flat machine, for every opening and every schedule.
-use Rattle.std.specs.Prelude.{◌≡◌, ◌≢◌, ◌⊎◌, ℕ, ◌≤◌, List, [], ◌∷◌, ◌++◌, Option, None, IfSome, false}
+use Rattle.std.specs.Prelude.{◌≡◌, ◌≢◌, ◌⊎◌, ℕ, ◌≤◌, List, [], ◌∷◌, ◌++◌, Option, Some, None, IfSome, Bool, false, ◌==◌, if◌then◌else◌}
 use Rattle.sha2.specs.Sha512.{sha384}
 use Rattle.mrtd_measure.specs.Records.{page_record, chunk_records}
 use Rattle.td_words.specs.declared.machines.Machine.{Machine}
+use Rattle.td_words.specs.declared.names.OpState.TheVariants.{Runnable}
 use Rattle.td_words.specs.declared.names.ReadField.TheVariants.{Mrtd}
 use Rattle.td_words.specs.declared.replies.Value.TheVariants.{Digest}
 use Rattle.td_words.specs.declared.refusals.Status.{Status}
@@ -10,17 +11,18 @@ use Rattle.td_words.specs.declared.replies.Reply.{Reply}
 use Rattle.td_words.specs.declared.replies.Reply.TheVariants.{Refused}
 use Rattle.td_words.specs.declared.calls.Call.{Call}
 use Rattle.td_words.specs.declared.calls.Call.TheVariants as call
+use Rattle.td_words.specs.Packing.{Entry}
 use Rattle.flat_core.specs.World.{World, Pages, Tds, put}
 use Rattle.flat_core.specs.Processor.{LockId, Lp, nothing_yet}
 use Rattle.flat_core.specs.Locks.{holders, sharers}
 use Rattle.flat_core.specs.Opening.{Opening, Agree, blind}
-use Rattle.flat_core.specs.Row.{Succeeds}
+use Rattle.flat_core.specs.Row.{Passes, Succeeds}
 use Rattle.flat_core.specs.Conditions.{is_host_in}
 use Rattle.flat_core.specs.Tree.{entry_at}
 use Rattle.flat_core.specs.TdRows.{read_td, finalize}
 use Rattle.flat_core.specs.MemRows.{chunk_bytes}
 use Rattle.flat_core.specs.Table.{row_of}
-use Rattle.flat_core.specs.Event.{State, Event, OfCall, OfOperation, Reaches, Leaves, start, next_event, event, world_after}
+use Rattle.flat_core.specs.Event.{State, Event, OfCall, OfOperation, Reaches, Leaves, start, lines_left, next_event, event, world_after}
 use Rattle.flat_core.specs.Run.{play, run, run_told, told_in}
 use Rattle.flat_core.specs.HostText.{host_text, text_of}
 use Rattle.flat_core.specs.Lawful.{IsAlive, Lawful, RowKeeps, is_free}
@@ -123,3 +125,46 @@ pub record RefusedCallsStay : Type 0 where
       → OwnEventsAreQuiet o p (schedule ++ p ∷ []) s
   pub ended : (o : Opening) (s : State) (p : ℕ) (r : Reply)
       → ((event o s p).lps p).replies ≡ (s.lps p).replies ++ r ∷ [] → ((event o s p).lps p).call ≡ nothing_yet
+
+-- MRTD over runs: in every world that a schedule leads to, MNG.RD gives as MRTD of a TD in RUNNABLE the SHA-384 of what
+-- the TD has measured.
+abbrev pub EveryMrtdIsTheDigest : Type 0
+EveryMrtdIsTheDigest = (o : Opening) (words_to_tell : Option (List ℕ)) (schedule : List ℕ) (tdr : ℕ) → let w = (reached o words_to_tell schedule).world in
+    w.tds.ops tdr ≡ Runnable → (read_td o.machine tdr Mrtd).value w ≡ Digest (sha384 (w.tds.measured tdr))
+
+-- what TDs have measured after an event of a processor with these lines left: after the act of its call what that call
+-- leaves measured, and after any other event what they had
+abbrev pub measured_after_event : List Call → Option Event → World → ℕ → List ℕ
+measured_after_event (c ∷ cs) (Some (OfCall row Succeeds)) w = measured_after c w
+measured_after_event _ _ w = w.tds.measured
+
+abbrev pub EventsMeasure : Type 0
+EventsMeasure = (o : Opening) (s : State) (p t : ℕ) → (event o s p).world.tds.measured t ≡ measured_after_event (lines_left o p (s.lps p)) (next_event o s p) s.world t
+
+-- the page that a call gives back to the host. MEM.PAGE.REMOVE does too, once it is built
+abbrev pub gives_back : Call → ℕ → Bool
+gives_back (call.PhymemPageReclaim tdr page) p = p == page
+gives_back _ p = false
+
+-- what a page is used for: its kind, its TD and its node
+pub record IsUsedAsBefore (old new : Pages) (p : ℕ) : Type 0 where
+  pub kind : new.kinds p ≡ old.kinds p
+  pub owner : new.owners p ≡ old.owners p
+  pub level : new.levels p ≡ old.levels p
+  pub number : new.numbers p ≡ old.numbers p
+
+-- Pages have one use: a page that isn't the host's isn't given to a second use before it is the host's again.
+abbrev pub PagesHaveOneUse : Type 0
+PagesHaveOneUse = (o : Opening) (me : ℕ) (c : Call) (w : World) (p : ℕ)
+    → Passes ((row_of o me c).items w) → is_host_in w.pages p ≡ false → gives_back c p ≡ false → IsUsedAsBefore w.pages ((row_of o me c).act w).pages p
+
+-- what the private page that an entry names holds: none where it is FREE. An entry in PENDING will count as one without,
+-- once there are such entries
+abbrev pub memory_of : Entry → (ℕ → ℕ → ℕ) → Option (ℕ → ℕ)
+memory_of e words = if is_free e.state then None else Some (words e.page)
+
+-- Guest memory over runs: what the guest of a TD that is alive knows of its private page, from its own events, is what
+-- the page holds.
+abbrev pub GuestsKnowTheirPages : Type 0
+GuestsKnowTheirPages = (o : Opening) (words_to_tell : Option (List ℕ)) (schedule : List ℕ) (t n : ℕ) → let w = (reached o words_to_tell schedule).world in
+    IsAlive w.pages w.tds t → w.hidden.memories t n ≡ memory_of (w.tds.entries t 0 n) w.words

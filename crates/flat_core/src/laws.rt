@@ -2,7 +2,7 @@
 
 ghost use Rattle.flat_core.specs.Worked.{Examples};
 ghost use Rattle.flat_core.specs.Bounds.{RowsTryFew, EventsRunOut, RunsEnd};
-ghost use Rattle.flat_core.specs.Laws.{RowsKeep, RowsAreBlind, MrtdIsTheDigest, RecordsAreMeasured, EveryWorldIsLawful, EveryPageIsOwned, OthersStay, QuietEventsStay, NoWordsToTell, LocksExclude, BlindRunsPrintTheSame, RefusedCallsStay, EventsKeepLawful};
+ghost use Rattle.flat_core.specs.Laws.{RowsKeep, RowsAreBlind, MrtdIsTheDigest, RecordsAreMeasured, EveryWorldIsLawful, EveryPageIsOwned, OthersStay, QuietEventsStay, NoWordsToTell, LocksExclude, BlindRunsPrintTheSame, RefusedCallsStay, EventsKeepLawful, EveryMrtdIsTheDigest, EventsMeasure, PagesHaveOneUse, GuestsKnowTheirPages};
 
 /// The worked examples: replies of small runs, and how many events they take.
 pub fn worked_examples()
@@ -11,12 +11,14 @@ pub fn worked_examples()
 
 /// The two facts beside each row: its act keeps what every world keeps, and it is blind to private
 /// words. And MRTD is read as the digest of what was measured: the records of pages added and of
-/// chunks, in their order, and nothing else.
+/// chunks, in their order, and nothing else. A page that isn't the host's keeps its one use until
+/// PHYMEM.PAGE.RECLAIM gives it back.
 pub fn row_laws()
     ensures keep { RowsKeep }
     ensures blind { RowsAreBlind }
     ensures mrtd { MrtdIsTheDigest }
     ensures records { RecordsAreMeasured }
+    ensures one_use { PagesHaveOneUse }
 {}
 
 /// Each event keeps a world lawful, and every schedule leads to a lawful one: who owns which page, which pages a TD's entries name,
@@ -60,4 +62,16 @@ pub fn end_laws()
 /// What a run prints is the same whatever the private words are, apart from what guests tell.
 pub fn two_world_law()
     ensures { BlindRunsPrintTheSame }
+{}
+
+/// After any schedule, MRTD of a TD in RUNNABLE is read as the digest of what it has measured, and no
+/// event but the act of a call changes what TDs have measured.
+pub fn measurement_laws()
+    ensures mrtd { EveryMrtdIsTheDigest }
+    ensures events { EventsMeasure }
+{}
+
+/// After any schedule, what the guest of a TD knows of a private page is what the page holds.
+pub fn memory_law()
+    ensures { GuestsKnowTheirPages }
 {}
