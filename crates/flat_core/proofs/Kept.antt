@@ -15,8 +15,8 @@ use Rattle.flat_core.proofs.Keeps.{row-keeps, first-lawful}
 
 -- a guest's access changes words, registers, memories and positions alone
 reach_lawful : (o : Opening) (t v : ℕ) (access : Access) (r gpa page : ℕ) (w : World) → Lawful o.machine w → Lawful o.machine (reach t v access r gpa page w)
-reach_lawful o t v Read r gpa page w l = record { size = l.size; pages = l.pages; tds = l.tds; tree = l.tree; keys = l.keys; beginnings = l.beginnings }
-reach_lawful o t v Write r gpa page w l = record { size = l.size; pages = l.pages; tds = l.tds; tree = l.tree; keys = l.keys; beginnings = l.beginnings }
+reach_lawful o t v Read r gpa page w l = record { size = l.size; pages = l.pages; tds = l.tds; lists = l.lists; tree = l.tree; keys = l.keys; beginnings = l.beginnings }
+reach_lawful o t v Write r gpa page w l = record { size = l.size; pages = l.pages; tds = l.tds; lists = l.lists; tree = l.tree; keys = l.keys; beginnings = l.beginnings }
 
 pub events_keep : EventsKeepLawful
 events_keep o s p l =
@@ -24,7 +24,7 @@ events_keep o s p l =
     (λ me c w l ps. (row-keeps o me c).act w l ps)
     (λ t v line op row w e l ps. elim op [ ])
     (reach_lawful o)
-    (λ v w l. record { size = l.size; pages = l.pages; tds = l.tds; tree = l.tree; keys = l.keys; beginnings = l.beginnings })
+    (λ v w l. record { size = l.size; pages = l.pages; tds = l.tds; lists = l.lists; tree = l.tree; keys = l.keys; beginnings = l.beginnings })
     s p l
 
 pub every_lawful : EveryWorldIsLawful
@@ -33,7 +33,7 @@ every_lawful o ws schedule =
     (λ me c w l ps. (row-keeps o me c).act w l ps)
     (λ t v line op row w e l ps. elim op [ ])
     (reach_lawful o)
-    (λ v w l. record { size = l.size; pages = l.pages; tds = l.tds; tree = l.tree; keys = l.keys; beginnings = l.beginnings })
+    (λ v w l. record { size = l.size; pages = l.pages; tds = l.tds; lists = l.lists; tree = l.tree; keys = l.keys; beginnings = l.beginnings })
     schedule (start o ws) (first-lawful o.machine ws)
 
 other_stays : (s : State) (p q : ℕ) (x : Option Event) → q ≢ p → (after_event p s x).lps q ≡ s.lps q
