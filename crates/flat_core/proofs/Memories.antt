@@ -29,6 +29,7 @@ use Rattle.flat_core.proofs.Maps.{walk_passed}
 use Rattle.flat_core.proofs.Parts.{IsLive}
 use Rattle.flat_core.proofs.Keeps.{live_of, ended_of, row-keeps, first-lawful}
 use Rattle.flat_core.proofs.Induction.{world_kept}
+use Rattle.flat_core.proofs.Kept.{leave_lawful}
 
 abbrev Knows : World → Type 0
 Knows w = (t n : ℕ) → IsAlive w.pages w.tds t → w.hidden.memories t n ≡ memory_of (w.tds.entries t 0 n) w.words
@@ -157,5 +158,5 @@ guests_know o ws schedule = known.1
         (λ me c w h ps. ((row-keeps o me c).act w h.0 ps, row_known o me c w h.0 h.1 ps))
         (λ t v line op row w e h ps. elim op [ ])
         (λ t v line op access r gpa page w e h. elim op [ ])
-        (λ v w h. (record { size = h.0.size; pages = h.0.pages; tds = h.0.tds; tree = h.0.tree; keys = h.0.keys; beginnings = h.0.beginnings }, h.1))
+        (λ v w h. (leave_lawful o v w h.0, h.1))
         schedule (start o ws) (first-lawful o.machine ws, λ t n a. refl)
