@@ -2,7 +2,7 @@
 
 ghost use Rattle.flat_core.specs.Worked.{Examples};
 ghost use Rattle.flat_core.specs.Bounds.{RowsTryFew, EventsRunOut, RunsEnd};
-ghost use Rattle.flat_core.specs.Laws.{RowsKeep, RowsAreBlind, MrtdIsTheDigest, RecordsAreMeasured, EveryWorldIsLawful, EveryPageIsOwned, OthersStay, QuietEventsStay, NoWordsToTell, LocksExclude, BlindRunsPrintTheSame, RefusedCallsStay, EventsKeepLawful};
+ghost use Rattle.flat_core.specs.Laws.{RowsKeep, RowsAreBlind, MrtdIsTheDigest, RecordsAreMeasured, EveryWorldIsLawful, EveryPageIsOwned, OthersStay, QuietEventsStay, NoWordsToTell, LocksExclude, BlindRunsPrintTheSame, BlindRunsMakeTheSameBundles, AgreeingRunsShowTheSame, RefusedCallsStay, EventsKeepLawful};
 
 /// The worked examples: replies of small runs, and how many events they take.
 pub fn worked_examples()
@@ -57,7 +57,11 @@ pub fn end_laws()
     ensures runs_end { RunsEnd }
 {}
 
-/// What a run prints is the same whatever the private words are, apart from what guests tell.
+/// What a run prints, and the public part of the bundles that it makes, are the same whatever the
+/// private words are, apart from what guests tell: the same as with every private word 0, and so the
+/// same for any two openings that agree on all that is public.
 pub fn two_world_law()
-    ensures { BlindRunsPrintTheSame }
+    ensures prints { BlindRunsPrintTheSame }
+    ensures bundles { BlindRunsMakeTheSameBundles }
+    ensures agreeing { AgreeingRunsShowTheSame }
 {}
