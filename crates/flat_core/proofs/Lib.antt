@@ -13,3 +13,4 @@ pub mod LockLaw
 pub mod Ends
 pub mod TwoWorlds
 pub mod Refused
+pub mod RefusedKeep

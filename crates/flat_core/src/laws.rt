@@ -2,7 +2,7 @@
 
 ghost use Rattle.flat_core.specs.Worked.{Examples};
 ghost use Rattle.flat_core.specs.Bounds.{RowsTryFew, EventsRunOut, RunsEnd};
-ghost use Rattle.flat_core.specs.Laws.{RowsKeep, RowsAreBlind, MrtdIsTheDigest, RecordsAreMeasured, EveryWorldIsLawful, EveryPageIsOwned, OthersStay, QuietEventsStay, NoWordsToTell, LocksExclude, BlindRunsPrintTheSame, BlindRunsMakeTheSameBundles, AgreeingRunsShowTheSame, RefusedCallsStay, EventsKeepLawful};
+ghost use Rattle.flat_core.specs.Laws.{RowsKeep, RowsAreBlind, MrtdIsTheDigest, RecordsAreMeasured, EveryWorldIsLawful, EveryPageIsOwned, OthersStay, QuietEventsStay, NoWordsToTell, LocksExclude, BlindRunsPrintTheSame, BlindRunsMakeTheSameBundles, AgreeingRunsShowTheSame, RefusedCallsStay, QuietCallsKeep, RefusalsLeaveTheirReply, EventsKeepLawful};
 
 /// The worked examples: replies of small runs, and how many events they take.
 pub fn worked_examples()
@@ -34,13 +34,15 @@ pub fn ownership_law()
 
 /// An event of one processor leaves the others' records alone; what is refused, tried, undone or
 /// released changes nothing but locks and the processor's own record; and so a call that is refused
-/// changes nothing from its first event to its last, and holds no lock at its end. Where there are no
-/// words to tell, an event brings none.
+/// changes nothing from its first event to its last, holds no lock at its end, and leaves nothing but
+/// its refusal in the processor's record. Where there are no words to tell, an event brings none.
 pub fn event_laws()
     ensures others { OthersStay }
     ensures quiet { QuietEventsStay }
     ensures refused { RefusedCallsStay }
     ensures own_words { NoWordsToTell }
+    ensures kept { QuietCallsKeep }
+    ensures left { RefusalsLeaveTheirReply }
 {}
 
 /// Nobody holds a lock beside one who holds it alone, after any schedule.
