@@ -14,3 +14,4 @@ pub mod Ends
 pub mod TwoWorlds
 pub mod Refused
 pub mod RefusedKeep
+pub mod Counts

@@ -11,7 +11,7 @@ use Rattle.flat_core.specs.Row.{Row, Move, Attempts, Undoes, Refuses, Succeeds, 
 use Rattle.flat_core.specs.Table.{row_of}
 use Rattle.flat_core.specs.Event.{State, Event, OfCall, next_event, event_for, line_event, lines_left, event, after_event, lp_after, call_lp, settle, is_granted}
 use Rattle.flat_core.specs.Run.{play}
-use Rattle.flat_core.specs.Laws.{IsQuiet, IsBetween, OwnEventsAreQuiet, AnswersNext, IsKeptBesides, QuietCallsKeep, RefusalsLeaveTheirReply}
+use Rattle.flat_core.specs.Laws.{IsQuiet, OwnEventsAreQuiet, IsKeptBesides, QuietCallsKeep, RefusalsLeaveTheirReply}
 use Rattle.flat_core.proofs.Tests.{by_test}
 use Rattle.flat_core.proofs.Kept.{others_stay}
 use Rattle.flat_core.proofs.Ends.{play_append}
