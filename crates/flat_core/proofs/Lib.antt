@@ -16,3 +16,5 @@ pub mod LockLaw
 pub mod Ends
 pub mod TwoWorlds
 pub mod Refused
+pub mod RefusedKeep
+pub mod Counts
