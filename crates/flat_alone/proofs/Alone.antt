@@ -27,7 +27,7 @@ use Rattle.flat_core.specs.Bounds.{RowsTryFew}
 use Rattle.flat_core.specs.Event.{State, Event, OfCall, start, lines_left, calls_of, event_for, line_event, world_after, lp_after, is_granted, after_event, next_event, event, settled}
 use Rattle.flat_core.specs.Run.{play, events_in, to_the_end}
 use Rattle.flat_core.specs.HostText.{reply_lines, lines_from, text_of, host_text}
-use Rattle.flat_alone.specs.Whole.{first_fault, reply_unless, world_unless, row_reply, row_world, replies_of, world_of, lines_at_once, EachCallAtOnce}
+use Rattle.flat_alone.specs.Whole.{first_fault, reply_unless, world_unless, row_reply, row_world, replies_of, world_of, lines_at_once, world_at_once, EachCallAtOnce, EndsInTheirWorld}
 
 -- it holds no lock, and is being refused none
 pub record Quiet (lp : Lp) : Type 0 where
@@ -324,7 +324,8 @@ quiet_out rs = record { alone = λ l. refl; shared = λ l. refl; refused = λ l.
 each : (tries : RowsTryFew) (o : Opening) (css : List (List Call)) (p : ℕ) (w : World) (s : State) → s.world ≡ w → ((q : ℕ) → Quiet (s.lps q)) → ((q : ℕ) → p ≤ q → s.lps q ≡ idle)
     → ((i : ℕ) → calls_of o.calls (p + i) ≡ calls_of css i)
     → (lines_from (length css) p (play o (to_the_end p css) s).lps ≡ lines_at_once o p w css) × ((q : ℕ) → q < p → (play o (to_the_end p css) s).lps q ≡ s.lps q)
-each tries o [] p w s world quiet fresh calls = (refl, λ q h. refl)
+    × ((play o (to_the_end p css) s).world ≡ world_at_once o p w css)
+each tries o [] p w s world quiet fresh calls = (refl, λ q h. refl, world)
 each tries o (cs ∷ css) p w s world quiet fresh calls =
     let out : (q : ℕ) → q ≢ p → Quiet (s.lps q) = λ q ne. quiet q in
     let mine : calls_of o.calls p ≡ cs = let e : p ≡ p + 0 = omega arith in ap (calls_of o.calls) e ∙ calls 0 in
@@ -344,9 +345,12 @@ each tries o (cs ∷ css) p w s world quiet fresh calls =
     let texts : lines_from (length css) (p + 1) last.lps ≡ lines_at_once o (p + 1) (world_of o p w cs) css =
     subst (λ n. lines_from (length css) n last.lps ≡ lines_at_once o n (world_of o p w cs) css) (sym next_one) rest.0 in
     let whole : lines_from (length (cs ∷ css)) p last.lps ≡ lines_at_once o p w (cs ∷ css) =
-    ap (λ (rs : List Reply). reply_lines p 1 rs ++ lines_from (length css) (p + 1) last.lps) replied ∙ ap (λ (x : List (List ℕ)). reply_lines p 1 (replies_of o p w cs) ++ x) texts in (
+    ap (λ (rs : List Reply). reply_lines p 1 rs ++ lines_from (length css) (p + 1) last.lps) replied ∙ ap (λ (x : List (List ℕ)). reply_lines p 1 (replies_of o p w cs) ++ x) texts in
+    let ends : last.world ≡ world_at_once o (p + 1) (world_of o p w cs) css =
+    subst (λ n. last.world ≡ world_at_once o n (world_of o p w cs) css) (sym next_one) rest.2 in (
       subst (λ (x : State). lines_from (length (cs ∷ css)) p x.lps ≡ lines_at_once o p w (cs ∷ css)) (sym joined) whole,
       λ q h. subst (λ x. x.lps q ≡ s.lps q) (sym joined) (rest.1 q (omega arith) ∙ at.others q (λ e. omega arith)),
+      ap (λ (x : State). x.world) joined ∙ ends,
     )
 
 -- as many processors as before
@@ -358,12 +362,21 @@ same_count o (p ∷ ps) s = same_count o ps (event o s p) ∙ by (next_event o s
     by None = refl
     by (Some e) = refl
 
+-- from processor 0 on
+from_the_start : (tries : RowsTryFew) (o : Opening) → let t = play o (to_the_end 0 o.calls) (start o None) in
+    (lines_from (length o.calls) 0 t.lps ≡ lines_at_once o 0 (first_world o.machine.pages None) o.calls) × (t.world ≡ world_at_once o 0 (first_world o.machine.pages None) o.calls)
+from_the_start tries o =
+    let all = each tries o o.calls 0 (first_world o.machine.pages None) (start o None) refl (λ q. quiet_out []) (λ q h. refl)
+    (λ i. let e : 0 + i ≡ i = omega arith in ap (calls_of o.calls) e) in
+    (all.0, all.2)
+
 pub each_call_at_once : RowsTryFew → EachCallAtOnce
 unfolding host_text text_of
 each_call_at_once tries o =
     let end = to_the_end 0 o.calls in
     let s = start o None in
     ap (λ (n : ℕ). concat (lines_from n 0 (play o end s).lps)) (same_count o end s)
-    ∙ ap (λ (x : List (List ℕ)). concat x)
-    ((each tries o o.calls 0 (first_world o.machine.pages None) s refl (λ q. quiet_out []) (λ q h. refl)
-    (λ i. let e : 0 + i ≡ i = omega arith in ap (calls_of o.calls) e)).0)
+    ∙ ap (λ (x : List (List ℕ)). concat x) (from_the_start tries o).0
+
+pub ends_in_their_world : RowsTryFew → EndsInTheirWorld
+ends_in_their_world tries o = (from_the_start tries o).1

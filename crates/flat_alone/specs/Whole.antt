@@ -8,6 +8,7 @@ use Rattle.flat_core.specs.World.{World, first_world}
 use Rattle.flat_core.specs.Opening.{Opening}
 use Rattle.flat_core.specs.Row.{Item, Check, Try, Row}
 use Rattle.flat_core.specs.Table.{row_of}
+use Rattle.flat_core.specs.Run.{run}
 use Rattle.flat_core.specs.HostText.{reply_lines, host_text}
 
 -- what the first condition that fails answers, where every try is granted
@@ -49,3 +50,12 @@ lines_at_once o p w (cs ∷ css) = reply_lines p 1 (replies_of o p w cs) ++ line
 -- A run without a schedule prints them.
 abbrev pub EachCallAtOnce : Type 0
 EachCallAtOnce = (o : Opening) → host_text o [] ≡ concat (lines_at_once o 0 (first_world o.machine.pages None) o.calls)
+
+-- the world after the calls of processors p, p + 1 and so on
+abbrev pub world_at_once : Opening → ℕ → World → List (List Call) → World
+world_at_once o p w [] = w
+world_at_once o p w (cs ∷ css) = world_at_once o (p + 1) (world_of o p w cs) css
+
+-- And it ends in the world after them.
+abbrev pub EndsInTheirWorld : Type 0
+EndsInTheirWorld = (o : Opening) → (run o []).world ≡ world_at_once o 0 (first_world o.machine.pages None) o.calls

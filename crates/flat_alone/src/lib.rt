@@ -4,11 +4,13 @@
 //! layer above uses `in_number_order` to run the calls one after another over a world in memory.
 #![tactic(auto)]
 
-ghost use Rattle.flat_alone.specs.Whole.{EachCallAtOnce};
+ghost use Rattle.flat_alone.specs.Whole.{EachCallAtOnce, EndsInTheirWorld};
 
-/// A run without a schedule prints the replies of its calls, each done at once, one after another.
+/// A run without a schedule prints the replies of its calls, each done at once, one after another,
+/// and ends in the world after them.
 pub fn in_number_order()
-    ensures { EachCallAtOnce }
+    ensures prints { EachCallAtOnce }
+    ensures world { EndsInTheirWorld }
 {
     flat_core::end_laws();
 }

@@ -34,11 +34,11 @@ next_is C (Try l m ∷ items) zero refuses succeeds attempts = attempts l m (ome
 next_is C (Try l m ∷ items) (suc k) refuses succeeds attempts = next_is C items k refuses succeeds (λ l m h. attempts l m (omega arith))
 
 -- a walk is conditions alone
-checks_tried : (b : ℕ → Bool) (r : ℕ → Reply) (ls : List ℕ) (items : List (Item Reply)) → tries_in (map (λ l. Check (b l) (r l)) ls ++ items) ≡ tries_in items
+pub checks_tried : (b : ℕ → Bool) (r : ℕ → Reply) (ls : List ℕ) (items : List (Item Reply)) → tries_in (map (λ l. Check (b l) (r l)) ls ++ items) ≡ tries_in items
 checks_tried b r [] items = refl
 checks_tried b r (l ∷ ls) items = checks_tried b r ls items
 
-checks_alone : (b : ℕ → Bool) (r : ℕ → Reply) (ls : List ℕ) → tries_in (map (λ l. Check (b l) (r l)) ls) ≡ 0
+pub checks_alone : (b : ℕ → Bool) (r : ℕ → Reply) (ls : List ℕ) → tries_in (map (λ l. Check (b l) (r l)) ls) ≡ 0
 checks_alone b r [] = refl
 checks_alone b r (l ∷ ls) = checks_alone b r ls
 
@@ -262,7 +262,7 @@ times_end (cs ∷ css) k zero q e =
 times_end (cs ∷ css) k (suc p) q e =
     omega (arith, times_append q (replicate (events_in cs) k) (to_the_end (suc k) css), times_end css (suc k) p q (omega arith))
 
-play_append : (o : Opening) (xs ys : List ℕ) (s : State) → play o (xs ++ ys) s ≡ play o ys (play o xs s)
+pub play_append : (o : Opening) (xs ys : List ℕ) (s : State) → play o (xs ++ ys) s ≡ play o ys (play o xs s)
 play_append o [] ys s = refl
 play_append o (x ∷ xs) ys s = play_append o xs ys (event o s x)
 

@@ -42,7 +42,7 @@ module _ (o o' : Opening) (R : State → State → Type 0) (step : (s t : State)
 module _ (o : Opening) (P : World → Type 0)
     (calls : (me : ℕ) (c : Call) (w : World) → P w → Passes ((row_of o me c).items w) → P ((row_of o me c).act w))
     (operations : (t v line : ℕ) (op : GuestOp) (row : OperationRow) (w : World) → operation_of o t v line op ≡ ByRow row → P w → Passes (row.items w) → P (tell_words (row.tells w) (row.act w)))
-    (reaches : (t v : ℕ) (access : Access) (r gpa page : ℕ) (w : World) → P w → P (reach t v access r gpa page w))
+    (reaches : (t v line : ℕ) (op : GuestOp) (access : Access) (r gpa page : ℕ) (w : World) → operation_of o t v line op ≡ Private access r gpa → P w → P (reach t v access r gpa page w))
     (leaves : (v : ℕ) (w : World) → P w → P (leave_guest v w)) where
   by_items : (row : Row) (w : World) (items : List (Item Reply)) (n : ℕ) → P w → (Passes items → P (row.act w)) → P (call_world row (next items n) w)
   by_items row w [] n h act = act tt
@@ -70,13 +70,13 @@ module _ (o : Opening) (P : World → Type 0)
   by_operation_row row w (Answered r) [] h act = h
   by_operation_row row w (Answered r) (x ∷ hs) h act = h
 
-  by_private : (w : World) (g : Guest) (access : Access) (r gpa : ℕ) (found : Option ℕ) → P w → P (world_after (private_event g access r gpa found) w)
-  by_private w g access r gpa None h = h
-  by_private w g access r gpa (Some page) h = reaches g.tdr g.vp access r gpa page w h
+  by_private : (w : World) (g : Guest) (line : ℕ) (op : GuestOp) (access : Access) (r gpa : ℕ) (found : Option ℕ) → operation_of o g.tdr g.vp line op ≡ Private access r gpa → P w → P (world_after (private_event g access r gpa found) w)
+  by_private w g line op access r gpa None e h = h
+  by_private w g line op access r gpa (Some page) e h = reaches g.tdr g.vp line op access r gpa page w e h
 
   by_operation : (w : World) (lp : Lp) (g : Guest) (line : ℕ) (op : GuestOp) (x : Operation) → operation_of o g.tdr g.vp line op ≡ x → P w → P (world_after (operation_event w lp g x) w)
   by_operation w lp g line op (ByRow row) e h = by_operation_row row w g.operation.phase g.operation.held h (operations g.tdr g.vp line op row w e h)
-  by_operation w lp g line op (Private access r gpa) e h = by_private w g access r gpa (look_up lp.cached g.tdr (page_of_gpa gpa) access) h
+  by_operation w lp g line op (Private access r gpa) e h = by_private w g line op access r gpa (look_up lp.cached g.tdr (page_of_gpa gpa) access) e h
 
   by_max : (w : World) (lp : Lp) (g : Guest) (op : GuestOp) (b : Bool) → P w → P (world_after (max_event o w lp g op b) w)
   by_max w lp g op true h = leaves g.vp w h

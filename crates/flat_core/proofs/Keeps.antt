@@ -1,7 +1,8 @@
 -- Each row's act keeps what every world keeps.
-use Rattle.std.proofs.Common.{lit<, lit≤, ◌≡◌, refl, sym, ◌∙◌, subst, ap, ℕ, zero, suc, ◌<◌, ◌≤◌, List, [], ◌∷◌, length, Option, Some, None, Bool, true, false, not, ◌==◌, ◌&&◌, nat_le, arith}
+use Rattle.std.proofs.Common.{lit<, lit≤, ◌≡◌, ◌≢◌, refl, sym, ◌∙◌, subst, ap, ℕ, zero, suc, ◌*◌, ◌^◌, ◌<◌, ◌≤◌, List, [], ◌∷◌, length, Option, Some, None, Bool, true, false, not, ◌==◌, ◌&&◌, nat_lt, nat_le, arith}
 use Rattle.std.specs.List.{list_any}
 use Rattle.std.proofs.lemmas.Bool.{eqb-true}
+use Rattle.std.proofs.Math.Nat.{lt_of_le_of_lt, div-mul-le_self}
 use Rattle.mrtd_measure.specs.Records.{page_record, chunk_records}
 use Rattle.td_words.specs.declared.names.PageKind.{PageKind}
 use Rattle.td_words.specs.declared.names.PageKind.TheVariants as kind
@@ -15,31 +16,32 @@ use Rattle.td_words.specs.declared.names.ReadField.{ReadField}
 use Rattle.td_words.specs.declared.machines.Machine.{Machine}
 use Rattle.td_words.specs.declared.calls.Call.{Call}
 use Rattle.td_words.specs.declared.calls.Call.TheVariants as call
-use Rattle.td_words.specs.NameNumber.{life_number}
+use Rattle.td_words.specs.NameNumber.{life_number, op_number}
 use Rattle.td_words.specs.Packing.{Key, Unassigned, AssignedTo, FlushedOf}
 use Rattle.flat_core.specs.World.{World, Pages, Tds, KeyTable, put, first_world}
 use Rattle.flat_core.specs.Opening.{Opening}
 use Rattle.flat_core.specs.Row.{Passes}
 use Rattle.flat_core.specs.Conditions.{is_free_key, is_host, vp_limit, host_page, page_exclusive}
+use Rattle.flat_core.specs.Arguments.{level_size}
 use Rattle.flat_core.specs.Tree.{page_of_gpa, number_at, entry_at, same_state, state_in}
-use Rattle.flat_core.specs.Effects.{new_td, set_page, clear_page, take_page, map_page, begin_memory, end_memory_in, set_life, set_op, set_epoch, end_measurement}
+use Rattle.flat_core.specs.Effects.{new_td, set_page, clear_page, take_page, map_page, begin_memory, end_memory_in, set_op, set_epoch, end_measurement}
 use Rattle.flat_core.specs.HostRows.{host_read, host_write, read_metadata}
 use Rattle.flat_core.specs.TdRows.{create, configure_key, add_tdcx, initialize, read_td, finalize}
 use Rattle.flat_core.specs.KeyRows.{write_caches_back, reclaim_conditions, reclaim_page, end_flush, free_hkid}
 use Rattle.flat_core.specs.VpRows.{create_vp, initialize_vp}
 use Rattle.flat_core.specs.MemRows.{add_sept, read_sept, add_page, chunk_bytes, extend}
 use Rattle.flat_core.specs.Table.{row_of}
-use Rattle.flat_core.specs.Lawful.{IsAlive, AreControls, ArePagesOf, LawfulPages, LawfulTds, LawfulTree, LawfulKeys, LawfulBeginnings, Lawful, RowKeeps, is_free, key_owner}
+use Rattle.flat_core.specs.Lawful.{IsAlive, AreControls, ArePagesOf, LawfulPages, LawfulTds, IsListed, LawfulLists, LawfulTree, LawfulKeys, LawfulBeginnings, Lawful, RowKeeps, is_free, is_named_kind, key_owner}
 use Rattle.flat_core.proofs.Tests.{by_test, host_kind, tdr_kind, lt_of, range_of, some_same, same_self, not_true, and_left, and_right}
 use Rattle.flat_core.proofs.Pages.{taken, other, taken_node, taken_controls, taken_list, unowned, taken_pages}
 use Rattle.flat_core.proofs.Maps.{kind_named, is_upper, map_kept, walk_passed}
-use Rattle.flat_core.proofs.Parts.{IsLive, new_kept, key_kept, write_back_kept, life_kept, op_kept, epoch_kept, begin_kept, measure_kept, end_kept, control_kept, vp_kept, taken_kept, ended_kept, left_kept}
+use Rattle.flat_core.proofs.Parts.{IsLive, LawfulBut, new_kept, write_back_kept, life_kept, flush_kept, op_kept, epoch_kept, begin_kept, measure_kept, end_kept, control_kept, vp_kept, taken_kept, ended_kept, left_kept}
 
 pub host_read-keeps : (m : Machine) (page i : ℕ) → RowKeeps m (host_read m page i)
 host_read-keeps m page i = record { act = λ w l ps. l; to_tell = λ w. refl }
 
 pub host_write-keeps : (m : Machine) (page i v : ℕ) → RowKeeps m (host_write m page i v)
-host_write-keeps m page i v = record { act = λ w l ps. record { size = l.size; pages = l.pages; tds = l.tds; tree = l.tree; keys = l.keys; beginnings = l.beginnings }; to_tell = λ w. refl }
+host_write-keeps m page i v = record { act = λ w l ps. record { size = l.size; pages = l.pages; tds = l.tds; lists = l.lists; tree = l.tree; keys = l.keys; beginnings = l.beginnings }; to_tell = λ w. refl }
 
 pub read_metadata-keeps : (m : Machine) (page : ℕ) → RowKeeps m (read_metadata m page)
 read_metadata-keeps m page = record { act = λ w l ps. l; to_tell = λ w. refl }
@@ -48,17 +50,23 @@ pub write_caches_back-keeps : (m : Machine) → RowKeeps m write_caches_back
 write_caches_back-keeps m = record { act = λ w l ps. write_back_kept m w l; to_tell = λ w. refl }
 
 -- lives: one of those allowed isn't at its end; and one at its end
-live_of : (allowed : List LifeState) (s : LifeState) → list_any (λ a. life_number a == life_number life.Teardown) allowed ≡ false → list_any (λ a. life_number a == life_number s) allowed ≡ true → IsLive s
+pub live_of : (allowed : List LifeState) (s : LifeState) → list_any (λ a. life_number a == life_number life.Teardown) allowed ≡ false → list_any (λ a. life_number a == life_number s) allowed ≡ true → IsLive s
 live_of allowed life.HkidAssigned no_end among = refl
 live_of allowed life.KeysConfigured no_end among = refl
 live_of allowed life.Blocked no_end among = refl
 live_of allowed life.Teardown no_end among = cc
 
-ended_of : (s : LifeState) → list_any (λ a. life_number a == life_number s) (life.Teardown ∷ []) ≡ true → (life_number s == life_number life.Teardown) ≡ true
+pub ended_of : (s : LifeState) → list_any (λ a. life_number a == life_number s) (life.Teardown ∷ []) ≡ true → (life_number s == life_number life.Teardown) ≡ true
 ended_of life.Teardown among = refl
 ended_of life.HkidAssigned among = cc
 ended_of life.KeysConfigured among = cc
 ended_of life.Blocked among = cc
+
+not_blocked : (s : LifeState) → list_any (λ a. life_number a == life_number s) (life.HkidAssigned ∷ []) ≡ true → (life_number s == life_number life.Blocked) ≡ false
+not_blocked life.Blocked among = cc
+not_blocked life.HkidAssigned among = refl
+not_blocked life.KeysConfigured among = refl
+not_blocked life.Teardown among = refl
 
 -- PHYMEM.PAGE.RECLAIM
 reclaim_kept : (m : Machine) (w : World) (t p : ℕ) (b : Bool) → (p == t) ≡ b → Lawful m w → w.pages.kinds t ≡ kind.Tdr → (life_number (w.tds.lives t) == life_number life.Teardown) ≡ true
@@ -69,7 +77,7 @@ reclaim_kept m w t p b e l root dead ps = by b e ps
     w' = end_memory_in t p w
 
     l' : Lawful m w'
-    l' = record { size = l.size; pages = l.pages; tds = l.tds; tree = l.tree; keys = l.keys; beginnings = l.beginnings }
+    l' = record { size = l.size; pages = l.pages; tds = l.tds; lists = l.lists; tree = l.tree; keys = l.keys; beginnings = l.beginnings }
 
     by : (b : Bool) → (p == t) ≡ b → Passes (reclaim_conditions w t p b) → Lawful m ((reclaim_page m t p).act w)
     by true e ps =
@@ -108,12 +116,32 @@ module _ (count : ℕ) (old : Pages) (tds : Tds) (table : KeyTable) (t h : ℕ) 
     streams_few = λ x. by_test (x == t) (λ y. rw y (lit≤ tt)) (λ y. rw y (l.streams_few x));
     streams_differ = λ x. by_test (x == t) (λ y. rw y refl) (λ y. rw y (l.streams_differ x));
     epoch = λ x. by_test (x == t) (λ y. rw y (lit< tt)) (λ y. rw y (l.epoch x));
+    epoch_begun = λ x. by_test (x == t) (λ y n. absurd (n (rw y refl))) (λ y n. rw y (l.epoch_begun x (rw y at n)));
   }
 
-  named_kept : LawfulTree count old tds → (p : ℕ) → (p == t) ≡ false → (old.owners p == t) ≡ false → pages.kinds p ≡ kind.Ept → IsAlive pages begun (pages.owners p)
+  new_listed : (lists : ℕ → List ℕ) (j : PageKind) → kind.Tdr ≢ j → j ≢ kind.Nda → ((q : ℕ) → IsListed old tds lists j q) → (q : ℕ) → IsListed pages begun (put lists t []) j q
+  new_listed lists j apart owned h q e a = by_test (q == t) (λ y. absurd (apart (rw y at e))) (λ y. there y (rw y at e))
+    where
+      there : (q == t) ≡ false → old.kinds q ≡ j → list_any (λ x. x == q) (put lists t [] (pages.owners q)) ≡ true
+      there y e' =
+          let o : (old.owners q == t) ≡ false = unowned count old t kind.Tdr t 0 0 host lawful q j e' owned in
+          let a' : IsAlive pages begun (old.owners q) = rw y at a in
+          rw (y, o) (h q e' (alive_before (old.owners q) o a'))
+
+  new_lists : (indexes : ℕ → ℕ) → LawfulLists old tds indexes → LawfulLists pages begun indexes
+  new_lists indexes l = record {
+    control = new_listed tds.controls kind.Tdcx (λ e. cc) (λ e. cc) l.control;
+    vp = new_listed tds.vps kind.Tdvpr (λ e. cc) (λ e. cc) l.vp;
+    stream = new_listed tds.streams kind.Migsc (λ e. cc) (λ e. cc) l.stream;
+    index = λ x i v a. by_test (x == t)
+        (λ y e. absurd (let no : None ≡ Some v = rw y at e in cc))
+        (λ y e. l.index x i v (alive_before x y a) (rw y at e));
+  }
+
+  named_kept : LawfulTree count old tds → (p : ℕ) → (p == t) ≡ false → (old.owners p == t) ≡ false → is_named_kind (pages.kinds p) ≡ true → IsAlive pages begun (pages.owners p)
       → (is_free (begun.entries (pages.owners p) (pages.levels p) (pages.numbers p)).state ≡ false) × ((begun.entries (pages.owners p) (pages.levels p) (pages.numbers p)).page ≡ p) × (pages.levels p ≤ 3)
   named_kept l p e o k a =
-      let k' : old.kinds p ≡ kind.Ept = rw e at k in
+      let k' : is_named_kind (old.kinds p) ≡ true = rw e at k in
       let a' : IsAlive pages begun (old.owners p) = rw e at a in
       let kept = l.named p k' (alive_before (old.owners p) o a') in
       rw (e, o) kept
@@ -130,9 +158,12 @@ module _ (count : ℕ) (old : Pages) (tds : Tds) (table : KeyTable) (t h : ℕ) 
     below = λ x k n few a. by_test (x == t)
         (λ y e. absurd (let no : true ≡ false = rw y at e in cc))
         (λ y e. rw y (l.below x k n few (alive_before x y a) (rw y at e)));
+    in_range = λ x k n. by_test (x == t)
+        (λ y e. absurd (let no : true ≡ false = rw y at e in cc))
+        (λ y e. l.in_range x k n (rw y at e));
     named = λ p k a. by_test (p == t)
-        (λ y. absurd (let no : kind.Tdr ≡ kind.Ept = rw y at k in cc))
-        (λ y. named_kept l p y (unowned count old t kind.Tdr t 0 0 host lawful p kind.Ept (rw y at k) (λ e. cc)) k a);
+        (λ y. absurd (let no : false ≡ true = rw y at k in cc))
+        (λ y. named_kept l p y (unowned count old t kind.Tdr t 0 0 host lawful p (old.kinds p) refl (λ e. absurd (let no : false ≡ true = rw (y, e) at k in cc))) k a);
   }
 
   taken_key : (k : Key) (x : ℕ) → is_free_key k ≡ true → key_owner k ≡ Some x → ⊥
@@ -167,6 +198,12 @@ module _ (count : ℕ) (old : Pages) (tds : Tds) (table : KeyTable) (t h : ℕ) 
         by_test (tds.hkids x == h)
         (λ z. absurd (let here : tds.hkids x ≡ h = eqb-true _ h z in taken_key (table.keys h) x is_free_hkid (sym (ap (λ (n : ℕ). key_owner (table.keys n)) here) ∙ before)))
         (λ z. rw (y, z) before)));
+    flushed = λ x a. by_test (x == t)
+        (λ y. rw (y, same_self h) refl)
+        (λ y. (let before = l.owner x (alive_before x y a) in
+        by_test (tds.hkids x == h)
+        (λ z. absurd (let here : tds.hkids x ≡ h = eqb-true _ h z in taken_key (table.keys h) x is_free_hkid (sym (ap (λ (n : ℕ). key_owner (table.keys n)) here) ∙ before)))
+        (λ z. rw (y, z) (l.flushed x (alive_before x y a)))));
   }
 
   -- it is new, whatever stood there before
@@ -201,6 +238,7 @@ create-keeps m t h = record {
         size = l.size;
         pages = taken_pages m.pages w.pages t kind.Tdr t 0 0 host l.pages small (λ e. cc) (λ e. refl) (rw (same_self t) refl);
         tds = new_tds m.pages w.pages w.tds w.key_table t h host l.pages free_hkid l.tds;
+        lists = new_lists m.pages w.pages w.tds w.key_table t h host l.pages free_hkid w.vps.indexes l.lists;
         tree = new_tree m.pages w.pages w.tds w.key_table t h host l.pages free_hkid l.tree;
         keys = new_keys m.pages w.pages w.tds w.key_table t h host l.pages free_hkid m.hkids (range_of h m.hkids ps.1.0) l.keys;
         beginnings = new_beginnings m.pages w.pages w.tds w.key_table t h host l.pages free_hkid w.hidden.rtmrs l.beginnings;
@@ -210,13 +248,18 @@ create-keeps m t h = record {
 
 pub configure_key-keeps : (m : Machine) (t : ℕ) → RowKeeps m (configure_key m t)
 configure_key-keeps m t = record {
-  act = λ w l ps. life_kept m w t life.KeysConfigured (live_of (life.HkidAssigned ∷ []) (w.tds.lives t) refl ps.1.1.0) refl l;
+  act = λ w l ps.
+      life_kept m w t life.KeysConfigured (record { kind = tdr_kind _ ps.1.0; life = live_of (life.HkidAssigned ∷ []) (w.tds.lives t) refl ps.1.1.0 }) refl l
+      (not_blocked (w.tds.lives t) ps.1.1.0);
   to_tell = λ w. refl;
 }
 
--- a page that is taken and cleared
+-- a page that is mapped, or taken, and cleared
+cleared_but : (m : Machine) (p : ℕ) (w : World) → LawfulBut m w p → LawfulBut m (clear_page p w) p
+cleared_but m p w l = record { size = l.size; pages = l.pages; tds = l.tds; control = l.control; vp = l.vp; stream = l.stream; index = l.index; tree = l.tree; keys = l.keys; beginnings = l.beginnings }
+
 cleared : (m : Machine) (p : ℕ) (w : World) → Lawful m w → Lawful m (clear_page p w)
-cleared m p w l = record { size = l.size; pages = l.pages; tds = l.tds; tree = l.tree; keys = l.keys; beginnings = l.beginnings }
+cleared m p w l = record { size = l.size; pages = l.pages; tds = l.tds; lists = l.lists; tree = l.tree; keys = l.keys; beginnings = l.beginnings }
 
 -- MNG.ADDCX
 pub add_tdcx-keeps : (m : Machine) (t p : ℕ) → RowKeeps m (add_tdcx m t p)
@@ -226,7 +269,7 @@ add_tdcx-keeps m t p = record {
       let root : w.pages.kinds t ≡ kind.Tdr = tdr_kind _ ps.1.1.1.0 in
       let alive : IsAlive w.pages w.tds t = record { kind = root; life = live_of (life.KeysConfigured ∷ []) (w.tds.lives t) refl ps.1.1.1.1.0 } in
       let w' : World = clear_page p (take_page p kind.Tdcx t w) in
-      let l' : Lawful m w' = cleared m p (take_page p kind.Tdcx t w) (taken_kept m w p kind.Tdcx t 0 0 host (lt_of p m.pages ps.1.0) l (λ e. cc) (λ e. cc) root (λ e. cc)) in
+      let l' : LawfulBut m w' p = cleared_but m p (take_page p kind.Tdcx t w) (taken_kept m w p kind.Tdcx t 0 0 host (lt_of p m.pages ps.1.0) l (λ e. cc) (λ e. cc) root refl) in
       control_kept m w' t p l' (record { kind = rw (same_self p) refl; owner = rw (same_self p) refl }) ps.1.1.1.1.1.0
       (λ c e. let its : AreControls w.pages t (c ∷ []) = subst (λ (cs : List ℕ). AreControls w.pages t cs) e (l.tds.controls t alive) in
       other m.pages w.pages p kind.Tdcx t 0 0 host l.pages c kind.Tdcx its.kind (λ e. cc));
@@ -237,10 +280,10 @@ pub initialize-keeps : (m : Machine) (t : ℕ) → RowKeeps m (initialize m t)
 initialize-keeps m t = record {
   act = λ w l ps.
       let built = ps.1.1.1.0 in
-      let w1 : World = set_op t op.Initialized w in
-      let l1 : Lawful m w1 = op_kept m w t built l op.Initialized in
-      let w2 : World = set_epoch t 1 w1 in
-      let l2 : Lawful m w2 = epoch_kept m w1 t built l1 1 (lit< tt) in
+      let w1 : World = set_epoch t 1 w in
+      let l1 : Lawful m w1 = epoch_kept m w t built l 1 (lit≤ tt) (lit< tt) in
+      let w2 : World = set_op t op.Initialized w1 in
+      let l2 : Lawful m w2 = op_kept m w1 t built l1 op.Initialized (rw (same_self t) (lit≤ tt)) in
       begin_kept m w2 t built l2;
   to_tell = λ w. refl;
 }
@@ -248,9 +291,13 @@ initialize-keeps m t = record {
 pub read_td-keeps : (m : Machine) (t : ℕ) (f : ReadField) → RowKeeps m (read_td m t f)
 read_td-keeps m t f = record { act = λ w l ps. l; to_tell = λ w. refl }
 
+begun_of : (s : OpState) → list_any (λ a. op_number a == op_number s) (op.Initialized ∷ []) ≡ true → s ≢ op.Uninitialized
+begun_of op.Initialized h e = cc
+begun_of _ h e = cc
+
 pub finalize-keeps : (m : Machine) (t : ℕ) → RowKeeps m (finalize m t)
 finalize-keeps m t = record {
-  act = λ w l ps. op_kept m (end_measurement t w) t ps.1.1.1.0 (end_kept m w t ps.1.1.1.0 l) op.Runnable;
+  act = λ w l ps. op_kept m (end_measurement t w) t ps.1.1.1.0 (end_kept m w t ps.1.1.1.0 l) op.Runnable (l.tds.epoch_begun t (begun_of (w.tds.ops t) ps.1.1.1.1.0));
   to_tell = λ w. refl;
 }
 
@@ -258,7 +305,7 @@ pub end_flush-keeps : (m : Machine) (t : ℕ) → RowKeeps m (end_flush m t)
 end_flush-keeps m t = record {
   act = λ w l ps.
       let live : IsLive (w.tds.lives t) = live_of (life.HkidAssigned ∷ life.KeysConfigured ∷ []) (w.tds.lives t) refl ps.1.1.0 in
-      key_kept m (set_life t life.Blocked w) (w.tds.hkids t) (FlushedOf t false) (sym (l.keys.owner t (record { kind = tdr_kind _ ps.1.0; life = live }))) (life_kept m w t life.Blocked live refl l);
+      flush_kept m w t life.Blocked (record { kind = tdr_kind _ ps.1.0; life = live }) refl l refl;
   to_tell = λ w. refl;
 }
 
@@ -284,7 +331,7 @@ create_vp-keeps m t p = record {
       let root : w.pages.kinds t ≡ kind.Tdr = tdr_kind _ ps.1.1.1.0 in
       let alive : IsAlive w.pages w.tds t = record { kind = root; life = live_of (life.KeysConfigured ∷ []) (w.tds.lives t) refl ps.1.1.1.1.0 } in
       let w' : World = clear_page p (take_page p kind.Tdvpr t w) in
-      let l' : Lawful m w' = cleared m p (take_page p kind.Tdvpr t w) (taken_kept m w p kind.Tdvpr t 0 0 host (lt_of p m.pages ps.1.0) l (λ e. cc) (λ e. cc) root (λ e. cc)) in
+      let l' : LawfulBut m w' p = cleared_but m p (take_page p kind.Tdvpr t w) (taken_kept m w p kind.Tdvpr t 0 0 host (lt_of p m.pages ps.1.0) l (λ e. cc) (λ e. cc) root refl) in
       let room : length (w.tds.vps t) < vp_limit (w.tds.ops t) (w.tds.vps_expected t) = lt_of _ _ ps.1.1.1.1.1.1.1.0 in
       let most : vp_limit (w.tds.ops t) (w.tds.vps_expected t) ≤ 8 = few_vps (w.tds.ops t) (w.tds.vps_expected t) (l.tds.vps_expected t) in
       vp_kept m w' t p l' (record { kind = rw (same_self p) refl; owner = rw (same_self p) refl }) ps.1.1.1.1.1.0 (omega arith) (not_in_list m w t p l host (w.tds.vps t) (l.tds.vps t alive));
@@ -292,7 +339,11 @@ create_vp-keeps m t p = record {
 }
 
 pub initialize_vp-keeps : (m : Machine) (t v x : ℕ) → RowKeeps m (initialize_vp m t v x)
-initialize_vp-keeps m t v x = record { act = λ w l ps. record { size = l.size; pages = l.pages; tds = l.tds; tree = l.tree; keys = l.keys; beginnings = l.beginnings }; to_tell = λ w. refl }
+initialize_vp-keeps m t v x = record { act = λ w l ps. record { size = l.size; pages = l.pages; tds = l.tds; lists = l.lists; tree = l.tree; keys = l.keys; beginnings = l.beginnings }; to_tell = λ w. refl }
+
+-- the number of the entry that maps a GPA
+within : (gpa level : ℕ) → nat_lt gpa (2 ^ 47) ≡ true → number_at level gpa * level_size level < 2 ^ 47
+within gpa level h = lt_of_le_of_lt (div-mul-le_self gpa (level_size level)) (lt_of gpa (2 ^ 47) h)
 
 -- MEM.SEPT.ADD
 free_of : (s : EntryState) → list_any (λ a. same_state a s) (entry.Free ∷ []) ≡ true → is_free s ≡ true
@@ -310,7 +361,7 @@ add_sept-keeps m t gpa level p = record {
       let behind = walk_passed w t gpa (state_in w t gpa level (entry.Free ∷ []) ∷ page_exclusive p ∷ host_page w p ∷ []) level at.0 ps.1.1.1.1.1.1.1.1.1.1 in
       let kept : Lawful m (map_page p (kind_named level) entry.NlMapped t level (number_at level gpa) w) =
       map_kept m w p t level (number_at level gpa) entry.NlMapped (host_kind _ behind.0.1.0) (lt_of p m.pages ps.1.1.1.0) l (tdr_kind _ ps.1.1.1.1.1.1.0) ps.1.1.1.1.1.1.1.1.0
-      (free_of (entry_at w t level gpa).state behind.0.0) behind.1 refl (sym at.1) refl at.0 in
+      (free_of (entry_at w t level gpa).state behind.0.0) behind.1 refl (sym at.1) refl at.0 (within gpa level ps.1.0) in
       cleared m p (map_page p kind.Ept entry.NlMapped t level (number_at level gpa) w)
       (subst (λ (k : PageKind). Lawful m (map_page p k entry.NlMapped t level (number_at level gpa) w)) (sym at.2) kept);
   to_tell = λ w. refl;
@@ -321,7 +372,7 @@ read_sept-keeps m t gpa level = record { act = λ w l ps. l; to_tell = λ w. ref
 
 -- MEM.PAGE.ADD
 added_words : (m : Machine) (t g p : ℕ) (ws : ℕ → ℕ) (w : World) → Lawful m w → Lawful m (begin_memory t g ws (set_page p ws w))
-added_words m t g p ws w l = record { size = l.size; pages = l.pages; tds = l.tds; tree = l.tree; keys = l.keys; beginnings = l.beginnings }
+added_words m t g p ws w l = record { size = l.size; pages = l.pages; tds = l.tds; lists = l.lists; tree = l.tree; keys = l.keys; beginnings = l.beginnings }
 
 pub add_page-keeps : (m : Machine) (t gpa p source : ℕ) → RowKeeps m (add_page m t gpa p source)
 add_page-keeps m t gpa p source = record {
@@ -332,7 +383,7 @@ add_page-keeps m t gpa p source = record {
       let w1 : World = map_page p kind.Reg entry.Mapped t 0 (number_at 0 gpa) w in
       let l1 : Lawful m w1 =
       map_kept m w p t 0 (number_at 0 gpa) entry.Mapped (host_kind _ behind.0.1.1.0) (lt_of p m.pages ps.1.1.0) l (tdr_kind _ head.0) built
-      (free_of (entry_at w t 0 gpa).state behind.0.0) behind.1 refl refl refl (lit≤ tt) in
+      (free_of (entry_at w t 0 gpa).state behind.0.0) behind.1 refl refl refl (lit≤ tt) (within gpa 0 ps.1.0) in
       let w2 : World = begin_memory t (page_of_gpa gpa) (w.words source) (set_page p (w.words source) w1) in
       measure_kept m w2 t built (added_words m t (page_of_gpa gpa) p (w.words source) w1 l1) (page_record gpa);
   to_tell = λ w. refl;
@@ -370,12 +421,14 @@ pub first-lawful : (m : Machine) (words_to_tell : Option (List ℕ)) → Lawful 
 first-lawful m ws = record {
   size = refl;
   pages = record { tdr = λ t h. cc; owner = λ p h. cc; in_machine = λ p h. cc; host = λ p h. (refl, refl); blocked = λ p. lit< tt };
-  tds = record { controls = λ t a. tt; vps = λ t a. tt; streams = λ t a. tt; vps_few = λ t. lit≤ tt; vps_differ = λ t. refl; vps_expected = λ t. lit≤ tt; streams_few = λ t. lit≤ tt; streams_differ = λ t. refl; epoch = λ t. lit< tt };
-  tree = record { entry = λ few t l n. refl; upper = λ t l n a h. absurd (let no : true ≡ false = h in cc); leaf = λ t n a h. absurd (let no : true ≡ false = h in cc); below = λ t l n few a h. absurd (let no : true ≡ false = h in cc); named = λ p h a. cc };
+  tds = record { controls = λ t a. tt; vps = λ t a. tt; streams = λ t a. tt; vps_few = λ t. lit≤ tt; vps_differ = λ t. refl; vps_expected = λ t. lit≤ tt; streams_few = λ t. lit≤ tt; streams_differ = λ t. refl; epoch = λ t. lit< tt; epoch_begun = λ t n. absurd (n refl) };
+  lists = record { control = λ p e a. cc; vp = λ p e a. cc; stream = λ p e a. cc; index = λ t i v a e. cc };
+  tree = record { entry = λ few t l n. refl; upper = λ t l n a h. absurd (let no : true ≡ false = h in cc); leaf = λ t n a h. absurd (let no : true ≡ false = h in cc); below = λ t l n few a h. absurd (let no : true ≡ false = h in cc); in_range = λ t l n h. absurd (let no : true ≡ false = h in cc); named = λ p h a. cc };
   keys = record {
     in_range = λ t a. absurd (let no : kind.Nda ≡ kind.Tdr = a.kind in cc);
     owner = λ t a. absurd (let no : kind.Nda ≡ kind.Tdr = a.kind in cc);
     owned = λ h t e. absurd (let no : None ≡ Some t = e in cc);
+    flushed = λ t a. absurd (let no : kind.Nda ≡ kind.Tdr = a.kind in cc);
   };
   beginnings = record { is_new = λ t a n. absurd (let no : kind.Nda ≡ kind.Tdr = a.kind in cc) };
 }

@@ -6,6 +6,7 @@ use Rattle.td_words.specs.declared.names.Access.TheVariants.{Read, Write}
 use Rattle.flat_core.specs.World.{World}
 use Rattle.flat_core.specs.Opening.{Opening}
 use Rattle.flat_core.specs.Row.{Attempts, Undoes, Refuses, Succeeds, Releases, Rests}
+use Rattle.flat_core.specs.Effects.{leave_guest}
 use Rattle.flat_core.specs.Guest.{reach}
 use Rattle.flat_core.specs.Event.{State, Event, OfCall, OfOperation, Walks, Reaches, Leaves, start, next_event, after_event}
 use Rattle.flat_core.specs.Lawful.{Lawful}
@@ -15,16 +16,20 @@ use Rattle.flat_core.proofs.Keeps.{row-keeps, first-lawful}
 
 -- a guest's access changes words, registers, memories and positions alone
 reach_lawful : (o : Opening) (t v : ℕ) (access : Access) (r gpa page : ℕ) (w : World) → Lawful o.machine w → Lawful o.machine (reach t v access r gpa page w)
-reach_lawful o t v Read r gpa page w l = record { size = l.size; pages = l.pages; tds = l.tds; tree = l.tree; keys = l.keys; beginnings = l.beginnings }
-reach_lawful o t v Write r gpa page w l = record { size = l.size; pages = l.pages; tds = l.tds; tree = l.tree; keys = l.keys; beginnings = l.beginnings }
+reach_lawful o t v Read r gpa page w l = record { size = l.size; pages = l.pages; tds = l.tds; lists = l.lists; tree = l.tree; keys = l.keys; beginnings = l.beginnings }
+reach_lawful o t v Write r gpa page w l = record { size = l.size; pages = l.pages; tds = l.tds; lists = l.lists; tree = l.tree; keys = l.keys; beginnings = l.beginnings }
+
+-- and a count step which virtual processors are in guest
+pub leave_lawful : (o : Opening) (v : ℕ) (w : World) → Lawful o.machine w → Lawful o.machine (leave_guest v w)
+leave_lawful o v w l = record { size = l.size; pages = l.pages; tds = l.tds; lists = l.lists; tree = l.tree; keys = l.keys; beginnings = l.beginnings }
 
 pub events_keep : EventsKeepLawful
 events_keep o s p l =
     world_event o (Lawful o.machine)
     (λ me c w l ps. (row-keeps o me c).act w l ps)
     (λ t v line op row w e l ps. elim op [ ])
-    (reach_lawful o)
-    (λ v w l. record { size = l.size; pages = l.pages; tds = l.tds; tree = l.tree; keys = l.keys; beginnings = l.beginnings })
+    (λ t v line op access r gpa page w e. reach_lawful o t v access r gpa page w)
+    (leave_lawful o)
     s p l
 
 pub every_lawful : EveryWorldIsLawful
@@ -32,8 +37,8 @@ every_lawful o ws schedule =
     world_kept o (Lawful o.machine)
     (λ me c w l ps. (row-keeps o me c).act w l ps)
     (λ t v line op row w e l ps. elim op [ ])
-    (reach_lawful o)
-    (λ v w l. record { size = l.size; pages = l.pages; tds = l.tds; tree = l.tree; keys = l.keys; beginnings = l.beginnings })
+    (λ t v line op access r gpa page w e. reach_lawful o t v access r gpa page w)
+    (leave_lawful o)
     schedule (start o ws) (first-lawful o.machine ws)
 
 other_stays : (s : State) (p q : ℕ) (x : Option Event) → q ≢ p → (after_event p s x).lps q ≡ s.lps q
@@ -69,6 +74,6 @@ no_words_to_tell o s p h =
     world_event o (λ w. w.outgoing.to_tell ≡ None)
     (λ me c w none ps. (row-keeps o me c).to_tell w ∙ none)
     (λ t v line op row w e none ps. elim op [ ])
-    reach_tells
+    (λ t v line op access r gpa page w e. reach_tells t v access r gpa page w)
     (λ v w none. none)
     s p h

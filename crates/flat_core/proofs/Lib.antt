@@ -9,7 +9,12 @@ pub mod Blind
 pub mod Mrtd
 pub mod Kept
 pub mod Owned
+pub mod Measured
+pub mod OneUse
+pub mod Memories
 pub mod LockLaw
 pub mod Ends
 pub mod TwoWorlds
 pub mod Refused
+pub mod RefusedKeep
+pub mod Counts

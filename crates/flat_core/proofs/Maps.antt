@@ -1,5 +1,5 @@
 -- A host page becomes the one that a FREE entry of a TD names: what every world keeps.
-use Rattle.std.proofs.Common.{◌≡◌, ◌≢◌, refl, sym, ◌∙◌, subst, ℕ, zero, suc, ◌/◌, ◌<◌, ◌≤◌, List, ◌++◌, length, Bool, true, false, ◌==◌, arith}
+use Rattle.std.proofs.Common.{◌≡◌, ◌≢◌, refl, sym, ◌∙◌, subst, ap, ℕ, zero, suc, ◌*◌, ◌/◌, ◌^◌, ◌<◌, ◌≤◌, List, ◌++◌, length, Bool, true, false, ◌==◌, arith}
 use Rattle.std.specs.Prelude.{nat_lt}
 use Rattle.std.proofs.lemmas.Bool.{eqb-true}
 use Rattle.td_words.specs.declared.names.PageKind.{PageKind}
@@ -11,11 +11,12 @@ use Rattle.td_words.specs.declared.replies.Reply.{Reply}
 use Rattle.td_words.specs.Packing.{Entry, is_lawful_entry, is_exported}
 use Rattle.flat_core.specs.World.{World, Tds}
 use Rattle.flat_core.specs.Row.{Item, Passes}
+use Rattle.flat_core.specs.Arguments.{level_size}
 use Rattle.flat_core.specs.Tree.{number_at, same_state, walk}
 use Rattle.flat_core.specs.Effects.{map_page}
-use Rattle.flat_core.specs.Lawful.{IsAlive, IsNodeOf, Lawful, LawfulTree, is_free, is_node}
+use Rattle.flat_core.specs.Lawful.{IsAlive, IsNodeOf, IsListed, Lawful, LawfulTree, is_free, is_node, is_named_kind}
 use Rattle.flat_core.proofs.Tests.{by_test, same_self}
-use Rattle.flat_core.proofs.Parts.{now, IsNamed, new_kept, built_other, taken_back, taken_page_facts, taken_tds, taken_upper, taken_leaf, taken_keys, named_there}
+use Rattle.flat_core.proofs.Parts.{now, IsNamed, new_kept, built_other, taken_back, taken_page_facts, taken_tds, taken_all_listed, taken_upper, taken_leaf, taken_keys, named_there}
 
 -- what an entry of a level names: an upper one a secure EPT page, one of level 0 a private page
 abbrev pub kind_named : ℕ → PageKind
@@ -29,6 +30,14 @@ is_upper (suc l) = true
 never_host : (l : ℕ) → kind_named l ≢ kind.Nda
 never_host zero e = cc
 never_host (suc l) e = cc
+
+named_kind : (l : ℕ) → is_named_kind (kind_named l) ≡ true
+named_kind zero = refl
+named_kind (suc l) = refl
+
+-- no page that a list has
+unlisted : (l : ℕ) (j : PageKind) → is_named_kind j ≡ false → kind_named l ≢ j
+unlisted l j h e = let no : true ≡ false = sym (named_kind l) ∙ (ap is_named_kind e ∙ h) in cc
 
 never_tdr : (l : ℕ) → kind_named l ≢ kind.Tdr
 never_tdr zero e = cc
@@ -49,7 +58,7 @@ new_entry s p small taken unmarked = by s taken unmarked
 
 module _ (m : Machine) (w : World) (p t level number : ℕ) (s : EntryState) (host : w.pages.kinds p ≡ kind.Nda) (small : p < m.pages) (l : Lawful m w) (root : w.pages.kinds t ≡ kind.Tdr)
     (built : (length (w.tds.controls t) == 2) ≡ true) (free : is_free (w.tds.entries t level number).state ≡ true) (parent : level < 3 → is_free (w.tds.entries t (suc level) (number / 512)).state ≡ false)
-    (used : is_free s ≡ false) (node : is_node s ≡ is_upper level) (unmarked : is_exported s ≡ false) (low : level ≤ 3) where
+    (used : is_free s ≡ false) (node : is_node s ≡ is_upper level) (unmarked : is_exported s ≡ false) (low : level ≤ 3) (within : number * level_size level < 2 ^ 47) where
   abbrev k : PageKind
   k = kind_named level
 
@@ -109,7 +118,7 @@ module _ (m : Machine) (w : World) (p t level number : ℕ) (s : EntryState) (ho
   parent_at : (x j n : ℕ) → x ≡ t → j ≡ level → n ≡ number → j < 3 → is_free (w.tds.entries x (suc j) (n / 512)).state ≡ false
   parent_at x j n a b c few = rw (a, b, c) (parent (rw b at few))
 
-  -- a secure EPT page is named by the entry at its node
+  -- a secure EPT page or a private page is named by the entry at its node
   abbrev Names : ℕ → Entry → Type 0
   Names q e = (is_free e.state ≡ false) × (e.page ≡ q) × (pages.levels q ≤ 3)
 
@@ -133,10 +142,14 @@ module _ (m : Machine) (w : World) (p t level number : ℕ) (s : EntryState) (ho
     below = λ x j n few a. at_place (λ (e : Entry). is_free e.state ≡ false → is_free (mapped.entries x (suc j) (n / 512)).state ≡ false) x j n
         (λ e f g h. above_kept x j (n / 512) (parent_at x j n e f g few))
         (λ apart h. above_kept x j (n / 512) (l.tree.below x j n few (back x a) h));
+    in_range = λ x j n. at_place (λ (e : Entry). is_free e.state ≡ false → n * level_size j < 2 ^ 47) x j n (λ a b c h. rw (b, c) within) (λ apart. l.tree.in_range x j n);
     named = λ q e a. by_test (q == p)
         (λ y. subst (λ (z : ℕ). Names z (mapped.entries (pages.owners z) (pages.levels z) (pages.numbers z))) (sym (eqb-true q p y)) named_new)
         (λ y. named_old q (named_there m w p k t level number host small l (never_host level) (never_tdr level) root q y e (as_before (pages.owners q) a)));
   }
+
+  listed : (lists : ℕ → List ℕ) (j : PageKind) → is_named_kind j ≡ false → ((q : ℕ) → IsListed w.pages w.tds lists j q) → (q : ℕ) → IsListed pages w.tds lists j q
+  listed lists j h = taken_all_listed m w p k t level number host small l (never_host level) (never_tdr level) root lists j (unlisted level j h)
 
   pub map_kept : Lawful m (map_page p k s t level number w)
   map_kept =
@@ -155,12 +168,20 @@ module _ (m : Machine) (w : World) (p t level number : ℕ) (s : EntryState) (ho
           streams_few = tds'.streams_few;
           streams_differ = tds'.streams_differ;
           epoch = tds'.epoch;
+          epoch_begun = tds'.epoch_begun;
+        };
+        lists = record {
+          control = λ q e a. listed w.tds.controls kind.Tdcx refl l.lists.control q e (as_before (pages.owners q) a);
+          vp = λ q e a. listed w.tds.vps kind.Tdvpr refl l.lists.vp q e (as_before (pages.owners q) a);
+          stream = λ q e a. listed w.tds.streams kind.Migsc refl l.lists.stream q e (as_before (pages.owners q) a);
+          index = λ x i v a. l.lists.index x i v (back x a);
         };
         tree = mapped_tree;
         keys = record {
           in_range = λ x a. keys'.in_range x (as_before x a);
           owner = λ x a. keys'.owner x (as_before x a);
           owned = λ h x e. (let o = keys'.owned h x e in (record { kind = o.0.kind; life = o.0.life }, o.1));
+          flushed = λ x a. keys'.flushed x (as_before x a);
         };
         beginnings = record { is_new = λ x a n. new_kept w.tds mapped w.hidden.rtmrs w.hidden.rtmrs x (rw (built_other w.tds.controls t x built n) refl) (l.beginnings.is_new x (back x a) n) };
       }

@@ -40,7 +40,7 @@ sha384_words : (m : List ℕ) → let h = final_hash initial_hash_384 m in
 unfolding sha384 hash_bytes
 sha384_words m = refl
 
-digest_read : (m : List ℕ) → digest_bytes (six_words (digest_word (sha384 m))) ≡ sha384 m
+pub digest_read : (m : List ℕ) → digest_bytes (six_words (digest_word (sha384 m))) ≡ sha384 m
 digest_read m =
     let h = final_hash initial_hash_384 m in
     subst (λ (l : List ℕ). digest_bytes (six_words (digest_word l)) ≡ l) (sym (sha384_words m)) (six_read (slice_index h 0) (slice_index h 1) (slice_index h 2) (slice_index h 3) (slice_index h 4) (slice_index h 5))

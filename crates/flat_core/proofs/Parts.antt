@@ -1,5 +1,5 @@
 -- What the words that acts are written in keep of a lawful world.
-use Rattle.std.proofs.Common.{lit<, ◌≡◌, ◌≢◌, refl, sym, ◌∙◌, subst, ap, ℕ, zero, suc, ◌<◌, ◌≤◌, ◌^◌, List, [], ◌∷◌, ◌++◌, length, length-append, Some, None, true, false, not, ◌==◌, ◌&&◌, nat_lt, arith}
+use Rattle.std.proofs.Common.{lit<, ◌≡◌, ◌≢◌, ◌⊎◌, inl, inr, refl, sym, ◌∙◌, subst, ap, ℕ, zero, suc, ◌<◌, ◌≤◌, ◌^◌, List, [], ◌∷◌, ◌++◌, length, length-append, Some, None, true, false, not, ◌==◌, ◌&&◌, nat_lt, slice_get, arith}
 use Rattle.std.specs.List.{list_any}
 use Rattle.std.proofs.lemmas.Bool.{eq-eqb, eqb-true, eqb-false, ne_eqb}
 use Rattle.td_words.specs.declared.names.PageKind.{PageKind}
@@ -7,15 +7,16 @@ use Rattle.td_words.specs.declared.names.PageKind.TheVariants as kind
 use Rattle.td_words.specs.declared.names.LifeState.{LifeState}
 use Rattle.td_words.specs.declared.names.LifeState.TheVariants as life
 use Rattle.td_words.specs.declared.names.OpState.{OpState}
+use Rattle.td_words.specs.declared.names.OpState.TheVariants.{Uninitialized}
 use Rattle.td_words.specs.declared.machines.Machine.{Machine}
 use Rattle.td_words.specs.NameNumber.{life_number}
-use Rattle.td_words.specs.Packing.{Entry, Key, Unassigned}
+use Rattle.td_words.specs.Packing.{Entry, Key, Unassigned, FlushedOf}
 use Rattle.flat_core.specs.World.{World, Pages, Tds, KeyTable, put}
 use Rattle.flat_core.specs.Locks.{one_if}
 use Rattle.flat_core.specs.Conditions.{is_host_in, owned_below}
 use Rattle.flat_core.specs.Effects.{take_node, give_back, set_key, set_life, set_op, set_epoch, add_control, add_vp, begin_measurement, measure, end_measurement, write_back, written_back}
-use Rattle.flat_core.specs.Lawful.{IsAlive, IsPageOf, IsNodeOf, AreControls, ArePagesOf, all_differ, LawfulPages, LawfulTds, LawfulTree, LawfulKeys, LawfulBeginnings, Lawful, IsNew, is_node, is_free, key_owner}
-use Rattle.flat_core.proofs.Tests.{by_test, some_same, lt_of, not_true, and_left, and_right}
+use Rattle.flat_core.specs.Lawful.{IsAlive, IsPageOf, IsNodeOf, AreControls, ArePagesOf, all_differ, LawfulPages, LawfulTds, IsListed, LawfulLists, LawfulTree, LawfulKeys, LawfulBeginnings, Lawful, IsNew, is_node, is_free, is_named_kind, key_owner, is_flushed}
+use Rattle.flat_core.proofs.Tests.{by_test, some_same, same_self, lt_of, not_true, and_left, and_right}
 use Rattle.flat_core.proofs.Pages.{node_kept, controls_kept, pages_kept, taken, other, taken_node, taken_controls, taken_list, taken_pages}
 
 -- a life that isn't at its end
@@ -86,8 +87,8 @@ new_kept tds tds' r r' t e h = record {
 
 -- TDs that are alive were so before, and have the pages and the map that they had
 module _ (pages : Pages) (tds tds' : Tds) (back : (x : ℕ) → IsAlive pages tds' x → IsAlive pages tds x) where
-  pub shape_tds : SameShape tds tds' → ((x : ℕ) → tds'.epochs x < 2 ^ 32) → LawfulTds pages tds → LawfulTds pages tds'
-  shape_tds same small l = record {
+  pub shape_tds : SameShape tds tds' → ((x : ℕ) → tds'.epochs x < 2 ^ 32) → ((x : ℕ) → tds'.ops x ≢ Uninitialized → 1 ≤ tds'.epochs x) → LawfulTds pages tds → LawfulTds pages tds'
+  shape_tds same small begun l = record {
     controls = λ x a. subst (λ (f : ℕ → List ℕ). AreControls pages x (f x)) (sym same.controls) (l.controls x (back x a));
     vps = λ x a. subst (λ (f : ℕ → List ℕ). ArePagesOf pages x kind.Tdvpr (f x)) (sym same.vps) (l.vps x (back x a));
     vps_few = λ x. subst (λ (f : ℕ → List ℕ). length (f x) ≤ 8) (sym same.vps) (l.vps_few x);
@@ -97,6 +98,18 @@ module _ (pages : Pages) (tds tds' : Tds) (back : (x : ℕ) → IsAlive pages td
     streams_few = λ x. subst (λ (f : ℕ → List ℕ). length (f x) ≤ 4) (sym same.streams) (l.streams_few x);
     streams_differ = λ x. subst (λ (f : ℕ → List ℕ). all_differ (f x) ≡ true) (sym same.streams) (l.streams_differ x);
     epoch = small;
+    epoch_begun = begun;
+  }
+
+  pub shape_listed : (lists lists' : ℕ → List ℕ) (k : PageKind) → lists' ≡ lists → ((p : ℕ) → IsListed pages tds lists k p) → (p : ℕ) → IsListed pages tds' lists' k p
+  shape_listed lists lists' k same h p e a = subst (λ (f : ℕ → List ℕ). list_any (λ q. q == p) (f (pages.owners p)) ≡ true) (sym same) (h p e (back (pages.owners p) a))
+
+  pub shape_lists : (indexes : ℕ → ℕ) → SameShape tds tds' → LawfulLists pages tds indexes → LawfulLists pages tds' indexes
+  shape_lists indexes same l = record {
+    control = shape_listed tds.controls tds'.controls kind.Tdcx same.controls l.control;
+    vp = shape_listed tds.vps tds'.vps kind.Tdvpr same.vps l.vp;
+    stream = shape_listed tds.streams tds'.streams kind.Migsc same.streams l.stream;
+    index = λ x i v a e. l.index x i v (back x a) (subst (λ (f : ℕ → List ℕ). slice_get (f x) i ≡ Some v) same.vps e);
   }
 
   pub shape_tree : (count : ℕ) → tds'.entries ≡ tds.entries → LawfulTree count pages tds → LawfulTree count pages tds'
@@ -105,14 +118,18 @@ module _ (pages : Pages) (tds tds' : Tds) (back : (x : ℕ) → IsAlive pages td
     upper = λ x k n a. l.upper x k n (back x (record { kind = a.kind; life = a.life }));
     leaf = λ x n a. l.leaf x n (back x (record { kind = a.kind; life = a.life }));
     below = λ x k n few a. l.below x k n few (back x (record { kind = a.kind; life = a.life }));
+    in_range = l.in_range;
     named = λ p k a. l.named p k (back (pages.owners p) (record { kind = a.kind; life = a.life }));
   })
 
-  pub shape_keys : tds'.hkids ≡ tds.hkids → (count : ℕ) (table table' : KeyTable) → ((x : ℕ) → IsAlive pages tds x → IsAlive pages tds' x) → ((h : ℕ) → key_owner (table'.keys h) ≡ key_owner (table.keys h)) → LawfulKeys count pages tds table → LawfulKeys count pages tds' table'
-  shape_keys same count table table' forth owner l = record {
+  pub shape_keys : tds'.hkids ≡ tds.hkids → (count : ℕ) (table table' : KeyTable) → ((x : ℕ) → IsAlive pages tds x → IsAlive pages tds' x) → ((h : ℕ) → key_owner (table'.keys h) ≡ key_owner (table.keys h))
+      → ((x : ℕ) → IsAlive pages tds' x → is_flushed (table'.keys (tds.hkids x)) ≡ (life_number (tds'.lives x) == life_number life.Blocked))
+      → LawfulKeys count pages tds table → LawfulKeys count pages tds' table'
+  shape_keys same count table table' forth owner flushed l = record {
     in_range = λ x a. subst (λ (f : ℕ → ℕ). (1 ≤ f x) × (f x ≤ count)) (sym same) (l.in_range x (back x a));
     owner = λ x a. subst (λ (f : ℕ → ℕ). key_owner (table'.keys (f x)) ≡ Some x) (sym same) (owner (tds.hkids x) ∙ l.owner x (back x a));
     owned = λ h x e. (let o = l.owned h x (sym (owner h) ∙ e) in (forth x o.0, ap (λ (f : ℕ → ℕ). f x) same ∙ o.1));
+    flushed = λ x a. subst (λ (f : ℕ → ℕ). is_flushed (table'.keys (f x)) ≡ (life_number (tds'.lives x) == life_number life.Blocked)) (sym same) (flushed x a);
   }
 
   pub shape_beginnings : tds'.controls ≡ tds.controls → (r r' : ℕ → ℕ → ℕ) → ((x : ℕ) → (length (tds.controls x) == 2) ≡ false → facts tds' r' x ≡ facts tds r x) → LawfulBeginnings pages tds r → LawfulBeginnings pages tds' r'
@@ -127,60 +144,88 @@ built_other controls t x b n = by_test (x == t)
     (λ y. absurd (let same : x ≡ t = eqb-true x t y in let no : true ≡ false = sym b ∙ (ap (λ (z : ℕ). length (controls z) == 2) (sym same) ∙ n) in cc))
     (λ y. y)
 
--- keys that are the same TDs'
-pub keys_kept : (m : Machine) (w : World) (keys : ℕ → Key) → ((h : ℕ) → key_owner (keys h) ≡ key_owner (w.key_table.keys h)) → Lawful m w → Lawful m (record w { key_table = record (w.key_table) { keys = keys } })
-keys_kept m w keys e l = record {
+-- PHYMEM.CACHE.WB leaves each HKID its TD's, flushed or not
+pub write_back_kept : (m : Machine) (w : World) → Lawful m w → Lawful m (write_back w)
+write_back_kept m w l = record {
   size = l.size;
   pages = l.pages;
   tds = l.tds;
+  lists = l.lists;
   tree = l.tree;
-  keys = shape_keys w.pages w.tds w.tds (λ x a. a) refl m.hkids w.key_table (record (w.key_table) { keys = keys }) (λ x a. a) e l.keys;
+  keys = shape_keys w.pages w.tds w.tds (λ x a. a) refl m.hkids w.key_table (write_back w).key_table (λ x a. a) (λ h. same_owner (w.key_table.keys h))
+      (λ x a. same_flush (w.key_table.keys (w.tds.hkids x)) ∙ l.keys.flushed x a) l.keys;
   beginnings = l.beginnings;
 }
-
-pub key_kept : (m : Machine) (w : World) (h : ℕ) (k : Key) → key_owner k ≡ key_owner (w.key_table.keys h) → Lawful m w → Lawful m (set_key h k w)
-key_kept m w h k e = keys_kept m w (put w.key_table.keys h k)
-    (λ x. by_test (x == h) (λ y. rw y (e ∙ ap (λ (n : ℕ). key_owner (w.key_table.keys n)) (sym (eqb-true x h y)))) (λ y. rw y refl))
-
-pub write_back_kept : (m : Machine) (w : World) → Lawful m w → Lawful m (write_back w)
-write_back_kept m w = keys_kept m w (λ h. written_back (w.key_table.keys h)) (λ h. by (w.key_table.keys h))
   where
-    by : (k : Key) → key_owner (written_back k) ≡ key_owner k
-    by Unassigned = refl
-    by _ = refl
+    same_owner : (k : Key) → key_owner (written_back k) ≡ key_owner k
+    same_owner Unassigned = refl
+    same_owner _ = refl
+
+    same_flush : (k : Key) → is_flushed (written_back k) ≡ is_flushed k
+    same_flush Unassigned = refl
+    same_flush _ = refl
+
+-- the HKID of a TD that is alive is no other's
+pub own_hkid : (m : Machine) (w : World) (t x : ℕ) → Lawful m w → IsAlive w.pages w.tds t → IsAlive w.pages w.tds x → (x == t) ≡ false → (w.tds.hkids x == w.tds.hkids t) ≡ false
+own_hkid m w t x l alive a n = by_test (w.tds.hkids x == w.tds.hkids t)
+    (λ y. absurd (let here : w.tds.hkids x ≡ w.tds.hkids t = eqb-true _ _ y in
+    let both : Some x ≡ Some t = sym (l.keys.owner x a) ∙ (ap (λ (h : ℕ). key_owner (w.key_table.keys h)) here ∙ l.keys.owner t alive) in
+    let no : true ≡ false = sym (eq-eqb x t (some_same x t both)) ∙ n in cc))
+    (λ y. y)
 
 -- a TD that is alive, and stays so
-pub life_kept : (m : Machine) (w : World) (t : ℕ) (s : LifeState) → IsLive (w.tds.lives t) → IsLive s → Lawful m w → Lawful m (set_life t s w)
-life_kept m w t s before after l = record {
-  size = l.size;
-  pages = l.pages;
-  tds = shape_tds w.pages w.tds tds' back same l.tds.epoch l.tds;
-  tree = shape_tree w.pages w.tds tds' back m.pages refl l.tree;
-  keys = shape_keys w.pages w.tds tds' back refl m.hkids w.key_table w.key_table forth (λ h. refl) l.keys;
-  beginnings = shape_beginnings w.pages w.tds tds' back refl w.hidden.rtmrs w.hidden.rtmrs (λ x n. refl) l.beginnings;
-}
-  where
-    tds' : Tds
-    tds' = record (w.tds) { lives = put w.tds.lives t s }
+module _ (m : Machine) (w : World) (t : ℕ) (s : LifeState) (alive : IsAlive w.pages w.tds t) (after : IsLive s) (l : Lawful m w) where
+  abbrev lived : Tds
+  lived = record (w.tds) { lives = put w.tds.lives t s }
 
-    same : SameShape w.tds tds'
-    same = record { hkids = refl; controls = refl; entries = refl; vps = refl; vps_expected = refl; streams = refl }
+  lived_back : (x : ℕ) → IsAlive w.pages lived x → IsAlive w.pages w.tds x
+  lived_back x a = record { kind = a.kind; life = by_test (x == t) (λ y. subst (λ (z : ℕ). IsLive (w.tds.lives z)) (sym (eqb-true x t y)) alive.life) (λ n. rw n at a.life) }
 
-    back : (x : ℕ) → IsAlive w.pages tds' x → IsAlive w.pages w.tds x
-    back x a = record { kind = a.kind; life = by_test (x == t) (λ y. subst (λ (z : ℕ). IsLive (w.tds.lives z)) (sym (eqb-true x t y)) before) (λ n. rw n at a.life) }
+  lived_forth : (x : ℕ) → IsAlive w.pages w.tds x → IsAlive w.pages lived x
+  lived_forth x a = record { kind = a.kind; life = by_test (x == t) (λ y. rw y after) (λ n. rw n a.life) }
 
-    forth : (x : ℕ) → IsAlive w.pages w.tds x → IsAlive w.pages tds' x
-    forth x a = record { kind = a.kind; life = by_test (x == t) (λ y. rw y after) (λ n. rw n a.life) }
+  lived_kept : (keys : ℕ → Key) → ((h : ℕ) → key_owner (keys h) ≡ key_owner (w.key_table.keys h))
+      → ((x : ℕ) → IsAlive w.pages lived x → is_flushed (keys (w.tds.hkids x)) ≡ (life_number (lived.lives x) == life_number life.Blocked))
+      → Lawful m (record w { tds = lived; key_table = record (w.key_table) { keys = keys } })
+  lived_kept keys owner flushed =
+      let same : SameShape w.tds lived = record { hkids = refl; controls = refl; entries = refl; vps = refl; vps_expected = refl; streams = refl } in
+      record {
+        size = l.size;
+        pages = l.pages;
+        tds = shape_tds w.pages w.tds lived lived_back same l.tds.epoch l.tds.epoch_begun l.tds;
+        lists = shape_lists w.pages w.tds lived lived_back w.vps.indexes same l.lists;
+        tree = shape_tree w.pages w.tds lived lived_back m.pages refl l.tree;
+        keys = shape_keys w.pages w.tds lived lived_back refl m.hkids w.key_table (record (w.key_table) { keys = keys }) lived_forth owner flushed l.keys;
+        beginnings = shape_beginnings w.pages w.tds lived lived_back refl w.hidden.rtmrs w.hidden.rtmrs (λ x n. refl) l.beginnings;
+      }
+
+  -- its HKID stays flushed, or unflushed
+  pub life_kept : (life_number (w.tds.lives t) == life_number life.Blocked) ≡ (life_number s == life_number life.Blocked) → Lawful m (set_life t s w)
+  life_kept same = lived_kept w.key_table.keys (λ h. refl)
+      (λ x a. by_test (x == t)
+      (λ y. rw y (l.keys.flushed x (lived_back x a) ∙ (ap (λ (z : ℕ). life_number (w.tds.lives z) == life_number life.Blocked) (eqb-true x t y) ∙ same)))
+      (λ n. rw n (l.keys.flushed x (lived_back x a))))
+
+  -- or is flushed now, where the TD is blocked
+  pub flush_kept : (life_number s == life_number life.Blocked) ≡ true → Lawful m (set_key (w.tds.hkids t) (FlushedOf t false) (set_life t s w))
+  flush_kept blocked = lived_kept (put w.key_table.keys (w.tds.hkids t) (FlushedOf t false))
+      (λ h. by_test (h == w.tds.hkids t) (λ y. rw y (sym (l.keys.owner t alive) ∙ ap (λ (n : ℕ). key_owner (w.key_table.keys n)) (sym (eqb-true h _ y)))) (λ n. rw n refl))
+      (λ x a. by_test (x == t)
+      (λ y. rw (y, eq-eqb (w.tds.hkids x) (w.tds.hkids t) (ap w.tds.hkids (eqb-true x t y))) (sym blocked))
+      (λ n. rw (n, own_hkid m w t x l alive (lived_back x a) n) (l.keys.flushed x (lived_back x a))))
 
 -- a TD that has its two TDCX pages, and keeps its pages, map and life
 module _ (m : Machine) (w : World) (t : ℕ) (built : (length (w.tds.controls t) == 2) ≡ true) (l : Lawful m w) where
-  pub built_kept : (tds' : Tds) → SameShape w.tds tds' → tds'.lives ≡ w.tds.lives → ((x : ℕ) → tds'.epochs x < 2 ^ 32) → ((x : ℕ) → (x == t) ≡ false → facts tds' w.hidden.rtmrs x ≡ facts w.tds w.hidden.rtmrs x) → Lawful m (record w { tds = tds' })
-  built_kept tds' same lives small e = record {
+  pub built_kept : (tds' : Tds) → SameShape w.tds tds' → tds'.lives ≡ w.tds.lives → ((x : ℕ) → tds'.epochs x < 2 ^ 32) → ((x : ℕ) → tds'.ops x ≢ Uninitialized → 1 ≤ tds'.epochs x)
+      → ((x : ℕ) → (x == t) ≡ false → facts tds' w.hidden.rtmrs x ≡ facts w.tds w.hidden.rtmrs x) → Lawful m (record w { tds = tds' })
+  built_kept tds' same lives small begun e = record {
     size = l.size;
     pages = l.pages;
-    tds = shape_tds w.pages w.tds tds' back same small l.tds;
+    tds = shape_tds w.pages w.tds tds' back same small begun l.tds;
+    lists = shape_lists w.pages w.tds tds' back w.vps.indexes same l.lists;
     tree = shape_tree w.pages w.tds tds' back m.pages same.entries l.tree;
-    keys = shape_keys w.pages w.tds tds' back same.hkids m.hkids w.key_table w.key_table forth (λ h. refl) l.keys;
+    keys = shape_keys w.pages w.tds tds' back same.hkids m.hkids w.key_table w.key_table forth (λ h. refl)
+        (λ x a. subst (λ (f : ℕ → LifeState). is_flushed (w.key_table.keys (w.tds.hkids x)) ≡ (life_number (f x) == life_number life.Blocked)) (sym lives) (l.keys.flushed x (back x a))) l.keys;
     beginnings = shape_beginnings w.pages w.tds tds' back same.controls w.hidden.rtmrs w.hidden.rtmrs (λ x n. e x (built_other w.tds.controls t x built n)) l.beginnings;
   }
     where
@@ -193,24 +238,64 @@ module _ (m : Machine) (w : World) (t : ℕ) (built : (length (w.tds.controls t)
   abbrev same_shape : (tds' : Tds) → tds'.hkids ≡ w.tds.hkids → tds'.controls ≡ w.tds.controls → tds'.entries ≡ w.tds.entries → tds'.vps ≡ w.tds.vps → tds'.vps_expected ≡ w.tds.vps_expected → tds'.streams ≡ w.tds.streams → SameShape w.tds tds'
   same_shape tds' a b c d e f = record { hkids = a; controls = b; entries = c; vps = d; vps_expected = e; streams = f }
 
-  pub op_kept : (s : OpState) → Lawful m (set_op t s w)
-  op_kept s = built_kept (record (w.tds) { ops = put w.tds.ops t s }) (same_shape _ refl refl refl refl refl refl) refl l.tds.epoch (λ x n. rw n refl)
+  pub op_kept : (s : OpState) → 1 ≤ w.tds.epochs t → Lawful m (set_op t s w)
+  op_kept s begun = built_kept (record (w.tds) { ops = put w.tds.ops t s }) (same_shape _ refl refl refl refl refl refl) refl l.tds.epoch
+      (λ x. by_test (x == t) (λ y n. subst (λ (z : ℕ). 1 ≤ w.tds.epochs z) (sym (eqb-true x t y)) begun) (λ y n. l.tds.epoch_begun x (rw y at n))) (λ x n. rw n refl)
 
-  pub epoch_kept : (e : ℕ) → e < 2 ^ 32 → Lawful m (set_epoch t e w)
-  epoch_kept e small = built_kept (record (w.tds) { epochs = put w.tds.epochs t e }) (same_shape _ refl refl refl refl refl refl) refl
-      (λ x. by_test (x == t) (λ y. rw y small) (λ n. rw n (l.tds.epoch x))) (λ x n. rw n refl)
+  pub epoch_kept : (e : ℕ) → 1 ≤ e → e < 2 ^ 32 → Lawful m (set_epoch t e w)
+  epoch_kept e begun small = built_kept (record (w.tds) { epochs = put w.tds.epochs t e }) (same_shape _ refl refl refl refl refl refl) refl
+      (λ x. by_test (x == t) (λ y. rw y small) (λ n. rw n (l.tds.epoch x))) (λ x n. by_test (x == t) (λ y. rw y begun) (λ y. rw y (l.tds.epoch_begun x n))) (λ x n. rw n refl)
 
   pub begin_kept : Lawful m (begin_measurement t w)
-  begin_kept = built_kept (record (w.tds) { measured = put w.tds.measured t [] }) (same_shape _ refl refl refl refl refl refl) refl l.tds.epoch (λ x n. refl)
+  begin_kept = built_kept (record (w.tds) { measured = put w.tds.measured t [] }) (same_shape _ refl refl refl refl refl refl) refl l.tds.epoch l.tds.epoch_begun (λ x n. refl)
 
   pub measure_kept : (records : List ℕ) → Lawful m (measure t records w)
-  measure_kept records = built_kept (measure t records w).tds (same_shape _ refl refl refl refl refl refl) refl l.tds.epoch (λ x n. refl)
+  measure_kept records = built_kept (measure t records w).tds (same_shape _ refl refl refl refl refl refl) refl l.tds.epoch l.tds.epoch_begun (λ x n. refl)
 
   pub end_kept : Lawful m (end_measurement t w)
-  end_kept = built_kept (end_measurement t w).tds (same_shape _ refl refl refl refl refl refl) refl l.tds.epoch (λ x n. rw n refl)
+  end_kept = built_kept (end_measurement t w).tds (same_shape _ refl refl refl refl refl refl) refl l.tds.epoch l.tds.epoch_begun (λ x n. rw n refl)
+
+-- what every world keeps, but that this page is in its TD's list
+pub record LawfulBut (m : Machine) (w : World) (p : ℕ) : Type 0 where
+  pub size : w.size ≡ m.pages
+  pub pages : LawfulPages m.pages w.pages
+  pub tds : LawfulTds w.pages w.tds
+  pub control : (q : ℕ) → (q == p) ≡ false → IsListed w.pages w.tds w.tds.controls kind.Tdcx q
+  pub vp : (q : ℕ) → (q == p) ≡ false → IsListed w.pages w.tds w.tds.vps kind.Tdvpr q
+  pub stream : (q : ℕ) → (q == p) ≡ false → IsListed w.pages w.tds w.tds.streams kind.Migsc q
+  pub index : (t i v : ℕ) → IsAlive w.pages w.tds t → slice_get (w.tds.vps t) i ≡ Some v → w.vps.indexes v ≡ i
+  pub tree : LawfulTree m.pages w.pages w.tds
+  pub keys : LawfulKeys m.hkids w.pages w.tds w.key_table
+  pub beginnings : LawfulBeginnings w.pages w.tds w.hidden.rtmrs
+
+-- a list that a page is added to
+among_more : (q p : ℕ) (ps : List ℕ) → list_any (λ x. x == q) ps ≡ true → list_any (λ x. x == q) (ps ++ p ∷ []) ≡ true
+among_more q p [] h = cc
+among_more q p (x ∷ xs) h = by_test (x == q) (λ y. rw y refl) (λ y. rw y (among_more q p xs (rw y at h)))
+
+among_last : (q : ℕ) (ps : List ℕ) → list_any (λ x. x == q) (ps ++ q ∷ []) ≡ true
+among_last q [] = rw (same_self q) refl
+among_last q (x ∷ xs) = by_test (x == q) (λ y. rw y refl) (λ y. rw y (among_last q xs))
+
+-- a page of a TD is added to its list
+module _ (pages : Pages) (tds tds' : Tds) (back : (x : ℕ) → IsAlive pages tds' x → IsAlive pages tds x) (t p : ℕ) (k : PageKind) (page : IsPageOf pages t p k) where
+  pub more_listed : (lists : ℕ → List ℕ) → ((q : ℕ) → (q == p) ≡ false → IsListed pages tds lists k q) → (q : ℕ) → IsListed pages tds' (put lists t (lists t ++ p ∷ [])) k q
+  more_listed lists h q e a = by_test (q == p)
+      (λ y. subst (λ (z : ℕ). list_any (λ x. x == z) (put lists t (lists t ++ p ∷ []) (pages.owners z)) ≡ true) (sym (eqb-true q p y)) here)
+      (λ n. by_test (pages.owners q == t)
+      (λ y. rw y (among_more q p (lists t) (subst (λ (z : ℕ). list_any (λ x. x == q) (lists z) ≡ true) (eqb-true _ t y) (h q n e (back (pages.owners q) a)))))
+      (λ y. rw y (h q n e (back (pages.owners q) a))))
+    where
+      here : list_any (λ x. x == p) (put lists t (lists t ++ p ∷ []) (pages.owners p)) ≡ true
+      here = rw (page.owner, same_self t) (among_last p (lists t))
+
+  pub others_listed : (j : PageKind) → k ≢ j → (lists : ℕ → List ℕ) → ((q : ℕ) → (q == p) ≡ false → IsListed pages tds lists j q) → (q : ℕ) → IsListed pages tds' lists j q
+  others_listed j apart lists h q e a = by_test (q == p)
+      (λ y. absurd (apart (sym page.kind ∙ (ap pages.kinds (sym (eqb-true q p y)) ∙ e))))
+      (λ n. h q n e (back (pages.owners q) a))
 
 -- a TDCX page is added to a TD that has room for it
-module _ (m : Machine) (w : World) (t p : ℕ) (l : Lawful m w) (page : IsPageOf w.pages t p kind.Tdcx) (room : nat_lt (length (w.tds.controls t)) 2 ≡ true) (apart : (c : ℕ) → w.tds.controls t ≡ c ∷ [] → (c == p) ≡ false) where
+module _ (m : Machine) (w : World) (t p : ℕ) (l : LawfulBut m w p) (page : IsPageOf w.pages t p kind.Tdcx) (room : nat_lt (length (w.tds.controls t)) 2 ≡ true) (apart : (c : ℕ) → w.tds.controls t ≡ c ∷ [] → (c == p) ≡ false) where
   abbrev with_control : Tds
   with_control = (add_control t p w).tds
 
@@ -241,17 +326,29 @@ module _ (m : Machine) (w : World) (t p : ℕ) (l : Lawful m w) (page : IsPageOf
       streams_few = l.tds.streams_few;
       streams_differ = l.tds.streams_differ;
       epoch = l.tds.epoch;
+      epoch_begun = l.tds.epoch_begun;
+    };
+    lists = record {
+      control = more_listed w.pages w.tds with_control control_back t p kind.Tdcx page w.tds.controls l.control;
+      vp = others_listed w.pages w.tds with_control control_back t p kind.Tdcx page kind.Tdvpr (λ e. cc) w.tds.vps l.vp;
+      stream = others_listed w.pages w.tds with_control control_back t p kind.Tdcx page kind.Migsc (λ e. cc) w.tds.streams l.stream;
+      index = λ x i v a. l.index x i v (control_back x a);
     };
     tree = shape_tree w.pages w.tds with_control control_back m.pages refl l.tree;
-    keys = shape_keys w.pages w.tds with_control control_back refl m.hkids w.key_table w.key_table (λ x a. record { kind = a.kind; life = a.life }) (λ h. refl) l.keys;
+    keys = shape_keys w.pages w.tds with_control control_back refl m.hkids w.key_table w.key_table (λ x a. record { kind = a.kind; life = a.life }) (λ h. refl) (λ x a. l.keys.flushed x (control_back x a)) l.keys;
     beginnings = record {
       is_new = λ x a n. new_kept w.tds with_control w.hidden.rtmrs w.hidden.rtmrs x refl (l.beginnings.is_new x (control_back x a)
           (by_test (x == t) (λ y. let same : x ≡ t = eqb-true x t y in rw same (not_two (w.tds.controls t) room)) (λ y. rw y at n)));
     };
   }
 
+pub page_at : (pages : Pages) (t : ℕ) (k : PageKind) (ps : List ℕ) (i q : ℕ) → ArePagesOf pages t k ps → slice_get ps i ≡ Some q → IsPageOf pages t q k
+page_at pages t k [] i q h e = cc
+page_at pages t k (p ∷ ps) zero q h e = subst (λ (z : ℕ). IsPageOf pages t z k) (some_same p q e) h.0
+page_at pages t k (p ∷ ps) (suc i) q h e = page_at pages t k ps i q h.1 e
+
 -- a virtual processor is added to a TD that has room for it
-module _ (m : Machine) (w : World) (t p : ℕ) (l : Lawful m w) (page : IsPageOf w.pages t p kind.Tdvpr) (built : (length (w.tds.controls t) == 2) ≡ true) (few : length (w.tds.vps t) < 8) (apart : list_any (λ q. q == p) (w.tds.vps t) ≡ false) where
+module _ (m : Machine) (w : World) (t p : ℕ) (l : LawfulBut m w p) (page : IsPageOf w.pages t p kind.Tdvpr) (built : (length (w.tds.controls t) == 2) ≡ true) (few : length (w.tds.vps t) < 8) (apart : list_any (λ q. q == p) (w.tds.vps t) ≡ false) where
   abbrev with_vp : Tds
   with_vp = (add_vp t p w).tds
 
@@ -274,6 +371,32 @@ module _ (m : Machine) (w : World) (t p : ℕ) (l : Lawful m w) (page : IsPageOf
       let apart' : (p == q) ≡ false = ne_eqb p q (λ e. absurd (let no : true ≡ false = sym (eq-eqb q p (sym e)) ∙ y in cc)) in
       rw (not_among q qs apart' (not_true _ (and_left (not (list_any (λ x. x == q) qs)) (all_differ qs) d)), all_differ_more qs rest (and_right (not (list_any (λ x. x == q) qs)) (all_differ qs) d)) refl))
 
+  -- the place of the one that is added, and of another one
+  place_more : (ps : List ℕ) (i v : ℕ) → list_any (λ q. q == p) ps ≡ false → slice_get (ps ++ p ∷ []) i ≡ Some v → ((v ≡ p) × (i ≡ length ps)) ⊎ (((v == p) ≡ false) × (slice_get ps i ≡ Some v))
+  place_more [] zero v n e = inl (sym (some_same p v e), refl)
+  place_more [] (suc i) v n e = cc
+  place_more (q ∷ qs) zero v n e = inr (subst (λ (z : ℕ). (z == p) ≡ false) (some_same q v e) (by_test (q == p) (λ y. absurd (let no : true ≡ false = rw y at n in cc)) (λ y. y)), e)
+  place_more (q ∷ qs) (suc i) v n e = by_test (q == p)
+      (λ y. absurd (let no : true ≡ false = rw y at n in cc))
+      (λ y. rest (place_more qs i v (rw y at n) e))
+    where
+      rest : ((v ≡ p) × (i ≡ length qs)) ⊎ (((v == p) ≡ false) × (slice_get qs i ≡ Some v)) → ((v ≡ p) × (suc i ≡ suc (length qs))) ⊎ (((v == p) ≡ false) × (slice_get qs i ≡ Some v))
+      rest (inl h) = inl (h.0, ap suc h.1)
+      rest (inr h) = inr h
+
+  index_here : (i v : ℕ) → IsAlive w.pages w.tds t → ((v ≡ p) × (i ≡ length (w.tds.vps t))) ⊎ (((v == p) ≡ false) × (slice_get (w.tds.vps t) i ≡ Some v)) → put w.vps.indexes p (length (w.tds.vps t)) v ≡ i
+  index_here i v a (inl h) = rw (h.0, same_self p) (sym h.1)
+  index_here i v a (inr h) = rw h.0 (l.index t i v a h.1)
+
+  -- a virtual processor of another TD is another page
+  index_there : (x i v : ℕ) → (x == t) ≡ false → IsAlive w.pages w.tds x → slice_get (w.tds.vps x) i ≡ Some v → put w.vps.indexes p (length (w.tds.vps t)) v ≡ i
+  index_there x i v n a e =
+      let its : IsPageOf w.pages x v kind.Tdvpr = page_at w.pages x kind.Tdvpr (w.tds.vps x) i v (l.tds.vps x a) e in
+      let apart' : (v == p) ≡ false = by_test (v == p)
+      (λ y. absurd (let same : x ≡ t = sym its.owner ∙ (ap w.pages.owners (eqb-true v p y) ∙ page.owner) in let no : true ≡ false = sym (eq-eqb x t same) ∙ n in cc))
+      (λ y. y) in
+      rw apart' (l.index x i v a e)
+
   pub vp_kept : Lawful m (add_vp t p w)
   vp_kept = record {
     size = l.size;
@@ -290,9 +413,19 @@ module _ (m : Machine) (w : World) (t p : ℕ) (l : Lawful m w) (page : IsPageOf
       streams_few = l.tds.streams_few;
       streams_differ = l.tds.streams_differ;
       epoch = l.tds.epoch;
+      epoch_begun = l.tds.epoch_begun;
+    };
+    lists = record {
+      control = others_listed w.pages w.tds with_vp vp_back t p kind.Tdvpr page kind.Tdcx (λ e. cc) w.tds.controls l.control;
+      vp = more_listed w.pages w.tds with_vp vp_back t p kind.Tdvpr page w.tds.vps l.vp;
+      stream = others_listed w.pages w.tds with_vp vp_back t p kind.Tdvpr page kind.Migsc (λ e. cc) w.tds.streams l.stream;
+      index = λ x i v a. by_test (x == t)
+          (λ y e. (let is : x ≡ t = eqb-true x t y in
+          index_here i v (subst (λ (z : ℕ). IsAlive w.pages w.tds z) is (vp_back x a)) (place_more (w.tds.vps t) i v apart (rw y at e))))
+          (λ n e. index_there x i v n (vp_back x a) (rw n at e));
     };
     tree = shape_tree w.pages w.tds with_vp vp_back m.pages refl l.tree;
-    keys = shape_keys w.pages w.tds with_vp vp_back refl m.hkids w.key_table w.key_table (λ x a. record { kind = a.kind; life = a.life }) (λ h. refl) l.keys;
+    keys = shape_keys w.pages w.tds with_vp vp_back refl m.hkids w.key_table w.key_table (λ x a. record { kind = a.kind; life = a.life }) (λ h. refl) (λ x a. l.keys.flushed x (vp_back x a)) l.keys;
     beginnings = shape_beginnings w.pages w.tds with_vp vp_back refl w.hidden.rtmrs w.hidden.rtmrs (λ x n. rw (built_other w.tds.controls t x built n) refl) l.beginnings;
   }
 
@@ -307,13 +440,13 @@ module _ (m : Machine) (w : World) (p : ℕ) (k : PageKind) (t level number : �
   pub taken_forth : (x : ℕ) → IsAlive w.pages w.tds x → IsAlive now w.tds x
   taken_forth x a = record { kind = rw (other m.pages w.pages p k t level number host l.pages x kind.Tdr a.kind (λ e. cc)) a.kind; life = a.life }
 
-  -- a secure EPT page is named by the entry at its node
+  -- a secure EPT page or a private page is named by the entry at its node
   abbrev pub IsNamed : ℕ → Pages → Type 0
   IsNamed q pages = (is_free (w.tds.entries (pages.owners q) (pages.levels q) (pages.numbers q)).state ≡ false) × ((w.tds.entries (pages.owners q) (pages.levels q) (pages.numbers q)).page ≡ q) × (pages.levels q ≤ 3)
 
-  pub named_there : (q : ℕ) → (q == p) ≡ false → now.kinds q ≡ kind.Ept → IsAlive now w.tds (now.owners q) → IsNamed q now
+  pub named_there : (q : ℕ) → (q == p) ≡ false → is_named_kind (now.kinds q) ≡ true → IsAlive now w.tds (now.owners q) → IsNamed q now
   named_there q n e a =
-      let e' : w.pages.kinds q ≡ kind.Ept = rw n at e in
+      let e' : is_named_kind (w.pages.kinds q) ≡ true = rw n at e in
       let a' : IsAlive now w.tds (w.pages.owners q) = rw n at a in
       rw n (l.tree.named q e' (taken_back (w.pages.owners q) a'))
 
@@ -331,7 +464,18 @@ module _ (m : Machine) (w : World) (p : ℕ) (k : PageKind) (t level number : �
     streams_few = l.tds.streams_few;
     streams_differ = l.tds.streams_differ;
     epoch = l.tds.epoch;
+    epoch_begun = l.tds.epoch_begun;
   }
+
+  -- each other page is in its list
+  taken_listed : (lists : ℕ → List ℕ) (j : PageKind) → ((q : ℕ) → IsListed w.pages w.tds lists j q) → (q : ℕ) → (q == p) ≡ false → IsListed now w.tds lists j q
+  taken_listed lists j h q n e a =
+      let e' : w.pages.kinds q ≡ j = rw n at e in
+      let a' : IsAlive now w.tds (w.pages.owners q) = rw n at a in
+      rw n (h q e' (taken_back (w.pages.owners q) a'))
+
+  pub taken_all_listed : (lists : ℕ → List ℕ) (j : PageKind) → k ≢ j → ((q : ℕ) → IsListed w.pages w.tds lists j q) → (q : ℕ) → IsListed now w.tds lists j q
+  taken_all_listed lists j apart h q e a = by_test (q == p) (λ y. absurd (apart (rw y at e))) (λ n. taken_listed lists j h q n e a)
 
   -- what an entry of a level says of the page that it names
   pub taken_upper : (x j n : ℕ) → IsAlive now w.tds x → is_free (w.tds.entries x (suc j) n).state ≡ false
@@ -347,19 +491,25 @@ module _ (m : Machine) (w : World) (p : ℕ) (k : PageKind) (t level number : �
     in_range = λ x a. l.keys.in_range x (taken_back x a);
     owner = λ x a. l.keys.owner x (taken_back x a);
     owned = λ h x e. (let o = l.keys.owned h x e in (taken_forth x o.0, o.1));
+    flushed = λ x a. l.keys.flushed x (taken_back x a);
   }
 
-  pub taken_kept : (k ≢ kind.Ept) → Lawful m (take_node p k t level number w)
+  pub taken_kept : is_named_kind k ≡ false → LawfulBut m (take_node p k t level number w) p
   taken_kept not_node = record {
     size = l.size;
     pages = taken_page_facts;
     tds = taken_tds;
+    control = taken_listed w.tds.controls kind.Tdcx l.lists.control;
+    vp = taken_listed w.tds.vps kind.Tdvpr l.lists.vp;
+    stream = taken_listed w.tds.streams kind.Migsc l.lists.stream;
+    index = λ x i v a. l.lists.index x i v (taken_back x a);
     tree = record {
       entry = l.tree.entry;
       upper = taken_upper;
       leaf = taken_leaf;
       below = λ x j n few a. l.tree.below x j n few (taken_back x a);
-      named = λ q e a. by_test (q == p) (λ y. absurd (not_node (rw y at e))) (λ n. named_there q n e a);
+      in_range = l.tree.in_range;
+      named = λ q e a. by_test (q == p) (λ y. absurd (let no : true ≡ false = sym (rw y at e) ∙ not_node in cc)) (λ n. named_there q n e a);
     };
     keys = taken_keys;
     beginnings = record { is_new = λ x a n. l.beginnings.is_new x (taken_back x a) n };
@@ -376,29 +526,27 @@ module _ (m : Machine) (w : World) (t : ℕ) (alive : IsAlive w.pages w.tds t) (
   ended_back : (x : ℕ) → IsAlive w.pages ended x → IsAlive w.pages w.tds x
   ended_back x a = record { kind = a.kind; life = rw (not_ended x a) at a.life }
 
-  own_hkid : (x : ℕ) → IsAlive w.pages w.tds x → (x == t) ≡ false → (w.tds.hkids x == w.tds.hkids t) ≡ false
-  own_hkid x a n = by_test (w.tds.hkids x == w.tds.hkids t)
-      (λ y. absurd (let here : w.tds.hkids x ≡ w.tds.hkids t = eqb-true _ _ y in
-      let both : Some x ≡ Some t = sym (l.keys.owner x a) ∙ (ap (λ (h : ℕ). key_owner (w.key_table.keys h)) here ∙ l.keys.owner t alive) in
-      let no : true ≡ false = sym (eq-eqb x t (some_same x t both)) ∙ n in cc))
-      (λ y. y)
-
   freed_owned : (h x : ℕ) → (h == w.tds.hkids t) ≡ false → key_owner (w.key_table.keys h) ≡ Some x → IsAlive w.pages ended x × (ended.hkids x ≡ h)
   freed_owned h x n e =
       let o = l.keys.owned h x e in
       let apart : (x == t) ≡ false = by_test (x == t) (λ y. absurd (let same : w.tds.hkids t ≡ h = ap w.tds.hkids (sym (eqb-true x t y)) ∙ o.1 in let no : true ≡ false = sym (eq-eqb h (w.tds.hkids t) (sym same)) ∙ n in cc)) (λ y. y) in
       (record { kind = o.0.kind; life = rw apart o.0.life }, o.1)
 
+  same_ended : SameShape w.tds ended
+  same_ended = record { hkids = refl; controls = refl; entries = refl; vps = refl; vps_expected = refl; streams = refl }
+
   pub ended_kept : Lawful m (set_key (w.tds.hkids t) Unassigned (set_life t life.Teardown w))
   ended_kept = record {
     size = l.size;
     pages = l.pages;
-    tds = shape_tds w.pages w.tds ended ended_back (record { hkids = refl; controls = refl; entries = refl; vps = refl; vps_expected = refl; streams = refl }) l.tds.epoch l.tds;
+    tds = shape_tds w.pages w.tds ended ended_back same_ended l.tds.epoch l.tds.epoch_begun l.tds;
+    lists = shape_lists w.pages w.tds ended ended_back w.vps.indexes same_ended l.lists;
     tree = shape_tree w.pages w.tds ended ended_back m.pages refl l.tree;
     keys = record {
       in_range = λ x a. l.keys.in_range x (ended_back x a);
-      owner = λ x a. rw (own_hkid x (ended_back x a) (not_ended x a)) (l.keys.owner x (ended_back x a));
+      owner = λ x a. rw (own_hkid m w t x l alive (ended_back x a) (not_ended x a)) (l.keys.owner x (ended_back x a));
       owned = λ h x. by_test (h == w.tds.hkids t) (λ y e. absurd (let no : None ≡ Some x = rw y at e in cc)) (λ n e. freed_owned h x n (rw n at e));
+      flushed = λ x a. rw (not_ended x a, own_hkid m w t x l alive (ended_back x a) (not_ended x a)) (l.keys.flushed x (ended_back x a));
     };
     beginnings = shape_beginnings w.pages w.tds ended ended_back refl w.hidden.rtmrs w.hidden.rtmrs (λ x n. refl) l.beginnings;
   }
@@ -459,11 +607,20 @@ module _ (m : Machine) (w : World) (t p : ℕ) (l : Lawful m w) (root : w.pages.
   left_owner : (q : ℕ) → (q == p) ≡ false → is_host_in w.pages q ≡ false → left.kinds (left.owners q) ≡ kind.Tdr
   left_owner q n h = rw (n, root_stays q h n) (l.pages.owner q h)
 
-  -- a secure EPT page is named by the entry at its node
-  named_left : (q : ℕ) → (q == p) ≡ false → left.kinds q ≡ kind.Ept → IsAlive left w.tds (left.owners q)
+  left_listed : (lists : ℕ → List ℕ) (j : PageKind) → j ≢ kind.Nda → ((q : ℕ) → IsListed w.pages w.tds lists j q) → (q : ℕ) → IsListed left w.tds lists j q
+  left_listed lists j owned h q e a = by_test (q == p) (λ y. absurd (owned (sym (rw y at e)))) (λ n. there n)
+    where
+      there : (q == p) ≡ false → list_any (λ x. x == q) (lists (left.owners q)) ≡ true
+      there n =
+          let e' : w.pages.kinds q ≡ j = rw n at e in
+          let a' : IsAlive left w.tds (w.pages.owners q) = rw n at a in
+          rw n (h q e' (left_back (w.pages.owners q) a'))
+
+  -- a secure EPT page or a private page is named by the entry at its node
+  named_left : (q : ℕ) → (q == p) ≡ false → is_named_kind (left.kinds q) ≡ true → IsAlive left w.tds (left.owners q)
       → (is_free (w.tds.entries (left.owners q) (left.levels q) (left.numbers q)).state ≡ false) × ((w.tds.entries (left.owners q) (left.levels q) (left.numbers q)).page ≡ q) × (left.levels q ≤ 3)
   named_left q n e a =
-      let e' : w.pages.kinds q ≡ kind.Ept = rw n at e in
+      let e' : is_named_kind (w.pages.kinds q) ≡ true = rw n at e in
       let a' : IsAlive left w.tds (w.pages.owners q) = rw n at a in
       rw n (l.tree.named q e' (left_back (w.pages.owners q) a'))
 
@@ -487,18 +644,27 @@ module _ (m : Machine) (w : World) (t p : ℕ) (l : Lawful m w) (root : w.pages.
       streams_few = l.tds.streams_few;
       streams_differ = l.tds.streams_differ;
       epoch = l.tds.epoch;
+      epoch_begun = l.tds.epoch_begun;
+    };
+    lists = record {
+      control = left_listed w.tds.controls kind.Tdcx (λ e. cc) l.lists.control;
+      vp = left_listed w.tds.vps kind.Tdvpr (λ e. cc) l.lists.vp;
+      stream = left_listed w.tds.streams kind.Migsc (λ e. cc) l.lists.stream;
+      index = λ x i v a. l.lists.index x i v (left_back x a);
     };
     tree = record {
       entry = l.tree.entry;
       upper = λ x j n a e. (let u = l.tree.upper x j n (left_back x a) e in (u.0, node_kept w.pages left p kinds_left owners_left levels_left numbers_left x (of_another x a) _ kind.Ept (suc j) n (λ e. cc) u.1));
       leaf = λ x n a e. (let u = l.tree.leaf x n (left_back x a) e in (u.0, node_kept w.pages left p kinds_left owners_left levels_left numbers_left x (of_another x a) _ kind.Reg 0 n (λ e. cc) u.1));
       below = λ x j n few a. l.tree.below x j n few (left_back x a);
-      named = λ q e a. by_test (q == p) (λ y. absurd (let no : kind.Nda ≡ kind.Ept = rw y at e in cc)) (λ n. named_left q n e a);
+      in_range = l.tree.in_range;
+      named = λ q e a. by_test (q == p) (λ y. absurd (let no : false ≡ true = rw y at e in cc)) (λ n. named_left q n e a);
     };
     keys = record {
       in_range = λ x a. l.keys.in_range x (left_back x a);
       owner = λ x a. l.keys.owner x (left_back x a);
       owned = λ h x e. (let o = l.keys.owned h x e in (left_forth x o.0, o.1));
+      flushed = λ x a. l.keys.flushed x (left_back x a);
     };
     beginnings = record { is_new = λ x a n. l.beginnings.is_new x (left_back x a) n };
   }

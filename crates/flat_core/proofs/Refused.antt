@@ -39,7 +39,7 @@ same_replies w b row Succeeds lp = by row.enters
 same_replies w b row (Releases h) lp = refl
 same_replies w b row Rests lp = refl
 
-no_more : (base : List Reply) (r : Reply) → base ≡ base ++ r ∷ [] → ⊥
+pub no_more : (base : List Reply) (r : Reply) → base ≡ base ++ r ∷ [] → ⊥
 no_more base r h = let l = ap length h in omega (arith, l, length-append base (r ∷ []))
 
 event_ends : (w : World) (b : Bool) (e : Event) (lp : Lp) (r : Reply) → (lp_after w b e lp).replies ≡ lp.replies ++ r ∷ [] → (lp_after w b e lp).call ≡ nothing_yet
@@ -49,7 +49,7 @@ event_ends w b (Walks access gpa) lp r h = absurd (no_more lp.replies r h)
 event_ends w b (Reaches t v access rg gpa page) lp r h = absurd (no_more lp.replies r h)
 event_ends w b (Leaves v out) lp r h = absurd (no_more lp.replies r h)
 
-after_here : (p : ℕ) (s : State) (e : Event) → (after_event p s (Some e)).lps p ≡ lp_after s.world (is_granted s e) e (s.lps p)
+pub after_here : (p : ℕ) (s : State) (e : Event) → (after_event p s (Some e)).lps p ≡ lp_after s.world (is_granted s e) e (s.lps p)
 after_here p s e = let y : (p == p) ≡ true = eq-eqb p p refl in rw y refl
 
 any_ends : (s : State) (p : ℕ) (x : Option Event) (r : Reply) → ((after_event p s x).lps p).replies ≡ (s.lps p).replies ++ r ∷ [] → ((after_event p s x).lps p).call ≡ nothing_yet
@@ -78,7 +78,7 @@ any_grows s p q (Some e) = by_test (p == q)
     (λ y. (let here : p ≡ q = eqb-true p q y in rw y (subst (λ (z : ℕ). length (s.lps p).replies ≤ length (lp_after s.world (is_granted s e) e (s.lps z)).replies) here (event_grows s.world (is_granted s e) e (s.lps p)))))
     (λ y. rw y (omega arith))
 
-play_grows : (o : Opening) (p : ℕ) (qs : List ℕ) (s : State) → length (s.lps p).replies ≤ length ((play o qs s).lps p).replies
+pub play_grows : (o : Opening) (p : ℕ) (qs : List ℕ) (s : State) → length (s.lps p).replies ≤ length ((play o qs s).lps p).replies
 play_grows o p [] s = omega arith
 play_grows o p (q ∷ qs) s = omega (arith, any_grows s p q (next_event o s q), play_grows o p qs (event o s q))
 
@@ -200,7 +200,7 @@ module _ (o : Opening) (s : State) (p : ℕ) where
   own_stays : (r : Reply) → HasAnswered r lp → Stays r lp.replies ((event o s p).lps p)
   own_stays r u = stay_lines (lines_left o p lp) r u
 
-same_last : (base : List Reply) (r q : Reply) → base ++ r ∷ [] ≡ base ++ q ∷ [] → r ≡ q
+pub same_last : (base : List Reply) (r q : Reply) → base ++ r ∷ [] ≡ base ++ q ∷ [] → r ≡ q
 same_last [] r q h = cc
 same_last (x ∷ xs) r q h = same_last xs r q cc
 

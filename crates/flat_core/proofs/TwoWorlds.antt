@@ -12,11 +12,11 @@ use Rattle.flat_core.specs.Opening.{Opening, Incoming, Agree, blind, blind_bundl
 use Rattle.flat_core.specs.Row.{Item, Check, Try, Row, Passes, Move, Attempts, Undoes, Refuses, Succeeds, Releases, Rests, next, next_in}
 use Rattle.flat_core.specs.Table.{row_of}
 use Rattle.flat_core.specs.Event.{State, Event, OfCall, start, next_event, event_for, line_event, lines_left, calls_of, event, after_event, call_lp, call_world, succeeded, settled, is_granted}
-use Rattle.flat_core.specs.Run.{run, to_the_end, told_in}
+use Rattle.flat_core.specs.Run.{run, run_told, to_the_end, told_in}
 use Rattle.flat_core.specs.HostText.{host_text, text_of, lines_from}
 use Rattle.flat_core.specs.Lawful.{Lawful}
 use Rattle.flat_core.specs.Alike.{Alike, AreBlind}
-use Rattle.flat_core.specs.Laws.{BlindRunsPrintTheSame}
+use Rattle.flat_core.specs.Laws.{public_bundles, BlindRunsPrintTheSame, BlindRunsMakeTheSameBundles, AgreeingRunsShowTheSame}
 use Rattle.flat_core.proofs.Induction.{both_play, event_keeps}
 use Rattle.flat_core.proofs.Keeps.{first-lawful}
 use Rattle.flat_core.proofs.Kept.{events_keep}
@@ -147,9 +147,9 @@ unfolding text_of
 same_text s t e n =
     ap (λ (lps : ℕ → Lp). concat (lines_from s.lp_count 0 lps)) e ∙ ap (λ (k : ℕ). concat (lines_from k 0 t.lps)) n
 
-pub blind_prints : BlindRunsPrintTheSame
-unfolding host_text
-blind_prints o schedule =
+-- the two runs at their end
+blind_alike : (o : Opening) (schedule : List ℕ) → AlikeStates o (run o schedule) (run_told (blind o) schedule (told_in (run o schedule)))
+blind_alike o schedule =
     let ws = told_in (run o schedule) in
     let begin : AlikeStates o (start o None) (start (blind o) (Some ws)) = record {
       worlds = record { size = refl; pages = refl; words = λ p i h. refl; tds = refl; vps = refl; streams = refl; key_table = refl; told = refl; bundles = refl };
@@ -159,5 +159,24 @@ blind_prints o schedule =
       count = refl;
       timely = λ q. idle_timely (calls_of o.calls q);
     } in
-    let both = both_play o (blind o) (AlikeStates o) (step o) (schedule ++ to_the_end 0 o.calls) (start o None) (start (blind o) (Some ws)) begin in
-    same_text _ _ both.lps both.count
+    both_play o (blind o) (AlikeStates o) (step o) (schedule ++ to_the_end 0 o.calls) (start o None) (start (blind o) (Some ws)) begin
+
+pub blind_prints : BlindRunsPrintTheSame
+unfolding host_text
+blind_prints o schedule = let both = blind_alike o schedule in same_text _ _ both.lps both.count
+
+pub blind_bundles : BlindRunsMakeTheSameBundles
+blind_bundles o schedule = (blind_alike o schedule).worlds.bundles
+
+-- openings that agree are the same once every private word is 0
+same_blind : (o q : Opening) → Agree o q → blind o ≡ blind q
+same_blind o q a = λ j. record { machine = a.machine j; codes = λ t i. a.codes t i j; calls = a.calls j; bundles = λ slot. a.bundles slot j; secrets = λ i. 0 }
+
+pub agreeing_show : AgreeingRunsShowTheSame
+agreeing_show o q schedule a told =
+    let blind_told : Opening → List ℕ → State = λ b ws. run_told b schedule ws in
+    let same : blind_told (blind o) (told_in (run o schedule)) ≡ blind_told (blind q) (told_in (run q schedule)) =
+    ap (λ (b : Opening). blind_told b (told_in (run o schedule))) (same_blind o q a) ∙ ap (λ (ws : List ℕ). blind_told (blind q) ws) told in (
+      blind_prints o schedule ∙ (ap text_of same ∙ sym (blind_prints q schedule)),
+      blind_bundles o schedule ∙ (ap (λ (s : State). public_bundles s) same ∙ sym (blind_bundles q schedule)),
+    )

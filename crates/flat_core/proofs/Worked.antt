@@ -30,4 +30,12 @@ examples = record {
   one_page = refl;
   one_chunk = refl;
   page_under_way_1 = refl;
+  op_held_1 = refl;
+  op_held_1_then = refl;
+  newest_first_2 = refl;
+  newest_first_1 = refl;
+  newest_first_1_then = refl;
+  reclaimed_of_another = refl;
+  processor_of_another = refl;
+  epoch_before = refl;
 }

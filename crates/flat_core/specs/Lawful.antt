@@ -1,6 +1,6 @@
--- What every world of every run keeps. A clause on a TD holds while the TD is alive: its page is a TDR page, and its life
--- isn't at its end.
-use Rattle.std.specs.Prelude.{◌≡◌, ℕ, suc, ◌/◌, ◌^◌, ◌<◌, ◌≤◌, List, [], ◌∷◌, length, Option, Some, None, Bool, true, false, not, ◌==◌, ◌&&◌}
+-- What every world of every run keeps. What is said of a TD's pages and HKID holds while the TD is alive: its page is a
+-- TDR page, and its life isn't at its end.
+use Rattle.std.specs.Prelude.{◌≡◌, ◌≢◌, ℕ, suc, ◌*◌, ◌/◌, ◌^◌, ◌<◌, ◌≤◌, List, [], ◌∷◌, length, Option, Some, None, Bool, true, false, not, ◌==◌, ◌&&◌, slice_get}
 use Rattle.std.specs.List.{list_any}
 use Rattle.td_words.specs.declared.names.PageKind.{PageKind}
 use Rattle.td_words.specs.declared.names.PageKind.TheVariants as kind
@@ -13,6 +13,7 @@ use Rattle.td_words.specs.NameNumber.{life_number}
 use Rattle.td_words.specs.Packing.{is_lawful_entry, Key, Unassigned, AssignedTo, FlushedOf}
 use Rattle.flat_core.specs.World.{World, Pages, Tds, KeyTable, free_entry}
 use Rattle.flat_core.specs.Row.{Row, Passes}
+use Rattle.flat_core.specs.Arguments.{level_size}
 use Rattle.flat_core.specs.Conditions.{is_host_in}
 
 -- a TD that is alive
@@ -57,7 +58,7 @@ abbrev pub all_differ : List ℕ → Bool
 all_differ [] = true
 all_differ (p ∷ ps) = not (list_any (λ q. q == p) ps) && all_differ ps
 
--- the control pages, virtual processors and streams of a TD
+-- the control pages, virtual processors and streams of a TD, and TD_EPOCH: at least 1 from MNG.INIT on
 pub record LawfulTds (pages : Pages) (tds : Tds) : Type 0 where
   pub controls : (t : ℕ) → IsAlive pages tds t → AreControls pages t (tds.controls t)
   pub vps : (t : ℕ) → IsAlive pages tds t → ArePagesOf pages t kind.Tdvpr (tds.vps t)
@@ -68,6 +69,18 @@ pub record LawfulTds (pages : Pages) (tds : Tds) : Type 0 where
   pub streams_few : (t : ℕ) → length (tds.streams t) ≤ 4
   pub streams_differ : (t : ℕ) → all_differ (tds.streams t) ≡ true
   pub epoch : (t : ℕ) → tds.epochs t < 2 ^ 32
+  pub epoch_begun : (t : ℕ) → tds.ops t ≢ Uninitialized → 1 ≤ tds.epochs t
+
+-- a page of that kind of a TD that is alive is in the TD's list
+abbrev pub IsListed : Pages → Tds → (ℕ → List ℕ) → PageKind → ℕ → Type 0
+IsListed pages tds lists k p = pages.kinds p ≡ k → IsAlive pages tds (pages.owners p) → list_any (λ q. q == p) (lists (pages.owners p)) ≡ true
+
+-- each control page, virtual processor and stream page of a TD is in its list, a virtual processor at the place of its index
+pub record LawfulLists (pages : Pages) (tds : Tds) (indexes : ℕ → ℕ) : Type 0 where
+  pub control : (p : ℕ) → IsListed pages tds tds.controls kind.Tdcx p
+  pub vp : (p : ℕ) → IsListed pages tds tds.vps kind.Tdvpr p
+  pub stream : (p : ℕ) → IsListed pages tds tds.streams kind.Migsc p
+  pub index : (t i v : ℕ) → IsAlive pages tds t → slice_get (tds.vps t) i ≡ Some v → indexes v ≡ i
 
 -- an entry that maps a secure EPT page, blocked or not; and one that is FREE
 abbrev pub is_node : EntryState → Bool
@@ -79,9 +92,15 @@ abbrev pub is_free : EntryState → Bool
 is_free entry.Free = true
 is_free _ = false
 
--- Ownership: an entry that names a page names one that its TD owns, at its own node, so no page is named twice and a
--- host page by none; each secure EPT page is named by the entry at its node, of level 3 at most; and nothing is mapped below
--- a FREE entry.
+-- the pages that entries name: secure EPT pages and private pages
+abbrev pub is_named_kind : PageKind → Bool
+is_named_kind kind.Ept = true
+is_named_kind kind.Reg = true
+is_named_kind _ = false
+
+-- Ownership: an entry that isn't FREE names a page that its TD owns, at its own node, so no page is named twice and a host
+-- page by none; each secure EPT page and each private page is named by the entry at its node, of level 3 at most; nothing
+-- is mapped below a FREE entry; and what is mapped are GPAs below 2^47.
 -- In a machine within the limits each entry has a packing.
 pub record LawfulTree (count : ℕ) (pages : Pages) (tds : Tds) : Type 0 where
   pub entry : count ≤ 1024 → (t l n : ℕ) → is_lawful_entry (tds.entries t l n) ≡ true
@@ -90,7 +109,8 @@ pub record LawfulTree (count : ℕ) (pages : Pages) (tds : Tds) : Type 0 where
   pub leaf : (t n : ℕ) → IsAlive pages tds t → is_free (tds.entries t 0 n).state ≡ false
       → (is_node (tds.entries t 0 n).state ≡ false) × IsNodeOf pages t (tds.entries t 0 n).page kind.Reg 0 n
   pub below : (t l n : ℕ) → l < 3 → IsAlive pages tds t → is_free (tds.entries t l n).state ≡ false → is_free (tds.entries t (suc l) (n / 512)).state ≡ false
-  pub named : (p : ℕ) → pages.kinds p ≡ kind.Ept → IsAlive pages tds (pages.owners p)
+  pub in_range : (t l n : ℕ) → is_free (tds.entries t l n).state ≡ false → n * level_size l < 2 ^ 47
+  pub named : (p : ℕ) → is_named_kind (pages.kinds p) ≡ true → IsAlive pages tds (pages.owners p)
       → (is_free (tds.entries (pages.owners p) (pages.levels p) (pages.numbers p)).state ≡ false)
       × ((tds.entries (pages.owners p) (pages.levels p) (pages.numbers p)).page ≡ p)
       × (pages.levels p ≤ 3)
@@ -101,11 +121,19 @@ key_owner Unassigned = None
 key_owner (AssignedTo t) = Some t
 key_owner (FlushedOf t b) = Some t
 
--- the HKID of a TD that is alive is one of the machine's and is its own; and each HKID that isn't free is that of such a TD
+-- an HKID that is flushed, written back or not
+abbrev pub is_flushed : Key → Bool
+is_flushed Unassigned = false
+is_flushed (AssignedTo t) = false
+is_flushed (FlushedOf t b) = true
+
+-- the HKID of a TD that is alive is one of the machine's and is its own, and is flushed exactly where the TD is blocked;
+-- and each HKID that isn't free is that of such a TD
 pub record LawfulKeys (count : ℕ) (pages : Pages) (tds : Tds) (table : KeyTable) : Type 0 where
   pub in_range : (t : ℕ) → IsAlive pages tds t → (1 ≤ tds.hkids t) × (tds.hkids t ≤ count)
   pub owner : (t : ℕ) → IsAlive pages tds t → key_owner (table.keys (tds.hkids t)) ≡ Some t
   pub owned : (h t : ℕ) → key_owner (table.keys h) ≡ Some t → IsAlive pages tds t × (tds.hkids t ≡ h)
+  pub flushed : (t : ℕ) → IsAlive pages tds t → is_flushed (table.keys (tds.hkids t)) ≡ (life_number (tds.lives t) == life_number life.Blocked)
 
 -- a TD as MNG.CREATE begins it
 pub record IsNew (tds : Tds) (rtmrs : ℕ → ℕ → ℕ) (t : ℕ) : Type 0 where
@@ -133,6 +161,7 @@ pub record Lawful (m : Machine) (w : World) : Type 0 where
   pub size : w.size ≡ m.pages
   pub pages : LawfulPages m.pages w.pages
   pub tds : LawfulTds w.pages w.tds
+  pub lists : LawfulLists w.pages w.tds w.vps.indexes
   pub tree : LawfulTree m.pages w.pages w.tds
   pub keys : LawfulKeys m.hkids w.pages w.tds w.key_table
   pub beginnings : LawfulBeginnings w.pages w.tds w.hidden.rtmrs

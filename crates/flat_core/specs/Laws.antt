@@ -1,27 +1,31 @@
 -- Laws of the flat machine, for every opening and every schedule.
-use Rattle.std.specs.Prelude.{◌≡◌, ◌≢◌, ◌⊎◌, ℕ, ◌≤◌, List, [], ◌∷◌, ◌++◌, Option, None, IfSome, false}
+use Rattle.std.specs.Prelude.{◌≡◌, ◌≢◌, ◌⊎◌, ℕ, ◌+◌, ◌*◌, ◌≤◌, List, [], ◌∷◌, ◌++◌, map, Option, Some, None, IfSome, Bool, false, ◌==◌, if◌then◌else◌}
 use Rattle.sha2.specs.Sha512.{sha384}
 use Rattle.mrtd_measure.specs.Records.{page_record, chunk_records}
 use Rattle.td_words.specs.declared.machines.Machine.{Machine}
+use Rattle.td_words.specs.declared.names.OpState.TheVariants.{Runnable}
 use Rattle.td_words.specs.declared.names.ReadField.TheVariants.{Mrtd}
 use Rattle.td_words.specs.declared.replies.Value.TheVariants.{Digest}
 use Rattle.td_words.specs.declared.refusals.Status.{Status}
+use Rattle.td_words.specs.declared.refusals.Status.TheVariants.{OperandInvalid}
+use Rattle.td_words.specs.declared.replies.Value.{Value}
 use Rattle.td_words.specs.declared.replies.Reply.{Reply}
-use Rattle.td_words.specs.declared.replies.Reply.TheVariants.{Refused}
+use Rattle.td_words.specs.declared.replies.Reply.TheVariants.{Done, Refused}
 use Rattle.td_words.specs.declared.calls.Call.{Call}
 use Rattle.td_words.specs.declared.calls.Call.TheVariants as call
-use Rattle.flat_core.specs.World.{World, Pages, Tds, put}
+use Rattle.td_words.specs.Packing.{Entry}
+use Rattle.flat_core.specs.World.{World, Pages, Tds, put, Made}
 use Rattle.flat_core.specs.Processor.{LockId, Lp, nothing_yet}
-use Rattle.flat_core.specs.Locks.{holders, sharers}
-use Rattle.flat_core.specs.Opening.{Opening, Agree, blind}
-use Rattle.flat_core.specs.Row.{Succeeds}
+use Rattle.flat_core.specs.Locks.{holders, sharers, one_if}
+use Rattle.flat_core.specs.Opening.{Opening, Agree, blind, public_bundle}
+use Rattle.flat_core.specs.Row.{Passes, Succeeds, Row, Move, tries_in}
 use Rattle.flat_core.specs.Conditions.{is_host_in}
 use Rattle.flat_core.specs.Tree.{entry_at}
 use Rattle.flat_core.specs.TdRows.{read_td, finalize}
 use Rattle.flat_core.specs.MemRows.{chunk_bytes}
 use Rattle.flat_core.specs.Table.{row_of}
-use Rattle.flat_core.specs.Event.{State, Event, OfCall, OfOperation, Reaches, Leaves, start, next_event, event, world_after}
-use Rattle.flat_core.specs.Run.{play, run, run_told, told_in}
+use Rattle.flat_core.specs.Event.{State, Event, OfCall, OfOperation, Reaches, Leaves, start, lines_left, next_event, event, world_after}
+use Rattle.flat_core.specs.Run.{play, run, run_told, told_in, bundles_in}
 use Rattle.flat_core.specs.HostText.{host_text, text_of}
 use Rattle.flat_core.specs.Lawful.{IsAlive, Lawful, RowKeeps, is_free}
 use Rattle.flat_core.specs.Alike.{AreBlind}
@@ -123,3 +127,106 @@ pub record RefusedCallsStay : Type 0 where
       → OwnEventsAreQuiet o p (schedule ++ p ∷ []) s
   pub ended : (o : Opening) (s : State) (p : ℕ) (r : Reply)
       → ((event o s p).lps p).replies ≡ (s.lps p).replies ++ r ∷ [] → ((event o s p).lps p).call ≡ nothing_yet
+
+-- MRTD over runs: in every world that a schedule leads to, MNG.RD gives as MRTD of a TD in RUNNABLE the SHA-384 of what
+-- the TD has measured.
+abbrev pub EveryMrtdIsTheDigest : Type 0
+EveryMrtdIsTheDigest = (o : Opening) (words_to_tell : Option (List ℕ)) (schedule : List ℕ) (tdr : ℕ) → let w = (reached o words_to_tell schedule).world in
+    w.tds.ops tdr ≡ Runnable → (read_td o.machine tdr Mrtd).value w ≡ Digest (sha384 (w.tds.measured tdr))
+
+-- what TDs have measured after an event of a processor with these lines left: after the act of its call what that call
+-- leaves measured, and after any other event what they had
+abbrev pub measured_after_event : List Call → Option Event → World → ℕ → List ℕ
+measured_after_event (c ∷ cs) (Some (OfCall row Succeeds)) w = measured_after c w
+measured_after_event _ _ w = w.tds.measured
+
+abbrev pub EventsMeasure : Type 0
+EventsMeasure = (o : Opening) (s : State) (p t : ℕ) → (event o s p).world.tds.measured t ≡ measured_after_event (lines_left o p (s.lps p)) (next_event o s p) s.world t
+
+-- the page that a call gives back to the host. MEM.PAGE.REMOVE does too, once it is built
+abbrev pub gives_back : Call → ℕ → Bool
+gives_back (call.PhymemPageReclaim tdr page) p = p == page
+gives_back _ p = false
+
+-- what a page is used for: its kind, its TD and its node
+pub record IsUsedAsBefore (old new : Pages) (p : ℕ) : Type 0 where
+  pub kind : new.kinds p ≡ old.kinds p
+  pub owner : new.owners p ≡ old.owners p
+  pub level : new.levels p ≡ old.levels p
+  pub number : new.numbers p ≡ old.numbers p
+
+-- Pages have one use: a page that isn't the host's isn't given to a second use before it is the host's again.
+abbrev pub PagesHaveOneUse : Type 0
+PagesHaveOneUse = (o : Opening) (me : ℕ) (c : Call) (w : World) (p : ℕ)
+    → Passes ((row_of o me c).items w) → is_host_in w.pages p ≡ false → gives_back c p ≡ false → IsUsedAsBefore w.pages ((row_of o me c).act w).pages p
+
+-- what the private page that an entry names holds: none where it is FREE. An entry in PENDING will count as one without,
+-- once there are such entries
+abbrev pub memory_of : Entry → (ℕ → ℕ → ℕ) → Option (ℕ → ℕ)
+memory_of e words = if is_free e.state then None else Some (words e.page)
+
+-- Guest memory over runs: what the guest of a TD that is alive knows of its private page, from its own events, is what
+-- the page holds.
+abbrev pub GuestsKnowTheirPages : Type 0
+GuestsKnowTheirPages = (o : Opening) (words_to_tell : Option (List ℕ)) (schedule : List ℕ) (t n : ℕ) → let w = (reached o words_to_tell schedule).world in
+    IsAlive w.pages w.tds t → w.hidden.memories t n ≡ memory_of (w.tds.entries t 0 n) w.words
+
+-- Two worlds, further
+
+-- what anyone can read of the bundles that were made
+abbrev pub public_bundles : State → List Made
+public_bundles s = map public_bundle (bundles_in s)
+
+-- The bundles that are made have the same public part, too.
+abbrev pub BlindRunsMakeTheSameBundles : Type 0
+BlindRunsMakeTheSameBundles = (o : Opening) (schedule : List ℕ)
+    → public_bundles (run o schedule) ≡ public_bundles (run_told (blind o) schedule (told_in (run o schedule)))
+
+-- So two openings that agree on all that is public print the same and make bundles with the same public part, where guests
+-- tell the same.
+abbrev pub AgreeingRunsShowTheSame : Type 0
+AgreeingRunsShowTheSame = (o q : Opening) (schedule : List ℕ) → Agree o q → told_in (run o schedule) ≡ told_in (run q schedule)
+    → (host_text o schedule ≡ host_text q schedule) × (public_bundles (run o schedule) ≡ public_bundles (run q schedule))
+
+-- What a refused call leaves of its processor's record
+
+-- the same but for the call's progress and the replies: the guest, the cached translations, and what guests noted and told
+pub record IsKeptBesides (before after : Lp) : Type 0 where
+  pub guest : after.guest ≡ before.guest
+  pub cached : after.cached ≡ before.cached
+  pub notes : after.notes ≡ before.notes
+  pub told : after.told ≡ before.told
+
+-- an event of a call that isn't its act
+abbrev pub QuietCallsKeep : Type 0
+QuietCallsKeep = (o : Opening) (s : State) (p : ℕ) (row : Row) (move : Move Reply)
+    → next_event o s p ≡ Some (OfCall row move) → IsQuiet (OfCall row move) → IsKeptBesides (s.lps p) ((event o s p).lps p)
+
+-- after the schedule processor p has given no reply yet, and its next event brings this one
+pub record AnswersNext (o : Opening) (s : State) (p : ℕ) (schedule : List ℕ) (reply : Reply) : Type 0 where
+  pub none_yet : ((play o schedule s).lps p).replies ≡ (s.lps p).replies
+  pub last : ((event o (play o schedule s) p).lps p).replies ≡ (s.lps p).replies ++ reply ∷ []
+
+-- A call that is refused leaves its processor's record as it was, but for the refusal.
+abbrev pub RefusalsLeaveTheirReply : Type 0
+RefusalsLeaveTheirReply = (o : Opening) (s : State) (p : ℕ) (schedule : List ℕ) (status : Status) → IsBetween (s.lps p) → AnswersNext o s p schedule (Refused status)
+    → (event o (play o schedule s) p).lps p ≡ record (s.lps p) { replies = (s.lps p).replies ++ Refused status ∷ [] }
+
+-- How many events a call has
+
+-- how many locks a call tries, where no condition fails, is the same in every world
+abbrev pub RowsTryTheSame : Type 0
+RowsTryTheSame = (o : Opening) (me : ℕ) (c : Call) (v w : World) → tries_in ((row_of o me c).items v) ≡ tries_in ((row_of o me c).items w)
+
+-- how many items of a schedule are a processor's own: each is an event of it while it has a line left
+abbrev pub own_items : ℕ → List ℕ → ℕ
+own_items p [] = 0
+own_items p (q ∷ qs) = one_if (q == p) + own_items p qs
+
+-- A call that succeeds with n locks has 2n + 1 events, and one that is refused for an argument has one, whatever the other
+-- processors do in between.
+pub record CallsHaveTheirEvents : Type 0 where
+  pub succeeds : (o : Opening) (s : State) (p : ℕ) (schedule : List ℕ) (c : Call) (cs : List Call) (v : Value) → IsBetween (s.lps p) → lines_left o p (s.lps p) ≡ c ∷ cs
+      → AnswersNext o s p schedule (Done v) → own_items p schedule + 1 ≡ 2 * tries_in ((row_of o p c).items s.world) + 1
+  pub argument : (o : Opening) (s : State) (p : ℕ) (schedule : List ℕ) (place : ℕ) → IsBetween (s.lps p)
+      → AnswersNext o s p schedule (Refused (OperandInvalid place)) → own_items p schedule + 1 ≡ 1

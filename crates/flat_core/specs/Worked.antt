@@ -17,7 +17,7 @@ use Rattle.td_words.specs.declared.replies.Reply.{Reply}
 use Rattle.td_words.specs.declared.replies.Reply.TheVariants.{Done, Refused}
 use Rattle.flat_core.specs.Opening.{Opening}
 use Rattle.flat_core.specs.Event.{State, Event, start, event, next_event}
-use Rattle.flat_core.specs.Run.{run}
+use Rattle.flat_core.specs.Run.{play, run}
 
 -- no guest code, no bundles, no secrets
 abbrev pub plain_opening : (lps pages hkids : ℕ) → List (List Call) → Opening
@@ -81,9 +81,10 @@ ten_successes = replicate 10 success
 abbrev pub measured_by : List Call → List ℕ
 measured_by calls = (run (usual_opening ((building ++ calls) ∷ [])) []).world.tds.measured 1
 
--- a page that a host wrote to is added at GPA 4096: one record
+-- a page that a host wrote to is added at GPA 4096: one record. Of its second chunk it wrote the first word, the last one
+-- of the first half, and the last one
 abbrev pub added_page : List Call
-added_page = HostWrite 0 32 258 ∷ MemPageAdd 1 4096 8 0 ∷ []
+added_page = HostWrite 0 32 258 ∷ HostWrite 0 47 772 ∷ HostWrite 0 63 1286 ∷ MemPageAdd 1 4096 8 0 ∷ []
 
 abbrev pub added_record : List ℕ
 added_record = codes "MEM.PAGE.ADD" ++ (replicate 4 0 ++ (0 ∷ 16 ∷ replicate 110 0))
@@ -99,6 +100,31 @@ being_refused = run (usual_opening ((MngCreate 1 1 ∷ []) ∷ (HostRead 1 0 ∷
 -- two processors meet at the key table
 abbrev pub two_keys : State
 two_keys = run (plain_opening 2 32 2 ((MngCreate 1 1 ∷ []) ∷ (MngCreate 2 1 ∷ []) ∷ [])) (0 ∷ 0 ∷ 1 ∷ 1 ∷ [])
+
+-- the state after these items, with no end to the run
+abbrev pub after_items : Opening → List ℕ → State
+after_items o items = play o items (start o None)
+
+-- processor 0 has built a TD with one page
+abbrev pub built : List Call
+built = building ++ MemPageAdd 1 0 8 0 ∷ []
+
+abbrev pub built_items : List ℕ
+built_items = replicate 75 0
+
+-- it is extending and holds the TD's operation state alone, while processor 1 reads the TD's secure EPT
+abbrev pub op_held : List ℕ → State
+op_held items = after_items (usual_opening ((built ++ MrExtend 1 0 ∷ []) ∷ (MemSeptRd 1 0 0 ∷ []) ∷ [])) (built_items ++ replicate 2 0 ++ items)
+
+-- it holds the page alone, where processor 1 extends and so is denied the page with three locks held; processor 2 looks at
+-- the TD in between
+abbrev pub page_denied : List ℕ → State
+page_denied items =
+    after_items (usual_opening ((built ++ MngCreate 8 1 ∷ []) ∷ (MrExtend 1 0 ∷ []) ∷ (MngRd 1 field.Op ∷ MngRd 1 field.Op ∷ MngKeyConfig 1 ∷ []) ∷ [])) (built_items ++ 0 ∷ items)
+
+-- the replies where there are two HKIDs
+abbrev pub answers_of_two : List Call → List Reply
+answers_of_two calls = replies_of (run (plain_opening 1 32 2 (calls ∷ [])) []) 0
 
 -- a page that is held alone
 abbrev pub held_page : State
@@ -155,5 +181,22 @@ pub record Examples : Type 0 where
   -- what is measured: that the page was added; and where a chunk of it is, and its bytes
   pub one_page : measured_by added_page ≡ added_record
   pub one_chunk : measured_by (added_page ++ MrExtend 1 4352 ∷ [])
-      ≡ added_record ++ (codes "MR.EXTEND" ++ (replicate 7 0 ++ (0 ∷ 17 ∷ replicate 110 0))) ++ (2 ∷ 1 ∷ replicate 254 0)
+      ≡ added_record ++ (codes "MR.EXTEND" ++ (replicate 7 0 ++ (0 ∷ 17 ∷ replicate 110 0)))
+      ++ (2 ∷ 1 ∷ replicate 118 0 ++ (4 ∷ 3 ∷ replicate 126 0 ++ (6 ∷ 5 ∷ replicate 6 0)))
   pub page_under_way_1 : replies_of page_under_way 1 ≡ Refused (OperandBusy (lock.Page 8)) ∷ []
+  -- a denied shared try is undone and then the lock that is held is released: four events
+  pub op_held_1 : replies_of (op_held (replicate 3 1)) 1 ≡ []
+  pub op_held_1_then : replies_of (op_held (replicate 4 1)) 1 ≡ Refused (OperandBusy lock.Op) ∷ []
+  -- and the newest first, where more are held: the operation state is held still after the first release, and the TDR page
+  -- after the second
+  pub newest_first_2 : replies_of (page_denied (replicate 6 1 ++ replicate 4 2 ++ 1 ∷ replicate 6 2)) 2 ≡ Refused (OperandBusy lock.Op) ∷ Done (Op op.Initialized) ∷ Refused (OperandBusy (lock.Page 1)) ∷ []
+  pub newest_first_1 : replies_of (page_denied (replicate 7 1)) 1 ≡ []
+  pub newest_first_1_then : replies_of (page_denied (replicate 8 1)) 1 ≡ Refused (OperandBusy (lock.Page 8)) ∷ []
+  -- a page is taken back through its own TD alone, and a virtual processor begun so
+  pub reclaimed_of_another : answers_to (MngCreate 1 1 ∷ MngVpflushdone 1 ∷ PhymemCacheWb ∷ MngKeyFreeid 1 ∷ MngCreate 2 1 ∷ MngKeyConfig 2 ∷ MngAddcx 2 3 ∷ PhymemPageReclaim 1 3 ∷ PhymemPageReclaim 1 2 ∷ PhymemPageRdmd 3 ∷ [])
+      ≡ five_successes ++ success ∷ success ∷ Refused (PageMetadataIncorrect 3) ∷ Refused (PageMetadataIncorrect 2) ∷ Done (Page kind.Tdcx 2 0) ∷ []
+  pub processor_of_another : answers_of_two (beginning ++ VpCreate 1 4 ∷ MngCreate 10 2 ∷ MngKeyConfig 10 ∷ MngAddcx 10 11 ∷ MngAddcx 10 12 ∷ MngInit 10 ∷ VpInit 10 4 0 ∷ VpInit 1 4 0 ∷ [])
+      ≡ five_successes ++ success ∷ (five_successes ++ Refused (PageMetadataIncorrect 4) ∷ success ∷ [])
+  -- the epoch is read once the TD is INITIALIZED
+  pub epoch_before : answers_to (MngCreate 1 1 ∷ MngKeyConfig 1 ∷ MngAddcx 1 2 ∷ MngAddcx 1 3 ∷ MngRd 1 field.Op ∷ MngRd 1 field.Epoch ∷ [])
+      ≡ replicate 4 success ++ Done (Op op.Uninitialized) ∷ Refused (OpStateIncorrect op.Uninitialized) ∷ []

@@ -2,7 +2,7 @@
 
 ghost use Rattle.flat_core.specs.Worked.{Examples};
 ghost use Rattle.flat_core.specs.Bounds.{RowsTryFew, EventsRunOut, RunsEnd};
-ghost use Rattle.flat_core.specs.Laws.{RowsKeep, RowsAreBlind, MrtdIsTheDigest, RecordsAreMeasured, EveryWorldIsLawful, EveryPageIsOwned, OthersStay, QuietEventsStay, NoWordsToTell, LocksExclude, BlindRunsPrintTheSame, RefusedCallsStay, EventsKeepLawful};
+ghost use Rattle.flat_core.specs.Laws.{RowsKeep, RowsAreBlind, MrtdIsTheDigest, RecordsAreMeasured, EveryWorldIsLawful, EveryPageIsOwned, OthersStay, QuietEventsStay, NoWordsToTell, LocksExclude, BlindRunsPrintTheSame, BlindRunsMakeTheSameBundles, AgreeingRunsShowTheSame, RefusedCallsStay, QuietCallsKeep, RefusalsLeaveTheirReply, RowsTryTheSame, CallsHaveTheirEvents, EventsKeepLawful, EveryMrtdIsTheDigest, EventsMeasure, PagesHaveOneUse, GuestsKnowTheirPages};
 
 /// The worked examples: replies of small runs, and how many events they take.
 pub fn worked_examples()
@@ -11,12 +11,14 @@ pub fn worked_examples()
 
 /// The two facts beside each row: its act keeps what every world keeps, and it is blind to private
 /// words. And MRTD is read as the digest of what was measured: the records of pages added and of
-/// chunks, in their order, and nothing else.
+/// chunks, in their order, and nothing else. A page that isn't the host's keeps its one use until
+/// PHYMEM.PAGE.RECLAIM gives it back.
 pub fn row_laws()
     ensures keep { RowsKeep }
     ensures blind { RowsAreBlind }
     ensures mrtd { MrtdIsTheDigest }
     ensures records { RecordsAreMeasured }
+    ensures one_use { PagesHaveOneUse }
 {}
 
 /// Each event keeps a world lawful, and every schedule leads to a lawful one: who owns which page, which pages a TD's entries name,
@@ -34,13 +36,15 @@ pub fn ownership_law()
 
 /// An event of one processor leaves the others' records alone; what is refused, tried, undone or
 /// released changes nothing but locks and the processor's own record; and so a call that is refused
-/// changes nothing from its first event to its last, and holds no lock at its end. Where there are no
-/// words to tell, an event brings none.
+/// changes nothing from its first event to its last, holds no lock at its end, and leaves nothing but
+/// its refusal in the processor's record. Where there are no words to tell, an event brings none.
 pub fn event_laws()
     ensures others { OthersStay }
     ensures quiet { QuietEventsStay }
     ensures refused { RefusedCallsStay }
     ensures own_words { NoWordsToTell }
+    ensures kept { QuietCallsKeep }
+    ensures left { RefusalsLeaveTheirReply }
 {}
 
 /// Nobody holds a lock beside one who holds it alone, after any schedule.
@@ -49,15 +53,33 @@ pub fn lock_law()
 {}
 
 /// Every call tries as many locks as the leaf table says at most, and ends after a number of its own
-/// events that this bounds, whatever the other processors do; and at the end of a run no processor
-/// has an event left.
+/// events that this bounds, whatever the other processors do: 2n + 1 where it succeeds with n locks,
+/// and one where it is refused for an argument. At the end of a run no processor has an event left.
 pub fn end_laws()
     ensures tries { RowsTryFew }
     ensures runs_out { EventsRunOut }
     ensures runs_end { RunsEnd }
+    ensures same_tries { RowsTryTheSame }
+    ensures events { CallsHaveTheirEvents }
 {}
 
-/// What a run prints is the same whatever the private words are, apart from what guests tell.
+/// What a run prints, and the public part of the bundles that it makes, are the same whatever the
+/// private words are, apart from what guests tell: the same as with every private word 0, and so the
+/// same for any two openings that agree on all that is public.
 pub fn two_world_law()
-    ensures { BlindRunsPrintTheSame }
+    ensures prints { BlindRunsPrintTheSame }
+    ensures bundles { BlindRunsMakeTheSameBundles }
+    ensures agreeing { AgreeingRunsShowTheSame }
+{}
+
+/// After any schedule, MRTD of a TD in RUNNABLE is read as the digest of what it has measured, and no
+/// event but the act of a call changes what TDs have measured.
+pub fn measurement_laws()
+    ensures mrtd { EveryMrtdIsTheDigest }
+    ensures events { EventsMeasure }
+{}
+
+/// After any schedule, what the guest of a TD knows of a private page is what the page holds.
+pub fn memory_law()
+    ensures { GuestsKnowTheirPages }
 {}

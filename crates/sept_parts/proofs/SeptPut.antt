@@ -10,7 +10,7 @@ use Rattle.td_words.specs.Place as place
 use Rattle.flat_core.specs.World.{World}
 use Rattle.flat_core.specs.Processor.{LockId}
 use Rattle.flat_core.specs.Effects.{set_entry}
-use Rattle.flat_core.specs.Lawful.{Lawful, IsAlive, IsNodeOf}
+use Rattle.flat_core.specs.Lawful.{Lawful, IsAlive, IsNodeOf, is_named_kind}
 use Rattle.flat_core.specs.Tree.{number_at}
 use Rattle.flat_core.specs.Event.{State}
 use Rattle.sept_walk.specs.SecureEpt.{index_at}
@@ -69,7 +69,7 @@ module _ (m : Machine) (mem : Memory) (s : State) (t : ℕ) (sh : Shows m mem.wo
   node_named : (q l n : ℕ) → IsNodeOf w.pages t q kind.Ept l n → ((w.tds.entries t l n).page ≡ q) × (l ≤ 3)
   node_named q l n node =
       let its : IsAlive w.pages w.tds (w.pages.owners q) = subst (λ (u : ℕ). IsAlive w.pages w.tds u) (sym node.page.owner) alive in
-      let h = rw (node.page.owner, node.level_is, node.number_is) at (la.tree.named q node.page.kind its) in (h.1, h.2)
+      let h = rw (node.page.owner, node.level_is, node.number_is) at (la.tree.named q (ap is_named_kind node.page.kind) its) in (h.1, h.2)
 
   pub one-node : (p q l n : ℕ) → IsNodeOf w.pages t p kind.Ept l n → IsNodeOf w.pages t q kind.Ept l n → p ≡ q
   one-node p q l n a b = sym (node_named p l n a).0 ∙ (node_named q l n b).0

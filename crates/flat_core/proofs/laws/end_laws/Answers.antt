@@ -1,3 +1,4 @@
+use Rattle.flat_core.proofs.Counts.{rows_try_the_same, calls_have_their_events}
 use Rattle.flat_core.proofs.Ends.{row_tries, runs_out, runs_end}
 use Rattle.flat_core.proofs.laws.end_laws.Goals as goal
 
@@ -9,3 +10,9 @@ returns-clause-runs_out c = runs_out
 
 pub returns-clause-runs_end : goal.returns-clause-runs_end
 returns-clause-runs_end c = runs_end
+
+pub returns-clause-same_tries : goal.returns-clause-same_tries
+returns-clause-same_tries c = rows_try_the_same
+
+pub returns-clause-events : goal.returns-clause-events
+returns-clause-events c = calls_have_their_events

@@ -1,6 +1,7 @@
 use Rattle.flat_core.proofs.Keeps.{row-keeps}
 use Rattle.flat_core.proofs.Blind.{row-blind}
 use Rattle.flat_core.proofs.Mrtd.{mrtd_is_the_digest, records_are_measured}
+use Rattle.flat_core.proofs.OneUse.{one_use}
 use Rattle.flat_core.proofs.laws.row_laws.Goals as goal
 
 pub returns-clause-keep : goal.returns-clause-keep
@@ -14,3 +15,6 @@ returns-clause-mrtd c = mrtd_is_the_digest
 
 pub returns-clause-records : goal.returns-clause-records
 returns-clause-records c = records_are_measured
+
+pub returns-clause-one_use : goal.returns-clause-one_use
+returns-clause-one_use c = one_use

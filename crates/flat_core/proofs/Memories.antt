@@ -1,0 +1,162 @@
+-- What guests know of their private pages is what the pages hold.
+use Rattle.std.proofs.Common.{lit≤, ◌≡◌, ◌≢◌, refl, sym, ◌∙◌, ap, subst, ℕ, ◌≤◌, List, [], ◌∷◌, Some, Bool, true, false, not, ◌==◌, arith}
+use Rattle.std.proofs.lemmas.Bool.{eq-eqb, eqb-true, ne_eqb}
+use Rattle.td_words.specs.declared.names.PageKind.{PageKind}
+use Rattle.td_words.specs.declared.names.PageKind.TheVariants as kind
+use Rattle.td_words.specs.declared.names.LifeState.{LifeState}
+use Rattle.td_words.specs.declared.names.LifeState.TheVariants as life
+use Rattle.td_words.specs.declared.names.EntryState.TheVariants as entry
+use Rattle.td_words.specs.declared.machines.Machine.{Machine}
+use Rattle.td_words.specs.declared.calls.Call.{Call}
+use Rattle.td_words.specs.declared.calls.Call.TheVariants as call
+use Rattle.td_words.specs.NameNumber.{life_number}
+use Rattle.td_words.specs.Packing.{Entry}
+use Rattle.mrtd_measure.specs.Records.{page_record}
+use Rattle.flat_core.specs.World.{World, Tds, put}
+use Rattle.flat_core.specs.Opening.{Opening}
+use Rattle.flat_core.specs.Row.{Passes}
+use Rattle.flat_core.specs.Conditions.{is_host, host_page, page_exclusive}
+use Rattle.flat_core.specs.Tree.{page_of_gpa, number_at, state_in}
+use Rattle.flat_core.specs.Effects.{put_in, set_word, set_page, clear_page, take_node, take_page, give_back, map_page, add_control, add_vp, measure, set_life, begin_memory, end_memory_in}
+use Rattle.flat_core.specs.TdRows.{create}
+use Rattle.flat_core.specs.KeyRows.{reclaim_conditions}
+use Rattle.flat_core.specs.Table.{row_of}
+use Rattle.flat_core.specs.Event.{start}
+use Rattle.flat_core.specs.Lawful.{IsAlive, Lawful, is_free}
+use Rattle.flat_core.specs.Laws.{reached, memory_of, GuestsKnowTheirPages}
+use Rattle.flat_core.proofs.Tests.{by_test, host_kind, tdr_kind, range_of, same_self, and_right}
+use Rattle.flat_core.proofs.Maps.{walk_passed}
+use Rattle.flat_core.proofs.Parts.{IsLive}
+use Rattle.flat_core.proofs.Keeps.{live_of, ended_of, row-keeps, first-lawful}
+use Rattle.flat_core.proofs.Induction.{world_kept}
+use Rattle.flat_core.proofs.Kept.{leave_lawful}
+
+abbrev Knows : World → Type 0
+Knows w = (t n : ℕ) → IsAlive w.pages w.tds t → w.hidden.memories t n ≡ memory_of (w.tds.entries t 0 n) w.words
+
+same_memory : (e : Entry) (old new : ℕ → ℕ → ℕ) → (is_free e.state ≡ false → new e.page ≡ old e.page) → memory_of e new ≡ memory_of e old
+same_memory e old new h = by_test (is_free e.state) (λ y. rw y refl) (λ y. rw y (ap (λ (x : ℕ → ℕ). Some x) (h y)))
+
+-- a word of another page changes none of a page
+words_stay : (words : ℕ → ℕ → ℕ) (q i v p : ℕ) → (p == q) ≡ false → put_in words q i v p ≡ words p
+words_stay words q i v p e = λ j b. at b j
+  where
+    at : (b : ℕ) → put_in words q i v p b ≡ words p b
+    at b = rw e refl
+
+-- an entry of a level above 0 changes none of level 0
+entry_stays : (f : ℕ → ℕ → ℕ → Entry) (t level i x n : ℕ) (e : Entry) → 1 ≤ level → put f t (put_in (f t) level i e) x 0 n ≡ f x 0 n
+entry_stays f t level i x n e upper =
+    let apart : (0 == level) ≡ false = ne_eqb 0 level (omega arith) in
+    by_test (x == t) (λ y. rw (y, apart) (ap (λ (z : ℕ). f z 0 n) (sym (eqb-true x t y)))) (λ y. rw y refl)
+
+module _ (m : Machine) (w : World) (l : Lawful m w) (h : Knows w) where
+  -- where the memory, the entry and the words of the page that it names are as before
+  still_known : (v : World) (t n : ℕ) → IsAlive w.pages w.tds t → v.hidden.memories t n ≡ w.hidden.memories t n → v.tds.entries t 0 n ≡ w.tds.entries t 0 n
+      → (is_free (w.tds.entries t 0 n).state ≡ false → v.words (w.tds.entries t 0 n).page ≡ w.words (w.tds.entries t 0 n).page) → v.hidden.memories t n ≡ memory_of (v.tds.entries t 0 n) v.words
+  still_known v t n a memory same words =
+      memory ∙ (h t n a ∙ (sym (same_memory (w.tds.entries t 0 n) w.words v.words words) ∙ ap (λ (e : Entry). memory_of e v.words) (sym same)))
+
+  -- a page that an entry names was no host page
+  apart : (q t n : ℕ) → w.pages.kinds q ≡ kind.Nda → IsAlive w.pages w.tds t → is_free (w.tds.entries t 0 n).state ≡ false → ((w.tds.entries t 0 n).page == q) ≡ false
+  apart q t n host a e = by_test ((w.tds.entries t 0 n).page == q)
+      (λ y. absurd (let no : kind.Nda ≡ kind.Reg = sym host ∙ (ap w.pages.kinds (sym (eqb-true _ q y)) ∙ (l.tree.leaf t n a e).1.page.kind) in cc))
+      (λ y. y)
+
+  -- where no words but those of a page that was the host's have changed
+  known_beside : (v : World) (q t n : ℕ) → w.pages.kinds q ≡ kind.Nda → IsAlive w.pages w.tds t → ((p : ℕ) → (p == q) ≡ false → v.words p ≡ w.words p)
+      → v.hidden.memories t n ≡ w.hidden.memories t n → v.tds.entries t 0 n ≡ w.tds.entries t 0 n → v.hidden.memories t n ≡ memory_of (v.tds.entries t 0 n) v.words
+  known_beside v q t n host a words memory same = still_known v t n a memory same (λ e. words _ (apart q t n host a e))
+
+  -- a TD that is alive after a page changed its kind was so before
+  alive_before : (q : ℕ) (k : PageKind) (t level number : ℕ) → k ≢ kind.Tdr → (tds : Tds) → tds.lives ≡ w.tds.lives → (x : ℕ) → IsAlive (take_node q k t level number w).pages tds x → IsAlive w.pages w.tds x
+  alive_before q k t level number not_tdr tds same x a = record {
+    kind = by_test (x == q) (λ y. absurd (not_tdr (rw y at a.kind))) (λ y. rw y at a.kind);
+    life = subst (λ (f : ℕ → LifeState). IsLive (f x)) same a.life;
+  }
+
+  -- or after a life changed that wasn't at its end
+  lived_before : (t : ℕ) (s : LifeState) → IsLive (w.tds.lives t) → (x : ℕ) → IsAlive w.pages (set_life t s w).tds x → IsAlive w.pages w.tds x
+  lived_before t s live x a = record {
+    kind = a.kind;
+    life = by_test (x == t) (λ y. subst (λ (z : ℕ). IsLive (w.tds.lives z)) (sym (eqb-true x t y)) live) (λ y. rw y at a.life);
+  }
+
+  -- PHYMEM.PAGE.RECLAIM
+  owner_of : (t q : ℕ) (b : Bool) → (q == t) ≡ b → w.pages.kinds t ≡ kind.Tdr → Passes (reclaim_conditions w t q b) → w.pages.owners q ≡ t
+  owner_of t q true e root ps = let here : q ≡ t = eqb-true q t e in l.pages.tdr q (rw here root) ∙ here
+  owner_of t q false e root ps = eqb-true _ t (and_right (not (is_host w q)) (w.pages.owners q == t) ps.0)
+
+  reclaim_known : (t q : ℕ) → (life_number (w.tds.lives t) == life_number life.Teardown) ≡ true → w.pages.owners q ≡ t → Knows (give_back q (end_memory_in t q w))
+  reclaim_known t q dead mine x n a =
+      let before : IsAlive w.pages w.tds x = alive_before q kind.Nda 0 0 0 (λ e. cc) w.tds refl x a in
+      let another : (x == t) ≡ false = by_test (x == t)
+      (λ y. absurd (let no : true ≡ false = sym dead ∙ subst (λ (z : ℕ). IsLive (w.tds.lives z)) (eqb-true x t y) before.life in cc))
+      (λ y. y) in
+      let elsewhere : is_free (w.tds.entries x 0 n).state ≡ false → ((w.tds.entries x 0 n).page == q) ≡ false = λ e. by_test ((w.tds.entries x 0 n).page == q)
+      (λ y. absurd (let same : x ≡ t = sym (l.tree.leaf x n before e).1.page.owner ∙ (ap w.pages.owners (eqb-true _ q y) ∙ mine) in
+      let no : true ≡ false = sym (eq-eqb x t same) ∙ another in cc))
+      (λ y. y) in
+      still_known (give_back q (end_memory_in t q w)) x n before (rw another refl) refl (λ e. rw (elsewhere e) refl)
+
+  -- MNG.CREATE
+  create_known : (t k : ℕ) → w.pages.kinds t ≡ kind.Nda → Knows ((create m t k).act w)
+  create_known t k host x n a = by_test (x == t)
+      (λ y. rw y refl)
+      (λ y. known_beside ((create m t k).act w) t x n host (record { kind = rw y at a.kind; life = rw y at a.life }) (λ p e. rw e refl) (rw y refl) (rw y refl))
+
+  -- MEM.SEPT.ADD
+  sept_known : (t level number q : ℕ) → 1 ≤ level → w.pages.kinds q ≡ kind.Nda → Knows (clear_page q (map_page q kind.Ept entry.NlMapped t level number w))
+  sept_known t level number q upper host x n a =
+      let v : World = clear_page q (map_page q kind.Ept entry.NlMapped t level number w) in
+      known_beside v q x n host (alive_before q kind.Ept t level number (λ e. cc) v.tds refl x a) (λ p e. rw e refl) refl
+      (entry_stays w.tds.entries t level number x n _ upper)
+
+  -- MEM.PAGE.ADD
+  added_known : (t g q : ℕ) (ws : ℕ → ℕ) (records : List ℕ) → w.pages.kinds q ≡ kind.Nda → Knows (measure t records (begin_memory t g ws (set_page q ws (map_page q kind.Reg entry.Mapped t 0 g w))))
+  added_known t g q ws records host x n a =
+      let v : World = measure t records (begin_memory t g ws (set_page q ws (map_page q kind.Reg entry.Mapped t 0 g w))) in
+      let before : IsAlive w.pages w.tds x = alive_before q kind.Reg t 0 g (λ e. cc) v.tds refl x a in
+      by_test (x == t)
+      (λ y. by_test (n == g)
+      (λ z. rw (y, z, same_self q) refl)
+      (λ z. known_beside v q x n host before (λ p e. rw e refl) (rw (y, z) refl) (rw (y, z) (ap (λ (z : ℕ). w.tds.entries z 0 n) (sym (eqb-true x t y))))))
+      (λ y. known_beside v q x n host before (λ p e. rw e refl) (rw y refl) (rw y refl))
+
+row_known : (o : Opening) (me : ℕ) (c : Call) (w : World) → Lawful o.machine w → Knows w → Passes ((row_of o me c).items w) → Knows ((row_of o me c).act w)
+row_known o me (call.HostWrite page i v) w l h ps x n a = known_beside o.machine w l h (set_word page i v w) page x n (host_kind _ ps.1.1.0) a (λ p e. words_stay w.words page i v p e) refl refl
+row_known o me (call.PhymemPageReclaim t page) w l h ps x n a =
+    reclaim_known o.machine w l h t page (ended_of (w.tds.lives t) ps.1.1.1.0) (owner_of o.machine w l h t page (page == t) refl (tdr_kind _ ps.1.1.0) ps.1.1.1.1) x n a
+row_known o me (call.MngCreate t k) w l h ps x n a = create_known o.machine w l h t k (host_kind _ ps.1.1.0) x n a
+row_known o me (call.MngKeyConfig t) w l h ps x n a =
+    h x n (lived_before o.machine w l h t life.KeysConfigured (live_of (life.HkidAssigned ∷ []) (w.tds.lives t) refl ps.1.1.0) x a)
+row_known o me (call.MngVpflushdone t) w l h ps x n a =
+    h x n (lived_before o.machine w l h t life.Blocked (live_of (life.HkidAssigned ∷ life.KeysConfigured ∷ []) (w.tds.lives t) refl ps.1.1.0) x a)
+row_known o me (call.MngKeyFreeid t) w l h ps x n a =
+    h x n (lived_before o.machine w l h t life.Teardown (live_of (life.Blocked ∷ []) (w.tds.lives t) refl ps.1.1.0) x a)
+row_known o me (call.MngAddcx t page) w l h ps x n a =
+    let v : World = add_control t page (clear_page page (take_page page kind.Tdcx t w)) in
+    known_beside o.machine w l h v page x n (host_kind _ ps.1.1.1.1.1.1.0) (alive_before o.machine w l h page kind.Tdcx t 0 0 (λ e. cc) v.tds refl x a) (λ p e. rw e refl) refl refl
+row_known o me (call.VpCreate t page) w l h ps x n a =
+    let v : World = add_vp t page (clear_page page (take_page page kind.Tdvpr t w)) in
+    known_beside o.machine w l h v page x n (host_kind _ ps.1.1.1.1.1.1.1.1.0) (alive_before o.machine w l h page kind.Tdvpr t 0 0 (λ e. cc) v.tds refl x a) (λ p e. rw e refl) refl refl
+row_known o me (call.MemSeptAdd t gpa level page) w l h ps x n a =
+    let at : (1 ≤ level) × (level ≤ 3) = range_of level 3 ps.1.1.0 in
+    let behind = walk_passed w t gpa (state_in w t gpa level (entry.Free ∷ []) ∷ page_exclusive page ∷ host_page w page ∷ []) level at.1 ps.1.1.1.1.1.1.1.1.1.1 in
+    sept_known o.machine w l h t level (number_at level gpa) page at.0 (host_kind _ behind.0.1.0) x n a
+row_known o me (call.MemPageAdd t gpa page source) w l h ps x n a =
+    let behind = walk_passed w t gpa (state_in w t gpa 0 (entry.Free ∷ []) ∷ page_exclusive source ∷ host_page w source ∷ page_exclusive page ∷ host_page w page ∷ []) 0 (lit≤ tt) ps.1.1.1.1.1.1.1.1.1.1.1.1 in
+    added_known o.machine w l h t (page_of_gpa gpa) page (w.words source) (page_record gpa) (host_kind _ behind.0.1.1.0) x n a
+row_known o me _ w l h ps x n a = h x n (record { kind = a.kind; life = a.life })
+
+pub guests_know : GuestsKnowTheirPages
+guests_know o ws schedule = known.1
+  where
+    known : Lawful o.machine (reached o ws schedule).world × Knows (reached o ws schedule).world
+    known =
+        world_kept o (λ w. Lawful o.machine w × Knows w)
+        (λ me c w h ps. ((row-keeps o me c).act w h.0 ps, row_known o me c w h.0 h.1 ps))
+        (λ t v line op row w e h ps. elim op [ ])
+        (λ t v line op access r gpa page w e h. elim op [ ])
+        (λ v w h. (leave_lawful o v w h.0, h.1))
+        schedule (start o ws) (first-lawful o.machine ws, λ t n a. refl)

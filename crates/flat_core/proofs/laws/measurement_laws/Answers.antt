@@ -1,0 +1,8 @@
+use Rattle.flat_core.proofs.Measured.{every_mrtd, events_measure}
+use Rattle.flat_core.proofs.laws.measurement_laws.Goals as goal
+
+pub returns-clause-mrtd : goal.returns-clause-mrtd
+returns-clause-mrtd c = every_mrtd
+
+pub returns-clause-events : goal.returns-clause-events
+returns-clause-events c = events_measure
