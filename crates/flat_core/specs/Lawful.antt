@@ -75,7 +75,7 @@ pub record LawfulTds (pages : Pages) (tds : Tds) : Type 0 where
 abbrev pub IsListed : Pages → Tds → (ℕ → List ℕ) → PageKind → ℕ → Type 0
 IsListed pages tds lists k p = pages.kinds p ≡ k → IsAlive pages tds (pages.owners p) → list_any (λ q. q == p) (lists (pages.owners p)) ≡ true
 
--- each control page, virtual processor and stream page of a TD is in its list, a virtual processor at the place of its index
+-- each control page, virtual processor and stream page of a TD is in its list, a virtual processor at its index
 pub record LawfulLists (pages : Pages) (tds : Tds) (indexes : ℕ → ℕ) : Type 0 where
   pub control : (p : ℕ) → IsListed pages tds tds.controls kind.Tdcx p
   pub vp : (p : ℕ) → IsListed pages tds tds.vps kind.Tdvpr p
@@ -98,9 +98,9 @@ is_named_kind kind.Ept = true
 is_named_kind kind.Reg = true
 is_named_kind _ = false
 
--- Ownership: an entry that isn't FREE names a page that its TD owns, at its own node, so no page is named twice and a host
--- page by none; each secure EPT page and each private page is named by the entry at its node, of level 3 at most; nothing
--- is mapped below a FREE entry; and what is mapped are GPAs below 2^47.
+-- Ownership: an entry that isn't FREE names a page that its TD owns, at its own node, so no page is named twice and a
+-- host page by none; each secure EPT page and each private page is named by the entry at its node, of level 3 at most;
+-- nothing is mapped below a FREE entry; and each GPA that is mapped is below 2^47.
 -- In a machine within the limits each entry has a packing.
 pub record LawfulTree (count : ℕ) (pages : Pages) (tds : Tds) : Type 0 where
   pub entry : count ≤ 1024 → (t l n : ℕ) → is_lawful_entry (tds.entries t l n) ≡ true
@@ -127,7 +127,7 @@ is_flushed Unassigned = false
 is_flushed (AssignedTo t) = false
 is_flushed (FlushedOf t b) = true
 
--- the HKID of a TD that is alive is one of the machine's and is its own, and is flushed exactly where the TD is blocked;
+-- the HKID of a TD that is alive is one of the machine's and its own, and is flushed exactly where the TD is blocked;
 -- and each HKID that isn't free is that of such a TD
 pub record LawfulKeys (count : ℕ) (pages : Pages) (tds : Tds) (table : KeyTable) : Type 0 where
   pub in_range : (t : ℕ) → IsAlive pages tds t → (1 ≤ tds.hkids t) × (tds.hkids t ≤ count)
