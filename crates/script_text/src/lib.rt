@@ -4,7 +4,7 @@
 //! several hold. It stands on `td_words` alone. A layer above may use that `read_script` gives
 //! exactly what `specs/Reading.antt` defines, unless memory wasn't found, and the three laws: what
 //! is read is in form (`scripts_are_in_form`), a script in form that is written out is read again
-//! (`scripts_read_again`), and a fault names the first bad line (`faults_are_first`). Fifteen calls
+//! (`scripts_read_again`), and a fault names the first bad line (`faults_are_first`). Nineteen calls
 //! are built; every other mnemonic, and `code`, is UNBUILT in a script. What their lines say is
 //! read by the public functions on code heads, operands and output slots.
 #![tactic(auto)]
