@@ -86,7 +86,7 @@ fn enter(draft: &mut Draft, alloc: Global, number: u64, entry: Entry, text: &[u8
 }
 
 // A line's first word, and what stands behind it.
-#[tactic(auto, unfolding(crate::specs::Reading::worded_of))]
+#[tactic(auto, unfolding(crate::specs::Reading::worded_of), using(crate::proofs::FiveWords::five_suffice))]
 fn take_words(draft: &mut Draft, alloc: Global, number: u64, word: &[u8], text: &[u8]) -> Taken
     ensures { GivesAt number (worded_of (draft_seen draft.old) (word.now ∷ words text.now)) (draft_seen draft.new) result }
 {
