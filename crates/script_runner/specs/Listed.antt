@@ -41,9 +41,9 @@ PutsListed false (Err put.OutOfMemory) = Unit {0}
 abbrev pub after_load : MemFiles → MemFiles
 after_load f = record f { calls = raised f.calls; read_faults = if is_listed f.failing.items f.calls then raised f.read_faults else f.read_faults }
 
--- the same for a save, which may change files besides
+-- the same for a save, which is counted as one too, and may change files besides
 abbrev pub after_save : MemFiles → MemFiles
-after_save f = record f { calls = raised f.calls; write_faults = if is_listed f.failing.items f.calls then raised f.write_faults else f.write_faults }
+after_save f = record f { calls = raised f.calls; saves = raised f.saves; write_faults = if is_listed f.failing.items f.calls then raised f.write_faults else f.write_faults }
 
 -- the output after a put, which may change its bytes besides
 abbrev pub after_put : MemSink → MemSink

@@ -39,13 +39,14 @@ LoadsUntold faults faults' read read' most (Err load.TooLong) = RoseBeyond most 
 LoadsUntold faults faults' read read' most (Err load.Failed) = Unit {0}
 LoadsUntold faults faults' read read' most (Err load.OutOfMemory) = Unit {0}
 
--- a load fails only where the count of read faults rose
+-- a load fails only where the count of read faults rose; the count is as before where it came through, the contents were
+-- too long, or memory was wanting
 abbrev pub LoadCause : ℕ → ℕ → Result (Vec ℕ) LoadFault → Type 0
-LoadCause faults faults' (Ok v) = Unit {0}
+LoadCause faults faults' (Ok v) = faults' ≡ faults
 LoadCause faults faults' (Err load.Absent) = Unit {0}
-LoadCause faults faults' (Err load.TooLong) = Unit {0}
+LoadCause faults faults' (Err load.TooLong) = faults' ≡ faults
 LoadCause faults faults' (Err load.Failed) = Rose faults faults'
-LoadCause faults faults' (Err load.OutOfMemory) = Unit {0}
+LoadCause faults faults' (Err load.OutOfMemory) = faults' ≡ faults
 
 -- the name has these bytes, and all other names stay
 pub record Gives (old : List ℕ → Option (List ℕ)) (name bytes : List ℕ) (new : List ℕ → Option (List ℕ)) : Type 0 where
@@ -59,11 +60,11 @@ SavesTold (Some old) name bytes None = ⊥
 SavesTold None name bytes (Some new) = ⊥
 SavesTold None name bytes None = Unit {0}
 
--- a save fails only where the count of write faults rose
+-- a save fails only where the count of write faults rose, which else is as before
 abbrev pub SaveCause : ℕ → ℕ → Result (Unit {0}) SaveFault → Type 0
-SaveCause faults faults' (Ok t) = Unit {0}
+SaveCause faults faults' (Ok t) = faults' ≡ faults
 SaveCause faults faults' (Err save.Failed) = Rose faults faults'
-SaveCause faults faults' (Err save.OutOfMemory) = Unit {0}
+SaveCause faults faults' (Err save.OutOfMemory) = faults' ≡ faults
 
 -- these bytes came behind what was told
 abbrev pub Gains : Option (List ℕ) → List ℕ → Option (List ℕ) → Type 0
@@ -75,8 +76,8 @@ PutsTold old bytes new (Ok t) = Gains old bytes new
 PutsTold old bytes new (Err put.Failed) = (n : ℕ) × Gains old (take n bytes) new
 PutsTold old bytes new (Err put.OutOfMemory) = new ≡ old
 
--- a put fails only where the count of faults rose
+-- a put fails only where the count of faults rose, which else is as before
 abbrev pub PutCause : ℕ → ℕ → Result (Unit {0}) PutFault → Type 0
-PutCause faults faults' (Ok t) = Unit {0}
+PutCause faults faults' (Ok t) = faults' ≡ faults
 PutCause faults faults' (Err put.Failed) = Rose faults faults'
-PutCause faults faults' (Err put.OutOfMemory) = Unit {0}
+PutCause faults faults' (Err put.OutOfMemory) = faults' ≡ faults

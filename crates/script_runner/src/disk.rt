@@ -17,18 +17,20 @@ pub struct DiskFiles<'a, R: rt::Files> {
     read_faults: u64,
     write_faults: u64,
     bytes_read: u64,
+    saves: u64,
 }
 
 impl<'a, R: rt::Files> DiskFiles<'a, R> {
     /// The files that this runtime reaches.
     pub fn new(rt: &'a R) -> Self
-        ensures { (result.read_faults ≡ 0) × (result.write_faults ≡ 0) × (result.bytes_read ≡ 0) }
+        ensures { (result.read_faults ≡ 0) × (result.write_faults ≡ 0) × (result.bytes_read ≡ 0) × (result.saves ≡ 0) }
     {
         DiskFiles {
             rt,
             read_faults: 0,
             write_faults: 0,
             bytes_read: 0,
+            saves: 0,
         }
     }
 }
@@ -106,6 +108,8 @@ impl<R: rt::Files> Files for DiskFiles<'_, R> {
 
     ghost bytes_read = { λ s. s.bytes_read };
 
+    ghost saves = { λ s. s.saves };
+
     fn load(&mut self, alloc: Global, name: &str, most: u64) -> Result<Vec<u8>, LoadFault> {
         match fs::open(self.rt, name) {
             Ok(mut file) => {
@@ -127,6 +131,7 @@ impl<R: rt::Files> Files for DiskFiles<'_, R> {
     }
 
     fn save(&mut self, _alloc: Global, name: &str, bytes: &[u8]) -> Result<(), SaveFault> {
+        self.saves = self.saves.saturating_add(1);
         if let Ok(mut file) = fs::create(self.rt, name) {
             if write_piece(&mut file, bytes) {
                 return Ok(());

@@ -18,8 +18,7 @@ pub struct Ending {
     pub text: Vec<u8>,
 }
 
-/// What is put where the words are no command.
-pub const USAGE: &str =
+const USAGE: &str =
     "usage: tdx replay|run SCRIPT [--bundles F] [--keys F] [--secrets F] [--out-bundles F] [--guest-out F] | tdx check SCRIPT | tdx soak N\n";
 
 fn is_name(word: &str) -> bool

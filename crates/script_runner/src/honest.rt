@@ -10,14 +10,15 @@ use std::alloc::Global;
 #[derive(Drop)]
 pub struct HonestFiles {
     pub files: Vec<NamedFile>,
+    pub saves: u64,
 }
 
 impl HonestFiles {
     /// These files.
     pub fn new(_alloc: Global, files: Vec<NamedFile>) -> HonestFiles
-        ensures { result.files ≡ files }
+        ensures { result ≡ record { files = files; saves = 0 } }
     {
-        HonestFiles { files }
+        HonestFiles { files, saves: 0 }
     }
 }
 
@@ -33,11 +34,14 @@ impl Files for HonestFiles {
 
     ghost bytes_read = { λ _. 0 };
 
+    ghost saves = { λ s. s.saves };
+
     fn load(&mut self, alloc: Global, name: &str, most: u64) -> Result<Vec<u8>, LoadFault> {
         load_copy(alloc, &self.files, name, most)
     }
 
     fn save(&mut self, alloc: Global, name: &str, bytes: &[u8]) -> Result<(), SaveFault> {
+        self.saves = self.saves.saturating_add(1);
         save_copy(alloc, &mut self.files, name, bytes)
     }
 }
@@ -46,15 +50,18 @@ impl Files for HonestFiles {
 #[derive(Drop)]
 pub struct HonestSink {
     pub bytes: Vec<u8>,
+    pub puts: u64,
 }
 
 impl HonestSink {
     /// An output without bytes.
     pub fn new(alloc: Global) -> HonestSink
-        ensures { result.bytes.items ≡ [] }
+        ensures empty { result.bytes.items ≡ [] }
+        ensures new { result.puts ≡ 0 }
     {
         HonestSink {
             bytes: Vec::new(alloc),
+            puts: 0,
         }
     }
 }
@@ -66,7 +73,10 @@ impl Sink for HonestSink {
 
     ghost faults = { λ _. 0 };
 
+    ghost puts = { λ s. s.puts };
+
     fn put(&mut self, bytes: &[u8]) -> Result<(), PutFault> {
+        self.puts = self.puts.saturating_add(1);
         match self.bytes.extend_from_slice(bytes) {
             Ok(()) => Ok(()),
             Err(_) => Err(PutFault::OutOfMemory),

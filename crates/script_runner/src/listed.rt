@@ -16,6 +16,7 @@ pub struct MemFiles {
     pub files: Vec<NamedFile>,
     pub failing: Vec<u64>,
     pub calls: u64,
+    pub saves: u64,
     pub read_faults: u64,
     pub write_faults: u64,
 }
@@ -23,12 +24,13 @@ pub struct MemFiles {
 impl MemFiles {
     /// These files, before any call.
     pub fn new(_alloc: Global, files: Vec<NamedFile>, failing: Vec<u64>) -> MemFiles
-        ensures { result ≡ record { files = files; failing = failing; calls = 0; read_faults = 0; write_faults = 0 } }
+        ensures { result ≡ record { files = files; failing = failing; calls = 0; saves = 0; read_faults = 0; write_faults = 0 } }
     {
         MemFiles {
             files,
             failing,
             calls: 0,
+            saves: 0,
             read_faults: 0,
             write_faults: 0,
         }
@@ -57,6 +59,8 @@ impl Files for MemFiles {
 
     ghost bytes_read = { λ _. 0 };
 
+    ghost saves = { λ s. s.saves };
+
     /// The contents of a name. It fails exactly where this call is listed, and then the count of
     /// read faults is one higher.
     fn load(&mut self, alloc: Global, name: &str, most: u64) -> Result<Vec<u8>, LoadFault>
@@ -79,6 +83,7 @@ impl Files for MemFiles {
         ensures listed { SavesListed (is_listed self.old.failing.items self.old.calls) result }
         ensures after { self.new ≡ record (after_save self.old) { files = self.new.files } }
     {
+        self.saves = self.saves.saturating_add(1);
         if self.fails_now() {
             self.write_faults = self.write_faults.saturating_add(1);
             return Err(SaveFault::Failed);
@@ -118,6 +123,8 @@ impl Sink for MemSink {
     ghost told = { λ s. Some s.bytes.items };
 
     ghost faults = { λ s. s.faults };
+
+    ghost puts = { λ s. s.calls };
 
     /// Adds these bytes. It fails exactly where this call is listed, and then the count of faults
     /// is one higher.

@@ -1,7 +1,7 @@
 //! Files and an output, as the program sees them.
 
 ghost use Rattle.std.specs.Prelude.{◌≡◌, ◌≤◌, List, ℕ, Option, IfSome, IfNone, IfErr, OnOk, OnErr};
-ghost use Rattle.script_runner.specs.Outside.{LoadsTold, LoadsUntold, LoadCause, SavesTold, SaveCause, PutsTold, PutCause};
+ghost use Rattle.script_runner.specs.Outside.{raised, LoadsTold, LoadsUntold, LoadCause, SavesTold, SaveCause, PutsTold, PutCause};
 
 use std::alloc::Global;
 
@@ -47,30 +47,35 @@ pub trait Files {
     /// How many bytes were read.
     ghost bytes_read: { Self → ℕ };
 
+    /// How many savings were asked for, whatever came of them.
+    ghost saves: { Self → ℕ };
+
     /// The contents of a name, if they are at most `most` bytes.
     fn load(&mut self, alloc: Global, name: &str, most: u64) -> Result<Vec<u8>, LoadFault>
         ensures told { IfSome (contents self.old) (λ c. LoadsTold (c name.now) most result) }
         ensures untold { IfNone (contents self.old) (LoadsUntold (read_faults self.old) (read_faults self.new) (bytes_read self.old) (bytes_read self.new) most result) }
-        // Failed comes only where the count of read faults rose.
+        // Failed comes only where the count of read faults rose, and want of memory leaves it as it was.
         ensures cause { LoadCause (read_faults self.old) (read_faults self.new) result }
         ensures same { contents self.new ≡ contents self.old }
         ensures later { read_faults self.old ≤ read_faults self.new }
         ensures more { bytes_read self.old ≤ bytes_read self.new }
-        ensures writes { write_faults self.new ≡ write_faults self.old };
+        ensures writes { write_faults self.new ≡ write_faults self.old }
+        ensures saves { saves self.new ≡ saves self.old };
 
     /// Gives a name these bytes.
     fn save(&mut self, alloc: Global, name: &str, bytes: &[u8]) -> Result<(), SaveFault>
         ensures told { OnOk result (SavesTold (contents self.old) name.now bytes.now (contents self.new)) }
         // Where contents are told, they are as before after each fault.
         ensures kept { OnErr result (contents self.new ≡ contents self.old) }
-        // Failed comes only where the count of write faults rose.
+        // Failed comes only where the count of write faults rose, which else is as it was.
         ensures cause { SaveCause (write_faults self.old) (write_faults self.new) result }
         ensures later { write_faults self.old ≤ write_faults self.new }
+        ensures counted { saves self.new ≡ raised (saves self.old) }
         ensures reads { read_faults self.new ≡ read_faults self.old }
         ensures bytes { bytes_read self.new ≡ bytes_read self.old };
 }
 
-/// Where bytes go. The count of faults never falls, and stays at 2^64 - 1.
+/// Where bytes go. No count ever falls, and a count that stands at 2^64 - 1 stays there.
 pub trait Sink {
     /// The bytes so far, where they are told.
     ghost told: { Self → Option (List ℕ) };
@@ -78,10 +83,14 @@ pub trait Sink {
     /// How often a put failed.
     ghost faults: { Self → ℕ };
 
+    /// How many puts were asked for, whatever came of them.
+    ghost puts: { Self → ℕ };
+
     /// Adds these bytes. A put that fails may have added a front of them.
     fn put(&mut self, bytes: &[u8]) -> Result<(), PutFault>
         ensures told { PutsTold (told self.old) bytes.now (told self.new) result }
-        // Failed comes only where the count of faults rose.
+        // Failed comes only where the count of faults rose, which else is as it was.
         ensures cause { PutCause (faults self.old) (faults self.new) result }
-        ensures later { faults self.old ≤ faults self.new };
+        ensures later { faults self.old ≤ faults self.new }
+        ensures counted { puts self.new ≡ raised (puts self.old) };
 }

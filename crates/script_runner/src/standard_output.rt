@@ -11,14 +11,19 @@ use std::io;
 pub struct StdSink<'a, R: Print> {
     rt: &'a R,
     faults: u64,
+    puts: u64,
 }
 
 impl<'a, R: Print> StdSink<'a, R> {
     /// The standard output of this runtime.
     pub fn new(rt: &'a R) -> Self
-        ensures { result.faults ≡ 0 }
+        ensures { (result.faults ≡ 0) × (result.puts ≡ 0) }
     {
-        StdSink { rt, faults: 0 }
+        StdSink {
+            rt,
+            faults: 0,
+            puts: 0,
+        }
     }
 }
 
@@ -29,7 +34,10 @@ impl<R: Print> Sink for StdSink<'_, R> {
 
     ghost faults = { λ s. s.faults };
 
+    ghost puts = { λ s. s.puts };
+
     fn put(&mut self, bytes: &[u8]) -> Result<(), PutFault> {
+        self.puts = self.puts.saturating_add(1);
         let mut to = io::writer(self.rt);
         if write_piece(&mut to, bytes) {
             Ok(())

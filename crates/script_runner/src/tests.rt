@@ -81,162 +81,124 @@ fn replays(
     Ok(())
 }
 
-#[test]
-fn scripts_print_their_replies(rt: HostRuntime) -> Result<(), Fail> {
-    let table: [(&str, &str, u8); 11] = [
-        ("machine 1 8 1\n", "", 0),
-        (
-            "machine 1 8 1\nlp 0\nHOST.WRITE 5 511 7\nHOST.READ 5 511\nHOST.READ 5 512\nHOST.READ 8 0\nend\n",
-            "0.1 SUCCESS\n0.2 SUCCESS 7\n0.3 OPERAND_INVALID 2\n0.4 OPERAND_INVALID 1\n",
-            0,
-        ),
-        (
-            "machine 1 32 1\nlp 0\nMNG.CREATE 1 1\nHOST.READ 1 0\nHOST.WRITE 1 0 9\nMNG.CREATE 1 1\nMNG.CREATE 2 1\nPHYMEM.PAGE.RDMD 1\nend\n",
-            "0.1 SUCCESS\n0.2 SUCCESS 0\n0.3 NOT_HOST\n0.4 PAGE_METADATA_INCORRECT 1\n0.5 HKID_NOT_FREE\n0.6 SUCCESS PT_TDR 1 0\n",
-            0,
-        ),
-        // A page's words are cleared as it becomes a TDR, and the host sees none of them.
-        (
-            "machine 1 8 2\nlp 0\nHOST.WRITE 1 3 4\nMNG.CREATE 1 2\nHOST.READ 1 3\nPHYMEM.PAGE.RDMD 2\nMNG.CREATE 2 3\nend\n",
-            "0.1 SUCCESS\n0.2 SUCCESS\n0.3 SUCCESS 0\n0.4 SUCCESS PT_NDA 0 0\n0.5 OPERAND_INVALID 2\n",
-            0,
-        ),
-        (
-            "machine 1 8 1\nlp 0\nHOST.RE",
-            "script line 3 UNTERMINATED\n",
-            2,
-        ),
-        (
-            "machine 1 8 1\nlp 0\nHOST.READ 5\nend\n",
-            "script line 3 COUNT\n",
-            2,
-        ),
-        ("machine 2 8 1\n", "", 0),
-        ("machine 1 8 1\ncode 1 0\n", "script line 2 UNBUILT\n", 2),
-        (
-            "machine 1 8 1\nlp 0\nMEM.TRACK 1\n",
-            "script line 3 UNBUILT\n",
-            2,
-        ),
-        (
-            "machine 1 8 1\nlp 0\nHOST.READ 5 0\n",
-            "script line 4 ENDLESS\n",
-            2,
-        ),
-        ("# nothing\n\n", "script line 3 MACHINE\n", 2),
-    ];
-    for (script, want, status) in table {
-        replays(&rt, rt.alloc(), script, want, status)?;
+// Replays each row of a table: what is put, and behind a bar the script without its front.
+fn replays_each(
+    rt: &impl Abort,
+    alloc: Global,
+    front: &str,
+    rows: &[&str],
+    status: u8,
+) -> Result<(), Fail> {
+    for row in rows {
+        let (want, rest) = row.split_once("| ").ok_or("no bar")?;
+        let script = format!(in alloc; "{front}{rest}")?;
+        replays(rt, alloc, script.as_str(), want, status)?;
     }
     Ok(())
 }
 
+const REPLIES: &[&str] = &[
+    "| machine 1 8 1\n",
+    "| machine 2 8 1\n",
+    "0.1 SUCCESS\n0.2 SUCCESS 7\n0.3 OPERAND_INVALID 2\n0.4 OPERAND_INVALID 1\n\
+        | machine 1 8 1\nlp 0\nHOST.WRITE 5 511 7\nHOST.READ 5 511\nHOST.READ 5 512\n\
+        HOST.READ 8 0\nend\n",
+    "0.1 SUCCESS\n0.2 SUCCESS 0\n0.3 NOT_HOST\n0.4 PAGE_METADATA_INCORRECT 1\n\
+        0.5 HKID_NOT_FREE\n0.6 SUCCESS PT_TDR 1 0\n\
+        | machine 1 32 1\nlp 0\nMNG.CREATE 1 1\nHOST.READ 1 0\nHOST.WRITE 1 0 9\nMNG.CREATE 1 1\n\
+        MNG.CREATE 2 1\nPHYMEM.PAGE.RDMD 1\nend\n",
+    // A page's words are cleared as it becomes a TDR, and the host sees none of them.
+    "0.1 SUCCESS\n0.2 SUCCESS\n0.3 SUCCESS 0\n0.4 SUCCESS PT_NDA 0 0\n0.5 OPERAND_INVALID 2\n\
+        | machine 1 8 2\nlp 0\nHOST.WRITE 1 3 4\nMNG.CREATE 1 2\nHOST.READ 1 3\n\
+        PHYMEM.PAGE.RDMD 2\nMNG.CREATE 2 3\nend\n",
+];
+
+const BAD_LINES: &[&str] = &[
+    "script line 3 UNTERMINATED\n| machine 1 8 1\nlp 0\nHOST.RE",
+    "script line 3 COUNT\n| machine 1 8 1\nlp 0\nHOST.READ 5\nend\n",
+    "script line 2 UNBUILT\n| machine 1 8 1\ncode 1 0\n",
+    "script line 3 UNBUILT\n| machine 1 8 1\nlp 0\nMEM.TRACK 1\n",
+    "script line 4 ENDLESS\n| machine 1 8 1\nlp 0\nHOST.READ 5 0\n",
+    "script line 3 MACHINE\n| # nothing\n\n",
+    "script line 1 RANGE\n| machine 9 8 1\n",
+    "script line 2 RANGE\n| machine 2 8 1\nschedule 2\n",
+    "script line 2 RANGE\n| machine 1 8 1\nschedule 0*1048577\n",
+    "script line 2 FULL\n| machine 1 8 1\nschedule 0*1048576 0\n",
+];
+
+#[test]
+fn scripts_print_their_replies(rt: HostRuntime) -> Result<(), Fail> {
+    replays_each(&rt, rt.alloc(), "", REPLIES, 0)?;
+    replays_each(&rt, rt.alloc(), "", BAD_LINES, 2)
+}
+
+// Behind `machine 2 32 1`.
+const TWO_PROCESSORS: &[&str] = &[
+    // A page that is held alone.
+    "0.1 SUCCESS\n1.1 OPERAND_BUSY P 1\n\
+        | lp 0\nMNG.CREATE 1 1\nend\nlp 1\nHOST.READ 1 0\nend\nschedule 0 1*2\n",
+    // Two processors meet at the key table.
+    "0.1 SUCCESS\n1.1 OPERAND_BUSY K\n\
+        | lp 0\nMNG.CREATE 1 1\nend\nlp 1\nMNG.CREATE 2 1\nend\nschedule 0*2 1*2\n",
+    // Shared tries of a page don't deny one another.
+    "0.1 SUCCESS 0\n1.1 SUCCESS 0\n\
+        | lp 0\nHOST.READ 1 0\nend\nlp 1\nHOST.READ 1 0\nend\nschedule 0 1 0 1\n",
+    // Without a schedule the processors run in number order.
+    "0.1 SUCCESS\n1.1 PAGE_METADATA_INCORRECT 1\n\
+        | lp 1\nMNG.CREATE 1 1\nend\nlp 0\nMNG.CREATE 1 1\nend\n",
+    // What is left of a processor when the schedule ends comes in number order.
+    "0.1 OPERAND_BUSY K\n1.1 SUCCESS\n\
+        | lp 0\nMNG.CREATE 2 1\nend\nlp 1\nMNG.CREATE 1 1\nend\nschedule 1*2\n",
+    // Schedule lines stand anywhere outside blocks, and are one schedule.
+    "0.1 SUCCESS\n1.1 OPERAND_BUSY P 1\n\
+        | schedule 0\nlp 0\nMNG.CREATE 1 1\nend\nschedule 1\nlp 1\nHOST.READ 1 0\nend\nschedule 1\n",
+];
+
+// HOST.READ against MNG.CREATE: before its first event, up to before its last, and after it.
+const READ_AGAINST_CREATE: &[&str] = &[
+    "0.1 SUCCESS\n0.2 OPERAND_BUSY P 1\n1.1 SUCCESS 7\n| schedule 0*3 1\n",
+    "0.1 SUCCESS\n0.2 SUCCESS\n1.1 OPERAND_BUSY P 1\n| schedule 0*4 1\n",
+    "0.1 SUCCESS\n0.2 SUCCESS\n1.1 OPERAND_BUSY P 1\n| schedule 0*7 1\n",
+    "0.1 SUCCESS\n0.2 SUCCESS\n1.1 SUCCESS 0\n| schedule 0*8 1\n",
+];
+
+// Processor 2 is denied by processor 1, which is being refused. Had that one undone its try before,
+// processor 2 would get the page as it is now.
+const DENIED_BY_THE_DENIED: &[&str] = &[
+    "0.1 SUCCESS\n1.1 OPERAND_BUSY P 1\n2.1 OPERAND_BUSY P 1\n| schedule 0 1 0*4 2 1\n",
+    "0.1 SUCCESS\n1.1 OPERAND_BUSY P 1\n2.1 PAGE_METADATA_INCORRECT 1\n| schedule 0 1 0*4 1 2\n",
+];
+
+// Behind `machine`.
+const MORE_PROCESSORS: &[&str] = &[
+    // A schedule that names processors out of order.
+    "0.1 PAGE_METADATA_INCORRECT 1\n1.1 PAGE_METADATA_INCORRECT 1\n2.1 SUCCESS\n\
+        | 3 32 1\nlp 0\nMNG.CREATE 1 1\nend\nlp 1\nMNG.CREATE 1 1\nend\nlp 2\nMNG.CREATE 1 1\nend\n\
+        schedule 2*5 1*3\n",
+    // Items of a processor that has ended, or has no calls, do nothing.
+    "0.1 SUCCESS 0\n1.1 SUCCESS\n\
+        | 3 32 1\nlp 0\nHOST.READ 1 0\nend\nlp 1\nMNG.CREATE 1 1\nend\n\
+        schedule 2*3 0*9 1*5 0 1 2\n",
+    // Eight processors.
+    "3.1 SUCCESS 7\n7.1 SUCCESS\n\
+        | 8 8 1\nlp 7\nHOST.WRITE 7 7 7\nend\nlp 3\nHOST.READ 7 7\nend\nschedule 7*3\n",
+    "| 1 8 1\nschedule 0*1048576\n",
+];
+
 #[test]
 fn processors_follow_the_schedule(rt: HostRuntime) -> Result<(), Fail> {
-    let table: [(&str, &str, u8); 20] = [
-        // A page that is held alone.
-        (
-            "machine 2 32 1\nlp 0\nMNG.CREATE 1 1\nend\nlp 1\nHOST.READ 1 0\nend\nschedule 0 1*2\n",
-            "0.1 SUCCESS\n1.1 OPERAND_BUSY P 1\n",
-            0,
-        ),
-        // Two processors meet at the key table.
-        (
-            "machine 2 32 2\nlp 0\nMNG.CREATE 1 1\nend\nlp 1\nMNG.CREATE 2 1\nend\nschedule 0*2 1*2\n",
-            "0.1 SUCCESS\n1.1 OPERAND_BUSY K\n",
-            0,
-        ),
-        // Processor 2 is denied by processor 1, which is being refused.
-        (
-            "machine 3 32 1\nlp 0\nMNG.CREATE 1 1\nend\nlp 1\nHOST.READ 1 0\nend\nlp 2\nMNG.CREATE 1 1\nend\nschedule 0 1 0*4 2 1\n",
-            "0.1 SUCCESS\n1.1 OPERAND_BUSY P 1\n2.1 OPERAND_BUSY P 1\n",
-            0,
-        ),
-        // Had processor 1 undone its try before, processor 2 would get the page as it is now.
-        (
-            "machine 3 32 1\nlp 0\nMNG.CREATE 1 1\nend\nlp 1\nHOST.READ 1 0\nend\nlp 2\nMNG.CREATE 1 1\nend\nschedule 0 1 0*4 1 2\n",
-            "0.1 SUCCESS\n1.1 OPERAND_BUSY P 1\n2.1 PAGE_METADATA_INCORRECT 1\n",
-            0,
-        ),
-        // HOST.READ against MNG.CREATE: before its first event, up to before its last, and after it.
-        (
-            "machine 2 32 1\nlp 0\nHOST.WRITE 1 0 7\nMNG.CREATE 1 1\nend\nlp 1\nHOST.READ 1 0\nend\nschedule 0*3 1\n",
-            "0.1 SUCCESS\n0.2 OPERAND_BUSY P 1\n1.1 SUCCESS 7\n",
-            0,
-        ),
-        (
-            "machine 2 32 1\nlp 0\nHOST.WRITE 1 0 7\nMNG.CREATE 1 1\nend\nlp 1\nHOST.READ 1 0\nend\nschedule 0*4 1\n",
-            "0.1 SUCCESS\n0.2 SUCCESS\n1.1 OPERAND_BUSY P 1\n",
-            0,
-        ),
-        (
-            "machine 2 32 1\nlp 0\nHOST.WRITE 1 0 7\nMNG.CREATE 1 1\nend\nlp 1\nHOST.READ 1 0\nend\nschedule 0*7 1\n",
-            "0.1 SUCCESS\n0.2 SUCCESS\n1.1 OPERAND_BUSY P 1\n",
-            0,
-        ),
-        (
-            "machine 2 32 1\nlp 0\nHOST.WRITE 1 0 7\nMNG.CREATE 1 1\nend\nlp 1\nHOST.READ 1 0\nend\nschedule 0*8 1\n",
-            "0.1 SUCCESS\n0.2 SUCCESS\n1.1 SUCCESS 0\n",
-            0,
-        ),
-        // Shared tries of a page don't deny one another.
-        (
-            "machine 2 32 1\nlp 0\nHOST.READ 1 0\nend\nlp 1\nHOST.READ 1 0\nend\nschedule 0 1 0 1\n",
-            "0.1 SUCCESS 0\n1.1 SUCCESS 0\n",
-            0,
-        ),
-        // Without a schedule the processors run in number order.
-        (
-            "machine 2 32 1\nlp 1\nMNG.CREATE 1 1\nend\nlp 0\nMNG.CREATE 1 1\nend\n",
-            "0.1 SUCCESS\n1.1 PAGE_METADATA_INCORRECT 1\n",
-            0,
-        ),
-        // One that names processors out of order.
-        (
-            "machine 3 32 1\nlp 0\nMNG.CREATE 1 1\nend\nlp 1\nMNG.CREATE 1 1\nend\nlp 2\nMNG.CREATE 1 1\nend\nschedule 2*5 1*3\n",
-            "0.1 PAGE_METADATA_INCORRECT 1\n1.1 PAGE_METADATA_INCORRECT 1\n2.1 SUCCESS\n",
-            0,
-        ),
-        // What is left of a processor when the schedule ends comes in number order.
-        (
-            "machine 2 32 1\nlp 0\nMNG.CREATE 2 1\nend\nlp 1\nMNG.CREATE 1 1\nend\nschedule 1*2\n",
-            "0.1 OPERAND_BUSY K\n1.1 SUCCESS\n",
-            0,
-        ),
-        // Items of a processor that has ended, or has no calls, do nothing.
-        (
-            "machine 3 32 1\nlp 0\nHOST.READ 1 0\nend\nlp 1\nMNG.CREATE 1 1\nend\nschedule 2*3 0*9 1*5 0 1 2\n",
-            "0.1 SUCCESS 0\n1.1 SUCCESS\n",
-            0,
-        ),
-        // Schedule lines stand anywhere outside blocks, and are one schedule.
-        (
-            "machine 2 32 1\nschedule 0\nlp 0\nMNG.CREATE 1 1\nend\nschedule 1\nlp 1\nHOST.READ 1 0\nend\nschedule 1\n",
-            "0.1 SUCCESS\n1.1 OPERAND_BUSY P 1\n",
-            0,
-        ),
-        // Eight processors.
-        (
-            "machine 8 8 1\nlp 7\nHOST.WRITE 7 7 7\nend\nlp 3\nHOST.READ 7 7\nend\nschedule 7*3\n",
-            "3.1 SUCCESS 7\n7.1 SUCCESS\n",
-            0,
-        ),
-        ("machine 1 8 1\nschedule 0*1048576\n", "", 0),
-        (
-            "machine 1 8 1\nschedule 0*1048576 0\n",
-            "script line 2 FULL\n",
-            2,
-        ),
-        (
-            "machine 1 8 1\nschedule 0*1048577\n",
-            "script line 2 RANGE\n",
-            2,
-        ),
-        ("machine 2 8 1\nschedule 2\n", "script line 2 RANGE\n", 2),
-        ("machine 9 8 1\n", "script line 1 RANGE\n", 2),
+    let reads = "machine 2 32 1\nlp 0\nHOST.WRITE 1 0 7\nMNG.CREATE 1 1\nend\n\
+        lp 1\nHOST.READ 1 0\nend\n";
+    let denied = "machine 3 32 1\nlp 0\nMNG.CREATE 1 1\nend\nlp 1\nHOST.READ 1 0\nend\n\
+        lp 2\nMNG.CREATE 1 1\nend\n";
+    let tables = [
+        ("machine 2 32 1\n", TWO_PROCESSORS),
+        (reads, READ_AGAINST_CREATE),
+        (denied, DENIED_BY_THE_DENIED),
+        ("machine ", MORE_PROCESSORS),
     ];
-    for (script, want, status) in table {
-        replays(&rt, rt.alloc(), script, want, status)?;
+    for (front, rows) in tables {
+        replays_each(&rt, rt.alloc(), front, rows, 0)?;
     }
     Ok(())
 }

@@ -1,7 +1,7 @@
 //! The top call: the ending that is due is decided, and then told.
 
 ghost use Rattle.std.specs.Prelude.{◌≡◌, ◌≢◌, ◌≤◌, ◌⊎◌, ◌↔◌, ◌++◌, [], Option, None, map, string_bytes, IfSome, IfOk, IfNone};
-ghost use Rattle.script_runner.specs.Outside.{Rose, Gains};
+ghost use Rattle.script_runner.specs.Outside.{Rose, Gains, raised};
 ghost use Rattle.script_runner.specs.Ending.{ending_seen, ending_of, words_read, memory_end};
 ghost use Rattle.script_runner.specs.Ends.{IsNamedEnding, IsEnding, Tells, Ends, OneRun, IsBadScript, ReadCause, PutsPart, PutsFronts, success_text, IsComplete, own_text};
 
@@ -22,6 +22,9 @@ fn of_name<F: Files>(alloc: Global, name: &str, files: &mut F) -> Result<Ending,
     ensures not_usage { IfOk result (λ e. e.status ≢ 1) }
     ensures not_write { IfOk result (λ e. e.status ≢ 4) }
     ensures same { F.contents files.new ≡ F.contents files.old }
+    ensures saves { F.saves files.new ≡ F.saves files.old }
+    ensures writes { F.write_faults files.new ≡ F.write_faults files.old }
+    ensures quiet { IfOk result (λ e. e.status ≡ 0 → F.read_faults files.new ≡ F.read_faults files.old) }
     ensures later { F.read_faults files.old ≤ F.read_faults files.new }
     ensures few { IfOk result (λ e. e.status ≤ 5) }
 {
@@ -40,6 +43,9 @@ fn decide<F: Files>(alloc: Global, words: &[String], files: &mut F) -> Result<En
     ensures usage { IfOk result (λ e. (e.status ≡ 1) ↔ (words_read (map string_bytes words.now) ≡ None)) }
     ensures not_write { IfOk result (λ e. e.status ≢ 4) }
     ensures same { F.contents files.new ≡ F.contents files.old }
+    ensures saves { F.saves files.new ≡ F.saves files.old }
+    ensures writes { F.write_faults files.new ≡ F.write_faults files.old }
+    ensures quiet { IfOk result (λ e. e.status ≡ 0 → F.read_faults files.new ≡ F.read_faults files.old) }
     ensures later { F.read_faults files.old ≤ F.read_faults files.new }
     ensures few { IfOk result (λ e. e.status ≤ 5) }
 {
@@ -53,6 +59,7 @@ fn decide<F: Files>(alloc: Global, words: &[String], files: &mut F) -> Result<En
 pub fn give_up<K: Sink>(out: &mut K) -> u8
     ensures status { result ≡ 5 }
     ensures text { PutsPart (K.told out.old) memory_end.text (K.told out.new) }
+    ensures put { K.puts out.new ≡ raised (K.puts out.old) }
     ensures later { K.faults out.old ≤ K.faults out.new }
 {
     let _ = out.put(MEMORY.as_bytes());
@@ -62,6 +69,9 @@ pub fn give_up<K: Sink>(out: &mut K) -> u8
 // Puts the text of an ending.
 fn tell<K: Sink>(how: &Ending, out: &mut K) -> u8
     ensures tells { Tells (K.faults out.old) (K.faults out.new) (K.told out.old) (K.told out.new) (ending_seen how.now) result }
+    ensures put { result ≢ 5 → K.puts out.new ≡ raised (K.puts out.old) }
+    ensures tried { Rose (K.puts out.old) (K.puts out.new) }
+    ensures quiet { result ≡ 0 → K.faults out.new ≡ K.faults out.old }
     ensures later { K.faults out.old ≤ K.faults out.new }
 {
     match out.put(&how.text) {
@@ -72,6 +82,10 @@ fn tell<K: Sink>(how: &Ending, out: &mut K) -> u8
 }
 
 /// Does what the words say, over these files and this output, and answers the exit status.
+///
+/// The status 5 tells want of memory, and no clause ties it to a cause: a body that always answered
+/// 5 and put its text would meet each of these. That it doesn't come where memory is ample is
+/// tested, and isn't proved.
 pub fn tdx_main<F: Files, K: Sink, G: Gate + Sync>(
     alloc: Global,
     words: &[String],
@@ -95,8 +109,15 @@ pub fn tdx_main<F: Files, K: Sink, G: Gate + Sync>(
     ensures statuses { result ≤ 5 }
     // What was put before the call gave up.
     ensures fronts { (result ≡ 4) ⊎ (result ≡ 5) → IfSome (F.contents files.old) (λ c. PutsFronts (K.told out.old) (success_text (ending_of c (map string_bytes words.now))) (own_text result) (K.told out.new)) }
-    // No file changes.
+    // A text is put even where it is empty, in one put; the status 5 may come after one more.
+    ensures put { result ≢ 5 → K.puts out.new ≡ raised (K.puts out.old) }
+    ensures tried { Rose (K.puts out.old) (K.puts out.new) }
+    // No file changes, and none is saved.
     ensures same { F.contents files.new ≡ F.contents files.old }
+    ensures saves { F.saves files.new ≡ F.saves files.old }
+    ensures writes { F.write_faults files.new ≡ F.write_faults files.old }
+    // At status 0 nothing failed.
+    ensures quiet { result ≡ 0 → (F.read_faults files.new ≡ F.read_faults files.old) × (K.faults out.new ≡ K.faults out.old) }
     // Counts never fall.
     ensures reads_later { F.read_faults files.old ≤ F.read_faults files.new }
     ensures puts_later { K.faults out.old ≤ K.faults out.new }

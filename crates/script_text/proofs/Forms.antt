@@ -1,5 +1,5 @@
 -- What each script that is read has.
-use Rattle.std.proofs.Common.{◌≡◌, ℕ, ◌+◌, ◌*◌, ◌^◌, ◌<◌, ◌≤◌, List, [], ◌∷◌, ◌++◌, length, map, take, drop, get_or, set, replicate, Bool, true, false, not, cond, leb, ltb, ◌==◌, ◌&&◌, Option, Some, None, Result, Ok, Err, ◌⊎◌, inl, inr, refl, subst, arith}
+use Rattle.std.proofs.Common.{◌≡◌, ℕ, ◌+◌, ◌*◌, ◌^◌, ◌<◌, ◌≤◌, List, [], ◌∷◌, ◌++◌, length, map, drop, get_or, set, replicate, Bool, true, false, not, cond, leb, ltb, ◌==◌, ◌&&◌, Option, Some, None, Result, Ok, Err, ◌⊎◌, inl, inr, refl, subst, arith}
 use Rattle.std.specs.Prelude.{is_some, unwrap_or}
 use Rattle.std.specs.List.{All, list_all}
 use Rattle.std.proofs.lemmas.Bool.{cases_lt}
@@ -333,9 +333,9 @@ entered_fits (Some m) block had schedule calls (entry.Read lp tdr) ws h k =
     (λ field. given_then (FitsCalls m.lps) FitsSoFar (with_call calls lp (call.MngRd tdr field)) _ (call_added m.lps lp calls (call.MngRd tdr field) h.calls_fit (All-cons fits tdr [] k (All-nil fits)))
     (λ x f. record { limits = h.limits; items = h.items; calls_fit = f }))
 
-entry_fits : (d : SoFar) (w : List ℕ) (ws : List (List ℕ)) → IfGiven (FitsEntry d.stage.machine) (entry_of d.stage w (map number (take 5 ws)))
+entry_fits : (d : SoFar) (w : List ℕ) (ws : List (List ℕ)) → IfGiven (FitsEntry d.stage.machine) (entry_of d.stage w (map number ws))
 unfolding entry_of
-entry_fits d w ws = placed_fits d.stage.machine d.stage.block d.stage.had w (map number (take 5 ws)) (numbers_fit (take 5 ws))
+entry_fits d w ws = placed_fits d.stage.machine d.stage.block d.stage.had w (map number ws) (numbers_fit ws)
 
 comment_fits : (b : Bool) (d : SoFar) (x : Result SoFar Reason) → FitsSoFar d → IfGiven FitsSoFar x → IfGiven FitsSoFar (cond b (Ok d) x)
 comment_fits true d x h k = h
@@ -346,7 +346,7 @@ unfolding worded_of
 words_fit d [] h = h
 words_fit d (w ∷ ws) h =
     comment_fits (is_comment w) d _ h
-    (given_then (FitsEntry d.stage.machine) FitsSoFar (entry_of d.stage w (map number (take 5 ws))) (λ e. entered_of d e ws) (entry_fits d w ws)
+    (given_then (FitsEntry d.stage.machine) FitsSoFar (entry_of d.stage w (map number ws)) (λ e. entered_of d e ws) (entry_fits d w ws)
     (λ e f. entered_fits d.stage.machine d.stage.block d.stage.had d.schedule d.calls e ws h f))
 
 line_fits : (d : SoFar) (line : List ℕ) → FitsSoFar d → IfGiven FitsSoFar (line_of d line)

@@ -8,3 +8,4 @@ pub mod Forms
 pub mod Items
 pub mod Spelled
 pub mod InRange
+pub mod FiveWords

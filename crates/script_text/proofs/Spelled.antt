@@ -1,5 +1,5 @@
 -- A script that is written out is read again.
-use Rattle.std.proofs.Common.{◌≡◌, ℕ, zero, suc, ◌+◌, ◌*◌, ◌^◌, ◌<◌, ◌≤◌, ◌≢◌, List, [], ◌∷◌, ◌++◌, length, map, take, get_or, set, replicate, Bool, true, false, leb, ltb, Option, Some, None, Result, Ok, refl, ap, sym, ◌∙◌, subst, arith}
+use Rattle.std.proofs.Common.{◌≡◌, ℕ, zero, suc, ◌+◌, ◌*◌, ◌^◌, ◌<◌, ◌≤◌, ◌≢◌, List, [], ◌∷◌, ◌++◌, length, map, get_or, set, replicate, Bool, true, false, leb, ltb, Option, Some, None, Result, Ok, refl, ap, sym, ◌∙◌, subst, arith}
 use Rattle.std.specs.Prelude.{codes}
 use Rattle.std.specs.List.{All, list_all}
 use Rattle.std.specs.Fmt.{decimal}
@@ -34,26 +34,26 @@ use Rattle.script_text.proofs.Items.{items_read}
 abbrev said_by : SoFar → List ℕ → List (Option ℕ) → List (List ℕ) → Result SoFar Reason
 said_by d w seen ws = entry_of d.stage w seen >>= (λ e. entered_of d e ws)
 
-worded_text : (d : SoFar) (w : List ℕ) (seen : List (Option ℕ)) (ws : List (List ℕ)) → is_comment w ≡ false → map number (take 5 ws) ≡ seen → worded_of d (w ∷ ws) ≡ said_by d w seen ws
+worded_text : (d : SoFar) (w : List ℕ) (seen : List (Option ℕ)) (ws : List (List ℕ)) → is_comment w ≡ false → map number ws ≡ seen → worded_of d (w ∷ ws) ≡ said_by d w seen ws
 unfolding worded_of
 worded_text d w seen ws h k = rw (h, k) refl
 
-line_said : (d : SoFar) (w : List ℕ) (seen : List (Option ℕ)) (ws : List (List ℕ)) → IsWord w → is_comment w ≡ false → All IsWord ws → map number (take 5 ws) ≡ seen → line_of d (w ++ words_text ws) ≡ said_by d w seen ws
+line_said : (d : SoFar) (w : List ℕ) (seen : List (Option ℕ)) (ws : List (List ℕ)) → IsWord w → is_comment w ≡ false → All IsWord ws → map number ws ≡ seen → line_of d (w ++ words_text ws) ≡ said_by d w seen ws
 unfolding line_of
 line_said d w seen ws h c k r = rw (printable_text w ws h k, words_again w ws h k) (worded_text d w seen ws c r)
 
 -- a written line is passed, and the rest goes on
-words_passed : (d e : SoFar) (n : ℕ) (w : List ℕ) (seen : List (Option ℕ)) (ws : List (List ℕ)) (rest : List ℕ) → IsWord w → is_comment w ≡ false → All IsWord ws → map number (take 5 ws) ≡ seen → said_by d w seen ws ≡ Ok e
+words_passed : (d e : SoFar) (n : ℕ) (w : List ℕ) (seen : List (Option ℕ)) (ws : List (List ℕ)) (rest : List ℕ) → IsWord w → is_comment w ≡ false → All IsWord ws → map number ws ≡ seen → said_by d w seen ws ≡ Ok e
     → read_from d n (pieces (line_text w ws ++ rest)) ≡ read_from e (n + 1) (pieces rest)
 words_passed d e n w seen ws rest h c k r s =
     good_line d e n (line_text w ws ++ rest) (w ++ words_text ws) rest (pieces_text w ws rest h k) (line_said d w seen ws h c k r ∙ s)
 
 -- a line of numbers
 abbrev said : SoFar → List ℕ → List ℕ → Result SoFar Reason
-said d w ns = said_by d w (map Some (take 5 ns)) (map decimal ns)
+said d w ns = said_by d w (map Some ns) (map decimal ns)
 
 line_passed : (d e : SoFar) (n : ℕ) (w ns rest : List ℕ) → IsWord w → is_comment w ≡ false → list_all fits ns ≡ true → said d w ns ≡ Ok e → read_from d n (pieces (line_text w (map decimal ns) ++ rest)) ≡ read_from e (n + 1) (pieces rest)
-line_passed d e n w ns rest h c k s = words_passed d e n w (map Some (take 5 ns)) (map decimal ns) rest h c (decimals_are_words ns k) (numbers_read 5 ns k) s
+line_passed d e n w ns rest h c k s = words_passed d e n w (map Some ns) (map decimal ns) rest h c (decimals_are_words ns k) (numbers_read ns k) s
 
 -- numbers of 64 bits
 one_fits : (n : ℕ) (ns : List ℕ) → n < 2 ^ 64 → list_all fits ns ≡ true → list_all fits (n ∷ ns) ≡ true
@@ -98,7 +98,7 @@ abbrev call_words : Call → List (List ℕ)
 call_words c = map decimal (call_numbers c) ++ call_names c
 
 abbrev call_seen : Call → List (Option ℕ)
-call_seen c = take 5 (map Some (call_numbers c) ++ map number (call_names c))
+call_seen c = map Some (call_numbers c) ++ map number (call_names c)
 
 abbrev entry_in : ℕ → Call → Entry
 entry_in lp (calls.MngRd tdr field) = entry.Read lp tdr
@@ -185,7 +185,7 @@ calls_passed m had schedule done later (c ∷ cs) old n rest read few h go =
     let P : ℕ → List Call → Type 0 = λ k all. read_from (in_block m had schedule done all later) k (pieces rest) ≡ read in
     rw append_assoc
     (words_passed (in_block m had schedule done old later) (in_block m had schedule done (old ++ c ∷ []) later) n (call_word c) (call_seen c) (call_words c) (calls_text cs ++ rest) (call_is_word c) (call_no_comment c)
-    (call_words_are_words c (All-head FitsCall c cs h)) (names_read 5 (call_numbers c) (call_names c) (all_fit (call_numbers c) (All-head FitsCall c cs h))) (call_said m had schedule done old later c (omega arith))
+    (call_words_are_words c (All-head FitsCall c cs h)) (names_read (call_numbers c) (call_names c) (all_fit (call_numbers c) (All-head FitsCall c cs h))) (call_said m had schedule done old later c (omega arith))
     ∙ calls_passed m had schedule done later cs (old ++ c ∷ []) (n + 1) rest read (simp length-append (omega arith)) (All-tail FitsCall c cs h) (λ k. subst (P k) (sym (append_assoc old (c ∷ []) cs)) (go k)))
 
 -- no processor from one on had a block

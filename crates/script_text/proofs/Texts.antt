@@ -1,10 +1,11 @@
 -- The words of a line that is written out, and its numbers.
-use Rattle.std.proofs.Common.{◌≡◌, ℕ, zero, suc, ◌+◌, ◌*◌, ◌/◌, ◌%◌, ◌^◌, ◌<◌, ◌≤◌, List, [], ◌∷◌, ◌++◌, length, map, take, Bool, true, false, not, cond, ◌==◌, ◌&&◌, Some, None, refl, ap, sym, ◌∙◌, arith}
+use Rattle.std.proofs.Common.{◌≡◌, ℕ, zero, suc, ◌+◌, ◌*◌, ◌/◌, ◌%◌, ◌^◌, ◌<◌, ◌≤◌, List, [], ◌∷◌, ◌++◌, length, map, Bool, true, false, not, cond, ◌==◌, ◌&&◌, Some, None, refl, ap, sym, ◌∙◌, arith}
 use Rattle.std.specs.Prelude.{nat_le, nat_lt, filter}
 use Rattle.std.specs.List.{All, list_all, slice_split}
 use Rattle.std.specs.Fmt.{decimal}
+use Rattle.std.proofs.lemmas.Bool.{and_parts}
 use Rattle.std.proofs.lemmas.Fmt.{decimal_by_steps}
-use Rattle.std.proofs.lemmas.List.{length-append, append-nil, append_assoc, take-map}
+use Rattle.std.proofs.lemmas.List.{length-append, append-nil, append_assoc}
 use Rattle.std.proofs.lemmas.List.Elements.{All-nil, All-cons, All-head, All-tail}
 use Rattle.std.proofs.lemmas.List.Folds.{list_all-append}
 use Rattle.script_text.specs.Number.{digit, number, number_on}
@@ -193,17 +194,15 @@ pieces_text w ws rest h k =
     rw append_assoc
     (cut_at (λ b. b == 10) (w ++ words_text ws) 10 rest (implied is_line_byte (λ b. not (b == 10)) unended (w ++ words_text ws) (line_bytes w ws h k)) refl)
 
-pub numbers_read : (k : ℕ) (ns : List ℕ) → list_all fits ns ≡ true → map number (take k (map decimal ns)) ≡ map Some (take k ns)
-numbers_read zero ns h = refl
-numbers_read (suc k) [] h = refl
-numbers_read (suc k) (n ∷ ns) h =
-    let f = both (fits n) (list_all fits ns) h in
-    rw (number_decimal n (fits_below n f.0), numbers_read k ns f.1) refl
+pub numbers_read : (ns : List ℕ) → list_all fits ns ≡ true → map number (map decimal ns) ≡ map Some ns
+numbers_read [] h = refl
+numbers_read (n ∷ ns) h =
+    let f = and_parts (fits n) (list_all fits ns) h in
+    rw (number_decimal n (fits_below n f.0), numbers_read ns f.1) refl
 
 -- numbers with names behind them
-pub names_read : (k : ℕ) (ns : List ℕ) (names : List (List ℕ)) → list_all fits ns ≡ true → map number (take k (map decimal ns ++ names)) ≡ take k (map Some ns ++ map number names)
-names_read zero ns names h = refl
-names_read (suc k) [] names h = sym (take-map number (suc k) names)
-names_read (suc k) (n ∷ ns) names h =
-    let f = both (fits n) (list_all fits ns) h in
-    rw (number_decimal n (fits_below n f.0), names_read k ns names f.1) refl
+pub names_read : (ns : List ℕ) (names : List (List ℕ)) → list_all fits ns ≡ true → map number (map decimal ns ++ names) ≡ map Some ns ++ map number names
+names_read [] names h = refl
+names_read (n ∷ ns) names h =
+    let f = and_parts (fits n) (list_all fits ns) h in
+    rw (number_decimal n (fits_below n f.0), names_read ns names f.1) refl

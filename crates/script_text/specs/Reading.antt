@@ -1,5 +1,5 @@
 -- A script, line by line.
-use Rattle.std.specs.Prelude.{◌≡◌, ℕ, ◌+◌, ◌^◌, List, [], ◌∷◌, ◌++◌, length, map, take, replicate, Option, Some, None, Result, Ok, Err, true, false, not, ◌==◌, nat_lt, nat_le, slice_index_or, slice_set, if◌then◌else◌}
+use Rattle.std.specs.Prelude.{◌≡◌, ℕ, ◌+◌, ◌^◌, List, [], ◌∷◌, ◌++◌, length, map, replicate, Option, Some, None, Result, Ok, Err, true, false, not, ◌==◌, nat_lt, nat_le, slice_index_or, slice_set, if◌then◌else◌}
 use Rattle.td_words.specs.declared.calls.Call.{Call}
 use Rattle.td_words.specs.declared.calls.Call.TheVariants as call
 use Rattle.td_words.specs.declared.machines.Machine.{Machine}
@@ -53,13 +53,12 @@ entered_of d (entry.Read lp tdr) words = do
   calls ← with_call d.calls lp (call.MngRd tdr field)
   Ok (record d { calls = calls })
 
--- a line without words and a comment are skipped; five words behind the first tell whether there are too many of those
--- that are counted
+-- a line without words and a comment are skipped
 unfoldable pub worded_of : SoFar → List (List ℕ) → Result SoFar Reason
 worded_of d [] = Ok d
 worded_of d (w ∷ ws) =
     if is_comment w then Ok d else do
-      e ← entry_of d.stage w (map number (take 5 ws))
+      e ← entry_of d.stage w (map number ws)
       entered_of d e ws
 
 unfoldable pub line_of : SoFar → List ℕ → Result SoFar Reason

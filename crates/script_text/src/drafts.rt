@@ -5,7 +5,7 @@ ghost use Rattle.script_text.specs.Line.{GivesAt};
 ghost use Rattle.script_text.specs.Reading.{draft_seen, with_call, entered_of, worded_of, line_of};
 ghost use Rattle.script_text.specs.Words.{words};
 
-use crate::faults::{Reason, ScriptFault, bad};
+use crate::faults::{Reason, Taken, bad};
 use crate::fields::field_in;
 use crate::lines::{Entry, Stage, entry_at};
 use crate::numbers::first_numbers;
@@ -42,7 +42,7 @@ fn mark(had: &mut [bool; 8], lp: u8)
     }
 }
 
-fn add_call(calls: &mut Vec<Vec<Call>>, number: u64, lp: u8, call: Call) -> Result<(), ScriptFault>
+fn add_call(calls: &mut Vec<Vec<Call>>, number: u64, lp: u8, call: Call) -> Taken
     ensures { GivesAt number (with_call (map (λ list. list.items) calls.old.items) lp call) (map (λ list. list.items) calls.new.items) result }
 {
     let lp = usize::from(lp);
@@ -58,13 +58,7 @@ fn add_call(calls: &mut Vec<Vec<Call>>, number: u64, lp: u8, call: Call) -> Resu
 }
 
 #[tactic(auto, unfolding(crate::specs::Reading::entered_of))]
-fn enter(
-    draft: &mut Draft,
-    alloc: Global,
-    number: u64,
-    entry: Entry,
-    text: &[u8],
-) -> Result<(), ScriptFault>
+fn enter(draft: &mut Draft, alloc: Global, number: u64, entry: Entry, text: &[u8]) -> Taken
     ensures { GivesAt number (entered_of (draft_seen draft.old) entry (words text.now)) (draft_seen draft.new) result }
 {
     match entry {
@@ -92,14 +86,8 @@ fn enter(
 }
 
 // A line's first word, and what stands behind it.
-#[tactic(auto, unfolding(crate::specs::Reading::worded_of))]
-fn take_words(
-    draft: &mut Draft,
-    alloc: Global,
-    number: u64,
-    word: &[u8],
-    text: &[u8],
-) -> Result<(), ScriptFault>
+#[tactic(auto, unfolding(crate::specs::Reading::worded_of), using(crate::proofs::FiveWords::five_suffice))]
+fn take_words(draft: &mut Draft, alloc: Global, number: u64, word: &[u8], text: &[u8]) -> Taken
     ensures { GivesAt number (worded_of (draft_seen draft.old) (word.now ∷ words text.now)) (draft_seen draft.new) result }
 {
     if is_comment(word) {
@@ -114,12 +102,7 @@ fn take_words(
 
 /// Takes in one line. After a fault the draft isn't read again.
 #[tactic(auto, unfolding(crate::specs::Reading::line_of, crate::specs::Reading::worded_of))]
-pub fn take_line(
-    draft: &mut Draft,
-    alloc: Global,
-    number: u64,
-    line: &[u8],
-) -> Result<(), ScriptFault>
+pub fn take_line(draft: &mut Draft, alloc: Global, number: u64, line: &[u8]) -> Taken
     ensures { GivesAt number (line_of (draft_seen draft.old) line.now) (draft_seen draft.new) result }
 {
     if !is_printable(line) {

@@ -49,6 +49,9 @@ pub enum ScriptFault {
     OutOfMemory,
 }
 
+/// What comes of taking in a line, or a part of one.
+pub type Taken = Result<(), ScriptFault>;
+
 /// The fault of a line.
 pub fn bad(line: u64, reason: Reason) -> ScriptFault
     ensures { result ≡ ScriptFault.Bad line reason }

@@ -43,6 +43,9 @@ pub enum Entry {
     Read(u8, u64),
 }
 
+/// What a line says, or the first reason why it is bad.
+pub type Said = Result<Entry, Reason>;
+
 fn keyword_at(word: &[u8]) -> Option<Keyword>
     ensures { result ≡ keyword_of word.now }
 {
@@ -82,21 +85,18 @@ pub fn number_of(numbers: &[Option<u64>], i: usize) -> Result<u64, Reason>
     given(numbers, i).ok_or(Reason::Number)
 }
 
-fn machine_at(lps: u64, pages: u64, hkids: u64) -> Result<Entry, Reason>
+fn machine_at(lps: u64, pages: u64, hkids: u64) -> Said
     ensures { result ≡ machine_in lps pages hkids }
 {
     if !(1 <= lps && lps <= 8 && 8 <= pages && pages <= 1024 && 1 <= hkids && hkids <= 15) {
         return Err(Reason::Range);
     }
-    Ok(Entry::Machine(Machine {
-        lps: lps as u8,
-        pages: pages as u16,
-        hkids: hkids as u8,
-    }))
+    let (lps, pages, hkids) = (lps as u8, pages as u16, hkids as u8);
+    Ok(Entry::Machine(Machine { lps, pages, hkids }))
 }
 
 #[tactic(auto, unfolding(crate::specs::Line::machine_of))]
-fn machine_line(numbers: &[Option<u64>]) -> Result<Entry, Reason>
+fn machine_line(numbers: &[Option<u64>]) -> Said
     ensures { result ≡ machine_of numbers.now }
 {
     check_count(numbers, 3)?;
@@ -113,7 +113,7 @@ pub fn is_marked(marks: &[bool], place: usize) -> bool
     place < marks.len() && marks[place]
 }
 
-fn block_at(machine: Machine, had: &[bool; 8], lp: u64) -> Result<Entry, Reason>
+fn block_at(machine: Machine, had: &[bool; 8], lp: u64) -> Said
     ensures { result ≡ block_in machine had.now lp }
 {
     if lp >= u64::from(machine.lps) {
@@ -127,7 +127,7 @@ fn block_at(machine: Machine, had: &[bool; 8], lp: u64) -> Result<Entry, Reason>
 }
 
 #[tactic(auto, unfolding(crate::specs::Line::block_of))]
-fn block_line(machine: Machine, had: &[bool; 8], numbers: &[Option<u64>]) -> Result<Entry, Reason>
+fn block_line(machine: Machine, had: &[bool; 8], numbers: &[Option<u64>]) -> Said
     ensures { result ≡ block_of machine had.now numbers.now }
 {
     check_count(numbers, 1)?;
@@ -135,7 +135,7 @@ fn block_line(machine: Machine, had: &[bool; 8], numbers: &[Option<u64>]) -> Res
 }
 
 #[tactic(auto, unfolding(crate::specs::Line::end_of))]
-fn end_line(numbers: &[Option<u64>]) -> Result<Entry, Reason>
+fn end_line(numbers: &[Option<u64>]) -> Said
     ensures { result ≡ end_of numbers.now }
 {
     check_count(numbers, 0)?;
@@ -151,10 +151,8 @@ pub fn argument(numbers: &[Option<u64>], i: usize) -> u64
 fn built(lp: u8, call: CallName, numbers: &[Option<u64>]) -> Option<Entry>
     ensures { result ≡ built_of lp call numbers.now }
 {
-    let first = argument(numbers, 0);
-    let second = argument(numbers, 1);
-    let third = argument(numbers, 2);
-    let fourth = argument(numbers, 3);
+    let (first, second) = (argument(numbers, 0), argument(numbers, 1));
+    let (third, fourth) = (argument(numbers, 2), argument(numbers, 3));
     let (page, tdr, word, vp, gpa) = (first, first, second, second, second);
     let (value, level) = (third, third);
     let call = match call {
@@ -207,7 +205,7 @@ fn are_given(call: CallName, numbers: &[Option<u64>]) -> bool
     }
 }
 
-fn judged(entry: Option<Entry>, row: Mnemonic, numbers: &[Option<u64>]) -> Result<Entry, Reason>
+fn judged(entry: Option<Entry>, row: Mnemonic, numbers: &[Option<u64>]) -> Said
     ensures { result ≡ judged_of entry row numbers.now }
 {
     let entry = entry.ok_or(Reason::Unbuilt)?;
@@ -221,7 +219,7 @@ fn judged(entry: Option<Entry>, row: Mnemonic, numbers: &[Option<u64>]) -> Resul
 }
 
 #[tactic(auto, unfolding(crate::specs::Line::call_of))]
-fn call_line(lp: u8, mnemonic: Option<Mnemonic>, numbers: &[Option<u64>]) -> Result<Entry, Reason>
+fn call_line(lp: u8, mnemonic: Option<Mnemonic>, numbers: &[Option<u64>]) -> Said
     ensures { result ≡ call_of lp mnemonic numbers.now }
 {
     let mnemonic = mnemonic.ok_or(Reason::Word)?;
@@ -233,7 +231,7 @@ fn outside_at(
     had: &[bool; 8],
     keyword: Option<Keyword>,
     numbers: &[Option<u64>],
-) -> Result<Entry, Reason>
+) -> Said
     ensures { result ≡ outside_of machine had.now keyword numbers.now }
 {
     match keyword {
@@ -246,12 +244,7 @@ fn outside_at(
     }
 }
 
-fn inside_at(
-    lp: u8,
-    keyword: Option<Keyword>,
-    word: &[u8],
-    numbers: &[Option<u64>],
-) -> Result<Entry, Reason>
+fn inside_at(lp: u8, keyword: Option<Keyword>, word: &[u8], numbers: &[Option<u64>]) -> Said
     ensures { result ≡ inside_of lp keyword word.now numbers.now }
 {
     match keyword {
@@ -264,7 +257,7 @@ fn inside_at(
 
 /// What a line says whose first word is that and whose next words are those numbers.
 #[tactic(auto, unfolding(crate::specs::Line::entry_of))]
-pub fn entry_at(stage: &Stage, word: &[u8], numbers: &[Option<u64>]) -> Result<Entry, Reason>
+pub fn entry_at(stage: &Stage, word: &[u8], numbers: &[Option<u64>]) -> Said
     ensures { result ≡ entry_of stage.now word.now numbers.now }
 {
     let keyword = keyword_at(word);

@@ -135,11 +135,8 @@ fn find(table: &[(&str, CallName, usize, usize)], word: &[u8]) -> Option<Mnemoni
 {
     for row in table {
         if is(word, row.0) {
-            return Some(Mnemonic {
-                call: row.1,
-                least: row.2,
-                most: row.3,
-            });
+            let (call, least, most) = (row.1, row.2, row.3);
+            return Some(Mnemonic { call, least, most });
         }
     }
     None

@@ -27,9 +27,8 @@ fn digits_at(base: u8, word: &[u8]) -> Option<u64>
         if digit >= base {
             return None;
         }
-        value = value
-            .checked_mul(u64::from(base))?
-            .checked_add(u64::from(digit))?;
+        let scaled = value.checked_mul(u64::from(base))?;
+        value = scaled.checked_add(u64::from(digit))?;
     }
     Some(value)
 }

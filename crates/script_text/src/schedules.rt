@@ -7,7 +7,7 @@ ghost use Rattle.script_text.specs.Line.{GivesAt};
 ghost use Rattle.script_text.specs.Schedule.{item_from, item_of, in_range_of, turns_in, with_turns, written_of, schedule_of};
 ghost use Rattle.script_text.specs.Words.{words};
 
-use crate::faults::{Reason, ScriptFault, bad};
+use crate::faults::{Reason, Taken, bad};
 use crate::numbers::number;
 use crate::words::{next_word, place_of};
 
@@ -52,10 +52,8 @@ pub fn turns_of(lps: u8, item: Option<Item>) -> Option<Turns>
 {
     let item = item?;
     if item.lp < u64::from(lps) && 1 <= item.times && item.times <= 1 << 20 {
-        Some(Turns {
-            lp: item.lp as u8,
-            times: item.times as u32,
-        })
+        let (lp, times) = (item.lp as u8, item.times as u32);
+        Some(Turns { lp, times })
     } else {
         None
     }
@@ -87,7 +85,7 @@ fn are_in_range(lps: u8, text: &[u8]) -> bool
     true
 }
 
-fn write_turns(schedule: &mut Vec<u8>, line: u64, turns: Turns) -> Result<(), ScriptFault>
+fn write_turns(schedule: &mut Vec<u8>, line: u64, turns: Turns) -> Taken
     ensures { GivesAt line (with_turns schedule.old.items turns) schedule.new.items result }
 {
     if schedule.len() + turns.times as usize > MOST_ITEMS {
@@ -99,7 +97,7 @@ fn write_turns(schedule: &mut Vec<u8>, line: u64, turns: Turns) -> Result<(), Sc
     Ok(())
 }
 
-fn write_items(schedule: &mut Vec<u8>, line: u64, lps: u8, text: &[u8]) -> Result<(), ScriptFault>
+fn write_items(schedule: &mut Vec<u8>, line: u64, lps: u8, text: &[u8]) -> Taken
     ensures { GivesAt line (written_of schedule.old.items (map (turns_in lps) (words text.now))) schedule.new.items result }
 {
     let mut rest = text;
@@ -116,12 +114,7 @@ fn write_items(schedule: &mut Vec<u8>, line: u64, lps: u8, text: &[u8]) -> Resul
 /// Puts the items of a schedule line behind those of the lines before, written out. `text` is what
 /// stands in the line behind its first word. After a fault the schedule isn't read again.
 #[tactic(auto, unfolding(crate::specs::Schedule::schedule_of), using(crate::proofs::InRange::in_range_are_items))]
-pub fn schedule_line(
-    schedule: &mut Vec<u8>,
-    line: u64,
-    lps: u8,
-    text: &[u8],
-) -> Result<(), ScriptFault>
+pub fn schedule_line(schedule: &mut Vec<u8>, line: u64, lps: u8, text: &[u8]) -> Taken
     ensures { GivesAt line (schedule_of lps schedule.old.items (words text.now)) schedule.new.items result }
 {
     if next_word(text).is_none() {

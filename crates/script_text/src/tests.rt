@@ -1,12 +1,8 @@
 //! What no clause says: that the grammar means what its users were promised.
 
-use crate::{
-    CallName, OpName, Reason, ScriptFault, check_operands, code_line, mnemonic_at, operation_at,
-    output_slot, read_script, slot_place,
-};
+use super::*;
 use std::alloc::Global;
 use std::test::Fail;
-use td_words::Machine;
 
 /// The line and the reason of a bad script; of a good one processor 0's first call, if any.
 fn answer(alloc: Global, bytes: &[u8]) -> Result<String, Fail> {
@@ -23,7 +19,8 @@ fn answer(alloc: Global, bytes: &[u8]) -> Result<String, Fail> {
 // Each row: an answer, and behind bars what has it.
 const WHOLE_SCRIPTS: &[&str] = &[
     "good | machine 1 8 1\n | machine 2 8 1\n | machine 8 8 1\n |   machine  0x1 0x400   15 \n",
-    "good | machine 1 8 1\n#~ \n",
+    "good | machine 2 8 1\nlp 1\nend\n | machine 2 8 1\nlp 1\nend\nlp 0\nend\n",
+    "good | machine 2 8 1\nschedule 1 0*3 1\n | machine 1 8 1\n#~ \n",
     "1 UNTERMINATED | \x07 | machine 2 8 1",
     "3 UNTERMINATED | machine 1 8 1\nlp 0\nHOST.RE | machine 1 8 1\nlp 0\n#",
     "4 ENDLESS | machine 1 8 1\nlp 0\nHOST.READ 0 0\n",
@@ -36,6 +33,8 @@ const WHOLE_SCRIPTS: &[&str] = &[
     "1 NUMBER | machine 0 x 1\n",
     "1 RANGE | machine 0 8 1\n | machine 9 8 1\n | machine 2 7 1\n | machine 1 7 1\n",
     "1 RANGE | machine 1 1025 15\n | machine 1 1024 16\n | machine 1 8 0\n",
+    "2 RANGE | machine 2 8 1\nlp 2\n | machine 2 8 1\nschedule 0 2\n",
+    "4 REPEATED | machine 2 8 1\nlp 1\nend\nlp 1\n",
 ];
 
 const ON_ONE_PROCESSOR: &[&str] = &[
@@ -52,12 +51,6 @@ const ON_ONE_PROCESSOR: &[&str] = &[
     "2 FULL | schedule 0*1048576 0",
     "3 FULL | schedule 0*1048575\nschedule 0 0",
     "5 REPEATED | lp 0\nend\n\nlp 0x0",
-];
-
-const ON_TWO_PROCESSORS: &[&str] = &[
-    "good | lp 1\nend | lp 1\nend\nlp 0\nend | schedule 1 0*3 1",
-    "2 RANGE | lp 2 | schedule 0 2",
-    "4 REPEATED | lp 1\nend\nlp 1",
 ];
 
 const IN_BLOCK: &[&str] = &[
@@ -114,7 +107,6 @@ fn names_the_first_bad_line(rt: HostRuntime) -> Result<(), Fail> {
     let tables = [
         ("", WHOLE_SCRIPTS, ""),
         ("machine 1 8 1\n", ON_ONE_PROCESSOR, "\n"),
-        ("machine 2 8 1\n", ON_TWO_PROCESSORS, "\n"),
         ("machine 1 8 1\nlp 0\n", IN_BLOCK, "\nend\n"),
         ("machine 1 8 1\nlp 0\n", CALLS, "\nend\n"),
     ];
@@ -130,21 +122,13 @@ fn names_the_first_bad_line(rt: HostRuntime) -> Result<(), Fail> {
     Ok(())
 }
 
-fn script_of_calls(alloc: Global, calls: u32, last: &str) -> Result<Vec<u8>, Fail> {
-    let mut bytes = Vec::new(alloc);
-    bytes.extend_from_slice(b"machine 1 8 1\nlp 0\n")?;
-    for _call in 0..calls {
-        bytes.extend_from_slice(b"MNG.CREATE 3 0xa\n")?;
-    }
-    bytes.extend_from_slice(last.as_bytes())?;
-    Ok(bytes)
-}
-
 #[test]
 fn stops_at_its_limits(rt: HostRuntime) -> Result<(), Fail> {
     let alloc = rt.alloc();
+    let first = "MngCreate { tdr: 3, hkid: 10 }";
     let rows = [
-        (4096, "end\n", "MngCreate { tdr: 3, hkid: 10 }"),
+        (4096, "end\n", first),
+        (4095, "HOST.READ 1 1\nend\n", first),
         (4096, "MEM.TRACK 1\n", "4099 UNBUILT"),
         (4096, "HOST.READ x\n", "4099 COUNT"),
         (4096, "HOST.READ x 1\n", "4099 NUMBER"),
@@ -152,14 +136,13 @@ fn stops_at_its_limits(rt: HostRuntime) -> Result<(), Fail> {
         (4096, "MNG.RD 1 NAME\n", "4099 NAME"),
         (4096, "MNG.RD 1 OP\n", "4099 FULL"),
         (4096, "HOST.READ 1 1", "4099 UNTERMINATED"),
-        (
-            4095,
-            "HOST.READ 1 1\nend\n",
-            "MngCreate { tdr: 3, hkid: 10 }",
-        ),
     ];
     for (calls, last, want) in rows {
-        let bytes = script_of_calls(alloc, calls, last)?;
+        let mut bytes = b"machine 1 8 1\nlp 0\n".to_vec(alloc)?;
+        for _call in 0..calls {
+            bytes.extend_from_slice(b"MNG.CREATE 3 0xa\n")?;
+        }
+        bytes.extend_from_slice(last.as_bytes())?;
         assert_eq!(rt; answer(alloc, &bytes)?.as_str(), want, "at {last}");
     }
     for (bytes, want) in [(1 << 24, "16777217 MACHINE"), ((1 << 24) + 1, "0 LENGTH")] {
@@ -173,13 +156,11 @@ fn stops_at_its_limits(rt: HostRuntime) -> Result<(), Fail> {
 fn reads_what_stands_there(rt: HostRuntime) -> Result<(), Fail> {
     let text = "# a\nmachine 2 9 3\n schedule 1 0x0*0x2\nlp 1\nHOST.WRITE 5 6 0x7\nMNG.CREATE 1 2\n\
         end\nschedule 01*02\nlp 0\nHOST.READ 3 4\nPHYMEM.PAGE.RDMD 8\nend\nschedule 0\n";
-    let script = read_script(rt.alloc(), text.as_bytes())?;
-    assert_eq!(rt; script.codes.len(), 0);
     let alloc = rt.alloc();
-    let said = format!(in alloc;
-        "{:?} {:?} {:?}",
-        script.machine, script.schedule, script.calls
-    )?;
+    let script = read_script(alloc, text.as_bytes())?;
+    assert_eq!(rt; script.codes.len(), 0);
+    let (machine, schedule, calls) = (&script.machine, &script.schedule, &script.calls);
+    let said = format!(in alloc; "{machine:?} {schedule:?} {calls:?}")?;
     let want = "Machine { lps: 2, pages: 9, hkids: 3 } [1, 0, 0, 1, 1, 0] \
         [[HostRead { page: 3, word: 4 }, PhymemPageRdmd { page: 8 }], \
         [HostWrite { page: 5, word: 6, value: 7 }, MngCreate { tdr: 1, hkid: 2 }]]";
@@ -195,11 +176,7 @@ fn reads_what_comes_later(rt: HostRuntime) -> Result<(), Fail> {
     assert_eq!(rt; slot_place(CallName::ExportMem), Some(3));
     let abort = mnemonic_at(b"EXPORT.ABORT").ok_or("absent")?;
     assert_eq!(rt; (abort.least, abort.most), (1, 2));
-    let machine = Machine {
-        lps: 8,
-        pages: 8,
-        hkids: 1,
-    };
+    let machine = read_script(rt.alloc(), b"machine 8 8 1\n")?.machine;
     let past = code_line(machine, &[], &[Some(8), Some(0)]);
     assert_eq!(rt; past.err(), Some(Reason::Range));
     let again = code_line(machine, &[true], &[Some(0), Some(0)]);

@@ -1,0 +1,107 @@
+-- Five words behind the first tell what a line says: no line that counts its words has more than four there.
+use Rattle.std.proofs.Common.{◌≡◌, ℕ, ◌≤◌, List, [], ◌∷◌, length, map, take, Bool, true, false, not, cond, leb, ◌==◌, ◌&&◌, Option, Some, None, Result, Ok, Err, refl, sym, ◌∙◌, arith}
+use Rattle.std.specs.List.{list_all}
+use Rattle.std.specs.Str.{bytes_eq}
+use Rattle.std.proofs.lemmas.Bool.{and_parts}
+use Rattle.td_words.specs.declared.machines.Machine.{Machine}
+use Rattle.script_text.specs.declared.faults.Reason.{Reason}
+use Rattle.script_text.specs.declared.faults.Reason.TheVariants as reason
+use Rattle.script_text.specs.declared.lines.Entry.{Entry}
+use Rattle.script_text.specs.declared.lines.Keyword.{Keyword}
+use Rattle.script_text.specs.declared.lines.Keyword.TheVariants as keyword
+use Rattle.script_text.specs.declared.lines.Stage.{Stage}
+use Rattle.script_text.specs.declared.mnemonics.CallName.{CallName}
+use Rattle.script_text.specs.declared.mnemonics.CallName.TheVariants as name
+use Rattle.script_text.specs.declared.mnemonics.Mnemonic.{Mnemonic}
+use Rattle.script_text.specs.Mnemonics.{mnemonics, mnemonic_in}
+use Rattle.script_text.specs.Number.{number}
+use Rattle.script_text.specs.Line.{counted_of, machine_of, block_of, end_of, built_of, judged_of, call_of, first_of, outside_of, inside_of, placed_of, entry_of, keyword_of}
+
+-- five numbers and more are too many wherever at most four are counted
+miscounted : (n : ℕ) (ns : List (Option ℕ)) → n ≤ 4 → 5 ≤ length ns → counted_of n ns ≡ Err reason.Count
+miscounted n ns few h = let e : (length ns == n) ≡ false = grind arith in rw e refl
+
+machine_miscounted : (ns : List (Option ℕ)) → 5 ≤ length ns → machine_of ns ≡ Err reason.Count
+unfolding machine_of
+machine_miscounted ns h = rw (miscounted 3 ns (omega arith) h) refl
+
+block_miscounted : (m : Machine) (had : List Bool) (ns : List (Option ℕ)) → 5 ≤ length ns → block_of m had ns ≡ Err reason.Count
+unfolding block_of
+block_miscounted m had ns h = rw (miscounted 1 ns (omega arith) h) refl
+
+end_miscounted : (ns : List (Option ℕ)) → 5 ≤ length ns → end_of ns ≡ Err reason.Count
+unfolding end_of
+end_miscounted ns h = rw (miscounted 0 ns (omega arith) h) refl
+
+-- no mnemonic has more than four arguments
+abbrev HasFew : Option Mnemonic → Type 0
+HasFew None = Unit {0}
+HasFew (Some m) = leb m.most 4 ≡ true
+
+few_if : (b : Bool) (m : Mnemonic) (x : Option Mnemonic) → leb m.most 4 ≡ true → HasFew x → HasFew (cond b (Some m) x)
+few_if true m x h k = h
+few_if false m x h k = k
+
+row_few : (rows : List (List ℕ × CallName × ℕ × ℕ)) (word : List ℕ) → list_all (λ row. leb row.3 4) rows ≡ true → HasFew (mnemonic_in rows word)
+row_few [] word h = tt
+row_few (row ∷ rows) word h =
+    let p = and_parts (leb row.3 4) (list_all (λ row. leb row.3 4) rows) h in
+    few_if (bytes_eq word row.0) (record { call = row.1; least = row.2; most = row.3 }) (mnemonic_in rows word) p.0 (row_few rows word p.1)
+
+-- what is left to say of a call whose arguments are too many
+abbrev too_many : Option Entry → Result Entry Reason
+too_many None = Err reason.Unbuilt
+too_many (Some e) = Err reason.Count
+
+judged_too_many : (e : Option Entry) (m : Mnemonic) (ns : List (Option ℕ)) → leb m.most 4 ≡ true → 5 ≤ length ns → judged_of e m ns ≡ too_many e
+judged_too_many None m ns few h = refl
+judged_too_many (Some e) m ns few h =
+    let over : (leb m.least (length ns) && leb (length ns) m.most) ≡ false = grind (arith, few) in
+    rw over refl
+
+built_alike : (lp : ℕ) (call : CallName) (ns ms : List (Option ℕ)) → too_many (built_of lp call ns) ≡ too_many (built_of lp call ms)
+built_alike lp name.HostRead ns ms = refl
+built_alike lp _ ns ms = refl
+
+-- what a line says that has five words and more behind its first doesn't hang on which they are
+
+call_alike : (lp : ℕ) (row : Option Mnemonic) (ns ms : List (Option ℕ)) → HasFew row → 5 ≤ length ns → 5 ≤ length ms → call_of lp row ns ≡ call_of lp row ms
+unfolding call_of
+call_alike lp None ns ms few h k = refl
+call_alike lp (Some m) ns ms few h k =
+    judged_too_many (built_of lp m.call ns) m ns few h ∙ built_alike lp m.call ns ms ∙ sym (judged_too_many (built_of lp m.call ms) m ms few k)
+
+first_alike : (word : Option Keyword) (ns ms : List (Option ℕ)) → 5 ≤ length ns → 5 ≤ length ms → first_of word ns ≡ first_of word ms
+first_alike (Some keyword.Machine) ns ms h k = machine_miscounted ns h ∙ sym (machine_miscounted ms k)
+first_alike _ ns ms h k = refl
+
+outside_alike : (m : Machine) (had : List Bool) (word : Option Keyword) (ns ms : List (Option ℕ)) → 5 ≤ length ns → 5 ≤ length ms → outside_of m had word ns ≡ outside_of m had word ms
+outside_alike m had (Some keyword.Lp) ns ms h k = block_miscounted m had ns h ∙ sym (block_miscounted m had ms k)
+outside_alike m had (Some keyword.Machine) ns ms h k = refl
+outside_alike m had (Some keyword.Schedule) ns ms h k = refl
+outside_alike m had (Some keyword.Code) ns ms h k = refl
+outside_alike m had (Some keyword.End) ns ms h k = refl
+outside_alike m had None ns ms h k = refl
+
+inside_alike : (lp : ℕ) (word : Option Keyword) (w : List ℕ) (ns ms : List (Option ℕ)) → 5 ≤ length ns → 5 ≤ length ms → inside_of lp word w ns ≡ inside_of lp word w ms
+inside_alike lp (Some keyword.End) w ns ms h k = end_miscounted ns h ∙ sym (end_miscounted ms k)
+inside_alike lp (Some keyword.Machine) w ns ms h k = refl
+inside_alike lp (Some keyword.Schedule) w ns ms h k = refl
+inside_alike lp (Some keyword.Code) w ns ms h k = refl
+inside_alike lp (Some keyword.Lp) w ns ms h k = refl
+inside_alike lp None w ns ms h k = call_alike lp (mnemonic_in mnemonics w) ns ms (row_few mnemonics w refl) h k
+
+placed_alike : (m : Option Machine) (block : Option ℕ) (had : List Bool) (w : List ℕ) (ns ms : List (Option ℕ)) → 5 ≤ length ns → 5 ≤ length ms → placed_of m block had w ns ≡ placed_of m block had w ms
+placed_alike None block had w ns ms h k = first_alike (keyword_of w) ns ms h k
+placed_alike (Some m) None had w ns ms h k = outside_alike m had (keyword_of w) ns ms h k
+placed_alike (Some m) (Some lp) had w ns ms h k = inside_alike lp (keyword_of w) w ns ms h k
+
+pub five_suffice : (s : Stage) (w : List ℕ) (ws : List (List ℕ)) → entry_of s w (map number (take 5 ws)) ≡ entry_of s w (map number ws)
+unfolding entry_of
+five_suffice s w [] = refl
+five_suffice s w (a ∷ []) = refl
+five_suffice s w (a ∷ b ∷ []) = refl
+five_suffice s w (a ∷ b ∷ c ∷ []) = refl
+five_suffice s w (a ∷ b ∷ c ∷ d ∷ []) = refl
+five_suffice s w (a ∷ b ∷ c ∷ d ∷ e ∷ ws) =
+    placed_alike s.machine s.block s.had w (map number (take 5 (a ∷ b ∷ c ∷ d ∷ e ∷ ws))) (map number (a ∷ b ∷ c ∷ d ∷ e ∷ ws)) (omega arith) (omega arith)
