@@ -1,7 +1,7 @@
 -- What the words that acts are written in keep of a lawful world.
 use Rattle.std.proofs.Common.{lit<, ◌≡◌, ◌≢◌, ◌⊎◌, inl, inr, refl, sym, ◌∙◌, subst, ap, ℕ, zero, suc, ◌<◌, ◌≤◌, ◌^◌, List, [], ◌∷◌, ◌++◌, length, length-append, Some, None, true, false, not, ◌==◌, ◌&&◌, nat_lt, slice_get, arith}
 use Rattle.std.specs.List.{list_any}
-use Rattle.std.proofs.lemmas.Bool.{eq-eqb, eqb-true, eqb-false, ne_eqb}
+use Rattle.std.proofs.lemmas.Bool.{eq-eqb, eqb-true, eqb-false, ne_eqb, not-true, and_parts}
 use Rattle.td_words.specs.declared.names.PageKind.{PageKind}
 use Rattle.td_words.specs.declared.names.PageKind.TheVariants as kind
 use Rattle.td_words.specs.declared.names.LifeState.{LifeState}
@@ -16,7 +16,7 @@ use Rattle.flat_core.specs.Locks.{one_if}
 use Rattle.flat_core.specs.Conditions.{is_host_in, owned_below}
 use Rattle.flat_core.specs.Effects.{take_node, give_back, set_key, set_life, set_op, set_epoch, add_control, add_vp, begin_measurement, measure, end_measurement, write_back, written_back}
 use Rattle.flat_core.specs.Lawful.{IsAlive, IsPageOf, IsNodeOf, AreControls, ArePagesOf, all_differ, LawfulPages, LawfulTds, IsListed, LawfulLists, LawfulTree, LawfulKeys, LawfulBeginnings, Lawful, IsNew, is_node, is_free, is_named_kind, key_owner, is_flushed}
-use Rattle.flat_core.proofs.Tests.{by_test, some_same, same_self, lt_of, not_true, and_left, and_right}
+use Rattle.flat_core.proofs.Tests.{by_test, some_same, same_self, lt_of}
 use Rattle.flat_core.proofs.Pages.{node_kept, controls_kept, pages_kept, taken, other, taken_node, taken_controls, taken_list, taken_pages}
 
 -- a life that isn't at its end
@@ -369,7 +369,7 @@ module _ (m : Machine) (w : World) (t p : ℕ) (l : LawfulBut m w p) (page : IsP
       (λ y. absurd (let no : true ≡ false = rw y at h in cc))
       (λ y. (let rest : list_any (λ x. x == p) qs ≡ false = rw y at h in
       let apart' : (p == q) ≡ false = ne_eqb p q (λ e. absurd (let no : true ≡ false = sym (eq-eqb q p (sym e)) ∙ y in cc)) in
-      rw (not_among q qs apart' (not_true _ (and_left (not (list_any (λ x. x == q) qs)) (all_differ qs) d)), all_differ_more qs rest (and_right (not (list_any (λ x. x == q) qs)) (all_differ qs) d)) refl))
+      rw (not_among q qs apart' (not-true _ (and_parts (not (list_any (λ x. x == q) qs)) (all_differ qs) d).0), all_differ_more qs rest (and_parts (not (list_any (λ x. x == q) qs)) (all_differ qs) d).1) refl))
 
   -- the place of the one that is added, and of another one
   place_more : (ps : List ℕ) (i v : ℕ) → list_any (λ q. q == p) ps ≡ false → slice_get (ps ++ p ∷ []) i ≡ Some v → ((v ≡ p) × (i ≡ length ps)) ⊎ (((v == p) ≡ false) × (slice_get ps i ≡ Some v))
