@@ -14,7 +14,7 @@ use Rattle.flat_core.specs.Run.{play}
 use Rattle.flat_core.specs.Laws.{IsQuiet, OwnEventsAreQuiet, IsKeptBesides, QuietCallsKeep, RefusalsLeaveTheirReply}
 use Rattle.flat_core.proofs.Tests.{by_test}
 use Rattle.flat_core.proofs.Kept.{others_stay}
-use Rattle.flat_core.proofs.Ends.{play_append}
+use Rattle.flat_core.proofs.Induction.{play_append}
 use Rattle.flat_core.proofs.Refused.{after_here, refused_stay}
 
 kept_settled : (phase : Phase Reply) (hs : List Held) (lp : Lp) → IsKeptBesides lp (settle phase hs lp)
