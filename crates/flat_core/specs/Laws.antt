@@ -60,8 +60,8 @@ reached o words_to_tell schedule = play o schedule (start o words_to_tell)
 abbrev pub EveryWorldIsLawful : Type 0
 EveryWorldIsLawful = (o : Opening) (words_to_tell : Option (List ℕ)) (schedule : List ℕ) → Lawful o.machine (reached o words_to_tell schedule).world
 
--- Ownership in a reader's terms: an entry that isn't FREE names a page that its TD owns, and so none of the host's; and no
--- other entry names that page.
+-- Ownership in a reader's terms: an entry of a TD that is alive, where it isn't FREE, names a page that the TD owns, and so
+-- none of the host's; and no other entry of such a TD names that page.
 pub record IsOwned (pages : Pages) (tds : Tds) : Type 0 where
   pub own : (t l n : ℕ) → IsAlive pages tds t → is_free (tds.entries t l n).state ≡ false
       → let p = (tds.entries t l n).page in (is_host_in pages p ≡ false) × (pages.owners p ≡ t)

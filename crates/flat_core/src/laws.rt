@@ -21,15 +21,16 @@ pub fn row_laws()
     ensures one_use { PagesHaveOneUse }
 {}
 
-/// Each event keeps a world lawful, and every schedule leads to a lawful one: who owns which page, which pages a TD's entries name,
-/// and whose each HKID is.
+/// Each event keeps a world lawful, and every schedule leads to a lawful one: who owns which page and
+/// in which list or entry of its TD that page stands, which pages a TD's entries name, and whose each
+/// HKID is.
 pub fn lawful_law()
     ensures event { EventsKeepLawful }
     ensures run { EveryWorldIsLawful }
 {}
 
-/// In every world that a schedule leads to, an entry that names a page names one that its TD owns, no
-/// page is named twice, and a page of the host's by none.
+/// In every world that a schedule leads to, the entries of TDs that aren't in TD_TEARDOWN name pages
+/// that their own TD owns, no page twice, and so none of the host's.
 pub fn ownership_law()
     ensures { EveryPageIsOwned }
 {}
