@@ -19,7 +19,7 @@ use Rattle.flat_alone.specs.Whole.{first_fault, reply_unless, world_unless}
 use Rattle.plain_runs.specs.declared.plain.Cell.{Cell}
 use Rattle.plain_runs.specs.declared.plain.Td.{Td}
 use Rattle.plain_runs.specs.declared.plain.Owner.{Owner}
-use Rattle.plain_runs.specs.Plain.{world_in, shown, key_of, no_td, Does}
+use Rattle.plain_runs.specs.Plain.{world_in, shown, key_of, no_td, BuildSeen, Does}
 use Rattle.plain_runs.proofs.PlainWorld.{key_set, same_default}
 
 pub passes : (b : Bool) (r : Reply) (items : List (Item Reply)) → b ≡ true → first_fault (Check b r ∷ items) ≡ first_fault items
@@ -79,12 +79,12 @@ none_associated [] = refl
 none_associated (v ∷ vs) = ap (λ n. 0 + n) (none_associated vs)
 
 -- the TD's HKID changes with its life state
-pub key_after_life : (cells : List Cell) (tds tds' : List Td) (keys : List Owner) (t h : ℕ) (s : LifeState) (o : Owner)
-    → world_in cells tds' keys ≡ effects.set_life t s (world_in cells tds keys) → h < length keys → h ≡ (get_or tds t no_td).hkid
-    → world_in cells tds' (set keys h o) ≡ shown (effects.set_key ((get_or tds t no_td).hkid) (key_of o) (effects.set_life t s (world_in cells tds keys)))
-key_after_life cells tds tds' keys t h s o e small is =
-    key_set cells tds' keys h o small
-    ∙ (ap (λ (w : World). effects.set_key h (key_of o) w) e ∙ ap (λ (n : ℕ). effects.set_key n (key_of o) (effects.set_life t s (world_in cells tds keys))) is)
+pub key_after_life : (cells : List Cell) (tds tds' : List Td) (builds : List BuildSeen) (keys : List Owner) (t h : ℕ) (s : LifeState) (o : Owner)
+    → world_in cells tds' builds keys ≡ effects.set_life t s (world_in cells tds builds keys) → h < length keys → h ≡ (get_or tds t no_td).hkid
+    → world_in cells tds' builds (set keys h o) ≡ shown (effects.set_key ((get_or tds t no_td).hkid) (key_of o) (effects.set_life t s (world_in cells tds builds keys)))
+key_after_life cells tds tds' builds keys t h s o e small is =
+    key_set cells tds' builds keys h o small
+    ∙ (ap (λ (w : World). effects.set_key h (key_of o) w) e ∙ ap (λ (n : ℕ). effects.set_key n (key_of o) (effects.set_life t s (world_in cells tds builds keys))) is)
 
 pub hkid_read : (tds : List Td) (t i h : ℕ) (td : Td) → h ≡ td.hkid → i ≡ t → td ≡ get_or tds i td → t < length tds → h ≡ (get_or tds t no_td).hkid
 hkid_read tds t i h td e is here small = e ∙ ap (λ (x : Td). x.hkid) (here ∙ (ap (λ n. get_or tds n td) is ∙ same_default tds t td no_td small))

@@ -22,6 +22,6 @@ returns-clause-does c =
     let h = c.args.hkid in
     does_at (λ t. row_in c.args.machine (call.MngCreate t h)) p c.args.tdr w _ value.Nothing c.in_ok-tdr.ensures.0
     (page_passes c.args.machine 1 p _ (omega (arith, c.in_ok-tdr.ensures)) ∙ (hkid_passes c.args.machine h _ c.if-hkid-lt1.false (omega (arith, c.from.ensures)) ∙ two_tried _ _ _ _ _ _ c.host_page.ensures c.hkid_free.ensures c.in_ok-judge.ensures)) refl
-    (rw (c.from-2.ensures, c.from-3.ensures) (key_set cells (set tds p c.new_td.result) keys h (owner.Assigned p) (omega arith)
-    ∙ ap (λ (x : World). effects.set_key h (AssignedTo p) x) (ap (λ (x : Td). world_in cells (set tds p x) keys) c.new_td.ensures
+    (rw (c.from-2.ensures, c.from-3.ensures) (key_set cells (set tds p c.new_td.result) (map seen c.begin_build.new.builds.items) keys h (owner.Assigned p) (omega arith)
+    ∙ ap (λ (x : World). effects.set_key h (AssignedTo p) x) (ap (λ (x : Td). world_in cells (set tds p x) (map seen c.begin_build.new.builds.items) keys) c.new_td.ensures
     ∙ (td_new cells tds keys p h small ∙ ap (λ (x : World). shown (effects.new_td p h x)) (c.take.ensures.taken tds keys)))))
