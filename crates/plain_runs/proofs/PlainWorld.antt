@@ -1,5 +1,5 @@
 -- What changes of the plain machine's lists make of its world.
-use Rattle.std.proofs.Common.{◌≡◌, refl, sym, ◌∙◌, ap, ℕ, zero, suc, ◌<◌, List, [], ◌∷◌, ◌++◌, length, map, get_or, set, replicate, Option, Some, None, ◌==◌, ◌&&◌, if◌then◌else◌, arith, inl, inr}
+use Rattle.std.proofs.Common.{◌≡◌, refl, sym, ◌∙◌, ap, ℕ, zero, suc, ◌<◌, ◌≤◌, List, [], ◌∷◌, ◌++◌, length, map, get_or, set, replicate, Option, Some, None, ◌==◌, ◌&&◌, if◌then◌else◌, arith, inl, inr}
 use mathlib.Core.Path.{fun_ext}
 use Rattle.std.proofs.Math.ListN.{length-set}
 use Rattle.std.proofs.lemmas.List.{get_or-set_same, get_or-set_other}
@@ -16,6 +16,7 @@ use Rattle.flat_core.specs.World.{World, Tds, first_world, host_pages, no_tds, n
 use Rattle.flat_core.specs.Effects as effects
 use Rattle.flat_core.specs.Digests.{digest_word}
 use Rattle.arrayvec.specs.ArrayVec.{ArrayVec}
+use Rattle.std.specs.Global.{Vec}
 use Rattle.plain_runs.specs.declared.plain.Cell.{Cell}
 use Rattle.plain_runs.specs.declared.plain.Td.{Td}
 use Rattle.plain_runs.specs.declared.plain.Node.{Node}
@@ -33,6 +34,11 @@ pub same_default : {A : Type 0} (xs : List A) (i : ℕ) (d d' : A) → i < lengt
 same_default [] i d d' h = absurd (omega arith)
 same_default (x ∷ xs) zero d d' h = refl
 same_default (x ∷ xs) (suc i) d d' h = same_default xs i d d' (omega arith)
+
+pub no_cell : (cells : List Cell) (p : ℕ) → length cells ≤ p → get_or cells p blank ≡ blank
+no_cell [] p h = refl
+no_cell (c ∷ cs) zero h = absurd (omega arith)
+no_cell (c ∷ cs) (suc p) h = no_cell cs p (omega arith)
 
 -- what f reads of a list that changed in one place
 read_set : {A B : Type 0} (f : A → B) (d v : A) (xs : List A) (i : ℕ) → i < length xs → (j : ℕ) → f (get_or (set xs i v) j d) ≡ put (λ n. f (get_or xs n d)) i (f v) j
@@ -204,7 +210,7 @@ build_read [] i b h is = absurd (omega arith)
 build_read (x ∷ xs) zero b h is = ap seen (sym is)
 build_read (x ∷ xs) (suc i) b h is = build_read xs i b (omega arith) is
 
-length_seen : (xs : List Build) → length (map seen xs) ≡ length xs
+pub length_seen : (xs : List Build) → length (map seen xs) ≡ length xs
 length_seen [] = refl
 length_seen (x ∷ xs) = ap suc (length_seen xs)
 
@@ -214,36 +220,61 @@ all_new [] b new none empty (suc t) = refl
 all_new (x ∷ xs) b new none empty zero = new 0
 all_new (x ∷ xs) b new none empty (suc t) = all_new xs b (λ u. new (suc u)) none empty t
 
--- these stand in place of those of one TD
-pub build_set : (tds : Tds) (builds : List Build) (t : ℕ) (b : Build) (nodes : List Node) (bytes : List ℕ) → t < length builds → b.entries.items ≡ nodes → b.measured.items ≡ bytes
-    → built_of (map seen (set builds t b)) tds
-    ≡ record (built_of (map seen builds) tds) { entries = put (built_of (map seen builds) tds).entries t (newest free_entry nodes); measured = put (built_of (map seen builds) tds).measured t bytes }
-build_set tds builds t b nodes bytes h is_nodes is_bytes =
-    let e : map seen (set builds t b) ≡ set (map seen builds) t (record { nodes = nodes; measured = bytes }) =
-    map-set seen builds t b ∙ ap (λ (x : BuildSeen). set (map seen builds) t x) (ap (λ (ns : List Node). record { nodes = ns; measured = b.measured.items }) is_nodes ∙ ap (λ (ms : List ℕ). record { nodes = nodes; measured = ms }) is_bytes) in
-    let small : t < length (map seen builds) = rw (length_seen builds) h in
-    ap (λ (xs : List BuildSeen). built_of xs tds) e ∙ (λ j. record tds {
-      entries = changed {B = ℕ → ℕ → Entry} (λ (x : BuildSeen). newest free_entry x.nodes) no_build (record { nodes = nodes; measured = bytes }) (map seen builds) t small j;
-      measured = changed {B = List ℕ} (λ (x : BuildSeen). x.measured) no_build (record { nodes = nodes; measured = bytes }) (map seen builds) t small j;
-    })
+pub seen_set : (builds : List Build) (t : ℕ) (b : Build) (nodes : List Node) (bytes : List ℕ) → b.entries.items ≡ nodes → b.measured.items ≡ bytes
+    → map seen (set builds t b) ≡ set (map seen builds) t (record { nodes = nodes; measured = bytes })
+seen_set builds t b nodes bytes is_nodes is_bytes =
+    map-set seen builds t b
+    ∙ ap (λ (x : BuildSeen). set (map seen builds) t x) (ap (λ (ns : List Node). record { nodes = ns; measured = b.measured.items }) is_nodes ∙ ap (λ (ms : List ℕ). record { nodes = nodes; measured = ms }) is_bytes)
 
-put_own : {A : Type 0} (f : ℕ → A) (t : ℕ) (v : A) → v ≡ f t → f ≡ put f t v
+built_set : (tds : Tds) (builds : List BuildSeen) (t : ℕ) (x : BuildSeen) → t < length builds
+    → built_of (set builds t x) tds ≡ record (built_of builds tds) { entries = put (built_of builds tds).entries t (newest free_entry x.nodes); measured = put (built_of builds tds).measured t x.measured }
+built_set tds builds t x h = λ j. record tds {
+  entries = changed {B = ℕ → ℕ → Entry} (λ (b : BuildSeen). newest free_entry b.nodes) no_build x builds t h j;
+  measured = changed {B = List ℕ} (λ (b : BuildSeen). b.measured) no_build x builds t h j;
+}
+
+put_own : {A : Type 0} (f : ℕ → A) (t : ℕ) (v : A) → v ≡ f t → put f t v ≡ f
 put_own f t v e = fun_ext here
   where
-    here : (n : ℕ) → f n ≡ put f t v n
-    here n = elim (eqb_tells n t) [ inl i ↦ rw i.0 (ap f i.1 ∙ sym e) | inr i ↦ rw (ne_eqb n t i.1) refl ]
-
--- bytes are measured, and an entry is stored
-pub measured_more : (tds : Tds) (builds : List Build) (t : ℕ) (old b : Build) (bytes : List ℕ) → t < length builds → old ≡ get_or builds t old → b.entries.items ≡ old.entries.items → b.measured.items ≡ bytes
-    → built_of (map seen (set builds t b)) tds ≡ record (built_of (map seen builds) tds) { measured = put (built_of (map seen builds) tds).measured t bytes }
-measured_more tds builds t old b bytes h is same e =
-    let own : newest free_entry old.entries.items ≡ (built_of (map seen builds) tds).entries t = ap (λ (x : BuildSeen). newest free_entry x.nodes) (sym (build_read builds t old h is)) in
-    build_set tds builds t b old.entries.items bytes h same e
-    ∙ (λ j. record (built_of (map seen builds) tds) { entries = put_own (built_of (map seen builds) tds).entries t (newest free_entry old.entries.items) own (inv j); measured = put (built_of (map seen builds) tds).measured t bytes })
+    here : (n : ℕ) → put f t v n ≡ f n
+    here n = elim (eqb_tells n t) [ inl i ↦ rw i.0 (e ∙ ap f (sym i.1)) | inr i ↦ rw (ne_eqb n t i.1) refl ]
 
 newest-more : (e : Entry) (ns : List Node) (n : Node) (level number : ℕ) → newest e (ns ++ n ∷ []) level number ≡ effects.put_in (newest e ns) n.level n.number (entry_of n) level number
 newest-more e [] n level number = refl
 newest-more e (m ∷ ns) n level number = newest-more (if level == m.level && number == m.number then entry_of m else e) ns n level number
+
+-- other bytes are measured, and an entry is stored
+pub measured_set : (tds : Tds) (builds : List Build) (t : ℕ) (old : Build) (new : Vec ℕ) (bytes : List ℕ) → t < length builds → old ≡ get_or builds t old → new.items ≡ bytes
+    → built_of (map seen (set builds t (record old { measured = new }))) tds ≡ record (built_of (map seen builds) tds) { measured = put (built_of (map seen builds) tds).measured t bytes }
+measured_set tds builds t old new bytes h is e =
+    let now : BuildSeen = record { nodes = old.entries.items; measured = bytes } in
+    let own : newest free_entry old.entries.items ≡ (built_of (map seen builds) tds).entries t = ap (λ (x : BuildSeen). newest free_entry x.nodes) (sym (build_read builds t old h is)) in
+    ap (λ (xs : List BuildSeen). built_of xs tds) (seen_set builds t (record old { measured = new }) old.entries.items bytes refl e)
+    ∙ (built_set tds (map seen builds) t now (rw (length_seen builds) h)
+    ∙ ap (λ (f : ℕ → ℕ → ℕ → Entry). record (built_of (map seen builds) tds) { entries = f; measured = put (built_of (map seen builds) tds).measured t bytes })
+      (put_own (built_of (map seen builds) tds).entries t (newest free_entry old.entries.items) own))
+
+pub measured_more : (tds : Tds) (builds : List Build) (t : ℕ) (old : Build) (new : Vec ℕ) (more : List ℕ) → t < length builds → old ≡ get_or builds t old → new.items ≡ old.measured.items ++ more
+    → built_of (map seen (set builds t (record old { measured = new }))) tds
+    ≡ record (built_of (map seen builds) tds) { measured = put (built_of (map seen builds) tds).measured t ((built_of (map seen builds) tds).measured t ++ more) }
+measured_more tds builds t old new more h is e =
+    measured_set tds builds t old new ((built_of (map seen builds) tds).measured t ++ more) h is (e ∙ ap (λ (x : BuildSeen). x.measured ++ more) (sym (build_read builds t old h is)))
+
+pub entry_set : (tds : Tds) (builds : List Build) (t : ℕ) (old : Build) (new : Vec Node) (n : Node) → t < length builds → old ≡ get_or builds t old → new.items ≡ old.entries.items ++ n ∷ []
+    → built_of (map seen (set builds t (record old { entries = new }))) tds
+    ≡ record (built_of (map seen builds) tds) { entries = put (built_of (map seen builds) tds).entries t (effects.put_in ((built_of (map seen builds) tds).entries t) n.level n.number (entry_of n)) }
+entry_set tds builds t old new n h is e =
+    let nodes : List Node = old.entries.items ++ n ∷ [] in
+    let now : BuildSeen = record { nodes = nodes; measured = old.measured.items } in
+    let read : seen old ≡ get_or (map seen builds) t no_build = sym (build_read builds t old h is) in
+    let more : newest free_entry nodes ≡ effects.put_in (newest free_entry old.entries.items) n.level n.number (entry_of n) = fun_ext (λ l. fun_ext (λ m. newest-more free_entry old.entries.items n l m)) in
+    let put_on : newest free_entry nodes ≡ effects.put_in ((built_of (map seen builds) tds).entries t) n.level n.number (entry_of n) =
+    more ∙ ap (λ (x : BuildSeen). effects.put_in (newest free_entry x.nodes) n.level n.number (entry_of n)) read in
+    ap (λ (xs : List BuildSeen). built_of xs tds) (seen_set builds t (record old { entries = new }) nodes old.measured.items e refl)
+    ∙ (built_set tds (map seen builds) t now (rw (length_seen builds) h)
+    ∙ (ap (λ (f : ℕ → ℕ → Entry). record (built_of (map seen builds) tds) { entries = put (built_of (map seen builds) tds).entries t f; measured = put (built_of (map seen builds) tds).measured t old.measured.items }) put_on
+    ∙ ap (λ (f : ℕ → List ℕ). record (built_of (map seen builds) tds) { entries = put (built_of (map seen builds) tds).entries t (effects.put_in ((built_of (map seen builds) tds).entries t) n.level n.number (entry_of n)); measured = f })
+      (put_own (built_of (map seen builds) tds).measured t old.measured.items (ap (λ (x : BuildSeen). x.measured) read))))
 
 -- a TD with a virtual processor more, which is associated with none
 abbrev pub with_vp : ℕ → ℕ → World → World
@@ -255,25 +286,24 @@ none_put t p w e =
     λ j. record (with_vp t p (effects.set_vp_state p vcpu.Created (shown w))) { vps = record no_vps { states = put w.vps.states p vcpu.Created; associated = same j } }
 
 -- a TD that begins
-pub td_new : (cells : List Cell) (tds : List Td) (builds : List Build) (b : Build) (keys : List Owner) (t h : ℕ) → t < length tds → t < length builds → b.entries.items ≡ [] → b.measured.items ≡ []
-    → world_in cells (set tds t (record no_td { hkid = h })) (map seen (set builds t b)) keys ≡ shown (effects.new_td t h (world_in cells tds (map seen builds) keys))
-td_new cells tds builds b keys t h small fits none empty =
+pub td_new : (cells : List Cell) (tds : List Td) (builds : List BuildSeen) (keys : List Owner) (t h : ℕ) → t < length tds → t < length builds
+    → world_in cells (set tds t (record no_td { hkid = h })) (set builds t no_build) keys ≡ shown (effects.new_td t h (world_in cells tds builds keys))
+td_new cells tds builds keys t h small fits =
     let v : Td = record no_td { hkid = h } in
-    ap (λ (x : Tds). record (world_in cells tds (map seen builds) keys) { tds = x }) (build_set (tds_in (set tds t v)) builds t b [] [] fits none empty)
-    ∙ (λ j. record (world_in cells tds (map seen builds) keys) {
+    λ j. record (world_in cells tds builds keys) {
       tds = record no_tds {
         lives = changed of_life no_td v tds t small j;
         hkids = changed (λ (x : Td). x.hkid) no_td v tds t small j;
         controls = changed of_controls no_td v tds t small j;
         ops = changed (λ (x : Td). x.op) no_td v tds t small j;
         epochs = changed (λ (x : Td). x.epoch) no_td v tds t small j;
-        entries = put (built_of (map seen builds) (tds_in tds)).entries t (newest free_entry []);
+        entries = changed {B = ℕ → ℕ → Entry} (λ (b : BuildSeen). newest free_entry b.nodes) no_build no_build builds t fits j;
         vps = changed of_vps no_td v tds t small j;
         vps_expected = constant 0 t j;
-        measured = put (built_of (map seen builds) (tds_in tds)).measured t [];
+        measured = changed {B = List ℕ} (λ (b : BuildSeen). b.measured) no_build no_build builds t fits j;
         mrtds = changed of_mrtd no_td v tds t small j;
       };
-    })
+    }
 
 -- the start
 pub at_first : (cells : List Cell) (tds : List Td) (builds : List BuildSeen) (keys : List Owner) (n : ℕ) → length cells ≡ n → ((p : ℕ) → (get_or cells p blank).kind ≡ kind.Nda) → ((p : ℕ) → (get_or cells p blank).owner ≡ 0)

@@ -50,12 +50,9 @@ pub fn measure_page(builds: &mut Vec<Build>, tdr: u16, gpa: u64) -> Result<(), A
     ensures count { length builds.new.items ≡ length builds.old.items }
     ensures measured { IfOk result (λ u. (cells : List Cell) (tds : List Td) (keys : List Owner) → world_in cells tds (map seen builds.new.items) keys ≡ measure tdr (page_record gpa) (world_in cells tds (map seen builds.old.items) keys)) }
 {
-    append_record(
-        &mut builds[usize::from(tdr)].measured,
-        b"MEM.PAGE.ADD",
-        &[0; 4],
-        gpa,
-    )
+    let bytes = &mut builds[usize::from(tdr)].measured;
+    append_record(bytes, b"MEM.PAGE.ADD", &[0; 4], gpa)?;
+    Ok(())
 }
 
 /// The chunk at a GPA, of the page of these words, is measured.
@@ -72,7 +69,8 @@ pub fn measure_chunk(
 {
     let bytes = &mut builds[usize::from(tdr)].measured;
     append_record(bytes, b"MR.EXTEND", &[0; 7], gpa)?;
-    append_chunk(bytes, words, gpa)
+    append_chunk(bytes, words, gpa)?;
+    Ok(())
 }
 
 /// A record comes behind these bytes: its name, filled up with zeros to 16 bytes, and the GPA.
@@ -83,7 +81,8 @@ fn append_record(bytes: &mut Vec<u8>, name: &[u8], zeros: &[u8], gpa: u64) -> Re
     bytes.extend_from_slice(name)?;
     bytes.extend_from_slice(zeros)?;
     bytes.extend_from_slice(&gpa.to_le_bytes())?;
-    bytes.extend_from_slice(&[0; 104])
+    bytes.extend_from_slice(&[0; 104])?;
+    Ok(())
 }
 
 /// The bytes of the chunk at a GPA come behind these.

@@ -106,19 +106,21 @@ fn add_table(
     ensures fits { FitsMachine machine plain.new }
     ensures does { IfOk result (λ r. Does (row_in machine (call.MemSeptAdd new.tdr gpa new.level new.page)) (world_of plain.old) (world_of plain.new) r) }
 {
-    if let Err(status) = may_add_table(plain, new, gpa) {
-        return Ok(Err(status));
+    match may_add_table(plain, new, gpa) {
+        Ok(()) => {
+            let NewTable { tdr, level, page } = new;
+            take(&mut plain.cells, page, PageKind::Ept, tdr);
+            let node = Node {
+                level,
+                number: number_at(level, gpa),
+                state: EntryState::NlMapped,
+                page,
+            };
+            store_entry(&mut plain.builds, tdr, node)?;
+            Ok(Ok(Value::Nothing))
+        }
+        Err(status) => Ok(Err(status)),
     }
-    let NewTable { tdr, level, page } = new;
-    take(&mut plain.cells, page, PageKind::Ept, tdr);
-    let node = Node {
-        level,
-        number: number_at(level, gpa),
-        state: EntryState::NlMapped,
-        page,
-    };
-    store_entry(&mut plain.builds, tdr, node)?;
-    Ok(Ok(Value::Nothing))
 }
 
 /// MEM.SEPT.ADD TDR GPA LEVEL PAGE.
@@ -251,21 +253,23 @@ fn add_private(
     ensures fits { FitsMachine machine plain.new }
     ensures does { IfOk result (λ r. Does (row_in machine (call.MemPageAdd new.tdr gpa new.page new.source)) (world_of plain.old) (world_of plain.new) r) }
 {
-    if let Err(status) = may_add_page(plain, new, gpa) {
-        return Ok(Err(status));
+    match may_add_page(plain, new, gpa) {
+        Ok(()) => {
+            let NewPage { tdr, page, source } = new;
+            let words = plain.words_of(source);
+            fill(&mut plain.cells, page, PageKind::Reg, tdr, &words);
+            let node = Node {
+                level: 0,
+                number: number_at(0, gpa),
+                state: EntryState::Mapped,
+                page,
+            };
+            store_entry(&mut plain.builds, tdr, node)?;
+            measure_page(&mut plain.builds, tdr, gpa)?;
+            Ok(Ok(Value::Nothing))
+        }
+        Err(status) => Ok(Err(status)),
     }
-    let NewPage { tdr, page, source } = new;
-    let words = plain.words_of(source);
-    fill(&mut plain.cells, page, PageKind::Reg, tdr, &words);
-    let node = Node {
-        level: 0,
-        number: number_at(0, gpa),
-        state: EntryState::Mapped,
-        page,
-    };
-    store_entry(&mut plain.builds, tdr, node)?;
-    measure_page(&mut plain.builds, tdr, gpa)?;
-    Ok(Ok(Value::Nothing))
 }
 
 /// MEM.PAGE.ADD TDR GPA PAGE SOURCE.
@@ -324,13 +328,15 @@ fn extend_by(
     ensures fits { FitsMachine machine plain.new }
     ensures does { IfOk result (λ r. Does (row_in machine (call.MrExtend tdr gpa)) (world_of plain.old) (world_of plain.new) r) }
 {
-    if let Err(status) = may_extend(plain, tdr, gpa) {
-        return Ok(Err(status));
+    match may_extend(plain, tdr, gpa) {
+        Ok(()) => {
+            let page = plain.entry(tdr, 0, gpa).page;
+            let words = plain.words_of(page);
+            measure_chunk(&mut plain.builds, tdr, gpa, &words)?;
+            Ok(Ok(Value::Nothing))
+        }
+        Err(status) => Ok(Err(status)),
     }
-    let page = plain.entry(tdr, 0, gpa).page;
-    let words = plain.words_of(page);
-    measure_chunk(&mut plain.builds, tdr, gpa, &words)?;
-    Ok(Ok(Value::Nothing))
 }
 
 /// MR.EXTEND TDR GPA.
