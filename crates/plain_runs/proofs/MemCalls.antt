@@ -21,7 +21,7 @@ add_sept_asks m w t gpa l p given =
     let state : Item Reply = state_in w t gpa l (entry.Free ∷ []) in
     after_head (add_sept_given m t gpa l p) (td_shared w t growing_ops ++ tree_exclusive t ∷ (walk w t gpa l ++ state ∷ page_exclusive p ∷ host_page w p ∷ [])) given
     ∙ same_behind (td_shared w t growing_ops) (tree_exclusive t ∷ (walk w t gpa l ++ state ∷ page_exclusive p ∷ host_page w p ∷ [])) (walk w t gpa l ++ state ∷ host_page w p ∷ [])
-      (same_behind (walk w t gpa l) (state ∷ page_exclusive p ∷ host_page w p ∷ []) (state ∷ host_page w p ∷ []) (same_after state _ _ refl))
+    (same_behind (walk w t gpa l) (state ∷ page_exclusive p ∷ host_page w p ∷ []) (state ∷ host_page w p ∷ []) (same_after state _ _ refl))
 
 pub add_page_asks : (m : Machine) (w : World) (t gpa p s : ℕ) → first_fault (add_page_given m t gpa p s) ≡ None
     → first_fault ((row_in m (call.MemPageAdd t gpa p s)).items w)
@@ -32,7 +32,7 @@ add_page_asks m w t gpa p s given =
     after_head (add_page_given m t gpa p s) (td_exclusive w t (op.Initialized ∷ []) ++ tree_exclusive t ∷ (walk w t gpa 0 ++ state ∷ pages)) given
     ∙ (any_mode_before w t (op.Initialized ∷ []) (tree_exclusive t ∷ (walk w t gpa 0 ++ state ∷ pages))
     ∙ same_behind (td_shared w t (op.Initialized ∷ [])) (tree_exclusive t ∷ (walk w t gpa 0 ++ state ∷ pages)) (walk w t gpa 0 ++ state ∷ host_page w s ∷ host_page w p ∷ [])
-      (same_behind (walk w t gpa 0) (state ∷ pages) (state ∷ host_page w s ∷ host_page w p ∷ []) (same_after state _ _ (same_after (host_page w s) _ _ refl))))
+    (same_behind (walk w t gpa 0) (state ∷ pages) (state ∷ host_page w s ∷ host_page w p ∷ []) (same_after state _ _ (same_after (host_page w s) _ _ refl))))
 
 pub extend_asks : (m : Machine) (w : World) (t gpa : ℕ) → first_fault (extend_given m t gpa) ≡ None
     → first_fault ((row_in m (call.MrExtend t gpa)).items w) ≡ first_fault (td_shared w t (op.Initialized ∷ []) ++ (walk w t gpa 0 ++ state_in w t gpa 0 (entry.Mapped ∷ []) ∷ []))
@@ -41,4 +41,4 @@ extend_asks m w t gpa given =
     after_head (extend_given m t gpa) (td_exclusive w t (op.Initialized ∷ []) ++ tree_shared t ∷ (walk w t gpa 0 ++ state ∷ named_page w t gpa 0 Shared ∷ [])) given
     ∙ (any_mode_before w t (op.Initialized ∷ []) (tree_shared t ∷ (walk w t gpa 0 ++ state ∷ named_page w t gpa 0 Shared ∷ []))
     ∙ same_behind (td_shared w t (op.Initialized ∷ [])) (tree_shared t ∷ (walk w t gpa 0 ++ state ∷ named_page w t gpa 0 Shared ∷ [])) (walk w t gpa 0 ++ state ∷ [])
-      (same_behind (walk w t gpa 0) (state ∷ named_page w t gpa 0 Shared ∷ []) (state ∷ []) (same_after state _ _ refl)))
+    (same_behind (walk w t gpa 0) (state ∷ named_page w t gpa 0 Shared ∷ []) (state ∷ []) (same_after state _ _ refl)))

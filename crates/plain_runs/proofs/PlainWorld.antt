@@ -252,7 +252,7 @@ measured_set tds builds t old new bytes h is e =
     ap (λ (xs : List BuildSeen). built_of xs tds) (seen_set builds t (record old { measured = new }) old.entries.items bytes refl e)
     ∙ (built_set tds (map seen builds) t now (rw (length_seen builds) h)
     ∙ ap (λ (f : ℕ → ℕ → ℕ → Entry). record (built_of (map seen builds) tds) { entries = f; measured = put (built_of (map seen builds) tds).measured t bytes })
-      (put_own (built_of (map seen builds) tds).entries t (newest free_entry old.entries.items) own))
+    (put_own (built_of (map seen builds) tds).entries t (newest free_entry old.entries.items) own))
 
 pub measured_more : (tds : Tds) (builds : List Build) (t : ℕ) (old : Build) (new : Vec ℕ) (more : List ℕ) → t < length builds → old ≡ get_or builds t old → new.items ≡ old.measured.items ++ more
     → built_of (map seen (set builds t (record old { measured = new }))) tds
@@ -274,7 +274,7 @@ entry_set tds builds t old new n h is e =
     ∙ (built_set tds (map seen builds) t now (rw (length_seen builds) h)
     ∙ (ap (λ (f : ℕ → ℕ → Entry). record (built_of (map seen builds) tds) { entries = put (built_of (map seen builds) tds).entries t f; measured = put (built_of (map seen builds) tds).measured t old.measured.items }) put_on
     ∙ ap (λ (f : ℕ → List ℕ). record (built_of (map seen builds) tds) { entries = put (built_of (map seen builds) tds).entries t (effects.put_in ((built_of (map seen builds) tds).entries t) n.level n.number (entry_of n)); measured = f })
-      (put_own (built_of (map seen builds) tds).measured t old.measured.items (ap (λ (x : BuildSeen). x.measured) read))))
+    (put_own (built_of (map seen builds) tds).measured t old.measured.items (ap (λ (x : BuildSeen). x.measured) read))))
 
 -- a TD with a virtual processor more, which is associated with none
 abbrev pub with_vp : ℕ → ℕ → World → World

@@ -1,6 +1,6 @@
 //! Arguments of calls on guest physical addresses.
 
-ghost use Rattle.std.specs.Prelude.{◌≡◌, ◌≤◌, ◌%◌, [], ◌∷◌, IfOk};
+ghost use Rattle.std.specs.Prelude.{◌≡◌, ◌≤◌, [], ◌∷◌, IfOk};
 ghost use Rattle.flat_core.specs.Arguments as arguments;
 ghost use Rattle.plain_runs.specs.Plain.{item_of, Judges};
 
@@ -53,17 +53,5 @@ pub fn aligned(place: u8, level: u8, gpa: u64) -> Check
     Check {
         holds: gpa % size_of(level) == 0,
         otherwise: Status::OperandInvalid(place),
-    }
-}
-
-/// A GPA is the first of a chunk.
-pub fn chunk_in(place: u8, gpa: u64) -> Result<(), Status>
-    ensures judged { Judges (arguments.chunk_argument place gpa ∷ []) result }
-    ensures chunk { IfOk result (λ u. gpa % 256 ≡ 0) }
-{
-    if gpa % 256 == 0 {
-        Ok(())
-    } else {
-        Err(Status::OperandInvalid(place))
     }
 }

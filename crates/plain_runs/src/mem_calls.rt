@@ -13,7 +13,7 @@ ghost use Rattle.plain_runs.specs.Given.{add_sept_given, read_sept_given, add_pa
 
 use crate::builds::{measure_chunk, measure_page, store_entry};
 use crate::checks::{apart, judge, page_in};
-use crate::gpas::{aligned, chunk_in, gpa_in, level_in, upper_level_in};
+use crate::gpas::{aligned, gpa_in, level_in, upper_level_in};
 use crate::plain::{Node, Plain, fill, take};
 use crate::td_calls::td_head;
 use crate::td_reads::BEGUN;
@@ -298,7 +298,9 @@ fn chunk_given(machine: Machine, tdr: u64, gpa: u64) -> Result<u16, Status>
 {
     let tdr = page_in(machine, 1, tdr)?;
     judge(&[gpa_in(2, gpa)])?;
-    chunk_in(2, gpa)?;
+    if gpa % 256 != 0 {
+        return Err(Status::OperandInvalid(2));
+    }
     Ok(tdr)
 }
 
