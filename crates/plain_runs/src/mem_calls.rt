@@ -17,7 +17,7 @@ use crate::gpas::{aligned, gpa_in, level_in, upper_level_in};
 use crate::plain::{Node, Plain, fill, take};
 use crate::td_calls::td_head;
 use crate::td_reads::BEGUN;
-use crate::trees::number_at;
+use crate::trees::size_of;
 use std::alloc::AllocError;
 use td_words::{EntryState, Machine, OpState, PageKind, Status, Value};
 
@@ -112,7 +112,7 @@ fn add_table(
             take(&mut plain.cells, page, PageKind::Ept, tdr);
             let node = Node {
                 level,
-                number: number_at(level, gpa),
+                number: gpa / size_of(level),
                 state: EntryState::NlMapped,
                 page,
             };
@@ -260,7 +260,7 @@ fn add_private(
             fill(&mut plain.cells, page, PageKind::Reg, tdr, &words);
             let node = Node {
                 level: 0,
-                number: number_at(0, gpa),
+                number: gpa / size_of(0),
                 state: EntryState::Mapped,
                 page,
             };

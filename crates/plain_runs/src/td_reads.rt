@@ -3,7 +3,7 @@
 ghost use Rattle.std.specs.Prelude.{◌≡◌, ◌<◌, length};
 ghost use Rattle.td_words.specs.declared.calls.Call.TheVariants as call;
 ghost use Rattle.flat_core.specs.TdRows.{read_conditions};
-ghost use Rattle.flat_core.specs.Digests.{digest_bytes, six_words};
+ghost use Rattle.flat_core.specs.Digests.{digest_bytes, digest_word, six_words};
 ghost use Rattle.plain_runs.specs.Plain.{world_of, row_in, mrtd_words, FitsMachine, Judges, Does};
 
 use crate::checks::{judge, page_in};
@@ -53,12 +53,19 @@ const ALL: [OpState; 11] = [
     OpState::FailedImport,
 ];
 
+/// A digest's bytes, which are those of its words.
+fn bytes_of(digest: [u8; 48]) -> [u8; 48]
+    ensures { result ≡ digest_bytes (six_words (digest_word digest)) }
+{
+    digest
+}
+
 /// MRTD: zeros before MR.FINALIZE, and then the digest.
 fn mrtd(digest: Option<[u8; 48]>) -> [u8; 48]
     ensures { result ≡ digest_bytes (six_words (mrtd_words digest)) }
 {
     match digest {
-        Some(bytes) => bytes,
+        Some(bytes) => bytes_of(bytes),
         None => [0; 48],
     }
 }

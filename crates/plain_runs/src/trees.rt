@@ -28,14 +28,6 @@ pub fn size_of(level: u8) -> u64
     }
 }
 
-/// The number at a level of the entry that maps a GPA.
-pub fn number_at(level: u8, gpa: u64) -> u64
-    requires { level ≤ 3 }
-    ensures { result ≡ tree.number_at level gpa }
-{
-    gpa / size_of(level)
-}
-
 /// An entry that was found, or a later one where that has the level and the number.
 fn later(found: Node, node: &Node, level: u8, number: u64) -> Node
     ensures { entry_of result ≡ (if level == node.now.level && number == node.now.number then entry_of node.now else entry_of found) }
@@ -72,7 +64,7 @@ impl Plain {
         ensures { entry_of result ≡ tree.entry_at (world_of self.now) tdr level gpa }
     {
         let build = &self.builds[usize::from(tdr)];
-        find(build.entries.as_slice(), level, number_at(level, gpa))
+        find(build.entries.as_slice(), level, gpa / size_of(level))
     }
 
     /// The entry of a level that maps a GPA is NL_MAPPED.

@@ -1,4 +1,4 @@
-use Rattle.std.proofs.Common.{◌≡◌, refl, sym, ap, ◌∙◌, ℕ, [], ◌∷◌, ◌++◌, map, get_or, Ok}
+use Rattle.std.proofs.Common.{◌≡◌, refl, sym, ap, ◌∙◌, ℕ, ◌/◌, [], ◌∷◌, ◌++◌, map, get_or, Ok}
 use mathlib.Core.Path.{fun_ext}
 use Rattle.td_words.specs.declared.calls.Call.TheVariants as call
 use Rattle.td_words.specs.declared.replies.Value.TheVariants as value
@@ -18,8 +18,8 @@ use Rattle.plain_runs.proofs.PlainCalls.{refused, done}
 use Rattle.plain_runs.proofs.MemCalls.{add_sept_asks, add_page_asks, extend_asks}
 use Rattle.plain_runs.proofs.mem_calls.add_private.Goals as goal
 
-pub returns-in-Ok-clause-does : goal.returns-in-Ok-clause-does
-returns-in-Ok-clause-does c =
+pub returns-clause-does : goal.returns-clause-does
+returns-clause-does c =
     let w = world_of c.args.plain.now in
     let t = c.args.new.tdr in
     let p = c.args.new.page in
@@ -33,6 +33,6 @@ returns-in-Ok-clause-does c =
     (add_page_asks c.args.machine w t c.args.gpa p s c.requires.given ∙ c.in-Ok.ensures) refl
     (c.in_ok-measure_page.ensures.measured cells tds keys
     ∙ ap (λ (x : World). effects.measure t (page_record c.args.gpa) x) (c.in_ok-store_entry.ensures.stored cells tds keys
-    ∙ (ap (λ (x : World). effects.set_entry t 0 c.number_at.result e x) (c.fill.ensures.filled tds builds keys
+    ∙ (ap (λ (x : World). effects.set_entry t 0 (c.args.gpa / c.size_of.result) e x) (c.fill.ensures.filled tds builds keys
     ∙ ap (λ (f : ℕ → ℕ). shown (effects.set_page p f (effects.take_page p kind.Reg t w))) (fun_ext (λ i. c.words_of.ensures i)))
-    ∙ ap (λ (n : ℕ). effects.set_entry t 0 n e (shown (effects.set_page p (w.words s) (effects.take_page p kind.Reg t w)))) c.number_at.ensures)))
+    ∙ ap (λ (n : ℕ). effects.set_entry t 0 (c.args.gpa / n) e (shown (effects.set_page p (w.words s) (effects.take_page p kind.Reg t w)))) c.size_of.ensures.size)))

@@ -1,4 +1,4 @@
-use Rattle.std.proofs.Common.{◌≡◌, refl, sym, ap, ◌∙◌, ℕ, [], ◌∷◌, ◌++◌, map, get_or, Ok}
+use Rattle.std.proofs.Common.{◌≡◌, refl, sym, ap, ◌∙◌, ℕ, ◌/◌, [], ◌∷◌, ◌++◌, map, get_or, Ok}
 use mathlib.Core.Path.{fun_ext}
 use Rattle.td_words.specs.declared.calls.Call.TheVariants as call
 use Rattle.td_words.specs.declared.replies.Value.TheVariants as value
@@ -25,8 +25,8 @@ returns-in-Err-clause-does c =
     refused (row_in c.args.machine (call.MemSeptAdd t c.args.gpa c.args.new.level c.args.new.page)) w _ refl
     (add_sept_asks c.args.machine w t c.args.gpa c.args.new.level c.args.new.page c.requires.given ∙ c.in-Err.ensures)
 
-pub returns-in-Ok-clause-does : goal.returns-in-Ok-clause-does
-returns-in-Ok-clause-does c =
+pub returns-clause-does : goal.returns-clause-does
+returns-clause-does c =
     let w = world_of c.args.plain.now in
     let t = c.args.new.tdr in
     let l = c.args.new.level in
@@ -39,5 +39,5 @@ returns-in-Ok-clause-does c =
     done (row_in c.args.machine (call.MemSeptAdd t c.args.gpa l p)) w _ value.Nothing
     (add_sept_asks c.args.machine w t c.args.gpa l p c.requires.given ∙ c.in-Ok.ensures) refl
     (c.in_ok-store_entry.ensures.stored cells tds keys
-    ∙ (ap (λ (x : World). effects.set_entry t l c.number_at.result e x) (c.take.ensures.taken tds builds keys)
-    ∙ ap (λ (n : ℕ). effects.set_entry t l n e (shown (effects.clear_page p (effects.take_page p kind.Ept t w)))) c.number_at.ensures))
+    ∙ (ap (λ (x : World). effects.set_entry t l (c.args.gpa / c.size_of.result) e x) (c.take.ensures.taken tds builds keys)
+    ∙ ap (λ (n : ℕ). effects.set_entry t l (c.args.gpa / n) e (shown (effects.clear_page p (effects.take_page p kind.Ept t w)))) c.size_of.ensures.size))

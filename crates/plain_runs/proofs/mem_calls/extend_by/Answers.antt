@@ -18,8 +18,8 @@ use Rattle.plain_runs.proofs.PlainCalls.{refused, done}
 use Rattle.plain_runs.proofs.MemCalls.{add_sept_asks, add_page_asks, extend_asks}
 use Rattle.plain_runs.proofs.mem_calls.extend_by.Goals as goal
 
-pub returns-in-Ok-clause-does : goal.returns-in-Ok-clause-does
-returns-in-Ok-clause-does c =
+pub returns-clause-does : goal.returns-clause-does
+returns-clause-does c =
     let w = world_of c.args.plain.now in
     let t = c.args.tdr in
     let gpa = c.args.gpa in
