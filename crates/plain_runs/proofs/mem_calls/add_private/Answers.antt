@@ -18,8 +18,15 @@ use Rattle.plain_runs.proofs.PlainCalls.{refused, done}
 use Rattle.plain_runs.proofs.MemCalls.{add_sept_asks, add_page_asks, extend_asks}
 use Rattle.plain_runs.proofs.mem_calls.add_private.Goals as goal
 
-pub returns-clause-does : goal.returns-clause-does
-returns-clause-does c =
+pub returns-in-Err-clause-does : goal.returns-in-Err-clause-does
+returns-in-Err-clause-does c =
+    let w = world_of c.args.plain.now in
+    let t = c.args.new.tdr in
+    refused (row_in c.args.machine (call.MemPageAdd t c.args.gpa c.args.new.page c.args.new.source)) w _ refl
+    (add_page_asks c.args.machine w t c.args.gpa c.args.new.page c.args.new.source c.requires.given ∙ c.in-Err.ensures)
+
+pub returns-in_ok-measure_page-in-Ok-clause-does : goal.returns-in_ok-measure_page-in-Ok-clause-does
+returns-in_ok-measure_page-in-Ok-clause-does c =
     let w = world_of c.args.plain.now in
     let t = c.args.new.tdr in
     let p = c.args.new.page in
@@ -31,8 +38,8 @@ returns-clause-does c =
     let e : Entry = record { state = entry.Mapped; page = p; mark = 0 } in
     done (row_in c.args.machine (call.MemPageAdd t c.args.gpa p s)) w _ value.Nothing
     (add_page_asks c.args.machine w t c.args.gpa p s c.requires.given ∙ c.in-Ok.ensures) refl
-    (c.in_ok-measure_page.ensures.measured cells tds keys
-    ∙ ap (λ (x : World). effects.measure t (page_record c.args.gpa) x) (c.in_ok-store_entry.ensures.stored cells tds keys
+    (c.in_ok-measure_page-in-Ok.ensures.measured cells tds keys
+    ∙ ap (λ (x : World). effects.measure t (page_record c.args.gpa) x) (c.in_ok-store_entry-in-Ok.ensures.stored cells tds keys
     ∙ (ap (λ (x : World). effects.set_entry t 0 (c.args.gpa / c.size_of.result) e x) (c.fill.ensures.filled tds builds keys
-    ∙ ap (λ (f : ℕ → ℕ). shown (effects.set_page p f (effects.take_page p kind.Reg t w))) (fun_ext (λ i. c.words_of.ensures i)))
+    ∙ ap (λ (f : ℕ → ℕ). shown (effects.set_page p f (effects.take_page p kind.Reg t w))) (fun_ext (λ i. c.words_of-words.ensures i)))
     ∙ ap (λ (n : ℕ). effects.set_entry t 0 (c.args.gpa / n) e (shown (effects.set_page p (w.words s) (effects.take_page p kind.Reg t w)))) c.size_of.ensures.size)))

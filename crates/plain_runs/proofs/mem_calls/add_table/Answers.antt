@@ -25,8 +25,8 @@ returns-in-Err-clause-does c =
     refused (row_in c.args.machine (call.MemSeptAdd t c.args.gpa c.args.new.level c.args.new.page)) w _ refl
     (add_sept_asks c.args.machine w t c.args.gpa c.args.new.level c.args.new.page c.requires.given ∙ c.in-Err.ensures)
 
-pub returns-clause-does : goal.returns-clause-does
-returns-clause-does c =
+pub returns-in_ok-store_entry-in-Ok-clause-does : goal.returns-in_ok-store_entry-in-Ok-clause-does
+returns-in_ok-store_entry-in-Ok-clause-does c =
     let w = world_of c.args.plain.now in
     let t = c.args.new.tdr in
     let l = c.args.new.level in
@@ -38,6 +38,6 @@ returns-clause-does c =
     let e : Entry = record { state = entry.NlMapped; page = p; mark = 0 } in
     done (row_in c.args.machine (call.MemSeptAdd t c.args.gpa l p)) w _ value.Nothing
     (add_sept_asks c.args.machine w t c.args.gpa l p c.requires.given ∙ c.in-Ok.ensures) refl
-    (c.in_ok-store_entry.ensures.stored cells tds keys
+    (c.in_ok-store_entry-in-Ok.ensures.stored cells tds keys
     ∙ (ap (λ (x : World). effects.set_entry t l (c.args.gpa / c.size_of.result) e x) (c.take.ensures.taken tds builds keys)
     ∙ ap (λ (n : ℕ). effects.set_entry t l (c.args.gpa / n) e (shown (effects.clear_page p (effects.take_page p kind.Ept t w)))) c.size_of.ensures.size))

@@ -18,13 +18,13 @@ use Rattle.plain_runs.proofs.PlainCalls.{refused, done}
 use Rattle.plain_runs.proofs.MemCalls.{add_sept_asks, add_page_asks, extend_asks}
 use Rattle.plain_runs.proofs.mem_calls.extend_by.Goals as goal
 
-pub returns-clause-does : goal.returns-clause-does
-returns-clause-does c =
+pub returns-in_ok-measure_chunk-in-Ok-clause-does : goal.returns-in_ok-measure_chunk-in-Ok-clause-does
+returns-in_ok-measure_chunk-in-Ok-clause-does c =
     let w = world_of c.args.plain.now in
     let t = c.args.tdr in
     let gpa = c.args.gpa in
     done (row_in c.args.machine (call.MrExtend t gpa)) w _ value.Nothing
     (extend_asks c.args.machine w t gpa c.requires.given ∙ c.in-Ok.ensures) refl
-    (c.in_ok-measure_chunk.ensures.measured c.args.plain.now.cells.items c.args.plain.now.tds.items c.args.plain.now.keys
-    ∙ (ap (λ (f : ℕ → ℕ). effects.measure t (chunk_records gpa (chunk_bytes f gpa)) w) (fun_ext (λ i. c.words_of.ensures i))
-    ∙ ap (λ (x : Entry). effects.measure t (chunk_records gpa (chunk_bytes (w.words x.page) gpa)) w) c.entry.ensures))
+    (c.in_ok-measure_chunk-in-Ok.ensures.measured c.args.plain.now.cells.items c.args.plain.now.tds.items c.args.plain.now.keys
+    ∙ (ap (λ (f : ℕ → ℕ). effects.measure t (chunk_records gpa (chunk_bytes f gpa)) w) (fun_ext (λ i. c.words_of-words.ensures i))
+    ∙ ap (λ (x : Entry). effects.measure t (chunk_records gpa (chunk_bytes (w.words x.page) gpa)) w) c.entry-page.ensures))
