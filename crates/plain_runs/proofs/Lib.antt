@@ -1,3 +1,5 @@
 pub mod PlainWorld
 pub mod PlainCalls
 pub mod PlainRuns
+pub mod Bytes
+pub mod MemCalls

@@ -1,10 +1,11 @@
 -- How a call that succeeds is told, item by item of its row.
-use Rattle.std.proofs.Common.{◌≡◌, refl, sym, ◌∙◌, ap, subst, ℕ, ◌<◌, ◌≤◌, List, [], ◌∷◌, ◌++◌, ◌+◌, length, get_or, set, Option, None, Bool, true, false, ◌&&◌, Ok, nat_lt, nat_le}
+use Rattle.std.proofs.Common.{◌≡◌, refl, sym, ◌∙◌, ap, subst, ℕ, ◌<◌, ◌≤◌, List, [], ◌∷◌, ◌++◌, ◌+◌, length, get_or, set, Option, Some, None, Bool, true, false, ◌&&◌, Result, Ok, Err, nat_lt, nat_le}
 use Rattle.std.proofs.lemmas.Bool.{lt-ltb, le-leb}
 use Rattle.td_words.specs.declared.machines.Machine.{Machine}
 use Rattle.td_words.specs.declared.replies.Value.{Value}
 use Rattle.td_words.specs.declared.replies.Reply.{Reply}
-use Rattle.td_words.specs.declared.replies.Reply.TheVariants.{Done}
+use Rattle.td_words.specs.declared.replies.Reply.TheVariants.{Done, Refused}
+use Rattle.td_words.specs.declared.refusals.Status.{Status}
 use Rattle.td_words.specs.declared.names.LifeState.{LifeState}
 use Rattle.td_words.specs.declared.names.LifeState.TheVariants as life
 use Rattle.td_words.specs.declared.names.OpState.{OpState}
@@ -19,7 +20,7 @@ use Rattle.flat_alone.specs.Whole.{first_fault, reply_unless, world_unless}
 use Rattle.plain_runs.specs.declared.plain.Cell.{Cell}
 use Rattle.plain_runs.specs.declared.plain.Td.{Td}
 use Rattle.plain_runs.specs.declared.plain.Owner.{Owner}
-use Rattle.plain_runs.specs.Plain.{world_in, shown, key_of, no_td, Does}
+use Rattle.plain_runs.specs.Plain.{world_in, shown, key_of, no_td, BuildSeen, Judges, Does}
 use Rattle.plain_runs.proofs.PlainWorld.{key_set, same_default}
 
 pub passes : (b : Bool) (r : Reply) (items : List (Item Reply)) → b ≡ true → first_fault (Check b r ∷ items) ≡ first_fault items
@@ -36,10 +37,14 @@ after_head (Check true r ∷ xs) ys e = after_head xs ys e
 after_head (Check false r ∷ xs) ys e = cc
 after_head (Try l m ∷ xs) ys e = after_head xs ys e
 
-same_after : (x : Item Reply) (xs ys : List (Item Reply)) → first_fault xs ≡ first_fault ys → first_fault (x ∷ xs) ≡ first_fault (x ∷ ys)
+pub same_after : (x : Item Reply) (xs ys : List (Item Reply)) → first_fault xs ≡ first_fault ys → first_fault (x ∷ xs) ≡ first_fault (x ∷ ys)
 same_after (Check true r) xs ys e = e
 same_after (Check false r) xs ys e = refl
 same_after (Try l m) xs ys e = e
+
+pub same_behind : (xs ys zs : List (Item Reply)) → first_fault ys ≡ first_fault zs → first_fault (xs ++ ys) ≡ first_fault (xs ++ zs)
+same_behind [] ys zs e = e
+same_behind (x ∷ xs) ys zs e = same_after x _ _ (same_behind xs ys zs e)
 
 pub one_item : (x y : Item Reply) → x ≡ y → first_fault (x ∷ []) ≡ None → first_fault (y ∷ []) ≡ None
 one_item x y e h = sym (ap (λ (z : Item Reply). first_fault (z ∷ [])) e) ∙ h
@@ -62,6 +67,30 @@ any_mode w t ops = same_after (conditions.root w t) _ _ (same_after (conditions.
 pub td_passes : (w : World) (t : ℕ) (ops : List OpState) → first_fault (conditions.td_shared w t ops) ≡ None → first_fault (conditions.td_exclusive w t ops) ≡ None
 td_passes w t ops h = any_mode w t ops ∙ h
 
+pub any_mode_before : (w : World) (t : ℕ) (ops : List OpState) (items : List (Item Reply)) → first_fault (conditions.td_exclusive w t ops ++ items) ≡ first_fault (conditions.td_shared w t ops ++ items)
+any_mode_before w t ops items = same_after (conditions.root w t) _ _ (same_after (conditions.life_in w t (life.KeysConfigured ∷ [])) _ _ (same_after (conditions.tdcx_count w t 2) _ _ refl))
+
+-- a row that an item refuses, and one that nothing refuses
+pub refused : (row : Row) (w : World) (e : Status) → w ≡ shown w → first_fault (row.items w) ≡ Some (Refused e) → Does row w w (Err e)
+refused row w e same h = record {
+  replies = ap (λ (f : Option Reply). reply_unless f row w) (sym h);
+  leaves = same ∙ ap (λ (f : Option Reply). shown (world_unless f row w)) (sym h);
+}
+
+pub done : (row : Row) (w w' : World) (v : Value) → first_fault (row.items w) ≡ None → v ≡ row.value w → w' ≡ shown (row.act w) → Does row w w' (Ok v)
+done row w w' v none value after = record {
+  replies = ap (λ (x : Value). Done x) value ∙ ap (λ (f : Option Reply). reply_unless f row w) (sym none);
+  leaves = after ∙ ap (λ (f : Option Reply). shown (world_unless f row w)) (sym none);
+}
+
+-- the last of a row's conditions are judged
+pub judged_behind : {A : Type 0} (xs ys : List (Item Reply)) (r : Result A Status) → first_fault xs ≡ None → Judges ys r → Judges (xs ++ ys) r
+judged_behind xs ys (Ok a) h e = after_head xs ys h ∙ e
+judged_behind xs ys (Err s) h e = after_head xs ys h ∙ e
+
+pub two_judged : {A : Type 0} (x y x' y' : Item Reply) (r : Result A Status) → x ≡ x' → y ≡ y' → Judges (x ∷ y ∷ []) r → Judges (x' ∷ y' ∷ []) r
+two_judged x y x' y' r e f h = subst (λ (z : Item Reply). Judges (x' ∷ z ∷ []) r) f (subst (λ (z : Item Reply). Judges (z ∷ y ∷ []) r) e h)
+
 -- a row that nothing refuses, at the number that an argument is
 pub does_at : (rows : ℕ → Row) (p q : ℕ) (w w' : World) (v : Value) → p ≡ q → first_fault ((rows p).items w) ≡ None → v ≡ (rows p).value w → w' ≡ shown ((rows p).act w)
     → Does (rows q) w w' (Ok v)
@@ -79,12 +108,12 @@ none_associated [] = refl
 none_associated (v ∷ vs) = ap (λ n. 0 + n) (none_associated vs)
 
 -- the TD's HKID changes with its life state
-pub key_after_life : (cells : List Cell) (tds tds' : List Td) (keys : List Owner) (t h : ℕ) (s : LifeState) (o : Owner)
-    → world_in cells tds' keys ≡ effects.set_life t s (world_in cells tds keys) → h < length keys → h ≡ (get_or tds t no_td).hkid
-    → world_in cells tds' (set keys h o) ≡ shown (effects.set_key ((get_or tds t no_td).hkid) (key_of o) (effects.set_life t s (world_in cells tds keys)))
-key_after_life cells tds tds' keys t h s o e small is =
-    key_set cells tds' keys h o small
-    ∙ (ap (λ (w : World). effects.set_key h (key_of o) w) e ∙ ap (λ (n : ℕ). effects.set_key n (key_of o) (effects.set_life t s (world_in cells tds keys))) is)
+pub key_after_life : (cells : List Cell) (tds tds' : List Td) (builds : List BuildSeen) (keys : List Owner) (t h : ℕ) (s : LifeState) (o : Owner)
+    → world_in cells tds' builds keys ≡ effects.set_life t s (world_in cells tds builds keys) → h < length keys → h ≡ (get_or tds t no_td).hkid
+    → world_in cells tds' builds (set keys h o) ≡ shown (effects.set_key ((get_or tds t no_td).hkid) (key_of o) (effects.set_life t s (world_in cells tds builds keys)))
+key_after_life cells tds tds' builds keys t h s o e small is =
+    key_set cells tds' builds keys h o small
+    ∙ (ap (λ (w : World). effects.set_key h (key_of o) w) e ∙ ap (λ (n : ℕ). effects.set_key n (key_of o) (effects.set_life t s (world_in cells tds builds keys))) is)
 
 pub hkid_read : (tds : List Td) (t i h : ℕ) (td : Td) → h ≡ td.hkid → i ≡ t → td ≡ get_or tds i td → t < length tds → h ≡ (get_or tds t no_td).hkid
 hkid_read tds t i h td e is here small = e ∙ ap (λ (x : Td). x.hkid) (here ∙ (ap (λ n. get_or tds n td) is ∙ same_default tds t td no_td small))

@@ -39,9 +39,13 @@ same_row o p (call.MngInit tdr) = refl
 same_row o p (call.MngRd tdr f) = refl
 same_row o p (call.MngVpflushdone tdr) = refl
 same_row o p (call.MngKeyFreeid tdr) = refl
+same_row o p (call.MrExtend tdr gpa) = refl
 same_row o p (call.MrFinalize tdr) = refl
 same_row o p (call.VpCreate tdr page) = refl
 same_row o p (call.VpInit tdr vp v) = refl
+same_row o p (call.MemSeptAdd tdr gpa level page) = refl
+same_row o p (call.MemSeptRd tdr gpa level) = refl
+same_row o p (call.MemPageAdd tdr gpa page source) = refl
 
 same_reclaim : (tdr page : ℕ) (is : Bool) (w : World) → reclaim_conditions w tdr page is ≡ reclaim_conditions (shown w) tdr page is
 same_reclaim tdr page true w = refl
@@ -63,9 +67,13 @@ same_items m (call.MngRd tdr field.Epoch) w = refl
 same_items m (call.MngRd tdr field.Mrtd) w = refl
 same_items m (call.MngVpflushdone tdr) w = refl
 same_items m (call.MngKeyFreeid tdr) w = refl
+same_items m (call.MrExtend tdr gpa) w = refl
 same_items m (call.MrFinalize tdr) w = refl
 same_items m (call.VpCreate tdr page) w = refl
 same_items m (call.VpInit tdr vp v) w = refl
+same_items m (call.MemSeptAdd tdr gpa level page) w = refl
+same_items m (call.MemSeptRd tdr gpa level) w = refl
+same_items m (call.MemPageAdd tdr gpa page source) w = refl
 
 same_value : (m : Machine) (c : Call) (w : World) → (row_in m c).value w ≡ (row_in m c).value (shown w)
 same_value m (call.HostRead page word) w = refl
@@ -83,9 +91,13 @@ same_value m (call.MngRd tdr field.Epoch) w = refl
 same_value m (call.MngRd tdr field.Mrtd) w = refl
 same_value m (call.MngVpflushdone tdr) w = refl
 same_value m (call.MngKeyFreeid tdr) w = refl
+same_value m (call.MrExtend tdr gpa) w = refl
 same_value m (call.MrFinalize tdr) w = refl
 same_value m (call.VpCreate tdr page) w = refl
 same_value m (call.VpInit tdr vp v) w = refl
+same_value m (call.MemSeptAdd tdr gpa level page) w = refl
+same_value m (call.MemSeptRd tdr gpa level) w = refl
+same_value m (call.MemPageAdd tdr gpa page source) w = refl
 
 same_act : (m : Machine) (c : Call) (w : World) → shown ((row_in m c).act w) ≡ shown ((row_in m c).act (shown w))
 same_act m (call.HostRead page word) w = refl
@@ -100,9 +112,13 @@ same_act m (call.MngInit tdr) w = refl
 same_act m (call.MngRd tdr f) w = refl
 same_act m (call.MngVpflushdone tdr) w = refl
 same_act m (call.MngKeyFreeid tdr) w = refl
+same_act m (call.MrExtend tdr gpa) w = refl
 same_act m (call.MrFinalize tdr) w = refl
 same_act m (call.VpCreate tdr page) w = refl
 same_act m (call.VpInit tdr vp v) w = refl
+same_act m (call.MemSeptAdd tdr gpa level page) w = refl
+same_act m (call.MemSeptRd tdr gpa level) w = refl
+same_act m (call.MemPageAdd tdr gpa page source) w = refl
 
 same_reply : (m : Machine) (c : Call) (w : World) → row_reply (row_in m c) w ≡ row_reply (row_in m c) (shown w)
 same_reply m c w = ap (λ (items : List (Item Reply)). reply_unless (first_fault items) (row_in m c) w) (same_items m c w) ∙ by (first_fault ((row_in m c).items (shown w)))

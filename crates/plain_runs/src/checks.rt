@@ -46,13 +46,13 @@ pub fn page_in(machine: Machine, place: u8, page: u64) -> Result<u16, Status>
     }
 }
 
-/// The second argument names another page than the first.
-pub fn apart(page: u16, tdr: u16) -> Check
-    ensures { item_of result ≡ arguments.apart_argument 2 page tdr }
+/// The argument at that place names another page than an earlier one.
+pub fn apart(place: u8, page: u16, earlier: u16) -> Check
+    ensures { item_of result ≡ arguments.apart_argument place page earlier }
 {
     Check {
-        holds: page != tdr,
-        otherwise: Status::OperandInvalid(2),
+        holds: page != earlier,
+        otherwise: Status::OperandInvalid(place),
     }
 }
 
@@ -288,7 +288,7 @@ fn is_child(cell: &Cell, page: usize, tdr: u16) -> bool
 
 /// How many pages a TD owns, its TDR page aside.
 fn children(cells: &[Cell], tdr: u16) -> u64
-    ensures { result ≡ conditions.owned_below (world_in cells.now [] []).pages tdr (length cells.now) }
+    ensures { result ≡ conditions.owned_below (world_in cells.now [] [] []).pages tdr (length cells.now) }
 {
     let mut count = 0;
     for page in 0..cells.len() {

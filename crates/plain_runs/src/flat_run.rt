@@ -31,7 +31,7 @@ fn replies(
 {
     let mut replies = Vec::with_capacity(alloc, calls.len())?;
     for call in calls {
-        let reply = perform(machine, plain, call);
+        let reply = perform(machine, plain, call)?;
         replies.push(reply)?;
     }
     Ok(replies)

@@ -5,6 +5,7 @@ ghost use Rattle.td_words.specs.declared.calls.Call.TheVariants as call;
 ghost use Rattle.flat_core.specs.Conditions as conditions;
 ghost use Rattle.plain_runs.specs.Plain.{world_of, row_in, FitsMachine, Judges, Does};
 
+use crate::builds::{begin_build, begin_measuring, digest};
 use crate::checks::{apart, judge, page_in};
 use crate::plain::{Owner, Plain, new_td, set_life, take};
 use td_words::{LifeState, Machine, OpState, PageKind, Status, Value};
@@ -58,6 +59,7 @@ pub fn create(machine: Machine, plain: &mut Plain, tdr: u64, hkid: u64) -> Resul
     judge(&[plain.host_page(tdr), plain.hkid_free(hkid)])?;
     take(&mut plain.cells, tdr, PageKind::Tdr, tdr);
     plain.tds[usize::from(tdr)] = new_td(hkid);
+    begin_build(&mut plain.builds, tdr);
     plain.keys[usize::from(hkid)] = Owner::Assigned(tdr);
     Ok(Value::Nothing)
 }
@@ -70,7 +72,7 @@ pub fn add_tdcx(machine: Machine, plain: &mut Plain, tdr: u64, page: u64) -> Res
 {
     let tdr = page_in(machine, 1, tdr)?;
     let page = page_in(machine, 2, page)?;
-    judge(&[apart(page, tdr)])?;
+    judge(&[apart(2, page, tdr)])?;
     life_head(plain, tdr, &[LifeState::KeysConfigured])?;
     judge(&[plain.tdcx_room(tdr), plain.host_page(page)])?;
     take(&mut plain.cells, page, PageKind::Tdcx, tdr);
@@ -89,10 +91,11 @@ pub fn initialize(machine: Machine, plain: &mut Plain, tdr: u64) -> Result<Value
     let td = &mut plain.tds[usize::from(tdr)];
     td.op = OpState::Initialized;
     td.epoch = 1;
+    begin_measuring(&mut plain.builds, tdr);
     Ok(Value::Nothing)
 }
 
-/// MR.FINALIZE TDR. No call that is built measures.
+/// MR.FINALIZE TDR.
 pub fn finalize(machine: Machine, plain: &mut Plain, tdr: u64) -> Result<Value, Status>
     requires { FitsMachine machine plain.old }
     ensures fits { FitsMachine machine plain.new }
@@ -101,8 +104,9 @@ pub fn finalize(machine: Machine, plain: &mut Plain, tdr: u64) -> Result<Value, 
     let tdr = page_in(machine, 1, tdr)?;
     td_head(plain, tdr, &[OpState::Initialized])?;
     judge(&[plain.vps_ready(tdr)])?;
+    let mrtd = digest(plain.builds[usize::from(tdr)].measured.as_slice());
     let td = &mut plain.tds[usize::from(tdr)];
     td.op = OpState::Runnable;
-    td.finished = true;
+    td.mrtd = Some(mrtd);
     Ok(Value::Nothing)
 }

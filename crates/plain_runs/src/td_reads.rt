@@ -3,14 +3,12 @@
 ghost use Rattle.std.specs.Prelude.{◌≡◌, ◌<◌, length};
 ghost use Rattle.td_words.specs.declared.calls.Call.TheVariants as call;
 ghost use Rattle.flat_core.specs.TdRows.{read_conditions};
-ghost use Rattle.flat_core.specs.Digests.{digest_bytes, six_words};
-ghost use Rattle.plain_runs.specs.Plain.{world_of, row_in, mrtd_if, FitsMachine, Judges, Does};
+ghost use Rattle.flat_core.specs.Digests.{digest_bytes, digest_word, six_words};
+ghost use Rattle.plain_runs.specs.Plain.{world_of, row_in, mrtd_words, FitsMachine, Judges, Does};
 
 use crate::checks::{judge, page_in};
 use crate::plain::Plain;
 use crate::td_calls::td_head;
-use flat_core::row_laws;
-use mrtd_measure::Measure;
 use td_words::{Machine, OpState, ReadField, Status, Value};
 
 /// The operation states of a TD that is built, or is imported.
@@ -27,7 +25,7 @@ const LATER: [OpState; 9] = [
 ];
 
 /// With the one of a TD that is being built.
-const BEGUN: [OpState; 10] = [
+pub const BEGUN: [OpState; 10] = [
     OpState::Initialized,
     OpState::Runnable,
     OpState::LiveExport,
@@ -55,15 +53,20 @@ const ALL: [OpState; 11] = [
     OpState::FailedImport,
 ];
 
-/// MRTD: zeros before MR.FINALIZE, and then the digest of no record.
-fn mrtd(finished: bool) -> [u8; 48]
-    ensures { result ≡ digest_bytes (six_words (mrtd_if finished)) }
+/// A digest's bytes, which are those of its words.
+fn bytes_of(digest: [u8; 48]) -> [u8; 48]
+    ensures { result ≡ digest_bytes (six_words (digest_word digest)) }
 {
-    row_laws();
-    if finished {
-        Measure::new().finish()
-    } else {
-        [0; 48]
+    digest
+}
+
+/// MRTD: zeros before MR.FINALIZE, and then the digest.
+fn mrtd(digest: Option<[u8; 48]>) -> [u8; 48]
+    ensures { result ≡ digest_bytes (six_words (mrtd_words digest)) }
+{
+    match digest {
+        Some(bytes) => bytes_of(bytes),
+        None => [0; 48],
     }
 }
 
@@ -93,6 +96,6 @@ pub fn read_td(machine: Machine, plain: &Plain, tdr: u64, field: ReadField) -> R
         ReadField::Life => Value::Life(td.life),
         ReadField::Op => Value::Op(td.op),
         ReadField::Epoch => Value::Number(td.epoch),
-        ReadField::Mrtd => Value::Digest(mrtd(td.finished)),
+        ReadField::Mrtd => Value::Digest(mrtd(td.mrtd)),
     })
 }

@@ -16,7 +16,7 @@ pub fn create_vp(machine: Machine, plain: &mut Plain, tdr: u64, page: u64) -> Re
 {
     let tdr = page_in(machine, 1, tdr)?;
     let page = page_in(machine, 2, page)?;
-    judge(&[apart(page, tdr)])?;
+    judge(&[apart(2, page, tdr)])?;
     td_head(plain, tdr, &[OpState::Initialized, OpState::MemoryImport])?;
     judge(&[plain.vp_room(tdr), plain.host_page(page)])?;
     take(&mut plain.cells, page, PageKind::Tdvpr, tdr);
@@ -39,7 +39,7 @@ pub fn initialize_vp(
 {
     let tdr = page_in(machine, 1, tdr)?;
     let vp = page_in(machine, 2, vp)?;
-    judge(&[apart(vp, tdr)])?;
+    judge(&[apart(2, vp, tdr)])?;
     td_head(plain, tdr, &[OpState::Initialized])?;
     judge(&[
         plain.td_page(tdr, vp, PageKind::Tdvpr),

@@ -1,4 +1,4 @@
-use Rattle.std.proofs.Common.{◌≡◌, ◌∙◌, refl, sym, ap, get_or, ◌<◌, length, nat_lt, arith}
+use Rattle.std.proofs.Common.{◌≡◌, ◌∙◌, refl, sym, ap, get_or, ◌<◌, length, map, nat_lt, arith}
 use Rattle.td_words.specs.declared.calls.Call.TheVariants as call
 use Rattle.td_words.specs.declared.replies.Value.TheVariants as value
 use Rattle.flat_core.specs.Conditions.{same_kind}
@@ -6,7 +6,7 @@ use Rattle.std.proofs.lemmas.Bool.{lt-ltb}
 use Rattle.td_words.specs.declared.names.PageKind.{PageKind}
 use Rattle.td_words.specs.declared.names.PageKind.TheVariants as kind
 use Rattle.plain_runs.specs.declared.plain.Cell.{Cell}
-use Rattle.plain_runs.specs.Plain.{world_of, row_in, blank}
+use Rattle.plain_runs.specs.Plain.{world_of, row_in, blank, seen}
 use Rattle.plain_runs.proofs.PlainCalls.{page_passes, passes, does_at}
 use Rattle.plain_runs.proofs.PlainWorld.{word_set, same_default}
 use Rattle.plain_runs.proofs.host_calls.host_write.Goals as goal
@@ -22,4 +22,4 @@ returns-in-Nda-clause-does c =
     does_at (λ x. row_in c.args.machine (call.HostWrite x c.args.word c.args.value)) p c.args.page w _ value.Nothing c.in_ok-page.ensures.0
     (page_passes c.args.machine 1 p _ (omega (arith, c.in_ok-page.ensures)) ∙ (passes (nat_lt c.args.word 512) _ _ (lt-ltb c.args.word 512 c.if-word-ge512.false)
     ∙ passes _ _ _ (ap (λ (x : Cell). same_kind x.kind kind.Nda) (same_default cells p blank cell small ∙ sym is) ∙ ap (λ (x : PageKind). same_kind x kind.Nda) c.in-Nda.is))) refl
-    (rw c.from.ensures (word_set cells p c.args.word c.args.value cell c.args.plain.now.tds.items c.args.plain.now.keys small is (omega arith)))
+    (rw c.from.ensures (word_set cells p c.args.word c.args.value cell c.args.plain.now.tds.items (map seen c.args.plain.now.builds.items) c.args.plain.now.keys small is (omega arith)))

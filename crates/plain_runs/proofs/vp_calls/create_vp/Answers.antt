@@ -1,4 +1,4 @@
-use Rattle.std.proofs.Common.{◌∙◌, refl, ap, ◌<◌, ◌∷◌, [], length, arith}
+use Rattle.std.proofs.Common.{◌∙◌, refl, ap, ◌<◌, ◌∷◌, [], length, map, arith}
 use Rattle.td_words.specs.declared.calls.Call.TheVariants as call
 use Rattle.td_words.specs.declared.replies.Value.TheVariants as value
 use Rattle.td_words.specs.declared.names.PageKind.TheVariants as kind
@@ -7,7 +7,7 @@ use Rattle.td_words.specs.declared.names.VcpuState.TheVariants as vcpu
 use Rattle.flat_core.specs.Conditions as conditions
 use Rattle.flat_core.specs.World.{World, Tds}
 use Rattle.flat_core.specs.Effects as effects
-use Rattle.plain_runs.specs.Plain.{world_of, row_in, world_in}
+use Rattle.plain_runs.specs.Plain.{world_of, row_in, world_in, built_of, seen}
 use Rattle.plain_runs.proofs.PlainCalls.{two_pages, td_passes, after_head, two_tried, does_at_two}
 use Rattle.plain_runs.proofs.PlainWorld.{vp_added, none_put, with_vp}
 use Rattle.plain_runs.proofs.vp_calls.create_vp.Goals as goal
@@ -17,6 +17,7 @@ returns-clause-does c =
     let w = world_of c.args.plain.now in
     let p = c.in_ok-tdr.tdr in
     let tds = c.args.plain.now.tds.items in
+    let builds = map seen c.args.plain.now.builds.items in
     let keys = c.args.plain.now.keys in
     let small : p < length tds = omega (arith, c.in_ok-tdr.ensures) in
     let q = c.in_ok-page.page in
@@ -24,6 +25,6 @@ returns-clause-does c =
     does_at_two (λ t x. row_in c.args.machine (call.VpCreate t x)) p q c.args.tdr c.args.page w _ value.Nothing c.in_ok-tdr.ensures.0 c.in_ok-page.ensures.0
     (two_pages c.args.machine p q _ _ (omega (arith, c.in_ok-tdr.ensures)) (omega (arith, c.in_ok-page.ensures)) c.apart.ensures c.in_ok-judge.ensures
     ∙ (after_head (conditions.td_exclusive w p ops) _ (td_passes w p ops c.in_ok-td_head.ensures) ∙ two_tried _ _ _ _ _ _ c.vp_room.ensures c.host_page.ensures c.in_ok-judge-2.ensures)) refl
-    (rw c.from.ensures (ap (λ (x : Tds). record (world_in c.set_vcpu.new.cells.items tds keys) { tds = x }) (vp_added tds p q c.index_mut.result.now c.push.new.self small (rw c.from.ensures at c.index_mut.ensures.value) c.push.ensures.items)
-    ∙ (ap (with_vp p q) (c.set_vcpu.ensures.set tds keys ∙ ap (λ (x : World). effects.set_vp_state q vcpu.Created x) (c.take.ensures.taken tds keys))
+    (rw c.from.ensures (ap (λ (x : Tds). record (world_in c.set_vcpu.new.cells.items tds builds keys) { tds = built_of builds x }) (vp_added tds p q c.index_mut.result.now c.push.new.self small (rw c.from.ensures at c.index_mut.ensures.value) c.push.ensures.items)
+    ∙ (ap (with_vp p q) (c.set_vcpu.ensures.set tds builds keys ∙ ap (λ (x : World). effects.set_vp_state q vcpu.Created x) (c.take.ensures.taken tds builds keys))
     ∙ none_put p q (effects.clear_page q (effects.take_page q kind.Tdvpr p w)) refl)))

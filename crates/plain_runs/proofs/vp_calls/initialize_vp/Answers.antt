@@ -15,4 +15,4 @@ returns-clause-does c =
     does_at_two (λ t x. row_in c.args.machine (call.VpInit t x c.args.value)) p q c.args.tdr c.args.vp w _ value.Nothing c.in_ok-tdr.ensures.0 c.in_ok-vp.ensures.0
     (two_pages c.args.machine p q _ _ (omega (arith, c.in_ok-tdr.ensures)) (omega (arith, c.in_ok-vp.ensures)) c.apart.ensures c.in_ok-judge.ensures
     ∙ (after_head (conditions.td_shared w p (op.Initialized ∷ [])) _ c.in_ok-td_head.ensures ∙ two_items _ _ _ _ c.td_page.ensures c.vp_in.ensures c.in_ok-judge-2.ensures)) refl
-    (c.set_vcpu.ensures.set _ _)
+    (c.set_vcpu.ensures.set _ _ _)
