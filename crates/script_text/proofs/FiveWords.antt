@@ -1,5 +1,5 @@
 -- Five words behind the first tell what a line says: no line that counts its words has more than four there.
-use Rattle.std.proofs.Common.{◌≡◌, ℕ, ◌≤◌, List, [], ◌∷◌, length, map, take, Bool, true, false, not, cond, leb, ◌==◌, ◌&&◌, Option, Some, None, Result, Ok, Err, refl, sym, ◌∙◌, arith}
+use Rattle.std.proofs.Common.{◌≡◌, ℕ, ◌≤◌, List, [], ◌∷◌, length, map, take, Bool, true, false, cond, leb, ◌==◌, ◌&&◌, Option, Some, None, Result, Err, refl, sym, ◌∙◌, arith}
 use Rattle.std.specs.List.{list_all}
 use Rattle.std.specs.Str.{bytes_eq}
 use Rattle.std.proofs.lemmas.Bool.{and_parts}

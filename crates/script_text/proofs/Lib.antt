@@ -9,3 +9,4 @@ pub mod Items
 pub mod Spelled
 pub mod InRange
 pub mod FiveWords
+pub mod Ordered

@@ -1,5 +1,5 @@
 -- Laws of scripts in a reader's terms.
-use Rattle.std.specs.Prelude.{◌≡◌, ℕ, ◌+◌, ◌^◌, ◌<◌, ◌≤◌, List, [], ◌∷◌, ◌++◌, length, Ok, Err}
+use Rattle.std.specs.Prelude.{◌≡◌, ℕ, ◌+◌, ◌^◌, ◌<◌, ◌≤◌, List, [], ◌∷◌, ◌++◌, length, find, option_map, Ok, Err}
 use Rattle.std.specs.List.{All}
 use Rattle.script_text.specs.declared.faults.Reason.{Reason}
 use Rattle.script_text.specs.declared.faults.Reason.TheVariants as reason
@@ -8,6 +8,7 @@ use Rattle.script_text.specs.Seen.{ScriptSeen}
 use Rattle.script_text.specs.Words.{pieces}
 use Rattle.script_text.specs.Reading.{SoFar, nothing_yet, line_of, ended_of, read_of}
 use Rattle.script_text.specs.Spelling.{FitsCall, script_text}
+use Rattle.script_text.specs.Reasons.{fault_in, line_reasons, holds_at, end_reasons, holds_at_end}
 
 -- a script as the grammar has it: a machine within the limits, a schedule of its processors, and a list of calls for each
 pub record IsInForm (s : ScriptSeen) : Type 0 where
@@ -55,3 +56,9 @@ pub record FaultsAreFirst : Type 0 where
   pub names : (bytes : List ℕ) (n : ℕ) (r : Reason) → length bytes ≤ 2 ^ 24 → read_of bytes ≡ Err (Bad n r) → FirstBad bytes n r
   pub found : (bytes : List ℕ) (n : ℕ) (r : Reason) → length bytes ≤ 2 ^ 24 → FirstBad bytes n r → read_of bytes ≡ Err (Bad n r)
   pub long : (bytes : List ℕ) → 2 ^ 24 < length bytes → read_of bytes ≡ Err (Bad 0 reason.Length)
+
+-- the fault of a line, and of the end of a script, is the first of its reasons, in their order, that holds behind the lines
+-- before; where none holds, it has none
+pub record ReasonsInOrder : Type 0 where
+  pub in_line : (d : SoFar) (line : List ℕ) → fault_in (line_of d line) ≡ find (holds_at d line) line_reasons
+  pub at_end : (d : SoFar) (n : ℕ) (rest : List ℕ) → fault_in (ended_of d n rest) ≡ option_map (Bad n) (find (holds_at_end d rest) end_reasons)

@@ -8,4 +8,5 @@ pub mod Schedule
 pub mod Reading
 pub mod Blocks
 pub mod Spelling
+pub mod Reasons
 pub mod Laws

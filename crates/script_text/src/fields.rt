@@ -50,8 +50,7 @@ pub fn slot_place(call: CallName) -> Option<usize>
     }
 }
 
-/// The output slot that a number is: RANGE above 4,095, SLOT where an earlier line named it, as
-/// `named` says.
+/// The output slot that a number is: RANGE above 4,095, SLOT where an earlier line `named` it.
 pub fn output_slot(named: &[bool], number: u64) -> Result<u16, Reason>
     ensures { result ≡ slot_of named.now number }
 {

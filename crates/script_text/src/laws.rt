@@ -1,6 +1,6 @@
 //! What the layers above may rest on, as contracts of functions that do nothing.
 
-ghost use Rattle.script_text.specs.Laws.{ScriptsAreInForm, ScriptsReadAgain, FaultsAreFirst};
+ghost use Rattle.script_text.specs.Laws.{ScriptsAreInForm, ScriptsReadAgain, FaultsAreFirst, ReasonsInOrder};
 
 /// Each script that is read has a machine within the limits, at most 2^20 schedule items, each one
 /// of its processors, and for each processor one list of at most 4,096 calls.
@@ -16,4 +16,9 @@ pub fn scripts_read_again()
 /// A fault names a bad line before which all lines are good, and each such line is the fault.
 pub fn faults_are_first()
     ensures { FaultsAreFirst }
+{}
+
+/// The fault of a line, and of a script's end, is the first reason that holds, each by itself.
+pub fn reasons_in_order()
+    ensures { ReasonsInOrder }
 {}

@@ -53,8 +53,7 @@ pub fn number(word: &[u8]) -> Option<u64>
     }
 }
 
-/// What the first words of a text are as numbers, at most five: no line that counts its words has
-/// more than four behind its first, so five tell whether there are too many.
+/// What the first words of a text are as numbers, at most five: they tell if there are too many.
 pub fn first_numbers(alloc: Global, text: &[u8]) -> Result<Vec<Option<u64>>, AllocError>
     ensures { IfOk result (λ v. v.items ≡ map number (take 5 (words text.now))) }
 {

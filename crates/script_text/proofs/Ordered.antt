@@ -1,0 +1,331 @@
+-- A line's fault is the first reason that holds.
+use Rattle.std.proofs.Common.{◌≡◌, ℕ, ◌+◌, ◌^◌, ◌≤◌, List, [], ◌∷◌, ◌++◌, length, map, find, option_map, get_or, replicate, Bool, true, false, not, cond, leb, ltb, ◌==◌, ◌&&◌, Option, Some, None, Result, Ok, Err, refl, ap, sym, ◌∙◌, arith}
+use Rattle.std.specs.Prelude.{is_some, unwrap_or, codes}
+use Rattle.std.specs.List.{list_all}
+use Rattle.std.specs.Str.{bytes_eq}
+use Rattle.std.proofs.lemmas.Bool.{and_parts}
+use Rattle.std.proofs.lemmas.List.{length-append, length-replicate, length-map}
+use Rattle.td_words.specs.declared.calls.Call.{Call}
+use Rattle.td_words.specs.declared.machines.Machine.{Machine}
+use Rattle.td_words.specs.declared.names.ReadField.{ReadField}
+use Rattle.td_words.specs.declared.names.ReadField.TheVariants as field
+use Rattle.script_text.specs.declared.faults.Reason.{Reason}
+use Rattle.script_text.specs.declared.faults.Reason.TheVariants as reason
+use Rattle.script_text.specs.declared.faults.ScriptFault.TheVariants.{Bad}
+use Rattle.script_text.specs.declared.lines.Entry.{Entry}
+use Rattle.script_text.specs.declared.lines.Entry.TheVariants as entry
+use Rattle.script_text.specs.declared.lines.Keyword.{Keyword}
+use Rattle.script_text.specs.declared.lines.Keyword.TheVariants as keyword
+use Rattle.script_text.specs.declared.mnemonics.CallName.{CallName}
+use Rattle.script_text.specs.declared.mnemonics.CallName.TheVariants as name
+use Rattle.script_text.specs.declared.mnemonics.Mnemonic.{Mnemonic}
+use Rattle.script_text.specs.declared.schedules.Turns.{Turns}
+use Rattle.script_text.specs.Blocks.{field_of}
+use Rattle.script_text.specs.Line.{◌>>=◌, keyword_of, in_limits, machine_of, block_of, end_of, built_of, are_given, judged_of, call_of, first_of, outside_of, inside_of, placed_of, entry_of}
+use Rattle.script_text.specs.Mnemonics.{mnemonics, mnemonic_in}
+use Rattle.script_text.specs.Number.{number}
+use Rattle.script_text.specs.Reading.{SoFar, entered_of, worded_of, line_of, script_of, ended_of}
+use Rattle.script_text.specs.Reasons.{fault_in, line_reasons, end_reasons, times_of, turns_count, names_no_field, is_built, holds_of, holds_in, holds_at, holds_at_end}
+use Rattle.script_text.specs.Schedule.{item_of, turns_in, written_of, schedule_of}
+use Rattle.script_text.specs.Words.{words, is_printable, is_comment}
+use Rattle.script_text.specs.Laws.{ReasonsInOrder}
+
+-- all reasons but BYTE
+abbrev behind_byte : List Reason
+behind_byte = reason.Machine ∷ reason.Place ∷ reason.Word ∷ reason.Unbuilt ∷ reason.Count ∷ reason.Number ∷ reason.Name ∷ reason.Range ∷ reason.Repeated ∷ reason.Full ∷ []
+
+-- one test after the other
+fault_if : {A : Type 0} (b : Bool) (r : Reason) (x : Result A Reason) (y : Option Reason) → fault_in x ≡ y → fault_in (cond b (Err r) x) ≡ cond b (Some r) y
+fault_if true r x y h = refl
+fault_if false r x y h = h
+
+fault_then : {A B : Type 0} (b : Bool) (r : Reason) (x : Result A Reason) (f : A → Result B Reason) (y : Option Reason) → (b ≡ false → fault_in (x >>= f) ≡ y) → fault_in (cond b (Err r) x >>= f) ≡ cond b (Some r) y
+fault_then true r x f y h = refl
+fault_then false r x f y h = h refl
+
+-- a wrong count
+wrong_count : (x : Result Entry Reason) (f : Entry → Result SoFar Reason) (c : Bool) (y : Option Reason) → x ≡ Err reason.Count → c ≡ false → fault_in (x >>= f) ≡ cond (not c) (Some reason.Count) y
+wrong_count x f c y e h = rw (e, h) refl
+
+-- the reasons behind COUNT
+abbrev behind_count : List Reason
+behind_count = reason.Number ∷ reason.Name ∷ reason.Range ∷ reason.Repeated ∷ reason.Full ∷ []
+
+abbrev state : Option Machine → Option ℕ → List Bool → List ℕ → List (List Call) → SoFar
+state machine block had schedule calls = record { stage = record { machine = machine; block = block; had = had }; schedule = schedule; calls = calls }
+
+-- `machine`
+
+machine_three : (x y z : Option ℕ) (f : Entry → Result SoFar Reason) → ((m : Machine) → fault_in (f (entry.Machine m)) ≡ None)
+    → fault_in (machine_of (x ∷ y ∷ z ∷ []) >>= f) ≡ cond (not (is_some x && (is_some y && (is_some z && true)))) (Some reason.Number) (cond (not (in_limits (unwrap_or x 0) (unwrap_or y 0) (unwrap_or z 0))) (Some reason.Range) None)
+unfolding machine_of
+machine_three (Some a) (Some b) (Some c) f h =
+    fault_then (not (in_limits a b c)) reason.Range (Ok (entry.Machine (record { lps = a; pages = b; hkids = c }))) f None (λ e. h (record { lps = a; pages = b; hkids = c }))
+machine_three None y z f h = refl
+machine_three (Some a) None z f h = refl
+machine_three (Some a) (Some b) None f h = refl
+
+machine_count : (ns : List (Option ℕ)) → (length ns == 3) ≡ false → machine_of ns ≡ Err reason.Count
+unfolding machine_of
+machine_count ns h = rw h refl
+
+machine_order : (block : Option ℕ) (had : List Bool) (schedule : List ℕ) (calls : List (List Call)) (row : Option Mnemonic) (ws : List (List ℕ))
+    → fault_in (machine_of (map number ws) >>= (λ e. entered_of (state None block had schedule calls) e ws)) ≡ find (holds_of (state None block had schedule calls) (Some keyword.Machine) row ws) behind_byte
+unfolding machine_of entered_of
+machine_order block had schedule calls row [] = refl
+machine_order block had schedule calls row (a ∷ []) = refl
+machine_order block had schedule calls row (a ∷ b ∷ []) = refl
+machine_order block had schedule calls row (a ∷ b ∷ c ∷ []) = machine_three (number a) (number b) (number c) (λ e. entered_of (state None block had schedule calls) e (a ∷ b ∷ c ∷ [])) (λ m. refl)
+machine_order block had schedule calls row (a ∷ b ∷ c ∷ d ∷ ws) =
+    let all : List (List ℕ) = a ∷ b ∷ c ∷ d ∷ ws in
+    let so_far : SoFar = state None block had schedule calls in
+    wrong_count (machine_of (map number all)) (λ e. entered_of so_far e all) (length all == 3) (find (holds_of so_far (Some keyword.Machine) row all) behind_count)
+    (machine_count (map number all) (grind arith)) (grind arith)
+
+-- `lp`
+
+block_one : (m : Machine) (had : List Bool) (x : Option ℕ) (f : Entry → Result SoFar Reason) → ((lp : ℕ) → fault_in (f (entry.Open lp)) ≡ None)
+    → fault_in (block_of m had (x ∷ []) >>= f) ≡ cond (not (is_some x && true)) (Some reason.Number) (cond (not (ltb (unwrap_or x 0) m.lps)) (Some reason.Range) (cond (get_or had (unwrap_or x 0) false) (Some reason.Repeated) None))
+unfolding block_of
+block_one m had (Some lp) f h =
+    fault_then (not (ltb lp m.lps)) reason.Range (cond (get_or had lp false) (Err reason.Repeated) (Ok (entry.Open lp))) f _
+    (λ e. fault_then (get_or had lp false) reason.Repeated (Ok (entry.Open lp)) f None (λ k. h lp))
+block_one m had None f h = refl
+
+block_count : (m : Machine) (had : List Bool) (ns : List (Option ℕ)) → (length ns == 1) ≡ false → block_of m had ns ≡ Err reason.Count
+unfolding block_of
+block_count m had ns h = rw h refl
+
+block_order : (m : Machine) (had : List Bool) (schedule : List ℕ) (calls : List (List Call)) (row : Option Mnemonic) (ws : List (List ℕ))
+    → fault_in (block_of m had (map number ws) >>= (λ e. entered_of (state (Some m) None had schedule calls) e ws)) ≡ find (holds_of (state (Some m) None had schedule calls) (Some keyword.Lp) row ws) behind_byte
+unfolding block_of entered_of
+block_order m had schedule calls row [] = refl
+block_order m had schedule calls row (a ∷ []) = block_one m had (number a) (λ e. entered_of (state (Some m) None had schedule calls) e (a ∷ [])) (λ lp. refl)
+block_order m had schedule calls row (a ∷ b ∷ ws) =
+    let all : List (List ℕ) = a ∷ b ∷ ws in
+    let so_far : SoFar = state (Some m) None had schedule calls in
+    wrong_count (block_of m had (map number all)) (λ e. entered_of so_far e all) (length all == 1) (find (holds_of so_far (Some keyword.Lp) row all) behind_count)
+    (block_count m had (map number all) (grind arith)) (grind arith)
+
+-- `end`
+
+end_count : (ns : List (Option ℕ)) → (length ns == 0) ≡ false → end_of ns ≡ Err reason.Count
+unfolding end_of
+end_count ns h = rw h refl
+
+end_order : (m : Machine) (lp : ℕ) (had : List Bool) (schedule : List ℕ) (calls : List (List Call)) (row : Option Mnemonic) (ws : List (List ℕ))
+    → fault_in (end_of (map number ws) >>= (λ e. entered_of (state (Some m) (Some lp) had schedule calls) e ws)) ≡ find (holds_of (state (Some m) (Some lp) had schedule calls) (Some keyword.End) row ws) behind_byte
+unfolding end_of entered_of
+end_order m lp had schedule calls row [] = refl
+end_order m lp had schedule calls row (a ∷ ws) =
+    let all : List (List ℕ) = a ∷ ws in
+    let so_far : SoFar = state (Some m) (Some lp) had schedule calls in
+    wrong_count (end_of (map number all)) (λ e. entered_of so_far e all) (length all == 0) (find (holds_of so_far (Some keyword.End) row all) behind_count)
+    (end_count (map number all) (grind arith)) (grind arith)
+
+-- `schedule`
+
+abbrev full_if : ℕ → Option Reason
+full_if n = cond (ltb (2 ^ 20) n) (Some reason.Full) None
+
+-- the next item, where c says that it is too much by itself, and q that all of them are
+next_item : {B : Type 0} (c q : Bool) (s : List ℕ) (g : List ℕ → Result (List ℕ) Reason) (f : List ℕ → Result B Reason) → (c ≡ true → q ≡ true) → (c ≡ false → fault_in (g s >>= f) ≡ cond q (Some reason.Full) None)
+    → fault_in ((cond c (Err reason.Full) (Ok s) >>= g) >>= f) ≡ cond q (Some reason.Full) None
+next_item true q s g f h k = ap (λ b. cond b (Some reason.Full) None) (sym (h refl))
+next_item false q s g f h k = k refl
+
+written_item : {B : Type 0} (t : Option Turns) (schedule : List ℕ) (rest : List (Option Turns)) (n : ℕ) (f : List ℕ → Result B Reason) → is_some t ≡ true
+    → ((u : Turns) → length schedule + u.times ≤ 2 ^ 20 → fault_in (written_of (schedule ++ replicate u.times u.lp) rest >>= f) ≡ full_if (length schedule + u.times + n))
+    → fault_in (written_of schedule (t ∷ rest) >>= f) ≡ full_if (length schedule + (times_of t + n))
+written_item None schedule rest n f is h = cc
+written_item (Some t) schedule rest n f is h =
+    let same : length schedule + t.times + n ≡ length schedule + (t.times + n) = omega arith in
+    next_item (ltb (2 ^ 20) (length schedule + t.times)) (ltb (2 ^ 20) (length schedule + (t.times + n))) (schedule ++ replicate t.times t.lp) (λ s. written_of s rest) f
+    (λ e. grind (arith, e)) (λ e. h t (grind (arith, e)) ∙ ap (λ k. cond (ltb (2 ^ 20) k) (Some reason.Full) None) same)
+
+-- what is written behind a schedule that isn't too long
+abbrev Written : {B : Type 0} → ℕ → List (List ℕ) → (List ℕ → Result B Reason) → Type 0
+Written lps ws f = (s : List ℕ) → length s ≤ 2 ^ 20 → fault_in (written_of s (map (turns_in lps) ws) >>= f) ≡ full_if (length s + turns_count lps ws)
+
+written_next : {B : Type 0} (lps : ℕ) (w : List ℕ) (ws : List (List ℕ)) (schedule : List ℕ) (f : List ℕ → Result B Reason) → is_some (turns_in lps w) ≡ true → Written lps ws f
+    → fault_in (written_of schedule (map (turns_in lps) (w ∷ ws)) >>= f) ≡ full_if (length schedule + turns_count lps (w ∷ ws))
+written_next lps w ws schedule f is later =
+    written_item (turns_in lps w) schedule (map (turns_in lps) ws) (turns_count lps ws) f is
+    (λ u few. let long : length (schedule ++ replicate u.times u.lp) ≡ length schedule + u.times = rw (length-append, length-replicate) refl in
+    later (schedule ++ replicate u.times u.lp) (omega (arith, long, few)) ∙ ap (λ k. cond (ltb (2 ^ 20) (k + turns_count lps ws)) (Some reason.Full) None) long)
+
+none_if : (b : Bool) → b ≡ false → None ≡ cond b (Some reason.Full) None
+none_if true h = cc
+none_if false h = refl
+
+written_order : {B : Type 0} (lps : ℕ) (ws : List (List ℕ)) (f : List ℕ → Result B Reason) → ((s : List ℕ) → fault_in (f s) ≡ None) → list_all (λ w. is_some (turns_in lps w)) ws ≡ true → Written lps ws f
+written_order lps [] f fine all = λ s room. fine s ∙ none_if (ltb (2 ^ 20) (length s + turns_count lps [])) (grind (arith, room))
+written_order lps (w ∷ ws) f fine all =
+    let p = and_parts (is_some (turns_in lps w)) (list_all (λ x. is_some (turns_in lps x)) ws) all in
+    λ s room. written_next lps w ws s f p.0 (written_order lps ws f fine p.1)
+
+schedule_order : (m : Machine) (had : List Bool) (schedule : List ℕ) (calls : List (List Call)) (row : Option Mnemonic) (ws : List (List ℕ))
+    → fault_in (entered_of (state (Some m) None had schedule calls) (entry.Schedule m.lps) ws) ≡ find (holds_of (state (Some m) None had schedule calls) (Some keyword.Schedule) row ws) behind_byte
+unfolding entered_of schedule_of
+schedule_order m had schedule calls row [] = refl
+schedule_order m had schedule calls row (w ∷ ws) =
+    let f : List ℕ → Result SoFar Reason = λ s. Ok (state (Some m) None had s calls) in
+    fault_then (length (w ∷ ws) == 0) reason.Count _ f _
+    (λ a. fault_then (not (list_all (λ w. is_some (item_of w)) (w ∷ ws))) reason.Number _ f _
+    (λ b. fault_then (not (list_all (λ w. is_some (turns_in m.lps w)) (w ∷ ws))) reason.Range (written_of schedule (map (turns_in m.lps) (w ∷ ws))) f (full_if (length schedule + turns_count m.lps (w ∷ ws)))
+    (λ c. let p = and_parts (is_some (turns_in m.lps w)) (list_all (λ x. is_some (turns_in m.lps x)) ws) (not_false _ c) in
+    written_next m.lps w ws schedule f p.0 (written_order m.lps ws f (λ s. refl) p.1))))
+  where
+    not_false : (b : Bool) → not b ≡ false → b ≡ true
+    not_false true h = refl
+    not_false false h = cc
+
+-- calls
+
+counted_call : (e : Entry) (m : Mnemonic) (ns : List (Option ℕ)) (f : Entry → Result SoFar Reason) (y : Option Reason) → fault_in (f e) ≡ y
+    → fault_in (judged_of (Some e) m ns >>= f) ≡ cond (not (leb m.least (length ns) && leb (length ns) m.most)) (Some reason.Count) (cond (not (are_given m.call ns)) (Some reason.Number) y)
+counted_call e m ns f y h =
+    fault_then (not (leb m.least (length ns) && leb (length ns) m.most)) reason.Count (cond (not (are_given m.call ns)) (Err reason.Number) (Ok e)) f _
+    (λ a. fault_then (not (are_given m.call ns)) reason.Number (Ok e) f y (λ b. h))
+
+-- a field is bad by its name alone
+abbrev ByName : Result ReadField Reason → Type 0
+ByName (Ok x) = Unit {0}
+ByName (Err r) = r ≡ reason.Name
+
+by_name_if : (b : Bool) (x : ReadField) (r : Result ReadField Reason) → ByName r → ByName (cond b (Ok x) r)
+by_name_if true x r h = tt
+by_name_if false x r h = h
+
+by_name : (w : List ℕ) → ByName (field_of w)
+by_name w =
+    let mrtd : Result ReadField Reason = cond (bytes_eq w (codes "MRTD")) (Ok field.Mrtd) (Err reason.Name) in
+    let epoch : Result ReadField Reason = cond (bytes_eq w (codes "EPOCH")) (Ok field.Epoch) mrtd in
+    let op : Result ReadField Reason = cond (bytes_eq w (codes "OP")) (Ok field.Op) epoch in
+    by_name_if (bytes_eq w (codes "LIFE")) field.Life op
+    (by_name_if (bytes_eq w (codes "OP")) field.Op epoch
+    (by_name_if (bytes_eq w (codes "EPOCH")) field.Epoch mrtd
+    (by_name_if (bytes_eq w (codes "MRTD")) field.Mrtd (Err reason.Name) refl)))
+
+field_order : {B : Type 0} (r : Result ReadField Reason) (g : ReadField → Result B Reason) (y : Option Reason) → ByName r → ((x : ReadField) → fault_in (g x) ≡ y) → fault_in (r >>= g) ≡ cond (is_some (fault_in r)) (Some reason.Name) y
+field_order (Ok x) g y h k = k x
+field_order (Err r) g y h k = ap Some h
+
+-- at most 4,096 of them
+abbrev crowded : List (List Call) → ℕ → Bool
+crowded calls lp = leb 4096 (length (get_or calls lp []))
+
+call_full : (m : Machine) (lp : ℕ) (had : List Bool) (schedule : List ℕ) (calls : List (List Call)) (c : Call) (ws : List (List ℕ))
+    → fault_in (entered_of (state (Some m) (Some lp) had schedule calls) (entry.Call lp c) ws) ≡ cond (crowded calls lp) (Some reason.Full) None
+unfolding entered_of
+call_full m lp had schedule calls c ws = fault_then (crowded calls lp) reason.Full _ _ None (λ e. refl)
+
+read_full : (m : Machine) (lp tdr : ℕ) (had : List Bool) (schedule : List ℕ) (calls : List (List Call)) (ws : List (List ℕ))
+    → fault_in (entered_of (state (Some m) (Some lp) had schedule calls) (entry.Read lp tdr) ws) ≡ cond (names_no_field name.MngRd ws) (Some reason.Name) (cond (crowded calls lp) (Some reason.Full) None)
+unfolding entered_of
+read_full m lp tdr had schedule calls ws =
+    field_order (field_of (get_or ws 1 [])) _ (cond (crowded calls lp) (Some reason.Full) None) (by_name (get_or ws 1 [])) (λ x. fault_then (crowded calls lp) reason.Full _ _ None (λ e. refl))
+
+-- what a call's line comes to, once its words are counted and numbers
+abbrev call_ends : CallName → List (List Call) → ℕ → List (List ℕ) → Option Reason
+call_ends call calls lp ws = cond (names_no_field call ws) (Some reason.Name) (cond (crowded calls lp) (Some reason.Full) None)
+
+abbrev EntryEnds : Machine → ℕ → List Bool → List ℕ → List (List Call) → List (List ℕ) → CallName → Option Entry → Type 0
+EntryEnds m lp had schedule calls ws call None = is_built call ≡ false
+EntryEnds m lp had schedule calls ws call (Some e) = (is_built call ≡ true) × (fault_in (entered_of (state (Some m) (Some lp) had schedule calls) e ws) ≡ call_ends call calls lp ws)
+
+entry_ends : (m : Machine) (lp : ℕ) (had : List Bool) (schedule : List ℕ) (calls : List (List Call)) (ws : List (List ℕ)) (call : CallName) (ns : List (Option ℕ)) → EntryEnds m lp had schedule calls ws call (built_of lp call ns)
+entry_ends m lp had schedule calls ws name.HostRead ns = (refl, call_full m lp had schedule calls _ ws)
+entry_ends m lp had schedule calls ws name.HostWrite ns = (refl, call_full m lp had schedule calls _ ws)
+entry_ends m lp had schedule calls ws name.PhymemPageRdmd ns = (refl, call_full m lp had schedule calls _ ws)
+entry_ends m lp had schedule calls ws name.PhymemCacheWb ns = (refl, call_full m lp had schedule calls _ ws)
+entry_ends m lp had schedule calls ws name.PhymemPageReclaim ns = (refl, call_full m lp had schedule calls _ ws)
+entry_ends m lp had schedule calls ws name.MngCreate ns = (refl, call_full m lp had schedule calls _ ws)
+entry_ends m lp had schedule calls ws name.MngKeyConfig ns = (refl, call_full m lp had schedule calls _ ws)
+entry_ends m lp had schedule calls ws name.MngAddcx ns = (refl, call_full m lp had schedule calls _ ws)
+entry_ends m lp had schedule calls ws name.MngInit ns = (refl, call_full m lp had schedule calls _ ws)
+entry_ends m lp had schedule calls ws name.MngRd ns = (refl, read_full m lp _ had schedule calls ws)
+entry_ends m lp had schedule calls ws name.MngVpflushdone ns = (refl, call_full m lp had schedule calls _ ws)
+entry_ends m lp had schedule calls ws name.MngKeyFreeid ns = (refl, call_full m lp had schedule calls _ ws)
+entry_ends m lp had schedule calls ws name.MrExtend ns = (refl, call_full m lp had schedule calls _ ws)
+entry_ends m lp had schedule calls ws name.MrFinalize ns = (refl, call_full m lp had schedule calls _ ws)
+entry_ends m lp had schedule calls ws name.VpCreate ns = (refl, call_full m lp had schedule calls _ ws)
+entry_ends m lp had schedule calls ws name.VpInit ns = (refl, call_full m lp had schedule calls _ ws)
+entry_ends m lp had schedule calls ws name.MemSeptAdd ns = (refl, call_full m lp had schedule calls _ ws)
+entry_ends m lp had schedule calls ws name.MemSeptRd ns = (refl, call_full m lp had schedule calls _ ws)
+entry_ends m lp had schedule calls ws name.MemPageAdd ns = (refl, call_full m lp had schedule calls _ ws)
+entry_ends m lp had schedule calls ws _ ns = refl
+
+judged_order : (m : Machine) (lp : ℕ) (had : List Bool) (schedule : List ℕ) (calls : List (List Call)) (ws : List (List ℕ)) (row : Mnemonic) (e : Option Entry) (ns : List (Option ℕ)) → EntryEnds m lp had schedule calls ws row.call e
+    → fault_in (judged_of e row ns >>= (λ x. entered_of (state (Some m) (Some lp) had schedule calls) x ws))
+    ≡ cond (not (is_built row.call)) (Some reason.Unbuilt) (cond (not (leb row.least (length ns) && leb (length ns) row.most)) (Some reason.Count) (cond (not (are_given row.call ns)) (Some reason.Number) (call_ends row.call calls lp ws)))
+judged_order m lp had schedule calls ws row None ns h = rw h refl
+judged_order m lp had schedule calls ws row (Some e) ns h =
+    rw h.0 (counted_call e row ns (λ x. entered_of (state (Some m) (Some lp) had schedule calls) x ws) (call_ends row.call calls lp ws) h.1)
+
+call_order : (m : Machine) (lp : ℕ) (had : List Bool) (schedule : List ℕ) (calls : List (List Call)) (row : Option Mnemonic) (ws : List (List ℕ))
+    → fault_in (call_of lp row (map number ws) >>= (λ e. entered_of (state (Some m) (Some lp) had schedule calls) e ws)) ≡ find (holds_of (state (Some m) (Some lp) had schedule calls) None row ws) behind_byte
+unfolding call_of
+call_order m lp had schedule calls None ws = refl
+call_order m lp had schedule calls (Some row) ws =
+    judged_order m lp had schedule calls ws row (built_of lp row.call (map number ws)) (map number ws) (entry_ends m lp had schedule calls ws row.call (map number ws)) ∙ rw length-map refl
+
+-- by the place of the line
+
+first_order : (block : Option ℕ) (had : List Bool) (schedule : List ℕ) (calls : List (List Call)) (k : Option Keyword) (row : Option Mnemonic) (ws : List (List ℕ))
+    → fault_in (first_of k (map number ws) >>= (λ e. entered_of (state None block had schedule calls) e ws)) ≡ find (holds_of (state None block had schedule calls) k row ws) behind_byte
+first_order block had schedule calls (Some keyword.Machine) row ws = machine_order block had schedule calls row ws
+first_order block had schedule calls _ row ws = refl
+
+outside_order : (m : Machine) (had : List Bool) (schedule : List ℕ) (calls : List (List Call)) (k : Option Keyword) (row : Option Mnemonic) (ws : List (List ℕ))
+    → fault_in (outside_of m had k (map number ws) >>= (λ e. entered_of (state (Some m) None had schedule calls) e ws)) ≡ find (holds_of (state (Some m) None had schedule calls) k row ws) behind_byte
+outside_order m had schedule calls (Some keyword.Machine) row ws = refl
+outside_order m had schedule calls (Some keyword.End) row ws = refl
+outside_order m had schedule calls (Some keyword.Schedule) row ws = schedule_order m had schedule calls row ws
+outside_order m had schedule calls (Some keyword.Code) row ws = refl
+outside_order m had schedule calls (Some keyword.Lp) row ws = block_order m had schedule calls row ws
+outside_order m had schedule calls None row ws = refl
+
+inside_order : (m : Machine) (lp : ℕ) (had : List Bool) (schedule : List ℕ) (calls : List (List Call)) (k : Option Keyword) (w : List ℕ) (ws : List (List ℕ))
+    → fault_in (inside_of lp k w (map number ws) >>= (λ e. entered_of (state (Some m) (Some lp) had schedule calls) e ws)) ≡ find (holds_of (state (Some m) (Some lp) had schedule calls) k (mnemonic_in mnemonics w) ws) behind_byte
+inside_order m lp had schedule calls (Some keyword.Machine) w ws = refl
+inside_order m lp had schedule calls (Some keyword.Schedule) w ws = refl
+inside_order m lp had schedule calls (Some keyword.Code) w ws = refl
+inside_order m lp had schedule calls (Some keyword.Lp) w ws = refl
+inside_order m lp had schedule calls (Some keyword.End) w ws = end_order m lp had schedule calls (mnemonic_in mnemonics w) ws
+inside_order m lp had schedule calls None w ws = call_order m lp had schedule calls (mnemonic_in mnemonics w) ws
+
+placed_order : (machine : Option Machine) (block : Option ℕ) (had : List Bool) (schedule : List ℕ) (calls : List (List Call)) (w : List ℕ) (ws : List (List ℕ))
+    → fault_in (placed_of machine block had w (map number ws) >>= (λ e. entered_of (state machine block had schedule calls) e ws)) ≡ find (holds_of (state machine block had schedule calls) (keyword_of w) (mnemonic_in mnemonics w) ws) behind_byte
+placed_order None block had schedule calls w ws = first_order block had schedule calls (keyword_of w) (mnemonic_in mnemonics w) ws
+placed_order (Some m) None had schedule calls w ws = outside_order m had schedule calls (keyword_of w) (mnemonic_in mnemonics w) ws
+placed_order (Some m) (Some lp) had schedule calls w ws = inside_order m lp had schedule calls (keyword_of w) w ws
+
+comment_order : (c : Bool) (d : SoFar) (x : Result SoFar Reason) (holds : Reason → Bool) → fault_in x ≡ find holds behind_byte → fault_in (cond c (Ok d) x) ≡ find (λ r. not c && holds r) behind_byte
+comment_order true d x holds h = refl
+comment_order false d x holds h = h
+
+words_order : (d : SoFar) (ws : List (List ℕ)) → fault_in (worded_of d ws) ≡ find (holds_in d ws) behind_byte
+unfolding worded_of entry_of
+words_order d [] = refl
+words_order d (w ∷ ws) =
+    comment_order (is_comment w) d _ (holds_of d (keyword_of w) (mnemonic_in mnemonics w) ws) (placed_order d.stage.machine d.stage.block d.stage.had d.schedule d.calls w ws)
+
+line_order : (d : SoFar) (line : List ℕ) → fault_in (line_of d line) ≡ find (holds_at d line) line_reasons
+unfolding line_of
+line_order d line = fault_if (not (is_printable line)) reason.Byte (worded_of d (words line)) _ (words_order d (words line))
+
+-- the end of a script
+end_cases : (empty : Bool) (m : Option Machine) (block : Option ℕ) (schedule : List ℕ) (calls : List (List Call)) (n : ℕ)
+    → fault_in (cond (not empty) (Err (Bad n reason.Unterminated)) (script_of m block schedule calls n))
+    ≡ option_map (Bad n) (cond (not empty) (Some reason.Unterminated) (cond (not (is_some m)) (Some reason.Machine) (cond (is_some block) (Some reason.Endless) None)))
+end_cases false m block schedule calls n = refl
+end_cases true None block schedule calls n = refl
+end_cases true (Some m) (Some lp) schedule calls n = refl
+end_cases true (Some m) None schedule calls n = refl
+
+script_end_order : (d : SoFar) (n : ℕ) (rest : List ℕ) → fault_in (ended_of d n rest) ≡ option_map (Bad n) (find (holds_at_end d rest) end_reasons)
+script_end_order d n rest = end_cases (length rest == 0) d.stage.machine d.stage.block d.schedule d.calls n
+
+pub ordered : ReasonsInOrder
+ordered = record { in_line = line_order; at_end = script_end_order }
