@@ -8,7 +8,7 @@ ghost use Rattle.plain_runs.specs.Plain.{world_of, row_in, key_of, FitsMachine, 
 
 use crate::checks::{judge, page_in};
 use crate::plain::{Owner, Plain, set_life, take};
-use crate::td_calls::life_head;
+use crate::td_calls::tdr_head;
 use td_words::{LifeState, Machine, PageKind, Status, Value};
 
 /// What PHYMEM.CACHE.WB makes of an HKID.
@@ -50,7 +50,7 @@ pub fn end_flush(machine: Machine, plain: &mut Plain, tdr: u64) -> Result<Value,
     ensures does { Does (row_in machine (call.MngVpflushdone tdr)) (world_of plain.old) (world_of plain.new) result }
 {
     let tdr = page_in(machine, 1, tdr)?;
-    life_head(
+    tdr_head(
         plain,
         tdr,
         &[LifeState::HkidAssigned, LifeState::KeysConfigured],
@@ -71,7 +71,7 @@ pub fn free_hkid(machine: Machine, plain: &mut Plain, tdr: u64) -> Result<Value,
     ensures does { Does (row_in machine (call.MngKeyFreeid tdr)) (world_of plain.old) (world_of plain.new) result }
 {
     let tdr = page_in(machine, 1, tdr)?;
-    life_head(plain, tdr, &[LifeState::Blocked])?;
+    tdr_head(plain, tdr, &[LifeState::Blocked])?;
     judge(&[plain.written_back(tdr)])?;
     let hkid = plain.tds[usize::from(tdr)].hkid;
     set_life(&mut plain.tds, tdr, LifeState::Teardown);
@@ -92,7 +92,7 @@ pub fn reclaim_page(
 {
     let tdr = page_in(machine, 1, tdr)?;
     let page = page_in(machine, 2, page)?;
-    life_head(plain, tdr, &[LifeState::Teardown])?;
+    tdr_head(plain, tdr, &[LifeState::Teardown])?;
     judge(&[plain.may_reclaim(tdr, page)])?;
     take(&mut plain.cells, page, PageKind::Nda, 0);
     Ok(Value::Nothing)

@@ -11,7 +11,7 @@ use crate::plain::{Owner, Plain, new_td, set_life, take};
 use td_words::{LifeState, Machine, OpState, PageKind, Status, Value};
 
 /// The beginning of the rows that begin and end a TD's life.
-pub fn life_head(plain: &Plain, tdr: u16, allowed: &[LifeState]) -> Result<(), Status>
+pub fn tdr_head(plain: &Plain, tdr: u16, allowed: &[LifeState]) -> Result<(), Status>
     requires cell { tdr < length plain.now.cells.items }
     requires td { tdr < length plain.now.tds.items }
     ensures { Judges (conditions.tdr_exclusive (world_of plain.now) tdr allowed.now) result }
@@ -40,7 +40,7 @@ pub fn configure_key(machine: Machine, plain: &mut Plain, tdr: u64) -> Result<Va
     ensures does { Does (row_in machine (call.MngKeyConfig tdr)) (world_of plain.old) (world_of plain.new) result }
 {
     let tdr = page_in(machine, 1, tdr)?;
-    life_head(plain, tdr, &[LifeState::HkidAssigned])?;
+    tdr_head(plain, tdr, &[LifeState::HkidAssigned])?;
     set_life(&mut plain.tds, tdr, LifeState::KeysConfigured);
     Ok(Value::Nothing)
 }
@@ -73,7 +73,7 @@ pub fn add_tdcx(machine: Machine, plain: &mut Plain, tdr: u64, page: u64) -> Res
     let tdr = page_in(machine, 1, tdr)?;
     let page = page_in(machine, 2, page)?;
     judge(&[apart(2, page, tdr)])?;
-    life_head(plain, tdr, &[LifeState::KeysConfigured])?;
+    tdr_head(plain, tdr, &[LifeState::KeysConfigured])?;
     judge(&[plain.tdcx_room(tdr), plain.host_page(page)])?;
     take(&mut plain.cells, page, PageKind::Tdcx, tdr);
     plain.tds[usize::from(tdr)].controls.push(page);

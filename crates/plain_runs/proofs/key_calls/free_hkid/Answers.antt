@@ -18,6 +18,6 @@ returns-clause-does c =
     let small : p < length tds = omega (arith, c.in_ok-tdr.ensures) in
     does_at (λ t. row_in c.args.machine (call.MngKeyFreeid t)) p c.args.tdr w _ value.Nothing c.in_ok-tdr.ensures.0
     (page_passes c.args.machine 1 p _ (omega (arith, c.in_ok-tdr.ensures))
-    ∙ (after_head (conditions.tdr_exclusive w p (life.Blocked ∷ [])) _ c.in_ok-life_head.ensures ∙ one_item _ _ c.written_back.ensures c.in_ok-judge.ensures)) refl
+    ∙ (after_head (conditions.tdr_exclusive w p (life.Blocked ∷ [])) _ c.in_ok-tdr_head.ensures ∙ one_item _ _ c.written_back.ensures c.in_ok-judge.ensures)) refl
     (key_after_life cells tds c.set_life.new.tds.items builds c.args.plain.now.keys p c.from-2.result life.Teardown owner.Nobody (c.set_life.ensures.set cells builds c.args.plain.now.keys) (omega arith)
     (hkid_read tds p c.from.result c.from-2.result c.index.result.now c.from-2.ensures c.from.ensures c.index.ensures small))

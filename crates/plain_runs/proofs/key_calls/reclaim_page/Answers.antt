@@ -14,5 +14,5 @@ returns-clause-does c =
     let q = c.in_ok-page.page in
     does_at_two (λ t x. row_in c.args.machine (call.PhymemPageReclaim t x)) p q c.args.tdr c.args.page w _ value.Nothing c.in_ok-tdr.ensures.0 c.in_ok-page.ensures.0
     (page_passes c.args.machine 1 p _ (omega (arith, c.in_ok-tdr.ensures)) ∙ (page_passes c.args.machine 2 q _ (omega (arith, c.in_ok-page.ensures))
-    ∙ (after_head (conditions.tdr_exclusive w p (life.Teardown ∷ [])) _ c.in_ok-life_head.ensures ∙ (sym c.may_reclaim.ensures ∙ c.in_ok-judge.ensures)))) refl
+    ∙ (after_head (conditions.tdr_exclusive w p (life.Teardown ∷ [])) _ c.in_ok-tdr_head.ensures ∙ (sym c.may_reclaim.ensures ∙ c.in_ok-judge.ensures)))) refl
     (c.take.ensures.taken _ _ _)

@@ -21,6 +21,6 @@ returns-clause-does c =
     let q = c.in_ok-page.page in
     does_at_two (λ t x. row_in c.args.machine (call.MngAddcx t x)) p q c.args.tdr c.args.page w _ value.Nothing c.in_ok-tdr.ensures.0 c.in_ok-page.ensures.0
     (two_pages c.args.machine p q _ _ (omega (arith, c.in_ok-tdr.ensures)) (omega (arith, c.in_ok-page.ensures)) c.apart.ensures c.in_ok-judge.ensures
-    ∙ (after_head (conditions.tdr_exclusive w p (life.KeysConfigured ∷ [])) _ c.in_ok-life_head.ensures ∙ two_tried _ _ _ _ _ _ c.tdcx_room.ensures c.host_page.ensures c.in_ok-judge-2.ensures)) refl
+    ∙ (after_head (conditions.tdr_exclusive w p (life.KeysConfigured ∷ [])) _ c.in_ok-tdr_head.ensures ∙ two_tried _ _ _ _ _ _ c.tdcx_room.ensures c.host_page.ensures c.in_ok-judge-2.ensures)) refl
     (rw c.from.ensures (ap (λ (x : Tds). record (world_in c.take.new.cells.items tds builds keys) { tds = built_of builds x }) (control_added tds p q c.index_mut.result.now c.push.new.self small (rw c.from.ensures at c.index_mut.ensures.value) c.push.ensures.items)
     ∙ ap (λ (x : World). effects.add_control p q x) (c.take.ensures.taken tds builds keys)))

@@ -9,4 +9,4 @@ pub returns-clause-does : goal.returns-clause-does
 returns-clause-does c =
     let w = world_of c.args.plain.now in
     does_at (λ t. row_in c.args.machine (call.MngKeyConfig t)) c.in_ok-tdr.tdr c.args.tdr w _ value.Nothing c.in_ok-tdr.ensures.0
-    (page_passes c.args.machine 1 c.in_ok-tdr.tdr _ (omega (arith, c.in_ok-tdr.ensures)) ∙ c.in_ok-life_head.ensures) refl (c.set_life.ensures.set _ _ _)
+    (page_passes c.args.machine 1 c.in_ok-tdr.tdr _ (omega (arith, c.in_ok-tdr.ensures)) ∙ c.in_ok-tdr_head.ensures) refl (c.set_life.ensures.set _ _ _)
