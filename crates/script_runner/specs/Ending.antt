@@ -13,7 +13,6 @@ use Rattle.script_text.specs.Seen.{ScriptSeen}
 use Rattle.flat_core.specs.Opening.{Opening}
 use Rattle.flat_core.specs.HostText.{host_text}
 use Rattle.script_runner.specs.declared.ending.Ending.{Ending}
-use Rattle.script_runner.specs.declared.ending.TheConstants.{USAGE}
 
 -- an exit status, and what is put to the output
 pub record Ended : Type 0 where
@@ -46,7 +45,10 @@ opening_of s = record { machine = s.machine; codes = code_in s.codes; calls = s.
 -- texts, each by its status
 
 abbrev pub usage_end : Ended
-usage_end = record { status = 1; text = USAGE.now }
+usage_end = record {
+  status = 1;
+  text = codes "usage: tdx replay|run SCRIPT [--bundles F] [--keys F] [--secrets F] [--out-bundles F] [--guest-out F] | tdx check SCRIPT | tdx soak N" ++ 10 ∷ [];
+}
 
 abbrev pub bad_end : ℕ → Reason → Ended
 bad_end line reason = record { status = 2; text = codes "script line " ++ (decimal line ++ (codes " " ++ (reason_text reason ++ 10 ∷ []))) }
