@@ -1,6 +1,7 @@
 -- What the outside may answer, and why.
 use Rattle.std.specs.Prelude.{◌≡◌, ◌≢◌, ℕ, ◌+◌, ◌-◌, ◌^◌, ◌≤◌, ◌<◌, min, max, List, ◌++◌, take, length, Option, Some, None, option_map, Result, Ok, Err}
 use Rattle.std.specs.Global.{Vec}
+use Rattle.std.specs.Io.KnownBytes.{Appends}
 use Rattle.script_runner.specs.declared.outside.LoadFault.{LoadFault}
 use Rattle.script_runner.specs.declared.outside.LoadFault.TheVariants as load
 use Rattle.script_runner.specs.declared.outside.SaveFault.{SaveFault}
@@ -31,9 +32,14 @@ LoadsTold None most (Err load.TooLong) = ⊥
 LoadsTold held most (Err load.Failed) = Unit {0}
 LoadsTold held most (Err load.OutOfMemory) = Unit {0}
 
--- a load where contents aren't told: an absent name counts as a read fault, and what was too long was read too far
+-- a count that has risen by so much, and stands still at 2^64 - 1
+abbrev pub raised_by : ℕ → ℕ → ℕ
+raised_by more count = max count (min (count + more) (2 ^ 64 - 1))
+
+-- a load where contents aren't told: just the bytes are given that were read, an absent name counts as a read fault, and
+-- what was too long was read too far
 abbrev pub LoadsUntold : ℕ → ℕ → ℕ → ℕ → ℕ → Result (Vec ℕ) LoadFault → Type 0
-LoadsUntold faults faults' read read' most (Ok v) = length v.items ≤ most
+LoadsUntold faults faults' read read' most (Ok v) = (length v.items ≤ most) × (read' ≡ raised_by (length v.items) read)
 LoadsUntold faults faults' read read' most (Err load.Absent) = Rose faults faults'
 LoadsUntold faults faults' read read' most (Err load.TooLong) = RoseBeyond most read read'
 LoadsUntold faults faults' read read' most (Err load.Failed) = Unit {0}
@@ -65,6 +71,13 @@ abbrev pub SaveCause : ℕ → ℕ → Result (Unit {0}) SaveFault → Type 0
 SaveCause faults faults' (Ok t) = faults' ≡ faults
 SaveCause faults faults' (Err save.Failed) = Rose faults faults'
 SaveCause faults faults' (Err save.OutOfMemory) = faults' ≡ faults
+
+-- a front of these bytes, and nothing else, came behind what is known of a writer
+pub record WritesFront (old new : Option (List ℕ)) (bytes : List ℕ) : Type 0 where
+  pub front : List ℕ
+  pub rest : List ℕ
+  pub cut : bytes ≡ front ++ rest
+  pub came : Appends old new front
 
 -- these bytes came behind what was told
 abbrev pub Gains : Option (List ℕ) → List ℕ → Option (List ℕ) → Type 0

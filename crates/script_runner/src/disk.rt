@@ -2,7 +2,7 @@
 
 ghost use Rattle.std.specs.Prelude.{◌≡◌, ◌≢◌, ◌≤◌, length, Err, IfOk, IfSome, IsTrue};
 ghost use Rattle.std.specs.Io.KnownBytes.{Appends};
-ghost use Rattle.script_runner.specs.Outside.{RoseBeyond};
+ghost use Rattle.script_runner.specs.Outside.{RoseBeyond, raised_by, WritesFront};
 
 use crate::outside::{Files, LoadFault, SaveFault};
 use std::alloc::Global;
@@ -47,6 +47,7 @@ fn read_all<F: Read>(
     ensures long { result ≡ Err LoadFault.TooLong → RoseBeyond most bytes_read.old bytes_read.new }
     ensures found { result ≢ Err LoadFault.Absent }
     ensures all { IfOk result (λ v. IfSome (F.remaining file.old) (λ left. v.items ≡ left)) }
+    ensures given { IfOk result (λ v. bytes_read.new ≡ raised_by (length v.items) bytes_read.old) }
 {
     let mut bytes = Vec::new(alloc);
     let mut total = 0u64;
@@ -75,9 +76,10 @@ fn read_all<F: Read>(
 }
 
 /// Writes a piece, in as many writes as it takes; an interrupted one is tried again. It is false
-/// where a write failed, or wrote nothing of what was left.
+/// where a write failed, or wrote nothing of what was left; a front of the piece is written then.
 pub fn write_piece<W: Write>(to: &mut W, bytes: &[u8]) -> bool
-    ensures { IsTrue result → Appends (W.contents to.old) (W.contents to.new) bytes.now }
+    ensures whole { IsTrue result → Appends (W.contents to.old) (W.contents to.new) bytes.now }
+    ensures front { WritesFront (W.contents to.old) (W.contents to.new) bytes.now }
 {
     let mut rest = bytes;
     for _ in 0..u64::MAX {

@@ -1,4 +1,4 @@
-use Rattle.std.proofs.Common.{◌≡◌, ◌≤◌, ◌+◌, ◌-◌, ◌^◌, min, length}
+use Rattle.std.proofs.Common.{◌≡◌, ◌≤◌, ◌+◌, ◌-◌, ◌^◌, max, min, length}
 use Rattle.std.specs.Io.KnownBytes.{Consumes}
 use Rattle.script_runner.proofs.disk.read_all.Given as goal
 
@@ -9,5 +9,6 @@ invariant-loop g l = record {
   risen : min (l.fn.bytes_read + l.total) (2 ^ 64 - 1) ≤ l.bytes_read;
   short : l.total ≤ l.most;
   whole : length l.bytes.items ≡ l.total;
+  exact : l.bytes_read ≡ max l.fn.bytes_read (min (l.fn.bytes_read + l.total) (2 ^ 64 - 1));
   read : Consumes (g.F.Read.remaining l.initial.file) (g.F.Read.remaining l.file) l.bytes.items;
 }
