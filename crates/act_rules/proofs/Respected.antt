@@ -1,8 +1,8 @@
 -- Words that acts are written in change what words are only as the rules say.
-use Rattle.std.proofs.Common.{◌≡◌, ◌⊎◌, refl, sym, ◌∙◌, ap, subst, inl, inr, ℕ, zero, suc, ◌+◌, ◌-◌, ◌*◌, ◌%◌, ◌≤◌, Bool, true, false, not, ◌==◌, ◌&&◌, ◌||◌, if◌then◌else◌, List, [], ◌∷◌, arith}
+use Rattle.std.proofs.Common.{◌≡◌, ◌⊎◌, refl, sym, ◌∙◌, ap, subst, inl, inr, ℕ, zero, suc, ◌+◌, ◌-◌, ◌*◌, ◌%◌, ◌≤◌, Bool, true, false, ◌==◌, ◌&&◌, ◌||◌, if◌then◌else◌, List, [], ◌∷◌, arith}
 use Rattle.td_words.specs.declared.places.TheConstants.{TDCS_OP_LOCK, TDCS_OP, TDCS_EPOCH, TDCS_ENTERED}
 use Rattle.std.specs.Prelude.{Option, None, nat_le, nat_lt}
-use Rattle.std.proofs.lemmas.Bool.{eq-eqb, eqb-true}
+use Rattle.std.proofs.lemmas.Bool.{eq-eqb, eqb-true, and_parts}
 use Rattle.td_words.specs.declared.names.PageKind.{PageKind}
 use Rattle.td_words.specs.declared.names.PageKind.TheVariants as kind
 use Rattle.td_words.specs.declared.names.LifeState.{LifeState}
@@ -17,6 +17,7 @@ use Rattle.flat_core.specs.Processor.{OfPage, OfOp, OfTree, OfEpoch}
 use Rattle.flat_core.specs.Lawful.{key_owner, Lawful, ArePagesOf}
 use Rattle.flat_core.specs.Conditions.{same_kind}
 use Rattle.flat_core.specs.Effects.{take_node, set_entry, set_op, set_epoch, set_life, set_key, leave_guest}
+use Rattle.flat_core.proofs.Tests.{by_test}
 use Rattle.word_rules.specs.Guards.{Grip, Locked}
 use Rattle.word_rules.specs.Rules.{Class, GuestWord, LeafEntry, Unused, moves, EpochCount}
 use Rattle.word_rules.specs.Views.{no_page, named_by}
@@ -25,19 +26,9 @@ use Rattle.word_rules.specs.Spots.{Spot, spot, slot_of, slot_spot, runs_in, page
 use Rattle.word_rules.specs.Cells.{one_of_parity, entered_of_parity}
 use Rattle.word_rules.specs.Permissions.{MayAt, Moves, Respects}
 use Rattle.act_rules.specs.Acts.{SameTd, SameWords, HoldsTd, EffectsRespect}
-use Rattle.act_rules.proofs.Stored.{by_test}
-
-pub and-left : (a b : Bool) → (a && b) ≡ true → a ≡ true
-and-left true b h = refl
-and-left false b h = cc
-
-pub and-right : (a b : Bool) → (a && b) ≡ true → b ≡ true
-and-right true b h = h
-and-right false b h = cc
-
-pub not-true : (b : Bool) → not b ≡ true → b ≡ false
-not-true true h = cc
-not-true false h = refl
+-- passed on: definitions of crates above name these here
+pub use Rattle.std.proofs.lemmas.Bool.{not-true}
+pub use Rattle.flat_core.proofs.Tests.{host_kind as host-kind, and_left as and-left, and_right as and-right}
 
 -- a page's words, from what tells of its TD and of its node
 
@@ -123,8 +114,8 @@ entry-state g w t level number e h =
       numbers = refl;
       tds = λ u. entry-td w t level number e u (λ n y z.
           let a : u ≡ t = eqb-true u t y in
-          let b : 0 ≡ level = eqb-true 0 level (and-left (0 == level) (n == number) z) in
-          let c : n ≡ number = eqb-true n number (and-right (0 == level) (n == number) z) in h ∙ rw (a, ← b, c) refl);
+          let b : 0 ≡ level = eqb-true 0 level (and_parts (0 == level) (n == number) z).0 in
+          let c : n ≡ number = eqb-true n number (and_parts (0 == level) (n == number) z).1 in h ∙ rw (a, ← b, c) refl);
     })
     (λ k. refl)
     refl
@@ -190,11 +181,6 @@ page-moved g w p k t level number m = record { word = at; slot = λ h. inl refl;
     at (Word q i) = by_test (q == p)
         (λ y. let is : q ≡ p = eqb-true q p y in inr (subst (λ (x : ℕ). Moves g w (Word x i)) (sym is) (m i)))
         (λ y. inl (there q i y))
-
-pub host-kind : (k : PageKind) → same_kind k kind.Nda ≡ true → k ≡ kind.Nda
-host-kind kind.Nda h = refl
-host-kind kind.Reg h = cc
-host-kind _ h = cc
 
 pub host-moves : (g : Grip) (w : World) (p i : ℕ) → w.pages.kinds p ≡ kind.Nda → g.sole (Locked (OfPage p)) ≡ true → Moves g w (Word p i)
 host-moves g w p i e s = rw e (inl (s, tt))

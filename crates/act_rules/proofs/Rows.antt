@@ -2,7 +2,7 @@
 use Rattle.std.proofs.Common.{◌≡◌, ◌⊎◌, refl, sym, ◌∙◌, ap, subst, inl, inr, ℕ, ◌+◌, List, [], ◌∷◌, ◌++◌, length, map, Bool, true, false, not, ◌==◌, nat_lt, arith}
 use Rattle.std.specs.Prelude.{Option, Some, None, filter}
 use Rattle.std.specs.List.{list_any}
-use Rattle.std.proofs.lemmas.Bool.{eq-eqb, eqb-true, ne_eqb}
+use Rattle.std.proofs.lemmas.Bool.{eq-eqb, eqb-true, ne_eqb, not-true, and_parts}
 use Rattle.std.proofs.lemmas.Bool.Decides.{nat_tests}
 use Rattle.td_words.specs.declared.calls.Call.TheVariants as call
 use Rattle.td_words.specs.declared.names.PageKind.{PageKind}
@@ -30,6 +30,7 @@ use Rattle.flat_core.specs.TdRows.{create, add_tdcx}
 use Rattle.flat_core.specs.KeyRows.{reclaim_conditions}
 use Rattle.flat_core.specs.VpRows.{create_vp}
 use Rattle.flat_core.specs.Tree.{page_of_gpa, number_at, entry_at, same_state}
+use Rattle.flat_core.proofs.Tests.{by_test, host_kind, tdr_kind}
 use Rattle.word_rules.specs.Guards.{Grip, Locked}
 use Rattle.word_rules.specs.Rules.{moves}
 use Rattle.word_rules.specs.Views.{named_by}
@@ -38,8 +39,7 @@ use Rattle.word_rules.specs.Spots.{spot, slot_spot, slot_of, page_spot, control_
 use Rattle.word_rules.specs.Permissions.{MayAt, Moves, Respects}
 use Rattle.word_rules.proofs.Conflicts.{respects-compose}
 use Rattle.act_rules.specs.Acts.{SameTd, HoldsTd, HoldsTries, RowsRespect}
-use Rattle.act_rules.proofs.Stored.{by_test}
-use Rattle.act_rules.proofs.Respected.{page-same, page-as, control-same, leaves, all-same, host-kind, host-moves, at-end, not-true, and-left, and-right, effects-respect}
+use Rattle.act_rules.proofs.Respected.{page-same, page-as, control-same, leaves, all-same, host-moves, at-end, effects-respect}
 
 owned : (k : PageKind) → (same_kind k kind.Nda ≡ true) ⊎ (same_kind k kind.Nda ≡ false)
 owned kind.Nda = inl refl
@@ -212,7 +212,7 @@ module _ (g : Grip) (w : World) where
       let tdr : w.pages.kinds p ≡ kind.Tdr = ap w.pages.kinds is ∙ root in
       given-back t p (rw tdr refl) (la.pages.tdr p tdr ∙ is) has alone (subst (λ (x : ℕ). g.sole (Locked (OfPage x)) ≡ true) (sym is) alone)
   reclaimed m t p false e la root has alone ps h =
-      given-back t p (not-true (is_host w p) (and-left (not (is_host w p)) (w.pages.owners p == t) ps.0)) (eqb-true _ t (and-right (not (is_host w p)) (w.pages.owners p == t) ps.0)) has alone h.0.1
+      given-back t p (not-true (is_host w p) (and_parts (not (is_host w p)) (w.pages.owners p == t) ps.0).0) (eqb-true _ t (and_parts (not (is_host w p)) (w.pages.owners p == t) ps.0).1) has alone h.0.1
 
   -- MNG.INIT
   initialized : (t : ℕ) → g.has (Locked (OfPage t)) ≡ true → g.sole (Locked (OfOp t)) ≡ true → Respects g w (begin_measurement t (set_epoch t 1 (set_op t op.Initialized w)))
@@ -292,31 +292,26 @@ live-of allowed life.KeysConfigured no-end among = refl
 live-of allowed life.Blocked no-end among = refl
 live-of allowed life.Teardown no-end among = cc
 
-tdr-kind : (k : PageKind) → same_kind k kind.Tdr ≡ true → k ≡ kind.Tdr
-tdr-kind kind.Tdr h = refl
-tdr-kind kind.Nda h = cc
-tdr-kind _ h = cc
-
 pub rows-respect : RowsRespect
 rows-respect o me (call.HostRead page word) g w la ps h = stays g w
 rows-respect o me (call.HostWrite page word value) g w la ps h = written g w page word value
 rows-respect o me (call.PhymemPageRdmd page) g w la ps h = stays g w
 rows-respect o me call.PhymemCacheWb g w la ps h = cached-back g w
 rows-respect o me (call.PhymemPageReclaim tdr page) g w la ps h =
-    reclaimed g w o.machine tdr page (page == tdr) refl la (tdr-kind (w.pages.kinds tdr) ps.1.1.0) h.0.0 h.0.1 ps.1.1.1.1 h.1
+    reclaimed g w o.machine tdr page (page == tdr) refl la (tdr_kind (w.pages.kinds tdr) ps.1.1.0) h.0.0 h.0.1 ps.1.1.1.1 h.1
 rows-respect o me (call.MngCreate tdr hkid) g w la ps h =
-    created o.machine g w tdr hkid la (host-kind (w.pages.kinds tdr) ps.1.1.0) (free-owner (w.key_table.keys hkid) ps.1.1.1.0) h.0.1 h.1.0.1
+    created o.machine g w tdr hkid la (host_kind (w.pages.kinds tdr) ps.1.1.0) (free-owner (w.key_table.keys hkid) ps.1.1.1.0) h.0.1 h.1.0.1
 rows-respect o me (call.MngKeyConfig tdr) g w la ps h = (effects-respect g w).life tdr life.KeysConfigured h.0.0 h.0.1
-rows-respect o me (call.MngAddcx tdr page) g w la ps h = tdcx-added o.machine g w tdr page la (host-kind (w.pages.kinds page) ps.1.1.1.1.1.1.0) ps.1.1.1.1.1.0 h.1.0.1
+rows-respect o me (call.MngAddcx tdr page) g w la ps h = tdcx-added o.machine g w tdr page la (host_kind (w.pages.kinds page) ps.1.1.1.1.1.1.0) ps.1.1.1.1.1.0 h.1.0.1
 rows-respect o me (call.MngInit tdr) g w la ps h = initialized g w tdr h.0 h.1.0.1
 rows-respect o me (call.MngRd tdr field) g w la ps h = stays g w
 rows-respect o me (call.MngVpflushdone tdr) g w la ps h =
-    ended g w tdr life.Blocked (FlushedOf tdr false) (la.keys.owner tdr (record { kind = tdr-kind (w.pages.kinds tdr) ps.1.0; life = live-of (life.HkidAssigned ∷ life.KeysConfigured ∷ []) (w.tds.lives tdr) refl ps.1.1.0 })) h.0.0 h.0.1
+    ended g w tdr life.Blocked (FlushedOf tdr false) (la.keys.owner tdr (record { kind = tdr_kind (w.pages.kinds tdr) ps.1.0; life = live-of (life.HkidAssigned ∷ life.KeysConfigured ∷ []) (w.tds.lives tdr) refl ps.1.1.0 })) h.0.0 h.0.1
 rows-respect o me (call.MngKeyFreeid tdr) g w la ps h =
-    ended g w tdr life.Teardown Unassigned (la.keys.owner tdr (record { kind = tdr-kind (w.pages.kinds tdr) ps.1.0; life = live-of (life.Blocked ∷ []) (w.tds.lives tdr) refl ps.1.1.0 })) h.0.0 h.0.1
+    ended g w tdr life.Teardown Unassigned (la.keys.owner tdr (record { kind = tdr_kind (w.pages.kinds tdr) ps.1.0; life = live-of (life.Blocked ∷ []) (w.tds.lives tdr) refl ps.1.1.0 })) h.0.0 h.0.1
 rows-respect o me (call.MrFinalize tdr) g w la ps h = finalized g w tdr h.0 h.1.0.1
 rows-respect o me (call.VpCreate tdr page) g w la ps h =
-    vp-added o.machine g w tdr page la (host-kind (w.pages.kinds page) ps.1.1.1.1.1.1.1.1.0) h.1.1.0.1
+    vp-added o.machine g w tdr page la (host_kind (w.pages.kinds page) ps.1.1.1.1.1.1.1.1.0) h.1.1.0.1
 rows-respect o me (call.VpInit tdr vp value) g w la ps h = vp-initialized g w vp value
 rows-respect o me (call.MrExtend tdr gpa) g w la ps h = measured g w tdr _
 rows-respect o me (call.MemSeptAdd tdr gpa level page) g w la ps h =

@@ -1,5 +1,5 @@
 -- A processor that runs while nobody else holds a lock: each try is granted, and a call is as good as done at once.
-use Rattle.std.proofs.Common.{◌≡◌, ◌≢◌, refl, sym, ◌∙◌, ap, subst, ℕ, zero, suc, ◌+◌, ◌-◌, ◌*◌, ◌<◌, ◌≤◌, List, [], ◌∷◌, ◌++◌, length, map, drop, replicate, Option, Some, None, Bool, true, false, not, ◌==◌, arith, append_assoc, append-nil, length-append, inl, inr}
+use Rattle.std.proofs.Common.{◌≡◌, ◌≢◌, refl, sym, ◌∙◌, ap, subst, ℕ, zero, suc, ◌+◌, ◌-◌, ◌*◌, ◌<◌, ◌≤◌, List, [], ◌∷◌, ◌++◌, length, map, drop, replicate, Some, None, Bool, true, false, not, ◌==◌, arith, append_assoc, append-nil, length-append, inl, inr}
 use Rattle.std.specs.List.{concat}
 use Rattle.std.proofs.lemmas.Bool.{ne_eqb}
 use Rattle.std.proofs.lemmas.Bool.Decides.{eqb_tells}
@@ -24,9 +24,12 @@ use Rattle.flat_core.specs.TdRows.{read_conditions}
 use Rattle.flat_core.specs.KeyRows.{reclaim_conditions}
 use Rattle.flat_core.specs.Table.{row_of, most_events}
 use Rattle.flat_core.specs.Bounds.{RowsTryFew}
-use Rattle.flat_core.specs.Event.{State, Event, OfCall, start, lines_left, calls_of, event_for, line_event, world_after, lp_after, is_granted, after_event, next_event, event, settled}
+use Rattle.flat_core.specs.Event.{State, Event, OfCall, start, lines_left, calls_of, event_for, line_event, world_after, lp_after, is_granted, after_event, event, settled}
 use Rattle.flat_core.specs.Run.{play, events_in, to_the_end}
 use Rattle.flat_core.specs.HostText.{reply_lines, lines_from, text_of, host_text}
+use Rattle.flat_core.proofs.Tests.{same_self, put_here}
+use Rattle.flat_core.proofs.Induction.{counts_stay, play_append}
+use Rattle.flat_core.proofs.Ends.{drop_next}
 use Rattle.flat_alone.specs.Whole.{first_fault, reply_unless, world_unless, row_reply, row_world, replies_of, world_of, lines_at_once, EachCallAtOnce}
 
 -- it holds no lock, and is being refused none
@@ -50,28 +53,12 @@ FreeTries hs [] = Unit {0}
 FreeTries hs (Check b r ∷ items) = b ≡ true → FreeTries hs items
 FreeTries hs (Try l m ∷ items) = (alone_in l hs ≡ 0) × (shared_for m l hs ≡ 0) × FreeTries (record { lock = l; mode = m } ∷ hs) items
 
-eq_self : (n : ℕ) → (n == n) ≡ true
-eq_self n = elim (eqb_tells n n) [ inl t ↦ t.0 | inr f ↦ absurd (f.1 refl) ]
-
-put_same : {A : Type 0} (f : ℕ → A) (p : ℕ) (v : A) → put f p v p ≡ v
-put_same f p v = rw (eq_self p) refl
-
 put_other : {A : Type 0} (f : ℕ → A) (p q : ℕ) (v : A) → q ≢ p → put f p v q ≡ f q
 put_other f p q v ne = rw (ne_eqb q p ne) refl
 
 sum_zero : (f : ℕ → ℕ) (n : ℕ) → ((q : ℕ) → f q ≡ 0) → sum_below f n ≡ 0
 sum_zero f zero h = refl
 sum_zero f (suc n) h = omega (arith, h n, sum_zero f n h)
-
-drop_next : {A : Type 0} (k : ℕ) (xs : List A) (y : A) (ys : List A) → drop k xs ≡ y ∷ ys → drop (suc k) xs ≡ ys
-drop_next zero [] y ys e = cc
-drop_next zero (x ∷ xs) y ys e = cc
-drop_next (suc k) [] y ys e = cc
-drop_next (suc k) (x ∷ xs) y ys e = drop_next k xs y ys e
-
-play-append : (o : Opening) (ps qs : List ℕ) (s : State) → play o (ps ++ qs) s ≡ play o qs (play o ps s)
-play-append o [] qs s = refl
-play-append o (p ∷ ps) qs s = play-append o ps qs (event o s p)
 
 play-replicate : (o : Opening) (p a b : ℕ) (s : State) → play o (replicate (a + b) p) s ≡ play o (replicate b p) (play o (replicate a p) s)
 play-replicate o p zero b s = let e : 0 + b ≡ b = omega arith in ap (λ (n : ℕ). play o (replicate n p) s) e
@@ -86,7 +73,7 @@ plain_row o p _ = refl
 
 -- a page that isn't the TDR page
 other_page : (page tdr : ℕ) → not (page == tdr) ≡ true → (tdr == page) ≡ false
-other_page page tdr h = ne_eqb tdr page (λ e. absurd (let no : not (tdr == tdr) ≡ true = subst (λ (x : ℕ). not (x == tdr) ≡ true) (sym e) h in let yes : (tdr == tdr) ≡ true = eq_self tdr in let bad : false ≡ true = rw yes at no in cc))
+other_page page tdr h = ne_eqb tdr page (λ e. absurd (let no : not (tdr == tdr) ≡ true = subst (λ (x : ℕ). not (x == tdr) ≡ true) (sym e) h in let yes : (tdr == tdr) ≡ true = same_self tdr in let bad : false ≡ true = rw yes at no in cc))
 
 free_reclaim : (w : World) (tdr page : ℕ) (b : Bool) → (page == tdr) ≡ b → FreeTries (record { lock = OfPage tdr; mode = Exclusive } ∷ []) (reclaim_conditions w tdr page b)
 free_reclaim w tdr page true e = λ h. tt
@@ -202,7 +189,7 @@ module _ (tries : RowsTryFew) (o : Opening) (p : ℕ) (before : ℕ → Lp) (qui
   moved : (s : State) (w : World) (lp : Lp) (e : Event) (granted : Bool) → At s w lp → is_granted s e ≡ granted → At (after_event p s (Some e)) (world_after e w) (lp_after w granted e lp)
   moved s w lp e granted at g = record {
     world = ap (world_after e) at.world;
-    own = put_same s.lps p _ ∙ (ap (λ b. lp_after s.world b e (s.lps p)) g ∙ (ap (λ v. lp_after v granted e (s.lps p)) at.world ∙ ap (λ x. lp_after w granted e x) at.own));
+    own = put_here s.lps p _ ∙ (ap (λ b. lp_after s.world b e (s.lps p)) g ∙ (ap (λ v. lp_after v granted e (s.lps p)) at.world ∙ ap (λ x. lp_after w granted e x) at.own));
     others = λ q ne. put_other s.lps p q _ ne ∙ at.others q ne;
   }
 
@@ -338,7 +325,7 @@ each tries o (cs ∷ css) p w s world quiet fresh calls =
     (λ q h. at.others q (λ e. omega arith) ∙ fresh q (omega arith))
     (λ i. let e : suc p + i ≡ p + suc i = omega arith in ap (calls_of o.calls) e ∙ calls (suc i)) in
     let last = play o (to_the_end (suc p) css) t in
-    let joined : play o (to_the_end p (cs ∷ css)) s ≡ last = play-append o (replicate (events_in cs) p) (to_the_end (suc p) css) s in
+    let joined : play o (to_the_end p (cs ∷ css)) s ≡ last = play_append o (replicate (events_in cs) p) (to_the_end (suc p) css) s in
     let replied : (last.lps p).replies ≡ replies_of o p w cs = ap (λ (x : Lp). x.replies) (rest.1 p (omega arith) ∙ at.own) in
     let next_one : p + 1 ≡ suc p = omega arith in
     let texts : lines_from (length css) (p + 1) last.lps ≡ lines_at_once o (p + 1) (world_of o p w cs) css =
@@ -349,21 +336,12 @@ each tries o (cs ∷ css) p w s world quiet fresh calls =
       λ q h. subst (λ x. x.lps q ≡ s.lps q) (sym joined) (rest.1 q (omega arith) ∙ at.others q (λ e. omega arith)),
     )
 
--- as many processors as before
-same_count : (o : Opening) (ps : List ℕ) (s : State) → (play o ps s).lp_count ≡ s.lp_count
-same_count o [] s = refl
-same_count o (p ∷ ps) s = same_count o ps (event o s p) ∙ by (next_event o s p)
-  where
-    by : (x : Option Event) → (after_event p s x).lp_count ≡ s.lp_count
-    by None = refl
-    by (Some e) = refl
-
 pub each_call_at_once : RowsTryFew → EachCallAtOnce
 unfolding host_text text_of
 each_call_at_once tries o =
     let end = to_the_end 0 o.calls in
     let s = start o None in
-    ap (λ (n : ℕ). concat (lines_from n 0 (play o end s).lps)) (same_count o end s)
+    ap (λ (n : ℕ). concat (lines_from n 0 (play o end s).lps)) (counts_stay o end s)
     ∙ ap (λ (x : List (List ℕ)). concat x)
     ((each tries o o.calls 0 (first_world o.machine.pages None) s refl (λ q. quiet_out []) (λ q h. refl)
     (λ i. let e : 0 + i ≡ i = omega arith in ap (calls_of o.calls) e)).0)

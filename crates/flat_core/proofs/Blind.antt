@@ -462,7 +462,7 @@ is_begun : (s : OpState) → list_any (λ a. op_number a == op_number s) (op.Ini
 is_begun op.Initialized h = refl
 is_begun _ h = cc
 
-is_living : (s : LifeState) → list_any (λ a. life_number a == life_number s) (life.KeysConfigured ∷ []) ≡ true → (life_number s == life_number life.Teardown) ≡ false
+pub is_living : (s : LifeState) → list_any (λ a. life_number a == life_number s) (life.KeysConfigured ∷ []) ≡ true → (life_number s == life_number life.Teardown) ≡ false
 is_living life.KeysConfigured h = refl
 is_living _ h = cc
 

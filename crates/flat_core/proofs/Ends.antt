@@ -13,7 +13,7 @@ use Rattle.td_words.specs.declared.names.EntryState.TheVariants as entry
 use Rattle.std.specs.Prelude.{filter, nat_lt}
 use Rattle.flat_core.specs.Conditions.{page_exclusive, host_page}
 use Rattle.flat_core.specs.Tree.{entry_at, same_state, state_in}
-use Rattle.flat_core.specs.World.{World, put}
+use Rattle.flat_core.specs.World.{World}
 use Rattle.flat_core.specs.Processor.{LockId, Held, Phase, Trying, Undoing, Answered, Progress, Guest, Entering, Lp, idle, nothing_yet}
 use Rattle.flat_core.specs.Opening.{Opening}
 use Rattle.flat_core.specs.Row.{Item, Check, Try, Row, Move, Attempts, Refuses, Succeeds, next, next_in, tries_in}
@@ -22,8 +22,8 @@ use Rattle.flat_core.specs.Table.{row_of, most_tries}
 use Rattle.flat_core.specs.Event.{State, Event, OfCall, start, next_event, event_for, line_event, lines_left, calls_of, event, after_event, lp_after, call_lp, succeeded, settled, settle, call_busy, is_granted}
 use Rattle.flat_core.specs.Run.{play, events_in, to_the_end}
 use Rattle.flat_core.specs.Bounds.{call_left, left_of, events_left, EventsRunOut, RunsEnd}
-use Rattle.flat_core.proofs.Induction.{event_keeps, play_keeps}
-use Rattle.flat_core.proofs.Tests.{by_test}
+use Rattle.flat_core.proofs.Induction.{event_keeps, play_keeps, play_append}
+use Rattle.flat_core.proofs.Tests.{by_test, put_here}
 
 -- what holds of each move that a row may give
 pub next_is : {R : Type 0} (C : Move R → Type 0) (items : List (Item R)) (k : ℕ) → ((r : R) → C (Refuses r)) → C Succeeds → ((l : LockId) (m : Mode) → k < tries_in items → C (Attempts l m)) → C (next items k)
@@ -81,7 +81,7 @@ pub record IsTimely (calls : List Call) (lp : Lp) : Type 0 where
   pub here : lp.guest ≡ None
   pub call : IsTimelyAt (drop (length lp.replies) calls) lp.call
 
-drop_next : {A : Type 0} (k : ℕ) (xs : List A) (y : A) (ys : List A) → drop k xs ≡ y ∷ ys → drop (suc k) xs ≡ ys
+pub drop_next : {A : Type 0} (k : ℕ) (xs : List A) (y : A) (ys : List A) → drop k xs ≡ y ∷ ys → drop (suc k) xs ≡ ys
 drop_next zero [] y ys e = cc
 drop_next zero (x ∷ xs) y ys e = cc
 drop_next (suc k) [] y ys e = cc
@@ -199,9 +199,6 @@ idle_timely calls = record { here = refl; call = fresh_timely calls }
 always_timely : (o : Opening) (ws : Option (List ℕ)) (ls : List ℕ) → AllTimely o (play o ls (start o ws))
 always_timely o ws ls = play_keeps o (AllTimely o) (timely_step o) ls (start o ws) (λ q. idle_timely (calls_of o.calls q))
 
-put_here : {A : Type 0} (f : ℕ → A) (p : ℕ) (x : A) → put f p x p ≡ x
-put_here f p x = let e : (p == p) ≡ true = eq-eqb p p refl in rw e refl
-
 event_lowers : (o : Opening) (s : State) (p : ℕ) (e : Event) → AllTimely o s → next_event o s p ≡ Some e → events_left o (event o s p) p < events_left o s p
 event_lowers o s p e h is =
     let x : Lp = lp_after s.world (is_granted s e) e (s.lps p) in
@@ -261,10 +258,6 @@ times_end (cs ∷ css) k zero q e =
     (omega (arith, times_append k (replicate (events_in cs) k) (to_the_end (suc k) css), times_replicate k (events_in cs)))
 times_end (cs ∷ css) k (suc p) q e =
     omega (arith, times_append q (replicate (events_in cs) k) (to_the_end (suc k) css), times_end css (suc k) p q (omega arith))
-
-play_append : (o : Opening) (xs ys : List ℕ) (s : State) → play o (xs ++ ys) s ≡ play o ys (play o xs s)
-play_append o [] ys s = refl
-play_append o (x ∷ xs) ys s = play_append o xs ys (event o s x)
 
 -- a line that is left has an event left
 some_left : (c : Call) (cs : List Call) (phase : Phase Reply) (hs : List Held) → length hs ≤ most_tries c → IsUnderWay phase hs → 1 ≤ call_left (most_tries c) phase (length hs) + events_in cs

@@ -1,6 +1,6 @@
 -- The inductions over a run, written once: what each event keeps of the state, what each act keeps of the world, what
 -- each event keeps of the processors' records, and what one event in each of two runs keeps of both.
-use Rattle.std.proofs.Common.{◌≡◌, refl, ℕ, zero, suc, ◌+◌, List, [], ◌∷◌, length, Option, Some, None, Bool, true, false}
+use Rattle.std.proofs.Common.{◌≡◌, refl, ℕ, zero, suc, ◌+◌, List, [], ◌∷◌, ◌++◌, length, Option, Some, None, Bool, true, false}
 use Rattle.td_words.specs.declared.names.Access.{Access}
 use Rattle.td_words.specs.declared.calls.Call.{Call}
 use Rattle.td_words.specs.declared.calls.GuestOp.{GuestOp}
@@ -31,6 +31,17 @@ module _ (o : Opening) (Q : State → Type 0) (step : (s : State) (p : ℕ) (e :
   pub play_keeps : (ps : List ℕ) (s : State) → Q s → Q (play o ps s)
   play_keeps [] s h = h
   play_keeps (p ∷ ps) s h = play_keeps ps (event o s p) (event_keeps s p h)
+
+-- as many processors as before
+pub count_stays : (o : Opening) (s : State) (p : ℕ) → (event o s p).lp_count ≡ s.lp_count
+count_stays o s p = event_keeps o (λ (t : State). t.lp_count ≡ s.lp_count) (λ t q e is h. h) s p refl
+
+pub counts_stay : (o : Opening) (ps : List ℕ) (s : State) → (play o ps s).lp_count ≡ s.lp_count
+counts_stay o ps s = play_keeps o (λ (t : State). t.lp_count ≡ s.lp_count) (λ t q e is h. h) ps s refl
+
+pub play_append : (o : Opening) (xs ys : List ℕ) (s : State) → play o (xs ++ ys) s ≡ play o ys (play o xs s)
+play_append o [] ys s = refl
+play_append o (x ∷ xs) ys s = play_append o xs ys (event o s x)
 
 -- what one event in each of two runs keeps of both, every schedule keeps
 module _ (o o' : Opening) (R : State → State → Type 0) (step : (s t : State) (p : ℕ) → R s t → R (event o s p) (event o' t p)) where

@@ -1,7 +1,7 @@
 -- Each row's act keeps what every world keeps.
 use Rattle.std.proofs.Common.{lit<, lit≤, ◌≡◌, refl, sym, ◌∙◌, subst, ap, ℕ, zero, suc, ◌<◌, ◌≤◌, List, [], ◌∷◌, length, Option, Some, None, Bool, true, false, not, ◌==◌, ◌&&◌, nat_le, arith}
 use Rattle.std.specs.List.{list_any}
-use Rattle.std.proofs.lemmas.Bool.{eqb-true}
+use Rattle.std.proofs.lemmas.Bool.{eqb-true, not-true, and_parts}
 use Rattle.mrtd_measure.specs.Records.{page_record, chunk_records}
 use Rattle.td_words.specs.declared.names.PageKind.{PageKind}
 use Rattle.td_words.specs.declared.names.PageKind.TheVariants as kind
@@ -30,7 +30,7 @@ use Rattle.flat_core.specs.VpRows.{create_vp, initialize_vp}
 use Rattle.flat_core.specs.MemRows.{add_sept, read_sept, add_page, chunk_bytes, extend}
 use Rattle.flat_core.specs.Table.{row_of}
 use Rattle.flat_core.specs.Lawful.{IsAlive, AreControls, ArePagesOf, LawfulPages, LawfulTds, LawfulTree, LawfulKeys, LawfulBeginnings, Lawful, RowKeeps, is_free, key_owner}
-use Rattle.flat_core.proofs.Tests.{by_test, host_kind, tdr_kind, lt_of, range_of, some_same, same_self, not_true, and_left, and_right}
+use Rattle.flat_core.proofs.Tests.{by_test, host_kind, tdr_kind, lt_of, range_of, some_same, same_self}
 use Rattle.flat_core.proofs.Pages.{taken, other, taken_node, taken_controls, taken_list, unowned, taken_pages}
 use Rattle.flat_core.proofs.Maps.{kind_named, is_upper, map_kept, walk_passed}
 use Rattle.flat_core.proofs.Parts.{IsLive, new_kept, key_kept, write_back_kept, life_kept, op_kept, epoch_kept, begin_kept, measure_kept, end_kept, control_kept, vp_kept, taken_kept, ended_kept, left_kept}
@@ -77,8 +77,8 @@ reclaim_kept m w t p b e l root dead ps = by b e ps
         let tdr : w.pages.kinds p ≡ kind.Tdr = rw here root in
         left_kept m w' t p l' root dead (rw tdr refl) (l.pages.tdr p tdr ∙ here) (λ y. eqb-true _ 0 ps.0)
     by false e ps =
-        left_kept m w' t p l' root dead (not_true (is_host w p) (and_left (not (is_host w p)) (w.pages.owners p == t) ps.0))
-        (eqb-true _ t (and_right (not (is_host w p)) (w.pages.owners p == t) ps.0)) (λ y. absurd (let no : true ≡ false = sym y ∙ e in cc))
+        left_kept m w' t p l' root dead (not-true (is_host w p) (and_parts (not (is_host w p)) (w.pages.owners p == t) ps.0).0)
+        (eqb-true _ t (and_parts (not (is_host w p)) (w.pages.owners p == t) ps.0).1) (λ y. absurd (let no : true ≡ false = sym y ∙ e in cc))
 
 pub reclaim_page-keeps : (m : Machine) (t p : ℕ) → RowKeeps m (reclaim_page m t p)
 reclaim_page-keeps m t p = record {

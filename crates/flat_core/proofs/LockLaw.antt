@@ -114,7 +114,7 @@ module _ (count : List Held → ℕ) (nil : count [] ≡ 0) (tail : (h : Held) (
   event_more w b (Leaves v out) lp = omega (arith, nil)
 
 -- over all processors
-sum_above : (f : Lp → ℕ) (lps : ℕ → Lp) (p : ℕ) (x : Lp) (n : ℕ) → n ≤ p → sum_below (λ q. f (put lps p x q)) n ≡ sum_below (λ q. f (lps q)) n
+pub sum_above : (f : Lp → ℕ) (lps : ℕ → Lp) (p : ℕ) (x : Lp) (n : ℕ) → n ≤ p → sum_below (λ q. f (put lps p x q)) n ≡ sum_below (λ q. f (lps q)) n
 sum_above f lps p x zero h = refl
 sum_above f lps p x (suc n) h =
     let ne : (n == p) ≡ false = ne_eqb n p (λ e. omega arith) in

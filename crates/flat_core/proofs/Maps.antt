@@ -167,7 +167,7 @@ module _ (m : Machine) (w : World) (p t level number : ℕ) (s : EntryState) (ho
 
 -- A walk that finds its entry passed over one that isn't FREE directly above it.
 
-not_free : (s : EntryState) → same_state s entry.NlMapped ≡ true → is_free s ≡ false
+pub not_free : (s : EntryState) → same_state s entry.NlMapped ≡ true → is_free s ≡ false
 not_free entry.Free h = cc
 not_free _ h = refl
 

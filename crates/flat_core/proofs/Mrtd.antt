@@ -6,10 +6,9 @@ use Rattle.std.proofs.lemmas.Nat.{le_bytes_8}
 use Rattle.sha2.specs.Sha512.{sha384, digest_bytes as hash_bytes, final_hash, initial_hash_384}
 use Rattle.td_words.specs.declared.replies.Value.TheVariants as value
 use Rattle.td_words.specs.declared.calls.Call.TheVariants as call
-use Rattle.flat_core.specs.World.{put}
 use Rattle.flat_core.specs.Digests.{digest_word, digest_bytes, six_words}
 use Rattle.flat_core.specs.Laws.{MrtdIsTheDigest, RecordsAreMeasured}
-use Rattle.flat_core.proofs.Tests.{same_self}
+use Rattle.flat_core.proofs.Tests.{put_here}
 
 byte_small : (i n : ℕ) → byte_at i n < 256
 byte_small zero n = omega arith
@@ -45,12 +44,9 @@ digest_read m =
     let h = final_hash initial_hash_384 m in
     subst (λ (l : List ℕ). digest_bytes (six_words (digest_word l)) ≡ l) (sym (sha384_words m)) (six_read (slice_index h 0) (slice_index h 1) (slice_index h 2) (slice_index h 3) (slice_index h 4) (slice_index h 5))
 
-put_same : (f : ℕ → ℕ → ℕ) (t : ℕ) (x : ℕ → ℕ) → put f t x t ≡ x
-put_same f t x = rw (same_self t) refl
-
 pub mrtd_is_the_digest : MrtdIsTheDigest
 mrtd_is_the_digest m w t =
-    ap (λ (f : ℕ → ℕ). value.Digest (digest_bytes (six_words f))) (put_same w.tds.mrtds t (digest_word (sha384 (w.tds.measured t))))
+    ap (λ (f : ℕ → ℕ). value.Digest (digest_bytes (six_words f))) (put_here w.tds.mrtds t (digest_word (sha384 (w.tds.measured t))))
     ∙ ap (λ (l : List ℕ). value.Digest l) (digest_read (w.tds.measured t))
 
 pub records_are_measured : RecordsAreMeasured

@@ -1,7 +1,7 @@
 -- What the words that acts are written in keep of a lawful world.
 use Rattle.std.proofs.Common.{lit<, ◌≡◌, ◌≢◌, refl, sym, ◌∙◌, subst, ap, ℕ, zero, suc, ◌<◌, ◌≤◌, ◌^◌, List, [], ◌∷◌, ◌++◌, length, length-append, Some, None, true, false, not, ◌==◌, ◌&&◌, nat_lt, arith}
 use Rattle.std.specs.List.{list_any}
-use Rattle.std.proofs.lemmas.Bool.{eq-eqb, eqb-true, eqb-false, ne_eqb}
+use Rattle.std.proofs.lemmas.Bool.{eq-eqb, eqb-true, eqb-false, ne_eqb, not-true, and_parts}
 use Rattle.td_words.specs.declared.names.PageKind.{PageKind}
 use Rattle.td_words.specs.declared.names.PageKind.TheVariants as kind
 use Rattle.td_words.specs.declared.names.LifeState.{LifeState}
@@ -15,7 +15,7 @@ use Rattle.flat_core.specs.Locks.{one_if}
 use Rattle.flat_core.specs.Conditions.{is_host_in, owned_below}
 use Rattle.flat_core.specs.Effects.{take_node, give_back, set_key, set_life, set_op, set_epoch, add_control, add_vp, begin_measurement, measure, end_measurement, write_back, written_back}
 use Rattle.flat_core.specs.Lawful.{IsAlive, IsPageOf, IsNodeOf, AreControls, ArePagesOf, all_differ, LawfulPages, LawfulTds, LawfulTree, LawfulKeys, LawfulBeginnings, Lawful, IsNew, is_node, is_free, key_owner}
-use Rattle.flat_core.proofs.Tests.{by_test, some_same, lt_of, not_true, and_left, and_right}
+use Rattle.flat_core.proofs.Tests.{by_test, some_same, lt_of}
 use Rattle.flat_core.proofs.Pages.{node_kept, controls_kept, pages_kept, taken, other, taken_node, taken_controls, taken_list, taken_pages}
 
 -- a life that isn't at its end
@@ -272,7 +272,7 @@ module _ (m : Machine) (w : World) (t p : ℕ) (l : Lawful m w) (page : IsPageOf
       (λ y. absurd (let no : true ≡ false = rw y at h in cc))
       (λ y. (let rest : list_any (λ x. x == p) qs ≡ false = rw y at h in
       let apart' : (p == q) ≡ false = ne_eqb p q (λ e. absurd (let no : true ≡ false = sym (eq-eqb q p (sym e)) ∙ y in cc)) in
-      rw (not_among q qs apart' (not_true _ (and_left (not (list_any (λ x. x == q) qs)) (all_differ qs) d)), all_differ_more qs rest (and_right (not (list_any (λ x. x == q) qs)) (all_differ qs) d)) refl))
+      rw (not_among q qs apart' (not-true _ (and_parts (not (list_any (λ x. x == q) qs)) (all_differ qs) d).0), all_differ_more qs rest (and_parts (not (list_any (λ x. x == q) qs)) (all_differ qs) d).1) refl))
 
   pub vp_kept : Lawful m (add_vp t p w)
   vp_kept = record {

@@ -1,10 +1,13 @@
 -- Tests and what they tell.
-use Rattle.std.proofs.Common.{◌≡◌, ◌≢◌, refl, ℕ, ◌<◌, ◌≤◌, Some, Bool, true, false, not, ◌==◌, ◌&&◌, nat_lt, nat_le, arith}
-use Rattle.std.proofs.lemmas.Bool.{eq-eqb}
+use Rattle.std.proofs.Common.{◌≡◌, ◌≢◌, refl, ℕ, ◌<◌, ◌≤◌, Some, Bool, true, false, ◌==◌, ◌&&◌, nat_lt, nat_le, arith}
+use Rattle.std.proofs.lemmas.Bool.{eq-eqb, and_parts}
 use Rattle.std.proofs.lemmas.Bool.Decides.{nat_tests}
 use Rattle.td_words.specs.declared.names.PageKind.{PageKind}
 use Rattle.td_words.specs.declared.names.PageKind.TheVariants as kind
 use Rattle.flat_core.specs.Conditions.{same_kind}
+use Rattle.flat_core.specs.World.{put}
+-- passed on: definitions of crates above name these here
+pub use Rattle.std.proofs.lemmas.Bool.{not-true as not_true}
 
 pub by_test : {A : Type 0} (b : Bool) → (b ≡ true → A) → (b ≡ false → A) → A
 by_test true t f = t refl
@@ -35,14 +38,11 @@ some_same a b e = cc
 pub same_self : (n : ℕ) → (n == n) ≡ true
 same_self n = eq-eqb n n refl
 
-pub not_true : (b : Bool) → not b ≡ true → b ≡ false
-not_true true h = cc
-not_true false h = refl
+pub put_here : {A : Type 0} (f : ℕ → A) (p : ℕ) (x : A) → put f p x p ≡ x
+put_here f p x = rw (same_self p) refl
 
 pub and_left : (a b : Bool) → (a && b) ≡ true → a ≡ true
-and_left true b h = refl
-and_left false b h = cc
+and_left a b h = (and_parts a b h).0
 
 pub and_right : (a b : Bool) → (a && b) ≡ true → b ≡ true
-and_right true b h = h
-and_right false b h = cc
+and_right a b h = (and_parts a b h).1

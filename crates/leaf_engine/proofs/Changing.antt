@@ -1,5 +1,5 @@
 -- The items of a leaf's changes make of the table what the changes make of memory.
-use Rattle.std.proofs.Common.{◌≡◌, ℕ, ◌+◌, ◌-◌, ◌%◌, ◌^◌, ◌<◌, ◌≤◌, Bool, true, false, ◌==◌, cond, if◌then◌else◌, List, [], ◌∷◌, ◌++◌, Option, refl, ap, sym, ◌∙◌, subst, inl, inr, arith}
+use Rattle.std.proofs.Common.{◌≡◌, ℕ, ◌+◌, ◌-◌, ◌%◌, ◌^◌, ◌<◌, ◌≤◌, Bool, true, false, ◌==◌, cond, if◌then◌else◌, List, [], ◌∷◌, Option, refl, ap, sym, ◌∙◌, subst, inl, inr, arith}
 use Rattle.std.proofs.lemmas.Bool.{eq-eqb, eqb-true}
 use Rattle.std.proofs.lemmas.Bool.Decides.{nat_tests}
 use Rattle.td_words.specs.declared.machines.Machine.{Machine}
@@ -7,9 +7,11 @@ use Rattle.td_words.specs.Address.{lock_at, pamt_at, word_at, key_at}
 use Rattle.td_words.specs.Place.{WordPlace, Lock, Pamt, Word, Key, IsIn, address, same_place}
 use Rattle.td_words.specs.Laws.{PlacesInjective}
 use Rattle.mrtd_measure.specs.declared.measures.Measure.{Measure}
-use Rattle.step_core.specs.Words.{Words, with_word, after_step}
-use Rattle.step_core.specs.Items.{Table, Taken, Stepped, Swapped, Missed, PlaysTo, with_slot}
+use Rattle.step_core.specs.Words.{Words, with_word}
+use Rattle.step_core.specs.Items.{Table, Taken, PlaysTo, with_slot}
 use Rattle.step_core.specs.Laws.{PagesChangeAlone, is_word_of}
+use Rattle.step_core.proofs.Paged.{parts}
+use Rattle.flat_core.proofs.Tests.{by_test}
 use Rattle.leaf_engine.specs.declared.needs.Write.{Write}
 use Rattle.leaf_engine.specs.Changes.{Hand, Memory, Change, Put, PutHash, Raise, Clear, Copy, Swap, put_slot, put_page, changed, changed_all}
 use Rattle.lock_words.specs.LockWords.{put_word}
@@ -19,10 +21,6 @@ use Rattle.leaf_engine.specs.Items.{IsWritten, IsChanged, AreChanged}
 use Rattle.leaf_engine.specs.Tables.{IsMemory, IsChangeIn, AreChangesIn}
 
 -- two addresses are one where the places are
-
-by_test : {P : Type 0} (b : Bool) → (b ≡ true → P) → (b ≡ false → P) → P
-by_test true f g = f refl
-by_test false f g = g refl
 
 pub same_address : PlacesInjective → (m : Machine) (r q : WordPlace) → IsIn m r → IsIn m q → (address m.pages r == address m.pages q) ≡ same_place r q
 same_address inj m r q a b = by_test (same_place r q)
@@ -142,22 +140,6 @@ one-change inj pages m (Swap k made) h between h' xs t u mem a i (inl w) p mm =
       hand = subst (λ (z : Option Measure). IsHand z (mem.slots k)) (sym p'.0) (mm.slots k a);
     }
 one-change inj pages m (Swap k made) h between h' xs t u mem a i (inr w) p mm = absurd (subst (λ (z : List Taken). PlaysTo t z u) w.1 p)
-
--- items in two parts are played over a table in the middle
-pub record Parts (t v : Table) (xs ys : List Taken) : Type 0 where
-  pub middle : Table
-  pub first : PlaysTo t xs middle
-  pub second : PlaysTo middle ys v
-
-pub parts : (t v : Table) (xs ys : List Taken) → PlaysTo t (xs ++ ys) v → Parts t v xs ys
-parts t v [] ys p = record { middle = t; first = (refl, refl); second = p }
-parts t v (Stepped s a ∷ xs) ys p =
-    let r = parts (record t { words = after_step t.words s }) v xs ys p.1 in
-    record { middle = r.middle; first = (p.0, r.first); second = r.second }
-parts t v (Swapped k put taken ∷ xs) ys p =
-    let r = parts (record t { slots = with_slot t.slots k put }) v xs ys p.1 in
-    record { middle = r.middle; first = (p.0, r.first); second = r.second }
-parts t v (Missed k ∷ xs) ys p = absurd p
 
 memory-same : (m : Machine) (t u : Table) (h h' : Option Measure) (mem : Memory) → h' ≡ h → PlaysTo t [] u → IsMemory m t h mem → IsMemory m u h' mem
 memory-same m t u h h' mem e p mm = record {

@@ -1,5 +1,6 @@
 -- A decision is the next need of its tree, and its writes are the tree's changes.
-use Rattle.std.proofs.Common.{◌≡◌, ℕ, zero, suc, ◌+◌, ◌<◌, Bool, true, false, ◌&&◌, List, [], ◌∷◌, ◌++◌, map, drop, Option, Some, None, Result, Ok, Err, MatchOption, refl, ap, sym, ◌∙◌, subst, arith}
+use Rattle.std.proofs.Common.{◌≡◌, ℕ, zero, suc, ◌+◌, ◌<◌, true, false, List, [], ◌∷◌, ◌++◌, map, drop, Option, Some, None, Result, Ok, Err, MatchOption, refl, ap, sym, ◌∙◌, subst, arith}
+use Rattle.std.proofs.lemmas.Bool.{and_parts}
 use Rattle.std.proofs.lemmas.List.{append-nil}
 use Rattle.td_words.specs.declared.names.LockName.{LockName}
 use Rattle.td_words.specs.declared.names.Mode.{Mode}
@@ -114,23 +115,15 @@ record IsNext (m : Machine) (w : Write) (cs : List Change) (k : ℕ) : Type 0 wh
   pub plain : is_plain change ≡ true
   pub inside : WriteInside m w
 
-and_first : (a b : Bool) → (a && b) ≡ true → a ≡ true
-and_first true b h = refl
-and_first false b h = cc
-
-and_second : (a b : Bool) → (a && b) ≡ true → b ≡ true
-and_second true b h = h
-and_second false b h = cc
-
 next_of : (m : Machine) (w : Write) (cs : List Change) (k : ℕ) → are_plain cs ≡ true → WritesInside m (map (write_of m.pages None) cs)
     → drop k (map (write_of m.pages None) cs) ≡ w ∷ drop (suc k) (map (write_of m.pages None) cs) → IsNext m w cs k
 next_of m w [] zero p i e = cc
 next_of m w [] (suc k) p i e = cc
 next_of m w (c ∷ cs) zero p i e =
     let same_write : w ≡ write_of m.pages None c = cc in
-    record { change = c; left = refl; write = same_write; plain = and_first (is_plain c) (are_plain cs) p; inside = rw same_write i.0 }
+    record { change = c; left = refl; write = same_write; plain = (and_parts (is_plain c) (are_plain cs) p).0; inside = rw same_write i.0 }
 next_of m w (c ∷ cs) (suc k) p i e =
-    let r = next_of m w cs k (and_second (is_plain c) (are_plain cs) p) i.1 e in
+    let r = next_of m w cs k (and_parts (is_plain c) (are_plain cs) p).1 i.1 e in
     record { change = r.change; left = r.left; write = r.write; plain = r.plain; inside = r.inside }
 
 none_of : (n : ℕ) (cs : List Change) (k : ℕ) → drop k (map (write_of n None) cs) ≡ [] → drop k cs ≡ []

@@ -8,8 +8,8 @@ use Rattle.td_words.specs.Place.{WordPlace}
 use Rattle.td_words.specs.Place as place
 use Rattle.flat_core.specs.World.{World}
 use Rattle.flat_core.specs.Event.{State}
+use Rattle.flat_core.proofs.Tests.{by_test}
 use Rattle.word_rules.specs.Cells.{Shows, IsAs, key_cell}
-use Rattle.act_rules.proofs.Stored.{by_test}
 use Rattle.leaf_engine.specs.Means.{IsHkid}
 use Rattle.leaf_parts.specs.Words.{is_hkid}
 

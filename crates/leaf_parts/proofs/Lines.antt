@@ -5,7 +5,7 @@ use Rattle.word_rules.specs.Lines.{Line, At, Run, in_lines}
 use Rattle.word_rules.specs.Cells.{IsAs}
 use Rattle.word_rules.specs.Rules.{Class, Unused}
 use Rattle.word_rules.specs.Spots.{or_unused}
-use Rattle.act_rules.proofs.Stored.{by_test}
+use Rattle.flat_core.proofs.Tests.{by_test}
 
 -- a word is as the line says that stands at its place, or as the lines behind it say
 pub line : (n i x : ℕ) (rest : List (Line ℕ)) (v : ℕ) → (i ≡ n → v ≡ x) → ((i == n) ≡ false → IsAs (in_lines rest i) v) → IsAs (in_lines (At n x ∷ rest) i) v

@@ -4,7 +4,7 @@ use Rattle.std.proofs.lemmas.Bool.{eq-eqb, eqb-true, eqb-false, ne_eqb, lt-ltb}
 use Rattle.flat_core.specs.World.{Pages}
 use Rattle.flat_core.specs.Locks.{one_if}
 use Rattle.flat_core.specs.Conditions.{is_host_in, owned_below}
-use Rattle.act_rules.proofs.Stored.{by_test}
+use Rattle.flat_core.proofs.Tests.{by_test}
 use Rattle.leaf_parts.specs.Words.{raised}
 
 -- whether a page is one of a TD's children

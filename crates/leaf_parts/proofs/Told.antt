@@ -1,5 +1,5 @@
 -- What words say over a lawful state: page metadata, TDR and TDCS words, and what these words are.
-use Rattle.std.proofs.Common.{◌≡◌, ◌≢◌, ℕ, ◌/◌, ◌%◌, ◌<◌, true, false, ◌==◌, List, ◌∷◌, Option, refl, arith}
+use Rattle.std.proofs.Common.{◌≡◌, ℕ, ◌/◌, ◌%◌, ◌<◌, true, false, ◌==◌, List, ◌∷◌, Option, refl, arith}
 use Rattle.std.proofs.lemmas.Bool.{eq-eqb, lt-ltb}
 use Rattle.td_words.specs.declared.names.PageKind.{PageKind}
 use Rattle.td_words.specs.declared.names.PageKind.TheVariants as kind
@@ -16,11 +16,11 @@ use Rattle.flat_core.specs.World.{World}
 use Rattle.flat_core.specs.Conditions.{is_host_in, same_kind}
 use Rattle.flat_core.specs.Lawful.{Lawful, IsPageOf}
 use Rattle.flat_core.specs.Event.{State}
+use Rattle.flat_core.proofs.Tests.{by_test}
 use Rattle.word_rules.specs.Lines.{in_lines}
 use Rattle.word_rules.specs.Views.{no_page}
 use Rattle.word_rules.specs.Spots.{spot, or_unused, tdr_classes, tdcs_classes, is_current, is_empty}
 use Rattle.word_rules.specs.Cells.{Shows, IsAs, lock_word, tdr_lines, td_lock_lines, tdcs_lines}
-use Rattle.act_rules.proofs.Stored.{by_test}
 use Rattle.leaf_parts.specs.Words.{says_kind, says_owner, life_told, op_told, page_told}
 
 -- numbers of names, read back
@@ -77,16 +77,6 @@ owner-small m w p la few = by_test (is_host_in w.pages p)
     (λ h. (let none : w.pages.owners p ≡ 0 = (la.pages.host p h).0 in omega arith))
     (λ h. (let tdr : is_host_in w.pages (w.pages.owners p) ≡ false = rw (la.pages.owner p h) refl in
     let in_page : w.pages.owners p < m.pages = la.pages.in_machine (w.pages.owners p) tdr in omega arith))
-
--- a kind that isn't the host's is owned
-pub kind-owned : (k : PageKind) → k ≢ kind.Nda → same_kind k kind.Nda ≡ false
-kind-owned kind.Nda h = absurd (h refl)
-kind-owned kind.Reg h = refl
-kind-owned kind.Tdr h = refl
-kind-owned kind.Tdcx h = refl
-kind-owned kind.Tdvpr h = refl
-kind-owned kind.Ept h = refl
-kind-owned kind.Migsc h = refl
 
 module _ (m : Machine) (words : WordPlace → ℕ) (slots : ℕ → Option (List ℕ)) (s : State) (sh : Shows m words slots s) where
   -- the PAMT word of a page

@@ -5,9 +5,9 @@ use Rattle.flat_core.specs.World.{World}
 use Rattle.flat_core.specs.Processor.{LockId, OfPage, OfOp, OfTree, OfEpoch, OfRtmr, OfKeys, Held, Phase, Trying, Undoing, Answered, Guest}
 use Rattle.flat_core.specs.Locks.{same_lock, is_alone, alone_in, shared_in, refused_in, guest_alone, guest_shared, guest_refused, alone_of, shared_of, refused_of, sum_below, holders, sharers, refusals}
 use Rattle.flat_core.specs.Event.{State}
+use Rattle.flat_core.proofs.Tests.{by_test}
 use Rattle.word_rules.specs.Cells.{lock_word}
 use Rattle.lock_words.specs.LockWords.{Stands, HeldStand, UndoStands, GuestStands, LocksStand}
-use Rattle.act_rules.proofs.Stored.{by_test}
 
 same-is : (k l : LockId) → same_lock k l ≡ true → k ≡ l
 same-is (OfPage p) (OfPage q) h = ap OfPage (eqb-true p q h)

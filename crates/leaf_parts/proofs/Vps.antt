@@ -11,12 +11,12 @@ use Rattle.flat_core.specs.World.{World}
 use Rattle.flat_core.specs.Processor.{LockId}
 use Rattle.flat_core.specs.Lawful.{IsPageOf}
 use Rattle.flat_core.specs.Event.{State}
+use Rattle.flat_core.proofs.Tests.{by_test}
 use Rattle.word_rules.specs.Lines.{in_lines}
 use Rattle.word_rules.specs.Rules.{TdcsWord}
 use Rattle.word_rules.specs.Views.{no_page}
 use Rattle.word_rules.specs.Spots.{spot, or_unused, tdcs_classes, vp_classes}
 use Rattle.word_rules.specs.Cells.{Shows, IsAs, lock_word, td_lock_lines, tdcs_lines, vp_lines}
-use Rattle.act_rules.proofs.Stored.{by_test}
 use Rattle.leaf_parts.specs.Words.{vps_told}
 use Rattle.leaf_parts.proofs.Told.{tdcs-shown}
 

@@ -9,13 +9,13 @@ use Rattle.td_words.specs.declared.names.LifeState.{LifeState}
 use Rattle.td_words.specs.Place.{Word}
 use Rattle.flat_core.specs.World.{World}
 use Rattle.flat_core.specs.Processor.{OfPage}
+use Rattle.flat_core.proofs.Tests.{by_test}
 use Rattle.word_rules.specs.Guards.{Grip, Locked}
 use Rattle.word_rules.specs.Rules.{Class, TdLock, TdrWord, Unused, UpperEntry, moves}
 use Rattle.word_rules.specs.Views.{no_page}
 use Rattle.word_rules.specs.Spots.{Spot, spot, page_spot, control_class, root_class, entry_class}
 use Rattle.word_rules.specs.Permissions.{MayAt}
 use Rattle.lock_words.specs.LockWords.{tdcs_of, TdLocksStay}
-use Rattle.lock_words.proofs.Sums.{by_test}
 use Rattle.lock_words.proofs.Shown.{tdcs-page}
 
 abbrev pub lock_spot : ℕ → ℕ → Spot

@@ -1,15 +1,15 @@
 -- The grips of two processors are apart, since locks exclude.
 use Rattle.std.proofs.Common.{◌≡◌, refl, sym, ◌∙◌, subst, inl, inr, ℕ, zero, suc, ◌+◌, ◌<◌, ◌≤◌, Bool, true, false, ◌==◌, ◌&&◌, ◌||◌, not, List, [], ◌∷◌, ◌++◌, arith}
 use Rattle.std.specs.Prelude.{Option, Some, None}
-use Rattle.std.proofs.lemmas.Bool.{eq-eqb, eqb-true, eqb-false}
+use Rattle.std.proofs.lemmas.Bool.{eq-eqb, eqb-true, eqb-false, or_cases, and_parts}
 use Rattle.flat_core.specs.Processor.{LockId, Held, Guest, Lp}
 use Rattle.flat_core.specs.Locks.{same_lock, is_alone, one_if, alone_in, shared_in, alone_of, shared_of, guest_alone, guest_shared, holders, sharers}
 use Rattle.flat_core.specs.Event.{State}
 use Rattle.flat_core.specs.Laws.{IsSole}
+use Rattle.flat_core.proofs.Tests.{by_test}
 use Rattle.word_rules.specs.Guards.{Guard, Locked, Reached, Written, Parted}
 use Rattle.lock_words.specs.Grips.{holds, holds_alone, operation_locks, locks_of, reaches, none_reaches, has_of, sole_of, clear_of, grip_of, IsExclusive, GripsAreApart, GripsAreWhole}
-use Rattle.lock_words.proofs.Sums.{or-case, and-left, and-right}
-use Rattle.lock_words.proofs.Sums.{by_test, le-sum, two-sum}
+use Rattle.lock_words.proofs.Sums.{le-sum, two-sum}
 
 alone-more : (l : LockId) (a b : List Held) → alone_in l (a ++ b) ≡ alone_in l a + alone_in l b
 alone-more l [] b = omega arith
@@ -26,7 +26,7 @@ of-guest l (Some g) = (refl, refl)
 counted-alone : (l : LockId) (hs : List Held) → holds_alone hs l ≡ true → 1 ≤ alone_in l hs
 counted-alone l [] h = cc
 counted-alone l (x ∷ hs) h =
-    elim (or-case (is_alone x.mode && same_lock x.lock l) _ h) [
+    elim (or_cases (is_alone x.mode && same_lock x.lock l) _ h) [
       | inl y ↦ (let k : one_if (is_alone x.mode && same_lock x.lock l) ≡ 1 = rw y refl in omega (arith, k))
       | inr y ↦ (let k = counted-alone l hs y in omega (arith, k))
     ]
@@ -38,7 +38,7 @@ either-mode false b h = rw h refl
 counted : (l : LockId) (hs : List Held) → holds hs l ≡ true → 1 ≤ alone_in l hs + shared_in l hs
 counted l [] h = cc
 counted l (x ∷ hs) h =
-    elim (or-case (same_lock x.lock l) _ h) [
+    elim (or_cases (same_lock x.lock l) _ h) [
       | inl y ↦ (let k = either-mode (is_alone x.mode) (same_lock x.lock l) y in omega (arith, k))
       | inr y ↦ (let k = counted l hs y in omega (arith, k))
     ]
@@ -75,8 +75,8 @@ no-reach s (suc n) me q p w h ne e r =
     (λ y. (let is : q ≡ n = eqb-true q n y in
     let nm : (n == me) ≡ false = subst (λ (z : ℕ). (z == me) ≡ false) is ne in
     let rn : reaches (s.lps n) p w ≡ true = subst (λ (z : ℕ). reaches (s.lps z) p w ≡ true) is r in
-    let bad : (false || not true) ≡ true = rw (nm, rn) at (and-left (n == me || not (reaches (s.lps n) p w)) _ e) in cc))
-    (λ y. (let d : q ≡ n → ⊥ = eqb-false q n y in let lt : q < n = omega (arith, h, d) in no-reach s n me q p w lt ne (and-right (n == me || not (reaches (s.lps n) p w)) _ e) r))
+    let bad : (false || not true) ≡ true = rw (nm, rn) at (and_parts (n == me || not (reaches (s.lps n) p w)) _ e).0 in cc))
+    (λ y. (let d : q ≡ n → ⊥ = eqb-false q n y in let lt : q < n = omega (arith, h, d) in no-reach s n me q p w lt ne (and_parts (n == me || not (reaches (s.lps n) p w)) _ e).1 r))
 
 parted : (s : State) (p q : ℕ) → IsExclusive s → p < s.lp_count → q < s.lp_count → (p == q) ≡ false → (q == p) ≡ false → Parted (grip_of s p) (grip_of s q)
 parted s p q x hp hq ne en = record { sole = sole; both = both; clear = clear }
@@ -107,8 +107,8 @@ alone-held l [] h = cc
 alone-held l (x ∷ hs) h =
     by_test (same_lock x.lock l)
     (λ y. rw y refl)
-    (λ n. rw n (alone-held l hs (elim (or-case (is_alone x.mode && same_lock x.lock l) _ h) [
-      | inl y ↦ absurd (let bad : true ≡ false = sym (and-right (is_alone x.mode) (same_lock x.lock l) y) ∙ n in cc)
+    (λ n. rw n (alone-held l hs (elim (or_cases (is_alone x.mode && same_lock x.lock l) _ h) [
+      | inl y ↦ absurd (let bad : true ≡ false = sym (and_parts (is_alone x.mode) (same_lock x.lock l) y).1 ∙ n in cc)
       | inr y ↦ y
     ])))
 

@@ -24,7 +24,8 @@ use Rattle.flat_core.specs.Event.{State, Event, OfCall, OfOperation, Walks, Reac
 use Rattle.word_rules.specs.Cells.{lock_word}
 use Rattle.lock_words.specs.LockWords.{weight_at, move_adds, move_takes_off, adds, takes_off, LetsGo, has_let_go, locks_held, IsNext, LockWordsFollow}
 use Rattle.lock_words.specs.Grips.{operation_locks, locks_of}
-use Rattle.lock_words.proofs.Sums.{by_test, sum-put}
+use Rattle.flat_core.proofs.Tests.{by_test}
+use Rattle.lock_words.proofs.Sums.{sum-put}
 
 -- what a call's or an operation's progress adds to a lock's word
 abbrev part_in : {R : Type 0} → LockId → Progress R → ℕ

@@ -15,9 +15,10 @@ use Rattle.flat_core.specs.Table.{row_of, most_tries}
 use Rattle.flat_core.specs.Bounds.{RowsTryFew}
 use Rattle.flat_core.specs.Event.{State, Event, OfCall, start, next_event, event_for, line_event, lines_left, calls_of, event, after_event, lp_after, call_lp, succeeded, settle, is_granted}
 use Rattle.flat_core.specs.Run.{play}
+use Rattle.flat_core.proofs.Tests.{by_test}
+use Rattle.flat_core.proofs.Ends.{row_enters}
 use Rattle.lock_words.specs.Grips.{operation_locks, locks_of}
 use Rattle.lock_words.specs.LockWords.{LetsGo, locks_held, RunsFollow}
-use Rattle.lock_words.proofs.Sums.{by_test}
 use Rattle.lock_words.proofs.Follow.{lock-words-follow}
 
 -- more locks than any call tries
@@ -32,10 +33,6 @@ record IsFew (lp : Lp) : Type 0 where
 few-tries : (c : Call) → most_tries c ≤ most_locks
 few-tries (call.HostRead page i) = omega arith
 few-tries _ = omega arith
-
-row-enters : (o : Opening) (me : ℕ) (c : Call) → (row_of o me c).enters ≡ None
-row-enters o me (call.HostRead page i) = refl
-row-enters o me _ = refl
 
 -- a try that is still to be made isn't among those held
 attempt-few : (items : List (Item Reply)) (k : ℕ) (l : LockId) (m : Mode) → next items k ≡ Attempts l m → k < tries_in items
@@ -83,7 +80,7 @@ call-few tries o p w b c lp f =
     let row : Row = row_of o p c in
     let move : Move Reply = next_in (row.items w) lp.call.phase lp.call.held in
     let x : Lp = call_lp w (b (OfCall row move)) row move lp in
-    settle-few x.call.phase x.call.held x (move-few w (b (OfCall row move)) row move lp (row-enters o p c) f (λ l m e. next-few (row.items w) lp.call.phase lp.call.held l m (omega (arith, tries o p c w, few-tries c)) e))
+    settle-few x.call.phase x.call.held x (move-few w (b (OfCall row move)) row move lp (row_enters o p c) f (λ l m e. next-few (row.items w) lp.call.phase lp.call.held l m (omega (arith, tries o p c w, few-tries c)) e))
 
 line-few : RowsTryFew → (o : Opening) (p : ℕ) (w : World) (b : Event → Bool) (cs : List Call) (lp : Lp) (e : Event) → event_for o w p lp cs ≡ Some e → IsFew lp → IsFew (lp_after w (b e) e lp)
 line-few tries o p w b [] lp e h f = cc

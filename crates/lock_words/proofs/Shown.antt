@@ -20,11 +20,12 @@ use Rattle.flat_core.specs.Row.{Move, Attempts, Undoes, Refuses, Succeeds, Relea
 use Rattle.flat_core.specs.Event.{State, Event, OfCall, OfOperation, Walks, Reaches, Leaves, is_granted, lp_after, event}
 use Rattle.flat_core.specs.Laws.{IsQuiet, QuietEventsStay}
 use Rattle.flat_core.specs.World.{put}
+use Rattle.td_words.proofs.Placed.{same-true}
+use Rattle.flat_core.proofs.Tests.{by_test}
 use Rattle.word_rules.specs.Lines.{Line, in_lines}
 use Rattle.word_rules.specs.Cells.{lock_word, td_lock_lines, tdcs_lines, control_cell, if_stands, key_cell, page_cell, cell_in, IsAs, Shows}
 use Rattle.lock_words.specs.LockWords.{tdcs_of, place_of, TdStands, Stands, weight_at, move_adds, move_takes_off, adds, takes_off, move_lock, lock_of, IsNext, put_word, LockStepsShown}
-use Rattle.lock_words.proofs.Sums.{by_test}
-use Rattle.lock_words.proofs.Places.{same-place-true, same-word}
+use Rattle.lock_words.proofs.Places.{same-word}
 use Rattle.lock_words.proofs.Follow.{lock-words-follow}
 
 -- the word of a lock that stands is shown
@@ -149,7 +150,7 @@ shows-lock : (m : Machine) (words : WordPlace → ℕ) (slots : ℕ → Option (
     → Off (lock_word s.lps s.lp_count) (lock_word lps s.lp_count) l → Shows m (put_word words (place_of s.world l) (lock_word lps s.lp_count l)) slots (record s { lps = lps })
 shows-lock m words slots s lps l sh la st off = record {
   word = λ q i. by_test (same_place q (place_of s.world l))
-      (λ y. let is : q ≡ place_of s.world l = same-place-true q (place_of s.world l) y in
+      (λ y. let is : q ≡ place_of s.world l = same-true q (place_of s.world l) y in
       rw (y, is, here m s.world (lock_word lps s.lp_count) l la st) refl)
       (λ n. rw (n, others-same s.world (lock_word s.lps s.lp_count) (lock_word lps s.lp_count) l q off n) (sh.word q i));
   hasher = sh.hasher;

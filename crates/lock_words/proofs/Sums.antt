@@ -1,25 +1,11 @@
--- Tests, and sums over processors.
-use Rattle.std.proofs.Common.{◌≡◌, ◌⊎◌, refl, ap, inl, inr, ℕ, zero, suc, ◌+◌, ◌<◌, ◌≤◌, Bool, true, false, ◌==◌, ◌&&◌, ◌||◌, arith}
-use Rattle.std.proofs.lemmas.Bool.{eqb-true, eqb-false, ne_eqb}
+-- Sums over processors.
+use Rattle.std.proofs.Common.{◌≡◌, ap, ℕ, zero, suc, ◌+◌, ◌<◌, ◌≤◌, false, ◌==◌, arith}
+use Rattle.std.proofs.lemmas.Bool.{eqb-true, eqb-false}
 use Rattle.flat_core.specs.World.{put}
 use Rattle.flat_core.specs.Processor.{Lp}
 use Rattle.flat_core.specs.Locks.{sum_below}
-
-pub by_test : {A : Type 0} (b : Bool) → (b ≡ true → A) → (b ≡ false → A) → A
-by_test true t f = t refl
-by_test false t f = f refl
-
-pub or-case : (a b : Bool) → (a || b) ≡ true → (a ≡ true) ⊎ (b ≡ true)
-or-case true b h = inl refl
-or-case false b h = inr h
-
-pub and-left : (a b : Bool) → (a && b) ≡ true → a ≡ true
-and-left true b h = refl
-and-left false b h = cc
-
-pub and-right : (a b : Bool) → (a && b) ≡ true → b ≡ true
-and-right true b h = h
-and-right false b h = cc
+use Rattle.flat_core.proofs.Tests.{by_test}
+use Rattle.flat_core.proofs.LockLaw.{sum_above}
 
 -- one or two processors of n
 
@@ -44,18 +30,12 @@ two-sum g p q (suc n) h k ne =
     (λ z. (let j : g p + g q ≤ sum_below g n = two-sum g p q n (below p n h y) (below q n k z) ne in omega (arith, j))))
 
 -- one processor's record is another
-sum-off : (f : Lp → ℕ) (lps : ℕ → Lp) (p : ℕ) (x : Lp) (n : ℕ) → n ≤ p → sum_below (λ q. f (put lps p x q)) n ≡ sum_below (λ q. f (lps q)) n
-sum-off f lps p x zero h = refl
-sum-off f lps p x (suc n) h =
-    let ne : (n == p) ≡ false = ne_eqb n p (λ e. omega (arith, e, h)) in
-    rw ne (ap (λ (k : ℕ). f (lps n) + k) (sum-off f lps p x n (omega (arith, h))))
-
 pub sum-put : (f : Lp → ℕ) (lps : ℕ → Lp) (p : ℕ) (x : Lp) (n : ℕ) → p < n → sum_below (λ q. f (put lps p x q)) n + f (lps p) ≡ sum_below (λ q. f (lps q)) n + f x
 sum-put f lps p x zero h = absurd (omega (arith, h))
 sum-put f lps p x (suc n) h =
     by_test (n == p)
     (λ y. (let here : n ≡ p = eqb-true n p y in
-    let off = sum-off f lps p x n (omega (arith, here)) in
+    let off = sum_above f lps p x n (omega (arith, here)) in
     let same : f (lps n) ≡ f (lps p) = ap (λ (k : ℕ). f (lps k)) here in rw y (omega (arith, off, same))))
     (λ y. (let d : n ≡ p → ⊥ = eqb-false n p y in
     let k = sum-put f lps p x n (omega (arith, d, h)) in rw y (omega (arith, k))))

@@ -13,6 +13,7 @@ use Rattle.flat_core.specs.Opening.{Opening}
 use Rattle.flat_core.specs.Row.{Move, Attempts, Undoes, Refuses, Succeeds, Releases, Rests}
 use Rattle.flat_core.specs.Table.{row_of}
 use Rattle.flat_core.specs.Event.{State, OfCall, next_event, lines_left, event, call_world}
+use Rattle.flat_core.proofs.Tests.{put_here}
 use Rattle.word_rules.specs.Guards.{Grip}
 use Rattle.word_rules.specs.Rules.{Grade}
 use Rattle.word_rules.specs.Views.{look}
@@ -38,7 +39,7 @@ use Rattle.merge_laws.proofs.Holding.{bare, turned-round}
 use Rattle.merge_laws.proofs.Standing.{Laws, leaf_for, AreTrees, Known, RunsAt, on_table, Position, back, Stands}
 use Rattle.merge_laws.proofs.Others.{shown-of}
 use Rattle.merge_laws.proofs.SlotSteps.{slots-event}
-use Rattle.merge_laws.proofs.Own.{AttemptTdr, tdrs-after, with_hasher, stands-after, world-of-event, at-own, at-other, Spares, gathered, none-due}
+use Rattle.merge_laws.proofs.Own.{AttemptTdr, tdrs-after, with_hasher, stands-after, world-of-event, at-other, Spares, gathered, none-due}
 use Rattle.merge_laws.proofs.LockSteps.{engine, Moved}
 
 -- a refusal, or the act that succeeds
@@ -176,7 +177,7 @@ act-step ls o trees s mem t t' pos p c cs rs run run' result are known sd i no-s
     owes-other k r h = ap (λ (z : Position). last_at z.owes r) (at-other pos p k now h)
 
     owes-own : (r : WordPlace) → last_at (put pos p now p).owes r ≡ last_at one.owes r
-    owes-own r = ap (λ (z : Position). last_at z.owes r) (at-own pos p now)
+    owes-own r = ap (λ (z : Position). last_at z.owes r) (put_here pos p now)
 
     NoOther : WordPlace → Type 0
     NoOther r = (k : ℕ) → k < length o.calls → (k == p) ≡ false → last_at (pos k).owes r ≡ None

@@ -10,6 +10,7 @@ use Rattle.flat_core.specs.World.{put}
 use Rattle.flat_core.specs.Opening.{Opening}
 use Rattle.flat_core.specs.Table.{row_of}
 use Rattle.flat_core.specs.Event.{State}
+use Rattle.flat_core.proofs.Tests.{put_here}
 use Rattle.word_rules.specs.Guards.{Apart, Grip}
 use Rattle.word_rules.specs.Rules.{Grade, KeepsNothing, KeepsPage, KeepsRights, Whole, spares}
 use Rattle.word_rules.specs.Permissions.{Reads}
@@ -36,7 +37,7 @@ use Rattle.merge_laws.proofs.SlotSteps.{slots-stay}
 use Rattle.merge_laws.proofs.Filling.{Todo, Puts, Takes, AreTodos, dues_of, EachTodo, dues-same, fills-due}
 use Rattle.merge_laws.proofs.Holding.{bare, turned-round}
 use Rattle.merge_laws.proofs.Standing.{Laws, leaf_for, Fill, Position, seen_by, back, FillHolds, RestFilling, StandsAt, on_table, Stands}
-use Rattle.merge_laws.proofs.Own.{at-own, at-other, whole, apart-from, none-due}
+use Rattle.merge_laws.proofs.Own.{at-other, whole, apart-from, none-due}
 use Rattle.merge_laws.proofs.Ending.{AtEnd, filled_of, first_of, owes_of, puts_of, swaps_left, HasFilled, fills-rest}
 use Rattle.merge_laws.proofs.QuietSteps.{rearranged, store-step}
 use Rattle.merge_laws.proofs.Pieces.{taken_after, Came, came-as, answers-as, PieceAnswers}
@@ -354,5 +355,5 @@ fill-piece ls o trees s mem t pos p c cs run f end_ piece ps a h rest an = by re
             test : (b : Bool) → (k == p) ≡ b → last_at (pos k).owes r ≡ last_at (put pos p now k).owes r
             test true z =
                 let k-is : k ≡ p = eqb-true k p z in
-                subst (λ (y : ℕ). last_at (pos y).owes r ≡ last_at (put pos p now y).owes r) (sym k-is) (sym (ap (λ (y : Position). last_at y.owes r) (at-own pos p now)))
+                subst (λ (y : ℕ). last_at (pos y).owes r ≡ last_at (put pos p now y).owes r) (sym k-is) (sym (ap (λ (y : Position). last_at y.owes r) (put_here pos p now)))
             test false z = sym (ap (λ (y : Position). last_at y.owes r) (at-other pos p k now z))

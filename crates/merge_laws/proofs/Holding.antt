@@ -16,6 +16,7 @@ use Rattle.flat_core.specs.Locks.{same_lock, is_alone}
 use Rattle.flat_core.specs.Lawful.{Lawful}
 use Rattle.flat_core.specs.Row.{Item, Check, Try}
 use Rattle.flat_core.specs.Event.{State}
+use Rattle.flat_core.proofs.Tests.{by_test}
 use Rattle.word_rules.specs.Guards.{Guard, Locked, Reached, Written, Grip, Parted, Apart}
 use Rattle.word_rules.specs.Lines.{in_lines}
 use Rattle.word_rules.specs.Rules.{View, TdLock, tries}
@@ -24,7 +25,6 @@ use Rattle.word_rules.specs.Views.{look}
 use Rattle.word_rules.specs.Permissions.{MayAt, Reads, Tries, Respects}
 use Rattle.lock_words.specs.Grips.{HoldsTdr, holds, holds_alone, operation_locks, locks_of, reaches_as, reaches, none_reaches, has_of, sole_of, clear_of, grip_with, grip_of, IsExclusive, GripsAreApart}
 use Rattle.lock_words.specs.LockWords.{tdcs_of, place_of, TdStands, Stands, TdLocksStay}
-use Rattle.lock_words.proofs.Sums.{by_test}
 use Rattle.lock_words.proofs.Shown.{tdcs-page}
 use Rattle.lock_words.proofs.Anchored.{lock_spot}
 use Rattle.leaf_engine.specs.Trees.{Tree, Lock, Load, Test, End, Since, has_acted}

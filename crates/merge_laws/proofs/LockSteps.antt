@@ -11,6 +11,7 @@ use Rattle.flat_core.specs.Opening.{Opening}
 use Rattle.flat_core.specs.Row.{Move, Rests, Releases}
 use Rattle.flat_core.specs.Table.{row_of}
 use Rattle.flat_core.specs.Event.{State, OfCall, next_event, lines_left, event, call_world}
+use Rattle.flat_core.proofs.Tests.{put_here}
 use Rattle.word_rules.specs.Guards.{Apart}
 use Rattle.word_rules.specs.Rules.{View, Grade}
 use Rattle.word_rules.specs.Views.{look}
@@ -34,7 +35,7 @@ use Rattle.merge_laws.proofs.Holding.{bare, turned-round}
 use Rattle.merge_laws.proofs.Standing.{Laws, leaf_for, AreTrees, Known, HandOf, RunsAt, on_table, Position, Stands}
 use Rattle.merge_laws.proofs.Others.{shown-hand}
 use Rattle.merge_laws.proofs.SlotSteps.{slots-event}
-use Rattle.merge_laws.proofs.Own.{AttemptTdr, tdrs-after, stands-after, world-of-event, at-own, at-other, gathered, none-due}
+use Rattle.merge_laws.proofs.Own.{AttemptTdr, tdrs-after, stands-after, world-of-event, at-other, gathered, none-due}
 
 pub engine : Laws → EngineLaws
 engine ls = record { follow = ls.follow; steps = ls.steps; places = ls.places; pages = ls.pages }
@@ -188,7 +189,7 @@ lock-step ls o trees s mem t pos p c cs rs mv run run' st a q result are known s
         by : (b : Bool) → (k == p) ≡ b → last_at (pos k).owes r ≡ last_at (put pos p now k).owes r
         by true e =
             let k-is : k ≡ p = eqb-true k p e in
-            ap (λ (z : ℕ). last_at (pos z).owes r) k-is ∙ (ap (λ (ds : List Due). last_at ds r) none ∙ sym (ap (λ (z : Position). last_at z.owes r) (ap (put pos p now) k-is ∙ at-own pos p now)))
+            ap (λ (z : ℕ). last_at (pos z).owes r) k-is ∙ (ap (λ (ds : List Due). last_at ds r) none ∙ sym (ap (λ (z : Position). last_at z.owes r) (ap (put pos p now) k-is ∙ put_here pos p now)))
         by false e = sym (ap (λ (z : Position). last_at z.owes r) (at-other pos p k now e))
 
     laid-after : (r : WordPlace) → IsIn m r → after.mem.words r ≡ laid (length o.calls) (λ k. (put pos p now k).owes) (on_table m t') r

@@ -1,6 +1,6 @@
 -- A merge, gone through piece by piece.
-use Rattle.std.proofs.Common.{◌≡◌, ◌⊎◌, ℕ, zero, suc, ◌+◌, ◌-◌, ◌^◌, ◌<◌, ◌≤◌, Bool, true, false, ◌==◌, if◌then◌else◌, List, [], ◌∷◌, ◌++◌, map, length, Option, Some, None, refl, ap, sym, ◌∙◌, subst, inl, inr, arith}
-use Rattle.std.proofs.lemmas.Bool.{eq-eqb, eqb-true}
+use Rattle.std.proofs.Common.{◌≡◌, ◌⊎◌, ℕ, ◌+◌, ◌-◌, ◌^◌, ◌<◌, ◌≤◌, Bool, true, false, ◌==◌, if◌then◌else◌, List, [], ◌∷◌, ◌++◌, map, length, Option, Some, None, refl, ap, sym, ◌∙◌, subst, inl, inr}
+use Rattle.std.proofs.lemmas.Bool.{eq-eqb, eqb-true, cases_lt}
 use Rattle.td_words.specs.declared.calls.Call.{Call}
 use Rattle.td_words.specs.Place.{address}
 use Rattle.flat_core.specs.World.{put}
@@ -8,8 +8,10 @@ use Rattle.flat_core.specs.Locks.{sharers, refusals}
 use Rattle.flat_core.specs.Lawful.{Lawful}
 use Rattle.flat_core.specs.Opening.{Opening}
 use Rattle.flat_core.specs.Table.{row_of}
-use Rattle.flat_core.specs.Event.{State, start, event, next_event, after_event, event_for, lines_left, calls_of}
+use Rattle.flat_core.specs.Event.{State, start, event, event_for, lines_left, calls_of}
 use Rattle.flat_core.specs.Run.{play, run}
+use Rattle.flat_core.proofs.Tests.{put_here}
+use Rattle.flat_core.proofs.Induction.{count_stays, play_append}
 use Rattle.lock_words.specs.Grips.{IsExclusive}
 use Rattle.mrtd_measure.specs.declared.measures.Measure.{Measure}
 use Rattle.step_core.specs.declared.steps.WordStep.TheVariants as step
@@ -29,7 +31,7 @@ use Rattle.leaf_engine.specs.Merges.{Item, part, steps_taken, order, event_befor
 use Rattle.merge_laws.proofs.Owing.{Owed, Stores, Swaps, stores_in, swaps_in, FirstSwaps, FirstMisses, AreOwed}
 use Rattle.merge_laws.proofs.Holding.{bare}
 use Rattle.merge_laws.proofs.Standing.{Laws, leaf_for, AreTrees, Known, RunsAt, Fill, Position, Pending, HasInHand, Rest, RestFilling, RestBy, RestOf, on_table, Holds, Stands}
-use Rattle.merge_laws.proofs.Own.{at-own, at-other}
+use Rattle.merge_laws.proofs.Own.{at-other}
 use Rattle.merge_laws.proofs.Swaps.{SwapDue, SwapsMay}
 use Rattle.merge_laws.proofs.QuietSteps.{owed-step, swap-step}
 use Rattle.merge_laws.proofs.Pieces.{state_after, table_after, PieceAnswers, plays-piece, Came, came-as, answers-as, line-runs}
@@ -204,17 +206,6 @@ next-piece ls o trees s mem t pos p end_ piece ps are known sd i rest an = by-fi
 
 -- what is known of the state after an event
 
-play-more : (o : Opening) (xs ys : List ℕ) (s : State) → play o (xs ++ ys) s ≡ play o ys (play o xs s)
-play-more o [] ys s = refl
-play-more o (x ∷ xs) ys s = play-more o xs ys (event o s x)
-
-count-stays : (o : Opening) (s : State) (p : ℕ) → (event o s p).lp_count ≡ s.lp_count
-count-stays o s p = by (next_event o s p)
-  where
-    by : (e : Option Rattle.flat_core.specs.Event.Event) → (after_event p s e).lp_count ≡ s.lp_count
-    by None = refl
-    by (Some e) = refl
-
 pub known-of : (ls : Laws) (o : Opening) (schedule : List ℕ) (s : State) → length o.calls ≤ 8 → s ≡ play o schedule (start o None) → s.lp_count ≡ length o.calls → s.world.outgoing.to_tell ≡ None → Known o s
 known-of ls o schedule s most is count tell = record {
   schedule = schedule;
@@ -228,8 +219,8 @@ known-of ls o schedule s most is count tell = record {
 
 known-next : (ls : Laws) (o : Opening) (s : State) (p : ℕ) → length o.calls ≤ 8 → Known o s → Known o (event o s p)
 known-next ls o s p most known =
-    known-of ls o (known.schedule ++ p ∷ []) (event o s p) most (ap (λ (z : State). event o z p) known.reached ∙ sym (play-more o known.schedule (p ∷ []) (start o None)))
-    (count-stays o s p ∙ known.count) (ls.tell o s p known.nothing_to_tell)
+    known-of ls o (known.schedule ++ p ∷ []) (event o s p) most (ap (λ (z : State). event o z p) known.reached ∙ sym (play_append o known.schedule (p ∷ []) (start o None)))
+    (count_stays o s p ∙ known.count) (ls.tell o s p known.nothing_to_tell)
 
 known-after : (ls : Laws) (o : Opening) (s : State) (p : ℕ) (piece : Piece) → length o.calls ≤ 8 → Known o s → Known o (state_after o s p piece)
 known-after ls o s p (Quiet x) most known = known
@@ -252,15 +243,6 @@ order-plays o (Quiet x) p ps s = refl
 order-plays o (Marked x) p ps s = refl
 order-plays o Wordless p ps s = refl
 
-below-or : (n p : ℕ) → (p < n) ⊎ (n ≤ p)
-below-or zero p = inr (omega arith)
-below-or (suc n) zero = inl (omega arith)
-below-or (suc n) (suc p) = by (below-or n p)
-  where
-    by : (p < n) ⊎ (n ≤ p) → (suc p < suc n) ⊎ (suc n ≤ suc p)
-    by (inl h) = inl (omega (arith, h))
-    by (inr h) = inr (omega (arith, h))
-
 part-own : (i : Item) (is : List Item) → part i.lp (i ∷ is) ≡ i.piece ∷ part i.lp is
 part-own i is = ap (λ (b : Bool). if b then i.piece ∷ part i.lp is else part i.lp is) (eq-eqb i.lp i.lp refl)
 
@@ -277,7 +259,7 @@ pub through : (ls : Laws) (o : Opening) (trees : ℕ → Call → Tree) (is : Li
 through ls o trees [] s mem t u pos ends most are known sd rests others plays =
     record { known = known; memory = mem; table = t; pos = pos; stands = sd; words = plays.0; slots = plays.1; rest = rests }
 through ls o trees (i ∷ is) s mem t u pos ends most are known sd rests others plays =
-    by (below-or (length o.calls) i.lp) (λ s' mem' t' pos' k d r x y. through ls o trees is s' mem' t' u pos' ends most are k d r x y)
+    by (cases_lt i.lp (length o.calls)) (λ s' mem' t' pos' k d r x y. through ls o trees is s' mem' t' u pos' ends most are k d r x y)
   where
     by : (i.lp < length o.calls) ⊎ (length o.calls ≤ i.lp)
         → ((s' : State) (mem' : Memory) (t' : Table) (pos' : ℕ → Position) → Known o s' → Stands o trees s' mem' t' pos' → ((p : ℕ) → p < length o.calls → RestOf o trees p (pos' p) (part p is) (ends p)) → ((p : ℕ) → length o.calls ≤ p → part p is ≡ [])
@@ -296,7 +278,7 @@ through ls o trees (i ∷ is) s mem t u pos ends most are known sd rests others 
         rest : (k : ℕ) → k < length o.calls → (came : Came o trees i.lp s t pos i.piece (part i.lp is) (ends i.lp)) → (b : Bool) → (k == i.lp) ≡ b → RestOf o trees k (put pos i.lp came.now k) (part k is) (ends k)
         rest k j came true e =
             let q : i.lp ≡ k = sym (eqb-true k i.lp e) in
-            subst (λ (z : ℕ). RestOf o trees z (put pos i.lp came.now z) (part z is) (ends z)) q (subst (λ (z : Position). RestOf o trees i.lp z (part i.lp is) (ends i.lp)) (sym (at-own pos i.lp came.now)) came.rest)
+            subst (λ (z : ℕ). RestOf o trees z (put pos i.lp came.now z) (part z is) (ends z)) q (subst (λ (z : Position). RestOf o trees i.lp z (part i.lp is) (ends i.lp)) (sym (put_here pos i.lp came.now)) came.rest)
         rest k j came false e =
             subst (λ (z : Position). RestOf o trees k z (part k is) (ends k)) (sym (at-other pos i.lp k came.now e))
             (subst (λ (z : List Piece). RestOf o trees k (pos k) z (ends k)) (part-other i is k e) (rests k j))

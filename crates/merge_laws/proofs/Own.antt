@@ -1,5 +1,5 @@
 -- What an event of a processor makes of where it is itself, and of all of them together.
-use Rattle.std.proofs.Common.{◌≡◌, ◌≢◌, ◌⊎◌, ℕ, zero, suc, ◌+◌, ◌<◌, Bool, true, false, ◌==◌, cond, List, [], ◌∷◌, ◌++◌, length, drop, Option, Some, None, refl, ap, sym, ◌∙◌, subst, inl, inr, arith, length-append}
+use Rattle.std.proofs.Common.{◌≡◌, ◌≢◌, ◌⊎◌, ℕ, suc, ◌+◌, ◌<◌, Bool, true, false, ◌==◌, cond, List, [], ◌∷◌, ◌++◌, length, drop, Option, Some, None, refl, ap, sym, ◌∙◌, subst, inl, inr, arith, length-append}
 use Rattle.std.proofs.lemmas.Bool.{eq-eqb, eqb-true}
 use Rattle.td_words.specs.declared.names.Mode.TheVariants.{Shared, Exclusive}
 use Rattle.td_words.specs.declared.machines.Machine.{Machine}
@@ -12,6 +12,8 @@ use Rattle.flat_core.specs.Opening.{Opening}
 use Rattle.flat_core.specs.Row.{Row, Move, Attempts, Undoes, Refuses, Succeeds, Releases, Rests, after_move}
 use Rattle.flat_core.specs.Table.{row_of}
 use Rattle.flat_core.specs.Event.{State, OfCall, next_event, lines_left, event, call_lp, call_busy, call_world, settle, settled, succeeded, is_granted, calls_of}
+use Rattle.flat_core.proofs.Tests.{put_here}
+use Rattle.flat_core.proofs.Ends.{drop_next}
 use Rattle.word_rules.specs.Guards.{Grip, Apart}
 use Rattle.word_rules.specs.Rules.{View, Grade}
 use Rattle.word_rules.specs.Views.{look}
@@ -88,14 +90,8 @@ tdrs-after o s p row mv e none t a nr an =
 
 -- its lines
 
-drop-next : (n : ℕ) (xs : List Call) (c : Call) (cs : List Call) → drop n xs ≡ c ∷ cs → drop (n + 1) xs ≡ cs
-drop-next zero [] c cs e = cc
-drop-next zero (x ∷ xs) c cs e = cc
-drop-next (suc n) [] c cs e = cc
-drop-next (suc n) (x ∷ xs) c cs e = (let k : suc n + 1 ≡ suc (n + 1) = omega arith in ap (λ (z : ℕ). drop z (x ∷ xs)) k ∙ drop-next n xs c cs e)
-
-one-more : (rs : List Reply) (r : Reply) → length (rs ++ r ∷ []) ≡ length rs + 1
-one-more rs r = length-append rs (r ∷ [])
+one-more : (rs : List Reply) (r : Reply) → length (rs ++ r ∷ []) ≡ suc (length rs)
+one-more rs r = omega (arith, length-append rs (r ∷ []))
 
 -- where it then is doesn't hang on the hasher in hand
 abbrev pub with_hasher : Standing → Option Measure → Standing
@@ -128,15 +124,12 @@ stands-after o trees p c cs lp s' u run' h reply lines after none tdrs rs same =
         let answer : r ≡ v.answer = cc (v.reply_is) in
         record {
           lines = ap (λ (z : List Reply). drop (length z) (calls_of o.calls p)) v.replies_are
-              ∙ (ap (λ (n : ℕ). drop n (calls_of o.calls p)) (one-more lp.replies v.answer) ∙ drop-next (length lp.replies) (calls_of o.calls p) c cs lines);
+              ∙ (ap (λ (n : ℕ). drop n (calls_of o.calls p)) (one-more lp.replies v.answer) ∙ drop_next (length lp.replies) (calls_of o.calls p) c cs lines);
           replies = v.replies_are ∙ (ap (λ (z : List Reply). z ++ v.answer ∷ []) same ∙ ap (λ (z : Reply). rs ++ z ∷ []) (sym answer));
           run = v.between;
         }
 
 -- all of them together
-
-pub at-own : {A : Type 0} (f : ℕ → A) (p : ℕ) (x : A) → put f p x p ≡ x
-at-own f p x = ap (λ (b : Bool). cond b x (f p)) (eq-eqb p p refl)
 
 pub at-other : {A : Type 0} (f : ℕ → A) (p k : ℕ) (x : A) → (k == p) ≡ false → put f p x k ≡ f k
 at-other f p k x e = ap (λ (b : Bool). cond b x (f k)) e
@@ -213,7 +206,7 @@ gathered ls o trees s mem mem' t t' pos p now are known st i sp shows hand slots
         by true e =
             let q : p ≡ k = sym (eqb-true k p e) in
             subst (λ (z : ℕ). Holds o trees z (event o s p).world mem'.words (on_table o.machine t') ((event o s p).lps z) (put pos p now z)) q
-            (subst (λ (z : Position). Holds o trees p (event o s p).world mem'.words (on_table o.machine t') ((event o s p).lps p) z) (sym (at-own pos p now)) own)
+            (subst (λ (z : Position). Holds o trees p (event o s p).world mem'.words (on_table o.machine t') ((event o s p).lps p) z) (sym (put_here pos p now)) own)
         by false e =
             let lv : Leaves o.machine (s.lps k).call.held (s.lps p).call.held s.world (event o s p).world mem.words mem'.words (on_table o.machine t) (on_table o.machine t') = record {
               apart = λ hs older. apart-from ls o trees s mem t pos p k hs known st i j e older;

@@ -11,6 +11,7 @@ use Rattle.flat_core.specs.Opening.{Opening}
 use Rattle.flat_core.specs.Row.{next}
 use Rattle.flat_core.specs.Table.{row_of}
 use Rattle.flat_core.specs.Event.{State}
+use Rattle.flat_core.proofs.Tests.{put_here}
 use Rattle.word_rules.specs.Guards.{Apart, Grip}
 use Rattle.word_rules.specs.Rules.{View, Grade, spares}
 use Rattle.word_rules.specs.Views.{look}
@@ -41,7 +42,7 @@ use Rattle.merge_laws.proofs.Standing.{Laws, leaf_for, AreTrees, Known, on_table
 use Rattle.merge_laws.proofs.Others.{shown-of, hold-is}
 use Rattle.merge_laws.proofs.Swaps.{SwapDue}
 use Rattle.merge_laws.proofs.SlotSteps.{slots-stay, slots-swap}
-use Rattle.merge_laws.proofs.Own.{at-own, at-other, whole, apart-from, due-at}
+use Rattle.merge_laws.proofs.Own.{at-other, whole, apart-from, due-at}
 
 -- one processor is elsewhere, in the same state
 pub rearranged : (ls : Laws) (o : Opening) (trees : ℕ → Call → Tree) (s : State) (mem : Memory) (t t' : Table) (pos : ℕ → Position) (p : ℕ) (now : Position) → Stands o trees s mem t pos → Slots o s mem.slots t'.slots (put pos p now)
@@ -80,7 +81,7 @@ rearranged ls o trees s mem t t' pos p now sd slots still unfilled own laid_is =
         by true e =
             let q : p ≡ k = sym (eqb-true k p e) in
             subst (λ (z : ℕ). Holds o trees z s.world mem.words (on_table o.machine t') (s.lps z) (put pos p now z)) q
-            (subst (λ (z : Position). Holds o trees p s.world mem.words (on_table o.machine t') (s.lps p) z) (sym (at-own pos p now)) own)
+            (subst (λ (z : Position). Holds o trees p s.world mem.words (on_table o.machine t') (s.lps p) z) (sym (put_here pos p now)) own)
         by false e =
             let h = sd.holds k j in
             subst (λ (z : Position). Holds o trees k s.world mem.words (on_table o.machine t') (s.lps k) z) (sym (at-other pos p k now e))
@@ -258,7 +259,7 @@ store-step ls o trees s mem t pos p d now sd i in_d sole own here there swaps = 
         other k e = ap (λ (z : Position). last_at z.owes r) (at-other pos p k now e)
 
         mine : last_at (put pos p now p).owes r ≡ last_at now.owes r
-        mine = ap (λ (z : Position). last_at z.owes r) (at-own pos p now)
+        mine = ap (λ (z : Position). last_at z.owes r) (put_here pos p now)
 
         by : (b : Bool) → same_place r d.at ≡ b → mem.words r ≡ laid (length o.calls) (λ k. (put pos p now k).owes) (on_table m t') r
         by true e =
@@ -337,5 +338,5 @@ swap-step ls o trees s mem t pos p d ds made known sd i is plain put_is =
     same : (k : ℕ) (r : WordPlace) → (b : Bool) → (k == p) ≡ b → last_at (pos k).owes r ≡ last_at (put pos p now k).owes r
     same k r true e =
         let k-is : k ≡ p = eqb-true k p e in
-        subst (λ (z : ℕ). last_at (pos z).owes r ≡ last_at (put pos p now z).owes r) (sym k-is) (sym (ap (λ (z : Position). last_at z.owes r) (at-own pos p now)))
+        subst (λ (z : ℕ). last_at (pos z).owes r ≡ last_at (put pos p now z).owes r) (sym k-is) (sym (ap (λ (z : Position). last_at z.owes r) (put_here pos p now)))
     same k r false e = sym (ap (λ (z : Position). last_at z.owes r) (at-other pos p k now e))

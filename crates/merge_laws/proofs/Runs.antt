@@ -1,11 +1,13 @@
 -- Every merge is a run of the flat machine.
 use Rattle.std.proofs.Common.{◌≡◌, ◌⊎◌, ℕ, zero, suc, ◌-◌, ◌<◌, ◌≤◌, List, [], ◌∷◌, ◌++◌, map, length, drop, Option, Some, None, refl, ap, sym, ◌∙◌, subst, inl, inr, arith}
+use Rattle.std.proofs.lemmas.Bool.{cases_lt}
 use Rattle.td_words.specs.declared.calls.Call.{Call}
 use Rattle.td_words.specs.Place.{address}
 use Rattle.mrtd_measure.specs.declared.measures.Measure.{Measure}
 use Rattle.flat_core.specs.Opening.{Opening}
 use Rattle.flat_core.specs.Event.{State, start, event, next_event, after_event, event_for, lines_left, calls_of}
 use Rattle.flat_core.specs.Run.{play, run, to_the_end}
+use Rattle.flat_core.proofs.Induction.{play_append}
 use Rattle.step_core.specs.Words.{Words}
 use Rattle.step_core.specs.Items.{Table, Taken}
 use Rattle.leaf_engine.specs.declared.events.Event.{Event as RunEvent}
@@ -169,19 +171,6 @@ stays o (p ∷ ps) s none =
     let same : event o s p ≡ s = ap (after_event p s) (none p) in
     ap (play o ps) same ∙ stays o ps s none
 
-play-more : (o : Opening) (xs ys : List ℕ) (s : State) → play o (xs ++ ys) s ≡ play o ys (play o xs s)
-play-more o [] ys s = refl
-play-more o (x ∷ xs) ys s = play-more o xs ys (event o s x)
-
-below-or : (n p : ℕ) → (p < n) ⊎ (n ≤ p)
-below-or zero p = inr (omega arith)
-below-or (suc n) zero = inl (omega arith)
-below-or (suc n) (suc p) = by (below-or n p)
-  where
-    by : (p < n) ⊎ (n ≤ p) → (suc p < suc n) ⊎ (suc n ≤ suc p)
-    by (inl h) = inl (omega (arith, h))
-    by (inr h) = inr (omega (arith, h))
-
 no-event : (o : Opening) (s : State) (p : ℕ) → lines_left o p (s.lps p) ≡ [] → next_event o s p ≡ None
 no-event o s p e = ap (λ (cs : List Call). event_for o s.world p (s.lps p) cs) e
 
@@ -191,8 +180,8 @@ merges-are-runs ls = record {
   ended = λ o leaf is now u most are merge over.
       let got = merges ls o leaf is now u most are merge in
       let s : State = play o (order is) (start o None) in
-      let none : (p : ℕ) → next_event o s p ≡ None = λ p. by o now s got.1 over p (below-or (length o.calls) p) in
-      let same : run o (order is) ≡ s = play-more o (order is) (to_the_end 0 o.calls) (start o None) ∙ stays o (to_the_end 0 o.calls) s none in
+      let none : (p : ℕ) → next_event o s p ≡ None = λ p. by o now s got.1 over p (cases_lt p (length o.calls)) in
+      let same : run o (order is) ≡ s = play_append o (order is) (to_the_end 0 o.calls) (start o None) ∙ stays o (to_the_end 0 o.calls) s none in
       subst (λ (z : State). IsShownBy o.machine u z × IsWhere o now z) (sym same) got;
 }
   where

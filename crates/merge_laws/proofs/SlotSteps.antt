@@ -8,6 +8,7 @@ use Rattle.flat_core.specs.World.{World, put}
 use Rattle.flat_core.specs.Processor.{Lp}
 use Rattle.flat_core.specs.Opening.{Opening}
 use Rattle.flat_core.specs.Event.{State, event}
+use Rattle.flat_core.proofs.Tests.{put_here}
 use Rattle.word_rules.specs.Guards.{Grip, Apart}
 use Rattle.word_rules.specs.Permissions.{SwapsAct, SwapsOwed, Respects}
 use Rattle.step_core.specs.Items.{Table, with_slot}
@@ -20,7 +21,7 @@ use Rattle.merge_laws.proofs.Stores.{or_else, first-at, not-at, over-none, over-
 use Rattle.merge_laws.proofs.Swaps.{SwapDue, last_put, slots_laid, SwapsMay, swap-at, swaps-same}
 use Rattle.merge_laws.proofs.Holding.{bare, turned-round}
 use Rattle.merge_laws.proofs.Standing.{Laws, Known, Position, Slots, Stands}
-use Rattle.merge_laws.proofs.Own.{at-own, at-other, whole, apart-from}
+use Rattle.merge_laws.proofs.Own.{at-other, whole, apart-from}
 
 -- its own swaps stay as they are
 pub slots-stay : (o : Opening) (s : State) (shown : ℕ → Hand) (table : ℕ → Option Measure) (pos : ℕ → Position) (p : ℕ) (now : Position) → Slots o s shown table pos → now.swaps ≡ (pos p).swaps → Slots o s shown table (put pos p now)
@@ -35,7 +36,7 @@ slots-stay o s shown table pos p now sl e = record {
     same k = by (k == p) refl
       where
         by : (b : Bool) → (k == p) ≡ b → (put pos p now k).swaps ≡ (pos k).swaps
-        by true f = (let k-is : k ≡ p = eqb-true k p f in subst (λ (z : ℕ). (put pos p now z).swaps ≡ (pos z).swaps) (sym k-is) (ap (λ (z : Position). z.swaps) (at-own pos p now) ∙ e))
+        by true f = (let k-is : k ≡ p = eqb-true k p f in subst (λ (z : ℕ). (put pos p now z).swaps ≡ (pos z).swaps) (sym k-is) (ap (λ (z : Position). z.swaps) (put_here pos p now) ∙ e))
         by false f = ap (λ (z : Position). z.swaps) (at-other pos p k now f)
 
 -- nobody else may owe a swap there
@@ -85,7 +86,7 @@ slots-event ls o trees s mem t table pos p after first now known sd i none ev = 
     base h = or_else (last_put first h) (sd.slots.now h)
 
     own : (h : ℕ) → last_put (put pos p now p).swaps h ≡ last_put now.swaps h
-    own h = ap (λ (z : Position). last_put z.swaps h) (at-own pos p now)
+    own h = ap (λ (z : Position). last_put z.swaps h) (put_here pos p now)
 
     other : (k h : ℕ) → (k == p) ≡ false → last_put (put pos p now k).swaps h ≡ last_put (pos k).swaps h
     other k h e = ap (λ (z : Position). last_put z.swaps h) (at-other pos p k now e)
@@ -131,7 +132,7 @@ slots-event ls o trees s mem t table pos p after first now known sd i none ev = 
     may k j true e =
         let p-is : p ≡ k = sym (eqb-true k p e) in
         subst (λ (z : ℕ). SwapsMay o.machine (bare ((event o s p).lps z).call.held) w' base (put pos p now z).swaps) p-is
-        (subst (λ (z : Position). SwapsMay o.machine (bare ((event o s p).lps p).call.held) w' base z.swaps) (sym (at-own pos p now))
+        (subst (λ (z : Position). SwapsMay o.machine (bare ((event o s p).lps p).call.held) w' base z.swaps) (sym (put_here pos p now))
         (ev.held (swaps-same o.machine mine mine w' w' (λ h. or_else (last_put first h) (mem.slots h)) base now.swaps (λ h x. x)
         (λ h in_h owes. ap (or_else (last_put first h)) (shown-now h in_h (owed-alone h owes))) ev.may)))
     may k j false e =
@@ -170,7 +171,7 @@ slots-swap ls o trees s mem t pos p d ds made now known sd i is left put_is = re
     never k apart owes = (ls.words (bare (s.lps k).call.held) mine s.world apart).owed_swaps d.hkid owes may-first.0.1
 
     own : (h : ℕ) → last_put (put pos p now p).swaps h ≡ last_put ds h
-    own h = ap (λ (z : Position). last_put z.swaps h) (at-own pos p now) ∙ ap (λ (z : List SwapDue). last_put z h) left
+    own h = ap (λ (z : Position). last_put z.swaps h) (put_here pos p now) ∙ ap (λ (z : List SwapDue). last_put z h) left
 
     other : (k h : ℕ) → (k == p) ≡ false → last_put (put pos p now k).swaps h ≡ last_put (pos k).swaps h
     other k h e = ap (λ (z : Position). last_put z.swaps h) (at-other pos p k now e)
@@ -202,7 +203,7 @@ slots-swap ls o trees s mem t pos p d ds made now known sd i is left put_is = re
     may k j true e =
         let p-is : p ≡ k = sym (eqb-true k p e) in
         subst (λ (z : ℕ). SwapsMay o.machine (bare (s.lps z).call.held) s.world base (put pos p now z).swaps) p-is
-        (subst (λ (z : Position). SwapsMay o.machine mine s.world base z.swaps) (sym (at-own pos p now))
+        (subst (λ (z : Position). SwapsMay o.machine mine s.world base z.swaps) (sym (put_here pos p now))
         (subst (λ (z : List SwapDue). SwapsMay o.machine mine s.world base z) (sym left) may-first.1))
     may k j false e =
         let apart = apart-from ls o trees s mem t pos p k (s.lps k).call.held known sd i j e (whole (s.lps k).call.held) in

@@ -8,6 +8,7 @@ use Rattle.td_words.specs.Place.{WordPlace}
 use Rattle.flat_core.specs.World.{put}
 use Rattle.flat_core.specs.Opening.{Opening}
 use Rattle.flat_core.specs.Event.{State}
+use Rattle.flat_core.proofs.Tests.{put_here}
 use Rattle.word_rules.specs.Views.{look}
 use Rattle.step_core.specs.declared.steps.WordStep.{WordStep}
 use Rattle.step_core.specs.declared.steps.WordStep.TheVariants as step
@@ -27,7 +28,7 @@ use Rattle.leaf_engine.proofs.Loading.{LooksRight}
 use Rattle.merge_laws.proofs.Stores.{Due, last_at, laid-same}
 use Rattle.merge_laws.proofs.Standing.{Laws, leaf_for, on_table, Position}
 use Rattle.merge_laws.proofs.SlotSteps.{slots-stay}
-use Rattle.merge_laws.proofs.Own.{at-own, at-other}
+use Rattle.merge_laws.proofs.Own.{at-other}
 use Rattle.merge_laws.proofs.QuietSteps.{rearranged, loads-right, GoesOnBehind, loaded, told-load}
 use Rattle.merge_laws.proofs.Pieces.{Came, came-as, answers-as, PieceAnswers}
 use Rattle.merge_laws.proofs.LockPieces.{AtTurn, try-piece}
@@ -96,7 +97,7 @@ load-piece ls o trees s mem t pos p c cs run run' e at x tp tps end_ a none st l
         by true f =
             let k-is : k ≡ p = eqb-true k p f in
             subst (λ (z : ℕ). last_at (pos z).owes r ≡ last_at (put pos p now z).owes r) (sym k-is)
-            (ap (λ (ds : List Due). last_at ds r) none ∙ sym (ap (λ (z : Position). last_at z.owes r) (at-own pos p now)))
+            (ap (λ (ds : List Due). last_at ds r) none ∙ sym (ap (λ (z : Position). last_at z.owes r) (put_here pos p now)))
         by false f = sym (ap (λ (z : Position). last_at z.owes r) (at-other pos p k now f))
 
 -- a tree that has ended without a store

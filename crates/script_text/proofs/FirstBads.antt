@@ -87,7 +87,7 @@ good_passed front d none piece back = refl
 good_passed front d (more lines b line e g is) piece back =
     rw (append_assoc, longer lines line) (good_passed lines b g line (piece ∷ back) ∙ go_on b (length lines + 1) line piece back ∙ rw is refl)
 
-within : (bytes : List ℕ) → length bytes ≤ 2 ^ 24 → read_of bytes ≡ read_from nothing_yet 1 (pieces bytes)
+pub within : (bytes : List ℕ) → length bytes ≤ 2 ^ 24 → read_of bytes ≡ read_from nothing_yet 1 (pieces bytes)
 unfolding read_of
 within bytes h = let e : ltb (2 ^ 24) (length bytes) ≡ false = grind arith in rw e refl
 

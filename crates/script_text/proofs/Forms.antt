@@ -2,7 +2,7 @@
 use Rattle.std.proofs.Common.{◌≡◌, ℕ, ◌+◌, ◌*◌, ◌^◌, ◌<◌, ◌≤◌, List, [], ◌∷◌, ◌++◌, length, map, take, drop, get_or, set, replicate, Bool, true, false, not, cond, leb, ltb, ◌==◌, ◌&&◌, Option, Some, None, Result, Ok, Err, ◌⊎◌, inl, inr, refl, subst, arith}
 use Rattle.std.specs.Prelude.{is_some, unwrap_or}
 use Rattle.std.specs.List.{All, list_all}
-use Rattle.std.proofs.lemmas.Bool.{cases_lt}
+use Rattle.std.proofs.lemmas.Bool.{cases_lt, and_parts}
 use Rattle.std.proofs.lemmas.List.{length-append, length-replicate, length-set, get_or_past}
 use Rattle.std.proofs.lemmas.List.Elements.{All-nil, All-cons, All-head, All-tail, All-replicate, All-append, All-push, All-set}
 use Rattle.td_words.specs.declared.calls.Call.{Call}
@@ -55,15 +55,11 @@ number_step : (b : Bool) (n : ℕ) (x : Option ℕ) → (b ≡ true → FitsNumb
 number_step true n x h = h refl
 number_step false n x h = tt
 
-below_limit : (a b : Bool) → (a && b) ≡ true → b ≡ true
-below_limit true b h = h
-below_limit false b h = cc
-
 number_on_fits : (base n : ℕ) (cs : List ℕ) → n < 2 ^ 64 → FitsNumber (number_on base n cs)
 number_on_fits base n [] h = h
 number_on_fits base n (c ∷ cs) h =
     number_step (ltb (digit c) base && ltb (n * base + digit c) (2 ^ 64)) n (number_on base (n * base + digit c) cs)
-    (λ e. let s : ltb (n * base + digit c) (2 ^ 64) ≡ true = below_limit (ltb (digit c) base) (ltb (n * base + digit c) (2 ^ 64)) e in
+    (λ e. let s : ltb (n * base + digit c) (2 ^ 64) ≡ true = (and_parts (ltb (digit c) base) (ltb (n * base + digit c) (2 ^ 64)) e).1 in
     number_on_fits base (n * base + digit c) cs (grind (arith, s)))
 
 digits_fit : (base : ℕ) (w : List ℕ) → FitsNumber (digits_in base w)

@@ -3,17 +3,18 @@ use Rattle.std.proofs.Common.{◌≡◌, ℕ, ◌+◌, ◌^◌, ◌<◌, ◌≤�
 use Rattle.std.specs.Prelude.{is_some}
 use Rattle.std.specs.List.{list_all, All, position, position_or_len}
 use Rattle.std.specs.Fmt.{decimal}
+use Rattle.std.proofs.lemmas.Bool.{and_parts, not-true}
 use Rattle.std.proofs.lemmas.List.{length-append, append_assoc, append-nil}
 use Rattle.std.proofs.lemmas.List.Elements.{All-head, All-tail}
 use Rattle.script_text.specs.Schedule.{item_of, turns_in, written_of, schedule_of}
-use Rattle.script_text.proofs.Texts.{is_digit, decimal_is, number_decimal, implied, both, not_true}
+use Rattle.script_text.proofs.Texts.{is_digit, decimal_is, number_decimal, implied}
 
 -- a number has no star
 all_before : (p : ℕ → Bool) (w : List ℕ) → list_all (λ b. not (p b)) w ≡ true → position_or_len p w ≡ length w
 all_before p [] h = refl
 all_before p (x ∷ w) h =
-    let e = both (not (p x)) (list_all (λ b. not (p b)) w) h in
-    rw (not_true (p x) e.0, all_before p w e.1) (omega arith)
+    let e = and_parts (not (p x)) (list_all (λ b. not (p b)) w) h in
+    rw (not-true (p x) e.0, all_before p w e.1) (omega arith)
 
 not_found : (p : ℕ → Bool) (w : List ℕ) → list_all (λ b. not (p b)) w ≡ true → position p w ≡ None
 not_found p w h =

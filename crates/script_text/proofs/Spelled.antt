@@ -3,6 +3,7 @@ use Rattle.std.proofs.Common.{◌≡◌, ℕ, zero, suc, ◌+◌, ◌*◌, ◌^�
 use Rattle.std.specs.Prelude.{codes}
 use Rattle.std.specs.List.{All, list_all}
 use Rattle.std.specs.Fmt.{decimal}
+use Rattle.std.proofs.lemmas.Bool.{and_parts, and_from}
 use Rattle.std.proofs.lemmas.Fmt.{length-decimal-le, decimal_digit}
 use Rattle.std.proofs.lemmas.List.{append_assoc, append-nil, length-append, get_or-set_other}
 use Rattle.std.proofs.lemmas.List.Elements.{All-nil, All-cons, All-head, All-tail, All-append}
@@ -22,12 +23,13 @@ use Rattle.script_text.specs.Line.{entry_of, in_limits, machine_of, block_of, en
 use Rattle.script_text.specs.Blocks.{field_of}
 use Rattle.script_text.specs.Number.{number}
 use Rattle.script_text.specs.Words.{pieces, is_comment}
-use Rattle.script_text.specs.Reading.{SoFar, nothing_yet, with_call, entered_of, worded_of, line_of, read_from, read_of}
+use Rattle.script_text.specs.Reading.{SoFar, nothing_yet, with_call, entered_of, worded_of, line_of, read_from}
 use Rattle.script_text.specs.Seen.{ScriptSeen}
 use Rattle.script_text.specs.Spelling.{words_text, line_text, call_word, call_numbers, call_names, FitsCall, calls_text, schedule_text, blocks_text, script_text}
 use Rattle.script_text.specs.Laws.{IsInForm, ScriptsReadAgain}
+use Rattle.script_text.proofs.FirstBads.{within}
 use Rattle.script_text.proofs.Steps.{good_line}
-use Rattle.script_text.proofs.Texts.{IsWord, fits, fits_below, both, and_true, decimals_are_words, printable_text, words_again, numbers_read, names_read, pieces_text}
+use Rattle.script_text.proofs.Texts.{IsWord, fits, fits_below, decimals_are_words, printable_text, words_again, numbers_read, names_read, pieces_text}
 use Rattle.script_text.proofs.Items.{items_read}
 
 -- what a written line says, whose words behind the first are those numbers
@@ -57,7 +59,7 @@ line_passed d e n w ns rest h c k s = words_passed d e n w (map Some (take 5 ns)
 
 -- numbers of 64 bits
 one_fits : (n : ℕ) (ns : List ℕ) → n < 2 ^ 64 → list_all fits ns ≡ true → list_all fits (n ∷ ns) ≡ true
-one_fits n ns h k = and_true (fits n) (list_all fits ns) (grind arith) k
+one_fits n ns h k = and_from (fits n) (list_all fits ns) (grind arith) k
 
 all_fit : (ns : List ℕ) → All (λ n. n < 2 ^ 64) ns → list_all fits ns ≡ true
 all_fit [] h = refl
@@ -276,14 +278,10 @@ script_read s h =
     (subst P (sym calls_are) (λ k. blocks_passed s.machine s.schedule s.calls [] 0 had k refl (omega (arith, h.lists)) h.lps.1 (record { from = λ j le. all_free 8 j }) h.few_calls h.arguments))
     ∙ seen_again s h.no_codes
 
-within : (bytes : List ℕ) → length bytes ≤ 2 ^ 24 → read_of bytes ≡ read_from nothing_yet 1 (pieces bytes)
-unfolding read_of
-within bytes h = let e : ltb (2 ^ 24) (length bytes) ≡ false = grind arith in rw e refl
-
 numbers_length : (ns : List ℕ) → list_all fits ns ≡ true → length (words_text (map decimal ns)) ≤ 21 * length ns
 numbers_length [] h = omega arith
 numbers_length (n ∷ ns) h =
-    let f = both (fits n) (list_all fits ns) h in
+    let f = and_parts (fits n) (list_all fits ns) h in
     let small : n < 2 ^ 64 = fits_below n f.0 in
     let one : length (decimal n) ≤ 20 = length-decimal-le 20 n (omega arith) (omega arith) small in
     let more : length (words_text (map decimal ns)) ≤ 21 * length ns = numbers_length ns f.1 in

@@ -3,6 +3,7 @@ use Rattle.std.proofs.Common.{◌≡◌, ℕ, zero, suc, ◌+◌, ◌*◌, ◌/�
 use Rattle.std.specs.Prelude.{nat_le, nat_lt, filter}
 use Rattle.std.specs.List.{All, list_all, slice_split}
 use Rattle.std.specs.Fmt.{decimal}
+use Rattle.std.proofs.lemmas.Bool.{and_parts, and_from, not-true}
 use Rattle.std.proofs.lemmas.Fmt.{decimal_by_steps}
 use Rattle.std.proofs.lemmas.List.{length-append, append-nil, append_assoc, take-map}
 use Rattle.std.proofs.lemmas.List.Elements.{All-nil, All-cons, All-head, All-tail}
@@ -11,34 +12,23 @@ use Rattle.script_text.specs.Number.{digit, number, number_on}
 use Rattle.script_text.specs.Words.{words, pieces, is_printable}
 use Rattle.script_text.specs.Spelling.{words_text, line_text}
 
-pub both : (a b : Bool) → (a && b) ≡ true → (a ≡ true) × (b ≡ true)
-both true b h = (refl, h)
-both false b h = cc
-
-pub and_true : (a b : Bool) → a ≡ true → b ≡ true → (a && b) ≡ true
-and_true a b h k = rw (h, k) refl
-
-pub not_true : (b : Bool) → not b ≡ true → b ≡ false
-not_true true h = cc
-not_true false h = refl
-
 -- a test that follows from another
 pub implied : (p q : ℕ → Bool) → ((b : ℕ) → p b ≡ true → q b ≡ true) → (w : List ℕ) → list_all p w ≡ true → list_all q w ≡ true
 implied p q f [] h = refl
-implied p q f (x ∷ w) h = and_true (q x) (list_all q w) (f x (both (p x) (list_all p w) h).0) (implied p q f w (both (p x) (list_all p w) h).1)
+implied p q f (x ∷ w) h = and_from (q x) (list_all q w) (f x (and_parts (p x) (list_all p w) h).0) (implied p q f w (and_parts (p x) (list_all p w) h).1)
 
 -- a list is cut at the first element that passes
 pub cut_at : (p : ℕ → Bool) (w : List ℕ) (y : ℕ) (ys : List ℕ) → list_all (λ b. not (p b)) w ≡ true → p y ≡ true → slice_split p (w ++ y ∷ ys) ≡ w ∷ slice_split p ys
 cut_at p [] y ys h k = rw k refl
 cut_at p (x ∷ w) y ys h k =
-    let e = both (not (p x)) (list_all (λ b. not (p b)) w) h in
-    rw (not_true (p x) e.0, cut_at p w y ys e.1 k) refl
+    let e = and_parts (not (p x)) (list_all (λ b. not (p b)) w) h in
+    rw (not-true (p x) e.0, cut_at p w y ys e.1 k) refl
 
 pub uncut : (p : ℕ → Bool) (w : List ℕ) → list_all (λ b. not (p b)) w ≡ true → slice_split p w ≡ w ∷ []
 uncut p [] h = refl
 uncut p (x ∷ w) h =
-    let e = both (not (p x)) (list_all (λ b. not (p b)) w) h in
-    rw (not_true (p x) e.0, uncut p w e.1) refl
+    let e = and_parts (not (p x)) (list_all (λ b. not (p b)) w) h in
+    rw (not-true (p x) e.0, uncut p w e.1) refl
 
 -- the bytes of words
 abbrev pub is_word_byte : ℕ → Bool
@@ -84,14 +74,14 @@ number_push m k [] c h = let e : m ≡ k = cc in ap (λ (x : ℕ). number_on 10 
 number_push m k (x ∷ ds) c h = push_cases (nat_lt (digit x) 10 && nat_lt (m * 10 + digit x) (2 ^ 64)) (m * 10 + digit x) k ds c (number_push (m * 10 + digit x) k ds c) h
 
 all_push : (ds : List ℕ) (c : ℕ) → list_all is_digit ds ≡ true → is_digit c ≡ true → list_all is_digit (ds ++ c ∷ []) ≡ true
-all_push ds c h k = rw list_all-append (and_true (list_all is_digit ds) (list_all is_digit (c ∷ [])) h (and_true (is_digit c) true k refl))
+all_push ds c h k = rw list_all-append (and_from (list_all is_digit ds) (list_all is_digit (c ∷ [])) h (and_from (is_digit c) true k refl))
 
 some_push : (ds : List ℕ) (c : ℕ) → (length (ds ++ c ∷ []) == 0) ≡ false
 some_push ds c = grind (arith, length-append ds (c ∷ []))
 
 first_digit : (n : ℕ) → n < 10 → IsDecimal n ((48 + n) ∷ [])
 first_digit n h = record {
-  digits = and_true (is_digit (48 + n)) true (is_digit_at n h) refl;
+  digits = and_from (is_digit (48 + n)) true (is_digit_at n h) refl;
   some = refl;
   value = λ f. one_digit 0 n h (omega arith) ∙ ap Some (let e : 0 * 10 + n ≡ n = omega arith in e);
 }
@@ -123,7 +113,7 @@ number_of : (n : ℕ) (ds : List ℕ) → list_all is_digit ds ≡ true → (len
 number_of n [] h k e = cc
 number_of n (a ∷ []) h k e = e
 number_of n (a ∷ b ∷ ds) h k e =
-    let x : (b == 120) ≡ false = not_letter b (both (is_digit b) (list_all is_digit ds) (both (is_digit a) (list_all is_digit (b ∷ ds)) h).1).0 in
+    let x : (b == 120) ≡ false = not_letter b (and_parts (is_digit b) (list_all is_digit ds) (and_parts (is_digit a) (list_all is_digit (b ∷ ds)) h).1).0 in
     rw (x, no_prefix) e
 
 pub number_decimal : (n : ℕ) → n < 2 ^ 64 → number (decimal n) ≡ Some n
@@ -144,7 +134,7 @@ decimal_is_word n h =
 pub decimals_are_words : (ns : List ℕ) → list_all fits ns ≡ true → All IsWord (map decimal ns)
 decimals_are_words [] h = All-nil IsWord
 decimals_are_words (n ∷ ns) h =
-    let f = both (fits n) (list_all fits ns) h in
+    let f = and_parts (fits n) (list_all fits ns) h in
     All-cons IsWord (decimal n) (map decimal ns) (decimal_is_word n f.0) (decimals_are_words ns f.1)
 
 split_text : (w : List ℕ) (ws : List (List ℕ)) → IsWord w → All IsWord ws → slice_split (λ b. b == 32) (w ++ words_text ws) ≡ w ∷ ws
@@ -177,7 +167,7 @@ line_bytes : (w : List ℕ) (ws : List (List ℕ)) → IsWord w → All IsWord w
 line_bytes w [] h k = rw append-nil (implied is_word_byte is_line_byte in_line w h.bytes)
 line_bytes w (v ∷ ws) h k =
     rw list_all-append
-    (and_true (list_all is_line_byte w) (list_all is_line_byte (v ++ words_text ws)) (implied is_word_byte is_line_byte in_line w h.bytes) (line_bytes v ws (All-head IsWord v ws k) (All-tail IsWord v ws k)))
+    (and_from (list_all is_line_byte w) (list_all is_line_byte (v ++ words_text ws)) (implied is_word_byte is_line_byte in_line w h.bytes) (line_bytes v ws (All-head IsWord v ws k) (All-tail IsWord v ws k)))
 
 in_print : (b : ℕ) → is_line_byte b ≡ true → (nat_le 0x20 b && nat_le b 0x7e) ≡ true
 in_print b h = h
@@ -197,7 +187,7 @@ pub numbers_read : (k : ℕ) (ns : List ℕ) → list_all fits ns ≡ true → m
 numbers_read zero ns h = refl
 numbers_read (suc k) [] h = refl
 numbers_read (suc k) (n ∷ ns) h =
-    let f = both (fits n) (list_all fits ns) h in
+    let f = and_parts (fits n) (list_all fits ns) h in
     rw (number_decimal n (fits_below n f.0), numbers_read k ns f.1) refl
 
 -- numbers with names behind them
@@ -205,5 +195,5 @@ pub names_read : (k : ℕ) (ns : List ℕ) (names : List (List ℕ)) → list_al
 names_read zero ns names h = refl
 names_read (suc k) [] names h = sym (take-map number (suc k) names)
 names_read (suc k) (n ∷ ns) names h =
-    let f = both (fits n) (list_all fits ns) h in
+    let f = and_parts (fits n) (list_all fits ns) h in
     rw (number_decimal n (fits_below n f.0), names_read k ns names f.1) refl

@@ -11,9 +11,9 @@ use Rattle.flat_core.specs.Processor.{LockId}
 use Rattle.flat_core.specs.Effects.{set_page}
 use Rattle.flat_core.specs.Lawful.{Lawful}
 use Rattle.flat_core.specs.Event.{State}
+use Rattle.flat_core.proofs.Tests.{by_test}
 use Rattle.word_rules.specs.Lines.{in_lines}
 use Rattle.word_rules.specs.Cells.{Shows, IsAs, cell, page_cell, entry_cell, root_cell, control_cell, td_lock_lines, tdcs_lines, if_stands, lock_word}
-use Rattle.act_rules.proofs.Stored.{by_test}
 use Rattle.leaf_engine.specs.Changes.{Memory, put_page}
 
 module _ (m : Machine) (mem : Memory) (s : State) (p : ℕ) (xs : ℕ → ℕ) (sh : Shows m mem.words mem.slots s) (nda : s.world.pages.kinds p ≡ kind.Nda) where

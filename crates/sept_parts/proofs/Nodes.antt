@@ -2,7 +2,7 @@
 -- nothing is mapped below an entry that is FREE.
 use Rattle.std.proofs.Common.{◌≡◌, ℕ, zero, suc, ◌+◌, ◌*◌, ◌/◌, ◌^◌, ◌<◌, ◌≤◌, true, false, ◌==◌, nat_lt, List, [], ◌∷◌, Option, refl, if◌then◌else◌, ap, sym, ◌∙◌, subst, arith}
 use Rattle.std.specs.List.{list_any}
-use Rattle.std.proofs.lemmas.Bool.{eq-eqb, eqb-true, ne_eqb}
+use Rattle.std.proofs.lemmas.Bool.{eq-eqb, eqb-true, ne_eqb, and_parts}
 use Rattle.td_words.specs.declared.names.EntryState.{EntryState}
 use Rattle.td_words.specs.declared.names.EntryState.TheVariants as entry
 use Rattle.td_words.specs.declared.names.PageKind.{PageKind}
@@ -19,11 +19,10 @@ use Rattle.flat_core.specs.Effects.{take_node}
 use Rattle.flat_core.specs.Lawful.{Lawful, LawfulPages, IsAlive, is_free}
 use Rattle.flat_core.specs.Tree.{same_state}
 use Rattle.flat_core.specs.Event.{State}
+use Rattle.flat_core.proofs.Tests.{by_test, host_kind}
 use Rattle.word_rules.specs.Lines.{in_lines}
 use Rattle.word_rules.specs.Cells.{Shows, IsAs, cell, page_cell, entry_cell, root_cell, control_cell, td_lock_lines, tdcs_lines, tdr_lines, if_stands, lock_word}
 use Rattle.lock_words.specs.LockWords.{put_word}
-use Rattle.act_rules.proofs.Stored.{by_test}
-use Rattle.act_rules.proofs.Respected.{host-kind, and-right}
 use Rattle.leaf_parts.specs.Words.{raised}
 use Rattle.leaf_parts.proofs.Owned.{counted-host, counted-other, owned-taken, owned-same, raised-is}
 use Rattle.leaf_parts.proofs.Told.{tdr-shown}
@@ -45,7 +44,7 @@ is-free entry.ExportedDirty h = cc
 is-free entry.ExportedDirtyBlockedW h = cc
 
 free-mark : (s : EntryState) (p mark : ℕ) → is_lawful_entry (record { state = s; page = p; mark = mark }) ≡ true → is_free s ≡ true → mark ≡ 0
-free-mark entry.Free p mark h f = eqb-true mark 0 (and-right (p == 0) _ (and-right (nat_lt mark (2 ^ 32)) _ (and-right (nat_lt p 1024) _ h)))
+free-mark entry.Free p mark h f = eqb-true mark 0 (and_parts (p == 0) _ (and_parts (nat_lt mark (2 ^ 32)) _ (and_parts (nat_lt p 1024) _ h).1).1).1
 free-mark _ p mark h f = cc
 
 free-word : (s : EntryState) (p mark : ℕ) → is_lawful_entry (record { state = s; page = p; mark = mark }) ≡ true → is_free s ≡ true → entry_word (record { state = s; page = p; mark = mark }) ≡ 0
@@ -83,7 +82,7 @@ module _ (m : Machine) (words : WordPlace → ℕ) (slots : ℕ → Option (List
   itself q = eq-eqb q q refl
 
   nda : w.pages.kinds p ≡ kind.Nda
-  nda = host-kind (w.pages.kinds p) host
+  nda = host_kind (w.pages.kinds p) host
 
   p-t : (p == t) ≡ false
   p-t = ne_eqb p t (λ e. (let no : kind.Nda ≡ kind.Tdr = sym nda ∙ (ap w.pages.kinds e ∙ tdr) in cc))

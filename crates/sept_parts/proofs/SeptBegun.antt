@@ -18,6 +18,7 @@ use Rattle.flat_core.specs.Row.{Item, Try, needs}
 use Rattle.flat_core.specs.Conditions.{td_row}
 use Rattle.flat_core.specs.Lawful.{Lawful, IsAlive}
 use Rattle.flat_core.specs.Tree.{entry_at, number_at, same_state, walk, state_in}
+use Rattle.flat_core.proofs.Maps.{not_free}
 use Rattle.sept_walk.specs.SecureEpt.{index_at, is_mapped_on}
 use Rattle.sept_walk.proofs.Meets.{split}
 use Rattle.word_rules.specs.Cells.{Shows}
@@ -35,7 +36,7 @@ use Rattle.sept_parts.specs.declared.finds.Modes.{Modes}
 use Rattle.sept_parts.specs.SeptWords.{entry_told}
 use Rattle.sept_parts.specs.SeptTrees.{tree_lock_tree, root_page_tree, entry_tree, state_tree, below_tree, walk_tree, find_tree, td_find_tree}
 use Rattle.sept_parts.specs.SeptPages.{HasEntry, HoldsTree, HoldsEntries}
-use Rattle.sept_parts.proofs.SeptTold.{mapped-on, told-back, said}
+use Rattle.sept_parts.proofs.SeptTold.{told-back, said}
 use Rattle.sept_parts.proofs.SeptLocks.{tree_held, holds-tree, tree-alone, op-alone, entry-reads, upper-reads}
 
 module _ (m : Machine) (c : Instant) (k : Work) (t : ℕ) (in_page : t < m.pages) (limit : m.pages ≤ 1024) (la : Lawful m c.state.world) (sh : Shows m c.memory.words c.memory.slots c.state) (alive : IsAlive c.state.world.pages c.state.world.tds t) (x : TwoControls m c.state.world t) (hs : List Held) where
@@ -95,7 +96,7 @@ module _ (m : Machine) (c : Instant) (k : Work) (t : ℕ) (in_page : t < m.pages
           (upper-reads m c t sh alive x hs locks gpa page l small has) (
             refl,
             λ e. refl,
-            λ on. (let named = la.tree.upper t l (number_at (suc l) gpa) alive (mapped-on (entry_at w t (suc l) gpa).state on) in
+            λ on. (let named = la.tree.upper t l (number_at (suc l) gpa) alive (not_free (entry_at w t (suc l) gpa).state on) in
                 h (entry_at w t (suc l) gpa).page (record {
                   in_machine = page-in m w t (entry_at w t (suc l) gpa).page kind.Ept la named.1.page refl;
                   node = inr (below, named.1);

@@ -13,12 +13,12 @@ use Rattle.flat_core.specs.Effects.{set_entry}
 use Rattle.flat_core.specs.Lawful.{Lawful, IsAlive, IsNodeOf}
 use Rattle.flat_core.specs.Tree.{number_at}
 use Rattle.flat_core.specs.Event.{State}
+use Rattle.flat_core.proofs.Tests.{by_test}
 use Rattle.sept_walk.specs.SecureEpt.{index_at}
 use Rattle.sept_walk.proofs.Meets.{split}
 use Rattle.word_rules.specs.Lines.{in_lines}
 use Rattle.word_rules.specs.Cells.{Shows, IsAs, cell, page_cell, entry_cell, control_cell, td_lock_lines, tdcs_lines, lock_word}
 use Rattle.lock_words.specs.LockWords.{put_word}
-use Rattle.act_rules.proofs.Stored.{by_test}
 use Rattle.leaf_engine.specs.Changes.{Memory}
 use Rattle.leaf_parts.proofs.Begun.{TwoControls}
 use Rattle.sept_parts.specs.SeptPages.{HasEntry}

@@ -1,6 +1,6 @@
 -- What the words of a TD's secure EPT say over a lawful state, and what these words are.
 use Rattle.std.proofs.Common.{◌≡◌, ◌⊎◌, ℕ, zero, suc, ◌+◌, ◌*◌, ◌^◌, ◌<◌, ◌≤◌, true, false, ◌==◌, nat_lt, if◌then◌else◌, Option, None, refl, ap, sym, ◌∙◌, subst, inl, inr, arith}
-use Rattle.std.proofs.lemmas.Bool.{eq-eqb, eqb-true, lt-ltb}
+use Rattle.std.proofs.lemmas.Bool.{eq-eqb, eqb-true, lt-ltb, and_parts}
 use Rattle.td_words.specs.declared.names.EntryState.{EntryState}
 use Rattle.td_words.specs.declared.names.EntryState.TheVariants as entry
 use Rattle.td_words.specs.declared.names.PageKind.TheVariants as kind
@@ -10,15 +10,14 @@ use Rattle.td_words.specs.Place as place
 use Rattle.td_words.proofs.Unpacked.{packings}
 use Rattle.flat_core.specs.World.{World}
 use Rattle.flat_core.specs.Lawful.{Lawful, IsAlive, IsNodeOf, is_free}
-use Rattle.flat_core.specs.Tree.{number_at, entry_at, same_state}
+use Rattle.flat_core.specs.Tree.{number_at, entry_at}
 use Rattle.flat_core.specs.Event.{State}
+use Rattle.flat_core.proofs.Tests.{by_test}
 use Rattle.sept_walk.specs.SecureEpt.{index_at}
 use Rattle.sept_walk.proofs.Meets.{split}
 use Rattle.word_rules.specs.Cells.{Shows}
 use Rattle.word_rules.specs.Views.{no_page, named_by}
 use Rattle.word_rules.specs.Spots.{spot, entry_class, entry_named}
-use Rattle.act_rules.proofs.Stored.{by_test}
-use Rattle.act_rules.proofs.Respected.{and-left, and-right}
 use Rattle.leaf_engine.specs.Changes.{Memory}
 use Rattle.leaf_parts.proofs.Begun.{TwoControls, page-in}
 use Rattle.sept_parts.specs.SeptWords.{entry_or_free, entry_told}
@@ -33,22 +32,8 @@ entry-back n e lawful small =
 
 -- a FREE entry names page 0
 pub free-page : (s : EntryState) (p mark : ℕ) → is_lawful_entry (record { state = s; page = p; mark = mark }) ≡ true → is_free s ≡ true → p ≡ 0
-free-page entry.Free p mark h f = eqb-true p 0 (and-left (p == 0) _ (and-right (nat_lt mark (2 ^ 32)) _ (and-right (nat_lt p 1024) _ h)))
+free-page entry.Free p mark h f = eqb-true p 0 (and_parts (p == 0) _ (and_parts (nat_lt mark (2 ^ 32)) _ (and_parts (nat_lt p 1024) _ h).1).1).0
 free-page _ p mark h f = cc
-
--- an NL_MAPPED entry isn't FREE
-pub mapped-on : (s : EntryState) → same_state s entry.NlMapped ≡ true → is_free s ≡ false
-mapped-on entry.NlMapped h = refl
-mapped-on entry.Free h = cc
-mapped-on entry.Mapped h = cc
-mapped-on entry.Blocked h = cc
-mapped-on entry.Pending h = cc
-mapped-on entry.PendingBlocked h = cc
-mapped-on entry.NlBlocked h = cc
-mapped-on entry.BlockedW h = cc
-mapped-on entry.ExportedBlockedW h = cc
-mapped-on entry.ExportedDirty h = cc
-mapped-on entry.ExportedDirtyBlockedW h = cc
 
 -- the page that an entry of level 0 names; a word of an upper entry is known by none
 abbrev pub named_at : World → (t gpa level : ℕ) → ℕ

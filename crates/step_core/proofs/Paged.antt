@@ -10,19 +10,19 @@ use Rattle.step_core.specs.Pages.{clearing, copying}
 use Rattle.step_core.specs.Laws.{PagesChangeAlone}
 
 -- items in two parts are played over a table in the middle
-record Parts (t v : Table) (xs ys : List Taken) : Type 0 where
-  middle : Table
-  first : PlaysTo t xs middle
-  then_ : PlaysTo middle ys v
+pub record Parts (t v : Table) (xs ys : List Taken) : Type 0 where
+  pub middle : Table
+  pub first : PlaysTo t xs middle
+  pub second : PlaysTo middle ys v
 
-parts : (t v : Table) (xs ys : List Taken) → PlaysTo t (xs ++ ys) v → Parts t v xs ys
-parts t v [] ys p = record { middle = t; first = (refl, refl); then_ = p }
+pub parts : (t v : Table) (xs ys : List Taken) → PlaysTo t (xs ++ ys) v → Parts t v xs ys
+parts t v [] ys p = record { middle = t; first = (refl, refl); second = p }
 parts t v (Stepped s a ∷ xs) ys p =
     let r = parts (record t { words = after_step t.words s }) v xs ys p.1 in
-    record { middle = r.middle; first = (p.0, r.first); then_ = r.then_ }
+    record { middle = r.middle; first = (p.0, r.first); second = r.second }
 parts t v (Swapped k put taken ∷ xs) ys p =
     let r = parts (record t { slots = with_slot t.slots k put }) v xs ys p.1 in
-    record { middle = r.middle; first = (p.0, r.first); then_ = r.then_ }
+    record { middle = r.middle; first = (p.0, r.first); second = r.second }
 parts t v (Missed k ∷ xs) ys p = absurd p
 
 -- whether a word of a page, from one index to below another, stands at an address
@@ -47,8 +47,8 @@ cleared_first t u page (suc k) p =
     let r = parts t u (clearing page k) (Stepped (Store (word_at page k) 0) 0 ∷ []) p in
     let before = cleared_first t r.middle page k r.first in
     record {
-      words = λ n. one_more (t.words n) (r.middle.words n) (u.words n) page k n (before.words n) (ap (λ (w : Words). w n) r.then_.1.0);
-      slots = r.then_.1.1 ∙ before.slots;
+      words = λ n. one_more (t.words n) (r.middle.words n) (u.words n) page k n (before.words n) (ap (λ (w : Words). w n) r.second.1.0);
+      slots = r.second.1.1 ∙ before.slots;
     }
 
 apart : (from to i n : ℕ) → from ≢ to → i < 512 → n < word_at to 512 → word_at to 0 ≤ n → (word_at from (n - word_at to 0) == word_at to i) ≡ false

@@ -1,6 +1,6 @@
 -- Places have addresses of their own.
 use Rattle.std.proofs.Common.{◌≡◌, refl, ap, ℕ, ◌+◌, ◌*◌, ◌<◌, true, false, ◌==◌, ◌&&◌, arith}
-use Rattle.std.proofs.lemmas.Bool.{eq-eqb, eqb-true}
+use Rattle.std.proofs.lemmas.Bool.{eq-eqb, eqb-true, and_parts}
 use Rattle.td_words.specs.declared.names.LockName.{LockName}
 use Rattle.td_words.specs.declared.names.LockName.TheVariants as name
 use Rattle.td_words.specs.declared.machines.Machine.{Machine}
@@ -8,7 +8,6 @@ use Rattle.td_words.specs.declared.places.TheConstants.{KEY_FIRST}
 use Rattle.td_words.specs.Place.{WordPlace, Lock, Pamt, Word, Key, IsIn, address, same_place, lock_place}
 use Rattle.td_words.specs.Laws.{PlacesInjective}
 use Rattle.td_words.proofs.Apart.{apart}
-use Rattle.td_words.proofs.Unpacked.{and-left, and-right}
 
 no_two : (m : Machine) (q r : WordPlace) → IsIn m q → IsIn m r → address m.pages q ≡ address m.pages r → q ≡ r
 no_two m (Lock p) (Lock q) a b e = ap Lock (omega (arith, e))
@@ -39,8 +38,8 @@ same-true (Lock p) (Lock q) h = ap Lock (eqb-true p q h)
 same-true (Pamt p) (Pamt q) h = ap Pamt (eqb-true p q h)
 same-true (Key k) (Key j) h = ap Key (eqb-true k j h)
 same-true (Word p i) (Word q j) h =
-    let a : p ≡ q = eqb-true p q (and-left (p == q) (i == j) h) in
-    let b : i ≡ j = eqb-true i j (and-right (p == q) (i == j) h) in rw (a, b) refl
+    let a : p ≡ q = eqb-true p q (and_parts (p == q) (i == j) h).0 in
+    let b : i ≡ j = eqb-true i j (and_parts (p == q) (i == j) h).1 in rw (a, b) refl
 same-true _ _ h = cc
 
 itself : (q : WordPlace) → same_place q q ≡ true
@@ -54,7 +53,7 @@ same-of q r e = rw e (itself r)
 
 -- other words of one page
 differ : {A : Type 0} (c : ℕ) → ((c == c) && false) ≡ true → A
-differ c h = let bad : false ≡ true = and-right (c == c) false h in cc
+differ c h = let bad : false ≡ true = (and_parts (c == c) false h).1 in cc
 
 names_apart : (c : ℕ) (a b : LockName) → same_place (lock_place c a) (lock_place c b) ≡ true → a ≡ b
 names_apart c (name.Page p) (name.Page q) h = ap name.Page (eqb-true p q h)

@@ -1,23 +1,20 @@
 -- Words that are all 0 show the start of a run.
-use Rattle.std.proofs.Common.{◌≡◌, refl, ℕ, zero, suc, ◌==◌, arith}
+use Rattle.std.proofs.Common.{◌≡◌, refl, ℕ, ◌==◌, arith}
 use Rattle.td_words.specs.declared.places.TheConstants.{KEY_LOCK, KEY_LAST_EXPORTED, KEY_LAST_IMPORTED}
 use Rattle.td_words.specs.Place.{WordPlace}
 use Rattle.td_words.specs.Place as place
-use Rattle.flat_core.specs.Processor.{LockId, OfPage, OfKeys, Lp, idle}
-use Rattle.flat_core.specs.Locks.{alone_of, shared_of, refused_of, sum_below}
+use Rattle.flat_core.specs.Processor.{LockId, OfPage, OfKeys, idle}
+use Rattle.flat_core.specs.Locks.{alone_of, shared_of, refused_of}
 use Rattle.flat_core.specs.Event.{start}
+use Rattle.flat_core.proofs.Tests.{by_test}
+use Rattle.flat_core.proofs.LockLaw.{sum_none}
 use Rattle.word_rules.specs.Cells.{lock_word, key_cell, cell, IsAs, StartIsShown}
-use Rattle.word_rules.proofs.Sound.{by_test}
-
-none-yet : (f : Lp → ℕ) (n : ℕ) → f idle ≡ 0 → sum_below (λ q. f idle) n ≡ 0
-none-yet f zero h = refl
-none-yet f (suc n) h = let k = none-yet f n h in omega (arith, h, k)
 
 no-lock : (n : ℕ) (l : LockId) → 0 ≡ lock_word (λ p. idle) n l
 no-lock n l =
-    let a = none-yet (alone_of l) n refl in
-    let b = none-yet (shared_of l) n refl in
-    let c = none-yet (refused_of l) n refl in omega (arith, a, b, c)
+    let a = sum_none (alone_of l) n refl in
+    let b = sum_none (shared_of l) n refl in
+    let c = sum_none (refused_of l) n refl in omega (arith, a, b, c)
 
 pub start-is-shown : StartIsShown
 start-is-shown o ws = record { word = λ q i. at q; hasher = λ h. tt }
