@@ -1,4 +1,4 @@
-use Rattle.std.proofs.Common.{◌≡◌, ◌+◌, ◌≤◌, ◌++◌, map, get_or}
+use Rattle.std.proofs.Common.{◌≡◌, ◌++◌, map, get_or}
 use Rattle.std.specs.List.{range_with_len}
 use Rattle.flat_core.specs.Digests.{digest_bytes}
 use Rattle.plain_runs.proofs.builds.append_chunk.Given as goal

@@ -1,4 +1,4 @@
-use Rattle.std.proofs.Common.{ap, [], ◌∷◌, ◌++◌, map, sym, ◌∙◌}
+use Rattle.std.proofs.Common.{ap, [], map}
 use Rattle.flat_core.specs.World.{Tds}
 use Rattle.plain_runs.specs.Plain.{world_in, tds_in, seen}
 use Rattle.plain_runs.proofs.PlainWorld.{measured_set}

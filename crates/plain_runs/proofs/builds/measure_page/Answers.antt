@@ -1,4 +1,4 @@
-use Rattle.std.proofs.Common.{ap, ◌∙◌, List, ℕ, ◌++◌, map, get_or, append_assoc}
+use Rattle.std.proofs.Common.{ap, map}
 use Rattle.flat_core.specs.World.{Tds}
 use Rattle.plain_runs.specs.Plain.{world_in, tds_in, seen}
 use Rattle.plain_runs.proofs.PlainWorld.{measured_more}

@@ -1,21 +1,14 @@
-use Rattle.std.proofs.Common.{◌≡◌, refl, sym, ap, ◌∙◌, ℕ, ◌/◌, [], ◌∷◌, ◌++◌, map, get_or, Ok}
-use mathlib.Core.Path.{fun_ext}
+use Rattle.std.proofs.Common.{refl, ap, ◌∙◌, ℕ, ◌/◌, map}
 use Rattle.td_words.specs.declared.calls.Call.TheVariants as call
 use Rattle.td_words.specs.declared.replies.Value.TheVariants as value
 use Rattle.td_words.specs.declared.names.EntryState.TheVariants as entry
-use Rattle.td_words.specs.declared.names.OpState.TheVariants as op
 use Rattle.td_words.specs.declared.names.PageKind.TheVariants as kind
 use Rattle.td_words.specs.Packing.{Entry}
 use Rattle.flat_core.specs.World.{World}
-use Rattle.flat_core.specs.Conditions.{td_shared, growing_ops, begun_ops, host_page}
-use Rattle.flat_core.specs.Tree.{walk, state_in, entry_at}
 use Rattle.flat_core.specs.Effects as effects
-use Rattle.flat_core.specs.MemRows.{chunk_bytes, entry_value}
-use Rattle.mrtd_measure.specs.Records.{page_record, chunk_records}
 use Rattle.plain_runs.specs.Plain.{world_of, row_in, shown, seen}
-use Rattle.plain_runs.specs.Given.{add_sept_given, read_sept_given, add_page_given, extend_given}
 use Rattle.plain_runs.proofs.PlainCalls.{refused, done}
-use Rattle.plain_runs.proofs.MemCalls.{add_sept_asks, add_page_asks, extend_asks}
+use Rattle.plain_runs.proofs.MemCalls.{add_sept_asks}
 use Rattle.plain_runs.proofs.mem_calls.add_table.Goals as goal
 
 pub returns-in-Err-clause-does : goal.returns-in-Err-clause-does
