@@ -120,11 +120,11 @@ pub fn replay_each(
 }
 
 // A race: a schedule, and what processor 1 calls under it; behind two bars what processor 2 calls.
-fn replay_race(rt: &impl Abort, alloc: Global, zero: &[&str], race: &str) -> Result<(), Fail> {
+fn replay<'a>(rt: &impl Abort, alloc: Global, zero: &[&'a str], race: &'a str) -> Result<(), Fail> {
     let (schedule, others) = race.split_once(" | ").ok_or("no bar")?;
     match others.split_once(" || ") {
-        Some((one, two)) => replays(rt, alloc, "3 32 2", schedule, &[zero, &[one], &[two]]),
-        None => replays(rt, alloc, "2 32 2", schedule, &[zero, &[others]]),
+        Some((one, two)) => replays(rt, alloc, "3 32 2", schedule, &[&*zero, &[one], &[two]]),
+        None => replays(rt, alloc, "2 32 2", schedule, &[&*zero, &[others]]),
     }
 }
 
@@ -135,7 +135,7 @@ pub fn replay_races(rt: &impl Abort, alloc: Global, rows: &[&[&str]]) -> Result<
         let mut zero = Vec::new(alloc);
         for text in *row {
             match text.as_bytes().first() {
-                Some(b'0'..=b'9') => replay_race(rt, alloc, zero.as_slice(), text)?,
+                Some(b'0'..=b'9') => replay(rt, alloc, zero.as_slice(), *text)?,
                 _ => zero.push(*text)?,
             }
         }
