@@ -1,20 +1,17 @@
 -- Contents held in memory: where a name is first, and what one file changed or added does to each name.
 use Rattle.std.proofs.Common.{◌≡◌, ◌≢◌, refl, sym, ◌∙◌, ap, ℕ, zero, suc, ◌+◌, ◌<◌, List, [], ◌∷◌, ◌++◌, length, get_or, take, set, Option, Some, None, Bool, true, false, if◌then◌else◌, arith, add-one}
 use Rattle.std.specs.Str.{bytes_eq}
+use Rattle.std.proofs.lemmas.Bool.{false_from_ne_true}
 use Rattle.std.proofs.lemmas.Slice.Eq.{bytes_eq-Decides}
 use Rattle.script_runner.specs.Seen.{FileSeen}
 use Rattle.script_runner.specs.Outside.{Gives}
 use Rattle.script_runner.specs.Held.{contents_in, FirstAt, no_file}
 
-not_true : (b : Bool) → (b ≡ true → ⊥) → b ≡ false
-not_true true h = absurd (h refl)
-not_true false h = refl
-
 named : (a name : List ℕ) → a ≡ name → bytes_eq a name ≡ true
 named a name e = (bytes_eq-Decides a name).1 e
 
 not_named : (a name other : List ℕ) → a ≡ name → other ≢ name → bytes_eq a other ≡ false
-not_named a name other e ne = not_true (bytes_eq a other) (λ t. ne (sym ((bytes_eq-Decides a other).0 t) ∙ e))
+not_named a name other e ne = false_from_ne_true (bytes_eq a other) (λ t. ne (sym ((bytes_eq-Decides a other).0 t) ∙ e))
 
 -- a file that isn't of this name is passed over
 passed : (b : Bool) (x : List ℕ) (a a' v : Option (List ℕ)) → (if b then Some x else a) ≡ None → (a ≡ None → a' ≡ v) → (if b then Some x else a') ≡ v

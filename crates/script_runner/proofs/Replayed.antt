@@ -1,5 +1,5 @@
 -- What is left of a run, turn by turn, and what is printed at its end.
-use Rattle.std.proofs.Common.{◌≡◌, ◌≢◌, ◌⊎◌, inl, inr, refl, sym, ◌∙◌, ap, subst, ℕ, zero, suc, ◌+◌, ◌<◌, ◌≤◌, List, [], ◌∷◌, ◌++◌, length, get_or, set, take, drop, map, replicate, Option, Some, None, Result, Ok, Err, IfOk, true, false, not, ◌==◌, arith, slice_index, slice_index_or, append-nil, append_assoc, add-one}
+use Rattle.std.proofs.Common.{◌≡◌, ◌≢◌, ◌⊎◌, inl, inr, refl, sym, ◌∙◌, ap, subst, ℕ, zero, suc, ◌+◌, ◌<◌, ◌≤◌, List, [], ◌∷◌, ◌++◌, length, get_or, set, take, drop, map, replicate, Option, None, Result, Ok, Err, IfOk, true, false, not, ◌==◌, arith, slice_index, slice_index_or, append-nil, append_assoc, add-one}
 use Rattle.std.proofs.Math.Seq.{drop-cons}
 use Rattle.std.proofs.lemmas.Bool.Decides.{eqb_tells}
 use Rattle.std.proofs.lemmas.List.{set-get_or, length-map, length-take-le, take_more, map_push}
@@ -13,9 +13,10 @@ use Rattle.td_words.specs.declared.calls.Call.{Call}
 use Rattle.td_words.specs.declared.replies.Reply.{Reply}
 use Rattle.flat_core.specs.Processor.{Lp}
 use Rattle.flat_core.specs.Opening.{Opening, IsMachine}
-use Rattle.flat_core.specs.Event.{State, Event as FlatEvent, start, event, next_event, after_event, lines_left}
+use Rattle.flat_core.specs.Event.{State, start, event, lines_left}
 use Rattle.flat_core.specs.Run.{play, run, to_the_end}
 use Rattle.flat_core.specs.HostText.{reply_lines, lines_from, text_of, host_text}
+use Rattle.flat_core.proofs.Induction.{counts_stay}
 use Rattle.mrtd_measure.specs.declared.measures.Measure.{Measure}
 use Rattle.step_core.specs.Words.{word_count}
 use Rattle.step_core.specs.Items.{Taken, Table, PlaysTo}
@@ -196,17 +197,6 @@ fewer-left lps p d s' inside h =
 
 -- at the end
 
-count-stays : (o : Opening) (s : State) (p : ℕ) → (event o s p).lp_count ≡ s.lp_count
-count-stays o s p = by (next_event o s p)
-  where
-    by : (e : Option FlatEvent) → (after_event p s e).lp_count ≡ s.lp_count
-    by None = refl
-    by (Some e) = refl
-
-count-of : (o : Opening) (xs : List ℕ) (s : State) → (play o xs s).lp_count ≡ s.lp_count
-count-of o [] s = refl
-count-of o (x ∷ xs) s = count-of o xs (event o s x) ∙ count-stays o s x
-
 same-lines : (n p : ℕ) (f : ℕ → Lp) (lps : List LpState) → length lps ≡ n → ((q : ℕ) → q < n → (f (p + q)).replies ≡ (seen_at lps q).replies) → lines_from n p f ≡ lines_seen p lps
 same-lines zero p f [] e h = refl
 same-lines zero p f (s ∷ ss) e h = absurd (omega (arith, e))
@@ -256,5 +246,5 @@ prints-all ls o schedule lps b op l ended =
     let there = ls.merges.ended o (leaf_table o.machine) l.made (seen_at lps) (table_of b) op.few (ls.leaves o op.machine) l.merge (λ p i. ended p (omega (arith, l.count))) in
     let s : State = run o (order l.made) in
     let lines : lines_from s.lp_count 0 s.lps ≡ lines_seen 0 lps =
-    same-lines s.lp_count 0 s.lps lps (l.count ∙ sym (count-of o (order l.made ++ to_the_end 0 o.calls) (start o None))) (λ q i. ap (λ (k : ℕ). (s.lps k).replies) (omega arith) ∙ there.1.replies q (omega (arith, count-of o (order l.made ++ to_the_end 0 o.calls) (start o None)))) in
+    same-lines s.lp_count 0 s.lps lps (l.count ∙ sym (counts_stay o (order l.made ++ to_the_end 0 o.calls) (start o None))) (λ q i. ap (λ (k : ℕ). (s.lps k).replies) (omega arith) ∙ there.1.replies q (omega (arith, counts_stay o (order l.made ++ to_the_end 0 o.calls) (start o None)))) in
     ap concat (sym lines) ∙ ap text_of (ap (run o) (sym (append-nil (order l.made))) ∙ l.same)

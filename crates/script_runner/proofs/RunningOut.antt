@@ -9,10 +9,7 @@ use Rattle.flat_core.specs.Event.{State, Event, start, event, next_event, event_
 use Rattle.flat_core.specs.Run.{play, run, events_in, to_the_end}
 use Rattle.flat_core.specs.Bounds.{left_of, events_left, EventsRunOut}
 use Rattle.flat_core.specs.Laws.{OthersStay}
-
-pub play-append : (o : Opening) (xs ys : List ℕ) (s : State) → play o (xs ++ ys) s ≡ play o ys (play o xs s)
-play-append o [] ys s = refl
-play-append o (x ∷ xs) ys s = play-append o xs ys (event o s x)
+use Rattle.flat_core.proofs.Induction.{play_append}
 
 pub stays : (o : Opening) (s : State) (p : ℕ) → lines_left o p (s.lps p) ≡ [] → event o s p ≡ s
 stays o s p e = ap (λ (cs : List Call). after_event p s (event_for o s.world p (s.lps p) cs)) e
@@ -28,7 +25,7 @@ pub record IsReached (o : Opening) (s : State) : Type 0 where
 reached-next : (o : Opening) (s : State) (p : ℕ) → IsReached o s → IsReached o (event o s p)
 reached-next o s p r = record {
   schedule = r.schedule ++ p ∷ [];
-  is = ap (λ (z : State). event o z p) r.is ∙ sym (play-append o r.schedule (p ∷ []) (start o None));
+  is = ap (λ (z : State). event o z p) r.is ∙ sym (play_append o r.schedule (p ∷ []) (start o None));
 }
 
 lowers : EventsRunOut → (o : Opening) (s : State) (p : ℕ) (e : Event) → IsReached o s → next_event o s p ≡ Some e → events_left o (event o s p) p < events_left o s p
@@ -86,7 +83,7 @@ idle-items o s p zero e = refl
 idle-items o s p (suc n) e = ap (play o (replicate n p)) e ∙ idle-items o s p n e
 
 skipped : (o : Opening) (s : State) (p n : ℕ) (xs : List ℕ) → lines_left o p (s.lps p) ≡ [] → play o (replicate n p ++ xs) s ≡ play o xs s
-skipped o s p n xs e = play-append o (replicate n p) xs s ∙ ap (play o xs) (idle-items o s p n (stays o s p e))
+skipped o s p n xs e = play_append o (replicate n p) xs s ∙ ap (play o xs) (idle-items o s p n (stays o s p e))
 
 -- from processor k on, with p among those that are left
 one-more : EventsRunOut → OthersStay → (o : Opening) (s : State) (p : ℕ) → IsReached o s → ((q : ℕ) → q < p → lines_left o q (s.lps q) ≡ [])
@@ -99,8 +96,8 @@ one-more out others o s p r ended (cs ∷ css) k zero e inside same =
     let all : events_in cs ≡ events_in (calls_of o.calls p) = ap events_in same in
     let P : ℕ → Type 0 = λ z. play o (replicate (events_in cs) z ++ to_the_end (suc k) css) (event o s p) ≡ play o (replicate (events_in cs) z ++ to_the_end (suc k) css) s in
     subst P (sym here)
-    (play-append o (replicate (events_in cs) p) (to_the_end (suc k) css) (event o s p)
-    ∙ (ap (play o (to_the_end (suc k) css)) (enough out o p (events_in cs) s r (omega arith)) ∙ sym (play-append o (replicate (events_in cs) p) (to_the_end (suc k) css) s)))
+    (play_append o (replicate (events_in cs) p) (to_the_end (suc k) css) (event o s p)
+    ∙ (ap (play o (to_the_end (suc k) css)) (enough out o p (events_in cs) s r (omega arith)) ∙ sym (play_append o (replicate (events_in cs) p) (to_the_end (suc k) css) s)))
 one-more out others o s p r ended (cs ∷ css) k (suc j) e inside same =
     let before : lines_left o k (s.lps k) ≡ [] = ended k (omega arith) in
     let ne : k ≢ p = λ x. absurd (omega (arith, x)) in
@@ -115,16 +112,16 @@ pub one-more-item : EventsRunOut → OthersStay → (o : Opening) (xs : List ℕ
 one-more-item out others o xs p inside ended =
     let s = play o xs (start o None) in
     let end = to_the_end 0 o.calls in
-    play-append o (xs ++ p ∷ []) end (start o None)
-    ∙ (ap (play o end) (play-append o xs (p ∷ []) (start o None))
+    play_append o (xs ++ p ∷ []) end (start o None)
+    ∙ (ap (play o end) (play_append o xs (p ∷ []) (start o None))
     ∙ (one-more out others o s p (record { schedule = xs; is = refl }) ended o.calls 0 p (omega arith) inside refl
-    ∙ (sym (play-append o xs end (start o None)) ∙ ap (run o) (sym (append-nil xs)))))
+    ∙ (sym (play_append o xs end (start o None)) ∙ ap (run o) (sym (append-nil xs)))))
 
 -- an item of a processor that has ended, before others
 pub idle-item : (o : Opening) (xs ys : List ℕ) (p : ℕ) → (let s = play o xs (start o None) in lines_left o p (s.lps p) ≡ []) → run o (xs ++ p ∷ ys) ≡ run o (xs ++ ys)
 idle-item o xs ys p ended =
     let s = play o xs (start o None) in
     let end = to_the_end 0 o.calls in
-    play-append o (xs ++ p ∷ ys) end (start o None)
-    ∙ (ap (play o end) (play-append o xs (p ∷ ys) (start o None) ∙ (ap (play o ys) (stays o s p ended) ∙ sym (play-append o xs ys (start o None))))
-    ∙ sym (play-append o (xs ++ ys) end (start o None)))
+    play_append o (xs ++ p ∷ ys) end (start o None)
+    ∙ (ap (play o end) (play_append o xs (p ∷ ys) (start o None) ∙ (ap (play o ys) (stays o s p ended) ∙ sym (play_append o xs ys (start o None))))
+    ∙ sym (play_append o (xs ++ ys) end (start o None)))
