@@ -1,10 +1,12 @@
 -- A walk of a table whose words show a lawful state follows the map.
-use Rattle.std.proofs.Common.{◌≡◌, ℕ, suc, ◌+◌, ◌*◌, ◌^◌, ◌<◌, ◌≤◌, true, List, ◌++◌, Option, ap, sym, ◌∙◌}
+use Rattle.std.proofs.Common.{◌≡◌, ℕ, suc, ◌+◌, ◌*◌, ◌^◌, ◌<◌, ◌≤◌, true, List, ◌++◌, Option, None, ap, sym, ◌∙◌}
 use Rattle.td_words.specs.declared.machines.Machine.{Machine}
 use Rattle.td_words.specs.declared.replies.Reply.{Reply}
 use Rattle.td_words.specs.Place as place
 use Rattle.flat_core.specs.World.{World}
-use Rattle.flat_core.specs.Event.{State}
+use Rattle.flat_core.specs.Event.{State, start}
+use Rattle.flat_core.specs.Run.{play}
+use Rattle.flat_core.specs.Laws.{EveryWorldIsLawful}
 use Rattle.flat_core.specs.Row.{Item, next}
 use Rattle.flat_core.specs.Tree.{walk}
 use Rattle.sept_walk.specs.declared.walks.Walked.{Walked}
@@ -15,9 +17,11 @@ use Rattle.mrtd_measure.specs.declared.measures.Measure.{Measure}
 use Rattle.step_core.specs.Items.{Table}
 use Rattle.leaf_engine.specs.Changes.{Memory}
 use Rattle.leaf_engine.specs.Tables.{IsMemory}
+use Rattle.leaf_engine.specs.Merges.{order}
+use Rattle.merge_laws.specs.Laws.{IsShownBy, MergesAreRuns}
 use Rattle.sept_parts.specs.SeptWords.{entry_told}
 use Rattle.map_laws.specs.SeptMaps.{ShowsTd, entries_on}
-use Rattle.map_laws.specs.Laws.{WalksFollow, table_walk}
+use Rattle.map_laws.specs.Laws.{WalksFollow, WalksFollowMerges, table_walk}
 use Rattle.map_laws.proofs.Held.{root-in, held, below-in}
 
 module _ (find : WalksFind) (meet : WalksMeetMaps) (m : Machine) (mem : Memory) (s : State) (t root : ℕ) (u : Table) (hasher : Option Measure) (x : ShowsTd m mem s t root) (is : IsMemory m u hasher mem) where
@@ -47,3 +51,10 @@ walks-follow find meet = record {
   ends = λ m mem s t root gpa level u hasher x is small few. ended find meet m mem s t root u hasher x is gpa level small few;
   rows = λ m mem s t root gpa level u hasher granted rest x is small few. row-ended find meet m mem s t root u hasher x is gpa level granted rest small few;
 }
+
+-- the table that a merge leads to
+pub walks-follow-merges : EveryWorldIsLawful → MergesAreRuns → WalksFollow → WalksFollowMerges
+walks-follow-merges lawful runs follow o leaf is now u limit most are merge t tdcs root gpa level alive controls small few =
+    let by : IsShownBy o.machine u (play o (order is) (start o None)) = (runs.turns o leaf is now u most are merge).0 in
+    follow.ends o.machine by.memory (play o (order is) (start o None)) t root gpa level u None
+    (record { limit = limit; lawful = lawful o None (order is); shown = by.shows; alive = alive; tdcs = tdcs; controls = controls }) by.is small few

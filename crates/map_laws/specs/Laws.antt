@@ -1,11 +1,15 @@
 -- Memory holds the map of a TD where its words show the flat machine, so walks of memory are walks of the map.
-use Rattle.std.specs.Prelude.{◌≡◌, ℕ, ◌-◌, ◌^◌, ◌<◌, ◌≤◌, Option, List, ◌++◌}
+use Rattle.std.specs.Prelude.{◌≡◌, ℕ, ◌-◌, ◌^◌, ◌<◌, ◌≤◌, Option, None, List, [], ◌∷◌, ◌++◌, length}
+use Rattle.td_words.specs.declared.calls.Call.{Call}
 use Rattle.td_words.specs.declared.machines.Machine.{Machine}
 use Rattle.td_words.specs.declared.places.TheConstants.{TDR_ROOT}
 use Rattle.td_words.specs.declared.replies.Reply.{Reply}
 use Rattle.td_words.specs.Place as place
-use Rattle.flat_core.specs.Event.{State}
-use Rattle.flat_core.specs.Row.{Item, next}
+use Rattle.flat_core.specs.Opening.{Opening}
+use Rattle.flat_core.specs.Event.{State, start}
+use Rattle.flat_core.specs.Run.{play}
+use Rattle.flat_core.specs.Lawful.{IsAlive}
+use Rattle.flat_core.specs.Row as row
 use Rattle.flat_core.specs.Tree.{walk}
 use Rattle.sept_walk.specs.declared.walks.Walked.{Walked}
 use Rattle.sept_walk.specs.Maps.{HoldsMap, map_end, row_behind}
@@ -14,7 +18,10 @@ use Rattle.sept_walk.specs.Laws.{told_at_most}
 use Rattle.mrtd_measure.specs.declared.measures.Measure.{Measure}
 use Rattle.step_core.specs.Items.{Table}
 use Rattle.leaf_engine.specs.Changes.{Memory}
+use Rattle.leaf_engine.specs.Means.{Task}
 use Rattle.leaf_engine.specs.Tables.{IsMemory}
+use Rattle.leaf_engine.specs.OwnLists.{WordLp}
+use Rattle.leaf_engine.specs.Merges.{Item, order, AreLeaves, Merge}
 use Rattle.map_laws.specs.SeptMaps.{ShowsTd, entries_of, entries_on}
 
 -- the TDR page of the TD names the root (Base Architecture, "TD Root (TDR)")
@@ -36,6 +43,13 @@ table_walk m u root gpa level = told_at_most (4 - level) (entries_on m.pages u) 
 pub record WalksFollow : Type 0 where
   pub ends : (m : Machine) (mem : Memory) (s : State) (t root gpa level : ℕ) (u : Table) (hasher : Option Measure)
       → ShowsTd m mem s t root → IsMemory m u hasher mem → gpa < 2 ^ 47 → level ≤ 3 → table_walk m u root gpa level ≡ map_end s.world t gpa level
-  pub rows : (m : Machine) (mem : Memory) (s : State) (t root gpa level : ℕ) (u : Table) (hasher : Option Measure) (granted : ℕ) (rest : List (Item Reply))
+  pub rows : (m : Machine) (mem : Memory) (s : State) (t root gpa level : ℕ) (u : Table) (hasher : Option Measure) (granted : ℕ) (rest : List (row.Item Reply))
       → ShowsTd m mem s t root → IsMemory m u hasher mem → gpa < 2 ^ 47 → level ≤ 3
-      → next (walk s.world t gpa level ++ rest) granted ≡ row_behind (table_walk m u root gpa level) (next rest granted)
+      → row.next (walk s.world t gpa level ++ rest) granted ≡ row_behind (table_walk m u root gpa level) (row.next rest granted)
+
+-- After each merge of word steps, turn by turn, the table is such memory: a walk over it ends as the flat machine's map of
+-- the TD says, after a run of the events of the merge.
+abbrev pub WalksFollowMerges : Type 0
+WalksFollowMerges = (o : Opening) (leaf : ℕ → Call → Task) (is : List Item) (now : ℕ → WordLp) (u : Table) → o.machine.pages ≤ 1024 → length o.calls ≤ 8 → AreLeaves o leaf → Merge o leaf is now u
+    → let w = (play o (order is) (start o None)).world in (t tdcs root gpa level : ℕ) → IsAlive w.pages w.tds t → w.tds.controls t ≡ tdcs ∷ root ∷ [] → gpa < 2 ^ 47 → level ≤ 3
+    → table_walk o.machine u root gpa level ≡ map_end w t gpa level

@@ -20,12 +20,12 @@ abbrev pub entries_on : (pages : ℕ) → Table → (at : ℕ) → Entry
 entries_on pages table at = entry_told pages (table.words at)
 
 -- Words that show a lawful state of a machine within the limits, and a TD that is alive there and has its two TDCX pages:
--- TDCS, and the root of its secure EPT (Base Architecture, "TD Control Structures"). A TD in TD_TEARDOWN has no words that
--- are shown of its map, and one without its second TDCX page has no root yet, and no entry but FREE ones.
--- What is shown leaves out what is between: words show a state with each store that an act left to be made laid over them,
--- and with each store that came before its act taken off. So until a call has made the last store of its act, memory may
--- still have the entry from before; and until its act, what it has filled a page with, as the zeros of a new secure EPT
--- page, is not what is shown, but the host's words from before.
+-- TDCS, and the root of its secure EPT (Base Architecture, "TD Control Structures"). Of a TD in TD_TEARDOWN no words show
+-- the map; and one without its second TDCX page has no root yet, and only entries that are FREE.
+-- What is between two states isn't what words show: each store that an act left to be made is laid over them, and each that
+-- came before its act is taken off. So memory may still have an upper entry from before while P of the TDR page is held
+-- alone, and one of level 0 also while T is, or P of the page that it names; calls that map a page store its entry as the
+-- act itself. And a page that is cleared, or copied onto, before it is taken stands in no map until the act.
 pub record ShowsTd (m : Machine) (mem : Memory) (s : State) (t root : ℕ) : Type 0 where
   pub limit : m.pages ≤ 1024
   pub lawful : Lawful m s.world
