@@ -1,0 +1,2 @@
+pub mod SeptMaps
+pub mod Laws
