@@ -1,5 +1,3 @@
-pub mod PlainWorld
 pub mod PlainCalls
 pub mod PlainRuns
-pub mod Bytes
 pub mod MemCalls

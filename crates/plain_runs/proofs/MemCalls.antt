@@ -11,7 +11,7 @@ use Rattle.flat_core.specs.Row.{Item}
 use Rattle.flat_core.specs.Conditions.{td_shared, td_exclusive, tree_exclusive, tree_shared, page_exclusive, host_page, growing_ops}
 use Rattle.flat_core.specs.Tree.{walk, state_in, named_page}
 use Rattle.flat_alone.specs.Whole.{first_fault}
-use Rattle.plain_runs.specs.Plain.{row_in}
+use Rattle.plain_parts.specs.Plain.{row_in}
 use Rattle.plain_runs.specs.Given.{add_sept_given, add_page_given, extend_given}
 use Rattle.plain_runs.proofs.PlainCalls.{after_head, same_after, same_behind, any_mode_before}
 

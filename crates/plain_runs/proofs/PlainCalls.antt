@@ -17,11 +17,11 @@ use Rattle.flat_core.specs.Arguments.{page_argument, hkid_argument, apart_argume
 use Rattle.flat_core.specs.Conditions as conditions
 use Rattle.flat_core.specs.Effects as effects
 use Rattle.flat_alone.specs.Whole.{first_fault, reply_unless, world_unless}
-use Rattle.plain_runs.specs.declared.plain.Cell.{Cell}
-use Rattle.plain_runs.specs.declared.plain.Td.{Td}
-use Rattle.plain_runs.specs.declared.plain.Owner.{Owner}
-use Rattle.plain_runs.specs.Plain.{world_in, shown, key_of, no_td, BuildSeen, Judges, Does}
-use Rattle.plain_runs.proofs.PlainWorld.{key_set, same_default}
+use Rattle.plain_parts.specs.declared.plain.Cell.{Cell}
+use Rattle.plain_parts.specs.declared.plain.Td.{Td}
+use Rattle.plain_parts.specs.declared.plain.Owner.{Owner}
+use Rattle.plain_parts.specs.Plain.{world_in, shown, key_of, no_td, BuildSeen, Judges, Does}
+use Rattle.plain_parts.proofs.PlainWorld.{key_set, same_default}
 
 pub passes : (b : Bool) (r : Reply) (items : List (Item Reply)) → b ≡ true → first_fault (Check b r ∷ items) ≡ first_fault items
 passes true r items e = refl

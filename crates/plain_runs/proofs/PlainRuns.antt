@@ -24,7 +24,7 @@ use Rattle.std.specs.declared.alloc.AllocError.{AllocError}
 use Rattle.script_text.specs.Seen.{ScriptSeen}
 use Rattle.script_runner.specs.Ending.{opening_of}
 use Rattle.flat_alone.specs.Whole.{first_fault, row_reply, row_world, reply_unless, world_unless, replies_of, world_of, lines_at_once, EachCallAtOnce}
-use Rattle.plain_runs.specs.Plain.{shown, row_in, bare_opening}
+use Rattle.plain_parts.specs.Plain.{shown, row_in, bare_opening}
 
 same_row : (o : Opening) (p : ℕ) (c : Call) → row_of o p c ≡ row_in o.machine c
 same_row o p (call.HostRead page word) = refl

@@ -2,15 +2,15 @@
 
 ghost use Rattle.std.specs.Prelude.{◌≡◌, IfOk};
 ghost use Rattle.flat_alone.specs.Whole.{row_reply, row_world};
-ghost use Rattle.plain_runs.specs.Plain.{world_of, shown, row_in, FitsMachine, Does};
+ghost use Rattle.plain_parts.specs.Plain.{world_of, shown, row_in, FitsMachine, Does};
 
 use crate::host_calls::{host_read, host_write, read_metadata};
 use crate::key_calls::{end_flush, free_hkid, reclaim_page, write_caches_back};
 use crate::mem_calls::{add_page, add_sept, extend, read_sept};
-use crate::plain::Plain;
 use crate::td_calls::{add_tdcx, configure_key, create, finalize, initialize};
 use crate::td_reads::read_td;
 use crate::vp_calls::{create_vp, initialize_vp};
+use plain_parts::Plain;
 use std::alloc::AllocError;
 use td_words::{Call, Machine, Reply, Status, Value};
 

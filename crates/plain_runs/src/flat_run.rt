@@ -6,12 +6,12 @@ ghost use Rattle.flat_core.specs.World.{first_world};
 ghost use Rattle.flat_core.specs.HostText.{host_text};
 ghost use Rattle.flat_alone.specs.Whole.{replies_of, world_of, lines_at_once};
 ghost use Rattle.script_text.specs.Laws.{IsInForm};
-ghost use Rattle.plain_runs.specs.Plain.{world_of as plain_world, shown, bare_opening, FitsMachine};
+ghost use Rattle.plain_parts.specs.Plain.{world_of as plain_world, shown, bare_opening, FitsMachine};
 ghost use Rattle.script_runner.specs.Ending.{opening_of};
 
 use crate::calls::perform;
-use crate::plain::{Plain, at_start};
 use flat_alone::in_number_order;
+use plain_parts::{Plain, at_start};
 use script_runner::host_lines;
 use script_text::Script;
 use std::alloc::{AllocError, Global};

@@ -1,10 +1,9 @@
 //! The host's memory accesses, and its look at page metadata.
 
 ghost use Rattle.td_words.specs.declared.calls.Call.TheVariants as call;
-ghost use Rattle.plain_runs.specs.Plain.{world_of, row_in, FitsMachine, Does};
+ghost use Rattle.plain_parts.specs.Plain.{world_of, row_in, FitsMachine, Does};
 
-use crate::checks::page_in;
-use crate::plain::Plain;
+use plain_parts::{Plain, page_in};
 use td_words::{Machine, PageKind, Status, Value};
 
 /// HOST.READ PAGE WORD: 0 where the page isn't the host's.

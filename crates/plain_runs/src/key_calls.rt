@@ -3,12 +3,11 @@
 ghost use Rattle.std.specs.Prelude.{◌≡◌, ℕ, slice_index_or};
 ghost use Rattle.td_words.specs.declared.calls.Call.TheVariants as call;
 ghost use Rattle.flat_core.specs.Effects.{written_back};
-ghost use Rattle.plain_runs.specs.declared.plain.Owner.TheVariants as owner;
-ghost use Rattle.plain_runs.specs.Plain.{world_of, row_in, key_of, FitsMachine, Does};
+ghost use Rattle.plain_parts.specs.declared.plain.Owner.TheVariants as owner;
+ghost use Rattle.plain_parts.specs.Plain.{world_of, row_in, key_of, FitsMachine, Does};
 
-use crate::checks::{judge, page_in};
-use crate::plain::{Owner, Plain, set_life, take};
 use crate::td_calls::tdr_head;
+use plain_parts::{Owner, Plain, judge, page_in, set_life, take};
 use td_words::{LifeState, Machine, PageKind, Status, Value};
 
 /// What PHYMEM.CACHE.WB makes of an HKID.

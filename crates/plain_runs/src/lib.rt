@@ -5,18 +5,13 @@
 //! of `script_runner` does; the program doesn't use it.
 #![tactic(auto)]
 
-mod builds;
 mod calls;
-mod checks;
 mod flat_run;
-mod gpas;
 mod host_calls;
 mod key_calls;
 mod mem_calls;
-mod plain;
 mod td_calls;
 mod td_reads;
-mod trees;
 mod vp_calls;
 
 pub use flat_run::run_text;

@@ -8,16 +8,15 @@ ghost use Rattle.flat_core.specs.Conditions as conditions;
 ghost use Rattle.flat_core.specs.Tree as tree;
 ghost use Rattle.flat_core.specs.MemRows.{entry_value};
 ghost use Rattle.flat_alone.specs.Whole.{first_fault};
-ghost use Rattle.plain_runs.specs.Plain.{world_of, row_in, entry_of, FitsMachine, Judges, Does};
+ghost use Rattle.plain_parts.specs.Plain.{world_of, row_in, entry_of, FitsMachine, Judges, Does};
 ghost use Rattle.plain_runs.specs.Given.{add_sept_given, read_sept_given, add_page_given, extend_given};
 
-use crate::builds::{measure_chunk, measure_page, store_entry};
-use crate::checks::{apart, judge, page_in};
-use crate::gpas::{aligned, gpa_in, level_in, upper_level_in};
-use crate::plain::{Node, Plain, fill, take};
 use crate::td_calls::td_head;
 use crate::td_reads::BEGUN;
-use crate::trees::size_of;
+use plain_parts::{
+    Node, Plain, aligned, apart, fill, gpa_in, judge, level_in, measure_chunk, measure_page,
+    page_in, size_of, store_entry, take, upper_level_in,
+};
 use std::alloc::AllocError;
 use td_words::{EntryState, Machine, OpState, PageKind, Status, Value};
 

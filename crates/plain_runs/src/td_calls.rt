@@ -3,11 +3,12 @@
 ghost use Rattle.std.specs.Prelude.{◌<◌, length};
 ghost use Rattle.td_words.specs.declared.calls.Call.TheVariants as call;
 ghost use Rattle.flat_core.specs.Conditions as conditions;
-ghost use Rattle.plain_runs.specs.Plain.{world_of, row_in, FitsMachine, Judges, Does};
+ghost use Rattle.plain_parts.specs.Plain.{world_of, row_in, FitsMachine, Judges, Does};
 
-use crate::builds::{begin_build, begin_measuring, digest};
-use crate::checks::{apart, judge, page_in};
-use crate::plain::{Owner, Plain, new_td, set_life, take};
+use plain_parts::{
+    Owner, Plain, apart, begin_build, begin_measuring, digest, judge, new_td, page_in, set_life,
+    take,
+};
 use td_words::{LifeState, Machine, OpState, PageKind, Status, Value};
 
 /// The beginning of the rows that begin and end a TD's life.

@@ -4,11 +4,10 @@ ghost use Rattle.std.specs.Prelude.{◌≡◌, ◌<◌, length};
 ghost use Rattle.td_words.specs.declared.calls.Call.TheVariants as call;
 ghost use Rattle.flat_core.specs.TdRows.{read_conditions};
 ghost use Rattle.flat_core.specs.Digests.{digest_bytes, digest_word, six_words};
-ghost use Rattle.plain_runs.specs.Plain.{world_of, row_in, mrtd_words, FitsMachine, Judges, Does};
+ghost use Rattle.plain_parts.specs.Plain.{world_of, row_in, mrtd_words, FitsMachine, Judges, Does};
 
-use crate::checks::{judge, page_in};
-use crate::plain::Plain;
 use crate::td_calls::td_head;
+use plain_parts::{Plain, judge, page_in};
 use td_words::{Machine, OpState, ReadField, Status, Value};
 
 /// The operation states of a TD that is built, or is imported.

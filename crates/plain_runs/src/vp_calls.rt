@@ -1,11 +1,10 @@
 //! Calls that build virtual processors.
 
 ghost use Rattle.td_words.specs.declared.calls.Call.TheVariants as call;
-ghost use Rattle.plain_runs.specs.Plain.{world_of, row_in, FitsMachine, Does};
+ghost use Rattle.plain_parts.specs.Plain.{world_of, row_in, FitsMachine, Does};
 
-use crate::checks::{apart, judge, page_in};
-use crate::plain::{Plain, set_vcpu, take};
 use crate::td_calls::td_head;
+use plain_parts::{Plain, apart, judge, page_in, set_vcpu, take};
 use td_words::{Machine, OpState, PageKind, Status, Value, VcpuState};
 
 /// VP.CREATE TDR PAGE.

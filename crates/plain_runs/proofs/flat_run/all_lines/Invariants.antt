@@ -2,7 +2,7 @@ use Rattle.std.proofs.Common.{◌≡◌, ◌++◌, drop, map, None}
 use Rattle.std.specs.List.{concat}
 use Rattle.flat_core.specs.World.{first_world}
 use Rattle.flat_alone.specs.Whole.{lines_at_once}
-use Rattle.plain_runs.specs.Plain.{world_of as plain_world, bare_opening, FitsMachine}
+use Rattle.plain_parts.specs.Plain.{world_of as plain_world, bare_opening, FitsMachine}
 use Rattle.plain_runs.proofs.flat_run.all_lines.Given as goal
 
 abbrev pub invariant-loop-lp : goal.invariant-loop-lp

@@ -1,6 +1,6 @@
 use Rattle.std.proofs.Common.{◌≡◌, ◌++◌, drop}
 use Rattle.flat_alone.specs.Whole.{replies_of, world_of}
-use Rattle.plain_runs.specs.Plain.{world_of as plain_world, shown, bare_opening, FitsMachine}
+use Rattle.plain_parts.specs.Plain.{world_of as plain_world, shown, bare_opening, FitsMachine}
 use Rattle.plain_runs.proofs.flat_run.replies.Given as goal
 
 abbrev pub invariant-loop-call : goal.invariant-loop-call

@@ -5,10 +5,10 @@ use Rattle.flat_core.specs.Conditions.{same_kind}
 use Rattle.std.proofs.lemmas.Bool.{lt-ltb}
 use Rattle.td_words.specs.declared.names.PageKind.{PageKind}
 use Rattle.td_words.specs.declared.names.PageKind.TheVariants as kind
-use Rattle.plain_runs.specs.declared.plain.Cell.{Cell}
-use Rattle.plain_runs.specs.Plain.{world_of, row_in, blank, seen}
+use Rattle.plain_parts.specs.declared.plain.Cell.{Cell}
+use Rattle.plain_parts.specs.Plain.{world_of, row_in, blank, seen}
 use Rattle.plain_runs.proofs.PlainCalls.{page_passes, passes, does_at}
-use Rattle.plain_runs.proofs.PlainWorld.{word_set, same_default}
+use Rattle.plain_parts.proofs.PlainWorld.{word_set, same_default}
 use Rattle.plain_runs.proofs.host_calls.host_write.Goals as goal
 
 pub returns-in-Nda-clause-does : goal.returns-in-Nda-clause-does

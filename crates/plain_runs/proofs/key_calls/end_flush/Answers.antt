@@ -3,8 +3,8 @@ use Rattle.td_words.specs.declared.calls.Call.TheVariants as call
 use Rattle.td_words.specs.declared.replies.Value.TheVariants as value
 use Rattle.td_words.specs.declared.names.LifeState.TheVariants as life
 use Rattle.flat_core.specs.Conditions as conditions
-use Rattle.plain_runs.specs.declared.plain.Owner.TheVariants as owner
-use Rattle.plain_runs.specs.Plain.{world_of, row_in, seen}
+use Rattle.plain_parts.specs.declared.plain.Owner.TheVariants as owner
+use Rattle.plain_parts.specs.Plain.{world_of, row_in, seen}
 use Rattle.plain_runs.proofs.PlainCalls.{page_passes, passes, after_head, none_associated, hkid_read, key_after_life, does_at}
 use Rattle.plain_runs.proofs.key_calls.end_flush.Goals as goal
 

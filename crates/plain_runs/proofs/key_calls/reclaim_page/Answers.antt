@@ -3,7 +3,7 @@ use Rattle.td_words.specs.declared.calls.Call.TheVariants as call
 use Rattle.td_words.specs.declared.replies.Value.TheVariants as value
 use Rattle.td_words.specs.declared.names.LifeState.TheVariants as life
 use Rattle.flat_core.specs.Conditions as conditions
-use Rattle.plain_runs.specs.Plain.{world_of, row_in}
+use Rattle.plain_parts.specs.Plain.{world_of, row_in}
 use Rattle.plain_runs.proofs.PlainCalls.{page_passes, after_head, does_at_two}
 use Rattle.plain_runs.proofs.key_calls.reclaim_page.Goals as goal
 

@@ -1,7 +1,7 @@
 use Rattle.std.proofs.Common.{◌≡◌, ℕ, ◌<◌, ◌≤◌, get_or}
 use Rattle.flat_core.specs.Effects.{written_back}
-use Rattle.plain_runs.specs.declared.plain.Owner.TheVariants as owner
-use Rattle.plain_runs.specs.Plain.{key_of}
+use Rattle.plain_parts.specs.declared.plain.Owner.TheVariants as owner
+use Rattle.plain_parts.specs.Plain.{key_of}
 use Rattle.plain_runs.proofs.key_calls.write_all_back.Given as goal
 
 abbrev pub invariant-loop-hkid : goal.invariant-loop-hkid

@@ -6,7 +6,7 @@ use Rattle.td_words.specs.declared.names.PageKind.TheVariants as kind
 use Rattle.td_words.specs.Packing.{Entry}
 use Rattle.flat_core.specs.World.{World}
 use Rattle.flat_core.specs.Effects as effects
-use Rattle.plain_runs.specs.Plain.{world_of, row_in, shown, seen}
+use Rattle.plain_parts.specs.Plain.{world_of, row_in, shown, seen}
 use Rattle.plain_runs.proofs.PlainCalls.{refused, done}
 use Rattle.plain_runs.proofs.MemCalls.{add_sept_asks}
 use Rattle.plain_runs.proofs.mem_calls.add_table.Goals as goal

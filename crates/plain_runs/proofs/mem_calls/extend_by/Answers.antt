@@ -6,7 +6,7 @@ use Rattle.td_words.specs.Packing.{Entry}
 use Rattle.flat_core.specs.Effects as effects
 use Rattle.flat_core.specs.MemRows.{chunk_bytes}
 use Rattle.mrtd_measure.specs.Records.{chunk_records}
-use Rattle.plain_runs.specs.Plain.{world_of, row_in}
+use Rattle.plain_parts.specs.Plain.{world_of, row_in}
 use Rattle.plain_runs.proofs.PlainCalls.{done}
 use Rattle.plain_runs.proofs.MemCalls.{extend_asks}
 use Rattle.plain_runs.proofs.mem_calls.extend_by.Goals as goal

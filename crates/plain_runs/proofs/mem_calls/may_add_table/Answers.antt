@@ -2,7 +2,7 @@ use Rattle.std.proofs.Common.{[], ◌∷◌, ◌++◌}
 use Rattle.td_words.specs.declared.names.EntryState.TheVariants as entry
 use Rattle.flat_core.specs.Conditions.{td_shared, growing_ops, host_page}
 use Rattle.flat_core.specs.Tree.{walk, state_in}
-use Rattle.plain_runs.specs.Plain.{world_of, item_of}
+use Rattle.plain_parts.specs.Plain.{world_of, item_of}
 use Rattle.plain_runs.proofs.PlainCalls.{judged_behind, two_judged}
 use Rattle.plain_runs.proofs.mem_calls.may_add_table.Goals as goal
 

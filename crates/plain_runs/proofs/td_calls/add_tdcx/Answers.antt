@@ -5,9 +5,9 @@ use Rattle.td_words.specs.declared.names.LifeState.TheVariants as life
 use Rattle.flat_core.specs.Conditions as conditions
 use Rattle.flat_core.specs.World.{World, Tds}
 use Rattle.flat_core.specs.Effects as effects
-use Rattle.plain_runs.specs.Plain.{world_of, row_in, world_in, built_of, seen}
+use Rattle.plain_parts.specs.Plain.{world_of, row_in, world_in, built_of, seen}
 use Rattle.plain_runs.proofs.PlainCalls.{two_pages, after_head, two_tried, does_at_two}
-use Rattle.plain_runs.proofs.PlainWorld.{control_added}
+use Rattle.plain_parts.proofs.PlainWorld.{control_added}
 use Rattle.plain_runs.proofs.td_calls.add_tdcx.Goals as goal
 
 pub returns-clause-does : goal.returns-clause-does

@@ -1,7 +1,7 @@
 use Rattle.std.proofs.Common.{◌∙◌, refl, arith}
 use Rattle.td_words.specs.declared.calls.Call.TheVariants as call
 use Rattle.td_words.specs.declared.replies.Value.TheVariants as value
-use Rattle.plain_runs.specs.Plain.{world_of, row_in}
+use Rattle.plain_parts.specs.Plain.{world_of, row_in}
 use Rattle.plain_runs.proofs.PlainCalls.{page_passes, does_at}
 use Rattle.plain_runs.proofs.td_calls.configure_key.Goals as goal
 

@@ -4,11 +4,11 @@ use Rattle.td_words.specs.declared.replies.Value.TheVariants as value
 use Rattle.td_words.specs.Packing.{AssignedTo}
 use Rattle.flat_core.specs.World.{World}
 use Rattle.flat_core.specs.Effects as effects
-use Rattle.plain_runs.specs.declared.plain.Td.{Td}
-use Rattle.plain_runs.specs.declared.plain.Owner.TheVariants as owner
-use Rattle.plain_runs.specs.Plain.{world_of, row_in, world_in, shown, seen, no_td, BuildSeen}
+use Rattle.plain_parts.specs.declared.plain.Td.{Td}
+use Rattle.plain_parts.specs.declared.plain.Owner.TheVariants as owner
+use Rattle.plain_parts.specs.Plain.{world_of, row_in, world_in, shown, seen, no_td, BuildSeen}
 use Rattle.plain_runs.proofs.PlainCalls.{page_passes, hkid_passes, two_tried, does_at}
-use Rattle.plain_runs.proofs.PlainWorld.{td_new, key_set, length_seen}
+use Rattle.plain_parts.proofs.PlainWorld.{td_new, key_set, length_seen}
 use Rattle.plain_runs.proofs.td_calls.create.Goals as goal
 
 pub returns-clause-does : goal.returns-clause-does

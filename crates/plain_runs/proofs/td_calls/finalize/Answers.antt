@@ -6,9 +6,9 @@ use Rattle.td_words.specs.declared.names.OpState.TheVariants as op
 use Rattle.flat_core.specs.Conditions as conditions
 use Rattle.flat_core.specs.World.{Tds, put}
 use Rattle.flat_core.specs.Digests.{digest_word}
-use Rattle.plain_runs.specs.Plain.{world_of, row_in, built_of, tds_in, seen, BuildSeen}
+use Rattle.plain_parts.specs.Plain.{world_of, row_in, built_of, tds_in, seen, BuildSeen}
 use Rattle.plain_runs.proofs.PlainCalls.{page_passes, td_passes, after_head, one_item, does_at}
-use Rattle.plain_runs.proofs.PlainWorld.{td_finished, build_read}
+use Rattle.plain_parts.proofs.PlainWorld.{td_finished, build_read}
 use Rattle.plain_runs.proofs.td_calls.finalize.Goals as goal
 
 pub returns-clause-does : goal.returns-clause-does

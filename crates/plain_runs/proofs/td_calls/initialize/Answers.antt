@@ -4,9 +4,9 @@ use Rattle.td_words.specs.declared.replies.Value.TheVariants as value
 use Rattle.td_words.specs.declared.names.OpState.TheVariants as op
 use Rattle.flat_core.specs.World.{Tds}
 use Rattle.flat_core.specs.Effects as effects
-use Rattle.plain_runs.specs.Plain.{world_of, row_in, built_of, seen}
+use Rattle.plain_parts.specs.Plain.{world_of, row_in, built_of, seen}
 use Rattle.plain_runs.proofs.PlainCalls.{page_passes, td_passes, does_at}
-use Rattle.plain_runs.proofs.PlainWorld.{td_begun}
+use Rattle.plain_parts.proofs.PlainWorld.{td_begun}
 use Rattle.plain_runs.proofs.td_calls.initialize.Goals as goal
 
 pub returns-clause-does : goal.returns-clause-does

@@ -1,5 +1,5 @@
 use Rattle.std.proofs.Common.{rules}
-use Rattle.plain_runs.proofs.Bytes.{digest_back}
+use Rattle.plain_parts.proofs.Bytes.{digest_back}
 use Rattle.plain_runs.proofs.td_reads.bytes_of.Goals as goal
 
 pub returns : goal.returns

@@ -7,9 +7,9 @@ use Rattle.td_words.specs.declared.names.VcpuState.TheVariants as vcpu
 use Rattle.flat_core.specs.Conditions as conditions
 use Rattle.flat_core.specs.World.{World, Tds}
 use Rattle.flat_core.specs.Effects as effects
-use Rattle.plain_runs.specs.Plain.{world_of, row_in, world_in, built_of, seen}
+use Rattle.plain_parts.specs.Plain.{world_of, row_in, world_in, built_of, seen}
 use Rattle.plain_runs.proofs.PlainCalls.{two_pages, td_passes, after_head, two_tried, does_at_two}
-use Rattle.plain_runs.proofs.PlainWorld.{vp_added, none_put, with_vp}
+use Rattle.plain_parts.proofs.PlainWorld.{vp_added, none_put, with_vp}
 use Rattle.plain_runs.proofs.vp_calls.create_vp.Goals as goal
 
 pub returns-clause-does : goal.returns-clause-does

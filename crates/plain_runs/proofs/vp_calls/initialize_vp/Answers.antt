@@ -3,7 +3,7 @@ use Rattle.td_words.specs.declared.calls.Call.TheVariants as call
 use Rattle.td_words.specs.declared.replies.Value.TheVariants as value
 use Rattle.td_words.specs.declared.names.OpState.TheVariants as op
 use Rattle.flat_core.specs.Conditions as conditions
-use Rattle.plain_runs.specs.Plain.{world_of, row_in}
+use Rattle.plain_parts.specs.Plain.{world_of, row_in}
 use Rattle.plain_runs.proofs.PlainCalls.{two_pages, after_head, two_items, does_at_two}
 use Rattle.plain_runs.proofs.vp_calls.initialize_vp.Goals as goal
 

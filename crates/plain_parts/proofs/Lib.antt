@@ -1,0 +1,2 @@
+pub mod PlainWorld
+pub mod Bytes
