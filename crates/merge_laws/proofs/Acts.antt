@@ -118,6 +118,7 @@ module _ (ls : Laws) (o : Opening) (trees : ℕ → Call → Tree) (s : State) (
   abbrev machine : Machine
   machine = o.machine
 
+  -- where the processor is after the act
   abbrev its_position : Position
   its_position = record { at = after_turn c cs rs run' result.reply; owes = one.owes; swaps = one.swaps; fill = None }
 

@@ -196,6 +196,7 @@ end-gives n r r' fs cs g = cc
 module _ (ls : Laws) (o : Opening) (trees : ℕ → Call → Tree) (s : State) (mem : Memory) (t t' : Table) (pos : ℕ → Position) (p : ℕ) (c : Call) (now : List ℕ) (reply : Reply) (run run' : Standing) (result : RunTurn) (are : AreTrees o trees) (known : Known o s)
     (sd : Stands o trees s mem t pos) (i : p < length o.calls) (no_hasher : run.hasher ≡ None) (ca : IsCallAt o (leaf_for o trees p c) (row_of o p c) s.world mem.words (s.lps p) run) (e : run.stage ≡ stages.Trying)
     (en : AtEnd o trees s mem p c (ca.told e).told now reply run run' result) where
+  -- the turn's parts by name: its machine, what its leaf is to do, its row, the moment and the work
   abbrev machine : Machine
   machine = o.machine
 
@@ -211,12 +212,14 @@ module _ (ls : Laws) (o : Opening) (trees : ℕ → Call → Tree) (s : State) (
   abbrev work : Work
   work = work_of task.meaning
 
+  -- the locks that its tree was granted, and the move that is due then
   abbrev locks : List Held
   locks = granted (trees p c) now []
 
   abbrev due_move : Move Reply
   due_move = move_due task moment now
 
+  -- the words that it was told before, and the grip of the locks that its processor holds
   abbrev words_told : List ℕ
   words_told = (ca.told e).told
 
@@ -442,7 +445,7 @@ module _ (ls : Laws) (o : Opening) (trees : ℕ → Call → Tree) (s : State) (
   tree-acts (End r fs cs) (inr co) g hf same slots = end-acts r fs cs co.0 (end-gives machine.pages r reply fs cs g) co.1 co.2 hf same slots
   tree-acts (Since r cs) co g hf same slots = since-acts r cs co.0 (cc g) co.1 co.2 hf same slots
 
-  -- with what its first item stores, what is owed then, and the swaps that are due
+  -- the turn is an act, which owes what its tree's end does, in words and in swaps
   pub one-act : HasFilled o t pos p mem (filled_of (feed (trees p c) now) mem)
       → ((r : WordPlace) → IsIn o.machine r → t'.words (address o.machine.pages r) ≡ or_else (last_at (first_of (feed (trees p c) now) mem) r) (t.words (address o.machine.pages r)))
       → ((h : ℕ) → IsHkid o.machine h → IsHand (t'.slots (h - 1)) (or_else (last_put (puts_of (feed (trees p c) now) mem) h) (sd.slots.now h)))

@@ -74,6 +74,7 @@ module _ (ls : Laws) (o : Opening) (trees : ℕ → Call → Tree) (s : State) (
   abbrev machine : Machine
   machine = o.machine
 
+  -- where the processor is after the step
   abbrev its_position : Position
   its_position = record { at = after_turn c cs rs run' result.reply; owes = []; swaps = []; fill = None }
 
@@ -85,7 +86,7 @@ module _ (ls : Laws) (o : Opening) (trees : ℕ → Call → Tree) (s : State) (
   abbrev shown_table : Table
   shown_table = table_of machine mem.slots mem.words
 
-  -- that table after the same step
+  -- and that table after the same step
   abbrev shown_after : Table
   shown_after = record shown_table { words = after_step shown_table.words st }
 
@@ -93,7 +94,7 @@ module _ (ls : Laws) (o : Opening) (trees : ℕ → Call → Tree) (s : State) (
   abbrev memory_in_hand : Memory
   memory_in_hand = record mem { hand = ho.hand }
 
-  -- the first does show it
+  -- before the step it does show it
   table-shows : IsMemory machine shown_table run.hasher memory_in_hand
   table-shows = holds-memory machine run.hasher memory_in_hand ho.is
 
