@@ -8,12 +8,13 @@ use Rattle.td_words.specs.declared.replies.Reply.{Reply}
 use Rattle.td_words.specs.Place.{WordPlace, IsIn, address}
 use Rattle.mrtd_measure.specs.declared.measures.Measure.{Measure}
 use Rattle.flat_core.specs.World.{World, put}
-use Rattle.flat_core.specs.Processor.{Held, Answered}
+use Rattle.flat_core.specs.Processor.{Held, Answered, Lp}
 use Rattle.flat_core.specs.Opening.{Opening}
 use Rattle.flat_core.specs.Row.{Move, Attempts, Undoes, Refuses, Succeeds, Releases, Rests}
 use Rattle.flat_core.specs.Table.{row_of}
 use Rattle.flat_core.specs.Event.{State, OfCall, next_event, lines_left, event, call_world}
 use Rattle.flat_core.proofs.Tests.{put_here}
+use Rattle.lock_words.specs.Grips.{CallTdrs}
 use Rattle.word_rules.specs.Guards.{Grip}
 use Rattle.word_rules.specs.Rules.{Grade}
 use Rattle.word_rules.specs.Views.{look}
@@ -83,197 +84,227 @@ pub record OneAct (o : Opening) (trees : ℕ → Call → Tree) (s : State) (mem
 same-memory : (m : Machine) (u : Table) (h : Option Measure) (a b : Memory) → IsMemory m u h a → IsMemory m u h b → (r : WordPlace) → IsIn m r → a.words r ≡ b.words r
 same-memory m u h a b x y r i = sym (x.words r i) ∙ y.words r i
 
-pub act-step : (ls : Laws) (o : Opening) (trees : ℕ → Call → Tree) (s : State) (mem : Memory) (t t' : Table) (pos : ℕ → Position) (p : ℕ) (c : Call) (cs : List Call) (rs : List Reply) (run run' : Standing) (result : RunTurn)
-    → AreTrees o trees → Known o s → (sd : Stands o trees s mem t pos) → p < length o.calls → (pos p).swaps ≡ [] → lines_left o p (s.lps p) ≡ c ∷ cs → (s.lps p).replies ≡ rs
-    → (ra : RunsAt o (leaf_for o trees p c) (row_of o p c) s.world mem.words (s.lps p) run) → (e : run.stage ≡ stages.Trying) → (one : OneAct o trees s mem t t' pos p c (ra.call.told e).told run run' result sd.slots.now)
-    → Moved o trees (event o s p) t' (put pos p (record { at = after_turn c cs rs run' result.reply; owes = one.owes; swaps = one.swaps; fill = None }))
-act-step ls o trees s mem t t' pos p c cs rs run run' result are known sd i no-swaps lines replies ra e one =
-    record {
-      memory = mem';
-      stands = gathered ls o trees s mem mem' t t' pos p now are known sd i
-          (record {
-            respects = subst (λ (w : World). Respects (bare (s.lps p).call.held) s.world w) (sym world) one.spares.respects;
-            looks = λ hs v r apart in_r reads. ap (look v) (made-is r in_r) ∙ one.spares.looks hs v r apart in_r reads;
-            still = one.spares.still;
-            filled = λ hs r apart in_r fills. (let sp = one.spares.filled hs r apart in_r fills in (sp.0, made-is r in_r ∙ sp.1));
-          })
-          (record { word = made.shown.word; hasher = λ h. subst (λ (w : World). IsAs (hasher_cell w h) (one.after.slots h)) (sym world) (one.hashers h) }) refl
-          (slots-event ls o trees s mem t t'.slots pos p one.after.slots one.put now known sd i no-swaps
-          (record {
-            respects = subst (λ (w : World). Respects (bare (s.lps p).call.held) s.world w) (sym world) one.spares.respects;
-            there = one.slots_there;
-            makes = one.slots_makes;
-            written = one.slots_written;
-            may = subst (λ (w : World). SwapsMay m (bare (s.lps p).call.held) w (λ h. or_else (last_put one.put h) (mem.slots h)) one.swaps) (sym world) one.slots_may;
-            held = λ x. subst (λ (hs : List Held). SwapsMay m (bare hs) (event o s p).world (λ h. or_else (last_put one.put h) (sd.slots.now h)) one.swaps) (sym one.held_or_none) x;
-          }))
-          (record {
-            stands = stands-after o trees p c cs (s.lps p) (event o s p) uV run' (hasher_for one.after.hand) result.reply lines made (λ z. absurd (one.answered z))
-                (tdrs-after o s p (row_of o p c) one.move one.next (are.means p c).enters_none ra.tdrs (no-attempt one.move one.is_act) (no-rest one.move one.is_act) (no-release one.move one.is_act)) rs replies;
-            due =
-                subst (λ (w : World). Keeps m (bare ((event o s p).lps p).call.held) w (on_table m t') one.owes) (sym world)
-                (subst (λ (hs : List Held). Keeps m (bare hs) (call_world (row_of o p c) one.move s.world) (on_table m t') one.owes) (sym one.held_or_none)
-                (keeps-same m (bare (s.lps p).call.held) (bare (s.lps p).call.held) after-world after-world base (on_table m t') one.owes (λ q k owes. owes) kept-there one.owed));
-          })
-          (tdrs-after o s p (row_of o p c) one.move one.next (are.means p c).enters_none ra.tdrs (no-attempt one.move one.is_act) (no-rest one.move one.is_act) (no-release one.move one.is_act))
-          laid-after;
-    }
-  where
-    m : Machine
-    m = o.machine
+-- an act is no try of a lock
+act-no-attempt : (hs : List Held) (mv : Move Reply) → IsAct mv → AttemptTdr mv hs
+act-no-attempt hs (Attempts l k) a = absurd a
+act-no-attempt hs (Undoes l) a = absurd a
+act-no-attempt hs (Refuses r) a = tt
+act-no-attempt hs Succeeds a = tt
+act-no-attempt hs (Releases h) a = absurd a
+act-no-attempt hs Rests a = absurd a
 
-    now : Position
-    now = record { at = after_turn c cs rs run' result.reply; owes = one.owes; swaps = one.swaps; fill = None }
+-- nor a rest
+act-no-rest : (mv : Move Reply) → IsAct mv → mv ≡ Rests → ⊥
+act-no-rest (Refuses r) a h = cc
+act-no-rest Succeeds a h = cc
+act-no-rest (Attempts l k) a h = a
+act-no-rest (Undoes l) a h = a
+act-no-rest (Releases x) a h = a
+act-no-rest Rests a h = a
 
-    uV : Table
-    uV = table_of m one.after.slots one.after.words
+-- nor a release
+act-no-release : (lp : Lp) (mv : Move Reply) → IsAct mv → (h : Held) → mv ≡ Releases h → (r : Reply) × (lp.call.phase ≡ Answered r)
+act-no-release lp (Refuses r) a x h = cc
+act-no-release lp Succeeds a x h = cc
+act-no-release lp (Attempts l k) a x h = absurd a
+act-no-release lp (Undoes l) a x h = absurd a
+act-no-release lp (Releases y) a x h = absurd a
+act-no-release lp Rests a x h = absurd a
 
-    holds : IsMemory m uV (hasher_for one.after.hand) one.after
-    holds = holds-memory m (hasher_for one.after.hand) one.after (is-measured one.after.hand)
+-- the event of an act, and how all stands after it
+module _ (ls : Laws) (o : Opening) (trees : ℕ → Call → Tree) (s : State) (mem : Memory) (t t' : Table) (pos : ℕ → Position) (p : ℕ) (c : Call) (cs : List Call) (rs : List Reply) (run run' : Standing) (result : RunTurn) (are : AreTrees o trees) (known : Known o s)
+    (sd : Stands o trees s mem t pos) (i : p < length o.calls) (no-swaps : (pos p).swaps ≡ []) (lines : lines_left o p (s.lps p) ≡ c ∷ cs) (replies : (s.lps p).replies ≡ rs) (ra : RunsAt o (leaf_for o trees p c) (row_of o p c) s.world mem.words (s.lps p) run)
+    (e : run.stage ≡ stages.Trying) (one : OneAct o trees s mem t t' pos p c (ra.call.told e).told run run' result sd.slots.now) where
+  abbrev machine : Machine
+  machine = o.machine
 
-    made : After o (leaf_for o trees p c) (row_of o p c) (s.lps p).replies (event o s p) uV (with_hasher run' (hasher_for one.after.hand)) result.reply
-    made =
-        ends (engine ls) o (leaf_for o trees p c) (row_of o p c) s mem (table_of m mem.slots mem.words) uV run (with_hasher run' (hasher_for one.after.hand)) result (are.means p c) refl
-        (shown-of o trees s mem t pos p c run known sd i (ra.trying e)) ra.call e
-        (one.ends uV (hasher_for one.after.hand) holds) one.reply
+  -- where the processor is after the act
+  abbrev its_position : Position
+  its_position = record { at = after_turn c cs rs run' result.reply; owes = one.owes; swaps = one.swaps; fill = None }
 
-    mem' : Memory
-    mem' = record { words = made.mem.words; slots = one.after.slots; hand = None }
+  -- the table that shows memory after the act
+  abbrev act_table : Table
+  act_table = table_of machine one.after.slots one.after.words
 
-    made-is : (r : WordPlace) → IsIn m r → made.mem.words r ≡ one.after.words r
-    made-is r in_r = same-memory m uV (hasher_for one.after.hand) made.mem one.after made.memory holds r in_r
+  -- that table does show it
+  act-shows : IsMemory machine act_table (hasher_for one.after.hand) one.after
+  act-shows = holds-memory machine (hasher_for one.after.hand) one.after (is-measured one.after.hand)
 
-    world : (event o s p).world ≡ call_world (row_of o p c) one.move s.world
-    world = world-of-event o s p (row_of o p c) one.move one.next
+  -- the call is after its act as its leaf says
+  act-made : After o (leaf_for o trees p c) (row_of o p c) (s.lps p).replies (event o s p) act_table (with_hasher run' (hasher_for one.after.hand)) result.reply
+  act-made =
+      ends (engine ls) o (leaf_for o trees p c) (row_of o p c) s mem (table_of machine mem.slots mem.words) act_table run (with_hasher run' (hasher_for one.after.hand)) result (are.means p c) refl
+      (shown-of o trees s mem t pos p c run known sd i (ra.trying e)) ra.call e
+      (one.ends act_table (hasher_for one.after.hand) act-shows) one.reply
 
-    no-attempt : (mv : Move Reply) → IsAct mv → AttemptTdr mv (s.lps p).call.held
-    no-attempt (Attempts l k) a = absurd a
-    no-attempt (Undoes l) a = absurd a
-    no-attempt (Refuses r) a = tt
-    no-attempt Succeeds a = tt
-    no-attempt (Releases h) a = absurd a
-    no-attempt Rests a = absurd a
+  -- memory after the act
+  abbrev memory_after : Memory
+  memory_after = record { words = act-made.mem.words; slots = one.after.slots; hand = None }
 
-    no-rest : (mv : Move Reply) → IsAct mv → mv ≡ Rests → ⊥
-    no-rest (Refuses r) a h = cc
-    no-rest Succeeds a h = cc
-    no-rest (Attempts l k) a h = a
-    no-rest (Undoes l) a h = a
-    no-rest (Releases x) a h = a
-    no-rest Rests a h = a
+  -- its words are the act's
+  made-is : (r : WordPlace) → IsIn machine r → act-made.mem.words r ≡ one.after.words r
+  made-is r in_r = same-memory machine act_table (hasher_for one.after.hand) act-made.mem one.after act-made.memory act-shows r in_r
 
-    no-release : (mv : Move Reply) → IsAct mv → (h : Held) → mv ≡ Releases h → (r : Reply) × ((s.lps p).call.phase ≡ Answered r)
-    no-release (Refuses r) a x h = cc
-    no-release Succeeds a x h = cc
-    no-release (Attempts l k) a x h = absurd a
-    no-release (Undoes l) a x h = absurd a
-    no-release (Releases y) a x h = absurd a
-    no-release Rests a x h = absurd a
+  -- the world after the event is the one that the row makes
+  act-world : (event o s p).world ≡ call_world (row_of o p c) one.move s.world
+  act-world = world-of-event o s p (row_of o p c) one.move one.next
 
-    base : WordPlace → ℕ
-    base q = or_else (last_at one.first q) (or_else (last_at one.filled q) (mem.words q))
+  -- what a word is before what is owed
+  abbrev word_before : WordPlace → ℕ
+  word_before q = or_else (last_at one.first q) (or_else (last_at one.filled q) (mem.words q))
 
-    owes-other : (k : ℕ) (r : WordPlace) → (k == p) ≡ false → last_at (put pos p now k).owes r ≡ last_at (pos k).owes r
-    owes-other k r h = ap (λ (z : Position). last_at z.owes r) (at-other pos p k now h)
+  -- what another owes stays
+  owes-other : (k : ℕ) (r : WordPlace) → (k == p) ≡ false → last_at (put pos p its_position k).owes r ≡ last_at (pos k).owes r
+  owes-other k r h = ap (λ (z : Position). last_at z.owes r) (at-other pos p k its_position h)
 
-    owes-own : (r : WordPlace) → last_at (put pos p now p).owes r ≡ last_at one.owes r
-    owes-own r = ap (λ (z : Position). last_at z.owes r) (put_here pos p now)
+  -- what the processor owes is what the act leaves owed
+  owes-own : (r : WordPlace) → last_at (put pos p its_position p).owes r ≡ last_at one.owes r
+  owes-own r = ap (λ (z : Position). last_at z.owes r) (put_here pos p its_position)
 
-    NoOther : WordPlace → Type 0
-    NoOther r = (k : ℕ) → k < length o.calls → (k == p) ≡ false → last_at (pos k).owes r ≡ None
+  -- no other processor owes this word
+  abbrev IsOwedByNoOther : WordPlace → Type 0
+  IsOwedByNoOther r = (k : ℕ) → k < length o.calls → (k == p) ≡ false → last_at (pos k).owes r ≡ None
 
-    first-alone : (r : WordPlace) (x : ℕ) → last_at one.first r ≡ Some x → NoOther r
-    first-alone r x h =
-        let may = last-each ls.places (CanWrite (bare (s.lps p).call.held) s.world) one.first r x one.written h in
-        none-due ls o trees s mem t pos p r known sd i
-        (record {
-          owes = λ hs g apart owes. (ls.words (bare (s.lps p).call.held) (bare hs) s.world (turned-round (bare hs) (bare (s.lps p).call.held) apart)).writes_owes r may.0 g may.1 owes;
-          fills = λ hs apart fills. (ls.words (bare hs) (bare (s.lps p).call.held) s.world apart).fills_writes r may.0 fills may.1;
-        })
+  -- nobody else owes a word that the act stores
+  first-alone : (r : WordPlace) (x : ℕ) → last_at one.first r ≡ Some x → IsOwedByNoOther r
+  first-alone r x h =
+      let may = last-each ls.places (CanWrite (bare (s.lps p).call.held) s.world) one.first r x one.written h in
+      none-due ls o trees s mem t pos p r known sd i
+      (record {
+        owes = λ hs g apart owes. (ls.words (bare (s.lps p).call.held) (bare hs) s.world (turned-round (bare hs) (bare (s.lps p).call.held) apart)).writes_owes r may.0 g may.1 owes;
+        fills = λ hs apart fills. (ls.words (bare hs) (bare (s.lps p).call.held) s.world apart).fills_writes r may.0 fills may.1;
+      })
 
-    filled-alone : (r : WordPlace) (x : ℕ) → last_at one.filled r ≡ Some x → NoOther r
-    filled-alone r x h =
-        let may = last-each ls.places (FillsAt m (bare (s.lps p).call.held) s.world) one.filled r x one.filled_may h in
-        none-due ls o trees s mem t pos p r known sd i
-        (record {
-          owes = λ hs g apart owes. (ls.words (bare (s.lps p).call.held) (bare hs) s.world (turned-round (bare hs) (bare (s.lps p).call.held) apart)).fills_owes r g may.1 owes;
-          fills = λ hs apart fills. (ls.words (bare hs) (bare (s.lps p).call.held) s.world apart).fills_fills r fills may.1;
-        })
+  -- nor one that was filled before it
+  filled-alone : (r : WordPlace) (x : ℕ) → last_at one.filled r ≡ Some x → IsOwedByNoOther r
+  filled-alone r x h =
+      let may = last-each ls.places (FillsAt machine (bare (s.lps p).call.held) s.world) one.filled r x one.filled_may h in
+      none-due ls o trees s mem t pos p r known sd i
+      (record {
+        owes = λ hs g apart owes. (ls.words (bare (s.lps p).call.held) (bare hs) s.world (turned-round (bare hs) (bare (s.lps p).call.held) apart)).fills_owes r g may.1 owes;
+        fills = λ hs apart fills. (ls.words (bare hs) (bare (s.lps p).call.held) s.world apart).fills_fills r fills may.1;
+      })
 
-    after-world : World
-    after-world = call_world (row_of o p c) one.move s.world
+  -- the world that the row makes
+  abbrev world_after : World
+  world_after = call_world (row_of o p c) one.move s.world
 
-    alone-owes : (r : WordPlace) (k : Grade) → Owes (bare (s.lps p).call.held) after-world r k → NoOther r
-    alone-owes r k mine =
-        none-due ls o trees s mem t pos p r known sd i
-        (record {
-          owes = λ hs g apart owes. (ls.acts (bare hs) (bare (s.lps p).call.held) s.world after-world apart one.spares.respects).owes_later r g k owes mine;
-          fills = λ hs apart fills. (ls.acts (bare hs) (bare (s.lps p).call.held) s.world after-world apart one.spares.respects).fills_later r k fills mine;
-        })
+  -- nor one that is owed after it
+  owes-alone : (r : WordPlace) (k : Grade) → Owes (bare (s.lps p).call.held) world_after r k → IsOwedByNoOther r
+  owes-alone r k mine =
+      none-due ls o trees s mem t pos p r known sd i
+      (record {
+        owes = λ hs g apart owes. (ls.acts (bare hs) (bare (s.lps p).call.held) s.world world_after apart one.spares.respects).owes_later r g k owes mine;
+        fills = λ hs apart fills. (ls.acts (bare hs) (bare (s.lps p).call.held) s.world world_after apart one.spares.respects).fills_later r k fills mine;
+      })
 
-    none-at : (r : WordPlace) → last_at one.filled r ≡ None → NoOther r → (k : ℕ) → k < length o.calls → last_at (pos k).owes r ≡ None
-    none-at r e alone k j = test (k == p) refl
-      where
-        test : (b : Bool) → (k == p) ≡ b → last_at (pos k).owes r ≡ None
-        test true h = (let k-is : k ≡ p = eqb-true k p h in ap (λ (z : ℕ). last_at (pos z).owes r) k-is ∙ (one.undo r ∙ ap (λ (z : Option ℕ). back z (mem.words r)) e))
-        test false h = alone k j h
+  -- where nothing was filled and no other owes, nothing was owed
+  none-owed : (r : WordPlace) → last_at one.filled r ≡ None → IsOwedByNoOther r → (k : ℕ) → k < length o.calls → last_at (pos k).owes r ≡ None
+  none-owed r e alone k j = test (k == p) refl
+    where
+      test : (b : Bool) → (k == p) ≡ b → last_at (pos k).owes r ≡ None
+      test true h = (let k-is : k ≡ p = eqb-true k p h in ap (λ (z : ℕ). last_at (pos z).owes r) k-is ∙ (one.undo r ∙ ap (λ (z : Option ℕ). back z (mem.words r)) e))
+      test false h = alone k j h
 
-    kept-there : (r : WordPlace) (k : Grade) → IsIn m r → Owes (bare (s.lps p).call.held) after-world r k → base r ≡ on_table m t' r
-    kept-there r k in_r mine = ap (or_else (last_at one.first r)) (by (last_at one.filled r) refl) ∙ sym (one.table r in_r)
-      where
-        by : (x : Option ℕ) → last_at one.filled r ≡ x → or_else (last_at one.filled r) (mem.words r) ≡ on_table m t r
-        by (Some x) h = ap (λ (z : Option ℕ). or_else z (mem.words r)) h ∙ sym (one.there r x in_r h)
-        by None h =
-            ap (λ (z : Option ℕ). or_else z (mem.words r)) h
-            ∙ (sd.laid_is r in_r ∙ laid-none (length o.calls) (λ j. (pos j).owes) (on_table m t) r (none-at r h (alone-owes r k mine)))
+  -- a word that is owed is on the table what it was to be before
+  kept-there : (r : WordPlace) (k : Grade) → IsIn machine r → Owes (bare (s.lps p).call.held) world_after r k → word_before r ≡ on_table machine t' r
+  kept-there r k in_r mine = ap (or_else (last_at one.first r)) (by (last_at one.filled r) refl) ∙ sym (one.table r in_r)
+    where
+      by : (x : Option ℕ) → last_at one.filled r ≡ x → or_else (last_at one.filled r) (mem.words r) ≡ on_table machine t r
+      by (Some x) h = ap (λ (z : Option ℕ). or_else z (mem.words r)) h ∙ sym (one.there r x in_r h)
+      by None h =
+          ap (λ (z : Option ℕ). or_else z (mem.words r)) h
+          ∙ (sd.laid_is r in_r ∙ laid-none (length o.calls) (λ j. (pos j).owes) (on_table machine t) r (none-owed r h (owes-alone r k mine)))
 
-    owed-alone : (r : WordPlace) (x : ℕ) → last_at one.owes r ≡ Some x → NoOther r
-    owed-alone r x h =
-        let each = keeps-each m (bare (s.lps p).call.held) after-world base one.owes one.owed in
-        let may = last-each ls.places (OwesAt m (bare (s.lps p).call.held) after-world) one.owes r x each h in
-        alone-owes r may.1.0 may.1.1
+  -- nobody else owes what this processor owes now
+  owed-alone : (r : WordPlace) (x : ℕ) → last_at one.owes r ≡ Some x → IsOwedByNoOther r
+  owed-alone r x h =
+      let each = keeps-each machine (bare (s.lps p).call.held) world_after word_before one.owes one.owed in
+      let may = last-each ls.places (OwesAt machine (bare (s.lps p).call.held) world_after) one.owes r x each h in
+      owes-alone r may.1.0 may.1.1
 
-    lay : WordPlace → ℕ
-    lay r = laid (length o.calls) (λ k. (put pos p now k).owes) (on_table m t') r
+  -- a word of the table with all that is owed laid on it
+  abbrev laid_word : WordPlace → ℕ
+  laid_word r = laid (length o.calls) (λ k. (put pos p its_position k).owes) (on_table machine t') r
 
-    lay-alone : (r : WordPlace) → NoOther r → lay r ≡ or_else (last_at one.owes r) (t'.words (address m.pages r))
-    lay-alone r alone =
-        laid-one (length o.calls) p (λ k. (put pos p now k).owes) (on_table m t') r i (λ k j h. owes-other k r h ∙ alone k j h)
-        ∙ ap (λ (z : Option ℕ). or_else z (t'.words (address m.pages r))) (owes-own r)
+  -- where no other owes, only what the processor owes is laid on it
+  laid-own : (r : WordPlace) → IsOwedByNoOther r → laid_word r ≡ or_else (last_at one.owes r) (t'.words (address machine.pages r))
+  laid-own r alone =
+      laid-one (length o.calls) p (λ k. (put pos p its_position k).owes) (on_table machine t') r i (λ k j h. owes-other k r h ∙ alone k j h)
+      ∙ ap (λ (z : Option ℕ). or_else z (t'.words (address machine.pages r))) (owes-own r)
 
-    laid-after : (r : WordPlace) → IsIn m r → made.mem.words r ≡ lay r
-    laid-after r in_r = made-is r in_r ∙ (one.makes r in_r ∙ by (last_at one.owes r) (last_at one.first r) (last_at one.filled r) refl refl refl)
-      where
-        owes-is : (x : Option ℕ) (y : ℕ) → last_at one.owes r ≡ x → or_else (last_at one.owes r) y ≡ or_else x y
-        owes-is x y e = ap (λ (z : Option ℕ). or_else z y) e
+  -- memory after the act is the table with all that is owed laid on it
+  laid-after : (r : WordPlace) → IsIn machine r → act-made.mem.words r ≡ laid_word r
+  laid-after r in_r = made-is r in_r ∙ (one.makes r in_r ∙ by (last_at one.owes r) (last_at one.first r) (last_at one.filled r) refl refl refl)
+    where
+      owes-is : (x : Option ℕ) (y : ℕ) → last_at one.owes r ≡ x → or_else (last_at one.owes r) y ≡ or_else x y
+      owes-is x y e = ap (λ (z : Option ℕ). or_else z y) e
 
-        by : (x y z : Option ℕ) → last_at one.owes r ≡ x → last_at one.first r ≡ y → last_at one.filled r ≡ z → or_else (last_at one.owes r) (or_else (last_at one.first r) (or_else (last_at one.filled r) (mem.words r))) ≡ lay r
-        by (Some x) y z ex ey ez = owes-is (Some x) (or_else (last_at one.first r) (or_else (last_at one.filled r) (mem.words r))) ex ∙ sym (lay-alone r (owed-alone r x ex) ∙ owes-is (Some x) (t'.words (address m.pages r)) ex)
-        by None (Some y) z ex ey ez =
-            owes-is None (or_else (last_at one.first r) (or_else (last_at one.filled r) (mem.words r))) ex
-            ∙ (ap (λ (u : Option ℕ). or_else u (or_else (last_at one.filled r) (mem.words r))) ey
-            ∙ sym (lay-alone r (first-alone r y ey)
-            ∙ (owes-is None (t'.words (address m.pages r)) ex ∙ (one.table r in_r ∙ ap (λ (u : Option ℕ). or_else u (t.words (address m.pages r))) ey))))
-        by None None (Some z) ex ey ez =
-            owes-is None (or_else (last_at one.first r) (or_else (last_at one.filled r) (mem.words r))) ex
-            ∙ (ap (λ (u : Option ℕ). or_else u (or_else (last_at one.filled r) (mem.words r))) ey
-            ∙ (ap (λ (u : Option ℕ). or_else u (mem.words r)) ez
-            ∙ sym (lay-alone r (filled-alone r z ez)
-            ∙ (owes-is None (t'.words (address m.pages r)) ex ∙ (one.table r in_r ∙ (ap (λ (u : Option ℕ). or_else u (t.words (address m.pages r))) ey ∙ one.there r z in_r ez))))))
-        by None None None ex ey ez =
-            owes-is None (or_else (last_at one.first r) (or_else (last_at one.filled r) (mem.words r))) ex
-            ∙ (ap (λ (u : Option ℕ). or_else u (or_else (last_at one.filled r) (mem.words r))) ey
-            ∙ (ap (λ (u : Option ℕ). or_else u (mem.words r)) ez
-            ∙ (sd.laid_is r in_r
-            ∙ laid-same (length o.calls) (λ k. (pos k).owes) (λ k. (put pos p now k).owes) (on_table m t) (on_table m t') r owes-same
-            (sym (one.table r in_r ∙ ap (λ (u : Option ℕ). or_else u (t.words (address m.pages r))) ey)))))
-          where
-            owes-same : (k : ℕ) → k < length o.calls → last_at (pos k).owes r ≡ last_at (put pos p now k).owes r
-            owes-same k j = test (k == p) refl
-              where
-                test : (b : Bool) → (k == p) ≡ b → last_at (pos k).owes r ≡ last_at (put pos p now k).owes r
-                test true h =
-                    let k-is : k ≡ p = eqb-true k p h in
-                    subst (λ (u : ℕ). last_at (pos u).owes r ≡ last_at (put pos p now u).owes r) (sym k-is)
-                    (one.undo r ∙ (ap (λ (u : Option ℕ). back u (mem.words r)) ez ∙ sym (owes-own r ∙ ex)))
-                test false h = sym (owes-other k r h)
+      by : (x y z : Option ℕ) → last_at one.owes r ≡ x → last_at one.first r ≡ y → last_at one.filled r ≡ z → or_else (last_at one.owes r) (or_else (last_at one.first r) (or_else (last_at one.filled r) (mem.words r))) ≡ laid_word r
+      by (Some x) y z ex ey ez = owes-is (Some x) (or_else (last_at one.first r) (or_else (last_at one.filled r) (mem.words r))) ex ∙ sym (laid-own r (owed-alone r x ex) ∙ owes-is (Some x) (t'.words (address machine.pages r)) ex)
+      by None (Some y) z ex ey ez =
+          owes-is None (or_else (last_at one.first r) (or_else (last_at one.filled r) (mem.words r))) ex
+          ∙ (ap (λ (u : Option ℕ). or_else u (or_else (last_at one.filled r) (mem.words r))) ey
+          ∙ sym (laid-own r (first-alone r y ey)
+          ∙ (owes-is None (t'.words (address machine.pages r)) ex ∙ (one.table r in_r ∙ ap (λ (u : Option ℕ). or_else u (t.words (address machine.pages r))) ey))))
+      by None None (Some z) ex ey ez =
+          owes-is None (or_else (last_at one.first r) (or_else (last_at one.filled r) (mem.words r))) ex
+          ∙ (ap (λ (u : Option ℕ). or_else u (or_else (last_at one.filled r) (mem.words r))) ey
+          ∙ (ap (λ (u : Option ℕ). or_else u (mem.words r)) ez
+          ∙ sym (laid-own r (filled-alone r z ez)
+          ∙ (owes-is None (t'.words (address machine.pages r)) ex ∙ (one.table r in_r ∙ (ap (λ (u : Option ℕ). or_else u (t.words (address machine.pages r))) ey ∙ one.there r z in_r ez))))))
+      by None None None ex ey ez =
+          owes-is None (or_else (last_at one.first r) (or_else (last_at one.filled r) (mem.words r))) ex
+          ∙ (ap (λ (u : Option ℕ). or_else u (or_else (last_at one.filled r) (mem.words r))) ey
+          ∙ (ap (λ (u : Option ℕ). or_else u (mem.words r)) ez
+          ∙ (sd.laid_is r in_r
+          ∙ laid-same (length o.calls) (λ k. (pos k).owes) (λ k. (put pos p its_position k).owes) (on_table machine t) (on_table machine t') r owes-same
+          (sym (one.table r in_r ∙ ap (λ (u : Option ℕ). or_else u (t.words (address machine.pages r))) ey)))))
+        where
+          owes-same : (k : ℕ) → k < length o.calls → last_at (pos k).owes r ≡ last_at (put pos p its_position k).owes r
+          owes-same k j = test (k == p) refl
+            where
+              test : (b : Bool) → (k == p) ≡ b → last_at (pos k).owes r ≡ last_at (put pos p its_position k).owes r
+              test true h =
+                  let k-is : k ≡ p = eqb-true k p h in
+                  subst (λ (u : ℕ). last_at (pos u).owes r ≡ last_at (put pos p its_position u).owes r) (sym k-is)
+                  (one.undo r ∙ (ap (λ (u : Option ℕ). back u (mem.words r)) ez ∙ sym (owes-own r ∙ ex)))
+              test false h = sym (owes-other k r h)
+
+  -- after the act too, a call that holds a lock of a TD holds P of its TDR page
+  tdrs-stay : CallTdrs ((event o s p).lps p).call
+  tdrs-stay = tdrs-after o s p (row_of o p c) one.move one.next (are.means p c).enters_none ra.tdrs (act-no-attempt (s.lps p).call.held one.move one.is_act) (act-no-rest one.move one.is_act) (act-no-release (s.lps p) one.move one.is_act)
+
+  -- after the act all stands as it leaves it
+  pub act-step : Moved o trees (event o s p) t' (put pos p (record { at = after_turn c cs rs run' result.reply; owes = one.owes; swaps = one.swaps; fill = None }))
+  act-step =
+      record {
+        memory = memory_after;
+        stands = gathered ls o trees s mem memory_after t t' pos p its_position are known sd i
+            (record {
+              respects = subst (λ (w : World). Respects (bare (s.lps p).call.held) s.world w) (sym act-world) one.spares.respects;
+              looks = λ hs v r apart in_r reads. ap (look v) (made-is r in_r) ∙ one.spares.looks hs v r apart in_r reads;
+              still = one.spares.still;
+              filled = λ hs r apart in_r fills. (let sp = one.spares.filled hs r apart in_r fills in (sp.0, made-is r in_r ∙ sp.1));
+            })
+            (record { word = act-made.shown.word; hasher = λ h. subst (λ (w : World). IsAs (hasher_cell w h) (one.after.slots h)) (sym act-world) (one.hashers h) }) refl
+            (slots-event ls o trees s mem t t'.slots pos p one.after.slots one.put its_position known sd i no-swaps
+            (record {
+              respects = subst (λ (w : World). Respects (bare (s.lps p).call.held) s.world w) (sym act-world) one.spares.respects;
+              there = one.slots_there;
+              makes = one.slots_makes;
+              written = one.slots_written;
+              may = subst (λ (w : World). SwapsMay machine (bare (s.lps p).call.held) w (λ h. or_else (last_put one.put h) (mem.slots h)) one.swaps) (sym act-world) one.slots_may;
+              held = λ x. subst (λ (hs : List Held). SwapsMay machine (bare hs) (event o s p).world (λ h. or_else (last_put one.put h) (sd.slots.now h)) one.swaps) (sym one.held_or_none) x;
+            }))
+            (record {
+              stands = stands-after o trees p c cs (s.lps p) (event o s p) act_table run' (hasher_for one.after.hand) result.reply lines act-made (λ z. absurd (one.answered z))
+                  tdrs-stay rs replies;
+              due =
+                  subst (λ (w : World). Keeps machine (bare ((event o s p).lps p).call.held) w (on_table machine t') one.owes) (sym act-world)
+                  (subst (λ (hs : List Held). Keeps machine (bare hs) (call_world (row_of o p c) one.move s.world) (on_table machine t') one.owes) (sym one.held_or_none)
+                  (keeps-same machine (bare (s.lps p).call.held) (bare (s.lps p).call.held) world_after world_after word_before (on_table machine t') one.owes (λ q k owes. owes) kept-there one.owed));
+            })
+            tdrs-stay
+            laid-after;
+      }

@@ -165,96 +165,132 @@ pub record HasFilled (o : Opening) (t : Table) (pos : ℕ → Position) (p : ℕ
   pub there : (r : WordPlace) (x : ℕ) → IsIn o.machine r → last_at filled r ≡ Some x → t.words (address o.machine.pages r) ≡ x
   pub undo : (r : WordPlace) → last_at (pos p).owes r ≡ back (last_at filled r) (mem.words r)
 
-pub one-act : (ls : Laws) (o : Opening) (trees : ℕ → Call → Tree) (s : State) (mem : Memory) (t t' : Table) (pos : ℕ → Position) (p : ℕ) (c : Call) (now : List ℕ) (reply : Reply) (run run' : Standing) (result : RunTurn)
-    → AreTrees o trees → Known o s → (sd : Stands o trees s mem t pos) → p < length o.calls → run.hasher ≡ None → (ca : IsCallAt o (leaf_for o trees p c) (row_of o p c) s.world mem.words (s.lps p) run) → (e : run.stage ≡ stages.Trying)
-    → AtEnd o trees s mem p c (ca.told e).told now reply run run' result → HasFilled o t pos p mem (filled_of (feed (trees p c) now) mem)
-    → ((r : WordPlace) → IsIn o.machine r → t'.words (address o.machine.pages r) ≡ or_else (last_at (first_of (feed (trees p c) now) mem) r) (t.words (address o.machine.pages r)))
-    → ((h : ℕ) → IsHkid o.machine h → IsHand (t'.slots (h - 1)) (or_else (last_put (puts_of (feed (trees p c) now) mem) h) (sd.slots.now h)))
-    → (one : OneAct o trees s mem t t' pos p c (ca.told e).told run run' result sd.slots.now) × (one.owes ≡ owes_of (feed (trees p c) now) mem) × (one.swaps ≡ swaps_left (feed (trees p c) now) mem)
-one-act ls o trees s mem t t' pos p c now reply run run' result are known sd i no_hasher ca e en has table slots =
-    by (feed (trees p c) now) (leaves-follow-rows task inst now (are.means p c) at en.current) en.gives has table slots
+-- no word that an act stores is one that another owes
+never-owed : (ls : Laws) (g h : Grip) (w : World) (x : WordPlace) (k : Grade) → Apart h g → Owes h w x k → (first : List Due) (y : ℕ) → EachDue (CanWrite g w) first → last_at first x ≡ Some y → ⊥
+never-owed ls g h w x k apart owes first y written z =
+    let may = last-each ls.places (CanWrite g w) first x y written z in
+    (ls.words g h w (turned-round h g apart)).writes_owes x may.0 k may.1 owes
+
+-- nor one that another fills
+never-filled : (ls : Laws) (g h : Grip) (w : World) (x : WordPlace) → Apart h g → Fills h w x → (first : List Due) (y : ℕ) → EachDue (CanWrite g w) first → last_at first x ≡ Some y → ⊥
+never-filled ls g h w x apart fills first y written z =
+    let may = last-each ls.places (CanWrite g w) first x y written z in
+    (ls.words h g w apart).fills_writes x may.0 fills may.1
+
+-- a word that nothing is stored at is as it was
+untouched : (words : WordPlace → ℕ) (owes first filled : List Due) (x : WordPlace) → ((y : ℕ) → last_at owes x ≡ Some y → ⊥) → ((y : ℕ) → last_at first x ≡ Some y → ⊥) → ((y : ℕ) → last_at filled x ≡ Some y → ⊥)
+    → or_else (last_at owes x) (or_else (last_at first x) (or_else (last_at filled x) (words x))) ≡ words x
+untouched words owes first filled x a b d = go (last_at owes x) (last_at first x) (last_at filled x) refl refl refl
   where
-    m : Machine
-    m = o.machine
+    go : (u v z : Option ℕ) → last_at owes x ≡ u → last_at first x ≡ v → last_at filled x ≡ z → or_else (last_at owes x) (or_else (last_at first x) (or_else (last_at filled x) (words x))) ≡ words x
+    go (Some y) v z eu ev ez = absurd (a y eu)
+    go None (Some y) z eu ev ez = absurd (b y ev)
+    go None None (Some y) eu ev ez = absurd (d y ez)
+    go None None None eu ev ez = rw (eu, ev, ez) refl
 
-    task : Task
-    task = leaf_for o trees p c
+-- the reply of a tree's end is the one that it gives
+end-gives : (n : ℕ) (r r' : Reply) (fs cs : List Change) → Gives n (End r fs cs) (need.Verdict r') → r ≡ r'
+end-gives n r r' fs cs g = cc
 
-    row : Row
-    row = row_of o p c
+-- a turn that comes to its end is an act
+module _ (ls : Laws) (o : Opening) (trees : ℕ → Call → Tree) (s : State) (mem : Memory) (t t' : Table) (pos : ℕ → Position) (p : ℕ) (c : Call) (now : List ℕ) (reply : Reply) (run run' : Standing) (result : RunTurn) (are : AreTrees o trees) (known : Known o s)
+    (sd : Stands o trees s mem t pos) (i : p < length o.calls) (no_hasher : run.hasher ≡ None) (ca : IsCallAt o (leaf_for o trees p c) (row_of o p c) s.world mem.words (s.lps p) run) (e : run.stage ≡ stages.Trying)
+    (en : AtEnd o trees s mem p c (ca.told e).told now reply run run' result) where
+  -- the turn's parts by name: its machine, what its leaf is to do, its row, the moment and the work
+  abbrev machine : Machine
+  machine = o.machine
 
-    inst : Instant
-    inst = instant task s mem
+  abbrev task : Task
+  task = leaf_for o trees p c
 
-    k : Work
-    k = work_of task.meaning
+  abbrev leaf_row : Row
+  leaf_row = row_of o p c
 
-    hs : List Held
-    hs = granted (trees p c) now []
+  abbrev moment : Instant
+  moment = instant task s mem
 
-    mv : Move Reply
-    mv = move_due task inst now
+  abbrev work : Work
+  work = work_of task.meaning
 
-    told : List ℕ
-    told = (ca.told e).told
+  -- the locks that its tree was granted, and the move that is due then
+  abbrev locks : List Held
+  locks = granted (trees p c) now []
 
-    mine : Grip
-    mine = bare (s.lps p).call.held
+  abbrev due_move : Move Reply
+  due_move = move_due task moment now
 
-    at : IsAt task inst
-    at = at-instant o task row s mem (table_of m mem.slots mem.words) run refl (shown-of o trees s mem t pos p c run known sd i no_hasher) ca e
+  -- the words that it was told before, and the grip of the locks that its processor holds
+  abbrev words_told : List ℕ
+  words_told = (ca.told e).told
 
-    -- the locks held
-    held-is : hs ≡ (s.lps p).call.held
-    held-is = en.locks ∙ (ca.told e).locks
+  abbrev own_grip : Grip
+  own_grip = bare (s.lps p).call.held
 
-    grip : hold inst hs ≡ mine
-    grip = hold-is s mem task hs sd.guests ∙ ap bare held-is
+  -- the turn stands at this moment
+  at-moment : IsAt task moment
+  at-moment = at-instant o task leaf_row s mem (table_of machine mem.slots mem.words) run refl (shown-of o trees s mem t pos p c run known sd i no_hasher) ca e
 
-    due : move_due task inst told ≡ mv
-    due = ap (λ (xs : List Held). next (k.items s.world) (length xs)) (sym en.locks)
+  -- the locks of the tree are those that the processor holds
+  locks-held : locks ≡ (s.lps p).call.held
+  locks-held = en.locks ∙ (ca.told e).locks
 
-    next-is : (mv' : Move Reply) → mv ≡ mv' → next_event o s p ≡ Some (OfCall row mv')
-    next-is mv' h = due-is o task row s mem run mv' refl ca e (due ∙ h)
+  -- and its grip is theirs
+  own-is : hold moment locks ≡ own_grip
+  own-is = hold-is s mem task locks sd.guests ∙ ap bare locks-held
 
-    refusal : (r : Reply) → mv ≡ Refuses r → r ≡ reply → (u : Table) (h : Option Measure) → IsMemory m u h mem → EndsRow task inst told u run (with_hasher run' h)
-    refusal r h q u hasher mm = record {
-      reply = reply;
-      after = mem;
-      answered = en.answered;
-      held_is = en.held;
-      memory = mm;
-      ends = inl (due ∙ (h ∙ ap Refuses q), refl);
-    }
+  -- the move that is due is the same at the words told before
+  move-is : move_due task moment words_told ≡ due_move
+  move-is = ap (λ (xs : List Held). next (work.items s.world) (length xs)) (sym en.locks)
 
-    success : (after : Memory) → mv ≡ Succeeds → reply ≡ k.reply s.world → Shows m after.words after.slots (acted k s) → LocksStay s.world (k.act s.world) hs → (u : Table) (h : Option Measure) → IsMemory m u h after → EndsRow task inst told u run (with_hasher run' h)
-    success after h q sh st u hasher mm = record {
-      reply = reply;
-      after = after;
-      answered = en.answered;
-      held_is = en.held;
-      memory = mm;
-      ends = inr (due ∙ h, q, sh, subst (λ (xs : List Held). LocksStay s.world (k.act s.world) xs) en.locks st);
-    }
+  -- it is the flat machine's next event
+  next-move : (mv' : Move Reply) → due_move ≡ mv' → next_event o s p ≡ Some (OfCall leaf_row mv')
+  next-move mv' h = due-is o task leaf_row s mem run mv' refl ca e (move-is ∙ h)
 
-    not-trying : run'.stage ≡ stages.Trying → ⊥
-    not-trying z = (let bad = sym en.answered ∙ z in cc)
+  -- the run that ends refused ends as its row does
+  ends-refused : (r : Reply) → due_move ≡ Refuses r → r ≡ reply → (u : Table) (h : Option Measure) → IsMemory machine u h mem → EndsRow task moment words_told u run (with_hasher run' h)
+  ends-refused r h q u hasher mm = record {
+    reply = reply;
+    after = mem;
+    answered = en.answered;
+    held_is = en.held;
+    memory = mm;
+    ends = inl (move-is ∙ (h ∙ ap Refuses q), refl);
+  }
 
-    PutAt : List SwapDue → Type 0
-    PutAt put = (h : ℕ) → IsHkid m h → IsHand (t'.slots (h - 1)) (or_else (last_put put h) (sd.slots.now h))
+  -- so does the run whose act succeeds
+  ends-succeeded : (after : Memory) → due_move ≡ Succeeds → reply ≡ work.reply s.world → Shows machine after.words after.slots (acted work s) → LocksStay s.world (work.act s.world) locks → (u : Table) (h : Option Measure) → IsMemory machine u h after → EndsRow task moment words_told u run (with_hasher run' h)
+  ends-succeeded after h q sh st u hasher mm = record {
+    reply = reply;
+    after = after;
+    answered = en.answered;
+    held_is = en.held;
+    memory = mm;
+    ends = inr (move-is ∙ h, q, sh, subst (λ (xs : List Held). LocksStay s.world (work.act s.world) xs) en.locks st);
+  }
 
-    Act : Type 0
-    Act = OneAct o trees s mem t t' pos p c told run run' result sd.slots.now
+  -- the run has answered
+  has-answered : run'.stage ≡ stages.Trying → ⊥
+  has-answered z = (let bad = sym en.answered ∙ z in cc)
 
-    refused : (r : Reply) → mv ≡ Refuses r → r ≡ reply → HasFilled o t pos p mem [] → ((x : WordPlace) → IsIn m x → t'.words (address m.pages x) ≡ t.words (address m.pages x)) → PutAt [] → Act
-    refused r h q hf same slots = record {
+  -- the slots have what was put into them
+  abbrev HasPut : List SwapDue → Type 0
+  HasPut put = (h : ℕ) → IsHkid machine h → IsHand (t'.slots (h - 1)) (or_else (last_put put h) (sd.slots.now h))
+
+  -- the act of this turn
+  abbrev ItsAct : Type 0
+  ItsAct = OneAct o trees s mem t t' pos p c words_told run run' result sd.slots.now
+
+  -- a refusal is an act that stores nothing and owes nothing
+  refused-act : (r : Reply) → due_move ≡ Refuses r → r ≡ reply → HasFilled o t pos p mem [] → ((x : WordPlace) → IsIn machine x → t'.words (address machine.pages x) ≡ t.words (address machine.pages x)) → HasPut [] → (one : ItsAct) × (one.owes ≡ []) × (one.swaps ≡ [])
+  refused-act r h q hf same slots = (
+    record {
       move = Refuses r;
       is_act = tt;
-      next = next-is (Refuses r) h;
+      next = next-move (Refuses r) h;
       after = mem;
       hashers = sd.shows.hasher;
-      ends = refusal r h q;
-      answered = not-trying;
+      ends = ends-refused r h q;
+      answered = has-answered;
       reply = en.last;
       filled = [];
       first = [];
@@ -266,7 +302,7 @@ one-act ls o trees s mem t t' pos p c now reply run run' result are known sd i n
       slots_written = λ h x e. cc;
       slots_may = tt;
       spares = record {
-        respects = ls.compose.same mine s.world;
+        respects = ls.compose.same own_grip s.world;
         looks = λ xs v x apart in_x reads. refl;
         still = λ xs x g apart in_x owes. sym (same x in_x);
         filled = λ xs x apart in_x fills. (sym (same x in_x), refl);
@@ -277,54 +313,37 @@ one-act ls o trees s mem t t' pos p c now reply run run' result are known sd i n
       filled_may = tt;
       there = hf.there;
       undo = hf.undo;
-      held_or_none = act-held o s p row (Refuses r) (next-is (Refuses r) h) (are.means p c).enters_none tt;
+      held_or_none = act-held o s p leaf_row (Refuses r) (next-move (Refuses r) h) (are.means p c).enters_none tt;
       table = same;
-    }
+    },
+    refl,
+    refl,
+  )
 
-    -- what another owes or has filled isn't at a word that the act stores
-    no-write : (xs : List Held) (x : WordPlace) (g : Grade) → Apart (bare xs) mine → Owes (bare xs) s.world x g → (first : List Due) (y : ℕ) → EachDue (CanWrite mine s.world) first → last_at first x ≡ Some y → ⊥
-    no-write xs x g apart owes first y written z =
-        let may = last-each ls.places (CanWrite mine s.world) first x y written z in
-        (ls.words mine (bare xs) s.world (turned-round (bare xs) mine apart)).writes_owes x may.0 g may.1 owes
+  -- a word that the act stores nothing at is the same on both tables
+  not-stored : (first : List Due) (x : WordPlace) → IsIn machine x → (y : Option ℕ) → last_at first x ≡ y → ((y : ℕ) → last_at first x ≡ Some y → ⊥)
+      → ((r : WordPlace) → IsIn machine r → t'.words (address machine.pages r) ≡ or_else (last_at first r) (t.words (address machine.pages r))) → on_table machine t x ≡ on_table machine t' x
+  not-stored first x in_x None e never same = sym (same x in_x ∙ ap (λ (z : Option ℕ). or_else z (t.words (address machine.pages x))) e)
+  not-stored first x in_x (Some y) e never same = absurd (never y e)
 
-    no-write-filled : (xs : List Held) (x : WordPlace) → Apart (bare xs) mine → Fills (bare xs) s.world x → (first : List Due) (y : ℕ) → EachDue (CanWrite mine s.world) first → last_at first x ≡ Some y → ⊥
-    no-write-filled xs x apart fills first y written z =
-        let may = last-each ls.places (CanWrite mine s.world) first x y written z in
-        (ls.words (bare xs) mine s.world apart).fills_writes x may.0 fills may.1
-
-    unwritten : (first : List Due) (x : WordPlace) → IsIn m x → (y : Option ℕ) → last_at first x ≡ y → ((y : ℕ) → last_at first x ≡ Some y → ⊥)
-        → ((r : WordPlace) → IsIn m r → t'.words (address m.pages r) ≡ or_else (last_at first r) (t.words (address m.pages r))) → on_table m t x ≡ on_table m t' x
-    unwritten first x in_x None e never same = sym (same x in_x ∙ ap (λ (z : Option ℕ). or_else z (t.words (address m.pages x))) e)
-    unwritten first x in_x (Some y) e never same = absurd (never y e)
-
-    -- a word that nothing of it is stored at
-    untouched : (owes first filled : List Due) (x : WordPlace) → ((y : ℕ) → last_at owes x ≡ Some y → ⊥) → ((y : ℕ) → last_at first x ≡ Some y → ⊥) → ((y : ℕ) → last_at filled x ≡ Some y → ⊥)
-        → or_else (last_at owes x) (or_else (last_at first x) (or_else (last_at filled x) (mem.words x))) ≡ mem.words x
-    untouched owes first filled x a b d = go (last_at owes x) (last_at first x) (last_at filled x) refl refl refl
-      where
-        go : (u v z : Option ℕ) → last_at owes x ≡ u → last_at first x ≡ v → last_at filled x ≡ z → or_else (last_at owes x) (or_else (last_at first x) (or_else (last_at filled x) (mem.words x))) ≡ mem.words x
-        go (Some y) v z eu ev ez = absurd (a y eu)
-        go None (Some y) z eu ev ez = absurd (b y ev)
-        go None None (Some y) eu ev ez = absurd (d y ez)
-        go None None None eu ev ez = rw (eu, ev, ez) refl
-
-    -- the act that succeeds, whose stores are these
-    succeeded : (fs cs : List Change) (first owes : List Due) (put swaps : List SwapDue) → mv ≡ Succeeds → reply ≡ k.reply s.world
-        → (let after = changed_all cs (changed_all fs mem) in Shows m after.words after.slots (acted k s)) → LocksStay s.world (k.act s.world) hs → Respects mine s.world (row.act s.world)
-        → ((xs : List Held) (v : View) (r : WordPlace) → Apart (bare xs) mine → IsIn m r → Reads (bare xs) s.world r v → look v ((changed_all cs (changed_all fs mem)).words r) ≡ look v (mem.words r))
-        → ((r : WordPlace) → last_at (all_stores cs (changed_all fs mem)) r ≡ later (last_at owes r) (last_at first r))
-        → MayFillAll m mine s.world fs → EachDue (CanWrite mine s.world) first → Keeps m mine (row.act s.world) (λ x. or_else (last_at first x) ((changed_all fs mem).words x)) owes → HasFilled o t pos p mem (all_stores fs mem)
-        → ((r : WordPlace) → IsIn m r → t'.words (address m.pages r) ≡ or_else (last_at first r) (t.words (address m.pages r)))
-        → PutAt put → ((h : ℕ) → (changed_all cs (changed_all fs mem)).slots h ≡ or_else (last_put swaps h) (or_else (last_put put h) (mem.slots h)))
-        → ((h : ℕ) (x : Hand) → last_put put h ≡ Some x → SwapsAct mine s.world h) → SwapsMay m mine (row.act s.world) (λ h. or_else (last_put put h) (mem.slots h)) swaps → Act
-    succeeded fs cs first owes put swaps h q sh st rs looks parts fills written owed hf same slots makes-slots put-may swaps-may = record {
+  -- the act that succeeds, whose stores are these, and which owes these
+  succeeded-act : (fs cs : List Change) (first owes : List Due) (put swaps : List SwapDue) → due_move ≡ Succeeds → reply ≡ work.reply s.world
+      → (let after = changed_all cs (changed_all fs mem) in Shows machine after.words after.slots (acted work s)) → LocksStay s.world (work.act s.world) locks → Respects own_grip s.world (leaf_row.act s.world)
+      → ((xs : List Held) (v : View) (r : WordPlace) → Apart (bare xs) own_grip → IsIn machine r → Reads (bare xs) s.world r v → look v ((changed_all cs (changed_all fs mem)).words r) ≡ look v (mem.words r))
+      → ((r : WordPlace) → last_at (all_stores cs (changed_all fs mem)) r ≡ later (last_at owes r) (last_at first r))
+      → MayFillAll machine own_grip s.world fs → EachDue (CanWrite own_grip s.world) first → Keeps machine own_grip (leaf_row.act s.world) (λ x. or_else (last_at first x) ((changed_all fs mem).words x)) owes → HasFilled o t pos p mem (all_stores fs mem)
+      → ((r : WordPlace) → IsIn machine r → t'.words (address machine.pages r) ≡ or_else (last_at first r) (t.words (address machine.pages r)))
+      → HasPut put → ((h : ℕ) → (changed_all cs (changed_all fs mem)).slots h ≡ or_else (last_put swaps h) (or_else (last_put put h) (mem.slots h)))
+      → ((h : ℕ) (x : Hand) → last_put put h ≡ Some x → SwapsAct own_grip s.world h) → SwapsMay machine own_grip (leaf_row.act s.world) (λ h. or_else (last_put put h) (mem.slots h)) swaps → (one : ItsAct) × (one.owes ≡ owes) × (one.swaps ≡ swaps)
+  succeeded-act fs cs first owes put swaps h q sh st rs looks parts fills written owed hf same slots makes-slots put-may swaps-may = (
+    record {
       move = Succeeds;
       is_act = tt;
-      next = next-is Succeeds h;
+      next = next-move Succeeds h;
       after = changed_all cs (changed_all fs mem);
       hashers = sh.hasher;
-      ends = success (changed_all cs (changed_all fs mem)) h q sh st;
-      answered = not-trying;
+      ends = ends-succeeded (changed_all cs (changed_all fs mem)) h q sh st;
+      answered = has-answered;
       reply = en.last;
       filled = all_stores fs mem;
       first = first;
@@ -338,96 +357,97 @@ one-act ls o trees s mem t t' pos p c now reply run run' result are known sd i n
       spares = record {
         respects = rs;
         looks = looks;
-        still = λ xs x g apart in_x owes'. unwritten first x in_x (last_at first x) refl (λ y z. no-write xs x g apart owes' first y written z) same;
+        still = λ xs x g apart in_x owes'. not-stored first x in_x (last_at first x) refl (λ y z. never-owed ls own_grip (bare xs) s.world x g apart owes' first y written z) same;
         filled = λ xs x apart in_x fill. (
-          unwritten first x in_x (last_at first x) refl (λ y z. no-write-filled xs x apart fill first y written z) same,
+          not-stored first x in_x (last_at first x) refl (λ y z. never-filled ls own_grip (bare xs) s.world x apart fill first y written z) same,
           makes x in_x
-              ∙ untouched owes first (all_stores fs mem) x
-              (λ y z. (let may = last-each ls.places (OwesAt m mine (row.act s.world)) owes x y (keeps-each m mine (row.act s.world) base owes owed) z in (ls.acts (bare xs) mine s.world (row.act s.world) apart rs).fills_later x may.1.0 fill may.1.1))
-              (λ y z. no-write-filled xs x apart fill first y written z)
-              (λ y z. (let may = last-each ls.places (FillsAt m mine s.world) (all_stores fs mem) x y (filled-stores m mine s.world mem fs fills) z in (ls.words (bare xs) mine s.world apart).fills_fills x fill may.1)),
+              ∙ untouched mem.words owes first (all_stores fs mem) x
+              (λ y z. (let may = last-each ls.places (OwesAt machine own_grip (leaf_row.act s.world)) owes x y (keeps-each machine own_grip (leaf_row.act s.world) base owes owed) z in (ls.acts (bare xs) own_grip s.world (leaf_row.act s.world) apart rs).fills_later x may.1.0 fill may.1.1))
+              (λ y z. never-filled ls own_grip (bare xs) s.world x apart fill first y written z)
+              (λ y z. (let may = last-each ls.places (FillsAt machine own_grip s.world) (all_stores fs mem) x y (filled-stores machine own_grip s.world mem fs fills) z in (ls.words (bare xs) own_grip s.world apart).fills_fills x fill may.1)),
         );
       };
       makes = makes;
       written = written;
-      owed = keeps-same m mine mine (row.act s.world) (row.act s.world) base (λ x. or_else (last_at first x) (or_else (last_at (all_stores fs mem) x) (mem.words x))) owes (λ x g z. z)
-          (λ x g in_x z. ap (or_else (last_at first x)) (changed-is ls.places m fs mem x in_x)) owed;
-      filled_may = filled-stores m mine s.world mem fs fills;
+      owed = keeps-same machine own_grip own_grip (leaf_row.act s.world) (leaf_row.act s.world) base (λ x. or_else (last_at first x) (or_else (last_at (all_stores fs mem) x) (mem.words x))) owes (λ x g z. z)
+          (λ x g in_x z. ap (or_else (last_at first x)) (changed-is ls.places machine fs mem x in_x)) owed;
+      filled_may = filled-stores machine own_grip s.world mem fs fills;
       there = hf.there;
       undo = hf.undo;
-      held_or_none = act-held o s p row Succeeds (next-is Succeeds h) (are.means p c).enters_none tt;
+      held_or_none = act-held o s p leaf_row Succeeds (next-move Succeeds h) (are.means p c).enters_none tt;
       table = same;
-    }
-      where
-        base : WordPlace → ℕ
-        base x = or_else (last_at first x) ((changed_all fs mem).words x)
+    },
+    refl,
+    refl,
+  )
+    where
+      base : WordPlace → ℕ
+      base x = or_else (last_at first x) ((changed_all fs mem).words x)
 
-        makes : (r : WordPlace) → IsIn m r → (changed_all cs (changed_all fs mem)).words r ≡ or_else (last_at owes r) (or_else (last_at first r) (or_else (last_at (all_stores fs mem) r) (mem.words r)))
-        makes r in_r =
-            changed-is ls.places m cs (changed_all fs mem) r in_r
-            ∙ (ap (λ (z : Option ℕ). or_else z ((changed_all fs mem).words r)) (parts r)
-            ∙ (or-later (last_at owes r) (last_at first r) ((changed_all fs mem).words r)
-            ∙ ap (λ (y : ℕ). or_else (last_at owes r) (or_else (last_at first r) y)) (changed-is ls.places m fs mem r in_r)))
+      makes : (r : WordPlace) → IsIn machine r → (changed_all cs (changed_all fs mem)).words r ≡ or_else (last_at owes r) (or_else (last_at first r) (or_else (last_at (all_stores fs mem) r) (mem.words r)))
+      makes r in_r =
+          changed-is ls.places machine cs (changed_all fs mem) r in_r
+          ∙ (ap (λ (z : Option ℕ). or_else z ((changed_all fs mem).words r)) (parts r)
+          ∙ (or-later (last_at owes r) (last_at first r) ((changed_all fs mem).words r)
+          ∙ ap (λ (y : ℕ). or_else (last_at owes r) (or_else (last_at first r) y)) (changed-is ls.places machine fs mem r in_r)))
 
-    gives-is : (n : ℕ) (r r' : Reply) (fs cs : List Change) → Gives n (End r fs cs) (need.Verdict r') → r ≡ r'
-    gives-is n r r' fs cs g = cc
+  -- a tree's end that succeeds is an act: its first change, and the rest owed
+  end-acts : (r : Reply) (fs cs : List Change) → due_move ≡ Succeeds → r ≡ reply → Acts machine moment work locks r fs cs → MayChange machine (hold moment locks) s.world (work.act s.world) (changed_all fs mem) cs
+      → HasFilled o t pos p mem (all_stores fs mem) → ((x : WordPlace) → IsIn machine x → t'.words (address machine.pages x) ≡ or_else (last_at (act_first cs (changed_all fs mem)) x) (t.words (address machine.pages x)))
+      → HasPut (act_puts cs (changed_all fs mem)) → (one : ItsAct) × (one.owes ≡ act_owes cs (changed_all fs mem)) × (one.swaps ≡ act_swaps cs (changed_all fs mem))
+  end-acts r fs [] h q ac may hf same slots =
+      let rs : Respects own_grip s.world (leaf_row.act s.world) = subst (λ (g : Grip). Respects g s.world (leaf_row.act s.world)) own-is ac.respects in
+      let fills : MayFillAll machine own_grip s.world fs = subst (λ (g : Grip). MayFillAll machine g s.world fs) own-is ac.fills_allowed in
+      succeeded-act fs [] [] [] [] [] h (sym q ∙ ac.reply_is) ac.shows ac.locks_stay rs
+      (λ xs v x apart in_x reads. fill-looks ls machine (bare xs) own_grip s.world mem fs x v apart in_x fills reads) (λ x. refl) fills tt tt hf same slots
+      (λ k. ap (λ (f : ℕ → Hand). f k) (fills-rest machine own_grip s.world fs mem fills).0) (λ k x e. cc) tt
+  end-acts r fs (c1 ∷ cs) h q ac may hf same slots =
+      let rs : Respects own_grip s.world (leaf_row.act s.world) = subst (λ (g : Grip). Respects g s.world (leaf_row.act s.world)) own-is ac.respects in
+      let fills : MayFillAll machine own_grip s.world fs = subst (λ (g : Grip). MayFillAll machine g s.world fs) own-is ac.fills_allowed in
+      let mem1 : Memory = changed_all fs mem in
+      let may' : MayChange machine own_grip s.world (work.act s.world) mem1 (c1 ∷ cs) = subst (λ (g : Grip). MayChange machine g s.world (work.act s.world) mem1 (c1 ∷ cs)) own-is may in
+      succeeded-act fs (c1 ∷ cs) (stores_of c1 mem1) (all_stores cs (changed c1 mem1)) (swaps_of c1 mem1) (all_swaps cs (changed c1 mem1)) h (sym q ∙ ac.reply_is) ac.shows ac.locks_stay rs
+      (λ xs v x apart in_x reads.
+      owed-looks ls machine (bare xs) own_grip s.world (leaf_row.act s.world) (changed c1 mem1) cs x v apart rs in_x may'.1 reads
+      ∙ (act-looks ls machine (bare xs) own_grip s.world mem1 c1 x v apart may'.0 reads ∙ fill-looks ls machine (bare xs) own_grip s.world mem fs x v apart in_x fills reads))
+      (λ x. last-append (stores_of c1 mem1) (all_stores cs (changed c1 mem1)) x) fills
+      (act-written machine own_grip s.world mem1 c1 may'.0)
+      (keeps-same machine own_grip own_grip (leaf_row.act s.world) (leaf_row.act s.world) (changed c1 mem1).words (λ x. or_else (last_at (stores_of c1 mem1) x) (mem1.words x)) (all_stores cs (changed c1 mem1))
+      (λ x g owes. owes) (λ x g in_x owes. one-is machine c1 mem1 x in_x) (owed-keeps machine own_grip (leaf_row.act s.world) (changed c1 mem1) cs may'.1)) hf same slots
+      (λ k. changed-slots cs (changed c1 mem1) k ∙ ap (or_else (last_put (all_swaps cs (changed c1 mem1)) k)) (one-slot c1 mem1 k ∙ ap (λ (f : ℕ → Hand). or_else (last_put (swaps_of c1 mem1) k) (f k)) (fills-rest machine own_grip s.world fs mem fills).0))
+      (act-put machine own_grip s.world mem1 c1 may'.0)
+      (swaps-same machine own_grip own_grip (leaf_row.act s.world) (leaf_row.act s.world) (changed c1 mem1).slots (λ k. or_else (last_put (swaps_of c1 mem1) k) (mem.slots k)) (all_swaps cs (changed c1 mem1)) (λ k x. x)
+      (λ k in_k owes. one-slot c1 mem1 k ∙ ap (λ (f : ℕ → Hand). or_else (last_put (swaps_of c1 mem1) k) (f k)) (fills-rest machine own_grip s.world fs mem fills).0)
+      (owed-swaps machine own_grip (leaf_row.act s.world) (changed c1 mem1) cs may'.1))
 
-    ends-success : (r : Reply) (fs cs : List Change) → mv ≡ Succeeds → r ≡ reply → Acts m inst k hs r fs cs → MayChange m (hold inst hs) s.world (k.act s.world) (changed_all fs mem) cs
-        → HasFilled o t pos p mem (all_stores fs mem) → ((x : WordPlace) → IsIn m x → t'.words (address m.pages x) ≡ or_else (last_at (act_first cs (changed_all fs mem)) x) (t.words (address m.pages x)))
-        → PutAt (act_puts cs (changed_all fs mem)) → (one : Act) × (one.owes ≡ act_owes cs (changed_all fs mem)) × (one.swaps ≡ act_swaps cs (changed_all fs mem))
-    ends-success r fs [] h q ac may hf same slots =
-        let rs : Respects mine s.world (row.act s.world) = subst (λ (g : Grip). Respects g s.world (row.act s.world)) grip ac.respects in
-        let fills : MayFillAll m mine s.world fs = subst (λ (g : Grip). MayFillAll m g s.world fs) grip ac.fills_allowed in (
-          succeeded fs [] [] [] [] [] h (sym q ∙ ac.reply_is) ac.shows ac.locks_stay rs
-              (λ xs v x apart in_x reads. fill-looks ls m (bare xs) mine s.world mem fs x v apart in_x fills reads) (λ x. refl) fills tt tt hf same slots
-              (λ k. ap (λ (f : ℕ → Hand). f k) (fills-rest m mine s.world fs mem fills).0) (λ k x e. cc) tt,
-          refl,
-          refl,
-        )
-    ends-success r fs (c1 ∷ cs) h q ac may hf same slots =
-        let rs : Respects mine s.world (row.act s.world) = subst (λ (g : Grip). Respects g s.world (row.act s.world)) grip ac.respects in
-        let fills : MayFillAll m mine s.world fs = subst (λ (g : Grip). MayFillAll m g s.world fs) grip ac.fills_allowed in
-        let mem1 : Memory = changed_all fs mem in
-        let may' : MayChange m mine s.world (k.act s.world) mem1 (c1 ∷ cs) = subst (λ (g : Grip). MayChange m g s.world (k.act s.world) mem1 (c1 ∷ cs)) grip may in (
-          succeeded fs (c1 ∷ cs) (stores_of c1 mem1) (all_stores cs (changed c1 mem1)) (swaps_of c1 mem1) (all_swaps cs (changed c1 mem1)) h (sym q ∙ ac.reply_is) ac.shows ac.locks_stay rs
-              (λ xs v x apart in_x reads.
-              owed-looks ls m (bare xs) mine s.world (row.act s.world) (changed c1 mem1) cs x v apart rs in_x may'.1 reads
-              ∙ (act-looks ls m (bare xs) mine s.world mem1 c1 x v apart may'.0 reads ∙ fill-looks ls m (bare xs) mine s.world mem fs x v apart in_x fills reads))
-              (λ x. last-append (stores_of c1 mem1) (all_stores cs (changed c1 mem1)) x) fills
-              (act-written m mine s.world mem1 c1 may'.0)
-              (keeps-same m mine mine (row.act s.world) (row.act s.world) (changed c1 mem1).words (λ x. or_else (last_at (stores_of c1 mem1) x) (mem1.words x)) (all_stores cs (changed c1 mem1))
-              (λ x g owes. owes) (λ x g in_x owes. one-is m c1 mem1 x in_x) (owed-keeps m mine (row.act s.world) (changed c1 mem1) cs may'.1)) hf same slots
-              (λ k. changed-slots cs (changed c1 mem1) k ∙ ap (or_else (last_put (all_swaps cs (changed c1 mem1)) k)) (one-slot c1 mem1 k ∙ ap (λ (f : ℕ → Hand). or_else (last_put (swaps_of c1 mem1) k) (f k)) (fills-rest m mine s.world fs mem fills).0))
-              (act-put m mine s.world mem1 c1 may'.0)
-              (swaps-same m mine mine (row.act s.world) (row.act s.world) (changed c1 mem1).slots (λ k. or_else (last_put (swaps_of c1 mem1) k) (mem.slots k)) (all_swaps cs (changed c1 mem1)) (λ k x. x)
-              (λ k in_k owes. one-slot c1 mem1 k ∙ ap (λ (f : ℕ → Hand). or_else (last_put (swaps_of c1 mem1) k) (f k)) (fills-rest m mine s.world fs mem fills).0)
-              (owed-swaps m mine (row.act s.world) (changed c1 mem1) cs may'.1)),
-          refl,
-          refl,
-        )
+  -- a tree that had its event before owes all its changes
+  since-acts : (r : Reply) (cs : List Change) → due_move ≡ Succeeds → r ≡ reply → Acts machine moment work locks r [] cs → MayOweAll machine (hold moment locks) (work.act s.world) mem cs
+      → HasFilled o t pos p mem [] → ((x : WordPlace) → IsIn machine x → t'.words (address machine.pages x) ≡ t.words (address machine.pages x))
+      → HasPut [] → (one : ItsAct) × (one.owes ≡ all_stores cs mem) × (one.swaps ≡ all_swaps cs mem)
+  since-acts r cs h q ac may hf same slots =
+      let rs : Respects own_grip s.world (leaf_row.act s.world) = subst (λ (g : Grip). Respects g s.world (leaf_row.act s.world)) own-is ac.respects in
+      let may' : MayOweAll machine own_grip (work.act s.world) mem cs = subst (λ (g : Grip). MayOweAll machine g (work.act s.world) mem cs) own-is may in
+      succeeded-act [] cs [] (all_stores cs mem) [] (all_swaps cs mem) h (sym q ∙ ac.reply_is) ac.shows ac.locks_stay rs
+      (λ xs v x apart in_x reads. owed-looks ls machine (bare xs) own_grip s.world (leaf_row.act s.world) mem cs x v apart rs in_x may' reads)
+      (λ x. last-append [] (all_stores cs mem) x) tt tt (owed-keeps machine own_grip (leaf_row.act s.world) mem cs may') hf same slots
+      (changed-slots cs mem) (λ k x e. cc) (owed-swaps machine own_grip (leaf_row.act s.world) mem cs may')
 
-    since-success : (r : Reply) (cs : List Change) → mv ≡ Succeeds → r ≡ reply → Acts m inst k hs r [] cs → MayOweAll m (hold inst hs) (k.act s.world) mem cs
-        → HasFilled o t pos p mem [] → ((x : WordPlace) → IsIn m x → t'.words (address m.pages x) ≡ t.words (address m.pages x))
-        → PutAt [] → (one : Act) × (one.owes ≡ all_stores cs mem) × (one.swaps ≡ all_swaps cs mem)
-    since-success r cs h q ac may hf same slots =
-        let rs : Respects mine s.world (row.act s.world) = subst (λ (g : Grip). Respects g s.world (row.act s.world)) grip ac.respects in
-        let may' : MayOweAll m mine (k.act s.world) mem cs = subst (λ (g : Grip). MayOweAll m g (k.act s.world) mem cs) grip may in (
-          succeeded [] cs [] (all_stores cs mem) [] (all_swaps cs mem) h (sym q ∙ ac.reply_is) ac.shows ac.locks_stay rs
-              (λ xs v x apart in_x reads. owed-looks ls m (bare xs) mine s.world (row.act s.world) mem cs x v apart rs in_x may' reads)
-              (λ x. last-append [] (all_stores cs mem) x) tt tt (owed-keeps m mine (row.act s.world) mem cs may') hf same slots
-              (changed-slots cs mem) (λ k x e. cc) (owed-swaps m mine (row.act s.world) mem cs may'),
-          refl,
-          refl,
-        )
+  -- whichever way the tree ends, it is an act
+  tree-acts : (tree : Tree) → Comes machine moment work locks tree due_move → Gives machine.pages tree (need.Verdict reply) → HasFilled o t pos p mem (filled_of tree mem)
+      → ((r : WordPlace) → IsIn machine r → t'.words (address machine.pages r) ≡ or_else (last_at (first_of tree mem) r) (t.words (address machine.pages r)))
+      → HasPut (puts_of tree mem) → (one : ItsAct) × (one.owes ≡ owes_of tree mem) × (one.swaps ≡ swaps_left tree mem)
+  tree-acts (Lock l q mode x) co g hf same slots = cc
+  tree-acts (Load v q x) co g hf same slots = cc
+  tree-acts (Test b r x) co g hf same slots = absurd g
+  tree-acts (End r [] []) (inl co) g hf same slots = refused-act r co.0 (end-gives machine.pages r reply [] [] g) hf same slots
+  tree-acts (End r [] (c1 ∷ cs)) (inl co) g hf same slots = (let bad = co.2 in cc)
+  tree-acts (End r (f ∷ fs) cs) (inl co) g hf same slots = (let bad = co.1 in cc)
+  tree-acts (End r fs cs) (inr co) g hf same slots = end-acts r fs cs co.0 (end-gives machine.pages r reply fs cs g) co.1 co.2 hf same slots
+  tree-acts (Since r cs) co g hf same slots = since-acts r cs co.0 (cc g) co.1 co.2 hf same slots
 
-    by : (tree : Tree) → Comes m inst k hs tree mv → Gives m.pages tree (need.Verdict reply) → HasFilled o t pos p mem (filled_of tree mem)
-        → ((r : WordPlace) → IsIn m r → t'.words (address m.pages r) ≡ or_else (last_at (first_of tree mem) r) (t.words (address m.pages r)))
-        → PutAt (puts_of tree mem) → (one : Act) × (one.owes ≡ owes_of tree mem) × (one.swaps ≡ swaps_left tree mem)
-    by (Lock l q mode x) co g hf same slots = cc
-    by (Load v q x) co g hf same slots = cc
-    by (Test b r x) co g hf same slots = absurd g
-    by (End r [] []) (inl co) g hf same slots = (refused r co.0 (gives-is m.pages r reply [] [] g) hf same slots, refl, refl)
-    by (End r [] (c1 ∷ cs)) (inl co) g hf same slots = (let bad = co.2 in cc)
-    by (End r (f ∷ fs) cs) (inl co) g hf same slots = (let bad = co.1 in cc)
-    by (End r fs cs) (inr co) g hf same slots = ends-success r fs cs co.0 (gives-is m.pages r reply fs cs g) co.1 co.2 hf same slots
-    by (Since r cs) co g hf same slots = since-success r cs co.0 (cc g) co.1 co.2 hf same slots
+  -- the turn is an act, which owes what its tree's end does, in words and in swaps
+  pub one-act : HasFilled o t pos p mem (filled_of (feed (trees p c) now) mem)
+      → ((r : WordPlace) → IsIn o.machine r → t'.words (address o.machine.pages r) ≡ or_else (last_at (first_of (feed (trees p c) now) mem) r) (t.words (address o.machine.pages r)))
+      → ((h : ℕ) → IsHkid o.machine h → IsHand (t'.slots (h - 1)) (or_else (last_put (puts_of (feed (trees p c) now) mem) h) (sd.slots.now h)))
+      → (one : OneAct o trees s mem t t' pos p c (ca.told e).told run run' result sd.slots.now) × (one.owes ≡ owes_of (feed (trees p c) now) mem) × (one.swaps ≡ swaps_left (feed (trees p c) now) mem)
+  one-act has table slots = tree-acts (feed (trees p c) now) (leaves-follow-rows task moment now (are.means p c) at-moment en.current) en.gives has table slots

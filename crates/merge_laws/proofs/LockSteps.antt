@@ -12,6 +12,7 @@ use Rattle.flat_core.specs.Row.{Move, Rests, Releases}
 use Rattle.flat_core.specs.Table.{row_of}
 use Rattle.flat_core.specs.Event.{State, OfCall, next_event, lines_left, event, call_world}
 use Rattle.flat_core.proofs.Tests.{put_here}
+use Rattle.lock_words.specs.Grips.{CallTdrs}
 use Rattle.word_rules.specs.Guards.{Apart}
 use Rattle.word_rules.specs.Rules.{View, Grade}
 use Rattle.word_rules.specs.Views.{look}
@@ -66,143 +67,164 @@ pub record Moved (o : Opening) (trees : ℕ → Call → Tree) (s : State) (t : 
   pub memory : Memory
   pub stands : Stands o trees s memory t pos
 
-pub lock-step : (ls : Laws) (o : Opening) (trees : ℕ → Call → Tree) (s : State) (mem : Memory) (t : Table) (pos : ℕ → Position) (p : ℕ) (c : Call) (cs : List Call) (rs : List Reply) (mv : Move Reply) (run run' : Standing) (st : WordStep) (a : ℕ)
-    (q : WordPlace) (result : RunTurn) → AreTrees o trees → Known o s → Stands o trees s mem t pos → p < length o.calls → lines_left o p (s.lps p) ≡ c ∷ cs → (s.lps p).replies ≡ rs → (pos p).owes ≡ []
-    → (pos p).swaps ≡ [] → RunsAt o (leaf_for o trees p c) (row_of o p c) s.world mem.words (s.lps p) run → HandOf run → OneStep o trees s p c mv run run' st a q result → a ≡ answer_of t.words st
-    → Moved o trees (event o s p) (record t { words = after_step t.words st }) (put pos p (record { at = after_turn c cs rs run' result.reply; owes = []; swaps = []; fill = None }))
-lock-step ls o trees s mem t pos p c cs rs mv run run' st a q result are known sd i lines replies none no-swaps ra ho one an =
-    record {
-      memory = mem';
-      stands = gathered ls o trees s mem mem' t t' pos p now are known sd i
+-- the event of one step on a lock's word, and how all stands after it
+module _ (ls : Laws) (o : Opening) (trees : ℕ → Call → Tree) (s : State) (mem : Memory) (t : Table) (pos : ℕ → Position) (p : ℕ) (c : Call) (cs : List Call) (rs : List Reply) (mv : Move Reply) (run run' : Standing) (st : WordStep) (a : ℕ) (q : WordPlace)
+    (result : RunTurn) (are : AreTrees o trees) (known : Known o s) (sd : Stands o trees s mem t pos) (i : p < length o.calls) (lines : lines_left o p (s.lps p) ≡ c ∷ cs) (replies : (s.lps p).replies ≡ rs) (none : (pos p).owes ≡ []) (no-swaps : (pos p).swaps ≡ [])
+    (ra : RunsAt o (leaf_for o trees p c) (row_of o p c) s.world mem.words (s.lps p) run) (ho : HandOf run) (one : OneStep o trees s p c mv run run' st a q result) (an : a ≡ answer_of t.words st) where
+  abbrev machine : Machine
+  machine = o.machine
+
+  -- where the processor is after the step
+  abbrev its_position : Position
+  its_position = record { at = after_turn c cs rs run' result.reply; owes = []; swaps = []; fill = None }
+
+  -- the table after the step
+  abbrev stepped_table : Table
+  stepped_table = record t { words = after_step t.words st }
+
+  -- the table that shows memory
+  abbrev shown_table : Table
+  shown_table = table_of machine mem.slots mem.words
+
+  -- and that table after the same step
+  abbrev shown_after : Table
+  shown_after = record shown_table { words = after_step shown_table.words st }
+
+  -- memory, with the hasher in hand
+  abbrev memory_in_hand : Memory
+  memory_in_hand = record mem { hand = ho.hand }
+
+  -- before the step it does show it
+  table-shows : IsMemory machine shown_table run.hasher memory_in_hand
+  table-shows = holds-memory machine run.hasher memory_in_hand ho.is
+
+  -- nobody owes the lock's word
+  none-owed : (k : ℕ) → k < length o.calls → last_at (pos k).owes q ≡ None
+  none-owed k j = by (k == p) refl
+    where
+      by : (b : Bool) → (k == p) ≡ b → last_at (pos k).owes q ≡ None
+      by true e = (let k-is : k ≡ p = eqb-true k p e in ap (λ (z : ℕ). last_at (pos z).owes q) k-is ∙ ap (λ (ds : List Due). last_at ds q) none)
+      by false e =
+          none-due ls o trees s mem t pos p q known sd i
           (record {
-            respects = subst (λ (w : World). Respects (bare (s.lps p).call.held) s.world w) (sym world) (ls.compose.same (bare (s.lps p).call.held) s.world);
-            looks = λ hs v r apart in_r reads. ap (look v) (by-place r in_r (λ e. absurd (no-read hs v r apart reads e)));
-            still = λ hs r g apart in_r owes. sym (elsewhere r in_r (λ e. no-owed hs r g apart owes e));
-            filled = λ hs r apart in_r fills. (sym (elsewhere r in_r (λ e. no-filled hs r apart fills e)), by-place r in_r (λ e. absurd (no-filled hs r apart fills e)));
-          })
-          (record { word = after.shown.word; hasher = λ h. subst (λ (w : World). IsAs (hasher_cell w h) (mem.slots h)) (sym world) (sd.shows.hasher h) }) refl
-          (slots-event ls o trees s mem t t.slots pos p mem.slots [] now known sd i no-swaps
-          (record {
-            respects = subst (λ (w : World). Respects (bare (s.lps p).call.held) s.world w) (sym world) (ls.compose.same (bare (s.lps p).call.held) s.world);
-            there = sd.slots.there;
-            makes = λ h in_h. refl;
-            written = λ h x e. cc;
-            may = tt;
-            held = λ x. tt;
-          }))
-          (record {
-            stands = stands-after o trees p c cs (s.lps p) (event o s p) uV run' run'.hasher result.reply lines after one.hand.trying
-                (tdrs-after o s p (row_of o p c) mv one.next (are.means p c).enters_none ra.tdrs one.tdr one.no_rest one.answered) rs replies;
-            due = tt;
-          })
-          (tdrs-after o s p (row_of o p c) mv one.next (are.means p c).enters_none ra.tdrs one.tdr one.no_rest one.answered)
-          laid-after;
-    }
-  where
-    m : Machine
-    m = o.machine
+            owes = λ hs g apart owes. (ls.words (bare (s.lps p).call.held) (bare hs) s.world (turned-round (bare hs) (bare (s.lps p).call.held) apart)).tries_owes q g one.tries owes;
+            fills = λ hs apart fills. (ls.words (bare (s.lps p).call.held) (bare hs) s.world (turned-round (bare hs) (bare (s.lps p).call.held) apart)).tries_fills q one.tries fills;
+          }) k j e
 
-    now : Position
-    now = record { at = after_turn c cs rs run' result.reply; owes = []; swaps = []; fill = None }
+  -- so it is on the table what it is in memory
+  word-here : mem.words q ≡ t.words (address machine.pages q)
+  word-here = sd.laid_is q one.inside ∙ laid-none (length o.calls) (λ k. (pos k).owes) (on_table machine t) q none-owed
 
-    t' : Table
-    t' = record t { words = after_step t.words st }
+  -- and what the table that shows memory has there
+  word-shown : t.words (address machine.pages q) ≡ shown_table.words (address machine.pages q)
+  word-shown = sym word-here ∙ sym (table-shows.words q one.inside)
 
-    tV : Table
-    tV = table_of m mem.slots mem.words
+  -- the call is after its step as its leaf says
+  step-made : After o (leaf_for o trees p c) (row_of o p c) (s.lps p).replies (event o s p) shown_after run' result.reply
+  step-made =
+      calls-follow (engine ls) o (leaf_for o trees p c) (row_of o p c) s memory_in_hand shown_table shown_after run run' (Stepped st a ∷ []) result (are.means p c) refl
+      (shown-hand o trees s mem t pos p c run known sd i ho) ra.call one.going one.turn
+      (an ∙ answers-same t.words shown_table.words st (address machine.pages q) one.at word-shown, (refl, refl))
 
-    uV : Table
-    uV = record tV { words = after_step tV.words st }
+  -- the world stays
+  world-stays : (event o s p).world ≡ s.world
+  world-stays = world-of-event o s p (row_of o p c) mv one.next ∙ one.quiet
 
-    mem-h : Memory
-    mem-h = record mem { hand = ho.hand }
+  -- memory after the step
+  abbrev memory_after : Memory
+  memory_after = record { words = step-made.mem.words; slots = mem.slots; hand = None }
 
-    holds : IsMemory m tV run.hasher mem-h
-    holds = holds-memory m run.hasher mem-h ho.is
+  -- a word is as it was, but for the lock's
+  as-it-was : (r : WordPlace) → IsIn machine r → (same_place r q ≡ true → step-made.mem.words r ≡ mem.words r) → step-made.mem.words r ≡ mem.words r
+  as-it-was r in_r at-q = by (same_place r q) refl
+    where
+      by : (b : Bool) → same_place r q ≡ b → step-made.mem.words r ≡ mem.words r
+      by true e = at-q e
+      by false e = sym (step-made.memory.words r in_r) ∙ (step-elsewhere ls.places machine shown_table.words st q r one.inside in_r one.at e ∙ table-shows.words r in_r)
 
-    none-at : (k : ℕ) → k < length o.calls → last_at (pos k).owes q ≡ None
-    none-at k j = by (k == p) refl
-      where
-        by : (b : Bool) → (k == p) ≡ b → last_at (pos k).owes q ≡ None
-        by true e = (let k-is : k ≡ p = eqb-true k p e in ap (λ (z : ℕ). last_at (pos z).owes q) k-is ∙ ap (λ (ds : List Due). last_at ds q) none)
-        by false e =
-            none-due ls o trees s mem t pos p q known sd i
+  -- nobody else reads the lock's word
+  never-read : (hs : List Held) (v : View) (r : WordPlace) → Apart (bare hs) (bare (s.lps p).call.held) → Reads (bare hs) s.world r v → same_place r q ≡ true → ⊥
+  never-read hs v r apart reads e =
+      let r-is : r ≡ q = (ls.places.same r q).0 e in
+      (ls.words (bare (s.lps p).call.held) (bare hs) s.world (turned-round (bare hs) (bare (s.lps p).call.held) apart)).tries_reads q v one.tries (subst (λ (z : WordPlace). Reads (bare hs) s.world z v) r-is reads)
+
+  -- nobody else owes it
+  never-owed : (hs : List Held) (r : WordPlace) (g : Grade) → Apart (bare hs) (bare (s.lps p).call.held) → Owes (bare hs) s.world r g → same_place r q ≡ true → ⊥
+  never-owed hs r g apart owes e =
+      let r-is : r ≡ q = (ls.places.same r q).0 e in
+      (ls.words (bare (s.lps p).call.held) (bare hs) s.world (turned-round (bare hs) (bare (s.lps p).call.held) apart)).tries_owes q g one.tries (subst (λ (z : WordPlace). Owes (bare hs) s.world z g) r-is owes)
+
+  -- nobody else fills it
+  never-filled : (hs : List Held) (r : WordPlace) → Apart (bare hs) (bare (s.lps p).call.held) → Fills (bare hs) s.world r → same_place r q ≡ true → ⊥
+  never-filled hs r apart fills e =
+      let r-is : r ≡ q = (ls.places.same r q).0 e in
+      (ls.words (bare (s.lps p).call.held) (bare hs) s.world (turned-round (bare hs) (bare (s.lps p).call.held) apart)).tries_fills q one.tries (subst (λ (z : WordPlace). Fills (bare hs) s.world z) r-is fills)
+
+  -- every other word of the table is as it was
+  elsewhere : (r : WordPlace) → IsIn machine r → (same_place r q ≡ true → ⊥) → stepped_table.words (address machine.pages r) ≡ t.words (address machine.pages r)
+  elsewhere r in_r not-q = by (same_place r q) refl
+    where
+      by : (b : Bool) → same_place r q ≡ b → stepped_table.words (address machine.pages r) ≡ t.words (address machine.pages r)
+      by true e = absurd (not-q e)
+      by false e = step-elsewhere ls.places machine t.words st q r one.inside in_r one.at e
+
+  -- what each processor owes stays
+  owes-same : (k : ℕ) (r : WordPlace) → last_at (pos k).owes r ≡ last_at (put pos p its_position k).owes r
+  owes-same k r = by (k == p) refl
+    where
+      by : (b : Bool) → (k == p) ≡ b → last_at (pos k).owes r ≡ last_at (put pos p its_position k).owes r
+      by true e =
+          let k-is : k ≡ p = eqb-true k p e in
+          ap (λ (z : ℕ). last_at (pos z).owes r) k-is ∙ (ap (λ (ds : List Due). last_at ds r) none ∙ sym (ap (λ (z : Position). last_at z.owes r) (ap (put pos p its_position) k-is ∙ put_here pos p its_position)))
+      by false e = sym (ap (λ (z : Position). last_at z.owes r) (at-other pos p k its_position e))
+
+  -- memory after the step is the table with all that is owed laid on it
+  laid-after : (r : WordPlace) → IsIn machine r → step-made.mem.words r ≡ laid (length o.calls) (λ k. (put pos p its_position k).owes) (on_table machine stepped_table) r
+  laid-after r in_r = by (same_place r q) refl
+    where
+      by : (b : Bool) → same_place r q ≡ b → step-made.mem.words r ≡ laid (length o.calls) (λ k. (put pos p its_position k).owes) (on_table machine stepped_table) r
+      by true e =
+          let r-is : r ≡ q = (ls.places.same r q).0 e in
+          let made : step-made.mem.words q ≡ stepped_table.words (address machine.pages q) = sym (step-made.memory.words q one.inside) ∙ sym (step-same t.words shown_table.words st (address machine.pages q) one.at word-shown) in
+          let none' = laid-none (length o.calls) (λ k. (put pos p its_position k).owes) (on_table machine stepped_table) q (λ k j. sym (owes-same k q) ∙ none-owed k j) in
+          subst (λ (z : WordPlace). step-made.mem.words z ≡ laid (length o.calls) (λ k. (put pos p its_position k).owes) (on_table machine stepped_table) z) (sym r-is) (made ∙ sym none')
+      by false e =
+          as-it-was r in_r (λ h. cc)
+          ∙ (sd.laid_is r in_r
+          ∙ laid-same (length o.calls) (λ k. (pos k).owes) (λ k. (put pos p its_position k).owes) (on_table machine t) (on_table machine stepped_table) r (λ k j. owes-same k r)
+          (sym (step-elsewhere ls.places machine t.words st q r one.inside in_r one.at e)))
+
+  -- after the step too, a call that holds a lock of a TD holds P of its TDR page
+  tdrs-stay : CallTdrs ((event o s p).lps p).call
+  tdrs-stay = tdrs-after o s p (row_of o p c) mv one.next (are.means p c).enters_none ra.tdrs one.tdr one.no_rest one.answered
+
+  -- after the step all stands as it leaves it
+  pub lock-step : Moved o trees (event o s p) (record t { words = after_step t.words st }) (put pos p (record { at = after_turn c cs rs run' result.reply; owes = []; swaps = []; fill = None }))
+  lock-step =
+      record {
+        memory = memory_after;
+        stands = gathered ls o trees s mem memory_after t stepped_table pos p its_position are known sd i
             (record {
-              owes = λ hs g apart owes. (ls.words (bare (s.lps p).call.held) (bare hs) s.world (turned-round (bare hs) (bare (s.lps p).call.held) apart)).tries_owes q g one.tries owes;
-              fills = λ hs apart fills. (ls.words (bare (s.lps p).call.held) (bare hs) s.world (turned-round (bare hs) (bare (s.lps p).call.held) apart)).tries_fills q one.tries fills;
-            }) k j e
-
-    here : mem.words q ≡ t.words (address m.pages q)
-    here = sd.laid_is q one.inside ∙ laid-none (length o.calls) (λ k. (pos k).owes) (on_table m t) q none-at
-
-    virtual : t.words (address m.pages q) ≡ tV.words (address m.pages q)
-    virtual = sym here ∙ sym (holds.words q one.inside)
-
-    after : After o (leaf_for o trees p c) (row_of o p c) (s.lps p).replies (event o s p) uV run' result.reply
-    after =
-        calls-follow (engine ls) o (leaf_for o trees p c) (row_of o p c) s mem-h tV uV run run' (Stepped st a ∷ []) result (are.means p c) refl
-        (shown-hand o trees s mem t pos p c run known sd i ho) ra.call one.going one.turn
-        (an ∙ answers-same t.words tV.words st (address m.pages q) one.at virtual, (refl, refl))
-
-    world : (event o s p).world ≡ s.world
-    world = world-of-event o s p (row_of o p c) mv one.next ∙ one.quiet
-
-    mem' : Memory
-    mem' = record { words = after.mem.words; slots = mem.slots; hand = None }
-
-    same-test : (r : WordPlace) → (b : Bool) → same_place r q ≡ b → ((b ≡ true) → r ≡ q)
-    same-test r b e h = (ls.places.same r q).0 (e ∙ h)
-
-    -- a word is as it was, but for the lock's
-    by-place : (r : WordPlace) → IsIn m r → (same_place r q ≡ true → after.mem.words r ≡ mem.words r) → after.mem.words r ≡ mem.words r
-    by-place r in_r at-q = by (same_place r q) refl
-      where
-        by : (b : Bool) → same_place r q ≡ b → after.mem.words r ≡ mem.words r
-        by true e = at-q e
-        by false e = sym (after.memory.words r in_r) ∙ (step-elsewhere ls.places m tV.words st q r one.inside in_r one.at e ∙ holds.words r in_r)
-
-    no-read : (hs : List Held) (v : View) (r : WordPlace) → Apart (bare hs) (bare (s.lps p).call.held) → Reads (bare hs) s.world r v → same_place r q ≡ true → ⊥
-    no-read hs v r apart reads e =
-        let r-is : r ≡ q = (ls.places.same r q).0 e in
-        (ls.words (bare (s.lps p).call.held) (bare hs) s.world (turned-round (bare hs) (bare (s.lps p).call.held) apart)).tries_reads q v one.tries (subst (λ (z : WordPlace). Reads (bare hs) s.world z v) r-is reads)
-
-    no-owed : (hs : List Held) (r : WordPlace) (g : Grade) → Apart (bare hs) (bare (s.lps p).call.held) → Owes (bare hs) s.world r g → same_place r q ≡ true → ⊥
-    no-owed hs r g apart owes e =
-        let r-is : r ≡ q = (ls.places.same r q).0 e in
-        (ls.words (bare (s.lps p).call.held) (bare hs) s.world (turned-round (bare hs) (bare (s.lps p).call.held) apart)).tries_owes q g one.tries (subst (λ (z : WordPlace). Owes (bare hs) s.world z g) r-is owes)
-
-    no-filled : (hs : List Held) (r : WordPlace) → Apart (bare hs) (bare (s.lps p).call.held) → Fills (bare hs) s.world r → same_place r q ≡ true → ⊥
-    no-filled hs r apart fills e =
-        let r-is : r ≡ q = (ls.places.same r q).0 e in
-        (ls.words (bare (s.lps p).call.held) (bare hs) s.world (turned-round (bare hs) (bare (s.lps p).call.held) apart)).tries_fills q one.tries (subst (λ (z : WordPlace). Fills (bare hs) s.world z) r-is fills)
-
-    elsewhere : (r : WordPlace) → IsIn m r → (same_place r q ≡ true → ⊥) → t'.words (address m.pages r) ≡ t.words (address m.pages r)
-    elsewhere r in_r not-q = by (same_place r q) refl
-      where
-        by : (b : Bool) → same_place r q ≡ b → t'.words (address m.pages r) ≡ t.words (address m.pages r)
-        by true e = absurd (not-q e)
-        by false e = step-elsewhere ls.places m t.words st q r one.inside in_r one.at e
-
-    owes-same : (k : ℕ) (r : WordPlace) → last_at (pos k).owes r ≡ last_at (put pos p now k).owes r
-    owes-same k r = by (k == p) refl
-      where
-        by : (b : Bool) → (k == p) ≡ b → last_at (pos k).owes r ≡ last_at (put pos p now k).owes r
-        by true e =
-            let k-is : k ≡ p = eqb-true k p e in
-            ap (λ (z : ℕ). last_at (pos z).owes r) k-is ∙ (ap (λ (ds : List Due). last_at ds r) none ∙ sym (ap (λ (z : Position). last_at z.owes r) (ap (put pos p now) k-is ∙ put_here pos p now)))
-        by false e = sym (ap (λ (z : Position). last_at z.owes r) (at-other pos p k now e))
-
-    laid-after : (r : WordPlace) → IsIn m r → after.mem.words r ≡ laid (length o.calls) (λ k. (put pos p now k).owes) (on_table m t') r
-    laid-after r in_r = by (same_place r q) refl
-      where
-        by : (b : Bool) → same_place r q ≡ b → after.mem.words r ≡ laid (length o.calls) (λ k. (put pos p now k).owes) (on_table m t') r
-        by true e =
-            let r-is : r ≡ q = (ls.places.same r q).0 e in
-            let made : after.mem.words q ≡ t'.words (address m.pages q) = sym (after.memory.words q one.inside) ∙ sym (step-same t.words tV.words st (address m.pages q) one.at virtual) in
-            let none' = laid-none (length o.calls) (λ k. (put pos p now k).owes) (on_table m t') q (λ k j. sym (owes-same k q) ∙ none-at k j) in
-            subst (λ (z : WordPlace). after.mem.words z ≡ laid (length o.calls) (λ k. (put pos p now k).owes) (on_table m t') z) (sym r-is) (made ∙ sym none')
-        by false e =
-            by-place r in_r (λ h. cc)
-            ∙ (sd.laid_is r in_r
-            ∙ laid-same (length o.calls) (λ k. (pos k).owes) (λ k. (put pos p now k).owes) (on_table m t) (on_table m t') r (λ k j. owes-same k r)
-            (sym (step-elsewhere ls.places m t.words st q r one.inside in_r one.at e)))
+              respects = subst (λ (w : World). Respects (bare (s.lps p).call.held) s.world w) (sym world-stays) (ls.compose.same (bare (s.lps p).call.held) s.world);
+              looks = λ hs v r apart in_r reads. ap (look v) (as-it-was r in_r (λ e. absurd (never-read hs v r apart reads e)));
+              still = λ hs r g apart in_r owes. sym (elsewhere r in_r (λ e. never-owed hs r g apart owes e));
+              filled = λ hs r apart in_r fills. (sym (elsewhere r in_r (λ e. never-filled hs r apart fills e)), as-it-was r in_r (λ e. absurd (never-filled hs r apart fills e)));
+            })
+            (record { word = step-made.shown.word; hasher = λ h. subst (λ (w : World). IsAs (hasher_cell w h) (mem.slots h)) (sym world-stays) (sd.shows.hasher h) }) refl
+            (slots-event ls o trees s mem t t.slots pos p mem.slots [] its_position known sd i no-swaps
+            (record {
+              respects = subst (λ (w : World). Respects (bare (s.lps p).call.held) s.world w) (sym world-stays) (ls.compose.same (bare (s.lps p).call.held) s.world);
+              there = sd.slots.there;
+              makes = λ h in_h. refl;
+              written = λ h x e. cc;
+              may = tt;
+              held = λ x. tt;
+            }))
+            (record {
+              stands = stands-after o trees p c cs (s.lps p) (event o s p) shown_after run' run'.hasher result.reply lines step-made one.hand.trying
+                  tdrs-stay rs replies;
+              due = tt;
+            })
+            tdrs-stay
+            laid-after;
+      }

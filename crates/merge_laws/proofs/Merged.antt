@@ -70,139 +70,149 @@ turn-piece ls o trees s mem t pos p c cs run run' e tp tps end_ piece ps a none 
         came-as o trees p s t pos (Marked x) piece (joined tps) ps end_ h'
         (free-piece ls o trees s mem t pos p c cs run run' si.items e r tps end_ a none st si.turn both.0 both.1 (answers-as t (Marked x) piece (joined tps) ps h' an) own)
 
--- the next piece of what a processor has still to do
-next-piece : (ls : Laws) (o : Opening) (trees : ℕ → Call → Tree) (s : State) (mem : Memory) (t : Table) (pos : ℕ → Position) (p : ℕ) (end_ : WordLp) (piece : Piece) (ps : List Piece) → AreTrees o trees → Known o s → Stands o trees s mem t pos → p < length o.calls
-    → RestOf o trees p (pos p) (piece ∷ ps) end_ → PieceAnswers t piece → Came o trees p s t pos piece ps end_
-next-piece ls o trees s mem t pos p end_ piece ps are known sd i rest an = by-fill (pos p).fill (pos p).at.lines (pos p).at.run refl refl refl rest
-  where
-    h : Holds o trees p s.world mem.words (on_table o.machine t) (s.lps p) (pos p)
-    h = sd.holds p i
+-- a processor, and the next piece of what it has still to do
+module _ (ls : Laws) (o : Opening) (trees : ℕ → Call → Tree) (s : State) (mem : Memory) (t : Table) (pos : ℕ → Position) (p : ℕ) (end_ : WordLp) (piece : Piece) (ps : List Piece) (are : AreTrees o trees) (known : Known o s) (sd : Stands o trees s mem t pos)
+    (i : p < length o.calls) (an : PieceAnswers t piece) where
+  -- how the processor stands
+  processor-stands : Holds o trees p s.world mem.words (on_table o.machine t) (s.lps p) (pos p)
+  processor-stands = sd.holds p i
 
-    runs-at : (c : Call) (cs : List Call) → (pos p).at.lines ≡ c ∷ cs → (run : Standing) → running (leaf_for o trees p c) (pos p).at.run ≡ run → RunsAt o (leaf_for o trees p c) (row_of o p c) s.world mem.words (s.lps p) run
-    runs-at c cs l run is = subst (λ (z : Standing). RunsAt o (leaf_for o trees p c) (row_of o p c) s.world mem.words (s.lps p) z) is (line-runs o trees p c cs s.world mem.words (s.lps p) (pos p).at h.stands l)
+  -- the run that its first line is at
+  runs-at : (c : Call) (cs : List Call) → (pos p).at.lines ≡ c ∷ cs → (run : Standing) → running (leaf_for o trees p c) (pos p).at.run ≡ run → RunsAt o (leaf_for o trees p c) (row_of o p c) s.world mem.words (s.lps p) run
+  runs-at c cs l run is = subst (λ (z : Standing). RunsAt o (leaf_for o trees p c) (row_of o p c) s.world mem.words (s.lps p) z) is (line-runs o trees p c cs s.world mem.words (s.lps p) (pos p).at processor-stands.stands l)
 
-    at-turn : (c : Call) (cs : List Call) → (pos p).at.lines ≡ c ∷ cs → (run : Standing) → running (leaf_for o trees p c) (pos p).at.run ≡ run → has_ended run.stage run.held ≡ false → (pos p).swaps ≡ [] → (hand : Hand) → IsHand run.hasher hand
-        → AtTurn o trees s mem t pos p c cs run
-    at-turn c cs l run is going no-swaps hand in-hand =
-        let runs = runs-at c cs l run is in
-        record {
-          are = are;
-          known = known;
-          all = sd;
-          inside = i;
-          lines = h.stands.lines ∙ l;
-          replies = h.stands.replies;
-          runs = runs;
-          hand = record { hand = hand; is = in-hand; trying = runs.trying };
-          no_swaps = no-swaps;
-          going = going;
-        }
+  -- its turn on that line
+  at-turn : (c : Call) (cs : List Call) → (pos p).at.lines ≡ c ∷ cs → (run : Standing) → running (leaf_for o trees p c) (pos p).at.run ≡ run → has_ended run.stage run.held ≡ false → (pos p).swaps ≡ [] → (hand : Hand) → IsHand run.hasher hand
+      → AtTurn o trees s mem t pos p c cs run
+  at-turn c cs l run is going no-swaps hand in-hand =
+      let runs = runs-at c cs l run is in
+      record {
+        are = are;
+        known = known;
+        all = sd;
+        inside = i;
+        lines = processor-stands.stands.lines ∙ l;
+        replies = processor-stands.stands.replies;
+        runs = runs;
+        hand = record { hand = hand; is = in-hand; trying = runs.trying };
+        no_swaps = no-swaps;
+        going = going;
+      }
 
-    -- the hasher in hand of the run that goes on, or of one that begins
-    in-hand : (c : Call) (r : Option Standing) (last : Option Measure) (hand : Hand) → HasInHand r last → IsHand last hand → (x : Hand) × IsHand (running (leaf_for o trees p c) r).hasher x
-    in-hand c None last hand e k = (None, tt)
-    in-hand c (Some r) last hand e k = (hand, subst (λ (z : Option Measure). IsHand z hand) (sym e) k)
+  -- the hasher in hand of the run that goes on, or of one that begins
+  has-in-hand : (c : Call) (r : Option Standing) (last : Option Measure) (hand : Hand) → HasInHand r last → IsHand last hand → (x : Hand) × IsHand (running (leaf_for o trees p c) r).hasher x
+  has-in-hand c None last hand e k = (None, tt)
+  has-in-hand c (Some r) last hand e k = (hand, subst (λ (z : Option Measure). IsHand z hand) (sym e) k)
 
-    line : (cs : List Call) → (pos p).at.lines ≡ cs → (pos p).owes ≡ [] → (pos p).swaps ≡ [] → (last : Option Measure) (hand : Hand) → HasInHand (pos p).at.run last → IsHand last hand
-        → (e : RunEvent) (tp : List Piece) (tps : List (List Piece)) (after : WordLp) → LinesTurn (leaf_for o trees p) o.machine cs (pos p).at.run (pos p).at.replies e tp after
-        → OwnTurns (leaf_for o trees p) o.machine after tps end_ → Heads tp tps piece ps → Came o trees p s t pos piece ps end_
-    line [] l none no-swaps last hand has k e tp tps after lt own hd = absurd lt
-    line (c ∷ cs) l none no-swaps last hand has k e tp tps after lt own hd =
-        let held = in-hand c (pos p).at.run last hand has k in
-        turn-piece ls o trees s mem t pos p c cs (running (leaf_for o trees p c) (pos p).at.run) lt.stands e tp tps end_ piece ps
-        (at-turn c cs l (running (leaf_for o trees p c) (pos p).at.run) refl lt.going no-swaps held.0 held.1) none lt.turn
-        (subst (λ (z : WordLp). OwnTurns (leaf_for o trees p) o.machine z tps end_) lt.after_is own) hd an
+  -- the next piece of a turn on the first of these lines
+  next-of-line : (cs : List Call) → (pos p).at.lines ≡ cs → (pos p).owes ≡ [] → (pos p).swaps ≡ [] → (last : Option Measure) (hand : Hand) → HasInHand (pos p).at.run last → IsHand last hand
+      → (e : RunEvent) (tp : List Piece) (tps : List (List Piece)) (after : WordLp) → LinesTurn (leaf_for o trees p) o.machine cs (pos p).at.run (pos p).at.replies e tp after
+      → OwnTurns (leaf_for o trees p) o.machine after tps end_ → Heads tp tps piece ps → Came o trees p s t pos piece ps end_
+  next-of-line [] l none no-swaps last hand has k e tp tps after lt own hd = absurd lt
+  next-of-line (c ∷ cs) l none no-swaps last hand has k e tp tps after lt own hd =
+      let held = has-in-hand c (pos p).at.run last hand has k in
+      turn-piece ls o trees s mem t pos p c cs (running (leaf_for o trees p c) (pos p).at.run) lt.stands e tp tps end_ piece ps
+      (at-turn c cs l (running (leaf_for o trees p c) (pos p).at.run) refl lt.going no-swaps held.0 held.1) none lt.turn
+      (subst (λ (z : WordLp). OwnTurns (leaf_for o trees p) o.machine z tps end_) lt.after_is own) hd an
 
-    turned : (pos p).owes ≡ [] → (pos p).swaps ≡ [] → (last : Option Measure) (hand : Hand) → HasInHand (pos p).at.run last → IsHand last hand → (turns : List (List Piece)) → OwnTurns (leaf_for o trees p) o.machine (pos p).at turns end_ → joined turns ≡ piece ∷ ps
-        → Came o trees p s t pos piece ps end_
-    turned q no-swaps last hand has k [] own f = cc
-    turned q no-swaps last hand has k (tp ∷ tps) own f = line (pos p).at.lines refl q no-swaps last hand has k own.0 tp tps own.1.0 own.1.1 own.1.2 f
+  -- the next piece of these turns
+  next-of-turns : (pos p).owes ≡ [] → (pos p).swaps ≡ [] → (last : Option Measure) (hand : Hand) → HasInHand (pos p).at.run last → IsHand last hand → (turns : List (List Piece)) → OwnTurns (leaf_for o trees p) o.machine (pos p).at turns end_ → joined turns ≡ piece ∷ ps
+      → Came o trees p s t pos piece ps end_
+  next-of-turns q no-swaps last hand has k [] own f = cc
+  next-of-turns q no-swaps last hand has k (tp ∷ tps) own f = next-of-line (pos p).at.lines refl q no-swaps last hand has k own.0 tp tps own.1.0 own.1.1 own.1.2 f
 
-    owing : (pos p).fill ≡ None → (re : Rest o trees p (pos p).at (pos p).owes (pos p).swaps (piece ∷ ps) end_) → (os : List Owed) → re.owed ≡ os → AreOwed o.machine.pages re.hasher re.hand re.items os re.last → Came o trees p s t pos piece ps end_
-    owing n re [] q of =
-        let r = of re.in_hand in
-        turned (re.owes_are ∙ ap stores_in q) (re.swaps_are ∙ ap swaps_in q) re.last re.hand re.last_is r.1 re.turns re.own
-        (ap (λ (z : List Taken). map Quiet z ++ joined re.turns) (sym r.0) ∙ sym re.pieces)
-    owing n re (Stores d ∷ os) q of =
-        let r = of re.in_hand in
-        let y : Taken = Stepped (step.Store (address o.machine.pages d.at) d.word) r.answer in
-        let h' : Quiet y ∷ (map Quiet r.further ++ joined re.turns) ≡ piece ∷ ps = ap (λ (z : List Taken). map Quiet z ++ joined re.turns) (sym r.items) ∙ sym re.pieces in
-        came-as o trees p s t pos (Quiet y) piece (map Quiet r.further ++ joined re.turns) ps end_ h'
-        (record {
-          memory = mem;
-          now = record { at = (pos p).at; owes = stores_in os; swaps = (pos p).swaps; fill = None };
-          stands = owed-step ls o trees s mem t pos p d (stores_in os) known sd i (re.owes_are ∙ ap stores_in q) n;
-          rest = record {
-            owed = os;
-            owes_are = refl;
-            swaps_are = re.swaps_are ∙ ap swaps_in q;
-            hasher = re.hasher;
-            hand = re.hand;
-            in_hand = re.in_hand;
-            items = r.further;
-            last = re.last;
-            are = r.then_;
-            last_is = re.last_is;
-            turns = re.turns;
-            pieces = refl;
-            own = re.own;
-          };
-        })
-    owing n re (Swaps d ∷ os) q of = by (of re.in_hand)
-      where
-        left : (pos p).swaps ≡ d ∷ swaps_in os
-        left = re.swaps_are ∙ ap swaps_in q
+  -- the next piece of what is owed: a store, a swap, or a turn once nothing is
+  next-of-owed : (pos p).fill ≡ None → (re : Rest o trees p (pos p).at (pos p).owes (pos p).swaps (piece ∷ ps) end_) → (os : List Owed) → re.owed ≡ os → AreOwed o.machine.pages re.hasher re.hand re.items os re.last → Came o trees p s t pos piece ps end_
+  next-of-owed n re [] q of =
+      let r = of re.in_hand in
+      next-of-turns (re.owes_are ∙ ap stores_in q) (re.swaps_are ∙ ap swaps_in q) re.last re.hand re.last_is r.1 re.turns re.own
+      (ap (λ (z : List Taken). map Quiet z ++ joined re.turns) (sym r.0) ∙ sym re.pieces)
+  next-of-owed n re (Stores d ∷ os) q of =
+      let r = of re.in_hand in
+      let y : Taken = Stepped (step.Store (address o.machine.pages d.at) d.word) r.answer in
+      let h' : Quiet y ∷ (map Quiet r.further ++ joined re.turns) ≡ piece ∷ ps = ap (λ (z : List Taken). map Quiet z ++ joined re.turns) (sym r.items) ∙ sym re.pieces in
+      came-as o trees p s t pos (Quiet y) piece (map Quiet r.further ++ joined re.turns) ps end_ h'
+      (record {
+        memory = mem;
+        now = record { at = (pos p).at; owes = stores_in os; swaps = (pos p).swaps; fill = None };
+        stands = owed-step ls o trees s mem t pos p d (stores_in os) known sd i (re.owes_are ∙ ap stores_in q) n;
+        rest = record {
+          owed = os;
+          owes_are = refl;
+          swaps_are = re.swaps_are ∙ ap swaps_in q;
+          hasher = re.hasher;
+          hand = re.hand;
+          in_hand = re.in_hand;
+          items = r.further;
+          last = re.last;
+          are = r.then_;
+          last_is = re.last_is;
+          turns = re.turns;
+          pieces = refl;
+          own = re.own;
+        };
+      })
+  next-of-owed n re (Swaps d ∷ os) q of = by (of re.in_hand)
+    where
+      left : (pos p).swaps ≡ d ∷ swaps_in os
+      left = re.swaps_are ∙ ap swaps_in q
 
-        may : SwapsMay o.machine (bare (s.lps p).call.held) s.world sd.slots.now (d ∷ swaps_in os)
-        may = subst (λ (z : List SwapDue). SwapsMay o.machine (bare (s.lps p).call.held) s.world sd.slots.now z) left (sd.slots.may p i)
+      may : SwapsMay o.machine (bare (s.lps p).call.held) s.world sd.slots.now (d ∷ swaps_in os)
+      may = subst (λ (z : List SwapDue). SwapsMay o.machine (bare (s.lps p).call.held) s.world sd.slots.now z) left (sd.slots.may p i)
 
-        by : FirstSwaps re.items d (λ k ys. AreOwed o.machine.pages k d.taken ys os re.last) ⊎ FirstMisses re.items d → Came o trees p s t pos piece ps end_
-        by (inr r) =
-            let y : Taken = Missed (d.hkid - 1) in
-            let h' : Quiet y ∷ (map Quiet r.further ++ joined re.turns) ≡ piece ∷ ps = ap (λ (z : List Taken). map Quiet z ++ joined re.turns) (sym r.items) ∙ sym re.pieces in
-            absurd (answers-as t (Quiet y) piece (map Quiet r.further ++ joined re.turns) ps h' an)
-        by (inl r) =
-            let y : Taken = Swapped (d.hkid - 1) r.put r.taken in
-            let h' : Quiet y ∷ (map Quiet r.further ++ joined re.turns) ≡ piece ∷ ps = ap (λ (z : List Taken). map Quiet z ++ joined re.turns) (sym r.items) ∙ sym re.pieces in
-            let took : r.taken ≡ t.slots (d.hkid - 1) = answers-as t (Quiet y) piece (map Quiet r.further ++ joined re.turns) ps h' an in
-            came-as o trees p s t pos (Quiet y) piece (map Quiet r.further ++ joined re.turns) ps end_ h'
-            (record {
-              memory = mem;
-              now = record { at = (pos p).at; owes = (pos p).owes; swaps = swaps_in os; fill = None };
-              stands = swap-step ls o trees s mem t pos p d (swaps_in os) r.put known sd i left n r.is_put;
-              rest = record {
-                owed = os;
-                owes_are = re.owes_are ∙ ap stores_in q;
-                swaps_are = refl;
-                hasher = r.taken;
-                hand = d.taken;
-                in_hand = subst (λ (z : Option Measure). IsHand z d.taken) (sym took) (subst (λ (z : Hand). IsHand (t.slots (d.hkid - 1)) z) (sym may.0.2) (sd.slots.there d.hkid may.0.0));
-                items = r.further;
-                last = re.last;
-                are = r.then_;
-                last_is = re.last_is;
-                turns = re.turns;
-                pieces = refl;
-                own = re.own;
-              };
-            })
+      by : FirstSwaps re.items d (λ k ys. AreOwed o.machine.pages k d.taken ys os re.last) ⊎ FirstMisses re.items d → Came o trees p s t pos piece ps end_
+      by (inr r) =
+          let y : Taken = Missed (d.hkid - 1) in
+          let h' : Quiet y ∷ (map Quiet r.further ++ joined re.turns) ≡ piece ∷ ps = ap (λ (z : List Taken). map Quiet z ++ joined re.turns) (sym r.items) ∙ sym re.pieces in
+          absurd (answers-as t (Quiet y) piece (map Quiet r.further ++ joined re.turns) ps h' an)
+      by (inl r) =
+          let y : Taken = Swapped (d.hkid - 1) r.put r.taken in
+          let h' : Quiet y ∷ (map Quiet r.further ++ joined re.turns) ≡ piece ∷ ps = ap (λ (z : List Taken). map Quiet z ++ joined re.turns) (sym r.items) ∙ sym re.pieces in
+          let took : r.taken ≡ t.slots (d.hkid - 1) = answers-as t (Quiet y) piece (map Quiet r.further ++ joined re.turns) ps h' an in
+          came-as o trees p s t pos (Quiet y) piece (map Quiet r.further ++ joined re.turns) ps end_ h'
+          (record {
+            memory = mem;
+            now = record { at = (pos p).at; owes = (pos p).owes; swaps = swaps_in os; fill = None };
+            stands = swap-step ls o trees s mem t pos p d (swaps_in os) r.put known sd i left n r.is_put;
+            rest = record {
+              owed = os;
+              owes_are = re.owes_are ∙ ap stores_in q;
+              swaps_are = refl;
+              hasher = r.taken;
+              hand = d.taken;
+              in_hand = subst (λ (z : Option Measure). IsHand z d.taken) (sym took) (subst (λ (z : Hand). IsHand (t.slots (d.hkid - 1)) z) (sym may.0.2) (sd.slots.there d.hkid may.0.0));
+              items = r.further;
+              last = re.last;
+              are = r.then_;
+              last_is = re.last_is;
+              turns = re.turns;
+              pieces = refl;
+              own = re.own;
+            };
+          })
 
-    filling : (f : Fill) → (pos p).fill ≡ Some f → (c : Call) (cs : List Call) → (pos p).at.lines ≡ c ∷ cs → (run : Standing) → (pos p).at.run ≡ Some run → RestFilling o trees p c cs (pos p).at.replies (pos p).swaps run f (piece ∷ ps) end_
-        → Came o trees p s t pos piece ps end_
-    filling f n c cs l run r re =
-        let due : Pending o.machine (bare (s.lps p).call.held) s.world mem.words (on_table o.machine t) (pos p).owes (Some run) (Some f) =
-        subst (λ (z : Option Standing). Pending o.machine (bare (s.lps p).call.held) s.world mem.words (on_table o.machine t) (pos p).owes z (Some f)) r
-        (subst (λ (z : Option Fill). Pending o.machine (bare (s.lps p).call.held) s.world mem.words (on_table o.machine t) (pos p).owes (pos p).at.run z) n h.due) in
-        let going : has_ended run.stage run.held ≡ false = ap (λ (z : Stage). has_ended z run.held) due.at_end.0 in
-        let is : running (leaf_for o trees p c) (pos p).at.run ≡ run = ap (running (leaf_for o trees p c)) r in
-        let none : IsHand run.hasher None = subst (λ (z : Option Measure). IsHand z None) (sym ((runs-at c cs l run is).trying due.at_end.0)) tt in
-        fill-piece ls o trees s mem t pos p c cs run f end_ piece ps (at-turn c cs l run is going re.no_swaps None none) due re an
+  -- the next piece of a fill that goes on
+  next-of-fill : (f : Fill) → (pos p).fill ≡ Some f → (c : Call) (cs : List Call) → (pos p).at.lines ≡ c ∷ cs → (run : Standing) → (pos p).at.run ≡ Some run → RestFilling o trees p c cs (pos p).at.replies (pos p).swaps run f (piece ∷ ps) end_
+      → Came o trees p s t pos piece ps end_
+  next-of-fill f n c cs l run r re =
+      let due : Pending o.machine (bare (s.lps p).call.held) s.world mem.words (on_table o.machine t) (pos p).owes (Some run) (Some f) =
+      subst (λ (z : Option Standing). Pending o.machine (bare (s.lps p).call.held) s.world mem.words (on_table o.machine t) (pos p).owes z (Some f)) r
+      (subst (λ (z : Option Fill). Pending o.machine (bare (s.lps p).call.held) s.world mem.words (on_table o.machine t) (pos p).owes (pos p).at.run z) n processor-stands.due) in
+      let going : has_ended run.stage run.held ≡ false = ap (λ (z : Stage). has_ended z run.held) due.at_end.0 in
+      let is : running (leaf_for o trees p c) (pos p).at.run ≡ run = ap (running (leaf_for o trees p c)) r in
+      let none : IsHand run.hasher None = subst (λ (z : Option Measure). IsHand z None) (sym ((runs-at c cs l run is).trying due.at_end.0)) tt in
+      fill-piece ls o trees s mem t pos p c cs run f end_ piece ps (at-turn c cs l run is going re.no_swaps None none) due re an
 
-    by-fill : (f : Option Fill) (cs : List Call) (r : Option Standing) → (pos p).fill ≡ f → (pos p).at.lines ≡ cs → (pos p).at.run ≡ r → RestBy o trees p (pos p) (piece ∷ ps) end_ f cs r → Came o trees p s t pos piece ps end_
-    by-fill None cs r n l q re = owing n re re.owed refl re.are
-    by-fill (Some f) (c ∷ cs) (Some run) n l q re = filling f n c cs l run q re
-    by-fill (Some f) [] r n l q re = absurd re
-    by-fill (Some f) (c ∷ cs) None n l q re = absurd re
+  -- the next piece, whether a fill goes on or not
+  next-by-fill : (f : Option Fill) (cs : List Call) (r : Option Standing) → (pos p).fill ≡ f → (pos p).at.lines ≡ cs → (pos p).at.run ≡ r → RestBy o trees p (pos p) (piece ∷ ps) end_ f cs r → Came o trees p s t pos piece ps end_
+  next-by-fill None cs r n l q re = next-of-owed n re re.owed refl re.are
+  next-by-fill (Some f) (c ∷ cs) (Some run) n l q re = next-of-fill f n c cs l run q re
+  next-by-fill (Some f) [] r n l q re = absurd re
+  next-by-fill (Some f) (c ∷ cs) None n l q re = absurd re
+
+  -- the next piece comes of what is left
+  next-piece : RestOf o trees p (pos p) (piece ∷ ps) end_ → Came o trees p s t pos piece ps end_
+  next-piece rest = next-by-fill (pos p).fill (pos p).at.lines (pos p).at.run refl refl refl rest
 
 -- what is known of the state after an event
 
@@ -269,7 +279,7 @@ through ls o trees (i ∷ is) s mem t u pos ends most are known sd rests others 
     by (inl inside) further =
         let p = i.lp in
         let played = plays-piece t u i.piece (steps_taken is) plays in
-        let came = next-piece ls o trees s mem t pos p (ends p) i.piece (part p is) are known sd inside (subst (λ (z : List Piece). RestOf o trees p (pos p) z (ends p)) (part-own i is) (rests p inside)) played.0 in
+        let came = next-piece ls o trees s mem t pos p (ends p) i.piece (part p is) are known sd inside played.0 (subst (λ (z : List Piece). RestOf o trees p (pos p) z (ends p)) (part-own i is) (rests p inside)) in
         subst (λ (z : State). Through o trees z u ends) (sym (order-plays o i.piece p (order is) s))
         (further (state_after o s p i.piece) came.memory (table_after t i.piece) (put pos p came.now) (known-after ls o s p i.piece most known) came.stands
         (λ k j. rest k j came (k == p) refl)
