@@ -9,10 +9,10 @@ use Rattle.leaf_engine.specs.declared.needs.Need.TheVariants as need
 use Rattle.leaf_engine.specs.declared.needs.Write.{Write}
 use Rattle.leaf_engine.specs.Changes.{Change}
 use Rattle.leaf_engine.specs.Trees.{Tree, Lock, Load, Test, End, Since, settle, fed, passed}
-use Rattle.leaf_engine.specs.Decides.{Gives, HandsNext}
+use Rattle.leaf_engine.specs.Decides.{Wants, HandsNext}
 use Rattle.leaf_engine.specs.Items.{IsLoadAt, IsLoaded, IsWritten, IsChanged, AreChanged}
 
-pub loaded : (n : ℕ) (s : Tree) (at : ℕ) → Gives n s (need.Load at) → IsLoadAt n s at × (passed s ≡ s)
+pub loaded : (n : ℕ) (s : Tree) (at : ℕ) → Wants n s (need.Load at) → IsLoadAt n s at × (passed s ≡ s)
 loaded n (Load v q k) at h = (cc, refl)
 loaded n (Lock l q m t) at h = cc
 loaded n (End r fs cs) at h = cc

@@ -13,9 +13,9 @@ use Rattle.leaf_engine.specs.declared.plans.Stop.TheVariants as stop
 use Rattle.leaf_engine.specs.declared.plans.Verdict.{Verdict}
 use Rattle.word_rules.specs.Views.{look}
 use Rattle.leaf_engine.specs.Changes.{Hand, Change, Put, PutHash, Raise, Clear, Copy, Swap, is_plain, are_plain}
-use Rattle.leaf_engine.specs.Trees.{Tree, Lock, Load, Test, End, Since, feed, settle, passed, changes_of, left_of}
+use Rattle.leaf_engine.specs.Trees.{Tree, Lock, Load, Test, End, Since, feed, settle, passed, changes_of, changes_left}
 use Rattle.leaf_engine.specs.Inside.{WriteInside, WritesInside}
-use Rattle.leaf_engine.specs.Decides.{Decides, Gives, need_for, write_of, hand_for, IsHand, HandsNext}
+use Rattle.leaf_engine.specs.Decides.{Decides, Wants, need_for, write_of, hand_for, IsHand, HandsNext}
 
 pub feed-append : (t : Tree) (xs ys : List ℕ) → feed (feed t xs) ys ≡ feed t (xs ++ ys)
 feed-append (Lock l q m t) [] ys = refl
@@ -30,7 +30,7 @@ feed-append (Since r cs) xs ys = refl
 pub settled : (t : Tree) (xs : List ℕ) → settle (feed t xs) ≡ feed t xs
 settled t xs = feed-append t xs [] ∙ ap (feed t) (append-nil xs)
 
-decides-gives : (n : ℕ) (t : Tree) (xs : List ℕ) (r : Result Verdict Stop) → Decides n t xs r → Gives n (feed t xs) (need_for r)
+decides-gives : (n : ℕ) (t : Tree) (xs : List ℕ) (r : Result Verdict Stop) → Decides n t xs r → Wants n (feed t xs) (need_for r)
 decides-gives n (Lock l q m t) [] r h = ap need_for h
 decides-gives n (Lock l q m t) (x ∷ xs) r h = decides-gives n t xs r h
 decides-gives n (Load v q k) [] r h = ap need_for h
@@ -48,7 +48,7 @@ NoLock (Err (stop.Lock name at mode)) = ⊥
 NoLock (Err (stop.Load at)) = Unit {0}
 NoLock (Err (stop.Refused reply)) = Unit {0}
 
-kept : (n : ℕ) (s : Tree) (r : Result Verdict Stop) → Gives n s (need_for r) → NoLock r → s ≡ passed s
+kept : (n : ℕ) (s : Tree) (r : Result Verdict Stop) → Wants n s (need_for r) → NoLock r → s ≡ passed s
 kept n (Load v q k) r h g = refl
 kept n (Lock l q m t) (Ok v) h g = cc
 kept n (Lock l q m t) (Err (stop.Lock name at mode)) h g = absurd g
@@ -58,7 +58,7 @@ kept n (End reply fs cs) r h g = refl
 kept n (Since reply cs) r h g = refl
 kept n (Test b out t) r h g = absurd h
 
-locked : (n : ℕ) (s : Tree) (name : LockName) (at : ℕ) (m : Mode) → Gives n s (need.Lock name at m) → feed s (0 ∷ []) ≡ passed s
+locked : (n : ℕ) (s : Tree) (name : LockName) (at : ℕ) (m : Mode) → Wants n s (need.Lock name at m) → feed s (0 ∷ []) ≡ passed s
 locked n (Load v q k) name at m h = cc
 locked n (Lock l q m' t) name at m h = refl
 locked n (End reply fs cs) name at m h = cc
@@ -66,7 +66,7 @@ locked n (Since reply cs) name at m h = cc
 locked n (Test b out t) name at m h = absurd h
 
 -- the need that a decision gives, and what is left then
-pub decided : (n : ℕ) (t : Tree) (xs : List ℕ) (r : Result Verdict Stop) → Decides n t xs r → Gives n (settle (feed t xs)) (need_for r)
+pub decided : (n : ℕ) (t : Tree) (xs : List ℕ) (r : Result Verdict Stop) → Decides n t xs r → Wants n (settle (feed t xs)) (need_for r)
 decided n t xs r h = rw (settled t xs) (decides-gives n t xs r h)
 
 pub decided-kept : (n : ℕ) (t : Tree) (xs : List ℕ) (r : Result Verdict Stop) → Decides n t xs r → NoLock r → feed t xs ≡ passed (settle (feed t xs))
@@ -104,7 +104,7 @@ drop_none : (k : ℕ) → drop {A = Change} k [] ≡ []
 drop_none zero = refl
 drop_none (suc k) = refl
 
-pub left-none : (n : ℕ) (t : Tree) (xs : List ℕ) (e : Stop) (k : ℕ) → Decides n t xs (Err e) → left_of (feed t xs) k ≡ []
+pub left-none : (n : ℕ) (t : Tree) (xs : List ℕ) (e : Stop) (k : ℕ) → Decides n t xs (Err e) → changes_left (feed t xs) k ≡ []
 left-none n t xs e k h = rw (decided-none n t xs e h) (drop_none k)
 
 -- the next one, of those that are left

@@ -11,10 +11,10 @@ use Rattle.leaf_engine.specs.declared.events.Event.{Event}
 use Rattle.leaf_engine.specs.declared.events.Stage.{Stage}
 use Rattle.leaf_engine.specs.declared.events.Stage.TheVariants as stages
 use Rattle.leaf_engine.specs.Trees.{Tree, Lock, Load, Test, End, Since, settle, passed, changes_of}
-use Rattle.leaf_engine.specs.Decides.{Gives}
+use Rattle.leaf_engine.specs.Decides.{Wants}
 use Rattle.leaf_engine.specs.Items.{AreChanged}
 use Rattle.leaf_engine.specs.Turns.{Standing, Comes, TurnBy}
-use Rattle.leaf_engine.specs.OwnLists.{Piece, Quiet, Marked, Wordless, taken_in, items_in, last_marked, marked_behind, act_pieces, pieces_for, behind, TurnIn, events_among, TurnsInPieces}
+use Rattle.leaf_engine.specs.OwnLists.{Piece, Unmarked, Marked, Wordless, taken_in, items_in, last_marked, marked_behind, act_pieces, pieces_for, behind, TurnIn, events_among, TurnsInPieces}
 
 -- what pieces take, and how many events are among them
 
@@ -28,11 +28,11 @@ last-one [] = refl
 last-one (x ∷ []) = refl
 last-one (x ∷ y ∷ xs) = last-one (y ∷ xs)
 
-quiet-taken : (xs : List Taken) → taken_in (map Quiet xs) ≡ xs
+quiet-taken : (xs : List Taken) → taken_in (map Unmarked xs) ≡ xs
 quiet-taken [] = refl
 quiet-taken (x ∷ xs) = ap (λ (zs : List Taken). x ∷ zs) (quiet-taken xs)
 
-quiet-none : (xs : List Taken) → events_among (map Quiet xs) ≡ 0
+quiet-none : (xs : List Taken) → events_among (map Unmarked xs) ≡ 0
 quiet-none [] = refl
 quiet-none (x ∷ xs) = quiet-none xs
 
@@ -46,23 +46,23 @@ marked-one n [] = refl
 marked-one zero (x ∷ xs) = ap suc (quiet-none xs)
 marked-one (suc n) (x ∷ xs) = marked-one n xs
 
-after-quiet : (xs : List Taken) (ps : List Piece) → taken_in (map Quiet xs ++ ps) ≡ xs ++ taken_in ps
+after-quiet : (xs : List Taken) (ps : List Piece) → taken_in (map Unmarked xs ++ ps) ≡ xs ++ taken_in ps
 after-quiet [] ps = refl
 after-quiet (x ∷ xs) ps = ap (λ (zs : List Taken). x ∷ zs) (after-quiet xs ps)
 
-after-quiet-one : (xs : List Taken) (ps : List Piece) → events_among (map Quiet xs ++ ps) ≡ events_among ps
+after-quiet-one : (xs : List Taken) (ps : List Piece) → events_among (map Unmarked xs ++ ps) ≡ events_among ps
 after-quiet-one [] ps = refl
 after-quiet-one (x ∷ xs) ps = after-quiet-one xs ps
 
-before-quiet : (ps : List Piece) (xs : List Taken) → taken_in (ps ++ map Quiet xs) ≡ taken_in ps ++ xs
+before-quiet : (ps : List Piece) (xs : List Taken) → taken_in (ps ++ map Unmarked xs) ≡ taken_in ps ++ xs
 before-quiet [] xs = quiet-taken xs
-before-quiet (Quiet y ∷ ps) xs = ap (λ (zs : List Taken). y ∷ zs) (before-quiet ps xs)
+before-quiet (Unmarked y ∷ ps) xs = ap (λ (zs : List Taken). y ∷ zs) (before-quiet ps xs)
 before-quiet (Marked y ∷ ps) xs = ap (λ (zs : List Taken). y ∷ zs) (before-quiet ps xs)
 before-quiet (Wordless ∷ ps) xs = before-quiet ps xs
 
-before-quiet-one : (ps : List Piece) (xs : List Taken) → events_among (ps ++ map Quiet xs) ≡ events_among ps
+before-quiet-one : (ps : List Piece) (xs : List Taken) → events_among (ps ++ map Unmarked xs) ≡ events_among ps
 before-quiet-one [] xs = quiet-none xs
-before-quiet-one (Quiet y ∷ ps) xs = before-quiet-one ps xs
+before-quiet-one (Unmarked y ∷ ps) xs = before-quiet-one ps xs
 before-quiet-one (Marked y ∷ ps) xs = ap suc (before-quiet-one ps xs)
 before-quiet-one (Wordless ∷ ps) xs = ap suc (before-quiet-one ps xs)
 
@@ -72,7 +72,7 @@ behind-are (l ∷ loads) changes = behind-are loads changes
 
 -- at the end of a leaf
 
-act-taken : (m : Machine) (t : Tree) (reply : Reply) (loads changes : List Taken) (h h' : Option Measure) → Gives m.pages t (need.Verdict reply) → AreChanged m (changes_of (passed t)) h changes h'
+act-taken : (m : Machine) (t : Tree) (reply : Reply) (loads changes : List Taken) (h h' : Option Measure) → Wants m.pages t (need.Verdict reply) → AreChanged m (changes_of (passed t)) h changes h'
     → taken_in (act_pieces (passed t) loads changes) ≡ loads ++ changes
 act-taken m (Lock l q mode t) reply loads changes h h' g c = cc
 act-taken m (Load v q k) reply loads changes h h' g c = cc
@@ -83,7 +83,7 @@ act-taken m (End r (f ∷ fs) cs) reply loads changes h h' g c =
     after-quiet loads (marked_behind (items_in (f ∷ fs)) changes) ∙ ap (λ (zs : List Taken). loads ++ zs) (marked-taken (items_in (f ∷ fs)) changes)
 act-taken m (Since r cs) reply loads changes h h' g c = before-quiet (last_marked loads) changes ∙ ap (λ (zs : List Taken). zs ++ changes) (last-taken loads)
 
-act-one : (n : ℕ) (t : Tree) (reply : Reply) (loads changes : List Taken) → Gives n t (need.Verdict reply) → events_among (act_pieces (passed t) loads changes) ≡ 1
+act-one : (n : ℕ) (t : Tree) (reply : Reply) (loads changes : List Taken) → Wants n t (need.Verdict reply) → events_among (act_pieces (passed t) loads changes) ≡ 1
 act-one n (Lock l q mode t) reply loads changes g = cc
 act-one n (Load v q k) reply loads changes g = cc
 act-one n (Test b out t) reply loads changes g = absurd g
@@ -94,7 +94,7 @@ act-one n (Since r cs) reply loads changes g = before-quiet-one (last_marked loa
 
 -- on its way
 
-goes-taken : (m : Machine) (s s' : Standing) (xs loads : List Taken) (t : Tree) (n : Need) (e : Event) → Gives m.pages (settle t) n → Comes m s (passed (settle t)) loads xs n s' e
+goes-taken : (m : Machine) (s s' : Standing) (xs loads : List Taken) (t : Tree) (n : Need) (e : Event) → Wants m.pages (settle t) n → Comes m s (passed (settle t)) loads xs n s' e
     → taken_in (pieces_for n (passed (settle t)) loads xs (behind loads xs)) ≡ xs
 goes-taken m s s' xs loads t (need.Lock name at mode) e g c = last-taken xs
 goes-taken m s s' xs loads t (need.Load at) e g c = absurd c
@@ -102,7 +102,7 @@ goes-taken m s s' xs loads t (need.Verdict reply) e g c =
     let left : behind loads xs ≡ c.changes = ap (behind loads) c.items ∙ behind-are loads c.changes in
     ap (λ (zs : List Taken). taken_in (act_pieces (passed (settle t)) loads zs)) left ∙ (act-taken m (settle t) reply loads c.changes s.hasher c.hasher g c.changed ∙ sym c.items)
 
-goes-one : (m : Machine) (s s' : Standing) (xs loads : List Taken) (t : Tree) (n : Need) (e : Event) → Gives m.pages (settle t) n → Comes m s (passed (settle t)) loads xs n s' e
+goes-one : (m : Machine) (s s' : Standing) (xs loads : List Taken) (t : Tree) (n : Need) (e : Event) → Wants m.pages (settle t) n → Comes m s (passed (settle t)) loads xs n s' e
     → events_among (pieces_for n (passed (settle t)) loads xs (behind loads xs)) ≡ 1
 goes-one m s s' xs loads t (need.Lock name at mode) e g c = last-one xs
 goes-one m s s' xs loads t (need.Load at) e g c = absurd c

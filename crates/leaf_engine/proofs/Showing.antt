@@ -24,11 +24,11 @@ use Rattle.word_rules.specs.Views.{look}
 use Rattle.leaf_engine.specs.Changes.{Memory, Change, Put, PutHash, Raise, Clear, Copy, Swap, changed, changed_all}
 use Rattle.leaf_engine.specs.Trees.{Tree, Lock, Load, Test, End, Since, feed, settle, passed, changes_of, has_acted}
 use Rattle.leaf_engine.specs.Means.{Task, Instant, Work, work_of, hold, Locks, MayFillAll, MayOweAll, MayChange, LocksStay, acted}
-use Rattle.leaf_engine.specs.Decides.{Gives, IsHand}
+use Rattle.leaf_engine.specs.Decides.{Wants, IsHand}
 use Rattle.leaf_engine.specs.Items.{IsLoaded, AreChanged}
 use Rattle.leaf_engine.specs.Follows.{granted, Current, NotActed, Comes}
 use Rattle.leaf_engine.specs.Tables.{IsMemory, AreChangesIn}
-use Rattle.leaf_engine.specs.Turns.{Comes as TurnComes, Standing, Tries, Ends, tried, denied, try_step, grants}
+use Rattle.leaf_engine.specs.Turns.{Comes as TurnComes, Standing, Tries, Replies, tried, denied, try_step, grants}
 use Rattle.leaf_engine.specs.Shown.{OnWay, locks_held, move_due, word_tried, lock_tried, TriesRow, EndsRow, TurnShows, TurnsShow}
 use Rattle.leaf_engine.proofs.Decided.{feed-append, settled}
 use Rattle.leaf_engine.proofs.Following.{leaves-follow-rows}
@@ -51,7 +51,7 @@ pub record ComesTo (m : Machine) (c : Instant) (hs : List Held) (n : Move Reply)
   pub stands : Locks m c hs lock (place_of c.state.world lock)
 
 pub comes-to : (m : Machine) (c : Instant) (k : Work) (hs : List Held) (n : Move Reply) (tree : Tree) (name : LockName) (at : ℕ) (mode : Mode) → Comes m c k hs tree n
-    → Gives m.pages tree (need.Lock name at mode) → ComesTo m c hs n tree name at mode
+    → Wants m.pages tree (need.Lock name at mode) → ComesTo m c hs n tree name at mode
 comes-to m c k hs n (Lock l q mode' t) name at mode co g =
     let a : name ≡ name_of l = cc in
     let b : at ≡ address m.pages q = cc in
@@ -138,7 +138,7 @@ not-acted-lock (End r fs cs) told k mode h = absurd h
 not-acted-lock (Since r cs) told k mode h = absurd h
 
 pub is-lock : (m : Machine) (c : Instant) (k : Work) (hs : List Held) (tree : Tree) (l : LockId) (mode : Mode) → Comes m c k hs tree (Attempts l mode) → (name : LockName) (at : ℕ) (mode' : Mode)
-    → Gives m.pages tree (need.Lock name at mode') → IsLock tree l mode
+    → Wants m.pages tree (need.Lock name at mode') → IsLock tree l mode
 is-lock m c k hs (Lock l' q mode'' t) l mode co name at mode' g = (cc (co.0), cc (co.0))
 is-lock m c k hs (Load v q t) l mode co name at mode' g = cc
 is-lock m c k hs (Test b r t) l mode co name at mode' g = absurd g
@@ -197,7 +197,7 @@ shows-append : (m : Machine) (c : Instant) (k : Work) (fs cs : List Change) → 
     → (let mem = changed_all (fs ++ cs) c.memory in Shows m mem.words mem.slots (acted k c.state))
 shows-append m c k fs cs s = subst (λ (mem : Memory). Shows m mem.words mem.slots (acted k c.state)) (sym (changed-append fs cs c.memory)) s
 
-pub ends-with : (m : Machine) (c : Instant) (k : Work) (hs : List Held) (n : Move Reply) (tree : Tree) (reply : Reply) → Comes m c k hs tree n → Gives m.pages tree (need.Verdict reply)
+pub ends-with : (m : Machine) (c : Instant) (k : Work) (hs : List Held) (n : Move Reply) (tree : Tree) (reply : Reply) → Comes m c k hs tree n → Wants m.pages tree (need.Verdict reply)
     → EndsWith m c k hs n tree reply
 ends-with m c k hs n (Lock l q mode t) reply co g = cc
 ends-with m c k hs n (Load v q t) reply co g = cc
@@ -224,7 +224,7 @@ ends-with m c k hs n (Since r cs) reply co g =
 -- the turn
 
 tries-turn : PlacesInjective → (task : Task) (c : Instant) (told : List ℕ) (t u : Table) (s s' : Standing) (loads xs : List Taken) (tree : Tree) (name : LockName) (at : ℕ) (mode : Mode) (e : Event)
-    → OnWay task c told t s → IsLoaded task.place.machine.pages s.rest loads tree → Gives task.place.machine.pages (settle tree) (need.Lock name at mode)
+    → OnWay task c told t s → IsLoaded task.place.machine.pages s.rest loads tree → Wants task.place.machine.pages (settle tree) (need.Lock name at mode)
     → Tries s (passed (settle tree)) loads xs name at mode s' e → PlaysTo t xs u → TurnShows task c told u s s' e
 tries-turn inj task c told t u s s' loads xs tree name at mode e on l g tr p =
     let m = task.place.machine in
@@ -232,7 +232,7 @@ tries-turn inj task c told t u s s' loads xs tree name at mode e on l g tr p =
     let l' : IsLoaded m.pages (feed task.tree told) loads tree = subst (λ (z : Tree). IsLoaded m.pages z loads tree) on.rest l in
     let d = told-more task c told loads (Stepped (try_step at mode) tr.seen ∷ []) tree t u s.hasher on.means on.at on.current l' on.memory (subst (λ (z : List Taken). PlaysTo t z u) tr.items p) in
     let here : settle tree ≡ feed task.tree d.now = ap settle d.rest ∙ settled task.tree d.now in
-    let g' : Gives m.pages (feed task.tree d.now) (need.Lock name at mode) = subst (λ (z : Tree). Gives m.pages z (need.Lock name at mode)) here g in
+    let g' : Wants m.pages (feed task.tree d.now) (need.Lock name at mode) = subst (λ (z : Tree). Wants m.pages z (need.Lock name at mode)) here g in
     let co = leaves-follow-rows task c d.now on.means on.at d.current in
     let to = comes-to m c k (locks_held task d.now) (move_due task c d.now) (feed task.tree d.now) name at mode co g' in
     let co' : Comes m c k (locks_held task d.now) (feed task.tree d.now) (Attempts to.lock mode) = subst (λ (z : Move Reply). Comes m c k (locks_held task d.now) (feed task.tree d.now) z) to.due co in
@@ -293,15 +293,15 @@ tries-turn inj task c told t u s s' loads xs tree name at mode e on l g tr p =
     rest-is = ap (λ (z : Standing). z.rest) tr.after ∙ rest-of (grants mode tr.seen)
 
 ends-turn : PlacesInjective → PagesChangeAlone → (task : Task) (c : Instant) (told : List ℕ) (t u : Table) (s s' : Standing) (loads xs : List Taken) (tree : Tree) (reply : Reply) (e : Event)
-    → OnWay task c told t s → IsLoaded task.place.machine.pages s.rest loads tree → Gives task.place.machine.pages (settle tree) (need.Verdict reply)
-    → Ends task.place.machine s (passed (settle tree)) loads xs reply s' e → PlaysTo t xs u → TurnShows task c told u s s' e
+    → OnWay task c told t s → IsLoaded task.place.machine.pages s.rest loads tree → Wants task.place.machine.pages (settle tree) (need.Verdict reply)
+    → Replies task.place.machine s (passed (settle tree)) loads xs reply s' e → PlaysTo t xs u → TurnShows task c told u s s' e
 ends-turn inj pages task c told t u s s' loads xs tree reply e on l g en p =
     let m = task.place.machine in
     let k = work_of task.meaning in
     let l' : IsLoaded m.pages (feed task.tree told) loads tree = subst (λ (z : Tree). IsLoaded m.pages z loads tree) on.rest l in
     let d = told-more task c told loads en.changes tree t u s.hasher on.means on.at on.current l' on.memory (subst (λ (z : List Taken). PlaysTo t z u) en.items p) in
     let here : settle tree ≡ feed task.tree d.now = ap settle d.rest ∙ settled task.tree d.now in
-    let g' : Gives m.pages (feed task.tree d.now) (need.Verdict reply) = subst (λ (z : Tree). Gives m.pages z (need.Verdict reply)) here g in
+    let g' : Wants m.pages (feed task.tree d.now) (need.Verdict reply) = subst (λ (z : Tree). Wants m.pages z (need.Verdict reply)) here g in
     let co = leaves-follow-rows task c d.now on.means on.at d.current in
     let w = ends-with m c k (locks_held task d.now) (move_due task c d.now) (feed task.tree d.now) reply co g' in
     let it : passed (settle tree) ≡ feed task.tree d.now = ap passed here ∙ w.kept in
@@ -330,7 +330,7 @@ ends-turn inj pages task c told t u s s' loads xs tree reply e on l g en p =
 pub turns-show : PlacesInjective → PagesChangeAlone → TurnsShow
 turns-show inj pages task c told t u s s' xs e on go p = by go.need go.gives go.comes
   where
-    by : (n : Need) → Gives task.place.machine.pages (settle go.tree) n → TurnComes task.place.machine s (passed (settle go.tree)) go.loads xs n s' e → TurnShows task c told u s s' e
+    by : (n : Need) → Wants task.place.machine.pages (settle go.tree) n → TurnComes task.place.machine s (passed (settle go.tree)) go.loads xs n s' e → TurnShows task c told u s s' e
     by (need.Lock name at mode) g co = tries-turn inj task c told t u s s' go.loads xs go.tree name at mode e on go.loaded g co p
     by (need.Load at) g co = absurd co
     by (need.Verdict reply) g co = ends-turn inj pages task c told t u s s' go.loads xs go.tree reply e on go.loaded g co p

@@ -13,10 +13,10 @@ use Rattle.leaf_engine.specs.declared.events.Event.TheVariants as event
 use Rattle.leaf_engine.specs.declared.events.HeldLock.{HeldLock}
 use Rattle.leaf_engine.specs.declared.events.Stage.{Stage}
 use Rattle.leaf_engine.specs.declared.events.Stage.TheVariants as stage
-use Rattle.leaf_engine.specs.Trees.{Tree, settle, passed, changes_of, left_of}
-use Rattle.leaf_engine.specs.Decides.{Gives}
+use Rattle.leaf_engine.specs.Trees.{Tree, settle, passed, changes_of, changes_left}
+use Rattle.leaf_engine.specs.Decides.{Wants}
 use Rattle.leaf_engine.specs.Items.{IsLoaded, AreChanged}
-use Rattle.leaf_engine.specs.Turns.{Standing, standing, tried, denied, try_step, grants, Goes, AreIn, IsStageIn, CanRun}
+use Rattle.leaf_engine.specs.Turns.{Standing, standing, tried, denied, try_step, grants, Advances, AreIn, IsStageIn, CanRun}
 
 -- locks in the machine
 
@@ -43,8 +43,8 @@ tried-is s t rest h true stage' held' p n = (let q = n.stage in let w = n.held i
 tried-is s t rest h false stage' held' p n = (let q = n.stage in let w = n.held in rw (p, q, w) refl)
 
 pub tries-goes : (m : Machine) (s : Standing) (loads : List Taken) (t rest : Tree) (h : HeldLock) (seen : ℕ) (granted : Bool) (stage' : Stage) (held' : List HeldLock)
-    → IsLoaded m.pages s.rest loads t → Gives m.pages (settle t) (need.Lock h.name h.at h.mode) → rest ≡ passed (settle t) → granted ≡ grants h.mode seen → Noted s h granted stage' held'
-    → Goes m s (loads ++ Stepped (try_step h.at h.mode) seen ∷ []) (standing rest stage' held' s.hasher) (event.Try h.name h.mode granted)
+    → IsLoaded m.pages s.rest loads t → Wants m.pages (settle t) (need.Lock h.name h.at h.mode) → rest ≡ passed (settle t) → granted ≡ grants h.mode seen → Noted s h granted stage' held'
+    → Advances m s (loads ++ Stepped (try_step h.at h.mode) seen ∷ []) (standing rest stage' held' s.hasher) (event.Try h.name h.mode granted)
 tries-goes m s loads t rest h seen granted stage' held' l g r b n =
     record {
       loads = loads;
@@ -89,9 +89,9 @@ can-after-try m s rest h tries tries' written written' waits waits' granted stag
 
 -- after the act
 pub ends-goes : (m : Machine) (s : Standing) (loads changes : List Taken) (t rest asked : Tree) (written : ℕ) (reply : Reply) (hasher : Option Measure)
-    → IsLoaded m.pages s.rest loads t → Gives m.pages (settle t) (need.Verdict reply) → asked ≡ passed (settle t) → rest ≡ asked → written ≡ 0
-    → AreChanged m (left_of asked written) s.hasher changes hasher
-    → Goes m s (loads ++ changes) (standing rest (stage.Answered reply) s.held hasher) event.Act
+    → IsLoaded m.pages s.rest loads t → Wants m.pages (settle t) (need.Verdict reply) → asked ≡ passed (settle t) → rest ≡ asked → written ≡ 0
+    → AreChanged m (changes_left asked written) s.hasher changes hasher
+    → Advances m s (loads ++ changes) (standing rest (stage.Answered reply) s.held hasher) event.Act
 ends-goes m s loads changes t rest asked written reply hasher l g a r w c =
     let from : AreChanged m (changes_of asked) s.hasher changes hasher = subst (λ (z : ℕ). AreChanged m (drop z (changes_of asked)) s.hasher changes hasher) w c in
     record {

@@ -43,12 +43,12 @@ Decides n (End reply fs cs) xs r = MatchResult r (λ v. (v.reply ≡ reply) × (
 Decides n (Since reply cs) xs r = MatchResult r (λ v. (v.reply ≡ reply) × (v.writes.items ≡ map (write_of n None) cs) × (are_plain cs ≡ true)) (λ e. ⊥)
 
 -- the need that a tree with its conditions tested comes to
-abbrev pub Gives : ℕ → Tree → Need → Type 0
-Gives n (Lock l q m t) r = r ≡ need.Lock (name_of l) (address n q) m
-Gives n (Load v q k) r = r ≡ need.Load (address n q)
-Gives n (Test b out t) r = ⊥
-Gives n (End reply fs cs) r = r ≡ need.Verdict reply
-Gives n (Since reply cs) r = r ≡ need.Verdict reply
+abbrev pub Wants : ℕ → Tree → Need → Type 0
+Wants n (Lock l q m t) r = r ≡ need.Lock (name_of l) (address n q) m
+Wants n (Load v q k) r = r ≡ need.Load (address n q)
+Wants n (Test b out t) r = ⊥
+Wants n (End reply fs cs) r = r ≡ need.Verdict reply
+Wants n (Since reply cs) r = r ≡ need.Verdict reply
 
 -- the need of a decision
 abbrev pub need_for : Result Verdict Stop → Need

@@ -6,7 +6,7 @@ use Rattle.flat_core.specs.Table.{row_of}
 use Rattle.flat_core.specs.Event.{calls_of}
 use Rattle.step_core.specs.Items.{Table, Taken, PlaysTo}
 use Rattle.leaf_engine.specs.Means.{Task, OfCall, MeansRow}
-use Rattle.leaf_engine.specs.OwnLists.{Piece, Quiet, Marked, Wordless, joined, WordLp, first_lp, OwnTurns}
+use Rattle.leaf_engine.specs.OwnLists.{Piece, Unmarked, Marked, Wordless, joined, WordLp, first_lp, OwnTurns}
 
 -- a piece of a processor's own list
 pub record Item : Type 0 where
@@ -20,7 +20,7 @@ part p (i ∷ is) = if i.lp == p then i.piece ∷ part p is else part p is
 
 -- the word steps, in order
 abbrev pub step_before : Piece → List Taken → List Taken
-step_before (Quiet x) xs = x ∷ xs
+step_before (Unmarked x) xs = x ∷ xs
 step_before (Marked x) xs = x ∷ xs
 step_before Wordless xs = xs
 
@@ -30,7 +30,7 @@ steps_taken (i ∷ is) = step_before i.piece (steps_taken is)
 
 -- the processors of the events, in order
 abbrev pub event_before : Piece → ℕ → List ℕ → List ℕ
-event_before (Quiet x) p ps = ps
+event_before (Unmarked x) p ps = ps
 event_before (Marked x) p ps = p ∷ ps
 event_before Wordless p ps = p ∷ ps
 

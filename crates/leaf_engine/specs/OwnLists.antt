@@ -13,18 +13,18 @@ use Rattle.leaf_engine.specs.declared.events.Stage.TheVariants as stage
 use Rattle.leaf_engine.specs.Changes.{Change, Clear, Copy}
 use Rattle.leaf_engine.specs.Trees.{Tree, End, Since, settle, passed}
 use Rattle.leaf_engine.specs.Means.{Task}
-use Rattle.leaf_engine.specs.Turns.{Standing, standing, Goes, TurnBy, IsTurn, has_ended, last_reply}
+use Rattle.leaf_engine.specs.Turns.{Standing, standing, Advances, TurnBy, IsTurn, has_ended, last_reply}
 
 -- a piece of an own list: a word step that is no event, one that is, or an event without a word step
 pub data Piece : Type 0 where
-  Quiet : (taken : Taken) → Piece
+  Unmarked : (taken : Taken) → Piece
   Marked : (taken : Taken) → Piece
   Wordless : Piece
 
 -- what is taken on a bench
 abbrev pub taken_in : List Piece → List Taken
 taken_in [] = []
-taken_in (Quiet x ∷ ps) = x ∷ taken_in ps
+taken_in (Unmarked x ∷ ps) = x ∷ taken_in ps
 taken_in (Marked x ∷ ps) = x ∷ taken_in ps
 taken_in (Wordless ∷ ps) = taken_in ps
 
@@ -47,19 +47,19 @@ items_in (c ∷ cs) = items_of c + items_in cs
 abbrev pub last_marked : List Taken → List Piece
 last_marked [] = Wordless ∷ []
 last_marked (x ∷ []) = Marked x ∷ []
-last_marked (x ∷ y ∷ xs) = Quiet x ∷ last_marked (y ∷ xs)
+last_marked (x ∷ y ∷ xs) = Unmarked x ∷ last_marked (y ∷ xs)
 
 abbrev pub marked_behind : ℕ → List Taken → List Piece
 marked_behind n [] = Wordless ∷ []
-marked_behind zero (x ∷ xs) = Marked x ∷ map Quiet xs
-marked_behind (suc n) (x ∷ xs) = Quiet x ∷ marked_behind n xs
+marked_behind zero (x ∷ xs) = Marked x ∷ map Unmarked xs
+marked_behind (suc n) (x ∷ xs) = Unmarked x ∷ marked_behind n xs
 
 -- The act is the first store that isn't a fill; of one that stores nothing the last load since the last try, which also
 -- is the act of a leaf whose stores come after it.
 abbrev pub act_pieces : Tree → (loads changes : List Taken) → List Piece
 act_pieces (End r [] []) loads xs = last_marked loads
-act_pieces (End r fs cs) loads xs = map Quiet loads ++ marked_behind (items_in fs) xs
-act_pieces (Since r cs) loads xs = last_marked loads ++ map Quiet xs
+act_pieces (End r fs cs) loads xs = map Unmarked loads ++ marked_behind (items_in fs) xs
+act_pieces (Since r cs) loads xs = last_marked loads ++ map Unmarked xs
 act_pieces _ loads xs = []
 
 -- a try is the last item of its turn
@@ -76,7 +76,7 @@ behind (l ∷ ls) (x ∷ xs) = behind ls xs
 -- the turn of a leaf on its way in pieces
 pub record GoesIn (m : Machine) (s : Standing) (ps : List Piece) (s' : Standing) (e : Event) : Type 0 where
   pub items : List Taken
-  pub goes : Goes m s items s' e
+  pub goes : Advances m s items s' e
   pub pieces : ps ≡ pieces_for goes.need (passed (settle goes.tree)) goes.loads items (behind goes.loads items)
 
 -- every other turn is one step
@@ -92,7 +92,7 @@ TurnIn _ m s ps s' e = StepsIn m s ps s' e
 -- how many events are among these pieces
 abbrev pub events_among : List Piece → ℕ
 events_among [] = 0
-events_among (Quiet x ∷ ps) = events_among ps
+events_among (Unmarked x ∷ ps) = events_among ps
 events_among (Marked x ∷ ps) = suc (events_among ps)
 events_among (Wordless ∷ ps) = suc (events_among ps)
 

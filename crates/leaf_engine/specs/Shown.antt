@@ -21,7 +21,7 @@ use Rattle.leaf_engine.specs.Trees.{feed}
 use Rattle.leaf_engine.specs.Means.{Task, Instant, IsAt, work_of, Locks, LocksStay, acted, MeansRow}
 use Rattle.leaf_engine.specs.Follows.{granted, Current, NotActed}
 use Rattle.leaf_engine.specs.Tables.{IsMemory}
-use Rattle.leaf_engine.specs.Turns.{Standing, Goes, grants, denied}
+use Rattle.leaf_engine.specs.Turns.{Standing, Advances, grants, denied}
 
 -- a leaf on its way at an instant, whose told words stand, over a table that is that memory
 pub record OnWay (task : Task) (c : Instant) (told : List ℕ) (t : Table) (s : Standing) : Type 0 where
@@ -84,4 +84,4 @@ TurnShows task c told u s s' _ = ⊥
 -- Over words that show a state a leaf on its way makes the next move of its row.
 abbrev pub TurnsShow : Type 0
 TurnsShow = (task : Task) (c : Instant) (told : List ℕ) (t u : Table) (s s' : Standing) (xs : List Taken) (e : Event)
-    → OnWay task c told t s → Goes task.place.machine s xs s' e → PlaysTo t xs u → TurnShows task c told u s s' e
+    → OnWay task c told t s → Advances task.place.machine s xs s' e → PlaysTo t xs u → TurnShows task c told u s s' e

@@ -61,8 +61,8 @@ changes_of (Since r cs) = cs
 changes_of _ = []
 
 -- those that are still to be handed out
-abbrev pub left_of : Tree → ℕ → List Change
-left_of t written = drop written (changes_of t)
+abbrev pub changes_left : Tree → ℕ → List Change
+changes_left t written = drop written (changes_of t)
 
 -- it tests conditions alone and ends, and the load before was its act
 abbrev pub has_acted : Tree → Bool

@@ -28,7 +28,7 @@ use Rattle.leaf_engine.specs.declared.asking.Choice.{Choice}
 use Rattle.leaf_engine.specs.declared.asking.Choice.TheVariants as choice
 use Rattle.leaf_engine.specs.Changes.{Change}
 use Rattle.leaf_engine.specs.Trees.{Tree, settle, passed, changes_of}
-use Rattle.leaf_engine.specs.Decides.{Gives}
+use Rattle.leaf_engine.specs.Decides.{Wants}
 use Rattle.leaf_engine.specs.Items.{IsLoaded, IsWritten, AreChanged}
 
 abbrev pub need_of : Choice → Need
@@ -38,7 +38,7 @@ need_of (choice.Verdict reply) = need.Verdict reply
 -- the loads of a tree were made up to this need, and this is left of it
 abbrev pub Asked : {B : Type 0} → (List Taken → B → Type 0) → ℕ → Tree → B → Tree → Choice → Type 0
 Asked did n before bench after c =
-    (xs : List Taken) × ((t : Tree) × did xs bench × IsLoaded n before xs t × Gives n (settle t) (need_of c) × (after ≡ passed (settle t)))
+    (xs : List Taken) × ((t : Tree) × did xs bench × IsLoaded n before xs t × Wants n (settle t) (need_of c) × (after ≡ passed (settle t)))
 
 -- a write was made
 abbrev pub Made : {B : Type 0} → (List Taken → B → Type 0) → Write → Option Measure → B → Option Measure → Type 0
@@ -111,7 +111,7 @@ pub record Tries (s : Standing) (t : Tree) (loads xs : List Taken) (name : LockN
   pub after : s' ≡ tried s t name at mode (grants mode seen)
 
 -- the turn of a leaf that came to its reply: its loads, and its changes
-pub record Ends (m : Machine) (s : Standing) (t : Tree) (loads xs : List Taken) (reply : Reply) (s' : Standing) (e : Event) : Type 0 where
+pub record Replies (m : Machine) (s : Standing) (t : Tree) (loads xs : List Taken) (reply : Reply) (s' : Standing) (e : Event) : Type 0 where
   pub hasher : Option Measure
   pub changes : List Taken
   pub items : xs ≡ loads ++ changes
@@ -122,19 +122,19 @@ pub record Ends (m : Machine) (s : Standing) (t : Tree) (loads xs : List Taken) 
 abbrev pub Comes : Machine → Standing → Tree → List Taken → List Taken → Need → Standing → Event → Type 0
 Comes m s t loads xs (need.Lock name at mode) s' e = Tries s t loads xs name at mode s' e
 Comes m s t loads xs (need.Load at) s' e = ⊥
-Comes m s t loads xs (need.Verdict reply) s' e = Ends m s t loads xs reply s' e
+Comes m s t loads xs (need.Verdict reply) s' e = Replies m s t loads xs reply s' e
 
 -- the turn of a leaf on its way
-pub record Goes (m : Machine) (s : Standing) (xs : List Taken) (s' : Standing) (e : Event) : Type 0 where
+pub record Advances (m : Machine) (s : Standing) (xs : List Taken) (s' : Standing) (e : Event) : Type 0 where
   pub loads : List Taken
   pub tree : Tree
   pub need : Need
   pub loaded : IsLoaded m.pages s.rest loads tree
-  pub gives : Gives m.pages (settle tree) need
+  pub gives : Wants m.pages (settle tree) need
   pub comes : Comes m s (passed (settle tree)) loads xs need s' e
 
 abbrev pub Went : {B : Type 0} → (List Taken → B → Type 0) → Machine → Standing → B → Standing → Event → Type 0
-Went did m s bench s' e = (xs : List Taken) × did xs bench × Goes m s xs s' e
+Went did m s bench s' e = (xs : List Taken) × did xs bench × Advances m s xs s' e
 
 -- one step, whatever it answered
 abbrev pub IsStep : WordStep → List Taken → Type 0
@@ -158,7 +158,7 @@ GaveBack did held bench older e = (xs : List Taken) × did xs bench × GivesBack
 
 -- A turn makes these items, by the stage of its run (Base Architecture, "Concurrency Restrictions and Enforcement").
 abbrev pub TurnBy : Stage → Machine → Standing → List Taken → Standing → Event → Type 0
-TurnBy stage.Trying m s xs s' e = Goes m s xs s' e
+TurnBy stage.Trying m s xs s' e = Advances m s xs s' e
 TurnBy (stage.Undoing name at) m s xs s' e = TakesBack s name at xs s' e
 TurnBy (stage.Answered reply) m s xs s' e = GivesBack s.held xs s'.held e × (s' ≡ record s { held = s'.held })
 

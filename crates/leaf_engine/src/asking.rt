@@ -1,7 +1,7 @@
 //! The word steps of a leaf between two events: its loads, and its writes.
 
 ghost use Rattle.std.specs.Prelude.{◌≡◌, ◌≤◌, false};
-ghost use Rattle.leaf_engine.specs.Trees.{left_of};
+ghost use Rattle.leaf_engine.specs.Trees.{changes_left};
 ghost use Rattle.leaf_engine.specs.Inside.{WriteInside, NeedInside, LowersTries};
 ghost use Rattle.leaf_engine.specs.Turns.{need_of, Asked, Made, Changed};
 
@@ -44,7 +44,7 @@ pub fn ask<L: Leaf, B: Bench>(leaf: &mut L, bench: &mut B) -> Choice
 /// Makes the changes of a leaf's act, in order, with the hasher in hand.
 pub fn change<L: Leaf, B: Bench>(leaf: &mut L, hasher: &mut Option<Measure>, bench: &mut B)
     requires { (L.task leaf.old).place.machine ≡ B.machine bench.old }
-    ensures changed { Changed (B.did bench.old) (B.machine bench.old) (left_of (L.rest leaf.old) (L.written leaf.old)) hasher.old bench.new hasher.new }
+    ensures changed { Changed (B.did bench.old) (B.machine bench.old) (changes_left (L.rest leaf.old) (L.written leaf.old)) hasher.old bench.new hasher.new }
     ensures same { (B.machine bench.new ≡ B.machine bench.old) × (L.task leaf.new ≡ L.task leaf.old) × (L.rest leaf.new ≡ L.rest leaf.old) × (L.waits leaf.new ≡ L.waits leaf.old) }
     ensures tries { L.tries leaf.new ≤ L.tries leaf.old }
 {

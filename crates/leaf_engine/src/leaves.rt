@@ -1,8 +1,8 @@
 //! Leaves, need by need.
 
 ghost use Rattle.std.specs.Prelude.{◌≡◌, ℕ, ◌<◌, ◌≤◌, Bool, true, false, Option, List, [], MatchOption};
-ghost use Rattle.leaf_engine.specs.Trees.{Tree, settle, fed, passed, left_of};
-ghost use Rattle.leaf_engine.specs.Decides.{Gives, HandsNext};
+ghost use Rattle.leaf_engine.specs.Trees.{Tree, settle, fed, passed, changes_left};
+ghost use Rattle.leaf_engine.specs.Decides.{Wants, HandsNext};
 ghost use Rattle.leaf_engine.specs.Inside.{NeedInside, Lowers, LowersTries, is_load};
 ghost use Rattle.leaf_engine.specs.Means.{Task, MeansRow};
 
@@ -33,7 +33,7 @@ pub trait Leaf {
     /// What it needs next. A lock counts as granted at the next call.
     fn need(&mut self) -> Need
         requires { waits self.old ≡ false }
-        ensures gives { Gives (task self.old).place.machine.pages (settle (rest self.old)) result }
+        ensures gives { Wants (task self.old).place.machine.pages (settle (rest self.old)) result }
         ensures rest { rest self.new ≡ passed (settle (rest self.old)) }
         ensures inside { NeedInside (task self.old).place.machine result }
         ensures waits { waits self.new ≡ is_load result }
@@ -52,7 +52,7 @@ pub trait Leaf {
 
     /// The next write of its act, made with the hasher in hand.
     fn write(&mut self, hasher: &mut Option<Measure>) -> Option<Write>
-        ensures next { HandsNext (task self.old).place.machine (left_of (rest self.old) (written self.old)) (left_of (rest self.new) (written self.new)) hasher.old hasher.new result }
+        ensures next { HandsNext (task self.old).place.machine (changes_left (rest self.old) (written self.old)) (changes_left (rest self.new) (written self.new)) hasher.old hasher.new result }
         ensures rest { rest self.new ≡ rest self.old }
         ensures waits { waits self.new ≡ waits self.old }
         ensures bound { MatchOption result (bound self.new ≤ bound self.old) (λ w. bound self.new < bound self.old) }

@@ -32,7 +32,7 @@ use Rattle.leaf_engine.specs.Means.{Task, Instant, work_of, hold, MayAct, MayFil
 use Rattle.leaf_engine.specs.Items.{IsWritten, IsChanged}
 use Rattle.leaf_engine.specs.Turns.{Standing, last_reply}
 use Rattle.leaf_engine.specs.Follows.{granted, Comes}
-use Rattle.leaf_engine.specs.OwnLists.{Piece, Quiet, joined, WordLp, after_turn, OwnTurns}
+use Rattle.leaf_engine.specs.OwnLists.{Piece, Unmarked, joined, WordLp, after_turn, OwnTurns}
 use Rattle.leaf_engine.proofs.Following.{leaves-follow-rows}
 use Rattle.leaf_engine.proofs.Turning.{instant, at-instant}
 use Rattle.leaf_engine.proofs.Changing.{word_put, slot_put}
@@ -126,7 +126,7 @@ ends-left (Since r cs) mem = (sym (stores-are cs mem), sym (swaps-are cs mem))
 
 pub rest-owed : (o : Opening) (trees : ℕ → Call → Tree) (p : ℕ) (c : Call) (cs : List Call) (rs : List Reply) (run' : Standing) (tree ended : Tree) (mem : Memory) (items : List Taken) (hasher last : Option Measure) (hand : Hand) (tps : List (List Piece)) (end_ : WordLp)
     → tree ≡ ended → IsHand hasher hand → AreOwed o.machine.pages hasher hand items (left_at ended mem) last → run'.hasher ≡ last → OwnTurns (leaf_for o trees p) o.machine (after_turn c cs rs run' (last_reply run'.stage run'.held)) tps end_
-    → Rest o trees p (after_turn c cs rs run' (last_reply run'.stage run'.held)) (owes_of tree mem) (swaps_left tree mem) (map Quiet items ++ joined tps) end_
+    → Rest o trees p (after_turn c cs rs run' (last_reply run'.stage run'.held)) (owes_of tree mem) (swaps_left tree mem) (map Unmarked items ++ joined tps) end_
 rest-owed o trees p c cs rs run' tree ended mem items hasher last hand tps end_ is in_hand are last_is own =
     let left = ends-left ended mem in
     record {

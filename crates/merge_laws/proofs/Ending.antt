@@ -24,7 +24,7 @@ use Rattle.leaf_engine.specs.declared.needs.Need.TheVariants as need
 use Rattle.leaf_engine.specs.Changes.{Hand, Memory, Change, Put, PutHash, Raise, Clear, Copy, Swap, changed, changed_all}
 use Rattle.leaf_engine.specs.Trees.{Tree, Lock, Load, Test, End, Since, feed}
 use Rattle.leaf_engine.specs.Means.{Task, Instant, Work, IsAt, work_of, hold, Acts, MayAct, MayFillAll, MayChange, MayOweAll, acted, LocksStay, IsHkid}
-use Rattle.leaf_engine.specs.Decides.{Gives, IsHand}
+use Rattle.leaf_engine.specs.Decides.{Wants, IsHand}
 use Rattle.leaf_engine.specs.Tables.{IsMemory}
 use Rattle.leaf_engine.specs.Turns.{Standing, last_reply}
 use Rattle.leaf_engine.specs.Follows.{granted, Current, Comes}
@@ -123,7 +123,7 @@ fills-rest m g w (Swap k made ∷ fs) mem may = absurd may.0
 pub record AtEnd (o : Opening) (trees : ℕ → Call → Tree) (s : State) (mem : Memory) (p : ℕ) (c : Call) (told now : List ℕ) (reply : Reply) (run run' : Standing) (result : RunTurn) : Type 0 where
   pub current : Current mem.words (trees p c) now
   pub locks : granted (trees p c) now [] ≡ granted (trees p c) told []
-  pub gives : Gives o.machine.pages (feed (trees p c) now) (need.Verdict reply)
+  pub gives : Wants o.machine.pages (feed (trees p c) now) (need.Verdict reply)
   pub answered : run'.stage ≡ stages.Answered reply
   pub held : run'.held ≡ run.held
   pub last : result.reply ≡ last_reply run'.stage run'.held
@@ -189,7 +189,7 @@ untouched words owes first filled x a b d = go (last_at owes x) (last_at first x
     go None None None eu ev ez = rw (eu, ev, ez) refl
 
 -- the reply of a tree's end is the one that it gives
-end-gives : (n : ℕ) (r r' : Reply) (fs cs : List Change) → Gives n (End r fs cs) (need.Verdict r') → r ≡ r'
+end-gives : (n : ℕ) (r r' : Reply) (fs cs : List Change) → Wants n (End r fs cs) (need.Verdict r') → r ≡ r'
 end-gives n r r' fs cs g = cc
 
 -- a turn that comes to its end is an act
@@ -433,7 +433,7 @@ module _ (ls : Laws) (o : Opening) (trees : ℕ → Call → Tree) (s : State) (
       (changed-slots cs mem) (λ k x e. cc) (owed-swaps machine own_grip (leaf_row.act s.world) mem cs may')
 
   -- whichever way the tree ends, it is an act
-  tree-acts : (tree : Tree) → Comes machine moment work locks tree due_move → Gives machine.pages tree (need.Verdict reply) → HasFilled o t pos p mem (filled_of tree mem)
+  tree-acts : (tree : Tree) → Comes machine moment work locks tree due_move → Wants machine.pages tree (need.Verdict reply) → HasFilled o t pos p mem (filled_of tree mem)
       → ((r : WordPlace) → IsIn machine r → t'.words (address machine.pages r) ≡ or_else (last_at (first_of tree mem) r) (t.words (address machine.pages r)))
       → HasPut (puts_of tree mem) → (one : ItsAct) × (one.owes ≡ owes_of tree mem) × (one.swaps ≡ swaps_left tree mem)
   tree-acts (Lock l q mode x) co g hf same slots = cc

@@ -24,11 +24,11 @@ use Rattle.leaf_engine.specs.declared.events.Stage.TheVariants as stages
 use Rattle.leaf_engine.specs.declared.needs.Need.TheVariants as need
 use Rattle.leaf_engine.specs.Changes.{Memory, Change, changed, changed_all}
 use Rattle.leaf_engine.specs.Trees.{Tree, End, feed, settle}
-use Rattle.leaf_engine.specs.Decides.{Gives, IsHand}
+use Rattle.leaf_engine.specs.Decides.{Wants, IsHand}
 use Rattle.leaf_engine.specs.Means.{MayFillAll, IsHkid}
 use Rattle.leaf_engine.specs.Items.{IsChanged, AreChanged}
 use Rattle.leaf_engine.specs.Turns.{Standing, standing, last_reply}
-use Rattle.leaf_engine.specs.OwnLists.{Piece, Quiet, Marked, Wordless, joined, marked_behind, WordLp, after_turn, OwnTurns}
+use Rattle.leaf_engine.specs.OwnLists.{Piece, Unmarked, Marked, Wordless, joined, marked_behind, WordLp, after_turn, OwnTurns}
 use Rattle.leaf_engine.proofs.Changing.{word_put}
 use Rattle.merge_laws.proofs.Stores.{Due, due, last_at, later, or_else, laid-none, laid-same, last-append, each-append, FillsAt, all_stores}
 use Rattle.merge_laws.proofs.Swaps.{last_put}
@@ -199,7 +199,7 @@ act-piece ls o trees s mem t pos p c cs run after f act tps end_ piece ps a left
     en = record {
       current = (a.runs.call.told st).current;
       locks = refl;
-      gives = subst (λ (z : Tree). Gives m.pages z (need.Verdict f.reply)) (sym tree-is) refl;
+      gives = subst (λ (z : Tree). Wants m.pages z (need.Verdict f.reply)) (sym tree-is) refl;
       answered = ap (λ (z : Standing). z.stage) after_is;
       held = ap (λ (z : Standing). z.held) after_is;
       last = refl;
@@ -264,14 +264,14 @@ act-piece ls o trees s mem t pos p c cs run after f act tps end_ piece ps a left
         let item = act-item m mine s.world mem1 c1 all.1.0 None all.0 allowed.1.0 one empty in
         let x : Taken = item.taken in
         let acted : act ≡ x ∷ zs = all.1.1.1 ∙ ap (λ (z : List Taken). z ++ zs) item.items in
-        let hd' : Marked x ∷ (map Quiet zs ++ joined tps) ≡ piece ∷ ps = ap (λ (z : List Taken). marked_behind 0 z ++ joined tps) (sym acted) ∙ hd in
-        let answers = answers-as t (Marked x) piece (map Quiet zs ++ joined tps) ps hd' an in
+        let hd' : Marked x ∷ (map Unmarked zs ++ joined tps) ≡ piece ∷ ps = ap (λ (z : List Taken). marked_behind 0 z ++ joined tps) (sym acted) ∙ hd in
+        let answers = answers-as t (Marked x) piece (map Unmarked zs ++ joined tps) ps hd' an in
         let slots = act-rest m mine s.world mem1 t c1 x all.0 a.all.slots.now allowed.1.0 item.is answers (slot-seen ls o trees s mem t pos p c cs run mem1.slots a rest-1.0) a.all.slots.there in
         let moved = end-moved ls o trees s mem t (taken_after t x) pos p c cs told f.reply run after (record { event = events.Act; reply = last_reply after.stage after.held }) a st en has-tree
         (λ y in_y. act-table ls o trees s mem t pos p c cs run f.fills c1 x all.0 a has allowed.1.0 item.is y in_y
         ∙ ap (λ (z : Tree). or_else (last_at (first_of z mem) y) (t.words (address m.pages y))) {x = End f.reply f.fills (c1 ∷ ds)} {y = feed (trees p c) told} (sym ended))
         (subst (λ (z : Tree). (k : ℕ) → IsHkid m k → IsHand ((taken_after t x).slots (k - 1)) (or_else (last_put (puts_of z mem) k) (a.all.slots.now k))) (sym ended) slots.1) in
-        came-as o trees p s t pos (Marked x) piece (map Quiet zs ++ joined tps) ps end_ hd'
+        came-as o trees p s t pos (Marked x) piece (map Unmarked zs ++ joined tps) ps end_ hd'
         (record {
           memory = moved.memory;
           now = record { at = after_turn c cs (pos p).at.replies after (last_reply after.stage after.held); owes = owes_of (feed (trees p c) told) mem; swaps = swaps_left (feed (trees p c) told) mem; fill = None };
@@ -295,7 +295,7 @@ fill-piece ls o trees s mem t pos p c cs run f end_ piece ps a h rest an = by re
     tail : List Piece
     tail = marked_behind 0 rest.act ++ joined rest.turns
 
-    by : (stores : List Taken) (left : List Todo) → f.left ≡ left → AreTodos m.pages stores left → piece ∷ ps ≡ map Quiet stores ++ tail → Came o trees p s t pos piece ps end_
+    by : (stores : List Taken) (left : List Todo) → f.left ≡ left → AreTodos m.pages stores left → piece ∷ ps ≡ map Unmarked stores ++ tail → Came o trees p s t pos piece ps end_
     by [] [] q are e = act-piece ls o trees s mem t pos p c cs run rest.after f rest.act rest.turns end_ piece ps a q h rest.hasher rest.changed rest.after_is rest.own (sym e) an
     by [] (Puts d ∷ ts) q are e = absurd are
     by [] (Takes fr at ∷ ts) q are e = absurd are
@@ -304,8 +304,8 @@ fill-piece ls o trees s mem t pos p c cs run f end_ piece ps a h rest an = by re
     by (Missed k ∷ xs) left q are e = absurd are
     by (Stepped w x ∷ xs) (Puts d ∷ ts) q are e =
         let y : Taken = Stepped (step.Store (address m.pages d.at) d.word) x in
-        let h' : Quiet y ∷ (map Quiet xs ++ tail) ≡ piece ∷ ps = ap (λ (z : WordStep). Quiet (Stepped z x) ∷ (map Quiet xs ++ tail)) (sym are.0) ∙ sym e in
-        came-as o trees p s t pos (Quiet y) piece (map Quiet xs ++ tail) ps end_ h'
+        let h' : Unmarked y ∷ (map Unmarked xs ++ tail) ≡ piece ∷ ps = ap (λ (z : WordStep). Unmarked (Stepped z x) ∷ (map Unmarked xs ++ tail)) (sym are.0) ∙ sym e in
+        came-as o trees p s t pos (Unmarked y) piece (map Unmarked xs ++ tail) ps end_ h'
         (record {
           memory = mem;
           now = filling_at pos p c cs run ((pos p).owes ++ due d.at (mem.words d.at) ∷ []) (record f { made = f.made ++ d ∷ []; left = ts });
@@ -318,12 +318,12 @@ fill-piece ls o trees s mem t pos p c cs run f end_ piece ps a h rest an = by re
     by (Stepped w x ∷ (Stepped w' b ∷ xs)) (Takes fr at ∷ ts) q are e =
         let y : Taken = Stepped (step.Load (address m.pages fr)) x in
         let xs' : List Taken = Stepped w' b ∷ xs in
-        let h' : Quiet y ∷ (map Quiet xs' ++ tail) ≡ piece ∷ ps = ap (λ (z : WordStep). Quiet (Stepped z x) ∷ (map Quiet xs' ++ tail)) (sym are.0) ∙ sym e in
+        let h' : Unmarked y ∷ (map Unmarked xs' ++ tail) ≡ piece ∷ ps = ap (λ (z : WordStep). Unmarked (Stepped z x) ∷ (map Unmarked xs' ++ tail)) (sym are.0) ∙ sym e in
         let may : EachTodo m mine s.world (Takes fr at ∷ ts) = subst (λ (z : List Todo). EachTodo m mine s.world z) q h.left_may in
-        let seen : x ≡ seen_by f.made mem.words fr = answers-as t (Quiet y) piece (map Quiet xs' ++ tail) ps h' an ∙ fill-seen ls o trees s mem t pos p c cs run f fr a h may.0.0.0 may.0.0.1 in
+        let seen : x ≡ seen_by f.made mem.words fr = answers-as t (Unmarked y) piece (map Unmarked xs' ++ tail) ps h' an ∙ fill-seen ls o trees s mem t pos p c cs run f fr a h may.0.0.0 may.0.0.1 in
         let f' : Fill = record f { left = Puts (due at x) ∷ ts } in
         let now : Position = filling_at pos p c cs run (pos p).owes f' in
-        came-as o trees p s t pos (Quiet y) piece (map Quiet xs' ++ tail) ps end_ h'
+        came-as o trees p s t pos (Unmarked y) piece (map Unmarked xs' ++ tail) ps end_ h'
         (record {
           memory = mem;
           now = now;

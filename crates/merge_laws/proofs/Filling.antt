@@ -19,7 +19,7 @@ use Rattle.leaf_engine.specs.declared.needs.Write.{Write}
 use Rattle.leaf_engine.specs.Decides.{write_of, hand_for, IsHand}
 use Rattle.leaf_engine.specs.Means.{MayFill, MayFillAll}
 use Rattle.leaf_engine.specs.Items.{IsWritten, IsChanged, AreChanged}
-use Rattle.leaf_engine.specs.OwnLists.{Piece, Quiet, items_of, items_in, marked_behind}
+use Rattle.leaf_engine.specs.OwnLists.{Piece, Unmarked, items_of, items_in, marked_behind}
 use Rattle.merge_laws.proofs.Stores.{Due, due, or_else, words_from, words-else, stores_of, all_stores, one-is, none-is}
 use Rattle.merge_laws.proofs.Keeping.{stored, stored-is}
 
@@ -309,15 +309,15 @@ two-parts m (f ∷ fs) cs h h' xs ch =
       changed = rest.changed;
     }
 
-behind-many : (n : ℕ) (xs ys : List Taken) → length xs ≡ n → marked_behind n (xs ++ ys) ≡ map Quiet xs ++ marked_behind 0 ys
+behind-many : (n : ℕ) (xs ys : List Taken) → length xs ≡ n → marked_behind n (xs ++ ys) ≡ map Unmarked xs ++ marked_behind 0 ys
 behind-many zero [] ys e = refl
 behind-many zero (x ∷ xs) ys e = cc
 behind-many (suc n) [] ys e = cc
-behind-many (suc n) (x ∷ xs) ys e = ap (λ (ps : List Piece). Quiet x ∷ ps) (behind-many n xs ys (omega (arith, e)))
+behind-many (suc n) (x ∷ xs) ys e = ap (λ (ps : List Piece). Unmarked x ∷ ps) (behind-many n xs ys (omega (arith, e)))
 
 -- the event of an act that fills first comes behind its fills
 pub behind-fills : (m : Machine) (g : Grip) (w : World) (fs : List Change) (h h' : Option Measure) (xs ys : List Taken) → MayFillAll m g w fs → AreChanged m fs h xs h' → h ≡ None
-    → marked_behind (items_in fs) (xs ++ ys) ≡ map Quiet xs ++ marked_behind 0 ys
+    → marked_behind (items_in fs) (xs ++ ys) ≡ map Unmarked xs ++ marked_behind 0 ys
 behind-fills m g w fs h h' xs ys may ch none =
     let all = fills-made m g w fs h h' xs may ch none in
     behind-many (items_in fs) xs ys all.2

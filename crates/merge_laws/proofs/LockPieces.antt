@@ -31,9 +31,9 @@ use Rattle.leaf_engine.specs.declared.needs.Need.TheVariants as need
 use Rattle.leaf_engine.specs.Changes.{Memory}
 use Rattle.leaf_engine.specs.Trees.{Tree, Lock, Load, Test, End, Since, feed, settle}
 use Rattle.leaf_engine.specs.Means.{Task, Instant, work_of, hold}
-use Rattle.leaf_engine.specs.Decides.{Gives, IsHand}
+use Rattle.leaf_engine.specs.Decides.{Wants, IsHand}
 use Rattle.leaf_engine.specs.Follows.{granted, Comes}
-use Rattle.leaf_engine.specs.Turns.{Standing, Goes, TurnBy, TakesBack, GivesBack, has_ended, last_reply, tried, try_step, grants}
+use Rattle.leaf_engine.specs.Turns.{Standing, Advances, TurnBy, TakesBack, GivesBack, has_ended, last_reply, tried, try_step, grants}
 use Rattle.leaf_engine.specs.Calls.{IsLockAt, AreLocks, IsStage}
 use Rattle.leaf_engine.specs.OwnLists.{Piece, Marked, joined, WordLp, after_turn, OwnTurns}
 use Rattle.leaf_engine.proofs.Decided.{settled}
@@ -196,13 +196,13 @@ tried-hasher s t name at mode true = refl
 tried-hasher s t name at mode false = refl
 
 pub try-piece : (ls : Laws) (o : Opening) (trees : ℕ → Call → Tree) (s : State) (mem : Memory) (t : Table) (pos : ℕ → Position) (p : ℕ) (c : Call) (cs : List Call) (run run' : Standing) (e : RunEvent) (tree : Tree) (name : LockName) (at : ℕ) (mode : Mode)
-    (seen : ℕ) (tps : List (List Piece)) (end_ : WordLp) → AtTurn o trees s mem t pos p c cs run → (pos p).owes ≡ [] → (st : run.stage ≡ stages.Trying) → (turn : Goes o.machine run (Stepped (try_step at mode) seen ∷ []) run' e)
-    → Gives o.machine.pages (settle run.rest) (need.Lock name at mode) → run' ≡ tried run tree name at mode (grants mode seen) → seen ≡ answer_of t.words (try_step at mode)
+    (seen : ℕ) (tps : List (List Piece)) (end_ : WordLp) → AtTurn o trees s mem t pos p c cs run → (pos p).owes ≡ [] → (st : run.stage ≡ stages.Trying) → (turn : Advances o.machine run (Stepped (try_step at mode) seen ∷ []) run' e)
+    → Wants o.machine.pages (settle run.rest) (need.Lock name at mode) → run' ≡ tried run tree name at mode (grants mode seen) → seen ≡ answer_of t.words (try_step at mode)
     → OwnTurns (leaf_for o trees p) o.machine (after_turn c cs (pos p).at.replies run' (last_reply run'.stage run'.held)) tps end_
     → Came o trees p s t pos (Marked (Stepped (try_step at mode) seen)) (joined tps) end_
 try-piece ls o trees s mem t pos p c cs run run' e tree name at mode seen tps end_ a none st turn gives after an own =
     by (feed (trees p c) told) (leaves-follow-rows task inst told (a.are.means p c) (at-instant o task (row_of o p c) s mem (table_of m mem.slots mem.words) run refl (shown-of o trees s mem t pos p c run a.known a.all a.inside (a.hand.trying st)) a.runs.call st) (a.runs.call.told st).current)
-    (subst (λ (z : Tree). Gives m.pages z (need.Lock name at mode)) (ap settle (a.runs.call.told st).rest ∙ settled (trees p c) told) gives)
+    (subst (λ (z : Tree). Wants m.pages z (need.Lock name at mode)) (ap settle (a.runs.call.told st).rest ∙ settled (trees p c) told) gives)
   where
     m : Machine
     m = o.machine
@@ -222,7 +222,7 @@ try-piece ls o trees s mem t pos p c cs run run' e tree name at mode seen tps en
     grip : hold inst hs ≡ bare (s.lps p).call.held
     grip = hold-is s mem task hs a.all.guests ∙ ap bare (a.runs.call.told st).locks
 
-    by : (x : Tree) → Comes m inst (work_of task.meaning) hs x (next ((work_of task.meaning).items s.world) (length hs)) → Gives m.pages x (need.Lock name at mode) → Came o trees p s t pos (Marked (Stepped (try_step at mode) seen)) (joined tps) end_
+    by : (x : Tree) → Comes m inst (work_of task.meaning) hs x (next ((work_of task.meaning).items s.world) (length hs)) → Wants m.pages x (need.Lock name at mode) → Came o trees p s t pos (Marked (Stepped (try_step at mode) seen)) (joined tps) end_
     by (Load v q k) co g = cc
     by (Test b r x) co g = absurd g
     by (End r fs cs') co g = cc

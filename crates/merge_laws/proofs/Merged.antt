@@ -24,9 +24,9 @@ use Rattle.leaf_engine.specs.declared.needs.Need.{Need}
 use Rattle.leaf_engine.specs.declared.needs.Need.TheVariants as need
 use Rattle.leaf_engine.specs.Changes.{Hand, Memory}
 use Rattle.leaf_engine.specs.Trees.{Tree, settle, passed}
-use Rattle.leaf_engine.specs.Decides.{Gives, IsHand}
+use Rattle.leaf_engine.specs.Decides.{Wants, IsHand}
 use Rattle.leaf_engine.specs.Turns.{Standing, Comes as TurnComes, TurnBy, TakesBack, GivesBack, has_ended, last_reply}
-use Rattle.leaf_engine.specs.OwnLists.{Piece, Quiet, Marked, Wordless, joined, last_marked, pieces_for, behind, GoesIn, TurnIn, WordLp, running, after_turn, LinesTurn, OwnTurns}
+use Rattle.leaf_engine.specs.OwnLists.{Piece, Unmarked, Marked, Wordless, joined, last_marked, pieces_for, behind, GoesIn, TurnIn, WordLp, running, after_turn, LinesTurn, OwnTurns}
 use Rattle.leaf_engine.specs.Merges.{Item, part, steps_taken, order, event_before}
 use Rattle.merge_laws.proofs.Owing.{Owed, Stores, Swaps, stores_in, swaps_in, FirstSwaps, FirstMisses, AreOwed}
 use Rattle.merge_laws.proofs.Holding.{bare}
@@ -47,7 +47,7 @@ turn-piece : (ls : Laws) (o : Opening) (trees : ℕ → Call → Tree) (s : Stat
     → Heads tp tps piece ps → PieceAnswers t piece → Came o trees p s t pos piece ps end_
 turn-piece ls o trees s mem t pos p c cs run run' e tp tps end_ piece ps a none tn own h an = by run.stage refl tn
   where
-    by-need : (gi : GoesIn o.machine run tp run' e) → run.stage ≡ stages.Trying → (x : Need) → Gives o.machine.pages (settle gi.goes.tree) x → TurnComes o.machine run (passed (settle gi.goes.tree)) gi.goes.loads gi.items x run' e
+    by-need : (gi : GoesIn o.machine run tp run' e) → run.stage ≡ stages.Trying → (x : Need) → Wants o.machine.pages (settle gi.goes.tree) x → TurnComes o.machine run (passed (settle gi.goes.tree)) gi.goes.loads gi.items x run' e
         → tp ≡ pieces_for x (passed (settle gi.goes.tree)) gi.goes.loads gi.items (behind gi.goes.loads gi.items) → Came o trees p s t pos piece ps end_
     by-need gi st (need.Lock name at mode) g co q =
         lock-turn ls o trees s mem t pos p c cs run run' e gi.goes.loads gi.items gi.goes.tree name at mode tps end_ piece ps a none st gi.goes.loaded g co own (ap (λ (z : List Piece). z ++ joined tps) (sym q) ∙ h) an
@@ -126,12 +126,12 @@ module _ (ls : Laws) (o : Opening) (trees : ℕ → Call → Tree) (s : State) (
   next-of-owed n re [] q of =
       let r = of re.in_hand in
       next-of-turns (re.owes_are ∙ ap stores_in q) (re.swaps_are ∙ ap swaps_in q) re.last re.hand re.last_is r.1 re.turns re.own
-      (ap (λ (z : List Taken). map Quiet z ++ joined re.turns) (sym r.0) ∙ sym re.pieces)
+      (ap (λ (z : List Taken). map Unmarked z ++ joined re.turns) (sym r.0) ∙ sym re.pieces)
   next-of-owed n re (Stores d ∷ os) q of =
       let r = of re.in_hand in
       let y : Taken = Stepped (step.Store (address o.machine.pages d.at) d.word) r.answer in
-      let h' : Quiet y ∷ (map Quiet r.further ++ joined re.turns) ≡ piece ∷ ps = ap (λ (z : List Taken). map Quiet z ++ joined re.turns) (sym r.items) ∙ sym re.pieces in
-      came-as o trees p s t pos (Quiet y) piece (map Quiet r.further ++ joined re.turns) ps end_ h'
+      let h' : Unmarked y ∷ (map Unmarked r.further ++ joined re.turns) ≡ piece ∷ ps = ap (λ (z : List Taken). map Unmarked z ++ joined re.turns) (sym r.items) ∙ sym re.pieces in
+      came-as o trees p s t pos (Unmarked y) piece (map Unmarked r.further ++ joined re.turns) ps end_ h'
       (record {
         memory = mem;
         now = record { at = (pos p).at; owes = stores_in os; swaps = (pos p).swaps; fill = None };
@@ -163,13 +163,13 @@ module _ (ls : Laws) (o : Opening) (trees : ℕ → Call → Tree) (s : State) (
       by : FirstSwaps re.items d (λ k ys. AreOwed o.machine.pages k d.taken ys os re.last) ⊎ FirstMisses re.items d → Came o trees p s t pos piece ps end_
       by (inr r) =
           let y : Taken = Missed (d.hkid - 1) in
-          let h' : Quiet y ∷ (map Quiet r.further ++ joined re.turns) ≡ piece ∷ ps = ap (λ (z : List Taken). map Quiet z ++ joined re.turns) (sym r.items) ∙ sym re.pieces in
-          absurd (answers-as t (Quiet y) piece (map Quiet r.further ++ joined re.turns) ps h' an)
+          let h' : Unmarked y ∷ (map Unmarked r.further ++ joined re.turns) ≡ piece ∷ ps = ap (λ (z : List Taken). map Unmarked z ++ joined re.turns) (sym r.items) ∙ sym re.pieces in
+          absurd (answers-as t (Unmarked y) piece (map Unmarked r.further ++ joined re.turns) ps h' an)
       by (inl r) =
           let y : Taken = Swapped (d.hkid - 1) r.put r.taken in
-          let h' : Quiet y ∷ (map Quiet r.further ++ joined re.turns) ≡ piece ∷ ps = ap (λ (z : List Taken). map Quiet z ++ joined re.turns) (sym r.items) ∙ sym re.pieces in
-          let took : r.taken ≡ t.slots (d.hkid - 1) = answers-as t (Quiet y) piece (map Quiet r.further ++ joined re.turns) ps h' an in
-          came-as o trees p s t pos (Quiet y) piece (map Quiet r.further ++ joined re.turns) ps end_ h'
+          let h' : Unmarked y ∷ (map Unmarked r.further ++ joined re.turns) ≡ piece ∷ ps = ap (λ (z : List Taken). map Unmarked z ++ joined re.turns) (sym r.items) ∙ sym re.pieces in
+          let took : r.taken ≡ t.slots (d.hkid - 1) = answers-as t (Unmarked y) piece (map Unmarked r.further ++ joined re.turns) ps h' an in
+          came-as o trees p s t pos (Unmarked y) piece (map Unmarked r.further ++ joined re.turns) ps end_ h'
           (record {
             memory = mem;
             now = record { at = (pos p).at; owes = (pos p).owes; swaps = swaps_in os; fill = None };
@@ -233,7 +233,7 @@ known-next ls o s p most known =
     (count_stays o s p ∙ known.count) (ls.tell o s p known.nothing_to_tell)
 
 known-after : (ls : Laws) (o : Opening) (s : State) (p : ℕ) (piece : Piece) → length o.calls ≤ 8 → Known o s → Known o (state_after o s p piece)
-known-after ls o s p (Quiet x) most known = known
+known-after ls o s p (Unmarked x) most known = known
 known-after ls o s p (Marked x) most known = known-next ls o s p most known
 known-after ls o s p Wordless most known = known-next ls o s p most known
 
@@ -249,7 +249,7 @@ pub record Through (o : Opening) (trees : ℕ → Call → Tree) (s : State) (u 
   pub rest : (p : ℕ) → p < length o.calls → RestOf o trees p (pos p) [] (ends p)
 
 order-plays : (o : Opening) (piece : Piece) (p : ℕ) (ps : List ℕ) (s : State) → play o (event_before piece p ps) s ≡ play o ps (state_after o s p piece)
-order-plays o (Quiet x) p ps s = refl
+order-plays o (Unmarked x) p ps s = refl
 order-plays o (Marked x) p ps s = refl
 order-plays o Wordless p ps s = refl
 

@@ -13,13 +13,13 @@ use Rattle.lock_words.specs.Grips.{CallTdrs}
 use Rattle.leaf_engine.specs.Changes.{Memory}
 use Rattle.leaf_engine.specs.Trees.{Tree}
 use Rattle.leaf_engine.specs.Turns.{Standing}
-use Rattle.leaf_engine.specs.OwnLists.{Piece, Quiet, Marked, Wordless, behind, WordLp, running}
+use Rattle.leaf_engine.specs.OwnLists.{Piece, Unmarked, Marked, Wordless, behind, WordLp, running}
 use Rattle.leaf_engine.specs.Merges.{step_before}
 use Rattle.leaf_engine.proofs.Beginning.{calls-begin}
 use Rattle.merge_laws.proofs.Standing.{leaf_for, RunsAt, RunAt, StandsAt, Position, RestOf, Stands}
 
 abbrev pub state_after : Opening → State → ℕ → Piece → State
-state_after o s p (Quiet x) = s
+state_after o s p (Unmarked x) = s
 state_after o s p (Marked x) = event o s p
 state_after o s p Wordless = event o s p
 
@@ -29,7 +29,7 @@ taken_after t (Swapped k put taken) = record t { slots = with_slot t.slots k put
 taken_after t (Missed k) = t
 
 abbrev pub table_after : Table → Piece → Table
-table_after t (Quiet x) = taken_after t x
+table_after t (Unmarked x) = taken_after t x
 table_after t (Marked x) = taken_after t x
 table_after t Wordless = t
 
@@ -39,15 +39,15 @@ Answers t (Swapped k put taken) = taken ≡ t.slots k
 Answers t (Missed k) = ⊥
 
 abbrev pub PieceAnswers : Table → Piece → Type 0
-PieceAnswers t (Quiet x) = Answers t x
+PieceAnswers t (Unmarked x) = Answers t x
 PieceAnswers t (Marked x) = Answers t x
 PieceAnswers t Wordless = Unit {0}
 
 -- a piece is played, and then the others
 pub plays-piece : (t u : Table) (piece : Piece) (xs : List Taken) → PlaysTo t (step_before piece xs) u → PieceAnswers t piece × PlaysTo (table_after t piece) xs u
-plays-piece t u (Quiet (Stepped s a)) xs p = (p.0, p.1)
-plays-piece t u (Quiet (Swapped k put taken)) xs p = (p.0, p.1)
-plays-piece t u (Quiet (Missed k)) xs p = absurd p
+plays-piece t u (Unmarked (Stepped s a)) xs p = (p.0, p.1)
+plays-piece t u (Unmarked (Swapped k put taken)) xs p = (p.0, p.1)
+plays-piece t u (Unmarked (Missed k)) xs p = absurd p
 plays-piece t u (Marked (Stepped s a)) xs p = (p.0, p.1)
 plays-piece t u (Marked (Swapped k put taken)) xs p = (p.0, p.1)
 plays-piece t u (Marked (Missed k)) xs p = absurd p

@@ -17,7 +17,7 @@ use Rattle.leaf_engine.specs.Changes.{Hand}
 use Rattle.leaf_engine.specs.Decides.{IsHand}
 use Rattle.leaf_engine.specs.Turns.{Standing}
 use Rattle.leaf_engine.specs.Calls.{no_memory}
-use Rattle.leaf_engine.specs.OwnLists.{Piece, Quiet, joined, marked_behind, running, WordLp, first_lp, LinesTurn, OwnTurns}
+use Rattle.leaf_engine.specs.OwnLists.{Piece, Unmarked, joined, marked_behind, running, WordLp, first_lp, LinesTurn, OwnTurns}
 use Rattle.leaf_engine.specs.Merges.{Item, part, order, no_table, AreLeaves, Merge}
 use Rattle.merge_laws.specs.Laws.{IsShownBy, IsWhere, MergesAreRuns}
 use Rattle.merge_laws.proofs.Stores.{Due, over-none, laid-none}
@@ -75,7 +75,7 @@ nothing-left ls o trees p pos end_ rest = by-fill pos.fill pos.at.lines pos.at.r
     turns ([] ∷ tps) e own = absurd (turn pos.at.lines refl own.0 own.1.0 own.1.1)
     turns ((x ∷ tp) ∷ tps) e own = cc
 
-    no-items : (xs : List Taken) (ps : List Piece) → [] ≡ map Quiet xs ++ ps → (xs ≡ []) × ([] ≡ ps)
+    no-items : (xs : List Taken) (ps : List Piece) → [] ≡ map Unmarked xs ++ ps → (xs ≡ []) × ([] ≡ ps)
     no-items [] ps e = (refl, e)
     no-items (x ∷ xs) ps e = cc
 
@@ -89,7 +89,7 @@ nothing-left ls o trees p pos end_ rest = by-fill pos.fill pos.at.lines pos.at.r
         no-swap (inr r) = (let bad = sym (no-items re.items (joined re.turns) re.pieces).0 ∙ r.items in cc)
 
     -- an act is still to come
-    act-left : (stores act : List Taken) (ps : List Piece) → [] ≡ map Quiet stores ++ (marked_behind 0 act ++ ps) → ⊥
+    act-left : (stores act : List Taken) (ps : List Piece) → [] ≡ map Unmarked stores ++ (marked_behind 0 act ++ ps) → ⊥
     act-left [] [] ps e = cc
     act-left [] (x ∷ xs) ps e = cc
     act-left (x ∷ xs) act ps e = cc

@@ -34,7 +34,7 @@ use Rattle.leaf_engine.specs.declared.events.Stage.TheVariants as stages
 use Rattle.leaf_engine.specs.Items.{AreChanged}
 use Rattle.leaf_engine.specs.Turns.{Standing, standing, last_reply}
 use Rattle.leaf_engine.specs.Calls.{IsCallAt}
-use Rattle.leaf_engine.specs.OwnLists.{Piece, Quiet, joined, marked_behind, TurnsInPieces, WordLp, after_turn, OwnTurns}
+use Rattle.leaf_engine.specs.OwnLists.{Piece, Unmarked, joined, marked_behind, TurnsInPieces, WordLp, after_turn, OwnTurns}
 use Rattle.merge_laws.proofs.Stores.{Due, last_at, or_else, laid, EachDue, FillsAt}
 use Rattle.merge_laws.proofs.Swaps.{SwapDue, slots_laid, SwapsMay}
 use Rattle.merge_laws.proofs.Owing.{Owed, stores_in, swaps_in, AreOwed}
@@ -173,7 +173,7 @@ pub record Rest (o : Opening) (trees : ℕ → Call → Tree) (p : ℕ) (at : Wo
   pub are : AreOwed o.machine.pages hasher hand items owed last
   pub last_is : HasInHand at.run last
   pub turns : List (List Piece)
-  pub pieces : ps ≡ map Quiet items ++ joined turns
+  pub pieces : ps ≡ map Unmarked items ++ joined turns
   pub own : OwnTurns (leaf_for o trees p) o.machine at turns end_
 
 -- or the fills that are left, its act, and its further turns
@@ -185,7 +185,7 @@ pub record RestFilling (o : Opening) (trees : ℕ → Call → Tree) (p : ℕ) (
   pub are : AreTodos o.machine.pages stores f.left
   pub hasher : Option Measure
   pub changed : AreChanged o.machine f.changes None act hasher
-  pub pieces : ps ≡ map Quiet stores ++ (marked_behind 0 act ++ joined turns)
+  pub pieces : ps ≡ map Unmarked stores ++ (marked_behind 0 act ++ joined turns)
   pub after : Standing
   pub after_is : after ≡ standing (End f.reply f.fills f.changes) (stages.Answered f.reply) run.held hasher
   pub own : OwnTurns (leaf_for o trees p) o.machine (after_turn c cs replies after (last_reply after.stage after.held)) turns end_

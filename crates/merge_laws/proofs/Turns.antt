@@ -19,10 +19,10 @@ use Rattle.leaf_engine.specs.declared.events.Stage.TheVariants as stages
 use Rattle.leaf_engine.specs.declared.needs.Need.TheVariants as need
 use Rattle.leaf_engine.specs.Changes.{Memory}
 use Rattle.leaf_engine.specs.Trees.{Tree, Lock, Load, Test, End, Since, feed, settle, fed, passed, has_acted}
-use Rattle.leaf_engine.specs.Decides.{Gives}
+use Rattle.leaf_engine.specs.Decides.{Wants}
 use Rattle.leaf_engine.specs.Items.{IsLoadAt, IsLoaded}
-use Rattle.leaf_engine.specs.Turns.{Standing, Goes, Tries, last_reply, tried, try_step, grants}
-use Rattle.leaf_engine.specs.OwnLists.{Piece, Quiet, Marked, joined, last_marked, GoesIn, TurnIn, WordLp, after_turn, LineTurn, OwnTurns}
+use Rattle.leaf_engine.specs.Turns.{Standing, Advances, Tries, last_reply, tried, try_step, grants}
+use Rattle.leaf_engine.specs.OwnLists.{Piece, Unmarked, Marked, joined, last_marked, GoesIn, TurnIn, WordLp, after_turn, LineTurn, OwnTurns}
 use Rattle.leaf_engine.proofs.Decided.{settled}
 use Rattle.leaf_engine.proofs.Loading.{LooksRight}
 use Rattle.merge_laws.proofs.Stores.{Due, last_at, laid-same}
@@ -42,7 +42,7 @@ told-tree o trees s mem t pos p c cs run a st = ap settle (a.runs.call.told st).
 pub load-piece : (ls : Laws) (o : Opening) (trees : ℕ → Call → Tree) (s : State) (mem : Memory) (t : Table) (pos : ℕ → Position) (p : ℕ) (c : Call) (cs : List Call) (run run' : Standing) (e : RunEvent) (at x : ℕ) (tp : List Piece) (tps : List (List Piece)) (end_ : WordLp)
     → AtTurn o trees s mem t pos p c cs run → (pos p).owes ≡ [] → run.stage ≡ stages.Trying → IsLoadAt o.machine.pages (settle run.rest) at → GoesOnBehind (settle run.rest) x → x ≡ t.words at → GoesIn o.machine (loaded run x) tp run' e
     → OwnTurns (leaf_for o trees p) o.machine (after_turn c cs (pos p).at.replies run' (last_reply run'.stage run'.held)) tps end_
-    → Came o trees p s t pos (Quiet (Stepped (step.Load at) x)) (tp ++ joined tps) end_
+    → Came o trees p s t pos (Unmarked (Stepped (step.Load at) x)) (tp ++ joined tps) end_
 load-piece ls o trees s mem t pos p c cs run run' e at x tp tps end_ a none st load on an goes own =
     record {
       memory = mem;
@@ -149,7 +149,7 @@ goes-on n (Test b r t) at x i h = absurd i
 goes-on n (End r fs cs) at x i h = absurd i
 goes-on n (Since r cs) at x i h = absurd i
 
-last-behind : (x : Taken) (ys : List Taken) (z : Taken) → last_marked (x ∷ (ys ++ z ∷ [])) ≡ Quiet x ∷ last_marked (ys ++ z ∷ [])
+last-behind : (x : Taken) (ys : List Taken) (z : Taken) → last_marked (x ∷ (ys ++ z ∷ [])) ≡ Unmarked x ∷ last_marked (ys ++ z ∷ [])
 last-behind x [] z = refl
 last-behind x (y ∷ ys) z = refl
 
@@ -161,7 +161,7 @@ tried-same run x t name at mode false = refl
 abbrev pub Heads : List Piece → List (List Piece) → Piece → List Piece → Type 0
 Heads tp tps piece ps = tp ++ joined tps ≡ piece ∷ ps
 
-no-lock-given : (n : ℕ) (t : Tree) (name : LockName) (at : ℕ) (mode : Mode) → IsDone t → Gives n t (need.Lock name at mode) → ⊥
+no-lock-given : (n : ℕ) (t : Tree) (name : LockName) (at : ℕ) (mode : Mode) → IsDone t → Wants n t (need.Lock name at mode) → ⊥
 no-lock-given n (Lock l q m t) name at mode d g = d
 no-lock-given n (Load v q k) name at mode d g = d
 no-lock-given n (Test b r t) name at mode d g = d
@@ -171,13 +171,13 @@ no-lock-given n (Since r cs) name at mode d g = cc
 -- a turn that comes to a lock
 pub lock-turn : (ls : Laws) (o : Opening) (trees : ℕ → Call → Tree) (s : State) (mem : Memory) (t : Table) (pos : ℕ → Position) (p : ℕ) (c : Call) (cs : List Call) (run run' : Standing) (e : RunEvent) (loads items : List Taken) (tree : Tree) (name : LockName) (at : ℕ)
     (mode : Mode) (tps : List (List Piece)) (end_ : WordLp) (piece : Piece) (ps : List Piece) → AtTurn o trees s mem t pos p c cs run → (pos p).owes ≡ [] → run.stage ≡ stages.Trying → IsLoaded o.machine.pages run.rest loads tree
-    → Gives o.machine.pages (settle tree) (need.Lock name at mode) → Tries run (passed (settle tree)) loads items name at mode run' e
+    → Wants o.machine.pages (settle tree) (need.Lock name at mode) → Tries run (passed (settle tree)) loads items name at mode run' e
     → OwnTurns (leaf_for o trees p) o.machine (after_turn c cs (pos p).at.replies run' (last_reply run'.stage run'.held)) tps end_
     → Heads (last_marked items) tps piece ps → PieceAnswers t piece → Came o trees p s t pos piece ps end_
 lock-turn ls o trees s mem t pos p c cs run run' e [] items tree name at mode tps end_ piece ps a none st l g tr own h an =
     let x : Taken = Stepped (try_step at mode) tr.seen in
     let h' : Marked x ∷ joined tps ≡ piece ∷ ps = ap (λ (z : List Taken). last_marked z ++ joined tps) (sym tr.items) ∙ h in
-    let goes : Goes o.machine run (x ∷ []) run' e = record {
+    let goes : Advances o.machine run (x ∷ []) run' e = record {
       loads = [];
       tree = tree;
       need = need.Lock name at mode;
@@ -185,7 +185,7 @@ lock-turn ls o trees s mem t pos p c cs run run' e [] items tree name at mode tp
       gives = g;
       comes = record { seen = tr.seen; items = refl; event = tr.event; after = tr.after };
     } in
-    let given : Gives o.machine.pages (settle run.rest) (need.Lock name at mode) = subst (λ (z : Tree). Gives o.machine.pages (settle z) (need.Lock name at mode)) (sym l) g in
+    let given : Wants o.machine.pages (settle run.rest) (need.Lock name at mode) = subst (λ (z : Tree). Wants o.machine.pages (settle z) (need.Lock name at mode)) (sym l) g in
     came-as o trees p s t pos (Marked x) piece (joined tps) ps end_ h'
     (try-piece ls o trees s mem t pos p c cs run run' e (passed (settle tree)) name at mode tr.seen tps end_ a none st goes given tr.after (answers-as t (Marked x) piece (joined tps) ps h' an) own)
 lock-turn ls o trees s mem t pos p c cs run run' e (Swapped k u v ∷ loads) items tree name at mode tps end_ piece ps a none st l g tr own h an = absurd l
@@ -196,8 +196,8 @@ lock-turn ls o trees s mem t pos p c cs run run' e (Stepped w x ∷ loads) items
     let y : Taken = Stepped (try_step at mode) tr.seen in
     let tp : List Piece = last_marked (loads ++ y ∷ []) in
     let w-is : w ≡ step.Load from = l.0.2 in
-    let h' : Quiet (Stepped (step.Load from) x) ∷ (tp ++ joined tps) ≡ piece ∷ ps =
-    ap (λ (z : WordStep). Quiet (Stepped z x) ∷ (tp ++ joined tps)) (sym w-is)
+    let h' : Unmarked (Stepped (step.Load from) x) ∷ (tp ++ joined tps) ≡ piece ∷ ps =
+    ap (λ (z : WordStep). Unmarked (Stepped z x) ∷ (tp ++ joined tps)) (sym w-is)
     ∙ (ap (λ (z : List Piece). z ++ joined tps) (sym (last-behind (Stepped w x) loads y)) ∙ (ap (λ (z : List Taken). last_marked z ++ joined tps) (sym tr.items) ∙ h)) in
     let never : IsDone (fed (settle run.rest) x) → ⊥ = λ d.
     (let dl = done-loads n (fed (settle run.rest) x) loads tree d l.1 in no-lock-given n (settle tree) name at mode (subst (λ (z : Tree). IsDone z) (sym dl.1) d) g) in
@@ -213,6 +213,6 @@ lock-turn ls o trees s mem t pos p c cs run run' e (Stepped w x ∷ loads) items
       };
       pieces = refl;
     } in
-    came-as o trees p s t pos (Quiet (Stepped (step.Load from) x)) piece (tp ++ joined tps) ps end_ h'
+    came-as o trees p s t pos (Unmarked (Stepped (step.Load from) x)) piece (tp ++ joined tps) ps end_ h'
     (load-piece ls o trees s mem t pos p c cs run run' e from x tp tps end_ a none st l.0.1 (goes-on n (settle run.rest) from x l.0.1 never)
-    (answers-as t (Quiet (Stepped (step.Load from) x)) piece (tp ++ joined tps) ps h' an) goes own)
+    (answers-as t (Unmarked (Stepped (step.Load from) x)) piece (tp ++ joined tps) ps h' an) goes own)

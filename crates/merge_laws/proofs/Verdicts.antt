@@ -18,10 +18,10 @@ use Rattle.leaf_engine.specs.declared.events.Stage.TheVariants as stages
 use Rattle.leaf_engine.specs.declared.needs.Need.TheVariants as need
 use Rattle.leaf_engine.specs.Changes.{Memory, Change, changed}
 use Rattle.leaf_engine.specs.Trees.{Tree, Lock, Load, Test, End, Since, feed, settle, fed, passed, changes_of}
-use Rattle.leaf_engine.specs.Decides.{Gives, IsHand}
+use Rattle.leaf_engine.specs.Decides.{Wants, IsHand}
 use Rattle.leaf_engine.specs.Items.{IsLoadAt, IsLoaded, IsChanged, AreChanged}
-use Rattle.leaf_engine.specs.Turns.{Standing, standing, Ends, last_reply}
-use Rattle.leaf_engine.specs.OwnLists.{Piece, Quiet, Marked, Wordless, joined, marked_behind, act_pieces, behind, items_in, GoesIn, WordLp, after_turn, OwnTurns}
+use Rattle.leaf_engine.specs.Turns.{Standing, standing, Replies, last_reply}
+use Rattle.leaf_engine.specs.OwnLists.{Piece, Unmarked, Marked, Wordless, joined, marked_behind, act_pieces, behind, items_in, GoesIn, WordLp, after_turn, OwnTurns}
 use Rattle.leaf_engine.proofs.Decided.{feed-append, settled}
 use Rattle.leaf_engine.proofs.Loading.{LooksRight, current-load, granted-load}
 use Rattle.merge_laws.proofs.Stores.{Due, last_at, or_else}
@@ -50,12 +50,12 @@ the-result e run' = record { event = e; reply = last_reply run'.stage run'.held 
 
 -- what was told, at the end
 at-end : (o : Opening) (trees : ℕ → Call → Tree) (s : State) (mem : Memory) (t : Table) (pos : ℕ → Position) (p : ℕ) (c : Call) (cs : List Call) (run run' : Standing) (e : RunEvent) (end_ : Tree) (changes : List Taken) (reply : Reply)
-    → (a : AtTurn o trees s mem t pos p c cs run) → (st : run.stage ≡ stages.Trying) → (en : Ended o.machine run run' end_ changes reply) → feed (trees p c) (a.runs.call.told st).told ≡ end_ → Gives o.machine.pages end_ (need.Verdict reply)
+    → (a : AtTurn o trees s mem t pos p c cs run) → (st : run.stage ≡ stages.Trying) → (en : Ended o.machine run run' end_ changes reply) → feed (trees p c) (a.runs.call.told st).told ≡ end_ → Wants o.machine.pages end_ (need.Verdict reply)
     → AtEnd o trees s mem p c (a.runs.call.told st).told (a.runs.call.told st).told reply run run' (record { event = e; reply = last_reply run'.stage run'.held })
 at-end o trees s mem t pos p c cs run run' e end_ changes reply a st en is g = record {
   current = (a.runs.call.told st).current;
   locks = refl;
-  gives = subst (λ (z : Tree). Gives o.machine.pages z (need.Verdict reply)) (sym is) g;
+  gives = subst (λ (z : Tree). Wants o.machine.pages z (need.Verdict reply)) (sym is) g;
   answered = ap (λ (z : Standing). z.stage) en.after;
   held = ap (λ (z : Standing). z.held) en.after;
   last = refl;
@@ -64,7 +64,7 @@ at-end o trees s mem t pos p c cs run run' e end_ changes reply a st en is g = r
 -- what was told, with the load that is its act
 at-end-load : (ls : Laws) (o : Opening) (trees : ℕ → Call → Tree) (s : State) (mem : Memory) (t : Table) (pos : ℕ → Position) (p : ℕ) (c : Call) (cs : List Call) (run run' : Standing) (e : RunEvent) (end_ : Tree) (changes : List Taken) (reply : Reply) (at x : ℕ)
     → (a : AtTurn o trees s mem t pos p c cs run) → (pos p).owes ≡ [] → (st : run.stage ≡ stages.Trying) → (en : Ended o.machine run run' end_ changes reply) → IsLoadAt o.machine.pages (settle run.rest) at → x ≡ t.words at
-    → feed (trees p c) ((a.runs.call.told st).told ++ x ∷ []) ≡ end_ → Gives o.machine.pages end_ (need.Verdict reply)
+    → feed (trees p c) ((a.runs.call.told st).told ++ x ∷ []) ≡ end_ → Wants o.machine.pages end_ (need.Verdict reply)
     → AtEnd o trees s mem p c (a.runs.call.told st).told ((a.runs.call.told st).told ++ x ∷ []) reply run run' (record { event = e; reply = last_reply run'.stage run'.held })
 at-end-load ls o trees s mem t pos p c cs run run' e end_ changes reply at x a owed st en load an is g =
     let told = (a.runs.call.told st).told in
@@ -73,7 +73,7 @@ at-end-load ls o trees s mem t pos p c cs run run' e end_ changes reply at x a o
     record {
       current = current-load mem.words (trees p c) told x (a.runs.call.told st).current right;
       locks = granted-load mem.words (trees p c) told x [] right;
-      gives = subst (λ (z : Tree). Gives o.machine.pages z (need.Verdict reply)) (sym is) g;
+      gives = subst (λ (z : Tree). Wants o.machine.pages z (need.Verdict reply)) (sym is) g;
       answered = ap (λ (z : Standing). z.stage) en.after;
       held = ap (λ (z : Standing). z.held) en.after;
       last = refl;
@@ -97,7 +97,7 @@ not-filled o t pos p mem owed = record { there = λ r x in_r e. cc; undo = λ r.
 -- the end without a load before it
 end-now : (ls : Laws) (o : Opening) (trees : ℕ → Call → Tree) (s : State) (mem : Memory) (t : Table) (pos : ℕ → Position) (p : ℕ) (c : Call) (cs : List Call) (run run' : Standing) (e : RunEvent) (end_ : Tree) (changes : List Taken) (reply : Reply)
     (tps : List (List Piece)) (last : WordLp) (piece : Piece) (ps : List Piece) → (a : AtTurn o trees s mem t pos p c cs run) → (pos p).owes ≡ [] → (st : run.stage ≡ stages.Trying) → Ended o.machine run run' end_ changes reply → feed (trees p c) (a.runs.call.told st).told ≡ end_
-    → Gives o.machine.pages end_ (need.Verdict reply) → OwnTurns (leaf_for o trees p) o.machine (after_turn c cs (pos p).at.replies run' (last_reply run'.stage run'.held)) tps last
+    → Wants o.machine.pages end_ (need.Verdict reply) → OwnTurns (leaf_for o trees p) o.machine (after_turn c cs (pos p).at.replies run' (last_reply run'.stage run'.held)) tps last
     → Heads (act_pieces end_ [] changes) tps piece ps → PieceAnswers t piece → Came o trees p s t pos piece ps last
 end-now ls o trees s mem t pos p c cs run run' e (Lock l q m x) changes reply tps last piece ps a owed st en is g own h an = cc
 end-now ls o trees s mem t pos p c cs run run' e (Load v q k) changes reply tps last piece ps a owed st en is g own h an = cc
@@ -128,14 +128,14 @@ end-now ls o trees s mem t pos p c cs run run' e (End r [] (c1 ∷ ds)) changes 
     let item = act-item m (bare (s.lps p).call.held) s.world mem c1 ys run.hasher between may.1.0 one (hand-now o trees s mem t pos p c cs run a st) in
     let x : Taken = item.taken in
     let all : changes ≡ x ∷ zs = en.changed.1.1.1 ∙ ap (λ (z : List Taken). z ++ zs) item.items in
-    let h' : Marked x ∷ (map Quiet zs ++ joined tps) ≡ piece ∷ ps = ap (λ (z : List Taken). marked_behind 0 z ++ joined tps) (sym all) ∙ h in
-    let answers = answers-as t (Marked x) piece (map Quiet zs ++ joined tps) ps h' an in
+    let h' : Marked x ∷ (map Unmarked zs ++ joined tps) ≡ piece ∷ ps = ap (λ (z : List Taken). marked_behind 0 z ++ joined tps) (sym all) ∙ h in
+    let answers = answers-as t (Marked x) piece (map Unmarked zs ++ joined tps) ps h' an in
     let slots = act-rest m (bare (s.lps p).call.held) s.world mem t c1 x between a.all.slots.now may.1.0 item.is answers (slot-seen ls o trees s mem t pos p c cs run mem.slots a refl) a.all.slots.there in
     let moved = end-moved ls o trees s mem t (taken_after t x) pos p c cs (a.runs.call.told st).told reply run run' (record { event = e; reply = last_reply run'.stage run'.held }) a st en' (subst (λ (z : Tree). HasFilled o t pos p mem (filled_of z mem)) (sym is) (not-filled o t pos p mem owed))
     (λ y in_y. act-table ls o trees s mem t pos p c cs run [] c1 x between a (not-filled o t pos p mem owed) may.1.0 item.is y in_y
     ∙ ap (λ (z : Tree). or_else (last_at (first_of z mem) y) (t.words (address m.pages y))) {x = End r [] (c1 ∷ ds)} {y = feed (trees p c) (a.runs.call.told st).told} (sym is))
     (subst (λ (z : Tree). (k : ℕ) → IsHkid m k → IsHand ((taken_after t x).slots (k - 1)) (or_else (last_put (puts_of z mem) k) (a.all.slots.now k))) (sym is) slots.1) in
-    came-as o trees p s t pos (Marked x) piece (map Quiet zs ++ joined tps) ps last h'
+    came-as o trees p s t pos (Marked x) piece (map Unmarked zs ++ joined tps) ps last h'
     (record {
       memory = moved.memory;
       now = record { at = after_turn c cs (pos p).at.replies run' (last_reply run'.stage run'.held); owes = owes_of (feed (trees p c) (a.runs.call.told st).told) mem; swaps = swaps_left (feed (trees p c) (a.runs.call.told st).told) mem; fill = None };
@@ -156,8 +156,8 @@ end-now ls o trees s mem t pos p c cs run run' e (End r (f ∷ fs) ds) changes r
     let many = behind-fills m (bare (s.lps p).call.held) s.world (f ∷ fs) run.hasher two.between two.first two.second may two.filled (a.hand.trying st) in
     let todo = fills-todo m (bare (s.lps p).call.held) s.world (f ∷ fs) may in
     let reply-is : reply ≡ r = cc g in
-    let heads : map Quiet two.first ++ (marked_behind 0 two.second ++ joined tps) ≡ piece ∷ ps =
-    sym (append_assoc (map Quiet two.first) (marked_behind 0 two.second) (joined tps))
+    let heads : map Unmarked two.first ++ (marked_behind 0 two.second ++ joined tps) ≡ piece ∷ ps =
+    sym (append_assoc (map Unmarked two.first) (marked_behind 0 two.second) (joined tps))
     ∙ (ap (λ (z : List Piece). z ++ joined tps) (sym many) ∙ (ap (λ (z : List Taken). marked_behind (items_in (f ∷ fs)) z ++ joined tps) (sym two.items) ∙ h)) in
     fill-piece ls o trees s mem t pos p c cs run (record { reply = r; fills = f ∷ fs; changes = ds; made = []; left = all_todos (f ∷ fs) }) last piece ps a
     (record {
@@ -194,7 +194,7 @@ end-now ls o trees s mem t pos p c cs run run' e (Since r ds) changes reply tps 
     let moved = end-moved ls o trees s mem t t pos p c cs (a.runs.call.told st).told reply run run' (record { event = e; reply = last_reply run'.stage run'.held }) a st en' (subst (λ (z : Tree). HasFilled o t pos p mem (filled_of z mem)) (sym is) (not-filled o t pos p mem owed))
     (λ y in_y. ap (λ (z : Tree). or_else (last_at (first_of z mem) y) (t.words (address m.pages y))) {x = Since r ds} {y = feed (trees p c) (a.runs.call.told st).told} (sym is))
     (subst (λ (z : Tree). (k : ℕ) → IsHkid m k → IsHand (t.slots (k - 1)) (or_else (last_put (puts_of z mem) k) (a.all.slots.now k))) (sym is) a.all.slots.there) in
-    came-as o trees p s t pos Wordless piece (map Quiet changes ++ joined tps) ps last h
+    came-as o trees p s t pos Wordless piece (map Unmarked changes ++ joined tps) ps last h
     (record {
       memory = moved.memory;
       now = record { at = after_turn c cs (pos p).at.replies run' (last_reply run'.stage run'.held); owes = owes_of (feed (trees p c) (a.runs.call.told st).told) mem; swaps = swaps_left (feed (trees p c) (a.runs.call.told st).told) mem; fill = None };
@@ -206,9 +206,9 @@ end-now ls o trees s mem t pos p c cs run run' e (Since r ds) changes reply tps 
 -- the end whose act is the load before it
 end-loaded : (ls : Laws) (o : Opening) (trees : ℕ → Call → Tree) (s : State) (mem : Memory) (t : Table) (pos : ℕ → Position) (p : ℕ) (c : Call) (cs : List Call) (run run' : Standing) (e : RunEvent) (end_ : Tree) (changes : List Taken) (reply : Reply) (at x : ℕ)
     (tps : List (List Piece)) (last : WordLp) → (a : AtTurn o trees s mem t pos p c cs run) → (pos p).owes ≡ [] → (st : run.stage ≡ stages.Trying) → Ended o.machine run run' end_ changes reply → IsLoadAt o.machine.pages (settle run.rest) at → x ≡ t.words at
-    → feed (trees p c) ((a.runs.call.told st).told ++ x ∷ []) ≡ end_ → Gives o.machine.pages end_ (need.Verdict reply) → IsDone end_
+    → feed (trees p c) ((a.runs.call.told st).told ++ x ∷ []) ≡ end_ → Wants o.machine.pages end_ (need.Verdict reply) → IsDone end_
     → OwnTurns (leaf_for o trees p) o.machine (after_turn c cs (pos p).at.replies run' (last_reply run'.stage run'.held)) tps last
-    → Came o trees p s t pos (Marked (Stepped (step.Load at) x)) (map Quiet changes ++ joined tps) last
+    → Came o trees p s t pos (Marked (Stepped (step.Load at) x)) (map Unmarked changes ++ joined tps) last
 end-loaded ls o trees s mem t pos p c cs run run' e (Lock l q m z) changes reply at x tps last a owed st en load an is g d own = absurd d
 end-loaded ls o trees s mem t pos p c cs run run' e (Load v q k) changes reply at x tps last a owed st en load an is g d own = absurd d
 end-loaded ls o trees s mem t pos p c cs run run' e (Test b r z) changes reply at x tps last a owed st en load an is g d own = absurd d
@@ -248,9 +248,9 @@ end-loaded ls o trees s mem t pos p c cs run run' e (Since r ds) changes reply a
 -- the load before the end goes on
 quiet-load : (ls : Laws) (o : Opening) (trees : ℕ → Call → Tree) (s : State) (mem : Memory) (t : Table) (pos : ℕ → Position) (p : ℕ) (c : Call) (cs : List Call) (run run' : Standing) (e : RunEvent) (from x : ℕ) (loads changes : List Taken) (tree : Tree) (reply : Reply)
     (tps : List (List Piece)) (last : WordLp) → (a : AtTurn o trees s mem t pos p c cs run) → (pos p).owes ≡ [] → (st : run.stage ≡ stages.Trying) → Ended o.machine run run' (passed (settle tree)) changes reply → e ≡ events.Act → IsLoadAt o.machine.pages (settle run.rest) from
-    → IsLoaded o.machine.pages (fed (settle run.rest) x) loads tree → Gives o.machine.pages (settle tree) (need.Verdict reply) → (IsDone (fed (settle run.rest) x) → ⊥) → x ≡ t.words from
+    → IsLoaded o.machine.pages (fed (settle run.rest) x) loads tree → Wants o.machine.pages (settle tree) (need.Verdict reply) → (IsDone (fed (settle run.rest) x) → ⊥) → x ≡ t.words from
     → OwnTurns (leaf_for o trees p) o.machine (after_turn c cs (pos p).at.replies run' (last_reply run'.stage run'.held)) tps last
-    → Came o trees p s t pos (Quiet (Stepped (step.Load from) x)) (act_pieces (passed (settle tree)) loads changes ++ joined tps) last
+    → Came o trees p s t pos (Unmarked (Stepped (step.Load from) x)) (act_pieces (passed (settle tree)) loads changes ++ joined tps) last
 quiet-load ls o trees s mem t pos p c cs run run' e from x loads changes tree reply tps last a owed st en ev load l g never an own =
     let goes : GoesIn o.machine (loaded run x) (act_pieces (passed (settle tree)) loads changes) run' e = record {
       items = loads ++ changes;
@@ -271,7 +271,7 @@ IsEnd (End r fs cs) = Unit {0}
 IsEnd (Since r cs) = Unit {0}
 IsEnd _ = ⊥
 
-given-end : (n : ℕ) (t : Tree) (reply : Reply) → Gives n t (need.Verdict reply) → IsEnd t
+given-end : (n : ℕ) (t : Tree) (reply : Reply) → Wants n t (need.Verdict reply) → IsEnd t
 given-end n (Lock l q m t) reply g = cc
 given-end n (Load v q k) reply g = cc
 given-end n (Test b r t) reply g = absurd g
@@ -286,7 +286,7 @@ end-passed (End r fs cs) h = refl
 end-passed (Since r cs) h = refl
 
 -- the pieces behind the first of several loads
-more-loads : (t : Tree) (l y : Taken) (loads changes : List Taken) → IsEnd t → act_pieces t (l ∷ y ∷ loads) changes ≡ Quiet l ∷ act_pieces t (y ∷ loads) changes
+more-loads : (t : Tree) (l y : Taken) (loads changes : List Taken) → IsEnd t → act_pieces t (l ∷ y ∷ loads) changes ≡ Unmarked l ∷ act_pieces t (y ∷ loads) changes
 more-loads (Lock l' q m t) l y loads changes h = absurd h
 more-loads (Load v q k) l y loads changes h = absurd h
 more-loads (Test b r t) l y loads changes h = absurd h
@@ -297,14 +297,14 @@ more-loads (Since r cs) l y loads changes h = refl
 
 -- one load is left: it is the act, or it isn't
 pub data OneLoad (t : Tree) (l : Taken) (changes : List Taken) : Type 0 where
-  IsAct : IsDone t → act_pieces t (l ∷ []) changes ≡ Marked l ∷ map Quiet changes → OneLoad t l changes
-  IsNone : (IsDone t → ⊥) → act_pieces t (l ∷ []) changes ≡ Quiet l ∷ act_pieces t [] changes → OneLoad t l changes
+  IsAct : IsDone t → act_pieces t (l ∷ []) changes ≡ Marked l ∷ map Unmarked changes → OneLoad t l changes
+  IsNone : (IsDone t → ⊥) → act_pieces t (l ∷ []) changes ≡ Unmarked l ∷ act_pieces t [] changes → OneLoad t l changes
 
 one-load : (t : Tree) (l : Taken) (changes : List Taken) → IsEnd t → (changes_of t ≡ [] → changes ≡ []) → OneLoad t l changes
 one-load (Lock l' q m t) l changes h nil = absurd h
 one-load (Load v q k) l changes h nil = absurd h
 one-load (Test b r t) l changes h nil = absurd h
-one-load (End r [] []) l changes h nil = IsAct tt (ap (λ (z : List Taken). Marked l ∷ map Quiet z) (sym (nil refl)))
+one-load (End r [] []) l changes h nil = IsAct tt (ap (λ (z : List Taken). Marked l ∷ map Unmarked z) (sym (nil refl)))
 one-load (End r [] (c ∷ cs)) l changes h nil = IsNone (λ d. d) refl
 one-load (End r (f ∷ fs) cs) l changes h nil = IsNone (λ d. d) refl
 one-load (Since r cs) l changes h nil = IsAct tt refl
@@ -312,7 +312,7 @@ one-load (Since r cs) l changes h nil = IsAct tt refl
 -- a turn that comes to its end
 pub verdict-turn : (ls : Laws) (o : Opening) (trees : ℕ → Call → Tree) (s : State) (mem : Memory) (t : Table) (pos : ℕ → Position) (p : ℕ) (c : Call) (cs : List Call) (run run' : Standing) (e : RunEvent) (loads items : List Taken) (tree : Tree) (reply : Reply)
     (tps : List (List Piece)) (last : WordLp) (piece : Piece) (ps : List Piece) → AtTurn o trees s mem t pos p c cs run → (pos p).owes ≡ [] → run.stage ≡ stages.Trying → IsLoaded o.machine.pages run.rest loads tree
-    → Gives o.machine.pages (settle tree) (need.Verdict reply) → Ends o.machine run (passed (settle tree)) loads items reply run' e
+    → Wants o.machine.pages (settle tree) (need.Verdict reply) → Replies o.machine run (passed (settle tree)) loads items reply run' e
     → OwnTurns (leaf_for o trees p) o.machine (after_turn c cs (pos p).at.replies run' (last_reply run'.stage run'.held)) tps last
     → Heads (act_pieces (passed (settle tree)) loads (behind loads items)) tps piece ps → PieceAnswers t piece → Came o trees p s t pos piece ps last
 verdict-turn ls o trees s mem t pos p c cs run run' e [] items tree reply tps last piece ps a owed st l g en own h an =
@@ -355,18 +355,18 @@ verdict-turn ls o trees s mem t pos p c cs run run' e (Stepped w x ∷ loads) it
     heads : act_pieces (passed (settle tree)) (Stepped (step.Load from) x ∷ loads) en.changes ++ joined tps ≡ piece ∷ ps
     heads = ap (λ (z : WordStep). act_pieces (passed (settle tree)) (Stepped z x ∷ loads) en.changes ++ joined tps) (sym l.0.2) ∙ (ap (λ (z : List Taken). act_pieces (passed (settle tree)) (Stepped w x ∷ loads) z ++ joined tps) (sym behind-is) ∙ h)
 
-    quiet : (IsDone (fed (settle run.rest) x) → ⊥) → act_pieces (passed (settle tree)) (Stepped (step.Load from) x ∷ loads) en.changes ≡ Quiet (Stepped (step.Load from) x) ∷ act_pieces (passed (settle tree)) loads en.changes
+    quiet : (IsDone (fed (settle run.rest) x) → ⊥) → act_pieces (passed (settle tree)) (Stepped (step.Load from) x ∷ loads) en.changes ≡ Unmarked (Stepped (step.Load from) x) ∷ act_pieces (passed (settle tree)) loads en.changes
         → Came o trees p s t pos piece ps last
     quiet never parts =
-        let h' : Quiet (Stepped (step.Load from) x) ∷ (act_pieces (passed (settle tree)) loads en.changes ++ joined tps) ≡ piece ∷ ps = ap (λ (z : List Piece). z ++ joined tps) (sym parts) ∙ heads in
-        came-as o trees p s t pos (Quiet (Stepped (step.Load from) x)) piece (act_pieces (passed (settle tree)) loads en.changes ++ joined tps) ps last h'
+        let h' : Unmarked (Stepped (step.Load from) x) ∷ (act_pieces (passed (settle tree)) loads en.changes ++ joined tps) ≡ piece ∷ ps = ap (λ (z : List Piece). z ++ joined tps) (sym parts) ∙ heads in
+        came-as o trees p s t pos (Unmarked (Stepped (step.Load from) x)) piece (act_pieces (passed (settle tree)) loads en.changes ++ joined tps) ps last h'
         (quiet-load ls o trees s mem t pos p c cs run run' e from x loads en.changes tree reply tps last a owed st ended en.event l.0.1 l.1 g never
-        (answers-as t (Quiet (Stepped (step.Load from) x)) piece (act_pieces (passed (settle tree)) loads en.changes ++ joined tps) ps h' an) own)
+        (answers-as t (Unmarked (Stepped (step.Load from) x)) piece (act_pieces (passed (settle tree)) loads en.changes ++ joined tps) ps h' an) own)
 
     by : (ys : List Taken) → loads ≡ ys → Came o trees p s t pos piece ps last
     by (y ∷ ys) f =
         quiet (λ d. (let dl = done-loads n (fed (settle run.rest) x) loads tree d l.1 in let bad : y ∷ ys ≡ [] = sym f ∙ dl.0 in cc))
-        (subst (λ (zs : List Taken). act_pieces (passed (settle tree)) (Stepped (step.Load from) x ∷ zs) en.changes ≡ Quiet (Stepped (step.Load from) x) ∷ act_pieces (passed (settle tree)) zs en.changes) (sym f)
+        (subst (λ (zs : List Taken). act_pieces (passed (settle tree)) (Stepped (step.Load from) x ∷ zs) en.changes ≡ Unmarked (Stepped (step.Load from) x) ∷ act_pieces (passed (settle tree)) zs en.changes) (sym f)
         (more-loads (passed (settle tree)) (Stepped (step.Load from) x) y ys en.changes end-p))
     by [] f =
         one (one-load (passed (settle tree)) (Stepped (step.Load from) x) en.changes end-p (λ z. (none-changed o.machine run run' (passed (settle tree)) en.changes reply ended z).1))
@@ -378,14 +378,14 @@ verdict-turn ls o trees s mem t pos p c cs run run' e (Stepped w x ∷ loads) it
         one (IsNone never parts) =
             quiet
             (λ d. never (subst (λ (z : Tree). IsDone z) (sym (at ∙ (ap settle (sym tree-is) ∙ done-settled (fed (settle run.rest) x) d))) d))
-            (subst (λ (zs : List Taken). act_pieces (passed (settle tree)) (Stepped (step.Load from) x ∷ zs) en.changes ≡ Quiet (Stepped (step.Load from) x) ∷ act_pieces (passed (settle tree)) zs en.changes) (sym f) parts)
+            (subst (λ (zs : List Taken). act_pieces (passed (settle tree)) (Stepped (step.Load from) x ∷ zs) en.changes ≡ Unmarked (Stepped (step.Load from) x) ∷ act_pieces (passed (settle tree)) zs en.changes) (sym f) parts)
         one (IsAct d parts) =
-            let h' : Marked (Stepped (step.Load from) x) ∷ (map Quiet en.changes ++ joined tps) ≡ piece ∷ ps =
+            let h' : Marked (Stepped (step.Load from) x) ∷ (map Unmarked en.changes ++ joined tps) ≡ piece ∷ ps =
             ap (λ (z : List Piece). z ++ joined tps) (sym parts) ∙ (ap (λ (zs : List Taken). act_pieces (passed (settle tree)) (Stepped (step.Load from) x ∷ zs) en.changes ++ joined tps) (sym f) ∙ heads) in
             let told = (a.runs.call.told st).told in
             let now-tree : feed (trees p c) (told ++ x ∷ []) ≡ passed (settle tree) =
             sym (settled (trees p c) (told ++ x ∷ []))
             ∙ (ap settle (sym (ap (λ (z : Tree). fed z x) (told-tree o trees s mem t pos p c cs run a st) ∙ feed-append (trees p c) told (x ∷ [])) ∙ tree-is) ∙ sym at) in
-            came-as o trees p s t pos (Marked (Stepped (step.Load from) x)) piece (map Quiet en.changes ++ joined tps) ps last h'
+            came-as o trees p s t pos (Marked (Stepped (step.Load from) x)) piece (map Unmarked en.changes ++ joined tps) ps last h'
             (end-loaded ls o trees s mem t pos p c cs run run' e (passed (settle tree)) en.changes reply from x tps last a owed st ended l.0.1
-            (answers-as t (Marked (Stepped (step.Load from) x)) piece (map Quiet en.changes ++ joined tps) ps h' an) now-tree (subst (λ (z : Tree). Gives n z (need.Verdict reply)) (sym at) g) d own)
+            (answers-as t (Marked (Stepped (step.Load from) x)) piece (map Unmarked en.changes ++ joined tps) ps h' an) now-tree (subst (λ (z : Tree). Wants n z (need.Verdict reply)) (sym at) g) d own)

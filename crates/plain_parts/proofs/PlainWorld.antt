@@ -23,7 +23,7 @@ use Rattle.plain_parts.specs.declared.plain.Node.{Node}
 use Rattle.plain_parts.specs.declared.plain.Build.{Build}
 use Rattle.plain_parts.specs.declared.plain.Owner.{Owner}
 use Rattle.plain_parts.specs.declared.plain.Owner.TheVariants as owner
-use Rattle.plain_parts.specs.Plain.{world_in, tds_in, built_of, shown, key_of, mrtd_words, newest, entry_of, blank, no_td, no_build, seen, BuildSeen}
+use Rattle.plain_parts.specs.Plain.{world_in, tds_in, built_of, seen_by_calls, key_of, mrtd_words, newest, entry_of, blank, no_td, no_build, seen, BuildSeen}
 
 pub zeros : (n i : ℕ) → get_or {A = ℕ} (replicate n 0) i 0 ≡ 0
 zeros zero i = refl
@@ -83,7 +83,7 @@ words_read cells p v ws h e =
 
 pub filled : (cells : List Cell) (p : ℕ) (c : Cell) (k : PageKind) (t : ℕ) (ws : List ℕ) (g : ℕ → ℕ) (tds : List Td) (builds : List BuildSeen) (keys : List Owner)
     → p < length cells → c ≡ get_or cells p c → ((i : ℕ) → get_or ws i 0 ≡ g i)
-    → world_in (set cells p (record { kind = k; owner = t; words = ws; vcpu = c.vcpu })) tds builds keys ≡ shown (effects.set_page p g (effects.take_page p k t (world_in cells tds builds keys)))
+    → world_in (set cells p (record { kind = k; owner = t; words = ws; vcpu = c.vcpu })) tds builds keys ≡ seen_by_calls (effects.set_page p g (effects.take_page p k t (world_in cells tds builds keys)))
 filled cells p c k t ws g tds builds keys h is same =
     let v : Cell = record { kind = k; owner = t; words = ws; vcpu = c.vcpu } in
     λ j. world_with (length-set cells p v j)
@@ -280,14 +280,14 @@ entry_set tds builds t old new n h is e =
 abbrev pub with_vp : ℕ → ℕ → World → World
 with_vp t p w = record w { tds = record (w.tds) { vps = put w.tds.vps t (w.tds.vps t ++ p ∷ []) } }
 
-pub none_put : (t p : ℕ) (w : World) → w.vps.associated ≡ (λ v. None) → with_vp t p (effects.set_vp_state p vcpu.Created (shown w)) ≡ shown (effects.add_vp t p w)
+pub none_put : (t p : ℕ) (w : World) → w.vps.associated ≡ (λ v. None) → with_vp t p (effects.set_vp_state p vcpu.Created (seen_by_calls w)) ≡ seen_by_calls (effects.add_vp t p w)
 none_put t p w e =
     let same : w.vps.associated ≡ put w.vps.associated p None = e ∙ (constant None p ∙ ap (λ (g : ℕ → Option ℕ). put g p None) (sym e)) in
-    λ j. record (with_vp t p (effects.set_vp_state p vcpu.Created (shown w))) { vps = record no_vps { states = put w.vps.states p vcpu.Created; associated = same j } }
+    λ j. record (with_vp t p (effects.set_vp_state p vcpu.Created (seen_by_calls w))) { vps = record no_vps { states = put w.vps.states p vcpu.Created; associated = same j } }
 
 -- a TD that begins
 pub td_new : (cells : List Cell) (tds : List Td) (builds : List BuildSeen) (keys : List Owner) (t h : ℕ) → t < length tds → t < length builds
-    → world_in cells (set tds t (record no_td { hkid = h })) (set builds t no_build) keys ≡ shown (effects.new_td t h (world_in cells tds builds keys))
+    → world_in cells (set tds t (record no_td { hkid = h })) (set builds t no_build) keys ≡ seen_by_calls (effects.new_td t h (world_in cells tds builds keys))
 td_new cells tds builds keys t h small fits =
     let v : Td = record no_td { hkid = h } in
     λ j. record (world_in cells tds builds keys) {

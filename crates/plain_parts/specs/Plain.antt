@@ -27,8 +27,8 @@ use Rattle.plain_parts.specs.declared.plain.Plain.{Plain}
 use Rattle.plain_parts.specs.declared.checks.Check.{Check as Condition}
 
 -- what the calls that are built read of a world; all else as at the start of a run
-abbrev pub shown : World → World
-shown w = record (first_world w.size None) {
+abbrev pub seen_by_calls : World → World
+seen_by_calls w = record (first_world w.size None) {
   pages = record host_pages { kinds = w.pages.kinds; owners = w.pages.owners; blocked = w.pages.blocked };
   words = w.words;
   tds = record no_tds {
@@ -149,4 +149,4 @@ replied (Err e) = Refused e
 -- a row is done at once: what it answers, and what the world after it shows
 pub record Does (row : Row) (w w' : World) (r : Result Value Status) : Type 0 where
   pub replies : replied r ≡ row_reply row w
-  pub leaves : w' ≡ shown (row_world row w)
+  pub leaves : w' ≡ seen_by_calls (row_world row w)

@@ -8,7 +8,7 @@ ghost use Rattle.flat_core.specs.Effects.{take_page, set_page, clear_page, set_v
 ghost use Rattle.plain_parts.specs.declared.plain.Cell.{Cell};
 ghost use Rattle.plain_parts.specs.declared.plain.Td.{Td};
 ghost use Rattle.plain_parts.specs.declared.plain.Owner.{Owner};
-ghost use Rattle.plain_parts.specs.Plain.{world_of, world_in, shown, blank, no_td, no_build, BuildSeen, seen, FitsMachine};
+ghost use Rattle.plain_parts.specs.Plain.{world_of, world_in, seen_by_calls, blank, no_td, no_build, BuildSeen, seen, FitsMachine};
 
 use arrayvec::ArrayVec;
 use std::alloc::{AllocError, Global};
@@ -160,7 +160,7 @@ pub fn at_start(alloc: Global, machine: Machine) -> Result<Plain, AllocError>
 pub fn take(cells: &mut Vec<Cell>, page: u16, kind: PageKind, owner: u16)
     requires { page < length cells.old.items }
     ensures count { length cells.new.items ≡ length cells.old.items }
-    ensures taken { (tds : List Td) (builds : List BuildSeen) (keys : List Owner) → world_in cells.new.items tds builds keys ≡ shown (clear_page page (take_page page kind owner (world_in cells.old.items tds builds keys))) }
+    ensures taken { (tds : List Td) (builds : List BuildSeen) (keys : List Owner) → world_in cells.new.items tds builds keys ≡ seen_by_calls (clear_page page (take_page page kind owner (world_in cells.old.items tds builds keys))) }
 {
     let cell = &mut cells[usize::from(page)];
     cell.kind = kind;
@@ -172,7 +172,7 @@ pub fn take(cells: &mut Vec<Cell>, page: u16, kind: PageKind, owner: u16)
 pub fn fill(cells: &mut Vec<Cell>, page: u16, kind: PageKind, owner: u16, words: &[u64; 512])
     requires { page < length cells.old.items }
     ensures count { length cells.new.items ≡ length cells.old.items }
-    ensures filled { (tds : List Td) (builds : List BuildSeen) (keys : List Owner) → world_in cells.new.items tds builds keys ≡ shown (set_page page (λ i. slice_index_or words.now i 0) (take_page page kind owner (world_in cells.old.items tds builds keys))) }
+    ensures filled { (tds : List Td) (builds : List BuildSeen) (keys : List Owner) → world_in cells.new.items tds builds keys ≡ seen_by_calls (set_page page (λ i. slice_index_or words.now i 0) (take_page page kind owner (world_in cells.old.items tds builds keys))) }
 {
     let cell = &mut cells[usize::from(page)];
     cell.kind = kind;

@@ -20,7 +20,7 @@ use Rattle.flat_alone.specs.Whole.{first_fault, reply_unless, world_unless}
 use Rattle.plain_parts.specs.declared.plain.Cell.{Cell}
 use Rattle.plain_parts.specs.declared.plain.Td.{Td}
 use Rattle.plain_parts.specs.declared.plain.Owner.{Owner}
-use Rattle.plain_parts.specs.Plain.{world_in, shown, key_of, no_td, BuildSeen, Judges, Does}
+use Rattle.plain_parts.specs.Plain.{world_in, seen_by_calls, key_of, no_td, BuildSeen, Judges, Does}
 use Rattle.plain_parts.proofs.PlainWorld.{key_set, same_default}
 
 pub passes : (b : Bool) (r : Reply) (items : List (Item Reply)) → b ≡ true → first_fault (Check b r ∷ items) ≡ first_fault items
@@ -71,16 +71,16 @@ pub any_mode_before : (w : World) (t : ℕ) (ops : List OpState) (items : List (
 any_mode_before w t ops items = same_after (conditions.root w t) _ _ (same_after (conditions.life_in w t (life.KeysConfigured ∷ [])) _ _ (same_after (conditions.tdcx_count w t 2) _ _ refl))
 
 -- a row that an item refuses, and one that nothing refuses
-pub refused : (row : Row) (w : World) (e : Status) → w ≡ shown w → first_fault (row.items w) ≡ Some (Refused e) → Does row w w (Err e)
+pub refused : (row : Row) (w : World) (e : Status) → w ≡ seen_by_calls w → first_fault (row.items w) ≡ Some (Refused e) → Does row w w (Err e)
 refused row w e same h = record {
   replies = ap (λ (f : Option Reply). reply_unless f row w) (sym h);
-  leaves = same ∙ ap (λ (f : Option Reply). shown (world_unless f row w)) (sym h);
+  leaves = same ∙ ap (λ (f : Option Reply). seen_by_calls (world_unless f row w)) (sym h);
 }
 
-pub done : (row : Row) (w w' : World) (v : Value) → first_fault (row.items w) ≡ None → v ≡ row.value w → w' ≡ shown (row.act w) → Does row w w' (Ok v)
+pub done : (row : Row) (w w' : World) (v : Value) → first_fault (row.items w) ≡ None → v ≡ row.value w → w' ≡ seen_by_calls (row.act w) → Does row w w' (Ok v)
 done row w w' v none value after = record {
   replies = ap (λ (x : Value). Done x) value ∙ ap (λ (f : Option Reply). reply_unless f row w) (sym none);
-  leaves = after ∙ ap (λ (f : Option Reply). shown (world_unless f row w)) (sym none);
+  leaves = after ∙ ap (λ (f : Option Reply). seen_by_calls (world_unless f row w)) (sym none);
 }
 
 -- the last of a row's conditions are judged
@@ -92,14 +92,14 @@ pub two_judged : {A : Type 0} (x y x' y' : Item Reply) (r : Result A Status) →
 two_judged x y x' y' r e f h = subst (λ (z : Item Reply). Judges (x' ∷ z ∷ []) r) f (subst (λ (z : Item Reply). Judges (z ∷ y ∷ []) r) e h)
 
 -- a row that nothing refuses, at the number that an argument is
-pub does_at : (rows : ℕ → Row) (p q : ℕ) (w w' : World) (v : Value) → p ≡ q → first_fault ((rows p).items w) ≡ None → v ≡ (rows p).value w → w' ≡ shown ((rows p).act w)
+pub does_at : (rows : ℕ → Row) (p q : ℕ) (w w' : World) (v : Value) → p ≡ q → first_fault ((rows p).items w) ≡ None → v ≡ (rows p).value w → w' ≡ seen_by_calls ((rows p).act w)
     → Does (rows q) w w' (Ok v)
 does_at rows p q w w' v e none value after = subst (λ (x : ℕ). Does (rows x) w w' (Ok v)) e (record {
   replies = ap (λ (x : Value). Done x) value ∙ ap (λ (f : Option Reply). reply_unless f (rows p) w) (sym none);
-  leaves = after ∙ ap (λ (f : Option Reply). shown (world_unless f (rows p) w)) (sym none);
+  leaves = after ∙ ap (λ (f : Option Reply). seen_by_calls (world_unless f (rows p) w)) (sym none);
 })
 
-pub does_at_two : (rows : ℕ → ℕ → Row) (p p' q q' : ℕ) (w w' : World) (v : Value) → p ≡ q → p' ≡ q' → first_fault ((rows p p').items w) ≡ None → v ≡ (rows p p').value w → w' ≡ shown ((rows p p').act w)
+pub does_at_two : (rows : ℕ → ℕ → Row) (p p' q q' : ℕ) (w w' : World) (v : Value) → p ≡ q → p' ≡ q' → first_fault ((rows p p').items w) ≡ None → v ≡ (rows p p').value w → w' ≡ seen_by_calls ((rows p p').act w)
     → Does (rows q q') w w' (Ok v)
 does_at_two rows p p' q q' w w' v e e' none value after = subst (λ (x : ℕ). Does (rows q x) w w' (Ok v)) e' (does_at (λ x. rows x p') p q w w' v e none value after)
 
@@ -110,7 +110,7 @@ none_associated (v ∷ vs) = ap (λ n. 0 + n) (none_associated vs)
 -- the TD's HKID changes with its life state
 pub key_after_life : (cells : List Cell) (tds tds' : List Td) (builds : List BuildSeen) (keys : List Owner) (t h : ℕ) (s : LifeState) (o : Owner)
     → world_in cells tds' builds keys ≡ effects.set_life t s (world_in cells tds builds keys) → h < length keys → h ≡ (get_or tds t no_td).hkid
-    → world_in cells tds' builds (set keys h o) ≡ shown (effects.set_key ((get_or tds t no_td).hkid) (key_of o) (effects.set_life t s (world_in cells tds builds keys)))
+    → world_in cells tds' builds (set keys h o) ≡ seen_by_calls (effects.set_key ((get_or tds t no_td).hkid) (key_of o) (effects.set_life t s (world_in cells tds builds keys)))
 key_after_life cells tds tds' builds keys t h s o e small is =
     key_set cells tds' builds keys h o small
     ∙ (ap (λ (w : World). effects.set_key h (key_of o) w) e ∙ ap (λ (n : ℕ). effects.set_key n (key_of o) (effects.set_life t s (world_in cells tds builds keys))) is)

@@ -2,7 +2,7 @@
 
 ghost use Rattle.std.specs.Prelude.{◌≡◌, IfOk};
 ghost use Rattle.flat_alone.specs.Whole.{row_reply, row_world};
-ghost use Rattle.plain_parts.specs.Plain.{world_of, shown, row_in, FitsMachine, Does};
+ghost use Rattle.plain_parts.specs.Plain.{world_of, seen_by_calls, row_in, FitsMachine, Does};
 
 use crate::host_calls::{host_read, host_write, read_metadata};
 use crate::key_calls::{end_flush, free_hkid, reclaim_page, write_caches_back};
@@ -61,7 +61,7 @@ pub fn perform(machine: Machine, plain: &mut Plain, call: &Call) -> Result<Reply
     requires { FitsMachine machine plain.old }
     ensures fits { FitsMachine machine plain.new }
     ensures reply { IfOk result (λ r. r ≡ row_reply (row_in machine call.now) (world_of plain.old)) }
-    ensures after { IfOk result (λ r. world_of plain.new ≡ shown (row_world (row_in machine call.now) (world_of plain.old))) }
+    ensures after { IfOk result (λ r. world_of plain.new ≡ seen_by_calls (row_world (row_in machine call.now) (world_of plain.old))) }
 {
     match done(machine, plain, call)? {
         Ok(value) => Ok(Reply::Done(value)),

@@ -6,7 +6,7 @@ ghost use Rattle.flat_core.specs.World.{first_world};
 ghost use Rattle.flat_core.specs.HostText.{host_text};
 ghost use Rattle.flat_alone.specs.Whole.{replies_of, world_of, lines_at_once};
 ghost use Rattle.script_text.specs.Laws.{IsInForm};
-ghost use Rattle.plain_parts.specs.Plain.{world_of as plain_world, shown, bare_opening, FitsMachine};
+ghost use Rattle.plain_parts.specs.Plain.{world_of as plain_world, seen_by_calls, bare_opening, FitsMachine};
 ghost use Rattle.script_runner.specs.Ending.{opening_of};
 
 use crate::calls::perform;
@@ -27,7 +27,7 @@ fn replies(
     requires { FitsMachine machine plain.old }
     ensures fits { FitsMachine machine plain.new }
     ensures replies { IfOk result (λ v. v.items ≡ replies_of (bare_opening machine) 0 (plain_world plain.old) calls.now) }
-    ensures after { IfOk result (λ v. plain_world plain.new ≡ shown (world_of (bare_opening machine) 0 (plain_world plain.old) calls.now)) }
+    ensures after { IfOk result (λ v. plain_world plain.new ≡ seen_by_calls (world_of (bare_opening machine) 0 (plain_world plain.old) calls.now)) }
 {
     let mut replies = Vec::with_capacity(alloc, calls.len())?;
     for call in calls {

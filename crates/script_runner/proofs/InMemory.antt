@@ -4,7 +4,7 @@ use Rattle.std.specs.Str.{bytes_eq}
 use Rattle.std.proofs.lemmas.Bool.{false_from_ne_true}
 use Rattle.std.proofs.lemmas.Slice.Eq.{bytes_eq-Decides}
 use Rattle.script_runner.specs.Seen.{FileSeen}
-use Rattle.script_runner.specs.Outside.{Gives}
+use Rattle.script_runner.specs.Outside.{IsSaved}
 use Rattle.script_runner.specs.Held.{contents_in, FirstAt, no_file}
 
 named : (a name : List ℕ) → a ≡ name → bytes_eq a name ≡ true
@@ -80,7 +80,7 @@ found_at fs i name f at is =
     ∙ ap (λ (g : FileSeen). Some g.bytes) (same_inside fs i no_file f at.inside ∙ sym is)
 
 pub gives_set : (fs : List FileSeen) (i : ℕ) (name bytes : List ℕ) (f g : FileSeen) → FirstAt fs name i → f ≡ get_or fs i f → g.name ≡ f.name → g.bytes ≡ bytes
-    → Gives (contents_in fs) name bytes (contents_in (set fs i g))
+    → IsSaved (contents_in fs) name bytes (contents_in (set fs i g))
 gives_set fs i name bytes f g at is same now =
     let was : g.name ≡ name = same ∙ (ap (λ (h : FileSeen). h.name) (is ∙ same_inside fs i f no_file at.inside) ∙ at.named) in
     record {
@@ -89,7 +89,7 @@ gives_set fs i name bytes f g at is same now =
     }
 
 pub gives_added : (fs : List FileSeen) (name bytes : List ℕ) (g : FileSeen) → contents_in fs name ≡ None → g.name ≡ name → g.bytes ≡ bytes
-    → Gives (contents_in fs) name bytes (contents_in (fs ++ g ∷ []))
+    → IsSaved (contents_in fs) name bytes (contents_in (fs ++ g ∷ []))
 gives_added fs name bytes g none same now = record {
   there = add_there fs name g none same ∙ ap (λ (b : List ℕ). Some b) now;
   others = λ other ne. add_others fs name other g same ne;

@@ -37,7 +37,7 @@ use Rattle.leaf_dispatch.specs.declared.states.LpState.{LpState}
 use Rattle.script_text.specs.Seen.{ScriptSeen}
 use Rattle.script_text.specs.Laws.{IsInForm}
 use Rattle.script_runner.specs.Ending.{opening_of}
-use Rattle.script_runner.specs.Replaying.{AreFirst, AreLeft, HaveEnded, TurnsAreEvents, seen_at, lines_seen}
+use Rattle.script_runner.specs.Replaying.{AreFirst, IsMidway, HaveEnded, TurnsAreEvents, seen_at, lines_seen}
 use Rattle.script_runner.proofs.RunningOut.{one-more-item, idle-item}
 use Rattle.script_runner.proofs.Turning.{made_by, one-event, merge-more, order-more}
 use Rattle.script_runner.proofs.Places.{seen-at, seen-own, seen-other, place-at, numbered-set, first-count, first-numbered, first-seen, first-more}
@@ -60,7 +60,7 @@ nones (suc n) zero = refl
 nones (suc n) (suc i) = nones n i
 
 -- at the start the whole schedule is left
-pub at-start : (o : Opening) (schedule : List ℕ) (lps : List LpState) → AreFirst o.machine 0 lps o.calls → AreLeft o schedule schedule lps (start_of o.machine)
+pub at-start : (o : Opening) (schedule : List ℕ) (lps : List LpState) → AreFirst o.machine 0 lps o.calls → IsMidway o schedule schedule lps (start_of o.machine)
 at-start o schedule lps h = record {
   machine = refl;
   count = first-count o.machine 0 lps o.calls h;
@@ -80,12 +80,12 @@ where-now : TurnsAreEvents → (o : Opening) (made : List Item) (now : ℕ → W
 where-now ls o made now u op m = (ls.merges.turns o (leaf_table o.machine) made now u op.few (ls.leaves o op.machine) m).1
 
 -- a processor without lines has none in the flat machine
-ended-flat : TurnsAreEvents → (o : Opening) (schedule left : List ℕ) (lps : List LpState) (b : PlainSeen) (p : ℕ) → IsOpen o → (l : AreLeft o schedule left lps b) → p < length lps → (seen_at lps p).lines ≡ []
+ended-flat : TurnsAreEvents → (o : Opening) (schedule left : List ℕ) (lps : List LpState) (b : PlainSeen) (p : ℕ) → IsOpen o → (l : IsMidway o schedule left lps b) → p < length lps → (seen_at lps p).lines ≡ []
     → lines_left o p ((play o (order l.made) (start o None)).lps p) ≡ []
 ended-flat ls o schedule left lps b p op l inside e = (where-now ls o l.made (seen_at lps) (table_of b) op l.merge).lines p (omega (arith, l.count)) ∙ e
 
 -- an item of a processor more, where all before it have ended
-pub one-more-left : TurnsAreEvents → (o : Opening) (schedule : List ℕ) (lps : List LpState) (b : PlainSeen) (p : ℕ) → IsOpen o → p < length lps → HaveEnded p lps → AreLeft o schedule [] lps b → AreLeft o schedule (p ∷ []) lps b
+pub one-more-left : TurnsAreEvents → (o : Opening) (schedule : List ℕ) (lps : List LpState) (b : PlainSeen) (p : ℕ) → IsOpen o → p < length lps → HaveEnded p lps → IsMidway o schedule [] lps b → IsMidway o schedule (p ∷ []) lps b
 one-more-left ls o schedule lps b p op inside ended l = record {
   machine = l.machine;
   count = l.count;
@@ -107,7 +107,7 @@ no-lines cs e = by (eqb_tells (length cs) 0)
     by (inr f) = (let apart : false ≡ true = e ∙ ap not f.0 in cc)
 
 module _ (ls : TurnsAreEvents) (o : Opening) (schedule rest : List ℕ) (lps : List LpState) (p : ℕ) (d s' : LpState) (b b' : PlainSeen) (op : IsOpen o) (inside : p < length lps)
-    (l : AreLeft o schedule (p ∷ rest) lps b) (machine : b'.machine ≡ b.machine) where
+    (l : IsMidway o schedule (p ∷ rest) lps b) (machine : b'.machine ≡ b.machine) where
   abbrev s : LpState
   s = get_or lps p d
 
@@ -115,7 +115,7 @@ module _ (ls : TurnsAreEvents) (o : Opening) (schedule rest : List ℕ) (lps : L
   place = place-at o.machine 0 lps p d l.numbered inside ∙ ap (λ (k : ℕ). record { machine = o.machine; lp = k }) (omega arith)
 
   -- its event, in these pieces
-  moved : (e : Event) (ps : List Piece) → PlaysTo (table_of b) (taken_in ps) (table_of b') → Moves s e ps s' → AreLeft o schedule rest (set lps p s') b'
+  moved : (e : Event) (ps : List Piece) → PlaysTo (table_of b) (taken_in ps) (table_of b') → Moves s e ps s' → IsMidway o schedule rest (set lps p s') b'
   moved e ps did moves = record {
     machine = machine ∙ l.machine;
     count = length-set lps p s' ∙ l.count;
@@ -134,10 +134,10 @@ module _ (ls : TurnsAreEvents) (o : Opening) (schedule rest : List ℕ) (lps : L
           (subst (λ (z : Place). LpTurns (task_of z) z.machine (seen_of s) e ps (seen_of s')) place moves.1))
 
   -- or nothing, where it has ended
-  ended : PlaysTo (table_of b) [] (table_of b') → s' ≡ s → (seen_at lps p).lines ≡ [] → AreLeft o schedule rest (set lps p s') b'
+  ended : PlaysTo (table_of b) [] (table_of b') → s' ≡ s → (seen_at lps p).lines ≡ [] → IsMidway o schedule rest (set lps p s') b'
   ended did same none =
       let stay : set lps p s' ≡ lps = ap (set lps p) same ∙ set-get_or lps p d in
-      subst (λ (z : List LpState). AreLeft o schedule rest z b') (sym stay) (record {
+      subst (λ (z : List LpState). IsMidway o schedule rest z b') (sym stay) (record {
         machine = machine ∙ l.machine;
         count = l.count;
         numbered = l.numbered;
@@ -153,25 +153,25 @@ module _ (ls : TurnsAreEvents) (o : Opening) (schedule rest : List ℕ) (lps : L
         same = sym (idle-item o (order l.made) rest p (ended-flat ls o schedule (p ∷ rest) lps b p op l inside none)) ∙ l.same;
       })
 
-  pub after-turn : (r : Turn) → Turned Moves (λ z. events_left (seen_of z)) (λ xs c. PlaysTo (table_of b) xs (table_of c)) s b' s' r → has_moved r ≡ not (length s.lines.now == 0) → AreLeft o schedule rest (set lps p s') b'
+  pub after-turn : (r : Turn) → Turned Moves (λ z. events_left (seen_of z)) (λ xs c. PlaysTo (table_of b) xs (table_of c)) s b' s' r → has_moved r ≡ not (length s.lines.now == 0) → IsMidway o schedule rest (set lps p s') b'
   after-turn (turn.Moved e) t h = moved e t.0.0 t.0.1 t.0.2
   after-turn turn.Ended t h = ended t.0 t.1 (ap (λ (z : WordLp). z.lines) (seen-at lps p d inside) ∙ no-lines s.lines.now h)
 
-pub machine-at : (o : Opening) (schedule left : List ℕ) (lps : List LpState) (b : PlainSeen) (p : ℕ) (d : LpState) → AreLeft o schedule left lps b → p < length lps → (get_or lps p d).place.machine ≡ b.machine
+pub machine-at : (o : Opening) (schedule left : List ℕ) (lps : List LpState) (b : PlainSeen) (p : ℕ) (d : LpState) → IsMidway o schedule left lps b → p < length lps → (get_or lps p d).place.machine ≡ b.machine
 machine-at o schedule left lps b p d l inside = ap (λ (z : Place). z.machine) (place-at o.machine 0 lps p d l.numbered inside) ∙ sym l.machine
 
 -- the item of the schedule whose turn it is
-pub item-inside : (script : ScriptSeen) (left : List ℕ) (lps : List LpState) (b : PlainSeen) (i d p : ℕ) → IsInForm script → AreLeft (opening_of script) script.schedule left lps b → i < length script.schedule
+pub item-inside : (script : ScriptSeen) (left : List ℕ) (lps : List LpState) (b : PlainSeen) (i d p : ℕ) → IsInForm script → IsMidway (opening_of script) script.schedule left lps b → i < length script.schedule
     → p ≡ get_or script.schedule i d → p < length lps
 item-inside script left lps b i d p form l inside is =
     let below : get_or script.schedule i d < script.machine.lps = form.items i d inside in
     omega (arith, is, l.count, form.lists)
 
-pub item-next : (o : Opening) (schedule : List ℕ) (lps : List LpState) (b : PlainSeen) (i d p : ℕ) → AreLeft o schedule (drop i schedule) lps b → i < length schedule → p ≡ get_or schedule i d
-    → AreLeft o schedule (p ∷ drop (i + 1) schedule) lps b
+pub item-next : (o : Opening) (schedule : List ℕ) (lps : List LpState) (b : PlainSeen) (i d p : ℕ) → IsMidway o schedule (drop i schedule) lps b → i < length schedule → p ≡ get_or schedule i d
+    → IsMidway o schedule (p ∷ drop (i + 1) schedule) lps b
 item-next o schedule lps b i d p l inside is =
     let next : drop i schedule ≡ p ∷ drop (i + 1) schedule = rw add-one (drop-cons schedule i d inside ∙ ap (λ (x : ℕ). x ∷ drop (suc i) schedule) (sym is)) in
-    subst (λ (z : List ℕ). AreLeft o schedule z lps b) next l
+    subst (λ (z : List ℕ). IsMidway o schedule z lps b) next l
 
 pub open-of : (script : ScriptSeen) → IsInForm script → IsOpen (opening_of script)
 open-of script form = record { machine = record { lps = form.lps; pages = form.pages; hkids = form.hkids }; few = omega (arith, form.lps.1, form.lists) }
@@ -229,18 +229,18 @@ lines-next lps i d text lines all rs inside replied printed so_far =
 
 -- of a script that was read
 pub starts : (script : ScriptSeen) (m : Machine) (lists : List (List Call)) (lps now : List LpState) (b : PlainSeen) → m ≡ script.machine → lists ≡ script.calls → now ≡ lps → b ≡ start_of m → AreFirst m 0 lps lists
-    → AreLeft (opening_of script) script.schedule script.schedule now b
+    → IsMidway (opening_of script) script.schedule script.schedule now b
 starts script m lists lps now b machine calls same new h =
     let o : Opening = opening_of script in
     let first : AreFirst script.machine 0 now script.calls =
     subst (λ (x : List LpState). AreFirst script.machine 0 x script.calls) (sym same) (subst (AreFirst script.machine 0 lps) calls (subst (λ (x : Machine). AreFirst x 0 lps lists) machine h)) in
-    subst (λ (x : PlainSeen). AreLeft o script.schedule script.schedule now x) (sym (new ∙ ap start_of machine)) (at-start o script.schedule now first)
+    subst (λ (x : PlainSeen). IsMidway o script.schedule script.schedule now x) (sym (new ∙ ap start_of machine)) (at-start o script.schedule now first)
 
 pub prints : {E : Type 0} (r : Result (Vec ℕ) E) (lines all : List ℕ) → IfOk r (λ v. v.items ≡ lines) → lines ≡ all → IfOk r (λ v. v.items ≡ all)
 prints (Ok v) lines all h e = h ∙ e
 prints (Err x) lines all h e = tt
 
-pub prints-all : TurnsAreEvents → (o : Opening) (schedule : List ℕ) (lps : List LpState) (b : PlainSeen) → IsOpen o → AreLeft o schedule [] lps b → HaveEnded (length lps) lps → concat (lines_seen 0 lps) ≡ host_text o schedule
+pub prints-all : TurnsAreEvents → (o : Opening) (schedule : List ℕ) (lps : List LpState) (b : PlainSeen) → IsOpen o → IsMidway o schedule [] lps b → HaveEnded (length lps) lps → concat (lines_seen 0 lps) ≡ host_text o schedule
 unfolding host_text text_of
 prints-all ls o schedule lps b op l ended =
     let there = ls.merges.ended o (leaf_table o.machine) l.made (seen_at lps) (table_of b) op.few (ls.leaves o op.machine) l.merge (λ p i. ended p (omega (arith, l.count))) in

@@ -36,8 +36,8 @@ Tells faults faults' old new e status =
     ⊎ ((status ≡ 5) × PutsPart old memory_end.text new)
 
 -- how the call ends, where contents are told
-abbrev pub Ends : (reads reads' faults faults' : ℕ) → (List ℕ → Option (List ℕ)) → List (List ℕ) → Option (List ℕ) → Option (List ℕ) → ℕ → Type 0
-Ends reads reads' faults faults' contents words old new status =
+abbrev pub EndsWith : (reads reads' faults faults' : ℕ) → (List ℕ → Option (List ℕ)) → List (List ℕ) → Option (List ℕ) → Option (List ℕ) → ℕ → Type 0
+EndsWith reads reads' faults faults' contents words old new status =
     ((e : Ended) × IsEnding reads reads' contents words e × Tells faults faults' old new e status)
     ⊎ ((status ≡ 5) × PutsPart old memory_end.text new)
 

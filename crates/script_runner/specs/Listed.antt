@@ -10,7 +10,7 @@ use Rattle.script_runner.specs.declared.outside.PutFault.{PutFault}
 use Rattle.script_runner.specs.declared.outside.PutFault.TheVariants as put
 use Rattle.script_runner.specs.declared.listed.MemFiles.{MemFiles}
 use Rattle.script_runner.specs.declared.listed.MemSink.{MemSink}
-use Rattle.script_runner.specs.Outside.{raised}
+use Rattle.script_runner.specs.Outside.{counted}
 
 -- the call of that number is to fail
 abbrev pub is_listed : List ℕ → ℕ → Bool
@@ -39,12 +39,12 @@ PutsListed false (Err put.OutOfMemory) = Unit {0}
 
 -- the files after a load: the call is counted, and its fault where it is listed
 abbrev pub after_load : MemFiles → MemFiles
-after_load f = record f { calls = raised f.calls; read_faults = if is_listed f.failing.items f.calls then raised f.read_faults else f.read_faults }
+after_load f = record f { calls = counted f.calls; read_faults = if is_listed f.failing.items f.calls then counted f.read_faults else f.read_faults }
 
 -- the same for a save, which is counted as one too, and may change files besides
 abbrev pub after_save : MemFiles → MemFiles
-after_save f = record f { calls = raised f.calls; saves = raised f.saves; write_faults = if is_listed f.failing.items f.calls then raised f.write_faults else f.write_faults }
+after_save f = record f { calls = counted f.calls; saves = counted f.saves; write_faults = if is_listed f.failing.items f.calls then counted f.write_faults else f.write_faults }
 
 -- the output after a put, which may change its bytes besides
 abbrev pub after_put : MemSink → MemSink
-after_put s = record s { calls = raised s.calls; faults = if is_listed s.failing.items s.calls then raised s.faults else s.faults }
+after_put s = record s { calls = counted s.calls; faults = if is_listed s.failing.items s.calls then counted s.faults else s.faults }

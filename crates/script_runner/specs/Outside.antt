@@ -10,8 +10,8 @@ use Rattle.script_runner.specs.declared.outside.PutFault.{PutFault}
 use Rattle.script_runner.specs.declared.outside.PutFault.TheVariants as put
 
 -- a count one higher, which stands still at 2^64 - 1
-abbrev pub raised : ℕ → ℕ
-raised count = max count (min (count + 1) (2 ^ 64 - 1))
+abbrev pub counted : ℕ → ℕ
+counted count = max count (min (count + 1) (2 ^ 64 - 1))
 
 -- a count has risen, or stands at its end
 abbrev pub Rose : ℕ → ℕ → Type 0
@@ -55,13 +55,13 @@ LoadCause faults faults' (Err load.Failed) = Rose faults faults'
 LoadCause faults faults' (Err load.OutOfMemory) = faults' ≡ faults
 
 -- the name has these bytes, and all other names stay
-pub record Gives (old : List ℕ → Option (List ℕ)) (name bytes : List ℕ) (new : List ℕ → Option (List ℕ)) : Type 0 where
+pub record IsSaved (old : List ℕ → Option (List ℕ)) (name bytes : List ℕ) (new : List ℕ → Option (List ℕ)) : Type 0 where
   pub there : new name ≡ Some bytes
   pub others : (other : List ℕ) → other ≢ name → new other ≡ old other
 
 -- a save that came through; it stays told or untold what names have
 abbrev pub SavesTold : Option (List ℕ → Option (List ℕ)) → List ℕ → List ℕ → Option (List ℕ → Option (List ℕ)) → Type 0
-SavesTold (Some old) name bytes (Some new) = Gives old name bytes new
+SavesTold (Some old) name bytes (Some new) = IsSaved old name bytes new
 SavesTold (Some old) name bytes None = ⊥
 SavesTold None name bytes (Some new) = ⊥
 SavesTold None name bytes None = Unit {0}

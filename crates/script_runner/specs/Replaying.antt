@@ -45,7 +45,7 @@ lines_seen p (s ∷ ss) = reply_lines p 1 (seen_of s).replies ++ lines_seen (p +
 
 -- So far the turns that the processors made over these words are a merge; and its events, and then the items that are left,
 -- lead to the end of the flat machine's run under the schedule.
-pub record AreLeft (o : Opening) (schedule left : List ℕ) (lps : List LpState) (bench : PlainSeen) : Type 0 where
+pub record IsMidway (o : Opening) (schedule left : List ℕ) (lps : List LpState) (bench : PlainSeen) : Type 0 where
   pub machine : bench.machine ≡ o.machine
   pub count : length lps ≡ length o.calls
   pub numbered : AreNumbered o.machine 0 lps

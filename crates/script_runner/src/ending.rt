@@ -2,7 +2,7 @@
 
 ghost use Rattle.std.specs.Prelude.{◌≡◌, IfOk, Ok, map, string_bytes, option_map, not, codes};
 ghost use Rattle.std.specs.Str.{bytes_eq};
-ghost use Rattle.script_text.specs.Reading.{read_of, Gives};
+ghost use Rattle.script_text.specs.Reading.{read_of, IsAnswered};
 ghost use Rattle.script_text.specs.Laws.{IsInForm};
 ghost use Rattle.script_runner.specs.Ending.{ending_seen, words_read, begins_with_dash, usage_end, unread_end, bad_end, script_end};
 

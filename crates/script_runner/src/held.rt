@@ -1,7 +1,7 @@
 //! Contents that are held in memory.
 
 ghost use Rattle.std.specs.Prelude.{◌≡◌, ◌≢◌, Err, option_map, OnOk, OnErr, MatchOption};
-ghost use Rattle.script_runner.specs.Outside.{LoadsTold, Gives};
+ghost use Rattle.script_runner.specs.Outside.{LoadsTold, IsSaved};
 ghost use Rattle.script_runner.specs.Held.{contents_in, FirstAt};
 
 use crate::outside::{LoadFault, SaveFault};
@@ -67,7 +67,7 @@ fn add(
     bytes: Vec<u8>,
 ) -> Result<(), SaveFault>
     requires { contents_in files.old.items name.now ≡ None }
-    ensures told { OnOk result (Gives (contents_in files.old.items) name.now bytes.items (contents_in files.new.items)) }
+    ensures told { OnOk result (IsSaved (contents_in files.old.items) name.now bytes.items (contents_in files.new.items)) }
     ensures kept { OnErr result (files.new.items ≡ files.old.items) }
     ensures honest { result ≢ Err SaveFault.Failed }
 {
@@ -87,7 +87,7 @@ pub fn save_copy(
     name: &str,
     bytes: &[u8],
 ) -> Result<(), SaveFault>
-    ensures told { OnOk result (Gives (contents_in files.old.items) name.now bytes.now (contents_in files.new.items)) }
+    ensures told { OnOk result (IsSaved (contents_in files.old.items) name.now bytes.now (contents_in files.new.items)) }
     ensures kept { OnErr result (files.new.items ≡ files.old.items) }
     ensures honest { result ≢ Err SaveFault.Failed }
 {

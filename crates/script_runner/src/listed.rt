@@ -1,7 +1,7 @@
 //! Files and an output in memory, whose calls fail exactly where they are listed.
 
 ghost use Rattle.std.specs.Prelude.{◌≡◌, [], OnOk, OnErr, ◌++◌};
-ghost use Rattle.script_runner.specs.Outside.{LoadsTold, Gives, raised};
+ghost use Rattle.script_runner.specs.Outside.{LoadsTold, IsSaved, counted};
 ghost use Rattle.script_runner.specs.Held.{contents_in};
 ghost use Rattle.script_runner.specs.Listed.{is_listed, LoadsListed, SavesListed, PutsListed, after_load, after_save, after_put};
 
@@ -39,7 +39,7 @@ impl MemFiles {
     // Counts a call, and says whether it is to fail.
     fn fails_now(&mut self) -> bool
         ensures listed { result ≡ is_listed self.old.failing.items self.old.calls }
-        ensures counted { self.new ≡ record self.old { calls = raised self.old.calls } }
+        ensures counted { self.new ≡ record self.old { calls = counted self.old.calls } }
     {
         let call = self.calls;
         self.calls = call.saturating_add(1);
@@ -78,7 +78,7 @@ impl Files for MemFiles {
     /// Gives a name these bytes. It fails exactly where this call is listed, and then the count of
     /// write faults is one higher.
     fn save(&mut self, alloc: Global, name: &str, bytes: &[u8]) -> Result<(), SaveFault>
-        ensures told { OnOk result (Gives (contents_in self.old.files.items) name.now bytes.now (contents_in self.new.files.items)) }
+        ensures told { OnOk result (IsSaved (contents_in self.old.files.items) name.now bytes.now (contents_in self.new.files.items)) }
         ensures kept { OnErr result (self.new.files.items ≡ self.old.files.items) }
         ensures listed { SavesListed (is_listed self.old.failing.items self.old.calls) result }
         ensures after { self.new ≡ record (after_save self.old) { files = self.new.files } }

@@ -1,7 +1,7 @@
 //! Files and an output, as the program sees them.
 
 ghost use Rattle.std.specs.Prelude.{◌≡◌, ◌≤◌, List, ℕ, Option, IfSome, IfNone, IfErr, OnOk, OnErr};
-ghost use Rattle.script_runner.specs.Outside.{raised, LoadsTold, LoadsUntold, LoadCause, SavesTold, SaveCause, PutsTold, PutCause};
+ghost use Rattle.script_runner.specs.Outside.{counted, LoadsTold, LoadsUntold, LoadCause, SavesTold, SaveCause, PutsTold, PutCause};
 
 use std::alloc::Global;
 
@@ -70,7 +70,7 @@ pub trait Files {
         // Failed comes only where the count of write faults rose, which else is as it was.
         ensures cause { SaveCause (write_faults self.old) (write_faults self.new) result }
         ensures later { write_faults self.old ≤ write_faults self.new }
-        ensures counted { saves self.new ≡ raised (saves self.old) }
+        ensures counted { saves self.new ≡ counted (saves self.old) }
         ensures reads { read_faults self.new ≡ read_faults self.old }
         ensures bytes { bytes_read self.new ≡ bytes_read self.old };
 }
@@ -92,5 +92,5 @@ pub trait Sink {
         // Failed comes only where the count of faults rose, which else is as it was.
         ensures cause { PutCause (faults self.old) (faults self.new) result }
         ensures later { faults self.old ≤ faults self.new }
-        ensures counted { puts self.new ≡ raised (puts self.old) };
+        ensures counted { puts self.new ≡ counted (puts self.old) };
 }

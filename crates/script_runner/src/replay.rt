@@ -6,7 +6,7 @@ ghost use Rattle.flat_core.specs.Opening.{IsMachine};
 ghost use Rattle.flat_core.specs.HostText.{host_text};
 ghost use Rattle.script_text.specs.Laws.{IsInForm};
 ghost use Rattle.script_runner.specs.Ending.{opening_of};
-ghost use Rattle.script_runner.specs.Replaying.{AreFirst, AreLeft, HaveEnded, TurnsAreEvents, lines_seen};
+ghost use Rattle.script_runner.specs.Replaying.{AreFirst, IsMidway, HaveEnded, TurnsAreEvents, lines_seen};
 
 use crate::report::host_lines;
 use flat_core::{end_laws, event_laws};
@@ -54,8 +54,8 @@ fn processors<'a>(
 // One turn for each item of the schedule.
 fn follow_schedule(script: &Script, lps: &mut [LpState<'_>], bench: &mut PlainBench)
     requires form { IsInForm script.now }
-    requires left { AreLeft (opening_of script.now) script.now.schedule script.now.schedule lps.old bench.old }
-    ensures { AreLeft (opening_of script.now) script.now.schedule [] lps.new bench.new }
+    requires left { IsMidway (opening_of script.now) script.now.schedule script.now.schedule lps.old bench.old }
+    ensures { IsMidway (opening_of script.now) script.now.schedule [] lps.new bench.new }
 {
     laws_of_turns();
     for item in 0..script.schedule.len() {
@@ -68,10 +68,10 @@ fn finish(script: &Script, lps: &mut [LpState<'_>], lp: usize, bench: &mut Plain
     requires form { IsInForm script.now }
     requires lp { lp < length lps.old }
     requires ended { HaveEnded lp lps.old }
-    requires left { AreLeft (opening_of script.now) script.now.schedule [] lps.old bench.old }
+    requires left { IsMidway (opening_of script.now) script.now.schedule [] lps.old bench.old }
     ensures count { length lps.new ≡ length lps.old }
     ensures ended { HaveEnded (lp + 1) lps.new }
-    ensures left { AreLeft (opening_of script.now) script.now.schedule [] lps.new bench.new }
+    ensures left { IsMidway (opening_of script.now) script.now.schedule [] lps.new bench.new }
 {
     laws_of_turns();
     while let Turn::Moved(_) = lps[lp].turn(bench) {}
@@ -80,9 +80,9 @@ fn finish(script: &Script, lps: &mut [LpState<'_>], lp: usize, bench: &mut Plain
 // Each processor to its end, in number order.
 fn finish_all(script: &Script, lps: &mut [LpState<'_>], bench: &mut PlainBench)
     requires form { IsInForm script.now }
-    requires left { AreLeft (opening_of script.now) script.now.schedule [] lps.old bench.old }
+    requires left { IsMidway (opening_of script.now) script.now.schedule [] lps.old bench.old }
     ensures ended { HaveEnded (length lps.new) lps.new }
-    ensures left { AreLeft (opening_of script.now) script.now.schedule [] lps.new bench.new }
+    ensures left { IsMidway (opening_of script.now) script.now.schedule [] lps.new bench.new }
 {
     for lp in 0..lps.len() {
         finish(script, lps, lp, bench);

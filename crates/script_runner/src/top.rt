@@ -1,9 +1,9 @@
 //! The top call: the ending that is due is decided, and then told.
 
 ghost use Rattle.std.specs.Prelude.{◌≡◌, ◌≢◌, ◌≤◌, ◌⊎◌, ◌↔◌, ◌++◌, [], Option, None, map, string_bytes, IfSome, IfOk, IfNone};
-ghost use Rattle.script_runner.specs.Outside.{Rose, Gains, raised};
+ghost use Rattle.script_runner.specs.Outside.{Rose, Gains, counted};
 ghost use Rattle.script_runner.specs.Ending.{ending_seen, ending_of, words_read, memory_end};
-ghost use Rattle.script_runner.specs.Ends.{IsNamedEnding, IsEnding, Tells, Ends, OneRun, IsBadScript, ReadCause, PutsPart, PutsFronts, success_text, IsComplete, own_text};
+ghost use Rattle.script_runner.specs.Ends.{IsNamedEnding, IsEnding, Tells, EndsWith, OneRun, IsBadScript, ReadCause, PutsPart, PutsFronts, success_text, IsComplete, own_text};
 
 use crate::ending::{Ending, bad, of_bytes, script_name, unread, usage};
 use crate::outside::{Files, LoadFault, PutFault, Sink};
@@ -59,7 +59,7 @@ fn decide<F: Files>(alloc: Global, words: &[String], files: &mut F) -> Result<En
 pub fn give_up<K: Sink>(out: &mut K) -> u8
     ensures status { result ≡ 5 }
     ensures text { PutsPart (K.told out.old) memory_end.text (K.told out.new) }
-    ensures put { K.puts out.new ≡ raised (K.puts out.old) }
+    ensures put { K.puts out.new ≡ counted (K.puts out.old) }
     ensures later { K.faults out.old ≤ K.faults out.new }
 {
     let _ = out.put(MEMORY.as_bytes());
@@ -69,7 +69,7 @@ pub fn give_up<K: Sink>(out: &mut K) -> u8
 // Puts the text of an ending.
 fn tell<K: Sink>(how: &Ending, out: &mut K) -> u8
     ensures tells { Tells (K.faults out.old) (K.faults out.new) (K.told out.old) (K.told out.new) (ending_seen how.now) result }
-    ensures put { result ≢ 5 → K.puts out.new ≡ raised (K.puts out.old) }
+    ensures put { result ≢ 5 → K.puts out.new ≡ counted (K.puts out.old) }
     ensures tried { Rose (K.puts out.old) (K.puts out.new) }
     ensures quiet { result ≡ 0 → K.faults out.new ≡ K.faults out.old }
     ensures later { K.faults out.old ≤ K.faults out.new }
@@ -96,7 +96,7 @@ pub fn tdx_main<F: Files, K: Sink, G: Gate + Sync>(
     // At status 0 the output got just the reply lines of the flat machine's run of the named script.
     ensures one_run { result ≡ 0 → IfSome (F.contents files.old) (λ c. OneRun c (map string_bytes words.now) (K.told out.old) (K.told out.new)) }
     // Which status comes, and what was put.
-    ensures ends { IfSome (F.contents files.old) (λ c. Ends (F.read_faults files.old) (F.read_faults files.new) (K.faults out.old) (K.faults out.new) c (map string_bytes words.now) (K.told out.old) (K.told out.new) result) }
+    ensures ends { IfSome (F.contents files.old) (λ c. EndsWith (F.read_faults files.old) (F.read_faults files.new) (K.faults out.old) (K.faults out.new) c (map string_bytes words.now) (K.told out.old) (K.told out.new) result) }
     // Where the status 0 is due, only a fault or want of memory keeps it from coming.
     ensures complete { IfSome (F.contents files.old) (λ c. IsComplete (F.read_faults files.old) (F.read_faults files.new) (K.faults out.old) (K.faults out.new) (ending_of c (map string_bytes words.now)) result) }
     // The words alone decide on the usage line.
@@ -110,7 +110,7 @@ pub fn tdx_main<F: Files, K: Sink, G: Gate + Sync>(
     // What was put before the call gave up.
     ensures fronts { (result ≡ 4) ⊎ (result ≡ 5) → IfSome (F.contents files.old) (λ c. PutsFronts (K.told out.old) (success_text (ending_of c (map string_bytes words.now))) (own_text result) (K.told out.new)) }
     // A text is put even where it is empty, in one put; the status 5 may come after one more.
-    ensures put { result ≢ 5 → K.puts out.new ≡ raised (K.puts out.old) }
+    ensures put { result ≢ 5 → K.puts out.new ≡ counted (K.puts out.old) }
     ensures tried { Rose (K.puts out.old) (K.puts out.new) }
     // No file changes, and none is saved.
     ensures same { F.contents files.new ≡ F.contents files.old }

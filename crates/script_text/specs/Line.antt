@@ -25,10 +25,10 @@ abbrev pub ◌>>=◌ : {A B : Type 0} → Result A Reason → (A → Result B Re
 (Err e) >>= f = Err e
 
 -- what reading line n gives, unless memory ran out
-abbrev pub GivesAt : {A : Type 0} → ℕ → Result A Reason → A → Result (Unit {0}) ScriptFault → Type 0
-GivesAt n read new (Ok t) = read ≡ Ok new
-GivesAt n read new (Err (Bad m r)) = (m ≡ n) × (read ≡ Err r)
-GivesAt n read new (Err OutOfMemory) = Unit {0}
+abbrev pub IsAnsweredAt : {A : Type 0} → ℕ → Result A Reason → A → Result (Unit {0}) ScriptFault → Type 0
+IsAnsweredAt n read new (Ok t) = read ≡ Ok new
+IsAnsweredAt n read new (Err (Bad m r)) = (m ≡ n) × (read ≡ Err r)
+IsAnsweredAt n read new (Err OutOfMemory) = Unit {0}
 
 abbrev pub keyword_of : List ℕ → Option Keyword
 keyword_of word =

@@ -92,7 +92,7 @@ unfoldable pub read_of : List ℕ → Result ScriptSeen ScriptFault
 read_of bytes = if nat_lt (2 ^ 24) (length bytes) then Err (Bad 0 reason.Length) else read_from nothing_yet 1 (pieces bytes)
 
 -- what reading gives, unless memory ran out
-abbrev pub Gives : Result ScriptSeen ScriptFault → Result ScriptSeen ScriptFault → Type 0
-Gives read (Ok s) = read ≡ Ok s
-Gives read (Err (Bad n r)) = read ≡ Err (Bad n r)
-Gives read (Err OutOfMemory) = Unit {0}
+abbrev pub IsAnswered : Result ScriptSeen ScriptFault → Result ScriptSeen ScriptFault → Type 0
+IsAnswered read (Ok s) = read ≡ Ok s
+IsAnswered read (Err (Bad n r)) = read ≡ Err (Bad n r)
+IsAnswered read (Err OutOfMemory) = Unit {0}

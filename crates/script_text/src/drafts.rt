@@ -1,7 +1,7 @@
 //! What the lines so far say.
 
 ghost use Rattle.std.specs.Prelude.{◌≡◌, map, replicate, [], ◌∷◌, slice_set, true, IfOk};
-ghost use Rattle.script_text.specs.Line.{GivesAt};
+ghost use Rattle.script_text.specs.Line.{IsAnsweredAt};
 ghost use Rattle.script_text.specs.Reading.{draft_seen, with_call, entered_of, worded_of, line_of};
 ghost use Rattle.script_text.specs.Words.{words};
 
@@ -43,7 +43,7 @@ fn mark(had: &mut [bool; 8], lp: u8)
 }
 
 fn add_call(calls: &mut Vec<Vec<Call>>, number: u64, lp: u8, call: Call) -> Taken
-    ensures { GivesAt number (with_call (map (λ list. list.items) calls.old.items) lp call) (map (λ list. list.items) calls.new.items) result }
+    ensures { IsAnsweredAt number (with_call (map (λ list. list.items) calls.old.items) lp call) (map (λ list. list.items) calls.new.items) result }
 {
     let lp = usize::from(lp);
     if lp >= calls.len() {
@@ -59,7 +59,7 @@ fn add_call(calls: &mut Vec<Vec<Call>>, number: u64, lp: u8, call: Call) -> Take
 
 #[tactic(auto, unfolding(crate::specs::Reading::entered_of))]
 fn enter(draft: &mut Draft, alloc: Global, number: u64, entry: Entry, text: &[u8]) -> Taken
-    ensures { GivesAt number (entered_of (draft_seen draft.old) entry (words text.now)) (draft_seen draft.new) result }
+    ensures { IsAnsweredAt number (entered_of (draft_seen draft.old) entry (words text.now)) (draft_seen draft.new) result }
 {
     match entry {
         Entry::Machine(machine) => {
@@ -88,7 +88,7 @@ fn enter(draft: &mut Draft, alloc: Global, number: u64, entry: Entry, text: &[u8
 // A line's first word, and what stands behind it.
 #[tactic(auto, unfolding(crate::specs::Reading::worded_of), using(crate::proofs::FiveWords::five_suffice))]
 fn take_words(draft: &mut Draft, alloc: Global, number: u64, word: &[u8], text: &[u8]) -> Taken
-    ensures { GivesAt number (worded_of (draft_seen draft.old) (word.now ∷ words text.now)) (draft_seen draft.new) result }
+    ensures { IsAnsweredAt number (worded_of (draft_seen draft.old) (word.now ∷ words text.now)) (draft_seen draft.new) result }
 {
     if is_comment(word) {
         return Ok(());
@@ -103,7 +103,7 @@ fn take_words(draft: &mut Draft, alloc: Global, number: u64, word: &[u8], text: 
 /// Takes in one line. After a fault the draft isn't read again.
 #[tactic(auto, unfolding(crate::specs::Reading::line_of, crate::specs::Reading::worded_of))]
 pub fn take_line(draft: &mut Draft, alloc: Global, number: u64, line: &[u8]) -> Taken
-    ensures { GivesAt number (line_of (draft_seen draft.old) line.now) (draft_seen draft.new) result }
+    ensures { IsAnsweredAt number (line_of (draft_seen draft.old) line.now) (draft_seen draft.new) result }
 {
     if !is_printable(line) {
         return Err(bad(number, Reason::Byte));

@@ -3,7 +3,7 @@
 ghost use Rattle.std.specs.Prelude.{◌≡◌, is_some, map};
 ghost use Rattle.std.specs.List.{list_all};
 ghost use Rattle.script_text.specs.Number.{number};
-ghost use Rattle.script_text.specs.Line.{GivesAt};
+ghost use Rattle.script_text.specs.Line.{IsAnsweredAt};
 ghost use Rattle.script_text.specs.Schedule.{item_from, item_of, in_range_of, turns_in, with_turns, written_of, schedule_of};
 ghost use Rattle.script_text.specs.Words.{words};
 
@@ -86,7 +86,7 @@ fn are_in_range(lps: u8, text: &[u8]) -> bool
 }
 
 fn write_turns(schedule: &mut Vec<u8>, line: u64, turns: Turns) -> Taken
-    ensures { GivesAt line (with_turns schedule.old.items turns) schedule.new.items result }
+    ensures { IsAnsweredAt line (with_turns schedule.old.items turns) schedule.new.items result }
 {
     if schedule.len() + turns.times as usize > MOST_ITEMS {
         return Err(bad(line, Reason::Full));
@@ -98,7 +98,7 @@ fn write_turns(schedule: &mut Vec<u8>, line: u64, turns: Turns) -> Taken
 }
 
 fn write_items(schedule: &mut Vec<u8>, line: u64, lps: u8, text: &[u8]) -> Taken
-    ensures { GivesAt line (written_of schedule.old.items (map (turns_in lps) (words text.now))) schedule.new.items result }
+    ensures { IsAnsweredAt line (written_of schedule.old.items (map (turns_in lps) (words text.now))) schedule.new.items result }
 {
     let mut rest = text;
     while let Some((word, more)) = next_word(rest) {
@@ -115,7 +115,7 @@ fn write_items(schedule: &mut Vec<u8>, line: u64, lps: u8, text: &[u8]) -> Taken
 /// stands in the line behind its first word. After a fault the schedule isn't read again.
 #[tactic(auto, unfolding(crate::specs::Schedule::schedule_of), using(crate::proofs::InRange::in_range_are_items))]
 pub fn schedule_line(schedule: &mut Vec<u8>, line: u64, lps: u8, text: &[u8]) -> Taken
-    ensures { GivesAt line (schedule_of lps schedule.old.items (words text.now)) schedule.new.items result }
+    ensures { IsAnsweredAt line (schedule_of lps schedule.old.items (words text.now)) schedule.new.items result }
 {
     if next_word(text).is_none() {
         return Err(bad(line, Reason::Count));

@@ -1,7 +1,7 @@
 //! Scripts.
 
 ghost use Rattle.std.specs.Prelude.{◌≡◌, ◌≤◌, ◌^◌, length};
-ghost use Rattle.script_text.specs.Reading.{Gives, read_of, read_from, ended_of, nothing_yet, draft_seen};
+ghost use Rattle.script_text.specs.Reading.{IsAnswered, read_of, read_from, ended_of, nothing_yet, draft_seen};
 ghost use Rattle.script_text.specs.Words.{pieces};
 
 use crate::drafts::{Draft, take_line};
@@ -53,7 +53,7 @@ fn ended(alloc: Global, draft: Draft, number: u64, rest: &[u8]) -> Result<Script
 
 fn read_lines(alloc: Global, bytes: &[u8]) -> Result<Script, ScriptFault>
     requires { length bytes.now ≤ 2 ^ 24 }
-    ensures { Gives (read_from nothing_yet 1 (pieces bytes.now)) result }
+    ensures { IsAnswered (read_from nothing_yet 1 (pieces bytes.now)) result }
 {
     let mut draft = Draft {
         stage: Stage {
@@ -77,7 +77,7 @@ fn read_lines(alloc: Global, bytes: &[u8]) -> Result<Script, ScriptFault>
 /// The script that the bytes say, or the first bad line with the first reason that holds.
 #[tactic(auto, unfolding(crate::specs::Reading::read_of))]
 pub fn read_script(alloc: Global, bytes: &[u8]) -> Result<Script, ScriptFault>
-    ensures { Gives (read_of bytes.now) result }
+    ensures { IsAnswered (read_of bytes.now) result }
 {
     if bytes.len() > 1 << 24 {
         return Err(bad(0, Reason::Length));

@@ -26,7 +26,7 @@ use Rattle.leaf_engine.specs.declared.plans.Verdict.{Verdict}
 use Rattle.leaf_engine.specs.Changes.{Hand, Change, Put, Swap}
 use Rattle.leaf_engine.specs.Trees.{Tree, Lock, Load, Test, End, feed, settle, passed, answers, acts}
 use Rattle.leaf_engine.specs.Inside.{WriteInside}
-use Rattle.leaf_engine.specs.Decides.{Decides, Gives, IsHand, HandsOut, HandsNext}
+use Rattle.leaf_engine.specs.Decides.{Decides, Wants, IsHand, HandsOut, HandsNext}
 use Rattle.leaf_parts.specs.Words.{says_kind, is_hkid, life_told, op_told, page_told, vps_told}
 use Rattle.td_control.specs.FinalTrees.{word_in_hand, put_mrtd, end_changes, changes_where, final_changes, vps_tree, changing_tree, bare_tree}
 use Rattle.td_words.specs.Place as place
@@ -200,8 +200,8 @@ module _ (m : Machine) (t : ℕ) (v : Verdict) where
       let e = vps-ends m.pages m.pages (page_told m.pages k) 0 (vps_told f) true (final_changes m (page_told m.pages k) z) rest v g.1 in
       record { inside = ltb-true t m.pages a.0; long = omega arith; reply = e.0; tree = rw (a.0, b.0, c.0, d.0, g.0) e.1 }
 
-  pub ok-gives : (xs : List ℕ) → Decides m.pages (bare_tree m t) xs (Ok v) → Gives m.pages (settle (feed (changing_tree m t) xs)) (need.Verdict v.reply)
-  ok-gives xs h = (let e = ended xs h in subst (λ (s : Tree). Gives m.pages (settle s) (need.Verdict v.reply)) (sym e.tree) (ap need.Verdict e.reply))
+  pub ok-gives : (xs : List ℕ) → Decides m.pages (bare_tree m t) xs (Ok v) → Wants m.pages (settle (feed (changing_tree m t) xs)) (need.Verdict v.reply)
+  ok-gives xs h = (let e = ended xs h in subst (λ (s : Tree). Wants m.pages (settle s) (need.Verdict v.reply)) (sym e.tree) (ap need.Verdict e.reply))
 
   pub ok-rest : (xs : List ℕ) → Decides m.pages (bare_tree m t) xs (Ok v) → feed (changing_tree m t) xs ≡ passed (settle (feed (changing_tree m t) xs))
   ok-rest xs h = (let e = ended xs h in subst (λ (s : Tree). s ≡ passed (settle s)) (sym e.tree) refl)

@@ -1,5 +1,5 @@
 use Rattle.std.proofs.Common.{◌≡◌, ◌∙◌, rules, Some}
-use Rattle.leaf_engine.specs.Trees.{left_of}
+use Rattle.leaf_engine.specs.Trees.{changes_left}
 use Rattle.leaf_engine.specs.Decides.{HandsNext}
 use Rattle.leaf_engine.proofs.Asked.{goes-more, goes-done}
 use Rattle.leaf_engine.proofs.asking.change.Goals as goal
@@ -8,7 +8,7 @@ pub loop-write-preserved : goal.loop-write-preserved
 loop-write-preserved g c =
     let i = c.loop-write.invariant.did in
     let machine : (g.L.Leaf.task c.loop-write.leaf).place.machine ≡ g.B.Bench.machine c.args.bench.now = c.loop-write.invariant.fits ∙ c.loop-write.invariant.same.0 in
-    let next : HandsNext (g.B.Bench.machine c.args.bench.now) (left_of (g.L.Leaf.rest c.loop-write.leaf) (g.L.Leaf.written c.loop-write.leaf)) (left_of (g.L.Leaf.rest c.write.new.self) (g.L.Leaf.written c.write.new.self)) c.loop-write.hasher c.write.new.hasher (Some c.in-Some.write) =
+    let next : HandsNext (g.B.Bench.machine c.args.bench.now) (changes_left (g.L.Leaf.rest c.loop-write.leaf) (g.L.Leaf.written c.loop-write.leaf)) (changes_left (g.L.Leaf.rest c.write.new.self) (g.L.Leaf.written c.write.new.self)) c.loop-write.hasher c.write.new.hasher (Some c.in-Some.write) =
     rw machine at c.in-Some.ensures.next in
     record {
       did = (

@@ -8,7 +8,7 @@ use Rattle.td_words.specs.Packing.{Entry}
 use Rattle.flat_core.specs.World.{World}
 use Rattle.flat_core.specs.Effects as effects
 use Rattle.mrtd_measure.specs.Records.{page_record}
-use Rattle.plain_parts.specs.Plain.{world_of, row_in, shown, seen}
+use Rattle.plain_parts.specs.Plain.{world_of, row_in, seen_by_calls, seen}
 use Rattle.plain_runs.proofs.PlainCalls.{refused, done}
 use Rattle.plain_runs.proofs.MemCalls.{add_page_asks}
 use Rattle.plain_runs.proofs.mem_calls.add_private.Goals as goal
@@ -36,5 +36,5 @@ returns-in_ok-measure_page-in-Ok-clause-does c =
     (c.in_ok-measure_page-in-Ok.ensures.measured cells tds keys
     ∙ ap (λ (x : World). effects.measure t (page_record c.args.gpa) x) (c.in_ok-store_entry-in-Ok.ensures.stored cells tds keys
     ∙ (ap (λ (x : World). effects.set_entry t 0 (c.args.gpa / c.size_of.result) e x) (c.fill.ensures.filled tds builds keys
-    ∙ ap (λ (f : ℕ → ℕ). shown (effects.set_page p f (effects.take_page p kind.Reg t w))) (fun_ext (λ i. c.words_of-words.ensures i)))
-    ∙ ap (λ (n : ℕ). effects.set_entry t 0 (c.args.gpa / n) e (shown (effects.set_page p (w.words s) (effects.take_page p kind.Reg t w)))) c.size_of.ensures.size)))
+    ∙ ap (λ (f : ℕ → ℕ). seen_by_calls (effects.set_page p f (effects.take_page p kind.Reg t w))) (fun_ext (λ i. c.words_of-words.ensures i)))
+    ∙ ap (λ (n : ℕ). effects.set_entry t 0 (c.args.gpa / n) e (seen_by_calls (effects.set_page p (w.words s) (effects.take_page p kind.Reg t w)))) c.size_of.ensures.size)))

@@ -6,7 +6,7 @@ use Rattle.td_words.specs.declared.names.PageKind.TheVariants as kind
 use Rattle.td_words.specs.Packing.{Entry}
 use Rattle.flat_core.specs.World.{World}
 use Rattle.flat_core.specs.Effects as effects
-use Rattle.plain_parts.specs.Plain.{world_of, row_in, shown, seen}
+use Rattle.plain_parts.specs.Plain.{world_of, row_in, seen_by_calls, seen}
 use Rattle.plain_runs.proofs.PlainCalls.{refused, done}
 use Rattle.plain_runs.proofs.MemCalls.{add_sept_asks}
 use Rattle.plain_runs.proofs.mem_calls.add_table.Goals as goal
@@ -33,4 +33,4 @@ returns-in_ok-store_entry-in-Ok-clause-does c =
     (add_sept_asks c.args.machine w t c.args.gpa l p c.requires.given ∙ c.in-Ok.ensures) refl
     (c.in_ok-store_entry-in-Ok.ensures.stored cells tds keys
     ∙ (ap (λ (x : World). effects.set_entry t l (c.args.gpa / c.size_of.result) e x) (c.take.ensures.taken tds builds keys)
-    ∙ ap (λ (n : ℕ). effects.set_entry t l (c.args.gpa / n) e (shown (effects.clear_page p (effects.take_page p kind.Ept t w)))) c.size_of.ensures.size))
+    ∙ ap (λ (n : ℕ). effects.set_entry t l (c.args.gpa / n) e (seen_by_calls (effects.clear_page p (effects.take_page p kind.Ept t w)))) c.size_of.ensures.size))

@@ -6,7 +6,7 @@ use Rattle.flat_core.specs.World.{World}
 use Rattle.flat_core.specs.Effects as effects
 use Rattle.plain_parts.specs.declared.plain.Td.{Td}
 use Rattle.plain_parts.specs.declared.plain.Owner.TheVariants as owner
-use Rattle.plain_parts.specs.Plain.{world_of, row_in, world_in, shown, seen, no_td, BuildSeen}
+use Rattle.plain_parts.specs.Plain.{world_of, row_in, world_in, seen_by_calls, seen, no_td, BuildSeen}
 use Rattle.plain_runs.proofs.PlainCalls.{page_passes, hkid_passes, two_tried, does_at}
 use Rattle.plain_parts.proofs.PlainWorld.{td_new, key_set, length_seen}
 use Rattle.plain_runs.proofs.td_calls.create.Goals as goal
@@ -28,4 +28,4 @@ returns-clause-does c =
     (rw (c.from-2.ensures, c.from-3.ensures) (key_set cells (set tds p c.new_td.result) after keys h (owner.Assigned p) (omega arith)
     ∙ ap (λ (x : World). effects.set_key h (AssignedTo p) x) (ap (λ (x : Td). world_in cells (set tds p x) after keys) c.new_td.ensures
     ∙ (ap (λ (x : List BuildSeen). world_in cells (set tds p (record no_td { hkid = h })) x keys) c.begin_build.ensures.begun
-    ∙ (td_new cells tds builds keys p h small fits ∙ ap (λ (x : World). shown (effects.new_td p h x)) (c.take.ensures.taken tds builds keys))))))
+    ∙ (td_new cells tds builds keys p h small fits ∙ ap (λ (x : World). seen_by_calls (effects.new_td p h x)) (c.take.ensures.taken tds builds keys))))))
