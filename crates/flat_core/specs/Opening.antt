@@ -1,5 +1,5 @@
 -- What is fixed before a run: the machine, the calls, the guest code, the bundles that come in, and the secret words.
-use Rattle.std.specs.Prelude.{◌≡◌, ℕ, ◌≤◌, List, map, Option, Result, Ok, Err, Bool, ◌==◌, ◌||◌, if◌then◌else◌, option_map}
+use Rattle.std.specs.Prelude.{◌≡◌, ℕ, List, map, Option, Result, Ok, Err, Bool, ◌==◌, ◌||◌, if◌then◌else◌, option_map}
 use Rattle.td_words.specs.declared.names.HeaderField.{HeaderField}
 use Rattle.td_words.specs.declared.machines.Machine.{Machine}
 use Rattle.td_words.specs.declared.calls.Call.{Call}
@@ -66,9 +66,3 @@ pub record Agree (o q : Opening) : Type 0 where
   pub codes : (t i : ℕ) → o.codes t i ≡ q.codes t i
   pub calls : o.calls ≡ q.calls
   pub bundles : (slot : ℕ) → option_map blind_bundle (o.bundles slot) ≡ option_map blind_bundle (q.bundles slot)
-
--- a machine within the limits
-pub record IsMachine (m : Machine) : Type 0 where
-  pub lps : (1 ≤ m.lps) × (m.lps ≤ 8)
-  pub pages : (8 ≤ m.pages) × (m.pages ≤ 1024)
-  pub hkids : (1 ≤ m.hkids) × (m.hkids ≤ 15)

@@ -1,5 +1,6 @@
 -- That the table is one of leaves, as merges of own lists want it.
-use Rattle.flat_core.specs.Opening.{Opening, IsMachine}
+use Rattle.td_words.specs.Limits.{IsMachine}
+use Rattle.flat_core.specs.Opening.{Opening}
 use Rattle.leaf_engine.specs.Merges.{AreLeaves}
 use Rattle.leaf_dispatch.specs.Table.{leaf_table}
 

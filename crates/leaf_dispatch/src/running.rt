@@ -1,7 +1,7 @@
 //! The run of a call's leaf.
 
 ghost use Rattle.std.specs.Prelude.{◌≡◌, None};
-ghost use Rattle.flat_core.specs.Opening.{IsMachine};
+ghost use Rattle.td_words.specs.Limits.{IsMachine};
 ghost use Rattle.leaf_engine.specs.OwnLists.{running};
 ghost use Rattle.leaf_dispatch.specs.Table.{task_of};
 ghost use Rattle.leaf_dispatch.specs.Running.{standing_of, run_seen, IsUnderWay, IsRunOf, IsBegun, CanTurn, HasTurned, CallTurned};

@@ -1,7 +1,7 @@
 //! Logical processors with their calls.
 
 ghost use Rattle.std.specs.Prelude.{◌+◌, ◌≤◌, length, vec_capacity};
-ghost use Rattle.flat_core.specs.Opening.{IsMachine};
+ghost use Rattle.td_words.specs.Limits.{IsMachine};
 ghost use Rattle.leaf_dispatch.specs.Running.{IsRunAt};
 ghost use Rattle.leaf_dispatch.specs.Kept.{IsRunAt-prop};
 
@@ -26,7 +26,7 @@ pub struct LpState<'a> {
 
 impl<'a> LpState<'a> {
     ghost use Rattle.std.specs.Prelude.{◌≡◌, IfOk};
-    ghost use Rattle.flat_core.specs.Opening.{IsMachine};
+    ghost use Rattle.td_words.specs.Limits.{IsMachine};
     ghost use Rattle.leaf_engine.specs.OwnLists.{first_lp};
     ghost use Rattle.leaf_dispatch.specs.States.{seen_of};
 

@@ -24,7 +24,7 @@ use Rattle.flat_core.specs.Processor.{LockId, OfPage, OfOp, Held}
 use Rattle.flat_core.specs.Effects.{measure}
 use Rattle.flat_core.specs.Lawful.{Lawful, IsNodeOf, key_owner, is_free}
 use Rattle.flat_core.specs.MemRows.{extend, chunk_bytes}
-use Rattle.flat_core.specs.Opening.{IsMachine}
+use Rattle.td_words.specs.Limits.{IsMachine}
 use Rattle.flat_core.specs.Tree.{entry_at, number_at, named_page, same_state, state_in, walk, word_of_gpa}
 use Rattle.flat_core.specs.Conditions.{tree_shared}
 use Rattle.flat_core.specs.Event.{State}

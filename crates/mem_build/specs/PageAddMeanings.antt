@@ -16,7 +16,7 @@ use Rattle.flat_core.specs.Row.{Item}
 use Rattle.flat_core.specs.Conditions.{is_host, children, page_exclusive, host_page}
 use Rattle.flat_core.specs.Lawful.{Lawful, IsAlive}
 use Rattle.flat_core.specs.MemRows.{add_page}
-use Rattle.flat_core.specs.Opening.{IsMachine}
+use Rattle.td_words.specs.Limits.{IsMachine}
 use Rattle.flat_core.specs.Tree.{state_in}
 use Rattle.mrtd_measure.specs.Records.{page_record}
 use Rattle.sept_walk.proofs.Meets.{split}

@@ -14,7 +14,7 @@ use Rattle.flat_core.specs.World.{World}
 use Rattle.flat_core.specs.Processor.{OfPage, OfTree, Held}
 use Rattle.flat_core.specs.Conditions.{is_host, children, growing_ops, page_exclusive, host_page}
 use Rattle.flat_core.specs.Lawful.{Lawful, IsAlive, is_free}
-use Rattle.flat_core.specs.Opening.{IsMachine}
+use Rattle.td_words.specs.Limits.{IsMachine}
 use Rattle.flat_core.specs.Tree.{entry_at, state_in}
 use Rattle.flat_core.specs.MemRows.{add_sept}
 use Rattle.sept_walk.specs.SecureEpt.{index_at}

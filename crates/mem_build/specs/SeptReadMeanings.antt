@@ -11,7 +11,7 @@ use Rattle.flat_core.specs.Processor.{Held}
 use Rattle.flat_core.specs.Row.{Item}
 use Rattle.flat_core.specs.Conditions.{begun_ops, td_shared, tree_exclusive}
 use Rattle.flat_core.specs.Lawful.{Lawful}
-use Rattle.flat_core.specs.Opening.{IsMachine}
+use Rattle.td_words.specs.Limits.{IsMachine}
 use Rattle.flat_core.specs.Tree.{entry_at, walk}
 use Rattle.flat_core.specs.MemRows.{read_sept, entry_value}
 use Rattle.word_rules.specs.Cells.{Shows}

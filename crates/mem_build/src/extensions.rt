@@ -3,7 +3,7 @@
 ghost use Rattle.std.specs.Prelude.{◌≡◌, ℕ, ◌+◌, ◌<◌, ◌%◌, true, drop, length, MatchOption, MatchResult};
 ghost use Rattle.td_words.specs.Address.{word_at};
 ghost use Rattle.flat_core.specs.Digests.{digest_bytes};
-ghost use Rattle.flat_core.specs.Opening.{IsMachine};
+ghost use Rattle.td_words.specs.Limits.{IsMachine};
 ghost use Rattle.flat_core.specs.Tree.{word_of_gpa};
 ghost use Rattle.leaf_engine.specs.Changes.{Hand};
 ghost use Rattle.leaf_engine.specs.Decides.{HandsNext, IsHand};
@@ -51,7 +51,7 @@ pub struct Extend {
 
 impl Extend {
     ghost use Rattle.std.specs.Prelude.{◌≡◌};
-    ghost use Rattle.flat_core.specs.Opening.{IsMachine};
+    ghost use Rattle.td_words.specs.Limits.{IsMachine};
     ghost use Rattle.leaf_engine.specs.Turns.{IsFresh};
     ghost use Rattle.mem_build.specs.ExtendTrees.{extend_task};
 

@@ -1,6 +1,6 @@
 //! MEM.PAGE.ADD.
 
-ghost use Rattle.flat_core.specs.Opening.{IsMachine};
+ghost use Rattle.td_words.specs.Limits.{IsMachine};
 
 use crate::arguments::{GPAS, is_aligned};
 use arrayvec::ArrayVec;
@@ -44,7 +44,7 @@ struct Given {
 
 impl PageAdd {
     ghost use Rattle.std.specs.Prelude.{◌≡◌};
-    ghost use Rattle.flat_core.specs.Opening.{IsMachine};
+    ghost use Rattle.td_words.specs.Limits.{IsMachine};
     ghost use Rattle.leaf_engine.specs.Turns.{IsFresh};
     ghost use Rattle.mem_build.specs.PageAddTrees.{page_add_task};
 

@@ -38,7 +38,7 @@ pub struct SeptAdd {
     ghost machine: { IsMachine place.machine },
 }
 
-ghost use Rattle.flat_core.specs.Opening.{IsMachine};
+ghost use Rattle.td_words.specs.Limits.{IsMachine};
 
 impl SeptAdd {
     ghost use Rattle.std.specs.Prelude.{◌≡◌};

@@ -31,7 +31,7 @@ pub struct SeptRd {
     ghost machine: { IsMachine place.machine },
 }
 
-ghost use Rattle.flat_core.specs.Opening.{IsMachine};
+ghost use Rattle.td_words.specs.Limits.{IsMachine};
 
 impl SeptRd {
     ghost use Rattle.std.specs.Prelude.{◌≡◌};

@@ -12,7 +12,8 @@ use Rattle.td_words.specs.declared.machines.Machine.{Machine}
 use Rattle.td_words.specs.declared.calls.Call.{Call}
 use Rattle.td_words.specs.declared.replies.Reply.{Reply}
 use Rattle.flat_core.specs.Processor.{Lp}
-use Rattle.flat_core.specs.Opening.{Opening, IsMachine}
+use Rattle.td_words.specs.Limits.{IsMachine}
+use Rattle.flat_core.specs.Opening.{Opening}
 use Rattle.flat_core.specs.Event.{State, start, event, lines_left}
 use Rattle.flat_core.specs.Run.{play, run, to_the_end}
 use Rattle.flat_core.specs.HostText.{reply_lines, lines_from, text_of, host_text}
@@ -174,7 +175,7 @@ item-next o schedule lps b i d p l inside is =
     subst (λ (z : List ℕ). IsMidway o schedule z lps b) next l
 
 pub open-of : (script : ScriptSeen) → IsInForm script → IsOpen (opening_of script)
-open-of script form = record { machine = record { lps = form.lps; pages = form.pages; hkids = form.hkids }; few = omega (arith, form.lps.1, form.lists) }
+open-of script form = record { machine = form.machine; few = omega (arith, form.machine.lps.1, form.lists) }
 
 -- those before a processor stay at their ends
 pub still-ended : (lps : List LpState) (p : ℕ) (s' : LpState) → HaveEnded p lps → HaveEnded p (set lps p s')

@@ -2,7 +2,7 @@
 
 ghost use Rattle.std.specs.Prelude.{◌≡◌, ◌≤◌, ◌<◌, ◌+◌, [], length, map, IfOk};
 ghost use Rattle.std.specs.List.{concat};
-ghost use Rattle.flat_core.specs.Opening.{IsMachine};
+ghost use Rattle.td_words.specs.Limits.{IsMachine};
 ghost use Rattle.flat_core.specs.HostText.{host_text};
 ghost use Rattle.script_text.specs.Laws.{IsInForm};
 ghost use Rattle.script_runner.specs.Ending.{opening_of};

@@ -9,6 +9,7 @@ use Rattle.td_words.specs.declared.calls.Call.{Call}
 use Rattle.td_words.specs.declared.calls.Call.TheVariants as call
 use Rattle.td_words.specs.declared.names.ReadField.{ReadField}
 use Rattle.td_words.specs.declared.machines.Machine.{Machine}
+use Rattle.td_words.specs.Limits.{IsMachine, in_limits}
 use Rattle.script_text.specs.declared.faults.Reason.{Reason}
 use Rattle.script_text.specs.declared.faults.Reason.TheVariants as reason
 use Rattle.script_text.specs.declared.faults.ScriptFault.{ScriptFault}
@@ -24,7 +25,7 @@ use Rattle.script_text.specs.declared.schedules.Item.{Item}
 use Rattle.script_text.specs.declared.schedules.Turns.{Turns}
 use Rattle.script_text.specs.Mnemonics.{mnemonics, mnemonic_in}
 use Rattle.script_text.specs.Number.{digit, number_on, digits_in, is_prefixed, number}
-use Rattle.script_text.specs.Line.{◌>>=◌, in_limits, machine_of, block_of, end_of, counted_of, number_at, argument, built_of, are_given, judged_of, call_of, first_of, outside_of, inside_of, placed_of, entry_of, keyword_of}
+use Rattle.script_text.specs.Line.{◌>>=◌, machine_of, block_of, end_of, counted_of, number_at, argument, built_of, are_given, judged_of, call_of, first_of, outside_of, inside_of, placed_of, entry_of, keyword_of}
 use Rattle.script_text.specs.Blocks.{field_of}
 use Rattle.script_text.specs.Schedule.{item_of, in_range_of, turns_in, with_turns, written_of, schedule_of}
 use Rattle.script_text.specs.Words.{pieces, words, is_printable, is_comment}
@@ -354,18 +355,15 @@ abbrev IfRead : Result ScriptSeen ScriptFault → Type 0
 IfRead (Ok s) = IsInForm s
 IfRead (Err e) = Unit {0}
 
-all_in_limits : (lps pages hkids : ℕ) → in_limits lps pages hkids ≡ true → (1 ≤ lps) × (lps ≤ 8) × (8 ≤ pages) × (pages ≤ 1024) × (1 ≤ hkids) × (hkids ≤ 15)
-all_in_limits lps pages hkids h = (grind arith, grind arith, grind arith, grind arith, grind arith, grind arith)
+all_in_limits : (m : Machine) → in_limits m.lps m.pages m.hkids ≡ true → IsMachine m
+all_in_limits m h = record { lps = (grind arith, grind arith); pages = (grind arith, grind arith); hkids = (grind arith, grind arith) }
 
 script_fits : (m : Option Machine) (block : Option ℕ) (schedule : List ℕ) (calls : List (List Call)) (n : ℕ) → FitsParts m schedule calls → IfRead (script_of m block schedule calls n)
 script_fits None block schedule calls n h = tt
 script_fits (Some m) (Some lp) schedule calls n h = tt
 script_fits (Some m) None schedule calls n h =
-    let l = all_in_limits m.lps m.pages m.hkids h.limits in
     record {
-      lps = (l.0, l.1);
-      pages = (l.2, l.3);
-      hkids = (l.4, l.5);
+      machine = all_in_limits m h.limits;
       items = h.items.below;
       few_items = h.items.few;
       no_codes = refl;

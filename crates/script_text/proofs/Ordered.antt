@@ -9,6 +9,7 @@ use Rattle.td_words.specs.declared.calls.Call.{Call}
 use Rattle.td_words.specs.declared.machines.Machine.{Machine}
 use Rattle.td_words.specs.declared.names.ReadField.{ReadField}
 use Rattle.td_words.specs.declared.names.ReadField.TheVariants as field
+use Rattle.td_words.specs.Limits.{in_limits}
 use Rattle.script_text.specs.declared.faults.Reason.{Reason}
 use Rattle.script_text.specs.declared.faults.Reason.TheVariants as reason
 use Rattle.script_text.specs.declared.faults.ScriptFault.TheVariants.{Bad}
@@ -21,7 +22,7 @@ use Rattle.script_text.specs.declared.mnemonics.CallName.TheVariants as name
 use Rattle.script_text.specs.declared.mnemonics.Mnemonic.{Mnemonic}
 use Rattle.script_text.specs.declared.schedules.Turns.{Turns}
 use Rattle.script_text.specs.Blocks.{field_of}
-use Rattle.script_text.specs.Line.{◌>>=◌, keyword_of, in_limits, machine_of, block_of, end_of, built_of, are_given, judged_of, call_of, first_of, outside_of, inside_of, placed_of, entry_of}
+use Rattle.script_text.specs.Line.{◌>>=◌, keyword_of, machine_of, block_of, end_of, built_of, are_given, judged_of, call_of, first_of, outside_of, inside_of, placed_of, entry_of}
 use Rattle.script_text.specs.Mnemonics.{mnemonics, mnemonic_in}
 use Rattle.script_text.specs.Number.{number}
 use Rattle.script_text.specs.Reading.{SoFar, entered_of, worded_of, line_of, script_of, ended_of}

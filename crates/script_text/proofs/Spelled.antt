@@ -14,12 +14,13 @@ use Rattle.td_words.specs.declared.machines.Machine.{Machine}
 use Rattle.td_words.specs.declared.names.ReadField.{ReadField}
 use Rattle.td_words.specs.declared.names.ReadField.TheVariants as field
 use Rattle.td_words.specs.NameText.{read_text}
+use Rattle.td_words.specs.Limits.{IsMachine, in_limits}
 use Rattle.script_text.specs.declared.faults.Reason.{Reason}
 use Rattle.script_text.specs.declared.faults.ScriptFault.{ScriptFault}
 use Rattle.script_text.specs.declared.lines.Entry.{Entry}
 use Rattle.script_text.specs.declared.lines.Entry.TheVariants as entry
 use Rattle.script_text.specs.declared.lines.Stage.{Stage}
-use Rattle.script_text.specs.Line.{entry_of, in_limits, machine_of, block_of, end_of, call_of, ◌>>=◌}
+use Rattle.script_text.specs.Line.{entry_of, machine_of, block_of, end_of, call_of, ◌>>=◌}
 use Rattle.script_text.specs.Blocks.{field_of}
 use Rattle.script_text.specs.Number.{number}
 use Rattle.script_text.specs.Words.{pieces, is_comment}
@@ -246,14 +247,14 @@ schedule_passed m had calls (lp ∷ lps) n rest read few h room go =
     line_passed (so_far m None had [] calls) (so_far m None had (lp ∷ lps) calls) n (codes "schedule") (lp ∷ lps) rest (record { bytes = refl; some = refl }) refl (below_fit m.lps (lp ∷ lps) few h) (schedule_said m had calls lp lps few h room)
     ∙ go (n + 1)
 
-within_limits : (lps pages hkids : ℕ) → (1 ≤ lps) × (lps ≤ 8) → (8 ≤ pages) × (pages ≤ 1024) → (1 ≤ hkids) × (hkids ≤ 15) → in_limits lps pages hkids ≡ true
-within_limits lps pages hkids a b c =
-    let a0 : leb 1 lps ≡ true = grind (arith, a.0) in
-    let a1 : leb lps 8 ≡ true = grind (arith, a.1) in
-    let b0 : leb 8 pages ≡ true = grind (arith, b.0) in
-    let b1 : leb pages 1024 ≡ true = grind (arith, b.1) in
-    let c0 : leb 1 hkids ≡ true = grind (arith, c.0) in
-    let c1 : leb hkids 15 ≡ true = grind (arith, c.1) in
+within_limits : (m : Machine) → IsMachine m → in_limits m.lps m.pages m.hkids ≡ true
+within_limits m h =
+    let a0 : leb 1 m.lps ≡ true = grind (arith, h.lps.0) in
+    let a1 : leb m.lps 8 ≡ true = grind (arith, h.lps.1) in
+    let b0 : leb 8 m.pages ≡ true = grind (arith, h.pages.0) in
+    let b1 : leb m.pages 1024 ≡ true = grind (arith, h.pages.1) in
+    let c0 : leb 1 m.hkids ≡ true = grind (arith, h.hkids.0) in
+    let c1 : leb m.hkids 15 ≡ true = grind (arith, h.hkids.1) in
     rw (a0, a1, b0, b1, c0, c1) refl
 
 machine_fits : (s : ScriptSeen) → IsInForm s → list_all fits (s.machine.lps ∷ s.machine.pages ∷ s.machine.hkids ∷ []) ≡ true
@@ -273,9 +274,9 @@ script_read s h =
     let calls_are : replicate s.machine.lps [] ≡ no_calls s.calls = ap (λ n. replicate n []) (sym h.lists) ∙ none_called s.calls in
     let P : List (List Call) → Type 0 = λ calls. (k : ℕ) → read_from (so_far s.machine None had s.schedule calls) k (pieces (blocks_text 0 s.calls)) ≡ whole s.machine s.schedule s.calls in
     line_passed nothing_yet (so_far s.machine None had [] (replicate s.machine.lps [])) 1 (codes "machine") (s.machine.lps ∷ s.machine.pages ∷ s.machine.hkids ∷ []) (schedule_text s.schedule ++ blocks_text 0 s.calls) (record { bytes = refl; some = refl }) refl (machine_fits s h)
-    (machine_said s.machine (within_limits s.machine.lps s.machine.pages s.machine.hkids h.lps h.pages h.hkids))
-    ∙ schedule_passed s.machine had (replicate s.machine.lps []) s.schedule 2 (blocks_text 0 s.calls) (whole s.machine s.schedule s.calls) h.lps.1 h.items h.few_items
-    (subst P (sym calls_are) (λ k. blocks_passed s.machine s.schedule s.calls [] 0 had k refl (omega (arith, h.lists)) h.lps.1 (record { from = λ j le. all_free 8 j }) h.few_calls h.arguments))
+    (machine_said s.machine (within_limits s.machine h.machine))
+    ∙ schedule_passed s.machine had (replicate s.machine.lps []) s.schedule 2 (blocks_text 0 s.calls) (whole s.machine s.schedule s.calls) h.machine.lps.1 h.items h.few_items
+    (subst P (sym calls_are) (λ k. blocks_passed s.machine s.schedule s.calls [] 0 had k refl (omega (arith, h.lists)) h.machine.lps.1 (record { from = λ j le. all_free 8 j }) h.few_calls h.arguments))
     ∙ seen_again s h.no_codes
 
 numbers_length : (ns : List ℕ) → list_all fits ns ≡ true → length (words_text (map decimal ns)) ≤ 21 * length ns
@@ -360,9 +361,9 @@ text_length : (s : ScriptSeen) → IsInForm s → length (script_text s) ≤ 2 ^
 text_length s h =
     let head = s.machine.lps ∷ s.machine.pages ∷ s.machine.hkids ∷ [] in
     let m : length (line_text (codes "machine") (map decimal head)) ≤ 7 + 21 * 3 + 1 = line_length (codes "machine") head (machine_fits s h) in
-    let i : length (schedule_text s.schedule) ≤ 9 + 2 * length s.schedule = schedule_length s.machine.lps s.schedule h.lps.1 h.items in
+    let i : length (schedule_text s.schedule) ≤ 9 + 2 * length s.schedule = schedule_length s.machine.lps s.schedule h.machine.lps.1 h.items in
     let b : length (blocks_text 0 s.calls) ≤ 454684 * length s.calls = blocks_length s.calls 0 (omega (arith, h.lists)) h.few_calls h.arguments in
-    whole_length (line_text (codes "machine") (map decimal head)) (schedule_text s.schedule) (blocks_text 0 s.calls) (length s.schedule) (length s.calls) m i b h.few_items (omega (arith, h.lists, h.lps.1))
+    whole_length (line_text (codes "machine") (map decimal head)) (schedule_text s.schedule) (blocks_text 0 s.calls) (length s.schedule) (length s.calls) m i b h.few_items (omega (arith, h.lists, h.machine.lps.1))
 
 pub spelled : ScriptsReadAgain
 spelled = record { read_again = λ s h. within (script_text s) (text_length s h) ∙ script_read s h }

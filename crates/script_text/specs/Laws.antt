@@ -1,6 +1,7 @@
 -- Laws of scripts in a reader's terms.
 use Rattle.std.specs.Prelude.{◌≡◌, ℕ, ◌+◌, ◌^◌, ◌<◌, ◌≤◌, List, [], ◌∷◌, ◌++◌, length, find, option_map, Ok, Err}
 use Rattle.std.specs.List.{All}
+use Rattle.td_words.specs.Limits.{IsMachine}
 use Rattle.script_text.specs.declared.faults.Reason.{Reason}
 use Rattle.script_text.specs.declared.faults.Reason.TheVariants as reason
 use Rattle.script_text.specs.declared.faults.ScriptFault.TheVariants.{Bad}
@@ -12,9 +13,7 @@ use Rattle.script_text.specs.Reasons.{fault_in, line_reasons, holds_at, end_reas
 
 -- a script as the grammar has it: a machine within the limits, a schedule of its processors, and a list of calls for each
 pub record IsInForm (s : ScriptSeen) : Type 0 where
-  pub lps : (1 ≤ s.machine.lps) × (s.machine.lps ≤ 8)
-  pub pages : (8 ≤ s.machine.pages) × (s.machine.pages ≤ 1024)
-  pub hkids : (1 ≤ s.machine.hkids) × (s.machine.hkids ≤ 15)
+  pub machine : IsMachine s.machine
   pub items : All (λ lp. lp < s.machine.lps) s.schedule
   pub few_items : length s.schedule ≤ 2 ^ 20
   pub no_codes : s.codes ≡ []

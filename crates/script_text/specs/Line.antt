@@ -4,6 +4,7 @@ use Rattle.std.specs.List.{list_all}
 use Rattle.std.specs.Str.{bytes_eq}
 use Rattle.td_words.specs.declared.calls.Call.TheVariants as calls
 use Rattle.td_words.specs.declared.machines.Machine.{Machine}
+use Rattle.td_words.specs.Limits.{in_limits}
 use Rattle.script_text.specs.declared.faults.Reason.{Reason}
 use Rattle.script_text.specs.declared.faults.Reason.TheVariants as reason
 use Rattle.script_text.specs.declared.faults.ScriptFault.{ScriptFault}
@@ -44,10 +45,6 @@ counted_of n numbers = if length numbers == n then Ok tt else Err reason.Count
 
 abbrev pub number_at : List (Option ℕ) → ℕ → Result ℕ Reason
 number_at numbers i = ok_or (slice_index_or numbers i None) reason.Number
-
--- 1 to 8 processors, 8 to 1,024 pages, 1 to 15 HKIDs
-abbrev pub in_limits : ℕ → ℕ → ℕ → Bool
-in_limits lps pages hkids = nat_le 1 lps && nat_le lps 8 && nat_le 8 pages && nat_le pages 1024 && nat_le 1 hkids && nat_le hkids 15
 
 abbrev pub machine_in : ℕ → ℕ → ℕ → Result Entry Reason
 machine_in lps pages hkids =

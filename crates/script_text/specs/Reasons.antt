@@ -2,6 +2,7 @@
 use Rattle.std.specs.Prelude.{ℕ, ◌+◌, ◌^◌, List, [], ◌∷◌, length, map, Option, Some, None, is_some, Result, Ok, Err, Bool, true, false, not, ◌&&◌, ◌==◌, nat_lt, nat_le, slice_index_or, unwrap_or}
 use Rattle.std.specs.List.{list_all}
 use Rattle.td_words.specs.declared.machines.Machine.{Machine}
+use Rattle.td_words.specs.Limits.{in_limits}
 use Rattle.script_text.specs.declared.faults.Reason.{Reason}
 use Rattle.script_text.specs.declared.faults.Reason.TheVariants as reason
 use Rattle.script_text.specs.declared.lines.Keyword.{Keyword}
@@ -11,7 +12,7 @@ use Rattle.script_text.specs.declared.mnemonics.CallName.TheVariants as name
 use Rattle.script_text.specs.declared.mnemonics.Mnemonic.{Mnemonic}
 use Rattle.script_text.specs.declared.schedules.Turns.{Turns}
 use Rattle.script_text.specs.Blocks.{field_of}
-use Rattle.script_text.specs.Line.{keyword_of, in_limits, argument, built_of, are_given}
+use Rattle.script_text.specs.Line.{keyword_of, argument, built_of, are_given}
 use Rattle.script_text.specs.Mnemonics.{mnemonics, mnemonic_in}
 use Rattle.script_text.specs.Number.{number}
 use Rattle.script_text.specs.Reading.{SoFar}

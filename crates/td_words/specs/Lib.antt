@@ -7,4 +7,5 @@ pub mod Place
 pub mod Packing
 pub mod Places
 pub mod Seen
+pub mod Limits
 pub mod Laws
