@@ -3,7 +3,6 @@
 -- each condition is the row's; and at the end the stores are allowed, and laid over the words they show what the row's act
 -- makes of the world.
 use Rattle.std.specs.Prelude.{◌≡◌, ◌≢◌, ◌⊎◌, ℕ, ◌<◌, ◌≤◌, true, false, Option, Some, None, List, [], ◌∷◌, ◌++◌, map}
-use Rattle.std.specs.Int.{w64, to_le_bytes}
 use Rattle.td_words.specs.declared.names.PageKind.TheVariants as kind
 use Rattle.td_words.specs.declared.machines.Machine.{Machine}
 use Rattle.td_words.specs.declared.replies.Outcome.{Outcome}
@@ -14,6 +13,7 @@ use Rattle.td_words.specs.Place.{WordPlace, IsIn, Word}
 use Rattle.flat_core.specs.World.{World}
 use Rattle.flat_core.specs.Processor.{LockId, OfPage, OfOp, Held, Guest, Note, LoadNote, RtmrNote}
 use Rattle.flat_core.specs.Row.{Item, Check, Try, Row, OperationRow}
+use Rattle.flat_core.specs.Digests.{digest_bytes}
 use Rattle.flat_core.specs.Effects.{tell_words}
 use Rattle.flat_core.specs.Lawful.{Lawful, IsAlive, IsPageOf}
 use Rattle.flat_core.specs.Event.{State}
@@ -48,10 +48,6 @@ exit_of (Some out) = Exited out
 abbrev pub exit_item : Item (Option Outcome) → Item Reply
 exit_item (Check b out) = Check b (exit_of out)
 exit_item (Try l m) = Try l m
-
-abbrev pub digest_bytes : List ℕ → List ℕ
-digest_bytes [] = []
-digest_bytes (x ∷ xs) = to_le_bytes w64 x ++ digest_bytes xs
 
 -- an operation that is completed answers what it read or stored
 abbrev pub operation_reply : List Note → List ℕ → Option Outcome → Reply
