@@ -1,6 +1,6 @@
 -- The act of each row changes what words are only as the rules say.
 use Rattle.std.proofs.Common.{◌≡◌, ◌⊎◌, refl, sym, ◌∙◌, ap, subst, inl, inr, ℕ, ◌+◌, List, [], ◌∷◌, ◌++◌, length, map, Bool, true, false, not, ◌==◌, nat_lt, arith}
-use Rattle.std.specs.Prelude.{Option, Some, None, filter}
+use Rattle.std.specs.Prelude.{Option, Some, None}
 use Rattle.std.specs.List.{list_any}
 use Rattle.std.proofs.lemmas.Bool.{eq-eqb, eqb-true, ne_eqb, not-true, and_parts}
 use Rattle.std.proofs.lemmas.Bool.Decides.{nat_tests}
@@ -29,7 +29,7 @@ use Rattle.flat_core.specs.Effects.{set_word, take_node, clear_page, give_back, 
 use Rattle.flat_core.specs.TdRows.{create, add_tdcx}
 use Rattle.flat_core.specs.KeyRows.{reclaim_conditions}
 use Rattle.flat_core.specs.VpRows.{create_vp}
-use Rattle.flat_core.specs.Tree.{page_of_gpa, number_at, entry_at, same_state}
+use Rattle.flat_core.specs.Tree.{page_of_gpa, number_at, entry_at, same_state, levels_above}
 use Rattle.flat_core.proofs.Tests.{by_test, host_kind, tdr_kind}
 use Rattle.word_rules.specs.Guards.{Grip, Locked}
 use Rattle.word_rules.specs.Rules.{moves}
@@ -274,9 +274,6 @@ module _ (g : Grip) (w : World) where
   measured t records = let w' : World = measure t records w in leaves g w w' (all-same w w' refl (λ u. same-td w w' u refl refl refl (λ b. refl) (λ n. refl))) (λ h. refl) refl
 
 -- a walk is conditions alone
-abbrev levels-above : ℕ → List ℕ
-levels-above level = filter (λ l. nat_lt level l) (3 ∷ 2 ∷ 1 ∷ [])
-
 behind-walk : (b : ℕ → Bool) (r : ℕ → Reply) (ls : List ℕ) (items : List (Item Reply)) → Passes (map (λ l. Check (b l) (r l)) ls ++ items) → Passes items
 behind-walk b r [] items ps = ps
 behind-walk b r (l ∷ ls) items ps = behind-walk b r ls items ps.1
@@ -316,8 +313,8 @@ rows-respect o me (call.VpInit tdr vp value) g w la ps h = vp-initialized g w vp
 rows-respect o me (call.MrExtend tdr gpa) g w la ps h = measured g w tdr _
 rows-respect o me (call.MemSeptAdd tdr gpa level page) g w la ps h =
     let passes : ℕ → Bool = λ l. same_state (entry_at w tdr l gpa).state entry.NlMapped in
-    let behind = behind-walk passes (λ l. Refused (EptWalkFailed l)) (levels-above level) _ ps.1.1.1.1.1.1.1.1.1.1 in
-    let held = held-behind g passes (λ l. Refused (EptWalkFailed l)) (levels-above level) _ h.1.1.1 in
+    let behind = behind-walk passes (λ l. Refused (EptWalkFailed l)) (levels_above level) _ ps.1.1.1.1.1.1.1.1.1.1 in
+    let held = held-behind g passes (λ l. Refused (EptWalkFailed l)) (levels_above level) _ h.1.1.1 in
     sept-added g w tdr gpa level page behind.1.0 held.0.1 (record { tdr = h.0; op = h.1.0 }) h.1.1.0.1
 rows-respect o me (call.MemSeptRd tdr gpa level) g w la ps h = stays g w
 rows-respect o me (call.MemPageAdd tdr gpa page source) g w la ps h =

@@ -1,5 +1,5 @@
 -- How many events a call has.
-use Rattle.std.proofs.Common.{◌≡◌, refl, sym, ◌∙◌, subst, ap, ℕ, zero, suc, ◌+◌, ◌*◌, ◌<◌, ◌≤◌, List, [], ◌∷◌, ◌++◌, length, drop, map, filter, Option, Some, None, Bool, true, false, ◌==◌, nat_lt, arith, length-append}
+use Rattle.std.proofs.Common.{◌≡◌, refl, sym, ◌∙◌, subst, ap, ℕ, zero, suc, ◌+◌, ◌*◌, ◌<◌, ◌≤◌, List, [], ◌∷◌, ◌++◌, length, drop, map, Option, Some, None, Bool, true, false, ◌==◌, arith, length-append}
 use Rattle.std.proofs.lemmas.Bool.{eqb-true, eqb-false}
 use Rattle.td_words.specs.declared.names.Mode.{Mode}
 use Rattle.td_words.specs.declared.names.Mode.TheVariants.{Shared, Exclusive}
@@ -14,7 +14,7 @@ use Rattle.flat_core.specs.World.{World}
 use Rattle.flat_core.specs.Processor.{LockId, name_of, Held, Phase, Trying, Undoing, Answered, Progress, Guest, Entering, Lp}
 use Rattle.flat_core.specs.Opening.{Opening}
 use Rattle.flat_core.specs.Row.{Item, Check, Try, Row, Move, Attempts, Refuses, Succeeds, next, next_in, tries_in}
-use Rattle.flat_core.specs.Tree.{entry_at, same_state, state_in}
+use Rattle.flat_core.specs.Tree.{entry_at, same_state, state_in, levels_above}
 use Rattle.flat_core.specs.Conditions.{page_exclusive, host_page}
 use Rattle.flat_core.specs.KeyRows.{reclaim_conditions}
 use Rattle.flat_core.specs.Table.{row_of}
@@ -116,9 +116,6 @@ walk_holds b (l ∷ ls) items h = (tt, walk_holds b ls items h)
 walk_alone_holds : (b : ℕ → Bool) (ls : List ℕ) → ArgumentsHold (walk_checks b ls)
 walk_alone_holds b [] = tt
 walk_alone_holds b (l ∷ ls) = (tt, walk_alone_holds b ls)
-
-abbrev levels_above : ℕ → List ℕ
-levels_above level = filter (λ l. nat_lt level l) (3 ∷ 2 ∷ 1 ∷ [])
 
 abbrev is_passed : World → (t gpa l : ℕ) → Bool
 is_passed w t gpa l = same_state (entry_at w t l gpa).state entry.NlMapped

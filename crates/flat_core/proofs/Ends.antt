@@ -10,9 +10,8 @@ use Rattle.td_words.specs.declared.replies.Reply.{Reply}
 use Rattle.td_words.specs.declared.replies.Reply.TheVariants.{Done, Refused}
 use Rattle.td_words.specs.declared.refusals.Status.TheVariants.{EptWalkFailed}
 use Rattle.td_words.specs.declared.names.EntryState.TheVariants as entry
-use Rattle.std.specs.Prelude.{filter, nat_lt}
 use Rattle.flat_core.specs.Conditions.{page_exclusive, host_page}
-use Rattle.flat_core.specs.Tree.{entry_at, same_state, state_in}
+use Rattle.flat_core.specs.Tree.{entry_at, same_state, state_in, levels_above}
 use Rattle.flat_core.specs.World.{World}
 use Rattle.flat_core.specs.Processor.{LockId, Held, Phase, Trying, Undoing, Answered, Progress, Guest, Entering, Lp, idle, nothing_yet}
 use Rattle.flat_core.specs.Opening.{Opening}
@@ -41,9 +40,6 @@ checks_tried b r (l ∷ ls) items = checks_tried b r ls items
 pub checks_alone : (b : ℕ → Bool) (r : ℕ → Reply) (ls : List ℕ) → tries_in (map (λ l. Check (b l) (r l)) ls) ≡ 0
 checks_alone b r [] = refl
 checks_alone b r (l ∷ ls) = checks_alone b r ls
-
-abbrev levels_above : ℕ → List ℕ
-levels_above level = filter (λ l. nat_lt level l) (3 ∷ 2 ∷ 1 ∷ [])
 
 pub row_tries : (o : Opening) (me : ℕ) (c : Call) (w : World) → tries_in ((row_of o me c).items w) ≤ most_tries c
 row_tries o me (call.PhymemPageReclaim t page) w = reclaim_tries (page == t)

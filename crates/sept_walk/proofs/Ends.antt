@@ -1,10 +1,11 @@
 -- A walk ends with what the secure EPT in memory says.
 use Rattle.std.proofs.Common.{◌≡◌, ◌≢◌, refl, ◌∙◌, ap, ℕ, zero, suc, ◌-◌, ◌≤◌, Bool, true, false, if◌then◌else◌, List, [], ◌∷◌, arith}
 use Rattle.td_words.specs.Packing.{Entry}
+use Rattle.flat_core.specs.Tree.{levels_above}
 use Rattle.sept_walk.specs.declared.walks.Walked.{Walked}
 use Rattle.sept_walk.specs.declared.walks.Walked.TheVariants.{More, Failed}
 use Rattle.sept_walk.specs.Seen.{Walk}
-use Rattle.sept_walk.specs.SecureEpt.{is_mapped_on, passes, levels_above, walk_end, entry_below, page_below}
+use Rattle.sept_walk.specs.SecureEpt.{is_mapped_on, passes, walk_end, entry_below, page_below}
 use Rattle.sept_walk.specs.Steps.{walk_from}
 use Rattle.sept_walk.specs.Laws.{WalksFind, or_on, told_at_most, entries_in}
 

@@ -5,10 +5,10 @@ use Rattle.td_words.specs.declared.replies.Reply.{Reply}
 use Rattle.td_words.specs.Packing.{Entry}
 use Rattle.flat_core.specs.World.{World}
 use Rattle.flat_core.specs.Row.{Item, next, needs}
-use Rattle.flat_core.specs.Tree.{number_at, entry_at}
+use Rattle.flat_core.specs.Tree.{number_at, entry_at, levels_above}
 use Rattle.sept_walk.specs.declared.walks.Walked.{Walked}
 use Rattle.sept_walk.specs.declared.walks.Walked.TheVariants.{Found, Failed}
-use Rattle.sept_walk.specs.SecureEpt.{index_at, is_mapped_on, entry_below, passes, levels_above, walk_end}
+use Rattle.sept_walk.specs.SecureEpt.{index_at, is_mapped_on, entry_below, passes, walk_end}
 use Rattle.sept_walk.specs.Maps.{HoldsMap, map_end, row_behind}
 use Rattle.sept_walk.specs.Laws.{NumbersSplit, WalksMeetMaps}
 

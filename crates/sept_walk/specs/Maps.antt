@@ -6,10 +6,10 @@ use Rattle.td_words.specs.declared.replies.Reply.TheVariants.{Refused}
 use Rattle.td_words.specs.Packing.{Entry}
 use Rattle.flat_core.specs.World.{World}
 use Rattle.flat_core.specs.Row.{Move, Refuses}
-use Rattle.flat_core.specs.Tree.{entry_at}
+use Rattle.flat_core.specs.Tree.{entry_at, levels_above}
 use Rattle.sept_walk.specs.declared.walks.Walked.{Walked}
 use Rattle.sept_walk.specs.declared.walks.Walked.TheVariants.{More, Found, Failed}
-use Rattle.sept_walk.specs.SecureEpt.{is_mapped_on, levels_above, passes}
+use Rattle.sept_walk.specs.SecureEpt.{is_mapped_on, passes}
 
 -- memory holds a TD's map: the root the entries of level 3, and the page that an NL_MAPPED entry names the 512 below it
 pub record HoldsMap (entries : ℕ → ℕ → Entry) (root : ℕ) (w : World) (t : ℕ) : Type 0 where

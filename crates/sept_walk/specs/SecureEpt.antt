@@ -1,10 +1,10 @@
 -- The secure EPT as it lies in memory. A page of it holds 512 entries: the root's are of level 3, and an entry that is
 -- NL_MAPPED names the page of the 512 entries below it (Base Architecture, "Secure EPT"). What memory has is a function
 -- from page and index to the entry that stands there.
-use Rattle.std.specs.Prelude.{ℕ, zero, suc, ◌-◌, ◌%◌, List, [], ◌∷◌, filter, Bool, nat_lt, if◌then◌else◌}
+use Rattle.std.specs.Prelude.{ℕ, zero, suc, ◌-◌, ◌%◌, List, [], ◌∷◌, Bool, if◌then◌else◌}
 use Rattle.td_words.specs.declared.names.EntryState.TheVariants as entry
 use Rattle.td_words.specs.Packing.{Entry}
-use Rattle.flat_core.specs.Tree.{number_at, same_state}
+use Rattle.flat_core.specs.Tree.{number_at, same_state, levels_above}
 use Rattle.sept_walk.specs.declared.walks.Walked.{Walked}
 use Rattle.sept_walk.specs.declared.walks.Walked.TheVariants.{Found, Failed}
 
@@ -24,10 +24,6 @@ entry_below entries root gpa level = entries (page_below entries root gpa (3 - l
 
 abbrev pub is_mapped_on : Entry → Bool
 is_mapped_on e = same_state e.state entry.NlMapped
-
--- the levels above one, from the root's down
-abbrev pub levels_above : ℕ → List ℕ
-levels_above level = filter (λ l. nat_lt level l) (3 ∷ 2 ∷ 1 ∷ [])
 
 -- A walk to an entry passes over each entry above it that is NL_MAPPED, and fails at the first that isn't.
 abbrev pub passes : (ℕ → Entry) → ℕ → List ℕ → Walked
