@@ -32,6 +32,10 @@ put_page words p xs (Pamt q) = words (Pamt q)
 put_page words p xs (Word q i) = if q == p then xs i else words (Word q i)
 put_page words p xs (Key k) = words (Key k)
 
+-- changes that are made where a test holds, and none where it doesn't
+abbrev pub changes_where : Bool → List Change → List Change
+changes_where b cs = if b then cs else []
+
 -- what a change makes of memory
 abbrev pub changed : Change → Memory → Memory
 changed (Put q x) m = record m { words = put_word m.words q x }

@@ -20,13 +20,13 @@ use Rattle.leaf_engine.specs.declared.needs.Write.{Write}
 use Rattle.leaf_engine.specs.declared.needs.Write.TheVariants as write
 use Rattle.leaf_engine.specs.declared.plans.Stop.{Stop}
 use Rattle.leaf_engine.specs.declared.plans.Stop.TheVariants as stop
-use Rattle.leaf_engine.specs.Changes.{Hand, Change, Swap}
+use Rattle.leaf_engine.specs.Changes.{Hand, Change, Swap, changes_where}
 use Rattle.leaf_engine.specs.Decides.{Decides, Wants, IsHand, HandsNext, need_for}
 use Rattle.leaf_engine.specs.Trees.{Tree, Lock, Load, Test, End, Since, feed, fed, settle, passed, changes_of, changes_left}
 use Rattle.leaf_engine.proofs.Decided.{feed-append, decided, decided-kept, decided-lock}
 use Rattle.leaf_parts.specs.Words.{is_hkid}
 use Rattle.mem_build.specs.declared.extensions.Chunk.{Chunk}
-use Rattle.mem_build.specs.ExtendTrees.{with_chunk, measure_changes, changes_where, extend_changes, words_tree, measure_tree, chunk_tree, extend_tree, ComesTo}
+use Rattle.mem_build.specs.ExtendTrees.{with_chunk, measure_changes, extend_changes, words_tree, measure_tree, chunk_tree, extend_tree, ComesTo}
 use Rattle.mem_build.specs.ExtendStages.{rest_of, IsKnown}
 
 -- the words of a page: one more is asked for, or all are told

@@ -17,7 +17,7 @@ use Rattle.step_core.specs.declared.steps.WordStep.TheVariants as step
 use Rattle.leaf_engine.specs.declared.needs.Need.TheVariants as need
 use Rattle.leaf_engine.specs.declared.needs.Write.{Write}
 use Rattle.leaf_engine.specs.declared.needs.Write.TheVariants as write
-use Rattle.leaf_engine.specs.Changes.{Hand, Change, Put, Copy, Swap}
+use Rattle.leaf_engine.specs.Changes.{Hand, Change, Put, Copy, Swap, changes_where}
 use Rattle.leaf_engine.specs.Trees.{Tree, feed, settle, passed, changes_left}
 use Rattle.leaf_engine.specs.Inside.{WriteInside}
 use Rattle.leaf_engine.specs.Decides.{Decides, Wants, IsHand, HandsOut, HandsNext}
@@ -30,7 +30,7 @@ use Rattle.sept_parts.specs.declared.finds.Found.{Found}
 use Rattle.sept_parts.specs.SeptTrees.{state_tree}
 use Rattle.mem_build.specs.declared.page_additions.Addition.{Addition}
 use Rattle.mem_build.specs.declared.page_additions.Given.{Given}
-use Rattle.mem_build.specs.PageAddTrees.{changes_where, with_page, page_fills, page_changes, addition_end, arguments_tree, td_tree, page_add_tree}
+use Rattle.mem_build.specs.PageAddTrees.{with_page, page_fills, page_changes, addition_end, arguments_tree, td_tree, page_add_tree}
 use Rattle.mem_build.specs.PageAddParts.{is_free, TableOf, ComesTo, IsInside, all_changes}
 
 -- at its end

@@ -39,7 +39,7 @@ use Rattle.act_rules.specs.Acts.{SameSpots}
 use Rattle.act_rules.proofs.Respected.{effects-respect}
 use Rattle.act_rules.proofs.Stored.{by_test}
 use Rattle.leaf_engine.specs.declared.needs.Place.{Place}
-use Rattle.leaf_engine.specs.Changes.{Hand, Memory, changed_all}
+use Rattle.leaf_engine.specs.Changes.{Hand, Memory, changed_all, changes_where}
 use Rattle.leaf_engine.specs.Trees.{Tree, acts}
 use Rattle.leaf_engine.specs.Means.{Instant, IsHkid, Means, MeansRow, MayChange, Work, work_of, OfCall, hold}
 use Rattle.leaf_parts.proofs.Begun.{td-head-means, page_lock, op_lock, page-in, IsTd}
@@ -48,7 +48,7 @@ use Rattle.leaf_parts.proofs.Told.{tdr-spot, tdr-shown}
 use Rattle.sept_parts.specs.SeptTrees.{state_tree}
 use Rattle.sept_parts.proofs.SeptBegun.{td-find-means}
 use Rattle.sept_parts.proofs.SeptLocks.{tree_held}
-use Rattle.mem_build.specs.ExtendTrees.{measure_changes, changes_where, words_tree, measure_tree, chunk_tree, mapped_tree, measured_tree, extend_task}
+use Rattle.mem_build.specs.ExtendTrees.{measure_changes, words_tree, measure_tree, chunk_tree, mapped_tree, measured_tree, extend_task}
 
 abbrev initialized : List OpState
 initialized = op.Initialized ∷ []

@@ -1,5 +1,5 @@
 -- The extension of a TD's measurement by a chunk as a decision over the words that it is told.
-use Rattle.std.specs.Prelude.{◌≡◌, ℕ, zero, suc, ◌+◌, ◌%◌, ◌^◌, Bool, ◌==◌, nat_lt, if◌then◌else◌, Some, None, List, [], ◌∷◌, ◌++◌, Result, Ok, Err}
+use Rattle.std.specs.Prelude.{◌≡◌, ℕ, zero, suc, ◌+◌, ◌%◌, ◌^◌, ◌==◌, nat_lt, Some, None, List, [], ◌∷◌, ◌++◌, Result, Ok, Err}
 use Rattle.td_words.specs.declared.names.EntryState.TheVariants as entry
 use Rattle.td_words.specs.declared.names.OpState.TheVariants as op
 use Rattle.td_words.specs.declared.names.Mode.TheVariants.{Shared, Exclusive}
@@ -17,7 +17,7 @@ use Rattle.flat_core.specs.Tree.{word_of_gpa}
 use Rattle.word_rules.specs.Rules.{Whole}
 use Rattle.leaf_engine.specs.declared.needs.Place.{Place}
 use Rattle.leaf_engine.specs.declared.plans.Stop.{Stop}
-use Rattle.leaf_engine.specs.Changes.{Hand, Change, Swap}
+use Rattle.leaf_engine.specs.Changes.{Hand, Change, Swap, changes_where}
 use Rattle.leaf_engine.specs.Decides.{Decides}
 use Rattle.leaf_engine.specs.Trees.{Tree, Lock, Load, needs, acts, feed}
 use Rattle.leaf_engine.specs.Means.{Task, OfCall}
@@ -34,9 +34,6 @@ with_chunk gpa words (Some bytes) = Some (bytes ++ chunk_records gpa (digest_byt
 -- the hasher is taken out of its slot, which is the act; it measures the chunk, and is put back
 abbrev pub measure_changes : (gpa hkid : ℕ) → List ℕ → List Change
 measure_changes gpa h words = Swap h (λ hand. None) ∷ Swap h (with_chunk gpa words) ∷ []
-
-abbrev pub changes_where : Bool → List Change → List Change
-changes_where b cs = if b then cs else []
 
 abbrev pub extend_changes : Machine → (gpa hkid : ℕ) → List ℕ → List Change
 extend_changes m gpa h words = changes_where (is_hkid m h) (measure_changes gpa h words)

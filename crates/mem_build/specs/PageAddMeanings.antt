@@ -29,7 +29,7 @@ use Rattle.lock_words.specs.LockWords.{TdStands}
 use Rattle.act_rules.proofs.Respected.{host-kind, not-true}
 use Rattle.act_rules.proofs.Rows.{page-added}
 use Rattle.leaf_engine.specs.declared.needs.Place.{Place}
-use Rattle.leaf_engine.specs.Changes.{changed_all}
+use Rattle.leaf_engine.specs.Changes.{changed_all, changes_where}
 use Rattle.leaf_engine.specs.Trees.{Tree, Load, End}
 use Rattle.leaf_engine.specs.Means.{Instant, Means, MeansRow, MayFillAll, MayChange, Work, work_of, OfCall, hold}
 use Rattle.leaf_parts.proofs.Begun.{page_lock, op_lock, holds-newest, IsTd}
@@ -40,7 +40,7 @@ use Rattle.sept_parts.specs.SeptTrees.{state_tree}
 use Rattle.sept_parts.proofs.SeptLocks.{tree_held, entry-writes, count-reads, count-owes}
 use Rattle.sept_parts.proofs.SeptBegun.{row-find-means}
 use Rattle.mem_build.specs.declared.page_additions.Addition.{Addition}
-use Rattle.mem_build.specs.PageAddTrees.{changes_where, page_fills, page_changes, addition_end, alone, host_tree, pages_tree, page_add_tree, page_add_task}
+use Rattle.mem_build.specs.PageAddTrees.{page_fills, page_changes, addition_end, alone, host_tree, pages_tree, page_add_tree, page_add_task}
 use Rattle.mem_build.specs.PageAddShows.{initialized, page-added-shown}
 
 turned : (a b : ℕ) → (a == b) ≡ false → (b == a) ≡ false

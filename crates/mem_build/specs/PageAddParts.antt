@@ -10,12 +10,12 @@ use Rattle.leaf_parts.specs.Words.{is_hkid}
 use Rattle.sept_parts.specs.declared.finds.Found.{Found}
 use Rattle.td_words.specs.declared.machines.Machine.{Machine}
 use Rattle.leaf_engine.specs.declared.plans.Stop.{Stop}
-use Rattle.leaf_engine.specs.Changes.{Change}
+use Rattle.leaf_engine.specs.Changes.{Change, changes_where}
 use Rattle.leaf_engine.specs.Decides.{Decides}
 use Rattle.leaf_engine.specs.Trees.{feed}
 use Rattle.mem_build.specs.declared.page_additions.Given.{Given}
 use Rattle.mem_build.specs.declared.page_additions.Addition.{Addition}
-use Rattle.mem_build.specs.PageAddTrees.{changes_where, page_fills, page_changes, addition_end, page_add_tree}
+use Rattle.mem_build.specs.PageAddTrees.{page_fills, page_changes, addition_end, page_add_tree}
 
 -- what it comes to after these answers: its act, or what stops it
 abbrev pub ComesTo : Machine → Given → List ℕ → Result Addition Stop → Type 0

@@ -1,5 +1,5 @@
 -- The addition of a TD's private page as a decision over the words that it is told, and its changes.
-use Rattle.std.specs.Prelude.{ℕ, ◌^◌, ◌%◌, Bool, ◌==◌, not, nat_lt, if◌then◌else◌, Some, None, List, [], ◌∷◌, ◌++◌}
+use Rattle.std.specs.Prelude.{ℕ, ◌^◌, ◌%◌, ◌==◌, not, nat_lt, Some, None, List, [], ◌∷◌, ◌++◌}
 use Rattle.mrtd_measure.specs.Records.{page_record}
 use Rattle.td_words.specs.declared.names.PageKind.TheVariants as kind
 use Rattle.td_words.specs.declared.names.OpState.TheVariants as op
@@ -18,17 +18,13 @@ use Rattle.flat_core.specs.MemRows.{add_page}
 use Rattle.sept_walk.specs.SecureEpt.{index_at}
 use Rattle.word_rules.specs.Rules.{Whole}
 use Rattle.leaf_engine.specs.declared.needs.Place.{Place}
-use Rattle.leaf_engine.specs.Changes.{Hand, Change, Put, Copy, Swap}
+use Rattle.leaf_engine.specs.Changes.{Hand, Change, Put, Copy, Swap, changes_where}
 use Rattle.leaf_engine.specs.Trees.{Tree, Lock, Load, End, needs}
 use Rattle.leaf_engine.specs.Means.{Task, OfCall}
 use Rattle.leaf_parts.specs.Words.{says_host, is_hkid, raised}
 use Rattle.sept_parts.specs.declared.finds.Modes.{Modes}
 use Rattle.sept_parts.specs.SeptTrees.{td_find_tree, state_tree}
 use Rattle.mem_build.specs.declared.page_additions.Addition.{Addition}
-
--- where the HKID told is one of the machine's, as it always is
-abbrev pub changes_where : Bool → List Change → List Change
-changes_where b cs = if b then cs else []
 
 -- the record of a page is appended to what the hasher in hand has measured
 abbrev pub with_page : ℕ → Hand → Hand
@@ -50,7 +46,7 @@ page_changes pages a =
     ∷ Swap a.hkid (with_page a.gpa)
     ∷ []
 
--- the end of the call
+-- the end of the call; the HKID told is one of the machine's, as it always is
 abbrev pub addition_end : Machine → Addition → Tree
 addition_end m a = End (Done value.Nothing) (changes_where (is_hkid m a.hkid) (page_fills a)) (changes_where (is_hkid m a.hkid) (page_changes m.pages a))
 

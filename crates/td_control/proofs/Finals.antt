@@ -23,12 +23,12 @@ use Rattle.leaf_engine.specs.declared.needs.Write.TheVariants as write
 use Rattle.leaf_engine.specs.declared.plans.Stop.{Stop}
 use Rattle.leaf_engine.specs.declared.plans.Stop.TheVariants as stop
 use Rattle.leaf_engine.specs.declared.plans.Verdict.{Verdict}
-use Rattle.leaf_engine.specs.Changes.{Hand, Change, Put, Swap}
+use Rattle.leaf_engine.specs.Changes.{Hand, Change, Put, Swap, changes_where}
 use Rattle.leaf_engine.specs.Trees.{Tree, Lock, Load, Test, End, feed, settle, passed, answers, acts}
 use Rattle.leaf_engine.specs.Inside.{WriteInside}
 use Rattle.leaf_engine.specs.Decides.{Decides, Wants, IsHand, HandsOut, HandsNext}
 use Rattle.leaf_parts.specs.Words.{says_kind, is_hkid, life_told, op_told, page_told, vps_told}
-use Rattle.td_control.specs.FinalTrees.{word_in_hand, put_mrtd, end_changes, changes_where, final_changes, vps_tree, changing_tree, bare_tree}
+use Rattle.td_control.specs.FinalTrees.{word_in_hand, put_mrtd, end_changes, final_changes, vps_tree, changing_tree, bare_tree}
 use Rattle.td_words.specs.Place as place
 
 -- trees that differ at their ends alone, which answer the same

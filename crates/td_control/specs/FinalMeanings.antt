@@ -32,7 +32,7 @@ use Rattle.lock_words.specs.Grips.{holds, holds_alone}
 use Rattle.act_rules.proofs.Stored.{by_test}
 use Rattle.act_rules.proofs.Rows.{rows-respect}
 use Rattle.leaf_engine.specs.declared.needs.Place.{Place}
-use Rattle.leaf_engine.specs.Changes.{Hand, Memory, changed_all}
+use Rattle.leaf_engine.specs.Changes.{Hand, Memory, changed_all, changes_where}
 use Rattle.leaf_engine.specs.Trees.{Tree, Load, acts}
 use Rattle.leaf_engine.specs.Means.{Instant, IsHkid, Means, MeansRow, MayChange, Work, work_of, OfCall, hold}
 use Rattle.leaf_parts.specs.Words.{page_told, vps_told}
@@ -41,7 +41,7 @@ use Rattle.leaf_parts.proofs.Begun.{td-head-means, page_lock, op_lock, IsTd, Two
 use Rattle.leaf_parts.proofs.Keys.{hkid-in}
 use Rattle.leaf_parts.proofs.Vps.{vp-class, vps-back, vp-said, vp-shown, vp-spot}
 use Rattle.leaf_parts.proofs.Told.{page-back, tdr-spot, tdr-shown, tdcs-spot, tdcs-shown}
-use Rattle.td_control.specs.FinalTrees.{word_in_hand, end_changes, changes_where, final_changes, vps_tree, ready_tree, finalize_task}
+use Rattle.td_control.specs.FinalTrees.{word_in_hand, end_changes, final_changes, vps_tree, ready_tree, finalize_task}
 
 abbrev initialized : List OpState
 initialized = op.Initialized ∷ []

@@ -1,5 +1,5 @@
 -- The end of a TD's building as a decision over the words that it is told, and its changes.
-use Rattle.std.specs.Prelude.{ℕ, zero, suc, ◌+◌, Bool, true, ◌==◌, ◌&&◌, nat_lt, if◌then◌else◌, Some, None, List, [], ◌∷◌}
+use Rattle.std.specs.Prelude.{ℕ, zero, suc, ◌+◌, Bool, true, ◌==◌, ◌&&◌, nat_lt, Some, None, List, [], ◌∷◌}
 use Rattle.sha2.specs.Sha512.{sha384}
 use Rattle.td_words.specs.declared.names.OpState.TheVariants as op
 use Rattle.td_words.specs.declared.names.VcpuState.TheVariants as vcpu
@@ -15,7 +15,7 @@ use Rattle.flat_core.specs.Digests.{digest_word}
 use Rattle.flat_core.specs.TdRows.{finalize}
 use Rattle.word_rules.specs.Rules.{Whole}
 use Rattle.leaf_engine.specs.declared.needs.Place.{Place}
-use Rattle.leaf_engine.specs.Changes.{Hand, Change, Put, PutHash, Swap}
+use Rattle.leaf_engine.specs.Changes.{Hand, Change, Put, PutHash, Swap, changes_where}
 use Rattle.leaf_engine.specs.Trees.{Tree, Load, needs, answers, acts}
 use Rattle.leaf_engine.specs.Means.{Task, OfCall}
 use Rattle.leaf_parts.specs.Words.{is_hkid, page_told, vps_told}
@@ -41,9 +41,6 @@ end_changes tdcs hkid =
     ∷ put_mrtd tdcs 5
     ∷ Put (place.Word tdcs TDCS_OP) (op_number op.Runnable)
     ∷ []
-
-abbrev pub changes_where : Bool → List Change → List Change
-changes_where b cs = if b then cs else []
 
 abbrev pub final_changes : Machine → (tdcs hkid : ℕ) → List Change
 final_changes m tdcs hkid = changes_where (is_hkid m hkid) (end_changes tdcs hkid)
