@@ -1,5 +1,5 @@
 -- Laws of the flat machine, for every opening and every schedule.
-use Rattle.std.specs.Prelude.{◌≡◌, ◌≢◌, ◌⊎◌, ℕ, ◌+◌, ◌*◌, ◌≤◌, List, [], ◌∷◌, ◌++◌, map, Option, Some, None, IfSome, Bool, false, ◌==◌, if◌then◌else◌}
+use Rattle.std.specs.Prelude.{◌≡◌, ◌≢◌, ◌⊎◌, ℕ, ◌+◌, ◌*◌, ◌≤◌, List, [], ◌∷◌, ◌++◌, map, Option, Some, None, IfSome, Bool, true, false, ◌==◌, if◌then◌else◌}
 use Rattle.sha2.specs.Sha512.{sha384}
 use Rattle.mrtd_measure.specs.Records.{page_record, chunk_records}
 use Rattle.td_words.specs.declared.machines.Machine.{Machine}
@@ -27,7 +27,7 @@ use Rattle.flat_core.specs.Table.{row_of}
 use Rattle.flat_core.specs.Event.{State, Event, OfCall, OfOperation, Reaches, Leaves, start, lines_left, next_event, event, world_after}
 use Rattle.flat_core.specs.Run.{play, run, run_told, told_in, bundles_in}
 use Rattle.flat_core.specs.HostText.{host_text, text_of}
-use Rattle.flat_core.specs.Lawful.{IsAlive, Lawful, RowKeeps, is_free}
+use Rattle.flat_core.specs.Lawful.{IsAlive, Lawful, RowKeeps, is_free, is_named_kind}
 use Rattle.flat_core.specs.Alike.{AreBlind}
 
 -- beside each row, its two facts
@@ -61,12 +61,15 @@ abbrev pub EveryWorldIsLawful : Type 0
 EveryWorldIsLawful = (o : Opening) (words_to_tell : Option (List ℕ)) (schedule : List ℕ) → Lawful o.machine (reached o words_to_tell schedule).world
 
 -- Ownership in a reader's terms: an entry of a TD that is alive, where it isn't FREE, names a page that the TD owns, and so
--- none of the host's; and no other entry of such a TD names that page.
+-- none of the host's; no other entry of such a TD names that page; and each secure EPT page and private page of such a TD is
+-- named by an entry of it that isn't FREE.
 pub record IsOwned (pages : Pages) (tds : Tds) : Type 0 where
   pub own : (t l n : ℕ) → IsAlive pages tds t → is_free (tds.entries t l n).state ≡ false
       → let p = (tds.entries t l n).page in (is_host_in pages p ≡ false) × (pages.owners p ≡ t)
   pub once : (t l n u k i : ℕ) → IsAlive pages tds t → IsAlive pages tds u → is_free (tds.entries t l n).state ≡ false → is_free (tds.entries u k i).state ≡ false
       → (tds.entries t l n).page ≡ (tds.entries u k i).page → (t ≡ u) × (l ≡ k) × (n ≡ i)
+  pub named : (t p : ℕ) → IsAlive pages tds t → is_named_kind (pages.kinds p) ≡ true → pages.owners p ≡ t
+      → (l : ℕ) × (n : ℕ) × (is_free (tds.entries t l n).state ≡ false) × ((tds.entries t l n).page ≡ p)
 
 abbrev pub EveryPageIsOwned : Type 0
 EveryPageIsOwned = (o : Opening) (words_to_tell : Option (List ℕ)) (schedule : List ℕ) → let w = (reached o words_to_tell schedule).world in IsOwned w.pages w.tds

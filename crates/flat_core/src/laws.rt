@@ -30,7 +30,8 @@ pub fn lawful_law()
 {}
 
 /// In every world that a schedule leads to, the entries of TDs that aren't in TD_TEARDOWN name pages
-/// that their own TD owns, no page twice, and so none of the host's.
+/// that their own TD owns, no page twice, and so none of the host's; and an entry of its TD names
+/// each secure EPT page and each private page of such a TD.
 pub fn ownership_law()
     ensures { EveryPageIsOwned }
 {}
