@@ -17,7 +17,7 @@ use Rattle.flat_core.specs.Processor.{OfPage, OfOp, OfTree, OfEpoch}
 use Rattle.flat_core.specs.Lawful.{key_owner, Lawful, ArePagesOf}
 use Rattle.flat_core.specs.Conditions.{same_kind}
 use Rattle.flat_core.specs.Effects.{take_node, set_entry, set_op, set_epoch, set_life, set_key, leave_guest}
-use Rattle.flat_core.proofs.Tests.{by_test}
+use Rattle.flat_core.proofs.Tests.{by_test, host_kind}
 use Rattle.word_rules.specs.Guards.{Grip, Locked}
 use Rattle.word_rules.specs.Rules.{Class, GuestWord, LeafEntry, Unused, moves, EpochCount}
 use Rattle.word_rules.specs.Views.{no_page, named_by}
@@ -26,9 +26,6 @@ use Rattle.word_rules.specs.Spots.{Spot, spot, slot_of, slot_spot, runs_in, page
 use Rattle.word_rules.specs.Cells.{one_of_parity, entered_of_parity}
 use Rattle.word_rules.specs.Permissions.{MayAt, Moves, Respects}
 use Rattle.act_rules.specs.Acts.{SameTd, SameWords, HoldsTd, EffectsRespect}
--- passed on: definitions of crates above name these here
-pub use Rattle.std.proofs.lemmas.Bool.{not-true}
-pub use Rattle.flat_core.proofs.Tests.{host_kind as host-kind, and_left as and-left, and_right as and-right}
 
 -- a page's words, from what tells of its TD and of its node
 
@@ -494,7 +491,7 @@ effects-respect g w = record {
   entry = entry-moved g w;
   entry_state = entry-state g w;
   page = page-moved g w;
-  taken = λ p k t level number h s. page-moved g w p k t level number (λ i. host-moves g w p i (host-kind (w.pages.kinds p) h) s);
+  taken = λ p k t level number h s. page-moved g w p k t level number (λ i. host-moves g w p i (host_kind (w.pages.kinds p) h) s);
   op = op-moved g w;
   reclaimed = λ p k t level number h has alone own. page-moved g w p k t level number (λ i. owned-moves g w (w.pages.owners p) p has alone own (w.pages.kinds p) i h);
   epoch = λ t e h s. epoch-set g w t e (λ p x y. epoch-may g t p x y h s);

@@ -2,12 +2,11 @@
 use Rattle.std.proofs.Common.{◌≡◌, refl, sym, ◌∙◌, ap, subst, ℕ, false}
 use Rattle.td_words.specs.Place.{WordPlace, same_place}
 use Rattle.td_words.specs.Laws.{PlacesInjective}
+use Rattle.flat_core.proofs.Tests.{by_test}
 use Rattle.word_rules.specs.Rules.{View, Grade, spares}
 use Rattle.word_rules.specs.Views.{look, IsKept, ViewsAreKept}
 use Rattle.word_rules.specs.Permissions.{Writes, Owes, Fills, WordsNeverConflict, ActsNeverConflict}
 use Rattle.act_rules.specs.Stores.{LooksSame, OthersStoresKeepReads}
--- passed on: definitions of crates above name these here
-pub use Rattle.flat_core.proofs.Tests.{by_test}
 
 module _ (places : PlacesInjective) (views : ViewsAreKept) (never : WordsNeverConflict) (later : ActsNeverConflict) where
   -- where the store isn't at the word that is read, or keeps what is looked at

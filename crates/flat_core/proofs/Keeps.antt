@@ -1,7 +1,7 @@
 -- Each row's act keeps what every world keeps.
 use Rattle.std.proofs.Common.{lit<, lit≤, ◌≡◌, ◌≢◌, refl, sym, ◌∙◌, subst, ap, ℕ, zero, suc, ◌*◌, ◌^◌, ◌<◌, ◌≤◌, List, [], ◌∷◌, length, Option, Some, None, Bool, true, false, not, ◌==◌, ◌&&◌, nat_lt, nat_le, arith}
 use Rattle.std.specs.List.{list_any}
-use Rattle.std.proofs.lemmas.Bool.{eqb-true, not-true, and_parts}
+use Rattle.std.proofs.lemmas.Bool.{eqb-true, not-true, and_parts, ltb-true}
 use Rattle.std.proofs.Math.Nat.{lt_of_le_of_lt, div-mul-le_self}
 use Rattle.mrtd_measure.specs.Records.{page_record, chunk_records}
 use Rattle.td_words.specs.declared.names.PageKind.{PageKind}
@@ -32,7 +32,7 @@ use Rattle.flat_core.specs.VpRows.{create_vp, initialize_vp}
 use Rattle.flat_core.specs.MemRows.{add_sept, read_sept, add_page, chunk_bytes, extend}
 use Rattle.flat_core.specs.Table.{row_of}
 use Rattle.flat_core.specs.Lawful.{IsAlive, AreControls, ArePagesOf, LawfulPages, LawfulTds, IsListed, LawfulLists, LawfulTree, LawfulKeys, LawfulBeginnings, Lawful, RowKeeps, is_free, is_named_kind, key_owner}
-use Rattle.flat_core.proofs.Tests.{by_test, host_kind, tdr_kind, lt_of, range_of, some_same, same_self}
+use Rattle.flat_core.proofs.Tests.{by_test, host_kind, tdr_kind, range_of, some_same, same_self}
 use Rattle.flat_core.proofs.Pages.{taken, other, taken_node, taken_controls, taken_list, unowned, taken_pages}
 use Rattle.flat_core.proofs.Maps.{kind_named, is_upper, map_kept, walk_passed}
 use Rattle.flat_core.proofs.Parts.{IsLive, LawfulBut, new_kept, write_back_kept, life_kept, flush_kept, op_kept, epoch_kept, begin_kept, measure_kept, end_kept, control_kept, vp_kept, taken_kept, ended_kept, left_kept}
@@ -232,7 +232,7 @@ module _ (count : ℕ) (old : Pages) (tds : Tds) (table : KeyTable) (t h : ℕ) 
 pub create-keeps : (m : Machine) (t h : ℕ) → RowKeeps m (create m t h)
 create-keeps m t h = record {
   act = λ w l ps. (let host : w.pages.kinds t ≡ kind.Nda = host_kind _ ps.1.1.0 in
-      let small : t < m.pages = lt_of t m.pages ps.0 in
+      let small : t < m.pages = ltb-true t m.pages ps.0 in
       let free_hkid : is_free_key (w.key_table.keys h) ≡ true = ps.1.1.1.0 in
       record {
         size = l.size;
@@ -269,7 +269,7 @@ add_tdcx-keeps m t p = record {
       let root : w.pages.kinds t ≡ kind.Tdr = tdr_kind _ ps.1.1.1.0 in
       let alive : IsAlive w.pages w.tds t = record { kind = root; life = live_of (life.KeysConfigured ∷ []) (w.tds.lives t) refl ps.1.1.1.1.0 } in
       let w' : World = clear_page p (take_page p kind.Tdcx t w) in
-      let l' : LawfulBut m w' p = cleared_but m p (take_page p kind.Tdcx t w) (taken_kept m w p kind.Tdcx t 0 0 host (lt_of p m.pages ps.1.0) l (λ e. cc) (λ e. cc) root refl) in
+      let l' : LawfulBut m w' p = cleared_but m p (take_page p kind.Tdcx t w) (taken_kept m w p kind.Tdcx t 0 0 host (ltb-true p m.pages ps.1.0) l (λ e. cc) (λ e. cc) root refl) in
       control_kept m w' t p l' (record { kind = rw (same_self p) refl; owner = rw (same_self p) refl }) ps.1.1.1.1.1.0
       (λ c e. let its : AreControls w.pages t (c ∷ []) = subst (λ (cs : List ℕ). AreControls w.pages t cs) e (l.tds.controls t alive) in
       other m.pages w.pages p kind.Tdcx t 0 0 host l.pages c kind.Tdcx its.kind (λ e. cc));
@@ -331,8 +331,8 @@ create_vp-keeps m t p = record {
       let root : w.pages.kinds t ≡ kind.Tdr = tdr_kind _ ps.1.1.1.0 in
       let alive : IsAlive w.pages w.tds t = record { kind = root; life = live_of (life.KeysConfigured ∷ []) (w.tds.lives t) refl ps.1.1.1.1.0 } in
       let w' : World = clear_page p (take_page p kind.Tdvpr t w) in
-      let l' : LawfulBut m w' p = cleared_but m p (take_page p kind.Tdvpr t w) (taken_kept m w p kind.Tdvpr t 0 0 host (lt_of p m.pages ps.1.0) l (λ e. cc) (λ e. cc) root refl) in
-      let room : length (w.tds.vps t) < vp_limit (w.tds.ops t) (w.tds.vps_expected t) = lt_of _ _ ps.1.1.1.1.1.1.1.0 in
+      let l' : LawfulBut m w' p = cleared_but m p (take_page p kind.Tdvpr t w) (taken_kept m w p kind.Tdvpr t 0 0 host (ltb-true p m.pages ps.1.0) l (λ e. cc) (λ e. cc) root refl) in
+      let room : length (w.tds.vps t) < vp_limit (w.tds.ops t) (w.tds.vps_expected t) = ltb-true _ _ ps.1.1.1.1.1.1.1.0 in
       let most : vp_limit (w.tds.ops t) (w.tds.vps_expected t) ≤ 8 = few_vps (w.tds.ops t) (w.tds.vps_expected t) (l.tds.vps_expected t) in
       vp_kept m w' t p l' (record { kind = rw (same_self p) refl; owner = rw (same_self p) refl }) ps.1.1.1.1.1.0 (omega arith) (not_in_list m w t p l host (w.tds.vps t) (l.tds.vps t alive));
   to_tell = λ w. refl;
@@ -343,7 +343,7 @@ initialize_vp-keeps m t v x = record { act = λ w l ps. record { size = l.size; 
 
 -- the number of the entry that maps a GPA
 within : (gpa level : ℕ) → nat_lt gpa (2 ^ 47) ≡ true → number_at level gpa * level_size level < 2 ^ 47
-within gpa level h = lt_of_le_of_lt (div-mul-le_self gpa (level_size level)) (lt_of gpa (2 ^ 47) h)
+within gpa level h = lt_of_le_of_lt (div-mul-le_self gpa (level_size level)) (ltb-true gpa (2 ^ 47) h)
 
 -- MEM.SEPT.ADD
 free_of : (s : EntryState) → list_any (λ a. same_state a s) (entry.Free ∷ []) ≡ true → is_free s ≡ true
@@ -360,7 +360,7 @@ add_sept-keeps m t gpa level p = record {
       let at = sept_level level ps.1.1.0 in
       let behind = walk_passed w t gpa (state_in w t gpa level (entry.Free ∷ []) ∷ page_exclusive p ∷ host_page w p ∷ []) level at.0 ps.1.1.1.1.1.1.1.1.1.1 in
       let kept : Lawful m (map_page p (kind_named level) entry.NlMapped t level (number_at level gpa) w) =
-      map_kept m w p t level (number_at level gpa) entry.NlMapped (host_kind _ behind.0.1.0) (lt_of p m.pages ps.1.1.1.0) l (tdr_kind _ ps.1.1.1.1.1.1.0) ps.1.1.1.1.1.1.1.1.0
+      map_kept m w p t level (number_at level gpa) entry.NlMapped (host_kind _ behind.0.1.0) (ltb-true p m.pages ps.1.1.1.0) l (tdr_kind _ ps.1.1.1.1.1.1.0) ps.1.1.1.1.1.1.1.1.0
       (free_of (entry_at w t level gpa).state behind.0.0) behind.1 refl (sym at.1) refl at.0 (within gpa level ps.1.0) in
       cleared m p (map_page p kind.Ept entry.NlMapped t level (number_at level gpa) w)
       (subst (λ (k : PageKind). Lawful m (map_page p k entry.NlMapped t level (number_at level gpa) w)) (sym at.2) kept);
@@ -382,7 +382,7 @@ add_page-keeps m t gpa p source = record {
       let behind = walk_passed w t gpa (state_in w t gpa 0 (entry.Free ∷ []) ∷ page_exclusive source ∷ host_page w source ∷ page_exclusive p ∷ host_page w p ∷ []) 0 (lit≤ tt) head.1.1.1.1 in
       let w1 : World = map_page p kind.Reg entry.Mapped t 0 (number_at 0 gpa) w in
       let l1 : Lawful m w1 =
-      map_kept m w p t 0 (number_at 0 gpa) entry.Mapped (host_kind _ behind.0.1.1.0) (lt_of p m.pages ps.1.1.0) l (tdr_kind _ head.0) built
+      map_kept m w p t 0 (number_at 0 gpa) entry.Mapped (host_kind _ behind.0.1.1.0) (ltb-true p m.pages ps.1.1.0) l (tdr_kind _ head.0) built
       (free_of (entry_at w t 0 gpa).state behind.0.0) behind.1 refl refl refl (lit≤ tt) (within gpa 0 ps.1.0) in
       let w2 : World = begin_memory t (page_of_gpa gpa) (w.words source) (set_page p (w.words source) w1) in
       measure_kept m w2 t built (added_words m t (page_of_gpa gpa) p (w.words source) w1 l1) (page_record gpa);

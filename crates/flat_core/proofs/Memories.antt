@@ -1,6 +1,6 @@
 -- What guests know of their private pages is what the pages hold.
 use Rattle.std.proofs.Common.{lit≤, ◌≡◌, ◌≢◌, refl, sym, ◌∙◌, ap, subst, ℕ, ◌≤◌, List, [], ◌∷◌, Some, Bool, true, false, not, ◌==◌, arith}
-use Rattle.std.proofs.lemmas.Bool.{eq-eqb, eqb-true, ne_eqb}
+use Rattle.std.proofs.lemmas.Bool.{eq-eqb, eqb-true, ne_eqb, and_parts}
 use Rattle.td_words.specs.declared.names.PageKind.{PageKind}
 use Rattle.td_words.specs.declared.names.PageKind.TheVariants as kind
 use Rattle.td_words.specs.declared.names.LifeState.{LifeState}
@@ -24,7 +24,7 @@ use Rattle.flat_core.specs.Table.{row_of}
 use Rattle.flat_core.specs.Event.{start}
 use Rattle.flat_core.specs.Lawful.{IsAlive, Lawful, is_free}
 use Rattle.flat_core.specs.Laws.{reached, memory_of, GuestsKnowTheirPages}
-use Rattle.flat_core.proofs.Tests.{by_test, host_kind, tdr_kind, range_of, same_self, and_right}
+use Rattle.flat_core.proofs.Tests.{by_test, host_kind, tdr_kind, range_of, same_self}
 use Rattle.flat_core.proofs.Maps.{walk_passed}
 use Rattle.flat_core.proofs.Parts.{IsLive}
 use Rattle.flat_core.proofs.Keeps.{live_of, ended_of, row-keeps, first-lawful}
@@ -85,7 +85,7 @@ module _ (m : Machine) (w : World) (l : Lawful m w) (h : Knows w) where
   -- PHYMEM.PAGE.RECLAIM
   owner_of : (t q : ℕ) (b : Bool) → (q == t) ≡ b → w.pages.kinds t ≡ kind.Tdr → Passes (reclaim_conditions w t q b) → w.pages.owners q ≡ t
   owner_of t q true e root ps = let here : q ≡ t = eqb-true q t e in l.pages.tdr q (rw here root) ∙ here
-  owner_of t q false e root ps = eqb-true _ t (and_right (not (is_host w q)) (w.pages.owners q == t) ps.0)
+  owner_of t q false e root ps = eqb-true _ t (and_parts (not (is_host w q)) (w.pages.owners q == t) ps.0).1
 
   reclaim_known : (t q : ℕ) → (life_number (w.tds.lives t) == life_number life.Teardown) ≡ true → w.pages.owners q ≡ t → Knows (give_back q (end_memory_in t q w))
   reclaim_known t q dead mine x n a =

@@ -1,7 +1,7 @@
 -- What the words that acts are written in keep of a lawful world.
 use Rattle.std.proofs.Common.{lit<, ◌≡◌, ◌≢◌, ◌⊎◌, inl, inr, refl, sym, ◌∙◌, subst, ap, ℕ, zero, suc, ◌<◌, ◌≤◌, ◌^◌, List, [], ◌∷◌, ◌++◌, length, length-append, Some, None, true, false, not, ◌==◌, ◌&&◌, nat_lt, slice_get, arith}
 use Rattle.std.specs.List.{list_any}
-use Rattle.std.proofs.lemmas.Bool.{eq-eqb, eqb-true, eqb-false, ne_eqb, not-true, and_parts}
+use Rattle.std.proofs.lemmas.Bool.{eq-eqb, eqb-true, eqb-false, ne_eqb, not-true, and_parts, ltb-true}
 use Rattle.td_words.specs.declared.names.PageKind.{PageKind}
 use Rattle.td_words.specs.declared.names.PageKind.TheVariants as kind
 use Rattle.td_words.specs.declared.names.LifeState.{LifeState}
@@ -16,7 +16,7 @@ use Rattle.flat_core.specs.Locks.{one_if}
 use Rattle.flat_core.specs.Conditions.{is_host_in, owned_below}
 use Rattle.flat_core.specs.Effects.{take_node, give_back, set_key, set_life, set_op, set_epoch, add_control, add_vp, begin_measurement, measure, end_measurement, write_back, written_back}
 use Rattle.flat_core.specs.Lawful.{IsAlive, IsPageOf, IsNodeOf, AreControls, ArePagesOf, all_differ, LawfulPages, LawfulTds, IsListed, LawfulLists, LawfulTree, LawfulKeys, LawfulBeginnings, Lawful, IsNew, is_node, is_free, is_named_kind, key_owner, is_flushed}
-use Rattle.flat_core.proofs.Tests.{by_test, some_same, same_self, lt_of}
+use Rattle.flat_core.proofs.Tests.{by_test, some_same, same_self}
 use Rattle.flat_core.proofs.Pages.{node_kept, controls_kept, pages_kept, taken, other, taken_node, taken_controls, taken_list, taken_pages}
 
 -- a life that isn't at its end
@@ -305,10 +305,10 @@ module _ (m : Machine) (w : World) (t p : ℕ) (l : LawfulBut m w p) (page : IsP
   more_controls : (cs : List ℕ) → nat_lt (length cs) 2 ≡ true → ((c : ℕ) → cs ≡ c ∷ [] → (c == p) ≡ false) → AreControls w.pages t cs → AreControls w.pages t (cs ++ p ∷ [])
   more_controls [] few d h = page
   more_controls (c ∷ []) few d h = (h, page, d c refl)
-  more_controls (c ∷ r ∷ cs) few d h = absurd (let n : length (c ∷ r ∷ cs) < 2 = lt_of _ 2 few in omega arith)
+  more_controls (c ∷ r ∷ cs) few d h = absurd (let n : length (c ∷ r ∷ cs) < 2 = ltb-true _ 2 few in omega arith)
 
   not_two : (cs : List ℕ) → nat_lt (length cs) 2 ≡ true → (length cs == 2) ≡ false
-  not_two cs few = ne_eqb (length cs) 2 (λ e. let n : length cs < 2 = lt_of _ 2 few in omega arith)
+  not_two cs few = ne_eqb (length cs) 2 (λ e. let n : length cs < 2 = ltb-true _ 2 few in omega arith)
 
   pub control_kept : Lawful m (add_control t p w)
   control_kept = record {

@@ -1,13 +1,11 @@
 -- Tests and what they tell.
-use Rattle.std.proofs.Common.{◌≡◌, ◌≢◌, refl, ℕ, ◌<◌, ◌≤◌, Some, Bool, true, false, ◌==◌, ◌&&◌, nat_lt, nat_le, arith}
-use Rattle.std.proofs.lemmas.Bool.{eq-eqb, and_parts}
+use Rattle.std.proofs.Common.{◌≡◌, ◌≢◌, refl, ℕ, ◌≤◌, Some, Bool, true, false, ◌==◌, ◌&&◌, nat_le, arith}
+use Rattle.std.proofs.lemmas.Bool.{eq-eqb}
 use Rattle.std.proofs.lemmas.Bool.Decides.{nat_tests}
 use Rattle.td_words.specs.declared.names.PageKind.{PageKind}
 use Rattle.td_words.specs.declared.names.PageKind.TheVariants as kind
 use Rattle.flat_core.specs.Conditions.{same_kind}
 use Rattle.flat_core.specs.World.{put}
--- passed on: definitions of crates above name these here
-pub use Rattle.std.proofs.lemmas.Bool.{not-true as not_true}
 
 pub by_test : {A : Type 0} (b : Bool) → (b ≡ true → A) → (b ≡ false → A) → A
 by_test true t f = t refl
@@ -26,9 +24,6 @@ pub kind_owned : (k : PageKind) → k ≢ kind.Nda → same_kind k kind.Nda ≡ 
 kind_owned kind.Nda h = absurd (h refl)
 kind_owned _ h = refl
 
-pub lt_of : (a b : ℕ) → nat_lt a b ≡ true → a < b
-lt_of a b h = grind (arith, nat_tests)
-
 pub range_of : (h n : ℕ) → (nat_le 1 h && nat_le h n) ≡ true → (1 ≤ h) × (h ≤ n)
 range_of h n e = (grind (arith, nat_tests), grind (arith, nat_tests))
 
@@ -40,9 +35,3 @@ same_self n = eq-eqb n n refl
 
 pub put_here : {A : Type 0} (f : ℕ → A) (p : ℕ) (x : A) → put f p x p ≡ x
 put_here f p x = rw (same_self p) refl
-
-pub and_left : (a b : Bool) → (a && b) ≡ true → a ≡ true
-and_left a b h = (and_parts a b h).0
-
-pub and_right : (a b : Bool) → (a && b) ≡ true → b ≡ true
-and_right a b h = (and_parts a b h).1

@@ -5,7 +5,7 @@ use Rattle.td_words.specs.declared.machines.Machine.{Machine}
 use Rattle.td_words.specs.Address.{word_at}
 use Rattle.flat_core.specs.Locks.{one_if}
 use Rattle.std.proofs.lemmas.Bool.{eq-eqb, eqb-true}
-use Rattle.act_rules.proofs.Stored.{by_test}
+use Rattle.flat_core.proofs.Tests.{by_test}
 use Rattle.leaf_engine.specs.declared.plans.Stop.{Stop}
 use Rattle.leaf_engine.specs.declared.plans.Stop.TheVariants as stop
 use Rattle.leaf_engine.specs.declared.plans.Verdict.{Verdict}

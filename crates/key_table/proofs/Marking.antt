@@ -1,10 +1,10 @@
 -- The loop over the words of HKIDs goes by its tree.
 use Rattle.std.proofs.Common.{◌≡◌, ℕ, zero, suc, ◌+◌, ◌-◌, ◌<◌, true, List, [], ◌∷◌, ◌++◌, map, refl, ap, sym, subst, arith}
 use Rattle.std.specs.Prelude.{Result, Err, None}
+use Rattle.std.proofs.lemmas.Bool.{and_parts}
 use Rattle.td_words.specs.declared.machines.Machine.{Machine}
 use Rattle.td_words.specs.Address.{key_at}
 use Rattle.td_words.specs.Place as place
-use Rattle.flat_core.proofs.Tests.{and_left, and_right}
 use Rattle.leaf_engine.specs.declared.needs.Write.{Write}
 use Rattle.leaf_engine.specs.declared.plans.Stop.{Stop}
 use Rattle.leaf_engine.specs.declared.plans.Stop.TheVariants as stop
@@ -37,7 +37,7 @@ one-more pages (b ∷ cs) c = ap (λ (ws : List Write). write_of pages None b �
 
 pub plain-too : (cs : List Change) (c : Change) → are_plain cs ≡ true → is_plain c ≡ true → are_plain (cs ++ c ∷ []) ≡ true
 plain-too [] c a b = rw b refl
-plain-too (d ∷ cs) c a b = rw (and_left (is_plain d) (are_plain cs) a, plain-too cs c (and_right (is_plain d) (are_plain cs) a) b) refl
+plain-too (d ∷ cs) c a b = let both = and_parts (is_plain d) (are_plain cs) a in rw (both.0, plain-too cs c both.1 b) refl
 
 pub inside-too : (m : Machine) (ws : List Write) (w : Write) → WritesInside m ws → WriteInside m w → WritesInside m (ws ++ w ∷ [])
 inside-too m [] w a b = (b, tt)

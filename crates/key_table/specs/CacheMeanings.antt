@@ -15,11 +15,11 @@ use Rattle.flat_core.specs.Effects.{write_back, written_back}
 use Rattle.flat_core.specs.KeyRows.{write_caches_back}
 use Rattle.flat_core.specs.Lawful.{Lawful, key_owner}
 use Rattle.flat_core.specs.Event.{State}
+use Rattle.flat_core.proofs.Tests.{by_test}
 use Rattle.word_rules.specs.Rules.{KeepsNothing}
 use Rattle.word_rules.specs.Permissions.{Respects}
 use Rattle.word_rules.specs.Cells.{Shows, IsAs, cell, page_cell, control_cell, root_cell, entry_cell, if_stands, key_cell, lock_word, built_hasher, hasher_cell}
 use Rattle.act_rules.proofs.Rows.{rows-respect}
-use Rattle.act_rules.proofs.Stored.{by_test}
 use Rattle.leaf_engine.specs.declared.needs.Place.{Place}
 use Rattle.leaf_engine.specs.Changes.{Memory, Change, Put, changed, changed_all}
 use Rattle.leaf_engine.specs.Means.{Instant, Means, Work, work_of, OfCall, MeansRow, MayChange, MayOweAll, hold}

@@ -21,12 +21,12 @@ use Rattle.flat_core.specs.KeyRows.{free_hkid}
 use Rattle.flat_core.specs.Conditions.{children, keys_exclusive, is_written_back, written_back_key}
 use Rattle.flat_core.specs.Lawful.{Lawful, IsAlive, key_owner}
 use Rattle.flat_core.specs.Event.{State}
+use Rattle.flat_core.proofs.Tests.{by_test}
 use Rattle.word_rules.specs.Rules.{KeepsNothing}
 use Rattle.word_rules.specs.Lines.{Line, At, in_lines}
 use Rattle.word_rules.specs.Permissions.{Respects}
 use Rattle.word_rules.specs.Cells.{Shows, IsAs, cell, page_cell, control_cell, root_cell, entry_cell, if_stands, lock_word, tdr_lines, built_hasher, is_built, hasher_cell}
 use Rattle.act_rules.proofs.Rows.{rows-respect}
-use Rattle.act_rules.proofs.Stored.{by_test}
 use Rattle.leaf_engine.specs.declared.needs.Place.{Place}
 use Rattle.leaf_engine.specs.Changes.{Memory, Put, changed, changed_all}
 use Rattle.leaf_engine.specs.Means.{Instant, IsHkid, Means, work_of, OfCall, MeansRow, MayOweAll, hold}

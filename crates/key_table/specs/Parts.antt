@@ -8,9 +8,8 @@ use Rattle.td_words.specs.NameNumber.{life_number}
 use Rattle.td_words.specs.Packing.{Key, Unassigned, AssignedTo, FlushedOf, key_word}
 use Rattle.td_words.specs.Place as place
 use Rattle.flat_core.specs.Conditions.{is_written_back}
-use Rattle.flat_core.proofs.Tests.{range_of}
+use Rattle.flat_core.proofs.Tests.{range_of, by_test}
 use Rattle.word_rules.specs.Cells.{Shows}
-use Rattle.act_rules.proofs.Stored.{by_test}
 use Rattle.leaf_engine.specs.Means.{Instant, IsHkid}
 use Rattle.leaf_parts.specs.Words.{is_hkid}
 use Rattle.leaf_parts.proofs.Keys.{hkid-in, key-apart, key-shown}

@@ -2,8 +2,8 @@
 use Rattle.std.proofs.Common.{◌≡◌, ℕ, suc, zero, ◌+◌, ◌-◌, ◌<◌, Bool, true, false, not, ◌==◌, ◌&&◌, nat_lt, if◌then◌else◌, List, [], ◌∷◌, ◌++◌, length, Option, Some, None, refl, ap, sym, ◌∙◌, subst, inl, arith}
 use Rattle.std.specs.Prelude.{slice_index}
 use Rattle.std.specs.List.{list_any}
-use Rattle.flat_core.proofs.Tests.{and_left, and_right, not_true}
-use Rattle.std.proofs.lemmas.Bool.{eq-eqb, eqb-true, ne_eqb, ltb-true}
+use Rattle.flat_core.proofs.Tests.{by_test}
+use Rattle.std.proofs.lemmas.Bool.{eq-eqb, eqb-true, ne_eqb, ltb-true, not-true, and_parts}
 use Rattle.std.proofs.lemmas.Bool.Decides.{nat_tests}
 use Rattle.td_words.specs.declared.names.PageKind.{PageKind}
 use Rattle.td_words.specs.declared.names.PageKind.TheVariants as kind
@@ -30,7 +30,6 @@ use Rattle.word_rules.specs.Permissions.{Respects}
 use Rattle.word_rules.specs.Cells.{Shows, IsAs, cell, page_cell, control_cell, root_cell, entry_cell, if_stands, lock_word, tdr_lines, built_hasher, hasher_cell}
 use Rattle.act_rules.specs.Acts.{HoldsTries}
 use Rattle.act_rules.proofs.Rows.{rows-respect}
-use Rattle.act_rules.proofs.Stored.{by_test}
 use Rattle.leaf_engine.specs.declared.needs.Place.{Place}
 use Rattle.lock_words.specs.Grips.{holds, holds_alone}
 use Rattle.leaf_engine.specs.Changes.{Memory, Put, Clear, changed, changed_all}
@@ -273,8 +272,9 @@ module _ (m : Machine) (c : Instant) (t page : ℕ) (sh : Shows m c.memory.words
       (
         owned_shown m c t page sh la few page_in,
         λ n. refl,
-        λ owned. (let host : is_host the_world page ≡ false = not_true (is_host the_world page) (and_left (not (is_host the_world page)) (the_world.pages.owners page == t) owned) in
-            let its : the_world.pages.owners page ≡ t = eqb-true (the_world.pages.owners page) t (and_right (not (is_host the_world page)) (the_world.pages.owners page == t) owned) in
+        λ owned. (let both = and_parts (not (is_host the_world page)) (the_world.pages.owners page == t) owned in
+            let host : is_host the_world page ≡ false = not-true (is_host the_world page) both.0 in
+            let its : the_world.pages.owners page ≡ t = eqb-true (the_world.pages.owners page) t both.1 in
             let alone : holds_alone (two_locks t page ++ c.kept) (OfPage page) ≡ true = alone-newest page (page_alone t ++ c.kept) in
             let has : holds (two_locks t page ++ c.kept) (OfPage t) ≡ true = tdr_held t page c.kept e in
             let sole : holds_alone (two_locks t page ++ c.kept) (OfPage t) ≡ true = tdr_held_alone t page c.kept e in

@@ -28,6 +28,7 @@ use Rattle.td_words.specs.Limits.{IsMachine}
 use Rattle.flat_core.specs.Tree.{entry_at, number_at, named_page, same_state, state_in, walk, word_of_gpa}
 use Rattle.flat_core.specs.Conditions.{tree_shared}
 use Rattle.flat_core.specs.Event.{State}
+use Rattle.flat_core.proofs.Tests.{by_test}
 use Rattle.word_rules.specs.Rules.{Whole, KeepsNothing, GuestWord, writes, owes}
 use Rattle.word_rules.specs.Views.{no_page}
 use Rattle.word_rules.specs.Spots.{spot, slot_of}
@@ -37,7 +38,6 @@ use Rattle.lock_words.specs.Grips.{holds, holds_alone}
 use Rattle.lock_words.specs.LockWords.{TdStands}
 use Rattle.act_rules.specs.Acts.{SameSpots}
 use Rattle.act_rules.proofs.Respected.{effects-respect}
-use Rattle.act_rules.proofs.Stored.{by_test}
 use Rattle.leaf_engine.specs.declared.needs.Place.{Place}
 use Rattle.leaf_engine.specs.Changes.{Hand, Memory, changed_all, changes_where}
 use Rattle.leaf_engine.specs.Trees.{Tree, acts}

@@ -1,6 +1,6 @@
 -- The leaf that adds a private page means its row.
 use Rattle.std.proofs.Common.{◌≡◌, ◌≢◌, ℕ, ◌^◌, ◌<◌, Bool, true, false, ◌==◌, List, [], ◌∷◌, ◌++◌, Option, refl, sym, ◌∙◌, subst, inl, arith}
-use Rattle.std.proofs.lemmas.Bool.{eq-eqb, ltb-true, ne_eqb}
+use Rattle.std.proofs.lemmas.Bool.{eq-eqb, ltb-true, ne_eqb, not-true}
 use Rattle.td_words.specs.declared.names.PageKind.TheVariants as kind
 use Rattle.td_words.specs.declared.names.EntryState.TheVariants as entry
 use Rattle.td_words.specs.declared.names.Mode.TheVariants.{Shared, Exclusive}
@@ -19,6 +19,7 @@ use Rattle.flat_core.specs.MemRows.{add_page}
 use Rattle.td_words.specs.Limits.{IsMachine}
 use Rattle.flat_core.specs.Tree.{state_in}
 use Rattle.mrtd_measure.specs.Records.{page_record}
+use Rattle.flat_core.proofs.Tests.{host_kind}
 use Rattle.sept_walk.proofs.Meets.{split}
 use Rattle.word_rules.specs.Rules.{Whole, KeepsNothing, owes}
 use Rattle.word_rules.specs.Permissions.{MayAt, Reads, Fills, SwapsOwed}
@@ -26,7 +27,6 @@ use Rattle.word_rules.specs.Spots.{slot_of}
 use Rattle.word_rules.specs.Cells.{Shows}
 use Rattle.lock_words.specs.Grips.{holds_alone}
 use Rattle.lock_words.specs.LockWords.{TdStands}
-use Rattle.act_rules.proofs.Respected.{host-kind, not-true}
 use Rattle.act_rules.proofs.Rows.{page-added}
 use Rattle.leaf_engine.specs.declared.needs.Place.{Place}
 use Rattle.leaf_engine.specs.Changes.{changed_all, changes_where}
@@ -114,10 +114,10 @@ module _ (m : Machine) (c : Instant) (t gpa p q : ℕ) (limits : IsMachine m) (i
 
     -- the changes are allowed
     host-reads : (r i : ℕ) → is_host v r ≡ true → holds_alone (held ++ c.kept) (OfPage r) ≡ true → Reads (hold c held) v (place.Word r i) Whole
-    host-reads r i host own = rw (host-kind (v.pages.kinds r) host) (inl (own, tt))
+    host-reads r i host own = rw (host_kind (v.pages.kinds r) host) (inl (own, tt))
 
     host-fills : (r i : ℕ) → is_host v r ≡ true → holds_alone (held ++ c.kept) (OfPage r) ≡ true → Fills (hold c held) v (place.Word r i)
-    host-fills r i host own = rw (host-kind (v.pages.kinds r) host) (inl (own, tt))
+    host-fills r i host own = rw (host_kind (v.pages.kinds r) host) (inl (own, tt))
 
     not-same : q ≢ p
     not-same e = (let no : true ≡ false = sym (eq-eqb q p e) ∙ q-p in cc)

@@ -21,12 +21,11 @@ use Rattle.flat_core.specs.Lawful.{Lawful, IsNodeOf, key_owner}
 use Rattle.flat_core.specs.MemRows.{add_page}
 use Rattle.flat_core.specs.Tree.{number_at}
 use Rattle.flat_core.specs.Event.{State}
+use Rattle.flat_core.proofs.Tests.{by_test, host_kind}
 use Rattle.sept_walk.specs.SecureEpt.{index_at}
 use Rattle.word_rules.specs.Lines.{in_lines}
 use Rattle.word_rules.specs.Cells.{Shows, IsAs, cell, page_cell, entry_cell, root_cell, control_cell, td_lock_lines, tdcs_lines, if_stands, lock_word, built_hasher}
 use Rattle.lock_words.specs.LockWords.{put_word}
-use Rattle.act_rules.proofs.Stored.{by_test}
-use Rattle.act_rules.proofs.Respected.{host-kind}
 use Rattle.leaf_engine.specs.Changes.{Hand, Memory, put_page, changed_all}
 use Rattle.leaf_parts.proofs.Begun.{IsTd, TwoControls}
 use Rattle.sept_parts.specs.SeptPages.{HasEntry}
@@ -131,10 +130,10 @@ module _ (m : Machine) (s : State) (mem : Memory) (t gpa p q table : ℕ) (sh : 
   entry-words = put_word copy (place.Word table (index_at 0 gpa)) (entry_word mapped)
 
   nda : w.pages.kinds p ≡ kind.Nda
-  nda = host-kind (w.pages.kinds p) host
+  nda = host_kind (w.pages.kinds p) host
 
   source-nda : w.pages.kinds q ≡ kind.Nda
-  source-nda = host-kind (w.pages.kinds q) source
+  source-nda = host_kind (w.pages.kinds q) source
 
   source-word : (i : ℕ) → i < 512 → mem.words (place.Word q i) ≡ w.words q i
   source-word i few = rw source-nda at (sh.word (place.Word q i) (in_source, few))

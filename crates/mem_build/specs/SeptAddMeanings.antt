@@ -1,7 +1,7 @@
 -- The leaf that adds a secure EPT page means its row.
 use Rattle.std.proofs.Common.{◌≡◌, ℕ, ◌^◌, ◌<◌, ◌≤◌, true, false, ◌==◌, List, [], ◌∷◌, ◌++◌, refl, sym, ◌∙◌, subst, inl, arith}
 use Rattle.std.specs.Prelude.{nat_le}
-use Rattle.std.proofs.lemmas.Bool.{eq-eqb, ne_eqb, ltb-true, leb-true}
+use Rattle.std.proofs.lemmas.Bool.{eq-eqb, ne_eqb, ltb-true, leb-true, not-true, and_parts}
 use Rattle.td_words.specs.declared.names.EntryState.TheVariants as entry
 use Rattle.td_words.specs.declared.names.PageKind.TheVariants as kind
 use Rattle.td_words.specs.declared.names.Mode.TheVariants.{Shared, Exclusive}
@@ -17,6 +17,7 @@ use Rattle.flat_core.specs.Lawful.{Lawful, IsAlive, is_free}
 use Rattle.td_words.specs.Limits.{IsMachine}
 use Rattle.flat_core.specs.Tree.{entry_at, state_in}
 use Rattle.flat_core.specs.MemRows.{add_sept}
+use Rattle.flat_core.proofs.Tests.{host_kind}
 use Rattle.sept_walk.specs.SecureEpt.{index_at}
 use Rattle.sept_walk.proofs.Meets.{split}
 use Rattle.word_rules.specs.Cells.{Shows}
@@ -26,7 +27,6 @@ use Rattle.word_rules.specs.Permissions.{Fills}
 use Rattle.lock_words.specs.Grips.{holds, holds_alone}
 use Rattle.lock_words.specs.LockWords.{TdStands}
 use Rattle.act_rules.proofs.Rows.{sept-added}
-use Rattle.act_rules.proofs.Respected.{host-kind, not-true, and-left, and-right}
 use Rattle.leaf_engine.specs.declared.needs.Place.{Place}
 use Rattle.leaf_engine.specs.Changes.{Clear}
 use Rattle.leaf_engine.specs.Trees.{End}
@@ -90,7 +90,7 @@ module _ (m : Machine) (c : Instant) (t gpa level p : ℕ) (in_tdr : t < m.pages
 
   module _ (free : is_free (entry_at w t level gpa).state ≡ true) (host : is_host w p ≡ true) where
     filled : (i : ℕ) → Fills g w (place.Word p i)
-    filled i = (let nda : w.pages.kinds p ≡ kind.Nda = host-kind (w.pages.kinds p) host in rw nda (inl (page_alone, tt)))
+    filled i = (let nda : w.pages.kinds p ≡ kind.Nda = host_kind (w.pages.kinds p) host in rw nda (inl (page_alone, tt)))
 
     its-act : Acts m c k held (Done value.Nothing) (Clear p ∷ []) (sept_add_changes m.pages t p at (index_at level gpa) (children w t))
     its-act = record {
@@ -159,8 +159,9 @@ sept_add-means q t gpa level page limits = record {
               λ e. refl,
               λ j. (let in_tdr : t < q.machine.pages = ltb-true t q.machine.pages a in
                   let small : gpa < 2 ^ 47 = ltb-true gpa (2 ^ 47) b in
-                  let least : 1 ≤ level = leb-true 1 level (and-left (nat_le 1 level) (nat_le level 3) d) in
-                  let most : level ≤ 3 = leb-true level 3 (and-right (nat_le 1 level) (nat_le level 3) d) in
+                  let both = and_parts (nat_le 1 level) (nat_le level 3) d in
+                  let least : 1 ≤ level = leb-true 1 level both.0 in
+                  let most : level ≤ 3 = leb-true level 3 both.1 in
                   row-find-means q.machine c (work_of (OfCall (add_sept q.machine t gpa level page))) t in_tdr limits.pages.1 at.lawful at.shown (record { op = Shared; tree = Exclusive }) growing_ops tt gpa level small most
                   (sept_add_rest q.machine.pages t page (index_at level gpa)) (state_in c.state.world t gpa level (entry.Free ∷ []) ∷ page_exclusive page ∷ host_page c.state.world page ∷ [])
                   (λ y at' has. rest-means q.machine c t gpa level page in_tdr limits.pages.1 at.lawful at.shown small least most (ltb-true page q.machine.pages f) (not-true (page == t) h) y at' has)),

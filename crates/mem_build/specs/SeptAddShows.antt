@@ -14,9 +14,9 @@ use Rattle.flat_core.specs.Lawful.{Lawful, IsAlive, IsNodeOf, is_free}
 use Rattle.flat_core.specs.MemRows.{add_sept}
 use Rattle.flat_core.specs.Tree.{number_at, entry_at}
 use Rattle.flat_core.specs.Event.{State}
+use Rattle.flat_core.proofs.Tests.{host_kind}
 use Rattle.sept_walk.specs.SecureEpt.{index_at}
 use Rattle.word_rules.specs.Cells.{Shows, IsAs, page_cell, lock_word}
-use Rattle.act_rules.proofs.Respected.{host-kind}
 use Rattle.leaf_engine.specs.Changes.{Memory, Put, Clear, changed, changed_all}
 use Rattle.leaf_parts.proofs.Begun.{TwoControls}
 use Rattle.sept_parts.specs.SeptPages.{HasEntry}
@@ -43,7 +43,7 @@ module _ (m : Machine) (s : State) (mem : Memory) (t gpa level p at : ℕ) (sh :
   after = changed_all (sept_add_changes m.pages t p at (index_at level gpa) (children w t)) (changed (Clear p) mem)
 
   nda : w.pages.kinds p ≡ kind.Nda
-  nda = host-kind (w.pages.kinds p) host
+  nda = host_kind (w.pages.kinds p) host
 
   -- it isn't the page that its entry stands in
   apart : (p == at) ≡ false

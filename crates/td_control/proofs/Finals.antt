@@ -16,7 +16,6 @@ use Rattle.td_words.specs.NameNumber.{life_number, op_number, vcpu_number}
 use Rattle.td_words.specs.Address.{word_at}
 use Rattle.mrtd_measure.specs.declared.measures.Measure.{Measure}
 use Rattle.step_core.specs.declared.steps.WordStep.TheVariants as step
-use Rattle.act_rules.proofs.Stored.{by_test}
 use Rattle.leaf_engine.specs.declared.needs.Need.TheVariants as need
 use Rattle.leaf_engine.specs.declared.needs.Write.{Write}
 use Rattle.leaf_engine.specs.declared.needs.Write.TheVariants as write
@@ -30,6 +29,7 @@ use Rattle.leaf_engine.specs.Decides.{Decides, Wants, IsHand, HandsOut, HandsNex
 use Rattle.leaf_parts.specs.Words.{says_kind, is_hkid, life_told, op_told, page_told, vps_told}
 use Rattle.td_control.specs.FinalTrees.{word_in_hand, put_mrtd, end_changes, final_changes, vps_tree, changing_tree, bare_tree}
 use Rattle.td_words.specs.Place as place
+use Rattle.flat_core.proofs.Tests.{by_test}
 
 -- trees that differ at their ends alone, which answer the same
 abbrev pub Twins : Tree → Tree → Type 0

@@ -2,7 +2,7 @@
 use Rattle.std.proofs.Common.{◌≡◌, ℕ, ◌+◌, ◌-◌, ◌<◌, Bool, true, false, ◌==◌, ◌&&◌, nat_lt, ◌*◌, List, [], ◌∷◌, ◌++◌, length, slice_index, Option, refl, ap, sym, ◌∙◌, subst, inl, arith}
 use Rattle.std.specs.List.{list_any}
 use Rattle.std.specs.Prelude.{if◌then◌else◌, nat_le, slice_get}
-use Rattle.std.proofs.lemmas.Bool.{eq-eqb, eqb-true, ltb-true, lt-ltb, ne_eqb}
+use Rattle.std.proofs.lemmas.Bool.{eq-eqb, eqb-true, ltb-true, lt-ltb, ne_eqb, not-true}
 use Rattle.std.proofs.lemmas.Bool.Decides.{nat_tests}
 use Rattle.td_words.specs.declared.names.PageKind.{PageKind}
 use Rattle.td_words.specs.declared.names.PageKind.TheVariants as kind
@@ -12,7 +12,7 @@ use Rattle.td_words.specs.declared.places.TheConstants.{TDR_CHILDREN, TDR_TDCX_C
 use Rattle.td_words.specs.NameNumber.{life_number, op_number}
 use Rattle.td_words.specs.Place.{WordPlace, IsIn}
 use Rattle.td_words.specs.Place as place
-use Rattle.flat_core.proofs.Tests.{not_true}
+use Rattle.flat_core.proofs.Tests.{by_test}
 use Rattle.flat_core.specs.World.{World}
 use Rattle.flat_core.specs.Processor.{LockId, OfPage, OfOp, OfTree, OfEpoch, OfRtmr, Held}
 use Rattle.flat_core.specs.Conditions.{is_host, is_host_in, children}
@@ -22,7 +22,6 @@ use Rattle.flat_core.specs.Event.{State}
 use Rattle.word_rules.specs.Lines.{Line, At, Run, in_lines}
 use Rattle.word_rules.specs.Cells.{Shows, IsAs, cell, page_cell, control_cell, root_cell, if_stands, lock_word, td_lock_lines, tdcs_lines, entered_of_parity}
 use Rattle.lock_words.specs.LockWords.{LocksStand, TdStands}
-use Rattle.act_rules.proofs.Stored.{by_test}
 use Rattle.act_rules.proofs.Rows.{rows-respect}
 use Rattle.word_rules.specs.Views.{no_page}
 use Rattle.word_rules.specs.Guards.{Grip, Locked, Meets}
@@ -462,7 +461,7 @@ add-means p t page = record {
             let in_page : page < p.machine.pages = ltb-true page p.machine.pages b in
             tdr-head-means p.machine c (work_of (OfCall (add_tdcx p.machine t page))) t in_tdr at.lawful at.shown (life.KeysConfigured ∷ []) (room_tree p.machine.pages t page)
             (tdcx_room c.state.world t ∷ page_exclusive page ∷ host_page c.state.world page ∷ [])
-            (λ is lives. room-means p.machine c t page in_tdr in_page (not_true (page == t) d) at.lawful at.shown at.stand is lives (life-is life.KeysConfigured (c.state.world.tds.lives t) lives))),
+            (λ is lives. room-means p.machine c t page in_tdr in_page (not-true (page == t) d) at.lawful at.shown at.stand is lives (life-is life.KeysConfigured (c.state.world.tds.lives t) lives))),
       ),
     ),
   );

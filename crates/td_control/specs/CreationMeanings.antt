@@ -14,7 +14,7 @@ use Rattle.td_words.specs.Place as place
 use Rattle.flat_core.specs.World.{World}
 use Rattle.flat_core.specs.Processor.{LockId, OfPage, OfKeys}
 use Rattle.flat_core.specs.Conditions.{is_host, is_host_in, is_free_key, is_key_free, children, owned_below}
-use Rattle.flat_core.proofs.Tests.{range_of}
+use Rattle.flat_core.proofs.Tests.{range_of, by_test}
 use Rattle.flat_core.specs.Lawful.{Lawful, key_owner}
 use Rattle.flat_core.specs.TdRows.{create}
 use Rattle.flat_core.specs.Event.{State}
@@ -26,7 +26,6 @@ use Rattle.word_rules.specs.Lines.{At, in_lines}
 use Rattle.word_rules.specs.Permissions.{Respects}
 use Rattle.word_rules.specs.Cells.{Shows, IsAs, cell, page_cell, control_cell, root_cell, entry_cell, if_stands, lock_word, built_hasher, hasher_cell}
 use Rattle.act_rules.proofs.Rows.{rows-respect}
-use Rattle.act_rules.proofs.Stored.{by_test}
 use Rattle.leaf_engine.specs.declared.needs.Place.{Place}
 use Rattle.lock_words.specs.Grips.{holds, holds_alone}
 use Rattle.leaf_engine.specs.Changes.{Memory, Put, Clear, changed, changed_all}

@@ -20,6 +20,7 @@ use Rattle.flat_core.specs.Processor.{LockId, OfPage, OfOp, Held}
 use Rattle.flat_core.specs.Lawful.{Lawful, key_owner}
 use Rattle.flat_core.specs.TdRows.{initialize}
 use Rattle.flat_core.specs.Event.{State}
+use Rattle.flat_core.proofs.Tests.{by_test}
 use Rattle.word_rules.specs.Rules.{KeepsNothing, writes}
 use Rattle.word_rules.specs.Permissions.{MayAt}
 use Rattle.word_rules.specs.Spots.{slot_of}
@@ -27,7 +28,6 @@ use Rattle.word_rules.specs.Cells.{Shows, IsAs, cell, page_cell, control_cell, i
 use Rattle.lock_words.specs.Grips.{holds, holds_alone}
 use Rattle.lock_words.specs.LockWords.{TdStands}
 use Rattle.act_rules.proofs.Rows.{rows-respect}
-use Rattle.act_rules.proofs.Stored.{by_test}
 use Rattle.leaf_engine.specs.declared.needs.Place.{Place}
 use Rattle.leaf_engine.specs.Changes.{Memory, Change, changed_all}
 use Rattle.leaf_engine.specs.Trees.{acts}

@@ -23,7 +23,6 @@ use Rattle.word_rules.specs.Rules.{KeepsNothing}
 use Rattle.word_rules.specs.Cells.{Shows, IsAs, cell, page_cell, if_stands, lock_word, built_hasher}
 use Rattle.lock_words.specs.LockWords.{put_word}
 use Rattle.act_rules.proofs.Rows.{rows-respect}
-use Rattle.act_rules.proofs.Stored.{by_test}
 use Rattle.leaf_engine.specs.declared.needs.Place.{Place}
 use Rattle.leaf_engine.specs.Changes.{Put}
 use Rattle.leaf_engine.specs.Trees.{acts}
@@ -31,6 +30,7 @@ use Rattle.leaf_engine.specs.Means.{MeansRow, work_of, OfCall, hold}
 use Rattle.leaf_parts.proofs.Begun.{tdr-head-means, life-is, page_lock, alone-newest, holds-newest}
 use Rattle.leaf_parts.proofs.Told.{tdr-spot, tdr-shown}
 use Rattle.flat_core.specs.TdRows.{configure_key}
+use Rattle.flat_core.proofs.Tests.{by_test}
 use Rattle.td_control.specs.KeyTrees.{configure_task}
 use Rattle.leaf_parts.proofs.Acted.{opening}
 

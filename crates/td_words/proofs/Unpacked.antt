@@ -1,6 +1,6 @@
 -- Packed words are read back.
 use Rattle.std.proofs.Common.{◌≡◌, refl, sym, subst, ℕ, ◌+◌, ◌*◌, ◌/◌, ◌%◌, ◌^◌, ◌<◌, Option, Some, None, Bool, true, false, ◌==◌, ◌&&◌, nat_lt, if◌then◌else◌, arith}
-use Rattle.std.proofs.lemmas.Bool.{eq-eqb, eqb-true, and_parts}
+use Rattle.std.proofs.lemmas.Bool.{eq-eqb, eqb-true, ltb-true, and_parts}
 use Rattle.std.proofs.lemmas.Bool.Decides.{nat_tests}
 use Rattle.td_words.specs.declared.names.PageKind.{PageKind}
 use Rattle.td_words.specs.declared.names.PageKind.TheVariants as kind
@@ -9,9 +9,6 @@ use Rattle.td_words.specs.declared.names.EntryState.TheVariants as entry
 use Rattle.td_words.specs.NameNumber.{kind_number, entry_number}
 use Rattle.td_words.specs.Laws.{PackingsUndone}
 use Rattle.td_words.specs.Packing.{Pamt, pamt_word, pamt_in, pamt_if, pamt_of_kind, kind_of, is_lawful_pamt, Entry, entry_word, entry_in, entry_if, entry_of_state, entry_state_of, is_lawful_entry, Key, Unassigned, AssignedTo, FlushedOf, key_word, key_in, key_if, is_lawful_key}
-
-lt_of : (a b : ℕ) → nat_lt a b ≡ true → a < b
-lt_of a b h = grind (arith, nat_tests)
 
 -- fields of a packed word
 pub record Fields (n x m word : ℕ) : Type 0 where
@@ -47,8 +44,8 @@ state_again entry.ExportedDirtyBlockedW = (refl, omega arith)
 pamt_again : (k : PageKind) (o e : ℕ) → let p : Pamt = record { kind = k; owner = o; epoch = e } in is_lawful_pamt p ≡ true → pamt_in (pamt_word p) ≡ Some p
 pamt_again k o e h =
     let p : Pamt = record { kind = k; owner = o; epoch = e } in
-    let small = lt_of o 1024 (and_parts (nat_lt o 1024) _ h).0 in
-    let low = lt_of e (2 ^ 32) (and_parts (nat_lt e (2 ^ 32)) _ (and_parts (nat_lt o 1024) _ h).1).0 in
+    let small = ltb-true o 1024 (and_parts (nat_lt o 1024) _ h).0 in
+    let low = ltb-true e (2 ^ 32) (and_parts (nat_lt e (2 ^ 32)) _ (and_parts (nat_lt o 1024) _ h).1).0 in
     let f = fields_of (kind_number k) o e (kind_again k).1 small low in
     let same : (pamt_word p == pamt_word p) ≡ true = eq-eqb _ _ refl in
     rw (f.low, (kind_again k).0, f.middle, f.high, h, same) refl
@@ -56,8 +53,8 @@ pamt_again k o e h =
 entry_again : (s : EntryState) (x m : ℕ) → let e : Entry = record { state = s; page = x; mark = m } in is_lawful_entry e ≡ true → entry_in (entry_word e) ≡ Some e
 entry_again s x m h =
     let e : Entry = record { state = s; page = x; mark = m } in
-    let small = lt_of x 1024 (and_parts (nat_lt x 1024) _ h).0 in
-    let low = lt_of m (2 ^ 32) (and_parts (nat_lt m (2 ^ 32)) _ (and_parts (nat_lt x 1024) _ h).1).0 in
+    let small = ltb-true x 1024 (and_parts (nat_lt x 1024) _ h).0 in
+    let low = ltb-true m (2 ^ 32) (and_parts (nat_lt m (2 ^ 32)) _ (and_parts (nat_lt x 1024) _ h).1).0 in
     let f = fields_of (entry_number s) x m (state_again s).1 small low in
     let same : (entry_word e == entry_word e) ≡ true = eq-eqb _ _ refl in
     rw (f.low, (state_again s).0, f.middle, f.high, h, same) refl
@@ -97,21 +94,21 @@ key_if_read word k j h =
 key_again : (k : Key) → is_lawful_key k ≡ true → key_in (key_word k) ≡ Some k
 key_again Unassigned h = refl
 key_again (AssignedTo t) h =
-    let small = lt_of t 1024 h in
+    let small = ltb-true t 1024 h in
     let a : (1 + 16 * t == 0) ≡ false = grind (arith, nat_tests) in
     let b : (1 + 16 * t) % 16 ≡ 1 = omega arith in
     let c : (1 + 16 * t) / 16 ≡ t = omega arith in
     let same : (1 + 16 * t == 1 + 16 * t) ≡ true = eq-eqb _ _ refl in
     rw (a, b, c, h, same) refl
 key_again (FlushedOf t true) h =
-    let small = lt_of t 1024 h in
+    let small = ltb-true t 1024 h in
     let a : (6 + 16 * t == 0) ≡ false = grind (arith, nat_tests) in
     let b : (6 + 16 * t) % 16 ≡ 6 = omega arith in
     let c : (6 + 16 * t) / 16 ≡ t = omega arith in
     let same : (6 + 16 * t == 6 + 16 * t) ≡ true = eq-eqb _ _ refl in
     rw (a, b, c, h, same) refl
 key_again (FlushedOf t false) h =
-    let small = lt_of t 1024 h in
+    let small = ltb-true t 1024 h in
     let a : (2 + 16 * t == 0) ≡ false = grind (arith, nat_tests) in
     let b : (2 + 16 * t) % 16 ≡ 2 = omega arith in
     let c : (2 + 16 * t) / 16 ≡ t = omega arith in

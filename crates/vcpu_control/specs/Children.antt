@@ -7,7 +7,7 @@ use Rattle.flat_core.specs.World.{World, Pages}
 use Rattle.flat_core.specs.Conditions.{is_host, children, owned_below}
 use Rattle.flat_core.specs.Effects.{take_page}
 use Rattle.flat_core.specs.Lawful.{Lawful}
-use Rattle.act_rules.proofs.Stored.{by_test}
+use Rattle.flat_core.proofs.Tests.{by_test}
 use Rattle.leaf_parts.specs.Words.{raised}
 use Rattle.leaf_parts.proofs.Owned.{counted-host, counted-other, owned-taken, owned-same, raised-is}
 

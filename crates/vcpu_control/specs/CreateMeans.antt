@@ -1,7 +1,7 @@
 -- Behind the beginning of its row the leaf that creates a virtual processor means the row.
 use Rattle.std.proofs.Common.{◌≡◌, ℕ, ◌+◌, ◌<◌, ◌≤◌, true, false, ◌==◌, ◌&&◌, [], ◌∷◌, length, refl, ap, sym, ◌∙◌, subst, inl, inr, arith}
 use Rattle.std.specs.Prelude.{nat_lt, not}
-use Rattle.std.proofs.lemmas.Bool.{eq-eqb, ltb-true, lt-ltb}
+use Rattle.std.proofs.lemmas.Bool.{eq-eqb, ltb-true, lt-ltb, not-true}
 use Rattle.td_words.specs.declared.names.PageKind.TheVariants as kind
 use Rattle.td_words.specs.declared.names.OpState.{OpState}
 use Rattle.td_words.specs.declared.names.OpState.TheVariants as op
@@ -25,8 +25,7 @@ use Rattle.word_rules.specs.Spots.{spot, guard_at, or_unused, vp_classes, is_cur
 use Rattle.word_rules.specs.Permissions.{Respects, Reads, Owes}
 use Rattle.word_rules.specs.Cells.{Shows, IsAs, td_lock_lines, tdcs_lines, lock_word}
 use Rattle.act_rules.proofs.Rows.{rows-respect}
-use Rattle.flat_core.proofs.Tests.{not_true}
-use Rattle.act_rules.proofs.Stored.{by_test}
+use Rattle.flat_core.proofs.Tests.{by_test}
 use Rattle.leaf_engine.specs.Changes.{Memory, Put, Clear, changed}
 use Rattle.leaf_engine.specs.Trees.{Load, acts}
 use Rattle.leaf_engine.specs.Means.{Instant, Means, Acts, MayOweAll, work_of, OfCall, hold}
@@ -82,7 +81,7 @@ module _ (m : Machine) (c : Instant) (t p : ℕ) (la : Lawful m c.state.world) (
   g = hold c (page_locks t p Exclusive)
 
   other : (p == t) ≡ false
-  other = not_true (p == t) differ
+  other = not-true (p == t) differ
 
   in_page : p < m.pages
   in_page = ltb-true p m.pages page

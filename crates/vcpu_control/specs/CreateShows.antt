@@ -16,9 +16,9 @@ use Rattle.flat_core.specs.Conditions.{same_kind, children}
 use Rattle.flat_core.specs.Lawful.{Lawful, IsAlive, AreControls, ArePagesOf}
 use Rattle.flat_core.specs.VpRows.{create_vp}
 use Rattle.flat_core.specs.Event.{State}
+use Rattle.flat_core.proofs.Tests.{by_test}
 use Rattle.word_rules.specs.Cells.{Shows, IsAs, cell, page_cell, root_cell, control_cell, entry_cell, tdr_lines, td_lock_lines, tdcs_lines, vp_lines, if_stands, lock_word, one_of_parity, entered_of_parity}
 use Rattle.word_rules.specs.Lines.{in_lines}
-use Rattle.act_rules.proofs.Stored.{by_test}
 use Rattle.leaf_parts.specs.Words.{raised}
 use Rattle.leaf_parts.proofs.Vps.{vp-line}
 use Rattle.leaf_engine.specs.Changes.{Memory, changed_all}

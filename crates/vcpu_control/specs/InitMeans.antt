@@ -1,6 +1,6 @@
 -- Behind the beginning of its row the leaf that initializes a virtual processor means the row.
 use Rattle.std.proofs.Common.{◌≡◌, ℕ, ◌<◌, false, ◌==◌, [], ◌∷◌, refl, inl, inr, arith}
-use Rattle.std.proofs.lemmas.Bool.{eqb-true}
+use Rattle.std.proofs.lemmas.Bool.{eqb-true, and_parts}
 use Rattle.td_words.specs.declared.names.PageKind.TheVariants as kind
 use Rattle.td_words.specs.declared.names.VcpuState.{VcpuState}
 use Rattle.td_words.specs.declared.names.VcpuState.TheVariants as vcpu
@@ -20,7 +20,6 @@ use Rattle.word_rules.specs.Spots.{guard_at}
 use Rattle.word_rules.specs.Permissions.{Respects}
 use Rattle.word_rules.specs.Cells.{Shows}
 use Rattle.act_rules.proofs.Respected.{leaves, all-same}
-use Rattle.flat_core.proofs.Tests.{and_left, and_right}
 use Rattle.leaf_engine.specs.Trees.{acts}
 use Rattle.leaf_engine.specs.Means.{Instant, Means, work_of, OfCall, hold}
 use Rattle.leaf_parts.proofs.Told.{kind-is, kind-shown, owner-shown}
@@ -95,7 +94,7 @@ module _ (m : Machine) (c : Instant) (t v x : ℕ) (few : m.pages < 65536) (la :
       (
         pamt_shown,
         λ e. refl,
-        λ e. (let its : IsPageOf w.pages t v kind.Tdvpr = record { kind = kind-is (w.pages.kinds v) kind.Tdvpr (and_left (same_kind (w.pages.kinds v) kind.Tdvpr) (w.pages.owners v == t) e); owner = eqb-true (w.pages.owners v) t (and_right (same_kind (w.pages.kinds v) kind.Tdvpr) (w.pages.owners v == t) e) } in (
+        λ e. (let both = and_parts (same_kind (w.pages.kinds v) kind.Tdvpr) (w.pages.owners v == t) e in let its : IsPageOf w.pages t v kind.Tdvpr = record { kind = kind-is (w.pages.kinds v) kind.Tdvpr both.0; owner = eqb-true (w.pages.owners v) t both.1 } in (
           (in_page, omega arith),
           inl (at-spot (hold c (page_locks t v Shared)) w (place.Word v 1) (spot_of VcpuWord t v) (λ z. reads z Whole) (vp-spot w t v 1 its) (may_load its)),
           rw (state_shown its) (refl, λ f. refl, λ f. its_end its),

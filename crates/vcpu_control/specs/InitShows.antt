@@ -12,9 +12,9 @@ use Rattle.flat_core.specs.World.{World}
 use Rattle.flat_core.specs.Processor.{LockId}
 use Rattle.flat_core.specs.VpRows.{initialize_vp}
 use Rattle.flat_core.specs.Event.{State}
+use Rattle.flat_core.proofs.Tests.{by_test}
 use Rattle.word_rules.specs.Cells.{Shows, IsAs, cell, page_cell, vp_lines, lock_word}
 use Rattle.word_rules.specs.Lines.{in_lines}
-use Rattle.act_rules.proofs.Stored.{by_test}
 use Rattle.leaf_engine.specs.Changes.{Memory, changed_all}
 use Rattle.vcpu_control.specs.VpChanges.{init_changes}
 use Rattle.vcpu_control.specs.Shown.{shown-again, if_standing}

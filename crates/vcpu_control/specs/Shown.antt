@@ -3,8 +3,8 @@ use Rattle.std.proofs.Common.{◌≡◌, ℕ, ◌==◌, Option, sym, subst}
 use Rattle.td_words.specs.declared.names.LifeState.{LifeState}
 use Rattle.td_words.specs.declared.names.LifeState.TheVariants as life
 use Rattle.td_words.specs.NameNumber.{life_number}
+use Rattle.flat_core.proofs.Tests.{by_test}
 use Rattle.word_rules.specs.Cells.{IsAs, if_stands}
-use Rattle.act_rules.proofs.Stored.{by_test}
 
 -- the same word of the same cell
 pub shown-again : (c c' : Option ℕ) (x x' : ℕ) → c' ≡ c → x' ≡ x → IsAs c x → IsAs c' x'

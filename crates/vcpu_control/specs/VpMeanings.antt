@@ -1,13 +1,12 @@
 -- The leaves that build virtual processors mean their rows.
 use Rattle.std.proofs.Common.{ℕ, ◌<◌, ◌==◌, [], ◌∷◌, refl}
-use Rattle.std.proofs.lemmas.Bool.{ltb-true}
+use Rattle.std.proofs.lemmas.Bool.{ltb-true, not-true}
 use Rattle.td_words.specs.declared.names.PageKind.TheVariants as kind
 use Rattle.td_words.specs.declared.names.OpState.TheVariants as op
 use Rattle.td_words.specs.declared.names.VcpuState.TheVariants as vcpu
 use Rattle.td_words.specs.declared.names.Mode.TheVariants.{Shared, Exclusive}
 use Rattle.flat_core.specs.Conditions.{td_page, vp_in, vp_room, host_page, page_exclusive}
 use Rattle.flat_core.specs.VpRows.{create_vp, initialize_vp}
-use Rattle.flat_core.proofs.Tests.{not_true}
 use Rattle.leaf_engine.specs.declared.needs.Place.{Place}
 use Rattle.leaf_engine.specs.Means.{MeansRow, OfCall, work_of}
 use Rattle.leaf_parts.proofs.Begun.{td-head-means}
@@ -29,7 +28,7 @@ vp_init-means p t v x few = record {
         λ e. refl,
         λ differ. td-head-means p.machine c (work_of (OfCall (initialize_vp p.machine t v x))) t (ltb-true t p.machine.pages a) at.lawful at.shown Shared (op.Initialized ∷ [])
             (λ td. init_rest t v x) (page_exclusive v ∷ td_page c.state.world t v kind.Tdvpr ∷ vp_in c.state.world v vcpu.Created ∷ [])
-            (λ y. init_rest-means p.machine c t v x few at.lawful at.shown y.alive (ltb-true v p.machine.pages b) (not_true (v == t) differ)),
+            (λ y. init_rest-means p.machine c t v x few at.lawful at.shown y.alive (ltb-true v p.machine.pages b) (not-true (v == t) differ)),
       ),
     ),
   );
