@@ -8,7 +8,7 @@ use Rattle.td_words.specs.declared.names.Mode.TheVariants.{Shared}
 use Rattle.td_words.specs.declared.machines.Machine.{Machine}
 use Rattle.td_words.specs.Packing.{pamt_word, is_lawful_pamt}
 use Rattle.td_words.proofs.Unpacked.{packings}
-use Rattle.td_words.specs.Place.{WordPlace, IsIn, same_place}
+use Rattle.td_words.specs.Place.{WordPlace, IsIn}
 use Rattle.td_words.specs.Place as place
 use Rattle.flat_core.proofs.Tests.{host_kind}
 use Rattle.flat_core.specs.World.{World}

@@ -10,14 +10,14 @@ use Rattle.td_words.specs.Place.{WordPlace, address}
 use Rattle.td_words.specs.Laws.{PlacesInjective}
 use Rattle.mrtd_measure.specs.declared.measures.Measure.{Measure}
 use Rattle.flat_core.specs.World.{World}
-use Rattle.flat_core.specs.Processor.{LockId, OfPage, OfOp, OfTree, OfEpoch, OfRtmr, OfKeys, name_of, Held, Phase, Trying, Undoing, Answered, Progress, nothing_yet, Guest, Translation, Lp}
+use Rattle.flat_core.specs.Processor.{LockId, name_of, Held, Phase, Trying, Undoing, Answered, Progress, Lp}
 use Rattle.flat_core.specs.Locks.{same_lock, grants as lock_grants}
 use Rattle.flat_core.specs.Opening.{Opening}
-use Rattle.flat_core.specs.Row.{Row, Move, Attempts, Undoes, Refuses, Succeeds, Releases, next, next_in, after_move}
-use Rattle.flat_core.specs.Event.{State, Event, OfCall, next_event, event_for, line_event, lines_left, event, after_event, world_after, call_world, lp_after, call_lp, call_busy, settle, settled, is_granted}
+use Rattle.flat_core.specs.Row.{Row, Move, Attempts, Undoes, Refuses, Succeeds, Releases, next}
+use Rattle.flat_core.specs.Event.{State, OfCall, next_event, event, call_busy, settled}
 use Rattle.flat_core.specs.Laws.{IsQuiet}
 use Rattle.word_rules.specs.Cells.{Shows, IsAs, cell_in, lock_word}
-use Rattle.lock_words.specs.LockWords.{place_of, Stands, weight_of, IsNext, LockWordsFollow, LockStepsShown, lock_of, move_adds}
+use Rattle.lock_words.specs.LockWords.{place_of, Stands, LockWordsFollow, LockStepsShown, lock_of}
 use Rattle.step_core.specs.Items.{Table, Taken, PlaysTo}
 use Rattle.step_core.specs.Laws.{PagesChangeAlone}
 use Rattle.leaf_engine.specs.declared.events.Event.{Event as RunEvent}

@@ -10,7 +10,7 @@ use Rattle.td_words.specs.declared.names.OpState.TheVariants as op
 use Rattle.td_words.specs.declared.machines.Machine.{Machine}
 use Rattle.td_words.specs.NameNumber.{kind_number, life_number, op_number}
 use Rattle.td_words.specs.Packing.{pamt_word}
-use Rattle.td_words.specs.Place.{WordPlace, IsIn}
+use Rattle.td_words.specs.Place.{WordPlace}
 use Rattle.td_words.specs.Place as place
 use Rattle.flat_core.specs.World.{World}
 use Rattle.flat_core.specs.Conditions.{is_host_in, same_kind}

@@ -9,7 +9,7 @@ use Rattle.td_words.specs.declared.names.Mode.TheVariants.{Shared, Exclusive}
 use Rattle.td_words.specs.declared.machines.Machine.{Machine}
 use Rattle.td_words.specs.declared.places.TheConstants.{TDCS_OP_LOCK, TDCS_TREE_LOCK, TDCS_EPOCH_LOCK, TDCS_RTMR_LOCK, KEY_LOCK}
 use Rattle.td_words.specs.NameNumber.{life_number}
-use Rattle.td_words.specs.Place.{WordPlace, IsIn, same_place, lock_place}
+use Rattle.td_words.specs.Place.{WordPlace, IsIn, same_place}
 use Rattle.td_words.specs.Place as place
 use Rattle.flat_core.specs.World.{World, Pages}
 use Rattle.flat_core.specs.Processor.{LockId, OfPage, OfOp, OfTree, OfEpoch, OfRtmr, OfKeys, Lp}

@@ -8,7 +8,7 @@ use Rattle.flat_core.specs.Locks.{sharers, refusals}
 use Rattle.flat_core.specs.Lawful.{Lawful}
 use Rattle.flat_core.specs.Opening.{Opening}
 use Rattle.flat_core.specs.Table.{row_of}
-use Rattle.flat_core.specs.Event.{State, start, event, event_for, lines_left, calls_of}
+use Rattle.flat_core.specs.Event.{State, start, event}
 use Rattle.flat_core.specs.Run.{play, run}
 use Rattle.flat_core.proofs.Tests.{put_here}
 use Rattle.flat_core.proofs.Induction.{count_stays, play_append}

@@ -14,7 +14,7 @@ use Rattle.td_words.specs.declared.replies.Reply.{Reply}
 use Rattle.flat_core.specs.Processor.{Lp}
 use Rattle.td_words.specs.Limits.{IsMachine}
 use Rattle.flat_core.specs.Opening.{Opening}
-use Rattle.flat_core.specs.Event.{State, start, event, lines_left}
+use Rattle.flat_core.specs.Event.{State, start, lines_left}
 use Rattle.flat_core.specs.Run.{play, run, to_the_end}
 use Rattle.flat_core.specs.HostText.{reply_lines, lines_from, text_of, host_text}
 use Rattle.flat_core.proofs.Induction.{counts_stay}

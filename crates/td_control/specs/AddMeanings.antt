@@ -16,7 +16,7 @@ use Rattle.flat_core.proofs.Tests.{by_test}
 use Rattle.flat_core.specs.World.{World}
 use Rattle.flat_core.specs.Processor.{LockId, OfPage, OfOp, OfTree, OfEpoch, OfRtmr, Held}
 use Rattle.flat_core.specs.Conditions.{is_host, is_host_in, children}
-use Rattle.flat_core.specs.Lawful.{Lawful, IsAlive, IsNew, key_owner}
+use Rattle.flat_core.specs.Lawful.{Lawful, IsAlive, IsNew}
 use Rattle.flat_core.specs.TdRows.{add_tdcx}
 use Rattle.flat_core.specs.Event.{State}
 use Rattle.word_rules.specs.Lines.{Line, At, Run, in_lines}

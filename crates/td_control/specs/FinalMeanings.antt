@@ -28,7 +28,7 @@ use Rattle.word_rules.specs.Lines.{in_lines}
 use Rattle.word_rules.specs.Rules.{TdcsWord, Whole, KeepsNothing}
 use Rattle.word_rules.specs.Spots.{or_unused, tdcs_classes, is_current, is_empty, slot_of}
 use Rattle.word_rules.specs.Permissions.{MayAt, Owes, Reads}
-use Rattle.word_rules.specs.Cells.{Shows, IsAs, cell, page_cell, control_cell, lock_word, td_lock_lines, tdcs_lines, vp_lines, built_hasher}
+use Rattle.word_rules.specs.Cells.{Shows, IsAs, cell, page_cell, control_cell, lock_word, td_lock_lines, tdcs_lines, built_hasher}
 use Rattle.lock_words.specs.Grips.{holds, holds_alone}
 use Rattle.act_rules.proofs.Rows.{rows-respect}
 use Rattle.leaf_engine.specs.declared.needs.Place.{Place}
