@@ -12,6 +12,7 @@ pub mod Owned
 pub mod Measured
 pub mod OneUse
 pub mod Memories
+pub mod Told
 pub mod LockLaw
 pub mod Ends
 pub mod TwoWorlds

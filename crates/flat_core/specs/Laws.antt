@@ -9,6 +9,7 @@ use Rattle.td_words.specs.declared.replies.Value.TheVariants.{Digest}
 use Rattle.td_words.specs.declared.refusals.Status.{Status}
 use Rattle.td_words.specs.declared.refusals.Status.TheVariants.{OperandInvalid}
 use Rattle.td_words.specs.declared.replies.Value.{Value}
+use Rattle.td_words.specs.declared.replies.Outcome.{Outcome}
 use Rattle.td_words.specs.declared.replies.Reply.{Reply}
 use Rattle.td_words.specs.declared.replies.Reply.TheVariants.{Done, Refused}
 use Rattle.td_words.specs.declared.calls.Call.{Call}
@@ -18,13 +19,13 @@ use Rattle.flat_core.specs.World.{World, Pages, Tds, put, Made}
 use Rattle.flat_core.specs.Processor.{LockId, Lp, nothing_yet}
 use Rattle.flat_core.specs.Locks.{holders, sharers, one_if}
 use Rattle.flat_core.specs.Opening.{Opening, Agree, blind, public_bundle}
-use Rattle.flat_core.specs.Row.{Passes, Succeeds, Row, Move, tries_in}
+use Rattle.flat_core.specs.Row.{Passes, Succeeds, Row, OperationRow, Move, tries_in}
 use Rattle.flat_core.specs.Conditions.{is_host_in}
 use Rattle.flat_core.specs.Tree.{entry_at}
 use Rattle.flat_core.specs.TdRows.{read_td, finalize}
 use Rattle.flat_core.specs.MemRows.{chunk_bytes}
 use Rattle.flat_core.specs.Table.{row_of}
-use Rattle.flat_core.specs.Event.{State, Event, OfCall, OfOperation, Reaches, Leaves, start, lines_left, next_event, event, world_after}
+use Rattle.flat_core.specs.Event.{State, Event, OfCall, OfOperation, Reaches, Leaves, start, lines_left, next_event, event, world_after, operation_told, lp_after}
 use Rattle.flat_core.specs.Run.{play, run, run_told, told_in, bundles_in}
 use Rattle.flat_core.specs.HostText.{host_text, text_of}
 use Rattle.flat_core.specs.Lawful.{IsAlive, Lawful, RowKeeps, is_free}
@@ -170,6 +171,22 @@ memory_of e words = if is_free e.state then None else Some (words e.page)
 abbrev pub GuestsKnowTheirPages : Type 0
 GuestsKnowTheirPages = (o : Opening) (words_to_tell : Option (List ℕ)) (schedule : List ℕ) (t n : ℕ) → let w = (reached o words_to_tell schedule).world in
     IsAlive w.pages w.tds t → w.hidden.memories t n ≡ memory_of (w.tds.entries t 0 n) w.words
+
+-- Told words: the processors' lists are merged into one, which grows by words that one of them grows by at the same time.
+pub data AreMerged : (ℕ → List ℕ) → List ℕ → Type 0 where
+  nothing_told : AreMerged (λ p. []) []
+  more_told : (own : ℕ → List ℕ) (all : List ℕ) (p : ℕ) (words : List ℕ) → AreMerged own all → AreMerged (put own p (own p ++ words)) (all ++ words)
+
+-- The world's list of told words is a merge of those of the processors.
+abbrev pub ToldAreMerged : Type 0
+ToldAreMerged = (o : Opening) (words_to_tell : Option (List ℕ)) (schedule : List ℕ) → let s = reached o words_to_tell schedule in AreMerged (λ p. (s.lps p).told) s.world.outgoing.told
+
+-- An operation, whatever its row is, where its act leaves that list as it is: its event puts the words that the row tells at
+-- the end of the world's list and of its processor's.
+abbrev pub OperationsTellBoth : Type 0
+OperationsTellBoth = (w : World) (granted : Bool) (row : OperationRow) (move : Move (Option Outcome)) (lp : Lp) → (row.act w).outgoing.told ≡ w.outgoing.told
+    → let e = OfOperation row move in
+    ((world_after e w).outgoing.told ≡ w.outgoing.told ++ operation_told w row move) × ((lp_after w granted e lp).told ≡ lp.told ++ operation_told w row move)
 
 -- Two worlds, further
 

@@ -2,7 +2,7 @@
 
 ghost use Rattle.flat_core.specs.Worked.{Examples};
 ghost use Rattle.flat_core.specs.Bounds.{RowsTryFew, EventsRunOut, RunsEnd};
-ghost use Rattle.flat_core.specs.Laws.{RowsKeep, RowsAreBlind, MrtdIsTheDigest, RecordsAreMeasured, EveryWorldIsLawful, EveryPageIsOwned, OthersStay, QuietEventsStay, NoWordsToTell, LocksExclude, BlindRunsPrintTheSame, BlindRunsMakeTheSameBundles, AgreeingRunsShowTheSame, RefusedCallsStay, QuietCallsKeep, RefusalsLeaveTheirReply, RowsTryTheSame, CallsHaveTheirEvents, EventsKeepLawful, EveryMrtdIsTheDigest, EventsMeasure, PagesHaveOneUse, GuestsKnowTheirPages};
+ghost use Rattle.flat_core.specs.Laws.{RowsKeep, RowsAreBlind, MrtdIsTheDigest, RecordsAreMeasured, EveryWorldIsLawful, EveryPageIsOwned, OthersStay, QuietEventsStay, NoWordsToTell, LocksExclude, BlindRunsPrintTheSame, BlindRunsMakeTheSameBundles, AgreeingRunsShowTheSame, RefusedCallsStay, QuietCallsKeep, RefusalsLeaveTheirReply, RowsTryTheSame, CallsHaveTheirEvents, EventsKeepLawful, EveryMrtdIsTheDigest, EventsMeasure, PagesHaveOneUse, GuestsKnowTheirPages, ToldAreMerged, OperationsTellBoth};
 
 /// The worked examples: replies of small runs, and how many events they take.
 pub fn worked_examples()
@@ -83,4 +83,11 @@ pub fn measurement_laws()
 /// After any schedule, what the guest of a TD knows of a private page is what the page holds.
 pub fn memory_law()
     ensures { GuestsKnowTheirPages }
+{}
+
+/// After any schedule, the words that guests told, in the order of the events, are a merge of those
+/// that each processor recorded: an operation that tells words puts the same ones at the end of both.
+pub fn told_law()
+    ensures merged { ToldAreMerged }
+    ensures both { OperationsTellBoth }
 {}
