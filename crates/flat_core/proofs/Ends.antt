@@ -42,7 +42,7 @@ pub checks_alone : (b : ℕ → Bool) (r : ℕ → Reply) (ls : List ℕ) → tr
 checks_alone b r [] = refl
 checks_alone b r (l ∷ ls) = checks_alone b r ls
 
-abbrev levels_above : ℕ → List ℕ
+abbrev pub levels_above : ℕ → List ℕ
 levels_above level = filter (λ l. nat_lt level l) (3 ∷ 2 ∷ 1 ∷ [])
 
 pub row_tries : (o : Opening) (me : ℕ) (c : Call) (w : World) → tries_in ((row_of o me c).items w) ≤ most_tries c
@@ -86,6 +86,13 @@ drop_next zero [] y ys e = cc
 drop_next zero (x ∷ xs) y ys e = cc
 drop_next (suc k) [] y ys e = cc
 drop_next (suc k) (x ∷ xs) y ys e = drop_next k xs y ys e
+
+-- a processor with a line left is one of the machine
+pub below_calls : (css : List (List Call)) (p k : ℕ) (c : Call) (cs : List Call) → drop k (calls_of css p) ≡ c ∷ cs → p < length css
+below_calls [] p zero c cs e = cc
+below_calls [] p (suc k) c cs e = cc
+below_calls (x ∷ css) zero k c cs e = omega arith
+below_calls (x ∷ css) (suc p) k c cs e = let b = below_calls css p k c cs e in omega (arith, b)
 
 -- with nothing done of the first line
 fresh_left : (cs : List Call) (lp : Lp) → left_of cs (record lp { call = nothing_yet }) ≡ events_in cs

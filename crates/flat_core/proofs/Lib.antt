@@ -19,3 +19,4 @@ pub mod TwoWorlds
 pub mod Refused
 pub mod RefusedKeep
 pub mod Counts
+pub mod TreeLock
