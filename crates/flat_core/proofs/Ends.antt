@@ -83,6 +83,13 @@ drop_next zero (x ∷ xs) y ys e = cc
 drop_next (suc k) [] y ys e = cc
 drop_next (suc k) (x ∷ xs) y ys e = drop_next k xs y ys e
 
+-- a processor with a line left is one of the machine
+pub below_calls : (css : List (List Call)) (p k : ℕ) (c : Call) (cs : List Call) → drop k (calls_of css p) ≡ c ∷ cs → p < length css
+below_calls [] p zero c cs e = cc
+below_calls [] p (suc k) c cs e = cc
+below_calls (x ∷ css) zero k c cs e = omega arith
+below_calls (x ∷ css) (suc p) k c cs e = let b = below_calls css p k c cs e in omega (arith, b)
+
 -- with nothing done of the first line
 fresh_left : (cs : List Call) (lp : Lp) → left_of cs (record lp { call = nothing_yet }) ≡ events_in cs
 fresh_left [] lp = refl

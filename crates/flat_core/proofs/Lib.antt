@@ -12,9 +12,11 @@ pub mod Owned
 pub mod Measured
 pub mod OneUse
 pub mod Memories
+pub mod Told
 pub mod LockLaw
 pub mod Ends
 pub mod TwoWorlds
 pub mod Refused
 pub mod RefusedKeep
 pub mod Counts
+pub mod TreeLock

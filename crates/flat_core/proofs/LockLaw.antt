@@ -1,6 +1,6 @@
 -- Nobody holds a lock beside one who holds it alone.
-use Rattle.std.proofs.Common.{length, ◌≡◌, refl, sym, subst, ap, ℕ, zero, suc, ◌+◌, ◌≤◌, List, [], ◌∷◌, Option, Some, None, option_map, Bool, true, false, ◌==◌, arith, inl, inr}
-use Rattle.std.proofs.lemmas.Bool.{eqb-true, ne_eqb}
+use Rattle.std.proofs.Common.{length, ◌≡◌, refl, sym, subst, ap, ℕ, zero, suc, ◌+◌, ◌<◌, ◌≤◌, List, [], ◌∷◌, Option, Some, None, option_map, Bool, true, false, ◌==◌, arith, inl, inr}
+use Rattle.std.proofs.lemmas.Bool.{eqb-true, eqb-false, ne_eqb}
 use Rattle.td_words.specs.declared.names.LockName.{LockName}
 use Rattle.td_words.specs.declared.names.Mode.{Mode}
 use Rattle.td_words.specs.declared.names.Mode.TheVariants.{Shared, Exclusive}
@@ -132,6 +132,27 @@ sum_more f lps p x (suc n) d h = by_test (n == p)
 pub sum_none : (f : Lp → ℕ) (n : ℕ) → f idle ≡ 0 → sum_below (λ q. f idle) n ≡ 0
 sum_none f zero h = refl
 sum_none f (suc n) h = omega (arith, h, sum_none f n h)
+
+-- what one processor of n adds to a sum, and what two add
+below : (p n : ℕ) → p < suc n → (p == n) ≡ false → p < n
+below p n h ne = let d : p ≡ n → ⊥ = eqb-false p n ne in omega (arith, h, d)
+
+pub le-sum : (g : ℕ → ℕ) (p n : ℕ) → p < n → g p ≤ sum_below g n
+le-sum g p zero h = absurd (omega (arith, h))
+le-sum g p (suc n) h =
+    by_test (p == n)
+    (λ y. let e : p ≡ n = eqb-true p n y in let k : g p ≡ g n = ap g e in omega (arith, k))
+    (λ y. let k : g p ≤ sum_below g n = le-sum g p n (below p n h y) in omega (arith, k))
+
+pub two-sum : (g : ℕ → ℕ) (p q n : ℕ) → p < n → q < n → (p == q) ≡ false → g p + g q ≤ sum_below g n
+two-sum g p q zero h k ne = absurd (omega (arith, h))
+two-sum g p q (suc n) h k ne =
+    by_test (p == n)
+    (λ y. (let e : p ≡ n = eqb-true p n y in let d : p ≡ q → ⊥ = eqb-false p q ne in let k' : q < n = omega (arith, e, d, k) in
+    let i : g p ≡ g n = ap g e in let j : g q ≤ sum_below g n = le-sum g q n k' in omega (arith, i, j)))
+    (λ y. by_test (q == n)
+    (λ z. (let e : q ≡ n = eqb-true q n z in let i : g q ≡ g n = ap g e in let j : g p ≤ sum_below g n = le-sum g p n (below p n h y) in omega (arith, i, j)))
+    (λ z. (let j : g p + g q ≤ sum_below g n = two-sum g p q n (below p n h y) (below q n k z) ne in omega (arith, j))))
 
 pub same_lock-true : (a b : LockId) → same_lock a b ≡ true → a ≡ b
 same_lock-true (OfPage p) (OfPage q) h = ap (λ (n : ℕ). OfPage n) (eqb-true p q h)

@@ -103,7 +103,7 @@ module _ (o : Opening) (w : World) (me : ℕ) (lp : Lp) (c : Call) (Q : Event �
   of_entered g [] = of_guest g g.leaving
   of_entered g (x ∷ hs) = of_epoch g x (is_epoch_lock x.lock)
 
-  of_line : (g : Option Guest) → Q (line_event o w lp (row_of o me c) g)
+  pub of_line : (g : Option Guest) → Q (line_event o w lp (row_of o me c) g)
   of_line None = calls (next_in ((row_of o me c).items w) lp.call.phase lp.call.held)
   of_line (Some g) = of_entered g lp.call.held
 

@@ -5,26 +5,28 @@ use Rattle.mrtd_measure.specs.Records.{page_record, chunk_records}
 use Rattle.td_words.specs.declared.machines.Machine.{Machine}
 use Rattle.td_words.specs.declared.names.OpState.TheVariants.{Runnable}
 use Rattle.td_words.specs.declared.names.ReadField.TheVariants.{Mrtd}
+use Rattle.td_words.specs.declared.names.Mode.{Mode}
 use Rattle.td_words.specs.declared.replies.Value.TheVariants.{Digest}
 use Rattle.td_words.specs.declared.refusals.Status.{Status}
 use Rattle.td_words.specs.declared.refusals.Status.TheVariants.{OperandInvalid}
 use Rattle.td_words.specs.declared.replies.Value.{Value}
+use Rattle.td_words.specs.declared.replies.Outcome.{Outcome}
 use Rattle.td_words.specs.declared.replies.Reply.{Reply}
 use Rattle.td_words.specs.declared.replies.Reply.TheVariants.{Done, Refused}
 use Rattle.td_words.specs.declared.calls.Call.{Call}
 use Rattle.td_words.specs.declared.calls.Call.TheVariants as call
 use Rattle.td_words.specs.Packing.{Entry}
 use Rattle.flat_core.specs.World.{World, Pages, Tds, put, Made}
-use Rattle.flat_core.specs.Processor.{LockId, Lp, nothing_yet}
-use Rattle.flat_core.specs.Locks.{holders, sharers, one_if}
+use Rattle.flat_core.specs.Processor.{LockId, OfOp, OfTree, Lp, nothing_yet}
+use Rattle.flat_core.specs.Locks.{alone_of, shared_of, refused_of, holders, sharers, grants, one_if}
 use Rattle.flat_core.specs.Opening.{Opening, Agree, blind, public_bundle}
-use Rattle.flat_core.specs.Row.{Passes, Succeeds, Row, Move, tries_in}
+use Rattle.flat_core.specs.Row.{Passes, Attempts, Succeeds, Row, OperationRow, Move, tries_in}
 use Rattle.flat_core.specs.Conditions.{is_host_in}
 use Rattle.flat_core.specs.Tree.{entry_at}
 use Rattle.flat_core.specs.TdRows.{read_td, finalize}
 use Rattle.flat_core.specs.MemRows.{chunk_bytes}
 use Rattle.flat_core.specs.Table.{row_of}
-use Rattle.flat_core.specs.Event.{State, Event, OfCall, OfOperation, Reaches, Leaves, start, lines_left, next_event, event, world_after}
+use Rattle.flat_core.specs.Event.{State, Event, OfCall, OfOperation, Reaches, Leaves, start, lines_left, next_event, event, world_after, operation_told, lp_after}
 use Rattle.flat_core.specs.Run.{play, run, run_told, told_in, bundles_in}
 use Rattle.flat_core.specs.HostText.{host_text, text_of}
 use Rattle.flat_core.specs.Lawful.{IsAlive, Lawful, RowKeeps, is_free, is_named_kind}
@@ -107,6 +109,21 @@ abbrev pub LocksExclude : Type 0
 LocksExclude = (o : Opening) (words_to_tell : Option (List ℕ)) (schedule : List ℕ) (l : LockId)
     → let s = reached o words_to_tell schedule in IsSole (holders s.lps s.lp_count l) (sharers s.lps s.lp_count l)
 
+-- a processor that has nothing to do with a lock: it neither holds it nor is being refused it
+pub record IsAway (l : LockId) (lp : Lp) : Type 0 where
+  pub alone : alone_of l lp ≡ 0
+  pub shared : shared_of l lp ≡ 0
+  pub refused : refused_of l lp ≡ 0
+
+-- The tree lock of a TD can't be busy for a processor that holds the TD's op state lock alone: every other processor is
+-- away from it, and the try of it by that processor is granted in either mode.
+pub record TreeIsNeverBusy : Type 0 where
+  pub others : (o : Opening) (words_to_tell : Option (List ℕ)) (schedule : List ℕ) (t p q : ℕ)
+      → let s = reached o words_to_tell schedule in 1 ≤ alone_of (OfOp t) (s.lps p) → q ≢ p → IsAway (OfTree t) (s.lps q)
+  pub granted : (o : Opening) (words_to_tell : Option (List ℕ)) (schedule : List ℕ) (t p : ℕ) (row : Row) (mode : Mode)
+      → let s = reached o words_to_tell schedule in 1 ≤ alone_of (OfOp t) (s.lps p) → next_event o s p ≡ Some (OfCall row (Attempts (OfTree t) mode))
+      → grants s.lps s.lp_count (OfTree t) mode ≡ true
+
 -- What is printed is the same whatever the private words are: as with every private word 0, where guests tell the same.
 abbrev pub BlindRunsPrintTheSame : Type 0
 BlindRunsPrintTheSame = (o : Opening) (schedule : List ℕ)
@@ -173,6 +190,22 @@ memory_of e words = if is_free e.state then None else Some (words e.page)
 abbrev pub GuestsKnowTheirPages : Type 0
 GuestsKnowTheirPages = (o : Opening) (words_to_tell : Option (List ℕ)) (schedule : List ℕ) (t n : ℕ) → let w = (reached o words_to_tell schedule).world in
     IsAlive w.pages w.tds t → w.hidden.memories t n ≡ memory_of (w.tds.entries t 0 n) w.words
+
+-- Told words: the lists of all processors are merged into one, which grows by the words that one of them grows by.
+pub data AreMerged : (ℕ → List ℕ) → List ℕ → Type 0 where
+  nothing_told : AreMerged (λ p. []) []
+  more_told : (own : ℕ → List ℕ) (all : List ℕ) (p : ℕ) (words : List ℕ) → AreMerged own all → AreMerged (put own p (own p ++ words)) (all ++ words)
+
+-- The world's list of told words is a merge of those of the processors.
+abbrev pub ToldAreMerged : Type 0
+ToldAreMerged = (o : Opening) (words_to_tell : Option (List ℕ)) (schedule : List ℕ) → let s = reached o words_to_tell schedule in AreMerged (λ p. (s.lps p).told) s.world.outgoing.told
+
+-- An operation, whatever its row is, where its act leaves that list as it is: its event puts the words that it tells at the
+-- end of the world's list and of its processor's.
+abbrev pub OperationsTellBoth : Type 0
+OperationsTellBoth = (w : World) (granted : Bool) (row : OperationRow) (move : Move (Option Outcome)) (lp : Lp) → (row.act w).outgoing.told ≡ w.outgoing.told
+    → let e = OfOperation row move in
+    ((world_after e w).outgoing.told ≡ w.outgoing.told ++ operation_told w row move) × ((lp_after w granted e lp).told ≡ lp.told ++ operation_told w row move)
 
 -- Two worlds, further
 

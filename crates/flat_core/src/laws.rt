@@ -2,7 +2,7 @@
 
 ghost use Rattle.flat_core.specs.Worked.{Examples};
 ghost use Rattle.flat_core.specs.Bounds.{RowsTryFew, EventsRunOut, RunsEnd};
-ghost use Rattle.flat_core.specs.Laws.{RowsKeep, RowsAreBlind, MrtdIsTheDigest, RecordsAreMeasured, EveryWorldIsLawful, EveryPageIsOwned, OthersStay, QuietEventsStay, NoWordsToTell, LocksExclude, BlindRunsPrintTheSame, BlindRunsMakeTheSameBundles, AgreeingRunsShowTheSame, RefusedCallsStay, QuietCallsKeep, RefusalsLeaveTheirReply, RowsTryTheSame, CallsHaveTheirEvents, EventsKeepLawful, EveryMrtdIsTheDigest, EventsMeasure, PagesHaveOneUse, GuestsKnowTheirPages};
+ghost use Rattle.flat_core.specs.Laws.{RowsKeep, RowsAreBlind, MrtdIsTheDigest, RecordsAreMeasured, EveryWorldIsLawful, EveryPageIsOwned, OthersStay, QuietEventsStay, NoWordsToTell, LocksExclude, TreeIsNeverBusy, BlindRunsPrintTheSame, BlindRunsMakeTheSameBundles, AgreeingRunsShowTheSame, RefusedCallsStay, QuietCallsKeep, RefusalsLeaveTheirReply, RowsTryTheSame, CallsHaveTheirEvents, EventsKeepLawful, EveryMrtdIsTheDigest, EventsMeasure, PagesHaveOneUse, GuestsKnowTheirPages, ToldAreMerged, OperationsTellBoth};
 
 /// The worked examples: replies of small runs, and how many events they take.
 pub fn worked_examples()
@@ -54,6 +54,12 @@ pub fn lock_law()
     ensures { LocksExclude }
 {}
 
+/// The tree lock of a TD can't be busy for a processor that holds the TD's op state lock alone: no
+/// other holds it or is being refused it, and a try of it is granted in either mode.
+pub fn tree_lock_law()
+    ensures { TreeIsNeverBusy }
+{}
+
 /// Every call tries as many locks as the leaf table says at most, and ends after a number of its own
 /// events that this bounds, whatever the other processors do: 2n + 1 where it succeeds with n locks,
 /// and one where it is refused for an argument. At the end of a run no processor has an event left.
@@ -84,4 +90,11 @@ pub fn measurement_laws()
 /// After any schedule, what the guest of a TD knows of a private page is what the page holds.
 pub fn memory_law()
     ensures { GuestsKnowTheirPages }
+{}
+
+/// After any schedule, the words that guests told, in the order of the events, are a merge of those
+/// that each processor recorded: an operation that tells words puts the same ones at the end of both.
+pub fn told_law()
+    ensures merged { ToldAreMerged }
+    ensures both { OperationsTellBoth }
 {}

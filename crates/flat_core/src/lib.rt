@@ -12,6 +12,6 @@ mod rights;
 
 pub use laws::{
     end_laws, event_laws, lawful_law, lock_law, measurement_laws, memory_law, ownership_law,
-    row_laws, two_world_law, worked_examples,
+    row_laws, told_law, tree_lock_law, two_world_law, worked_examples,
 };
 pub use rights::{allows, tracked};

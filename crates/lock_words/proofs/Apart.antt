@@ -9,7 +9,7 @@ use Rattle.flat_core.specs.Laws.{IsSole}
 use Rattle.flat_core.proofs.Tests.{by_test}
 use Rattle.word_rules.specs.Guards.{Guard, Locked, Reached, Written, Parted}
 use Rattle.lock_words.specs.Grips.{holds, holds_alone, operation_locks, locks_of, reaches, none_reaches, has_of, sole_of, clear_of, grip_of, IsExclusive, GripsAreApart, GripsAreWhole}
-use Rattle.lock_words.proofs.Sums.{le-sum, two-sum}
+use Rattle.flat_core.proofs.LockLaw.{le-sum, two-sum}
 
 alone-more : (l : LockId) (a b : List Held) → alone_in l (a ++ b) ≡ alone_in l a + alone_in l b
 alone-more l [] b = omega arith

@@ -1,5 +1,5 @@
 -- In every state that a run reaches each processor holds few locks, and its next event is one that lock words follow.
-use Rattle.std.proofs.Common.{◌≡◌, refl, sym, subst, ℕ, zero, suc, ◌+◌, ◌*◌, ◌^◌, ◌<◌, ◌≤◌, Bool, true, false, ◌==◌, List, [], ◌∷◌, length, length-append, drop, arith}
+use Rattle.std.proofs.Common.{◌≡◌, refl, sym, subst, ℕ, zero, suc, ◌+◌, ◌*◌, ◌^◌, ◌<◌, ◌≤◌, Bool, true, false, ◌==◌, List, [], ◌∷◌, length, length-append, arith}
 use Rattle.std.specs.Prelude.{Option, Some, None}
 use Rattle.td_words.specs.declared.names.Mode.{Mode}
 use Rattle.td_words.specs.declared.names.Mode.TheVariants.{Shared, Exclusive}
@@ -13,10 +13,10 @@ use Rattle.flat_core.specs.Opening.{Opening}
 use Rattle.flat_core.specs.Row.{Item, Check, Try, Row, Move, Attempts, Undoes, Refuses, Succeeds, Releases, Rests, next, next_in, tries_in}
 use Rattle.flat_core.specs.Table.{row_of, most_tries}
 use Rattle.flat_core.specs.Bounds.{RowsTryFew}
-use Rattle.flat_core.specs.Event.{State, Event, OfCall, start, next_event, event_for, line_event, lines_left, calls_of, event, after_event, lp_after, call_lp, succeeded, settle, is_granted}
+use Rattle.flat_core.specs.Event.{State, Event, OfCall, start, next_event, event_for, line_event, lines_left, event, after_event, lp_after, call_lp, succeeded, settle, is_granted}
 use Rattle.flat_core.specs.Run.{play}
 use Rattle.flat_core.proofs.Tests.{by_test}
-use Rattle.flat_core.proofs.Ends.{row_enters}
+use Rattle.flat_core.proofs.Ends.{row_enters, below_calls}
 use Rattle.lock_words.specs.Grips.{operation_locks, locks_of}
 use Rattle.lock_words.specs.LockWords.{LetsGo, locks_held, RunsFollow}
 use Rattle.lock_words.proofs.Follow.{lock-words-follow}
@@ -122,15 +122,9 @@ sum-few lps (suc n) f = let k = sum-few lps n f in let a = locks-few (lps n) (f 
 
 -- a processor with a line left is one of the machine
 
-below-calls : (css : List (List Call)) (p k : ℕ) (c : Call) (cs : List Call) → drop k (calls_of css p) ≡ c ∷ cs → p < length css
-below-calls [] p zero c cs e = cc
-below-calls [] p (suc k) c cs e = cc
-below-calls (x ∷ css) zero k c cs e = omega arith
-below-calls (x ∷ css) (suc p) k c cs e = let b = below-calls css p k c cs e in omega (arith, b)
-
 has-line : (o : Opening) (w : World) (p : ℕ) (lp : Lp) (ls : List Call) (e : Event) → lines_left o p lp ≡ ls → event_for o w p lp ls ≡ Some e → p < length o.calls
 has-line o w p lp [] e is h = cc
-has-line o w p lp (c ∷ cs) e is h = below-calls o.calls p (length lp.replies) c cs is
+has-line o w p lp (c ∷ cs) e is h = below_calls o.calls p (length lp.replies) c cs is
 
 lets-go : (o : Opening) (w : World) (p : ℕ) (lp : Lp) (ls : List Call) (e : Event) → lp.guest ≡ None → event_for o w p lp ls ≡ Some e → LetsGo lp e
 lets-go o w p lp [] e g h = cc
