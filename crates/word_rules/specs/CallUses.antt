@@ -71,7 +71,7 @@ uses_of w (call.HostWrite page word value) = of_page page HostWrite ∷ []
 uses_of w (call.PhymemPageRdmd page) = of_page page PageRdmd ∷ []
 uses_of w call.PhymemCacheWb = of_keys CacheWb ∷ []
 uses_of w (call.PhymemPageReclaim tdr page) =
-    tdr_uses tdr ++ of_both tdr page Reclaim ∷ of_page page GivenBack ∷ of_both tdr page ReclaimsControl ∷ of_both tdr page ReclaimsRest ∷ []
+    tdr_uses tdr ++ of_page page HeadPage ∷ of_both tdr page Reclaim ∷ of_page page GivenBack ∷ of_both tdr page ReclaimsControl ∷ of_both tdr page ReclaimsRest ∷ []
 uses_of w (call.MngCreate tdr hkid) = taken_uses tdr ++ of_both tdr tdr MngCreate ∷ of_both tdr tdr GivesHkid ∷ []
 uses_of w (call.MngKeyConfig tdr) = tdr_uses tdr ++ of_td tdr KeyConfig ∷ []
 uses_of w (call.MngAddcx tdr page) = tdr_uses tdr ++ (taken_uses page ++ of_both tdr page Addcx ∷ [])
@@ -86,7 +86,7 @@ uses_of w (call.VpInit tdr vp value) = td_uses tdr ++ of_page vp HeadPage ∷ of
 uses_of w (call.MemSeptAdd tdr gpa level page) = td_uses tdr ++ (taken_uses page ++ of_td tdr SeptAdd ∷ [])
 uses_of w (call.MemSeptRd tdr gpa level) = td_uses tdr ++ of_td tdr SeptRd ∷ []
 uses_of w (call.MemPageAdd tdr gpa page source) =
-    td_uses tdr ++ (taken_uses page ++ of_page source HeadPage ∷ of_page source PageAddPages ∷ of_page page PageAddPages ∷ of_td tdr PageAdd ∷ of_td tdr AddsEntry ∷ [])
+    td_uses tdr ++ (of_page source HeadPage ∷ of_page source PageAddPages ∷ of_page page PageAddPages ∷ (taken_uses page ++ of_td tdr PageAdd ∷ of_td tdr AddsEntry ∷ []))
 
 -- the locks that are written of a use are had, as its TD and its page name them
 abbrev pub guards_of : CallUse → Role → Guard
