@@ -37,8 +37,9 @@ use Rattle.word_rules.specs.Views.{named_by}
 use Rattle.word_rules.specs.Cells.{one_of_parity, entered_of_parity}
 use Rattle.word_rules.specs.Spots.{spot, slot_spot, slot_of, page_spot, control_class, is_empty, is_at_end}
 use Rattle.word_rules.specs.Permissions.{MayAt, Moves, Respects}
+use Rattle.word_rules.specs.CallUses.{HoldsTries}
 use Rattle.word_rules.proofs.Conflicts.{respects-compose}
-use Rattle.act_rules.specs.Acts.{SameTd, HoldsTd, HoldsTries, RowsRespect}
+use Rattle.act_rules.specs.Acts.{SameTd, HoldsTd, RowsRespect}
 use Rattle.act_rules.proofs.Respected.{page-same, page-as, control-same, leaves, all-same, host-moves, at-end, effects-respect}
 
 owned : (k : PageKind) → (same_kind k kind.Nda ≡ true) ⊎ (same_kind k kind.Nda ≡ false)

@@ -1,21 +1,19 @@
 -- Which acts change what words are, and under which locks: for each word that acts are written in, that it changes that
 -- only as the rules say.
-use Rattle.std.specs.Prelude.{◌≡◌, ◌⊎◌, ℕ, true, false, List, [], ◌∷◌}
+use Rattle.std.specs.Prelude.{◌≡◌, ◌⊎◌, ℕ, true, false}
 use Rattle.td_words.specs.declared.names.PageKind.{PageKind}
 use Rattle.td_words.specs.declared.names.LifeState.{LifeState}
 use Rattle.td_words.specs.declared.names.OpState.{OpState}
 use Rattle.td_words.specs.declared.calls.Call.{Call}
-use Rattle.td_words.specs.declared.names.Mode.{Mode}
-use Rattle.td_words.specs.declared.names.Mode.TheVariants.{Shared, Exclusive}
 use Rattle.td_words.specs.declared.machines.Machine.{Machine}
 use Rattle.td_words.specs.Packing.{Entry, Key}
 use Rattle.td_words.specs.Place.{Word}
 use Rattle.flat_core.specs.World.{World}
-use Rattle.flat_core.specs.Processor.{LockId, OfPage, OfOp, OfTree, OfEpoch}
+use Rattle.flat_core.specs.Processor.{OfPage, OfOp, OfTree, OfEpoch}
 use Rattle.flat_core.specs.Lawful.{key_owner, Lawful}
 use Rattle.flat_core.specs.Conditions.{is_host}
 use Rattle.flat_core.specs.Opening.{Opening}
-use Rattle.flat_core.specs.Row.{Item, Check, Try, Passes}
+use Rattle.flat_core.specs.Row.{Passes}
 use Rattle.flat_core.specs.Table.{row_of}
 use Rattle.flat_core.specs.Effects.{take_node, set_entry, set_op, set_epoch, set_life, set_key, leave_guest}
 use Rattle.word_rules.specs.Guards.{Grip, Locked}
@@ -23,6 +21,7 @@ use Rattle.word_rules.specs.Permissions.{MayAt, Moves, Respects}
 use Rattle.word_rules.specs.Rules.{moves}
 use Rattle.word_rules.specs.Views.{named_by}
 use Rattle.word_rules.specs.Spots.{slot_spot, is_empty}
+use Rattle.word_rules.specs.CallUses.{HoldsTries}
 
 -- all that tells of a TD what its words are
 pub record SameTd (before after : World) (t : ℕ) : Type 0 where
@@ -69,16 +68,6 @@ pub record ActsRespect (g : Grip) (w : World) : Type 0 where
 
 abbrev pub EffectsRespect : Type 0
 EffectsRespect = (g : Grip) (w : World) → ActsRespect g w
-
--- the locks of a row's tries are held, each in its mode
-abbrev pub HoldsTry : Grip → LockId → Mode → Type 0
-HoldsTry g l Shared = g.has (Locked l) ≡ true
-HoldsTry g l Exclusive = (g.has (Locked l) ≡ true) × (g.sole (Locked l) ≡ true)
-
-abbrev pub HoldsTries : {R : Type 0} → Grip → List (Item R) → Type 0
-HoldsTries g [] = Unit {0}
-HoldsTries g (Check holds otherwise ∷ items) = HoldsTries g items
-HoldsTries g (Try l mode ∷ items) = HoldsTry g l mode × HoldsTries g items
 
 -- beside each row: its act changes what words are only as the rules say, under the locks of its tries
 abbrev pub RowsRespect : Type 0

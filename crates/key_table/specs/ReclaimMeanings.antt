@@ -28,7 +28,7 @@ use Rattle.word_rules.specs.Rules.{KeepsNothing}
 use Rattle.word_rules.specs.Lines.{Line, At, in_lines}
 use Rattle.word_rules.specs.Permissions.{Respects}
 use Rattle.word_rules.specs.Cells.{Shows, IsAs, cell, page_cell, control_cell, root_cell, entry_cell, if_stands, lock_word, tdr_lines, built_hasher, hasher_cell}
-use Rattle.act_rules.specs.Acts.{HoldsTries}
+use Rattle.word_rules.specs.CallUses.{HoldsTries}
 use Rattle.act_rules.proofs.Rows.{rows-respect}
 use Rattle.leaf_engine.specs.declared.needs.Place.{Place}
 use Rattle.lock_words.specs.Grips.{holds, holds_alone}

@@ -6,3 +6,4 @@ pub mod Lines
 pub mod Cells
 pub mod Spots
 pub mod Permissions
+pub mod CallUses

@@ -3,6 +3,7 @@
 ghost use Rattle.word_rules.specs.Rules.{RulesClash};
 ghost use Rattle.word_rules.specs.Views.{ViewsAreKept};
 ghost use Rattle.word_rules.specs.Uses.{LeafTableFits};
+ghost use Rattle.word_rules.specs.CallUses.{ListsAreRows};
 ghost use Rattle.word_rules.specs.Permissions.{WordsNeverConflict, ActsNeverConflict, RespectsCompose};
 ghost use Rattle.word_rules.specs.Cells.{StartIsShown};
 
@@ -24,8 +25,11 @@ pub fn views_are_kept()
 /// fit the locks that are written beside them. Three of these, for the words of RELOCATE and
 /// EXPORT.MEM and of `accept`, have *no change* or *no reach* besides, from a law of accesses that
 /// isn't proved yet. A rule that is met by a list of wants is met by each grip that meets them.
+/// Of each call that has a row, whoever holds what the row tries has the locks that are written of
+/// the call's uses (`rows`).
 pub fn leaf_table_fits()
-    ensures { LeafTableFits }
+    ensures lists { LeafTableFits }
+    ensures rows { ListsAreRows }
 {}
 
 /// What one processor may store, or has still to store, is never what another reads as stable, at

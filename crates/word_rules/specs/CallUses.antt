@@ -1,0 +1,101 @@
+-- The uses of each call that has a row, with the TD and the page whose words they are of; and that a row gets the locks
+-- that are written of its call's uses.
+use Rattle.std.specs.Prelude.{◌≡◌, ℕ, true, List, [], ◌∷◌, ◌++◌}
+use Rattle.td_words.specs.declared.names.Mode.{Mode}
+use Rattle.td_words.specs.declared.names.Mode.TheVariants.{Shared, Exclusive}
+use Rattle.td_words.specs.declared.names.ReadField.{ReadField}
+use Rattle.td_words.specs.declared.names.ReadField.TheVariants as field
+use Rattle.td_words.specs.declared.calls.Call.{Call}
+use Rattle.td_words.specs.declared.calls.Call.TheVariants as call
+use Rattle.flat_core.specs.World.{World}
+use Rattle.flat_core.specs.Processor.{LockId}
+use Rattle.flat_core.specs.Opening.{Opening}
+use Rattle.flat_core.specs.Row.{Item, Check, Try}
+use Rattle.flat_core.specs.Tree.{entry_at}
+use Rattle.flat_core.specs.Table.{row_of}
+use Rattle.word_rules.specs.Guards.{Guard, Locked, Role, Grip, MeetsAll}
+use Rattle.word_rules.specs.Rules.{Unused}
+use Rattle.word_rules.specs.Views.{no_page}
+use Rattle.word_rules.specs.Uses.{Use, HeadPage, HeadTdr, HeadOp, Taken, GivenBack, HostRead, HostWrite, PageRdmd, CacheWb, Reclaim, MngCreate, KeyConfig, Addcx, MngInit, MngRdLife, MngRdOp, MngRdEpoch, VpFlushDone, KeyFreeid, MrExtend, MrFinalize, VpCreate, VpInit, SeptAdd, SeptRd, PageAdd, PageAddPages, TakesPage, ReclaimsControl, ReclaimsRest, AddsEntry, ChangesOp, BeginsEpochs, GivesHkid, FreesHkid, line_of}
+use Rattle.word_rules.specs.Spots.{guard_at}
+
+-- the locks of a row's tries are held, each in its mode
+abbrev pub HoldsTry : Grip → LockId → Mode → Type 0
+HoldsTry g l Shared = g.has (Locked l) ≡ true
+HoldsTry g l Exclusive = (g.has (Locked l) ≡ true) × (g.sole (Locked l) ≡ true)
+
+abbrev pub HoldsTries : {R : Type 0} → Grip → List (Item R) → Type 0
+HoldsTries g [] = Unit {0}
+HoldsTries g (Check holds otherwise ∷ items) = HoldsTries g items
+HoldsTries g (Try l mode ∷ items) = HoldsTry g l mode × HoldsTries g items
+
+-- a use of words of this TD and of this page, where it is of any
+pub record CallUse : Type 0 where
+  pub does : Use
+  pub tdr : ℕ
+  pub page : ℕ
+
+abbrev pub of_td : ℕ → Use → CallUse
+of_td t u = record { does = u; tdr = t; page = no_page }
+
+abbrev pub of_page : ℕ → Use → CallUse
+of_page p u = record { does = u; tdr = no_page; page = p }
+
+abbrev pub of_both : (tdr page : ℕ) → Use → CallUse
+of_both t p u = record { does = u; tdr = t; page = p }
+
+abbrev pub of_keys : Use → CallUse
+of_keys u = record { does = u; tdr = no_page; page = no_page }
+
+-- what the beginnings of rows do: of those that begin and end a TD's life, and of a TD's calls; and a host page that is
+-- taken
+abbrev pub tdr_uses : ℕ → List CallUse
+tdr_uses t = of_page t HeadPage ∷ of_td t HeadTdr ∷ []
+
+abbrev pub td_uses : ℕ → List CallUse
+td_uses t = of_page t HeadPage ∷ of_td t HeadTdr ∷ of_td t HeadOp ∷ []
+
+abbrev pub taken_uses : ℕ → List CallUse
+taken_uses p = of_page p Taken ∷ of_page p TakesPage ∷ []
+
+abbrev pub read_uses : ℕ → ReadField → List CallUse
+read_uses t field.Life = of_page t HeadPage ∷ of_td t MngRdLife ∷ []
+read_uses t field.Op = td_uses t ++ of_td t MngRdOp ∷ []
+read_uses t field.Epoch = td_uses t ++ of_td t MngRdEpoch ∷ []
+read_uses t field.Mrtd = td_uses t ++ of_td t MngRdOp ∷ []
+
+-- the uses of a call, in the order of the leaf table
+abbrev pub uses_of : World → Call → List CallUse
+uses_of w (call.HostRead page word) = of_page page HostRead ∷ []
+uses_of w (call.HostWrite page word value) = of_page page HostWrite ∷ []
+uses_of w (call.PhymemPageRdmd page) = of_page page PageRdmd ∷ []
+uses_of w call.PhymemCacheWb = of_keys CacheWb ∷ []
+uses_of w (call.PhymemPageReclaim tdr page) =
+    tdr_uses tdr ++ of_page page HeadPage ∷ of_both tdr page Reclaim ∷ of_page page GivenBack ∷ of_both tdr page ReclaimsControl ∷ of_both tdr page ReclaimsRest ∷ []
+uses_of w (call.MngCreate tdr hkid) = taken_uses tdr ++ of_both tdr tdr MngCreate ∷ of_both tdr tdr GivesHkid ∷ []
+uses_of w (call.MngKeyConfig tdr) = tdr_uses tdr ++ of_td tdr KeyConfig ∷ []
+uses_of w (call.MngAddcx tdr page) = tdr_uses tdr ++ (taken_uses page ++ of_both tdr page Addcx ∷ [])
+uses_of w (call.MngInit tdr) = td_uses tdr ++ of_td tdr MngInit ∷ of_td tdr BeginsEpochs ∷ []
+uses_of w (call.MngRd tdr f) = read_uses tdr f
+uses_of w (call.MngVpflushdone tdr) = tdr_uses tdr ++ of_td tdr VpFlushDone ∷ []
+uses_of w (call.MngKeyFreeid tdr) = tdr_uses tdr ++ of_td tdr KeyFreeid ∷ of_td tdr FreesHkid ∷ []
+uses_of w (call.MrExtend tdr gpa) = td_uses tdr ++ of_both tdr (entry_at w tdr 0 gpa).page MrExtend ∷ []
+uses_of w (call.MrFinalize tdr) = td_uses tdr ++ of_td tdr MrFinalize ∷ of_td tdr ChangesOp ∷ []
+uses_of w (call.VpCreate tdr page) = td_uses tdr ++ (taken_uses page ++ of_both tdr page VpCreate ∷ [])
+uses_of w (call.VpInit tdr vp value) = td_uses tdr ++ of_page vp HeadPage ∷ of_both tdr vp VpInit ∷ []
+uses_of w (call.MemSeptAdd tdr gpa level page) = td_uses tdr ++ (taken_uses page ++ of_td tdr SeptAdd ∷ [])
+uses_of w (call.MemSeptRd tdr gpa level) = td_uses tdr ++ of_td tdr SeptRd ∷ []
+uses_of w (call.MemPageAdd tdr gpa page source) =
+    td_uses tdr ++ (of_page source HeadPage ∷ of_page source PageAddPages ∷ of_page page PageAddPages ∷ (taken_uses page ++ of_td tdr PageAdd ∷ of_td tdr AddsEntry ∷ []))
+
+-- the locks that are written of a use are had, as its TD and its page name them
+abbrev pub guards_of : CallUse → Role → Guard
+guards_of u = guard_at (record { class = Unused; td = u.tdr; page = u.page; named = u.page })
+
+abbrev pub MeetsEach : Grip → List CallUse → Type 0
+MeetsEach g [] = Unit {0}
+MeetsEach g (u ∷ us) = MeetsAll g (guards_of u) (line_of u.does).locks × MeetsEach g us
+
+-- Whoever holds what the row of a call tries has the locks that are written of each of the call's uses.
+abbrev pub ListsAreRows : Type 0
+ListsAreRows = (o : Opening) (me : ℕ) (c : Call) (w : World) (g : Grip) → HoldsTries g ((row_of o me c).items w) → MeetsEach g (uses_of w c)
