@@ -18,3 +18,4 @@ pub mod TwoWorlds
 pub mod Refused
 pub mod RefusedKeep
 pub mod Counts
+pub mod Replies
