@@ -20,3 +20,4 @@ pub mod Refused
 pub mod RefusedKeep
 pub mod Counts
 pub mod TreeLock
+pub mod Replies

@@ -27,7 +27,7 @@ settle_ends (Answered x) (y ∷ hs) lp base r e h = absurd (let l = ap length (s
 settle_ends Trying hs lp base r e h = absurd (let l = ap length (sym e ∙ h) in omega (arith, l, length-append base (r ∷ [])))
 settle_ends (Undoing x) hs lp base r e h = absurd (let l = ap length (sym e ∙ h) in omega (arith, l, length-append base (r ∷ [])))
 
-same_replies : (w : World) (b : Bool) (row : Row) (move : Move Reply) (lp : Lp) → (call_lp w b row move lp).replies ≡ lp.replies
+pub same_replies : (w : World) (b : Bool) (row : Row) (move : Move Reply) (lp : Lp) → (call_lp w b row move lp).replies ≡ lp.replies
 same_replies w b row (Attempts l m) lp = refl
 same_replies w b row (Undoes l) lp = refl
 same_replies w b row (Refuses r) lp = refl

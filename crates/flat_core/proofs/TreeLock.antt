@@ -17,7 +17,7 @@ use Rattle.flat_core.specs.Locks.{same_lock, is_alone, alone_in, shared_in, refu
 use Rattle.flat_core.specs.Opening.{Opening}
 use Rattle.flat_core.specs.Row.{Item, Check, Try, Row, Move, Attempts, next, next_in}
 use Rattle.flat_core.specs.Conditions.{page_exclusive, host_page}
-use Rattle.flat_core.specs.Tree.{entry_at, same_state, state_in}
+use Rattle.flat_core.specs.Tree.{entry_at, same_state, state_in, levels_above}
 use Rattle.flat_core.specs.KeyRows.{reclaim_conditions}
 use Rattle.flat_core.specs.Table.{row_of}
 use Rattle.flat_core.specs.Event.{State, Event, OfCall, start, next_event, event_for, line_event, lines_left, calls_of, after_event, lp_after, call_lp, succeeded, settled, settle, call_busy, is_granted}
@@ -25,7 +25,7 @@ use Rattle.flat_core.specs.Laws.{reached, IsAway, TreeIsNeverBusy}
 use Rattle.flat_core.proofs.Tests.{by_test}
 use Rattle.flat_core.proofs.Induction.{play_keeps, counts_stay}
 use Rattle.flat_core.proofs.LockLaw.{locks_exclude, le-sum, two-sum}
-use Rattle.flat_core.proofs.Ends.{next_is, row_enters, drop_next, below_calls, levels_above}
+use Rattle.flat_core.proofs.Ends.{next_is, row_enters, drop_next, below_calls}
 
 -- the locks that a row tries, but which page's
 abbrev but_page : LockId → Option LockId

@@ -24,4 +24,5 @@ pub mod Lawful
 pub mod Alike
 pub mod Laws
 pub mod Bounds
+pub mod Replies
 pub mod Worked

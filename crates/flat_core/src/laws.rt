@@ -2,6 +2,7 @@
 
 ghost use Rattle.flat_core.specs.Worked.{Examples};
 ghost use Rattle.flat_core.specs.Bounds.{RowsTryFew, EventsRunOut, RunsEnd};
+ghost use Rattle.flat_core.specs.Replies.{RepliesComeOneByOne, RepliesAreToLines, EveryLineIsAnswered};
 ghost use Rattle.flat_core.specs.Laws.{RowsKeep, RowsAreBlind, MrtdIsTheDigest, RecordsAreMeasured, EveryWorldIsLawful, EveryPageIsOwned, OthersStay, QuietEventsStay, NoWordsToTell, LocksExclude, TreeIsNeverBusy, BlindRunsPrintTheSame, BlindRunsMakeTheSameBundles, AgreeingRunsShowTheSame, RefusedCallsStay, QuietCallsKeep, RefusalsLeaveTheirReply, RowsTryTheSame, CallsHaveTheirEvents, EventsKeepLawful, EveryMrtdIsTheDigest, EventsMeasure, PagesHaveOneUse, GuestsKnowTheirPages, ToldAreMerged, OperationsTellBoth};
 
 /// The worked examples: replies of small runs, and how many events they take.
@@ -63,12 +64,17 @@ pub fn tree_lock_law()
 /// Every call tries as many locks as the leaf table says at most, and ends after a number of its own
 /// events that this bounds, whatever the other processors do: 2n + 1 where it succeeds with n locks,
 /// and one where it is refused for an argument. At the end of a run no processor has an event left.
+/// An event brings one reply or none; after any schedule a processor has no more replies than lines,
+/// and at the end of a run it has exactly one for each.
 pub fn end_laws()
     ensures tries { RowsTryFew }
     ensures runs_out { EventsRunOut }
     ensures runs_end { RunsEnd }
     ensures same_tries { RowsTryTheSame }
     ensures events { CallsHaveTheirEvents }
+    ensures one_reply { RepliesComeOneByOne }
+    ensures no_more { RepliesAreToLines }
+    ensures every_line { EveryLineIsAnswered }
 {}
 
 /// What a run prints, and the public part of the bundles that it makes, are the same whatever the

@@ -1,5 +1,6 @@
 use Rattle.flat_core.proofs.Counts.{rows_try_the_same, calls_have_their_events}
 use Rattle.flat_core.proofs.Ends.{row_tries, runs_out, runs_end}
+use Rattle.flat_core.proofs.Replies.{replies_one_by_one, replies_to_lines, every_line_answered}
 use Rattle.flat_core.proofs.laws.end_laws.Goals as goal
 
 pub returns-clause-tries : goal.returns-clause-tries
@@ -16,3 +17,12 @@ returns-clause-same_tries c = rows_try_the_same
 
 pub returns-clause-events : goal.returns-clause-events
 returns-clause-events c = calls_have_their_events
+
+pub returns-clause-one_reply : goal.returns-clause-one_reply
+returns-clause-one_reply c = replies_one_by_one
+
+pub returns-clause-no_more : goal.returns-clause-no_more
+returns-clause-no_more c = replies_to_lines
+
+pub returns-clause-every_line : goal.returns-clause-every_line
+returns-clause-every_line c = every_line_answered
