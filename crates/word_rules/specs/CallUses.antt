@@ -1,5 +1,5 @@
--- The uses of each call that has a row, with the TD and the page whose words they are of; and that a row gets the locks
--- that are written of its call's uses.
+-- The uses of each call that has a row, with the TD and the page whose words they are of; and that the row gets the locks
+-- that are written of them.
 use Rattle.std.specs.Prelude.{◌≡◌, ℕ, true, List, [], ◌∷◌, ◌++◌}
 use Rattle.td_words.specs.declared.names.Mode.{Mode}
 use Rattle.td_words.specs.declared.names.Mode.TheVariants.{Shared, Exclusive}
@@ -29,7 +29,7 @@ HoldsTries g [] = Unit {0}
 HoldsTries g (Check holds otherwise ∷ items) = HoldsTries g items
 HoldsTries g (Try l mode ∷ items) = HoldsTry g l mode × HoldsTries g items
 
--- a use of words of this TD and of this page, where it is of any
+-- a use of words of this TD and of this page; `no_page` where it is of none
 pub record CallUse : Type 0 where
   pub does : Use
   pub tdr : ℕ
@@ -71,7 +71,8 @@ uses_of w (call.HostWrite page word value) = of_page page HostWrite ∷ []
 uses_of w (call.PhymemPageRdmd page) = of_page page PageRdmd ∷ []
 uses_of w call.PhymemCacheWb = of_keys CacheWb ∷ []
 uses_of w (call.PhymemPageReclaim tdr page) =
-    tdr_uses tdr ++ of_page page HeadPage ∷ of_both tdr page Reclaim ∷ of_page page GivenBack ∷ of_both tdr page ReclaimsControl ∷ of_both tdr page ReclaimsRest ∷ []
+    tdr_uses tdr ++ of_page page HeadPage ∷ of_both tdr page Reclaim ∷ of_page page GivenBack
+    ∷ of_both tdr page ReclaimsControl ∷ of_both tdr page ReclaimsRest ∷ []
 uses_of w (call.MngCreate tdr hkid) = taken_uses tdr ++ of_both tdr tdr MngCreate ∷ of_both tdr tdr GivesHkid ∷ []
 uses_of w (call.MngKeyConfig tdr) = tdr_uses tdr ++ of_td tdr KeyConfig ∷ []
 uses_of w (call.MngAddcx tdr page) = tdr_uses tdr ++ (taken_uses page ++ of_both tdr page Addcx ∷ [])
@@ -86,7 +87,8 @@ uses_of w (call.VpInit tdr vp value) = td_uses tdr ++ of_page vp HeadPage ∷ of
 uses_of w (call.MemSeptAdd tdr gpa level page) = td_uses tdr ++ (taken_uses page ++ of_td tdr SeptAdd ∷ [])
 uses_of w (call.MemSeptRd tdr gpa level) = td_uses tdr ++ of_td tdr SeptRd ∷ []
 uses_of w (call.MemPageAdd tdr gpa page source) =
-    td_uses tdr ++ (of_page source HeadPage ∷ of_page source PageAddPages ∷ of_page page PageAddPages ∷ (taken_uses page ++ of_td tdr PageAdd ∷ of_td tdr AddsEntry ∷ []))
+    td_uses tdr ++ (of_page source HeadPage ∷ of_page source PageAddPages ∷ of_page page PageAddPages
+    ∷ (taken_uses page ++ of_td tdr PageAdd ∷ of_td tdr AddsEntry ∷ []))
 
 -- the locks that are written of a use are had, as its TD and its page name them
 abbrev pub guards_of : CallUse → Role → Guard
@@ -98,4 +100,5 @@ MeetsEach g (u ∷ us) = MeetsAll g (guards_of u) (line_of u.does).locks × Meet
 
 -- Whoever holds what the row of a call tries has the locks that are written of each of the call's uses.
 abbrev pub ListsAreRows : Type 0
-ListsAreRows = (o : Opening) (me : ℕ) (c : Call) (w : World) (g : Grip) → HoldsTries g ((row_of o me c).items w) → MeetsEach g (uses_of w c)
+ListsAreRows = (o : Opening) (me : ℕ) (c : Call) (w : World) (g : Grip)
+    → HoldsTries g ((row_of o me c).items w) → MeetsEach g (uses_of w c)

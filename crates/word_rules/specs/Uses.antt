@@ -1,6 +1,6 @@
 -- The whole leaf table against the rules, written by hand: for each call and guest operation its loads, its act, its later
--- stores and its fills, each with the locks that its row has got by then (ABI Reference, "TDH leaf functions"; "TDG leaf
--- functions"). Own and named are those of one page in each use.
+-- stores and its fills, each with locks that its row gets (ABI Reference, "TDH leaf functions"; "TDG leaf functions"). Own
+-- and named are those of one page in each use.
 use Rattle.std.specs.Prelude.{◌≡◌, Bool, true, false, ◌&&◌, ◌||◌, List, [], ◌∷◌, ◌++◌}
 use Rattle.word_rules.specs.Guards.{Guard, Role, Tdr, Op, Tree, Epoch, Rtmr, Own, Named, Keys, Reach, Change, Want, Has, Sole, Clear, Rule, Grip, HasWhatIsSole, MeetsAll, Meets, same_role}
 use Rattle.word_rules.specs.Rules.{Class, TdLock, PamtWord, KeyWord, HostWord, GuestWord, TdrWord, ChildCount, TdcsWord, TdEpoch, EpochCount, RtmrWord, DirtyWord, UpperEntry, LeafEntry, Association, VcpuWord, StreamWord, Unused, Hasher, FreeSlot, Whole, ThePage, TheRights, KeepsNothing, KeepsPage, KeepsRights, reads, sees, writes, owes, fills, moves}
@@ -172,7 +172,7 @@ pub data Use : Type 0 where
   GivesHkid : Use
   FreesHkid : Use
 
--- what is written of a use: the locks that its row has got, and the rules for what it does at words
+-- what is written of a use: locks that its row gets, and the rules for what it does at words
 pub record UseLine : Type 0 where
   pub locks : List Want
   pub rules : List Rule
