@@ -9,4 +9,5 @@ pub mod Calling
 pub mod Untouched
 pub mod Turning
 pub mod Beginning
+pub mod OnTheWay
 pub mod Pieces

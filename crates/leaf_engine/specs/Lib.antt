@@ -12,3 +12,4 @@ pub mod Processors
 pub mod Merges
 pub mod Shown
 pub mod Calls
+pub mod Reached

@@ -4,8 +4,9 @@ ghost use Rattle.leaf_engine.specs.Follows.{LeavesFollowRows};
 ghost use Rattle.leaf_engine.specs.Shown.{TurnsShow};
 ghost use Rattle.leaf_engine.specs.Calls.{CallsBegin, CallsFollow, StartIsMet};
 ghost use Rattle.leaf_engine.specs.OwnLists.{TurnsInPieces};
+ghost use Rattle.leaf_engine.specs.Reached.{ReachedIsMet};
 
-use lock_words::{lock_steps_shown, lock_words_follow};
+use lock_words::{lock_steps_shown, lock_words_follow, reached_locks_stand};
 use step_core::pages_change_alone;
 use td_words::places_injective;
 
@@ -27,19 +28,24 @@ pub fn turns_show()
     pages_change_alone();
 }
 
-/// Words that are all 0 show the start. A run of a call's leaf begins where its processor does. From then on, over words that show a
+/// A run of a call's leaf begins where its processor does. From then on, over words that show a
 /// lawful state, each turn is the next event of that processor in the flat machine: its steps leave
-/// words that show the state after that event, and the row's reply comes with the last one.
+/// words that show the state after that event, and the row's reply comes with the last one. What is
+/// asked of the state is so at the start, which words that are all 0 show, and in every state that
+/// a run of at most eight processors reaches.
 pub fn calls_follow()
     ensures start { StartIsMet }
+    ensures reached { ReachedIsMet }
     ensures begin { CallsBegin }
     ensures follow { CallsFollow }
 {
     flat_core::lawful_law();
     flat_core::lock_law();
+    flat_core::event_laws();
     word_rules::start_is_shown();
     lock_words_follow();
     lock_steps_shown();
+    reached_locks_stand();
     places_injective();
     pages_change_alone();
 }

@@ -6,3 +6,6 @@ pub mod Shown
 pub mod Anchored
 pub mod Heads
 pub mod Runs
+pub mod Tried
+pub mod Acted
+pub mod Reached

@@ -1,2 +1,3 @@
 pub mod Grips
 pub mod LockWords
+pub mod Reached

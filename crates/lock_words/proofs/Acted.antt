@@ -1,0 +1,91 @@
+-- After the act of each row a TD whose locks stood goes on to stand, but where the row holds P of its TDR page alone.
+use Rattle.std.proofs.Common.{◌≡◌, ◌⊎◌, refl, sym, ◌∙◌, ap, inl, inr, ℕ, Bool, true, false, not, ◌==◌, List, [], ◌∷◌, ◌++◌, map}
+use Rattle.std.specs.Prelude.{filter, nat_lt}
+use Rattle.std.proofs.lemmas.Bool.{eqb-true, eqb-false, ne_eqb, and_parts}
+use Rattle.td_words.specs.declared.names.Mode.TheVariants.{Exclusive}
+use Rattle.td_words.specs.declared.names.PageKind.TheVariants as kind
+use Rattle.td_words.specs.declared.names.EntryState.TheVariants as entry
+use Rattle.td_words.specs.declared.calls.Call.{Call}
+use Rattle.td_words.specs.declared.calls.Call.TheVariants as call
+use Rattle.td_words.specs.declared.replies.Reply.{Reply}
+use Rattle.td_words.specs.declared.replies.Reply.TheVariants.{Refused}
+use Rattle.td_words.specs.declared.refusals.Status.TheVariants.{EptWalkFailed}
+use Rattle.flat_core.specs.World.{World}
+use Rattle.flat_core.specs.Opening.{Opening}
+use Rattle.flat_core.specs.Row.{Item, Check, Passes}
+use Rattle.flat_core.specs.Conditions.{is_host}
+use Rattle.flat_core.specs.KeyRows.{reclaim_conditions}
+use Rattle.flat_core.specs.Tree.{entry_at, same_state}
+use Rattle.flat_core.specs.Lawful.{Lawful}
+use Rattle.flat_core.specs.Table.{row_of}
+use Rattle.flat_core.proofs.Tests.{by_test, host_kind}
+use Rattle.lock_words.specs.LockWords.{TdStands}
+use Rattle.lock_words.proofs.Tried.{first_try, held_as}
+
+-- an act that leaves the TD's page, life and TDCX pages
+same-td : (w w' : World) (t : ℕ) → TdStands w t → w'.pages.kinds t ≡ w.pages.kinds t → w'.tds.lives t ≡ w.tds.lives t → w'.tds.controls t ≡ w.tds.controls t → TdStands w' t
+same-td w w' t st k l c = record { alive = record { kind = k ∙ st.alive.kind; life = rw l st.alive.life }; has_tdcs = rw c st.has_tdcs }
+
+-- a host page isn't the TDR page of a TD that stands
+apart-host : (w : World) (t p : ℕ) → TdStands w t → is_host w p ≡ true → (t == p) ≡ false
+apart-host w t p st host = ne_eqb t p (λ e. let bad : kind.Tdr ≡ kind.Nda = sym st.alive.kind ∙ (ap w.pages.kinds e ∙ host_kind (w.pages.kinds p) host) in cc)
+
+-- nor is a page that another TD owns
+apart-owned : (o : Opening) (w : World) (t u p : ℕ) → Lawful o.machine w → TdStands w t → (t == u) ≡ false → w.pages.owners p ≡ u → (t == p) ≡ false
+apart-owned o w t u p la st n owned = ne_eqb t p (λ e. eqb-false t u n (sym (la.pages.tdr t st.alive.kind) ∙ (ap w.pages.owners e ∙ owned)))
+
+behind-walk : (b : ℕ → Bool) (r : ℕ → Reply) (ls : List ℕ) (items : List (Item Reply)) → Passes (map (λ l. Check (b l) (r l)) ls ++ items) → Passes items
+behind-walk b r [] items ps = ps
+behind-walk b r (l ∷ ls) items ps = behind-walk b r ls items ps.1
+
+abbrev levels-above : ℕ → List ℕ
+levels-above level = filter (λ l. nat_lt level l) (3 ∷ 2 ∷ 1 ∷ [])
+
+same-page : (t tdr : ℕ) → (t == tdr) ≡ true → held_as tdr Exclusive ≡ held_as t Exclusive
+same-page t tdr y = ap (λ (x : ℕ). held_as x Exclusive) (sym (eqb-true t tdr y))
+
+pub acts-go-on : (o : Opening) (me : ℕ) (c : Call) (w : World) (t : ℕ) → let row = row_of o me c in
+    Lawful o.machine w → Passes (row.items w) → TdStands w t → TdStands (row.act w) t ⊎ (first_try (row.items w) ≡ held_as t Exclusive)
+acts-go-on o me (call.HostRead page word) w t la ps st = inl st
+acts-go-on o me (call.HostWrite page word value) w t la ps st = inl (same-td w _ t st refl refl refl)
+acts-go-on o me (call.PhymemPageRdmd page) w t la ps st = inl st
+acts-go-on o me call.PhymemCacheWb w t la ps st = inl (same-td w _ t st refl refl refl)
+acts-go-on o me (call.MngRd tdr field) w t la ps st = inl st
+acts-go-on o me (call.MngInit tdr) w t la ps st = inl (same-td w _ t st refl refl refl)
+acts-go-on o me (call.MrExtend tdr gpa) w t la ps st = inl (same-td w _ t st refl refl refl)
+acts-go-on o me (call.MrFinalize tdr) w t la ps st = inl (same-td w _ t st refl refl refl)
+acts-go-on o me (call.VpInit tdr vp value) w t la ps st = inl (same-td w _ t st refl refl refl)
+acts-go-on o me (call.MemSeptRd tdr gpa level) w t la ps st = inl st
+acts-go-on o me (call.VpCreate tdr page) w t la ps st =
+    let n : (t == page) ≡ false = apart-host w t page st ps.1.1.1.1.1.1.1.1.0 in
+    inl (same-td w _ t st (rw n refl) refl refl)
+acts-go-on o me (call.MemSeptAdd tdr gpa level page) w t la ps st =
+    let passes : ℕ → Bool = λ l. same_state (entry_at w tdr l gpa).state entry.NlMapped in
+    let behind = behind-walk passes (λ l. Refused (EptWalkFailed l)) (levels-above level) _ ps.1.1.1.1.1.1.1.1.1.1 in
+    let n : (t == page) ≡ false = apart-host w t page st behind.1.0 in
+    inl (same-td w _ t st (rw n refl) refl refl)
+acts-go-on o me (call.MemPageAdd tdr gpa page source) w t la ps st =
+    let n : (t == page) ≡ false = apart-host w t page st ps.1.1.1.1.1.1.1.1.1.1.1.1.1.1.1.1.1.0 in
+    inl (same-td w _ t st (rw n refl) refl refl)
+acts-go-on o me (call.MngCreate tdr hkid) w t la ps st =
+    let n : (t == tdr) ≡ false = apart-host w t tdr st ps.1.1.0 in
+    inl (same-td w _ t st (rw n refl) (rw n refl) (rw n refl))
+acts-go-on o me (call.MngKeyConfig tdr) w t la ps st = by_test (t == tdr)
+    (λ y. inr (same-page t tdr y))
+    (λ n. inl (same-td w _ t st refl (rw n refl) refl))
+acts-go-on o me (call.MngVpflushdone tdr) w t la ps st = by_test (t == tdr)
+    (λ y. inr (same-page t tdr y))
+    (λ n. inl (same-td w _ t st refl (rw n refl) refl))
+acts-go-on o me (call.MngKeyFreeid tdr) w t la ps st = by_test (t == tdr)
+    (λ y. inr (same-page t tdr y))
+    (λ n. inl (same-td w _ t st refl (rw n refl) refl))
+acts-go-on o me (call.MngAddcx tdr page) w t la ps st = by_test (t == tdr)
+    (λ y. inr (same-page t tdr y))
+    (λ n. let k : (t == page) ≡ false = apart-host w t page st ps.1.1.1.1.1.1.0 in inl (same-td w _ t st (rw k refl) refl (rw n refl)))
+acts-go-on o me (call.PhymemPageReclaim tdr page) w t la ps st = by_test (t == tdr)
+    (λ y. inr (same-page t tdr y))
+    (λ n. let k : (t == page) ≡ false = given n (page == tdr) refl ps.1.1.1.1 in inl (same-td w _ t st (rw k refl) refl refl))
+  where
+    given : (t == tdr) ≡ false → (b : Bool) → (page == tdr) ≡ b → Passes (reclaim_conditions w tdr page b) → (t == page) ≡ false
+    given n true e x = rw (eqb-true page tdr e) n
+    given n false e x = apart-owned o w t tdr page la st n (eqb-true _ tdr (and_parts (not (is_host w page)) (w.pages.owners page == tdr) x.0).1)

@@ -1,0 +1,158 @@
+-- Of the rows' tries: a lock of a TD is tried once P of its TDR page is held, which is tried first and shared; and where it
+-- is tried it stands. And of their acts: a TD whose locks stand goes on to stand, but where P of its TDR page is held alone.
+use Rattle.std.proofs.Common.{◌≡◌, refl, subst, ℕ, zero, suc, Bool, true, false, ◌==◌, List, [], ◌∷◌, ◌++◌, map, Option, Some, None}
+use Rattle.std.specs.Prelude.{filter, nat_lt}
+use Rattle.td_words.specs.declared.names.Mode.{Mode}
+use Rattle.td_words.specs.declared.names.Mode.TheVariants.{Shared, Exclusive}
+use Rattle.td_words.specs.declared.names.PageKind.TheVariants as kind
+use Rattle.td_words.specs.declared.names.OpState.{OpState}
+use Rattle.td_words.specs.declared.names.OpState.TheVariants as op
+use Rattle.td_words.specs.declared.names.EntryState.TheVariants as entry
+use Rattle.td_words.specs.declared.names.VcpuState.TheVariants as vcpu
+use Rattle.td_words.specs.declared.names.ReadField.TheVariants as field
+use Rattle.td_words.specs.declared.calls.Call.{Call}
+use Rattle.td_words.specs.declared.calls.Call.TheVariants as call
+use Rattle.td_words.specs.declared.replies.Reply.{Reply}
+use Rattle.td_words.specs.declared.replies.Reply.TheVariants.{Refused}
+use Rattle.td_words.specs.declared.refusals.Status.TheVariants.{EptWalkFailed}
+use Rattle.flat_core.specs.World.{World}
+use Rattle.flat_core.specs.Processor.{LockId, OfPage, OfOp, OfTree, OfEpoch, OfRtmr, OfKeys, Held}
+use Rattle.flat_core.specs.Opening.{Opening}
+use Rattle.flat_core.specs.Row.{Item, Check, Try, Attempts, Succeeds, next, Passes}
+use Rattle.flat_core.specs.Conditions.{all_ops, begun_ops, growing_ops, later_ops, td_row, page_exclusive, tree_shared, tree_exclusive, epoch_shared, host_page, td_page, vps_ready, vp_room, vp_in}
+use Rattle.flat_core.specs.KeyRows.{reclaim_conditions}
+use Rattle.flat_core.specs.Tree.{entry_at, same_state, walk, state_in, named_page}
+use Rattle.flat_core.specs.Table.{row_of}
+use Rattle.lock_words.specs.LockWords.{TdStands, Stands}
+use Rattle.lock_words.proofs.Heads.{td-stands}
+
+-- the first try of a row, whether or not its conditions hold
+abbrev pub first_try : List (Item Reply) → Option Held
+first_try [] = None
+first_try (Check b r ∷ items) = first_try items
+first_try (Try l m ∷ items) = Some (record { lock = l; mode = m })
+
+abbrev pub held_as : ℕ → Mode → Option Held
+held_as t m = Some (record { lock = OfPage t; mode = m })
+
+-- a lock of a TD is taken where this was the first
+abbrev pub IsOver : Option Held → LockId → Type 0
+IsOver first (OfPage p) = Unit {0}
+IsOver first (OfOp t) = first ≡ held_as t Shared
+IsOver first (OfTree t) = first ≡ held_as t Shared
+IsOver first (OfEpoch t) = first ≡ held_as t Shared
+IsOver first (OfRtmr t) = first ≡ held_as t Shared
+IsOver first OfKeys = Unit {0}
+
+abbrev pub first_of : Option Held → LockId → Mode → Option Held
+first_of None l m = Some (record { lock = l; mode = m })
+first_of (Some h) l m = Some h
+
+-- each try that is come to, where this was the first before
+abbrev pub TriesFit : World → Option Held → List (Item Reply) → Type 0
+TriesFit w first [] = Unit {0}
+TriesFit w first (Check b r ∷ items) = b ≡ true → TriesFit w first items
+TriesFit w first (Try l m ∷ items) = (IsOver first l × Stands w l) × TriesFit w (first_of first l m) items
+
+-- a walk is conditions alone
+checks-fit : (w : World) (first : Option Held) (b : ℕ → Bool) (r : ℕ → Reply) (ls : List ℕ) (items : List (Item Reply)) → TriesFit w first items → TriesFit w first (map (λ l. Check (b l) (r l)) ls ++ items)
+checks-fit w first b r [] items h = h
+checks-fit w first b r (l ∷ ls) items h = λ x. checks-fit w first b r ls items h
+
+checks-alone : (w : World) (first : Option Held) (b : ℕ → Bool) (r : ℕ → Reply) (ls : List ℕ) → TriesFit w first (map (λ l. Check (b l) (r l)) ls)
+checks-alone w first b r [] = tt
+checks-alone w first b r (l ∷ ls) = λ x. checks-alone w first b r ls
+
+module _ (w : World) (t gpa level : ℕ) (items : List (Item Reply)) where
+  walk-fits : TriesFit w (held_as t Shared) items → TriesFit w (held_as t Shared) (walk w t gpa level ++ items)
+  walk-fits h =
+      checks-fit w (held_as t Shared) (λ l. same_state (entry_at w t l gpa).state entry.NlMapped) (λ l. Refused (EptWalkFailed l)) (filter (λ l. nat_lt level l) (3 ∷ 2 ∷ 1 ∷ [])) items h
+
+-- the beginning of a TD's row
+module _ (w : World) (t : ℕ) (mode : Mode) (allowed : List OpState) (items : List (Item Reply)) where
+  head-fits : (TdStands w t → TriesFit w (held_as t Shared) items) → TriesFit w None (td_row w t mode allowed ++ items)
+  head-fits k = ((tt, tt), λ root alive count. let st = td-stands w t root alive count in ((refl, st), λ in_state. k st))
+
+pub rows-fit : (o : Opening) (me : ℕ) (c : Call) (w : World) → TriesFit w None ((row_of o me c).items w)
+rows-fit o me (call.HostRead page word) w = λ a b. ((tt, tt), tt)
+rows-fit o me (call.HostWrite page word value) w = λ a b. ((tt, tt), λ x. tt)
+rows-fit o me (call.PhymemPageRdmd page) w = λ a. ((tt, tt), tt)
+rows-fit o me call.PhymemCacheWb w = ((tt, tt), tt)
+rows-fit o me (call.PhymemPageReclaim tdr page) w = λ a b. ((tt, tt), λ root alive. reclaimed (page == tdr))
+  where
+    reclaimed : (b : Bool) → TriesFit w (held_as tdr Exclusive) (reclaim_conditions w tdr page b)
+    reclaimed true = λ x. tt
+    reclaimed false = ((tt, tt), λ x. tt)
+rows-fit o me (call.MngCreate tdr hkid) w = λ a b. ((tt, tt), λ host. ((tt, tt), λ x. tt))
+rows-fit o me (call.MngKeyConfig tdr) w = λ a. ((tt, tt), λ root alive. tt)
+rows-fit o me (call.MngAddcx tdr page) w = λ a b c. ((tt, tt), λ root alive room. ((tt, tt), λ host. tt))
+rows-fit o me (call.MngInit tdr) w = λ a. head-fits w tdr Exclusive (op.Uninitialized ∷ []) [] (λ st. tt)
+rows-fit o me (call.MngRd tdr field.Life) w = λ a. ((tt, tt), λ root. tt)
+rows-fit o me (call.MngRd tdr field.Op) w = λ a. head-fits w tdr Shared all_ops [] (λ st. tt)
+rows-fit o me (call.MngRd tdr field.Epoch) w = λ a. head-fits w tdr Shared begun_ops (epoch_shared tdr ∷ []) (λ st. ((refl, st), tt))
+rows-fit o me (call.MngRd tdr field.Mrtd) w = λ a. head-fits w tdr Shared later_ops [] (λ st. tt)
+rows-fit o me (call.MngVpflushdone tdr) w = λ a. ((tt, tt), λ root alive none. ((tt, tt), tt))
+rows-fit o me (call.MngKeyFreeid tdr) w = λ a. ((tt, tt), λ root alive. ((tt, tt), λ x. tt))
+rows-fit o me (call.MrExtend tdr gpa) w =
+    let entry_items : List (Item Reply) = state_in w tdr gpa 0 (entry.Mapped ∷ []) ∷ named_page w tdr gpa 0 Shared ∷ [] in
+    λ a b c. head-fits w tdr Exclusive (op.Initialized ∷ []) (tree_shared tdr ∷ (walk w tdr gpa 0 ++ entry_items))
+    (λ st. ((refl, st), walk-fits w tdr gpa 0 entry_items (λ x. ((tt, tt), tt))))
+rows-fit o me (call.MrFinalize tdr) w = λ a. head-fits w tdr Exclusive (op.Initialized ∷ []) (vps_ready w tdr ∷ []) (λ st x. tt)
+rows-fit o me (call.VpCreate tdr page) w = λ a b c. head-fits w tdr Exclusive (op.Initialized ∷ op.MemoryImport ∷ []) (vp_room w tdr ∷ page_exclusive page ∷ host_page w page ∷ []) (λ st x. ((tt, tt), λ y. tt))
+rows-fit o me (call.VpInit tdr vp value) w = λ a b c. head-fits w tdr Shared (op.Initialized ∷ []) (page_exclusive vp ∷ td_page w tdr vp kind.Tdvpr ∷ vp_in w vp vcpu.Created ∷ []) (λ st. ((tt, tt), λ x y. tt))
+rows-fit o me (call.MemSeptAdd tdr gpa level page) w =
+    let page_items : List (Item Reply) = state_in w tdr gpa level (entry.Free ∷ []) ∷ page_exclusive page ∷ host_page w page ∷ [] in
+    λ a b c d e f. head-fits w tdr Shared growing_ops (tree_exclusive tdr ∷ (walk w tdr gpa level ++ page_items))
+    (λ st. ((refl, st), walk-fits w tdr gpa level page_items (λ x. ((tt, tt), λ y. tt))))
+rows-fit o me (call.MemSeptRd tdr gpa level) w =
+    λ a b c d. head-fits w tdr Shared begun_ops (tree_exclusive tdr ∷ walk w tdr gpa level)
+    (λ st. ((refl, st), checks-alone w (held_as tdr Shared) (λ l. same_state (entry_at w tdr l gpa).state entry.NlMapped) (λ l. Refused (EptWalkFailed l)) (filter (λ l. nat_lt level l) (3 ∷ 2 ∷ 1 ∷ []))))
+rows-fit o me (call.MemPageAdd tdr gpa page source) w =
+    let page_items : List (Item Reply) = state_in w tdr gpa 0 (entry.Free ∷ []) ∷ page_exclusive source ∷ host_page w source ∷ page_exclusive page ∷ host_page w page ∷ [] in
+    λ a b c d e f g h. head-fits w tdr Exclusive (op.Initialized ∷ []) (tree_exclusive tdr ∷ (walk w tdr gpa 0 ++ page_items))
+    (λ st. ((refl, st), walk-fits w tdr gpa 0 page_items (λ x. ((tt, tt), λ y. ((tt, tt), λ z. tt)))))
+
+-- the first try is the same in every world
+pub first-same : (o : Opening) (me : ℕ) (c : Call) (v w : World) → first_try ((row_of o me c).items v) ≡ first_try ((row_of o me c).items w)
+first-same o me (call.MngRd tdr field.Life) v w = refl
+first-same o me (call.MngRd tdr field.Op) v w = refl
+first-same o me (call.MngRd tdr field.Epoch) v w = refl
+first-same o me (call.MngRd tdr field.Mrtd) v w = refl
+first-same o me _ v w = refl
+
+-- what the items say of the next try
+
+abbrev pub first_at : Option Held → ℕ → List (Item Reply) → Option Held
+first_at None zero items = None
+first_at None (suc n) items = first_try items
+first_at (Some h) n items = Some h
+
+pub next-fits : (w : World) (first : Option Held) (items : List (Item Reply)) (n : ℕ) (l : LockId) (m : Mode) → TriesFit w first items → next items n ≡ Attempts l m → IsOver (first_at first n items) l × Stands w l
+next-fits w first [] n l m fit e = cc
+next-fits w first (Check false r ∷ items) n l m fit e = cc
+next-fits w None (Check true r ∷ items) zero l m fit e = next-fits w None items zero l m (fit refl) e
+next-fits w None (Check true r ∷ items) (suc n) l m fit e = next-fits w None items (suc n) l m (fit refl) e
+next-fits w (Some h) (Check true r ∷ items) n l m fit e = next-fits w (Some h) items n l m (fit refl) e
+next-fits w None (Try a b ∷ items) zero l m fit e = (let same : a ≡ l = cc in subst (λ (x : LockId). IsOver None x × Stands w x) same fit.0)
+next-fits w (Some h) (Try a b ∷ items) zero l m fit e = (let same : a ≡ l = cc in subst (λ (x : LockId). IsOver (Some h) x × Stands w x) same fit.0)
+next-fits w None (Try a b ∷ items) (suc n) l m fit e = next-fits w (Some (record { lock = a; mode = b })) items n l m fit.1 e
+next-fits w (Some h) (Try a b ∷ items) (suc n) l m fit e = next-fits w (Some h) items n l m fit.1 e
+
+pub next-first : (items : List (Item Reply)) (l : LockId) (m : Mode) → next items 0 ≡ Attempts l m → first_try items ≡ Some (record { lock = l; mode = m })
+next-first [] l m e = cc
+next-first (Check true r ∷ items) l m e = next-first items l m e
+next-first (Check false r ∷ items) l m e = cc
+next-first (Try a b ∷ items) l m e = (let x : a ≡ l = cc in let y : b ≡ m = cc in rw (x, y) refl)
+
+pub none-tried : (items : List (Item Reply)) → next items 0 ≡ Succeeds → first_try items ≡ None
+none-tried [] e = refl
+none-tried (Check true r ∷ items) e = none-tried items e
+none-tried (Check false r ∷ items) e = cc
+none-tried (Try a b ∷ items) e = cc
+
+pub all-pass : (items : List (Item Reply)) (n : ℕ) → next items n ≡ Succeeds → Passes items
+all-pass [] n e = tt
+all-pass (Check true r ∷ items) n e = (refl, all-pass items n e)
+all-pass (Check false r ∷ items) n e = cc
+all-pass (Try a b ∷ items) zero e = cc
+all-pass (Try a b ∷ items) (suc n) e = all-pass items n e
