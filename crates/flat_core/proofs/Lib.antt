@@ -1,6 +1,7 @@
 pub mod Worked
 pub mod Tests
 pub mod Pages
+pub mod Exports
 pub mod Parts
 pub mod Maps
 pub mod Induction
