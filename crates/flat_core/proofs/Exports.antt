@@ -19,7 +19,7 @@ use Rattle.flat_core.proofs.Pages.{taken}
 abbrev pub IsOfExported : (EntryState → Bool) → Type 0
 IsOfExported f = (s : EntryState) → is_exported s ≡ false → f s ≡ false
 
-dirty_exported : IsOfExported is_dirty
+pub dirty_exported : IsOfExported is_dirty
 dirty_exported entry.ExportedDirty h = cc
 dirty_exported entry.ExportedDirtyBlockedW h = cc
 dirty_exported _ h = refl
@@ -61,11 +61,12 @@ none_where f of count pages tds t free =
     (λ p. ap one_if (and_right (same_kind (pages.kinds p) kind.Reg) _ (and_right (pages.owners p == t) _ (ap (λ (e : Entry). f e.state) (free (pages.numbers p)) ∙ of entry.Free refl)))) count
 
 pub new_counted : (count : ℕ) (pages : Pages) (tds : Tds) (streams : Streams) (rtmrs : ℕ → ℕ → ℕ) (t : ℕ) → IsNew tds rtmrs t → IsCounted count pages tds streams t
-new_counted count pages tds streams rtmrs t new =
-    (ap (λ (n : ℕ). n + sum_by streams.cleaned (tds.streams t)) (none_where is_dirty dirty_exported count pages tds t (new.entries 0))
-    ∙ (ap (λ (ss : List ℕ). 0 + sum_by streams.cleaned ss) new.streams ∙ sym new.dirtied),
-    none_where is_exported (λ s h. h) count pages tds t (new.entries 0)
-    ∙ sym (ap (λ (n : ℕ). (n + sum_by streams.first_exports (tds.streams t)) % 2 ^ 64) new.unrestored ∙ ap (λ (ss : List ℕ). (0 + sum_by streams.first_exports ss) % 2 ^ 64) new.streams))
+new_counted count pages tds streams rtmrs t new = (
+  ap (λ (n : ℕ). n + sum_by streams.cleaned (tds.streams t)) (none_where is_dirty dirty_exported count pages tds t (new.entries 0))
+      ∙ (ap (λ (ss : List ℕ). 0 + sum_by streams.cleaned ss) new.streams ∙ sym new.dirtied),
+  none_where is_exported (λ s h. h) count pages tds t (new.entries 0)
+      ∙ sym (ap (λ (n : ℕ). (n + sum_by streams.first_exports (tds.streams t)) % 2 ^ 64) new.unrestored ∙ ap (λ (ss : List ℕ). (0 + sum_by streams.first_exports ss) % 2 ^ 64) new.streams),
+)
 
 -- a TD where as many pages count as before, and all else is as it was
 module _ (count : ℕ) (old new : Pages) (tds tds' : Tds) (streams : Streams) where
@@ -77,10 +78,11 @@ module _ (count : ℕ) (old new : Pages) (tds tds' : Tds) (streams : Streams) wh
       same_sum (λ p. one_if (is_page_where f new t (tds'.entries t 0) p)) (λ p. one_if (is_page_where f old t (tds.entries t 0) p)) (λ p. ap one_if (many f of p)) count
 
   pub counted_still : (t : ℕ) → tallies tds' t ≡ tallies tds t → AsMany t → IsCounted count old tds streams t → IsCounted count new tds' streams t
-  counted_still t same many h =
-      (ap (λ (n : ℕ). n + sum_by streams.cleaned (tds'.streams t)) (as_many t is_dirty dirty_exported many)
-      ∙ (ap (λ (x : Tallies). entries_where is_dirty count old tds t + sum_by streams.cleaned x.streams) same ∙ (h.0 ∙ ap (λ (x : Tallies). x.dirtied) (sym same))),
-      as_many t is_exported (λ s h. h) many ∙ (h.1 ∙ ap (λ (x : Tallies). (x.unrestored + sum_by streams.first_exports x.streams) % 2 ^ 64) (sym same)))
+  counted_still t same many h = (
+    ap (λ (n : ℕ). n + sum_by streams.cleaned (tds'.streams t)) (as_many t is_dirty dirty_exported many)
+        ∙ (ap (λ (x : Tallies). entries_where is_dirty count old tds t + sum_by streams.cleaned x.streams) same ∙ (h.0 ∙ ap (λ (x : Tallies). x.dirtied) (sym same))),
+    as_many t is_exported (λ s h. h) many ∙ (h.1 ∙ ap (λ (x : Tallies). (x.unrestored + sum_by streams.first_exports x.streams) % 2 ^ 64) (sym same)),
+  )
 
   pub counts_kept : ((t : ℕ) → IsAlive new tds' t → IsAlive old tds t) → ((t : ℕ) → tallies tds' t ≡ tallies tds t) → ((t : ℕ) → IsAlive new tds' t → AsMany t)
       → LawfulCounts count old tds streams → LawfulCounts count new tds' streams

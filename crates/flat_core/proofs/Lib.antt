@@ -10,6 +10,7 @@ pub mod Blind
 pub mod Mrtd
 pub mod Kept
 pub mod Owned
+pub mod Counted
 pub mod Measured
 pub mod OneUse
 pub mod Memories

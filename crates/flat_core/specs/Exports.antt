@@ -17,7 +17,7 @@ is_dirty _ = false
 
 -- a private page of a TD with these entries of level 0, whose entry is in such a state
 abbrev pub is_page_where : (EntryState → Bool) → Pages → ℕ → (ℕ → Entry) → ℕ → Bool
-is_page_where f pages t leaves p = same_kind (pages.kinds p) kind.Reg && (pages.owners p == t && f (leaves (pages.numbers p)).state)
+is_page_where f pages t entries p = same_kind (pages.kinds p) kind.Reg && (pages.owners p == t && f (entries (pages.numbers p)).state)
 
 -- how many of a TD's entries are, in a machine of so many pages
 abbrev pub entries_where : (EntryState → Bool) → (count : ℕ) → Pages → Tds → ℕ → ℕ
