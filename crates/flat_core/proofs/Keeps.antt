@@ -18,7 +18,7 @@ use Rattle.td_words.specs.declared.calls.Call.{Call}
 use Rattle.td_words.specs.declared.calls.Call.TheVariants as call
 use Rattle.td_words.specs.NameNumber.{life_number, op_number}
 use Rattle.td_words.specs.Packing.{Key, Unassigned, AssignedTo, FlushedOf}
-use Rattle.flat_core.specs.World.{World, Pages, Tds, KeyTable, put, first_world}
+use Rattle.flat_core.specs.World.{World, Pages, Tds, Streams, KeyTable, put, first_world}
 use Rattle.flat_core.specs.Opening.{Opening}
 use Rattle.flat_core.specs.Row.{Passes}
 use Rattle.flat_core.specs.Conditions.{is_free_key, is_host, vp_limit, host_page, page_exclusive}
@@ -31,9 +31,10 @@ use Rattle.flat_core.specs.KeyRows.{write_caches_back, reclaim_conditions, recla
 use Rattle.flat_core.specs.VpRows.{create_vp, initialize_vp}
 use Rattle.flat_core.specs.MemRows.{add_sept, read_sept, add_page, chunk_bytes, extend}
 use Rattle.flat_core.specs.Table.{row_of}
-use Rattle.flat_core.specs.Lawful.{IsAlive, AreControls, ArePagesOf, LawfulPages, LawfulTds, IsListed, LawfulLists, LawfulTree, LawfulKeys, LawfulBeginnings, Lawful, RowKeeps, is_free, is_named_kind, key_owner}
+use Rattle.flat_core.specs.Lawful.{IsAlive, AreControls, ArePagesOf, LawfulPages, LawfulTds, IsListed, LawfulLists, LawfulTree, LawfulKeys, LawfulBeginnings, LawfulCounts, Lawful, IsNew, RowKeeps, is_free, is_named_kind, key_owner}
 use Rattle.flat_core.proofs.Tests.{by_test, host_kind, tdr_kind, range_of, some_same, same_self}
 use Rattle.flat_core.proofs.Pages.{taken, other, taken_node, taken_controls, taken_list, unowned, taken_pages}
+use Rattle.flat_core.proofs.Exports.{counts_of, new_counted, counted_still, taken_where}
 use Rattle.flat_core.proofs.Maps.{kind_named, is_upper, map_kept, walk_passed}
 use Rattle.flat_core.proofs.Parts.{IsLive, LawfulBut, new_kept, write_back_kept, life_kept, flush_kept, op_kept, epoch_kept, begin_kept, measure_kept, end_kept, control_kept, vp_kept, taken_kept, ended_kept, left_kept}
 
@@ -41,7 +42,7 @@ pub host_read-keeps : (m : Machine) (page i : ℕ) → RowKeeps m (host_read m p
 host_read-keeps m page i = record { act = λ w l ps. l; to_tell = λ w. refl }
 
 pub host_write-keeps : (m : Machine) (page i v : ℕ) → RowKeeps m (host_write m page i v)
-host_write-keeps m page i v = record { act = λ w l ps. record { size = l.size; pages = l.pages; tds = l.tds; lists = l.lists; tree = l.tree; keys = l.keys; beginnings = l.beginnings }; to_tell = λ w. refl }
+host_write-keeps m page i v = record { act = λ w l ps. record { size = l.size; pages = l.pages; tds = l.tds; lists = l.lists; tree = l.tree; keys = l.keys; beginnings = l.beginnings; counts = l.counts }; to_tell = λ w. refl }
 
 pub read_metadata-keeps : (m : Machine) (page : ℕ) → RowKeeps m (read_metadata m page)
 read_metadata-keeps m page = record { act = λ w l ps. l; to_tell = λ w. refl }
@@ -77,7 +78,7 @@ reclaim_kept m w t p b e l root dead ps = by b e ps
     w' = end_memory_in t p w
 
     l' : Lawful m w'
-    l' = record { size = l.size; pages = l.pages; tds = l.tds; lists = l.lists; tree = l.tree; keys = l.keys; beginnings = l.beginnings }
+    l' = record { size = l.size; pages = l.pages; tds = l.tds; lists = l.lists; tree = l.tree; keys = l.keys; beginnings = l.beginnings; counts = l.counts }
 
     by : (b : Bool) → (p == t) ≡ b → Passes (reclaim_conditions w t p b) → Lawful m ((reclaim_page m t p).act w)
     by true e ps =
@@ -207,27 +208,38 @@ module _ (count : ℕ) (old : Pages) (tds : Tds) (table : KeyTable) (t h : ℕ) 
   }
 
   -- it is new, whatever stood there before
+  is_begun : (rtmrs : ℕ → ℕ → ℕ) (x : ℕ) → (x == t) ≡ true → IsNew begun (put rtmrs t (λ i. 0)) x
+  is_begun rtmrs x y = record {
+    op = rw y refl;
+    epoch = rw y refl;
+    entries = λ k i. rw y refl;
+    vps = rw y refl;
+    vps_expected = rw y refl;
+    streams = rw y refl;
+    mrtd = λ k. rw y refl;
+    session = rw y refl;
+    mig_epoch = rw y refl;
+    td_exported = rw y refl;
+    vps_exported = rw y refl;
+    dirtied = rw y refl;
+    unrestored = rw y refl;
+    rtmr = λ k. rw y refl;
+  }
+
   new_beginnings : (rtmrs : ℕ → ℕ → ℕ) → LawfulBeginnings old tds rtmrs → LawfulBeginnings pages begun (put rtmrs t (λ i. 0))
   new_beginnings rtmrs l = record {
     is_new = λ x a n. by_test (x == t)
-        (λ y. record {
-          op = rw y refl;
-          epoch = rw y refl;
-          entries = λ k i. rw y refl;
-          vps = rw y refl;
-          vps_expected = rw y refl;
-          streams = rw y refl;
-          mrtd = λ k. rw y refl;
-          session = rw y refl;
-          mig_epoch = rw y refl;
-          td_exported = rw y refl;
-          vps_exported = rw y refl;
-          dirtied = rw y refl;
-          unrestored = rw y refl;
-          rtmr = λ k. rw y refl;
-        })
+        (λ y. is_begun rtmrs x y)
         (λ y. new_kept tds begun rtmrs (put rtmrs t (λ i. 0)) x (rw y refl) (l.is_new x (alive_before x y a) (rw y at n)));
   }
+
+  -- none of its entries is exported, and other TDs' counts stay
+  new_counts : (streams : Streams) → LawfulCounts count old tds streams → LawfulCounts count pages begun streams
+  new_counts streams l = counts_of count pages begun streams (λ x a. by_test (x == t)
+      (λ y. new_counted count pages begun streams (put (λ x i. 0) t (λ i. 0)) x (is_begun (λ x i. 0) x y))
+      (λ y. counted_still count old pages tds begun streams x (rw y refl)
+      (λ f of. taken_where count old t kind.Tdr t 0 0 host lawful f x (tds.entries x 0) (begun.entries x 0) (λ n. rw y refl) refl)
+      (l.dirtied x (alive_before x y a), l.unrestored x (alive_before x y a))))
 
 pub create-keeps : (m : Machine) (t h : ℕ) → RowKeeps m (create m t h)
 create-keeps m t h = record {
@@ -242,6 +254,7 @@ create-keeps m t h = record {
         tree = new_tree m.pages w.pages w.tds w.key_table t h host l.pages free_hkid l.tree;
         keys = new_keys m.pages w.pages w.tds w.key_table t h host l.pages free_hkid m.hkids (range_of h m.hkids ps.1.0) l.keys;
         beginnings = new_beginnings m.pages w.pages w.tds w.key_table t h host l.pages free_hkid w.hidden.rtmrs l.beginnings;
+        counts = new_counts m.pages w.pages w.tds w.key_table t h host l.pages free_hkid w.streams l.counts;
       });
   to_tell = λ w. refl;
 }
@@ -256,10 +269,10 @@ configure_key-keeps m t = record {
 
 -- a page that is mapped, or taken, and cleared
 cleared_but : (m : Machine) (p : ℕ) (w : World) → LawfulBut m w p → LawfulBut m (clear_page p w) p
-cleared_but m p w l = record { size = l.size; pages = l.pages; tds = l.tds; control = l.control; vp = l.vp; stream = l.stream; index = l.index; tree = l.tree; keys = l.keys; beginnings = l.beginnings }
+cleared_but m p w l = record { size = l.size; pages = l.pages; tds = l.tds; control = l.control; vp = l.vp; stream = l.stream; index = l.index; tree = l.tree; keys = l.keys; beginnings = l.beginnings; counts = l.counts }
 
 cleared : (m : Machine) (p : ℕ) (w : World) → Lawful m w → Lawful m (clear_page p w)
-cleared m p w l = record { size = l.size; pages = l.pages; tds = l.tds; lists = l.lists; tree = l.tree; keys = l.keys; beginnings = l.beginnings }
+cleared m p w l = record { size = l.size; pages = l.pages; tds = l.tds; lists = l.lists; tree = l.tree; keys = l.keys; beginnings = l.beginnings; counts = l.counts }
 
 -- MNG.ADDCX
 pub add_tdcx-keeps : (m : Machine) (t p : ℕ) → RowKeeps m (add_tdcx m t p)
@@ -339,7 +352,7 @@ create_vp-keeps m t p = record {
 }
 
 pub initialize_vp-keeps : (m : Machine) (t v x : ℕ) → RowKeeps m (initialize_vp m t v x)
-initialize_vp-keeps m t v x = record { act = λ w l ps. record { size = l.size; pages = l.pages; tds = l.tds; lists = l.lists; tree = l.tree; keys = l.keys; beginnings = l.beginnings }; to_tell = λ w. refl }
+initialize_vp-keeps m t v x = record { act = λ w l ps. record { size = l.size; pages = l.pages; tds = l.tds; lists = l.lists; tree = l.tree; keys = l.keys; beginnings = l.beginnings; counts = l.counts }; to_tell = λ w. refl }
 
 -- the number of the entry that maps a GPA
 within : (gpa level : ℕ) → nat_lt gpa (2 ^ 47) ≡ true → number_at level gpa * level_size level < 2 ^ 47
@@ -372,7 +385,7 @@ read_sept-keeps m t gpa level = record { act = λ w l ps. l; to_tell = λ w. ref
 
 -- MEM.PAGE.ADD
 added_words : (m : Machine) (t g p : ℕ) (ws : ℕ → ℕ) (w : World) → Lawful m w → Lawful m (begin_memory t g ws (set_page p ws w))
-added_words m t g p ws w l = record { size = l.size; pages = l.pages; tds = l.tds; lists = l.lists; tree = l.tree; keys = l.keys; beginnings = l.beginnings }
+added_words m t g p ws w l = record { size = l.size; pages = l.pages; tds = l.tds; lists = l.lists; tree = l.tree; keys = l.keys; beginnings = l.beginnings; counts = l.counts }
 
 pub add_page-keeps : (m : Machine) (t gpa p source : ℕ) → RowKeeps m (add_page m t gpa p source)
 add_page-keeps m t gpa p source = record {
@@ -431,4 +444,5 @@ first-lawful m ws = record {
     flushed = λ t a. absurd (let no : kind.Nda ≡ kind.Tdr = a.kind in cc);
   };
   beginnings = record { is_new = λ t a n. absurd (let no : kind.Nda ≡ kind.Tdr = a.kind in cc) };
+  counts = counts_of m.pages _ _ _ (λ t a. absurd (let no : kind.Nda ≡ kind.Tdr = a.kind in cc));
 }

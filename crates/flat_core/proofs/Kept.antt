@@ -16,12 +16,12 @@ use Rattle.flat_core.proofs.Keeps.{row-keeps, first-lawful}
 
 -- a guest's access changes words, registers, memories and positions alone
 reach_lawful : (o : Opening) (t v : ℕ) (access : Access) (r gpa page : ℕ) (w : World) → Lawful o.machine w → Lawful o.machine (reach t v access r gpa page w)
-reach_lawful o t v Read r gpa page w l = record { size = l.size; pages = l.pages; tds = l.tds; lists = l.lists; tree = l.tree; keys = l.keys; beginnings = l.beginnings }
-reach_lawful o t v Write r gpa page w l = record { size = l.size; pages = l.pages; tds = l.tds; lists = l.lists; tree = l.tree; keys = l.keys; beginnings = l.beginnings }
+reach_lawful o t v Read r gpa page w l = record { size = l.size; pages = l.pages; tds = l.tds; lists = l.lists; tree = l.tree; keys = l.keys; beginnings = l.beginnings; counts = l.counts }
+reach_lawful o t v Write r gpa page w l = record { size = l.size; pages = l.pages; tds = l.tds; lists = l.lists; tree = l.tree; keys = l.keys; beginnings = l.beginnings; counts = l.counts }
 
 -- and a count step which virtual processors are in guest
 pub leave_lawful : (o : Opening) (v : ℕ) (w : World) → Lawful o.machine w → Lawful o.machine (leave_guest v w)
-leave_lawful o v w l = record { size = l.size; pages = l.pages; tds = l.tds; lists = l.lists; tree = l.tree; keys = l.keys; beginnings = l.beginnings }
+leave_lawful o v w l = record { size = l.size; pages = l.pages; tds = l.tds; lists = l.lists; tree = l.tree; keys = l.keys; beginnings = l.beginnings; counts = l.counts }
 
 pub events_keep : EventsKeepLawful
 events_keep o s p l =

@@ -1,6 +1,7 @@
 pub mod Worked
 pub mod Tests
 pub mod Pages
+pub mod Exports
 pub mod Parts
 pub mod Maps
 pub mod Induction
@@ -9,6 +10,7 @@ pub mod Blind
 pub mod Mrtd
 pub mod Kept
 pub mod Owned
+pub mod Counted
 pub mod Measured
 pub mod OneUse
 pub mod Memories

@@ -1,7 +1,7 @@
 -- A host page becomes the one that a FREE entry of a TD names: what every world keeps.
-use Rattle.std.proofs.Common.{◌≡◌, ◌≢◌, refl, sym, ◌∙◌, subst, ap, ℕ, zero, suc, ◌*◌, ◌/◌, ◌^◌, ◌<◌, ◌≤◌, List, ◌++◌, length, Bool, true, false, ◌==◌, arith}
+use Rattle.std.proofs.Common.{◌≡◌, ◌≢◌, refl, sym, ◌∙◌, subst, ap, ℕ, zero, suc, ◌*◌, ◌/◌, ◌^◌, ◌<◌, ◌≤◌, List, ◌++◌, length, Bool, true, false, ◌==◌, ◌&&◌, arith}
 use Rattle.std.specs.Prelude.{nat_lt}
-use Rattle.std.proofs.lemmas.Bool.{eqb-true}
+use Rattle.std.proofs.lemmas.Bool.{eqb-true, and_left, and_right}
 use Rattle.td_words.specs.declared.names.PageKind.{PageKind}
 use Rattle.td_words.specs.declared.names.PageKind.TheVariants as kind
 use Rattle.td_words.specs.declared.names.EntryState.{EntryState}
@@ -12,10 +12,12 @@ use Rattle.td_words.specs.Packing.{Entry, is_lawful_entry, is_exported}
 use Rattle.flat_core.specs.World.{World, Tds}
 use Rattle.flat_core.specs.Row.{Item, Passes}
 use Rattle.flat_core.specs.Arguments.{level_size}
+use Rattle.flat_core.specs.Conditions.{same_kind}
 use Rattle.flat_core.specs.Tree.{number_at, same_state, walk}
 use Rattle.flat_core.specs.Effects.{map_page}
-use Rattle.flat_core.specs.Lawful.{IsAlive, IsNodeOf, IsListed, Lawful, LawfulTree, is_free, is_node, is_named_kind}
+use Rattle.flat_core.specs.Lawful.{IsAlive, IsNodeOf, IsListed, Lawful, LawfulTree, LawfulCounts, is_free, is_node, is_named_kind}
 use Rattle.flat_core.proofs.Tests.{by_test, same_self}
+use Rattle.flat_core.proofs.Exports.{IsOfExported, free_unmarked, counts_kept, taken_where}
 use Rattle.flat_core.proofs.Parts.{now, IsNamed, new_kept, built_other, taken_back, taken_page_facts, taken_tds, taken_all_listed, taken_upper, taken_leaf, taken_keys, named_there}
 
 -- what an entry of a level names: an upper one a secure EPT page, one of level 0 a private page
@@ -148,6 +150,25 @@ module _ (m : Machine) (w : World) (p t level number : ℕ) (s : EntryState) (ho
         (λ y. named_old q (named_there m w p k t level number host small l (never_host level) (never_tdr level) root q y e (as_before (pages.owners q) a)));
   }
 
+  -- it isn't exported, and neither was what stood there
+  free_at : (x j n : ℕ) → x ≡ t → j ≡ level → n ≡ number → is_free (w.tds.entries x j n).state ≡ true
+  free_at x j n a b c = rw (a, b, c) free
+
+  same_where : (f : EntryState → Bool) → IsOfExported f → (x n : ℕ) → f (mapped.entries x 0 n).state ≡ f (w.tds.entries x 0 n).state
+  same_where f of x n = at_place (λ (e : Entry). f e.state ≡ f (w.tds.entries x 0 n).state) x 0 n
+      (λ a b c. of s unmarked ∙ sym (of _ (free_unmarked _ (free_at x 0 n a b c))))
+      (λ apart. refl)
+
+  uncounted : (f : EntryState → Bool) → IsOfExported f → (x j : ℕ) → j ≡ level → (same_kind (kind_named j) kind.Reg && (t == x && f (mapped.entries x 0 number).state)) ≡ false
+  uncounted f of x zero e = by_test (t == x)
+      (λ y. and_right (t == x) _ (same_where f of x number ∙ of _ (free_unmarked _ (free_at x 0 number (sym (eqb-true t x y)) e refl))))
+      (λ n. and_left (t == x) _ n)
+  uncounted f of x (suc j) e = refl
+
+  mapped_counts : LawfulCounts m.pages pages mapped w.streams
+  mapped_counts = counts_kept m.pages w.pages pages w.tds mapped w.streams back (λ x. refl)
+      (λ x a f of. taken_where m.pages w.pages p k t level number host l.pages f x (w.tds.entries x 0) (mapped.entries x 0) (same_where f of x) (uncounted f of x level refl)) l.counts
+
   listed : (lists : ℕ → List ℕ) (j : PageKind) → is_named_kind j ≡ false → ((q : ℕ) → IsListed w.pages w.tds lists j q) → (q : ℕ) → IsListed pages w.tds lists j q
   listed lists j h = taken_all_listed m w p k t level number host small l (never_host level) (never_tdr level) root lists j (unlisted level j h)
 
@@ -184,6 +205,7 @@ module _ (m : Machine) (w : World) (p t level number : ℕ) (s : EntryState) (ho
           flushed = λ x a. keys'.flushed x (as_before x a);
         };
         beginnings = record { is_new = λ x a n. new_kept w.tds mapped w.hidden.rtmrs w.hidden.rtmrs x (rw (built_other w.tds.controls t x built n) refl) (l.beginnings.is_new x (back x a) n) };
+        counts = mapped_counts;
       }
 
 -- A walk that finds its entry passed over one that isn't FREE directly above it.

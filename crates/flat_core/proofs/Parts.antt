@@ -1,29 +1,32 @@
 -- What the words that acts are written in keep of a lawful world.
-use Rattle.std.proofs.Common.{lit<, ◌≡◌, ◌≢◌, ◌⊎◌, inl, inr, refl, sym, ◌∙◌, subst, ap, ℕ, zero, suc, ◌<◌, ◌≤◌, ◌^◌, List, [], ◌∷◌, ◌++◌, length, length-append, Some, None, true, false, not, ◌==◌, ◌&&◌, nat_lt, slice_get, arith}
+use Rattle.std.proofs.Common.{lit<, ◌≡◌, ◌≢◌, ◌⊎◌, inl, inr, refl, sym, ◌∙◌, subst, ap, ℕ, zero, suc, ◌<◌, ◌≤◌, ◌^◌, List, [], ◌∷◌, ◌++◌, length, length-append, Some, None, Bool, true, false, not, ◌==◌, ◌&&◌, nat_lt, slice_get, arith}
 use Rattle.std.specs.List.{list_any}
-use Rattle.std.proofs.lemmas.Bool.{eq-eqb, eqb-true, eqb-false, ne_eqb, not-true, and_parts, ltb-true}
+use Rattle.std.proofs.lemmas.Bool.{eq-eqb, eqb-true, eqb-false, ne_eqb, not-true, and_left, and_right, and_parts, ltb-true}
 use Rattle.td_words.specs.declared.names.PageKind.{PageKind}
 use Rattle.td_words.specs.declared.names.PageKind.TheVariants as kind
 use Rattle.td_words.specs.declared.names.LifeState.{LifeState}
 use Rattle.td_words.specs.declared.names.LifeState.TheVariants as life
 use Rattle.td_words.specs.declared.names.OpState.{OpState}
 use Rattle.td_words.specs.declared.names.OpState.TheVariants.{Uninitialized}
+use Rattle.td_words.specs.declared.names.EntryState.{EntryState}
 use Rattle.td_words.specs.declared.machines.Machine.{Machine}
 use Rattle.td_words.specs.NameNumber.{life_number}
 use Rattle.td_words.specs.Packing.{Entry, Key, Unassigned, FlushedOf}
-use Rattle.flat_core.specs.World.{World, Pages, Tds, KeyTable, put}
+use Rattle.flat_core.specs.World.{World, Pages, Tds, Streams, KeyTable, put}
 use Rattle.flat_core.specs.Locks.{one_if}
-use Rattle.flat_core.specs.Conditions.{is_host_in, owned_below}
+use Rattle.flat_core.specs.Conditions.{same_kind, is_host_in, owned_below}
+use Rattle.flat_core.specs.Exports.{is_page_where}
 use Rattle.flat_core.specs.Effects.{take_node, give_back, set_key, set_life, set_op, set_epoch, add_control, add_vp, begin_measurement, measure, end_measurement, write_back, written_back}
-use Rattle.flat_core.specs.Lawful.{IsAlive, IsPageOf, IsNodeOf, AreControls, ArePagesOf, all_differ, LawfulPages, LawfulTds, IsListed, LawfulLists, LawfulTree, LawfulKeys, LawfulBeginnings, Lawful, IsNew, is_node, is_free, is_named_kind, key_owner, is_flushed}
+use Rattle.flat_core.specs.Lawful.{IsAlive, IsPageOf, IsNodeOf, AreControls, ArePagesOf, all_differ, LawfulPages, LawfulTds, IsListed, LawfulLists, LawfulTree, LawfulKeys, LawfulBeginnings, LawfulCounts, Lawful, IsNew, is_node, is_free, is_named_kind, key_owner, is_flushed}
 use Rattle.flat_core.proofs.Tests.{by_test, some_same, same_self}
 use Rattle.flat_core.proofs.Pages.{node_kept, controls_kept, pages_kept, taken, other, taken_node, taken_controls, taken_list, taken_pages}
+use Rattle.flat_core.proofs.Exports.{IsOfExported, counts_kept, taken_where}
 
 -- a life that isn't at its end
 abbrev pub IsLive : LifeState → Type 0
 IsLive s = (life_number s == life_number life.Teardown) ≡ false
 
--- what pages, map and HKIDs say of TDs
+-- what pages, map, HKIDs and counts say of TDs
 pub record SameShape (tds tds' : Tds) : Type 0 where
   pub hkids : tds'.hkids ≡ tds.hkids
   pub controls : tds'.controls ≡ tds.controls
@@ -31,6 +34,8 @@ pub record SameShape (tds tds' : Tds) : Type 0 where
   pub vps : tds'.vps ≡ tds.vps
   pub vps_expected : tds'.vps_expected ≡ tds.vps_expected
   pub streams : tds'.streams ≡ tds.streams
+  pub dirtied : tds'.dirtied ≡ tds.dirtied
+  pub unrestored : tds'.unrestored ≡ tds.unrestored
 
 -- what of a TD stands as it began
 pub record Facts : Type 0 where
@@ -138,6 +143,10 @@ module _ (pages : Pages) (tds tds' : Tds) (back : (x : ℕ) → IsAlive pages td
         new_kept tds tds' r r' x (e x n') (l.is_new x (back x a) n'));
   }
 
+  pub shape_counts : (count : ℕ) (streams : Streams) → SameShape tds tds' → LawfulCounts count pages tds streams → LawfulCounts count pages tds' streams
+  shape_counts count streams same l = counts_kept count pages pages tds tds' streams back (λ x. rw (same.dirtied, same.unrestored, same.streams) refl)
+      (λ x a f of p. ap (λ (e : ℕ → ℕ → ℕ → Entry). is_page_where f pages x (e x 0) p) same.entries) l
+
 -- a TD with its two TDCX pages isn't one without
 pub built_other : (controls : ℕ → List ℕ) (t x : ℕ) → (length (controls t) == 2) ≡ true → (length (controls x) == 2) ≡ false → (x == t) ≡ false
 built_other controls t x b n = by_test (x == t)
@@ -155,6 +164,7 @@ write_back_kept m w l = record {
   keys = shape_keys w.pages w.tds w.tds (λ x a. a) refl m.hkids w.key_table (write_back w).key_table (λ x a. a) (λ h. same_owner (w.key_table.keys h))
       (λ x a. same_flush (w.key_table.keys (w.tds.hkids x)) ∙ l.keys.flushed x a) l.keys;
   beginnings = l.beginnings;
+  counts = l.counts;
 }
   where
     same_owner : (k : Key) → key_owner (written_back k) ≡ key_owner k
@@ -188,7 +198,7 @@ module _ (m : Machine) (w : World) (t : ℕ) (s : LifeState) (alive : IsAlive w.
       → ((x : ℕ) → IsAlive w.pages lived x → is_flushed (keys (w.tds.hkids x)) ≡ (life_number (lived.lives x) == life_number life.Blocked))
       → Lawful m (record w { tds = lived; key_table = record (w.key_table) { keys = keys } })
   lived_kept keys owner flushed =
-      let same : SameShape w.tds lived = record { hkids = refl; controls = refl; entries = refl; vps = refl; vps_expected = refl; streams = refl } in
+      let same : SameShape w.tds lived = record { hkids = refl; controls = refl; entries = refl; vps = refl; vps_expected = refl; streams = refl; dirtied = refl; unrestored = refl } in
       record {
         size = l.size;
         pages = l.pages;
@@ -197,6 +207,7 @@ module _ (m : Machine) (w : World) (t : ℕ) (s : LifeState) (alive : IsAlive w.
         tree = shape_tree w.pages w.tds lived lived_back m.pages refl l.tree;
         keys = shape_keys w.pages w.tds lived lived_back refl m.hkids w.key_table (record (w.key_table) { keys = keys }) lived_forth owner flushed l.keys;
         beginnings = shape_beginnings w.pages w.tds lived lived_back refl w.hidden.rtmrs w.hidden.rtmrs (λ x n. refl) l.beginnings;
+        counts = shape_counts w.pages w.tds lived lived_back m.pages w.streams same l.counts;
       }
 
   -- its HKID stays flushed, or unflushed
@@ -227,6 +238,7 @@ module _ (m : Machine) (w : World) (t : ℕ) (built : (length (w.tds.controls t)
     keys = shape_keys w.pages w.tds tds' back same.hkids m.hkids w.key_table w.key_table forth (λ h. refl)
         (λ x a. subst (λ (f : ℕ → LifeState). is_flushed (w.key_table.keys (w.tds.hkids x)) ≡ (life_number (f x) == life_number life.Blocked)) (sym lives) (l.keys.flushed x (back x a))) l.keys;
     beginnings = shape_beginnings w.pages w.tds tds' back same.controls w.hidden.rtmrs w.hidden.rtmrs (λ x n. e x (built_other w.tds.controls t x built n)) l.beginnings;
+    counts = shape_counts w.pages w.tds tds' back m.pages w.streams same l.counts;
   }
     where
       back : (x : ℕ) → IsAlive w.pages tds' x → IsAlive w.pages w.tds x
@@ -235,25 +247,25 @@ module _ (m : Machine) (w : World) (t : ℕ) (built : (length (w.tds.controls t)
       forth : (x : ℕ) → IsAlive w.pages w.tds x → IsAlive w.pages tds' x
       forth x a = record { kind = a.kind; life = subst (λ (f : ℕ → LifeState). IsLive (f x)) (sym lives) a.life }
 
-  abbrev same_shape : (tds' : Tds) → tds'.hkids ≡ w.tds.hkids → tds'.controls ≡ w.tds.controls → tds'.entries ≡ w.tds.entries → tds'.vps ≡ w.tds.vps → tds'.vps_expected ≡ w.tds.vps_expected → tds'.streams ≡ w.tds.streams → SameShape w.tds tds'
-  same_shape tds' a b c d e f = record { hkids = a; controls = b; entries = c; vps = d; vps_expected = e; streams = f }
+  abbrev same_shape : (tds' : Tds) → tds'.hkids ≡ w.tds.hkids → tds'.controls ≡ w.tds.controls → tds'.entries ≡ w.tds.entries → tds'.vps ≡ w.tds.vps → tds'.vps_expected ≡ w.tds.vps_expected → tds'.streams ≡ w.tds.streams → tds'.dirtied ≡ w.tds.dirtied → tds'.unrestored ≡ w.tds.unrestored → SameShape w.tds tds'
+  same_shape tds' a b c d e f g h = record { hkids = a; controls = b; entries = c; vps = d; vps_expected = e; streams = f; dirtied = g; unrestored = h }
 
   pub op_kept : (s : OpState) → 1 ≤ w.tds.epochs t → Lawful m (set_op t s w)
-  op_kept s begun = built_kept (record (w.tds) { ops = put w.tds.ops t s }) (same_shape _ refl refl refl refl refl refl) refl l.tds.epoch
+  op_kept s begun = built_kept (record (w.tds) { ops = put w.tds.ops t s }) (same_shape _ refl refl refl refl refl refl refl refl) refl l.tds.epoch
       (λ x. by_test (x == t) (λ y n. subst (λ (z : ℕ). 1 ≤ w.tds.epochs z) (sym (eqb-true x t y)) begun) (λ y n. l.tds.epoch_begun x (rw y at n))) (λ x n. rw n refl)
 
   pub epoch_kept : (e : ℕ) → 1 ≤ e → e < 2 ^ 32 → Lawful m (set_epoch t e w)
-  epoch_kept e begun small = built_kept (record (w.tds) { epochs = put w.tds.epochs t e }) (same_shape _ refl refl refl refl refl refl) refl
+  epoch_kept e begun small = built_kept (record (w.tds) { epochs = put w.tds.epochs t e }) (same_shape _ refl refl refl refl refl refl refl refl) refl
       (λ x. by_test (x == t) (λ y. rw y small) (λ n. rw n (l.tds.epoch x))) (λ x n. by_test (x == t) (λ y. rw y begun) (λ y. rw y (l.tds.epoch_begun x n))) (λ x n. rw n refl)
 
   pub begin_kept : Lawful m (begin_measurement t w)
-  begin_kept = built_kept (record (w.tds) { measured = put w.tds.measured t [] }) (same_shape _ refl refl refl refl refl refl) refl l.tds.epoch l.tds.epoch_begun (λ x n. refl)
+  begin_kept = built_kept (record (w.tds) { measured = put w.tds.measured t [] }) (same_shape _ refl refl refl refl refl refl refl refl) refl l.tds.epoch l.tds.epoch_begun (λ x n. refl)
 
   pub measure_kept : (records : List ℕ) → Lawful m (measure t records w)
-  measure_kept records = built_kept (measure t records w).tds (same_shape _ refl refl refl refl refl refl) refl l.tds.epoch l.tds.epoch_begun (λ x n. refl)
+  measure_kept records = built_kept (measure t records w).tds (same_shape _ refl refl refl refl refl refl refl refl) refl l.tds.epoch l.tds.epoch_begun (λ x n. refl)
 
   pub end_kept : Lawful m (end_measurement t w)
-  end_kept = built_kept (end_measurement t w).tds (same_shape _ refl refl refl refl refl refl) refl l.tds.epoch l.tds.epoch_begun (λ x n. rw n refl)
+  end_kept = built_kept (end_measurement t w).tds (same_shape _ refl refl refl refl refl refl refl refl) refl l.tds.epoch l.tds.epoch_begun (λ x n. rw n refl)
 
 -- what every world keeps, but that this page is in its TD's list
 pub record LawfulBut (m : Machine) (w : World) (p : ℕ) : Type 0 where
@@ -267,6 +279,7 @@ pub record LawfulBut (m : Machine) (w : World) (p : ℕ) : Type 0 where
   pub tree : LawfulTree m.pages w.pages w.tds
   pub keys : LawfulKeys m.hkids w.pages w.tds w.key_table
   pub beginnings : LawfulBeginnings w.pages w.tds w.hidden.rtmrs
+  pub counts : LawfulCounts m.pages w.pages w.tds w.streams
 
 -- a list that a page is added to
 among_more : (q p : ℕ) (ps : List ℕ) → list_any (λ x. x == q) ps ≡ true → list_any (λ x. x == q) (ps ++ p ∷ []) ≡ true
@@ -340,6 +353,7 @@ module _ (m : Machine) (w : World) (t p : ℕ) (l : LawfulBut m w p) (page : IsP
       is_new = λ x a n. new_kept w.tds with_control w.hidden.rtmrs w.hidden.rtmrs x refl (l.beginnings.is_new x (control_back x a)
           (by_test (x == t) (λ y. let same : x ≡ t = eqb-true x t y in rw same (not_two (w.tds.controls t) room)) (λ y. rw y at n)));
     };
+    counts = counts_kept m.pages w.pages w.pages w.tds with_control w.streams control_back (λ x. refl) (λ x a f of q. refl) l.counts;
   }
 
 pub page_at : (pages : Pages) (t : ℕ) (k : PageKind) (ps : List ℕ) (i q : ℕ) → ArePagesOf pages t k ps → slice_get ps i ≡ Some q → IsPageOf pages t q k
@@ -427,7 +441,12 @@ module _ (m : Machine) (w : World) (t p : ℕ) (l : LawfulBut m w p) (page : IsP
     tree = shape_tree w.pages w.tds with_vp vp_back m.pages refl l.tree;
     keys = shape_keys w.pages w.tds with_vp vp_back refl m.hkids w.key_table w.key_table (λ x a. record { kind = a.kind; life = a.life }) (λ h. refl) (λ x a. l.keys.flushed x (vp_back x a)) l.keys;
     beginnings = shape_beginnings w.pages w.tds with_vp vp_back refl w.hidden.rtmrs w.hidden.rtmrs (λ x n. rw (built_other w.tds.controls t x built n) refl) l.beginnings;
+    counts = counts_kept m.pages w.pages w.pages w.tds with_vp w.streams vp_back (λ x. refl) (λ x a f of q. refl) l.counts;
   }
+
+not_private : (k : PageKind) → is_named_kind k ≡ false → same_kind k kind.Reg ≡ false
+not_private kind.Reg h = cc
+not_private _ h = refl
 
 -- a host page is taken by a TD
 module _ (m : Machine) (w : World) (p : ℕ) (k : PageKind) (t level number : ℕ) (host : w.pages.kinds p ≡ kind.Nda) (small : p < m.pages) (l : Lawful m w) (not_host : k ≢ kind.Nda) (not_tdr : k ≢ kind.Tdr) (root : w.pages.kinds t ≡ kind.Tdr) where
@@ -513,6 +532,8 @@ module _ (m : Machine) (w : World) (p : ℕ) (k : PageKind) (t level number : �
     };
     keys = taken_keys;
     beginnings = record { is_new = λ x a n. l.beginnings.is_new x (taken_back x a) n };
+    counts = counts_kept m.pages w.pages now w.tds w.tds w.streams taken_back (λ x. refl)
+        (λ x a f of. taken_where m.pages w.pages p k t level number host l.pages f x (w.tds.entries x 0) (w.tds.entries x 0) (λ n. refl) (and_left (same_kind k kind.Reg) _ (not_private k not_node))) l.counts;
   }
 
 -- a TD ends: its HKID is free
@@ -533,7 +554,7 @@ module _ (m : Machine) (w : World) (t : ℕ) (alive : IsAlive w.pages w.tds t) (
       (record { kind = o.0.kind; life = rw apart o.0.life }, o.1)
 
   same_ended : SameShape w.tds ended
-  same_ended = record { hkids = refl; controls = refl; entries = refl; vps = refl; vps_expected = refl; streams = refl }
+  same_ended = record { hkids = refl; controls = refl; entries = refl; vps = refl; vps_expected = refl; streams = refl; dirtied = refl; unrestored = refl }
 
   pub ended_kept : Lawful m (set_key (w.tds.hkids t) Unassigned (set_life t life.Teardown w))
   ended_kept = record {
@@ -549,6 +570,7 @@ module _ (m : Machine) (w : World) (t : ℕ) (alive : IsAlive w.pages w.tds t) (
       flushed = λ x a. rw (not_ended x a, own_hkid m w t x l alive (ended_back x a) (not_ended x a)) (l.keys.flushed x (ended_back x a));
     };
     beginnings = shape_beginnings w.pages w.tds ended ended_back refl w.hidden.rtmrs w.hidden.rtmrs (λ x n. refl) l.beginnings;
+    counts = shape_counts w.pages w.tds ended ended_back m.pages w.streams same_ended l.counts;
   }
 
 -- no child page is left
@@ -624,6 +646,14 @@ module _ (m : Machine) (w : World) (t p : ℕ) (l : Lawful m w) (root : w.pages.
       let a' : IsAlive left w.tds (w.pages.owners q) = rw n at a in
       rw n (l.tree.named q e' (left_back (w.pages.owners q) a'))
 
+  -- it counts for no TD that is alive
+  left_where : (x : ℕ) → IsAlive left w.tds x → (f : EntryState → Bool) → IsOfExported f → (q : ℕ) → is_page_where f left x (w.tds.entries x 0) q ≡ is_page_where f w.pages x (w.tds.entries x 0) q
+  left_where x a f of q = by_test (q == p)
+      (λ y. rw y (sym (and_right (same_kind (w.pages.kinds q) kind.Reg) _ (and_left (w.pages.owners q == x) _ (by_test (w.pages.owners q == x)
+      (λ o. absurd (let no : true ≡ false = sym y ∙ elsewhere x a.life q (eqb-true _ x o) in cc))
+      (λ o. o))))))
+      (λ n. rw n refl)
+
   pub left_kept : Lawful m (give_back p w)
   left_kept = record {
     size = l.size;
@@ -667,4 +697,5 @@ module _ (m : Machine) (w : World) (t p : ℕ) (l : Lawful m w) (root : w.pages.
       flushed = λ x a. l.keys.flushed x (left_back x a);
     };
     beginnings = record { is_new = λ x a n. l.beginnings.is_new x (left_back x a) n };
+    counts = counts_kept m.pages w.pages left w.tds w.tds w.streams left_back (λ x. refl) left_where l.counts;
   }

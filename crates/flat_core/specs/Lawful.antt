@@ -1,7 +1,7 @@
 -- What every world of every run keeps. What is said of a TD's pages and HKID holds while the TD is alive: its page is a
 -- TDR page, and its life isn't at its end.
-use Rattle.std.specs.Prelude.{◌≡◌, ◌≢◌, ℕ, suc, ◌*◌, ◌/◌, ◌^◌, ◌<◌, ◌≤◌, List, [], ◌∷◌, length, Option, Some, None, Bool, true, false, not, ◌==◌, ◌&&◌, slice_get}
-use Rattle.std.specs.List.{list_any}
+use Rattle.std.specs.Prelude.{◌≡◌, ◌≢◌, ℕ, suc, ◌+◌, ◌*◌, ◌/◌, ◌%◌, ◌^◌, ◌<◌, ◌≤◌, List, [], ◌∷◌, length, Option, Some, None, Bool, true, false, not, ◌==◌, ◌&&◌, slice_get}
+use Rattle.std.specs.List.{list_any, sum_by}
 use Rattle.td_words.specs.declared.names.PageKind.{PageKind}
 use Rattle.td_words.specs.declared.names.PageKind.TheVariants as kind
 use Rattle.td_words.specs.declared.names.LifeState.TheVariants as life
@@ -10,11 +10,12 @@ use Rattle.td_words.specs.declared.names.EntryState.{EntryState}
 use Rattle.td_words.specs.declared.names.EntryState.TheVariants as entry
 use Rattle.td_words.specs.declared.machines.Machine.{Machine}
 use Rattle.td_words.specs.NameNumber.{life_number}
-use Rattle.td_words.specs.Packing.{is_lawful_entry, Key, Unassigned, AssignedTo, FlushedOf}
-use Rattle.flat_core.specs.World.{World, Pages, Tds, KeyTable, free_entry}
+use Rattle.td_words.specs.Packing.{is_lawful_entry, is_exported, Key, Unassigned, AssignedTo, FlushedOf}
+use Rattle.flat_core.specs.World.{World, Pages, Tds, Streams, KeyTable, free_entry}
 use Rattle.flat_core.specs.Row.{Row, Passes}
 use Rattle.flat_core.specs.Arguments.{level_size}
 use Rattle.flat_core.specs.Conditions.{is_host_in}
+use Rattle.flat_core.specs.Exports.{is_dirty, entries_where}
 
 -- a TD that is alive
 pub record IsAlive (pages : Pages) (tds : Tds) (t : ℕ) : Type 0 where
@@ -156,6 +157,12 @@ pub record IsNew (tds : Tds) (rtmrs : ℕ → ℕ → ℕ) (t : ℕ) : Type 0 wh
 pub record LawfulBeginnings (pages : Pages) (tds : Tds) (rtmrs : ℕ → ℕ → ℕ) : Type 0 where
   pub is_new : (t : ℕ) → IsAlive pages tds t → (length (tds.controls t) == 2) ≡ false → IsNew tds rtmrs t
 
+-- The dirty entries of a TD are the pages dirtied less all that its streams cleaned; and its exported ones are the unrestored
+-- entries with all first exports, modulo 2^64 (TD Migration Architecture, "Private Memory Migration").
+pub record LawfulCounts (count : ℕ) (pages : Pages) (tds : Tds) (streams : Streams) : Type 0 where
+  pub dirtied : (t : ℕ) → IsAlive pages tds t → entries_where is_dirty count pages tds t + sum_by streams.cleaned (tds.streams t) ≡ tds.dirtied t
+  pub unrestored : (t : ℕ) → IsAlive pages tds t → entries_where is_exported count pages tds t ≡ (tds.unrestored t + sum_by streams.first_exports (tds.streams t)) % 2 ^ 64
+
 -- what every world of a machine keeps
 pub record Lawful (m : Machine) (w : World) : Type 0 where
   pub size : w.size ≡ m.pages
@@ -165,6 +172,7 @@ pub record Lawful (m : Machine) (w : World) : Type 0 where
   pub tree : LawfulTree m.pages w.pages w.tds
   pub keys : LawfulKeys m.hkids w.pages w.tds w.key_table
   pub beginnings : LawfulBeginnings w.pages w.tds w.hidden.rtmrs
+  pub counts : LawfulCounts m.pages w.pages w.tds w.streams
 
 -- a row whose act keeps it, where its conditions held; and the words to tell stay as they are
 pub record RowKeeps (m : Machine) (row : Row) : Type 0 where

@@ -1,10 +1,12 @@
 -- Laws of the flat machine, for every opening and every schedule.
-use Rattle.std.specs.Prelude.{◌≡◌, ◌≢◌, ◌⊎◌, ℕ, ◌+◌, ◌*◌, ◌≤◌, List, [], ◌∷◌, ◌++◌, map, Option, Some, None, IfSome, Bool, true, false, ◌==◌, if◌then◌else◌}
+use Rattle.std.specs.Prelude.{◌≡◌, ◌≢◌, ◌⊎◌, ℕ, suc, ◌+◌, ◌*◌, ◌%◌, ◌^◌, ◌≤◌, List, [], ◌∷◌, ◌++◌, length, map, Option, Some, None, IfSome, Bool, true, false, ◌==◌, if◌then◌else◌}
+use Rattle.std.specs.List.{list_any, sum_by}
 use Rattle.sha2.specs.Sha512.{sha384}
 use Rattle.mrtd_measure.specs.Records.{page_record, chunk_records}
 use Rattle.td_words.specs.declared.machines.Machine.{Machine}
 use Rattle.td_words.specs.declared.names.OpState.TheVariants.{Runnable}
 use Rattle.td_words.specs.declared.names.ReadField.TheVariants.{Mrtd}
+use Rattle.td_words.specs.declared.names.EntryState.{EntryState}
 use Rattle.td_words.specs.declared.names.Mode.{Mode}
 use Rattle.td_words.specs.declared.replies.Value.TheVariants.{Digest}
 use Rattle.td_words.specs.declared.refusals.Status.{Status}
@@ -15,7 +17,7 @@ use Rattle.td_words.specs.declared.replies.Reply.{Reply}
 use Rattle.td_words.specs.declared.replies.Reply.TheVariants.{Done, Refused}
 use Rattle.td_words.specs.declared.calls.Call.{Call}
 use Rattle.td_words.specs.declared.calls.Call.TheVariants as call
-use Rattle.td_words.specs.Packing.{Entry}
+use Rattle.td_words.specs.Packing.{Entry, is_exported}
 use Rattle.flat_core.specs.World.{World, Pages, Tds, put, Made}
 use Rattle.flat_core.specs.Processor.{LockId, OfOp, OfTree, Lp, nothing_yet}
 use Rattle.flat_core.specs.Locks.{alone_of, shared_of, refused_of, holders, sharers, grants, one_if}
@@ -29,7 +31,8 @@ use Rattle.flat_core.specs.Table.{row_of}
 use Rattle.flat_core.specs.Event.{State, Event, OfCall, OfOperation, Reaches, Leaves, start, lines_left, next_event, event, world_after, operation_told, lp_after}
 use Rattle.flat_core.specs.Run.{play, run, run_told, told_in, bundles_in}
 use Rattle.flat_core.specs.HostText.{host_text, text_of}
-use Rattle.flat_core.specs.Lawful.{IsAlive, Lawful, RowKeeps, is_free, is_named_kind}
+use Rattle.flat_core.specs.Exports.{is_dirty}
+use Rattle.flat_core.specs.Lawful.{IsAlive, Lawful, RowKeeps, is_free, is_named_kind, all_differ}
 use Rattle.flat_core.specs.Alike.{AreBlind}
 
 -- beside each row, its two facts
@@ -75,6 +78,24 @@ pub record IsOwned (pages : Pages) (tds : Tds) : Type 0 where
 
 abbrev pub EveryPageIsOwned : Type 0
 EveryPageIsOwned = (o : Opening) (words_to_tell : Option (List ℕ)) (schedule : List ℕ) → let w = (reached o words_to_tell schedule).world in IsOwned w.pages w.tds
+
+-- so many entries are in a state that f holds of: those of these numbers, each once, and no others
+pub record AreSoMany (f : EntryState → Bool) (entries : ℕ → Entry) (k : ℕ) : Type 0 where
+  pub numbers : List ℕ
+  pub each : (n : ℕ) → list_any (λ i. i == n) numbers ≡ f (entries n).state
+  pub once : all_differ numbers ≡ true
+  pub many : length numbers ≡ k
+
+-- Counts in a reader's terms: so many entries of a TD that is alive are dirty as pages were dirtied less all that were
+-- cleaned, and so many are exported as unrestored entries and all first exports say together, modulo 2^64. Entries of
+-- level 0 alone can be.
+pub record AreCounted (w : World) : Type 0 where
+  pub dirty : (t : ℕ) → IsAlive w.pages w.tds t → (k : ℕ) × (k + sum_by w.streams.cleaned (w.tds.streams t) ≡ w.tds.dirtied t) × AreSoMany is_dirty (w.tds.entries t 0) k
+  pub exported : (t : ℕ) → IsAlive w.pages w.tds t → AreSoMany is_exported (w.tds.entries t 0) ((w.tds.unrestored t + sum_by w.streams.first_exports (w.tds.streams t)) % 2 ^ 64)
+  pub upper : (t l n : ℕ) → IsAlive w.pages w.tds t → is_exported (w.tds.entries t (suc l) n).state ≡ false
+
+abbrev pub ExportedAreCounted : Type 0
+ExportedAreCounted = (o : Opening) (words_to_tell : Option (List ℕ)) (schedule : List ℕ) → AreCounted (reached o words_to_tell schedule).world
 
 -- one event keeps it, whatever bundles have come in
 abbrev pub EventsKeepLawful : Type 0

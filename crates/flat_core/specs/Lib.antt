@@ -20,6 +20,7 @@ pub mod Guest
 pub mod Event
 pub mod Run
 pub mod HostText
+pub mod Exports
 pub mod Lawful
 pub mod Alike
 pub mod Laws

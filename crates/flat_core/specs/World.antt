@@ -43,7 +43,7 @@ pub record Tds : Type 0 where
   pub mig_epochs : ℕ → ℕ
   pub td_exported : ℕ → ℕ  -- 1 where the TD state was exported in the session
   pub vps_exported : ℕ → ℕ  -- how many VCPU states were
-  pub dirtied : ℕ → ℕ  -- entries that became dirty in the session
+  pub dirtied : ℕ → ℕ  -- less all pages cleaned: entries that are dirty
   pub unrestored : ℕ → ℕ  -- with all first exports, modulo 2^64: entries in an exported state
 
 -- each virtual processor, by its TDVPR page

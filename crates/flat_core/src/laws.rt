@@ -3,7 +3,7 @@
 ghost use Rattle.flat_core.specs.Worked.{Examples};
 ghost use Rattle.flat_core.specs.Bounds.{RowsTryFew, EventsRunOut, RunsEnd};
 ghost use Rattle.flat_core.specs.Replies.{RepliesComeOneByOne, RepliesAreToLines, EveryLineIsAnswered};
-ghost use Rattle.flat_core.specs.Laws.{RowsKeep, RowsAreBlind, MrtdIsTheDigest, RecordsAreMeasured, EveryWorldIsLawful, EveryPageIsOwned, OthersStay, QuietEventsStay, NoWordsToTell, LocksExclude, TreeIsNeverBusy, BlindRunsPrintTheSame, BlindRunsMakeTheSameBundles, AgreeingRunsShowTheSame, RefusedCallsStay, QuietCallsKeep, RefusalsLeaveTheirReply, RowsTryTheSame, CallsHaveTheirEvents, EventsKeepLawful, EveryMrtdIsTheDigest, EventsMeasure, PagesHaveOneUse, GuestsKnowTheirPages, ToldAreMerged, OperationsTellBoth};
+ghost use Rattle.flat_core.specs.Laws.{RowsKeep, RowsAreBlind, MrtdIsTheDigest, RecordsAreMeasured, EveryWorldIsLawful, EveryPageIsOwned, ExportedAreCounted, OthersStay, QuietEventsStay, NoWordsToTell, LocksExclude, TreeIsNeverBusy, BlindRunsPrintTheSame, BlindRunsMakeTheSameBundles, AgreeingRunsShowTheSame, RefusedCallsStay, QuietCallsKeep, RefusalsLeaveTheirReply, RowsTryTheSame, CallsHaveTheirEvents, EventsKeepLawful, EveryMrtdIsTheDigest, EventsMeasure, PagesHaveOneUse, GuestsKnowTheirPages, ToldAreMerged, OperationsTellBoth};
 
 /// The worked examples: replies of small runs, and how many events they take.
 pub fn worked_examples()
@@ -23,8 +23,8 @@ pub fn row_laws()
 {}
 
 /// Each event keeps a world lawful, and every schedule leads to a lawful one: who owns which page and
-/// in which list or entry of its TD that page stands, which pages a TD's entries name, and whose each
-/// HKID is.
+/// in which list or entry of its TD that page stands, which pages a TD's entries name, whose each HKID
+/// is, and how many entries of a TD are dirty and how many are exported.
 pub fn lawful_law()
     ensures event { EventsKeepLawful }
     ensures run { EveryWorldIsLawful }
@@ -35,6 +35,14 @@ pub fn lawful_law()
 /// each secure EPT page and each private page of such a TD.
 pub fn ownership_law()
     ensures { EveryPageIsOwned }
+{}
+
+/// In every world that a schedule leads to, as many entries of a TD that isn't in TD_TEARDOWN are dirty
+/// as pages were dirtied less all that its streams cleaned, and as many are exported as unrestored
+/// entries and all first exports say together, modulo 2^64 (TD Migration Architecture, "Private Memory
+/// Migration").
+pub fn count_law()
+    ensures { ExportedAreCounted }
 {}
 
 /// An event of one processor leaves the others' records alone; what is refused, tried, undone or
