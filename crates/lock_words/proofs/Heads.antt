@@ -1,8 +1,8 @@
 -- A TD stands where its row's beginning passes; and events at the start of a run.
 use Rattle.std.proofs.Common.{◌≡◌, refl, ℕ, true, false, ◌==◌, length, arith}
-use Rattle.std.proofs.lemmas.Bool.{eqb-true}
 use Rattle.std.specs.Prelude.{[], ◌∷◌}
 use Rattle.std.specs.List.{list_any}
+use Rattle.std.proofs.lemmas.Bool.{eqb-true}
 use Rattle.td_words.specs.declared.names.PageKind.TheVariants as kind
 use Rattle.td_words.specs.declared.names.LifeState.TheVariants as life
 use Rattle.td_words.specs.NameNumber.{life_number}

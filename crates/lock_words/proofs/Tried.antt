@@ -1,5 +1,5 @@
--- Of the rows' tries: a lock of a TD is tried once P of its TDR page is held, which is tried first and shared; and where it
--- is tried it stands. And of their acts: a TD whose locks stand goes on to stand, but where P of its TDR page is held alone.
+-- Of each row: a lock of a TD is tried while P of its TDR page is held, which was tried first and shared; and where it is
+-- tried it stands.
 use Rattle.std.proofs.Common.{◌≡◌, refl, subst, ℕ, zero, suc, Bool, true, false, ◌==◌, List, [], ◌∷◌, ◌++◌, map, Option, Some, None}
 use Rattle.std.specs.Prelude.{filter, nat_lt}
 use Rattle.td_words.specs.declared.names.Mode.{Mode}

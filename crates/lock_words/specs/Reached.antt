@@ -1,5 +1,5 @@
 -- In every state that a run reaches, a lock of a TD is held and tried while P of its TDR page is held, and the locks that
--- are held, being refused or tried stand.
+-- are held, being refused or tried stand. No call that is built enters a guest, so of guests' operations this says nothing.
 use Rattle.std.specs.Prelude.{◌≡◌, ℕ, Option, Some, List}
 use Rattle.td_words.specs.declared.names.Mode.{Mode}
 use Rattle.flat_core.specs.Processor.{LockId}

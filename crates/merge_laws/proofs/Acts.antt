@@ -8,13 +8,12 @@ use Rattle.td_words.specs.declared.replies.Reply.{Reply}
 use Rattle.td_words.specs.Place.{WordPlace, IsIn, address}
 use Rattle.mrtd_measure.specs.declared.measures.Measure.{Measure}
 use Rattle.flat_core.specs.World.{World, put}
-use Rattle.flat_core.specs.Processor.{Held, Answered, Lp}
+use Rattle.flat_core.specs.Processor.{Held}
 use Rattle.flat_core.specs.Opening.{Opening}
-use Rattle.flat_core.specs.Row.{Move, Attempts, Undoes, Refuses, Succeeds, Releases, Rests}
+use Rattle.flat_core.specs.Row.{Move, Refuses, Succeeds}
 use Rattle.flat_core.specs.Table.{row_of}
 use Rattle.flat_core.specs.Event.{State, OfCall, next_event, lines_left, event, call_world}
 use Rattle.flat_core.proofs.Tests.{put_here}
-use Rattle.lock_words.specs.Grips.{CallTdrs}
 use Rattle.word_rules.specs.Guards.{Grip}
 use Rattle.word_rules.specs.Rules.{Grade}
 use Rattle.word_rules.specs.Views.{look}
@@ -40,7 +39,7 @@ use Rattle.merge_laws.proofs.Holding.{bare, turned-round}
 use Rattle.merge_laws.proofs.Standing.{Laws, leaf_for, AreTrees, Known, RunsAt, on_table, Position, back, Stands}
 use Rattle.merge_laws.proofs.Others.{shown-of}
 use Rattle.merge_laws.proofs.SlotSteps.{slots-event}
-use Rattle.merge_laws.proofs.Own.{AttemptTdr, tdrs-after, with_hasher, stands-after, world-of-event, at-other, Spares, gathered, none-due}
+use Rattle.merge_laws.proofs.Own.{with_hasher, stands-after, world-of-event, at-other, Spares, gathered, none-due}
 use Rattle.merge_laws.proofs.LockSteps.{engine, Moved}
 
 -- a refusal, or the act that succeeds
@@ -83,33 +82,6 @@ pub record OneAct (o : Opening) (trees : ℕ → Call → Tree) (s : State) (mem
 
 same-memory : (m : Machine) (u : Table) (h : Option Measure) (a b : Memory) → IsMemory m u h a → IsMemory m u h b → (r : WordPlace) → IsIn m r → a.words r ≡ b.words r
 same-memory m u h a b x y r i = sym (x.words r i) ∙ y.words r i
-
--- an act is no try of a lock
-act-no-attempt : (hs : List Held) (mv : Move Reply) → IsAct mv → AttemptTdr mv hs
-act-no-attempt hs (Attempts l k) a = absurd a
-act-no-attempt hs (Undoes l) a = absurd a
-act-no-attempt hs (Refuses r) a = tt
-act-no-attempt hs Succeeds a = tt
-act-no-attempt hs (Releases h) a = absurd a
-act-no-attempt hs Rests a = absurd a
-
--- nor a rest
-act-no-rest : (mv : Move Reply) → IsAct mv → mv ≡ Rests → ⊥
-act-no-rest (Refuses r) a h = cc
-act-no-rest Succeeds a h = cc
-act-no-rest (Attempts l k) a h = a
-act-no-rest (Undoes l) a h = a
-act-no-rest (Releases x) a h = a
-act-no-rest Rests a h = a
-
--- nor a release
-act-no-release : (lp : Lp) (mv : Move Reply) → IsAct mv → (h : Held) → mv ≡ Releases h → (r : Reply) × (lp.call.phase ≡ Answered r)
-act-no-release lp (Refuses r) a x h = cc
-act-no-release lp Succeeds a x h = cc
-act-no-release lp (Attempts l k) a x h = absurd a
-act-no-release lp (Undoes l) a x h = absurd a
-act-no-release lp (Releases y) a x h = absurd a
-act-no-release lp Rests a x h = absurd a
 
 -- the event of an act, and how all stands after it
 module _ (ls : Laws) (o : Opening) (trees : ℕ → Call → Tree) (s : State) (mem : Memory) (t t' : Table) (pos : ℕ → Position) (p : ℕ) (c : Call) (cs : List Call) (rs : List Reply) (run run' : Standing) (result : RunTurn) (are : AreTrees o trees) (known : Known o s)
@@ -271,10 +243,6 @@ module _ (ls : Laws) (o : Opening) (trees : ℕ → Call → Tree) (s : State) (
                   (one.undo r ∙ (ap (λ (u : Option ℕ). back u (mem.words r)) ez ∙ sym (owes-own r ∙ ex)))
               test false h = sym (owes-other k r h)
 
-  -- after the act too, a call that holds a lock of a TD holds P of its TDR page
-  tdrs-stay : CallTdrs ((event o s p).lps p).call
-  tdrs-stay = tdrs-after o s p (row_of o p c) one.move one.next (are.means p c).enters_none ra.tdrs (act-no-attempt (s.lps p).call.held one.move one.is_act) (act-no-rest one.move one.is_act) (act-no-release (s.lps p) one.move one.is_act)
-
   -- after the act all stands as it leaves it
   pub act-step : Moved o trees (event o s p) t' (put pos p (record { at = after_turn c cs rs run' result.reply; owes = one.owes; swaps = one.swaps; fill = None }))
   act-step =
@@ -298,13 +266,11 @@ module _ (ls : Laws) (o : Opening) (trees : ℕ → Call → Tree) (s : State) (
               held = λ x. subst (λ (hs : List Held). SwapsMay machine (bare hs) (event o s p).world (λ h. or_else (last_put one.put h) (sd.slots.now h)) one.swaps) (sym one.held_or_none) x;
             }))
             (record {
-              stands = stands-after o trees p c cs (s.lps p) (event o s p) act_table run' (hasher_for one.after.hand) result.reply lines act-made (λ z. absurd (one.answered z))
-                  tdrs-stay rs replies;
+              stands = stands-after o trees p c cs (s.lps p) (event o s p) act_table run' (hasher_for one.after.hand) result.reply lines act-made (λ z. absurd (one.answered z)) rs replies;
               due =
                   subst (λ (w : World). Keeps machine (bare ((event o s p).lps p).call.held) w (on_table machine t') one.owes) (sym act-world)
                   (subst (λ (hs : List Held). Keeps machine (bare hs) (call_world (row_of o p c) one.move s.world) (on_table machine t') one.owes) (sym one.held_or_none)
                   (keeps-same machine (bare (s.lps p).call.held) (bare (s.lps p).call.held) world_after world_after word_before (on_table machine t') one.owes (λ q k owes. owes) kept-there one.owed));
             })
-            tdrs-stay
             laid-after;
       }

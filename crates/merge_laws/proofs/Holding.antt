@@ -153,23 +153,8 @@ td-lock m w t i lawful st e =
 
 -- so a step on one is allowed where P of its TDR page is held
 
-tries-held : (hs : List Held) (t c : ℕ) (s : Spot) → s ≡ lock_spot t c → MayAt (bare hs) s tries → holds hs (OfPage t) ≡ true
-tries-held hs t c s e h = by (subst (λ (z : Spot). MayAt (bare hs) z tries) e h)
-  where
-    by : MayAt (bare hs) (lock_spot t c) tries → holds hs (OfPage t) ≡ true
-    by (inl x) = x.0
-    by (inr x) = absurd x
-
 held-tries : (hs : List Held) (t c : ℕ) (s : Spot) → s ≡ lock_spot t c → holds hs (OfPage t) ≡ true → MayAt (bare hs) s tries
 held-tries hs t c s e h = subst (λ (z : Spot). MayAt (bare hs) z tries) (sym e) (inl (h, tt))
-
-pub tdr-held : (m : Machine) (w : World) (hs : List Held) (l : LockId) → Lawful m w → Stands w l → Tries (bare hs) w (place_of w l) → HoldsTdr hs l
-tdr-held m w hs (OfPage p) lawful st h = tt
-tdr-held m w hs (OfOp t) lawful st h = tries-held hs t (tdcs_of w t) _ (td-lock m w t TDCS_OP_LOCK lawful st refl) h
-tdr-held m w hs (OfTree t) lawful st h = tries-held hs t (tdcs_of w t) _ (td-lock m w t TDCS_TREE_LOCK lawful st refl) h
-tdr-held m w hs (OfEpoch t) lawful st h = tries-held hs t (tdcs_of w t) _ (td-lock m w t TDCS_EPOCH_LOCK lawful st refl) h
-tdr-held m w hs (OfRtmr t) lawful st h = tries-held hs t (tdcs_of w t) _ (td-lock m w t TDCS_RTMR_LOCK lawful st refl) h
-tdr-held m w hs OfKeys lawful st h = tt
 
 pub may-try : (m : Machine) (w : World) (hs : List Held) (l : LockId) → Lawful m w → Stands w l → HoldsTdr hs l → Tries (bare hs) w (place_of w l)
 may-try m w hs (OfPage p) lawful st h = inl tt

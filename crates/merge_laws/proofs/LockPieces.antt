@@ -41,7 +41,7 @@ use Rattle.leaf_engine.proofs.Following.{leaves-follow-rows}
 use Rattle.leaf_engine.proofs.Turning.{instant, at-instant, due-is}
 use Rattle.leaf_engine.proofs.Calling.{next-is, snoc}
 use Rattle.merge_laws.proofs.Virtual.{table_of}
-use Rattle.merge_laws.proofs.Holding.{bare, tdr-held, may-try}
+use Rattle.merge_laws.proofs.Holding.{bare, may-try}
 use Rattle.merge_laws.proofs.Standing.{Laws, leaf_for, AreTrees, Known, HandOf, RunsAt, Position, HasInHand, Rest, Stands}
 use Rattle.merge_laws.proofs.Others.{shown-of, hold-is}
 use Rattle.merge_laws.proofs.LockSteps.{OneStep, lock-step}
@@ -110,7 +110,7 @@ undo-piece ls o trees s mem t pos p c cs run run' items e name at tps end_ a non
     by Trying h i = absurd i
     by (Answered r) h i = absurd i
     by (Undoing l) h i =
-        let tdr : HoldsTdr (s.lps p).call.held l = subst (λ (z : Phase Reply). UndoTdr z (s.lps p).call.held) h a.runs.tdrs.1 in
+        let tdr : HoldsTdr (s.lps p).call.held l = subst (λ (z : Phase Reply). UndoTdr z (s.lps p).call.held) h (a.known.tdrs p).0.1 in
         let one : OneStep o trees s p c (Undoes l) run run' (step.Sub at 1) tb.items.0 (place_of s.world l) (record { event = e; reply = last_reply run'.stage run'.held }) = record {
           turn = record { turn = subst (λ (z : List Taken). TurnBy run.stage o.machine run z run' e) tb.items.1 turn; reply = refl };
           going = a.going;
@@ -121,9 +121,6 @@ undo-piece ls o trees s mem t pos p c cs run run' items e name at tps end_ a non
           };
           next = next-is o s p (row_of o p c) (Undoing l) (s.lps p).call.held a.runs.call.line a.runs.call.guest h refl;
           quiet = refl;
-          tdr = tt;
-          no_rest = λ x. cc;
-          answered = λ y x. cc;
           inside = i.in_machine;
           at = i.at_is;
           tries = may-try o.machine s.world (s.lps p).call.held l a.known.lawful i.stands tdr;
@@ -163,7 +160,7 @@ free-piece ls o trees s mem t pos p c cs run run' items e r tps end_ a none st t
         let l : LockId = x.lock in
         let split = snoc locks.0 run'.held locks.1.0 gb.newest (sym locks.1.1 ∙ gb.held_are) in
         let it : IsLockAt o.machine s.world gb.newest.name gb.newest.at l = subst (λ (z : HeldLock). IsLockAt o.machine s.world z.name z.at l) split.1 locks.1.3 in
-        let tdrs = subst (λ (z : List Held). HoldTdrs z) k a.runs.tdrs.0 in
+        let tdrs = subst (λ (z : List Held). HoldTdrs z) k (a.known.tdrs p).0.0 in
         let may : MayTry (bare (s.lps p).call.held) s.world (place_of s.world l) =
         subst (λ (z : List Held). MayTry (bare z) s.world (place_of s.world l)) (sym k) (may-try o.machine s.world (x ∷ hs) l a.known.lawful it.stands (tdr-more x hs l tdrs.0)) in
         let one : OneStep o trees s p c (Releases x) run run' (step.Sub gb.newest.at (weight_of gb.newest.mode)) gb.items.0 (place_of s.world l) (record { event = e; reply = last_reply run'.stage run'.held }) = record {
@@ -176,9 +173,6 @@ free-piece ls o trees s mem t pos p c cs run run' items e r tps end_ a none st t
           };
           next = next-is o s p (row_of o p c) (Answered r') (x ∷ hs) a.runs.call.line a.runs.call.guest h k;
           quiet = refl;
-          tdr = tt;
-          no_rest = λ y. cc;
-          answered = λ y z. (r', h);
           inside = it.in_machine;
           at = it.at_is;
           tries = may;
@@ -231,7 +225,6 @@ try-piece ls o trees s mem t pos p c cs run run' e tree name at mode seen tps en
         let at-is : at ≡ address m.pages q = cc in
         let mode-is : mode' ≡ mode = cc in
         let may : MayTry (bare (s.lps p).call.held) s.world q = subst (λ (z : Grip). MayTry z s.world q) grip co.1.allowed in
-        let tdr : HoldsTdr (s.lps p).call.held l = tdr-held m s.world (s.lps p).call.held l a.known.lawful co.1.stands (subst (λ (z : WordPlace). MayTry (bare (s.lps p).call.held) s.world z) co.1.at may) in
         let one : OneStep o trees s p c (Attempts l mode) run run' (try_step at mode) seen q (record { event = e; reply = last_reply run'.stage run'.held }) = record {
           turn = record { turn = subst (λ (z : Stage). TurnBy z m run (Stepped (try_step at mode) seen ∷ []) run' e) (sym st) turn; reply = refl };
           going = a.going;
@@ -242,9 +235,6 @@ try-piece ls o trees s mem t pos p c cs run run' e tree name at mode seen tps en
           };
           next = due-is o task (row_of o p c) s mem run (Attempts l mode) refl a.runs.call st (co.0 ∙ ap (Attempts l) mode-is);
           quiet = refl;
-          tdr = tdr;
-          no_rest = λ y. cc;
-          answered = λ y z. cc;
           inside = co.1.in_machine;
           at = try-at at mode ∙ at-is;
           tries = may;

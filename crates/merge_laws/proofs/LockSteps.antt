@@ -6,13 +6,12 @@ use Rattle.td_words.specs.declared.calls.Call.{Call}
 use Rattle.td_words.specs.declared.replies.Reply.{Reply}
 use Rattle.td_words.specs.Place.{WordPlace, IsIn, address, same_place}
 use Rattle.flat_core.specs.World.{World, put}
-use Rattle.flat_core.specs.Processor.{Held, Answered}
+use Rattle.flat_core.specs.Processor.{Held}
 use Rattle.flat_core.specs.Opening.{Opening}
-use Rattle.flat_core.specs.Row.{Move, Rests, Releases}
+use Rattle.flat_core.specs.Row.{Move}
 use Rattle.flat_core.specs.Table.{row_of}
 use Rattle.flat_core.specs.Event.{State, OfCall, next_event, lines_left, event, call_world}
 use Rattle.flat_core.proofs.Tests.{put_here}
-use Rattle.lock_words.specs.Grips.{CallTdrs}
 use Rattle.word_rules.specs.Guards.{Apart}
 use Rattle.word_rules.specs.Rules.{View, Grade}
 use Rattle.word_rules.specs.Views.{look}
@@ -36,7 +35,7 @@ use Rattle.merge_laws.proofs.Holding.{bare, turned-round}
 use Rattle.merge_laws.proofs.Standing.{Laws, leaf_for, AreTrees, Known, HandOf, RunsAt, on_table, Position, Stands}
 use Rattle.merge_laws.proofs.Others.{shown-hand}
 use Rattle.merge_laws.proofs.SlotSteps.{slots-event}
-use Rattle.merge_laws.proofs.Own.{AttemptTdr, tdrs-after, stands-after, world-of-event, at-other, gathered, none-due}
+use Rattle.merge_laws.proofs.Own.{stands-after, world-of-event, at-other, gathered, none-due}
 
 pub engine : Laws → EngineLaws
 engine ls = record { follow = ls.follow; steps = ls.steps; places = ls.places; pages = ls.pages }
@@ -55,9 +54,6 @@ pub record OneStep (o : Opening) (trees : ℕ → Call → Tree) (s : State) (p 
   pub hand : HandOf run'
   pub next : next_event o s p ≡ Some (OfCall (row_of o p c) mv)
   pub quiet : call_world (row_of o p c) mv s.world ≡ s.world
-  pub tdr : AttemptTdr mv (s.lps p).call.held
-  pub no_rest : mv ≡ Rests → ⊥
-  pub answered : (h : Held) → mv ≡ Releases h → (r : Reply) × ((s.lps p).call.phase ≡ Answered r)
   pub inside : IsIn o.machine q
   pub at : address_of st ≡ address o.machine.pages q
   pub tries : Tries (bare (s.lps p).call.held) s.world q
@@ -194,10 +190,6 @@ module _ (ls : Laws) (o : Opening) (trees : ℕ → Call → Tree) (s : State) (
           ∙ laid-same (length o.calls) (λ k. (pos k).owes) (λ k. (put pos p its_position k).owes) (on_table machine t) (on_table machine stepped_table) r (λ k j. owes-same k r)
           (sym (step-elsewhere ls.places machine t.words st q r one.inside in_r one.at e)))
 
-  -- after the step too, a call that holds a lock of a TD holds P of its TDR page
-  tdrs-stay : CallTdrs ((event o s p).lps p).call
-  tdrs-stay = tdrs-after o s p (row_of o p c) mv one.next (are.means p c).enters_none ra.tdrs one.tdr one.no_rest one.answered
-
   -- after the step all stands as it leaves it
   pub lock-step : Moved o trees (event o s p) (record t { words = after_step t.words st }) (put pos p (record { at = after_turn c cs rs run' result.reply; owes = []; swaps = []; fill = None }))
   lock-step =
@@ -221,10 +213,8 @@ module _ (ls : Laws) (o : Opening) (trees : ℕ → Call → Tree) (s : State) (
               held = λ x. tt;
             }))
             (record {
-              stands = stands-after o trees p c cs (s.lps p) (event o s p) shown_after run' run'.hasher result.reply lines step-made one.hand.trying
-                  tdrs-stay rs replies;
+              stands = stands-after o trees p c cs (s.lps p) (event o s p) shown_after run' run'.hasher result.reply lines step-made one.hand.trying rs replies;
               due = tt;
             })
-            tdrs-stay
             laid-after;
       }

@@ -12,7 +12,8 @@ use Rattle.flat_core.specs.Event.{State, start, event}
 use Rattle.flat_core.specs.Run.{play, run}
 use Rattle.flat_core.proofs.Tests.{put_here}
 use Rattle.flat_core.proofs.Induction.{count_stays, play_append}
-use Rattle.lock_words.specs.Grips.{IsExclusive}
+use Rattle.lock_words.specs.Grips.{IsExclusive, TdrsAreHeld}
+use Rattle.lock_words.specs.LockWords.{LocksStand}
 use Rattle.mrtd_measure.specs.declared.measures.Measure.{Measure}
 use Rattle.step_core.specs.declared.steps.WordStep.TheVariants as step
 use Rattle.step_core.specs.Locks.{weight_of}
@@ -225,6 +226,8 @@ known-of ls o schedule s most is count tell = record {
   exclusive = subst (λ (z : State). IsExclusive z) (sym is) (λ l. ls.exclude o None schedule l);
   few = λ l. subst (λ (z : State). sharers z.lps z.lp_count l + refusals z.lps z.lp_count l + 1 < 2 ^ 63) (sym is) (ls.runs.few o None schedule l most);
   nothing_to_tell = tell;
+  tdrs = subst (λ (z : State). TdrsAreHeld z) (sym is) (ls.tdrs o None schedule);
+  stand = subst (λ (z : State). LocksStand z) (sym is) (ls.stand o None schedule);
 }
 
 known-next : (ls : Laws) (o : Opening) (s : State) (p : ℕ) → length o.calls ≤ 8 → Known o s → Known o (event o s p)

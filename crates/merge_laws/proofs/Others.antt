@@ -7,7 +7,7 @@ use Rattle.td_words.specs.declared.replies.Reply.{Reply}
 use Rattle.td_words.specs.Place.{WordPlace, IsIn, address}
 use Rattle.mrtd_measure.specs.declared.measures.Measure.{Measure}
 use Rattle.flat_core.specs.World.{World}
-use Rattle.flat_core.specs.Processor.{LockId, Held, Phase, Trying, Undoing, Answered, Progress, Guest, Lp}
+use Rattle.flat_core.specs.Processor.{LockId, Held, Phase, Trying, Undoing, Answered}
 use Rattle.flat_core.specs.Opening.{Opening}
 use Rattle.flat_core.specs.Table.{row_of}
 use Rattle.flat_core.specs.Lawful.{Lawful}
@@ -16,7 +16,6 @@ use Rattle.word_rules.specs.Guards.{Grip, Apart}
 use Rattle.word_rules.specs.Rules.{View, Whole, Grade}
 use Rattle.word_rules.specs.Views.{look}
 use Rattle.word_rules.specs.Permissions.{Reads, Owes, Fills, Respects, NoLaterConflict}
-use Rattle.lock_words.specs.LockWords.{HeldStand, UndoStands, GuestStands, LocksStand}
 use Rattle.step_core.specs.Items.{Table}
 use Rattle.lock_words.specs.Grips.{HoldTdrs, HoldsTdr, UndoTdr}
 use Rattle.leaf_engine.specs.declared.events.HeldLock.{HeldLock}
@@ -36,34 +35,6 @@ use Rattle.merge_laws.proofs.Keeping.{keeps-same}
 use Rattle.merge_laws.proofs.Holding.{bare, NoGuests, grip-is-bare, IsOlder, lock-stays, EachTold, told-reads, told-older, still-current}
 use Rattle.merge_laws.proofs.Standing.{Laws, leaf_for, AreTrees, Known, HandOf, RunsAt, RunAt, on_table, Fill, Position, seen_by, back, FillHolds, Pending, Holds, Stands}
 
--- the locks that are held, or being refused, stand
-locks-stand : (m : Machine) (w : World) (held : List HeldLock) (hs : List Held) → AreLocks m w held hs → HeldStand w hs
-locks-stand m w held [] h = tt
-locks-stand m w held (x ∷ hs) (older, (l, is, mode, at, rest)) = (at.stands, locks-stand m w older hs rest)
-
-undo-stands : (m : Machine) (w : World) (stage : Stage) (p : Phase Reply) → IsStage m w stage p → UndoStands w p
-undo-stands m w stage Trying h = tt
-undo-stands m w (stages.Undoing name at) (Undoing l) h = h.stands
-undo-stands m w stages.Trying (Undoing l) h = absurd h
-undo-stands m w (stages.Answered reply) (Undoing l) h = absurd h
-undo-stands m w stage (Answered r) h = tt
-
-no-guest-stands : (w : World) (g : Option Guest) → g ≡ None → GuestStands w g
-no-guest-stands w g e = subst (GuestStands w) (sym e) tt
-
-run-stands : (o : Opening) (trees : ℕ → Call → Tree) (p : ℕ) (w : World) (words : WordPlace → ℕ) (lp : Lp) (cs : List Call) (run : Option Standing) → RunAt o trees p w words lp cs run
-    → HeldStand w lp.call.held × UndoStands w lp.call.phase × GuestStands w lp.guest
-run-stands o trees p w words lp cs None h =
-    (subst (λ (c : Progress Reply). HeldStand w c.held) (sym h.call) tt, subst (λ (c : Progress Reply). UndoStands w c.phase) (sym h.call) tt, no-guest-stands w lp.guest h.guest)
-run-stands o trees p w words lp [] (Some r) h = absurd h
-run-stands o trees p w words lp (c ∷ cs) (Some r) h =
-    (locks-stand o.machine w r.held lp.call.held h.call.held, undo-stands o.machine w r.stage lp.call.phase h.call.stage, no-guest-stands w lp.guest h.call.guest)
-
-all-stand : (o : Opening) (trees : ℕ → Call → Tree) (s : State) (mem : Memory) (t : Table) (pos : ℕ → Position) → Known o s → Stands o trees s mem t pos → LocksStand s
-all-stand o trees s mem t pos known st q small =
-    let at = (st.holds q (subst (λ (n : ℕ). q < n) known.count small)).stands in
-    run-stands o trees q s.world mem.words (s.lps q) (pos q).at.lines (pos q).at.run at.run
-
 -- words that show a state, on a table that holds them, with the hasher that a run has in hand
 pub shown-hand : (o : Opening) (trees : ℕ → Call → Tree) (s : State) (mem : Memory) (t : Table) (pos : ℕ → Position) (p : ℕ) (c : Call) (run : Standing) → Known o s → Stands o trees s mem t pos → p < length o.calls
     → (ho : HandOf run) → IsShown (leaf_for o trees p c) s (record mem { hand = ho.hand }) (table_of o.machine mem.slots mem.words) run
@@ -75,8 +46,8 @@ shown-hand o trees s mem t pos p c run known st i ho = record {
   exclusive = known.exclusive;
   few_sharers = known.few;
   nothing_to_tell = known.nothing_to_tell;
-  tdrs = st.tdrs;
-  stand = all-stand o trees s mem t pos known st;
+  tdrs = known.tdrs;
+  stand = known.stand;
   empty_hand = λ e. empty ho.hand (subst (λ (h : Option Measure). IsHand h ho.hand) (ho.trying e) ho.is);
 }
   where
@@ -221,8 +192,8 @@ others-stay ls o trees s mem t pos k w' words' a' ks are known st i lv =
           call = record {
             line = ca.line;
             guest = ca.guest;
-            stage = stage-kept ls o.machine s.world w' (s.lps k).call.held ks r.stage (s.lps k).call.phase known.lawful lv.respects (lv.apart (s.lps k).call.held whole) a.tdrs.1 ca.stage;
-            held = locks-kept ls o.machine s.world w' (s.lps k).call.held (s.lps k).call.held ks r.held known.lawful lv.respects lv.apart whole a.tdrs.0 ca.held;
+            stage = stage-kept ls o.machine s.world w' (s.lps k).call.held ks r.stage (s.lps k).call.phase known.lawful lv.respects (lv.apart (s.lps k).call.held whole) (known.tdrs k).0.1 ca.stage;
+            held = locks-kept ls o.machine s.world w' (s.lps k).call.held (s.lps k).call.held ks r.held known.lawful lv.respects lv.apart whole (known.tdrs k).0.0 ca.held;
             told = λ e.
                 let told = ca.told e in
                 record {
@@ -234,7 +205,6 @@ others-stay ls o trees s mem t pos k w' words' a' ks are known st i lv =
                 };
           };
           trying = a.trying;
-          tdrs = a.tdrs;
         }
 
     run : (cs : List Call) (r : Option Standing) → RunAt o trees k s.world mem.words (s.lps k) cs r → RunAt o trees k w' words' (s.lps k) cs r

@@ -1,17 +1,16 @@
 -- What an event of a processor makes of where it is itself, and of all of them together.
 use Rattle.std.proofs.Common.{◌≡◌, ◌≢◌, ◌⊎◌, ℕ, suc, ◌<◌, Bool, true, false, ◌==◌, cond, List, [], ◌∷◌, ◌++◌, length, drop, Option, Some, None, refl, ap, sym, ◌∙◌, subst, inl, inr, arith, length-append}
 use Rattle.std.proofs.lemmas.Bool.{eq-eqb, eqb-true}
-use Rattle.td_words.specs.declared.names.Mode.TheVariants.{Shared, Exclusive}
 use Rattle.td_words.specs.declared.machines.Machine.{Machine}
 use Rattle.td_words.specs.declared.calls.Call.{Call}
 use Rattle.td_words.specs.declared.replies.Reply.{Reply}
 use Rattle.td_words.specs.Place.{WordPlace, IsIn}
 use Rattle.flat_core.specs.World.{World, put}
-use Rattle.flat_core.specs.Processor.{Held, Phase, Trying, Undoing, Answered, Progress, Entering, Guest, Lp}
+use Rattle.flat_core.specs.Processor.{Held, Lp}
 use Rattle.flat_core.specs.Opening.{Opening}
-use Rattle.flat_core.specs.Row.{Row, Move, Attempts, Undoes, Refuses, Succeeds, Releases, Rests, after_move}
+use Rattle.flat_core.specs.Row.{Row, Move}
 use Rattle.flat_core.specs.Table.{row_of}
-use Rattle.flat_core.specs.Event.{State, OfCall, next_event, lines_left, event, call_lp, call_busy, call_world, settle, settled, succeeded, is_granted, calls_of}
+use Rattle.flat_core.specs.Event.{State, OfCall, next_event, lines_left, event, call_lp, call_world, settled, is_granted, calls_of}
 use Rattle.flat_core.proofs.Tests.{put_here}
 use Rattle.flat_core.proofs.Ends.{drop_next}
 use Rattle.word_rules.specs.Guards.{Grip, Apart}
@@ -21,7 +20,6 @@ use Rattle.word_rules.specs.Permissions.{Reads, Owes, Fills, Respects}
 use Rattle.word_rules.specs.Cells.{Shows}
 use Rattle.mrtd_measure.specs.declared.measures.Measure.{Measure}
 use Rattle.step_core.specs.Items.{Table}
-use Rattle.lock_words.specs.Grips.{CallTdrs, HoldTdrs, HoldsTdr, UndoTdr, GuestTdrs, TdrsAreHeld}
 use Rattle.leaf_engine.specs.Changes.{Memory}
 use Rattle.leaf_engine.specs.Trees.{Tree}
 use Rattle.leaf_engine.specs.Turns.{Standing}
@@ -43,51 +41,6 @@ lp-of-event o s p row mv e = ap (λ (z : State). z.lps p) (event-is o s p row mv
 pub world-of-event : (o : Opening) (s : State) (p : ℕ) (row : Row) (mv : Move Reply) → next_event o s p ≡ Some (OfCall row mv) → (event o s p).world ≡ call_world row mv s.world
 world-of-event o s p row mv e = ap (λ (z : State). z.world) (event-is o s p row mv e)
 
--- the locks that it holds
-
-abbrev pub AttemptTdr : Move Reply → List Held → Type 0
-AttemptTdr (Attempts l m) hs = HoldsTdr hs l
-AttemptTdr _ hs = Unit {0}
-
-older-tdrs : (hs : List Held) → HoldTdrs hs → HoldTdrs (Rattle.flat_core.specs.Row.but_newest hs)
-older-tdrs [] h = h
-older-tdrs (x ∷ hs) h = h.1
-
-moved-tdrs : (g : Bool) (done : Reply) (mv : Move Reply) (c : Progress Reply) → CallTdrs c → AttemptTdr mv c.held → (mv ≡ Rests → ⊥) → ((h : Held) → mv ≡ Releases h → (r : Reply) × (c.phase ≡ Answered r))
-    → CallTdrs (after_move call_busy g done mv c)
-moved-tdrs true done (Attempts l m) c t a nr an = ((a, t.0), tt)
-moved-tdrs false done (Attempts l Shared) c t a nr an = (t.0, a)
-moved-tdrs false done (Attempts l Exclusive) c t a nr an = (t.0, tt)
-moved-tdrs g done (Undoes l) c t a nr an = (t.0, tt)
-moved-tdrs g done (Refuses r) c t a nr an = (t.0, tt)
-moved-tdrs g done Succeeds c t a nr an = (t.0, tt)
-moved-tdrs g done (Releases h) c t a nr an = (
-  older-tdrs c.held t.0,
-  (let e = an h refl in subst (λ (ph : Phase Reply). UndoTdr ph (Rattle.flat_core.specs.Row.but_newest c.held)) (sym e.1) tt),
-)
-moved-tdrs g done Rests c t a nr an = absurd (nr refl)
-
-settled-tdrs : (ph : Phase Reply) (hs : List Held) (lp : Lp) → CallTdrs lp.call → CallTdrs (settle ph hs lp).call
-settled-tdrs (Answered r) [] lp t = (tt, tt)
-settled-tdrs (Answered r) (h ∷ hs) lp t = t
-settled-tdrs Trying hs lp t = t
-settled-tdrs (Undoing l) hs lp t = t
-
-call-tdrs : (w : World) (g : Bool) (row : Row) (mv : Move Reply) (lp : Lp) → row.enters ≡ None → CallTdrs lp.call → AttemptTdr mv lp.call.held → (mv ≡ Rests → ⊥) → ((h : Held) → mv ≡ Releases h → (r : Reply) × (lp.call.phase ≡ Answered r))
-    → CallTdrs (call_lp w g row mv lp).call
-call-tdrs w g row Succeeds lp none t a nr an = subst (λ (e : Option Entering). CallTdrs (succeeded w row e lp).call) (sym none) (t.0, tt)
-call-tdrs w g row (Attempts l m) lp none t a nr an = moved-tdrs g (Rattle.td_words.specs.declared.replies.Reply.TheVariants.Done (row.value w)) (Attempts l m) lp.call t a nr an
-call-tdrs w g row (Undoes l) lp none t a nr an = moved-tdrs g (Rattle.td_words.specs.declared.replies.Reply.TheVariants.Done (row.value w)) (Undoes l) lp.call t a nr an
-call-tdrs w g row (Refuses r) lp none t a nr an = moved-tdrs g (Rattle.td_words.specs.declared.replies.Reply.TheVariants.Done (row.value w)) (Refuses r) lp.call t a nr an
-call-tdrs w g row (Releases h) lp none t a nr an = moved-tdrs g (Rattle.td_words.specs.declared.replies.Reply.TheVariants.Done (row.value w)) (Releases h) lp.call t a nr an
-call-tdrs w g row Rests lp none t a nr an = absurd (nr refl)
-
-pub tdrs-after : (o : Opening) (s : State) (p : ℕ) (row : Row) (mv : Move Reply) → next_event o s p ≡ Some (OfCall row mv) → row.enters ≡ None → CallTdrs (s.lps p).call → AttemptTdr mv (s.lps p).call.held → (mv ≡ Rests → ⊥)
-    → ((h : Held) → mv ≡ Releases h → (r : Reply) × ((s.lps p).call.phase ≡ Answered r)) → CallTdrs ((event o s p).lps p).call
-tdrs-after o s p row mv e none t a nr an =
-    let lp : Lp = call_lp s.world (is_granted s (OfCall row mv)) row mv (s.lps p) in
-    subst (λ (z : Lp). CallTdrs z.call) (sym (lp-of-event o s p row mv e)) (settled-tdrs lp.call.phase lp.call.held lp (call-tdrs s.world (is_granted s (OfCall row mv)) row mv (s.lps p) none t a nr an))
-
 -- its lines
 
 one-more : (rs : List Reply) (r : Reply) → length (rs ++ r ∷ []) ≡ suc (length rs)
@@ -98,9 +51,9 @@ abbrev pub with_hasher : Standing → Option Measure → Standing
 with_hasher run h = record run { hasher = h }
 
 pub stands-after : (o : Opening) (trees : ℕ → Call → Tree) (p : ℕ) (c : Call) (cs : List Call) (lp : Lp) (s' : State) (u : Table) (run' : Standing) (h : Option Measure) (reply : Option Reply) → lines_left o p lp ≡ c ∷ cs
-    → (after : After o (leaf_for o trees p c) (row_of o p c) lp.replies s' u (with_hasher run' h) reply) → NoneOnWay run' → CallTdrs (s'.lps p).call → (rs : List Reply) → lp.replies ≡ rs
+    → (after : After o (leaf_for o trees p c) (row_of o p c) lp.replies s' u (with_hasher run' h) reply) → NoneOnWay run' → (rs : List Reply) → lp.replies ≡ rs
     → StandsAt o trees p s'.world after.mem.words (s'.lps p) (after_turn c cs rs run' reply)
-stands-after o trees p c cs lp s' u run' h reply lines after none tdrs rs same = by reply after.then_
+stands-after o trees p c cs lp s' u run' h reply lines after none rs same = by reply after.then_
   where
     same-call : IsCallAt o (leaf_for o trees p c) (row_of o p c) s'.world after.mem.words (s'.lps p) (with_hasher run' h) → IsCallAt o (leaf_for o trees p c) (row_of o p c) s'.world after.mem.words (s'.lps p) run'
     same-call ca = record {
@@ -116,7 +69,7 @@ stands-after o trees p c cs lp s' u run' h reply lines after none tdrs rs same =
     by None (inl g) = record {
       lines = ap (λ (z : List Reply). drop (length z) (calls_of o.calls p)) g.replies_are ∙ lines;
       replies = g.replies_are ∙ same;
-      run = record { call = same-call g.call; trying = none; tdrs = tdrs };
+      run = record { call = same-call g.call; trying = none };
     }
     by (Some r) (inl g) = (let e = g.no_reply in cc)
     by None (inr v) = (let e = v.reply_is in cc)
@@ -164,15 +117,14 @@ pub record Spares (m : Machine) (s : State) (p : ℕ) (w' : World) (words words'
 pub gathered : (ls : Laws) (o : Opening) (trees : ℕ → Call → Tree) (s : State) (mem mem' : Memory) (t t' : Table) (pos : ℕ → Position) (p : ℕ) (now : Position) → AreTrees o trees → Known o s → Stands o trees s mem t pos → p < length o.calls
     → Spares o.machine s p (event o s p).world mem.words mem'.words (on_table o.machine t) (on_table o.machine t') → Shows o.machine mem'.words mem'.slots (event o s p) → mem'.hand ≡ None
     → Slots o (event o s p) mem'.slots t'.slots (put pos p now)
-    → Holds o trees p (event o s p).world mem'.words (on_table o.machine t') ((event o s p).lps p) now → CallTdrs ((event o s p).lps p).call
+    → Holds o trees p (event o s p).world mem'.words (on_table o.machine t') ((event o s p).lps p) now
     → ((r : WordPlace) → IsIn o.machine r → mem'.words r ≡ laid (length o.calls) (λ k. (put pos p now k).owes) (on_table o.machine t') r)
     → Stands o trees (event o s p) mem' t' (put pos p now)
-gathered ls o trees s mem mem' t t' pos p now are known st i sp shows hand slots own tdr laid_is = record {
+gathered ls o trees s mem mem' t t' pos p now are known st i sp shows hand slots own laid_is = record {
   shows = shows;
   hand = hand;
   slots = slots;
   guests = guests;
-  tdrs = tdrs;
   holds = holds;
   laid_is = laid_is;
 }
@@ -186,18 +138,6 @@ gathered ls o trees s mem mem' t t' pos p now are known st i sp shows hand slots
         by : (b : Bool) → (k == p) ≡ b → ((event o s p).lps k).guest ≡ None
         by true e = (let q : p ≡ k = sym (eqb-true k p e) in subst (λ (z : ℕ). ((event o s p).lps z).guest ≡ None) q (no-guest o trees p (event o s p).world mem'.words ((event o s p).lps p) now.at own.stands))
         by false e = ap (λ (z : Lp). z.guest) (other k e) ∙ st.guests k
-
-    tdrs : TdrsAreHeld (event o s p)
-    tdrs k = by (k == p) refl
-      where
-        no-guests : (hs : List Held) (g : Option Guest) → g ≡ None → GuestTdrs hs g
-        no-guests hs g e = subst (λ (z : Option Guest). GuestTdrs hs z) (sym e) tt
-
-        by : (b : Bool) → (k == p) ≡ b → CallTdrs ((event o s p).lps k).call × GuestTdrs ((event o s p).lps k).call.held ((event o s p).lps k).guest
-        by true e =
-            let q : p ≡ k = sym (eqb-true k p e) in
-            (subst (λ (z : ℕ). CallTdrs ((event o s p).lps z).call) q tdr, no-guests ((event o s p).lps k).call.held ((event o s p).lps k).guest (guests k))
-        by false e = (subst (λ (z : Lp). CallTdrs z.call) (sym (other k e)) (st.tdrs k).0, no-guests ((event o s p).lps k).call.held ((event o s p).lps k).guest (guests k))
 
     holds : (k : ℕ) → k < length o.calls → Holds o trees k (event o s p).world mem'.words (on_table o.machine t') ((event o s p).lps k) (put pos p now k)
     holds k j = by (k == p) refl

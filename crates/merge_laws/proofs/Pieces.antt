@@ -1,5 +1,5 @@
 -- One piece of a merge: what it makes of the state, the table, and where its processor is.
-use Rattle.std.proofs.Common.{◌≡◌, ℕ, List, [], ◌∷◌, ◌++◌, Option, Some, None, refl, sym, ◌∙◌, subst}
+use Rattle.std.proofs.Common.{◌≡◌, ℕ, List, [], ◌∷◌, ◌++◌, Option, Some, None, refl, ◌∙◌, subst}
 use Rattle.td_words.specs.declared.calls.Call.{Call}
 use Rattle.td_words.specs.Place.{WordPlace}
 use Rattle.flat_core.specs.World.{World, put}
@@ -9,7 +9,6 @@ use Rattle.flat_core.specs.Table.{row_of}
 use Rattle.flat_core.specs.Event.{State, event}
 use Rattle.step_core.specs.Words.{after_step, answer_of}
 use Rattle.step_core.specs.Items.{Table, Taken, Stepped, Swapped, Missed, PlaysTo, with_slot}
-use Rattle.lock_words.specs.Grips.{CallTdrs}
 use Rattle.leaf_engine.specs.Changes.{Memory}
 use Rattle.leaf_engine.specs.Trees.{Tree}
 use Rattle.leaf_engine.specs.Turns.{Standing}
@@ -84,6 +83,5 @@ line-runs o trees p c cs w words lp at st lines = by at.run (subst (λ (z : List
     by None between = record {
       call = calls-begin o (leaf_for o trees p c) (row_of o p c) w words lp (record { call = c; further = cs; lines = st.lines ∙ lines; row_is = refl }) between;
       trying = λ e. refl;
-      tdrs = subst (λ z. CallTdrs z) (sym between.call) (tt, tt);
     }
     by (Some r) a = a

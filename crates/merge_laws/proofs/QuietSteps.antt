@@ -56,7 +56,6 @@ rearranged ls o trees s mem t t' pos p now sd slots still unfilled own laid_is =
   hand = sd.hand;
   slots = slots;
   guests = sd.guests;
-  tdrs = sd.tdrs;
   holds = holds;
   laid_is = laid_is;
 }

@@ -56,7 +56,6 @@ starts ls o trees = record {
     may = λ p i. tt;
   };
   guests = λ p. refl;
-  tdrs = λ p. ((tt, tt), tt);
   holds = λ p i. record { stands = record { lines = refl; replies = refl; run = record { call = refl; guest = refl } }; due = tt };
   laid_is = λ r in_r. sym (laid-none (length o.calls) (λ p. []) (λ q. 0) r (λ q l. refl));
 }

@@ -20,8 +20,9 @@ use Rattle.word_rules.specs.Guards.{Grip}
 use Rattle.word_rules.specs.Permissions.{WordsNeverConflict, ActsNeverConflict, RespectsCompose}
 use Rattle.word_rules.specs.Views.{ViewsAreKept}
 use Rattle.word_rules.specs.Cells.{Shows, StartIsShown}
-use Rattle.lock_words.specs.Grips.{IsExclusive, GripsAreApart, CallTdrs, TdrsAreHeld}
-use Rattle.lock_words.specs.LockWords.{LockWordsFollow, LockStepsShown, RunsFollow, TdLocksStay}
+use Rattle.lock_words.specs.Grips.{IsExclusive, GripsAreApart, TdrsAreHeld}
+use Rattle.lock_words.specs.LockWords.{LocksStand, LockWordsFollow, LockStepsShown, RunsFollow, TdLocksStay}
+use Rattle.lock_words.specs.Reached.{EveryTdrIsHeld, EveryLockStands}
 use Rattle.act_rules.specs.Stores.{OthersStoresKeepReads}
 use Rattle.step_core.specs.Items.{Table, Taken}
 use Rattle.step_core.specs.Laws.{PagesChangeAlone}
@@ -51,6 +52,8 @@ pub record Laws : Type 0 where
   pub follow : LockWordsFollow
   pub runs : RunsFollow
   pub steps : LockStepsShown
+  pub tdrs : EveryTdrIsHeld
+  pub stand : EveryLockStands
   pub places : PlacesInjective
   pub pages : PagesChangeAlone
   pub words : WordsNeverConflict
@@ -79,6 +82,8 @@ pub record Known (o : Opening) (s : State) : Type 0 where
   pub exclusive : IsExclusive s
   pub few : (l : LockId) → sharers s.lps s.lp_count l + refusals s.lps s.lp_count l + 1 < 2 ^ 63
   pub nothing_to_tell : s.world.outgoing.to_tell ≡ None
+  pub tdrs : TdrsAreHeld s
+  pub stand : LocksStand s
 
 abbrev pub NoneOnWay : Standing → Type 0
 NoneOnWay run = run.stage ≡ stages.Trying → run.hasher ≡ None
@@ -93,7 +98,6 @@ pub record HandOf (run : Standing) : Type 0 where
 pub record RunsAt (o : Opening) (task : Task) (row : Row) (w : World) (words : WordPlace → ℕ) (lp : Lp) (run : Standing) : Type 0 where
   pub call : IsCallAt o task row w words lp run
   pub trying : NoneOnWay run
-  pub tdrs : CallTdrs lp.call
 
 abbrev pub RunAt : Opening → (ℕ → Call → Tree) → ℕ → World → (WordPlace → ℕ) → Lp → List Call → Option Standing → Type 0
 RunAt o trees p w words lp cs None = IsBetween lp
@@ -212,6 +216,5 @@ pub record Stands (o : Opening) (trees : ℕ → Call → Tree) (s : State) (mem
   pub hand : mem.hand ≡ None
   pub slots : Slots o s mem.slots t.slots pos
   pub guests : NoGuests s
-  pub tdrs : TdrsAreHeld s
   pub holds : (p : ℕ) → p < length o.calls → Holds o trees p s.world mem.words (on_table o.machine t) (s.lps p) (pos p)
   pub laid_is : (r : WordPlace) → IsIn o.machine r → mem.words r ≡ laid (length o.calls) (λ p. (pos p).owes) (on_table o.machine t) r

@@ -55,7 +55,6 @@ load-piece ls o trees s mem t pos p c cs run run' e at x tp tps end_ a none st l
               run = record {
                 call = told-load o trees p c s.world mem.words (s.lps p) run x a.runs.call st right (subst (λ (z : Tree). GoesOnBehind z x) (told-tree o trees s mem t pos p c cs run a st) on);
                 trying = a.runs.trying;
-                tdrs = a.runs.tdrs;
               };
             };
             due = tt;
