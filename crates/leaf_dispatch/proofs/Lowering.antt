@@ -13,7 +13,7 @@ use Rattle.leaf_engine.specs.declared.events.HeldLock.{HeldLock}
 use Rattle.leaf_engine.specs.declared.events.Stage.{Stage}
 use Rattle.leaf_engine.specs.declared.events.Stage.TheVariants as stages
 use Rattle.leaf_engine.specs.Trees.{Tree, Lock, Load, Test, End, Since, feed, settle, fed, passed}
-use Rattle.leaf_engine.specs.Decides.{Gives}
+use Rattle.leaf_engine.specs.Decides.{Wants}
 use Rattle.leaf_engine.specs.Items.{IsLoaded}
 use Rattle.leaf_engine.specs.Turns.{Standing, tried, busy, Comes, TurnBy}
 use Rattle.leaf_dispatch.specs.Bounds.{TriesAtMost, FewTries, stage_left}
@@ -44,7 +44,7 @@ few-loaded pages n t u (Swapped k p q ∷ xs) few l = absurd l
 few-loaded pages n t u (Missed k ∷ xs) few l = absurd l
 
 -- at the try of a lock one fewer is left
-few-lock : (pages n : ℕ) (t : Tree) (name : LockName) (at : ℕ) (mode : Mode) → Gives pages t (need.Lock name at mode) → TriesAtMost n t → (1 ≤ n) × TriesAtMost (n - 1) (passed t)
+few-lock : (pages n : ℕ) (t : Tree) (name : LockName) (at : ℕ) (mode : Mode) → Wants pages t (need.Lock name at mode) → TriesAtMost n t → (1 ≤ n) × TriesAtMost (n - 1) (passed t)
 few-lock pages n (Lock l q m t) name at mode g few = (few.0, few-fed (n - 1) t [] few.1)
 few-lock pages n (Load v q k) name at mode g few = cc
 few-lock pages n (Test b r t) name at mode g few = absurd g
@@ -84,7 +84,7 @@ tries-lower n s s' t name at Exclusive false on room first few e =
     }
 
 goes-lower : (m : Machine) (n : ℕ) (s s' : Standing) (xs loads : List Taken) (t : Tree) (d : Need) (e : Event) → s.stage ≡ stages.Trying → length s.held ≤ n → TriesAtMost (n - length s.held) s.rest
-    → IsLoaded m.pages s.rest loads t → Gives m.pages (settle t) d → Comes m s (passed (settle t)) loads xs d s' e → Lowers n s s'
+    → IsLoaded m.pages s.rest loads t → Wants m.pages (settle t) d → Comes m s (passed (settle t)) loads xs d s' e → Lowers n s s'
 goes-lower m n s s' xs loads t (need.Lock name at mode) e on room few l g c =
     let here : TriesAtMost (n - length s.held) (settle t) = few-fed (n - length s.held) t [] (few-loaded m.pages (n - length s.held) s.rest t loads few l) in
     let more = few-lock m.pages (n - length s.held) (settle t) name at mode g here in

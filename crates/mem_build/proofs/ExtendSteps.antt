@@ -21,8 +21,8 @@ use Rattle.leaf_engine.specs.declared.needs.Write.TheVariants as write
 use Rattle.leaf_engine.specs.declared.plans.Stop.{Stop}
 use Rattle.leaf_engine.specs.declared.plans.Stop.TheVariants as stop
 use Rattle.leaf_engine.specs.Changes.{Hand, Change, Swap}
-use Rattle.leaf_engine.specs.Decides.{Decides, Gives, IsHand, HandsNext, need_for}
-use Rattle.leaf_engine.specs.Trees.{Tree, Lock, Load, Test, End, Since, feed, fed, settle, passed, changes_of, left_of}
+use Rattle.leaf_engine.specs.Decides.{Decides, Wants, IsHand, HandsNext, need_for}
+use Rattle.leaf_engine.specs.Trees.{Tree, Lock, Load, Test, End, Since, feed, fed, settle, passed, changes_of, changes_left}
 use Rattle.leaf_engine.proofs.Decided.{feed-append, decided, decided-kept, decided-lock}
 use Rattle.leaf_parts.specs.Words.{is_hkid}
 use Rattle.mem_build.specs.declared.extensions.Chunk.{Chunk}
@@ -59,27 +59,27 @@ module _ (m : Machine) (gpa page hkid : ℕ) (words : List ℕ) where
   chunk-ends : length words ≡ 32 → rest ≡ measure_tree m gpa hkid words
   chunk-ends all = words-end page (word_of_gpa gpa) 32 [] words (measure_tree m gpa hkid) all
 
-  pub asks-gives : (n at : ℕ) → length words < 32 → at ≡ word_at page (word_of_gpa gpa + length words) → Gives n (settle rest) (need.Load at)
-  asks-gives n at few is = (let a = chunk-asks few in subst (λ (t : Tree). Gives n (settle t) (need.Load at)) (sym a.1) (ap need.Load is))
+  pub asks-gives : (n at : ℕ) → length words < 32 → at ≡ word_at page (word_of_gpa gpa + length words) → Wants n (settle rest) (need.Load at)
+  asks-gives n at few is = (let a = chunk-asks few in subst (λ (t : Tree). Wants n (settle t) (need.Load at)) (sym a.1) (ap need.Load is))
 
   pub asks-kept : length words < 32 → rest ≡ passed (settle rest)
   asks-kept few = (let a = chunk-asks few in subst (λ (t : Tree). t ≡ passed (settle t)) (sym a.1) refl)
 
-  pub ends-gives : (n : ℕ) → length words ≡ 32 → Gives n (settle rest) (need.Verdict (Done value.Nothing))
-  ends-gives n all = subst (λ (t : Tree). Gives n (settle t) (need.Verdict (Done value.Nothing))) (sym (chunk-ends all)) refl
+  pub ends-gives : (n : ℕ) → length words ≡ 32 → Wants n (settle rest) (need.Verdict (Done value.Nothing))
+  ends-gives n all = subst (λ (t : Tree). Wants n (settle t) (need.Verdict (Done value.Nothing))) (sym (chunk-ends all)) refl
 
   pub ends-kept : length words ≡ 32 → rest ≡ passed (settle rest)
   ends-kept all = subst (λ (t : Tree). t ≡ passed (settle t)) (sym (chunk-ends all)) refl
 
-  pub ends-hand : (j k : ℕ) (h h' : Option Measure) (w : Option Write) → length words ≡ 32 → HandsNext m (drop j (extend_changes m gpa hkid words)) (drop k (extend_changes m gpa hkid words)) h h' w → HandsNext m (left_of rest j) (left_of rest k) h h' w
-  ends-hand j k h h' w all next = subst (λ (t : Tree). HandsNext m (left_of t j) (left_of t k) h h' w) (sym (chunk-ends all)) next
+  pub ends-hand : (j k : ℕ) (h h' : Option Measure) (w : Option Write) → length words ≡ 32 → HandsNext m (drop j (extend_changes m gpa hkid words)) (drop k (extend_changes m gpa hkid words)) h h' w → HandsNext m (changes_left rest j) (changes_left rest k) h h' w
+  ends-hand j k h h' w all next = subst (λ (t : Tree). HandsNext m (changes_left t j) (changes_left t k) h h' w) (sym (chunk-ends all)) next
 
   drop-none : (j : ℕ) → drop {A = Change} j [] ≡ []
   drop-none zero = refl
   drop-none (suc j) = refl
 
-  pub asks-none : (j : ℕ) → length words < 32 → left_of rest j ≡ []
-  asks-none j few = (let a = chunk-asks few in subst (λ (t : Tree). left_of t j ≡ []) (sym a.1) (drop-none j))
+  pub asks-none : (j : ℕ) → length words < 32 → changes_left rest j ≡ []
+  asks-none j few = (let a = chunk-asks few in subst (λ (t : Tree). changes_left t j ≡ []) (sym a.1) (drop-none j))
 
 -- a tree that changes nothing before it has so many answers
 abbrev Bare : Tree → ℕ → Type 0
@@ -138,8 +138,8 @@ module _ (p : Place) (t gpa : ℕ) (o : Option Chunk) (told words : List ℕ) wh
 
   -- a condition stops it
   module _ (none : o ≡ None) where
-    pub stop-gives : (e : Stop) → Decides p.machine.pages (extend_tree p.machine t gpa) told (Err e) → Gives p.machine.pages (settle left) (need_for (Err e))
-    stop-gives e d = subst (λ (u : Tree). Gives p.machine.pages (settle u) (need_for (Err e))) (sym (at-conditions none)) (decided p.machine.pages (extend_tree p.machine t gpa) told (Err e) d)
+    pub stop-gives : (e : Stop) → Decides p.machine.pages (extend_tree p.machine t gpa) told (Err e) → Wants p.machine.pages (settle left) (need_for (Err e))
+    stop-gives e d = subst (λ (u : Tree). Wants p.machine.pages (settle u) (need_for (Err e))) (sym (at-conditions none)) (decided p.machine.pages (extend_tree p.machine t gpa) told (Err e) d)
 
     pub refused-kept : (r : Reply) → Decides p.machine.pages (extend_tree p.machine t gpa) told (Err (stop.Refused r)) → left ≡ passed (settle left)
     refused-kept r d = subst (λ (u : Tree). u ≡ passed (settle u)) (sym (at-conditions none)) (decided-kept p.machine.pages (extend_tree p.machine t gpa) told (Err (stop.Refused r)) d tt)
@@ -149,8 +149,8 @@ module _ (p : Place) (t gpa : ℕ) (o : Option Chunk) (told words : List ℕ) wh
         subst (λ (y : Option Chunk). rest_of p t gpa y after words ≡ passed (settle (rest_of p t gpa y told words))) (sym none)
         (rw is (decided-lock p.machine.pages (extend_tree p.machine t gpa) told name at mode d))
 
-    pub conditions-none : (j : ℕ) → length told ≤ 15 → left_of left j ≡ []
-    conditions-none j few = subst (λ (u : Tree). left_of u j ≡ []) (sym (at-conditions none))
+    pub conditions-none : (j : ℕ) → length told ≤ 15 → changes_left left j ≡ []
+    conditions-none j few = subst (λ (u : Tree). changes_left u j ≡ []) (sym (at-conditions none))
         (ap (drop j) (bare (extend_tree p.machine t gpa) 16 told (extend-bare p.machine t gpa) (omega (arith, few))) ∙ drop-none p.machine gpa 0 0 [] j)
 
     -- the conditions hold, and the chunk is known
@@ -164,8 +164,8 @@ module _ (p : Place) (t gpa : ℕ) (o : Option Chunk) (told words : List ℕ) wh
           let few : length told ≤ 15 = (conditions-known none known).1 in
           at-conditions none ∙ (comes ∙ ap (feed (chunk_tree p.machine gpa c.page c.hkid (word_of_gpa gpa) 32 [])) (nothing after (omega (arith, few, uses))))
 
-      pub found-gives : (at : ℕ) → at ≡ word_at c.page (word_of_gpa gpa + 0) → Gives p.machine.pages (settle left) (need.Load at)
-      found-gives at is = subst (λ (u : Tree). Gives p.machine.pages (settle u) (need.Load at)) (sym found) (asks-gives p.machine gpa c.page c.hkid [] p.machine.pages at (omega arith) is)
+      pub found-gives : (at : ℕ) → at ≡ word_at c.page (word_of_gpa gpa + 0) → Wants p.machine.pages (settle left) (need.Load at)
+      found-gives at is = subst (λ (u : Tree). Wants p.machine.pages (settle u) (need.Load at)) (sym found) (asks-gives p.machine gpa c.page c.hkid [] p.machine.pages at (omega arith) is)
 
       pub found-kept : feed (chunk_tree p.machine gpa c.page c.hkid (word_of_gpa gpa) 32 []) words ≡ passed (settle left)
       found-kept =

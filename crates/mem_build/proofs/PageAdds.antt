@@ -18,9 +18,9 @@ use Rattle.leaf_engine.specs.declared.needs.Need.TheVariants as need
 use Rattle.leaf_engine.specs.declared.needs.Write.{Write}
 use Rattle.leaf_engine.specs.declared.needs.Write.TheVariants as write
 use Rattle.leaf_engine.specs.Changes.{Hand, Change, Put, Copy, Swap}
-use Rattle.leaf_engine.specs.Trees.{Tree, feed, settle, passed, left_of}
+use Rattle.leaf_engine.specs.Trees.{Tree, feed, settle, passed, changes_left}
 use Rattle.leaf_engine.specs.Inside.{WriteInside}
-use Rattle.leaf_engine.specs.Decides.{Decides, Gives, IsHand, HandsOut, HandsNext}
+use Rattle.leaf_engine.specs.Decides.{Decides, Wants, IsHand, HandsOut, HandsNext}
 use Rattle.leaf_engine.specs.declared.plans.Stop.{Stop}
 use Rattle.td_words.specs.declared.refusals.Status.TheVariants.{EptEntryStateIncorrect}
 use Rattle.leaf_parts.specs.Parts.{Goes, Feeds}
@@ -35,14 +35,14 @@ use Rattle.mem_build.specs.PageAddParts.{is_free, TableOf, ComesTo, IsInside, al
 
 -- at its end
 module _ (m : Machine) (a : Addition) (t : Tree) (xs : List ℕ) (end : feed t xs ≡ addition_end m a) where
-  pub end-gives : Gives m.pages (settle (feed t xs)) (need.Verdict (Done value.Nothing))
-  end-gives = subst (λ (s : Tree). Gives m.pages (settle s) (need.Verdict (Done value.Nothing))) (sym end) refl
+  pub end-gives : Wants m.pages (settle (feed t xs)) (need.Verdict (Done value.Nothing))
+  end-gives = subst (λ (s : Tree). Wants m.pages (settle s) (need.Verdict (Done value.Nothing))) (sym end) refl
 
   pub end-rest : feed t xs ≡ passed (settle (feed t xs))
   end-rest = subst (λ (s : Tree). s ≡ passed (settle s)) (sym end) refl
 
-  pub end-next : (k l : ℕ) (h h' : Option Measure) (w : Option Write) → HandsNext m (drop k (all_changes m a)) (drop l (all_changes m a)) h h' w → HandsNext m (left_of (feed t xs) k) (left_of (feed t xs) l) h h' w
-  end-next k l h h' w n = subst (λ (s : Tree). HandsNext m (left_of s k) (left_of s l) h h' w) (sym end) n
+  pub end-next : (k l : ℕ) (h h' : Option Measure) (w : Option Write) → HandsNext m (drop k (all_changes m a)) (drop l (all_changes m a)) h h' w → HandsNext m (changes_left (feed t xs) k) (changes_left (feed t xs) l) h h' w
+  end-next k l h h' w n = subst (λ (s : Tree). HandsNext m (changes_left s k) (changes_left s l) h h' w) (sym end) n
 
 -- one by one
 module _ (m : Machine) (a : Addition) (is : is_hkid m a.hkid ≡ true) (inside : IsInside m.pages a) where

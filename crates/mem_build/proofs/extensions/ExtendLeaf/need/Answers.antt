@@ -4,7 +4,7 @@ use Rattle.td_words.specs.declared.replies.Reply.TheVariants.{Done}
 use Rattle.leaf_engine.specs.declared.needs.Need.TheVariants as need
 use Rattle.leaf_engine.specs.declared.plans.Stop.TheVariants as stop
 use Rattle.leaf_engine.specs.Trees.{Tree, settle, passed}
-use Rattle.leaf_engine.specs.Decides.{Gives, Decides}
+use Rattle.leaf_engine.specs.Decides.{Wants, Decides}
 use Rattle.mem_build.specs.ExtendTrees.{extend_tree, ComesTo}
 use Rattle.mem_build.proofs.ExtendSteps.{at-chunk, chunk-known, asks-gives, asks-kept, ends-gives, ends-kept, found-gives, found-kept, stop-gives, refused-kept, lock-passed}
 use Rattle.mem_build.proofs.extensions.ExtendLeaf.need.Goals as goal
@@ -13,7 +13,7 @@ pub returns-then-number-eq-WORDS-clause-gives : goal.returns-then-number-eq-WORD
 returns-then-number-eq-WORDS-clause-gives c =
     let l = c.args.self.now in
     let all : length l.words.items ≡ 32 = sym c.len-number.ensures.value ∙ c.if-number-eq-WORDS.true in
-    subst (λ (t : Tree). Gives l.place.machine.pages (settle t) (need.Verdict (Done value.Nothing))) (sym (at-chunk l.place l.tdr l.gpa l.chunk l.told.items l.words.items c.in-Some.chunk c.in-Some.is))
+    subst (λ (t : Tree). Wants l.place.machine.pages (settle t) (need.Verdict (Done value.Nothing))) (sym (at-chunk l.place l.tdr l.gpa l.chunk l.told.items l.words.items c.in-Some.chunk c.in-Some.is))
     (ends-gives l.place.machine l.gpa c.in-Some.chunk.page c.in-Some.chunk.hkid l.words.items l.place.machine.pages all)
 
 pub returns-then-number-eq-WORDS-clause-rest : goal.returns-then-number-eq-WORDS-clause-rest
@@ -28,7 +28,7 @@ returns-else-number-eq-WORDS-clause-gives c =
     let l = c.args.self.now in
     let known = chunk-known l.place l.tdr l.gpa l.chunk l.told.items l.words.items c.in-Some.chunk c.in-Some.is l.known in
     let few : length l.words.items < 32 = omega (arith, known.2, c.len-number.ensures.value, c.if-number-eq-WORDS.false) in
-    subst (λ (t : Tree). Gives l.place.machine.pages (settle t) (need.Load c.word_at.result)) (sym (at-chunk l.place l.tdr l.gpa l.chunk l.told.items l.words.items c.in-Some.chunk c.in-Some.is))
+    subst (λ (t : Tree). Wants l.place.machine.pages (settle t) (need.Load c.word_at.result)) (sym (at-chunk l.place l.tdr l.gpa l.chunk l.told.items l.words.items c.in-Some.chunk c.in-Some.is))
     (asks-gives l.place.machine l.gpa c.in-Some.chunk.page c.in-Some.chunk.hkid l.words.items l.place.machine.pages c.word_at.result few (rw c.len-number.ensures.value at c.word_at.ensures))
 
 pub returns-else-number-eq-WORDS-clause-rest : goal.returns-else-number-eq-WORDS-clause-rest
