@@ -7,3 +7,4 @@ pub mod Begun
 pub mod Owned
 pub mod Acted
 pub mod Unheld
+pub mod VpTrees
