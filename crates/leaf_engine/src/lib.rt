@@ -25,6 +25,6 @@ pub use laws::{calls_follow, leaves_follow_rows, turns_in_pieces, turns_show};
 pub use leaves::Leaf;
 pub use measuring::{Measuring, MeasuringPlan};
 pub use needs::{Need, Place, Write};
-pub use plans::{ANSWERS, Plan, Planned, Stop, Told, Verdict, WRITES};
+pub use plans::{ANSWERS, Plan, Planned, Stop, Told, Verdict, WRITES, need_at};
 pub use processors::{Gate, NoGate, Processor, Turn};
 pub use runs::{LOCKS, Run};
