@@ -8,3 +8,4 @@ pub mod Owned
 pub mod Acted
 pub mod Unheld
 pub mod VpTrees
+pub mod WordBytes

@@ -14,7 +14,7 @@ ghost use Rattle.mem_build.specs.ExtendStages.{HasRoom, IsKnown, HasRoom-prop, I
 
 use arrayvec::ArrayVec;
 use leaf_engine::{ANSWERS, Leaf, Need, Place, Stop, Told, Write, need_at};
-use leaf_parts::{hkid_slot, td_head};
+use leaf_parts::{hkid_slot, put_bytes, td_head};
 use mrtd_measure::Measure;
 use sept_parts::{find, is_state_among, tree_lock};
 use td_words::places::TDR_HKID;
@@ -233,8 +233,6 @@ fn bytes_of(words: &[u64]) -> [u8; 256]
     ensures { result ≡ digest_bytes words.now }
 {
     let mut bytes = [0; 256];
-    for i in 0..WORDS {
-        bytes[8 * i..8 * i + 8].copy_from_slice(&words[i].to_le_bytes());
-    }
+    put_bytes(words, &mut bytes);
     bytes
 }

@@ -42,24 +42,11 @@ use Rattle.leaf_parts.proofs.Begun.{td-head-means, page_lock, op_lock, IsTd, Two
 use Rattle.leaf_parts.proofs.Keys.{hkid-in}
 use Rattle.leaf_parts.proofs.Vps.{vp-shown, vp-spot}
 use Rattle.leaf_parts.proofs.VpTrees.{none-apart, vps-mean}
-use Rattle.leaf_parts.proofs.Told.{tdr-spot, tdr-shown, tdcs-spot, tdcs-shown}
+use Rattle.leaf_parts.proofs.Told.{tdr-spot, tdr-shown, tdcs-spot, tdcs-shown, only-op}
 use Rattle.td_control.specs.FinalTrees.{word_in_hand, end_changes, changes_where, final_changes, ready_vp, ready_tree, finalize_task}
 
 abbrev initialized : List OpState
 initialized = op.Initialized ∷ []
-
-is-initialized : (s : OpState) → list_any (λ a. op_number a == op_number s) initialized ≡ true → s ≡ op.Initialized
-is-initialized op.Initialized h = refl
-is-initialized op.Uninitialized h = cc
-is-initialized op.Runnable h = cc
-is-initialized op.LiveExport h = cc
-is-initialized op.PausedExport h = cc
-is-initialized op.PostExport h = cc
-is-initialized op.MemoryImport h = cc
-is-initialized op.StateImport h = cc
-is-initialized op.PostImport h = cc
-is-initialized op.LiveImport h = cc
-is-initialized op.FailedImport h = cc
 
 -- another word of TDCS than MRTD's
 outside : (i j : ℕ) → (nat_le 64 j && nat_lt j 70) ≡ true → (nat_le 64 i && nat_lt i 70) ≡ false → (i == j) ≡ false
@@ -100,7 +87,7 @@ module _ (m : Machine) (s : State) (mem : Memory) (t : ℕ) (sh : Shows m mem.wo
   owner = la.keys.owner t x.alive
 
   building : w.tds.ops t ≡ op.Initialized
-  building = is-initialized (w.tds.ops t) x.op
+  building = only-op op.Initialized (w.tds.ops t) x.op
 
   -- the slot has the TD's hasher
   hasher-is : mem.slots h ≡ Some (w.tds.measured t)
