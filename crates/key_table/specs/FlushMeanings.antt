@@ -1,6 +1,6 @@
 -- The leaf that ends a flush means its row.
-use Rattle.std.proofs.Common.{◌≡◌, ℕ, suc, ◌+◌, ◌<◌, ◌≤◌, Bool, true, false, not, ◌==◌, nat_lt, List, [], ◌∷◌, length, Option, Some, None, refl, ap, sym, ◌∙◌, subst, inl, arith}
-use Rattle.std.specs.Prelude.{slice_index, slice_get}
+use Rattle.std.proofs.Common.{◌≡◌, ℕ, ◌+◌, ◌<◌, Bool, true, false, not, ◌==◌, nat_lt, List, [], ◌∷◌, length, Option, Some, None, refl, ap, sym, ◌∙◌, subst, inl, arith}
+use Rattle.std.specs.Prelude.{slice_index}
 use Rattle.std.specs.List.{list_any}
 use Rattle.std.proofs.lemmas.Bool.{ltb-true}
 use Rattle.std.proofs.lemmas.Bool.Decides.{nat_tests}
@@ -21,25 +21,27 @@ use Rattle.flat_core.specs.Locks.{one_if}
 use Rattle.flat_core.specs.Processor.{LockId}
 use Rattle.flat_core.specs.KeyRows.{end_flush}
 use Rattle.flat_core.specs.Conditions.{keys_exclusive, one_if_some, associated_in, associated_count, none_associated}
-use Rattle.flat_core.specs.Lawful.{Lawful, IsAlive, ArePagesOf}
+use Rattle.flat_core.specs.Lawful.{Lawful, IsAlive, IsPageOf}
 use Rattle.word_rules.specs.Rules.{TdcsWord, Whole, KeepsNothing}
 use Rattle.word_rules.specs.Lines.{in_lines}
 use Rattle.word_rules.specs.Spots.{tdcs_classes, or_unused, is_current, is_empty}
 use Rattle.word_rules.specs.Permissions.{Reads, Respects}
-use Rattle.word_rules.specs.Cells.{Shows, IsAs, td_lock_lines, tdcs_lines, associated_word, lock_word}
+use Rattle.word_rules.specs.Cells.{Shows, associated_word, lock_word}
 use Rattle.act_rules.proofs.Rows.{rows-respect}
 use Rattle.leaf_engine.specs.declared.needs.Place.{Place}
 use Rattle.leaf_engine.specs.Changes.{Put, changed}
-use Rattle.leaf_engine.specs.Trees.{Load, acts}
+use Rattle.leaf_engine.specs.Trees.{acts}
 use Rattle.leaf_engine.specs.Means.{Instant, IsHkid, Means, Work, work_of, OfCall, MeansRow, hold}
-use Rattle.leaf_parts.specs.Words.{page_told, vps_told}
+use Rattle.leaf_parts.specs.Words.{page_told}
+use Rattle.leaf_parts.specs.Vps.{vps_tree, apart_in}
 use Rattle.leaf_parts.proofs.Acted.{opening}
-use Rattle.leaf_parts.proofs.Begun.{tdr-head-means, TwoControls, two-controls, page-in, page_alone, both_locks, holds-newest, alone-newest}
-use Rattle.leaf_parts.proofs.Told.{page-back, tdr-shown, tdcs-shown, tdr-spot, tdcs-spot}
-use Rattle.leaf_parts.proofs.Vps.{vp-class, vps-back, vp-said, vp-shown, vp-spot}
+use Rattle.leaf_parts.proofs.Begun.{tdr-head-means, TwoControls, two-controls, page_alone, both_locks, holds-newest, alone-newest}
+use Rattle.leaf_parts.proofs.Told.{page-back, tdr-shown, tdr-spot, tdcs-spot}
+use Rattle.leaf_parts.proofs.Vps.{vp-shown, vp-spot}
+use Rattle.leaf_parts.proofs.VpTrees.{vps-mean}
 use Rattle.key_table.specs.Words.{key_number}
 use Rattle.key_table.specs.EndTrees.{end_changes}
-use Rattle.key_table.specs.FlushTrees.{flush_counted, count_vps, flush_vps, flush_rest, flushable, flush_task}
+use Rattle.key_table.specs.FlushTrees.{flush_counted, free_vp, flush_vps, flush_rest, flushable, flush_task}
 use Rattle.key_table.specs.Parts.{key_inside, key_lock_apart, alive_among}
 use Rattle.key_table.specs.EndMeanings.{life_owed, ended_shown, slot_stays}
 
@@ -47,6 +49,10 @@ use Rattle.key_table.specs.EndMeanings.{life_owed, ended_shown, slot_stays}
 one_said : (o : Option ℕ) → one_if (not (associated_word o == 0)) ≡ one_if_some o
 one_said None = refl
 one_said (Some lp) = (let no : (lp + 1 == 0) ≡ false = grind (arith, nat_tests) in rw no refl)
+
+all_said : (associated : ℕ → Option ℕ) (vs : List ℕ) → apart_in (λ v. associated_word (associated v)) 0 vs ≡ associated_in associated vs
+all_said associated [] = refl
+all_said associated (v ∷ vs) = rw (one_said (associated v), all_said associated vs) refl
 
 module _ (m : Machine) (c : Instant) (t : ℕ) (shown : Shows m c.memory.words c.memory.slots c.state) (la : Lawful m c.state.world) (a : nat_lt t m.pages ≡ true) (is : c.state.world.pages.kinds t ≡ kind.Tdr) (among : list_any (λ x. life_number x == life_number (c.state.world.tds.lives t)) flushable ≡ true) where
   abbrev w : World
@@ -118,55 +124,21 @@ module _ (m : Machine) (c : Instant) (t : ℕ) (shown : Shows m c.memory.words c
     abbrev x : TwoControls m c.state.world t
     x = two-controls m c.state.world t la alive two
 
-    tdcs_shown : (i : ℕ) → i < 512 → IsAs (in_lines (td_lock_lines locks t (tdcs_lines w t)) i) (c.memory.words (place.Word x.tdcs i))
-    tdcs_shown i b = tdcs-shown m c.memory.words c.memory.slots c.state shown t i x.tdcs (x.root ∷ []) x.list x.tdcs_page alive.life x.tdcs_in b
-
     tdcs_reads : (i : ℕ) → or_unused (in_lines (tdcs_classes (is_current w t) (is_empty w t)) i) ≡ TdcsWord → Reads (hold c (page_alone t)) w (place.Word x.tdcs i) Whole
     tdcs_reads i e = rw (tdcs-spot w t i x.tdcs (x.root ∷ []) x.list x.tdcs_page, e) (inl (alone-newest t c.kept, tt))
 
-    -- its virtual processors from that number on
-    counts : (rest : List ℕ) (number n : ℕ) → number + length rest ≤ 8 → ArePagesOf w.pages t kind.Tdvpr rest → ((i : ℕ) → slice_get (w.tds.vps t) (number + i) ≡ slice_get rest i)
-        → n + associated_in w.vps.associated rest ≡ associated_count w t → Means m c work (page_alone t) (count_vps m t x.tdcs number (length rest) n) items
-    counts [] number n few its at sum = (let none : n + 0 ≡ n = omega arith in counted n (sym none ∙ sum))
-    counts (v ∷ vs) number n few its at sum =
-        let base : number + 0 ≡ number = omega arith in
-        let small : number < 8 = omega arith in
-        let said : c.memory.words (place.Word x.tdcs (40 + number)) ≡ v = vp-said m c.memory.words c.memory.slots c.state shown t alive.life x.tdcs (x.root ∷ []) x.list x.tdcs_page x.tdcs_in number v small (ap (slice_get (w.tds.vps t)) (sym base) ∙ at 0) in
-        let v_in : v < m.pages = page-in m w t v kind.Tdvpr la its.0 refl in
-        let lp : c.memory.words (place.Word v 2) ≡ associated_word (w.vps.associated v) = vp-shown m c.memory.words c.memory.slots c.state shown t alive.life v 2 its.0 v_in (omega arith) in
-        let one : one_if (not (c.memory.words (place.Word v 2) == 0)) ≡ one_if_some (w.vps.associated v) = ap (λ (x : ℕ). one_if (not (x == 0))) lp ∙ one_said (w.vps.associated v) in (
-          (x.tdcs_in, omega arith),
-          inl (tdcs_reads (40 + number) (vp-class (is_current w t) (is_empty w t) number small)),
-          subst (λ (p : ℕ). Means m c work (page_alone t) (Load Whole (place.Word (page_told m.pages p) 2) (λ y. count_vps m t x.tdcs (suc number) (length vs) (n + one_if (not (y == 0))))) items) (sym said)
-              (subst (λ (p : ℕ). Means m c work (page_alone t) (Load Whole (place.Word p 2) (λ y. count_vps m t x.tdcs (suc number) (length vs) (n + one_if (not (y == 0))))) items) (sym (page-back m.pages v v_in)) (
-                (v_in, omega arith),
-                inl (rw (vp-spot w t v 2 its.0) (inl (alone-newest t c.kept, tt))),
-                counts vs (suc number) (n + one_if (not (c.memory.words (place.Word v 2) == 0))) (omega arith) its.1
-                    (λ i. (let more : suc number + i ≡ number + suc i = omega arith in ap (slice_get (w.tds.vps t)) more ∙ at (suc i)))
-                    (ap (λ (x : ℕ). n + x + associated_in w.vps.associated vs) one ∙ (plus n (one_if_some (w.vps.associated v)) (associated_in w.vps.associated vs) ∙ sum)),
-              )),
-        )
-      where
-        plus : (x y z : ℕ) → x + y + z ≡ x + (y + z)
-        plus x y z = omega arith
-
-    from_zero : (x : ℕ) → 0 + x ≡ x
-    from_zero x = omega arith
+    says : (v : ℕ) → IsPageOf w.pages t v kind.Tdvpr → v < m.pages → (c.memory.words (place.Word v 2) ≡ associated_word (w.vps.associated v)) × Reads (hold c (page_alone t)) w (place.Word v 2) Whole
+    says v its v_in = (vp-shown m c.memory.words c.memory.slots c.state shown t alive.life v 2 its v_in (omega arith), rw (vp-spot w t v 2 its) (inl (alone-newest t c.kept, tt)))
 
     with_tdcs : Means m c work (page_alone t) (flush_vps m t true) items
     with_tdcs =
         let first : slice_index (w.tds.controls t) 0 ≡ x.tdcs = ap (λ (cs : List ℕ). slice_index cs 0) x.list in
         let said : c.memory.words (place.Word t 4) ≡ x.tdcs = tdr-shown m c.memory.words c.memory.slots c.state shown t 4 is own in_page (omega arith) ∙ first in
-        let count : c.memory.words (place.Word x.tdcs 15) ≡ length (w.tds.vps t) = tdcs_shown 15 (omega arith) in
-        let few : length (w.tds.vps t) ≤ 8 = la.tds.vps_few t in (
+        let all : apart_in (λ v. associated_word (w.vps.associated v)) 0 (w.tds.vps t) ≡ associated_count w t = all_said w.vps.associated (w.tds.vps t) in (
           (in_page, omega arith),
           inl (rw (tdr-spot w t 4 is own) (inl (holds-newest t Exclusive c.kept, tt))),
-          subst (λ (p : ℕ). Means m c work (page_alone t) (Load Whole (place.Word p 15) (λ y. count_vps m t p 0 (vps_told y) 0)) items) (sym (ap (page_told m.pages) said ∙ page-back m.pages x.tdcs x.tdcs_in)) (
-            (x.tdcs_in, omega arith),
-            inl (tdcs_reads 15 refl),
-            subst (λ (n : ℕ). Means m c work (page_alone t) (count_vps m t x.tdcs 0 n 0) items) (sym (ap vps_told count ∙ vps-back (length (w.tds.vps t)) few))
-                (counts (w.tds.vps t) 0 0 (omega arith) (la.tds.vps t alive) (λ i. ap (slice_get (w.tds.vps t)) (from_zero i)) (from_zero (associated_count w t))),
-          ),
+          subst (λ (p : ℕ). Means m c work (page_alone t) (vps_tree m.pages (free_vp p) (flush_counted m t)) items) (sym (ap (page_told m.pages) said ∙ page-back m.pages x.tdcs x.tdcs_in))
+              (vps-mean m c work (page_alone t) items t la shown alive x tdcs_reads 2 0 (λ v. associated_word (w.vps.associated v)) (omega arith) says (flush_counted m t) (counted _ all)),
         )
 
   flush_vps-means : (b : Bool) → (length (w.tds.controls t) == 2) ≡ b → Means m c work (page_alone t) (flush_vps m t b) items

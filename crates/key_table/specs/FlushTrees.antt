@@ -1,23 +1,24 @@
 -- The end of a flush as a decision over the words that it is told.
-use Rattle.std.specs.Prelude.{ℕ, zero, suc, ◌+◌, Bool, false, not, ◌==◌, nat_lt, if◌then◌else◌, List, [], ◌∷◌}
+use Rattle.std.specs.Prelude.{ℕ, Bool, false, ◌==◌, nat_lt, if◌then◌else◌, List, [], ◌∷◌}
 use Rattle.td_words.specs.declared.names.LifeState.{LifeState}
 use Rattle.td_words.specs.declared.names.LifeState.TheVariants as life
 use Rattle.td_words.specs.declared.names.Mode.TheVariants.{Exclusive}
 use Rattle.td_words.specs.declared.machines.Machine.{Machine}
-use Rattle.td_words.specs.declared.places.TheConstants.{KEY_LOCK, TDR_HKID, TDR_TDCX_COUNT, TDR_TDCS, TDCS_VP_COUNT, TDCS_VPS, VP_ASSOCIATED}
+use Rattle.td_words.specs.declared.places.TheConstants.{KEY_LOCK, TDR_HKID, TDR_TDCX_COUNT, TDR_TDCS, VP_ASSOCIATED}
 use Rattle.td_words.specs.declared.refusals.Status.TheVariants.{OperandInvalid, FlushvpNotDone}
 use Rattle.td_words.specs.declared.replies.Value.TheVariants as value
 use Rattle.td_words.specs.declared.replies.Reply.TheVariants.{Done}
 use Rattle.td_words.specs.Packing.{FlushedOf}
 use Rattle.td_words.specs.Place as place
-use Rattle.flat_core.specs.Locks.{one_if}
 use Rattle.flat_core.specs.Processor.{OfKeys}
 use Rattle.flat_core.specs.KeyRows.{end_flush}
 use Rattle.word_rules.specs.Rules.{Whole}
 use Rattle.leaf_engine.specs.declared.needs.Place.{Place}
 use Rattle.leaf_engine.specs.Trees.{Tree, Lock, Load, needs, acts}
 use Rattle.leaf_engine.specs.Means.{Task, OfCall}
-use Rattle.leaf_parts.specs.Words.{page_told, vps_told}
+use Rattle.leaf_parts.specs.Words.{page_told}
+use Rattle.leaf_parts.specs.declared.vp_words.VpWord.{VpWord}
+use Rattle.leaf_parts.specs.Vps.{vps_tree}
 use Rattle.leaf_parts.specs.Heads.{tdr_head_tree}
 use Rattle.key_table.specs.EndTrees.{end_changes}
 
@@ -28,19 +29,15 @@ flush_counted m t associated =
     (Lock OfKeys (place.Key KEY_LOCK) Exclusive
     (Load Whole (place.Word t TDR_HKID) (λ hkid. acts (Done value.Nothing) (end_changes m t hkid (FlushedOf t false) life.Blocked))))
 
--- those from that number on are counted, where these are associated before them
-abbrev pub count_vps : Machine → (t tdcs number left associated : ℕ) → Tree
-count_vps m t tdcs number zero associated = flush_counted m t associated
-count_vps m t tdcs number (suc left) associated =
-    Load Whole (place.Word tdcs (TDCS_VPS + number)) (λ vp.
-    Load Whole (place.Word (page_told m.pages vp) VP_ASSOCIATED) (λ lp. count_vps m t tdcs (suc number) left (associated + one_if (not (lp == 0)))))
+-- a virtual processor that isn't associated
+abbrev pub free_vp : ℕ → VpWord
+free_vp tdcs = record { tdcs = tdcs; at = VP_ASSOCIATED; word = 0 }
 
 -- before a TD has its two TDCX pages it has no virtual processor
 abbrev pub flush_vps : Machine → (t : ℕ) → Bool → Tree
 flush_vps m t has_tdcs =
     if has_tdcs
-    then Load Whole (place.Word t TDR_TDCS) (λ tdcs.
-    Load Whole (place.Word (page_told m.pages tdcs) TDCS_VP_COUNT) (λ count. count_vps m t (page_told m.pages tdcs) 0 (vps_told count) 0))
+    then Load Whole (place.Word t TDR_TDCS) (λ tdcs. vps_tree m.pages (free_vp (page_told m.pages tdcs)) (flush_counted m t))
     else flush_counted m t 0
 
 abbrev pub flush_rest : Machine → (t : ℕ) → Tree

@@ -1,17 +1,17 @@
 //! MNG.VPFLUSHDONE.
 
-ghost use Rattle.std.specs.Prelude.{◌≡◌, ◌<◌, ◌≤◌, length};
+ghost use Rattle.std.specs.Prelude.{◌≡◌, ◌<◌, length};
 ghost use Rattle.leaf_engine.specs.Decides.{Decides};
 ghost use Rattle.leaf_engine.specs.Inside.{DecisionIn, DecidesEarly};
-ghost use Rattle.key_table.specs.FlushTrees.{flush_counted, count_vps, flush_rest};
+ghost use Rattle.key_table.specs.FlushTrees.{flush_counted, flush_rest};
 
 use crate::words::key_number;
 use arrayvec::ArrayVec;
 use leaf_engine::{Leaf, Place, Plan, Planned, Stop, Told, Verdict, Write};
-use leaf_parts::{page_told, tdr_head, vps_told};
+use leaf_parts::{VpWord, page_told, tdr_head, vps_apart};
 use step_core::WordStep;
 use td_words::places::{
-    KEY_LOCK, TDCS_VP_COUNT, TDCS_VPS, TDR_HKID, TDR_LIFE, TDR_TDCS, TDR_TDCX_COUNT, VP_ASSOCIATED,
+    KEY_LOCK, TDR_HKID, TDR_LIFE, TDR_TDCS, TDR_TDCX_COUNT, VP_ASSOCIATED,
 };
 use td_words::{
     HkidState, LifeState, LockName, Machine, Mode, Reply, Status, Value, key_address, word_address,
@@ -73,38 +73,16 @@ fn end_flush(told: Told, machine: Machine, tdr: u16) -> Result<Verdict, Stop>
     let controls = told.load(word_address(tdr, TDR_TDCX_COUNT))?;
     if controls == 2 {
         let word = told.load(word_address(tdr, TDR_TDCS))?;
-        let tdcs = page_told(machine.pages, word);
-        let vps = told.load(word_address(tdcs, TDCS_VP_COUNT))?;
-        count_vps(told, machine, tdr, tdcs, vps_told(vps))
+        let associated = VpWord {
+            tdcs: page_told(machine.pages, word),
+            at: VP_ASSOCIATED,
+            word: 0,
+        };
+        let count = vps_apart(&mut told, machine, associated)?;
+        flush_counted(told, machine, tdr, count)
     } else {
         flush_counted(told, machine, tdr, 0)
     }
-}
-
-/// Counts the virtual processors that are associated.
-fn count_vps(told: Told, machine: Machine, tdr: u16, tdcs: u16, count: u16) -> Result<Verdict, Stop>
-    requires tdr { tdr < machine.pages }
-    requires tdcs { tdcs < machine.pages }
-    requires few { count ≤ 8 }
-    ensures decides { Decides machine.pages (count_vps machine tdr tdcs 0 count 0) told.entry.left.now result }
-    ensures inside { DecisionIn machine result }
-    ensures early { DecidesEarly 18 (length told.entry.left.now) result }
-{
-    let mut answers = told;
-    let mut number = 0;
-    let mut left = count;
-    let mut associated = 0;
-    while left > 0 {
-        let word = answers.load(word_address(tdcs, TDCS_VPS + number))?;
-        let vp = page_told(machine.pages, word);
-        let lp = answers.load(word_address(vp, VP_ASSOCIATED))?;
-        if lp != 0 {
-            associated += 1;
-        }
-        number += 1;
-        left -= 1;
-    }
-    flush_counted(answers, machine, tdr, associated)
 }
 
 /// Ends the flush where none is.

@@ -5,8 +5,10 @@ use Rattle.td_words.specs.declared.calls.Call.{Call}
 use Rattle.td_words.specs.declared.calls.Call.TheVariants as call
 use Rattle.td_words.specs.declared.names.ReadField.TheVariants as field
 use Rattle.td_words.specs.declared.names.EntryState.TheVariants as entry
+use Rattle.td_words.specs.declared.names.VcpuState.TheVariants as vcpu
 use Rattle.td_words.specs.declared.names.Mode.TheVariants.{Shared}
 use Rattle.td_words.specs.Place as place
+use Rattle.td_words.specs.declared.refusals.Status.TheVariants.{VcpuStateIncorrect}
 use Rattle.td_words.specs.declared.replies.Reply.TheVariants.{Done}
 use Rattle.td_words.specs.declared.replies.Value.TheVariants as value
 use Rattle.flat_core.specs.Processor.{OfPage}
@@ -15,13 +17,15 @@ use Rattle.flat_core.specs.MemRows.{entry_value}
 use Rattle.flat_core.specs.Table.{most_tries}
 use Rattle.leaf_engine.specs.declared.needs.Place.{Place}
 use Rattle.leaf_engine.specs.Changes.{Change}
-use Rattle.leaf_engine.specs.Trees.{Tree, Lock, answers, acts}
+use Rattle.leaf_engine.specs.Trees.{Tree, Lock, needs, answers, acts}
+use Rattle.leaf_parts.specs.declared.vp_words.VpWord.{VpWord}
 use Rattle.leaf_parts.specs.Words.{says_host, page_told, vps_told}
+use Rattle.leaf_parts.specs.Vps.{vps_from}
 use Rattle.first_leaves.specs.HostTrees.{read_word}
 use Rattle.key_table.specs.CacheTrees.{mark_keys}
-use Rattle.key_table.specs.FlushTrees.{count_vps, flush_vps}
+use Rattle.key_table.specs.FlushTrees.{flush_counted, flush_vps}
 use Rattle.key_table.specs.ReclaimTrees.{reclaim_rest}
-use Rattle.td_control.specs.FinalTrees.{vps_tree, final_changes}
+use Rattle.td_control.specs.FinalTrees.{ready_vp, final_changes}
 use Rattle.sept_walk.specs.SecureEpt.{index_at}
 use Rattle.sept_parts.specs.declared.finds.Found.{Found}
 use Rattle.sept_parts.specs.SeptTrees.{walk_on_tree, find_tree, state_tree}
@@ -39,21 +43,17 @@ mark-few : (n number left : ℕ) (cs : List Change) → TriesAtMost n (mark_keys
 mark-few n number zero cs = tt
 mark-few n number (suc left) cs = λ key. mark-few n (suc number) left _
 
-count-few : (m : Machine) (t tdcs number left associated : ℕ) → TriesAtMost 1 (count_vps m t tdcs number left associated)
-count-few m t tdcs number zero associated = (omega arith, λ hkid. tt)
-count-few m t tdcs number (suc left) associated = λ vp lp. count-few m t tdcs (suc number) left _
+vps-few : (n pages : ℕ) (asked : VpWord) (number left apart : ℕ) (k : ℕ → Tree) → ((x : ℕ) → TriesAtMost n (k x)) → TriesAtMost n (vps_from pages asked number left apart k)
+vps-few n pages asked number zero apart k few = few apart
+vps-few n pages asked number (suc left) apart k few = λ vp word. vps-few n pages asked (number + 1) left _ k few
 
 flush-few : (m : Machine) (t : ℕ) (two : Bool) → TriesAtMost 1 (flush_vps m t two)
-flush-few m t true = λ tdcs count. count-few m t _ 0 _ 0
+flush-few m t true = λ tdcs count. vps-few 1 m.pages _ 0 _ 0 (flush_counted m t) (λ x. (omega arith, λ hkid. tt))
 flush-few m t false = (omega arith, λ hkid. tt)
 
 reclaim-few : (t page : ℕ) (same : Bool) → TriesAtMost 1 (reclaim_rest t page same)
 reclaim-few t page true = λ children. tt
 reclaim-few t page false = (omega arith, λ pamt children. tt)
-
-vps-few : (n pages tdcs number left : ℕ) (ready : Bool) (t : Tree) → TriesAtMost n t → TriesAtMost n (vps_tree pages tdcs number left ready t)
-vps-few n pages tdcs number zero ready t few = few
-vps-few n pages tdcs number (suc left) ready t few = λ x y. vps-few n pages tdcs (suc number) left _ t few
 
 -- a walk tries none
 walk-few : (n pages gpa count level page : ℕ) (k : ℕ → Tree) → ((q : ℕ) → TriesAtMost n (k q)) → TriesAtMost n (walk_on_tree pages gpa count level page k)
@@ -88,7 +88,7 @@ few_tries p (call.MngRd tdr field.Epoch) = (omega arith, λ pamt life count tdcs
 few_tries p (call.MngRd tdr field.Mrtd) = (omega arith, λ pamt life count tdcs. (omega arith, λ op a b c d e f. tt))
 few_tries p (call.MngVpflushdone tdr) = (omega arith, λ pamt life count. flush-few p.machine tdr (count == 2))
 few_tries p (call.MngKeyFreeid tdr) = (omega arith, λ pamt life. (omega arith, λ hkid key. tt))
-few_tries p (call.MrFinalize tdr) = (omega arith, λ pamt life count tdcs. (omega arith, λ op hkid n. vps-few 0 p.machine.pages (page_told p.machine.pages tdcs) 0 (vps_told n) true (acts (Done value.Nothing) (final_changes p.machine (page_told p.machine.pages tdcs) hkid)) tt))
+few_tries p (call.MrFinalize tdr) = (omega arith, λ pamt life count tdcs. (omega arith, λ op hkid n. vps-few 0 p.machine.pages (ready_vp (page_told p.machine.pages tdcs)) 0 (vps_told n) 0 (λ created. needs (created == 0) (VcpuStateIncorrect vcpu.Created) (acts (Done value.Nothing) (final_changes p.machine (page_told p.machine.pages tdcs) hkid))) (λ created. tt)))
 few_tries p (call.VpCreate tdr page) = (omega arith, λ pamt life count tdcs. (omega arith, λ op vps expected. (omega arith, λ host children. tt)))
 few_tries p (call.VpInit tdr vp value) = (omega arith, λ pamt life count tdcs. (omega arith, λ op. (omega arith, λ host state. tt)))
 few_tries p (call.MemSeptAdd tdr gpa level page) = (omega arith, λ pamt life count tdcs. (omega arith, λ op. (omega arith, find-few 1 p.machine.pages tdr gpa level (sept_add_rest p.machine.pages tdr page (index_at level gpa)) (λ f. (omega arith, λ host children. tt)))))

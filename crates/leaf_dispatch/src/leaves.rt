@@ -7,7 +7,7 @@ ghost use Rattle.leaf_dispatch.specs.Table.{task_of};
 
 use first_leaves::{HostRead, HostWrite, Rdmd};
 use key_table::{CacheWb, FlushDone, FreeId, Reclaim};
-use leaf_engine::{Leaf, Need, Place, Planned, Write};
+use leaf_engine::{Leaf, Measuring, Need, Place, Planned, Write};
 use mem_build::{Extend, PageAdd, SeptAdd, SeptRd};
 use mrtd_measure::Measure;
 use td_control::{AddCx, Create, Finalize, Init, KeyConfig, Rd};
@@ -25,16 +25,16 @@ pub enum AnyLeaf {
     Create(Planned<Create>),
     KeyConfig(Planned<KeyConfig>),
     AddCx(Planned<AddCx>),
-    Init(Init),
+    Init(Measuring<Init>),
     Rd(Planned<Rd>),
     FlushDone(Planned<FlushDone>),
     FreeId(Planned<FreeId>),
-    Finalize(Finalize),
+    Finalize(Measuring<Finalize>),
     VpCreate(Planned<VpCreate>),
     VpInit(Planned<VpInit>),
     SeptAdd(Planned<SeptAdd>),
     SeptRd(Planned<SeptRd>),
-    PageAdd(PageAdd),
+    PageAdd(Measuring<PageAdd>),
     Extend(Extend),
 }
 

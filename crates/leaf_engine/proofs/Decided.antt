@@ -2,8 +2,6 @@
 use Rattle.std.proofs.Common.{◌≡◌, ℕ, zero, suc, ◌+◌, ◌<◌, true, false, List, [], ◌∷◌, ◌++◌, map, drop, Option, Some, None, Result, Ok, Err, MatchOption, refl, ap, sym, ◌∙◌, subst, arith}
 use Rattle.std.proofs.lemmas.Bool.{and_parts}
 use Rattle.std.proofs.lemmas.List.{append-nil}
-use Rattle.td_words.specs.declared.names.LockName.{LockName}
-use Rattle.td_words.specs.declared.names.Mode.{Mode}
 use Rattle.td_words.specs.declared.machines.Machine.{Machine}
 use Rattle.mrtd_measure.specs.declared.measures.Measure.{Measure}
 use Rattle.leaf_engine.specs.declared.needs.Need.TheVariants as need
@@ -15,7 +13,7 @@ use Rattle.word_rules.specs.Views.{look}
 use Rattle.leaf_engine.specs.Changes.{Hand, Change, Put, PutHash, Raise, Clear, Copy, Swap, is_plain, are_plain}
 use Rattle.leaf_engine.specs.Trees.{Tree, Lock, Load, Test, End, Since, feed, settle, passed, changes_of, changes_left}
 use Rattle.leaf_engine.specs.Inside.{WriteInside, WritesInside}
-use Rattle.leaf_engine.specs.Decides.{Decides, Wants, need_for, write_of, hand_for, IsHand, HandsNext}
+use Rattle.leaf_engine.specs.Decides.{Decides, Wants, need_for, told_then, write_of, hand_for, IsHand, HandsNext}
 
 pub feed-append : (t : Tree) (xs ys : List ℕ) → feed (feed t xs) ys ≡ feed t (xs ++ ys)
 feed-append (Lock l q m t) [] ys = refl
@@ -42,38 +40,41 @@ decides-gives n (End reply fs cs) xs (Err e) h = absurd h
 decides-gives n (Since reply cs) xs (Ok v) h = ap need.Verdict h.0
 decides-gives n (Since reply cs) xs (Err e) h = absurd h
 
-abbrev pub NoLock : Result Verdict Stop → Type 0
-NoLock (Ok v) = Unit {0}
-NoLock (Err (stop.Lock name at mode)) = ⊥
-NoLock (Err (stop.Load at)) = Unit {0}
-NoLock (Err (stop.Refused reply)) = Unit {0}
+-- what is left of a tree once it gave a need
+stays : (n : ℕ) (s : Tree) (v : Verdict) → Wants n s (need_for (Ok v)) → s ≡ passed s
+stays n (Load v q k) u h = refl
+stays n (Lock l q m t) u h = cc
+stays n (End reply fs cs) u h = refl
+stays n (Since reply cs) u h = refl
+stays n (Test b out t) u h = absurd h
 
-kept : (n : ℕ) (s : Tree) (r : Result Verdict Stop) → Wants n s (need_for r) → NoLock r → s ≡ passed s
-kept n (Load v q k) r h g = refl
-kept n (Lock l q m t) (Ok v) h g = cc
-kept n (Lock l q m t) (Err (stop.Lock name at mode)) h g = absurd g
-kept n (Lock l q m t) (Err (stop.Load at)) h g = cc
-kept n (Lock l q m t) (Err (stop.Refused reply)) h g = cc
-kept n (End reply fs cs) r h g = refl
-kept n (Since reply cs) r h g = refl
-kept n (Test b out t) r h g = absurd h
+goes-by : (n : ℕ) (s : Tree) (e : Stop) → Wants n s (need_for (Err e)) → feed s (told_then [] e) ≡ passed s
+goes-by n (Load v q k) (stop.Lock name at m) h = cc
+goes-by n (Load v q k) (stop.Load at) h = refl
+goes-by n (Load v q k) (stop.Refused reply) h = refl
+goes-by n (Lock l q m t) (stop.Lock name at m') h = refl
+goes-by n (Lock l q m t) (stop.Load at) h = cc
+goes-by n (Lock l q m t) (stop.Refused reply) h = cc
+goes-by n (End reply fs cs) e h = refl
+goes-by n (Since reply cs) e h = refl
+goes-by n (Test b out t) e h = absurd h
 
-locked : (n : ℕ) (s : Tree) (name : LockName) (at : ℕ) (m : Mode) → Wants n s (need.Lock name at m) → feed s (0 ∷ []) ≡ passed s
-locked n (Load v q k) name at m h = cc
-locked n (Lock l q m' t) name at m h = refl
-locked n (End reply fs cs) name at m h = cc
-locked n (Since reply cs) name at m h = cc
-locked n (Test b out t) name at m h = absurd h
+then-behind : (xs : List ℕ) (e : Stop) → told_then xs e ≡ xs ++ told_then [] e
+then-behind xs (stop.Lock name at m) = refl
+then-behind xs (stop.Load at) = sym (append-nil xs)
+then-behind xs (stop.Refused reply) = sym (append-nil xs)
 
 -- the need that a decision gives, and what is left then
 pub decided : (n : ℕ) (t : Tree) (xs : List ℕ) (r : Result Verdict Stop) → Decides n t xs r → Wants n (settle (feed t xs)) (need_for r)
 decided n t xs r h = rw (settled t xs) (decides-gives n t xs r h)
 
-pub decided-kept : (n : ℕ) (t : Tree) (xs : List ℕ) (r : Result Verdict Stop) → Decides n t xs r → NoLock r → feed t xs ≡ passed (settle (feed t xs))
-decided-kept n t xs r h g = rw (settled t xs) (kept n (feed t xs) r (decides-gives n t xs r h) g)
+pub decided-kept : (n : ℕ) (t : Tree) (xs : List ℕ) (v : Verdict) → Decides n t xs (Ok v) → feed t xs ≡ passed (settle (feed t xs))
+decided-kept n t xs v h = rw (settled t xs) (stays n (feed t xs) v (decides-gives n t xs (Ok v) h))
 
-pub decided-lock : (n : ℕ) (t : Tree) (xs : List ℕ) (name : LockName) (at : ℕ) (m : Mode) → Decides n t xs (Err (stop.Lock name at m)) → feed t (xs ++ 0 ∷ []) ≡ passed (settle (feed t xs))
-decided-lock n t xs name at m h = rw (settled t xs) (sym (feed-append t xs (0 ∷ [])) ∙ locked n (feed t xs) name at m (decides-gives n t xs (Err (stop.Lock name at m)) h))
+pub decided-then : (n : ℕ) (t : Tree) (xs : List ℕ) (e : Stop) → Decides n t xs (Err e) → feed t (told_then xs e) ≡ passed (settle (feed t xs))
+decided-then n t xs e h =
+    ap (feed t) (then-behind xs e) ∙ (sym (feed-append t xs (told_then [] e))
+    ∙ rw (settled t xs) (goes-by n (feed t xs) e (decides-gives n t xs (Err e) h)))
 
 -- what a decision has to write
 pub record Plain (n : ℕ) (cs : List Change) (items : List Write) : Type 0 where

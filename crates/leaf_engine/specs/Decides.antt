@@ -15,7 +15,7 @@ use Rattle.leaf_engine.specs.declared.plans.Stop.TheVariants as stop
 use Rattle.leaf_engine.specs.declared.plans.Verdict.{Verdict}
 use Rattle.word_rules.specs.Views.{look}
 use Rattle.leaf_engine.specs.Changes.{Hand, Change, Put, PutHash, Raise, Clear, Copy, Swap, are_plain}
-use Rattle.leaf_engine.specs.Trees.{Tree, Lock, Load, Test, End, Since}
+use Rattle.leaf_engine.specs.Trees.{Tree, Lock, Load, Test, End, Since, feed}
 use Rattle.leaf_engine.specs.Inside.{WriteInside}
 
 -- a change as it is made in a machine of so many pages, with this hasher in hand. HKID h has slot h - 1
@@ -42,6 +42,11 @@ Decides n (Test b out t) xs r = (b ≡ true → Decides n t xs r) × (b ≡ fals
 Decides n (End reply fs cs) xs r = MatchResult r (λ v. (v.reply ≡ reply) × (v.writes.items ≡ map (write_of n None) (fs ++ cs)) × (are_plain (fs ++ cs) ≡ true)) (λ e. ⊥)
 Decides n (Since reply cs) xs r = MatchResult r (λ v. (v.reply ≡ reply) × (v.writes.items ≡ map (write_of n None) cs) × (are_plain cs ≡ true)) (λ e. ⊥)
 
+-- what a tree comes to after these answers: the end of an act, or what stops it
+abbrev pub ComesTo : {A : Type 0} → ℕ → Tree → (A → Tree) → List ℕ → Result A Stop → Type 0
+ComesTo n t end xs (Ok a) = feed t xs ≡ end a
+ComesTo n t end xs (Err e) = Decides n t xs (Err e)
+
 -- the need that a tree with its conditions tested comes to
 abbrev pub Wants : ℕ → Tree → Need → Type 0
 Wants n (Lock l q m t) r = r ≡ need.Lock (name_of l) (address n q) m
@@ -56,6 +61,12 @@ need_for (Ok v) = need.Verdict v.reply
 need_for (Err (stop.Lock name at mode)) = need.Lock name at mode
 need_for (Err (stop.Load at)) = need.Load at
 need_for (Err (stop.Refused reply)) = need.Verdict reply
+
+-- the answers once it was given: a lock counts as granted
+abbrev pub told_then : List ℕ → Stop → List ℕ
+told_then xs (stop.Lock name at mode) = xs ++ 0 ∷ []
+told_then xs (stop.Load at) = xs
+told_then xs (stop.Refused reply) = xs
 
 -- a hasher that has measured these bytes
 abbrev pub IsHand : Option Measure → Hand → Type 0

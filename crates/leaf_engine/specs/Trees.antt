@@ -4,7 +4,8 @@ use Rattle.std.specs.Prelude.{ℕ, Bool, true, false, if◌then◌else◌, List,
 use Rattle.td_words.specs.declared.names.Mode.{Mode}
 use Rattle.td_words.specs.declared.refusals.Status.{Status}
 use Rattle.td_words.specs.declared.replies.Reply.{Reply}
-use Rattle.td_words.specs.declared.replies.Reply.TheVariants.{Refused}
+use Rattle.td_words.specs.declared.replies.Value.TheVariants as value
+use Rattle.td_words.specs.declared.replies.Reply.TheVariants.{Done, Refused}
 use Rattle.td_words.specs.Place.{WordPlace}
 use Rattle.flat_core.specs.Processor.{LockId}
 use Rattle.word_rules.specs.Rules.{View}
@@ -30,6 +31,10 @@ answers r = End r [] []
 
 abbrev pub acts : Reply → List Change → Tree
 acts r cs = End r [] cs
+
+-- an end that answers nothing
+abbrev pub done : (fills changes : List Change) → Tree
+done fs cs = End (Done value.Nothing) fs cs
 
 -- what is left of a tree after these answers. A lock that was granted counts as an answer, whose word isn't used
 abbrev pub feed : Tree → List ℕ → Tree

@@ -1,10 +1,10 @@
 //! Plans: a leaf as a function of the words that it was told.
 
-ghost use Rattle.std.specs.Prelude.{◌≡◌, ℕ, ◌+◌, ◌-◌, ◌*◌, ◌<◌, ◌≤◌, Bool, true, false, List, [], ◌∷◌, length, drop, MatchOption, MatchResult};
+ghost use Rattle.std.specs.Prelude.{◌≡◌, ℕ, ◌+◌, ◌-◌, ◌*◌, ◌<◌, ◌≤◌, Bool, true, false, List, [], ◌∷◌, length, drop, Err, MatchOption, MatchResult};
 ghost use Rattle.td_words.specs.declared.replies.Reply.TheVariants.{Refused};
 ghost use Rattle.leaf_engine.specs.Trees.{feed};
-ghost use Rattle.leaf_engine.specs.Decides.{Decides};
-ghost use Rattle.leaf_engine.specs.Inside.{DecisionIn, DecidesEarly};
+ghost use Rattle.leaf_engine.specs.Decides.{Decides, need_for, told_then};
+ghost use Rattle.leaf_engine.specs.Inside.{DecisionIn, DecidesEarly, StopEarly, is_load};
 ghost use Rattle.leaf_engine.specs.Means.{Task, MeansRow};
 
 use crate::leaves::Leaf;
@@ -101,6 +101,28 @@ pub trait Plan {
 
     ghost means: { (p : Self) → MeansRow (task p) };
 }
+
+/// What is needed where a decision stops. A lock counts as granted at the next one.
+pub fn need_at(stop: Stop, told: &mut ArrayVec<u64, ANSWERS>, waits: &mut bool) -> Need
+    requires early { StopEarly 32 (length told.old.items) stop }
+    requires ready { waits.old ≡ false }
+    ensures need { result ≡ need_for (Err stop) }
+    ensures told { told.new.items ≡ told_then told.old.items stop }
+    ensures waits { waits.new ≡ is_load result }
+{
+    match stop {
+        Stop::Lock { name, at, mode } => {
+            told.push(0);
+            Need::Lock { name, at, mode }
+        }
+        Stop::Load(at) => {
+            *waits = true;
+            Need::Load(at)
+        }
+        Stop::Refused(reply) => Need::Verdict(reply),
+    }
+}
+
 /// A leaf that goes by a plan.
 #[derive(Drop)]
 pub struct Planned<P: Plan + Drop> {
@@ -159,15 +181,7 @@ impl<P: Plan + Drop> Leaf for Planned<P> {
             left: self.told.as_slice(),
         }) {
             Ok(verdict) => Need::Verdict(verdict.reply),
-            Err(Stop::Lock { name, at, mode }) => {
-                self.told.push(0);
-                Need::Lock { name, at, mode }
-            }
-            Err(Stop::Load(at)) => {
-                self.waits = true;
-                Need::Load(at)
-            }
-            Err(Stop::Refused(reply)) => Need::Verdict(reply),
+            Err(stop) => need_at(stop, &mut self.told, &mut self.waits),
         }
     }
 

@@ -7,3 +7,5 @@ pub mod Begun
 pub mod Owned
 pub mod Acted
 pub mod Unheld
+pub mod VpTrees
+pub mod WordBytes

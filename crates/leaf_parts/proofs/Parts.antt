@@ -1,5 +1,5 @@
 -- Parts of leaves: where they stop, and one after another.
-use Rattle.std.proofs.Common.{◌≡◌, ℕ, suc, ◌+◌, ◌*◌, ◌≤◌, List, ◌∷◌, length, Result, Ok, Err, refl, sym, ap, ◌∙◌, subst, Bool, true, false, arith}
+use Rattle.std.proofs.Common.{◌≡◌, ℕ, ◌+◌, ◌≤◌, List, Result, Ok, Err, refl, sym, ap, ◌∙◌, subst, Bool, true, false, arith}
 use Rattle.std.specs.Prelude.{MatchResult}
 use Rattle.std.specs.Result.{IsErrAnd}
 use Rattle.td_words.specs.declared.refusals.Status.{Status}
@@ -64,6 +64,16 @@ pub feeds-on : {A B : Type 0} (first : (A → Tree) → Tree) (second : A → (B
 feeds-on first second before between after x (Ok y) a b = λ further. a (λ z. second z further) ∙ b further
 feeds-on first second before between after x (Err e) a b = tt
 
+-- behind conditions that hold a part stops, or what comes after it decides
+module _ (n : ℕ) (conditions : Tree → Tree) (hold : (t : Tree) (xs : List ℕ) (r : Result Verdict Stop) → Decides n t xs r → Decides n (conditions t) xs r) where
+  pub behind-stop : {A : Type 0} (tree : (A → Tree) → Tree) (further : A → Tree) (before after : List ℕ) (e : Stop) (r : Result Verdict Stop) → r ≡ Err e
+      → Goes {A = A} n tree before after (Err e) → Decides n (conditions (tree further)) before r
+  behind-stop tree further before after e r is g = hold (tree further) before r (subst (λ (x : Result Verdict Stop). Decides n (tree further) before x) (sym is) (g further))
+
+  pub behind-go : {A : Type 0} (tree : (A → Tree) → Tree) (further : A → Tree) (before after : List ℕ) (x : A) (r : Result Verdict Stop)
+      → Goes {A = A} n tree before after (Ok x) → Decides n (further x) after r → Decides n (conditions (tree further)) before r
+  behind-go tree further before after x r g d = hold (tree further) before r (g further r d)
+
 -- the exit of a `?`
 pub exit : {A : Type 0} (r : Result A Stop) (e : Stop) (Q : Stop → Type 0) → IsErrAnd r Q → ((y : Stop) → Q y → y ≡ e) → r ≡ Err e
 exit (Ok x) e Q h k = absurd h
@@ -79,10 +89,3 @@ pub early-after : (used few n left : ℕ) (e : Stop) → n ≡ used + left → S
 early-after used few n left (stop.Load at) a h = omega (arith, a, h)
 early-after used few n left (stop.Lock name at mode) a h = omega (arith, a, h)
 early-after used few n left (stop.Refused reply) a h = tt
-
--- each of so many takes two answers
-pub two-more : (a b number : ℕ) (all xs ys zs : List ℕ) → length all ≡ length xs + 2 * number → xs ≡ a ∷ ys → ys ≡ b ∷ zs → length all ≡ length zs + 2 * (number + 1)
-two-more a b number all xs ys zs e first second =
-    let x : length xs ≡ suc (length ys) = ap length first in
-    let y : length ys ≡ suc (length zs) = ap length second in
-    omega (arith, e, x, y)

@@ -1,6 +1,7 @@
 -- What words say over a lawful state: page metadata, TDR and TDCS words, and what these words are.
-use Rattle.std.proofs.Common.{◌≡◌, ℕ, ◌/◌, ◌%◌, ◌<◌, true, false, ◌==◌, List, ◌∷◌, Option, refl, arith}
-use Rattle.std.proofs.lemmas.Bool.{eq-eqb, lt-ltb}
+use Rattle.std.proofs.Common.{◌≡◌, ℕ, ◌/◌, ◌%◌, ◌<◌, Bool, true, false, ◌==◌, ◌||◌, List, [], ◌∷◌, Option, refl, ap, sym, ◌∙◌, arith}
+use Rattle.std.specs.List.{list_any}
+use Rattle.std.proofs.lemmas.Bool.{eq-eqb, eqb-true, lt-ltb}
 use Rattle.td_words.specs.declared.names.PageKind.{PageKind}
 use Rattle.td_words.specs.declared.names.PageKind.TheVariants as kind
 use Rattle.td_words.specs.declared.names.LifeState.{LifeState}
@@ -42,6 +43,14 @@ op-back op.StateImport = refl
 op-back op.PostImport = refl
 op-back op.LiveImport = refl
 op-back op.FailedImport = refl
+
+-- the one operation state that is allowed
+pub only-op : (one s : OpState) → list_any (λ a. op_number a == op_number s) (one ∷ []) ≡ true → s ≡ one
+only-op one s h = sym (op-back s) ∙ (ap op_told (sym (same (op_number one == op_number s) h (eqb-true (op_number one) (op_number s)))) ∙ op-back one)
+  where
+    same : {A : Type 0} (b : Bool) → (b || false) ≡ true → (b ≡ true → A) → A
+    same true e k = k refl
+    same false e k = cc
 
 pub page-back : (n p : ℕ) → p < n → page_told n p ≡ p
 page-back n p small = rw (lt-ltb p n small) refl

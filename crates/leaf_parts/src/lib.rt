@@ -6,10 +6,14 @@
 #![tactic(auto)]
 
 mod heads;
+mod vp_words;
+mod word_bytes;
 mod words;
 
 pub use heads::{Td, life_in, op_in, root, td_head, tdcs, tdr_head};
+pub use vp_words::{VpWord, vps_apart};
+pub use word_bytes::put_bytes;
 pub use words::{
-    is_among, is_hkid, is_life_among, life_told, lowered, op_told, page_told, raised, says_free,
+    hkid_slot, is_among, is_hkid, is_life_among, life_told, lowered, op_told, page_told, raised, says_free,
     says_host, says_kind, says_owner, vps_told,
 };

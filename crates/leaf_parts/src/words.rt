@@ -1,6 +1,6 @@
 //! What words say that leaves load.
 
-ghost use Rattle.std.specs.Prelude.{◌≡◌, ◌≤◌, ◌==◌};
+ghost use Rattle.std.specs.Prelude.{◌≡◌, ◌-◌, ◌<◌, ◌≤◌, ◌==◌, true, false, MatchOption};
 ghost use Rattle.std.specs.List.{list_any};
 ghost use Rattle.td_words.specs.NameNumber.{op_number, life_number};
 ghost use Rattle.leaf_parts.specs.Words.{says_kind, says_host, says_owner, says_free, is_hkid, life_told, op_told, page_told, vps_told, raised, lowered};
@@ -40,6 +40,17 @@ pub fn is_hkid(machine: Machine, hkid: u64) -> bool
     ensures { result ≡ is_hkid machine hkid }
 {
     1 <= hkid && hkid <= u64::from(machine.hkids)
+}
+
+/// The slot of the hasher of an HKID, if it is one of the machine's.
+pub fn hkid_slot(machine: Machine, hkid: u64) -> Option<u8>
+    ensures { MatchOption result (is_hkid machine hkid ≡ false) (λ slot. (is_hkid machine hkid ≡ true) × (slot ≡ hkid - 1) × (slot < machine.hkids)) }
+{
+    if is_hkid(machine, hkid) {
+        Some(hkid as u8 - 1)
+    } else {
+        None
+    }
 }
 
 /// The life state of that number. Any other number never stands where it is told.

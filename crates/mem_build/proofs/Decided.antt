@@ -1,5 +1,5 @@
 -- The decisions of the leaves behind their arguments.
-use Rattle.std.proofs.Common.{◌≡◌, ℕ, ◌%◌, ◌^◌, ◌==◌, ◌&&◌, not, true, nat_lt, List, Result, Ok, Err, sym, subst}
+use Rattle.std.proofs.Common.{◌≡◌, ℕ, ◌%◌, ◌^◌, ◌==◌, ◌&&◌, not, true, nat_lt, List, Result}
 use Rattle.std.specs.Prelude.{nat_le}
 use Rattle.td_words.specs.declared.machines.Machine.{Machine}
 use Rattle.td_words.specs.declared.refusals.Status.TheVariants.{OperandInvalid}
@@ -8,20 +8,9 @@ use Rattle.leaf_engine.specs.declared.plans.Stop.{Stop}
 use Rattle.leaf_engine.specs.declared.plans.Verdict.{Verdict}
 use Rattle.leaf_engine.specs.Trees.{Tree, needs}
 use Rattle.leaf_engine.specs.Decides.{Decides}
-use Rattle.leaf_parts.specs.Parts.{Goes}
 use Rattle.leaf_parts.proofs.Parts.{passes}
 use Rattle.mem_build.specs.SeptReadTrees.{read_arguments}
 use Rattle.mem_build.specs.SeptAddTrees.{add_arguments}
-
--- behind conditions that hold a part stops, or what comes after it decides
-module _ (n : ℕ) (conditions : Tree → Tree) (hold : (t : Tree) (xs : List ℕ) (r : Result Verdict Stop) → Decides n t xs r → Decides n (conditions t) xs r) where
-  pub behind-stop : {A : Type 0} (tree : (A → Tree) → Tree) (further : A → Tree) (before after : List ℕ) (e : Stop) (r : Result Verdict Stop) → r ≡ Err e
-      → Goes {A = A} n tree before after (Err e) → Decides n (conditions (tree further)) before r
-  behind-stop tree further before after e r is g = hold (tree further) before r (subst (λ (x : Result Verdict Stop). Decides n (tree further) before x) (sym is) (g further))
-
-  pub behind-go : {A : Type 0} (tree : (A → Tree) → Tree) (further : A → Tree) (before after : List ℕ) (x : A) (r : Result Verdict Stop)
-      → Goes {A = A} n tree before after (Ok x) → Decides n (further x) after r → Decides n (conditions (tree further)) before r
-  behind-go tree further before after x r g d = hold (tree further) before r (g further r d)
 
 -- the arguments of MEM.SEPT.RD
 pub read-arguments : (n : ℕ) (m : Machine) (tdr gpa level : ℕ) → nat_lt tdr m.pages ≡ true → nat_lt gpa (2 ^ 47) ≡ true → nat_le level 3 ≡ true → (gpa % level_size level == 0) ≡ true

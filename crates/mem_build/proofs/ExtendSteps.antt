@@ -21,9 +21,9 @@ use Rattle.leaf_engine.specs.declared.needs.Write.TheVariants as write
 use Rattle.leaf_engine.specs.declared.plans.Stop.{Stop}
 use Rattle.leaf_engine.specs.declared.plans.Stop.TheVariants as stop
 use Rattle.leaf_engine.specs.Changes.{Hand, Change, Swap, changes_where}
-use Rattle.leaf_engine.specs.Decides.{Decides, Wants, IsHand, HandsNext, need_for}
+use Rattle.leaf_engine.specs.Decides.{Decides, Wants, IsHand, HandsNext, need_for, told_then}
 use Rattle.leaf_engine.specs.Trees.{Tree, Lock, Load, Test, End, Since, feed, fed, settle, passed, changes_of, changes_left}
-use Rattle.leaf_engine.proofs.Decided.{feed-append, decided, decided-kept, decided-lock}
+use Rattle.leaf_engine.proofs.Decided.{feed-append, decided, decided-then}
 use Rattle.leaf_parts.specs.Words.{is_hkid}
 use Rattle.mem_build.specs.declared.extensions.Chunk.{Chunk}
 use Rattle.mem_build.specs.ExtendTrees.{with_chunk, measure_changes, extend_changes, words_tree, measure_tree, chunk_tree, extend_tree, ComesTo}
@@ -141,13 +141,10 @@ module _ (p : Place) (t gpa : ℕ) (o : Option Chunk) (told words : List ℕ) wh
     pub stop-gives : (e : Stop) → Decides p.machine.pages (extend_tree p.machine t gpa) told (Err e) → Wants p.machine.pages (settle left) (need_for (Err e))
     stop-gives e d = subst (λ (u : Tree). Wants p.machine.pages (settle u) (need_for (Err e))) (sym (at-conditions none)) (decided p.machine.pages (extend_tree p.machine t gpa) told (Err e) d)
 
-    pub refused-kept : (r : Reply) → Decides p.machine.pages (extend_tree p.machine t gpa) told (Err (stop.Refused r)) → left ≡ passed (settle left)
-    refused-kept r d = subst (λ (u : Tree). u ≡ passed (settle u)) (sym (at-conditions none)) (decided-kept p.machine.pages (extend_tree p.machine t gpa) told (Err (stop.Refused r)) d tt)
-
-    pub lock-passed : (name : LockName) (at : ℕ) (mode : Mode) (after : List ℕ) → Decides p.machine.pages (extend_tree p.machine t gpa) told (Err (stop.Lock name at mode)) → after ≡ told ++ 0 ∷ [] → rest_of p t gpa o after words ≡ passed (settle left)
-    lock-passed name at mode after d is =
+    pub stop-then : (e : Stop) (after : List ℕ) → Decides p.machine.pages (extend_tree p.machine t gpa) told (Err e) → after ≡ told_then told e → rest_of p t gpa o after words ≡ passed (settle left)
+    stop-then e after d is =
         subst (λ (y : Option Chunk). rest_of p t gpa y after words ≡ passed (settle (rest_of p t gpa y told words))) (sym none)
-        (rw is (decided-lock p.machine.pages (extend_tree p.machine t gpa) told name at mode d))
+        (rw is (decided-then p.machine.pages (extend_tree p.machine t gpa) told e d))
 
     pub conditions-none : (j : ℕ) → length told ≤ 15 → changes_left left j ≡ []
     conditions-none j few = subst (λ (u : Tree). changes_left u j ≡ []) (sym (at-conditions none))
@@ -173,17 +170,14 @@ module _ (p : Place) (t gpa : ℕ) (o : Option Chunk) (told words : List ℕ) wh
           ∙ subst (λ (u : Tree). feed (chunk_tree p.machine gpa c.page c.hkid (word_of_gpa gpa) 32 []) [] ≡ passed (settle u)) (sym found) (asks-kept p.machine gpa c.page c.hkid [] (omega arith))
 
 -- the two changes, one after the other
-module _ (m : Machine) (gpa hkid : ℕ) (words : List ℕ) (is : is_hkid m hkid ≡ true) (h h' : Option Measure) where
+module _ (m : Machine) (gpa hkid slot : ℕ) (words : List ℕ) (is : (is_hkid m hkid ≡ true) × (slot ≡ hkid - 1) × (slot < m.hkids)) (h h' : Option Measure) where
   abbrev Next : ℕ → Type 0
-  Next k = HandsNext m (drop k (extend_changes m gpa hkid words)) (drop (k + 1) (extend_changes m gpa hkid words)) h h' (Some (write.Swap (hkid - 1)))
-
-  slot-in : (a b : ℕ) → (nat_le 1 a && nat_le a b) ≡ true → a - 1 < b
-  slot-in a b e = grind (arith, nat_tests)
+  Next k = HandsNext m (drop k (extend_changes m gpa hkid words)) (drop (k + 1) (extend_changes m gpa hkid words)) h h' (Some (write.Swap slot))
 
   hands : (k : ℕ) (made : Hand → Hand) → drop k (measure_changes gpa hkid words) ≡ Swap hkid made ∷ drop (k + 1) (measure_changes gpa hkid words) → ((hand : Hand) → IsHand h hand → IsHand h' (made hand)) → Next k
   hands k made e after =
-      subst (λ (b : Bool). HandsNext m (drop k (changes_where b (measure_changes gpa hkid words))) (drop (k + 1) (changes_where b (measure_changes gpa hkid words))) h h' (Some (write.Swap (hkid - 1)))) (sym is)
-      (Swap hkid made, e, slot-in hkid m.hkids is, λ hand was. (refl, after hand was))
+      subst (λ (b : Bool). HandsNext m (drop k (changes_where b (measure_changes gpa hkid words))) (drop (k + 1) (changes_where b (measure_changes gpa hkid words))) h h' (Some (write.Swap slot))) (sym is.0)
+      (Swap hkid made, e, is.2, λ hand was. (rw is.1 refl, after hand was))
 
   pub taken-next : (k : ℕ) → k ≡ 0 → h' ≡ None → Next k
   taken-next k at none = subst Next (sym at) (hands 0 (λ hand. None) refl (λ hand was. subst (λ (x : Option Measure). IsHand x None) (sym none) tt))

@@ -2,4 +2,3 @@ pub mod Decided
 pub mod PageAdds
 pub mod ExtendDecided
 pub mod ExtendSteps
-pub mod ChunkBytes

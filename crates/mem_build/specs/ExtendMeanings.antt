@@ -44,7 +44,7 @@ use Rattle.leaf_engine.specs.Trees.{Tree, acts}
 use Rattle.leaf_engine.specs.Means.{Instant, IsHkid, Means, MeansRow, MayChange, Work, work_of, OfCall, hold}
 use Rattle.leaf_parts.proofs.Begun.{td-head-means, page_lock, op_lock, page-in, IsTd}
 use Rattle.leaf_parts.proofs.Keys.{hkid-in}
-use Rattle.leaf_parts.proofs.Told.{tdr-spot, tdr-shown}
+use Rattle.leaf_parts.proofs.Told.{tdr-spot, tdr-shown, only-op}
 use Rattle.sept_parts.specs.SeptTrees.{state_tree}
 use Rattle.sept_parts.proofs.SeptBegun.{td-find-means}
 use Rattle.sept_parts.proofs.SeptLocks.{tree_held}
@@ -52,19 +52,6 @@ use Rattle.mem_build.specs.ExtendTrees.{measure_changes, words_tree, measure_tre
 
 abbrev initialized : List OpState
 initialized = op.Initialized ∷ []
-
-is-initialized : (s : OpState) → list_any (λ a. op_number a == op_number s) initialized ≡ true → s ≡ op.Initialized
-is-initialized op.Initialized h = refl
-is-initialized op.Uninitialized h = cc
-is-initialized op.Runnable h = cc
-is-initialized op.LiveExport h = cc
-is-initialized op.PausedExport h = cc
-is-initialized op.PostExport h = cc
-is-initialized op.MemoryImport h = cc
-is-initialized op.StateImport h = cc
-is-initialized op.PostImport h = cc
-is-initialized op.LiveImport h = cc
-is-initialized op.FailedImport h = cc
 
 -- a MAPPED entry names a page
 mapped-names : (s : EntryState) → list_any (λ a. same_state a s) (entry.Mapped ∷ []) ≡ true → is_free s ≡ false
@@ -132,7 +119,7 @@ module _ (m : Machine) (s : State) (mem : Memory) (t gpa : ℕ) (words : List �
   owner = la.keys.owner t x.alive
 
   building : w.tds.ops t ≡ op.Initialized
-  building = is-initialized (w.tds.ops t) x.op
+  building = only-op op.Initialized (w.tds.ops t) x.op
 
   hasher-is : mem.slots h ≡ Some (w.tds.measured t)
   hasher-is = rw (owner, x.configured, building) at (sh.hasher h)
@@ -196,7 +183,7 @@ module _ (m : Machine) (c : Instant) (t gpa : ℕ) (in_page : t < m.pages) (limi
   own-held = rw (eq-eqb p p refl) refl
 
   builds : v.tds.ops t ≡ op.Initialized
-  builds = is-initialized (v.tds.ops t) x.op
+  builds = only-op op.Initialized (v.tds.ops t) x.op
 
   range : IsHkid m hkid
   range = la.keys.in_range t x.alive

@@ -33,23 +33,11 @@ use Rattle.sept_parts.proofs.SeptPut.{entry-put}
 use Rattle.sept_parts.proofs.Filled.{page-set, set-lawful}
 use Rattle.sept_parts.proofs.Nodes.{node-taken}
 use Rattle.mem_build.specs.declared.page_additions.Addition.{Addition}
+use Rattle.leaf_parts.proofs.Told.{only-op}
 use Rattle.mem_build.specs.PageAddTrees.{with_page, page_fills, page_changes}
 
 abbrev pub initialized : List OpState
 initialized = op.Initialized ∷ []
-
-is-initialized : (s : OpState) → list_any (λ a. op_number a == op_number s) initialized ≡ true → s ≡ op.Initialized
-is-initialized op.Initialized h = refl
-is-initialized op.Uninitialized h = cc
-is-initialized op.Runnable h = cc
-is-initialized op.LiveExport h = cc
-is-initialized op.PausedExport h = cc
-is-initialized op.PostExport h = cc
-is-initialized op.MemoryImport h = cc
-is-initialized op.StateImport h = cc
-is-initialized op.PostImport h = cc
-is-initialized op.LiveImport h = cc
-is-initialized op.FailedImport h = cc
 
 -- no word tells what a TD's guest has in memory, or what is measured so far
 module _ (s : State) (measured : ℕ → List ℕ) (memories : ℕ → ℕ → Option (ℕ → ℕ)) where
@@ -175,7 +163,7 @@ module _ (m : Machine) (s : State) (mem : Memory) (t gpa p q table : ℕ) (sh : 
   owner = la.keys.owner t x.alive
 
   building : w.tds.ops t ≡ op.Initialized
-  building = is-initialized (w.tds.ops t) x.op
+  building = only-op op.Initialized (w.tds.ops t) x.op
 
   was-measured : mem.slots h ≡ Some (w.tds.measured t)
   was-measured = rw (owner, x.configured, building) at (sh.hasher h)

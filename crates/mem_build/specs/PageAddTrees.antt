@@ -8,8 +8,6 @@ use Rattle.td_words.specs.declared.names.Mode.TheVariants.{Exclusive}
 use Rattle.td_words.specs.declared.machines.Machine.{Machine}
 use Rattle.td_words.specs.declared.places.TheConstants.{TDR_HKID, TDR_CHILDREN}
 use Rattle.td_words.specs.declared.refusals.Status.TheVariants.{OperandInvalid, PageMetadataIncorrect}
-use Rattle.td_words.specs.declared.replies.Value.TheVariants as value
-use Rattle.td_words.specs.declared.replies.Reply.TheVariants.{Done}
 use Rattle.td_words.specs.Packing.{pamt_word, entry_word}
 use Rattle.td_words.specs.Place as place
 use Rattle.flat_core.specs.Processor.{OfPage}
@@ -19,7 +17,7 @@ use Rattle.sept_walk.specs.SecureEpt.{index_at}
 use Rattle.word_rules.specs.Rules.{Whole}
 use Rattle.leaf_engine.specs.declared.needs.Place.{Place}
 use Rattle.leaf_engine.specs.Changes.{Hand, Change, Put, Copy, Swap, changes_where}
-use Rattle.leaf_engine.specs.Trees.{Tree, Lock, Load, End, needs}
+use Rattle.leaf_engine.specs.Trees.{Tree, Lock, Load, needs, done}
 use Rattle.leaf_engine.specs.Means.{Task, OfCall}
 use Rattle.leaf_parts.specs.Words.{says_host, is_hkid, raised}
 use Rattle.sept_parts.specs.declared.finds.Modes.{Modes}
@@ -46,9 +44,15 @@ page_changes pages a =
     ∷ Swap a.hkid (with_page a.gpa)
     ∷ []
 
--- the end of the call; the HKID told is one of the machine's, as it always is
+-- the end of the call
+abbrev pub all_fills : Machine → Addition → List Change
+all_fills m a = changes_where (is_hkid m a.hkid) (page_fills a)
+
+abbrev pub all_changes : Machine → Addition → List Change
+all_changes m a = changes_where (is_hkid m a.hkid) (page_changes m.pages a)
+
 abbrev pub addition_end : Machine → Addition → Tree
-addition_end m a = End (Done value.Nothing) (changes_where (is_hkid m a.hkid) (page_fills a)) (changes_where (is_hkid m a.hkid) (page_changes m.pages a))
+addition_end m a = done (all_fills m a) (all_changes m a)
 
 -- the arguments: three pages of the machine, no two of them the same, and a GPA at which a page begins
 abbrev pub arguments_tree : Machine → (tdr gpa page source : ℕ) → Tree → Tree

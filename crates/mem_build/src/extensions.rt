@@ -13,8 +13,8 @@ ghost use Rattle.mem_build.specs.ExtendTrees.{with_chunk, extend_changes, mapped
 ghost use Rattle.mem_build.specs.ExtendStages.{HasRoom, IsKnown, HasRoom-prop, IsKnown-prop};
 
 use arrayvec::ArrayVec;
-use leaf_engine::{ANSWERS, Leaf, Need, Place, Stop, Told, Write};
-use leaf_parts::{is_hkid, td_head};
+use leaf_engine::{ANSWERS, Leaf, Need, Place, Stop, Told, Write, need_at};
+use leaf_parts::{hkid_slot, put_bytes, td_head};
 use mrtd_measure::Measure;
 use sept_parts::{find, is_state_among, tree_lock};
 use td_words::places::TDR_HKID;
@@ -112,15 +112,7 @@ impl Leaf for Extend {
                         self.waits = true;
                         Need::Load(word_at(chunk.page, self.gpa, 0))
                     }
-                    Err(Stop::Lock { name, at, mode }) => {
-                        self.told.push(0);
-                        Need::Lock { name, at, mode }
-                    }
-                    Err(Stop::Load(at)) => {
-                        self.waits = true;
-                        Need::Load(at)
-                    }
-                    Err(Stop::Refused(reply)) => Need::Verdict(reply),
+                    Err(stop) => need_at(stop, &mut self.told, &mut self.waits),
                 }
             }
         }
@@ -215,16 +207,14 @@ fn next_write(
     ensures next { let cs = extend_changes machine gpa hkid words.now in HandsNext machine (drop written.old cs) (drop written.new cs) hasher.old hasher.new result }
     ensures count { MatchOption result (written.new ≡ written.old) (λ w. (written.new ≡ written.old + 1) × (written.old < 16)) }
 {
-    if !is_hkid(machine, hkid) {
-        return None;
-    }
+    let slot = hkid_slot(machine, hkid)?;
     match *written {
         0 => *hasher = None,
         1 => measure(hasher, gpa, words),
         _ => return None,
     }
     *written += 1;
-    Some(Write::Swap((hkid - 1) as u8))
+    Some(Write::Swap(slot))
 }
 
 /// The hasher in hand measures the chunk at a GPA that has these words.
@@ -243,8 +233,6 @@ fn bytes_of(words: &[u64]) -> [u8; 256]
     ensures { result ≡ digest_bytes words.now }
 {
     let mut bytes = [0; 256];
-    for i in 0..WORDS {
-        bytes[8 * i..8 * i + 8].copy_from_slice(&words[i].to_le_bytes());
-    }
+    put_bytes(words, &mut bytes);
     bytes
 }

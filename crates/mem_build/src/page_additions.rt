@@ -3,9 +3,8 @@
 ghost use Rattle.td_words.specs.Limits.{IsMachine};
 
 use crate::arguments::{GPAS, is_aligned};
-use arrayvec::ArrayVec;
-use leaf_engine::{ANSWERS, Leaf, Need, Place, Stop, Told, Write};
-use leaf_parts::{is_hkid, raised, says_host};
+use leaf_engine::{Leaf, Measuring, MeasuringPlan, Place, Stop, Told, Write};
+use leaf_parts::{hkid_slot, raised, says_host};
 use mrtd_measure::Measure;
 use pamt_core::PamtWord;
 use sept_entry::Entry;
@@ -14,8 +13,8 @@ use sept_walk::index;
 use step_core::WordStep;
 use td_words::places::{TDR_CHILDREN, TDR_HKID};
 use td_words::{
-    EntryState, LockName, Machine, Mode, OpState, PageKind, Reply, Status, Value, lock_address,
-    pamt_address, word_address,
+    EntryState, LockName, Machine, Mode, OpState, PageKind, Status, lock_address, pamt_address,
+    word_address,
 };
 
 /// MEM.PAGE.ADD TDR GPA PAGE SOURCE: a host page with the source's words becomes a TD's private
@@ -24,14 +23,8 @@ use td_words::{
 pub struct PageAdd {
     place: Place,
     given: Given,
-    told: ArrayVec<u64, ANSWERS>,
-    written: usize,
-    waits: bool,
     ghost machine: { IsMachine place.machine },
-    ghost room: { waits ≡ true → length told.items < 32 },
 }
-
-ghost use Rattle.std.specs.Prelude.{◌≡◌, ◌≢◌, ℕ, ◌<◌, ◌+◌, true, length};
 
 /// What the call is given.
 #[derive(Clone, Copy, Debug, PartialEq, Eq)]
@@ -49,12 +42,12 @@ impl PageAdd {
     ghost use Rattle.mem_build.specs.PageAddTrees.{page_add_task};
 
     /// The leaf of a call at a place.
-    pub fn leaf(place: Place, tdr: u64, gpa: u64, page: u64, source: u64) -> PageAdd
+    pub fn leaf(place: Place, tdr: u64, gpa: u64, page: u64, source: u64) -> Measuring<PageAdd>
         requires { IsMachine place.machine }
-        ensures task { ⟦<PageAdd as Leaf>⟧.task result ≡ page_add_task place tdr gpa page source }
-        ensures fresh { let leaf = ⟦<PageAdd as Leaf>⟧ in IsFresh (leaf.task result).tree (leaf.rest result) (leaf.tries result) (leaf.written result) (leaf.waits result) }
+        ensures task { ⟦<Measuring<PageAdd> as Leaf>⟧.task result ≡ page_add_task place tdr gpa page source }
+        ensures fresh { let leaf = ⟦<Measuring<PageAdd> as Leaf>⟧ in IsFresh (leaf.task result).tree (leaf.rest result) (leaf.tries result) (leaf.written result) (leaf.waits result) }
     {
-        PageAdd {
+        Measuring::new(PageAdd {
             place,
             given: Given {
                 tdr,
@@ -62,68 +55,70 @@ impl PageAdd {
                 page,
                 source,
             },
-            told: ArrayVec::new(),
-            written: 0,
-            waits: false,
-        }
+        })
     }
 }
 
-impl Leaf for PageAdd {
-    ghost use Rattle.std.specs.Prelude.{◌≡◌, ℕ, ◌+◌, ◌-◌, ◌*◌, length, if◌then◌else◌};
-    ghost use Rattle.leaf_engine.specs.Trees.{feed};
-    ghost use Rattle.mem_build.specs.PageAddTrees.{page_add_task};
+impl MeasuringPlan for PageAdd {
+    ghost use Rattle.mem_build.specs.PageAddTrees.{page_add_task, all_fills, all_changes};
+    ghost use Rattle.mem_build.specs.PageAddParts.{IsInside};
     ghost use Rattle.mem_build.specs.PageAddMeanings.{page_add-means};
+
+    type Act = Addition;
 
     ghost task = { λ l. page_add_task l.place l.given.tdr l.given.gpa l.given.page l.given.source };
 
-    ghost rest = { λ l. feed (page_add_task l.place l.given.tdr l.given.gpa l.given.page l.given.source).tree l.told.items };
+    ghost fills = { λ l a. all_fills l.place.machine a };
 
-    ghost written = { λ l. l.written };
+    ghost changes = { λ l a. all_changes l.place.machine a };
 
-    ghost waits = { λ l. l.waits };
+    ghost shown = { λ l a. IsInside l.place.machine.pages a };
 
-    ghost bound = { λ l. 2 * (32 - length l.told.items) + (16 - l.written) - (if l.waits then 1 else 0) };
-
-    ghost tries = { λ l. 32 - length l.told.items };
-
-    fn need(&mut self) -> Need {
-        match to_add(
-            Told {
-                left: self.told.as_slice(),
-            },
+    fn decide(&self, told: Told) -> Result<Addition, Stop> {
+        let mut told = told;
+        let given = self.given;
+        are_allowed(&mut told, self.place.machine, given)?;
+        of_td(
+            &mut told,
             self.place,
-            self.given,
-        ) {
-            Ok(_) => Need::Verdict(Reply::Done(Value::Nothing)),
-            Err(Stop::Lock { name, at, mode }) => {
-                self.told.push(0);
-                Need::Lock { name, at, mode }
-            }
-            Err(Stop::Load(at)) => {
-                self.waits = true;
-                Need::Load(at)
-            }
-            Err(Stop::Refused(reply)) => Need::Verdict(reply),
-        }
+            given.tdr as u16,
+            given.gpa,
+            given.page as u16,
+            given.source as u16,
+        )
     }
 
-    fn tell(&mut self, word: u64) {
-        self.waits = false;
-        self.told.push(word);
-    }
-
-    fn write(&mut self, hasher: &mut Option<Measure>) -> Option<Write> {
-        match to_add(
-            Told {
-                left: self.told.as_slice(),
-            },
-            self.place,
-            self.given,
-        ) {
-            Ok(addition) => next_write(self.place.machine, addition, &mut self.written, hasher),
-            Err(_) => None,
-        }
+    // The copy, the entry, the page's metadata, the child count, and the hasher out of its slot and
+    // back with the page's record.
+    fn next_write(
+        &self,
+        act: Addition,
+        written: &mut usize,
+        hasher: &mut Option<Measure>,
+    ) -> Option<Write> {
+        let machine = self.place.machine;
+        let slot = hkid_slot(machine, act.hkid)?;
+        let write = match *written {
+            0 => {
+                let from = act.source;
+                let to = act.page;
+                Write::Copy { from, to }
+            }
+            1 => entry_store(act),
+            2 => owner_store(act),
+            3 => count_store(machine, act),
+            4 => {
+                *hasher = None;
+                Write::Swap(slot)
+            }
+            5 => {
+                measure(hasher, act.gpa);
+                Write::Swap(slot)
+            }
+            _ => return None,
+        };
+        *written += 1;
+        Some(write)
     }
 
     ghost means = { λ l. page_add-means l.place l.given.tdr l.given.gpa l.given.page l.given.source l.machine };
@@ -132,40 +127,20 @@ impl Leaf for PageAdd {
 /// What the call adds: its arguments, the secure EPT page in which the entry of the GPA stands, and
 /// the HKID and the child count that the TDR tells.
 #[derive(Clone, Copy, Debug, PartialEq, Eq)]
-struct Addition {
-    tdr: u16,
-    gpa: u64,
-    page: u16,
-    source: u16,
-    table: u16,
-    hkid: u64,
-    children: u64,
+pub struct Addition {
+    pub tdr: u16,
+    pub gpa: u64,
+    pub page: u16,
+    pub source: u16,
+    pub table: u16,
+    pub hkid: u64,
+    pub children: u64,
 }
 
-ghost use Rattle.std.specs.Prelude.{MatchResult};
-ghost use Rattle.leaf_engine.specs.Inside.{StopIn, StopEarly};
+ghost use Rattle.std.specs.Prelude.{◌≡◌, ◌≢◌, ℕ, ◌<◌, MatchResult};
+ghost use Rattle.leaf_engine.specs.Inside.{StopIn};
 ghost use Rattle.leaf_parts.specs.Parts.{Goes, Feeds, Uses};
 ghost use Rattle.mem_build.specs.PageAddTrees.{arguments_tree, free_tree, host_tree, pages_tree, td_tree};
-ghost use Rattle.mem_build.specs.PageAddParts.{ComesTo, IsInside};
-
-/// The conditions of the call, and what it adds.
-fn to_add(told: Told, place: Place, given: Given) -> Result<Addition, Stop>
-    ensures comes { ComesTo place.machine given told.entry.left.now result }
-    ensures inside { MatchResult result (λ a. IsInside place.machine.pages a) (λ e. StopIn place.machine e) }
-    ensures early { MatchResult result (λ a. Unit {0}) (λ e. StopEarly 19 (length told.entry.left.now) e) }
-{
-    let mut told = told;
-    are_allowed(&mut told, place.machine, given)?;
-    of_td(
-        &mut told,
-        place,
-        given.tdr as u16,
-        given.gpa,
-        given.page as u16,
-        given.source as u16,
-    )
-}
-
 ghost use Rattle.mem_build.specs.PageAddParts.{AreAllowed};
 
 /// The argument rules.
@@ -283,58 +258,6 @@ fn host_page(told: &mut Told, place: Place, page: u16) -> Result<(), Stop>
     told.lock(LockName::Page(page), lock_address(page), Mode::Exclusive)?;
     let pamt = told.load(pamt_address(page))?;
     told.check(says_host(pamt), Status::PageMetadataIncorrect(page))
-}
-
-ghost use Rattle.std.specs.Prelude.{drop, MatchOption, ◌++◌};
-ghost use Rattle.leaf_engine.specs.Decides.{HandsNext};
-ghost use Rattle.mem_build.specs.PageAddParts.{all_changes};
-
-/// The next of the writes: the copy, the entry, the page's metadata, the child count, and the hasher
-/// out of its slot and back with the page's record.
-fn next_write(
-    machine: Machine,
-    addition: Addition,
-    written: &mut usize,
-    hasher: &mut Option<Measure>,
-) -> Option<Write>
-    requires { IsInside machine.pages addition }
-    ensures next { HandsNext machine (drop written.old (all_changes machine addition)) (drop written.new (all_changes machine addition)) hasher.old hasher.new result }
-    ensures count { MatchOption result (written.new ≡ written.old) (λ w. (written.new ≡ written.old + 1) × (written.old < 16)) }
-{
-    if !is_hkid(machine, addition.hkid) {
-        return None;
-    }
-    match *written {
-        0 => {
-            *written = 1;
-            let from = addition.source;
-            let to = addition.page;
-            Some(Write::Copy { from, to })
-        }
-        1 => {
-            *written = 2;
-            Some(entry_store(addition))
-        }
-        2 => {
-            *written = 3;
-            Some(owner_store(addition))
-        }
-        3 => {
-            *written = 4;
-            Some(count_store(machine, addition))
-        }
-        4 => {
-            *written = 5;
-            *hasher = None;
-            Some(Write::Swap(addition.hkid as u8 - 1))
-        }
-        5 => {
-            *written = 6;
-            measure(hasher, addition.gpa);
-            Some(Write::Swap(addition.hkid as u8 - 1))
-        }
-        _ => None,
-    }
 }
 
 ghost use Rattle.td_words.specs.declared.names.PageKind.TheVariants as kind;

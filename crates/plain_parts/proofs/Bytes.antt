@@ -8,19 +8,16 @@ use Rattle.std.proofs.Math.Seq.{drop-length}
 use Rattle.std.proofs.lemmas.List.FromFn.{map-range_with_len_more}
 use Rattle.flat_core.specs.Digests.{digest_bytes, digest_word, six_words}
 use Rattle.mrtd_measure.specs.Records.{named_record}
+use Rattle.leaf_parts.proofs.WordBytes.{bytes-more}
 
 pub record_appended : (m name zeros bytes : List ℕ) (gpa : ℕ) → zeros ≡ replicate (16 - length name) 0 → bytes ≡ to_le_bytes w64 gpa → (((m ++ name) ++ zeros) ++ bytes) ++ replicate 104 0 ≡ m ++ named_record name gpa
 record_appended m name zeros bytes gpa e f = simp append_assoc (ap (λ xs. m ++ (name ++ (xs ++ (bytes ++ replicate 104 0)))) e ∙ ap (λ xs. m ++ (name ++ (replicate (16 - length name) 0 ++ (xs ++ replicate 104 0)))) f)
-
-digest-more : (xs : List ℕ) (x : ℕ) → digest_bytes (xs ++ x ∷ []) ≡ digest_bytes xs ++ to_le_bytes w64 x
-digest-more [] x = refl
-digest-more (y ∷ ys) x = rw (digest-more ys x) refl
 
 pub chunk_appended : (m bytes : List ℕ) (f : ℕ → ℕ) (a i x : ℕ) → bytes ≡ to_le_bytes w64 x → x ≡ f (a + i) → (m ++ digest_bytes (map f (range_with_len a i))) ++ bytes ≡ m ++ digest_bytes (map f (range_with_len a (i + 1)))
 chunk_appended m bytes f a i x e is =
     append_assoc m _ bytes
     ∙ ap (λ (xs : List ℕ). m ++ xs) (ap (λ (xs : List ℕ). digest_bytes (map f (range_with_len a i)) ++ xs) (e ∙ ap (to_le_bytes w64) is)
-    ∙ (sym (digest-more (map f (range_with_len a i)) (f (a + i))) ∙ ap digest_bytes (sym (map-range_with_len_more f a i (a + i) refl))))
+    ∙ (sym (bytes-more (map f (range_with_len a i)) (f (a + i))) ∙ ap digest_bytes (sym (map-range_with_len_more f a i (a + i) refl))))
 
 -- 48 bytes are those of their six words
 small_take : (n : ℕ) (xs : List ℕ) → ((i : ℕ) → get_or xs i 0 < 256) → (i : ℕ) → get_or (take n xs) i 0 < 256

@@ -1,7 +1,5 @@
 -- The writes of the call that begins a TD's measurement are its changes, one after another.
-use Rattle.std.proofs.Common.{◌≡◌, ℕ, ◌-◌, ◌<◌, true, ◌&&◌, drop, [], Option, Some, refl, arith}
-use Rattle.std.specs.Prelude.{nat_le}
-use Rattle.std.proofs.lemmas.Bool.Decides.{nat_tests}
+use Rattle.std.proofs.Common.{◌≡◌, ℕ, ◌-◌, ◌<◌, true, drop, [], Option, Some, refl, arith}
 use Rattle.sha2.specs.Hashers.{Holds384}
 use Rattle.td_words.specs.declared.machines.Machine.{Machine}
 use Rattle.td_words.specs.Place.{address}
@@ -16,11 +14,8 @@ use Rattle.leaf_parts.specs.Words.{is_hkid}
 use Rattle.td_control.specs.InitTrees.{init_changes}
 
 module _ (m : Machine) (tdcs h : ℕ) (is : is_hkid m h ≡ true) (in_page : tdcs < m.pages) where
-  first : (a b : ℕ) → (nat_le 1 a && nat_le a b) ≡ true → a - 1 < b
-  first a b e = grind (arith, nat_tests)
-
-  pub slot-first : (hasher : Option Measure) (new : Measure) → Holds384 new [] → HandsNext m (drop 0 (init_changes m tdcs h)) (drop 1 (init_changes m tdcs h)) hasher (Some new) (Some (write.Swap (h - 1)))
-  slot-first hasher new holds = rw is (Swap h (λ hand. Some []), refl, first h m.hkids is, λ hand was. (refl, holds))
+  pub slot-first : (slot : ℕ) (hasher : Option Measure) (new : Measure) → slot ≡ h - 1 → slot < m.hkids → Holds384 new [] → HandsNext m (drop 0 (init_changes m tdcs h)) (drop 1 (init_changes m tdcs h)) hasher (Some new) (Some (write.Swap slot))
+  slot-first slot hasher new is_slot small holds = rw is (Swap h (λ hand. Some []), refl, small, λ hand was. (rw is_slot refl, holds))
 
   word-in : (i : ℕ) → i < 512 → address m.pages (place.Word tdcs i) < word_count m
   word-in i b = omega (arith, in_page, b)

@@ -1,7 +1,7 @@
 -- The leaf that ends a TD's building means its row.
-use Rattle.std.proofs.Common.{◌≡◌, ℕ, zero, suc, ◌+◌, ◌-◌, ◌<◌, ◌≤◌, Bool, true, false, ◌==◌, ◌&&◌, nat_lt, List, [], ◌∷◌, ◌++◌, length, Option, Some, None, refl, ap, sym, ◌∙◌, subst, inl, inr, arith}
+use Rattle.std.proofs.Common.{◌≡◌, ℕ, zero, suc, ◌+◌, ◌-◌, ◌<◌, Bool, true, false, ◌==◌, ◌&&◌, nat_lt, List, [], ◌∷◌, ◌++◌, Option, Some, None, refl, ap, sym, ◌∙◌, subst, inl, inr, arith}
 use Rattle.std.specs.List.{list_all, list_any}
-use Rattle.std.specs.Prelude.{if◌then◌else◌, nat_le, slice_get}
+use Rattle.std.specs.Prelude.{if◌then◌else◌, nat_le}
 use Rattle.std.proofs.lemmas.Bool.{eq-eqb, eqb-true, ltb-true}
 use Rattle.std.proofs.lemmas.Bool.Decides.{nat_tests}
 use Rattle.td_words.specs.declared.names.PageKind.{PageKind}
@@ -12,6 +12,7 @@ use Rattle.td_words.specs.declared.names.VcpuState.TheVariants as vcpu
 use Rattle.td_words.specs.declared.names.Mode.TheVariants.{Shared, Exclusive}
 use Rattle.td_words.specs.declared.machines.Machine.{Machine}
 use Rattle.td_words.specs.declared.calls.Call.TheVariants as call
+use Rattle.td_words.specs.declared.refusals.Status.TheVariants.{VcpuStateIncorrect}
 use Rattle.td_words.specs.declared.replies.Value.TheVariants as value
 use Rattle.td_words.specs.declared.replies.Reply.TheVariants.{Done}
 use Rattle.td_words.specs.NameNumber.{op_number, vcpu_number}
@@ -20,7 +21,7 @@ use Rattle.td_words.specs.Place as place
 use Rattle.flat_core.specs.World.{World}
 use Rattle.flat_core.specs.Processor.{LockId, OfPage, OfOp, Held}
 use Rattle.flat_core.specs.Conditions.{same_vp_state, vps_ready}
-use Rattle.flat_core.specs.Lawful.{Lawful, IsPageOf, ArePagesOf, key_owner}
+use Rattle.flat_core.specs.Lawful.{Lawful, IsPageOf, key_owner}
 use Rattle.flat_core.specs.TdRows.{finalize}
 use Rattle.flat_core.specs.Event.{State}
 use Rattle.flat_core.proofs.Tests.{by_test}
@@ -33,31 +34,19 @@ use Rattle.lock_words.specs.Grips.{holds, holds_alone}
 use Rattle.act_rules.proofs.Rows.{rows-respect}
 use Rattle.leaf_engine.specs.declared.needs.Place.{Place}
 use Rattle.leaf_engine.specs.Changes.{Hand, Memory, changed_all, changes_where}
-use Rattle.leaf_engine.specs.Trees.{Tree, Load, acts}
+use Rattle.leaf_engine.specs.Trees.{Tree, needs, acts}
 use Rattle.leaf_engine.specs.Means.{Instant, IsHkid, Means, MeansRow, MayChange, Work, work_of, OfCall, hold}
-use Rattle.leaf_parts.specs.Words.{page_told, vps_told}
+use Rattle.leaf_parts.specs.Vps.{vps_tree, apart_in}
 use Rattle.leaf_parts.proofs.Acted.{opening}
-use Rattle.leaf_parts.proofs.Begun.{td-head-means, page_lock, op_lock, IsTd, TwoControls, page-in}
+use Rattle.leaf_parts.proofs.Begun.{td-head-means, page_lock, op_lock, IsTd, TwoControls}
 use Rattle.leaf_parts.proofs.Keys.{hkid-in}
-use Rattle.leaf_parts.proofs.Vps.{vp-class, vps-back, vp-said, vp-shown, vp-spot}
-use Rattle.leaf_parts.proofs.Told.{page-back, tdr-spot, tdr-shown, tdcs-spot, tdcs-shown}
-use Rattle.td_control.specs.FinalTrees.{word_in_hand, end_changes, final_changes, vps_tree, ready_tree, finalize_task}
+use Rattle.leaf_parts.proofs.Vps.{vp-shown, vp-spot}
+use Rattle.leaf_parts.proofs.VpTrees.{none-apart, vps-mean}
+use Rattle.leaf_parts.proofs.Told.{tdr-spot, tdr-shown, tdcs-spot, tdcs-shown, only-op}
+use Rattle.td_control.specs.FinalTrees.{word_in_hand, end_changes, final_changes, ready_vp, ready_tree, finalize_task}
 
 abbrev initialized : List OpState
 initialized = op.Initialized ∷ []
-
-is-initialized : (s : OpState) → list_any (λ a. op_number a == op_number s) initialized ≡ true → s ≡ op.Initialized
-is-initialized op.Initialized h = refl
-is-initialized op.Uninitialized h = cc
-is-initialized op.Runnable h = cc
-is-initialized op.LiveExport h = cc
-is-initialized op.PausedExport h = cc
-is-initialized op.PostExport h = cc
-is-initialized op.MemoryImport h = cc
-is-initialized op.StateImport h = cc
-is-initialized op.PostImport h = cc
-is-initialized op.LiveImport h = cc
-is-initialized op.FailedImport h = cc
 
 -- another word of TDCS than MRTD's
 outside : (i j : ℕ) → (nat_le 64 j && nat_lt j 70) ≡ true → (nat_le 64 i && nat_lt i 70) ≡ false → (i == j) ≡ false
@@ -98,7 +87,7 @@ module _ (m : Machine) (s : State) (mem : Memory) (t : ℕ) (sh : Shows m mem.wo
   owner = la.keys.owner t x.alive
 
   building : w.tds.ops t ≡ op.Initialized
-  building = is-initialized (w.tds.ops t) x.op
+  building = only-op op.Initialized (w.tds.ops t) x.op
 
   -- the slot has the TD's hasher
   hasher-is : mem.slots h ≡ Some (w.tds.measured t)
@@ -215,14 +204,6 @@ module _ (m : Machine) (s : State) (mem : Memory) (t : ℕ) (sh : Shows m mem.wo
       at (place.Key k) b = sh.word (place.Key k) b
       at (place.Word p i) b = content p i b
 
-and-true : (b : Bool) → (b && true) ≡ b
-and-true true = refl
-and-true false = refl
-
-and-more : (a b c : Bool) → ((a && b) && c) ≡ (a && (b && c))
-and-more true b c = refl
-and-more false b c = refl
-
 module _ (m : Machine) (c : Instant) (t : ℕ) (in_page : nat_lt t m.pages ≡ true) (la : Lawful m c.state.world) (sh : Shows m c.memory.words c.memory.slots c.state) (empty : c.memory.hand ≡ None) (x : IsTd m c.state.world t initialized) where
   abbrev v : World
   v = c.state.world
@@ -317,46 +298,24 @@ module _ (m : Machine) (c : Instant) (t : ℕ) (in_page : nat_lt t m.pages ≡ t
   reads-state : (p : ℕ) → IsPageOf v.pages t p kind.Tdvpr → Reads (hold c both) v (place.Word p 1) Whole
   reads-state p its = rw (vp-spot v t p 1 its) (inr (inl (tdr-held, (op-alone, tt))))
 
-  -- the virtual processors from that number on
-  vps-mean : (rest : List ℕ) (number : ℕ) (so_far : Bool) → number + length rest ≤ 8 → ArePagesOf v.pages t kind.Tdvpr rest → ((i : ℕ) → slice_get (v.tds.vps t) (number + i) ≡ slice_get rest i)
-      → (so_far && ready rest) ≡ ready (v.tds.vps t) → Means m c work both (vps_tree m.pages z.tdcs number (length rest) so_far last) (vps_ready v t ∷ [])
-  vps-mean [] number so_far few its at all = (sym (and-true so_far) ∙ all, λ e. refl, λ e. ends e)
-  vps-mean (p ∷ ps) number so_far few its at all =
-      let base : number + 0 ≡ number = omega arith in
-      let small : number < 8 = omega (arith, few) in
-      let said : c.memory.words (place.Word z.tdcs (40 + number)) ≡ p = vp-said m c.memory.words c.memory.slots c.state sh t x.alive.life z.tdcs (z.root ∷ []) z.list z.tdcs_page z.tdcs_in number p small (ap (slice_get (v.tds.vps t)) (sym base) ∙ at 0) in
-      let p_in : p < m.pages = page-in m v t p kind.Tdvpr la its.0 refl in
-      let state : c.memory.words (place.Word p 1) ≡ vcpu_number (v.vps.states p) = vp-shown m c.memory.words c.memory.slots c.state sh t x.alive.life p 1 its.0 p_in (omega arith) in (
-        (z.tdcs_in, omega (arith, small)),
-        inl (reads-tdcs (40 + number) (vp-class (is_current v t) (is_empty v t) number small)),
-        subst (λ (a : ℕ). Means m c work both (Load Whole (place.Word (page_told m.pages a) 1) (λ b. vps_tree m.pages z.tdcs (suc number) (length ps) (so_far && b == vcpu_number vcpu.Ready) last)) (vps_ready v t ∷ [])) (sym said)
-            (subst (λ (a : ℕ). Means m c work both (Load Whole (place.Word a 1) (λ b. vps_tree m.pages z.tdcs (suc number) (length ps) (so_far && b == vcpu_number vcpu.Ready) last)) (vps_ready v t ∷ [])) (sym (page-back m.pages p p_in)) (
-              (p_in, omega arith),
-              inl (reads-state p its.0),
-              subst (λ (a : ℕ). Means m c work both (vps_tree m.pages z.tdcs (suc number) (length ps) (so_far && a == vcpu_number vcpu.Ready) last) (vps_ready v t ∷ [])) (sym state)
-                  (vps-mean ps (suc number) (so_far && same_vp_state (v.vps.states p) vcpu.Ready) (omega (arith, few)) its.1
-                  (λ i. (let more : suc number + i ≡ number + suc i = omega arith in ap (slice_get (v.tds.vps t)) more ∙ at (suc i)))
-                  (and-more so_far (same_vp_state (v.vps.states p) vcpu.Ready) (ready ps) ∙ all)),
-            )),
-      )
+  says-state : (p : ℕ) → IsPageOf v.pages t p kind.Tdvpr → p < m.pages → (c.memory.words (place.Word p 1) ≡ vcpu_number (v.vps.states p)) × Reads (hold c both) v (place.Word p 1) Whole
+  says-state p its p_in = (vp-shown m c.memory.words c.memory.slots c.state sh t x.alive.life p 1 its p_in (omega arith), reads-state p its)
 
-  from-zero : (n : ℕ) → 0 + n ≡ n
-  from-zero n = omega arith
+  abbrev checked : ℕ → Tree
+  checked created = needs (created == 0) (VcpuStateIncorrect vcpu.Created) last
+
+  vps-ready : Means m c work both (vps_tree m.pages (ready_vp z.tdcs) checked) (vps_ready v t ∷ [])
+  vps-ready =
+      let states : ℕ → ℕ = λ p. vcpu_number (v.vps.states p) in
+      let all : (apart_in states (vcpu_number vcpu.Ready) (v.tds.vps t) == 0) ≡ ready (v.tds.vps t) = none-apart states (vcpu_number vcpu.Ready) (v.tds.vps t) in
+      vps-mean m c work both (vps_ready v t ∷ []) t la sh x.alive z reads-tdcs 1 (vcpu_number vcpu.Ready) states (omega arith) says-state checked (all, λ e. refl, λ e. ends e)
 
   ready-means : Means m c work both (ready_tree m.pages t z.tdcs (λ k. acts (Done value.Nothing) (final_changes m z.tdcs k))) (vps_ready v t ∷ [])
   ready-means =
-      let key : c.memory.words (place.Word t 1) ≡ hkid = tdr-shown m c.memory.words c.memory.slots c.state sh t 1 x.alive.kind x.own its-in (omega arith) in
-      let count : c.memory.words (place.Word z.tdcs 15) ≡ length (v.tds.vps t) = tdcs-shown m c.memory.words c.memory.slots c.state sh t 15 z.tdcs (z.root ∷ []) z.list z.tdcs_page x.alive.life z.tdcs_in (omega arith) in
-      let few : length (v.tds.vps t) ≤ 8 = la.tds.vps_few t in (
+      let key : c.memory.words (place.Word t 1) ≡ hkid = tdr-shown m c.memory.words c.memory.slots c.state sh t 1 x.alive.kind x.own its-in (omega arith) in (
         (its-in, omega arith),
         inl (rw (tdr-spot v t 1 x.alive.kind x.own) (inl (tdr-held, tt))),
-        (
-          (z.tdcs_in, omega arith),
-          inl (reads-tdcs 15 refl),
-          subst (λ (a : ℕ). Means m c work both (vps_tree m.pages z.tdcs 0 (vps_told (c.memory.words (place.Word z.tdcs 15))) true (acts (Done value.Nothing) (final_changes m z.tdcs a))) (vps_ready v t ∷ [])) (sym key)
-              (subst (λ (n : ℕ). Means m c work both (vps_tree m.pages z.tdcs 0 n true last) (vps_ready v t ∷ [])) (sym (ap vps_told count ∙ vps-back (length (v.tds.vps t)) few))
-              (vps-mean (v.tds.vps t) 0 true (omega (arith, few)) (la.tds.vps t x.alive) (λ i. ap (slice_get (v.tds.vps t)) (from-zero i)) refl)),
-        ),
+        subst (λ (a : ℕ). Means m c work both (vps_tree m.pages (ready_vp z.tdcs) (λ created. needs (created == 0) (VcpuStateIncorrect vcpu.Created) (acts (Done value.Nothing) (final_changes m z.tdcs a)))) (vps_ready v t ∷ [])) (sym key) vps-ready,
       )
 
 pub finalize-means : (p : Place) (t : ℕ) → MeansRow (finalize_task p t)

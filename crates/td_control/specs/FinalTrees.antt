@@ -1,11 +1,11 @@
 -- The end of a TD's building as a decision over the words that it is told, and its changes.
-use Rattle.std.specs.Prelude.{ℕ, zero, suc, ◌+◌, Bool, true, ◌==◌, ◌&&◌, nat_lt, Some, None, List, [], ◌∷◌}
+use Rattle.std.specs.Prelude.{ℕ, ◌+◌, Bool, ◌==◌, nat_lt, if◌then◌else◌, Some, None, List, [], ◌∷◌}
 use Rattle.sha2.specs.Sha512.{sha384}
 use Rattle.td_words.specs.declared.names.OpState.TheVariants as op
 use Rattle.td_words.specs.declared.names.VcpuState.TheVariants as vcpu
 use Rattle.td_words.specs.declared.names.Mode.TheVariants.{Exclusive}
 use Rattle.td_words.specs.declared.machines.Machine.{Machine}
-use Rattle.td_words.specs.declared.places.TheConstants.{TDR_HKID, TDCS_OP, TDCS_VP_COUNT, TDCS_VPS, TDCS_MRTD, VP_STATE}
+use Rattle.td_words.specs.declared.places.TheConstants.{TDR_HKID, TDCS_OP, TDCS_MRTD, VP_STATE}
 use Rattle.td_words.specs.declared.refusals.Status.TheVariants.{OperandInvalid, VcpuStateIncorrect}
 use Rattle.td_words.specs.declared.replies.Value.TheVariants as value
 use Rattle.td_words.specs.declared.replies.Reply.TheVariants.{Done}
@@ -16,9 +16,11 @@ use Rattle.flat_core.specs.TdRows.{finalize}
 use Rattle.word_rules.specs.Rules.{Whole}
 use Rattle.leaf_engine.specs.declared.needs.Place.{Place}
 use Rattle.leaf_engine.specs.Changes.{Hand, Change, Put, PutHash, Swap, changes_where}
-use Rattle.leaf_engine.specs.Trees.{Tree, Load, needs, answers, acts}
+use Rattle.leaf_engine.specs.Trees.{Tree, Load, needs, acts}
 use Rattle.leaf_engine.specs.Means.{Task, OfCall}
-use Rattle.leaf_parts.specs.Words.{is_hkid, page_told, vps_told}
+use Rattle.leaf_parts.specs.Words.{is_hkid}
+use Rattle.leaf_parts.specs.declared.vp_words.VpWord.{VpWord}
+use Rattle.leaf_parts.specs.Vps.{vps_tree}
 use Rattle.leaf_parts.specs.Heads.{td_head_tree}
 
 -- the digest's word of that number, of what the hasher in hand has measured
@@ -45,30 +47,19 @@ end_changes tdcs hkid =
 abbrev pub final_changes : Machine → (tdcs hkid : ℕ) → List Change
 final_changes m tdcs hkid = changes_where (is_hkid m hkid) (end_changes tdcs hkid)
 
--- those from that number on are READY, as are those before them
-abbrev pub vps_tree : (pages tdcs number left : ℕ) → (ready : Bool) → Tree → Tree
-vps_tree pages tdcs number zero ready further = needs ready (VcpuStateIncorrect vcpu.Created) further
-vps_tree pages tdcs number (suc left) ready further =
-    Load Whole (place.Word tdcs (TDCS_VPS + number)) (λ vp.
-    Load Whole (place.Word (page_told pages vp) VP_STATE) (λ state. vps_tree pages tdcs (suc number) left (ready && state == vcpu_number vcpu.Ready) further))
-
 -- behind the head: the HKID is told, and every virtual processor is READY
+abbrev pub ready_vp : ℕ → VpWord
+ready_vp tdcs = record { tdcs = tdcs; at = VP_STATE; word = vcpu_number vcpu.Ready }
+
 abbrev pub ready_tree : (pages tdr tdcs : ℕ) → (ℕ → Tree) → Tree
 ready_tree pages tdr tdcs further =
     Load Whole (place.Word tdr TDR_HKID) (λ hkid.
-    Load Whole (place.Word tdcs TDCS_VP_COUNT) (λ count. vps_tree pages tdcs 0 (vps_told count) true (further hkid)))
+    vps_tree pages (ready_vp tdcs) (λ created. needs (created == 0) (VcpuStateIncorrect vcpu.Created) (further hkid)))
 
-abbrev pub final_tree : Machine → ℕ → ((tdcs hkid : ℕ) → Tree) → Tree
-final_tree m tdr further =
+abbrev pub final_tree : Machine → ℕ → Tree
+final_tree m tdr =
     needs (nat_lt tdr m.pages) (OperandInvalid 1)
-    (td_head_tree m.pages tdr Exclusive (op.Initialized ∷ []) (λ td. ready_tree m.pages tdr td.tdcs (further td.tdcs)))
-
--- with its changes, and without them
-abbrev pub changing_tree : Machine → ℕ → Tree
-changing_tree m tdr = final_tree m tdr (λ tdcs hkid. acts (Done value.Nothing) (final_changes m tdcs hkid))
-
-abbrev pub bare_tree : Machine → ℕ → Tree
-bare_tree m tdr = final_tree m tdr (λ tdcs hkid. answers (Done value.Nothing))
+    (td_head_tree m.pages tdr Exclusive (op.Initialized ∷ []) (λ td. ready_tree m.pages tdr td.tdcs (λ hkid. acts (Done value.Nothing) (final_changes m td.tdcs hkid))))
 
 abbrev pub finalize_task : Place → ℕ → Task
-finalize_task p tdr = record { place = p; tree = changing_tree p.machine tdr; meaning = OfCall (finalize p.machine tdr) }
+finalize_task p tdr = record { place = p; tree = final_tree p.machine tdr; meaning = OfCall (finalize p.machine tdr) }

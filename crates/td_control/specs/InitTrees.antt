@@ -1,5 +1,5 @@
 -- The beginning of a TD's measurement as a decision over the words that it is told.
-use Rattle.std.specs.Prelude.{◌≡◌, ℕ, nat_lt, if◌then◌else◌, Some, List, [], ◌∷◌, Result, Ok, Err}
+use Rattle.std.specs.Prelude.{ℕ, nat_lt, if◌then◌else◌, Some, List, [], ◌∷◌}
 use Rattle.td_words.specs.declared.names.Mode.TheVariants.{Exclusive}
 use Rattle.td_words.specs.declared.names.OpState.TheVariants.{Uninitialized, Initialized}
 use Rattle.td_words.specs.declared.machines.Machine.{Machine}
@@ -12,14 +12,11 @@ use Rattle.td_words.specs.Place as place
 use Rattle.flat_core.specs.TdRows.{initialize}
 use Rattle.word_rules.specs.Rules.{Whole}
 use Rattle.leaf_engine.specs.declared.needs.Place.{Place}
-use Rattle.leaf_engine.specs.declared.plans.Stop.{Stop}
 use Rattle.leaf_engine.specs.Changes.{Change, Put, Swap}
-use Rattle.leaf_engine.specs.Decides.{Decides}
-use Rattle.leaf_engine.specs.Trees.{Tree, Load, needs, acts, feed}
+use Rattle.leaf_engine.specs.Trees.{Tree, Load, needs, acts}
 use Rattle.leaf_engine.specs.Means.{Task, OfCall}
 use Rattle.leaf_parts.specs.Words.{is_hkid}
 use Rattle.leaf_parts.specs.Heads.{td_head_tree}
-use Rattle.td_control.specs.declared.td_inits.Beginning.{Beginning}
 
 -- a hasher that has measured nothing is put into the HKID's slot, which is the act; then the operation state and TD_EPOCH
 -- are stored
@@ -41,8 +38,3 @@ init_tree m tdr = needs (nat_lt tdr m.pages) (OperandInvalid 1) (td_head_tree m.
 
 abbrev pub init_task : Place → ℕ → Task
 init_task p tdr = record { place = p; tree = init_tree p.machine tdr; meaning = OfCall (initialize p.machine tdr) }
-
--- what it comes to after these answers: its act, or what stops it
-abbrev pub ComesTo : Place → ℕ → List ℕ → Result Beginning Stop → Type 0
-ComesTo p tdr told (Ok b) = feed (init_tree p.machine tdr) told ≡ acts (Done value.Nothing) (init_changes p.machine b.tdcs b.hkid)
-ComesTo p tdr told (Err e) = Decides p.machine.pages (init_tree p.machine tdr) told (Err e)

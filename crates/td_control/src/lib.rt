@@ -2,7 +2,7 @@
 //! MNG.INIT, MNG.RD and MR.FINALIZE.
 //!
 //! Each leaf has a tree that mirrors its row, with the proof that it means that row. All are `Plan`s
-//! of `leaf_engine`, but MNG.INIT and MR.FINALIZE, whose acts exchange a hasher.
+//! of `leaf_engine`, but MNG.INIT and MR.FINALIZE, which are `MeasuringPlan`s.
 #![tactic(auto)]
 
 mod finalizations;

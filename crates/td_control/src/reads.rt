@@ -8,7 +8,7 @@ ghost use Rattle.td_control.specs.ReadTrees.{value_tree, life_tree, op_tree, epo
 
 use arrayvec::ArrayVec;
 use leaf_engine::{Leaf, Place, Plan, Planned, Stop, Told, Verdict};
-use leaf_parts::{life_told, root, td_head};
+use leaf_parts::{life_told, put_bytes, root, td_head};
 use td_words::places::{TDCS_EPOCH, TDCS_EPOCH_LOCK, TDCS_MRTD, TDR_LIFE};
 use td_words::{LockName, Mode, OpState, ReadField, Reply, Status, Value, word_address};
 
@@ -181,8 +181,6 @@ fn digest(words: &[u64; 6]) -> [u8; 48]
     ensures { result ≡ digest_bytes words.now }
 {
     let mut bytes = [0; 48];
-    for i in 0..6 {
-        bytes[8 * i..8 * i + 8].copy_from_slice(&words[i].to_le_bytes());
-    }
+    put_bytes(words, &mut bytes);
     bytes
 }

@@ -2,11 +2,10 @@ use Rattle.std.proofs.Common.{◌≡◌, ◌<◌, length, sym, ◌∙◌, subst,
 use Rattle.td_words.specs.declared.replies.Value.TheVariants as value
 use Rattle.td_words.specs.declared.replies.Reply.TheVariants.{Done}
 use Rattle.leaf_engine.specs.declared.needs.Need.TheVariants as need
-use Rattle.leaf_engine.specs.declared.plans.Stop.TheVariants as stop
 use Rattle.leaf_engine.specs.Trees.{Tree, settle, passed}
 use Rattle.leaf_engine.specs.Decides.{Wants, Decides}
 use Rattle.mem_build.specs.ExtendTrees.{extend_tree, ComesTo}
-use Rattle.mem_build.proofs.ExtendSteps.{at-chunk, chunk-known, asks-gives, asks-kept, ends-gives, ends-kept, found-gives, found-kept, stop-gives, refused-kept, lock-passed}
+use Rattle.mem_build.proofs.ExtendSteps.{at-chunk, chunk-known, asks-gives, asks-kept, ends-gives, ends-kept, found-gives, found-kept, stop-gives, stop-then}
 use Rattle.mem_build.proofs.extensions.ExtendLeaf.need.Goals as goal
 
 pub returns-then-number-eq-WORDS-clause-gives : goal.returns-then-number-eq-WORDS-clause-gives
@@ -51,26 +50,14 @@ returns-in-Ok-clause-rest c =
     let comes : ComesTo l.place l.tdr l.gpa l.told.items c.to_extend.new.told.left.now (Ok c.in-Ok.chunk) = rw (sym c.as_slice.ensures.value) c.in-Ok.ensures.comes in
     found-kept l.place l.tdr l.gpa l.chunk l.told.items l.words.items c.in-None.is c.in-Ok.chunk c.to_extend.new.told.left.now l.known comes (rw (sym c.as_slice.ensures.value) c.in-Ok.ensures.uses)
 
-pub returns-in-Err-Lock-clause-gives : goal.returns-in-Err-Lock-clause-gives
-returns-in-Err-Lock-clause-gives c =
+pub returns-in-Err-clause-gives : goal.returns-in-Err-clause-gives
+returns-in-Err-clause-gives c =
     let l = c.args.self.now in
-    let d : Decides l.place.machine.pages (extend_tree l.place.machine l.tdr l.gpa) l.told.items (Err (stop.Lock c.in-Err-Lock.name c.in-Err-Lock.at c.in-Err-Lock.mode)) = rw (sym c.as_slice.ensures.value) (rw c.in-Err-Lock.field-0-is at c.in-Err-Lock.ensures.comes) in
-    stop-gives l.place l.tdr l.gpa l.chunk l.told.items l.words.items c.in-None.is (stop.Lock c.in-Err-Lock.name c.in-Err-Lock.at c.in-Err-Lock.mode) d
+    let d : Decides l.place.machine.pages (extend_tree l.place.machine l.tdr l.gpa) l.told.items (Err c.in-Err.stop) = rw (sym c.as_slice.ensures.value) c.in-Err.ensures.comes in
+    rw c.need_at.ensures.need (stop-gives l.place l.tdr l.gpa l.chunk l.told.items l.words.items c.in-None.is c.in-Err.stop d)
 
-pub returns-in-Err-Lock-clause-rest : goal.returns-in-Err-Lock-clause-rest
-returns-in-Err-Lock-clause-rest c =
+pub returns-in-Err-clause-rest : goal.returns-in-Err-clause-rest
+returns-in-Err-clause-rest c =
     let l = c.args.self.now in
-    let d : Decides l.place.machine.pages (extend_tree l.place.machine l.tdr l.gpa) l.told.items (Err (stop.Lock c.in-Err-Lock.name c.in-Err-Lock.at c.in-Err-Lock.mode)) = rw (sym c.as_slice.ensures.value) (rw c.in-Err-Lock.field-0-is at c.in-Err-Lock.ensures.comes) in
-    lock-passed l.place l.tdr l.gpa l.chunk l.told.items l.words.items c.in-None.is c.in-Err-Lock.name c.in-Err-Lock.at c.in-Err-Lock.mode c.push.new.self.items d c.push.ensures.items
-
-pub returns-in-Err-Refused-clause-gives : goal.returns-in-Err-Refused-clause-gives
-returns-in-Err-Refused-clause-gives c =
-    let l = c.args.self.now in
-    let d : Decides l.place.machine.pages (extend_tree l.place.machine l.tdr l.gpa) l.told.items (Err (stop.Refused c.in-Err-Refused.reply)) = rw (sym c.as_slice.ensures.value) (rw c.in-Err-Refused.field-0-is at c.in-Err-Refused.ensures.comes) in
-    stop-gives l.place l.tdr l.gpa l.chunk l.told.items l.words.items c.in-None.is (stop.Refused c.in-Err-Refused.reply) d
-
-pub returns-in-Err-Refused-clause-rest : goal.returns-in-Err-Refused-clause-rest
-returns-in-Err-Refused-clause-rest c =
-    let l = c.args.self.now in
-    let d : Decides l.place.machine.pages (extend_tree l.place.machine l.tdr l.gpa) l.told.items (Err (stop.Refused c.in-Err-Refused.reply)) = rw (sym c.as_slice.ensures.value) (rw c.in-Err-Refused.field-0-is at c.in-Err-Refused.ensures.comes) in
-    refused-kept l.place l.tdr l.gpa l.chunk l.told.items l.words.items c.in-None.is c.in-Err-Refused.reply d
+    let d : Decides l.place.machine.pages (extend_tree l.place.machine l.tdr l.gpa) l.told.items (Err c.in-Err.stop) = rw (sym c.as_slice.ensures.value) c.in-Err.ensures.comes in
+    stop-then l.place l.tdr l.gpa l.chunk l.told.items l.words.items c.in-None.is c.in-Err.stop c.need_at.new.told.items d c.need_at.ensures.told

@@ -4,11 +4,11 @@ use Rattle.flat_core.specs.Conditions.{growing_ops}
 use Rattle.sept_walk.specs.SecureEpt.{index_at}
 use Rattle.leaf_engine.specs.Trees.{Tree}
 use Rattle.leaf_engine.specs.Decides.{Decides}
-use Rattle.leaf_parts.proofs.Parts.{exit}
+use Rattle.leaf_parts.proofs.Parts.{behind-stop, behind-go, exit}
 use Rattle.sept_parts.specs.declared.finds.Found.{Found}
 use Rattle.sept_parts.specs.SeptTrees.{td_find_tree}
 use Rattle.mem_build.specs.SeptAddTrees.{add_arguments, sept_add_rest}
-use Rattle.mem_build.proofs.Decided.{behind-stop, behind-go, add-arguments}
+use Rattle.mem_build.proofs.Decided.{add-arguments}
 use Rattle.mem_build.proofs.sept_additions.SeptAddPlan.decide.Goals as goal
 
 pub returns-in_err-found-clause-decides : goal.returns-in_err-found-clause-decides

@@ -4,11 +4,11 @@ use Rattle.td_words.specs.declared.replies.Reply.TheVariants.{Done}
 use Rattle.flat_core.specs.Conditions.{begun_ops}
 use Rattle.flat_core.specs.MemRows.{entry_value}
 use Rattle.leaf_engine.specs.Trees.{Tree, answers}
-use Rattle.leaf_parts.proofs.Parts.{exit}
+use Rattle.leaf_parts.proofs.Parts.{behind-stop, behind-go, exit}
 use Rattle.sept_parts.specs.declared.finds.Found.{Found}
 use Rattle.sept_parts.specs.SeptTrees.{td_find_tree}
 use Rattle.mem_build.specs.SeptReadTrees.{read_arguments}
-use Rattle.mem_build.proofs.Decided.{behind-stop, behind-go, read-arguments}
+use Rattle.mem_build.proofs.Decided.{read-arguments}
 use Rattle.mem_build.proofs.sept_reads.SeptRdPlan.decide.Goals as goal
 
 pub returns-in_err-found-clause-decides : goal.returns-in_err-found-clause-decides
