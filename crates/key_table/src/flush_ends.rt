@@ -10,9 +10,7 @@ use arrayvec::ArrayVec;
 use leaf_engine::{Leaf, Place, Plan, Planned, Stop, Told, Verdict, Write};
 use leaf_parts::{VpWord, page_told, tdr_head, vps_apart};
 use step_core::WordStep;
-use td_words::places::{
-    KEY_LOCK, TDR_HKID, TDR_LIFE, TDR_TDCS, TDR_TDCX_COUNT, VP_ASSOCIATED,
-};
+use td_words::places::{KEY_LOCK, TDR_HKID, TDR_LIFE, TDR_TDCS, TDR_TDCX_COUNT, VP_ASSOCIATED};
 use td_words::{
     HkidState, LifeState, LockName, Machine, Mode, Reply, Status, Value, key_address, word_address,
 };

@@ -72,10 +72,7 @@ impl MeasuringPlan for Finalize {
             word: VcpuState::Ready as u64,
         };
         let created = vps_apart(&mut told, self.place.machine, ready)?;
-        told.check(
-            created == 0,
-            Status::VcpuStateIncorrect(VcpuState::Created),
-        )?;
+        told.check(created == 0, Status::VcpuStateIncorrect(VcpuState::Created))?;
         Ok(MeasuredTd { tdcs, hkid })
     }
 
