@@ -7,7 +7,8 @@ use Rattle.flat_core.specs.Opening.{Opening}
 use Rattle.flat_core.specs.Table.{row_of}
 use Rattle.leaf_engine.specs.declared.needs.Place.{Place}
 use Rattle.leaf_engine.specs.Means.{OfCall, MeansRow}
-use Rattle.first_leaves.specs.HostMeanings.{host_read-means, host_write-means, rdmd-means}
+use Rattle.access_core.specs.HostMeanings.{host_read-means, host_write-means}
+use Rattle.mem_remove.specs.MetadataMeanings.{rdmd-means}
 use Rattle.key_table.specs.CacheMeanings.{cache-means}
 use Rattle.key_table.specs.ReclaimMeanings.{reclaim-means}
 use Rattle.td_control.specs.CreationMeanings.{create-means}

@@ -21,7 +21,7 @@ use Rattle.leaf_engine.specs.Trees.{Tree, Lock, needs, answers, acts}
 use Rattle.leaf_parts.specs.declared.vp_words.VpWord.{VpWord}
 use Rattle.leaf_parts.specs.Words.{says_host, page_told, vps_told}
 use Rattle.leaf_parts.specs.Vps.{vps_from}
-use Rattle.first_leaves.specs.HostTrees.{read_word}
+use Rattle.access_core.specs.HostTrees.{read_word}
 use Rattle.key_table.specs.CacheTrees.{mark_keys}
 use Rattle.key_table.specs.FlushTrees.{flush_counted, flush_vps}
 use Rattle.key_table.specs.ReclaimTrees.{reclaim_rest}

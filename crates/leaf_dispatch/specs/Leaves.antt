@@ -3,7 +3,8 @@ use Rattle.std.specs.Prelude.{ℕ, ◌+◌, ◌-◌, ◌*◌, Bool, if◌then◌
 use Rattle.leaf_engine.specs.declared.plans.TheConstants.{ANSWERS, WRITES}
 use Rattle.leaf_engine.specs.Trees.{Tree, feed}
 use Rattle.leaf_engine.specs.Means.{Task, MeansRow}
-use Rattle.first_leaves.specs.HostTrees.{host_read_task, host_write_task, rdmd_task}
+use Rattle.access_core.specs.HostTrees.{host_read_task, host_write_task}
+use Rattle.mem_remove.specs.MetadataTrees.{rdmd_task}
 use Rattle.key_table.specs.CacheTrees.{cache_task}
 use Rattle.key_table.specs.ReclaimTrees.{reclaim_task}
 use Rattle.td_control.specs.CreationTrees.{create_task}
@@ -20,7 +21,8 @@ use Rattle.mem_build.specs.SeptReadTrees.{sept_read_task}
 use Rattle.mem_build.specs.PageAddTrees.{page_add_task}
 use Rattle.mem_build.specs.ExtendTrees.{extend_task}
 use Rattle.mem_build.specs.ExtendStages.{rest_of}
-use Rattle.first_leaves.specs.HostMeanings.{host_read-means, host_write-means, rdmd-means}
+use Rattle.access_core.specs.HostMeanings.{host_read-means, host_write-means}
+use Rattle.mem_remove.specs.MetadataMeanings.{rdmd-means}
 use Rattle.key_table.specs.CacheMeanings.{cache-means}
 use Rattle.key_table.specs.ReclaimMeanings.{reclaim-means}
 use Rattle.td_control.specs.CreationMeanings.{create-means}

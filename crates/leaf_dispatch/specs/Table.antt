@@ -5,7 +5,8 @@ use Rattle.td_words.specs.declared.calls.Call.{Call}
 use Rattle.td_words.specs.declared.calls.Call.TheVariants as call
 use Rattle.leaf_engine.specs.declared.needs.Place.{Place}
 use Rattle.leaf_engine.specs.Means.{Task}
-use Rattle.first_leaves.specs.HostTrees.{host_read_task, host_write_task, rdmd_task}
+use Rattle.access_core.specs.HostTrees.{host_read_task, host_write_task}
+use Rattle.mem_remove.specs.MetadataTrees.{rdmd_task}
 use Rattle.key_table.specs.CacheTrees.{cache_task}
 use Rattle.key_table.specs.ReclaimTrees.{reclaim_task}
 use Rattle.td_control.specs.CreationTrees.{create_task}

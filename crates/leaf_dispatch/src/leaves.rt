@@ -5,10 +5,11 @@ ghost use Rattle.td_words.specs.Limits.{IsMachine};
 ghost use Rattle.leaf_engine.specs.Turns.{IsFresh};
 ghost use Rattle.leaf_dispatch.specs.Table.{task_of};
 
-use first_leaves::{HostRead, HostWrite, Rdmd};
+use access_core::{HostRead, HostWrite};
 use key_table::{CacheWb, FlushDone, FreeId, Reclaim};
 use leaf_engine::{Leaf, Measuring, Need, Place, Planned, Write};
 use mem_build::{Extend, PageAdd, SeptAdd, SeptRd};
+use mem_remove::Rdmd;
 use mrtd_measure::Measure;
 use td_control::{AddCx, Create, Finalize, Init, KeyConfig, Rd};
 use td_words::Call;

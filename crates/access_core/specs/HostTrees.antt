@@ -6,16 +6,14 @@ use Rattle.td_words.specs.declared.refusals.Status.TheVariants.{OperandInvalid, 
 use Rattle.td_words.specs.declared.replies.Value.TheVariants as value
 use Rattle.td_words.specs.declared.replies.Reply.TheVariants.{Done}
 use Rattle.td_words.specs.Place as place
-use Rattle.td_words.specs.Packing.{pamt_in}
 use Rattle.flat_core.specs.Processor.{OfPage}
-use Rattle.flat_core.specs.HostRows.{host_read, host_write, read_metadata}
+use Rattle.flat_core.specs.HostRows.{host_read, host_write}
 use Rattle.word_rules.specs.Rules.{Whole}
 use Rattle.leaf_engine.specs.declared.needs.Place.{Place}
 use Rattle.leaf_engine.specs.Changes.{Put}
 use Rattle.leaf_engine.specs.Trees.{Tree, Lock, Load, needs, answers, acts}
 use Rattle.leaf_engine.specs.Means.{Task, OfCall}
 use Rattle.leaf_parts.specs.Words.{says_host}
-use Rattle.first_leaves.specs.Words.{metadata}
 
 -- the arguments, the page's lock and its PAMT word
 abbrev pub host_access : Machine → (page i : ℕ) → (ℕ → Tree) → Tree
@@ -43,13 +41,3 @@ host_read_task p page i = record { place = p; tree = host_read_tree p.machine pa
 
 abbrev pub host_write_task : Place → ℕ → ℕ → ℕ → Task
 host_write_task p page i v = record { place = p; tree = host_write_tree p.machine page i v; meaning = OfCall (host_write p.machine page i v) }
-
--- PHYMEM.PAGE.RDMD: the load of the PAMT word is the act
-abbrev pub rdmd_tree : Machine → ℕ → Tree
-rdmd_tree m page =
-    needs (nat_lt page m.pages) (OperandInvalid 1)
-    (Lock (OfPage page) (place.Lock page) Shared
-    (Load Whole (place.Pamt page) (λ pamt. answers (Done (metadata (pamt_in pamt))))))
-
-abbrev pub rdmd_task : Place → ℕ → Task
-rdmd_task p page = record { place = p; tree = rdmd_tree p.machine page; meaning = OfCall (read_metadata p.machine page) }

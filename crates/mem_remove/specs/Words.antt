@@ -1,4 +1,4 @@
--- What leaves answer of the words that they load.
+-- What the metadata of a page say.
 use Rattle.std.specs.Prelude.{Option, Some, None}
 use Rattle.td_words.specs.declared.replies.Value.{Value}
 use Rattle.td_words.specs.declared.replies.Value.TheVariants as value

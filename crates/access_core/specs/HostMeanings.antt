@@ -1,20 +1,16 @@
 -- The leaves of the host's plain memory accesses mean their rows.
-use Rattle.std.proofs.Common.{◌≡◌, ℕ, ◌^◌, ◌<◌, ◌≤◌, ◌⊎◌, Bool, true, false, ◌==◌, ◌&&◌, cond, List, [], ◌∷◌, Option, refl, ap, ◌∙◌, inl, inr, arith}
-use Rattle.std.specs.Prelude.{nat_lt}
-use Rattle.std.proofs.lemmas.Bool.{eqb-true, ltb-true, lt-ltb}
+use Rattle.std.proofs.Common.{◌≡◌, ℕ, ◌<◌, ◌⊎◌, Bool, true, false, ◌==◌, ◌&&◌, cond, List, [], ◌∷◌, Option, refl, ap, ◌∙◌, inl, inr}
+use Rattle.std.proofs.lemmas.Bool.{eqb-true, ltb-true}
 use Rattle.td_words.specs.declared.names.PageKind.{PageKind}
 use Rattle.td_words.specs.declared.names.PageKind.TheVariants as kind
 use Rattle.td_words.specs.declared.names.Mode.TheVariants.{Shared}
 use Rattle.td_words.specs.declared.machines.Machine.{Machine}
-use Rattle.td_words.specs.Packing.{pamt_word, is_lawful_pamt}
-use Rattle.td_words.proofs.Unpacked.{packings}
 use Rattle.td_words.specs.Place.{WordPlace, IsIn}
 use Rattle.td_words.specs.Place as place
 use Rattle.flat_core.proofs.Tests.{host_kind}
 use Rattle.flat_core.specs.World.{World}
 use Rattle.flat_core.specs.Processor.{LockId, OfPage}
-use Rattle.flat_core.specs.Conditions.{is_host, is_host_in}
-use Rattle.flat_core.specs.Lawful.{Lawful}
+use Rattle.flat_core.specs.Conditions.{is_host}
 use Rattle.flat_core.specs.Effects.{set_word}
 use Rattle.flat_core.specs.HostRows.{host_read}
 use Rattle.flat_core.specs.Event.{State}
@@ -30,7 +26,7 @@ use Rattle.leaf_engine.specs.Means.{Instant, Means, MeansRow, work_of, OfCall, h
 use Rattle.leaf_parts.specs.Words.{says_host}
 use Rattle.leaf_parts.proofs.Begun.{holds-newest}
 use Rattle.leaf_parts.proofs.Told.{kind-shown}
-use Rattle.first_leaves.specs.HostTrees.{host_read_task, host_write_task, rdmd_task, read_word}
+use Rattle.access_core.specs.HostTrees.{host_read_task, host_write_task, read_word}
 
 -- a PAMT word tells whether its page is the host's
 pub host_shown : (m : Machine) (c : Instant) (p : ℕ) → Shows m c.memory.words c.memory.slots c.state → p < m.pages → says_host (c.memory.words (place.Pamt p)) ≡ is_host c.state.world p
@@ -161,53 +157,5 @@ host_write-means p page i v = record {
             ),
           )),
     ),
-  );
-}
-
--- the metadata of a page are lawful, in a machine of at most 1,024 pages
-
-pamt_lawful : (m : Machine) (w : World) (p : ℕ) → m.pages ≤ 1024 → Lawful m w → is_lawful_pamt (record { kind = w.pages.kinds p; owner = w.pages.owners p; epoch = w.pages.blocked p }) ≡ true
-pamt_lawful m w p few la = by (is_host_in w.pages p) refl
-  where
-    not_host : (t : ℕ) → w.pages.kinds t ≡ kind.Tdr → is_host_in w.pages t ≡ false
-    not_host t e = rw e refl
-
-    blocked : nat_lt (w.pages.blocked p) (2 ^ 32) ≡ true
-    blocked = lt-ltb (w.pages.blocked p) (2 ^ 32) (la.pages.blocked p)
-
-    by : (b : Bool) → is_host_in w.pages p ≡ b → is_lawful_pamt (record { kind = w.pages.kinds p; owner = w.pages.owners p; epoch = w.pages.blocked p }) ≡ true
-    by true e = (let h = la.pages.host p e in let o : w.pages.owners p ≡ 0 = h.0 in let b : w.pages.blocked p ≡ 0 = h.1 in rw (e, o, b) refl)
-    by false e =
-        let small : w.pages.owners p < m.pages = la.pages.in_machine (w.pages.owners p) (not_host (w.pages.owners p) (la.pages.owner p e)) in
-        let owner : nat_lt (w.pages.owners p) 1024 ≡ true = lt-ltb (w.pages.owners p) 1024 (omega arith) in
-        rw (e, owner, blocked) refl
-
-pub rdmd-means : (p : Place) (page : ℕ) → p.machine.pages ≤ 1024 → MeansRow (rdmd_task p page)
-rdmd-means p page few = record {
-  enters_none = refl;
-  means = λ c at. (
-    refl,
-    λ e. refl,
-    λ a. (let in_page : page < p.machine.pages = ltb-true page p.machine.pages a in
-        let word : c.memory.words (place.Pamt page) ≡ pamt_word (record { kind = c.state.world.pages.kinds page; owner = c.state.world.pages.owners page; epoch = c.state.world.pages.blocked page }) = at.shown.word (place.Pamt page) in_page in
-        let read = packings.pamt (record { kind = c.state.world.pages.kinds page; owner = c.state.world.pages.owners page; epoch = c.state.world.pages.blocked page }) (pamt_lawful p.machine c.state.world page few at.lawful) in (
-          refl,
-          refl,
-          record { in_machine = in_page; at = refl; stands = tt; allowed = inl tt },
-          (
-            in_page,
-            inl (inl (holds-newest page Shared c.kept, tt)),
-            (
-              record {
-                reply_is = rw (word, read) refl;
-                fills_allowed = tt;
-                respects = respects-compose.same (hold c (record { lock = OfPage page; mode = Shared } ∷ [])) c.state.world;
-                locks_stay = ((refl, λ x. x), tt);
-                shows = at.shown;
-              },
-              tt,
-            ),
-          ),
-        )),
   );
 }

@@ -17,7 +17,7 @@ pub struct HostRead {
 impl HostRead {
     ghost use Rattle.std.specs.Prelude.{◌≡◌};
     ghost use Rattle.leaf_engine.specs.Turns.{IsFresh};
-    ghost use Rattle.first_leaves.specs.HostTrees.{host_read_task};
+    ghost use Rattle.access_core.specs.HostTrees.{host_read_task};
 
     /// The leaf of a call at a place.
     pub fn leaf(place: Place, page: u64, word: u64) -> Planned<HostRead>
@@ -29,8 +29,8 @@ impl HostRead {
 }
 
 impl Plan for HostRead {
-    ghost use Rattle.first_leaves.specs.HostTrees.{host_read_task};
-    ghost use Rattle.first_leaves.specs.HostMeanings.{host_read-means};
+    ghost use Rattle.access_core.specs.HostTrees.{host_read_task};
+    ghost use Rattle.access_core.specs.HostMeanings.{host_read-means};
 
     ghost task = { λ l. host_read_task l.place l.page l.word };
 
@@ -68,7 +68,7 @@ pub struct HostWrite {
 impl HostWrite {
     ghost use Rattle.std.specs.Prelude.{◌≡◌};
     ghost use Rattle.leaf_engine.specs.Turns.{IsFresh};
-    ghost use Rattle.first_leaves.specs.HostTrees.{host_write_task};
+    ghost use Rattle.access_core.specs.HostTrees.{host_write_task};
 
     /// The leaf of a call at a place.
     pub fn leaf(place: Place, page: u64, word: u64, value: u64) -> Planned<HostWrite>
@@ -85,8 +85,8 @@ impl HostWrite {
 }
 
 impl Plan for HostWrite {
-    ghost use Rattle.first_leaves.specs.HostTrees.{host_write_task};
-    ghost use Rattle.first_leaves.specs.HostMeanings.{host_write-means};
+    ghost use Rattle.access_core.specs.HostTrees.{host_write_task};
+    ghost use Rattle.access_core.specs.HostMeanings.{host_write-means};
 
     ghost task = { λ l. host_write_task l.place l.page l.word l.value };
 

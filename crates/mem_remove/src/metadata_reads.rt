@@ -2,7 +2,7 @@
 
 ghost use Rattle.std.specs.Prelude.{◌≡◌, ◌≤◌};
 ghost use Rattle.td_words.specs.Packing.{pamt_in};
-ghost use Rattle.first_leaves.specs.Words.{metadata};
+ghost use Rattle.mem_remove.specs.Words.{metadata};
 
 use arrayvec::ArrayVec;
 use leaf_engine::{Leaf, Place, Plan, Planned, Stop, Told, Verdict};
@@ -20,7 +20,7 @@ pub struct Rdmd {
 impl Rdmd {
     ghost use Rattle.std.specs.Prelude.{◌≡◌, ◌≤◌};
     ghost use Rattle.leaf_engine.specs.Turns.{IsFresh};
-    ghost use Rattle.first_leaves.specs.HostTrees.{rdmd_task};
+    ghost use Rattle.mem_remove.specs.MetadataTrees.{rdmd_task};
 
     /// The leaf of a call at a place.
     pub fn leaf(place: Place, page: u64) -> Planned<Rdmd>
@@ -33,8 +33,8 @@ impl Rdmd {
 }
 
 impl Plan for Rdmd {
-    ghost use Rattle.first_leaves.specs.HostTrees.{rdmd_task};
-    ghost use Rattle.first_leaves.specs.HostMeanings.{rdmd-means};
+    ghost use Rattle.mem_remove.specs.MetadataTrees.{rdmd_task};
+    ghost use Rattle.mem_remove.specs.MetadataMeanings.{rdmd-means};
 
     ghost task = { λ l. rdmd_task l.place l.page };
 

@@ -1,0 +1,9 @@
+//! Leaves on pages that are in use: the look at a page's metadata.
+//!
+//! The leaf is a `Plan` of `leaf_engine`, whose tree mirrors its row, with the proof that it means
+//! that row.
+#![tactic(auto)]
+
+mod metadata_reads;
+
+pub use metadata_reads::Rdmd;
