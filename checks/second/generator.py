@@ -1,0 +1,418 @@
+"""Random machines, scripts and schedules. A case is what its seed and its place say, and nothing else.
+
+A *story* tells lives of TDs, with other calls between them. A *race* has a TD somewhere in its life, and
+processors that call for the same pages and locks at once. A *noise* has calls without any order. Faulty
+scripts are one of these with bad lines put in. Last there are scripts at a limit of the grammar, and
+command lines that name no script. What comes rarely by chance, as a race for one call, comes in turn.
+"""
+
+import random
+
+from program import processors_of
+from rows import ARGUMENTS, FIELDS, GPA_END, PAGE_BYTES, alignment
+from scripts import CALLS_OF_A_PROCESSOR, ITEMS, SCRIPT_END, UNBUILT, read
+
+SIZES = (8, 12, 16, 24, 40, 40, 1024)
+ROOMY = (24, 40, 1024)
+LEVEL_BYTES = [PAGE_BYTES << 9 * level for level in range(4)]
+
+# Calls that lead a TD on so far that little can be done with it then.
+LEADING = ("MR.FINALIZE", "MNG.VPFLUSHDONE")
+
+# Calls whose last conditions are met only where a TD's tree stands.
+DEEP = ("MR.EXTEND", "MEM.SEPT.ADD", "MEM.SEPT.RD", "MEM.PAGE.ADD")
+
+
+class Life:
+    """The pages and addresses of a TD, and the calls from its first page to the return of its last."""
+
+    def __init__(self, chance, pages, hkid):
+        """Takes its pages from the end of that list."""
+        self.hkid, self.td = hkid, pages.pop()
+        self.control = [pages.pop(), pages.pop()]
+        self.vcpus = [pages.pop() for _ in range(min(chance.choice((0, 1, 2, 8)), len(pages) // 2))]
+        self.tables = [pages.pop() for _ in range(min(3, len(pages) // 2))]
+        self.private = [pages.pop() for _ in range(min(chance.choice((1, 2, 2)), max(0, len(pages) - 1)))]
+        self.gpa = chance.choice((0, 511, 513, 1 << 18, 3 << 34)) * PAGE_BYTES
+        if len(self.tables) < 3:
+            self.private = []
+
+    def owned(self):
+        """The pages of the TD, without its TDR."""
+        return self.control + self.vcpus + self.tables + self.private
+
+    def pages_of(self, call):
+        """The pages beside its TDR whose locks that call of its life tries."""
+        name, *words = call.split()
+        if name == "MR.EXTEND":
+            return [self.private[(int(words[1]) - self.gpa) // PAGE_BYTES]]
+        return [int(word) for kind, word in zip(ARGUMENTS[name], words) if kind == "page"][1:]
+
+    def build(self, chance, source):
+        """The calls that build the TD, with private pages from that source page."""
+        calls = [f"MNG.CREATE {self.td} {self.hkid}", f"MNG.KEY.CONFIG {self.td}"]
+        calls += [f"MNG.ADDCX {self.td} {page}" for page in self.control]
+        calls.append(f"MNG.INIT {self.td}")
+        inner = [f"VP.CREATE {self.td} {page}" for page in self.vcpus]
+        inner += [f"VP.INIT {self.td} {page} {chance.randrange(100)}" for page in self.vcpus]
+        tree = [f"MEM.SEPT.ADD {self.td} {self.gpa - self.gpa % LEVEL_BYTES[level]} {level} {page}"
+                for level, page in zip((3, 2, 1), self.tables)]
+        for place, page in enumerate(self.private):
+            gpa = self.gpa + place * PAGE_BYTES
+            tree += [f"HOST.WRITE {source} {a_word(chance)} {chance.getrandbits(64)}"]
+            tree += [f"MEM.PAGE.ADD {self.td} {gpa:#x} {page} {source}"]
+            chunks = [gpa + 256 * chance.choice((0, 0, 1, 15)) for _ in range(chance.randrange(3))]
+            tree += [f"MR.EXTEND {self.td} {chunk}" for chunk in chunks]
+        return calls + riffle(chance, inner, tree) + [f"MR.FINALIZE {self.td}"]
+
+    def end(self, chance):
+        """The calls that end the TD, and look at what its pages have become."""
+        pages = self.owned()
+        chance.shuffle(pages)
+        calls = [f"MNG.RD {self.td} {field}" for field in FIELDS]
+        calls += [f"PHYMEM.PAGE.RDMD {chance.choice(pages)}", f"MEM.SEPT.RD {self.td} 0 3"]
+        calls += [f"MNG.VPFLUSHDONE {self.td}", "PHYMEM.CACHE.WB", f"MNG.KEY.FREEID {self.td}"]
+        calls += [f"PHYMEM.PAGE.RECLAIM {self.td} {page}" for page in pages + [self.td]]
+        return calls + [f"HOST.READ {page} {a_word(chance)}" for page in pages]
+
+
+def a_word(chance):
+    """A word of a page, often one that other calls name too."""
+    return chance.choice((0, 0, 31, 32, 511, chance.randrange(512)))
+
+
+def riffle(chance, first, second):
+    """Both lists in one, each in its own order."""
+    picks = [0] * len(first) + [1] * len(second)
+    chance.shuffle(picks)
+    sources = (iter(first), iter(second))
+    return [next(sources[pick]) for pick in picks]
+
+
+class Scene:
+    """A machine's size, the lives on it, and pages that are left to the host."""
+
+    def __init__(self, chance, sizes):
+        self.chance = chance
+        self.lps = chance.choice((1, 1, 2, 2, 3, 4, 8))
+        self.size = chance.choice(sizes)
+        self.hkids = chance.choice((1, 2, 2, 3, 15))
+        pages = list(range(self.size))
+        chance.shuffle(pages)
+        pages = pages[:40]
+        self.lives = [Life(chance, pages, 1)]
+        while len(pages) > 10 and chance.random() < 0.5:
+            self.lives.append(Life(chance, pages, chance.randint(1, self.hkids)))
+        self.host = pages or [self.size - 1]
+        self.names = [name for name in ARGUMENTS for _ in range(1 if name in LEADING else 10 if name in DEEP else 4)]
+
+    def page(self, life, place):
+        """A page for the argument at that place of a call on that life."""
+        chance, draw = self.chance, self.chance.random()
+        if place == 1:
+            return life.td if draw < 0.9 else chance.randrange(self.size)
+        if draw < 0.35:
+            return chance.choice(life.owned())
+        if draw < 0.8:
+            return chance.choice(self.host)
+        return chance.choice([life.td, *chance.choice(self.lives).owned(), chance.randrange(self.size)])
+
+    def gpa(self, life):
+        """An address near those that the life maps: below each level of its tree, and beside it."""
+        beside = self.chance.choice((0, 0, 0, 3 * PAGE_BYTES, 3 * PAGE_BYTES, *LEVEL_BYTES[1:], *LEVEL_BYTES[1:]))
+        return (life.gpa + beside) % GPA_END
+
+    def argument(self, life, name, kind, place):
+        """An argument of a call, in its range."""
+        chance = self.chance
+        if kind == "page":
+            if name == "VP.INIT" and place == 2 and life.vcpus and chance.random() < 0.6:
+                return chance.choice(life.vcpus)
+            return self.page(life, place)
+        if kind == "hkid":
+            return chance.choice((life.hkid, chance.randint(1, self.hkids)))
+        if kind == "gpa":
+            return self.gpa(life)
+        if kind == "field":
+            return chance.choice(FIELDS)
+        if kind == "word":
+            return a_word(chance)
+        ranges = {"level": range(4), "upper level": range(1, 4), "value": range(1 << 16)}
+        return chance.choice(ranges[kind])
+
+    def call(self, name, life, spoiled):
+        """A call of that name on that life; where it is spoiled, an argument breaks a rule."""
+        kinds = ARGUMENTS[name]
+        arguments = [self.argument(life, name, kind, place) for place, kind in enumerate(kinds, 1)]
+        if "gpa" in kinds and self.chance.random() < 0.95:
+            arguments[1] -= arguments[1] % alignment(name, arguments)
+            if name == "MR.EXTEND":
+                arguments[1] += 256 * self.chance.randrange(16)
+        if spoiled and arguments:
+            self.spoil(kinds, arguments)
+        return " ".join([name, *map(self.written, arguments)])
+
+    def spoil(self, kinds, arguments):
+        """Puts arguments out of their rules: out of range, at an edge, twice the same, or misaligned."""
+        chance = self.chance
+        edges = {
+            "page": (self.size, self.size - 1, arguments[0]),
+            "word": (511, 512),
+            "hkid": (0, self.hkids, self.hkids + 1),
+            "gpa": (GPA_END, GPA_END - PAGE_BYTES, 1, 255, 4095, PAGE_BYTES),
+            "level": (3, 4),
+            "upper level": (0, 4),
+            "value": ((1 << 64) - 1,),
+            "field": FIELDS,
+        }
+        for place in chance.sample(range(len(kinds)), chance.choice((1, 1, 1, min(2, len(kinds))))):
+            far = () if kinds[place] == "field" else ((1 << 64) - 1, 1 << 63)
+            arguments[place] = chance.choice((*edges[kinds[place]] * 2, *far))
+
+    def written(self, value):
+        """An argument as it stands in a line: decimal, hexadecimal, or with leading zeros."""
+        if isinstance(value, str):
+            return value
+        return self.chance.choice((f"{value}", f"{value}", f"{value}", f"{value:#x}", f"0x{value:X}", f"00{value}"))
+
+    def any_call(self):
+        """A call of any name on any life."""
+        return self.call(self.chance.choice(self.names), self.chance.choice(self.lives), self.chance.random() < 0.2)
+
+
+def among(chance, scene, calls, share):
+    """The calls with others between them: so many for each, on average."""
+    mixed = []
+    for call in calls:
+        while chance.random() < share / (1 + share):
+            mixed.append(scene.any_call())
+        if chance.random() < 0.98:
+            mixed.append(call)
+    return mixed
+
+
+def story(chance, scene, _turn):
+    """Each processor's calls: lives from their beginning to their end. Some are led twice, and not finalized
+    the first time, so that a hasher is left behind."""
+    calls = []
+    for life in scene.lives:
+        whole = life.build(chance, scene.host[0]) + life.end(chance)
+        if chance.random() < 0.3:
+            whole = [call for call in whole if not call.startswith("MR.FINALIZE")] + whole
+        calls = riffle(chance, calls, whole) if chance.random() < 0.5 else calls + whole
+    calls = among(chance, scene, calls, chance.choice((1, 4, 8, 12)))
+    cuts = sorted(chance.randrange(len(calls) + 1) for _ in range(scene.lps - 1))
+    blocks = [calls[start:end] for start, end in zip([0, *cuts], [*cuts, len(calls)])]
+    return blocks, bursts(chance, range(scene.lps), chance.choice((0, 0, 200)))
+
+
+def holder(life, target):
+    """A call that holds the lock which is meant alone, and after how many events: K, that of the op
+    state, of the tree, or of a page."""
+    calls = {"K": ("PHYMEM.CACHE.WB", 1), "O": (f"MNG.INIT {life.td}", 2), "T": (f"MEM.SEPT.RD {life.td} 0 3", 3)}
+    return calls.get(target, (f"MNG.CREATE {target} {life.hkid}", 1))
+
+
+def rival(chance, life, target):
+    """A call that tries the lock which is meant."""
+    if target == "O":
+        return f"MNG.RD {life.td} {chance.choice(FIELDS)}"
+    if isinstance(target, str) or chance.random() < 0.5:
+        return holder(life, target)[0]
+    return chance.choice((f"HOST.READ {target} 0", f"HOST.WRITE {target} 0 1", f"PHYMEM.PAGE.RDMD {target}"))
+
+
+def race(chance, scene, turn):
+    """Processor 0 leads a TD to the call whose turn it is, and makes it and those after it again and
+    again. The others try the locks of that call, most of them one and the same lock."""
+    life = scene.lives[0]
+    whole = life.build(chance, scene.host[-1]) + life.end(chance)
+    names = [call.split()[0] for call in whole]
+    visit, due = divmod(turn, len(ARGUMENTS))
+    name = tuple(ARGUMENTS)[due]
+    if name not in names:
+        name = chance.choice(names)
+    at = chance.choice([place for place, call in enumerate(whole) if call.split()[0] == name])
+    targets = [*life.pages_of(whole[at]) * 2, "K", "O", "T", life.td]
+    main = targets[visit % len(targets)]
+    first, events = holder(life, main)
+    scene.lps = chance.choice((2, 3, 3, 4, 8))
+    blocks = [whole[: at + 1] + [chance.choice((whole[at], *whole[at : at + 4])) for _ in range(24)]]
+    for _ in range(scene.lps - 1):
+        calls = [chance.choice((whole[at], scene.call(name, life, False))) for _ in range(chance.randrange(4))]
+        rivals = [rival(chance, life, chance.choice((main, main, main, *targets))) for _ in range(24)]
+        blocks.append([first, *riffle(chance, calls, rivals)])
+    meeting = [(0, exact_events(scene, whole[:at])), (1, events), (0, 12)]
+    return blocks, meeting + bursts(chance, range(scene.lps), 150 * scene.lps)
+
+
+def exact_events(scene, calls):
+    """How many events these calls take on processor 0 alone."""
+    lines = [f"machine 1 {scene.size} {scene.hkids}", "lp 0", *calls, "end"]
+    (processor,) = processors_of(read(text_of(lines)))
+    events = 0
+    while not processor.has_ended():
+        processor.event()
+        events += 1
+    return events
+
+
+def noise(chance, scene, _turn):
+    """Calls without any order, for processors that go at random."""
+    blocks = [[scene.any_call() for _ in range(chance.randrange(30))] for _ in range(scene.lps)]
+    return blocks, bursts(chance, range(scene.lps), chance.choice((0, 100, 400)))
+
+
+def bursts(chance, lps, items):
+    """Schedule items: processors at random, each for a few events."""
+    turns = []
+    while items > 0:
+        times = chance.choice((1, 1, 1, 2, 3, 8))
+        turns.append((chance.choice(lps), times))
+        items -= times
+    return turns
+
+
+def schedule_lines(chance, turns):
+    """The lines of a schedule."""
+    lines = []
+    while turns:
+        length = chance.randint(1, 60)
+        items = [f"{lp}" if times == 1 and chance.random() < 0.9 else f"{lp}*{times}" for lp, times in turns[:length]]
+        lines.append(" ".join(["schedule", *items]))
+        turns = turns[length:]
+    return lines
+
+
+def text_of(lines):
+    """The bytes of a script with these lines."""
+    return "".join(f"{line}\n" for line in lines).encode("latin-1")
+
+
+def script_lines(chance, make, turn):
+    """The lines of a script without a fault."""
+    scene = Scene(chance, ROOMY if make is race else SIZES)
+    blocks, turns = make(chance, scene, turn)
+    parts = [[f"lp {lp}", *block, "end"] for lp, block in enumerate(blocks) if block or chance.random() < 0.5]
+    chance.shuffle(parts)
+    schedule = [[line] for line in schedule_lines(chance, [turn for turn in turns if turn[1]])]
+    lines = [f"machine {scene.lps} {scene.size} {scene.hkids}"]
+    for part in riffle(chance, parts, schedule):
+        lines += part
+    return decorated(chance, lines)
+
+
+def decorated(chance, lines):
+    """The lines with blanks at their ends and between their words, with comments and blank lines."""
+    if chance.random() < 0.7:
+        return lines
+    some = []
+    for line in lines:
+        while chance.random() < 0.1:
+            some.append(chance.choice(("", "   ", "# a comment", "  #end")))
+        some.append(chance.choice(("", "", "  ")) + line.replace(" ", chance.choice((" ", " ", "   "))))
+    return some
+
+
+# Lines that are bad outside blocks or inside them, many of them for several reasons.
+BAD_OUTSIDE = (
+    "machine", "machine 1 8 1", "machine x", "end", "end x y", "lp", "lp 7", "lp 8", "lp x", "lp 0 0", "lp {lp}",
+    "lp {lp}", "lp {lp}", "lp {lp}", "lp {lp}", "lp {lp} x", "lp 18446744073709551616", "schedule", "schedule x",
+    "schedule 0*0", "schedule 0*", "schedule *1", "schedule 0*1*1", "schedule 9*x", "schedule 0*1048577",
+    "schedule 0*1048576 0", "schedule 8 x", "schedule 0x0*0x2 00*02", "code", "code 0 0", "code x", "code 9999 9", "set 0 0", "foo",
+    "Machine 1 8 1", "{call}", "{unbuilt}", "\t", "lp\t0", "# \xff", "\x00", "schedule \x80", "foo \x01 x",
+)
+BAD_INSIDE = (
+    "machine 1 8 1", "machine", "end end", "end x y", "lp", "lp {lp}", "lp 9", "schedule", "schedule x", "code 0 0",
+    "load 1 0", "vmcall 0", "foo", "HOST.READ", "host.read 0 0", "HOST.READ 0", "HOST.READ 0 x", "HOST.READ 0 0 0",
+    "HOST.READ 0 0x", "HOST.READ -1 0", "HOST.READ 0 18446744073709551616", "HOST.READ 0 0x10000000000000000",
+    "HOST.READ 0X1 0", "HOST.READ 0 0xfg", "MNG.RD 1", "MNG.RD 1 LIF", "MNG.RD 1 life", "MNG.RD 7 NOFIELD",
+    "MNG.RD 7 OPS", "MNG.RD 0 mrtd", "MNG.RD x LIF", "MNG.RD x OP", "MNG.RD 1 OP OP", "MNG.RD OP 1", "MEM.PAGE.RELOCATE 1 0 2",
+    "MEM.TRACK", "{call}", "{call} x", "{call} 1 2 3 4 5 6", "{call} 1 0 3 x", "{unbuilt}", "{unbuilt} 1 0", "{unbuilt} x",
+    "{unbuilt} \x1f", "end\x7f", "HOST.READ 1 1\r",
+)
+FIRST_LINES = ("", "end", "foo", "lp 0", "machine", "machine 1 8", "machine 1 8 x", "machine 0 8 1", "machine 9 8 x",
+               "machine 9 8 1", "machine 8 7 1", "machine 8 1025 1", "machine 1 8 0", "machine 1 8 16", "schedule 0",
+               "# machine 1 8 1", "machine 1 8 1 1", "MACHINE 1 8 1", "machine 8 1024 15")
+
+
+def faulty_script(chance, turn):
+    """The bytes of a script in which a line or two are bad, or which ends too early."""
+    lines = script_lines(chance, chance.choice((noise, story)), turn)
+    if chance.random() < 0.3:
+        lines = lines[: chance.randint(1, 40)]
+    if turn % 8 == 0:
+        return text_of(lines[: chance.randint(1, len(lines))])
+    if turn % 8 == 1:
+        return text_of(lines)[: -chance.randint(1, 100)]
+    put_bad_line(chance, lines, turn)
+    if chance.random() < 0.3:
+        put_bad_line(chance, lines, chance.randrange(1000))
+    draw = chance.random()
+    if draw < 0.1:
+        lines[0] = chance.choice(FIRST_LINES)
+    elif draw < 0.3:
+        place = chance.randrange(len(lines))
+        lines[place] = misspelled(chance, lines[place])
+    return text_of(lines)
+
+
+def put_bad_line(chance, lines, turn):
+    """Puts in the bad line whose turn it is, in most cases where nothing before it is bad."""
+    begins = [place for place, line in enumerate(lines) if line.split()[:1] == ["lp"]]
+    ends = [place for place, line in enumerate(lines) if line.split() == ["end"]]
+    turn %= len(BAD_OUTSIDE + BAD_INSIDE)
+    places, bad = ends if turn < len(BAD_OUTSIDE) else begins, (BAD_OUTSIDE + BAD_INSIDE)[turn]
+    place = chance.choice(places) + 1 if places and chance.random() < 0.9 else chance.randint(1, len(lines))
+    before = [word for line in lines[:place] if line.split()[:1] == ["lp"] for word in line.split()[1:2]]
+    words = {
+        "lp": chance.choice(before or ["0"]),
+        "call": chance.choice(tuple(ARGUMENTS)),
+        "unbuilt": chance.choice(sorted(UNBUILT)),
+    }
+    lines.insert(place, bad.format(**words))
+
+
+def misspelled(chance, line):
+    """The line with a character taken out, put in, or changed."""
+    place = chance.randrange(len(line) + 1)
+    put = chance.choice(("", " ", "x", "0", "*", "#", "\t", "9" * 20))
+    return line[:place] + put + line[place + chance.randrange(2) :]
+
+
+def long_script(chance, turn):
+    """The bytes of a script at a limit of the grammar, or just beyond it."""
+    begin = ["machine 1 8 1", "lp 0"]
+    if turn % 3 == 0:
+        return b"#" * SCRIPT_END + b"\n"
+    if turn % 3 == 1:
+        more = chance.choice(("schedule 0", "schedule 0*2", "schedule 0 0", "schedule 0 0 x"))
+        return text_of([begin[0], f"schedule 0*{ITEMS - 1}", more])
+    last = chance.choice(("end", "HOST.READ 1 1", "HOST.READ 1 1", "HOST.READ 1", "{", "HOST.READ x 1", "MEM.TRACK"))
+    return text_of(begin + ["PHYMEM.CACHE.WB"] * CALLS_OF_A_PROCESSOR + [last, "end"])
+
+
+# Command lines that name no script in form. {script} is the name of one that is there.
+COMMANDS = (
+    "", "replay", "replay none", "replay -x", "replay --", "replay - {script}", "replay none/none",
+    "replay {script} {script}", "run {script}", "replay .", "replay {script} --keys=x", "check {script}", "soak 2",
+    "replay {script}/none", "soak", "{script}", "Replay {script}", "--help", "none {script}",
+)
+
+
+def case(seed, place):
+    """The case at that place: the words of a command line, and the bytes of the script."""
+    chance = random.Random(f"{seed} {place}")
+    round_, kind = divmod(place, 20)
+    if kind == 0:
+        return COMMANDS[round_ % len(COMMANDS)].split(), text_of(["machine 1 8 1"])
+    words = ["replay", "{script}"]
+    if kind == 1:
+        return words, long_script(chance, round_)
+    if kind < 8:
+        return words, faulty_script(chance, 6 * round_ + kind)
+    if kind < 11:
+        return words, text_of(script_lines(chance, story, round_))
+    if kind < 19:
+        return words, text_of(script_lines(chance, race, 8 * round_ + kind - 11))
+    return words, text_of(script_lines(chance, noise, round_))

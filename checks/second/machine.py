@@ -1,0 +1,170 @@
+"""The machine of docs/profile.md: its state, and processors that make its events one by one.
+
+The state is the flat one, of pages, TDs and HKIDs. A lock is its lock word. The rows of the calls stand
+in rows.py, as generators: each goes through its conditions and tries from the beginning, gives out each
+try, raises Refused where a condition fails, and at its end answers the effect.
+"""
+
+from collections import defaultdict
+
+EXCLUSIVELY = 1 << 63  # bit 63 of a lock word: somebody holds it alone
+SHARED = 1  # the low bits: sharers, and those who are being refused
+
+KEY_TABLE = ("K",)
+
+
+class Refused(Exception):
+    """A condition that failed, with the reply: a status and what it shows."""
+
+
+class Page:
+    """A page's metadata and its words. A word that isn't listed is 0."""
+
+    def __init__(self):
+        self.give_back()
+
+    def give_back(self):
+        """The page is the host's, and empty."""
+        self.kind, self.owner, self.epoch, self.words = "PT_NDA", 0, 0, {}
+
+    def take(self, kind, owner, words=()):
+        """The page has that kind and owner, and these words."""
+        self.kind, self.owner, self.epoch, self.words = kind, owner, 0, dict(words)
+
+
+class Hkid:
+    """An entry of the key table."""
+
+    def __init__(self):
+        self.state, self.written_back = "HKID_FREE", False
+
+
+class Entry:
+    """An entry of a secure EPT that isn't FREE."""
+
+    def __init__(self, state, page):
+        self.state, self.page = state, page
+
+
+class Td:
+    """What the TDR page and the TDCS page of a TD keep, with its secure EPT and its VCPUs."""
+
+    def __init__(self, hkid):
+        self.life, self.hkid, self.children = "TD_HKID_ASSIGNED", hkid, 0
+        self.control_pages = []
+        self.op, self.epoch = "UNINITIALIZED", 0
+        self.measured, self.mrtd = None, None
+        self.entries = {}  # by level and by the number of its range of addresses
+        self.vcpu_states = {}  # by TDVPR page, in the order of their indexes
+
+
+class Machine:
+    """The pages, HKIDs, TDs and lock words that processors share."""
+
+    def __init__(self, processors, pages, hkids):
+        self.processors = processors
+        self.pages = [Page() for _ in range(pages)]
+        self.hkids = {number: Hkid() for number in range(1, hkids + 1)}
+        self.tds = {}  # by TDR page
+        self.locks = defaultdict(int)
+
+    def takes(self, td_page, page, kind, words=()):
+        """The TD takes that page as a child."""
+        self.pages[page].take(kind, td_page, words)
+        self.tds[td_page].children += 1
+
+    def gives_back(self, td_page, page):
+        """The page of that TD is the host's again; with its TDR page the TD is gone."""
+        self.pages[page].give_back()
+        if page == td_page:
+            del self.tds[td_page]
+        else:
+            self.tds[td_page].children -= 1
+
+    def try_shared(self, lock):
+        """The shared try of a lock, which counts even where it is denied."""
+        granted = self.locks[lock] < EXCLUSIVELY
+        self.locks[lock] += SHARED
+        return granted
+
+    def try_exclusive(self, lock):
+        """The exclusive try of a lock, which is granted where nobody is at it."""
+        granted = self.locks[lock] == 0
+        if granted:
+            self.locks[lock] = EXCLUSIVELY
+        return granted
+
+
+def lock_name(lock):
+    """How a reply names a lock."""
+    return f"P {lock[1]}" if lock[0] == "P" else lock[0]
+
+
+class Processor:
+    """A logical processor with its calls, each a name and its arguments. It makes one event at a time."""
+
+    def __init__(self, machine, number, calls, row):
+        self.machine, self.number, self.calls, self.row = machine, number, calls, row
+        self.replies = []  # of each call the reply, and how many locks the call had
+        self.made = 0
+        self.begin()
+
+    def begin(self):
+        """The next call has made no event."""
+        self.held, self.undo, self.replied = [], None, False
+
+    def has_ended(self):
+        """Whether no line is left."""
+        return self.made == len(self.calls)
+
+    def event(self):
+        """Makes the next event; does nothing where no line is left."""
+        if self.has_ended():
+            return
+        if not self.replied:
+            self.go_on()
+        elif self.undo is not None:
+            self.machine.locks[self.undo] -= SHARED
+            self.undo = None
+        else:
+            lock, weight = self.held.pop()
+            self.machine.locks[lock] -= weight
+        if self.replied and not self.held and self.undo is None:
+            self.made += 1
+            self.begin()
+
+    def go_on(self):
+        """The event that the call's row gives next: a try, or the act."""
+        tries = self.row(self.machine, *self.calls[self.made])
+        try:
+            for _ in self.held:
+                next(tries)
+            self.attempt(*next(tries))
+        except Refused as refusal:
+            self.reply(str(refusal))
+        except StopIteration as end:
+            value = end.value()
+            self.reply("SUCCESS" if value is None else f"SUCCESS {value}")
+
+    def attempt(self, lock, weight):
+        """A try of a lock. A denied one is the call's reply, and a shared one is to be undone."""
+        granted = self.machine.try_shared(lock) if weight == SHARED else self.machine.try_exclusive(lock)
+        if granted:
+            self.held.append((lock, weight))
+            return
+        self.undo = lock if weight == SHARED else None
+        self.reply(f"OPERAND_BUSY {lock_name(lock)}")
+
+    def reply(self, text):
+        """The call has its reply, and releases its locks from now on."""
+        self.replies.append((text, len(self.held)))
+        self.replied = True
+
+
+def run(processors, schedule):
+    """Runs processors by a schedule, and then each to its end, in the order of their numbers."""
+    for number in schedule:
+        processors[number].event()
+    for processor in processors:
+        while not processor.has_ended():
+            processor.event()

@@ -1,0 +1,161 @@
+"""The grammar of scripts in docs/profile.md: what a script says, or its first bad line with the reason."""
+
+import re
+
+from rows import ARGUMENTS, FIELDS
+
+SCRIPT_END = 1 << 24
+NUMBER_END = 1 << 64
+CALLS_OF_A_PROCESSOR = 4096
+ITEMS = 1 << 20
+
+OUTSIDE = ("schedule", "lp", "code")
+UNBUILT_OUTSIDE = ("code",)
+# The finished grammar's calls that the program doesn't have.
+UNBUILT = set(
+    """
+    VP.ENTER VP.FLUSH
+    MEM.SEPT.REMOVE MEM.PAGE.AUG MEM.PAGE.REMOVE MEM.RANGE.BLOCK MEM.RANGE.UNBLOCK MEM.TRACK
+    MIG.STREAM.CREATE EXPORT.STATE.IMMUTABLE EXPORT.BLOCKW EXPORT.UNBLOCKW EXPORT.MEM EXPORT.TRACK
+    EXPORT.PAUSE EXPORT.STATE.TD EXPORT.STATE.VP EXPORT.ABORT EXPORT.RESTORE
+    IMPORT.STATE.IMMUTABLE IMPORT.MEM IMPORT.TRACK IMPORT.STATE.TD IMPORT.STATE.VP IMPORT.COMMIT
+    IMPORT.END IMPORT.ABORT
+    """.split()
+)
+REASONS = (
+    "LENGTH", "UNTERMINATED", "BYTE", "MACHINE", "PLACE", "WORD", "UNBUILT", "COUNT", "NUMBER", "NAME",
+    "RANGE", "REPEATED", "FULL", "ENDLESS",
+)
+
+
+class Fault(Exception):
+    """A script's fault: its line and its reason."""
+
+    def __init__(self, line, reason):
+        super().__init__(f"script line {line} {reason}")
+        self.line, self.reason = line, reason
+
+
+class Bad(Exception):
+    """The reason why a line is bad."""
+
+
+def need(holds, reason):
+    """What a line needs, with the reason where it hasn't."""
+    if not holds:
+        raise Bad(reason)
+
+
+def number(word):
+    """The number that a word is, or None."""
+    if re.fullmatch("[0-9]+", word):
+        digits, base = word, 10
+    elif re.fullmatch("0x[0-9a-fA-F]+", word):
+        digits, base = word[2:], 16
+    else:
+        return None
+    digits = digits.lstrip("0") or "0"
+    if len(digits) > 20:
+        return None
+    value = int(digits, base)
+    return value if value < NUMBER_END else None
+
+
+def numbers(words):
+    """The numbers that these words are."""
+    values = [number(word) for word in words]
+    need(None not in values, "NUMBER")
+    return values
+
+
+class Script:
+    """A script as far as it was read."""
+
+    def __init__(self):
+        self.machine = None  # processors, pages, HKIDs
+        self.schedule = []
+        self.calls = {}  # by processor: names and arguments
+        self.block = None  # the processor whose block isn't ended
+
+    def line(self, words):
+        """Reads a line that isn't skipped."""
+        first, rest = words[0], words[1:]
+        need((self.machine is None) == (first == "machine"), "MACHINE")
+        if first == "end":
+            need(self.block is not None, "PLACE")
+            need(not rest, "COUNT")
+            self.block = None
+        elif self.block is None:
+            self.outside(first, rest)
+        else:
+            need(first not in OUTSIDE, "PLACE")
+            self.call(first, rest)
+
+    def outside(self, first, rest):
+        """Reads a line that stands outside blocks."""
+        need(first in OUTSIDE or first == "machine", "WORD")
+        need(first not in UNBUILT_OUTSIDE, "UNBUILT")
+        {"machine": self.size, "schedule": self.items, "lp": self.begin}[first](rest)
+
+    def size(self, rest):
+        """Reads what follows `machine`."""
+        need(len(rest) == 3, "COUNT")
+        size = numbers(rest)
+        limits = ((1, 8), (8, 1024), (1, 15))
+        need(all(least <= value <= most for value, (least, most) in zip(size, limits)), "RANGE")
+        self.machine = size
+
+    def items(self, rest):
+        """Reads what follows `schedule`."""
+        need(rest, "COUNT")
+        parts = [item.split("*") for item in rest]
+        need(all(len(part) <= 2 for part in parts), "NUMBER")
+        turns = [(values + [1])[:2] for values in map(numbers, parts)]
+        need(all(lp < self.machine[0] and 1 <= times <= ITEMS for lp, times in turns), "RANGE")
+        need(len(self.schedule) + sum(times for _, times in turns) <= ITEMS, "FULL")
+        for lp, times in turns:
+            self.schedule += [lp] * times
+
+    def begin(self, rest):
+        """Reads what follows `lp`."""
+        need(len(rest) == 1, "COUNT")
+        (lp,) = numbers(rest)
+        need(lp < self.machine[0], "RANGE")
+        need(lp not in self.calls, "REPEATED")
+        self.block, self.calls[lp] = lp, []
+
+    def call(self, name, rest):
+        """Reads a call line."""
+        need(name in ARGUMENTS or name in UNBUILT, "WORD")
+        need(name not in UNBUILT, "UNBUILT")
+        kinds = ARGUMENTS[name]
+        need(len(rest) == len(kinds), "COUNT")
+        given = iter(numbers([word for kind, word in zip(kinds, rest) if kind != "field"]))
+        arguments = [word if kind == "field" else next(given) for kind, word in zip(kinds, rest)]
+        need(all(kind != "field" or word in FIELDS for kind, word in zip(kinds, rest)), "NAME")
+        need(len(self.calls[self.block]) < CALLS_OF_A_PROCESSOR, "FULL")
+        self.calls[self.block].append((name, arguments))
+
+
+def read(text):
+    """The script that these bytes are; raises its Fault."""
+    if len(text) > SCRIPT_END:
+        raise Fault(0, "LENGTH")
+    *lines, cut = text.split(b"\n")
+    script = Script()
+    for place, line in enumerate(lines, 1):
+        try:
+            need(all(0x20 <= byte <= 0x7E for byte in line), "BYTE")
+            words = line.decode().split()
+            if words and not words[0].startswith("#"):
+                script.line(words)
+        except Bad as bad:
+            raise Fault(place, str(bad)) from None
+    after = len(lines) + 1
+    if cut:
+        raise Fault(after, "UNTERMINATED")
+    if script.machine is None:
+        raise Fault(after, "MACHINE")
+    if script.block is not None:
+        raise Fault(after, "ENDLESS")
+    return script

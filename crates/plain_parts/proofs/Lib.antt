@@ -1,2 +1,0 @@
-pub mod PlainWorld
-pub mod Bytes

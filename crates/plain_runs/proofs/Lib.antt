@@ -1,3 +1,0 @@
-pub mod PlainCalls
-pub mod PlainRuns
-pub mod MemCalls
