@@ -24,17 +24,15 @@ whole_part : (old new : Option (List ℕ)) (text : List ℕ) → Gains old text 
 whole_part old new text put = (length text, rw take-length put)
 
 -- an ending with the status 5 is the one for want of memory
-IsMemory : Ended → Type 0
+abbrev pub IsMemory : Ended → Type 0
 IsMemory e = e.status ≡ 5 → e.text ≡ memory_end.text
 
-script_memory : (r : Result ScriptSeen ScriptFault) → IsMemory (script_end r)
-unfolding IsMemory
+pub script_memory : (r : Result ScriptSeen ScriptFault) → IsMemory (script_end r)
 script_memory (Ok s) h = absurd (omega arith)
 script_memory (Err (Bad line reason)) h = absurd (omega arith)
 script_memory (Err OutOfMemory) h = refl
 
 named_memory : (contents : List ℕ → Option (List ℕ)) (r : Option (List ℕ)) → IsMemory (named_end contents r)
-unfolding IsMemory
 named_memory contents None h = absurd (omega arith)
 named_memory contents (Some name) h = by (contents name) h
   where
@@ -45,7 +43,6 @@ named_memory contents (Some name) h = by (contents name) h
 -- of an ending with this status and text
 fronts_of : (faults faults' : ℕ) (old new : Option (List ℕ)) (e : Ended) (status : ℕ) → e.status ≢ 4 → IsMemory e → Tells faults faults' old new e status
     → (status ≡ 4) ⊎ (status ≡ 5) → PutsFronts old (success_text e) (own_text status) new
-unfolding IsMemory
 fronts_of faults faults' old new e status not_write memory (inl (is, put)) (inl four) = absurd (not_write (sym is ∙ four))
 fronts_of faults faults' old new e status not_write memory (inl (is, put)) (inr five) =
     memory_fronts old new _ status five (subst (λ x. PutsPart old x new) (memory (sym is ∙ five)) (whole_part old new e.text put))

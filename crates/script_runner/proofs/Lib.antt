@@ -1,7 +1,8 @@
 pub mod InMemory
+pub mod NoBytes
 pub mod Part
-pub mod Long
 pub mod Fronts
+pub mod Done
 pub mod RunningOut
 pub mod Turning
 pub mod Places

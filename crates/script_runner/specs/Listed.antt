@@ -11,6 +11,7 @@ use Rattle.script_runner.specs.declared.outside.PutFault.TheVariants as put
 use Rattle.script_runner.specs.declared.listed.MemFiles.{MemFiles}
 use Rattle.script_runner.specs.declared.listed.MemSink.{MemSink}
 use Rattle.script_runner.specs.Outside.{counted}
+use Rattle.script_runner.specs.Noted.{and_load, and_save, and_put}
 
 -- the call of that number is to fail
 abbrev pub is_listed : List ℕ → ℕ → Bool
@@ -37,14 +38,26 @@ PutsListed false (Ok t) = Unit {0}
 PutsListed false (Err put.Failed) = ⊥
 PutsListed false (Err put.OutOfMemory) = Unit {0}
 
--- the files after a load: the call is counted, and its fault where it is listed
-abbrev pub after_load : MemFiles → MemFiles
-after_load f = record f { calls = counted f.calls; read_faults = if is_listed f.failing.items f.calls then counted f.read_faults else f.read_faults }
+-- the files after a load: the call is counted and noted, and its fault is counted where it is listed
+abbrev pub after_load : MemFiles → List ℕ → Result (Vec ℕ) LoadFault → MemFiles
+after_load f name answer = record f {
+  calls = counted f.calls;
+  read_faults = if is_listed f.failing.items f.calls then counted f.read_faults else f.read_faults;
+  history = and_load f.history name answer;
+}
 
--- the same for a save, which is counted as one too, and may change files besides
-abbrev pub after_save : MemFiles → MemFiles
-after_save f = record f { calls = counted f.calls; saves = counted f.saves; write_faults = if is_listed f.failing.items f.calls then counted f.write_faults else f.write_faults }
+-- the same for a save, which may change files besides
+abbrev pub after_save : MemFiles → List ℕ → List ℕ → Result (Unit {0}) SaveFault → MemFiles
+after_save f name bytes answer = record f {
+  calls = counted f.calls;
+  write_faults = if is_listed f.failing.items f.calls then counted f.write_faults else f.write_faults;
+  history = and_save f.history name bytes answer;
+}
 
 -- the output after a put, which may change its bytes besides
-abbrev pub after_put : MemSink → MemSink
-after_put s = record s { calls = counted s.calls; faults = if is_listed s.failing.items s.calls then counted s.faults else s.faults }
+abbrev pub after_put : MemSink → List ℕ → Result (Unit {0}) PutFault → MemSink
+after_put s bytes answer = record s {
+  calls = counted s.calls;
+  faults = if is_listed s.failing.items s.calls then counted s.faults else s.faults;
+  history = and_put s.history bytes answer;
+}

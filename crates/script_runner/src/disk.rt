@@ -2,8 +2,10 @@
 
 ghost use Rattle.std.specs.Prelude.{◌≡◌, ◌≢◌, ◌≤◌, length, Err, IfOk, IfSome, IsTrue};
 ghost use Rattle.std.specs.Io.KnownBytes.{Appends};
+ghost use Rattle.script_runner.specs.Noted.{nothing_done};
 ghost use Rattle.script_runner.specs.Outside.{RoseBeyond, raised_by, WritesFront};
 
+use crate::history::{History, Note};
 use crate::outside::{Files, LoadFault, SaveFault};
 use std::alloc::Global;
 use std::io::{ErrorKind, Read, Write};
@@ -17,20 +19,20 @@ pub struct DiskFiles<'a, R: rt::Files> {
     read_faults: u64,
     write_faults: u64,
     bytes_read: u64,
-    saves: u64,
+    history: History,
 }
 
 impl<'a, R: rt::Files> DiskFiles<'a, R> {
     /// The files that this runtime reaches.
     pub fn new(rt: &'a R) -> Self
-        ensures { (result.read_faults ≡ 0) × (result.write_faults ≡ 0) × (result.bytes_read ≡ 0) × (result.saves ≡ 0) }
+        ensures { (result.read_faults ≡ 0) × (result.write_faults ≡ 0) × (result.bytes_read ≡ 0) × (result.history ≡ nothing_done) }
     {
         DiskFiles {
             rt,
             read_faults: 0,
             write_faults: 0,
             bytes_read: 0,
-            saves: 0,
+            history: History::new(),
         }
     }
 }
@@ -110,36 +112,40 @@ impl<R: rt::Files> Files for DiskFiles<'_, R> {
 
     ghost bytes_read = { λ s. s.bytes_read };
 
-    ghost saves = { λ s. s.saves };
+    ghost loads = { λ s. s.history.loads };
+
+    ghost saves = { λ s. s.history.saves };
 
     fn load(&mut self, alloc: Global, name: &str, most: u64) -> Result<Vec<u8>, LoadFault> {
-        match fs::open(self.rt, name) {
-            Ok(mut file) => {
-                let result = read_all(alloc, &mut file, most, &mut self.bytes_read);
-                if matches!(result, Err(LoadFault::Failed)) {
-                    self.read_faults = self.read_faults.saturating_add(1);
-                }
-                result
-            }
+        let result = match fs::open(self.rt, name) {
+            Ok(mut file) => read_all(alloc, &mut file, most, &mut self.bytes_read),
             Err(error) => {
-                self.read_faults = self.read_faults.saturating_add(1);
                 if error.kind() == ErrorKind::NotFound {
                     Err(LoadFault::Absent)
                 } else {
                     Err(LoadFault::Failed)
                 }
             }
+        };
+        if matches!(result, Err(LoadFault::Absent | LoadFault::Failed)) {
+            self.read_faults = self.read_faults.saturating_add(1);
         }
+        self.history = self.history.and(&Note::Load(name, &result));
+        result
     }
 
     fn save(&mut self, _alloc: Global, name: &str, bytes: &[u8]) -> Result<(), SaveFault> {
-        self.saves = self.saves.saturating_add(1);
-        if let Ok(mut file) = fs::create(self.rt, name) {
-            if write_piece(&mut file, bytes) {
-                return Ok(());
-            }
-        }
-        self.write_faults = self.write_faults.saturating_add(1);
-        Err(SaveFault::Failed)
+        let is_written = match fs::create(self.rt, name) {
+            Ok(mut file) => write_piece(&mut file, bytes),
+            Err(_) => false,
+        };
+        let result = if is_written {
+            Ok(())
+        } else {
+            self.write_faults = self.write_faults.saturating_add(1);
+            Err(SaveFault::Failed)
+        };
+        self.history = self.history.and(&Note::Save(name, bytes, &result));
+        result
     }
 }

@@ -1,8 +1,10 @@
 //! Files and an output in memory that never fail.
 
 ghost use Rattle.std.specs.Prelude.{◌≡◌, []};
+ghost use Rattle.script_runner.specs.Noted.{nothing_done};
 
 use crate::held::{NamedFile, load_copy, save_copy};
+use crate::history::{History, Note};
 use crate::outside::{Files, LoadFault, PutFault, SaveFault, Sink};
 use std::alloc::Global;
 
@@ -10,15 +12,18 @@ use std::alloc::Global;
 #[derive(Drop)]
 pub struct HonestFiles {
     pub files: Vec<NamedFile>,
-    pub saves: u64,
+    pub history: History,
 }
 
 impl HonestFiles {
     /// These files.
     pub fn new(_alloc: Global, files: Vec<NamedFile>) -> HonestFiles
-        ensures { result ≡ record { files = files; saves = 0 } }
+        ensures { result ≡ record { files = files; history = nothing_done } }
     {
-        HonestFiles { files, saves: 0 }
+        HonestFiles {
+            files,
+            history: History::new(),
+        }
     }
 }
 
@@ -34,15 +39,20 @@ impl Files for HonestFiles {
 
     ghost bytes_read = { λ _. 0 };
 
-    ghost saves = { λ s. s.saves };
+    ghost loads = { λ s. s.history.loads };
+
+    ghost saves = { λ s. s.history.saves };
 
     fn load(&mut self, alloc: Global, name: &str, most: u64) -> Result<Vec<u8>, LoadFault> {
-        load_copy(alloc, &self.files, name, most)
+        let result = load_copy(alloc, &self.files, name, most);
+        self.history = self.history.and(&Note::Load(name, &result));
+        result
     }
 
     fn save(&mut self, alloc: Global, name: &str, bytes: &[u8]) -> Result<(), SaveFault> {
-        self.saves = self.saves.saturating_add(1);
-        save_copy(alloc, &mut self.files, name, bytes)
+        let result = save_copy(alloc, &mut self.files, name, bytes);
+        self.history = self.history.and(&Note::Save(name, bytes, &result));
+        result
     }
 }
 
@@ -50,18 +60,18 @@ impl Files for HonestFiles {
 #[derive(Drop)]
 pub struct HonestSink {
     pub bytes: Vec<u8>,
-    pub puts: u64,
+    pub history: History,
 }
 
 impl HonestSink {
     /// An output without bytes.
     pub fn new(alloc: Global) -> HonestSink
         ensures empty { result.bytes.items ≡ [] }
-        ensures new { result.puts ≡ 0 }
+        ensures new { result.history ≡ nothing_done }
     {
         HonestSink {
             bytes: Vec::new(alloc),
-            puts: 0,
+            history: History::new(),
         }
     }
 }
@@ -73,13 +83,14 @@ impl Sink for HonestSink {
 
     ghost faults = { λ _. 0 };
 
-    ghost puts = { λ s. s.puts };
+    ghost puts = { λ s. s.history.puts };
 
     fn put(&mut self, bytes: &[u8]) -> Result<(), PutFault> {
-        self.puts = self.puts.saturating_add(1);
-        match self.bytes.extend_from_slice(bytes) {
+        let result = match self.bytes.extend_from_slice(bytes) {
             Ok(()) => Ok(()),
             Err(_) => Err(PutFault::OutOfMemory),
-        }
+        };
+        self.history = self.history.and(&Note::Put(bytes, &result));
+        result
     }
 }

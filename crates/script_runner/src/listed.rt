@@ -3,9 +3,11 @@
 ghost use Rattle.std.specs.Prelude.{◌≡◌, [], OnOk, OnErr, ◌++◌};
 ghost use Rattle.script_runner.specs.Outside.{LoadsTold, IsSaved, counted};
 ghost use Rattle.script_runner.specs.Held.{contents_in};
+ghost use Rattle.script_runner.specs.Noted.{nothing_done};
 ghost use Rattle.script_runner.specs.Listed.{is_listed, LoadsListed, SavesListed, PutsListed, after_load, after_save, after_put};
 
 use crate::held::{NamedFile, load_copy, save_copy};
+use crate::history::{History, Note};
 use crate::outside::{Files, LoadFault, PutFault, SaveFault, Sink};
 use std::alloc::Global;
 
@@ -16,23 +18,23 @@ pub struct MemFiles {
     pub files: Vec<NamedFile>,
     pub failing: Vec<u64>,
     pub calls: u64,
-    pub saves: u64,
     pub read_faults: u64,
     pub write_faults: u64,
+    pub history: History,
 }
 
 impl MemFiles {
     /// These files, before any call.
     pub fn new(_alloc: Global, files: Vec<NamedFile>, failing: Vec<u64>) -> MemFiles
-        ensures { result ≡ record { files = files; failing = failing; calls = 0; saves = 0; read_faults = 0; write_faults = 0 } }
+        ensures { result ≡ record { files = files; failing = failing; calls = 0; read_faults = 0; write_faults = 0; history = nothing_done } }
     {
         MemFiles {
             files,
             failing,
             calls: 0,
-            saves: 0,
             read_faults: 0,
             write_faults: 0,
+            history: History::new(),
         }
     }
 
@@ -59,20 +61,25 @@ impl Files for MemFiles {
 
     ghost bytes_read = { λ _. 0 };
 
-    ghost saves = { λ s. s.saves };
+    ghost loads = { λ s. s.history.loads };
+
+    ghost saves = { λ s. s.history.saves };
 
     /// The contents of a name. It fails exactly where this call is listed, and then the count of
     /// read faults is one higher.
     fn load(&mut self, alloc: Global, name: &str, most: u64) -> Result<Vec<u8>, LoadFault>
         ensures told { LoadsTold (contents_in self.old.files.items name.now) most result }
         ensures listed { LoadsListed (is_listed self.old.failing.items self.old.calls) result }
-        ensures after { self.new ≡ after_load self.old }
+        ensures after { self.new ≡ after_load self.old name.now result }
     {
-        if self.fails_now() {
+        let result = if self.fails_now() {
             self.read_faults = self.read_faults.saturating_add(1);
-            return Err(LoadFault::Failed);
-        }
-        load_copy(alloc, &self.files, name, most)
+            Err(LoadFault::Failed)
+        } else {
+            load_copy(alloc, &self.files, name, most)
+        };
+        self.history = self.history.and(&Note::Load(name, &result));
+        result
     }
 
     /// Gives a name these bytes. It fails exactly where this call is listed, and then the count of
@@ -81,14 +88,16 @@ impl Files for MemFiles {
         ensures told { OnOk result (IsSaved (contents_in self.old.files.items) name.now bytes.now (contents_in self.new.files.items)) }
         ensures kept { OnErr result (self.new.files.items ≡ self.old.files.items) }
         ensures listed { SavesListed (is_listed self.old.failing.items self.old.calls) result }
-        ensures after { self.new ≡ record (after_save self.old) { files = self.new.files } }
+        ensures after { self.new ≡ record (after_save self.old name.now bytes.now result) { files = self.new.files } }
     {
-        self.saves = self.saves.saturating_add(1);
-        if self.fails_now() {
+        let result = if self.fails_now() {
             self.write_faults = self.write_faults.saturating_add(1);
-            return Err(SaveFault::Failed);
-        }
-        save_copy(alloc, &mut self.files, name, bytes)
+            Err(SaveFault::Failed)
+        } else {
+            save_copy(alloc, &mut self.files, name, bytes)
+        };
+        self.history = self.history.and(&Note::Save(name, bytes, &result));
+        result
     }
 }
 
@@ -100,20 +109,32 @@ pub struct MemSink {
     pub failing: Vec<u64>,
     pub calls: u64,
     pub faults: u64,
+    pub history: History,
 }
 
 impl MemSink {
     /// An output without bytes, before any call.
     pub fn new(alloc: Global, failing: Vec<u64>) -> MemSink
         ensures empty { result.bytes.items ≡ [] }
-        ensures new { result ≡ record { bytes = result.bytes; failing = failing; calls = 0; faults = 0 } }
+        ensures new { result ≡ record { bytes = result.bytes; failing = failing; calls = 0; faults = 0; history = nothing_done } }
     {
         MemSink {
             bytes: Vec::new(alloc),
             failing,
             calls: 0,
             faults: 0,
+            history: History::new(),
         }
+    }
+
+    // Counts a call, and says whether it is to fail.
+    fn fails_now(&mut self) -> bool
+        ensures listed { result ≡ is_listed self.old.failing.items self.old.calls }
+        ensures counted { self.new ≡ record self.old { calls = counted self.old.calls } }
+    {
+        let call = self.calls;
+        self.calls = call.saturating_add(1);
+        self.failing.contains(&call)
     }
 }
 
@@ -124,7 +145,7 @@ impl Sink for MemSink {
 
     ghost faults = { λ s. s.faults };
 
-    ghost puts = { λ s. s.calls };
+    ghost puts = { λ s. s.history.puts };
 
     /// Adds these bytes. It fails exactly where this call is listed, and then the count of faults
     /// is one higher.
@@ -132,17 +153,18 @@ impl Sink for MemSink {
         ensures told { OnOk result (self.new.bytes.items ≡ self.old.bytes.items ++ bytes.now) }
         ensures kept { OnErr result (self.new.bytes.items ≡ self.old.bytes.items) }
         ensures listed { PutsListed (is_listed self.old.failing.items self.old.calls) result }
-        ensures after { self.new ≡ record (after_put self.old) { bytes = self.new.bytes } }
+        ensures after { self.new ≡ record (after_put self.old bytes.now result) { bytes = self.new.bytes } }
     {
-        let number = self.calls;
-        self.calls = number.saturating_add(1);
-        if self.failing.contains(&number) {
+        let result = if self.fails_now() {
             self.faults = self.faults.saturating_add(1);
-            return Err(PutFault::Failed);
-        }
-        match self.bytes.extend_from_slice(bytes) {
-            Ok(()) => Ok(()),
-            Err(_) => Err(PutFault::OutOfMemory),
-        }
+            Err(PutFault::Failed)
+        } else {
+            match self.bytes.extend_from_slice(bytes) {
+                Ok(()) => Ok(()),
+                Err(_) => Err(PutFault::OutOfMemory),
+            }
+        };
+        self.history = self.history.and(&Note::Put(bytes, &result));
+        result
     }
 }

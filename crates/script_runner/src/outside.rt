@@ -1,7 +1,8 @@
 //! Files and an output, as the program sees them.
 
-ghost use Rattle.std.specs.Prelude.{◌≡◌, ◌≤◌, List, ℕ, Option, IfSome, IfNone, IfErr, OnOk, OnErr};
-ghost use Rattle.script_runner.specs.Outside.{counted, LoadsTold, LoadsUntold, LoadCause, SavesTold, SaveCause, PutsTold, PutCause};
+ghost use Rattle.std.specs.Prelude.{◌≡◌, ◌≤◌, ◌++◌, ◌∷◌, [], List, ℕ, Option, IfSome, IfNone, OnOk, OnErr};
+ghost use Rattle.script_runner.specs.Outside.{LoadsTold, LoadsUntold, LoadCause, SavesTold, SaveCause, PutsTold, PutCause};
+ghost use Rattle.script_runner.specs.History.{Loaded, Saved, Put};
 
 use std::alloc::Global;
 
@@ -33,7 +34,8 @@ pub enum PutFault {
     OutOfMemory,
 }
 
-/// Contents by name. No count ever falls, and a count that stands at 2^64 - 1 stays there.
+/// Contents by name. No count ever falls, and a count that stands at 2^64 - 1 stays there. A history
+/// has all that was ever done, the oldest first.
 pub trait Files {
     /// What each name has, where it is told.
     ghost contents: { Self → Option (List ℕ → Option (List ℕ)) };
@@ -47,8 +49,11 @@ pub trait Files {
     /// How many bytes were read.
     ghost bytes_read: { Self → ℕ };
 
-    /// How many savings were asked for, whatever came of them.
-    ghost saves: { Self → ℕ };
+    /// What each load handed out or answered, and for which name.
+    ghost loads: { Self → List Loaded };
+
+    /// What each save was given, for which name, and what it answered.
+    ghost saves: { Self → List Saved };
 
     /// The contents of a name, if they are at most `most` bytes.
     fn load(&mut self, alloc: Global, name: &str, most: u64) -> Result<Vec<u8>, LoadFault>
@@ -60,6 +65,7 @@ pub trait Files {
         ensures later { read_faults self.old ≤ read_faults self.new }
         ensures more { bytes_read self.old ≤ bytes_read self.new }
         ensures writes { write_faults self.new ≡ write_faults self.old }
+        ensures noted { loads self.new ≡ loads self.old ++ record { name = name.now; answer = result } ∷ [] }
         ensures saves { saves self.new ≡ saves self.old };
 
     /// Gives a name these bytes.
@@ -70,12 +76,14 @@ pub trait Files {
         // Failed comes only where the count of write faults rose, which else is as it was.
         ensures cause { SaveCause (write_faults self.old) (write_faults self.new) result }
         ensures later { write_faults self.old ≤ write_faults self.new }
-        ensures counted { saves self.new ≡ counted (saves self.old) }
+        ensures noted { saves self.new ≡ saves self.old ++ record { name = name.now; bytes = bytes.now; answer = result } ∷ [] }
+        ensures loads { loads self.new ≡ loads self.old }
         ensures reads { read_faults self.new ≡ read_faults self.old }
         ensures bytes { bytes_read self.new ≡ bytes_read self.old };
 }
 
-/// Where bytes go. No count ever falls, and a count that stands at 2^64 - 1 stays there.
+/// Where bytes go. No count ever falls, and a count that stands at 2^64 - 1 stays there. The history
+/// has all puts that there ever were, the oldest first.
 pub trait Sink {
     /// The bytes so far, where they are told.
     ghost told: { Self → Option (List ℕ) };
@@ -83,8 +91,8 @@ pub trait Sink {
     /// How often a put failed.
     ghost faults: { Self → ℕ };
 
-    /// How many puts were asked for, whatever came of them.
-    ghost puts: { Self → ℕ };
+    /// What each put was given, and what it answered.
+    ghost puts: { Self → List Put };
 
     /// Adds these bytes. A put that fails may have added a front of them.
     fn put(&mut self, bytes: &[u8]) -> Result<(), PutFault>
@@ -92,5 +100,5 @@ pub trait Sink {
         // Failed comes only where the count of faults rose, which else is as it was.
         ensures cause { PutCause (faults self.old) (faults self.new) result }
         ensures later { faults self.old ≤ faults self.new }
-        ensures counted { puts self.new ≡ counted (puts self.old) };
+        ensures noted { puts self.new ≡ puts self.old ++ record { bytes = bytes.now; answer = result } ∷ [] };
 }

@@ -1,8 +1,10 @@
 //! Standard output.
 
 ghost use Rattle.std.specs.Prelude.{◌≡◌};
+ghost use Rattle.script_runner.specs.Noted.{nothing_done};
 
 use crate::disk::write_piece;
+use crate::history::{History, Note};
 use crate::outside::{PutFault, Sink};
 use std::io;
 
@@ -11,18 +13,18 @@ use std::io;
 pub struct StdSink<'a, R: Print> {
     rt: &'a R,
     faults: u64,
-    puts: u64,
+    history: History,
 }
 
 impl<'a, R: Print> StdSink<'a, R> {
     /// The standard output of this runtime.
     pub fn new(rt: &'a R) -> Self
-        ensures { (result.faults ≡ 0) × (result.puts ≡ 0) }
+        ensures { (result.faults ≡ 0) × (result.history ≡ nothing_done) }
     {
         StdSink {
             rt,
             faults: 0,
-            puts: 0,
+            history: History::new(),
         }
     }
 }
@@ -34,16 +36,17 @@ impl<R: Print> Sink for StdSink<'_, R> {
 
     ghost faults = { λ s. s.faults };
 
-    ghost puts = { λ s. s.puts };
+    ghost puts = { λ s. s.history.puts };
 
     fn put(&mut self, bytes: &[u8]) -> Result<(), PutFault> {
-        self.puts = self.puts.saturating_add(1);
         let mut to = io::writer(self.rt);
-        if write_piece(&mut to, bytes) {
+        let result = if write_piece(&mut to, bytes) {
             Ok(())
         } else {
             self.faults = self.faults.saturating_add(1);
             Err(PutFault::Failed)
-        }
+        };
+        self.history = self.history.and(&Note::Put(bytes, &result));
+        result
     }
 }

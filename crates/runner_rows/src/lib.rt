@@ -1,0 +1,8 @@
+//! Tests of `script_runner`: files and outputs in memory, and what the top call makes of scripts and of
+//! their faults. They have a crate of their own, since one with tests is proved twice.
+#![tactic(auto)]
+
+#[cfg(test)]
+mod memory;
+#[cfg(test)]
+mod replays;
