@@ -1,7 +1,7 @@
 //! Runs without a schedule: each processor runs to its end before the next one begins.
 //!
 //! Then nobody holds a lock that another one tries, so that each call is as good as done at once. A
-//! layer above uses `in_number_order` to run the calls one after another over a world in memory.
+//! layer above may use `in_number_order` to tell what such a run prints and where it ends.
 #![tactic(auto)]
 
 ghost use Rattle.flat_alone.specs.Whole.{EachCallAtOnce, EndsInTheirWorld};
