@@ -20,7 +20,8 @@ use Rattle.lock_words.specs.Grips.{IsExclusive}
 use Rattle.lock_words.specs.LockWords.{weight_of, IsNext, LockWordsFollow, move_adds}
 use Rattle.step_core.specs.declared.steps.WordStep.TheVariants as step
 use Rattle.step_core.specs.Words.{with_word}
-use Rattle.step_core.specs.Items.{Table, Stepped, PlaysTo}
+use Rattle.step_core.specs.Items.{Table, PlaysTo}
+use Rattle.step_core.specs.declared.items.Taken.TheVariants.{Stepped}
 use Rattle.leaf_engine.specs.declared.events.HeldLock.{HeldLock}
 use Rattle.leaf_engine.specs.declared.events.Stage.{Stage}
 use Rattle.leaf_engine.specs.declared.events.Stage.TheVariants as stages

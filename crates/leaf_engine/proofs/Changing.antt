@@ -8,7 +8,8 @@ use Rattle.td_words.specs.Place.{WordPlace, Lock, Pamt, Word, Key, IsIn, address
 use Rattle.td_words.specs.Laws.{PlacesInjective}
 use Rattle.mrtd_measure.specs.declared.measures.Measure.{Measure}
 use Rattle.step_core.specs.Words.{Words, with_word}
-use Rattle.step_core.specs.Items.{Table, Taken, PlaysTo, with_slot}
+use Rattle.step_core.specs.Items.{Table, PlaysTo, with_slot}
+use Rattle.step_core.specs.declared.items.Taken.{Taken}
 use Rattle.step_core.specs.Laws.{PagesChangeAlone, is_word_of}
 use Rattle.step_core.proofs.Paged.{parts}
 use Rattle.flat_core.proofs.Tests.{by_test}

@@ -9,7 +9,9 @@ use Rattle.flat_core.specs.Row.{Move}
 use Rattle.step_core.specs.declared.steps.WordStep.{WordStep}
 use Rattle.step_core.specs.declared.steps.WordStep.TheVariants as step
 use Rattle.step_core.specs.Words.{after_step, answer_of}
-use Rattle.step_core.specs.Items.{Table, Taken, Stepped, Swapped, Missed, PlaysTo}
+use Rattle.step_core.specs.Items.{Table, PlaysTo}
+use Rattle.step_core.specs.declared.items.Taken.{Taken}
+use Rattle.step_core.specs.declared.items.Taken.TheVariants.{Stepped, Swapped, Missed}
 use Rattle.word_rules.specs.Views.{look}
 use Rattle.leaf_engine.specs.Trees.{Tree, Lock, Load, Test, End, Since, feed, settle, fed}
 use Rattle.leaf_engine.specs.Means.{Task, Instant, IsAt, Work, work_of, MeansRow}

@@ -15,7 +15,9 @@ use Rattle.word_rules.specs.Guards.{Grip}
 use Rattle.word_rules.specs.Cells.{Shows}
 use Rattle.lock_words.specs.LockWords.{place_of}
 use Rattle.step_core.specs.Words.{with_word}
-use Rattle.step_core.specs.Items.{Table, Taken, Stepped, PlaysTo}
+use Rattle.step_core.specs.Items.{Table, PlaysTo}
+use Rattle.step_core.specs.declared.items.Taken.{Taken}
+use Rattle.step_core.specs.declared.items.Taken.TheVariants.{Stepped}
 use Rattle.step_core.specs.Laws.{PagesChangeAlone}
 use Rattle.leaf_engine.specs.declared.needs.Need.{Need}
 use Rattle.leaf_engine.specs.declared.needs.Need.TheVariants as need

@@ -7,7 +7,8 @@ use Rattle.td_words.specs.declared.machines.Machine.{Machine}
 use Rattle.td_words.specs.declared.replies.Reply.{Reply}
 use Rattle.mrtd_measure.specs.declared.measures.Measure.{Measure}
 use Rattle.step_core.specs.Words.{word_count}
-use Rattle.step_core.specs.Items.{Taken, Stepped}
+use Rattle.step_core.specs.declared.items.Taken.{Taken}
+use Rattle.step_core.specs.declared.items.Taken.TheVariants.{Stepped}
 use Rattle.leaf_engine.specs.declared.needs.Need.TheVariants as need
 use Rattle.leaf_engine.specs.declared.events.Event.TheVariants as event
 use Rattle.leaf_engine.specs.declared.events.HeldLock.{HeldLock}

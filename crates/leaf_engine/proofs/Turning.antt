@@ -18,7 +18,8 @@ use Rattle.flat_core.specs.Event.{State, OfCall, next_event, event, call_busy, s
 use Rattle.flat_core.specs.Laws.{IsQuiet}
 use Rattle.word_rules.specs.Cells.{Shows, IsAs, cell_in, lock_word}
 use Rattle.lock_words.specs.LockWords.{place_of, Stands, LockWordsFollow, LockStepsShown, lock_of}
-use Rattle.step_core.specs.Items.{Table, Taken, PlaysTo}
+use Rattle.step_core.specs.Items.{Table, PlaysTo}
+use Rattle.step_core.specs.declared.items.Taken.{Taken}
 use Rattle.step_core.specs.Laws.{PagesChangeAlone}
 use Rattle.leaf_engine.specs.declared.events.Event.{Event as RunEvent}
 use Rattle.leaf_engine.specs.declared.events.Event.TheVariants as events

@@ -17,7 +17,8 @@ use Rattle.flat_core.specs.Laws.{IsBetween}
 use Rattle.word_rules.specs.Cells.{Shows}
 use Rattle.lock_words.specs.Grips.{IsExclusive, TdrsAreHeld}
 use Rattle.lock_words.specs.LockWords.{place_of, Stands, LocksStand}
-use Rattle.step_core.specs.Items.{Table, Taken, PlaysTo}
+use Rattle.step_core.specs.Items.{Table, PlaysTo}
+use Rattle.step_core.specs.declared.items.Taken.{Taken}
 use Rattle.leaf_engine.specs.declared.events.RunTurn.{RunTurn}
 use Rattle.leaf_engine.specs.declared.events.HeldLock.{HeldLock}
 use Rattle.leaf_engine.specs.declared.events.Stage.{Stage}

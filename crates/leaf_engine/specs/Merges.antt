@@ -1,12 +1,12 @@
--- Merges of the own lists of logical processors.
-use Rattle.std.specs.Prelude.{◌≡◌, ℕ, ◌<◌, ◌≤◌, ◌==◌, if◌then◌else◌, None, List, [], ◌∷◌, length}
+-- The own lists of logical processors as one list, and what their calls are made by.
+use Rattle.std.specs.Prelude.{◌≡◌, ℕ, ◌<◌, ◌≤◌, ◌==◌, if◌then◌else◌, None, List, [], ◌∷◌}
 use Rattle.td_words.specs.declared.calls.Call.{Call}
 use Rattle.flat_core.specs.Opening.{Opening}
 use Rattle.flat_core.specs.Table.{row_of}
-use Rattle.flat_core.specs.Event.{calls_of}
-use Rattle.step_core.specs.Items.{Table, Taken, PlaysTo}
+use Rattle.step_core.specs.Items.{Table}
+use Rattle.step_core.specs.declared.items.Taken.{Taken}
 use Rattle.leaf_engine.specs.Means.{Task, OfCall, MeansRow}
-use Rattle.leaf_engine.specs.OwnLists.{Piece, Unmarked, Marked, Wordless, joined, WordLp, first_lp, OwnTurns}
+use Rattle.leaf_engine.specs.OwnLists.{Piece, Unmarked, Marked, Wordless}
 
 -- a piece of a processor's own list
 pub record Item : Type 0 where
@@ -18,7 +18,7 @@ abbrev pub part : ℕ → List Item → List Piece
 part p [] = []
 part p (i ∷ is) = if i.lp == p then i.piece ∷ part p is else part p is
 
--- the word steps, in order
+-- the word steps and swaps, in order
 abbrev pub step_before : Piece → List Taken → List Taken
 step_before (Unmarked x) xs = x ∷ xs
 step_before (Marked x) xs = x ∷ xs
@@ -53,11 +53,3 @@ pub record AreLeaves (o : Opening) (leaf : ℕ → Call → Task) : Type 0 where
   pub processor : (p : ℕ) (c : Call) → (leaf p c).place.lp ≡ p
   pub row : (p : ℕ) (c : Call) → (leaf p c).meaning ≡ OfCall (row_of o p c)
   pub means : (p : ℕ) (c : Call) → MeansRow (leaf p c)
-
--- A merge of own lists, one for each processor of a script, from the processor's first line on to where it then is, in
--- which each load reads what the merge has stored.
-pub record Merge (o : Opening) (leaf : ℕ → Call → Task) (is : List Item) (now : ℕ → WordLp) (u : Table) : Type 0 where
-  pub own : ℕ → List (List Piece)
-  pub turns : (p : ℕ) → p < length o.calls → OwnTurns (leaf p) o.machine (first_lp (calls_of o.calls p)) (own p) (now p)
-  pub merge : IsMerge (length o.calls) (λ p. joined (own p)) is
-  pub plays : PlaysTo no_table (steps_taken is) u

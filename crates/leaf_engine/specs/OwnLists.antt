@@ -3,7 +3,7 @@ use Rattle.std.specs.Prelude.{◌≡◌, ℕ, zero, suc, ◌+◌, false, Option,
 use Rattle.td_words.specs.declared.machines.Machine.{Machine}
 use Rattle.td_words.specs.declared.calls.Call.{Call}
 use Rattle.td_words.specs.declared.replies.Reply.{Reply}
-use Rattle.step_core.specs.Items.{Taken}
+use Rattle.step_core.specs.declared.items.Taken.{Taken}
 use Rattle.leaf_engine.specs.declared.needs.Need.{Need}
 use Rattle.leaf_engine.specs.declared.needs.Need.TheVariants as need
 use Rattle.leaf_engine.specs.declared.events.Event.{Event}

@@ -1,6 +1,6 @@
 -- What a turn of a processor comes to.
 use Rattle.std.specs.Prelude.{◌≡◌, ℕ, ◌<◌, Bool, true, false, List, []}
-use Rattle.step_core.specs.Items.{Taken}
+use Rattle.step_core.specs.declared.items.Taken.{Taken}
 use Rattle.leaf_engine.specs.OwnLists.{Piece, taken_in}
 use Rattle.leaf_engine.specs.declared.events.Event.{Event}
 use Rattle.leaf_engine.specs.declared.processors.Turn.{Turn}

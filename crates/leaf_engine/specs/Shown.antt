@@ -11,7 +11,8 @@ use Rattle.flat_core.specs.Processor.{LockId, name_of, Held}
 use Rattle.flat_core.specs.Row.{Move, Attempts, Refuses, Succeeds, next}
 use Rattle.word_rules.specs.Cells.{Shows}
 use Rattle.lock_words.specs.LockWords.{place_of}
-use Rattle.step_core.specs.Items.{Table, Taken, PlaysTo}
+use Rattle.step_core.specs.Items.{Table, PlaysTo}
+use Rattle.step_core.specs.declared.items.Taken.{Taken}
 use Rattle.leaf_engine.specs.declared.events.Event.{Event}
 use Rattle.leaf_engine.specs.declared.events.Event.TheVariants as event
 use Rattle.leaf_engine.specs.declared.events.Stage.TheVariants as stage

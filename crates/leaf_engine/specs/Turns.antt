@@ -14,7 +14,8 @@ use Rattle.step_core.specs.Locks.{shared_outcome, exclusive_outcome, weight_of}
 use Rattle.step_core.specs.Words.{word_count}
 use Rattle.td_words.specs.declared.machines.Machine.{Machine}
 use Rattle.mrtd_measure.specs.declared.measures.Measure.{Measure}
-use Rattle.step_core.specs.Items.{Taken, Stepped}
+use Rattle.step_core.specs.declared.items.Taken.{Taken}
+use Rattle.step_core.specs.declared.items.Taken.TheVariants.{Stepped}
 use Rattle.leaf_engine.specs.declared.needs.Need.{Need}
 use Rattle.leaf_engine.specs.declared.needs.Need.TheVariants as need
 use Rattle.leaf_engine.specs.declared.needs.Write.{Write}

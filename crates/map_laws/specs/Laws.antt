@@ -21,7 +21,8 @@ use Rattle.leaf_engine.specs.Changes.{Memory}
 use Rattle.leaf_engine.specs.Means.{Task}
 use Rattle.leaf_engine.specs.Tables.{IsMemory}
 use Rattle.leaf_engine.specs.OwnLists.{WordLp}
-use Rattle.leaf_engine.specs.Merges.{Item, order, AreLeaves, Merge}
+use Rattle.leaf_engine.specs.Merges.{Item, order, AreLeaves}
+use Rattle.merge_laws.specs.Merge.{Merge}
 use Rattle.map_laws.specs.SeptMaps.{ShowsTd, entries_of, entries_on}
 
 -- the TDR page of the TD names the root (Base Architecture, "TD Root (TDR)")

@@ -1,5 +1,6 @@
 -- The pieces in which a leaf's turn ends: the refusal or the act, by a load, by its first store, or without a word step.
-use Rattle.merge_laws.proofs.Pieces.{Answers, taken_after}
+use Rattle.merge_laws.specs.Merge.{taken_after}
+use Rattle.merge_laws.proofs.Pieces.{Answers}
 use Rattle.leaf_engine.specs.Decides.{IsHand}
 use Rattle.std.proofs.Common.{◌≡◌, ℕ, ◌+◌, ◌%◌, ◌^◌, ◌<◌, Bool, true, false, ◌==◌, List, [], ◌∷◌, ◌++◌, map, length, Option, Some, None, refl, ap, sym, ◌∙◌, subst, inl, inr, ◌-◌}
 use Rattle.std.proofs.lemmas.Bool.{eqb-true}
@@ -21,7 +22,9 @@ use Rattle.lock_words.specs.LockWords.{put_word}
 use Rattle.step_core.specs.declared.steps.WordStep.{WordStep}
 use Rattle.step_core.specs.declared.steps.WordStep.TheVariants as step
 use Rattle.step_core.specs.Words.{after_step}
-use Rattle.step_core.specs.Items.{Table, Taken, Stepped, Swapped, Missed, with_slot}
+use Rattle.step_core.specs.Items.{Table, with_slot}
+use Rattle.step_core.specs.declared.items.Taken.{Taken}
+use Rattle.step_core.specs.declared.items.Taken.TheVariants.{Stepped, Swapped, Missed}
 use Rattle.leaf_engine.specs.declared.events.RunTurn.{RunTurn}
 use Rattle.leaf_engine.specs.declared.events.Stage.TheVariants as stages
 use Rattle.leaf_engine.specs.declared.needs.Write.{Write}

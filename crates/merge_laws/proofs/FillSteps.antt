@@ -18,7 +18,9 @@ use Rattle.lock_words.specs.LockWords.{put_word}
 use Rattle.step_core.specs.declared.steps.WordStep.{WordStep}
 use Rattle.step_core.specs.declared.steps.WordStep.TheVariants as step
 use Rattle.step_core.specs.Words.{after_step}
-use Rattle.step_core.specs.Items.{Table, Taken, Stepped, Swapped, Missed}
+use Rattle.step_core.specs.Items.{Table}
+use Rattle.step_core.specs.declared.items.Taken.{Taken}
+use Rattle.step_core.specs.declared.items.Taken.TheVariants.{Stepped, Swapped, Missed}
 use Rattle.leaf_engine.specs.declared.events.Event.TheVariants as events
 use Rattle.leaf_engine.specs.declared.events.Stage.TheVariants as stages
 use Rattle.leaf_engine.specs.declared.needs.Need.TheVariants as need
@@ -30,6 +32,7 @@ use Rattle.leaf_engine.specs.Items.{IsChanged, AreChanged}
 use Rattle.leaf_engine.specs.Turns.{Standing, standing, last_reply}
 use Rattle.leaf_engine.specs.OwnLists.{Piece, Unmarked, Marked, Wordless, joined, marked_behind, WordLp, after_turn, OwnTurns}
 use Rattle.leaf_engine.proofs.Changing.{word_put}
+use Rattle.merge_laws.specs.Merge.{taken_after}
 use Rattle.merge_laws.proofs.Stores.{Due, due, last_at, later, or_else, laid-none, laid-same, last-append, each-append, FillsAt, all_stores}
 use Rattle.merge_laws.proofs.Swaps.{last_put}
 use Rattle.merge_laws.proofs.Owing.{owed-items}
@@ -40,7 +43,7 @@ use Rattle.merge_laws.proofs.Standing.{Laws, leaf_for, Fill, Position, seen_by, 
 use Rattle.merge_laws.proofs.Own.{at-other, whole, apart-from, none-due}
 use Rattle.merge_laws.proofs.Ending.{AtEnd, filled_of, first_of, owes_of, puts_of, swaps_left, HasFilled, fills-rest}
 use Rattle.merge_laws.proofs.QuietSteps.{rearranged, store-step}
-use Rattle.merge_laws.proofs.Pieces.{taken_after, Came, came-as, answers-as, PieceAnswers}
+use Rattle.merge_laws.proofs.Pieces.{Came, came-as, answers-as, PieceAnswers}
 use Rattle.merge_laws.proofs.LockPieces.{AtTurn}
 use Rattle.merge_laws.proofs.EndPieces.{EndMay, end-may, end-moved, rest-owed, act-item, act-rest, slot-seen, hand-as, act-table}
 use Rattle.merge_laws.proofs.Turns.{told-tree}

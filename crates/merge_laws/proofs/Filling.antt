@@ -12,7 +12,8 @@ use Rattle.word_rules.specs.Rules.{Whole}
 use Rattle.word_rules.specs.Permissions.{Reads, Fills}
 use Rattle.lock_words.specs.LockWords.{put_word}
 use Rattle.step_core.specs.declared.steps.WordStep.TheVariants as step
-use Rattle.step_core.specs.Items.{Taken, Stepped, Swapped, Missed}
+use Rattle.step_core.specs.declared.items.Taken.{Taken}
+use Rattle.step_core.specs.declared.items.Taken.TheVariants.{Stepped, Swapped, Missed}
 use Rattle.step_core.specs.Pages.{clearing, copying}
 use Rattle.leaf_engine.specs.Changes.{Memory, Change, Put, PutHash, Raise, Clear, Copy, Swap, changed, is_plain}
 use Rattle.leaf_engine.specs.declared.needs.Write.{Write}

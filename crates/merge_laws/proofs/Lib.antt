@@ -19,5 +19,6 @@ pub mod EndPieces
 pub mod Turns
 pub mod FillSteps
 pub mod Verdicts
+pub mod Misses
 pub mod Merged
 pub mod Runs

@@ -20,7 +20,8 @@ use Rattle.word_rules.specs.Permissions.{Reads, Owes, Fills, Tries, Respects}
 use Rattle.step_core.specs.declared.steps.WordStep.{WordStep}
 use Rattle.step_core.specs.declared.steps.WordStep.TheVariants as step
 use Rattle.step_core.specs.Words.{Words, after_step, address_of, answer_of}
-use Rattle.step_core.specs.Items.{Table, Stepped}
+use Rattle.step_core.specs.Items.{Table}
+use Rattle.step_core.specs.declared.items.Taken.TheVariants.{Stepped}
 use Rattle.leaf_engine.specs.declared.events.RunTurn.{RunTurn}
 use Rattle.leaf_engine.specs.Changes.{Memory}
 use Rattle.leaf_engine.specs.Trees.{Tree}

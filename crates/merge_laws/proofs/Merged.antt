@@ -1,6 +1,6 @@
 -- A merge, gone through piece by piece.
-use Rattle.std.proofs.Common.{◌≡◌, ◌⊎◌, ℕ, ◌+◌, ◌-◌, ◌^◌, ◌<◌, ◌≤◌, Bool, true, false, ◌==◌, if◌then◌else◌, List, [], ◌∷◌, ◌++◌, map, length, Option, Some, None, refl, ap, sym, ◌∙◌, subst, inl, inr}
-use Rattle.std.proofs.lemmas.Bool.{eq-eqb, eqb-true, cases_lt}
+use Rattle.std.proofs.Common.{◌≡◌, ◌≢◌, ◌⊎◌, ℕ, ◌+◌, ◌-◌, ◌^◌, ◌<◌, ◌≤◌, Bool, true, false, ◌==◌, if◌then◌else◌, List, [], ◌∷◌, ◌++◌, map, length, Option, Some, None, refl, ap, sym, ◌∙◌, subst, inl, inr}
+use Rattle.std.proofs.lemmas.Bool.{eq-eqb, eqb-true, ne_eqb, cases_lt}
 use Rattle.td_words.specs.declared.calls.Call.{Call}
 use Rattle.td_words.specs.Place.{address}
 use Rattle.flat_core.specs.World.{put}
@@ -17,7 +17,9 @@ use Rattle.lock_words.specs.LockWords.{LocksStand}
 use Rattle.mrtd_measure.specs.declared.measures.Measure.{Measure}
 use Rattle.step_core.specs.declared.steps.WordStep.TheVariants as step
 use Rattle.step_core.specs.Locks.{weight_of}
-use Rattle.step_core.specs.Items.{Table, Taken, Stepped, Swapped, Missed, PlaysTo}
+use Rattle.step_core.specs.Items.{Table, PlaysTo}
+use Rattle.step_core.specs.declared.items.Taken.{Taken}
+use Rattle.step_core.specs.declared.items.Taken.TheVariants.{Stepped, Swapped, Missed}
 use Rattle.leaf_engine.specs.declared.events.Event.{Event as RunEvent}
 use Rattle.leaf_engine.specs.declared.events.Stage.{Stage}
 use Rattle.leaf_engine.specs.declared.events.Stage.TheVariants as stages
@@ -29,17 +31,19 @@ use Rattle.leaf_engine.specs.Decides.{Wants, IsHand}
 use Rattle.leaf_engine.specs.Turns.{Standing, Comes as TurnComes, TurnBy, TakesBack, GivesBack, has_ended, last_reply}
 use Rattle.leaf_engine.specs.OwnLists.{Piece, Unmarked, Marked, Wordless, joined, last_marked, pieces_for, behind, GoesIn, TurnIn, WordLp, running, after_turn, LinesTurn, OwnTurns}
 use Rattle.leaf_engine.specs.Merges.{Item, part, steps_taken, order, event_before}
+use Rattle.merge_laws.specs.Merge.{IsUnderWay, MergePlays, table_after}
 use Rattle.merge_laws.proofs.Owing.{Owed, Stores, Swaps, stores_in, swaps_in, FirstSwaps, FirstMisses, AreOwed}
 use Rattle.merge_laws.proofs.Holding.{bare}
 use Rattle.merge_laws.proofs.Standing.{Laws, leaf_for, AreTrees, Known, RunsAt, Fill, Position, Pending, HasInHand, Rest, RestFilling, RestBy, RestOf, on_table, Holds, Stands}
 use Rattle.merge_laws.proofs.Own.{at-other}
 use Rattle.merge_laws.proofs.Swaps.{SwapDue, SwapsMay}
 use Rattle.merge_laws.proofs.QuietSteps.{owed-step, swap-step}
-use Rattle.merge_laws.proofs.Pieces.{state_after, table_after, PieceAnswers, plays-piece, Came, came-as, answers-as, line-runs}
+use Rattle.merge_laws.proofs.Pieces.{state_after, PieceAnswers, SwapsOn, fits-answers, plays-piece, Came, came-as, answers-as, line-runs}
 use Rattle.merge_laws.proofs.LockPieces.{AtTurn, undo-piece, free-piece}
 use Rattle.merge_laws.proofs.Turns.{Heads, lock-turn}
 use Rattle.merge_laws.proofs.FillSteps.{fill-piece}
 use Rattle.merge_laws.proofs.Verdicts.{verdict-turn}
+use Rattle.merge_laws.proofs.Misses.{may-swap, two-never}
 
 -- the next piece of a turn
 turn-piece : (ls : Laws) (o : Opening) (trees : ℕ → Call → Tree) (s : State) (mem : Memory) (t : Table) (pos : ℕ → Position) (p : ℕ) (c : Call) (cs : List Call) (run run' : Standing) (e : RunEvent) (tp : List Piece) (tps : List (List Piece)) (end_ : WordLp)
@@ -266,28 +270,55 @@ part-other i is k e = ap (λ (b : Bool). if b then i.piece ∷ part k is else pa
     by false f = f
     by true f = (let t : (k == i.lp) ≡ true = eq-eqb k i.lp (sym (eqb-true i.lp k f)) in cc)
 
+-- a merge is gone through, piece by piece: its items play, since no swap misses
 pub through : (ls : Laws) (o : Opening) (trees : ℕ → Call → Tree) (is : List Item) (s : State) (mem : Memory) (t u : Table) (pos : ℕ → Position) (ends : ℕ → WordLp) → length o.calls ≤ 8 → AreTrees o trees → Known o s → Stands o trees s mem t pos
-    → ((p : ℕ) → p < length o.calls → RestOf o trees p (pos p) (part p is) (ends p)) → ((p : ℕ) → length o.calls ≤ p → part p is ≡ []) → PlaysTo t (steps_taken is) u
-    → Through o trees (play o (order is) s) u ends
+    → ((p : ℕ) → p < length o.calls → RestOf o trees p (pos p) (part p is) (ends p)) → ((p : ℕ) → length o.calls ≤ p → part p is ≡ []) → MergePlays t is u
+    → PlaysTo t (steps_taken is) u × Through o trees (play o (order is) s) u ends
 through ls o trees [] s mem t u pos ends most are known sd rests others plays =
-    record { known = known; memory = mem; table = t; pos = pos; stands = sd; words = plays.0; slots = plays.1; rest = rests }
+    (plays, record { known = known; memory = mem; table = t; pos = pos; stands = sd; words = plays.0; slots = plays.1; rest = rests })
 through ls o trees (i ∷ is) s mem t u pos ends most are known sd rests others plays =
     by (cases_lt i.lp (length o.calls)) (λ s' mem' t' pos' k d r x y. through ls o trees is s' mem' t' u pos' ends most are k d r x y)
   where
     by : (i.lp < length o.calls) ⊎ (length o.calls ≤ i.lp)
         → ((s' : State) (mem' : Memory) (t' : Table) (pos' : ℕ → Position) → Known o s' → Stands o trees s' mem' t' pos' → ((p : ℕ) → p < length o.calls → RestOf o trees p (pos' p) (part p is) (ends p)) → ((p : ℕ) → length o.calls ≤ p → part p is ≡ [])
-        → PlaysTo t' (steps_taken is) u → Through o trees (play o (order is) s') u ends)
-        → Through o trees (play o (order (i ∷ is)) s) u ends
+        → MergePlays t' is u → PlaysTo t' (steps_taken is) u × Through o trees (play o (order is) s') u ends)
+        → PlaysTo t (steps_taken (i ∷ is)) u × Through o trees (play o (order (i ∷ is)) s) u ends
     by (inr out) further = (let none : i.piece ∷ part i.lp is ≡ [] = sym (part-own i is) ∙ others i.lp out in cc)
     by (inl inside) further =
         let p = i.lp in
-        let played = plays-piece t u i.piece (steps_taken is) plays in
-        let came = next-piece ls o trees s mem t pos p (ends p) i.piece (part p is) are known sd inside played.0 (subst (λ (z : List Piece). RestOf o trees p (pos p) z (ends p)) (part-own i is) (rests p inside)) in
-        subst (λ (z : State). Through o trees z u ends) (sym (order-plays o i.piece p (order is) s))
-        (further (state_after o s p i.piece) came.memory (table_after t i.piece) (put pos p came.now) (known-after ls o s p i.piece most known) came.stands
+        let mine = subst (λ (z : List Piece). RestOf o trees p (pos p) z (ends p)) (part-own i is) (rests p inside) in
+        let answers = fits-answers is t p i.piece (λ k sw way. never k sw way mine (cases_lt way.lp (length o.calls))) plays.0 in
+        let came = next-piece ls o trees s mem t pos p (ends p) i.piece (part p is) are known sd inside answers mine in
+        let left =
+        further (state_after o s p i.piece) came.memory (table_after t i.piece) (put pos p came.now) (known-after ls o s p i.piece most known) came.stands
         (λ k j. rest k j came (k == p) refl)
-        (λ k out. no-part k out (k == p) refl) played.1)
+        (λ k out. no-part k out (k == p) refl) plays.1 in (
+          plays-piece t u i.piece (steps_taken is) answers left.0,
+          subst (λ (z : State). Through o trees z u ends) (sym (order-plays o i.piece p (order is) s)) left.1,
+        )
       where
+        theirs : (q : ℕ) → q ≢ i.lp → part q (i ∷ is) ≡ part q is
+        theirs q ne = part-other i is q (ne_eqb q i.lp ne)
+
+        -- no other processor has a swap on this slot under way
+        never : (k : ℕ) → SwapsOn k i.piece → (way : IsUnderWay is i.lp k) → RestOf o trees i.lp (pos i.lp) (i.piece ∷ part i.lp is) (ends i.lp) → (way.lp < length o.calls) ⊎ (length o.calls ≤ way.lp) → ⊥
+        never k sw way mine (inr out) = none way.swaps.is
+          where
+            none : (part way.lp is ≡ Unmarked (Swapped k way.swaps.put way.swaps.taken) ∷ way.swaps.further) ⊎ (part way.lp is ≡ Marked (Swapped k way.swaps.put way.swaps.taken) ∷ way.swaps.further) → ⊥
+            none (inl e) = (let no = sym e ∙ (sym (theirs way.lp way.other) ∙ others way.lp out) in cc)
+            none (inr e) = (let no = sym e ∙ (sym (theirs way.lp way.other) ∙ others way.lp out) in cc)
+        never k sw way mine (inl lt) = two way.swaps.is
+          where
+            both : (x : Piece) → SwapsOn k x → part way.lp is ≡ x ∷ way.swaps.further → ⊥
+            both x on e =
+                two-never ls o trees s mem t pos i.lp way.lp k known sd inside lt way.other (may-swap ls o trees s mem t pos i.lp (ends i.lp) i.piece (part i.lp is) are known sd inside k sw mine)
+                (may-swap ls o trees s mem t pos way.lp (ends way.lp) x way.swaps.further are known sd lt k on
+                (subst (λ (z : List Piece). RestOf o trees way.lp (pos way.lp) z (ends way.lp)) (theirs way.lp way.other ∙ e) (rests way.lp lt)))
+
+            two : (part way.lp is ≡ Unmarked (Swapped k way.swaps.put way.swaps.taken) ∷ way.swaps.further) ⊎ (part way.lp is ≡ Marked (Swapped k way.swaps.put way.swaps.taken) ∷ way.swaps.further) → ⊥
+            two (inl e) = both (Unmarked (Swapped k way.swaps.put way.swaps.taken)) refl e
+            two (inr e) = both (Marked (Swapped k way.swaps.put way.swaps.taken)) refl e
+
         rest : (k : ℕ) → k < length o.calls → (came : Came o trees i.lp s t pos i.piece (part i.lp is) (ends i.lp)) → (b : Bool) → (k == i.lp) ≡ b → RestOf o trees k (put pos i.lp came.now k) (part k is) (ends k)
         rest k j came true e =
             let q : i.lp ≡ k = sym (eqb-true k i.lp e) in

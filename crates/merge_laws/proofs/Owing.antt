@@ -9,7 +9,8 @@ use Rattle.flat_core.specs.World.{World}
 use Rattle.word_rules.specs.Guards.{Grip}
 use Rattle.step_core.specs.declared.steps.WordStep.{WordStep}
 use Rattle.step_core.specs.declared.steps.WordStep.TheVariants as step
-use Rattle.step_core.specs.Items.{Taken, Stepped, Swapped, Missed}
+use Rattle.step_core.specs.declared.items.Taken.{Taken}
+use Rattle.step_core.specs.declared.items.Taken.TheVariants.{Stepped, Swapped, Missed}
 use Rattle.leaf_engine.specs.Changes.{Hand, Memory, Change, Put, PutHash, Raise, Clear, Copy, Swap, changed}
 use Rattle.leaf_engine.specs.Means.{MayOwe, MayOweAll}
 use Rattle.leaf_engine.specs.declared.needs.Write.{Write}

@@ -7,30 +7,23 @@ use Rattle.flat_core.specs.Processor.{Lp}
 use Rattle.flat_core.specs.Opening.{Opening}
 use Rattle.flat_core.specs.Table.{row_of}
 use Rattle.flat_core.specs.Event.{State, event}
-use Rattle.step_core.specs.Words.{after_step, answer_of}
-use Rattle.step_core.specs.Items.{Table, Taken, Stepped, Swapped, Missed, PlaysTo, with_slot}
+use Rattle.step_core.specs.Words.{answer_of}
+use Rattle.step_core.specs.Items.{Table, PlaysTo}
+use Rattle.step_core.specs.declared.items.Taken.{Taken}
+use Rattle.step_core.specs.declared.items.Taken.TheVariants.{Stepped, Swapped, Missed}
 use Rattle.leaf_engine.specs.Changes.{Memory}
 use Rattle.leaf_engine.specs.Trees.{Tree}
 use Rattle.leaf_engine.specs.Turns.{Standing}
 use Rattle.leaf_engine.specs.OwnLists.{Piece, Unmarked, Marked, Wordless, behind, WordLp, running}
-use Rattle.leaf_engine.specs.Merges.{step_before}
+use Rattle.leaf_engine.specs.Merges.{Item, step_before}
 use Rattle.leaf_engine.proofs.Beginning.{calls-begin}
+use Rattle.merge_laws.specs.Merge.{IsUnderWay, PieceFits, table_after}
 use Rattle.merge_laws.proofs.Standing.{leaf_for, RunsAt, RunAt, StandsAt, Position, RestOf, Stands}
 
 abbrev pub state_after : Opening → State → ℕ → Piece → State
 state_after o s p (Unmarked x) = s
 state_after o s p (Marked x) = event o s p
 state_after o s p Wordless = event o s p
-
-abbrev pub taken_after : Table → Taken → Table
-taken_after t (Stepped s a) = record t { words = after_step t.words s }
-taken_after t (Swapped k put taken) = record t { slots = with_slot t.slots k put }
-taken_after t (Missed k) = t
-
-abbrev pub table_after : Table → Piece → Table
-table_after t (Unmarked x) = taken_after t x
-table_after t (Marked x) = taken_after t x
-table_after t Wordless = t
 
 abbrev pub Answers : Table → Taken → Type 0
 Answers t (Stepped s a) = a ≡ answer_of t.words s
@@ -42,15 +35,33 @@ PieceAnswers t (Unmarked x) = Answers t x
 PieceAnswers t (Marked x) = Answers t x
 PieceAnswers t Wordless = Unit {0}
 
+-- it is a swap on that slot, which was made or missed
+abbrev pub SwapsOn : ℕ → Piece → Type 0
+SwapsOn k (Unmarked (Swapped j put taken)) = j ≡ k
+SwapsOn k (Unmarked (Missed j)) = j ≡ k
+SwapsOn k (Marked (Swapped j put taken)) = j ≡ k
+SwapsOn k (Marked (Missed j)) = j ≡ k
+SwapsOn k _ = ⊥
+
+-- it didn't miss, where no other swap is under way
+pub fits-answers : (is : List Item) (t : Table) (p : ℕ) (piece : Piece) → ((k : ℕ) → SwapsOn k piece → IsUnderWay is p k → ⊥) → PieceFits is t p piece → PieceAnswers t piece
+fits-answers is t p (Unmarked (Stepped s a)) never f = f
+fits-answers is t p (Unmarked (Swapped k put taken)) never f = f
+fits-answers is t p (Unmarked (Missed k)) never f = never k refl f
+fits-answers is t p (Marked (Stepped s a)) never f = f
+fits-answers is t p (Marked (Swapped k put taken)) never f = f
+fits-answers is t p (Marked (Missed k)) never f = never k refl f
+fits-answers is t p Wordless never f = tt
+
 -- a piece is played, and then the others
-pub plays-piece : (t u : Table) (piece : Piece) (xs : List Taken) → PlaysTo t (step_before piece xs) u → PieceAnswers t piece × PlaysTo (table_after t piece) xs u
-plays-piece t u (Unmarked (Stepped s a)) xs p = (p.0, p.1)
-plays-piece t u (Unmarked (Swapped k put taken)) xs p = (p.0, p.1)
-plays-piece t u (Unmarked (Missed k)) xs p = absurd p
-plays-piece t u (Marked (Stepped s a)) xs p = (p.0, p.1)
-plays-piece t u (Marked (Swapped k put taken)) xs p = (p.0, p.1)
-plays-piece t u (Marked (Missed k)) xs p = absurd p
-plays-piece t u Wordless xs p = (tt, p)
+pub plays-piece : (t u : Table) (piece : Piece) (xs : List Taken) → PieceAnswers t piece → PlaysTo (table_after t piece) xs u → PlaysTo t (step_before piece xs) u
+plays-piece t u (Unmarked (Stepped s a)) xs f p = (f, p)
+plays-piece t u (Unmarked (Swapped k put taken)) xs f p = (f, p)
+plays-piece t u (Unmarked (Missed k)) xs f p = absurd f
+plays-piece t u (Marked (Stepped s a)) xs f p = (f, p)
+plays-piece t u (Marked (Swapped k put taken)) xs f p = (f, p)
+plays-piece t u (Marked (Missed k)) xs f p = absurd f
+plays-piece t u Wordless xs f p = p
 
 -- what came of it
 pub record Came (o : Opening) (trees : ℕ → Call → Tree) (p : ℕ) (s : State) (t : Table) (pos : ℕ → Position) (piece : Piece) (ps : List Piece) (end_ : WordLp) : Type 0 where

@@ -1,4 +1,4 @@
--- Every merge is a run of the flat machine.
+-- A merge is a run of the flat machine, and none of its swaps misses.
 use Rattle.std.proofs.Common.{◌≡◌, ◌⊎◌, ℕ, zero, suc, ◌-◌, ◌<◌, ◌≤◌, List, [], ◌∷◌, ◌++◌, map, length, drop, Option, Some, None, refl, ap, sym, ◌∙◌, subst, inl, inr, arith}
 use Rattle.std.proofs.lemmas.Bool.{cases_lt}
 use Rattle.td_words.specs.declared.calls.Call.{Call}
@@ -9,7 +9,8 @@ use Rattle.flat_core.specs.Event.{State, start, event, next_event, after_event, 
 use Rattle.flat_core.specs.Run.{play, run, to_the_end}
 use Rattle.flat_core.proofs.Induction.{play_append}
 use Rattle.step_core.specs.Words.{Words}
-use Rattle.step_core.specs.Items.{Table, Taken}
+use Rattle.step_core.specs.Items.{Table, PlaysTo}
+use Rattle.step_core.specs.declared.items.Taken.{Taken}
 use Rattle.leaf_engine.specs.declared.events.Event.{Event as RunEvent}
 use Rattle.leaf_engine.specs.Trees.{Tree}
 use Rattle.leaf_engine.specs.Means.{Task, MeansRow}
@@ -18,7 +19,8 @@ use Rattle.leaf_engine.specs.Decides.{IsHand}
 use Rattle.leaf_engine.specs.Turns.{Standing}
 use Rattle.leaf_engine.specs.Calls.{no_memory}
 use Rattle.leaf_engine.specs.OwnLists.{Piece, Unmarked, joined, marked_behind, running, WordLp, first_lp, LinesTurn, OwnTurns}
-use Rattle.leaf_engine.specs.Merges.{Item, part, order, no_table, AreLeaves, Merge}
+use Rattle.leaf_engine.specs.Merges.{Item, part, steps_taken, order, no_table, AreLeaves}
+use Rattle.merge_laws.specs.Merge.{Merge}
 use Rattle.merge_laws.specs.Laws.{IsShownBy, IsWhere, MergesAreRuns}
 use Rattle.merge_laws.proofs.Stores.{Due, over-none, laid-none}
 use Rattle.merge_laws.proofs.Swaps.{SwapDue, last_put}
@@ -125,16 +127,17 @@ ends-so ls o trees s u ends th =
     )
 
 merges : (ls : Laws) (o : Opening) (leaf : ℕ → Call → Task) (is : List Item) (now : ℕ → WordLp) (u : Table) → length o.calls ≤ 8 → AreLeaves o leaf → Merge o leaf is now u
-    → let s = play o (order is) (start o None) in IsShownBy o.machine u s × IsWhere o now s
+    → let s = play o (order is) (start o None) in PlaysTo no_table (steps_taken is) u × (IsShownBy o.machine u s × IsWhere o now s)
 unfolding first_position
 merges ls o leaf is now u most are merge =
     let trees = trees_of leaf in
     let known : Known o (start o None) = known-of ls o [] (start o None) most refl refl refl in
     let own : (p : ℕ) → p < length o.calls → OwnTurns (leaf_for o trees p) o.machine (first_lp (calls_of o.calls p)) (merge.own p) (now p) =
     λ p i. subst (λ (f : ℕ → Call → Task). OwnTurns (f p) o.machine (first_lp (calls_of o.calls p)) (merge.own p) (now p)) (leaves-are o leaf are) (merge.turns p i) in
-    ends-so ls o trees (play o (order is) (start o None)) u now
-    (through ls o trees is (start o None) no_memory no_table u (first_position o) now most (trees-are o leaf are) known (starts ls o trees)
-    (λ p i. rest-first p (part p is) (merge.own p) (merge.merge.each p i) (own p i)) merge.merge.nothing_else merge.plays)
+    let went =
+    through ls o trees is (start o None) no_memory no_table u (first_position o) now most (trees-are o leaf are) known (starts ls o trees)
+    (λ p i. rest-first p (part p is) (merge.own p) (merge.merge.each p i) (own p i)) merge.merge.nothing_else merge.plays in
+    (went.0, ends-so ls o trees (play o (order is) (start o None)) u now went.1)
   where
     rest-first : (p : ℕ) (ps : List Piece) (tps : List (List Piece)) → ps ≡ joined tps → OwnTurns (leaf_for o (trees_of leaf) p) o.machine (first_lp (calls_of o.calls p)) tps (now p) → RestOf o (trees_of leaf) p (first_position o p) ps (now p)
     rest-first p ps tps e own = record {
@@ -175,9 +178,10 @@ no-event o s p e = ap (λ (cs : List Call). event_for o s.world p (s.lps p) cs) 
 
 pub merges-are-runs : Laws → MergesAreRuns
 merges-are-runs ls = record {
-  turns = merges ls;
+  none_misses = λ o leaf is now u most are merge. (merges ls o leaf is now u most are merge).0;
+  turns = λ o leaf is now u most are merge. (merges ls o leaf is now u most are merge).1;
   ended = λ o leaf is now u most are merge over.
-      let got = merges ls o leaf is now u most are merge in
+      let got = (merges ls o leaf is now u most are merge).1 in
       let s : State = play o (order is) (start o None) in
       let none : (p : ℕ) → next_event o s p ≡ None = λ p. by o now s got.1 over p (cases_lt p (length o.calls)) in
       let same : run o (order is) ≡ s = play_append o (order is) (to_the_end 0 o.calls) (start o None) ∙ stays o (to_the_end 0 o.calls) s none in

@@ -24,7 +24,8 @@ use Rattle.lock_words.specs.Grips.{IsExclusive, GripsAreApart, TdrsAreHeld}
 use Rattle.lock_words.specs.LockWords.{LocksStand, LockWordsFollow, LockStepsShown, RunsFollow, TdLocksStay}
 use Rattle.lock_words.specs.Reached.{EveryTdrIsHeld, EveryLockStands}
 use Rattle.act_rules.specs.Stores.{OthersStoresKeepReads}
-use Rattle.step_core.specs.Items.{Table, Taken}
+use Rattle.step_core.specs.Items.{Table}
+use Rattle.step_core.specs.declared.items.Taken.{Taken}
 use Rattle.step_core.specs.Laws.{PagesChangeAlone}
 use Rattle.leaf_engine.specs.Changes.{Memory}
 use Rattle.leaf_engine.specs.Trees.{Tree, End}

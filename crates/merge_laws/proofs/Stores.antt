@@ -13,7 +13,8 @@ use Rattle.word_rules.specs.Views.{look, IsKept}
 use Rattle.word_rules.specs.Permissions.{Owes, Fills}
 use Rattle.lock_words.specs.LockWords.{put_word}
 use Rattle.step_core.specs.declared.steps.WordStep.TheVariants as step
-use Rattle.step_core.specs.Items.{Taken, Stepped, Swapped, Missed}
+use Rattle.step_core.specs.declared.items.Taken.{Taken}
+use Rattle.step_core.specs.declared.items.Taken.TheVariants.{Stepped, Swapped, Missed}
 use Rattle.step_core.specs.Pages.{clearing}
 use Rattle.leaf_engine.specs.Changes.{Memory, Change, Put, PutHash, Raise, Clear, Copy, Swap, put_page, changed, changed_all}
 use Rattle.leaf_engine.specs.Means.{MayFillAll, MayOweAll}

@@ -12,7 +12,9 @@ use Rattle.flat_core.proofs.Tests.{put_here}
 use Rattle.word_rules.specs.Views.{look}
 use Rattle.step_core.specs.declared.steps.WordStep.{WordStep}
 use Rattle.step_core.specs.declared.steps.WordStep.TheVariants as step
-use Rattle.step_core.specs.Items.{Table, Taken, Stepped, Swapped, Missed}
+use Rattle.step_core.specs.Items.{Table}
+use Rattle.step_core.specs.declared.items.Taken.{Taken}
+use Rattle.step_core.specs.declared.items.Taken.TheVariants.{Stepped, Swapped, Missed}
 use Rattle.leaf_engine.specs.declared.events.Event.{Event as RunEvent}
 use Rattle.leaf_engine.specs.declared.events.Stage.{Stage}
 use Rattle.leaf_engine.specs.declared.events.Stage.TheVariants as stages
@@ -148,7 +150,7 @@ goes-on n (Test b r t) at x i h = absurd i
 goes-on n (End r fs cs) at x i h = absurd i
 goes-on n (Since r cs) at x i h = absurd i
 
-last-behind : (x : Taken) (ys : List Taken) (z : Taken) → last_marked (x ∷ (ys ++ z ∷ [])) ≡ Unmarked x ∷ last_marked (ys ++ z ∷ [])
+pub last-behind : (x : Taken) (ys : List Taken) (z : Taken) → last_marked (x ∷ (ys ++ z ∷ [])) ≡ Unmarked x ∷ last_marked (ys ++ z ∷ [])
 last-behind x [] z = refl
 last-behind x (y ∷ ys) z = refl
 

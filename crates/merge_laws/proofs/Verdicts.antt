@@ -10,7 +10,9 @@ use Rattle.flat_core.specs.Table.{row_of}
 use Rattle.flat_core.specs.Event.{State}
 use Rattle.step_core.specs.declared.steps.WordStep.{WordStep}
 use Rattle.step_core.specs.declared.steps.WordStep.TheVariants as step
-use Rattle.step_core.specs.Items.{Table, Taken, Stepped, Swapped, Missed}
+use Rattle.step_core.specs.Items.{Table}
+use Rattle.step_core.specs.declared.items.Taken.{Taken}
+use Rattle.step_core.specs.declared.items.Taken.TheVariants.{Stepped, Swapped, Missed}
 use Rattle.leaf_engine.specs.declared.events.Event.{Event as RunEvent}
 use Rattle.leaf_engine.specs.declared.events.Event.TheVariants as events
 use Rattle.leaf_engine.specs.declared.events.RunTurn.{RunTurn}
@@ -24,6 +26,7 @@ use Rattle.leaf_engine.specs.Turns.{Standing, standing, Replies, last_reply}
 use Rattle.leaf_engine.specs.OwnLists.{Piece, Unmarked, Marked, Wordless, joined, marked_behind, act_pieces, behind, items_in, GoesIn, WordLp, after_turn, OwnTurns}
 use Rattle.leaf_engine.proofs.Decided.{feed-append, settled}
 use Rattle.leaf_engine.proofs.Loading.{LooksRight, current-load, granted-load}
+use Rattle.merge_laws.specs.Merge.{taken_after}
 use Rattle.merge_laws.proofs.Stores.{Due, last_at, or_else}
 use Rattle.merge_laws.proofs.Swaps.{last_put}
 use Rattle.merge_laws.proofs.Owing.{owed-items}
@@ -34,7 +37,7 @@ use Rattle.merge_laws.proofs.Filling.{all_todos, two-parts, fills-items, fills-t
 use Rattle.merge_laws.proofs.FillSteps.{fill-piece}
 use Rattle.leaf_engine.specs.Means.{MayFillAll, IsHkid}
 use Rattle.merge_laws.proofs.QuietSteps.{loads-right, loaded}
-use Rattle.merge_laws.proofs.Pieces.{taken_after, Came, came-as, answers-as, PieceAnswers, behind-append}
+use Rattle.merge_laws.proofs.Pieces.{Came, came-as, answers-as, PieceAnswers, behind-append}
 use Rattle.merge_laws.proofs.LockPieces.{AtTurn}
 use Rattle.merge_laws.proofs.EndPieces.{EndMay, end-may, end-moved, rest-owed, act-item, act-rest, slot-seen, hand-as, act-table}
 use Rattle.merge_laws.proofs.Turns.{told-tree, load-piece, IsDone, done-settled, done-loads, goes-on, Heads}
@@ -49,7 +52,7 @@ the-result : RunEvent → Standing → RunTurn
 the-result e run' = record { event = e; reply = last_reply run'.stage run'.held }
 
 -- what was told, at the end
-at-end : (o : Opening) (trees : ℕ → Call → Tree) (s : State) (mem : Memory) (t : Table) (pos : ℕ → Position) (p : ℕ) (c : Call) (cs : List Call) (run run' : Standing) (e : RunEvent) (end_ : Tree) (changes : List Taken) (reply : Reply)
+pub at-end : (o : Opening) (trees : ℕ → Call → Tree) (s : State) (mem : Memory) (t : Table) (pos : ℕ → Position) (p : ℕ) (c : Call) (cs : List Call) (run run' : Standing) (e : RunEvent) (end_ : Tree) (changes : List Taken) (reply : Reply)
     → (a : AtTurn o trees s mem t pos p c cs run) → (st : run.stage ≡ stages.Trying) → (en : Ended o.machine run run' end_ changes reply) → feed (trees p c) (a.runs.call.told st).told ≡ end_ → Wants o.machine.pages end_ (need.Verdict reply)
     → AtEnd o trees s mem p c (a.runs.call.told st).told (a.runs.call.told st).told reply run run' (record { event = e; reply = last_reply run'.stage run'.held })
 at-end o trees s mem t pos p c cs run run' e end_ changes reply a st en is g = record {
@@ -80,11 +83,11 @@ at-end-load ls o trees s mem t pos p c cs run run' e end_ changes reply at x a o
     }
 
 -- items without a change
-none-changed : (m : Machine) (run run' : Standing) (end_ : Tree) (changes : List Taken) (reply : Reply) → (en : Ended m run run' end_ changes reply) → changes_of end_ ≡ [] → (en.hasher ≡ run.hasher) × (changes ≡ [])
+pub none-changed : (m : Machine) (run run' : Standing) (end_ : Tree) (changes : List Taken) (reply : Reply) → (en : Ended m run run' end_ changes reply) → changes_of end_ ≡ [] → (en.hasher ≡ run.hasher) × (changes ≡ [])
 none-changed m run run' end_ changes reply en e = subst (λ (cs : List Change). AreChanged m cs run.hasher changes en.hasher) e en.changed
 
 -- no hasher is in hand on the way
-hand-now : (o : Opening) (trees : ℕ → Call → Tree) (s : State) (mem : Memory) (t : Table) (pos : ℕ → Position) (p : ℕ) (c : Call) (cs : List Call) (run : Standing) → AtTurn o trees s mem t pos p c cs run → run.stage ≡ stages.Trying → IsHand run.hasher mem.hand
+pub hand-now : (o : Opening) (trees : ℕ → Call → Tree) (s : State) (mem : Memory) (t : Table) (pos : ℕ → Position) (p : ℕ) (c : Call) (cs : List Call) (run : Standing) → AtTurn o trees s mem t pos p c cs run → run.stage ≡ stages.Trying → IsHand run.hasher mem.hand
 hand-now o trees s mem t pos p c cs run a st = hand-as run.hasher None mem.hand None (a.hand.trying st) a.all.hand tt
 
 hasher-of : (m : Machine) (run run' : Standing) (end_ : Tree) (changes : List Taken) (reply : Reply) → (en : Ended m run run' end_ changes reply) → run'.hasher ≡ en.hasher
@@ -271,14 +274,14 @@ IsEnd (End r fs cs) = Unit {0}
 IsEnd (Since r cs) = Unit {0}
 IsEnd _ = ⊥
 
-given-end : (n : ℕ) (t : Tree) (reply : Reply) → Wants n t (need.Verdict reply) → IsEnd t
+pub given-end : (n : ℕ) (t : Tree) (reply : Reply) → Wants n t (need.Verdict reply) → IsEnd t
 given-end n (Lock l q m t) reply g = cc
 given-end n (Load v q k) reply g = cc
 given-end n (Test b r t) reply g = absurd g
 given-end n (End r fs cs) reply g = tt
 given-end n (Since r cs) reply g = tt
 
-end-passed : (t : Tree) → IsEnd t → passed t ≡ t
+pub end-passed : (t : Tree) → IsEnd t → passed t ≡ t
 end-passed (Lock l q m t) h = absurd h
 end-passed (Load v q k) h = absurd h
 end-passed (Test b r t) h = absurd h

@@ -6,12 +6,13 @@ use Rattle.flat_core.specs.Opening.{Opening}
 use Rattle.flat_core.specs.Event.{State, start, lines_left}
 use Rattle.flat_core.specs.Run.{play, run}
 use Rattle.word_rules.specs.Cells.{Shows}
-use Rattle.step_core.specs.Items.{Table}
+use Rattle.step_core.specs.Items.{Table, PlaysTo}
 use Rattle.leaf_engine.specs.Changes.{Memory}
 use Rattle.leaf_engine.specs.Means.{Task}
 use Rattle.leaf_engine.specs.Tables.{IsMemory}
 use Rattle.leaf_engine.specs.OwnLists.{WordLp}
-use Rattle.leaf_engine.specs.Merges.{Item, order, AreLeaves, Merge}
+use Rattle.leaf_engine.specs.Merges.{Item, steps_taken, order, no_table, AreLeaves}
+use Rattle.merge_laws.specs.Merge.{Merge}
 
 -- the words and slots of a table show a state
 pub record IsShownBy (m : Machine) (u : Table) (s : State) : Type 0 where
@@ -24,10 +25,12 @@ pub record IsWhere (o : Opening) (now : ℕ → WordLp) (s : State) : Type 0 whe
   pub lines : (p : ℕ) → p < length o.calls → lines_left o p (s.lps p) ≡ (now p).lines
   pub replies : (p : ℕ) → p < length o.calls → (s.lps p).replies ≡ (now p).replies
 
--- Every merge is a run of the flat machine: its events, in the order in which they stand in the merge, lead to a state
--- that its words show, and to where its processors are. Where each has come to its last line's end, that is where the
--- whole run ends.
+-- A merge is a run of the flat machine: its events, in the order in which they stand in the merge, lead to a state that
+-- its words show, and to where its processors are. Where each has come to its last line's end, that is where the whole run
+-- ends. No swap misses: the items play as on a table that nobody else uses.
 pub record MergesAreRuns : Type 0 where
+  pub none_misses : (o : Opening) (leaf : ℕ → Call → Task) (is : List Item) (now : ℕ → WordLp) (u : Table) → length o.calls ≤ 8 → AreLeaves o leaf → Merge o leaf is now u
+      → PlaysTo no_table (steps_taken is) u
   pub turns : (o : Opening) (leaf : ℕ → Call → Task) (is : List Item) (now : ℕ → WordLp) (u : Table) → length o.calls ≤ 8 → AreLeaves o leaf → Merge o leaf is now u
       → let s = play o (order is) (start o None) in IsShownBy o.machine u s × IsWhere o now s
   pub ended : (o : Opening) (leaf : ℕ → Call → Task) (is : List Item) (now : ℕ → WordLp) (u : Table) → length o.calls ≤ 8 → AreLeaves o leaf → Merge o leaf is now u

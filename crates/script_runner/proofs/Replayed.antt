@@ -20,16 +20,16 @@ use Rattle.flat_core.specs.HostText.{reply_lines, lines_from, text_of, host_text
 use Rattle.flat_core.proofs.Induction.{counts_stay}
 use Rattle.mrtd_measure.specs.declared.measures.Measure.{Measure}
 use Rattle.step_core.specs.Words.{word_count}
-use Rattle.step_core.specs.Items.{Taken, Table, PlaysTo}
+use Rattle.step_core.specs.Items.{Table, PlaysTo}
 use Rattle.step_core.specs.Plain.{PlainSeen, table_of, start_of}
-use Rattle.step_core.specs.Playing.{PlaysTo-append}
 use Rattle.leaf_engine.specs.declared.needs.Place.{Place}
 use Rattle.leaf_engine.specs.declared.events.Event.{Event}
 use Rattle.leaf_engine.specs.declared.processors.Turn.{Turn}
 use Rattle.leaf_engine.specs.declared.processors.Turn.TheVariants as turn
 use Rattle.leaf_engine.specs.Processors.{Turned, has_moved}
 use Rattle.leaf_engine.specs.OwnLists.{Piece, taken_in, WordLp, first_lp, LpTurns}
-use Rattle.leaf_engine.specs.Merges.{Item, Merge, steps_taken, order, no_table}
+use Rattle.leaf_engine.specs.Merges.{Item, order, no_table}
+use Rattle.merge_laws.specs.Merge.{MergePlays, Merge}
 use Rattle.merge_laws.specs.Laws.{IsWhere}
 use Rattle.leaf_dispatch.specs.Table.{task_of, leaf_table}
 use Rattle.leaf_dispatch.specs.States.{seen_of, Moves}
@@ -40,7 +40,7 @@ use Rattle.script_text.specs.Laws.{IsInForm}
 use Rattle.script_runner.specs.Ending.{opening_of}
 use Rattle.script_runner.specs.Replaying.{AreFirst, IsMidway, HaveEnded, TurnsAreEvents, seen_at, lines_seen}
 use Rattle.script_runner.proofs.RunningOut.{one-more-item, idle-item}
-use Rattle.script_runner.proofs.Turning.{made_by, one-event, merge-more, order-more}
+use Rattle.script_runner.proofs.Turning.{made_by, one-event, same-table, merge-more, order-more}
 use Rattle.script_runner.proofs.Places.{seen-at, seen-own, seen-other, place-at, numbered-set, first-count, first-numbered, first-seen, first-more}
 
 -- of a machine that a script may have
@@ -147,9 +147,7 @@ module _ (ls : TurnsAreEvents) (o : Opening) (schedule rest : List ℕ) (lps : L
           own = l.merge.own;
           turns = l.merge.turns;
           merge = l.merge.merge;
-          plays =
-              subst (λ (xs : List Taken). PlaysTo no_table xs (table_of b')) (append-nil (steps_taken l.made))
-              (PlaysTo-append no_table (table_of b) (table_of b') (steps_taken l.made) [] l.merge.plays did);
+          plays = subst (λ (t : Table). MergePlays no_table l.made t) (sym (same-table (table_of b) (table_of b') did.0 did.1)) l.merge.plays;
         };
         same = sym (idle-item o (order l.made) rest p (ended-flat ls o schedule (p ∷ rest) lps b p op l inside none)) ∙ l.same;
       })

@@ -9,7 +9,8 @@ use Rattle.flat_core.specs.Laws.{OthersStay}
 use Rattle.flat_core.specs.HostText.{reply_lines}
 use Rattle.step_core.specs.Plain.{PlainSeen, table_of}
 use Rattle.leaf_engine.specs.OwnLists.{TurnsInPieces, WordLp, first_lp}
-use Rattle.leaf_engine.specs.Merges.{Item, Merge, order}
+use Rattle.leaf_engine.specs.Merges.{Item, order}
+use Rattle.merge_laws.specs.Merge.{Merge}
 use Rattle.merge_laws.specs.Laws.{MergesAreRuns}
 use Rattle.leaf_dispatch.specs.Table.{leaf_table}
 use Rattle.leaf_dispatch.specs.Laws.{CallsHaveLeaves}

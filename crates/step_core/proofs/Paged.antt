@@ -5,7 +5,9 @@ use Rattle.std.proofs.lemmas.Bool.Decides.{nat_tests}
 use Rattle.td_words.specs.Address.{word_at}
 use Rattle.step_core.specs.declared.steps.WordStep.TheVariants.{Store}
 use Rattle.step_core.specs.Words.{Words, with_word, after_step}
-use Rattle.step_core.specs.Items.{Table, Taken, Stepped, Swapped, Missed, PlaysTo, with_slot}
+use Rattle.step_core.specs.Items.{Table, PlaysTo, with_slot}
+use Rattle.step_core.specs.declared.items.Taken.{Taken}
+use Rattle.step_core.specs.declared.items.Taken.TheVariants.{Stepped, Swapped, Missed}
 use Rattle.step_core.specs.Pages.{clearing, copying}
 use Rattle.step_core.specs.Laws.{PagesChangeAlone}
 

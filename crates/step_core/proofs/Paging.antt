@@ -2,7 +2,8 @@
 use Rattle.std.proofs.Common.{◌≡◌, refl, ap, ℕ, ◌+◌, List, [], ◌∷◌, ◌++◌, length, add-one, add-zero, arith}
 use Rattle.td_words.specs.Address.{word_at}
 use Rattle.step_core.specs.declared.steps.WordStep.TheVariants.{Load, Store}
-use Rattle.step_core.specs.Items.{Taken, Stepped}
+use Rattle.step_core.specs.declared.items.Taken.{Taken}
+use Rattle.step_core.specs.declared.items.Taken.TheVariants.{Stepped}
 use Rattle.step_core.specs.Pages.{clearing, copying}
 
 pub clearing_none : (page : ℕ) → clearing page 0 ≡ []

@@ -2,7 +2,9 @@
 use Rattle.step_core.specs.Laws.{StepsMakeWords}
 use Rattle.std.proofs.Common.{◌≡◌, List, [], ◌∷◌}
 use Rattle.step_core.specs.Words.{plays, after_step}
-use Rattle.step_core.specs.Items.{Table, Taken, Stepped, Swapped, Missed, PlaysTo, steps_of, with_slot}
+use Rattle.step_core.specs.Items.{Table, PlaysTo, steps_of, with_slot}
+use Rattle.step_core.specs.declared.items.Taken.{Taken}
+use Rattle.step_core.specs.declared.items.Taken.TheVariants.{Stepped, Swapped, Missed}
 
 pub played_words : (t u : Table) (xs : List Taken) → PlaysTo t xs u → u.words ≡ plays t.words (steps_of xs)
 played_words t u [] p = p.0

@@ -3,13 +3,8 @@ use Rattle.std.specs.Prelude.{◌≡◌, ℕ, ◌==◌, if◌then◌else◌, ◌
 use Rattle.mrtd_measure.specs.declared.measures.Measure.{Measure}
 use Rattle.step_core.specs.Words.{Words, answer_of, after_step}
 use Rattle.step_core.specs.declared.steps.WordStep.{WordStep}
-
--- an item with its answer: a word step; a hasher, or none, that was put into a slot, for what was taken out; a swap
--- that found another one on that slot under way
-pub data Taken : Type 0 where
-  Stepped : (step : WordStep) (answer : ℕ) → Taken
-  Swapped : (slot : ℕ) (put : Option Measure) (taken : Option Measure) → Taken
-  Missed : (slot : ℕ) → Taken
+use Rattle.step_core.specs.declared.items.Taken.{Taken}
+use Rattle.step_core.specs.declared.items.Taken.TheVariants.{Stepped, Swapped, Missed}
 
 -- a machine's words by address, and its hashers by slot
 pub record Table : Type 0 where
@@ -34,6 +29,6 @@ steps_of (Stepped s answer ∷ xs) = s ∷ steps_of xs
 steps_of (Swapped k put taken ∷ xs) = steps_of xs
 steps_of (Missed k ∷ xs) = steps_of xs
 
--- a swap is one item: it was made, or it missed and took nothing
+-- a swap is one item, told where it gives its slot back: it was made, or it missed and took nothing
 abbrev pub SwapDid : {B : Type 0} → (List Taken → B → Type 0) → ℕ → Option Measure → Option Measure → B → Type 0
 SwapDid did k put taken after = did (Swapped k put taken ∷ []) after ⊎ ((taken ≡ None) × did (Missed k ∷ []) after)

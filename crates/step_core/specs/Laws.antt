@@ -2,7 +2,8 @@
 use Rattle.std.specs.Prelude.{◌≡◌, ◌≢◌, ℕ, ◌-◌, ◌^◌, ◌<◌, Bool, ◌&&◌, nat_lt, nat_le, if◌then◌else◌, List, [], ◌∷◌, length}
 use Rattle.td_words.specs.Address.{word_at}
 use Rattle.step_core.specs.Words.{Words, plays}
-use Rattle.step_core.specs.Items.{Table, Taken, PlaysTo, steps_of}
+use Rattle.step_core.specs.Items.{Table, PlaysTo, steps_of}
+use Rattle.step_core.specs.declared.items.Taken.{Taken}
 use Rattle.step_core.specs.Pages.{clearing, copying}
 use Rattle.step_core.specs.declared.steps.WordStep.TheVariants.{Add, Sub, Exchange}
 

@@ -5,7 +5,8 @@ use Rattle.td_words.specs.declared.names.Mode.TheVariants.{Shared, Exclusive}
 use Rattle.step_core.specs.declared.steps.WordStep.{WordStep}
 use Rattle.step_core.specs.declared.locks.Tried.{Tried}
 use Rattle.step_core.specs.declared.locks.Tried.TheVariants.{Granted, Denied}
-use Rattle.step_core.specs.Items.{Taken, Stepped}
+use Rattle.step_core.specs.declared.items.Taken.{Taken}
+use Rattle.step_core.specs.declared.items.Taken.TheVariants.{Stepped}
 
 -- what a holder adds to the lock word
 abbrev pub weight_of : Mode → ℕ

@@ -2,7 +2,8 @@
 use Rattle.std.specs.Prelude.{◌≡◌, ℕ, zero, suc, ◌+◌, List, [], ◌∷◌, ◌++◌, length}
 use Rattle.td_words.specs.Address.{word_at}
 use Rattle.step_core.specs.declared.steps.WordStep.TheVariants.{Load, Store}
-use Rattle.step_core.specs.Items.{Taken, Stepped}
+use Rattle.step_core.specs.declared.items.Taken.{Taken}
+use Rattle.step_core.specs.declared.items.Taken.TheVariants.{Stepped}
 
 -- the stores that clear the first words of a page, in order
 unfoldable pub clearing : ℕ → ℕ → List Taken

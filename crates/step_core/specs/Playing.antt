@@ -2,7 +2,9 @@
 use Rattle.std.specs.Prelude.{◌≡◌, List, [], ◌∷◌, ◌++◌}
 use Rattle.std.proofs.Common.{subst}
 use Rattle.step_core.specs.Words.{after_step}
-use Rattle.step_core.specs.Items.{Table, Taken, Stepped, Swapped, Missed, PlaysTo, with_slot}
+use Rattle.step_core.specs.Items.{Table, PlaysTo, with_slot}
+use Rattle.step_core.specs.declared.items.Taken.{Taken}
+use Rattle.step_core.specs.declared.items.Taken.TheVariants.{Stepped, Swapped, Missed}
 
 same_table : (t u : Table) → u.words ≡ t.words → u.slots ≡ t.slots → u ≡ t
 same_table t u p q = λ i. record { words = p i; slots = q i }

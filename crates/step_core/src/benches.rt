@@ -2,7 +2,9 @@
 
 ghost use Rattle.std.specs.Prelude.{◌≡◌, ◌<◌, List, [], ◌∷◌, ◌++◌};
 ghost use Rattle.td_words.specs.declared.machines.Machine.{Machine};
-ghost use Rattle.step_core.specs.Items.{Taken, Stepped, SwapDid};
+ghost use Rattle.step_core.specs.Items.{SwapDid};
+ghost use Rattle.step_core.specs.declared.items.Taken.{Taken};
+ghost use Rattle.step_core.specs.declared.items.Taken.TheVariants.{Stepped};
 ghost use Rattle.step_core.specs.Words.{word_count, address_of, StoreAnswersZero};
 
 use crate::steps::WordStep;
@@ -23,8 +25,9 @@ pub trait Bench {
         ensures store { StoreAnswersZero step result }
         ensures did { did self.old (Stepped step result ∷ []) self.new };
 
-    /// Puts a hasher, or none, into a slot and answers what was there. Where another swap on that
-    /// slot is under way, `put` is dropped and the answer is None.
+    /// Puts a hasher, or none, into a slot and answers what was there: one item, told where the swap
+    /// gives its slot back. Where another swap on that slot is under way, `put` is dropped and the
+    /// answer is None.
     fn swap(&mut self, slot: u8, put: Option<Measure>) -> Option<Measure>
         requires { slot < (machine self.old).hkids }
         ensures machine { machine self.new ≡ machine self.old }

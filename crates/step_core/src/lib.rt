@@ -9,6 +9,7 @@
 #![tactic(auto)]
 
 mod benches;
+mod items;
 mod laws;
 mod locks;
 mod pages;
@@ -18,6 +19,7 @@ mod steps;
 mod tests;
 
 pub use benches::Bench;
+pub use items::Taken;
 pub use laws::{pages_change_alone, steps_make_words, tries_taken_back};
 pub use locks::{Tried, free, try_exclusive, try_shared, undo};
 pub use pages::{copy_page, zero_page};

@@ -1,5 +1,5 @@
 use Rattle.std.proofs.Common.{◌≡◌, ◌≤◌, List, false}
-use Rattle.step_core.specs.Items.{Taken}
+use Rattle.step_core.specs.declared.items.Taken.{Taken}
 use Rattle.leaf_engine.specs.Items.{IsLoaded}
 use Rattle.leaf_engine.proofs.asking.ask.Given as goal
 

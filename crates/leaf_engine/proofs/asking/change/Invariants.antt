@@ -1,6 +1,6 @@
 use Rattle.std.proofs.Common.{◌≡◌, ◌≤◌, List, ◌++◌, Option}
 use Rattle.mrtd_measure.specs.declared.measures.Measure.{Measure}
-use Rattle.step_core.specs.Items.{Taken}
+use Rattle.step_core.specs.declared.items.Taken.{Taken}
 use Rattle.leaf_engine.specs.Trees.{changes_left}
 use Rattle.leaf_engine.specs.Items.{AreChanged}
 use Rattle.leaf_engine.proofs.asking.change.Given as goal
