@@ -46,7 +46,6 @@ read_end p page i c false e s in_page in_word =
 
 pub host_read-means : (p : Place) (page i : ℕ) → MeansRow (host_read_task p page i)
 host_read-means p page i = record {
-  enters_none = refl;
   means = λ c at. (
     refl,
     λ e. refl,
@@ -125,7 +124,6 @@ respects_stored g page i v w = record { word = at; slot = λ h. inl refl; life =
 
 pub host_write-means : (p : Place) (page i v : ℕ) → MeansRow (host_write_task p page i v)
 host_write-means p page i v = record {
-  enters_none = refl;
   means = λ c at. (
     refl,
     λ e. refl,

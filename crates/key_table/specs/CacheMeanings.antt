@@ -196,7 +196,6 @@ back_respects m c la = rows-respect (opening m) 0 call.PhymemCacheWb (hold c (ke
 
 pub cache-means : (p : Place) → MeansRow (cache_task p)
 cache-means p = record {
-  enters_none = refl;
   means = λ c at. (
     refl,
     refl,

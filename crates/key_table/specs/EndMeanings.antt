@@ -207,7 +207,6 @@ module _ (m : Machine) (c : Instant) (t : ℕ) (shown : Shows m c.memory.words c
 
 pub free-means : (p : Place) (t : ℕ) → MeansRow (free_task p t)
 free-means p t = record {
-  enters_none = refl;
   means = λ c at. (
     refl,
     λ e. refl,

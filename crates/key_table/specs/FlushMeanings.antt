@@ -155,7 +155,6 @@ module _ (m : Machine) (c : Instant) (t : ℕ) (shown : Shows m c.memory.words c
 
 pub flush-means : (p : Place) (t : ℕ) → MeansRow (flush_task p t)
 flush-means p t = record {
-  enters_none = refl;
   means = λ c at. (
     refl,
     λ e. refl,

@@ -305,7 +305,6 @@ module _ (m : Machine) (c : Instant) (t page : ℕ) (sh : Shows m c.memory.words
 
 pub reclaim-means : (p : Place) (t page : ℕ) → p.machine.pages < 65536 → MeansRow (reclaim_task p t page)
 reclaim-means p t page few = record {
-  enters_none = refl;
   means = λ c at. (
     refl,
     λ e. refl,

@@ -1,5 +1,5 @@
 -- The table's leaves, call by call.
-use Rattle.std.proofs.Common.{◌≡◌, ℕ, refl, ap, arith}
+use Rattle.std.proofs.Common.{◌≡◌, ℕ, None, refl, ap, arith}
 use Rattle.td_words.specs.declared.calls.Call.{Call}
 use Rattle.td_words.specs.declared.calls.Call.TheVariants as call
 use Rattle.td_words.specs.Limits.{IsMachine}
@@ -69,6 +69,11 @@ of-row o p (call.MemSeptRd tdr gpa level) = refl
 of-row o p (call.MemPageAdd tdr gpa page source) = refl
 of-row o p (call.MrExtend tdr gpa) = refl
 
+-- no call enters a guest yet
+enters-none : (o : Opening) (p : ℕ) (c : Call) → (row_of o p c).enters ≡ None
+enters-none o p (call.HostRead page word) = refl
+enters-none o p _ = refl
+
 means : (p : Place) (c : Call) → IsMachine p.machine → MeansRow (task_of p c)
 means p (call.HostRead page word) m = host_read-means p page word
 means p (call.HostWrite page word value) m = host_write-means p page word value
@@ -96,4 +101,5 @@ calls-have-leaves o m = record {
   processor = λ p c. ap (λ (z : Place). z.lp) (of-place (record { machine = o.machine; lp = p }) c);
   row = of-row o;
   means = λ p c. means (record { machine = o.machine; lp = p }) c m;
+  enters_none = enters-none o;
 }

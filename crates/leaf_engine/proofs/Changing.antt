@@ -111,11 +111,11 @@ one-change inj pages m (PutHash q x) h between h' xs t u mem a i w p mm =
       slots = λ k in_k. subst (λ (f : ℕ → Option Measure). IsHand (f (k - 1)) (mem.slots k)) (sym p'.1.1) (mm.slots k in_k);
       hand = subst (λ (z : Option Measure). IsHand z mem.hand) (sym w.0) i;
     }
-one-change inj pages m (Raise q) h between h' xs t u mem a i w p mm =
+one-change inj pages m (Raise q more) h between h' xs t u mem a i w p mm =
     let p' = subst (λ (z : List Taken). PlaysTo t z u) w.1.1 p in
-    let e : u.words ≡ with_word t.words (address m.pages q) ((mem.words q + 1) % 2 ^ 64) = p'.1.0 ∙ ap (λ (y : ℕ). with_word t.words (address m.pages q) ((y + 1) % 2 ^ 64)) (mm.words q a) in
+    let e : u.words ≡ with_word t.words (address m.pages q) ((mem.words q + more) % 2 ^ 64) = p'.1.0 ∙ ap (λ (y : ℕ). with_word t.words (address m.pages q) ((y + more) % 2 ^ 64)) (mm.words q a) in
     record {
-      words = word_put inj m t.words u.words mem.words q ((mem.words q + 1) % 2 ^ 64) a e mm.words;
+      words = word_put inj m t.words u.words mem.words q ((mem.words q + more) % 2 ^ 64) a e mm.words;
       slots = λ k in_k. subst (λ (f : ℕ → Option Measure). IsHand (f (k - 1)) (mem.slots k)) (sym p'.1.1) (mm.slots k in_k);
       hand = subst (λ (z : Option Measure). IsHand z mem.hand) (sym w.0) i;
     }

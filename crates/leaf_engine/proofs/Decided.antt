@@ -135,7 +135,7 @@ none_of n (c ∷ cs) (suc k) e = none_of n cs k e
 plain-write : (n : ℕ) (hand : Hand) (c : Change) → is_plain c ≡ true → write_of n hand c ≡ write_of n None c
 plain-write n hand (Put q x) p = refl
 plain-write n hand (PutHash q x) p = cc
-plain-write n hand (Raise q) p = refl
+plain-write n hand (Raise q more) p = refl
 plain-write n hand (Clear q) p = refl
 plain-write n hand (Copy q r) p = refl
 plain-write n hand (Swap h made) p = cc
@@ -143,7 +143,7 @@ plain-write n hand (Swap h made) p = cc
 plain-hand : (hand : Hand) (c : Change) → is_plain c ≡ true → hand_for hand c ≡ hand
 plain-hand hand (Put q x) p = refl
 plain-hand hand (PutHash q x) p = refl
-plain-hand hand (Raise q) p = refl
+plain-hand hand (Raise q more) p = refl
 plain-hand hand (Clear q) p = refl
 plain-hand hand (Copy q r) p = refl
 plain-hand hand (Swap h made) p = cc

@@ -11,3 +11,4 @@ pub mod Turning
 pub mod Beginning
 pub mod OnTheWay
 pub mod Pieces
+pub mod Doings

@@ -25,7 +25,7 @@ use Rattle.leaf_engine.specs.declared.events.Event.{Event}
 use Rattle.word_rules.specs.Views.{look}
 use Rattle.leaf_engine.specs.Changes.{Memory, Change, Put, PutHash, Raise, Clear, Copy, Swap, changed, changed_all}
 use Rattle.leaf_engine.specs.Trees.{Tree, Lock, Load, Test, End, Since, feed, settle, passed, changes_of, has_acted}
-use Rattle.leaf_engine.specs.Means.{Task, Instant, Work, work_of, hold, Locks, MayFillAll, MayOweAll, MayChange, LocksStay, acted}
+use Rattle.leaf_engine.specs.Means.{Task, Instant, Work, work_of, hold, Locks, MayFillAll, MayOweAll, MayChangeBy, LocksStay, acted}
 use Rattle.leaf_engine.specs.Decides.{Wants, IsHand}
 use Rattle.leaf_engine.specs.Items.{IsLoaded, AreChanged}
 use Rattle.leaf_engine.specs.Follows.{granted, Current, NotActed, Comes}
@@ -160,7 +160,7 @@ fills-in : (m : Machine) (g : Grip) (w : World) (cs ds : List Change) → MayFil
 fills-in m g w [] ds a b = b
 fills-in m g w (Put q x ∷ cs) ds a b = (a.0.0, fills-in m g w cs ds a.1 b)
 fills-in m g w (PutHash q x ∷ cs) ds a b = absurd a.0
-fills-in m g w (Raise q ∷ cs) ds a b = absurd a.0
+fills-in m g w (Raise q more ∷ cs) ds a b = absurd a.0
 fills-in m g w (Clear p ∷ cs) ds a b = (a.0.0, fills-in m g w cs ds a.1 b)
 fills-in m g w (Copy p q ∷ cs) ds a b = ((a.0.0, a.0.1, a.0.2), fills-in m g w cs ds a.1 b)
 fills-in m g w (Swap h made ∷ cs) ds a b = absurd a.0
@@ -169,19 +169,19 @@ owed-in : (m : Machine) (g : Grip) (w : World) (mem : Memory) (cs : List Change)
 owed-in m g w mem [] a = tt
 owed-in m g w mem (Put q x ∷ cs) a = (a.0.0, owed-in m g w (changed (Put q x) mem) cs a.1)
 owed-in m g w mem (PutHash q x ∷ cs) a = (a.0.0, owed-in m g w (changed (PutHash q x) mem) cs a.1)
-owed-in m g w mem (Raise q ∷ cs) a = absurd a.0
+owed-in m g w mem (Raise q more ∷ cs) a = absurd a.0
 owed-in m g w mem (Clear p ∷ cs) a = (a.0.0, owed-in m g w (changed (Clear p) mem) cs a.1)
 owed-in m g w mem (Copy p q ∷ cs) a = absurd a.0
 owed-in m g w mem (Swap h made ∷ cs) a = (a.0.0, owed-in m g w (changed (Swap h made) mem) cs a.1)
 
-act-in : (m : Machine) (g : Grip) (w w' : World) (mem : Memory) (cs : List Change) → MayChange m g w w' mem cs → AreChangesIn m cs
-act-in m g w w' mem [] a = tt
-act-in m g w w' mem (Put q x ∷ cs) a = (a.0.0, owed-in m g w' (changed (Put q x) mem) cs a.1)
-act-in m g w w' mem (PutHash q x ∷ cs) a = (a.0.0, owed-in m g w' (changed (PutHash q x) mem) cs a.1)
-act-in m g w w' mem (Raise q ∷ cs) a = (a.0.0, owed-in m g w' (changed (Raise q) mem) cs a.1)
-act-in m g w w' mem (Clear p ∷ cs) a = absurd a.0
-act-in m g w w' mem (Copy p q ∷ cs) a = absurd a.0
-act-in m g w w' mem (Swap h made ∷ cs) a = (a.0.0, owed-in m g w' (changed (Swap h made) mem) cs a.1)
+act-in : (m : Machine) (g y : Grip) (w w' : World) (mem : Memory) (cs : List Change) → MayChangeBy m g y w w' mem cs → AreChangesIn m cs
+act-in m g y w w' mem [] a = tt
+act-in m g y w w' mem (Put q x ∷ cs) a = (a.0.0, owed-in m y w' (changed (Put q x) mem) cs a.1)
+act-in m g y w w' mem (PutHash q x ∷ cs) a = (a.0.0, owed-in m y w' (changed (PutHash q x) mem) cs a.1)
+act-in m g y w w' mem (Raise q more ∷ cs) a = (a.0.0, owed-in m y w' (changed (Raise q more) mem) cs a.1)
+act-in m g y w w' mem (Clear p ∷ cs) a = absurd a.0
+act-in m g y w w' mem (Copy p q ∷ cs) a = absurd a.0
+act-in m g y w w' mem (Swap h made ∷ cs) a = (a.0.0, owed-in m y w' (changed (Swap h made) mem) cs a.1)
 
 pub changed-append : (cs ds : List Change) (mem : Memory) → changed_all (cs ++ ds) mem ≡ changed_all ds (changed_all cs mem)
 changed-append [] ds mem = refl
@@ -211,7 +211,7 @@ ends-with m c k hs n (End r fs cs) reply (inl co) g =
 ends-with m c k hs n (End r fs cs) reply (inr co) g =
     let e : reply ≡ r = cc in
     record {
-      inside = fills-in m (hold c hs) c.state.world fs cs co.1.fills_allowed (act-in m (hold c hs) c.state.world (k.act c.state.world) (changed_all fs c.memory) cs co.2);
+      inside = fills-in m (hold c hs) c.state.world fs cs co.1.fills_allowed (act-in m (k.grasp c hs) (hold c hs) c.state.world (k.act c.state.world) (changed_all fs c.memory) cs co.2);
       kept = refl;
       ends = inr (co.0, e ∙ co.1.reply_is, shows-append m c k fs cs co.1.shows, co.1.locks_stay);
     }

@@ -247,10 +247,10 @@ act-shown ls o task row s mem after t run sh e shown =
 
 -- the refusal, or the act
 pub ends : (ls : Laws) (o : Opening) (task : Task) (row : Row) (s : State) (mem : Memory) (t u : Table) (run run' : Standing) (result : RunTurn)
-    → MeansRow task → task.meaning ≡ CallOf row → IsShown task s mem t run → (ca : IsCallAt o task row s.world mem.words (s.lps task.place.lp) run) → (st : run.stage ≡ stages.Trying)
+    → MeansRow task → task.meaning ≡ CallOf row → row.enters ≡ None → IsShown task s mem t run → (ca : IsCallAt o task row s.world mem.words (s.lps task.place.lp) run) → (st : run.stage ≡ stages.Trying)
     → EndsRow task (instant task s mem) (ca.told st).told u run run' → result.reply ≡ last_reply run'.stage run'.held
     → After o task row (s.lps task.place.lp).replies (event o s task.place.lp) u run' result.reply
-ends ls o task row s mem t u run run' result means mean sh ca st er reply = by er.ends
+ends ls o task row s mem t u run run' result means mean none sh ca st er reply = by er.ends
   where
     by : (((move_due task (instant task s mem) (ca.told st).told ≡ Refuses er.reply) × (er.after ≡ mem))
         ⊎ ((move_due task (instant task s mem) (ca.told st).told ≡ Succeeds) × (er.reply ≡ (work_of task.meaning).reply s.world)
@@ -267,7 +267,6 @@ ends ls o task row s mem t u run run' result means mean sh ca st er reply = by e
     by (inr x) =
         let lp : Lp = s.lps task.place.lp in
         let e = due-is o task row s mem run Succeeds mean ca st x.0 in
-        let none : row.enters ≡ None = subst (λ (z : Meaning). Rattle.leaf_engine.specs.Means.EntersNone z) mean means.enters_none in
         let shown : Shows task.place.machine er.after.words er.after.slots (record s { world = row.act s.world }) =
         subst (λ (z : Meaning). Shows task.place.machine er.after.words er.after.slots (acted (work_of z) s)) mean x.2 in
         let answer : er.reply ≡ Done (row.value s.world) = x.1 ∙ ap (λ (z : Meaning). (work_of z).reply s.world) mean in
@@ -283,11 +282,11 @@ ends ls o task row s mem t u run run' result means mean sh ca st er reply = by e
 
 -- every turn
 pub calls-follow : Laws → CallsFollow
-calls-follow ls o task row s mem t u run run' xs result means mean sh ca going tn p = by run.stage refl tn.turn
+calls-follow ls o task row s mem t u run run' xs result means mean none sh ca going tn p = by run.stage refl tn.turn
   where
     goes : (st : run.stage ≡ stages.Trying) → (e : RunEvent) → TurnShows task (instant task s mem) (ca.told st).told u run run' e → After o task row (s.lps task.place.lp).replies (event o s task.place.lp) u run' result.reply
     goes st (events.Try name mode b) x = tries ls o task row s mem t u run run' result name mode b means mean sh ca st x tn.reply
-    goes st events.Act x = ends ls o task row s mem t u run run' result means mean sh ca st x tn.reply
+    goes st events.Act x = ends ls o task row s mem t u run run' result means mean none sh ca st x tn.reply
     goes st (events.Undo name) x = absurd x
     goes st (events.Free name) x = absurd x
     goes st (events.Walk level) x = absurd x

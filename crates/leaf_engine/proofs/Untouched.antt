@@ -26,19 +26,19 @@ sees-tries g h at PageLock v t r = r
 sees-tries g h at TdLock v t r = r
 sees-tries g h at _ v t r = t
 
-loads-tries : (c : Instant) (hs : List Held) (g : Grip) (v : View) (q : WordPlace) (t : ℕ → Tree) → MayTry g c.state.world q → Loads c hs v q t → ⊥
-loads-tries c hs g v q t y (inl r) = reads-tries g (hold c hs) (guard_at (spot c.state.world q)) (spot c.state.world q).class v y r
-loads-tries c hs g v q t y (inr r) = sees-tries g (hold c hs) (guard_at (spot c.state.world q)) (spot c.state.world q).class v y r.0
+loads-tries : (c : Instant) (k : Work) (hs : List Held) (g : Grip) (v : View) (q : WordPlace) (t : ℕ → Tree) → MayTry g c.state.world q → Loads c k hs v q t → ⊥
+loads-tries c k hs g v q t y (inl r) = reads-tries g (hold c hs) (guard_at (spot c.state.world q)) (spot c.state.world q).class v y r
+loads-tries c k hs g v q t y (inr r) = sees-tries g (k.grasp c hs) (guard_at (spot c.state.world q)) (spot c.state.world q).class v y r.0
 
-other-word : PlacesInjective → (c : Instant) (hs : List Held) (g : Grip) (v : View) (r q : WordPlace) (x : ℕ) (t : ℕ → Tree) (words : WordPlace → ℕ) → MayTry g c.state.world q → Loads c hs v r t
+other-word : PlacesInjective → (c : Instant) (k : Work) (hs : List Held) (g : Grip) (v : View) (r q : WordPlace) (x : ℕ) (t : ℕ → Tree) (words : WordPlace → ℕ) → MayTry g c.state.world q → Loads c k hs v r t
     → put_word words q x r ≡ words r
-other-word inj c hs g v r q x t words y l = by (same_place r q) refl
+other-word inj c k hs g v r q x t words y l = by (same_place r q) refl
   where
     by : (b : Bool) → same_place r q ≡ b → put_word words q x r ≡ words r
     by false e = rw e refl
     by true e =
         let s : r ≡ q = (inj.same r q).0 e in
-        absurd (loads-tries c hs g v r t (subst (λ (z : WordPlace). MayTry g c.state.world z) (sym s) y) l)
+        absurd (loads-tries c k hs g v r t (subst (λ (z : WordPlace). MayTry g c.state.world z) (sym s) y) l)
 
 untouched : PlacesInjective → (m : Machine) (c : Instant) (k : Work) (hs : List Held) (t : Tree) (items : List (Item Reply)) (xs : List ℕ) (g : Grip) (q : WordPlace) (x : ℕ)
     → Means m c k hs t items → MayTry g c.state.world q → Current c.memory.words t xs → Current (put_word c.memory.words q x) t xs
@@ -48,7 +48,7 @@ untouched inj m c k hs (Lock l r mode t) (Check b out ∷ is) (z ∷ zs) g q x a
 untouched inj m c k hs (Lock l r mode t) (Try l' mode' ∷ is) (z ∷ zs) g q x a y cu = untouched inj m c k (record { lock = l; mode = mode } ∷ hs) t is zs g q x a.3 y cu
 untouched inj m c k hs (Load v r t) items [] g q x a y cu = tt
 untouched inj m c k hs (Load v r t) items (z ∷ zs) g q x a y cu = (
-  cu.0 ∙ ap (look v) (sym (other-word inj c hs g v r q x t c.memory.words y a.1)),
+  cu.0 ∙ ap (look v) (sym (other-word inj c k hs g v r q x t c.memory.words y a.1)),
   untouched inj m c k hs (t (look v z)) items zs g q x (subst (λ (n : ℕ). Means m c k hs (t n) items) (sym cu.0) a.2) y cu.1,
 )
 untouched inj m c k hs (Test b out t) [] xs g q x a y cu = absurd a

@@ -109,7 +109,7 @@ pub record After (o : Opening) (task : Task) (row : Row) (before : List Reply) (
 -- after that event, and the reply comes with the last one.
 abbrev pub CallsFollow : Type 0
 CallsFollow = (o : Opening) (task : Task) (row : Row) (s : State) (mem : Memory) (t u : Table) (run run' : Standing) (xs : List Taken) (result : RunTurn)
-    → MeansRow task → task.meaning ≡ OfCall row → IsShown task s mem t run → IsCallAt o task row s.world mem.words (s.lps task.place.lp) run
+    → MeansRow task → task.meaning ≡ OfCall row → row.enters ≡ None → IsShown task s mem t run → IsCallAt o task row s.world mem.words (s.lps task.place.lp) run
     → has_ended run.stage run.held ≡ false → IsTurn task.place.machine run xs run' result → PlaysTo t xs u
     → After o task row (s.lps task.place.lp).replies (event o s task.place.lp) u run' result.reply
 

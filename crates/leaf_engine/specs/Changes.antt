@@ -12,12 +12,12 @@ pub record Memory : Type 0 where
   pub slots : ℕ → Hand  -- by HKID
   pub hand : Hand
 
--- a store; one whose word depends on the hasher in hand; an addition of 1; a page of zeros; a copy of a page; and an
+-- a store; one whose word depends on the hasher in hand; an addition; a page of zeros; a copy of a page; and an
 -- exchange of the hasher in a slot with what is made of the one in hand
 pub data Change : Type 0 where
   Put : (at : WordPlace) (word : ℕ) → Change
   PutHash : (at : WordPlace) (word : Hand → ℕ) → Change
-  Raise : (at : WordPlace) → Change
+  Raise : (at : WordPlace) (by : ℕ) → Change
   Clear : (page : ℕ) → Change
   Copy : (from to : ℕ) → Change
   Swap : (hkid : ℕ) (made : Hand → Hand) → Change
@@ -40,7 +40,7 @@ changes_where b cs = if b then cs else []
 abbrev pub changed : Change → Memory → Memory
 changed (Put q x) m = record m { words = put_word m.words q x }
 changed (PutHash q x) m = record m { words = put_word m.words q (x m.hand) }
-changed (Raise q) m = record m { words = put_word m.words q ((m.words q + 1) % 2 ^ 64) }
+changed (Raise q more) m = record m { words = put_word m.words q ((m.words q + more) % 2 ^ 64) }
 changed (Clear p) m = record m { words = put_page m.words p (λ i. 0) }
 changed (Copy p q) m = record m { words = put_page m.words q (λ i. m.words (Word p i)) }
 changed (Swap h made) m = record { words = m.words; slots = put_slot m.slots h (made m.hand); hand = m.slots h }

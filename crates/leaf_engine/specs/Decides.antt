@@ -22,7 +22,7 @@ use Rattle.leaf_engine.specs.Inside.{WriteInside}
 abbrev pub write_of : ℕ → Hand → Change → Write
 write_of n hand (Put q x) = write.Word (step.Store (address n q) x)
 write_of n hand (PutHash q x) = write.Word (step.Store (address n q) (x hand))
-write_of n hand (Raise q) = write.Word (step.Add (address n q) 1)
+write_of n hand (Raise q more) = write.Word (step.Add (address n q) more)
 write_of n hand (Clear p) = write.Zero p
 write_of n hand (Copy p q) = write.Copy p q
 write_of n hand (Swap h made) = write.Swap (h - 1)

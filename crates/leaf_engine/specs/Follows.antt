@@ -8,7 +8,7 @@ use Rattle.flat_core.specs.Row.{Move, Attempts, Refuses, Succeeds, next}
 use Rattle.word_rules.specs.Views.{look}
 use Rattle.leaf_engine.specs.Changes.{changed_all}
 use Rattle.leaf_engine.specs.Trees.{Tree, Lock, Load, Test, End, Since, feed, has_acted}
-use Rattle.leaf_engine.specs.Means.{Task, Instant, IsAt, Work, work_of, hold, Locks, Loads, Acts, MayChange, MayOweAll, MeansRow}
+use Rattle.leaf_engine.specs.Means.{Task, Instant, IsAt, Work, work_of, hold, Locks, Loads, Acts, MayChangeBy, MayOweAll, MeansRow}
 
 -- the locks that these answers say were granted, the newest first, before those held so far
 abbrev pub granted : Tree → List ℕ → List Held → List Held
@@ -43,11 +43,11 @@ NotActed (Since r cs) xs = Unit {0}
 -- against the next move of its row: it comes to the lock that is tried, to a load, to the refusal, or to the act
 abbrev pub Comes : Machine → Instant → Work → List Held → Tree → Move Reply → Type 0
 Comes m c k hs (Lock l q mode t) n = (n ≡ Attempts l mode) × Locks m c hs l q
-Comes m c k hs (Load v q t) n = IsIn m q × Loads c hs v q t
+Comes m c k hs (Load v q t) n = IsIn m q × Loads c k hs v q t
 Comes m c k hs (Test b r t) n = ⊥
 Comes m c k hs (End r fs cs) n =
     ((n ≡ Refuses r) × (fs ≡ []) × (cs ≡ []))
-    ⊎ ((n ≡ Succeeds) × Acts m c k hs r fs cs × MayChange m (hold c hs) c.state.world (k.act c.state.world) (changed_all fs c.memory) cs)
+    ⊎ ((n ≡ Succeeds) × Acts m c k hs r fs cs × MayChangeBy m (k.grasp c hs) (hold c hs) c.state.world (k.act c.state.world) (changed_all fs c.memory) cs)
 Comes m c k hs (Since r cs) n = (n ≡ Succeeds) × Acts m c k hs r [] cs × MayOweAll m (hold c hs) (k.act c.state.world) c.memory cs
 
 -- A leaf that was told words that stand comes to the next move of its row, under the locks that it was granted.

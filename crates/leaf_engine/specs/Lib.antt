@@ -12,4 +12,5 @@ pub mod Processors
 pub mod Merges
 pub mod Shown
 pub mod Calls
+pub mod Doing
 pub mod Reached

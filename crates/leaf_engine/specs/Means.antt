@@ -2,9 +2,11 @@
 -- under the locks of its tries: each try is that lock at its place; each load stays as it is until the act, or is the act;
 -- each condition is the row's; and at the end the stores are allowed, and laid over the words they show what the row's act
 -- makes of the world.
-use Rattle.std.specs.Prelude.{◌≡◌, ◌≢◌, ◌⊎◌, ℕ, ◌<◌, ◌≤◌, true, false, Option, Some, None, List, [], ◌∷◌, ◌++◌, map}
+use Rattle.std.specs.Prelude.{◌≡◌, ◌≢◌, ◌⊎◌, ℕ, zero, suc, ◌<◌, ◌≤◌, true, false, Option, Some, None, List, [], ◌∷◌, ◌++◌, map}
 use Rattle.td_words.specs.declared.names.PageKind.TheVariants as kind
 use Rattle.td_words.specs.declared.machines.Machine.{Machine}
+use Rattle.td_words.specs.declared.names.Access.{Access}
+use Rattle.td_words.specs.declared.names.Access.TheVariants.{Read, Write}
 use Rattle.td_words.specs.declared.replies.Outcome.{Outcome}
 use Rattle.td_words.specs.declared.replies.Value.TheVariants as value
 use Rattle.td_words.specs.declared.replies.Reply.{Reply}
@@ -14,24 +16,32 @@ use Rattle.flat_core.specs.World.{World}
 use Rattle.flat_core.specs.Processor.{LockId, OfPage, OfOp, Held, Guest, Note, LoadNote, RtmrNote}
 use Rattle.flat_core.specs.Row.{Item, Check, Try, Row, OperationRow}
 use Rattle.flat_core.specs.Digests.{digest_bytes}
-use Rattle.flat_core.specs.Effects.{tell_words}
-use Rattle.flat_core.specs.Lawful.{Lawful, IsAlive, IsPageOf}
+use Rattle.flat_core.specs.Effects.{tell_words, leave_guest}
+use Rattle.flat_core.specs.Translations.{look_up}
+use Rattle.flat_core.specs.Tree.{page_of_gpa, number_at, entry_at}
+use Rattle.flat_core.specs.Guest.{reach, word_reached, walk_level}
+use Rattle.flat_core.specs.Lawful.{Lawful, IsAlive, IsPageOf, IsNodeOf}
 use Rattle.flat_core.specs.Event.{State}
 use Rattle.word_rules.specs.Guards.{Grip}
 use Rattle.word_rules.specs.Rules.{View, Whole, Grade, KeepsNothing}
 use Rattle.word_rules.specs.Permissions.{Reads, Sees, Writes, Owes, Fills, Tries, SwapsAct, SwapsOwed, Respects}
+use Rattle.word_rules.specs.Spots.{runs_in}
 use Rattle.word_rules.specs.Cells.{Shows}
-use Rattle.lock_words.specs.Grips.{holds, holds_alone, grip_with, TdrsAreHeld}
+use Rattle.lock_words.specs.Grips.{holds, holds_alone, lock_grip, grip_with, TdrsAreHeld}
 use Rattle.lock_words.specs.LockWords.{place_of, Stands, LocksStand}
 use Rattle.leaf_engine.specs.declared.needs.Place.{Place}
-use Rattle.word_rules.specs.Views.{look, IsKept}
+use Rattle.word_rules.specs.Views.{look, rights_by, IsKept}
 use Rattle.leaf_engine.specs.Changes.{Memory, Change, Put, PutHash, Raise, Clear, Copy, Swap, changed, changed_all}
 use Rattle.leaf_engine.specs.Trees.{Tree, Lock, Load, Test, End, Since, has_acted}
 
--- what a leaf does: a call by its row, or an operation of a guest by its
+-- what a leaf does: a call by its row; an operation of a guest by its; a guest's access to a word of a page through a cached
+-- translation; the load of an entry in a guest's walk, from the page where it stands; and the count step of the exit
 pub data Meaning : Type 0 where
   OfCall : (row : Row) → Meaning
   OfOperation : (tdr vp : ℕ) (row : OperationRow) → Meaning
+  OfAccess : (tdr vp : ℕ) (access : Access) (register gpa page : ℕ) → Meaning
+  OfWalk : (tdr vp : ℕ) (access : Access) (gpa level page : ℕ) → Meaning
+  OfExit : (tdr vp : ℕ) (outcome : Outcome) → Meaning
 
 -- a leaf: where it was made for, its tree, and its row
 pub record Task : Type 0 where
@@ -57,19 +67,6 @@ operation_reply (RtmrNote line index words ∷ notes) told None = Done (value.Di
 operation_reply [] (x ∷ xs) None = Done (value.Number x)
 operation_reply [] [] None = Done value.Nothing
 
-pub record Work : Type 0 where
-  pub items : World → List (Item Reply)
-  pub act : World → World
-  pub reply : World → Reply
-
-abbrev pub work_of : Meaning → Work
-work_of (OfCall row) = record { items = row.items; act = row.act; reply = λ w. Done (row.value w) }
-work_of (OfOperation t v row) = record {
-  items = λ w. map exit_item (row.items w);
-  act = λ w. tell_words (row.tells w) (row.act w);
-  reply = λ w. operation_reply (row.notes w) (row.tells w) (row.answer w);
-}
-
 -- where it is told: a state, what memory is there, and the locks that the processor holds besides the leaf's own
 pub record Instant : Type 0 where
   pub state : State
@@ -77,8 +74,38 @@ pub record Instant : Type 0 where
   pub me : ℕ
   pub kept : List Held
 
+-- what it has of the guards by its locks alone, which no step of another takes from it
 abbrev pub hold : Instant → List Held → Grip
-hold c hs = grip_with c.state c.me (hs ++ c.kept)
+hold c hs = lock_grip (hs ++ c.kept)
+
+-- and, at that instant, by its cached translations as well
+abbrev pub grasp_of : Instant → List Held → Grip
+grasp_of c hs = grip_with c.state c.me (hs ++ c.kept)
+
+pub record Work : Type 0 where
+  pub items : World → List (Item Reply)
+  pub act : World → World
+  pub reply : World → Reply
+  pub grasp : Instant → List Held → Grip
+
+abbrev pub access_word : Access → (vp register gpa page : ℕ) → World → ℕ
+access_word Read v r gpa page w = word_reached w page gpa
+access_word Write v r gpa page w = w.hidden.registers v r
+
+abbrev pub work_of : Meaning → Work
+work_of (OfCall row) = record { items = row.items; act = row.act; reply = λ w. Done (row.value w); grasp = hold }
+work_of (OfOperation t v row) = record {
+  items = λ w. map exit_item (row.items w);
+  act = λ w. tell_words (row.tells w) (row.act w);
+  reply = λ w. operation_reply (row.notes w) (row.tells w) (row.answer w);
+  grasp = hold;
+}
+
+-- what an access answers: the word
+work_of (OfAccess t v access r gpa page) = record { items = λ w. []; act = reach t v access r gpa page; reply = λ w. Done (value.Number (access_word access v r gpa page w)); grasp = grasp_of }
+-- the load of an entry: which page it names, and what it allows
+work_of (OfWalk t v access gpa level page) = record { items = λ w. []; act = λ w. w; reply = λ w. Done (value.Number (rights_by (entry_at w t level gpa))); grasp = hold }
+work_of (OfExit t v out) = record { items = λ w. []; act = leave_guest v; reply = λ w. Exited out; grasp = hold }
 
 -- while a virtual processor is in guest, its VP.ENTER holds P of its TDR page and O, and P of its own page alone
 pub record IsInGuest (c : Instant) (t v : ℕ) (g : Guest) : Type 0 where
@@ -91,11 +118,20 @@ pub record IsInGuest (c : Instant) (t v : ℕ) (g : Guest) : Type 0 where
   pub alive : IsAlive c.state.world.pages c.state.world.tds t
   pub vp_page : IsPageOf c.state.world.pages t v kind.Tdvpr
   pub associated : c.state.world.vps.associated v ≡ Some c.me
+  pub running : runs_in (c.state.world.tds.ops t) ≡ true
+
+-- the page where the entry of a level stands that maps a GPA: the root, or the node above it
+abbrev pub IsEntryPage : World → (tdr level gpa page : ℕ) → Type 0
+IsEntryPage w t (suc (suc (suc zero))) gpa page = (d : ℕ) × (w.tds.controls t ≡ d ∷ page ∷ [])
+IsEntryPage w t level gpa page = IsNodeOf w.pages t page kind.Ept (suc level) (number_at (suc level) gpa)
 
 -- who makes it: a call's processor has no guest, an operation's has
 abbrev pub IsMaker : Meaning → Instant → Type 0
 IsMaker (OfCall row) c = ((c.state.lps c.me).guest ≡ None) × (c.kept ≡ [])
 IsMaker (OfOperation t v row) c = (g : Guest) × IsInGuest c t v g
+IsMaker (OfAccess t v access r gpa page) c = (g : Guest) × IsInGuest c t v g × (look_up (c.state.lps c.me).cached t (page_of_gpa gpa) access ≡ Some page) × IsPageOf c.state.world.pages t page kind.Reg
+IsMaker (OfWalk t v access gpa level page) c = (g : Guest) × IsInGuest c t v g × (walk_level g.walk ≡ level) × IsEntryPage c.state.world t level gpa page
+IsMaker (OfExit t v out) c = (g : Guest) × IsInGuest c t v g × (c.state.world.vps.entered v ≡ Some (c.state.world.vps.lasts v))
 
 -- the premise of the law
 pub record IsAt (task : Task) (c : Instant) : Type 0 where
@@ -116,9 +152,9 @@ pub record Locks (m : Machine) (c : Instant) (hs : List Held) (l : LockId) (q : 
   pub allowed : Tries (hold c hs) c.state.world q
 
 -- a load stays until the act, as far as it is looked at; or it finds what is shown, and is the act
-abbrev pub Loads : Instant → List Held → View → WordPlace → (ℕ → Tree) → Type 0
-Loads c hs v q further =
-    Reads (hold c hs) c.state.world q v ⊎ (Sees (hold c hs) c.state.world q v × (has_acted (further (look v (c.memory.words q))) ≡ true))
+abbrev pub Loads : Instant → Work → List Held → View → WordPlace → (ℕ → Tree) → Type 0
+Loads c k hs v q further =
+    Reads (hold c hs) c.state.world q v ⊎ (Sees (k.grasp c hs) c.state.world q v × (has_acted (further (look v (c.memory.words q))) ≡ true))
 
 -- a page's words, each
 abbrev pub EachWord : (WordPlace → Type 0) → ℕ → Type 0
@@ -142,7 +178,7 @@ IsHkid m h = (1 ≤ h) × (h ≤ m.hkids)
 abbrev pub MayAct : Machine → Grip → World → Memory → Change → Type 0
 MayAct m g w mem (Put q x) = IsIn m q × ((k : Grade) × Writes g w q k × IsKept k (mem.words q) x)
 MayAct m g w mem (PutHash q x) = IsIn m q × Writes g w q KeepsNothing
-MayAct m g w mem (Raise q) = IsIn m q × Writes g w q KeepsNothing
+MayAct m g w mem (Raise q more) = IsIn m q × Writes g w q KeepsNothing
 MayAct m g w mem (Swap h made) = IsHkid m h × SwapsAct g w h
 MayAct m g w mem _ = ⊥
 
@@ -159,9 +195,12 @@ MayOweAll m g w mem [] = Unit {0}
 MayOweAll m g w mem (c ∷ cs) = MayOwe m g w mem c × MayOweAll m g w (changed c mem) cs
 
 -- the act's store and those after it, in a world before it and one after it
+abbrev pub MayChangeBy : Machine → (now later : Grip) → (before after : World) → Memory → List Change → Type 0
+MayChangeBy m g h w w' mem [] = Unit {0}
+MayChangeBy m g h w w' mem (c ∷ cs) = MayAct m g w mem c × MayOweAll m h w' (changed c mem) cs
+
 abbrev pub MayChange : Machine → Grip → (before after : World) → Memory → List Change → Type 0
-MayChange m g w w' mem [] = Unit {0}
-MayChange m g w w' mem (c ∷ cs) = MayAct m g w mem c × MayOweAll m g w' (changed c mem) cs
+MayChange m g w w' mem cs = MayChangeBy m g g w w' mem cs
 
 -- the state after an act, as far as words show it
 abbrev pub acted : Work → State → State
@@ -176,7 +215,7 @@ LocksStay w w' (h ∷ hs) = ((place_of w' h.lock ≡ place_of w h.lock) × (Stan
 pub record Acts (m : Machine) (c : Instant) (k : Work) (hs : List Held) (reply : Reply) (fills changes : List Change) : Type 0 where
   pub reply_is : reply ≡ k.reply c.state.world
   pub fills_allowed : MayFillAll m (hold c hs) c.state.world fills
-  pub respects : Respects (hold c hs) c.state.world (k.act c.state.world)
+  pub respects : Respects (k.grasp c hs) c.state.world (k.act c.state.world)
   pub locks_stay : LocksStay c.state.world (k.act c.state.world) hs
   pub shows : let mem = changed_all changes (changed_all fills c.memory) in Shows m mem.words mem.slots (acted k c.state)
 
@@ -184,21 +223,15 @@ pub record Acts (m : Machine) (c : Instant) (k : Work) (hs : List Held) (reply :
 abbrev pub Means : Machine → Instant → Work → List Held → Tree → List (Item Reply) → Type 0
 Means m c k hs (Lock l q mode t) (Try l' mode' ∷ r) = (l ≡ l') × (mode ≡ mode') × Locks m c hs l q × Means m c k (record { lock = l; mode = mode } ∷ hs) t r
 Means m c k hs (Lock l q mode t) _ = ⊥
-Means m c k hs (Load v q t) items = IsIn m q × Loads c hs v q t × Means m c k hs (t (look v (c.memory.words q))) items
+Means m c k hs (Load v q t) items = IsIn m q × Loads c k hs v q t × Means m c k hs (t (look v (c.memory.words q))) items
 Means m c k hs (Test b out t) (Check b' out' ∷ r) = (b ≡ b') × (b ≡ false → out ≡ out') × (b' ≡ true → Means m c k hs t r)
 Means m c k hs (Test b out t) _ = ⊥
 Means m c k hs (End reply fills cs) [] =
-    Acts m c k hs reply fills cs × MayChange m (hold c hs) c.state.world (k.act c.state.world) (changed_all fills c.memory) cs
+    Acts m c k hs reply fills cs × MayChangeBy m (k.grasp c hs) (hold c hs) c.state.world (k.act c.state.world) (changed_all fills c.memory) cs
 Means m c k hs (End reply fills cs) _ = ⊥
 Means m c k hs (Since reply cs) [] = Acts m c k hs reply [] cs × MayOweAll m (hold c hs) (k.act c.state.world) c.memory cs
 Means m c k hs (Since reply cs) _ = ⊥
 
--- a leaf's row enters no guest
-abbrev pub EntersNone : Meaning → Type 0
-EntersNone (OfCall row) = row.enters ≡ None
-EntersNone (OfOperation t v row) = Unit {0}
-
 -- a leaf means its row
 pub record MeansRow (task : Task) : Type 0 where
-  pub enters_none : EntersNone task.meaning
   pub means : (c : Instant) → IsAt task c → let k = work_of task.meaning in Means task.place.machine c k [] task.tree (k.items c.state.world)

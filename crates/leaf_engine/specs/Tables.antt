@@ -18,7 +18,7 @@ pub record IsMemory (m : Machine) (t : Table) (hasher : Option Measure) (mem : M
 abbrev pub IsChangeIn : Machine → Change → Type 0
 IsChangeIn m (Put q x) = IsIn m q
 IsChangeIn m (PutHash q x) = IsIn m q
-IsChangeIn m (Raise q) = IsIn m q
+IsChangeIn m (Raise q more) = IsIn m q
 IsChangeIn m (Clear p) = p < m.pages
 IsChangeIn m (Copy p q) = (p < m.pages) × (q < m.pages) × (p ≢ q)
 IsChangeIn m (Swap h made) = IsHkid m h

@@ -4,6 +4,7 @@ ghost use Rattle.leaf_engine.specs.Follows.{LeavesFollowRows};
 ghost use Rattle.leaf_engine.specs.Shown.{TurnsShow};
 ghost use Rattle.leaf_engine.specs.Calls.{CallsBegin, CallsFollow, StartIsMet};
 ghost use Rattle.leaf_engine.specs.OwnLists.{TurnsInPieces};
+ghost use Rattle.leaf_engine.specs.Doing.{LeavesFollow};
 ghost use Rattle.leaf_engine.specs.Reached.{ReachedIsMet};
 
 use lock_words::{lock_steps_shown, lock_words_follow, reached_locks_stand};
@@ -46,6 +47,18 @@ pub fn calls_follow()
     lock_words_follow();
     lock_steps_shown();
     reached_locks_stand();
+    places_injective();
+    pages_change_alone();
+}
+
+/// Over words that show a lawful state each turn of a leaf's run is the next event of its processor,
+/// whatever the leaf is of: a call, an operation of a guest, a guest's access to a word, the load of an
+/// entry in its walk, or the count step of its exit.
+pub fn leaves_follow()
+    ensures { LeavesFollow }
+{
+    lock_words_follow();
+    lock_steps_shown();
     places_injective();
     pages_change_alone();
 }

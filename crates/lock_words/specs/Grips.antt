@@ -59,6 +59,15 @@ clear_of s me (Written p) = none_reaches s.lps s.lp_count me p true
 abbrev pub grip_with : State → ℕ → List Held → Grip
 grip_with s me hs = record { has = has_of (s.lps me) hs; sole = sole_of hs; clear = clear_of s me }
 
+-- the grip that locks alone give, whoever is in guest: what is told, filled or owed under it waits for no guest
+abbrev pub lock_has : List Held → Guard → Bool
+lock_has hs (Locked l) = holds hs l
+lock_has hs (Reached p) = false
+lock_has hs (Written p) = false
+
+abbrev pub lock_grip : List Held → Grip
+lock_grip hs = record { has = lock_has hs; sole = sole_of hs; clear = λ x. false }
+
 abbrev pub grip_of : State → ℕ → Grip
 grip_of s me = grip_with s me (locks_of (s.lps me))
 

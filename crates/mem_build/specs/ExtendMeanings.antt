@@ -283,7 +283,6 @@ module _ (m : Machine) (c : Instant) (t gpa : ℕ) (in_page : t < m.pages) (limi
 
 pub extend-means : (p : Place) (t gpa : ℕ) → IsMachine p.machine → MeansRow (extend_task p t gpa)
 extend-means p t gpa machine = record {
-  enters_none = refl;
   means = λ c at. (
     refl,
     λ e. refl,

@@ -179,7 +179,6 @@ module _ (m : Machine) (c : Instant) (t gpa p q : ℕ) (limits : IsMachine m) (i
 pub page_add-means : (pl : Place) (t gpa p q : ℕ) → IsMachine pl.machine → MeansRow (page_add_task pl t gpa p q)
 unfolding page_add_tree
 page_add-means pl t gpa p q limits = record {
-  enters_none = refl;
   means = λ c at. (
     refl,
     λ e. refl,

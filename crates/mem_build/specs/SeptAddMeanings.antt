@@ -138,7 +138,6 @@ module _ (m : Machine) (c : Instant) (t gpa level p : ℕ) (in_tdr : t < m.pages
 
 pub sept_add-means : (q : Place) (t gpa level page : ℕ) → IsMachine q.machine → MeansRow (sept_add_task q t gpa level page)
 sept_add-means q t gpa level page limits = record {
-  enters_none = refl;
   means = λ c at. (
     refl,
     λ e. refl,

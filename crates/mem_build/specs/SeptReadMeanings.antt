@@ -46,7 +46,6 @@ module _ (m : Machine) (c : Instant) (t gpa level : ℕ) (in_page : t < m.pages)
 
 pub sept_read-means : (p : Place) (t gpa level : ℕ) → IsMachine p.machine → MeansRow (sept_read_task p t gpa level)
 sept_read-means p t gpa level limits = record {
-  enters_none = refl;
   means = λ c at. (
     refl,
     λ e. refl,

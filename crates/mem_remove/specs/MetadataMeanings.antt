@@ -39,7 +39,6 @@ pamt_lawful m w p few la = by (is_host_in w.pages p) refl
 
 pub rdmd-means : (p : Place) (page : ℕ) → p.machine.pages ≤ 1024 → MeansRow (rdmd_task p page)
 rdmd-means p page few = record {
-  enters_none = refl;
   means = λ c at. (
     refl,
     λ e. refl,

@@ -39,7 +39,7 @@ use Rattle.merge_laws.proofs.Holding.{bare, turned-round}
 use Rattle.merge_laws.proofs.Standing.{Laws, leaf_for, AreTrees, Known, RunsAt, on_table, Position, back, Stands}
 use Rattle.merge_laws.proofs.Others.{shown-of}
 use Rattle.merge_laws.proofs.SlotSteps.{slots-event}
-use Rattle.merge_laws.proofs.Own.{with_hasher, stands-after, world-of-event, at-other, Spares, gathered, none-due}
+use Rattle.merge_laws.proofs.Own.{apart-from, with_hasher, stands-after, world-of-event, at-other, Spares, gathered, none-due}
 use Rattle.merge_laws.proofs.LockSteps.{engine, Moved}
 
 -- a refusal, or the act that succeeds
@@ -70,7 +70,7 @@ pub record OneAct (o : Opening) (trees : ℕ → Call → Tree) (s : State) (mem
   pub slots_makes : (h : ℕ) → IsHkid o.machine h → after.slots h ≡ or_else (last_put swaps h) (or_else (last_put put h) (mem.slots h))
   pub slots_written : (h : ℕ) (x : Hand) → last_put put h ≡ Some x → SwapsAct (bare (s.lps p).call.held) s.world h
   pub slots_may : SwapsMay o.machine (bare (s.lps p).call.held) (call_world (row_of o p c) move s.world) (λ h. or_else (last_put put h) (mem.slots h)) swaps
-  pub spares : Spares o.machine s p (call_world (row_of o p c) move s.world) mem.words after.words (on_table o.machine t) (on_table o.machine t')
+  pub spares : Spares o.machine s (bare (s.lps p).call.held) (call_world (row_of o p c) move s.world) mem.words after.words (on_table o.machine t) (on_table o.machine t')
   pub makes : (r : WordPlace) → IsIn o.machine r → after.words r ≡ or_else (last_at owes r) (or_else (last_at first r) (or_else (last_at filled r) (mem.words r)))
   pub written : EachDue (CanWrite (bare (s.lps p).call.held) s.world) first
   pub owed : Keeps o.machine (bare (s.lps p).call.held) (call_world (row_of o p c) move s.world) (λ q. or_else (last_at first q) (or_else (last_at filled q) (mem.words q))) owes
@@ -105,7 +105,7 @@ module _ (ls : Laws) (o : Opening) (trees : ℕ → Call → Tree) (s : State) (
   -- the call is after its act as its leaf says
   act-made : After o (leaf_for o trees p c) (row_of o p c) (s.lps p).replies (event o s p) act_table (with_hasher run' (hasher_for one.after.hand)) result.reply
   act-made =
-      ends (engine ls) o (leaf_for o trees p c) (row_of o p c) s mem (table_of machine mem.slots mem.words) act_table run (with_hasher run' (hasher_for one.after.hand)) result (are.means p c) refl
+      ends (engine ls) o (leaf_for o trees p c) (row_of o p c) s mem (table_of machine mem.slots mem.words) act_table run (with_hasher run' (hasher_for one.after.hand)) result (are.means p c) refl (are.enters_none p c)
       (shown-of o trees s mem t pos p c run known sd i (ra.trying e)) ra.call e
       (one.ends act_table (hasher_for one.after.hand) act-shows) one.reply
 
@@ -141,7 +141,7 @@ module _ (ls : Laws) (o : Opening) (trees : ℕ → Call → Tree) (s : State) (
   first-alone : (r : WordPlace) (x : ℕ) → last_at one.first r ≡ Some x → IsOwedByNoOther r
   first-alone r x h =
       let may = last-each ls.places (CanWrite (bare (s.lps p).call.held) s.world) one.first r x one.written h in
-      none-due ls o trees s mem t pos p r known sd i
+      none-due ls o trees s mem t pos p r (bare (s.lps p).call.held) (λ k hs j e older. apart-from ls o trees s mem t pos p k hs known sd i j e older) known sd i
       (record {
         owes = λ hs g apart owes. (ls.words (bare (s.lps p).call.held) (bare hs) s.world (turned-round (bare hs) (bare (s.lps p).call.held) apart)).writes_owes r may.0 g may.1 owes;
         fills = λ hs apart fills. (ls.words (bare hs) (bare (s.lps p).call.held) s.world apart).fills_writes r may.0 fills may.1;
@@ -151,7 +151,7 @@ module _ (ls : Laws) (o : Opening) (trees : ℕ → Call → Tree) (s : State) (
   filled-alone : (r : WordPlace) (x : ℕ) → last_at one.filled r ≡ Some x → IsOwedByNoOther r
   filled-alone r x h =
       let may = last-each ls.places (FillsAt machine (bare (s.lps p).call.held) s.world) one.filled r x one.filled_may h in
-      none-due ls o trees s mem t pos p r known sd i
+      none-due ls o trees s mem t pos p r (bare (s.lps p).call.held) (λ k hs j e older. apart-from ls o trees s mem t pos p k hs known sd i j e older) known sd i
       (record {
         owes = λ hs g apart owes. (ls.words (bare (s.lps p).call.held) (bare hs) s.world (turned-round (bare hs) (bare (s.lps p).call.held) apart)).fills_owes r g may.1 owes;
         fills = λ hs apart fills. (ls.words (bare hs) (bare (s.lps p).call.held) s.world apart).fills_fills r fills may.1;
@@ -164,7 +164,7 @@ module _ (ls : Laws) (o : Opening) (trees : ℕ → Call → Tree) (s : State) (
   -- nor one that is owed after it
   owes-alone : (r : WordPlace) (k : Grade) → Owes (bare (s.lps p).call.held) world_after r k → IsOwedByNoOther r
   owes-alone r k mine =
-      none-due ls o trees s mem t pos p r known sd i
+      none-due ls o trees s mem t pos p r (bare (s.lps p).call.held) (λ k hs j e older. apart-from ls o trees s mem t pos p k hs known sd i j e older) known sd i
       (record {
         owes = λ hs g apart owes. (ls.acts (bare hs) (bare (s.lps p).call.held) s.world world_after apart one.spares.respects).owes_later r g k owes mine;
         fills = λ hs apart fills. (ls.acts (bare hs) (bare (s.lps p).call.held) s.world world_after apart one.spares.respects).fills_later r k fills mine;
@@ -248,7 +248,7 @@ module _ (ls : Laws) (o : Opening) (trees : ℕ → Call → Tree) (s : State) (
   act-step =
       record {
         memory = memory_after;
-        stands = gathered ls o trees s mem memory_after t t' pos p its_position are known sd i
+        stands = gathered ls o trees s mem memory_after t t' pos p its_position (bare (s.lps p).call.held) (λ k hs j e older. apart-from ls o trees s mem t pos p k hs known sd i j e older) are known sd i
             (record {
               respects = subst (λ (w : World). Respects (bare (s.lps p).call.held) s.world w) (sym act-world) one.spares.respects;
               looks = λ hs v r apart in_r reads. ap (look v) (made-is r in_r) ∙ one.spares.looks hs v r apart in_r reads;

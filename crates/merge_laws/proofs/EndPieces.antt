@@ -47,7 +47,7 @@ use Rattle.merge_laws.proofs.SlotSteps.{slot-shown}
 use Rattle.merge_laws.proofs.Holding.{bare, turned-round}
 use Rattle.merge_laws.proofs.Standing.{Laws, leaf_for, on_table, Position, back, Rest}
 use Rattle.merge_laws.proofs.Others.{shown-of, hold-is}
-use Rattle.merge_laws.proofs.Own.{none-due}
+use Rattle.merge_laws.proofs.Own.{apart-from, none-due}
 use Rattle.merge_laws.proofs.LockSteps.{Moved}
 use Rattle.merge_laws.proofs.Acts.{act-step}
 use Rattle.merge_laws.proofs.Ending.{AtEnd, filled_of, first_of, owes_of, puts_of, swaps_left, HasFilled, one-act}
@@ -85,7 +85,7 @@ end-may o trees s mem t pos p c cs now reply run run' result a st en =
     after = (row_of o p c).act s.world
 
     grip : hold inst hs ≡ mine
-    grip = hold-is s mem task hs a.all.guests ∙ ap bare (en.locks ∙ (a.runs.call.told st).locks)
+    grip = hold-is s mem task hs ∙ ap bare (en.locks ∙ (a.runs.call.told st).locks)
 
     by : (x : Tree) → Comes m inst (work_of task.meaning) hs x (next ((work_of task.meaning).items s.world) (length hs)) → EndMay m mine s.world after mem x
     by (Lock l q mode x) co = tt
@@ -153,7 +153,7 @@ rest-owed o trees p c cs rs run' tree ended mem items hasher last hand tps end_ 
 abbrev pub IsActTaken : Machine → Memory → Change → Taken → Option Measure → Type 0
 IsActTaken m mem (Put q x) (Stepped s a) h' = (s ≡ step.Store (address m.pages q) x) × IsHand h' mem.hand
 IsActTaken m mem (PutHash q x) (Stepped s a) h' = (s ≡ step.Store (address m.pages q) (x mem.hand)) × IsHand h' mem.hand
-IsActTaken m mem (Raise q) (Stepped s a) h' = (s ≡ step.Add (address m.pages q) 1) × IsHand h' mem.hand
+IsActTaken m mem (Raise q more) (Stepped s a) h' = (s ≡ step.Add (address m.pages q) more) × IsHand h' mem.hand
 IsActTaken m mem (Swap k made) (Swapped slot put taken) h' = (slot ≡ k - 1) × IsHand put (made mem.hand) × (taken ≡ h') × IsHkid m k
 IsActTaken m mem (Swap k made) (Missed slot) h' = Unit {0}
 IsActTaken m mem _ _ h' = ⊥
@@ -172,10 +172,10 @@ act-item m g w mem (PutHash q x) xs h h' may ch i =
     let handed = ch.handed mem.hand i in
     let written : IsWritten (write.Word (step.Store (address m.pages q) (x mem.hand))) ch.between xs h' = subst (λ (z : Write). IsWritten z ch.between xs h') handed.0 ch.written in
     record { taken = Stepped (step.Store (address m.pages q) (x mem.hand)) written.1.0; items = written.1.1; is = (refl, subst (λ (z : Option Measure). IsHand z mem.hand) (sym written.0) handed.1) }
-act-item m g w mem (Raise q) xs h h' may ch i =
+act-item m g w mem (Raise q more) xs h h' may ch i =
     let handed = ch.handed mem.hand i in
-    let written : IsWritten (write.Word (step.Add (address m.pages q) 1)) ch.between xs h' = subst (λ (z : Write). IsWritten z ch.between xs h') handed.0 ch.written in
-    record { taken = Stepped (step.Add (address m.pages q) 1) written.1.0; items = written.1.1; is = (refl, subst (λ (z : Option Measure). IsHand z mem.hand) (sym written.0) handed.1) }
+    let written : IsWritten (write.Word (step.Add (address m.pages q) more)) ch.between xs h' = subst (λ (z : Write). IsWritten z ch.between xs h') handed.0 ch.written in
+    record { taken = Stepped (step.Add (address m.pages q) more) written.1.0; items = written.1.1; is = (refl, subst (λ (z : Option Measure). IsHand z mem.hand) (sym written.0) handed.1) }
 act-item m g w mem (Clear q) xs h h' may ch i = absurd may
 act-item m g w mem (Copy q r) xs h h' may ch i = absurd may
 act-item m g w mem (Swap k made) xs h h' may ch i = by (subst (λ (z : Write). IsWritten z ch.between xs h') handed.0 ch.written)
@@ -203,7 +203,7 @@ pub act-rest : (m : Machine) (g : Grip) (w : World) (mem : Memory) (t : Table) (
     → IsHand h' (changed c mem).hand × ((k : ℕ) → IsHkid m k → IsHand ((taken_after t taken).slots (k - 1)) (or_else (last_put (swaps_of c mem) k) (now k)))
 act-rest m g w mem t (Put q x) (Stepped s a) h' now may is an seen there = (is.1, there)
 act-rest m g w mem t (PutHash q x) (Stepped s a) h' now may is an seen there = (is.1, there)
-act-rest m g w mem t (Raise q) (Stepped s a) h' now may is an seen there = (is.1, there)
+act-rest m g w mem t (Raise q more) (Stepped s a) h' now may is an seen there = (is.1, there)
 act-rest m g w mem t (Swap j made) (Swapped slot put taken) h' now may is an seen there = (
   subst (λ (z : Option Measure). IsHand z (mem.slots j)) (sym (ap t.slots is.0) ∙ (sym an ∙ is.2)) (seen j is.3 may.1),
   λ k in_k.
@@ -216,8 +216,8 @@ act-rest m g w mem t (Put q x) (Swapped slot put taken) h' now may is an seen th
 act-rest m g w mem t (Put q x) (Missed slot) h' now may is an seen there = absurd is
 act-rest m g w mem t (PutHash q x) (Swapped slot put taken) h' now may is an seen there = absurd is
 act-rest m g w mem t (PutHash q x) (Missed slot) h' now may is an seen there = absurd is
-act-rest m g w mem t (Raise q) (Swapped slot put taken) h' now may is an seen there = absurd is
-act-rest m g w mem t (Raise q) (Missed slot) h' now may is an seen there = absurd is
+act-rest m g w mem t (Raise q more) (Swapped slot put taken) h' now may is an seen there = absurd is
+act-rest m g w mem t (Raise q more) (Missed slot) h' now may is an seen there = absurd is
 act-rest m g w mem t (Clear q) taken h' now may is an seen there = absurd may
 act-rest m g w mem t (Copy q r) taken h' now may is an seen there = absurd may
 
@@ -241,7 +241,7 @@ written-here ls o trees s mem t pos p c cs run fs q k a has in_q writes = change
             test : (b : Bool) → (j == p) ≡ b → last_at (pos j).owes q ≡ None
             test true h = (let j-is : j ≡ p = eqb-true j p h in ap (λ (z : ℕ). last_at (pos z).owes q) j-is ∙ (has.undo q ∙ ap (λ (z : Option ℕ). back z (mem.words q)) e))
             test false h =
-                none-due ls o trees s mem t pos p q a.known a.all a.inside
+                none-due ls o trees s mem t pos p q (bare (s.lps p).call.held) (λ k hs j e older. apart-from ls o trees s mem t pos p k hs a.known a.all a.inside j e older) a.known a.all a.inside
                 (record {
                   owes = λ hs g apart owes. (ls.words (bare (s.lps p).call.held) (bare hs) s.world (turned-round (bare hs) (bare (s.lps p).call.held) apart)).writes_owes q k g writes owes;
                   fills = λ hs apart fills. (ls.words (bare hs) (bare (s.lps p).call.held) s.world apart).fills_writes q k fills writes;
@@ -259,12 +259,12 @@ act-table ls o trees s mem t pos p c cs run fs (PutHash q x) (Stepped st y) h' a
     ap (λ (z : WordStep). after_step t.words z (address o.machine.pages r)) is.0
     ∙ (word_put ls.places o.machine t.words (after_step t.words (step.Store (address o.machine.pages q) v)) (on_table o.machine t) q v may.0 refl (λ y in_y. refl) r in_r
     ∙ or-test (same_place r q) v (on_table o.machine t r))
-act-table ls o trees s mem t pos p c cs run fs (Raise q) (Stepped st y) h' a has may is r in_r =
+act-table ls o trees s mem t pos p c cs run fs (Raise q more) (Stepped st y) h' a has may is r in_r =
     let here : on_table o.machine t q ≡ (changed_all fs mem).words q = sym (written-here ls o trees s mem t pos p c cs run fs q _ a has may.0 may.1) in
     ap (λ (z : WordStep). after_step t.words z (address o.machine.pages r)) is.0
-    ∙ (word_put ls.places o.machine t.words (after_step t.words (step.Add (address o.machine.pages q) 1)) (on_table o.machine t) q ((on_table o.machine t q + 1) % 2 ^ 64) may.0 refl (λ y in_y. refl) r in_r
-    ∙ (ap (λ (z : ℕ). put_word (on_table o.machine t) q ((z + 1) % 2 ^ 64) r) here
-    ∙ or-test (same_place r q) (((changed_all fs mem).words q + 1) % 2 ^ 64) (on_table o.machine t r)))
+    ∙ (word_put ls.places o.machine t.words (after_step t.words (step.Add (address o.machine.pages q) more)) (on_table o.machine t) q ((on_table o.machine t q + more) % 2 ^ 64) may.0 refl (λ y in_y. refl) r in_r
+    ∙ (ap (λ (z : ℕ). put_word (on_table o.machine t) q ((z + more) % 2 ^ 64) r) here
+    ∙ or-test (same_place r q) (((changed_all fs mem).words q + more) % 2 ^ 64) (on_table o.machine t r)))
 act-table ls o trees s mem t pos p c cs run fs (Swap k made) (Swapped slot put x) h' a has may is r in_r = refl
 act-table ls o trees s mem t pos p c cs run fs (Swap k made) (Missed slot) h' a has may is r in_r = refl
 act-table ls o trees s mem t pos p c cs run fs (Swap k made) (Stepped st y) h' a has may is r in_r = absurd is
@@ -272,7 +272,7 @@ act-table ls o trees s mem t pos p c cs run fs (Put q x) (Swapped slot put y) h'
 act-table ls o trees s mem t pos p c cs run fs (Put q x) (Missed slot) h' a has may is r in_r = absurd is
 act-table ls o trees s mem t pos p c cs run fs (PutHash q x) (Swapped slot put y) h' a has may is r in_r = absurd is
 act-table ls o trees s mem t pos p c cs run fs (PutHash q x) (Missed slot) h' a has may is r in_r = absurd is
-act-table ls o trees s mem t pos p c cs run fs (Raise q) (Swapped slot put y) h' a has may is r in_r = absurd is
-act-table ls o trees s mem t pos p c cs run fs (Raise q) (Missed slot) h' a has may is r in_r = absurd is
+act-table ls o trees s mem t pos p c cs run fs (Raise q more) (Swapped slot put y) h' a has may is r in_r = absurd is
+act-table ls o trees s mem t pos p c cs run fs (Raise q more) (Missed slot) h' a has may is r in_r = absurd is
 act-table ls o trees s mem t pos p c cs run fs (Clear q) taken h' a has may is r in_r = absurd may
 act-table ls o trees s mem t pos p c cs run fs (Copy q q') taken h' a has may is r in_r = absurd may

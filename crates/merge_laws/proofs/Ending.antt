@@ -75,7 +75,7 @@ act-looks : (ls : Laws) (m : Machine) (g h : Grip) (w : World) (mem : Memory) (c
     → look v ((changed c mem).words r) ≡ look v (mem.words r)
 act-looks ls m g h w mem (Put q x) r v a may rd = (ls.keep g h w mem.words a).act q r x v may.1.0 rd may.1.1 may.1.2
 act-looks ls m g h w mem (PutHash q x) r v a may rd = (ls.keep g h w mem.words a).act q r (x mem.hand) v KeepsNothing rd may.1 tt
-act-looks ls m g h w mem (Raise q) r v a may rd = (ls.keep g h w mem.words a).act q r ((mem.words q + 1) % 2 ^ 64) v KeepsNothing rd may.1 tt
+act-looks ls m g h w mem (Raise q more) r v a may rd = (ls.keep g h w mem.words a).act q r ((mem.words q + more) % 2 ^ 64) v KeepsNothing rd may.1 tt
 act-looks ls m g h w mem (Clear p) r v a may rd = absurd may
 act-looks ls m g h w mem (Copy p q) r v a may rd = absurd may
 act-looks ls m g h w mem (Swap k made) r v a may rd = refl
@@ -91,7 +91,7 @@ fill-looks ls m g h w mem fs r v a in_r may rd = looks-filled ls.places m h w me
 act-written : (m : Machine) (g : Grip) (w : World) (mem : Memory) (c : Change) → MayAct m g w mem c → EachDue (CanWrite g w) (stores_of c mem)
 act-written m g w mem (Put q x) may = ((may.1.0, may.1.1), tt)
 act-written m g w mem (PutHash q x) may = ((KeepsNothing, may.1), tt)
-act-written m g w mem (Raise q) may = ((KeepsNothing, may.1), tt)
+act-written m g w mem (Raise q more) may = ((KeepsNothing, may.1), tt)
 act-written m g w mem (Clear p) may = absurd may
 act-written m g w mem (Copy p q) may = absurd may
 act-written m g w mem (Swap k made) may = tt
@@ -100,7 +100,7 @@ act-written m g w mem (Swap k made) may = tt
 act-put : (m : Machine) (g : Grip) (w : World) (mem : Memory) (c : Change) → MayAct m g w mem c → (h : ℕ) (x : Hand) → last_put (swaps_of c mem) h ≡ Some x → SwapsAct g w h
 act-put m g w mem (Put q v) may h x e = cc
 act-put m g w mem (PutHash q v) may h x e = cc
-act-put m g w mem (Raise q) may h x e = cc
+act-put m g w mem (Raise q more) may h x e = cc
 act-put m g w mem (Clear p) may h x e = cc
 act-put m g w mem (Copy p q) may h x e = cc
 act-put m g w mem (Swap k made) may h x e = by (h == k) refl
@@ -116,7 +116,7 @@ fills-rest m g w (Put q x ∷ fs) mem may = fills-rest m g w fs (changed (Put q 
 fills-rest m g w (Clear p ∷ fs) mem may = fills-rest m g w fs (changed (Clear p) mem) may.1
 fills-rest m g w (Copy p q ∷ fs) mem may = fills-rest m g w fs (changed (Copy p q) mem) may.1
 fills-rest m g w (PutHash q x ∷ fs) mem may = absurd may.0
-fills-rest m g w (Raise q ∷ fs) mem may = absurd may.0
+fills-rest m g w (Raise q more ∷ fs) mem may = absurd may.0
 fills-rest m g w (Swap k made ∷ fs) mem may = absurd may.0
 
 -- where a turn stands that comes to its end, having been told these words
@@ -236,7 +236,7 @@ module _ (ls : Laws) (o : Opening) (trees : ℕ → Call → Tree) (s : State) (
 
   -- and its grip is theirs
   own-is : hold moment locks ≡ own_grip
-  own-is = hold-is s mem task locks sd.guests ∙ ap bare locks-held
+  own-is = hold-is s mem task locks ∙ ap bare locks-held
 
   -- the move that is due is the same at the words told before
   move-is : move_due task moment words_told ≡ due_move
@@ -313,7 +313,7 @@ module _ (ls : Laws) (o : Opening) (trees : ℕ → Call → Tree) (s : State) (
       filled_may = tt;
       there = hf.there;
       undo = hf.undo;
-      held_or_none = act-held o s p leaf_row (Refuses r) (next-move (Refuses r) h) (are.means p c).enters_none tt;
+      held_or_none = act-held o s p leaf_row (Refuses r) (next-move (Refuses r) h) (are.enters_none p c) tt;
       table = same;
     },
     refl,
@@ -374,7 +374,7 @@ module _ (ls : Laws) (o : Opening) (trees : ℕ → Call → Tree) (s : State) (
       filled_may = filled-stores machine own_grip s.world mem fs fills;
       there = hf.there;
       undo = hf.undo;
-      held_or_none = act-held o s p leaf_row Succeeds (next-move Succeeds h) (are.means p c).enters_none tt;
+      held_or_none = act-held o s p leaf_row Succeeds (next-move Succeeds h) (are.enters_none p c) tt;
       table = same;
     },
     refl,

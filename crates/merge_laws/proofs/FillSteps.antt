@@ -169,7 +169,7 @@ fill-seen ls o trees s mem t pos p c cs run f q a h in_q reads = by (last_at f.m
             test : (b : Bool) → (k == p) ≡ b → last_at (pos k).owes q ≡ None
             test true z = (let k-is : k ≡ p = eqb-true k p z in ap (λ (y : ℕ). last_at (pos y).owes q) k-is ∙ (h.undo q ∙ ap (λ (y : Option ℕ). back y (mem.words q)) e))
             test false z =
-                none-due ls o trees s mem t pos p q a.known a.all a.inside
+                none-due ls o trees s mem t pos p q (bare (s.lps p).call.held) (λ k hs j e older. apart-from ls o trees s mem t pos p k hs a.known a.all a.inside j e older) a.known a.all a.inside
                 (record {
                   owes = λ hs g apart owes. (ls.words mine (bare hs) s.world (turned-round (bare hs) mine apart)).reads_owes q Whole g (never-spared g) reads owes;
                   fills = λ hs apart fills. (ls.words (bare hs) mine s.world apart).fills_reads q Whole fills reads;

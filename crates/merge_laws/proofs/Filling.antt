@@ -108,7 +108,7 @@ pub fills-todo : (m : Machine) (g : Grip) (w : World) (fs : List Change) → May
 fills-todo m g w [] may = tt
 fills-todo m g w (Put q x ∷ fs) may = (may.0, fills-todo m g w fs may.1)
 fills-todo m g w (PutHash q x ∷ fs) may = absurd may.0
-fills-todo m g w (Raise q ∷ fs) may = absurd may.0
+fills-todo m g w (Raise q more ∷ fs) may = absurd may.0
 fills-todo m g w (Clear p ∷ fs) may =
     each-append m g w (zeros_to p 512) (all_todos fs) (each-zeros m g w p 512 (λ i l. ((may.0.0, l), may.0.1 i l))) (fills-todo m g w fs may.1)
 fills-todo m g w (Copy p q ∷ fs) may =
@@ -169,7 +169,7 @@ pub fills-due : PlacesInjective → (m : Machine) (g : Grip) (w : World) (fs : L
 fills-due inj m g w [] mem may = refl
 fills-due inj m g w (Put q x ∷ fs) mem may = ap (λ (ds : List Due). due q x ∷ ds) (fills-due inj m g w fs (changed (Put q x) mem) may.1)
 fills-due inj m g w (PutHash q x ∷ fs) mem may = absurd may.0
-fills-due inj m g w (Raise q ∷ fs) mem may = absurd may.0
+fills-due inj m g w (Raise q more ∷ fs) mem may = absurd may.0
 fills-due inj m g w (Clear p ∷ fs) mem may =
     change-due inj m g w (Clear p) fs mem refl (fills-todo m g w fs may.1) (zeros-due p 512 mem.words) (fills-due inj m g w fs (changed (Clear p) mem) may.1)
 fills-due inj m g w (Copy p q ∷ fs) mem may =
@@ -233,7 +233,7 @@ one-written m c h' xs pl ch =
     plain-hand : (c : Change) → is_plain c ≡ true → IsHand ch.between (hand_for None c) → IsHand ch.between None
     plain-hand (Put q x) pl i = i
     plain-hand (PutHash q x) pl i = i
-    plain-hand (Raise q) pl i = i
+    plain-hand (Raise q more) pl i = i
     plain-hand (Clear p) pl i = i
     plain-hand (Copy p q) pl i = i
     plain-hand (Swap h made) pl i = cc
@@ -244,7 +244,7 @@ one-fill m g w (Put q x) h' xs may ch =
     let one = one-written m (Put q x) h' xs refl ch in
     (one.2.0 ∙ one.1, subst (λ (z : List Taken). AreTodos m.pages z (Puts (due q x) ∷ [])) (sym one.2.1.1) (refl, tt), ap (λ (z : List Taken). length z) one.2.1.1)
 one-fill m g w (PutHash q x) h' xs may ch = absurd may
-one-fill m g w (Raise q) h' xs may ch = absurd may
+one-fill m g w (Raise q more) h' xs may ch = absurd may
 one-fill m g w (Clear p) h' xs may ch =
     let one = one-written m (Clear p) h' xs refl ch in (
       one.2.0 ∙ one.1,

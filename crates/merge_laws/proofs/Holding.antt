@@ -23,7 +23,7 @@ use Rattle.word_rules.specs.Rules.{View, TdLock, tries}
 use Rattle.word_rules.specs.Spots.{Spot, spot, is_current, is_empty, tdcs_classes, control_class}
 use Rattle.word_rules.specs.Views.{look}
 use Rattle.word_rules.specs.Permissions.{MayAt, Reads, Tries, Respects}
-use Rattle.lock_words.specs.Grips.{HoldsTdr, holds, holds_alone, operation_locks, locks_of, reaches_as, reaches, none_reaches, has_of, sole_of, clear_of, grip_with, grip_of, IsExclusive, GripsAreApart}
+use Rattle.lock_words.specs.Grips.{HoldsTdr, holds, holds_alone, operation_locks, locks_of, sole_of, lock_has, lock_grip, grip_of, IsExclusive, GripsAreApart}
 use Rattle.lock_words.specs.LockWords.{tdcs_of, place_of, TdStands, Stands, TdLocksStay}
 use Rattle.lock_words.proofs.Shown.{tdcs-page}
 use Rattle.lock_words.proofs.Anchored.{lock_spot}
@@ -31,24 +31,9 @@ use Rattle.leaf_engine.specs.Trees.{Tree, Lock, Load, Test, End, Since, has_acte
 use Rattle.leaf_engine.specs.Means.{Instant, Work, hold, Loads, Means}
 use Rattle.leaf_engine.specs.Follows.{granted, Current, NotActed}
 
--- the grip that locks alone give, where nobody is in guest
-abbrev pub has_bare : List Held → Guard → Bool
-has_bare hs (Locked l) = holds hs l
-has_bare hs (Reached p) = false
-has_bare hs (Written p) = false
-
-abbrev pub sole_bare : List Held → Guard → Bool
-sole_bare hs (Locked l) = holds_alone hs l
-sole_bare hs (Reached p) = false
-sole_bare hs (Written p) = false
-
-abbrev pub clear_bare : Guard → Bool
-clear_bare (Locked l) = false
-clear_bare (Reached p) = true
-clear_bare (Written p) = true
-
+-- the grip that locks alone give
 abbrev pub bare : List Held → Grip
-bare hs = record { has = has_bare hs; sole = sole_bare hs; clear = clear_bare }
+bare hs = lock_grip hs
 
 abbrev pub NoGuests : State → Type 0
 NoGuests s = (p : ℕ) → (s.lps p).guest ≡ None
@@ -56,31 +41,6 @@ NoGuests s = (p : ℕ) → (s.lps p).guest ≡ None
 or-true : (a : Bool) → (a || true) ≡ true
 or-true true = refl
 or-true false = refl
-
-none-reach : (lp : Lp) (p : ℕ) (b : Bool) → lp.guest ≡ None → reaches lp p b ≡ false
-none-reach lp p b e = ap (λ (g : Option Guest). reaches_as g p b lp.cached) e
-
-all-clear : (s : State) (n me p : ℕ) (b : Bool) → NoGuests s → none_reaches s.lps n me p b ≡ true
-all-clear s zero me p b none = refl
-all-clear s (suc n) me p b none = rw (none-reach (s.lps n) p b (none n), or-true (n == me), all-clear s n me p b none) refl
-
-pub grip-is-bare : (s : State) (me : ℕ) (hs : List Held) → NoGuests s → grip_with s me hs ≡ bare hs
-grip-is-bare s me hs none = λ i. record { has = λ x. has x i; sole = λ x. sole x i; clear = λ x. clear x i }
-  where
-    has : (x : Guard) → has_of (s.lps me) hs x ≡ has_bare hs x
-    has (Locked l) = refl
-    has (Reached p) = none-reach (s.lps me) p false (none me)
-    has (Written p) = none-reach (s.lps me) p true (none me)
-
-    sole : (x : Guard) → sole_of hs x ≡ sole_bare hs x
-    sole (Locked l) = refl
-    sole (Reached p) = refl
-    sole (Written p) = refl
-
-    clear : (x : Guard) → clear_of s me x ≡ clear_bare x
-    clear (Locked l) = refl
-    clear (Reached p) = all-clear s s.lp_count me p false none
-    clear (Written p) = all-clear s s.lp_count me p true none
 
 -- locks that were held before those that are
 abbrev pub IsOlder : List Held → List Held → Type 0
@@ -112,29 +72,63 @@ parted-held s p q hs ks all older older' = record { sole = sole; both = both; cl
     sole-more : (l : LockId) (r : ℕ) (js : List Held) → IsOlder js (s.lps r).call.held → holds_alone js l ≡ true → holds_alone (locks_of (s.lps r)) l ≡ true
     sole-more l r js = any-older (λ h. is_alone h.mode && same_lock h.lock l) js (s.lps r)
 
-    sole : (x : Guard) → sole_bare hs x ≡ true → has_bare ks x ≡ true → ⊥
+    sole : (x : Guard) → sole_of hs x ≡ true → lock_has ks x ≡ true → ⊥
     sole (Locked l) a b = all.sole (Locked l) (sole-more l p hs older a) (has-more l b)
     sole (Reached r) a b = cc
     sole (Written r) a b = cc
 
-    both : (x : Guard) → sole_bare hs x ≡ true → sole_bare ks x ≡ true → ⊥
+    both : (x : Guard) → sole_of hs x ≡ true → sole_of ks x ≡ true → ⊥
     both (Locked l) a b = all.both (Locked l) (sole-more l p hs older a) (sole-more l q ks older' b)
     both (Reached r) a b = cc
     both (Written r) a b = cc
 
-    clear : (x : Guard) → clear_bare x ≡ true → has_bare ks x ≡ true → ⊥
-    clear (Locked l) a b = cc
-    clear (Reached r) a b = cc
-    clear (Written r) a b = cc
+    clear : (x : Guard) → (bare hs).clear x ≡ true → lock_has ks x ≡ true → ⊥
+    clear x a b = cc
 
 pub turned-round : (g h : Grip) → Apart g h → Apart h g
 turned-round g h a = record { there = a.back; back = a.there }
 
-pub apart-held : GripsAreApart → (s : State) (p q : ℕ) (hs ks : List Held) → NoGuests s → IsExclusive s → p < s.lp_count → q < s.lp_count → (p == q) ≡ false
+pub apart-held : GripsAreApart → (s : State) (p q : ℕ) (hs ks : List Held) → IsExclusive s → p < s.lp_count → q < s.lp_count → (p == q) ≡ false
     → IsOlder hs (s.lps p).call.held → IsOlder ks (s.lps q).call.held → Apart (bare hs) (bare ks)
-apart-held apart s p q hs ks none ex a b e older older' =
+apart-held apart s p q hs ks ex a b e older older' =
     let all = apart s p q ex a b e in
     record { there = parted-held s p q hs ks all.there older older'; back = parted-held s q p ks hs all.back older' older }
+
+-- and what each has by its locks is apart from all that another has, with its guest's translations, as in a guest's access
+pub apart-grasp : GripsAreApart → (s : State) (p q : ℕ) (hs : List Held) → IsExclusive s → p < s.lp_count → q < s.lp_count → (p == q) ≡ false → IsOlder hs (s.lps p).call.held → Apart (bare hs) (grip_of s q)
+apart-grasp apart s p q hs ex a b e older =
+    let all = apart s p q ex a b e in
+    let more : (l : LockId) → holds hs l ≡ true → holds (locks_of (s.lps p)) l ≡ true = λ l. any-older (λ h. same_lock h.lock l) hs (s.lps p) older in
+    let more-alone : (l : LockId) → holds_alone hs l ≡ true → holds_alone (locks_of (s.lps p)) l ≡ true = λ l. any-older (λ h. is_alone h.mode && same_lock h.lock l) hs (s.lps p) older in
+    record {
+      there = record { sole = there-sole all more-alone; both = there-both all more-alone; clear = λ x y z. cc };
+      back = record { sole = back-sole all more; both = back-both all more-alone; clear = back-clear all more };
+    }
+  where
+    there-sole : Apart (grip_of s p) (grip_of s q) → ((l : LockId) → holds_alone hs l ≡ true → holds_alone (locks_of (s.lps p)) l ≡ true) → (x : Guard) → sole_of hs x ≡ true → (grip_of s q).has x ≡ true → ⊥
+    there-sole all more (Locked l) y z = all.there.sole (Locked l) (more l y) z
+    there-sole all more (Reached r) y z = cc
+    there-sole all more (Written r) y z = cc
+
+    there-both : Apart (grip_of s p) (grip_of s q) → ((l : LockId) → holds_alone hs l ≡ true → holds_alone (locks_of (s.lps p)) l ≡ true) → (x : Guard) → sole_of hs x ≡ true → (grip_of s q).sole x ≡ true → ⊥
+    there-both all more (Locked l) y z = all.there.both (Locked l) (more l y) z
+    there-both all more (Reached r) y z = cc
+    there-both all more (Written r) y z = cc
+
+    back-sole : Apart (grip_of s p) (grip_of s q) → ((l : LockId) → holds hs l ≡ true → holds (locks_of (s.lps p)) l ≡ true) → (x : Guard) → (grip_of s q).sole x ≡ true → lock_has hs x ≡ true → ⊥
+    back-sole all more (Locked l) y z = all.back.sole (Locked l) y (more l z)
+    back-sole all more (Reached r) y z = cc
+    back-sole all more (Written r) y z = cc
+
+    back-both : Apart (grip_of s p) (grip_of s q) → ((l : LockId) → holds_alone hs l ≡ true → holds_alone (locks_of (s.lps p)) l ≡ true) → (x : Guard) → (grip_of s q).sole x ≡ true → sole_of hs x ≡ true → ⊥
+    back-both all more (Locked l) y z = all.back.both (Locked l) y (more l z)
+    back-both all more (Reached r) y z = cc
+    back-both all more (Written r) y z = cc
+
+    back-clear : Apart (grip_of s p) (grip_of s q) → ((l : LockId) → holds hs l ≡ true → holds (locks_of (s.lps p)) l ≡ true) → (x : Guard) → (grip_of s q).clear x ≡ true → lock_has hs x ≡ true → ⊥
+    back-clear all more (Locked l) y z = all.back.clear (Locked l) y (more l z)
+    back-clear all more (Reached r) y z = cc
+    back-clear all more (Written r) y z = cc
 
 -- the words of a TD's locks are its, in its TDCS page
 
@@ -164,23 +158,23 @@ may-try m w hs (OfEpoch t) lawful st h = held-tries hs t (tdcs_of w t) _ (td-loc
 may-try m w hs (OfRtmr t) lawful st h = held-tries hs t (tdcs_of w t) _ (td-lock m w t TDCS_RTMR_LOCK lawful st refl) h
 may-try m w hs OfKeys lawful st h = inl tt
 
-not-alone : (hs ks : List Held) (t : ℕ) → Apart (bare hs) (bare ks) → holds hs (OfPage t) ≡ true → holds_alone ks (OfPage t) ≡ false
-not-alone hs ks t apart h = by_test (holds_alone ks (OfPage t)) (λ y. absurd (apart.back.sole (Locked (OfPage t)) y h)) (λ n. n)
+not-alone : (hs : List Held) (g : Grip) (t : ℕ) → Apart (bare hs) g → holds hs (OfPage t) ≡ true → g.sole (Locked (OfPage t)) ≡ false
+not-alone hs g t apart h = by_test (g.sole (Locked (OfPage t))) (λ y. absurd (apart.back.sole (Locked (OfPage t)) y h)) (λ n. n)
 
-td-stays : TdLocksStay → (m : Machine) (w w' : World) (hs ks : List Held) (t : ℕ) (name : LockName) → Lawful m w → Respects (bare ks) w w' → Apart (bare hs) (bare ks) → holds hs (OfPage t) ≡ true → TdStands w t
+td-stays : TdLocksStay → (m : Machine) (w w' : World) (hs : List Held) (g : Grip) (t : ℕ) (name : LockName) → Lawful m w → Respects g w w' → Apart (bare hs) g → holds hs (OfPage t) ≡ true → TdStands w t
     → (lock_place (tdcs_of w' t) name ≡ lock_place (tdcs_of w t) name) × TdStands w' t
-td-stays stay m w w' hs ks t name lawful r apart h st =
-    let k = stay m (bare ks) w w' t lawful r (not-alone hs ks t apart h) st in (ap (λ (c : ℕ). lock_place c name) k.0, k.1)
+td-stays stay m w w' hs g t name lawful r apart h st =
+    let k = stay m g w w' t lawful r (not-alone hs g t apart h) st in (ap (λ (c : ℕ). lock_place c name) k.0, k.1)
 
 -- another's act leaves it where it is
-pub lock-stays : TdLocksStay → (m : Machine) (w w' : World) (hs ks : List Held) (l : LockId) → Lawful m w → Respects (bare ks) w w' → Apart (bare hs) (bare ks) → HoldsTdr hs l → Stands w l
+pub lock-stays : TdLocksStay → (m : Machine) (w w' : World) (hs : List Held) (g : Grip) (l : LockId) → Lawful m w → Respects g w w' → Apart (bare hs) g → HoldsTdr hs l → Stands w l
     → (place_of w' l ≡ place_of w l) × Stands w' l
-lock-stays stay m w w' hs ks (OfPage p) lawful r apart h st = (refl, tt)
-lock-stays stay m w w' hs ks (OfOp t) lawful r apart h st = td-stays stay m w w' hs ks t name.Op lawful r apart h st
-lock-stays stay m w w' hs ks (OfTree t) lawful r apart h st = td-stays stay m w w' hs ks t name.Tree lawful r apart h st
-lock-stays stay m w w' hs ks (OfEpoch t) lawful r apart h st = td-stays stay m w w' hs ks t name.Epoch lawful r apart h st
-lock-stays stay m w w' hs ks (OfRtmr t) lawful r apart h st = td-stays stay m w w' hs ks t name.Rtmr lawful r apart h st
-lock-stays stay m w w' hs ks OfKeys lawful r apart h st = (refl, tt)
+lock-stays stay m w w' hs g (OfPage p) lawful r apart h st = (refl, tt)
+lock-stays stay m w w' hs g (OfOp t) lawful r apart h st = td-stays stay m w w' hs g t name.Op lawful r apart h st
+lock-stays stay m w w' hs g (OfTree t) lawful r apart h st = td-stays stay m w w' hs g t name.Tree lawful r apart h st
+lock-stays stay m w w' hs g (OfEpoch t) lawful r apart h st = td-stays stay m w w' hs g t name.Epoch lawful r apart h st
+lock-stays stay m w w' hs g (OfRtmr t) lawful r apart h st = td-stays stay m w w' hs g t name.Rtmr lawful r apart h st
+lock-stays stay m w w' hs g OfKeys lawful r apart h st = (refl, tt)
 
 -- what a leaf on its way was told: each load, under the locks that it had then
 abbrev pub EachTold : (List Held → View → WordPlace → Type 0) → Tree → List ℕ → List Held → Type 0
@@ -192,10 +186,10 @@ EachTold P (Test b r t) xs hs = b ≡ true → EachTold P t xs hs
 EachTold P (End r fs cs) xs hs = Unit {0}
 EachTold P (Since r cs) xs hs = Unit {0}
 
-stable : (m : Machine) (c : Instant) (hs : List Held) (v : View) (q : WordPlace) (t : ℕ → Tree) (x : ℕ) → Loads c hs v q t → look v x ≡ look v (c.memory.words q) → has_acted (t (look v x)) ≡ false
+stable : (m : Machine) (c : Instant) (k : Work) (hs : List Held) (v : View) (q : WordPlace) (t : ℕ → Tree) (x : ℕ) → Loads c k hs v q t → look v x ≡ look v (c.memory.words q) → has_acted (t (look v x)) ≡ false
     → Reads (hold c hs) c.state.world q v
-stable m c hs v q t x (inl r) e n = r
-stable m c hs v q t x (inr s) e n = absurd (let bad : true ≡ false = sym s.1 ∙ (ap (λ (z : ℕ). has_acted (t z)) (sym e) ∙ n) in cc)
+stable m c k hs v q t x (inl r) e n = r
+stable m c k hs v q t x (inr s) e n = absurd (let bad : true ≡ false = sym s.1 ∙ (ap (λ (z : ℕ). has_acted (t z)) (sym e) ∙ n) in cc)
 
 -- so each is stable under the locks held then
 pub told-reads : (m : Machine) (c : Instant) (k : Work) (hs : List Held) (t : Tree) (items : List (Item Reply)) (told : List ℕ) → Means m c k hs t items → Current c.memory.words t told → NotActed t told
@@ -206,7 +200,7 @@ told-reads m c k hs (Lock l q mode t) (Check b r ∷ is) (x ∷ xs) a cu na = ab
 told-reads m c k hs (Lock l q mode t) (Try l' mode' ∷ is) (x ∷ xs) a cu na = told-reads m c k (record { lock = l; mode = mode } ∷ hs) t is xs a.3 cu na
 told-reads m c k hs (Load v q t) items [] a cu na = tt
 told-reads m c k hs (Load v q t) items (x ∷ xs) a cu na = (
-  (a.0, stable m c hs v q t x a.1 cu.0 na.0),
+  (a.0, stable m c k hs v q t x a.1 cu.0 na.0),
   told-reads m c k hs (t (look v x)) items xs (subst (λ (z : ℕ). Means m c k hs (t z) items) (sym cu.0) a.2) cu.1 na.1,
 )
 told-reads m c k hs (Test b r t) [] xs a cu na = absurd a

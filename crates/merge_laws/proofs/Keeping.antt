@@ -63,7 +63,7 @@ keeps-page m g w a p (suc n) xs h =
 one-keeps : (m : Machine) (g : Grip) (w : World) (mem : Memory) (c : Change) → MayOwe m g w mem c → Keeps m g w mem.words (stores_of c mem)
 one-keeps m g w mem (Put q x) may = ((may.0, (may.1.0, may.1.1, may.1.2)), tt)
 one-keeps m g w mem (PutHash q x) may = ((may.0, (KeepsNothing, may.1, tt)), tt)
-one-keeps m g w mem (Raise q) may = absurd may
+one-keeps m g w mem (Raise q more) may = absurd may
 one-keeps m g w mem (Clear p) may = keeps-page m g w mem.words p 512 (λ i. 0) (λ i l. ((may.0, l), may.1 i l))
 one-keeps m g w mem (Copy p q) may = absurd may
 one-keeps m g w mem (Swap h made) may = tt

@@ -216,7 +216,7 @@ try-piece ls o trees s mem t pos p c cs run run' e tree name at mode seen tps en
     hs = granted (trees p c) told []
 
     grip : hold inst hs ≡ bare (s.lps p).call.held
-    grip = hold-is s mem task hs a.all.guests ∙ ap bare (a.runs.call.told st).locks
+    grip = hold-is s mem task hs ∙ ap bare (a.runs.call.told st).locks
 
     by : (x : Tree) → Comes m inst (work_of task.meaning) hs x (next ((work_of task.meaning).items s.world) (length hs)) → Wants m.pages x (need.Lock name at mode) → Came o trees p s t pos (Marked (Stepped (try_step at mode) seen)) (joined tps) end_
     by (Load v q k) co g = cc

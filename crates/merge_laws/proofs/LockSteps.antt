@@ -36,7 +36,7 @@ use Rattle.merge_laws.proofs.Holding.{bare, turned-round}
 use Rattle.merge_laws.proofs.Standing.{Laws, leaf_for, AreTrees, Known, HandOf, RunsAt, on_table, Position, Stands}
 use Rattle.merge_laws.proofs.Others.{shown-hand}
 use Rattle.merge_laws.proofs.SlotSteps.{slots-event}
-use Rattle.merge_laws.proofs.Own.{stands-after, world-of-event, at-other, gathered, none-due}
+use Rattle.merge_laws.proofs.Own.{apart-from, stands-after, world-of-event, at-other, gathered, none-due}
 
 pub engine : Laws → EngineLaws
 engine ls = record { follow = ls.follow; steps = ls.steps; places = ls.places; pages = ls.pages }
@@ -102,7 +102,7 @@ module _ (ls : Laws) (o : Opening) (trees : ℕ → Call → Tree) (s : State) (
       by : (b : Bool) → (k == p) ≡ b → last_at (pos k).owes q ≡ None
       by true e = (let k-is : k ≡ p = eqb-true k p e in ap (λ (z : ℕ). last_at (pos z).owes q) k-is ∙ ap (λ (ds : List Due). last_at ds q) none)
       by false e =
-          none-due ls o trees s mem t pos p q known sd i
+          none-due ls o trees s mem t pos p q (bare (s.lps p).call.held) (λ k hs j e older. apart-from ls o trees s mem t pos p k hs known sd i j e older) known sd i
           (record {
             owes = λ hs g apart owes. (ls.words (bare (s.lps p).call.held) (bare hs) s.world (turned-round (bare hs) (bare (s.lps p).call.held) apart)).tries_owes q g one.tries owes;
             fills = λ hs apart fills. (ls.words (bare (s.lps p).call.held) (bare hs) s.world (turned-round (bare hs) (bare (s.lps p).call.held) apart)).tries_fills q one.tries fills;
@@ -119,7 +119,7 @@ module _ (ls : Laws) (o : Opening) (trees : ℕ → Call → Tree) (s : State) (
   -- the call is after its step as its leaf says
   step-made : After o (leaf_for o trees p c) (row_of o p c) (s.lps p).replies (event o s p) shown_after run' result.reply
   step-made =
-      calls-follow (engine ls) o (leaf_for o trees p c) (row_of o p c) s memory_in_hand shown_table shown_after run run' (Stepped st a ∷ []) result (are.means p c) refl
+      calls-follow (engine ls) o (leaf_for o trees p c) (row_of o p c) s memory_in_hand shown_table shown_after run run' (Stepped st a ∷ []) result (are.means p c) refl (are.enters_none p c)
       (shown-hand o trees s mem t pos p c run known sd i ho) ra.call one.going one.turn
       (an ∙ answers-same t.words shown_table.words st (address machine.pages q) one.at word-shown, (refl, refl))
 
@@ -196,7 +196,7 @@ module _ (ls : Laws) (o : Opening) (trees : ℕ → Call → Tree) (s : State) (
   lock-step =
       record {
         memory = memory_after;
-        stands = gathered ls o trees s mem memory_after t stepped_table pos p its_position are known sd i
+        stands = gathered ls o trees s mem memory_after t stepped_table pos p its_position (bare (s.lps p).call.held) (λ k hs j e older. apart-from ls o trees s mem t pos p k hs known sd i j e older) are known sd i
             (record {
               respects = subst (λ (w : World). Respects (bare (s.lps p).call.held) s.world w) (sym world-stays) (ls.compose.same (bare (s.lps p).call.held) s.world);
               looks = λ hs v r apart in_r reads. ap (look v) (as-it-was r in_r (λ e. absurd (never-read hs v r apart reads e)));

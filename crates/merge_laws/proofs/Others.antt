@@ -32,7 +32,7 @@ use Rattle.merge_laws.proofs.Virtual.{table_of, holds-memory}
 use Rattle.merge_laws.proofs.Stores.{Due, last_at, or_else, each-map, FillsAt, last-each}
 use Rattle.merge_laws.proofs.Filling.{all_todos, dues-same, todos-kept}
 use Rattle.merge_laws.proofs.Keeping.{keeps-same}
-use Rattle.merge_laws.proofs.Holding.{bare, NoGuests, grip-is-bare, IsOlder, lock-stays, EachTold, told-reads, told-older, still-current}
+use Rattle.merge_laws.proofs.Holding.{bare, IsOlder, lock-stays, EachTold, told-reads, told-older, still-current}
 use Rattle.merge_laws.proofs.Standing.{Laws, leaf_for, AreTrees, Known, HandOf, RunsAt, RunAt, on_table, Fill, Position, seen_by, back, FillHolds, Pending, Holds, Stands}
 
 -- words that show a state, on a table that holds them, with the hasher that a run has in hand
@@ -62,8 +62,8 @@ shown-of o trees s mem t pos p c run known st i none =
     shown-hand o trees s mem t pos p c run known st i (record { hand = mem.hand; is = empty; trying = λ e. none })
 
 -- what it holds in an instant is its locks
-pub hold-is : (s : State) (mem : Memory) (task : Task) (hs : List Held) → NoGuests s → hold (instant task s mem) hs ≡ bare hs
-hold-is s mem task hs none = grip-is-bare s task.place.lp (hs ++ []) none ∙ ap bare (append-nil hs)
+pub hold-is : (s : State) (mem : Memory) (task : Task) (hs : List Held) → hold (instant task s mem) hs ≡ bare hs
+hold-is s mem task hs = ap bare (append-nil hs)
 
 -- what was told is stable, under locks that it had then
 abbrev pub IsStable : Machine → World → List Held → List Held → View → WordPlace → Type 0
@@ -81,7 +81,7 @@ stable-told o trees s mem t pos p c run are known st i none ca e =
     each (trees p c) told.told [] (λ ks v q x. (
       subst (λ (hs : List Held). IsOlder ks hs) told.locks x.0,
       x.1.0,
-      subst (λ (g : Grip). Reads g s.world q v) (hold-is s mem task ks st.guests) x.1.1,
+      subst (λ (g : Grip). Reads g s.world q v) (hold-is s mem task ks) x.1.1,
     )) older
   where
     each : {P Q : List Held → View → WordPlace → Type 0} (t : Tree) (told : List ℕ) (hs : List Held) → ((ks : List Held) (v : View) (q : WordPlace) → P ks v q → Q ks v q) → EachTold P t told hs → EachTold Q t told hs
@@ -94,10 +94,10 @@ stable-told o trees s mem t pos p c run are known st i none ca e =
     each (Since r cs) xs hs f e = tt
 
 -- locks stay where they are through another's act
-lock-kept : (ls : Laws) (m : Machine) (w w' : World) (hs ks : List Held) (l : LockId) (name : Rattle.td_words.specs.declared.names.LockName.LockName) (at : ℕ) → Lawful m w → Respects (bare ks) w w' → Apart (bare hs) (bare ks) → HoldsTdr hs l
+lock-kept : (ls : Laws) (m : Machine) (w w' : World) (hs : List Held) (g' : Grip) (l : LockId) (name : Rattle.td_words.specs.declared.names.LockName.LockName) (at : ℕ) → Lawful m w → Respects g' w w' → Apart (bare hs) g' → HoldsTdr hs l
     → IsLockAt m w name at l → IsLockAt m w' name at l
-lock-kept ls m w w' hs ks l name at lawful r ap_ h it =
-    let k = lock-stays ls.stay m w w' hs ks l lawful r ap_ h it.stands in
+lock-kept ls m w w' hs g' l name at lawful r ap_ h it =
+    let k = lock-stays ls.stay m w w' hs g' l lawful r ap_ h it.stands in
     record {
       name_is = it.name_is;
       at_is = it.at_is ∙ ap (address m.pages) (sym k.0);
@@ -108,43 +108,43 @@ lock-kept ls m w w' hs ks l name at lawful r ap_ h it =
 older-more : (h : Held) (hs all : List Held) → IsOlder (h ∷ hs) all → IsOlder hs all
 older-more h hs all (newer, e) = (newer ++ h ∷ [], e ∙ sym (append_assoc newer (h ∷ []) hs))
 
-locks-kept : (ls : Laws) (m : Machine) (w w' : World) (all hs ks : List Held) (held : List HeldLock) → Lawful m w → Respects (bare ks) w w' → ((xs : List Held) → IsOlder xs all → Apart (bare xs) (bare ks)) → IsOlder hs all → HoldTdrs hs
+locks-kept : (ls : Laws) (m : Machine) (w w' : World) (all hs : List Held) (g' : Grip) (held : List HeldLock) → Lawful m w → Respects g' w w' → ((xs : List Held) → IsOlder xs all → Apart (bare xs) g') → IsOlder hs all → HoldTdrs hs
     → AreLocks m w held hs → AreLocks m w' held hs
-locks-kept ls m w w' all [] ks held lawful r apart older h a = a
-locks-kept ls m w w' all (x ∷ hs) ks held lawful r apart older h a =
+locks-kept ls m w w' all [] g' held lawful r apart older h a = a
+locks-kept ls m w w' all (x ∷ hs) g' held lawful r apart older h a =
     let further = older-more x hs all older in (
       a.0,
       (
         a.1.0,
         a.1.1,
         a.1.2,
-        lock-kept ls m w w' hs ks x.lock a.1.0.name a.1.0.at lawful r (apart hs further) h.0 a.1.3,
-        locks-kept ls m w w' all hs ks a.0 lawful r apart further h.1 a.1.4,
+        lock-kept ls m w w' hs g' x.lock a.1.0.name a.1.0.at lawful r (apart hs further) h.0 a.1.3,
+        locks-kept ls m w w' all hs g' a.0 lawful r apart further h.1 a.1.4,
       ),
     )
 
-stage-kept : (ls : Laws) (m : Machine) (w w' : World) (hs ks : List Held) (st : Stage) (ph : Phase Reply) → Lawful m w → Respects (bare ks) w w' → Apart (bare hs) (bare ks) → UndoTdr ph hs → IsStage m w st ph → IsStage m w' st ph
-stage-kept ls m w w' hs ks stages.Trying Trying lawful r a u i = i
-stage-kept ls m w w' hs ks stages.Trying (Undoing l) lawful r a u i = absurd i
-stage-kept ls m w w' hs ks stages.Trying (Answered x) lawful r a u i = absurd i
-stage-kept ls m w w' hs ks (stages.Undoing name at) Trying lawful r a u i = absurd i
-stage-kept ls m w w' hs ks (stages.Undoing name at) (Undoing l) lawful r a u i = lock-kept ls m w w' hs ks l name at lawful r a u i
-stage-kept ls m w w' hs ks (stages.Undoing name at) (Answered x) lawful r a u i = absurd i
-stage-kept ls m w w' hs ks (stages.Answered reply) Trying lawful r a u i = absurd i
-stage-kept ls m w w' hs ks (stages.Answered reply) (Undoing l) lawful r a u i = absurd i
-stage-kept ls m w w' hs ks (stages.Answered reply) (Answered x) lawful r a u i = i
+stage-kept : (ls : Laws) (m : Machine) (w w' : World) (hs : List Held) (g' : Grip) (st : Stage) (ph : Phase Reply) → Lawful m w → Respects g' w w' → Apart (bare hs) g' → UndoTdr ph hs → IsStage m w st ph → IsStage m w' st ph
+stage-kept ls m w w' hs g' stages.Trying Trying lawful r a u i = i
+stage-kept ls m w w' hs g' stages.Trying (Undoing l) lawful r a u i = absurd i
+stage-kept ls m w w' hs g' stages.Trying (Answered x) lawful r a u i = absurd i
+stage-kept ls m w w' hs g' (stages.Undoing name at) Trying lawful r a u i = absurd i
+stage-kept ls m w w' hs g' (stages.Undoing name at) (Undoing l) lawful r a u i = lock-kept ls m w w' hs g' l name at lawful r a u i
+stage-kept ls m w w' hs g' (stages.Undoing name at) (Answered x) lawful r a u i = absurd i
+stage-kept ls m w w' hs g' (stages.Answered reply) Trying lawful r a u i = absurd i
+stage-kept ls m w w' hs g' (stages.Answered reply) (Undoing l) lawful r a u i = absurd i
+stage-kept ls m w w' hs g' (stages.Answered reply) (Answered x) lawful r a u i = i
 
 -- the acting processor's locks are apart from this one's, and it looks the same wherever this one has looked
-pub record Leaves (m : Machine) (held ks : List Held) (w w' : World) (words words' a a' : WordPlace → ℕ) : Type 0 where
-  pub apart : (hs : List Held) → IsOlder hs held → Apart (bare hs) (bare ks)
-  pub respects : Respects (bare ks) w w'
+pub record Leaves (m : Machine) (held : List Held) (g' : Grip) (w w' : World) (words words' a a' : WordPlace → ℕ) : Type 0 where
+  pub apart : (hs : List Held) → IsOlder hs held → Apart (bare hs) g'
+  pub respects : Respects g' w w'
   pub looks : (hs : List Held) (v : View) (r : WordPlace) → IsOlder hs held → IsIn m r → Reads (bare hs) w r v → look v (words' r) ≡ look v (words r)
   pub still : (q : WordPlace) (g : Grade) → IsIn m q → Owes (bare held) w q g → a q ≡ a' q
   pub filled : (q : WordPlace) → IsIn m q → Fills (bare held) w q → (a q ≡ a' q) × (words' q ≡ words q)
 
-pub others-stay : (ls : Laws) (o : Opening) (trees : ℕ → Call → Tree) (s : State) (mem : Memory) (t : Table) (pos : ℕ → Position) (k : ℕ) (w' : World) (words' a' : WordPlace → ℕ) (ks : List Held) → AreTrees o trees → Known o s → Stands o trees s mem t pos
-    → k < length o.calls → Leaves o.machine (s.lps k).call.held ks s.world w' mem.words words' (on_table o.machine t) a' → Holds o trees k w' words' a' (s.lps k) (pos k)
-others-stay ls o trees s mem t pos k w' words' a' ks are known st i lv =
+pub others-stay : (ls : Laws) (o : Opening) (trees : ℕ → Call → Tree) (s : State) (mem : Memory) (t : Table) (pos : ℕ → Position) (k : ℕ) (w' : World) (words' a' : WordPlace → ℕ) (g' : Grip) → AreTrees o trees → Known o s → Stands o trees s mem t pos
+    → k < length o.calls → Leaves o.machine (s.lps k).call.held g' s.world w' mem.words words' (on_table o.machine t) a' → Holds o trees k w' words' a' (s.lps k) (pos k)
+others-stay ls o trees s mem t pos k w' words' a' g' are known st i lv =
     let h = st.holds k i in
     let whole : IsOlder (s.lps k).call.held (s.lps k).call.held = ([], refl) in
     record {
@@ -155,8 +155,8 @@ others-stay ls o trees s mem t pos k w' words' a' ks are known st i lv =
     held : List Held
     held = (s.lps k).call.held
 
-    later : NoLaterConflict (bare held) (bare ks) s.world w'
-    later = ls.acts (bare held) (bare ks) s.world w' (lv.apart held ([], refl)) lv.respects
+    later : NoLaterConflict (bare held) g' s.world w'
+    later = ls.acts (bare held) g' s.world w' (lv.apart held ([], refl)) lv.respects
 
     same-words : (q : WordPlace) → IsIn o.machine q → Reads (bare held) s.world q Whole → words' q ≡ mem.words q
     same-words q in_q reads = lv.looks held Whole q ([], refl) in_q reads
@@ -192,8 +192,8 @@ others-stay ls o trees s mem t pos k w' words' a' ks are known st i lv =
           call = record {
             line = ca.line;
             guest = ca.guest;
-            stage = stage-kept ls o.machine s.world w' (s.lps k).call.held ks r.stage (s.lps k).call.phase known.lawful lv.respects (lv.apart (s.lps k).call.held whole) (known.tdrs k).0.1 ca.stage;
-            held = locks-kept ls o.machine s.world w' (s.lps k).call.held (s.lps k).call.held ks r.held known.lawful lv.respects lv.apart whole (known.tdrs k).0.0 ca.held;
+            stage = stage-kept ls o.machine s.world w' (s.lps k).call.held g' r.stage (s.lps k).call.phase known.lawful lv.respects (lv.apart (s.lps k).call.held whole) (known.tdrs k).0.1 ca.stage;
+            held = locks-kept ls o.machine s.world w' (s.lps k).call.held (s.lps k).call.held g' r.held known.lawful lv.respects lv.apart whole (known.tdrs k).0.0 ca.held;
             told = λ e.
                 let told = ca.told e in
                 record {

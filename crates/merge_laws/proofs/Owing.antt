@@ -174,7 +174,7 @@ one-owed m g w mem (PutHash q x) h h' xs may ch = λ i.
     (let handed = ch.handed mem.hand i in
     let written : IsWritten (write.Word (step.Store (address m.pages q) (x mem.hand))) ch.between xs h' = subst (λ (z : Write). IsWritten z ch.between xs h') handed.0 ch.written in
     record { answer = written.1.0; further = []; items = written.1.1; then_ = λ j. (refl, subst (λ (z : Option Measure). IsHand z mem.hand) (sym written.0) handed.1) })
-one-owed m g w mem (Raise q) h h' xs may ch = absurd may
+one-owed m g w mem (Raise q more) h h' xs may ch = absurd may
 one-owed m g w mem (Clear p) h h' xs may ch =
     subst (λ (z : List Owed). AreOwed m.pages h mem.hand xs z h') (sym (no-swap (as_stores (words_from p 512 (λ k. 0)))))
     (while-in-hand m.pages h mem.hand xs (as_stores (words_from p 512 (λ k. 0))) h' (λ i.
@@ -200,7 +200,7 @@ stores-behind hand (d ∷ ds) = stores-behind hand ds
 one-behind : (m : Machine) (g : Grip) (w : World) (c : Change) (mem : Memory) → MayOwe m g w mem c → hand_behind mem.hand (owed_of c mem) ≡ (changed c mem).hand
 one-behind m g w (Put q x) mem may = refl
 one-behind m g w (PutHash q x) mem may = refl
-one-behind m g w (Raise q) mem may = absurd may
+one-behind m g w (Raise q more) mem may = absurd may
 one-behind m g w (Clear p) mem may = stores-behind mem.hand (words_from p 512 (λ k. 0))
 one-behind m g w (Copy p q) mem may = absurd may
 one-behind m g w (Swap k made) mem may = refl

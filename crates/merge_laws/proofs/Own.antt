@@ -13,6 +13,7 @@ use Rattle.flat_core.specs.Table.{row_of}
 use Rattle.flat_core.specs.Event.{State, OfCall, next_event, lines_left, event, call_lp, call_world, settled, is_granted, calls_of}
 use Rattle.flat_core.proofs.Tests.{put_here}
 use Rattle.flat_core.proofs.Ends.{drop_next}
+use Rattle.lock_words.specs.Grips.{grip_of}
 use Rattle.word_rules.specs.Guards.{Grip, Apart}
 use Rattle.word_rules.specs.Rules.{View, Grade}
 use Rattle.word_rules.specs.Views.{look}
@@ -28,7 +29,7 @@ use Rattle.leaf_engine.specs.OwnLists.{WordLp, after_turn}
 use Rattle.leaf_engine.proofs.Calling.{event-is, lp-now}
 use Rattle.merge_laws.proofs.Stores.{Due, last_at, laid, last-each, OwesAt, FillsAt}
 use Rattle.merge_laws.proofs.Keeping.{keeps-each}
-use Rattle.merge_laws.proofs.Holding.{bare, NoGuests, IsOlder, apart-held}
+use Rattle.merge_laws.proofs.Holding.{bare, NoGuests, IsOlder, apart-held, apart-grasp}
 use Rattle.merge_laws.proofs.Standing.{Laws, leaf_for, AreTrees, Known, NoneOnWay, RunAt, StandsAt, on_table, Fill, Position, back, Pending, Holds, Slots, Stands}
 use Rattle.merge_laws.proofs.Others.{Leaves, others-stay}
 
@@ -105,22 +106,32 @@ whole hs = ([], refl)
 pub apart-from : (ls : Laws) (o : Opening) (trees : ℕ → Call → Tree) (s : State) (mem : Memory) (t : Table) (pos : ℕ → Position) (p k : ℕ) (hs : List Held) → Known o s → Stands o trees s mem t pos → p < length o.calls → k < length o.calls
     → (k == p) ≡ false → IsOlder hs (s.lps k).call.held → Apart (bare hs) (bare (s.lps p).call.held)
 apart-from ls o trees s mem t pos p k hs known st i j e older =
-    apart-held ls.apart s k p hs (s.lps p).call.held st.guests known.exclusive (subst (λ (n : ℕ). k < n) (sym known.count) j) (subst (λ (n : ℕ). p < n) (sym known.count) i) e older (whole (s.lps p).call.held)
+    apart-held ls.apart s k p hs (s.lps p).call.held known.exclusive (subst (λ (n : ℕ). k < n) (sym known.count) j) (subst (λ (n : ℕ). p < n) (sym known.count) i) e older (whole (s.lps p).call.held)
+
+-- so are they apart from all that it has there, with its guest's translations
+pub apart-from-all : (ls : Laws) (o : Opening) (trees : ℕ → Call → Tree) (s : State) (mem : Memory) (t : Table) (pos : ℕ → Position) (p k : ℕ) (hs : List Held) → Known o s → Stands o trees s mem t pos → p < length o.calls → k < length o.calls
+    → (k == p) ≡ false → IsOlder hs (s.lps k).call.held → Apart (bare hs) (grip_of s p)
+apart-from-all ls o trees s mem t pos p k hs known st i j e older =
+    apart-grasp ls.apart s k p hs known.exclusive (subst (λ (n : ℕ). k < n) (sym known.count) j) (subst (λ (n : ℕ). p < n) (sym known.count) i) e older
+
+-- a grip that a processor acts under, which is apart from what all others have by their locks
+abbrev pub IsApart : Opening → State → ℕ → Grip → Type 0
+IsApart o s p g = (k : ℕ) (hs : List Held) → k < length o.calls → (k == p) ≡ false → IsOlder hs (s.lps k).call.held → Apart (bare hs) g
 
 -- what an event leaves of memory, as far as others look
-pub record Spares (m : Machine) (s : State) (p : ℕ) (w' : World) (words words' a a' : WordPlace → ℕ) : Type 0 where
-  pub respects : Respects (bare (s.lps p).call.held) s.world w'
-  pub looks : (hs : List Held) (v : View) (r : WordPlace) → Apart (bare hs) (bare (s.lps p).call.held) → IsIn m r → Reads (bare hs) s.world r v → look v (words' r) ≡ look v (words r)
-  pub still : (hs : List Held) (q : WordPlace) (g : Grade) → Apart (bare hs) (bare (s.lps p).call.held) → IsIn m q → Owes (bare hs) s.world q g → a q ≡ a' q
-  pub filled : (hs : List Held) (q : WordPlace) → Apart (bare hs) (bare (s.lps p).call.held) → IsIn m q → Fills (bare hs) s.world q → (a q ≡ a' q) × (words' q ≡ words q)
+pub record Spares (m : Machine) (s : State) (g' : Grip) (w' : World) (words words' a a' : WordPlace → ℕ) : Type 0 where
+  pub respects : Respects g' s.world w'
+  pub looks : (hs : List Held) (v : View) (r : WordPlace) → Apart (bare hs) g' → IsIn m r → Reads (bare hs) s.world r v → look v (words' r) ≡ look v (words r)
+  pub still : (hs : List Held) (q : WordPlace) (g : Grade) → Apart (bare hs) g' → IsIn m q → Owes (bare hs) s.world q g → a q ≡ a' q
+  pub filled : (hs : List Held) (q : WordPlace) → Apart (bare hs) g' → IsIn m q → Fills (bare hs) s.world q → (a q ≡ a' q) × (words' q ≡ words q)
 
-pub gathered : (ls : Laws) (o : Opening) (trees : ℕ → Call → Tree) (s : State) (mem mem' : Memory) (t t' : Table) (pos : ℕ → Position) (p : ℕ) (now : Position) → AreTrees o trees → Known o s → Stands o trees s mem t pos → p < length o.calls
-    → Spares o.machine s p (event o s p).world mem.words mem'.words (on_table o.machine t) (on_table o.machine t') → Shows o.machine mem'.words mem'.slots (event o s p) → mem'.hand ≡ None
+pub gathered : (ls : Laws) (o : Opening) (trees : ℕ → Call → Tree) (s : State) (mem mem' : Memory) (t t' : Table) (pos : ℕ → Position) (p : ℕ) (now : Position) (g' : Grip) → IsApart o s p g' → AreTrees o trees → Known o s → Stands o trees s mem t pos → p < length o.calls
+    → Spares o.machine s g' (event o s p).world mem.words mem'.words (on_table o.machine t) (on_table o.machine t') → Shows o.machine mem'.words mem'.slots (event o s p) → mem'.hand ≡ None
     → Slots o (event o s p) mem'.slots t'.slots (put pos p now)
     → Holds o trees p (event o s p).world mem'.words (on_table o.machine t') ((event o s p).lps p) now
     → ((r : WordPlace) → IsIn o.machine r → mem'.words r ≡ laid (length o.calls) (λ k. (put pos p now k).owes) (on_table o.machine t') r)
     → Stands o trees (event o s p) mem' t' (put pos p now)
-gathered ls o trees s mem mem' t t' pos p now are known st i sp shows hand slots own laid_is = record {
+gathered ls o trees s mem mem' t t' pos p now g' apart are known st i sp shows hand slots own laid_is = record {
   shows = shows;
   hand = hand;
   slots = slots;
@@ -148,14 +159,14 @@ gathered ls o trees s mem mem' t t' pos p now are known st i sp shows hand slots
             subst (λ (z : ℕ). Holds o trees z (event o s p).world mem'.words (on_table o.machine t') ((event o s p).lps z) (put pos p now z)) q
             (subst (λ (z : Position). Holds o trees p (event o s p).world mem'.words (on_table o.machine t') ((event o s p).lps p) z) (sym (put_here pos p now)) own)
         by false e =
-            let lv : Leaves o.machine (s.lps k).call.held (s.lps p).call.held s.world (event o s p).world mem.words mem'.words (on_table o.machine t) (on_table o.machine t') = record {
-              apart = λ hs older. apart-from ls o trees s mem t pos p k hs known st i j e older;
+            let lv : Leaves o.machine (s.lps k).call.held g' s.world (event o s p).world mem.words mem'.words (on_table o.machine t) (on_table o.machine t') = record {
+              apart = λ hs older. apart k hs j e older;
               respects = sp.respects;
-              looks = λ hs v r older in_r reads. sp.looks hs v r (apart-from ls o trees s mem t pos p k hs known st i j e older) in_r reads;
-              still = λ q g in_q owes. sp.still (s.lps k).call.held q g (apart-from ls o trees s mem t pos p k (s.lps k).call.held known st i j e (whole (s.lps k).call.held)) in_q owes;
-              filled = λ q in_q fills. sp.filled (s.lps k).call.held q (apart-from ls o trees s mem t pos p k (s.lps k).call.held known st i j e (whole (s.lps k).call.held)) in_q fills;
+              looks = λ hs v r older in_r reads. sp.looks hs v r (apart k hs j e older) in_r reads;
+              still = λ q g in_q owes. sp.still (s.lps k).call.held q g (apart k (s.lps k).call.held j e (whole (s.lps k).call.held)) in_q owes;
+              filled = λ q in_q fills. sp.filled (s.lps k).call.held q (apart k (s.lps k).call.held j e (whole (s.lps k).call.held)) in_q fills;
             } in
-            let there = others-stay ls o trees s mem t pos k (event o s p).world mem'.words (on_table o.machine t') (s.lps p).call.held are known st j lv in
+            let there = others-stay ls o trees s mem t pos k (event o s p).world mem'.words (on_table o.machine t') g' are known st j lv in
             subst (λ (z : Position). Holds o trees k (event o s p).world mem'.words (on_table o.machine t') ((event o s p).lps k) z) (sym (at-other pos p k now e))
             (subst (λ (z : Lp). Holds o trees k (event o s p).world mem'.words (on_table o.machine t') z (pos k)) (sym (other k e)) there)
 
@@ -175,13 +186,13 @@ pub record NobodyElse (g : Grip) (w : World) (r : WordPlace) : Type 0 where
   pub fills : (hs : List Held) → Apart (bare hs) g → Fills (bare hs) w r → ⊥
 
 -- so nothing of others is due there
-pub none-due : (ls : Laws) (o : Opening) (trees : ℕ → Call → Tree) (s : State) (mem : Memory) (t : Table) (pos : ℕ → Position) (p : ℕ) (r : WordPlace) → Known o s → Stands o trees s mem t pos → p < length o.calls → NobodyElse (bare (s.lps p).call.held) s.world r
+pub none-due : (ls : Laws) (o : Opening) (trees : ℕ → Call → Tree) (s : State) (mem : Memory) (t : Table) (pos : ℕ → Position) (p : ℕ) (r : WordPlace) (g' : Grip) → IsApart o s p g' → Known o s → Stands o trees s mem t pos → p < length o.calls → NobodyElse g' s.world r
     → (k : ℕ) → k < length o.calls → (k == p) ≡ false → last_at (pos k).owes r ≡ None
-none-due ls o trees s mem t pos p r known st i never k j e = by (last_at (pos k).owes r) refl
+none-due ls o trees s mem t pos p r g' apart known st i never k j e = by (last_at (pos k).owes r) refl
   where
     at : OwesAt o.machine (bare (s.lps k).call.held) s.world r ⊎ FillsAt o.machine (bare (s.lps k).call.held) s.world r → last_at (pos k).owes r ≡ None
-    at (inl owed) = absurd (never.owes (s.lps k).call.held owed.1.0 (apart-from ls o trees s mem t pos p k (s.lps k).call.held known st i j e (whole (s.lps k).call.held)) owed.1.1)
-    at (inr filled) = absurd (never.fills (s.lps k).call.held (apart-from ls o trees s mem t pos p k (s.lps k).call.held known st i j e (whole (s.lps k).call.held)) filled.1)
+    at (inl owed) = absurd (never.owes (s.lps k).call.held owed.1.0 (apart k (s.lps k).call.held j e (whole (s.lps k).call.held)) owed.1.1)
+    at (inr filled) = absurd (never.fills (s.lps k).call.held (apart k (s.lps k).call.held j e (whole (s.lps k).call.held)) filled.1)
 
     by : (x : Option ℕ) → last_at (pos k).owes r ≡ x → last_at (pos k).owes r ≡ None
     by None h = h

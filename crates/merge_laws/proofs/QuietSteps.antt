@@ -112,9 +112,9 @@ loads-right ls o trees s mem t pos p c run at a are known sd i none no_hasher ca
     hs = granted (trees p c) told []
 
     grip : hold inst hs ≡ bare (s.lps p).call.held
-    grip = hold-is s mem task hs sd.guests ∙ ap bare (ca.told e).locks
+    grip = hold-is s mem task hs ∙ ap bare (ca.told e).locks
 
-    never : (v : View) (q : WordPlace) (k : ℕ → Tree) → Loads inst hs v q k → (j : ℕ) → j < length o.calls → (j == p) ≡ false → (g : Grade) → Owes (bare (s.lps j).call.held) s.world q g → spares g v ≡ false → ⊥
+    never : (v : View) (q : WordPlace) (k : ℕ → Tree) → Loads inst (work_of task.meaning) hs v q k → (j : ℕ) → j < length o.calls → (j == p) ≡ false → (g : Grade) → Owes (bare (s.lps j).call.held) s.world q g → spares g v ≡ false → ⊥
     never v q k (inl reads) j l n g owes ns =
         (ls.words (bare (s.lps p).call.held) (bare (s.lps j).call.held) s.world (turned-round (bare (s.lps j).call.held) (bare (s.lps p).call.held) (apart-from ls o trees s mem t pos p j (s.lps j).call.held known sd i l n (whole (s.lps j).call.held)))).reads_owes q v g ns
         (subst (λ (x : Grip). Reads x s.world q v) grip reads) owes
@@ -122,7 +122,7 @@ loads-right ls o trees s mem t pos p c run at a are known sd i none no_hasher ca
         (ls.words (bare (s.lps p).call.held) (bare (s.lps j).call.held) s.world (turned-round (bare (s.lps j).call.held) (bare (s.lps p).call.held) (apart-from ls o trees s mem t pos p j (s.lps j).call.held known sd i l n (whole (s.lps j).call.held)))).sees_owes q v g ns
         (subst (λ (x : Grip). Sees x s.world q v) grip sees.0) owes
 
-    never-filled : (v : View) (q : WordPlace) (k : ℕ → Tree) → Loads inst hs v q k → (j : ℕ) → j < length o.calls → (j == p) ≡ false → Fills (bare (s.lps j).call.held) s.world q → ⊥
+    never-filled : (v : View) (q : WordPlace) (k : ℕ → Tree) → Loads inst (work_of task.meaning) hs v q k → (j : ℕ) → j < length o.calls → (j == p) ≡ false → Fills (bare (s.lps j).call.held) s.world q → ⊥
     never-filled v q k (inl reads) j l n fills =
         (ls.words (bare (s.lps j).call.held) (bare (s.lps p).call.held) s.world (apart-from ls o trees s mem t pos p j (s.lps j).call.held known sd i l n (whole (s.lps j).call.held))).fills_reads q v fills
         (subst (λ (x : Grip). Reads x s.world q v) grip reads)
@@ -133,7 +133,7 @@ loads-right ls o trees s mem t pos p c run at a are known sd i none no_hasher ca
     Either : (v : View) (q : WordPlace) (j : ℕ) → Type 0
     Either v q j = (last_at (pos j).owes q ≡ None) ⊎ ((g : Grip) × (w : World) × Keeps m g w (on_table m t) (pos j).owes × ((x : Grade) → Owes g w q x → spares x v ≡ false → ⊥))
 
-    each : (v : View) (q : WordPlace) (k : ℕ → Tree) → Loads inst hs v q k → (j : ℕ) → j < length o.calls → Either v q j
+    each : (v : View) (q : WordPlace) (k : ℕ → Tree) → Loads inst (work_of task.meaning) hs v q k → (j : ℕ) → j < length o.calls → Either v q j
     each v q k lo j l = test (j == p) refl
       where
         other : (j == p) ≡ false → (f : Option Fill) → Pending m (bare (s.lps j).call.held) s.world mem.words (on_table m t) (pos j).owes (pos j).at.run f → Either v q j

@@ -39,6 +39,7 @@ leaves-are o leaf are = λ i p c. record { place = record { machine = are.machin
 trees-are : (o : Opening) (leaf : ℕ → Call → Task) → AreLeaves o leaf → AreTrees o (trees_of leaf)
 trees-are o leaf are = record {
   means = λ p c. subst (λ (f : ℕ → Call → Task). MeansRow (f p c)) (leaves-are o leaf are) (are.means p c);
+  enters_none = are.enters_none;
 }
 
 -- the start

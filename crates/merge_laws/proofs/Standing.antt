@@ -73,6 +73,7 @@ leaf_for o trees p c = record { place = record { machine = o.machine; lp = p }; 
 
 pub record AreTrees (o : Opening) (trees : ℕ → Call → Tree) : Type 0 where
   pub means : (p : ℕ) (c : Call) → MeansRow (leaf_for o trees p c)
+  pub enters_none : (p : ℕ) (c : Call) → (row_of o p c).enters ≡ None
 
 -- what is known of a state that a run reaches
 pub record Known (o : Opening) (s : State) : Type 0 where

@@ -62,7 +62,7 @@ words_from p (suc n) xs = words_from p n xs ++ due (Word p n) (xs n) ∷ []
 abbrev pub stores_of : Change → Memory → List Due
 stores_of (Put q x) mem = due q x ∷ []
 stores_of (PutHash q x) mem = due q (x mem.hand) ∷ []
-stores_of (Raise q) mem = due q ((mem.words q + 1) % 2 ^ 64) ∷ []
+stores_of (Raise q more) mem = due q ((mem.words q + more) % 2 ^ 64) ∷ []
 stores_of (Clear p) mem = words_from p 512 (λ i. 0)
 stores_of (Copy p q) mem = words_from q 512 (λ i. mem.words (Word p i))
 stores_of (Swap h made) mem = []
@@ -201,7 +201,7 @@ or-test false x y = refl
 pub one-is : (m : Machine) (c : Change) (mem : Memory) (r : WordPlace) → IsIn m r → (changed c mem).words r ≡ or_else (last_at (stores_of c mem) r) (mem.words r)
 one-is m (Put q x) mem r i = or-test (same_place r q) x (mem.words r)
 one-is m (PutHash q x) mem r i = or-test (same_place r q) (x mem.hand) (mem.words r)
-one-is m (Raise q) mem r i = or-test (same_place r q) ((mem.words q + 1) % 2 ^ 64) (mem.words r)
+one-is m (Raise q more) mem r i = or-test (same_place r q) ((mem.words q + more) % 2 ^ 64) (mem.words r)
 one-is m (Clear p) mem r i = page-is m mem.words p (λ j. 0) r i
 one-is m (Copy p q) mem r i = page-is m mem.words q (λ j. mem.words (Word p j)) r i
 one-is m (Swap h made) mem r i = refl
@@ -231,7 +231,7 @@ pub filled-stores : (m : Machine) (g : Grip) (w : World) (mem : Memory) (fs : Li
 filled-stores m g w mem [] may = tt
 filled-stores m g w mem (Put q x ∷ fs) may = (may.0, filled-stores m g w (changed (Put q x) mem) fs may.1)
 filled-stores m g w mem (PutHash q x ∷ fs) may = absurd may.0
-filled-stores m g w mem (Raise q ∷ fs) may = absurd may.0
+filled-stores m g w mem (Raise q more ∷ fs) may = absurd may.0
 filled-stores m g w mem (Clear p ∷ fs) may = each-append (FillsAt m g w) (words_from p 512 (λ i. 0)) (all_stores fs (changed (Clear p) mem))
     (words-each (FillsAt m g w) p 512 (λ i. 0) (λ i l. ((may.0.0, l), may.0.1 i l)))
     (filled-stores m g w (changed (Clear p) mem) fs may.1)
@@ -280,7 +280,7 @@ looks-owed inj m g w mem [] r v i may keeps = refl
 looks-owed inj m g w mem (Put q x ∷ cs) r v i may keeps =
     looks-owed inj m g w (changed (Put q x) mem) cs r v i may.1 keeps ∙ keeps mem.words q x may.0.1.0 may.0.1.1 may.0.1.2
 looks-owed inj m g w mem (PutHash q x ∷ cs) r v i may keeps = looks-owed inj m g w (changed (PutHash q x) mem) cs r v i may.1 keeps ∙ keeps mem.words q (x mem.hand) KeepsNothing may.0.1 tt
-looks-owed inj m g w mem (Raise q ∷ cs) r v i may keeps = absurd may.0
+looks-owed inj m g w mem (Raise q more ∷ cs) r v i may keeps = absurd may.0
 looks-owed inj m g w mem (Clear p ∷ cs) r v i may keeps =
     looks-owed inj m g w (changed (Clear p) mem) cs r v i may.1 keeps
     ∙ page-looks m v mem.words p (λ j. 0) r i (λ j x l. keeps mem.words (Word p j) x KeepsNothing (may.0.1 j l) tt)
@@ -294,7 +294,7 @@ looks-filled inj m g w mem [] r v i may keeps = refl
 looks-filled inj m g w mem (Put q x ∷ fs) r v i may keeps =
     looks-filled inj m g w (changed (Put q x) mem) fs r v i may.1 keeps ∙ keeps mem.words q x may.0.1
 looks-filled inj m g w mem (PutHash q x ∷ fs) r v i may keeps = absurd may.0
-looks-filled inj m g w mem (Raise q ∷ fs) r v i may keeps = absurd may.0
+looks-filled inj m g w mem (Raise q more ∷ fs) r v i may keeps = absurd may.0
 looks-filled inj m g w mem (Clear p ∷ fs) r v i may keeps =
     looks-filled inj m g w (changed (Clear p) mem) fs r v i may.1 keeps
     ∙ page-looks m v mem.words p (λ j. 0) r i (λ j x l. keeps mem.words (Word p j) x (may.0.1 j l))

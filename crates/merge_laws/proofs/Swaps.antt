@@ -70,7 +70,7 @@ put-append (d ∷ xs) ys k = rw (put-append xs ys k) (later-later (last_put ys k
 pub one-slot : (c : Change) (mem : Memory) (k : ℕ) → (changed c mem).slots k ≡ or_else (last_put (swaps_of c mem) k) (mem.slots k)
 one-slot (Put q x) mem k = refl
 one-slot (PutHash q x) mem k = refl
-one-slot (Raise q) mem k = refl
+one-slot (Raise q more) mem k = refl
 one-slot (Clear p) mem k = refl
 one-slot (Copy p q) mem k = refl
 one-slot (Swap h made) mem k = or-test (k == h) (made mem.hand) (mem.slots k)
@@ -89,7 +89,7 @@ pub owed-swaps : (m : Machine) (g : Grip) (w : World) (mem : Memory) (cs : List 
 owed-swaps m g w mem [] may = tt
 owed-swaps m g w mem (Put q x ∷ cs) may = owed-swaps m g w (changed (Put q x) mem) cs may.1
 owed-swaps m g w mem (PutHash q x ∷ cs) may = owed-swaps m g w (changed (PutHash q x) mem) cs may.1
-owed-swaps m g w mem (Raise q ∷ cs) may = absurd may.0
+owed-swaps m g w mem (Raise q more ∷ cs) may = absurd may.0
 owed-swaps m g w mem (Clear p ∷ cs) may = owed-swaps m g w (changed (Clear p) mem) cs may.1
 owed-swaps m g w mem (Copy p q ∷ cs) may = absurd may.0
 owed-swaps m g w mem (Swap h made ∷ cs) may = ((may.0.0, may.0.1, refl), owed-swaps m g w (changed (Swap h made) mem) cs may.1)

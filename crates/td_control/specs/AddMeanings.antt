@@ -447,7 +447,6 @@ module _ (m : Machine) (c : Instant) (t p : ℕ) (in_tdr : t < m.pages) (in_page
 
 pub add-means : (p : Place) (t page : ℕ) → MeansRow (add_task p t page)
 add-means p t page = record {
-  enters_none = refl;
   means = λ c at. (
     refl,
     λ e. refl,

@@ -206,7 +206,6 @@ free_shown m c h sh range = rw (key-shown m c.memory.words c.memory.slots c.stat
 
 pub create-means : (p : Place) (t h : ℕ) → MeansRow (create_task p t h)
 create-means p t h = record {
-  enters_none = refl;
   means = λ c at. (
     refl,
     λ e. refl,

@@ -320,7 +320,6 @@ module _ (m : Machine) (c : Instant) (t : ℕ) (in_page : nat_lt t m.pages ≡ t
 
 pub finalize-means : (p : Place) (t : ℕ) → MeansRow (finalize_task p t)
 finalize-means p t = record {
-  enters_none = refl;
   means = λ c at. (
     refl,
     λ e. refl,

@@ -185,7 +185,6 @@ module _ (m : Machine) (c : Instant) (t : ℕ) (in_tdr : t < m.pages) (la : Lawf
 
 pub init-means : (p : Place) (t : ℕ) → MeansRow (init_task p t)
 init-means p t = record {
-  enters_none = refl;
   means = λ c at. (
     refl,
     λ e. refl,

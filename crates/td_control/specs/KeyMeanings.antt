@@ -88,7 +88,6 @@ module _ (m : Machine) (s : State) (words : WordPlace → ℕ) (slots : ℕ → 
 
 pub configure-means : (p : Place) (t : ℕ) → MeansRow (configure_task p t)
 configure-means p t = record {
-  enters_none = refl;
   means = λ c at. (
     refl,
     λ e. refl,

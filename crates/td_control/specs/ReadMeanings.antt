@@ -148,6 +148,5 @@ field-read m c t field.Mrtd i la sh = mrtd-read m c t field.Mrtd i la sh refl
 
 pub read-means : (p : Place) (t : ℕ) (f : ReadField) → MeansRow (read_task p t f)
 read-means p t f = record {
-  enters_none = refl;
   means = λ c at. (refl, λ e. refl, λ a. field-read p.machine c t f (ltb-true t p.machine.pages a) at.lawful at.shown);
 }

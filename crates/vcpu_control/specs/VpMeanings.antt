@@ -16,7 +16,6 @@ use Rattle.vcpu_control.specs.CreateMeans.{create_rest-means}
 
 pub vp_init-means : (p : Place) (t v x : ℕ) → p.machine.pages < 65536 → MeansRow (vp_init_task p t v x)
 vp_init-means p t v x few = record {
-  enters_none = refl;
   means = λ c at. (
     refl,
     λ e. refl,
@@ -36,7 +35,6 @@ vp_init-means p t v x few = record {
 
 pub vp_create-means : (p : Place) (t q : ℕ) → MeansRow (vp_create_task p t q)
 vp_create-means p t q = record {
-  enters_none = refl;
   means = λ c at. (
     refl,
     λ e. refl,
