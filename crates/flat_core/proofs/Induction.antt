@@ -1,6 +1,6 @@
 -- The inductions over a run, written once: what each event keeps of the state, what each act keeps of the world, what
 -- each event keeps of the processors' records, and what one event in each of two runs keeps of both.
-use Rattle.std.proofs.Common.{◌≡◌, refl, ℕ, zero, suc, ◌+◌, List, [], ◌∷◌, ◌++◌, length, Option, Some, None, Bool, true, false}
+use Rattle.std.proofs.Common.{◌≡◌, refl, subst, ℕ, zero, suc, ◌+◌, List, [], ◌∷◌, ◌++◌, length, Option, Some, None, Bool, true, false}
 use Rattle.td_words.specs.declared.names.Access.{Access}
 use Rattle.td_words.specs.declared.calls.Call.{Call}
 use Rattle.td_words.specs.declared.calls.GuestOp.{GuestOp}
@@ -15,8 +15,9 @@ use Rattle.flat_core.specs.Tree.{page_of_gpa}
 use Rattle.flat_core.specs.Guest.{Operation, ByRow, Private, operation_of, reach}
 use Rattle.flat_core.specs.Effects.{leave_guest, tell_words}
 use Rattle.flat_core.specs.Translations.{look_up}
-use Rattle.flat_core.specs.Event.{State, Event, next_event, event_for, line_event, entered_event, epoch_event, max_event, guest_event, staying_event, due_event, operation_due, operation_event, private_event, lines_left, is_epoch_lock, nothing_more, world_after, call_world, operation_world, after_event, event}
+use Rattle.flat_core.specs.Event.{State, Event, next_event, event_for, line_event, entered_event, epoch_event, max_event, guest_event, staying_event, due_event, operation_due, operation_event, private_event, lines_left, is_epoch_lock, nothing_more, world_after, call_world, operation_world, after_event, event, start}
 use Rattle.flat_core.specs.Run.{play}
+use Rattle.flat_core.specs.Laws.{IsKept, HoldsInRuns}
 use Rattle.std.specs.Prelude.{nat_le}
 
 -- what every event keeps of the state, every schedule keeps
@@ -31,6 +32,10 @@ module _ (o : Opening) (Q : State → Type 0) (step : (s : State) (p : ℕ) (e :
   pub play_keeps : (ps : List ℕ) (s : State) → Q s → Q (play o ps s)
   play_keeps [] s h = h
   play_keeps (p ∷ ps) s h = play_keeps ps (event o s p) (event_keeps s p h)
+
+-- what every run starts with and one event keeps, every schedule keeps
+pub in_runs : (holds : Opening → State → Type 0) → IsKept holds → HoldsInRuns holds
+in_runs holds kept o ws schedule = play_keeps o (holds o) (λ s p e is h. subst (λ (x : Option Event). holds o (after_event p s x)) is (kept.event o o.bundles s p h)) schedule (start o ws) (kept.start o ws)
 
 -- as many processors as before
 pub count_stays : (o : Opening) (s : State) (p : ℕ) → (event o s p).lp_count ≡ s.lp_count

@@ -3,7 +3,7 @@
 ghost use Rattle.flat_core.specs.Worked.{Examples};
 ghost use Rattle.flat_core.specs.Bounds.{RowsTryFew, EventsRunOut, RunsEnd};
 ghost use Rattle.flat_core.specs.Replies.{RepliesComeOneByOne, RepliesAreToLines, EveryLineIsAnswered};
-ghost use Rattle.flat_core.specs.Laws.{RowsKeep, RowsAreBlind, MrtdIsTheDigest, RecordsAreMeasured, EveryWorldIsLawful, EveryPageIsOwned, ExportedAreCounted, OthersStay, QuietEventsStay, NoWordsToTell, LocksExclude, TreeIsNeverBusy, BlindRunsPrintTheSame, BlindRunsMakeTheSameBundles, AgreeingRunsShowTheSame, RefusedCallsStay, QuietCallsKeep, RefusalsLeaveTheirReply, RowsTryTheSame, CallsHaveTheirEvents, EventsKeepLawful, EveryMrtdIsTheDigest, EventsMeasure, PagesHaveOneUse, GuestsKnowTheirPages, ToldAreMerged, OperationsTellBoth};
+ghost use Rattle.flat_core.specs.Laws.{RowsKeep, RowsAreBlind, MrtdIsTheDigest, RecordsAreMeasured, LawfulIsKept, EveryWorldIsLawful, LawfulPagesAreOwned, OwnersAreKept, EveryPageIsOwned, LawfulWorldsAreCounted, CountsAreKept, ExportedAreCounted, OthersStay, QuietEventsStay, NoWordsToTell, ExclusionIsKept, LocksExclude, TreeIsNeverBusy, BlindRunsPrintTheSame, BlindRunsMakeTheSameBundles, AgreeingRunsShowTheSame, RefusedCallsStay, QuietCallsKeep, RefusalsLeaveTheirReply, RowsTryTheSame, CallsHaveTheirEvents, EventsKeepLawful, MrtdsAreKept, EveryMrtdIsTheDigest, EventsMeasure, PagesHaveOneUse, MemoriesAreKept, GuestsKnowTheirPages, ToldAreMerged, OperationsTellBoth};
 
 /// The worked examples: replies of small runs, and how many events they take.
 pub fn worked_examples()
@@ -26,6 +26,7 @@ pub fn row_laws()
 /// in which list or entry of its TD that page stands, which pages a TD's entries name, whose each HKID
 /// is, and how many entries of a TD are dirty and how many are exported.
 pub fn lawful_law()
+    ensures kept { LawfulIsKept }
     ensures event { EventsKeepLawful }
     ensures run { EveryWorldIsLawful }
 {}
@@ -34,7 +35,9 @@ pub fn lawful_law()
 /// that their own TD owns, no page twice, and so none of the host's; and an entry of its TD names
 /// each secure EPT page and each private page of such a TD.
 pub fn ownership_law()
-    ensures { EveryPageIsOwned }
+    ensures lawful { LawfulPagesAreOwned }
+    ensures kept { OwnersAreKept }
+    ensures run { EveryPageIsOwned }
 {}
 
 /// In every world that a schedule leads to, as many entries of a TD that isn't in TD_TEARDOWN are dirty
@@ -42,7 +45,9 @@ pub fn ownership_law()
 /// entries and all first exports say together, modulo 2^64 (TD Migration Architecture, "Private Memory
 /// Migration").
 pub fn count_law()
-    ensures { ExportedAreCounted }
+    ensures lawful { LawfulWorldsAreCounted }
+    ensures kept { CountsAreKept }
+    ensures run { ExportedAreCounted }
 {}
 
 /// An event of one processor leaves the others' records alone; what is refused, tried, undone or
@@ -60,7 +65,8 @@ pub fn event_laws()
 
 /// Nobody holds a lock beside one who holds it alone, after any schedule.
 pub fn lock_law()
-    ensures { LocksExclude }
+    ensures kept { ExclusionIsKept }
+    ensures run { LocksExclude }
 {}
 
 /// The tree lock of a TD can't be busy for a processor that holds the TD's op state lock alone: no
@@ -97,13 +103,15 @@ pub fn two_world_law()
 /// After any schedule, MRTD of a TD in RUNNABLE is read as the digest of what it has measured, and no
 /// event but the act of a call changes what TDs have measured.
 pub fn measurement_laws()
+    ensures kept { MrtdsAreKept }
     ensures mrtd { EveryMrtdIsTheDigest }
     ensures events { EventsMeasure }
 {}
 
 /// After any schedule, what the guest of a TD knows of a private page is what the page holds.
 pub fn memory_law()
-    ensures { GuestsKnowTheirPages }
+    ensures kept { MemoriesAreKept }
+    ensures run { GuestsKnowTheirPages }
 {}
 
 /// After any schedule, the words that guests told, in the order of the events, are a merge of those
