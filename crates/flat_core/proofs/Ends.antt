@@ -20,8 +20,9 @@ use Rattle.flat_core.specs.KeyRows.{reclaim_conditions}
 use Rattle.flat_core.specs.Table.{row_of, most_tries}
 use Rattle.flat_core.specs.Event.{State, Event, OfCall, start, next_event, event_for, line_event, lines_left, calls_of, event, after_event, lp_after, call_lp, succeeded, settled, settle, call_busy, is_granted}
 use Rattle.flat_core.specs.Run.{play, events_in, to_the_end}
-use Rattle.flat_core.specs.Bounds.{call_left, left_of, events_left, EventsRunOut, RunsEnd}
-use Rattle.flat_core.proofs.Induction.{event_keeps, play_keeps, play_append}
+use Rattle.flat_core.specs.Bounds.{call_left, left_of, events_left, IsNotDone, IsTimelyAt, IsTimely, AreTimely, TimelinessIsKept, TimelyEventsRunOut, EventsRunOut, RunsEnd}
+use Rattle.flat_core.specs.Laws.{with_bundles, HoldsInRuns}
+use Rattle.flat_core.proofs.Induction.{event_keeps, in_runs, play_append}
 use Rattle.flat_core.proofs.Tests.{by_test, put_here}
 
 -- what holds of each move that a row may give
@@ -62,21 +63,6 @@ pub row_enters : (o : Opening) (me : ℕ) (c : Call) → (row_of o me c).enters 
 row_enters o me (call.HostRead page i) = refl
 row_enters o me _ = refl
 
--- a call that is answered holds something, else it would be done
-abbrev pub IsUnderWay : Phase Reply → List Held → Type 0
-IsUnderWay Trying hs = Unit {0}
-IsUnderWay (Undoing l) hs = Unit {0}
-IsUnderWay (Answered r) [] = ⊥
-IsUnderWay (Answered r) (h ∷ hs) = Unit {0}
-
-abbrev pub IsTimelyAt : List Call → Progress Reply → Type 0
-IsTimelyAt [] p = Unit {0}
-IsTimelyAt (c ∷ cs) p = (length p.held ≤ most_tries c) × IsUnderWay p.phase p.held
-
-pub record IsTimely (calls : List Call) (lp : Lp) : Type 0 where
-  pub here : lp.guest ≡ None
-  pub call : IsTimelyAt (drop (length lp.replies) calls) lp.call
-
 pub drop_next : {A : Type 0} (k : ℕ) (xs : List A) (y : A) (ys : List A) → drop k xs ≡ y ∷ ys → drop (suc k) xs ≡ ys
 drop_next zero [] y ys e = cc
 drop_next zero (x ∷ xs) y ys e = cc
@@ -106,7 +92,7 @@ record Lowers (calls : List Call) (bound : ℕ) (lp : Lp) : Type 0 where
 
 module _ (calls : List Call) (c : Call) (cs : List Call) where
   -- the call goes on
-  goes_on : (lp : Lp) (phase : Phase Reply) (hs : List Held) (bound : ℕ) → lp.guest ≡ None → drop (length lp.replies) calls ≡ c ∷ cs → length hs ≤ most_tries c → IsUnderWay phase hs
+  goes_on : (lp : Lp) (phase : Phase Reply) (hs : List Held) (bound : ℕ) → lp.guest ≡ None → drop (length lp.replies) calls ≡ c ∷ cs → length hs ≤ most_tries c → IsNotDone phase hs
       → call_left (most_tries c) phase (length hs) + events_in cs < bound → Lowers calls bound (record lp { call = record { phase = phase; held = hs } })
   goes_on lp phase hs bound g e few under less = record {
     timely = record { here = g; call = rw e (few, under) };
@@ -152,7 +138,7 @@ module _ (calls : List Call) (c : Call) (cs : List Call) where
 
   -- any phase
   moves : (w : World) (row : Row) (lp : Lp) (phase : Phase Reply) (hs : List Held) (b : Move Reply → Bool) → lp.guest ≡ None → drop (length lp.replies) calls ≡ c ∷ cs
-      → length hs ≤ most_tries c → IsUnderWay phase hs → row.enters ≡ None → tries_in (row.items w) ≤ most_tries c
+      → length hs ≤ most_tries c → IsNotDone phase hs → row.enters ≡ None → tries_in (row.items w) ≤ most_tries c
       → let move = next_in (row.items w) phase hs in
       Lowers calls (call_left (most_tries c) phase (length hs) + events_in cs) (settled (call_lp w (b move) row move (record lp { call = record { phase = phase; held = hs } })))
   moves w row lp Trying hs b g e few under none most = trying w row (record lp { call = record { phase = Trying; held = hs } }) g e few none b (row.items w) most (next (row.items w) (length hs)) refl
@@ -188,10 +174,7 @@ module _ (o : Opening) (s : State) (p : ℕ) (timely : IsTimely (calls_of o.call
   lowers : (e : Event) → next_event o s p ≡ Some e → Lowers (calls_of o.calls p) (events_left o s p) (after e)
   lowers e is = by_lines (lines_left o p lp) e refl is
 
-abbrev pub AllTimely : Opening → State → Type 0
-AllTimely o s = (q : ℕ) → IsTimely (calls_of o.calls q) (s.lps q)
-
-pub timely_step : (o : Opening) (s : State) (p : ℕ) (e : Event) → next_event o s p ≡ Some e → AllTimely o s → AllTimely o (after_event p s (Some e))
+pub timely_step : (o : Opening) (s : State) (p : ℕ) (e : Event) → next_event o s p ≡ Some e → AreTimely o s → AreTimely o (after_event p s (Some e))
 timely_step o s p e is h q = by_test (q == p)
     (λ y. (let here : p ≡ q = sym (eqb-true q p y) in rw y (subst (λ (x : ℕ). IsTimely (calls_of o.calls x) (lp_after s.world (is_granted s e) e (s.lps p))) here (lowers o s p (h p) e is).timely)))
     (λ y. rw y (h q))
@@ -199,10 +182,16 @@ timely_step o s p e is h q = by_test (q == p)
 pub idle_timely : (calls : List Call) → IsTimely calls idle
 idle_timely calls = record { here = refl; call = fresh_timely calls }
 
-always_timely : (o : Opening) (ws : Option (List ℕ)) (ls : List ℕ) → AllTimely o (play o ls (start o ws))
-always_timely o ws ls = play_keeps o (AllTimely o) (timely_step o) ls (start o ws) (λ q. idle_timely (calls_of o.calls q))
+pub timeliness_kept : TimelinessIsKept
+timeliness_kept = record {
+  start = λ o ws q. idle_timely (calls_of o.calls q);
+  event = λ o bundles s p h. event_keeps (with_bundles o bundles) (AreTimely o) (timely_step (with_bundles o bundles)) s p h;
+}
 
-event_lowers : (o : Opening) (s : State) (p : ℕ) (e : Event) → AllTimely o s → next_event o s p ≡ Some e → events_left o (event o s p) p < events_left o s p
+always_timely : HoldsInRuns AreTimely
+always_timely = in_runs AreTimely timeliness_kept
+
+event_lowers : (o : Opening) (s : State) (p : ℕ) (e : Event) → AreTimely o s → next_event o s p ≡ Some e → events_left o (event o s p) p < events_left o s p
 event_lowers o s p e h is =
     let x : Lp = lp_after s.world (is_granted s e) e (s.lps p) in
     let after_is : (event o s p).lps p ≡ x = ap (λ (y : Option Event). (after_event p s y).lps p) is ∙ put_here s.lps p x in
@@ -216,7 +205,7 @@ abbrev times : ℕ → List ℕ → ℕ
 times p [] = 0
 times p (q ∷ qs) = (if q == p then 1 else 0) + times p qs
 
-one_item : (o : Opening) (s : State) (p q : ℕ) → AllTimely o s → events_left o (event o s q) p ≤ events_left o s p - (if q == p then 1 else 0)
+one_item : (o : Opening) (s : State) (p q : ℕ) → AreTimely o s → events_left o (event o s q) p ≤ events_left o s p - (if q == p then 1 else 0)
 one_item o s p q h = by_test (q == p)
     (λ y. (let here : q ≡ p = eqb-true q p y in
     rw y (subst (λ (x : ℕ). events_left o (event o s x) p ≤ events_left o s p - 1) (sym here) (mine (next_event o s p) refl))))
@@ -237,10 +226,10 @@ one_item o s p q h = by_test (q == p)
     others n None = omega arith
     others n (Some e) = let ne : (p == q) ≡ false = ne_eqb p q n in rw ne (omega arith)
 
-schedule_lowers : (o : Opening) (p : ℕ) (ls : List ℕ) (s : State) → AllTimely o s → events_left o (play o ls s) p ≤ events_left o s p - times p ls
+schedule_lowers : (o : Opening) (p : ℕ) (ls : List ℕ) (s : State) → AreTimely o s → events_left o (play o ls s) p ≤ events_left o s p - times p ls
 schedule_lowers o p [] s h = omega arith
 schedule_lowers o p (q ∷ qs) s h =
-    let rest = schedule_lowers o p qs (event o s q) (event_keeps o (AllTimely o) (timely_step o) s q h) in
+    let rest = schedule_lowers o p qs (event o s q) (event_keeps o (AreTimely o) (timely_step o) s q h) in
     let one = one_item o s p q h in
     omega arith
 
@@ -263,7 +252,7 @@ times_end (cs ∷ css) k (suc p) q e =
     omega (arith, times_append q (replicate (events_in cs) k) (to_the_end (suc k) css), times_end css (suc k) p q (omega arith))
 
 -- a line that is left has an event left
-some_left : (c : Call) (cs : List Call) (phase : Phase Reply) (hs : List Held) → length hs ≤ most_tries c → IsUnderWay phase hs → 1 ≤ call_left (most_tries c) phase (length hs) + events_in cs
+some_left : (c : Call) (cs : List Call) (phase : Phase Reply) (hs : List Held) → length hs ≤ most_tries c → IsNotDone phase hs → 1 ≤ call_left (most_tries c) phase (length hs) + events_in cs
 some_left c cs Trying hs few under = omega arith
 some_left c cs (Undoing l) hs few under = omega arith
 some_left c cs (Answered r) [] few under = absurd under
@@ -273,13 +262,19 @@ none_left : (o : Opening) (s : State) (p : ℕ) (cs : List Call) → IsTimelyAt 
 none_left o s p [] t e = refl
 none_left o s p (c ∷ cs) t e = absurd (let l = some_left c cs (s.lps p).call.phase (s.lps p).call.held t.0 t.1 in omega arith)
 
+pub timely_run_out : TimelyEventsRunOut
+timely_run_out = record {
+  lowers = λ o bundles s p e h is. event_lowers (with_bundles o bundles) s p e h is;
+  ended = λ o bundles s p h none. none_left (with_bundles o bundles) s p (lines_left o p (s.lps p)) (h p).call none;
+}
+
 pub runs_end : RunsEnd
 runs_end o ws ls p =
     let s0 = start o ws in
     let end = to_the_end 0 o.calls in
-    let first : AllTimely o s0 = always_timely o ws [] in
-    let middle : AllTimely o (play o ls s0) = always_timely o ws ls in
-    let last : AllTimely o (play o (ls ++ end) s0) = always_timely o ws (ls ++ end) in
+    let first : AreTimely o s0 = always_timely o ws [] in
+    let middle : AreTimely o (play o ls s0) = always_timely o ws ls in
+    let last : AreTimely o (play o (ls ++ end) s0) = always_timely o ws (ls ++ end) in
     let begin : events_left o s0 p ≡ events_in (calls_of o.calls p) = fresh_left (calls_of o.calls p) idle in
     let so_far = schedule_lowers o p ls s0 first in
     let to_end = schedule_lowers o p end (play o ls s0) middle in

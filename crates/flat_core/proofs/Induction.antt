@@ -1,6 +1,6 @@
 -- The inductions over a run, written once: what each event keeps of the state, what each act keeps of the world, what
 -- each event keeps of the processors' records, and what one event in each of two runs keeps of both.
-use Rattle.std.proofs.Common.{◌≡◌, refl, subst, ℕ, zero, suc, ◌+◌, List, [], ◌∷◌, ◌++◌, length, Option, Some, None, Bool, true, false}
+use Rattle.std.proofs.Common.{◌≡◌, refl, ℕ, zero, suc, ◌+◌, List, [], ◌∷◌, ◌++◌, length, Option, Some, None, Bool, true, false}
 use Rattle.td_words.specs.declared.names.Access.{Access}
 use Rattle.td_words.specs.declared.calls.Call.{Call}
 use Rattle.td_words.specs.declared.calls.GuestOp.{GuestOp}
@@ -35,7 +35,11 @@ module _ (o : Opening) (Q : State → Type 0) (step : (s : State) (p : ℕ) (e :
 
 -- what every run starts with and one event keeps, every schedule keeps
 pub in_runs : (holds : Opening → State → Type 0) → IsKept holds → HoldsInRuns holds
-in_runs holds kept o ws schedule = play_keeps o (holds o) (λ s p e is h. subst (λ (x : Option Event). holds o (after_event p s x)) is (kept.event o o.bundles s p h)) schedule (start o ws) (kept.start o ws)
+in_runs holds kept o ws schedule = by schedule (start o ws) (kept.start o ws)
+  where
+    by : (ps : List ℕ) (s : State) → holds o s → holds o (play o ps s)
+    by [] s h = h
+    by (p ∷ ps) s h = by ps (event o s p) (kept.event o o.bundles s p h)
 
 -- as many processors as before
 pub count_stays : (o : Opening) (s : State) (p : ℕ) → (event o s p).lp_count ≡ s.lp_count

@@ -1,8 +1,8 @@
 //! Laws of the flat machine, as contracts of functions that do nothing.
 
 ghost use Rattle.flat_core.specs.Worked.{Examples};
-ghost use Rattle.flat_core.specs.Bounds.{RowsTryFew, EventsRunOut, RunsEnd};
-ghost use Rattle.flat_core.specs.Replies.{RepliesComeOneByOne, RepliesAreToLines, EveryLineIsAnswered};
+ghost use Rattle.flat_core.specs.Bounds.{RowsTryFew, TimelinessIsKept, TimelyEventsRunOut, EventsRunOut, RunsEnd};
+ghost use Rattle.flat_core.specs.Replies.{RepliesComeOneByOne, RepliesAreKept, RepliesAreToLines, EveryLineIsAnswered};
 ghost use Rattle.flat_core.specs.Laws.{RowsKeep, RowsAreBlind, MrtdIsTheDigest, RecordsAreMeasured, LawfulIsKept, EveryWorldIsLawful, LawfulPagesAreOwned, OwnersAreKept, EveryPageIsOwned, LawfulWorldsAreCounted, CountsAreKept, ExportedAreCounted, OthersStay, QuietEventsStay, NoWordsToTell, ExclusionIsKept, LocksExclude, TreeIsNeverBusy, BlindRunsPrintTheSame, BlindRunsMakeTheSameBundles, AgreeingRunsShowTheSame, RefusedCallsStay, QuietCallsKeep, RefusalsLeaveTheirReply, RowsTryTheSame, CallsHaveTheirEvents, EventsKeepLawful, MrtdsAreKept, EveryMrtdIsTheDigest, EventsMeasure, PagesHaveOneUse, MemoriesAreKept, GuestsKnowTheirPages, ToldAreMerged, OperationsTellBoth};
 
 /// The worked examples: replies of small runs, and how many events they take.
@@ -82,11 +82,14 @@ pub fn tree_lock_law()
 /// and at the end of a run it has exactly one for each.
 pub fn end_laws()
     ensures tries { RowsTryFew }
+    ensures kept { TimelinessIsKept }
+    ensures timely { TimelyEventsRunOut }
     ensures runs_out { EventsRunOut }
     ensures runs_end { RunsEnd }
     ensures same_tries { RowsTryTheSame }
     ensures events { CallsHaveTheirEvents }
     ensures one_reply { RepliesComeOneByOne }
+    ensures few_kept { RepliesAreKept }
     ensures no_more { RepliesAreToLines }
     ensures every_line { EveryLineIsAnswered }
 {}
