@@ -20,10 +20,11 @@ use Rattle.flat_core.specs.KeyRows.{reclaim_conditions}
 use Rattle.flat_core.specs.Table.{row_of}
 use Rattle.flat_core.specs.Event.{State, Event, OfCall, event_for, line_event, lines_left, calls_of, event, after_event, lp_after, call_lp, succeeded, settled, settle, call_busy, is_granted}
 use Rattle.flat_core.specs.Run.{play}
-use Rattle.flat_core.specs.Laws.{IsBetween, AnswersNext, own_items, RowsTryTheSame, CallsHaveTheirEvents}
+use Rattle.flat_core.specs.Laws.{IsBetween, AnswersNext, own_items, CallsHaveTheirEvents}
 use Rattle.flat_core.proofs.Tests.{by_test}
 use Rattle.flat_core.proofs.Kept.{others_stay}
-use Rattle.flat_core.proofs.Ends.{row_enters, checks_tried, checks_alone}
+use Rattle.flat_core.proofs.Ends.{row_enters}
+use Rattle.flat_core.proofs.Tries.{rows_try_the_same}
 use Rattle.flat_core.proofs.Refused.{after_here, play_grows, no_more, same_last}
 
 -- how many events a call has in all that is answered so, where its row tries n locks
@@ -163,29 +164,6 @@ row_holds o me (call.MemSeptAdd t gpa level page) v w h = (h.0, (h.1.0, (h.1.1.0
 row_holds o me (call.MemSeptRd t gpa level) v w h = (h.0, (h.1.0, (h.1.1.0, (h.1.1.1.0, (tt, (tt, (tt, (tt, walk_alone_holds (is_passed w t gpa) (levels_above level)))))))))
 row_holds o me (call.HostRead page word) v w h = h
 row_holds o me _ v w h = h
-
--- and so are tries
-pub rows_try_the_same : RowsTryTheSame
-rows_try_the_same o me (call.PhymemPageReclaim t page) v w = by (page == t)
-  where
-    by : (b : Bool) → suc (tries_in (reclaim_conditions v t page b)) ≡ suc (tries_in (reclaim_conditions w t page b))
-    by true = refl
-    by false = refl
-rows_try_the_same o me (call.MngRd t field.Life) v w = refl
-rows_try_the_same o me (call.MngRd t field.Op) v w = refl
-rows_try_the_same o me (call.MngRd t field.Epoch) v w = refl
-rows_try_the_same o me (call.MngRd t field.Mrtd) v w = refl
-rows_try_the_same o me (call.MemSeptAdd t gpa level page) v w =
-    let tail : World → List (Item Reply) = λ x. state_in x t gpa level (entry.Free ∷ []) ∷ page_exclusive page ∷ host_page x page ∷ [] in
-    ap (λ (n : ℕ). suc (suc (suc n)))
-    (checks_tried (is_passed v t gpa) (λ l. Refused (EptWalkFailed l)) (levels_above level) (tail v)
-    ∙ sym (checks_tried (is_passed w t gpa) (λ l. Refused (EptWalkFailed l)) (levels_above level) (tail w)))
-rows_try_the_same o me (call.MemSeptRd t gpa level) v w =
-    ap (λ (n : ℕ). suc (suc (suc n)))
-    (checks_alone (is_passed v t gpa) (λ l. Refused (EptWalkFailed l)) (levels_above level)
-    ∙ sym (checks_alone (is_passed w t gpa) (λ l. Refused (EptWalkFailed l)) (levels_above level)))
-rows_try_the_same o me (call.HostRead page word) v w = refl
-rows_try_the_same o me _ v w = refl
 
 -- where a call stands after k events: of its tries, or of its releases
 abbrev StandsAt : Type 0 → ℕ → ℕ → Phase Reply → List Held → Type 0

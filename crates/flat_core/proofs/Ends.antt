@@ -24,6 +24,7 @@ use Rattle.flat_core.specs.Bounds.{call_left, left_of, events_left, IsNotDone, I
 use Rattle.flat_core.specs.Laws.{with_bundles, HoldsInRuns}
 use Rattle.flat_core.proofs.Induction.{event_keeps, in_runs, play_append}
 use Rattle.flat_core.proofs.Tests.{by_test, put_here}
+use Rattle.flat_core.proofs.Tries.{row_tries}
 
 -- what holds of each move that a row may give
 pub next_is : {R : Type 0} (C : Move R → Type 0) (items : List (Item R)) (k : ℕ) → ((r : R) → C (Refuses r)) → C Succeeds → ((l : LockId) (m : Mode) → k < tries_in items → C (Attempts l m)) → C (next items k)
@@ -32,32 +33,6 @@ next_is C (Check true r ∷ items) k refuses succeeds attempts = next_is C items
 next_is C (Check false r ∷ items) k refuses succeeds attempts = refuses r
 next_is C (Try l m ∷ items) zero refuses succeeds attempts = attempts l m (omega arith)
 next_is C (Try l m ∷ items) (suc k) refuses succeeds attempts = next_is C items k refuses succeeds (λ l m h. attempts l m (omega arith))
-
--- a walk is conditions alone
-pub checks_tried : (b : ℕ → Bool) (r : ℕ → Reply) (ls : List ℕ) (items : List (Item Reply)) → tries_in (map (λ l. Check (b l) (r l)) ls ++ items) ≡ tries_in items
-checks_tried b r [] items = refl
-checks_tried b r (l ∷ ls) items = checks_tried b r ls items
-
-pub checks_alone : (b : ℕ → Bool) (r : ℕ → Reply) (ls : List ℕ) → tries_in (map (λ l. Check (b l) (r l)) ls) ≡ 0
-checks_alone b r [] = refl
-checks_alone b r (l ∷ ls) = checks_alone b r ls
-
-pub row_tries : (o : Opening) (me : ℕ) (c : Call) (w : World) → tries_in ((row_of o me c).items w) ≤ most_tries c
-row_tries o me (call.PhymemPageReclaim t page) w = reclaim_tries (page == t)
-  where
-    reclaim_tries : (b : Bool) → suc (tries_in (reclaim_conditions w t page b)) ≤ 2
-    reclaim_tries true = omega arith
-    reclaim_tries false = omega arith
-row_tries o me (call.MemSeptAdd t gpa level page) w =
-    let tail : List (Item Reply) = state_in w t gpa level (entry.Free ∷ []) ∷ page_exclusive page ∷ host_page w page ∷ [] in
-    subst (λ (n : ℕ). suc (suc (suc n)) ≤ 4) (sym (checks_tried (λ l. same_state (entry_at w t l gpa).state entry.NlMapped) (λ l. Refused (EptWalkFailed l)) (levels_above level) tail)) (omega arith)
-row_tries o me (call.MemSeptRd t gpa level) w =
-    subst (λ (n : ℕ). suc (suc (suc n)) ≤ 3) (sym (checks_alone (λ l. same_state (entry_at w t l gpa).state entry.NlMapped) (λ l. Refused (EptWalkFailed l)) (levels_above level))) (omega arith)
-row_tries o me (call.MngRd t field.Life) w = omega arith
-row_tries o me (call.MngRd t field.Op) w = omega arith
-row_tries o me (call.MngRd t field.Epoch) w = omega arith
-row_tries o me (call.MngRd t field.Mrtd) w = omega arith
-row_tries o me _ w = omega arith
 
 pub row_enters : (o : Opening) (me : ℕ) (c : Call) → (row_of o me c).enters ≡ None
 row_enters o me (call.HostRead page i) = refl

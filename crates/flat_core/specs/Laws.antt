@@ -174,21 +174,6 @@ ExclusionIsKept = IsKept (λ o s. IsExclusive s)
 abbrev pub LocksExclude : Type 0
 LocksExclude = HoldsInRuns (λ o s. IsExclusive s)
 
--- a processor that has nothing to do with a lock: it neither holds it nor is being refused it
-pub record IsAway (l : LockId) (lp : Lp) : Type 0 where
-  pub alone : alone_of l lp ≡ 0
-  pub shared : shared_of l lp ≡ 0
-  pub refused : refused_of l lp ≡ 0
-
--- The tree lock of a TD can't be busy for a processor that holds the TD's op state lock alone: every other processor is
--- away from it, and the try of it by that processor is granted in either mode.
-pub record TreeIsNeverBusy : Type 0 where
-  pub others : (o : Opening) (words_to_tell : Option (List ℕ)) (schedule : List ℕ) (t p q : ℕ)
-      → let s = reached o words_to_tell schedule in 1 ≤ alone_of (OfOp t) (s.lps p) → q ≢ p → IsAway (OfTree t) (s.lps q)
-  pub granted : (o : Opening) (words_to_tell : Option (List ℕ)) (schedule : List ℕ) (t p : ℕ) (row : Row) (mode : Mode)
-      → let s = reached o words_to_tell schedule in 1 ≤ alone_of (OfOp t) (s.lps p) → next_event o s p ≡ Some (OfCall row (Attempts (OfTree t) mode))
-      → grants s.lps s.lp_count (OfTree t) mode ≡ true
-
 -- What is printed is the same whatever the private words are: as with every private word 0, where guests tell the same.
 abbrev pub BlindRunsPrintTheSame : Type 0
 BlindRunsPrintTheSame = (o : Opening) (schedule : List ℕ)

@@ -1,9 +1,11 @@
 //! Laws of the flat machine, as contracts of functions that do nothing.
 
 ghost use Rattle.flat_core.specs.Worked.{Examples};
+ghost use Rattle.flat_core.specs.Tries.{RowsTryTheirLists};
 ghost use Rattle.flat_core.specs.Bounds.{RowsTryFew, TimelinessIsKept, TimelyEventsRunOut, EventsRunOut, RunsEnd};
+ghost use Rattle.flat_core.specs.Order.{OrderIsKept, TreeIsFreeInOrder, TreeIsNeverBusy};
 ghost use Rattle.flat_core.specs.Replies.{RepliesComeOneByOne, RepliesAreKept, RepliesAreToLines, EveryLineIsAnswered};
-ghost use Rattle.flat_core.specs.Laws.{RowsKeep, RowsAreBlind, MrtdIsTheDigest, RecordsAreMeasured, LawfulIsKept, EveryWorldIsLawful, LawfulPagesAreOwned, OwnersAreKept, EveryPageIsOwned, LawfulWorldsAreCounted, CountsAreKept, ExportedAreCounted, OthersStay, QuietEventsStay, NoWordsToTell, ExclusionIsKept, LocksExclude, TreeIsNeverBusy, BlindRunsPrintTheSame, BlindRunsMakeTheSameBundles, AgreeingRunsShowTheSame, RefusedCallsStay, QuietCallsKeep, RefusalsLeaveTheirReply, RowsTryTheSame, CallsHaveTheirEvents, EventsKeepLawful, MrtdsAreKept, EveryMrtdIsTheDigest, EventsMeasure, PagesHaveOneUse, MemoriesAreKept, GuestsKnowTheirPages, ToldAreMerged, OperationsTellBoth};
+ghost use Rattle.flat_core.specs.Laws.{RowsKeep, RowsAreBlind, MrtdIsTheDigest, RecordsAreMeasured, LawfulIsKept, EveryWorldIsLawful, LawfulPagesAreOwned, OwnersAreKept, EveryPageIsOwned, LawfulWorldsAreCounted, CountsAreKept, ExportedAreCounted, OthersStay, QuietEventsStay, NoWordsToTell, ExclusionIsKept, LocksExclude, BlindRunsPrintTheSame, BlindRunsMakeTheSameBundles, AgreeingRunsShowTheSame, RefusedCallsStay, QuietCallsKeep, RefusalsLeaveTheirReply, RowsTryTheSame, CallsHaveTheirEvents, EventsKeepLawful, MrtdsAreKept, EveryMrtdIsTheDigest, EventsMeasure, PagesHaveOneUse, MemoriesAreKept, GuestsKnowTheirPages, ToldAreMerged, OperationsTellBoth};
 
 /// The worked examples: replies of small runs, and how many events they take.
 pub fn worked_examples()
@@ -72,7 +74,9 @@ pub fn lock_law()
 /// The tree lock of a TD can't be busy for a processor that holds the TD's op state lock alone: no
 /// other holds it or is being refused it, and a try of it is granted in either mode.
 pub fn tree_lock_law()
-    ensures { TreeIsNeverBusy }
+    ensures kept { OrderIsKept }
+    ensures free { TreeIsFreeInOrder }
+    ensures run { TreeIsNeverBusy }
 {}
 
 /// Every call tries as many locks as the leaf table says at most, and ends after a number of its own
@@ -81,6 +85,7 @@ pub fn tree_lock_law()
 /// An event brings one reply or none; after any schedule a processor has no more replies than lines,
 /// and at the end of a run it has exactly one for each.
 pub fn end_laws()
+    ensures lists { RowsTryTheirLists }
     ensures tries { RowsTryFew }
     ensures kept { TimelinessIsKept }
     ensures timely { TimelyEventsRunOut }

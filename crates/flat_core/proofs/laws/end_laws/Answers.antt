@@ -1,7 +1,11 @@
-use Rattle.flat_core.proofs.Counts.{rows_try_the_same, calls_have_their_events}
-use Rattle.flat_core.proofs.Ends.{row_tries, timeliness_kept, timely_run_out, runs_out, runs_end}
+use Rattle.flat_core.proofs.Counts.{calls_have_their_events}
+use Rattle.flat_core.proofs.Ends.{timeliness_kept, timely_run_out, runs_out, runs_end}
+use Rattle.flat_core.proofs.Tries.{rows_try_lists, row_tries, rows_try_the_same}
 use Rattle.flat_core.proofs.Replies.{replies_one_by_one, replies_kept, replies_to_lines, every_line_answered}
 use Rattle.flat_core.proofs.laws.end_laws.Goals as goal
+
+pub returns-clause-lists : goal.returns-clause-lists
+returns-clause-lists c = rows_try_lists
 
 pub returns-clause-tries : goal.returns-clause-tries
 returns-clause-tries c = row_tries
