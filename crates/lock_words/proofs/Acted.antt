@@ -20,7 +20,8 @@ use Rattle.flat_core.specs.Lawful.{Lawful}
 use Rattle.flat_core.specs.Table.{row_of}
 use Rattle.flat_core.proofs.Tests.{by_test, host_kind}
 use Rattle.lock_words.specs.LockWords.{TdStands}
-use Rattle.lock_words.proofs.Tried.{first_try, held_as}
+use Rattle.lock_words.specs.Reached.{held_as}
+use Rattle.lock_words.proofs.Tried.{first_try}
 
 -- an act that leaves the TD's page, life and TDCX pages
 same-td : (w w' : World) (t : ℕ) → TdStands w t → w'.pages.kinds t ≡ w.pages.kinds t → w'.tds.lives t ≡ w.tds.lives t → w'.tds.controls t ≡ w.tds.controls t → TdStands w' t

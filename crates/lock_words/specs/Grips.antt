@@ -7,7 +7,8 @@ use Rattle.flat_core.specs.Processor.{LockId, OfPage, OfOp, OfTree, OfEpoch, OfR
 use Rattle.flat_core.specs.Locks.{same_lock, is_alone, holders, sharers}
 use Rattle.flat_core.specs.Opening.{Opening}
 use Rattle.flat_core.specs.Event.{State}
-use Rattle.flat_core.specs.Laws.{IsSole, reached}
+use Rattle.flat_core.specs.Laws.{reached}
+pub use Rattle.flat_core.specs.Laws.{IsExclusive}
 use Rattle.word_rules.specs.Guards.{Guard, Locked, Reached, Written, Grip, HasWhatIsSole, Apart}
 
 abbrev pub holds : List Held → LockId → Bool
@@ -61,10 +62,6 @@ grip_with s me hs = record { has = has_of (s.lps me) hs; sole = sole_of hs; clea
 
 abbrev pub grip_of : State → ℕ → Grip
 grip_of s me = grip_with s me (locks_of (s.lps me))
-
--- nobody holds a lock beside one who holds it alone
-abbrev pub IsExclusive : State → Type 0
-IsExclusive s = (l : LockId) → IsSole (holders s.lps s.lp_count l) (sharers s.lps s.lp_count l)
 
 -- The grips of two processors are apart where locks exclude, as they do in every state of every run.
 abbrev pub GripsAreApart : Type 0
