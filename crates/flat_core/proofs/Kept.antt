@@ -9,7 +9,7 @@ use Rattle.flat_core.specs.Opening.{Opening}
 use Rattle.flat_core.specs.Row.{Attempts, Undoes, Refuses, Succeeds, Releases, Rests}
 use Rattle.flat_core.specs.Effects.{leave_guest}
 use Rattle.flat_core.specs.Guest.{reach}
-use Rattle.flat_core.specs.Event.{State, Event, OfCall, OfOperation, Walks, Reaches, Leaves, start, next_event, after_event}
+use Rattle.flat_core.specs.Event.{State, Event, OfCall, OfOperation, Walks, Reaches, Leaves, next_event, after_event}
 use Rattle.flat_core.specs.Lawful.{Lawful}
 use Rattle.flat_core.specs.Laws.{IsKept, with_bundles, IsLawful, IsLawfulWith, LawfulIsKept, EveryWorldIsLawful, EventsKeepLawful, OthersStay, QuietEventsStay, NoWordsToTell}
 use Rattle.flat_core.proofs.Induction.{world_event, in_runs}

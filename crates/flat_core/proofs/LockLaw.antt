@@ -14,7 +14,7 @@ use Rattle.flat_core.specs.Opening.{Opening}
 use Rattle.flat_core.specs.Row.{Row, OperationRow, Move, Attempts, Undoes, Refuses, Succeeds, Releases, Rests, after_move, but_newest}
 use Rattle.td_words.specs.Packing.{Entry}
 use Rattle.flat_core.specs.Guest.{walk_level, walk_step, walked_on, goes_on, walked_entry, answered}
-use Rattle.flat_core.specs.Event.{State, Event, OfCall, OfOperation, Walks, Reaches, Leaves, start, next_event, after_event, lp_after, call_lp, succeeded, settle, settled_guest, settle_operation, operation_guest, call_busy, operation_busy, is_granted}
+use Rattle.flat_core.specs.Event.{State, Event, OfCall, OfOperation, Walks, Reaches, Leaves, next_event, after_event, lp_after, call_lp, succeeded, settle, settled_guest, settle_operation, operation_guest, call_busy, operation_busy, is_granted}
 use Rattle.flat_core.specs.Laws.{with_bundles, IsSole, IsExclusive, ExclusionIsKept, LocksExclude}
 use Rattle.flat_core.proofs.Induction.{event_keeps, in_runs}
 use Rattle.flat_core.proofs.Tests.{by_test}

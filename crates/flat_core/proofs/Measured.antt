@@ -25,7 +25,7 @@ use Rattle.flat_core.specs.TdRows.{read_td, finalize}
 use Rattle.flat_core.specs.Effects.{measure}
 use Rattle.flat_core.specs.Guest.{reach}
 use Rattle.flat_core.specs.Table.{row_of}
-use Rattle.flat_core.specs.Event.{State, Event, OfCall, OfOperation, Leaves, start, event_for, line_event, entered_event, epoch_event, guest_event, staying_event, due_event, operation_due, lines_left, is_epoch_lock, nothing_more, world_after, after_event}
+use Rattle.flat_core.specs.Event.{State, Event, OfCall, OfOperation, Leaves, event_for, line_event, entered_event, epoch_event, guest_event, staying_event, due_event, operation_due, lines_left, is_epoch_lock, nothing_more, world_after, after_event}
 use Rattle.flat_core.specs.Laws.{with_bundles, AreMrtdsDigests, MrtdsAreKept, EveryMrtdIsTheDigest, measured_after_event, EventsMeasure}
 use Rattle.flat_core.proofs.Tests.{by_test}
 use Rattle.flat_core.proofs.Mrtd.{mrtd_is_the_digest, records_are_measured}

@@ -21,7 +21,6 @@ use Rattle.flat_core.specs.Effects.{put_in, set_word, set_page, clear_page, take
 use Rattle.flat_core.specs.TdRows.{create}
 use Rattle.flat_core.specs.KeyRows.{reclaim_conditions}
 use Rattle.flat_core.specs.Table.{row_of}
-use Rattle.flat_core.specs.Event.{start}
 use Rattle.flat_core.specs.Lawful.{IsAlive, Lawful, is_free}
 use Rattle.flat_core.specs.Laws.{with_bundles, IsLawfulWith, memory_of, ArePagesKnown, MemoriesAreKept, GuestsKnowTheirPages}
 use Rattle.flat_core.proofs.Tests.{by_test, host_kind, tdr_kind, range_of, same_self}

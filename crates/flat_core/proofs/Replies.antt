@@ -6,7 +6,7 @@ use Rattle.td_words.specs.declared.replies.Reply.{Reply}
 use Rattle.flat_core.specs.World.{World}
 use Rattle.flat_core.specs.Processor.{Held, Phase, Trying, Undoing, Answered, Lp}
 use Rattle.flat_core.specs.Opening.{Opening}
-use Rattle.flat_core.specs.Event.{State, Event, OfCall, OfOperation, Walks, Reaches, Leaves, start, next_event, event_for, lines_left, calls_of, after_event, lp_after, call_lp, settle, is_granted}
+use Rattle.flat_core.specs.Event.{State, Event, OfCall, OfOperation, Walks, Reaches, Leaves, next_event, event_for, lines_left, calls_of, after_event, lp_after, call_lp, settle, is_granted}
 use Rattle.flat_core.specs.Run.{to_the_end, run_telling}
 use Rattle.flat_core.specs.Replies.{IsOneMore, RepliesComeOneByOne, AreToLines, RepliesAreKept, RepliesAreToLines, EveryLineIsAnswered}
 use Rattle.flat_core.specs.Laws.{with_bundles}

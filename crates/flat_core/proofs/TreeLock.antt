@@ -1,26 +1,21 @@
 -- The tree lock of a TD can't be busy for a processor that holds its op state lock alone: every row tries the op state lock
 -- before the tree lock, and locks are released newest first, so who holds T holds O.
-use Rattle.std.proofs.Common.{◌≡◌, ◌≢◌, ◌⊎◌, inl, inr, refl, sym, ◌∙◌, subst, ap, ℕ, zero, suc, ◌+◌, ◌<◌, ◌≤◌, List, [], ◌∷◌, ◌++◌, length, drop, map, Option, Some, None, Bool, true, false, ◌==◌, if◌then◌else◌, arith, length-append}
+use Rattle.std.proofs.Common.{◌≡◌, ◌≢◌, ◌⊎◌, inl, inr, refl, sym, ◌∙◌, subst, ap, ℕ, zero, suc, ◌+◌, ◌<◌, ◌≤◌, List, [], ◌∷◌, ◌++◌, length, drop, Option, Some, None, Bool, true, false, ◌==◌, if◌then◌else◌, arith, length-append}
 use Rattle.std.proofs.lemmas.Bool.{eq-eqb, eqb-true, eqb-false, ne_eqb}
 use Rattle.td_words.specs.declared.names.Mode.{Mode}
 use Rattle.td_words.specs.declared.names.Mode.TheVariants.{Shared, Exclusive}
 use Rattle.td_words.specs.declared.names.ReadField.TheVariants as field
-use Rattle.td_words.specs.declared.names.EntryState.TheVariants as entry
 use Rattle.td_words.specs.declared.calls.Call.{Call}
 use Rattle.td_words.specs.declared.calls.Call.TheVariants as call
-use Rattle.td_words.specs.declared.refusals.Status.TheVariants.{EptWalkFailed}
 use Rattle.td_words.specs.declared.replies.Reply.{Reply}
-use Rattle.td_words.specs.declared.replies.Reply.TheVariants.{Done, Refused}
+use Rattle.td_words.specs.declared.replies.Reply.TheVariants.{Done}
 use Rattle.flat_core.specs.World.{World}
 use Rattle.flat_core.specs.Processor.{LockId, OfPage, OfOp, OfTree, OfEpoch, OfRtmr, OfKeys, Held, Phase, Trying, Undoing, Answered, Progress, nothing_yet, Guest, Entering, Lp}
 use Rattle.flat_core.specs.Locks.{same_lock, is_alone, alone_in, shared_in, refused_in, alone_of, shared_of, refused_of, sum_below, holders, sharers, refusals, grants}
 use Rattle.flat_core.specs.Opening.{Opening}
 use Rattle.flat_core.specs.Row.{Item, Check, Try, Row, Move, Attempts, next, next_in}
-use Rattle.flat_core.specs.Conditions.{page_exclusive, host_page}
-use Rattle.flat_core.specs.Tree.{entry_at, same_state, state_in, levels_above}
-use Rattle.flat_core.specs.KeyRows.{reclaim_conditions}
 use Rattle.flat_core.specs.Table.{row_of}
-use Rattle.flat_core.specs.Event.{State, Event, OfCall, start, next_event, event_for, line_event, lines_left, calls_of, after_event, lp_after, call_lp, succeeded, settled, settle, call_busy, is_granted}
+use Rattle.flat_core.specs.Event.{State, Event, OfCall, next_event, event_for, line_event, lines_left, calls_of, after_event, lp_after, call_lp, succeeded, settled, settle, call_busy, is_granted}
 use Rattle.flat_core.specs.Laws.{reached, with_bundles}
 use Rattle.flat_core.specs.Tries.{tries, shared, alone, tries_of}
 use Rattle.flat_core.specs.Order.{but_page, kinds, onto, AreFirstTries, undo_of, IsOrderlyAt, IsOrderly, IsInOrder, OrderIsKept, IsAway, TreeIsFreeInOrder, TreeIsNeverBusy}

@@ -1,11 +1,10 @@
 -- Each row tries what its call's line says; so no more than it may, and as many in every world.
-use Rattle.std.proofs.Common.{◌≡◌, refl, sym, ◌∙◌, subst, ap, ℕ, ◌≤◌, List, [], ◌∷◌, ◌++◌, length, map, Bool, true, false, ◌==◌, if◌then◌else◌, arith}
+use Rattle.std.proofs.Common.{◌≡◌, refl, sym, ◌∙◌, ap, ℕ, ◌≤◌, List, [], ◌∷◌, ◌++◌, length, map, Bool, true, false, ◌==◌, if◌then◌else◌, arith}
 use Rattle.td_words.specs.declared.names.ReadField.TheVariants as field
 use Rattle.td_words.specs.declared.names.EntryState.TheVariants as entry
 use Rattle.td_words.specs.declared.calls.Call.{Call}
 use Rattle.td_words.specs.declared.calls.Call.TheVariants as call
 use Rattle.td_words.specs.declared.names.Mode.TheVariants.{Shared}
-use Rattle.td_words.specs.declared.refusals.Status.{Status}
 use Rattle.td_words.specs.declared.refusals.Status.TheVariants.{EptWalkFailed}
 use Rattle.td_words.specs.declared.replies.Reply.{Reply}
 use Rattle.td_words.specs.declared.replies.Reply.TheVariants.{Refused}
@@ -18,7 +17,7 @@ use Rattle.flat_core.specs.KeyRows.{reclaim_conditions}
 use Rattle.flat_core.specs.Table.{row_of, most_tries}
 use Rattle.flat_core.specs.Bounds.{RowsTryFew}
 use Rattle.flat_core.specs.Laws.{RowsTryTheSame}
-use Rattle.flat_core.specs.Tries.{tries, shared, alone, td_tries, tries_of, RowsTryTheirLists}
+use Rattle.flat_core.specs.Tries.{tries, alone, td_tries, tries_of, RowsTryTheirLists}
 
 -- a walk is conditions alone
 conditions_try_nothing : (b : ℕ → Bool) (r : ℕ → Reply) (ls : List ℕ) → tries (map (λ l. Check (b l) (r l)) ls) ≡ []

@@ -18,7 +18,7 @@ use Rattle.flat_core.specs.Lawful.{Lawful}
 use Rattle.flat_core.specs.Alike.{Alike, AreBlind}
 use Rattle.flat_core.specs.Bounds.{AreTimely}
 use Rattle.flat_core.specs.Laws.{public_bundles, BlindRunsPrintTheSame, BlindRunsMakeTheSameBundles, AgreeingRunsShowTheSame}
-use Rattle.flat_core.proofs.Induction.{both_play, event_keeps}
+use Rattle.flat_core.proofs.Induction.{both_play}
 use Rattle.flat_core.proofs.Keeps.{first-lawful}
 use Rattle.flat_core.proofs.Kept.{events_keep}
 use Rattle.flat_core.proofs.Blind.{row-blind}

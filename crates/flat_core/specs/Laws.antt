@@ -7,7 +7,6 @@ use Rattle.td_words.specs.declared.machines.Machine.{Machine}
 use Rattle.td_words.specs.declared.names.OpState.TheVariants.{Runnable}
 use Rattle.td_words.specs.declared.names.ReadField.TheVariants.{Mrtd}
 use Rattle.td_words.specs.declared.names.EntryState.{EntryState}
-use Rattle.td_words.specs.declared.names.Mode.{Mode}
 use Rattle.td_words.specs.declared.replies.Value.TheVariants.{Digest}
 use Rattle.td_words.specs.declared.refusals.Status.{Status}
 use Rattle.td_words.specs.declared.refusals.Status.TheVariants.{OperandInvalid}
@@ -19,10 +18,10 @@ use Rattle.td_words.specs.declared.calls.Call.{Call}
 use Rattle.td_words.specs.declared.calls.Call.TheVariants as call
 use Rattle.td_words.specs.Packing.{Entry, is_exported}
 use Rattle.flat_core.specs.World.{World, Pages, Tds, put, Made}
-use Rattle.flat_core.specs.Processor.{LockId, OfOp, OfTree, Lp, nothing_yet}
-use Rattle.flat_core.specs.Locks.{alone_of, shared_of, refused_of, holders, sharers, grants, one_if}
+use Rattle.flat_core.specs.Processor.{LockId, Lp, nothing_yet}
+use Rattle.flat_core.specs.Locks.{holders, sharers, one_if}
 use Rattle.flat_core.specs.Opening.{Opening, Incoming, Agree, blind, public_bundle}
-use Rattle.flat_core.specs.Row.{Passes, Attempts, Succeeds, Row, OperationRow, Move, tries_in}
+use Rattle.flat_core.specs.Row.{Passes, Succeeds, Row, OperationRow, Move, tries_in}
 use Rattle.flat_core.specs.Conditions.{is_host_in}
 use Rattle.flat_core.specs.Tree.{entry_at}
 use Rattle.flat_core.specs.TdRows.{read_td, finalize}

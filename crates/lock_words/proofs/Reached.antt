@@ -14,7 +14,7 @@ use Rattle.flat_core.specs.Opening.{Opening, Incoming}
 use Rattle.flat_core.specs.Row.{Item, Row, Move, Attempts, Undoes, Refuses, Succeeds, Releases, Rests, next, next_in}
 use Rattle.flat_core.specs.Table.{row_of}
 use Rattle.flat_core.specs.Lawful.{Lawful}
-use Rattle.flat_core.specs.Event.{State, Event, OfCall, start, next_event, event_for, line_event, lines_left, calls_of, event, after_event, call_world, lp_after, call_lp, call_busy, succeeded, settle, settled, is_granted}
+use Rattle.flat_core.specs.Event.{State, Event, OfCall, next_event, event_for, line_event, lines_left, calls_of, event, after_event, call_world, lp_after, call_lp, call_busy, succeeded, settle, settled, is_granted}
 use Rattle.flat_core.specs.Tries.{tries_of}
 use Rattle.flat_core.specs.Laws.{reached, with_bundles, IsExclusive}
 use Rattle.flat_core.proofs.Tests.{by_test}

@@ -16,7 +16,7 @@ use Rattle.td_words.specs.declared.replies.Reply.{Reply}
 use Rattle.td_words.specs.declared.replies.Reply.TheVariants.{Refused}
 use Rattle.td_words.specs.declared.refusals.Status.TheVariants.{EptWalkFailed}
 use Rattle.flat_core.specs.World.{World}
-use Rattle.flat_core.specs.Processor.{LockId, OfPage, OfOp, OfTree, OfEpoch, OfRtmr, OfKeys, Held}
+use Rattle.flat_core.specs.Processor.{LockId, Held}
 use Rattle.flat_core.specs.Opening.{Opening}
 use Rattle.flat_core.specs.Row.{Item, Check, Try, Attempts, Succeeds, next, Passes}
 use Rattle.flat_core.specs.Conditions.{all_ops, begun_ops, growing_ops, later_ops, td_row, page_exclusive, tree_shared, tree_exclusive, epoch_shared, host_page, td_page, vps_ready, vp_room, vp_in}

@@ -4,7 +4,7 @@ use Rattle.std.specs.Prelude.{◌≡◌, ℕ, zero, suc, ◌<◌, Bool, true, fa
 use Rattle.td_words.specs.declared.replies.Reply.{Reply}
 use Rattle.std.specs.List.{list_any}
 use Rattle.flat_core.specs.Processor.{LockId, OfPage, OfOp, OfTree, OfEpoch, OfRtmr, OfKeys, Held, Phase, Trying, Undoing, Answered, Progress, Translation, Guest, Lp}
-use Rattle.flat_core.specs.Locks.{same_lock, is_alone, holders, sharers}
+use Rattle.flat_core.specs.Locks.{same_lock, is_alone}
 use Rattle.flat_core.specs.Opening.{Opening}
 use Rattle.flat_core.specs.Event.{State}
 use Rattle.flat_core.specs.Laws.{reached}

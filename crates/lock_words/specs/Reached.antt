@@ -12,7 +12,7 @@ use Rattle.flat_core.specs.Row.{Row, Attempts}
 use Rattle.flat_core.specs.Tries.{tries_of}
 use Rattle.flat_core.specs.Lawful.{Lawful}
 use Rattle.flat_core.specs.Event.{State, OfCall, next_event, calls_of}
-use Rattle.flat_core.specs.Laws.{reached, with_bundles, IsKept, IsExclusive, HoldsInRuns}
+use Rattle.flat_core.specs.Laws.{with_bundles, IsKept, IsExclusive, HoldsInRuns}
 use Rattle.lock_words.specs.Grips.{HoldsTdr, TdrsAreHeld}
 use Rattle.lock_words.specs.LockWords.{Stands, HeldStand, UndoStands, LocksStand}
 
