@@ -14,7 +14,7 @@ use Rattle.flat_core.specs.World.{World}
 use Rattle.flat_core.specs.Processor.{LockId, name_of, Held, Phase, Trying, Undoing, Answered, Progress, Guest, Entering, Lp}
 use Rattle.flat_core.specs.Opening.{Opening}
 use Rattle.flat_core.specs.Row.{Item, Check, Try, Row, Move, Attempts, Refuses, Succeeds, next, next_in, tries_in}
-use Rattle.flat_core.specs.Tree.{entry_at, same_state, state_in, levels_above}
+use Rattle.flat_core.specs.Tree.{is_passed, state_in, levels_above}
 use Rattle.flat_core.specs.Conditions.{page_exclusive, host_page}
 use Rattle.flat_core.specs.KeyRows.{reclaim_conditions}
 use Rattle.flat_core.specs.Table.{row_of}
@@ -117,9 +117,6 @@ walk_holds b (l ∷ ls) items h = (tt, walk_holds b ls items h)
 walk_alone_holds : (b : ℕ → Bool) (ls : List ℕ) → ArgumentsHold (walk_checks b ls)
 walk_alone_holds b [] = tt
 walk_alone_holds b (l ∷ ls) = (tt, walk_alone_holds b ls)
-
-abbrev is_passed : World → (t gpa l : ℕ) → Bool
-is_passed w t gpa l = same_state (entry_at w t l gpa).state entry.NlMapped
 
 reclaim_ordered : (w : World) (t page : ℕ) (b : Bool) → IsOrdered 1 (reclaim_conditions w t page b)
 reclaim_ordered w t page true = (tt, tt)

@@ -1,5 +1,5 @@
 -- Every call ends, and so does every run.
-use Rattle.std.proofs.Common.{◌≡◌, ◌≢◌, refl, sym, ◌∙◌, subst, ap, ℕ, zero, suc, ◌+◌, ◌-◌, ◌<◌, ◌≤◌, List, [], ◌∷◌, ◌++◌, length, drop, replicate, Option, Some, None, Bool, true, false, ◌==◌, if◌then◌else◌, arith, length-append}
+use Rattle.std.proofs.Common.{◌≡◌, ◌≢◌, refl, sym, ◌∙◌, subst, ap, ℕ, zero, suc, ◌+◌, ◌-◌, ◌<◌, ◌≤◌, List, [], ◌∷◌, ◌++◌, length, drop, replicate, Option, Some, None, Bool, true, false, ◌==◌, arith, length-append}
 use Rattle.std.proofs.lemmas.Bool.{eq-eqb, eqb-true, eqb-false, ne_eqb}
 use Rattle.td_words.specs.declared.names.Mode.{Mode}
 use Rattle.td_words.specs.declared.names.Mode.TheVariants.{Shared, Exclusive}
@@ -15,7 +15,8 @@ use Rattle.flat_core.specs.Table.{row_of, most_tries}
 use Rattle.flat_core.specs.Event.{State, Event, OfCall, start, next_event, event_for, line_event, lines_left, calls_of, event, after_event, lp_after, call_lp, succeeded, settled, settle, call_busy, is_granted}
 use Rattle.flat_core.specs.Run.{play, events_in, to_the_end}
 use Rattle.flat_core.specs.Bounds.{call_left, left_of, events_left, IsNotDone, IsTimelyAt, IsTimely, AreTimely, TimelinessIsKept, TimelyEventsRunOut, EventsRunOut, RunsEnd}
-use Rattle.flat_core.specs.Laws.{with_bundles, HoldsInRuns}
+use Rattle.flat_core.specs.Locks.{one_if}
+use Rattle.flat_core.specs.Laws.{with_bundles, HoldsInRuns, own_items}
 use Rattle.flat_core.proofs.Induction.{event_keeps, in_runs, play_append}
 use Rattle.flat_core.proofs.Tests.{by_test, put_here}
 use Rattle.flat_core.proofs.Tries.{row_tries}
@@ -170,11 +171,7 @@ pub runs_out : EventsRunOut
 runs_out o ws ls p e is = event_lowers o (play o ls (start o ws)) p e (always_timely o ws ls) is
 
 -- over a schedule
-abbrev times : ℕ → List ℕ → ℕ
-times p [] = 0
-times p (q ∷ qs) = (if q == p then 1 else 0) + times p qs
-
-one_item : (o : Opening) (s : State) (p q : ℕ) → AreTimely o s → events_left o (event o s q) p ≤ events_left o s p - (if q == p then 1 else 0)
+one_item : (o : Opening) (s : State) (p q : ℕ) → AreTimely o s → events_left o (event o s q) p ≤ events_left o s p - one_if (q == p)
 one_item o s p q h = by_test (q == p)
     (λ y. (let here : q ≡ p = eqb-true q p y in
     rw y (subst (λ (x : ℕ). events_left o (event o s x) p ≤ events_left o s p - 1) (sym here) (mine (next_event o s p) refl))))
@@ -195,30 +192,30 @@ one_item o s p q h = by_test (q == p)
     others n None = omega arith
     others n (Some e) = let ne : (p == q) ≡ false = ne_eqb p q n in rw ne (omega arith)
 
-schedule_lowers : (o : Opening) (p : ℕ) (ls : List ℕ) (s : State) → AreTimely o s → events_left o (play o ls s) p ≤ events_left o s p - times p ls
+schedule_lowers : (o : Opening) (p : ℕ) (ls : List ℕ) (s : State) → AreTimely o s → events_left o (play o ls s) p ≤ events_left o s p - own_items p ls
 schedule_lowers o p [] s h = omega arith
 schedule_lowers o p (q ∷ qs) s h =
     let rest = schedule_lowers o p qs (event o s q) (event_keeps o (AreTimely o) (timely_step o) s q h) in
     let one = one_item o s p q h in
     omega arith
 
-times_append : (p : ℕ) (xs ys : List ℕ) → times p (xs ++ ys) ≡ times p xs + times p ys
-times_append p [] ys = omega arith
-times_append p (x ∷ xs) ys = omega (arith, times_append p xs ys)
+items_append : (p : ℕ) (xs ys : List ℕ) → own_items p (xs ++ ys) ≡ own_items p xs + own_items p ys
+items_append p [] ys = omega arith
+items_append p (x ∷ xs) ys = omega (arith, items_append p xs ys)
 
-times_replicate : (p n : ℕ) → times p (replicate n p) ≡ n
-times_replicate p zero = refl
-times_replicate p (suc n) = let e : (p == p) ≡ true = eq-eqb p p refl in rw e (omega (arith, times_replicate p n))
+items_replicate : (p n : ℕ) → own_items p (replicate n p) ≡ n
+items_replicate p zero = refl
+items_replicate p (suc n) = let e : (p == p) ≡ true = eq-eqb p p refl in rw e (omega (arith, items_replicate p n))
 
 -- the end of a run has as many items for each processor as its lines can need
-times_end : (css : List (List Call)) (k p q : ℕ) → q ≡ k + p → events_in (calls_of css p) ≤ times q (to_the_end k css)
-times_end [] k p q e = omega arith
-times_end (cs ∷ css) k zero q e =
+items_end : (css : List (List Call)) (k p q : ℕ) → q ≡ k + p → events_in (calls_of css p) ≤ own_items q (to_the_end k css)
+items_end [] k p q e = omega arith
+items_end (cs ∷ css) k zero q e =
     let here : q ≡ k = omega arith in
-    subst (λ (x : ℕ). events_in cs ≤ times x (replicate (events_in cs) k ++ to_the_end (suc k) css)) (sym here)
-    (omega (arith, times_append k (replicate (events_in cs) k) (to_the_end (suc k) css), times_replicate k (events_in cs)))
-times_end (cs ∷ css) k (suc p) q e =
-    omega (arith, times_append q (replicate (events_in cs) k) (to_the_end (suc k) css), times_end css (suc k) p q (omega arith))
+    subst (λ (x : ℕ). events_in cs ≤ own_items x (replicate (events_in cs) k ++ to_the_end (suc k) css)) (sym here)
+    (omega (arith, items_append k (replicate (events_in cs) k) (to_the_end (suc k) css), items_replicate k (events_in cs)))
+items_end (cs ∷ css) k (suc p) q e =
+    omega (arith, items_append q (replicate (events_in cs) k) (to_the_end (suc k) css), items_end css (suc k) p q (omega arith))
 
 -- a line that is left has an event left
 some_left : (c : Call) (cs : List Call) (phase : Phase Reply) (hs : List Held) → length hs ≤ most_tries c → IsNotDone phase hs → 1 ≤ call_left (most_tries c) phase (length hs) + events_in cs
@@ -247,7 +244,7 @@ runs_end o ws ls p =
     let begin : events_left o s0 p ≡ events_in (calls_of o.calls p) = fresh_left (calls_of o.calls p) idle in
     let so_far = schedule_lowers o p ls s0 first in
     let to_end = schedule_lowers o p end (play o ls s0) middle in
-    let enough = times_end o.calls 0 p p (omega arith) in
+    let enough = items_end o.calls 0 p p (omega arith) in
     let same : events_left o (play o (ls ++ end) s0) p ≡ events_left o (play o end (play o ls s0)) p = ap (λ (t : State). events_left o t p) (play_append o ls end s0) in
     let zero_left : events_left o (play o (ls ++ end) s0) p ≡ 0 = omega arith in
     none_left o (play o (ls ++ end) s0) p (lines_left o p ((play o (ls ++ end) s0).lps p)) (last p).call zero_left

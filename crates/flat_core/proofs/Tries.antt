@@ -12,7 +12,7 @@ use Rattle.flat_core.specs.World.{World}
 use Rattle.flat_core.specs.Processor.{OfPage, OfTree, Held}
 use Rattle.flat_core.specs.Row.{Item, Check, Try, tries_in}
 use Rattle.flat_core.specs.Conditions.{page_exclusive, host_page}
-use Rattle.flat_core.specs.Tree.{walk, state_in, entry_at, same_state, levels_above}
+use Rattle.flat_core.specs.Tree.{walk, state_in, is_passed, levels_above}
 use Rattle.flat_core.specs.KeyRows.{reclaim_conditions}
 use Rattle.flat_core.specs.Table.{row_of, most_tries}
 use Rattle.flat_core.specs.Bounds.{RowsTryFew}
@@ -25,7 +25,7 @@ conditions_try_nothing b r [] = refl
 conditions_try_nothing b r (l ∷ ls) = conditions_try_nothing b r ls
 
 walk_tries_nothing : (w : World) (t gpa level : ℕ) → tries (walk w t gpa level) ≡ []
-walk_tries_nothing w t gpa level = conditions_try_nothing (λ l. same_state (entry_at w t l gpa).state entry.NlMapped) (λ l. Refused (EptWalkFailed l)) (levels_above level)
+walk_tries_nothing w t gpa level = conditions_try_nothing (is_passed w t gpa) (λ l. Refused (EptWalkFailed l)) (levels_above level)
 
 tries_append : (xs ys : List (Item Reply)) → tries (xs ++ ys) ≡ tries xs ++ tries ys
 tries_append [] ys = refl
