@@ -1,7 +1,6 @@
 -- The act of each row changes what words are only as the rules say.
 use Rattle.std.proofs.Common.{◌≡◌, ◌⊎◌, refl, sym, ◌∙◌, ap, subst, inl, inr, ℕ, ◌+◌, List, [], ◌∷◌, ◌++◌, length, map, Bool, true, false, not, ◌==◌, nat_lt, arith}
 use Rattle.std.specs.Prelude.{Option, Some, None}
-use Rattle.std.specs.List.{list_any}
 use Rattle.std.proofs.lemmas.Bool.{eq-eqb, eqb-true, ne_eqb, not-true, and_parts}
 use Rattle.std.proofs.lemmas.Bool.Decides.{nat_tests}
 use Rattle.td_words.specs.declared.calls.Call.TheVariants as call
@@ -17,7 +16,6 @@ use Rattle.td_words.specs.declared.replies.Reply.{Reply}
 use Rattle.td_words.specs.declared.replies.Reply.TheVariants.{Refused}
 use Rattle.td_words.specs.declared.refusals.Status.TheVariants.{EptWalkFailed}
 use Rattle.td_words.specs.declared.machines.Machine.{Machine}
-use Rattle.td_words.specs.NameNumber.{life_number}
 use Rattle.td_words.specs.Packing.{Key as KeyState, Unassigned, AssignedTo, FlushedOf}
 use Rattle.td_words.specs.Place.{WordPlace, Lock, Pamt, Word, Key}
 use Rattle.flat_core.specs.World.{World, put}
@@ -29,7 +27,9 @@ use Rattle.flat_core.specs.Effects.{set_word, take_node, clear_page, give_back, 
 use Rattle.flat_core.specs.TdRows.{create, add_tdcx}
 use Rattle.flat_core.specs.KeyRows.{reclaim_conditions}
 use Rattle.flat_core.specs.VpRows.{create_vp}
-use Rattle.flat_core.specs.Tree.{page_of_gpa, number_at, entry_at, same_state, levels_above}
+use Rattle.flat_core.specs.Tree.{is_passed, page_of_gpa, number_at, levels_above}
+use Rattle.flat_core.proofs.Maps.{behind_walk}
+use Rattle.flat_core.proofs.Keeps.{live_of}
 use Rattle.flat_core.proofs.Tests.{by_test, host_kind, tdr_kind}
 use Rattle.word_rules.specs.Guards.{Grip, Locked}
 use Rattle.word_rules.specs.Rules.{moves}
@@ -275,20 +275,9 @@ module _ (g : Grip) (w : World) where
   measured t records = let w' : World = measure t records w in leaves g w w' (all-same w w' refl (λ u. same-td w w' u refl refl refl (λ b. refl) (λ n. refl))) (λ h. refl) refl
 
 -- a walk is conditions alone
-behind-walk : (b : ℕ → Bool) (r : ℕ → Reply) (ls : List ℕ) (items : List (Item Reply)) → Passes (map (λ l. Check (b l) (r l)) ls ++ items) → Passes items
-behind-walk b r [] items ps = ps
-behind-walk b r (l ∷ ls) items ps = behind-walk b r ls items ps.1
-
 held-behind : (g : Grip) (b : ℕ → Bool) (r : ℕ → Reply) (ls : List ℕ) (items : List (Item Reply)) → HoldsTries g (map (λ l. Check (b l) (r l)) ls ++ items) → HoldsTries g items
 held-behind g b r [] items h = h
 held-behind g b r (l ∷ ls) items h = held-behind g b r ls items h
-
--- a TD whose life is one of those allowed is alive
-live-of : (allowed : List LifeState) (s : LifeState) → list_any (λ a. life_number a == life_number life.Teardown) allowed ≡ false → list_any (λ a. life_number a == life_number s) allowed ≡ true → (life_number s == life_number life.Teardown) ≡ false
-live-of allowed life.HkidAssigned no-end among = refl
-live-of allowed life.KeysConfigured no-end among = refl
-live-of allowed life.Blocked no-end among = refl
-live-of allowed life.Teardown no-end among = cc
 
 pub rows-respect : RowsRespect
 rows-respect o me (call.HostRead page word) g w la ps h = stays g w
@@ -304,18 +293,17 @@ rows-respect o me (call.MngAddcx tdr page) g w la ps h = tdcx-added o.machine g 
 rows-respect o me (call.MngInit tdr) g w la ps h = initialized g w tdr h.0 h.1.0.1
 rows-respect o me (call.MngRd tdr field) g w la ps h = stays g w
 rows-respect o me (call.MngVpflushdone tdr) g w la ps h =
-    ended g w tdr life.Blocked (FlushedOf tdr false) (la.keys.owner tdr (record { kind = tdr_kind (w.pages.kinds tdr) ps.1.0; life = live-of (life.HkidAssigned ∷ life.KeysConfigured ∷ []) (w.tds.lives tdr) refl ps.1.1.0 })) h.0.0 h.0.1
+    ended g w tdr life.Blocked (FlushedOf tdr false) (la.keys.owner tdr (record { kind = tdr_kind (w.pages.kinds tdr) ps.1.0; life = live_of (life.HkidAssigned ∷ life.KeysConfigured ∷ []) (w.tds.lives tdr) refl ps.1.1.0 })) h.0.0 h.0.1
 rows-respect o me (call.MngKeyFreeid tdr) g w la ps h =
-    ended g w tdr life.Teardown Unassigned (la.keys.owner tdr (record { kind = tdr_kind (w.pages.kinds tdr) ps.1.0; life = live-of (life.Blocked ∷ []) (w.tds.lives tdr) refl ps.1.1.0 })) h.0.0 h.0.1
+    ended g w tdr life.Teardown Unassigned (la.keys.owner tdr (record { kind = tdr_kind (w.pages.kinds tdr) ps.1.0; life = live_of (life.Blocked ∷ []) (w.tds.lives tdr) refl ps.1.1.0 })) h.0.0 h.0.1
 rows-respect o me (call.MrFinalize tdr) g w la ps h = finalized g w tdr h.0 h.1.0.1
 rows-respect o me (call.VpCreate tdr page) g w la ps h =
     vp-added o.machine g w tdr page la (host_kind (w.pages.kinds page) ps.1.1.1.1.1.1.1.1.0) h.1.1.0.1
 rows-respect o me (call.VpInit tdr vp value) g w la ps h = vp-initialized g w vp value
 rows-respect o me (call.MrExtend tdr gpa) g w la ps h = measured g w tdr _
 rows-respect o me (call.MemSeptAdd tdr gpa level page) g w la ps h =
-    let passes : ℕ → Bool = λ l. same_state (entry_at w tdr l gpa).state entry.NlMapped in
-    let behind = behind-walk passes (λ l. Refused (EptWalkFailed l)) (levels_above level) _ ps.1.1.1.1.1.1.1.1.1.1 in
-    let held = held-behind g passes (λ l. Refused (EptWalkFailed l)) (levels_above level) _ h.1.1.1 in
+    let behind = behind_walk w tdr gpa level _ ps.1.1.1.1.1.1.1.1.1.1 in
+    let held = held-behind g (is_passed w tdr gpa) (λ l. Refused (EptWalkFailed l)) (levels_above level) _ h.1.1.1 in
     sept-added g w tdr gpa level page behind.1.0 held.0.1 (record { tdr = h.0; op = h.1.0 }) h.1.1.0.1
 rows-respect o me (call.MemSeptRd tdr gpa level) g w la ps h = stays g w
 rows-respect o me (call.MemPageAdd tdr gpa page source) g w la ps h =

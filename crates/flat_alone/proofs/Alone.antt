@@ -12,8 +12,7 @@ use Rattle.td_words.specs.declared.calls.Call.TheVariants as call
 use Rattle.td_words.specs.declared.replies.Reply.{Reply}
 use Rattle.td_words.specs.declared.replies.Reply.TheVariants.{Done, Refused}
 use Rattle.td_words.specs.declared.refusals.Status.TheVariants.{EptWalkFailed}
-use Rattle.td_words.specs.declared.names.EntryState.TheVariants as entry
-use Rattle.flat_core.specs.Tree.{entry_at, same_state, levels_above}
+use Rattle.flat_core.specs.Tree.{is_passed, levels_above}
 use Rattle.flat_core.specs.World.{World, first_world, put}
 use Rattle.flat_core.specs.Processor.{LockId, OfPage, Held, Phase, Trying, Answered, Lp, idle}
 use Rattle.flat_core.specs.Locks.{alone_in, shared_in, alone_of, shared_of, refused_of, sum_below, holders, sharers, refusals, grants}
@@ -96,9 +95,6 @@ free_checks hs b r (l ∷ ls) = λ e. free_checks hs b r ls
 apart_false : (b : Bool) → not b ≡ true → b ≡ false
 apart_false true h = cc
 apart_false false h = refl
-
-abbrev is_passed : World → (t gpa l : ℕ) → Bool
-is_passed w t gpa l = same_state (entry_at w t l gpa).state entry.NlMapped
 
 free_row : (o : Opening) (p : ℕ) (c : Call) (w : World) → FreeTries [] ((row_of o p c).items w)
 free_row o p (call.HostRead page word) w = λ a b. (refl, refl, tt)

@@ -13,12 +13,12 @@ use Rattle.flat_core.specs.Locks.{one_if, sum_below}
 use Rattle.flat_core.specs.Conditions.{same_kind}
 use Rattle.flat_core.specs.Exports.{is_dirty, is_page_where, entries_where}
 use Rattle.flat_core.specs.Lawful.{IsAlive, IsNodeOf, Lawful, all_differ, is_free, is_node, is_named_kind}
-use Rattle.flat_core.specs.Laws.{AreSoMany, AreCounted, ExportedAreCounted}
+use Rattle.flat_core.specs.Laws.{AreSoMany, AreCounted, LawfulWorldsAreCounted, CountsAreKept, ExportedAreCounted}
 use Rattle.flat_core.proofs.Tests.{by_test, same_self}
 use Rattle.flat_core.proofs.Maps.{kind_named}
 use Rattle.flat_core.proofs.Exports.{IsOfExported, dirty_exported, free_unmarked}
 use Rattle.flat_core.proofs.Owned.{node_named}
-use Rattle.flat_core.proofs.Kept.{every_lawful}
+use Rattle.flat_core.proofs.Kept.{every_lawful, kept_with}
 
 private_kind : (k : PageKind) → same_kind k kind.Reg ≡ true → k ≡ kind.Reg
 private_kind kind.Reg h = refl
@@ -133,12 +133,15 @@ module _ (m : Machine) (w : World) (lawful : Lawful m w) (t : ℕ) (alive : IsAl
     pub so_many : (k : ℕ) → entries_where f m.pages w.pages w.tds t ≡ k → AreSoMany f (w.tds.entries t 0) k
     so_many k e = record { numbers = numbers_below m.pages; each = each; once = differ m.pages; many = many m.pages ∙ e }
 
-pub are_counted : (m : Machine) (w : World) → Lawful m w → AreCounted w
+pub are_counted : LawfulWorldsAreCounted
 are_counted m w l = record {
   dirty = λ t a. (entries_where is_dirty m.pages w.pages w.tds t, l.counts.dirtied t a, so_many m w l t a is_dirty dirty_exported _ refl);
   exported = λ t a. so_many m w l t a is_exported (λ s h. h) _ (l.counts.unrestored t a);
   upper = λ t k n a. upper_unmarked m w l t a k n;
 }
+
+pub counts_kept : CountsAreKept
+counts_kept = kept_with AreCounted are_counted
 
 pub exported_are_counted : ExportedAreCounted
 exported_are_counted o ws schedule = are_counted o.machine _ (every_lawful o ws schedule)

@@ -14,16 +14,17 @@ use Rattle.flat_core.specs.World.{World}
 use Rattle.flat_core.specs.Processor.{LockId, name_of, Held, Phase, Trying, Undoing, Answered, Progress, Guest, Entering, Lp}
 use Rattle.flat_core.specs.Opening.{Opening}
 use Rattle.flat_core.specs.Row.{Item, Check, Try, Row, Move, Attempts, Refuses, Succeeds, next, next_in, tries_in}
-use Rattle.flat_core.specs.Tree.{entry_at, same_state, state_in, levels_above}
+use Rattle.flat_core.specs.Tree.{is_passed, state_in, levels_above}
 use Rattle.flat_core.specs.Conditions.{page_exclusive, host_page}
 use Rattle.flat_core.specs.KeyRows.{reclaim_conditions}
 use Rattle.flat_core.specs.Table.{row_of}
 use Rattle.flat_core.specs.Event.{State, Event, OfCall, event_for, line_event, lines_left, calls_of, event, after_event, lp_after, call_lp, succeeded, settled, settle, call_busy, is_granted}
 use Rattle.flat_core.specs.Run.{play}
-use Rattle.flat_core.specs.Laws.{IsBetween, AnswersNext, own_items, RowsTryTheSame, CallsHaveTheirEvents}
+use Rattle.flat_core.specs.Laws.{IsBetween, AnswersNext, own_items, CallsHaveTheirEvents}
 use Rattle.flat_core.proofs.Tests.{by_test}
 use Rattle.flat_core.proofs.Kept.{others_stay}
-use Rattle.flat_core.proofs.Ends.{row_enters, checks_tried, checks_alone}
+use Rattle.flat_core.proofs.Ends.{row_enters}
+use Rattle.flat_core.proofs.Tries.{rows_try_the_same}
 use Rattle.flat_core.proofs.Refused.{after_here, play_grows, no_more, same_last}
 
 -- how many events a call has in all that is answered so, where its row tries n locks
@@ -117,9 +118,6 @@ walk_alone_holds : (b : ℕ → Bool) (ls : List ℕ) → ArgumentsHold (walk_ch
 walk_alone_holds b [] = tt
 walk_alone_holds b (l ∷ ls) = (tt, walk_alone_holds b ls)
 
-abbrev is_passed : World → (t gpa l : ℕ) → Bool
-is_passed w t gpa l = same_state (entry_at w t l gpa).state entry.NlMapped
-
 reclaim_ordered : (w : World) (t page : ℕ) (b : Bool) → IsOrdered 1 (reclaim_conditions w t page b)
 reclaim_ordered w t page true = (tt, tt)
 reclaim_ordered w t page false = (tt, tt)
@@ -163,29 +161,6 @@ row_holds o me (call.MemSeptAdd t gpa level page) v w h = (h.0, (h.1.0, (h.1.1.0
 row_holds o me (call.MemSeptRd t gpa level) v w h = (h.0, (h.1.0, (h.1.1.0, (h.1.1.1.0, (tt, (tt, (tt, (tt, walk_alone_holds (is_passed w t gpa) (levels_above level)))))))))
 row_holds o me (call.HostRead page word) v w h = h
 row_holds o me _ v w h = h
-
--- and so are tries
-pub rows_try_the_same : RowsTryTheSame
-rows_try_the_same o me (call.PhymemPageReclaim t page) v w = by (page == t)
-  where
-    by : (b : Bool) → suc (tries_in (reclaim_conditions v t page b)) ≡ suc (tries_in (reclaim_conditions w t page b))
-    by true = refl
-    by false = refl
-rows_try_the_same o me (call.MngRd t field.Life) v w = refl
-rows_try_the_same o me (call.MngRd t field.Op) v w = refl
-rows_try_the_same o me (call.MngRd t field.Epoch) v w = refl
-rows_try_the_same o me (call.MngRd t field.Mrtd) v w = refl
-rows_try_the_same o me (call.MemSeptAdd t gpa level page) v w =
-    let tail : World → List (Item Reply) = λ x. state_in x t gpa level (entry.Free ∷ []) ∷ page_exclusive page ∷ host_page x page ∷ [] in
-    ap (λ (n : ℕ). suc (suc (suc n)))
-    (checks_tried (is_passed v t gpa) (λ l. Refused (EptWalkFailed l)) (levels_above level) (tail v)
-    ∙ sym (checks_tried (is_passed w t gpa) (λ l. Refused (EptWalkFailed l)) (levels_above level) (tail w)))
-rows_try_the_same o me (call.MemSeptRd t gpa level) v w =
-    ap (λ (n : ℕ). suc (suc (suc n)))
-    (checks_alone (is_passed v t gpa) (λ l. Refused (EptWalkFailed l)) (levels_above level)
-    ∙ sym (checks_alone (is_passed w t gpa) (λ l. Refused (EptWalkFailed l)) (levels_above level)))
-rows_try_the_same o me (call.HostRead page word) v w = refl
-rows_try_the_same o me _ v w = refl
 
 -- where a call stands after k events: of its tries, or of its releases
 abbrev StandsAt : Type 0 → ℕ → ℕ → Phase Reply → List Held → Type 0

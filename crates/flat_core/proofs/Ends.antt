@@ -1,28 +1,25 @@
 -- Every call ends, and so does every run.
-use Rattle.std.proofs.Common.{◌≡◌, ◌≢◌, refl, sym, ◌∙◌, subst, ap, ℕ, zero, suc, ◌+◌, ◌-◌, ◌<◌, ◌≤◌, List, [], ◌∷◌, ◌++◌, length, drop, map, replicate, Option, Some, None, Bool, true, false, ◌==◌, if◌then◌else◌, arith, length-append}
+use Rattle.std.proofs.Common.{◌≡◌, ◌≢◌, refl, sym, ◌∙◌, subst, ap, ℕ, zero, suc, ◌+◌, ◌-◌, ◌<◌, ◌≤◌, List, [], ◌∷◌, ◌++◌, length, drop, replicate, Option, Some, None, Bool, true, false, ◌==◌, arith, length-append}
 use Rattle.std.proofs.lemmas.Bool.{eq-eqb, eqb-true, eqb-false, ne_eqb}
 use Rattle.td_words.specs.declared.names.Mode.{Mode}
 use Rattle.td_words.specs.declared.names.Mode.TheVariants.{Shared, Exclusive}
 use Rattle.td_words.specs.declared.calls.Call.{Call}
 use Rattle.td_words.specs.declared.calls.Call.TheVariants as call
-use Rattle.td_words.specs.declared.names.ReadField.TheVariants as field
 use Rattle.td_words.specs.declared.replies.Reply.{Reply}
-use Rattle.td_words.specs.declared.replies.Reply.TheVariants.{Done, Refused}
-use Rattle.td_words.specs.declared.refusals.Status.TheVariants.{EptWalkFailed}
-use Rattle.td_words.specs.declared.names.EntryState.TheVariants as entry
-use Rattle.flat_core.specs.Conditions.{page_exclusive, host_page}
-use Rattle.flat_core.specs.Tree.{entry_at, same_state, state_in, levels_above}
+use Rattle.td_words.specs.declared.replies.Reply.TheVariants.{Done}
 use Rattle.flat_core.specs.World.{World}
-use Rattle.flat_core.specs.Processor.{LockId, Held, Phase, Trying, Undoing, Answered, Progress, Guest, Entering, Lp, idle, nothing_yet}
+use Rattle.flat_core.specs.Processor.{LockId, Held, Phase, Trying, Undoing, Answered, Guest, Entering, Lp, idle, nothing_yet}
 use Rattle.flat_core.specs.Opening.{Opening}
 use Rattle.flat_core.specs.Row.{Item, Check, Try, Row, Move, Attempts, Refuses, Succeeds, next, next_in, tries_in}
-use Rattle.flat_core.specs.KeyRows.{reclaim_conditions}
 use Rattle.flat_core.specs.Table.{row_of, most_tries}
 use Rattle.flat_core.specs.Event.{State, Event, OfCall, start, next_event, event_for, line_event, lines_left, calls_of, event, after_event, lp_after, call_lp, succeeded, settled, settle, call_busy, is_granted}
 use Rattle.flat_core.specs.Run.{play, events_in, to_the_end}
-use Rattle.flat_core.specs.Bounds.{call_left, left_of, events_left, EventsRunOut, RunsEnd}
-use Rattle.flat_core.proofs.Induction.{event_keeps, play_keeps, play_append}
+use Rattle.flat_core.specs.Bounds.{call_left, left_of, events_left, IsNotDone, IsTimelyAt, IsTimely, AreTimely, TimelinessIsKept, TimelyEventsRunOut, EventsRunOut, RunsEnd}
+use Rattle.flat_core.specs.Locks.{one_if}
+use Rattle.flat_core.specs.Laws.{with_bundles, HoldsInRuns, own_items}
+use Rattle.flat_core.proofs.Induction.{event_keeps, in_runs, play_append}
 use Rattle.flat_core.proofs.Tests.{by_test, put_here}
+use Rattle.flat_core.proofs.Tries.{row_tries}
 
 -- what holds of each move that a row may give
 pub next_is : {R : Type 0} (C : Move R → Type 0) (items : List (Item R)) (k : ℕ) → ((r : R) → C (Refuses r)) → C Succeeds → ((l : LockId) (m : Mode) → k < tries_in items → C (Attempts l m)) → C (next items k)
@@ -32,50 +29,9 @@ next_is C (Check false r ∷ items) k refuses succeeds attempts = refuses r
 next_is C (Try l m ∷ items) zero refuses succeeds attempts = attempts l m (omega arith)
 next_is C (Try l m ∷ items) (suc k) refuses succeeds attempts = next_is C items k refuses succeeds (λ l m h. attempts l m (omega arith))
 
--- a walk is conditions alone
-pub checks_tried : (b : ℕ → Bool) (r : ℕ → Reply) (ls : List ℕ) (items : List (Item Reply)) → tries_in (map (λ l. Check (b l) (r l)) ls ++ items) ≡ tries_in items
-checks_tried b r [] items = refl
-checks_tried b r (l ∷ ls) items = checks_tried b r ls items
-
-pub checks_alone : (b : ℕ → Bool) (r : ℕ → Reply) (ls : List ℕ) → tries_in (map (λ l. Check (b l) (r l)) ls) ≡ 0
-checks_alone b r [] = refl
-checks_alone b r (l ∷ ls) = checks_alone b r ls
-
-pub row_tries : (o : Opening) (me : ℕ) (c : Call) (w : World) → tries_in ((row_of o me c).items w) ≤ most_tries c
-row_tries o me (call.PhymemPageReclaim t page) w = reclaim_tries (page == t)
-  where
-    reclaim_tries : (b : Bool) → suc (tries_in (reclaim_conditions w t page b)) ≤ 2
-    reclaim_tries true = omega arith
-    reclaim_tries false = omega arith
-row_tries o me (call.MemSeptAdd t gpa level page) w =
-    let tail : List (Item Reply) = state_in w t gpa level (entry.Free ∷ []) ∷ page_exclusive page ∷ host_page w page ∷ [] in
-    subst (λ (n : ℕ). suc (suc (suc n)) ≤ 4) (sym (checks_tried (λ l. same_state (entry_at w t l gpa).state entry.NlMapped) (λ l. Refused (EptWalkFailed l)) (levels_above level) tail)) (omega arith)
-row_tries o me (call.MemSeptRd t gpa level) w =
-    subst (λ (n : ℕ). suc (suc (suc n)) ≤ 3) (sym (checks_alone (λ l. same_state (entry_at w t l gpa).state entry.NlMapped) (λ l. Refused (EptWalkFailed l)) (levels_above level))) (omega arith)
-row_tries o me (call.MngRd t field.Life) w = omega arith
-row_tries o me (call.MngRd t field.Op) w = omega arith
-row_tries o me (call.MngRd t field.Epoch) w = omega arith
-row_tries o me (call.MngRd t field.Mrtd) w = omega arith
-row_tries o me _ w = omega arith
-
 pub row_enters : (o : Opening) (me : ℕ) (c : Call) → (row_of o me c).enters ≡ None
 row_enters o me (call.HostRead page i) = refl
 row_enters o me _ = refl
-
--- a call that is answered holds something, else it would be done
-abbrev pub IsUnderWay : Phase Reply → List Held → Type 0
-IsUnderWay Trying hs = Unit {0}
-IsUnderWay (Undoing l) hs = Unit {0}
-IsUnderWay (Answered r) [] = ⊥
-IsUnderWay (Answered r) (h ∷ hs) = Unit {0}
-
-abbrev pub IsTimelyAt : List Call → Progress Reply → Type 0
-IsTimelyAt [] p = Unit {0}
-IsTimelyAt (c ∷ cs) p = (length p.held ≤ most_tries c) × IsUnderWay p.phase p.held
-
-pub record IsTimely (calls : List Call) (lp : Lp) : Type 0 where
-  pub here : lp.guest ≡ None
-  pub call : IsTimelyAt (drop (length lp.replies) calls) lp.call
 
 pub drop_next : {A : Type 0} (k : ℕ) (xs : List A) (y : A) (ys : List A) → drop k xs ≡ y ∷ ys → drop (suc k) xs ≡ ys
 drop_next zero [] y ys e = cc
@@ -106,7 +62,7 @@ record Lowers (calls : List Call) (bound : ℕ) (lp : Lp) : Type 0 where
 
 module _ (calls : List Call) (c : Call) (cs : List Call) where
   -- the call goes on
-  goes_on : (lp : Lp) (phase : Phase Reply) (hs : List Held) (bound : ℕ) → lp.guest ≡ None → drop (length lp.replies) calls ≡ c ∷ cs → length hs ≤ most_tries c → IsUnderWay phase hs
+  goes_on : (lp : Lp) (phase : Phase Reply) (hs : List Held) (bound : ℕ) → lp.guest ≡ None → drop (length lp.replies) calls ≡ c ∷ cs → length hs ≤ most_tries c → IsNotDone phase hs
       → call_left (most_tries c) phase (length hs) + events_in cs < bound → Lowers calls bound (record lp { call = record { phase = phase; held = hs } })
   goes_on lp phase hs bound g e few under less = record {
     timely = record { here = g; call = rw e (few, under) };
@@ -152,7 +108,7 @@ module _ (calls : List Call) (c : Call) (cs : List Call) where
 
   -- any phase
   moves : (w : World) (row : Row) (lp : Lp) (phase : Phase Reply) (hs : List Held) (b : Move Reply → Bool) → lp.guest ≡ None → drop (length lp.replies) calls ≡ c ∷ cs
-      → length hs ≤ most_tries c → IsUnderWay phase hs → row.enters ≡ None → tries_in (row.items w) ≤ most_tries c
+      → length hs ≤ most_tries c → IsNotDone phase hs → row.enters ≡ None → tries_in (row.items w) ≤ most_tries c
       → let move = next_in (row.items w) phase hs in
       Lowers calls (call_left (most_tries c) phase (length hs) + events_in cs) (settled (call_lp w (b move) row move (record lp { call = record { phase = phase; held = hs } })))
   moves w row lp Trying hs b g e few under none most = trying w row (record lp { call = record { phase = Trying; held = hs } }) g e few none b (row.items w) most (next (row.items w) (length hs)) refl
@@ -188,10 +144,7 @@ module _ (o : Opening) (s : State) (p : ℕ) (timely : IsTimely (calls_of o.call
   lowers : (e : Event) → next_event o s p ≡ Some e → Lowers (calls_of o.calls p) (events_left o s p) (after e)
   lowers e is = by_lines (lines_left o p lp) e refl is
 
-abbrev pub AllTimely : Opening → State → Type 0
-AllTimely o s = (q : ℕ) → IsTimely (calls_of o.calls q) (s.lps q)
-
-pub timely_step : (o : Opening) (s : State) (p : ℕ) (e : Event) → next_event o s p ≡ Some e → AllTimely o s → AllTimely o (after_event p s (Some e))
+pub timely_step : (o : Opening) (s : State) (p : ℕ) (e : Event) → next_event o s p ≡ Some e → AreTimely o s → AreTimely o (after_event p s (Some e))
 timely_step o s p e is h q = by_test (q == p)
     (λ y. (let here : p ≡ q = sym (eqb-true q p y) in rw y (subst (λ (x : ℕ). IsTimely (calls_of o.calls x) (lp_after s.world (is_granted s e) e (s.lps p))) here (lowers o s p (h p) e is).timely)))
     (λ y. rw y (h q))
@@ -199,10 +152,16 @@ timely_step o s p e is h q = by_test (q == p)
 pub idle_timely : (calls : List Call) → IsTimely calls idle
 idle_timely calls = record { here = refl; call = fresh_timely calls }
 
-always_timely : (o : Opening) (ws : Option (List ℕ)) (ls : List ℕ) → AllTimely o (play o ls (start o ws))
-always_timely o ws ls = play_keeps o (AllTimely o) (timely_step o) ls (start o ws) (λ q. idle_timely (calls_of o.calls q))
+pub timeliness_kept : TimelinessIsKept
+timeliness_kept = record {
+  start = λ o ws q. idle_timely (calls_of o.calls q);
+  event = λ o bundles s p h. event_keeps (with_bundles o bundles) (AreTimely o) (timely_step (with_bundles o bundles)) s p h;
+}
 
-event_lowers : (o : Opening) (s : State) (p : ℕ) (e : Event) → AllTimely o s → next_event o s p ≡ Some e → events_left o (event o s p) p < events_left o s p
+always_timely : HoldsInRuns AreTimely
+always_timely = in_runs AreTimely timeliness_kept
+
+event_lowers : (o : Opening) (s : State) (p : ℕ) (e : Event) → AreTimely o s → next_event o s p ≡ Some e → events_left o (event o s p) p < events_left o s p
 event_lowers o s p e h is =
     let x : Lp = lp_after s.world (is_granted s e) e (s.lps p) in
     let after_is : (event o s p).lps p ≡ x = ap (λ (y : Option Event). (after_event p s y).lps p) is ∙ put_here s.lps p x in
@@ -212,11 +171,7 @@ pub runs_out : EventsRunOut
 runs_out o ws ls p e is = event_lowers o (play o ls (start o ws)) p e (always_timely o ws ls) is
 
 -- over a schedule
-abbrev times : ℕ → List ℕ → ℕ
-times p [] = 0
-times p (q ∷ qs) = (if q == p then 1 else 0) + times p qs
-
-one_item : (o : Opening) (s : State) (p q : ℕ) → AllTimely o s → events_left o (event o s q) p ≤ events_left o s p - (if q == p then 1 else 0)
+one_item : (o : Opening) (s : State) (p q : ℕ) → AreTimely o s → events_left o (event o s q) p ≤ events_left o s p - one_if (q == p)
 one_item o s p q h = by_test (q == p)
     (λ y. (let here : q ≡ p = eqb-true q p y in
     rw y (subst (λ (x : ℕ). events_left o (event o s x) p ≤ events_left o s p - 1) (sym here) (mine (next_event o s p) refl))))
@@ -237,33 +192,33 @@ one_item o s p q h = by_test (q == p)
     others n None = omega arith
     others n (Some e) = let ne : (p == q) ≡ false = ne_eqb p q n in rw ne (omega arith)
 
-schedule_lowers : (o : Opening) (p : ℕ) (ls : List ℕ) (s : State) → AllTimely o s → events_left o (play o ls s) p ≤ events_left o s p - times p ls
+schedule_lowers : (o : Opening) (p : ℕ) (ls : List ℕ) (s : State) → AreTimely o s → events_left o (play o ls s) p ≤ events_left o s p - own_items p ls
 schedule_lowers o p [] s h = omega arith
 schedule_lowers o p (q ∷ qs) s h =
-    let rest = schedule_lowers o p qs (event o s q) (event_keeps o (AllTimely o) (timely_step o) s q h) in
+    let rest = schedule_lowers o p qs (event o s q) (event_keeps o (AreTimely o) (timely_step o) s q h) in
     let one = one_item o s p q h in
     omega arith
 
-times_append : (p : ℕ) (xs ys : List ℕ) → times p (xs ++ ys) ≡ times p xs + times p ys
-times_append p [] ys = omega arith
-times_append p (x ∷ xs) ys = omega (arith, times_append p xs ys)
+items_append : (p : ℕ) (xs ys : List ℕ) → own_items p (xs ++ ys) ≡ own_items p xs + own_items p ys
+items_append p [] ys = omega arith
+items_append p (x ∷ xs) ys = omega (arith, items_append p xs ys)
 
-times_replicate : (p n : ℕ) → times p (replicate n p) ≡ n
-times_replicate p zero = refl
-times_replicate p (suc n) = let e : (p == p) ≡ true = eq-eqb p p refl in rw e (omega (arith, times_replicate p n))
+items_replicate : (p n : ℕ) → own_items p (replicate n p) ≡ n
+items_replicate p zero = refl
+items_replicate p (suc n) = let e : (p == p) ≡ true = eq-eqb p p refl in rw e (omega (arith, items_replicate p n))
 
 -- the end of a run has as many items for each processor as its lines can need
-times_end : (css : List (List Call)) (k p q : ℕ) → q ≡ k + p → events_in (calls_of css p) ≤ times q (to_the_end k css)
-times_end [] k p q e = omega arith
-times_end (cs ∷ css) k zero q e =
+items_end : (css : List (List Call)) (k p q : ℕ) → q ≡ k + p → events_in (calls_of css p) ≤ own_items q (to_the_end k css)
+items_end [] k p q e = omega arith
+items_end (cs ∷ css) k zero q e =
     let here : q ≡ k = omega arith in
-    subst (λ (x : ℕ). events_in cs ≤ times x (replicate (events_in cs) k ++ to_the_end (suc k) css)) (sym here)
-    (omega (arith, times_append k (replicate (events_in cs) k) (to_the_end (suc k) css), times_replicate k (events_in cs)))
-times_end (cs ∷ css) k (suc p) q e =
-    omega (arith, times_append q (replicate (events_in cs) k) (to_the_end (suc k) css), times_end css (suc k) p q (omega arith))
+    subst (λ (x : ℕ). events_in cs ≤ own_items x (replicate (events_in cs) k ++ to_the_end (suc k) css)) (sym here)
+    (omega (arith, items_append k (replicate (events_in cs) k) (to_the_end (suc k) css), items_replicate k (events_in cs)))
+items_end (cs ∷ css) k (suc p) q e =
+    omega (arith, items_append q (replicate (events_in cs) k) (to_the_end (suc k) css), items_end css (suc k) p q (omega arith))
 
 -- a line that is left has an event left
-some_left : (c : Call) (cs : List Call) (phase : Phase Reply) (hs : List Held) → length hs ≤ most_tries c → IsUnderWay phase hs → 1 ≤ call_left (most_tries c) phase (length hs) + events_in cs
+some_left : (c : Call) (cs : List Call) (phase : Phase Reply) (hs : List Held) → length hs ≤ most_tries c → IsNotDone phase hs → 1 ≤ call_left (most_tries c) phase (length hs) + events_in cs
 some_left c cs Trying hs few under = omega arith
 some_left c cs (Undoing l) hs few under = omega arith
 some_left c cs (Answered r) [] few under = absurd under
@@ -273,17 +228,23 @@ none_left : (o : Opening) (s : State) (p : ℕ) (cs : List Call) → IsTimelyAt 
 none_left o s p [] t e = refl
 none_left o s p (c ∷ cs) t e = absurd (let l = some_left c cs (s.lps p).call.phase (s.lps p).call.held t.0 t.1 in omega arith)
 
+pub timely_run_out : TimelyEventsRunOut
+timely_run_out = record {
+  lowers = λ o bundles s p e h is. event_lowers (with_bundles o bundles) s p e h is;
+  ended = λ o bundles s p h none. none_left (with_bundles o bundles) s p (lines_left o p (s.lps p)) (h p).call none;
+}
+
 pub runs_end : RunsEnd
 runs_end o ws ls p =
     let s0 = start o ws in
     let end = to_the_end 0 o.calls in
-    let first : AllTimely o s0 = always_timely o ws [] in
-    let middle : AllTimely o (play o ls s0) = always_timely o ws ls in
-    let last : AllTimely o (play o (ls ++ end) s0) = always_timely o ws (ls ++ end) in
+    let first : AreTimely o s0 = always_timely o ws [] in
+    let middle : AreTimely o (play o ls s0) = always_timely o ws ls in
+    let last : AreTimely o (play o (ls ++ end) s0) = always_timely o ws (ls ++ end) in
     let begin : events_left o s0 p ≡ events_in (calls_of o.calls p) = fresh_left (calls_of o.calls p) idle in
     let so_far = schedule_lowers o p ls s0 first in
     let to_end = schedule_lowers o p end (play o ls s0) middle in
-    let enough = times_end o.calls 0 p p (omega arith) in
+    let enough = items_end o.calls 0 p p (omega arith) in
     let same : events_left o (play o (ls ++ end) s0) p ≡ events_left o (play o end (play o ls s0)) p = ap (λ (t : State). events_left o t p) (play_append o ls end s0) in
     let zero_left : events_left o (play o (ls ++ end) s0) p ≡ 0 = omega arith in
     none_left o (play o (ls ++ end) s0) p (lines_left o p ((play o (ls ++ end) s0).lps p)) (last p).call zero_left

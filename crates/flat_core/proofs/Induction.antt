@@ -15,8 +15,9 @@ use Rattle.flat_core.specs.Tree.{page_of_gpa}
 use Rattle.flat_core.specs.Guest.{Operation, ByRow, Private, operation_of, reach}
 use Rattle.flat_core.specs.Effects.{leave_guest, tell_words}
 use Rattle.flat_core.specs.Translations.{look_up}
-use Rattle.flat_core.specs.Event.{State, Event, next_event, event_for, line_event, entered_event, epoch_event, max_event, guest_event, staying_event, due_event, operation_due, operation_event, private_event, lines_left, is_epoch_lock, nothing_more, world_after, call_world, operation_world, after_event, event}
+use Rattle.flat_core.specs.Event.{State, Event, next_event, event_for, line_event, entered_event, epoch_event, max_event, guest_event, staying_event, due_event, operation_due, operation_event, private_event, lines_left, is_epoch_lock, nothing_more, world_after, call_world, operation_world, after_event, event, start}
 use Rattle.flat_core.specs.Run.{play}
+use Rattle.flat_core.specs.Laws.{IsKept, HoldsInRuns}
 use Rattle.std.specs.Prelude.{nat_le}
 
 -- what every event keeps of the state, every schedule keeps
@@ -31,6 +32,14 @@ module _ (o : Opening) (Q : State → Type 0) (step : (s : State) (p : ℕ) (e :
   pub play_keeps : (ps : List ℕ) (s : State) → Q s → Q (play o ps s)
   play_keeps [] s h = h
   play_keeps (p ∷ ps) s h = play_keeps ps (event o s p) (event_keeps s p h)
+
+-- what every run starts with and one event keeps, every schedule keeps
+pub in_runs : (holds : Opening → State → Type 0) → IsKept holds → HoldsInRuns holds
+in_runs holds kept o ws schedule = by schedule (start o ws) (kept.start o ws)
+  where
+    by : (ps : List ℕ) (s : State) → holds o s → holds o (play o ps s)
+    by [] s h = h
+    by (p ∷ ps) s h = by ps (event o s p) (kept.event o o.bundles s p h)
 
 -- as many processors as before
 pub count_stays : (o : Opening) (s : State) (p : ℕ) → (event o s p).lp_count ≡ s.lp_count

@@ -1,6 +1,7 @@
 -- What every schedule keeps.
 use Rattle.std.proofs.Common.{◌≡◌, ◌≢◌, refl, ◌∙◌, ℕ, Option, Some, None}
 use Rattle.std.proofs.lemmas.Bool.{ne_eqb}
+use Rattle.td_words.specs.declared.machines.Machine.{Machine}
 use Rattle.td_words.specs.declared.names.Access.{Access}
 use Rattle.td_words.specs.declared.names.Access.TheVariants.{Read, Write}
 use Rattle.flat_core.specs.World.{World}
@@ -8,10 +9,10 @@ use Rattle.flat_core.specs.Opening.{Opening}
 use Rattle.flat_core.specs.Row.{Attempts, Undoes, Refuses, Succeeds, Releases, Rests}
 use Rattle.flat_core.specs.Effects.{leave_guest}
 use Rattle.flat_core.specs.Guest.{reach}
-use Rattle.flat_core.specs.Event.{State, Event, OfCall, OfOperation, Walks, Reaches, Leaves, start, next_event, after_event}
+use Rattle.flat_core.specs.Event.{State, Event, OfCall, OfOperation, Walks, Reaches, Leaves, next_event, after_event}
 use Rattle.flat_core.specs.Lawful.{Lawful}
-use Rattle.flat_core.specs.Laws.{EveryWorldIsLawful, EventsKeepLawful, OthersStay, QuietEventsStay, NoWordsToTell}
-use Rattle.flat_core.proofs.Induction.{world_event, world_kept}
+use Rattle.flat_core.specs.Laws.{IsKept, with_bundles, IsLawful, IsLawfulWith, LawfulIsKept, EveryWorldIsLawful, EventsKeepLawful, OthersStay, QuietEventsStay, NoWordsToTell}
+use Rattle.flat_core.proofs.Induction.{world_event, in_runs}
 use Rattle.flat_core.proofs.Keeps.{row-keeps, first-lawful}
 
 -- a guest's access changes words, registers, memories and positions alone
@@ -32,14 +33,18 @@ events_keep o s p l =
     (leave_lawful o)
     s p l
 
+pub lawful_kept : LawfulIsKept
+lawful_kept = record { start = λ o ws. first-lawful o.machine ws; event = λ o bundles s p l. events_keep (with_bundles o bundles) s p l }
+
 pub every_lawful : EveryWorldIsLawful
-every_lawful o ws schedule =
-    world_kept o (Lawful o.machine)
-    (λ me c w l ps. (row-keeps o me c).act w l ps)
-    (λ t v line op row w e l ps. elim op [ ])
-    (λ t v line op access r gpa page w e. reach_lawful o t v access r gpa page w)
-    (leave_lawful o)
-    schedule (start o ws) (first-lawful o.machine ws)
+every_lawful = in_runs IsLawful lawful_kept
+
+-- what every lawful world has besides
+pub kept_with : (besides : World → Type 0) → ((m : Machine) (w : World) → Lawful m w → besides w) → IsKept (IsLawfulWith besides)
+kept_with besides has = record {
+  start = λ o ws. let l = lawful_kept.start o ws in (l, has o.machine _ l);
+  event = λ o bundles s p h. let l = lawful_kept.event o bundles s p h.0 in (l, has o.machine _ l);
+}
 
 other_stays : (s : State) (p q : ℕ) (x : Option Event) → q ≢ p → (after_event p s x).lps q ≡ s.lps q
 other_stays s p q None n = refl

@@ -5,6 +5,7 @@ pub mod Exports
 pub mod Parts
 pub mod Maps
 pub mod Induction
+pub mod Tries
 pub mod Keeps
 pub mod Blind
 pub mod Mrtd

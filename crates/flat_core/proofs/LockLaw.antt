@@ -14,9 +14,9 @@ use Rattle.flat_core.specs.Opening.{Opening}
 use Rattle.flat_core.specs.Row.{Row, OperationRow, Move, Attempts, Undoes, Refuses, Succeeds, Releases, Rests, after_move, but_newest}
 use Rattle.td_words.specs.Packing.{Entry}
 use Rattle.flat_core.specs.Guest.{walk_level, walk_step, walked_on, goes_on, walked_entry, answered}
-use Rattle.flat_core.specs.Event.{State, Event, OfCall, OfOperation, Walks, Reaches, Leaves, start, next_event, after_event, lp_after, call_lp, succeeded, settle, settled_guest, settle_operation, operation_guest, call_busy, operation_busy, is_granted}
-use Rattle.flat_core.specs.Laws.{IsSole, LocksExclude}
-use Rattle.flat_core.proofs.Induction.{play_keeps}
+use Rattle.flat_core.specs.Event.{State, Event, OfCall, OfOperation, Walks, Reaches, Leaves, next_event, after_event, lp_after, call_lp, succeeded, settle, settled_guest, settle_operation, operation_guest, call_busy, operation_busy, is_granted}
+use Rattle.flat_core.specs.Laws.{with_bundles, IsSole, IsExclusive, ExclusionIsKept, LocksExclude}
+use Rattle.flat_core.proofs.Induction.{event_keeps, in_runs}
 use Rattle.flat_core.proofs.Tests.{by_test}
 
 -- the lock that a granted try takes
@@ -233,7 +233,7 @@ shared_is l lp = by lp.guest
     by None = refl
     by (Some g) = refl
 
-step : (o : Opening) (s : State) (p : ℕ) (e : Event) → next_event o s p ≡ Some e → ((l : LockId) → Counts s l) → (l : LockId) → Counts (after_event p s (Some e)) l
+step : (o : Opening) (s : State) (p : ℕ) (e : Event) → next_event o s p ≡ Some e → IsExclusive s → IsExclusive (after_event p s (Some e))
 step o s p e eq h l =
     let b = is_granted s e in
     let lp' : Lp = lp_after s.world b e (s.lps p) in
@@ -243,8 +243,12 @@ step o s p e eq h l =
     omega (arith, event_more (shared_in l) refl (shared_tail l) s.world b e (s.lps p), shared_is l lp', shared_is l (s.lps p)) in
     after_any s l e _ _ (h l) (sum_more (alone_of l) s.lps p lp' s.lp_count (alone_in l (taken_by b e)) alone) (sum_more (shared_of l) s.lps p lp' s.lp_count (shared_in l (taken_by b e)) shared)
 
+pub exclusion_kept : ExclusionIsKept
+exclusion_kept = record {
+  start = λ o ws k. (let none : (f : Lp → ℕ) → f idle ≡ 0 → sum_below (λ q. f idle) (length o.calls) ≡ 0 = λ f h. sum_none f (length o.calls) h in
+      record { one = omega (arith, none (alone_of k) refl); apart = inl (none (alone_of k) refl) });
+  event = λ o bundles s p h. event_keeps (with_bundles o bundles) IsExclusive (step (with_bundles o bundles)) s p h;
+}
+
 pub locks_exclude : LocksExclude
-locks_exclude o ws schedule l =
-    let none : (f : Lp → ℕ) → f idle ≡ 0 → sum_below (λ q. f idle) (length o.calls) ≡ 0 = λ f h. sum_none f (length o.calls) h in
-    play_keeps o (λ s. (l : LockId) → Counts s l) (step o) schedule (start o ws)
-    (λ k. record { one = omega (arith, none (alone_of k) refl); apart = inl (none (alone_of k) refl) }) l
+locks_exclude = in_runs (λ o s. IsExclusive s) exclusion_kept

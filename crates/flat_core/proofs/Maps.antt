@@ -1,5 +1,5 @@
 -- A host page becomes the one that a FREE entry of a TD names: what every world keeps.
-use Rattle.std.proofs.Common.{◌≡◌, ◌≢◌, refl, sym, ◌∙◌, subst, ap, ℕ, zero, suc, ◌*◌, ◌/◌, ◌^◌, ◌<◌, ◌≤◌, List, ◌++◌, length, Bool, true, false, ◌==◌, ◌&&◌, arith}
+use Rattle.std.proofs.Common.{◌≡◌, ◌≢◌, refl, sym, ◌∙◌, subst, ap, ℕ, zero, suc, ◌*◌, ◌/◌, ◌^◌, ◌<◌, ◌≤◌, List, [], ◌∷◌, ◌++◌, length, map, Bool, true, false, ◌==◌, ◌&&◌, arith}
 use Rattle.std.specs.Prelude.{nat_lt}
 use Rattle.std.proofs.lemmas.Bool.{eqb-true, and_left, and_right}
 use Rattle.td_words.specs.declared.names.PageKind.{PageKind}
@@ -8,12 +8,14 @@ use Rattle.td_words.specs.declared.names.EntryState.{EntryState}
 use Rattle.td_words.specs.declared.names.EntryState.TheVariants as entry
 use Rattle.td_words.specs.declared.machines.Machine.{Machine}
 use Rattle.td_words.specs.declared.replies.Reply.{Reply}
+use Rattle.td_words.specs.declared.replies.Reply.TheVariants.{Refused}
+use Rattle.td_words.specs.declared.refusals.Status.TheVariants.{EptWalkFailed}
 use Rattle.td_words.specs.Packing.{Entry, is_lawful_entry, is_exported}
 use Rattle.flat_core.specs.World.{World, Tds}
-use Rattle.flat_core.specs.Row.{Item, Passes}
+use Rattle.flat_core.specs.Row.{Item, Check, Passes}
 use Rattle.flat_core.specs.Arguments.{level_size}
 use Rattle.flat_core.specs.Conditions.{same_kind}
-use Rattle.flat_core.specs.Tree.{number_at, same_state, walk}
+use Rattle.flat_core.specs.Tree.{number_at, same_state, is_passed, levels_above, walk}
 use Rattle.flat_core.specs.Effects.{map_page}
 use Rattle.flat_core.specs.Lawful.{IsAlive, IsNodeOf, IsListed, Lawful, LawfulTree, LawfulCounts, is_free, is_node, is_named_kind}
 use Rattle.flat_core.proofs.Tests.{by_test, same_self}
@@ -214,6 +216,14 @@ pub not_free : (s : EntryState) → same_state s entry.NlMapped ≡ true → is_
 not_free entry.Free h = cc
 not_free _ h = refl
 
+-- what comes behind a walk, which is conditions alone
+pub behind_conditions : (b : ℕ → Bool) (r : ℕ → Reply) (ls : List ℕ) (items : List (Item Reply)) → Passes (map (λ l. Check (b l) (r l)) ls ++ items) → Passes items
+behind_conditions b r [] items ps = ps
+behind_conditions b r (l ∷ ls) items ps = behind_conditions b r ls items ps.1
+
+pub behind_walk : (w : World) (t gpa level : ℕ) (items : List (Item Reply)) → Passes (walk w t gpa level ++ items) → Passes items
+behind_walk w t gpa level items ps = behind_conditions (is_passed w t gpa) (λ l. Refused (EptWalkFailed l)) (levels_above level) items ps
+
 module _ (w : World) (t gpa : ℕ) (rest : List (Item Reply)) where
   abbrev Above : ℕ → Type 0
   Above level = level < 3 → is_free (w.tds.entries t (suc level) (number_at level gpa / 512)).state ≡ false
@@ -221,9 +231,11 @@ module _ (w : World) (t gpa : ℕ) (rest : List (Item Reply)) where
   above_at : (level n : ℕ) → n ≡ number_at level gpa / 512 → same_state (w.tds.entries t (suc level) n).state entry.NlMapped ≡ true → Above level
   above_at level n e h few = subst (λ (i : ℕ). is_free (w.tds.entries t (suc level) i).state ≡ false) e (not_free (w.tds.entries t (suc level) n).state h)
 
+  above : (level : ℕ) → level ≤ 3 → Passes (walk w t gpa level ++ rest) → Above level
+  above zero few ps = above_at 0 (number_at 1 gpa) (omega arith) ps.1.1.0
+  above (suc zero) few ps = above_at 1 (number_at 2 gpa) (omega arith) ps.1.0
+  above (suc (suc zero)) few ps = above_at 2 (number_at 3 gpa) (omega arith) ps.0
+  above (suc (suc (suc level))) few ps = λ apart. absurd (omega arith)
+
   pub walk_passed : (level : ℕ) → level ≤ 3 → Passes (walk w t gpa level ++ rest) → Passes rest × Above level
-  walk_passed zero few ps = (ps.1.1.1, above_at 0 (number_at 1 gpa) (omega arith) ps.1.1.0)
-  walk_passed (suc zero) few ps = (ps.1.1, above_at 1 (number_at 2 gpa) (omega arith) ps.1.0)
-  walk_passed (suc (suc zero)) few ps = (ps.1, above_at 2 (number_at 3 gpa) (omega arith) ps.0)
-  walk_passed (suc (suc (suc zero))) few ps = (ps, λ apart. absurd (omega arith))
-  walk_passed (suc (suc (suc (suc k)))) few ps = absurd (omega arith)
+  walk_passed level few ps = (behind_walk w t gpa level rest ps, above level few ps)

@@ -1,5 +1,5 @@
 -- MRTD and what is measured, over runs and events.
-use Rattle.std.proofs.Common.{◌≡◌, refl, sym, ◌∙◌, ap, ℕ, List, [], ◌∷◌, Option, Some, None, Bool, true, false, ◌==◌}
+use Rattle.std.proofs.Common.{◌≡◌, refl, sym, ◌∙◌, ap, subst, ℕ, List, [], ◌∷◌, Option, Some, None, Bool, true, false, ◌==◌}
 use Rattle.std.specs.List.{list_any}
 use Rattle.std.proofs.lemmas.Bool.{eqb-true}
 use Rattle.sha2.specs.Sha512.{sha384}
@@ -7,6 +7,8 @@ use Rattle.td_words.specs.declared.names.Access.{Access}
 use Rattle.td_words.specs.declared.names.Access.TheVariants.{Read, Write}
 use Rattle.td_words.specs.declared.names.OpState.{OpState}
 use Rattle.td_words.specs.declared.names.OpState.TheVariants as op
+use Rattle.td_words.specs.declared.names.ReadField.TheVariants.{Mrtd}
+use Rattle.td_words.specs.declared.machines.Machine.{Machine}
 use Rattle.td_words.specs.declared.calls.Call.{Call}
 use Rattle.td_words.specs.declared.calls.Call.TheVariants as call
 use Rattle.td_words.specs.declared.calls.GuestOp.{GuestOp}
@@ -19,31 +21,27 @@ use Rattle.flat_core.specs.World.{World}
 use Rattle.flat_core.specs.Processor.{Phase, Trying, Undoing, Answered, Held, Guest, Lp}
 use Rattle.flat_core.specs.Opening.{Opening}
 use Rattle.flat_core.specs.Row.{Move, Attempts, Undoes, Refuses, Succeeds, Releases, Rests, Passes, next_in}
-use Rattle.flat_core.specs.Digests.{digest_word, digest_bytes, six_words}
+use Rattle.flat_core.specs.TdRows.{read_td, finalize}
 use Rattle.flat_core.specs.Effects.{measure}
 use Rattle.flat_core.specs.Guest.{reach}
 use Rattle.flat_core.specs.Table.{row_of}
-use Rattle.flat_core.specs.Event.{State, Event, OfCall, OfOperation, Leaves, start, event_for, line_event, entered_event, epoch_event, guest_event, staying_event, due_event, operation_due, lines_left, is_epoch_lock, nothing_more, world_after, after_event}
-use Rattle.flat_core.specs.Laws.{reached, EveryMrtdIsTheDigest, measured_after_event, EventsMeasure}
+use Rattle.flat_core.specs.Event.{State, Event, OfCall, OfOperation, Leaves, event_for, line_event, entered_event, epoch_event, guest_event, staying_event, due_event, operation_due, lines_left, is_epoch_lock, nothing_more, world_after, after_event}
+use Rattle.flat_core.specs.Laws.{with_bundles, AreMrtdsDigests, MrtdsAreKept, EveryMrtdIsTheDigest, measured_after_event, EventsMeasure}
 use Rattle.flat_core.proofs.Tests.{by_test}
-use Rattle.flat_core.proofs.Mrtd.{digest_read, records_are_measured}
-use Rattle.flat_core.proofs.Induction.{world_kept}
-
--- MRTD of a TD that runs is the digest of what it has measured
-abbrev IsDigested : World → Type 0
-IsDigested w = (t : ℕ) → w.tds.ops t ≡ op.Runnable → w.tds.mrtds t ≡ digest_word (sha384 (w.tds.measured t))
+use Rattle.flat_core.proofs.Mrtd.{mrtd_is_the_digest, records_are_measured}
+use Rattle.flat_core.proofs.Induction.{world_event, in_runs}
 
 not_runnable : (s : OpState) → list_any (λ a. op_number a == op_number s) (op.Initialized ∷ []) ≡ true → s ≡ op.Runnable → ⊥
 not_runnable op.Runnable h e = cc
 not_runnable _ h e = cc
 
 -- a TD that is still built measures
-measure_digested : (w : World) (t : ℕ) (records : List ℕ) → list_any (λ a. op_number a == op_number (w.tds.ops t)) (op.Initialized ∷ []) ≡ true → IsDigested w → IsDigested (measure t records w)
-measure_digested w t records begun h x r = by_test (x == t)
+measure_digested : (m : Machine) (w : World) (t : ℕ) (records : List ℕ) → list_any (λ a. op_number a == op_number (w.tds.ops t)) (op.Initialized ∷ []) ≡ true → AreMrtdsDigests m w → AreMrtdsDigests m (measure t records w)
+measure_digested m w t records begun h x r = by_test (x == t)
     (λ y. absurd (not_runnable (w.tds.ops t) begun (ap w.tds.ops (sym (eqb-true x t y)) ∙ r)))
     (λ n. rw n (h x r))
 
-row_digested : (o : Opening) (me : ℕ) (c : Call) (w : World) → IsDigested w → Passes ((row_of o me c).items w) → IsDigested ((row_of o me c).act w)
+row_digested : (o : Opening) (me : ℕ) (c : Call) (w : World) → AreMrtdsDigests o.machine w → Passes ((row_of o me c).items w) → AreMrtdsDigests o.machine ((row_of o me c).act w)
 row_digested o me (call.MngCreate t k) w h ps x r = by_test (x == t)
     (λ y. absurd (let no : op.Uninitialized ≡ op.Runnable = rw y at r in cc))
     (λ n. rw n (h x (rw n at r)))
@@ -51,30 +49,29 @@ row_digested o me (call.MngInit t) w h ps x r = by_test (x == t)
     (λ y. absurd (let no : op.Initialized ≡ op.Runnable = rw y at r in cc))
     (λ n. rw n (h x (rw n at r)))
 row_digested o me (call.MrFinalize t) w h ps x r = by_test (x == t)
-    (λ y. rw y (ap (λ (z : ℕ). digest_word (sha384 (w.tds.measured z))) (sym (eqb-true x t y))))
+    (λ y. subst (λ (z : ℕ). (read_td o.machine z Mrtd).value ((finalize o.machine t).act w) ≡ value.Digest (sha384 (w.tds.measured z))) (sym (eqb-true x t y)) (mrtd_is_the_digest o.machine w t))
     (λ n. rw n (h x (rw n at r)))
-row_digested o me (call.MemPageAdd t gpa page source) w h ps x r = measure_digested w t _ ps.1.1.1.1.1.1.1.1.1.1.1.0 h x r
-row_digested o me (call.MrExtend t gpa) w h ps x r = measure_digested w t _ ps.1.1.1.1.1.1.0 h x r
+row_digested o me (call.MemPageAdd t gpa page source) w h ps x r = measure_digested o.machine w t _ ps.1.1.1.1.1.1.1.1.1.1.1.0 h x r
+row_digested o me (call.MrExtend t gpa) w h ps x r = measure_digested o.machine w t _ ps.1.1.1.1.1.1.0 h x r
 row_digested o me _ w h ps x r = h x r
 
-reach_digested : (t v : ℕ) (access : Access) (r gpa page : ℕ) (w : World) → IsDigested w → IsDigested (reach t v access r gpa page w)
-reach_digested t v Read r gpa page w h = h
-reach_digested t v Write r gpa page w h = h
+reach_digested : (m : Machine) (t v : ℕ) (access : Access) (r gpa page : ℕ) (w : World) → AreMrtdsDigests m w → AreMrtdsDigests m (reach t v access r gpa page w)
+reach_digested m t v Read r gpa page w h = h
+reach_digested m t v Write r gpa page w h = h
 
-every_digested : (o : Opening) (ws : Option (List ℕ)) (schedule : List ℕ) → IsDigested (reached o ws schedule).world
-every_digested o ws schedule =
-    world_kept o IsDigested
-    (row_digested o)
-    (λ t v line op row w e h ps. elim op [ ])
-    (λ t v line op access r gpa page w e. reach_digested t v access r gpa page w)
-    (λ v w h. h)
-    schedule (start o ws) (λ t r. absurd (let no : op.Uninitialized ≡ op.Runnable = r in cc))
+pub mrtds_kept : MrtdsAreKept
+mrtds_kept = record {
+  start = λ o ws t r. absurd (let no : op.Uninitialized ≡ op.Runnable = r in cc);
+  event = λ o bundles s p h. world_event (with_bundles o bundles) (AreMrtdsDigests o.machine)
+      (row_digested (with_bundles o bundles))
+      (λ t v line op row w e h ps. elim op [ ])
+      (λ t v line op access r gpa page w e. reach_digested o.machine t v access r gpa page w)
+      (λ v w h. h)
+      s p h;
+}
 
 pub every_mrtd : EveryMrtdIsTheDigest
-every_mrtd o ws schedule t runs =
-    let w = (reached o ws schedule).world in
-    ap (λ (f : ℕ → ℕ). value.Digest (digest_bytes (six_words f))) (every_digested o ws schedule t runs)
-    ∙ ap (λ (l : List ℕ). value.Digest l) (digest_read (w.tds.measured t))
+every_mrtd = in_runs (λ o s. AreMrtdsDigests o.machine s.world) mrtds_kept
 
 -- what is shown of a call's moves, of the end of a guest's operation and of its count step is shown of each next event,
 -- since no guest operation is built

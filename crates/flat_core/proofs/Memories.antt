@@ -21,18 +21,14 @@ use Rattle.flat_core.specs.Effects.{put_in, set_word, set_page, clear_page, take
 use Rattle.flat_core.specs.TdRows.{create}
 use Rattle.flat_core.specs.KeyRows.{reclaim_conditions}
 use Rattle.flat_core.specs.Table.{row_of}
-use Rattle.flat_core.specs.Event.{start}
 use Rattle.flat_core.specs.Lawful.{IsAlive, Lawful, is_free}
-use Rattle.flat_core.specs.Laws.{reached, memory_of, GuestsKnowTheirPages}
+use Rattle.flat_core.specs.Laws.{with_bundles, IsLawfulWith, memory_of, ArePagesKnown, MemoriesAreKept, GuestsKnowTheirPages}
 use Rattle.flat_core.proofs.Tests.{by_test, host_kind, tdr_kind, range_of, same_self}
 use Rattle.flat_core.proofs.Maps.{walk_passed}
 use Rattle.flat_core.proofs.Parts.{IsLive}
 use Rattle.flat_core.proofs.Keeps.{live_of, ended_of, row-keeps, first-lawful}
-use Rattle.flat_core.proofs.Induction.{world_kept}
+use Rattle.flat_core.proofs.Induction.{world_event, in_runs}
 use Rattle.flat_core.proofs.Kept.{leave_lawful}
-
-abbrev Knows : World → Type 0
-Knows w = (t n : ℕ) → IsAlive w.pages w.tds t → w.hidden.memories t n ≡ memory_of (w.tds.entries t 0 n) w.words
 
 same_memory : (e : Entry) (old new : ℕ → ℕ → ℕ) → (is_free e.state ≡ false → new e.page ≡ old e.page) → memory_of e new ≡ memory_of e old
 same_memory e old new h = by_test (is_free e.state) (λ y. rw y refl) (λ y. rw y (ap (λ (x : ℕ → ℕ). Some x) (h y)))
@@ -50,7 +46,7 @@ entry_stays f t level i x n e upper =
     let apart : (0 == level) ≡ false = ne_eqb 0 level (omega arith) in
     by_test (x == t) (λ y. rw (y, apart) (ap (λ (z : ℕ). f z 0 n) (sym (eqb-true x t y)))) (λ y. rw y refl)
 
-module _ (m : Machine) (w : World) (l : Lawful m w) (h : Knows w) where
+module _ (m : Machine) (w : World) (l : Lawful m w) (h : ArePagesKnown w) where
   -- where the memory, the entry and the words of the page that it names are as before
   still_known : (v : World) (t n : ℕ) → IsAlive w.pages w.tds t → v.hidden.memories t n ≡ w.hidden.memories t n → v.tds.entries t 0 n ≡ w.tds.entries t 0 n
       → (is_free (w.tds.entries t 0 n).state ≡ false → v.words (w.tds.entries t 0 n).page ≡ w.words (w.tds.entries t 0 n).page) → v.hidden.memories t n ≡ memory_of (v.tds.entries t 0 n) v.words
@@ -87,7 +83,7 @@ module _ (m : Machine) (w : World) (l : Lawful m w) (h : Knows w) where
   owner_of t q true e root ps = let here : q ≡ t = eqb-true q t e in l.pages.tdr q (rw here root) ∙ here
   owner_of t q false e root ps = eqb-true _ t (and_parts (not (is_host w q)) (w.pages.owners q == t) ps.0).1
 
-  reclaim_known : (t q : ℕ) → (life_number (w.tds.lives t) == life_number life.Teardown) ≡ true → w.pages.owners q ≡ t → Knows (give_back q (end_memory_in t q w))
+  reclaim_known : (t q : ℕ) → (life_number (w.tds.lives t) == life_number life.Teardown) ≡ true → w.pages.owners q ≡ t → ArePagesKnown (give_back q (end_memory_in t q w))
   reclaim_known t q dead mine x n a =
       let before : IsAlive w.pages w.tds x = alive_before q kind.Nda 0 0 0 (λ e. cc) w.tds refl x a in
       let another : (x == t) ≡ false = by_test (x == t)
@@ -100,20 +96,20 @@ module _ (m : Machine) (w : World) (l : Lawful m w) (h : Knows w) where
       still_known (give_back q (end_memory_in t q w)) x n before (rw another refl) refl (λ e. rw (elsewhere e) refl)
 
   -- MNG.CREATE
-  create_known : (t k : ℕ) → w.pages.kinds t ≡ kind.Nda → Knows ((create m t k).act w)
+  create_known : (t k : ℕ) → w.pages.kinds t ≡ kind.Nda → ArePagesKnown ((create m t k).act w)
   create_known t k host x n a = by_test (x == t)
       (λ y. rw y refl)
       (λ y. known_beside ((create m t k).act w) t x n host (record { kind = rw y at a.kind; life = rw y at a.life }) (λ p e. rw e refl) (rw y refl) (rw y refl))
 
   -- MEM.SEPT.ADD
-  sept_known : (t level number q : ℕ) → 1 ≤ level → w.pages.kinds q ≡ kind.Nda → Knows (clear_page q (map_page q kind.Ept entry.NlMapped t level number w))
+  sept_known : (t level number q : ℕ) → 1 ≤ level → w.pages.kinds q ≡ kind.Nda → ArePagesKnown (clear_page q (map_page q kind.Ept entry.NlMapped t level number w))
   sept_known t level number q upper host x n a =
       let v : World = clear_page q (map_page q kind.Ept entry.NlMapped t level number w) in
       known_beside v q x n host (alive_before q kind.Ept t level number (λ e. cc) v.tds refl x a) (λ p e. rw e refl) refl
       (entry_stays w.tds.entries t level number x n _ upper)
 
   -- MEM.PAGE.ADD
-  added_known : (t g q : ℕ) (ws : ℕ → ℕ) (records : List ℕ) → w.pages.kinds q ≡ kind.Nda → Knows (measure t records (begin_memory t g ws (set_page q ws (map_page q kind.Reg entry.Mapped t 0 g w))))
+  added_known : (t g q : ℕ) (ws : ℕ → ℕ) (records : List ℕ) → w.pages.kinds q ≡ kind.Nda → ArePagesKnown (measure t records (begin_memory t g ws (set_page q ws (map_page q kind.Reg entry.Mapped t 0 g w))))
   added_known t g q ws records host x n a =
       let v : World = measure t records (begin_memory t g ws (set_page q ws (map_page q kind.Reg entry.Mapped t 0 g w))) in
       let before : IsAlive w.pages w.tds x = alive_before q kind.Reg t 0 g (λ e. cc) v.tds refl x a in
@@ -123,7 +119,7 @@ module _ (m : Machine) (w : World) (l : Lawful m w) (h : Knows w) where
       (λ z. known_beside v q x n host before (λ p e. rw e refl) (rw (y, z) refl) (rw (y, z) (ap (λ (z : ℕ). w.tds.entries z 0 n) (sym (eqb-true x t y))))))
       (λ y. known_beside v q x n host before (λ p e. rw e refl) (rw y refl) (rw y refl))
 
-row_known : (o : Opening) (me : ℕ) (c : Call) (w : World) → Lawful o.machine w → Knows w → Passes ((row_of o me c).items w) → Knows ((row_of o me c).act w)
+row_known : (o : Opening) (me : ℕ) (c : Call) (w : World) → Lawful o.machine w → ArePagesKnown w → Passes ((row_of o me c).items w) → ArePagesKnown ((row_of o me c).act w)
 row_known o me (call.HostWrite page i v) w l h ps x n a = known_beside o.machine w l h (set_word page i v w) page x n (host_kind _ ps.1.1.0) a (λ p e. words_stay w.words page i v p e) refl refl
 row_known o me (call.PhymemPageReclaim t page) w l h ps x n a =
     reclaim_known o.machine w l h t page (ended_of (w.tds.lives t) ps.1.1.1.0) (owner_of o.machine w l h t page (page == t) refl (tdr_kind _ ps.1.1.0) ps.1.1.1.1) x n a
@@ -149,14 +145,16 @@ row_known o me (call.MemPageAdd t gpa page source) w l h ps x n a =
     added_known o.machine w l h t (page_of_gpa gpa) page (w.words source) (page_record gpa) (host_kind _ behind.0.1.1.0) x n a
 row_known o me _ w l h ps x n a = h x n (record { kind = a.kind; life = a.life })
 
+pub memories_kept : MemoriesAreKept
+memories_kept = record {
+  start = λ o ws. (first-lawful o.machine ws, λ t n a. refl);
+  event = λ o bundles s p h. world_event (with_bundles o bundles) (λ w. Lawful o.machine w × ArePagesKnown w)
+      (λ me c w h ps. ((row-keeps (with_bundles o bundles) me c).act w h.0 ps, row_known (with_bundles o bundles) me c w h.0 h.1 ps))
+      (λ t v line op row w e h ps. elim op [ ])
+      (λ t v line op access r gpa page w e h. elim op [ ])
+      (λ v w h. (leave_lawful o v w h.0, h.1))
+      s p h;
+}
+
 pub guests_know : GuestsKnowTheirPages
-guests_know o ws schedule = known.1
-  where
-    known : Lawful o.machine (reached o ws schedule).world × Knows (reached o ws schedule).world
-    known =
-        world_kept o (λ w. Lawful o.machine w × Knows w)
-        (λ me c w h ps. ((row-keeps o me c).act w h.0 ps, row_known o me c w h.0 h.1 ps))
-        (λ t v line op row w e h ps. elim op [ ])
-        (λ t v line op access r gpa page w e h. elim op [ ])
-        (λ v w h. (leave_lawful o v w h.0, h.1))
-        schedule (start o ws) (first-lawful o.machine ws, λ t n a. refl)
+guests_know o ws schedule = (in_runs (IsLawfulWith ArePagesKnown) memories_kept o ws schedule).1

@@ -6,8 +6,8 @@ use Rattle.flat_core.specs.World.{World}
 use Rattle.flat_core.specs.Conditions.{same_kind}
 use Rattle.td_words.specs.declared.names.PageKind.TheVariants as kind
 use Rattle.flat_core.specs.Lawful.{IsAlive, IsNodeOf, Lawful, is_free, is_named_kind}
-use Rattle.flat_core.specs.Laws.{IsOwned, EveryPageIsOwned}
-use Rattle.flat_core.proofs.Kept.{every_lawful}
+use Rattle.flat_core.specs.Laws.{IsOwned, ArePagesOwned, LawfulPagesAreOwned, OwnersAreKept, EveryPageIsOwned}
+use Rattle.flat_core.proofs.Kept.{every_lawful, kept_with}
 use Rattle.flat_core.proofs.Maps.{kind_named}
 
 not_host : (l : ℕ) → same_kind (kind_named l) kind.Nda ≡ false
@@ -32,6 +32,12 @@ module _ (m : Machine) (w : World) (lawful : Lawful m w) where
         (sym o.page.owner ∙ (ap w.pages.owners same ∙ p.page.owner), sym o.level_is ∙ (ap w.pages.levels same ∙ p.level_is), sym o.number_is ∙ (ap w.pages.numbers same ∙ p.number_is)));
     named = λ t p a k e. subst (λ (u : ℕ). IsAlive w.pages w.tds u → NamedBy u p) e (named_by p k) a;
   }
+
+pub lawful_owned : LawfulPagesAreOwned
+lawful_owned = are_owned
+
+pub owners_kept : OwnersAreKept
+owners_kept = kept_with ArePagesOwned are_owned
 
 pub every_page_owned : EveryPageIsOwned
 every_page_owned o ws schedule = are_owned o.machine _ (every_lawful o ws schedule)

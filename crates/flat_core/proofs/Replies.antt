@@ -6,11 +6,12 @@ use Rattle.td_words.specs.declared.replies.Reply.{Reply}
 use Rattle.flat_core.specs.World.{World}
 use Rattle.flat_core.specs.Processor.{Held, Phase, Trying, Undoing, Answered, Lp}
 use Rattle.flat_core.specs.Opening.{Opening}
-use Rattle.flat_core.specs.Event.{State, Event, OfCall, OfOperation, Walks, Reaches, Leaves, start, next_event, event_for, lines_left, calls_of, after_event, lp_after, call_lp, settle, is_granted}
+use Rattle.flat_core.specs.Event.{State, Event, OfCall, OfOperation, Walks, Reaches, Leaves, next_event, event_for, lines_left, calls_of, after_event, lp_after, call_lp, settle, is_granted}
 use Rattle.flat_core.specs.Run.{to_the_end, run_telling}
-use Rattle.flat_core.specs.Replies.{IsOneMore, RepliesComeOneByOne, RepliesAreToLines, EveryLineIsAnswered}
+use Rattle.flat_core.specs.Replies.{IsOneMore, RepliesComeOneByOne, AreToLines, RepliesAreKept, RepliesAreToLines, EveryLineIsAnswered}
+use Rattle.flat_core.specs.Laws.{with_bundles}
 use Rattle.flat_core.proofs.Tests.{by_test}
-use Rattle.flat_core.proofs.Induction.{play_keeps}
+use Rattle.flat_core.proofs.Induction.{event_keeps, in_runs}
 use Rattle.flat_core.proofs.Refused.{same_replies, after_here}
 use Rattle.flat_core.proofs.Ends.{runs_end}
 
@@ -58,9 +59,6 @@ more_by_one : (n : ℕ) (before after : List Reply) → length before < n → Is
 more_by_one n before after i (inl same) = let e = ap length same in omega (arith, i, e)
 more_by_one n before after i (inr (r, same)) = let e = ap length same in omega (arith, i, e, length-append before (r ∷ []))
 
-abbrev AreToLines : Opening → State → Type 0
-AreToLines o s = (q : ℕ) → length (s.lps q).replies ≤ length (calls_of o.calls q)
-
 step : (o : Opening) (s : State) (p : ℕ) (e : Event) → next_event o s p ≡ Some e → AreToLines o s → AreToLines o (after_event p s (Some e))
 step o s p e is h q = by_test (q == p)
     (λ y. let here : p ≡ q = sym (eqb-true q p y) in
@@ -69,8 +67,14 @@ step o s p e is h q = by_test (q == p)
     (at_line o s.world p (s.lps p) e (lines_left o p (s.lps p)) refl is) (one_by_one s p (Some e))))
     (λ n. rw n (h q))
 
+pub replies_kept : RepliesAreKept
+replies_kept = record {
+  start = λ o ws q. omega arith;
+  event = λ o bundles s p h. event_keeps (with_bundles o bundles) (AreToLines o) (step (with_bundles o bundles)) s p h;
+}
+
 pub replies_to_lines : RepliesAreToLines
-replies_to_lines o ws schedule = play_keeps o (AreToLines o) (step o) schedule (start o ws) (λ q. omega arith)
+replies_to_lines = in_runs AreToLines replies_kept
 
 ended : (o : Opening) (w : World) (p : ℕ) (lp : Lp) (x : List Call) → lines_left o p lp ≡ x → event_for o w p lp x ≡ None → length (calls_of o.calls p) ≤ length lp.replies
 ended o w p lp [] left is = none_left (length lp.replies) (calls_of o.calls p) left

@@ -1,45 +1,29 @@
 -- The tree lock of a TD can't be busy for a processor that holds its op state lock alone: every row tries the op state lock
 -- before the tree lock, and locks are released newest first, so who holds T holds O.
-use Rattle.std.proofs.Common.{◌≡◌, ◌≢◌, ◌⊎◌, inl, inr, refl, sym, ◌∙◌, subst, ap, ℕ, zero, suc, ◌+◌, ◌<◌, ◌≤◌, List, [], ◌∷◌, ◌++◌, length, drop, map, Option, Some, None, Bool, true, false, ◌==◌, arith, length-append}
+use Rattle.std.proofs.Common.{◌≡◌, ◌≢◌, ◌⊎◌, inl, inr, refl, sym, ◌∙◌, subst, ap, ℕ, zero, suc, ◌+◌, ◌<◌, ◌≤◌, List, [], ◌∷◌, ◌++◌, length, drop, Option, Some, None, Bool, true, false, ◌==◌, if◌then◌else◌, arith, length-append}
 use Rattle.std.proofs.lemmas.Bool.{eq-eqb, eqb-true, eqb-false, ne_eqb}
 use Rattle.td_words.specs.declared.names.Mode.{Mode}
 use Rattle.td_words.specs.declared.names.Mode.TheVariants.{Shared, Exclusive}
 use Rattle.td_words.specs.declared.names.ReadField.TheVariants as field
-use Rattle.td_words.specs.declared.names.EntryState.TheVariants as entry
 use Rattle.td_words.specs.declared.calls.Call.{Call}
 use Rattle.td_words.specs.declared.calls.Call.TheVariants as call
-use Rattle.td_words.specs.declared.refusals.Status.TheVariants.{EptWalkFailed}
 use Rattle.td_words.specs.declared.replies.Reply.{Reply}
-use Rattle.td_words.specs.declared.replies.Reply.TheVariants.{Done, Refused}
+use Rattle.td_words.specs.declared.replies.Reply.TheVariants.{Done}
 use Rattle.flat_core.specs.World.{World}
 use Rattle.flat_core.specs.Processor.{LockId, OfPage, OfOp, OfTree, OfEpoch, OfRtmr, OfKeys, Held, Phase, Trying, Undoing, Answered, Progress, nothing_yet, Guest, Entering, Lp}
 use Rattle.flat_core.specs.Locks.{same_lock, is_alone, alone_in, shared_in, refused_in, alone_of, shared_of, refused_of, sum_below, holders, sharers, refusals, grants}
 use Rattle.flat_core.specs.Opening.{Opening}
 use Rattle.flat_core.specs.Row.{Item, Check, Try, Row, Move, Attempts, next, next_in}
-use Rattle.flat_core.specs.Conditions.{page_exclusive, host_page}
-use Rattle.flat_core.specs.Tree.{entry_at, same_state, state_in, levels_above}
-use Rattle.flat_core.specs.KeyRows.{reclaim_conditions}
 use Rattle.flat_core.specs.Table.{row_of}
-use Rattle.flat_core.specs.Event.{State, Event, OfCall, start, next_event, event_for, line_event, lines_left, calls_of, after_event, lp_after, call_lp, succeeded, settled, settle, call_busy, is_granted}
-use Rattle.flat_core.specs.Laws.{reached, IsAway, TreeIsNeverBusy}
+use Rattle.flat_core.specs.Event.{State, Event, OfCall, next_event, event_for, line_event, lines_left, calls_of, after_event, lp_after, call_lp, succeeded, settled, settle, call_busy, is_granted}
+use Rattle.flat_core.specs.Laws.{reached, with_bundles}
+use Rattle.flat_core.specs.Tries.{tries, shared, alone, tries_of}
+use Rattle.flat_core.specs.Order.{but_page, kinds, onto, AreFirstTries, undo_of, IsOrderlyAt, IsOrderly, IsInOrder, OrderIsKept, IsAway, TreeIsFreeInOrder, TreeIsNeverBusy}
 use Rattle.flat_core.proofs.Tests.{by_test}
-use Rattle.flat_core.proofs.Induction.{play_keeps, counts_stay}
-use Rattle.flat_core.proofs.LockLaw.{locks_exclude, le-sum, two-sum}
+use Rattle.flat_core.proofs.Induction.{event_keeps, in_runs, count_stays}
+use Rattle.flat_core.proofs.LockLaw.{exclusion_kept, le-sum, two-sum}
+use Rattle.flat_core.proofs.Tries.{rows_try_lists}
 use Rattle.flat_core.proofs.Ends.{next_is, row_enters, drop_next, below_calls}
-
--- the locks that a row tries, but which page's
-abbrev but_page : LockId → Option LockId
-but_page (OfPage p) = None
-but_page l = Some l
-
-abbrev tried : List (Item Reply) → List (Option LockId)
-tried [] = []
-tried (Check b r ∷ items) = tried items
-tried (Try l m ∷ items) = but_page l ∷ tried items
-
-abbrev kinds : List Held → List (Option LockId)
-kinds [] = []
-kinds (h ∷ hs) = but_page h.lock ∷ kinds hs
 
 -- each T comes behind O of its TD, and is the first T
 abbrev Has : LockId → List (Option LockId) → Type 0
@@ -64,79 +48,45 @@ abbrev AreBehindOps : List (Option LockId) → Type 0
 AreBehindOps [] = Unit {0}
 AreBehindOps (x ∷ xs) = IsBehindOp x xs × AreBehindOps xs
 
--- rows
+-- so of each call's tries
 
-checks_try_none : (b : ℕ → Bool) (r : ℕ → Reply) (ls : List ℕ) (items : List (Item Reply)) → tried (map (λ l. Check (b l) (r l)) ls ++ items) ≡ tried items
-checks_try_none b r [] items = refl
-checks_try_none b r (l ∷ ls) items = checks_try_none b r ls items
+tree_first : (t : ℕ) (xs : List (Option LockId)) → InOrder (Some (OfTree t) ∷ Some (OfOp t) ∷ None ∷ []) xs → InOrder [] (None ∷ Some (OfOp t) ∷ Some (OfTree t) ∷ xs)
+tree_first t xs h = (tt, (tt, ((inl refl, tt), h)))
 
-checks_try_nothing : (b : ℕ → Bool) (r : ℕ → Reply) (ls : List ℕ) → tried (map (λ l. Check (b l) (r l)) ls) ≡ []
-checks_try_nothing b r [] = refl
-checks_try_nothing b r (l ∷ ls) = checks_try_nothing b r ls
-
-abbrev is_passed : World → (t gpa l : ℕ) → Bool
-is_passed w t gpa l = same_state (entry_at w t l gpa).state entry.NlMapped
-
-abbrev tree_first : ℕ → List (Option LockId) → List (Option LockId)
-tree_first t xs = None ∷ Some (OfOp t) ∷ Some (OfTree t) ∷ xs
-
-sept_added : (w : World) (t gpa level page : ℕ) → tried (map (λ l. Check (is_passed w t gpa l) (Refused (EptWalkFailed l))) (levels_above level) ++ state_in w t gpa level (entry.Free ∷ []) ∷ page_exclusive page ∷ host_page w page ∷ []) ≡ None ∷ []
-sept_added w t gpa level page = checks_try_none (is_passed w t gpa) (λ l. Refused (EptWalkFailed l)) (levels_above level) (state_in w t gpa level (entry.Free ∷ []) ∷ page_exclusive page ∷ host_page w page ∷ [])
-
-sept_read : (w : World) (t gpa level : ℕ) → tried (map (λ l. Check (is_passed w t gpa l) (Refused (EptWalkFailed l))) (levels_above level)) ≡ []
-sept_read w t gpa level = checks_try_nothing (is_passed w t gpa) (λ l. Refused (EptWalkFailed l)) (levels_above level)
-
-behind_op : (t : ℕ) (xs ys : List (Option LockId)) → xs ≡ ys → InOrder (Some (OfTree t) ∷ Some (OfOp t) ∷ None ∷ []) ys → InOrder [] (tree_first t xs)
-behind_op t xs ys e h = (tt, (tt, ((inl refl, tt), subst (λ (zs : List (Option LockId)). InOrder (Some (OfTree t) ∷ Some (OfOp t) ∷ None ∷ []) zs) (sym e) h)))
-
-row_in_order : (o : Opening) (me : ℕ) (c : Call) (w : World) → InOrder [] (tried ((row_of o me c).items w))
-row_in_order o me (call.HostRead page word) w = (tt, tt)
-row_in_order o me (call.HostWrite page word value) w = (tt, tt)
-row_in_order o me (call.PhymemPageRdmd page) w = (tt, tt)
-row_in_order o me call.PhymemCacheWb w = (tt, tt)
-row_in_order o me (call.PhymemPageReclaim t page) w = by (page == t)
+tries_in_order : (c : Call) (w : World) → InOrder [] (kinds (tries_of c w))
+tries_in_order (call.PhymemPageReclaim t page) w = by (page == t)
   where
-    by : (b : Bool) → InOrder [] (None ∷ tried (reclaim_conditions w t page b))
+    by : (b : Bool) → InOrder [] (None ∷ kinds (if b then [] else alone (OfPage page) ∷ []))
     by true = (tt, tt)
     by false = (tt, (tt, tt))
-row_in_order o me (call.MngCreate t hkid) w = (tt, (tt, tt))
-row_in_order o me (call.MngKeyConfig t) w = (tt, tt)
-row_in_order o me (call.MngAddcx t page) w = (tt, (tt, tt))
-row_in_order o me (call.MngInit t) w = (tt, (tt, tt))
-row_in_order o me (call.MngRd t field.Life) w = (tt, tt)
-row_in_order o me (call.MngRd t field.Op) w = (tt, (tt, tt))
-row_in_order o me (call.MngRd t field.Epoch) w = (tt, (tt, (tt, tt)))
-row_in_order o me (call.MngRd t field.Mrtd) w = (tt, (tt, tt))
-row_in_order o me (call.MngVpflushdone t) w = (tt, (tt, tt))
-row_in_order o me (call.MngKeyFreeid t) w = (tt, (tt, tt))
-row_in_order o me (call.MrExtend t gpa) w = behind_op t _ (None ∷ []) refl (tt, tt)
-row_in_order o me (call.MrFinalize t) w = (tt, (tt, tt))
-row_in_order o me (call.VpCreate t page) w = (tt, (tt, (tt, tt)))
-row_in_order o me (call.VpInit t vp value) w = (tt, (tt, (tt, tt)))
-row_in_order o me (call.MemSeptAdd t gpa level page) w = behind_op t _ (None ∷ []) (sept_added w t gpa level page) (tt, tt)
-row_in_order o me (call.MemSeptRd t gpa level) w = behind_op t _ [] (sept_read w t gpa level) tt
-row_in_order o me (call.MemPageAdd t gpa page source) w = behind_op t _ (None ∷ None ∷ []) refl (tt, (tt, tt))
+tries_in_order (call.HostRead page word) w = (tt, tt)
+tries_in_order (call.HostWrite page word value) w = (tt, tt)
+tries_in_order (call.PhymemPageRdmd page) w = (tt, tt)
+tries_in_order call.PhymemCacheWb w = (tt, tt)
+tries_in_order (call.MngCreate t hkid) w = (tt, (tt, tt))
+tries_in_order (call.MngKeyConfig t) w = (tt, tt)
+tries_in_order (call.MngAddcx t page) w = (tt, (tt, tt))
+tries_in_order (call.MngInit t) w = (tt, (tt, tt))
+tries_in_order (call.MngRd t field.Life) w = (tt, tt)
+tries_in_order (call.MngRd t field.Op) w = (tt, (tt, tt))
+tries_in_order (call.MngRd t field.Epoch) w = (tt, (tt, (tt, tt)))
+tries_in_order (call.MngRd t field.Mrtd) w = (tt, (tt, tt))
+tries_in_order (call.MngVpflushdone t) w = (tt, (tt, tt))
+tries_in_order (call.MngKeyFreeid t) w = (tt, (tt, tt))
+tries_in_order (call.MrExtend t gpa) w = tree_first t (None ∷ []) (tt, tt)
+tries_in_order (call.MrFinalize t) w = (tt, (tt, tt))
+tries_in_order (call.VpCreate t page) w = (tt, (tt, (tt, tt)))
+tries_in_order (call.VpInit t vp value) w = (tt, (tt, (tt, tt)))
+tries_in_order (call.MemSeptAdd t gpa level page) w = tree_first t (None ∷ []) (tt, tt)
+tries_in_order (call.MemSeptRd t gpa level) w = tree_first t [] tt
+tries_in_order (call.MemPageAdd t gpa page source) w = tree_first t (None ∷ None ∷ []) (tt, (tt, tt))
 
--- they try the same locks in every world
-row_tries_same : (o : Opening) (me : ℕ) (c : Call) (v w : World) → tried ((row_of o me c).items v) ≡ tried ((row_of o me c).items w)
-row_tries_same o me (call.PhymemPageReclaim t page) v w = by (page == t)
-  where
-    by : (b : Bool) → None ∷ tried (reclaim_conditions v t page b) ≡ None ∷ tried (reclaim_conditions w t page b)
-    by true = refl
-    by false = refl
-row_tries_same o me (call.MngRd t field.Life) v w = refl
-row_tries_same o me (call.MngRd t field.Op) v w = refl
-row_tries_same o me (call.MngRd t field.Epoch) v w = refl
-row_tries_same o me (call.MngRd t field.Mrtd) v w = refl
-row_tries_same o me (call.MemSeptAdd t gpa level page) v w = ap (tree_first t) (sept_added v t gpa level page ∙ sym (sept_added w t gpa level page))
-row_tries_same o me (call.MemSeptRd t gpa level) v w = ap (tree_first t) (sept_read v t gpa level ∙ sym (sept_read w t gpa level))
-row_tries_same o me (call.HostRead page word) v w = refl
-row_tries_same o me _ v w = refl
+-- and in every world they are the same
+kinds_same : (c : Call) (v w : World) → kinds (tries_of c v) ≡ kinds (tries_of c w)
+kinds_same (call.HostRead page word) v w = refl
+kinds_same _ v w = refl
 
 -- the locks held, oldest first, and then these
-abbrev onto : List Held → List (Option LockId) → List (Option LockId)
-onto [] xs = xs
-onto (h ∷ hs) xs = onto hs (but_page h.lock ∷ xs)
 
 drop_onto : (hs : List Held) (j : ℕ) (xs : List (Option LockId)) → drop (length hs + j) (onto hs xs) ≡ drop j xs
 drop_onto [] j xs = let e : 0 + j ≡ j = omega arith in ap (λ (n : ℕ). drop n xs) e
@@ -149,126 +99,118 @@ from_order [] xs h = (tt, h)
 from_order (x ∷ hs) xs h = let i = from_order hs (but_page x.lock ∷ xs) h in ((i.1.0, i.0), i.1.1)
 
 -- the next try, and those behind it
-next_tried : (items : List (Item Reply)) (k : ℕ) (l : LockId) (m : Mode) → next items k ≡ Attempts l m → (xs : List (Option LockId)) × (drop k (tried items) ≡ but_page l ∷ xs)
+next_tried : (items : List (Item Reply)) (k : ℕ) (l : LockId) (m : Mode) → next items k ≡ Attempts l m → (xs : List (Option LockId)) × (drop k (kinds (tries items)) ≡ but_page l ∷ xs)
 next_tried [] k l m e = cc
 next_tried (Check true r ∷ items) k l m e = next_tried items k l m e
 next_tried (Check false r ∷ items) k l m e = cc
-next_tried (Try a b ∷ items) zero l m e = let same : a ≡ l = cc in (tried items, ap (λ (x : LockId). but_page x ∷ tried items) same)
+next_tried (Try a b ∷ items) zero l m e = let same : a ≡ l = cc in (kinds (tries items), ap (λ (x : LockId). but_page x ∷ kinds (tries items)) same)
 next_tried (Try a b ∷ items) (suc k) l m e = next_tried items k l m e
 
+-- the locks that a call tries first
+first_behind : (c : Call) (w : World) (hs : List Held) → AreFirstTries c hs → AreBehindOps (kinds hs)
+first_behind c w hs first = let x = first w in (from_order hs x.0 (subst (λ (ys : List (Option LockId)). InOrder [] ys) x.1 (tries_in_order c w))).0
+
+but_first : (c : Call) (h : Held) (hs : List Held) → AreFirstTries c (h ∷ hs) → AreFirstTries c hs
+but_first c h hs first w = let x = first w in (but_page h.lock ∷ x.0, x.1)
+
+fresh : (cs : List Call) → IsOrderlyAt cs nothing_yet
+fresh [] = refl
+fresh (c ∷ cs) = λ w. (kinds (tries_of c w), refl)
+
 module _ (o : Opening) (p : ℕ) where
-  -- the locks held are those that the call's row tries first
-  abbrev Fits : Call → List Held → Type 0
-  Fits c hs = (w : World) → (xs : List (Option LockId)) × (tried ((row_of o p c).items w) ≡ onto hs xs)
-
-  abbrev Goes : Call → Phase Reply → List Held → Type 0
-  Goes c Trying hs = Fits c hs
-  Goes c (Undoing l) hs = IsBehindOp (but_page l) (kinds hs) × AreBehindOps (kinds hs)
-  Goes c (Answered r) hs = AreBehindOps (kinds hs)
-
-  abbrev StandsIn : List Call → Progress Reply → Type 0
-  StandsIn [] x = x ≡ nothing_yet
-  StandsIn (c ∷ cs) x = Goes c x.phase x.held
-
-  record IsOrderly (lp : Lp) : Type 0 where
-    guest : lp.guest ≡ None
-    call : StandsIn (lines_left o p lp) lp.call
-
-  fresh : (cs : List Call) → StandsIn cs nothing_yet
-  fresh [] = refl
-  fresh (c ∷ cs) = λ w. (tried ((row_of o p c).items w), refl)
-
-  fit_behind : (c : Call) (w : World) (hs : List Held) → Fits c hs → AreBehindOps (kinds hs)
-  fit_behind c w hs fits = let x = fits w in (from_order hs x.0 (subst (λ (ys : List (Option LockId)). InOrder [] ys) x.1 (row_in_order o p c w))).0
-
-  module _ (c : Call) (w : World) (hs : List Held) (fits : Fits c hs) (l : LockId) (m : Mode) (is : next ((row_of o p c).items w) (length hs) ≡ Attempts l m) where
-    rest : (xs : List (Option LockId)) × (tried ((row_of o p c).items w) ≡ onto hs (but_page l ∷ xs))
+  module _ (c : Call) (w : World) (hs : List Held) (first : AreFirstTries c hs) (l : LockId) (m : Mode) (is : next ((row_of o p c).items w) (length hs) ≡ Attempts l m) where
+    rest : (xs : List (Option LockId)) × (kinds (tries_of c w) ≡ onto hs (but_page l ∷ xs))
     rest =
         let items = (row_of o p c).items w in
-        let x = fits w in
+        let x = first w in
         let n = next_tried items (length hs) l m is in
+        let same : kinds (tries items) ≡ kinds (tries_of c w) = ap kinds (rows_try_lists o p c w) in
         let none : length hs ≡ length hs + 0 = omega arith in
         let left : x.0 ≡ but_page l ∷ n.0 =
-        sym (drop_onto hs 0 x.0) ∙ (ap (λ (k : ℕ). drop k (onto hs x.0)) (sym none) ∙ (ap (drop (length hs)) (sym x.1) ∙ n.1)) in
+        sym (drop_onto hs 0 x.0) ∙ (ap (λ (k : ℕ). drop k (onto hs x.0)) (sym none) ∙ (ap (drop (length hs)) (sym (same ∙ x.1)) ∙ n.1)) in
         (n.0, x.1 ∙ ap (onto hs) left)
 
-    fits_more : Fits c (record { lock = l; mode = m } ∷ hs)
-    fits_more v = (rest.0, row_tries_same o p c v w ∙ rest.1)
+    first_more : (n : Mode) → AreFirstTries c (record { lock = l; mode = n } ∷ hs)
+    first_more n v = (rest.0, kinds_same c v w ∙ rest.1)
 
     next_behind : IsBehindOp (but_page l) (kinds hs)
-    next_behind = (from_order hs (but_page l ∷ rest.0) (subst (λ (ys : List (Option LockId)). InOrder [] ys) rest.1 (row_in_order o p c w))).1.0
+    next_behind = (first_behind c w (record { lock = l; mode = m } ∷ hs) (first_more m)).0
 
   module _ (c : Call) (cs : List Call) where
-    goes_on : (lp : Lp) (phase : Phase Reply) (hs : List Held) → lp.guest ≡ None → lines_left o p lp ≡ c ∷ cs → Goes c phase hs → IsOrderly (record lp { call = record { phase = phase; held = hs } })
+    goes_on : (lp : Lp) (phase : Phase Reply) (hs : List Held) → lp.guest ≡ None → lines_left o p lp ≡ c ∷ cs → AreFirstTries c (undo_of phase ++ hs) → IsOrderly (calls_of o.calls p) (record lp { call = record { phase = phase; held = hs } })
     goes_on lp phase hs g e h = record { guest = g; call = rw e h }
 
-    ends : (lp : Lp) (r : Reply) → lp.guest ≡ None → lines_left o p lp ≡ c ∷ cs → IsOrderly (record lp { call = nothing_yet; replies = lp.replies ++ r ∷ [] })
+    ends : (lp : Lp) (r : Reply) → lp.guest ≡ None → lines_left o p lp ≡ c ∷ cs → IsOrderly (calls_of o.calls p) (record lp { call = nothing_yet; replies = lp.replies ++ r ∷ [] })
     ends lp r g e =
         let at : length (lp.replies ++ r ∷ []) ≡ suc (length lp.replies) = omega (arith, length-append lp.replies (r ∷ [])) in
         let left : drop (length (lp.replies ++ r ∷ [])) (calls_of o.calls p) ≡ cs = ap (λ (n : ℕ). drop n (calls_of o.calls p)) at ∙ drop_next (length lp.replies) (calls_of o.calls p) c cs e in
         record { guest = g; call = rw left (fresh cs) }
 
-    answers : (lp : Lp) (r : Reply) (hs : List Held) → lp.guest ≡ None → lines_left o p lp ≡ c ∷ cs → AreBehindOps (kinds hs) → IsOrderly (settle (Answered r) hs (record lp { call = record { phase = Answered r; held = hs } }))
+    answers : (lp : Lp) (r : Reply) (hs : List Held) → lp.guest ≡ None → lines_left o p lp ≡ c ∷ cs → AreFirstTries c hs → IsOrderly (calls_of o.calls p) (settle (Answered r) hs (record lp { call = record { phase = Answered r; held = hs } }))
     answers lp r [] g e h = ends (record lp { call = record { phase = Answered r; held = [] } }) r g e
     answers lp r (x ∷ hs) g e h = goes_on lp (Answered r) (x ∷ hs) g e h
 
-    module _ (w : World) (lp : Lp) (g : lp.guest ≡ None) (e : lines_left o p lp ≡ c ∷ cs) (fits : Fits c lp.call.held) where
+    module _ (w : World) (lp : Lp) (g : lp.guest ≡ None) (e : lines_left o p lp ≡ c ∷ cs) (first : AreFirstTries c lp.call.held) where
       abbrev row : Row
       row = row_of o p c
 
-      behind : AreBehindOps (kinds lp.call.held)
-      behind = fit_behind c w lp.call.held fits
+      attempted : (b : Bool) (l : LockId) (m : Mode) → next (row.items w) (length lp.call.held) ≡ Attempts l m → IsOrderly (calls_of o.calls p) (settled (call_lp w b row (Attempts l m) lp))
+      attempted true l m is = goes_on lp Trying (record { lock = l; mode = m } ∷ lp.call.held) g e (first_more c w lp.call.held first l m is m)
+      attempted false l Shared is = goes_on lp (Undoing l) lp.call.held g e (first_more c w lp.call.held first l Shared is Shared)
+      attempted false l Exclusive is = answers lp (call_busy _) lp.call.held g e first
 
-      tries : (b : Bool) (l : LockId) (m : Mode) → next (row.items w) (length lp.call.held) ≡ Attempts l m → IsOrderly (settled (call_lp w b row (Attempts l m) lp))
-      tries true l m is = goes_on lp Trying (record { lock = l; mode = m } ∷ lp.call.held) g e (fits_more c w lp.call.held fits l m is)
-      tries false l Shared is = goes_on lp (Undoing l) lp.call.held g e (next_behind c w lp.call.held fits l Shared is, behind)
-      tries false l Exclusive is = answers lp (call_busy _) lp.call.held g e behind
-
-      succeeds : IsOrderly (settled (succeeded w row row.enters lp))
+      succeeds : IsOrderly (calls_of o.calls p) (settled (succeeded w row row.enters lp))
       succeeds =
-          subst (λ (x : Option Entering). IsOrderly (settled (succeeded w row x lp))) (sym (row_enters o p c))
-          (answers (record lp { cached = row.cached w lp.cached }) (Done (row.value w)) lp.call.held g e behind)
+          subst (λ (x : Option Entering). IsOrderly (calls_of o.calls p) (settled (succeeded w row x lp))) (sym (row_enters o p c))
+          (answers (record lp { cached = row.cached w lp.cached }) (Done (row.value w)) lp.call.held g e first)
 
-      trying : (b : Move Reply → Bool) → let move = next (row.items w) (length lp.call.held) in IsOrderly (settled (call_lp w (b move) row move lp))
+      trying : (b : Move Reply → Bool) → let move = next (row.items w) (length lp.call.held) in IsOrderly (calls_of o.calls p) (settled (call_lp w (b move) row move lp))
       trying b =
           let held = lp.call.held in
-          next_is (λ x. next (row.items w) (length held) ≡ x → IsOrderly (settled (call_lp w (b x) row x lp))) (row.items w) (length held)
-          (λ r is. answers lp r held g e behind) (λ is. succeeds) (λ l m room is. tries (b (Attempts l m)) l m is) refl
+          next_is (λ x. next (row.items w) (length held) ≡ x → IsOrderly (calls_of o.calls p) (settled (call_lp w (b x) row x lp))) (row.items w) (length held)
+          (λ r is. answers lp r held g e first) (λ is. succeeds) (λ l m room is. attempted (b (Attempts l m)) l m is) refl
 
-    moves : (w : World) (lp : Lp) (phase : Phase Reply) (hs : List Held) (b : Move Reply → Bool) → lp.guest ≡ None → lines_left o p lp ≡ c ∷ cs → Goes c phase hs
-        → let move = next_in ((row_of o p c).items w) phase hs in IsOrderly (settled (call_lp w (b move) (row_of o p c) move (record lp { call = record { phase = phase; held = hs } })))
+    moves : (w : World) (lp : Lp) (phase : Phase Reply) (hs : List Held) (b : Move Reply → Bool) → lp.guest ≡ None → lines_left o p lp ≡ c ∷ cs → AreFirstTries c (undo_of phase ++ hs)
+        → let move = next_in ((row_of o p c).items w) phase hs in IsOrderly (calls_of o.calls p) (settled (call_lp w (b move) (row_of o p c) move (record lp { call = record { phase = phase; held = hs } })))
     moves w lp Trying hs b g e h = trying w (record lp { call = record { phase = Trying; held = hs } }) g e h b
-    moves w lp (Undoing l) hs b g e h = answers (record lp { call = record { phase = Undoing l; held = hs } }) (call_busy _) hs g e h.1
-    moves w lp (Answered r) [] b g e h = answers (record lp { call = record { phase = Answered r; held = [] } }) r [] g e tt
-    moves w lp (Answered r) (x ∷ hs) b g e h = answers (record lp { call = record { phase = Answered r; held = x ∷ hs } }) r hs g e h.1
+    moves w lp (Undoing l) hs b g e h = answers (record lp { call = record { phase = Undoing l; held = hs } }) (call_busy _) hs g e (but_first c (shared l) hs h)
+    moves w lp (Answered r) [] b g e h = answers (record lp { call = record { phase = Answered r; held = [] } }) r [] g e h
+    moves w lp (Answered r) (x ∷ hs) b g e h = answers (record lp { call = record { phase = Answered r; held = x ∷ hs } }) r hs g e (but_first c x hs h)
 
-  module _ (s : State) (orderly : IsOrderly (s.lps p)) where
+  module _ (s : State) (orderly : IsOrderly (calls_of o.calls p) (s.lps p)) where
     abbrev after : Event → Lp
     after e = lp_after s.world (is_granted s e) e (s.lps p)
 
-    by_call : (c : Call) (cs : List Call) → lines_left o p (s.lps p) ≡ c ∷ cs → IsOrderly (after (line_event o s.world (s.lps p) (row_of o p c) None))
+    by_call : (c : Call) (cs : List Call) → lines_left o p (s.lps p) ≡ c ∷ cs → IsOrderly (calls_of o.calls p) (after (line_event o s.world (s.lps p) (row_of o p c) None))
     by_call c cs e =
-        let here : StandsIn (c ∷ cs) (s.lps p).call = subst (λ (x : List Call). StandsIn x (s.lps p).call) e orderly.call in
+        let here : IsOrderlyAt (c ∷ cs) (s.lps p).call = subst (λ (x : List Call). IsOrderlyAt x (s.lps p).call) e orderly.call in
         moves c cs s.world (s.lps p) (s.lps p).call.phase (s.lps p).call.held (λ m. is_granted s (OfCall (row_of o p c) m)) orderly.guest e here
 
-    by_lines : (x : List Call) (e : Event) → lines_left o p (s.lps p) ≡ x → event_for o s.world p (s.lps p) x ≡ Some e → IsOrderly (after e)
+    by_lines : (x : List Call) (e : Event) → lines_left o p (s.lps p) ≡ x → event_for o s.world p (s.lps p) x ≡ Some e → IsOrderly (calls_of o.calls p) (after e)
     by_lines [] e at is = cc
     by_lines (c ∷ cs) e at is =
         let same : line_event o s.world (s.lps p) (row_of o p c) (s.lps p).guest ≡ e = cc in
-        subst (λ (y : Event). IsOrderly (after y)) same
-        (subst (λ (g : Option Guest). IsOrderly (after (line_event o s.world (s.lps p) (row_of o p c) g))) (sym orderly.guest) (by_call c cs at))
+        subst (λ (y : Event). IsOrderly (calls_of o.calls p) (after y)) same
+        (subst (λ (g : Option Guest). IsOrderly (calls_of o.calls p) (after (line_event o s.world (s.lps p) (row_of o p c) g))) (sym orderly.guest) (by_call c cs at))
 
-abbrev AllOrderly : Opening → State → Type 0
-AllOrderly o s = (q : ℕ) → IsOrderly o q (s.lps q)
+abbrev AreOrderly : Opening → State → Type 0
+AreOrderly o s = (q : ℕ) → IsOrderly (calls_of o.calls q) (s.lps q)
 
-orderly_step : (o : Opening) (s : State) (p : ℕ) (e : Event) → next_event o s p ≡ Some e → AllOrderly o s → AllOrderly o (after_event p s (Some e))
+orderly_step : (o : Opening) (s : State) (p : ℕ) (e : Event) → next_event o s p ≡ Some e → AreOrderly o s → AreOrderly o (after_event p s (Some e))
 orderly_step o s p e is h q = by_test (q == p)
     (λ y. (let here : p ≡ q = sym (eqb-true q p y) in
-    rw y (subst (λ (x : ℕ). IsOrderly o x (lp_after s.world (is_granted s e) e (s.lps p))) here (by_lines o p s (h p) (lines_left o p (s.lps p)) e refl is))))
+    rw y (subst (λ (x : ℕ). IsOrderly (calls_of o.calls x) (lp_after s.world (is_granted s e) e (s.lps p))) here (by_lines o p s (h p) (lines_left o p (s.lps p)) e refl is))))
     (λ y. rw y (h q))
 
-always_orderly : (o : Opening) (ws : Option (List ℕ)) (schedule : List ℕ) → AllOrderly o (reached o ws schedule)
-always_orderly o ws schedule = play_keeps o (AllOrderly o) (orderly_step o) schedule (start o ws) (λ q. record { guest = refl; call = fresh o q (calls_of o.calls q) })
+pub order_kept : OrderIsKept
+order_kept = record {
+  start = λ o ws. record { orderly = λ q. record { guest = refl; call = fresh (calls_of o.calls q) }; exclusive = exclusion_kept.start o ws; count = refl };
+  event = λ o bundles s p h. record {
+    orderly = event_keeps (with_bundles o bundles) (AreOrderly o) (orderly_step (with_bundles o bundles)) s p h.orderly;
+    exclusive = exclusion_kept.event o bundles s p h.exclusive;
+    count = count_stays (with_bundles o bundles) s p ∙ h.count;
+  };
+}
 
 -- what this says of counts
 
@@ -342,29 +284,22 @@ away l lp g a r =
     record { alone = x.0 ∙ none_alone l lp.call.held a; shared = x.1 ∙ none_shared l lp.call.held a; refused = x.2 ∙ r }
 
 -- a call that holds no O is away from T
-call_away : (o : Opening) (q t : ℕ) (c : Call) (phase : Phase Reply) (hs : List Held) → World → Goes o q c phase hs → times_held (OfOp t) hs ≡ 0 → AreOthers (OfTree t) hs × (refused_in (OfTree t) phase ≡ 0)
-call_away o q t c Trying hs w h none = (no_trees t hs (fit_behind o q c w hs h) none, refl)
-call_away o q t c (Undoing l) hs w h none = let off = not_tree t l hs h.0 none in (no_trees t hs h.1 none, rw off refl)
-call_away o q t c (Answered r) hs w h none = (no_trees t hs h none, refl)
+call_away : (t : ℕ) (c : Call) (phase : Phase Reply) (hs : List Held) → World → AreFirstTries c (undo_of phase ++ hs) → times_held (OfOp t) hs ≡ 0 → AreOthers (OfTree t) hs × (refused_in (OfTree t) phase ≡ 0)
+call_away t c Trying hs w h none = (no_trees t hs (first_behind c w hs h) none, refl)
+call_away t c (Undoing l) hs w h none = let behind = first_behind c w (shared l ∷ hs) h in let off = not_tree t l hs behind.0 none in (no_trees t hs behind.1 none, rw off refl)
+call_away t c (Answered r) hs w h none = (no_trees t hs (first_behind c w hs h) none, refl)
 
-module _ (o : Opening) (ws : Option (List ℕ)) (schedule : List ℕ) where
-  abbrev s : State
-  s = reached o ws schedule
-
-  orderly : (q : ℕ) → IsOrderly o q (s.lps q)
-  orderly q = always_orderly o ws schedule q
-
+module _ (o : Opening) (s : State) (ordered : IsInOrder o s) where
   -- one without lines holds nothing
   unused : (q : ℕ) (l : LockId) → lines_left o q (s.lps q) ≡ [] → IsAway l (s.lps q)
   unused q l e =
-      let none : (s.lps q).call ≡ nothing_yet = subst (λ (x : List Call). StandsIn o q x (s.lps q).call) e (orderly q).call in
-      away l (s.lps q) (orderly q).guest (subst (λ (x : Progress Reply). AreOthers l x.held) (sym none) tt) (ap (λ (x : Progress Reply). refused_in l x.phase) none)
+      let none : (s.lps q).call ≡ nothing_yet = subst (λ (x : List Call). IsOrderlyAt x (s.lps q).call) e (ordered.orderly q).call in
+      away l (s.lps q) (ordered.orderly q).guest (subst (λ (x : Progress Reply). AreOthers l x.held) (sym none) tt) (ap (λ (x : Progress Reply). refused_in l x.phase) none)
 
   in_machine : (q : ℕ) (c : Call) (cs : List Call) → lines_left o q (s.lps q) ≡ c ∷ cs → q < s.lp_count
   in_machine q c cs e =
       let b = below_calls o.calls q (length (s.lps q).replies) c cs e in
-      let n : s.lp_count ≡ length o.calls = counts_stay o schedule (start o ws) in
-      omega (arith, b, n)
+      omega (arith, b, ordered.count)
 
   module _ (t p : ℕ) (holds : 1 ≤ alone_of (OfOp t) (s.lps p)) where
     used : p < s.lp_count
@@ -377,7 +312,7 @@ module _ (o : Opening) (ws : Option (List ℕ)) (schedule : List ℕ) where
     -- nobody else holds O
     op_free : (q : ℕ) → q < s.lp_count → q ≢ p → (alone_of (OfOp t) (s.lps q) ≡ 0) × (shared_of (OfOp t) (s.lps q) ≡ 0)
     op_free q small apart =
-        let sole = locks_exclude o ws schedule (OfOp t) in
+        let sole = ordered.exclusive (OfOp t) in
         let both = two-sum (λ k. alone_of (OfOp t) (s.lps k)) q p s.lp_count small used (ne_eqb q p apart) in
         let mine = le-sum (λ k. alone_of (OfOp t) (s.lps k)) p s.lp_count used in
         let theirs = le-sum (λ k. shared_of (OfOp t) (s.lps k)) q s.lp_count small in
@@ -389,15 +324,15 @@ module _ (o : Opening) (ws : Option (List ℕ)) (schedule : List ℕ) where
         by : (x : List Call) → lines_left o q (s.lps q) ≡ x → IsAway (OfTree t) (s.lps q)
         by [] e = unused q (OfTree t) e
         by (c ∷ cs) e =
-            let goes : Goes o q c (s.lps q).call.phase (s.lps q).call.held = subst (λ (x : List Call). StandsIn o q x (s.lps q).call) e (orderly q).call in
+            let goes : IsOrderlyAt (c ∷ cs) (s.lps q).call = subst (λ (x : List Call). IsOrderlyAt x (s.lps q).call) e (ordered.orderly q).call in
             let op = op_free q (in_machine q c cs e) apart in
-            let x = outside (OfOp t) (s.lps q) (orderly q).guest in
+            let x = outside (OfOp t) (s.lps q) (ordered.orderly q).guest in
             let none : times_held (OfOp t) (s.lps q).call.held ≡ 0 = omega (arith, op.0, op.1, x.0, x.1) in
-            let tree = call_away o q t c (s.lps q).call.phase (s.lps q).call.held s.world goes none in
-            away (OfTree t) (s.lps q) (orderly q).guest tree.0 tree.1
+            let tree = call_away t c (s.lps q).call.phase (s.lps q).call.held s.world goes none in
+            away (OfTree t) (s.lps q) (ordered.orderly q).guest tree.0 tree.1
 
     -- a try of T by the holder of O
-    own_items : (c : Call) (phase : Phase Reply) (hs : List Held) (m : Mode) → Goes o p c phase hs → next_in ((row_of o p c).items s.world) phase hs ≡ Attempts (OfTree t) m → AreOthers (OfTree t) hs × (refused_in (OfTree t) phase ≡ 0)
+    own_items : (c : Call) (phase : Phase Reply) (hs : List Held) (m : Mode) → AreFirstTries c (undo_of phase ++ hs) → next_in ((row_of o p c).items s.world) phase hs ≡ Attempts (OfTree t) m → AreOthers (OfTree t) hs × (refused_in (OfTree t) phase ≡ 0)
     own_items c Trying hs m h e = (before_tree t hs (next_behind o p c s.world hs h (OfTree t) m e).1, refl)
     own_items c (Undoing l) hs m h e = cc
     own_items c (Answered r) [] m h e = cc
@@ -414,9 +349,9 @@ module _ (o : Opening) (ws : Option (List ℕ)) (schedule : List ℕ) where
         by : (x : List Call) → lines_left o p (s.lps p) ≡ x → event_for o s.world p (s.lps p) x ≡ Some (OfCall row (Attempts (OfTree t) m)) → IsAway (OfTree t) (s.lps p)
         by [] e is = cc
         by (c ∷ cs) e is =
-            let goes : Goes o p c (s.lps p).call.phase (s.lps p).call.held = subst (λ (x : List Call). StandsIn o p x (s.lps p).call) e (orderly p).call in
-            let tree = own_items c (s.lps p).call.phase (s.lps p).call.held m goes (by_guest c (s.lps p).guest (orderly p).guest cc) in
-            away (OfTree t) (s.lps p) (orderly p).guest tree.0 tree.1
+            let goes : IsOrderlyAt (c ∷ cs) (s.lps p).call = subst (λ (x : List Call). IsOrderlyAt x (s.lps p).call) e (ordered.orderly p).call in
+            let tree = own_items c (s.lps p).call.phase (s.lps p).call.held m goes (by_guest c (s.lps p).guest (ordered.orderly p).guest cc) in
+            away (OfTree t) (s.lps p) (ordered.orderly p).guest tree.0 tree.1
 
     all_away : (row : Row) (m : Mode) → next_event o s p ≡ Some (OfCall row (Attempts (OfTree t) m)) → (q : ℕ) → IsAway (OfTree t) (s.lps q)
     all_away row m is q = by_test (q == p)
@@ -435,8 +370,14 @@ free_granted lps n l Exclusive h =
     let d : refusals lps n l ≡ 0 = none_below (λ q. refused_of l (lps q)) n (λ q. (h q).refused) in
     eq-eqb (holders lps n l + (sharers lps n l + refusals lps n l)) 0 (omega (arith, a, b, d))
 
-pub tree_is_never_busy : TreeIsNeverBusy
-tree_is_never_busy = record {
-  others = λ o ws schedule t p q holds apart. other_away o ws schedule t p holds q apart;
-  granted = λ o ws schedule t p row m holds is. free_granted (reached o ws schedule).lps (reached o ws schedule).lp_count (OfTree t) m (all_away o ws schedule t p holds row m is);
+pub tree_free : TreeIsFreeInOrder
+tree_free o bundles s ordered = record {
+  others = λ t p q holds apart. other_away (with_bundles o bundles) s ordered' t p holds q apart;
+  granted = λ t p row m holds is. free_granted s.lps s.lp_count (OfTree t) m (all_away (with_bundles o bundles) s ordered' t p holds row m is);
 }
+  where
+    ordered' : IsInOrder (with_bundles o bundles) s
+    ordered' = record { orderly = ordered.orderly; exclusive = ordered.exclusive; count = ordered.count }
+
+pub tree_is_never_busy : TreeIsNeverBusy
+tree_is_never_busy o ws schedule = tree_free o o.bundles (reached o ws schedule) (in_runs IsInOrder order_kept o ws schedule)

@@ -16,12 +16,13 @@ use Rattle.flat_core.specs.Run.{run, run_told, to_the_end, told_in}
 use Rattle.flat_core.specs.HostText.{host_text, text_of, lines_from}
 use Rattle.flat_core.specs.Lawful.{Lawful}
 use Rattle.flat_core.specs.Alike.{Alike, AreBlind}
+use Rattle.flat_core.specs.Bounds.{AreTimely}
 use Rattle.flat_core.specs.Laws.{public_bundles, BlindRunsPrintTheSame, BlindRunsMakeTheSameBundles, AgreeingRunsShowTheSame}
-use Rattle.flat_core.proofs.Induction.{both_play, event_keeps}
+use Rattle.flat_core.proofs.Induction.{both_play}
 use Rattle.flat_core.proofs.Keeps.{first-lawful}
 use Rattle.flat_core.proofs.Kept.{events_keep}
 use Rattle.flat_core.proofs.Blind.{row-blind}
-use Rattle.flat_core.proofs.Ends.{AllTimely, timely_step, idle_timely}
+use Rattle.flat_core.proofs.Ends.{timeliness_kept, idle_timely}
 
 pub record AlikeStates (o : Opening) (s t : State) : Type 0 where
   pub worlds : Alike s.world t.world
@@ -29,7 +30,7 @@ pub record AlikeStates (o : Opening) (s t : State) : Type 0 where
   pub lawful' : Lawful o.machine t.world
   pub lps : s.lps ≡ t.lps
   pub count : s.lp_count ≡ t.lp_count
-  pub timely : AllTimely o s
+  pub timely : AreTimely o s
 
 module _ (m : Machine) (r q : Row) (are_blind : AreBlind m r q) (v w : World) (lv : Lawful m v) (lw : Lawful m w) (a : Alike v w) where
   alike_items : (items : List (Item Reply)) (n : ℕ) → (Passes items → Alike (r.act v) (q.act w)) → Alike (call_world r (next items n) v) (call_world q (next items n) w)
@@ -82,7 +83,7 @@ pub agrees_blind : (o : Opening) → Agree o (blind o)
 agrees_blind o = record { machine = refl; codes = λ t i. refl; calls = refl; bundles = λ slot. blind_twice (o.bundles slot) }
 
 -- one event of each, where the processors' records are the same
-module _ (o : Opening) (s : State) (u : World) (p : ℕ) (worlds : Alike s.world u) (ls : Lawful o.machine s.world) (lu : Lawful o.machine u) (timely : AllTimely o s) where
+module _ (o : Opening) (s : State) (u : World) (p : ℕ) (worlds : Alike s.world u) (ls : Lawful o.machine s.world) (lu : Lawful o.machine u) (timely : AreTimely o s) where
   abbrev t : State
   t = record { world = u; lps = s.lps; lp_count = s.lp_count }
 
@@ -135,7 +136,7 @@ module _ (o : Opening) (s : State) (u : World) (p : ℕ) (worlds : Alike s.world
 step : (o : Opening) (s t : State) (p : ℕ) → AlikeStates o s t → AlikeStates o (event o s p) (event (blind o) t p)
 step o s t p h =
     let m = by_event o s t.world p h.worlds h.lawful h.lawful' h.timely in
-    let kept : AllTimely o (event o s p) = event_keeps o (AllTimely o) (timely_step o) s p h.timely in
+    let kept : AreTimely o (event o s p) = timeliness_kept.event o o.bundles s p h.timely in
     let t' : State = record { world = t.world; lps = s.lps; lp_count = s.lp_count } in
     let first : AlikeStates o (event o s p) (event (blind o) t' p) = record { worlds = m.0; lawful = events_keep o s p h.lawful; lawful' = events_keep (blind o) t' p h.lawful'; lps = m.1; count = m.2; timely = kept } in
     let P : (ℕ → Lp) → Type 0 = λ lps. AlikeStates o (event o s p) (event (blind o) (record { world = t.world; lps = lps; lp_count = s.lp_count }) p) in

@@ -7,7 +7,6 @@ use Rattle.td_words.specs.declared.machines.Machine.{Machine}
 use Rattle.td_words.specs.declared.names.OpState.TheVariants.{Runnable}
 use Rattle.td_words.specs.declared.names.ReadField.TheVariants.{Mrtd}
 use Rattle.td_words.specs.declared.names.EntryState.{EntryState}
-use Rattle.td_words.specs.declared.names.Mode.{Mode}
 use Rattle.td_words.specs.declared.replies.Value.TheVariants.{Digest}
 use Rattle.td_words.specs.declared.refusals.Status.{Status}
 use Rattle.td_words.specs.declared.refusals.Status.TheVariants.{OperandInvalid}
@@ -19,10 +18,10 @@ use Rattle.td_words.specs.declared.calls.Call.{Call}
 use Rattle.td_words.specs.declared.calls.Call.TheVariants as call
 use Rattle.td_words.specs.Packing.{Entry, is_exported}
 use Rattle.flat_core.specs.World.{World, Pages, Tds, put, Made}
-use Rattle.flat_core.specs.Processor.{LockId, OfOp, OfTree, Lp, nothing_yet}
-use Rattle.flat_core.specs.Locks.{alone_of, shared_of, refused_of, holders, sharers, grants, one_if}
-use Rattle.flat_core.specs.Opening.{Opening, Agree, blind, public_bundle}
-use Rattle.flat_core.specs.Row.{Passes, Attempts, Succeeds, Row, OperationRow, Move, tries_in}
+use Rattle.flat_core.specs.Processor.{LockId, Lp, nothing_yet}
+use Rattle.flat_core.specs.Locks.{holders, sharers, one_if}
+use Rattle.flat_core.specs.Opening.{Opening, Incoming, Agree, blind, public_bundle}
+use Rattle.flat_core.specs.Row.{Passes, Succeeds, Row, OperationRow, Move, tries_in}
 use Rattle.flat_core.specs.Conditions.{is_host_in}
 use Rattle.flat_core.specs.Tree.{entry_at}
 use Rattle.flat_core.specs.TdRows.{read_td, finalize}
@@ -62,8 +61,28 @@ RecordsAreMeasured = (o : Opening) (me : ℕ) (c : Call) (w : World) (t : ℕ) �
 abbrev pub reached : Opening → Option (List ℕ) → List ℕ → State
 reached o words_to_tell schedule = play o schedule (start o words_to_tell)
 
+-- the opening, where these bundles have come in
+abbrev pub with_bundles : Opening → (ℕ → Option Incoming) → Opening
+with_bundles o bundles = record o { bundles = bundles }
+
+-- Every run starts with it, and one event keeps it, whatever bundles have come in by then.
+pub record IsKept (holds : Opening → State → Type 0) : Type 0 where
+  pub start : (o : Opening) (words_to_tell : Option (List ℕ)) → holds o (start o words_to_tell)
+  pub event : (o : Opening) (bundles : ℕ → Option Incoming) (s : State) (p : ℕ) → holds o s → holds o (event (with_bundles o bundles) s p)
+
+-- so every schedule keeps it
+abbrev pub HoldsInRuns : (Opening → State → Type 0) → Type 0
+HoldsInRuns holds = (o : Opening) (words_to_tell : Option (List ℕ)) (schedule : List ℕ) → holds o (reached o words_to_tell schedule)
+
+-- the world is lawful; and what is said of it besides holds
+abbrev pub IsLawful : Opening → State → Type 0
+IsLawful o s = Lawful o.machine s.world
+
+abbrev pub IsLawfulWith : (World → Type 0) → Opening → State → Type 0
+IsLawfulWith besides o s = IsLawful o s × besides s.world
+
 abbrev pub EveryWorldIsLawful : Type 0
-EveryWorldIsLawful = (o : Opening) (words_to_tell : Option (List ℕ)) (schedule : List ℕ) → Lawful o.machine (reached o words_to_tell schedule).world
+EveryWorldIsLawful = HoldsInRuns IsLawful
 
 -- Ownership in a reader's terms: an entry of a TD that is alive, where it isn't FREE, names a page that the TD owns, and so
 -- none of the host's; no other entry of such a TD names that page; and each secure EPT page and private page of such a TD is
@@ -76,8 +95,18 @@ pub record IsOwned (pages : Pages) (tds : Tds) : Type 0 where
   pub named : (t p : ℕ) → IsAlive pages tds t → is_named_kind (pages.kinds p) ≡ true → pages.owners p ≡ t
       → (l : ℕ) × (n : ℕ) × (is_free (tds.entries t l n).state ≡ false) × ((tds.entries t l n).page ≡ p)
 
+-- of a world
+abbrev pub ArePagesOwned : World → Type 0
+ArePagesOwned w = IsOwned w.pages w.tds
+
+abbrev pub LawfulPagesAreOwned : Type 0
+LawfulPagesAreOwned = (m : Machine) (w : World) → Lawful m w → ArePagesOwned w
+
+abbrev pub OwnersAreKept : Type 0
+OwnersAreKept = IsKept (IsLawfulWith ArePagesOwned)
+
 abbrev pub EveryPageIsOwned : Type 0
-EveryPageIsOwned = (o : Opening) (words_to_tell : Option (List ℕ)) (schedule : List ℕ) → let w = (reached o words_to_tell schedule).world in IsOwned w.pages w.tds
+EveryPageIsOwned = HoldsInRuns (λ o s. ArePagesOwned s.world)
 
 -- so many entries are in a state that f holds of: those of these numbers, each once, and no others
 pub record AreSoMany (f : EntryState → Bool) (entries : ℕ → Entry) (k : ℕ) : Type 0 where
@@ -94,10 +123,19 @@ pub record AreCounted (w : World) : Type 0 where
   pub exported : (t : ℕ) → IsAlive w.pages w.tds t → AreSoMany is_exported (w.tds.entries t 0) ((w.tds.unrestored t + sum_by w.streams.first_exports (w.tds.streams t)) % 2 ^ 64)
   pub upper : (t l n : ℕ) → IsAlive w.pages w.tds t → is_exported (w.tds.entries t (suc l) n).state ≡ false
 
+abbrev pub LawfulWorldsAreCounted : Type 0
+LawfulWorldsAreCounted = (m : Machine) (w : World) → Lawful m w → AreCounted w
+
+abbrev pub CountsAreKept : Type 0
+CountsAreKept = IsKept (IsLawfulWith AreCounted)
+
 abbrev pub ExportedAreCounted : Type 0
-ExportedAreCounted = (o : Opening) (words_to_tell : Option (List ℕ)) (schedule : List ℕ) → AreCounted (reached o words_to_tell schedule).world
+ExportedAreCounted = HoldsInRuns (λ o s. AreCounted s.world)
 
 -- one event keeps it, whatever bundles have come in
+abbrev pub LawfulIsKept : Type 0
+LawfulIsKept = IsKept IsLawful
+
 abbrev pub EventsKeepLawful : Type 0
 EventsKeepLawful = (o : Opening) (s : State) (p : ℕ) → Lawful o.machine s.world → Lawful o.machine (event o s p).world
 
@@ -126,24 +164,14 @@ pub record IsSole (alone shared : ℕ) : Type 0 where
   pub one : alone ≤ 1
   pub apart : (alone ≡ 0) ⊎ (shared ≡ 0)
 
+abbrev pub IsExclusive : State → Type 0
+IsExclusive s = (l : LockId) → IsSole (holders s.lps s.lp_count l) (sharers s.lps s.lp_count l)
+
+abbrev pub ExclusionIsKept : Type 0
+ExclusionIsKept = IsKept (λ o s. IsExclusive s)
+
 abbrev pub LocksExclude : Type 0
-LocksExclude = (o : Opening) (words_to_tell : Option (List ℕ)) (schedule : List ℕ) (l : LockId)
-    → let s = reached o words_to_tell schedule in IsSole (holders s.lps s.lp_count l) (sharers s.lps s.lp_count l)
-
--- a processor that has nothing to do with a lock: it neither holds it nor is being refused it
-pub record IsAway (l : LockId) (lp : Lp) : Type 0 where
-  pub alone : alone_of l lp ≡ 0
-  pub shared : shared_of l lp ≡ 0
-  pub refused : refused_of l lp ≡ 0
-
--- The tree lock of a TD can't be busy for a processor that holds the TD's op state lock alone: every other processor is
--- away from it, and the try of it by that processor is granted in either mode.
-pub record TreeIsNeverBusy : Type 0 where
-  pub others : (o : Opening) (words_to_tell : Option (List ℕ)) (schedule : List ℕ) (t p q : ℕ)
-      → let s = reached o words_to_tell schedule in 1 ≤ alone_of (OfOp t) (s.lps p) → q ≢ p → IsAway (OfTree t) (s.lps q)
-  pub granted : (o : Opening) (words_to_tell : Option (List ℕ)) (schedule : List ℕ) (t p : ℕ) (row : Row) (mode : Mode)
-      → let s = reached o words_to_tell schedule in 1 ≤ alone_of (OfOp t) (s.lps p) → next_event o s p ≡ Some (OfCall row (Attempts (OfTree t) mode))
-      → grants s.lps s.lp_count (OfTree t) mode ≡ true
+LocksExclude = HoldsInRuns (λ o s. IsExclusive s)
 
 -- What is printed is the same whatever the private words are: as with every private word 0, where guests tell the same.
 abbrev pub BlindRunsPrintTheSame : Type 0
@@ -169,11 +197,15 @@ pub record RefusedCallsStay : Type 0 where
   pub ended : (o : Opening) (s : State) (p : ℕ) (r : Reply)
       → ((event o s p).lps p).replies ≡ (s.lps p).replies ++ r ∷ [] → ((event o s p).lps p).call ≡ nothing_yet
 
--- MRTD over runs: in every world that a schedule leads to, MNG.RD gives as MRTD of a TD in RUNNABLE the SHA-384 of what
--- the TD has measured.
+-- MNG.RD gives as MRTD of a TD in RUNNABLE the SHA-384 of what the TD has measured.
+abbrev pub AreMrtdsDigests : Machine → World → Type 0
+AreMrtdsDigests m w = (tdr : ℕ) → w.tds.ops tdr ≡ Runnable → (read_td m tdr Mrtd).value w ≡ Digest (sha384 (w.tds.measured tdr))
+
+abbrev pub MrtdsAreKept : Type 0
+MrtdsAreKept = IsKept (λ o s. AreMrtdsDigests o.machine s.world)
+
 abbrev pub EveryMrtdIsTheDigest : Type 0
-EveryMrtdIsTheDigest = (o : Opening) (words_to_tell : Option (List ℕ)) (schedule : List ℕ) (tdr : ℕ) → let w = (reached o words_to_tell schedule).world in
-    w.tds.ops tdr ≡ Runnable → (read_td o.machine tdr Mrtd).value w ≡ Digest (sha384 (w.tds.measured tdr))
+EveryMrtdIsTheDigest = HoldsInRuns (λ o s. AreMrtdsDigests o.machine s.world)
 
 -- what TDs have measured after an event of a processor with these lines left: after the act of its call what that call
 -- leaves measured, and after any other event what they had
@@ -206,11 +238,15 @@ PagesHaveOneUse = (o : Opening) (me : ℕ) (c : Call) (w : World) (p : ℕ)
 abbrev pub memory_of : Entry → (ℕ → ℕ → ℕ) → Option (ℕ → ℕ)
 memory_of e words = if is_free e.state then None else Some (words e.page)
 
--- Guest memory over runs: what the guest of a TD that is alive knows of its private page, from its own events, is what
--- the page holds.
+-- Guest memory: what the guest of a TD that is alive knows of its private page, from its own events, is what the page holds.
+abbrev pub ArePagesKnown : World → Type 0
+ArePagesKnown w = (t n : ℕ) → IsAlive w.pages w.tds t → w.hidden.memories t n ≡ memory_of (w.tds.entries t 0 n) w.words
+
+abbrev pub MemoriesAreKept : Type 0
+MemoriesAreKept = IsKept (IsLawfulWith ArePagesKnown)
+
 abbrev pub GuestsKnowTheirPages : Type 0
-GuestsKnowTheirPages = (o : Opening) (words_to_tell : Option (List ℕ)) (schedule : List ℕ) (t n : ℕ) → let w = (reached o words_to_tell schedule).world in
-    IsAlive w.pages w.tds t → w.hidden.memories t n ≡ memory_of (w.tds.entries t 0 n) w.words
+GuestsKnowTheirPages = HoldsInRuns (λ o s. ArePagesKnown s.world)
 
 -- Told words: the lists of all processors are merged into one, which grows by the words that one of them grows by.
 pub data AreMerged : (ℕ → List ℕ) → List ℕ → Type 0 where

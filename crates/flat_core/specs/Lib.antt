@@ -16,6 +16,7 @@ pub mod KeyRows
 pub mod VpRows
 pub mod MemRows
 pub mod Table
+pub mod Tries
 pub mod Guest
 pub mod Event
 pub mod Run
@@ -24,6 +25,7 @@ pub mod Exports
 pub mod Lawful
 pub mod Alike
 pub mod Laws
+pub mod Order
 pub mod Bounds
 pub mod Replies
 pub mod Worked

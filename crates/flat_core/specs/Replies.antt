@@ -4,7 +4,7 @@ use Rattle.td_words.specs.declared.replies.Reply.{Reply}
 use Rattle.flat_core.specs.Opening.{Opening}
 use Rattle.flat_core.specs.Event.{State, calls_of, event}
 use Rattle.flat_core.specs.Run.{run_telling}
-use Rattle.flat_core.specs.Laws.{reached}
+use Rattle.flat_core.specs.Laws.{IsKept, HoldsInRuns}
 
 -- the same replies, or one more at their end
 abbrev pub IsOneMore : List Reply → List Reply → Type 0
@@ -14,10 +14,15 @@ IsOneMore before after = (after ≡ before) ⊎ ((r : Reply) × (after ≡ befor
 abbrev pub RepliesComeOneByOne : Type 0
 RepliesComeOneByOne = (o : Opening) (s : State) (p : ℕ) → IsOneMore (s.lps p).replies ((event o s p).lps p).replies
 
--- after any schedule a processor has no more replies than it has lines
+-- a processor has no more replies than it has lines
+abbrev pub AreToLines : Opening → State → Type 0
+AreToLines o s = (p : ℕ) → length (s.lps p).replies ≤ length (calls_of o.calls p)
+
+abbrev pub RepliesAreKept : Type 0
+RepliesAreKept = IsKept AreToLines
+
 abbrev pub RepliesAreToLines : Type 0
-RepliesAreToLines = (o : Opening) (words_to_tell : Option (List ℕ)) (schedule : List ℕ) (p : ℕ)
-    → length ((reached o words_to_tell schedule).lps p).replies ≤ length (calls_of o.calls p)
+RepliesAreToLines = HoldsInRuns AreToLines
 
 -- at the end of a run it has as many. As `RunsEnd` this asks nothing of a guest: no call that is built enters one
 abbrev pub EveryLineIsAnswered : Type 0

@@ -57,9 +57,13 @@ allows s Write = may_write s
 abbrev pub levels_above : ℕ → List ℕ
 levels_above level = filter (λ l. nat_lt level l) (3 ∷ 2 ∷ 1 ∷ [])
 
--- a host's walk reaches the entry of a level where each entry above it is NL_MAPPED
+-- the entry of a GPA at a level is NL_MAPPED
+abbrev pub is_passed : World → (tdr gpa level : ℕ) → Bool
+is_passed w t gpa l = same_state (entry_at w t l gpa).state entry.NlMapped
+
+-- a host's walk reaches the entry of a level where each entry above it is passed
 abbrev pub walk : World → ℕ → ℕ → ℕ → List (Item Reply)
-walk w t gpa level = map (λ l. needs (same_state (entry_at w t l gpa).state entry.NlMapped) (EptWalkFailed l)) (levels_above level)
+walk w t gpa level = map (λ l. needs (is_passed w t gpa l) (EptWalkFailed l)) (levels_above level)
 
 -- the entry's state is one of these; it names a page in every state but FREE
 abbrev pub state_in : World → ℕ → ℕ → ℕ → List EntryState → Item Reply

@@ -1,9 +1,11 @@
 //! Laws of the flat machine, as contracts of functions that do nothing.
 
 ghost use Rattle.flat_core.specs.Worked.{Examples};
-ghost use Rattle.flat_core.specs.Bounds.{RowsTryFew, EventsRunOut, RunsEnd};
-ghost use Rattle.flat_core.specs.Replies.{RepliesComeOneByOne, RepliesAreToLines, EveryLineIsAnswered};
-ghost use Rattle.flat_core.specs.Laws.{RowsKeep, RowsAreBlind, MrtdIsTheDigest, RecordsAreMeasured, EveryWorldIsLawful, EveryPageIsOwned, ExportedAreCounted, OthersStay, QuietEventsStay, NoWordsToTell, LocksExclude, TreeIsNeverBusy, BlindRunsPrintTheSame, BlindRunsMakeTheSameBundles, AgreeingRunsShowTheSame, RefusedCallsStay, QuietCallsKeep, RefusalsLeaveTheirReply, RowsTryTheSame, CallsHaveTheirEvents, EventsKeepLawful, EveryMrtdIsTheDigest, EventsMeasure, PagesHaveOneUse, GuestsKnowTheirPages, ToldAreMerged, OperationsTellBoth};
+ghost use Rattle.flat_core.specs.Tries.{RowsTryTheirLists};
+ghost use Rattle.flat_core.specs.Bounds.{RowsTryFew, TimelinessIsKept, TimelyEventsRunOut, EventsRunOut, RunsEnd};
+ghost use Rattle.flat_core.specs.Order.{OrderIsKept, TreeIsFreeInOrder, TreeIsNeverBusy};
+ghost use Rattle.flat_core.specs.Replies.{RepliesComeOneByOne, RepliesAreKept, RepliesAreToLines, EveryLineIsAnswered};
+ghost use Rattle.flat_core.specs.Laws.{RowsKeep, RowsAreBlind, MrtdIsTheDigest, RecordsAreMeasured, LawfulIsKept, EveryWorldIsLawful, LawfulPagesAreOwned, OwnersAreKept, EveryPageIsOwned, LawfulWorldsAreCounted, CountsAreKept, ExportedAreCounted, OthersStay, QuietEventsStay, NoWordsToTell, ExclusionIsKept, LocksExclude, BlindRunsPrintTheSame, BlindRunsMakeTheSameBundles, AgreeingRunsShowTheSame, RefusedCallsStay, QuietCallsKeep, RefusalsLeaveTheirReply, RowsTryTheSame, CallsHaveTheirEvents, EventsKeepLawful, MrtdsAreKept, EveryMrtdIsTheDigest, EventsMeasure, PagesHaveOneUse, MemoriesAreKept, GuestsKnowTheirPages, ToldAreMerged, OperationsTellBoth};
 
 /// The worked examples: replies of small runs, and how many events they take.
 pub fn worked_examples()
@@ -26,6 +28,7 @@ pub fn row_laws()
 /// in which list or entry of its TD that page stands, which pages a TD's entries name, whose each HKID
 /// is, and how many entries of a TD are dirty and how many are exported.
 pub fn lawful_law()
+    ensures kept { LawfulIsKept }
     ensures event { EventsKeepLawful }
     ensures run { EveryWorldIsLawful }
 {}
@@ -34,7 +37,9 @@ pub fn lawful_law()
 /// that their own TD owns, no page twice, and so none of the host's; and an entry of its TD names
 /// each secure EPT page and each private page of such a TD.
 pub fn ownership_law()
-    ensures { EveryPageIsOwned }
+    ensures lawful { LawfulPagesAreOwned }
+    ensures kept { OwnersAreKept }
+    ensures run { EveryPageIsOwned }
 {}
 
 /// In every world that a schedule leads to, as many entries of a TD that isn't in TD_TEARDOWN are dirty
@@ -42,7 +47,9 @@ pub fn ownership_law()
 /// entries and all first exports say together, modulo 2^64 (TD Migration Architecture, "Private Memory
 /// Migration").
 pub fn count_law()
-    ensures { ExportedAreCounted }
+    ensures lawful { LawfulWorldsAreCounted }
+    ensures kept { CountsAreKept }
+    ensures run { ExportedAreCounted }
 {}
 
 /// An event of one processor leaves the others' records alone; what is refused, tried, undone or
@@ -60,13 +67,16 @@ pub fn event_laws()
 
 /// Nobody holds a lock beside one who holds it alone, after any schedule.
 pub fn lock_law()
-    ensures { LocksExclude }
+    ensures kept { ExclusionIsKept }
+    ensures run { LocksExclude }
 {}
 
 /// The tree lock of a TD can't be busy for a processor that holds the TD's op state lock alone: no
 /// other holds it or is being refused it, and a try of it is granted in either mode.
 pub fn tree_lock_law()
-    ensures { TreeIsNeverBusy }
+    ensures kept { OrderIsKept }
+    ensures free { TreeIsFreeInOrder }
+    ensures run { TreeIsNeverBusy }
 {}
 
 /// Every call tries as many locks as the leaf table says at most, and ends after a number of its own
@@ -75,12 +85,16 @@ pub fn tree_lock_law()
 /// An event brings one reply or none; after any schedule a processor has no more replies than lines,
 /// and at the end of a run it has exactly one for each.
 pub fn end_laws()
+    ensures lists { RowsTryTheirLists }
     ensures tries { RowsTryFew }
+    ensures kept { TimelinessIsKept }
+    ensures timely { TimelyEventsRunOut }
     ensures runs_out { EventsRunOut }
     ensures runs_end { RunsEnd }
     ensures same_tries { RowsTryTheSame }
     ensures events { CallsHaveTheirEvents }
     ensures one_reply { RepliesComeOneByOne }
+    ensures few_kept { RepliesAreKept }
     ensures no_more { RepliesAreToLines }
     ensures every_line { EveryLineIsAnswered }
 {}
@@ -97,13 +111,15 @@ pub fn two_world_law()
 /// After any schedule, MRTD of a TD in RUNNABLE is read as the digest of what it has measured, and no
 /// event but the act of a call changes what TDs have measured.
 pub fn measurement_laws()
+    ensures kept { MrtdsAreKept }
     ensures mrtd { EveryMrtdIsTheDigest }
     ensures events { EventsMeasure }
 {}
 
 /// After any schedule, what the guest of a TD knows of a private page is what the page holds.
 pub fn memory_law()
-    ensures { GuestsKnowTheirPages }
+    ensures kept { MemoriesAreKept }
+    ensures run { GuestsKnowTheirPages }
 {}
 
 /// After any schedule, the words that guests told, in the order of the events, are a merge of those

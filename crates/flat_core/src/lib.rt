@@ -11,7 +11,7 @@ mod laws;
 mod rights;
 
 pub use laws::{
-    end_laws, event_laws, lawful_law, lock_law, measurement_laws, memory_law, ownership_law,
-    row_laws, told_law, tree_lock_law, two_world_law, worked_examples,
+    count_law, end_laws, event_laws, lawful_law, lock_law, measurement_laws, memory_law,
+    ownership_law, row_laws, told_law, tree_lock_law, two_world_law, worked_examples,
 };
 pub use rights::{allows, tracked};

@@ -1,26 +1,22 @@
 -- After the act of each row a TD whose locks stood goes on to stand, but where the row holds P of its TDR page alone.
-use Rattle.std.proofs.Common.{◌≡◌, ◌⊎◌, refl, sym, ◌∙◌, ap, inl, inr, ℕ, Bool, true, false, not, ◌==◌, List, [], ◌∷◌, ◌++◌, map}
-use Rattle.std.specs.Prelude.{filter, nat_lt}
+use Rattle.std.proofs.Common.{◌≡◌, ◌⊎◌, refl, sym, ◌∙◌, ap, inl, inr, ℕ, Bool, true, false, not, ◌==◌}
 use Rattle.std.proofs.lemmas.Bool.{eqb-true, eqb-false, ne_eqb, and_parts}
 use Rattle.td_words.specs.declared.names.Mode.TheVariants.{Exclusive}
 use Rattle.td_words.specs.declared.names.PageKind.TheVariants as kind
-use Rattle.td_words.specs.declared.names.EntryState.TheVariants as entry
 use Rattle.td_words.specs.declared.calls.Call.{Call}
 use Rattle.td_words.specs.declared.calls.Call.TheVariants as call
-use Rattle.td_words.specs.declared.replies.Reply.{Reply}
-use Rattle.td_words.specs.declared.replies.Reply.TheVariants.{Refused}
-use Rattle.td_words.specs.declared.refusals.Status.TheVariants.{EptWalkFailed}
 use Rattle.flat_core.specs.World.{World}
 use Rattle.flat_core.specs.Opening.{Opening}
-use Rattle.flat_core.specs.Row.{Item, Check, Passes}
+use Rattle.flat_core.specs.Row.{Passes}
 use Rattle.flat_core.specs.Conditions.{is_host}
 use Rattle.flat_core.specs.KeyRows.{reclaim_conditions}
-use Rattle.flat_core.specs.Tree.{entry_at, same_state}
 use Rattle.flat_core.specs.Lawful.{Lawful}
 use Rattle.flat_core.specs.Table.{row_of}
+use Rattle.flat_core.proofs.Maps.{behind_walk}
 use Rattle.flat_core.proofs.Tests.{by_test, host_kind}
 use Rattle.lock_words.specs.LockWords.{TdStands}
-use Rattle.lock_words.proofs.Tried.{first_try, held_as}
+use Rattle.lock_words.specs.Reached.{held_as}
+use Rattle.lock_words.proofs.Tried.{first_try}
 
 -- an act that leaves the TD's page, life and TDCX pages
 same-td : (w w' : World) (t : ℕ) → TdStands w t → w'.pages.kinds t ≡ w.pages.kinds t → w'.tds.lives t ≡ w.tds.lives t → w'.tds.controls t ≡ w.tds.controls t → TdStands w' t
@@ -33,13 +29,6 @@ apart-host w t p st host = ne_eqb t p (λ e. let bad : kind.Tdr ≡ kind.Nda = s
 -- nor is a page that another TD owns
 apart-owned : (o : Opening) (w : World) (t u p : ℕ) → Lawful o.machine w → TdStands w t → (t == u) ≡ false → w.pages.owners p ≡ u → (t == p) ≡ false
 apart-owned o w t u p la st n owned = ne_eqb t p (λ e. eqb-false t u n (sym (la.pages.tdr t st.alive.kind) ∙ (ap w.pages.owners e ∙ owned)))
-
-behind-walk : (b : ℕ → Bool) (r : ℕ → Reply) (ls : List ℕ) (items : List (Item Reply)) → Passes (map (λ l. Check (b l) (r l)) ls ++ items) → Passes items
-behind-walk b r [] items ps = ps
-behind-walk b r (l ∷ ls) items ps = behind-walk b r ls items ps.1
-
-abbrev levels-above : ℕ → List ℕ
-levels-above level = filter (λ l. nat_lt level l) (3 ∷ 2 ∷ 1 ∷ [])
 
 same-page : (t tdr : ℕ) → (t == tdr) ≡ true → held_as tdr Exclusive ≡ held_as t Exclusive
 same-page t tdr y = ap (λ (x : ℕ). held_as x Exclusive) (sym (eqb-true t tdr y))
@@ -60,8 +49,7 @@ acts-go-on o me (call.VpCreate tdr page) w t la ps st =
     let n : (t == page) ≡ false = apart-host w t page st ps.1.1.1.1.1.1.1.1.0 in
     inl (same-td w _ t st (rw n refl) refl refl)
 acts-go-on o me (call.MemSeptAdd tdr gpa level page) w t la ps st =
-    let passes : ℕ → Bool = λ l. same_state (entry_at w tdr l gpa).state entry.NlMapped in
-    let behind = behind-walk passes (λ l. Refused (EptWalkFailed l)) (levels-above level) _ ps.1.1.1.1.1.1.1.1.1.1 in
+    let behind = behind_walk w tdr gpa level _ ps.1.1.1.1.1.1.1.1.1.1 in
     let n : (t == page) ≡ false = apart-host w t page st behind.1.0 in
     inl (same-td w _ t st (rw n refl) refl refl)
 acts-go-on o me (call.MemPageAdd tdr gpa page source) w t la ps st =

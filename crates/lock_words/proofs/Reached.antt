@@ -1,5 +1,5 @@
 -- In every state that a run reaches, locks of a TD are held over P of its TDR page, and the locks that are held stand.
-use Rattle.std.proofs.Common.{◌≡◌, refl, sym, ◌∙◌, ap, subst, inl, inr, ℕ, ◌<◌, Bool, true, false, ◌==◌, ◌&&◌, ◌||◌, List, [], ◌∷◌, ◌++◌, length, Option, Some, None}
+use Rattle.std.proofs.Common.{◌≡◌, refl, sym, ◌∙◌, ap, subst, inl, inr, ℕ, ◌<◌, Bool, true, false, ◌==◌, ◌&&◌, ◌||◌, List, [], ◌∷◌, ◌++◌, length, Option, Some, None, arith}
 use Rattle.std.specs.List.{list_any}
 use Rattle.std.proofs.lemmas.Bool.{eq-eqb, eqb-true, eqb-false, ne_eqb}
 use Rattle.td_words.specs.declared.names.Mode.{Mode}
@@ -10,63 +10,30 @@ use Rattle.td_words.specs.declared.replies.Reply.TheVariants.{Done}
 use Rattle.flat_core.specs.World.{World}
 use Rattle.flat_core.specs.Processor.{LockId, OfPage, OfOp, OfTree, OfEpoch, OfRtmr, OfKeys, Held, Phase, Trying, Undoing, Answered, Guest, Entering, Lp}
 use Rattle.flat_core.specs.Locks.{same_lock, is_alone}
-use Rattle.flat_core.specs.Opening.{Opening}
+use Rattle.flat_core.specs.Opening.{Opening, Incoming}
 use Rattle.flat_core.specs.Row.{Item, Row, Move, Attempts, Undoes, Refuses, Succeeds, Releases, Rests, next, next_in}
 use Rattle.flat_core.specs.Table.{row_of}
 use Rattle.flat_core.specs.Lawful.{Lawful}
-use Rattle.flat_core.specs.Event.{State, Event, OfCall, start, next_event, event_for, line_event, lines_left, event, after_event, call_world, lp_after, call_lp, call_busy, succeeded, settle, settled, is_granted}
-use Rattle.flat_core.specs.Run.{play}
-use Rattle.flat_core.specs.Laws.{EveryWorldIsLawful, LocksExclude}
+use Rattle.flat_core.specs.Event.{State, Event, OfCall, next_event, event_for, line_event, lines_left, calls_of, event, after_event, call_world, lp_after, call_lp, call_busy, succeeded, settle, settled, is_granted}
+use Rattle.flat_core.specs.Tries.{tries_of}
+use Rattle.flat_core.specs.Laws.{reached, with_bundles, IsExclusive}
 use Rattle.flat_core.proofs.Tests.{by_test}
-use Rattle.flat_core.proofs.Induction.{play_keeps, play_append}
-use Rattle.flat_core.proofs.Ends.{next_is, row_enters}
+use Rattle.flat_core.proofs.Induction.{event_keeps, in_runs}
+use Rattle.flat_core.proofs.Kept.{lawful_kept}
+use Rattle.flat_core.proofs.LockLaw.{exclusion_kept}
+use Rattle.flat_core.proofs.Ends.{next_is, row_enters, below_calls}
 use Rattle.flat_core.proofs.Refused.{after_here}
 use Rattle.word_rules.specs.Guards.{Locked}
-use Rattle.lock_words.specs.Grips.{holds, operation_locks, HoldsTdr, HoldTdrs, UndoTdr, GuestTdrs, TdrsAreHeld, IsExclusive}
-use Rattle.lock_words.specs.LockWords.{TdStands, Stands, HeldStand, UndoStands, GuestStands, LocksStand, RunsFollow}
-use Rattle.lock_words.specs.Reached.{EveryTdrIsHeld, EveryLockStands, EveryTryStands}
+use Rattle.lock_words.specs.Grips.{holds, operation_locks, HoldsTdr, HoldTdrs, UndoTdr, GuestTdrs}
+use Rattle.lock_words.specs.LockWords.{TdStands, Stands, HeldStand, UndoStands, GuestStands}
+use Rattle.lock_words.specs.Reached.{oldest, first_tried, held_as, IsOver, AreOver, UndoOver, IsFirst, IsFirstOf, IsOverTdrs, StandIn, AreSound, SoundnessIsKept, SoundStand, SoundLocksStand, EveryTdrIsHeld, EveryLockStands, EveryTryStands}
 use Rattle.lock_words.proofs.Apart.{grips-apart}
-use Rattle.lock_words.proofs.Tried.{first_try, held_as, IsOver, first_at, rows-fit, first-same, next-fits, next-first, none-tried, all-pass}
+use Rattle.lock_words.proofs.Tried.{first_try, first_at, rows-fit, first-listed, first-same, next-fits, next-first, none-tried, all-pass}
 use Rattle.lock_words.proofs.Acted.{acts-go-on}
 
--- the lock that was taken first
-abbrev oldest : List Held → Option Held
-oldest [] = None
-oldest (h ∷ []) = Some h
-oldest (h ∷ x ∷ hs) = oldest (x ∷ hs)
-
--- locks of a TD are taken over P of its TDR page, which was taken first and is shared
-abbrev AreOver : List Held → Type 0
-AreOver [] = Unit {0}
-AreOver (h ∷ hs) = IsOver (oldest hs) h.lock × AreOver hs
-
-abbrev UndoOver : Phase Reply → List Held → Type 0
-UndoOver Trying hs = Unit {0}
-UndoOver (Undoing l) hs = IsOver (oldest hs) l
-UndoOver (Answered r) hs = Unit {0}
-
--- on its way a call holds its row's first try below the others
-abbrev IsFirst : Option Held → List Held → Type 0
-IsFirst first [] = Unit {0}
-IsFirst first (h ∷ hs) = oldest (h ∷ hs) ≡ first
-
-abbrev FirstOf : Opening → ℕ → List Call → List Held → Type 0
-FirstOf o p [] hs = Unit {0}
-FirstOf o p (c ∷ cs) hs = (w : World) → IsFirst (first_try ((row_of o p c).items w)) hs
-
--- a processor's locks; and in a world they stand
-record IsInOrder (o : Opening) (p : ℕ) (lp : Lp) : Type 0 where
-  guest : lp.guest ≡ None
-  over : AreOver lp.call.held
-  undo : UndoOver lp.call.phase lp.call.held
-  first : lp.call.phase ≡ Trying → FirstOf o p (lines_left o p lp) lp.call.held
-
-record StandIn (w : World) (lp : Lp) : Type 0 where
-  held : HeldStand w lp.call.held
-  undo : UndoStands w lp.call.phase
-
-record IsSound (o : Opening) (p : ℕ) (w : World) (lp : Lp) : Type 0 where
-  order : IsInOrder o p lp
+-- a processor's locks are in order, and stand in that world
+record IsSound (calls : List Call) (w : World) (lp : Lp) : Type 0 where
+  order : IsOverTdrs calls lp
   stand : StandIn w lp
 
 -- what the oldest lock is, one of them is
@@ -135,31 +102,31 @@ undo-stands w w' Trying hs k h st = tt
 undo-stands w w' (Undoing l) hs k h st = lock-stands w w' hs l k h st
 undo-stands w w' (Answered r) hs k h st = tt
 
-all-stand : (o : Opening) (p : ℕ) (w w' : World) (lp : Lp) → KeepsOver w w' lp.call.held → IsInOrder o p lp → StandIn w lp → StandIn w' lp
-all-stand o p w w' lp k ordered st = record { held = held-stand w w' lp.call.held k ordered.over st.held; undo = undo-stands w w' lp.call.phase lp.call.held k ordered.undo st.undo }
+all-stand : (calls : List Call) (w w' : World) (lp : Lp) → KeepsOver w w' lp.call.held → IsOverTdrs calls lp → StandIn w lp → StandIn w' lp
+all-stand calls w w' lp k ordered st = record { held = held-stand w w' lp.call.held k ordered.over st.held; undo = undo-stands w w' lp.call.phase lp.call.held k ordered.undo st.undo }
 
 -- the world stays but where a call's act comes
-call-stands : (o : Opening) (p : ℕ) (w : World) (row : Row) (mv : Move Reply) (lp : Lp) → (mv ≡ Succeeds → KeepsOver w (row.act w) lp.call.held) → IsInOrder o p lp → StandIn w lp → StandIn (call_world row mv w) lp
-call-stands o p w row Succeeds lp k ordered st = all-stand o p w (row.act w) lp (k refl) ordered st
-call-stands o p w row (Attempts l m) lp k ordered st = st
-call-stands o p w row (Undoes l) lp k ordered st = st
-call-stands o p w row (Refuses r) lp k ordered st = st
-call-stands o p w row (Releases h) lp k ordered st = st
-call-stands o p w row Rests lp k ordered st = st
+call-stands : (calls : List Call) (w : World) (row : Row) (mv : Move Reply) (lp : Lp) → (mv ≡ Succeeds → KeepsOver w (row.act w) lp.call.held) → IsOverTdrs calls lp → StandIn w lp → StandIn (call_world row mv w) lp
+call-stands calls w row Succeeds lp k ordered st = all-stand calls w (row.act w) lp (k refl) ordered st
+call-stands calls w row (Attempts l m) lp k ordered st = st
+call-stands calls w row (Undoes l) lp k ordered st = st
+call-stands calls w row (Refuses r) lp k ordered st = st
+call-stands calls w row (Releases h) lp k ordered st = st
+call-stands calls w row Rests lp k ordered st = st
 
 -- the first try and those after it
 
-first-none : (o : Opening) (p : ℕ) (cs : List Call) → FirstOf o p cs []
-first-none o p [] = tt
-first-none o p (c ∷ cs) = λ w. tt
+first-none : (calls : List Call) → IsFirstOf calls []
+first-none [] = tt
+first-none (c ∷ cs) = λ w. tt
 
 first-below : (items : List (Item Reply)) (hs : List Held) → IsFirst (first_try items) hs → first_at None (length hs) items ≡ oldest hs
 first-below items [] f = refl
 first-below items (h ∷ hs) f = sym f
 
-first-with : (o : Opening) (p : ℕ) (c : Call) (w v : World) (l : LockId) (m : Mode) (hs : List Held) → next ((row_of o p c).items w) (length hs) ≡ Attempts l m → IsFirst (first_try ((row_of o p c).items v)) hs
-    → IsFirst (first_try ((row_of o p c).items v)) (record { lock = l; mode = m } ∷ hs)
-first-with o p c w v l m [] e f = sym (first-same o p c v w ∙ next-first ((row_of o p c).items w) l m e)
+first-with : (o : Opening) (p : ℕ) (c : Call) (w v : World) (l : LockId) (m : Mode) (hs : List Held) → next ((row_of o p c).items w) (length hs) ≡ Attempts l m → IsFirst (first_tried (tries_of c v)) hs
+    → IsFirst (first_tried (tries_of c v)) (record { lock = l; mode = m } ∷ hs)
+first-with o p c w v l m [] e f = sym (first-same c v w ∙ (first-listed o p c w ∙ next-first ((row_of o p c).items w) l m e))
 first-with o p c w v l m (h ∷ hs) e f = f
 
 first-is : (items : List (Item Reply)) (hs : List Held) → IsFirst (first_try items) hs → next items (length hs) ≡ Succeeds → oldest hs ≡ first_try items
@@ -191,10 +158,13 @@ module _ (o : Opening) (p : ℕ) (c : Call) (cs : List Call) (w : World) (lawful
   abbrev row : Row
   row = row_of o p c
 
+  abbrev calls : List Call
+  calls = calls_of o.calls p
+
   -- an answered call goes on, or is done
-  answered : (w' : World) (lp : Lp) (r : Reply) (hs : List Held) → lp.guest ≡ None → AreOver hs → HeldStand w' hs → IsSound o p w' (settle (Answered r) hs (record lp { call = record { phase = Answered r; held = hs } }))
+  answered : (w' : World) (lp : Lp) (r : Reply) (hs : List Held) → lp.guest ≡ None → AreOver hs → HeldStand w' hs → IsSound calls w' (settle (Answered r) hs (record lp { call = record { phase = Answered r; held = hs } }))
   answered w' lp r [] g over st = record {
-    order = record { guest = g; over = tt; undo = tt; first = λ e. first-none o p (lines_left o p (record lp { replies = lp.replies ++ r ∷ [] })) };
+    order = record { guest = g; over = tt; undo = tt; first = λ e. first-none (lines_left o p (record lp { replies = lp.replies ++ r ∷ [] })) };
     stand = record { held = tt; undo = tt };
   }
   answered w' lp r (h ∷ hs) g over st = record {
@@ -210,30 +180,33 @@ module _ (o : Opening) (p : ℕ) (c : Call) (cs : List Call) (w : World) (lawful
         | inr alone ↦ absurd (not-both t (sym is ∙ (first-is (row.items w) hs f e ∙ alone)))
       ]
 
-  module _ (lp : Lp) (lines : lines_left o p lp ≡ c ∷ cs) (ordered : IsInOrder o p lp) (stand : StandIn w lp) where
+  module _ (lp : Lp) (lines : lines_left o p lp ≡ c ∷ cs) (ordered : IsOverTdrs calls lp) (stand : StandIn w lp) where
     abbrev held : List Held
     held = lp.call.held
 
-    on-first : lp.call.phase ≡ Trying → (v : World) → IsFirst (first_try ((row_of o p c).items v)) held
-    on-first t = subst (λ (x : List Call). FirstOf o p x held) lines (ordered.first t)
+    on-first : lp.call.phase ≡ Trying → (v : World) → IsFirst (first_tried (tries_of c v)) held
+    on-first t = subst (λ (x : List Call). IsFirstOf x held) lines (ordered.first t)
+
+    first-here : lp.call.phase ≡ Trying → IsFirst (first_try (row.items w)) held
+    first-here t = subst (λ (x : Option Held). IsFirst x held) (first-listed o p c w) (on-first t w)
 
     -- a try
-    attempted : (b : Bool) (l : LockId) (m : Mode) → lp.call.phase ≡ Trying → next (row.items w) (length held) ≡ Attempts l m → IsSound o p w (settled (call_lp w b row (Attempts l m) lp))
+    attempted : (b : Bool) (l : LockId) (m : Mode) → lp.call.phase ≡ Trying → next (row.items w) (length held) ≡ Attempts l m → IsSound calls w (settled (call_lp w b row (Attempts l m) lp))
     attempted b l m t e = by b m refl
       where
         fits : IsOver (oldest held) l × Stands w l
         fits =
-            subst (λ (x : Option Held). IsOver x l × Stands w l) (first-below (row.items w) held (on-first t w))
+            subst (λ (x : Option Held). IsOver x l × Stands w l) (first-below (row.items w) held (first-here t))
             (next-fits w None (row.items w) (length held) l m (rows-fit o p c w) e)
 
-        by : (b : Bool) (n : Mode) → m ≡ n → IsSound o p w (settled (call_lp w b row (Attempts l n) lp))
+        by : (b : Bool) (n : Mode) → m ≡ n → IsSound calls w (settled (call_lp w b row (Attempts l n) lp))
         by true n same = record {
           order = record {
             guest = ordered.guest;
             over = (fits.0, ordered.over);
             undo = tt;
-            first = λ x. subst (λ (y : List Call). FirstOf o p y (record { lock = l; mode = n } ∷ held)) (sym lines)
-                (λ v. subst (λ (y : Mode). IsFirst (first_try ((row_of o p c).items v)) (record { lock = l; mode = y } ∷ held)) same (first-with o p c w v l m held e (on-first t v)));
+            first = λ x. subst (λ (y : List Call). IsFirstOf y (record { lock = l; mode = n } ∷ held)) (sym lines)
+                (λ v. subst (λ (y : Mode). IsFirst (first_tried (tries_of c v)) (record { lock = l; mode = y } ∷ held)) same (first-with o p c w v l m held e (on-first t v)));
           };
           stand = record { held = (fits.1, stand.held); undo = tt };
         }
@@ -244,14 +217,14 @@ module _ (o : Opening) (p : ℕ) (c : Call) (cs : List Call) (w : World) (lawful
         by false Exclusive same = answered w lp (call_busy _) held ordered.guest ordered.over stand.held
 
     -- its act
-    acted : (b : Bool) → lp.call.phase ≡ Trying → next (row.items w) (length held) ≡ Succeeds → IsSound o p (row.act w) (settled (call_lp w b row Succeeds lp))
+    acted : (b : Bool) → lp.call.phase ≡ Trying → next (row.items w) (length held) ≡ Succeeds → IsSound calls (row.act w) (settled (call_lp w b row Succeeds lp))
     acted b t e =
-        subst (λ (x : Option Entering). IsSound o p (row.act w) (settled (succeeded w row x lp))) (sym (row_enters o p c))
+        subst (λ (x : Option Entering). IsSound calls (row.act w) (settled (succeeded w row x lp))) (sym (row_enters o p c))
         (answered (row.act w) (record lp { cached = row.cached w lp.cached }) (Done (row.value w)) held ordered.guest ordered.over
-        (held-stand w (row.act w) held (act-keeps held (on-first t w) e) ordered.over stand.held))
+        (held-stand w (row.act w) held (act-keeps held (first-here t) e) ordered.over stand.held))
 
     abbrev Made : (Move Reply → Bool) → Move Reply → Type 0
-    Made b mv = IsSound o p (call_world row mv w) (settled (call_lp w (b mv) row mv lp))
+    Made b mv = IsSound calls (call_world row mv w) (settled (call_lp w (b mv) row mv lp))
 
     by-phase : (b : Move Reply → Bool) (phase : Phase Reply) (hs : List Held) → lp.call.phase ≡ phase → held ≡ hs → Made b (next_in (row.items w) phase hs)
     by-phase b Trying hs t same =
@@ -262,7 +235,7 @@ module _ (o : Opening) (p : ℕ) (c : Call) (cs : List Call) (w : World) (lawful
         refl
     by-phase b (Undoing l) hs t same = answered w lp (call_busy _) held ordered.guest ordered.over stand.held
     by-phase b (Answered r) [] t same =
-        subst (λ (x : Phase Reply). IsSound o p w (settle x held lp)) (sym t) (subst (λ (x : List Held). IsSound o p w (settle (Answered r) x lp)) (sym same) (answered w lp r [] ordered.guest tt tt))
+        subst (λ (x : Phase Reply). IsSound calls w (settle x held lp)) (sym t) (subst (λ (x : List Held). IsSound calls w (settle (Answered r) x lp)) (sym same) (answered w lp r [] ordered.guest tt tt))
     by-phase b (Answered r) (h ∷ hs) t same =
         let over : AreOver (h ∷ hs) = subst (λ (x : List Held). AreOver x) same ordered.over in
         let st : HeldStand w (h ∷ hs) = subst (λ (x : List Held). HeldStand w x) same stand.held in
@@ -271,16 +244,10 @@ module _ (o : Opening) (p : ℕ) (c : Call) (cs : List Call) (w : World) (lawful
         released : AreOver (h ∷ hs) → HeldStand w (h ∷ hs) → Made b (Releases h)
         released over st = rw (t, same) (answered w lp r hs ordered.guest over.1 st.1)
 
--- all processors together, in a state that a run reaches
-record AreSound (o : Opening) (ws : Option (List ℕ)) (s : State) : Type 0 where
-  schedule : List ℕ
-  reached : s ≡ play o schedule (start o ws)
-  order : (q : ℕ) → IsInOrder o q (s.lps q)
-  stand : (q : ℕ) → q < s.lp_count → StandIn s.world (s.lps q)
-
-module _ (lawful : EveryWorldIsLawful) (exclude : LocksExclude) (runs : RunsFollow) (o : Opening) (ws : Option (List ℕ)) where
+-- all processors together
+module _ (o : Opening) where
   -- an event of a call
-  module _ (s : State) (p : ℕ) (c : Call) (cs : List Call) (lines : lines_left o p (s.lps p) ≡ c ∷ cs) (sound : AreSound o ws s) where
+  module _ (s : State) (p : ℕ) (c : Call) (cs : List Call) (lines : lines_left o p (s.lps p) ≡ c ∷ cs) (sound : AreSound o s) where
     abbrev move : Move Reply
     move = next_in ((row_of o p c).items s.world) (s.lps p).call.phase (s.lps p).call.held
 
@@ -290,24 +257,18 @@ module _ (lawful : EveryWorldIsLawful) (exclude : LocksExclude) (runs : RunsFoll
     abbrev after : State
     after = after_event p s (Some its_event)
 
-    lawful-now : Lawful o.machine s.world
-    lawful-now = subst (λ (x : State). Lawful o.machine x.world) (sym sound.reached) (lawful o ws sound.schedule)
-
-    exclusive-now : IsExclusive s
-    exclusive-now = subst (λ (x : State). IsExclusive x) (sym sound.reached) (exclude o ws sound.schedule)
-
     is-next : next_event o s p ≡ Some its_event
     is-next = ap (event_for o s.world p (s.lps p)) lines ∙ ap (λ (g : Option Guest). Some (line_event o s.world (s.lps p) (row_of o p c) g)) (sound.order p).guest
 
-    small : p < s.lp_count
-    small = by s sound.reached is-next
-      where
-        by : (x : State) → x ≡ play o sound.schedule (start o ws) → next_event o x p ≡ Some its_event → p < x.lp_count
-        by x e n = subst (λ (y : State). p < y.lp_count) (sym e) (runs.next o ws sound.schedule p its_event (subst (λ (y : State). next_event o y p ≡ Some its_event) e n)).processor
+    same-after : event o s p ≡ after
+    same-after = ap (after_event p s) is-next
 
-    own : IsSound o p after.world (lp_after s.world (is_granted s its_event) its_event (s.lps p))
+    small : p < s.lp_count
+    small = let b = below_calls o.calls p (length (s.lps p).replies) c cs lines in omega (arith, b, sound.count)
+
+    own : IsSound (calls_of o.calls p) after.world (lp_after s.world (is_granted s its_event) its_event (s.lps p))
     own =
-        by-phase o p c cs s.world lawful-now (s.lps p) lines (sound.order p) (sound.stand p small) (λ m. is_granted s (OfCall (row_of o p c) m))
+        by-phase o p c cs s.world sound.lawful (s.lps p) lines (sound.order p) (sound.stand p small) (λ m. is_granted s (OfCall (row_of o p c) m))
         (s.lps p).call.phase (s.lps p).call.held refl refl
 
     -- where a call's act ends a TD, nobody else has a lock of it
@@ -317,23 +278,24 @@ module _ (lawful : EveryWorldIsLawful) (exclude : LocksExclude) (runs : RunsFoll
         let hs : List Held = (s.lps p).call.held in
         let way : (s.lps p).call.phase ≡ Trying = on-way items (s.lps p).call.phase hs e in
         let due : next items (length hs) ≡ Succeeds = ap (λ (x : Phase Reply). next_in items x hs) (sym way) ∙ e in
-        let first : IsFirst (first_try items) hs = subst (λ (x : List Call). FirstOf o p x hs) lines ((sound.order p).first way) s.world in
-        elim (acts-go-on o p c s.world t lawful-now (all-pass items (length hs) due) st) [
+        let first : IsFirst (first_try items) hs = first-here o p c cs s.world sound.lawful (s.lps p) lines (sound.order p) (sound.stand p small) way in
+        elim (acts-go-on o p c s.world t sound.lawful (all-pass items (length hs) due) st) [
           | inl k ↦ k
-          | inr alone ↦ absurd ((grips-apart s p q exclusive-now small below n).there.sole (Locked (OfPage t))
+          | inr alone ↦ absurd ((grips-apart s p q sound.exclusive small below n).there.sole (Locked (OfPage t))
               (any-more (λ h. is_alone h.mode && same_lock h.lock (OfPage t)) hs (operation_locks (s.lps p).guest) (oldest-any (λ h. is_alone h.mode && same_lock h.lock (OfPage t)) hs _ (first-is items hs first due ∙ alone) (eq-eqb t t refl)))
               (any-more (λ h. same_lock h.lock (OfPage t)) (s.lps q).call.held (operation_locks (s.lps q).guest) (holds-page (s.lps q).call.held t is)))
         ]
 
     other-stands : (q : ℕ) → (p == q) ≡ false → q < s.lp_count → StandIn after.world (s.lps q)
-    other-stands q n below = call-stands o q s.world (row_of o p c) move (s.lps q) (others-keep q n below) (sound.order q) (sound.stand q below)
+    other-stands q n below = call-stands (calls_of o.calls q) s.world (row_of o p c) move (s.lps q) (others-keep q n below) (sound.order q) (sound.stand q below)
 
-    after-sound : AreSound o ws after
+    after-sound : AreSound o after
     after-sound = record {
-      schedule = sound.schedule ++ p ∷ [];
-      reached = sym (ap (after_event p s) is-next) ∙ (ap (λ (x : State). event o x p) sound.reached ∙ sym (play_append o sound.schedule (p ∷ []) (start o ws)));
+      lawful = subst (λ (x : State). Lawful o.machine x.world) same-after (lawful_kept.event o o.bundles s p sound.lawful);
+      exclusive = subst IsExclusive same-after (exclusion_kept.event o o.bundles s p sound.exclusive);
+      count = sound.count;
       order = λ q. by_test (q == p)
-          (λ y. subst (λ (x : ℕ). IsInOrder o x (after.lps x)) (sym (eqb-true q p y)) (subst (λ (x : Lp). IsInOrder o p x) (sym (after_here p s its_event)) own.order))
+          (λ y. subst (λ (x : ℕ). IsOverTdrs (calls_of o.calls x) (after.lps x)) (sym (eqb-true q p y)) (subst (λ (x : Lp). IsOverTdrs (calls_of o.calls p) x) (sym (after_here p s its_event)) own.order))
           (λ n. rw n (sound.order q));
       stand = λ q below. by_test (q == p)
           (λ y. subst (λ (x : ℕ). StandIn after.world (after.lps x)) (sym (eqb-true q p y)) (subst (λ (x : Lp). StandIn after.world x) (sym (after_here p s its_event)) own.stand))
@@ -347,58 +309,65 @@ module _ (lawful : EveryWorldIsLawful) (exclude : LocksExclude) (runs : RunsFoll
         let hs : List Held = (s.lps p).call.held in
         let way : (s.lps p).call.phase ≡ Trying = trying items (s.lps p).call.phase hs l m e in
         let due : next items (length hs) ≡ Attempts l m = ap (λ (x : Phase Reply). next_in items x hs) (sym way) ∙ e in
-        let first : IsFirst (first_try items) hs = subst (λ (x : List Call). FirstOf o p x hs) lines ((sound.order p).first way) s.world in
+        let first : IsFirst (first_try items) hs = first-here o p c cs s.world sound.lawful (s.lps p) lines (sound.order p) (sound.stand p small) way in
         subst (λ (x : Option Held). IsOver x l × Stands s.world l) (first-below items hs first) (next-fits s.world None items (length hs) l m (rows-fit o p c s.world) due)
 
   -- whatever line the processor is at
-  at-line : (s : State) (p : ℕ) (e : Event) (C : Type 0) → next_event o s p ≡ Some e → AreSound o ws s
-      → ((c : Call) (cs : List Call) (lines : lines_left o p (s.lps p) ≡ c ∷ cs) → (sound : AreSound o ws s) → its_event s p c cs lines sound ≡ e → C) → C
+  at-line : (s : State) (p : ℕ) (e : Event) (C : Type 0) → next_event o s p ≡ Some e → AreSound o s
+      → ((c : Call) (cs : List Call) (lines : lines_left o p (s.lps p) ≡ c ∷ cs) → (sound : AreSound o s) → its_event s p c cs lines sound ≡ e → C) → C
   at-line s p e C next sound k = by (lines_left o p (s.lps p)) refl
     where
       by : (x : List Call) → lines_left o p (s.lps p) ≡ x → C
       by [] lines = (let none : event_for o s.world p (s.lps p) [] ≡ Some e = ap (event_for o s.world p (s.lps p)) (sym lines) ∙ next in cc)
       by (c ∷ cs) lines = (let same : Some (its_event s p c cs lines sound) ≡ Some e = sym (is-next s p c cs lines sound) ∙ next in k c cs lines sound cc)
 
-  step : (s : State) (p : ℕ) (e : Event) → next_event o s p ≡ Some e → AreSound o ws s → AreSound o ws (after_event p s (Some e))
-  step s p e next sound = at-line s p e (AreSound o ws (after_event p s (Some e))) next sound
-      (λ c cs lines sound is. subst (λ (x : Event). AreSound o ws (after_event p s (Some x))) is (after-sound s p c cs lines sound))
+  step : (s : State) (p : ℕ) (e : Event) → next_event o s p ≡ Some e → AreSound o s → AreSound o (after_event p s (Some e))
+  step s p e next sound = at-line s p e (AreSound o (after_event p s (Some e))) next sound
+      (λ c cs lines sound is. subst (λ (x : Event). AreSound o (after_event p s (Some x))) is (after-sound s p c cs lines sound))
 
-  all-sound : (schedule : List ℕ) → AreSound o ws (play o schedule (start o ws))
-  all-sound schedule = play_keeps o (AreSound o ws) step schedule (start o ws) (record {
-    schedule = [];
-    reached = refl;
-    order = λ q. record { guest = refl; over = tt; undo = tt; first = λ e. first-none o q (lines_left o q ((start o ws).lps q)) };
+  sound-stand : (s : State) → AreSound o s → SoundStand o s
+  sound-stand s sound = record {
+    tdrs = λ q. (let ordered = sound.order q in (
+      (over-tdrs (s.lps q).call.held ordered.over, undo-tdr (s.lps q).call.phase (s.lps q).call.held ordered.undo),
+      subst (λ (g : Option Guest). GuestTdrs (s.lps q).call.held g) (sym ordered.guest) tt,
+    ));
+    stand = λ q below. (let st = sound.stand q below in
+        (st.held, st.undo, subst (λ (g : Option Guest). GuestStands s.world g) (sym (sound.order q).guest) tt));
+    tried = λ p row l m next.
+        at-line s p (OfCall row (Attempts l m)) (HoldsTdr (s.lps p).call.held l × Stands s.world l) next sound
+        (λ c cs lines sound is.
+        let both = tried s p c cs lines sound l m cc in
+        (over-holds (s.lps p).call.held l both.0, both.1));
+  }
+
+-- of an opening with other bundles
+other-bundles : (o : Opening) (bundles : ℕ → Option Incoming) (s : State) → AreSound o s → AreSound (with_bundles o bundles) s
+other-bundles o bundles s sound = record { lawful = sound.lawful; exclusive = sound.exclusive; count = sound.count; order = sound.order; stand = sound.stand }
+
+pub soundness-kept : SoundnessIsKept
+soundness-kept = record {
+  start = λ o ws. record {
+    lawful = lawful_kept.start o ws;
+    exclusive = exclusion_kept.start o ws;
+    count = refl;
+    order = λ q. record { guest = refl; over = tt; undo = tt; first = λ e. first-none (calls_of o.calls q) };
     stand = λ q below. record { held = tt; undo = tt };
-  })
+  };
+  event = λ o bundles s p sound. other-bundles (with_bundles o bundles) o.bundles (event (with_bundles o bundles) s p)
+      (event_keeps (with_bundles o bundles) (AreSound (with_bundles o bundles)) (step (with_bundles o bundles)) s p (other-bundles o bundles s sound));
+}
 
-  tdrs-held : (schedule : List ℕ) → TdrsAreHeld (play o schedule (start o ws))
-  tdrs-held schedule q =
-      let s : State = play o schedule (start o ws) in
-      let ordered = (all-sound schedule).order q in (
-        (over-tdrs (s.lps q).call.held ordered.over, undo-tdr (s.lps q).call.phase (s.lps q).call.held ordered.undo),
-        subst (λ (g : Option Guest). GuestTdrs (s.lps q).call.held g) (sym ordered.guest) tt,
-      )
+pub sound-locks-stand : SoundLocksStand
+sound-locks-stand o bundles s sound = sound-stand (with_bundles o bundles) s (other-bundles o bundles s sound)
 
-  locks-stand : (schedule : List ℕ) → LocksStand (play o schedule (start o ws))
-  locks-stand schedule q below =
-      let s : State = play o schedule (start o ws) in
-      let st = (all-sound schedule).stand q below in
-      (st.held, st.undo, subst (λ (g : Option Guest). GuestStands s.world g) (sym ((all-sound schedule).order q).guest) tt)
+all-stand-so : (o : Opening) (ws : Option (List ℕ)) (schedule : List ℕ) → SoundStand o (reached o ws schedule)
+all-stand-so o ws schedule = sound-stand o (reached o ws schedule) (in_runs AreSound soundness-kept o ws schedule)
 
-  tries-stand : (schedule : List ℕ) (p : ℕ) (row : Row) (l : LockId) (m : Mode) → let s = play o schedule (start o ws) in
-      next_event o s p ≡ Some (OfCall row (Attempts l m)) → HoldsTdr (s.lps p).call.held l × Stands s.world l
-  tries-stand schedule p row l m next =
-      let s : State = play o schedule (start o ws) in
-      at-line s p (OfCall row (Attempts l m)) (HoldsTdr (s.lps p).call.held l × Stands s.world l) next (all-sound schedule)
-      (λ c cs lines sound is.
-      let both = tried s p c cs lines sound l m cc in
-      (over-holds (s.lps p).call.held l both.0, both.1))
+pub every-tdr-held : EveryTdrIsHeld
+every-tdr-held o ws schedule = (all-stand-so o ws schedule).tdrs
 
-pub every-tdr-held : EveryWorldIsLawful → LocksExclude → RunsFollow → EveryTdrIsHeld
-every-tdr-held lawful exclude runs o ws schedule = tdrs-held lawful exclude runs o ws schedule
+pub every-lock-stands : EveryLockStands
+every-lock-stands o ws schedule = (all-stand-so o ws schedule).stand
 
-pub every-lock-stands : EveryWorldIsLawful → LocksExclude → RunsFollow → EveryLockStands
-every-lock-stands lawful exclude runs o ws schedule = locks-stand lawful exclude runs o ws schedule
-
-pub every-try-stands : EveryWorldIsLawful → LocksExclude → RunsFollow → EveryTryStands
-every-try-stands lawful exclude runs o ws schedule = tries-stand lawful exclude runs o ws schedule
+pub every-try-stands : EveryTryStands
+every-try-stands o ws schedule = (all-stand-so o ws schedule).tried

@@ -1,6 +1,6 @@
 -- Of each row: a lock of a TD is tried while P of its TDR page is held, which was tried first and shared; and where it is
 -- tried it stands.
-use Rattle.std.proofs.Common.{◌≡◌, refl, subst, ℕ, zero, suc, Bool, true, false, ◌==◌, List, [], ◌∷◌, ◌++◌, map, Option, Some, None}
+use Rattle.std.proofs.Common.{◌≡◌, refl, sym, ◌∙◌, ap, subst, ℕ, zero, suc, Bool, true, false, ◌==◌, List, [], ◌∷◌, ◌++◌, map, Option, Some, None}
 use Rattle.std.specs.Prelude.{filter, nat_lt}
 use Rattle.td_words.specs.declared.names.Mode.{Mode}
 use Rattle.td_words.specs.declared.names.Mode.TheVariants.{Shared, Exclusive}
@@ -16,14 +16,17 @@ use Rattle.td_words.specs.declared.replies.Reply.{Reply}
 use Rattle.td_words.specs.declared.replies.Reply.TheVariants.{Refused}
 use Rattle.td_words.specs.declared.refusals.Status.TheVariants.{EptWalkFailed}
 use Rattle.flat_core.specs.World.{World}
-use Rattle.flat_core.specs.Processor.{LockId, OfPage, OfOp, OfTree, OfEpoch, OfRtmr, OfKeys, Held}
+use Rattle.flat_core.specs.Processor.{LockId, Held}
 use Rattle.flat_core.specs.Opening.{Opening}
 use Rattle.flat_core.specs.Row.{Item, Check, Try, Attempts, Succeeds, next, Passes}
 use Rattle.flat_core.specs.Conditions.{all_ops, begun_ops, growing_ops, later_ops, td_row, page_exclusive, tree_shared, tree_exclusive, epoch_shared, host_page, td_page, vps_ready, vp_room, vp_in}
 use Rattle.flat_core.specs.KeyRows.{reclaim_conditions}
 use Rattle.flat_core.specs.Tree.{entry_at, same_state, walk, state_in, named_page}
 use Rattle.flat_core.specs.Table.{row_of}
+use Rattle.flat_core.specs.Tries.{tries, tries_of}
+use Rattle.flat_core.proofs.Tries.{rows_try_lists}
 use Rattle.lock_words.specs.LockWords.{TdStands, Stands}
+use Rattle.lock_words.specs.Reached.{first_tried, held_as, IsOver}
 use Rattle.lock_words.proofs.Heads.{td-stands}
 
 -- the first try of a row, whether or not its conditions hold
@@ -31,18 +34,6 @@ abbrev pub first_try : List (Item Reply) → Option Held
 first_try [] = None
 first_try (Check b r ∷ items) = first_try items
 first_try (Try l m ∷ items) = Some (record { lock = l; mode = m })
-
-abbrev pub held_as : ℕ → Mode → Option Held
-held_as t m = Some (record { lock = OfPage t; mode = m })
-
--- a lock of a TD is taken where this was the first
-abbrev pub IsOver : Option Held → LockId → Type 0
-IsOver first (OfPage p) = Unit {0}
-IsOver first (OfOp t) = first ≡ held_as t Shared
-IsOver first (OfTree t) = first ≡ held_as t Shared
-IsOver first (OfEpoch t) = first ≡ held_as t Shared
-IsOver first (OfRtmr t) = first ≡ held_as t Shared
-IsOver first OfKeys = Unit {0}
 
 abbrev pub first_of : Option Held → LockId → Mode → Option Held
 first_of None l m = Some (record { lock = l; mode = m })
@@ -112,13 +103,22 @@ rows-fit o me (call.MemPageAdd tdr gpa page source) w =
     λ a b c d e f g h. head-fits w tdr Exclusive (op.Initialized ∷ []) (tree_exclusive tdr ∷ (walk w tdr gpa 0 ++ page_items))
     (λ st. ((refl, st), walk-fits w tdr gpa 0 page_items (λ x. ((tt, tt), λ y. ((tt, tt), λ z. tt)))))
 
--- the first try is the same in every world
-pub first-same : (o : Opening) (me : ℕ) (c : Call) (v w : World) → first_try ((row_of o me c).items v) ≡ first_try ((row_of o me c).items w)
-first-same o me (call.MngRd tdr field.Life) v w = refl
-first-same o me (call.MngRd tdr field.Op) v w = refl
-first-same o me (call.MngRd tdr field.Epoch) v w = refl
-first-same o me (call.MngRd tdr field.Mrtd) v w = refl
-first-same o me _ v w = refl
+-- it is that of the call's list, and the same in every world
+
+first-of-tries : (items : List (Item Reply)) → first_try items ≡ first_tried (tries items)
+first-of-tries [] = refl
+first-of-tries (Check b r ∷ items) = first-of-tries items
+first-of-tries (Try l m ∷ items) = refl
+
+pub first-listed : (o : Opening) (me : ℕ) (c : Call) (w : World) → first_tried (tries_of c w) ≡ first_try ((row_of o me c).items w)
+first-listed o me c w = sym (first-of-tries ((row_of o me c).items w) ∙ ap first_tried (rows_try_lists o me c w))
+
+pub first-same : (c : Call) (v w : World) → first_tried (tries_of c v) ≡ first_tried (tries_of c w)
+first-same (call.MngRd tdr field.Life) v w = refl
+first-same (call.MngRd tdr field.Op) v w = refl
+first-same (call.MngRd tdr field.Epoch) v w = refl
+first-same (call.MngRd tdr field.Mrtd) v w = refl
+first-same _ v w = refl
 
 -- what the items say of the next try
 

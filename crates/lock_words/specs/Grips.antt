@@ -4,10 +4,11 @@ use Rattle.std.specs.Prelude.{◌≡◌, ℕ, zero, suc, ◌<◌, Bool, true, fa
 use Rattle.td_words.specs.declared.replies.Reply.{Reply}
 use Rattle.std.specs.List.{list_any}
 use Rattle.flat_core.specs.Processor.{LockId, OfPage, OfOp, OfTree, OfEpoch, OfRtmr, OfKeys, Held, Phase, Trying, Undoing, Answered, Progress, Translation, Guest, Lp}
-use Rattle.flat_core.specs.Locks.{same_lock, is_alone, holders, sharers}
+use Rattle.flat_core.specs.Locks.{same_lock, is_alone}
 use Rattle.flat_core.specs.Opening.{Opening}
 use Rattle.flat_core.specs.Event.{State}
-use Rattle.flat_core.specs.Laws.{IsSole, reached}
+use Rattle.flat_core.specs.Laws.{reached}
+pub use Rattle.flat_core.specs.Laws.{IsExclusive}
 use Rattle.word_rules.specs.Guards.{Guard, Locked, Reached, Written, Grip, HasWhatIsSole, Apart}
 
 abbrev pub holds : List Held → LockId → Bool
@@ -70,10 +71,6 @@ lock_grip hs = record { has = lock_has hs; sole = sole_of hs; clear = λ x. fals
 
 abbrev pub grip_of : State → ℕ → Grip
 grip_of s me = grip_with s me (locks_of (s.lps me))
-
--- nobody holds a lock beside one who holds it alone
-abbrev pub IsExclusive : State → Type 0
-IsExclusive s = (l : LockId) → IsSole (holders s.lps s.lp_count l) (sharers s.lps s.lp_count l)
 
 -- The grips of two processors are apart where locks exclude, as they do in every state of every run.
 abbrev pub GripsAreApart : Type 0

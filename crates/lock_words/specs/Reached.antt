@@ -1,24 +1,107 @@
 -- In every state that a run reaches, a lock of a TD is held and tried while P of its TDR page is held, and the locks that
 -- are held, being refused or tried stand. No call that is built enters a guest, so of guests' operations this says nothing.
-use Rattle.std.specs.Prelude.{◌≡◌, ℕ, Option, Some, List}
+use Rattle.std.specs.Prelude.{◌≡◌, ℕ, ◌<◌, List, [], ◌∷◌, length, drop, Option, Some, None}
 use Rattle.td_words.specs.declared.names.Mode.{Mode}
-use Rattle.flat_core.specs.Processor.{LockId}
-use Rattle.flat_core.specs.Opening.{Opening}
+use Rattle.td_words.specs.declared.names.Mode.TheVariants.{Shared}
+use Rattle.td_words.specs.declared.calls.Call.{Call}
+use Rattle.td_words.specs.declared.replies.Reply.{Reply}
+use Rattle.flat_core.specs.World.{World}
+use Rattle.flat_core.specs.Processor.{LockId, OfPage, OfOp, OfTree, OfEpoch, OfRtmr, OfKeys, Held, Phase, Trying, Undoing, Answered, Lp}
+use Rattle.flat_core.specs.Opening.{Opening, Incoming}
 use Rattle.flat_core.specs.Row.{Row, Attempts}
-use Rattle.flat_core.specs.Event.{OfCall, next_event}
-use Rattle.flat_core.specs.Laws.{reached}
+use Rattle.flat_core.specs.Tries.{tries_of}
+use Rattle.flat_core.specs.Lawful.{Lawful}
+use Rattle.flat_core.specs.Event.{State, OfCall, next_event, calls_of}
+use Rattle.flat_core.specs.Laws.{with_bundles, IsKept, IsExclusive, HoldsInRuns}
 use Rattle.lock_words.specs.Grips.{HoldsTdr, TdrsAreHeld}
-use Rattle.lock_words.specs.LockWords.{Stands, LocksStand}
+use Rattle.lock_words.specs.LockWords.{Stands, HeldStand, UndoStands, LocksStand}
 
--- whoever holds, or is being refused, a lock of a TD holds P of its TDR page
+-- the lock that was taken first, and the one that is tried first
+abbrev pub oldest : List Held → Option Held
+oldest [] = None
+oldest (h ∷ []) = Some h
+oldest (h ∷ x ∷ hs) = oldest (x ∷ hs)
+
+abbrev pub first_tried : List Held → Option Held
+first_tried [] = None
+first_tried (h ∷ hs) = Some h
+
+abbrev pub held_as : ℕ → Mode → Option Held
+held_as t m = Some (record { lock = OfPage t; mode = m })
+
+-- a lock of a TD is taken over P of its TDR page, where that was taken first and is shared
+abbrev pub IsOver : Option Held → LockId → Type 0
+IsOver below (OfPage p) = Unit {0}
+IsOver below (OfOp t) = below ≡ held_as t Shared
+IsOver below (OfTree t) = below ≡ held_as t Shared
+IsOver below (OfEpoch t) = below ≡ held_as t Shared
+IsOver below (OfRtmr t) = below ≡ held_as t Shared
+IsOver below OfKeys = Unit {0}
+
+abbrev pub AreOver : List Held → Type 0
+AreOver [] = Unit {0}
+AreOver (h ∷ hs) = IsOver (oldest hs) h.lock × AreOver hs
+
+abbrev pub UndoOver : Phase Reply → List Held → Type 0
+UndoOver Trying hs = Unit {0}
+UndoOver (Undoing l) hs = IsOver (oldest hs) l
+UndoOver (Answered r) hs = Unit {0}
+
+-- what is held, if anything, is held over this
+abbrev pub IsFirst : Option Held → List Held → Type 0
+IsFirst below [] = Unit {0}
+IsFirst below (h ∷ hs) = oldest (h ∷ hs) ≡ below
+
+-- over what the call tries first, in every world
+abbrev pub IsFirstOf : List Call → List Held → Type 0
+IsFirstOf [] hs = Unit {0}
+IsFirstOf (c ∷ cs) hs = (w : World) → IsFirst (first_tried (tries_of c w)) hs
+
+-- a processor with these calls: its locks of a TD, and the one that it is being refused, are over P of the TDR page; and
+-- on its way a call holds its locks over the one that it tries first
+pub record IsOverTdrs (calls : List Call) (lp : Lp) : Type 0 where
+  pub guest : lp.guest ≡ None
+  pub over : AreOver lp.call.held
+  pub undo : UndoOver lp.call.phase lp.call.held
+  pub first : lp.call.phase ≡ Trying → IsFirstOf (drop (length lp.replies) calls) lp.call.held
+
+-- its locks, and the one that it is being refused, stand
+pub record StandIn (w : World) (lp : Lp) : Type 0 where
+  pub held : HeldStand w lp.call.held
+  pub undo : UndoStands w lp.call.phase
+
+-- so of each processor, in a lawful world and where locks exclude
+pub record AreSound (o : Opening) (s : State) : Type 0 where
+  pub lawful : Lawful o.machine s.world
+  pub exclusive : IsExclusive s
+  pub count : s.lp_count ≡ length o.calls
+  pub order : (q : ℕ) → IsOverTdrs (calls_of o.calls q) (s.lps q)
+  pub stand : (q : ℕ) → q < s.lp_count → StandIn s.world (s.lps q)
+
+abbrev pub SoundnessIsKept : Type 0
+SoundnessIsKept = IsKept AreSound
+
+-- a lock that a call tries stands, and so does what it is tried over, where it is a TD's
+abbrev pub TriesStand : Opening → State → Type 0
+TriesStand o s = (p : ℕ) (row : Row) (l : LockId) (mode : Mode) → next_event o s p ≡ Some (OfCall row (Attempts l mode)) → HoldsTdr (s.lps p).call.held l × Stands s.world l
+
+-- what it comes to: whoever holds, or is being refused, a lock of a TD holds P of its TDR
+-- page; the locks that are held, or being refused, stand; and so does each that is tried
+pub record SoundStand (o : Opening) (s : State) : Type 0 where
+  pub tdrs : TdrsAreHeld s
+  pub stand : LocksStand s
+  pub tried : TriesStand o s
+
+-- whatever bundles have come in
+abbrev pub SoundLocksStand : Type 0
+SoundLocksStand = (o : Opening) (bundles : ℕ → Option Incoming) (s : State) → AreSound o s → SoundStand (with_bundles o bundles) s
+
+-- after every schedule
 abbrev pub EveryTdrIsHeld : Type 0
-EveryTdrIsHeld = (o : Opening) (words_to_tell : Option (List ℕ)) (schedule : List ℕ) → TdrsAreHeld (reached o words_to_tell schedule)
+EveryTdrIsHeld = HoldsInRuns (λ o s. TdrsAreHeld s)
 
--- the locks that are held, or being refused, stand
 abbrev pub EveryLockStands : Type 0
-EveryLockStands = (o : Opening) (words_to_tell : Option (List ℕ)) (schedule : List ℕ) → LocksStand (reached o words_to_tell schedule)
+EveryLockStands = HoldsInRuns (λ o s. LocksStand s)
 
--- and so does a lock that a call tries, over P of the TDR page where it is a TD's
 abbrev pub EveryTryStands : Type 0
-EveryTryStands = (o : Opening) (words_to_tell : Option (List ℕ)) (schedule : List ℕ) (p : ℕ) (row : Row) (l : LockId) (mode : Mode)
-    → let s = reached o words_to_tell schedule in next_event o s p ≡ Some (OfCall row (Attempts l mode)) → HoldsTdr (s.lps p).call.held l × Stands s.world l
+EveryTryStands = HoldsInRuns TriesStand

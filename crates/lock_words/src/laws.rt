@@ -1,7 +1,7 @@
 //! Laws of lock words, as contracts of functions that do nothing.
 
 ghost use Rattle.lock_words.specs.Grips.{GripsAreApart, GripsStayApart, GripsAreWhole};
-ghost use Rattle.lock_words.specs.Reached.{EveryTdrIsHeld, EveryLockStands, EveryTryStands};
+ghost use Rattle.lock_words.specs.Reached.{SoundnessIsKept, SoundLocksStand, EveryTdrIsHeld, EveryLockStands, EveryTryStands};
 ghost use Rattle.lock_words.specs.LockWords.{LockWordsFollow, LockStepsShown, TdLocksStay, HeadsStand, StartFollows, RunsFollow};
 
 /// Where nobody holds a lock beside one who holds it alone, the grips of two processors are apart:
@@ -42,11 +42,9 @@ pub fn td_locks_stay()
 /// After any schedule whoever holds, or is being refused, a lock of a TD holds P of its TDR page,
 /// and the locks that are held, or being refused, stand; and both are so of a lock that a call tries.
 pub fn reached_locks_stand()
+    ensures kept { SoundnessIsKept }
+    ensures sound { SoundLocksStand }
     ensures tdrs { EveryTdrIsHeld }
     ensures stand { EveryLockStands }
     ensures tried { EveryTryStands }
-{
-    flat_core::lawful_law();
-    flat_core::lock_law();
-    flat_core::end_laws();
-}
+{}

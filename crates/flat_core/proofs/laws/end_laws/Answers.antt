@@ -1,10 +1,20 @@
-use Rattle.flat_core.proofs.Counts.{rows_try_the_same, calls_have_their_events}
-use Rattle.flat_core.proofs.Ends.{row_tries, runs_out, runs_end}
-use Rattle.flat_core.proofs.Replies.{replies_one_by_one, replies_to_lines, every_line_answered}
+use Rattle.flat_core.proofs.Counts.{calls_have_their_events}
+use Rattle.flat_core.proofs.Ends.{timeliness_kept, timely_run_out, runs_out, runs_end}
+use Rattle.flat_core.proofs.Tries.{rows_try_lists, row_tries, rows_try_the_same}
+use Rattle.flat_core.proofs.Replies.{replies_one_by_one, replies_kept, replies_to_lines, every_line_answered}
 use Rattle.flat_core.proofs.laws.end_laws.Goals as goal
+
+pub returns-clause-lists : goal.returns-clause-lists
+returns-clause-lists c = rows_try_lists
 
 pub returns-clause-tries : goal.returns-clause-tries
 returns-clause-tries c = row_tries
+
+pub returns-clause-kept : goal.returns-clause-kept
+returns-clause-kept c = timeliness_kept
+
+pub returns-clause-timely : goal.returns-clause-timely
+returns-clause-timely c = timely_run_out
 
 pub returns-clause-runs_out : goal.returns-clause-runs_out
 returns-clause-runs_out c = runs_out
@@ -20,6 +30,9 @@ returns-clause-events c = calls_have_their_events
 
 pub returns-clause-one_reply : goal.returns-clause-one_reply
 returns-clause-one_reply c = replies_one_by_one
+
+pub returns-clause-few_kept : goal.returns-clause-few_kept
+returns-clause-few_kept c = replies_kept
 
 pub returns-clause-no_more : goal.returns-clause-no_more
 returns-clause-no_more c = replies_to_lines

@@ -1,5 +1,8 @@
-use Rattle.flat_core.proofs.Kept.{every_lawful, events_keep}
+use Rattle.flat_core.proofs.Kept.{lawful_kept, every_lawful, events_keep}
 use Rattle.flat_core.proofs.laws.lawful_law.Goals as goal
+
+pub returns-clause-kept : goal.returns-clause-kept
+returns-clause-kept c = lawful_kept
 
 pub returns-clause-event : goal.returns-clause-event
 returns-clause-event c = events_keep

@@ -1,0 +1,62 @@
+-- What each call tries: its locks in order, each with its mode.
+use Rattle.std.specs.Prelude.{◌≡◌, ℕ, List, [], ◌∷◌, ◌++◌, ◌==◌, if◌then◌else◌}
+use Rattle.td_words.specs.declared.names.Mode.{Mode}
+use Rattle.td_words.specs.declared.names.Mode.TheVariants.{Shared, Exclusive}
+use Rattle.td_words.specs.declared.names.ReadField.{ReadField}
+use Rattle.td_words.specs.declared.names.ReadField.TheVariants as field
+use Rattle.td_words.specs.declared.calls.Call.{Call}
+use Rattle.td_words.specs.declared.calls.Call.TheVariants as call
+use Rattle.flat_core.specs.World.{World}
+use Rattle.flat_core.specs.Processor.{LockId, OfPage, OfOp, OfTree, OfEpoch, OfKeys, Held}
+use Rattle.flat_core.specs.Opening.{Opening}
+use Rattle.flat_core.specs.Row.{Item, Check, Try}
+use Rattle.flat_core.specs.Tree.{entry_at}
+use Rattle.flat_core.specs.Table.{row_of}
+
+-- the tries of a row, whether or not its conditions hold
+abbrev pub tries : {R : Type 0} → List (Item R) → List Held
+tries [] = []
+tries (Check b r ∷ items) = tries items
+tries (Try l m ∷ items) = record { lock = l; mode = m } ∷ tries items
+
+abbrev pub shared : LockId → Held
+shared l = record { lock = l; mode = Shared }
+
+abbrev pub alone : LockId → Held
+alone l = record { lock = l; mode = Exclusive }
+
+-- the beginning of a TD's row: its TDR page, and its operation state
+abbrev pub td_tries : ℕ → Mode → List Held
+td_tries t mode = shared (OfPage t) ∷ record { lock = OfOp t; mode = mode } ∷ []
+
+abbrev pub read_tries : ℕ → ReadField → List Held
+read_tries t field.Life = shared (OfPage t) ∷ []
+read_tries t field.Op = td_tries t Shared
+read_tries t field.Epoch = td_tries t Shared ++ shared (OfEpoch t) ∷ []
+read_tries t field.Mrtd = td_tries t Shared
+
+-- The table of tries, a line a call. Only MR.EXTEND looks at the world: it tries the page that the entry names.
+abbrev pub tries_of : Call → World → List Held
+tries_of (call.HostRead page word) w = shared (OfPage page) ∷ []
+tries_of (call.HostWrite page word value) w = shared (OfPage page) ∷ []
+tries_of (call.PhymemPageRdmd page) w = shared (OfPage page) ∷ []
+tries_of call.PhymemCacheWb w = alone OfKeys ∷ []
+tries_of (call.PhymemPageReclaim tdr page) w = alone (OfPage tdr) ∷ (if page == tdr then [] else alone (OfPage page) ∷ [])
+tries_of (call.MngCreate tdr hkid) w = alone (OfPage tdr) ∷ alone OfKeys ∷ []
+tries_of (call.MngKeyConfig tdr) w = alone (OfPage tdr) ∷ []
+tries_of (call.MngAddcx tdr page) w = alone (OfPage tdr) ∷ alone (OfPage page) ∷ []
+tries_of (call.MngInit tdr) w = td_tries tdr Exclusive
+tries_of (call.MngRd tdr field) w = read_tries tdr field
+tries_of (call.MngVpflushdone tdr) w = alone (OfPage tdr) ∷ alone OfKeys ∷ []
+tries_of (call.MngKeyFreeid tdr) w = alone (OfPage tdr) ∷ alone OfKeys ∷ []
+tries_of (call.MrExtend tdr gpa) w = td_tries tdr Exclusive ++ shared (OfTree tdr) ∷ shared (OfPage (entry_at w tdr 0 gpa).page) ∷ []
+tries_of (call.MrFinalize tdr) w = td_tries tdr Exclusive
+tries_of (call.VpCreate tdr page) w = td_tries tdr Exclusive ++ alone (OfPage page) ∷ []
+tries_of (call.VpInit tdr vp value) w = td_tries tdr Shared ++ alone (OfPage vp) ∷ []
+tries_of (call.MemSeptAdd tdr gpa level page) w = td_tries tdr Shared ++ alone (OfTree tdr) ∷ alone (OfPage page) ∷ []
+tries_of (call.MemSeptRd tdr gpa level) w = td_tries tdr Shared ++ alone (OfTree tdr) ∷ []
+tries_of (call.MemPageAdd tdr gpa page source) w = td_tries tdr Exclusive ++ alone (OfTree tdr) ∷ alone (OfPage source) ∷ alone (OfPage page) ∷ []
+
+-- each row tries just what its call's line says
+abbrev pub RowsTryTheirLists : Type 0
+RowsTryTheirLists = (o : Opening) (me : ℕ) (c : Call) (w : World) → tries ((row_of o me c).items w) ≡ tries_of c w
