@@ -53,7 +53,7 @@ rdmd-means p page few = record {
             inl (inl (holds-newest page Shared c.kept, tt)),
             (
               record {
-                reply_is = rw (word, read) refl;
+                answers = record { reply_is = rw (word, read) refl; cached_is = refl; enters_is = refl; notes_are = refl; tells_are = refl; bundles_are = refl };
                 fills_allowed = tt;
                 respects = respects-compose.same (hold c (record { lock = OfPage page; mode = Shared } ∷ [])) c.state.world;
                 locks_stay = ((refl, λ x. x), tt);
