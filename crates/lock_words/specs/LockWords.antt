@@ -7,6 +7,7 @@ use Rattle.td_words.specs.declared.names.Mode.{Mode}
 use Rattle.td_words.specs.declared.names.Mode.TheVariants.{Shared, Exclusive}
 use Rattle.td_words.specs.declared.machines.Machine.{Machine}
 use Rattle.td_words.specs.Place.{WordPlace, IsIn, same_place, lock_place}
+pub use Rattle.td_words.specs.Place.{weight_of}
 use Rattle.flat_core.specs.World.{World}
 use Rattle.flat_core.specs.Processor.{LockId, OfPage, OfOp, OfTree, OfEpoch, OfRtmr, OfKeys, Held, Phase, Trying, Undoing, Answered, Guest, Lp, nothing_yet}
 use Rattle.flat_core.specs.Locks.{same_lock, sum_below, sharers, refusals, grants}
@@ -64,11 +65,7 @@ GuestStands w (Some g) = HeldStand w g.operation.held × UndoStands w g.operatio
 abbrev pub LocksStand : State → Type 0
 LocksStand s = (q : ℕ) → q < s.lp_count → HeldStand s.world (s.lps q).call.held × UndoStands s.world (s.lps q).call.phase × GuestStands s.world (s.lps q).guest
 
--- what a holder adds to a lock's word
-abbrev pub weight_of : Mode → ℕ
-weight_of Shared = 1
-weight_of Exclusive = 2 ^ 63
-
+-- what a holder of one lock adds to the word of another
 abbrev pub weight_at : LockId → LockId → Mode → ℕ
 weight_at k l mode = if same_lock k l then weight_of mode else 0
 

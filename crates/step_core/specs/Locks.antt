@@ -1,17 +1,11 @@
 -- Lock words: bit 63 for the exclusive holder, and below it the number of sharers and of processors that are being refused.
 use Rattle.std.specs.Prelude.{◌≡◌, ℕ, ◌^◌, nat_lt, ◌==◌, if◌then◌else◌, List, [], ◌∷◌}
-use Rattle.td_words.specs.declared.names.Mode.{Mode}
-use Rattle.td_words.specs.declared.names.Mode.TheVariants.{Shared, Exclusive}
+pub use Rattle.td_words.specs.Place.{weight_of}
 use Rattle.step_core.specs.declared.steps.WordStep.{WordStep}
 use Rattle.step_core.specs.declared.locks.Tried.{Tried}
 use Rattle.step_core.specs.declared.locks.Tried.TheVariants.{Granted, Denied}
 use Rattle.step_core.specs.declared.items.Taken.{Taken}
 use Rattle.step_core.specs.declared.items.Taken.TheVariants.{Stepped}
-
--- what a holder adds to the lock word
-abbrev pub weight_of : Mode → ℕ
-weight_of Shared = 1
-weight_of Exclusive = 2 ^ 63
 
 -- a shared try is granted where bit 63 was clear
 abbrev pub shared_outcome : ℕ → Tried

@@ -1,7 +1,9 @@
 -- Places: which word a word is, before it has an address, and where the word of each lock stands.
-use Rattle.std.specs.Prelude.{ℕ, ◌+◌, ◌<◌, Bool, false, ◌==◌, ◌&&◌}
+use Rattle.std.specs.Prelude.{ℕ, ◌+◌, ◌^◌, ◌<◌, Bool, false, ◌==◌, ◌&&◌}
 use Rattle.td_words.specs.declared.names.LockName.{LockName}
 use Rattle.td_words.specs.declared.names.LockName.TheVariants as name
+use Rattle.td_words.specs.declared.names.Mode.{Mode}
+use Rattle.td_words.specs.declared.names.Mode.TheVariants.{Shared, Exclusive}
 use Rattle.td_words.specs.declared.machines.Machine.{Machine}
 use Rattle.td_words.specs.declared.places.TheConstants.{TDCS_OP_LOCK, TDCS_TREE_LOCK, TDCS_EPOCH_LOCK, TDCS_RTMR_LOCK, KEY_LOCK, KEY_FIRST}
 use Rattle.td_words.specs.Address.{lock_at, pamt_at, word_at, key_at}
@@ -42,3 +44,8 @@ lock_place tdcs name.Tree = Word tdcs TDCS_TREE_LOCK
 lock_place tdcs name.Epoch = Word tdcs TDCS_EPOCH_LOCK
 lock_place tdcs name.Rtmr = Word tdcs TDCS_RTMR_LOCK
 lock_place tdcs name.Keys = Key KEY_LOCK
+
+-- what a holder adds to a lock's word
+abbrev pub weight_of : Mode → ℕ
+weight_of Shared = 1
+weight_of Exclusive = 2 ^ 63

@@ -5,10 +5,10 @@ use Rattle.leaf_engine.proofs.laws.calls_follow.Goals as goal
 
 pub returns : goal.returns
 returns c = record {
-  start = start-is-met c.start_is_shown.ensures c.lawful_law.ensures.run c.lock_law.ensures;
+  start = start-is-met c.start_is_shown.ensures c.lawful_law.ensures.run c.lock_law.ensures.run;
   reached = reached-is-met (record {
     lawful = c.lawful_law.ensures.run;
-    exclude = c.lock_law.ensures;
+    exclude = c.lock_law.ensures.run;
     tell = c.event_laws.ensures.own_words;
     runs = c.lock_words_follow.ensures.runs;
     tdrs = c.reached_locks_stand.ensures.tdrs;

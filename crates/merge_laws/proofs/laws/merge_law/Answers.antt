@@ -6,7 +6,7 @@ returns c =
     merges-are-runs
     (record {
       lawful = c.lawful_law.ensures.run;
-      exclude = c.lock_law.ensures;
+      exclude = c.lock_law.ensures.run;
       tell = c.event_laws.ensures.own_words;
       others = c.event_laws.ensures.others;
       follow = c.lock_words_follow.ensures.follow;
