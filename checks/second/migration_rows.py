@@ -226,7 +226,8 @@ def export_track(machine, td_page, slot, start):
 def changes_op(op, *before):
     """The row that holds O and T alone, and changes the op state from one of those."""
 
-    def row(machine, td_page):
+    def changes(machine, td_page):
+        """The row of that call."""
         td = yield from td_with_op(machine, td_page, EXCLUSIVELY, *before)
         yield ("T", td_page), EXCLUSIVELY
 
@@ -235,7 +236,7 @@ def changes_op(op, *before):
 
         return effect
 
-    return row
+    return changes
 
 
 def export_td(machine, td_page, slot):
