@@ -145,7 +145,7 @@ class Scene:
         kinds = ARGUMENTS[name]
         arguments = [self.argument(life, name, kind, place) for place, kind in enumerate(kinds, 1)]
         if "gpa" in kinds and self.chance.random() < 0.95:
-            arguments[1] -= arguments[1] % alignment(name, arguments)
+            arguments[1] -= arguments[1] % alignment(name, kinds, arguments)
             if name == "MR.EXTEND":
                 arguments[1] += 256 * self.chance.randrange(16)
         if spoiled and arguments:
@@ -319,17 +319,18 @@ BAD_OUTSIDE = (
     "machine", "machine 1 8 1", "machine x", "end", "end x y", "lp", "lp 7", "lp 8", "lp x", "lp 0 0", "lp {lp}",
     "lp {lp}", "lp {lp}", "lp {lp}", "lp {lp}", "lp {lp} x", "lp 18446744073709551616", "schedule", "schedule x",
     "schedule 0*0", "schedule 0*", "schedule *1", "schedule 0*1*1", "schedule 9*x", "schedule 0*1048577",
-    "schedule 0*1048576 0", "schedule 8 x", "schedule 0x0*0x2 00*02", "code", "code 0 0", "code x", "code 9999 9", "set 0 0", "foo",
-    "Machine 1 8 1", "{call}", "{unbuilt}", "\t", "lp\t0", "# \xff", "\x00", "schedule \x80", "foo \x01 x",
+    "schedule 0*1048576 0", "schedule 8 x", "schedule 0x0*0x2 00*02", "code", "code 0 0", "code x", "code 9999 9",
+    "set 0 0", "foo", "Machine 1 8 1", "{call}", "{unbuilt}", "\t", "lp\t0", "# \xff", "\x00", "schedule \x80",
+    "foo \x01 x",
 )
 BAD_INSIDE = (
     "machine 1 8 1", "machine", "end end", "end x y", "lp", "lp {lp}", "lp 9", "schedule", "schedule x", "code 0 0",
     "load 1 0", "vmcall 0", "foo", "HOST.READ", "host.read 0 0", "HOST.READ 0", "HOST.READ 0 x", "HOST.READ 0 0 0",
     "HOST.READ 0 0x", "HOST.READ -1 0", "HOST.READ 0 18446744073709551616", "HOST.READ 0 0x10000000000000000",
     "HOST.READ 0X1 0", "HOST.READ 0 0xfg", "MNG.RD 1", "MNG.RD 1 LIF", "MNG.RD 1 life", "MNG.RD 7 NOFIELD",
-    "MNG.RD 7 OPS", "MNG.RD 0 mrtd", "MNG.RD x LIF", "MNG.RD x OP", "MNG.RD 1 OP OP", "MNG.RD OP 1", "MEM.PAGE.RELOCATE 1 0 2",
-    "MEM.TRACK", "{call}", "{call} x", "{call} 1 2 3 4 5 6", "{call} 1 0 3 x", "{unbuilt}", "{unbuilt} 1 0", "{unbuilt} x",
-    "{unbuilt} \x1f", "end\x7f", "HOST.READ 1 1\r",
+    "MNG.RD 7 OPS", "MNG.RD 0 mrtd", "MNG.RD x LIF", "MNG.RD x OP", "MNG.RD 1 OP OP", "MNG.RD OP 1",
+    "MEM.PAGE.RELOCATE 1 0 2", "MEM.TRACK", "{call}", "{call} x", "{call} 1 2 3 4 5 6", "{call} 1 0 3 x", "{unbuilt}",
+    "{unbuilt} 1 0", "{unbuilt} x", "{unbuilt} \x1f", "end\x7f", "HOST.READ 1 1\r",
 )
 FIRST_LINES = ("", "end", "foo", "lp 0", "machine", "machine 1 8", "machine 1 8 x", "machine 0 8 1", "machine 9 8 x",
                "machine 9 8 1", "machine 8 7 1", "machine 8 1025 1", "machine 1 8 0", "machine 1 8 16", "schedule 0",
@@ -368,7 +369,7 @@ def put_bad_line(chance, lines, turn):
     words = {
         "lp": chance.choice(before or ["0"]),
         "call": chance.choice(tuple(ARGUMENTS)),
-        "unbuilt": chance.choice(sorted(UNBUILT)),
+        "unbuilt": chance.choice(sorted(UNBUILT - {"code"})),
     }
     lines.insert(place, bad.format(**words))
 

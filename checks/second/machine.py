@@ -6,6 +6,7 @@ try, raises Refused where a condition fails, and at its end answers the effect.
 """
 
 from collections import defaultdict
+from collections.abc import Iterator
 
 EXCLUSIVELY = 1 << 63  # bit 63 of a lock word: somebody holds it alone
 SHARED = 1  # the low bits: sharers, and those who are being refused
@@ -40,10 +41,27 @@ class Hkid:
 
 
 class Entry:
-    """An entry of a secure EPT that isn't FREE."""
+    """An entry of a secure EPT that isn't FREE, with the migration epoch of its page's last export."""
 
     def __init__(self, state, page):
-        self.state, self.page = state, page
+        self.state, self.page, self.mark = state, page, 0
+
+
+class Vcpu:
+    """What a TDVPR page keeps. The position is that in its list of operations, the session that of its
+    last export."""
+
+    def __init__(self, index):
+        self.index, self.state = index, "CREATED"
+        self.processor, self.last_epoch = None, 0
+        self.position, self.session, self.registers = 0, 0, [0] * 8
+
+
+class Stream:
+    """A migration stream: its page, and its bundle counter."""
+
+    def __init__(self, page):
+        self.page, self.counter = page, 0
 
 
 class Td:
@@ -55,14 +73,28 @@ class Td:
         self.op, self.epoch = "UNINITIALIZED", 0
         self.measured, self.mrtd = None, None
         self.entries = {}  # by level and by the number of its range of addresses
-        self.vcpu_states = {}  # by TDVPR page, in the order of their indexes
+        self.vcpus = {}  # by TDVPR page, in the order of their indexes
+        self.in_guest = [0, 0]  # VCPUs in guest that entered in an even and in an odd epoch
+        self.rtmrs = [bytes(48)] * 4
+        self.streams, self.session, self.migration_epoch = [], 0, 0
+        self.state_exported, self.expected_vcpus = False, 0
+
+
+class Outside:
+    """What a run is given, and the bundles that it makes: the lists of operations by TDR page and index,
+    input bundles by slot, the key from source to destination and the key back, the secret words."""
+
+    def __init__(self, code=None, inputs=None, keys=bytes(64), secrets=(0,) * 512):
+        self.code, self.inputs, self.keys, self.secrets = code or {}, inputs or {}, keys, secrets
+        self.outputs = {}
 
 
 class Machine:
-    """The pages, HKIDs, TDs and lock words that processors share."""
+    """The pages, HKIDs, TDs and lock words that processors share, and what comes from outside."""
 
-    def __init__(self, processors, pages, hkids):
-        self.processors = processors
+    def __init__(self, processors, pages, hkids, outside=None):
+        self.processors, self.outside = processors, outside or Outside()
+        self.last_exported, self.last_imported = 0, 0
         self.pages = [Page() for _ in range(pages)]
         self.hkids = {number: Hkid() for number in range(1, hkids + 1)}
         self.tds = {}  # by TDR page
@@ -106,12 +138,14 @@ class Processor:
     def __init__(self, machine, number, calls, row):
         self.machine, self.number, self.calls, self.row = machine, number, calls, row
         self.replies = []  # of each call the reply, and how many locks the call had
+        self.translations = []  # cached ones, oldest first
+        self.guest_lines = []
         self.made = 0
         self.begin()
 
     def begin(self):
         """The next call has made no event."""
-        self.held, self.undo, self.replied = [], None, False
+        self.held, self.undo, self.replied, self.guest = [], None, False, None
 
     def has_ended(self):
         """Whether no line is left."""
@@ -121,21 +155,23 @@ class Processor:
         """Makes the next event; does nothing where no line is left."""
         if self.has_ended():
             return
-        if not self.replied:
+        if self.guest is not None:
+            next(self.guest)
+        elif not self.replied:
             self.go_on()
         elif self.undo is not None:
             self.machine.locks[self.undo] -= SHARED
             self.undo = None
         else:
-            lock, weight = self.held.pop()
-            self.machine.locks[lock] -= weight
+            self.release()
         if self.replied and not self.held and self.undo is None:
             self.made += 1
             self.begin()
 
     def go_on(self):
-        """The event that the call's row gives next: a try, or the act."""
-        tries = self.row(self.machine, *self.calls[self.made])
+        """The event that the call's row gives next: a try, or the act. The act of VP.ENTER answers the
+        events of the guest."""
+        tries = self.row(self, *self.calls[self.made])
         try:
             for _ in self.held:
                 next(tries)
@@ -144,16 +180,29 @@ class Processor:
             self.reply(str(refusal))
         except StopIteration as end:
             value = end.value()
-            self.reply("SUCCESS" if value is None else f"SUCCESS {value}")
+            if isinstance(value, Iterator):
+                self.guest = value
+            else:
+                self.reply("SUCCESS" if value is None else f"SUCCESS {value}")
 
     def attempt(self, lock, weight):
         """A try of a lock. A denied one is the call's reply, and a shared one is to be undone."""
-        granted = self.machine.try_shared(lock) if weight == SHARED else self.machine.try_exclusive(lock)
-        if granted:
-            self.held.append((lock, weight))
+        if self.take(lock, weight):
             return
         self.undo = lock if weight == SHARED else None
         self.reply(f"OPERAND_BUSY {lock_name(lock)}")
+
+    def take(self, lock, weight):
+        """Tries a lock, and answers whether it is held."""
+        granted = self.machine.try_shared(lock) if weight == SHARED else self.machine.try_exclusive(lock)
+        if granted:
+            self.held.append((lock, weight))
+        return granted
+
+    def release(self):
+        """Releases the lock that was taken last."""
+        lock, weight = self.held.pop()
+        self.machine.locks[lock] -= weight
 
     def reply(self, text):
         """The call has its reply, and releases its locks from now on."""

@@ -1,18 +1,30 @@
-"""The program's command line, statuses and texts of docs/profile.md, as far as they are built."""
+"""The program's command line, statuses and texts of docs/profile.md: `replay` as it is built, and all four
+commands as they are to be."""
 
-from machine import Machine, Processor, run
-from rows import row
+import re
+import struct
+
+from bundles import BadContainer, bundles_of, container_of
+from calls import row
+from machine import Machine, Outside, Processor, run
 from scripts import Fault, read
+from soak import soak_line
 
 USAGE = (
     "usage: tdx replay|run SCRIPT [--bundles F] [--keys F] [--secrets F] [--out-bundles F] [--guest-out F]"
     " | tdx check SCRIPT | tdx soak N"
 )
+INPUTS = ("--bundles", "--keys", "--secrets")
+OPTIONS = (*INPUTS, "--out-bundles", "--guest-out")
 
 
-def processors_of(script):
+class Ended(Exception):
+    """An end in another status than 0, with its text."""
+
+
+def processors_of(script, outside=None):
     """The processors of a script's machine, with their calls."""
-    machine = Machine(*script.machine)
+    machine = Machine(*script.machine, outside)
     return [Processor(machine, number, script.calls.get(number, []), row) for number in range(machine.processors)]
 
 
@@ -25,23 +37,104 @@ def reply_lines(processors):
     )
 
 
-def replay(script):
+def replay(script, outside=None):
     """Runs a script by its schedule; answers its processors as they ended."""
-    processors = processors_of(script)
+    processors = processors_of(script, outside)
     run(processors, script.schedule)
     return processors
 
 
 def answer(words, load):
-    """The status and the text of the command line with these words, and the processors of the run where
-    there was one. A file's bytes come from `load`, or None where it can't be read."""
-    if len(words) != 2 or words[0] != "replay" or words[1].startswith("-"):
-        return 1, f"{USAGE}\n", []
-    text = load(words[1])
-    if text is None:
-        return 3, f"cannot read {words[1]}\n", []
+    """The status and the text of the command line with these words, as it is built, and the processors of
+    the run where there was one. A file's bytes come from `load`, or None where it can't be read."""
     try:
-        processors = replay(read(text))
+        need_usage(len(words) == 2 and words[0] == "replay" and not words[1].startswith("-"))
+        processors = replay(read(loaded(words[1], load)))
+    except Ended as ended:
+        return *ended.args, []
     except Fault as fault:
         return 2, f"{fault}\n", []
     return 0, reply_lines(processors), processors
+
+
+def need_usage(holds):
+    """A rule of the command line."""
+    if not holds:
+        raise Ended(1, f"{USAGE}\n")
+
+
+def loaded(name, load):
+    """The bytes of a file that is there."""
+    text = load(name)
+    if text is None:
+        raise Ended(3, f"cannot read {name}\n")
+    return text
+
+
+def options_of(words):
+    """The words that are no options, and the options with their values."""
+    rest, options, left = [], {}, iter(words)
+    for word in left:
+        if not word.startswith("-"):
+            rest.append(word)
+            continue
+        name, given, value = word.partition("=")
+        value = value if given else next(left, "-")
+        need_usage(name in OPTIONS and name not in options and not value.startswith("-"))
+        options[name] = value
+    return rest, options
+
+
+def outside_of(script, files):
+    """What a run is given by these input files, by option."""
+    if len(files.get("--keys", bytes(0 if script.seals else 64))) != 64:
+        raise Ended(7, "key file\n")
+    if len(files.get("--secrets", bytes(4096))) != 4096:
+        raise Ended(7, "secrets file\n")
+    secrets = struct.unpack("<512Q", files.get("--secrets", bytes(4096)))
+    return Outside(script.code, files["--bundles"], files.get("--keys", bytes(64)), secrets)
+
+
+def replay_all(words, load):
+    """The text of `replay` or `run` with all calls and options, and the files that it saves."""
+    rest, options = options_of(words)
+    need_usage(len(rest) == 1)
+    script = read(loaded(rest[0], load), frozenset())
+    files = {name: loaded(options[name], load) for name in INPUTS if name in options}
+    files["--bundles"] = bundles_of(files["--bundles"]) if "--bundles" in files else {}
+    processors = replay(script, outside_of(script, files))
+    made = {
+        "--out-bundles": container_of(processors[0].machine.outside.outputs),
+        "--guest-out": "".join(f"{line}\n" for at in processors for line in at.guest_lines).encode(),
+    }
+    return reply_lines(processors), {options[name]: text for name, text in made.items() if name in options}
+
+
+def check(words, load):
+    """The text of `check`."""
+    need_usage(len(words) == 1 and not words[0].startswith("-"))
+    script = read(loaded(words[0], load), frozenset())
+    counts = [sum(map(len, blocks.values())) for blocks in (script.calls, script.code)]
+    return f"ok {script.machine[0]} {counts[0]} {counts[1]} {len(script.schedule)}\n", {}
+
+
+def soak(words, _load):
+    """The text of `soak`."""
+    need_usage(len(words) == 1 and re.fullmatch("[1-9][0-9]{0,2}", words[0]) and int(words[0]) <= 512)
+    return soak_line(int(words[0]), read, replay), {}
+
+
+COMMANDS = {"replay": replay_all, "run": replay_all, "check": check, "soak": soak}
+
+
+def whole_answer(words, load):
+    """The status and the text of the finished program for these words, and the files that it saves."""
+    try:
+        need_usage(words and words[0] in COMMANDS)
+        return 0, *COMMANDS[words[0]](words[1:], load)
+    except Ended as ended:
+        return *ended.args, {}
+    except Fault as fault:
+        return 2, f"{fault}\n", {}
+    except BadContainer as bad:
+        return 6, f"bundle file byte {bad}\n", {}

@@ -3,7 +3,7 @@
 import hashlib
 import struct
 
-from machine import EXCLUSIVELY, KEY_TABLE, SHARED, Entry, Refused, Td
+from machine import EXCLUSIVELY, KEY_TABLE, SHARED, Entry, Refused, Td, Vcpu
 
 GPA_END = 1 << 47
 PAGE_BYTES = 4096
@@ -13,6 +13,16 @@ OPS = (
     "MEMORY_IMPORT", "STATE_IMPORT", "POST_IMPORT", "LIVE_IMPORT", "FAILED_IMPORT",
 )
 FIELDS = ("LIFE", "OP", "EPOCH", "MRTD")
+
+RANGES = {
+    "word": range(512),
+    "gpa": range(GPA_END),
+    "level": range(4),
+    "upper level": range(1, 4),
+    "most": range(1, 65_536),
+    "stream": range(4),
+    "start": range(2),
+}
 
 # Each call that is built, with its arguments.
 ARGUMENTS = {
@@ -43,26 +53,23 @@ ARGUMENTS = {
 
 def is_in_range(machine, kind, value):
     """Whether an argument of that kind has its own range."""
-    ends = {"page": len(machine.pages), "word": 512, "gpa": GPA_END, "level": 4, "upper level": 4}
     if kind == "hkid":
         return value in machine.hkids
-    if kind == "upper level" and value == 0:
-        return False
-    return kind not in ends or value < ends[kind]
+    if kind == "page":
+        return value < len(machine.pages)
+    return kind not in RANGES or value in RANGES[kind]
 
 
-def alignment(name, arguments):
+def alignment(name, kinds, arguments):
     """What a call's GPA is to be a multiple of."""
-    kinds = ARGUMENTS[name]
     if name == "MR.EXTEND":
         return 8 * CHUNK_WORDS
-    level = arguments[2] if kinds[2] in ("level", "upper level") else 0
+    level = arguments[2] if kinds[2:3] in (("level",), ("upper level",)) else 0
     return PAGE_BYTES << 9 * level
 
 
-def check_arguments(machine, name, arguments):
+def check_arguments(machine, name, kinds, arguments):
     """Refuses the first argument that breaks a rule, in three steps."""
-    kinds = ARGUMENTS[name]
     for place, (kind, value) in enumerate(zip(kinds, arguments), 1):
         need(is_in_range(machine, kind, value), f"OPERAND_INVALID {place}")
     if name != "PHYMEM.PAGE.RECLAIM":
@@ -72,7 +79,7 @@ def check_arguments(machine, name, arguments):
                 need(value not in earlier, f"OPERAND_INVALID {place}")
                 earlier.add(value)
     if "gpa" in kinds:
-        need(arguments[1] % alignment(name, arguments) == 0, "OPERAND_INVALID 2")
+        need(arguments[1] % alignment(name, kinds, arguments) == 0, "OPERAND_INVALID 2")
 
 
 # Conditions
@@ -100,10 +107,11 @@ def td_at(machine, page):
     return machine.tds[page]
 
 
-def vcpu_page_of(machine, td_page, page):
-    """The page is a TDVPR page of that TD."""
+def vcpu_at(machine, td_page, page):
+    """The VCPU of that TD whose TDVPR page that is."""
     is_own = machine.pages[page].kind == "PT_TDVPR" and machine.pages[page].owner == td_page
     need(is_own, f"PAGE_METADATA_INCORRECT {page}")
+    return machine.tds[td_page].vcpus[page]
 
 
 def entry_key(gpa, level):
@@ -296,7 +304,7 @@ def mr_extend(machine, td_page, gpa):
 def mr_finalize(machine, td_page):
     """MR.FINALIZE TDR"""
     td = yield from td_with_op(machine, td_page, EXCLUSIVELY, "INITIALIZED")
-    need(all(state == "READY" for state in td.vcpu_states.values()), "VCPU_STATE_INCORRECT CREATED")
+    need(all(vcpu.state == "READY" for vcpu in td.vcpus.values()), "VCPU_STATE_INCORRECT CREATED")
 
     def effect():
         td.op, td.mrtd, td.measured = "RUNNABLE", td.measured.hexdigest(), None
@@ -305,9 +313,11 @@ def mr_finalize(machine, td_page):
 
 
 def mng_vpflushdone(machine, td_page):
-    """MNG.VPFLUSHDONE TDR. No VCPU is associated without VP.ENTER."""
+    """MNG.VPFLUSHDONE TDR"""
     td = yield from td_alone(machine, td_page)
     need_life(td, "TD_HKID_ASSIGNED", "TD_KEYS_CONFIGURED")
+    associated = sum(vcpu.processor is not None for vcpu in td.vcpus.values())
+    need(associated == 0, f"FLUSHVP_NOT_DONE {associated}")
     yield KEY_TABLE, EXCLUSIVELY
 
     def effect():
@@ -337,25 +347,30 @@ def mng_key_freeid(machine, td_page):
 
 def vp_create(machine, td_page, page):
     """VP.CREATE TDR PAGE"""
-    td = yield from td_with_op(machine, td_page, EXCLUSIVELY, "INITIALIZED")
-    need(len(td.vcpu_states) < 8, "LIMIT VCPUS")
+    td = yield from td_with_op(machine, td_page, EXCLUSIVELY, "INITIALIZED", "MEMORY_IMPORT")
+    limit = min(8, td.expected_vcpus) if td.op == "MEMORY_IMPORT" else 8
+    need(len(td.vcpus) < limit, "LIMIT VCPUS")
     yield of_page(page, EXCLUSIVELY)
     need_free(machine, page)
 
     def effect():
         machine.takes(td_page, page, "PT_TDVPR")
-        td.vcpu_states[page] = "CREATED"
+        td.vcpus[page] = Vcpu(len(td.vcpus))
 
     return effect
 
 
-def vp_init(machine, td_page, page, _value):
-    """VP.INIT TDR VP VALUE. No call that is built reads a register."""
+def vp_init(machine, td_page, page, value):
+    """VP.INIT TDR VP VALUE"""
     td = yield from td_with_op(machine, td_page, SHARED, "INITIALIZED")
     yield of_page(page, EXCLUSIVELY)
-    vcpu_page_of(machine, td_page, page)
-    need(td.vcpu_states[page] == "CREATED", "VCPU_STATE_INCORRECT READY")
-    return lambda: td.vcpu_states.update({page: "READY"})
+    vcpu = vcpu_at(machine, td_page, page)
+    need(vcpu.state == "CREATED", "VCPU_STATE_INCORRECT READY")
+
+    def effect():
+        vcpu.state, vcpu.registers[0] = "READY", value
+
+    return effect
 
 
 # Private memory
@@ -427,9 +442,3 @@ ROWS = {
     "MEM.SEPT.RD": sept_rd,
     "MEM.PAGE.ADD": page_add,
 }
-
-
-def row(machine, name, arguments):
-    """The row of a call: its arguments' rules, and then its line."""
-    check_arguments(machine, name, arguments)
-    return (yield from ROWS[name](machine, *arguments))

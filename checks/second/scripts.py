@@ -2,18 +2,20 @@
 
 import re
 
-from rows import ARGUMENTS, FIELDS
+from calls import ARGUMENTS
+from rows import FIELDS, GPA_END
 
 SCRIPT_END = 1 << 24
 NUMBER_END = 1 << 64
 CALLS_OF_A_PROCESSOR = 4096
+OPERATIONS_OF_A_LIST = 256
 ITEMS = 1 << 20
 
 OUTSIDE = ("schedule", "lp", "code")
-UNBUILT_OUTSIDE = ("code",)
-# The finished grammar's calls that the program doesn't have.
+# The first words of the finished grammar that the program doesn't have.
 UNBUILT = set(
     """
+    code
     VP.ENTER VP.FLUSH
     MEM.SEPT.REMOVE MEM.PAGE.AUG MEM.PAGE.REMOVE MEM.RANGE.BLOCK MEM.RANGE.UNBLOCK MEM.TRACK
     MIG.STREAM.CREATE EXPORT.STATE.IMMUTABLE EXPORT.BLOCKW EXPORT.UNBLOCKW EXPORT.MEM EXPORT.TRACK
@@ -22,10 +24,25 @@ UNBUILT = set(
     IMPORT.END IMPORT.ABORT
     """.split()
 )
+# Guest operations, with the values that each operand may have.
+REGISTER = range(8)
+OPERATIONS = {
+    "set": (REGISTER, range(NUMBER_END)),
+    "secret": (REGISTER, range(512)),
+    "add": (REGISTER, REGISTER),
+    "load": (REGISTER, range(0, 2 * GPA_END, 8)),
+    "store": (REGISTER, range(0, 2 * GPA_END, 8)),
+    "accept": (range(0, GPA_END, 4096),),
+    "rtmr": (range(4),),
+    "vmcall": (REGISTER,),
+}
+SLOTS = range(4096)
+SEALING = ("input", "output")
+
 REASONS = (
     "LENGTH", "UNTERMINATED", "BYTE", "MACHINE", "PLACE", "WORD", "UNBUILT", "COUNT", "NUMBER", "NAME",
     "RANGE", "REPEATED", "FULL", "ENDLESS",
-)
+)  # SLOT comes only where a call that makes a bundle is built
 
 
 class Fault(Exception):
@@ -71,11 +88,15 @@ def numbers(words):
 class Script:
     """A script as far as it was read."""
 
-    def __init__(self):
+    def __init__(self, unbuilt):
+        self.unbuilt = unbuilt
         self.machine = None  # processors, pages, HKIDs
         self.schedule = []
         self.calls = {}  # by processor: names and arguments
-        self.block = None  # the processor whose block isn't ended
+        self.code = {}  # by TDR page and index: operations
+        self.slots = set()
+        self.seals = False  # whether a call seals or opens a bundle
+        self.block = None  # the list into which lines go, and what reads them
 
     def line(self, words):
         """Reads a line that isn't skipped."""
@@ -89,13 +110,14 @@ class Script:
             self.outside(first, rest)
         else:
             need(first not in OUTSIDE, "PLACE")
-            self.call(first, rest)
+            place, reads = self.block
+            reads(place, first, rest)
 
     def outside(self, first, rest):
         """Reads a line that stands outside blocks."""
         need(first in OUTSIDE or first == "machine", "WORD")
-        need(first not in UNBUILT_OUTSIDE, "UNBUILT")
-        {"machine": self.size, "schedule": self.items, "lp": self.begin}[first](rest)
+        need(first not in self.unbuilt, "UNBUILT")
+        {"machine": self.size, "schedule": self.items, "lp": self.begin_calls, "code": self.begin_code}[first](rest)
 
     def size(self, rest):
         """Reads what follows `machine`."""
@@ -116,33 +138,58 @@ class Script:
         for lp, times in turns:
             self.schedule += [lp] * times
 
-    def begin(self, rest):
+    def begin_calls(self, rest):
         """Reads what follows `lp`."""
         need(len(rest) == 1, "COUNT")
         (lp,) = numbers(rest)
         need(lp < self.machine[0], "RANGE")
         need(lp not in self.calls, "REPEATED")
-        self.block, self.calls[lp] = lp, []
+        self.calls[lp] = []
+        self.block = self.calls[lp], self.call
 
-    def call(self, name, rest):
+    def begin_code(self, rest):
+        """Reads what follows `code`."""
+        need(len(rest) == 2, "COUNT")
+        td_page, index = numbers(rest)
+        need(td_page < self.machine[1] and index < 8, "RANGE")
+        need((td_page, index) not in self.code, "REPEATED")
+        self.code[td_page, index] = []
+        self.block = self.code[td_page, index], self.operation
+
+    def call(self, calls, name, rest):
         """Reads a call line."""
-        need(name in ARGUMENTS or name in UNBUILT, "WORD")
-        need(name not in UNBUILT, "UNBUILT")
+        need(name in ARGUMENTS, "WORD")
+        need(name not in self.unbuilt, "UNBUILT")
         kinds = ARGUMENTS[name]
-        need(len(rest) == len(kinds), "COUNT")
+        need(len(rest) == len(kinds) or (name == "EXPORT.ABORT" and len(rest) == 1), "COUNT")
         given = iter(numbers([word for kind, word in zip(kinds, rest) if kind != "field"]))
         arguments = [word if kind == "field" else next(given) for kind, word in zip(kinds, rest)]
         need(all(kind != "field" or word in FIELDS for kind, word in zip(kinds, rest)), "NAME")
-        need(len(self.calls[self.block]) < CALLS_OF_A_PROCESSOR, "FULL")
-        self.calls[self.block].append((name, arguments))
+        outputs = [value for kind, value in zip(kinds, arguments) if kind == "output"]
+        need(all(slot in SLOTS for slot in outputs), "RANGE")
+        need(len(calls) < CALLS_OF_A_PROCESSOR, "FULL")
+        need(self.slots.isdisjoint(outputs), "SLOT")
+        self.slots.update(outputs)
+        self.seals = self.seals or any(kind in SEALING for kind in kinds[: len(rest)])
+        calls.append((name, arguments))
+
+    def operation(self, code, name, rest):
+        """Reads a guest operation."""
+        need(name in OPERATIONS, "WORD")
+        ranges = OPERATIONS[name]
+        need(len(rest) == len(ranges), "COUNT")
+        operands = numbers(rest)
+        need(all(value in allowed for value, allowed in zip(operands, ranges)), "RANGE")
+        need(len(code) < OPERATIONS_OF_A_LIST, "FULL")
+        code.append((name, *operands))
 
 
-def read(text):
-    """The script that these bytes are; raises its Fault."""
+def read(text, unbuilt=frozenset(UNBUILT)):
+    """The script that these bytes are, where the program doesn't have those words; raises its Fault."""
     if len(text) > SCRIPT_END:
         raise Fault(0, "LENGTH")
     *lines, cut = text.split(b"\n")
-    script = Script()
+    script = Script(unbuilt)
     for place, line in enumerate(lines, 1):
         try:
             need(all(0x20 <= byte <= 0x7E for byte in line), "BYTE")

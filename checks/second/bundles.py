@@ -1,0 +1,126 @@
+"""Bundles and containers of docs/profile.md. Only sealing and opening need the package `cryptography`."""
+
+import struct
+from collections import namedtuple
+
+from machine import Refused
+
+MAGIC = b"TDXBNDL1"
+CONTAINER_END = 1 << 29
+LAYOUT = struct.Struct("<HHHBBIIQHHIQQ")
+TAG = slice(48, 64)
+HEADER_BYTES = 64
+SLOT_END, ENTRY_MOST = 4096, 131_072
+IMMUTABLE, TD_STATE, VCPU_STATE, MEMORY, EPOCH_TOKEN, START_TOKEN, ABORT_TOKEN = range(7)
+PAYLOADS = {IMMUTABLE: 48, TD_STATE: 192, VCPU_STATE: 64, MEMORY: 4096, EPOCH_TOKEN: 0, START_TOKEN: 0, ABORT_TOKEN: 0}
+
+Header = namedtuple("Header", "size version stream type reserved counter epoch iv session index info gpa total")
+
+
+def header_of(bundle):
+    """The header's fields."""
+    return Header(*LAYOUT.unpack(bundle[: LAYOUT.size]))
+
+
+def keeps_zeros(header):
+    """Whether the fields are 0 that the type wants to be 0."""
+    kinds = {
+        "reserved": (),
+        "index": (VCPU_STATE,),
+        "info": (IMMUTABLE, VCPU_STATE),
+        "gpa": (MEMORY,),
+        "total": (EPOCH_TOKEN, START_TOKEN),
+        "epoch": tuple(range(ABORT_TOKEN)),
+    }
+    return all(getattr(header, name) == 0 or header.type in types for name, types in kinds.items())
+
+
+def has_values(header):
+    """Whether the other fields have one of their values."""
+    most_info = {IMMUTABLE: 8, VCPU_STATE: 256}.get(header.type, 0)
+    return (
+        header.stream < (4 if header.type == MEMORY else 1)
+        and header.iv == header.counter
+        and header.session > 0
+        and header.index < 8
+        and header.info <= most_info
+        and header.gpa < 1 << 47
+        and header.gpa % 4096 == 0
+    )
+
+
+def form_fault(bundle):
+    """The first fault of a bundle's form, or None."""
+    if len(bundle) < HEADER_BYTES:
+        return "SHORT"
+    header = header_of(bundle)
+    if header.size != HEADER_BYTES:
+        return "SIZE"
+    if header.version != 1:
+        return "VERSION"
+    if header.type not in PAYLOADS:
+        return "TYPE"
+    if not keeps_zeros(header):
+        return "RESERVED"
+    if not has_values(header):
+        return "VALUE"
+    return None if len(bundle) == HEADER_BYTES + PAYLOADS[header.type] else "LENGTH"
+
+
+def cipher(keys, kind):
+    """The cipher of a type's key: types 0 to 5 have the first key, type 6 has the key back."""
+    from cryptography.hazmat.primitives.ciphers.aead import AESGCM
+
+    return AESGCM(keys[32:] if kind == ABORT_TOKEN else keys[:32])
+
+
+def iv_of(header):
+    """The IV of 12 bytes."""
+    return struct.pack("<BBHQ", header.stream, 0, header.session, header.iv)
+
+
+def seal(keys, header, payload):
+    """The bundle with that header and payload."""
+    start = LAYOUT.pack(*header)
+    sealed = cipher(keys, header.type).encrypt(iv_of(header), payload, start)
+    return start + sealed[len(payload) :] + sealed[: len(payload)]
+
+
+def unseal(keys, bundle):
+    """The payload of a bundle; refuses one whose tag is another."""
+    from cryptography.exceptions import InvalidTag
+
+    header = header_of(bundle)
+    sealed = bundle[HEADER_BYTES:] + bundle[TAG]
+    try:
+        return cipher(keys, header.type).decrypt(iv_of(header), sealed, bundle[: LAYOUT.size])
+    except InvalidTag:
+        raise Refused("BUNDLE_TAG") from None
+
+
+class BadContainer(Exception):
+    """A container that isn't in its grammar, with the offset."""
+
+
+def container_of(bundles):
+    """The bytes of a container with these bundles, by slot."""
+    parts = [struct.pack("<II", slot, len(bundle)) + bundle for slot, bundle in sorted(bundles.items())]
+    return MAGIC + b"".join(parts)
+
+
+def bundles_of(container):
+    """The bundles of a container, by slot."""
+    if len(container) > CONTAINER_END:
+        raise BadContainer(CONTAINER_END)
+    if container[: len(MAGIC)] != MAGIC:
+        raise BadContainer(0)
+    bundles, at, last = {}, len(MAGIC), -1
+    while at < len(container):
+        if len(container) - at < 8:
+            raise BadContainer(at)
+        slot, length = struct.unpack_from("<II", container, at)
+        if not last < slot < SLOT_END or length > min(ENTRY_MOST, len(container) - at - 8):
+            raise BadContainer(at)
+        bundles[slot] = container[at + 8 : at + 8 + length]
+        at, last = at + 8 + length, slot
+    return bundles

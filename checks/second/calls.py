@@ -1,0 +1,16 @@
+"""All calls of docs/profile.md but those of its extensions: their arguments, and their rows."""
+
+import memory_rows
+import migration_rows
+import rows
+
+ARGUMENTS = rows.ARGUMENTS | memory_rows.ARGUMENTS | migration_rows.ARGUMENTS
+ROWS = rows.ROWS | memory_rows.ROWS | migration_rows.ROWS
+OF_A_PROCESSOR = ("VP.ENTER", "VP.FLUSH")
+
+
+def row(processor, name, arguments):
+    """The row of a call: its arguments' rules, and then its line."""
+    rows.check_arguments(processor.machine, name, ARGUMENTS[name], arguments)
+    about = processor if name in OF_A_PROCESSOR else processor.machine
+    return (yield from ROWS[name](about, *arguments))

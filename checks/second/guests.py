@@ -1,0 +1,217 @@
+"""Guest code of docs/profile.md: the events of a VCPU from its entry to its exit."""
+
+import hashlib
+import struct
+
+from machine import EXCLUSIVELY, SHARED
+from rows import GPA_END, PAGE_BYTES, entry_key, entry_state
+
+READABLE = ("MAPPED", "BLOCKEDW", "EXPORTED_BLOCKEDW", "EXPORTED_DIRTY", "EXPORTED_DIRTY_BLOCKEDW")
+WRITABLE = ("MAPPED", "EXPORTED_DIRTY")
+TRANSLATIONS = 16
+
+
+def drop_translations(processor, td_page):
+    """Drops a TD's cached translations on a processor."""
+    processor.translations = [kept for kept in processor.translations if kept[0] != td_page]
+
+
+class Guest:
+    """A VCPU in guest on a processor."""
+
+    def __init__(self, processor, td_page, vcpu_page):
+        self.processor, self.machine = processor, processor.machine
+        self.td_page, self.td = td_page, self.machine.tds[td_page]
+        self.vcpu_page, self.vcpu = vcpu_page, self.td.vcpus[vcpu_page]
+        self.code = self.machine.outside.code.get((td_page, self.vcpu.index), [])
+
+    def events(self, parity, most):
+        """The events behind the act of the entry: the release of E, the operations, and the exit."""
+        self.processor.release()
+        yield
+        reason = yield from self.operations(most)
+        self.processor.reply(f"EXIT {reason}")
+        self.td.in_guest[parity] -= 1
+        yield
+        while True:
+            self.processor.release()
+            yield
+
+    def operations(self, most):
+        """The operations of this entry; answers the reason of the exit."""
+        completed = 0
+        while True:
+            if self.vcpu.position >= len(self.code):
+                return "STOP"
+            if completed == most:
+                return "MAX"
+            name, *operands = self.code[self.vcpu.position]
+            reason = yield from OPERATIONS[name](self, *operands)
+            if reason is not None:
+                return reason
+            completed += 1
+
+    def complete(self):
+        """The operation is completed."""
+        self.vcpu.position += 1
+
+    def note(self, line):
+        """Puts a line of this entry into the guest file."""
+        self.processor.guest_lines.append(f"{self.processor.number}.{self.processor.made + 1} {line}")
+
+    def attempt(self, lock, weight):
+        """The operation's own try of a lock, with its undo; answers whether it is held."""
+        granted = self.processor.take(lock, weight)
+        yield
+        if not granted and weight == SHARED:
+            self.machine.locks[lock] -= SHARED
+            yield
+        return granted
+
+    def release(self):
+        """The release of the operation's own lock."""
+        self.processor.release()
+        yield
+
+    def set(self, register, value):
+        """`set R V`"""
+        self.vcpu.registers[register] = value
+        self.complete()
+        yield
+
+    def secret(self, register, place):
+        """`secret R K`"""
+        yield from self.set(register, self.machine.outside.secrets[place])
+
+    def add(self, register, other):
+        """`add R S`"""
+        registers = self.vcpu.registers
+        yield from self.set(register, (registers[register] + registers[other]) % 2**64)
+
+    def vmcall(self, register):
+        """`vmcall R`"""
+        self.complete()
+        yield
+        return f"VMCALL {self.vcpu.registers[register]}"
+
+    def rtmr(self, place):
+        """`rtmr I`"""
+        if not (yield from self.attempt(("R", self.td_page), EXCLUSIVELY)):
+            return "BUSY R"
+        added = struct.pack("<6Q", *self.vcpu.registers[:6])
+        self.td.rtmrs[place] = hashlib.sha384(self.td.rtmrs[place] + added).digest()
+        self.note(f"rtmr {place} {self.td.rtmrs[place].hex()}")
+        self.complete()
+        yield
+        yield from self.release()
+        return None
+
+    def load(self, register, gpa):
+        """`load R GPA`"""
+        return (yield from self.access(register, gpa, False))
+
+    def store(self, register, gpa):
+        """`store R GPA`"""
+        return (yield from self.access(register, gpa, True))
+
+    def access(self, register, gpa, writes):
+        """A load or a store."""
+        violation = f"EPT_VIOLATION {gpa:#x} {'WRITE' if writes else 'READ'}"
+        if gpa >= GPA_END:
+            return (yield from self.shared_access(register, gpa, writes, violation))
+        translation = self.translation(gpa, writes)
+        if translation is None:
+            translation = yield from self.walk(gpa, writes)
+        if translation is None:
+            return violation
+        self.move(register, gpa, translation[2], writes)
+        yield
+        return None
+
+    def move(self, register, gpa, page, writes):
+        """The access to the word of that page, which completes the operation."""
+        words, place = self.machine.pages[page].words, gpa % PAGE_BYTES // 8
+        if writes:
+            words[place] = self.vcpu.registers[register]
+        else:
+            self.vcpu.registers[register] = words.get(place, 0)
+            self.note(f"load {gpa:#x} {self.vcpu.registers[register]}")
+        self.complete()
+
+    def translation(self, gpa, writes):
+        """The cached translation that allows the access, or None."""
+        wanted = (self.td_page, gpa // PAGE_BYTES)
+        for kept in self.processor.translations:
+            if kept[:2] == wanted and (kept[3] or not writes):
+                return kept
+        return None
+
+    def walk(self, gpa, writes):
+        """The walk to a private page, entry by entry; answers the translation that it has cached, or None."""
+        for level in (3, 2, 1):
+            reached = entry_state(self.td, gpa, level) == "NL_MAPPED"
+            yield
+            if not reached:
+                return None
+        state = entry_state(self.td, gpa, 0)
+        if state not in (WRITABLE if writes else READABLE):
+            yield
+            return None
+        page = self.td.entries[entry_key(gpa, 0)].page
+        found = (self.td_page, gpa // PAGE_BYTES, page, state in WRITABLE)
+        others = [kept for kept in self.processor.translations if kept[:2] != found[:2]]
+        self.processor.translations = [*others, found][-TRANSLATIONS:]
+        yield
+        return found
+
+    def shared_access(self, register, gpa, writes, violation):
+        """A load or a store at a shared GPA."""
+        page = (gpa - GPA_END) // PAGE_BYTES
+        if page >= len(self.machine.pages) or page == self.vcpu_page:
+            yield
+            return violation
+        if not (yield from self.attempt(("P", page), SHARED)):
+            return f"BUSY P {page}"
+        allowed = self.machine.pages[page].kind == "PT_NDA"
+        if allowed:
+            self.move(register, gpa, page, writes)
+        yield
+        yield from self.release()
+        return None if allowed else violation
+
+    def accept(self, gpa):
+        """`accept GPA`"""
+        violation = f"EPT_VIOLATION {gpa:#x} WRITE"
+        if not (yield from self.attempt(("T", self.td_page), SHARED)):
+            return "BUSY T"
+        reached = all(entry_state(self.td, gpa, level) == "NL_MAPPED" for level in (3, 2, 1))
+        entry = self.td.entries.get(entry_key(gpa, 0)) if reached else None
+        if entry is None:
+            yield
+            yield from self.release()
+            return violation
+        if not (yield from self.attempt(("P", entry.page), EXCLUSIVELY)):
+            yield from self.release()
+            return f"BUSY P {entry.page}"
+        if entry.state == "PENDING":
+            entry.state = "MAPPED"
+            self.machine.pages[entry.page].words = {}
+        allowed = entry.state in READABLE
+        if allowed:
+            self.complete()
+        yield
+        yield from self.release()
+        yield from self.release()
+        return None if allowed else violation
+
+
+OPERATIONS = {
+    "set": Guest.set,
+    "secret": Guest.secret,
+    "add": Guest.add,
+    "load": Guest.load,
+    "store": Guest.store,
+    "accept": Guest.accept,
+    "rtmr": Guest.rtmr,
+    "vmcall": Guest.vmcall,
+}
