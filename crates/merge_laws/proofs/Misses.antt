@@ -26,7 +26,7 @@ use Rattle.leaf_engine.specs.declared.needs.Need.TheVariants as need
 use Rattle.leaf_engine.specs.declared.needs.Write.{Write}
 use Rattle.leaf_engine.specs.declared.needs.Write.TheVariants as write
 use Rattle.leaf_engine.specs.Changes.{Hand, Memory, Change, Put, PutHash, Raise, Clear, Copy, Swap, changed_all}
-use Rattle.leaf_engine.specs.Trees.{Tree, Lock, Load, Test, End, Since, feed, settle, passed, changes_of}
+use Rattle.leaf_engine.specs.Trees.{Answer, Tree, Lock, Load, Test, End, Since, feed, settle, passed, changes_of}
 use Rattle.leaf_engine.specs.Means.{IsHkid, MayAct, MayFillAll}
 use Rattle.leaf_engine.specs.Decides.{Wants, IsHand}
 use Rattle.leaf_engine.specs.Items.{IsWritten, IsLoaded, IsChanged, AreChanged}
@@ -66,10 +66,10 @@ one-swap m g w mem (PutHash q x) h h' ys zs rest k piece ps may ch i e sw =
     let handed = ch.handed mem.hand i in
     let written : IsWritten (write.Word (step.Store (address m.pages q) (x mem.hand))) ch.between ys h' = subst (λ (z : Write). IsWritten z ch.between ys h') handed.0 ch.written in
     absurd (same-head k (Marked (Stepped (step.Store (address m.pages q) (x mem.hand)) written.1.0)) piece _ ps (ap (λ (z : List Taken). marked_behind 0 (z ++ zs) ++ rest) (sym written.1.1) ∙ e) sw)
-one-swap m g w mem (Raise q) h h' ys zs rest k piece ps may ch i e sw =
+one-swap m g w mem (Raise q more) h h' ys zs rest k piece ps may ch i e sw =
     let handed = ch.handed mem.hand i in
-    let written : IsWritten (write.Word (step.Add (address m.pages q) 1)) ch.between ys h' = subst (λ (z : Write). IsWritten z ch.between ys h') handed.0 ch.written in
-    absurd (same-head k (Marked (Stepped (step.Add (address m.pages q) 1) written.1.0)) piece _ ps (ap (λ (z : List Taken). marked_behind 0 (z ++ zs) ++ rest) (sym written.1.1) ∙ e) sw)
+    let written : IsWritten (write.Word (step.Add (address m.pages q) more)) ch.between ys h' = subst (λ (z : Write). IsWritten z ch.between ys h') handed.0 ch.written in
+    absurd (same-head k (Marked (Stepped (step.Add (address m.pages q) more) written.1.0)) piece _ ps (ap (λ (z : List Taken). marked_behind 0 (z ++ zs) ++ rest) (sym written.1.1) ∙ e) sw)
 one-swap m g w mem (Clear q) h h' ys zs rest k piece ps may ch i e sw = absurd may
 one-swap m g w mem (Copy q r) h h' ys zs rest k piece ps may ch i e sw = absurd may
 one-swap m g w mem (Swap j made) h h' ys zs rest k piece ps may ch i e sw =
@@ -107,18 +107,18 @@ module _ (ls : Laws) (o : Opening) (trees : ℕ → Call → Tree) (s : State) (
   Allowed = MaySwap o.machine (bare (s.lps p).call.held) s.world k
 
   -- the fills that are left, and the act
-  of-fills : (c : Call) (cs : List Call) (run after : Standing) (reply : Reply) (fs ds : List Change) (stores : List Taken) (left : List Todo) (act : List Taken) (hasher : Option Measure) (rest : List Piece) → AreTodos o.machine.pages stores left
-      → AreChanged o.machine ds None act hasher → EndMay o.machine (bare (s.lps p).call.held) s.world ((row_of o p c).act s.world) mem (End reply fs ds) → IsHand None (changed_all fs mem).hand
+  of-fills : (c : Call) (cs : List Call) (run after : Standing) (answer : Answer) (fs ds : List Change) (stores : List Taken) (left : List Todo) (act : List Taken) (hasher : Option Measure) (rest : List Piece) → AreTodos o.machine.pages stores left
+      → AreChanged o.machine ds None act hasher → EndMay o.machine (bare (s.lps p).call.held) s.world ((row_of o p c).act s.world) mem (End answer fs ds) → IsHand None (changed_all fs mem).hand
       → map Unmarked stores ++ (marked_behind 0 act ++ rest) ≡ piece ∷ ps → Allowed
-  of-fills c cs run after reply fs ds (Stepped w x ∷ stores) left act hasher rest todo ch may none e = absurd (same-head k (Unmarked (Stepped w x)) piece _ ps e sw)
-  of-fills c cs run after reply fs ds (Swapped j a b ∷ stores) left act hasher rest todo ch may none e = absurd todo
-  of-fills c cs run after reply fs ds (Missed j ∷ stores) left act hasher rest todo ch may none e = absurd todo
-  of-fills c cs run after reply fs [] [] left act hasher rest todo ch may none e =
+  of-fills c cs run after answer fs ds (Stepped w x ∷ stores) left act hasher rest todo ch may none e = absurd (same-head k (Unmarked (Stepped w x)) piece _ ps e sw)
+  of-fills c cs run after answer fs ds (Swapped j a b ∷ stores) left act hasher rest todo ch may none e = absurd todo
+  of-fills c cs run after answer fs ds (Missed j ∷ stores) left act hasher rest todo ch may none e = absurd todo
+  of-fills c cs run after answer fs [] [] left act hasher rest todo ch may none e =
       absurd (same-head k Wordless piece rest ps (ap (λ (z : List Taken). marked_behind 0 z ++ rest) (sym ch.1) ∙ e) sw)
-  of-fills c cs run after reply fs (c1 ∷ ds) [] left act hasher rest todo ch may none e =
+  of-fills c cs run after answer fs (c1 ∷ ds) [] left act hasher rest todo ch may none e =
       one-swap o.machine (bare (s.lps p).call.held) s.world (changed_all fs mem) c1 None ch.0 ch.1.0 ch.1.1.0 rest k piece ps may.1.0 ch.1.1.2 none (ap (λ (z : List Taken). marked_behind 0 z ++ rest) (sym ch.1.1.1) ∙ e) sw
 
-  of-verdict : (c : Call) (cs : List Call) (run run' : Standing) (e : RunEvent) (tree : Tree) (changes : List Taken) (reply : Reply) (rest : List Piece) (a : AtTurn o trees s mem t pos p c cs run) → (st : run.stage ≡ stages.Trying) → Ended o.machine run run' tree changes reply
+  of-verdict : (c : Call) (cs : List Call) (run run' : Standing) (e : RunEvent) (tree : Tree) (changes : List Taken) (reply : Reply) (rest : List Piece) (a : AtTurn o trees s mem t pos p c cs run) → (st : run.stage ≡ stages.Trying) → Ended o.machine run run' e tree changes reply
       → feed (trees p c) (a.runs.call.told st).told ≡ tree → Wants o.machine.pages tree (need.Verdict reply) → act_pieces tree [] changes ++ rest ≡ piece ∷ ps → Allowed
   of-verdict c cs run run' e (Lock l q m x) changes reply rest a st en is g h = cc
   of-verdict c cs run run' e (Load v q f) changes reply rest a st en is g h = cc
@@ -164,10 +164,11 @@ module _ (ls : Laws) (o : Opening) (trees : ℕ → Call → Tree) (s : State) (
           let l : run.rest ≡ tree = subst (λ (z : List Taken). IsLoaded o.machine.pages run.rest z tree) f gi.goes.loaded in
           let told : feed (trees p c) (a.runs.call.told st).told ≡ settle tree = sym (told-tree o trees s mem t pos p c cs run a st) ∙ ap settle l in
           let items : gi.items ≡ re.changes = re.items ∙ ap (λ (z : List Taken). z ++ re.changes) f in
-          let en : Ended o.machine run run' (settle tree) re.changes reply = record {
+          let en : Ended o.machine run run' e (settle tree) re.changes reply = record {
             hasher = re.hasher;
             changed = subst (λ (z : Tree). AreChanged o.machine (changes_of z) run.hasher re.changes re.hasher) at re.changed;
             after = re.after ∙ ap (λ (z : Tree). standing z (stages.Answered reply) run.held re.hasher) at;
+            act = re.event;
           } in
           of-verdict c cs run run' e (settle tree) re.changes reply rest a st en told g
           (ap (λ (z : Tree). act_pieces z [] re.changes ++ rest) (sym at) ∙ (ap (λ (z : List Taken). act_pieces (passed (settle tree)) [] z ++ rest) (sym items) ∙ (ap (λ (z : List Piece). z ++ rest) (sym q) ∙ h)))
@@ -225,7 +226,7 @@ module _ (ls : Laws) (o : Opening) (trees : ℕ → Call → Tree) (s : State) (
   has-in-hand c None last hand e f = (None, tt)
   has-in-hand c (Some r) last hand e f = (hand, subst (λ (z : Option Measure). IsHand z hand) (sym e) f)
 
-  of-line : (cs : List Call) → (pos p).at.lines ≡ cs → (pos p).swaps ≡ [] → (last : Option Measure) (hand : Hand) → HasInHand (pos p).at.run last → IsHand last hand → (e : RunEvent) (tp rest : List Piece) (after : WordLp) → LinesTurn (leaf_for o trees p) o.machine cs (pos p).at.run (pos p).at.replies e tp after
+  of-line : (cs : List Call) → (pos p).at.lines ≡ cs → (pos p).swaps ≡ [] → (last : Option Measure) (hand : Hand) → HasInHand (pos p).at.run last → IsHand last hand → (e : RunEvent) (tp rest : List Piece) (after : WordLp) → LinesTurn (leaf_for o trees p) o.machine cs (pos p).at.run (pos p).at.replies (pos p).at.beside e tp after
       → tp ++ rest ≡ piece ∷ ps → Allowed
   of-line [] l no-swaps last hand has f e tp rest after lt hd = absurd lt
   of-line (c ∷ cs) l no-swaps last hand has f e tp rest after lt hd =
@@ -262,7 +263,7 @@ module _ (ls : Laws) (o : Opening) (trees : ℕ → Call → Tree) (s : State) (
         may = inr may.0.1;
       }
 
-  of-filling : (f : Fill) → (pos p).fill ≡ Some f → (c : Call) (cs : List Call) → (pos p).at.lines ≡ c ∷ cs → (run : Standing) → (pos p).at.run ≡ Some run → RestFilling o trees p c cs (pos p).at.replies (pos p).swaps run f (piece ∷ ps) end_ → Allowed
+  of-filling : (f : Fill) → (pos p).fill ≡ Some f → (c : Call) (cs : List Call) → (pos p).at.lines ≡ c ∷ cs → (run : Standing) → (pos p).at.run ≡ Some run → RestFilling o trees p c cs (pos p).at.replies (pos p).at.beside (pos p).swaps run f (piece ∷ ps) end_ → Allowed
   of-filling f n c cs l run r re =
       let m = o.machine in
       let mine = bare (s.lps p).call.held in
@@ -275,21 +276,23 @@ module _ (ls : Laws) (o : Opening) (trees : ℕ → Call → Tree) (s : State) (
       let none : IsHand run.hasher None = subst (λ (z : Option Measure). IsHand z None) (sym ((runs-at c cs l run is).trying st)) tt in
       let a = at-turn c cs l run is going re.no_swaps None none in
       let told = (a.runs.call.told st).told in
-      let tree-is : feed (trees p c) told ≡ End f.reply f.fills f.changes = sym (told-tree o trees s mem t pos p c cs run a st) ∙ ap settle due.at_end.1 in
-      let en : AtEnd o trees s mem p c told told f.reply run re.after (record { event = events.Act; reply = last_reply re.after.stage re.after.held }) = record {
+      let tree-is : feed (trees p c) told ≡ End f.answer f.fills f.changes = sym (told-tree o trees s mem t pos p c cs run a st) ∙ ap settle due.at_end.1 in
+      let en : AtEnd o trees s mem p c told told f.answer.reply run re.after (record { event = events.Act; reply = last_reply re.after.stage re.after.held }) = record {
         current = (a.runs.call.told st).current;
         locks = refl;
-        gives = subst (λ (z : Tree). Wants m.pages z (need.Verdict f.reply)) (sym tree-is) refl;
+        gives = subst (λ (z : Tree). Wants m.pages z (need.Verdict f.answer.reply)) (sym tree-is) refl;
         answered = ap (λ (z : Standing). z.stage) re.after_is;
         held = ap (λ (z : Standing). z.held) re.after_is;
         last = refl;
+        act = refl;
+        rest_is = ap (λ (z : Standing). z.rest) re.after_is ∙ sym tree-is;
       } in
-      let may : EndMay m mine s.world ((row_of o p c).act s.world) mem (End f.reply f.fills f.changes) =
-      subst (λ (z : Tree). EndMay m mine s.world ((row_of o p c).act s.world) mem z) tree-is (end-may o trees s mem t pos p c cs told f.reply run re.after (record { event = events.Act; reply = last_reply re.after.stage re.after.held }) a st en) in
-      of-fills c cs run re.after f.reply f.fills f.changes re.stores f.left re.act re.hasher (joined re.turns) re.are re.changed may
+      let may : EndMay m mine s.world ((row_of o p c).act s.world) mem (End f.answer f.fills f.changes) =
+      subst (λ (z : Tree). EndMay m mine s.world ((row_of o p c).act s.world) mem z) tree-is (end-may o trees s mem t pos p c cs told f.answer.reply run re.after (record { event = events.Act; reply = last_reply re.after.stage re.after.held }) a st en) in
+      of-fills c cs run re.after f.answer f.fills f.changes re.stores f.left re.act re.hasher (joined re.turns) re.are re.changed may
       (hand-as None None (changed_all f.fills mem).hand None refl ((fills-rest m mine s.world f.fills mem (fills-may m mine f.changes may)).1 ∙ sd.hand) tt) (sym re.pieces)
     where
-      fills-may : (m : Machine) (g : Grip) (ds : List Change) → EndMay m g s.world ((row_of o p c).act s.world) mem (End f.reply f.fills ds) → MayFillAll m g s.world f.fills
+      fills-may : (m : Machine) (g : Grip) (ds : List Change) → EndMay m g s.world ((row_of o p c).act s.world) mem (End f.answer f.fills ds) → MayFillAll m g s.world f.fills
       fills-may m g [] e = e
       fills-may m g (c1 ∷ ds) e = e.0
 
