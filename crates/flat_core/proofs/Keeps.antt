@@ -36,13 +36,13 @@ use Rattle.flat_core.proofs.Tests.{by_test, host_kind, tdr_kind, range_of, some_
 use Rattle.flat_core.proofs.Pages.{taken, other, taken_node, taken_controls, taken_list, unowned, taken_pages}
 use Rattle.flat_core.proofs.Exports.{counts_of, new_counted, counted_still, taken_where}
 use Rattle.flat_core.proofs.Maps.{kind_named, is_upper, map_kept, walk_passed}
-use Rattle.flat_core.proofs.Parts.{IsLive, LawfulBut, new_kept, write_back_kept, life_kept, flush_kept, op_kept, epoch_kept, begin_kept, measure_kept, end_kept, control_kept, vp_kept, taken_kept, ended_kept, left_kept}
+use Rattle.flat_core.proofs.Parts.{IsLive, LawfulBut, untouched, new_kept, write_back_kept, life_kept, flush_kept, op_kept, epoch_kept, begin_kept, measure_kept, end_kept, control_kept, vp_kept, taken_kept, ended_kept, left_kept}
 
 pub host_read-keeps : (m : Machine) (page i : ℕ) → RowKeeps m (host_read m page i)
 host_read-keeps m page i = record { act = λ w l ps. l; to_tell = λ w. refl }
 
 pub host_write-keeps : (m : Machine) (page i v : ℕ) → RowKeeps m (host_write m page i v)
-host_write-keeps m page i v = record { act = λ w l ps. record { size = l.size; pages = l.pages; tds = l.tds; lists = l.lists; tree = l.tree; keys = l.keys; beginnings = l.beginnings; counts = l.counts }; to_tell = λ w. refl }
+host_write-keeps m page i v = record { act = λ w l ps. untouched m w _ refl l; to_tell = λ w. refl }
 
 pub read_metadata-keeps : (m : Machine) (page : ℕ) → RowKeeps m (read_metadata m page)
 read_metadata-keeps m page = record { act = λ w l ps. l; to_tell = λ w. refl }
@@ -78,7 +78,7 @@ reclaim_kept m w t p b e l root dead ps = by b e ps
     w' = end_memory_in t p w
 
     l' : Lawful m w'
-    l' = record { size = l.size; pages = l.pages; tds = l.tds; lists = l.lists; tree = l.tree; keys = l.keys; beginnings = l.beginnings; counts = l.counts }
+    l' = untouched m w w' refl l
 
     by : (b : Bool) → (p == t) ≡ b → Passes (reclaim_conditions w t p b) → Lawful m ((reclaim_page m t p).act w)
     by true e ps =
@@ -272,7 +272,7 @@ cleared_but : (m : Machine) (p : ℕ) (w : World) → LawfulBut m w p → Lawful
 cleared_but m p w l = record { size = l.size; pages = l.pages; tds = l.tds; control = l.control; vp = l.vp; stream = l.stream; index = l.index; tree = l.tree; keys = l.keys; beginnings = l.beginnings; counts = l.counts }
 
 cleared : (m : Machine) (p : ℕ) (w : World) → Lawful m w → Lawful m (clear_page p w)
-cleared m p w l = record { size = l.size; pages = l.pages; tds = l.tds; lists = l.lists; tree = l.tree; keys = l.keys; beginnings = l.beginnings; counts = l.counts }
+cleared m p w l = untouched m w _ refl l
 
 -- MNG.ADDCX
 pub add_tdcx-keeps : (m : Machine) (t p : ℕ) → RowKeeps m (add_tdcx m t p)
@@ -352,7 +352,7 @@ create_vp-keeps m t p = record {
 }
 
 pub initialize_vp-keeps : (m : Machine) (t v x : ℕ) → RowKeeps m (initialize_vp m t v x)
-initialize_vp-keeps m t v x = record { act = λ w l ps. record { size = l.size; pages = l.pages; tds = l.tds; lists = l.lists; tree = l.tree; keys = l.keys; beginnings = l.beginnings; counts = l.counts }; to_tell = λ w. refl }
+initialize_vp-keeps m t v x = record { act = λ w l ps. untouched m w _ refl l; to_tell = λ w. refl }
 
 -- the number of the entry that maps a GPA
 within : (gpa level : ℕ) → nat_lt gpa (2 ^ 47) ≡ true → number_at level gpa * level_size level < 2 ^ 47
@@ -385,7 +385,7 @@ read_sept-keeps m t gpa level = record { act = λ w l ps. l; to_tell = λ w. ref
 
 -- MEM.PAGE.ADD
 added_words : (m : Machine) (t g p : ℕ) (ws : ℕ → ℕ) (w : World) → Lawful m w → Lawful m (begin_memory t g ws (set_page p ws w))
-added_words m t g p ws w l = record { size = l.size; pages = l.pages; tds = l.tds; lists = l.lists; tree = l.tree; keys = l.keys; beginnings = l.beginnings; counts = l.counts }
+added_words m t g p ws w l = untouched m w _ refl l
 
 pub add_page-keeps : (m : Machine) (t gpa p source : ℕ) → RowKeeps m (add_page m t gpa p source)
 add_page-keeps m t gpa p source = record {
