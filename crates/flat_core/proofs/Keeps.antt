@@ -271,9 +271,6 @@ configure_key-keeps m t = record {
 cleared_but : (m : Machine) (p : ℕ) (w : World) → LawfulBut m w p → LawfulBut m (clear_page p w) p
 cleared_but m p w l = record { size = l.size; pages = l.pages; tds = l.tds; control = l.control; vp = l.vp; stream = l.stream; index = l.index; tree = l.tree; keys = l.keys; beginnings = l.beginnings; counts = l.counts }
 
-cleared : (m : Machine) (p : ℕ) (w : World) → Lawful m w → Lawful m (clear_page p w)
-cleared m p w l = untouched m w _ refl l
-
 -- MNG.ADDCX
 pub add_tdcx-keeps : (m : Machine) (t p : ℕ) → RowKeeps m (add_tdcx m t p)
 add_tdcx-keeps m t p = record {
@@ -375,7 +372,7 @@ add_sept-keeps m t gpa level p = record {
       let kept : Lawful m (map_page p (kind_named level) entry.NlMapped t level (number_at level gpa) w) =
       map_kept m w p t level (number_at level gpa) entry.NlMapped (host_kind _ behind.0.1.0) (ltb-true p m.pages ps.1.1.1.0) l (tdr_kind _ ps.1.1.1.1.1.1.0) ps.1.1.1.1.1.1.1.1.0
       (free_of (entry_at w t level gpa).state behind.0.0) behind.1 refl (sym at.1) refl at.0 (within gpa level ps.1.0) in
-      cleared m p (map_page p kind.Ept entry.NlMapped t level (number_at level gpa) w)
+      untouched m (map_page p kind.Ept entry.NlMapped t level (number_at level gpa) w) _ refl
       (subst (λ (k : PageKind). Lawful m (map_page p k entry.NlMapped t level (number_at level gpa) w)) (sym at.2) kept);
   to_tell = λ w. refl;
 }
@@ -384,9 +381,6 @@ pub read_sept-keeps : (m : Machine) (t gpa level : ℕ) → RowKeeps m (read_sep
 read_sept-keeps m t gpa level = record { act = λ w l ps. l; to_tell = λ w. refl }
 
 -- MEM.PAGE.ADD
-added_words : (m : Machine) (t g p : ℕ) (ws : ℕ → ℕ) (w : World) → Lawful m w → Lawful m (begin_memory t g ws (set_page p ws w))
-added_words m t g p ws w l = untouched m w _ refl l
-
 pub add_page-keeps : (m : Machine) (t gpa p source : ℕ) → RowKeeps m (add_page m t gpa p source)
 add_page-keeps m t gpa p source = record {
   act = λ w l ps.
@@ -398,7 +392,7 @@ add_page-keeps m t gpa p source = record {
       map_kept m w p t 0 (number_at 0 gpa) entry.Mapped (host_kind _ behind.0.1.1.0) (ltb-true p m.pages ps.1.1.0) l (tdr_kind _ head.0) built
       (free_of (entry_at w t 0 gpa).state behind.0.0) behind.1 refl refl refl (lit≤ tt) (within gpa 0 ps.1.0) in
       let w2 : World = begin_memory t (page_of_gpa gpa) (w.words source) (set_page p (w.words source) w1) in
-      measure_kept m w2 t built (added_words m t (page_of_gpa gpa) p (w.words source) w1 l1) (page_record gpa);
+      measure_kept m w2 t built (untouched m w1 w2 refl l1) (page_record gpa);
   to_tell = λ w. refl;
 }
 
