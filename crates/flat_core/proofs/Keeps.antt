@@ -36,13 +36,13 @@ use Rattle.flat_core.proofs.Tests.{by_test, host_kind, tdr_kind, range_of, some_
 use Rattle.flat_core.proofs.Pages.{taken, other, taken_node, taken_controls, taken_list, unowned, taken_pages}
 use Rattle.flat_core.proofs.Exports.{counts_of, new_counted, counted_still, taken_where}
 use Rattle.flat_core.proofs.Maps.{kind_named, is_upper, map_kept, walk_passed}
-use Rattle.flat_core.proofs.Parts.{IsLive, LawfulBut, new_kept, write_back_kept, life_kept, flush_kept, op_kept, epoch_kept, begin_kept, measure_kept, end_kept, control_kept, vp_kept, taken_kept, ended_kept, left_kept}
+use Rattle.flat_core.proofs.Parts.{IsLive, LawfulBut, untouched, new_kept, write_back_kept, life_kept, flush_kept, op_kept, epoch_kept, begin_kept, measure_kept, end_kept, control_kept, vp_kept, taken_kept, ended_kept, left_kept}
 
 pub host_read-keeps : (m : Machine) (page i : ℕ) → RowKeeps m (host_read m page i)
 host_read-keeps m page i = record { act = λ w l ps. l; to_tell = λ w. refl }
 
 pub host_write-keeps : (m : Machine) (page i v : ℕ) → RowKeeps m (host_write m page i v)
-host_write-keeps m page i v = record { act = λ w l ps. record { size = l.size; pages = l.pages; tds = l.tds; lists = l.lists; tree = l.tree; keys = l.keys; beginnings = l.beginnings; counts = l.counts }; to_tell = λ w. refl }
+host_write-keeps m page i v = record { act = λ w l ps. untouched m w _ refl l; to_tell = λ w. refl }
 
 pub read_metadata-keeps : (m : Machine) (page : ℕ) → RowKeeps m (read_metadata m page)
 read_metadata-keeps m page = record { act = λ w l ps. l; to_tell = λ w. refl }
@@ -78,7 +78,7 @@ reclaim_kept m w t p b e l root dead ps = by b e ps
     w' = end_memory_in t p w
 
     l' : Lawful m w'
-    l' = record { size = l.size; pages = l.pages; tds = l.tds; lists = l.lists; tree = l.tree; keys = l.keys; beginnings = l.beginnings; counts = l.counts }
+    l' = untouched m w w' refl l
 
     by : (b : Bool) → (p == t) ≡ b → Passes (reclaim_conditions w t p b) → Lawful m ((reclaim_page m t p).act w)
     by true e ps =
@@ -271,9 +271,6 @@ configure_key-keeps m t = record {
 cleared_but : (m : Machine) (p : ℕ) (w : World) → LawfulBut m w p → LawfulBut m (clear_page p w) p
 cleared_but m p w l = record { size = l.size; pages = l.pages; tds = l.tds; control = l.control; vp = l.vp; stream = l.stream; index = l.index; tree = l.tree; keys = l.keys; beginnings = l.beginnings; counts = l.counts }
 
-cleared : (m : Machine) (p : ℕ) (w : World) → Lawful m w → Lawful m (clear_page p w)
-cleared m p w l = record { size = l.size; pages = l.pages; tds = l.tds; lists = l.lists; tree = l.tree; keys = l.keys; beginnings = l.beginnings; counts = l.counts }
-
 -- MNG.ADDCX
 pub add_tdcx-keeps : (m : Machine) (t p : ℕ) → RowKeeps m (add_tdcx m t p)
 add_tdcx-keeps m t p = record {
@@ -352,7 +349,7 @@ create_vp-keeps m t p = record {
 }
 
 pub initialize_vp-keeps : (m : Machine) (t v x : ℕ) → RowKeeps m (initialize_vp m t v x)
-initialize_vp-keeps m t v x = record { act = λ w l ps. record { size = l.size; pages = l.pages; tds = l.tds; lists = l.lists; tree = l.tree; keys = l.keys; beginnings = l.beginnings; counts = l.counts }; to_tell = λ w. refl }
+initialize_vp-keeps m t v x = record { act = λ w l ps. untouched m w _ refl l; to_tell = λ w. refl }
 
 -- the number of the entry that maps a GPA
 within : (gpa level : ℕ) → nat_lt gpa (2 ^ 47) ≡ true → number_at level gpa * level_size level < 2 ^ 47
@@ -375,7 +372,7 @@ add_sept-keeps m t gpa level p = record {
       let kept : Lawful m (map_page p (kind_named level) entry.NlMapped t level (number_at level gpa) w) =
       map_kept m w p t level (number_at level gpa) entry.NlMapped (host_kind _ behind.0.1.0) (ltb-true p m.pages ps.1.1.1.0) l (tdr_kind _ ps.1.1.1.1.1.1.0) ps.1.1.1.1.1.1.1.1.0
       (free_of (entry_at w t level gpa).state behind.0.0) behind.1 refl (sym at.1) refl at.0 (within gpa level ps.1.0) in
-      cleared m p (map_page p kind.Ept entry.NlMapped t level (number_at level gpa) w)
+      untouched m (map_page p kind.Ept entry.NlMapped t level (number_at level gpa) w) _ refl
       (subst (λ (k : PageKind). Lawful m (map_page p k entry.NlMapped t level (number_at level gpa) w)) (sym at.2) kept);
   to_tell = λ w. refl;
 }
@@ -384,9 +381,6 @@ pub read_sept-keeps : (m : Machine) (t gpa level : ℕ) → RowKeeps m (read_sep
 read_sept-keeps m t gpa level = record { act = λ w l ps. l; to_tell = λ w. refl }
 
 -- MEM.PAGE.ADD
-added_words : (m : Machine) (t g p : ℕ) (ws : ℕ → ℕ) (w : World) → Lawful m w → Lawful m (begin_memory t g ws (set_page p ws w))
-added_words m t g p ws w l = record { size = l.size; pages = l.pages; tds = l.tds; lists = l.lists; tree = l.tree; keys = l.keys; beginnings = l.beginnings; counts = l.counts }
-
 pub add_page-keeps : (m : Machine) (t gpa p source : ℕ) → RowKeeps m (add_page m t gpa p source)
 add_page-keeps m t gpa p source = record {
   act = λ w l ps.
@@ -398,7 +392,7 @@ add_page-keeps m t gpa p source = record {
       map_kept m w p t 0 (number_at 0 gpa) entry.Mapped (host_kind _ behind.0.1.1.0) (ltb-true p m.pages ps.1.1.0) l (tdr_kind _ head.0) built
       (free_of (entry_at w t 0 gpa).state behind.0.0) behind.1 refl refl refl (lit≤ tt) (within gpa 0 ps.1.0) in
       let w2 : World = begin_memory t (page_of_gpa gpa) (w.words source) (set_page p (w.words source) w1) in
-      measure_kept m w2 t built (added_words m t (page_of_gpa gpa) p (w.words source) w1 l1) (page_record gpa);
+      measure_kept m w2 t built (untouched m w1 w2 refl l1) (page_record gpa);
   to_tell = λ w. refl;
 }
 

@@ -13,16 +13,17 @@ use Rattle.flat_core.specs.Event.{State, Event, OfCall, OfOperation, Walks, Reac
 use Rattle.flat_core.specs.Lawful.{Lawful}
 use Rattle.flat_core.specs.Laws.{IsKept, with_bundles, IsLawful, IsLawfulWith, LawfulIsKept, EveryWorldIsLawful, EventsKeepLawful, OthersStay, QuietEventsStay, NoWordsToTell}
 use Rattle.flat_core.proofs.Induction.{world_event, in_runs}
+use Rattle.flat_core.proofs.Parts.{untouched}
 use Rattle.flat_core.proofs.Keeps.{row-keeps, first-lawful}
 
 -- a guest's access changes words, registers, memories and positions alone
 reach_lawful : (o : Opening) (t v : ℕ) (access : Access) (r gpa page : ℕ) (w : World) → Lawful o.machine w → Lawful o.machine (reach t v access r gpa page w)
-reach_lawful o t v Read r gpa page w l = record { size = l.size; pages = l.pages; tds = l.tds; lists = l.lists; tree = l.tree; keys = l.keys; beginnings = l.beginnings; counts = l.counts }
-reach_lawful o t v Write r gpa page w l = record { size = l.size; pages = l.pages; tds = l.tds; lists = l.lists; tree = l.tree; keys = l.keys; beginnings = l.beginnings; counts = l.counts }
+reach_lawful o t v Read r gpa page w l = untouched o.machine w _ refl l
+reach_lawful o t v Write r gpa page w l = untouched o.machine w _ refl l
 
 -- and a count step which virtual processors are in guest
 pub leave_lawful : (o : Opening) (v : ℕ) (w : World) → Lawful o.machine w → Lawful o.machine (leave_guest v w)
-leave_lawful o v w l = record { size = l.size; pages = l.pages; tds = l.tds; lists = l.lists; tree = l.tree; keys = l.keys; beginnings = l.beginnings; counts = l.counts }
+leave_lawful o v w l = untouched o.machine w _ refl l
 
 pub events_keep : EventsKeepLawful
 events_keep o s p l =

@@ -26,6 +26,25 @@ use Rattle.flat_core.proofs.Exports.{IsOfExported, counts_kept, taken_where}
 abbrev pub IsLive : LifeState → Type 0
 IsLive s = (life_number s == life_number life.Teardown) ≡ false
 
+-- All that `Lawful` looks at of a world. What changes nothing of it leaves the world lawful.
+abbrev Looked : Type 0
+Looked = ℕ × Pages × Tds × (ℕ → ℕ) × KeyTable × (ℕ → ℕ → ℕ) × Streams
+
+abbrev pub looked_at : World → Looked
+looked_at w = (w.size, w.pages, w.tds, w.vps.indexes, w.key_table, w.hidden.rtmrs, w.streams)
+
+pub untouched : (m : Machine) (w v : World) → looked_at w ≡ looked_at v → Lawful m w → Lawful m v
+untouched m w v e l = record {
+  size = ap (λ (x : Looked). x.0) (sym e) ∙ l.size;
+  pages = subst (λ (x : Looked). LawfulPages m.pages x.1) e l.pages;
+  tds = subst (λ (x : Looked). LawfulTds x.1 x.2) e l.tds;
+  lists = subst (λ (x : Looked). LawfulLists x.1 x.2 x.3) e l.lists;
+  tree = subst (λ (x : Looked). LawfulTree m.pages x.1 x.2) e l.tree;
+  keys = subst (λ (x : Looked). LawfulKeys m.hkids x.1 x.2 x.4) e l.keys;
+  beginnings = subst (λ (x : Looked). LawfulBeginnings x.1 x.2 x.5) e l.beginnings;
+  counts = subst (λ (x : Looked). LawfulCounts m.pages x.1 x.2 x.6) e l.counts;
+}
+
 -- what pages, map, HKIDs and counts say of TDs
 pub record SameShape (tds tds' : Tds) : Type 0 where
   pub hkids : tds'.hkids ≡ tds.hkids

@@ -136,6 +136,7 @@ ExportedAreCounted = HoldsInRuns (λ o s. AreCounted s.world)
 abbrev pub LawfulIsKept : Type 0
 LawfulIsKept = IsKept IsLawful
 
+-- so does each event of any opening with that machine
 abbrev pub EventsKeepLawful : Type 0
 EventsKeepLawful = (o : Opening) (s : State) (p : ℕ) → Lawful o.machine s.world → Lawful o.machine (event o s p).world
 

@@ -24,7 +24,8 @@ pub fn row_laws()
     ensures one_use { PagesHaveOneUse }
 {}
 
-/// Each event keeps a world lawful, and every schedule leads to a lawful one: who owns which page and
+/// Every run starts in a lawful world, each event keeps it lawful, whatever bundles have come in, and
+/// so every schedule leads to a lawful one: who owns which page and
 /// in which list or entry of its TD that page stands, which pages a TD's entries name, whose each HKID
 /// is, and how many entries of a TD are dirty and how many are exported.
 pub fn lawful_law()
@@ -33,19 +34,19 @@ pub fn lawful_law()
     ensures run { EveryWorldIsLawful }
 {}
 
-/// In every world that a schedule leads to, the entries of TDs that aren't in TD_TEARDOWN name pages
-/// that their own TD owns, no page twice, and so none of the host's; and an entry of its TD names
-/// each secure EPT page and each private page of such a TD.
+/// In every lawful world, and so in every world that a schedule leads to, the entries of TDs that
+/// aren't in TD_TEARDOWN name pages that their own TD owns, no page twice, and so none of the host's;
+/// and an entry of its TD names each secure EPT page and each private page of such a TD.
 pub fn ownership_law()
     ensures lawful { LawfulPagesAreOwned }
     ensures kept { OwnersAreKept }
     ensures run { EveryPageIsOwned }
 {}
 
-/// In every world that a schedule leads to, as many entries of a TD that isn't in TD_TEARDOWN are dirty
-/// as pages were dirtied less all that its streams cleaned, and as many are exported as unrestored
-/// entries and all first exports say together, modulo 2^64 (TD Migration Architecture, "Private Memory
-/// Migration").
+/// In every lawful world, and so in every world that a schedule leads to, as many entries of a TD that
+/// isn't in TD_TEARDOWN are dirty as pages were dirtied less all that its streams cleaned, and as many
+/// are exported as unrestored entries and all first exports say together, modulo 2^64 (TD Migration
+/// Architecture, "Private Memory Migration").
 pub fn count_law()
     ensures lawful { LawfulWorldsAreCounted }
     ensures kept { CountsAreKept }
@@ -65,23 +66,27 @@ pub fn event_laws()
     ensures left { RefusalsLeaveTheirReply }
 {}
 
-/// Nobody holds a lock beside one who holds it alone, after any schedule.
+/// Nobody holds a lock beside one who holds it alone: at the start of every run, after each event,
+/// whatever bundles have come in, and so after any schedule.
 pub fn lock_law()
     ensures kept { ExclusionIsKept }
     ensures run { LocksExclude }
 {}
 
 /// The tree lock of a TD can't be busy for a processor that holds the TD's op state lock alone: no
-/// other holds it or is being refused it, and a try of it is granted in either mode.
+/// other holds it or is being refused it, and a try of it is granted in either mode. So it is where
+/// what each call holds are the first locks that it tries, which each event keeps, whatever bundles
+/// have come in.
 pub fn tree_lock_law()
     ensures kept { OrderIsKept }
     ensures free { TreeIsFreeInOrder }
     ensures run { TreeIsNeverBusy }
 {}
 
-/// Every call tries as many locks as the leaf table says at most, and ends after a number of its own
+/// Every call tries the locks of its list, as many as the leaf table says at most, and ends after a number of its own
 /// events that this bounds, whatever the other processors do: 2n + 1 where it succeeds with n locks,
-/// and one where it is refused for an argument. At the end of a run no processor has an event left.
+/// and one where it is refused for an argument. No processor holds more locks than its call may try,
+/// which each event keeps, whatever bundles have come in. At the end of a run no processor has an event left.
 /// An event brings one reply or none; after any schedule a processor has no more replies than lines,
 /// and at the end of a run it has exactly one for each.
 pub fn end_laws()
@@ -108,15 +113,17 @@ pub fn two_world_law()
     ensures agreeing { AgreeingRunsShowTheSame }
 {}
 
-/// After any schedule, MRTD of a TD in RUNNABLE is read as the digest of what it has measured, and no
-/// event but the act of a call changes what TDs have measured.
+/// MRTD of a TD in RUNNABLE is read as the digest of what it has measured: at the start of every run,
+/// after each event, whatever bundles have come in, and so after any schedule. No event but the act of
+/// a call changes what TDs have measured.
 pub fn measurement_laws()
     ensures kept { MrtdsAreKept }
     ensures mrtd { EveryMrtdIsTheDigest }
     ensures events { EventsMeasure }
 {}
 
-/// After any schedule, what the guest of a TD knows of a private page is what the page holds.
+/// What the guest of a TD knows of a private page is what the page holds: at the start of every run,
+/// after each event of a lawful world, whatever bundles have come in, and so after any schedule.
 pub fn memory_law()
     ensures kept { MemoriesAreKept }
     ensures run { GuestsKnowTheirPages }

@@ -23,7 +23,7 @@ use Rattle.word_rules.specs.Cells.{Shows}
 use Rattle.lock_words.specs.Grips.{holds, holds_alone}
 use Rattle.lock_words.specs.LockWords.{tdcs_of}
 use Rattle.leaf_engine.specs.Trees.{Tree}
-use Rattle.leaf_engine.specs.Means.{Instant, Work, Means}
+use Rattle.leaf_engine.specs.Means.{Instant, Work, Means, LocksStay}
 use Rattle.leaf_parts.specs.declared.heads.Td.{Td}
 use Rattle.leaf_parts.specs.Words.{life_told, op_told, page_told}
 use Rattle.leaf_parts.specs.Heads.{root_tree, life_tree, tdcs_tree, op_tree, td_head_tree, tdr_head_tree}
@@ -35,6 +35,11 @@ holds-newest p m hs = rw (eq-eqb p p refl) refl
 
 pub alone-newest : (p : ℕ) (hs : List Held) → holds_alone (record { lock = OfPage p; mode = Exclusive } ∷ hs) (OfPage p) ≡ true
 alone-newest p hs = rw (eq-eqb p p refl) refl
+
+-- where the world stays, locks do
+pub locks-stay : (w : World) (hs : List Held) → LocksStay w w hs
+locks-stay w [] = tt
+locks-stay w (h ∷ hs) = ((refl, λ x. x), locks-stay w hs)
 
 abbrev pub page_lock : ℕ → Mode → Held
 page_lock p mode = record { lock = OfPage p; mode = mode }

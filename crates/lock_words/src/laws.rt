@@ -39,8 +39,10 @@ pub fn td_locks_stay()
     ensures stand { HeadsStand }
 {}
 
-/// After any schedule whoever holds, or is being refused, a lock of a TD holds P of its TDR page,
-/// and the locks that are held, or being refused, stand; and both are so of a lock that a call tries.
+/// Whoever holds, or is being refused, a lock of a TD holds P of its TDR page, and the locks that are
+/// held, or being refused, stand; and both are so of a lock that a call tries. So it is where locks are
+/// sound, as at the start of every run and after each event, whatever bundles have come in; and so
+/// after any schedule.
 pub fn reached_locks_stand()
     ensures kept { SoundnessIsKept }
     ensures sound { SoundLocksStand }

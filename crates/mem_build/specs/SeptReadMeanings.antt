@@ -18,15 +18,11 @@ use Rattle.word_rules.specs.Cells.{Shows}
 use Rattle.word_rules.proofs.Conflicts.{respects-compose}
 use Rattle.leaf_engine.specs.declared.needs.Place.{Place}
 use Rattle.leaf_engine.specs.Trees.{answers}
-use Rattle.leaf_engine.specs.Means.{Instant, Means, MeansRow, Work, LocksStay, work_of, OfCall, hold}
+use Rattle.leaf_engine.specs.Means.{Instant, Means, MeansRow, Work, work_of, OfCall, hold}
+use Rattle.leaf_parts.proofs.Begun.{locks-stay}
 use Rattle.sept_parts.specs.SeptTrees.{td_find_tree}
 use Rattle.sept_parts.proofs.SeptBegun.{row-find-means}
 use Rattle.mem_build.specs.SeptReadTrees.{sept_read_task}
-
--- what is there stays
-stay : (w : World) (hs : List Held) → LocksStay w w hs
-stay w [] = tt
-stay w (h ∷ hs) = ((refl, λ x. x), stay w hs)
 
 module _ (m : Machine) (c : Instant) (t gpa level : ℕ) (in_page : t < m.pages) (limit : m.pages ≤ 1024) (la : Lawful m c.state.world) (sh : Shows m c.memory.words c.memory.slots c.state) (small : gpa < 2 ^ 47) (few : level ≤ 3) where
   abbrev w : World
@@ -36,7 +32,7 @@ module _ (m : Machine) (c : Instant) (t gpa level : ℕ) (in_page : t < m.pages)
   k = work_of (OfCall (read_sept m t gpa level))
 
   answered : (hs : List Held) → Means m c k hs (answers (Done (entry_value (entry_at w t level gpa)))) []
-  answered hs = (record { answers = record { reply_is = refl; cached_is = refl; enters_is = refl; notes_are = refl; tells_are = refl; bundles_are = refl }; fills_allowed = tt; respects = respects-compose.same (hold c hs) w; locks_stay = stay w hs; shows = sh }, tt)
+  answered hs = (record { answers = record { reply_is = refl; cached_is = refl; enters_is = refl; notes_are = refl; tells_are = refl; bundles_are = refl }; fills_allowed = tt; respects = respects-compose.same (hold c hs) w; locks_stay = locks-stay w hs; shows = sh }, tt)
 
   entry-read : Means m c k [] (td_find_tree m.pages t (record { op = Shared; tree = Exclusive }) begun_ops gpa level (λ found. answers (Done (entry_value found.entry)))) (td_shared w t begun_ops ++ tree_exclusive t ∷ walk w t gpa level)
   entry-read =

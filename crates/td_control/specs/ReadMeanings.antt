@@ -24,16 +24,11 @@ use Rattle.word_rules.proofs.Conflicts.{respects-compose}
 use Rattle.lock_words.specs.Grips.{holds}
 use Rattle.leaf_engine.specs.declared.needs.Place.{Place}
 use Rattle.leaf_engine.specs.Trees.{Load, answers}
-use Rattle.leaf_engine.specs.Means.{Instant, Means, MeansRow, Work, work_of, OfCall, hold, LocksStay}
+use Rattle.leaf_engine.specs.Means.{Instant, Means, MeansRow, Work, work_of, OfCall, hold}
 use Rattle.leaf_parts.specs.Words.{life_told}
-use Rattle.leaf_parts.proofs.Begun.{root-means, td-head-means, page_lock, op_lock, holds-newest, IsTd, TwoControls}
+use Rattle.leaf_parts.proofs.Begun.{locks-stay, root-means, td-head-means, page_lock, op_lock, holds-newest, IsTd, TwoControls}
 use Rattle.leaf_parts.proofs.Told.{life-back, tdr-spot, tdr-shown, tdcs-spot, tdcs-shown}
 use Rattle.td_control.specs.ReadTrees.{epoch_word_tree, words_tree, value_tree, read_task}
-
--- what is there stays
-stay : (w : World) (hs : List Held) → LocksStay w w hs
-stay w [] = tt
-stay w (h ∷ hs) = ((refl, λ x. x), stay w hs)
 
 module _ (m : Machine) (c : Instant) (t : ℕ) (f : ReadField) (in_page : t < m.pages) (la : Lawful m c.state.world) (sh : Shows m c.memory.words c.memory.slots c.state) where
   abbrev w : World
@@ -43,7 +38,7 @@ module _ (m : Machine) (c : Instant) (t : ℕ) (f : ReadField) (in_page : t < m.
   k = work_of (OfCall (read_td m t f))
 
   answered : (hs : List Held) (v : Value) → v ≡ field_value w t f → Means m c k hs (answers (Done v)) []
-  answered hs v is = (record { answers = record { reply_is = ap Done is; cached_is = refl; enters_is = refl; notes_are = refl; tells_are = refl; bundles_are = refl }; fills_allowed = tt; respects = respects-compose.same (hold c hs) w; locks_stay = stay w hs; shows = sh }, tt)
+  answered hs v is = (record { answers = record { reply_is = ap Done is; cached_is = refl; enters_is = refl; notes_are = refl; tells_are = refl; bundles_are = refl }; fills_allowed = tt; respects = respects-compose.same (hold c hs) w; locks_stay = locks-stay w hs; shows = sh }, tt)
 
   life-read : f ≡ field.Life → Means m c k [] (value_tree m.pages t field.Life (λ v. answers (Done v))) (page_shared t ∷ root w t ∷ [])
   life-read is = root-means m c k t in_page la sh Shared (Load Whole (place.Word t TDR_LIFE) (λ life. answers (Done (value.Life (life_told life))))) []
