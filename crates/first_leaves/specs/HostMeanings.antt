@@ -43,10 +43,10 @@ read_end p page i c true e s in_page in_word =
     let now : c.memory.words (place.Word page i) ≡ c.state.world.words page i = rw nda at (s.word (place.Word page i) (in_page, in_word)) in (
       (in_page, in_word),
       inr (rw nda (inl (holds-newest page Shared c.kept, tt)), refl),
-      (record { reply_is = rw (e, now) refl; fills_allowed = tt; respects = respects-compose.same (hold c (record { lock = OfPage page; mode = Shared } ∷ [])) c.state.world; locks_stay = ((refl, λ x. x), tt); shows = s }, tt),
+      (record { answers = record { reply_is = rw (e, now) refl; cached_is = refl; enters_is = refl; notes_are = refl; tells_are = refl; bundles_are = refl }; fills_allowed = tt; respects = respects-compose.same (hold c (record { lock = OfPage page; mode = Shared } ∷ [])) c.state.world; locks_stay = ((refl, λ x. x), tt); shows = s }, tt),
     )
 read_end p page i c false e s in_page in_word =
-    (record { reply_is = rw e refl; fills_allowed = tt; respects = respects-compose.same (hold c (record { lock = OfPage page; mode = Shared } ∷ [])) c.state.world; locks_stay = ((refl, λ x. x), tt); shows = s }, tt)
+    (record { answers = record { reply_is = rw e refl; cached_is = refl; enters_is = refl; notes_are = refl; tells_are = refl; bundles_are = refl }; fills_allowed = tt; respects = respects-compose.same (hold c (record { lock = OfPage page; mode = Shared } ∷ [])) c.state.world; locks_stay = ((refl, λ x. x), tt); shows = s }, tt)
 
 pub host_read-means : (p : Place) (page i : ℕ) → MeansRow (host_read_task p page i)
 host_read-means p page i = record {
@@ -147,7 +147,7 @@ host_write-means p page i v = record {
                 λ e. refl,
                 λ e. (let nda : c.state.world.pages.kinds page ≡ kind.Nda = host_kind (c.state.world.pages.kinds page) e in (
                   record {
-                    reply_is = refl;
+                    answers = record { reply_is = refl; cached_is = refl; enters_is = refl; notes_are = refl; tells_are = refl; bundles_are = refl };
                     fills_allowed = tt;
                     respects = respects_stored (hold c (record { lock = OfPage page; mode = Shared } ∷ [])) page i v c.state.world;
                     locks_stay = ((refl, λ x. x), tt);
@@ -196,7 +196,7 @@ rdmd-means p page few = record {
             inl (inl (holds-newest page Shared c.kept, tt)),
             (
               record {
-                reply_is = rw (word, read) refl;
+                answers = record { reply_is = rw (word, read) refl; cached_is = refl; enters_is = refl; notes_are = refl; tells_are = refl; bundles_are = refl };
                 fills_allowed = tt;
                 respects = respects-compose.same (hold c (record { lock = OfPage page; mode = Shared } ∷ [])) c.state.world;
                 locks_stay = ((refl, λ x. x), tt);

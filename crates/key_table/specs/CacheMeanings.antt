@@ -202,7 +202,7 @@ cache-means p = record {
     record { in_machine = omega arith; at = refl; stands = tt; allowed = inl tt },
     loads p.machine c 3 p.machine.hkids [] (omega arith) (omega arith) (
       record {
-        reply_is = refl;
+        answers = record { reply_is = refl; cached_is = refl; enters_is = refl; notes_are = refl; tells_are = refl; bundles_are = refl };
         fills_allowed = tt;
         respects = back_respects p.machine c at.lawful;
         locks_stay = ((refl, λ x. x), tt);

@@ -177,7 +177,7 @@ module _ (m : Machine) (c : Instant) (t : ℕ) (shown : Shows m c.memory.words c
       λ e. refl,
       λ back. (
         record {
-          reply_is = refl;
+          answers = record { reply_is = refl; cached_is = refl; enters_is = refl; notes_are = refl; tells_are = refl; bundles_are = refl };
           fills_allowed = tt;
           respects = free_respects back;
           locks_stay = ((refl, λ x. x), ((refl, λ x. x), tt));

@@ -101,7 +101,7 @@ module _ (m : Machine) (c : Instant) (t : ℕ) (shown : Shows m c.memory.words c
         (let now : c.memory.words (place.Word t 1) ≡ h = tdr-shown m c.memory.words c.memory.slots c.state shown t 1 is own in_page (omega arith) in
             subst (λ (k : ℕ). Means m c work (both_locks t) (acts (Done value.Nothing) (end_changes m t k (FlushedOf t false) life.Blocked)) []) (sym now) (
               record {
-                reply_is = refl;
+                answers = record { reply_is = refl; cached_is = refl; enters_is = refl; notes_are = refl; tells_are = refl; bundles_are = refl };
                 fills_allowed = tt;
                 respects = flush_respects none;
                 locks_stay = ((refl, λ x. x), ((refl, λ x. x), tt));

@@ -252,7 +252,7 @@ module _ (m : Machine) (c : Instant) (t page : ℕ) (sh : Shows m c.memory.words
           λ n. rw child-count refl,
           λ none. (
             record {
-              reply_is = refl;
+              answers = record { reply_is = refl; cached_is = refl; enters_is = refl; notes_are = refl; tells_are = refl; bundles_are = refl };
               fills_allowed = tt;
               respects = back_respects (page_alone t) true e (holds-newest t Exclusive c.kept) (alone-newest t c.kept) (none, tt) tt;
               locks_stay = ((refl, λ y. y), tt);
@@ -284,7 +284,7 @@ module _ (m : Machine) (c : Instant) (t page : ℕ) (sh : Shows m c.memory.words
               inl (rw (tdr-spot the_world t 2 is own_tdr) (inl (sole, tt))),
               subst (λ (n : ℕ). Means m c the_work (two_locks t page) (acts (Done value.Nothing) (give_back_child t page n)) []) (sym child-count) (
                 record {
-                  reply_is = refl;
+                  answers = record { reply_is = refl; cached_is = refl; enters_is = refl; notes_are = refl; tells_are = refl; bundles_are = refl };
                   fills_allowed = tt;
                   respects = back_respects (two_locks t page) false e has sole (owned, tt) ((holds-newest page Exclusive (page_alone t ++ c.kept), alone), tt);
                   locks_stay = ((refl, λ y. y), ((refl, λ y. y), tt));

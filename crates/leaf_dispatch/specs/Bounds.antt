@@ -5,17 +5,17 @@ use Rattle.flat_core.specs.Table.{most_tries}
 use Rattle.flat_core.specs.Run.{events_in}
 use Rattle.leaf_engine.specs.declared.events.Stage.{Stage}
 use Rattle.leaf_engine.specs.declared.events.Stage.TheVariants as stage
-use Rattle.leaf_engine.specs.Trees.{Tree, Lock, Load, Test, End, Since}
+use Rattle.leaf_engine.specs.Trees.{Tree, Lock, Load, Test, End, Since, only}
 use Rattle.leaf_engine.specs.Turns.{Standing}
 use Rattle.leaf_engine.specs.OwnLists.{WordLp}
 
--- at most so many locks are tried in a tree, whatever words it is told
+-- at most so many locks are tried in a tree, whatever words it is told, and it answers nothing besides a reply
 abbrev pub TriesAtMost : ℕ → Tree → Type 0
 TriesAtMost n (Lock l q m t) = (1 ≤ n) × TriesAtMost (n - 1) t
 TriesAtMost n (Load v q k) = (x : ℕ) → TriesAtMost n (k x)
 TriesAtMost n (Test b r t) = TriesAtMost n t
-TriesAtMost n (End r fs cs) = Unit {0}
-TriesAtMost n (Since r cs) = Unit {0}
+TriesAtMost n (End a fs cs) = a ≡ only a.reply
+TriesAtMost n (Since a cs) = a ≡ only a.reply
 
 -- a run of a leaf with at most so many tries in all, as long as it is on its way
 abbrev pub FewTries : ℕ → Standing → Type 0

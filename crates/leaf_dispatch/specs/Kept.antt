@@ -25,8 +25,8 @@ TriesAtMost-prop : (n : ℕ) (t : Tree) → IsProp (TriesAtMost n t)
 TriesAtMost-prop n (Lock l q m t) = hlevel (props, TriesAtMost-prop (n - 1) t)
 TriesAtMost-prop n (Load v q k) = hlevel (λ (x : ℕ). TriesAtMost-prop n (k x))
 TriesAtMost-prop n (Test b r t) = TriesAtMost-prop n t
-TriesAtMost-prop n (End r fs cs) = hlevel
-TriesAtMost-prop n (Since r cs) = hlevel
+TriesAtMost-prop n (End a fs cs) = hlevel props
+TriesAtMost-prop n (Since a cs) = hlevel props
 
 pub IsUnderWay-prop : (m : Machine) (c : Call) (r : Running) → IsProp (IsUnderWay m c r)
 IsUnderWay-prop m c r = hlevel (props, AreIn-prop, IsStageIn-prop, TriesAtMost-prop)

@@ -15,8 +15,8 @@ use Rattle.leaf_engine.specs.Items.{IsLoadAt, IsLoaded, IsWritten, IsChanged, Ar
 pub loaded : (n : ℕ) (s : Tree) (at : ℕ) → Wants n s (need.Load at) → IsLoadAt n s at × (passed s ≡ s)
 loaded n (Load v q k) at h = (cc, refl)
 loaded n (Lock l q m t) at h = cc
-loaded n (End r fs cs) at h = cc
-loaded n (Since r cs) at h = cc
+loaded n (End a fs cs) at h = cc
+loaded n (Since a cs) at h = cc
 loaded n (Test b out t) at h = absurd h
 
 pub load-more : (n : ℕ) (t u : Tree) (xs : List Taken) (at w : ℕ) → IsLoaded n t xs u → IsLoadAt n (settle u) at

@@ -176,20 +176,6 @@ pub weight-small : (mode : Mode) → weight_of mode ≤ 2 ^ 63
 weight-small Shared = omega arith
 weight-small Exclusive = omega arith
 
--- the whole of a turn, from what the event makes of the processor's record
-pub finish : (o : Opening) (task : Task) (row : Row) (s : State) (u : Table) (run : Standing) (reply : Option Reply) (mv : Move Reply) (mem : Memory) → next_event o s task.place.lp ≡ Some (OfCall row mv)
-    → Shows task.place.machine mem.words mem.slots (event o s task.place.lp) → IsMemory task.place.machine u run.hasher mem
-    → (let lp = settled (call_lp s.world (is_granted s (OfCall row mv)) row mv (s.lps task.place.lp)) in
-    GoesOn o task row (s.lps task.place.lp).replies (call_world row mv s.world) mem lp run reply ⊎ IsOver (s.lps task.place.lp).replies lp reply)
-    → After o task row (s.lps task.place.lp).replies (event o s task.place.lp) u run reply
-finish o task row s u run reply mv mem e sh mm x =
-    let me = task.place.lp in
-    let lp : Lp = settled (call_lp s.world (is_granted s (OfCall row mv)) row mv (s.lps me)) in
-    let at-lp : GoesOn o task row (s.lps task.place.lp).replies (call_world row mv s.world) mem ((stepped s me row mv).lps me) run reply ⊎ IsOver (s.lps me).replies ((stepped s me row mv).lps me) reply =
-    subst (λ (z : Lp). GoesOn o task row (s.lps task.place.lp).replies (call_world row mv s.world) mem z run reply ⊎ IsOver (s.lps me).replies z reply) (sym (lp-now s me lp)) x in
-    let at-state = subst (λ (z : State). GoesOn o task row (s.lps task.place.lp).replies z.world mem (z.lps me) run reply ⊎ IsOver (s.lps me).replies (z.lps me) reply) (sym (event-is o s me row mv e)) at-lp in
-    record { mem = mem; shown = sh; memory = mm; then_ = at-state }
-
 -- a lock's word in memory
 pub put-memory : (m : Machine) (u : Table) (h : Option Measure) (mem : Memory) (q : WordPlace) (x y : ℕ) → x ≡ y → IsMemory m u h (record mem { words = put_word mem.words q x }) → IsMemory m u h (record mem { words = put_word mem.words q y })
 put-memory m u h mem q x y e mm = subst (λ (z : ℕ). IsMemory m u h (record mem { words = put_word mem.words q z })) e mm

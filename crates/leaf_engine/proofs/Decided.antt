@@ -11,7 +11,7 @@ use Rattle.leaf_engine.specs.declared.plans.Stop.TheVariants as stop
 use Rattle.leaf_engine.specs.declared.plans.Verdict.{Verdict}
 use Rattle.word_rules.specs.Views.{look}
 use Rattle.leaf_engine.specs.Changes.{Hand, Change, Put, PutHash, Raise, Clear, Copy, Swap, is_plain, are_plain}
-use Rattle.leaf_engine.specs.Trees.{Tree, Lock, Load, Test, End, Since, feed, settle, passed, changes_of, changes_left}
+use Rattle.leaf_engine.specs.Trees.{Answer, Tree, Lock, Load, Test, End, Since, feed, settle, passed, changes_of, changes_left}
 use Rattle.leaf_engine.specs.Inside.{WriteInside, WritesInside}
 use Rattle.leaf_engine.specs.Decides.{Decides, Wants, need_for, told_then, write_of, hand_for, IsHand, HandsNext}
 
@@ -22,8 +22,8 @@ feed-append (Load v q k) [] ys = refl
 feed-append (Load v q k) (x ∷ xs) ys = feed-append (k (look v x)) xs ys
 feed-append (Test true r t) xs ys = feed-append t xs ys
 feed-append (Test false r t) xs ys = refl
-feed-append (End r fs cs) xs ys = refl
-feed-append (Since r cs) xs ys = refl
+feed-append (End a fs cs) xs ys = refl
+feed-append (Since a cs) xs ys = refl
 
 pub settled : (t : Tree) (xs : List ℕ) → settle (feed t xs) ≡ feed t xs
 settled t xs = feed-append t xs [] ∙ ap (feed t) (append-nil xs)
@@ -35,17 +35,17 @@ decides-gives n (Load v q k) [] r h = ap need_for h
 decides-gives n (Load v q k) (x ∷ xs) r h = decides-gives n (k (look v x)) xs r h
 decides-gives n (Test true out t) xs r h = decides-gives n t xs r (h.0 refl)
 decides-gives n (Test false out t) xs r h = ap need_for (h.1 refl)
-decides-gives n (End reply fs cs) xs (Ok v) h = ap need.Verdict h.0
-decides-gives n (End reply fs cs) xs (Err e) h = absurd h
-decides-gives n (Since reply cs) xs (Ok v) h = ap need.Verdict h.0
-decides-gives n (Since reply cs) xs (Err e) h = absurd h
+decides-gives n (End a fs cs) xs (Ok v) h = ap (λ (z : Answer). need.Verdict z.reply) (sym h.0)
+decides-gives n (End a fs cs) xs (Err e) h = absurd h
+decides-gives n (Since a cs) xs (Ok v) h = ap (λ (z : Answer). need.Verdict z.reply) (sym h.0)
+decides-gives n (Since a cs) xs (Err e) h = absurd h
 
 -- what is left of a tree once it gave a need
 stays : (n : ℕ) (s : Tree) (v : Verdict) → Wants n s (need_for (Ok v)) → s ≡ passed s
 stays n (Load v q k) u h = refl
 stays n (Lock l q m t) u h = cc
-stays n (End reply fs cs) u h = refl
-stays n (Since reply cs) u h = refl
+stays n (End a fs cs) u h = refl
+stays n (Since a cs) u h = refl
 stays n (Test b out t) u h = absurd h
 
 goes-by : (n : ℕ) (s : Tree) (e : Stop) → Wants n s (need_for (Err e)) → feed s (told_then [] e) ≡ passed s
@@ -55,8 +55,8 @@ goes-by n (Load v q k) (stop.Refused reply) h = refl
 goes-by n (Lock l q m t) (stop.Lock name at m') h = refl
 goes-by n (Lock l q m t) (stop.Load at) h = cc
 goes-by n (Lock l q m t) (stop.Refused reply) h = cc
-goes-by n (End reply fs cs) e h = refl
-goes-by n (Since reply cs) e h = refl
+goes-by n (End a fs cs) e h = refl
+goes-by n (Since a cs) e h = refl
 goes-by n (Test b out t) e h = absurd h
 
 then-behind : (xs : List ℕ) (e : Stop) → told_then xs e ≡ xs ++ told_then [] e
@@ -88,8 +88,8 @@ decided-writes n (Load w q k) [] v h = cc
 decided-writes n (Load w q k) (x ∷ xs) v h = decided-writes n (k (look w x)) xs v h
 decided-writes n (Test true out t) xs v h = decided-writes n t xs v (h.0 refl)
 decided-writes n (Test false out t) xs v h = (let e = h.1 refl in cc)
-decided-writes n (End reply fs cs) xs v h = record { items_are = h.1; plain = h.2 }
-decided-writes n (Since reply cs) xs v h = record { items_are = h.1; plain = h.2 }
+decided-writes n (End a fs cs) xs v h = record { items_are = h.1; plain = h.2 }
+decided-writes n (Since a cs) xs v h = record { items_are = h.1; plain = h.2 }
 
 decided-none : (n : ℕ) (t : Tree) (xs : List ℕ) (e : Stop) → Decides n t xs (Err e) → changes_of (feed t xs) ≡ []
 decided-none n (Lock l q m t) [] e h = refl
@@ -98,8 +98,8 @@ decided-none n (Load v q k) [] e h = refl
 decided-none n (Load v q k) (x ∷ xs) e h = decided-none n (k (look v x)) xs e h
 decided-none n (Test true out t) xs e h = decided-none n t xs e (h.0 refl)
 decided-none n (Test false out t) xs e h = refl
-decided-none n (End reply fs cs) xs e h = absurd h
-decided-none n (Since reply cs) xs e h = absurd h
+decided-none n (End a fs cs) xs e h = absurd h
+decided-none n (Since a cs) xs e h = absurd h
 
 drop_none : (k : ℕ) → drop {A = Change} k [] ≡ []
 drop_none zero = refl

@@ -6,6 +6,7 @@ use Rattle.td_words.specs.declared.names.Mode.TheVariants.{Shared, Exclusive}
 use Rattle.td_words.specs.declared.machines.Machine.{Machine}
 use Rattle.td_words.specs.declared.replies.Reply.{Reply}
 use Rattle.td_words.specs.Place.{WordPlace, address}
+use Rattle.td_words.specs.Laws.{PlacesInjective}
 use Rattle.mrtd_measure.specs.declared.measures.Measure.{Measure}
 use Rattle.flat_core.specs.World.{World}
 use Rattle.flat_core.specs.Processor.{LockId, name_of, Held, Phase, Trying, Undoing, Answered, Progress, nothing_yet, Lp}
@@ -18,6 +19,7 @@ use Rattle.word_rules.specs.Cells.{Shows, IsAs, cell_in, lock_word}
 use Rattle.lock_words.specs.LockWords.{place_of, Stands, LockWordsFollow, LockStepsShown, lock_of, IsNext, adds, takes_off, move_adds, move_takes_off, weight_of as lock_weight}
 use Rattle.step_core.specs.Locks.{weight_of as step_weight}
 use Rattle.step_core.specs.Items.{Table, Taken, PlaysTo}
+use Rattle.step_core.specs.Laws.{PagesChangeAlone}
 use Rattle.leaf_engine.specs.declared.events.Event.{Event as RunEvent}
 use Rattle.leaf_engine.specs.declared.events.Event.TheVariants as events
 use Rattle.leaf_engine.specs.declared.events.RunTurn.{RunTurn}
@@ -25,18 +27,25 @@ use Rattle.leaf_engine.specs.declared.events.HeldLock.{HeldLock}
 use Rattle.leaf_engine.specs.declared.events.Stage.{Stage}
 use Rattle.leaf_engine.specs.declared.events.Stage.TheVariants as stages
 use Rattle.leaf_engine.specs.Changes.{Memory}
+use Rattle.leaf_engine.specs.Trees.{Answer, only, answer_of}
 use Rattle.lock_words.specs.LockWords.{put_word}
 use Rattle.leaf_engine.specs.Means as meaning
-use Rattle.leaf_engine.specs.Means.{Task, Meaning, Instant, IsAt, work_of, acted, hold, MeansRow, LocksStay}
+use Rattle.leaf_engine.specs.Means.{Task, Meaning, Instant, IsAt, work_of, hold, MeansRow, LocksStay}
 use Rattle.leaf_engine.specs.Tables.{IsMemory}
 use Rattle.leaf_engine.specs.Turns.{Standing, TurnBy, TakesBack, GivesBack, busy, last_reply, has_ended, grants, denied}
-use Rattle.leaf_engine.specs.Shown.{OnWay, move_due, locks_held, word_tried, TriesRow, EndsRow, TurnShows}
+use Rattle.leaf_engine.specs.Shown.{OnWay, move_due, locks_held, word_tried, TriesRow, EndsBy, EndsRow, TurnShows}
 use Rattle.leaf_engine.specs.Calls.{IsLockAt, AreLocks, IsStage, IsTold, IsShown}
-use Rattle.leaf_engine.specs.Doing.{event_of, out_move, HasMoves, work_world, IsDoing, LeafAt, LeafAfter, LeavesFollow}
+use Rattle.leaf_engine.specs.Doing.{event_of, out_move, HasMoves, work_world, IsDoing, LeafAt, IsNoAct, LeafAfter, LeavesFollow}
 use Rattle.leaf_engine.proofs.Showing.{turns-show}
 use Rattle.leaf_engine.proofs.Untouched.{still-current}
 use Rattle.leaf_engine.proofs.Calling.{same-itself, word-small, grants-same, tried-value, freed-value, weight-small, freed-memory, snoc, locks-after}
-use Rattle.leaf_engine.proofs.Turning.{Laws}
+
+-- the laws that it rests on
+pub record Laws : Type 0 where
+  pub follow : LockWordsFollow
+  pub steps : LockStepsShown
+  pub places : PlacesInjective
+  pub pages : PagesChangeAlone
 
 -- what an event of a leaf's move makes of locks and the world
 
@@ -53,35 +62,35 @@ quiet-of (meaning.OfOperation t v row) h (Refuses r) n = tt
 quiet-of (meaning.OfOperation t v row) h Succeeds n = absurd (n refl)
 quiet-of (meaning.OfOperation t v row) h (Releases x) n = tt
 quiet-of (meaning.OfOperation t v row) h Rests n = tt
-quiet-of (meaning.OfAccess t v access r gpa page) h mv n = absurd h
+quiet-of (meaning.OfAccess t v line access r gpa page) h mv n = absurd h
 quiet-of (meaning.OfWalk t v access gpa level page) h mv n = absurd h
 quiet-of (meaning.OfExit t v out) h mv n = absurd h
 
 lock-tried : (k : Meaning) → HasMoves k → (l : LockId) (m : Mode) → lock_of (event_of k (Attempts l m)) ≡ Some l
 lock-tried (meaning.OfCall row) h l m = refl
 lock-tried (meaning.OfOperation t v row) h l m = refl
-lock-tried (meaning.OfAccess t v access r gpa page) h l m = absurd h
+lock-tried (meaning.OfAccess t v line access r gpa page) h l m = absurd h
 lock-tried (meaning.OfWalk t v access gpa level page) h l m = absurd h
 lock-tried (meaning.OfExit t v out) h l m = absurd h
 
 lock-undone : (k : Meaning) → HasMoves k → (l : LockId) → lock_of (event_of k (Undoes l)) ≡ Some l
 lock-undone (meaning.OfCall row) h l = refl
 lock-undone (meaning.OfOperation t v row) h l = refl
-lock-undone (meaning.OfAccess t v access r gpa page) h l = absurd h
+lock-undone (meaning.OfAccess t v line access r gpa page) h l = absurd h
 lock-undone (meaning.OfWalk t v access gpa level page) h l = absurd h
 lock-undone (meaning.OfExit t v out) h l = absurd h
 
 lock-freed : (k : Meaning) → HasMoves k → (x : Held) → lock_of (event_of k (Releases x)) ≡ Some x.lock
 lock-freed (meaning.OfCall row) h x = refl
 lock-freed (meaning.OfOperation t v row) h x = refl
-lock-freed (meaning.OfAccess t v access r gpa page) h x = absurd h
+lock-freed (meaning.OfAccess t v line access r gpa page) h x = absurd h
 lock-freed (meaning.OfWalk t v access gpa level page) h x = absurd h
 lock-freed (meaning.OfExit t v out) h x = absurd h
 
 lock-refused : (k : Meaning) → HasMoves k → (r : Reply) → lock_of (event_of k (Refuses r)) ≡ None
 lock-refused (meaning.OfCall row) h r = refl
 lock-refused (meaning.OfOperation t v row) h r = refl
-lock-refused (meaning.OfAccess t v access rg gpa page) h r = absurd h
+lock-refused (meaning.OfAccess t v line access rg gpa page) h r = absurd h
 lock-refused (meaning.OfWalk t v access gpa level page) h r = absurd h
 lock-refused (meaning.OfExit t v out) h r = absurd h
 
@@ -96,7 +105,7 @@ adds-of (meaning.OfOperation t v row) h (Refuses r) b l = refl
 adds-of (meaning.OfOperation t v row) h Succeeds b l = refl
 adds-of (meaning.OfOperation t v row) h (Releases x) b l = refl
 adds-of (meaning.OfOperation t v row) h Rests b l = refl
-adds-of (meaning.OfAccess t v access r gpa page) h mv b l = absurd h
+adds-of (meaning.OfAccess t v line access r gpa page) h mv b l = absurd h
 adds-of (meaning.OfWalk t v access gpa level page) h mv b l = absurd h
 adds-of (meaning.OfExit t v out) h mv b l = absurd h
 
@@ -108,14 +117,14 @@ takes-of (meaning.OfOperation t v row) h (Refuses r) l = refl
 takes-of (meaning.OfOperation t v row) h Succeeds l = refl
 takes-of (meaning.OfOperation t v row) h (Releases x) l = refl
 takes-of (meaning.OfOperation t v row) h Rests l = refl
-takes-of (meaning.OfAccess t v access r gpa page) h mv l = absurd h
+takes-of (meaning.OfAccess t v line access r gpa page) h mv l = absurd h
 takes-of (meaning.OfWalk t v access gpa level page) h mv l = absurd h
 takes-of (meaning.OfExit t v out) h mv l = absurd h
 
 granted-of : (k : Meaning) → HasMoves k → (s : State) (l : LockId) (m : Mode) → is_granted s (event_of k (Attempts l m)) ≡ lock_grants s.lps s.lp_count l m
 granted-of (meaning.OfCall row) h s l m = refl
 granted-of (meaning.OfOperation t v row) h s l m = refl
-granted-of (meaning.OfAccess t v access r gpa page) h s l m = absurd h
+granted-of (meaning.OfAccess t v line access r gpa page) h s l m = absurd h
 granted-of (meaning.OfWalk t v access gpa level page) h s l m = absurd h
 granted-of (meaning.OfExit t v out) h s l m = absurd h
 
@@ -123,14 +132,14 @@ granted-of (meaning.OfExit t v out) h s l m = absurd h
 act-adds : (k : Meaning) (b : Bool) (l : LockId) → (adds (event_of k Succeeds) b l ≡ 0) × (takes_off (event_of k Succeeds) l ≡ 0)
 act-adds (meaning.OfCall row) b l = (refl, refl)
 act-adds (meaning.OfOperation t v row) b l = (refl, refl)
-act-adds (meaning.OfAccess t v access r gpa page) b l = (refl, refl)
+act-adds (meaning.OfAccess t v line access r gpa page) b l = (refl, refl)
 act-adds (meaning.OfWalk t v access gpa level page) b l = (refl, refl)
 act-adds (meaning.OfExit t v out) b l = (refl, refl)
 
 act-world : (k : Meaning) (w : World) → world_after (event_of k Succeeds) w ≡ (work_of k).act w
 act-world (meaning.OfCall row) w = refl
 act-world (meaning.OfOperation t v row) w = refl
-act-world (meaning.OfAccess t v access r gpa page) w = refl
+act-world (meaning.OfAccess t v line access r gpa page) w = refl
 act-world (meaning.OfWalk t v access gpa level page) w = refl
 act-world (meaning.OfExit t v out) w = refl
 
@@ -138,14 +147,14 @@ act-world (meaning.OfExit t v out) w = refl
 moves-tried : (k : Meaning) (w : World) (n : ℕ) (l : LockId) (m : Mode) → next ((work_of k).items w) n ≡ Attempts l m → HasMoves k
 moves-tried (meaning.OfCall row) w n l m e = tt
 moves-tried (meaning.OfOperation t v row) w n l m e = tt
-moves-tried (meaning.OfAccess t v access r gpa page) w n l m e = cc
+moves-tried (meaning.OfAccess t v line access r gpa page) w n l m e = cc
 moves-tried (meaning.OfWalk t v access gpa level page) w n l m e = cc
 moves-tried (meaning.OfExit t v out) w n l m e = cc
 
 moves-refused : (k : Meaning) (w : World) (n : ℕ) (r : Reply) → next ((work_of k).items w) n ≡ Refuses r → HasMoves k
 moves-refused (meaning.OfCall row) w n r e = tt
 moves-refused (meaning.OfOperation t v row) w n r e = tt
-moves-refused (meaning.OfAccess t v access rg gpa page) w n r e = cc
+moves-refused (meaning.OfAccess t v line access rg gpa page) w n r e = cc
 moves-refused (meaning.OfWalk t v access gpa level page) w n r e = cc
 moves-refused (meaning.OfExit t v out) w n r e = cc
 
@@ -213,7 +222,7 @@ module _ (ls : Laws) (o : Opening) (task : Task) (s : State) (mem : Memory) (kep
 
   -- the undo
   undoes : (u : Table) (run' : Standing) (xs : List Taken) (e : RunEvent) (name : LockName) (addr : ℕ) (l : LockId) → x.phase ≡ Undoing l → IsLockAt m w name addr l → TakesBack run name addr xs run' e → PlaysTo t xs u
-      → LeafAfter o task s x u run'
+      → LeafAfter o task s x u run' e
   undoes u run' xs e name addr l ph it tb p =
       let moves : HasMoves k = has-moves k x doing.single (λ y. let no : Undoing l ≡ Trying = sym ph ∙ y in cc) in
       let n : IsNext o s me (event_of k (Undoes l)) = is-next (Undoes l) (ap (λ (y : Phase Reply). next_in ((work_of k).items w) y x.held) ph) in
@@ -235,8 +244,7 @@ module _ (ls : Laws) (o : Opening) (task : Task) (s : State) (mem : Memory) (kep
         move = Undoes l; next = n; mem = mem';
         shown = step-shown (Undoes l) l v n (quiet-of k moves (Undoes l) (λ y. cc)) (lock-undone k moves l) it.stands value;
         memory = subst (λ (h : Option Measure). IsMemory m u h mem') (sym (ap (λ (z : Standing). z.hasher) tb.after)) made;
-        answer = call_busy (name_of l);
-        answer_is = λ y. cc;
+        acts = subst (λ (z : RunEvent). IsNoAct z) (sym tb.event) tt;
         at = record {
           stage = subst (λ (z : Stage). IsStage m w z (Answered (call_busy (name_of l)))) (sym stage) refl;
           held = subst (λ (z : List HeldLock). AreLocks m w z x.held) (sym held) at.held;
@@ -247,7 +255,7 @@ module _ (ls : Laws) (o : Opening) (task : Task) (s : State) (mem : Memory) (kep
 
   -- the release
   frees : (u : Table) (run' : Standing) (xs : List Taken) (e : RunEvent) (r : Reply) (h : Held) (hs : List Held) → x.phase ≡ Answered r → x.held ≡ h ∷ hs → AreLocks m w run.held (h ∷ hs) → run.stage ≡ stages.Answered r
-      → GivesBack run.held xs run'.held e → run' ≡ record run { held = run'.held } → PlaysTo t xs u → LeafAfter o task s x u run'
+      → GivesBack run.held xs run'.held e → run' ≡ record run { held = run'.held } → PlaysTo t xs u → LeafAfter o task s x u run' e
   frees u run' xs e r h hs ph he are st gb same p =
       let l : LockId = h.lock in
       let moves : HasMoves k = has-moves k x doing.single (λ y. let no : Answered r ≡ Trying = sym ph ∙ y in cc) in
@@ -275,8 +283,7 @@ module _ (ls : Laws) (o : Opening) (task : Task) (s : State) (mem : Memory) (kep
         move = Releases h; next = n; mem = mem';
         shown = step-shown (Releases h) l v n (quiet-of k moves (Releases h) (λ y. cc)) (lock-freed k moves h) it.stands value;
         memory = subst (λ (z : Option Measure). IsMemory m u z mem') (sym (ap (λ (z : Standing). z.hasher) same)) made;
-        answer = r;
-        answer_is = λ y. cc;
+        acts = subst (λ (z : RunEvent). IsNoAct z) (sym gb.event) tt;
         at = record {
           stage = subst (λ (z : Stage). IsStage m w z x.phase) (sym stage) (subst (λ (z : Phase Reply). IsStage m w (stages.Answered r) z) (sym ph) refl);
           held = subst (λ (z : List Held). AreLocks m w run'.held (but_newest z)) (sym he) (subst (λ (z : List HeldLock). AreLocks m w z hs) split.0 are.1.4);
@@ -286,7 +293,7 @@ module _ (ls : Laws) (o : Opening) (task : Task) (s : State) (mem : Memory) (kep
       }
 
   -- the try
-  tries : (u : Table) (run' : Standing) (name : LockName) (mode : Mode) (b : Bool) (st : run.stage ≡ stages.Trying) → TriesRow task c (at.told st).told u run run' name mode b → LeafAfter o task s x u run'
+  tries : (u : Table) (run' : Standing) (name : LockName) (mode : Mode) (b : Bool) (st : run.stage ≡ stages.Trying) → TriesRow task c (at.told st).told u run run' name mode b → LeafAfter o task s x u run' (events.Try name mode b)
   tries u run' name mode b st tr =
       let l : LockId = tr.lock in
       let moves : HasMoves k = moves-tried k w (length (locks_held task (at.told st).told)) l mode tr.due in
@@ -326,8 +333,7 @@ module _ (ls : Laws) (o : Opening) (task : Task) (s : State) (mem : Memory) (kep
         move = Attempts l mode; next = n; mem = mem';
         shown = step-shown (Attempts l mode) l v n (quiet-of k moves (Attempts l mode) (λ y. cc)) (lock-tried k moves l mode) tr.stands.stands value;
         memory = tr.memory;
-        answer = call_busy name;
-        answer_is = λ y. cc;
+        acts = tt;
         at = now;
         empty_hand = λ z. sh.empty_hand st;
       }
@@ -371,24 +377,21 @@ module _ (ls : Laws) (o : Opening) (task : Task) (s : State) (mem : Memory) (kep
       subst (λ (y : State). Shows m after.words after.slots y) (sym same) at-z
 
   -- the refusal, or the act
-  ends : (u : Table) (run' : Standing) (st : run.stage ≡ stages.Trying) → EndsRow task c (at.told st).told u run run' → LeafAfter o task s x u run'
+  pub ends : (u : Table) (run' : Standing) (st : run.stage ≡ stages.Trying) → EndsRow task c (at.told st).told u run run' → LeafAfter o task s x u run' events.Act
   ends u run' st er = by er.ends
     where
       no-told : run'.stage ≡ stages.Trying → ⊥
       no-told z = (let no : stages.Answered er.reply ≡ stages.Trying = sym er.answered ∙ z in cc)
 
-      by : (((move_due task c (at.told st).told ≡ Refuses er.reply) × (er.after ≡ mem))
-          ⊎ ((move_due task c (at.told st).told ≡ Succeeds) × (er.reply ≡ (work_of k).reply w) × Shows m er.after.words er.after.slots (acted (work_of k) s) × LocksStay w ((work_of k).act w) (locks_held task (at.told st).told)))
-          → LeafAfter o task s x u run'
+      by : EndsBy task c (at.told st).told (answer_of run'.rest) er.reply er.after → LeafAfter o task s x u run' events.Act
       by (inl y) =
           let moves : HasMoves k = moves-refused k w (length (locks_held task (at.told st).told)) er.reply y.0 in
           let n : IsNext o s me (event_of k (Refuses er.reply)) = is-next (Refuses er.reply) (due-is st (Refuses er.reply) y.0) in
           record {
             move = Refuses er.reply; next = n; mem = mem;
             shown = ls.steps.quiet m mem.words mem.slots o s me (event_of k (Refuses er.reply)) sh.shown n (quiet-of k moves (Refuses er.reply) (λ z. cc)) (lock-refused k moves er.reply);
-            memory = subst (λ (z : Memory). IsMemory m u run'.hasher z) y.1 er.memory;
-            answer = er.reply;
-            answer_is = λ z. cc;
+            memory = subst (λ (z : Memory). IsMemory m u run'.hasher z) y.2 er.memory;
+            acts = (refl, y.1);
             at = record {
               stage = subst (λ (z : Stage). IsStage m w z (Answered er.reply)) (sym er.answered) refl;
               held = subst (λ (z : List HeldLock). AreLocks m w z x.held) (sym er.held_is) at.held;
@@ -398,15 +401,14 @@ module _ (ls : Laws) (o : Opening) (task : Task) (s : State) (mem : Memory) (kep
           }
       by (inr y) =
           let n : IsNext o s me (event_of k Succeeds) = is-next Succeeds (due-is st Succeeds y.0) in
-          let stay : LocksStay w ((work_of k).act w) x.held = subst (λ (hs : List Held). LocksStay w ((work_of k).act w) hs) (at.told st).locks y.3 in
+          let stay : LocksStay w ((work_of k).act w) x.held = subst (λ (hs : List Held). LocksStay w ((work_of k).act w) hs) (at.told st).locks y.4 in
           record {
             move = Succeeds; next = n; mem = er.after;
-            shown = act-shown er.after n y.2;
+            shown = act-shown er.after n y.3;
             memory = er.memory;
-            answer = er.reply;
-            answer_is = λ z. y.1;
+            acts = (refl, y.2);
             at = record {
-              stage = subst (λ (z : Stage). IsStage m ((work_of k).act w) z (Answered er.reply)) (sym er.answered) refl;
+              stage = subst (λ (z : Stage). IsStage m ((work_of k).act w) z (Answered (answer_of run'.rest).reply)) (sym er.answered) (sym y.1);
               held = subst (λ (z : List HeldLock). AreLocks m ((work_of k).act w) z x.held) (sym er.held_is) (locks-after m w ((work_of k).act w) x.held run.held stay at.held);
               told = λ z. absurd (no-told z);
             };
@@ -414,10 +416,10 @@ module _ (ls : Laws) (o : Opening) (task : Task) (s : State) (mem : Memory) (kep
           }
 
   -- every turn
-  follows : (u : Table) (run' : Standing) (xs : List Taken) (e : RunEvent) → has_ended run.stage run.held ≡ false → TurnBy run.stage m run xs run' e → PlaysTo t xs u → LeafAfter o task s x u run'
+  pub follows : (u : Table) (run' : Standing) (xs : List Taken) (e : RunEvent) → has_ended run.stage run.held ≡ false → TurnBy run.stage m run xs run' e → PlaysTo t xs u → LeafAfter o task s x u run' e
   follows u run' xs e going tn p = by run.stage refl tn
     where
-      goes : (st : run.stage ≡ stages.Trying) → (e : RunEvent) → TurnShows task c (at.told st).told u run run' e → LeafAfter o task s x u run'
+      goes : (st : run.stage ≡ stages.Trying) → (e : RunEvent) → TurnShows task c (at.told st).told u run run' e → LeafAfter o task s x u run' e
       goes st (events.Try name mode b) y = tries u run' name mode b st y
       goes st events.Act y = ends u run' st y
       goes st (events.Undo name) y = absurd y
@@ -426,13 +428,13 @@ module _ (ls : Laws) (o : Opening) (task : Task) (s : State) (mem : Memory) (kep
       goes st (events.Word at) y = absurd y
       goes st (events.Count parity) y = absurd y
 
-      undoing : (name : LockName) (addr : ℕ) (ph : Phase Reply) → x.phase ≡ ph → IsStage m w (stages.Undoing name addr) ph → TakesBack run name addr xs run' e → LeafAfter o task s x u run'
+      undoing : (name : LockName) (addr : ℕ) (ph : Phase Reply) → x.phase ≡ ph → IsStage m w (stages.Undoing name addr) ph → TakesBack run name addr xs run' e → LeafAfter o task s x u run' e
       undoing name addr Trying q i y = absurd i
       undoing name addr (Undoing l) q i y = undoes u run' xs e name addr l q i y p
       undoing name addr (Answered r) q i y = absurd i
 
       freeing : (r : Reply) (ph : Phase Reply) (hs : List Held) → run.stage ≡ stages.Answered r → x.phase ≡ ph → x.held ≡ hs → IsStage m w (stages.Answered r) ph → AreLocks m w run.held hs
-          → (GivesBack run.held xs run'.held e × (run' ≡ record run { held = run'.held })) → LeafAfter o task s x u run'
+          → (GivesBack run.held xs run'.held e × (run' ≡ record run { held = run'.held })) → LeafAfter o task s x u run' e
       freeing r Trying hs st q h i are y = absurd i
       freeing r (Undoing l) hs st q h i are y = absurd i
       freeing r (Answered r') [] st q h i are y = (let over : has_ended run.stage run.held ≡ true = ap (λ (z : Stage). has_ended z run.held) st ∙ ap (λ (z : List HeldLock). has_ended (stages.Answered r) z) are in cc)
@@ -441,7 +443,7 @@ module _ (ls : Laws) (o : Opening) (task : Task) (s : State) (mem : Memory) (kep
       way : (st : run.stage ≡ stages.Trying) → OnWay task c (at.told st).told t run
       way st = record { means = means; at = at-instant st; current = (at.told st).current; rest = (at.told st).rest; memory = sh.memory }
 
-      by : (st : Stage) → run.stage ≡ st → TurnBy run.stage m run xs run' e → LeafAfter o task s x u run'
+      by : (st : Stage) → run.stage ≡ st → TurnBy run.stage m run xs run' e → LeafAfter o task s x u run' e
       by stages.Trying st y = goes st e (turns-show ls.places ls.pages task c (at.told st).told t u run run' xs e (way st) (subst (λ (z : Stage). TurnBy z m run xs run' e) st y) p)
       by (stages.Undoing name addr) st y = undoing name addr x.phase refl (subst (λ (z : Stage). IsStage m w z x.phase) st at.stage) (subst (λ (z : Stage). TurnBy z m run xs run' e) st y)
       by (stages.Answered r) st y = freeing r x.phase x.held st refl refl (subst (λ (z : Stage). IsStage m w z x.phase) st at.stage) at.held (subst (λ (z : Stage). TurnBy z m run xs run' e) st y)

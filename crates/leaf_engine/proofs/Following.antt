@@ -16,8 +16,8 @@ tries (Lock l q m t) (x ∷ xs) = suc (tries t xs)
 tries (Load v q k) [] = 0
 tries (Load v q k) (x ∷ xs) = tries (k (look v x)) xs
 tries (Test b r t) xs = cond b (tries t xs) 0
-tries (End r fs cs) xs = 0
-tries (Since r cs) xs = 0
+tries (End a fs cs) xs = 0
+tries (Since a cs) xs = 0
 
 tries-granted : (t : Tree) (xs : List ℕ) (hs : List Held) → length (granted t xs hs) ≡ tries t xs + length hs
 unfolding tries
@@ -27,8 +27,8 @@ tries-granted (Load v q k) [] hs = omega arith
 tries-granted (Load v q k) (x ∷ xs) hs = tries-granted (k (look v x)) xs hs
 tries-granted (Test true r t) xs hs = tries-granted t xs hs
 tries-granted (Test false r t) xs hs = omega arith
-tries-granted (End r fs cs) xs hs = omega arith
-tries-granted (Since r cs) xs hs = omega arith
+tries-granted (End a fs cs) xs hs = omega arith
+tries-granted (Since a cs) xs hs = omega arith
 
 comes : (m : Machine) (c : Instant) (k : Work) (hs : List Held) (t : Tree) (items : List (Item Reply)) (xs : List ℕ) → Means m c k hs t items → Current c.memory.words t xs
     → Comes m c k (granted t xs hs) (feed t xs) (next items (tries t xs))
@@ -43,7 +43,7 @@ comes m c k hs (Load v q t) items (x ∷ xs) a cu =
 comes m c k hs (Test b r t) [] xs a cu = absurd a
 comes m c k hs (Test b r t) (Try l mode ∷ is) xs a cu = absurd a
 comes m c k hs (Test true r t) (Check b' r' ∷ is) xs a cu = rw (sym a.0) (comes m c k hs t is xs (a.2 (sym a.0)) (cu refl))
-comes m c k hs (Test false r t) (Check b' r' ∷ is) xs a cu = rw (sym a.0) (inl (ap Refuses (sym (a.1 refl)), refl, refl))
+comes m c k hs (Test false r t) (Check b' r' ∷ is) xs a cu = rw (sym a.0) (inl (ap Refuses (sym (a.1 refl)), refl, refl, refl))
 comes m c k hs (End r fs cs) [] xs a cu = inr (refl, a.0, a.1)
 comes m c k hs (End r fs cs) (Check b s ∷ is) xs a cu = absurd a
 comes m c k hs (End r fs cs) (Try l mode ∷ is) xs a cu = absurd a

@@ -33,13 +33,13 @@ current-load words (Load v q k) [] x cu h = (h, current-end (k (look v x)))
     current-end (Lock l q m t) = tt
     current-end (Load v q k) = tt
     current-end (Test b r t) = λ e. current-end t
-    current-end (End r fs cs) = tt
-    current-end (Since r cs) = tt
+    current-end (End a fs cs) = tt
+    current-end (Since a cs) = tt
 current-load words (Load v q k) (y ∷ told) x cu h = (cu.0, current-load words (k (look v y)) told x cu.1 h)
 current-load words (Test true r t) told x cu h = λ e. current-load words t told x (cu e) h
 current-load words (Test false r t) told x cu h = λ e. cc
-current-load words (End r fs cs) told x cu h = absurd h
-current-load words (Since r cs) told x cu h = absurd h
+current-load words (End a fs cs) told x cu h = absurd h
+current-load words (Since a cs) told x cu h = absurd h
 
 pub granted-load : (words : WordPlace → ℕ) (t : Tree) (told : List ℕ) (x : ℕ) (hs : List Held) → LooksRight words (feed t told) x → granted t (told ++ x ∷ []) hs ≡ granted t told hs
 granted-load words (Lock l q m t) [] x hs h = absurd h
@@ -51,13 +51,13 @@ granted-load words (Load v q k) [] x hs h = granted-end (k (look v x)) hs
     granted-end (Load v q k) hs = refl
     granted-end (Test true r t) hs = granted-end t hs
     granted-end (Test false r t) hs = refl
-    granted-end (End r fs cs) hs = refl
-    granted-end (Since r cs) hs = refl
+    granted-end (End a fs cs) hs = refl
+    granted-end (Since a cs) hs = refl
 granted-load words (Load v q k) (y ∷ told) x hs h = granted-load words (k (look v y)) told x hs h
 granted-load words (Test true r t) told x hs h = granted-load words t told x hs h
 granted-load words (Test false r t) told x hs h = absurd h
-granted-load words (End r fs cs) told x hs h = absurd h
-granted-load words (Since r cs) told x hs h = absurd h
+granted-load words (End a fs cs) told x hs h = absurd h
+granted-load words (Since a cs) told x hs h = absurd h
 
 -- the load that it comes to answers the word there
 pub looks : (m : Machine) (c : Instant) (k : Work) (hs : List Held) (s : Tree) (n : Move Reply) (tab : Table) (h : Option Measure) (at x : ℕ)
@@ -65,8 +65,8 @@ pub looks : (m : Machine) (c : Instant) (k : Work) (hs : List Held) (s : Tree) (
 looks m c k hs (Load v q t) n tab h at x co l mem e = ap (look v) (e ∙ (ap tab.words l ∙ mem.words q co.0))
 looks m c k hs (Lock l' q mode t) n tab h at x co l mem e = absurd l
 looks m c k hs (Test b r t) n tab h at x co l mem e = absurd l
-looks m c k hs (End r fs cs) n tab h at x co l mem e = absurd l
-looks m c k hs (Since r cs) n tab h at x co l mem e = absurd l
+looks m c k hs (End a fs cs) n tab h at x co l mem e = absurd l
+looks m c k hs (Since a cs) n tab h at x co l mem e = absurd l
 
 -- the words told after loads
 pub record Told (words : WordPlace → ℕ) (tree u : Tree) (told : List ℕ) (tab tab' : Table) (ys : List Taken) : Type 0 where

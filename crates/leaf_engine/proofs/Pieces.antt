@@ -77,20 +77,20 @@ act-taken : (m : Machine) (t : Tree) (reply : Reply) (loads changes : List Taken
 act-taken m (Lock l q mode t) reply loads changes h h' g c = cc
 act-taken m (Load v q k) reply loads changes h h' g c = cc
 act-taken m (Test b out t) reply loads changes h h' g c = absurd g
-act-taken m (End r [] []) reply loads changes h h' g c = last-taken loads ∙ (sym (append-nil loads) ∙ ap (λ (zs : List Taken). loads ++ zs) (sym c.1))
-act-taken m (End r [] (x ∷ cs)) reply loads changes h h' g c = after-quiet loads (marked_behind 0 changes) ∙ ap (λ (zs : List Taken). loads ++ zs) (marked-taken 0 changes)
-act-taken m (End r (f ∷ fs) cs) reply loads changes h h' g c =
+act-taken m (End a [] []) reply loads changes h h' g c = last-taken loads ∙ (sym (append-nil loads) ∙ ap (λ (zs : List Taken). loads ++ zs) (sym c.1))
+act-taken m (End a [] (x ∷ cs)) reply loads changes h h' g c = after-quiet loads (marked_behind 0 changes) ∙ ap (λ (zs : List Taken). loads ++ zs) (marked-taken 0 changes)
+act-taken m (End a (f ∷ fs) cs) reply loads changes h h' g c =
     after-quiet loads (marked_behind (items_in (f ∷ fs)) changes) ∙ ap (λ (zs : List Taken). loads ++ zs) (marked-taken (items_in (f ∷ fs)) changes)
-act-taken m (Since r cs) reply loads changes h h' g c = before-quiet (last_marked loads) changes ∙ ap (λ (zs : List Taken). zs ++ changes) (last-taken loads)
+act-taken m (Since a cs) reply loads changes h h' g c = before-quiet (last_marked loads) changes ∙ ap (λ (zs : List Taken). zs ++ changes) (last-taken loads)
 
 act-one : (n : ℕ) (t : Tree) (reply : Reply) (loads changes : List Taken) → Wants n t (need.Verdict reply) → events_among (act_pieces (passed t) loads changes) ≡ 1
 act-one n (Lock l q mode t) reply loads changes g = cc
 act-one n (Load v q k) reply loads changes g = cc
 act-one n (Test b out t) reply loads changes g = absurd g
-act-one n (End r [] []) reply loads changes g = last-one loads
-act-one n (End r [] (x ∷ cs)) reply loads changes g = after-quiet-one loads (marked_behind 0 changes) ∙ marked-one 0 changes
-act-one n (End r (f ∷ fs) cs) reply loads changes g = after-quiet-one loads (marked_behind (items_in (f ∷ fs)) changes) ∙ marked-one (items_in (f ∷ fs)) changes
-act-one n (Since r cs) reply loads changes g = before-quiet-one (last_marked loads) changes ∙ last-one loads
+act-one n (End a [] []) reply loads changes g = last-one loads
+act-one n (End a [] (x ∷ cs)) reply loads changes g = after-quiet-one loads (marked_behind 0 changes) ∙ marked-one 0 changes
+act-one n (End a (f ∷ fs) cs) reply loads changes g = after-quiet-one loads (marked_behind (items_in (f ∷ fs)) changes) ∙ marked-one (items_in (f ∷ fs)) changes
+act-one n (Since a cs) reply loads changes g = before-quiet-one (last_marked loads) changes ∙ last-one loads
 
 -- on its way
 

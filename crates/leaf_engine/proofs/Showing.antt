@@ -22,8 +22,8 @@ use Rattle.leaf_engine.specs.declared.needs.Need.TheVariants as need
 use Rattle.leaf_engine.specs.declared.events.Event.{Event}
 use Rattle.word_rules.specs.Views.{look}
 use Rattle.leaf_engine.specs.Changes.{Memory, Change, Put, PutHash, Raise, Clear, Copy, Swap, changed, changed_all}
-use Rattle.leaf_engine.specs.Trees.{Tree, Lock, Load, Test, End, Since, feed, settle, passed, changes_of, has_acted}
-use Rattle.leaf_engine.specs.Means.{Task, Instant, Work, work_of, hold, Locks, MayFillAll, MayOweAll, MayChangeBy, LocksStay, acted}
+use Rattle.leaf_engine.specs.Trees.{Answer, only, Tree, Lock, Load, Test, End, Since, feed, settle, passed, answer_of, changes_of, has_acted}
+use Rattle.leaf_engine.specs.Means.{Task, Instant, Work, work_of, hold, Locks, MayFillAll, MayOweAll, MayChangeBy, LocksStay, acted, AnswersAs}
 use Rattle.leaf_engine.specs.Decides.{Wants, IsHand}
 use Rattle.leaf_engine.specs.Items.{IsLoaded, AreChanged}
 use Rattle.leaf_engine.specs.Follows.{granted, Current, NotActed, Comes}
@@ -65,8 +65,8 @@ comes-to m c k hs n (Lock l q mode' t) name at mode co g =
     }
 comes-to m c k hs n (Load v q t) name at mode co g = cc
 comes-to m c k hs n (Test b r t) name at mode co g = absurd g
-comes-to m c k hs n (End r fs cs) name at mode co g = cc
-comes-to m c k hs n (Since r cs) name at mode co g = cc
+comes-to m c k hs n (End a fs cs) name at mode co g = cc
+comes-to m c k hs n (Since a cs) name at mode co g = cc
 
 -- a lock that counts as granted
 
@@ -78,16 +78,16 @@ pub current-end : (words : WordPlace → ℕ) (t : Tree) → Current words t []
 current-end words (Lock l q m t) = tt
 current-end words (Load v q k) = tt
 current-end words (Test b r t) = λ e. current-end words t
-current-end words (End r fs cs) = tt
-current-end words (Since r cs) = tt
+current-end words (End a fs cs) = tt
+current-end words (Since a cs) = tt
 
 pub granted-end : (t : Tree) (hs : List Held) → granted t [] hs ≡ hs
 granted-end (Lock l q m t) hs = refl
 granted-end (Load v q k) hs = refl
 granted-end (Test true r t) hs = granted-end t hs
 granted-end (Test false r t) hs = refl
-granted-end (End r fs cs) hs = refl
-granted-end (Since r cs) hs = refl
+granted-end (End a fs cs) hs = refl
+granted-end (Since a cs) hs = refl
 
 pub current-lock : (words : WordPlace → ℕ) (t : Tree) (told : List ℕ) (k : LockId) (mode : Mode) → Current words t told → IsLock (feed t told) k mode → Current words t (told ++ 0 ∷ [])
 current-lock words (Lock l q m t) [] k mode cu h = current-end words t
@@ -96,8 +96,8 @@ current-lock words (Load v q f) [] k mode cu h = absurd h
 current-lock words (Load v q f) (y ∷ told) k mode cu h = (cu.0, current-lock words (f (look v y)) told k mode cu.1 h)
 current-lock words (Test true r t) told k mode cu h = λ e. current-lock words t told k mode (cu e) h
 current-lock words (Test false r t) told k mode cu h = absurd h
-current-lock words (End r fs cs) told k mode cu h = absurd h
-current-lock words (Since r cs) told k mode cu h = absurd h
+current-lock words (End a fs cs) told k mode cu h = absurd h
+current-lock words (Since a cs) told k mode cu h = absurd h
 
 pub granted-lock : (t : Tree) (told : List ℕ) (k : LockId) (mode : Mode) (hs : List Held) → IsLock (feed t told) k mode
     → granted t (told ++ 0 ∷ []) hs ≡ record { lock = k; mode = mode } ∷ granted t told hs
@@ -107,8 +107,8 @@ granted-lock (Load v q f) [] k mode hs h = absurd h
 granted-lock (Load v q f) (y ∷ told) k mode hs h = granted-lock (f (look v y)) told k mode hs h
 granted-lock (Test true r t) told k mode hs h = granted-lock t told k mode hs h
 granted-lock (Test false r t) told k mode hs h = absurd h
-granted-lock (End r fs cs) told k mode hs h = absurd h
-granted-lock (Since r cs) told k mode hs h = absurd h
+granted-lock (End a fs cs) told k mode hs h = absurd h
+granted-lock (Since a cs) told k mode hs h = absurd h
 
 -- a leaf that comes to a lock has not acted yet
 
@@ -117,15 +117,15 @@ has-not-acted (Lock l q m t) told k mode h = refl
 has-not-acted (Load v q f) told k mode h = refl
 has-not-acted (Test true r t) told k mode h = has-not-acted t told k mode h
 has-not-acted (Test false r t) told k mode h = absurd h
-has-not-acted (End r fs cs) told k mode h = absurd h
-has-not-acted (Since r cs) told k mode h = absurd h
+has-not-acted (End a fs cs) told k mode h = absurd h
+has-not-acted (Since a cs) told k mode h = absurd h
 
 pub not-acted-end : (t : Tree) → NotActed t []
 not-acted-end (Lock l q m t) = tt
 not-acted-end (Load v q k) = tt
 not-acted-end (Test b r t) = λ e. not-acted-end t
-not-acted-end (End r fs cs) = tt
-not-acted-end (Since r cs) = tt
+not-acted-end (End a fs cs) = tt
+not-acted-end (Since a cs) = tt
 
 not-acted-lock : (t : Tree) (told : List ℕ) (k : LockId) (mode : Mode) → IsLock (feed t told) k mode → NotActed t (told ++ 0 ∷ [])
 not-acted-lock (Lock l q m t) [] k mode h = not-acted-end t
@@ -134,23 +134,23 @@ not-acted-lock (Load v q f) [] k mode h = absurd h
 not-acted-lock (Load v q f) (y ∷ told) k mode h = (has-not-acted (f (look v y)) told k mode h, not-acted-lock (f (look v y)) told k mode h)
 not-acted-lock (Test true r t) told k mode h = λ e. not-acted-lock t told k mode h
 not-acted-lock (Test false r t) told k mode h = absurd h
-not-acted-lock (End r fs cs) told k mode h = absurd h
-not-acted-lock (Since r cs) told k mode h = absurd h
+not-acted-lock (End a fs cs) told k mode h = absurd h
+not-acted-lock (Since a cs) told k mode h = absurd h
 
 pub is-lock : (m : Machine) (c : Instant) (k : Work) (hs : List Held) (tree : Tree) (l : LockId) (mode : Mode) → Comes m c k hs tree (Attempts l mode) → (name : LockName) (at : ℕ) (mode' : Mode)
     → Wants m.pages tree (need.Lock name at mode') → IsLock tree l mode
 is-lock m c k hs (Lock l' q mode'' t) l mode co name at mode' g = (cc (co.0), cc (co.0))
 is-lock m c k hs (Load v q t) l mode co name at mode' g = cc
 is-lock m c k hs (Test b r t) l mode co name at mode' g = absurd g
-is-lock m c k hs (End r fs cs) l mode co name at mode' g = cc
-is-lock m c k hs (Since r cs) l mode co name at mode' g = cc
+is-lock m c k hs (End a fs cs) l mode co name at mode' g = cc
+is-lock m c k hs (Since a cs) l mode co name at mode' g = cc
 
 pub passed-lock : (tree : Tree) (l : LockId) (mode : Mode) → IsLock tree l mode → passed tree ≡ feed tree (0 ∷ [])
 passed-lock (Lock l' q m t) l mode h = refl
 passed-lock (Load v q t) l mode h = absurd h
 passed-lock (Test b r t) l mode h = absurd h
-passed-lock (End r fs cs) l mode h = absurd h
-passed-lock (Since r cs) l mode h = absurd h
+passed-lock (End a fs cs) l mode h = absurd h
+passed-lock (Since a cs) l mode h = absurd h
 
 -- changes that may be made are in the machine
 
@@ -189,8 +189,8 @@ changed-append (c ∷ cs) ds mem = changed-append cs ds (changed c mem)
 pub record EndsWith (m : Machine) (c : Instant) (k : Work) (hs : List Held) (n : Move Reply) (tree : Tree) (reply : Reply) : Type 0 where
   pub inside : AreChangesIn m (changes_of tree)
   pub kept : passed tree ≡ tree
-  pub ends : ((n ≡ Refuses reply) × (changes_of tree ≡ []))
-      ⊎ ((n ≡ Succeeds) × (reply ≡ k.reply c.state.world) × (let mem = changed_all (changes_of tree) c.memory in Shows m mem.words mem.slots (acted k c.state))
+  pub ends : ((n ≡ Refuses reply) × (answer_of tree ≡ only reply) × (changes_of tree ≡ []))
+      ⊎ ((n ≡ Succeeds) × ((answer_of tree).reply ≡ reply) × AnswersAs k c.state.world (answer_of tree) × (let mem = changed_all (changes_of tree) c.memory in Shows m mem.words mem.slots (acted k c.state))
       × LocksStay c.state.world (k.act c.state.world) hs)
 
 shows-append : (m : Machine) (c : Instant) (k : Work) (fs cs : List Change) → (let mem = changed_all cs (changed_all fs c.memory) in Shows m mem.words mem.slots (acted k c.state))
@@ -202,23 +202,23 @@ pub ends-with : (m : Machine) (c : Instant) (k : Work) (hs : List Held) (n : Mov
 ends-with m c k hs n (Lock l q mode t) reply co g = cc
 ends-with m c k hs n (Load v q t) reply co g = cc
 ends-with m c k hs n (Test b r t) reply co g = absurd g
-ends-with m c k hs n (End r fs cs) reply (inl co) g =
-    let e : r ≡ reply = cc in
-    let none : fs ++ cs ≡ [] = rw (co.1, co.2) refl in
-    record { inside = subst (λ (z : List Change). AreChangesIn m z) (sym none) tt; kept = refl; ends = inl (co.0 ∙ ap Refuses e, none) }
-ends-with m c k hs n (End r fs cs) reply (inr co) g =
-    let e : reply ≡ r = cc in
+ends-with m c k hs n (End a fs cs) reply (inl co) g =
+    let e : a.reply ≡ reply = cc in
+    let none : fs ++ cs ≡ [] = rw (co.2, co.3) refl in
+    record { inside = subst (λ (z : List Change). AreChangesIn m z) (sym none) tt; kept = refl; ends = inl (co.0 ∙ ap Refuses e, co.1 ∙ ap only e, none) }
+ends-with m c k hs n (End a fs cs) reply (inr co) g =
+    let e : a.reply ≡ reply = cc in
     record {
       inside = fills-in m (hold c hs) c.state.world fs cs co.1.fills_allowed (act-in m (k.grasp c hs) (hold c hs) c.state.world (k.act c.state.world) (changed_all fs c.memory) cs co.2);
       kept = refl;
-      ends = inr (co.0, e ∙ co.1.reply_is, shows-append m c k fs cs co.1.shows, co.1.locks_stay);
+      ends = inr (co.0, e, co.1.answers, shows-append m c k fs cs co.1.shows, co.1.locks_stay);
     }
-ends-with m c k hs n (Since r cs) reply co g =
-    let e : reply ≡ r = cc in
+ends-with m c k hs n (Since a cs) reply co g =
+    let e : a.reply ≡ reply = cc in
     record {
       inside = owed-in m (hold c hs) (k.act c.state.world) c.memory cs co.2;
       kept = refl;
-      ends = inr (co.0, e ∙ co.1.reply_is, co.1.shows, co.1.locks_stay);
+      ends = inr (co.0, e, co.1.answers, co.1.shows, co.1.locks_stay);
     }
 
 -- the turn
@@ -315,17 +315,19 @@ ends-turn inj pages task c told t u s s' loads xs tree reply e on l g en p =
       answered = ap (λ (z : Standing). z.stage) en.after;
       held_is = ap (λ (z : Standing). z.held) en.after;
       memory = subst (λ (h : Option Measure). IsMemory m u h after) (sym (ap (λ (z : Standing). z.hasher) en.after)) mem;
-      ends = either m c k (move_due task c d.now) (move_due task c told) (locks_held task d.now) (locks_held task told) (changes_of (feed task.tree d.now)) reply due d.same_locks w.ends;
+      ends = either m c k (move_due task c d.now) (move_due task c told) (locks_held task d.now) (locks_held task told) (changes_of (feed task.tree d.now)) (answer_of (feed task.tree d.now)) (answer_of s'.rest) reply due d.same_locks
+          (ap answer_of (sym (ap (λ (z : Standing). z.rest) en.after ∙ it))) w.ends;
     } in
     subst (λ (z : Event). TurnShows task c told u s s' z) (sym en.event) by
   where
-    either : (m : Machine) (c : Instant) (k : Work) (n n' : Move Reply) (hs hs' : List Held) (cs : List Change) (reply : Reply) → n ≡ n' → hs ≡ hs'
-        → (((n ≡ Refuses reply) × (cs ≡ []))
-        ⊎ ((n ≡ Succeeds) × (reply ≡ k.reply c.state.world) × (let mem = changed_all cs c.memory in Shows m mem.words mem.slots (acted k c.state)) × LocksStay c.state.world (k.act c.state.world) hs))
-        → (((n' ≡ Refuses reply) × (changed_all cs c.memory ≡ c.memory))
-        ⊎ ((n' ≡ Succeeds) × (reply ≡ k.reply c.state.world) × (let mem = changed_all cs c.memory in Shows m mem.words mem.slots (acted k c.state)) × LocksStay c.state.world (k.act c.state.world) hs'))
-    either m c k n n' hs hs' cs reply e l (inl x) = inl (sym e ∙ x.0, ap (λ (z : List Change). changed_all z c.memory) x.1)
-    either m c k n n' hs hs' cs reply e l (inr x) = inr (sym e ∙ x.0, x.1, x.2, subst (λ (z : List Held). LocksStay c.state.world (k.act c.state.world) z) l x.3)
+    either : (m : Machine) (c : Instant) (k : Work) (n n' : Move Reply) (hs hs' : List Held) (cs : List Change) (a a' : Answer) (reply : Reply) → n ≡ n' → hs ≡ hs' → a ≡ a'
+        → (((n ≡ Refuses reply) × (a ≡ only reply) × (cs ≡ []))
+        ⊎ ((n ≡ Succeeds) × (a.reply ≡ reply) × AnswersAs k c.state.world a × (let mem = changed_all cs c.memory in Shows m mem.words mem.slots (acted k c.state)) × LocksStay c.state.world (k.act c.state.world) hs))
+        → (((n' ≡ Refuses reply) × (a' ≡ only reply) × (changed_all cs c.memory ≡ c.memory))
+        ⊎ ((n' ≡ Succeeds) × (a'.reply ≡ reply) × AnswersAs k c.state.world a' × (let mem = changed_all cs c.memory in Shows m mem.words mem.slots (acted k c.state)) × LocksStay c.state.world (k.act c.state.world) hs'))
+    either m c k n n' hs hs' cs a a' reply e l f (inl x) = inl (sym e ∙ x.0, sym f ∙ x.1, ap (λ (z : List Change). changed_all z c.memory) x.2)
+    either m c k n n' hs hs' cs a a' reply e l f (inr x) =
+        inr (sym e ∙ x.0, sym (ap (λ (z : Answer). z.reply) f) ∙ x.1, subst (λ (z : Answer). AnswersAs k c.state.world z) f x.2, x.3, subst (λ (z : List Held). LocksStay c.state.world (k.act c.state.world) z) l x.4)
 
 pub turns-show : PlacesInjective → PagesChangeAlone → TurnsShow
 turns-show inj pages task c told t u s s' xs e on go p = by go.need go.gives go.comes

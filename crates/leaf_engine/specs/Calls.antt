@@ -5,8 +5,8 @@ use Rattle.td_words.specs.declared.machines.Machine.{Machine}
 use Rattle.td_words.specs.declared.calls.Call.{Call}
 use Rattle.td_words.specs.declared.replies.Reply.{Reply}
 use Rattle.td_words.specs.Place.{WordPlace, IsIn, address}
-use Rattle.flat_core.specs.World.{World}
-use Rattle.flat_core.specs.Processor.{LockId, name_of, Held, Phase, Trying, Undoing, Answered, Lp}
+use Rattle.flat_core.specs.World.{World, Made}
+use Rattle.flat_core.specs.Processor.{LockId, name_of, Held, Phase, Trying, Undoing, Answered, Entering, new_guest, Lp}
 use Rattle.flat_core.specs.Locks.{sharers, refusals}
 use Rattle.flat_core.specs.Opening.{Opening}
 use Rattle.flat_core.specs.Row.{Row}
@@ -23,7 +23,8 @@ use Rattle.leaf_engine.specs.declared.events.HeldLock.{HeldLock}
 use Rattle.leaf_engine.specs.declared.events.Stage.{Stage}
 use Rattle.leaf_engine.specs.declared.events.Stage.TheVariants as stages
 use Rattle.leaf_engine.specs.Changes.{Memory}
-use Rattle.leaf_engine.specs.Trees.{feed, settle}
+use Rattle.leaf_engine.specs.Trees.{added, feed, settle}
+use Rattle.leaf_engine.specs.Besides.{beside_of, beside_after, bundles_made}
 use Rattle.leaf_engine.specs.Means.{Task, OfCall, MeansRow}
 use Rattle.leaf_engine.specs.Follows.{granted, Current, NotActed}
 use Rattle.leaf_engine.specs.Tables.{IsMemory}
@@ -97,20 +98,37 @@ pub record IsOver (replies : List Reply) (lp : Lp) (reply : Option Reply) : Type
   pub replies_are : lp.replies ≡ replies ++ answer ∷ []
   pub between : IsBetween lp
 
--- after a turn, in the state after the flat machine's event
-pub record After (o : Opening) (task : Task) (row : Row) (before : List Reply) (s : State) (u : Table) (run : Standing) (reply : Option Reply) : Type 0 where
+-- or it has entered a guest, under the locks that it holds
+pub record HasEntered (task : Task) (row : Row) (before : Lp) (w : World) (lp : Lp) (run : Standing) : Type 0 where
+  pub entering : Entering
+  pub enters : row.enters ≡ Some entering
+  pub guest : lp.guest ≡ Some (new_guest entering)
+  pub call_is : lp.call ≡ before.call
+  pub replies_are : lp.replies ≡ before.replies
+  pub reply : Reply
+  pub answered : run.stage ≡ stages.Answered reply
+  pub held : AreLocks task.place.machine w run.held lp.call.held
+
+abbrev pub Then : Opening → Task → Row → (before : Lp) → World → Memory → Lp → Standing → Option Reply → Type 0
+Then o task row before w mem lp run reply = GoesOn o task row before.replies w mem lp run reply ⊎ (IsOver before.replies lp reply ⊎ HasEntered task row before w lp run)
+
+-- After a turn, in the state after the flat machine's event: what the processor has besides its call is what the turn makes
+-- of it, and the bundles made so far are those before and the turn's.
+pub record After (o : Opening) (task : Task) (row : Row) (before s : State) (u : Table) (run : Standing) (result : RunTurn) : Type 0 where
   pub mem : Memory
   pub shown : Shows task.place.machine mem.words mem.slots s
   pub memory : IsMemory task.place.machine u run.hasher mem
-  pub then_ : GoesOn o task row before s.world mem (s.lps task.place.lp) run reply ⊎ IsOver before (s.lps task.place.lp) reply
+  pub beside : (bundles : List Made) → let b = beside_after result.event run.rest (beside_of (before.lps task.place.lp) bundles) in beside_of (s.lps task.place.lp) b.bundles ≡ b
+  pub bundles : s.world.outgoing.bundles ≡ added before.world.outgoing.bundles (bundles_made result.event run.rest)
+  pub then_ : Then o task row (before.lps task.place.lp) s.world mem (s.lps task.place.lp) run result.reply
 
 -- Over words that show a state, each turn of a call's run is the next event of its processor: the words show the state
--- after that event, and the reply comes with the last one.
+-- after that event, its processor has what the leaf's answer makes of it, and the reply comes with the last one.
 abbrev pub CallsFollow : Type 0
 CallsFollow = (o : Opening) (task : Task) (row : Row) (s : State) (mem : Memory) (t u : Table) (run run' : Standing) (xs : List Taken) (result : RunTurn)
-    → MeansRow task → task.meaning ≡ OfCall row → row.enters ≡ None → IsShown task s mem t run → IsCallAt o task row s.world mem.words (s.lps task.place.lp) run
+    → MeansRow task → task.meaning ≡ OfCall row → IsShown task s mem t run → IsCallAt o task row s.world mem.words (s.lps task.place.lp) run
     → has_ended run.stage run.held ≡ false → IsTurn task.place.machine run xs run' result → PlaysTo t xs u
-    → After o task row (s.lps task.place.lp).replies (event o s task.place.lp) u run' result.reply
+    → After o task row s (event o s task.place.lp) u run' result
 
 -- A run begins where its processor does: at a line that is a call of its row, between two calls.
 abbrev pub CallsBegin : Type 0

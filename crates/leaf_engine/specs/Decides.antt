@@ -15,7 +15,7 @@ use Rattle.leaf_engine.specs.declared.plans.Stop.TheVariants as stop
 use Rattle.leaf_engine.specs.declared.plans.Verdict.{Verdict}
 use Rattle.word_rules.specs.Views.{look}
 use Rattle.leaf_engine.specs.Changes.{Hand, Change, Put, PutHash, Raise, Clear, Copy, Swap, are_plain}
-use Rattle.leaf_engine.specs.Trees.{Tree, Lock, Load, Test, End, Since, feed}
+use Rattle.leaf_engine.specs.Trees.{Tree, Lock, Load, Test, End, Since, only, feed}
 use Rattle.leaf_engine.specs.Inside.{WriteInside}
 
 -- a change as it is made in a machine of so many pages, with this hasher in hand. HKID h has slot h - 1
@@ -32,15 +32,15 @@ abbrev pub hand_for : Hand → Change → Hand
 hand_for hand (Swap h made) = made hand
 hand_for hand _ = hand
 
--- the decision that a tree takes after these answers
+-- the decision that a tree takes after these answers. What a plan decides answers a reply alone
 abbrev pub Decides : ℕ → Tree → List ℕ → Result Verdict Stop → Type 0
 Decides n (Lock l q m t) [] r = r ≡ Err (stop.Lock (name_of l) (address n q) m)
 Decides n (Lock l q m t) (x ∷ xs) r = Decides n t xs r
 Decides n (Load v q k) [] r = r ≡ Err (stop.Load (address n q))
 Decides n (Load v q k) (x ∷ xs) r = Decides n (k (look v x)) xs r
 Decides n (Test b out t) xs r = (b ≡ true → Decides n t xs r) × (b ≡ false → r ≡ Err (stop.Refused out))
-Decides n (End reply fs cs) xs r = MatchResult r (λ v. (v.reply ≡ reply) × (v.writes.items ≡ map (write_of n None) (fs ++ cs)) × (are_plain (fs ++ cs) ≡ true)) (λ e. ⊥)
-Decides n (Since reply cs) xs r = MatchResult r (λ v. (v.reply ≡ reply) × (v.writes.items ≡ map (write_of n None) cs) × (are_plain cs ≡ true)) (λ e. ⊥)
+Decides n (End a fs cs) xs r = MatchResult r (λ v. (a ≡ only v.reply) × (v.writes.items ≡ map (write_of n None) (fs ++ cs)) × (are_plain (fs ++ cs) ≡ true)) (λ e. ⊥)
+Decides n (Since a cs) xs r = MatchResult r (λ v. (a ≡ only v.reply) × (v.writes.items ≡ map (write_of n None) cs) × (are_plain cs ≡ true)) (λ e. ⊥)
 
 -- what a tree comes to after these answers: the end of an act, or what stops it
 abbrev pub ComesTo : {A : Type 0} → ℕ → Tree → (A → Tree) → List ℕ → Result A Stop → Type 0
@@ -52,8 +52,8 @@ abbrev pub Wants : ℕ → Tree → Need → Type 0
 Wants n (Lock l q m t) r = r ≡ need.Lock (name_of l) (address n q) m
 Wants n (Load v q k) r = r ≡ need.Load (address n q)
 Wants n (Test b out t) r = ⊥
-Wants n (End reply fs cs) r = r ≡ need.Verdict reply
-Wants n (Since reply cs) r = r ≡ need.Verdict reply
+Wants n (End a fs cs) r = r ≡ need.Verdict a.reply
+Wants n (Since a cs) r = r ≡ need.Verdict a.reply
 
 -- the need of a decision
 abbrev pub need_for : Result Verdict Stop → Need

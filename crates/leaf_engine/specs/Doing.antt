@@ -15,11 +15,14 @@ use Rattle.flat_core.specs.Event.{State, Event, OfCall, OfOperation, Walks, Reac
 use Rattle.lock_words.specs.LockWords.{IsNext}
 use Rattle.word_rules.specs.Cells.{Shows}
 use Rattle.step_core.specs.Items.{Table, Taken, PlaysTo}
+use Rattle.leaf_engine.specs.declared.events.Event.{Event as RunEvent}
+use Rattle.leaf_engine.specs.declared.events.Event.TheVariants as events
 use Rattle.leaf_engine.specs.declared.events.RunTurn.{RunTurn}
 use Rattle.leaf_engine.specs.declared.events.Stage.TheVariants as stages
 use Rattle.leaf_engine.specs.Changes.{Memory}
+use Rattle.leaf_engine.specs.Trees.{Answer, only, answer_of}
 use Rattle.leaf_engine.specs.Means as meaning
-use Rattle.leaf_engine.specs.Means.{Task, Meaning, Work, Instant, work_of, IsMaker, MeansRow}
+use Rattle.leaf_engine.specs.Means.{Task, Meaning, Work, Instant, work_of, IsMaker, AnswersAs, MeansRow}
 use Rattle.leaf_engine.specs.Tables.{IsMemory}
 use Rattle.leaf_engine.specs.Turns.{Standing, IsTurn, has_ended, last_reply}
 use Rattle.leaf_engine.specs.Calls.{AreLocks, IsStage, IsTold, IsShown}
@@ -53,7 +56,7 @@ row_then row Rests = nothing_more
 abbrev pub event_of : Meaning → Move Reply → Event
 event_of (meaning.OfCall row) mv = OfCall row mv
 event_of (meaning.OfOperation t v row) mv = OfOperation (row_then row mv) (out_move mv)
-event_of (meaning.OfAccess t v access r gpa page) mv = Reaches t v access r gpa page
+event_of (meaning.OfAccess t v line access r gpa page) mv = Reaches t v access r gpa page
 event_of (meaning.OfWalk t v access gpa level page) mv = Walks access gpa
 event_of (meaning.OfExit t v out) mv = Leaves v out
 
@@ -79,20 +82,31 @@ pub record LeafAt (task : Task) (w : World) (words : WordPlace → ℕ) (run : S
   pub held : AreLocks task.place.machine w run.held x.held
   pub told : run.stage ≡ stages.Trying → IsTold task words run x.held
 
--- after a turn: the flat machine's next event, words that show the state after it, and the run as far as that move leads
-pub record LeafAfter (o : Opening) (task : Task) (s : State) (x : Progress Reply) (u : Table) (run : Standing) : Type 0 where
+abbrev pub IsNoAct : RunEvent → Type 0
+IsNoAct events.Act = ⊥
+IsNoAct _ = Unit {0}
+
+-- the act of a turn refuses, and answers nothing besides, or succeeds, and answers what there was to do; no other turn acts
+abbrev pub ActsBy : Move Reply → RunEvent → Work → World → Answer → Type 0
+ActsBy (Refuses r) e k w a = (e ≡ events.Act) × (a ≡ only r)
+ActsBy Succeeds e k w a = (e ≡ events.Act) × AnswersAs k w a
+ActsBy _ e k w a = IsNoAct e
+
+-- after a turn: the flat machine's next event, words that show the state after it, what the turn answers, and the run as far
+-- as that move leads
+pub record LeafAfter (o : Opening) (task : Task) (s : State) (x : Progress Reply) (u : Table) (run : Standing) (e : RunEvent) : Type 0 where
   pub move : Move Reply
   pub next : IsNext o s task.place.lp (event_of task.meaning move)
   pub mem : Memory
   pub shown : Shows task.place.machine mem.words mem.slots (event o s task.place.lp)
   pub memory : IsMemory task.place.machine u run.hasher mem
-  pub answer : Reply
-  pub answer_is : move ≡ Succeeds → answer ≡ (work_of task.meaning).reply s.world
-  pub at : LeafAt task (work_world (work_of task.meaning) move s.world) mem.words run (after_move call_busy (is_granted s (event_of task.meaning move)) answer move x)
+  pub acts : ActsBy move e (work_of task.meaning) s.world (answer_of run.rest)
+  pub at : LeafAt task (work_world (work_of task.meaning) move s.world) mem.words run (after_move call_busy (is_granted s (event_of task.meaning move)) (answer_of run.rest).reply move x)
   pub empty_hand : run.stage ≡ stages.Trying → mem.hand ≡ None
 
--- Over words that show a state, each turn of a leaf's run is the next event of its processor.
+-- Over words that show a state, each turn of a leaf's run is the next event of its processor, and its act answers what
+-- there was to do.
 abbrev pub LeavesFollow : Type 0
 LeavesFollow = (o : Opening) (task : Task) (s : State) (mem : Memory) (kept : List Held) (x : Progress Reply) (t u : Table) (run run' : Standing) (xs : List Taken) (result : RunTurn)
     → MeansRow task → IsShown task s mem t run → IsDoing o task s mem kept x → LeafAt task s.world mem.words run x
-    → has_ended run.stage run.held ≡ false → IsTurn task.place.machine run xs run' result → PlaysTo t xs u → LeafAfter o task s x u run'
+    → has_ended run.stage run.held ≡ false → IsTurn task.place.machine run xs run' result → PlaysTo t xs u → LeafAfter o task s x u run' result.event

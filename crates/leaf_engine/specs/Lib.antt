@@ -1,5 +1,6 @@
 pub mod Changes
 pub mod Trees
+pub mod Besides
 pub mod Means
 pub mod Inside
 pub mod Decides

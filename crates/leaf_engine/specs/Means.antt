@@ -2,7 +2,7 @@
 -- under the locks of its tries: each try is that lock at its place; each load stays as it is until the act, or is the act;
 -- each condition is the row's; and at the end the stores are allowed, and laid over the words they show what the row's act
 -- makes of the world.
-use Rattle.std.specs.Prelude.{◌≡◌, ◌≢◌, ◌⊎◌, ℕ, zero, suc, ◌<◌, ◌≤◌, true, false, Option, Some, None, List, [], ◌∷◌, ◌++◌, map}
+use Rattle.std.specs.Prelude.{◌≡◌, ◌≢◌, ◌⊎◌, ℕ, zero, suc, ◌+◌, ◌<◌, ◌≤◌, true, false, Option, Some, None, List, [], ◌∷◌, ◌++◌, map, length}
 use Rattle.td_words.specs.declared.names.PageKind.TheVariants as kind
 use Rattle.td_words.specs.declared.machines.Machine.{Machine}
 use Rattle.td_words.specs.declared.names.Access.{Access}
@@ -11,15 +11,16 @@ use Rattle.td_words.specs.declared.replies.Outcome.{Outcome}
 use Rattle.td_words.specs.declared.replies.Value.TheVariants as value
 use Rattle.td_words.specs.declared.replies.Reply.{Reply}
 use Rattle.td_words.specs.declared.replies.Reply.TheVariants.{Done, Exited}
+use Rattle.td_words.specs.Packing.{Entry}
 use Rattle.td_words.specs.Place.{WordPlace, IsIn, Word}
 use Rattle.flat_core.specs.World.{World}
-use Rattle.flat_core.specs.Processor.{LockId, OfPage, OfOp, Held, Guest, Note, LoadNote, RtmrNote}
+use Rattle.flat_core.specs.Processor.{LockId, OfPage, OfOp, Held, Translation, Guest, Entering, Note, LoadNote, RtmrNote}
 use Rattle.flat_core.specs.Row.{Item, Check, Try, Row, OperationRow}
 use Rattle.flat_core.specs.Digests.{digest_bytes}
 use Rattle.flat_core.specs.Effects.{tell_words, leave_guest}
 use Rattle.flat_core.specs.Translations.{look_up}
-use Rattle.flat_core.specs.Tree.{page_of_gpa, number_at, entry_at}
-use Rattle.flat_core.specs.Guest.{reach, word_reached, walk_level}
+use Rattle.flat_core.specs.Tree.{page_of_gpa, number_at, entry_at, may_write}
+use Rattle.flat_core.specs.Guest.{reach, reach_notes, word_reached, walk_level, goes_on, cached_after}
 use Rattle.flat_core.specs.Lawful.{Lawful, IsAlive, IsPageOf, IsNodeOf}
 use Rattle.flat_core.specs.Event.{State}
 use Rattle.word_rules.specs.Guards.{Grip}
@@ -32,14 +33,14 @@ use Rattle.lock_words.specs.LockWords.{place_of, Stands, LocksStand}
 use Rattle.leaf_engine.specs.declared.needs.Place.{Place}
 use Rattle.word_rules.specs.Views.{look, rights_by, IsKept}
 use Rattle.leaf_engine.specs.Changes.{Memory, Change, Put, PutHash, Raise, Clear, Copy, Swap, changed, changed_all}
-use Rattle.leaf_engine.specs.Trees.{Tree, Lock, Load, Test, End, Since, has_acted}
+use Rattle.leaf_engine.specs.Trees.{Answer, added, Tree, Lock, Load, Test, End, Since, has_acted}
 
 -- what a leaf does: a call by its row; an operation of a guest by its; a guest's access to a word of a page through a cached
 -- translation; the load of an entry in a guest's walk, from the page where it stands; and the count step of the exit
 pub data Meaning : Type 0 where
   OfCall : (row : Row) → Meaning
   OfOperation : (tdr vp : ℕ) (row : OperationRow) → Meaning
-  OfAccess : (tdr vp : ℕ) (access : Access) (register gpa page : ℕ) → Meaning
+  OfAccess : (tdr vp line : ℕ) (access : Access) (register gpa page : ℕ) → Meaning
   OfWalk : (tdr vp : ℕ) (access : Access) (gpa level page : ℕ) → Meaning
   OfExit : (tdr vp : ℕ) (outcome : Outcome) → Meaning
 
@@ -82,30 +83,58 @@ hold c hs = lock_grip (hs ++ c.kept)
 abbrev pub grasp_of : Instant → List Held → Grip
 grasp_of c hs = grip_with c.state c.me (hs ++ c.kept)
 
+-- what there is to do: a row, with what it makes of its processor besides its reply
 pub record Work : Type 0 where
   pub items : World → List (Item Reply)
   pub act : World → World
   pub reply : World → Reply
+  pub cached : World → List Translation → List Translation
+  pub enters : Option Entering
+  pub notes : World → List Note
+  pub tells : World → List ℕ
   pub grasp : Instant → List Held → Grip
+
+-- a single event that makes nothing of its processor
+abbrev pub event_work : (World → World) → (World → Reply) → Work
+event_work act reply = record { items = λ w. []; act = act; reply = reply; cached = λ w ts. ts; enters = None; notes = λ w. []; tells = λ w. []; grasp = hold }
 
 abbrev pub access_word : Access → (vp register gpa page : ℕ) → World → ℕ
 access_word Read v r gpa page w = word_reached w page gpa
 access_word Write v r gpa page w = w.hidden.registers v r
 
+-- the translations once an entry of a TD was loaded
+abbrev pub cached_by : Access → (level gpa tdr : ℕ) → Entry → List Translation → List Translation
+cached_by access level gpa t e ts = cached_after (goes_on access level e) level (record { tdr = t; gpa_page = page_of_gpa gpa; page = e.page; may_write = may_write e.state }) ts
+
 abbrev pub work_of : Meaning → Work
-work_of (OfCall row) = record { items = row.items; act = row.act; reply = λ w. Done (row.value w); grasp = hold }
+work_of (OfCall row) = record {
+  items = row.items;
+  act = row.act;
+  reply = λ w. Done (row.value w);
+  cached = row.cached;
+  enters = row.enters;
+  notes = λ w. [];
+  tells = λ w. [];
+  grasp = hold;
+}
 work_of (OfOperation t v row) = record {
   items = λ w. map exit_item (row.items w);
   act = λ w. tell_words (row.tells w) (row.act w);
   reply = λ w. operation_reply (row.notes w) (row.tells w) (row.answer w);
+  cached = λ w ts. ts;
+  enters = None;
+  notes = row.notes;
+  tells = row.tells;
   grasp = hold;
 }
 
 -- what an access answers: the word
-work_of (OfAccess t v access r gpa page) = record { items = λ w. []; act = reach t v access r gpa page; reply = λ w. Done (value.Number (access_word access v r gpa page w)); grasp = grasp_of }
+work_of (OfAccess t v line access r gpa page) =
+    record (event_work (reach t v access r gpa page) (λ w. Done (value.Number (access_word access v r gpa page w)))) { notes = λ w. reach_notes w access line gpa page; grasp = grasp_of }
 -- the load of an entry: which page it names, and what it allows
-work_of (OfWalk t v access gpa level page) = record { items = λ w. []; act = λ w. w; reply = λ w. Done (value.Number (rights_by (entry_at w t level gpa))); grasp = hold }
-work_of (OfExit t v out) = record { items = λ w. []; act = leave_guest v; reply = λ w. Exited out; grasp = hold }
+work_of (OfWalk t v access gpa level page) =
+    record (event_work (λ w. w) (λ w. Done (value.Number (rights_by (entry_at w t level gpa))))) { cached = λ w ts. cached_by access level gpa t (entry_at w t level gpa) ts }
+work_of (OfExit t v out) = event_work (leave_guest v) (λ w. Exited out)
 
 -- while a virtual processor is in guest, its VP.ENTER holds P of its TDR page and O, and P of its own page alone
 pub record IsInGuest (c : Instant) (t v : ℕ) (g : Guest) : Type 0 where
@@ -129,7 +158,8 @@ IsEntryPage w t level gpa page = IsNodeOf w.pages t page kind.Ept (suc level) (n
 abbrev pub IsMaker : Meaning → Instant → Type 0
 IsMaker (OfCall row) c = ((c.state.lps c.me).guest ≡ None) × (c.kept ≡ [])
 IsMaker (OfOperation t v row) c = (g : Guest) × IsInGuest c t v g
-IsMaker (OfAccess t v access r gpa page) c = (g : Guest) × IsInGuest c t v g × (look_up (c.state.lps c.me).cached t (page_of_gpa gpa) access ≡ Some page) × IsPageOf c.state.world.pages t page kind.Reg
+IsMaker (OfAccess t v line access r gpa page) c =
+    (g : Guest) × IsInGuest c t v g × (line ≡ length (c.state.lps c.me).replies + 1) × (look_up (c.state.lps c.me).cached t (page_of_gpa gpa) access ≡ Some page) × IsPageOf c.state.world.pages t page kind.Reg
 IsMaker (OfWalk t v access gpa level page) c = (g : Guest) × IsInGuest c t v g × (walk_level g.walk ≡ level) × IsEntryPage c.state.world t level gpa page
 IsMaker (OfExit t v out) c = (g : Guest) × IsInGuest c t v g × (c.state.world.vps.entered v ≡ Some (c.state.world.vps.lasts v))
 
@@ -211,9 +241,18 @@ abbrev pub LocksStay : (before after : World) → List Held → Type 0
 LocksStay w w' [] = Unit {0}
 LocksStay w w' (h ∷ hs) = ((place_of w' h.lock ≡ place_of w h.lock) × (Stands w h.lock → Stands w' h.lock)) × LocksStay w w' hs
 
+-- an answer is what there was to do, in each of its parts; the bundles are those that the act adds
+pub record AnswersAs (k : Work) (w : World) (a : Answer) : Type 0 where
+  pub reply_is : a.reply ≡ k.reply w
+  pub cached_is : a.cached ≡ k.cached w
+  pub enters_is : a.enters ≡ k.enters
+  pub notes_are : a.notes ≡ k.notes w
+  pub tells_are : a.tells ≡ k.tells w
+  pub bundles_are : (k.act w).outgoing.bundles ≡ added w.outgoing.bundles a.bundles
+
 -- the changes are allowed, and are the act
-pub record Acts (m : Machine) (c : Instant) (k : Work) (hs : List Held) (reply : Reply) (fills changes : List Change) : Type 0 where
-  pub reply_is : reply ≡ k.reply c.state.world
+pub record Acts (m : Machine) (c : Instant) (k : Work) (hs : List Held) (answer : Answer) (fills changes : List Change) : Type 0 where
+  pub answers : AnswersAs k c.state.world answer
   pub fills_allowed : MayFillAll m (hold c hs) c.state.world fills
   pub respects : Respects (k.grasp c hs) c.state.world (k.act c.state.world)
   pub locks_stay : LocksStay c.state.world (k.act c.state.world) hs
@@ -226,11 +265,11 @@ Means m c k hs (Lock l q mode t) _ = ⊥
 Means m c k hs (Load v q t) items = IsIn m q × Loads c k hs v q t × Means m c k hs (t (look v (c.memory.words q))) items
 Means m c k hs (Test b out t) (Check b' out' ∷ r) = (b ≡ b') × (b ≡ false → out ≡ out') × (b' ≡ true → Means m c k hs t r)
 Means m c k hs (Test b out t) _ = ⊥
-Means m c k hs (End reply fills cs) [] =
-    Acts m c k hs reply fills cs × MayChangeBy m (k.grasp c hs) (hold c hs) c.state.world (k.act c.state.world) (changed_all fills c.memory) cs
-Means m c k hs (End reply fills cs) _ = ⊥
-Means m c k hs (Since reply cs) [] = Acts m c k hs reply [] cs × MayOweAll m (hold c hs) (k.act c.state.world) c.memory cs
-Means m c k hs (Since reply cs) _ = ⊥
+Means m c k hs (End answer fills cs) [] =
+    Acts m c k hs answer fills cs × MayChangeBy m (k.grasp c hs) (hold c hs) c.state.world (k.act c.state.world) (changed_all fills c.memory) cs
+Means m c k hs (End answer fills cs) _ = ⊥
+Means m c k hs (Since answer cs) [] = Acts m c k hs answer [] cs × MayOweAll m (hold c hs) (k.act c.state.world) c.memory cs
+Means m c k hs (Since answer cs) _ = ⊥
 
 -- a leaf means its row
 pub record MeansRow (task : Task) : Type 0 where

@@ -12,6 +12,7 @@ use Rattle.leaf_engine.specs.declared.events.Stage.{Stage}
 use Rattle.leaf_engine.specs.declared.events.Stage.TheVariants as stage
 use Rattle.leaf_engine.specs.Changes.{Change, Clear, Copy}
 use Rattle.leaf_engine.specs.Trees.{Tree, End, Since, settle, passed}
+use Rattle.leaf_engine.specs.Besides.{Beside, nothing_beside, beside_after}
 use Rattle.leaf_engine.specs.Means.{Task}
 use Rattle.leaf_engine.specs.Turns.{Standing, standing, Advances, TurnBy, IsTurn, has_ended, last_reply}
 
@@ -103,37 +104,38 @@ pub record TurnsInPieces : Type 0 where
   pub one : (m : Machine) (s s' : Standing) (ps : List Piece) (e : Event) → TurnIn s.stage m s ps s' e → events_among ps ≡ 1
 
 -- a logical processor over words: its lines from the present one on, the run of that line's leaf once its first event is
--- made, and its replies
+-- made, its replies, and what it has besides
 pub record WordLp : Type 0 where
   pub lines : List Call
   pub run : Option Standing
   pub replies : List Reply
+  pub beside : Beside
 
 abbrev pub first_lp : List Call → WordLp
-first_lp cs = record { lines = cs; run = None; replies = [] }
+first_lp cs = record { lines = cs; run = None; replies = []; beside = nothing_beside }
 
 abbrev pub running : Task → Option Standing → Standing
 running task None = standing (settle task.tree) stage.Trying [] None
 running task (Some s) = s
 
-abbrev pub after_turn : Call → List Call → List Reply → Standing → Option Reply → WordLp
-after_turn c cs rs s None = record { lines = c ∷ cs; run = Some s; replies = rs }
-after_turn c cs rs s (Some r) = record { lines = cs; run = None; replies = rs ++ r ∷ [] }
+abbrev pub after_turn : Call → List Call → List Reply → Beside → Standing → Option Reply → WordLp
+after_turn c cs rs b s None = record { lines = c ∷ cs; run = Some s; replies = rs; beside = b }
+after_turn c cs rs b s (Some r) = record { lines = cs; run = None; replies = rs ++ r ∷ []; beside = b }
 
--- a turn of the run of a processor's present line, in pieces
-pub record LineTurn (leaf : Call → Task) (m : Machine) (c : Call) (cs : List Call) (run : Option Standing) (rs : List Reply) (e : Event) (ps : List Piece) (after : WordLp) : Type 0 where
+-- a turn of the run of a processor's present line, in pieces; what the leaf answers besides its reply comes with its act
+pub record LineTurn (leaf : Call → Task) (m : Machine) (c : Call) (cs : List Call) (run : Option Standing) (rs : List Reply) (b : Beside) (e : Event) (ps : List Piece) (after : WordLp) : Type 0 where
   pub stands : Standing
   pub turn : TurnIn (running (leaf c) run).stage m (running (leaf c) run) ps stands e
   pub going : has_ended (running (leaf c) run).stage (running (leaf c) run).held ≡ false
-  pub after_is : after ≡ after_turn c cs rs stands (last_reply stands.stage stands.held)
+  pub after_is : after ≡ after_turn c cs rs (beside_after e stands.rest b) stands (last_reply stands.stage stands.held)
 
 -- A processor with leaves for its calls makes this event in these pieces; none where it has no line left.
-abbrev pub LinesTurn : (Call → Task) → Machine → List Call → Option Standing → List Reply → Event → List Piece → WordLp → Type 0
-LinesTurn leaf m [] run rs e ps after = ⊥
-LinesTurn leaf m (c ∷ cs) run rs e ps after = LineTurn leaf m c cs run rs e ps after
+abbrev pub LinesTurn : (Call → Task) → Machine → List Call → Option Standing → List Reply → Beside → Event → List Piece → WordLp → Type 0
+LinesTurn leaf m [] run rs b e ps after = ⊥
+LinesTurn leaf m (c ∷ cs) run rs b e ps after = LineTurn leaf m c cs run rs b e ps after
 
 abbrev pub LpTurns : (Call → Task) → Machine → WordLp → Event → List Piece → WordLp → Type 0
-LpTurns leaf m p e ps q = LinesTurn leaf m p.lines p.run p.replies e ps q
+LpTurns leaf m p e ps q = LinesTurn leaf m p.lines p.run p.replies p.beside e ps q
 
 -- its own list over any number of turns, turn by turn
 abbrev pub OwnTurns : (Call → Task) → Machine → WordLp → List (List Piece) → WordLp → Type 0

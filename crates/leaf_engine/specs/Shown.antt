@@ -17,8 +17,8 @@ use Rattle.leaf_engine.specs.declared.events.Event.TheVariants as event
 use Rattle.leaf_engine.specs.declared.events.Stage.TheVariants as stage
 use Rattle.leaf_engine.specs.Changes.{Memory}
 use Rattle.lock_words.specs.LockWords.{put_word}
-use Rattle.leaf_engine.specs.Trees.{feed}
-use Rattle.leaf_engine.specs.Means.{Task, Instant, IsAt, work_of, Locks, LocksStay, acted, MeansRow}
+use Rattle.leaf_engine.specs.Trees.{Answer, only, feed, answer_of}
+use Rattle.leaf_engine.specs.Means.{Task, Instant, IsAt, work_of, Locks, LocksStay, acted, AnswersAs, MeansRow}
 use Rattle.leaf_engine.specs.Follows.{granted, Current, NotActed}
 use Rattle.leaf_engine.specs.Tables.{IsMemory}
 use Rattle.leaf_engine.specs.Turns.{Standing, Advances, grants, denied}
@@ -63,6 +63,14 @@ pub record TriesRow (task : Task) (c : Instant) (told : List ℕ) (u : Table) (s
   pub stage_is : s'.stage ≡ (if b then s.stage else denied name (address task.place.machine.pages (place_of c.state.world lock)) mode)
   pub held_is : s'.held ≡ (if b then s.held ++ record { name = name; at = address task.place.machine.pages (place_of c.state.world lock); mode = mode } ∷ [] else s.held)
 
+-- its end is the refusal that is due, with nothing besides, or the act that succeeds, whose answer is the row's
+abbrev pub EndsBy : Task → Instant → List ℕ → Answer → Reply → Memory → Type 0
+EndsBy task c told answer reply after =
+    ((move_due task c told ≡ Refuses reply) × (answer ≡ only reply) × (after ≡ c.memory))
+    ⊎ ((move_due task c told ≡ Succeeds) × (answer.reply ≡ reply) × AnswersAs (work_of task.meaning) c.state.world answer
+    × Shows task.place.machine after.words after.slots (acted (work_of task.meaning) c.state)
+    × LocksStay c.state.world ((work_of task.meaning).act c.state.world) (locks_held task told))
+
 -- its turn is the refusal that is due, which leaves memory as it is, or the act, after which words show what it makes of the
 -- world; the reply is the row's
 pub record EndsRow (task : Task) (c : Instant) (told : List ℕ) (u : Table) (s s' : Standing) : Type 0 where
@@ -71,10 +79,7 @@ pub record EndsRow (task : Task) (c : Instant) (told : List ℕ) (u : Table) (s 
   pub answered : s'.stage ≡ stage.Answered reply
   pub held_is : s'.held ≡ s.held
   pub memory : IsMemory task.place.machine u s'.hasher after
-  pub ends : ((move_due task c told ≡ Refuses reply) × (after ≡ c.memory))
-      ⊎ ((move_due task c told ≡ Succeeds) × (reply ≡ (work_of task.meaning).reply c.state.world)
-      × Shows task.place.machine after.words after.slots (acted (work_of task.meaning) c.state)
-      × LocksStay c.state.world ((work_of task.meaning).act c.state.world) (locks_held task told))
+  pub ends : EndsBy task c told (answer_of s'.rest) reply after
 
 abbrev pub TurnShows : Task → Instant → List ℕ → Table → (before after : Standing) → Event → Type 0
 TurnShows task c told u s s' (event.Try name mode b) = TriesRow task c told u s s' name mode b

@@ -240,7 +240,7 @@ module _ (m : Machine) (c : Instant) (t gpa : ℕ) (in_page : t < m.pages) (limi
     ended : Means m c k all (acts (Done value.Nothing) (measure_changes gpa hkid words)) []
     ended = (
       record {
-        reply_is = refl;
+        answers = record { reply_is = refl; cached_is = refl; enters_is = refl; notes_are = refl; tells_are = refl; bundles_are = refl };
         fills_allowed = tt;
         respects = (effects-respect (hold c all) v).leaves v' same;
         locks_stay = ((refl, λ a. a), ((refl, stands-on), ((refl, stands-on), ((refl, λ a. a), tt))));

@@ -30,7 +30,7 @@ use Rattle.lock_words.specs.LockWords.{TdStands}
 use Rattle.act_rules.proofs.Rows.{page-added}
 use Rattle.leaf_engine.specs.declared.needs.Place.{Place}
 use Rattle.leaf_engine.specs.Changes.{changed_all, changes_where}
-use Rattle.leaf_engine.specs.Trees.{Tree, Load, End}
+use Rattle.leaf_engine.specs.Trees.{Tree, Load, End, only}
 use Rattle.leaf_engine.specs.Means.{Instant, Means, MeansRow, MayFillAll, MayChange, Work, work_of, OfCall, hold}
 use Rattle.leaf_parts.proofs.Begun.{page_lock, op_lock, holds-newest, IsTd}
 use Rattle.leaf_parts.proofs.Told.{kind-shown, tdr-spot, tdr-shown}
@@ -137,10 +137,10 @@ module _ (m : Machine) (c : Instant) (t gpa p q : ℕ) (limits : IsMachine m) (i
       ),
     )
 
-    ended : is_host v q ≡ true → is_host v p ≡ true → Means m c k held (End (Done value.Nothing) (page_fills full) (page_changes m.pages full)) []
+    ended : is_host v q ≡ true → is_host v p ≡ true → Means m c k held (End (only (Done value.Nothing)) (page_fills full) (page_changes m.pages full)) []
     ended source host = (
       record {
-        reply_is = refl;
+        answers = record { reply_is = refl; cached_is = refl; enters_is = refl; notes_are = refl; tells_are = refl; bundles_are = refl };
         fills_allowed = may-fill source host;
         respects = page-added (hold c held) v t gpa p (v.words q) (page_record gpa) host page-alone (record { tdr = locks.tdr; op = locks.op }) tree-alone;
         locks_stay = ((refl, λ a. a), ((refl, λ a. a), ((refl, stands-then), ((refl, stands-then), ((refl, λ a. a), tt)))));
@@ -151,7 +151,7 @@ module _ (m : Machine) (c : Instant) (t gpa p q : ℕ) (limits : IsMachine m) (i
 
     ends : is_host v q ≡ true → is_host v p ≡ true → Means m c k held (addition_end m full) []
     ends source host =
-        subst (λ (b : Bool). Means m c k held (End (Done value.Nothing) (changes_where b (page_fills full)) (changes_where b (page_changes m.pages full))) []) (sym (hkid-in m (v.tds.hkids t) (la.keys.in_range t x.alive))) (ended source host)
+        subst (λ (b : Bool). Means m c k held (End (only (Done value.Nothing)) (changes_where b (page_fills full)) (changes_where b (page_changes m.pages full))) []) (sym (hkid-in m (v.tds.hkids t) (la.keys.in_range t x.alive))) (ended source host)
 
     -- the HKID and the child count
     counts-mean : is_host v q ≡ true → is_host v p ≡ true

@@ -29,7 +29,7 @@ use Rattle.lock_words.specs.LockWords.{TdStands}
 use Rattle.act_rules.proofs.Rows.{sept-added}
 use Rattle.leaf_engine.specs.declared.needs.Place.{Place}
 use Rattle.leaf_engine.specs.Changes.{Clear}
-use Rattle.leaf_engine.specs.Trees.{End}
+use Rattle.leaf_engine.specs.Trees.{End, only}
 use Rattle.leaf_engine.specs.Means.{Instant, Means, MeansRow, Acts, Work, work_of, OfCall, hold}
 use Rattle.leaf_parts.proofs.Begun.{IsTd, page_lock, op_lock}
 use Rattle.leaf_parts.proofs.Told.{kind-shown, tdr-shown}
@@ -92,16 +92,16 @@ module _ (m : Machine) (c : Instant) (t gpa level p : ℕ) (in_tdr : t < m.pages
     filled : (i : ℕ) → Fills g w (place.Word p i)
     filled i = (let nda : w.pages.kinds p ≡ kind.Nda = host_kind (w.pages.kinds p) host in rw nda (inl (page_alone, tt)))
 
-    its-act : Acts m c k held (Done value.Nothing) (Clear p ∷ []) (sept_add_changes m.pages t p at (index_at level gpa) (children w t))
+    its-act : Acts m c k held (only (Done value.Nothing)) (Clear p ∷ []) (sept_add_changes m.pages t p at (index_at level gpa) (children w t))
     its-act = record {
-      reply_is = refl;
+      answers = record { reply_is = refl; cached_is = refl; enters_is = refl; notes_are = refl; tells_are = refl; bundles_are = refl };
       fills_allowed = ((in_page, λ i b. filled i), tt);
       respects = sept-added g w t gpa level p host page_alone (record { tdr = locks.tdr; op = locks.op }) tree_alone;
       locks_stay = ((refl, λ z. z), ((refl, stand'), ((refl, stand'), ((refl, λ z. z), tt))));
       shows = sept-added-shown m c.state c.memory t gpa level p at sh la limit y.alive y.controls small least most has host free in_tdr in_page;
     }
 
-    its-end : Means m c k held (End (Done value.Nothing) (Clear p ∷ []) (sept_add_changes m.pages t p at (index_at level gpa) (children w t))) []
+    its-end : Means m c k held (End (only (Done value.Nothing)) (Clear p ∷ []) (sept_add_changes m.pages t p at (index_at level gpa) (children w t))) []
     its-end = (
       its-act,
       (
@@ -127,7 +127,7 @@ module _ (m : Machine) (c : Instant) (t gpa level p : ℕ) (in_tdr : t < m.pages
         λ host. (
           (in_tdr, omega arith),
           inl (count-reads m c t sh y.alive y.controls held locks la tree_alone),
-          subst (λ (n : ℕ). Means m c k held (End (Done value.Nothing) (Clear p ∷ []) (sept_add_changes m.pages t p at (index_at level gpa) n)) []) (sym children_word) (its-end free host),
+          subst (λ (n : ℕ). Means m c k held (End (only (Done value.Nothing)) (Clear p ∷ []) (sept_add_changes m.pages t p at (index_at level gpa) n)) []) (sym children_word) (its-end free host),
         ),
       ),
     ),

@@ -18,7 +18,7 @@ use Rattle.sept_walk.specs.SecureEpt.{index_at}
 use Rattle.word_rules.specs.Rules.{Whole}
 use Rattle.leaf_engine.specs.declared.needs.Place.{Place}
 use Rattle.leaf_engine.specs.Changes.{Change, Put, Clear}
-use Rattle.leaf_engine.specs.Trees.{Tree, Lock, Load, End, needs}
+use Rattle.leaf_engine.specs.Trees.{Tree, Lock, Load, End, only, needs}
 use Rattle.leaf_engine.specs.Means.{Task, OfCall}
 use Rattle.leaf_parts.specs.Words.{says_host, raised}
 use Rattle.sept_parts.specs.declared.finds.Found.{Found}
@@ -49,7 +49,7 @@ sept_add_page pages tdr page at index =
     Lock (OfPage page) (place.Lock page) Exclusive
     (Load Whole (place.Pamt page) (λ pamt.
     needs (says_host pamt) (PageMetadataIncorrect page)
-    (Load Whole (place.Word tdr TDR_CHILDREN) (λ children. End (Done value.Nothing) (Clear page ∷ []) (sept_add_changes pages tdr page at index children)))))
+    (Load Whole (place.Word tdr TDR_CHILDREN) (λ children. End (only (Done value.Nothing)) (Clear page ∷ []) (sept_add_changes pages tdr page at index children)))))
 
 abbrev pub sept_add_rest : (pages tdr page index : ℕ) → Found → Tree
 sept_add_rest pages tdr page index found = state_tree found.entry (entry.Free ∷ []) (sept_add_page pages tdr page found.page index)

@@ -36,7 +36,7 @@ module _ (m : Machine) (c : Instant) (t gpa level : ℕ) (in_page : t < m.pages)
   k = work_of (OfCall (read_sept m t gpa level))
 
   answered : (hs : List Held) → Means m c k hs (answers (Done (entry_value (entry_at w t level gpa)))) []
-  answered hs = (record { reply_is = refl; fills_allowed = tt; respects = respects-compose.same (hold c hs) w; locks_stay = stay w hs; shows = sh }, tt)
+  answered hs = (record { answers = record { reply_is = refl; cached_is = refl; enters_is = refl; notes_are = refl; tells_are = refl; bundles_are = refl }; fills_allowed = tt; respects = respects-compose.same (hold c hs) w; locks_stay = stay w hs; shows = sh }, tt)
 
   entry-read : Means m c k [] (td_find_tree m.pages t (record { op = Shared; tree = Exclusive }) begun_ops gpa level (λ found. answers (Done (entry_value found.entry)))) (td_shared w t begun_ops ++ tree_exclusive t ∷ walk w t gpa level)
   entry-read =

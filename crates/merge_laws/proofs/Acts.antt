@@ -13,6 +13,7 @@ use Rattle.flat_core.specs.Opening.{Opening}
 use Rattle.flat_core.specs.Row.{Move, Refuses, Succeeds}
 use Rattle.flat_core.specs.Table.{row_of}
 use Rattle.flat_core.specs.Event.{State, OfCall, next_event, lines_left, event, call_world}
+use Rattle.flat_core.specs.Run.{bundles_in}
 use Rattle.flat_core.proofs.Tests.{put_here}
 use Rattle.word_rules.specs.Guards.{Grip}
 use Rattle.word_rules.specs.Rules.{Grade}
@@ -20,10 +21,12 @@ use Rattle.word_rules.specs.Views.{look}
 use Rattle.word_rules.specs.Cells.{IsAs, hasher_cell}
 use Rattle.word_rules.specs.Permissions.{Owes, Writes, SwapsAct, Respects}
 use Rattle.step_core.specs.Items.{Table}
+use Rattle.leaf_engine.specs.declared.events.Event.TheVariants as events
 use Rattle.leaf_engine.specs.declared.events.RunTurn.{RunTurn}
 use Rattle.leaf_engine.specs.declared.events.Stage.TheVariants as stages
 use Rattle.leaf_engine.specs.Changes.{Hand, Memory}
 use Rattle.leaf_engine.specs.Trees.{Tree}
+use Rattle.leaf_engine.specs.Besides.{beside_after}
 use Rattle.leaf_engine.specs.Decides.{IsHand}
 use Rattle.leaf_engine.specs.Tables.{IsMemory}
 use Rattle.leaf_engine.specs.Turns.{Standing, last_reply}
@@ -39,7 +42,7 @@ use Rattle.merge_laws.proofs.Holding.{bare, turned-round}
 use Rattle.merge_laws.proofs.Standing.{Laws, leaf_for, AreTrees, Known, RunsAt, on_table, Position, back, Stands}
 use Rattle.merge_laws.proofs.Others.{shown-of}
 use Rattle.merge_laws.proofs.SlotSteps.{slots-event}
-use Rattle.merge_laws.proofs.Own.{apart-from, with_hasher, stands-after, world-of-event, at-other, Spares, gathered, none-due}
+use Rattle.merge_laws.proofs.Own.{apart-from, grows-by, with_hasher, stands-after, world-of-event, at-other, Spares, gathered, none-due}
 use Rattle.merge_laws.proofs.LockSteps.{engine, Moved}
 
 -- a refusal, or the act that succeeds
@@ -59,6 +62,7 @@ pub record OneAct (o : Opening) (trees : ℕ → Call → Tree) (s : State) (mem
   pub after : Memory
   pub hashers : (h : ℕ) → IsAs (hasher_cell (call_world (row_of o p c) move s.world) h) (after.slots h)
   pub ends : (u : Table) (h : Option Measure) → IsMemory o.machine u h after → EndsRow (leaf_for o trees p c) (instant (leaf_for o trees p c) s mem) told u run (with_hasher run' h)
+  pub act : result.event ≡ events.Act
   pub answered : run'.stage ≡ stages.Trying → ⊥
   pub reply : result.reply ≡ last_reply run'.stage run'.held
   pub filled : List Due
@@ -92,7 +96,7 @@ module _ (ls : Laws) (o : Opening) (trees : ℕ → Call → Tree) (s : State) (
 
   -- where the processor is after the act
   abbrev its_position : Position
-  its_position = record { at = after_turn c cs rs run' result.reply; owes = one.owes; swaps = one.swaps; fill = None }
+  its_position = record { at = after_turn c cs rs (beside_after result.event run'.rest (pos p).at.beside) run' result.reply; owes = one.owes; swaps = one.swaps; fill = None }
 
   -- the table that shows memory after the act
   abbrev act_table : Table
@@ -103,11 +107,11 @@ module _ (ls : Laws) (o : Opening) (trees : ℕ → Call → Tree) (s : State) (
   act-shows = holds-memory machine (hasher_for one.after.hand) one.after (is-measured one.after.hand)
 
   -- the call is after its act as its leaf says
-  act-made : After o (leaf_for o trees p c) (row_of o p c) (s.lps p).replies (event o s p) act_table (with_hasher run' (hasher_for one.after.hand)) result.reply
+  act-made : After o (leaf_for o trees p c) (row_of o p c) s (event o s p) act_table (with_hasher run' (hasher_for one.after.hand)) result
   act-made =
-      ends (engine ls) o (leaf_for o trees p c) (row_of o p c) s mem (table_of machine mem.slots mem.words) act_table run (with_hasher run' (hasher_for one.after.hand)) result (are.means p c) refl (are.enters_none p c)
+      ends (engine ls) o (leaf_for o trees p c) (row_of o p c) s mem (table_of machine mem.slots mem.words) act_table run (with_hasher run' (hasher_for one.after.hand)) result (are.means p c) refl
       (shown-of o trees s mem t pos p c run known sd i (ra.trying e)) ra.call e
-      (one.ends act_table (hasher_for one.after.hand) act-shows) one.reply
+      (one.ends act_table (hasher_for one.after.hand) act-shows) one.act one.reply
 
   -- memory after the act
   abbrev memory_after : Memory
@@ -244,7 +248,7 @@ module _ (ls : Laws) (o : Opening) (trees : ℕ → Call → Tree) (s : State) (
               test false h = sym (owes-other k r h)
 
   -- after the act all stands as it leaves it
-  pub act-step : Moved o trees (event o s p) t' (put pos p (record { at = after_turn c cs rs run' result.reply; owes = one.owes; swaps = one.swaps; fill = None }))
+  pub act-step : Moved o trees (event o s p) t' (put pos p (record { at = after_turn c cs rs (beside_after result.event run'.rest (pos p).at.beside) run' result.reply; owes = one.owes; swaps = one.swaps; fill = None }))
   act-step =
       record {
         memory = memory_after;
@@ -265,8 +269,9 @@ module _ (ls : Laws) (o : Opening) (trees : ℕ → Call → Tree) (s : State) (
               may = subst (λ (w : World). SwapsMay machine (bare (s.lps p).call.held) w (λ h. or_else (last_put one.put h) (mem.slots h)) one.swaps) (sym act-world) one.slots_may;
               held = λ x. subst (λ (hs : List Held). SwapsMay machine (bare hs) (event o s p).world (λ h. or_else (last_put one.put h) (sd.slots.now h)) one.swaps) (sym one.held_or_none) x;
             }))
+            (grows-by c cs rs (pos p).at run' result (bundles_in s) (bundles_in (event o s p)) act-made.bundles)
             (record {
-              stands = stands-after o trees p c cs (s.lps p) (event o s p) act_table run' (hasher_for one.after.hand) result.reply lines act-made (λ z. absurd (one.answered z)) rs replies;
+              stands = stands-after o trees p c cs s (event o s p) act_table run' (hasher_for one.after.hand) result (are.enters_none p c) lines act-made (λ z. absurd (one.answered z)) rs replies (pos p).at.beside (sd.holds p i).stands.beside;
               due =
                   subst (λ (w : World). Keeps machine (bare ((event o s p).lps p).call.held) w (on_table machine t') one.owes) (sym act-world)
                   (subst (λ (hs : List Held). Keeps machine (bare hs) (call_world (row_of o p c) one.move s.world) (on_table machine t') one.owes) (sym one.held_or_none)

@@ -28,6 +28,7 @@ use Rattle.leaf_engine.specs.declared.needs.Write.{Write}
 use Rattle.leaf_engine.specs.declared.needs.Write.TheVariants as write
 use Rattle.leaf_engine.specs.Changes.{Memory, Change, Put, PutHash, Raise, Clear, Copy, Swap, changed, changed_all, Hand}
 use Rattle.leaf_engine.specs.Trees.{Tree, Lock, Load, Test, End, Since, feed}
+use Rattle.leaf_engine.specs.Besides.{Beside, beside_after}
 use Rattle.leaf_engine.specs.Means.{Task, Instant, work_of, hold, MayAct, MayFillAll, MayOweAll, IsHkid}
 use Rattle.leaf_engine.specs.Items.{IsWritten, IsChanged}
 use Rattle.leaf_engine.specs.Turns.{Standing, last_reply}
@@ -88,9 +89,9 @@ end-may o trees s mem t pos p c cs now reply run run' result a st en =
     by (Lock l q mode x) co = tt
     by (Load v q k) co = tt
     by (Test b r x) co = tt
-    by (End r fs []) (inl co) = subst (λ (z : List Change). MayFillAll m mine s.world z) (sym co.1) tt
+    by (End r fs []) (inl co) = subst (λ (z : List Change). MayFillAll m mine s.world z) (sym co.2) tt
     by (End r fs []) (inr co) = subst (λ (g : Grip). MayFillAll m g s.world fs) grip co.1.fills_allowed
-    by (End r fs (c1 ∷ ds)) (inl co) = (let bad = co.2 in cc)
+    by (End r fs (c1 ∷ ds)) (inl co) = (let bad = co.3 in cc)
     by (End r fs (c1 ∷ ds)) (inr co) = (
       subst (λ (g : Grip). MayFillAll m g s.world fs) grip co.1.fills_allowed,
       subst (λ (g : Grip). MayAct m g s.world (changed_all fs mem) c1 × MayOweAll m g after (changed c1 (changed_all fs mem)) ds) grip co.2,
@@ -102,12 +103,12 @@ pub end-moved : (ls : Laws) (o : Opening) (trees : ℕ → Call → Tree) (s : S
     → (a : AtTurn o trees s mem t pos p c cs run) → (st : run.stage ≡ stages.Trying) → AtEnd o trees s mem p c (a.runs.call.told st).told now reply run run' result → HasFilled o t pos p mem (filled_of (feed (trees p c) now) mem)
     → ((r : WordPlace) → IsIn o.machine r → t'.words (address o.machine.pages r) ≡ or_else (last_at (first_of (feed (trees p c) now) mem) r) (t.words (address o.machine.pages r)))
     → ((h : ℕ) → IsHkid o.machine h → IsHand (t'.slots (h - 1)) (or_else (last_put (puts_of (feed (trees p c) now) mem) h) (a.all.slots.now h)))
-    → Moved o trees (event o s p) t' (put pos p (record { at = after_turn c cs (pos p).at.replies run' result.reply; owes = owes_of (feed (trees p c) now) mem; swaps = swaps_left (feed (trees p c) now) mem; fill = None }))
+    → Moved o trees (event o s p) t' (put pos p (record { at = after_turn c cs (pos p).at.replies (beside_after result.event run'.rest (pos p).at.beside) run' result.reply; owes = owes_of (feed (trees p c) now) mem; swaps = swaps_left (feed (trees p c) now) mem; fill = None }))
 end-moved ls o trees s mem t t' pos p c cs now reply run run' result a st en has table slots =
     let one = one-act ls o trees s mem t t' pos p c now reply run run' result a.are a.known a.all a.inside (a.hand.trying st) a.runs.call st en has table slots in
     let moved = act-step ls o trees s mem t t' pos p c cs (pos p).at.replies run run' result a.are a.known a.all a.inside a.no_swaps a.lines a.replies a.runs st one.0 in
-    subst (λ (es : List SwapDue). Moved o trees (event o s p) t' (put pos p (record { at = after_turn c cs (pos p).at.replies run' result.reply; owes = owes_of (feed (trees p c) now) mem; swaps = es; fill = None }))) one.2
-    (subst (λ (ds : List Due). Moved o trees (event o s p) t' (put pos p (record { at = after_turn c cs (pos p).at.replies run' result.reply; owes = ds; swaps = one.0.swaps; fill = None }))) one.1 moved)
+    subst (λ (es : List SwapDue). Moved o trees (event o s p) t' (put pos p (record { at = after_turn c cs (pos p).at.replies (beside_after result.event run'.rest (pos p).at.beside) run' result.reply; owes = owes_of (feed (trees p c) now) mem; swaps = es; fill = None }))) one.2
+    (subst (λ (ds : List Due). Moved o trees (event o s p) t' (put pos p (record { at = after_turn c cs (pos p).at.replies (beside_after result.event run'.rest (pos p).at.beside) run' result.reply; owes = ds; swaps = one.0.swaps; fill = None }))) one.1 moved)
 
 -- with the items that are left of the turn
 abbrev pub left_at : Tree → Memory → List Owed
@@ -124,10 +125,10 @@ ends-left (End r fs []) mem = (refl, refl)
 ends-left (End r fs (c ∷ cs)) mem = (sym (stores-are cs (changed c (changed_all fs mem))), sym (swaps-are cs (changed c (changed_all fs mem))))
 ends-left (Since r cs) mem = (sym (stores-are cs mem), sym (swaps-are cs mem))
 
-pub rest-owed : (o : Opening) (trees : ℕ → Call → Tree) (p : ℕ) (c : Call) (cs : List Call) (rs : List Reply) (run' : Standing) (tree ended : Tree) (mem : Memory) (items : List Taken) (hasher last : Option Measure) (hand : Hand) (tps : List (List Piece)) (end_ : WordLp)
-    → tree ≡ ended → IsHand hasher hand → AreOwed o.machine.pages hasher hand items (left_at ended mem) last → run'.hasher ≡ last → OwnTurns (leaf_for o trees p) o.machine (after_turn c cs rs run' (last_reply run'.stage run'.held)) tps end_
-    → Rest o trees p (after_turn c cs rs run' (last_reply run'.stage run'.held)) (owes_of tree mem) (swaps_left tree mem) (map Unmarked items ++ joined tps) end_
-rest-owed o trees p c cs rs run' tree ended mem items hasher last hand tps end_ is in_hand are last_is own =
+pub rest-owed : (o : Opening) (trees : ℕ → Call → Tree) (p : ℕ) (c : Call) (cs : List Call) (rs : List Reply) (b : Beside) (run' : Standing) (tree ended : Tree) (mem : Memory) (items : List Taken) (hasher last : Option Measure) (hand : Hand) (tps : List (List Piece)) (end_ : WordLp)
+    → tree ≡ ended → IsHand hasher hand → AreOwed o.machine.pages hasher hand items (left_at ended mem) last → run'.hasher ≡ last → OwnTurns (leaf_for o trees p) o.machine (after_turn c cs rs b run' (last_reply run'.stage run'.held)) tps end_
+    → Rest o trees p (after_turn c cs rs b run' (last_reply run'.stage run'.held)) (owes_of tree mem) (swaps_left tree mem) (map Unmarked items ++ joined tps) end_
+rest-owed o trees p c cs rs b run' tree ended mem items hasher last hand tps end_ is in_hand are last_is own =
     let left = ends-left ended mem in
     record {
       owed = left_at ended mem;
@@ -139,7 +140,7 @@ rest-owed o trees p c cs rs run' tree ended mem items hasher last hand tps end_ 
       items = items;
       last = last;
       are = are;
-      last_is = in-hand-after c cs rs run' (last_reply run'.stage run'.held) last last_is;
+      last_is = in-hand-after c cs rs b run' (last_reply run'.stage run'.held) last last_is;
       turns = tps;
       pieces = refl;
       own = own;

@@ -18,12 +18,13 @@ use Rattle.word_rules.specs.Views.{look}
 use Rattle.word_rules.specs.Permissions.{Reads, Owes, Fills, SwapsAct, Respects}
 use Rattle.word_rules.specs.Cells.{Shows}
 use Rattle.step_core.specs.Items.{Table}
+use Rattle.leaf_engine.specs.declared.events.Event.TheVariants as events
 use Rattle.leaf_engine.specs.declared.events.RunTurn.{RunTurn}
 use Rattle.leaf_engine.specs.declared.events.Stage.TheVariants as stages
 use Rattle.leaf_engine.specs.declared.needs.Need.TheVariants as need
 use Rattle.leaf_engine.specs.Changes.{Hand, Memory, Change, Put, PutHash, Raise, Clear, Copy, Swap, changed, changed_all}
-use Rattle.leaf_engine.specs.Trees.{Tree, Lock, Load, Test, End, Since, feed}
-use Rattle.leaf_engine.specs.Means.{Task, Instant, Work, IsAt, work_of, hold, Acts, MayAct, MayFillAll, MayChange, MayOweAll, acted, LocksStay, IsHkid}
+use Rattle.leaf_engine.specs.Trees.{Answer, only, Tree, Lock, Load, Test, End, Since, answer_of, feed}
+use Rattle.leaf_engine.specs.Means.{Task, Instant, Work, IsAt, work_of, hold, Acts, MayAct, MayFillAll, MayChange, MayOweAll, acted, LocksStay, AnswersAs, IsHkid}
 use Rattle.leaf_engine.specs.Decides.{Wants, IsHand}
 use Rattle.leaf_engine.specs.Tables.{IsMemory}
 use Rattle.leaf_engine.specs.Turns.{Standing, last_reply}
@@ -127,6 +128,8 @@ pub record AtEnd (o : Opening) (trees : ℕ → Call → Tree) (s : State) (mem 
   pub answered : run'.stage ≡ stages.Answered reply
   pub held : run'.held ≡ run.held
   pub last : result.reply ≡ last_reply run'.stage run'.held
+  pub act : result.event ≡ events.Act
+  pub rest_is : run'.rest ≡ feed (trees p c) now
 
 -- what its end has filled, stores first, and owes
 abbrev pub filled_of : Tree → Memory → List Due
@@ -189,8 +192,8 @@ untouched words owes first filled x a b d = go (last_at owes x) (last_at first x
     go None None None eu ev ez = rw (eu, ev, ez) refl
 
 -- the reply of a tree's end is the one that it gives
-end-gives : (n : ℕ) (r r' : Reply) (fs cs : List Change) → Wants n (End r fs cs) (need.Verdict r') → r ≡ r'
-end-gives n r r' fs cs g = cc
+end-gives : (n : ℕ) (a : Answer) (r' : Reply) (fs cs : List Change) → Wants n (End a fs cs) (need.Verdict r') → a.reply ≡ r'
+end-gives n a r' fs cs g = cc
 
 -- a turn that comes to its end is an act
 module _ (ls : Laws) (o : Opening) (trees : ℕ → Call → Tree) (s : State) (mem : Memory) (t t' : Table) (pos : ℕ → Position) (p : ℕ) (c : Call) (now : List ℕ) (reply : Reply) (run run' : Standing) (result : RunTurn) (are : AreTrees o trees) (known : Known o s)
@@ -247,25 +250,25 @@ module _ (ls : Laws) (o : Opening) (trees : ℕ → Call → Tree) (s : State) (
   next-move mv' h = due-is o task leaf_row s mem run mv' refl ca e (move-is ∙ h)
 
   -- the run that ends refused ends as its row does
-  ends-refused : (r : Reply) → due_move ≡ Refuses r → r ≡ reply → (u : Table) (h : Option Measure) → IsMemory machine u h mem → EndsRow task moment words_told u run (with_hasher run' h)
-  ends-refused r h q u hasher mm = record {
+  ends-refused : (r : Reply) → due_move ≡ Refuses r → r ≡ reply → answer_of run'.rest ≡ only reply → (u : Table) (h : Option Measure) → IsMemory machine u h mem → EndsRow task moment words_told u run (with_hasher run' h)
+  ends-refused r h q an u hasher mm = record {
     reply = reply;
     after = mem;
     answered = en.answered;
     held_is = en.held;
     memory = mm;
-    ends = inl (move-is ∙ (h ∙ ap Refuses q), refl);
+    ends = inl (move-is ∙ (h ∙ ap Refuses q), an, refl);
   }
 
   -- so does the run whose act succeeds
-  ends-succeeded : (after : Memory) → due_move ≡ Succeeds → reply ≡ work.reply s.world → Shows machine after.words after.slots (acted work s) → LocksStay s.world (work.act s.world) locks → (u : Table) (h : Option Measure) → IsMemory machine u h after → EndsRow task moment words_told u run (with_hasher run' h)
-  ends-succeeded after h q sh st u hasher mm = record {
+  ends-succeeded : (after : Memory) → due_move ≡ Succeeds → (answer_of run'.rest).reply ≡ reply → AnswersAs work s.world (answer_of run'.rest) → Shows machine after.words after.slots (acted work s) → LocksStay s.world (work.act s.world) locks → (u : Table) (h : Option Measure) → IsMemory machine u h after → EndsRow task moment words_told u run (with_hasher run' h)
+  ends-succeeded after h q an sh st u hasher mm = record {
     reply = reply;
     after = after;
     answered = en.answered;
     held_is = en.held;
     memory = mm;
-    ends = inr (move-is ∙ h, q, sh, subst (λ (xs : List Held). LocksStay s.world (work.act s.world) xs) en.locks st);
+    ends = inr (move-is ∙ h, q, an, sh, subst (λ (xs : List Held). LocksStay s.world (work.act s.world) xs) en.locks st);
   }
 
   -- the run has answered
@@ -281,15 +284,16 @@ module _ (ls : Laws) (o : Opening) (trees : ℕ → Call → Tree) (s : State) (
   ItsAct = OneAct o trees s mem t t' pos p c words_told run run' result sd.slots.now
 
   -- a refusal is an act that stores nothing and owes nothing
-  refused-act : (r : Reply) → due_move ≡ Refuses r → r ≡ reply → HasFilled o t pos p mem [] → ((x : WordPlace) → IsIn machine x → t'.words (address machine.pages x) ≡ t.words (address machine.pages x)) → HasPut [] → (one : ItsAct) × (one.owes ≡ []) × (one.swaps ≡ [])
-  refused-act r h q hf same slots = (
+  refused-act : (r : Reply) → due_move ≡ Refuses r → r ≡ reply → answer_of run'.rest ≡ only reply → HasFilled o t pos p mem [] → ((x : WordPlace) → IsIn machine x → t'.words (address machine.pages x) ≡ t.words (address machine.pages x)) → HasPut [] → (one : ItsAct) × (one.owes ≡ []) × (one.swaps ≡ [])
+  refused-act r h q an hf same slots = (
     record {
       move = Refuses r;
       is_act = tt;
       next = next-move (Refuses r) h;
       after = mem;
       hashers = sd.shows.hasher;
-      ends = ends-refused r h q;
+      ends = ends-refused r h q an;
+      act = en.act;
       answered = has-answered;
       reply = en.last;
       filled = [];
@@ -327,7 +331,7 @@ module _ (ls : Laws) (o : Opening) (trees : ℕ → Call → Tree) (s : State) (
   not-stored first x in_x (Some y) e never same = absurd (never y e)
 
   -- the act that succeeds, whose stores are these, and which owes these
-  succeeded-act : (fs cs : List Change) (first owes : List Due) (put swaps : List SwapDue) → due_move ≡ Succeeds → reply ≡ work.reply s.world
+  succeeded-act : (fs cs : List Change) (first owes : List Due) (put swaps : List SwapDue) → due_move ≡ Succeeds → (answer_of run'.rest).reply ≡ reply → AnswersAs work s.world (answer_of run'.rest)
       → (let after = changed_all cs (changed_all fs mem) in Shows machine after.words after.slots (acted work s)) → LocksStay s.world (work.act s.world) locks → Respects own_grip s.world (leaf_row.act s.world)
       → ((xs : List Held) (v : View) (r : WordPlace) → Apart (bare xs) own_grip → IsIn machine r → Reads (bare xs) s.world r v → look v ((changed_all cs (changed_all fs mem)).words r) ≡ look v (mem.words r))
       → ((r : WordPlace) → last_at (all_stores cs (changed_all fs mem)) r ≡ later (last_at owes r) (last_at first r))
@@ -335,14 +339,15 @@ module _ (ls : Laws) (o : Opening) (trees : ℕ → Call → Tree) (s : State) (
       → ((r : WordPlace) → IsIn machine r → t'.words (address machine.pages r) ≡ or_else (last_at first r) (t.words (address machine.pages r)))
       → HasPut put → ((h : ℕ) → (changed_all cs (changed_all fs mem)).slots h ≡ or_else (last_put swaps h) (or_else (last_put put h) (mem.slots h)))
       → ((h : ℕ) (x : Hand) → last_put put h ≡ Some x → SwapsAct own_grip s.world h) → SwapsMay machine own_grip (leaf_row.act s.world) (λ h. or_else (last_put put h) (mem.slots h)) swaps → (one : ItsAct) × (one.owes ≡ owes) × (one.swaps ≡ swaps)
-  succeeded-act fs cs first owes put swaps h q sh st rs looks parts fills written owed hf same slots makes-slots put-may swaps-may = (
+  succeeded-act fs cs first owes put swaps h q an sh st rs looks parts fills written owed hf same slots makes-slots put-may swaps-may = (
     record {
       move = Succeeds;
       is_act = tt;
       next = next-move Succeeds h;
       after = changed_all cs (changed_all fs mem);
       hashers = sh.hasher;
-      ends = ends-succeeded (changed_all cs (changed_all fs mem)) h q sh st;
+      ends = ends-succeeded (changed_all cs (changed_all fs mem)) h q an sh st;
+      act = en.act;
       answered = has-answered;
       reply = en.last;
       filled = all_stores fs mem;
@@ -392,21 +397,21 @@ module _ (ls : Laws) (o : Opening) (trees : ℕ → Call → Tree) (s : State) (
           ∙ ap (λ (y : ℕ). or_else (last_at owes r) (or_else (last_at first r) y)) (changed-is ls.places machine fs mem r in_r)))
 
   -- a tree's end that succeeds is an act: its first change, and the rest owed
-  end-acts : (r : Reply) (fs cs : List Change) → due_move ≡ Succeeds → r ≡ reply → Acts machine moment work locks r fs cs → MayChange machine (hold moment locks) s.world (work.act s.world) (changed_all fs mem) cs
+  end-acts : (r : Answer) (fs cs : List Change) → due_move ≡ Succeeds → r.reply ≡ reply → answer_of run'.rest ≡ r → Acts machine moment work locks r fs cs → MayChange machine (hold moment locks) s.world (work.act s.world) (changed_all fs mem) cs
       → HasFilled o t pos p mem (all_stores fs mem) → ((x : WordPlace) → IsIn machine x → t'.words (address machine.pages x) ≡ or_else (last_at (act_first cs (changed_all fs mem)) x) (t.words (address machine.pages x)))
       → HasPut (act_puts cs (changed_all fs mem)) → (one : ItsAct) × (one.owes ≡ act_owes cs (changed_all fs mem)) × (one.swaps ≡ act_swaps cs (changed_all fs mem))
-  end-acts r fs [] h q ac may hf same slots =
+  end-acts r fs [] h q an ac may hf same slots =
       let rs : Respects own_grip s.world (leaf_row.act s.world) = subst (λ (g : Grip). Respects g s.world (leaf_row.act s.world)) own-is ac.respects in
       let fills : MayFillAll machine own_grip s.world fs = subst (λ (g : Grip). MayFillAll machine g s.world fs) own-is ac.fills_allowed in
-      succeeded-act fs [] [] [] [] [] h (sym q ∙ ac.reply_is) ac.shows ac.locks_stay rs
+      succeeded-act fs [] [] [] [] [] h (ap (λ (z : Answer). z.reply) an ∙ q) (subst (λ (z : Answer). AnswersAs work s.world z) (sym an) ac.answers) ac.shows ac.locks_stay rs
       (λ xs v x apart in_x reads. fill-looks ls machine (bare xs) own_grip s.world mem fs x v apart in_x fills reads) (λ x. refl) fills tt tt hf same slots
       (λ k. ap (λ (f : ℕ → Hand). f k) (fills-rest machine own_grip s.world fs mem fills).0) (λ k x e. cc) tt
-  end-acts r fs (c1 ∷ cs) h q ac may hf same slots =
+  end-acts r fs (c1 ∷ cs) h q an ac may hf same slots =
       let rs : Respects own_grip s.world (leaf_row.act s.world) = subst (λ (g : Grip). Respects g s.world (leaf_row.act s.world)) own-is ac.respects in
       let fills : MayFillAll machine own_grip s.world fs = subst (λ (g : Grip). MayFillAll machine g s.world fs) own-is ac.fills_allowed in
       let mem1 : Memory = changed_all fs mem in
       let may' : MayChange machine own_grip s.world (work.act s.world) mem1 (c1 ∷ cs) = subst (λ (g : Grip). MayChange machine g s.world (work.act s.world) mem1 (c1 ∷ cs)) own-is may in
-      succeeded-act fs (c1 ∷ cs) (stores_of c1 mem1) (all_stores cs (changed c1 mem1)) (swaps_of c1 mem1) (all_swaps cs (changed c1 mem1)) h (sym q ∙ ac.reply_is) ac.shows ac.locks_stay rs
+      succeeded-act fs (c1 ∷ cs) (stores_of c1 mem1) (all_stores cs (changed c1 mem1)) (swaps_of c1 mem1) (all_swaps cs (changed c1 mem1)) h (ap (λ (z : Answer). z.reply) an ∙ q) (subst (λ (z : Answer). AnswersAs work s.world z) (sym an) ac.answers) ac.shows ac.locks_stay rs
       (λ xs v x apart in_x reads.
       owed-looks ls machine (bare xs) own_grip s.world (leaf_row.act s.world) (changed c1 mem1) cs x v apart rs in_x may'.1 reads
       ∙ (act-looks ls machine (bare xs) own_grip s.world mem1 c1 x v apart may'.0 reads ∙ fill-looks ls machine (bare xs) own_grip s.world mem fs x v apart in_x fills reads))
@@ -421,33 +426,33 @@ module _ (ls : Laws) (o : Opening) (trees : ℕ → Call → Tree) (s : State) (
       (owed-swaps machine own_grip (leaf_row.act s.world) (changed c1 mem1) cs may'.1))
 
   -- a tree that had its event before owes all its changes
-  since-acts : (r : Reply) (cs : List Change) → due_move ≡ Succeeds → r ≡ reply → Acts machine moment work locks r [] cs → MayOweAll machine (hold moment locks) (work.act s.world) mem cs
+  since-acts : (r : Answer) (cs : List Change) → due_move ≡ Succeeds → r.reply ≡ reply → answer_of run'.rest ≡ r → Acts machine moment work locks r [] cs → MayOweAll machine (hold moment locks) (work.act s.world) mem cs
       → HasFilled o t pos p mem [] → ((x : WordPlace) → IsIn machine x → t'.words (address machine.pages x) ≡ t.words (address machine.pages x))
       → HasPut [] → (one : ItsAct) × (one.owes ≡ all_stores cs mem) × (one.swaps ≡ all_swaps cs mem)
-  since-acts r cs h q ac may hf same slots =
+  since-acts r cs h q an ac may hf same slots =
       let rs : Respects own_grip s.world (leaf_row.act s.world) = subst (λ (g : Grip). Respects g s.world (leaf_row.act s.world)) own-is ac.respects in
       let may' : MayOweAll machine own_grip (work.act s.world) mem cs = subst (λ (g : Grip). MayOweAll machine g (work.act s.world) mem cs) own-is may in
-      succeeded-act [] cs [] (all_stores cs mem) [] (all_swaps cs mem) h (sym q ∙ ac.reply_is) ac.shows ac.locks_stay rs
+      succeeded-act [] cs [] (all_stores cs mem) [] (all_swaps cs mem) h (ap (λ (z : Answer). z.reply) an ∙ q) (subst (λ (z : Answer). AnswersAs work s.world z) (sym an) ac.answers) ac.shows ac.locks_stay rs
       (λ xs v x apart in_x reads. owed-looks ls machine (bare xs) own_grip s.world (leaf_row.act s.world) mem cs x v apart rs in_x may' reads)
       (λ x. last-append [] (all_stores cs mem) x) tt tt (owed-keeps machine own_grip (leaf_row.act s.world) mem cs may') hf same slots
       (changed-slots cs mem) (λ k x e. cc) (owed-swaps machine own_grip (leaf_row.act s.world) mem cs may')
 
   -- whichever way the tree ends, it is an act
-  tree-acts : (tree : Tree) → Comes machine moment work locks tree due_move → Wants machine.pages tree (need.Verdict reply) → HasFilled o t pos p mem (filled_of tree mem)
+  tree-acts : (tree : Tree) → run'.rest ≡ tree → Comes machine moment work locks tree due_move → Wants machine.pages tree (need.Verdict reply) → HasFilled o t pos p mem (filled_of tree mem)
       → ((r : WordPlace) → IsIn machine r → t'.words (address machine.pages r) ≡ or_else (last_at (first_of tree mem) r) (t.words (address machine.pages r)))
       → HasPut (puts_of tree mem) → (one : ItsAct) × (one.owes ≡ owes_of tree mem) × (one.swaps ≡ swaps_left tree mem)
-  tree-acts (Lock l q mode x) co g hf same slots = cc
-  tree-acts (Load v q x) co g hf same slots = cc
-  tree-acts (Test b r x) co g hf same slots = absurd g
-  tree-acts (End r [] []) (inl co) g hf same slots = refused-act r co.0 (end-gives machine.pages r reply [] [] g) hf same slots
-  tree-acts (End r [] (c1 ∷ cs)) (inl co) g hf same slots = (let bad = co.2 in cc)
-  tree-acts (End r (f ∷ fs) cs) (inl co) g hf same slots = (let bad = co.1 in cc)
-  tree-acts (End r fs cs) (inr co) g hf same slots = end-acts r fs cs co.0 (end-gives machine.pages r reply fs cs g) co.1 co.2 hf same slots
-  tree-acts (Since r cs) co g hf same slots = since-acts r cs co.0 (cc g) co.1 co.2 hf same slots
+  tree-acts (Lock l q mode x) at co g hf same slots = cc
+  tree-acts (Load v q x) at co g hf same slots = cc
+  tree-acts (Test b r x) at co g hf same slots = absurd g
+  tree-acts (End r [] []) at (inl co) g hf same slots = refused-act r.reply co.0 (end-gives machine.pages r reply [] [] g) (ap answer_of at ∙ (co.1 ∙ ap only (end-gives machine.pages r reply [] [] g))) hf same slots
+  tree-acts (End r [] (c1 ∷ cs)) at (inl co) g hf same slots = (let bad = co.3 in cc)
+  tree-acts (End r (f ∷ fs) cs) at (inl co) g hf same slots = (let bad = co.2 in cc)
+  tree-acts (End r fs cs) at (inr co) g hf same slots = end-acts r fs cs co.0 (end-gives machine.pages r reply fs cs g) (ap answer_of at) co.1 co.2 hf same slots
+  tree-acts (Since r cs) at co g hf same slots = since-acts r cs co.0 (cc g) (ap answer_of at) co.1 co.2 hf same slots
 
   -- the turn is an act, which owes what its tree's end does, in words and in swaps
   pub one-act : HasFilled o t pos p mem (filled_of (feed (trees p c) now) mem)
       → ((r : WordPlace) → IsIn o.machine r → t'.words (address o.machine.pages r) ≡ or_else (last_at (first_of (feed (trees p c) now) mem) r) (t.words (address o.machine.pages r)))
       → ((h : ℕ) → IsHkid o.machine h → IsHand (t'.slots (h - 1)) (or_else (last_put (puts_of (feed (trees p c) now) mem) h) (sd.slots.now h)))
       → (one : OneAct o trees s mem t t' pos p c (ca.told e).told run run' result sd.slots.now) × (one.owes ≡ owes_of (feed (trees p c) now) mem) × (one.swaps ≡ swaps_left (feed (trees p c) now) mem)
-  one-act has table slots = tree-acts (feed (trees p c) now) (leaves-follow-rows task moment now (are.means p c) at-moment en.current) en.gives has table slots
+  one-act has table slots = tree-acts (feed (trees p c) now) en.rest_is (leaves-follow-rows task moment now (are.means p c) at-moment en.current) en.gives has table slots

@@ -24,6 +24,7 @@ use Rattle.leaf_engine.specs.declared.events.Stage.TheVariants as stages
 use Rattle.leaf_engine.specs.declared.needs.Need.TheVariants as need
 use Rattle.leaf_engine.specs.Changes.{Memory, Change, changed, changed_all}
 use Rattle.leaf_engine.specs.Trees.{Tree, End, feed, settle}
+use Rattle.leaf_engine.specs.Besides.{beside_after}
 use Rattle.leaf_engine.specs.Decides.{Wants, IsHand}
 use Rattle.leaf_engine.specs.Means.{MayFillAll, IsHkid}
 use Rattle.leaf_engine.specs.Items.{IsChanged, AreChanged}
@@ -47,11 +48,11 @@ use Rattle.merge_laws.proofs.Turns.{told-tree}
 
 -- it stays where it is, but for its fills
 abbrev pub filling_at : (pos : ℕ → Position) (p : ℕ) → Call → List Call → Standing → List Due → Fill → Position
-filling_at pos p c cs run owes f = record { at = record { lines = c ∷ cs; run = Some run; replies = (pos p).at.replies }; owes = owes; swaps = []; fill = Some f }
+filling_at pos p c cs run owes f = record { at = record { lines = c ∷ cs; run = Some run; replies = (pos p).at.replies; beside = (pos p).at.beside }; owes = owes; swaps = []; fill = Some f }
 
 stands-filling : (o : Opening) (trees : ℕ → Call → Tree) (s : State) (mem : Memory) (t : Table) (pos : ℕ → Position) (p : ℕ) (c : Call) (cs : List Call) (run : Standing) → AtTurn o trees s mem t pos p c cs run
-    → StandsAt o trees p s.world mem.words (s.lps p) (record { lines = c ∷ cs; run = Some run; replies = (pos p).at.replies })
-stands-filling o trees s mem t pos p c cs run a = record { lines = a.lines; replies = a.replies; run = a.runs }
+    → StandsAt o trees p s.world mem.words (s.lps p) (record { lines = c ∷ cs; run = Some run; replies = (pos p).at.replies; beside = (pos p).at.beside })
+stands-filling o trees s mem t pos p c cs run a = record { lines = a.lines; replies = a.replies; beside = (a.all.holds p a.inside).stands.beside; run = a.runs }
 
 seen-more : (made : List Due) (d : Due) (words : WordPlace → ℕ) (r : WordPlace) → seen_by (made ++ d ∷ []) words r ≡ put_word (seen_by made words) d.at d.word r
 seen-more made d words r = ap (λ (z : Option ℕ). or_else z (words r)) (last-append made (d ∷ []) r) ∙ by (same_place r d.at) (last_at made r)
@@ -87,7 +88,7 @@ fill-store ls o trees s mem t pos p c cs run f d ts a left h =
       };
     })
     (λ r in_r e was. ap mem.words ((ls.places.same r d.at).0 e) ∙ sym (ap (λ (z : Option ℕ). or_else z d.word) (undone r ∙ ap (λ (b : Bool). later (if b then Some (mem.words d.at) else None) (last_at (pos p).owes r)) e)))
-    (λ r e. undone r ∙ ap (λ (b : Bool). later (if b then Some (mem.words d.at) else None) (last_at (pos p).owes r)) e) (sym a.no_swaps)
+    (λ r e. undone r ∙ ap (λ (b : Bool). later (if b then Some (mem.words d.at) else None) (last_at (pos p).owes r)) e) (sym a.no_swaps) refl
   where
     m : Machine
     m = o.machine
@@ -175,8 +176,8 @@ fill-seen ls o trees s mem t pos p c cs run f q a h in_q reads = by (last_at f.m
 -- the act behind its fills
 act-piece : (ls : Laws) (o : Opening) (trees : ℕ → Call → Tree) (s : State) (mem : Memory) (t : Table) (pos : ℕ → Position) (p : ℕ) (c : Call) (cs : List Call) (run after : Standing) (f : Fill) (act : List Taken) (tps : List (List Piece)) (end_ : WordLp)
     (piece : Piece) (ps : List Piece) → (a : AtTurn o trees s mem t pos p c cs run) → f.left ≡ [] → FillHolds o.machine (bare (s.lps p).call.held) s.world mem.words (on_table o.machine t) (pos p).owes (Some run) f
-    → (hasher : Option Measure) → AreChanged o.machine f.changes None act hasher → after ≡ standing (End f.reply f.fills f.changes) (stages.Answered f.reply) run.held hasher
-    → OwnTurns (leaf_for o trees p) o.machine (after_turn c cs (pos p).at.replies after (last_reply after.stage after.held)) tps end_
+    → (hasher : Option Measure) → AreChanged o.machine f.changes None act hasher → after ≡ standing (End f.answer f.fills f.changes) (stages.Answered f.answer.reply) run.held hasher
+    → OwnTurns (leaf_for o trees p) o.machine (after_turn c cs (pos p).at.replies (beside_after events.Act after.rest (pos p).at.beside) after (last_reply after.stage after.held)) tps end_
     → marked_behind 0 act ++ joined tps ≡ piece ∷ ps → PieceAnswers t piece → Came o trees p s t pos piece ps end_
 act-piece ls o trees s mem t pos p c cs run after f act tps end_ piece ps a left h hasher ch after_is own hd an = by f.changes refl
   where
@@ -192,26 +193,28 @@ act-piece ls o trees s mem t pos p c cs run after f act tps end_ piece ps a left
     told : List ℕ
     told = (a.runs.call.told st).told
 
-    tree-is : feed (trees p c) told ≡ End f.reply f.fills f.changes
+    tree-is : feed (trees p c) told ≡ End f.answer f.fills f.changes
     tree-is = sym (told-tree o trees s mem t pos p c cs run a st) ∙ ap settle h.at_end.1
 
-    en : AtEnd o trees s mem p c told told f.reply run after (record { event = events.Act; reply = last_reply after.stage after.held })
+    en : AtEnd o trees s mem p c told told f.answer.reply run after (record { event = events.Act; reply = last_reply after.stage after.held })
     en = record {
       current = (a.runs.call.told st).current;
       locks = refl;
-      gives = subst (λ (z : Tree). Wants m.pages z (need.Verdict f.reply)) (sym tree-is) refl;
+      gives = subst (λ (z : Tree). Wants m.pages z (need.Verdict f.answer.reply)) (sym tree-is) refl;
       answered = ap (λ (z : Standing). z.stage) after_is;
       held = ap (λ (z : Standing). z.held) after_is;
       last = refl;
+      act = refl;
+      rest_is = ap (λ (z : Standing). z.rest) after_is ∙ sym tree-is;
     }
 
     hasher-is : after.hasher ≡ hasher
     hasher-is = ap (λ (z : Standing). z.hasher) after_is
 
-    may : EndMay m mine s.world ((row_of o p c).act s.world) mem (End f.reply f.fills f.changes)
-    may = subst (λ (z : Tree). EndMay m mine s.world ((row_of o p c).act s.world) mem z) tree-is (end-may o trees s mem t pos p c cs told f.reply run after (record { event = events.Act; reply = last_reply after.stage after.held }) a st en)
+    may : EndMay m mine s.world ((row_of o p c).act s.world) mem (End f.answer f.fills f.changes)
+    may = subst (λ (z : Tree). EndMay m mine s.world ((row_of o p c).act s.world) mem z) tree-is (end-may o trees s mem t pos p c cs told f.answer.reply run after (record { event = events.Act; reply = last_reply after.stage after.held }) a st en)
 
-    fills-may : (ds : List Change) → EndMay m mine s.world ((row_of o p c).act s.world) mem (End f.reply f.fills ds) → MayFillAll m mine s.world f.fills
+    fills-may : (ds : List Change) → EndMay m mine s.world ((row_of o p c).act s.world) mem (End f.answer f.fills ds) → MayFillAll m mine s.world f.fills
     fills-may [] e = e
     fills-may (c1 ∷ ds) e = e.0
 
@@ -243,21 +246,21 @@ act-piece ls o trees s mem t pos p c cs run after f act tps end_ piece ps a left
         let two = subst (λ (z : List Change). AreChanged m z None act hasher) e ch in
         let none : act ≡ [] = two.1 in
         let hd' : Wordless ∷ joined tps ≡ piece ∷ ps = ap (λ (z : List Taken). marked_behind 0 z ++ joined tps) (sym none) ∙ hd in
-        let ended : feed (trees p c) told ≡ End f.reply f.fills [] = tree-is ∙ ap (End f.reply f.fills) e in
-        let moved = end-moved ls o trees s mem t t pos p c cs told f.reply run after (record { event = events.Act; reply = last_reply after.stage after.held }) a st en has-tree
-        (λ y in_y. ap (λ (z : Tree). or_else (last_at (first_of z mem) y) (t.words (address m.pages y))) {x = End f.reply f.fills []} {y = feed (trees p c) told} (sym ended))
+        let ended : feed (trees p c) told ≡ End f.answer f.fills [] = tree-is ∙ ap (End f.answer f.fills) e in
+        let moved = end-moved ls o trees s mem t t pos p c cs told f.answer.reply run after (record { event = events.Act; reply = last_reply after.stage after.held }) a st en has-tree
+        (λ y in_y. ap (λ (z : Tree). or_else (last_at (first_of z mem) y) (t.words (address m.pages y))) {x = End f.answer f.fills []} {y = feed (trees p c) told} (sym ended))
         (subst (λ (z : Tree). (k : ℕ) → IsHkid m k → IsHand (t.slots (k - 1)) (or_else (last_put (puts_of z mem) k) (a.all.slots.now k))) (sym ended) a.all.slots.there) in
         came-as o trees p s t pos Wordless piece (joined tps) ps end_ hd'
         (record {
           memory = moved.memory;
-          now = record { at = after_turn c cs (pos p).at.replies after (last_reply after.stage after.held); owes = owes_of (feed (trees p c) told) mem; swaps = swaps_left (feed (trees p c) told) mem; fill = None };
+          now = record { at = after_turn c cs (pos p).at.replies (beside_after events.Act after.rest (pos p).at.beside) after (last_reply after.stage after.held); owes = owes_of (feed (trees p c) told) mem; swaps = swaps_left (feed (trees p c) told) mem; fill = None };
           stands = moved.stands;
-          rest = rest-owed o trees p c cs (pos p).at.replies after (feed (trees p c) told) (End f.reply f.fills []) mem [] None None (changed_all f.fills mem).hand tps end_ ended empty (λ i. (refl, i)) (hasher-is ∙ two.0) own;
+          rest = rest-owed o trees p c cs (pos p).at.replies (beside_after events.Act after.rest (pos p).at.beside) after (feed (trees p c) told) (End f.answer f.fills []) mem [] None None (changed_all f.fills mem).hand tps end_ ended empty (λ i. (refl, i)) (hasher-is ∙ two.0) own;
         })
     by (c1 ∷ ds) e =
-        let ended : feed (trees p c) told ≡ End f.reply f.fills (c1 ∷ ds) = tree-is ∙ ap (End f.reply f.fills) e in
+        let ended : feed (trees p c) told ≡ End f.answer f.fills (c1 ∷ ds) = tree-is ∙ ap (End f.answer f.fills) e in
         let all = subst (λ (z : List Change). AreChanged m z None act hasher) e ch in
-        let allowed = subst (λ (z : List Change). EndMay m mine s.world ((row_of o p c).act s.world) mem (End f.reply f.fills z)) e may in
+        let allowed = subst (λ (z : List Change). EndMay m mine s.world ((row_of o p c).act s.world) mem (End f.answer f.fills z)) e may in
         let zs : List Taken = all.1.1.0 in
         let mem1 : Memory = changed_all f.fills mem in
         let one : IsChanged m c1 None all.1.0 all.0 = all.1.1.2 in
@@ -267,22 +270,22 @@ act-piece ls o trees s mem t pos p c cs run after f act tps end_ piece ps a left
         let hd' : Marked x ∷ (map Unmarked zs ++ joined tps) ≡ piece ∷ ps = ap (λ (z : List Taken). marked_behind 0 z ++ joined tps) (sym acted) ∙ hd in
         let answers = answers-as t (Marked x) piece (map Unmarked zs ++ joined tps) ps hd' an in
         let slots = act-rest m mine s.world mem1 t c1 x all.0 a.all.slots.now allowed.1.0 item.is answers (slot-seen ls o trees s mem t pos p c cs run mem1.slots a rest-1.0) a.all.slots.there in
-        let moved = end-moved ls o trees s mem t (taken_after t x) pos p c cs told f.reply run after (record { event = events.Act; reply = last_reply after.stage after.held }) a st en has-tree
+        let moved = end-moved ls o trees s mem t (taken_after t x) pos p c cs told f.answer.reply run after (record { event = events.Act; reply = last_reply after.stage after.held }) a st en has-tree
         (λ y in_y. act-table ls o trees s mem t pos p c cs run f.fills c1 x all.0 a has allowed.1.0 item.is y in_y
-        ∙ ap (λ (z : Tree). or_else (last_at (first_of z mem) y) (t.words (address m.pages y))) {x = End f.reply f.fills (c1 ∷ ds)} {y = feed (trees p c) told} (sym ended))
+        ∙ ap (λ (z : Tree). or_else (last_at (first_of z mem) y) (t.words (address m.pages y))) {x = End f.answer f.fills (c1 ∷ ds)} {y = feed (trees p c) told} (sym ended))
         (subst (λ (z : Tree). (k : ℕ) → IsHkid m k → IsHand ((taken_after t x).slots (k - 1)) (or_else (last_put (puts_of z mem) k) (a.all.slots.now k))) (sym ended) slots.1) in
         came-as o trees p s t pos (Marked x) piece (map Unmarked zs ++ joined tps) ps end_ hd'
         (record {
           memory = moved.memory;
-          now = record { at = after_turn c cs (pos p).at.replies after (last_reply after.stage after.held); owes = owes_of (feed (trees p c) told) mem; swaps = swaps_left (feed (trees p c) told) mem; fill = None };
+          now = record { at = after_turn c cs (pos p).at.replies (beside_after events.Act after.rest (pos p).at.beside) after (last_reply after.stage after.held); owes = owes_of (feed (trees p c) told) mem; swaps = swaps_left (feed (trees p c) told) mem; fill = None };
           stands = moved.stands;
-          rest = rest-owed o trees p c cs (pos p).at.replies after (feed (trees p c) told) (End f.reply f.fills (c1 ∷ ds)) mem zs all.0 hasher (changed c1 mem1).hand tps end_ ended slots.0
+          rest = rest-owed o trees p c cs (pos p).at.replies (beside_after events.Act after.rest (pos p).at.beside) after (feed (trees p c) told) (End f.answer f.fills (c1 ∷ ds)) mem zs all.0 hasher (changed c1 mem1).hand tps end_ ended slots.0
               (owed-items m mine ((row_of o p c).act s.world) (changed c1 mem1) ds all.0 hasher zs allowed.1.1 all.1.1.3) hasher-is own;
         })
 
 -- the next piece of a leaf that fills
 pub fill-piece : (ls : Laws) (o : Opening) (trees : ℕ → Call → Tree) (s : State) (mem : Memory) (t : Table) (pos : ℕ → Position) (p : ℕ) (c : Call) (cs : List Call) (run : Standing) (f : Fill) (end_ : WordLp) (piece : Piece) (ps : List Piece)
-    → AtTurn o trees s mem t pos p c cs run → FillHolds o.machine (bare (s.lps p).call.held) s.world mem.words (on_table o.machine t) (pos p).owes (Some run) f → RestFilling o trees p c cs (pos p).at.replies (pos p).swaps run f (piece ∷ ps) end_ → PieceAnswers t piece
+    → AtTurn o trees s mem t pos p c cs run → FillHolds o.machine (bare (s.lps p).call.held) s.world mem.words (on_table o.machine t) (pos p).owes (Some run) f → RestFilling o trees p c cs (pos p).at.replies (pos p).at.beside (pos p).swaps run f (piece ∷ ps) end_ → PieceAnswers t piece
     → Came o trees p s t pos piece ps end_
 fill-piece ls o trees s mem t pos p c cs run f end_ piece ps a h rest an = by rest.stores f.left refl rest.are rest.pieces
   where
@@ -327,7 +330,7 @@ fill-piece ls o trees s mem t pos p c cs run f end_ piece ps a h rest an = by re
         (record {
           memory = mem;
           now = now;
-          stands = rearranged ls o trees s mem t t pos p now a.all (slots-stay o s mem.slots t.slots pos p now a.all.slots (sym a.no_swaps)) (λ k j z r g in_r owes. refl) (λ k j z r in_r fills. refl)
+          stands = rearranged ls o trees s mem t t pos p now a.all (slots-stay o s mem.slots t.slots pos p now a.all.slots (sym a.no_swaps)) (λ k j z r g in_r owes. refl) (λ k j z r in_r fills. refl) refl
               (record {
                 stands = stands-filling o trees s mem t pos p c cs run a;
                 due = record {

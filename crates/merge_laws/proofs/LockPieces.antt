@@ -30,6 +30,7 @@ use Rattle.leaf_engine.specs.declared.events.Stage.TheVariants as stages
 use Rattle.leaf_engine.specs.declared.needs.Need.TheVariants as need
 use Rattle.leaf_engine.specs.Changes.{Memory}
 use Rattle.leaf_engine.specs.Trees.{Tree, Lock, Load, Test, End, Since, feed, settle}
+use Rattle.leaf_engine.specs.Besides.{Beside, beside_after}
 use Rattle.leaf_engine.specs.Means.{Task, Instant, work_of, hold}
 use Rattle.leaf_engine.specs.Decides.{Wants, IsHand}
 use Rattle.leaf_engine.specs.Follows.{granted, Comes}
@@ -61,14 +62,14 @@ pub record AtTurn (o : Opening) (trees : ℕ → Call → Tree) (s : State) (mem
   pub going : has_ended run.stage run.held ≡ false
 
 -- a run has its hasher in hand when it is then under way
-pub in-hand-after : (c : Call) (cs : List Call) (rs : List Reply) (run' : Standing) (reply : Option Reply) (h : Option Measure) → run'.hasher ≡ h → HasInHand (after_turn c cs rs run' reply).run h
-in-hand-after c cs rs run' None h e = e
-in-hand-after c cs rs run' (Some r) h e = tt
+pub in-hand-after : (c : Call) (cs : List Call) (rs : List Reply) (b : Beside) (run' : Standing) (reply : Option Reply) (h : Option Measure) → run'.hasher ≡ h → HasInHand (after_turn c cs rs b run' reply).run h
+in-hand-after c cs rs b run' None h e = e
+in-hand-after c cs rs b run' (Some r) h e = tt
 
 -- where it then is, with the turns that are left
-rest-after : (o : Opening) (trees : ℕ → Call → Tree) (p : ℕ) (c : Call) (cs : List Call) (rs : List Reply) (run' : Standing) (reply : Option Reply) (tps : List (List Piece)) (end_ : WordLp) → HandOf run'
-    → OwnTurns (leaf_for o trees p) o.machine (after_turn c cs rs run' reply) tps end_ → Rest o trees p (after_turn c cs rs run' reply) [] [] (joined tps) end_
-rest-after o trees p c cs rs run' reply tps end_ ho own = record {
+rest-after : (o : Opening) (trees : ℕ → Call → Tree) (p : ℕ) (c : Call) (cs : List Call) (rs : List Reply) (b : Beside) (run' : Standing) (reply : Option Reply) (tps : List (List Piece)) (end_ : WordLp) → HandOf run'
+    → OwnTurns (leaf_for o trees p) o.machine (after_turn c cs rs b run' reply) tps end_ → Rest o trees p (after_turn c cs rs b run' reply) [] [] (joined tps) end_
+rest-after o trees p c cs rs b run' reply tps end_ ho own = record {
   owed = [];
   owes_are = refl;
   swaps_are = refl;
@@ -78,7 +79,7 @@ rest-after o trees p c cs rs run' reply tps end_ ho own = record {
   items = [];
   last = run'.hasher;
   are = λ i. (refl, i);
-  last_is = in-hand-after c cs rs run' reply run'.hasher refl;
+  last_is = in-hand-after c cs rs b run' reply run'.hasher refl;
   turns = tps;
   pieces = refl;
   own = own;
@@ -86,22 +87,22 @@ rest-after o trees p c cs rs run' reply tps end_ ho own = record {
 
 came-by : (ls : Laws) (o : Opening) (trees : ℕ → Call → Tree) (s : State) (mem : Memory) (t : Table) (pos : ℕ → Position) (p : ℕ) (c : Call) (cs : List Call) (mv : Move Reply) (run run' : Standing) (st : WordStep) (a : ℕ) (q : WordPlace) (result : RunTurn)
     (tps : List (List Piece)) (end_ : WordLp) → AtTurn o trees s mem t pos p c cs run → (pos p).owes ≡ [] → OneStep o trees s p c mv run run' st a q result → a ≡ answer_of t.words st
-    → OwnTurns (leaf_for o trees p) o.machine (after_turn c cs (pos p).at.replies run' result.reply) tps end_
+    → OwnTurns (leaf_for o trees p) o.machine (after_turn c cs (pos p).at.replies (beside_after result.event run'.rest (pos p).at.beside) run' result.reply) tps end_
     → Came o trees p s t pos (Marked (Stepped st a)) (joined tps) end_
 came-by ls o trees s mem t pos p c cs mv run run' st a q result tps end_ at none one an own =
     let m = lock-step ls o trees s mem t pos p c cs (pos p).at.replies mv run run' st a q result at.are at.known at.all at.inside at.lines at.replies none at.no_swaps at.runs at.hand one an in
     record {
       memory = m.memory;
-      now = record { at = after_turn c cs (pos p).at.replies run' result.reply; owes = []; swaps = []; fill = None };
+      now = record { at = after_turn c cs (pos p).at.replies (beside_after result.event run'.rest (pos p).at.beside) run' result.reply; owes = []; swaps = []; fill = None };
       stands = m.stands;
-      rest = rest-after o trees p c cs (pos p).at.replies run' result.reply tps end_ one.hand own;
+      rest = rest-after o trees p c cs (pos p).at.replies (beside_after result.event run'.rest (pos p).at.beside) run' result.reply tps end_ one.hand own;
     }
 
 -- the undo
 pub undo-piece : (ls : Laws) (o : Opening) (trees : ℕ → Call → Tree) (s : State) (mem : Memory) (t : Table) (pos : ℕ → Position) (p : ℕ) (c : Call) (cs : List Call) (run run' : Standing) (items : List Taken) (e : RunEvent) (name : LockName) (at : ℕ)
     (tps : List (List Piece)) (end_ : WordLp) → AtTurn o trees s mem t pos p c cs run → (pos p).owes ≡ [] → run.stage ≡ stages.Undoing name at → (turn : TurnBy run.stage o.machine run items run' e) → (tb : TakesBack run name at items run' e)
     → tb.items.0 ≡ answer_of t.words (step.Sub at 1)
-    → OwnTurns (leaf_for o trees p) o.machine (after_turn c cs (pos p).at.replies run' (last_reply run'.stage run'.held)) tps end_
+    → OwnTurns (leaf_for o trees p) o.machine (after_turn c cs (pos p).at.replies (beside_after e run'.rest (pos p).at.beside) run' (last_reply run'.stage run'.held)) tps end_
     → Came o trees p s t pos (Marked (Stepped (step.Sub at 1) tb.items.0)) (joined tps) end_
 undo-piece ls o trees s mem t pos p c cs run run' items e name at tps end_ a none st turn tb an own =
     by (s.lps p).call.phase refl (subst (λ (z : Stage). IsStage o.machine s.world z (s.lps p).call.phase) st a.runs.call.stage)
@@ -144,7 +145,7 @@ tdr-more h hs OfKeys x = tt
 pub free-piece : (ls : Laws) (o : Opening) (trees : ℕ → Call → Tree) (s : State) (mem : Memory) (t : Table) (pos : ℕ → Position) (p : ℕ) (c : Call) (cs : List Call) (run run' : Standing) (items : List Taken) (e : RunEvent) (r : Reply)
     (tps : List (List Piece)) (end_ : WordLp) → AtTurn o trees s mem t pos p c cs run → (pos p).owes ≡ [] → run.stage ≡ stages.Answered r → (turn : TurnBy run.stage o.machine run items run' e) → (gb : GivesBack run.held items run'.held e) → run' ≡ record run { held = run'.held }
     → gb.items.0 ≡ answer_of t.words (step.Sub gb.newest.at (weight_of gb.newest.mode))
-    → OwnTurns (leaf_for o trees p) o.machine (after_turn c cs (pos p).at.replies run' (last_reply run'.stage run'.held)) tps end_
+    → OwnTurns (leaf_for o trees p) o.machine (after_turn c cs (pos p).at.replies (beside_after e run'.rest (pos p).at.beside) run' (last_reply run'.stage run'.held)) tps end_
     → Came o trees p s t pos (Marked (Stepped (step.Sub gb.newest.at (weight_of gb.newest.mode)) gb.items.0)) (joined tps) end_
 free-piece ls o trees s mem t pos p c cs run run' items e r tps end_ a none st turn gb same an own =
     by (s.lps p).call.phase (s.lps p).call.held refl refl (subst (λ (z : Stage). IsStage o.machine s.world z (s.lps p).call.phase) st a.runs.call.stage) a.runs.call.held
@@ -192,7 +193,7 @@ tried-hasher s t name at mode false = refl
 pub try-piece : (ls : Laws) (o : Opening) (trees : ℕ → Call → Tree) (s : State) (mem : Memory) (t : Table) (pos : ℕ → Position) (p : ℕ) (c : Call) (cs : List Call) (run run' : Standing) (e : RunEvent) (tree : Tree) (name : LockName) (at : ℕ) (mode : Mode)
     (seen : ℕ) (tps : List (List Piece)) (end_ : WordLp) → AtTurn o trees s mem t pos p c cs run → (pos p).owes ≡ [] → (st : run.stage ≡ stages.Trying) → (turn : Advances o.machine run (Stepped (try_step at mode) seen ∷ []) run' e)
     → Wants o.machine.pages (settle run.rest) (need.Lock name at mode) → run' ≡ tried run tree name at mode (grants mode seen) → seen ≡ answer_of t.words (try_step at mode)
-    → OwnTurns (leaf_for o trees p) o.machine (after_turn c cs (pos p).at.replies run' (last_reply run'.stage run'.held)) tps end_
+    → OwnTurns (leaf_for o trees p) o.machine (after_turn c cs (pos p).at.replies (beside_after e run'.rest (pos p).at.beside) run' (last_reply run'.stage run'.held)) tps end_
     → Came o trees p s t pos (Marked (Stepped (try_step at mode) seen)) (joined tps) end_
 try-piece ls o trees s mem t pos p c cs run run' e tree name at mode seen tps end_ a none st turn gives after an own =
     by (feed (trees p c) told) (leaves-follow-rows task inst told (a.are.means p c) (at-instant o task (row_of o p c) s mem (table_of m mem.slots mem.words) run refl (shown-of o trees s mem t pos p c run a.known a.all a.inside (a.hand.trying st)) a.runs.call st) (a.runs.call.told st).current)

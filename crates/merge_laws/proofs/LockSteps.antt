@@ -11,6 +11,7 @@ use Rattle.flat_core.specs.Opening.{Opening}
 use Rattle.flat_core.specs.Row.{Move}
 use Rattle.flat_core.specs.Table.{row_of}
 use Rattle.flat_core.specs.Event.{State, OfCall, next_event, lines_left, event, call_world}
+use Rattle.flat_core.specs.Run.{bundles_in}
 use Rattle.flat_core.proofs.Tests.{put_here}
 use Rattle.word_rules.specs.Guards.{Apart}
 use Rattle.word_rules.specs.Rules.{View, Grade}
@@ -24,18 +25,20 @@ use Rattle.step_core.specs.Items.{Table, Stepped}
 use Rattle.leaf_engine.specs.declared.events.RunTurn.{RunTurn}
 use Rattle.leaf_engine.specs.Changes.{Memory}
 use Rattle.leaf_engine.specs.Trees.{Tree}
+use Rattle.leaf_engine.specs.Besides.{beside_after}
 use Rattle.leaf_engine.specs.Tables.{IsMemory}
 use Rattle.leaf_engine.specs.Turns.{Standing, IsTurn, has_ended}
 use Rattle.leaf_engine.specs.Calls.{After}
 use Rattle.leaf_engine.specs.OwnLists.{after_turn}
-use Rattle.leaf_engine.proofs.Turning.{Laws as EngineLaws, calls-follow}
+use Rattle.leaf_engine.proofs.Doings.{Laws as EngineLaws}
+use Rattle.leaf_engine.proofs.Turning.{calls-follow}
 use Rattle.merge_laws.proofs.Virtual.{table_of, holds-memory, step-same, step-elsewhere}
 use Rattle.merge_laws.proofs.Stores.{Due, last_at, laid, laid-none, laid-same}
 use Rattle.merge_laws.proofs.Holding.{bare, turned-round}
 use Rattle.merge_laws.proofs.Standing.{Laws, leaf_for, AreTrees, Known, HandOf, RunsAt, on_table, Position, Stands}
 use Rattle.merge_laws.proofs.Others.{shown-hand}
 use Rattle.merge_laws.proofs.SlotSteps.{slots-event}
-use Rattle.merge_laws.proofs.Own.{apart-from, stands-after, world-of-event, at-other, gathered, none-due}
+use Rattle.merge_laws.proofs.Own.{apart-from, grows-by, stands-after, world-of-event, at-other, gathered, none-due}
 
 pub engine : Laws → EngineLaws
 engine ls = record { follow = ls.follow; steps = ls.steps; places = ls.places; pages = ls.pages }
@@ -72,7 +75,7 @@ module _ (ls : Laws) (o : Opening) (trees : ℕ → Call → Tree) (s : State) (
 
   -- where the processor is after the step
   abbrev its_position : Position
-  its_position = record { at = after_turn c cs rs run' result.reply; owes = []; swaps = []; fill = None }
+  its_position = record { at = after_turn c cs rs (beside_after result.event run'.rest (pos p).at.beside) run' result.reply; owes = []; swaps = []; fill = None }
 
   -- the table after the step
   abbrev stepped_table : Table
@@ -116,9 +119,9 @@ module _ (ls : Laws) (o : Opening) (trees : ℕ → Call → Tree) (s : State) (
   word-shown = sym word-here ∙ sym (table-shows.words q one.inside)
 
   -- the call is after its step as its leaf says
-  step-made : After o (leaf_for o trees p c) (row_of o p c) (s.lps p).replies (event o s p) shown_after run' result.reply
+  step-made : After o (leaf_for o trees p c) (row_of o p c) s (event o s p) shown_after run' result
   step-made =
-      calls-follow (engine ls) o (leaf_for o trees p c) (row_of o p c) s memory_in_hand shown_table shown_after run run' (Stepped st a ∷ []) result (are.means p c) refl (are.enters_none p c)
+      calls-follow (engine ls) o (leaf_for o trees p c) (row_of o p c) s memory_in_hand shown_table shown_after run run' (Stepped st a ∷ []) result (are.means p c) refl
       (shown-hand o trees s mem t pos p c run known sd i ho) ra.call one.going one.turn
       (an ∙ answers-same t.words shown_table.words st (address machine.pages q) one.at word-shown, (refl, refl))
 
@@ -191,7 +194,7 @@ module _ (ls : Laws) (o : Opening) (trees : ℕ → Call → Tree) (s : State) (
           (sym (step-elsewhere ls.places machine t.words st q r one.inside in_r one.at e)))
 
   -- after the step all stands as it leaves it
-  pub lock-step : Moved o trees (event o s p) (record t { words = after_step t.words st }) (put pos p (record { at = after_turn c cs rs run' result.reply; owes = []; swaps = []; fill = None }))
+  pub lock-step : Moved o trees (event o s p) (record t { words = after_step t.words st }) (put pos p (record { at = after_turn c cs rs (beside_after result.event run'.rest (pos p).at.beside) run' result.reply; owes = []; swaps = []; fill = None }))
   lock-step =
       record {
         memory = memory_after;
@@ -212,8 +215,9 @@ module _ (ls : Laws) (o : Opening) (trees : ℕ → Call → Tree) (s : State) (
               may = tt;
               held = λ x. tt;
             }))
+            (grows-by c cs rs (pos p).at run' result (bundles_in s) (bundles_in (event o s p)) step-made.bundles)
             (record {
-              stands = stands-after o trees p c cs (s.lps p) (event o s p) shown_after run' run'.hasher result.reply lines step-made one.hand.trying rs replies;
+              stands = stands-after o trees p c cs s (event o s p) shown_after run' run'.hasher result (are.enters_none p c) lines step-made one.hand.trying rs replies (pos p).at.beside (sd.holds p i).stands.beside;
               due = tt;
             })
             laid-after;

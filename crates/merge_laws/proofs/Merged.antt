@@ -25,6 +25,7 @@ use Rattle.leaf_engine.specs.declared.needs.Need.{Need}
 use Rattle.leaf_engine.specs.declared.needs.Need.TheVariants as need
 use Rattle.leaf_engine.specs.Changes.{Hand, Memory}
 use Rattle.leaf_engine.specs.Trees.{Tree, settle, passed}
+use Rattle.leaf_engine.specs.Besides.{Beside, beside_after}
 use Rattle.leaf_engine.specs.Decides.{Wants, IsHand}
 use Rattle.leaf_engine.specs.Turns.{Standing, Comes as TurnComes, TurnBy, TakesBack, GivesBack, has_ended, last_reply}
 use Rattle.leaf_engine.specs.OwnLists.{Piece, Unmarked, Marked, Wordless, joined, last_marked, pieces_for, behind, GoesIn, TurnIn, WordLp, running, after_turn, LinesTurn, OwnTurns}
@@ -44,7 +45,7 @@ use Rattle.merge_laws.proofs.Verdicts.{verdict-turn}
 -- the next piece of a turn
 turn-piece : (ls : Laws) (o : Opening) (trees : ℕ → Call → Tree) (s : State) (mem : Memory) (t : Table) (pos : ℕ → Position) (p : ℕ) (c : Call) (cs : List Call) (run run' : Standing) (e : RunEvent) (tp : List Piece) (tps : List (List Piece)) (end_ : WordLp)
     (piece : Piece) (ps : List Piece) → AtTurn o trees s mem t pos p c cs run → (pos p).owes ≡ [] → TurnIn run.stage o.machine run tp run' e
-    → OwnTurns (leaf_for o trees p) o.machine (after_turn c cs (pos p).at.replies run' (last_reply run'.stage run'.held)) tps end_
+    → OwnTurns (leaf_for o trees p) o.machine (after_turn c cs (pos p).at.replies (beside_after e run'.rest (pos p).at.beside) run' (last_reply run'.stage run'.held)) tps end_
     → Heads tp tps piece ps → PieceAnswers t piece → Came o trees p s t pos piece ps end_
 turn-piece ls o trees s mem t pos p c cs run run' e tp tps end_ piece ps a none tn own h an = by run.stage refl tn
   where
@@ -107,7 +108,7 @@ module _ (ls : Laws) (o : Opening) (trees : ℕ → Call → Tree) (s : State) (
 
   -- the next piece of a turn on the first of these lines
   next-of-line : (cs : List Call) → (pos p).at.lines ≡ cs → (pos p).owes ≡ [] → (pos p).swaps ≡ [] → (last : Option Measure) (hand : Hand) → HasInHand (pos p).at.run last → IsHand last hand
-      → (e : RunEvent) (tp : List Piece) (tps : List (List Piece)) (after : WordLp) → LinesTurn (leaf_for o trees p) o.machine cs (pos p).at.run (pos p).at.replies e tp after
+      → (e : RunEvent) (tp : List Piece) (tps : List (List Piece)) (after : WordLp) → LinesTurn (leaf_for o trees p) o.machine cs (pos p).at.run (pos p).at.replies (pos p).at.beside e tp after
       → OwnTurns (leaf_for o trees p) o.machine after tps end_ → Heads tp tps piece ps → Came o trees p s t pos piece ps end_
   next-of-line [] l none no-swaps last hand has k e tp tps after lt own hd = absurd lt
   next-of-line (c ∷ cs) l none no-swaps last hand has k e tp tps after lt own hd =
@@ -193,7 +194,7 @@ module _ (ls : Laws) (o : Opening) (trees : ℕ → Call → Tree) (s : State) (
           })
 
   -- the next piece of a fill that goes on
-  next-of-fill : (f : Fill) → (pos p).fill ≡ Some f → (c : Call) (cs : List Call) → (pos p).at.lines ≡ c ∷ cs → (run : Standing) → (pos p).at.run ≡ Some run → RestFilling o trees p c cs (pos p).at.replies (pos p).swaps run f (piece ∷ ps) end_
+  next-of-fill : (f : Fill) → (pos p).fill ≡ Some f → (c : Call) (cs : List Call) → (pos p).at.lines ≡ c ∷ cs → (run : Standing) → (pos p).at.run ≡ Some run → RestFilling o trees p c cs (pos p).at.replies (pos p).at.beside (pos p).swaps run f (piece ∷ ps) end_
       → Came o trees p s t pos piece ps end_
   next-of-fill f n c cs l run r re =
       let due : Pending o.machine (bare (s.lps p).call.held) s.world mem.words (on_table o.machine t) (pos p).owes (Some run) (Some f) =

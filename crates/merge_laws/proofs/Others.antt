@@ -148,7 +148,7 @@ others-stay ls o trees s mem t pos k w' words' a' g' are known st i lv =
     let h = st.holds k i in
     let whole : IsOlder (s.lps k).call.held (s.lps k).call.held = ([], refl) in
     record {
-      stands = record { lines = h.stands.lines; replies = h.stands.replies; run = run (pos k).at.lines (pos k).at.run h.stands.run };
+      stands = record { lines = h.stands.lines; replies = h.stands.replies; beside = h.stands.beside; run = run (pos k).at.lines (pos k).at.run h.stands.run };
       due = pending (pos k).fill h.due;
     }
   where

@@ -5,12 +5,13 @@ use Rattle.td_words.specs.declared.machines.Machine.{Machine}
 use Rattle.td_words.specs.declared.calls.Call.{Call}
 use Rattle.td_words.specs.declared.replies.Reply.{Reply}
 use Rattle.td_words.specs.Place.{WordPlace, IsIn}
-use Rattle.flat_core.specs.World.{World, put}
+use Rattle.flat_core.specs.World.{World, Made, put}
 use Rattle.flat_core.specs.Processor.{Held, Lp}
 use Rattle.flat_core.specs.Opening.{Opening}
 use Rattle.flat_core.specs.Row.{Row, Move}
 use Rattle.flat_core.specs.Table.{row_of}
 use Rattle.flat_core.specs.Event.{State, OfCall, next_event, lines_left, event, call_lp, call_world, settled, is_granted, calls_of}
+use Rattle.flat_core.specs.Run.{bundles_in}
 use Rattle.flat_core.proofs.Tests.{put_here}
 use Rattle.flat_core.proofs.Ends.{drop_next}
 use Rattle.lock_words.specs.Grips.{grip_of}
@@ -22,11 +23,16 @@ use Rattle.word_rules.specs.Cells.{Shows}
 use Rattle.mrtd_measure.specs.declared.measures.Measure.{Measure}
 use Rattle.step_core.specs.Items.{Table}
 use Rattle.leaf_engine.specs.Changes.{Memory}
-use Rattle.leaf_engine.specs.Trees.{Tree}
+use Rattle.leaf_engine.specs.declared.events.Event.{Event as RunEvent}
+use Rattle.leaf_engine.specs.declared.events.Event.TheVariants as events
+use Rattle.leaf_engine.specs.declared.events.RunTurn.{RunTurn}
+use Rattle.leaf_engine.specs.Trees.{added, Tree}
+use Rattle.leaf_engine.specs.Besides.{Beside, beside_of, beside_after, bundles_made}
 use Rattle.leaf_engine.specs.Turns.{Standing}
-use Rattle.leaf_engine.specs.Calls.{IsCallAt, GoesOn, IsOver, After}
+use Rattle.leaf_engine.specs.Calls.{IsCallAt, Then, After}
 use Rattle.leaf_engine.specs.OwnLists.{WordLp, after_turn}
 use Rattle.leaf_engine.proofs.Calling.{event-is, lp-now}
+use Rattle.merge_laws.specs.Laws.{AreMerged, more_made, AreBundlesOf}
 use Rattle.merge_laws.proofs.Stores.{Due, last_at, laid, last-each, OwesAt, FillsAt}
 use Rattle.merge_laws.proofs.Keeping.{keeps-each}
 use Rattle.merge_laws.proofs.Holding.{bare, NoGuests, IsOlder, apart-held, apart-grasp}
@@ -51,10 +57,10 @@ one-more rs r = omega (arith, length-append rs (r ∷ []))
 abbrev pub with_hasher : Standing → Option Measure → Standing
 with_hasher run h = record run { hasher = h }
 
-pub stands-after : (o : Opening) (trees : ℕ → Call → Tree) (p : ℕ) (c : Call) (cs : List Call) (lp : Lp) (s' : State) (u : Table) (run' : Standing) (h : Option Measure) (reply : Option Reply) → lines_left o p lp ≡ c ∷ cs
-    → (after : After o (leaf_for o trees p c) (row_of o p c) lp.replies s' u (with_hasher run' h) reply) → NoneOnWay run' → (rs : List Reply) → lp.replies ≡ rs
-    → StandsAt o trees p s'.world after.mem.words (s'.lps p) (after_turn c cs rs run' reply)
-stands-after o trees p c cs lp s' u run' h reply lines after none rs same = by reply after.then_
+pub stands-after : (o : Opening) (trees : ℕ → Call → Tree) (p : ℕ) (c : Call) (cs : List Call) (s s' : State) (u : Table) (run' : Standing) (h : Option Measure) (result : RunTurn) → (row_of o p c).enters ≡ None → lines_left o p (s.lps p) ≡ c ∷ cs
+    → (after : After o (leaf_for o trees p c) (row_of o p c) s s' u (with_hasher run' h) result) → NoneOnWay run' → (rs : List Reply) → (s.lps p).replies ≡ rs → (had : Beside) → beside_of (s.lps p) had.bundles ≡ had
+    → StandsAt o trees p s'.world after.mem.words (s'.lps p) (after_turn c cs rs (beside_after result.event run'.rest had) run' result.reply)
+stands-after o trees p c cs s s' u run' h result enters lines after none rs same had same-had = by result.reply after.then_
   where
     same-call : IsCallAt o (leaf_for o trees p c) (row_of o p c) s'.world after.mem.words (s'.lps p) (with_hasher run' h) → IsCallAt o (leaf_for o trees p c) (row_of o p c) s'.world after.mem.words (s'.lps p) run'
     same-call ca = record {
@@ -65,23 +71,36 @@ stands-after o trees p c cs lp s' u run' h reply lines after none rs same = by r
       told = λ e. (let told = ca.told e in record { told = told.told; current = told.current; waits = told.waits; rest = told.rest; locks = told.locks });
     }
 
-    by : (reply : Option Reply) → GoesOn o (leaf_for o trees p c) (row_of o p c) lp.replies s'.world after.mem (s'.lps p) (with_hasher run' h) reply ⊎ IsOver lp.replies (s'.lps p) reply
-        → StandsAt o trees p s'.world after.mem.words (s'.lps p) (after_turn c cs rs run' reply)
+    lp : Lp
+    lp = s.lps p
+
+    has : Beside
+    has = beside_after result.event run'.rest had
+
+    besides : beside_of (s'.lps p) has.bundles ≡ has
+    besides = subst (λ (z : Beside). let x = beside_after result.event run'.rest z in beside_of (s'.lps p) x.bundles ≡ x) same-had (after.beside had.bundles)
+
+    by : (reply : Option Reply) → Then o (leaf_for o trees p c) (row_of o p c) lp s'.world after.mem (s'.lps p) (with_hasher run' h) reply
+        → StandsAt o trees p s'.world after.mem.words (s'.lps p) (after_turn c cs rs has run' reply)
     by None (inl g) = record {
       lines = ap (λ (z : List Reply). drop (length z) (calls_of o.calls p)) g.replies_are ∙ lines;
       replies = g.replies_are ∙ same;
+      beside = besides;
       run = record { call = same-call g.call; trying = none };
     }
     by (Some r) (inl g) = (let e = g.no_reply in cc)
-    by None (inr v) = (let e = v.reply_is in cc)
-    by (Some r) (inr v) =
+    by None (inr (inl v)) = (let e = v.reply_is in cc)
+    by (Some r) (inr (inl v)) =
         let answer : r ≡ v.answer = cc (v.reply_is) in
         record {
           lines = ap (λ (z : List Reply). drop (length z) (calls_of o.calls p)) v.replies_are
               ∙ (ap (λ (n : ℕ). drop n (calls_of o.calls p)) (one-more lp.replies v.answer) ∙ drop_next (length lp.replies) (calls_of o.calls p) c cs lines);
           replies = v.replies_are ∙ (ap (λ (z : List Reply). z ++ v.answer ∷ []) same ∙ ap (λ (z : Reply). rs ++ z ∷ []) (sym answer));
+          beside = besides;
           run = v.between;
         }
+    by None (inr (inr x)) = (let bad = sym enters ∙ x.enters in cc)
+    by (Some r) (inr (inr x)) = (let bad = sym enters ∙ x.enters in cc)
 
 -- all of them together
 
@@ -98,6 +117,66 @@ no-guest o trees p w words lp at st = by at.lines at.run st.run
     by cs None a = a.guest
     by [] (Some r) a = absurd a
     by (c ∷ cs) (Some r) a = a.call.guest
+
+-- the bundles of all of them, where those of one grow
+
+pub record Grows (before after : List Made) (was now : WordLp) : Type 0 where
+  pub more : List Made
+  pub all : after ≡ added before more
+  pub own : now.beside.bundles ≡ added was.beside.bundles more
+
+pub grown : (n : ℕ) (pos : ℕ → Position) (p : ℕ) (now : Position) (before after : List Made) → Grows before after (pos p).at now.at → AreBundlesOf n (λ k. (pos k).at) before → AreBundlesOf n (λ k. (put pos p now k).at) after
+grown n pos p now before after g a = by g.more g.all g.own
+  where
+    mine : (k : ℕ) (x : List Made) → (k == p) ≡ true → x ≡ now.at.beside.bundles → x ≡ (put pos p now k).at.beside.bundles
+    mine k x e h =
+        let q : p ≡ k = sym (eqb-true k p e) in
+        h ∙ subst (λ (z : ℕ). now.at.beside.bundles ≡ (put pos p now z).at.beside.bundles) q (sym (ap (λ (z : Position). z.at.beside.bundles) (put_here pos p now)))
+
+    theirs : (k : ℕ) → k < n → (k == p) ≡ false → a.own k ≡ (put pos p now k).at.beside.bundles
+    theirs k j e = a.each k j ∙ sym (ap (λ (z : Position). z.at.beside.bundles) (at-other pos p k now e))
+
+    was : (k : ℕ) → k < n → (k == p) ≡ true → a.own p ≡ (pos p).at.beside.bundles
+    was k j e = a.each p (subst (λ (z : ℕ). z < n) (eqb-true k p e) j)
+
+    by : (more : List Made) → after ≡ added before more → now.at.beside.bundles ≡ added (pos p).at.beside.bundles more → AreBundlesOf n (λ k. (put pos p now k).at) after
+    by [] q r = record { own = a.own; each = λ k j. each k j (k == p) refl; merged = subst (λ (z : List Made). AreMerged a.own z) (sym q) a.merged }
+      where
+        each : (k : ℕ) → k < n → (b : Bool) → (k == p) ≡ b → a.own k ≡ (put pos p now k).at.beside.bundles
+        each k j true e = mine k (a.own k) e (subst (λ (z : ℕ). a.own z ≡ now.at.beside.bundles) (sym (eqb-true k p e)) (was k j e ∙ sym r))
+        each k j false e = theirs k j e
+    by (m ∷ ms) q r = record { own = own'; each = λ k j. each k j (k == p) refl; merged = subst (λ (z : List Made). AreMerged own' z) (sym q) (more_made a.own before p (m ∷ ms) a.merged) }
+      where
+        own' : ℕ → List Made
+        own' = put a.own p (a.own p ++ m ∷ ms)
+
+        each : (k : ℕ) → k < n → (b : Bool) → (k == p) ≡ b → own' k ≡ (put pos p now k).at.beside.bundles
+        each k j true e =
+            mine k (own' k) e
+            (subst (λ (z : ℕ). own' z ≡ now.at.beside.bundles) (sym (eqb-true k p e)) (put_here a.own p (a.own p ++ m ∷ ms) ∙ (ap (λ (z : List Made). z ++ m ∷ ms) (was k j e) ∙ sym r)))
+        each k j false e = at-other a.own p k (a.own p ++ m ∷ ms) e ∙ theirs k j e
+
+-- a turn makes the bundles that it says
+made-beside : (e : RunEvent) (t : Tree) (b : Beside) → (beside_after e t b).bundles ≡ added b.bundles (bundles_made e t)
+made-beside events.Act t b = refl
+made-beside (events.Try name mode granted) t b = refl
+made-beside (events.Undo name) t b = refl
+made-beside (events.Free name) t b = refl
+made-beside (events.Walk level) t b = refl
+made-beside (events.Word at) t b = refl
+made-beside (events.Count parity) t b = refl
+
+turned-beside : (c : Call) (cs : List Call) (rs : List Reply) (b : Beside) (run : Standing) (reply : Option Reply) → (after_turn c cs rs b run reply).beside ≡ b
+turned-beside c cs rs b run None = refl
+turned-beside c cs rs b run (Some r) = refl
+
+pub grows-by : (c : Call) (cs : List Call) (rs : List Reply) (was : WordLp) (run' : Standing) (result : RunTurn) (before after : List Made) → after ≡ added before (bundles_made result.event run'.rest)
+    → Grows before after was (after_turn c cs rs (beside_after result.event run'.rest was.beside) run' result.reply)
+grows-by c cs rs was run' result before after all = record {
+  more = bundles_made result.event run'.rest;
+  all = all;
+  own = ap (λ (z : Beside). z.bundles) (turned-beside c cs rs (beside_after result.event run'.rest was.beside) run' result.reply) ∙ made-beside result.event run'.rest was.beside;
+}
 
 pub whole : (hs : List Held) → IsOlder hs hs
 whole hs = ([], refl)
@@ -127,15 +206,16 @@ pub record Spares (m : Machine) (s : State) (g' : Grip) (w' : World) (words word
 
 pub gathered : (ls : Laws) (o : Opening) (trees : ℕ → Call → Tree) (s : State) (mem mem' : Memory) (t t' : Table) (pos : ℕ → Position) (p : ℕ) (now : Position) (g' : Grip) → IsApart o s p g' → AreTrees o trees → Known o s → Stands o trees s mem t pos → p < length o.calls
     → Spares o.machine s g' (event o s p).world mem.words mem'.words (on_table o.machine t) (on_table o.machine t') → Shows o.machine mem'.words mem'.slots (event o s p) → mem'.hand ≡ None
-    → Slots o (event o s p) mem'.slots t'.slots (put pos p now)
+    → Slots o (event o s p) mem'.slots t'.slots (put pos p now) → Grows (bundles_in s) (bundles_in (event o s p)) (pos p).at now.at
     → Holds o trees p (event o s p).world mem'.words (on_table o.machine t') ((event o s p).lps p) now
     → ((r : WordPlace) → IsIn o.machine r → mem'.words r ≡ laid (length o.calls) (λ k. (put pos p now k).owes) (on_table o.machine t') r)
     → Stands o trees (event o s p) mem' t' (put pos p now)
-gathered ls o trees s mem mem' t t' pos p now g' apart are known st i sp shows hand slots own laid_is = record {
+gathered ls o trees s mem mem' t t' pos p now g' apart are known st i sp shows hand slots grows own laid_is = record {
   shows = shows;
   hand = hand;
   slots = slots;
   guests = guests;
+  bundles = grown (length o.calls) pos p now (bundles_in s) (bundles_in (event o s p)) grows st.bundles;
   holds = holds;
   laid_is = laid_is;
 }

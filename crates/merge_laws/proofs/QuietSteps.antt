@@ -11,6 +11,7 @@ use Rattle.flat_core.specs.Opening.{Opening}
 use Rattle.flat_core.specs.Row.{next}
 use Rattle.flat_core.specs.Table.{row_of}
 use Rattle.flat_core.specs.Event.{State}
+use Rattle.flat_core.specs.Run.{bundles_in}
 use Rattle.flat_core.proofs.Tests.{put_here}
 use Rattle.word_rules.specs.Guards.{Apart, Grip}
 use Rattle.word_rules.specs.Rules.{View, Grade, spares}
@@ -42,20 +43,21 @@ use Rattle.merge_laws.proofs.Standing.{Laws, leaf_for, AreTrees, Known, on_table
 use Rattle.merge_laws.proofs.Others.{shown-of, hold-is}
 use Rattle.merge_laws.proofs.Swaps.{SwapDue}
 use Rattle.merge_laws.proofs.SlotSteps.{slots-stay, slots-swap}
-use Rattle.merge_laws.proofs.Own.{at-other, whole, apart-from, due-at}
+use Rattle.merge_laws.proofs.Own.{at-other, grown, whole, apart-from, due-at}
 
 -- one processor is elsewhere, in the same state
 pub rearranged : (ls : Laws) (o : Opening) (trees : ℕ → Call → Tree) (s : State) (mem : Memory) (t t' : Table) (pos : ℕ → Position) (p : ℕ) (now : Position) → Stands o trees s mem t pos → Slots o s mem.slots t'.slots (put pos p now)
     → ((k : ℕ) → k < length o.calls → (k == p) ≡ false → (q : WordPlace) (g : Grade) → IsIn o.machine q → Owes (bare (s.lps k).call.held) s.world q g → on_table o.machine t q ≡ on_table o.machine t' q)
     → ((k : ℕ) → k < length o.calls → (k == p) ≡ false → (q : WordPlace) → IsIn o.machine q → Fills (bare (s.lps k).call.held) s.world q → on_table o.machine t q ≡ on_table o.machine t' q)
-    → Holds o trees p s.world mem.words (on_table o.machine t') (s.lps p) now
+    → now.at.beside.bundles ≡ (pos p).at.beside.bundles → Holds o trees p s.world mem.words (on_table o.machine t') (s.lps p) now
     → ((r : WordPlace) → IsIn o.machine r → mem.words r ≡ laid (length o.calls) (λ k. (put pos p now k).owes) (on_table o.machine t') r)
     → Stands o trees s mem t' (put pos p now)
-rearranged ls o trees s mem t t' pos p now sd slots still unfilled own laid_is = record {
+rearranged ls o trees s mem t t' pos p now sd slots still unfilled same own laid_is = record {
   shows = sd.shows;
   hand = sd.hand;
   slots = slots;
   guests = sd.guests;
+  bundles = grown (length o.calls) pos p now (bundles_in s) (bundles_in s) (record { more = []; all = refl; own = same }) sd.bundles;
   holds = holds;
   laid_is = laid_is;
 }
@@ -211,9 +213,9 @@ pub store-step : (ls : Laws) (o : Opening) (trees : ℕ → Call → Tree) (s : 
     → (let t' = record t { words = after_step t.words (step.Store (address o.machine.pages d.at) d.word) } in
     Holds o trees p s.world mem.words (on_table o.machine t') (s.lps p) now
     → ((r : WordPlace) → IsIn o.machine r → same_place r d.at ≡ true → mem.words r ≡ or_else (last_at (pos p).owes r) (on_table o.machine t r) → mem.words r ≡ or_else (last_at now.owes r) d.word)
-    → ((r : WordPlace) → same_place r d.at ≡ false → last_at now.owes r ≡ last_at (pos p).owes r) → now.swaps ≡ (pos p).swaps
+    → ((r : WordPlace) → same_place r d.at ≡ false → last_at now.owes r ≡ last_at (pos p).owes r) → now.swaps ≡ (pos p).swaps → now.at.beside.bundles ≡ (pos p).at.beside.bundles
     → Stands o trees s mem t' (put pos p now))
-store-step ls o trees s mem t pos p d now sd i in_d sole own here there swaps = rearranged ls o trees s mem t t' pos p now sd (slots-stay o s mem.slots t.slots pos p now sd.slots swaps) still unfilled own laid-after
+store-step ls o trees s mem t pos p d now sd i in_d sole own here there swaps bundles = rearranged ls o trees s mem t t' pos p now sd (slots-stay o s mem.slots t.slots pos p now sd.slots swaps) still unfilled bundles own laid-after
   where
     m : Machine
     m = o.machine
@@ -290,7 +292,7 @@ owed-step ls o trees s mem t pos p d ds known sd i is plain =
     })
     (record { stands = (sd.holds p i).stands; due = kept })
     (λ r in_r e was. was ∙ (ap (λ (z : List Due). or_else (last_at z r) (on_table m t r)) is ∙ first-at (last_at ds r) (same_place r d.at) d.word (on_table m t r) e))
-    (λ r e. sym (ap (λ (z : List Due). last_at z r) is ∙ not-at (last_at ds r) (same_place r d.at) d.word e)) refl
+    (λ r e. sym (ap (λ (z : List Due). last_at z r) is ∙ not-at (last_at ds r) (same_place r d.at) d.word e)) refl refl
   where
     m : Machine
     m = o.machine
@@ -318,7 +320,7 @@ pub swap-step : (ls : Laws) (o : Opening) (trees : ℕ → Call → Tree) (s : S
     → (pos p).swaps ≡ d ∷ ds → (pos p).fill ≡ None → IsHand made d.put
     → Stands o trees s mem (record t { slots = with_slot t.slots (d.hkid - 1) made }) (put pos p (record { at = (pos p).at; owes = (pos p).owes; swaps = ds; fill = None }))
 swap-step ls o trees s mem t pos p d ds made known sd i is plain put_is =
-    rearranged ls o trees s mem t t' pos p now sd (slots-swap ls o trees s mem t pos p d ds made now known sd i is refl put_is) (λ k j e q g in_q owes. refl) (λ k j e q in_q fills. refl)
+    rearranged ls o trees s mem t t' pos p now sd (slots-swap ls o trees s mem t pos p d ds made now known sd i is refl put_is) (λ k j e q g in_q owes. refl) (λ k j e q in_q fills. refl) refl
     (record {
       stands = (sd.holds p i).stands;
       due = subst (λ (f : Option Fill). Pending m (bare (s.lps p).call.held) s.world mem.words (on_table m t) (pos p).owes (pos p).at.run f) plain (sd.holds p i).due;

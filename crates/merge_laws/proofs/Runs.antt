@@ -12,6 +12,7 @@ use Rattle.step_core.specs.Words.{Words}
 use Rattle.step_core.specs.Items.{Table, Taken}
 use Rattle.leaf_engine.specs.declared.events.Event.{Event as RunEvent}
 use Rattle.leaf_engine.specs.Trees.{Tree}
+use Rattle.leaf_engine.specs.Besides.{beside_of}
 use Rattle.leaf_engine.specs.Means.{Task, MeansRow}
 use Rattle.leaf_engine.specs.Changes.{Hand}
 use Rattle.leaf_engine.specs.Decides.{IsHand}
@@ -19,7 +20,7 @@ use Rattle.leaf_engine.specs.Turns.{Standing}
 use Rattle.leaf_engine.specs.Calls.{no_memory}
 use Rattle.leaf_engine.specs.OwnLists.{Piece, Unmarked, joined, marked_behind, running, WordLp, first_lp, LinesTurn, OwnTurns}
 use Rattle.leaf_engine.specs.Merges.{Item, part, order, no_table, AreLeaves, Merge}
-use Rattle.merge_laws.specs.Laws.{IsShownBy, IsWhere, MergesAreRuns}
+use Rattle.merge_laws.specs.Laws.{nothing_made, IsShownBy, IsWhere, MergesAreRuns}
 use Rattle.merge_laws.proofs.Stores.{Due, over-none, laid-none}
 use Rattle.merge_laws.proofs.Swaps.{SwapDue, last_put}
 use Rattle.merge_laws.proofs.Owing.{Owed, Stores, Swaps, stores_in, swaps_in, FirstSwaps, FirstMisses, AreOwed}
@@ -57,7 +58,8 @@ starts ls o trees = record {
     may = λ p i. tt;
   };
   guests = λ p. refl;
-  holds = λ p i. record { stands = record { lines = refl; replies = refl; run = record { call = refl; guest = refl } }; due = tt };
+  bundles = record { own = λ p. []; each = λ p i. refl; merged = nothing_made };
+  holds = λ p i. record { stands = record { lines = refl; replies = refl; beside = refl; run = record { call = refl; guest = refl } }; due = tt };
   laid_is = λ r in_r. sym (laid-none (length o.calls) (λ p. []) (λ q. 0) r (λ q l. refl));
 }
 
@@ -66,7 +68,7 @@ starts ls o trees = record {
 nothing-left : (ls : Laws) (o : Opening) (trees : ℕ → Call → Tree) (p : ℕ) (pos : Position) (end_ : WordLp) → RestOf o trees p pos [] end_ → (pos.owes ≡ []) × (pos.swaps ≡ []) × (pos.at ≡ end_)
 nothing-left ls o trees p pos end_ rest = by-fill pos.fill pos.at.lines pos.at.run rest
   where
-    turn : (cs : List Call) → pos.at.lines ≡ cs → (e : RunEvent) (after : WordLp) → LinesTurn (leaf_for o trees p) o.machine cs pos.at.run pos.at.replies e [] after → ⊥
+    turn : (cs : List Call) → pos.at.lines ≡ cs → (e : RunEvent) (after : WordLp) → LinesTurn (leaf_for o trees p) o.machine cs pos.at.run pos.at.replies pos.at.beside e [] after → ⊥
     turn [] l e after lt = lt
     turn (c ∷ cs) l e after lt = (let one = ls.one.one o.machine (running (leaf_for o trees p c) pos.at.run) lt.stands [] e lt.turn in cc)
 
@@ -122,6 +124,12 @@ ends-so ls o trees s u ends th =
       record {
         lines = λ p i. (th.stands.holds p i).stands.lines ∙ ap (λ (w : WordLp). w.lines) (left p i).2;
         replies = λ p i. (th.stands.holds p i).stands.replies ∙ ap (λ (w : WordLp). w.replies) (left p i).2;
+        beside = λ p i. subst (λ (w : WordLp). beside_of (s.lps p) w.beside.bundles ≡ w.beside) (left p i).2 (th.stands.holds p i).stands.beside;
+        bundles = record {
+          own = th.stands.bundles.own;
+          each = λ p i. th.stands.bundles.each p i ∙ ap (λ (w : WordLp). w.beside.bundles) (left p i).2;
+          merged = th.stands.bundles.merged;
+        };
       },
     )
 

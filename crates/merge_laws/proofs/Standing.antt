@@ -14,7 +14,7 @@ use Rattle.flat_core.specs.Row.{Row}
 use Rattle.flat_core.specs.Table.{row_of}
 use Rattle.flat_core.specs.Lawful.{Lawful}
 use Rattle.flat_core.specs.Event.{State, start, lines_left}
-use Rattle.flat_core.specs.Run.{play}
+use Rattle.flat_core.specs.Run.{play, bundles_in}
 use Rattle.flat_core.specs.Laws.{EveryWorldIsLawful, LocksExclude, OthersStay, NoWordsToTell, IsBetween}
 use Rattle.word_rules.specs.Guards.{Grip}
 use Rattle.word_rules.specs.Permissions.{WordsNeverConflict, ActsNeverConflict, RespectsCompose}
@@ -27,15 +27,18 @@ use Rattle.act_rules.specs.Stores.{OthersStoresKeepReads}
 use Rattle.step_core.specs.Items.{Table, Taken}
 use Rattle.step_core.specs.Laws.{PagesChangeAlone}
 use Rattle.leaf_engine.specs.Changes.{Memory}
-use Rattle.leaf_engine.specs.Trees.{Tree, End}
+use Rattle.leaf_engine.specs.Trees.{Answer, Tree, End}
+use Rattle.leaf_engine.specs.Besides.{Beside, beside_of, beside_after}
 use Rattle.leaf_engine.specs.Changes.{Hand, Change}
 use Rattle.leaf_engine.specs.Means.{Task, OfCall, MeansRow, IsHkid}
 use Rattle.leaf_engine.specs.Decides.{IsHand}
+use Rattle.leaf_engine.specs.declared.events.Event.TheVariants as events
 use Rattle.leaf_engine.specs.declared.events.Stage.TheVariants as stages
 use Rattle.leaf_engine.specs.Items.{AreChanged}
 use Rattle.leaf_engine.specs.Turns.{Standing, standing, last_reply}
 use Rattle.leaf_engine.specs.Calls.{IsCallAt}
 use Rattle.leaf_engine.specs.OwnLists.{Piece, Unmarked, joined, marked_behind, TurnsInPieces, WordLp, after_turn, OwnTurns}
+use Rattle.merge_laws.specs.Laws.{AreBundlesOf}
 use Rattle.merge_laws.proofs.Stores.{Due, last_at, or_else, laid, EachDue, FillsAt}
 use Rattle.merge_laws.proofs.Swaps.{SwapDue, slots_laid, SwapsMay}
 use Rattle.merge_laws.proofs.Owing.{Owed, stores_in, swaps_in, AreOwed}
@@ -108,11 +111,12 @@ RunAt o trees p w words lp (c ∷ cs) (Some r) = RunsAt o (leaf_for o trees p c)
 pub record StandsAt (o : Opening) (trees : ℕ → Call → Tree) (p : ℕ) (w : World) (words : WordPlace → ℕ) (lp : Lp) (at : WordLp) : Type 0 where
   pub lines : lines_left o p lp ≡ at.lines
   pub replies : lp.replies ≡ at.replies
+  pub beside : beside_of lp at.beside.bundles ≡ at.beside
   pub run : RunAt o trees p w words lp at.lines at.run
 
 -- a leaf that stores before its act: the end that it has come to, the stores that it made, and what it has still to do
 pub record Fill : Type 0 where
-  pub reply : Reply
+  pub answer : Answer
   pub fills : List Change
   pub changes : List Change
   pub made : List Due
@@ -137,7 +141,7 @@ back (Some y) x = Some x
 -- the end that a run has come to
 abbrev pub IsAtEnd : Option Standing → Fill → Type 0
 IsAtEnd None f = ⊥
-IsAtEnd (Some r) f = (r.stage ≡ stages.Trying) × (r.rest ≡ End f.reply f.fills f.changes)
+IsAtEnd (Some r) f = (r.stage ≡ stages.Trying) × (r.rest ≡ End f.answer f.fills f.changes)
 
 pub record FillHolds (m : Machine) (g : Grip) (w : World) (words a : WordPlace → ℕ) (owes : List Due) (run : Option Standing) (f : Fill) : Type 0 where
   pub at_end : IsAtEnd run f
@@ -182,7 +186,7 @@ pub record Rest (o : Opening) (trees : ℕ → Call → Tree) (p : ℕ) (at : Wo
   pub own : OwnTurns (leaf_for o trees p) o.machine at turns end_
 
 -- or the fills that are left, its act, and its further turns
-pub record RestFilling (o : Opening) (trees : ℕ → Call → Tree) (p : ℕ) (c : Call) (cs : List Call) (replies : List Reply) (swaps : List SwapDue) (run : Standing) (f : Fill) (ps : List Piece) (end_ : WordLp) : Type 0 where
+pub record RestFilling (o : Opening) (trees : ℕ → Call → Tree) (p : ℕ) (c : Call) (cs : List Call) (replies : List Reply) (beside : Beside) (swaps : List SwapDue) (run : Standing) (f : Fill) (ps : List Piece) (end_ : WordLp) : Type 0 where
   pub no_swaps : swaps ≡ []
   pub stores : List Taken
   pub act : List Taken
@@ -192,12 +196,12 @@ pub record RestFilling (o : Opening) (trees : ℕ → Call → Tree) (p : ℕ) (
   pub changed : AreChanged o.machine f.changes None act hasher
   pub pieces : ps ≡ map Unmarked stores ++ (marked_behind 0 act ++ joined turns)
   pub after : Standing
-  pub after_is : after ≡ standing (End f.reply f.fills f.changes) (stages.Answered f.reply) run.held hasher
-  pub own : OwnTurns (leaf_for o trees p) o.machine (after_turn c cs replies after (last_reply after.stage after.held)) turns end_
+  pub after_is : after ≡ standing (End f.answer f.fills f.changes) (stages.Answered f.answer.reply) run.held hasher
+  pub own : OwnTurns (leaf_for o trees p) o.machine (after_turn c cs replies (beside_after events.Act after.rest beside) after (last_reply after.stage after.held)) turns end_
 
 abbrev pub RestBy : Opening → (ℕ → Call → Tree) → ℕ → Position → List Piece → WordLp → Option Fill → List Call → Option Standing → Type 0
 RestBy o trees p pos ps end_ None cs run = Rest o trees p pos.at pos.owes pos.swaps ps end_
-RestBy o trees p pos ps end_ (Some f) (c ∷ cs) (Some run) = RestFilling o trees p c cs pos.at.replies pos.swaps run f ps end_
+RestBy o trees p pos ps end_ (Some f) (c ∷ cs) (Some run) = RestFilling o trees p c cs pos.at.replies pos.at.beside pos.swaps run f ps end_
 RestBy o trees p pos ps end_ (Some f) [] run = ⊥
 RestBy o trees p pos ps end_ (Some f) (c ∷ cs) None = ⊥
 
@@ -217,5 +221,6 @@ pub record Stands (o : Opening) (trees : ℕ → Call → Tree) (s : State) (mem
   pub hand : mem.hand ≡ None
   pub slots : Slots o s mem.slots t.slots pos
   pub guests : NoGuests s
+  pub bundles : AreBundlesOf (length o.calls) (λ p. (pos p).at) (bundles_in s)
   pub holds : (p : ℕ) → p < length o.calls → Holds o trees p s.world mem.words (on_table o.machine t) (s.lps p) (pos p)
   pub laid_is : (r : WordPlace) → IsIn o.machine r → mem.words r ≡ laid (length o.calls) (λ p. (pos p).owes) (on_table o.machine t) r

@@ -19,6 +19,7 @@ use Rattle.leaf_engine.specs.declared.events.Stage.TheVariants as stages
 use Rattle.leaf_engine.specs.declared.needs.Need.TheVariants as need
 use Rattle.leaf_engine.specs.Changes.{Memory}
 use Rattle.leaf_engine.specs.Trees.{Tree, Lock, Load, Test, End, Since, feed, settle, fed, passed, has_acted}
+use Rattle.leaf_engine.specs.Besides.{beside_after}
 use Rattle.leaf_engine.specs.Decides.{Wants}
 use Rattle.leaf_engine.specs.Items.{IsLoadAt, IsLoaded}
 use Rattle.leaf_engine.specs.Turns.{Standing, Advances, Tries, last_reply, tried, try_step, grants}
@@ -41,17 +42,18 @@ told-tree o trees s mem t pos p c cs run a st = ap settle (a.runs.call.told st).
 
 pub load-piece : (ls : Laws) (o : Opening) (trees : ℕ → Call → Tree) (s : State) (mem : Memory) (t : Table) (pos : ℕ → Position) (p : ℕ) (c : Call) (cs : List Call) (run run' : Standing) (e : RunEvent) (at x : ℕ) (tp : List Piece) (tps : List (List Piece)) (end_ : WordLp)
     → AtTurn o trees s mem t pos p c cs run → (pos p).owes ≡ [] → run.stage ≡ stages.Trying → IsLoadAt o.machine.pages (settle run.rest) at → GoesOnBehind (settle run.rest) x → x ≡ t.words at → GoesIn o.machine (loaded run x) tp run' e
-    → OwnTurns (leaf_for o trees p) o.machine (after_turn c cs (pos p).at.replies run' (last_reply run'.stage run'.held)) tps end_
+    → OwnTurns (leaf_for o trees p) o.machine (after_turn c cs (pos p).at.replies (beside_after e run'.rest (pos p).at.beside) run' (last_reply run'.stage run'.held)) tps end_
     → Came o trees p s t pos (Unmarked (Stepped (step.Load at) x)) (tp ++ joined tps) end_
 load-piece ls o trees s mem t pos p c cs run run' e at x tp tps end_ a none st load on an goes own =
     record {
       memory = mem;
       now = now;
-      stands = rearranged ls o trees s mem t t pos p now a.all (slots-stay o s mem.slots t.slots pos p now a.all.slots (sym a.no_swaps)) (λ k j f q g in_q owes. refl) (λ k j f q in_q fills. refl)
+      stands = rearranged ls o trees s mem t t pos p now a.all (slots-stay o s mem.slots t.slots pos p now a.all.slots (sym a.no_swaps)) (λ k j f q g in_q owes. refl) (λ k j f q in_q fills. refl) refl
           (record {
             stands = record {
               lines = a.lines;
               replies = a.replies;
+              beside = (a.all.holds p a.inside).stands.beside;
               run = record {
                 call = told-load o trees p c s.world mem.words (s.lps p) run x a.runs.call st right (subst (λ (z : Tree). GoesOnBehind z x) (told-tree o trees s mem t pos p c cs run a st) on);
                 trying = a.runs.trying;
@@ -78,12 +80,12 @@ load-piece ls o trees s mem t pos p c cs run run' e at x tp tps end_ a none st l
     }
   where
     now : Position
-    now = record { at = record { lines = c ∷ cs; run = Some (loaded run x); replies = (pos p).at.replies }; owes = []; swaps = []; fill = None }
+    now = record { at = record { lines = c ∷ cs; run = Some (loaded run x); replies = (pos p).at.replies; beside = (pos p).at.beside }; owes = []; swaps = []; fill = None }
 
     after : WordLp
-    after = after_turn c cs (pos p).at.replies run' (last_reply run'.stage run'.held)
+    after = after_turn c cs (pos p).at.replies (beside_after e run'.rest (pos p).at.beside) run' (last_reply run'.stage run'.held)
 
-    line : LineTurn (leaf_for o trees p) o.machine c cs (Some (loaded run x)) (pos p).at.replies e tp after
+    line : LineTurn (leaf_for o trees p) o.machine c cs (Some (loaded run x)) (pos p).at.replies (pos p).at.beside e tp after
     line = record { stands = run'; turn = subst (λ (z : Stage). TurnIn z o.machine (loaded run x) tp run' e) (sym st) goes; going = a.going; after_is = refl }
 
     right : LooksRight mem.words (feed (trees p c) (a.runs.call.told st).told) x
@@ -171,7 +173,7 @@ no-lock-given n (Since r cs) name at mode d g = cc
 pub lock-turn : (ls : Laws) (o : Opening) (trees : ℕ → Call → Tree) (s : State) (mem : Memory) (t : Table) (pos : ℕ → Position) (p : ℕ) (c : Call) (cs : List Call) (run run' : Standing) (e : RunEvent) (loads items : List Taken) (tree : Tree) (name : LockName) (at : ℕ)
     (mode : Mode) (tps : List (List Piece)) (end_ : WordLp) (piece : Piece) (ps : List Piece) → AtTurn o trees s mem t pos p c cs run → (pos p).owes ≡ [] → run.stage ≡ stages.Trying → IsLoaded o.machine.pages run.rest loads tree
     → Wants o.machine.pages (settle tree) (need.Lock name at mode) → Tries run (passed (settle tree)) loads items name at mode run' e
-    → OwnTurns (leaf_for o trees p) o.machine (after_turn c cs (pos p).at.replies run' (last_reply run'.stage run'.held)) tps end_
+    → OwnTurns (leaf_for o trees p) o.machine (after_turn c cs (pos p).at.replies (beside_after e run'.rest (pos p).at.beside) run' (last_reply run'.stage run'.held)) tps end_
     → Heads (last_marked items) tps piece ps → PieceAnswers t piece → Came o trees p s t pos piece ps end_
 lock-turn ls o trees s mem t pos p c cs run run' e [] items tree name at mode tps end_ piece ps a none st l g tr own h an =
     let x : Taken = Stepped (try_step at mode) tr.seen in

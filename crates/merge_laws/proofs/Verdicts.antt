@@ -18,6 +18,7 @@ use Rattle.leaf_engine.specs.declared.events.Stage.TheVariants as stages
 use Rattle.leaf_engine.specs.declared.needs.Need.TheVariants as need
 use Rattle.leaf_engine.specs.Changes.{Memory, Change, changed}
 use Rattle.leaf_engine.specs.Trees.{Tree, Lock, Load, Test, End, Since, feed, settle, fed, passed, changes_of}
+use Rattle.leaf_engine.specs.Besides.{beside_after}
 use Rattle.leaf_engine.specs.Decides.{Wants, IsHand}
 use Rattle.leaf_engine.specs.Items.{IsLoadAt, IsLoaded, IsChanged, AreChanged}
 use Rattle.leaf_engine.specs.Turns.{Standing, standing, Replies, last_reply}
@@ -40,17 +41,18 @@ use Rattle.merge_laws.proofs.EndPieces.{EndMay, end-may, end-moved, rest-owed, a
 use Rattle.merge_laws.proofs.Turns.{told-tree, load-piece, IsDone, done-settled, done-loads, goes-on, Heads}
 
 -- its reply, whose loads and changes these are
-pub record Ended (m : Machine) (run run' : Standing) (end_ : Tree) (changes : List Taken) (reply : Reply) : Type 0 where
+pub record Ended (m : Machine) (run run' : Standing) (e : RunEvent) (end_ : Tree) (changes : List Taken) (reply : Reply) : Type 0 where
   pub hasher : Option Measure
   pub changed : AreChanged m (changes_of end_) run.hasher changes hasher
   pub after : run' ≡ standing end_ (stages.Answered reply) run.held hasher
+  pub act : e ≡ events.Act
 
 the-result : RunEvent → Standing → RunTurn
 the-result e run' = record { event = e; reply = last_reply run'.stage run'.held }
 
 -- what was told, at the end
 at-end : (o : Opening) (trees : ℕ → Call → Tree) (s : State) (mem : Memory) (t : Table) (pos : ℕ → Position) (p : ℕ) (c : Call) (cs : List Call) (run run' : Standing) (e : RunEvent) (end_ : Tree) (changes : List Taken) (reply : Reply)
-    → (a : AtTurn o trees s mem t pos p c cs run) → (st : run.stage ≡ stages.Trying) → (en : Ended o.machine run run' end_ changes reply) → feed (trees p c) (a.runs.call.told st).told ≡ end_ → Wants o.machine.pages end_ (need.Verdict reply)
+    → (a : AtTurn o trees s mem t pos p c cs run) → (st : run.stage ≡ stages.Trying) → (en : Ended o.machine run run' e end_ changes reply) → feed (trees p c) (a.runs.call.told st).told ≡ end_ → Wants o.machine.pages end_ (need.Verdict reply)
     → AtEnd o trees s mem p c (a.runs.call.told st).told (a.runs.call.told st).told reply run run' (record { event = e; reply = last_reply run'.stage run'.held })
 at-end o trees s mem t pos p c cs run run' e end_ changes reply a st en is g = record {
   current = (a.runs.call.told st).current;
@@ -59,11 +61,13 @@ at-end o trees s mem t pos p c cs run run' e end_ changes reply a st en is g = r
   answered = ap (λ (z : Standing). z.stage) en.after;
   held = ap (λ (z : Standing). z.held) en.after;
   last = refl;
+  act = en.act;
+  rest_is = ap (λ (z : Standing). z.rest) en.after ∙ sym is;
 }
 
 -- what was told, with the load that is its act
 at-end-load : (ls : Laws) (o : Opening) (trees : ℕ → Call → Tree) (s : State) (mem : Memory) (t : Table) (pos : ℕ → Position) (p : ℕ) (c : Call) (cs : List Call) (run run' : Standing) (e : RunEvent) (end_ : Tree) (changes : List Taken) (reply : Reply) (at x : ℕ)
-    → (a : AtTurn o trees s mem t pos p c cs run) → (pos p).owes ≡ [] → (st : run.stage ≡ stages.Trying) → (en : Ended o.machine run run' end_ changes reply) → IsLoadAt o.machine.pages (settle run.rest) at → x ≡ t.words at
+    → (a : AtTurn o trees s mem t pos p c cs run) → (pos p).owes ≡ [] → (st : run.stage ≡ stages.Trying) → (en : Ended o.machine run run' e end_ changes reply) → IsLoadAt o.machine.pages (settle run.rest) at → x ≡ t.words at
     → feed (trees p c) ((a.runs.call.told st).told ++ x ∷ []) ≡ end_ → Wants o.machine.pages end_ (need.Verdict reply)
     → AtEnd o trees s mem p c (a.runs.call.told st).told ((a.runs.call.told st).told ++ x ∷ []) reply run run' (record { event = e; reply = last_reply run'.stage run'.held })
 at-end-load ls o trees s mem t pos p c cs run run' e end_ changes reply at x a owed st en load an is g =
@@ -77,17 +81,19 @@ at-end-load ls o trees s mem t pos p c cs run run' e end_ changes reply at x a o
       answered = ap (λ (z : Standing). z.stage) en.after;
       held = ap (λ (z : Standing). z.held) en.after;
       last = refl;
+      act = en.act;
+      rest_is = ap (λ (z : Standing). z.rest) en.after ∙ sym is;
     }
 
 -- items without a change
-none-changed : (m : Machine) (run run' : Standing) (end_ : Tree) (changes : List Taken) (reply : Reply) → (en : Ended m run run' end_ changes reply) → changes_of end_ ≡ [] → (en.hasher ≡ run.hasher) × (changes ≡ [])
+none-changed : {e : RunEvent} (m : Machine) (run run' : Standing) (end_ : Tree) (changes : List Taken) (reply : Reply) → (en : Ended m run run' e end_ changes reply) → changes_of end_ ≡ [] → (en.hasher ≡ run.hasher) × (changes ≡ [])
 none-changed m run run' end_ changes reply en e = subst (λ (cs : List Change). AreChanged m cs run.hasher changes en.hasher) e en.changed
 
 -- no hasher is in hand on the way
 hand-now : (o : Opening) (trees : ℕ → Call → Tree) (s : State) (mem : Memory) (t : Table) (pos : ℕ → Position) (p : ℕ) (c : Call) (cs : List Call) (run : Standing) → AtTurn o trees s mem t pos p c cs run → run.stage ≡ stages.Trying → IsHand run.hasher mem.hand
 hand-now o trees s mem t pos p c cs run a st = hand-as run.hasher None mem.hand None (a.hand.trying st) a.all.hand tt
 
-hasher-of : (m : Machine) (run run' : Standing) (end_ : Tree) (changes : List Taken) (reply : Reply) → (en : Ended m run run' end_ changes reply) → run'.hasher ≡ en.hasher
+hasher-of : {e : RunEvent} (m : Machine) (run run' : Standing) (end_ : Tree) (changes : List Taken) (reply : Reply) → (en : Ended m run run' e end_ changes reply) → run'.hasher ≡ en.hasher
 hasher-of m run run' end_ changes reply en = ap (λ (z : Standing). z.hasher) en.after
 
 -- nothing was filled
@@ -96,8 +102,8 @@ not-filled o t pos p mem owed = record { there = λ r x in_r e. cc; undo = λ r.
 
 -- the end without a load before it
 end-now : (ls : Laws) (o : Opening) (trees : ℕ → Call → Tree) (s : State) (mem : Memory) (t : Table) (pos : ℕ → Position) (p : ℕ) (c : Call) (cs : List Call) (run run' : Standing) (e : RunEvent) (end_ : Tree) (changes : List Taken) (reply : Reply)
-    (tps : List (List Piece)) (last : WordLp) (piece : Piece) (ps : List Piece) → (a : AtTurn o trees s mem t pos p c cs run) → (pos p).owes ≡ [] → (st : run.stage ≡ stages.Trying) → Ended o.machine run run' end_ changes reply → feed (trees p c) (a.runs.call.told st).told ≡ end_
-    → Wants o.machine.pages end_ (need.Verdict reply) → OwnTurns (leaf_for o trees p) o.machine (after_turn c cs (pos p).at.replies run' (last_reply run'.stage run'.held)) tps last
+    (tps : List (List Piece)) (last : WordLp) (piece : Piece) (ps : List Piece) → (a : AtTurn o trees s mem t pos p c cs run) → (pos p).owes ≡ [] → (st : run.stage ≡ stages.Trying) → Ended o.machine run run' e end_ changes reply → feed (trees p c) (a.runs.call.told st).told ≡ end_
+    → Wants o.machine.pages end_ (need.Verdict reply) → OwnTurns (leaf_for o trees p) o.machine (after_turn c cs (pos p).at.replies (beside_after e run'.rest (pos p).at.beside) run' (last_reply run'.stage run'.held)) tps last
     → Heads (act_pieces end_ [] changes) tps piece ps → PieceAnswers t piece → Came o trees p s t pos piece ps last
 end-now ls o trees s mem t pos p c cs run run' e (Lock l q m x) changes reply tps last piece ps a owed st en is g own h an = cc
 end-now ls o trees s mem t pos p c cs run run' e (Load v q k) changes reply tps last piece ps a owed st en is g own h an = cc
@@ -111,9 +117,9 @@ end-now ls o trees s mem t pos p c cs run run' e (End r [] []) changes reply tps
     came-as o trees p s t pos Wordless piece (joined tps) ps last h
     (record {
       memory = moved.memory;
-      now = record { at = after_turn c cs (pos p).at.replies run' (last_reply run'.stage run'.held); owes = owes_of (feed (trees p c) (a.runs.call.told st).told) mem; swaps = swaps_left (feed (trees p c) (a.runs.call.told st).told) mem; fill = None };
+      now = record { at = after_turn c cs (pos p).at.replies (beside_after e run'.rest (pos p).at.beside) run' (last_reply run'.stage run'.held); owes = owes_of (feed (trees p c) (a.runs.call.told st).told) mem; swaps = swaps_left (feed (trees p c) (a.runs.call.told st).told) mem; fill = None };
       stands = moved.stands;
-      rest = rest-owed o trees p c cs (pos p).at.replies run' (feed (trees p c) (a.runs.call.told st).told) (End r [] []) mem [] run.hasher run.hasher mem.hand tps last is (hand-now o trees s mem t pos p c cs run a st) (λ i. (refl, i))
+      rest = rest-owed o trees p c cs (pos p).at.replies (beside_after e run'.rest (pos p).at.beside) run' (feed (trees p c) (a.runs.call.told st).told) (End r [] []) mem [] run.hasher run.hasher mem.hand tps last is (hand-now o trees s mem t pos p c cs run a st) (λ i. (refl, i))
           (hasher-of o.machine run run' (End r [] []) changes reply en ∙ none.0) own;
     })
 end-now ls o trees s mem t pos p c cs run run' e (End r [] (c1 ∷ ds)) changes reply tps last piece ps a owed st en is g own h an =
@@ -138,9 +144,9 @@ end-now ls o trees s mem t pos p c cs run run' e (End r [] (c1 ∷ ds)) changes 
     came-as o trees p s t pos (Marked x) piece (map Unmarked zs ++ joined tps) ps last h'
     (record {
       memory = moved.memory;
-      now = record { at = after_turn c cs (pos p).at.replies run' (last_reply run'.stage run'.held); owes = owes_of (feed (trees p c) (a.runs.call.told st).told) mem; swaps = swaps_left (feed (trees p c) (a.runs.call.told st).told) mem; fill = None };
+      now = record { at = after_turn c cs (pos p).at.replies (beside_after e run'.rest (pos p).at.beside) run' (last_reply run'.stage run'.held); owes = owes_of (feed (trees p c) (a.runs.call.told st).told) mem; swaps = swaps_left (feed (trees p c) (a.runs.call.told st).told) mem; fill = None };
       stands = moved.stands;
-      rest = rest-owed o trees p c cs (pos p).at.replies run' (feed (trees p c) (a.runs.call.told st).told) (End r [] (c1 ∷ ds)) mem zs between en.hasher (changed c1 mem).hand tps last is slots.0
+      rest = rest-owed o trees p c cs (pos p).at.replies (beside_after e run'.rest (pos p).at.beside) run' (feed (trees p c) (a.runs.call.told st).told) (End r [] (c1 ∷ ds)) mem zs between en.hasher (changed c1 mem).hand tps last is slots.0
           (owed-items m (bare (s.lps p).call.held) ((row_of o p c).act s.world) (changed c1 mem) ds between en.hasher zs may.1.1 en.changed.1.1.3) (hasher-of m run run' (End r [] (c1 ∷ ds)) changes reply en) own;
     })
   where
@@ -155,11 +161,11 @@ end-now ls o trees s mem t pos p c cs run run' e (End r (f ∷ fs) ds) changes r
     let items = fills-items m (bare (s.lps p).call.held) s.world (f ∷ fs) run.hasher two.between two.first may two.filled (a.hand.trying st) in
     let many = behind-fills m (bare (s.lps p).call.held) s.world (f ∷ fs) run.hasher two.between two.first two.second may two.filled (a.hand.trying st) in
     let todo = fills-todo m (bare (s.lps p).call.held) s.world (f ∷ fs) may in
-    let reply-is : reply ≡ r = cc g in
+    let reply-is : reply ≡ r.reply = cc g in
     let heads : map Unmarked two.first ++ (marked_behind 0 two.second ++ joined tps) ≡ piece ∷ ps =
     sym (append_assoc (map Unmarked two.first) (marked_behind 0 two.second) (joined tps))
     ∙ (ap (λ (z : List Piece). z ++ joined tps) (sym many) ∙ (ap (λ (z : List Taken). marked_behind (items_in (f ∷ fs)) z ++ joined tps) (sym two.items) ∙ h)) in
-    fill-piece ls o trees s mem t pos p c cs run (record { reply = r; fills = f ∷ fs; changes = ds; made = []; left = all_todos (f ∷ fs) }) last piece ps a
+    fill-piece ls o trees s mem t pos p c cs run (record { answer = r; fills = f ∷ fs; changes = ds; made = []; left = all_todos (f ∷ fs) }) last piece ps a
     (record {
       at_end = (st, (a.runs.call.told st).rest ∙ is);
       made_may = tt;
@@ -180,7 +186,7 @@ end-now ls o trees s mem t pos p c cs run run' e (End r (f ∷ fs) ds) changes r
       pieces = sym heads;
       after = run';
       after_is = en.after ∙ ap (λ (z : Reply). standing (End r (f ∷ fs) ds) (stages.Answered z) run.held en.hasher) reply-is;
-      own = own;
+      own = subst (λ (z : RunEvent). OwnTurns (leaf_for o trees p) m (after_turn c cs (pos p).at.replies (beside_after z run'.rest (pos p).at.beside) run' (last_reply run'.stage run'.held)) tps last) en.act own;
     }) an
   where
     fills-of-may : (ds : List Change) → EndMay o.machine (bare (s.lps p).call.held) s.world ((row_of o p c).act s.world) mem (End r (f ∷ fs) ds) → MayFillAll o.machine (bare (s.lps p).call.held) s.world (f ∷ fs)
@@ -197,17 +203,17 @@ end-now ls o trees s mem t pos p c cs run run' e (Since r ds) changes reply tps 
     came-as o trees p s t pos Wordless piece (map Unmarked changes ++ joined tps) ps last h
     (record {
       memory = moved.memory;
-      now = record { at = after_turn c cs (pos p).at.replies run' (last_reply run'.stage run'.held); owes = owes_of (feed (trees p c) (a.runs.call.told st).told) mem; swaps = swaps_left (feed (trees p c) (a.runs.call.told st).told) mem; fill = None };
+      now = record { at = after_turn c cs (pos p).at.replies (beside_after e run'.rest (pos p).at.beside) run' (last_reply run'.stage run'.held); owes = owes_of (feed (trees p c) (a.runs.call.told st).told) mem; swaps = swaps_left (feed (trees p c) (a.runs.call.told st).told) mem; fill = None };
       stands = moved.stands;
-      rest = rest-owed o trees p c cs (pos p).at.replies run' (feed (trees p c) (a.runs.call.told st).told) (Since r ds) mem changes run.hasher en.hasher mem.hand tps last is (hand-now o trees s mem t pos p c cs run a st)
+      rest = rest-owed o trees p c cs (pos p).at.replies (beside_after e run'.rest (pos p).at.beside) run' (feed (trees p c) (a.runs.call.told st).told) (Since r ds) mem changes run.hasher en.hasher mem.hand tps last is (hand-now o trees s mem t pos p c cs run a st)
           (owed-items m (bare (s.lps p).call.held) ((row_of o p c).act s.world) mem ds run.hasher en.hasher changes may en.changed) (hasher-of m run run' (Since r ds) changes reply en) own;
     })
 
 -- the end whose act is the load before it
 end-loaded : (ls : Laws) (o : Opening) (trees : ℕ → Call → Tree) (s : State) (mem : Memory) (t : Table) (pos : ℕ → Position) (p : ℕ) (c : Call) (cs : List Call) (run run' : Standing) (e : RunEvent) (end_ : Tree) (changes : List Taken) (reply : Reply) (at x : ℕ)
-    (tps : List (List Piece)) (last : WordLp) → (a : AtTurn o trees s mem t pos p c cs run) → (pos p).owes ≡ [] → (st : run.stage ≡ stages.Trying) → Ended o.machine run run' end_ changes reply → IsLoadAt o.machine.pages (settle run.rest) at → x ≡ t.words at
+    (tps : List (List Piece)) (last : WordLp) → (a : AtTurn o trees s mem t pos p c cs run) → (pos p).owes ≡ [] → (st : run.stage ≡ stages.Trying) → Ended o.machine run run' e end_ changes reply → IsLoadAt o.machine.pages (settle run.rest) at → x ≡ t.words at
     → feed (trees p c) ((a.runs.call.told st).told ++ x ∷ []) ≡ end_ → Wants o.machine.pages end_ (need.Verdict reply) → IsDone end_
-    → OwnTurns (leaf_for o trees p) o.machine (after_turn c cs (pos p).at.replies run' (last_reply run'.stage run'.held)) tps last
+    → OwnTurns (leaf_for o trees p) o.machine (after_turn c cs (pos p).at.replies (beside_after e run'.rest (pos p).at.beside) run' (last_reply run'.stage run'.held)) tps last
     → Came o trees p s t pos (Marked (Stepped (step.Load at) x)) (map Unmarked changes ++ joined tps) last
 end-loaded ls o trees s mem t pos p c cs run run' e (Lock l q m z) changes reply at x tps last a owed st en load an is g d own = absurd d
 end-loaded ls o trees s mem t pos p c cs run run' e (Load v q k) changes reply at x tps last a owed st en load an is g d own = absurd d
@@ -223,9 +229,9 @@ end-loaded ls o trees s mem t pos p c cs run run' e (End r [] []) changes reply 
     (subst (λ (z : Tree). (k : ℕ) → IsHkid o.machine k → IsHand (t.slots (k - 1)) (or_else (last_put (puts_of z mem) k) (a.all.slots.now k))) (sym is) a.all.slots.there) in
     record {
       memory = moved.memory;
-      now = record { at = after_turn c cs (pos p).at.replies run' (last_reply run'.stage run'.held); owes = owes_of (feed (trees p c) now) mem; swaps = swaps_left (feed (trees p c) now) mem; fill = None };
+      now = record { at = after_turn c cs (pos p).at.replies (beside_after e run'.rest (pos p).at.beside) run' (last_reply run'.stage run'.held); owes = owes_of (feed (trees p c) now) mem; swaps = swaps_left (feed (trees p c) now) mem; fill = None };
       stands = moved.stands;
-      rest = rest-owed o trees p c cs (pos p).at.replies run' (feed (trees p c) now) (End r [] []) mem changes run.hasher run.hasher mem.hand tps last is (hand-now o trees s mem t pos p c cs run a st) (λ i. (none.1, i))
+      rest = rest-owed o trees p c cs (pos p).at.replies (beside_after e run'.rest (pos p).at.beside) run' (feed (trees p c) now) (End r [] []) mem changes run.hasher run.hasher mem.hand tps last is (hand-now o trees s mem t pos p c cs run a st) (λ i. (none.1, i))
           (hasher-of o.machine run run' (End r [] []) changes reply en ∙ none.0) own;
     }
 end-loaded ls o trees s mem t pos p c cs run run' e (Since r ds) changes reply at x tps last a owed st en load an is g d own =
@@ -239,17 +245,17 @@ end-loaded ls o trees s mem t pos p c cs run run' e (Since r ds) changes reply a
     (subst (λ (z : Tree). (k : ℕ) → IsHkid m k → IsHand (t.slots (k - 1)) (or_else (last_put (puts_of z mem) k) (a.all.slots.now k))) (sym is) a.all.slots.there) in
     record {
       memory = moved.memory;
-      now = record { at = after_turn c cs (pos p).at.replies run' (last_reply run'.stage run'.held); owes = owes_of (feed (trees p c) now) mem; swaps = swaps_left (feed (trees p c) now) mem; fill = None };
+      now = record { at = after_turn c cs (pos p).at.replies (beside_after e run'.rest (pos p).at.beside) run' (last_reply run'.stage run'.held); owes = owes_of (feed (trees p c) now) mem; swaps = swaps_left (feed (trees p c) now) mem; fill = None };
       stands = moved.stands;
-      rest = rest-owed o trees p c cs (pos p).at.replies run' (feed (trees p c) now) (Since r ds) mem changes run.hasher en.hasher mem.hand tps last is (hand-now o trees s mem t pos p c cs run a st)
+      rest = rest-owed o trees p c cs (pos p).at.replies (beside_after e run'.rest (pos p).at.beside) run' (feed (trees p c) now) (Since r ds) mem changes run.hasher en.hasher mem.hand tps last is (hand-now o trees s mem t pos p c cs run a st)
           (owed-items m (bare (s.lps p).call.held) ((row_of o p c).act s.world) mem ds run.hasher en.hasher changes may en.changed) (hasher-of m run run' (Since r ds) changes reply en) own;
     }
 
 -- the load before the end goes on
 quiet-load : (ls : Laws) (o : Opening) (trees : ℕ → Call → Tree) (s : State) (mem : Memory) (t : Table) (pos : ℕ → Position) (p : ℕ) (c : Call) (cs : List Call) (run run' : Standing) (e : RunEvent) (from x : ℕ) (loads changes : List Taken) (tree : Tree) (reply : Reply)
-    (tps : List (List Piece)) (last : WordLp) → (a : AtTurn o trees s mem t pos p c cs run) → (pos p).owes ≡ [] → (st : run.stage ≡ stages.Trying) → Ended o.machine run run' (passed (settle tree)) changes reply → e ≡ events.Act → IsLoadAt o.machine.pages (settle run.rest) from
+    (tps : List (List Piece)) (last : WordLp) → (a : AtTurn o trees s mem t pos p c cs run) → (pos p).owes ≡ [] → (st : run.stage ≡ stages.Trying) → Ended o.machine run run' e (passed (settle tree)) changes reply → e ≡ events.Act → IsLoadAt o.machine.pages (settle run.rest) from
     → IsLoaded o.machine.pages (fed (settle run.rest) x) loads tree → Wants o.machine.pages (settle tree) (need.Verdict reply) → (IsDone (fed (settle run.rest) x) → ⊥) → x ≡ t.words from
-    → OwnTurns (leaf_for o trees p) o.machine (after_turn c cs (pos p).at.replies run' (last_reply run'.stage run'.held)) tps last
+    → OwnTurns (leaf_for o trees p) o.machine (after_turn c cs (pos p).at.replies (beside_after e run'.rest (pos p).at.beside) run' (last_reply run'.stage run'.held)) tps last
     → Came o trees p s t pos (Unmarked (Stepped (step.Load from) x)) (act_pieces (passed (settle tree)) loads changes ++ joined tps) last
 quiet-load ls o trees s mem t pos p c cs run run' e from x loads changes tree reply tps last a owed st en ev load l g never an own =
     let goes : GoesIn o.machine (loaded run x) (act_pieces (passed (settle tree)) loads changes) run' e = record {
@@ -313,16 +319,17 @@ one-load (Since r cs) l changes h nil = IsAct tt refl
 pub verdict-turn : (ls : Laws) (o : Opening) (trees : ℕ → Call → Tree) (s : State) (mem : Memory) (t : Table) (pos : ℕ → Position) (p : ℕ) (c : Call) (cs : List Call) (run run' : Standing) (e : RunEvent) (loads items : List Taken) (tree : Tree) (reply : Reply)
     (tps : List (List Piece)) (last : WordLp) (piece : Piece) (ps : List Piece) → AtTurn o trees s mem t pos p c cs run → (pos p).owes ≡ [] → run.stage ≡ stages.Trying → IsLoaded o.machine.pages run.rest loads tree
     → Wants o.machine.pages (settle tree) (need.Verdict reply) → Replies o.machine run (passed (settle tree)) loads items reply run' e
-    → OwnTurns (leaf_for o trees p) o.machine (after_turn c cs (pos p).at.replies run' (last_reply run'.stage run'.held)) tps last
+    → OwnTurns (leaf_for o trees p) o.machine (after_turn c cs (pos p).at.replies (beside_after e run'.rest (pos p).at.beside) run' (last_reply run'.stage run'.held)) tps last
     → Heads (act_pieces (passed (settle tree)) loads (behind loads items)) tps piece ps → PieceAnswers t piece → Came o trees p s t pos piece ps last
 verdict-turn ls o trees s mem t pos p c cs run run' e [] items tree reply tps last piece ps a owed st l g en own h an =
     let is-end = given-end o.machine.pages (settle tree) reply g in
     let at : passed (settle tree) ≡ settle tree = end-passed (settle tree) is-end in
     let told : feed (trees p c) (a.runs.call.told st).told ≡ settle tree = sym (told-tree o trees s mem t pos p c cs run a st) ∙ ap settle l in
-    let en' : Ended o.machine run run' (settle tree) en.changes reply = record {
+    let en' : Ended o.machine run run' e (settle tree) en.changes reply = record {
       hasher = en.hasher;
       changed = subst (λ (z : Tree). AreChanged o.machine (changes_of z) run.hasher en.changes en.hasher) at en.changed;
       after = en.after ∙ ap (λ (z : Tree). standing z (stages.Answered reply) run.held en.hasher) at;
+      act = en.event;
     } in
     end-now ls o trees s mem t pos p c cs run run' e (settle tree) en.changes reply tps last piece ps a owed st en' told g own
     (ap (λ (z : Tree). act_pieces z [] en.changes ++ joined tps) (sym at) ∙ (ap (λ (z : List Taken). act_pieces (passed (settle tree)) [] z ++ joined tps) (sym en.items) ∙ h)) an
@@ -346,8 +353,8 @@ verdict-turn ls o trees s mem t pos p c cs run run' e (Stepped w x ∷ loads) it
     end-p : IsEnd (passed (settle tree))
     end-p = subst (λ (z : Tree). IsEnd z) (sym at) is-end
 
-    ended : Ended o.machine run run' (passed (settle tree)) en.changes reply
-    ended = record { hasher = en.hasher; changed = en.changed; after = en.after }
+    ended : Ended o.machine run run' e (passed (settle tree)) en.changes reply
+    ended = record { hasher = en.hasher; changed = en.changed; after = en.after; act = en.event }
 
     behind-is : behind (Stepped w x ∷ loads) items ≡ en.changes
     behind-is = ap (behind (Stepped w x ∷ loads)) en.items ∙ behind-append loads en.changes

@@ -125,7 +125,7 @@ module _ (ls : TurnsAreEvents) (o : Opening) (schedule rest : List ℕ) (lps : L
     merge =
         merge-more o (leaf_table o.machine) l.made (seen_at lps) (seen_at (set lps p s')) (table_of b) (table_of b') p e ps l.merge (omega (arith, l.count)) turns
         (λ q ne. seen-other lps p s' q ne) did;
-    same = ap (run o) (order-more l.made p ps rest (one-event ls.pieces (task_of s.place) s.place.machine s.lines.now _ _ e ps (seen_of s') moves.1)) ∙ l.same;
+    same = ap (run o) (order-more l.made p ps rest (one-event ls.pieces (task_of s.place) s.place.machine s.lines.now _ _ _ e ps (seen_of s') moves.1)) ∙ l.same;
   }
     where
       turns : LpTurns (leaf_table o.machine p) o.machine (seen_at lps p) e ps (seen_at (set lps p s') p)

@@ -402,7 +402,7 @@ module _ (m : Machine) (c : Instant) (t p : ℕ) (in_tdr : t < m.pages) (in_page
       → Means m c k held (acts (Done value.Nothing) (add_changes m.pages t p (length (v.tds.controls t)) (children v t))) []
   ended is lives configured few host = (
     record {
-      reply_is = refl;
+      answers = record { reply_is = refl; cached_is = refl; enters_is = refl; notes_are = refl; tells_are = refl; bundles_are = refl };
       fills_allowed = tt;
       respects = rows-respect (opening m) 0 (call.MngAddcx t p) (hold c held) v la (lt-ltb t m.pages in_tdr, (lt-ltb p m.pages in_page, (rw apart refl, (rw is refl, (lives, (few, (host, tt)))))))
           ((tdr-held, tdr-alone), ((holds-newest p Exclusive (page_lock t Exclusive ∷ c.kept), page-alone), tt));

@@ -235,7 +235,7 @@ create-means p t h = record {
                       λ e. refl,
                       λ free. (
                         record {
-                          reply_is = refl;
+                          answers = record { reply_is = refl; cached_is = refl; enters_is = refl; notes_are = refl; tells_are = refl; bundles_are = refl };
                           fills_allowed = tt;
                           respects = create_respects p.machine c t h at.lawful a b host free;
                           locks_stay = ((refl, λ x. x), ((refl, λ x. x), tt));

@@ -279,7 +279,7 @@ module _ (m : Machine) (c : Instant) (t : ℕ) (in_page : nat_lt t m.pages ≡ t
   ended : ready (v.tds.vps t) ≡ true → Means m c work both (acts (Done value.Nothing) (end_changes z.tdcs hkid)) []
   ended all = (
     record {
-      reply_is = refl;
+      answers = record { reply_is = refl; cached_is = refl; enters_is = refl; notes_are = refl; tells_are = refl; bundles_are = refl };
       fills_allowed = tt;
       respects = rows-respect (opening m) 0 (call.MrFinalize t) (hold c both) v la (in_page, (rw x.alive.kind refl, (rw x.configured refl, (x.two, (x.op, (all, tt))))))
           (tdr-held, ((op-held, op-alone), tt));

@@ -163,7 +163,7 @@ module _ (m : Machine) (c : Instant) (t : ℕ) (in_tdr : t < m.pages) (la : Lawf
     ended : Means m c k held (acts (Done value.Nothing) (begin_changes z.tdcs (v.tds.hkids t))) []
     ended = (
       record {
-        reply_is = refl;
+        answers = record { reply_is = refl; cached_is = refl; enters_is = refl; notes_are = refl; tells_are = refl; bundles_are = refl };
         fills_allowed = tt;
         respects = rows-respect (opening m) 0 (call.MngInit t) (hold c held) v la (lt-ltb t m.pages in_tdr, (rw x.alive.kind refl, (among-life, (x.two, (x.op, tt)))))
             (tdr-held, ((op-held, op-alone), tt));

@@ -95,7 +95,7 @@ configure-means p t = record {
         tdr-head-means p.machine c (work_of (OfCall (configure_key p.machine t))) t in_page at.lawful at.shown (life.HkidAssigned ∷ []) (acts (Done value.Nothing) (Put (place.Word t TDR_LIFE) (life_number life.KeysConfigured) ∷ [])) []
         (λ is among. (
           record {
-            reply_is = refl;
+            answers = record { reply_is = refl; cached_is = refl; enters_is = refl; notes_are = refl; tells_are = refl; bundles_are = refl };
             fills_allowed = tt;
             respects = rows-respect (opening p.machine) 0 (call.MngKeyConfig t) (hold c (page_lock t Exclusive ∷ [])) c.state.world at.lawful (a, (rw is refl, (among, tt))) ((holds-newest t Exclusive c.kept, alone-newest t c.kept), tt);
             locks_stay = ((refl, λ x. x), tt);

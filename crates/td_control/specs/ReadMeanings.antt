@@ -43,7 +43,7 @@ module _ (m : Machine) (c : Instant) (t : ℕ) (f : ReadField) (in_page : t < m.
   k = work_of (OfCall (read_td m t f))
 
   answered : (hs : List Held) (v : Value) → v ≡ field_value w t f → Means m c k hs (answers (Done v)) []
-  answered hs v is = (record { reply_is = ap Done is; fills_allowed = tt; respects = respects-compose.same (hold c hs) w; locks_stay = stay w hs; shows = sh }, tt)
+  answered hs v is = (record { answers = record { reply_is = ap Done is; cached_is = refl; enters_is = refl; notes_are = refl; tells_are = refl; bundles_are = refl }; fills_allowed = tt; respects = respects-compose.same (hold c hs) w; locks_stay = stay w hs; shows = sh }, tt)
 
   life-read : f ≡ field.Life → Means m c k [] (value_tree m.pages t field.Life (λ v. answers (Done v))) (page_shared t ∷ root w t ∷ [])
   life-read is = root-means m c k t in_page la sh Shared (Load Whole (place.Word t TDR_LIFE) (λ life. answers (Done (value.Life (life_told life))))) []

@@ -26,7 +26,7 @@ use Rattle.word_rules.specs.Cells.{Shows, IsAs, td_lock_lines, tdcs_lines, lock_
 use Rattle.act_rules.proofs.Rows.{rows-respect}
 use Rattle.flat_core.proofs.Tests.{by_test}
 use Rattle.leaf_engine.specs.Changes.{Memory, Put, Clear, changed}
-use Rattle.leaf_engine.specs.Trees.{Load, acts}
+use Rattle.leaf_engine.specs.Trees.{Load, acts, only}
 use Rattle.leaf_engine.specs.Means.{Instant, Means, Acts, MayOweAll, work_of, OfCall, hold}
 use Rattle.leaf_parts.specs.Words.{raised}
 use Rattle.leaf_parts.proofs.Acted.{opening}
@@ -163,9 +163,9 @@ module _ (m : Machine) (c : Instant) (t p : ℕ) (la : Lawful m c.state.world) (
     tdr-owner : w'.pages.owners t ≡ t
     tdr-owner = rw t-p x.own
 
-    its-act : Acts m c (work_of (OfCall (create_vp m t p))) (page_locks t p Exclusive) (Done value.Nothing) [] (create_changes m.pages t d p n (children w t))
+    its-act : Acts m c (work_of (OfCall (create_vp m t p))) (page_locks t p Exclusive) (only (Done value.Nothing)) [] (create_changes m.pages t d p n (children w t))
     its-act = record {
-      reply_is = refl;
+      answers = record { reply_is = refl; cached_is = refl; enters_is = refl; notes_are = refl; tells_are = refl; bundles_are = refl };
       fills_allowed = tt;
       respects = respects;
       locks_stay = ((refl, λ y. y), ((refl, λ y. record { alive = record { kind = tdr-kind; life = y.alive.life }; has_tdcs = y.has_tdcs }), ((refl, λ y. y), tt)));

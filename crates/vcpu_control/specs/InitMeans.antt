@@ -71,7 +71,7 @@ module _ (m : Machine) (c : Instant) (t v x : ℕ) (few : m.pages < 65536) (la :
     its_end : Means m c (work_of (OfCall (initialize_vp m t v x))) (page_locks t v Shared) (acts (Done value.Nothing) (init_changes v x)) []
     its_end = (
       record {
-        reply_is = refl;
+        answers = record { reply_is = refl; cached_is = refl; enters_is = refl; notes_are = refl; tells_are = refl; bundles_are = refl };
         fills_allowed = tt;
         respects = init_respects m (hold c (page_locks t v Shared)) w t v x;
         locks_stay = ((refl, λ y. y), ((refl, λ y. record { alive = record { kind = y.alive.kind; life = y.alive.life }; has_tdcs = y.has_tdcs }), ((refl, λ y. y), tt)));
