@@ -3,3 +3,4 @@ pub mod Turning
 pub mod Keeping
 pub mod Tries
 pub mod Calls
+pub mod Follows

@@ -5,3 +5,4 @@ pub mod Running
 pub mod Kept
 pub mod States
 pub mod Laws
+pub mod Follows

@@ -3,8 +3,8 @@
 //! Stands on `leaf_engine`, whose runs it makes turn by turn, and on the crates of leaves. A layer
 //! above may use that `LpState` is a `Processor`: from its calls on (`first` of `new`), each turn is
 //! the next event of its present call's leaf, told in pieces, and the reply comes in with the call's
-//! last event; that a turn takes no memory; and `calls_have_leaves`, by which the law of merges
-//! speaks of these leaves.
+//! last event; that a turn takes no memory; `calls_have_leaves`, by which the law of merges speaks
+//! of these leaves; and `processors_follow`, by which a turn is the flat machine's next event.
 #![tactic(auto)]
 
 mod laws;
@@ -14,6 +14,6 @@ mod states;
 #[cfg(test)]
 mod tests;
 
-pub use laws::calls_have_leaves;
+pub use laws::{calls_have_leaves, processors_follow};
 pub use leaves::{AnyLeaf, leaf_of};
 pub use states::LpState;

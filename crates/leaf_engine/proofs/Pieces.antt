@@ -13,7 +13,7 @@ use Rattle.leaf_engine.specs.declared.events.Stage.TheVariants as stages
 use Rattle.leaf_engine.specs.Trees.{Tree, Lock, Load, Test, End, Since, settle, passed, changes_of}
 use Rattle.leaf_engine.specs.Decides.{Wants}
 use Rattle.leaf_engine.specs.Items.{AreChanged}
-use Rattle.leaf_engine.specs.Turns.{Standing, Comes, TurnBy}
+use Rattle.leaf_engine.specs.Turns.{Standing, Comes, Advances, TurnBy}
 use Rattle.leaf_engine.specs.OwnLists.{Piece, Unmarked, Marked, Wordless, taken_in, items_in, last_marked, marked_behind, act_pieces, pieces_for, behind, TurnIn, events_among, TurnsInPieces}
 
 -- what pieces take, and how many events are among them
@@ -129,3 +129,15 @@ turns-in-pieces = record {
   told = λ m s s' xs result t. told-at m s s' xs result.event s.stage refl t.turn;
   one = λ m s s' ps e t. one-in m s s' ps e s.stage t;
 }
+
+-- a turn in pieces is the turn of what they take
+
+taken-at : (m : Machine) (s s' : Standing) (ps : List Piece) (e : Event) (st : Stage) → s.stage ≡ st → TurnIn st m s ps s' e → TurnBy s.stage m s (taken_in ps) s' e
+taken-at m s s' ps e stages.Trying i t =
+    let all : taken_in ps ≡ t.items = ap taken_in t.pieces ∙ goes-taken m s s' t.items t.goes.loads t.goes.tree t.goes.need e t.goes.gives t.goes.comes in
+    subst (λ (z : Stage). TurnBy z m s (taken_in ps) s' e) (sym i) (subst (λ (zs : List Taken). Advances m s zs s' e) (sym all) t.goes)
+taken-at m s s' ps e (stages.Undoing name at) i t = subst (λ (zs : List Taken). TurnBy s.stage m s zs s' e) (sym (ap taken_in t.pieces ∙ last-taken t.items)) t.turn
+taken-at m s s' ps e (stages.Answered reply) i t = subst (λ (zs : List Taken). TurnBy s.stage m s zs s' e) (sym (ap taken_in t.pieces ∙ last-taken t.items)) t.turn
+
+pub turn-of-taken : (m : Machine) (s s' : Standing) (ps : List Piece) (e : Event) → TurnIn s.stage m s ps s' e → TurnBy s.stage m s (taken_in ps) s' e
+turn-of-taken m s s' ps e t = taken-at m s s' ps e s.stage refl t
