@@ -1,0 +1,4 @@
+pub mod Aes
+pub mod Planes
+pub mod Circuit
+pub mod Laws

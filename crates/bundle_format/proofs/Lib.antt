@@ -1,0 +1,4 @@
+pub mod Again
+pub mod Digits
+pub mod Faults
+pub mod Spelled

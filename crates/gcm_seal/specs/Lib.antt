@@ -1,0 +1,3 @@
+pub mod Gcm
+pub mod Tables
+pub mod Laws
