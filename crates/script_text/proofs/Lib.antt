@@ -10,3 +10,5 @@ pub mod Spelled
 pub mod InRange
 pub mod FiveWords
 pub mod Ordered
+pub mod Short
+pub mod Far

@@ -1,5 +1,5 @@
 -- The items of schedule lines: `L`, or `L*K` for K turns of processor L.
-use Rattle.std.specs.Prelude.{ℕ, ◌+◌, ◌^◌, List, [], ◌∷◌, ◌++◌, length, map, take, drop, replicate, Option, Some, None, is_some, Result, Ok, Err, not, ◌&&◌, ◌==◌, nat_lt, nat_le, position, if◌then◌else◌}
+use Rattle.std.specs.Prelude.{◌≡◌, ℕ, ◌+◌, ◌^◌, List, [], ◌∷◌, ◌++◌, length, map, take, drop, replicate, Option, Some, None, is_some, Result, Ok, Err, not, ◌&&◌, ◌==◌, nat_lt, nat_le, position, if◌then◌else◌}
 use Rattle.std.specs.List.{list_all}
 use Rattle.script_text.specs.declared.faults.Reason.{Reason}
 use Rattle.script_text.specs.declared.faults.Reason.TheVariants as reason
@@ -7,6 +7,7 @@ use Rattle.script_text.specs.declared.schedules.Item.{Item}
 use Rattle.script_text.specs.declared.schedules.Turns.{Turns}
 use Rattle.script_text.specs.Line.{◌>>=◌}
 use Rattle.script_text.specs.Number.{number}
+use Rattle.script_text.specs.Words.{words}
 
 abbrev pub item_from : Option ℕ → Option ℕ → Option Item
 item_from (Some lp) (Some times) = Some (record { lp = lp; times = times })
@@ -38,6 +39,17 @@ written_of schedule (Some t ∷ turns) = with_turns schedule t >>= (λ s. writte
 -- the turns of a word's item, where it is in range
 abbrev pub turns_in : ℕ → List ℕ → Option Turns
 turns_in lps word = in_range_of lps (item_of word)
+
+-- a text is an item with those turns, and more text behind it
+abbrev pub IsCutTo : ℕ → List ℕ → Option Turns → List ℕ → Type 0
+IsCutTo lps text turns more = map (turns_in lps) (words text) ≡ turns ∷ map (turns_in lps) (words more)
+
+-- the reason of a line that can't be written for that reason: NUMBER of any before RANGE of any, and then that
+abbrev pub first_reason : ℕ → List (List ℕ) → Reason → Reason
+first_reason lps items r =
+    if not (list_all (λ w. is_some (item_of w)) items) then reason.Number
+    else if not (list_all (λ w. is_some (turns_in lps w)) items) then reason.Range
+    else r
 
 -- the items of a schedule line behind those of the lines before: NUMBER of any before RANGE of any, and then FULL
 unfoldable pub schedule_of : ℕ → List ℕ → List (List ℕ) → Result (List ℕ) Reason

@@ -29,6 +29,3 @@ pub use laws::{faults_are_first, reasons_in_order, scripts_are_in_form, scripts_
 pub use mnemonics::{CallName, Mnemonic, mnemonic_at};
 pub use operations::{OpName, Operand, check_operands, operation_at};
 pub use scripts::{Script, read_script};
-
-#[cfg(test)]
-mod tests;

@@ -33,6 +33,23 @@ fn digits_at(base: u8, word: &[u8]) -> Option<u64>
     Some(value)
 }
 
+// Behind any number up to this a digit may stand, whichever it is.
+const SAFE: u64 = u64::MAX / 10 - 1;
+
+// The same in base ten, with one test a digit: what this test doesn't pass is read again.
+fn decimal_at(word: &[u8]) -> Option<u64>
+    ensures { result ≡ number_on 10 0 word.now }
+{
+    let mut value = 0u64;
+    for byte in word {
+        if *byte < b'0' || *byte > b'9' || value > SAFE {
+            return digits_at(10, word);
+        }
+        value = value * 10 + u64::from(*byte - b'0');
+    }
+    Some(value)
+}
+
 fn in_base(base: u8, word: &[u8]) -> Option<u64>
     ensures { result ≡ digits_in base word.now }
 {
@@ -48,8 +65,10 @@ pub fn number(word: &[u8]) -> Option<u64>
 {
     if word.len() >= 2 && word[0] == b'0' && word[1] == b'x' {
         in_base(16, &word[2..])
+    } else if word.is_empty() {
+        None
     } else {
-        in_base(10, word)
+        decimal_at(word)
     }
 }
 

@@ -1,13 +1,13 @@
 //! The items of schedule lines.
 
-ghost use Rattle.std.specs.Prelude.{◌≡◌, is_some, map};
+ghost use Rattle.std.specs.Prelude.{◌≡◌, ◌<◌, [], Some, is_some, length, map, MatchOption};
 ghost use Rattle.std.specs.List.{list_all};
 ghost use Rattle.script_text.specs.Number.{number};
 ghost use Rattle.script_text.specs.Line.{IsAnsweredAt};
-ghost use Rattle.script_text.specs.Schedule.{item_from, item_of, in_range_of, turns_in, with_turns, written_of, schedule_of};
+ghost use Rattle.script_text.specs.Schedule.{item_from, item_of, in_range_of, turns_in, with_turns, written_of, IsCutTo, first_reason, schedule_of};
 ghost use Rattle.script_text.specs.Words.{words};
 
-use crate::faults::{Reason, Taken, bad};
+use crate::faults::{Reason, ScriptFault, Taken, bad};
 use crate::numbers::number;
 use crate::words::{next_word, place_of};
 
@@ -97,12 +97,46 @@ fn write_turns(schedule: &mut Vec<u8>, line: u64, turns: Turns) -> Taken
     Ok(())
 }
 
+// The processor that a text begins with, where it is one digit and a space follows, and what stands
+// behind this.
+#[tactic(auto, using(crate::proofs::Short::short_text))]
+fn short_item(lps: u8, text: &[u8]) -> Option<(u8, &[u8])>
+    ensures cut { MatchOption result Unit (λ x. IsCutTo lps text.now (Some (record { lp = x.0; times = 1 })) x.1.now) }
+    ensures shorter { MatchOption result Unit (λ x. length x.1.now < length text.now) }
+{
+    if text.len() < 2 || text[1] != b' ' {
+        return None;
+    }
+    let digit = text[0];
+    if digit < b'0' || digit > b'9' {
+        return None;
+    }
+    let lp = digit - b'0';
+    if lp >= lps {
+        return None;
+    }
+    Some((lp, &text[2..]))
+}
+
+// The turns of a text's first word, where they are in range, and what stands behind it. None exactly
+// where the text has no word.
+fn next_turns(lps: u8, text: &[u8]) -> Option<(Option<Turns>, &[u8])>
+    ensures cut { MatchOption result (words text.now ≡ []) (λ x. IsCutTo lps text.now x.0 x.1.now) }
+    ensures shorter { MatchOption result Unit (λ x. length x.1.now < length text.now) }
+{
+    if let Some((lp, more)) = short_item(lps, text) {
+        return Some((Some(Turns { lp, times: 1 }), more));
+    }
+    let (word, more) = next_word(text)?;
+    Some((turns_of(lps, item_at(word)), more))
+}
+
 fn write_items(schedule: &mut Vec<u8>, line: u64, lps: u8, text: &[u8]) -> Taken
     ensures { IsAnsweredAt line (written_of schedule.old.items (map (turns_in lps) (words text.now))) schedule.new.items result }
 {
     let mut rest = text;
-    while let Some((word, more)) = next_word(rest) {
-        let Some(turns) = turns_of(lps, item_at(word)) else {
+    while let Some((turns, more)) = next_turns(lps, rest) {
+        let Some(turns) = turns else {
             return Err(bad(line, Reason::Range));
         };
         write_turns(schedule, line, turns)?;
@@ -111,20 +145,30 @@ fn write_items(schedule: &mut Vec<u8>, line: u64, lps: u8, text: &[u8]) -> Taken
     Ok(())
 }
 
+fn first_reason(lps: u8, text: &[u8], reason: Reason) -> Reason
+    ensures { result ≡ first_reason lps (words text.now) reason }
+{
+    if !are_items(text) {
+        Reason::Number
+    } else if !are_in_range(lps, text) {
+        Reason::Range
+    } else {
+        reason
+    }
+}
+
 /// Puts the items of a schedule line behind those of the lines before, written out. `text` is what
-/// stands in the line behind its first word. After a fault the schedule isn't read again.
-#[tactic(auto, unfolding(crate::specs::Schedule::schedule_of), using(crate::proofs::InRange::in_range_are_items))]
+/// stands in the line behind its first word. Items are written one after the other; only where one
+/// can't be is the whole line judged for its first reason, and then the schedule isn't read again.
+#[tactic(auto, unfolding(crate::specs::Schedule::schedule_of), using(crate::proofs::InRange::in_range_are_items, crate::proofs::Short::written_are_in_range, crate::proofs::Short::faulty))]
 pub fn schedule_line(schedule: &mut Vec<u8>, line: u64, lps: u8, text: &[u8]) -> Taken
     ensures { IsAnsweredAt line (schedule_of lps schedule.old.items (words text.now)) schedule.new.items result }
 {
     if next_word(text).is_none() {
         return Err(bad(line, Reason::Count));
     }
-    if are_in_range(lps, text) {
-        write_items(schedule, line, lps, text)
-    } else if are_items(text) {
-        Err(bad(line, Reason::Range))
-    } else {
-        Err(bad(line, Reason::Number))
+    match write_items(schedule, line, lps, text) {
+        Err(ScriptFault::Bad { line, reason }) => Err(bad(line, first_reason(lps, text, reason))),
+        written => written,
     }
 }

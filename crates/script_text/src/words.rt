@@ -1,6 +1,6 @@
 //! Lines and words.
 
-ghost use Rattle.std.specs.Prelude.{◌≡◌, ◌≢◌, ◌<◌, ◌≤◌, slice_index, ◌==◌, [], ◌∷◌, length, map, position, MatchOption};
+ghost use Rattle.std.specs.Prelude.{ℕ, ◌≡◌, ◌≢◌, ◌+◌, ◌<◌, ◌≤◌, slice_index, ◌==◌, false, [], ◌∷◌, length, map, position, MatchOption};
 ghost use Rattle.std.specs.List.{slice_split};
 ghost use Rattle.script_text.specs.Words.{pieces, words, is_printable, is_comment};
 
@@ -11,13 +11,49 @@ pub fn place_of(bytes: &[u8], byte: u8) -> Option<usize>
     bytes.iter().position(|b| *b == byte)
 }
 
+// Whether a byte stands among sixteen. Without a way out of the loop they are compared at once.
+fn stands_among(bytes: &[u8], from: usize, byte: u8) -> bool
+    requires { from + 16 ≤ length bytes.now }
+    ensures { result ≡ false → (k : ℕ) → from ≤ k → k < from + 16 → (slice_index bytes.now k == byte) ≡ false }
+{
+    let mut found = false;
+    for place in 0..16 {
+        found |= bytes[from + place] == byte;
+    }
+    found
+}
+
+// A place before which that byte doesn't stand.
+fn place_before(bytes: &[u8], byte: u8) -> usize
+    ensures inside { result ≤ length bytes.now }
+    ensures none { (k : ℕ) → k < result → (slice_index bytes.now k == byte) ≡ false }
+{
+    let mut from = 0;
+    while from + 16 <= bytes.len() && !stands_among(bytes, from, byte) {
+        from += 16;
+    }
+    from
+}
+
+/// The first place at which that byte stands, which is far off.
+#[tactic(auto, using(crate::proofs::Far::found_at, crate::proofs::Far::found_not))]
+fn far_place_of(bytes: &[u8], byte: u8) -> Option<usize>
+    ensures { result ≡ position (λ b. b == byte) bytes.now }
+{
+    let mut at = place_before(bytes, byte);
+    while at < bytes.len() && bytes[at] != byte {
+        at += 1;
+    }
+    if at < bytes.len() { Some(at) } else { None }
+}
+
 /// The first line, and what stands behind its newline. None exactly where no newline stands.
 #[tactic(auto, using(crate::proofs::Pieces::cut_none, crate::proofs::Pieces::cut_some, crate::proofs::Pieces::short_some))]
 pub fn first_line(bytes: &[u8]) -> Option<(&[u8], &[u8])>
     ensures cut { MatchOption result (pieces bytes.now ≡ bytes.now ∷ []) (λ x. pieces bytes.now ≡ x.0.now ∷ pieces x.1.now) }
     ensures shorter { MatchOption result Unit (λ x. length x.1.now < length bytes.now) }
 {
-    let end = place_of(bytes, b'\n')?;
+    let end = far_place_of(bytes, b'\n')?;
     Some((&bytes[..end], &bytes[end + 1..]))
 }
 
@@ -59,11 +95,15 @@ pub fn next_word(bytes: &[u8]) -> Option<(&[u8], &[u8])>
     Some(word_and_rest(text))
 }
 
-/// Whether each byte is printable ASCII.
+/// Whether each byte is printable ASCII. Without a way out of the loop many are tested at once.
 pub fn is_printable(line: &[u8]) -> bool
     ensures { result ≡ is_printable line.now }
 {
-    line.iter().all(|byte| 0x20 <= *byte && *byte <= 0x7e)
+    let mut good = true;
+    for byte in line {
+        good &= 0x20 <= *byte && *byte <= 0x7e;
+    }
+    good
 }
 
 /// Whether a first word begins a comment.

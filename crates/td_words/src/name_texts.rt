@@ -1,4 +1,4 @@
-//! How names are printed: each as it is written in the architecture.
+//! How names are printed: each as it is written in the architecture, and in tests the same.
 
 use crate::names::{
     Access, Counter, EntryState, HeaderField, HkidState, LifeState, LimitName, LockName, OpState,
@@ -13,15 +13,16 @@ impl fmt::Display for PageKind {
     ghost output = { λ x. Some (kind_text x) };
 
     fn fmt<W: fmt::Write>(&self, f: &mut fmt::Formatter<W>) -> fmt::Result {
-        match self {
-            PageKind::Nda => write!(f, "PT_NDA"),
-            PageKind::Reg => write!(f, "PT_REG"),
-            PageKind::Tdr => write!(f, "PT_TDR"),
-            PageKind::Tdcx => write!(f, "PT_TDCX"),
-            PageKind::Tdvpr => write!(f, "PT_TDVPR"),
-            PageKind::Ept => write!(f, "PT_EPT"),
-            PageKind::Migsc => write!(f, "PT_MIGSC"),
-        }
+        let text = match self {
+            PageKind::Nda => "PT_NDA",
+            PageKind::Reg => "PT_REG",
+            PageKind::Tdr => "PT_TDR",
+            PageKind::Tdcx => "PT_TDCX",
+            PageKind::Tdvpr => "PT_TDVPR",
+            PageKind::Ept => "PT_EPT",
+            PageKind::Migsc => "PT_MIGSC",
+        };
+        f.write_str(text)
     }
 }
 
@@ -32,12 +33,13 @@ impl fmt::Display for LifeState {
     ghost output = { λ x. Some (life_text x) };
 
     fn fmt<W: fmt::Write>(&self, f: &mut fmt::Formatter<W>) -> fmt::Result {
-        match self {
-            LifeState::HkidAssigned => write!(f, "TD_HKID_ASSIGNED"),
-            LifeState::KeysConfigured => write!(f, "TD_KEYS_CONFIGURED"),
-            LifeState::Blocked => write!(f, "TD_BLOCKED"),
-            LifeState::Teardown => write!(f, "TD_TEARDOWN"),
-        }
+        let text = match self {
+            LifeState::HkidAssigned => "TD_HKID_ASSIGNED",
+            LifeState::KeysConfigured => "TD_KEYS_CONFIGURED",
+            LifeState::Blocked => "TD_BLOCKED",
+            LifeState::Teardown => "TD_TEARDOWN",
+        };
+        f.write_str(text)
     }
 }
 
@@ -48,19 +50,20 @@ impl fmt::Display for OpState {
     ghost output = { λ x. Some (op_text x) };
 
     fn fmt<W: fmt::Write>(&self, f: &mut fmt::Formatter<W>) -> fmt::Result {
-        match self {
-            OpState::Uninitialized => write!(f, "UNINITIALIZED"),
-            OpState::Initialized => write!(f, "INITIALIZED"),
-            OpState::Runnable => write!(f, "RUNNABLE"),
-            OpState::LiveExport => write!(f, "LIVE_EXPORT"),
-            OpState::PausedExport => write!(f, "PAUSED_EXPORT"),
-            OpState::PostExport => write!(f, "POST_EXPORT"),
-            OpState::MemoryImport => write!(f, "MEMORY_IMPORT"),
-            OpState::StateImport => write!(f, "STATE_IMPORT"),
-            OpState::PostImport => write!(f, "POST_IMPORT"),
-            OpState::LiveImport => write!(f, "LIVE_IMPORT"),
-            OpState::FailedImport => write!(f, "FAILED_IMPORT"),
-        }
+        let text = match self {
+            OpState::Uninitialized => "UNINITIALIZED",
+            OpState::Initialized => "INITIALIZED",
+            OpState::Runnable => "RUNNABLE",
+            OpState::LiveExport => "LIVE_EXPORT",
+            OpState::PausedExport => "PAUSED_EXPORT",
+            OpState::PostExport => "POST_EXPORT",
+            OpState::MemoryImport => "MEMORY_IMPORT",
+            OpState::StateImport => "STATE_IMPORT",
+            OpState::PostImport => "POST_IMPORT",
+            OpState::LiveImport => "LIVE_IMPORT",
+            OpState::FailedImport => "FAILED_IMPORT",
+        };
+        f.write_str(text)
     }
 }
 
@@ -71,19 +74,20 @@ impl fmt::Display for EntryState {
     ghost output = { λ x. Some (entry_text x) };
 
     fn fmt<W: fmt::Write>(&self, f: &mut fmt::Formatter<W>) -> fmt::Result {
-        match self {
-            EntryState::Free => write!(f, "FREE"),
-            EntryState::Mapped => write!(f, "MAPPED"),
-            EntryState::Blocked => write!(f, "BLOCKED"),
-            EntryState::Pending => write!(f, "PENDING"),
-            EntryState::PendingBlocked => write!(f, "PENDING_BLOCKED"),
-            EntryState::NlMapped => write!(f, "NL_MAPPED"),
-            EntryState::NlBlocked => write!(f, "NL_BLOCKED"),
-            EntryState::BlockedW => write!(f, "BLOCKEDW"),
-            EntryState::ExportedBlockedW => write!(f, "EXPORTED_BLOCKEDW"),
-            EntryState::ExportedDirty => write!(f, "EXPORTED_DIRTY"),
-            EntryState::ExportedDirtyBlockedW => write!(f, "EXPORTED_DIRTY_BLOCKEDW"),
-        }
+        let text = match self {
+            EntryState::Free => "FREE",
+            EntryState::Mapped => "MAPPED",
+            EntryState::Blocked => "BLOCKED",
+            EntryState::Pending => "PENDING",
+            EntryState::PendingBlocked => "PENDING_BLOCKED",
+            EntryState::NlMapped => "NL_MAPPED",
+            EntryState::NlBlocked => "NL_BLOCKED",
+            EntryState::BlockedW => "BLOCKEDW",
+            EntryState::ExportedBlockedW => "EXPORTED_BLOCKEDW",
+            EntryState::ExportedDirty => "EXPORTED_DIRTY",
+            EntryState::ExportedDirtyBlockedW => "EXPORTED_DIRTY_BLOCKEDW",
+        };
+        f.write_str(text)
     }
 }
 
@@ -94,10 +98,11 @@ impl fmt::Display for VcpuState {
     ghost output = { λ x. Some (vcpu_text x) };
 
     fn fmt<W: fmt::Write>(&self, f: &mut fmt::Formatter<W>) -> fmt::Result {
-        match self {
-            VcpuState::Created => write!(f, "CREATED"),
-            VcpuState::Ready => write!(f, "READY"),
-        }
+        let text = match self {
+            VcpuState::Created => "CREATED",
+            VcpuState::Ready => "READY",
+        };
+        f.write_str(text)
     }
 }
 
@@ -108,11 +113,12 @@ impl fmt::Display for HkidState {
     ghost output = { λ x. Some (hkid_text x) };
 
     fn fmt<W: fmt::Write>(&self, f: &mut fmt::Formatter<W>) -> fmt::Result {
-        match self {
-            HkidState::Free => write!(f, "HKID_FREE"),
-            HkidState::Assigned => write!(f, "HKID_ASSIGNED"),
-            HkidState::Flushed => write!(f, "HKID_FLUSHED"),
-        }
+        let text = match self {
+            HkidState::Free => "HKID_FREE",
+            HkidState::Assigned => "HKID_ASSIGNED",
+            HkidState::Flushed => "HKID_FLUSHED",
+        };
+        f.write_str(text)
     }
 }
 
@@ -123,10 +129,11 @@ impl fmt::Display for Access {
     ghost output = { λ x. Some (access_text x) };
 
     fn fmt<W: fmt::Write>(&self, f: &mut fmt::Formatter<W>) -> fmt::Result {
-        match self {
-            Access::Read => write!(f, "READ"),
-            Access::Write => write!(f, "WRITE"),
-        }
+        let text = match self {
+            Access::Read => "READ",
+            Access::Write => "WRITE",
+        };
+        f.write_str(text)
     }
 }
 
@@ -137,12 +144,13 @@ impl fmt::Display for Counter {
     ghost output = { λ x. Some (counter_text x) };
 
     fn fmt<W: fmt::Write>(&self, f: &mut fmt::Formatter<W>) -> fmt::Result {
-        match self {
-            Counter::TdEpoch => write!(f, "TD_EPOCH"),
-            Counter::MigEpoch => write!(f, "MIG_EPOCH"),
-            Counter::Mb => write!(f, "MB"),
-            Counter::Session => write!(f, "SESSION"),
-        }
+        let text = match self {
+            Counter::TdEpoch => "TD_EPOCH",
+            Counter::MigEpoch => "MIG_EPOCH",
+            Counter::Mb => "MB",
+            Counter::Session => "SESSION",
+        };
+        f.write_str(text)
     }
 }
 
@@ -153,10 +161,11 @@ impl fmt::Display for LimitName {
     ghost output = { λ x. Some (limit_text x) };
 
     fn fmt<W: fmt::Write>(&self, f: &mut fmt::Formatter<W>) -> fmt::Result {
-        match self {
-            LimitName::Vcpus => write!(f, "VCPUS"),
-            LimitName::Streams => write!(f, "STREAMS"),
-        }
+        let text = match self {
+            LimitName::Vcpus => "VCPUS",
+            LimitName::Streams => "STREAMS",
+        };
+        f.write_str(text)
     }
 }
 
@@ -167,19 +176,20 @@ impl fmt::Display for HeaderField {
     ghost output = { λ x. Some (field_text x) };
 
     fn fmt<W: fmt::Write>(&self, f: &mut fmt::Formatter<W>) -> fmt::Result {
-        match self {
-            HeaderField::Short => write!(f, "SHORT"),
-            HeaderField::Size => write!(f, "SIZE"),
-            HeaderField::Version => write!(f, "VERSION"),
-            HeaderField::Kind => write!(f, "TYPE"),
-            HeaderField::Reserved => write!(f, "RESERVED"),
-            HeaderField::Value => write!(f, "VALUE"),
-            HeaderField::Length => write!(f, "LENGTH"),
-            HeaderField::Stream => write!(f, "STREAM"),
-            HeaderField::Session => write!(f, "SESSION"),
-            HeaderField::Epoch => write!(f, "EPOCH"),
-            HeaderField::Index => write!(f, "INDEX"),
-        }
+        let text = match self {
+            HeaderField::Short => "SHORT",
+            HeaderField::Size => "SIZE",
+            HeaderField::Version => "VERSION",
+            HeaderField::Kind => "TYPE",
+            HeaderField::Reserved => "RESERVED",
+            HeaderField::Value => "VALUE",
+            HeaderField::Length => "LENGTH",
+            HeaderField::Stream => "STREAM",
+            HeaderField::Session => "SESSION",
+            HeaderField::Epoch => "EPOCH",
+            HeaderField::Index => "INDEX",
+        };
+        f.write_str(text)
     }
 }
 
@@ -190,12 +200,13 @@ impl fmt::Display for ReadField {
     ghost output = { λ x. Some (read_text x) };
 
     fn fmt<W: fmt::Write>(&self, f: &mut fmt::Formatter<W>) -> fmt::Result {
-        match self {
-            ReadField::Life => write!(f, "LIFE"),
-            ReadField::Op => write!(f, "OP"),
-            ReadField::Epoch => write!(f, "EPOCH"),
-            ReadField::Mrtd => write!(f, "MRTD"),
-        }
+        let text = match self {
+            ReadField::Life => "LIFE",
+            ReadField::Op => "OP",
+            ReadField::Epoch => "EPOCH",
+            ReadField::Mrtd => "MRTD",
+        };
+        f.write_str(text)
     }
 }
 
@@ -214,5 +225,71 @@ impl fmt::Display for LockName {
             LockName::Rtmr => write!(f, "R"),
             LockName::Keys => write!(f, "K"),
         }
+    }
+}
+
+impl fmt::Debug for PageKind {
+    fn fmt<W: fmt::Write>(&self, f: &mut fmt::Formatter<W>) -> fmt::Result {
+        write!(f, "{self}")
+    }
+}
+
+impl fmt::Debug for LifeState {
+    fn fmt<W: fmt::Write>(&self, f: &mut fmt::Formatter<W>) -> fmt::Result {
+        write!(f, "{self}")
+    }
+}
+
+impl fmt::Debug for OpState {
+    fn fmt<W: fmt::Write>(&self, f: &mut fmt::Formatter<W>) -> fmt::Result {
+        write!(f, "{self}")
+    }
+}
+
+impl fmt::Debug for EntryState {
+    fn fmt<W: fmt::Write>(&self, f: &mut fmt::Formatter<W>) -> fmt::Result {
+        write!(f, "{self}")
+    }
+}
+
+impl fmt::Debug for VcpuState {
+    fn fmt<W: fmt::Write>(&self, f: &mut fmt::Formatter<W>) -> fmt::Result {
+        write!(f, "{self}")
+    }
+}
+
+impl fmt::Debug for HkidState {
+    fn fmt<W: fmt::Write>(&self, f: &mut fmt::Formatter<W>) -> fmt::Result {
+        write!(f, "{self}")
+    }
+}
+
+impl fmt::Debug for Access {
+    fn fmt<W: fmt::Write>(&self, f: &mut fmt::Formatter<W>) -> fmt::Result {
+        write!(f, "{self}")
+    }
+}
+
+impl fmt::Debug for Counter {
+    fn fmt<W: fmt::Write>(&self, f: &mut fmt::Formatter<W>) -> fmt::Result {
+        write!(f, "{self}")
+    }
+}
+
+impl fmt::Debug for LimitName {
+    fn fmt<W: fmt::Write>(&self, f: &mut fmt::Formatter<W>) -> fmt::Result {
+        write!(f, "{self}")
+    }
+}
+
+impl fmt::Debug for HeaderField {
+    fn fmt<W: fmt::Write>(&self, f: &mut fmt::Formatter<W>) -> fmt::Result {
+        write!(f, "{self}")
+    }
+}
+
+impl fmt::Debug for LockName {
+    fn fmt<W: fmt::Write>(&self, f: &mut fmt::Formatter<W>) -> fmt::Result {
+        write!(f, "{self}")
     }
 }

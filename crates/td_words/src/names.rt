@@ -2,7 +2,7 @@
 
 /// What a page is used for, as its PAMT entry says (Base Architecture, "Physical Address
 /// Metadata Table").
-#[derive(Clone, Copy, Debug, PartialEq, Eq)]
+#[derive(Clone, Copy, PartialEq, Eq)]
 pub enum PageKind {
     Nda,
     Reg,
@@ -14,7 +14,7 @@ pub enum PageKind {
 }
 
 /// How far the life of a TD has come (Base Architecture, "TD Life Cycle State Machine").
-#[derive(Clone, Copy, Debug, PartialEq, Eq)]
+#[derive(Clone, Copy, PartialEq, Eq)]
 pub enum LifeState {
     HkidAssigned,
     KeysConfigured,
@@ -24,7 +24,7 @@ pub enum LifeState {
 
 /// What a TD with its keys may be asked to do (Base Architecture, "TD Operation State Machine";
 /// TD Migration Architecture, "TD Operation States").
-#[derive(Clone, Copy, Debug, PartialEq, Eq)]
+#[derive(Clone, Copy, PartialEq, Eq)]
 pub enum OpState {
     Uninitialized,
     Initialized,
@@ -41,7 +41,7 @@ pub enum OpState {
 
 /// The state of a secure EPT entry (Base Architecture, "Secure EPT Entry State Diagram"; TD
 /// Migration Architecture, "Private Memory Migration").
-#[derive(Clone, Copy, Debug, PartialEq, Eq)]
+#[derive(Clone, Copy, PartialEq, Eq)]
 pub enum EntryState {
     Free,
     Mapped,
@@ -57,14 +57,14 @@ pub enum EntryState {
 }
 
 /// Whether a virtual processor has its initial state (Base Architecture, "TD VCPU Life Cycle").
-#[derive(Clone, Copy, Debug, PartialEq, Eq)]
+#[derive(Clone, Copy, PartialEq, Eq)]
 pub enum VcpuState {
     Created,
     Ready,
 }
 
 /// What the key ownership table says of an HKID (Base Architecture, "Key Ownership Table").
-#[derive(Clone, Copy, Debug, PartialEq, Eq)]
+#[derive(Clone, Copy, PartialEq, Eq)]
 pub enum HkidState {
     Free,
     Assigned,
@@ -72,14 +72,14 @@ pub enum HkidState {
 }
 
 /// A guest's access to a word of memory.
-#[derive(Clone, Copy, Debug, PartialEq, Eq)]
+#[derive(Clone, Copy, PartialEq, Eq)]
 pub enum Access {
     Read,
     Write,
 }
 
 /// A count that a call refuses to raise past its last value.
-#[derive(Clone, Copy, Debug, PartialEq, Eq)]
+#[derive(Clone, Copy, PartialEq, Eq)]
 pub enum Counter {
     TdEpoch,
     MigEpoch,
@@ -88,14 +88,14 @@ pub enum Counter {
 }
 
 /// What a TD has only so many of.
-#[derive(Clone, Copy, Debug, PartialEq, Eq)]
+#[derive(Clone, Copy, PartialEq, Eq)]
 pub enum LimitName {
     Vcpus,
     Streams,
 }
 
 /// What is wrong with a migration bundle, or with its header for the call at hand.
-#[derive(Clone, Copy, Debug, PartialEq, Eq)]
+#[derive(Clone, Copy, PartialEq, Eq)]
 pub enum HeaderField {
     Short,
     Size,
@@ -121,7 +121,7 @@ pub enum ReadField {
 
 /// The name of a lock. `Op`, `Tree`, `Epoch` and `Rtmr` are locks of one TD, `Page` is a page's,
 /// and `Keys` the key table's.
-#[derive(Clone, Copy, Debug, PartialEq, Eq)]
+#[derive(Clone, Copy, PartialEq, Eq)]
 pub enum LockName {
     Page(u16),
     Op,

@@ -8,7 +8,7 @@ use crate::names::{
 };
 
 /// Why a call was refused, with the values that are shown. Success is no status of this type.
-#[derive(Clone, Copy, Debug, PartialEq, Eq)]
+#[derive(Clone, Copy, PartialEq, Eq)]
 pub enum Status {
     /// The argument of that place, from 1, breaks an argument rule.
     OperandInvalid(u8),

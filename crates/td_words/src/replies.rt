@@ -4,7 +4,7 @@ use crate::names::{Access, EntryState, LifeState, LockName, OpState, PageKind};
 use crate::refusals::Status;
 
 /// What a call that succeeded answers.
-#[derive(Clone, Copy, Debug, PartialEq, Eq)]
+#[derive(Clone, Copy, PartialEq, Eq)]
 pub enum Value {
     Nothing,
     Number(u64),
@@ -26,7 +26,7 @@ pub enum Value {
 }
 
 /// Why a virtual processor came back from the guest.
-#[derive(Clone, Copy, Debug, PartialEq, Eq)]
+#[derive(Clone, Copy, PartialEq, Eq)]
 pub enum Outcome {
     /// Its list of operations has come to its end.
     Stop,
@@ -41,7 +41,7 @@ pub enum Outcome {
 }
 
 /// The answer to a call line.
-#[derive(Clone, Copy, Debug, PartialEq, Eq)]
+#[derive(Clone, Copy, PartialEq, Eq)]
 pub enum Reply {
     Done(Value),
     Refused(Status),

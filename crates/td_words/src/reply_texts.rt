@@ -1,4 +1,4 @@
-//! How refusals, values and replies are printed.
+//! How refusals, values and replies are printed, and in tests the same.
 
 use crate::refusals::Status;
 use crate::replies::{Outcome, Reply, Value};
@@ -123,5 +123,29 @@ impl fmt::Display for Reply {
             Reply::Refused(status) => write!(f, "{status}"),
             Reply::Exited(outcome) => write!(f, "EXIT {outcome}"),
         }
+    }
+}
+
+impl fmt::Debug for Status {
+    fn fmt<W: fmt::Write>(&self, f: &mut fmt::Formatter<W>) -> fmt::Result {
+        write!(f, "{self}")
+    }
+}
+
+impl fmt::Debug for Value {
+    fn fmt<W: fmt::Write>(&self, f: &mut fmt::Formatter<W>) -> fmt::Result {
+        write!(f, "{self}")
+    }
+}
+
+impl fmt::Debug for Outcome {
+    fn fmt<W: fmt::Write>(&self, f: &mut fmt::Formatter<W>) -> fmt::Result {
+        write!(f, "{self}")
+    }
+}
+
+impl fmt::Debug for Reply {
+    fn fmt<W: fmt::Write>(&self, f: &mut fmt::Formatter<W>) -> fmt::Result {
+        write!(f, "{self}")
     }
 }

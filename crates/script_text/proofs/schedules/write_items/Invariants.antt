@@ -4,8 +4,8 @@ use Rattle.script_text.specs.Words.{words}
 use Rattle.script_text.proofs.schedules.write_items.Given as goal
 
 -- the words that are left go on from the schedule so far
-abbrev pub invariant-loop-word : goal.invariant-loop-word
-invariant-loop-word l = written_of l.schedule.items (map (turns_in l.lps) (words l.rest)) ≡ written_of l.initial.schedule.items (map (turns_in l.lps) (words l.text))
+abbrev pub invariant-loop-turns : goal.invariant-loop-turns
+invariant-loop-turns l = written_of l.schedule.items (map (turns_in l.lps) (words l.rest)) ≡ written_of l.initial.schedule.items (map (turns_in l.lps) (words l.text))
 
-abbrev pub decreases-loop-word : goal.decreases-loop-word
-decreases-loop-word l = length l.rest
+abbrev pub decreases-loop-turns : goal.decreases-loop-turns
+decreases-loop-turns l = length l.rest

@@ -1,6 +1,9 @@
 //! What no clause says: that the grammar means what its users were promised.
 
-use super::*;
+use script_text::{
+    CallName, OpName, Reason, ScriptFault, check_operands, code_line, mnemonic_at, operation_at,
+    output_slot, read_script, slot_place,
+};
 use std::alloc::Global;
 use std::test::Fail;
 
@@ -45,9 +48,9 @@ const ON_ONE_PROCESSOR: &[&str] = &[
     "2 UNBUILT | code",
     "2 COUNT | lp 1 1 | schedule",
     "2 NUMBER | lp x | schedule # | schedule 0**2 | schedule 0* | schedule *0 | schedule 1*2*3",
-    "2 NUMBER | schedule 9 0*0 0*1048576 0 x",
+    "2 NUMBER | schedule 9 0*0 0*1048576 0 x | schedule 0 1 x | schedule 0*1048576 0 x | schedule 0 #",
     "2 RANGE | lp 1 | schedule 1 | schedule 9 | schedule 0*0 | schedule 0*1048577",
-    "2 RANGE | schedule 0*1048576 0 1",
+    "2 RANGE | schedule 0*1048576 0 1 | schedule 0 1 0 | schedule 0 9",
     "2 FULL | schedule 0*1048576 0",
     "3 FULL | schedule 0*1048575\nschedule 0 0",
     "5 REPEATED | lp 0\nend\n\nlp 0x0",
@@ -72,7 +75,8 @@ const IN_BLOCK: &[&str] = &[
     "3 NUMBER | MNG.RD x NAME | MNG.RD x LIFE | MNG.RD LIFE 1 | MNG.VPFLUSHDONE x | MNG.KEY.FREEID x",
     "3 NUMBER | MR.FINALIZE x | VP.CREATE 1 x | VP.INIT 1 4 x | VP.INIT x 4 0",
     "3 NAME | MNG.RD 1 NAME | MNG.RD 1 life | MNG.RD 1 EPOCHS | MNG.RD 1 OPS | MNG.RD 1 1 | MNG.RD 1 #",
-    "3 NUMBER | HOST.READ 18446744073709551616 1 | HOST.READ 0x10000000000000000 1",
+    "3 NUMBER | HOST.READ 18446744073709551616 1 | HOST.READ 184467440737095516150 1",
+    "3 NUMBER | HOST.READ 0x10000000000000000 1 | HOST.READ 1844674407370955161x 1 | HOST.READ 1a 1",
 ];
 
 const CALLS: &[&str] = &[
