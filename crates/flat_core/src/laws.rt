@@ -101,7 +101,8 @@ pub fn measurement_laws()
     ensures events { EventsMeasure }
 {}
 
-/// After any schedule, what the guest of a TD knows of a private page is what the page holds.
+/// After any schedule, what the guest of a TD knows of a private page is what the page holds, and
+/// nothing where the page's entry is FREE, PENDING or PENDING_BLOCKED.
 pub fn memory_law()
     ensures { GuestsKnowTheirPages }
 {}
