@@ -5,6 +5,7 @@ use Rattle.td_words.specs.declared.names.PageKind.{PageKind}
 use Rattle.td_words.specs.declared.names.PageKind.TheVariants as kind
 use Rattle.td_words.specs.declared.names.LifeState.{LifeState}
 use Rattle.td_words.specs.declared.names.LifeState.TheVariants as life
+use Rattle.td_words.specs.declared.names.EntryState.{EntryState}
 use Rattle.td_words.specs.declared.names.EntryState.TheVariants as entry
 use Rattle.td_words.specs.declared.machines.Machine.{Machine}
 use Rattle.td_words.specs.declared.calls.Call.{Call}
@@ -22,7 +23,7 @@ use Rattle.flat_core.specs.TdRows.{create}
 use Rattle.flat_core.specs.KeyRows.{reclaim_conditions}
 use Rattle.flat_core.specs.Table.{row_of}
 use Rattle.flat_core.specs.Lawful.{IsAlive, Lawful, is_free}
-use Rattle.flat_core.specs.Laws.{with_bundles, IsLawfulWith, memory_of, ArePagesKnown, MemoriesAreKept, GuestsKnowTheirPages}
+use Rattle.flat_core.specs.Laws.{with_bundles, IsLawfulWith, holds_memory, memory_of, ArePagesKnown, MemoriesAreKept, GuestsKnowTheirPages}
 use Rattle.flat_core.proofs.Tests.{by_test, host_kind, tdr_kind, range_of, same_self}
 use Rattle.flat_core.proofs.Maps.{walk_passed}
 use Rattle.flat_core.proofs.Parts.{IsLive}
@@ -30,8 +31,22 @@ use Rattle.flat_core.proofs.Keeps.{live_of, ended_of, row-keeps, first-lawful}
 use Rattle.flat_core.proofs.Induction.{world_event, in_runs}
 use Rattle.flat_core.proofs.Kept.{leave_lawful}
 
+-- an entry whose page holds memory isn't FREE
+taken : (s : EntryState) → holds_memory s ≡ true → is_free s ≡ false
+taken entry.Free e = cc
+taken entry.Mapped e = refl
+taken entry.Blocked e = refl
+taken entry.Pending e = refl
+taken entry.PendingBlocked e = refl
+taken entry.NlMapped e = refl
+taken entry.NlBlocked e = refl
+taken entry.BlockedW e = refl
+taken entry.ExportedBlockedW e = refl
+taken entry.ExportedDirty e = refl
+taken entry.ExportedDirtyBlockedW e = refl
+
 same_memory : (e : Entry) (old new : ℕ → ℕ → ℕ) → (is_free e.state ≡ false → new e.page ≡ old e.page) → memory_of e new ≡ memory_of e old
-same_memory e old new h = by_test (is_free e.state) (λ y. rw y refl) (λ y. rw y (ap (λ (x : ℕ → ℕ). Some x) (h y)))
+same_memory e old new h = by_test (holds_memory e.state) (λ y. rw y (ap (λ (x : ℕ → ℕ). Some x) (h (taken e.state y)))) (λ y. rw y refl)
 
 -- a word of another page changes none of a page
 words_stay : (words : ℕ → ℕ → ℕ) (q i v p : ℕ) → (p == q) ≡ false → put_in words q i v p ≡ words p

@@ -7,6 +7,7 @@ use Rattle.td_words.specs.declared.machines.Machine.{Machine}
 use Rattle.td_words.specs.declared.names.OpState.TheVariants.{Runnable}
 use Rattle.td_words.specs.declared.names.ReadField.TheVariants.{Mrtd}
 use Rattle.td_words.specs.declared.names.EntryState.{EntryState}
+use Rattle.td_words.specs.declared.names.EntryState.TheVariants as entry
 use Rattle.td_words.specs.declared.replies.Value.TheVariants.{Digest}
 use Rattle.td_words.specs.declared.refusals.Status.{Status}
 use Rattle.td_words.specs.declared.refusals.Status.TheVariants.{OperandInvalid}
@@ -234,10 +235,17 @@ abbrev pub PagesHaveOneUse : Type 0
 PagesHaveOneUse = (o : Opening) (me : ℕ) (c : Call) (w : World) (p : ℕ)
     → Passes ((row_of o me c).items w) → is_host_in w.pages p ≡ false → gives_back c p ≡ false → IsUsedAsBefore w.pages ((row_of o me c).act w).pages p
 
--- what the private page that an entry names holds: none where it is FREE. An entry in PENDING will count as one without,
--- once there are such entries
+-- whether the page that an entry names holds its guest's memory: not before the guest has accepted it (Base Architecture,
+-- "Secure EPT Entry State Diagram")
+abbrev pub holds_memory : EntryState → Bool
+holds_memory entry.Free = false
+holds_memory entry.Pending = false
+holds_memory entry.PendingBlocked = false
+holds_memory _ = true
+
+-- what the private page that an entry names holds of its guest's memory
 abbrev pub memory_of : Entry → (ℕ → ℕ → ℕ) → Option (ℕ → ℕ)
-memory_of e words = if is_free e.state then None else Some (words e.page)
+memory_of e words = if holds_memory e.state then Some (words e.page) else None
 
 -- Guest memory: what the guest of a TD that is alive knows of its private page, from its own events, is what the page holds.
 abbrev pub ArePagesKnown : World → Type 0

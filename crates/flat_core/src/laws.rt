@@ -123,7 +123,8 @@ pub fn measurement_laws()
 {}
 
 /// What the guest of a TD knows of a private page is what the page holds: at the start of every run,
-/// after each event of a lawful world, whatever bundles have come in, and so after any schedule.
+/// after each event of a lawful world, whatever bundles have come in, and so after any schedule,
+/// and it knows nothing of a page whose entry is FREE, PENDING or PENDING_BLOCKED.
 pub fn memory_law()
     ensures kept { MemoriesAreKept }
     ensures run { GuestsKnowTheirPages }
