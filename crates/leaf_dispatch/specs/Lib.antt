@@ -1,4 +1,5 @@
 pub mod Table
+pub mod Plans
 pub mod Leaves
 pub mod Bounds
 pub mod Running

@@ -3,8 +3,10 @@
 ghost use Rattle.std.specs.Prelude.{◌≡◌};
 ghost use Rattle.td_words.specs.Limits.{IsMachine};
 ghost use Rattle.leaf_engine.specs.Turns.{IsFresh};
+ghost use Rattle.leaf_dispatch.specs.Plans.{plan_task};
 ghost use Rattle.leaf_dispatch.specs.Table.{task_of};
 
+use crate::plans::AnyPlan;
 use first_leaves::{HostRead, HostWrite, Rdmd};
 use key_table::{CacheWb, FlushDone, FreeId, Reclaim};
 use leaf_engine::{Leaf, Measuring, Need, Place, Planned, Write};
@@ -14,26 +16,12 @@ use td_control::{AddCx, Create, Finalize, Init, KeyConfig, Rd};
 use td_words::Call;
 use vcpu_control::{VpCreate, VpInit};
 
-/// A leaf of any call that is built.
+/// A leaf of any call that is built: one that goes by a plan of any call, or one that measures.
 #[derive(Drop)]
 pub enum AnyLeaf {
-    HostRead(Planned<HostRead>),
-    HostWrite(Planned<HostWrite>),
-    Rdmd(Planned<Rdmd>),
-    CacheWb(Planned<CacheWb>),
-    Reclaim(Planned<Reclaim>),
-    Create(Planned<Create>),
-    KeyConfig(Planned<KeyConfig>),
-    AddCx(Planned<AddCx>),
+    ByPlan(Planned<AnyPlan>),
     Init(Measuring<Init>),
-    Rd(Planned<Rd>),
-    FlushDone(Planned<FlushDone>),
-    FreeId(Planned<FreeId>),
     Finalize(Measuring<Finalize>),
-    VpCreate(Planned<VpCreate>),
-    VpInit(Planned<VpInit>),
-    SeptAdd(Planned<SeptAdd>),
-    SeptRd(Planned<SeptRd>),
     PageAdd(Measuring<PageAdd>),
     Extend(Extend),
 }
@@ -55,23 +43,9 @@ impl Leaf for AnyLeaf {
 
     fn need(&mut self) -> Need {
         match self {
-            AnyLeaf::HostRead(leaf) => leaf.need(),
-            AnyLeaf::HostWrite(leaf) => leaf.need(),
-            AnyLeaf::Rdmd(leaf) => leaf.need(),
-            AnyLeaf::CacheWb(leaf) => leaf.need(),
-            AnyLeaf::Reclaim(leaf) => leaf.need(),
-            AnyLeaf::Create(leaf) => leaf.need(),
-            AnyLeaf::KeyConfig(leaf) => leaf.need(),
-            AnyLeaf::AddCx(leaf) => leaf.need(),
+            AnyLeaf::ByPlan(leaf) => leaf.need(),
             AnyLeaf::Init(leaf) => leaf.need(),
-            AnyLeaf::Rd(leaf) => leaf.need(),
-            AnyLeaf::FlushDone(leaf) => leaf.need(),
-            AnyLeaf::FreeId(leaf) => leaf.need(),
             AnyLeaf::Finalize(leaf) => leaf.need(),
-            AnyLeaf::VpCreate(leaf) => leaf.need(),
-            AnyLeaf::VpInit(leaf) => leaf.need(),
-            AnyLeaf::SeptAdd(leaf) => leaf.need(),
-            AnyLeaf::SeptRd(leaf) => leaf.need(),
             AnyLeaf::PageAdd(leaf) => leaf.need(),
             AnyLeaf::Extend(leaf) => leaf.need(),
         }
@@ -79,23 +53,9 @@ impl Leaf for AnyLeaf {
 
     fn tell(&mut self, word: u64) {
         match self {
-            AnyLeaf::HostRead(leaf) => leaf.tell(word),
-            AnyLeaf::HostWrite(leaf) => leaf.tell(word),
-            AnyLeaf::Rdmd(leaf) => leaf.tell(word),
-            AnyLeaf::CacheWb(leaf) => leaf.tell(word),
-            AnyLeaf::Reclaim(leaf) => leaf.tell(word),
-            AnyLeaf::Create(leaf) => leaf.tell(word),
-            AnyLeaf::KeyConfig(leaf) => leaf.tell(word),
-            AnyLeaf::AddCx(leaf) => leaf.tell(word),
+            AnyLeaf::ByPlan(leaf) => leaf.tell(word),
             AnyLeaf::Init(leaf) => leaf.tell(word),
-            AnyLeaf::Rd(leaf) => leaf.tell(word),
-            AnyLeaf::FlushDone(leaf) => leaf.tell(word),
-            AnyLeaf::FreeId(leaf) => leaf.tell(word),
             AnyLeaf::Finalize(leaf) => leaf.tell(word),
-            AnyLeaf::VpCreate(leaf) => leaf.tell(word),
-            AnyLeaf::VpInit(leaf) => leaf.tell(word),
-            AnyLeaf::SeptAdd(leaf) => leaf.tell(word),
-            AnyLeaf::SeptRd(leaf) => leaf.tell(word),
             AnyLeaf::PageAdd(leaf) => leaf.tell(word),
             AnyLeaf::Extend(leaf) => leaf.tell(word),
         }
@@ -103,29 +63,23 @@ impl Leaf for AnyLeaf {
 
     fn write(&mut self, hasher: &mut Option<Measure>) -> Option<Write> {
         match self {
-            AnyLeaf::HostRead(leaf) => leaf.write(hasher),
-            AnyLeaf::HostWrite(leaf) => leaf.write(hasher),
-            AnyLeaf::Rdmd(leaf) => leaf.write(hasher),
-            AnyLeaf::CacheWb(leaf) => leaf.write(hasher),
-            AnyLeaf::Reclaim(leaf) => leaf.write(hasher),
-            AnyLeaf::Create(leaf) => leaf.write(hasher),
-            AnyLeaf::KeyConfig(leaf) => leaf.write(hasher),
-            AnyLeaf::AddCx(leaf) => leaf.write(hasher),
+            AnyLeaf::ByPlan(leaf) => leaf.write(hasher),
             AnyLeaf::Init(leaf) => leaf.write(hasher),
-            AnyLeaf::Rd(leaf) => leaf.write(hasher),
-            AnyLeaf::FlushDone(leaf) => leaf.write(hasher),
-            AnyLeaf::FreeId(leaf) => leaf.write(hasher),
             AnyLeaf::Finalize(leaf) => leaf.write(hasher),
-            AnyLeaf::VpCreate(leaf) => leaf.write(hasher),
-            AnyLeaf::VpInit(leaf) => leaf.write(hasher),
-            AnyLeaf::SeptAdd(leaf) => leaf.write(hasher),
-            AnyLeaf::SeptRd(leaf) => leaf.write(hasher),
             AnyLeaf::PageAdd(leaf) => leaf.write(hasher),
             AnyLeaf::Extend(leaf) => leaf.write(hasher),
         }
     }
 
     ghost means = { leaves-mean };
+}
+
+// A leaf that goes by that plan, and has done nothing yet.
+fn by_plan(plan: AnyPlan) -> AnyLeaf
+    ensures task { ⟦<AnyLeaf as Leaf>⟧.task result ≡ plan_task plan }
+    ensures fresh { let leaf = ⟦<AnyLeaf as Leaf>⟧ in IsFresh (leaf.task result).tree (leaf.rest result) (leaf.tries result) (leaf.written result) (leaf.waits result) }
+{
+    AnyLeaf::ByPlan(Planned::new(plan))
 }
 
 /// The leaf of a call at a place, which has done nothing yet.
@@ -135,32 +89,54 @@ pub fn leaf_of(place: Place, call: &Call) -> AnyLeaf
     ensures fresh { let leaf = ⟦<AnyLeaf as Leaf>⟧ in IsFresh (leaf.task result).tree (leaf.rest result) (leaf.tries result) (leaf.written result) (leaf.waits result) }
 {
     match *call {
-        Call::HostRead { page, word } => AnyLeaf::HostRead(HostRead::leaf(place, page, word)),
-        Call::HostWrite { page, word, value } => AnyLeaf::HostWrite(HostWrite::leaf(
+        Call::HostRead { page, word } => {
+            by_plan(AnyPlan::HostRead(HostRead::leaf(place, page, word).into_plan()))
+        }
+        Call::HostWrite { page, word, value } => by_plan(AnyPlan::HostWrite(HostWrite::leaf(
             place, page, word, value,
-        )),
-        Call::PhymemPageRdmd { page } => AnyLeaf::Rdmd(Rdmd::leaf(place, page)),
-        Call::PhymemCacheWb => AnyLeaf::CacheWb(CacheWb::leaf(place)),
-        Call::PhymemPageReclaim { tdr, page } => AnyLeaf::Reclaim(Reclaim::leaf(place, tdr, page)),
-        Call::MngCreate { tdr, hkid } => AnyLeaf::Create(Create::leaf(place, tdr, hkid)),
-        Call::MngKeyConfig { tdr } => AnyLeaf::KeyConfig(KeyConfig::leaf(place, tdr)),
-        Call::MngAddcx { tdr, page } => AnyLeaf::AddCx(AddCx::leaf(place, tdr, page)),
+        ).into_plan())),
+        Call::PhymemPageRdmd { page } => {
+            by_plan(AnyPlan::Rdmd(Rdmd::leaf(place, page).into_plan()))
+        }
+        Call::PhymemCacheWb => by_plan(AnyPlan::CacheWb(CacheWb::leaf(place).into_plan())),
+        Call::PhymemPageReclaim { tdr, page } => {
+            by_plan(AnyPlan::Reclaim(Reclaim::leaf(place, tdr, page).into_plan()))
+        }
+        Call::MngCreate { tdr, hkid } => {
+            by_plan(AnyPlan::Create(Create::leaf(place, tdr, hkid).into_plan()))
+        }
+        Call::MngKeyConfig { tdr } => {
+            by_plan(AnyPlan::KeyConfig(KeyConfig::leaf(place, tdr).into_plan()))
+        }
+        Call::MngAddcx { tdr, page } => {
+            by_plan(AnyPlan::AddCx(AddCx::leaf(place, tdr, page).into_plan()))
+        }
         Call::MngInit { tdr } => AnyLeaf::Init(Init::leaf(place, tdr)),
-        Call::MngRd { tdr, field } => AnyLeaf::Rd(Rd::leaf(place, tdr, field)),
-        Call::MngVpflushdone { tdr } => AnyLeaf::FlushDone(FlushDone::leaf(place, tdr)),
-        Call::MngKeyFreeid { tdr } => AnyLeaf::FreeId(FreeId::leaf(place, tdr)),
+        Call::MngRd { tdr, field } => {
+            by_plan(AnyPlan::Rd(Rd::leaf(place, tdr, field).into_plan()))
+        }
+        Call::MngVpflushdone { tdr } => {
+            by_plan(AnyPlan::FlushDone(FlushDone::leaf(place, tdr).into_plan()))
+        }
+        Call::MngKeyFreeid { tdr } => {
+            by_plan(AnyPlan::FreeId(FreeId::leaf(place, tdr).into_plan()))
+        }
         Call::MrFinalize { tdr } => AnyLeaf::Finalize(Finalize::leaf(place, tdr)),
-        Call::VpCreate { tdr, page } => AnyLeaf::VpCreate(VpCreate::leaf(place, tdr, page)),
-        Call::VpInit { tdr, vp, value } => AnyLeaf::VpInit(VpInit::leaf(place, tdr, vp, value)),
+        Call::VpCreate { tdr, page } => {
+            by_plan(AnyPlan::VpCreate(VpCreate::leaf(place, tdr, page).into_plan()))
+        }
+        Call::VpInit { tdr, vp, value } => {
+            by_plan(AnyPlan::VpInit(VpInit::leaf(place, tdr, vp, value).into_plan()))
+        }
         Call::MemSeptAdd {
             tdr,
             gpa,
             level,
             page,
-        } => AnyLeaf::SeptAdd(SeptAdd::leaf(place, tdr, gpa, level, page)),
-        Call::MemSeptRd { tdr, gpa, level } => AnyLeaf::SeptRd(SeptRd::leaf(
+        } => by_plan(AnyPlan::SeptAdd(SeptAdd::leaf(place, tdr, gpa, level, page).into_plan())),
+        Call::MemSeptRd { tdr, gpa, level } => by_plan(AnyPlan::SeptRd(SeptRd::leaf(
             place, tdr, gpa, level,
-        )),
+        ).into_plan())),
         Call::MemPageAdd {
             tdr,
             gpa,

@@ -9,11 +9,11 @@
 
 mod laws;
 mod leaves;
+mod plans;
 mod running;
 mod states;
-#[cfg(test)]
-mod tests;
 
 pub use laws::calls_have_leaves;
 pub use leaves::{AnyLeaf, leaf_of};
+pub use plans::AnyPlan;
 pub use states::LpState;

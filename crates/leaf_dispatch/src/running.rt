@@ -24,6 +24,10 @@ impl Drop for Running {
 }
 
 /// The next turn of a call's run, which is kept until its reply comes, and begins where none is kept.
+///
+/// It is apart from its caller, and its rare steps are apart from it, since a function clears the
+/// places of its large values where it begins.
+#[inline(never)]
 pub fn turn_call<B: Bench>(
     kept: &mut Option<Running>,
     place: Place,
@@ -39,7 +43,7 @@ pub fn turn_call<B: Bench>(
     begin_where_none(kept, place, call);
     let turn = turn_kept(kept, bench);
     if let Some(_) = turn.reply {
-        *kept = None;
+        leave(kept);
     }
     turn
 }
@@ -52,8 +56,23 @@ fn begin_where_none(kept: &mut Option<Running>, place: Place, call: &Call)
 {
     match kept {
         Some(_) => (),
-        None => *kept = Some(begin(place, call)),
+        None => enter(kept, place, call),
     }
+}
+
+#[inline(never)]
+fn enter(kept: &mut Option<Running>, place: Place, call: &Call)
+    requires { IsMachine place.machine }
+    ensures { IsBegun place call.now None kept.new }
+{
+    *kept = Some(begin(place, call));
+}
+
+#[inline(never)]
+fn leave(kept: &mut Option<Running>)
+    ensures { kept.new ≡ None }
+{
+    *kept = None;
 }
 
 // The next turn of a run that is kept.

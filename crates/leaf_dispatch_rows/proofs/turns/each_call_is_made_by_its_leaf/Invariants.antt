@@ -1,7 +1,7 @@
 use Rattle.std.proofs.Common.{◌≡◌}
 use Rattle.leaf_dispatch.specs.Bounds.{events_left}
 use Rattle.leaf_dispatch.specs.States.{seen_of}
-use Rattle.leaf_dispatch.proofs.tests.each_call_is_made_by_its_leaf.Given as goal
+use Rattle.leaf_dispatch_rows.proofs.turns.each_call_is_made_by_its_leaf.Given as goal
 
 abbrev pub invariant-loop : goal.invariant-loop
 invariant-loop g l = l.lp.place.machine ≡ l.bench.machine

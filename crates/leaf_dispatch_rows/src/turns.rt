@@ -1,4 +1,6 @@
-use crate::LpState;
+//! What the turns of processors are, event by event, where nothing else is looked at.
+
+use leaf_dispatch::LpState;
 use leaf_engine::{Event, Processor, Turn};
 use step_core::PlainBench;
 use td_words::{Call, LockName, Machine, Mode, PageKind, Reply, Status, Value};

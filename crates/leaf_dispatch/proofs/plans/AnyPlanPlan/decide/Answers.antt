@@ -1,0 +1,19 @@
+use Rattle.leaf_dispatch.proofs.plans.AnyPlanPlan.decide.Goals as goal
+
+pub returns-in-Create-clause-decides : goal.returns-in-Create-clause-decides
+returns-in-Create-clause-decides c = rw (c.in-Create.is) c.decide-in-Create.ensures.decides
+
+pub returns-in-FlushDone-clause-decides : goal.returns-in-FlushDone-clause-decides
+returns-in-FlushDone-clause-decides c = rw (c.in-FlushDone.is) c.decide-in-FlushDone.ensures.decides
+
+pub returns-in-FreeId-clause-decides : goal.returns-in-FreeId-clause-decides
+returns-in-FreeId-clause-decides c = rw (c.in-FreeId.is) c.decide-in-FreeId.ensures.decides
+
+pub returns-in-Reclaim-clause-decides : goal.returns-in-Reclaim-clause-decides
+returns-in-Reclaim-clause-decides c = rw (c.in-Reclaim.is) c.decide-in-Reclaim.ensures.decides
+
+pub returns-in-SeptAdd-clause-decides : goal.returns-in-SeptAdd-clause-decides
+returns-in-SeptAdd-clause-decides c = rw (c.in-SeptAdd.is) c.decide-in-SeptAdd.ensures.decides
+
+pub returns-in-SeptRd-clause-decides : goal.returns-in-SeptRd-clause-decides
+returns-in-SeptRd-clause-decides c = rw (c.in-SeptRd.is) c.decide-in-SeptRd.ensures.decides
