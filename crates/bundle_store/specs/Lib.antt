@@ -1,0 +1,6 @@
+pub mod Seen
+pub mod Outside
+pub mod History
+pub mod Noted
+pub mod Held
+pub mod Listed
