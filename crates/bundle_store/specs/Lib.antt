@@ -4,3 +4,5 @@ pub mod History
 pub mod Noted
 pub mod Held
 pub mod Listed
+pub mod Containers
+pub mod Laws

@@ -1,0 +1,5 @@
+use Rattle.bundle_store.proofs.Steps.{container_again}
+use Rattle.bundle_store.proofs.laws.containers_read_again.Goals as goal
+
+pub returns : goal.returns
+returns c = record { read_again = container_again }
