@@ -1,16 +1,13 @@
 -- The leaf that writes the caches back means its row.
-use Rattle.std.proofs.Common.{◌≡◌, ℕ, suc, zero, ◌+◌, ◌-◌, ◌*◌, ◌%◌, ◌<◌, ◌≤◌, true, false, ◌==◌, nat_lt, List, [], ◌∷◌, ◌++◌, Option, Some, None, refl, ap, sym, ◌∙◌, subst, inl, arith}
+use Rattle.std.proofs.Common.{◌≡◌, ℕ, suc, zero, ◌+◌, ◌-◌, ◌*◌, ◌%◌, ◌<◌, ◌≤◌, true, false, ◌==◌, nat_lt, List, [], ◌∷◌, ◌++◌, Option, refl, ap, sym, ◌∙◌, subst, inl, arith}
 use Rattle.std.proofs.lemmas.Bool.{eqb-true, ne_eqb, ltb-true}
 use Rattle.std.proofs.lemmas.Bool.Decides.{nat_tests}
-use Rattle.td_words.specs.declared.names.PageKind.{PageKind}
-use Rattle.td_words.specs.declared.names.PageKind.TheVariants as kind
 use Rattle.td_words.specs.declared.machines.Machine.{Machine}
 use Rattle.td_words.specs.declared.calls.Call.TheVariants as call
 use Rattle.td_words.specs.Packing.{Key, Unassigned, AssignedTo, FlushedOf, key_word}
 use Rattle.td_words.specs.Place.{WordPlace, IsIn}
 use Rattle.td_words.specs.Place as place
-use Rattle.flat_core.specs.World.{World, KeyTable}
-use Rattle.flat_core.specs.Processor.{LockId, OfKeys}
+use Rattle.flat_core.specs.Processor.{OfKeys}
 use Rattle.flat_core.specs.Effects.{write_back, written_back}
 use Rattle.flat_core.specs.KeyRows.{write_caches_back}
 use Rattle.flat_core.specs.Lawful.{Lawful, key_owner}
@@ -18,7 +15,7 @@ use Rattle.flat_core.specs.Event.{State}
 use Rattle.flat_core.proofs.Tests.{by_test}
 use Rattle.word_rules.specs.Rules.{KeepsNothing}
 use Rattle.word_rules.specs.Permissions.{Respects}
-use Rattle.word_rules.specs.Cells.{Shows, IsAs, cell, page_cell, control_cell, root_cell, entry_cell, if_stands, key_cell, lock_word, built_hasher, hasher_cell}
+use Rattle.word_rules.specs.Cells.{Shows, IsAs, cell, key_cell, lock_word, hasher_cell}
 use Rattle.act_rules.proofs.Rows.{rows-respect}
 use Rattle.leaf_engine.specs.declared.needs.Place.{Place}
 use Rattle.leaf_engine.specs.Changes.{Memory, Change, Put, changed, changed_all}

@@ -1,9 +1,7 @@
 -- The leaf that frees an HKID means its row.
-use Rattle.std.proofs.Common.{◌≡◌, ℕ, suc, zero, ◌+◌, ◌-◌, ◌<◌, Bool, true, false, ◌==◌, nat_lt, if◌then◌else◌, List, [], ◌∷◌, length, Option, Some, None, refl, ap, sym, ◌∙◌, subst, inl, arith}
-use Rattle.std.specs.Prelude.{slice_index}
+use Rattle.std.proofs.Common.{◌≡◌, ℕ, ◌+◌, ◌-◌, ◌<◌, true, false, ◌==◌, nat_lt, if◌then◌else◌, List, [], ◌∷◌, Option, Some, None, refl, sym, subst, inl, arith}
 use Rattle.std.specs.List.{list_any}
 use Rattle.std.proofs.lemmas.Bool.{eq-eqb, eqb-true, ltb-true}
-use Rattle.td_words.specs.declared.names.PageKind.{PageKind}
 use Rattle.td_words.specs.declared.names.PageKind.TheVariants as kind
 use Rattle.td_words.specs.declared.names.LifeState.{LifeState}
 use Rattle.td_words.specs.declared.names.LifeState.TheVariants as life
@@ -16,17 +14,16 @@ use Rattle.td_words.specs.Packing.{Key, Unassigned, key_word}
 use Rattle.td_words.specs.Place.{WordPlace, IsIn}
 use Rattle.td_words.specs.Place as place
 use Rattle.flat_core.specs.World.{World}
-use Rattle.flat_core.specs.Processor.{LockId, OfKeys}
+use Rattle.flat_core.specs.Processor.{LockId}
 use Rattle.flat_core.specs.Effects.{set_key, set_life}
 use Rattle.flat_core.specs.KeyRows.{free_hkid}
-use Rattle.flat_core.specs.Conditions.{children, keys_exclusive, is_written_back, written_back_key}
+use Rattle.flat_core.specs.Conditions.{keys_exclusive, is_written_back, written_back_key}
 use Rattle.flat_core.specs.Lawful.{Lawful, IsAlive, key_owner}
 use Rattle.flat_core.specs.Event.{State}
 use Rattle.flat_core.proofs.Tests.{by_test}
 use Rattle.word_rules.specs.Rules.{KeepsNothing}
-use Rattle.word_rules.specs.Lines.{Line, At, in_lines}
 use Rattle.word_rules.specs.Permissions.{Respects}
-use Rattle.word_rules.specs.Cells.{Shows, IsAs, cell, page_cell, control_cell, root_cell, entry_cell, if_stands, lock_word, tdr_lines, built_hasher, is_built, hasher_cell}
+use Rattle.word_rules.specs.Cells.{Shows, IsAs, cell, if_stands, lock_word, built_hasher, is_built, hasher_cell}
 use Rattle.act_rules.proofs.Rows.{rows-respect}
 use Rattle.leaf_engine.specs.declared.needs.Place.{Place}
 use Rattle.leaf_engine.specs.Changes.{Memory, Put, changed, changed_all}

@@ -1,11 +1,7 @@
 -- The leaf that gives a page back means its row.
-use Rattle.std.proofs.Common.{◌≡◌, ℕ, suc, zero, ◌+◌, ◌-◌, ◌<◌, Bool, true, false, not, ◌==◌, ◌&&◌, nat_lt, if◌then◌else◌, List, [], ◌∷◌, ◌++◌, length, Option, Some, None, refl, ap, sym, ◌∙◌, subst, inl, arith}
-use Rattle.std.specs.Prelude.{slice_index}
+use Rattle.std.proofs.Common.{◌≡◌, ℕ, ◌<◌, Bool, true, false, not, ◌==◌, ◌&&◌, nat_lt, List, [], ◌∷◌, ◌++◌, refl, ap, sym, ◌∙◌, subst, inl, arith}
 use Rattle.std.specs.List.{list_any}
-use Rattle.flat_core.proofs.Tests.{by_test}
-use Rattle.std.proofs.lemmas.Bool.{eq-eqb, eqb-true, ne_eqb, ltb-true, not-true, and_parts}
-use Rattle.std.proofs.lemmas.Bool.Decides.{nat_tests}
-use Rattle.td_words.specs.declared.names.PageKind.{PageKind}
+use Rattle.std.proofs.lemmas.Bool.{eq-eqb, eqb-true, ltb-true, not-true, and_parts}
 use Rattle.td_words.specs.declared.names.PageKind.TheVariants as kind
 use Rattle.td_words.specs.declared.names.LifeState.TheVariants as life
 use Rattle.td_words.specs.declared.names.Mode.TheVariants.{Exclusive}
@@ -19,15 +15,15 @@ use Rattle.td_words.specs.Place.{WordPlace, IsIn}
 use Rattle.td_words.specs.Place as place
 use Rattle.flat_core.specs.World.{World}
 use Rattle.flat_core.specs.Row.{Passes}
-use Rattle.flat_core.specs.Processor.{LockId, OfPage, Held}
+use Rattle.flat_core.specs.Processor.{OfPage, Held}
 use Rattle.flat_core.specs.Effects.{give_back, clear_page, end_memory_in}
 use Rattle.flat_core.specs.KeyRows.{reclaim_page, reclaim_conditions}
-use Rattle.flat_core.specs.Conditions.{same_kind, is_host, is_host_in, children}
-use Rattle.flat_core.specs.Lawful.{Lawful, key_owner}
+use Rattle.flat_core.specs.Conditions.{same_kind, is_host, children}
+use Rattle.flat_core.specs.Lawful.{Lawful}
 use Rattle.flat_core.specs.Event.{State}
 use Rattle.word_rules.specs.Rules.{KeepsNothing}
 use Rattle.word_rules.specs.Permissions.{Respects}
-use Rattle.word_rules.specs.Cells.{Shows, built_hasher, lock_word}
+use Rattle.word_rules.specs.Cells.{Shows}
 use Rattle.word_rules.specs.CallUses.{HoldsTries}
 use Rattle.act_rules.proofs.Rows.{rows-respect}
 use Rattle.leaf_engine.specs.declared.needs.Place.{Place}
@@ -36,8 +32,7 @@ use Rattle.leaf_engine.specs.Changes.{Memory, Put, Clear, changed, changed_all}
 use Rattle.leaf_engine.specs.Trees.{acts}
 use Rattle.leaf_engine.specs.Means.{Instant, Means, Work, work_of, OfCall, MeansRow, MayOwe, hold}
 use Rattle.leaf_parts.proofs.Acted.{opening}
-use Rattle.leaf_parts.proofs.Begun.{tdr-head-means, page_lock, page_alone, holds-newest, alone-newest}
-use Rattle.leaf_parts.specs.Words.{lowered}
+use Rattle.leaf_parts.proofs.Begun.{page_lock, page_alone, holds-newest, alone-newest}
 use Rattle.leaf_parts.proofs.Aside.{ShowsBut, turned, aside, back, words-but, untold, tdr-given-but, given-but}
 use Rattle.leaf_parts.proofs.Checks.{tdr-row-means}
 use Rattle.leaf_parts.proofs.Told.{kind-shown, owner-shown, tdr-shown, tdr-spot}

@@ -1,21 +1,17 @@
 -- The leaf that extends a TD's measurement by a chunk means its row.
-use Rattle.std.proofs.Common.{◌≡◌, ℕ, zero, suc, ◌+◌, ◌/◌, ◌%◌, ◌^◌, ◌<◌, ◌≤◌, Bool, true, false, ◌==◌, ◌||◌, List, [], ◌∷◌, ◌++◌, map, Option, Some, None, refl, ap, sym, ◌∙◌, subst, inl, arith, append_assoc, append-nil}
+use Rattle.std.proofs.Common.{◌≡◌, ℕ, zero, suc, ◌+◌, ◌/◌, ◌%◌, ◌^◌, ◌<◌, ◌≤◌, Bool, true, false, ◌==◌, ◌||◌, List, [], ◌∷◌, ◌++◌, map, Some, refl, sym, subst, inl, arith, append_assoc, append-nil}
 use Rattle.std.specs.Prelude.{nat_lt}
 use Rattle.std.specs.List.{list_any, range_with_len}
 use Rattle.std.proofs.lemmas.Bool.{eq-eqb, eqb-true, ltb-true}
-use Rattle.td_words.specs.declared.names.PageKind.{PageKind}
 use Rattle.td_words.specs.declared.names.PageKind.TheVariants as kind
 use Rattle.td_words.specs.declared.names.EntryState.{EntryState}
 use Rattle.td_words.specs.declared.names.EntryState.TheVariants as entry
-use Rattle.td_words.specs.declared.names.OpState.{OpState}
 use Rattle.td_words.specs.declared.names.OpState.TheVariants as op
 use Rattle.td_words.specs.declared.names.Mode.TheVariants.{Shared, Exclusive}
 use Rattle.td_words.specs.declared.machines.Machine.{Machine}
-use Rattle.td_words.specs.declared.places.TheConstants.{TDR_HKID}
 use Rattle.td_words.specs.declared.refusals.Status.TheVariants.{OperandInvalid}
 use Rattle.td_words.specs.declared.replies.Value.TheVariants as value
 use Rattle.td_words.specs.declared.replies.Reply.TheVariants.{Done}
-use Rattle.td_words.specs.NameNumber.{op_number}
 use Rattle.td_words.specs.Packing.{Entry}
 use Rattle.td_words.specs.Place.{WordPlace, IsIn}
 use Rattle.td_words.specs.Place as place
@@ -30,18 +26,17 @@ use Rattle.td_words.specs.Limits.{IsMachine}
 use Rattle.flat_core.specs.Tree.{entry_at, number_at, named_page, same_state, state_in, walk, word_of_gpa}
 use Rattle.flat_core.specs.Conditions.{tree_shared}
 use Rattle.flat_core.specs.Event.{State}
-use Rattle.flat_core.proofs.Tests.{by_test}
 use Rattle.word_rules.specs.Rules.{Whole, KeepsNothing, GuestWord, writes, owes}
 use Rattle.word_rules.specs.Views.{no_page}
 use Rattle.word_rules.specs.Spots.{spot, slot_of}
 use Rattle.word_rules.specs.Permissions.{MayAt, Reads}
-use Rattle.word_rules.specs.Cells.{Shows, IsAs, cell, page_cell, control_cell, if_stands, lock_word, built_hasher}
+use Rattle.word_rules.specs.Cells.{Shows, IsAs, lock_word, built_hasher}
 use Rattle.lock_words.specs.Grips.{holds, holds_alone}
 use Rattle.lock_words.specs.LockWords.{TdStands}
 use Rattle.act_rules.specs.Acts.{SameSpots}
 use Rattle.act_rules.proofs.Respected.{effects-respect}
 use Rattle.leaf_engine.specs.declared.needs.Place.{Place}
-use Rattle.leaf_engine.specs.Changes.{Hand, Memory, changed_all, changes_where}
+use Rattle.leaf_engine.specs.Changes.{Memory, changed_all, changes_where}
 use Rattle.leaf_engine.specs.Trees.{Tree, acts}
 use Rattle.leaf_engine.specs.Means.{Instant, IsHkid, Means, MeansRow, MayChange, Work, work_of, OfCall, hold}
 use Rattle.leaf_parts.proofs.Aside.{untold}

@@ -1,7 +1,6 @@
 -- The leaf that adds a private page means its row.
 use Rattle.std.proofs.Common.{◌≡◌, ◌≢◌, ℕ, ◌%◌, ◌^◌, ◌<◌, Bool, true, false, not, ◌==◌, nat_lt, List, [], ◌∷◌, ◌++◌, Option, refl, sym, ◌∙◌, subst, inl, arith}
-use Rattle.std.proofs.lemmas.Bool.{eq-eqb, ltb-true, ne_eqb, not-true}
-use Rattle.td_words.specs.declared.names.PageKind.TheVariants as kind
+use Rattle.std.proofs.lemmas.Bool.{eq-eqb, ltb-true, not-true}
 use Rattle.td_words.specs.declared.names.EntryState.TheVariants as entry
 use Rattle.td_words.specs.declared.names.Mode.TheVariants.{Shared, Exclusive}
 use Rattle.td_words.specs.declared.machines.Machine.{Machine}

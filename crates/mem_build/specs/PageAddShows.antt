@@ -1,32 +1,26 @@
 -- Words that show a state show the one with another private page of a TD, once the changes of MEM.PAGE.ADD are made.
-use Rattle.std.proofs.Common.{◌≡◌, ◌⊎◌, ℕ, zero, suc, ◌^◌, ◌<◌, true, false, ◌==◌, if◌then◌else◌, List, [], ◌∷◌, ◌++◌, Option, Some, None, refl, ap, sym, ◌∙◌, subst, inl, inr, arith}
-use Rattle.std.specs.List.{list_any}
-use Rattle.std.proofs.lemmas.Bool.{eq-eqb, eqb-true, ne_eqb}
+use Rattle.std.proofs.Common.{◌≡◌, ◌⊎◌, ℕ, suc, ◌^◌, ◌<◌, true, false, ◌==◌, ◌++◌, Some, refl, ap, sym, ◌∙◌, inl, inr, arith}
+use Rattle.std.proofs.lemmas.Bool.{eq-eqb, ne_eqb}
 use Rattle.mrtd_measure.specs.Records.{page_record}
-use Rattle.td_words.specs.declared.names.PageKind.{PageKind}
 use Rattle.td_words.specs.declared.names.PageKind.TheVariants as kind
-use Rattle.td_words.specs.declared.names.OpState.{OpState}
 use Rattle.td_words.specs.declared.names.OpState.TheVariants as op
 use Rattle.td_words.specs.declared.names.EntryState.TheVariants as entry
 use Rattle.td_words.specs.declared.machines.Machine.{Machine}
-use Rattle.td_words.specs.NameNumber.{op_number}
 use Rattle.td_words.specs.Packing.{Entry, entry_word}
 use Rattle.td_words.specs.Place.{WordPlace, IsIn}
 use Rattle.td_words.specs.Place as place
 use Rattle.flat_core.specs.World.{World}
-use Rattle.flat_core.specs.Processor.{LockId}
 use Rattle.flat_core.specs.Conditions.{is_host, children}
 use Rattle.flat_core.specs.Effects.{set_page, set_entry, take_node}
-use Rattle.flat_core.specs.Lawful.{Lawful, IsNodeOf, key_owner}
+use Rattle.flat_core.specs.Lawful.{Lawful, IsNodeOf}
 use Rattle.flat_core.specs.MemRows.{add_page}
 use Rattle.flat_core.specs.Tree.{number_at}
 use Rattle.flat_core.specs.Event.{State}
-use Rattle.flat_core.proofs.Tests.{by_test, host_kind}
+use Rattle.flat_core.proofs.Tests.{host_kind}
 use Rattle.sept_walk.specs.SecureEpt.{index_at}
-use Rattle.word_rules.specs.Lines.{in_lines}
-use Rattle.word_rules.specs.Cells.{Shows, IsAs, cell, page_cell, entry_cell, root_cell, control_cell, td_lock_lines, tdcs_lines, if_stands, lock_word, built_hasher}
+use Rattle.word_rules.specs.Cells.{Shows, IsAs, page_cell, lock_word, built_hasher}
 use Rattle.lock_words.specs.LockWords.{put_word}
-use Rattle.leaf_engine.specs.Changes.{Hand, Memory, put_page, changed_all}
+use Rattle.leaf_engine.specs.Changes.{Memory, put_page, changed_all}
 use Rattle.leaf_parts.proofs.Begun.{IsTd, TwoControls}
 use Rattle.sept_parts.specs.SeptPages.{HasEntry}
 use Rattle.sept_parts.proofs.SeptPut.{entry-put}

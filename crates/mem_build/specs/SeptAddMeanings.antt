@@ -1,7 +1,7 @@
 -- The leaf that adds a secure EPT page means its row.
-use Rattle.std.proofs.Common.{◌≡◌, ℕ, ◌%◌, ◌^◌, ◌<◌, ◌≤◌, Bool, true, false, not, ◌==◌, ◌&&◌, nat_lt, List, [], ◌∷◌, ◌++◌, refl, sym, ◌∙◌, subst, inl, arith}
+use Rattle.std.proofs.Common.{◌≡◌, ℕ, ◌%◌, ◌^◌, ◌<◌, ◌≤◌, Bool, true, false, not, ◌==◌, ◌&&◌, nat_lt, List, [], ◌∷◌, ◌++◌, refl, sym, subst, inl, arith}
 use Rattle.std.specs.Prelude.{nat_le}
-use Rattle.std.proofs.lemmas.Bool.{eq-eqb, ne_eqb, ltb-true, leb-true, not-true, and_parts}
+use Rattle.std.proofs.lemmas.Bool.{eq-eqb, ltb-true, leb-true, not-true, and_parts}
 use Rattle.td_words.specs.declared.names.EntryState.TheVariants as entry
 use Rattle.td_words.specs.declared.names.PageKind.TheVariants as kind
 use Rattle.td_words.specs.declared.names.Mode.TheVariants.{Shared, Exclusive}
@@ -29,7 +29,7 @@ use Rattle.word_rules.specs.Cells.{Shows}
 use Rattle.word_rules.specs.Guards.{Grip}
 use Rattle.word_rules.specs.Rules.{Whole, KeepsNothing}
 use Rattle.word_rules.specs.Permissions.{Fills}
-use Rattle.lock_words.specs.Grips.{holds, holds_alone}
+use Rattle.lock_words.specs.Grips.{holds_alone}
 use Rattle.lock_words.specs.LockWords.{TdStands}
 use Rattle.act_rules.proofs.Rows.{sept-added}
 use Rattle.leaf_engine.specs.declared.needs.Place.{Place}

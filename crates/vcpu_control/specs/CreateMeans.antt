@@ -1,5 +1,5 @@
 -- Behind the beginning of its row the leaf that creates a virtual processor means the row.
-use Rattle.std.proofs.Common.{◌≡◌, ℕ, ◌+◌, ◌<◌, ◌≤◌, true, false, ◌==◌, ◌&&◌, [], ◌∷◌, length, refl, ap, sym, ◌∙◌, subst, inl, inr, arith}
+use Rattle.std.proofs.Common.{◌≡◌, ℕ, ◌+◌, ◌<◌, ◌≤◌, true, false, ◌==◌, ◌&&◌, [], ◌∷◌, length, refl, ap, ◌∙◌, inl, inr, arith}
 use Rattle.std.specs.Prelude.{nat_lt, not}
 use Rattle.std.proofs.lemmas.Bool.{eq-eqb, ltb-true, lt-ltb, not-true}
 use Rattle.td_words.specs.declared.names.PageKind.TheVariants as kind
@@ -19,11 +19,11 @@ use Rattle.flat_core.specs.Conditions.{is_host, children, vp_limit, vp_room, hos
 use Rattle.flat_core.specs.Lawful.{Lawful, IsPageOf}
 use Rattle.flat_core.specs.VpRows.{create_vp}
 use Rattle.word_rules.specs.Guards.{Grip, Locked, Meets}
-use Rattle.word_rules.specs.Rules.{Class, VcpuWord, Association, Unused, TdcsWord, ChildCount, Whole, KeepsNothing, reads, writes, owes}
+use Rattle.word_rules.specs.Rules.{Class, VcpuWord, Association, Unused, TdcsWord, Whole, KeepsNothing, writes, owes}
 use Rattle.word_rules.specs.Lines.{in_lines}
 use Rattle.word_rules.specs.Spots.{spot, guard_at, or_unused, vp_classes, is_current, is_empty}
-use Rattle.word_rules.specs.Permissions.{Respects, Reads, Owes}
-use Rattle.word_rules.specs.Cells.{Shows, IsAs, td_lock_lines, tdcs_lines, lock_word}
+use Rattle.word_rules.specs.Permissions.{Respects, Owes}
+use Rattle.word_rules.specs.Cells.{Shows}
 use Rattle.act_rules.proofs.Rows.{rows-respect}
 use Rattle.flat_core.proofs.Tests.{by_test}
 use Rattle.leaf_engine.specs.Changes.{Memory, Put, Clear, changed}

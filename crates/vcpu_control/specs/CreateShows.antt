@@ -1,11 +1,10 @@
 -- The words that VP.CREATE leaves show its act.
-use Rattle.std.proofs.Common.{◌≡◌, ℕ, ◌<◌, Bool, true, false, ◌==◌, ◌&&◌, if◌then◌else◌, [], ◌∷◌, length, Option, Some, None, refl}
+use Rattle.std.proofs.Common.{◌≡◌, ℕ, ◌<◌, Bool, true, false, ◌==◌, ◌&&◌, if◌then◌else◌, length, Option, Some, None, refl}
 use Rattle.std.specs.Prelude.{nat_le, nat_lt}
 use Rattle.std.proofs.lemmas.Bool.{eq-eqb}
 use Rattle.td_words.specs.declared.names.PageKind.TheVariants as kind
 use Rattle.td_words.specs.declared.machines.Machine.{Machine}
 use Rattle.td_words.specs.Place.{WordPlace}
-use Rattle.td_words.specs.Place as place
 use Rattle.flat_core.specs.World.{World}
 use Rattle.flat_core.specs.Conditions.{is_host, children}
 use Rattle.flat_core.specs.Effects.{add_vp}
@@ -13,7 +12,7 @@ use Rattle.flat_core.specs.Lawful.{Lawful}
 use Rattle.flat_core.specs.VpRows.{create_vp}
 use Rattle.flat_core.specs.Event.{State}
 use Rattle.flat_core.proofs.Tests.{by_test, host_kind}
-use Rattle.word_rules.specs.Cells.{Shows, IsAs, vp_lines, lock_word}
+use Rattle.word_rules.specs.Cells.{Shows, IsAs, vp_lines}
 use Rattle.word_rules.specs.Lines.{in_lines}
 use Rattle.leaf_parts.specs.Words.{raised}
 use Rattle.leaf_engine.specs.Changes.{Memory, changed_all}

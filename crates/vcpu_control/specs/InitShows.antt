@@ -13,7 +13,7 @@ use Rattle.flat_core.specs.Lawful.{IsAlive, IsPageOf}
 use Rattle.flat_core.specs.Event.{State}
 use Rattle.flat_core.proofs.Tests.{by_test}
 use Rattle.word_rules.specs.Lines.{in_lines}
-use Rattle.word_rules.specs.Cells.{Shows, IsAs, cell, vp_lines}
+use Rattle.word_rules.specs.Cells.{Shows, IsAs, vp_lines}
 use Rattle.leaf_engine.specs.Changes.{Memory, changed_all}
 use Rattle.leaf_parts.proofs.Aside.{aside, back, kept-but, control-kept}
 use Rattle.leaf_parts.proofs.Vps.{vp-shown}

@@ -1,13 +1,10 @@
 -- A host page that is set aside becomes the next of its TD's virtual processors in the TD's list.
-use Rattle.std.proofs.Common.{◌≡◌, ℕ, zero, suc, ◌+◌, ◌-◌, ◌≤◌, ◌<◌, true, false, ◌==◌, if◌then◌else◌, List, [], ◌∷◌, ◌++◌, length, Option, Some, None, refl, ap, sym, ◌∙◌, subst, arith, length-append}
+use Rattle.std.proofs.Common.{◌≡◌, ℕ, zero, suc, ◌+◌, ◌-◌, ◌≤◌, ◌<◌, true, false, ◌==◌, List, [], ◌∷◌, ◌++◌, length, Option, Some, None, refl, ap, sym, ◌∙◌, subst, arith, length-append}
 use Rattle.std.specs.Prelude.{nat_le, slice_get}
 use Rattle.std.proofs.lemmas.Bool.{eq-eqb, eqb-true, leb-true}
 use Rattle.std.proofs.lemmas.Bool.Decides.{nat_tests}
-use Rattle.td_words.specs.declared.names.PageKind.{PageKind}
 use Rattle.td_words.specs.declared.names.PageKind.TheVariants as kind
-use Rattle.td_words.specs.declared.names.LifeState.TheVariants as life
 use Rattle.td_words.specs.declared.machines.Machine.{Machine}
-use Rattle.td_words.specs.NameNumber.{life_number}
 use Rattle.td_words.specs.Place.{WordPlace, IsIn}
 use Rattle.td_words.specs.Place as place
 use Rattle.flat_core.specs.World.{World, put}
@@ -16,7 +13,7 @@ use Rattle.flat_core.specs.Effects.{add_vp}
 use Rattle.flat_core.specs.Lawful.{Lawful, IsAlive, IsPageOf, ArePagesOf}
 use Rattle.flat_core.specs.Event.{State}
 use Rattle.flat_core.proofs.Tests.{by_test}
-use Rattle.word_rules.specs.Cells.{IsAs, cell, page_cell, td_lock_lines, tdcs_lines, lock_word, one_of_parity, entered_of_parity}
+use Rattle.word_rules.specs.Cells.{IsAs, cell, td_lock_lines, tdcs_lines, lock_word, one_of_parity, entered_of_parity}
 use Rattle.word_rules.specs.Lines.{in_lines}
 use Rattle.lock_words.specs.LockWords.{put_word}
 use Rattle.leaf_parts.proofs.Vps.{vp-line}

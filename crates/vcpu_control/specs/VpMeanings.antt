@@ -1,5 +1,5 @@
 -- The leaves that build virtual processors mean their rows.
-use Rattle.std.proofs.Common.{ℕ, ◌<◌, Bool, not, ◌==◌, nat_lt, List, [], ◌∷◌, refl}
+use Rattle.std.proofs.Common.{ℕ, ◌<◌, Bool, not, ◌==◌, nat_lt, List, [], ◌∷◌}
 use Rattle.std.proofs.lemmas.Bool.{ltb-true, not-true}
 use Rattle.td_words.specs.declared.names.PageKind.TheVariants as kind
 use Rattle.td_words.specs.declared.names.OpState.TheVariants as op
