@@ -1,5 +1,5 @@
 -- The leaf of the look at a page's metadata means its row.
-use Rattle.std.proofs.Common.{◌≡◌, ℕ, ◌^◌, ◌<◌, ◌≤◌, Bool, true, false, [], ◌∷◌, refl, inl, arith}
+use Rattle.std.proofs.Common.{◌≡◌, ℕ, ◌^◌, ◌<◌, ◌≤◌, Bool, true, false, [], ◌∷◌, refl, arith}
 use Rattle.std.specs.Prelude.{nat_lt}
 use Rattle.std.proofs.lemmas.Bool.{ltb-true, lt-ltb}
 use Rattle.td_words.specs.declared.names.PageKind.TheVariants as kind
@@ -42,18 +42,22 @@ pamt_lawful m w p few la = by (is_host_in w.pages p) refl
 
 pub rdmd-means : (p : Place) (page : ℕ) → p.machine.pages ≤ 1024 → MeansRow (rdmd_task p page)
 rdmd-means p page few = record {
-  means = λ c at. (refl, λ e. refl, λ a.
-      (let in_page : page < p.machine.pages = ltb-true page p.machine.pages a in
-      let word : c.memory.words (place.Pamt page) ≡ pamt_word (record { kind = c.state.world.pages.kinds page; owner = c.state.world.pages.owners page; epoch = c.state.world.pages.blocked page }) = at.shown.word (place.Pamt page) in_page in
-      let read = packings.pamt (record { kind = c.state.world.pages.kinds page; owner = c.state.world.pages.owners page; epoch = c.state.world.pages.blocked page }) (pamt_lawful p.machine c.state.world page few at.lawful) in
-      page-told p.machine c (work_of (OfCall (read_metadata p.machine page))) [] page Shared in_page (λ pamt. answers (Done (metadata (pamt_in pamt)))) [] (
-        record {
-          answers = record { reply_is = rw (word, read) refl; cached_is = refl; enters_is = refl; notes_are = refl; tells_are = refl; bundles_are = refl };
-          fills_allowed = tt;
-          respects = respects-compose.same (hold c (page_lock page Shared ∷ [])) c.state.world;
-          locks_stay = ((refl, λ x. x), tt);
-          shows = at.shown;
-        },
-        tt,
-      )));
+  means = λ c at. (
+    refl,
+    λ e. refl,
+    λ a.
+        (let in_page : page < p.machine.pages = ltb-true page p.machine.pages a in
+        let word : c.memory.words (place.Pamt page) ≡ pamt_word (record { kind = c.state.world.pages.kinds page; owner = c.state.world.pages.owners page; epoch = c.state.world.pages.blocked page }) = at.shown.word (place.Pamt page) in_page in
+        let read = packings.pamt (record { kind = c.state.world.pages.kinds page; owner = c.state.world.pages.owners page; epoch = c.state.world.pages.blocked page }) (pamt_lawful p.machine c.state.world page few at.lawful) in
+        page-told p.machine c (work_of (OfCall (read_metadata p.machine page))) [] page Shared in_page (λ pamt. answers (Done (metadata (pamt_in pamt)))) [] (
+          record {
+            answers = record { reply_is = rw (word, read) refl; cached_is = refl; enters_is = refl; notes_are = refl; tells_are = refl; bundles_are = refl };
+            fills_allowed = tt;
+            respects = respects-compose.same (hold c (page_lock page Shared ∷ [])) c.state.world;
+            locks_stay = ((refl, λ x. x), tt);
+            shows = at.shown;
+          },
+          tt,
+        )),
+  );
 }
