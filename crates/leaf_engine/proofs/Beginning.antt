@@ -12,6 +12,7 @@ use Rattle.flat_core.specs.Laws.{EveryWorldIsLawful, LocksExclude}
 use Rattle.word_rules.specs.Cells.{Shows, StartIsShown}
 use Rattle.leaf_engine.specs.Decides.{IsHand}
 use Rattle.leaf_engine.specs.Calls.{StartIsMet, no_memory, CallsBegin, IsStage, AreLocks}
+use Rattle.leaf_engine.proofs.Facts.{facts-begin}
 use Rattle.leaf_engine.proofs.Showing.{current-end, granted-end, not-acted-end}
 
 pub calls-begin : CallsBegin
@@ -39,7 +40,6 @@ start-is-met shown lawful locks o task run m lp none = record {
   few_sharers = λ l. (let a : sharers (start o None).lps (start o None).lp_count l ≡ 0 = none-below (length o.calls) in
       let b : refusals (start o None).lps (start o None).lp_count l ≡ 0 = none-below (length o.calls) in omega (arith, a, b));
   nothing_to_tell = refl;
-  tdrs = λ q. ((tt, tt), tt);
-  stand = λ q small. (tt, tt, tt);
+  facts = facts-begin o;
   empty_hand = λ e. refl;
 }

@@ -15,7 +15,7 @@ use Rattle.flat_core.specs.Locks.{same_lock, holders, sharers, refusals, grants 
 use Rattle.flat_core.specs.Opening.{Opening}
 use Rattle.flat_core.specs.Row.{Row, Move, Attempts, next_in}
 use Rattle.flat_core.specs.Event.{State, Event, OfCall, next_event, event_for, line_event, event, after_event, call_world, call_lp, settle, settled, is_granted}
-use Rattle.word_rules.specs.Cells.{Shows, lock_word}
+use Rattle.word_rules.specs.Cells.{lock_word}
 use Rattle.lock_words.specs.Grips.{IsExclusive}
 use Rattle.lock_words.specs.LockWords.{weight_of, IsNext, LockWordsFollow, move_adds}
 use Rattle.step_core.specs.declared.steps.WordStep.TheVariants as step
@@ -32,7 +32,7 @@ use Rattle.leaf_engine.specs.Decides.{IsHand}
 use Rattle.leaf_engine.specs.Tables.{IsMemory}
 use Rattle.leaf_engine.specs.Turns.{Standing, last_reply, grants}
 use Rattle.leaf_engine.specs.Shown.{word_tried}
-use Rattle.leaf_engine.specs.Calls.{IsLockAt, AreLocks, IsStage, IsTold, IsLine, GoesOn, IsOver, After}
+use Rattle.leaf_engine.specs.Calls.{IsLockAt, AreLocks, IsStage, IsTold, IsLine, GoesOn, IsOver}
 use Rattle.leaf_engine.proofs.Changing.{word_put}
 
 -- the flat machine's event

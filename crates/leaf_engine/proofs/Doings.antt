@@ -1,19 +1,24 @@
 -- Each turn of a leaf's run is the next event of its processor, whatever the leaf is of.
 use Rattle.std.proofs.Common.{◌≡◌, ◌⊎◌, ℕ, ◌+◌, ◌-◌, ◌%◌, ◌^◌, ◌<◌, ◌≤◌, Bool, true, false, if◌then◌else◌, List, [], ◌∷◌, ◌++◌, length, Option, Some, None, refl, ap, sym, ◌∙◌, subst, inl, inr, arith}
+use Rattle.std.proofs.lemmas.List.{append-nil}
 use Rattle.td_words.specs.declared.names.LockName.{LockName}
 use Rattle.td_words.specs.declared.names.Mode.{Mode}
 use Rattle.td_words.specs.declared.names.Mode.TheVariants.{Shared, Exclusive}
 use Rattle.td_words.specs.declared.machines.Machine.{Machine}
+use Rattle.td_words.specs.declared.names.Access.{Access}
 use Rattle.td_words.specs.declared.replies.Reply.{Reply}
+use Rattle.td_words.specs.declared.replies.Reply.TheVariants.{Done}
 use Rattle.td_words.specs.Place.{WordPlace, address}
 use Rattle.td_words.specs.Laws.{PlacesInjective}
 use Rattle.mrtd_measure.specs.declared.measures.Measure.{Measure}
-use Rattle.flat_core.specs.World.{World}
-use Rattle.flat_core.specs.Processor.{LockId, name_of, Held, Phase, Trying, Undoing, Answered, Progress, nothing_yet, Lp}
-use Rattle.flat_core.specs.Locks.{same_lock, grants as lock_grants}
+use Rattle.flat_core.specs.World.{World, Made}
+use Rattle.flat_core.specs.Processor.{LockId, name_of, Held, Phase, Trying, Undoing, Answered, Progress, nothing_yet, Translation, Guest, Entering, Lp}
+use Rattle.flat_core.specs.Locks.{grants as lock_grants}
 use Rattle.flat_core.specs.Opening.{Opening}
-use Rattle.flat_core.specs.Row.{Item, Row, Move, Attempts, Undoes, Refuses, Succeeds, Releases, Rests, next, next_in, after_try, but_newest}
-use Rattle.flat_core.specs.Event.{State, Event, OfCall, next_event, event, after_event, world_after, lp_after, call_busy, is_granted}
+use Rattle.flat_core.specs.Row.{Row, OperationRow, Move, Attempts, Undoes, Refuses, Succeeds, Releases, Rests, next, next_in, after_try, after_move, but_newest}
+use Rattle.flat_core.specs.Event.{State, Event, OfCall, OfOperation, Walks, Reaches, Leaves, event, after_event, world_after, lp_after, call_lp, call_busy, succeeded, settle, settled, walk_translations, is_granted}
+use Rattle.flat_core.specs.Tree.{entry_at}
+use Rattle.flat_core.specs.Guest.{reach_notes, walk_level}
 use Rattle.flat_core.specs.Laws.{IsQuiet}
 use Rattle.word_rules.specs.Cells.{Shows, IsAs, cell_in, lock_word}
 use Rattle.lock_words.specs.LockWords.{place_of, Stands, LockWordsFollow, LockStepsShown, lock_of, IsNext, adds, takes_off, move_adds, move_takes_off, weight_of as lock_weight}
@@ -23,23 +28,23 @@ use Rattle.step_core.specs.declared.items.Taken.{Taken}
 use Rattle.step_core.specs.Laws.{PagesChangeAlone}
 use Rattle.leaf_engine.specs.declared.events.Event.{Event as RunEvent}
 use Rattle.leaf_engine.specs.declared.events.Event.TheVariants as events
-use Rattle.leaf_engine.specs.declared.events.RunTurn.{RunTurn}
 use Rattle.leaf_engine.specs.declared.events.HeldLock.{HeldLock}
 use Rattle.leaf_engine.specs.declared.events.Stage.{Stage}
 use Rattle.leaf_engine.specs.declared.events.Stage.TheVariants as stages
 use Rattle.leaf_engine.specs.Changes.{Memory}
-use Rattle.leaf_engine.specs.Trees.{Answer, only, answer_of}
+use Rattle.leaf_engine.specs.Trees.{Answer, Tree, answer_of, added}
+use Rattle.leaf_engine.specs.Besides.{Beside, beside_of, answered_by, beside_after, bundles_made}
 use Rattle.lock_words.specs.LockWords.{put_word}
 use Rattle.leaf_engine.specs.Means as meaning
-use Rattle.leaf_engine.specs.Means.{Task, Meaning, Instant, IsAt, work_of, hold, MeansRow, LocksStay}
+use Rattle.leaf_engine.specs.Means.{Task, Meaning, Work, Instant, IsAt, work_of, cached_by, hold, IsMaker, AnswersAs, MeansRow, LocksStay}
 use Rattle.leaf_engine.specs.Tables.{IsMemory}
-use Rattle.leaf_engine.specs.Turns.{Standing, TurnBy, TakesBack, GivesBack, busy, last_reply, has_ended, grants, denied}
+use Rattle.leaf_engine.specs.Turns.{Standing, TurnBy, TakesBack, GivesBack, busy, has_ended, grants, denied}
 use Rattle.leaf_engine.specs.Shown.{OnWay, move_due, locks_held, word_tried, TriesRow, EndsBy, EndsRow, TurnShows}
 use Rattle.leaf_engine.specs.Calls.{IsLockAt, AreLocks, IsStage, IsTold, IsShown}
-use Rattle.leaf_engine.specs.Doing.{event_of, out_move, HasMoves, work_world, IsDoing, LeafAt, IsNoAct, LeafAfter, LeavesFollow}
+use Rattle.leaf_engine.specs.Doing.{event_of, row_then, out_move, HasMoves, work_world, IsDoing, LeafAt, IsNoAct, ActsBy, HasCome, LeafAfter, LeavesFollow}
 use Rattle.leaf_engine.proofs.Showing.{turns-show}
 use Rattle.leaf_engine.proofs.Untouched.{still-current}
-use Rattle.leaf_engine.proofs.Calling.{same-itself, word-small, grants-same, tried-value, freed-value, weight-small, freed-memory, snoc, locks-after}
+use Rattle.leaf_engine.proofs.Calling.{lp-now, same-itself, word-small, grants-same, tried-value, freed-value, weight-small, freed-memory, snoc, locks-after}
 
 -- the laws that it rests on
 pub record Laws : Type 0 where
@@ -163,6 +168,124 @@ has-moves : (k : Meaning) (x : Progress Reply) → HasMoves k ⊎ (x ≡ nothing
 has-moves k x (inl h) n = h
 has-moves k x (inr e) n = absurd (n (ap (λ (y : Progress Reply). y.phase) e))
 
+-- what an event makes of what its processor has besides
+
+pub no-act : (e : RunEvent) (t : Tree) (b : Beside) → IsNoAct e → (beside_after e t b ≡ b) × (bundles_made e t ≡ [])
+no-act events.Act t b n = absurd n
+no-act (events.Try name mode granted) t b n = (refl, refl)
+no-act (events.Undo name) t b n = (refl, refl)
+no-act (events.Free name) t b n = (refl, refl)
+no-act (events.Walk level) t b n = (refl, refl)
+no-act (events.Word at) t b n = (refl, refl)
+no-act (events.Count parity) t b n = (refl, refl)
+
+pub settle-beside : (ph : Phase Reply) (hs : List Held) (lp : Lp) (bs : List Made) → beside_of (settle ph hs lp) bs ≡ beside_of lp bs
+settle-beside (Answered r) [] lp bs = refl
+settle-beside (Answered r) (h ∷ hs) lp bs = refl
+settle-beside Trying hs lp bs = refl
+settle-beside (Undoing l) hs lp bs = refl
+
+-- what an event of a leaf makes of what its processor caches, has noted and told
+
+not-acted : (mv : Move Reply) (e : RunEvent) (t : Tree) (k : Work) (w : World) (b : Beside) → (mv ≡ Succeeds → ⊥) → ActsBy mv e k w (answer_of t) → beside_after e t b ≡ b
+not-acted (Attempts l m) e t k w b n a = (no-act e t b a).0
+not-acted (Undoes l) e t k w b n a = (no-act e t b a).0
+not-acted (Refuses r) e t k w b n a = ap (λ (z : RunEvent). beside_after z t b) a.0 ∙ ap (λ (z : Answer). answered_by z b) a.1
+not-acted Succeeds e t k w b n a = absurd (n refl)
+not-acted (Releases h) e t k w b n a = (no-act e t b a).0
+not-acted Rests e t k w b n a = (no-act e t b a).0
+
+abbrev HasSame : Lp → Lp → Type 0
+HasSame lp lp' = (lp'.cached ≡ lp.cached) × (lp'.notes ≡ lp.notes) × (lp'.told ≡ lp.told)
+
+settled-same : (lp : Lp) (x : Progress Reply) → HasSame lp (settled (record lp { call = x }))
+settled-same lp x =
+    let b = settle-beside x.phase x.held (record lp { call = x }) [] in
+    (ap (λ (z : Beside). z.cached) b, ap (λ (z : Beside). z.notes) b, ap (λ (z : Beside). z.told) b)
+
+call-same : (w : World) (granted : Bool) (row : Row) (mv : Move Reply) (lp : Lp) → (mv ≡ Succeeds → ⊥) → HasSame lp (settled (call_lp w granted row mv lp))
+call-same w granted row (Attempts l m) lp n = settled-same lp (after_move call_busy granted (Done (row.value w)) (Attempts l m) lp.call)
+call-same w granted row (Undoes l) lp n = settled-same lp (after_move call_busy granted (Done (row.value w)) (Undoes l) lp.call)
+call-same w granted row (Refuses r) lp n = settled-same lp (after_move call_busy granted (Done (row.value w)) (Refuses r) lp.call)
+call-same w granted row Succeeds lp n = absurd (n refl)
+call-same w granted row (Releases h) lp n = settled-same lp (after_move call_busy granted (Done (row.value w)) (Releases h) lp.call)
+call-same w granted row Rests lp n = settled-same lp (after_move call_busy granted (Done (row.value w)) Rests lp.call)
+
+operation-same : (w : World) (granted : Bool) (row : OperationRow) (mv : Move Reply) (lp : Lp) → (mv ≡ Succeeds → ⊥) → HasSame lp (lp_after w granted (OfOperation (row_then row mv) (out_move mv)) lp)
+operation-same w granted row (Attempts l m) lp n = (refl, append-nil lp.notes, append-nil lp.told)
+operation-same w granted row (Undoes l) lp n = (refl, append-nil lp.notes, append-nil lp.told)
+operation-same w granted row (Refuses r) lp n = (refl, append-nil lp.notes, append-nil lp.told)
+operation-same w granted row Succeeds lp n = absurd (n refl)
+operation-same w granted row (Releases h) lp n = (refl, append-nil lp.notes, append-nil lp.told)
+operation-same w granted row Rests lp n = (refl, append-nil lp.notes, append-nil lp.told)
+
+event-same : (k : Meaning) → HasMoves k → (w : World) (granted : Bool) (mv : Move Reply) (lp : Lp) → (mv ≡ Succeeds → ⊥) → HasSame lp (lp_after w granted (event_of k mv) lp)
+event-same (meaning.OfCall row) h w granted mv lp n = call-same w granted row mv lp n
+event-same (meaning.OfOperation t v row) h w granted mv lp n = operation-same w granted row mv lp n
+event-same (meaning.OfAccess t v line access r gpa page) h w granted mv lp n = absurd h
+event-same (meaning.OfWalk t v access gpa level page) h w granted mv lp n = absurd h
+event-same (meaning.OfExit t v out) h w granted mv lp n = absurd h
+
+quiet-comes : (k : Meaning) → HasMoves k → (w : World) (granted : Bool) (mv : Move Reply) (lp : Lp) (e : RunEvent) (t : Tree) → (mv ≡ Succeeds → ⊥) → ActsBy mv e (work_of k) w (answer_of t)
+    → HasCome e t lp (lp_after w granted (event_of k mv) lp)
+quiet-comes k h w granted mv lp e t n a =
+    let same = event-same k h w granted mv lp n in
+    let b = sym (not-acted mv e t (work_of k) w (beside_of lp []) n a) in
+    record {
+      cached = same.0 ∙ ap (λ (z : Beside). z.cached) b;
+      notes = same.1 ∙ ap (λ (z : Beside). z.notes) b;
+      told = same.2 ∙ ap (λ (z : Beside). z.told) b;
+    }
+
+added-is : {A : Type 0} (xs ys : List A) → xs ++ ys ≡ added xs ys
+added-is xs [] = append-nil xs
+added-is xs (y ∷ ys) = refl
+
+-- the act: an event that makes of it what the work says
+came : (k : Work) (w : World) (lp lp' : Lp) (e : RunEvent) (t : Tree) → (e ≡ events.Act) × AnswersAs k w (answer_of t) → lp'.cached ≡ k.cached w lp.cached → lp'.notes ≡ lp.notes ++ k.notes w → lp'.told ≡ lp.told ++ k.tells w → HasCome e t lp lp'
+came k w lp lp' e t a cached notes told =
+    let b = sym (ap (λ (z : RunEvent). beside_after z t (beside_of lp [])) a.0) in
+    record {
+      cached = cached ∙ (ap (λ (f : List Translation → List Translation). f lp.cached) (sym a.1.cached_is) ∙ ap (λ (z : Beside). z.cached) b);
+      notes = notes ∙ (added-is lp.notes (k.notes w) ∙ (ap (added lp.notes) (sym a.1.notes_are) ∙ ap (λ (z : Beside). z.notes) b));
+      told = told ∙ (added-is lp.told (k.tells w) ∙ (ap (added lp.told) (sym a.1.tells_are) ∙ ap (λ (z : Beside). z.told) b));
+    }
+
+succeeded-same : (w : World) (row : Row) (en : Option Entering) (lp : Lp) → let x = succeeded w row en lp in (x.cached ≡ row.cached w lp.cached) × (x.notes ≡ lp.notes) × (x.told ≡ lp.told)
+succeeded-same w row None lp = (refl, refl, refl)
+succeeded-same w row (Some en) lp = (refl, refl, refl)
+
+-- a walk caches what its leaf says
+walk-caches : (w : World) (access : Access) (gpa level t : ℕ) (g : Guest) (gs : Option Guest) (cs : List Translation) → gs ≡ Some g → g.tdr ≡ t → walk_level g.walk ≡ level
+    → walk_translations w access gpa gs cs ≡ cached_by access level gpa t (entry_at w t level gpa) cs
+walk-caches w access gpa level t g gs cs is td at =
+    ap (λ (z : Option Guest). walk_translations w access gpa z cs) is
+    ∙ (ap (λ (z : ℕ). cached_by access (walk_level g.walk) gpa z (entry_at w z (walk_level g.walk) gpa) cs) td ∙ ap (λ (z : ℕ). cached_by access z gpa t (entry_at w t z gpa) cs) at)
+
+act-comes : (k : Meaning) (c : Instant) (granted : Bool) (e : RunEvent) (t : Tree) → IsMaker k c → ActsBy Succeeds e (work_of k) c.state.world (answer_of t)
+    → HasCome e t (c.state.lps c.me) (lp_after c.state.world granted (event_of k Succeeds) (c.state.lps c.me))
+act-comes (meaning.OfCall row) c granted e t mk a =
+    let lp : Lp = c.state.lps c.me in
+    let w : World = c.state.world in
+    let x : Lp = succeeded w row row.enters lp in
+    let b = settle-beside x.call.phase x.call.held x [] in
+    let same = succeeded-same w row row.enters lp in
+    came (work_of (meaning.OfCall row)) w lp (settled x) e t a (ap (λ (z : Beside). z.cached) b ∙ same.0)
+    (ap (λ (z : Beside). z.notes) b ∙ (same.1 ∙ sym (append-nil lp.notes))) (ap (λ (z : Beside). z.told) b ∙ (same.2 ∙ sym (append-nil lp.told)))
+act-comes (meaning.OfOperation tdr v row) c granted e t mk a =
+    came (work_of (meaning.OfOperation tdr v row)) c.state.world (c.state.lps c.me) (lp_after c.state.world granted (OfOperation row Succeeds) (c.state.lps c.me)) e t a refl refl refl
+act-comes (meaning.OfAccess tdr v line access r gpa page) c granted e t mk a =
+    let lp : Lp = c.state.lps c.me in
+    came (work_of (meaning.OfAccess tdr v line access r gpa page)) c.state.world lp (lp_after c.state.world granted (Reaches tdr v access r gpa page) lp) e t a refl
+    (ap (λ (z : ℕ). lp.notes ++ reach_notes c.state.world access z gpa page) (sym mk.2)) (sym (append-nil lp.told))
+act-comes (meaning.OfWalk tdr v access gpa level page) c granted e t mk a =
+    let lp : Lp = c.state.lps c.me in
+    came (work_of (meaning.OfWalk tdr v access gpa level page)) c.state.world lp (lp_after c.state.world granted (Walks access gpa) lp) e t a
+    (walk-caches c.state.world access gpa level tdr mk.0 lp.guest lp.cached mk.1.guest mk.1.td mk.2) (sym (append-nil lp.notes)) (sym (append-nil lp.told))
+act-comes (meaning.OfExit tdr v out) c granted e t mk a =
+    let lp : Lp = c.state.lps c.me in
+    came (work_of (meaning.OfExit tdr v out)) c.state.world lp (lp_after c.state.world granted (Leaves v out) lp) e t a refl (sym (append-nil lp.notes)) (sym (append-nil lp.told))
+
 freed-weight : (m : Mode) → step_weight m ≡ lock_weight m
 freed-weight Shared = refl
 freed-weight Exclusive = refl
@@ -212,7 +335,7 @@ module _ (ls : Laws) (o : Opening) (task : Task) (s : State) (mem : Memory) (kep
 
   at-instant : run.stage ≡ stages.Trying → IsAt task c
   at-instant st = record {
-    processor = refl; lawful = sh.lawful; shown = sh.shown; empty_hand = sh.empty_hand st; nothing_to_tell = sh.nothing_to_tell; tdrs = sh.tdrs; stand = sh.stand; maker = doing.maker;
+    processor = refl; lawful = sh.lawful; shown = sh.shown; empty_hand = sh.empty_hand st; nothing_to_tell = sh.nothing_to_tell; facts = sh.facts; maker = doing.maker;
   }
 
   -- the move that is due
@@ -220,6 +343,16 @@ module _ (ls : Laws) (o : Opening) (task : Task) (s : State) (mem : Memory) (kep
   due-is st mv e =
       ap (λ (y : Phase Reply). next_in ((work_of k).items w) y x.held) (trying-phase m w run.stage x.phase at.stage st)
       ∙ (ap (λ (hs : List Held). next ((work_of k).items w) (length hs)) (sym (at.told st).locks) ∙ e)
+
+  -- what its processor then has besides
+  come-at : (mv : Move Reply) (e : RunEvent) (t : Tree) → IsNext o s me (event_of k mv) → HasCome e t (s.lps me) (lp_after w (is_granted s (event_of k mv)) (event_of k mv) (s.lps me)) → HasCome e t (s.lps me) (s'.lps me)
+  come-at mv e t n h =
+      let z : State = after_event me s (Some (event_of k mv)) in
+      let same : s' ≡ z = ap (λ (y : Option Event). after_event me s y) n.next in
+      subst (λ (y : State). HasCome e t (s.lps me) (y.lps me)) (sym same) (subst (λ (y : Lp). HasCome e t (s.lps me) y) (sym (lp-now s me (lp_after w (is_granted s (event_of k mv)) (event_of k mv) (s.lps me)))) h)
+
+  comes-quiet : (mv : Move Reply) (e : RunEvent) (t : Tree) → HasMoves k → IsNext o s me (event_of k mv) → (mv ≡ Succeeds → ⊥) → ActsBy mv e (work_of k) w (answer_of t) → HasCome e t (s.lps me) (s'.lps me)
+  comes-quiet mv e t moves n not a = come-at mv e t n (quiet-comes k moves w (is_granted s (event_of k mv)) mv (s.lps me) e t not a)
 
   -- the undo
   undoes : (u : Table) (run' : Standing) (xs : List Taken) (e : RunEvent) (name : LockName) (addr : ℕ) (l : LockId) → x.phase ≡ Undoing l → IsLockAt m w name addr l → TakesBack run name addr xs run' e → PlaysTo t xs u
@@ -246,6 +379,7 @@ module _ (ls : Laws) (o : Opening) (task : Task) (s : State) (mem : Memory) (kep
         shown = step-shown (Undoes l) l v n (quiet-of k moves (Undoes l) (λ y. cc)) (lock-undone k moves l) it.stands value;
         memory = subst (λ (h : Option Measure). IsMemory m u h mem') (sym (ap (λ (z : Standing). z.hasher) tb.after)) made;
         acts = subst (λ (z : RunEvent). IsNoAct z) (sym tb.event) tt;
+        comes = comes-quiet (Undoes l) e run'.rest moves n (λ y. cc) (subst (λ (z : RunEvent). IsNoAct z) (sym tb.event) tt);
         at = record {
           stage = subst (λ (z : Stage). IsStage m w z (Answered (call_busy (name_of l)))) (sym stage) refl;
           held = subst (λ (z : List HeldLock). AreLocks m w z x.held) (sym held) at.held;
@@ -285,6 +419,7 @@ module _ (ls : Laws) (o : Opening) (task : Task) (s : State) (mem : Memory) (kep
         shown = step-shown (Releases h) l v n (quiet-of k moves (Releases h) (λ y. cc)) (lock-freed k moves h) it.stands value;
         memory = subst (λ (z : Option Measure). IsMemory m u z mem') (sym (ap (λ (z : Standing). z.hasher) same)) made;
         acts = subst (λ (z : RunEvent). IsNoAct z) (sym gb.event) tt;
+        comes = comes-quiet (Releases h) e run'.rest moves n (λ y. cc) (subst (λ (z : RunEvent). IsNoAct z) (sym gb.event) tt);
         at = record {
           stage = subst (λ (z : Stage). IsStage m w z x.phase) (sym stage) (subst (λ (z : Phase Reply). IsStage m w (stages.Answered r) z) (sym ph) refl);
           held = subst (λ (z : List Held). AreLocks m w run'.held (but_newest z)) (sym he) (subst (λ (z : List HeldLock). AreLocks m w z hs) split.0 are.1.4);
@@ -335,6 +470,7 @@ module _ (ls : Laws) (o : Opening) (task : Task) (s : State) (mem : Memory) (kep
         shown = step-shown (Attempts l mode) l v n (quiet-of k moves (Attempts l mode) (λ y. cc)) (lock-tried k moves l mode) tr.stands.stands value;
         memory = tr.memory;
         acts = tt;
+        comes = comes-quiet (Attempts l mode) (events.Try name mode b) run'.rest moves n (λ y. cc) tt;
         at = now;
         empty_hand = λ z. sh.empty_hand st;
       }
@@ -393,6 +529,7 @@ module _ (ls : Laws) (o : Opening) (task : Task) (s : State) (mem : Memory) (kep
             shown = ls.steps.quiet m mem.words mem.slots o s me (event_of k (Refuses er.reply)) sh.shown n (quiet-of k moves (Refuses er.reply) (λ z. cc)) (lock-refused k moves er.reply);
             memory = subst (λ (z : Memory). IsMemory m u run'.hasher z) y.2 er.memory;
             acts = (refl, y.1);
+            comes = comes-quiet (Refuses er.reply) events.Act run'.rest moves n (λ z. cc) (refl, y.1);
             at = record {
               stage = subst (λ (z : Stage). IsStage m w z (Answered er.reply)) (sym er.answered) refl;
               held = subst (λ (z : List HeldLock). AreLocks m w z x.held) (sym er.held_is) at.held;
@@ -408,6 +545,7 @@ module _ (ls : Laws) (o : Opening) (task : Task) (s : State) (mem : Memory) (kep
             shown = act-shown er.after n y.3;
             memory = er.memory;
             acts = (refl, y.2);
+            comes = come-at Succeeds events.Act run'.rest n (act-comes k c (is_granted s (event_of k Succeeds)) events.Act run'.rest doing.maker (refl, y.2));
             at = record {
               stage = subst (λ (z : Stage). IsStage m ((work_of k).act w) z (Answered (answer_of run'.rest).reply)) (sym er.answered) (sym y.1);
               held = subst (λ (z : List HeldLock). AreLocks m ((work_of k).act w) z x.held) (sym er.held_is) (locks-after m w ((work_of k).act w) x.held run.held stay at.held);

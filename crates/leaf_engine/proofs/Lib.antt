@@ -12,3 +12,4 @@ pub mod Beginning
 pub mod OnTheWay
 pub mod Pieces
 pub mod Doings
+pub mod Facts

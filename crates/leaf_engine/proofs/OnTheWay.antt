@@ -8,7 +8,7 @@ use Rattle.flat_core.specs.Run.{play}
 use Rattle.flat_core.specs.Laws.{EveryWorldIsLawful, LocksExclude, NoWordsToTell}
 use Rattle.flat_core.proofs.Induction.{counts_stay}
 use Rattle.lock_words.specs.LockWords.{RunsFollow}
-use Rattle.lock_words.specs.Reached.{EveryTdrIsHeld, EveryLockStands}
+use Rattle.leaf_engine.specs.Facts.{FactsStand}
 use Rattle.leaf_engine.specs.Reached.{ReachedIsMet}
 
 -- there are no words to tell, as at the start
@@ -21,8 +21,7 @@ pub record Laws : Type 0 where
   pub exclude : LocksExclude
   pub tell : NoWordsToTell
   pub runs : RunsFollow
-  pub tdrs : EveryTdrIsHeld
-  pub stand : EveryLockStands
+  pub facts : FactsStand
 
 pub reached-is-met : Laws → ReachedIsMet
 reached-is-met ls o schedule task mem t run m lp eight shows memory empty = record {
@@ -33,7 +32,6 @@ reached-is-met ls o schedule task mem t run m lp eight shows memory empty = reco
   exclusive = λ l. ls.exclude o None schedule l;
   few_sharers = λ l. ls.runs.few o None schedule l eight;
   nothing_to_tell = none-to-tell ls.tell o schedule (start o None) refl;
-  tdrs = ls.tdrs o None schedule;
-  stand = ls.stand o None schedule;
+  facts = ls.facts o schedule;
   empty_hand = empty;
 }

@@ -1,17 +1,15 @@
 -- Each turn of a call's run is the next event of its processor, as each leaf's is, and makes of its processor what the leaf
 -- answers.
-use Rattle.std.proofs.Common.{◌≡◌, ◌⊎◌, ℕ, Bool, false, List, [], ◌∷◌, length, Option, Some, None, refl, ap, sym, ◌∙◌, subst, inl, inr}
+use Rattle.std.proofs.Common.{◌≡◌, ◌⊎◌, ℕ, Bool, List, [], ◌∷◌, length, Option, Some, None, refl, ap, sym, ◌∙◌, subst, inl, inr}
 use Rattle.td_words.specs.declared.machines.Machine.{Machine}
 use Rattle.td_words.specs.declared.replies.Reply.{Reply}
 use Rattle.td_words.specs.declared.replies.Reply.TheVariants.{Done}
-use Rattle.td_words.specs.Place.{WordPlace}
 use Rattle.flat_core.specs.World.{World, Made}
 use Rattle.flat_core.specs.Processor.{Held, Phase, Trying, Undoing, Answered, Progress, Entering, Lp}
 use Rattle.flat_core.specs.Opening.{Opening}
 use Rattle.flat_core.specs.Row.{Item, Row, Move, Attempts, Undoes, Refuses, Succeeds, Releases, Rests, next, next_in, after_move}
 use Rattle.flat_core.specs.Event.{State, OfCall, next_event, event, call_busy, call_world, call_lp, succeeded, settle, settled, is_granted}
-use Rattle.step_core.specs.Items.{Table, PlaysTo}
-use Rattle.step_core.specs.declared.items.Taken.{Taken}
+use Rattle.step_core.specs.Items.{Table}
 use Rattle.leaf_engine.specs.declared.needs.Place.{Place}
 use Rattle.leaf_engine.specs.declared.events.Event.{Event as RunEvent}
 use Rattle.leaf_engine.specs.declared.events.Event.TheVariants as events
@@ -22,12 +20,12 @@ use Rattle.leaf_engine.specs.Changes.{Memory}
 use Rattle.leaf_engine.specs.Trees.{Answer, Tree, answer_of, added}
 use Rattle.leaf_engine.specs.Besides.{Beside, beside_of, entered, answered_by, beside_after, bundles_made}
 use Rattle.leaf_engine.specs.Means.{Task, Meaning, OfCall as CallOf, Instant, IsAt, work_of, AnswersAs, MeansRow}
-use Rattle.leaf_engine.specs.Turns.{Standing, IsTurn, has_ended, last_reply}
+use Rattle.leaf_engine.specs.Turns.{Standing, last_reply}
 use Rattle.leaf_engine.specs.Shown.{move_due, locks_held, EndsRow}
 use Rattle.leaf_engine.specs.Doing.{IsDoing, LeafAt, IsNoAct, ActsBy, LeafAfter, work_world}
-use Rattle.leaf_engine.specs.Calls.{IsStage, IsLine, IsCallAt, IsShown, GoesOn, IsOver, HasEntered, Then, After, CallsFollow}
+use Rattle.leaf_engine.specs.Calls.{IsStage, IsLine, IsCallAt, IsShown, GoesOn, IsOver, Then, After, CallsFollow}
 use Rattle.leaf_engine.proofs.Calling.{next-is, stepped, event-is, lp-now, is-next, settles}
-use Rattle.leaf_engine.proofs.Doings.{Laws, ends as leaf-ends, follows as leaf-follows}
+use Rattle.leaf_engine.proofs.Doings.{Laws, no-act, settle-beside, ends as leaf-ends, follows as leaf-follows}
 
 -- on its way
 
@@ -47,8 +45,7 @@ at-instant o task row s mem t run mean sh ca st = record {
   shown = sh.shown;
   empty_hand = sh.empty_hand st;
   nothing_to_tell = sh.nothing_to_tell;
-  tdrs = sh.tdrs;
-  stand = sh.stand;
+  facts = sh.facts;
   maker = subst (λ (x : Meaning). Rattle.leaf_engine.specs.Means.IsMaker x (instant task s mem)) (sym mean) (ca.guest, refl);
 }
 
@@ -63,24 +60,9 @@ due-is o task row s mem run mv mean ca st due =
     next-is o s task.place.lp row Trying lp.call.held ca.line ca.guest (trying-phase task.place.machine s.world run.stage lp.call.phase ca.stage st) refl
     ∙ ap (λ (x : Move Reply). Some (OfCall row x)) (same ∙ due)
 
--- what an event makes of what its processor has besides
+-- what a call's event makes of what its processor has besides
 
-no-act : (e : RunEvent) (t : Tree) (b : Beside) → IsNoAct e → (beside_after e t b ≡ b) × (bundles_made e t ≡ [])
-no-act events.Act t b n = absurd n
-no-act (events.Try name mode granted) t b n = (refl, refl)
-no-act (events.Undo name) t b n = (refl, refl)
-no-act (events.Free name) t b n = (refl, refl)
-no-act (events.Walk level) t b n = (refl, refl)
-no-act (events.Word at) t b n = (refl, refl)
-no-act (events.Count parity) t b n = (refl, refl)
-
-settle-beside : (ph : Phase Reply) (hs : List Held) (lp : Lp) (bs : List Made) → beside_of (settle ph hs lp) bs ≡ beside_of lp bs
-settle-beside (Answered r) [] lp bs = refl
-settle-beside (Answered r) (h ∷ hs) lp bs = refl
-settle-beside Trying hs lp bs = refl
-settle-beside (Undoing l) hs lp bs = refl
-
-succeeded-beside : (w : World) (row : Row) (en : Option Entering) (lp : Lp) (bs : List Made)
+pub succeeded-beside : (w : World) (row : Row) (en : Option Entering) (lp : Lp) (bs : List Made)
     → beside_of (succeeded w row en lp) bs ≡ record { guest = entered en lp.guest; cached = row.cached w lp.cached; notes = lp.notes; told = lp.told; bundles = bs }
 succeeded-beside w row None lp bs = refl
 succeeded-beside w row (Some e) lp bs = refl

@@ -15,14 +15,15 @@ use Rattle.flat_core.specs.Lawful.{Lawful}
 use Rattle.flat_core.specs.Event.{State, start, lines_left, event}
 use Rattle.flat_core.specs.Laws.{IsBetween}
 use Rattle.word_rules.specs.Cells.{Shows}
-use Rattle.lock_words.specs.Grips.{IsExclusive, TdrsAreHeld}
-use Rattle.lock_words.specs.LockWords.{place_of, Stands, LocksStand}
+use Rattle.lock_words.specs.Grips.{IsExclusive}
+use Rattle.lock_words.specs.LockWords.{place_of, Stands}
 use Rattle.step_core.specs.Items.{Table, PlaysTo}
 use Rattle.step_core.specs.declared.items.Taken.{Taken}
 use Rattle.leaf_engine.specs.declared.events.RunTurn.{RunTurn}
 use Rattle.leaf_engine.specs.declared.events.HeldLock.{HeldLock}
 use Rattle.leaf_engine.specs.declared.events.Stage.{Stage}
 use Rattle.leaf_engine.specs.declared.events.Stage.TheVariants as stages
+use Rattle.leaf_engine.specs.Facts.{Facts}
 use Rattle.leaf_engine.specs.Changes.{Memory}
 use Rattle.leaf_engine.specs.Trees.{added, feed, settle}
 use Rattle.leaf_engine.specs.Besides.{beside_of, beside_after, bundles_made}
@@ -82,8 +83,7 @@ pub record IsShown (task : Task) (s : State) (mem : Memory) (t : Table) (run : S
   pub exclusive : IsExclusive s
   pub few_sharers : (l : LockId) → sharers s.lps s.lp_count l + refusals s.lps s.lp_count l + 1 < 2 ^ 63
   pub nothing_to_tell : s.world.outgoing.to_tell ≡ None
-  pub tdrs : TdrsAreHeld s
-  pub stand : LocksStand s
+  pub facts : Facts s
   pub empty_hand : run.stage ≡ stages.Trying → mem.hand ≡ None
 
 -- it goes on, or its call is over, with its reply

@@ -8,7 +8,7 @@ use Rattle.td_words.specs.declared.replies.Reply.{Reply}
 use Rattle.td_words.specs.declared.replies.Reply.TheVariants.{Done, Refused, Exited}
 use Rattle.td_words.specs.Place.{WordPlace}
 use Rattle.flat_core.specs.World.{World}
-use Rattle.flat_core.specs.Processor.{Held, Phase, Trying, Undoing, Answered, Progress, nothing_yet}
+use Rattle.flat_core.specs.Processor.{Held, Trying, Progress, nothing_yet, Lp}
 use Rattle.flat_core.specs.Opening.{Opening}
 use Rattle.flat_core.specs.Row.{OperationRow, Move, Attempts, Undoes, Refuses, Succeeds, Releases, Rests, next_in, after_move}
 use Rattle.flat_core.specs.Event.{State, Event, OfCall, OfOperation, Walks, Reaches, Leaves, event, call_busy, is_granted, nothing_more}
@@ -21,11 +21,12 @@ use Rattle.leaf_engine.specs.declared.events.Event.TheVariants as events
 use Rattle.leaf_engine.specs.declared.events.RunTurn.{RunTurn}
 use Rattle.leaf_engine.specs.declared.events.Stage.TheVariants as stages
 use Rattle.leaf_engine.specs.Changes.{Memory}
-use Rattle.leaf_engine.specs.Trees.{Answer, only, answer_of}
+use Rattle.leaf_engine.specs.Trees.{Answer, only, Tree, answer_of}
+use Rattle.leaf_engine.specs.Besides.{beside_of, beside_after}
 use Rattle.leaf_engine.specs.Means as meaning
-use Rattle.leaf_engine.specs.Means.{Task, Meaning, Work, Instant, work_of, IsMaker, AnswersAs, MeansRow}
+use Rattle.leaf_engine.specs.Means.{Task, Meaning, Work, work_of, IsMaker, AnswersAs, MeansRow}
 use Rattle.leaf_engine.specs.Tables.{IsMemory}
-use Rattle.leaf_engine.specs.Turns.{Standing, IsTurn, has_ended, last_reply}
+use Rattle.leaf_engine.specs.Turns.{Standing, IsTurn, has_ended}
 use Rattle.leaf_engine.specs.Calls.{AreLocks, IsStage, IsTold, IsShown}
 
 -- what a leaf of a guest answers, as the flat machine's operation has it: nothing where it is completed, else why the guest
@@ -93,6 +94,12 @@ ActsBy (Refuses r) e k w a = (e ≡ events.Act) × (a ≡ only r)
 ActsBy Succeeds e k w a = (e ≡ events.Act) × AnswersAs k w a
 ActsBy _ e k w a = IsNoAct e
 
+-- what its processor caches, has noted and told is then what the turn makes of it
+pub record HasCome (e : RunEvent) (t : Tree) (before after : Lp) : Type 0 where
+  pub cached : after.cached ≡ (beside_after e t (beside_of before [])).cached
+  pub notes : after.notes ≡ (beside_after e t (beside_of before [])).notes
+  pub told : after.told ≡ (beside_after e t (beside_of before [])).told
+
 -- after a turn: the flat machine's next event, words that show the state after it, what the turn answers, and the run as far
 -- as that move leads
 pub record LeafAfter (o : Opening) (task : Task) (s : State) (x : Progress Reply) (u : Table) (run : Standing) (e : RunEvent) : Type 0 where
@@ -102,11 +109,12 @@ pub record LeafAfter (o : Opening) (task : Task) (s : State) (x : Progress Reply
   pub shown : Shows task.place.machine mem.words mem.slots (event o s task.place.lp)
   pub memory : IsMemory task.place.machine u run.hasher mem
   pub acts : ActsBy move e (work_of task.meaning) s.world (answer_of run.rest)
+  pub comes : HasCome e run.rest (s.lps task.place.lp) ((event o s task.place.lp).lps task.place.lp)
   pub at : LeafAt task (work_world (work_of task.meaning) move s.world) mem.words run (after_move call_busy (is_granted s (event_of task.meaning move)) (answer_of run.rest).reply move x)
   pub empty_hand : run.stage ≡ stages.Trying → mem.hand ≡ None
 
 -- Over words that show a state, each turn of a leaf's run is the next event of its processor, and its act answers what
--- there was to do.
+-- there was to do, which is what becomes of its processor.
 abbrev pub LeavesFollow : Type 0
 LeavesFollow = (o : Opening) (task : Task) (s : State) (mem : Memory) (kept : List Held) (x : Progress Reply) (t u : Table) (run run' : Standing) (xs : List Taken) (result : RunTurn)
     → MeansRow task → IsShown task s mem t run → IsDoing o task s mem kept x → LeafAt task s.world mem.words run x

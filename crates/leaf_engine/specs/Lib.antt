@@ -1,6 +1,7 @@
 pub mod Changes
 pub mod Trees
 pub mod Besides
+pub mod Facts
 pub mod Means
 pub mod Inside
 pub mod Decides

@@ -14,24 +14,24 @@ use Rattle.td_words.specs.declared.replies.Reply.TheVariants.{Done, Exited}
 use Rattle.td_words.specs.Packing.{Entry}
 use Rattle.td_words.specs.Place.{WordPlace, IsIn, Word}
 use Rattle.flat_core.specs.World.{World}
-use Rattle.flat_core.specs.Processor.{LockId, OfPage, OfOp, Held, Translation, Guest, Entering, Note, LoadNote, RtmrNote}
+use Rattle.flat_core.specs.Processor.{LockId, Held, Translation, Guest, Entering, Note, LoadNote, RtmrNote}
 use Rattle.flat_core.specs.Row.{Item, Check, Try, Row, OperationRow}
 use Rattle.flat_core.specs.Digests.{digest_bytes}
 use Rattle.flat_core.specs.Effects.{tell_words, leave_guest}
 use Rattle.flat_core.specs.Translations.{look_up}
 use Rattle.flat_core.specs.Tree.{page_of_gpa, number_at, entry_at, may_write}
 use Rattle.flat_core.specs.Guest.{reach, reach_notes, word_reached, walk_level, goes_on, cached_after}
-use Rattle.flat_core.specs.Lawful.{Lawful, IsAlive, IsPageOf, IsNodeOf}
+use Rattle.flat_core.specs.Lawful.{Lawful, IsPageOf, IsNodeOf}
 use Rattle.flat_core.specs.Event.{State}
 use Rattle.word_rules.specs.Guards.{Grip}
 use Rattle.word_rules.specs.Rules.{View, Whole, Grade, KeepsNothing}
 use Rattle.word_rules.specs.Permissions.{Reads, Sees, Writes, Owes, Fills, Tries, SwapsAct, SwapsOwed, Respects}
-use Rattle.word_rules.specs.Spots.{runs_in}
 use Rattle.word_rules.specs.Cells.{Shows}
-use Rattle.lock_words.specs.Grips.{holds, holds_alone, lock_grip, grip_with, TdrsAreHeld}
-use Rattle.lock_words.specs.LockWords.{place_of, Stands, LocksStand}
+use Rattle.lock_words.specs.Grips.{lock_grip, grip_with}
+use Rattle.lock_words.specs.LockWords.{place_of, Stands}
 use Rattle.leaf_engine.specs.declared.needs.Place.{Place}
 use Rattle.word_rules.specs.Views.{look, rights_by, IsKept}
+use Rattle.leaf_engine.specs.Facts.{GuestFits, Facts}
 use Rattle.leaf_engine.specs.Changes.{Memory, Change, Put, PutHash, Raise, Clear, Copy, Swap, changed, changed_all}
 use Rattle.leaf_engine.specs.Trees.{Answer, added, Tree, Lock, Load, Test, End, Since, has_acted}
 
@@ -136,18 +136,12 @@ work_of (OfWalk t v access gpa level page) =
     record (event_work (λ w. w) (λ w. Done (value.Number (rights_by (entry_at w t level gpa))))) { cached = λ w ts. cached_by access level gpa t (entry_at w t level gpa) ts }
 work_of (OfExit t v out) = event_work (leave_guest v) (λ w. Exited out)
 
--- while a virtual processor is in guest, its VP.ENTER holds P of its TDR page and O, and P of its own page alone
+-- the virtual processor that is in guest on it, under the locks of its VP.ENTER
 pub record IsInGuest (c : Instant) (t v : ℕ) (g : Guest) : Type 0 where
   pub guest : (c.state.lps c.me).guest ≡ Some g
   pub td : g.tdr ≡ t
   pub vp : g.vp ≡ v
-  pub tdr_held : holds c.kept (OfPage t) ≡ true
-  pub op_held : holds c.kept (OfOp t) ≡ true
-  pub vp_held : holds_alone c.kept (OfPage v) ≡ true
-  pub alive : IsAlive c.state.world.pages c.state.world.tds t
-  pub vp_page : IsPageOf c.state.world.pages t v kind.Tdvpr
-  pub associated : c.state.world.vps.associated v ≡ Some c.me
-  pub running : runs_in (c.state.world.tds.ops t) ≡ true
+  pub fits : GuestFits c.state.world c.me c.kept t v
 
 -- the page where the entry of a level stands that maps a GPA: the root, or the node above it
 abbrev pub IsEntryPage : World → (tdr level gpa page : ℕ) → Type 0
@@ -170,8 +164,7 @@ pub record IsAt (task : Task) (c : Instant) : Type 0 where
   pub shown : Shows task.place.machine c.memory.words c.memory.slots c.state
   pub empty_hand : c.memory.hand ≡ None
   pub nothing_to_tell : c.state.world.outgoing.to_tell ≡ None
-  pub tdrs : TdrsAreHeld c.state
-  pub stand : LocksStand c.state
+  pub facts : Facts c.state
   pub maker : IsMaker task.meaning c
 
 -- a try is of that lock, at its place, which stands

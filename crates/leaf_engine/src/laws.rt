@@ -1,5 +1,6 @@
 //! What the layers above may rest on, as contracts of functions that do nothing.
 
+ghost use Rattle.leaf_engine.specs.Facts.{EventsKeepFacts, FactsBegin, FactsStand};
 ghost use Rattle.leaf_engine.specs.Follows.{LeavesFollowRows};
 ghost use Rattle.leaf_engine.specs.Shown.{TurnsShow};
 ghost use Rattle.leaf_engine.specs.Calls.{CallsBegin, CallsFollow, StartIsMet};
@@ -29,6 +30,16 @@ pub fn turns_show()
     pages_change_alone();
 }
 
+/// Facts of states, of who holds what, of the locks that stand, and of the guests that run, are so at
+/// the start, after each event, and so in every state that a run reaches.
+pub fn facts_stand()
+    ensures begin { FactsBegin }
+    ensures events { EventsKeepFacts }
+    ensures reached { FactsStand }
+{
+    reached_locks_stand();
+}
+
 /// A run of a call's leaf begins where its processor does. From then on, over words that show a
 /// lawful state, each turn is the next event of that processor in the flat machine: its steps leave
 /// words that show the state after that event, and the row's reply comes with the last one. What is
@@ -46,7 +57,7 @@ pub fn calls_follow()
     word_rules::start_is_shown();
     lock_words_follow();
     lock_steps_shown();
-    reached_locks_stand();
+    facts_stand();
     places_injective();
     pages_change_alone();
 }

@@ -3,12 +3,12 @@ use Rattle.std.proofs.Common.{ℕ, ◌<◌, List, [], ◌∷◌, refl, inl}
 use Rattle.std.proofs.lemmas.Bool.{ltb-true}
 use Rattle.td_words.specs.declared.names.Mode.TheVariants.{Exclusive}
 use Rattle.flat_core.specs.World.{World, Made}
-use Rattle.flat_core.specs.Processor.{OfPage, Held}
+use Rattle.flat_core.specs.Processor.{OfPage}
 use Rattle.flat_core.specs.Effects.{add_bundle, tell_words}
 use Rattle.word_rules.specs.Guards.{Grip}
 use Rattle.word_rules.specs.Permissions.{Respects}
 use Rattle.word_rules.proofs.Conflicts.{respects-compose}
-use Rattle.leaf_engine.specs.Means.{Instant, hold}
+use Rattle.leaf_engine.specs.Means.{hold}
 use Rattle.leaf_trials.specs.Trials.{EnteringMeans, MakingMeans, TellingMeans}
 
 pub entering-means : EnteringMeans

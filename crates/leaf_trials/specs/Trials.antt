@@ -5,13 +5,13 @@ use Rattle.td_words.specs.declared.refusals.Status.TheVariants.{OperandInvalid}
 use Rattle.td_words.specs.declared.replies.Reply.TheVariants.{Done}
 use Rattle.td_words.specs.declared.replies.Value.TheVariants as value
 use Rattle.td_words.specs.Place as place
-use Rattle.flat_core.specs.World.{World, Made}
-use Rattle.flat_core.specs.Processor.{OfPage, Entering, Note, LoadNote}
+use Rattle.flat_core.specs.World.{Made}
+use Rattle.flat_core.specs.Processor.{OfPage, Entering, LoadNote}
 use Rattle.flat_core.specs.Row.{Row, OperationRow, Try, needs, call_row}
 use Rattle.flat_core.specs.Effects.{add_bundle}
 use Rattle.flat_core.specs.Translations.{drop_td}
 use Rattle.leaf_engine.specs.declared.needs.Place.{Place}
-use Rattle.leaf_engine.specs.Trees.{Answer, only, Tree, Lock, End}
+use Rattle.leaf_engine.specs.Trees.{Answer, Tree, Lock, End}
 use Rattle.leaf_engine.specs.Trees as tree
 use Rattle.leaf_engine.specs.Means.{Task, OfCall, OfOperation, MeansRow}
 

@@ -1,5 +1,5 @@
 -- What processors may do by the locks that their calls hold, while nobody is in guest.
-use Rattle.std.proofs.Common.{◌≡◌, ℕ, zero, suc, ◌<◌, Bool, true, false, ◌==◌, ◌&&◌, ◌||◌, List, [], ◌∷◌, ◌++◌, length, Option, Some, None, refl, ap, sym, ◌∙◌, subst, inl, inr}
+use Rattle.std.proofs.Common.{◌≡◌, ℕ, ◌<◌, Bool, true, false, ◌==◌, ◌&&◌, ◌||◌, List, [], ◌∷◌, ◌++◌, length, Some, None, refl, ap, sym, ◌∙◌, subst, inl, inr}
 use Rattle.std.specs.Prelude.{slice_index}
 use Rattle.std.specs.List.{list_any}
 use Rattle.std.proofs.lemmas.Bool.{eq-eqb}
@@ -11,7 +11,7 @@ use Rattle.td_words.specs.declared.places.TheConstants.{TDCS_OP_LOCK, TDCS_TREE_
 use Rattle.td_words.specs.declared.replies.Reply.{Reply}
 use Rattle.td_words.specs.Place.{WordPlace, Word, IsIn, lock_place}
 use Rattle.flat_core.specs.World.{World}
-use Rattle.flat_core.specs.Processor.{LockId, OfPage, OfOp, OfTree, OfEpoch, OfRtmr, OfKeys, Held, Guest, Lp}
+use Rattle.flat_core.specs.Processor.{LockId, OfPage, OfOp, OfTree, OfEpoch, OfRtmr, OfKeys, Held, Lp}
 use Rattle.flat_core.specs.Locks.{same_lock, is_alone}
 use Rattle.flat_core.specs.Lawful.{Lawful}
 use Rattle.flat_core.specs.Row.{Item, Check, Try}

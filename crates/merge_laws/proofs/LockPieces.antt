@@ -113,7 +113,7 @@ undo-piece ls o trees s mem t pos p c cs run run' items e name at tps end_ a non
     by Trying h i = absurd i
     by (Answered r) h i = absurd i
     by (Undoing l) h i =
-        let tdr : HoldsTdr (s.lps p).call.held l = subst (λ (z : Phase Reply). UndoTdr z (s.lps p).call.held) h (a.known.tdrs p).0.1 in
+        let tdr : HoldsTdr (s.lps p).call.held l = subst (λ (z : Phase Reply). UndoTdr z (s.lps p).call.held) h (a.known.facts.tdrs p).0.1 in
         let one : OneStep o trees s p c (Undoes l) run run' (step.Sub at 1) tb.items.0 (place_of s.world l) (record { event = e; reply = last_reply run'.stage run'.held }) = record {
           turn = record { turn = subst (λ (z : List Taken). TurnBy run.stage o.machine run z run' e) tb.items.1 turn; reply = refl };
           going = a.going;
@@ -163,7 +163,7 @@ free-piece ls o trees s mem t pos p c cs run run' items e r tps end_ a none st t
         let l : LockId = x.lock in
         let split = snoc locks.0 run'.held locks.1.0 gb.newest (sym locks.1.1 ∙ gb.held_are) in
         let it : IsLockAt o.machine s.world gb.newest.name gb.newest.at l = subst (λ (z : HeldLock). IsLockAt o.machine s.world z.name z.at l) split.1 locks.1.3 in
-        let tdrs = subst (λ (z : List Held). HoldTdrs z) k (a.known.tdrs p).0.0 in
+        let tdrs = subst (λ (z : List Held). HoldTdrs z) k (a.known.facts.tdrs p).0.0 in
         let may : MayTry (bare (s.lps p).call.held) s.world (place_of s.world l) =
         subst (λ (z : List Held). MayTry (bare z) s.world (place_of s.world l)) (sym k) (may-try o.machine s.world (x ∷ hs) l a.known.lawful it.stands (tdr-more x hs l tdrs.0)) in
         let one : OneStep o trees s p c (Releases x) run run' (step.Sub gb.newest.at (weight_of gb.newest.mode)) gb.items.0 (place_of s.world l) (record { event = e; reply = last_reply run'.stage run'.held }) = record {

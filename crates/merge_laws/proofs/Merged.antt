@@ -12,8 +12,8 @@ use Rattle.flat_core.specs.Event.{State, start, event}
 use Rattle.flat_core.specs.Run.{play, run}
 use Rattle.flat_core.proofs.Tests.{put_here}
 use Rattle.flat_core.proofs.Induction.{count_stays, play_append}
-use Rattle.lock_words.specs.Grips.{IsExclusive, TdrsAreHeld}
-use Rattle.lock_words.specs.LockWords.{LocksStand}
+use Rattle.lock_words.specs.Grips.{IsExclusive}
+use Rattle.leaf_engine.specs.Facts.{Facts}
 use Rattle.mrtd_measure.specs.declared.measures.Measure.{Measure}
 use Rattle.step_core.specs.declared.steps.WordStep.TheVariants as step
 use Rattle.step_core.specs.Locks.{weight_of}
@@ -27,7 +27,7 @@ use Rattle.leaf_engine.specs.declared.needs.Need.{Need}
 use Rattle.leaf_engine.specs.declared.needs.Need.TheVariants as need
 use Rattle.leaf_engine.specs.Changes.{Hand, Memory}
 use Rattle.leaf_engine.specs.Trees.{Tree, settle, passed}
-use Rattle.leaf_engine.specs.Besides.{Beside, beside_after}
+use Rattle.leaf_engine.specs.Besides.{beside_after}
 use Rattle.leaf_engine.specs.Decides.{Wants, IsHand}
 use Rattle.leaf_engine.specs.Turns.{Standing, Comes as TurnComes, TurnBy, TakesBack, GivesBack, has_ended, last_reply}
 use Rattle.leaf_engine.specs.OwnLists.{Piece, Unmarked, Marked, Wordless, joined, last_marked, pieces_for, behind, GoesIn, TurnIn, WordLp, running, after_turn, LinesTurn, OwnTurns}
@@ -231,8 +231,7 @@ known-of ls o schedule s most is count tell = record {
   exclusive = subst (λ (z : State). IsExclusive z) (sym is) (λ l. ls.exclude o None schedule l);
   few = λ l. subst (λ (z : State). sharers z.lps z.lp_count l + refusals z.lps z.lp_count l + 1 < 2 ^ 63) (sym is) (ls.runs.few o None schedule l most);
   nothing_to_tell = tell;
-  tdrs = subst (λ (z : State). TdrsAreHeld z) (sym is) (ls.tdrs o None schedule);
-  stand = subst (λ (z : State). LocksStand z) (sym is) (ls.stand o None schedule);
+  facts = subst (λ (z : State). Facts z) (sym is) (ls.facts o schedule);
 }
 
 known-next : (ls : Laws) (o : Opening) (s : State) (p : ℕ) → length o.calls ≤ 8 → Known o s → Known o (event o s p)

@@ -46,8 +46,7 @@ shown-hand o trees s mem t pos p c run known st i ho = record {
   exclusive = known.exclusive;
   few_sharers = known.few;
   nothing_to_tell = known.nothing_to_tell;
-  tdrs = known.tdrs;
-  stand = known.stand;
+  facts = known.facts;
   empty_hand = λ e. empty ho.hand (subst (λ (h : Option Measure). IsHand h ho.hand) (ho.trying e) ho.is);
 }
   where
@@ -192,8 +191,8 @@ others-stay ls o trees s mem t pos k w' words' a' g' are known st i lv =
           call = record {
             line = ca.line;
             guest = ca.guest;
-            stage = stage-kept ls o.machine s.world w' (s.lps k).call.held g' r.stage (s.lps k).call.phase known.lawful lv.respects (lv.apart (s.lps k).call.held whole) (known.tdrs k).0.1 ca.stage;
-            held = locks-kept ls o.machine s.world w' (s.lps k).call.held (s.lps k).call.held g' r.held known.lawful lv.respects lv.apart whole (known.tdrs k).0.0 ca.held;
+            stage = stage-kept ls o.machine s.world w' (s.lps k).call.held g' r.stage (s.lps k).call.phase known.lawful lv.respects (lv.apart (s.lps k).call.held whole) (known.facts.tdrs k).0.1 ca.stage;
+            held = locks-kept ls o.machine s.world w' (s.lps k).call.held (s.lps k).call.held g' r.held known.lawful lv.respects lv.apart whole (known.facts.tdrs k).0.0 ca.held;
             told = λ e.
                 let told = ca.told e in
                 record {

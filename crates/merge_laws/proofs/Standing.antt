@@ -20,9 +20,9 @@ use Rattle.word_rules.specs.Guards.{Grip}
 use Rattle.word_rules.specs.Permissions.{WordsNeverConflict, ActsNeverConflict, RespectsCompose}
 use Rattle.word_rules.specs.Views.{ViewsAreKept}
 use Rattle.word_rules.specs.Cells.{Shows, StartIsShown}
-use Rattle.lock_words.specs.Grips.{IsExclusive, GripsAreApart, TdrsAreHeld}
-use Rattle.lock_words.specs.LockWords.{LocksStand, LockWordsFollow, LockStepsShown, RunsFollow, TdLocksStay}
-use Rattle.lock_words.specs.Reached.{EveryTdrIsHeld, EveryLockStands}
+use Rattle.lock_words.specs.Grips.{IsExclusive, GripsAreApart}
+use Rattle.lock_words.specs.LockWords.{LockWordsFollow, LockStepsShown, RunsFollow, TdLocksStay}
+use Rattle.leaf_engine.specs.Facts.{Facts, FactsStand}
 use Rattle.act_rules.specs.Stores.{OthersStoresKeepReads}
 use Rattle.step_core.specs.Items.{Table}
 use Rattle.step_core.specs.declared.items.Taken.{Taken}
@@ -56,8 +56,7 @@ pub record Laws : Type 0 where
   pub follow : LockWordsFollow
   pub runs : RunsFollow
   pub steps : LockStepsShown
-  pub tdrs : EveryTdrIsHeld
-  pub stand : EveryLockStands
+  pub facts : FactsStand
   pub places : PlacesInjective
   pub pages : PagesChangeAlone
   pub words : WordsNeverConflict
@@ -87,8 +86,7 @@ pub record Known (o : Opening) (s : State) : Type 0 where
   pub exclusive : IsExclusive s
   pub few : (l : LockId) → sharers s.lps s.lp_count l + refusals s.lps s.lp_count l + 1 < 2 ^ 63
   pub nothing_to_tell : s.world.outgoing.to_tell ≡ None
-  pub tdrs : TdrsAreHeld s
-  pub stand : LocksStand s
+  pub facts : Facts s
 
 abbrev pub NoneOnWay : Standing → Type 0
 NoneOnWay run = run.stage ≡ stages.Trying → run.hasher ≡ None

@@ -3,9 +3,9 @@
 ghost use Rattle.merge_laws.specs.Laws.{MergesAreRuns};
 
 use act_rules::stores_keep_reads;
-use leaf_engine::turns_in_pieces;
+use leaf_engine::{facts_stand, turns_in_pieces};
 use lock_words::{
-    grips_are_apart, lock_steps_shown, lock_words_follow, reached_locks_stand, td_locks_stay,
+    grips_are_apart, lock_steps_shown, lock_words_follow, td_locks_stay,
 };
 use step_core::pages_change_alone;
 use td_words::places_injective;
@@ -28,7 +28,7 @@ pub fn merge_law()
     grips_are_apart();
     lock_steps_shown();
     lock_words_follow();
-    reached_locks_stand();
+    facts_stand();
     td_locks_stay();
     stores_keep_reads();
     pages_change_alone();

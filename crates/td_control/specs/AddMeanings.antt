@@ -460,7 +460,7 @@ add-means p t page = record {
             let in_page : page < p.machine.pages = ltb-true page p.machine.pages b in
             tdr-head-means p.machine c (work_of (OfCall (add_tdcx p.machine t page))) t in_tdr at.lawful at.shown (life.KeysConfigured ∷ []) (room_tree p.machine.pages t page)
             (tdcx_room c.state.world t ∷ page_exclusive page ∷ host_page c.state.world page ∷ [])
-            (λ is lives. room-means p.machine c t page in_tdr in_page (not-true (page == t) d) at.lawful at.shown at.stand is lives (life-is life.KeysConfigured (c.state.world.tds.lives t) lives))),
+            (λ is lives. room-means p.machine c t page in_tdr in_page (not-true (page == t) d) at.lawful at.shown at.facts.stand is lives (life-is life.KeysConfigured (c.state.world.tds.lives t) lives))),
       ),
     ),
   );

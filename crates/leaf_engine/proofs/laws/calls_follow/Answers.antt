@@ -11,8 +11,7 @@ returns c = record {
     exclude = c.lock_law.ensures.run;
     tell = c.event_laws.ensures.own_words;
     runs = c.lock_words_follow.ensures.runs;
-    tdrs = c.reached_locks_stand.ensures.tdrs;
-    stand = c.reached_locks_stand.ensures.stand;
+    facts = c.facts_stand.ensures.reached;
   });
   begin = calls-begin;
   follow = calls-follow (record { follow = c.lock_words_follow.ensures.follow; steps = c.lock_steps_shown.ensures; places = c.places_injective.ensures; pages = c.pages_change_alone.ensures });

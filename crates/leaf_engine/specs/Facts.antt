@@ -1,0 +1,45 @@
+-- Facts of states: what is true of a world with its processors in every state of a run. One that is added here is proved of
+-- the start and kept by each event, and is known wherever words show a state.
+use Rattle.std.specs.Prelude.{◌≡◌, ℕ, ◌<◌, true, Option, Some, None, List}
+use Rattle.td_words.specs.declared.names.PageKind.TheVariants as kind
+use Rattle.flat_core.specs.World.{World}
+use Rattle.flat_core.specs.Processor.{OfPage, OfOp, Held, Guest}
+use Rattle.flat_core.specs.Opening.{Opening}
+use Rattle.flat_core.specs.Lawful.{IsAlive, IsPageOf}
+use Rattle.flat_core.specs.Event.{State, start, event}
+use Rattle.flat_core.specs.Laws.{reached}
+use Rattle.word_rules.specs.Spots.{runs_in}
+use Rattle.lock_words.specs.Grips.{holds, holds_alone, TdrsAreHeld}
+use Rattle.lock_words.specs.LockWords.{LocksStand}
+
+-- while a virtual processor is in guest, its VP.ENTER holds P of its TDR page and O, and P of its own page alone; its TD is
+-- alive, in an op state that runs, and it is associated with the processor that it is on
+pub record GuestFits (w : World) (me : ℕ) (held : List Held) (t v : ℕ) : Type 0 where
+  pub tdr_held : holds held (OfPage t) ≡ true
+  pub op_held : holds held (OfOp t) ≡ true
+  pub vp_held : holds_alone held (OfPage v) ≡ true
+  pub alive : IsAlive w.pages w.tds t
+  pub vp_page : IsPageOf w.pages t v kind.Tdvpr
+  pub associated : w.vps.associated v ≡ Some me
+  pub running : runs_in (w.tds.ops t) ≡ true
+
+abbrev pub GuestIsIn : World → ℕ → List Held → Option Guest → Type 0
+GuestIsIn w me held None = Unit {0}
+GuestIsIn w me held (Some g) = GuestFits w me held g.tdr g.vp
+
+-- who holds, or is being refused, a lock of a TD holds P of its TDR page; the locks that are held, or being refused, stand;
+-- and guests are where they run
+pub record Facts (s : State) : Type 0 where
+  pub tdrs : TdrsAreHeld s
+  pub stand : LocksStand s
+  pub guests : (p : ℕ) → p < s.lp_count → GuestIsIn s.world p (s.lps p).call.held (s.lps p).guest
+
+-- So it is at the start, after each event of a run, and in every state that a run reaches.
+abbrev pub FactsBegin : Type 0
+FactsBegin = (o : Opening) → Facts (start o None)
+
+abbrev pub EventsKeepFacts : Type 0
+EventsKeepFacts = (o : Opening) (schedule : List ℕ) (p : ℕ) → let s = reached o None schedule in Facts s → Facts (event o s p)
+
+abbrev pub FactsStand : Type 0
+FactsStand = (o : Opening) (schedule : List ℕ) → Facts (reached o None schedule)
