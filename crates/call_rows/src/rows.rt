@@ -1,7 +1,8 @@
 //! How a row is replayed.
 
+use bundle_store::{MemFiles, MemSink, NamedFile};
 use leaf_engine::NoGate;
-use script_runner::{MemFiles, MemSink, NamedFile, tdx_main};
+use script_runner::tdx_main;
 use std::alloc::Global;
 use std::process::Abort;
 use std::test::Fail;

@@ -25,7 +25,7 @@ use Rattle.mem_build.specs.SeptReadMeanings.{sept_read-means}
 use Rattle.mem_build.specs.PageAddMeanings.{page_add-means}
 use Rattle.mem_build.specs.ExtendMeanings.{extend-means}
 use Rattle.leaf_dispatch.specs.Table.{task_of}
-use Rattle.leaf_dispatch.specs.Laws.{CallsHaveLeaves}
+use Rattle.leaf_dispatch.specs.Laws.{CallsHaveLeaves, NoneEnters}
 
 pub of-place : (p : Place) (c : Call) → (task_of p c).place ≡ p
 of-place p (call.HostRead page word) = refl
@@ -101,5 +101,7 @@ calls-have-leaves o m = record {
   processor = λ p c. ap (λ (z : Place). z.lp) (of-place (record { machine = o.machine; lp = p }) c);
   row = of-row o;
   means = λ p c. means (record { machine = o.machine; lp = p }) c m;
-  enters_none = enters-none o;
 }
+
+pub none-enters : NoneEnters
+none-enters o p n c further lines = enters-none o p c

@@ -1,6 +1,6 @@
 //! What the layers above may rest on, as contracts of functions that do nothing.
 
-ghost use Rattle.leaf_dispatch.specs.Laws.{CallsHaveLeaves};
+ghost use Rattle.leaf_dispatch.specs.Laws.{CallsHaveLeaves, NoneEnters};
 ghost use Rattle.leaf_dispatch.specs.Follows.{ProcessorsFollow};
 
 use leaf_engine::calls_follow;
@@ -9,6 +9,11 @@ use leaf_engine::calls_follow;
 /// the call in the leaf table, and a proof that it means that row.
 pub fn calls_have_leaves()
     ensures { CallsHaveLeaves }
+{}
+
+/// No call that is built enters a guest.
+pub fn none_enters()
+    ensures { NoneEnters }
 {}
 
 /// Over words that show a state of the flat machine, the turn of an `LpState` that stands where that

@@ -93,9 +93,9 @@ pub fn leaf_of(place: Place, call: &Call) -> AnyLeaf
         Call::HostRead { page, word } => {
             by_plan(AnyPlan::HostRead(HostRead::leaf(place, page, word).into_plan()))
         }
-        Call::HostWrite { page, word, value } => by_plan(AnyPlan::HostWrite(
-            HostWrite::leaf(place, page, word, value).into_plan(),
-        )),
+        Call::HostWrite { page, word, value } => by_plan(AnyPlan::HostWrite(HostWrite::leaf(
+            place, page, word, value,
+        ).into_plan())),
         Call::PhymemPageRdmd { page } => {
             by_plan(AnyPlan::Rdmd(Rdmd::leaf(place, page).into_plan()))
         }
@@ -134,12 +134,10 @@ pub fn leaf_of(place: Place, call: &Call) -> AnyLeaf
             gpa,
             level,
             page,
-        } => by_plan(AnyPlan::SeptAdd(
-            SeptAdd::leaf(place, tdr, gpa, level, page).into_plan(),
-        )),
-        Call::MemSeptRd { tdr, gpa, level } => by_plan(AnyPlan::SeptRd(
-            SeptRd::leaf(place, tdr, gpa, level).into_plan(),
-        )),
+        } => by_plan(AnyPlan::SeptAdd(SeptAdd::leaf(place, tdr, gpa, level, page).into_plan())),
+        Call::MemSeptRd { tdr, gpa, level } => by_plan(AnyPlan::SeptRd(SeptRd::leaf(
+            place, tdr, gpa, level,
+        ).into_plan())),
         Call::MemPageAdd {
             tdr,
             gpa,

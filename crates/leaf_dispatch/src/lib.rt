@@ -13,7 +13,7 @@ mod plans;
 mod running;
 mod states;
 
-pub use laws::{calls_have_leaves, processors_follow};
+pub use laws::{calls_have_leaves, none_enters, processors_follow};
 pub use leaves::{AnyLeaf, leaf_of};
 pub use plans::AnyPlan;
 pub use states::LpState;

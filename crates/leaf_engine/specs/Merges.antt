@@ -1,8 +1,9 @@
 -- The own lists of logical processors as one list, and what their calls are made by.
-use Rattle.std.specs.Prelude.{◌≡◌, ℕ, ◌<◌, ◌≤◌, ◌==◌, if◌then◌else◌, None, List, [], ◌∷◌}
+use Rattle.std.specs.Prelude.{◌≡◌, ℕ, ◌<◌, ◌≤◌, ◌==◌, if◌then◌else◌, None, List, [], ◌∷◌, drop}
 use Rattle.td_words.specs.declared.calls.Call.{Call}
 use Rattle.flat_core.specs.Opening.{Opening}
 use Rattle.flat_core.specs.Table.{row_of}
+use Rattle.flat_core.specs.Event.{calls_of}
 use Rattle.step_core.specs.Items.{Table}
 use Rattle.step_core.specs.declared.items.Taken.{Taken}
 use Rattle.leaf_engine.specs.Means.{Task, OfCall, MeansRow}
@@ -54,4 +55,7 @@ pub record AreLeaves (o : Opening) (leaf : ℕ → Call → Task) : Type 0 where
   pub processor : (p : ℕ) (c : Call) → (leaf p c).place.lp ≡ p
   pub row : (p : ℕ) (c : Call) → (leaf p c).meaning ≡ OfCall (row_of o p c)
   pub means : (p : ℕ) (c : Call) → MeansRow (leaf p c)
-  pub enters_none : (p : ℕ) (c : Call) → (row_of o p c).enters ≡ None
+
+-- no line of a script enters a guest
+abbrev pub LinesEnterNone : Opening → Type 0
+LinesEnterNone o = (p n : ℕ) (c : Call) (further : List Call) → drop n (calls_of o.calls p) ≡ c ∷ further → (row_of o p c).enters ≡ None

@@ -21,7 +21,7 @@ use Rattle.leaf_engine.specs.Changes.{Memory}
 use Rattle.leaf_engine.specs.Means.{Task}
 use Rattle.leaf_engine.specs.Tables.{IsMemory}
 use Rattle.leaf_engine.specs.OwnLists.{WordLp}
-use Rattle.leaf_engine.specs.Merges.{Item, order, AreLeaves}
+use Rattle.leaf_engine.specs.Merges.{Item, order, AreLeaves, LinesEnterNone}
 use Rattle.merge_laws.specs.Merge.{Merge}
 use Rattle.map_laws.specs.SeptMaps.{ShowsTd, entries_of, entries_on}
 
@@ -51,6 +51,6 @@ pub record WalksFollow : Type 0 where
 -- After each merge of word steps, turn by turn, the table is such memory: a walk over it ends as the flat machine's map of
 -- the TD says, after a run of the events of the merge.
 abbrev pub WalksFollowMerges : Type 0
-WalksFollowMerges = (o : Opening) (leaf : ℕ → Call → Task) (is : List Item) (now : ℕ → WordLp) (u : Table) → o.machine.pages ≤ 1024 → length o.calls ≤ 8 → AreLeaves o leaf → Merge o leaf is now u
+WalksFollowMerges = (o : Opening) (leaf : ℕ → Call → Task) (is : List Item) (now : ℕ → WordLp) (u : Table) → o.machine.pages ≤ 1024 → length o.calls ≤ 8 → AreLeaves o leaf → LinesEnterNone o → Merge o leaf is now u
     → let w = (play o (order is) (start o None)).world in (t tdcs root gpa level : ℕ) → IsAlive w.pages w.tds t → w.tds.controls t ≡ tdcs ∷ root ∷ [] → gpa < 2 ^ 47 → level ≤ 3
     → table_walk o.machine u root gpa level ≡ map_end w t gpa level

@@ -271,7 +271,7 @@ module _ (ls : Laws) (o : Opening) (trees : ℕ → Call → Tree) (s : State) (
             }))
             (grows-by c cs rs (pos p).at run' result (bundles_in s) (bundles_in (event o s p)) act-made.bundles)
             (record {
-              stands = stands-after o trees p c cs s (event o s p) act_table run' (hasher_for one.after.hand) result (are.enters_none p c) lines act-made (λ z. absurd (one.answered z)) rs replies (pos p).at.beside (sd.holds p i).stands.beside;
+              stands = stands-after o trees p c cs s (event o s p) act_table run' (hasher_for one.after.hand) result (are.enters_none p (length (s.lps p).replies) c cs lines) lines act-made (λ z. absurd (one.answered z)) rs replies (pos p).at.beside (sd.holds p i).stands.beside;
               due =
                   subst (λ (w : World). Keeps machine (bare ((event o s p).lps p).call.held) w (on_table machine t') one.owes) (sym act-world)
                   (subst (λ (hs : List Held). Keeps machine (bare hs) (call_world (row_of o p c) one.move s.world) (on_table machine t') one.owes) (sym one.held_or_none)

@@ -38,7 +38,7 @@ use Rattle.merge_laws.proofs.Stores.{Due, last_at, later, or_else, stores_of, al
 use Rattle.merge_laws.proofs.Swaps.{SwapDue, last_put, swaps_of, all_swaps, SwapsMay, swaps-same, one-slot, changed-slots, owed-swaps}
 use Rattle.merge_laws.proofs.Keeping.{Keeps, keeps-each, keeps-same, owed-keeps}
 use Rattle.merge_laws.proofs.Holding.{bare, turned-round}
-use Rattle.merge_laws.proofs.Standing.{Laws, leaf_for, AreTrees, Known, on_table, Position, back, Stands}
+use Rattle.merge_laws.proofs.Standing.{Laws, leaf_for, AreTrees, line-enters, Known, on_table, Position, back, Stands}
 use Rattle.merge_laws.proofs.Others.{shown-of, hold-is}
 use Rattle.merge_laws.proofs.Own.{lp-of-event, with_hasher}
 use Rattle.merge_laws.proofs.Acts.{IsAct, CanWrite, OneAct}
@@ -317,7 +317,7 @@ module _ (ls : Laws) (o : Opening) (trees : ℕ → Call → Tree) (s : State) (
       filled_may = tt;
       there = hf.there;
       undo = hf.undo;
-      held_or_none = act-held o s p leaf_row (Refuses r) (next-move (Refuses r) h) (are.enters_none p c) tt;
+      held_or_none = act-held o s p leaf_row (Refuses r) (next-move (Refuses r) h) (line-enters o are.enters_none p leaf_row (s.lps p) ca.line) tt;
       table = same;
     },
     refl,
@@ -379,7 +379,7 @@ module _ (ls : Laws) (o : Opening) (trees : ℕ → Call → Tree) (s : State) (
       filled_may = filled-stores machine own_grip s.world mem fs fills;
       there = hf.there;
       undo = hf.undo;
-      held_or_none = act-held o s p leaf_row Succeeds (next-move Succeeds h) (are.enters_none p c) tt;
+      held_or_none = act-held o s p leaf_row Succeeds (next-move Succeeds h) (line-enters o are.enters_none p leaf_row (s.lps p) ca.line) tt;
       table = same;
     },
     refl,

@@ -218,7 +218,7 @@ module _ (ls : Laws) (o : Opening) (trees : ℕ → Call → Tree) (s : State) (
             }))
             (grows-by c cs rs (pos p).at run' result (bundles_in s) (bundles_in (event o s p)) step-made.bundles)
             (record {
-              stands = stands-after o trees p c cs s (event o s p) shown_after run' run'.hasher result (are.enters_none p c) lines step-made one.hand.trying rs replies (pos p).at.beside (sd.holds p i).stands.beside;
+              stands = stands-after o trees p c cs s (event o s p) shown_after run' run'.hasher result (are.enters_none p (length (s.lps p).replies) c cs lines) lines step-made one.hand.trying rs replies (pos p).at.beside (sd.holds p i).stands.beside;
               due = tt;
             })
             laid-after;

@@ -20,7 +20,7 @@ use Rattle.leaf_engine.specs.Decides.{IsHand}
 use Rattle.leaf_engine.specs.Turns.{Standing}
 use Rattle.leaf_engine.specs.Calls.{no_memory}
 use Rattle.leaf_engine.specs.OwnLists.{Piece, Unmarked, joined, marked_behind, running, WordLp, first_lp, LinesTurn, OwnTurns}
-use Rattle.leaf_engine.specs.Merges.{Item, part, steps_taken, order, no_table, AreLeaves}
+use Rattle.leaf_engine.specs.Merges.{Item, part, steps_taken, order, no_table, AreLeaves, LinesEnterNone}
 use Rattle.merge_laws.specs.Merge.{Merge}
 use Rattle.merge_laws.specs.Laws.{nothing_made, IsShownBy, IsWhere, MergesAreRuns}
 use Rattle.merge_laws.proofs.Stores.{Due, over-none, laid-none}
@@ -37,10 +37,10 @@ trees_of leaf p c = (leaf p c).tree
 leaves-are : (o : Opening) (leaf : ℕ → Call → Task) → AreLeaves o leaf → leaf ≡ leaf_for o (trees_of leaf)
 leaves-are o leaf are = λ i p c. record { place = record { machine = are.machine p c i; lp = are.processor p c i }; tree = (leaf p c).tree; meaning = are.row p c i }
 
-trees-are : (o : Opening) (leaf : ℕ → Call → Task) → AreLeaves o leaf → AreTrees o (trees_of leaf)
-trees-are o leaf are = record {
+trees-are : (o : Opening) (leaf : ℕ → Call → Task) → AreLeaves o leaf → LinesEnterNone o → AreTrees o (trees_of leaf)
+trees-are o leaf are none = record {
   means = λ p c. subst (λ (f : ℕ → Call → Task). MeansRow (f p c)) (leaves-are o leaf are) (are.means p c);
-  enters_none = are.enters_none;
+  enters_none = none;
 }
 
 -- the start
@@ -135,16 +135,16 @@ ends-so ls o trees s u ends th =
       },
     )
 
-merges : (ls : Laws) (o : Opening) (leaf : ℕ → Call → Task) (is : List Item) (now : ℕ → WordLp) (u : Table) → length o.calls ≤ 8 → AreLeaves o leaf → Merge o leaf is now u
+merges : (ls : Laws) (o : Opening) (leaf : ℕ → Call → Task) (is : List Item) (now : ℕ → WordLp) (u : Table) → length o.calls ≤ 8 → AreLeaves o leaf → LinesEnterNone o → Merge o leaf is now u
     → let s = play o (order is) (start o None) in PlaysTo no_table (steps_taken is) u × (IsShownBy o.machine u s × IsWhere o now s)
 unfolding first_position
-merges ls o leaf is now u most are merge =
+merges ls o leaf is now u most are none merge =
     let trees = trees_of leaf in
     let known : Known o (start o None) = known-of ls o [] (start o None) most refl refl refl in
     let own : (p : ℕ) → p < length o.calls → OwnTurns (leaf_for o trees p) o.machine (first_lp (calls_of o.calls p)) (merge.own p) (now p) =
     λ p i. subst (λ (f : ℕ → Call → Task). OwnTurns (f p) o.machine (first_lp (calls_of o.calls p)) (merge.own p) (now p)) (leaves-are o leaf are) (merge.turns p i) in
     let went =
-    through ls o trees is (start o None) no_memory no_table u (first_position o) now most (trees-are o leaf are) known (starts ls o trees)
+    through ls o trees is (start o None) no_memory no_table u (first_position o) now most (trees-are o leaf are none) known (starts ls o trees)
     (λ p i. rest-first p (part p is) (merge.own p) (merge.merge.each p i) (own p i)) merge.merge.nothing_else merge.plays in
     (went.0, ends-so ls o trees (play o (order is) (start o None)) u now went.1)
   where
@@ -187,10 +187,10 @@ no-event o s p e = ap (λ (cs : List Call). event_for o s.world p (s.lps p) cs) 
 
 pub merges-are-runs : Laws → MergesAreRuns
 merges-are-runs ls = record {
-  none_misses = λ o leaf is now u most are merge. (merges ls o leaf is now u most are merge).0;
-  turns = λ o leaf is now u most are merge. (merges ls o leaf is now u most are merge).1;
-  ended = λ o leaf is now u most are merge over.
-      let got = (merges ls o leaf is now u most are merge).1 in
+  none_misses = λ o leaf is now u most are enter merge. (merges ls o leaf is now u most are enter merge).0;
+  turns = λ o leaf is now u most are enter merge. (merges ls o leaf is now u most are enter merge).1;
+  ended = λ o leaf is now u most are enter merge over.
+      let got = (merges ls o leaf is now u most are enter merge).1 in
       let s : State = play o (order is) (start o None) in
       let none : (p : ℕ) → next_event o s p ≡ None = λ p. by o now s got.1 over p (cases_lt p (length o.calls)) in
       let same : run o (order is) ≡ s = play_append o (order is) (to_the_end 0 o.calls) (start o None) ∙ stays o (to_the_end 0 o.calls) s none in

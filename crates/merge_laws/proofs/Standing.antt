@@ -1,6 +1,6 @@
 -- Where each processor is beside the flat machine, while a merge is gone through.
 use Rattle.mrtd_measure.specs.declared.measures.Measure.{Measure}
-use Rattle.std.proofs.Common.{◌≡◌, ℕ, ◌+◌, ◌-◌, ◌^◌, ◌<◌, List, [], ◌∷◌, ◌++◌, map, length, Option, Some, None}
+use Rattle.std.proofs.Common.{◌≡◌, ℕ, ◌+◌, ◌-◌, ◌^◌, ◌<◌, List, [], ◌∷◌, ◌++◌, map, length, Option, Some, None, subst}
 use Rattle.td_words.specs.declared.machines.Machine.{Machine}
 use Rattle.td_words.specs.declared.calls.Call.{Call}
 use Rattle.td_words.specs.declared.replies.Reply.{Reply}
@@ -37,8 +37,9 @@ use Rattle.leaf_engine.specs.declared.events.Event.TheVariants as events
 use Rattle.leaf_engine.specs.declared.events.Stage.TheVariants as stages
 use Rattle.leaf_engine.specs.Items.{AreChanged}
 use Rattle.leaf_engine.specs.Turns.{Standing, standing, last_reply}
-use Rattle.leaf_engine.specs.Calls.{IsCallAt}
+use Rattle.leaf_engine.specs.Calls.{IsLine, IsCallAt}
 use Rattle.leaf_engine.specs.OwnLists.{Piece, Unmarked, joined, marked_behind, TurnsInPieces, WordLp, after_turn, OwnTurns}
+use Rattle.leaf_engine.specs.Merges.{LinesEnterNone}
 use Rattle.merge_laws.specs.Laws.{AreBundlesOf}
 use Rattle.merge_laws.proofs.Stores.{Due, last_at, or_else, laid, EachDue, FillsAt}
 use Rattle.merge_laws.proofs.Swaps.{SwapDue, slots_laid, SwapsMay}
@@ -75,7 +76,11 @@ leaf_for o trees p c = record { place = record { machine = o.machine; lp = p }; 
 
 pub record AreTrees (o : Opening) (trees : ℕ → Call → Tree) : Type 0 where
   pub means : (p : ℕ) (c : Call) → MeansRow (leaf_for o trees p c)
-  pub enters_none : (p : ℕ) (c : Call) → (row_of o p c).enters ≡ None
+  pub enters_none : LinesEnterNone o
+
+-- the row of a call that is on its way enters none
+pub line-enters : (o : Opening) → LinesEnterNone o → (p : ℕ) (row : Row) (lp : Lp) → IsLine o p row lp → row.enters ≡ None
+line-enters o none p row lp at = subst (λ (r : Row). r.enters ≡ None) at.row_is (none p (length lp.replies) at.call at.further at.lines)
 
 -- what is known of a state that a run reaches
 pub record Known (o : Opening) (s : State) : Type 0 where

@@ -13,7 +13,7 @@ use Rattle.leaf_engine.specs.Besides.{beside_of}
 use Rattle.leaf_engine.specs.Means.{Task}
 use Rattle.leaf_engine.specs.Tables.{IsMemory}
 use Rattle.leaf_engine.specs.OwnLists.{WordLp}
-use Rattle.leaf_engine.specs.Merges.{Item, steps_taken, order, no_table, AreLeaves}
+use Rattle.leaf_engine.specs.Merges.{Item, steps_taken, order, no_table, AreLeaves, LinesEnterNone}
 use Rattle.merge_laws.specs.Merge.{Merge}
 
 -- the words and slots of a table show a state
@@ -45,9 +45,9 @@ pub record IsWhere (o : Opening) (now : ℕ → WordLp) (s : State) : Type 0 whe
 -- its words show, and to where its processors are. Where each has come to its last line's end, that is where the whole run
 -- ends. No swap misses: the items play as on a table that nobody else uses.
 pub record MergesAreRuns : Type 0 where
-  pub none_misses : (o : Opening) (leaf : ℕ → Call → Task) (is : List Item) (now : ℕ → WordLp) (u : Table) → length o.calls ≤ 8 → AreLeaves o leaf → Merge o leaf is now u
+  pub none_misses : (o : Opening) (leaf : ℕ → Call → Task) (is : List Item) (now : ℕ → WordLp) (u : Table) → length o.calls ≤ 8 → AreLeaves o leaf → LinesEnterNone o → Merge o leaf is now u
       → PlaysTo no_table (steps_taken is) u
-  pub turns : (o : Opening) (leaf : ℕ → Call → Task) (is : List Item) (now : ℕ → WordLp) (u : Table) → length o.calls ≤ 8 → AreLeaves o leaf → Merge o leaf is now u
+  pub turns : (o : Opening) (leaf : ℕ → Call → Task) (is : List Item) (now : ℕ → WordLp) (u : Table) → length o.calls ≤ 8 → AreLeaves o leaf → LinesEnterNone o → Merge o leaf is now u
       → let s = play o (order is) (start o None) in IsShownBy o.machine u s × IsWhere o now s
-  pub ended : (o : Opening) (leaf : ℕ → Call → Task) (is : List Item) (now : ℕ → WordLp) (u : Table) → length o.calls ≤ 8 → AreLeaves o leaf → Merge o leaf is now u
+  pub ended : (o : Opening) (leaf : ℕ → Call → Task) (is : List Item) (now : ℕ → WordLp) (u : Table) → length o.calls ≤ 8 → AreLeaves o leaf → LinesEnterNone o → Merge o leaf is now u
       → ((p : ℕ) → p < length o.calls → (now p).lines ≡ []) → let s = run o (order is) in IsShownBy o.machine u s × IsWhere o now s

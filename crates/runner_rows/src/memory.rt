@@ -1,7 +1,7 @@
 //! Files and outputs in memory.
 
-use script_runner::{Files, HonestFiles, HonestSink, LoadFault, MemFiles, MemSink, NamedFile};
-use script_runner::{SaveFault, Sink};
+use bundle_store::{Files, HonestFiles, HonestSink, LoadFault, MemFiles, MemSink, NamedFile};
+use bundle_store::{SaveFault, Sink};
 use std::alloc::Global;
 use std::test::Fail;
 

@@ -1,8 +1,9 @@
 //! Scripts in memory, replayed by the top call.
 
 use crate::memory::one_file;
+use bundle_store::{MemFiles, MemSink};
 use leaf_engine::NoGate;
-use script_runner::{MemFiles, MemSink, tdx_main};
+use script_runner::tdx_main;
 use std::alloc::Global;
 use std::process::Abort;
 use std::test::Fail;

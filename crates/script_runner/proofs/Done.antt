@@ -9,13 +9,13 @@ use Rattle.script_text.specs.declared.faults.ScriptFault.{ScriptFault}
 use Rattle.script_text.specs.declared.faults.ScriptFault.TheVariants.{Bad, OutOfMemory}
 use Rattle.script_text.specs.Reading.{read_of}
 use Rattle.script_text.specs.Seen.{ScriptSeen}
-use Rattle.script_runner.specs.declared.outside.LoadFault.{LoadFault}
-use Rattle.script_runner.specs.declared.outside.LoadFault.TheVariants as load
-use Rattle.script_runner.specs.declared.outside.PutFault.{PutFault}
-use Rattle.script_runner.specs.declared.outside.PutFault.TheVariants as put
+use Rattle.bundle_store.specs.declared.outside.LoadFault.{LoadFault}
+use Rattle.bundle_store.specs.declared.outside.LoadFault.TheVariants as load
+use Rattle.bundle_store.specs.declared.outside.PutFault.{PutFault}
+use Rattle.bundle_store.specs.declared.outside.PutFault.TheVariants as put
 use Rattle.script_runner.specs.declared.ending.Ending.{Ending}
-use Rattle.script_runner.specs.Outside.{Rose, LoadsTold, LoadCause}
-use Rattle.script_runner.specs.History.{Loaded, Put}
+use Rattle.bundle_store.specs.Outside.{Rose, LoadsTold, LoadCause}
+use Rattle.bundle_store.specs.History.{Loaded, Put}
 use Rattle.script_runner.specs.Ending.{Ended, ending_seen, words_read, memory_end, bad_end, unread_end, script_end, held_end}
 use Rattle.script_runner.specs.Ends.{IsNamedEnding, unput_status}
 use Rattle.script_runner.specs.Done.{LoadsOnce, PutsOnce, PutsText, ComesTo, Decides, TellsBy, PutsRun, PutsFault, PutsMemory}

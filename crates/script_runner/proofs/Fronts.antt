@@ -6,7 +6,7 @@ use Rattle.script_text.specs.declared.faults.ScriptFault.{ScriptFault}
 use Rattle.script_text.specs.declared.faults.ScriptFault.TheVariants.{Bad, OutOfMemory}
 use Rattle.script_text.specs.Reading.{read_of}
 use Rattle.script_text.specs.Seen.{ScriptSeen}
-use Rattle.script_runner.specs.Outside.{Gains}
+use Rattle.bundle_store.specs.Outside.{Gains}
 use Rattle.script_runner.specs.Ending.{Ended, words_read, unread_end, memory_end, script_end, held_end, named_end, ending_of}
 use Rattle.script_runner.specs.Ends.{IsReadEnding, IsEnding, PutsPart, PutsFronts, Tells, success_text, own_text}
 

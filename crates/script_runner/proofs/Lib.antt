@@ -1,5 +1,3 @@
-pub mod InMemory
-pub mod NoBytes
 pub mod Part
 pub mod Fronts
 pub mod Done

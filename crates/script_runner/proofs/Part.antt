@@ -1,9 +1,9 @@
 -- What a put added is a front of what was to be put.
 use Rattle.std.proofs.Common.{refl, sym, ap, ◌∙◌, ℕ, List, [], append-nil, length, Option, Some, None, Result, Ok, Err}
 use Rattle.std.proofs.Math.Seq.{take-length}
-use Rattle.script_runner.specs.declared.outside.PutFault.{PutFault}
-use Rattle.script_runner.specs.declared.outside.PutFault.TheVariants as put
-use Rattle.script_runner.specs.Outside.{PutsTold, Gains}
+use Rattle.bundle_store.specs.declared.outside.PutFault.{PutFault}
+use Rattle.bundle_store.specs.declared.outside.PutFault.TheVariants as put
+use Rattle.bundle_store.specs.Outside.{PutsTold, Gains}
 use Rattle.script_runner.specs.Ends.{PutsPart}
 
 nothing : (old : Option (List ℕ)) → Gains old [] old

@@ -78,7 +78,7 @@ at-start o schedule lps h = record {
 
 -- where the flat machine is after the events of a merge
 where-now : TurnsAreEvents → (o : Opening) (made : List Item) (now : ℕ → WordLp) (u : Table) → IsOpen o → Merge o (leaf_table o.machine) made now u → IsWhere o now (play o (order made) (start o None))
-where-now ls o made now u op m = (ls.merges.turns o (leaf_table o.machine) made now u op.few (ls.leaves o op.machine) m).1
+where-now ls o made now u op m = (ls.merges.turns o (leaf_table o.machine) made now u op.few (ls.leaves o op.machine) (ls.enters o) m).1
 
 -- a processor without lines has none in the flat machine
 ended-flat : TurnsAreEvents → (o : Opening) (schedule left : List ℕ) (lps : List LpState) (b : PlainSeen) (p : ℕ) → IsOpen o → (l : IsMidway o schedule left lps b) → p < length lps → (seen_at lps p).lines ≡ []
@@ -242,7 +242,7 @@ prints (Err x) lines all h e = tt
 pub prints-all : TurnsAreEvents → (o : Opening) (schedule : List ℕ) (lps : List LpState) (b : PlainSeen) → IsOpen o → IsMidway o schedule [] lps b → HaveEnded (length lps) lps → concat (lines_seen 0 lps) ≡ host_text o schedule
 unfolding host_text text_of
 prints-all ls o schedule lps b op l ended =
-    let there = ls.merges.ended o (leaf_table o.machine) l.made (seen_at lps) (table_of b) op.few (ls.leaves o op.machine) l.merge (λ p i. ended p (omega (arith, l.count))) in
+    let there = ls.merges.ended o (leaf_table o.machine) l.made (seen_at lps) (table_of b) op.few (ls.leaves o op.machine) (ls.enters o) l.merge (λ p i. ended p (omega (arith, l.count))) in
     let s : State = run o (order l.made) in
     let lines : lines_from s.lp_count 0 s.lps ≡ lines_seen 0 lps =
     same-lines s.lp_count 0 s.lps lps (l.count ∙ sym (counts_stay o (order l.made ++ to_the_end 0 o.calls) (start o None))) (λ q i. ap (λ (k : ℕ). (s.lps k).replies) (omega arith) ∙ there.1.replies q (omega (arith, counts_stay o (order l.made ++ to_the_end 0 o.calls) (start o None)))) in

@@ -7,12 +7,12 @@ use Rattle.script_text.specs.declared.faults.ScriptFault.TheVariants.{Bad}
 use Rattle.script_text.specs.Reading.{read_of}
 use Rattle.script_text.specs.Seen.{ScriptSeen}
 use Rattle.flat_core.specs.HostText.{host_text}
-use Rattle.script_runner.specs.declared.outside.LoadFault.{LoadFault}
-use Rattle.script_runner.specs.declared.outside.LoadFault.TheVariants as load
-use Rattle.script_runner.specs.declared.outside.PutFault.{PutFault}
-use Rattle.script_runner.specs.declared.outside.PutFault.TheVariants as put
-use Rattle.script_runner.specs.Outside.{LoadsTold, LoadsUntold, LoadCause}
-use Rattle.script_runner.specs.History.{Loaded, Put}
+use Rattle.bundle_store.specs.declared.outside.LoadFault.{LoadFault}
+use Rattle.bundle_store.specs.declared.outside.LoadFault.TheVariants as load
+use Rattle.bundle_store.specs.declared.outside.PutFault.{PutFault}
+use Rattle.bundle_store.specs.declared.outside.PutFault.TheVariants as put
+use Rattle.bundle_store.specs.Outside.{LoadsTold, LoadsUntold, LoadCause}
+use Rattle.bundle_store.specs.History.{Loaded, Put}
 use Rattle.script_runner.specs.Ending.{Ended, words_read, opening_of, usage_end, bad_end, unread_end, memory_end, script_end}
 use Rattle.script_runner.specs.Ends.{unput_status}
 

@@ -5,7 +5,7 @@ use Rattle.script_text.specs.declared.faults.ScriptFault.TheVariants.{Bad}
 use Rattle.script_text.specs.Reading.{read_of}
 use Rattle.script_text.specs.Seen.{ScriptSeen}
 use Rattle.flat_core.specs.HostText.{host_text}
-use Rattle.script_runner.specs.Outside.{Rose, Gains}
+use Rattle.bundle_store.specs.Outside.{Rose, Gains}
 use Rattle.script_runner.specs.Ending.{Ended, words_read, opening_of, usage_end, unread_end, memory_end, held_end}
 
 -- the named script's ending, or a read fault

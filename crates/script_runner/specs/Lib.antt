@@ -1,9 +1,3 @@
-pub mod Seen
-pub mod Outside
-pub mod History
-pub mod Noted
-pub mod Held
-pub mod Listed
 pub mod Ending
 pub mod Replaying
 pub mod Ends

@@ -13,7 +13,7 @@ use Rattle.leaf_engine.specs.Merges.{Item, order}
 use Rattle.merge_laws.specs.Merge.{Merge}
 use Rattle.merge_laws.specs.Laws.{MergesAreRuns}
 use Rattle.leaf_dispatch.specs.Table.{leaf_table}
-use Rattle.leaf_dispatch.specs.Laws.{CallsHaveLeaves}
+use Rattle.leaf_dispatch.specs.Laws.{CallsHaveLeaves, NoneEnters}
 use Rattle.leaf_dispatch.specs.States.{seen_of}
 use Rattle.leaf_dispatch.specs.declared.states.LpState.{LpState}
 
@@ -58,6 +58,7 @@ pub record IsMidway (o : Opening) (schedule left : List ℕ) (lps : List LpState
 pub record TurnsAreEvents : Type 0 where
   pub merges : MergesAreRuns
   pub leaves : CallsHaveLeaves
+  pub enters : NoneEnters
   pub pieces : TurnsInPieces
   pub runs_out : EventsRunOut
   pub others : OthersStay

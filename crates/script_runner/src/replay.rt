@@ -10,7 +10,7 @@ ghost use Rattle.script_runner.specs.Replaying.{AreFirst, IsMidway, HaveEnded, T
 
 use crate::report::host_lines;
 use flat_core::{end_laws, event_laws};
-use leaf_dispatch::{LpState, calls_have_leaves};
+use leaf_dispatch::{LpState, calls_have_leaves, none_enters};
 use leaf_engine::{Processor, Turn, turns_in_pieces};
 use merge_laws::merge_law;
 use script_text::Script;
@@ -24,6 +24,7 @@ fn laws_of_turns()
 {
     merge_law();
     calls_have_leaves();
+    none_enters();
     turns_in_pieces();
     end_laws();
     event_laws();

@@ -2,14 +2,14 @@
 
 ghost use Rattle.std.specs.Prelude.{◌≡◌, ◌≢◌, ◌≤◌, ◌⊎◌, ◌↔◌, ◌++◌, ◌∷◌, [], ℕ, List, Option, None, Result, Ok, Err, map, string_bytes, IfSome, IfOk, IfNone};
 ghost use Rattle.std.specs.Global.{Vec};
-ghost use Rattle.script_runner.specs.Outside.{Rose, Gains};
-ghost use Rattle.script_runner.specs.History.{Loaded, Put};
+ghost use Rattle.bundle_store.specs.Outside.{Rose, Gains};
+ghost use Rattle.bundle_store.specs.History.{Loaded, Put};
 ghost use Rattle.script_runner.specs.Ending.{ending_seen, ending_of, words_read, memory_end};
 ghost use Rattle.script_runner.specs.Ends.{IsNamedEnding, IsEnding, Tells, EndsWith, OneRun, IsBadScript, ReadCause, PutsPart, PutsFronts, success_text, IsComplete, own_text};
 ghost use Rattle.script_runner.specs.Done.{LoadsOnce, LoadsNamed, ComesTo, Decides, TellsBy, Does, PutsOnce, PutsRun, PutsUsage, PutsFault, PutsName, PutsMemory, IsLoad, AreLoads};
 
 use crate::ending::{Ending, bad, of_bytes, script_name, unread, usage};
-use crate::outside::{Files, LoadFault, PutFault, Sink};
+use bundle_store::{Files, LoadFault, PutFault, Sink};
 use leaf_engine::Gate;
 use script_text::Reason;
 use std::alloc::{AllocError, Global};

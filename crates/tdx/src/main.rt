@@ -1,8 +1,9 @@
 //! `tdx`: runs scripts of calls on the modelled TDX module.
 #![tactic(auto)]
 
+use bundle_store::{DiskFiles, StdSink};
 use leaf_engine::NoGate;
-use script_runner::{DiskFiles, StdSink, give_up, tdx_main};
+use script_runner::{give_up, tdx_main};
 use std::alloc::AllocError;
 use std::env;
 use std::io::ErrorKind;
