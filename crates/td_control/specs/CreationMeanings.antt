@@ -221,9 +221,6 @@ module _ (m : Machine) (c : Instant) (t h : ℕ) (la : Lawful m c.state.world) (
   key-read : Reads (hold c (both_locks t)) c.state.world (key_place h) Whole
   key-read = rw (key-apart h 0 (omega arith)) (inl (refl, tt))
 
-  key-means : is_host c.state.world t ≡ true → Means m c k (page_alone t) (key_tree t h) (keys_exclusive ∷ needs (is_key_free c.state.world h) HkidNotFree ∷ [])
-  key-means host = (refl, refl, key-tried, (key-in m h its-range, inl key-read, (free_shown m c h sh its-range, λ e. refl, λ free. ended host free)))
-
 pub create-means : (p : Place) (t h : ℕ) → MeansRow (create_task p t h)
 create-means p t h = record {
   means = λ c at.
@@ -231,5 +228,9 @@ create-means p t h = record {
       let rest : List (Item Reply) = keys_exclusive ∷ needs (is_key_free c.state.world h) HkidNotFree ∷ [] in
       let page_tree : Tree = tree.Lock (OfPage t) (place.Lock t) Exclusive (tree.Load Whole (place.Pamt t) (λ pamt. tree.needs (says_host pamt) (PageMetadataIncorrect t) (key_tree t h))) in
       checks-mean p.machine c k [] ((nat_lt t p.machine.pages, OperandInvalid 1) ∷ (is_hkid p.machine h, OperandInvalid 2) ∷ []) page_tree (page_exclusive t ∷ host_page c.state.world t ∷ rest)
-      (λ a. host-page-means p.machine c k [] at.shown t (ltb-true t p.machine.pages a.0) (key_tree t h) rest (λ host. key-means p.machine c t h at.lawful at.shown a.0 a.1.0 host)));
+      (λ a. host-page-means p.machine c k [] at.shown t (ltb-true t p.machine.pages a.0) (key_tree t h) rest (λ host.
+      (let range : IsHkid p.machine h = range_of h p.machine.hkids a.1.0 in
+      let tried : Locks p.machine c (page_alone t) OfKeys (place.Key KEY_LOCK) = key-tried p.machine c t h at.lawful at.shown a.0 a.1.0 in
+      let read : Reads (hold c (both_locks t)) c.state.world (key_place h) Whole = key-read p.machine c t h at.lawful at.shown a.0 a.1.0 in
+      (refl, refl, tried, (key-in p.machine h range, inl read, (free_shown p.machine c h at.shown range, λ e. refl, λ free. ended p.machine c t h at.lawful at.shown a.0 a.1.0 host free)))))));
 }
