@@ -1,0 +1,9 @@
+//! Worked merges: two processors that make word steps inside one another's turns.
+//!
+//! Stands on `merge_laws` and `leaf_dispatch`. No layer stands on it: it shows that there are merges
+//! which the law of merges speaks of, and what they come to.
+#![tactic(auto)]
+
+mod laws;
+
+pub use laws::worked_merges;
