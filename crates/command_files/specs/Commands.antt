@@ -1,5 +1,5 @@
 -- Commands: a script, and options that name files.
-use Rattle.std.specs.Prelude.{ℕ, List, [], ◌∷◌, drop, length, slice_index_or, Option, Some, None, is_some, option_map, Bool, true, false, ◌==◌, if◌then◌else◌, codes}
+use Rattle.std.specs.Prelude.{ℕ, List, [], ◌∷◌, slice_index_or, Option, Some, None, is_some, option_map, Bool, ◌==◌, if◌then◌else◌, codes}
 use Rattle.std.specs.Str.{bytes_eq}
 use Rattle.command_files.specs.declared.commands.Choice.{Choice}
 use Rattle.command_files.specs.declared.commands.Choice.TheVariants as choice

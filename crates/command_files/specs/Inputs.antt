@@ -1,5 +1,5 @@
 -- The input files that a command names: what is loaded, and the fault that is due by it.
-use Rattle.std.specs.Prelude.{◌≡◌, ◌≤◌, ℕ, ◌^◌, List, [], ◌∷◌, ◌++◌, length, Option, Some, None, is_none, IfSome, IfNone, Result, Ok, Err, Bool, true, false, ◌==◌, if◌then◌else◌}
+use Rattle.std.specs.Prelude.{◌≡◌, ◌≤◌, ℕ, ◌^◌, List, [], ◌∷◌, ◌++◌, length, Option, Some, None, IfSome, IfNone, Result, Ok, Err, ◌==◌, if◌then◌else◌}
 use Rattle.std.specs.Global.{Vec}
 use Rattle.td_words.specs.Seen.{BundleSeen}
 use Rattle.bundle_store.specs.declared.outside.LoadFault.{LoadFault}

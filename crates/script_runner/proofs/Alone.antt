@@ -1,5 +1,5 @@
 -- A command that names no file but the script loads nothing else.
-use Rattle.std.proofs.Common.{◌≡◌, ◌≢◌, ◌≤◌, ◌⊎◌, refl, sym, ◌∙◌, ap, subst, ℕ, ◌^◌, inl, inr, List, [], ◌∷◌, ◌++◌, append_assoc, Option, Some, None, IfSome, IfNone, Result, Ok, Err, IfOk, arith}
+use Rattle.std.proofs.Common.{◌≡◌, ◌≢◌, ◌⊎◌, refl, sym, ◌∙◌, ap, subst, ℕ, ◌^◌, inl, inr, List, [], ◌∷◌, ◌++◌, append_assoc, Option, Some, None, IfSome, IfNone, Result, Ok, Err, IfOk, arith}
 use Rattle.std.specs.Global.{Vec}
 use Rattle.std.specs.declared.alloc.AllocError.{AllocError}
 use Rattle.script_text.specs.declared.faults.ScriptFault.{ScriptFault}
