@@ -1,7 +1,8 @@
 //! Files and outputs in memory.
 
-use bundle_store::{Files, HonestFiles, HonestSink, LoadFault, MemFiles, MemSink, NamedFile};
-use bundle_store::{SaveFault, Sink};
+use bundle_store::{
+    Files, HonestFiles, HonestSink, LoadFault, MemFiles, MemSink, NamedFile, SaveFault, Sink,
+};
 use std::alloc::Global;
 use std::test::Fail;
 
