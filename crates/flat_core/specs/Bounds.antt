@@ -15,11 +15,17 @@ use Rattle.flat_core.specs.Laws.{reached, with_bundles, IsKept}
 abbrev pub RowsTryFew : Type 0
 RowsTryFew = (o : Opening) (me : ℕ) (c : Call) (w : World) → tries_in ((row_of o me c).items w) ≤ most_tries c
 
--- a call that tries so many locks at most, and holds so many: the tries to come, the act, and the releases; or the undo
--- and the releases
+-- a call that tries so many locks at most, and holds so many: the tries to come, the act, and the releases
+abbrev pub trying_left : (tries held : ℕ) → ℕ
+trying_left n held = 2 * n + 1 - held
+
+-- or the undo and the releases
+abbrev pub undoing_left : ℕ → ℕ
+undoing_left held = held + 1
+
 abbrev pub call_left : ℕ → Phase Reply → ℕ → ℕ
-call_left n Trying held = 2 * n + 1 - held
-call_left n (Undoing l) held = held + 1
+call_left n Trying held = trying_left n held
+call_left n (Undoing l) held = undoing_left held
 call_left n (Answered r) held = held
 
 -- a processor with these lines left; no call that is built enters a guest

@@ -1,16 +1,13 @@
 -- The leaf that writes the caches back means its row.
-use Rattle.std.proofs.Common.{◌≡◌, ℕ, suc, zero, ◌+◌, ◌-◌, ◌*◌, ◌%◌, ◌<◌, ◌≤◌, true, false, ◌==◌, nat_lt, List, [], ◌∷◌, ◌++◌, Option, Some, None, refl, ap, sym, ◌∙◌, subst, inl, arith}
+use Rattle.std.proofs.Common.{◌≡◌, ℕ, suc, zero, ◌+◌, ◌-◌, ◌*◌, ◌%◌, ◌<◌, ◌≤◌, true, false, ◌==◌, nat_lt, List, [], ◌∷◌, ◌++◌, Option, refl, ap, sym, ◌∙◌, subst, inl, arith}
 use Rattle.std.proofs.lemmas.Bool.{eqb-true, ne_eqb, ltb-true}
 use Rattle.std.proofs.lemmas.Bool.Decides.{nat_tests}
-use Rattle.td_words.specs.declared.names.PageKind.{PageKind}
-use Rattle.td_words.specs.declared.names.PageKind.TheVariants as kind
 use Rattle.td_words.specs.declared.machines.Machine.{Machine}
 use Rattle.td_words.specs.declared.calls.Call.TheVariants as call
 use Rattle.td_words.specs.Packing.{Key, Unassigned, AssignedTo, FlushedOf, key_word}
 use Rattle.td_words.specs.Place.{WordPlace, IsIn}
 use Rattle.td_words.specs.Place as place
-use Rattle.flat_core.specs.World.{World, KeyTable}
-use Rattle.flat_core.specs.Processor.{LockId, OfKeys}
+use Rattle.flat_core.specs.Processor.{OfKeys}
 use Rattle.flat_core.specs.Effects.{write_back, written_back}
 use Rattle.flat_core.specs.KeyRows.{write_caches_back}
 use Rattle.flat_core.specs.Lawful.{Lawful, key_owner}
@@ -18,12 +15,13 @@ use Rattle.flat_core.specs.Event.{State}
 use Rattle.flat_core.proofs.Tests.{by_test}
 use Rattle.word_rules.specs.Rules.{KeepsNothing}
 use Rattle.word_rules.specs.Permissions.{Respects}
-use Rattle.word_rules.specs.Cells.{Shows, IsAs, cell, page_cell, control_cell, root_cell, entry_cell, if_stands, key_cell, lock_word, built_hasher, hasher_cell}
+use Rattle.word_rules.specs.Cells.{Shows, IsAs, cell, key_cell, lock_word, hasher_cell}
 use Rattle.act_rules.proofs.Rows.{rows-respect}
 use Rattle.leaf_engine.specs.declared.needs.Place.{Place}
 use Rattle.leaf_engine.specs.Changes.{Memory, Change, Put, changed, changed_all}
 use Rattle.leaf_engine.specs.Means.{Instant, Means, Work, work_of, OfCall, MeansRow, MayChange, MayOweAll, hold}
 use Rattle.leaf_parts.proofs.Acted.{opening}
+use Rattle.leaf_parts.proofs.Aside.{page-kept, control-kept}
 use Rattle.leaf_parts.proofs.Begun.{keys_lock}
 use Rattle.key_table.specs.Words.{marked}
 use Rattle.key_table.specs.CacheTrees.{mark_keys, cache_task}
@@ -79,36 +77,6 @@ module _ (words : WordPlace → ℕ) where
   word_stays number zero p i mem = refl
   word_stays number (suc left) p i mem = word_stays (suc number) left p i (changed (Put (place.Key number) (marked (words (place.Key number)))) mem)
 
--- the words of pages don't depend on the key table
-module _ (w : World) (table : KeyTable) (locks : LockId → ℕ) where
-  abbrev with-table : World
-  with-table = record w { key_table = table }
-
-  root-kept : (u p i : ℕ) (cs : List ℕ) → root_cell with-table u p cs i ≡ root_cell w u p cs i
-  root-kept u p i [] = refl
-  root-kept u p i (r ∷ rest) = refl
-
-  control-kept : (u p i : ℕ) (cs : List ℕ) → control_cell with-table locks u p cs i ≡ control_cell w locks u p cs i
-  control-kept u p i [] = refl
-  control-kept u p i (c ∷ rest) = rw (root-kept u p i rest) refl
-
-  entry-kept : (u level n i : ℕ) → entry_cell with-table u level n i ≡ entry_cell w u level n i
-  entry-kept u zero n i = refl
-  entry-kept u (suc level) n i = refl
-
-  page-kept : (u p i : ℕ) (k : PageKind) → page_cell with-table locks u p k i ≡ page_cell w locks u p k i
-  page-kept u p i kind.Nda = refl
-  page-kept u p i kind.Reg = refl
-  page-kept u p i kind.Tdr = refl
-  page-kept u p i kind.Tdcx = ap (λ (x : Option ℕ). if_stands (w.tds.lives u) x) (control-kept u p i (w.tds.controls u))
-  page-kept u p i kind.Tdvpr = refl
-  page-kept u p i kind.Ept = ap (λ (x : Option ℕ). if_stands (w.tds.lives u) x) (entry-kept u (w.pages.levels p) (w.pages.numbers p) i)
-  page-kept u p i kind.Migsc = refl
-
-  hasher-kept : (o : Option ℕ) → built_hasher with-table o ≡ built_hasher w o
-  hasher-kept None = refl
-  hasher-kept (Some u) = refl
-
 -- the words after it
 module _ (m : Machine) (s : State) (mem : Memory) (sh : Shows m mem.words mem.slots s) where
   abbrev after : Memory
@@ -144,12 +112,14 @@ module _ (m : Machine) (s : State) (mem : Memory) (sh : Shows m mem.words mem.sl
       at (place.Lock p) b = rw (lock_stays mem.words 3 m.hkids p mem) (sh.word (place.Lock p) b)
       at (place.Pamt p) b = rw (pamt_stays mem.words 3 m.hkids p mem) (sh.word (place.Pamt p) b)
       at (place.Key j) b = key_marked j b
-      at (place.Word p i) b = rw (word_stays mem.words 3 m.hkids p i mem) (subst (λ (x : Option ℕ). IsAs x (mem.words (place.Word p i)))
-          (sym (page-kept s.world s'.world.key_table (lock_word s.lps s.lp_count) (s.world.pages.owners p) p i (s.world.pages.kinds p))) (sh.word (place.Word p i) b))
+      at (place.Word p i) b = rw (word_stays mem.words 3 m.hkids p i mem) (page-kept s s'.world p i (mem.words (place.Word p i)) (record {
+        words = λ j. refl;
+        tdr = λ is j. refl;
+        owned = λ o. record { stands = λ z. z; level = refl; number = refl; entries = λ l e. refl; vp = λ j. refl; stream = λ j. refl; control = λ is z. control-kept refl (λ l e. refl) (λ f j. refl) };
+      }) refl refl (sh.word (place.Word p i) b))
 
       slot : (h : ℕ) → IsAs (hasher_cell s'.world h) (after.slots h)
-      slot h = rw (slots_stay mem.words 3 m.hkids mem, same_owner (s.world.key_table.keys h)) (subst (λ (x : Option (Option (List ℕ))). IsAs x (mem.slots h))
-          (sym (hasher-kept s.world s'.world.key_table (lock_word s.lps s.lp_count) (key_owner (s.world.key_table.keys h)))) (sh.hasher h))
+      slot h = rw (slots_stay mem.words 3 m.hkids mem, same_owner (s.world.key_table.keys h)) (sh.hasher h)
 
 abbrev the_work : Work
 the_work = work_of (OfCall write_caches_back)

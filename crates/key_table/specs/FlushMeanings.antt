@@ -9,6 +9,7 @@ use Rattle.td_words.specs.declared.names.LifeState.TheVariants as life
 use Rattle.td_words.specs.declared.names.Mode.TheVariants.{Exclusive}
 use Rattle.td_words.specs.declared.machines.Machine.{Machine}
 use Rattle.td_words.specs.declared.calls.Call.TheVariants as call
+use Rattle.td_words.specs.declared.refusals.Status.TheVariants.{OperandInvalid}
 use Rattle.td_words.specs.declared.replies.Reply.{Reply}
 use Rattle.td_words.specs.declared.replies.Value.TheVariants as value
 use Rattle.td_words.specs.declared.replies.Reply.TheVariants.{Done}
@@ -30,13 +31,14 @@ use Rattle.word_rules.specs.Cells.{Shows, associated_word, lock_word}
 use Rattle.act_rules.proofs.Rows.{rows-respect}
 use Rattle.leaf_engine.specs.declared.needs.Place.{Place}
 use Rattle.leaf_engine.specs.Changes.{Put, changed}
-use Rattle.leaf_engine.specs.Trees.{acts}
+use Rattle.leaf_engine.specs.Trees.{Tree, acts}
 use Rattle.leaf_engine.specs.Means.{Instant, IsHkid, Means, Work, work_of, OfCall, MeansRow, hold}
 use Rattle.leaf_parts.specs.Words.{page_told}
 use Rattle.leaf_parts.specs.Vps.{vps_tree, apart_in}
 use Rattle.leaf_parts.proofs.Acted.{opening}
-use Rattle.leaf_parts.proofs.Begun.{tdr-head-means, TwoControls, two-controls, page_alone, both_locks, holds-newest, alone-newest}
-use Rattle.leaf_parts.proofs.Told.{page-back, tdr-shown, tdr-spot, tdcs-spot}
+use Rattle.leaf_parts.proofs.Checks.{tdr-row-means, tdr-load}
+use Rattle.leaf_parts.proofs.Begun.{TwoControls, two-controls, page_alone, both_locks, holds-newest, alone-newest}
+use Rattle.leaf_parts.proofs.Told.{page-back, tdcs-spot}
 use Rattle.leaf_parts.proofs.Vps.{vp-shown, vp-spot}
 use Rattle.leaf_parts.proofs.VpTrees.{vps-mean}
 use Rattle.key_table.specs.Words.{key_number}
@@ -87,6 +89,21 @@ module _ (m : Machine) (c : Instant) (t : ℕ) (shown : Shows m c.memory.words c
       ((holds-newest t Exclusive c.kept, alone-newest t c.kept), ((refl, refl), tt))
 
   -- so many are associated
+  ended : (associated_count w t == 0) ≡ true → Means m c work (both_locks t) (acts (Done value.Nothing) (end_changes m t h (FlushedOf t false) life.Blocked)) []
+  ended none = (
+    record {
+      answers = record { reply_is = refl; cached_is = refl; enters_is = refl; notes_are = refl; tells_are = refl; bundles_are = refl };
+      fills_allowed = tt;
+      respects = flush_respects none;
+      locks_stay = ((refl, λ x. x), ((refl, λ x. x), tt));
+      shows = ended_shown m c.state c.memory t life.Blocked (FlushedOf t false) shown la alive (slot_stays m c.state c.memory t life.Blocked (FlushedOf t false) shown la alive);
+    },
+    (
+      (key_inside m h, (KeepsNothing, rw (key_lock_apart m h range) (inl (refl, tt)), tt)),
+      life_owed m c t life.Blocked (FlushedOf t false) (changed (Put (place.Key (key_number m h)) (key_word (FlushedOf t false))) c.memory) la in_page is,
+    ),
+  )
+
   counted-means : Means m c work (page_alone t) (flush_counted m t (associated_count w t)) items
   counted-means = (
     refl,
@@ -95,24 +112,7 @@ module _ (m : Machine) (c : Instant) (t : ℕ) (shown : Shows m c.memory.words c
       refl,
       refl,
       record { in_machine = omega arith; at = refl; stands = tt; allowed = inl tt },
-      (
-        (in_page, omega arith),
-        inl (rw (tdr-spot w t 1 is own) (inl (holds-newest t Exclusive c.kept, tt))),
-        (let now : c.memory.words (place.Word t 1) ≡ h = tdr-shown m c.memory.words c.memory.slots c.state shown t 1 is own in_page (omega arith) in
-            subst (λ (k : ℕ). Means m c work (both_locks t) (acts (Done value.Nothing) (end_changes m t k (FlushedOf t false) life.Blocked)) []) (sym now) (
-              record {
-                answers = record { reply_is = refl; cached_is = refl; enters_is = refl; notes_are = refl; tells_are = refl; bundles_are = refl };
-                fills_allowed = tt;
-                respects = flush_respects none;
-                locks_stay = ((refl, λ x. x), ((refl, λ x. x), tt));
-                shows = ended_shown m c.state c.memory t life.Blocked (FlushedOf t false) shown la alive (slot_stays m c.state c.memory t life.Blocked (FlushedOf t false) shown la alive);
-              },
-              (
-                (key_inside m h, (KeepsNothing, rw (key_lock_apart m h range) (inl (refl, tt)), tt)),
-                life_owed m c t life.Blocked (FlushedOf t false) (changed (Put (place.Key (key_number m h)) (key_word (FlushedOf t false))) c.memory) la in_page is,
-              ),
-            )),
-      ),
+      tdr-load m c work (both_locks t) shown t 1 h is own in_page (omega arith) refl (inl (holds-newest t Exclusive c.kept, tt)) (λ k. acts (Done value.Nothing) (end_changes m t k (FlushedOf t false) life.Blocked)) [] (ended none),
     ),
   )
 
@@ -130,35 +130,26 @@ module _ (m : Machine) (c : Instant) (t : ℕ) (shown : Shows m c.memory.words c
     says : (v : ℕ) → IsPageOf w.pages t v kind.Tdvpr → v < m.pages → (c.memory.words (place.Word v 2) ≡ associated_word (w.vps.associated v)) × Reads (hold c (page_alone t)) w (place.Word v 2) Whole
     says v its v_in = (vp-shown m c.memory.words c.memory.slots c.state shown t alive.life v 2 its v_in (omega arith), rw (vp-spot w t v 2 its) (inl (alone-newest t c.kept, tt)))
 
+    abbrev vps-from : ℕ → Tree
+    vps-from p = vps_tree m.pages (free_vp (page_told m.pages p)) (flush_counted m t)
+
     with_tdcs : Means m c work (page_alone t) (flush_vps m t true) items
     with_tdcs =
         let first : slice_index (w.tds.controls t) 0 ≡ x.tdcs = ap (λ (cs : List ℕ). slice_index cs 0) x.list in
-        let said : c.memory.words (place.Word t 4) ≡ x.tdcs = tdr-shown m c.memory.words c.memory.slots c.state shown t 4 is own in_page (omega arith) ∙ first in
-        let all : apart_in (λ v. associated_word (w.vps.associated v)) 0 (w.tds.vps t) ≡ associated_count w t = all_said w.vps.associated (w.tds.vps t) in (
-          (in_page, omega arith),
-          inl (rw (tdr-spot w t 4 is own) (inl (holds-newest t Exclusive c.kept, tt))),
-          subst (λ (p : ℕ). Means m c work (page_alone t) (vps_tree m.pages (free_vp p) (flush_counted m t)) items) (sym (ap (page_told m.pages) said ∙ page-back m.pages x.tdcs x.tdcs_in))
-              (vps-mean m c work (page_alone t) items t la shown alive x tdcs_reads 2 0 (λ v. associated_word (w.vps.associated v)) (omega arith) says (flush_counted m t) (counted _ all)),
-        )
+        let all : apart_in (λ v. associated_word (w.vps.associated v)) 0 (w.tds.vps t) ≡ associated_count w t = all_said w.vps.associated (w.tds.vps t) in
+        tdr-load m c work (page_alone t) shown t 4 (slice_index (w.tds.controls t) 0) is own in_page (omega arith) refl (inl (holds-newest t Exclusive c.kept, tt)) vps-from items
+        (subst (λ (p : ℕ). Means m c work (page_alone t) (vps_tree m.pages (free_vp p) (flush_counted m t)) items) (sym (ap (page_told m.pages) first ∙ page-back m.pages x.tdcs x.tdcs_in))
+        (vps-mean m c work (page_alone t) items t la shown alive x tdcs_reads 2 0 (λ v. associated_word (w.vps.associated v)) (omega arith) says (flush_counted m t) (counted _ all)))
 
   flush_vps-means : (b : Bool) → (length (w.tds.controls t) == 2) ≡ b → Means m c work (page_alone t) (flush_vps m t b) items
   flush_vps-means true e = with_tdcs e
   flush_vps-means false e = (let none : w.tds.vps t ≡ [] = (la.beginnings.is_new t alive e).vps in counted 0 (sym (ap (associated_in w.vps.associated) none)))
 
   flush_rest-means : Means m c work (page_alone t) (flush_rest m t) items
-  flush_rest-means = (
-    (in_page, omega arith),
-    inl (rw (tdr-spot w t 3 is own) (inl (holds-newest t Exclusive c.kept, tt))),
-    (let now : c.memory.words (place.Word t 3) ≡ length (w.tds.controls t) = tdr-shown m c.memory.words c.memory.slots c.state shown t 3 is own in_page (omega arith) in
-        subst (λ (n : ℕ). Means m c work (page_alone t) (flush_vps m t (n == 2)) items) (sym now) (flush_vps-means (length (w.tds.controls t) == 2) refl)),
-  )
+  flush_rest-means = tdr-load m c work (page_alone t) shown t 3 (length (w.tds.controls t)) is own in_page (omega arith) refl (inl (holds-newest t Exclusive c.kept, tt)) (λ n. flush_vps m t (n == 2)) items (flush_vps-means (length (w.tds.controls t) == 2) refl)
 
 pub flush-means : (p : Place) (t : ℕ) → MeansRow (flush_task p t)
 flush-means p t = record {
-  means = λ c at. (
-    refl,
-    λ e. refl,
-    λ a. tdr-head-means p.machine c (work_of (OfCall (end_flush p.machine t))) t (ltb-true t p.machine.pages a) at.lawful at.shown flushable (flush_rest p.machine t) (none_associated c.state.world t ∷ keys_exclusive ∷ [])
-        (λ is among. flush_rest-means p.machine c t at.shown at.lawful a is among),
-  );
+  means = λ c at. tdr-row-means p.machine c (work_of (OfCall (end_flush p.machine t))) t at.lawful at.shown ((nat_lt t p.machine.pages, OperandInvalid 1) ∷ []) (λ a. ltb-true t p.machine.pages a.0) flushable (flush_rest p.machine t)
+      (none_associated c.state.world t ∷ keys_exclusive ∷ []) (λ a is among. flush_rest-means p.machine c t at.shown at.lawful a.0 is among);
 }

@@ -18,18 +18,19 @@ use Rattle.leaf_engine.specs.declared.processors.Turn.{Turn}
 use Rattle.leaf_engine.specs.declared.processors.Turn.TheVariants as turn
 use Rattle.leaf_engine.specs.Trees.{Tree}
 use Rattle.leaf_engine.specs.Means.{Task, OfCall, MeansRow}
-use Rattle.leaf_engine.specs.Calls.{IsCallAt, IsShown, GoesOn, IsOver, After, CallsFollow, CallsBegin, StartIsMet}
+use Rattle.leaf_engine.specs.Besides.{Beside, beside_of, beside_after}
+use Rattle.leaf_engine.specs.Calls.{IsCallAt, IsShown, Then, After, CallsFollow, CallsBegin, StartIsMet}
 use Rattle.leaf_engine.specs.Reached.{ReachedIsMet}
 use Rattle.leaf_engine.specs.Tables.{IsMemory}
 use Rattle.leaf_engine.specs.Turns.{Standing, standing, last_reply}
 use Rattle.leaf_engine.specs.OwnLists.{Piece, taken_in, WordLp, first_lp, running, after_turn, LinesTurn, LpTurns}
 use Rattle.leaf_engine.specs.Processors.{Turned, has_moved}
-use Rattle.leaf_engine.specs.Merges.{no_table, AreLeaves}
+use Rattle.leaf_engine.specs.Merges.{no_table, AreLeaves, LinesEnterNone}
 use Rattle.leaf_engine.proofs.Pieces.{turn-of-taken}
 use Rattle.leaf_dispatch.specs.Bounds.{events_left}
 use Rattle.leaf_dispatch.specs.Table.{task_of, leaf_table}
 use Rattle.leaf_dispatch.specs.States.{seen_of, Moves}
-use Rattle.leaf_dispatch.specs.Laws.{CallsHaveLeaves}
+use Rattle.leaf_dispatch.specs.Laws.{CallsHaveLeaves, NoneEnters}
 use Rattle.leaf_dispatch.specs.Follows.{in_hand, IsRunIn, StandsAt, IsProcessor, LpStands, IsNext, ProcessorsFollow}
 use Rattle.leaf_dispatch.specs.declared.states.LpState.{LpState}
 
@@ -44,7 +45,7 @@ one-longer : (rs : List Reply) (r : Reply) → length (rs ++ r ∷ []) ≡ suc (
 one-longer [] r = refl
 one-longer (x ∷ rs) r = ap suc (one-longer rs r)
 
-module _ (begin : CallsBegin) (follow : CallsFollow) (met : ReachedIsMet) (o : Opening) (schedule : List ℕ) (p : ℕ) (few : length o.calls ≤ 8) (inside : p < length o.calls) (trees : Call → Tree) where
+module _ (begin : CallsBegin) (follow : CallsFollow) (met : ReachedIsMet) (o : Opening) (schedule : List ℕ) (p : ℕ) (few : length o.calls ≤ 8) (inside : p < length o.calls) (trees : Call → Tree) (none : LinesEnterNone o) where
   abbrev s : State
   s = reached o None schedule
 
@@ -52,7 +53,7 @@ module _ (begin : CallsBegin) (follow : CallsFollow) (met : ReachedIsMet) (o : O
   abbrev leaf : Call → Task
   leaf c = record { place = record { machine = o.machine; lp = p }; tree = trees c; meaning = OfCall (row_of o p c) }
 
-  module _ (means : (c : Call) → MeansRow (leaf c)) (t u : Table) (c : Call) (cs : List Call) (run : Option Standing) (rs : List Reply) (at : StandsAt o leaf s t p (record { lines = c ∷ cs; run = run; replies = rs })) where
+  module _ (means : (c : Call) → MeansRow (leaf c)) (t u : Table) (c : Call) (cs : List Call) (run : Option Standing) (rs : List Reply) (b : Beside) (at : StandsAt o leaf s t p (record { lines = c ∷ cs; run = run; replies = rs; beside = b })) where
     -- where its call is, begun or not
     call-at : (r : Option Standing) → IsRunIn o leaf p s at.memory (c ∷ cs) r → IsCallAt o (leaf c) (row_of o p c) s.world at.memory.words (s.lps p) (running (leaf c) r)
     call-at None i = begin o (leaf c) (row_of o p c) s.world at.memory.words (s.lps p) (record { call = c; further = cs; lines = at.lines; row_is = refl }) i.0
@@ -70,23 +71,35 @@ module _ (begin : CallsBegin) (follow : CallsFollow) (met : ReachedIsMet) (o : O
     shown = met o schedule (leaf c) at.memory t (running (leaf c) run) refl inside few at.shows (hand-at run at.is) (empty-at run at.run)
 
     -- where it is after the turn
-    arrives : (stands : Standing) (reply : Option Reply) → After o (leaf c) (row_of o p c) (s.lps p).replies (event o s p) u stands reply → StandsAt o leaf (event o s p) u p (after_turn c cs rs stands reply)
-    arrives stands reply af = by reply af.then_
+    arrives : (stands : Standing) (result : RunTurn) → After o (leaf c) (row_of o p c) s (event o s p) u stands result → StandsAt o leaf (event o s p) u p (after_turn c cs rs (beside_after result.event stands.rest b) stands result.reply)
+    arrives stands result af = by result.reply af.then_
       where
+        has : Beside
+        has = beside_after result.event stands.rest b
+
+        besides : beside_of ((event o s p).lps p) has.bundles ≡ has
+        besides = subst (λ (z : Beside). let x = beside_after result.event stands.rest z in beside_of ((event o s p).lps p) x.bundles ≡ x) at.beside (af.beside b.bundles)
+
+        enters : (row_of o p c).enters ≡ None
+        enters = none p (length (s.lps p).replies) c cs at.lines
+
         by : (reply : Option Reply)
-            → GoesOn o (leaf c) (row_of o p c) (s.lps p).replies (event o s p).world af.mem ((event o s p).lps p) stands reply ⊎ IsOver (s.lps p).replies ((event o s p).lps p) reply
-            → StandsAt o leaf (event o s p) u p (after_turn c cs rs stands reply)
+            → Then o (leaf c) (row_of o p c) (s.lps p) (event o s p).world af.mem ((event o s p).lps p) stands reply
+            → StandsAt o leaf (event o s p) u p (after_turn c cs rs has stands reply)
         by None (inl go) = record {
           memory = af.mem;
           is = af.memory;
           shows = af.shown;
           lines = ap (λ (z : List Reply). drop (length z) (calls_of o.calls p)) go.replies_are ∙ at.lines;
           replies = go.replies_are ∙ at.replies;
+          beside = besides;
           run = (go.call, go.empty_hand);
         }
         by (Some r) (inl go) = (let none = go.no_reply in cc)
-        by None (inr ov) = (let some = ov.reply_is in cc)
-        by (Some r) (inr ov) =
+        by None (inr (inl ov)) = (let some = ov.reply_is in cc)
+        by None (inr (inr x)) = (let bad = sym enters ∙ x.enters in cc)
+        by (Some r) (inr (inr x)) = (let bad = sym enters ∙ x.enters in cc)
+        by (Some r) (inr (inl ov)) =
             let r-is : ov.answer ≡ r = (let some = ov.reply_is in cc) in
             record {
               memory = record af.mem { hand = None };
@@ -96,10 +109,11 @@ module _ (begin : CallsBegin) (follow : CallsFollow) (met : ReachedIsMet) (o : O
                   ap (λ (z : List Reply). drop (length z) (calls_of o.calls p)) ov.replies_are
                   ∙ (ap (λ (n : ℕ). drop n (calls_of o.calls p)) (one-longer (s.lps p).replies ov.answer) ∙ drop-next (length (s.lps p).replies) (calls_of o.calls p) cs c at.lines);
               replies = ov.replies_are ∙ (ap (λ (z : List Reply). z ++ ov.answer ∷ []) at.replies ∙ ap (λ (z : Reply). rs ++ z ∷ []) r-is);
+              beside = besides;
               run = (ov.between, refl);
             }
 
-    line-follows : (e : RunEvent) (ps : List Piece) (after : WordLp) → PlaysTo t (taken_in ps) u → LinesTurn leaf o.machine (c ∷ cs) run rs e ps after
+    line-follows : (e : RunEvent) (ps : List Piece) (after : WordLp) → PlaysTo t (taken_in ps) u → LinesTurn leaf o.machine (c ∷ cs) run rs b e ps after
         → ((f : Event) × (next_event o s p ≡ Some f)) × StandsAt o leaf (event o s p) u p after
     line-follows e ps after plays lt =
         let result : RunTurn = record { event = e; reply = last_reply lt.stands.stage lt.stands.held } in
@@ -107,13 +121,13 @@ module _ (begin : CallsBegin) (follow : CallsFollow) (met : ReachedIsMet) (o : O
         follow o (leaf c) (row_of o p c) s at.memory t u (running (leaf c) run) lt.stands (taken_in ps) result (means c) refl shown (call-at run at.run) lt.going
         (record { turn = turn-of-taken o.machine (running (leaf c) run) lt.stands ps e lt.turn; reply = refl }) plays in (
           (line_event o s.world (s.lps p) (row_of o p c) (s.lps p).guest, ap (event_for o s.world p (s.lps p)) at.lines),
-          subst (λ (z : WordLp). StandsAt o leaf (event o s p) u p z) (sym lt.after_is) (arrives lt.stands result.reply af),
+          subst (λ (z : WordLp). StandsAt o leaf (event o s p) u p z) (sym lt.after_is) (arrives lt.stands result af),
         )
 
-  follows : ((c : Call) → MeansRow (leaf c)) → (t u : Table) (cs : List Call) (run : Option Standing) (rs : List Reply) (e : RunEvent) (ps : List Piece) (after : WordLp) → StandsAt o leaf s t p (record { lines = cs; run = run; replies = rs })
-      → PlaysTo t (taken_in ps) u → LinesTurn leaf o.machine cs run rs e ps after → ((f : Event) × (next_event o s p ≡ Some f)) × StandsAt o leaf (event o s p) u p after
-  follows means t u [] run rs e ps after at plays lt = absurd lt
-  follows means t u (c ∷ cs) run rs e ps after at plays lt = line-follows means t u c cs run rs at e ps after plays lt
+  follows : ((c : Call) → MeansRow (leaf c)) → (t u : Table) (cs : List Call) (run : Option Standing) (rs : List Reply) (b : Beside) (e : RunEvent) (ps : List Piece) (after : WordLp) → StandsAt o leaf s t p (record { lines = cs; run = run; replies = rs; beside = b })
+      → PlaysTo t (taken_in ps) u → LinesTurn leaf o.machine cs run rs b e ps after → ((f : Event) × (next_event o s p ≡ Some f)) × StandsAt o leaf (event o s p) u p after
+  follows means t u [] run rs b e ps after at plays lt = absurd lt
+  follows means t u (c ∷ cs) run rs b e ps after at plays lt = line-follows means t u c cs run rs b at e ps after plays lt
 
 -- the table's leaves, by their trees
 leaves-are : (o : Opening) (p : ℕ) → AreLeaves o (leaf_table o.machine) → leaf_table o.machine p ≡ (λ (c : Call). record { place = record { machine = o.machine; lp = p }; tree = (leaf_table o.machine p c).tree; meaning = OfCall (row_of o p c) })
@@ -126,7 +140,7 @@ no-lines : (cs : List Call) → false ≡ not (length cs == 0) → cs ≡ []
 no-lines [] e = refl
 no-lines (c ∷ cs) e = (let apart : false ≡ true = e ∙ ap not (ne_eqb (length (c ∷ cs)) 0 (λ z. absurd (omega (arith, z)))) in cc)
 
-module _ (begin : CallsBegin) (follow : CallsFollow) (met : ReachedIsMet) (leaves : CallsHaveLeaves) (o : Opening) (schedule : List ℕ) (p : ℕ) (machine : IsMachine o.machine) (few : length o.calls ≤ 8) (inside : p < length o.calls) where
+module _ (begin : CallsBegin) (follow : CallsFollow) (met : ReachedIsMet) (leaves : CallsHaveLeaves) (enters : NoneEnters) (o : Opening) (schedule : List ℕ) (p : ℕ) (machine : IsMachine o.machine) (few : length o.calls ≤ 8) (inside : p < length o.calls) where
   abbrev now : State
   now = reached o None schedule
 
@@ -136,7 +150,7 @@ module _ (begin : CallsBegin) (follow : CallsFollow) (met : ReachedIsMet) (leave
       let are = leaves o machine in
       let same = leaves-are o p are in
       subst (λ (f : Call → Task). StandsAt o f now t p at → PlaysTo t (taken_in ps) u → LpTurns f o.machine at e ps after → ((x : Event) × (next_event o now p ≡ Some x)) × StandsAt o f (event o now p) u p after) (sym same)
-      (λ i plays lt. follows begin follow met o schedule p few inside (λ c. (leaf_table o.machine p c).tree) (λ c. subst (λ (f : Call → Task). MeansRow (f c)) same (are.means p c)) t u at.lines at.run at.replies e ps after i plays lt)
+      (λ i plays lt. follows begin follow met o schedule p few inside (λ c. (leaf_table o.machine p c).tree) (enters o) (λ c. subst (λ (f : Call → Task). MeansRow (f c)) same (are.means p c)) t u at.lines at.run at.replies at.beside e ps after i plays lt)
 
   next : (l l' : LpState) (t u : Table) (r : Turn) → l.place ≡ record { machine = o.machine; lp = p } → LpStands o now t p l → Turned Moves (λ z. events_left (seen_of z)) (PlaysTo t) l u l' r → has_moved r ≡ not (length l.lines.now == 0)
       → IsNext o now u p l' r
@@ -163,11 +177,12 @@ starts met o p l is first =
       shows = shown.shown;
       lines = refl;
       replies = refl;
+      beside = refl;
       run = (record { call = refl; guest = refl }, refl);
     })
 
-pub processors-follow : StartIsMet → CallsBegin → CallsFollow → ReachedIsMet → CallsHaveLeaves → ProcessorsFollow
-processors-follow start begin follow met leaves = record {
+pub processors-follow : StartIsMet → CallsBegin → CallsFollow → ReachedIsMet → CallsHaveLeaves → NoneEnters → ProcessorsFollow
+processors-follow start begin follow met leaves enters = record {
   starts = starts start;
-  follow = λ o schedule p l l' t u r machine few is stands t' h. next begin follow met leaves o schedule p machine few is.1 l l' t u r is.0 stands t' h;
+  follow = λ o schedule p l l' t u r machine few is stands t' h. next begin follow met leaves enters o schedule p machine few is.1 l l' t u r is.0 stands t' h;
 }

@@ -3,6 +3,7 @@ use Rattle.std.specs.Prelude.{◌≡◌, ℕ, ◌+◌, ◌-◌, ◌*◌, ◌≤�
 use Rattle.td_words.specs.declared.calls.Call.{Call}
 use Rattle.flat_core.specs.Table.{most_tries}
 use Rattle.flat_core.specs.Run.{events_in}
+use Rattle.flat_core.specs.Bounds.{trying_left, undoing_left}
 use Rattle.leaf_engine.specs.declared.events.Stage.{Stage}
 use Rattle.leaf_engine.specs.declared.events.Stage.TheVariants as stage
 use Rattle.leaf_engine.specs.Trees.{Tree, Lock, Load, Test, End, Since, only}
@@ -23,8 +24,8 @@ FewTries n s = s.stage ≡ stage.Trying → (length s.held ≤ n) × TriesAtMost
 
 -- the tries to come, the act, and the releases; or the undo and the releases
 abbrev pub stage_left : ℕ → Stage → ℕ → ℕ
-stage_left n stage.Trying held = 2 * n + 1 - held
-stage_left n (stage.Undoing name at) held = held + 1
+stage_left n stage.Trying held = trying_left n held
+stage_left n (stage.Undoing name at) held = undoing_left held
 stage_left n (stage.Answered reply) held = held
 
 -- with these lines left, and the run of the first if it has begun

@@ -17,6 +17,7 @@ use Rattle.leaf_engine.specs.Means.{Task}
 use Rattle.leaf_engine.specs.Calls.{IsCallAt}
 use Rattle.leaf_engine.specs.Tables.{IsMemory}
 use Rattle.leaf_engine.specs.Turns.{Standing}
+use Rattle.leaf_engine.specs.Besides.{beside_of}
 use Rattle.leaf_engine.specs.OwnLists.{WordLp, first_lp}
 use Rattle.leaf_engine.specs.Processors.{Turned, has_moved}
 use Rattle.leaf_engine.specs.Merges.{no_table}
@@ -36,13 +37,15 @@ IsRunIn o leaf p s mem cs None = IsBetween (s.lps p) × (mem.hand ≡ None)
 IsRunIn o leaf p s mem [] (Some r) = ⊥
 IsRunIn o leaf p s mem (c ∷ cs) (Some r) = IsCallAt o (leaf c) (row_of o p c) s.world mem.words (s.lps p) r × (r.stage ≡ stage.Trying → mem.hand ≡ None)
 
--- the words and slots of a table show a state, in which processor p has these lines left, these replies, and this run
+-- the words and slots of a table show a state, in which processor p has these lines left, these replies, this besides, and
+-- this run
 pub record StandsAt (o : Opening) (leaf : Call → Task) (s : State) (t : Table) (p : ℕ) (at : WordLp) : Type 0 where
   pub memory : Memory
   pub is : IsMemory o.machine t (in_hand at.run) memory
   pub shows : Shows o.machine memory.words memory.slots s
   pub lines : lines_left o p (s.lps p) ≡ at.lines
   pub replies : (s.lps p).replies ≡ at.replies
+  pub beside : beside_of (s.lps p) at.beside.bundles ≡ at.beside
   pub run : IsRunIn o leaf p s memory at.lines at.run
 
 -- this is processor p of a script's machine

@@ -25,4 +25,5 @@ pub fn processors_follow()
 {
     calls_follow();
     calls_have_leaves();
+    none_enters();
 }

@@ -335,7 +335,13 @@ module _ (ls : Laws) (o : Opening) (task : Task) (s : State) (mem : Memory) (kep
 
   at-instant : run.stage ≡ stages.Trying → IsAt task c
   at-instant st = record {
-    processor = refl; lawful = sh.lawful; shown = sh.shown; empty_hand = sh.empty_hand st; nothing_to_tell = sh.nothing_to_tell; facts = sh.facts; maker = doing.maker;
+    processor = refl;
+    lawful = sh.lawful;
+    shown = sh.shown;
+    empty_hand = sh.empty_hand st;
+    nothing_to_tell = sh.nothing_to_tell;
+    facts = sh.facts;
+    maker = doing.maker;
   }
 
   -- the move that is due
@@ -375,7 +381,9 @@ module _ (ls : Laws) (o : Opening) (task : Task) (s : State) (mem : Memory) (kep
       let stage : run'.stage ≡ stages.Answered (call_busy (name_of l)) = ap (λ (z : Standing). z.stage) tb.after ∙ named in
       let held : run'.held ≡ run.held = ap (λ (z : Standing). z.held) tb.after in
       record {
-        move = Undoes l; next = n; mem = mem';
+        move = Undoes l;
+        next = n;
+        mem = mem';
         shown = step-shown (Undoes l) l v n (quiet-of k moves (Undoes l) (λ y. cc)) (lock-undone k moves l) it.stands value;
         memory = subst (λ (h : Option Measure). IsMemory m u h mem') (sym (ap (λ (z : Standing). z.hasher) tb.after)) made;
         acts = subst (λ (z : RunEvent). IsNoAct z) (sym tb.event) tt;
@@ -415,7 +423,9 @@ module _ (ls : Laws) (o : Opening) (task : Task) (s : State) (mem : Memory) (kep
       freed-memory ls.places m t u run.hasher mem (place_of w l) gb.newest.at gb.items.0 (step_weight gb.newest.mode) it.in_machine it.at_is (subst (λ (z : List Taken). PlaysTo t z u) gb.items.1 p) sh.memory in
       let stage : run'.stage ≡ stages.Answered r = ap (λ (z : Standing). z.stage) same ∙ st in
       record {
-        move = Releases h; next = n; mem = mem';
+        move = Releases h;
+        next = n;
+        mem = mem';
         shown = step-shown (Releases h) l v n (quiet-of k moves (Releases h) (λ y. cc)) (lock-freed k moves h) it.stands value;
         memory = subst (λ (z : Option Measure). IsMemory m u z mem') (sym (ap (λ (z : Standing). z.hasher) same)) made;
         acts = subst (λ (z : RunEvent). IsNoAct z) (sym gb.event) tt;
@@ -459,14 +469,16 @@ module _ (ls : Laws) (o : Opening) (task : Task) (s : State) (mem : Memory) (kep
         locks = tr.one_more ∙ ap (λ (hs : List Held). record { lock = l; mode = mode } ∷ hs) (at.told st).locks;
       } in
       let after : (g : Bool) (mo : Mode) → mode ≡ mo → run'.stage ≡ (if g then run.stage else denied name addr mo) → run'.held ≡ (if g then run.held ++ record { name = name; at = addr; mode = mode } ∷ [] else run.held)
-          → LeafAt task w mem'.words run' (after_try call_busy l mo g x) =
+      → LeafAt task w mem'.words run' (after_try call_busy l mo g x) =
       after-try run' name addr l mode mem' it known st in
       let now : LeafAt task w mem'.words run' (after_try call_busy l mode (is_granted s (event_of k (Attempts l mode))) x) =
       subst (λ (g : Bool). LeafAt task w mem'.words run' (after_try call_busy l mode g x)) (sym granted)
       (after (lock_grants s.lps s.lp_count l mode) mode refl (subst (λ (z : Bool). run'.stage ≡ (if z then run.stage else denied name addr mode)) same tr.stage_is)
       (subst (λ (z : Bool). run'.held ≡ (if z then run.held ++ record { name = name; at = addr; mode = mode } ∷ [] else run.held)) same tr.held_is)) in
       record {
-        move = Attempts l mode; next = n; mem = mem';
+        move = Attempts l mode;
+        next = n;
+        mem = mem';
         shown = step-shown (Attempts l mode) l v n (quiet-of k moves (Attempts l mode) (λ y. cc)) (lock-tried k moves l mode) tr.stands.stands value;
         memory = tr.memory;
         acts = tt;
@@ -525,7 +537,9 @@ module _ (ls : Laws) (o : Opening) (task : Task) (s : State) (mem : Memory) (kep
           let moves : HasMoves k = moves-refused k w (length (locks_held task (at.told st).told)) er.reply y.0 in
           let n : IsNext o s me (event_of k (Refuses er.reply)) = is-next (Refuses er.reply) (due-is st (Refuses er.reply) y.0) in
           record {
-            move = Refuses er.reply; next = n; mem = mem;
+            move = Refuses er.reply;
+            next = n;
+            mem = mem;
             shown = ls.steps.quiet m mem.words mem.slots o s me (event_of k (Refuses er.reply)) sh.shown n (quiet-of k moves (Refuses er.reply) (λ z. cc)) (lock-refused k moves er.reply);
             memory = subst (λ (z : Memory). IsMemory m u run'.hasher z) y.2 er.memory;
             acts = (refl, y.1);
@@ -541,7 +555,9 @@ module _ (ls : Laws) (o : Opening) (task : Task) (s : State) (mem : Memory) (kep
           let n : IsNext o s me (event_of k Succeeds) = is-next Succeeds (due-is st Succeeds y.0) in
           let stay : LocksStay w ((work_of k).act w) x.held = subst (λ (hs : List Held). LocksStay w ((work_of k).act w) hs) (at.told st).locks y.4 in
           record {
-            move = Succeeds; next = n; mem = er.after;
+            move = Succeeds;
+            next = n;
+            mem = er.after;
             shown = act-shown er.after n y.3;
             memory = er.memory;
             acts = (refl, y.2);

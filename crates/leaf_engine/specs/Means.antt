@@ -127,7 +127,6 @@ work_of (OfOperation t v row) = record {
   tells = row.tells;
   grasp = hold;
 }
-
 -- what an access answers: the word
 work_of (OfAccess t v line access r gpa page) =
     record (event_work (reach t v access r gpa page) (λ w. Done (value.Number (access_word access v r gpa page w)))) { notes = λ w. reach_notes w access line gpa page; grasp = grasp_of }

@@ -21,7 +21,9 @@ mod runs;
 
 pub use asking::{Choice, ask, change, make};
 pub use events::{Event, HeldLock, RunTurn, Stage};
-pub use laws::{calls_follow, facts_stand, leaves_follow, leaves_follow_rows, turns_in_pieces, turns_show};
+pub use laws::{
+    calls_follow, facts_stand, leaves_follow, leaves_follow_rows, turns_in_pieces, turns_show,
+};
 pub use leaves::Leaf;
 pub use measuring::{Measuring, MeasuringPlan};
 pub use needs::{Need, Place, Write};

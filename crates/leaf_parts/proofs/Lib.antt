@@ -4,7 +4,10 @@ pub mod Lines
 pub mod Keys
 pub mod Vps
 pub mod Begun
+pub mod Checks
 pub mod Owned
+pub mod Aside
+pub mod Hashers
 pub mod Acted
 pub mod Unheld
 pub mod VpTrees

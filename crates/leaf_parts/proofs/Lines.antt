@@ -7,6 +7,10 @@ use Rattle.word_rules.specs.Rules.{Class, Unused}
 use Rattle.word_rules.specs.Spots.{or_unused}
 use Rattle.flat_core.proofs.Tests.{by_test}
 
+-- two facts, so that many stand below each other
+pub and : {A B : Type 0} → A → B → A × B
+and a b = (a, b)
+
 -- a word is as the line says that stands at its place, or as the lines behind it say
 pub line : (n i x : ℕ) (rest : List (Line ℕ)) (v : ℕ) → (i ≡ n → v ≡ x) → ((i == n) ≡ false → IsAs (in_lines rest i) v) → IsAs (in_lines (At n x ∷ rest) i) v
 line n i x rest v here further = by_test (i == n) (λ e. rw e (here (eqb-true i n e))) (λ e. rw e (further e))

@@ -1,19 +1,17 @@
 -- The leaf that extends a TD's measurement by a chunk means its row.
-use Rattle.std.proofs.Common.{◌≡◌, ℕ, zero, suc, ◌+◌, ◌/◌, ◌%◌, ◌^◌, ◌<◌, ◌≤◌, Bool, true, false, ◌==◌, ◌||◌, List, [], ◌∷◌, ◌++◌, map, Option, Some, None, refl, ap, sym, ◌∙◌, subst, inl, arith, append_assoc, append-nil}
+use Rattle.std.proofs.Common.{◌≡◌, ℕ, zero, suc, ◌+◌, ◌/◌, ◌%◌, ◌^◌, ◌<◌, ◌≤◌, Bool, true, false, ◌==◌, ◌||◌, List, [], ◌∷◌, ◌++◌, map, Some, refl, sym, subst, inl, arith, append_assoc, append-nil}
+use Rattle.std.specs.Prelude.{nat_lt}
 use Rattle.std.specs.List.{list_any, range_with_len}
 use Rattle.std.proofs.lemmas.Bool.{eq-eqb, eqb-true, ltb-true}
-use Rattle.td_words.specs.declared.names.PageKind.{PageKind}
 use Rattle.td_words.specs.declared.names.PageKind.TheVariants as kind
 use Rattle.td_words.specs.declared.names.EntryState.{EntryState}
 use Rattle.td_words.specs.declared.names.EntryState.TheVariants as entry
-use Rattle.td_words.specs.declared.names.OpState.{OpState}
 use Rattle.td_words.specs.declared.names.OpState.TheVariants as op
 use Rattle.td_words.specs.declared.names.Mode.TheVariants.{Shared, Exclusive}
 use Rattle.td_words.specs.declared.machines.Machine.{Machine}
-use Rattle.td_words.specs.declared.places.TheConstants.{TDR_HKID}
+use Rattle.td_words.specs.declared.refusals.Status.TheVariants.{OperandInvalid}
 use Rattle.td_words.specs.declared.replies.Value.TheVariants as value
 use Rattle.td_words.specs.declared.replies.Reply.TheVariants.{Done}
-use Rattle.td_words.specs.NameNumber.{op_number}
 use Rattle.td_words.specs.Packing.{Entry}
 use Rattle.td_words.specs.Place.{WordPlace, IsIn}
 use Rattle.td_words.specs.Place as place
@@ -28,30 +26,29 @@ use Rattle.td_words.specs.Limits.{IsMachine}
 use Rattle.flat_core.specs.Tree.{entry_at, number_at, named_page, same_state, state_in, walk, word_of_gpa}
 use Rattle.flat_core.specs.Conditions.{tree_shared}
 use Rattle.flat_core.specs.Event.{State}
-use Rattle.flat_core.proofs.Tests.{by_test}
 use Rattle.word_rules.specs.Rules.{Whole, KeepsNothing, GuestWord, writes, owes}
 use Rattle.word_rules.specs.Views.{no_page}
 use Rattle.word_rules.specs.Spots.{spot, slot_of}
 use Rattle.word_rules.specs.Permissions.{MayAt, Reads}
-use Rattle.word_rules.specs.Cells.{Shows, IsAs, cell, page_cell, control_cell, if_stands, lock_word, built_hasher}
+use Rattle.word_rules.specs.Cells.{Shows, IsAs, lock_word, built_hasher}
 use Rattle.lock_words.specs.Grips.{holds, holds_alone}
 use Rattle.lock_words.specs.LockWords.{TdStands}
 use Rattle.act_rules.specs.Acts.{SameSpots}
 use Rattle.act_rules.proofs.Respected.{effects-respect}
 use Rattle.leaf_engine.specs.declared.needs.Place.{Place}
-use Rattle.leaf_engine.specs.Changes.{Hand, Memory, changed_all, changes_where}
+use Rattle.leaf_engine.specs.Changes.{Memory, changed_all, changes_where}
 use Rattle.leaf_engine.specs.Trees.{Tree, acts}
 use Rattle.leaf_engine.specs.Means.{Instant, IsHkid, Means, MeansRow, MayChange, Work, work_of, OfCall, hold}
-use Rattle.leaf_parts.proofs.Begun.{td-head-means, page_lock, op_lock, page-in, IsTd}
+use Rattle.leaf_parts.proofs.Aside.{untold}
+use Rattle.leaf_parts.proofs.Begun.{page_lock, op_lock, page-in, IsTd}
+use Rattle.leaf_parts.proofs.Checks.{td-row-means, tdr-load}
+use Rattle.leaf_parts.proofs.Hashers.{initialized, hasher-told, hashers-but}
 use Rattle.leaf_parts.proofs.Keys.{hkid-in}
-use Rattle.leaf_parts.proofs.Told.{tdr-spot, tdr-shown, only-op}
+use Rattle.leaf_parts.proofs.Told.{only-op}
 use Rattle.sept_parts.specs.SeptTrees.{state_tree}
 use Rattle.sept_parts.proofs.SeptBegun.{td-find-means}
 use Rattle.sept_parts.proofs.SeptLocks.{tree_held}
 use Rattle.mem_build.specs.ExtendTrees.{measure_changes, words_tree, measure_tree, chunk_tree, mapped_tree, measured_tree, extend_task}
-
-abbrev initialized : List OpState
-initialized = op.Initialized ∷ []
 
 -- a MAPPED entry names a page
 mapped-names : (s : EntryState) → list_any (λ a. same_state a s) (entry.Mapped ∷ []) ≡ true → is_free s ≡ false
@@ -93,58 +90,14 @@ module _ (m : Machine) (s : State) (mem : Memory) (t gpa : ℕ) (words : List �
   abbrev after : Memory
   after = changed_all (measure_changes gpa (s.world.tds.hkids t) words) mem
 
-  -- words
-  control-same : (u p i : ℕ) (cs : List ℕ) → control_cell w' locks u p cs i ≡ control_cell w locks u p cs i
-  control-same u p i [] = refl
-  control-same u p i (c ∷ []) = refl
-  control-same u p i (c ∷ r ∷ rest) = refl
-
-  page-same : (u p i : ℕ) (k : PageKind) → page_cell w' locks u p k i ≡ page_cell w locks u p k i
-  page-same u p i kind.Nda = refl
-  page-same u p i kind.Reg = refl
-  page-same u p i kind.Tdr = refl
-  page-same u p i kind.Tdcx = ap (λ (c : Option ℕ). if_stands (w.tds.lives u) c) (control-same u p i (w.tds.controls u))
-  page-same u p i kind.Tdvpr = refl
-  page-same u p i kind.Ept = refl
-  page-same u p i kind.Migsc = refl
-
-  -- hashers
-  itself : (t == t) ≡ true
-  itself = eq-eqb t t refl
-
-  its-slot : (h == h) ≡ true
-  its-slot = eq-eqb h h refl
-
-  owner : key_owner (w.key_table.keys h) ≡ Some t
-  owner = la.keys.owner t x.alive
-
-  building : w.tds.ops t ≡ op.Initialized
-  building = only-op op.Initialized (w.tds.ops t) x.op
-
-  hasher-is : mem.slots h ≡ Some (w.tds.measured t)
-  hasher-is = rw (owner, x.configured, building) at (sh.hasher h)
-
-  its-hasher : IsAs (built_hasher w' (key_owner (w.key_table.keys h))) (after.slots h)
-  its-hasher = rw (owner, x.configured, building, itself, its-slot, hasher-is) refl
-
-  other-hasher : (o : Option ℕ) (slot : Hand) → (o ≡ Some t → ⊥) → IsAs (built_hasher w o) slot → IsAs (built_hasher w' o) slot
-  other-hasher None slot none was = tt
-  other-hasher (Some u) slot none was = by_test (u == t) (λ e. absurd (none (ap Some (eqb-true u t e)))) (λ n. rw n was)
-
-  hasher : (k : ℕ) → IsAs (built_hasher w' (key_owner (w.key_table.keys k))) (after.slots k)
-  hasher k = by_test (k == h)
-      (λ e. subst (λ (j : ℕ). IsAs (built_hasher w' (key_owner (w.key_table.keys j))) (after.slots j)) (sym (eqb-true k h e)) its-hasher)
-      (λ n. rw n (other-hasher (key_owner (w.key_table.keys k)) (mem.slots k)
-      (λ e. (let its : h ≡ k = (la.keys.owned k t e).1 in let no : true ≡ false = sym (eq-eqb k h (sym its)) ∙ n in cc)) (sh.hasher k)))
+  its-hasher : IsAs (built_hasher w' (Some t)) (after.slots h)
+  its-hasher = rw (x.configured, only-op op.Initialized (w.tds.ops t) x.op, eq-eqb t t refl, eq-eqb h h refl, hasher-told m w t mem.slots sh.hasher la x) refl
 
   pub measured-on : Shows m after.words after.slots (record s { world = w' })
-  measured-on = record { word = at; hasher = hasher }
-    where
-      at : (q : WordPlace) → IsIn m q → IsAs (cell (record s { world = w' }) q) (after.words q)
-      at (place.Lock p) b = sh.word (place.Lock p) b
-      at (place.Pamt p) b = sh.word (place.Pamt p) b
-      at (place.Key k) b = sh.word (place.Key k) b
-      at (place.Word p i) b = subst (λ (c : Option ℕ). IsAs c (mem.words (place.Word p i))) (sym (page-same (w.pages.owners p) p i (w.pages.kinds p))) (sh.word (place.Word p i) b)
+  measured-on = record {
+    word = untold m mem.words s w'.tds.measured w.hidden.memories sh.word;
+    hasher = hashers-but m w w' t mem.slots after.slots la x.alive refl (λ u n. rw n refl) (λ k n. rw n refl) its-hasher sh.hasher;
+  }
 
 -- the leaf
 module _ (m : Machine) (c : Instant) (t gpa : ℕ) (in_page : t < m.pages) (limit : m.pages ≤ 1024) (small : gpa < 2 ^ 47) (aligned : gpa % 256 ≡ 0) (la : Lawful m c.state.world) (sh : Shows m c.memory.words c.memory.slots c.state) (x : IsTd m c.state.world t initialized) where
@@ -254,12 +207,8 @@ module _ (m : Machine) (c : Instant) (t gpa : ℕ) (in_page : t < m.pages) (limi
 
     measures : Means m c k all (measured_tree m t gpa p) []
     measures =
-        let word : c.memory.words (place.Word t TDR_HKID) ≡ hkid = tdr-shown m c.memory.words c.memory.slots c.state sh t 1 x.alive.kind x.own in_page (omega arith) in (
-          (in_page, omega arith),
-          inl (rw (tdr-spot v t 1 x.alive.kind x.own) (inl (tdr-held, tt))),
-          subst (λ (n : ℕ). Means m c k all (chunk_tree m gpa p n (word_of_gpa gpa) 32 []) []) (sym word)
-              (words-mean 32 (word_of_gpa gpa) [] (measure_tree m gpa hkid) (chunk-fits gpa aligned) ends),
-        )
+        tdr-load m c k all sh t 1 hkid x.alive.kind x.own in_page (omega arith) refl (inl (tdr-held, tt)) (λ n. chunk_tree m gpa p n (word_of_gpa gpa) 32 []) []
+        (words-mean 32 (word_of_gpa gpa) [] (measure_tree m gpa hkid) (chunk-fits gpa aligned) ends)
 
   -- the entry is MAPPED, and the page that it names is held
   mapped-means : Means m c k tree (state_tree e (entry.Mapped ∷ []) (Rattle.leaf_engine.specs.Trees.Lock (OfPage p) (place.Lock p) Shared (measured_tree m t gpa p))) (state_in v t gpa 0 (entry.Mapped ∷ []) ∷ named_page v t gpa 0 Shared ∷ [])
@@ -283,20 +232,9 @@ module _ (m : Machine) (c : Instant) (t gpa : ℕ) (in_page : t < m.pages) (limi
 
 pub extend-means : (p : Place) (t gpa : ℕ) → IsMachine p.machine → MeansRow (extend_task p t gpa)
 extend-means p t gpa machine = record {
-  means = λ c at. (
-    refl,
-    λ e. refl,
-    λ a. (
-      refl,
-      λ e. refl,
-      λ b. (
-        refl,
-        λ e. refl,
-        λ d. td-head-means p.machine c (work_of (OfCall (extend p.machine t gpa))) t (ltb-true t p.machine.pages a) at.lawful at.shown Exclusive initialized
-            (λ td. mapped_tree p.machine.pages t td.tdcs gpa (measured_tree p.machine t gpa))
-            (tree_shared t ∷ (walk c.state.world t gpa 0 ++ state_in c.state.world t gpa 0 (entry.Mapped ∷ []) ∷ named_page c.state.world t gpa 0 Shared ∷ []))
-            (λ x. conditions-mean p.machine c t gpa (ltb-true t p.machine.pages a) machine.pages.1 (ltb-true gpa (2 ^ 47) b) (eqb-true (gpa % 256) 0 d) at.lawful at.shown x),
-      ),
-    ),
-  );
+  means = λ c at.
+      (let m : Machine = p.machine in
+      td-row-means m c (work_of (OfCall (extend m t gpa))) t at.lawful at.shown ((nat_lt t m.pages, OperandInvalid 1) ∷ (nat_lt gpa (2 ^ 47), OperandInvalid 2) ∷ (gpa % 256 == 0, OperandInvalid 2) ∷ []) (λ a. ltb-true t m.pages a.0) Exclusive initialized
+      (λ td. mapped_tree m.pages t td.tdcs gpa (measured_tree m t gpa)) (tree_shared t ∷ (walk c.state.world t gpa 0 ++ state_in c.state.world t gpa 0 (entry.Mapped ∷ []) ∷ named_page c.state.world t gpa 0 Shared ∷ []))
+      (λ a x. conditions-mean m c t gpa (ltb-true t m.pages a.0) machine.pages.1 (ltb-true gpa (2 ^ 47) a.1.0) (eqb-true (gpa % 256) 0 a.1.1.0) at.lawful at.shown x));
 }

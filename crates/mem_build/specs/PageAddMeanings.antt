@@ -1,11 +1,12 @@
 -- The leaf that adds a private page means its row.
-use Rattle.std.proofs.Common.{◌≡◌, ◌≢◌, ℕ, ◌^◌, ◌<◌, Bool, true, false, ◌==◌, List, [], ◌∷◌, ◌++◌, Option, refl, sym, ◌∙◌, subst, inl, arith}
-use Rattle.std.proofs.lemmas.Bool.{eq-eqb, ltb-true, ne_eqb, not-true}
-use Rattle.td_words.specs.declared.names.PageKind.TheVariants as kind
+use Rattle.std.proofs.Common.{◌≡◌, ◌≢◌, ℕ, ◌%◌, ◌^◌, ◌<◌, Bool, true, false, not, ◌==◌, nat_lt, List, [], ◌∷◌, ◌++◌, Option, refl, sym, ◌∙◌, subst, inl, arith}
+use Rattle.std.proofs.lemmas.Bool.{eq-eqb, ltb-true, not-true}
 use Rattle.td_words.specs.declared.names.EntryState.TheVariants as entry
 use Rattle.td_words.specs.declared.names.Mode.TheVariants.{Shared, Exclusive}
 use Rattle.td_words.specs.declared.machines.Machine.{Machine}
 use Rattle.td_words.specs.declared.places.TheConstants.{TDR_HKID, TDR_CHILDREN}
+use Rattle.td_words.specs.declared.refusals.Status.{Status}
+use Rattle.td_words.specs.declared.refusals.Status.TheVariants.{OperandInvalid}
 use Rattle.td_words.specs.declared.replies.Value.TheVariants as value
 use Rattle.td_words.specs.declared.replies.Reply.{Reply}
 use Rattle.td_words.specs.declared.replies.Reply.TheVariants.{Done}
@@ -13,11 +14,12 @@ use Rattle.td_words.specs.Place as place
 use Rattle.flat_core.specs.World.{World}
 use Rattle.flat_core.specs.Processor.{OfPage, OfOp, OfTree, Held}
 use Rattle.flat_core.specs.Row.{Item}
-use Rattle.flat_core.specs.Conditions.{is_host, children, page_exclusive, host_page}
+use Rattle.flat_core.specs.Arguments.{level_size}
+use Rattle.flat_core.specs.Conditions.{is_host, children, page_exclusive, host_page, td_row, tree_exclusive}
 use Rattle.flat_core.specs.Lawful.{Lawful, IsAlive}
 use Rattle.flat_core.specs.MemRows.{add_page}
 use Rattle.td_words.specs.Limits.{IsMachine}
-use Rattle.flat_core.specs.Tree.{state_in}
+use Rattle.flat_core.specs.Tree.{state_in, walk}
 use Rattle.mrtd_measure.specs.Records.{page_record}
 use Rattle.flat_core.proofs.Tests.{host_kind}
 use Rattle.sept_walk.proofs.Meets.{split}
@@ -32,19 +34,20 @@ use Rattle.leaf_engine.specs.declared.needs.Place.{Place}
 use Rattle.leaf_engine.specs.Changes.{changed_all, changes_where}
 use Rattle.leaf_engine.specs.Trees.{Tree, Load, End, only}
 use Rattle.leaf_engine.specs.Means.{Instant, Means, MeansRow, MayFillAll, MayChange, Work, work_of, OfCall, hold}
-use Rattle.leaf_parts.proofs.Begun.{page_lock, op_lock, holds-newest, IsTd}
-use Rattle.leaf_parts.proofs.Told.{kind-shown, tdr-spot, tdr-shown}
+use Rattle.leaf_parts.proofs.Aside.{turned}
+use Rattle.leaf_parts.proofs.Begun.{page_lock, op_lock, IsTd}
+use Rattle.leaf_parts.proofs.Checks.{checks-mean, host-page-means, tdr-load}
+use Rattle.leaf_parts.proofs.Hashers.{initialized}
+use Rattle.leaf_parts.proofs.Lines.{and}
+use Rattle.leaf_parts.proofs.Told.{tdr-shown}
 use Rattle.leaf_parts.proofs.Keys.{hkid-in}
 use Rattle.sept_parts.specs.SeptPages.{HasEntry, HoldsTree}
 use Rattle.sept_parts.specs.SeptTrees.{state_tree}
 use Rattle.sept_parts.proofs.SeptLocks.{tree_held, entry-writes, count-reads, count-owes}
 use Rattle.sept_parts.proofs.SeptBegun.{row-find-means}
 use Rattle.mem_build.specs.declared.page_additions.Addition.{Addition}
-use Rattle.mem_build.specs.PageAddTrees.{page_fills, page_changes, addition_end, alone, host_tree, pages_tree, page_add_tree, page_add_task}
-use Rattle.mem_build.specs.PageAddShows.{initialized, page-added-shown}
-
-turned : (a b : ℕ) → (a == b) ≡ false → (b == a) ≡ false
-turned a b n = ne_eqb b a (λ e. (let no : true ≡ false = sym (eq-eqb a b (sym e)) ∙ n in cc))
+use Rattle.mem_build.specs.PageAddTrees.{page_fills, page_changes, addition_end, alone, host_tree, pages_tree, td_tree, page_add_tree, page_add_task}
+use Rattle.mem_build.specs.PageAddShows.{page-added-shown}
 
 module _ (m : Machine) (c : Instant) (t gpa p q : ℕ) (limits : IsMachine m) (in_tdr : t < m.pages) (small : gpa < 2 ^ 47) (in_page : p < m.pages) (in_source : q < m.pages)
     (p-t : (p == t) ≡ false) (q-t : (q == t) ≡ false) (q-p : (q == p) ≡ false) (la : Lawful m c.state.world) (sh : Shows m c.memory.words c.memory.slots c.state) where
@@ -56,16 +59,6 @@ module _ (m : Machine) (c : Instant) (t gpa p q : ℕ) (limits : IsMachine m) (i
 
   abbrev v' : World
   v' = (add_page m t gpa p q).act c.state.world
-
-  -- a page is held alone, and is the host's
-  host-means : (hs : List Held) (r : ℕ) → r < m.pages → (further : Tree) (rest : List (Item Reply)) → (is_host v r ≡ true → Means m c k (page_lock r Exclusive ∷ hs) further rest)
-      → Means m c k hs (host_tree r further) (page_exclusive r ∷ host_page v r ∷ rest)
-  host-means hs r b further rest h = (
-    refl,
-    refl,
-    record { in_machine = b; at = refl; stands = tt; allowed = inl tt },
-    (b, inl (inl (holds-newest r Exclusive (hs ++ c.kept), tt)), (kind-shown m c.memory.words c.memory.slots c.state sh kind.Nda r b, λ e. refl, λ e. h e)),
-  )
 
   module _ (x : IsTd m v t initialized) (table : ℕ) (has : HasEntry m v t x.controls.root table gpa 0) where
     abbrev held : List Held
@@ -126,16 +119,11 @@ module _ (m : Machine) (c : Instant) (t gpa p q : ℕ) (limits : IsMachine m) (i
     may-fill source host = ((in_source, in_page, not-same, (λ i b. host-reads q i source source-alone), λ i b. host-fills p i host page-alone), tt)
 
     may-change : MayChange m (hold c held) v v' (changed_all (page_fills full) c.memory) (page_changes m.pages full)
-    may-change = (
-      ((has.in_machine, split.index 0 gpa), (KeepsNothing, entry-writes m c t sh x.alive x.controls held locks gpa table 0 small has KeepsNothing tree-alone, tt)),
-      (
-        (in_page, (KeepsNothing, inl (page-alone, tt), tt)),
-        (
-          ((in_tdr, omega arith), (KeepsNothing, count-owes m c t sh x.alive x.controls held locks la tree-alone v' alive-then own-then, tt)),
-          ((la.keys.in_range t x.alive, owes-swap), ((la.keys.in_range t x.alive, owes-swap), tt)),
-        ),
-      ),
-    )
+    may-change =
+        and ((has.in_machine, split.index 0 gpa), (KeepsNothing, entry-writes m c t sh x.alive x.controls held locks gpa table 0 small has KeepsNothing tree-alone, tt))
+        (and (in_page, (KeepsNothing, inl (page-alone, tt), tt))
+        (and ((in_tdr, omega arith), (KeepsNothing, count-owes m c t sh x.alive x.controls held locks la tree-alone v' alive-then own-then, tt))
+        (and (la.keys.in_range t x.alive, owes-swap) (and (la.keys.in_range t x.alive, owes-swap) tt))))
 
     ended : is_host v q ≡ true → is_host v p ≡ true → Means m c k held (End (only (Done value.Nothing)) (page_fills full) (page_changes m.pages full)) []
     ended source host = (
@@ -157,70 +145,48 @@ module _ (m : Machine) (c : Instant) (t gpa p q : ℕ) (limits : IsMachine m) (i
     counts-mean : is_host v q ≡ true → is_host v p ≡ true
         → Means m c k held (Load Whole (place.Word t TDR_HKID) (λ h. Load Whole (place.Word t TDR_CHILDREN) (λ n. addition_end m (addition h n)))) []
     counts-mean source host =
-        let hkid : c.memory.words (place.Word t TDR_HKID) ≡ v.tds.hkids t = tdr-shown m c.memory.words c.memory.slots c.state sh t 1 x.alive.kind x.own in_tdr (omega arith) in
-        let count : c.memory.words (place.Word t TDR_CHILDREN) ≡ children v t = tdr-shown m c.memory.words c.memory.slots c.state sh t 2 x.alive.kind x.own in_tdr (omega arith) in (
+        let count : c.memory.words (place.Word t TDR_CHILDREN) ≡ children v t = tdr-shown m c.memory.words c.memory.slots c.state sh t 2 x.alive.kind x.own in_tdr (omega arith) in
+        tdr-load m c k held sh t 1 (v.tds.hkids t) x.alive.kind x.own in_tdr (omega arith) refl (inl (locks.tdr, tt)) (λ h. Load Whole (place.Word t TDR_CHILDREN) (λ n. addition_end m (addition h n))) [] (
           (in_tdr, omega arith),
-          inl (rw (tdr-spot v t 1 x.alive.kind x.own) (inl (locks.tdr, tt))),
-          (
-            (in_tdr, omega arith),
-            inl (count-reads m c t sh x.alive x.controls held locks la tree-alone),
-            subst (λ (h : ℕ). Means m c k held (addition_end m (addition h (c.memory.words (place.Word t TDR_CHILDREN)))) []) (sym hkid)
-                (subst (λ (n : ℕ). Means m c k held (addition_end m (addition (v.tds.hkids t) n)) []) (sym count) (ends source host)),
-          ),
+          inl (count-reads m c t sh x.alive x.controls held locks la tree-alone),
+          subst (λ (n : ℕ). Means m c k held (addition_end m (addition (v.tds.hkids t) n)) []) (sym count) (ends source host),
         )
 
     pages-mean : Means m c k (tree_held t Exclusive ∷ op_lock t Exclusive ∷ page_lock t Shared ∷ []) (pages_tree t p q (λ h n. addition_end m (addition h n)))
         (page_exclusive q ∷ host_page v q ∷ page_exclusive p ∷ host_page v p ∷ [])
     pages-mean =
         let counts : Tree = Load Whole (place.Word t TDR_HKID) (λ h. Load Whole (place.Word t TDR_CHILDREN) (λ n. addition_end m (addition h n))) in
-        host-means (tree_held t Exclusive ∷ op_lock t Exclusive ∷ page_lock t Shared ∷ []) q in_source (host_tree p counts) (page_exclusive p ∷ host_page v p ∷ [])
-        (λ source. host-means (page_lock q Exclusive ∷ tree_held t Exclusive ∷ op_lock t Exclusive ∷ page_lock t Shared ∷ []) p in_page counts [] (λ host. counts-mean source host))
+        host-page-means m c k (tree_held t Exclusive ∷ op_lock t Exclusive ∷ page_lock t Shared ∷ []) sh q in_source (host_tree p counts) (page_exclusive p ∷ host_page v p ∷ [])
+        (λ source. host-page-means m c k (page_lock q Exclusive ∷ tree_held t Exclusive ∷ op_lock t Exclusive ∷ page_lock t Shared ∷ []) sh p in_page counts [] (λ host. counts-mean source host))
+
+-- three pages of the machine, no two of them the same, and a GPA at which a page begins
+abbrev arguments : Machine → (t gpa p q : ℕ) → List (Bool × Status)
+arguments m t gpa p q =
+    (nat_lt t m.pages, OperandInvalid 1)
+    ∷ (nat_lt gpa (2 ^ 47), OperandInvalid 2)
+    ∷ (nat_lt p m.pages, OperandInvalid 3)
+    ∷ (nat_lt q m.pages, OperandInvalid 4)
+    ∷ (not (p == t), OperandInvalid 3)
+    ∷ (not (q == t), OperandInvalid 4)
+    ∷ (not (q == p), OperandInvalid 4)
+    ∷ (gpa % level_size 0 == 0, OperandInvalid 2)
+    ∷ []
 
 pub page_add-means : (pl : Place) (t gpa p q : ℕ) → IsMachine pl.machine → MeansRow (page_add_task pl t gpa p q)
 unfolding page_add_tree
 page_add-means pl t gpa p q limits = record {
-  means = λ c at. (
-    refl,
-    λ e. refl,
-    λ a. (
-      refl,
-      λ e. refl,
-      λ b. (
+  means = λ c at.
+      (let m : Machine = pl.machine in
+      let k : Work = work_of (OfCall (add_page m t gpa p q)) in
+      let rest : List (Item Reply) = state_in c.state.world t gpa 0 (entry.Free ∷ []) ∷ page_exclusive q ∷ host_page c.state.world q ∷ page_exclusive p ∷ host_page c.state.world p ∷ [] in
+      checks-mean m c k [] (arguments m t gpa p q) (td_tree m.pages t gpa p q (λ a. addition_end m a)) (td_row c.state.world t Exclusive initialized ++ tree_exclusive t ∷ (walk c.state.world t gpa 0 ++ rest)) (λ a.
+      let in_tdr : t < m.pages = ltb-true t m.pages a.0 in
+      let small : gpa < 2 ^ 47 = ltb-true gpa (2 ^ 47) a.1.0 in
+      row-find-means m c k t in_tdr limits.pages.1 at.lawful at.shown alone initialized tt gpa 0 small (omega arith)
+      (λ found. state_tree found.entry (entry.Free ∷ []) (pages_tree t p q (λ hk n. addition_end m (record { tdr = t; gpa = gpa; page = p; source = q; table = found.page; hkid = hk; children = n })))) rest
+      (λ x page has. (
         refl,
         λ e. refl,
-        λ d. (
-          refl,
-          λ e. refl,
-          λ f. (
-            refl,
-            λ e. refl,
-            λ g. (
-              refl,
-              λ e. refl,
-              λ h. (
-                refl,
-                λ e. refl,
-                λ i. (
-                  refl,
-                  λ e. refl,
-                  λ j. (let in_tdr : t < pl.machine.pages = ltb-true t pl.machine.pages a in
-                      let small : gpa < 2 ^ 47 = ltb-true gpa (2 ^ 47) b in
-                      let in_page : p < pl.machine.pages = ltb-true p pl.machine.pages d in
-                      let in_source : q < pl.machine.pages = ltb-true q pl.machine.pages f in
-                      row-find-means pl.machine c (work_of (OfCall (add_page pl.machine t gpa p q))) t in_tdr limits.pages.1 at.lawful at.shown alone initialized tt gpa 0 small (omega arith)
-                      (λ found. state_tree found.entry (entry.Free ∷ []) (pages_tree t p q (λ hk n. addition_end pl.machine (record { tdr = t; gpa = gpa; page = p; source = q; table = found.page; hkid = hk; children = n }))))
-                      (state_in c.state.world t gpa 0 (entry.Free ∷ []) ∷ page_exclusive q ∷ host_page c.state.world q ∷ page_exclusive p ∷ host_page c.state.world p ∷ [])
-                      (λ x page has. (
-                        refl,
-                        λ e. refl,
-                        λ free. pages-mean pl.machine c t gpa p q limits in_tdr small in_page in_source (not-true (p == t) g) (not-true (q == t) h) (not-true (q == p) i) at.lawful at.shown x page has,
-                      ))),
-                ),
-              ),
-            ),
-          ),
-        ),
-      ),
-    ),
-  );
+        λ free. pages-mean m c t gpa p q limits in_tdr small (ltb-true p m.pages a.1.1.0) (ltb-true q m.pages a.1.1.1.0) (not-true (p == t) a.1.1.1.1.0) (not-true (q == t) a.1.1.1.1.1.0) (not-true (q == p) a.1.1.1.1.1.1.0) at.lawful at.shown x page has,
+      ))));
 }

@@ -103,4 +103,4 @@ module _ (m : Machine) (s : State) (mem : Memory) (t gpa level p at : ℕ) (sh :
   new i b = subst (λ (v : ℕ). IsAs (page_cell taken (lock_word s.lps s.lp_count) t p kind.Ept i) v) (sym (its-word i)) (its-cell level refl least most i b)
 
   pub sept-added-shown : Shows m after.words after.slots (record s { world = w' })
-  sept-added-shown = node-taken m words2 mem.slots s2 t p level (number_at level gpa) kind.Ept sh2 la.size la.pages alive.kind host refl in_tdr in_page new
+  sept-added-shown = record { word = node-taken m words2 s2 t p level (number_at level gpa) kind.Ept sh2.word la.size la.pages alive.kind host refl in_page new; hasher = sh2.hasher }

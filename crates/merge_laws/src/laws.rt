@@ -4,9 +4,7 @@ ghost use Rattle.merge_laws.specs.Laws.{MergesAreRuns};
 
 use act_rules::stores_keep_reads;
 use leaf_engine::{facts_stand, turns_in_pieces};
-use lock_words::{
-    grips_are_apart, lock_steps_shown, lock_words_follow, td_locks_stay,
-};
+use lock_words::{grips_are_apart, lock_steps_shown, lock_words_follow, td_locks_stay};
 use step_core::pages_change_alone;
 use td_words::places_injective;
 use word_rules::{respects_compose, start_is_shown, views_are_kept, words_never_conflict};

@@ -1,10 +1,9 @@
 -- The leaf that adds a TDCX page means its row.
-use Rattle.std.proofs.Common.{◌≡◌, ℕ, ◌+◌, ◌-◌, ◌<◌, Bool, true, false, ◌==◌, ◌&&◌, nat_lt, ◌*◌, List, [], ◌∷◌, ◌++◌, length, slice_index, Option, refl, ap, sym, ◌∙◌, subst, inl, arith}
+use Rattle.std.proofs.Common.{◌≡◌, ℕ, ◌+◌, ◌-◌, ◌<◌, Bool, true, false, ◌==◌, ◌&&◌, nat_lt, not, ◌*◌, List, [], ◌∷◌, ◌++◌, length, slice_index, refl, ap, sym, ◌∙◌, subst, inl, arith}
 use Rattle.std.specs.List.{list_any}
 use Rattle.std.specs.Prelude.{if◌then◌else◌, nat_le, slice_get}
-use Rattle.std.proofs.lemmas.Bool.{eq-eqb, eqb-true, ltb-true, lt-ltb, ne_eqb, not-true}
+use Rattle.std.proofs.lemmas.Bool.{eq-eqb, eqb-true, ltb-true, lt-ltb, not-true}
 use Rattle.std.proofs.lemmas.Bool.Decides.{nat_tests}
-use Rattle.td_words.specs.declared.names.PageKind.{PageKind}
 use Rattle.td_words.specs.declared.names.PageKind.TheVariants as kind
 use Rattle.td_words.specs.declared.names.LifeState.TheVariants as life
 use Rattle.td_words.specs.declared.machines.Machine.{Machine}
@@ -15,37 +14,41 @@ use Rattle.td_words.specs.Place as place
 use Rattle.flat_core.proofs.Tests.{by_test}
 use Rattle.flat_core.specs.World.{World}
 use Rattle.flat_core.specs.Processor.{LockId, OfPage, OfOp, OfTree, OfEpoch, OfRtmr, Held}
-use Rattle.flat_core.specs.Conditions.{is_host, is_host_in, children}
-use Rattle.flat_core.specs.Lawful.{Lawful, IsAlive, IsNew}
+use Rattle.flat_core.specs.Conditions.{is_host, children}
+use Rattle.flat_core.specs.Effects.{add_control, clear_page}
+use Rattle.flat_core.specs.Lawful.{Lawful, IsAlive, IsNew, AreControls}
 use Rattle.flat_core.specs.TdRows.{add_tdcx}
 use Rattle.flat_core.specs.Event.{State}
 use Rattle.word_rules.specs.Lines.{Line, At, Run, in_lines}
-use Rattle.word_rules.specs.Cells.{Shows, IsAs, cell, page_cell, control_cell, root_cell, if_stands, lock_word, td_lock_lines, tdcs_lines, entered_of_parity}
-use Rattle.lock_words.specs.LockWords.{LocksStand, TdStands}
+use Rattle.word_rules.specs.Cells.{Shows, IsAs, cell, control_cell, lock_word, td_lock_lines, tdcs_lines, entered_of_parity}
+use Rattle.lock_words.specs.LockWords.{LocksStand, TdStands, put_word}
 use Rattle.act_rules.proofs.Rows.{rows-respect}
 use Rattle.word_rules.specs.Views.{no_page}
 use Rattle.word_rules.specs.Guards.{Grip, Locked, Meets}
-use Rattle.word_rules.specs.Rules.{Class, Unused, KeepsNothing, owes}
+use Rattle.word_rules.specs.Rules.{Class, Unused, Whole, KeepsNothing, owes}
 use Rattle.word_rules.specs.Permissions.{Owes}
 use Rattle.word_rules.specs.Spots.{guard_at, or_unused, control_class, root_class, tdcs_classes, is_current, is_empty}
 use Rattle.lock_words.specs.Grips.{holds, holds_alone}
 use Rattle.td_words.specs.declared.calls.Call.TheVariants as call
 use Rattle.td_words.specs.declared.names.Mode.TheVariants.{Exclusive}
+use Rattle.td_words.specs.declared.refusals.Status.TheVariants.{OperandInvalid, TdcxNumIncorrect, PageMetadataIncorrect}
 use Rattle.td_words.specs.declared.replies.Value.TheVariants as value
 use Rattle.td_words.specs.declared.replies.Reply.TheVariants.{Done}
 use Rattle.flat_core.specs.Conditions.{tdcx_room, page_exclusive, host_page}
 use Rattle.leaf_engine.specs.declared.needs.Place.{Place}
-use Rattle.leaf_engine.specs.Trees.{acts}
+use Rattle.leaf_engine.specs.Trees.{Tree, Lock, Load, needs, acts}
 use Rattle.leaf_engine.specs.Means.{Instant, Means, MeansRow, Work, MayChange, work_of, OfCall, hold}
 use Rattle.leaf_parts.proofs.Acted.{opening}
-use Rattle.leaf_parts.proofs.Begun.{tdr-head-means, life-is, page_lock, holds-newest}
-use Rattle.leaf_parts.proofs.Lines.{line, each-may}
-use Rattle.leaf_parts.proofs.Told.{kind-shown, tdr-spot}
+use Rattle.leaf_parts.proofs.Aside.{ShowsBut, turned, aside, back, page-put, words-but, control-kept, node_words, counted_words, taken-but}
+use Rattle.leaf_parts.proofs.Aside as other_pages
+use Rattle.leaf_parts.proofs.Checks.{tdr-row-means, host-page-means, tdr-load}
+use Rattle.leaf_parts.proofs.Begun.{life-is, page_lock, holds-newest}
+use Rattle.leaf_parts.proofs.Lines.{and, each-may}
+use Rattle.leaf_parts.proofs.Told.{tdr-spot}
 use Rattle.td_control.specs.AddTrees.{room_tree, add_task}
 use Rattle.leaf_engine.specs.Changes.{Memory, changed_all}
-use Rattle.leaf_parts.specs.Words.{raised}
+use Rattle.leaf_parts.specs.Words.{raised, says_host}
 use Rattle.leaf_parts.proofs.Told.{kind-is, tdr-shown}
-use Rattle.leaf_parts.proofs.Owned.{counted-host, counted-other, owned-taken, owned-same, raised-is}
 use Rattle.leaf_parts.proofs.Unheld.{unheld}
 use Rattle.td_control.specs.AddTrees.{control_at, add_changes}
 
@@ -90,94 +93,58 @@ module _ (m : Machine) (s : State) (mem : Memory) (t p : ℕ) (sh : Shows m mem.
   itself : (t == t) ≡ true
   itself = eq-eqb t t refl
 
-  own : w.pages.owners t ≡ t
-  own = la.pages.tdr t tdr
-
-  was-host : is_host_in w.pages p ≡ true
-  was-host = rw nda refl
-
   its-page : (p == p) ≡ true
   its-page = eq-eqb p p refl
 
   t-apart : (t == p) ≡ false
-  t-apart = ne_eqb t p (λ e. (let no : true ≡ false = sym (eq-eqb p t (sym e)) ∙ apart in cc))
+  t-apart = turned p t apart
 
-  small : p < w.size
-  small = rw la.size in_page
+  -- the page is listed in the TDR page
+  abbrev listed : State
+  listed = record s { world = add_control t p w }
 
-  -- child counts
-  one-more : children w' t ≡ children w t + 1
-  one-more = owned-taken w.pages w'.pages p (λ q n. rw n refl) (λ q n. rw n refl) t w.size small was-host apart (rw its-page refl) (rw its-page refl)
+  abbrev listed-words : WordPlace → ℕ
+  listed-words = put_word (put_word mem.words (place.Word t TDR_TDCX_COUNT) (length (s.world.tds.controls t) + 1)) (place.Word t (control_at (length (s.world.tds.controls t)))) p
 
-  raised-word : raised m.pages (children w t) ≡ children w' t
-  raised-word = subst (λ (n : ℕ). raised n (children w t) ≡ children w' t) la.size (raised-is w.pages w'.pages p (λ q n. rw n refl) (λ q n. rw n refl) t w.size one-more)
+  told-lines : (a b n : ℕ) (ds : List ℕ) → Before ds → (i x : ℕ) → IsAs (in_lines (At 0 a ∷ At 1 b ∷ At 2 n ∷ At 3 (length ds) ∷ At 4 (slice_index ds 0) ∷ At 5 (slice_index ds 1) ∷ []) i) x
+      → IsAs (in_lines (At 0 a ∷ At 1 b ∷ At 2 n ∷ At 3 (length (ds ++ p ∷ [])) ∷ At 4 (slice_index (ds ++ p ∷ []) 0) ∷ At 5 (slice_index (ds ++ p ∷ []) 1) ∷ []) i) (if i == control_at (length ds) then p else if i == 3 then length ds + 1 else x)
+  told-lines a b n ds (NoneYet e) i x h = rw e (by_test (i == 4) (λ y. rw (y, eqb-true i 4 y) refl) (λ four. by_test (i == 3) (λ y. rw (y, eqb-true i 3 y) refl) (λ three. rw (four, three) (rw (e, four, three) at h))))
+  told-lines a b n ds (OneYet c e) i x h = rw e (by_test (i == 5) (λ y. rw (y, eqb-true i 5 y) refl) (λ five. by_test (i == 3) (λ y. rw (y, eqb-true i 3 y) refl) (λ three. rw (five, three) (rw (e, five, three) at h))))
 
-  others-same : (u : ℕ) → (t == u) ≡ false → children w' u ≡ children w u
-  others-same u d = owned-same w.pages w'.pages p (λ q n. rw n refl) (λ q n. rw n refl) u w.size small (counted-host w.pages u p was-host) (counted-other w'.pages u p (rw its-page d))
+  tdr-word : (i : ℕ) → IsIn m (place.Word t i) → IsAs (cell listed (place.Word t i)) (listed-words (place.Word t i))
+  tdr-word i b =
+      let was = tdr-shown m mem.words mem.slots s sh t i tdr (la.pages.tdr t tdr) b.0 b.1 in
+      rw (tdr, la.pages.tdr t tdr, itself) (told-lines (life_number (w.tds.lives t)) (w.tds.hkids t) (children w t) cs (few-before cs few) i (mem.words (place.Word t i)) was)
 
   -- a control page of before
-  root-same : (u q i : ℕ) (rs : List ℕ) → root_cell w' u q rs i ≡ root_cell w u q rs i
-  root-same u q i [] = refl
-  root-same u q i (r ∷ rest) = refl
+  more-controls : (q i : ℕ) → (p == q) ≡ false → (ds : List ℕ) → Before ds → control_cell listed.world locks t q (ds ++ p ∷ []) i ≡ control_cell w locks t q ds i
+  more-controls q i n ds (NoneYet e) = rw (e, n) refl
+  more-controls q i n ds (OneYet c e) = rw e (by_test (c == q) (λ y. rw y refl) (λ z. rw (z, n) refl))
 
-  control-same : (u q i : ℕ) (ds : List ℕ) → control_cell w' locks u q ds i ≡ control_cell w locks u q ds i
-  control-same u q i [] = refl
-  control-same u q i (c ∷ []) = refl
-  control-same u q i (c ∷ r ∷ rest) = refl
+  its-controls : (u q i : ℕ) → (q == p) ≡ false → control_cell listed.world locks u q (listed.world.tds.controls u) i ≡ control_cell w locks u q (w.tds.controls u) i
+  its-controls u q i o = by_test (u == t)
+      (λ y. (let is : u ≡ t = eqb-true u t y in rw (is, itself) (more-controls q i (turned q p o) cs (few-before cs few))))
+      (λ n. (control-kept {w = w} {w' = listed.world} {locks = locks} {u = u} {q = q} (rw n refl) (λ l e. refl) (λ f j. refl)).same i)
 
-  more-controls : (q i : ℕ) → (q == p) ≡ false → (ds : List ℕ) → nat_lt (length ds) 2 ≡ true → control_cell w' locks t q (ds ++ p ∷ []) i ≡ control_cell w locks t q ds i
-  more-controls q i n [] h = (let back : (p == q) ≡ false = ne_eqb p q (λ e. (let no : true ≡ false = sym (eq-eqb q p (sym e)) ∙ n in cc)) in rw back refl)
-  more-controls q i n (c ∷ []) h = (let back : (p == q) ≡ false = ne_eqb p q (λ e. (let no : true ≡ false = sym (eq-eqb q p (sym e)) ∙ n in cc)) in by_test (c == q) (λ y. rw y refl) (λ z. rw (z, back) refl))
-  more-controls q i n (c ∷ r ∷ ds) h = absurd (grind (arith, nat_tests))
+  listed-but : ShowsBut p m listed-words listed
+  listed-but = page-put listed.world (aside p m mem.words s sh.word) t listed-words (record {
+    kinds = refl;
+    owners = refl;
+    blocked = refl;
+    key_table = refl;
+    page = λ q o d. record {
+      words = λ i. refl;
+      tdr = λ is i. (let other : (w.pages.owners q == t) ≡ false = ap (λ (u : ℕ). u == t) (la.pages.tdr q is) ∙ d in rw other refl);
+      owned = λ h. record { stands = λ z. z; level = refl; number = refl; entries = λ l e. refl; vp = λ i. refl; stream = λ i. refl; control = λ is z. record { same = λ i. its-controls (w.pages.owners q) q i o } };
+    };
+  }) (λ r. refl) (λ r. refl) (λ k. refl) (λ r i d. rw d refl) tdr-word
 
-  its-controls : (u q i : ℕ) → (q == p) ≡ false → control_cell w' locks u q (w'.tds.controls u) i ≡ control_cell w locks u q (w.tds.controls u) i
-  its-controls u q i n = by_test (u == t)
-      (λ y. (let is : u ≡ t = eqb-true u t y in rw (is, itself) (more-controls q i n (w.tds.controls t) few)))
-      (λ x. rw x (control-same u q i (w.tds.controls u)))
+  -- it is cleared and taken
+  cleared-but : ShowsBut p m listed-words (record s { world = clear_page p listed.world })
+  cleared-but = words-but listed-but (clear_page p w).words (λ q i o. rw o refl)
 
-  -- a word of another page, but of the TDR page
-  elsewhere : (u q i : ℕ) (k : PageKind) → (q == p) ≡ false → (k ≡ kind.Tdr → (t == u) ≡ false) → page_cell w' locks u q k i ≡ page_cell w locks u q k i
-  elsewhere u q i kind.Nda n other = rw n refl
-  elsewhere u q i kind.Reg n other = rw n refl
-  elsewhere u q i kind.Tdr n other = (let d : (u == t) ≡ false = ne_eqb u t (λ e. (let no : true ≡ false = sym (eq-eqb t u (sym e)) ∙ other refl in cc)) in rw (d, others-same u (other refl)) refl)
-  elsewhere u q i kind.Tdcx n other = ap (λ (x : Option ℕ). if_stands (w.tds.lives u) x) (its-controls u q i n)
-  elsewhere u q i kind.Tdvpr n other = refl
-  elsewhere u q i kind.Ept n other = rw n refl
-  elsewhere u q i kind.Migsc n other = refl
-
-  -- the words of the TDR page, line by line
-  first-told : (i x a b n r : ℕ) → IsAs (in_lines (At 0 a ∷ At 1 b ∷ At 2 n ∷ At 3 0 ∷ At 4 0 ∷ At 5 0 ∷ []) i) x
-      → IsAs (in_lines (At 0 a ∷ At 1 b ∷ At 2 r ∷ At 3 1 ∷ At 4 p ∷ At 5 0 ∷ []) i) (if i == 2 then r else if i == 4 then p else if i == 3 then 1 else x)
-  first-told i x a b n r h =
-      let v : ℕ = if i == 2 then r else if i == 4 then p else if i == 3 then 1 else x in
-      line 0 i a (At 1 b ∷ At 2 r ∷ At 3 1 ∷ At 4 p ∷ At 5 0 ∷ []) v (λ e. rw e (rw e at h))
-      (λ n0. line 1 i b (At 2 r ∷ At 3 1 ∷ At 4 p ∷ At 5 0 ∷ []) v (λ e. rw e (rw e at h))
-      (λ n1. line 2 i r (At 3 1 ∷ At 4 p ∷ At 5 0 ∷ []) v (λ e. rw e refl)
-      (λ n2. line 3 i 1 (At 4 p ∷ At 5 0 ∷ []) v (λ e. rw e refl)
-      (λ n3. line 4 i p (At 5 0 ∷ []) v (λ e. rw e refl)
-      (λ n4. line 5 i 0 [] v (λ e. rw e (rw e at h)) (λ n5. tt))))))
-
-  second-told : (i x a b n r c : ℕ) → IsAs (in_lines (At 0 a ∷ At 1 b ∷ At 2 n ∷ At 3 1 ∷ At 4 c ∷ At 5 0 ∷ []) i) x
-      → IsAs (in_lines (At 0 a ∷ At 1 b ∷ At 2 r ∷ At 3 2 ∷ At 4 c ∷ At 5 p ∷ []) i) (if i == 2 then r else if i == 5 then p else if i == 3 then 2 else x)
-  second-told i x a b n r c h =
-      let v : ℕ = if i == 2 then r else if i == 5 then p else if i == 3 then 2 else x in
-      line 0 i a (At 1 b ∷ At 2 r ∷ At 3 2 ∷ At 4 c ∷ At 5 p ∷ []) v (λ e. rw e (rw e at h))
-      (λ n0. line 1 i b (At 2 r ∷ At 3 2 ∷ At 4 c ∷ At 5 p ∷ []) v (λ e. rw e (rw e at h))
-      (λ n1. line 2 i r (At 3 2 ∷ At 4 c ∷ At 5 p ∷ []) v (λ e. rw e refl)
-      (λ n2. line 3 i 2 (At 4 c ∷ At 5 p ∷ []) v (λ e. rw e refl)
-      (λ n3. line 4 i c (At 5 p ∷ []) v (λ e. rw e (rw e at h))
-      (λ n4. line 5 i p [] v (λ e. rw e refl) (λ n5. tt))))))
-
-  told-lines : (ds : List ℕ) → Before ds → (i x : ℕ) → IsAs (in_lines (At 0 (life_number (w.tds.lives t)) ∷ At 1 (w.tds.hkids t) ∷ At 2 (children w t) ∷ At 3 (length ds) ∷ At 4 (slice_index ds 0) ∷ At 5 (slice_index ds 1) ∷ []) i) x
-      → IsAs (in_lines (At 0 (life_number (w.tds.lives t)) ∷ At 1 (w.tds.hkids t) ∷ At 2 (raised m.pages (children w t)) ∷ At 3 (length (ds ++ p ∷ [])) ∷ At 4 (slice_index (ds ++ p ∷ []) 0) ∷ At 5 (slice_index (ds ++ p ∷ []) 1) ∷ []) i)
-      (if i == 2 then raised m.pages (children w t) else if i == control_at (length ds) then p else if i == 3 then length ds + 1 else x)
-  told-lines ds (NoneYet e) i x h = rw e (first-told i x (life_number (w.tds.lives t)) (w.tds.hkids t) (children w t) (raised m.pages (children w t)) (rw e at h))
-  told-lines ds (OneYet c e) i x h = rw e (second-told i x (life_number (w.tds.lives t)) (w.tds.hkids t) (children w t) (raised m.pages (children w t)) c (rw e at h))
-
-  tdr-word : (i : ℕ) → IsIn m (place.Word t i) → IsAs (cell (record s { world = w' }) (place.Word t i)) (after.words (place.Word t i))
-  tdr-word i b =
-      let was = tdr-shown m mem.words mem.slots s sh t i tdr own b.0 b.1 in
-      rw (t-apart, tdr, own, itself, ← raised-word) (told-lines cs (few-before cs few) i (mem.words (place.Word t i)) was)
+  added-but : ShowsBut p m (counted_words (node_words listed-words p kind.Tdcx t) t (raised m.pages (children w t))) (record s { world = w' })
+  added-but = taken-but t cleared-but la.size la.pages tdr kind.Tdcx 0 0 (rw nda refl) refl in_page
 
   -- the words of the page that is added
   alive : IsAlive w.pages w.tds t
@@ -196,72 +163,14 @@ module _ (m : Machine) (s : State) (mem : Memory) (t p : ℕ) (sh : Shows m mem.
   none-got ds e j = rw e tt
 
   tdcs-zero : cs ≡ [] → (i : ℕ) → IsAs (in_lines (td_lock_lines locks t (tdcs_lines w t)) i) 0
-  tdcs-zero e i = zeros (td_lock_lines locks t (tdcs_lines w t)) (
-    unheld s (OfOp t) stand (gone e),
-    (
-      unheld s (OfTree t) stand (gone e),
-      (
-        unheld s (OfEpoch t) stand (gone e),
-        (
-          unheld s (OfRtmr t) stand (gone e),
-          (
-            ap op_number new.op,
-            (
-              new.epoch,
-              (
-                λ b. sym (ap (λ (vs : List ℕ). entered_of_parity b w.vps.entered vs) new.vps),
-                (
-                  new.dirtied,
-                  (
-                    new.unrestored,
-                    (
-                      new.mig_epoch,
-                      (
-                        new.session,
-                        (
-                          new.td_exported,
-                          (
-                            new.vps_exported,
-                            (
-                              new.vps_expected,
-                              (
-                                ap (λ (vs : List ℕ). length vs) new.vps,
-                                (
-                                  λ k. sym (new.rtmr k),
-                                  (
-                                    none-got (w.tds.vps t) new.vps,
-                                    (
-                                      ap (λ (ps : List ℕ). length ps) new.streams,
-                                      (
-                                        none-got (w.tds.streams t) new.streams,
-                                        (λ k. sym (new.mrtd k), tt),
-                                      ),
-                                    ),
-                                  ),
-                                ),
-                              ),
-                            ),
-                          ),
-                        ),
-                      ),
-                    ),
-                  ),
-                ),
-              ),
-            ),
-          ),
-        ),
-      ),
-    ),
-  )
-      i
+  tdcs-zero e = zeros (td_lock_lines locks t (tdcs_lines w t))
+      (and (unheld s (OfOp t) stand (gone e)) (and (unheld s (OfTree t) stand (gone e)) (and (unheld s (OfEpoch t) stand (gone e)) (and (unheld s (OfRtmr t) stand (gone e))
+      (and (ap op_number new.op) (and new.epoch (and (λ b. sym (ap (λ (vs : List ℕ). entered_of_parity b w.vps.entered vs) new.vps)) (and new.dirtied (and new.unrestored (and new.mig_epoch
+      (and new.session (and new.td_exported (and new.vps_exported (and new.vps_expected (and (ap (λ (vs : List ℕ). length vs) new.vps)
+      (and (λ k. sym (new.rtmr k)) (and (none-got (w.tds.vps t) new.vps) (and (ap (λ (ps : List ℕ). length ps) new.streams) (and (none-got (w.tds.streams t) new.streams) (and (λ k. sym (new.mrtd k)) tt))))))))))))))))))))
 
   first-apart : (c : ℕ) → cs ≡ c ∷ [] → (c == p) ≡ false
-  first-apart c e = by_test (c == p)
-      (λ y. (let is : c ≡ p = eqb-true c p y in
-      let its = subst (λ (ds : List ℕ). Rattle.flat_core.specs.Lawful.AreControls w.pages t ds) e (la.tds.controls t alive) in
-      let no : kind.Tdcx ≡ kind.Nda = sym its.kind ∙ (ap w.pages.kinds is ∙ nda) in cc))
-      (λ n. n)
+  first-apart c e = (let its = subst (λ (ds : List ℕ). AreControls w.pages t ds) e (la.tds.controls t alive) in other_pages.apart w.pages.kinds c p kind.Tdcx kind.Nda its.kind nda (λ n. cc))
 
   added-zero : (ds : List ℕ) → cs ≡ ds → Before ds → (i : ℕ) → IsAs (control_cell w' locks t p (ds ++ p ∷ []) i) 0
   added-zero ds from (NoneYet e) i = rw (e, its-page) (tdcs-zero (from ∙ e) i)
@@ -270,26 +179,8 @@ module _ (m : Machine) (s : State) (mem : Memory) (t p : ℕ) (sh : Shows m mem.
   added-word : (i : ℕ) → IsAs (cell (record s { world = w' }) (place.Word p i)) (after.words (place.Word p i))
   added-word i = rw (its-page, live, itself) (added-zero cs refl (few-before cs few) i)
 
-  content : (q i : ℕ) → IsIn m (place.Word q i) → IsAs (cell (record s { world = w' }) (place.Word q i)) (after.words (place.Word q i))
-  content q i b = by_test (q == p)
-      (λ e. (let is : q ≡ p = eqb-true q p e in subst (λ (x : ℕ). IsAs (cell (record s { world = w' }) (place.Word x i)) (after.words (place.Word x i))) (sym is) (added-word i)))
-      (λ n. by_test (q == t)
-      (λ e. (let is : q ≡ t = eqb-true q t e in subst (λ (x : ℕ). IsIn m (place.Word x i) → IsAs (cell (record s { world = w' }) (place.Word x i)) (after.words (place.Word x i))) (sym is) (tdr-word i) b))
-      (λ d. (let other : w.pages.kinds q ≡ kind.Tdr → (t == w.pages.owners q) ≡ false = λ k. (let mine : w.pages.owners q ≡ q = la.pages.tdr q k in
-      let back : (t == q) ≡ false = ne_eqb t q (λ x. (let no : true ≡ false = sym (eq-eqb q t (sym x)) ∙ d in cc)) in rw mine back) in
-      rw (n, d) (subst (λ (c : Option ℕ). IsAs c (mem.words (place.Word q i))) (sym (elsewhere (w.pages.owners q) q i (w.pages.kinds q) n other)) (sh.word (place.Word q i) b)))))
-
-  pamt : (q : ℕ) → IsIn m (place.Pamt q) → IsAs (cell (record s { world = w' }) (place.Pamt q)) (after.words (place.Pamt q))
-  pamt q b = by_test (q == p) (λ e. rw e refl) (λ e. rw e (sh.word (place.Pamt q) b))
-
   pub added : Shows m after.words after.slots (record s { world = w' })
-  added = record { word = at; hasher = sh.hasher }
-    where
-      at : (q : WordPlace) → IsIn m q → IsAs (cell (record s { world = w' }) q) (after.words q)
-      at (place.Lock q) b = sh.word (place.Lock q) b
-      at (place.Pamt q) b = pamt q b
-      at (place.Key k) b = sh.word (place.Key k) b
-      at (place.Word q i) b = content q i b
+  added = record { word = back added-but after.words (λ r. refl) (λ r. refl) (λ k. refl) (λ r i o. rw o refl) (λ i b. added-word i); hasher = sh.hasher }
 
 -- the words of the page that is added may still be stored
 module _ (g : Grip) (t p : ℕ) (has : g.has (Locked (OfPage t)) ≡ true) (alone : g.sole (Locked (OfPage t)) ≡ true) (page : g.sole (Locked (OfPage p)) ≡ true) where
@@ -300,42 +191,9 @@ module _ (g : Grip) (t p : ℕ) (has : g.has (Locked (OfPage t)) ≡ true) (alon
   may-unused = inl (has, (page, tt))
 
   may-tdcs : (i : ℕ) (current empty : ℕ → Bool) → May (or_unused (in_lines (tdcs_classes current empty) i))
-  may-tdcs i current empty =
-      each-may May (tdcs_classes current empty) (
-        λ j. inl (alone, tt),
-        (
-          inl (alone, tt),
-          (
-            inl (alone, tt),
-            (
-              λ j. inl (alone, tt),
-              (
-                inl (alone, tt),
-                (
-                  inl (alone, tt),
-                  (
-                    λ j. inl (alone, tt),
-                    (
-                      λ j. inl (alone, tt),
-                      (
-                        λ j. inl (alone, tt),
-                        (
-                          inl (alone, tt),
-                          (
-                            λ j. inl (alone, tt),
-                            (λ j. inl (alone, tt), may-unused),
-                          ),
-                        ),
-                      ),
-                    ),
-                  ),
-                ),
-              ),
-            ),
-          ),
-        ),
-      )
-      i
+  may-tdcs i current empty = each-may May (tdcs_classes current empty)
+      (and (λ j. inl (alone, tt)) (and (inl (alone, tt)) (and (inl (alone, tt)) (and (λ j. inl (alone, tt)) (and (inl (alone, tt)) (and (inl (alone, tt)) (and (λ j. inl (alone, tt))
+      (and (λ j. inl (alone, tt)) (and (λ j. inl (alone, tt)) (and (inl (alone, tt)) (and (λ j. inl (alone, tt)) (and (λ j. inl (alone, tt)) may-unused)))))))))))) i
 
   may-root : (rs : List ℕ) → May (root_class p rs)
   may-root [] = may-unused
@@ -370,10 +228,10 @@ module _ (m : Machine) (c : Instant) (t p : ℕ) (in_tdr : t < m.pages) (in_page
 
   -- stores that are owed: in the TDR page, and in the one that is added
   tdr-there : v.pages.kinds t ≡ kind.Tdr → v'.pages.kinds t ≡ kind.Tdr
-  tdr-there is = (let n : (t == p) ≡ false = ne_eqb t p (λ e. (let no : true ≡ false = sym (eq-eqb p t (sym e)) ∙ apart in cc)) in rw n is)
+  tdr-there is = rw (turned p t apart) is
 
   own-there : v.pages.kinds t ≡ kind.Tdr → v'.pages.owners t ≡ t
-  own-there is = (let n : (t == p) ≡ false = ne_eqb t p (λ e. (let no : true ≡ false = sym (eq-eqb p t (sym e)) ∙ apart in cc)) in rw n (la.pages.tdr t is))
+  own-there is = rw (turned p t apart) (la.pages.tdr t is)
 
   owes-control : v.pages.kinds t ≡ kind.Tdr → (count : ℕ) → Owes (hold c held) v' (place.Word t (control_at count)) KeepsNothing
   owes-control is count = by_test (count == 0)
@@ -387,16 +245,11 @@ module _ (m : Machine) (c : Instant) (t p : ℕ) (in_tdr : t < m.pages) (in_page
   owes-added i = rw (eq-eqb p p refl) (may-control (hold c held) t p tdr-held tdr-alone page-alone v' (v'.tds.controls t) i)
 
   may-change : v.pages.kinds t ≡ kind.Tdr → (count children : ℕ) → MayChange m (hold c held) v v' c.memory (add_changes m.pages t p count children)
-  may-change is count more = (
-    ((in_tdr, omega arith), (KeepsNothing, rw (tdr-spot v t 3 is (la.pages.tdr t is)) (inl (tdr-alone, tt)), tt)),
-    (
-      ((in_tdr, control-in count), (KeepsNothing, owes-control is count, tt)),
-      (
-        ((in_tdr, omega arith), (KeepsNothing, rw (tdr-spot v' t 2 (tdr-there is) (own-there is)) (inl (tdr-alone, tt)), tt)),
-        ((in_page, λ i b. owes-added i), ((in_page, (KeepsNothing, inl (page-alone, tt), tt)), tt)),
-      ),
-    ),
-  )
+  may-change is count more =
+      and ((in_tdr, omega arith), (KeepsNothing, rw (tdr-spot v t 3 is (la.pages.tdr t is)) (inl (tdr-alone, tt)), tt))
+      (and ((in_tdr, control-in count), (KeepsNothing, owes-control is count, tt))
+      (and ((in_tdr, omega arith), (KeepsNothing, rw (tdr-spot v' t 2 (tdr-there is) (own-there is)) (inl (tdr-alone, tt)), tt))
+      (and (in_page, λ i b. owes-added i) (and (in_page, (KeepsNothing, inl (page-alone, tt), tt)) tt))))
 
   ended : (is : v.pages.kinds t ≡ kind.Tdr) (lives : list_any (λ a. life_number a == life_number (v.tds.lives t)) (life.KeysConfigured ∷ []) ≡ true) → v.tds.lives t ≡ life.KeysConfigured → nat_lt (length (v.tds.controls t)) 2 ≡ true → is_host v p ≡ true
       → Means m c k held (acts (Done value.Nothing) (add_changes m.pages t p (length (v.tds.controls t)) (children v t))) []
@@ -412,56 +265,30 @@ module _ (m : Machine) (c : Instant) (t p : ℕ) (in_tdr : t < m.pages) (in_page
     may-change is (length (v.tds.controls t)) (children v t),
   )
 
+  -- behind the number of TDCX pages: the page, and the child count
+  abbrev kids_tree : ℕ → Tree
+  kids_tree count = Load Whole (place.Word t TDR_CHILDREN) (λ children. acts (Done value.Nothing) (add_changes m.pages t p count children))
+
+  abbrev page_tree : ℕ → Tree
+  page_tree count = Lock (OfPage p) (place.Lock p) Exclusive (Load Whole (place.Pamt p) (λ pamt. needs (says_host pamt) (PageMetadataIncorrect p) (kids_tree count)))
+
   room-means : v.pages.kinds t ≡ kind.Tdr → list_any (λ a. life_number a == life_number (v.tds.lives t)) (life.KeysConfigured ∷ []) ≡ true → v.tds.lives t ≡ life.KeysConfigured
       → Means m c k (page_lock t Exclusive ∷ []) (room_tree m.pages t p) (tdcx_room v t ∷ page_exclusive p ∷ host_page v p ∷ [])
   room-means is lives configured =
       let own : v.pages.owners t ≡ t = la.pages.tdr t is in
-      let count : c.memory.words (place.Word t TDR_TDCX_COUNT) ≡ length (v.tds.controls t) = tdr-shown m c.memory.words c.memory.slots c.state sh t 3 is own in_tdr (omega arith) in
-      let more : c.memory.words (place.Word t TDR_CHILDREN) ≡ children v t = tdr-shown m c.memory.words c.memory.slots c.state sh t 2 is own in_tdr (omega arith) in (
-        (in_tdr, omega arith),
-        inl (rw (tdr-spot v t 3 is own) (inl (holds-newest t Exclusive c.kept, tt))),
-        (
-          rw count refl,
-          λ e. refl,
-          λ few. (
-            refl,
-            refl,
-            record { in_machine = in_page; at = refl; stands = tt; allowed = inl tt },
-            (
-              in_page,
-              inl (inl (holds-newest p Exclusive (page_lock t Exclusive ∷ c.kept), tt)),
-              (
-                kind-shown m c.memory.words c.memory.slots c.state sh kind.Nda p in_page,
-                λ e. refl,
-                λ host. (
-                  (in_tdr, omega arith),
-                  inl (rw (tdr-spot v t 2 is own) (inl (tdr-alone, tt))),
-                  subst (λ (n : ℕ). Means m c k held (acts (Done value.Nothing) (add_changes m.pages t p n (c.memory.words (place.Word t TDR_CHILDREN)))) []) (sym count)
-                      (subst (λ (n : ℕ). Means m c k held (acts (Done value.Nothing) (add_changes m.pages t p (length (v.tds.controls t)) n)) []) (sym more) (ended is lives configured few host)),
-                ),
-              ),
-            ),
-          ),
-        ),
+      let n : ℕ = length (v.tds.controls t) in
+      tdr-load m c k (page_lock t Exclusive ∷ []) sh t 3 n is own in_tdr (omega arith) refl (inl (holds-newest t Exclusive c.kept, tt)) (λ count. needs (nat_lt count 2) (TdcxNumIncorrect 2) (page_tree count)) (tdcx_room v t ∷ page_exclusive p ∷ host_page v p ∷ []) (
+        refl,
+        λ e. refl,
+        λ few. host-page-means m c k (page_lock t Exclusive ∷ []) sh p in_page (kids_tree n) [] (λ host. tdr-load m c k held sh t 2 (children v t) is own in_tdr (omega arith) refl (inl (tdr-alone, tt))
+            (λ kids. acts (Done value.Nothing) (add_changes m.pages t p n kids)) [] (ended is lives configured few host)),
       )
 
 pub add-means : (p : Place) (t page : ℕ) → MeansRow (add_task p t page)
 add-means p t page = record {
-  means = λ c at. (
-    refl,
-    λ e. refl,
-    λ a. (
-      refl,
-      λ e. refl,
-      λ b. (
-        refl,
-        λ e. refl,
-        λ d. (let in_tdr : t < p.machine.pages = ltb-true t p.machine.pages a in
-            let in_page : page < p.machine.pages = ltb-true page p.machine.pages b in
-            tdr-head-means p.machine c (work_of (OfCall (add_tdcx p.machine t page))) t in_tdr at.lawful at.shown (life.KeysConfigured ∷ []) (room_tree p.machine.pages t page)
-            (tdcx_room c.state.world t ∷ page_exclusive page ∷ host_page c.state.world page ∷ [])
-            (λ is lives. room-means p.machine c t page in_tdr in_page (not-true (page == t) d) at.lawful at.shown at.facts.stand is lives (life-is life.KeysConfigured (c.state.world.tds.lives t) lives))),
-      ),
-    ),
-  );
+  means = λ c at.
+      (let m : Machine = p.machine in
+      tdr-row-means m c (work_of (OfCall (add_tdcx m t page))) t at.lawful at.shown ((nat_lt t m.pages, OperandInvalid 1) ∷ (nat_lt page m.pages, OperandInvalid 2) ∷ (not (page == t), OperandInvalid 2) ∷ []) (λ a. ltb-true t m.pages a.0) (life.KeysConfigured ∷ [])
+      (room_tree m.pages t page) (tdcx_room c.state.world t ∷ page_exclusive page ∷ host_page c.state.world page ∷ [])
+      (λ a is lives. room-means m c t page (ltb-true t m.pages a.0) (ltb-true page m.pages a.1.0) (not-true (page == t) a.1.1.0) at.lawful at.shown at.facts.stand is lives (life-is life.KeysConfigured (c.state.world.tds.lives t) lives)));
 }

@@ -2,42 +2,51 @@
 use Rattle.std.proofs.Common.{◌≡◌, ℕ, zero, suc, ◌<◌, true, false, ◌==◌, nat_lt, if◌then◌else◌, List, [], ◌∷◌, ◌++◌, Option, Some, None, refl, ap, sym, ◌∙◌, subst, inl, arith}
 use Rattle.std.proofs.lemmas.Bool.{eq-eqb, eqb-true, ltb-true, ne_eqb}
 use Rattle.std.proofs.lemmas.Bool.Decides.{nat_tests}
-use Rattle.td_words.specs.declared.names.PageKind.{PageKind}
 use Rattle.td_words.specs.declared.names.PageKind.TheVariants as kind
 use Rattle.td_words.specs.declared.names.Mode.TheVariants.{Exclusive}
 use Rattle.td_words.specs.declared.machines.Machine.{Machine}
 use Rattle.td_words.specs.declared.calls.Call.TheVariants as call
-use Rattle.td_words.specs.declared.places.TheConstants.{TDR_HKID}
+use Rattle.td_words.specs.declared.places.TheConstants.{KEY_LOCK, TDR_HKID}
+use Rattle.td_words.specs.declared.refusals.Status.TheVariants.{OperandInvalid, PageMetadataIncorrect, HkidNotFree}
+use Rattle.td_words.specs.declared.replies.Reply.{Reply}
+use Rattle.td_words.specs.declared.replies.Reply.TheVariants.{Done}
+use Rattle.td_words.specs.declared.replies.Value.TheVariants as value
 use Rattle.td_words.specs.Packing.{Key, Unassigned, AssignedTo, FlushedOf, key_word, pamt_word}
 use Rattle.td_words.specs.Place.{WordPlace, IsIn}
 use Rattle.td_words.specs.Place as place
 use Rattle.flat_core.specs.World.{World}
-use Rattle.flat_core.specs.Processor.{LockId, OfPage, OfKeys}
-use Rattle.flat_core.specs.Conditions.{is_host, is_host_in, is_free_key, is_key_free, children, owned_below}
+use Rattle.flat_core.specs.Processor.{OfPage, OfKeys}
+use Rattle.flat_core.specs.Row.{Item, needs}
+use Rattle.flat_core.specs.Effects.{new_td, clear_page, take_page}
+use Rattle.flat_core.specs.Conditions.{is_host, is_host_in, is_free_key, is_key_free, children, owned_below, page_exclusive, host_page, keys_exclusive}
 use Rattle.flat_core.proofs.Tests.{range_of, by_test}
 use Rattle.flat_core.specs.Lawful.{Lawful, key_owner}
 use Rattle.flat_core.specs.TdRows.{create}
 use Rattle.flat_core.specs.Event.{State}
 use Rattle.word_rules.specs.Views.{no_page}
 use Rattle.word_rules.specs.Guards.{Grip, Locked, Meets}
-use Rattle.word_rules.specs.Rules.{KeepsNothing, owes}
+use Rattle.word_rules.specs.Rules.{Whole, KeepsNothing, owes}
 use Rattle.word_rules.specs.Spots.{guard_at, tdr_classes, or_unused}
 use Rattle.word_rules.specs.Lines.{At, in_lines}
-use Rattle.word_rules.specs.Permissions.{Respects}
-use Rattle.word_rules.specs.Cells.{Shows, IsAs, cell, page_cell, control_cell, root_cell, entry_cell, if_stands, lock_word, built_hasher, hasher_cell}
+use Rattle.word_rules.specs.Permissions.{Reads, Respects}
+use Rattle.word_rules.specs.Cells.{Shows, IsAs, cell, page_cell, tdr_lines, lock_word, built_hasher, hasher_cell}
 use Rattle.act_rules.proofs.Rows.{rows-respect}
 use Rattle.leaf_engine.specs.declared.needs.Place.{Place}
 use Rattle.lock_words.specs.Grips.{holds, holds_alone}
 use Rattle.leaf_engine.specs.Changes.{Memory, Put, Clear, changed, changed_all}
-use Rattle.leaf_engine.specs.Means.{Instant, IsHkid, MeansRow, MayOweAll, hold}
-use Rattle.leaf_parts.specs.Words.{says_free, is_hkid}
-use Rattle.td_control.specs.CreationTrees.{key_place, create_changes, create_task}
+use Rattle.leaf_engine.specs.Trees.{Tree, acts}
+use Rattle.leaf_engine.specs.Trees as tree
+use Rattle.leaf_engine.specs.Means.{Instant, IsHkid, Locks, Means, MeansRow, MayOweAll, Work, work_of, OfCall, hold}
+use Rattle.leaf_parts.specs.Words.{says_free, says_host, is_hkid}
+use Rattle.td_control.specs.CreationTrees.{key_place, create_changes, key_tree, create_task}
 use Rattle.leaf_parts.proofs.Acted.{opening}
-use Rattle.leaf_parts.proofs.Begun.{both_locks, holds-newest, alone-newest}
-use Rattle.leaf_parts.proofs.Keys.{key-apart, key-shown, key-changed}
+use Rattle.leaf_parts.proofs.Begun.{both_locks, page_alone, holds-newest, alone-newest}
+use Rattle.leaf_parts.proofs.Aside.{ShowsBut, aside, back, kept-but, control-kept, node_words, node-but, key-put}
+use Rattle.leaf_parts.proofs.Checks.{checks-mean, host-page-means}
+use Rattle.leaf_parts.proofs.Keys.{key-apart, key-shown}
 use Rattle.leaf_parts.proofs.Lines.{line, each-may}
 use Rattle.leaf_parts.proofs.Owned.{counted-host, counted-other, owned-same}
-use Rattle.leaf_parts.proofs.Told.{kind-shown, kind-is}
+use Rattle.leaf_parts.proofs.Told.{kind-is}
 
 -- a key table word tells whether its HKID is free
 free_word : (k : Key) → says_free (key_word k) ≡ is_free_key k
@@ -45,6 +54,9 @@ free_word Unassigned = refl
 free_word (AssignedTo t) = grind (arith, nat_tests)
 free_word (FlushedOf t true) = grind (arith, nat_tests)
 free_word (FlushedOf t false) = grind (arith, nat_tests)
+
+key-in : (m : Machine) (h : ℕ) → IsHkid m h → IsIn m (key_place h)
+key-in m h range = (let first = range.0 in let last = range.1 in omega (arith, first, last))
 
 module _ (m : Machine) (s : State) (mem : Memory) (t h : ℕ) (sh : Shows m mem.words mem.slots s) (la : Lawful m s.world) (nda : s.world.pages.kinds t ≡ kind.Nda) (in_page : t < m.pages) (range : IsHkid m h) where
   abbrev w : World
@@ -84,37 +96,37 @@ module _ (m : Machine) (s : State) (mem : Memory) (t h : ℕ) (sh : Shows m mem.
       let back : (t == u) ≡ false = ne_eqb t u (λ e. (let bad : (u == t) ≡ true = eq-eqb u t (sym e) in cc)) in
       owned-same w.pages w'.pages t (λ q n. rw n refl) (λ q n. rw n refl) u w.size (rw la.size in_page) (counted-host w.pages u t was-host) (counted-other w'.pages u t (rw itself back))
 
-  -- a word of a page of another TD
-  root-same : (u p i : ℕ) (cs : List ℕ) → (u == t) ≡ false → root_cell w' u p cs i ≡ root_cell w u p cs i
-  root-same u p i [] d = refl
-  root-same u p i (r ∷ rest) d = rw d refl
+  -- the page is cleared, the TD begins, and the page is taken
+  abbrev begun : World
+  begun = new_td t h (clear_page t w)
 
-  entry-same : (u level number i : ℕ) → (u == t) ≡ false → entry_cell w' u level number i ≡ entry_cell w u level number i
-  entry-same u zero number i d = refl
-  entry-same u (suc level) number i d = rw d refl
+  other-owner : (q : ℕ) → (q == t) ≡ false → w.pages.kinds q ≡ kind.Tdr → (w.pages.owners q == t) ≡ false
+  other-owner q o is = ap (λ (u : ℕ). u == t) (la.pages.tdr q is) ∙ o
 
-  control-same : (locks : LockId → ℕ) (u p i : ℕ) (cs : List ℕ) → (u == t) ≡ false → control_cell w' locks u p cs i ≡ control_cell w locks u p cs i
-  control-same locks u p i [] d = refl
-  control-same locks u p i (c ∷ rest) d = rw (root-same u p i rest d) (rw d refl)
+  begun-but : ShowsBut t m mem.words (record s { world = begun })
+  begun-but = kept-but begun (aside t m mem.words s sh.word) (record {
+    kinds = refl;
+    owners = refl;
+    blocked = refl;
+    key_table = refl;
+    page = λ q o n. record {
+      words = λ i. rw o refl;
+      tdr = λ is i. rw (other-owner q o is) refl;
+      owned = λ own. (let d : (w.pages.owners q == t) ≡ false = not-its q own in
+          record {
+            stands = λ z. rw d at z;
+            level = refl;
+            number = refl;
+            entries = λ l e. rw d refl;
+            vp = λ i. refl;
+            stream = λ i. refl;
+            control = λ is z. control-kept (rw d refl) (λ l e. rw d refl) (λ f i. rw d refl);
+          });
+    };
+  })
 
-  elsewhere : (locks : LockId → ℕ) (u p i : ℕ) (k : PageKind) → (p == t) ≡ false → (u == t) ≡ false → page_cell w' locks u p k i ≡ page_cell w locks u p k i
-  elsewhere locks u p i kind.Nda n d = rw n refl
-  elsewhere locks u p i kind.Reg n d = rw n refl
-  elsewhere locks u p i kind.Tdr n d = rw (d, same-owned u d) refl
-  elsewhere locks u p i kind.Tdcx n d = rw d (ap (λ (x : Option ℕ). if_stands (w.tds.lives u) x) (control-same locks u p i (w.tds.controls u) d))
-  elsewhere locks u p i kind.Tdvpr n d = rw d refl
-  elsewhere locks u p i kind.Ept n d = rw (n, d) (ap (λ (x : Option ℕ). if_stands (w.tds.lives u) x) (entry-same u (w.pages.levels p) (w.pages.numbers p) i d))
-  elsewhere locks u p i kind.Migsc n d = rw d refl
-
-  -- of a host page
-  host-word : (locks : LockId → ℕ) (u p i : ℕ) (k : PageKind) → (p == t) ≡ false → k ≡ kind.Nda → page_cell w' locks u p k i ≡ page_cell w locks u p k i
-  host-word locks u p i kind.Nda n e = rw n refl
-  host-word locks u p i _ n e = cc
-
-  other-page : (locks : LockId → ℕ) (p i : ℕ) → (p == t) ≡ false → page_cell w' locks (w.pages.owners p) p (w.pages.kinds p) i ≡ page_cell w locks (w.pages.owners p) p (w.pages.kinds p) i
-  other-page locks p i n = by_test (is_host_in w.pages p)
-      (λ o. host-word locks (w.pages.owners p) p i (w.pages.kinds p) n (kind-is (w.pages.kinds p) kind.Nda o))
-      (λ o. elsewhere locks (w.pages.owners p) p i (w.pages.kinds p) n (not-its p o))
+  taken-but : ShowsBut t m (node_words mem.words t kind.Tdr t) (record s { world = take_page t kind.Tdr t begun })
+  taken-but = node-but kind.Tdr t 0 0 begun-but la.pages (λ q o is. same-owned q o)
 
   -- the words of the new TDR page, line by line
   new-word : (i children : ℕ) → children ≡ 0 → IsAs (in_lines (At 0 0 ∷ At 1 h ∷ At 2 children ∷ At 3 0 ∷ At 4 0 ∷ At 5 0 ∷ []) i) (if i == 1 then h else 0)
@@ -127,32 +139,14 @@ module _ (m : Machine) (s : State) (mem : Memory) (t h : ℕ) (sh : Shows m mem.
       (λ d. line 4 i 0 (At 5 0 ∷ []) v (λ e. rw e refl)
       (λ f. line 5 i 0 [] v (λ e. rw e refl) (λ g. tt))))))
 
-  its-own : w'.pages.owners t ≡ t
-  its-own = rw itself refl
-
-  its-kind : w'.pages.kinds t ≡ kind.Tdr
-  its-kind = rw itself refl
-
-  tdr-here : (i : ℕ) → IsAs (page_cell w' (lock_word s.lps s.lp_count) t t kind.Tdr i) (after.words (place.Word t i))
+  tdr-here : (i : ℕ) → IsAs (in_lines (tdr_lines w' t) i) (after.words (place.Word t i))
   tdr-here i = rw itself (new-word i (owned_below w'.pages t w.size) (none-owned w.size))
 
+  tdr-cell : (i : ℕ) → cell (record s { world = w' }) (place.Word t i) ≡ in_lines (tdr_lines w' t) i
+  tdr-cell i = (let is : w'.pages.kinds t ≡ kind.Tdr = rw itself refl in let own : w'.pages.owners t ≡ t = rw itself refl in (λ j. page_cell w' (lock_word s.lps s.lp_count) (own j) t (is j) i))
+
   tdr-word : (i : ℕ) → IsAs (cell (record s { world = w' }) (place.Word t i)) (after.words (place.Word t i))
-  tdr-word i =
-      subst (λ (k : PageKind). IsAs (page_cell w' (lock_word s.lps s.lp_count) (w'.pages.owners t) t k i) (after.words (place.Word t i))) (sym its-kind)
-      (subst (λ (u : ℕ). IsAs (page_cell w' (lock_word s.lps s.lp_count) u t kind.Tdr i) (after.words (place.Word t i))) (sym its-own) (tdr-here i))
-
-  content : (p i : ℕ) → IsIn m (place.Word p i) → IsAs (cell (record s { world = w' }) (place.Word p i)) (after.words (place.Word p i))
-  content p i b = by_test (p == t)
-      (λ e. (let is : p ≡ t = eqb-true p t e in
-      subst (λ (q : ℕ). IsAs (cell (record s { world = w' }) (place.Word q i)) (after.words (place.Word q i))) (sym is) (tdr-word i)))
-      (λ e. rw e (subst (λ (c : Option ℕ). IsAs c (mem.words (place.Word p i))) (sym (other-page (lock_word s.lps s.lp_count) p i e)) (sh.word (place.Word p i) b)))
-
-  -- the key table
-  key : (k : ℕ) → IsIn m (place.Key k) → IsAs (cell (record s { world = w' }) (place.Key k)) (after.words (place.Key k))
-  key k b = (let now = key-changed w w' h range.0 (λ j n. rw n refl) refl refl (lock_word s.lps s.lp_count OfKeys) k (mem.words (place.Key k)) (sh.word (place.Key k) b) in rw (eq-eqb h h refl) at now)
-
-  pamt : (p : ℕ) → IsIn m (place.Pamt p) → IsAs (cell (record s { world = w' }) (place.Pamt p)) (after.words (place.Pamt p))
-  pamt p b = by_test (p == t) (λ e. rw e refl) (λ e. rw e (sh.word (place.Pamt p) b))
+  tdr-word i = subst (λ (o : Option ℕ). IsAs o (after.words (place.Word t i))) (sym (tdr-cell i)) (tdr-here i)
 
   -- the slots: no hasher is at home in that of the new TD yet
   built-same : (o : Option ℕ) (x : Option (List ℕ)) → IsAs (built_hasher w o) x → IsAs (built_hasher w' o) x
@@ -168,13 +162,7 @@ module _ (m : Machine) (s : State) (mem : Memory) (t h : ℕ) (sh : Shows m mem.
       (λ e. rw e (built-same (key_owner (w.key_table.keys k)) (mem.slots k) (sh.hasher k)))
 
   created : Shows m after.words after.slots (record s { world = w' })
-  created = record { word = at; hasher = slot }
-    where
-      at : (q : WordPlace) → IsIn m q → IsAs (cell (record s { world = w' }) q) (after.words q)
-      at (place.Lock p) b = sh.word (place.Lock p) b
-      at (place.Pamt p) b = pamt p b
-      at (place.Key k) b = key k b
-      at (place.Word p i) b = content p i b
+  created = record { word = back (key-put h (AssignedTo t) range.0 taken-but) after.words (λ r. refl) (λ r. refl) (λ k. refl) (λ r i o. rw o refl) (λ i b. tdr-word i); hasher = slot }
 
 -- the words of a TDR page may still be stored by who holds it alone
 tdr_owed : (g : Grip) (t i : ℕ) → g.has (Locked (OfPage t)) ≡ true → g.sole (Locked (OfPage t)) ≡ true
@@ -204,51 +192,44 @@ owed m c t h mem in_page =
 free_shown : (m : Machine) (c : Instant) (h : ℕ) → Shows m c.memory.words c.memory.slots c.state → IsHkid m h → says_free (c.memory.words (key_place h)) ≡ is_key_free c.state.world h
 free_shown m c h sh range = rw (key-shown m c.memory.words c.memory.slots c.state h sh range) (free_word (c.state.world.key_table.keys h))
 
+-- K, the HKID's word, and the end
+module _ (m : Machine) (c : Instant) (t h : ℕ) (la : Lawful m c.state.world) (sh : Shows m c.memory.words c.memory.slots c.state) (a : nat_lt t m.pages ≡ true) (b : is_hkid m h ≡ true) where
+  abbrev k : Work
+  k = work_of (OfCall (create m t h))
+
+  in_page : t < m.pages
+  in_page = ltb-true t m.pages a
+
+  its-range : IsHkid m h
+  its-range = range_of h m.hkids b
+
+  ended : is_host c.state.world t ≡ true → is_key_free c.state.world h ≡ true → Means m c k (both_locks t) (acts (Done value.Nothing) (create_changes t h)) []
+  ended host free = (
+    record {
+      answers = record { reply_is = refl; cached_is = refl; enters_is = refl; notes_are = refl; tells_are = refl; bundles_are = refl };
+      fills_allowed = tt;
+      respects = create_respects m c t h la a b host free;
+      locks_stay = ((refl, λ x. x), ((refl, λ x. x), tt));
+      shows = created m c.state c.memory t h sh la (kind-is (c.state.world.pages.kinds t) kind.Nda host) in_page its-range;
+    },
+    ((key-in m h its-range, (KeepsNothing, rw (key-apart h 0 (omega arith)) (inl (refl, tt)), tt)), owed m c t h (changed (Put (key_place h) (key_word (AssignedTo t))) c.memory) in_page),
+  )
+
+  key-tried : Locks m c (page_alone t) OfKeys (place.Key KEY_LOCK)
+  key-tried = record { in_machine = omega arith; at = refl; stands = tt; allowed = inl tt }
+
+  key-read : Reads (hold c (both_locks t)) c.state.world (key_place h) Whole
+  key-read = rw (key-apart h 0 (omega arith)) (inl (refl, tt))
+
+  key-means : is_host c.state.world t ≡ true → Means m c k (page_alone t) (key_tree t h) (keys_exclusive ∷ needs (is_key_free c.state.world h) HkidNotFree ∷ [])
+  key-means host = (refl, refl, key-tried, (key-in m h its-range, inl key-read, (free_shown m c h sh its-range, λ e. refl, λ free. ended host free)))
+
 pub create-means : (p : Place) (t h : ℕ) → MeansRow (create_task p t h)
 create-means p t h = record {
-  means = λ c at. (
-    refl,
-    λ e. refl,
-    λ a. (
-      refl,
-      λ e. refl,
-      λ b. (let in_page : t < p.machine.pages = ltb-true t p.machine.pages a in
-          let range : IsHkid p.machine h = range_of h p.machine.hkids b in (
-            refl,
-            refl,
-            record { in_machine = in_page; at = refl; stands = tt; allowed = inl tt },
-            (
-              in_page,
-              inl (inl (holds-newest t Exclusive c.kept, tt)),
-              (
-                kind-shown p.machine c.memory.words c.memory.slots c.state at.shown kind.Nda t in_page,
-                λ e. refl,
-                λ host. (
-                  refl,
-                  refl,
-                  record { in_machine = omega arith; at = refl; stands = tt; allowed = inl tt },
-                  (
-                    omega arith,
-                    inl (rw (key-apart h 0 (omega arith)) (inl (refl, tt))),
-                    (
-                      free_shown p.machine c h at.shown range,
-                      λ e. refl,
-                      λ free. (
-                        record {
-                          answers = record { reply_is = refl; cached_is = refl; enters_is = refl; notes_are = refl; tells_are = refl; bundles_are = refl };
-                          fills_allowed = tt;
-                          respects = create_respects p.machine c t h at.lawful a b host free;
-                          locks_stay = ((refl, λ x. x), ((refl, λ x. x), tt));
-                          shows = created p.machine c.state c.memory t h at.shown at.lawful (kind-is (c.state.world.pages.kinds t) kind.Nda host) in_page range;
-                        },
-                        ((omega arith, (KeepsNothing, rw (key-apart h 0 (omega arith)) (inl (refl, tt)), tt)), owed p.machine c t h (changed (Put (key_place h) (key_word (AssignedTo t))) c.memory) in_page),
-                      ),
-                    ),
-                  ),
-                ),
-              ),
-            ),
-          )),
-    ),
-  );
+  means = λ c at.
+      (let k : Work = work_of (OfCall (create p.machine t h)) in
+      let rest : List (Item Reply) = keys_exclusive ∷ needs (is_key_free c.state.world h) HkidNotFree ∷ [] in
+      let page_tree : Tree = tree.Lock (OfPage t) (place.Lock t) Exclusive (tree.Load Whole (place.Pamt t) (λ pamt. tree.needs (says_host pamt) (PageMetadataIncorrect t) (key_tree t h))) in
+      checks-mean p.machine c k [] ((nat_lt t p.machine.pages, OperandInvalid 1) ∷ (is_hkid p.machine h, OperandInvalid 2) ∷ []) page_tree (page_exclusive t ∷ host_page c.state.world t ∷ rest)
+      (λ a. host-page-means p.machine c k [] at.shown t (ltb-true t p.machine.pages a.0) (key_tree t h) rest (λ host. key-means p.machine c t h at.lawful at.shown a.0 a.1.0 host)));
 }

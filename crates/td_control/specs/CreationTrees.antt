@@ -32,6 +32,14 @@ create_changes tdr h =
     ∷ Put (place.Word tdr TDR_HKID) h
     ∷ []
 
+-- behind the page: the HKID is free, under K
+abbrev pub key_tree : ℕ → ℕ → Tree
+key_tree tdr h =
+    Lock OfKeys (place.Key KEY_LOCK) Exclusive
+    (Load Whole (key_place h) (λ key.
+    needs (says_free key) HkidNotFree
+    (acts (Done value.Nothing) (create_changes tdr h))))
+
 abbrev pub create_tree : Machine → ℕ → ℕ → Tree
 create_tree m tdr h =
     needs (nat_lt tdr m.pages) (OperandInvalid 1)
@@ -39,10 +47,7 @@ create_tree m tdr h =
     (Lock (OfPage tdr) (place.Lock tdr) Exclusive
     (Load Whole (place.Pamt tdr) (λ pamt.
     needs (says_host pamt) (PageMetadataIncorrect tdr)
-    (Lock OfKeys (place.Key KEY_LOCK) Exclusive
-    (Load Whole (key_place h) (λ key.
-    needs (says_free key) HkidNotFree
-    (acts (Done value.Nothing) (create_changes tdr h)))))))))
+    (key_tree tdr h)))))
 
 abbrev pub create_task : Place → ℕ → ℕ → Task
 create_task p tdr h = record { place = p; tree = create_tree p.machine tdr h; meaning = OfCall (create p.machine tdr h) }

@@ -1,21 +1,18 @@
 -- The leaf that ends a TD's building means its row.
-use Rattle.std.proofs.Common.{◌≡◌, ℕ, zero, suc, ◌+◌, ◌-◌, ◌<◌, Bool, true, false, ◌==◌, ◌&&◌, nat_lt, List, [], ◌∷◌, ◌++◌, Option, Some, None, refl, ap, sym, ◌∙◌, subst, inl, inr, arith}
-use Rattle.std.specs.List.{list_all, list_any}
+use Rattle.std.proofs.Common.{◌≡◌, ℕ, zero, suc, ◌+◌, ◌-◌, ◌<◌, Bool, true, false, ◌==◌, ◌&&◌, nat_lt, List, [], ◌∷◌, ◌++◌, Option, None, refl, ap, sym, ◌∙◌, subst, inl, inr, arith}
+use Rattle.std.specs.List.{list_all}
 use Rattle.std.specs.Prelude.{if◌then◌else◌, nat_le}
 use Rattle.std.proofs.lemmas.Bool.{eq-eqb, eqb-true, ltb-true}
 use Rattle.std.proofs.lemmas.Bool.Decides.{nat_tests}
-use Rattle.td_words.specs.declared.names.PageKind.{PageKind}
 use Rattle.td_words.specs.declared.names.PageKind.TheVariants as kind
-use Rattle.td_words.specs.declared.names.OpState.{OpState}
-use Rattle.td_words.specs.declared.names.OpState.TheVariants as op
 use Rattle.td_words.specs.declared.names.VcpuState.TheVariants as vcpu
 use Rattle.td_words.specs.declared.names.Mode.TheVariants.{Shared, Exclusive}
 use Rattle.td_words.specs.declared.machines.Machine.{Machine}
 use Rattle.td_words.specs.declared.calls.Call.TheVariants as call
-use Rattle.td_words.specs.declared.refusals.Status.TheVariants.{VcpuStateIncorrect}
+use Rattle.td_words.specs.declared.refusals.Status.TheVariants.{OperandInvalid, VcpuStateIncorrect}
 use Rattle.td_words.specs.declared.replies.Value.TheVariants as value
 use Rattle.td_words.specs.declared.replies.Reply.TheVariants.{Done}
-use Rattle.td_words.specs.NameNumber.{op_number, vcpu_number}
+use Rattle.td_words.specs.NameNumber.{vcpu_number}
 use Rattle.td_words.specs.Place.{WordPlace, IsIn}
 use Rattle.td_words.specs.Place as place
 use Rattle.flat_core.specs.World.{World}
@@ -29,24 +26,24 @@ use Rattle.word_rules.specs.Lines.{in_lines}
 use Rattle.word_rules.specs.Rules.{TdcsWord, Whole, KeepsNothing}
 use Rattle.word_rules.specs.Spots.{or_unused, tdcs_classes, is_current, is_empty, slot_of}
 use Rattle.word_rules.specs.Permissions.{MayAt, Owes, Reads}
-use Rattle.word_rules.specs.Cells.{Shows, IsAs, cell, page_cell, control_cell, lock_word, td_lock_lines, tdcs_lines, built_hasher}
+use Rattle.word_rules.specs.Cells.{Shows, IsAs, cell, lock_word, td_lock_lines, tdcs_lines}
 use Rattle.lock_words.specs.Grips.{holds, holds_alone}
 use Rattle.act_rules.proofs.Rows.{rows-respect}
 use Rattle.leaf_engine.specs.declared.needs.Place.{Place}
-use Rattle.leaf_engine.specs.Changes.{Hand, Memory, changed_all, changes_where}
+use Rattle.leaf_engine.specs.Changes.{Memory, changed_all, changes_where}
 use Rattle.leaf_engine.specs.Trees.{Tree, needs, acts}
 use Rattle.leaf_engine.specs.Means.{Instant, IsHkid, Means, MeansRow, MayChange, Work, work_of, OfCall, hold}
 use Rattle.leaf_parts.specs.Vps.{vps_tree, apart_in}
 use Rattle.leaf_parts.proofs.Acted.{opening}
-use Rattle.leaf_parts.proofs.Begun.{td-head-means, page_lock, op_lock, IsTd, TwoControls}
+use Rattle.leaf_parts.proofs.Aside.{ShowsBut, aside, back, kept-but, tdcs-but}
+use Rattle.leaf_parts.proofs.Begun.{page_lock, op_lock, IsTd, TwoControls}
+use Rattle.leaf_parts.proofs.Checks.{td-row-means, tdr-load}
+use Rattle.leaf_parts.proofs.Hashers.{initialized, hasher-told, hashers-but}
 use Rattle.leaf_parts.proofs.Keys.{hkid-in}
 use Rattle.leaf_parts.proofs.Vps.{vp-shown, vp-spot}
 use Rattle.leaf_parts.proofs.VpTrees.{none-apart, vps-mean}
-use Rattle.leaf_parts.proofs.Told.{tdr-spot, tdr-shown, tdcs-spot, tdcs-shown, only-op}
+use Rattle.leaf_parts.proofs.Told.{tdcs-spot, tdcs-shown}
 use Rattle.td_control.specs.FinalTrees.{word_in_hand, end_changes, final_changes, ready_vp, ready_tree, finalize_task}
-
-abbrev initialized : List OpState
-initialized = op.Initialized ∷ []
 
 -- another word of TDCS than MRTD's
 outside : (i j : ℕ) → (nat_le 64 j && nat_lt j 70) ≡ true → (nat_le 64 i && nat_lt i 70) ≡ false → (i == j) ≡ false
@@ -83,19 +80,9 @@ module _ (m : Machine) (s : State) (mem : Memory) (t : ℕ) (sh : Shows m mem.wo
   its-page : (y.tdcs == y.tdcs) ≡ true
   its-page = eq-eqb y.tdcs y.tdcs refl
 
-  owner : key_owner (w.key_table.keys h) ≡ Some t
-  owner = la.keys.owner t x.alive
-
-  building : w.tds.ops t ≡ op.Initialized
-  building = only-op op.Initialized (w.tds.ops t) x.op
-
-  -- the slot has the TD's hasher
-  hasher-is : mem.slots h ≡ Some (w.tds.measured t)
-  hasher-is = rw (owner, x.configured, building) at (sh.hasher h)
-
   -- MRTD's words
   mrtd-word : (k : ℕ) → word_in_hand k (mem.slots h) ≡ w'.tds.mrtds t k
-  mrtd-word k = rw (hasher-is, itself) refl
+  mrtd-word k = rw (hasher-told m w t mem.slots sh.hasher la x, itself) refl
 
   abbrev told : ℕ → ℕ → ℕ
   told i old =
@@ -137,72 +124,30 @@ module _ (m : Machine) (s : State) (mem : Memory) (t : ℕ) (sh : Shows m mem.wo
       (λ b. subst (λ (v : ℕ). IsAs (in_lines (td_lock_lines locks t (tdcs_lines w' t)) i) v) (sym (same-told i old a b))
       (subst (λ (c : Option ℕ). IsAs c old) (sym (same-lines i a b)) was)))
 
-  tdcs-word : (i : ℕ) → IsIn m (place.Word y.tdcs i) → IsAs (cell (record s { world = w' }) (place.Word y.tdcs i)) (after.words (place.Word y.tdcs i))
+  tdcs-word : (i : ℕ) → i < 512 → IsAs (cell (record s { world = w' }) (place.Word y.tdcs i)) (after.words (place.Word y.tdcs i))
   tdcs-word i b =
-      let was = tdcs-shown m mem.words mem.slots s sh t i y.tdcs (y.root ∷ []) y.list y.tdcs_page x.alive.life b.0 b.1 in
+      let was = tdcs-shown m mem.words mem.slots s sh t i y.tdcs (y.root ∷ []) y.list y.tdcs_page x.alive.life y.tdcs_in b in
       rw (y.tdcs_page.kind, y.tdcs_page.owner, x.alive.life, y.list, its-page) (lines-told i (mem.words (place.Word y.tdcs i)) was)
 
   -- the words of another page
-  control-same : (u p i : ℕ) (cs : List ℕ) → (u == t) ≡ false → control_cell w' locks u p cs i ≡ control_cell w locks u p cs i
-  control-same u p i [] n = refl
-  control-same u p i (c ∷ []) n = rw n refl
-  control-same u p i (c ∷ r ∷ rest) n = rw n refl
-
-  its-controls : (p i : ℕ) → (y.tdcs == p) ≡ false → control_cell w' locks t p (w.tds.controls t) i ≡ control_cell w locks t p (w.tds.controls t) i
-  its-controls p i n = rw (y.list, n) refl
-
-  controls-same : (u p i : ℕ) → (y.tdcs == p) ≡ false → control_cell w' locks u p (w.tds.controls u) i ≡ control_cell w locks u p (w.tds.controls u) i
-  controls-same u p i n = by_test (u == t)
-      (λ e. subst (λ (z : ℕ). control_cell w' locks z p (w.tds.controls z) i ≡ control_cell w locks z p (w.tds.controls z) i) (sym (eqb-true u t e)) (its-controls p i n))
-      (λ d. control-same u p i (w.tds.controls u) d)
-
-  elsewhere : (u p i : ℕ) (k : PageKind) → (y.tdcs == p) ≡ false → page_cell w' locks u p k i ≡ page_cell w locks u p k i
-  elsewhere u p i kind.Nda n = refl
-  elsewhere u p i kind.Reg n = refl
-  elsewhere u p i kind.Tdr n = refl
-  elsewhere u p i kind.Tdcx n = ap (λ (c : Option ℕ). Rattle.word_rules.specs.Cells.if_stands (w.tds.lives u) c) (controls-same u p i n)
-  elsewhere u p i kind.Tdvpr n = refl
-  elsewhere u p i kind.Ept n = refl
-  elsewhere u p i kind.Migsc n = refl
-
-  apart : (p : ℕ) → (p == y.tdcs) ≡ false → (y.tdcs == p) ≡ false
-  apart p n = by_test (y.tdcs == p)
-      (λ e. (let no : true ≡ false = sym (eq-eqb p y.tdcs (sym (eqb-true y.tdcs p e))) ∙ n in cc))
-      (λ d. d)
-
-  content : (p i : ℕ) → IsIn m (place.Word p i) → IsAs (cell (record s { world = w' }) (place.Word p i)) (after.words (place.Word p i))
-  content p i b = by_test (p == y.tdcs)
-      (λ e. subst (λ (q : ℕ). IsIn m (place.Word q i) → IsAs (cell (record s { world = w' }) (place.Word q i)) (after.words (place.Word q i))) (sym (eqb-true p y.tdcs e)) (tdcs-word i) b)
-      (λ n. rw n (subst (λ (c : Option ℕ). IsAs c (mem.words (place.Word p i))) (sym (elsewhere (w.pages.owners p) p i (w.pages.kinds p) (apart p n))) (sh.word (place.Word p i) b)))
-
-  -- the hashers
-  built-same : (o : Option ℕ) (v : Hand) → ((u : ℕ) → o ≡ Some u → (u == t) ≡ false) → IsAs (built_hasher w o) v → IsAs (built_hasher w' o) v
-  built-same None v other was = was
-  built-same (Some u) v other was = rw (other u refl) was
-
-  other-slot : (k : ℕ) → (k == h) ≡ false → (u : ℕ) → key_owner (w.key_table.keys k) ≡ Some u → (u == t) ≡ false
-  other-slot k n u e = by_test (u == t)
-      (λ z. (let its : w.tds.hkids u ≡ k = (la.keys.owned k u e).1 in
-      let same : k ≡ h = sym its ∙ ap w.tds.hkids (eqb-true u t z) in
-      let no : true ≡ false = sym (eq-eqb k h same) ∙ n in cc))
-      (λ d. d)
-
-  its-slot : (v : Hand) → IsAs (built_hasher w' (key_owner (w.key_table.keys h))) v
-  its-slot v = rw (owner, x.configured, itself) tt
-
-  slot : (k : ℕ) → IsAs (built_hasher w' (key_owner (w.key_table.keys k))) (after.slots k)
-  slot k = by_test (k == h)
-      (λ e. subst (λ (j : ℕ). IsAs (built_hasher w' (key_owner (w.key_table.keys j))) (after.slots j)) (sym (eqb-true k h e)) (its-slot (after.slots h)))
-      (λ n. rw n (built-same (key_owner (w.key_table.keys k)) (mem.slots k) (other-slot k n) (sh.hasher k)))
+  final-but : ShowsBut y.tdcs m mem.words (record s { world = w' })
+  final-but = kept-but w' (aside y.tdcs m mem.words s sh.word) (record {
+    kinds = refl;
+    owners = refl;
+    blocked = refl;
+    key_table = refl;
+    page = λ q o n. record {
+      words = λ i. refl;
+      tdr = λ is i. refl;
+      owned = λ own. record { stands = λ z. z; level = refl; number = refl; entries = λ l e. refl; vp = λ i. refl; stream = λ i. refl; control = λ is z. tdcs-but refl (λ l e. refl) t y.tdcs (y.root ∷ []) y.list o (λ d i. rw d refl) };
+    };
+  })
 
   pub finalized : Shows m after.words after.slots (record s { world = w' })
-  finalized = record { word = at; hasher = slot }
-    where
-      at : (q : WordPlace) → IsIn m q → IsAs (cell (record s { world = w' }) q) (after.words q)
-      at (place.Lock p) b = sh.word (place.Lock p) b
-      at (place.Pamt p) b = sh.word (place.Pamt p) b
-      at (place.Key k) b = sh.word (place.Key k) b
-      at (place.Word p i) b = content p i b
+  finalized = record {
+    word = back final-but after.words (λ r. refl) (λ r. refl) (λ k. refl) (λ r i o. rw o refl) tdcs-word;
+    hasher = hashers-but m w w' t mem.slots after.slots la x.alive refl (λ u n. rw n refl) (λ k n. rw n refl) (rw (x.configured, itself) tt) sh.hasher;
+  }
 
 module _ (m : Machine) (c : Instant) (t : ℕ) (in_page : nat_lt t m.pages ≡ true) (la : Lawful m c.state.world) (sh : Shows m c.memory.words c.memory.slots c.state) (empty : c.memory.hand ≡ None) (x : IsTd m c.state.world t initialized) where
   abbrev v : World
@@ -243,35 +188,22 @@ module _ (m : Machine) (c : Instant) (t : ℕ) (in_page : nat_lt t m.pages ≡ t
   reads-tdcs : (i : ℕ) → or_unused (in_lines (tdcs_classes (is_current v t) (is_empty v t)) i) ≡ TdcsWord → Reads (hold c both) v (place.Word z.tdcs i) Whole
   reads-tdcs i e = rw (tdcs-spot v t i z.tdcs (z.root ∷ []) z.list z.tdcs_page, e) (inr (inl (tdr-held, (op-held, tt))))
 
-  owes-tdcs : (i : ℕ) → or_unused (in_lines (tdcs_classes (is_current v' t) (is_empty v' t)) i) ≡ TdcsWord → Owes (hold c both) v' (place.Word z.tdcs i) KeepsNothing
-  owes-tdcs i e = rw (tdcs-spot v' t i z.tdcs (z.root ∷ []) z.list (record { kind = z.tdcs_page.kind; owner = z.tdcs_page.owner }), e) (inr (inl (tdr-held, (op-alone, tt))))
+  owes-tdcs : (i : ℕ) → i < 512 → or_unused (in_lines (tdcs_classes (is_current v' t) (is_empty v' t)) i) ≡ TdcsWord → IsIn m (place.Word z.tdcs i) × Owes (hold c both) v' (place.Word z.tdcs i) KeepsNothing
+  owes-tdcs i b e = ((z.tdcs_in, b), rw (tdcs-spot v' t i z.tdcs (z.root ∷ []) z.list (record { kind = z.tdcs_page.kind; owner = z.tdcs_page.owner }), e) (inr (inl (tdr-held, (op-alone, tt)))))
 
   may-swap : MayAt (hold c both) (slot_of (key_owner (v.key_table.keys hkid))) (λ k. Rattle.word_rules.specs.Rules.writes k KeepsNothing)
   may-swap = rw (la.keys.owner t x.alive) (inl (tdr-held, (op-alone, tt)))
 
   may-change : MayChange m (hold c both) v v' c.memory (end_changes z.tdcs hkid)
-  may-change = (
-    (range, may-swap),
-    (
-      ((z.tdcs_in, omega arith), owes-tdcs 64 refl),
-      (
-        ((z.tdcs_in, omega arith), owes-tdcs 65 refl),
-        (
-          ((z.tdcs_in, omega arith), owes-tdcs 66 refl),
-          (
-            ((z.tdcs_in, omega arith), owes-tdcs 67 refl),
-            (
-              ((z.tdcs_in, omega arith), owes-tdcs 68 refl),
-              (
-                ((z.tdcs_in, omega arith), owes-tdcs 69 refl),
-                (((z.tdcs_in, omega arith), (KeepsNothing, owes-tdcs 4 refl, tt)), tt),
-              ),
-            ),
-          ),
-        ),
-      ),
-    ),
-  )
+  may-change =
+      let a = owes-tdcs 64 (omega arith) refl in
+      let b = owes-tdcs 65 (omega arith) refl in
+      let d = owes-tdcs 66 (omega arith) refl in
+      let e = owes-tdcs 67 (omega arith) refl in
+      let f = owes-tdcs 68 (omega arith) refl in
+      let g = owes-tdcs 69 (omega arith) refl in
+      let o = owes-tdcs 4 (omega arith) refl in
+      ((range, may-swap), (a, (b, (d, (e, (f, (g, ((o.0, (KeepsNothing, o.1, tt)), tt))))))))
 
   abbrev ready : List ℕ → Bool
   ready vs = list_all (λ p. same_vp_state (v.vps.states p) vcpu.Ready) vs
@@ -312,19 +244,11 @@ module _ (m : Machine) (c : Instant) (t : ℕ) (in_page : nat_lt t m.pages ≡ t
 
   ready-means : Means m c work both (ready_tree m.pages t z.tdcs (λ k. acts (Done value.Nothing) (final_changes m z.tdcs k))) (vps_ready v t ∷ [])
   ready-means =
-      let key : c.memory.words (place.Word t 1) ≡ hkid = tdr-shown m c.memory.words c.memory.slots c.state sh t 1 x.alive.kind x.own its-in (omega arith) in (
-        (its-in, omega arith),
-        inl (rw (tdr-spot v t 1 x.alive.kind x.own) (inl (tdr-held, tt))),
-        subst (λ (a : ℕ). Means m c work both (vps_tree m.pages (ready_vp z.tdcs) (λ created. needs (created == 0) (VcpuStateIncorrect vcpu.Created) (acts (Done value.Nothing) (final_changes m z.tdcs a)))) (vps_ready v t ∷ [])) (sym key) vps-ready,
-      )
+      tdr-load m c work both sh t 1 hkid x.alive.kind x.own its-in (omega arith) refl (inl (tdr-held, tt))
+      (λ a. vps_tree m.pages (ready_vp z.tdcs) (λ created. needs (created == 0) (VcpuStateIncorrect vcpu.Created) (acts (Done value.Nothing) (final_changes m z.tdcs a)))) (vps_ready v t ∷ []) vps-ready
 
 pub finalize-means : (p : Place) (t : ℕ) → MeansRow (finalize_task p t)
 finalize-means p t = record {
-  means = λ c at. (
-    refl,
-    λ e. refl,
-    λ a. td-head-means p.machine c (work_of (OfCall (finalize p.machine t))) t (ltb-true t p.machine.pages a) at.lawful at.shown Exclusive initialized
-        (λ td. ready_tree p.machine.pages t td.tdcs (λ k. acts (Done value.Nothing) (final_changes p.machine td.tdcs k))) (vps_ready c.state.world t ∷ [])
-        (λ x. ready-means p.machine c t a at.lawful at.shown at.empty_hand x),
-  );
+  means = λ c at. td-row-means p.machine c (work_of (OfCall (finalize p.machine t))) t at.lawful at.shown ((nat_lt t p.machine.pages, OperandInvalid 1) ∷ []) (λ a. ltb-true t p.machine.pages a.0) Exclusive initialized
+      (λ td. ready_tree p.machine.pages t td.tdcs (λ k. acts (Done value.Nothing) (final_changes p.machine td.tdcs k))) (vps_ready c.state.world t ∷ []) (λ a x. ready-means p.machine c t a.0 at.lawful at.shown at.empty_hand x);
 }

@@ -1,5 +1,5 @@
 -- Behind the beginning of its row the leaf that creates a virtual processor means the row.
-use Rattle.std.proofs.Common.{◌≡◌, ℕ, ◌+◌, ◌<◌, ◌≤◌, true, false, ◌==◌, ◌&&◌, [], ◌∷◌, length, refl, ap, sym, ◌∙◌, subst, inl, inr, arith}
+use Rattle.std.proofs.Common.{◌≡◌, ℕ, ◌+◌, ◌<◌, ◌≤◌, true, false, ◌==◌, ◌&&◌, [], ◌∷◌, length, refl, ap, ◌∙◌, inl, inr, arith}
 use Rattle.std.specs.Prelude.{nat_lt, not}
 use Rattle.std.proofs.lemmas.Bool.{eq-eqb, ltb-true, lt-ltb, not-true}
 use Rattle.td_words.specs.declared.names.PageKind.TheVariants as kind
@@ -8,6 +8,7 @@ use Rattle.td_words.specs.declared.names.OpState.TheVariants as op
 use Rattle.td_words.specs.declared.names.Mode.TheVariants.{Exclusive}
 use Rattle.td_words.specs.declared.calls.Call.TheVariants as call
 use Rattle.td_words.specs.declared.machines.Machine.{Machine}
+use Rattle.td_words.specs.declared.places.TheConstants.{TDR_CHILDREN, TDCS_VPS_EXPECTED}
 use Rattle.td_words.specs.declared.replies.Value.TheVariants as value
 use Rattle.td_words.specs.declared.replies.Reply.TheVariants.{Done}
 use Rattle.td_words.specs.Packing.{pamt_word}
@@ -18,28 +19,28 @@ use Rattle.flat_core.specs.Conditions.{is_host, children, vp_limit, vp_room, hos
 use Rattle.flat_core.specs.Lawful.{Lawful, IsPageOf}
 use Rattle.flat_core.specs.VpRows.{create_vp}
 use Rattle.word_rules.specs.Guards.{Grip, Locked, Meets}
-use Rattle.word_rules.specs.Rules.{Class, VcpuWord, Association, Unused, TdcsWord, ChildCount, Whole, KeepsNothing, reads, writes, owes}
+use Rattle.word_rules.specs.Rules.{Class, VcpuWord, Association, Unused, TdcsWord, Whole, KeepsNothing, writes, owes}
 use Rattle.word_rules.specs.Lines.{in_lines}
 use Rattle.word_rules.specs.Spots.{spot, guard_at, or_unused, vp_classes, is_current, is_empty}
-use Rattle.word_rules.specs.Permissions.{Respects, Reads, Owes}
-use Rattle.word_rules.specs.Cells.{Shows, IsAs, td_lock_lines, tdcs_lines, lock_word}
+use Rattle.word_rules.specs.Permissions.{Respects, Owes}
+use Rattle.word_rules.specs.Cells.{Shows}
 use Rattle.act_rules.proofs.Rows.{rows-respect}
 use Rattle.flat_core.proofs.Tests.{by_test}
 use Rattle.leaf_engine.specs.Changes.{Memory, Put, Clear, changed}
-use Rattle.leaf_engine.specs.Trees.{Load, acts, only}
-use Rattle.leaf_engine.specs.Means.{Instant, Means, Acts, MayOweAll, work_of, OfCall, hold}
+use Rattle.leaf_engine.specs.Trees.{Tree, Load, acts, only}
+use Rattle.leaf_engine.specs.Means.{Instant, Means, Work, Acts, MayOweAll, work_of, OfCall, hold}
 use Rattle.leaf_parts.specs.Words.{raised}
 use Rattle.leaf_parts.proofs.Acted.{opening}
-use Rattle.leaf_parts.proofs.Told.{kind-is, kind-shown, tdr-shown, tdcs-shown, tdr-spot, tdcs-spot}
+use Rattle.leaf_parts.proofs.Told.{kind-is, tdcs-spot}
 use Rattle.leaf_parts.proofs.Begun.{IsTd}
 use Rattle.leaf_parts.proofs.Lines.{each-may}
 use Rattle.leaf_parts.proofs.Vps.{vp-class, vp-spot}
 use Rattle.vcpu_control.specs.VpChanges.{create_changes}
 use Rattle.vcpu_control.specs.VpTrees.{create_page, create_room, create_rest}
 use Rattle.vcpu_control.specs.VpLocks.{td_locks, page_locks, td-held, op-held, held-td, held-op, held-page, alone-page, alone-op}
-use Rattle.vcpu_control.specs.VpSpots.{spot_of, at-spot}
-use Rattle.vcpu_control.specs.Children.{one-child, same-children}
-use Rattle.vcpu_control.specs.CreateShows.{created, apart}
+use Rattle.leaf_parts.proofs.Checks.{spot_of, at-spot, at-tdr, at-tdcs, host-page-means, tdr-load, tdcs-load}
+use Rattle.vcpu_control.specs.CreateShows.{created}
+use Rattle.leaf_parts.proofs.Aside.{apart}
 
 -- room
 
@@ -73,6 +74,9 @@ module _ (m : Machine) (c : Instant) (t p : ℕ) (la : Lawful m c.state.world) (
   abbrev w' : World
   w' = (create_vp m t p).act w
 
+  abbrev k : Work
+  k = work_of (OfCall (create_vp m t p))
+
   abbrev n : ℕ
   n = length (w.tds.vps t)
 
@@ -94,18 +98,6 @@ module _ (m : Machine) (c : Instant) (t p : ℕ) (la : Lawful m c.state.world) (
 
   tdcs_in : d < m.pages
   tdcs_in = x.controls.tdcs_in
-
-  tdcs-word : (i : ℕ) → i < 512 → IsAs (in_lines (td_lock_lines (lock_word c.state.lps c.state.lp_count) t (tdcs_lines w t)) i) (c.memory.words (place.Word d i))
-  tdcs-word i b = tdcs-shown m c.memory.words c.memory.slots c.state sh t i d (x.controls.root ∷ []) x.controls.list x.controls.tdcs_page x.alive.life tdcs_in b
-
-  count_word : c.memory.words (place.Word d 15) ≡ n
-  count_word = tdcs-word 15 (omega arith)
-
-  expected_word : c.memory.words (place.Word d 14) ≡ w.tds.vps_expected t
-  expected_word = tdcs-word 14 (omega arith)
-
-  children_word : c.memory.words (place.Word t 2) ≡ children w t
-  children_word = tdr-shown m c.memory.words c.memory.slots c.state sh t 2 x.alive.kind x.own tdr_in (omega arith)
 
   limit : vp_limit (w.tds.ops t) (w.tds.vps_expected t) ≤ 8
   limit = limit_small (w.tds.ops t) (w.tds.vps_expected t) (la.tds.vps_expected t)
@@ -169,8 +161,7 @@ module _ (m : Machine) (c : Instant) (t p : ℕ) (la : Lawful m c.state.world) (
       fills_allowed = tt;
       respects = respects;
       locks_stay = ((refl, λ y. y), ((refl, λ y. record { alive = record { kind = tdr-kind; life = y.alive.life }; has_tdcs = y.has_tdcs }), ((refl, λ y. y), tt)));
-      shows = created m c.state c.memory t p d x.controls.root sh la x.alive x.controls.list nda eight
-          (one-child m w t p la in_page host other) (same-children m w t p la in_page host other);
+      shows = created m c.state c.memory t p sh la x.alive x.controls host eight in_page;
     }
 
     new-owed : (i : ℕ) → Owes g w' (place.Word p i) KeepsNothing
@@ -178,24 +169,18 @@ module _ (m : Machine) (c : Instant) (t p : ℕ) (la : Lawful m c.state.world) (
 
     owed : (mem : Memory) → MayOweAll m g w' mem
         (Clear p ∷ Put (place.Pamt p) (pamt_word (record { kind = kind.Tdvpr; owner = t; epoch = 0 })) ∷ Put (place.Word p 0) n ∷ Put (place.Word d 15) (n + 1) ∷ Put (place.Word t 2) (raised m.pages (children w t)) ∷ [])
-    owed mem = (
-      (in_page, λ i b. new-owed i),
-      (
-        (in_page, (KeepsNothing, inl (own, tt), tt)),
-        (
-          ((in_page, omega arith), (KeepsNothing, new-owed 0, tt)),
-          (
-            ((tdcs_in, omega arith), (KeepsNothing, at-spot g w' (place.Word d 15) (spot_of TdcsWord t d) (λ z. owes z KeepsNothing) (tdcs-spot w' t 15 d (x.controls.root ∷ []) x.controls.list after-tdcs) (inr (inl (td, (op_alone, tt)))), tt)),
-            (((tdr_in, omega arith), (KeepsNothing, at-spot g w' (place.Word t 2) (spot_of ChildCount t t) (λ z. owes z KeepsNothing) (tdr-spot w' t 2 tdr-kind tdr-owner) (inr (inl (td, (op_alone, tt)))), tt)), tt),
-          ),
-        ),
-      ),
-    )
+    owed mem =
+        let listed : Owes g w' (place.Word d 15) KeepsNothing = at-tdcs g w' t d 15 (x.controls.root ∷ []) (λ z. owes z KeepsNothing) x.controls.list after-tdcs (inr (inl (td, (op_alone, tt)))) in
+        let counted : Owes g w' (place.Word t 2) KeepsNothing = at-tdr g w' t 2 (λ z. owes z KeepsNothing) tdr-kind tdr-owner (inr (inl (td, (op_alone, tt)))) in
+        let inside : 15 < 512 = omega arith in
+        let kids : 2 < 512 = omega arith in
+        let first : 0 < 512 = omega arith in
+        ((in_page, λ i b. new-owed i), ((in_page, (KeepsNothing, inl (own, tt), tt)), (((in_page, first), (KeepsNothing, new-owed 0, tt)), (((tdcs_in, inside), (KeepsNothing, listed, tt)), (((tdr_in, kids), (KeepsNothing, counted, tt)), tt)))))
 
     listed-spot : spot w (place.Word d (40 + n)) ≡ spot_of TdcsWord t d
     listed-spot = tdcs-spot w t (40 + n) d (x.controls.root ∷ []) x.controls.list x.controls.tdcs_page ∙ ap (λ (x : Class). spot_of x t d) (vp-class (is_current w t) (is_empty w t) n eight)
 
-    its-end : Means m c (work_of (OfCall (create_vp m t p))) (page_locks t p Exclusive) (acts (Done value.Nothing) (create_changes m.pages t d p n (children w t))) []
+    its-end : Means m c k (page_locks t p Exclusive) (acts (Done value.Nothing) (create_changes m.pages t d p n (children w t))) []
     its-end = (
       its-act,
       (
@@ -204,38 +189,17 @@ module _ (m : Machine) (c : Instant) (t p : ℕ) (la : Lawful m c.state.world) (
       ),
     )
 
-    -- the child count
-    counted : Means m c (work_of (OfCall (create_vp m t p))) (page_locks t p Exclusive) (Load Whole (place.Word t 2) (λ kids. acts (Done value.Nothing) (create_changes m.pages t d p n kids))) []
-    counted = (
-      (tdr_in, omega arith),
-      inl (at-spot g w (place.Word t 2) (spot_of ChildCount t t) (λ z. reads z Whole) (tdr-spot w t 2 x.alive.kind x.own) (inr (inl (td, (op_alone, tt))))),
-      subst (λ (kids : ℕ). Means m c (work_of (OfCall (create_vp m t p))) (page_locks t p Exclusive) (acts (Done value.Nothing) (create_changes m.pages t d p n kids)) []) (sym children_word) its-end,
-    )
+  -- the child count, and the page
+  abbrev kids_tree : Tree
+  kids_tree = Load Whole (place.Word t TDR_CHILDREN) (λ kids. acts (Done value.Nothing) (create_changes m.pages t x.controls.tdcs p (length (c.state.world.tds.vps t)) kids))
 
-  -- the page
-  paged : nat_lt n (vp_limit (w.tds.ops t) (w.tds.vps_expected t)) ≡ true → Means m c (work_of (OfCall (create_vp m t p))) (td_locks t Exclusive) (create_page m.pages t d p n) (page_exclusive p ∷ host_page w p ∷ [])
-  paged room = (
-    refl,
-    refl,
-    record { in_machine = in_page; at = refl; stands = tt; allowed = inl tt },
-    (in_page, inl (inl (own_held, tt)), (kind-shown m c.memory.words c.memory.slots c.state sh kind.Nda p in_page, λ e. refl, λ host. counted room host)),
-  )
+  paged : nat_lt n (vp_limit (w.tds.ops t) (w.tds.vps_expected t)) ≡ true → Means m c k (td_locks t Exclusive) (create_page m.pages t d p n) (page_exclusive p ∷ host_page w p ∷ [])
+  paged room = host-page-means m c k (td_locks t Exclusive) sh p in_page kids_tree []
+      (λ host. tdr-load m c k (page_locks t p Exclusive) sh t 2 (children w t) x.alive.kind x.own tdr_in (omega arith) refl (inr (inl (td, (op_alone, tt)))) (λ kids. acts (Done value.Nothing) (create_changes m.pages t d p n kids)) [] (its-end room host))
 
-  roomy : Means m c (work_of (OfCall (create_vp m t p))) (td_locks t Exclusive) (create_room m.pages t d (w.tds.ops t) p n (w.tds.vps_expected t)) (vp_room w t ∷ page_exclusive p ∷ host_page w p ∷ [])
-  roomy = (room_told n (vp_limit (w.tds.ops t) (w.tds.vps_expected t)) limit, λ e. refl, paged)
-
-  tdcs-read : (i : ℕ) → spot w (place.Word d i) ≡ spot_of TdcsWord t d → Reads (hold c (td_locks t Exclusive)) w (place.Word d i) Whole
-  tdcs-read i e = at-spot (hold c (td_locks t Exclusive)) w (place.Word d i) (spot_of TdcsWord t d) (λ z. reads z Whole) e (inr (inl (td-held t p Exclusive c.kept other, (op-held t p Exclusive c.kept other, tt))))
-
-  -- the expected number, and the number there is
-  pub create_rest-means : Means m c (work_of (OfCall (create_vp m t p))) (td_locks t Exclusive) (create_rest m.pages t (record { tdcs = d; op = w.tds.ops t }) p) (vp_room w t ∷ page_exclusive p ∷ host_page w p ∷ [])
-  create_rest-means = (
-    (tdcs_in, omega arith),
-    inl (tdcs-read 15 (tdcs-spot w t 15 d (x.controls.root ∷ []) x.controls.list x.controls.tdcs_page)),
-    (
-      (tdcs_in, omega arith),
-      inl (tdcs-read 14 (tdcs-spot w t 14 d (x.controls.root ∷ []) x.controls.list x.controls.tdcs_page)),
-      subst (λ (count : ℕ). Means m c (work_of (OfCall (create_vp m t p))) (td_locks t Exclusive) (create_room m.pages t d (w.tds.ops t) p count (c.memory.words (place.Word d 14))) (vp_room w t ∷ page_exclusive p ∷ host_page w p ∷ [])) (sym count_word)
-          (subst (λ (expected : ℕ). Means m c (work_of (OfCall (create_vp m t p))) (td_locks t Exclusive) (create_room m.pages t d (w.tds.ops t) p n expected) (vp_room w t ∷ page_exclusive p ∷ host_page w p ∷ [])) (sym expected_word) roomy),
-    ),
-  )
+  -- the number there is, and the expected one
+  pub create_rest-means : Means m c k (td_locks t Exclusive) (create_rest m.pages t (record { tdcs = d; op = w.tds.ops t }) p) (vp_room w t ∷ page_exclusive p ∷ host_page w p ∷ [])
+  create_rest-means =
+      tdcs-load m c k (td_locks t Exclusive) sh t 15 n x.alive x.controls (omega arith) refl (inr (inl (td-held t p Exclusive c.kept other, (op-held t p Exclusive c.kept other, tt)))) (λ count. Load Whole (place.Word d TDCS_VPS_EXPECTED) (λ expected. create_room m.pages t d (w.tds.ops t) p count expected)) (vp_room w t ∷ page_exclusive p ∷ host_page w p ∷ [])
+      (tdcs-load m c k (td_locks t Exclusive) sh t 14 (w.tds.vps_expected t) x.alive x.controls (omega arith) refl (inr (inl (td-held t p Exclusive c.kept other, (op-held t p Exclusive c.kept other, tt)))) (λ expected. create_room m.pages t d (w.tds.ops t) p n expected) (vp_room w t ∷ page_exclusive p ∷ host_page w p ∷ [])
+      (room_told n (vp_limit (w.tds.ops t) (w.tds.vps_expected t)) limit, λ e. refl, paged))

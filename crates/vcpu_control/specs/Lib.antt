@@ -2,11 +2,9 @@ pub mod Words
 pub mod VpChanges
 pub mod VpTrees
 pub mod VpLocks
-pub mod VpSpots
-pub mod Shown
 pub mod InitShows
 pub mod InitMeans
-pub mod Children
+pub mod VpAdded
 pub mod CreateShows
 pub mod CreateMeans
 pub mod VpMeanings
