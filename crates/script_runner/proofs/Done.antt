@@ -46,7 +46,7 @@ told_named (Some c) name answer before now (Ok e) told cause comes = named_end n
 told_named (Some c) name answer before now (Err e) told cause comes = tt
 
 -- a put that fails turns the status 0 alone
-unput : (n s : ℕ) → unput_status n ≡ s → ((n ≡ 0) × (s ≡ 4)) ⊎ ((n ≢ 0) × (n ≡ s))
+pub unput : (n s : ℕ) → unput_status n ≡ s → ((n ≡ 0) × (s ≡ 4)) ⊎ ((n ≢ 0) × (n ≡ s))
 unput n s e = by (eqb_tells n 0)
   where
     by : (((n == 0) ≡ true) × (n ≡ 0)) ⊎ (((n == 0) ≡ false) × (n ≢ 0)) → ((n ≡ 0) × (s ≡ 4)) ⊎ ((n ≢ 0) × (n ≡ s))

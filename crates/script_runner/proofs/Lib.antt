@@ -5,3 +5,4 @@ pub mod RunningOut
 pub mod Turning
 pub mod Places
 pub mod Replayed
+pub mod Alone

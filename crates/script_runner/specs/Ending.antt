@@ -1,6 +1,5 @@
 -- How a command ends: its status and its text, over the contents that are told.
-use Rattle.std.specs.Prelude.{ℕ, List, [], ◌∷◌, ◌++◌, length, Option, Some, None, Result, Ok, Err, Bool, ◌==◌, ◌&&◌, not, slice_index_or, if◌then◌else◌, codes}
-use Rattle.std.specs.Str.{bytes_eq}
+use Rattle.std.specs.Prelude.{ℕ, List, [], ◌∷◌, ◌++◌, Option, Some, None, Result, Ok, Err, ◌==◌, ◌&&◌, if◌then◌else◌, codes}
 use Rattle.std.specs.Fmt.{decimal}
 use Rattle.td_words.specs.Seen.{CodeSeen}
 use Rattle.td_words.specs.declared.calls.GuestOp.{GuestOp}
@@ -12,6 +11,7 @@ use Rattle.script_text.specs.Reading.{read_of}
 use Rattle.script_text.specs.Seen.{ScriptSeen}
 use Rattle.flat_core.specs.Opening.{Opening}
 use Rattle.flat_core.specs.HostText.{host_text}
+use Rattle.command_files.specs.Commands.{CommandSeen, command_in}
 use Rattle.script_runner.specs.declared.ending.Ending.{Ending}
 
 -- an exit status, and what is put to the output
@@ -22,16 +22,13 @@ pub record Ended : Type 0 where
 abbrev pub ending_seen : Ending → Ended
 ending_seen e = record { status = e.status; text = e.text.items }
 
--- The words are `replay` and the script's name, which doesn't begin with a dash.
-abbrev pub begins_with_dash : List ℕ → Bool
-begins_with_dash word = slice_index_or word 0 0 == 45
-
-abbrev pub is_replay : List (List ℕ) → Bool
-is_replay words = length words == 2 && (bytes_eq (slice_index_or words 0 []) (codes "replay") && not (begins_with_dash (slice_index_or words 1 [])))
-
 -- the name of the script, where the words are a command
+abbrev pub script_named : Option CommandSeen → Option (List ℕ)
+script_named None = None
+script_named (Some c) = Some c.script
+
 unfoldable pub words_read : List (List ℕ) → Option (List ℕ)
-words_read words = if is_replay words then Some (slice_index_or words 1 []) else None
+words_read words = script_named (command_in words)
 
 -- the first list of that virtual processor; one without a list has an empty one
 abbrev pub code_in : List CodeSeen → ℕ → ℕ → List GuestOp

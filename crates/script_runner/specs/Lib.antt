@@ -2,3 +2,4 @@ pub mod Ending
 pub mod Replaying
 pub mod Ends
 pub mod Done
+pub mod Commanded

@@ -1,13 +1,15 @@
 //! How a command ends: its status, and the text that is put.
 
-ghost use Rattle.std.specs.Prelude.{◌≡◌, IfOk, Ok, map, string_bytes, option_map, not, codes};
-ghost use Rattle.std.specs.Str.{bytes_eq};
-ghost use Rattle.script_text.specs.Reading.{read_of, IsAnswered};
+ghost use Rattle.std.specs.Prelude.{◌≡◌, ◌≢◌, ◌≤◌, IfOk, Ok, Err};
 ghost use Rattle.script_text.specs.Laws.{IsInForm};
-ghost use Rattle.script_runner.specs.Ending.{ending_seen, words_read, begins_with_dash, usage_end, unread_end, bad_end, script_end};
+ghost use Rattle.script_text.specs.Seen.{ScriptSeen};
+ghost use Rattle.command_files.specs.Commands.{command_seen};
+ghost use Rattle.script_runner.specs.Ending.{ending_seen, usage_end, unread_end, bad_end, script_end};
+ghost use Rattle.script_runner.specs.Commanded.{container_end, keys_end, unwritten_end, input_name, InputsEnd};
 
 use crate::replay::replay_text;
-use script_text::{Reason, Script, ScriptFault, read_script, scripts_are_in_form};
+use command_files::{Command, Input, InputFault};
+use script_text::{Reason, Script};
 use std::alloc::{AllocError, Global};
 use td_words::OutOfMemory;
 
@@ -20,36 +22,6 @@ pub struct Ending {
 
 const USAGE: &str =
     "usage: tdx replay|run SCRIPT [--bundles F] [--keys F] [--secrets F] [--out-bundles F] [--guest-out F] | tdx check SCRIPT | tdx soak N\n";
-
-fn is_name(word: &str) -> bool
-    ensures { result ≡ not (begins_with_dash word.now) }
-{
-    let bytes = word.as_bytes();
-    bytes.is_empty() || bytes[0] != b'-'
-}
-
-fn is_replay(word: &str) -> bool
-    ensures { result ≡ bytes_eq word.now (codes "replay") }
-{
-    word == "replay"
-}
-
-/// The name of the script, where the words are a command.
-#[tactic(auto, unfolding(crate::specs::Ending::words_read))]
-pub fn script_name(words: &[String]) -> Option<&str>
-    ensures { option_map (λ name. name.now) result ≡ words_read (map string_bytes words.now) }
-{
-    if words.len() != 2 {
-        return None;
-    }
-    let command = words[0].as_str();
-    let name = words[1].as_str();
-    if is_replay(command) && is_name(name) {
-        Some(name)
-    } else {
-        None
-    }
-}
 
 /// The words are no command.
 pub fn usage(alloc: Global) -> Result<Ending, AllocError>
@@ -81,27 +53,73 @@ pub fn unread(alloc: Global, name: &str) -> Result<Ending, AllocError>
     })
 }
 
-fn run(alloc: Global, script: &Script) -> Result<Ending, AllocError>
+/// The container's bytes are none, from that place on.
+fn bad_container(alloc: Global, place: u64) -> Result<Ending, AllocError>
+    ensures { IfOk result (λ e. ending_seen e ≡ container_end place) }
+{
+    Ok(Ending {
+        status: 6,
+        text: format!(in alloc; "bundle file byte {place}\n")?.into_bytes(),
+    })
+}
+
+/// The key file hasn't its length.
+fn bad_keys(alloc: Global) -> Result<Ending, AllocError>
+    ensures { IfOk result (λ e. ending_seen e ≡ keys_end) }
+{
+    Ok(Ending {
+        status: 7,
+        text: "key file\n".as_bytes().to_vec(alloc)?,
+    })
+}
+
+/// Nothing was written under that name.
+pub fn unwritten(alloc: Global, name: &str) -> Result<Ending, AllocError>
+    ensures { IfOk result (λ e. ending_seen e ≡ unwritten_end name.now) }
+{
+    Ok(Ending {
+        status: 4,
+        text: format!(in alloc; "cannot write {name}\n")?.into_bytes(),
+    })
+}
+
+fn input_name<'a>(command: &Command<'a>, input: Input) -> &'a str
+    ensures { result.now ≡ input_name (command_seen command.now) input }
+{
+    let name = match input {
+        Input::Bundles => command.bundles,
+        Input::Keys => command.keys,
+    };
+    name.unwrap_or("")
+}
+
+/// An input can't be read, or hasn't its form.
+pub fn of_fault(
+    alloc: Global,
+    command: &Command<'_>,
+    fault: InputFault,
+) -> Result<Ending, AllocError>
+    ensures ends { (s : ScriptSeen) → IfOk result (λ e. InputsEnd (command_seen command.now) s (Err fault) (ending_seen e)) }
+    ensures not_usage { IfOk result (λ e. e.status ≢ 1) }
+    ensures not_write { IfOk result (λ e. e.status ≢ 4) }
+    ensures not_run { IfOk result (λ e. e.status ≢ 0) }
+    ensures few { IfOk result (λ e. e.status ≤ 7) }
+{
+    match fault {
+        InputFault::Unread(input) => unread(alloc, input_name(command, input)),
+        InputFault::Container(place) => bad_container(alloc, place),
+        InputFault::Keys => bad_keys(alloc),
+        InputFault::OutOfMemory => Err(AllocError),
+    }
+}
+
+/// A script is run.
+pub fn run(alloc: Global, script: &Script) -> Result<Ending, AllocError>
     requires { IsInForm script.now }
     ensures { IfOk result (λ e. ending_seen e ≡ script_end (Ok script.now)) }
 {
     match replay_text(alloc, script) {
         Ok(text) => Ok(Ending { status: 0, text }),
         Err(OutOfMemory) => Err(AllocError),
-    }
-}
-
-/// What the bytes of a script come to.
-pub fn of_bytes(alloc: Global, bytes: Vec<u8>) -> Result<Ending, AllocError>
-    ensures { IfOk result (λ e. ending_seen e ≡ script_end (read_of bytes.items)) }
-{
-    scripts_are_in_form();
-    let read = read_script(alloc, &bytes);
-    // The bytes' memory goes back before the run takes its own.
-    drop(bytes);
-    match read {
-        Ok(script) => run(alloc, &script),
-        Err(ScriptFault::Bad { line, reason }) => bad(alloc, line, reason),
-        Err(ScriptFault::OutOfMemory) => Err(AllocError),
     }
 }

@@ -1,6 +1,8 @@
-//! The top call, over the files and the output of `bundle_store`.
+//! The top call, over the files and the output of `bundle_store`: a command's ending is decided by what
+//! it loads, its text is put, and then the container is saved.
 #![tactic(auto)]
 
+mod commanded;
 mod ending;
 mod replay;
 mod report;

@@ -1,0 +1,130 @@
+//! The ending that is due by what a command loads.
+
+ghost use Rattle.std.specs.Prelude.{◌≡◌, ◌≢◌, ◌≤◌, ℕ, Result, Some, IfOk, IfSome, IfNone};
+ghost use Rattle.std.specs.Global.{Vec};
+ghost use Rattle.script_text.specs.Laws.{IsInForm};
+ghost use Rattle.script_text.specs.Reading.{read_of};
+ghost use Rattle.command_files.specs.Commands.{CommandSeen, command_seen};
+ghost use Rattle.command_files.specs.Inputs.{Reads, TakesInputs};
+ghost use Rattle.command_files.specs.declared.inputs.InputFault.{InputFault};
+ghost use Rattle.bundle_store.specs.Outside.{Rose};
+ghost use Rattle.script_runner.specs.Ending.{ending_seen};
+ghost use Rattle.script_runner.specs.Ends.{IsNamedEnding};
+ghost use Rattle.script_runner.specs.Done.{LoadsOnce, ComesTo, IsLoad};
+ghost use Rattle.script_runner.specs.Commanded.{InputsEnd, ReadEnd, AnswerEnd, FurtherPart, Reaches, ReachesPart, IsAlone};
+
+use crate::ending::{Ending, bad, of_fault, run, unread};
+use bundle_store::{Files, LoadFault};
+use command_files::{Command, take_inputs};
+use script_text::{Reason, Script, ScriptFault, read_script, scripts_are_in_form};
+use std::alloc::{AllocError, Global};
+
+const MOST_SCRIPT: u64 = 1 << 24;
+
+// What a script comes to: its inputs are taken, and then it is run.
+fn of_script<F: Files>(
+    alloc: Global,
+    script: &Script,
+    command: &Command<'_>,
+    files: &mut F,
+) -> Result<Ending, AllocError>
+    requires { IsInForm script.now }
+    ensures ends { IfOk result (λ e. (r : Result (Unit {0}) InputFault) × TakesInputs (F.contents files.old) (command_seen command.now) (record { loads = F.loads files.old; faults = F.read_faults files.old; bytes = F.bytes_read files.old }) (record { loads = F.loads files.new; faults = F.read_faults files.new; bytes = F.bytes_read files.new }) r × InputsEnd (command_seen command.now) script.now r (ending_seen e)) }
+    ensures part { (r : Result (Unit {0}) InputFault) × TakesInputs (F.contents files.old) (command_seen command.now) (record { loads = F.loads files.old; faults = F.read_faults files.old; bytes = F.bytes_read files.old }) (record { loads = F.loads files.new; faults = F.read_faults files.new; bytes = F.bytes_read files.new }) r }
+    ensures same { F.contents files.new ≡ F.contents files.old }
+    ensures saves { F.saves files.new ≡ F.saves files.old }
+    ensures writes { F.write_faults files.new ≡ F.write_faults files.old }
+    ensures later { F.read_faults files.old ≤ F.read_faults files.new }
+    ensures quiet { IfOk result (λ e. e.status ≡ 0 → F.read_faults files.new ≡ F.read_faults files.old) }
+    ensures not_usage { IfOk result (λ e. e.status ≢ 1) }
+    ensures not_write { IfOk result (λ e. e.status ≢ 4) }
+    ensures few { IfOk result (λ e. e.status ≤ 7) }
+{
+    match take_inputs(alloc, command, files) {
+        Ok(()) => run(alloc, script),
+        Err(fault) => of_fault(alloc, command, fault),
+    }
+}
+
+// What the bytes of a script come to.
+fn of_bytes<F: Files>(
+    alloc: Global,
+    bytes: Vec<u8>,
+    command: &Command<'_>,
+    files: &mut F,
+) -> Result<Ending, AllocError>
+    ensures ends { IfOk result (λ e. ReadEnd (F.contents files.old) (command_seen command.now) (record { loads = F.loads files.old; faults = F.read_faults files.old; bytes = F.bytes_read files.old }) (record { loads = F.loads files.new; faults = F.read_faults files.new; bytes = F.bytes_read files.new }) (read_of bytes.items) (ending_seen e)) }
+    ensures part { FurtherPart (F.contents files.old) (command_seen command.now) (record { loads = F.loads files.old; faults = F.read_faults files.old; bytes = F.bytes_read files.old }) (record { loads = F.loads files.new; faults = F.read_faults files.new; bytes = F.bytes_read files.new }) }
+    ensures same { F.contents files.new ≡ F.contents files.old }
+    ensures saves { F.saves files.new ≡ F.saves files.old }
+    ensures writes { F.write_faults files.new ≡ F.write_faults files.old }
+    ensures later { F.read_faults files.old ≤ F.read_faults files.new }
+    ensures quiet { IfOk result (λ e. e.status ≡ 0 → F.read_faults files.new ≡ F.read_faults files.old) }
+    ensures not_usage { IfOk result (λ e. e.status ≢ 1) }
+    ensures not_write { IfOk result (λ e. e.status ≢ 4) }
+    ensures few { IfOk result (λ e. e.status ≤ 7) }
+{
+    scripts_are_in_form();
+    let read = read_script(alloc, &bytes);
+    // The bytes' memory goes back before the run takes its own.
+    drop(bytes);
+    match read {
+        Ok(script) => of_script(alloc, &script, command, files),
+        Err(ScriptFault::Bad { line, reason }) => bad(alloc, line, reason),
+        Err(ScriptFault::OutOfMemory) => Err(AllocError),
+    }
+}
+
+// What the load of a script comes to.
+fn of_answer<F: Files>(
+    alloc: Global,
+    answer: Result<Vec<u8>, LoadFault>,
+    command: &Command<'_>,
+    files: &mut F,
+) -> Result<Ending, AllocError>
+    ensures ends { IfOk result (λ e. AnswerEnd (F.contents files.old) (command_seen command.now) (record { loads = F.loads files.old; faults = F.read_faults files.old; bytes = F.bytes_read files.old }) (record { loads = F.loads files.new; faults = F.read_faults files.new; bytes = F.bytes_read files.new }) answer (ending_seen e)) }
+    ensures part { FurtherPart (F.contents files.old) (command_seen command.now) (record { loads = F.loads files.old; faults = F.read_faults files.old; bytes = F.bytes_read files.old }) (record { loads = F.loads files.new; faults = F.read_faults files.new; bytes = F.bytes_read files.new }) }
+    ensures same { F.contents files.new ≡ F.contents files.old }
+    ensures saves { F.saves files.new ≡ F.saves files.old }
+    ensures writes { F.write_faults files.new ≡ F.write_faults files.old }
+    ensures later { F.read_faults files.old ≤ F.read_faults files.new }
+    ensures quiet { IfOk result (λ e. e.status ≡ 0 → F.read_faults files.new ≡ F.read_faults files.old) }
+    ensures not_usage { IfOk result (λ e. e.status ≢ 1) }
+    ensures not_write { IfOk result (λ e. e.status ≢ 4) }
+    ensures few { IfOk result (λ e. e.status ≤ 7) }
+{
+    match answer {
+        Ok(bytes) => of_bytes(alloc, bytes, command, files),
+        Err(LoadFault::TooLong) => bad(alloc, 0, Reason::Length),
+        Err(LoadFault::Absent) => unread(alloc, command.script),
+        Err(LoadFault::Failed) => unread(alloc, command.script),
+        Err(LoadFault::OutOfMemory) => Err(AllocError),
+    }
+}
+
+/// What a command comes to: its script is loaded and read, then its inputs are taken, and then it is
+/// run.
+pub fn of_command<F: Files>(
+    alloc: Global,
+    command: &Command<'_>,
+    files: &mut F,
+) -> Result<Ending, AllocError>
+    ensures ends { IfOk result (λ e. Reaches (F.contents files.old) (command_seen command.now) (record { loads = F.loads files.old; faults = F.read_faults files.old; bytes = F.bytes_read files.old }) (record { loads = F.loads files.new; faults = F.read_faults files.new; bytes = F.bytes_read files.new }) (ending_seen e)) }
+    ensures part { ReachesPart (F.contents files.old) (command_seen command.now) (record { loads = F.loads files.old; faults = F.read_faults files.old; bytes = F.bytes_read files.old }) (record { loads = F.loads files.new; faults = F.read_faults files.new; bytes = F.bytes_read files.new }) }
+    ensures alone_load { IsAlone (Some (command_seen command.now)) → (answer : Result (Vec ℕ) LoadFault) × LoadsOnce (F.loads files.old) command.now.script.now answer (F.loads files.new) × IsLoad (F.contents files.old) (F.read_faults files.old) (F.read_faults files.new) (F.bytes_read files.old) (F.bytes_read files.new) (record { name = command.now.script.now; answer = answer }) }
+    ensures alone_comes { IsAlone (Some (command_seen command.now)) → IfOk result (λ e. (answer : Result (Vec ℕ) LoadFault) × LoadsOnce (F.loads files.old) command.now.script.now answer (F.loads files.new) × ComesTo command.now.script.now answer (ending_seen e)) }
+    ensures alone_told { IsAlone (Some (command_seen command.now)) → IfSome (F.contents files.old) (λ c. IfOk result (λ e. IsNamedEnding (F.read_faults files.old) (F.read_faults files.new) c command.now.script.now (ending_seen e))) }
+    ensures alone_untold { IsAlone (Some (command_seen command.now)) → IfNone (F.contents files.old) (IfOk result (λ e. e.status ≡ 3 → Rose (F.read_faults files.old) (F.read_faults files.new))) }
+    ensures alone_few { IsAlone (Some (command_seen command.now)) → IfOk result (λ e. e.status ≤ 5) }
+    ensures same { F.contents files.new ≡ F.contents files.old }
+    ensures saves { F.saves files.new ≡ F.saves files.old }
+    ensures writes { F.write_faults files.new ≡ F.write_faults files.old }
+    ensures later { F.read_faults files.old ≤ F.read_faults files.new }
+    ensures quiet { IfOk result (λ e. e.status ≡ 0 → F.read_faults files.new ≡ F.read_faults files.old) }
+    ensures not_usage { IfOk result (λ e. e.status ≢ 1) }
+    ensures not_write { IfOk result (λ e. e.status ≢ 4) }
+    ensures few { IfOk result (λ e. e.status ≤ 7) }
+{
+    let answer = files.load(alloc, command.script, MOST_SCRIPT);
+    of_answer(alloc, answer, command, files)
+}
