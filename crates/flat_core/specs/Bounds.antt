@@ -1,57 +1,76 @@
 -- How many events a processor can still make at most.
-use Rattle.std.specs.Prelude.{◌≡◌, ℕ, ◌+◌, ◌-◌, ◌*◌, ◌<◌, ◌≤◌, List, [], ◌∷◌, length, drop, Option, Some, None}
+use Rattle.std.specs.Prelude.{◌≡◌, ℕ, ◌+◌, ◌-◌, ◌*◌, ◌<◌, ◌≤◌, List, [], ◌∷◌, length, Option, Some, None}
 use Rattle.td_words.specs.declared.calls.Call.{Call}
+use Rattle.td_words.specs.declared.calls.GuestOp.{GuestOp}
+use Rattle.td_words.specs.declared.replies.Outcome.{Outcome}
 use Rattle.td_words.specs.declared.replies.Reply.{Reply}
-use Rattle.flat_core.specs.Processor.{Held, Phase, Trying, Undoing, Answered, Progress, Lp}
+use Rattle.flat_core.specs.Processor.{Phase, Trying, Undoing, Answered, Walk, Guest, Lp}
 use Rattle.flat_core.specs.Opening.{Opening, Incoming}
 use Rattle.flat_core.specs.World.{World}
 use Rattle.flat_core.specs.Row.{tries_in}
-use Rattle.flat_core.specs.Table.{row_of, most_tries}
-use Rattle.flat_core.specs.Event.{State, Event, next_event, lines_left, calls_of, event}
+use Rattle.flat_core.specs.Table.{row_of, most_tries, operation_events, guest_events}
+use Rattle.flat_core.specs.Tree.{page_of_gpa}
+use Rattle.flat_core.specs.Translations.{look_up}
+use Rattle.flat_core.specs.Guest.{Operation, ByRow, Private, operation_of, walk_level}
+use Rattle.flat_core.specs.Event.{State, Event, next_event, lines_left, event, operation_due}
 use Rattle.flat_core.specs.Run.{run_telling, events_in}
 use Rattle.flat_core.specs.Laws.{reached, with_bundles, IsKept}
+use Rattle.flat_core.specs.Inside.{AreTimely}
 
 -- no row tries more locks than its call may, in any world
 abbrev pub RowsTryFew : Type 0
 RowsTryFew = (o : Opening) (me : ℕ) (c : Call) (w : World) → tries_in ((row_of o me c).items w) ≤ most_tries c
 
--- a call that tries so many locks at most, and holds so many: the tries to come, the act, and the releases
-abbrev pub trying_left : (tries held : ℕ) → ℕ
-trying_left n held = 2 * n + 1 - held
+-- a call that tries so many locks at most, enters a guest of so many events at most, and holds so many: the tries to come,
+-- the act, the guest's events, and the releases
+abbrev pub trying_left : (tries guest held : ℕ) → ℕ
+trying_left n k held = 2 * n + 1 + k - held
 
 -- or the undo and the releases
 abbrev pub undoing_left : ℕ → ℕ
 undoing_left held = held + 1
 
-abbrev pub call_left : ℕ → Phase Reply → ℕ → ℕ
-call_left n Trying held = trying_left n held
-call_left n (Undoing l) held = undoing_left held
-call_left n (Answered r) held = held
+abbrev pub call_left : (tries guest : ℕ) → Phase Reply → (held : ℕ) → ℕ
+call_left n k Trying held = trying_left n k held
+call_left n k (Undoing l) held = undoing_left held
+call_left n k (Answered r) held = held
 
--- a processor with these lines left; no call that is built enters a guest
-abbrev pub left_of : List Call → Lp → ℕ
-left_of [] lp = 0
-left_of (c ∷ cs) lp = call_left (most_tries c) lp.call.phase (length lp.call.held) + events_in cs
+-- how many of the five events of its operation a guest has used: of a row the locks that are held tell; of a private access
+-- the walk, and that there is a translation
+abbrev pub private_used : Option ℕ → Option Walk → ℕ
+private_used (Some page) k = 4
+private_used None k = 3 - walk_level k
+
+abbrev pub operation_used : Lp → Guest → Operation → ℕ
+operation_used lp g (ByRow row) = length g.operation.held
+operation_used lp g (Private access r gpa) = private_used (look_up lp.cached g.tdr (page_of_gpa gpa) access) g.walk
+
+abbrev pub due_used : Opening → Lp → Guest → Option GuestOp → ℕ
+due_used o lp g None = 0
+due_used o lp g (Some op) = operation_used lp g (operation_of o g.tdr g.vp (length lp.replies + 1) op)
+
+abbrev pub phase_used : Opening → World → Lp → Guest → Phase (Option Outcome) → ℕ
+phase_used o w lp g Trying = due_used o lp g (operation_due o w g)
+phase_used o w lp g (Undoing l) = 4 - length g.operation.held
+phase_used o w lp g (Answered out) = 5 - length g.operation.held
+
+-- five for each operation that may still be completed, less those used
+abbrev pub guest_left : Opening → World → Lp → Guest → Option Outcome → ℕ
+guest_left o w lp g (Some out) = 0
+guest_left o w lp g None = operation_events * (g.most - g.completed) - phase_used o w lp g g.operation.phase
+
+-- and the count step, and the releases
+abbrev pub line_left : Opening → World → Call → Lp → Option Guest → ℕ
+line_left o w c lp None = call_left (most_tries c) (guest_events c) lp.call.phase (length lp.call.held)
+line_left o w c lp (Some g) = length lp.call.held + 1 + guest_left o w lp g g.leaving
+
+-- a processor with these lines left
+abbrev pub left_of : Opening → World → List Call → Lp → ℕ
+left_of o w [] lp = 0
+left_of o w (c ∷ cs) lp = line_left o w c lp lp.guest + events_in cs
 
 abbrev pub events_left : Opening → State → ℕ → ℕ
-events_left o s p = left_of (lines_left o p (s.lps p)) (s.lps p)
-
--- a call that is answered holds something, else it would be done
-abbrev pub IsNotDone : Phase Reply → List Held → Type 0
-IsNotDone (Answered r) [] = ⊥
-IsNotDone _ hs = Unit {0}
-
-abbrev pub IsTimelyAt : List Call → Progress Reply → Type 0
-IsTimelyAt [] p = Unit {0}
-IsTimelyAt (c ∷ cs) p = (length p.held ≤ most_tries c) × IsNotDone p.phase p.held
-
--- a processor with these calls is outside guests, and holds no more locks than its call may try
-pub record IsTimely (calls : List Call) (lp : Lp) : Type 0 where
-  pub here : lp.guest ≡ None
-  pub call : IsTimelyAt (drop (length lp.replies) calls) lp.call
-
-abbrev pub AreTimely : Opening → State → Type 0
-AreTimely o s = (q : ℕ) → IsTimely (calls_of o.calls q) (s.lps q)
+events_left o s p = left_of o s.world (lines_left o p (s.lps p)) (s.lps p)
 
 abbrev pub TimelinessIsKept : Type 0
 TimelinessIsKept = IsKept AreTimely

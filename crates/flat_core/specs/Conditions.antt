@@ -12,7 +12,7 @@ use Rattle.td_words.specs.declared.names.VcpuState.TheVariants as vcpu
 use Rattle.td_words.specs.declared.names.LimitName.TheVariants.{Vcpus}
 use Rattle.td_words.specs.declared.names.Mode.{Mode}
 use Rattle.td_words.specs.declared.names.Mode.TheVariants.{Shared, Exclusive}
-use Rattle.td_words.specs.declared.refusals.Status.TheVariants.{PageMetadataIncorrect, LifecycleStateIncorrect, OpStateIncorrect, TdcxNumIncorrect, VcpuStateIncorrect, PagesExist, FlushvpNotDone, Limit, CacheWbNotDone}
+use Rattle.td_words.specs.declared.refusals.Status.TheVariants.{PageMetadataIncorrect, LifecycleStateIncorrect, OpStateIncorrect, TdcxNumIncorrect, VcpuStateIncorrect, VcpuAssociated, PagesExist, FlushvpNotDone, Limit, CacheWbNotDone}
 use Rattle.td_words.specs.declared.replies.Reply.{Reply}
 use Rattle.td_words.specs.NameNumber.{kind_number, life_number, op_number, vcpu_number}
 use Rattle.td_words.specs.Packing.{Key, Unassigned, AssignedTo, FlushedOf}
@@ -136,6 +136,18 @@ vp_in w v s = needs (same_vp_state (w.vps.states v) s) (VcpuStateIncorrect (w.vp
 abbrev pub vps_ready : World → ℕ → Item Reply
 vps_ready w t = needs (list_all (λ v. same_vp_state (w.vps.states v) vcpu.Ready) (w.tds.vps t)) (VcpuStateIncorrect vcpu.Created)
 
+-- a virtual processor is associated with no other logical processor
+abbrev pub is_elsewhere : ℕ → Option ℕ → Bool
+is_elsewhere me None = false
+is_elsewhere me (Some lp) = not (lp == me)
+
+abbrev pub lp_shown : Option ℕ → ℕ
+lp_shown None = 0
+lp_shown (Some lp) = lp
+
+abbrev pub not_elsewhere : World → ℕ → ℕ → Item Reply
+not_elsewhere w me v = needs (not (is_elsewhere me (w.vps.associated v))) (VcpuAssociated (lp_shown (w.vps.associated v)))
+
 -- no virtual processor of the TD is associated; its HKID was written back; the TDR has no child page
 abbrev pub none_associated : World → ℕ → Item Reply
 none_associated w t = needs (associated_count w t == 0) (FlushvpNotDone (associated_count w t))
@@ -155,6 +167,10 @@ begun_ops = op.Initialized ∷ later_ops
 
 abbrev pub all_ops : List OpState
 all_ops = op.Uninitialized ∷ begun_ops
+
+-- those in which a TD's virtual processors run
+abbrev pub running_ops : List OpState
+running_ops = op.Runnable ∷ op.LiveExport ∷ op.LiveImport ∷ []
 
 -- those in which a TD may get secure EPT pages: while it is built or imported, and while it runs
 abbrev pub growing_ops : List OpState

@@ -1,5 +1,5 @@
 -- Words that acts are written in: each changes one thing of the world, and all else stays.
-use Rattle.std.specs.Prelude.{ℕ, ◌+◌, List, [], ◌∷◌, ◌++◌, length, drop, Option, Some, None, option_map, Bool, true, false, ◌==◌, ◌&&◌, if◌then◌else◌}
+use Rattle.std.specs.Prelude.{ℕ, ◌+◌, ◌/◌, ◌%◌, List, [], ◌∷◌, ◌++◌, length, drop, Option, Some, None, option_map, Bool, true, false, ◌==◌, ◌&&◌, if◌then◌else◌}
 use Rattle.sha2.specs.Sha512.{sha384}
 use Rattle.td_words.specs.declared.names.PageKind.{PageKind}
 use Rattle.td_words.specs.declared.names.PageKind.TheVariants as kind
@@ -171,9 +171,20 @@ store_memory t g i v w = record w { hidden = record (w.hidden) { memories = put_
 abbrev pub set_register : ℕ → ℕ → ℕ → World → World
 set_register v r x w = record w { hidden = record (w.hidden) { registers = put_in w.hidden.registers v r x } }
 
+-- an RTMR of a TD gets six words
+abbrev pub set_rtmr : (t index : ℕ) → (ℕ → ℕ) → World → World
+set_rtmr t index ws w =
+    record w { hidden = record (w.hidden) { rtmrs = put w.hidden.rtmrs t (λ n. if n / 6 == index then ws (n % 6) else w.hidden.rtmrs t n) } }
+
 -- an operation was completed
 abbrev pub pass_operation : ℕ → World → World
 pass_operation v w = record w { vps = record (w.vps) { positions = put w.vps.positions v (w.vps.positions v + 1) } }
+
+-- a virtual processor enters the guest on a logical processor, at an epoch
+abbrev pub enter_guest : (me v epoch : ℕ) → World → World
+enter_guest me v e w = record w {
+  vps = record (w.vps) { associated = put w.vps.associated v (Some me); lasts = put w.vps.lasts v e; entered = put w.vps.entered v (Some e) };
+}
 
 -- a virtual processor leaves the guest: it is taken out of the count of its entry epoch
 abbrev pub leave_guest : ℕ → World → World

@@ -18,7 +18,7 @@ use Rattle.flat_core.specs.Table.{row_of}
 use Rattle.flat_core.specs.Effects.{leave_guest, tell_words}
 use Rattle.flat_core.specs.Translations.{look_up}
 use Rattle.flat_core.specs.Tree.{page_of_gpa}
-use Rattle.flat_core.specs.Guest.{Operation, ByRow, Private, operation_of, reach, reach_notes, answered, walk_step, walk_cached}
+use Rattle.flat_core.specs.Guest.{Operation, ByRow, Private, plain_operation, operation_of, reach, reach_notes, answered, walk_step, walk_cached}
 
 -- a state of the flat machine, with as many processors as take part
 pub record State : Type 0 where
@@ -63,7 +63,7 @@ abbrev pub operation_due : Opening → World → Guest → Option GuestOp
 operation_due o w g = slice_get (o.codes g.tdr (w.vps.indexes g.vp)) (w.vps.positions g.vp)
 
 abbrev pub nothing_more : OperationRow
-nothing_more = record { items = λ w. []; act = λ w. w; answer = λ w. None; notes = λ w. []; tells = λ w. [] }
+nothing_more = plain_operation (λ w. w)
 
 -- an operation that was denied or is answered undoes and releases first
 abbrev pub staying_event : Opening → World → Lp → Guest → Phase (Option Outcome) → Event

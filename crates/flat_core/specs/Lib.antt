@@ -24,8 +24,13 @@ pub mod HostText
 pub mod Exports
 pub mod Lawful
 pub mod Alike
+pub mod Guests
+pub mod Inside
+pub mod Access
 pub mod Laws
+pub mod AccessLaw
 pub mod Order
 pub mod Bounds
 pub mod Replies
 pub mod Worked
+pub mod GuestWorked

@@ -7,7 +7,7 @@ use Rattle.flat_core.specs.Row.{Row}
 use Rattle.flat_core.specs.HostRows.{host_read, host_write, read_metadata}
 use Rattle.flat_core.specs.TdRows.{create, configure_key, add_tdcx, initialize, read_td, finalize}
 use Rattle.flat_core.specs.KeyRows.{write_caches_back, reclaim_page, end_flush, free_hkid}
-use Rattle.flat_core.specs.VpRows.{create_vp, initialize_vp}
+use Rattle.flat_core.specs.VpRows.{create_vp, initialize_vp, enter_vp}
 use Rattle.flat_core.specs.MemRows.{add_sept, read_sept, add_page, extend}
 
 abbrev pub row_of : Opening → ℕ → Call → Row
@@ -27,6 +27,7 @@ row_of o me (call.MrExtend tdr gpa) = extend o.machine tdr gpa
 row_of o me (call.MrFinalize tdr) = finalize o.machine tdr
 row_of o me (call.VpCreate tdr page) = create_vp o.machine tdr page
 row_of o me (call.VpInit tdr vp value) = initialize_vp o.machine tdr vp value
+row_of o me (call.VpEnter tdr vp max) = enter_vp o.machine me tdr vp max
 row_of o me (call.MemSeptAdd tdr gpa level page) = add_sept o.machine tdr gpa level page
 row_of o me (call.MemSeptRd tdr gpa level) = read_sept o.machine tdr gpa level
 row_of o me (call.MemPageAdd tdr gpa page source) = add_page o.machine tdr gpa page source
@@ -49,10 +50,20 @@ most_tries (call.MrExtend tdr gpa) = 4
 most_tries (call.MrFinalize tdr) = 2
 most_tries (call.VpCreate tdr page) = 3
 most_tries (call.VpInit tdr vp value) = 3
+most_tries (call.VpEnter tdr vp max) = 4
 most_tries (call.MemSeptAdd tdr gpa level page) = 4
 most_tries (call.MemSeptRd tdr gpa level) = 3
 most_tries (call.MemPageAdd tdr gpa page source) = 5
 
--- its tries, its act, and the releases
+-- at most how many events a guest has that a call enters: of each operation its tries, its act and releases, or four loads
+-- of a walk and the access; and the count step at the exit. So many operations may be completed, or one fewer and one not
+abbrev pub operation_events : ℕ
+operation_events = 5
+
+abbrev pub guest_events : Call → ℕ
+guest_events (call.VpEnter tdr vp max) = operation_events * max + 1
+guest_events _ = 0
+
+-- its tries, its act, what a guest does that it enters, and the releases
 abbrev pub most_events : Call → ℕ
-most_events c = 2 * most_tries c + 1
+most_events c = 2 * most_tries c + 1 + guest_events c

@@ -35,6 +35,9 @@ read_tries t field.Op = td_tries t Shared
 read_tries t field.Epoch = td_tries t Shared ++ shared (OfEpoch t) ∷ []
 read_tries t field.Mrtd = td_tries t Shared
 
+abbrev pub enter_tries : (tdr vp : ℕ) → List Held
+enter_tries t v = td_tries t Shared ++ alone (OfPage v) ∷ shared (OfEpoch t) ∷ []
+
 -- The table of tries, a line a call. Only MR.EXTEND looks at the world: it tries the page that the entry names.
 abbrev pub tries_of : Call → World → List Held
 tries_of (call.HostRead page word) w = shared (OfPage page) ∷ []
@@ -53,6 +56,7 @@ tries_of (call.MrExtend tdr gpa) w = td_tries tdr Exclusive ++ shared (OfTree td
 tries_of (call.MrFinalize tdr) w = td_tries tdr Exclusive
 tries_of (call.VpCreate tdr page) w = td_tries tdr Exclusive ++ alone (OfPage page) ∷ []
 tries_of (call.VpInit tdr vp value) w = td_tries tdr Shared ++ alone (OfPage vp) ∷ []
+tries_of (call.VpEnter tdr vp max) w = enter_tries tdr vp
 tries_of (call.MemSeptAdd tdr gpa level page) w = td_tries tdr Shared ++ alone (OfTree tdr) ∷ alone (OfPage page) ∷ []
 tries_of (call.MemSeptRd tdr gpa level) w = td_tries tdr Shared ++ alone (OfTree tdr) ∷ []
 tries_of (call.MemPageAdd tdr gpa page source) w = td_tries tdr Exclusive ++ alone (OfTree tdr) ∷ alone (OfPage source) ∷ alone (OfPage page) ∷ []

@@ -63,6 +63,11 @@ pub enum Call {
         vp: u64,
         value: u64,
     },
+    VpEnter {
+        tdr: u64,
+        vp: u64,
+        max: u64,
+    },
     MemSeptAdd {
         tdr: u64,
         gpa: u64,
@@ -82,6 +87,15 @@ pub enum Call {
     },
 }
 
-/// An operation of guest code. None is built yet.
-#[derive(Clone, Copy)]
-pub enum GuestOp {}
+/// An operation of guest code, with its operands in order: registers 0 to 7, RTMRs 0 to 3, guest
+/// physical addresses within the limits of the grammar.
+#[derive(Clone, Copy, Debug, PartialEq, Eq)]
+pub enum GuestOp {
+    Set { register: u8, value: u64 },
+    Add { register: u8, other: u8 },
+    Load { register: u8, gpa: u64 },
+    Store { register: u8, gpa: u64 },
+    Accept { gpa: u64 },
+    Rtmr { index: u8 },
+    Vmcall { register: u8 },
+}

@@ -1,0 +1,40 @@
+-- The worked examples of guests compute.
+use Rattle.std.proofs.Common.{refl}
+use Rattle.flat_core.specs.GuestWorked.{GuestExamples}
+
+pub guest_examples : GuestExamples
+guest_examples = record {
+  exits = refl;
+  stop_before_max = refl;
+  sums = refl;
+  busy_0 = refl;
+  busy_1 = refl;
+  stop_0 = refl;
+  stop_1 = refl;
+  refused = refl;
+  in_guest_elsewhere = refl;
+  associated_elsewhere = refl;
+  load_and_store = refl;
+  load_note = refl;
+  no_page = refl;
+  no_tree = refl;
+  shared = refl;
+  shared_own = refl;
+  shared_outside = refl;
+  told = refl;
+  accept_nothing = refl;
+  accept_mapped = refl;
+  measured = refl;
+  guests_share = refl;
+  entry = refl;
+  set_events = refl;
+  walk_events = refl;
+  cached_events = refl;
+  shared_events = refl;
+  shared_own_events = refl;
+  violation_events = refl;
+  accept_events = refl;
+  accept_nothing_events = refl;
+  rtmr_events = refl;
+  vmcall_events = refl;
+}

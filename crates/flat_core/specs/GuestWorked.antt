@@ -1,0 +1,124 @@
+-- Worked examples of guests, which compute.
+use Rattle.std.specs.Prelude.{◌≡◌, ℕ, ◌+◌, List, [], ◌∷◌, ◌++◌, length, replicate, drop, Some, None}
+use Rattle.sha2.specs.Sha512.{sha384}
+use Rattle.td_words.specs.declared.names.LockName.TheVariants as lock
+use Rattle.td_words.specs.declared.names.Access.TheVariants as access
+use Rattle.td_words.specs.declared.names.OpState.TheVariants as op
+use Rattle.td_words.specs.declared.names.LifeState.TheVariants as life
+use Rattle.td_words.specs.declared.names.VcpuState.TheVariants as vcpu
+use Rattle.td_words.specs.declared.calls.Call.{Call}
+use Rattle.td_words.specs.declared.calls.Call.TheVariants.{HostWrite, HostRead, MngCreate, MngVpflushdone, MrFinalize, VpCreate, VpInit, VpEnter, MemSeptAdd, MemPageAdd}
+use Rattle.td_words.specs.declared.calls.GuestOp.{GuestOp}
+use Rattle.td_words.specs.declared.calls.GuestOp.TheVariants.{Set, Add, Load, Store, Accept, Rtmr, Vmcall}
+use Rattle.td_words.specs.declared.refusals.Status.TheVariants.{OperandInvalid, OperandBusy, OpStateIncorrect, PageMetadataIncorrect, VcpuAssociated, HkidNotFree, FlushvpNotDone}
+use Rattle.td_words.specs.declared.replies.Value.TheVariants.{Number}
+use Rattle.td_words.specs.declared.replies.Outcome.TheVariants.{Stop, Max, Vmcall as Called, EptViolation, Busy}
+use Rattle.td_words.specs.declared.replies.Reply.{Reply}
+use Rattle.td_words.specs.declared.replies.Reply.TheVariants.{Done, Refused, Exited}
+use Rattle.flat_core.specs.Digests.{digest_bytes, digest_word, six_words}
+use Rattle.flat_core.specs.Processor.{Note, LoadNote, RtmrNote}
+use Rattle.flat_core.specs.Opening.{Opening}
+use Rattle.flat_core.specs.Event.{State, start}
+use Rattle.flat_core.specs.Run.{run, told_in}
+use Rattle.flat_core.specs.Worked.{plain_opening, building, events_taken, replies_of}
+
+-- each virtual processor of TD 1 has this code
+abbrev pub opening_with : List GuestOp → List (List Call) → Opening
+opening_with ops lists = record (plain_opening (length lists) 32 1 lists) { codes = λ t i. ops }
+
+-- the build of TD 1 with a page at GPA 0 of which the host wrote word 1, up to RUNNABLE: lines 1 to 13
+abbrev pub ready : List Call
+ready = HostWrite 0 1 77 ∷ (building ++ MemPageAdd 1 0 8 0 ∷ MrFinalize 1 ∷ [])
+
+abbrev pub run_after : List GuestOp → List Call → State
+run_after ops calls = run (opening_with ops ((ready ++ calls) ∷ [])) []
+
+abbrev pub after_ready : List GuestOp → List Call → List Reply
+after_ready ops calls = drop 13 (replies_of (run_after ops calls) 0)
+
+abbrev pub notes_after : List GuestOp → List Call → List Note
+notes_after ops calls = ((run_after ops calls).lps 0).notes
+
+abbrev pub told_after : List GuestOp → List Call → List ℕ
+told_after ops calls = told_in (run_after ops calls)
+
+abbrev pub events_after : List GuestOp → List Call → ℕ
+events_after ops calls = let o = opening_with ops ((ready ++ calls) ∷ []) in events_taken o 300 (start o None)
+
+-- so many events does an entry take with these operations
+abbrev pub entry_events : List GuestOp → ℕ → ℕ → Type 0
+entry_events ops most n = events_after ops (VpEnter 1 4 most ∷ []) ≡ events_after [] [] + n
+
+-- a TD without pages runs on processor 0, which makes so many events, and then processor 1 its call
+abbrev pub beside : List GuestOp → ℕ → Call → State
+beside ops n c = run (opening_with ops ((building ++ MrFinalize 1 ∷ VpEnter 1 4 9 ∷ []) ∷ (c ∷ []) ∷ [])) (replicate n 0 ++ 1 ∷ 0 ∷ 0 ∷ [])
+
+-- a shared load meets a page that processor 1 holds alone; and a TD whose virtual processor has left its guest is still
+-- associated
+abbrev pub busy_state : State
+busy_state = beside (Load 1 0x800000014000 ∷ []) 75 (MngCreate 20 1)
+
+abbrev pub stop_state : State
+stop_state = beside [] 79 (MngVpflushdone 1)
+
+-- processor 1 enters the same virtual processor while it is in guest on processor 0, and after it has left
+abbrev pub entered_beside : ℕ → List Reply
+entered_beside n = replies_of (beside [] n (VpEnter 1 4 1)) 1
+
+-- two processors enter a virtual processor each of one TD, and share a page's word
+abbrev pub two_guests : State
+two_guests = run (record (plain_opening 2 32 1 ((building ++ VpCreate 1 9 ∷ VpInit 1 9 0 ∷ MemPageAdd 1 0 8 0 ∷ MrFinalize 1 ∷ VpEnter 1 4 9 ∷ []) ∷ (VpEnter 1 9 9 ∷ []) ∷ [])) {
+      codes = λ t i. writes_or_reads i;
+    }) (replicate 100 0)
+  where
+    writes_or_reads : ℕ → List GuestOp
+    writes_or_reads 0 = Set 1 44 ∷ Store 1 8 ∷ []
+    writes_or_reads _ = Load 2 8 ∷ Vmcall 2 ∷ []
+
+pub record GuestExamples : Type 0 where
+  -- operations are completed until as many as asked for are, until a VMCALL, or until the list's end, which is tested first
+  pub exits : after_ready (Set 1 7 ∷ Vmcall 1 ∷ []) (VpEnter 1 4 1 ∷ VpEnter 1 4 1 ∷ VpEnter 1 4 1 ∷ []) ≡ Exited Max ∷ Exited (Called 7) ∷ Exited Stop ∷ []
+  pub stop_before_max : after_ready (Set 1 7 ∷ []) (VpEnter 1 4 1 ∷ []) ≡ Exited Stop ∷ []
+  pub sums : after_ready (Set 1 7 ∷ Set 2 0xffffffffffffffff ∷ Add 1 2 ∷ Add 1 1 ∷ Vmcall 1 ∷ []) (VpEnter 1 4 9 ∷ []) ≡ Exited (Called 12) ∷ []
+  pub busy_0 : drop 11 (replies_of busy_state 0) ≡ Exited (Busy (lock.Page 20)) ∷ []
+  pub busy_1 : replies_of busy_state 1 ≡ Refused HkidNotFree ∷ []
+  pub stop_0 : drop 11 (replies_of stop_state 0) ≡ Exited Stop ∷ []
+  pub stop_1 : replies_of stop_state 1 ≡ Refused (FlushvpNotDone 1) ∷ []
+  -- what VP.ENTER refuses
+  pub refused : after_ready [] (VpEnter 32 4 1 ∷ VpEnter 1 4 0 ∷ VpEnter 1 4 0x10000 ∷ VpEnter 1 1 1 ∷ VpEnter 1 8 1 ∷ [])
+      ≡ Refused (OperandInvalid 1) ∷ Refused (OperandInvalid 3) ∷ Refused (OperandInvalid 3) ∷ Refused (OperandInvalid 2) ∷ Refused (PageMetadataIncorrect 8) ∷ []
+  pub in_guest_elsewhere : entered_beside 75 ≡ Refused (OperandBusy (lock.Page 4)) ∷ []
+  pub associated_elsewhere : entered_beside 79 ≡ Refused (VcpuAssociated 0) ∷ []
+  -- a word is loaded through a walk of four loads, and stored in a shared page without one
+  pub load_and_store : after_ready (Load 1 8 ∷ Store 1 0x80000000a010 ∷ []) (VpEnter 1 4 1 ∷ HostRead 10 2 ∷ VpEnter 1 4 9 ∷ HostRead 10 2 ∷ VpEnter 1 4 1 ∷ [])
+      ≡ Exited Max ∷ Done (Number 0) ∷ Exited Stop ∷ Done (Number 77) ∷ Exited Stop ∷ []
+  pub load_note : notes_after (Load 1 8 ∷ Load 2 8 ∷ []) (VpEnter 1 4 2 ∷ []) ≡ LoadNote 14 8 77 ∷ LoadNote 14 8 77 ∷ []
+  pub no_page : after_ready (Store 1 4096 ∷ []) (VpEnter 1 4 2 ∷ []) ≡ Exited (EptViolation 4096 access.Write) ∷ []
+  pub no_tree : after_ready (Load 1 0x40000000 ∷ []) (VpEnter 1 4 2 ∷ []) ≡ Exited (EptViolation 0x40000000 access.Read) ∷ []
+  -- a shared GPA names the host's page of the same number; a page of a TD, the virtual processor's own among them, is none
+  pub shared : after_ready (Set 1 7 ∷ Store 1 0x800000014008 ∷ Load 2 0x800000001000 ∷ []) (VpEnter 1 4 9 ∷ HostRead 20 1 ∷ VpEnter 1 4 9 ∷ [])
+      ≡ Exited (EptViolation 0x800000001000 access.Read) ∷ Done (Number 7) ∷ Exited (EptViolation 0x800000001000 access.Read) ∷ []
+  pub shared_own : after_ready (Store 1 0x800000004000 ∷ []) (VpEnter 1 4 9 ∷ []) ≡ Exited (EptViolation 0x800000004000 access.Write) ∷ []
+  pub shared_outside : after_ready (Load 1 0x800000020000 ∷ []) (VpEnter 1 4 9 ∷ []) ≡ Exited (EptViolation 0x800000020000 access.Read) ∷ []
+  -- what is told: words stored in shared pages, and those of VMCALL
+  pub told : told_after (Set 1 7 ∷ Store 1 0x800000014008 ∷ Store 1 8 ∷ Vmcall 1 ∷ []) (VpEnter 1 4 9 ∷ []) ≡ 7 ∷ 7 ∷ []
+  -- accept wants an entry that names a page; one that is mapped stays as it is
+  pub accept_nothing : after_ready (Accept 4096 ∷ []) (VpEnter 1 4 9 ∷ []) ≡ Exited (EptViolation 4096 access.Write) ∷ []
+  pub accept_mapped : after_ready (Accept 0 ∷ Load 1 8 ∷ Vmcall 1 ∷ []) (VpEnter 1 4 9 ∷ []) ≡ Exited (Called 77) ∷ []
+  -- an RTMR is extended by registers 0 to 5
+  pub measured : notes_after (Set 0 1 ∷ Set 5 6 ∷ Rtmr 2 ∷ []) (VpEnter 1 4 9 ∷ [])
+      ≡ RtmrNote 14 2 (six_words (digest_word (sha384 (replicate 48 0 ++ digest_bytes (1 ∷ 0 ∷ 0 ∷ 0 ∷ 0 ∷ 6 ∷ []))))) ∷ []
+  -- a word that one guest has stored another one loads
+  pub guests_share : replies_of two_guests 1 ≡ Exited (Called 44) ∷ []
+  -- events: of an entry six and four at its exit; of a walk and its access five, and one where a translation is cached
+  pub entry : entry_events [] 2 10
+  pub set_events : entry_events (Set 1 7 ∷ []) 2 11
+  pub walk_events : entry_events (Load 1 8 ∷ []) 2 15
+  pub cached_events : entry_events (Load 1 8 ∷ Load 1 8 ∷ []) 2 16
+  pub shared_events : entry_events (Load 1 0x800000014000 ∷ []) 2 13
+  pub shared_own_events : entry_events (Load 1 0x800000004000 ∷ []) 2 11
+  pub violation_events : entry_events (Load 1 4096 ∷ []) 2 14
+  pub accept_events : entry_events (Accept 0 ∷ []) 2 15
+  pub accept_nothing_events : entry_events (Accept 0x40000000 ∷ []) 2 13
+  pub rtmr_events : entry_events (Rtmr 0 ∷ []) 2 13
+  pub vmcall_events : entry_events (Vmcall 0 ∷ []) 2 11
