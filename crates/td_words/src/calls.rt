@@ -80,6 +80,11 @@ pub enum Call {
         page: u64,
         source: u64,
     },
+    MemPageAug {
+        tdr: u64,
+        gpa: u64,
+        page: u64,
+    },
 }
 
 /// An operation of guest code. None is built yet.
