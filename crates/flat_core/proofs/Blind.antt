@@ -32,7 +32,7 @@ use Rattle.flat_core.specs.HostRows.{host_read, host_write, read_metadata}
 use Rattle.flat_core.specs.TdRows.{create, configure_key, add_tdcx, initialize, read_conditions, field_value, read_td, finalize}
 use Rattle.flat_core.specs.KeyRows.{write_caches_back, reclaim_conditions, reclaim_page, end_flush, free_hkid}
 use Rattle.flat_core.specs.VpRows.{create_vp, initialize_vp}
-use Rattle.flat_core.specs.MemRows.{add_sept, read_sept, add_page, chunk_bytes, extend}
+use Rattle.flat_core.specs.MemRows.{add_sept, read_sept, add_page, augment_page, chunk_bytes, extend}
 use Rattle.flat_core.specs.Tree.{page_of_gpa, number_at, entry_at, same_state, state_in}
 use Rattle.flat_core.specs.Table.{row_of}
 use Rattle.flat_core.specs.Lawful.{IsAlive, LawfulPages, Lawful, is_free}
@@ -453,6 +453,15 @@ add_page-blind m t gpa p source = record {
       measured_alike v3 w3 t (page_record gpa) (page_record gpa) refl (hidden_alike v2 w2 a2 v3.hidden w3.hidden);
 }
 
+pub augment_page-blind : (m : Machine) (t gpa p : ℕ) → AreBlind m (augment_page m t gpa p) (augment_page m t gpa p)
+augment_page-blind m t gpa p = record {
+  enters = refl;
+  items = λ v w a. rw (a.pages, a.tds) refl;
+  value = λ v w a. refl;
+  cached = λ v w ts a. refl;
+  act = λ v w lv lw a ps. mapped_alike v w p kind.Reg entry.Pending t 0 (number_at 0 gpa) (host_kind _ ps.1.1.1.1.1.1.1.1.1.1.1.1.1.0) a;
+}
+
 -- MR.EXTEND measures a page of a TD that is still being built, whose words are public
 mapped_used : (s : EntryState) → list_any (λ a. same_state a s) (entry.Mapped ∷ []) ≡ true → is_free s ≡ false
 mapped_used entry.Mapped h = refl
@@ -516,3 +525,4 @@ row-blind o q a me (call.VpInit t vp x) = blind_at o q a.machine (λ m. initiali
 row-blind o q a me (call.MemSeptAdd t gpa level p) = blind_at o q a.machine (λ m. add_sept m t gpa level p) (add_sept-blind o.machine t gpa level p)
 row-blind o q a me (call.MemSeptRd t gpa level) = blind_at o q a.machine (λ m. read_sept m t gpa level) (read_sept-blind o.machine t gpa level)
 row-blind o q a me (call.MemPageAdd t gpa p source) = blind_at o q a.machine (λ m. add_page m t gpa p source) (add_page-blind o.machine t gpa p source)
+row-blind o q a me (call.MemPageAug t gpa p) = blind_at o q a.machine (λ m. augment_page m t gpa p) (augment_page-blind o.machine t gpa p)

@@ -145,6 +145,7 @@ row_ordered o me (call.VpInit t vp value) w = (refl, (refl, (refl, (tt, (tt, (tt
 row_ordered o me (call.MemSeptAdd t gpa level page) w = (refl, (refl, (refl, (refl, (refl, (refl, (tt, (tt, (tt, (tt, walk_ordered 3 (is_passed w t gpa) (levels_above level) (state_in w t gpa level (entry.Free ∷ []) ∷ page_exclusive page ∷ host_page w page ∷ []) (tt, (tt, tt))))))))))))
 row_ordered o me (call.MemSeptRd t gpa level) w = (refl, (refl, (refl, (refl, (tt, (tt, (tt, (tt, walk_alone_ordered 3 (is_passed w t gpa) (levels_above level)))))))))
 row_ordered o me (call.MemPageAdd t gpa page source) w = (refl, (refl, (refl, (refl, (refl, (refl, (refl, (refl, (tt, (tt, (tt, (tt, (tt, (tt, (tt, (tt, (tt, (tt, tt))))))))))))))))))
+row_ordered o me (call.MemPageAug t gpa page) w = (refl, (refl, (refl, (refl, (refl, (tt, (tt, (tt, (tt, (tt, (tt, (tt, (tt, (tt, tt))))))))))))))
 
 -- arguments are the same in every world
 reclaim_holds : (v w : World) (t page : ℕ) (b : Bool) → ArgumentsHold (reclaim_conditions v t page b) → ArgumentsHold (reclaim_conditions w t page b)

@@ -29,7 +29,7 @@ use Rattle.flat_core.specs.HostRows.{host_read, host_write, read_metadata}
 use Rattle.flat_core.specs.TdRows.{create, configure_key, add_tdcx, initialize, read_td, finalize}
 use Rattle.flat_core.specs.KeyRows.{write_caches_back, reclaim_conditions, reclaim_page, end_flush, free_hkid}
 use Rattle.flat_core.specs.VpRows.{create_vp, initialize_vp}
-use Rattle.flat_core.specs.MemRows.{add_sept, read_sept, add_page, chunk_bytes, extend}
+use Rattle.flat_core.specs.MemRows.{add_sept, read_sept, add_page, augment_page, chunk_bytes, extend}
 use Rattle.flat_core.specs.Table.{row_of}
 use Rattle.flat_core.specs.Lawful.{IsAlive, AreControls, ArePagesOf, LawfulPages, LawfulTds, IsListed, LawfulLists, LawfulTree, LawfulKeys, LawfulBeginnings, LawfulCounts, Lawful, IsNew, RowKeeps, is_free, is_named_kind, key_owner}
 use Rattle.flat_core.proofs.Tests.{by_test, host_kind, tdr_kind, range_of, some_same, same_self}
@@ -356,7 +356,7 @@ within : (gpa level : ℕ) → nat_lt gpa (2 ^ 47) ≡ true → number_at level 
 within gpa level h = lt_of_le_of_lt (div-mul-le_self gpa (level_size level)) (ltb-true gpa (2 ^ 47) h)
 
 -- MEM.SEPT.ADD
-free_of : (s : EntryState) → list_any (λ a. same_state a s) (entry.Free ∷ []) ≡ true → is_free s ≡ true
+pub free_of : (s : EntryState) → list_any (λ a. same_state a s) (entry.Free ∷ []) ≡ true → is_free s ≡ true
 free_of entry.Free h = refl
 free_of _ h = cc
 
@@ -396,6 +396,17 @@ add_page-keeps m t gpa p source = record {
   to_tell = λ w. refl;
 }
 
+-- MEM.PAGE.AUG
+pub augment_page-keeps : (m : Machine) (t gpa p : ℕ) → RowKeeps m (augment_page m t gpa p)
+augment_page-keeps m t gpa p = record {
+  act = λ w l ps.
+      let head = ps.1.1.1.1.1 in
+      let behind = walk_passed w t gpa (state_in w t gpa 0 (entry.Free ∷ []) ∷ page_exclusive p ∷ host_page w p ∷ []) 0 (lit≤ tt) head.1.1.1.1 in
+      map_kept m w p t 0 (number_at 0 gpa) entry.Pending (host_kind _ behind.0.1.0) (ltb-true p m.pages ps.1.1.0) l (tdr_kind _ head.0) head.1.1.0
+      (free_of (entry_at w t 0 gpa).state behind.0.0) behind.1 refl refl refl (lit≤ tt) (within gpa 0 ps.1.0);
+  to_tell = λ w. refl;
+}
+
 -- MR.EXTEND
 pub extend-keeps : (m : Machine) (t gpa : ℕ) → RowKeeps m (extend m t gpa)
 extend-keeps m t gpa = record {
@@ -423,6 +434,7 @@ row-keeps o me (call.VpInit t v x) = initialize_vp-keeps o.machine t v x
 row-keeps o me (call.MemSeptAdd t gpa level page) = add_sept-keeps o.machine t gpa level page
 row-keeps o me (call.MemSeptRd t gpa level) = read_sept-keeps o.machine t gpa level
 row-keeps o me (call.MemPageAdd t gpa page source) = add_page-keeps o.machine t gpa page source
+row-keeps o me (call.MemPageAug t gpa page) = augment_page-keeps o.machine t gpa page
 
 pub first-lawful : (m : Machine) (words_to_tell : Option (List ℕ)) → Lawful m (first_world m.pages words_to_tell)
 first-lawful m ws = record {

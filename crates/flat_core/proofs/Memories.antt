@@ -1,5 +1,5 @@
 -- What guests know of their private pages is what the pages hold.
-use Rattle.std.proofs.Common.{lit≤, ◌≡◌, ◌≢◌, refl, sym, ◌∙◌, ap, subst, ℕ, ◌≤◌, List, [], ◌∷◌, Some, Bool, true, false, not, ◌==◌, arith}
+use Rattle.std.proofs.Common.{lit≤, ◌≡◌, ◌≢◌, refl, sym, ◌∙◌, ap, subst, ℕ, ◌≤◌, List, [], ◌∷◌, Some, None, Bool, true, false, not, ◌==◌, arith}
 use Rattle.std.proofs.lemmas.Bool.{eq-eqb, eqb-true, ne_eqb, and_parts}
 use Rattle.td_words.specs.declared.names.PageKind.{PageKind}
 use Rattle.td_words.specs.declared.names.PageKind.TheVariants as kind
@@ -17,7 +17,7 @@ use Rattle.flat_core.specs.World.{World, Tds, put}
 use Rattle.flat_core.specs.Opening.{Opening}
 use Rattle.flat_core.specs.Row.{Passes}
 use Rattle.flat_core.specs.Conditions.{is_host, host_page, page_exclusive}
-use Rattle.flat_core.specs.Tree.{page_of_gpa, number_at, state_in}
+use Rattle.flat_core.specs.Tree.{page_of_gpa, number_at, entry_at, state_in}
 use Rattle.flat_core.specs.Effects.{put_in, set_word, set_page, clear_page, take_node, take_page, give_back, map_page, add_control, add_vp, measure, set_life, begin_memory, end_memory_in}
 use Rattle.flat_core.specs.TdRows.{create}
 use Rattle.flat_core.specs.KeyRows.{reclaim_conditions}
@@ -27,7 +27,7 @@ use Rattle.flat_core.specs.Laws.{with_bundles, IsLawfulWith, holds_memory, memor
 use Rattle.flat_core.proofs.Tests.{by_test, host_kind, tdr_kind, range_of, same_self}
 use Rattle.flat_core.proofs.Maps.{walk_passed}
 use Rattle.flat_core.proofs.Parts.{IsLive}
-use Rattle.flat_core.proofs.Keeps.{live_of, ended_of, row-keeps, first-lawful}
+use Rattle.flat_core.proofs.Keeps.{live_of, ended_of, free_of, row-keeps, first-lawful}
 use Rattle.flat_core.proofs.Induction.{world_event, in_runs}
 use Rattle.flat_core.proofs.Kept.{leave_lawful}
 
@@ -44,6 +44,14 @@ taken entry.BlockedW e = refl
 taken entry.ExportedBlockedW e = refl
 taken entry.ExportedDirty e = refl
 taken entry.ExportedDirtyBlockedW e = refl
+
+-- and a FREE entry holds none
+none_held : (s : EntryState) → is_free s ≡ true → holds_memory s ≡ false
+none_held entry.Free e = refl
+none_held _ e = cc
+
+no_memory : (e : Entry) (words : ℕ → ℕ → ℕ) → is_free e.state ≡ true → memory_of e words ≡ None
+no_memory e words free = rw (none_held e.state free) refl
 
 same_memory : (e : Entry) (old new : ℕ → ℕ → ℕ) → (is_free e.state ≡ false → new e.page ≡ old e.page) → memory_of e new ≡ memory_of e old
 same_memory e old new h = by_test (holds_memory e.state) (λ y. rw y (ap (λ (x : ℕ → ℕ). Some x) (h (taken e.state y)))) (λ y. rw y refl)
@@ -134,6 +142,20 @@ module _ (m : Machine) (w : World) (l : Lawful m w) (h : ArePagesKnown w) where
       (λ z. known_beside v q x n host before (λ p e. rw e refl) (rw (y, z) refl) (rw (y, z) (ap (λ (z : ℕ). w.tds.entries z 0 n) (sym (eqb-true x t y))))))
       (λ y. known_beside v q x n host before (λ p e. rw e refl) (rw y refl) (rw y refl))
 
+  -- MEM.PAGE.AUG: a page that waits to be accepted holds no memory, as a FREE entry has none
+  same_entry : (x t n g : ℕ) → (x == t) ≡ true → (n == g) ≡ true → w.tds.entries x 0 n ≡ w.tds.entries t 0 g
+  same_entry x t n g y z = ap (λ (u : ℕ). w.tds.entries u 0 n) (eqb-true x t y) ∙ ap (λ (i : ℕ). w.tds.entries t 0 i) (eqb-true n g z)
+
+  augmented_known : (t g q : ℕ) → w.pages.kinds q ≡ kind.Nda → is_free (w.tds.entries t 0 g).state ≡ true → ArePagesKnown (map_page q kind.Reg entry.Pending t 0 g w)
+  augmented_known t g q host free x n a =
+      let v : World = map_page q kind.Reg entry.Pending t 0 g w in
+      let before : IsAlive w.pages w.tds x = alive_before q kind.Reg t 0 g (λ e. cc) v.tds refl x a in
+      by_test (x == t)
+      (λ y. by_test (n == g)
+      (λ z. rw (y, z) (h x n before ∙ (ap (λ (e : Entry). memory_of e w.words) (same_entry x t n g y z) ∙ no_memory (w.tds.entries t 0 g) w.words free)))
+      (λ z. known_beside v q x n host before (λ p e. refl) refl (rw (y, z) (ap (λ (z : ℕ). w.tds.entries z 0 n) (sym (eqb-true x t y))))))
+      (λ y. known_beside v q x n host before (λ p e. refl) refl (rw y refl))
+
 row_known : (o : Opening) (me : ℕ) (c : Call) (w : World) → Lawful o.machine w → ArePagesKnown w → Passes ((row_of o me c).items w) → ArePagesKnown ((row_of o me c).act w)
 row_known o me (call.HostWrite page i v) w l h ps x n a = known_beside o.machine w l h (set_word page i v w) page x n (host_kind _ ps.1.1.0) a (λ p e. words_stay w.words page i v p e) refl refl
 row_known o me (call.PhymemPageReclaim t page) w l h ps x n a =
@@ -158,6 +180,9 @@ row_known o me (call.MemSeptAdd t gpa level page) w l h ps x n a =
 row_known o me (call.MemPageAdd t gpa page source) w l h ps x n a =
     let behind = walk_passed w t gpa (state_in w t gpa 0 (entry.Free ∷ []) ∷ page_exclusive source ∷ host_page w source ∷ page_exclusive page ∷ host_page w page ∷ []) 0 (lit≤ tt) ps.1.1.1.1.1.1.1.1.1.1.1.1 in
     added_known o.machine w l h t (page_of_gpa gpa) page (w.words source) (page_record gpa) (host_kind _ behind.0.1.1.0) x n a
+row_known o me (call.MemPageAug t gpa page) w l h ps x n a =
+    let behind = walk_passed w t gpa (state_in w t gpa 0 (entry.Free ∷ []) ∷ page_exclusive page ∷ host_page w page ∷ []) 0 (lit≤ tt) ps.1.1.1.1.1.1.1.1.1 in
+    augmented_known o.machine w l h t (page_of_gpa gpa) page (host_kind _ behind.0.1.0) (free_of (entry_at w t 0 gpa).state behind.0.0) x n a
 row_known o me _ w l h ps x n a = h x n (record { kind = a.kind; life = a.life })
 
 pub memories_kept : MemoriesAreKept

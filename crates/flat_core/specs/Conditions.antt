@@ -176,6 +176,10 @@ running_ops = op.Runnable ∷ op.LiveExport ∷ op.LiveImport ∷ []
 abbrev pub growing_ops : List OpState
 growing_ops = op.Initialized ∷ op.Runnable ∷ op.LiveExport ∷ op.MemoryImport ∷ op.StateImport ∷ op.PostImport ∷ op.LiveImport ∷ []
 
+-- those in which it may get private pages that its guest is to accept: while it runs, or is exported running
+abbrev pub augmented_ops : List OpState
+augmented_ops = op.Runnable ∷ op.LiveExport ∷ []
+
 -- The beginning of the rows that begin and end a TD's life: its TDR page is held alone and is one, and its life state is
 -- one of these.
 abbrev pub tdr_exclusive : World → ℕ → List LifeState → List (Item Reply)

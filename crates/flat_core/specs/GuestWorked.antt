@@ -3,15 +3,13 @@ use Rattle.std.specs.Prelude.{◌≡◌, ℕ, ◌+◌, List, [], ◌∷◌, ◌+
 use Rattle.sha2.specs.Sha512.{sha384}
 use Rattle.td_words.specs.declared.names.LockName.TheVariants as lock
 use Rattle.td_words.specs.declared.names.Access.TheVariants as access
-use Rattle.td_words.specs.declared.names.OpState.TheVariants as op
-use Rattle.td_words.specs.declared.names.LifeState.TheVariants as life
-use Rattle.td_words.specs.declared.names.VcpuState.TheVariants as vcpu
+use Rattle.td_words.specs.declared.names.EntryState.TheVariants as entry
 use Rattle.td_words.specs.declared.calls.Call.{Call}
-use Rattle.td_words.specs.declared.calls.Call.TheVariants.{HostWrite, HostRead, MngCreate, MngVpflushdone, MrFinalize, VpCreate, VpInit, VpEnter, MemSeptAdd, MemPageAdd}
+use Rattle.td_words.specs.declared.calls.Call.TheVariants.{HostWrite, HostRead, MngCreate, MngVpflushdone, MrFinalize, VpCreate, VpInit, VpEnter, MemSeptRd, MemPageAdd, MemPageAug}
 use Rattle.td_words.specs.declared.calls.GuestOp.{GuestOp}
 use Rattle.td_words.specs.declared.calls.GuestOp.TheVariants.{Set, Add, Load, Store, Accept, Rtmr, Vmcall}
-use Rattle.td_words.specs.declared.refusals.Status.TheVariants.{OperandInvalid, OperandBusy, OpStateIncorrect, PageMetadataIncorrect, VcpuAssociated, HkidNotFree, FlushvpNotDone}
-use Rattle.td_words.specs.declared.replies.Value.TheVariants.{Number}
+use Rattle.td_words.specs.declared.refusals.Status.TheVariants.{OperandInvalid, OperandBusy, PageMetadataIncorrect, VcpuAssociated, HkidNotFree, FlushvpNotDone}
+use Rattle.td_words.specs.declared.replies.Value.TheVariants.{Nothing, Number, Entry}
 use Rattle.td_words.specs.declared.replies.Outcome.TheVariants.{Stop, Max, Vmcall as Called, EptViolation, Busy}
 use Rattle.td_words.specs.declared.replies.Reply.{Reply}
 use Rattle.td_words.specs.declared.replies.Reply.TheVariants.{Done, Refused, Exited}
@@ -44,6 +42,10 @@ told_after ops calls = told_in (run_after ops calls)
 
 abbrev pub events_after : List GuestOp → List Call → ℕ
 events_after ops calls = let o = opening_with ops ((ready ++ calls) ∷ []) in events_taken o 300 (start o None)
+
+-- a page of which the host wrote word 1 is added at GPA 4096
+abbrev pub pending_calls : List Call
+pending_calls = HostWrite 9 1 55 ∷ MemPageAug 1 4096 9 ∷ MemSeptRd 1 4096 0 ∷ VpEnter 1 4 9 ∷ []
 
 -- so many events does an entry take with these operations
 abbrev pub entry_events : List GuestOp → ℕ → ℕ → Type 0
@@ -105,6 +107,13 @@ pub record GuestExamples : Type 0 where
   -- accept wants an entry that names a page; one that is mapped stays as it is
   pub accept_nothing : after_ready (Accept 4096 ∷ []) (VpEnter 1 4 9 ∷ []) ≡ Exited (EptViolation 4096 access.Write) ∷ []
   pub accept_mapped : after_ready (Accept 0 ∷ Load 1 8 ∷ Vmcall 1 ∷ []) (VpEnter 1 4 9 ∷ []) ≡ Exited (Called 77) ∷ []
+  -- a page that is added while the TD runs is pending until it is accepted, and then holds zeros
+  pub accept_pending : after_ready (Load 1 4104 ∷ Accept 4096 ∷ Load 1 4104 ∷ Vmcall 1 ∷ []) pending_calls
+      ≡ Done Nothing ∷ Done Nothing ∷ Done (Entry entry.Pending (Some 9)) ∷ Exited (EptViolation 4104 access.Read) ∷ []
+  pub accepted : after_ready (Accept 4096 ∷ Load 1 4104 ∷ Vmcall 1 ∷ []) pending_calls
+      ≡ Done Nothing ∷ Done Nothing ∷ Done (Entry entry.Pending (Some 9)) ∷ Exited (Called 0) ∷ []
+  pub accepted_entry : after_ready (Accept 4096 ∷ []) (pending_calls ++ MemSeptRd 1 4096 0 ∷ [])
+      ≡ Done Nothing ∷ Done Nothing ∷ Done (Entry entry.Pending (Some 9)) ∷ Exited Stop ∷ Done (Entry entry.Mapped (Some 9)) ∷ []
   -- an RTMR is extended by registers 0 to 5
   pub measured : notes_after (Set 0 1 ∷ Set 5 6 ∷ Rtmr 2 ∷ []) (VpEnter 1 4 9 ∷ [])
       ≡ RtmrNote 14 2 (six_words (digest_word (sha384 (replicate 48 0 ++ digest_bytes (1 ∷ 0 ∷ 0 ∷ 0 ∷ 0 ∷ 6 ∷ []))))) ∷ []

@@ -15,7 +15,7 @@ use Rattle.td_words.specs.Packing.{Entry}
 use Rattle.flat_core.specs.Row.{Row, call_row}
 use Rattle.flat_core.specs.Arguments.{page_argument, gpa_argument, level_argument, upper_level_argument, apart_argument, aligned_argument, chunk_argument}
 use Rattle.flat_core.specs.Digests.{digest_bytes}
-use Rattle.flat_core.specs.Conditions.{page_exclusive, tree_shared, tree_exclusive, host_page, growing_ops, begun_ops, td_shared, td_exclusive}
+use Rattle.flat_core.specs.Conditions.{page_exclusive, tree_shared, tree_exclusive, host_page, growing_ops, augmented_ops, begun_ops, td_shared, td_exclusive}
 use Rattle.flat_core.specs.Tree.{page_of_gpa, word_of_gpa, number_at, entry_at, walk, state_in, named_page}
 use Rattle.flat_core.specs.Effects.{set_page, clear_page, map_page, begin_memory, measure}
 
@@ -54,6 +54,15 @@ add_page m tdr gpa page source = call_row
     ∷ page_exclusive source ∷ host_page w source ∷ page_exclusive page ∷ host_page w page ∷ [])))
     (λ w. measure tdr (page_record gpa) (begin_memory tdr (page_of_gpa gpa) (w.words source)
     (set_page page (w.words source) (map_page page kind.Reg entry.Mapped tdr 0 (number_at 0 gpa) w))))
+    (λ w. value.Nothing)
+
+-- MEM.PAGE.AUG TDR GPA PAGE: the page becomes a private page that waits until its guest accepts it. Its words stay what
+-- they were, nobody reads them, and nothing is measured (ABI Reference, "TDH.MEM.PAGE.AUG")
+abbrev pub augment_page : Machine → (tdr gpa page : ℕ) → Row
+augment_page m tdr gpa page = call_row
+    (λ w. page_argument m 1 tdr ∷ gpa_argument 2 gpa ∷ page_argument m 3 page ∷ apart_argument 3 page tdr ∷ aligned_argument 2 0 gpa
+    ∷ (td_shared w tdr augmented_ops ++ tree_exclusive tdr ∷ (walk w tdr gpa 0 ++ state_in w tdr gpa 0 (entry.Free ∷ []) ∷ page_exclusive page ∷ host_page w page ∷ [])))
+    (λ w. map_page page kind.Reg entry.Pending tdr 0 (number_at 0 gpa) w)
     (λ w. value.Nothing)
 
 -- the bytes of the chunk of 256 that begins at a GPA, in the words of its page: 32 words, each with its lowest byte first

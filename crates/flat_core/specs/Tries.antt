@@ -60,6 +60,7 @@ tries_of (call.VpEnter tdr vp max) w = enter_tries tdr vp
 tries_of (call.MemSeptAdd tdr gpa level page) w = td_tries tdr Shared ++ alone (OfTree tdr) ∷ alone (OfPage page) ∷ []
 tries_of (call.MemSeptRd tdr gpa level) w = td_tries tdr Shared ++ alone (OfTree tdr) ∷ []
 tries_of (call.MemPageAdd tdr gpa page source) w = td_tries tdr Exclusive ++ alone (OfTree tdr) ∷ alone (OfPage source) ∷ alone (OfPage page) ∷ []
+tries_of (call.MemPageAug tdr gpa page) w = td_tries tdr Shared ++ alone (OfTree tdr) ∷ alone (OfPage page) ∷ []
 
 -- each row tries just what its call's line says
 abbrev pub RowsTryTheirLists : Type 0

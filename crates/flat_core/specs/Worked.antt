@@ -10,7 +10,7 @@ use Rattle.td_words.specs.declared.names.VcpuState.TheVariants as vcpu
 use Rattle.td_words.specs.declared.names.LimitName.TheVariants.{Vcpus}
 use Rattle.td_words.specs.declared.names.ReadField.TheVariants as field
 use Rattle.td_words.specs.declared.calls.Call.{Call}
-use Rattle.td_words.specs.declared.calls.Call.TheVariants.{HostRead, HostWrite, PhymemPageRdmd, PhymemCacheWb, PhymemPageReclaim, MngCreate, MngKeyConfig, MngAddcx, MngInit, MngRd, MngVpflushdone, MngKeyFreeid, MrExtend, MrFinalize, VpCreate, VpInit, MemSeptAdd, MemSeptRd, MemPageAdd}
+use Rattle.td_words.specs.declared.calls.Call.TheVariants.{HostRead, HostWrite, PhymemPageRdmd, PhymemCacheWb, PhymemPageReclaim, MngCreate, MngKeyConfig, MngAddcx, MngInit, MngRd, MngVpflushdone, MngKeyFreeid, MrExtend, MrFinalize, VpCreate, VpInit, MemSeptAdd, MemSeptRd, MemPageAdd, MemPageAug}
 use Rattle.td_words.specs.declared.refusals.Status.TheVariants.{OperandInvalid, OperandBusy, NotHost, PageMetadataIncorrect, LifecycleStateIncorrect, OpStateIncorrect, EptWalkFailed, EptEntryStateIncorrect, HkidNotFree, TdcxNumIncorrect, VcpuStateIncorrect, PagesExist, Limit, CacheWbNotDone}
 use Rattle.td_words.specs.declared.replies.Value.TheVariants.{Nothing, Number, Life, Op, Page, Entry}
 use Rattle.td_words.specs.declared.replies.Reply.{Reply}
@@ -171,13 +171,18 @@ pub record Examples : Type 0 where
       ≡ ten_successes ++ Done (Entry entry.NlMapped (Some 5)) ∷ Done (Entry entry.Free None) ∷ Refused (EptWalkFailed 3) ∷ Refused (EptWalkFailed 2) ∷ Refused (OperandInvalid 2)
       ∷ Refused (EptEntryStateIncorrect entry.NlMapped) ∷ Done (Page kind.Ept 1 0) ∷ Done (Number 0) ∷ []
   -- ranges come first, then a page that is named twice, then alignment at the GPA's place
-  pub operands : answers_to (building ++ MemSeptAdd 1 1 0 1 ∷ MemSeptAdd 1 1 1 1 ∷ MemSeptAdd 1 4096 1 8 ∷ MemSeptRd 1 0 4 ∷ MemPageAdd 1 1 8 0 ∷ MemPageAdd 1 0 1 1 ∷ MemPageAdd 1 0 8 8 ∷ MemPageAdd 1 0 8 1 ∷ MrExtend 1 128 ∷ [])
+  pub operands : answers_to (building ++ MemSeptAdd 1 1 0 1 ∷ MemSeptAdd 1 1 1 1 ∷ MemSeptAdd 1 4096 1 8 ∷ MemSeptRd 1 0 4 ∷ MemPageAdd 1 1 8 0 ∷ MemPageAdd 1 0 1 1 ∷ MemPageAdd 1 0 8 8 ∷ MemPageAdd 1 0 8 1 ∷ MrExtend 1 128 ∷ MemPageAug 1 1 1 ∷ MemPageAug 1 1 8 ∷ [])
       ≡ ten_successes ++ Refused (OperandInvalid 3) ∷ Refused (OperandInvalid 4) ∷ Refused (OperandInvalid 2) ∷ Refused (OperandInvalid 3) ∷ Refused (OperandInvalid 2) ∷ Refused (OperandInvalid 3)
-      ∷ Refused (OperandInvalid 4) ∷ Refused (OperandInvalid 4) ∷ Refused (OperandInvalid 2) ∷ []
+      ∷ Refused (OperandInvalid 4) ∷ Refused (OperandInvalid 4) ∷ Refused (OperandInvalid 2) ∷ Refused (OperandInvalid 3) ∷ Refused (OperandInvalid 2) ∷ []
   -- a page is added once, in one place, while its TD is built
   pub pages : answers_to (building ++ MrExtend 1 0 ∷ MemPageAdd 1 0 8 0 ∷ MemPageAdd 1 0 9 0 ∷ MemPageAdd 1 4096 8 0 ∷ MemPageAdd 1 0x200000 9 0 ∷ MemSeptRd 1 0 0 ∷ HostRead 8 0 ∷ MrFinalize 1 ∷ MrExtend 1 0 ∷ [])
       ≡ ten_successes ++ Refused (EptEntryStateIncorrect entry.Free) ∷ success ∷ Refused (EptEntryStateIncorrect entry.Mapped) ∷ Refused (PageMetadataIncorrect 8) ∷ Refused (EptWalkFailed 1)
       ∷ Done (Entry entry.Mapped (Some 8)) ∷ Done (Number 0) ∷ success ∷ Refused (OpStateIncorrect op.Runnable) ∷ []
+  -- and augmented once it is built, in nine events; it waits for its guest then, and what the host wrote there is read no more
+  pub augmented_events : events_of (building ++ MrFinalize 1 ∷ MemPageAug 1 0 8 ∷ []) ≡ 64 + 5 + 9
+  pub augmented : answers_to (building ++ HostWrite 8 0 7 ∷ MemPageAug 1 0 8 ∷ MrFinalize 1 ∷ MemPageAug 1 0 8 ∷ MemPageAug 1 0 9 ∷ MemPageAug 1 4096 8 ∷ MemPageAug 1 0x200000 9 ∷ MemSeptRd 1 0 0 ∷ PhymemPageRdmd 8 ∷ HostRead 8 0 ∷ [])
+      ≡ ten_successes ++ success ∷ Refused (OpStateIncorrect op.Initialized) ∷ success ∷ success ∷ Refused (EptEntryStateIncorrect entry.Pending) ∷ Refused (PageMetadataIncorrect 8)
+      ∷ Refused (EptWalkFailed 1) ∷ Done (Entry entry.Pending (Some 8)) ∷ Done (Page kind.Reg 1 0) ∷ Done (Number 0) ∷ []
   -- what is measured: that the page was added; and where a chunk of it is, and its bytes
   pub one_page : measured_by added_page ≡ added_record
   pub one_chunk : measured_by (added_page ++ MrExtend 1 4352 ∷ [])

@@ -85,6 +85,11 @@ pub enum Call {
         page: u64,
         source: u64,
     },
+    MemPageAug {
+        tdr: u64,
+        gpa: u64,
+        page: u64,
+    },
 }
 
 /// An operation of guest code, with its operands in order: registers 0 to 7, RTMRs 0 to 3, guest
