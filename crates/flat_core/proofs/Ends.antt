@@ -632,12 +632,12 @@ module _ (o : Opening) (w : World) (lawful : Lawful o.machine w) (p : ℕ) (lp :
         (λ i. moved _ refl refl refl refl) (λ r. moved _ refl refl refl refl) op row is
 
     of_operation : (line : ℕ) (op : GuestOp) (row : OperationRow) (mv : Move (Option Outcome)) → operation_of o g.tdr g.vp line op ≡ ByRow row → Left (operation_world row mv w)
-    of_operation line op row Succeeds is = of_operation_act line op row is
-    of_operation line op row (Attempts l m) is = same_world w q u x occ
-    of_operation line op row (Undoes l) is = same_world w q u x occ
-    of_operation line op row (Refuses r) is = same_world w q u x occ
-    of_operation line op row (Releases h) is = same_world w q u x occ
-    of_operation line op row Rests is = same_world w q u x occ
+    of_operation line op r Succeeds is = of_operation_act line op r is
+    of_operation line op r (Attempts l m) is = same_world w q u x occ
+    of_operation line op r (Undoes l) is = same_world w q u x occ
+    of_operation line op r (Refuses out) is = same_world w q u x occ
+    of_operation line op r (Releases h) is = same_world w q u x occ
+    of_operation line op r Rests is = same_world w q u x occ
 
     of_ending : (out : Option Outcome) (hs : List Held) → Left (operation_world nothing_more (next_in [] (Answered out) hs) w)
     of_ending out [] = same_world w q u x occ
