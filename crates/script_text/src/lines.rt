@@ -185,6 +185,11 @@ fn built(lp: u8, call: CallName, numbers: &[Option<u64>]) -> Option<Entry>
             page: third,
             source: fourth,
         },
+        CallName::MemPageAug => Call::MemPageAug {
+            tdr,
+            gpa,
+            page: third,
+        },
         _ => return None,
     };
     Some(Entry::Call(lp, call))
