@@ -1,4 +1,4 @@
--- The act of each row keeps what cached translations and walks say.
+-- The act of each row, and of an acceptance, keeps what cached translations and walks say.
 use Rattle.std.proofs.Common.{lit≤, ◌≡◌, ◌≢◌, ◌⊎◌, inl, inr, refl, sym, ◌∙◌, subst, ap, ℕ, zero, suc, ◌+◌, ◌≤◌, List, [], ◌∷◌, ◌++◌, filter, drop, Option, Some, None, Bool, true, false, not, ◌==◌, ◌&&◌, ◌||◌, if◌then◌else◌, arith}
 use Rattle.std.specs.List.{list_any}
 use Rattle.std.proofs.lemmas.Bool.{eq-eqb, eqb-true, eqb-false, ne_eqb, and_parts, not-true}
@@ -98,20 +98,21 @@ walking-same w w' t k e en bl h = record {
   rights = λ off. subst (λ (z : ℕ). e ≤ z) (sym bl) (h.rights (ap (λ (x : Entry). same_state x.state entry.NlMapped) (sym en) ∙ off));
 }
 
--- an entry that isn't FREE stays where another one is set that was
+-- an entry stays where another one is set
+pub entry-apart : (w : World) (u level number : ℕ) (x : Entry) (t l n : ℕ) → (t ≡ u → l ≡ level → n ≡ number → ⊥)
+    → put w.tds.entries u (put_in (w.tds.entries u) level number x) t l n ≡ w.tds.entries t l n
+entry-apart w u level number x t l n apart = by_test (t == u)
+    (λ y. by_test (l == level && n == number)
+    (λ z. let both = and_parts (l == level) (n == number) z in absurd (apart (eqb-true t u y) (eqb-true l level both.0) (eqb-true n number both.1)))
+    (λ z. rw (y, z) (ap (λ (q : ℕ). w.tds.entries q l n) (sym (eqb-true t u y)))))
+    (λ y. rw y refl)
+
+-- and one that isn't FREE where one is set that was
 entry-kept : (w : World) (u level number : ℕ) (x : Entry) (t l n : ℕ) → is_free (w.tds.entries u level number).state ≡ true → is_free (w.tds.entries t l n).state ≡ false
     → put w.tds.entries u (put_in (w.tds.entries u) level number x) t l n ≡ w.tds.entries t l n
-entry-kept w u level number x t l n free used = by_test (t == u)
-    (λ y. let tu : t ≡ u = eqb-true t u y in
-    subst (λ (z : ℕ). put w.tds.entries u (put_in (w.tds.entries u) level number x) z l n ≡ w.tds.entries z l n) (sym tu)
-    (let here : (u == u) ≡ true = eq-eqb u u refl in rw here (by_test (l == level && n == number)
-    (λ z. absurd (let both = and_parts (l == level) (n == number) z in
-    let a : l ≡ level = eqb-true l level both.0 in let b : n ≡ number = eqb-true n number both.1 in
-    let same : is_free (w.tds.entries u l n).state ≡ false = subst (λ (q : ℕ). is_free (w.tds.entries q l n).state ≡ false) tu used in
-    let at : is_free (w.tds.entries u level number).state ≡ false = subst (λ (q : ℕ). is_free (w.tds.entries u level q).state ≡ false) b (subst (λ (q : ℕ). is_free (w.tds.entries u q n).state ≡ false) a same) in
-    let no : true ≡ false = sym free ∙ at in cc))
-    (λ z. rw z refl))))
-    (λ y. rw y refl)
+entry-kept w u level number x t l n free used = entry-apart w u level number x t l n
+    (λ a b c. let at : w.tds.entries t l n ≡ w.tds.entries u level number = ap (λ (q : ℕ). w.tds.entries q l n) a ∙ (ap (λ (q : ℕ). w.tds.entries u q n) b ∙ ap (λ (q : ℕ). w.tds.entries u level q) c) in
+    let no : true ≡ false = sym free ∙ (ap (λ (e : Entry). is_free e.state) (sym at) ∙ used) in cc)
 
 module _ (m : Machine) (w : World) (la : Lawful m w) (le : LawfulEpochs w) (p : ℕ) (cs : List Translation) (g : Option Guest) (occ : (x : Guest) → g ≡ Some x → IsOccupied w p x.tdr x.vp) (a : LawfulTranslations w p cs g) where
   -- the page of an entry of a TD that runs
@@ -295,3 +296,36 @@ module _ (m : Machine) (w : World) (la : Lawful m w) (le : LawfulEpochs w) (p : 
       (λ t x. refl) (λ t x. refl) (λ t x. refl) (λ t l i x f. entry-kept w u 0 (number_at 0 gpa) _ t l i free f) (λ v x. refl) (λ v x. refl) (λ v x. refl)
   row-access o me (call.HostRead page i) em ps n = a
   row-access o me _ em ps n = quiet-act _ refl refl refl refl refl refl refl refl
+
+  -- A page that was PENDING is MAPPED. Nothing that may be used names it.
+  pub accept-access : (w' : World) (u n : ℕ) (x : Entry) → is_pending (w.tds.entries u 0 n).state ≡ true
+      → w'.pages ≡ w.pages → w'.tds ≡ record (w.tds) { entries = put w.tds.entries u (put_in (w.tds.entries u) 0 n x) }
+      → w'.vps.associated ≡ w.vps.associated → w'.vps.lasts ≡ w.vps.lasts → w'.vps.entered ≡ w.vps.entered → LawfulTranslations w' p cs g
+  accept-access w' u n x pending pg td assoc ls et =
+      frame w w' le p cs g occ
+      (λ t v h. record {
+        tdr = ap (λ (z : Pages). z.kinds t) pg ∙ h.tdr;
+        life = ap (λ (z : Tds). z.lives t) td ∙ h.life;
+        page = record { kind = ap (λ (z : Pages). z.kinds v) pg ∙ h.page.kind; owner = ap (λ (z : Pages). z.owners v) pg ∙ h.page.owner };
+        associated = ap (λ (z : ℕ → Option ℕ). z v) assoc ∙ h.associated;
+      })
+      (λ t v h. (
+        record {
+          tdr = ap (λ (z : Pages). z.kinds t) (sym pg) ∙ h.tdr;
+          life = sym (ap (λ (z : Tds). z.lives t) td) ∙ h.life;
+          page = record { kind = ap (λ (z : Pages). z.kinds v) (sym pg) ∙ h.page.kind; owner = ap (λ (z : Pages). z.owners v) (sym pg) ∙ h.page.owner };
+          associated = ap (λ (z : ℕ → Option ℕ). z v) (sym assoc) ∙ h.associated;
+        },
+        ap (λ (z : ℕ → ℕ). z v) ls,
+        ap (λ (z : Tds). z.epochs t) td,
+      ))
+      (λ y e is k. ap (λ (z : ℕ → Option ℕ). z y.vp) (sym et) ∙ k)
+      (λ c e bu h. current-same w w' c e
+      (ap (λ (z : Tds). z.entries c.tdr 0 c.gpa_page) td ∙ entry-apart w u 0 n x c.tdr 0 c.gpa_page (λ a b d. apart c a d h.accepted))
+      (ap (λ (z : Pages). z.blocked c.page) pg) (ap (λ (z : Tds). z.ops c.tdr) td) h)
+      (λ t k e bu h. walking-same w w' t k e (ap (λ (z : Tds). z.entries t (suc k.level) (node_number k)) td ∙ entry-apart w u 0 n x t (suc k.level) (node_number k) (λ a b d. cc)) (ap (λ (z : Pages). z.blocked k.page) pg) h) a
+    where
+      apart : (c : Translation) → c.tdr ≡ u → c.gpa_page ≡ n → is_pending (entry_of w c).state ≡ false → ⊥
+      apart c td gp ok =
+          let at : entry_of w c ≡ w.tds.entries u 0 n = ap (λ (z : ℕ). w.tds.entries z 0 c.gpa_page) td ∙ ap (λ (z : ℕ). w.tds.entries u 0 z) gp in
+          let no : true ≡ false = sym pending ∙ (ap (λ (e : Entry). is_pending e.state) (sym at) ∙ ok) in cc
