@@ -2,20 +2,21 @@
 use Rattle.std.proofs.Common.{◌≡◌, refl, sym, ◌∙◌, subst, ap, ℕ, ◌+◌, List, [], ◌∷◌, ◌++◌, length, drop, Option, Some, None, option_map, Bool, true, false, ◌==◌, ◌&&◌, if◌then◌else◌}
 use Rattle.std.proofs.lemmas.Bool.{eqb-true, and_parts}
 use Rattle.std.proofs.Math.Seq.{drop-append_seam}
-use Rattle.td_words.specs.declared.names.PageKind.TheVariants as kind
 use Rattle.td_words.specs.declared.names.EntryState.TheVariants as entry
 use Rattle.td_words.specs.declared.names.Access.{Access}
 use Rattle.td_words.specs.declared.names.Access.TheVariants.{Read, Write}
 use Rattle.td_words.specs.declared.machines.Machine.{Machine}
-use Rattle.td_words.specs.declared.calls.GuestOp.{GuestOp}
 use Rattle.td_words.specs.declared.calls.GuestOp.TheVariants as op
+use Rattle.td_words.specs.declared.replies.Outcome.{Outcome}
 use Rattle.td_words.specs.declared.replies.Outcome.TheVariants.{Vmcall}
-use Rattle.flat_core.specs.World.{World, Tds, Vps, Hidden, put}
-use Rattle.flat_core.specs.Opening.{Opening, Agree}
-use Rattle.flat_core.specs.Row.{OperationRow}
-use Rattle.flat_core.specs.Effects.{put_in, set_word, clear_page, set_entry, begin_memory, pass_operation, leave_guest, tell_words, word_told}
-use Rattle.flat_core.specs.Tree.{page_of_gpa, word_of_gpa, number_at, entry_at}
-use Rattle.flat_core.specs.Guest.{Operation, ByRow, Private, operation_of, is_private, set_value, add_registers, shared_page, shared_load, shared_store, register_told, is_pending_at, accept_page, accept, extend_rtmr, call_host, reach}
+use Rattle.flat_core.specs.World.{World, Tds, Vps, Hidden, Outgoing, put}
+use Rattle.flat_core.specs.Processor.{Note}
+use Rattle.flat_core.specs.Opening.{Opening}
+use Rattle.flat_core.specs.Row.{Item, OperationRow}
+use Rattle.flat_core.specs.Effects.{put_in, set_word, clear_page, pass_operation, leave_guest, tell_words, word_told}
+use Rattle.flat_core.specs.Tree.{word_of_gpa, number_at, entry_at}
+use Rattle.flat_core.specs.Guest.{Operation, Private, is_private, shared_page, shared_load, shared_store, register_told, is_pending_at, accept_page, accept, call_host, reach}
+use Rattle.flat_core.specs.Event.{nothing_more}
 use Rattle.flat_core.specs.Alike.{Alike, TellAlike, AreBlindActs, AreBlindOperations, is_public}
 use Rattle.flat_core.specs.TwoWorlds.{OperationsAreBlind}
 use Rattle.flat_core.proofs.Tests.{by_test}
@@ -89,8 +90,21 @@ reach_alike v w t vp Write r gpa page private a =
     let i : ℕ = word_of_gpa gpa in
     passed_alike (set_word page i x v) (set_word page i y w) (private_word_alike v w a page i x y private) vp (reach t vp Write r gpa page v).hidden (reach t vp Write r gpa page w).hidden
 
+-- it tells nothing
+reach_outgoing : (w : World) (t vp : ℕ) (access : Access) (r gpa page : ℕ) → (reach t vp access r gpa page w).outgoing ≡ w.outgoing
+reach_outgoing w t vp Read r gpa page = refl
+reach_outgoing w t vp Write r gpa page = refl
+
+pub reach_telling : (v w : World) (t vp : ℕ) (access : Access) (r gpa page : ℕ) (rest : List ℕ) → is_public v.pages v.tds page ≡ false → TellAlike v w rest
+    → TellAlike (reach t vp access r gpa page v) (reach t vp access r gpa page w) rest
+reach_telling v w t vp access r gpa page rest private k = record {
+  alike = reach_alike v w t vp access r gpa page private k.alike;
+  own = ap (λ (x : Outgoing). x.to_tell) (reach_outgoing v t vp access r gpa page) ∙ k.own;
+  given = ap (λ (x : Outgoing). x.to_tell) (reach_outgoing w t vp access r gpa page) ∙ k.given;
+}
+
 -- words that are told are no more to tell
-tell_alike : (v w : World) (xs ys rest : List ℕ) → xs ≡ ys → Alike v w → v.outgoing.to_tell ≡ None → w.outgoing.to_tell ≡ Some (xs ++ rest) → TellAlike (tell_words xs v) (tell_words ys w) rest
+pub tell_alike : (v w : World) (xs ys rest : List ℕ) → xs ≡ ys → Alike v w → v.outgoing.to_tell ≡ None → w.outgoing.to_tell ≡ Some (xs ++ rest) → TellAlike (tell_words xs v) (tell_words ys w) rest
 tell_alike v w xs ys rest e a own given = record {
   alike = record {
     size = a.size;
@@ -113,28 +127,25 @@ tell_alike v w xs ys rest e a own given = record {
 told_same : (v w : World) (vp r : ℕ) (rest : List ℕ) → TellAlike v w (register_told v vp r ∷ rest) → register_told v vp r ≡ register_told w vp r
 told_same v w vp r rest t = sym (ap (λ (x : Option (List ℕ)). word_told x (w.hidden.registers vp r)) t.given)
 
-set_value-blind : (vp r x : ℕ) → AreBlindActs (set_value vp r x) (set_value vp r x)
-set_value-blind vp r x = record {
+pub nothing_more-blind : AreBlindActs nothing_more nothing_more
+nothing_more-blind = record {
   items = λ v w a. refl;
   answer = λ v w rest t. refl;
   tells = λ v w rest t. refl;
-  act = λ v w rest t. tell_alike _ _ [] [] rest refl (passed_alike v w t.alike vp ((set_value vp r x).act v).hidden ((set_value vp r x).act w).hidden) t.own t.given;
+  act = λ v w rest t. tell_alike v w [] [] rest refl t.alike t.own t.given;
 }
 
-add_registers-blind : (vp r s : ℕ) → AreBlindActs (add_registers vp r s) (add_registers vp r s)
-add_registers-blind vp r s = record {
-  items = λ v w a. refl;
-  answer = λ v w rest t. refl;
-  tells = λ v w rest t. refl;
-  act = λ v w rest t. tell_alike _ _ [] [] rest refl (passed_alike v w t.alike vp ((add_registers vp r s).act v).hidden ((add_registers vp r s).act w).hidden) t.own t.given;
-}
+-- an operation that changes what its guest alone knows, and its position
+abbrev own_row : ℕ → (World → List (Item (Option Outcome))) → (World → Hidden) → (World → List Note) → OperationRow
+own_row vp conditions change noted = record { items = conditions; act = λ w. pass_operation vp (record w { hidden = change w }); answer = λ w. None; notes = noted; tells = λ w. [] }
 
-shared_load-blind : (m : Machine) (vp line r gpa : ℕ) → AreBlindActs (shared_load m vp line r gpa) (shared_load m vp line r gpa)
-shared_load-blind m vp line r gpa = record {
-  items = λ v w a. rw a.pages refl;
+own_blind : (vp : ℕ) (conditions others : World → List (Item (Option Outcome))) (change other : World → Hidden) (noted known : World → List Note)
+    → ((v w : World) → Alike v w → conditions v ≡ others w) → AreBlindActs (own_row vp conditions change noted) (own_row vp others other known)
+own_blind vp conditions others change other noted known same = record {
+  items = same;
   answer = λ v w rest t. refl;
   tells = λ v w rest t. refl;
-  act = λ v w rest t. tell_alike _ _ [] [] rest refl (passed_alike v w t.alike vp ((shared_load m vp line r gpa).act v).hidden ((shared_load m vp line r gpa).act w).hidden) t.own t.given;
+  act = λ v w rest t. tell_alike _ _ [] [] rest refl (passed_alike v w t.alike vp (change v) (other w)) t.own t.given;
 }
 
 shared_store-blind : (m : Machine) (vp r gpa : ℕ) → AreBlindActs (shared_store m vp r gpa) (shared_store m vp r gpa)
@@ -169,14 +180,6 @@ accept-blind t vp gpa = record {
     accepted_untold true t gpa u = refl
     accepted_untold false t gpa u = refl
 
-extend_rtmr-blind : (t vp line i : ℕ) → AreBlindActs (extend_rtmr t vp line i) (extend_rtmr t vp line i)
-extend_rtmr-blind t vp line i = record {
-  items = λ v w a. refl;
-  answer = λ v w rest k. refl;
-  tells = λ v w rest k. refl;
-  act = λ v w rest k. tell_alike _ _ [] [] rest refl (passed_alike v w k.alike vp ((extend_rtmr t vp line i).act v).hidden ((extend_rtmr t vp line i).act w).hidden) k.own k.given;
-}
-
 call_host-blind : (vp r : ℕ) → AreBlindActs (call_host vp r) (call_host vp r)
 call_host-blind vp r = record {
   items = λ v w a. refl;
@@ -195,12 +198,12 @@ acts_at : (o q : Opening) → o.machine ≡ q.machine → (r : Machine → Opera
 acts_at o q e r h = subst (λ (m : Machine). AreBlindActs (r o.machine) (r m)) e h
 
 pub operations_are_blind : OperationsAreBlind
-operations_are_blind o q a t v line (op.Set r x) = set_value-blind v r x
-operations_are_blind o q a t v line (op.Add r s) = add_registers-blind v r s
+operations_are_blind o q a t v line (op.Set r x) = own_blind v _ _ _ _ _ _ (λ v w b. refl)
+operations_are_blind o q a t v line (op.Add r s) = own_blind v _ _ _ _ _ _ (λ v w b. refl)
 operations_are_blind o q a t v line (op.Load r gpa) =
-    either_blind (is_private gpa) (Private Read r gpa) _ _ refl (acts_at o q a.machine (λ m. shared_load m v line r gpa) (shared_load-blind o.machine v line r gpa))
+    either_blind (is_private gpa) (Private Read r gpa) _ _ refl (acts_at o q a.machine (λ m. shared_load m v line r gpa) (own_blind v _ _ _ _ _ _ (λ v w b. rw b.pages refl)))
 operations_are_blind o q a t v line (op.Store r gpa) =
     either_blind (is_private gpa) (Private Write r gpa) _ _ refl (acts_at o q a.machine (λ m. shared_store m v r gpa) (shared_store-blind o.machine v r gpa))
 operations_are_blind o q a t v line (op.Accept gpa) = accept-blind t v gpa
-operations_are_blind o q a t v line (op.Rtmr i) = extend_rtmr-blind t v line i
+operations_are_blind o q a t v line (op.Rtmr i) = own_blind v _ _ _ _ _ _ (λ v w b. refl)
 operations_are_blind o q a t v line (op.Vmcall r) = call_host-blind v r

@@ -5,9 +5,8 @@ use Rattle.flat_core.specs.Conditions.{same_kind}
 use Rattle.td_words.specs.declared.machines.Machine.{Machine}
 use Rattle.td_words.specs.declared.names.OpState.TheVariants as op
 use Rattle.td_words.specs.declared.names.OpState.{OpState}
-use Rattle.std.specs.Prelude.{◌≡◌, ℕ, List, ◌++◌, map, Option, Some, None, Bool, true, false, not, ◌||◌}
+use Rattle.std.specs.Prelude.{◌≡◌, ℕ, List, ◌++◌, map, Some, None, Bool, true, false, not, ◌||◌}
 use Rattle.td_words.specs.declared.names.PageKind.TheVariants as kind
-use Rattle.td_words.specs.declared.replies.Outcome.{Outcome}
 use Rattle.flat_core.specs.World.{World, Pages, Tds}
 use Rattle.flat_core.specs.Processor.{Translation}
 use Rattle.flat_core.specs.Opening.{public_bundle}

@@ -1,6 +1,6 @@
 -- Two runs side by side: their openings differ in private words alone, and the second is given the words that the first
 -- tells.
-use Rattle.std.specs.Prelude.{◌≡◌, ℕ, List, [], ◌++◌, Option, Some, None}
+use Rattle.std.specs.Prelude.{◌≡◌, ℕ, List, [], ◌++◌, Option, Some}
 use Rattle.td_words.specs.declared.calls.GuestOp.{GuestOp}
 use Rattle.flat_core.specs.World.{World}
 use Rattle.flat_core.specs.Processor.{Lp}
