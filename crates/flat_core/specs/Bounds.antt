@@ -1,6 +1,7 @@
 -- How many events a processor can still make at most.
-use Rattle.std.specs.Prelude.{◌≡◌, ℕ, ◌+◌, ◌-◌, ◌*◌, ◌<◌, ◌≤◌, List, [], ◌∷◌, length, Option, Some, None}
+use Rattle.std.specs.Prelude.{◌≡◌, ℕ, ◌+◌, ◌-◌, ◌*◌, ◌<◌, ◌≤◌, List, [], ◌∷◌, length, Option, Some, None, IfSome}
 use Rattle.td_words.specs.declared.calls.Call.{Call}
+use Rattle.td_words.specs.declared.calls.Call.TheVariants as call
 use Rattle.td_words.specs.declared.calls.GuestOp.{GuestOp}
 use Rattle.td_words.specs.declared.replies.Outcome.{Outcome}
 use Rattle.td_words.specs.declared.replies.Reply.{Reply}
@@ -14,7 +15,7 @@ use Rattle.flat_core.specs.Translations.{look_up}
 use Rattle.flat_core.specs.Guest.{Operation, ByRow, Private, operation_of, walk_level}
 use Rattle.flat_core.specs.Event.{State, Event, next_event, lines_left, event, operation_due}
 use Rattle.flat_core.specs.Run.{run_telling, events_in}
-use Rattle.flat_core.specs.Laws.{reached, with_bundles, IsKept}
+use Rattle.flat_core.specs.Laws.{reached, with_bundles, IsKept, HoldsInRuns}
 use Rattle.flat_core.specs.Inside.{AreTimely}
 
 -- no row tries more locks than its call may, in any world
@@ -90,3 +91,13 @@ EventsRunOut = (o : Opening) (words_to_tell : Option (List ℕ)) (schedule : Lis
 -- at the end of a run no processor has an event left
 abbrev pub RunsEnd : Type 0
 RunsEnd = (o : Opening) (words_to_tell : Option (List ℕ)) (schedule : List ℕ) (p : ℕ) → next_event o (run_telling words_to_tell o schedule) p ≡ None
+
+-- the present line of a guest is the VP.ENTER that entered it, and it has completed no more operations than that asks for
+pub record IsBounded (o : Opening) (p : ℕ) (lp : Lp) (g : Guest) : Type 0 where
+  pub rest : List Call
+  pub line : lines_left o p lp ≡ call.VpEnter g.tdr g.vp g.most ∷ rest
+  pub few : g.completed ≤ g.most
+
+-- so of every guest that a schedule leads to
+abbrev pub EntriesAreBounded : Type 0
+EntriesAreBounded = HoldsInRuns (λ o s. (p : ℕ) → IfSome (s.lps p).guest (IsBounded o p (s.lps p)))

@@ -1,15 +1,16 @@
--- The order in which locks are held: a call's locks are the first that it tries.
-use Rattle.std.specs.Prelude.{◌≡◌, ◌≢◌, ℕ, ◌≤◌, List, [], ◌∷◌, ◌++◌, length, drop, Option, Some, None, true}
+-- The order in which locks are held: a call's locks are the first that it tries, and a guest's come behind those of its call.
+use Rattle.std.specs.Prelude.{◌≡◌, ◌≢◌, ◌⊎◌, ℕ, ◌≤◌, List, [], ◌∷◌, ◌++◌, length, drop, Option, Some, None, true}
 use Rattle.td_words.specs.declared.names.Mode.{Mode}
 use Rattle.td_words.specs.declared.calls.Call.{Call}
-use Rattle.td_words.specs.declared.replies.Reply.{Reply}
+use Rattle.td_words.specs.declared.calls.Call.TheVariants as call
 use Rattle.flat_core.specs.World.{World}
-use Rattle.flat_core.specs.Processor.{LockId, OfPage, OfOp, OfTree, Held, Phase, Undoing, Progress, nothing_yet, Lp}
+use Rattle.flat_core.specs.Processor.{LockId, OfPage, OfOp, OfTree, OfRtmr, Held, Phase, Trying, Undoing, nothing_yet, Guest, Lp}
 use Rattle.flat_core.specs.Locks.{alone_of, shared_of, refused_of, grants}
 use Rattle.flat_core.specs.Opening.{Opening, Incoming}
 use Rattle.flat_core.specs.Row.{Row, Attempts}
 use Rattle.flat_core.specs.Tries.{shared, tries_of}
 use Rattle.flat_core.specs.Event.{State, OfCall, next_event, calls_of}
+use Rattle.flat_core.specs.Guests.{guest_locks, entry_locks}
 use Rattle.flat_core.specs.Laws.{with_bundles, IsKept, IsExclusive, HoldsInRuns}
 
 -- a lock, but not which page's, since that may change with the world
@@ -31,18 +32,40 @@ abbrev pub AreFirstTries : Call → List Held → Type 0
 AreFirstTries c hs = (w : World) → (rest : List (Option LockId)) × (kinds (tries_of c w) ≡ onto hs rest)
 
 -- the lock of a shared try that was denied
-abbrev pub undo_of : Phase Reply → List Held
+abbrev pub undo_of : {R : Type 0} → Phase R → List Held
 undo_of (Undoing l) = shared l ∷ []
 undo_of _ = []
 
-abbrev pub IsOrderlyAt : List Call → Progress Reply → Type 0
-IsOrderlyAt [] x = x ≡ nothing_yet
-IsOrderlyAt (c ∷ cs) x = AreFirstTries c (undo_of x.phase ++ x.held)
+-- a guest's operation tries pages, and the tree lock and the RTMR lock of its own TD
+abbrev pub IsOfGuest : (tdr : ℕ) → LockId → Type 0
+IsOfGuest t (OfPage p) = Unit {0}
+IsOfGuest t (OfTree u) = u ≡ t
+IsOfGuest t (OfRtmr u) = u ≡ t
+IsOfGuest t _ = ⊥
 
--- a processor with these calls is outside guests, and what its call holds, with what it is being refused, it tries first
-pub record IsOrderly (calls : List Call) (lp : Lp) : Type 0 where
-  pub guest : lp.guest ≡ None
-  pub call : IsOrderlyAt (drop (length lp.replies) calls) lp.call
+abbrev pub AreOfGuest : (tdr : ℕ) → List Held → Type 0
+AreOfGuest t [] = Unit {0}
+AreOfGuest t (h ∷ hs) = IsOfGuest t h.lock × AreOfGuest t hs
+
+-- in guest a call holds what VP.ENTER leaves its guest, or E of its TD besides; and the operation has locks of its own
+pub record IsOrderlyInside (c : Call) (lp : Lp) (g : Guest) : Type 0 where
+  pub entered : c ≡ call.VpEnter g.tdr g.vp g.most
+  pub trying : lp.call.phase ≡ Trying
+  pub locks : (kinds lp.call.held ≡ kinds (guest_locks g.tdr g.vp)) ⊎ (kinds lp.call.held ≡ kinds (entry_locks g.tdr g.vp))
+  pub operation : AreOfGuest g.tdr (undo_of g.operation.phase ++ g.operation.held)
+
+-- outside guests what a call holds, with what it is being refused, it tries first
+abbrev pub IsOrderlyIn : Call → Lp → Option Guest → Type 0
+IsOrderlyIn c lp None = AreFirstTries c (undo_of lp.call.phase ++ lp.call.held)
+IsOrderlyIn c lp (Some g) = IsOrderlyInside c lp g
+
+abbrev pub IsOrderlyAt : List Call → Lp → Type 0
+IsOrderlyAt [] lp = (lp.guest ≡ None) × (lp.call ≡ nothing_yet)
+IsOrderlyAt (c ∷ cs) lp = IsOrderlyIn c lp lp.guest
+
+-- so of a processor with these calls
+abbrev pub IsOrderly : List Call → Lp → Type 0
+IsOrderly calls lp = IsOrderlyAt (drop (length lp.replies) calls) lp
 
 -- so of each processor of the machine; and locks exclude
 pub record IsInOrder (o : Opening) (s : State) : Type 0 where
