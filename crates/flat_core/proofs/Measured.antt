@@ -1,5 +1,5 @@
 -- MRTD and what is measured, over runs and events.
-use Rattle.std.proofs.Common.{◌≡◌, refl, sym, ◌∙◌, ap, subst, ℕ, ◌+◌, List, [], ◌∷◌, length, Option, Some, None, Bool, true, false, ◌==◌}
+use Rattle.std.proofs.Common.{◌≡◌, refl, sym, ◌∙◌, ap, subst, ℕ, ◌+◌, List, [], ◌∷◌, length, Option, Some, None, true, ◌==◌}
 use Rattle.std.specs.List.{list_any}
 use Rattle.std.proofs.lemmas.Bool.{eqb-true}
 use Rattle.sha2.specs.Sha512.{sha384}
@@ -24,7 +24,7 @@ use Rattle.flat_core.specs.TdRows.{read_td, finalize}
 use Rattle.flat_core.specs.Effects.{measure, tell_words}
 use Rattle.flat_core.specs.Guest.{ByRow, operation_of, is_pending_at, reach}
 use Rattle.flat_core.specs.Table.{row_of}
-use Rattle.flat_core.specs.Event.{State, Event, OfCall, OfOperation, lines_left, next_event, nothing_more, world_after, after_event}
+use Rattle.flat_core.specs.Event.{Event, OfCall, OfOperation, lines_left, next_event, nothing_more, world_after, after_event}
 use Rattle.flat_core.specs.Laws.{with_bundles, AreMrtdsDigests, MrtdsAreKept, EveryMrtdIsTheDigest, measured_after_event, EventsMeasure}
 use Rattle.flat_core.proofs.Tests.{by_test}
 use Rattle.flat_core.proofs.Mrtd.{mrtd_is_the_digest, records_are_measured}

@@ -1,5 +1,5 @@
 -- What RTMRs are after each event.
-use Rattle.std.proofs.Common.{lit<, ◌≡◌, refl, sym, ◌∙◌, ap, subst, ℕ, ◌+◌, ◌*◌, ◌/◌, ◌%◌, ◌<◌, List, [], ◌∷◌, ◌++◌, length, replicate, Option, Some, None, Bool, true, false, ◌==◌, ◌&&◌, if◌then◌else◌, arith}
+use Rattle.std.proofs.Common.{lit<, ◌≡◌, refl, sym, ◌∙◌, ap, subst, ℕ, ◌+◌, ◌*◌, ◌/◌, ◌%◌, ◌<◌, List, [], ◌∷◌, ◌++◌, length, Option, Some, None, Bool, true, false, ◌==◌, ◌&&◌, if◌then◌else◌, arith}
 use Rattle.std.proofs.lemmas.Bool.{eqb-true}
 use Rattle.sha2.specs.Sha512.{sha384}
 use Rattle.td_words.specs.declared.names.Access.{Access}
@@ -15,15 +15,15 @@ use Rattle.flat_core.specs.Processor.{Answered, Held, Guest, Lp}
 use Rattle.flat_core.specs.Opening.{Opening}
 use Rattle.flat_core.specs.Row.{OperationRow, Move, Attempts, Undoes, Refuses, Succeeds, Releases, Rests, next, next_in}
 use Rattle.flat_core.specs.Table.{row_of}
-use Rattle.flat_core.specs.Digests.{digest_bytes, digest_word, six_words}
+use Rattle.flat_core.specs.Digests.{digest_bytes, six_words}
 use Rattle.flat_core.specs.Effects.{set_rtmr, tell_words}
-use Rattle.flat_core.specs.Guest.{Operation, ByRow, Private, operation_of, is_pending_at, is_private, shared_load, shared_store, extended_rtmr, reach}
-use Rattle.flat_core.specs.Event.{State, Event, OfCall, OfOperation, lines_left, next_event, operation_due, nothing_more, world_after, after_event}
+use Rattle.flat_core.specs.Guest.{Operation, ByRow, operation_of, is_pending_at, is_private, shared_load, shared_store, extended_rtmr, reach}
+use Rattle.flat_core.specs.Event.{Event, OfCall, OfOperation, lines_left, next_event, operation_due, nothing_more, world_after, after_event}
 use Rattle.flat_core.specs.Rtmrs.{rtmr_bytes, extension_bytes, rtmr_after_call, rtmr_after_operation, rtmr_after_event, EventsExtend}
-use Rattle.flat_core.proofs.Tests.{by_test, same_self}
+use Rattle.flat_core.proofs.Tests.{by_test}
 use Rattle.flat_core.proofs.Operations.{accepted}
 use Rattle.flat_core.proofs.Mrtd.{digest_read}
-use Rattle.flat_core.proofs.Due.{IsInside, Due, calls, frees, leaves, stops, fills, operates, walks, reaches, undoes, gives_back, due_event_is}
+use Rattle.flat_core.proofs.Due.{Due, calls, frees, leaves, stops, fills, operates, walks, reaches, undoes, gives_back, due_event_is}
 
 abbrev bytes_of : (ℕ → ℕ) → List ℕ
 bytes_of f = digest_bytes (six_words f)

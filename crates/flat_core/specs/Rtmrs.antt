@@ -1,5 +1,5 @@
 -- RTMRs, in a reader's terms (Base Architecture, "TD Measurement").
-use Rattle.std.specs.Prelude.{◌≡◌, ℕ, ◌+◌, ◌*◌, List, [], ◌∷◌, ◌++◌, replicate, Option, Some, None, Bool, true, false, ◌==◌, ◌&&◌, if◌then◌else◌}
+use Rattle.std.specs.Prelude.{◌≡◌, ℕ, ◌+◌, ◌*◌, List, ◌∷◌, ◌++◌, replicate, Option, Some, ◌==◌, ◌&&◌, if◌then◌else◌}
 use Rattle.sha2.specs.Sha512.{sha384}
 use Rattle.td_words.specs.declared.calls.Call.{Call}
 use Rattle.td_words.specs.declared.calls.Call.TheVariants as call
