@@ -48,8 +48,8 @@ use Rattle.flat_core.specs.Inside.{WalkFits, OperationAt, DueAt, PhaseAt, GuestA
 use Rattle.flat_core.specs.Bounds.{call_left, private_used, operation_used, due_used, phase_used, guest_left, line_left, left_of, events_left, TimelinessIsKept, TimelyEventsRunOut, EventsRunOut, RunsEnd, IsBounded, EntriesAreBounded}
 use Rattle.flat_core.proofs.Induction.{event_keeps, in_runs, play_append}
 use Rattle.flat_core.proofs.Tests.{by_test, put_here, tdr_kind, some_same}
-use Rattle.flat_core.proofs.Kept.{events_keep, timely_runs}
 use Rattle.flat_core.proofs.Keeps.{first-lawful}
+use Rattle.flat_core.proofs.Kept.{events_keep, timely_runs}
 use Rattle.flat_core.proofs.Spared.{row_spares}
 use Rattle.flat_core.proofs.Operations.{each_operation, operation_row, accepted}
 use Rattle.flat_core.proofs.Cached.{cached_found, allowed_cached}
