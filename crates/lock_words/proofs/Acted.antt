@@ -55,6 +55,9 @@ acts-go-on o me (call.MemSeptAdd tdr gpa level page) w t la ps st =
 acts-go-on o me (call.MemPageAdd tdr gpa page source) w t la ps st =
     let n : (t == page) ≡ false = apart-host w t page st ps.1.1.1.1.1.1.1.1.1.1.1.1.1.1.1.1.1.0 in
     inl (same-td w _ t st (rw n refl) refl refl)
+acts-go-on o me (call.MemPageAug tdr gpa page) w t la ps st =
+    let n : (t == page) ≡ false = apart-host w t page st ps.1.1.1.1.1.1.1.1.1.1.1.1.1.0 in
+    inl (same-td w _ t st (rw n refl) refl refl)
 acts-go-on o me (call.MngCreate tdr hkid) w t la ps st =
     let n : (t == tdr) ≡ false = apart-host w t tdr st ps.1.1.0 in
     inl (same-td w _ t st (rw n refl) (rw n refl) (rw n refl))

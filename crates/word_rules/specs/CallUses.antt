@@ -16,7 +16,7 @@ use Rattle.flat_core.specs.Table.{row_of}
 use Rattle.word_rules.specs.Guards.{Guard, Locked, Role, Grip, MeetsAll}
 use Rattle.word_rules.specs.Rules.{Unused}
 use Rattle.word_rules.specs.Views.{no_page}
-use Rattle.word_rules.specs.Uses.{Use, HeadPage, HeadTdr, HeadOp, Taken, GivenBack, HostRead, HostWrite, PageRdmd, CacheWb, Reclaim, MngCreate, KeyConfig, Addcx, MngInit, MngRdLife, MngRdOp, MngRdEpoch, VpFlushDone, KeyFreeid, MrExtend, MrFinalize, VpCreate, VpInit, SeptAdd, SeptRd, PageAdd, PageAddPages, TakesPage, ReclaimsControl, ReclaimsRest, AddsEntry, ChangesOp, BeginsEpochs, GivesHkid, FreesHkid, line_of}
+use Rattle.word_rules.specs.Uses.{Use, HeadPage, HeadTdr, HeadOp, Taken, GivenBack, HostRead, HostWrite, PageRdmd, CacheWb, Reclaim, MngCreate, KeyConfig, Addcx, MngInit, MngRdLife, MngRdOp, MngRdEpoch, VpFlushDone, KeyFreeid, MrExtend, MrFinalize, VpCreate, VpInit, SeptAdd, SeptRd, PageAdd, PageAddPages, PageAug, TakesPage, ReclaimsControl, ReclaimsRest, AddsEntry, ChangesOp, BeginsEpochs, GivesHkid, FreesHkid, line_of}
 use Rattle.word_rules.specs.Spots.{guard_at}
 
 -- the locks of a row's tries are held, each in its mode
@@ -89,6 +89,7 @@ uses_of w (call.MemSeptRd tdr gpa level) = td_uses tdr ++ of_td tdr SeptRd ∷ [
 uses_of w (call.MemPageAdd tdr gpa page source) =
     td_uses tdr ++ (of_page source HeadPage ∷ of_page source PageAddPages ∷ of_page page PageAddPages
     ∷ (taken_uses page ++ of_td tdr PageAdd ∷ of_td tdr AddsEntry ∷ []))
+uses_of w (call.MemPageAug tdr gpa page) = td_uses tdr ++ (taken_uses page ++ of_td tdr PageAug ∷ of_td tdr AddsEntry ∷ [])
 
 -- the locks that are written of a use are had, as its TD and its page name them
 abbrev pub guards_of : CallUse → Role → Guard
