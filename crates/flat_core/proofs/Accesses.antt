@@ -1,7 +1,7 @@
 -- The act of each row, and of an acceptance, keeps what cached translations and walks say.
-use Rattle.std.proofs.Common.{lit≤, ◌≡◌, ◌≢◌, ◌⊎◌, inl, inr, refl, sym, ◌∙◌, subst, ap, ℕ, zero, suc, ◌+◌, ◌≤◌, List, [], ◌∷◌, ◌++◌, filter, drop, Option, Some, None, Bool, true, false, not, ◌==◌, ◌&&◌, ◌||◌, if◌then◌else◌, arith}
+use Rattle.std.proofs.Common.{lit≤, ◌≡◌, ◌≢◌, inl, inr, refl, sym, ◌∙◌, subst, ap, ℕ, suc, ◌≤◌, List, [], ◌∷◌, Option, Some, None, Bool, true, false, not, ◌==◌, ◌&&◌, arith}
 use Rattle.std.specs.List.{list_any}
-use Rattle.std.proofs.lemmas.Bool.{eq-eqb, eqb-true, eqb-false, ne_eqb, and_parts, not-true}
+use Rattle.std.proofs.lemmas.Bool.{eq-eqb, eqb-true, eqb-false, ne_eqb, and_parts}
 use Rattle.td_words.specs.declared.names.PageKind.{PageKind}
 use Rattle.td_words.specs.declared.names.PageKind.TheVariants as kind
 use Rattle.td_words.specs.declared.names.LifeState.{LifeState}
@@ -20,14 +20,14 @@ use Rattle.flat_core.specs.Processor.{Translation, Walk, Guest}
 use Rattle.flat_core.specs.Opening.{Opening}
 use Rattle.flat_core.specs.Row.{Passes}
 use Rattle.flat_core.specs.Conditions.{is_host, host_page, page_exclusive, associated_in, is_elsewhere}
-use Rattle.flat_core.specs.Effects.{put_in, take_node, set_entry}
+use Rattle.flat_core.specs.Effects.{put_in, take_node}
 use Rattle.flat_core.specs.KeyRows.{reclaim_conditions}
 use Rattle.flat_core.specs.Tree.{state_in, entry_at, number_at, same_state}
 use Rattle.flat_core.specs.Table.{row_of}
 use Rattle.flat_core.specs.Alike.{is_being_built}
-use Rattle.flat_core.specs.Lawful.{Lawful, IsAlive, IsPageOf, IsNodeOf, is_free}
+use Rattle.flat_core.specs.Lawful.{Lawful, IsAlive, IsPageOf, is_free}
 use Rattle.flat_core.specs.Guests.{IsOccupied}
-use Rattle.flat_core.specs.Access.{IsHere, IsOutside, IsUsable, inside, outside, entry_of, node_of, node_number, allows_less, is_pending, is_after_pause, IsCurrent, IsOnCourse, LawfulTranslations, LawfulEpochs}
+use Rattle.flat_core.specs.Access.{IsHere, IsUsable, inside, outside, entry_of, node_of, node_number, allows_less, is_pending, is_after_pause, IsCurrent, IsOnCourse, LawfulTranslations, LawfulEpochs}
 use Rattle.flat_core.proofs.Tests.{by_test, host_kind, tdr_kind, range_of}
 use Rattle.flat_core.proofs.Maps.{walk_passed}
 use Rattle.flat_core.proofs.Spared.{not_configured, counted}

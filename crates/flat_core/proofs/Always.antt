@@ -1,6 +1,6 @@
 -- No stale translation is used, in every state that a run reaches.
-use Rattle.std.proofs.Common.{◌≡◌, ◌≢◌, ◌⊎◌, inl, inr, refl, sym, ◌∙◌, subst, ap, ℕ, zero, suc, ◌+◌, ◌≤◌, List, [], ◌∷◌, ◌++◌, length, drop, Option, Some, None, option_map, Bool, true, false, ◌==◌, ◌&&◌, arith}
-use Rattle.std.proofs.lemmas.Bool.{eq-eqb, eqb-true, eqb-false, ne_eqb, and_parts}
+use Rattle.std.proofs.Common.{◌≡◌, ◌≢◌, ◌⊎◌, inl, inr, refl, sym, ◌∙◌, subst, ap, ℕ, zero, suc, ◌+◌, ◌≤◌, List, [], ◌∷◌, length, drop, Option, Some, None, option_map, Bool, true, false, ◌==◌, arith}
+use Rattle.std.proofs.lemmas.Bool.{eqb-true, eqb-false}
 use Rattle.td_words.specs.declared.names.EntryState.{EntryState}
 use Rattle.td_words.specs.declared.names.EntryState.TheVariants as entry
 use Rattle.td_words.specs.declared.names.Access.{Access}
@@ -12,16 +12,16 @@ use Rattle.td_words.specs.declared.replies.Outcome.{Outcome}
 use Rattle.td_words.specs.declared.replies.Outcome.TheVariants.{Stop, Max}
 use Rattle.td_words.specs.declared.replies.Reply.{Reply}
 use Rattle.td_words.specs.Packing.{Entry}
-use Rattle.flat_core.specs.World.{World, Tds, put}
-use Rattle.flat_core.specs.Processor.{Held, Phase, Trying, Undoing, Answered, Translation, Walk, Guest, Entering, new_guest, Lp}
+use Rattle.flat_core.specs.World.{World, Tds}
+use Rattle.flat_core.specs.Processor.{Held, Phase, Trying, Undoing, Answered, Translation, Walk, Guest, Entering, Lp}
 use Rattle.flat_core.specs.Opening.{Opening, Incoming}
 use Rattle.flat_core.specs.Row.{Item, Row, OperationRow, after_move, Passes, Move, Attempts, Undoes, Refuses, Succeeds, Releases, Rests, next, next_in}
 use Rattle.flat_core.specs.Effects.{tell_words, leave_guest, pass_operation}
-use Rattle.flat_core.specs.Tree.{page_of_gpa, number_at, entry_at, same_state, allows}
+use Rattle.flat_core.specs.Tree.{page_of_gpa, number_at, entry_at, same_state}
 use Rattle.flat_core.specs.Translations.{cache, look_up}
-use Rattle.flat_core.specs.Guest.{Operation, ByRow, operation_of, is_pending_at, accept_page, accept, reach, answered, walk_level, walk_step, walked_on, walked_entry, goes_on, walk_cached, cached_after, translation_of}
+use Rattle.flat_core.specs.Guest.{ByRow, operation_of, is_pending_at, accept_page, accept, reach, answered, walk_level, walk_step, walked_on, walked_entry, goes_on, cached_after, translation_of}
 use Rattle.flat_core.specs.Table.{row_of}
-use Rattle.flat_core.specs.Event.{State, Event, OfCall, OfOperation, Walks, Reaches, Leaves, start, next_event, calls_of, event, after_event, world_after, call_world, operation_world, lp_after, call_lp, succeeded, settled, settle, settled_guest, settle_operation, operation_guest, operation_busy, nothing_more, walk_translations, is_granted}
+use Rattle.flat_core.specs.Event.{State, Event, OfCall, OfOperation, Walks, Reaches, Leaves, start, next_event, calls_of, after_event, world_after, call_world, operation_world, lp_after, call_lp, succeeded, settled, settle, settled_guest, settle_operation, operation_guest, operation_busy, nothing_more, walk_translations, is_granted}
 use Rattle.flat_core.specs.Laws.{reached, with_bundles, HoldsInRuns}
 use Rattle.flat_core.specs.Inside.{AreTimely, StandsAt, LineAt}
 use Rattle.td_words.specs.declared.names.PageKind.TheVariants as kind
@@ -33,7 +33,7 @@ use Rattle.flat_core.proofs.Tests.{by_test}
 use Rattle.flat_core.proofs.Cached.{found_in}
 use Rattle.flat_core.proofs.Induction.{in_runs}
 use Rattle.flat_core.proofs.Operations.{operation_row, accepted}
-use Rattle.flat_core.proofs.Due.{Due, IsInside, calls, frees, leaves, stops, fills, operates, walks, reaches, undoes, gives_back, due_event_is}
+use Rattle.flat_core.proofs.Due.{Due, calls, frees, leaves, stops, fills, operates, walks, reaches, undoes, gives_back, due_event_is}
 use Rattle.flat_core.proofs.Enter.{enters_or_none, all_pass}
 use Rattle.flat_core.proofs.Ends.{timeliness_kept}
 use Rattle.flat_core.proofs.Accesses.{row-access, quiet-act, accept-access, frame, current-same, walking-same}

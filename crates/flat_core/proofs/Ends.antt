@@ -48,7 +48,8 @@ use Rattle.flat_core.specs.Inside.{WalkFits, OperationAt, DueAt, PhaseAt, GuestA
 use Rattle.flat_core.specs.Bounds.{call_left, private_used, operation_used, due_used, phase_used, guest_left, line_left, left_of, events_left, TimelinessIsKept, TimelyEventsRunOut, EventsRunOut, RunsEnd, IsBounded, EntriesAreBounded}
 use Rattle.flat_core.proofs.Induction.{event_keeps, in_runs, play_append}
 use Rattle.flat_core.proofs.Tests.{by_test, put_here, tdr_kind, some_same}
-use Rattle.flat_core.proofs.Kept.{events_keep, lawful_kept}
+use Rattle.flat_core.proofs.Keeps.{first-lawful}
+use Rattle.flat_core.proofs.Kept.{events_keep, timely_runs}
 use Rattle.flat_core.proofs.Spared.{row_spares}
 use Rattle.flat_core.proofs.Operations.{each_operation, operation_row, accepted}
 use Rattle.flat_core.proofs.Cached.{cached_found, allowed_cached}
@@ -719,7 +720,7 @@ module _ (o : Opening) (s : State) (p : ℕ) (e : Event) (is : next_event o s p 
 
   pub timely_step : AreTimely o (after_event p s (Some e))
   timely_step = record {
-    lawful = subst (λ (t : State). Lawful o.machine t.world) (ap (λ (x : Option Event). after_event p s x) is) (events_keep o s p h.lawful);
+    lawful = subst (λ (t : State). Lawful o.machine t.world) (ap (λ (x : Option Event). after_event p s x) is) (events_keep o s p h.lawful (timely_runs o s.world p (calls_of o.calls p) (s.lps p) (h.each p)));
     each = λ q. by_test (q == p)
         (λ y. let here : p ≡ q = sym (eqb-true q p y) in rw y (subst (λ (x : ℕ). IsInTime o (world_after e s.world) x (lp_after s.world (is_granted s e) e (s.lps p))) here (lowers.timely)))
         (λ n. rw n (stands_still o s.world (world_after e s.world) q (s.lps q) (λ u x occ. leave q u x (eqb-false q p n) occ) (lines_left o q (s.lps q)) (h.each q)));
@@ -742,7 +743,7 @@ timely_rebundled o bundles s h = record { lawful = h.lawful; each = λ q. stands
 
 pub timeliness_kept : TimelinessIsKept
 timeliness_kept = record {
-  start = λ o ws. record { lawful = lawful_kept.start o ws; each = λ q. fresh_stands o (start o ws).world q (calls_of o.calls q) idle refl refl };
+  start = λ o ws. record { lawful = first-lawful o.machine ws; each = λ q. fresh_stands o (start o ws).world q (calls_of o.calls q) idle refl refl };
   event = λ o bundles s p h.
       timely_rebundled (with_bundles o bundles) o.bundles (event (with_bundles o bundles) s p)
       (event_keeps (with_bundles o bundles) (AreTimely (with_bundles o bundles)) (timely_step (with_bundles o bundles)) s p (timely_rebundled o bundles s h));

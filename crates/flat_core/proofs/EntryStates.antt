@@ -1,5 +1,5 @@
 -- An entry of level 0 gets another state for the page that it names, and neither is exported: what every world keeps.
-use Rattle.std.proofs.Common.{◌≡◌, refl, sym, ◌∙◌, subst, ap, ℕ, suc, ◌*◌, ◌^◌, ◌<◌, ◌≤◌, Bool, true, false, ◌==◌, ◌&&◌}
+use Rattle.std.proofs.Common.{◌≡◌, refl, sym, ◌∙◌, subst, ap, ℕ, suc, Bool, true, false, ◌==◌, ◌&&◌}
 use Rattle.std.specs.Prelude.{nat_lt}
 use Rattle.std.proofs.lemmas.Bool.{eqb-true, and_parts}
 use Rattle.td_words.specs.declared.names.PageKind.TheVariants as kind
@@ -9,10 +9,9 @@ use Rattle.td_words.specs.declared.machines.Machine.{Machine}
 use Rattle.td_words.specs.Packing.{Entry, is_lawful_entry, is_exported}
 use Rattle.flat_core.specs.World.{World, Tds}
 use Rattle.flat_core.specs.Conditions.{same_kind}
-use Rattle.flat_core.specs.Arguments.{level_size}
 use Rattle.flat_core.specs.Effects.{set_entry}
 use Rattle.flat_core.specs.Lawful.{IsAlive, IsNodeOf, LawfulTree, LawfulCounts, Lawful, is_free, is_node}
-use Rattle.flat_core.proofs.Tests.{by_test, same_self}
+use Rattle.flat_core.proofs.Tests.{by_test}
 use Rattle.flat_core.proofs.Exports.{IsOfExported, counts_kept}
 use Rattle.flat_core.proofs.Parts.{new_kept}
 

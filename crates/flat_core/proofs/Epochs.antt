@@ -1,32 +1,28 @@
 -- What the act of each row, and a count step, keep of epochs and associations.
-use Rattle.std.proofs.Common.{lit≤, ◌≡◌, ◌≢◌, ◌⊎◌, inl, inr, refl, sym, ◌∙◌, subst, ap, ℕ, zero, suc, ◌+◌, ◌≤◌, List, [], ◌∷◌, ◌++◌, length, Option, Some, None, option_map, Bool, true, false, not, ◌==◌, ◌&&◌, if◌then◌else◌, arith}
+use Rattle.std.proofs.Common.{◌≡◌, ◌⊎◌, inl, inr, refl, sym, ◌∙◌, subst, ap, ℕ, suc, ◌≤◌, [], ◌∷◌, Option, Some, None, true, false, ◌==◌, arith}
 use Rattle.std.specs.List.{list_any}
-use Rattle.std.proofs.lemmas.Bool.{eq-eqb, eqb-true, eqb-false, ne_eqb, and_parts}
+use Rattle.std.proofs.lemmas.Bool.{eqb-true, and_parts}
 use Rattle.td_words.specs.declared.names.PageKind.{PageKind}
 use Rattle.td_words.specs.declared.names.PageKind.TheVariants as kind
 use Rattle.td_words.specs.declared.names.LifeState.{LifeState}
 use Rattle.td_words.specs.declared.names.LifeState.TheVariants as life
 use Rattle.td_words.specs.declared.names.OpState.{OpState}
 use Rattle.td_words.specs.declared.names.OpState.TheVariants as op
-use Rattle.td_words.specs.declared.names.EntryState.TheVariants as entry
 use Rattle.td_words.specs.declared.calls.Call.{Call}
 use Rattle.td_words.specs.declared.calls.Call.TheVariants as call
 use Rattle.td_words.specs.NameNumber.{life_number, op_number}
-use Rattle.flat_core.specs.World.{World, Pages, Tds, Vps, put}
+use Rattle.flat_core.specs.World.{World, Pages}
 use Rattle.flat_core.specs.Opening.{Opening}
 use Rattle.flat_core.specs.Row.{Passes}
-use Rattle.flat_core.specs.Conditions.{is_host, is_host_in, host_page, page_exclusive, associated_in, same_kind, running_ops}
+use Rattle.flat_core.specs.Conditions.{associated_in, same_kind, running_ops}
 use Rattle.flat_core.specs.Effects.{take_node, leave_guest}
-use Rattle.flat_core.specs.KeyRows.{reclaim_conditions}
-use Rattle.flat_core.specs.Tree.{state_in, number_at}
+use Rattle.flat_core.specs.Tree.{number_at}
 use Rattle.flat_core.specs.Table.{row_of}
 use Rattle.flat_core.specs.Alike.{is_being_built}
 use Rattle.flat_core.specs.Lawful.{Lawful, IsAlive, IsPageOf}
 use Rattle.flat_core.specs.Access.{LawfulEpochs}
-use Rattle.flat_core.proofs.Tests.{by_test, host_kind, tdr_kind, range_of}
-use Rattle.flat_core.proofs.Maps.{walk_passed}
+use Rattle.flat_core.proofs.Tests.{by_test, host_kind, tdr_kind}
 use Rattle.flat_core.proofs.Spared.{not_configured, counted}
-use Rattle.flat_core.proofs.Accesses.{is_new, is_begun}
 
 -- a virtual processor as it was, or one that is new
 data VpCase (w w' : World) (t v : ℕ) : Type 0 where

@@ -1,9 +1,9 @@
 -- What a processor's own events keep of what its cached translations and its walk say: VP.ENTER, a walk's load, a change of
 -- its guest, and a count step.
-use Rattle.std.proofs.Common.{lit≤, ◌≡◌, ◌≢◌, ◌⊎◌, inl, inr, refl, sym, ◌∙◌, subst, ap, ℕ, zero, suc, ◌+◌, ◌-◌, ◌*◌, ◌/◌, ◌^◌, ◌≤◌, List, [], ◌∷◌, ◌++◌, length, filter, drop, Option, Some, None, option_map, Bool, true, false, not, ◌==◌, ◌&&◌, if◌then◌else◌, arith}
+use Rattle.std.proofs.Common.{◌≡◌, ◌⊎◌, inl, inr, refl, sym, ◌∙◌, subst, ap, ℕ, zero, suc, ◌/◌, ◌^◌, ◌≤◌, List, [], ◌∷◌, Option, Some, None, true, false, not, ◌==◌, arith}
 use Rattle.std.specs.List.{list_any}
 use Rattle.std.specs.Prelude.{Contains}
-use Rattle.std.proofs.lemmas.Bool.{eq-eqb, eqb-true, eqb-false, ne_eqb, and_parts, not-true}
+use Rattle.std.proofs.lemmas.Bool.{eq-eqb, eqb-true, and_parts}
 use Rattle.td_words.specs.declared.names.PageKind.{PageKind}
 use Rattle.td_words.specs.declared.names.PageKind.TheVariants as kind
 use Rattle.td_words.specs.declared.names.LifeState.{LifeState}
@@ -14,27 +14,26 @@ use Rattle.td_words.specs.declared.names.EntryState.{EntryState}
 use Rattle.td_words.specs.declared.names.EntryState.TheVariants as entry
 use Rattle.td_words.specs.declared.names.Access.{Access}
 use Rattle.td_words.specs.declared.names.Access.TheVariants.{Read, Write}
-use Rattle.td_words.specs.declared.calls.Call.{Call}
 use Rattle.td_words.specs.declared.calls.Call.TheVariants as call
 use Rattle.td_words.specs.NameNumber.{life_number, op_number}
 use Rattle.td_words.specs.Packing.{Entry}
-use Rattle.flat_core.specs.World.{World, Pages, Tds, Vps, put}
+use Rattle.flat_core.specs.World.{World}
 use Rattle.flat_core.specs.Processor.{Translation, Walk, Guest, new_guest}
 use Rattle.flat_core.specs.Opening.{Opening}
 use Rattle.flat_core.specs.Row.{Passes}
 use Rattle.flat_core.specs.Conditions.{is_elsewhere, same_kind, running_ops}
 use Rattle.flat_core.specs.Effects.{leave_guest}
 use Rattle.flat_core.specs.Tree.{page_of_gpa, number_at, entry_at, same_state, allows, may_read, may_write}
-use Rattle.flat_core.specs.Translations.{is_of_page, cache, drop_td, is_stale, cache_at_entry}
-use Rattle.flat_core.specs.Guest.{walk_level, walk_step, walked_on, walked_entry, goes_on, walk_cached, cached_after, translation_of}
+use Rattle.flat_core.specs.Translations.{cache, is_stale, cache_at_entry}
+use Rattle.flat_core.specs.Guest.{walk_level, walked_entry, translation_of}
 use Rattle.flat_core.specs.Table.{row_of}
 use Rattle.flat_core.specs.Alike.{is_being_built}
-use Rattle.flat_core.specs.Lawful.{Lawful, IsAlive, IsPageOf, is_free}
+use Rattle.flat_core.specs.Lawful.{Lawful, IsPageOf, is_free}
 use Rattle.flat_core.specs.Guests.{IsOccupied}
-use Rattle.flat_core.specs.Access.{IsHere, IsOutside, IsUsable, inside, outside, entry_of, node_of, node_number, allows_less, is_pending, IsCurrent, IsOnCourse, LawfulTranslations, LawfulEpochs}
-use Rattle.flat_core.proofs.Tests.{by_test, host_kind, tdr_kind}
+use Rattle.flat_core.specs.Access.{IsHere, IsUsable, inside, outside, node_number, allows_less, is_pending, IsCurrent, IsOnCourse, LawfulTranslations, LawfulEpochs}
+use Rattle.flat_core.proofs.Tests.{by_test, tdr_kind}
 use Rattle.flat_core.proofs.Cached.{dropped, one_more}
-use Rattle.flat_core.proofs.Accesses.{IsBuilt, here-built, occupied-here, current-same, walking-same}
+use Rattle.flat_core.proofs.Accesses.{occupied-here, current-same}
 
 -- what entries allow
 

@@ -1,5 +1,5 @@
 -- What every schedule keeps.
-use Rattle.std.proofs.Common.{◌≡◌, ◌≢◌, refl, sym, ◌∙◌, ap, ℕ, ◌+◌, List, [], ◌∷◌, length, drop, Option, Some, None, option_map, Bool, true, false, subst, ◌==◌}
+use Rattle.std.proofs.Common.{◌≡◌, ◌≢◌, refl, sym, ◌∙◌, ap, ℕ, ◌+◌, List, [], ◌∷◌, length, drop, Option, Some, None, option_map, true, false, subst, ◌==◌}
 use Rattle.std.specs.List.{list_any}
 use Rattle.std.proofs.lemmas.Bool.{eqb-true, ne_eqb}
 use Rattle.td_words.specs.declared.machines.Machine.{Machine}

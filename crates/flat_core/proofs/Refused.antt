@@ -1,24 +1,28 @@
 -- A call that is refused changes nothing.
-use Rattle.std.proofs.Common.{◌≡◌, refl, sym, ◌∙◌, subst, ap, ℕ, ◌≤◌, List, [], ◌∷◌, ◌++◌, length, Option, Some, None, IfSome, Bool, true, false, ◌==◌, arith, length-append}
+use Rattle.std.proofs.Common.{◌≡◌, refl, sym, ◌∙◌, subst, ap, ℕ, ◌≤◌, List, [], ◌∷◌, ◌++◌, length, Option, Some, None, option_map, IfSome, Bool, true, false, ◌==◌, arith, length-append}
 use Rattle.std.proofs.lemmas.Bool.{eqb-true, eqb-false, eq-eqb}
 use Rattle.td_words.specs.declared.names.Mode.{Mode}
 use Rattle.td_words.specs.declared.names.Mode.TheVariants.{Shared, Exclusive}
 use Rattle.td_words.specs.declared.calls.Call.{Call}
 use Rattle.td_words.specs.declared.refusals.Status.{Status}
 use Rattle.td_words.specs.declared.refusals.Status.TheVariants.{OperandBusy}
+use Rattle.td_words.specs.declared.replies.Outcome.{Outcome}
+use Rattle.td_words.specs.declared.replies.Outcome.TheVariants.{Stop, Max}
 use Rattle.td_words.specs.declared.replies.Reply.{Reply}
 use Rattle.td_words.specs.declared.replies.Reply.TheVariants.{Done, Refused, Exited}
 use Rattle.flat_core.specs.World.{World}
-use Rattle.flat_core.specs.Processor.{LockId, name_of, Held, Phase, Trying, Undoing, Answered, Progress, nothing_yet, Guest, Entering, Lp}
+use Rattle.flat_core.specs.Processor.{LockId, name_of, Held, Phase, Trying, Undoing, Answered, Progress, nothing_yet, Guest, Entering, new_guest, Lp}
 use Rattle.flat_core.specs.Opening.{Opening}
-use Rattle.flat_core.specs.Row.{Item, Row, Move, Attempts, Undoes, Refuses, Succeeds, Releases, Rests, next, next_in}
+use Rattle.flat_core.specs.Row.{Item, Row, OperationRow, Move, Attempts, Undoes, Refuses, Succeeds, Releases, Rests, next, next_in, but_newest}
 use Rattle.flat_core.specs.Table.{row_of}
-use Rattle.flat_core.specs.Event.{State, Event, OfCall, OfOperation, Walks, Reaches, Leaves, next_event, event_for, line_event, lines_left, event, after_event, lp_after, call_lp, succeeded, settled, settle, is_granted}
+use Rattle.flat_core.specs.Guest.{walk_step, answered as with_answer}
+use Rattle.flat_core.specs.Event.{State, Event, OfCall, OfOperation, Walks, Reaches, Leaves, next_event, event_for, line_event, lines_left, event, after_event, lp_after, call_lp, succeeded, settled, settle, is_granted, operation_guest, settled_guest, nothing_more}
 use Rattle.flat_core.specs.Run.{play}
 use Rattle.flat_core.specs.Laws.{IsQuiet, OwnEventsAreQuiet, RefusedCallsStay}
 use Rattle.flat_core.proofs.Tests.{by_test}
 use Rattle.flat_core.proofs.Kept.{others_stay}
-use Rattle.flat_core.proofs.Ends.{next_is, row_enters}
+use Rattle.flat_core.proofs.Due.{Due, IsInside, calls, frees, leaves, stops, fills, operates, walks, reaches, undoes, gives_back, due_event_is}
+use Rattle.flat_core.proofs.Ends.{next_is}
 
 -- with a reply more than before, a call is over
 settle_ends : (phase : Phase Reply) (hs : List Held) (lp : Lp) (base : List Reply) (r : Reply) → lp.replies ≡ base → (settle phase hs lp).replies ≡ base ++ r ∷ [] → (settle phase hs lp).call ≡ nothing_yet
@@ -93,9 +97,10 @@ MayRefuse Trying = Unit {0}
 MayRefuse (Undoing l) = Unit {0}
 MayRefuse (Answered r) = IsRefusal r
 
-pub record HasAnswered (r : Reply) (lp : Lp) : Type 0 where
-  pub call : lp.call.phase ≡ Answered r
-  pub guest : lp.guest ≡ None
+-- a call that is answered otherwise, or whose guest is in: only its exit is left to be answered
+pub data HasActed (lp : Lp) : Type 0 where
+  has_answered : (r : Reply) → (IsRefusal r → ⊥) → lp.call.phase ≡ Answered r → lp.guest ≡ None → HasActed lp
+  has_entered : (g : Guest) → lp.guest ≡ Some g → lp.call.phase ≡ Trying → HasActed lp
 
 pub record IsUnacted (lp : Lp) : Type 0 where
   pub call : MayRefuse lp.call.phase
@@ -105,12 +110,12 @@ pub record IsUnacted (lp : Lp) : Type 0 where
 pub data Came (e : Event) (base : List Reply) (lp : Lp) : Type 0 where
   goes_on : IsQuiet e → lp.replies ≡ base → IsUnacted lp → Came e base lp
   is_refused : IsQuiet e → (s : Status) → lp.replies ≡ base ++ Refused s ∷ [] → Came e base lp
-  has_acted : (r : Reply) → (IsRefusal r → ⊥) → lp.replies ≡ base → HasAnswered r lp → Came e base lp
+  has_acted : lp.replies ≡ base → HasActed lp → Came e base lp
   is_done : (r : Reply) → (IsRefusal r → ⊥) → lp.replies ≡ base ++ r ∷ [] → Came e base lp
 
 acting : (e : Event) (lp : Lp) (r : Reply) (hs : List Held) → (IsRefusal r → ⊥) → lp.guest ≡ None → Came e lp.replies (settle (Answered r) hs (record lp { call = record { phase = Answered r; held = hs } }))
 acting e lp r [] n g = is_done r n refl
-acting e lp r (h ∷ hs) n g = has_acted r n refl (record { call = refl; guest = g })
+acting e lp r (h ∷ hs) n g = has_acted refl (has_answered r n refl g)
 
 refusing : (e : Event) (lp : Lp) (status : Status) (hs : List Held) → IsQuiet e → lp.guest ≡ None → Came e lp.replies (settle (Answered (Refused status)) hs (record lp { call = record { phase = Answered (Refused status); held = hs } }))
 refusing e lp status [] q g = is_refused q status refl
@@ -121,7 +126,7 @@ answering e lp (Refused status) hs q g = refusing e lp status hs q g
 answering e lp (Done v) hs q g = acting e lp (Done v) hs (λ x. x) g
 answering e lp (Exited out) hs q g = acting e lp (Exited out) hs (λ x. x) g
 
-module _ (w : World) (row : Row) (lp : Lp) (g : lp.guest ≡ None) (none : row.enters ≡ None) where
+module _ (w : World) (row : Row) (lp : Lp) (g : lp.guest ≡ None) (trying : lp.call.phase ≡ Trying) where
   abbrev made : Bool → Move Reply → Lp
   made b move = settled (call_lp w b row move lp)
 
@@ -131,9 +136,13 @@ module _ (w : World) (row : Row) (lp : Lp) (g : lp.guest ≡ None) (none : row.e
   tries false l Exclusive = refusing (OfCall row (Attempts l Exclusive)) lp (OperandBusy (name_of l)) lp.call.held tt g
 
   succeeds : (b : Bool) → Came (OfCall row Succeeds) lp.replies (made b Succeeds)
-  succeeds b =
-      let P : Option Entering → Type 0 = λ x. Came (OfCall row Succeeds) lp.replies (settled (succeeded w row x lp)) in
-      subst P (sym none) (acting (OfCall row Succeeds) (record lp { cached = row.cached w lp.cached }) (Done (row.value w)) lp.call.held (λ x. x) g)
+  succeeds b = by row.enters
+    where
+      by : (x : Option Entering) → Came (OfCall row Succeeds) lp.replies (settled (succeeded w row x lp))
+      by None = acting (OfCall row Succeeds) (record lp { cached = row.cached w lp.cached }) (Done (row.value w)) lp.call.held (λ x. x) g
+      by (Some y) =
+          let lp1 : Lp = record lp { guest = Some (new_guest y); cached = row.cached w lp.cached } in
+          subst (λ (x : Phase Reply). Came (OfCall row Succeeds) lp.replies (settle x lp.call.held lp1)) (sym trying) (has_acted refl (has_entered (new_guest y) refl trying))
 
   from_items : (b : Move Reply → Bool) (items : List (Item Reply)) (k : ℕ) → Came (OfCall row (next items k)) lp.replies (made (b (next items k)) (next items k))
   from_items b items k =
@@ -141,25 +150,34 @@ module _ (w : World) (row : Row) (lp : Lp) (g : lp.guest ≡ None) (none : row.e
       (λ r. answering (OfCall row (Refuses r)) lp r lp.call.held tt g) (succeeds (b Succeeds)) (λ l m h. tries (b (Attempts l m)) l m)
 
 -- an unacted call's event
-from_phase : (w : World) (row : Row) (lp : Lp) (phase : Phase Reply) (hs : List Held) (b : Move Reply → Bool) → lp.guest ≡ None → row.enters ≡ None → MayRefuse phase
+from_phase : (w : World) (row : Row) (lp : Lp) (phase : Phase Reply) (hs : List Held) (b : Move Reply → Bool) → lp.guest ≡ None → MayRefuse phase
     → let move = next_in (row.items w) phase hs in Came (OfCall row move) lp.replies (settled (call_lp w (b move) row move (record lp { call = record { phase = phase; held = hs } })))
-from_phase w row lp Trying hs b g none may = from_items w row (record lp { call = record { phase = Trying; held = hs } }) g none b (row.items w) (length hs)
-from_phase w row lp (Undoing l) hs b g none may = refusing (OfCall row (Undoes l)) (record lp { call = record { phase = Undoing l; held = hs } }) (OperandBusy (name_of l)) hs tt g
-from_phase w row lp (Answered (Refused status)) [] b g none may = is_refused tt status refl
-from_phase w row lp (Answered (Refused status)) (h ∷ hs) b g none may = refusing (OfCall row (Releases h)) (record lp { call = record { phase = Answered (Refused status); held = h ∷ hs } }) status hs tt g
-from_phase w row lp (Answered (Done v)) hs b g none may = absurd may
-from_phase w row lp (Answered (Exited out)) hs b g none may = absurd may
+from_phase w row lp Trying hs b g may = from_items w row (record lp { call = record { phase = Trying; held = hs } }) g refl b (row.items w) (length hs)
+from_phase w row lp (Undoing l) hs b g may = refusing (OfCall row (Undoes l)) (record lp { call = record { phase = Undoing l; held = hs } }) (OperandBusy (name_of l)) hs tt g
+from_phase w row lp (Answered (Refused status)) [] b g may = is_refused tt status refl
+from_phase w row lp (Answered (Refused status)) (h ∷ hs) b g may = refusing (OfCall row (Releases h)) (record lp { call = record { phase = Answered (Refused status); held = h ∷ hs } }) status hs tt g
+from_phase w row lp (Answered (Done v)) hs b g may = absurd may
+from_phase w row lp (Answered (Exited out)) hs b g may = absurd may
 
--- an answered call's event
-pub data Stays (r : Reply) (base : List Reply) (lp : Lp) : Type 0 where
-  still : lp.replies ≡ base → HasAnswered r lp → Stays r base lp
-  over : lp.replies ≡ base ++ r ∷ [] → Stays r base lp
+-- the event of a call that has acted
+pub data Stays (base : List Reply) (lp : Lp) : Type 0 where
+  still : lp.replies ≡ base → HasActed lp → Stays base lp
+  over : (r : Reply) → (IsRefusal r → ⊥) → lp.replies ≡ base ++ r ∷ [] → Stays base lp
 
-answered_stays : (w : World) (row : Row) (lp : Lp) (r : Reply) (hs : List Held) (b : Move Reply → Bool) → lp.guest ≡ None
-    → let move = next_in (row.items w) (Answered r) hs in Stays r lp.replies (settled (call_lp w (b move) row move (record lp { call = record { phase = Answered r; held = hs } })))
-answered_stays w row lp r [] b g = over refl
-answered_stays w row lp r (h ∷ []) b g = over refl
-answered_stays w row lp r (h ∷ x ∷ hs) b g = still refl (record { call = refl; guest = g })
+answered_stays : (w : World) (row : Row) (lp : Lp) (r : Reply) (hs : List Held) (b : Move Reply → Bool) → (IsRefusal r → ⊥) → lp.guest ≡ None
+    → let move = next_in (row.items w) (Answered r) hs in Stays lp.replies (settled (call_lp w (b move) row move (record lp { call = record { phase = Answered r; held = hs } })))
+answered_stays w row lp r [] b n g = over r n refl
+answered_stays w row lp r (h ∷ []) b n g = over r n refl
+answered_stays w row lp r (h ∷ x ∷ hs) b n g = still refl (has_answered r n refl g)
+
+-- a guest's event: it stays in, or is left
+stays_in : (lp lp' : Lp) (g : Guest) → lp.call.phase ≡ Trying → lp'.replies ≡ lp.replies → lp'.call ≡ lp.call → lp'.guest ≡ Some g → Stays lp.replies lp'
+stays_in lp lp' g t rs cl gs = still rs (has_entered g gs (ap (λ (x : Progress Reply). x.phase) cl ∙ t))
+
+frees_stays : (w : World) (b : Bool) (row : Row) (h : Held) (lp : Lp) (g : Guest) → lp.guest ≡ Some g → lp.call.phase ≡ Trying → Stays lp.replies (settled (call_lp w b row (Releases h) lp))
+frees_stays w b row h lp g guest t =
+    let lp1 : Lp = record lp { call = record { phase = lp.call.phase; held = but_newest lp.call.held } } in
+    subst (λ (x : Phase Reply). Stays lp.replies (settle x (but_newest lp.call.held) lp1)) (sym t) (still refl (has_entered g guest t))
 
 -- the processor's own event, if it has one
 pub data OwnCame (x : Option Event) (base : List Reply) (lp : Lp) : Type 0 where
@@ -172,7 +190,7 @@ module _ (o : Opening) (s : State) (p : ℕ) where
 
   by_guest : (c : Call) (g : Option Guest) → g ≡ None → IsUnacted lp
       → let e = line_event o s.world lp (row_of o p c) g in Came e lp.replies (lp_after s.world (is_granted s e) e lp)
-  by_guest c None e u = from_phase s.world (row_of o p c) lp lp.call.phase lp.call.held (λ m. is_granted s (OfCall (row_of o p c) m)) u.guest (row_enters o p c) u.call
+  by_guest c None e u = from_phase s.world (row_of o p c) lp lp.call.phase lp.call.held (λ m. is_granted s (OfCall (row_of o p c) m)) u.guest u.call
   by_guest c (Some x) e u = cc
 
   by_lines : (cs : List Call) → IsUnacted lp → OwnCame (event_for o s.world p lp cs) lp.replies ((after_event p s (event_for o s.world p lp cs)).lps p)
@@ -184,21 +202,49 @@ module _ (o : Opening) (s : State) (p : ℕ) where
   own_event : IsUnacted lp → OwnCame (next_event o s p) lp.replies ((event o s p).lps p)
   own_event u = by_lines (lines_left o p lp) u
 
-  stay_guest : (c : Call) (g : Option Guest) (r : Reply) → g ≡ None → HasAnswered r lp
-      → let e = line_event o s.world lp (row_of o p c) g in Stays r lp.replies (lp_after s.world (is_granted s e) e lp)
-  stay_guest c None r e u =
-      let P : Phase Reply → Type 0 = λ phase. let mv = next_in ((row_of o p c).items s.world) phase lp.call.held in Stays r lp.replies (settled (call_lp s.world (is_granted s (OfCall (row_of o p c) mv)) (row_of o p c) mv (record lp { call = record { phase = phase; held = lp.call.held } }))) in
-      subst P (sym u.call) (answered_stays s.world (row_of o p c) lp r lp.call.held (λ m. is_granted s (OfCall (row_of o p c) m)) u.guest)
-  stay_guest c (Some x) r e u = cc
+  -- of a call that has acted
+  module _ (b : Event → Bool) where
+    of_call : (c : Call) → lp.guest ≡ None → HasActed lp → let mv = next_in ((row_of o p c).items s.world) lp.call.phase lp.call.held in Stays lp.replies (lp_after s.world (b (OfCall (row_of o p c) mv)) (OfCall (row_of o p c) mv) lp)
+    of_call c g (has_answered r n t g0) =
+        let P : Phase Reply → Type 0 = λ phase. let mv = next_in ((row_of o p c).items s.world) phase lp.call.held in Stays lp.replies (settled (call_lp s.world (b (OfCall (row_of o p c) mv)) (row_of o p c) mv (record lp { call = record { phase = phase; held = lp.call.held } }))) in
+        subst P (sym t) (answered_stays s.world (row_of o p c) lp r lp.call.held (λ m. b (OfCall (row_of o p c) m)) n g)
+    of_call c g (has_entered x is t) = absurd (let no : None ≡ Some x = sym g ∙ is in cc)
 
-  stay_lines : (cs : List Call) (r : Reply) → HasAnswered r lp → Stays r lp.replies ((after_event p s (event_for o s.world p lp cs)).lps p)
-  stay_lines [] r u = still refl u
-  stay_lines (c ∷ cs) r u =
-      let e : Event = line_event o s.world lp (row_of o p c) lp.guest in
-      subst (λ (z : Lp). Stays r lp.replies z) (sym (after_here p s e)) (stay_guest c lp.guest r u.guest u)
+    -- its call is on its way
+    entered_trying : (g : Guest) → lp.guest ≡ Some g → HasActed lp → lp.call.phase ≡ Trying
+    entered_trying g is (has_answered r n t none) = absurd (let no : None ≡ Some g = sym none ∙ is in cc)
+    entered_trying g is (has_entered x same t) = t
 
-  own_stays : (r : Reply) → HasAnswered r lp → Stays r lp.replies ((event o s p).lps p)
-  own_stays r u = stay_lines (lines_left o p lp) r u
+    of_operation : (row : OperationRow) (mv : Move (Option Outcome)) (g : Guest) → lp.guest ≡ Some g → HasActed lp → Stays lp.replies (lp_after s.world (b (OfOperation row mv)) (OfOperation row mv) lp)
+    of_operation row mv g is u =
+        let e : Event = OfOperation row mv in
+        stays_in lp (lp_after s.world (b e) e lp) (operation_guest s.world (b e) row mv g) (entered_trying g is u) refl refl (ap (λ (x : Option Guest). option_map (operation_guest s.world (b e) row mv) x) is)
+
+    of_leave : (g : Guest) (out : Outcome) → Stays lp.replies (lp_after s.world (b (Leaves g.vp out)) (Leaves g.vp out) lp)
+    of_leave g out = still refl (has_answered (Exited out) (λ x. x) refl refl)
+
+    of_due : (e : Event) → Due o s.world p lp e → HasActed lp → Stays lp.replies (lp_after s.world (b e) e lp)
+    of_due e (calls c cs line g) u = of_call c g u
+    of_due e (frees c cs g h hs line guest held epoch) u = frees_stays s.world (b (OfCall (row_of o p c) (Releases h))) (row_of o p c) h lp g guest (entered_trying g guest u)
+    of_due e (leaves c cs g out i l) u = of_leave g out
+    of_due e (stops c cs g i l t d) u = of_leave g Stop
+    of_due e (fills c cs g op i l t d m) u = of_leave g Max
+    of_due e (operates c cs g op row i way is) u = of_operation row (next (row.items s.world) (length g.operation.held)) g i.guest u
+    of_due e (walks c cs g op access r gpa i way is lost) u =
+        stays_in lp (lp_after s.world (b (Walks access gpa)) (Walks access gpa) lp) (settled_guest (walk_step s.world g access gpa)) (entered_trying g i.guest u) refl refl
+        (ap (λ (x : Option Guest). option_map (λ y. settled_guest (walk_step s.world y access gpa)) x) i.guest)
+    of_due e (reaches c cs g op access r gpa page i way is found) u =
+        let x : Event = Reaches g.tdr g.vp access r gpa page in
+        stays_in lp (lp_after s.world (b x) x lp) (settled_guest (with_answer None g)) (entered_trying g i.guest u) refl refl (ap (λ (y : Option Guest). option_map (λ z. settled_guest (with_answer None z)) y) i.guest)
+    of_due e (undoes c cs g l i stays h) u = of_operation nothing_more (Undoes l) g i.guest u
+    of_due e (gives_back c cs g out i stays h) u = of_operation nothing_more (next_in [] (Answered out) g.operation.held) g i.guest u
+
+  own_stays : HasActed lp → Stays lp.replies ((event o s p).lps p)
+  own_stays u = by (next_event o s p) refl
+    where
+      by : (x : Option Event) → next_event o s p ≡ x → Stays lp.replies ((after_event p s x).lps p)
+      by None is = still refl u
+      by (Some e) is = subst (λ (z : Lp). Stays lp.replies z) (sym (after_here p s e)) (of_due (is_granted s) e (due_event_is o s p e is) u)
 
 pub same_last : (base : List Reply) (r q : Reply) → base ++ r ∷ [] ≡ base ++ q ∷ [] → r ≡ q
 same_last [] r q h = cc
@@ -233,29 +279,29 @@ module _ (o : Opening) (p : ℕ) (base : List Reply) (status : Status) where
       let stays : (event o s q).lps p ≡ s.lps p = others_stay o s q p (eqb-false p q y) in
       record { so_far = ap (λ (x : Lp). x.replies) stays ∙ h.so_far; then_ = h.then_; last = h.last }
 
-  -- a call that was answered otherwise is never refused
-  abbrev Never : Reply → List ℕ → Type 0
-  Never r qs = (s : State) → Ahead o p base status qs s → HasAnswered r (s.lps p) → ⊥
+  -- a call that has acted is never refused
+  abbrev Never : List ℕ → Type 0
+  Never qs = (s : State) → Ahead o p base status qs s → HasActed (s.lps p) → ⊥
 
-  last_answered : (r : Reply) → (IsRefusal r → ⊥) → (s : State) → (s.lps p).replies ≡ base → ((event o s p).lps p).replies ≡ base ++ Refused status ∷ [] → Stays r (s.lps p).replies ((event o s p).lps p) → ⊥
-  last_answered r n s e last (still k a) = no_more base (Refused status) (sym e ∙ sym k ∙ last)
-  last_answered r n s e last (over k) =
+  last_acted : (s : State) → (s.lps p).replies ≡ base → ((event o s p).lps p).replies ≡ base ++ Refused status ∷ [] → Stays (s.lps p).replies ((event o s p).lps p) → ⊥
+  last_acted s e last (still k a) = no_more base (Refused status) (sym e ∙ sym k ∙ last)
+  last_acted s e last (over r n k) =
       let both : base ++ r ∷ [] ≡ base ++ Refused status ∷ [] = ap (λ (b : List Reply). b ++ r ∷ []) (sym e) ∙ sym k ∙ last in
       n (subst IsRefusal (sym (same_last base r (Refused status) both)) tt)
 
-  own_answered : (r : Reply) (qs : List ℕ) (s : State) → Never r qs → (s.lps p).replies ≡ base
-      → ((play o qs (event o s p)).lps p).replies ≡ base → ((event o (play o qs (event o s p)) p).lps p).replies ≡ base ++ Refused status ∷ [] → Stays r (s.lps p).replies ((event o s p).lps p) → ⊥
-  own_answered r qs s never e same last (still k a) = never (event o s p) (record { so_far = k ∙ e; then_ = same; last = last }) a
-  own_answered r qs s never e same last (over k) = too_long qs s r e same k
+  own_acted : (qs : List ℕ) (s : State) → Never qs → (s.lps p).replies ≡ base
+      → ((play o qs (event o s p)).lps p).replies ≡ base → ((event o (play o qs (event o s p)) p).lps p).replies ≡ base ++ Refused status ∷ [] → Stays (s.lps p).replies ((event o s p).lps p) → ⊥
+  own_acted qs s never e same last (still k a) = never (event o s p) (record { so_far = k ∙ e; then_ = same; last = last }) a
+  own_acted qs s never e same last (over r n k) = too_long qs s r e same k
 
-  answered_otherwise : (r : Reply) → (IsRefusal r → ⊥) → (qs : List ℕ) → Never r qs
-  answered_otherwise r n [] s h u = last_answered r n s h.so_far h.last (own_stays o s p r u)
-  answered_otherwise r n (q ∷ qs) s h u =
-      let never = answered_otherwise r n qs in
+  never_refused : (qs : List ℕ) → Never qs
+  never_refused [] s h u = last_acted s h.so_far h.last (own_stays o s p u)
+  never_refused (q ∷ qs) s h u =
+      let never = never_refused qs in
       by_test (p == q)
-      (λ y. let h' = own_first q qs s (eqb-true p q y) h in own_answered r qs s never h.so_far h'.0 h'.1 (own_stays o s p r u))
+      (λ y. let h' = own_first q qs s (eqb-true p q y) h in own_acted qs s never h.so_far h'.0 h'.1 (own_stays o s p u))
       (λ y. let stays : (event o s q).lps p ≡ s.lps p = others_stay o s q p (eqb-false p q y) in
-      never (event o s q) (other_first q qs s y h) (subst (λ (x : Lp). HasAnswered r x) (sym stays) u))
+      never (event o s q) (other_first q qs s y h) (subst (λ (x : Lp). HasActed x) (sym stays) u))
 
   -- each own event up to a refusal is quiet
   abbrev Quiet : List ℕ → Type 0
@@ -267,7 +313,7 @@ module _ (o : Opening) (p : ℕ) (base : List Reply) (status : Status) where
   last_came : (s : State) (x : Event) → (s.lps p).replies ≡ base → ((event o s p).lps p).replies ≡ base ++ Refused status ∷ [] → next_event o s p ≡ Some x → Came x (s.lps p).replies ((event o s p).lps p) → IfSome (next_event o s p) IsQuiet
   last_came s x e last i (goes_on q k a) = quiet_own s (Some x) i q
   last_came s x e last i (is_refused q st k) = quiet_own s (Some x) i q
-  last_came s x e last i (has_acted r n k a) = absurd (no_more base (Refused status) (sym e ∙ sym k ∙ last))
+  last_came s x e last i (has_acted k a) = absurd (no_more base (Refused status) (sym e ∙ sym k ∙ last))
   last_came s x e last i (is_done r n k) =
       let both : base ++ r ∷ [] ≡ base ++ Refused status ∷ [] = ap (λ (b : List Reply). b ++ r ∷ []) (sym e) ∙ sym k ∙ last in
       absurd (n (subst IsRefusal (sym (same_last base r (Refused status) both)) tt))
@@ -280,7 +326,7 @@ module _ (o : Opening) (p : ℕ) (base : List Reply) (status : Status) where
       → next_event o s p ≡ Some x → Came x (s.lps p).replies ((event o s p).lps p) → OwnEventsAreQuiet o p (p ∷ (qs ++ p ∷ [])) s
   own_came qs s x quiet e same last i (goes_on qu k a) = (λ _. quiet_own s (Some x) i qu, quiet (event o s p) (record { so_far = k ∙ e; then_ = same; last = last }) a)
   own_came qs s x quiet e same last i (is_refused qu st k) = absurd (too_long qs s (Refused st) e same k)
-  own_came qs s x quiet e same last i (has_acted r n k a) = absurd (answered_otherwise r n qs (event o s p) (record { so_far = k ∙ e; then_ = same; last = last }) a)
+  own_came qs s x quiet e same last i (has_acted k a) = absurd (never_refused qs (event o s p) (record { so_far = k ∙ e; then_ = same; last = last }) a)
   own_came qs s x quiet e same last i (is_done r n k) = absurd (too_long qs s r e same k)
 
   own_quiet : (qs : List ℕ) (s : State) → Quiet qs → (s.lps p).replies ≡ base → ((play o qs (event o s p)).lps p).replies ≡ base → ((event o (play o qs (event o s p)) p).lps p).replies ≡ base ++ Refused status ∷ []

@@ -1,5 +1,5 @@
 -- The words that a run tells from a state on: each event puts those that it tells at the end of the world's list.
-use Rattle.std.proofs.Common.{◌≡◌, refl, sym, ◌∙◌, ap, ℕ, List, [], ◌∷◌, ◌++◌, Option, Some, None, append_assoc}
+use Rattle.std.proofs.Common.{◌≡◌, refl, sym, ◌∙◌, ap, ℕ, List, [], ◌∷◌, ◌++◌, Option, Some, None, false, append_assoc}
 use Rattle.std.proofs.lemmas.List.{append-nil}
 use Rattle.td_words.specs.declared.names.Access.{Access}
 use Rattle.td_words.specs.declared.names.Access.TheVariants.{Read, Write}
@@ -8,13 +8,14 @@ use Rattle.td_words.specs.declared.calls.Call.TheVariants as call
 use Rattle.td_words.specs.declared.replies.Outcome.{Outcome}
 use Rattle.td_words.specs.declared.replies.Reply.{Reply}
 use Rattle.flat_core.specs.World.{World}
-use Rattle.flat_core.specs.Processor.{Answered, Lp}
+use Rattle.flat_core.specs.Processor.{Answered, Lp, idle}
 use Rattle.flat_core.specs.Opening.{Opening}
 use Rattle.flat_core.specs.Row.{OperationRow, Move, Attempts, Undoes, Refuses, Succeeds, Releases, Rests, next_in}
 use Rattle.flat_core.specs.Table.{row_of}
 use Rattle.flat_core.specs.Event.{State, Event, OfCall, OfOperation, Reaches, nothing_more, next_event, event, after_event, world_after}
 use Rattle.flat_core.specs.Run.{play, told_in}
 use Rattle.flat_core.specs.TwoWorlds.{words_told}
+use Rattle.flat_core.proofs.Told.{operations_tell_both}
 use Rattle.flat_core.proofs.Operations.{operation_row, accepted}
 use Rattle.flat_core.proofs.Due.{Due, calls, frees, leaves, stops, fills, operates, walks, reaches, undoes, gives_back, due_event_is}
 
@@ -41,12 +42,7 @@ call_grows o p c w (Releases h) = unchanged w
 call_grows o p c w Rests = unchanged w
 
 operation_grows : (w : World) (row : OperationRow) → (row.act w).outgoing.told ≡ w.outgoing.told → (move : Move (Option Outcome)) → Grows w (OfOperation row move)
-operation_grows w row stays (Attempts l m) = unchanged w
-operation_grows w row stays (Undoes l) = unchanged w
-operation_grows w row stays (Refuses r) = unchanged w
-operation_grows w row stays Succeeds = ap (λ (xs : List ℕ). xs ++ row.tells w) stays
-operation_grows w row stays (Releases h) = unchanged w
-operation_grows w row stays Rests = unchanged w
+operation_grows w row stays move = (operations_tell_both w false row move idle stays).0
 
 reach_grows : (w : World) (t v : ℕ) (access : Access) (r gpa page : ℕ) → Grows w (Reaches t v access r gpa page)
 reach_grows w t v Read r gpa page = unchanged w

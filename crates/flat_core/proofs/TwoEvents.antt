@@ -1,10 +1,8 @@
 -- One event of each of two runs that differ in private words alone keeps them alike.
-use Rattle.std.proofs.Common.{◌≡◌, inl, inr, refl, sym, ◌∙◌, subst, ap, ℕ, zero, suc, ◌+◌, List, [], ◌∷◌, ◌++◌, length, drop, Option, Some, None, option_map, Bool, true, false, ◌==◌, ◌&&◌}
+use Rattle.std.proofs.Common.{◌≡◌, refl, sym, ◌∙◌, subst, ap, ℕ, zero, suc, ◌+◌, List, [], ◌∷◌, ◌++◌, length, drop, Option, Some, None, option_map, Bool, true, false, ◌==◌}
 use Rattle.std.specs.Prelude.{nat_le, slice_get}
 use Rattle.std.specs.List.{list_any}
-use Rattle.std.proofs.lemmas.Bool.{eqb-true, and_parts}
 use Rattle.td_words.specs.NameNumber.{op_number}
-use Rattle.td_words.specs.declared.names.PageKind.TheVariants as kind
 use Rattle.td_words.specs.declared.names.OpState.{OpState}
 use Rattle.td_words.specs.declared.names.OpState.TheVariants as op
 use Rattle.td_words.specs.declared.names.Access.{Access}
@@ -15,64 +13,38 @@ use Rattle.td_words.specs.declared.replies.Outcome.{Outcome}
 use Rattle.td_words.specs.declared.replies.Outcome.TheVariants.{Stop, Max}
 use Rattle.td_words.specs.declared.replies.Reply.{Reply}
 use Rattle.flat_core.specs.World.{World, Tds, Vps}
-use Rattle.flat_core.specs.Processor.{Held, Phase, Trying, Undoing, Answered, Translation, Guest, Entering, Note, Lp}
+use Rattle.flat_core.specs.Processor.{Held, Phase, Trying, Undoing, Answered, Guest, Entering, Note, Lp}
 use Rattle.flat_core.specs.Opening.{Opening, Agree}
 use Rattle.flat_core.specs.Conditions.{running_ops}
 use Rattle.flat_core.specs.Row.{Item, Check, Try, Row, OperationRow, Passes, Move, Attempts, Undoes, Refuses, Succeeds, Releases, Rests, next, next_in, after_move}
 use Rattle.flat_core.specs.Table.{row_of}
 use Rattle.flat_core.specs.Tree.{page_of_gpa}
-use Rattle.flat_core.specs.Translations.{look_up, is_of_page, allows_access}
+use Rattle.flat_core.specs.Translations.{look_up}
 use Rattle.flat_core.specs.Guest.{Operation, ByRow, Private}
 use Rattle.flat_core.specs.Event.{State, Event, OfCall, OfOperation, Walks, Leaves, next_event, event_for, line_event, entered_event, epoch_event, guest_event, staying_event, due_event, max_event, operation_event, private_event, operation_due, nothing_more, is_epoch_lock, lines_left, calls_of, event, after_event, world_after, call_world, lp_after, call_lp, succeeded, settle, settled, settled_guest, operation_busy, is_granted}
-use Rattle.flat_core.specs.Lawful.{Lawful, IsAlive, IsPageOf, is_free}
+use Rattle.flat_core.specs.Lawful.{Lawful}
 use Rattle.flat_core.specs.Alike.{Alike, AreBlind, TellAlike, AreBlindActs, AreBlindOperations, is_public, is_being_built}
-use Rattle.flat_core.specs.Guests.{IsOccupied}
-use Rattle.flat_core.specs.Inside.{AreTimely, StandsAt, LineAt}
-use Rattle.flat_core.specs.Access.{AccessHolds, inside, Contains}
+use Rattle.flat_core.specs.AccessLaw.{IsGuarded}
 use Rattle.flat_core.specs.TwoWorlds.{AreAlikeStates, words_told, EventsAreBlind}
 use Rattle.flat_core.proofs.Tests.{by_test}
 use Rattle.flat_core.proofs.Blind.{row-blind}
 use Rattle.flat_core.proofs.BlindOperations.{operations_are_blind, nothing_more-blind, reach_telling, leave_alike}
 use Rattle.flat_core.proofs.Telling.{row_tells_nothing}
+use Rattle.flat_core.proofs.Always.{occ-of, reaches_own}
 
--- a guest of a timely processor runs
-occupied_in : (o : Opening) (w : World) (p : ℕ) (cs : List Call) (lp : Lp) (g : Guest) → StandsAt o w p cs lp → lp.guest ≡ Some g → IsOccupied w p g.tdr g.vp
-occupied_in o w p [] lp g at is = let no : None ≡ Some g = sym at.0 ∙ is in cc
-occupied_in o w p (c ∷ cs) lp g at is = by lp.guest is at
-  where
-    by : (x : Option Guest) → x ≡ Some g → LineAt o w p c lp x → IsOccupied w p g.tdr g.vp
-    by None e at = cc
-    by (Some h) e at = let same : h ≡ g = cc in subst (λ (y : Guest). IsOccupied w p y.tdr y.vp) same at.occupied
-
--- the cached translation that is found
-found_in : (cs : List Translation) (t n : ℕ) (access : Access) (page : ℕ) → look_up cs t n access ≡ Some page → (c : Translation) × Contains c cs × (c.tdr ≡ t) × (c.gpa_page ≡ n) × (c.page ≡ page)
-found_in [] t n access page e = cc
-found_in (c ∷ cs) t n access page e = by_test (is_of_page t n c && allows_access access c)
-    (λ y. let a = and_parts (is_of_page t n c) (allows_access access c) y in let b = and_parts (c.tdr == t) (c.gpa_page == n) a.0 in
-    let at : Some c.page ≡ Some page = rw y at e in
-    (c, inl refl, eqb-true _ t b.0, eqb-true _ n b.1, cc))
-    (λ y. let r = found_in cs t n access page (rw y at e) in (r.0, inr r.1, r.2, r.3, r.4))
-
+-- a TD that runs is built
 running_built : (s : OpState) → list_any (λ x. op_number x == op_number s) running_ops ≡ true → is_being_built s ≡ false
 running_built op.Uninitialized h = cc
 running_built op.Initialized h = cc
 running_built _ h = refl
 
 -- the page that a private access reaches isn't public
-private_page : (o : Opening) (s : State) (p : ℕ) → AreTimely o s → AccessHolds s → (g : Guest) (n page : ℕ) (access : Access) → (s.lps p).guest ≡ Some g → look_up (s.lps p).cached g.tdr n access ≡ Some page
+private_page : (o : Opening) (s : State) (p : ℕ) → IsGuarded o s → (g : Guest) (n page : ℕ) (access : Access) → (s.lps p).guest ≡ Some g → look_up (s.lps p).cached g.tdr n access ≡ Some page
     → is_public s.world.pages s.world.tds page ≡ false
-private_page o s p timely holds g n page access is found =
-    let w : World = s.world in
-    let occ : IsOccupied w p g.tdr g.vp = occupied_in o w p _ (s.lps p) g (timely.each p) is in
-    let f = found_in (s.lps p).cached g.tdr n access page found in
-    let now = (holds.each p).usable f.0 occ.epoch f.1 (inside g is (sym f.2) occ.entered) in
-    let used : is_free (w.tds.entries g.tdr 0 f.0.gpa_page).state ≡ false = subst (λ (z : ℕ). is_free (w.tds.entries z 0 f.0.gpa_page).state ≡ false) f.2 now.used in
-    let named : (w.tds.entries g.tdr 0 f.0.gpa_page).page ≡ page = subst (λ (z : ℕ). (w.tds.entries z 0 f.0.gpa_page).page ≡ page) f.2 (now.page_is ∙ f.4) in
-    let alive : IsAlive w.pages w.tds g.tdr = record { kind = occ.tdr; life = rw (occ.life) refl } in
-    let node = (timely.lawful.tree.leaf g.tdr f.0.gpa_page alive used).1.page in
-    let owned : IsPageOf w.pages g.tdr page kind.Reg = subst (λ (z : ℕ). IsPageOf w.pages g.tdr z kind.Reg) named (record { kind = node.kind; owner = node.owner }) in
-    let built : is_being_built (w.tds.ops g.tdr) ≡ false = running_built (w.tds.ops g.tdr) occ.running in
-    rw (owned.kind, owned.owner, built) refl
+private_page o s p guarded g n page access is found =
+    let own = (reaches_own o s guarded p n page access g is found).0.private in
+    let built : is_being_built (s.world.tds.ops g.tdr) ≡ false = running_built (s.world.tds.ops g.tdr) (occ-of o s guarded.timely p g is).running in
+    rw (own.kind, own.owner, built) refl
 
 -- a processor's record but for its notes
 
@@ -121,7 +93,7 @@ module _ (m : Machine) (r q : Row) (are_blind : AreBlind m r q) (v w : World) (l
 
 -- one event of processor p in each, where the second has the words to tell that the first one's event tells, and then others
 module _ (o q : Opening) (agree : Agree o q) (s : State) (u : World) (notes : ℕ → List Note) (p : ℕ) (rest : List ℕ)
-    (timely : AreTimely o s) (holds : AccessHolds s) (lu : Lawful o.machine u) (worlds : Alike s.world u) (own : s.world.outgoing.to_tell ≡ None) where
+    (guarded : IsGuarded o s) (lu : Lawful o.machine u) (worlds : Alike s.world u) (own : s.world.outgoing.to_tell ≡ None) where
   abbrev w : World
   w = s.world
 
@@ -170,7 +142,7 @@ module _ (o q : Opening) (agree : Agree o q) (s : State) (u : World) (notes : �
       let x : Lp = lp_after w b (OfCall r move) lp in
       let y : Lp = lp_after u (is_granted t (OfCall r' move)) (OfCall r' move) lp' in
       let same : y ≡ noting (notes p) x =
-      ap (λ (z : Bool). settled (call_lp u z r' move lp')) (call_granted r r' move) ∙ same_settled o.machine r r' (are_blind c) w u timely.lawful lu worlds (notes p) b move lp in
+      ap (λ (z : Bool). settled (call_lp u z r' move lp')) (call_granted r r' move) ∙ same_settled o.machine r r' (are_blind c) w u guarded.timely.lawful lu worlds (notes p) b move lp in
       record { after = call_telling c move a given; same = same ∙ ap (λ (z : Lp). noting z.notes x) (sym same) }
 
   by_call : (c : Call) → AreMade (line_event o w lp (row_of o p c) None) (line_event q u lp' (row_of q p c) None)
@@ -179,7 +151,7 @@ module _ (o q : Opening) (agree : Agree o q) (s : State) (u : World) (notes : �
       let r' : Row = row_of q p c in
       let P : List (Item Reply) → Type 0 = λ items. AreMade (OfCall r (next_in (r.items w) lp.call.phase lp.call.held)) (OfCall r' (next_in items lp.call.phase lp.call.held)) in
       subst P ((are_blind c).items w u worlds)
-      (by_move c (next_in (r.items w) lp.call.phase lp.call.held) (alike_world o.machine r r' (are_blind c) w u timely.lawful lu worlds lp.call.phase lp.call.held))
+      (by_move c (next_in (r.items w) lp.call.phase lp.call.held) (alike_world o.machine r r' (are_blind c) w u guarded.timely.lawful lu worlds lp.call.phase lp.call.held))
 
   -- a guest's operation
   abbrev operated : Bool → Option Outcome → List ℕ → List Note → Lp
@@ -214,7 +186,7 @@ module _ (o q : Opening) (agree : Agree o q) (s : State) (u : World) (notes : �
     by_private : (access : Access) (r gpa : ℕ) (found : Option ℕ) → look_up lp.cached g.tdr (page_of_gpa gpa) access ≡ found → AreMade (private_event g access r gpa found) (private_event g access r gpa found)
     by_private access r gpa None e given = record { after = record { alike = worlds; own = own; given = given }; same = walked access gpa }
     by_private access r gpa (Some page) e given = record {
-      after = reach_telling w u g.tdr g.vp access r gpa page rest (private_page o s p timely holds g (page_of_gpa gpa) page access guest e) (record { alike = worlds; own = own; given = given });
+      after = reach_telling w u g.tdr g.vp access r gpa page rest (private_page o s p guarded g (page_of_gpa gpa) page access guest e) (record { alike = worlds; own = own; given = given });
       same = refl;
     }
 
@@ -282,11 +254,11 @@ module _ (o q : Opening) (agree : Agree o q) (s : State) (u : World) (notes : �
       subst (λ (css : List (List Call)). AreAfter (next_event o s p) (event_for q u p lp' (drop (length lp.replies) (calls_of css p)))) agree.calls (by_lines (lines_left o p lp))
 
 pub events_are_blind : EventsAreBlind
-events_are_blind o q s t p rest agree timely holds lt h =
+events_are_blind o q s t p rest agree guarded lt h =
     let notes : ℕ → List Note = λ x. (t.lps x).notes in
     let lu : Lawful o.machine t.world = subst (λ (m : Machine). Lawful m t.world) (sym agree.machine) lt in
     let first : AreAlikeStates (event o s p) (event q (record { world = t.world; lps = λ x. noting (notes x) (s.lps x); lp_count = s.lp_count }) p) rest =
-    by_event o q agree s t.world notes p rest timely holds lu h.worlds.alike h.worlds.own h.worlds.given in
+    by_event o q agree s t.world notes p rest guarded lu h.worlds.alike h.worlds.own h.worlds.given in
     let same : (λ x. noting (notes x) (s.lps x)) ≡ t.lps = λ j x. sym (h.lps x) j in
     let P : (ℕ → Lp) → Type 0 = λ lps. AreAlikeStates (event o s p) (event q (record { world = t.world; lps = lps; lp_count = s.lp_count }) p) rest in
     let Q : ℕ → Type 0 = λ n. AreAlikeStates (event o s p) (event q (record { world = t.world; lps = t.lps; lp_count = n }) p) rest in

@@ -8,13 +8,11 @@ use Rattle.flat_core.specs.Opening.{Opening, Incoming, Agree, blind, blind_bundl
 use Rattle.flat_core.specs.Event.{State, start, event}
 use Rattle.flat_core.specs.Run.{play, run, run_told, to_the_end, told_in}
 use Rattle.flat_core.specs.HostText.{host_text, text_of, lines_from, reply_lines}
-use Rattle.flat_core.specs.Inside.{AreTimely}
-use Rattle.flat_core.specs.Laws.{reached, HoldsInRuns, public_bundles, BlindRunsPrintTheSame, BlindRunsMakeTheSameBundles, AgreeingRunsShowTheSame}
-use Rattle.flat_core.specs.Access.{AccessHolds}
-use Rattle.flat_core.specs.AccessLaw.{AccessAlwaysHolds}
+use Rattle.flat_core.specs.Laws.{public_bundles, BlindRunsPrintTheSame, BlindRunsMakeTheSameBundles, AgreeingRunsShowTheSame}
+use Rattle.flat_core.specs.AccessLaw.{IsGuarded}
 use Rattle.flat_core.specs.TwoWorlds.{AreSameButNotes, AreAlikeStates}
-use Rattle.flat_core.proofs.Induction.{play_append}
 use Rattle.flat_core.proofs.Telling.{told_from, run_grows}
+use Rattle.flat_core.proofs.Always.{access_kept}
 use Rattle.flat_core.proofs.TwoEvents.{events_are_blind}
 
 -- what is given of a bundle to anyone is given once
@@ -40,17 +38,6 @@ blind_twice (Some b) = ap (λ (ws : List ℕ). Some (record b { payload = ws }))
 pub agrees_blind : (o : Opening) → Agree o (blind o)
 agrees_blind o = record { machine = refl; codes = λ t i. refl; calls = refl; bundles = λ slot. blind_twice (o.bundles slot) }
 
--- a state that a run leads to, and the next one
-record IsReached (o : Opening) (words_to_tell : Option (List ℕ)) (s : State) : Type 0 where
-  schedule : List ℕ
-  at : reached o words_to_tell schedule ≡ s
-
-reached_next : (o : Opening) (ws : Option (List ℕ)) (s : State) (p : ℕ) → IsReached o ws s → IsReached o ws (event o s p)
-reached_next o ws s p r = record {
-  schedule = r.schedule ++ p ∷ [];
-  at = play_append o r.schedule (p ∷ []) (start o ws) ∙ ap (λ (t : State). event o t p) r.at;
-}
-
 -- replies are all that is printed
 same_lines : (n p : ℕ) (lps others : ℕ → Lp) → AreSameButNotes lps others → lines_from n p lps ≡ lines_from n p others
 same_lines zero p lps others h = refl
@@ -65,46 +52,41 @@ same_text s t e n = ap (λ (xs : List (List ℕ)). concat xs) (same_lines s.lp_c
 same_blind : (o q : Opening) → Agree o q → blind o ≡ blind q
 same_blind o q a = λ j. record { machine = a.machine j; codes = λ t i. a.codes t i j; calls = a.calls j; bundles = λ slot. a.bundles slot j; secrets = λ i. 0 }
 
-module _ (timely : HoldsInRuns AreTimely) (access : AccessAlwaysHolds) where
-  -- The rest of two runs: the second has the words to tell that the first one tells from here on.
-  both_go : (o q : Opening) → Agree o q → (words : List ℕ) (ps : List ℕ) (s t : State) → IsReached o None s → IsReached q (Some words) t → AreAlikeStates s t (told_from o ps s)
-      → AreAlikeStates (play o ps s) (play q ps t) []
-  both_go o q agree words [] s t first second h = h
-  both_go o q agree words (p ∷ ps) s t first second h =
-      let stands : AreTimely o s = subst (λ (x : State). AreTimely o x) first.at (timely o None first.schedule) in
-      let holds : AccessHolds s = subst (λ (x : State). AccessHolds x) first.at (access o None first.schedule) in
-      let others : AreTimely q t = subst (λ (x : State). AreTimely q x) second.at (timely q (Some words) second.schedule) in
-      both_go o q agree words ps (event o s p) (event q t p) (reached_next o None s p first) (reached_next q (Some words) t p second)
-      (events_are_blind o q s t p (told_from o ps (event o s p)) agree stands holds others.lawful h)
+-- The rest of two runs: the second has the words to tell that the first one tells from here on.
+both_go : (o q : Opening) → Agree o q → (ps : List ℕ) (s t : State) → IsGuarded o s → IsGuarded q t → AreAlikeStates s t (told_from o ps s) → AreAlikeStates (play o ps s) (play q ps t) []
+both_go o q agree [] s t here there h = h
+both_go o q agree (p ∷ ps) s t here there h =
+    both_go o q agree ps (event o s p) (event q t p) (access_kept.event o o.bundles s p here) (access_kept.event q q.bundles t p there)
+    (events_are_blind o q s t p (told_from o ps (event o s p)) agree here there.timely.lawful h)
 
-  -- the two runs at their end
-  blind_alike : (o : Opening) (schedule : List ℕ) → AreAlikeStates (run o schedule) (run_told (blind o) schedule (told_in (run o schedule))) []
-  blind_alike o schedule =
-      let words : List ℕ = told_in (run o schedule) in
-      let ps : List ℕ = schedule ++ to_the_end 0 o.calls in
-      let begin : AreAlikeStates (start o None) (start (blind o) (Some words)) (told_from o ps (start o None)) = record {
-        worlds = record {
-          alike = record { size = refl; pages = refl; words = λ p i h. refl; tds = refl; vps = refl; streams = refl; key_table = refl; told = refl; bundles = refl };
-          own = refl;
-          given = ap (λ (xs : List ℕ). Some xs) (run_grows o ps (start o None));
-        };
-        lps = λ p. refl;
-        count = refl;
-      } in
-      both_go o (blind o) (agrees_blind o) words ps (start o None) (start (blind o) (Some words)) (record { schedule = []; at = refl }) (record { schedule = []; at = refl }) begin
+-- the two runs at their end
+pub blind_alike : (o : Opening) (schedule : List ℕ) → AreAlikeStates (run o schedule) (run_told (blind o) schedule (told_in (run o schedule))) []
+blind_alike o schedule =
+    let words : List ℕ = told_in (run o schedule) in
+    let ps : List ℕ = schedule ++ to_the_end 0 o.calls in
+    let begin : AreAlikeStates (start o None) (start (blind o) (Some words)) (told_from o ps (start o None)) = record {
+      worlds = record {
+        alike = record { size = refl; pages = refl; words = λ p i h. refl; tds = refl; vps = refl; streams = refl; key_table = refl; told = refl; bundles = refl };
+        own = refl;
+        given = ap (λ (xs : List ℕ). Some xs) (run_grows o ps (start o None));
+      };
+      lps = λ p. refl;
+      count = refl;
+    } in
+    both_go o (blind o) (agrees_blind o) ps (start o None) (start (blind o) (Some words)) (access_kept.start o None) (access_kept.start (blind o) (Some words)) begin
 
-  pub blind_prints : BlindRunsPrintTheSame
-  unfolding host_text
-  blind_prints o schedule = let both = blind_alike o schedule in same_text _ _ both.lps both.count
+pub blind_prints : BlindRunsPrintTheSame
+unfolding host_text
+blind_prints o schedule = let both = blind_alike o schedule in same_text _ _ both.lps both.count
 
-  pub blind_bundles : BlindRunsMakeTheSameBundles
-  blind_bundles o schedule = (blind_alike o schedule).worlds.alike.bundles
+pub blind_bundles : BlindRunsMakeTheSameBundles
+blind_bundles o schedule = (blind_alike o schedule).worlds.alike.bundles
 
-  pub agreeing_show : AgreeingRunsShowTheSame
-  agreeing_show o q schedule a told =
-      let blind_told : Opening → List ℕ → State = λ b ws. run_told b schedule ws in
-      let same : blind_told (blind o) (told_in (run o schedule)) ≡ blind_told (blind q) (told_in (run q schedule)) =
-      ap (λ (b : Opening). blind_told b (told_in (run o schedule))) (same_blind o q a) ∙ ap (λ (ws : List ℕ). blind_told (blind q) ws) told in (
-        blind_prints o schedule ∙ (ap text_of same ∙ sym (blind_prints q schedule)),
-        blind_bundles o schedule ∙ (ap (λ (s : State). public_bundles s) same ∙ sym (blind_bundles q schedule)),
-      )
+pub agreeing_show : AgreeingRunsShowTheSame
+agreeing_show o q schedule a told =
+    let blind_told : Opening → List ℕ → State = λ b ws. run_told b schedule ws in
+    let same : blind_told (blind o) (told_in (run o schedule)) ≡ blind_told (blind q) (told_in (run q schedule)) =
+    ap (λ (b : Opening). blind_told b (told_in (run o schedule))) (same_blind o q a) ∙ ap (λ (ws : List ℕ). blind_told (blind q) ws) told in (
+      blind_prints o schedule ∙ (ap text_of same ∙ sym (blind_prints q schedule)),
+      blind_bundles o schedule ∙ (ap (λ (s : State). public_bundles s) same ∙ sym (blind_bundles q schedule)),
+    )

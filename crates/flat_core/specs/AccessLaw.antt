@@ -1,13 +1,14 @@
--- The laws of guests' accesses to private pages, for every opening and every schedule.
-use Rattle.std.specs.Prelude.{◌≡◌, ℕ, ◌+◌, List, [], ◌∷◌, ◌++◌, length, Option, Some, option_map}
+-- The laws of guests' accesses to private pages and of cached translations, for every opening and every schedule.
+use Rattle.std.specs.Prelude.{◌≡◌, ℕ, ◌+◌, ◌≤◌, List, [], ◌∷◌, ◌++◌, length, Contains, Option, Some, option_map, Bool, true, false, not, ◌&&◌}
+use Rattle.std.specs.List.{list_all}
 use Rattle.td_words.specs.declared.names.Access.{Access}
 use Rattle.td_words.specs.declared.names.Access.TheVariants.{Read}
 use Rattle.td_words.specs.declared.names.PageKind.TheVariants as kind
 use Rattle.flat_core.specs.World.{World}
-use Rattle.flat_core.specs.Processor.{Guest, LoadNote}
+use Rattle.flat_core.specs.Processor.{Translation, Guest, LoadNote}
 use Rattle.flat_core.specs.Opening.{Opening}
 use Rattle.flat_core.specs.Tree.{page_of_gpa, word_of_gpa}
-use Rattle.flat_core.specs.Translations.{look_up}
+use Rattle.flat_core.specs.Translations.{is_of_page, look_up, cache}
 use Rattle.flat_core.specs.Lawful.{IsPageOf}
 use Rattle.flat_core.specs.Event.{State, Reaches, next_event, event}
 use Rattle.flat_core.specs.Laws.{reached, IsKept, HoldsInRuns, ArePagesKnown}
@@ -61,3 +62,22 @@ abbrev pub LoadsGiveTheirOwn : Type 0
 LoadsGiveTheirOwn = (o : Opening) (words_to_tell : Option (List ℕ)) (schedule : List ℕ) (p t v : ℕ) (access : Access) (r gpa page : ℕ)
     → let s = reached o words_to_tell schedule in
     next_event o s p ≡ Some (Reaches t v access r gpa page) → IsOwnAccess o s p t v access r gpa page
+
+-- What a logical processor has cached is at most 16 translations, no two of one GPA page of a TD.
+abbrev pub are_apart : List Translation → Bool
+are_apart [] = true
+are_apart (c ∷ cs) = list_all (λ x. not (is_of_page x.tdr x.gpa_page c)) cs && are_apart cs
+
+pub record IsCache (cached : List Translation) : Type 0 where
+  pub few : length cached ≤ 16
+  pub apart : are_apart cached ≡ true
+
+abbrev pub CachesAreKept : Type 0
+CachesAreKept = IsKept (λ o s. (p : ℕ) → IsCache (s.lps p).cached)
+
+abbrev pub CachesAreSmall : Type 0
+CachesAreSmall = HoldsInRuns (λ o s. (p : ℕ) → IsCache (s.lps p).cached)
+
+-- Caching one more drops none of another GPA page while there is room.
+abbrev pub RoomIsUsed : Type 0
+RoomIsUsed = (c x : Translation) (cs : List Translation) → length cs ≤ 15 → Contains cs x → is_of_page c.tdr c.gpa_page x ≡ false → Contains (cache c cs) x

@@ -143,8 +143,8 @@ GuestRuns w lp = (g : Guest) → lp.guest ≡ Some g → list_any (λ s. op_numb
 abbrev pub LawfulIsKept : Type 0
 LawfulIsKept = IsKept AreTimely
 
--- so does each event of any opening with that machine; of its processor it is enough that its guest's TD runs, since what
--- doesn't run has no RTMR that a guest could change
+-- so does each event of any opening with that machine, where the TD of its processor's guest runs, and so is built: one that
+-- isn't has RTMRs of zeros in every lawful world
 abbrev pub EventsKeepLawful : Type 0
 EventsKeepLawful = (o : Opening) (s : State) (p : ℕ) → Lawful o.machine s.world → GuestRuns s.world (s.lps p) → Lawful o.machine (event o s p).world
 

@@ -24,7 +24,7 @@ RepliesAreKept = IsKept AreToLines
 abbrev pub RepliesAreToLines : Type 0
 RepliesAreToLines = HoldsInRuns AreToLines
 
--- at the end of a run it has as many. As `RunsEnd` this asks nothing of a guest: no call that is built enters one
+-- at the end of a run it has as many
 abbrev pub EveryLineIsAnswered : Type 0
 EveryLineIsAnswered = (o : Opening) (words_to_tell : Option (List ℕ)) (schedule : List ℕ) (p : ℕ)
     → length ((run_telling words_to_tell o schedule).lps p).replies ≡ length (calls_of o.calls p)

@@ -9,8 +9,7 @@ use Rattle.flat_core.specs.Guest.{operation_of}
 use Rattle.flat_core.specs.Event.{State, Event, OfOperation, operation_told, next_event, event}
 use Rattle.flat_core.specs.Lawful.{Lawful}
 use Rattle.flat_core.specs.Alike.{TellAlike, AreBlindOperations}
-use Rattle.flat_core.specs.Inside.{AreTimely}
-use Rattle.flat_core.specs.Access.{AccessHolds}
+use Rattle.flat_core.specs.AccessLaw.{IsGuarded}
 
 -- beside the operation of each virtual processor, at each call line
 abbrev pub OperationsAreBlind : Type 0
@@ -31,8 +30,8 @@ abbrev pub words_told : World → Option Event → List ℕ
 words_told w (Some (OfOperation row move)) = operation_told w row move
 words_told w _ = []
 
--- One event of each keeps two states alike, whatever bundles have come in, where the second has the words to tell that the
--- first one's event tells, and then others: these are left.
+-- One event of each keeps two states alike, whatever bundles have come in, where the first one is as states of runs are, and
+-- the second has the words to tell that the first one's event tells, and then others: these are left.
 abbrev pub EventsAreBlind : Type 0
-EventsAreBlind = (o q : Opening) (s t : State) (p : ℕ) (rest : List ℕ) → Agree o q → AreTimely o s → AccessHolds s → Lawful q.machine t.world
+EventsAreBlind = (o q : Opening) (s t : State) (p : ℕ) (rest : List ℕ) → Agree o q → IsGuarded o s → Lawful q.machine t.world
     → AreAlikeStates s t (words_told s.world (next_event o s p) ++ rest) → AreAlikeStates (event o s p) (event q t p) rest
