@@ -20,7 +20,7 @@ LEVEL_BYTES = [PAGE_BYTES << 9 * level for level in range(4)]
 LEADING = ("MR.FINALIZE", "MNG.VPFLUSHDONE")
 
 # Calls whose last conditions are met only where a TD's tree stands.
-DEEP = ("MR.EXTEND", "MEM.SEPT.ADD", "MEM.SEPT.RD", "MEM.PAGE.ADD")
+DEEP = ("MR.EXTEND", "MEM.SEPT.ADD", "MEM.SEPT.RD", "MEM.PAGE.ADD", "MEM.PAGE.AUG")
 
 
 class Life:
@@ -33,13 +33,14 @@ class Life:
         self.vcpus = [pages.pop() for _ in range(min(chance.choice((0, 1, 2, 8)), len(pages) // 2))]
         self.tables = [pages.pop() for _ in range(min(3, len(pages) // 2))]
         self.private = [pages.pop() for _ in range(min(chance.choice((1, 2, 2)), max(0, len(pages) - 1)))]
+        self.waiting = [pages.pop() for _ in range(min(chance.choice((1, 1, 2)), max(0, len(pages) - 1)))]
         self.gpa = chance.choice((0, 511, 513, 1 << 18, 3 << 34)) * PAGE_BYTES
         if len(self.tables) < 3:
-            self.private = []
+            self.private = self.waiting = []
 
     def owned(self):
         """The pages of the TD, without its TDR."""
-        return self.control + self.vcpus + self.tables + self.private
+        return self.control + self.vcpus + self.tables + self.private + self.waiting
 
     def pages_of(self, call):
         """The pages beside its TDR whose locks that call of its life tries."""
@@ -49,11 +50,11 @@ class Life:
         return [int(word) for kind, word in zip(ARGUMENTS[name], words) if kind == "page"][1:]
 
     def build(self, chance, source):
-        """The calls that build the TD, with private pages from that source page."""
+        """The calls that build the TD, with private pages from that source page, and give it further ones."""
         calls = [f"MNG.CREATE {self.td} {self.hkid}", f"MNG.KEY.CONFIG {self.td}"]
         calls += [f"MNG.ADDCX {self.td} {page}" for page in self.control]
         calls.append(f"MNG.INIT {self.td}")
-        inner = [f"VP.CREATE {self.td} {page}" for page in self.vcpus]
+        inner = [f"VP.CREATE {self.td} {page}" for page in self.vcpus + self.vcpus[7:]]
         inner += [f"VP.INIT {self.td} {page} {chance.randrange(100)}" for page in self.vcpus]
         tree = [f"MEM.SEPT.ADD {self.td} {self.gpa - self.gpa % LEVEL_BYTES[level]} {level} {page}"
                 for level, page in zip((3, 2, 1), self.tables)]
@@ -63,7 +64,9 @@ class Life:
             tree += [f"MEM.PAGE.ADD {self.td} {gpa:#x} {page} {source}"]
             chunks = [gpa + 256 * chance.choice((0, 0, 1, 15)) for _ in range(chance.randrange(3))]
             tree += [f"MR.EXTEND {self.td} {chunk}" for chunk in chunks]
-        return calls + riffle(chance, inner, tree) + [f"MR.FINALIZE {self.td}"]
+        more = [f"MEM.PAGE.AUG {self.td} {self.gpa + place * PAGE_BYTES} {page}"
+                for place, page in enumerate(self.waiting, len(self.private) - chance.choice((0, 0, 1)))]
+        return calls + riffle(chance, inner, tree) + [f"MR.FINALIZE {self.td}", *more]
 
     def end(self, chance):
         """The calls that end the TD, and look at what its pages have become."""

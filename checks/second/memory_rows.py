@@ -1,9 +1,9 @@
 """The rows of private memory and of a TD's VCPUs that run, in the order of docs/profile.md."""
 
 import guests
-from machine import EXCLUSIVELY, SHARED, Entry
+from machine import EXCLUSIVELY, SHARED
 from rows import (
-    entry_key, need, need_entry, need_free, need_life, of_page, td_at, td_with_op, vcpu_at, walk,
+    entry_key, need, need_entry, need_life, of_page, td_at, td_with_op, vcpu_at, walk,
 )
 
 EPOCH_END = 2**32 - 1
@@ -14,7 +14,6 @@ ARGUMENTS = {
     "VP.ENTER": ("page", "page", "most"),
     "VP.FLUSH": ("page", "page"),
     "MEM.SEPT.REMOVE": ("page", "gpa", "upper level"),
-    "MEM.PAGE.AUG": ("page", "gpa", "page"),
     "MEM.PAGE.REMOVE": ("page", "gpa"),
     "MEM.RANGE.BLOCK": ("page", "gpa", "level"),
     "MEM.RANGE.UNBLOCK": ("page", "gpa", "level"),
@@ -107,22 +106,6 @@ def sept_remove(machine, td_page, gpa, level):
     return remove(machine, td, td_page, key)
 
 
-def page_aug(machine, td_page, gpa, page):
-    """MEM.PAGE.AUG TDR GPA PAGE"""
-    td = yield from td_with_op(machine, td_page, SHARED, "RUNNABLE", "LIVE_EXPORT")
-    yield ("T", td_page), EXCLUSIVELY
-    walk(td, gpa, 0)
-    need_entry(td, gpa, 0, "FREE")
-    yield of_page(page, EXCLUSIVELY)
-    need_free(machine, page)
-
-    def effect():
-        machine.takes(td_page, page, "PT_REG")
-        td.entries[entry_key(gpa, 0)] = Entry("PENDING", page)
-
-    return effect
-
-
 def page_remove(machine, td_page, gpa):
     """MEM.PAGE.REMOVE TDR GPA"""
     td, key = yield from td_running(machine, td_page, gpa, 0)
@@ -178,7 +161,6 @@ ROWS = {
     "VP.ENTER": vp_enter,
     "VP.FLUSH": vp_flush,
     "MEM.SEPT.REMOVE": sept_remove,
-    "MEM.PAGE.AUG": page_aug,
     "MEM.PAGE.REMOVE": page_remove,
     "MEM.RANGE.BLOCK": range_block,
     "MEM.RANGE.UNBLOCK": range_unblock,

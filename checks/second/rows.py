@@ -45,6 +45,7 @@ ARGUMENTS = {
     "MEM.SEPT.ADD": ("page", "gpa", "upper level", "page"),
     "MEM.SEPT.RD": ("page", "gpa", "level"),
     "MEM.PAGE.ADD": ("page", "gpa", "page", "page"),
+    "MEM.PAGE.AUG": ("page", "gpa", "page"),
 }
 
 
@@ -421,6 +422,22 @@ def page_add(machine, td_page, gpa, page, source):
     return effect
 
 
+def page_aug(machine, td_page, gpa, page):
+    """MEM.PAGE.AUG TDR GPA PAGE"""
+    td = yield from td_with_op(machine, td_page, SHARED, "RUNNABLE", "LIVE_EXPORT")
+    yield ("T", td_page), EXCLUSIVELY
+    walk(td, gpa, 0)
+    need_entry(td, gpa, 0, "FREE")
+    yield of_page(page, EXCLUSIVELY)
+    need_free(machine, page)
+
+    def effect():
+        machine.takes(td_page, page, "PT_REG")
+        td.entries[entry_key(gpa, 0)] = Entry("PENDING", page)
+
+    return effect
+
+
 ROWS = {
     "HOST.READ": host_read,
     "HOST.WRITE": host_write,
@@ -441,4 +458,5 @@ ROWS = {
     "MEM.SEPT.ADD": sept_add,
     "MEM.SEPT.RD": sept_rd,
     "MEM.PAGE.ADD": page_add,
+    "MEM.PAGE.AUG": page_aug,
 }

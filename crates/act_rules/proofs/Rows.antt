@@ -247,7 +247,7 @@ module _ (g : Grip) (w : World) where
       let w' : World = set_register v 0 x (set_vp_state v vcpu.Ready w) in
       leaves g w w' (all-same w w' refl (λ u. same-td w w' u refl refl refl (λ b. refl) (λ n. refl))) (λ h. refl) refl
 
-  -- MEM.SEPT.ADD and MEM.PAGE.ADD: a host page becomes the one that an entry names
+  -- MEM.SEPT.ADD, MEM.PAGE.ADD and MEM.PAGE.AUG: a host page becomes the one that an entry names
   mapped : (p : ℕ) (k : PageKind) (s : EntryState) (t level number : ℕ) → is_host w p ≡ true → g.sole (Locked (OfPage p)) ≡ true → HoldsTd g t → g.sole (Locked (OfTree t)) ≡ true → Respects g w (map_page p k s t level number w)
   mapped p k s t level number host own td tree =
       let w1 : World = take_node p k t level number w in
@@ -269,6 +269,10 @@ module _ (g : Grip) (w : World) where
       let w2 : World = measure t records (begin_memory t (page_of_gpa gpa) ws (set_page p ws w1)) in
       respects-compose.both g w w1 w2 (mapped p kind.Reg entry.Mapped t 0 (number_at 0 gpa) host own td tree)
       (leaves g w1 w2 (all-same w1 w2 refl (λ u. same-td w1 w2 u refl refl refl (λ b. refl) (λ n. refl))) (λ h. refl) refl)
+
+  pub page-augmented : (t gpa p : ℕ) → is_host w p ≡ true → g.sole (Locked (OfPage p)) ≡ true → HoldsTd g t → g.sole (Locked (OfTree t)) ≡ true
+      → Respects g w (map_page p kind.Reg entry.Pending t 0 (number_at 0 gpa) w)
+  page-augmented t gpa p host own td tree = mapped p kind.Reg entry.Pending t 0 (number_at 0 gpa) host own td tree
 
   -- MR.EXTEND
   pub measured : (t : ℕ) (records : List ℕ) → Respects g w (measure t records w)
@@ -300,6 +304,8 @@ rows-respect o me (call.MrFinalize tdr) g w la ps h = finalized g w tdr h.0 h.1.
 rows-respect o me (call.VpCreate tdr page) g w la ps h =
     vp-added o.machine g w tdr page la (host_kind (w.pages.kinds page) ps.1.1.1.1.1.1.1.1.0) h.1.1.0.1
 rows-respect o me (call.VpInit tdr vp value) g w la ps h = vp-initialized g w vp value
+rows-respect o me (call.VpEnter tdr vp most) g w la ps h =
+    (effects-respect g w).enter o.machine me tdr vp la (eqb-true _ tdr (and_parts (same_kind (w.pages.kinds vp) kind.Tdvpr) (w.pages.owners vp == tdr) ps.1.1.1.1.1.1.1.1.0).1) h.0
 rows-respect o me (call.MrExtend tdr gpa) g w la ps h = measured g w tdr _
 rows-respect o me (call.MemSeptAdd tdr gpa level page) g w la ps h =
     let behind = behind_walk w tdr gpa level _ ps.1.1.1.1.1.1.1.1.1.1 in
@@ -308,3 +314,5 @@ rows-respect o me (call.MemSeptAdd tdr gpa level page) g w la ps h =
 rows-respect o me (call.MemSeptRd tdr gpa level) g w la ps h = stays g w
 rows-respect o me (call.MemPageAdd tdr gpa page source) g w la ps h =
     page-added g w tdr gpa page (w.words source) _ ps.1.1.1.1.1.1.1.1.1.1.1.1.1.1.1.1.1.0 h.1.1.1.1.0.1 (record { tdr = h.0; op = h.1.0.0 }) h.1.1.0.1
+rows-respect o me (call.MemPageAug tdr gpa page) g w la ps h =
+    page-augmented g w tdr gpa page ps.1.1.1.1.1.1.1.1.1.1.1.1.1.0 h.1.1.1.0.1 (record { tdr = h.0; op = h.1.0 }) h.1.1.0.1

@@ -46,6 +46,67 @@ fn pages_are_added_once(rt: HostRuntime) -> Result<(), Fail> {
     replay_each(&rt, rt.alloc(), "1 32 2", PLACES)
 }
 
+const AUGMENTED: &[&[&str]] = &[
+    // A page waits for its guest. It is the TD's at once, and it isn't measured.
+    &[
+        TREE,
+        "SUCCESS | HOST.WRITE 8 0 2 | MEM.PAGE.ADD 1 0 9 0",
+        "OP_STATE_INCORRECT INITIALIZED | MEM.PAGE.AUG 1 4096 8 | MEM.PAGE.AUG 1 0 2",
+        "SUCCESS | MR.FINALIZE 1 | MEM.PAGE.AUG 1 4096 8",
+        "SUCCESS PENDING 8 | MEM.SEPT.RD 1 4096 0",
+        "SUCCESS PT_REG 1 0 | PHYMEM.PAGE.RDMD 8",
+        "SUCCESS 0 | HOST.READ 8 0",
+        "NOT_HOST | HOST.WRITE 8 0 3",
+        ADDED,
+        // The entry is judged first, and the page last.
+        "EPT_ENTRY_STATE_INCORRECT PENDING | MEM.PAGE.AUG 1 4096 10 | MEM.PAGE.AUG 1 4096 8 \
+            | MEM.PAGE.AUG 1 4096 2",
+        "EPT_ENTRY_STATE_INCORRECT MAPPED | MEM.PAGE.AUG 1 0 10 | MEM.PAGE.AUG 1 0 9",
+        "EPT_WALK_FAILED 1 | MEM.PAGE.AUG 1 0x200000 10 | MEM.PAGE.AUG 1 0x200000 8",
+        "PAGE_METADATA_INCORRECT 8 | MEM.PAGE.AUG 1 0x2000 8 | MEM.SEPT.ADD 1 0x200000 1 8 \
+            | MNG.CREATE 8 2 | MNG.RD 8 OP",
+        "PAGE_METADATA_INCORRECT 9 | MEM.PAGE.AUG 1 0x2000 9",
+        "PAGE_METADATA_INCORRECT 4 | MEM.PAGE.AUG 1 0x2000 4",
+        "PAGE_METADATA_INCORRECT 7 | MEM.PAGE.AUG 1 0x2000 7",
+        "OP_STATE_INCORRECT RUNNABLE | MEM.PAGE.ADD 1 0x2000 10 0 | MR.EXTEND 1 4096",
+        "SUCCESS FREE | MEM.SEPT.RD 1 0x2000 0",
+        "SUCCESS PT_NDA 0 0 | PHYMEM.PAGE.RDMD 10",
+        // The tree grows first where the page is to stand.
+        "SUCCESS | MEM.SEPT.ADD 1 0x200000 1 10 | MEM.PAGE.AUG 1 0x3ff000 11",
+        "SUCCESS PENDING 11 | MEM.SEPT.RD 1 0x3ff000 0",
+        "SUCCESS FREE | MEM.SEPT.RD 1 0x200000 0",
+        // Such a page comes back as each other one does.
+        ENDED,
+        "PAGES_EXIST 10 | PHYMEM.PAGE.RECLAIM 1 1",
+        "SUCCESS | PHYMEM.PAGE.RECLAIM 1 8",
+        "PAGES_EXIST 9 | PHYMEM.PAGE.RECLAIM 1 1",
+        "SUCCESS PT_NDA 0 0 | PHYMEM.PAGE.RDMD 8",
+        "SUCCESS 0 | HOST.READ 8 0",
+        "SUCCESS PT_REG 1 0 | PHYMEM.PAGE.RDMD 11",
+    ],
+    // Between other entries, and of one TD alone.
+    &[
+        BUILT,
+        OTHER,
+        "SUCCESS | MEM.SEPT.ADD 1 0x8000000000 3 5 | MEM.SEPT.ADD 1 0x8080000000 2 6 \
+            | MEM.SEPT.ADD 1 0x8080600000 1 7 | MR.FINALIZE 1 | MEM.PAGE.AUG 1 0x8080604000 8",
+        "SUCCESS PENDING 8 | MEM.SEPT.RD 1 0x8080604000 0",
+        "SUCCESS FREE | MEM.SEPT.RD 1 0x8080603000 0 | MEM.SEPT.RD 1 0x8080605000 0",
+        EMPTY,
+        "PAGE_METADATA_INCORRECT 8 | MEM.SEPT.ADD 20 0 3 8",
+        "SUCCESS | MEM.SEPT.ADD 20 0 3 9 | MR.FINALIZE 20",
+        "PAGE_METADATA_INCORRECT 9 | MEM.PAGE.AUG 1 0x8080605000 9",
+        "EPT_WALK_FAILED 2 | MEM.PAGE.AUG 20 0 10",
+        "SUCCESS | MEM.PAGE.AUG 1 0x8080605000 10",
+        "SUCCESS PT_REG 1 0 | PHYMEM.PAGE.RDMD 10",
+    ],
+];
+
+#[test]
+fn pages_wait_for_their_guest(rt: HostRuntime) -> Result<(), Fail> {
+    replay_each(&rt, rt.alloc(), "1 32 2", AUGMENTED)
+}
+
 const CHUNKS: &str = "SUCCESS | MR.EXTEND 1 0 | MR.EXTEND 1 256 | MR.EXTEND 1 512 \
     | MR.EXTEND 1 768 | MR.EXTEND 1 1024 | MR.EXTEND 1 1280 | MR.EXTEND 1 1536 | MR.EXTEND 1 1792 \
     | MR.EXTEND 1 2048 | MR.EXTEND 1 2304 | MR.EXTEND 1 2560 | MR.EXTEND 1 2816 | MR.EXTEND 1 3072 \

@@ -1,7 +1,7 @@
 //! Two processors at the tree and the pages of a TD, under a schedule.
 //!
-//! The ten calls of TREE have 64 events. MEM.SEPT.RD has 7, MEM.SEPT.ADD and MR.EXTEND have 9, and
-//! MEM.PAGE.ADD has 11.
+//! The ten calls of TREE have 64 events. MR.FINALIZE has 5, MEM.SEPT.RD has 7, MEM.SEPT.ADD,
+//! MEM.PAGE.AUG and MR.EXTEND have 9, and MEM.PAGE.ADD has 11.
 
 use crate::rows::{OTHER, TREE, replay_races, replays};
 use std::test::Fail;
@@ -65,6 +65,28 @@ const RACES: &[&[&str]] = &[
         "0*79 1*3 | SUCCESS 0 | HOST.READ 8 0",
         "0*78 1 0*3 1*2 | NOT_HOST | HOST.WRITE 8 0 9",
     ],
+    &[
+        TREE,
+        "SUCCESS | MR.FINALIZE 1 | MEM.PAGE.AUG 1 0 8",
+        "0*77 1 | OPERAND_BUSY P 1 | MNG.VPFLUSHDONE 1",
+        "0*78 1*3 | LIFECYCLE_STATE_INCORRECT TD_KEYS_CONFIGURED | MNG.KEY.FREEID 1",
+        // The entry is read as it was, not at all, and as it is.
+        "0*71 1*7 | SUCCESS FREE | MEM.SEPT.RD 1 0 0",
+        "0*72 1*5 | OPERAND_BUSY T | MEM.SEPT.RD 1 0 0",
+        "0*75 1*5 | OPERAND_BUSY T | MEM.PAGE.AUG 1 4096 9",
+        "0*76 1*7 | SUCCESS PENDING 8 | MEM.SEPT.RD 1 0 0",
+        "0*76 1*9 | EPT_ENTRY_STATE_INCORRECT PENDING | MEM.PAGE.AUG 1 0 9",
+        "0*76 1*9 | SUCCESS | MEM.PAGE.AUG 1 4096 9",
+        // Calls that share the op state run beside it, and those that want it alone don't.
+        "0*73 1*9 | SUCCESS 1 | MNG.RD 1 EPOCH",
+        "0*71 1*3 | OPERAND_BUSY O | MR.FINALIZE 1",
+        "0*76 1*3 | OPERAND_BUSY O | MR.FINALIZE 1",
+        // The page is the host's until it is held alone, and the TD's once it is released.
+        "0*72 1*3 | SUCCESS | HOST.WRITE 8 0 9",
+        "0*73 1*2 | OPERAND_BUSY P 8 | HOST.READ 8 0",
+        "0*74 1*2 | OPERAND_BUSY P 8 | HOST.WRITE 8 0 9",
+        "0*75 1*3 | NOT_HOST | HOST.WRITE 8 0 9",
+    ],
     // Calls that are refused under the tree's lock, and calls that come too late for a lock.
     &[
         TREE,
@@ -91,6 +113,30 @@ const RACES: &[&[&str]] = &[
         TREE,
         "OPERAND_BUSY P 0 | MEM.PAGE.ADD 1 0 8 0",
         "0*67 1 0 | SUCCESS | HOST.WRITE 0 0 9",
+    ],
+    &[
+        TREE,
+        "SUCCESS | MR.FINALIZE 1",
+        "OPERAND_BUSY P 1 | MEM.PAGE.AUG 1 0 8",
+        "0*69 1 0 | LIFECYCLE_STATE_INCORRECT TD_KEYS_CONFIGURED | MNG.KEY.FREEID 1",
+    ],
+    &[
+        TREE,
+        "SUCCESS | MR.FINALIZE 1",
+        "OPERAND_BUSY O | MEM.PAGE.AUG 1 0 8",
+        "0*70 1*2 0 | OP_STATE_INCORRECT RUNNABLE | MR.FINALIZE 1",
+    ],
+    &[
+        TREE,
+        "SUCCESS | MR.FINALIZE 1",
+        "OPERAND_BUSY T | MEM.PAGE.AUG 1 0 8",
+        "0*71 1*3 0 | SUCCESS FREE | MEM.SEPT.RD 1 0 0",
+    ],
+    &[
+        TREE,
+        "SUCCESS | MR.FINALIZE 1",
+        "OPERAND_BUSY P 8 | MEM.PAGE.AUG 1 0 8",
+        "0*72 1 0 | SUCCESS 0 | HOST.READ 8 0",
     ],
 ];
 

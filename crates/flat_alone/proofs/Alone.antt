@@ -157,6 +157,21 @@ free_row o p (call.MemPageAdd tdr gpa page source) w = λ a b d e first second t
     ),
   ),
 )
+free_row o p (call.MemPageAug tdr gpa page) w = λ a b d apart e. (
+  refl,
+  refl,
+  λ g h i. (
+    refl,
+    refl,
+    λ j. (
+      refl,
+      refl,
+      λ k l m n.
+          let u : (tdr == page) ≡ false = other_page page tdr apart in
+          (refl, rw u refl, λ x. tt),
+    ),
+  ),
+)
 
 module _ (tries : RowsTryFew) (o : Opening) (p : ℕ) (before : ℕ → Lp) (quiet : (q : ℕ) → q ≢ p → Quiet (before q)) where
   -- the world and its own record; the others' are as before

@@ -1,6 +1,6 @@
 -- Each row asks and answers the same in two worlds that differ in private words alone, and keeps them so.
 use Rattle.std.proofs.Common.{◌≡◌, refl, sym, ◌∙◌, subst, ap, ℕ, List, [], ◌∷◌, ◌++◌, length, Bool, true, false, not, ◌==◌, ◌&&◌, ◌||◌, if◌then◌else◌}
-use Rattle.std.specs.Prelude.{None}
+use Rattle.std.specs.Prelude.{Some, None}
 use Rattle.std.specs.List.{list_any}
 use Rattle.sha2.specs.Sha512.{sha384}
 use Rattle.std.proofs.lemmas.Bool.{eqb-true}
@@ -27,11 +27,11 @@ use Rattle.flat_core.specs.Opening.{Opening, Agree}
 use Rattle.flat_core.specs.Row.{Row}
 use Rattle.flat_core.specs.Digests.{digest_word}
 use Rattle.flat_core.specs.Conditions.{same_kind, is_host_in, host_page, page_exclusive}
-use Rattle.flat_core.specs.Effects.{put_in, new_td, take_node, take_page, map_page, set_page, begin_memory, measure, clear_page, give_back, end_memory_in, set_key, set_life, set_op, add_vp, set_vp_state, set_register, end_measurement, set_epoch, written_back}
+use Rattle.flat_core.specs.Effects.{put_in, new_td, take_node, take_page, map_page, set_page, begin_memory, measure, clear_page, give_back, enter_guest, end_memory_in, set_key, set_life, set_op, add_vp, set_vp_state, set_register, end_measurement, set_epoch, written_back}
 use Rattle.flat_core.specs.HostRows.{host_read, host_write, read_metadata}
 use Rattle.flat_core.specs.TdRows.{create, configure_key, add_tdcx, initialize, read_conditions, field_value, read_td, finalize}
 use Rattle.flat_core.specs.KeyRows.{write_caches_back, reclaim_conditions, reclaim_page, end_flush, free_hkid}
-use Rattle.flat_core.specs.VpRows.{create_vp, initialize_vp}
+use Rattle.flat_core.specs.VpRows.{create_vp, initialize_vp, enter_vp}
 use Rattle.flat_core.specs.MemRows.{add_sept, read_sept, add_page, augment_page, chunk_bytes, extend}
 use Rattle.flat_core.specs.Tree.{page_of_gpa, number_at, entry_at, same_state, state_in}
 use Rattle.flat_core.specs.Table.{row_of}
@@ -187,6 +187,10 @@ with_vp x p vs = record {
   exported = put x.exported p 0;
   entered = put x.entered p None;
 }
+
+-- one that enters the guest
+abbrev with_entered : Vps → (me v epoch : ℕ) → Vps
+with_entered x me v e = record x { associated = put x.associated v (Some me); lasts = put x.lasts v e; entered = put x.entered v (Some e) }
 
 added_alike : (v w : World) (t p : ℕ) → Alike v w → Alike (add_vp t p v) (add_vp t p w)
 added_alike v w t p a =
@@ -411,6 +415,17 @@ initialize_vp-blind m t vp x = record {
       (set_register vp 0 x v1).hidden (set_register vp 0 x w1).hidden;
 }
 
+pub enter_vp-blind : (m : Machine) (me t vp most : ℕ) → AreBlind m (enter_vp m me t vp most) (enter_vp m me t vp most)
+enter_vp-blind m me t vp most = record {
+  enters = refl;
+  items = λ v w a. rw (a.pages, a.tds, a.vps) refl;
+  value = λ v w a. refl;
+  cached = λ v w ts a. rw (a.tds, a.vps) refl;
+  act = λ v w lv lw a ps.
+      vps_alike v w a (enter_guest me vp (v.tds.epochs t) v).vps (enter_guest me vp (w.tds.epochs t) w).vps
+      (ap (λ (x : Tds). (enter_guest me vp (x.epochs t) v).vps) a.tds ∙ ap (λ (x : Vps). with_entered x me vp (w.tds.epochs t)) a.vps);
+}
+
 pub add_sept-blind : (m : Machine) (t gpa level p : ℕ) → AreBlind m (add_sept m t gpa level p) (add_sept m t gpa level p)
 add_sept-blind m t gpa level p = record {
   enters = refl;
@@ -522,6 +537,7 @@ row-blind o q a me (call.MrExtend t gpa) = blind_at o q a.machine (λ m. extend 
 row-blind o q a me (call.MrFinalize t) = blind_at o q a.machine (λ m. finalize m t) (finalize-blind o.machine t)
 row-blind o q a me (call.VpCreate t p) = blind_at o q a.machine (λ m. create_vp m t p) (create_vp-blind o.machine t p)
 row-blind o q a me (call.VpInit t vp x) = blind_at o q a.machine (λ m. initialize_vp m t vp x) (initialize_vp-blind o.machine t vp x)
+row-blind o q a me (call.VpEnter t vp most) = blind_at o q a.machine (λ m. enter_vp m me t vp most) (enter_vp-blind o.machine me t vp most)
 row-blind o q a me (call.MemSeptAdd t gpa level p) = blind_at o q a.machine (λ m. add_sept m t gpa level p) (add_sept-blind o.machine t gpa level p)
 row-blind o q a me (call.MemSeptRd t gpa level) = blind_at o q a.machine (λ m. read_sept m t gpa level) (read_sept-blind o.machine t gpa level)
 row-blind o q a me (call.MemPageAdd t gpa p source) = blind_at o q a.machine (λ m. add_page m t gpa p source) (add_page-blind o.machine t gpa p source)

@@ -18,7 +18,7 @@ use Rattle.flat_core.proofs.Tests.{by_test, same_self}
 use Rattle.flat_core.proofs.Maps.{kind_named}
 use Rattle.flat_core.proofs.Exports.{IsOfExported, dirty_exported, free_unmarked}
 use Rattle.flat_core.proofs.Owned.{node_named}
-use Rattle.flat_core.proofs.Kept.{every_lawful, kept_with}
+use Rattle.flat_core.proofs.EveryWorld.{every_lawful, kept_with}
 
 private_kind : (k : PageKind) → same_kind k kind.Reg ≡ true → k ≡ kind.Reg
 private_kind kind.Reg h = refl

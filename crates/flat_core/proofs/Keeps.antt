@@ -28,7 +28,7 @@ use Rattle.flat_core.specs.Effects.{new_td, set_page, clear_page, take_page, map
 use Rattle.flat_core.specs.HostRows.{host_read, host_write, read_metadata}
 use Rattle.flat_core.specs.TdRows.{create, configure_key, add_tdcx, initialize, read_td, finalize}
 use Rattle.flat_core.specs.KeyRows.{write_caches_back, reclaim_conditions, reclaim_page, end_flush, free_hkid}
-use Rattle.flat_core.specs.VpRows.{create_vp, initialize_vp}
+use Rattle.flat_core.specs.VpRows.{create_vp, initialize_vp, enter_vp}
 use Rattle.flat_core.specs.MemRows.{add_sept, read_sept, add_page, augment_page, chunk_bytes, extend}
 use Rattle.flat_core.specs.Table.{row_of}
 use Rattle.flat_core.specs.Lawful.{IsAlive, AreControls, ArePagesOf, LawfulPages, LawfulTds, IsListed, LawfulLists, LawfulTree, LawfulKeys, LawfulBeginnings, LawfulCounts, Lawful, IsNew, RowKeeps, is_free, is_named_kind, key_owner}
@@ -351,6 +351,10 @@ create_vp-keeps m t p = record {
 pub initialize_vp-keeps : (m : Machine) (t v x : ℕ) → RowKeeps m (initialize_vp m t v x)
 initialize_vp-keeps m t v x = record { act = λ w l ps. untouched m w _ refl l; to_tell = λ w. refl }
 
+-- VP.ENTER changes associations, last entries and which virtual processors are in guest alone
+pub enter_vp-keeps : (m : Machine) (me t v most : ℕ) → RowKeeps m (enter_vp m me t v most)
+enter_vp-keeps m me t v most = record { act = λ w l ps. untouched m w _ refl l; to_tell = λ w. refl }
+
 -- the number of the entry that maps a GPA
 within : (gpa level : ℕ) → nat_lt gpa (2 ^ 47) ≡ true → number_at level gpa * level_size level < 2 ^ 47
 within gpa level h = lt_of_le_of_lt (div-mul-le_self gpa (level_size level)) (ltb-true gpa (2 ^ 47) h)
@@ -431,6 +435,7 @@ row-keeps o me (call.MrExtend t gpa) = extend-keeps o.machine t gpa
 row-keeps o me (call.MrFinalize t) = finalize-keeps o.machine t
 row-keeps o me (call.VpCreate t page) = create_vp-keeps o.machine t page
 row-keeps o me (call.VpInit t v x) = initialize_vp-keeps o.machine t v x
+row-keeps o me (call.VpEnter t v most) = enter_vp-keeps o.machine me t v most
 row-keeps o me (call.MemSeptAdd t gpa level page) = add_sept-keeps o.machine t gpa level page
 row-keeps o me (call.MemSeptRd t gpa level) = read_sept-keeps o.machine t gpa level
 row-keeps o me (call.MemPageAdd t gpa page source) = add_page-keeps o.machine t gpa page source

@@ -1,5 +1,5 @@
 -- MRTD and what is measured, over runs and events.
-use Rattle.std.proofs.Common.{◌≡◌, refl, sym, ◌∙◌, ap, subst, ℕ, List, [], ◌∷◌, Option, Some, None, Bool, true, false, ◌==◌}
+use Rattle.std.proofs.Common.{◌≡◌, refl, sym, ◌∙◌, ap, subst, ℕ, ◌+◌, List, [], ◌∷◌, length, Option, Some, None, true, ◌==◌}
 use Rattle.std.specs.List.{list_any}
 use Rattle.std.proofs.lemmas.Bool.{eqb-true}
 use Rattle.sha2.specs.Sha512.{sha384}
@@ -13,22 +13,23 @@ use Rattle.td_words.specs.declared.calls.Call.{Call}
 use Rattle.td_words.specs.declared.calls.Call.TheVariants as call
 use Rattle.td_words.specs.declared.calls.GuestOp.{GuestOp}
 use Rattle.td_words.specs.declared.replies.Outcome.{Outcome}
-use Rattle.td_words.specs.declared.replies.Outcome.TheVariants.{Stop}
 use Rattle.td_words.specs.declared.replies.Reply.{Reply}
 use Rattle.td_words.specs.declared.replies.Value.TheVariants as value
 use Rattle.td_words.specs.NameNumber.{op_number}
 use Rattle.flat_core.specs.World.{World}
-use Rattle.flat_core.specs.Processor.{Phase, Trying, Undoing, Answered, Held, Guest, Lp}
+use Rattle.flat_core.specs.Processor.{Answered, Held, Lp}
 use Rattle.flat_core.specs.Opening.{Opening}
-use Rattle.flat_core.specs.Row.{Move, Attempts, Undoes, Refuses, Succeeds, Releases, Rests, Passes, next_in}
+use Rattle.flat_core.specs.Row.{OperationRow, Move, Attempts, Undoes, Refuses, Succeeds, Releases, Rests, Passes, next, next_in}
 use Rattle.flat_core.specs.TdRows.{read_td, finalize}
-use Rattle.flat_core.specs.Effects.{measure}
-use Rattle.flat_core.specs.Guest.{reach}
+use Rattle.flat_core.specs.Effects.{measure, tell_words}
+use Rattle.flat_core.specs.Guest.{ByRow, operation_of, is_pending_at, reach}
 use Rattle.flat_core.specs.Table.{row_of}
-use Rattle.flat_core.specs.Event.{State, Event, OfCall, OfOperation, Leaves, event_for, line_event, entered_event, epoch_event, guest_event, staying_event, due_event, operation_due, lines_left, is_epoch_lock, nothing_more, world_after, after_event}
+use Rattle.flat_core.specs.Event.{Event, OfCall, OfOperation, lines_left, next_event, nothing_more, world_after, after_event}
 use Rattle.flat_core.specs.Laws.{with_bundles, AreMrtdsDigests, MrtdsAreKept, EveryMrtdIsTheDigest, measured_after_event, EventsMeasure}
 use Rattle.flat_core.proofs.Tests.{by_test}
 use Rattle.flat_core.proofs.Mrtd.{mrtd_is_the_digest, records_are_measured}
+use Rattle.flat_core.proofs.Operations.{operation_row, accepted}
+use Rattle.flat_core.proofs.Due.{Due, calls, frees, leaves, stops, fills, operates, walks, reaches, undoes, gives_back, due_event_is}
 use Rattle.flat_core.proofs.Induction.{world_event, in_runs}
 
 not_runnable : (s : OpState) → list_any (λ a. op_number a == op_number s) (op.Initialized ∷ []) ≡ true → s ≡ op.Runnable → ⊥
@@ -59,12 +60,25 @@ reach_digested : (m : Machine) (t v : ℕ) (access : Access) (r gpa page : ℕ) 
 reach_digested m t v Read r gpa page w h = h
 reach_digested m t v Write r gpa page w h = h
 
+operation_digested : (o : Opening) (t v line : ℕ) (op : GuestOp) (row : OperationRow) (w : World) → operation_of o t v line op ≡ ByRow row → AreMrtdsDigests o.machine w → Passes (row.items w)
+    → AreMrtdsDigests o.machine (tell_words (row.tells w) (row.act w))
+operation_digested o t v line op row w e h ps =
+    operation_row o t v line (λ x. AreMrtdsDigests o.machine (tell_words (x.tells w) (x.act w)))
+    (λ r x. h)
+    (λ r s. h)
+    (λ r gpa. h)
+    (λ r gpa. h)
+    (λ gpa. accepted (AreMrtdsDigests o.machine) (is_pending_at w t gpa) t gpa w (λ y. h) (λ y. h))
+    (λ i. h)
+    (λ r. h)
+    op row e
+
 pub mrtds_kept : MrtdsAreKept
 mrtds_kept = record {
   start = λ o ws t r. absurd (let no : op.Uninitialized ≡ op.Runnable = r in cc);
   event = λ o bundles s p h. world_event (with_bundles o bundles) (AreMrtdsDigests o.machine)
       (row_digested (with_bundles o bundles))
-      (λ t v line op row w e h ps. elim op [ ])
+      (operation_digested (with_bundles o bundles))
       (λ t v line op access r gpa page w e. reach_digested o.machine t v access r gpa page w)
       (λ v w h. h)
       s p h;
@@ -73,64 +87,65 @@ mrtds_kept = record {
 pub every_mrtd : EveryMrtdIsTheDigest
 every_mrtd = in_runs (λ o s. AreMrtdsDigests o.machine s.world) mrtds_kept
 
--- what is shown of a call's moves, of the end of a guest's operation and of its count step is shown of each next event,
--- since no guest operation is built
-module _ (o : Opening) (w : World) (me : ℕ) (lp : Lp) (c : Call) (Q : Event → Type 0)
-    (calls : (move : Move Reply) → Q (OfCall (row_of o me c) move))
-    (endings : (move : Move (Option Outcome)) → Q (OfOperation nothing_more move))
-    (leaves : (v : ℕ) (out : Outcome) → Q (Leaves v out)) where
-  of_due : (g : Guest) (op : Option GuestOp) → Q (due_event o w lp g op)
-  of_due g None = leaves g.vp Stop
-  of_due g (Some op) = elim op [ ]
+module _ (o : Opening) (w : World) (p : ℕ) (lp : Lp) (t : ℕ) where
+  abbrev Measures : List Call → Event → Type 0
+  Measures cs e = (world_after e w).tds.measured t ≡ measured_after_event cs (Some e) w t
 
-  of_staying : (g : Guest) (phase : Phase (Option Outcome)) → Q (staying_event o w lp g phase)
-  of_staying g Trying = of_due g (operation_due o w g)
-  of_staying g (Undoing l) = endings (Undoes l)
-  of_staying g (Answered out) = endings (next_in [] (Answered out) g.operation.held)
+  call_measures : (c : Call) (cs : List Call) (move : Move Reply) → Measures (c ∷ cs) (OfCall (row_of o p c) move)
+  call_measures c cs (Attempts l m) = refl
+  call_measures c cs (Undoes l) = refl
+  call_measures c cs (Refuses r) = refl
+  call_measures c cs Succeeds = records_are_measured o p c w t
+  call_measures c cs (Releases x) = refl
+  call_measures c cs Rests = refl
 
-  of_guest : (g : Guest) (leaving : Option Outcome) → Q (guest_event o w lp g leaving)
-  of_guest g (Some out) = leaves g.vp out
-  of_guest g None = of_staying g g.operation.phase
+  act_measures : (u v line : ℕ) (op : GuestOp) (row : OperationRow) → operation_of o u v line op ≡ ByRow row → (tell_words (row.tells w) (row.act w)).tds.measured t ≡ w.tds.measured t
+  act_measures u v line op row e =
+      operation_row o u v line (λ x. (tell_words (x.tells w) (x.act w)).tds.measured t ≡ w.tds.measured t)
+      (λ r x. refl)
+      (λ r s. refl)
+      (λ r gpa. refl)
+      (λ r gpa. refl)
+      (λ gpa. accepted (λ x. x.tds.measured t ≡ w.tds.measured t) (is_pending_at w u gpa) u gpa w (λ y. refl) (λ y. refl))
+      (λ i. refl)
+      (λ r. refl)
+      op row e
 
-  of_epoch : (g : Guest) (x : Held) (b : Bool) → Q (epoch_event o w lp (row_of o me c) g x b)
-  of_epoch g x true = calls (Releases x)
-  of_epoch g x false = of_guest g g.leaving
+  operation_measures : (u v line : ℕ) (op : GuestOp) (c : Call) (cs : List Call) (row : OperationRow) (move : Move (Option Outcome)) → operation_of o u v line op ≡ ByRow row → Measures (c ∷ cs) (OfOperation row move)
+  operation_measures u v line op c cs row (Attempts l m) e = refl
+  operation_measures u v line op c cs row (Undoes l) e = refl
+  operation_measures u v line op c cs row (Refuses r) e = refl
+  operation_measures u v line op c cs row Succeeds e = act_measures u v line op row e
+  operation_measures u v line op c cs row (Releases x) e = refl
+  operation_measures u v line op c cs row Rests e = refl
 
-  of_entered : (g : Guest) (hs : List Held) → Q (entered_event o w lp (row_of o me c) g hs)
-  of_entered g [] = of_guest g g.leaving
-  of_entered g (x ∷ hs) = of_epoch g x (is_epoch_lock x.lock)
+  reach_measures : (u v : ℕ) (access : Access) (r gpa page : ℕ) → (reach u v access r gpa page w).tds.measured t ≡ w.tds.measured t
+  reach_measures u v Read r gpa page = refl
+  reach_measures u v Write r gpa page = refl
 
-  pub of_line : (g : Option Guest) → Q (line_event o w lp (row_of o me c) g)
-  of_line None = calls (next_in ((row_of o me c).items w) lp.call.phase lp.call.held)
-  of_line (Some g) = of_entered g lp.call.held
+  ending_measures : (c : Call) (cs : List Call) (out : Option Outcome) (hs : List Held) → Measures (c ∷ cs) (OfOperation nothing_more (next_in [] (Answered out) hs))
+  ending_measures c cs out [] = refl
+  ending_measures c cs out (h ∷ hs) = refl
 
-module _ (o : Opening) (w : World) (me : ℕ) (c : Call) (cs : List Call) (t : ℕ) where
-  abbrev Measures : Event → Type 0
-  Measures e = (world_after e w).tds.measured t ≡ measured_after_event (c ∷ cs) (Some e) w t
-
-  call_measures : (move : Move Reply) → Measures (OfCall (row_of o me c) move)
-  call_measures (Attempts l m) = refl
-  call_measures (Undoes l) = refl
-  call_measures (Refuses r) = refl
-  call_measures Succeeds = records_are_measured o me c w t
-  call_measures (Releases x) = refl
-  call_measures Rests = refl
-
-  ending_measures : (move : Move (Option Outcome)) → Measures (OfOperation nothing_more move)
-  ending_measures (Attempts l m) = refl
-  ending_measures (Undoes l) = refl
-  ending_measures (Refuses r) = refl
-  ending_measures Succeeds = refl
-  ending_measures (Releases x) = refl
-  ending_measures Rests = refl
-
-  line_measures : (lp : Lp) → Measures (line_event o w lp (row_of o me c) lp.guest)
-  line_measures lp = of_line o w me lp c Measures call_measures ending_measures (λ v out. refl) lp.guest
-
-lines_measure : (o : Opening) (s : State) (p t : ℕ) (cs : List Call)
-    → (after_event p s (event_for o s.world p (s.lps p) cs)).world.tds.measured t ≡ measured_after_event cs (event_for o s.world p (s.lps p) cs) s.world t
-lines_measure o s p t [] = refl
-lines_measure o s p t (c ∷ cs) = line_measures o s.world p c cs t (s.lps p)
+  due_measures : (e : Event) → Due o w p lp e → Measures (lines_left o p lp) e
+  due_measures e (calls c cs line g) = rw line (call_measures c cs (next_in ((row_of o p c).items w) lp.call.phase lp.call.held))
+  due_measures e (frees c cs g h hs line guest held epoch) = rw line refl
+  due_measures e (leaves c cs g out i l) = rw (i.line) refl
+  due_measures e (stops c cs g i l t d) = rw (i.line) refl
+  due_measures e (fills c cs g op i l t d m) = rw (i.line) refl
+  due_measures e (operates c cs g op row i way is) = rw (i.line) (operation_measures g.tdr g.vp (length lp.replies + 1) op c cs row (next (row.items w) (length g.operation.held)) is)
+  due_measures e (walks c cs g op access r gpa i way is lost) = rw (i.line) refl
+  due_measures e (reaches c cs g op access r gpa page i way is found) = rw (i.line) (reach_measures g.tdr g.vp access r gpa page)
+  due_measures e (undoes c cs g l i s h) = rw (i.line) refl
+  due_measures e (gives_back c cs g out i s h) = rw (i.line) (ending_measures c cs out g.operation.held)
 
 pub events_measure : EventsMeasure
-events_measure o s p t = lines_measure o s p t (lines_left o p (s.lps p))
+events_measure o s p t = by (next_event o s p) refl
+  where
+    none : (cs : List Call) → s.world.tds.measured t ≡ measured_after_event cs None s.world t
+    none [] = refl
+    none (c ∷ cs) = refl
+
+    by : (x : Option Event) → next_event o s p ≡ x → (after_event p s x).world.tds.measured t ≡ measured_after_event (lines_left o p (s.lps p)) x s.world t
+    by None e = none (lines_left o p (s.lps p))
+    by (Some x) e = due_measures o s.world p (s.lps p) t x (due_event_is o s p x e)

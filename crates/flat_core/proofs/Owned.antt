@@ -7,7 +7,7 @@ use Rattle.flat_core.specs.Conditions.{same_kind}
 use Rattle.td_words.specs.declared.names.PageKind.TheVariants as kind
 use Rattle.flat_core.specs.Lawful.{IsAlive, IsNodeOf, Lawful, is_free, is_named_kind}
 use Rattle.flat_core.specs.Laws.{IsOwned, ArePagesOwned, LawfulPagesAreOwned, OwnersAreKept, EveryPageIsOwned}
-use Rattle.flat_core.proofs.Kept.{every_lawful, kept_with}
+use Rattle.flat_core.proofs.EveryWorld.{every_lawful, kept_with}
 use Rattle.flat_core.proofs.Maps.{kind_named}
 
 not_host : (l : ℕ) → same_kind (kind_named l) kind.Nda ≡ false

@@ -1,28 +1,33 @@
 -- The words that guests told are recorded once in the world and once by processor, and both agree.
-use Rattle.std.proofs.Common.{◌≡◌, refl, sym, ◌∙◌, subst, ap, ℕ, List, [], ◌∷◌, ◌++◌, Option, Some, None, Bool, false, ◌==◌}
+use Rattle.std.proofs.Common.{◌≡◌, refl, sym, ◌∙◌, subst, ap, ℕ, ◌+◌, length, List, [], ◌∷◌, ◌++◌, Option, Some, None, Bool, false, ◌==◌}
 use Rattle.std.proofs.lemmas.List.{append-nil}
+use Rattle.td_words.specs.declared.names.Access.{Access}
+use Rattle.td_words.specs.declared.names.Access.TheVariants.{Read, Write}
 use Rattle.td_words.specs.declared.calls.Call.{Call}
 use Rattle.td_words.specs.declared.calls.Call.TheVariants as call
+use Rattle.td_words.specs.declared.calls.GuestOp.{GuestOp}
 use Rattle.td_words.specs.declared.replies.Outcome.{Outcome}
 use Rattle.td_words.specs.declared.replies.Reply.{Reply}
 use Rattle.flat_core.specs.World.{World, put}
-use Rattle.flat_core.specs.Processor.{Phase, Trying, Undoing, Answered, Held, Entering, Lp}
+use Rattle.flat_core.specs.Processor.{Phase, Trying, Undoing, Answered, Held, Guest, Entering, Lp}
 use Rattle.flat_core.specs.Opening.{Opening}
-use Rattle.flat_core.specs.Row.{Row, Move, Attempts, Undoes, Refuses, Succeeds, Releases, Rests}
+use Rattle.flat_core.specs.Row.{Row, OperationRow, Move, Attempts, Undoes, Refuses, Succeeds, Releases, Rests, next, next_in}
 use Rattle.flat_core.specs.Table.{row_of}
-use Rattle.flat_core.specs.Event.{State, Event, OfCall, OfOperation, start, event_for, lines_left, event, after_event, world_after, lp_after, call_lp, succeeded, settle, operation_told, nothing_more, is_granted}
-use Rattle.flat_core.specs.Run.{play}
+use Rattle.flat_core.specs.Guest.{ByRow, operation_of, is_pending_at}
+use Rattle.flat_core.specs.Event.{State, Event, OfCall, OfOperation, Walks, Reaches, start, after_event, world_after, lp_after, call_lp, succeeded, settle, operation_told, nothing_more, is_granted}
 use Rattle.flat_core.specs.Laws.{AreMerged, nothing_told, more_told, ToldAreMerged, OperationsTellBoth}
 use Rattle.flat_core.proofs.Tests.{by_test}
-use Rattle.flat_core.proofs.Measured.{of_line}
+use Rattle.flat_core.proofs.Operations.{operation_row, accepted}
+use Rattle.flat_core.proofs.Due.{Due, calls, frees, leaves, stops, fills, operates, walks, reaches, undoes, gives_back, due_event_is}
+use Rattle.flat_core.proofs.Induction.{play_keeps}
 
 pub operations_tell_both : OperationsTellBoth
-operations_tell_both w granted row (Attempts l m) lp leaves = (sym (append-nil w.outgoing.told), refl)
-operations_tell_both w granted row (Undoes l) lp leaves = (sym (append-nil w.outgoing.told), refl)
-operations_tell_both w granted row (Refuses r) lp leaves = (sym (append-nil w.outgoing.told), refl)
-operations_tell_both w granted row Succeeds lp leaves = (ap (λ (xs : List ℕ). xs ++ row.tells w) leaves, refl)
-operations_tell_both w granted row (Releases h) lp leaves = (sym (append-nil w.outgoing.told), refl)
-operations_tell_both w granted row Rests lp leaves = (sym (append-nil w.outgoing.told), refl)
+operations_tell_both w granted row (Attempts l m) lp stays = (sym (append-nil w.outgoing.told), refl)
+operations_tell_both w granted row (Undoes l) lp stays = (sym (append-nil w.outgoing.told), refl)
+operations_tell_both w granted row (Refuses r) lp stays = (sym (append-nil w.outgoing.told), refl)
+operations_tell_both w granted row Succeeds lp stays = (ap (λ (xs : List ℕ). xs ++ row.tells w) stays, refl)
+operations_tell_both w granted row (Releases h) lp stays = (sym (append-nil w.outgoing.told), refl)
+operations_tell_both w granted row Rests lp stays = (sym (append-nil w.outgoing.told), refl)
 
 -- no call tells a word
 row_tells : (o : Opening) (me : ℕ) (c : Call) (w : World) → ((row_of o me c).act w).outgoing.told ≡ w.outgoing.told
@@ -64,6 +69,19 @@ record Tells (w : World) (b : Bool) (e : Event) (lp : Lp) : Type 0 where
 silent : (w : World) (b : Bool) (e : Event) (lp : Lp) → (world_after e w).outgoing.told ≡ w.outgoing.told → (lp_after w b e lp).told ≡ lp.told → Tells w b e lp
 silent w b e lp x y = record { words = []; world = x ∙ sym (append-nil w.outgoing.told); own = y ∙ sym (append-nil lp.told) }
 
+-- no act of an operation does by itself
+act_tells : (o : Opening) (t v line : ℕ) (op : GuestOp) (row : OperationRow) (w : World) → operation_of o t v line op ≡ ByRow row → (row.act w).outgoing.told ≡ w.outgoing.told
+act_tells o t v line op row w e =
+    operation_row o t v line (λ x. (x.act w).outgoing.told ≡ w.outgoing.told)
+    (λ r x. refl)
+    (λ r s. refl)
+    (λ r gpa. refl)
+    (λ r gpa. refl)
+    (λ gpa. accepted (λ x. x.outgoing.told ≡ w.outgoing.told) (is_pending_at w t gpa) t gpa w (λ y. refl) (λ y. refl))
+    (λ i. refl)
+    (λ r. refl)
+    op row e
+
 abbrev Merged : State → Type 0
 Merged s = AreMerged (λ q. (s.lps q).told) s.world.outgoing.told
 
@@ -81,10 +99,31 @@ module _ (o : Opening) (s : State) (p : ℕ) (h : Merged s) where
       silent s.world (is_granted s e) e lp (call_tells o p c move s.world)
       (settle_tells x.call.phase x.call.held x ∙ made_tells s.world (is_granted s e) (row_of o p c) move lp)
 
+  operation_is_told : (g : Guest) (line : ℕ) (op : GuestOp) (row : OperationRow) (move : Move (Option Outcome)) → operation_of o g.tdr g.vp line op ≡ ByRow row → IsTold (OfOperation row move)
+  operation_is_told g line op row move e =
+      let both = operations_tell_both s.world (is_granted s (OfOperation row move)) row move lp (act_tells o g.tdr g.vp line op row s.world e) in
+      record { words = operation_told s.world row move; world = both.0; own = both.1 }
+
   of_ending : (move : Move (Option Outcome)) → IsTold (OfOperation nothing_more move)
   of_ending move =
       let both = operations_tell_both s.world (is_granted s (OfOperation nothing_more move)) nothing_more move lp refl in
       record { words = operation_told s.world nothing_more move; world = both.0; own = both.1 }
+
+  reach_is_told : (t v : ℕ) (access : Access) (r gpa page : ℕ) → IsTold (Reaches t v access r gpa page)
+  reach_is_told t v Read r gpa page = silent s.world _ (Reaches t v Read r gpa page) lp refl refl
+  reach_is_told t v Write r gpa page = silent s.world _ (Reaches t v Write r gpa page) lp refl refl
+
+  is_told : (e : Event) → Due o s.world p lp e → IsTold e
+  is_told e (calls c cs line g) = of_call c (next_in ((row_of o p c).items s.world) lp.call.phase lp.call.held)
+  is_told e (frees c cs g h hs line guest held epoch) = of_call c (Releases h)
+  is_told e (leaves c cs g out i l) = silent s.world false _ lp refl refl
+  is_told e (stops c cs g i l t d) = silent s.world false _ lp refl refl
+  is_told e (fills c cs g op i l t d m) = silent s.world false _ lp refl refl
+  is_told e (operates c cs g op row i way is) = operation_is_told g (length lp.replies + 1) op row (next (row.items s.world) (length g.operation.held)) is
+  is_told e (walks c cs g op access r gpa i way is lost) = silent s.world false (Walks access gpa) lp refl refl
+  is_told e (reaches c cs g op access r gpa page i way is found) = reach_is_told g.tdr g.vp access r gpa page
+  is_told e (undoes c cs g l i st h) = of_ending (Undoes l)
+  is_told e (gives_back c cs g out i st h) = of_ending (next_in [] (Answered out) g.operation.held)
 
   grows : (e : Event) → IsTold e → Merged (after_event p s (Some e))
   grows e t =
@@ -97,13 +136,5 @@ module _ (o : Opening) (s : State) (p : ℕ) (h : Merged s) where
       at : (q : ℕ) → put (λ q. (s.lps q).told) p (lp.told ++ t.words) q ≡ (put s.lps p (lp_after s.world (is_granted s e) e lp) q).told
       at q = by_test (q == p) (λ y. rw y (sym t.own)) (λ y. rw y refl)
 
-  by_lines : (cs : List Call) → Merged (after_event p s (event_for o s.world p lp cs))
-  by_lines [] = h
-  by_lines (c ∷ cs) = grows _ (of_line o s.world p lp c IsTold (of_call c) of_ending (λ v out. silent s.world false _ lp refl refl) lp.guest)
-
-merged_over : (o : Opening) (schedule : List ℕ) (s : State) → Merged s → Merged (play o schedule s)
-merged_over o [] s h = h
-merged_over o (p ∷ ps) s h = merged_over o ps (event o s p) (by_lines o s p h (lines_left o p (s.lps p)))
-
 pub told_are_merged : ToldAreMerged
-told_are_merged o ws schedule = merged_over o schedule (start o ws) nothing_told
+told_are_merged o ws schedule = play_keeps o Merged (λ s p e is h. grows o s p h e (is_told o s p h e (due_event_is o s p e is))) schedule (start o ws) nothing_told

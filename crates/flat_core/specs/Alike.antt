@@ -5,12 +5,14 @@ use Rattle.flat_core.specs.Conditions.{same_kind}
 use Rattle.td_words.specs.declared.machines.Machine.{Machine}
 use Rattle.td_words.specs.declared.names.OpState.TheVariants as op
 use Rattle.td_words.specs.declared.names.OpState.{OpState}
-use Rattle.std.specs.Prelude.{◌≡◌, ℕ, List, map, Bool, true, false, not, ◌||◌}
+use Rattle.std.specs.Prelude.{◌≡◌, ℕ, List, ◌++◌, map, Some, None, Bool, true, false, not, ◌||◌}
 use Rattle.td_words.specs.declared.names.PageKind.TheVariants as kind
 use Rattle.flat_core.specs.World.{World, Pages, Tds}
 use Rattle.flat_core.specs.Processor.{Translation}
 use Rattle.flat_core.specs.Opening.{public_bundle}
-use Rattle.flat_core.specs.Row.{Row, Passes}
+use Rattle.flat_core.specs.Row.{Row, OperationRow, Passes}
+use Rattle.flat_core.specs.Effects.{tell_words}
+use Rattle.flat_core.specs.Guest.{Operation, ByRow, Private}
 
 -- until MR.FINALIZE no guest of a TD has run, and its pages hold what the host put there
 abbrev pub is_being_built : OpState → Bool
@@ -40,3 +42,23 @@ pub record AreBlind (m : Machine) (r q : Row) : Type 0 where
   pub value : (v w : World) → Alike v w → r.value v ≡ q.value w
   pub cached : (v w : World) (ts : List Translation) → Alike v w → r.cached v ts ≡ q.cached w ts
   pub act : (v w : World) → Lawful m v → Lawful m w → Alike v w → Passes (r.items v) → Alike (r.act v) (q.act w)
+
+-- Two such worlds, where the guests of the first tell their registers' words, and those of the second have these to tell
+pub record TellAlike (v w : World) (words : List ℕ) : Type 0 where
+  pub alike : Alike v w
+  pub own : v.outgoing.to_tell ≡ None
+  pub given : w.outgoing.to_tell ≡ Some words
+
+-- A guest operation's rows, where the second world has the words to tell that the first one's act tells, and then others:
+-- they ask, answer and tell the same, and their acts, with the words told, keep the worlds alike. Their notes may differ.
+pub record AreBlindActs (r q : OperationRow) : Type 0 where
+  pub items : (v w : World) → Alike v w → r.items v ≡ q.items w
+  pub answer : (v w : World) (rest : List ℕ) → TellAlike v w (r.tells v ++ rest) → r.answer v ≡ q.answer w
+  pub tells : (v w : World) (rest : List ℕ) → TellAlike v w (r.tells v ++ rest) → r.tells v ≡ q.tells w
+  pub act : (v w : World) (rest : List ℕ) → TellAlike v w (r.tells v ++ rest) → TellAlike (tell_words (r.tells v) (r.act v)) (tell_words (q.tells w) (q.act w)) rest
+
+-- the operation, however it is done: a private access is the same one
+abbrev pub AreBlindOperations : Operation → Operation → Type 0
+AreBlindOperations (ByRow r) (ByRow q) = AreBlindActs r q
+AreBlindOperations (Private access r gpa) x = x ≡ Private access r gpa
+AreBlindOperations (ByRow r) (Private access q gpa) = ⊥

@@ -1,5 +1,5 @@
 -- Worked examples of guests, which compute.
-use Rattle.std.specs.Prelude.{◌≡◌, ℕ, ◌+◌, List, [], ◌∷◌, ◌++◌, length, replicate, drop, Some, None}
+use Rattle.std.specs.Prelude.{◌≡◌, ℕ, zero, suc, ◌+◌, List, [], ◌∷◌, ◌++◌, length, replicate, drop, Some, None}
 use Rattle.sha2.specs.Sha512.{sha384}
 use Rattle.td_words.specs.declared.names.LockName.TheVariants as lock
 use Rattle.td_words.specs.declared.names.Access.TheVariants as access
@@ -65,17 +65,19 @@ stop_state = beside [] 79 (MngVpflushdone 1)
 
 -- processor 1 enters the same virtual processor while it is in guest on processor 0, and after it has left
 abbrev pub entered_beside : ℕ → List Reply
-entered_beside n = replies_of (beside [] n (VpEnter 1 4 1)) 1
+entered_beside n =
+    let build = building ++ MrFinalize 1 ∷ VpEnter 1 4 9 ∷ [] in
+    replies_of (run (opening_with [] (build ∷ (VpEnter 1 4 1 ∷ []) ∷ [])) (replicate n 0 ++ replicate 20 1)) 1
 
--- two processors enter a virtual processor each of one TD, and share a page's word
+-- two processors enter a virtual processor each of one TD: the first stores a word that the second loads
+abbrev pub stores_or_loads : ℕ → List GuestOp
+stores_or_loads zero = Set 1 44 ∷ Store 1 8 ∷ []
+stores_or_loads (suc i) = Load 2 8 ∷ Vmcall 2 ∷ []
+
 abbrev pub two_guests : State
-two_guests = run (record (plain_opening 2 32 1 ((building ++ VpCreate 1 9 ∷ VpInit 1 9 0 ∷ MemPageAdd 1 0 8 0 ∷ MrFinalize 1 ∷ VpEnter 1 4 9 ∷ []) ∷ (VpEnter 1 9 9 ∷ []) ∷ [])) {
-      codes = λ t i. writes_or_reads i;
-    }) (replicate 100 0)
-  where
-    writes_or_reads : ℕ → List GuestOp
-    writes_or_reads 0 = Set 1 44 ∷ Store 1 8 ∷ []
-    writes_or_reads _ = Load 2 8 ∷ Vmcall 2 ∷ []
+two_guests =
+    let build = building ++ VpCreate 1 9 ∷ VpInit 1 9 0 ∷ MemPageAdd 1 0 8 0 ∷ MrFinalize 1 ∷ VpEnter 1 4 9 ∷ [] in
+    run (record (plain_opening 2 32 1 (build ∷ (VpEnter 1 9 9 ∷ []) ∷ [])) { codes = λ t i. stores_or_loads i }) (replicate 120 0)
 
 pub record GuestExamples : Type 0 where
   -- operations are completed until as many as asked for are, until a VMCALL, or until the list's end, which is tested first
@@ -87,8 +89,8 @@ pub record GuestExamples : Type 0 where
   pub stop_0 : drop 11 (replies_of stop_state 0) ≡ Exited Stop ∷ []
   pub stop_1 : replies_of stop_state 1 ≡ Refused (FlushvpNotDone 1) ∷ []
   -- what VP.ENTER refuses
-  pub refused : after_ready [] (VpEnter 32 4 1 ∷ VpEnter 1 4 0 ∷ VpEnter 1 4 0x10000 ∷ VpEnter 1 1 1 ∷ VpEnter 1 8 1 ∷ [])
-      ≡ Refused (OperandInvalid 1) ∷ Refused (OperandInvalid 3) ∷ Refused (OperandInvalid 3) ∷ Refused (OperandInvalid 2) ∷ Refused (PageMetadataIncorrect 8) ∷ []
+  pub refused : after_ready [] (VpEnter 32 4 1 ∷ VpEnter 1 4 0 ∷ VpEnter 1 1 1 ∷ VpEnter 1 8 1 ∷ [])
+      ≡ Refused (OperandInvalid 1) ∷ Refused (OperandInvalid 3) ∷ Refused (OperandInvalid 2) ∷ Refused (PageMetadataIncorrect 8) ∷ []
   pub in_guest_elsewhere : entered_beside 75 ≡ Refused (OperandBusy (lock.Page 4)) ∷ []
   pub associated_elsewhere : entered_beside 79 ≡ Refused (VcpuAssociated 0) ∷ []
   -- a word is loaded through a walk of four loads, and stored in a shared page without one

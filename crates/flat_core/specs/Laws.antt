@@ -17,13 +17,14 @@ use Rattle.td_words.specs.declared.replies.Reply.{Reply}
 use Rattle.td_words.specs.declared.replies.Reply.TheVariants.{Done, Refused}
 use Rattle.td_words.specs.declared.calls.Call.{Call}
 use Rattle.td_words.specs.declared.calls.Call.TheVariants as call
+use Rattle.td_words.specs.NameNumber.{op_number}
 use Rattle.td_words.specs.Packing.{Entry, is_exported}
 use Rattle.flat_core.specs.World.{World, Pages, Tds, put, Made}
-use Rattle.flat_core.specs.Processor.{LockId, Lp, nothing_yet}
+use Rattle.flat_core.specs.Processor.{LockId, Guest, Lp, nothing_yet}
 use Rattle.flat_core.specs.Locks.{holders, sharers, one_if}
 use Rattle.flat_core.specs.Opening.{Opening, Incoming, Agree, blind, public_bundle}
 use Rattle.flat_core.specs.Row.{Passes, Succeeds, Row, OperationRow, Move, tries_in}
-use Rattle.flat_core.specs.Conditions.{is_host_in}
+use Rattle.flat_core.specs.Conditions.{is_host_in, running_ops}
 use Rattle.flat_core.specs.Tree.{entry_at}
 use Rattle.flat_core.specs.TdRows.{read_td, finalize}
 use Rattle.flat_core.specs.MemRows.{chunk_bytes}
@@ -33,6 +34,7 @@ use Rattle.flat_core.specs.Run.{play, run, run_told, told_in, bundles_in}
 use Rattle.flat_core.specs.HostText.{host_text, text_of}
 use Rattle.flat_core.specs.Exports.{is_dirty}
 use Rattle.flat_core.specs.Lawful.{IsAlive, Lawful, RowKeeps, is_free, is_named_kind, all_differ}
+use Rattle.flat_core.specs.Inside.{AreTimely}
 use Rattle.flat_core.specs.Alike.{AreBlind}
 
 -- beside each row, its two facts
@@ -75,12 +77,12 @@ pub record IsKept (holds : Opening → State → Type 0) : Type 0 where
 abbrev pub HoldsInRuns : (Opening → State → Type 0) → Type 0
 HoldsInRuns holds = (o : Opening) (words_to_tell : Option (List ℕ)) (schedule : List ℕ) → holds o (reached o words_to_tell schedule)
 
--- the world is lawful; and what is said of it besides holds
+-- the world is lawful; and, where processors stand as they do in runs, what is said of it besides holds
 abbrev pub IsLawful : Opening → State → Type 0
 IsLawful o s = Lawful o.machine s.world
 
 abbrev pub IsLawfulWith : (World → Type 0) → Opening → State → Type 0
-IsLawfulWith besides o s = IsLawful o s × besides s.world
+IsLawfulWith besides o s = AreTimely o s × besides s.world
 
 abbrev pub EveryWorldIsLawful : Type 0
 EveryWorldIsLawful = HoldsInRuns IsLawful
@@ -133,13 +135,18 @@ CountsAreKept = IsKept (IsLawfulWith AreCounted)
 abbrev pub ExportedAreCounted : Type 0
 ExportedAreCounted = HoldsInRuns (λ o s. AreCounted s.world)
 
--- one event keeps it, whatever bundles have come in
-abbrev pub LawfulIsKept : Type 0
-LawfulIsKept = IsKept IsLawful
+-- the TD of a processor's guest runs
+abbrev pub GuestRuns : World → Lp → Type 0
+GuestRuns w lp = (g : Guest) → lp.guest ≡ Some g → list_any (λ s. op_number s == op_number (w.tds.ops g.tdr)) running_ops ≡ true
 
--- so does each event of any opening with that machine
+-- one event keeps it, whatever bundles have come in, where processors stand as they do in runs
+abbrev pub LawfulIsKept : Type 0
+LawfulIsKept = IsKept AreTimely
+
+-- so does each event of any opening with that machine, where the TD of its processor's guest runs, and so is built: one that
+-- isn't has RTMRs of zeros in every lawful world
 abbrev pub EventsKeepLawful : Type 0
-EventsKeepLawful = (o : Opening) (s : State) (p : ℕ) → Lawful o.machine s.world → Lawful o.machine (event o s p).world
+EventsKeepLawful = (o : Opening) (s : State) (p : ℕ) → Lawful o.machine s.world → GuestRuns s.world (s.lps p) → Lawful o.machine (event o s p).world
 
 -- an event of one processor leaves the records of the others alone
 abbrev pub OthersStay : Type 0

@@ -23,6 +23,7 @@ use Rattle.vcpu_control.specs.VpMeanings.{vp_create-means, vp_init-means}
 use Rattle.mem_build.specs.SeptAddMeanings.{sept_add-means}
 use Rattle.mem_build.specs.SeptReadMeanings.{sept_read-means}
 use Rattle.mem_build.specs.PageAddMeanings.{page_add-means}
+use Rattle.mem_build.specs.PageAugMeanings.{page_aug-means}
 use Rattle.mem_build.specs.ExtendMeanings.{extend-means}
 use Rattle.leaf_dispatch.specs.Table.{task_of}
 use Rattle.leaf_dispatch.specs.Laws.{CallsHaveLeaves, NoneEnters}
@@ -46,6 +47,7 @@ of-place p (call.VpInit tdr vp value) = refl
 of-place p (call.MemSeptAdd tdr gpa level page) = refl
 of-place p (call.MemSeptRd tdr gpa level) = refl
 of-place p (call.MemPageAdd tdr gpa page source) = refl
+of-place p (call.MemPageAug tdr gpa page) = refl
 of-place p (call.MrExtend tdr gpa) = refl
 
 of-row : (o : Opening) (p : ℕ) (c : Call) → (task_of (record { machine = o.machine; lp = p }) c).meaning ≡ OfCall (row_of o p c)
@@ -67,6 +69,7 @@ of-row o p (call.VpInit tdr vp value) = refl
 of-row o p (call.MemSeptAdd tdr gpa level page) = refl
 of-row o p (call.MemSeptRd tdr gpa level) = refl
 of-row o p (call.MemPageAdd tdr gpa page source) = refl
+of-row o p (call.MemPageAug tdr gpa page) = refl
 of-row o p (call.MrExtend tdr gpa) = refl
 
 -- no call enters a guest yet
@@ -93,6 +96,7 @@ means p (call.VpInit tdr vp value) m = vp_init-means p tdr vp value (let few = m
 means p (call.MemSeptAdd tdr gpa level page) m = sept_add-means p tdr gpa level page m
 means p (call.MemSeptRd tdr gpa level) m = sept_read-means p tdr gpa level m
 means p (call.MemPageAdd tdr gpa page source) m = page_add-means p tdr gpa page source m
+means p (call.MemPageAug tdr gpa page) m = page_aug-means p tdr gpa page m
 means p (call.MrExtend tdr gpa) m = extend-means p tdr gpa m
 
 pub calls-have-leaves : CallsHaveLeaves

@@ -30,6 +30,7 @@ use Rattle.sept_walk.specs.SecureEpt.{index_at}
 use Rattle.sept_parts.specs.declared.finds.Found.{Found}
 use Rattle.sept_parts.specs.SeptTrees.{walk_on_tree, find_tree, state_tree}
 use Rattle.mem_build.specs.SeptAddTrees.{sept_add_rest}
+use Rattle.mem_build.specs.PageAugTrees.{page_aug_rest}
 use Rattle.mem_build.specs.PageAddTrees.{page_add_tree, pages_tree, addition_end}
 use Rattle.mem_build.specs.ExtendTrees.{words_tree, measured_tree, measure_tree}
 use Rattle.leaf_dispatch.specs.Bounds.{TriesAtMost}
@@ -94,6 +95,7 @@ few_tries p (call.VpInit tdr vp value) = (omega arith, λ pamt life count tdcs. 
 few_tries p (call.MemSeptAdd tdr gpa level page) = (omega arith, λ pamt life count tdcs. (omega arith, λ op. (omega arith, find-few 1 p.machine.pages tdr gpa level (sept_add_rest p.machine.pages tdr page (index_at level gpa)) (λ f. (omega arith, λ host children. refl)))))
 few_tries p (call.MemSeptRd tdr gpa level) = (omega arith, λ pamt life count tdcs. (omega arith, λ op. (omega arith, find-few 0 p.machine.pages tdr gpa level (λ (f : Found). answers (Done (entry_value f.entry))) (λ f. refl))))
 few_tries p (call.MemPageAdd tdr gpa page source) = page_add-few p.machine tdr gpa page source
+few_tries p (call.MemPageAug tdr gpa page) = (omega arith, λ pamt life count tdcs. (omega arith, λ op. (omega arith, find-few 1 p.machine.pages tdr gpa 0 (page_aug_rest p.machine.pages tdr page (index_at 0 gpa)) (λ f. (omega arith, λ host children. refl)))))
 few_tries p (call.MrExtend tdr gpa) = (
   omega arith,
   λ pamt life count tdcs. (

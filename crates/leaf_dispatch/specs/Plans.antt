@@ -13,6 +13,7 @@ use Rattle.key_table.specs.EndTrees.{free_task}
 use Rattle.vcpu_control.specs.VpTrees.{vp_create_task, vp_init_task}
 use Rattle.mem_build.specs.SeptAddTrees.{sept_add_task}
 use Rattle.mem_build.specs.SeptReadTrees.{sept_read_task}
+use Rattle.mem_build.specs.PageAugTrees.{page_aug_task}
 use Rattle.access_core.specs.HostMeanings.{host_read-means, host_write-means}
 use Rattle.mem_remove.specs.MetadataMeanings.{rdmd-means}
 use Rattle.key_table.specs.CacheMeanings.{cache-means}
@@ -26,6 +27,7 @@ use Rattle.key_table.specs.EndMeanings.{free-means}
 use Rattle.vcpu_control.specs.VpMeanings.{vp_create-means, vp_init-means}
 use Rattle.mem_build.specs.SeptAddMeanings.{sept_add-means}
 use Rattle.mem_build.specs.SeptReadMeanings.{sept_read-means}
+use Rattle.mem_build.specs.PageAugMeanings.{page_aug-means}
 use Rattle.leaf_dispatch.specs.declared.plans.AnyPlan.{AnyPlan}
 use Rattle.leaf_dispatch.specs.declared.plans.AnyPlan.TheVariants as plan
 
@@ -46,6 +48,7 @@ plan_task (plan.VpCreate l) = vp_create_task l.place l.tdr l.page
 plan_task (plan.VpInit l) = vp_init_task l.place l.tdr l.vp l.value
 plan_task (plan.SeptAdd l) = sept_add_task l.place l.tdr l.gpa l.level l.page
 plan_task (plan.SeptRd l) = sept_read_task l.place l.tdr l.gpa l.level
+plan_task (plan.PageAug l) = page_aug_task l.place l.tdr l.gpa l.page
 
 -- each means its row
 pub plans-mean : (l : AnyPlan) → MeansRow (plan_task l)
@@ -64,3 +67,4 @@ plans-mean (plan.VpCreate l) = vp_create-means l.place l.tdr l.page
 plans-mean (plan.VpInit l) = vp_init-means l.place l.tdr l.vp l.value l.few_pages
 plans-mean (plan.SeptAdd l) = sept_add-means l.place l.tdr l.gpa l.level l.page l.machine
 plans-mean (plan.SeptRd l) = sept_read-means l.place l.tdr l.gpa l.level l.machine
+plans-mean (plan.PageAug l) = page_aug-means l.place l.tdr l.gpa l.page l.machine

@@ -21,6 +21,7 @@ use Rattle.vcpu_control.specs.VpTrees.{vp_create_task, vp_init_task}
 use Rattle.mem_build.specs.SeptAddTrees.{sept_add_task}
 use Rattle.mem_build.specs.SeptReadTrees.{sept_read_task}
 use Rattle.mem_build.specs.PageAddTrees.{page_add_task}
+use Rattle.mem_build.specs.PageAugTrees.{page_aug_task}
 use Rattle.mem_build.specs.ExtendTrees.{extend_task}
 
 -- what the leaf of a call at a place has to do
@@ -43,6 +44,7 @@ task_of p (call.VpInit tdr vp value) = vp_init_task p tdr vp value
 task_of p (call.MemSeptAdd tdr gpa level page) = sept_add_task p tdr gpa level page
 task_of p (call.MemSeptRd tdr gpa level) = sept_read_task p tdr gpa level
 task_of p (call.MemPageAdd tdr gpa page source) = page_add_task p tdr gpa page source
+task_of p (call.MemPageAug tdr gpa page) = page_aug_task p tdr gpa page
 task_of p (call.MrExtend tdr gpa) = extend_task p tdr gpa
 
 -- the leaves of each processor of a machine

@@ -10,7 +10,7 @@ use crate::plans::AnyPlan;
 use access_core::{HostRead, HostWrite};
 use key_table::{CacheWb, FlushDone, FreeId, Reclaim};
 use leaf_engine::{Leaf, Measuring, Need, Place, Planned, Write};
-use mem_build::{Extend, PageAdd, SeptAdd, SeptRd};
+use mem_build::{Extend, PageAdd, PageAug, SeptAdd, SeptRd};
 use mem_remove::Rdmd;
 use mrtd_measure::Measure;
 use td_control::{AddCx, Create, Finalize, Init, KeyConfig, Rd};
@@ -144,6 +144,9 @@ pub fn leaf_of(place: Place, call: &Call) -> AnyLeaf
             page,
             source,
         } => AnyLeaf::PageAdd(PageAdd::leaf(place, tdr, gpa, page, source)),
+        Call::MemPageAug { tdr, gpa, page } => {
+            by_plan(AnyPlan::PageAug(PageAug::leaf(place, tdr, gpa, page).into_plan()))
+        }
         Call::MrExtend { tdr, gpa } => AnyLeaf::Extend(Extend::leaf(place, tdr, gpa)),
     }
 }

@@ -3,7 +3,7 @@
 use access_core::{HostRead, HostWrite};
 use key_table::{CacheWb, FlushDone, FreeId, Reclaim};
 use leaf_engine::{Plan, Stop, Told, Verdict};
-use mem_build::{SeptAdd, SeptRd};
+use mem_build::{PageAug, SeptAdd, SeptRd};
 use mem_remove::Rdmd;
 use td_control::{AddCx, Create, KeyConfig, Rd};
 use vcpu_control::{VpCreate, VpInit};
@@ -26,6 +26,7 @@ pub enum AnyPlan {
     VpInit(VpInit),
     SeptAdd(SeptAdd),
     SeptRd(SeptRd),
+    PageAug(PageAug),
 }
 
 impl Plan for AnyPlan {
@@ -50,6 +51,7 @@ impl Plan for AnyPlan {
             AnyPlan::VpInit(plan) => plan.decide(told),
             AnyPlan::SeptAdd(plan) => plan.decide(told),
             AnyPlan::SeptRd(plan) => plan.decide(told),
+            AnyPlan::PageAug(plan) => plan.decide(told),
         }
     }
 

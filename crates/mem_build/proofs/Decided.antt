@@ -11,6 +11,7 @@ use Rattle.leaf_engine.specs.Decides.{Decides}
 use Rattle.leaf_parts.proofs.Parts.{passes}
 use Rattle.mem_build.specs.SeptReadTrees.{read_arguments}
 use Rattle.mem_build.specs.SeptAddTrees.{add_arguments}
+use Rattle.mem_build.specs.PageAugTrees.{augment_arguments}
 
 -- the arguments of MEM.SEPT.RD
 pub read-arguments : (n : ℕ) (m : Machine) (tdr gpa level : ℕ) → nat_lt tdr m.pages ≡ true → nat_lt gpa (2 ^ 47) ≡ true → nat_le level 3 ≡ true → (gpa % level_size level == 0) ≡ true
@@ -36,3 +37,17 @@ add-arguments n m tdr gpa level page a b c d e f t xs r h =
     (passes n (nat_lt page m.pages) (OperandInvalid 4) fifth xs r d
     (passes n (not (page == tdr)) (OperandInvalid 4) last xs r e
     (passes n (gpa % level_size level == 0) (OperandInvalid 2) t xs r f h)))))
+
+-- and of MEM.PAGE.AUG
+pub augment-arguments : (n : ℕ) (m : Machine) (tdr gpa page : ℕ) → nat_lt tdr m.pages ≡ true → nat_lt gpa (2 ^ 47) ≡ true → nat_lt page m.pages ≡ true → not (page == tdr) ≡ true → (gpa % level_size 0 == 0) ≡ true
+    → (t : Tree) (xs : List ℕ) (r : Result Verdict Stop) → Decides n t xs r → Decides n (augment_arguments m tdr gpa page t) xs r
+augment-arguments n m tdr gpa page a b c d e t xs r h =
+    let last : Tree = needs (gpa % level_size 0 == 0) (OperandInvalid 2) t in
+    let fourth : Tree = needs (not (page == tdr)) (OperandInvalid 3) last in
+    let third : Tree = needs (nat_lt page m.pages) (OperandInvalid 3) fourth in
+    let second : Tree = needs (nat_lt gpa (2 ^ 47)) (OperandInvalid 2) third in
+    passes n (nat_lt tdr m.pages) (OperandInvalid 1) second xs r a
+    (passes n (nat_lt gpa (2 ^ 47)) (OperandInvalid 2) third xs r b
+    (passes n (nat_lt page m.pages) (OperandInvalid 3) fourth xs r c
+    (passes n (not (page == tdr)) (OperandInvalid 3) last xs r d
+    (passes n (gpa % level_size 0 == 0) (OperandInvalid 2) t xs r e h))))

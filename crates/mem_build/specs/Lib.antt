@@ -7,6 +7,9 @@ pub mod PageAddTrees
 pub mod PageAddParts
 pub mod PageAddShows
 pub mod PageAddMeanings
+pub mod PageAugTrees
+pub mod PageAugShows
+pub mod PageAugMeanings
 pub mod ExtendTrees
 pub mod ExtendStages
 pub mod ExtendMeanings

@@ -180,6 +180,7 @@ built_fits m lp name.VpInit ns h = three_fit ns h
 built_fits m lp name.MemSeptAdd ns h = four_fit ns h
 built_fits m lp name.MemSeptRd ns h = three_fit ns h
 built_fits m lp name.MemPageAdd ns h = four_fit ns h
+built_fits m lp name.MemPageAug ns h = three_fit ns h
 built_fits m lp _ ns h = tt
 
 judged_fits : (m : Machine) (e : Option Entry) (row : Mnemonic) (ns : List (Option ℕ)) → IfBuilt m e → IfGiven (FitsEntry (Some m)) (judged_of e row ns)

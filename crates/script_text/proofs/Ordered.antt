@@ -255,6 +255,7 @@ entry_ends m lp had schedule calls ws name.VpInit ns = (refl, call_full m lp had
 entry_ends m lp had schedule calls ws name.MemSeptAdd ns = (refl, call_full m lp had schedule calls _ ws)
 entry_ends m lp had schedule calls ws name.MemSeptRd ns = (refl, call_full m lp had schedule calls _ ws)
 entry_ends m lp had schedule calls ws name.MemPageAdd ns = (refl, call_full m lp had schedule calls _ ws)
+entry_ends m lp had schedule calls ws name.MemPageAug ns = (refl, call_full m lp had schedule calls _ ws)
 entry_ends m lp had schedule calls ws _ ns = refl
 
 judged_order : (m : Machine) (lp : ℕ) (had : List Bool) (schedule : List ℕ) (calls : List (List Call)) (ws : List (List ℕ)) (row : Mnemonic) (e : Option Entry) (ns : List (Option ℕ)) → EntryEnds m lp had schedule calls ws row.call e

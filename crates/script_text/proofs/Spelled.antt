@@ -128,6 +128,7 @@ call_entry s m lp (calls.VpInit a b c) h k = rw (h, k) refl
 call_entry s m lp (calls.MemSeptAdd a b c d) h k = rw (h, k) refl
 call_entry s m lp (calls.MemSeptRd a b c) h k = rw (h, k) refl
 call_entry s m lp (calls.MemPageAdd a b c d) h k = rw (h, k) refl
+call_entry s m lp (calls.MemPageAug a b c) h k = rw (h, k) refl
 
 field_again : (f : ReadField) → field_of (read_text f) ≡ Ok f
 field_again field.Life = refl

@@ -103,6 +103,7 @@ built_of lp name.VpInit ns = Some (entry.Call lp (calls.VpInit (argument ns 0) (
 built_of lp name.MemSeptAdd ns = Some (entry.Call lp (calls.MemSeptAdd (argument ns 0) (argument ns 1) (argument ns 2) (argument ns 3)))
 built_of lp name.MemSeptRd ns = Some (entry.Call lp (calls.MemSeptRd (argument ns 0) (argument ns 1) (argument ns 2)))
 built_of lp name.MemPageAdd ns = Some (entry.Call lp (calls.MemPageAdd (argument ns 0) (argument ns 1) (argument ns 2) (argument ns 3)))
+built_of lp name.MemPageAug ns = Some (entry.Call lp (calls.MemPageAug (argument ns 0) (argument ns 1) (argument ns 2)))
 built_of lp _ ns = None
 
 -- whether those arguments are numbers that must be: all but the field of MNG.RD

@@ -34,6 +34,7 @@ call_word (calls.VpInit tdr vp value) = codes "VP.INIT"
 call_word (calls.MemSeptAdd tdr gpa level page) = codes "MEM.SEPT.ADD"
 call_word (calls.MemSeptRd tdr gpa level) = codes "MEM.SEPT.RD"
 call_word (calls.MemPageAdd tdr gpa page source) = codes "MEM.PAGE.ADD"
+call_word (calls.MemPageAug tdr gpa page) = codes "MEM.PAGE.AUG"
 
 abbrev pub call_numbers : Call → List ℕ
 call_numbers (calls.HostRead page word) = page ∷ word ∷ []
@@ -55,6 +56,7 @@ call_numbers (calls.VpInit tdr vp value) = tdr ∷ vp ∷ value ∷ []
 call_numbers (calls.MemSeptAdd tdr gpa level page) = tdr ∷ gpa ∷ level ∷ page ∷ []
 call_numbers (calls.MemSeptRd tdr gpa level) = tdr ∷ gpa ∷ level ∷ []
 call_numbers (calls.MemPageAdd tdr gpa page source) = tdr ∷ gpa ∷ page ∷ source ∷ []
+call_numbers (calls.MemPageAug tdr gpa page) = tdr ∷ gpa ∷ page ∷ []
 
 -- MNG.RD names its field behind its numbers
 abbrev pub call_names : Call → List (List ℕ)

@@ -154,7 +154,7 @@ fn built(lp: u8, call: CallName, numbers: &[Option<u64>]) -> Option<Entry>
     let (first, second) = (argument(numbers, 0), argument(numbers, 1));
     let (third, fourth) = (argument(numbers, 2), argument(numbers, 3));
     let (page, tdr, word, vp, gpa) = (first, first, second, second, second);
-    let (value, level) = (third, third);
+    let (value, level, augmented) = (third, third, third);
     let call = match call {
         CallName::HostRead => Call::HostRead { page, word },
         CallName::HostWrite => Call::HostWrite { page, word, value },
@@ -184,6 +184,11 @@ fn built(lp: u8, call: CallName, numbers: &[Option<u64>]) -> Option<Entry>
             gpa,
             page: third,
             source: fourth,
+        },
+        CallName::MemPageAug => Call::MemPageAug {
+            tdr,
+            gpa,
+            page: augmented,
         },
         _ => return None,
     };

@@ -70,7 +70,9 @@ const IN_BLOCK: &[&str] = &[
     "3 COUNT | MR.FINALIZE 1 2 | VP.CREATE 1 | VP.CREATE 1 2 3 | VP.INIT 1 4 | VP.INIT 1 4 0 0",
     "3 COUNT | MEM.SEPT.ADD 1 0 3 | MEM.SEPT.ADD 1 0 3 5 5 | MEM.SEPT.RD 1 0 | MEM.SEPT.RD 1 0 3 5",
     "3 COUNT | MEM.PAGE.ADD 1 0 8 | MEM.PAGE.ADD x 0 8 0 0 | MR.EXTEND 1 | MR.EXTEND 1 0 0",
+    "3 COUNT | MEM.PAGE.AUG 1 0 | MEM.PAGE.AUG 1 0 8 0 | MEM.PAGE.AUG x 0 8 0 | MEM.PAGE.AUG",
     "3 NUMBER | MEM.SEPT.ADD 1 0 3 x | MEM.SEPT.RD 1 0 x | MEM.PAGE.ADD 1 0 8 x | MR.EXTEND 1 x",
+    "3 NUMBER | MEM.PAGE.AUG 1 0 x | MEM.PAGE.AUG x 0 8 | MEM.PAGE.AUG 1 0x 8",
     "3 NUMBER | PHYMEM.PAGE.RECLAIM 1 x | MNG.KEY.CONFIG x | MNG.ADDCX x 1 | MNG.INIT x",
     "3 NUMBER | MNG.RD x NAME | MNG.RD x LIFE | MNG.RD LIFE 1 | MNG.VPFLUSHDONE x | MNG.KEY.FREEID x",
     "3 NUMBER | MR.FINALIZE x | VP.CREATE 1 x | VP.INIT 1 4 x | VP.INIT x 4 0",
@@ -102,6 +104,7 @@ const CALLS: &[&str] = &[
     "MemSeptAdd { tdr: 1, gpa: 4096, level: 3, page: 18 } | MEM.SEPT.ADD 1 0x1000 3 18",
     "MemSeptRd { tdr: 1, gpa: 18, level: 3 } | MEM.SEPT.RD 1 18 3 | MEM.SEPT.RD 0x1 0x12 03",
     "MemPageAdd { tdr: 1, gpa: 18, page: 8, source: 0 } | MEM.PAGE.ADD 1 0x12 8 0",
+    "MemPageAug { tdr: 1, gpa: 18, page: 8 } | MEM.PAGE.AUG 1 0x12 8 | MEM.PAGE.AUG 01 18 0x8",
     "MrExtend { tdr: 1, gpa: 256 } | MR.EXTEND 1 256 | MR.EXTEND 0x1 0x100",
 ];
 

@@ -1,4 +1,5 @@
-use Rattle.flat_core.proofs.Kept.{lawful_kept, every_lawful, events_keep}
+use Rattle.flat_core.proofs.Kept.{events_keep}
+use Rattle.flat_core.proofs.EveryWorld.{lawful_kept, every_lawful}
 use Rattle.flat_core.proofs.laws.lawful_law.Goals as goal
 
 pub returns-clause-kept : goal.returns-clause-kept

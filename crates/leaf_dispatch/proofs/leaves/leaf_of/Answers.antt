@@ -20,5 +20,9 @@ pub returns-in-MemSeptRd-clause-task : goal.returns-in-MemSeptRd-clause-task
 returns-in-MemSeptRd-clause-task c =
     c.by_plan-in-MemSeptRd.ensures.task ∙ ap (λ p. plan_task (plan.SeptRd p)) c.into_plan-in-MemSeptRd.ensures ∙ c.leaf-in-MemSeptRd.ensures.task ∙ sym (ap (task_of c.args.place) c.in-MemSeptRd.is)
 
+pub returns-in-MemPageAug-clause-task : goal.returns-in-MemPageAug-clause-task
+returns-in-MemPageAug-clause-task c =
+    c.by_plan-in-MemPageAug.ensures.task ∙ ap (λ p. plan_task (plan.PageAug p)) c.into_plan-in-MemPageAug.ensures ∙ c.leaf-in-MemPageAug.ensures.task ∙ sym (ap (task_of c.args.place) c.in-MemPageAug.is)
+
 pub returns-in-MrExtend-clause-task : goal.returns-in-MrExtend-clause-task
 returns-in-MrExtend-clause-task c = c.leaf-in-MrExtend.ensures.task ∙ sym (ap (task_of c.args.place) c.in-MrExtend.is)
