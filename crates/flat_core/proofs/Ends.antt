@@ -1,7 +1,7 @@
 -- Every call ends, and so does every run.
-use Rattle.std.proofs.Common.{◌≡◌, ◌≢◌, ◌⊎◌, inl, inr, refl, sym, ◌∙◌, subst, ap, ℕ, zero, suc, ◌+◌, ◌-◌, ◌*◌, ◌<◌, ◌≤◌, List, [], ◌∷◌, ◌++◌, length, drop, map, replicate, Option, Some, None, option_map, Bool, true, false, ◌==◌, arith, length-append}
+use Rattle.std.proofs.Common.{◌≡◌, ◌≢◌, inl, inr, refl, sym, ◌∙◌, subst, ap, ℕ, zero, suc, ◌+◌, ◌-◌, ◌*◌, ◌<◌, ◌≤◌, List, [], ◌∷◌, ◌++◌, length, drop, replicate, Option, Some, None, option_map, Bool, true, false, ◌==◌, arith, length-append}
 use Rattle.std.specs.List.{list_any}
-use Rattle.std.specs.Prelude.{nat_le, not, slice_get, IfSome}
+use Rattle.std.specs.Prelude.{nat_le, slice_get, IfSome}
 use Rattle.std.proofs.lemmas.Bool.{eq-eqb, eqb-true, eqb-false, ne_eqb, and_parts}
 use Rattle.std.proofs.lemmas.Bool.Decides.{nat_tests}
 use Rattle.td_words.specs.declared.names.Mode.{Mode}
@@ -11,13 +11,10 @@ use Rattle.td_words.specs.declared.names.Access.TheVariants.{Read, Write}
 use Rattle.td_words.specs.declared.calls.Call.{Call}
 use Rattle.td_words.specs.declared.calls.Call.TheVariants as call
 use Rattle.td_words.specs.declared.calls.GuestOp.{GuestOp}
-use Rattle.td_words.specs.declared.names.ReadField.TheVariants as field
 use Rattle.td_words.specs.declared.replies.Outcome.{Outcome}
 use Rattle.td_words.specs.declared.replies.Outcome.TheVariants.{EptViolation, Stop, Max}
 use Rattle.td_words.specs.declared.replies.Reply.{Reply}
-use Rattle.td_words.specs.declared.replies.Reply.TheVariants.{Done, Refused, Exited}
-use Rattle.td_words.specs.declared.refusals.Status.TheVariants.{EptWalkFailed}
-use Rattle.td_words.specs.declared.names.EntryState.TheVariants as entry
+use Rattle.td_words.specs.declared.replies.Reply.TheVariants.{Done, Exited}
 use Rattle.td_words.specs.declared.names.PageKind.{PageKind}
 use Rattle.td_words.specs.declared.names.PageKind.TheVariants as kind
 use Rattle.td_words.specs.declared.names.LifeState.{LifeState}
@@ -27,19 +24,18 @@ use Rattle.td_words.specs.declared.names.OpState.{OpState}
 use Rattle.td_words.specs.declared.names.VcpuState.TheVariants as vcpu
 use Rattle.td_words.specs.NameNumber.{life_number, op_number}
 use Rattle.td_words.specs.Packing.{Entry}
-use Rattle.flat_core.specs.Conditions.{page_exclusive, host_page, same_kind, same_vp_state, running_ops}
-use Rattle.flat_core.specs.Tree.{page_of_gpa, entry_at, same_state, state_in, levels_above}
-use Rattle.flat_core.specs.World.{World, Pages, Tds, Vps, put}
-use Rattle.flat_core.specs.Processor.{LockId, OfPage, OfOp, OfEpoch, name_of, Held, Phase, Trying, Undoing, Answered, Progress, Translation, Walk, Guest, Entering, new_guest, Lp, idle, nothing_yet}
+use Rattle.flat_core.specs.Conditions.{same_kind, same_vp_state, running_ops}
+use Rattle.flat_core.specs.Tree.{page_of_gpa}
+use Rattle.flat_core.specs.World.{World, Pages, Vps, put}
+use Rattle.flat_core.specs.Processor.{LockId, OfPage, name_of, Held, Phase, Trying, Undoing, Answered, Progress, Translation, Walk, Guest, Entering, new_guest, Lp, idle, nothing_yet}
 use Rattle.flat_core.specs.Opening.{Opening, Incoming}
 use Rattle.flat_core.specs.Row.{Item, Check, Try, Row, OperationRow, Passes, Move, Attempts, Undoes, Refuses, Succeeds, Releases, Rests, next, next_in, tries_in, but_newest}
-use Rattle.flat_core.specs.KeyRows.{reclaim_conditions}
 use Rattle.flat_core.specs.Table.{row_of, most_tries, guest_events}
 use Rattle.flat_core.specs.Translations.{look_up, cache}
 use Rattle.flat_core.specs.Guest.{Operation, ByRow, Private, operation_of, is_pending_at, reach, walk_level, walk_step, walked_on, walked_entry, goes_on, walk_cached, cached_after, translation_of, answered}
-use Rattle.flat_core.specs.Event.{State, Event, walk_translations, OfCall, OfOperation, Walks, Reaches, Leaves, is_epoch_lock, start, next_event, event_for, line_event, lines_left, calls_of, event, after_event, world_after, call_world, lp_after, call_lp, succeeded, settled, settle, settled_guest, settle_operation, operation_guest, operation_world, operation_due, operation_busy, nothing_more, call_busy, is_granted}
+use Rattle.flat_core.specs.Event.{State, Event, walk_translations, OfCall, OfOperation, Walks, Reaches, Leaves, is_epoch_lock, start, next_event, event_for, lines_left, calls_of, event, after_event, world_after, call_world, lp_after, call_lp, succeeded, settled, settle, settled_guest, settle_operation, operation_guest, operation_world, operation_due, operation_busy, nothing_more, call_busy, is_granted}
 use Rattle.flat_core.specs.Effects.{pass_operation, tell_words, leave_guest}
-use Rattle.flat_core.specs.Run.{play, run, events_in, to_the_end}
+use Rattle.flat_core.specs.Run.{play, events_in, to_the_end}
 use Rattle.flat_core.specs.Lawful.{Lawful}
 use Rattle.flat_core.specs.Guests.{IsOccupied, SameVp, Spares, guest_locks, entry_locks}
 use Rattle.flat_core.specs.Locks.{one_if}
@@ -55,7 +51,7 @@ use Rattle.flat_core.proofs.Operations.{each_operation, operation_row, accepted}
 use Rattle.flat_core.proofs.Cached.{cached_found, allowed_cached}
 use Rattle.flat_core.proofs.Tries.{row_tries}
 use Rattle.flat_core.proofs.Enter.{fits_first, fits_later, fits_undo, fits_more, enter_held, enters_or_none, all_pass}
-use Rattle.flat_core.proofs.Due.{no_epoch, IsInside, IsOnWay, Due, calls, frees, leaves, stops, fills, operates, walks, reaches, undoes, gives_back, due_event_is}
+use Rattle.flat_core.proofs.Due.{IsInside, IsOnWay, Due, calls, frees, leaves, stops, fills, operates, walks, reaches, undoes, gives_back, due_event_is}
 
 -- what holds of each move that a row may give
 pub next_is : {R : Type 0} (C : Move R → Type 0) (items : List (Item R)) (k : ℕ) → ((r : R) → C (Refuses r)) → C Succeeds → ((l : LockId) (m : Mode) → k < tries_in items → C (Attempts l m)) → C (next items k)

@@ -1,5 +1,5 @@
 -- How many events VP.ENTER has before its guest's first operation, and from the count step on.
-use Rattle.std.proofs.Common.{◌≡◌, refl, sym, ◌∙◌, subst, ap, ℕ, zero, suc, ◌+◌, ◌<◌, ◌≤◌, List, [], ◌∷◌, ◌++◌, length, drop, Option, Some, None, option_map, Bool, true, false, not, ◌==◌, arith}
+use Rattle.std.proofs.Common.{◌≡◌, refl, sym, ◌∙◌, subst, ap, ℕ, suc, ◌+◌, ◌≤◌, List, [], ◌∷◌, length, drop, Option, Some, None, option_map, Bool, true, false, not, arith}
 use Rattle.td_words.specs.declared.names.Mode.{Mode}
 use Rattle.td_words.specs.declared.names.Mode.TheVariants.{Shared, Exclusive}
 use Rattle.td_words.specs.declared.calls.Call.{Call}
@@ -11,14 +11,14 @@ use Rattle.td_words.specs.declared.replies.Reply.TheVariants.{Exited}
 use Rattle.flat_core.specs.World.{World}
 use Rattle.flat_core.specs.Processor.{LockId, name_of, Held, Phase, Trying, Undoing, Answered, Progress, Guest, new_guest, Lp}
 use Rattle.flat_core.specs.Opening.{Opening}
-use Rattle.flat_core.specs.Row.{Row, OperationRow, Move, Attempts, Undoes, Succeeds, Releases, next, next_in, but_newest}
+use Rattle.flat_core.specs.Row.{Row, Move, Attempts, Undoes, Succeeds, Releases, next, next_in, but_newest}
 use Rattle.flat_core.specs.Table.{row_of}
 use Rattle.flat_core.specs.Guest.{walk_step, answered as with_answer}
 use Rattle.flat_core.specs.Guests.{guest_locks, entry_locks}
 use Rattle.flat_core.specs.Inside.{EnterFits, InGuest, LineAt, StandsAt, IsTimely}
 use Rattle.flat_core.specs.Event.{State, Event, OfCall, OfOperation, Walks, Reaches, Leaves, next_event, event_for, lines_left, calls_of, event, after_event, lp_after, call_lp, settled, settle, call_busy, is_granted, is_epoch_lock, operation_guest, settled_guest, nothing_more}
 use Rattle.flat_core.specs.Run.{play}
-use Rattle.flat_core.specs.Laws.{IsBetween, AnswersNext, own_items}
+use Rattle.flat_core.specs.Laws.{AnswersNext, own_items}
 use Rattle.flat_core.specs.Entries.{IsNew, IsEntering, EntriesHaveTheirEvents}
 use Rattle.flat_core.proofs.Tests.{same_self}
 use Rattle.flat_core.proofs.Due.{no_epoch, Due, IsInside, calls, frees, leaves, stops, fills, operates, walks, reaches, undoes, gives_back, due_event_is}

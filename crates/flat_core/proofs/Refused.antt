@@ -21,7 +21,7 @@ use Rattle.flat_core.specs.Run.{play}
 use Rattle.flat_core.specs.Laws.{IsQuiet, OwnEventsAreQuiet, RefusedCallsStay}
 use Rattle.flat_core.proofs.Tests.{by_test}
 use Rattle.flat_core.proofs.Kept.{others_stay}
-use Rattle.flat_core.proofs.Due.{Due, IsInside, calls, frees, leaves, stops, fills, operates, walks, reaches, undoes, gives_back, due_event_is}
+use Rattle.flat_core.proofs.Due.{Due, calls, frees, leaves, stops, fills, operates, walks, reaches, undoes, gives_back, due_event_is}
 use Rattle.flat_core.proofs.Ends.{next_is}
 
 -- with a reply more than before, a call is over

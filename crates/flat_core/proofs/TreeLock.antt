@@ -32,7 +32,7 @@ use Rattle.flat_core.proofs.LockLaw.{exclusion_kept, le-sum, two-sum}
 use Rattle.flat_core.proofs.Tries.{rows_try_lists}
 use Rattle.flat_core.proofs.Operations.{operation_row}
 use Rattle.flat_core.proofs.Enter.{enters_or_none}
-use Rattle.flat_core.proofs.Due.{no_epoch, Due, IsInside, calls, frees, leaves, stops, fills, operates, walks, reaches, undoes, gives_back, due_event_is}
+use Rattle.flat_core.proofs.Due.{no_epoch, Due, calls, frees, leaves, stops, fills, operates, walks, reaches, undoes, gives_back, due_event_is}
 use Rattle.flat_core.proofs.Ends.{next_is, drop_next, below_calls}
 
 -- each T comes behind O of its TD, and is the first T
