@@ -28,7 +28,7 @@ use Rattle.flat_core.specs.HostText.{reply_lines, lines_from, text_of, host_text
 use Rattle.flat_core.proofs.Tests.{same_self, put_here}
 use Rattle.flat_core.proofs.Induction.{counts_stay, play_append}
 use Rattle.flat_core.proofs.Ends.{drop_next}
-use Rattle.flat_alone.specs.Whole.{first_fault, reply_unless, world_unless, row_reply, row_world, replies_of, world_of, lines_at_once, world_at_once, EachCallAtOnce, EndsInTheirWorld}
+use Rattle.flat_alone.specs.Whole.{first_fault, reply_unless, world_unless, row_reply, row_world, replies_of, world_of, lines_at_once, world_at_once, EnterNone, CallsEnterNone, EachCallAtOnce, EndsInTheirWorld}
 
 -- it holds no lock, and is being refused none
 pub record Quiet (lp : Lp) : Type 0 where
@@ -64,10 +64,11 @@ play-replicate o p (suc a) b s =
     let e : suc a + b ≡ suc (a + b) = omega arith in
     ap (λ (n : ℕ). play o (replicate n p) s) e ∙ play-replicate o p a b (event o s p)
 
--- the calls that are built
-plain_row : (o : Opening) (p : ℕ) (c : Call) → row_of o p c ≡ call_row (row_of o p c).items (row_of o p c).act (row_of o p c).value
-plain_row o p (call.HostRead page word) = refl
-plain_row o p _ = refl
+-- a call that enters no guest leaves the cached translations as they are
+plain_row : (o : Opening) (p : ℕ) (c : Call) → (row_of o p c).enters ≡ None → row_of o p c ≡ call_row (row_of o p c).items (row_of o p c).act (row_of o p c).value
+plain_row o p (call.VpEnter tdr vp most) e = cc
+plain_row o p (call.HostRead page word) e = refl
+plain_row o p _ e = refl
 
 -- a page that isn't the TDR page
 other_page : (page tdr : ℕ) → not (page == tdr) ≡ true → (tdr == page) ≡ false
@@ -112,6 +113,8 @@ free_row o p (call.MngKeyFreeid tdr) w = λ a. (refl, refl, λ b d. (refl, refl,
 free_row o p (call.MrFinalize tdr) w = λ a. (refl, refl, λ b d e. (refl, refl, λ f g. tt))
 free_row o p (call.VpCreate tdr page) w = λ a b apart. (refl, refl, λ d e f. (refl, refl, λ g h. let n : (tdr == page) ≡ false = other_page page tdr apart in (refl, rw n refl, λ i. tt)))
 free_row o p (call.VpInit tdr vp v) w = λ a b apart. (refl, refl, λ d e f. (refl, refl, λ g. let n : (tdr == vp) ≡ false = other_page vp tdr apart in (refl, rw n refl, λ h i. tt)))
+free_row o p (call.VpEnter tdr vp most) w =
+    λ a b m apart. (refl, refl, λ d e f. (refl, refl, λ g. let n : (tdr == vp) ≡ false = other_page vp tdr apart in (refl, rw n refl, λ h i j. (refl, refl, tt))))
 free_row o p (call.MrExtend tdr gpa) w = λ a b d. (refl, refl, λ e f g. (refl, refl, λ h. (refl, refl, λ i j k l. (refl, refl, tt))))
 free_row o p (call.MemSeptAdd tdr gpa level page) w = λ a b d e apart f. (
   refl,
@@ -243,44 +246,44 @@ module _ (tries : RowsTryFew) (o : Opening) (p : ℕ) (before : ℕ → Lp) (qui
       step s w w (lp_of (Answered r) (h ∷ hs) rs) (lp_of Trying [] (rs ++ r ∷ [])) c cs (OfCall (row_of o p c) (Releases h)) false (length hs)
       at line refl refl (λ t at'. back w c cs rs r line hs t at')
 
-  through : (w : World) (c : Call) (cs : List Call) (rs : List Reply) → drop (length rs) (calls_of o.calls p) ≡ c ∷ cs
+  through : (w : World) (c : Call) (cs : List Call) (rs : List Reply) → (row_of o p c).enters ≡ None → drop (length rs) (calls_of o.calls p) ≡ c ∷ cs
       → (items : List (Item Reply)) (hs : List Held) (s : State) → At s w (lp_of Trying hs rs) → FreeTries hs items
       → ((a k : ℕ) → a ≡ k + length hs → next ((row_of o p c).items w) a ≡ next items k)
       → Comes (suc (length hs + 2 * tries_in items)) s (world_unless (first_fault items) (row_of o p c) w)
       (lp_of Trying [] (rs ++ reply_unless (first_fault items) (row_of o p c) w ∷ []))
-  through w c cs rs line [] hs s at free passes =
+  through w c cs rs none line [] hs s at free passes =
       let row = row_of o p c in
       let done : lp_after w false (OfCall row Succeeds) (lp_of Trying hs rs) ≡ settled (lp_of (Answered (Done (row.value w))) hs rs) =
-      ap (λ (x : Row). lp_after w false (OfCall x Succeeds) (lp_of Trying hs rs)) (plain_row o p c) in
+      ap (λ (x : Row). lp_after w false (OfCall x Succeeds) (lp_of Trying hs rs)) (plain_row o p c none) in
       step s w (row.act w) (lp_of Trying hs rs) (lp_of Trying [] (rs ++ Done (row.value w) ∷ [])) c cs (OfCall row Succeeds) false (length hs + 0)
       at line (ap (OfCall row) (passes (length hs) 0 (omega arith))) refl
       (λ t at'. later (length hs) (length hs + 0) t _ _ (omega arith) (back (row.act w) c cs rs (Done (row.value w)) line hs t (subst (At t (row.act w)) done at')))
-  through w c cs rs line (Check true r ∷ items) hs s at free passes = through w c cs rs line items hs s at (free refl) passes
-  through w c cs rs line (Check false r ∷ items) hs s at free passes =
+  through w c cs rs none line (Check true r ∷ items) hs s at free passes = through w c cs rs none line items hs s at (free refl) passes
+  through w c cs rs none line (Check false r ∷ items) hs s at free passes =
       step s w w (lp_of Trying hs rs) (lp_of Trying [] (rs ++ r ∷ [])) c cs (OfCall (row_of o p c) (Refuses r)) false (length hs + 2 * tries_in items)
       at line (ap (OfCall (row_of o p c)) (passes (length hs) 0 (omega arith))) refl
       (λ t at'. later (length hs) (length hs + 2 * tries_in items) t _ _ (omega arith) (back w c cs rs r line hs t at'))
-  through w c cs rs line (Try l m ∷ items) hs s at free passes =
+  through w c cs rs none line (Try l m ∷ items) hs s at free passes =
       let h : Held = record { lock = l; mode = m } in
       step s w (world_unless (first_fault items) (row_of o p c) w) (lp_of Trying hs rs) (lp_of Trying [] (rs ++ reply_unless (first_fault items) (row_of o p c) w ∷ []))
       c cs (OfCall (row_of o p c) (Attempts l m)) true (length hs + 2 * suc (tries_in items))
       at line (ap (OfCall (row_of o p c)) (passes (length hs) 0 (omega arith))) (granted_to s w hs rs l m at free.0 free.1)
       (λ t at'. later (suc (length (h ∷ hs) + 2 * tries_in items)) (length hs + 2 * suc (tries_in items)) t _ _ (omega arith)
-      (through w c cs rs line items (h ∷ hs) t at' free.2 (λ a k e. passes a (suc k) (omega arith))))
+      (through w c cs rs none line items (h ∷ hs) t at' free.2 (λ a k e. passes a (suc k) (omega arith))))
 
   -- all its lines
-  finish : (cs : List Call) (w : World) (rs : List Reply) (s : State) → drop (length rs) (calls_of o.calls p) ≡ cs → At s w (lp_of Trying [] rs)
+  finish : (cs : List Call) (w : World) (rs : List Reply) (s : State) → EnterNone o p cs → drop (length rs) (calls_of o.calls p) ≡ cs → At s w (lp_of Trying [] rs)
       → Comes (events_in cs) s (world_of o p w cs) (lp_of Trying [] (rs ++ replies_of o p w cs))
-  finish [] w rs s line at = (0, omega arith, subst (λ x. At s w (lp_of Trying [] x)) (sym (append-nil rs)) at)
-  finish (c ∷ cs) w rs s line at =
+  finish [] w rs s none line at = (0, omega arith, subst (λ x. At s w (lp_of Trying [] x)) (sym (append-nil rs)) at)
+  finish (c ∷ cs) w rs s none line at =
       let row = row_of o p c in
       let r : Reply = row_reply row w in
       let one : length (rs ++ r ∷ []) ≡ suc (length rs) = omega (arith, length-append rs (r ∷ [])) in
       more (most_events c) (events_in cs) s (row_world row w) _ (lp_of Trying [] (rs ++ r ∷ [])) _
       (later (suc (0 + 2 * tries_in (row.items w))) (most_events c) s _ _ (omega (arith, tries o p c w))
-      (through w c cs rs line (row.items w) [] s at (free_row o p c w) (λ a k e. ap (next (row.items w)) (omega arith))))
+      (through w c cs rs none.0 line (row.items w) [] s at (free_row o p c w) (λ a k e. ap (next (row.items w)) (omega arith))))
       (λ t at'. subst (λ x. Comes (events_in cs) t (world_of o p (row_world row w) cs) (lp_of Trying [] x)) (append_assoc rs (r ∷ []) (replies_of o p (row_world row w) cs))
-      (finish cs (row_world row w) (rs ++ r ∷ []) t (ap (λ k. drop k (calls_of o.calls p)) one ∙ drop_next (length rs) (calls_of o.calls p) c cs line) at'))
+      (finish cs (row_world row w) (rs ++ r ∷ []) t none.1 (ap (λ k. drop k (calls_of o.calls p)) one ∙ drop_next (length rs) (calls_of o.calls p) c cs line) at'))
 
   -- what is left over of its items does nothing
   stays : (n : ℕ) (s : State) → lines_left o p (s.lps p) ≡ [] → play o (replicate n p) s ≡ s
@@ -290,11 +293,11 @@ module _ (tries : RowsTryFew) (o : Opening) (p : ℕ) (before : ℕ → Lp) (qui
       ap (λ t. play o (replicate n p) t) same ∙ stays n s none
 
   -- from its first line on
-  pub to_its_end : (cs : List Call) (w : World) (s : State) → calls_of o.calls p ≡ cs → At s w (lp_of Trying [] [])
+  pub to_its_end : (cs : List Call) (w : World) (s : State) → EnterNone o p cs → calls_of o.calls p ≡ cs → At s w (lp_of Trying [] [])
       → At (play o (replicate (events_in cs) p) s) (world_of o p w cs) (lp_of Trying [] (replies_of o p w cs))
-  to_its_end cs w s line at =
+  to_its_end cs w s enter line at =
       let rs = replies_of o p w cs in
-      let (k, le, at') = finish cs w [] s line at in
+      let (k, le, at') = finish cs w [] s enter line at in
       let done = play o (replicate k p) s in
       let count : events_in cs ≡ k + (events_in cs - k) = omega arith in
       let none : lines_left o p (done.lps p) ≡ [] =
@@ -315,17 +318,17 @@ quiet_out : (rs : List Reply) → Quiet (lp_of Trying [] rs)
 quiet_out rs = record { alone = λ l. refl; shared = λ l. refl; refused = λ l. refl }
 
 -- from processor p on
-each : (tries : RowsTryFew) (o : Opening) (css : List (List Call)) (p : ℕ) (w : World) (s : State) → s.world ≡ w → ((q : ℕ) → Quiet (s.lps q)) → ((q : ℕ) → p ≤ q → s.lps q ≡ idle)
+each : (tries : RowsTryFew) (o : Opening) (enter : CallsEnterNone o) (css : List (List Call)) (p : ℕ) (w : World) (s : State) → s.world ≡ w → ((q : ℕ) → Quiet (s.lps q)) → ((q : ℕ) → p ≤ q → s.lps q ≡ idle)
     → ((i : ℕ) → calls_of o.calls (p + i) ≡ calls_of css i)
     → (lines_from (length css) p (play o (to_the_end p css) s).lps ≡ lines_at_once o p w css) × ((q : ℕ) → q < p → (play o (to_the_end p css) s).lps q ≡ s.lps q)
     × ((play o (to_the_end p css) s).world ≡ world_at_once o p w css)
-each tries o [] p w s world quiet fresh calls = (refl, λ q h. refl, world)
-each tries o (cs ∷ css) p w s world quiet fresh calls =
+each tries o enter [] p w s world quiet fresh calls = (refl, λ q h. refl, world)
+each tries o enter (cs ∷ css) p w s world quiet fresh calls =
     let out : (q : ℕ) → q ≢ p → Quiet (s.lps q) = λ q ne. quiet q in
     let mine : calls_of o.calls p ≡ cs = let e : p ≡ p + 0 = omega arith in ap (calls_of o.calls) e ∙ calls 0 in
-    let at = to_its_end tries o p s.lps out cs w s mine (record { world = world; own = fresh p (omega arith); others = λ q ne. refl }) in
+    let at = to_its_end tries o p s.lps out cs w s (subst (λ (x : List Call). EnterNone o p x) mine (enter p)) mine (record { world = world; own = fresh p (omega arith); others = λ q ne. refl }) in
     let t = play o (replicate (events_in cs) p) s in
-    let rest = each tries o css (suc p) (world_of o p w cs) t at.world
+    let rest = each tries o enter css (suc p) (world_of o p w cs) t at.world
     (λ q. elim (eqb_tells q p) [
       | inl x ↦ subst Quiet (sym (ap t.lps x.1 ∙ at.own)) (quiet_out (replies_of o p w cs))
       | inr x ↦ subst Quiet (sym (at.others q x.1)) (quiet q)
@@ -348,20 +351,20 @@ each tries o (cs ∷ css) p w s world quiet fresh calls =
     )
 
 -- from processor 0 on
-from_the_start : (tries : RowsTryFew) (o : Opening) → let t = play o (to_the_end 0 o.calls) (start o None) in
+from_the_start : (tries : RowsTryFew) (o : Opening) → CallsEnterNone o → let t = play o (to_the_end 0 o.calls) (start o None) in
     (lines_from (length o.calls) 0 t.lps ≡ lines_at_once o 0 (first_world o.machine.pages None) o.calls) × (t.world ≡ world_at_once o 0 (first_world o.machine.pages None) o.calls)
-from_the_start tries o =
-    let all = each tries o o.calls 0 (first_world o.machine.pages None) (start o None) refl (λ q. quiet_out []) (λ q h. refl)
+from_the_start tries o enter =
+    let all = each tries o enter o.calls 0 (first_world o.machine.pages None) (start o None) refl (λ q. quiet_out []) (λ q h. refl)
     (λ i. let e : 0 + i ≡ i = omega arith in ap (calls_of o.calls) e) in
     (all.0, all.2)
 
 pub each_call_at_once : RowsTryFew → EachCallAtOnce
 unfolding host_text text_of
-each_call_at_once tries o =
+each_call_at_once tries o enter =
     let end = to_the_end 0 o.calls in
     let s = start o None in
     ap (λ (n : ℕ). concat (lines_from n 0 (play o end s).lps)) (counts_stay o end s)
-    ∙ ap (λ (x : List (List ℕ)). concat x) (from_the_start tries o).0
+    ∙ ap (λ (x : List (List ℕ)). concat x) (from_the_start tries o enter).0
 
 pub ends_in_their_world : RowsTryFew → EndsInTheirWorld
-ends_in_their_world tries o = (from_the_start tries o).1
+ends_in_their_world tries o enter = (from_the_start tries o enter).1

@@ -8,6 +8,7 @@ use Rattle.flat_core.specs.World.{World, first_world}
 use Rattle.flat_core.specs.Opening.{Opening}
 use Rattle.flat_core.specs.Row.{Item, Check, Try, Row}
 use Rattle.flat_core.specs.Table.{row_of}
+use Rattle.flat_core.specs.Event.{calls_of}
 use Rattle.flat_core.specs.Run.{run}
 use Rattle.flat_core.specs.HostText.{reply_lines, host_text}
 
@@ -47,9 +48,17 @@ abbrev pub lines_at_once : Opening → ℕ → World → List (List Call) → Li
 lines_at_once o p w [] = []
 lines_at_once o p w (cs ∷ css) = reply_lines p 1 (replies_of o p w cs) ++ lines_at_once o (p + 1) (world_of o p w cs) css
 
--- A run without a schedule prints them.
+-- no call of processor p enters a guest; and none of the opening does
+abbrev pub EnterNone : Opening → ℕ → List Call → Type 0
+EnterNone o p [] = Unit {0}
+EnterNone o p (c ∷ cs) = ((row_of o p c).enters ≡ None) × EnterNone o p cs
+
+abbrev pub CallsEnterNone : Opening → Type 0
+CallsEnterNone o = (p : ℕ) → EnterNone o p (calls_of o.calls p)
+
+-- A run without a schedule prints them, where no call enters a guest.
 abbrev pub EachCallAtOnce : Type 0
-EachCallAtOnce = (o : Opening) → host_text o [] ≡ concat (lines_at_once o 0 (first_world o.machine.pages None) o.calls)
+EachCallAtOnce = (o : Opening) → CallsEnterNone o → host_text o [] ≡ concat (lines_at_once o 0 (first_world o.machine.pages None) o.calls)
 
 -- the world after the calls of processors p, p + 1 and so on
 abbrev pub world_at_once : Opening → ℕ → World → List (List Call) → World
@@ -58,4 +67,4 @@ world_at_once o p w (cs ∷ css) = world_at_once o (p + 1) (world_of o p w cs) c
 
 -- And it ends in the world after them.
 abbrev pub EndsInTheirWorld : Type 0
-EndsInTheirWorld = (o : Opening) → (run o []).world ≡ world_at_once o 0 (first_world o.machine.pages None) o.calls
+EndsInTheirWorld = (o : Opening) → CallsEnterNone o → (run o []).world ≡ world_at_once o 0 (first_world o.machine.pages None) o.calls

@@ -1,5 +1,6 @@
 -- In every state that a run reaches, a lock of a TD is held and tried while P of its TDR page is held, and the locks that
--- are held, being refused or tried stand. No call that is built enters a guest, so of guests' operations this says nothing.
+-- are held, being refused or tried stand: those of calls, and those of guests' operations, which are of the TD whose
+-- TDR page the VP.ENTER of the guest holds.
 use Rattle.std.specs.Prelude.{◌≡◌, ℕ, ◌<◌, List, [], ◌∷◌, length, drop, Option, Some, None}
 use Rattle.td_words.specs.declared.names.Mode.{Mode}
 use Rattle.td_words.specs.declared.names.Mode.TheVariants.{Shared}
@@ -8,11 +9,12 @@ use Rattle.td_words.specs.declared.replies.Reply.{Reply}
 use Rattle.flat_core.specs.World.{World}
 use Rattle.flat_core.specs.Processor.{LockId, OfPage, OfOp, OfTree, OfEpoch, OfRtmr, OfKeys, Held, Phase, Trying, Undoing, Answered, Lp}
 use Rattle.flat_core.specs.Opening.{Opening, Incoming}
-use Rattle.flat_core.specs.Row.{Row, Attempts}
+use Rattle.flat_core.specs.Row.{Move, Attempts}
 use Rattle.flat_core.specs.Tries.{tries_of}
-use Rattle.flat_core.specs.Lawful.{Lawful}
-use Rattle.flat_core.specs.Event.{State, OfCall, next_event, calls_of}
-use Rattle.flat_core.specs.Laws.{with_bundles, IsKept, IsExclusive, HoldsInRuns}
+use Rattle.flat_core.specs.Event.{State, Event, OfCall, OfOperation, next_event, calls_of}
+use Rattle.flat_core.specs.Inside.{AreTimely}
+use Rattle.flat_core.specs.Order.{IsInOrder}
+use Rattle.flat_core.specs.Laws.{with_bundles, IsKept, HoldsInRuns}
 use Rattle.lock_words.specs.Grips.{HoldsTdr, TdrsAreHeld}
 use Rattle.lock_words.specs.LockWords.{Stands, HeldStand, UndoStands, LocksStand}
 
@@ -57,33 +59,41 @@ abbrev pub IsFirstOf : List Call → List Held → Type 0
 IsFirstOf [] hs = Unit {0}
 IsFirstOf (c ∷ cs) hs = (w : World) → IsFirst (first_tried (tries_of c w)) hs
 
--- a processor with these calls: its locks of a TD, and the one that it is being refused, are over P of the TDR page; and
--- on its way a call holds its locks over the one that it tries first
+-- a processor with these calls: the locks of a TD that its call holds, and the one that it is being refused, are over P of
+-- the TDR page; and on its way a call holds its locks over the one that it tries first, also while its guest is in
 pub record IsOverTdrs (calls : List Call) (lp : Lp) : Type 0 where
-  pub guest : lp.guest ≡ None
   pub over : AreOver lp.call.held
   pub undo : UndoOver lp.call.phase lp.call.held
   pub first : lp.call.phase ≡ Trying → IsFirstOf (drop (length lp.replies) calls) lp.call.held
 
--- its locks, and the one that it is being refused, stand
+-- its call's locks, and the one that it is being refused, stand
 pub record StandIn (w : World) (lp : Lp) : Type 0 where
   pub held : HeldStand w lp.call.held
   pub undo : UndoStands w lp.call.phase
 
--- so of each processor, in a lawful world and where locks exclude
+-- so of each processor, where they stand as they do in runs, and hold their locks in order
 pub record AreSound (o : Opening) (s : State) : Type 0 where
-  pub lawful : Lawful o.machine s.world
-  pub exclusive : IsExclusive s
-  pub count : s.lp_count ≡ length o.calls
-  pub order : (q : ℕ) → IsOverTdrs (calls_of o.calls q) (s.lps q)
+  pub timely : AreTimely o s
+  pub in_order : IsInOrder o s
+  pub over : (q : ℕ) → IsOverTdrs (calls_of o.calls q) (s.lps q)
   pub stand : (q : ℕ) → q < s.lp_count → StandIn s.world (s.lps q)
 
 abbrev pub SoundnessIsKept : Type 0
 SoundnessIsKept = IsKept AreSound
 
--- a lock that a call tries stands, and so does what it is tried over, where it is a TD's
+-- the lock that an event tries
+abbrev pub tried_in : {R : Type 0} → Move R → Option LockId
+tried_in (Attempts l mode) = Some l
+tried_in _ = None
+
+abbrev pub tried_by : Event → Option LockId
+tried_by (OfCall row move) = tried_in move
+tried_by (OfOperation row move) = tried_in move
+tried_by _ = None
+
+-- a lock that a call, or its guest's operation, tries stands; and the call holds what it is tried over, where it is a TD's
 abbrev pub TriesStand : Opening → State → Type 0
-TriesStand o s = (p : ℕ) (row : Row) (l : LockId) (mode : Mode) → next_event o s p ≡ Some (OfCall row (Attempts l mode)) → HoldsTdr (s.lps p).call.held l × Stands s.world l
+TriesStand o s = (p : ℕ) (e : Event) (l : LockId) → next_event o s p ≡ Some e → tried_by e ≡ Some l → HoldsTdr (s.lps p).call.held l × Stands s.world l
 
 -- what it comes to: whoever holds, or is being refused, a lock of a TD holds P of its TDR
 -- page; the locks that are held, or being refused, stand; and so does each that is tried

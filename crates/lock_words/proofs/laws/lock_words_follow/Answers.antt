@@ -10,4 +10,4 @@ pub returns-clause-start : goal.returns-clause-start
 returns-clause-start c = start-follows
 
 pub returns-clause-runs : goal.returns-clause-runs
-returns-clause-runs c = runs-follow c.end_laws.ensures.tries
+returns-clause-runs c = runs-follow
