@@ -1,10 +1,8 @@
 //! HOST.READ and HOST.WRITE.
 
-use arrayvec::ArrayVec;
-use leaf_engine::{Leaf, Place, Plan, Planned, Stop, Told, Verdict, Write};
+use leaf_engine::{Act, Hand, Place, Plan, Stop, Told, Verdict, Write};
 use leaf_parts::says_host;
-use step_core::WordStep;
-use td_words::{LockName, Mode, Reply, Status, Value, lock_address, pamt_address, word_address};
+use td_words::{LockName, Mode, Status, Value, lock_address, pamt_address, word_address};
 
 /// HOST.READ PAGE WORD: the word of a host page, and 0 of any other page.
 #[derive(Drop)]
@@ -16,23 +14,26 @@ pub struct HostRead {
 
 impl HostRead {
     ghost use Rattle.std.specs.Prelude.{◌≡◌};
-    ghost use Rattle.leaf_engine.specs.Turns.{IsFresh};
     ghost use Rattle.access_core.specs.HostTrees.{host_read_task};
 
-    /// The leaf of a call at a place.
-    pub fn leaf(place: Place, page: u64, word: u64) -> Planned<HostRead>
-        ensures task { ⟦<Planned<HostRead> as Leaf>⟧.task result ≡ host_read_task place page word }
-        ensures fresh { let leaf = ⟦<Planned<HostRead> as Leaf>⟧ in IsFresh (leaf.task result).tree (leaf.rest result) (leaf.tries result) (leaf.written result) (leaf.waits result) }
+    /// The plan of a call at a place.
+    pub fn plan(place: Place, page: u64, word: u64) -> HostRead
+        ensures { ⟦<HostRead as Plan>⟧.task result ≡ host_read_task place page word }
     {
-        Planned::new(HostRead { place, page, word })
+        HostRead { place, page, word }
     }
 }
 
 impl Plan for HostRead {
+    ghost use Rattle.std.specs.Prelude.{true, []};
     ghost use Rattle.access_core.specs.HostTrees.{host_read_task};
     ghost use Rattle.access_core.specs.HostMeanings.{host_read-means};
 
     ghost task = { λ l. host_read_task l.place l.page l.word };
+
+    ghost changes = { λ l told a. [] };
+
+    ghost shown = { λ l told a. true };
 
     fn decide(&self, told: Told) -> Result<Verdict, Stop> {
         let mut told = told;
@@ -47,10 +48,11 @@ impl Plan for HostRead {
         } else {
             0
         };
-        Ok(Verdict {
-            reply: Reply::Done(Value::Number(word)),
-            writes: ArrayVec::new(),
-        })
+        Ok(Verdict::answer(Value::Number(word)))
+    }
+
+    fn write(&self, _act: Act, _told: &[u64], _number: usize, _hand: &mut Hand) -> Option<Write> {
+        None
     }
 
     ghost means = { λ l. host_read-means l.place l.page l.word };
@@ -67,28 +69,33 @@ pub struct HostWrite {
 
 impl HostWrite {
     ghost use Rattle.std.specs.Prelude.{◌≡◌};
-    ghost use Rattle.leaf_engine.specs.Turns.{IsFresh};
     ghost use Rattle.access_core.specs.HostTrees.{host_write_task};
 
-    /// The leaf of a call at a place.
-    pub fn leaf(place: Place, page: u64, word: u64, value: u64) -> Planned<HostWrite>
-        ensures task { ⟦<Planned<HostWrite> as Leaf>⟧.task result ≡ host_write_task place page word value }
-        ensures fresh { let leaf = ⟦<Planned<HostWrite> as Leaf>⟧ in IsFresh (leaf.task result).tree (leaf.rest result) (leaf.tries result) (leaf.written result) (leaf.waits result) }
+    /// The plan of a call at a place.
+    pub fn plan(place: Place, page: u64, word: u64, value: u64) -> HostWrite
+        ensures { ⟦<HostWrite as Plan>⟧.task result ≡ host_write_task place page word value }
     {
-        Planned::new(HostWrite {
+        HostWrite {
             place,
             page,
             word,
             value,
-        })
+        }
     }
 }
 
 impl Plan for HostWrite {
+    ghost use Rattle.std.specs.Prelude.{◌&&◌, nat_lt, [], ◌∷◌};
+    ghost use Rattle.td_words.specs.Place.{Word};
+    ghost use Rattle.leaf_engine.specs.Changes.{Put};
     ghost use Rattle.access_core.specs.HostTrees.{host_write_task};
     ghost use Rattle.access_core.specs.HostMeanings.{host_write-means};
 
     ghost task = { λ l. host_write_task l.place l.page l.word l.value };
+
+    ghost changes = { λ l told a. Put (Word l.page l.word) l.value ∷ [] };
+
+    ghost shown = { λ l told a. nat_lt l.page l.place.machine.pages && nat_lt l.word 512 };
 
     fn decide(&self, told: Told) -> Result<Verdict, Stop> {
         let mut told = told;
@@ -99,13 +106,16 @@ impl Plan for HostWrite {
         told.lock(LockName::Page(page), lock_address(page), Mode::Shared)?;
         let pamt = told.load(pamt_address(page))?;
         told.check(says_host(pamt), Status::NotHost)?;
-        let mut writes = ArrayVec::new();
-        let at = word_address(page, self.word as u16);
-        writes.push(Write::Word(WordStep::Store(at, self.value)));
-        Ok(Verdict {
-            reply: Reply::Done(Value::Nothing),
-            writes,
-        })
+        Ok(Verdict::done(Act::NONE))
+    }
+
+    fn write(&self, _act: Act, _told: &[u64], number: usize, _hand: &mut Hand) -> Option<Write> {
+        let _pages = self.place.machine.pages;
+        let at = word_address(self.page as u16, self.word as u16);
+        match number {
+            0 => Some(Write::store(at, self.value)),
+            _ => None,
+        }
     }
 
     ghost means = { λ l. host_write-means l.place l.page l.word l.value };

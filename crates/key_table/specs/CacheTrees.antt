@@ -20,6 +20,16 @@ abbrev pub mark_keys : (number left : ℕ) → List Change → Tree
 mark_keys number zero changes = acts (Done value.Nothing) changes
 mark_keys number (suc left) changes = Load Whole (place.Key number) (λ key. mark_keys (suc number) left (changes ++ Put (place.Key number) (marked key) ∷ []))
 
+-- the words of HKIDs, so many from that number on, each stored with a flushed one marked
+abbrev pub marks : (number left : ℕ) → List ℕ → List Change
+marks number (suc left) (key ∷ keys) = Put (place.Key number) (marked key) ∷ marks (suc number) left keys
+marks number _ _ = []
+
+-- behind the answer of K
+abbrev pub cache_changes : Machine → List ℕ → List Change
+cache_changes m (lock ∷ keys) = marks KEY_FIRST m.hkids keys
+cache_changes m [] = []
+
 -- PHYMEM.CACHE.WB
 abbrev pub cache_tree : Machine → Tree
 cache_tree m = Lock OfKeys (place.Key KEY_LOCK) Exclusive (mark_keys KEY_FIRST m.hkids [])

@@ -27,6 +27,10 @@ give_back_tdr page = Put (place.Pamt page) 0 ∷ Clear page ∷ []
 abbrev pub give_back_child : (t page children : ℕ) → List Change
 give_back_child t page children = Put (place.Pamt page) 0 ∷ Clear page ∷ Put (place.Word t TDR_CHILDREN) (lowered children) ∷ []
 
+abbrev pub give_back : (t page : ℕ) → (is_tdr : Bool) → (children : ℕ) → List Change
+give_back t page true children = give_back_tdr page
+give_back t page false children = give_back_child t page children
+
 -- the TDR page itself, or another page of the TD
 abbrev pub reclaim_rest : (t page : ℕ) → Bool → Tree
 reclaim_rest t page true =

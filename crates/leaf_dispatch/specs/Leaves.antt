@@ -1,16 +1,10 @@
 -- What contracts see of a leaf of any call.
 use Rattle.std.specs.Prelude.{ℕ, ◌+◌, ◌-◌, ◌*◌, Bool, if◌then◌else◌, List, length}
-use Rattle.leaf_engine.specs.declared.plans.TheConstants.{ANSWERS, WRITES}
+use Rattle.leaf_engine.specs.declared.plans.TheConstants.{ANSWERS}
 use Rattle.leaf_engine.specs.Trees.{Tree, feed}
 use Rattle.leaf_engine.specs.Means.{Task, MeansRow}
-use Rattle.td_control.specs.InitTrees.{init_task}
-use Rattle.td_control.specs.FinalTrees.{finalize_task}
-use Rattle.mem_build.specs.PageAddTrees.{page_add_task}
 use Rattle.mem_build.specs.ExtendTrees.{extend_task}
 use Rattle.mem_build.specs.ExtendStages.{rest_of}
-use Rattle.td_control.specs.InitMeanings.{init-means}
-use Rattle.td_control.specs.FinalMeanings.{finalize-means}
-use Rattle.mem_build.specs.PageAddMeanings.{page_add-means}
 use Rattle.mem_build.specs.ExtendMeanings.{extend-means}
 use Rattle.leaf_dispatch.specs.Plans.{plan_task, plans-mean}
 use Rattle.leaf_dispatch.specs.declared.leaves.AnyLeaf.{AnyLeaf}
@@ -26,36 +20,30 @@ pub record LeafSeen : Type 0 where
   pub bound : ℕ
   pub tries : ℕ
 
--- of a leaf that goes by a plan, with or without a hasher, and was told these words
+-- of a leaf that goes by a plan, and was told these words
 abbrev pub planned : Task → List ℕ → ℕ → Bool → LeafSeen
 planned t told written waits = record {
   task = t;
   rest = feed t.tree told;
   written = written;
   waits = waits;
-  bound = 2 * (ANSWERS - length told) + (WRITES - written) - (if waits then 1 else 0);
+  bound = 2 * (ANSWERS - length told) + (16 - written) - (if waits then 1 else 0);
   tries = ANSWERS - length told;
 }
 
 -- kind by kind
 abbrev pub leaf_seen : AnyLeaf → LeafSeen
 leaf_seen (leaf.ByPlan l) = planned (plan_task l.plan) l.told.items l.written l.waits
-leaf_seen (leaf.Init l) = planned (init_task l.plan.place l.plan.tdr) l.told.items l.written l.waits
-leaf_seen (leaf.Finalize l) = planned (finalize_task l.plan.place l.plan.tdr) l.told.items l.written l.waits
-leaf_seen (leaf.PageAdd l) = planned (page_add_task l.plan.place l.plan.given.tdr l.plan.given.gpa l.plan.given.page l.plan.given.source) l.told.items l.written l.waits
 leaf_seen (leaf.Extend l) = record {
   task = extend_task l.place l.tdr l.gpa;
   rest = rest_of l.place l.tdr l.gpa l.chunk l.told.items l.words.items;
   written = l.written;
   waits = l.waits;
-  bound = 2 * (ANSWERS - length l.told.items) + 2 * (32 - length l.words.items) + (WRITES - l.written) - (if l.waits then 1 else 0);
+  bound = 2 * (ANSWERS - length l.told.items) + 2 * (32 - length l.words.items) + (16 - l.written) - (if l.waits then 1 else 0);
   tries = ANSWERS - length l.told.items;
 }
 
 -- each means its row
 pub leaves-mean : (l : AnyLeaf) → MeansRow (leaf_seen l).task
 leaves-mean (leaf.ByPlan l) = plans-mean l.plan
-leaves-mean (leaf.Init l) = init-means l.plan.place l.plan.tdr
-leaves-mean (leaf.Finalize l) = finalize-means l.plan.place l.plan.tdr
-leaves-mean (leaf.PageAdd l) = page_add-means l.plan.place l.plan.given.tdr l.plan.given.gpa l.plan.given.page l.plan.given.source l.plan.machine
 leaves-mean (leaf.Extend l) = extend-means l.place l.tdr l.gpa l.machine

@@ -1,19 +1,32 @@
 -- What contracts see of a plan of any call.
+use Rattle.std.specs.Prelude.{ℕ, ◌==◌, ◌&&◌, not, nat_lt, nat_le, Bool, true, false, List, [], ◌∷◌, length}
+use Rattle.td_words.specs.declared.names.LifeState.TheVariants as life
+use Rattle.td_words.specs.Packing.{Unassigned, FlushedOf}
+use Rattle.td_words.specs.Place.{Word}
+use Rattle.sept_walk.specs.SecureEpt.{index_at}
+use Rattle.leaf_engine.specs.declared.needs.Place.{Place}
+use Rattle.leaf_engine.specs.declared.plans.Act.{Act}
+use Rattle.leaf_engine.specs.Changes.{Change, Put, Clear}
 use Rattle.leaf_engine.specs.Means.{Task, MeansRow}
+use Rattle.leaf_parts.specs.Words.{is_hkid}
 use Rattle.access_core.specs.HostTrees.{host_read_task, host_write_task}
 use Rattle.mem_remove.specs.MetadataTrees.{rdmd_task}
-use Rattle.key_table.specs.CacheTrees.{cache_task}
-use Rattle.key_table.specs.ReclaimTrees.{reclaim_task}
-use Rattle.td_control.specs.CreationTrees.{create_task}
-use Rattle.td_control.specs.KeyTrees.{configure_task}
-use Rattle.td_control.specs.AddTrees.{add_task}
+use Rattle.key_table.specs.CacheTrees.{cache_task, cache_changes}
+use Rattle.key_table.specs.ReclaimTrees.{reclaim_task, give_back}
+use Rattle.td_control.specs.CreationTrees.{create_task, create_changes}
+use Rattle.td_control.specs.KeyTrees.{configure_task, configure_changes}
+use Rattle.td_control.specs.AddTrees.{add_task, add_changes}
+use Rattle.td_control.specs.InitTrees.{init_task, init_changes}
+use Rattle.td_control.specs.FinalTrees.{finalize_task, final_changes}
 use Rattle.td_control.specs.ReadTrees.{read_task}
 use Rattle.key_table.specs.FlushTrees.{flush_task}
-use Rattle.key_table.specs.EndTrees.{free_task}
+use Rattle.key_table.specs.EndTrees.{free_task, end_changes}
 use Rattle.vcpu_control.specs.VpTrees.{vp_create_task, vp_init_task}
-use Rattle.mem_build.specs.SeptAddTrees.{sept_add_task}
+use Rattle.vcpu_control.specs.VpChanges as vp
+use Rattle.mem_build.specs.SeptAddTrees.{sept_add_task, sept_add_changes}
+use Rattle.mem_build.specs.PageAddTrees.{page_add_task, addition, added_changes}
 use Rattle.mem_build.specs.SeptReadTrees.{sept_read_task}
-use Rattle.mem_build.specs.PageAugTrees.{page_aug_task}
+use Rattle.mem_build.specs.PageAugTrees.{page_aug_task, page_aug_changes}
 use Rattle.access_core.specs.HostMeanings.{host_read-means, host_write-means}
 use Rattle.mem_remove.specs.MetadataMeanings.{rdmd-means}
 use Rattle.key_table.specs.CacheMeanings.{cache-means}
@@ -22,12 +35,15 @@ use Rattle.td_control.specs.CreationMeanings.{create-means}
 use Rattle.td_control.specs.KeyMeanings.{configure-means}
 use Rattle.td_control.specs.AddMeanings.{add-means}
 use Rattle.td_control.specs.ReadMeanings.{read-means}
+use Rattle.td_control.specs.InitMeanings.{init-means}
+use Rattle.td_control.specs.FinalMeanings.{finalize-means}
 use Rattle.key_table.specs.FlushMeanings.{flush-means}
 use Rattle.key_table.specs.EndMeanings.{free-means}
 use Rattle.vcpu_control.specs.VpMeanings.{vp_create-means, vp_init-means}
 use Rattle.mem_build.specs.SeptAddMeanings.{sept_add-means}
 use Rattle.mem_build.specs.SeptReadMeanings.{sept_read-means}
 use Rattle.mem_build.specs.PageAugMeanings.{page_aug-means}
+use Rattle.mem_build.specs.PageAddMeanings.{page_add-means}
 use Rattle.leaf_dispatch.specs.declared.plans.AnyPlan.{AnyPlan}
 use Rattle.leaf_dispatch.specs.declared.plans.AnyPlan.TheVariants as plan
 
@@ -41,14 +57,64 @@ plan_task (plan.Reclaim l) = reclaim_task l.place l.tdr l.page
 plan_task (plan.Create l) = create_task l.place l.tdr l.hkid
 plan_task (plan.KeyConfig l) = configure_task l.place l.tdr
 plan_task (plan.AddCx l) = add_task l.place l.tdr l.page
+plan_task (plan.Init l) = init_task l.place l.tdr
 plan_task (plan.Rd l) = read_task l.place l.tdr l.field
 plan_task (plan.FlushDone l) = flush_task l.place l.tdr
 plan_task (plan.FreeId l) = free_task l.place l.tdr
+plan_task (plan.Finalize l) = finalize_task l.place l.tdr
 plan_task (plan.VpCreate l) = vp_create_task l.place l.tdr l.page
 plan_task (plan.VpInit l) = vp_init_task l.place l.tdr l.vp l.value
 plan_task (plan.SeptAdd l) = sept_add_task l.place l.tdr l.gpa l.level l.page
 plan_task (plan.SeptRd l) = sept_read_task l.place l.tdr l.gpa l.level
+plan_task (plan.PageAdd l) = page_add_task l.place l.given.tdr l.given.gpa l.given.page l.given.source
 plan_task (plan.PageAug l) = page_aug_task l.place l.tdr l.gpa l.page
+
+-- all that it changes, in order
+abbrev pub plan_changes : AnyPlan → List ℕ → Act → List Change
+plan_changes (plan.HostRead l) told a = []
+plan_changes (plan.HostWrite l) told a = Put (Word l.page l.word) l.value ∷ []
+plan_changes (plan.Rdmd l) told a = []
+plan_changes (plan.CacheWb l) told a = cache_changes l.place.machine told
+plan_changes (plan.Reclaim l) told a = give_back l.tdr l.page (l.page == l.tdr) a.children
+plan_changes (plan.Create l) told a = create_changes l.tdr l.hkid
+plan_changes (plan.KeyConfig l) told a = configure_changes l.tdr
+plan_changes (plan.AddCx l) told a = add_changes l.place.machine.pages l.tdr l.page a.count a.children
+plan_changes (plan.Init l) told a = init_changes l.place.machine a.page a.hkid
+plan_changes (plan.Rd l) told a = []
+plan_changes (plan.FlushDone l) told a = end_changes l.place.machine l.tdr a.hkid (FlushedOf l.tdr false) life.Blocked
+plan_changes (plan.FreeId l) told a = end_changes l.place.machine l.tdr a.hkid Unassigned life.Teardown
+plan_changes (plan.Finalize l) told a = final_changes l.place.machine a.page a.hkid
+plan_changes (plan.VpCreate l) told a = vp.create_changes l.place.machine.pages l.tdr a.page l.page a.count a.children
+plan_changes (plan.VpInit l) told a = vp.init_changes l.vp l.value
+plan_changes (plan.SeptAdd l) told a = Clear l.page ∷ sept_add_changes l.place.machine.pages l.tdr l.page a.page (index_at l.level l.gpa) a.children
+plan_changes (plan.SeptRd l) told a = []
+plan_changes (plan.PageAdd l) told a = added_changes l.place.machine (addition l.given.tdr l.given.gpa l.given.page l.given.source a)
+plan_changes (plan.PageAug l) told a = page_aug_changes l.place.machine.pages l.tdr l.page a.page (index_at 0 l.gpa) a.children
+
+-- what its conditions have shown
+abbrev pub is_page : Place → ℕ → Bool
+is_page p page = nat_lt page p.machine.pages
+
+abbrev pub plan_shown : AnyPlan → List ℕ → Act → Bool
+plan_shown (plan.HostRead l) told a = true
+plan_shown (plan.HostWrite l) told a = is_page l.place l.page && nat_lt l.word 512
+plan_shown (plan.Rdmd l) told a = true
+plan_shown (plan.CacheWb l) told a = nat_lt l.place.machine.hkids (length told)
+plan_shown (plan.Reclaim l) told a = is_page l.place l.tdr && is_page l.place l.page
+plan_shown (plan.Create l) told a = is_page l.place l.tdr && is_hkid l.place.machine l.hkid
+plan_shown (plan.KeyConfig l) told a = is_page l.place l.tdr
+plan_shown (plan.AddCx l) told a = is_page l.place l.tdr && is_page l.place l.page && nat_lt a.count 2
+plan_shown (plan.Init l) told a = is_page l.place a.page
+plan_shown (plan.Rd l) told a = true
+plan_shown (plan.FlushDone l) told a = is_page l.place l.tdr
+plan_shown (plan.FreeId l) told a = is_page l.place l.tdr
+plan_shown (plan.Finalize l) told a = is_page l.place a.page
+plan_shown (plan.VpCreate l) told a = is_page l.place l.tdr && is_page l.place l.page && is_page l.place a.page && nat_lt a.count 8
+plan_shown (plan.VpInit l) told a = is_page l.place l.vp
+plan_shown (plan.SeptAdd l) told a = is_page l.place l.tdr && is_page l.place l.page && is_page l.place a.page && nat_le l.level 3
+plan_shown (plan.SeptRd l) told a = true
+plan_shown (plan.PageAdd l) told a = is_page l.place l.given.tdr && is_page l.place l.given.page && is_page l.place l.given.source && not (l.given.source == l.given.page) && is_page l.place a.page
+plan_shown (plan.PageAug l) told a = is_page l.place l.tdr && is_page l.place l.page && is_page l.place a.page
 
 -- each means its row
 pub plans-mean : (l : AnyPlan) → MeansRow (plan_task l)
@@ -60,11 +126,14 @@ plans-mean (plan.Reclaim l) = reclaim-means l.place l.tdr l.page l.few_pages
 plans-mean (plan.Create l) = create-means l.place l.tdr l.hkid
 plans-mean (plan.KeyConfig l) = configure-means l.place l.tdr
 plans-mean (plan.AddCx l) = add-means l.place l.tdr l.page
+plans-mean (plan.Init l) = init-means l.place l.tdr
 plans-mean (plan.Rd l) = read-means l.place l.tdr l.field
 plans-mean (plan.FlushDone l) = flush-means l.place l.tdr
 plans-mean (plan.FreeId l) = free-means l.place l.tdr
+plans-mean (plan.Finalize l) = finalize-means l.place l.tdr
 plans-mean (plan.VpCreate l) = vp_create-means l.place l.tdr l.page
 plans-mean (plan.VpInit l) = vp_init-means l.place l.tdr l.vp l.value l.few_pages
 plans-mean (plan.SeptAdd l) = sept_add-means l.place l.tdr l.gpa l.level l.page l.machine
 plans-mean (plan.SeptRd l) = sept_read-means l.place l.tdr l.gpa l.level l.machine
+plans-mean (plan.PageAdd l) = page_add-means l.place l.given.tdr l.given.gpa l.given.page l.given.source l.machine
 plans-mean (plan.PageAug l) = page_aug-means l.place l.tdr l.gpa l.page l.machine

@@ -9,7 +9,7 @@ ghost use Rattle.leaf_dispatch.specs.Table.{task_of};
 use crate::plans::AnyPlan;
 use access_core::{HostRead, HostWrite};
 use key_table::{CacheWb, FlushDone, FreeId, Reclaim};
-use leaf_engine::{Leaf, Measuring, Need, Place, Planned, Write};
+use leaf_engine::{Leaf, Need, Place, Planned, Write};
 use mem_build::{Extend, PageAdd, PageAug, SeptAdd, SeptRd};
 use mem_remove::Rdmd;
 use mrtd_measure::Measure;
@@ -17,13 +17,10 @@ use td_control::{AddCx, Create, Finalize, Init, KeyConfig, Rd};
 use td_words::Call;
 use vcpu_control::{VpCreate, VpInit};
 
-/// A leaf of any call that is built: one that goes by a plan of any call, or one that measures.
+/// A leaf of any call that is built: one that goes by a plan of any call, or MR.EXTEND's.
 #[derive(Drop)]
 pub enum AnyLeaf {
     ByPlan(Planned<AnyPlan>),
-    Init(Measuring<Init>),
-    Finalize(Measuring<Finalize>),
-    PageAdd(Measuring<PageAdd>),
     Extend(Extend),
 }
 
@@ -45,9 +42,6 @@ impl Leaf for AnyLeaf {
     fn need(&mut self) -> Need {
         match self {
             AnyLeaf::ByPlan(leaf) => leaf.need(),
-            AnyLeaf::Init(leaf) => leaf.need(),
-            AnyLeaf::Finalize(leaf) => leaf.need(),
-            AnyLeaf::PageAdd(leaf) => leaf.need(),
             AnyLeaf::Extend(leaf) => leaf.need(),
         }
     }
@@ -55,9 +49,6 @@ impl Leaf for AnyLeaf {
     fn tell(&mut self, word: u64) {
         match self {
             AnyLeaf::ByPlan(leaf) => leaf.tell(word),
-            AnyLeaf::Init(leaf) => leaf.tell(word),
-            AnyLeaf::Finalize(leaf) => leaf.tell(word),
-            AnyLeaf::PageAdd(leaf) => leaf.tell(word),
             AnyLeaf::Extend(leaf) => leaf.tell(word),
         }
     }
@@ -65,9 +56,6 @@ impl Leaf for AnyLeaf {
     fn write(&mut self, hasher: &mut Option<Measure>) -> Option<Write> {
         match self {
             AnyLeaf::ByPlan(leaf) => leaf.write(hasher),
-            AnyLeaf::Init(leaf) => leaf.write(hasher),
-            AnyLeaf::Finalize(leaf) => leaf.write(hasher),
-            AnyLeaf::PageAdd(leaf) => leaf.write(hasher),
             AnyLeaf::Extend(leaf) => leaf.write(hasher),
         }
     }
@@ -91,61 +79,49 @@ pub fn leaf_of(place: Place, call: &Call) -> AnyLeaf
 {
     match *call {
         Call::HostRead { page, word } => {
-            by_plan(AnyPlan::HostRead(HostRead::leaf(place, page, word).into_plan()))
+            by_plan(AnyPlan::HostRead(HostRead::plan(place, page, word)))
         }
-        Call::HostWrite { page, word, value } => by_plan(AnyPlan::HostWrite(HostWrite::leaf(
+        Call::HostWrite { page, word, value } => by_plan(AnyPlan::HostWrite(HostWrite::plan(
             place, page, word, value,
-        ).into_plan())),
-        Call::PhymemPageRdmd { page } => {
-            by_plan(AnyPlan::Rdmd(Rdmd::leaf(place, page).into_plan()))
-        }
-        Call::PhymemCacheWb => by_plan(AnyPlan::CacheWb(CacheWb::leaf(place).into_plan())),
+        ))),
+        Call::PhymemPageRdmd { page } => by_plan(AnyPlan::Rdmd(Rdmd::plan(place, page))),
+        Call::PhymemCacheWb => by_plan(AnyPlan::CacheWb(CacheWb::plan(place))),
         Call::PhymemPageReclaim { tdr, page } => {
-            by_plan(AnyPlan::Reclaim(Reclaim::leaf(place, tdr, page).into_plan()))
+            by_plan(AnyPlan::Reclaim(Reclaim::plan(place, tdr, page)))
         }
         Call::MngCreate { tdr, hkid } => {
-            by_plan(AnyPlan::Create(Create::leaf(place, tdr, hkid).into_plan()))
+            by_plan(AnyPlan::Create(Create::plan(place, tdr, hkid)))
         }
-        Call::MngKeyConfig { tdr } => {
-            by_plan(AnyPlan::KeyConfig(KeyConfig::leaf(place, tdr).into_plan()))
-        }
-        Call::MngAddcx { tdr, page } => {
-            by_plan(AnyPlan::AddCx(AddCx::leaf(place, tdr, page).into_plan()))
-        }
-        Call::MngInit { tdr } => AnyLeaf::Init(Init::leaf(place, tdr)),
-        Call::MngRd { tdr, field } => {
-            by_plan(AnyPlan::Rd(Rd::leaf(place, tdr, field).into_plan()))
-        }
-        Call::MngVpflushdone { tdr } => {
-            by_plan(AnyPlan::FlushDone(FlushDone::leaf(place, tdr).into_plan()))
-        }
-        Call::MngKeyFreeid { tdr } => {
-            by_plan(AnyPlan::FreeId(FreeId::leaf(place, tdr).into_plan()))
-        }
-        Call::MrFinalize { tdr } => AnyLeaf::Finalize(Finalize::leaf(place, tdr)),
+        Call::MngKeyConfig { tdr } => by_plan(AnyPlan::KeyConfig(KeyConfig::plan(place, tdr))),
+        Call::MngAddcx { tdr, page } => by_plan(AnyPlan::AddCx(AddCx::plan(place, tdr, page))),
+        Call::MngInit { tdr } => by_plan(AnyPlan::Init(Init::plan(place, tdr))),
+        Call::MngRd { tdr, field } => by_plan(AnyPlan::Rd(Rd::plan(place, tdr, field))),
+        Call::MngVpflushdone { tdr } => by_plan(AnyPlan::FlushDone(FlushDone::plan(place, tdr))),
+        Call::MngKeyFreeid { tdr } => by_plan(AnyPlan::FreeId(FreeId::plan(place, tdr))),
+        Call::MrFinalize { tdr } => by_plan(AnyPlan::Finalize(Finalize::plan(place, tdr))),
         Call::VpCreate { tdr, page } => {
-            by_plan(AnyPlan::VpCreate(VpCreate::leaf(place, tdr, page).into_plan()))
+            by_plan(AnyPlan::VpCreate(VpCreate::plan(place, tdr, page)))
         }
         Call::VpInit { tdr, vp, value } => {
-            by_plan(AnyPlan::VpInit(VpInit::leaf(place, tdr, vp, value).into_plan()))
+            by_plan(AnyPlan::VpInit(VpInit::plan(place, tdr, vp, value)))
         }
         Call::MemSeptAdd {
             tdr,
             gpa,
             level,
             page,
-        } => by_plan(AnyPlan::SeptAdd(SeptAdd::leaf(place, tdr, gpa, level, page).into_plan())),
-        Call::MemSeptRd { tdr, gpa, level } => by_plan(AnyPlan::SeptRd(SeptRd::leaf(
+        } => by_plan(AnyPlan::SeptAdd(SeptAdd::plan(place, tdr, gpa, level, page))),
+        Call::MemSeptRd { tdr, gpa, level } => by_plan(AnyPlan::SeptRd(SeptRd::plan(
             place, tdr, gpa, level,
-        ).into_plan())),
+        ))),
         Call::MemPageAdd {
             tdr,
             gpa,
             page,
             source,
-        } => AnyLeaf::PageAdd(PageAdd::leaf(place, tdr, gpa, page, source)),
+        } => by_plan(AnyPlan::PageAdd(PageAdd::plan(place, tdr, gpa, page, source))),
         Call::MemPageAug { tdr, gpa, page } => {
-            by_plan(AnyPlan::PageAug(PageAug::leaf(place, tdr, gpa, page).into_plan()))
+            by_plan(AnyPlan::PageAug(PageAug::plan(place, tdr, gpa, page)))
         }
         Call::MrExtend { tdr, gpa } => AnyLeaf::Extend(Extend::leaf(place, tdr, gpa)),
     }

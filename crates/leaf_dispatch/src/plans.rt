@@ -1,11 +1,11 @@
-//! The plan of each call that goes by one: a decision, and writes that follow from it alone.
+//! The plan of each call that goes by one.
 
 use access_core::{HostRead, HostWrite};
 use key_table::{CacheWb, FlushDone, FreeId, Reclaim};
-use leaf_engine::{Plan, Stop, Told, Verdict};
-use mem_build::{PageAug, SeptAdd, SeptRd};
+use leaf_engine::{Act, Hand, Plan, Stop, Told, Verdict, Write};
+use mem_build::{PageAdd, PageAug, SeptAdd, SeptRd};
 use mem_remove::Rdmd;
-use td_control::{AddCx, Create, KeyConfig, Rd};
+use td_control::{AddCx, Create, Finalize, Init, KeyConfig, Rd};
 use vcpu_control::{VpCreate, VpInit};
 
 /// A plan of any call that is built.
@@ -19,20 +19,27 @@ pub enum AnyPlan {
     Create(Create),
     KeyConfig(KeyConfig),
     AddCx(AddCx),
+    Init(Init),
     Rd(Rd),
     FlushDone(FlushDone),
     FreeId(FreeId),
+    Finalize(Finalize),
     VpCreate(VpCreate),
     VpInit(VpInit),
     SeptAdd(SeptAdd),
     SeptRd(SeptRd),
+    PageAdd(PageAdd),
     PageAug(PageAug),
 }
 
 impl Plan for AnyPlan {
-    ghost use Rattle.leaf_dispatch.specs.Plans.{plan_task, plans-mean};
+    ghost use Rattle.leaf_dispatch.specs.Plans.{plan_task, plan_changes, plan_shown, plans-mean};
 
     ghost task = { λ p. plan_task p };
+
+    ghost changes = { λ p told a. plan_changes p told a };
+
+    ghost shown = { λ p told a. plan_shown p told a };
 
     fn decide(&self, told: Told) -> Result<Verdict, Stop> {
         match self {
@@ -44,14 +51,41 @@ impl Plan for AnyPlan {
             AnyPlan::Create(plan) => plan.decide(told),
             AnyPlan::KeyConfig(plan) => plan.decide(told),
             AnyPlan::AddCx(plan) => plan.decide(told),
+            AnyPlan::Init(plan) => plan.decide(told),
             AnyPlan::Rd(plan) => plan.decide(told),
             AnyPlan::FlushDone(plan) => plan.decide(told),
             AnyPlan::FreeId(plan) => plan.decide(told),
+            AnyPlan::Finalize(plan) => plan.decide(told),
             AnyPlan::VpCreate(plan) => plan.decide(told),
             AnyPlan::VpInit(plan) => plan.decide(told),
             AnyPlan::SeptAdd(plan) => plan.decide(told),
             AnyPlan::SeptRd(plan) => plan.decide(told),
+            AnyPlan::PageAdd(plan) => plan.decide(told),
             AnyPlan::PageAug(plan) => plan.decide(told),
+        }
+    }
+
+    fn write(&self, act: Act, told: &[u64], number: usize, hand: &mut Hand) -> Option<Write> {
+        match self {
+            AnyPlan::HostRead(plan) => plan.write(act, told, number, hand),
+            AnyPlan::HostWrite(plan) => plan.write(act, told, number, hand),
+            AnyPlan::Rdmd(plan) => plan.write(act, told, number, hand),
+            AnyPlan::CacheWb(plan) => plan.write(act, told, number, hand),
+            AnyPlan::Reclaim(plan) => plan.write(act, told, number, hand),
+            AnyPlan::Create(plan) => plan.write(act, told, number, hand),
+            AnyPlan::KeyConfig(plan) => plan.write(act, told, number, hand),
+            AnyPlan::AddCx(plan) => plan.write(act, told, number, hand),
+            AnyPlan::Init(plan) => plan.write(act, told, number, hand),
+            AnyPlan::Rd(plan) => plan.write(act, told, number, hand),
+            AnyPlan::FlushDone(plan) => plan.write(act, told, number, hand),
+            AnyPlan::FreeId(plan) => plan.write(act, told, number, hand),
+            AnyPlan::Finalize(plan) => plan.write(act, told, number, hand),
+            AnyPlan::VpCreate(plan) => plan.write(act, told, number, hand),
+            AnyPlan::VpInit(plan) => plan.write(act, told, number, hand),
+            AnyPlan::SeptAdd(plan) => plan.write(act, told, number, hand),
+            AnyPlan::SeptRd(plan) => plan.write(act, told, number, hand),
+            AnyPlan::PageAdd(plan) => plan.write(act, told, number, hand),
+            AnyPlan::PageAug(plan) => plan.write(act, told, number, hand),
         }
     }
 

@@ -1,5 +1,5 @@
 -- What a leaf changes: words by their places, and the hashers in the slots of HKIDs.
-use Rattle.std.specs.Prelude.{ℕ, ◌+◌, ◌%◌, ◌^◌, Bool, true, false, ◌==◌, ◌&&◌, if◌then◌else◌, Option, List, [], ◌∷◌}
+use Rattle.std.specs.Prelude.{ℕ, ◌+◌, ◌%◌, ◌^◌, Bool, true, false, ◌==◌, if◌then◌else◌, Option, List, [], ◌∷◌}
 use Rattle.td_words.specs.Place.{WordPlace, Lock, Pamt, Word, Key}
 use Rattle.lock_words.specs.LockWords.{put_word}
 
@@ -54,7 +54,3 @@ abbrev pub is_plain : Change → Bool
 is_plain (PutHash q x) = false
 is_plain (Swap h made) = false
 is_plain _ = true
-
-abbrev pub are_plain : List Change → Bool
-are_plain [] = true
-are_plain (c ∷ cs) = is_plain c && are_plain cs

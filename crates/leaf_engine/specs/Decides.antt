@@ -1,5 +1,6 @@
 -- Code against trees: the need that a tree comes to, the decision that it takes, and the writes that its changes are.
-use Rattle.std.specs.Prelude.{◌≡◌, ℕ, ◌-◌, true, false, Option, Some, None, List, [], ◌∷◌, ◌++◌, map, Result, Ok, Err, MatchResult}
+use Rattle.std.specs.Prelude.{◌≡◌, ℕ, zero, suc, ◌-◌, true, false, Option, Some, None, List, [], ◌∷◌, ◌++◌, Result, Ok, Err, MatchOption, MatchResult}
+use Rattle.td_words.specs.declared.replies.Reply.{Reply}
 use Rattle.td_words.specs.Place.{address}
 use Rattle.flat_core.specs.Processor.{name_of}
 use Rattle.sha2.specs.Hashers.{Holds384}
@@ -12,10 +13,11 @@ use Rattle.leaf_engine.specs.declared.needs.Write.{Write}
 use Rattle.leaf_engine.specs.declared.needs.Write.TheVariants as write
 use Rattle.leaf_engine.specs.declared.plans.Stop.{Stop}
 use Rattle.leaf_engine.specs.declared.plans.Stop.TheVariants as stop
+use Rattle.leaf_engine.specs.declared.plans.Act.{Act}
 use Rattle.leaf_engine.specs.declared.plans.Verdict.{Verdict}
 use Rattle.word_rules.specs.Views.{look}
-use Rattle.leaf_engine.specs.Changes.{Hand, Change, Put, PutHash, Raise, Clear, Copy, Swap, are_plain}
-use Rattle.leaf_engine.specs.Trees.{Tree, Lock, Load, Test, End, Since, only, feed}
+use Rattle.leaf_engine.specs.Changes.{Hand, Change, Put, PutHash, Raise, Clear, Copy, Swap}
+use Rattle.leaf_engine.specs.Trees.{Tree, Lock, Load, Test, End, Since, only}
 use Rattle.leaf_engine.specs.Inside.{WriteInside}
 
 -- a change as it is made in a machine of so many pages, with this hasher in hand. HKID h has slot h - 1
@@ -32,20 +34,25 @@ abbrev pub hand_for : Hand → Change → Hand
 hand_for hand (Swap h made) = made hand
 hand_for hand _ = hand
 
+-- what a plan ends with: its reply, and all its changes in order
+pub record Ending : Type 0 where
+  pub reply : Reply
+  pub changes : List Change
+
+-- a decision as the end that it comes to, where an act has these changes
+abbrev pub ending : (Act → List Change) → Result Verdict Stop → Result Ending Stop
+ending changes (Ok v) = Ok (record { reply = v.reply; changes = changes v.act })
+ending changes (Err e) = Err e
+
 -- the decision that a tree takes after these answers. What a plan decides answers a reply alone
-abbrev pub Decides : ℕ → Tree → List ℕ → Result Verdict Stop → Type 0
+abbrev pub Decides : ℕ → Tree → List ℕ → Result Ending Stop → Type 0
 Decides n (Lock l q m t) [] r = r ≡ Err (stop.Lock (name_of l) (address n q) m)
 Decides n (Lock l q m t) (x ∷ xs) r = Decides n t xs r
 Decides n (Load v q k) [] r = r ≡ Err (stop.Load (address n q))
 Decides n (Load v q k) (x ∷ xs) r = Decides n (k (look v x)) xs r
 Decides n (Test b out t) xs r = (b ≡ true → Decides n t xs r) × (b ≡ false → r ≡ Err (stop.Refused out))
-Decides n (End a fs cs) xs r = MatchResult r (λ v. (a ≡ only v.reply) × (v.writes.items ≡ map (write_of n None) (fs ++ cs)) × (are_plain (fs ++ cs) ≡ true)) (λ e. ⊥)
-Decides n (Since a cs) xs r = MatchResult r (λ v. (a ≡ only v.reply) × (v.writes.items ≡ map (write_of n None) cs) × (are_plain cs ≡ true)) (λ e. ⊥)
-
--- what a tree comes to after these answers: the end of an act, or what stops it
-abbrev pub ComesTo : {A : Type 0} → ℕ → Tree → (A → Tree) → List ℕ → Result A Stop → Type 0
-ComesTo n t end xs (Ok a) = feed t xs ≡ end a
-ComesTo n t end xs (Err e) = Decides n t xs (Err e)
+Decides n (End a fs cs) xs r = MatchResult r (λ v. (a ≡ only v.reply) × (v.changes ≡ fs ++ cs)) (λ e. ⊥)
+Decides n (Since a cs) xs r = MatchResult r (λ v. (a ≡ only v.reply) × (v.changes ≡ cs)) (λ e. ⊥)
 
 -- the need that a tree with its conditions tested comes to
 abbrev pub Wants : ℕ → Tree → Need → Type 0
@@ -56,7 +63,7 @@ Wants n (End a fs cs) r = r ≡ need.Verdict a.reply
 Wants n (Since a cs) r = r ≡ need.Verdict a.reply
 
 -- the need of a decision
-abbrev pub need_for : Result Verdict Stop → Need
+abbrev pub need_for : Result Ending Stop → Need
 need_for (Ok v) = need.Verdict v.reply
 need_for (Err (stop.Lock name at mode)) = need.Lock name at mode
 need_for (Err (stop.Load at)) = need.Load at
@@ -82,3 +89,9 @@ HandsOut m c h h' w = (hand : Hand) → IsHand h hand → (w ≡ write_of m.page
 abbrev pub HandsNext : Machine → (before after : List Change) → (h h' : Option Measure) → Option Write → Type 0
 HandsNext m before after h h' None = (before ≡ []) × (after ≡ []) × (h' ≡ h)
 HandsNext m before after h h' (Some w) = (c : Change) × (before ≡ c ∷ after) × WriteInside m w × HandsOut m c h h' w
+
+-- the change of that number, if there is one
+abbrev pub HandsAt : Machine → List Change → (number : ℕ) → (h h' : Option Measure) → Option Write → Type 0
+HandsAt m [] k h h' r = (r ≡ None) × (h' ≡ h)
+HandsAt m (c ∷ cs) zero h h' r = MatchOption r ⊥ (λ w. WriteInside m w × HandsOut m c h h' w)
+HandsAt m (c ∷ cs) (suc k) h h' r = HandsAt m cs k h h' r

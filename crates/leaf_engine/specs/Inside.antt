@@ -1,5 +1,5 @@
 -- What leaves ask for and store at is in their machine, and they ask for so much and no more.
-use Rattle.std.specs.Prelude.{◌≢◌, ℕ, ◌<◌, ◌≤◌, Bool, true, false, Result, Ok, Err, List, [], ◌∷◌}
+use Rattle.std.specs.Prelude.{◌≢◌, ℕ, ◌<◌, ◌≤◌, Bool, true, false, Result, Ok, Err}
 use Rattle.td_words.specs.declared.machines.Machine.{Machine}
 use Rattle.step_core.specs.Words.{word_count, address_of}
 use Rattle.leaf_engine.specs.declared.needs.Need.{Need}
@@ -8,6 +8,7 @@ use Rattle.leaf_engine.specs.declared.needs.Write.{Write}
 use Rattle.leaf_engine.specs.declared.needs.Write.TheVariants as write
 use Rattle.leaf_engine.specs.declared.plans.Stop.{Stop}
 use Rattle.leaf_engine.specs.declared.plans.Stop.TheVariants as stop
+use Rattle.leaf_engine.specs.declared.plans.Act.{Act}
 use Rattle.leaf_engine.specs.declared.plans.Verdict.{Verdict}
 
 abbrev pub NeedInside : Machine → Need → Type 0
@@ -21,19 +22,16 @@ WriteInside m (write.Zero p) = p < m.pages
 WriteInside m (write.Copy p q) = (p < m.pages) × (q < m.pages) × (p ≢ q)
 WriteInside m (write.Swap slot) = slot < m.hkids
 
-abbrev pub WritesInside : Machine → List Write → Type 0
-WritesInside m [] = Unit {0}
-WritesInside m (w ∷ ws) = WriteInside m w × WritesInside m ws
-
--- what stops a decision, or what it comes to
+-- what stops a decision
 abbrev pub StopIn : Machine → Stop → Type 0
 StopIn m (stop.Load at) = at < word_count m
 StopIn m (stop.Lock name at mode) = at < word_count m
 StopIn m (stop.Refused reply) = Unit {0}
 
-abbrev pub DecisionIn : Machine → Result Verdict Stop → Type 0
-DecisionIn m (Ok v) = WritesInside m v.writes.items
-DecisionIn m (Err e) = StopIn m e
+-- a decision: what stops it, or what its conditions have shown of its act
+abbrev pub DecisionIn : Machine → (Act → Type 0) → Result Verdict Stop → Type 0
+DecisionIn m Shown (Ok v) = Shown v.act
+DecisionIn m Shown (Err e) = StopIn m e
 
 -- where a decision wants more, it was told less than so many words
 abbrev pub StopEarly : (most told : ℕ) → Stop → Type 0

@@ -3,9 +3,8 @@
 //!
 //! Stands on the flat machine's rows, on `word_rules` for what words show and who may change what,
 //! and on `step_core` for the steps. A leaf's author writes a `Plan` with its tree and the proof
-//! that the tree means its row; `Planned` makes a `Leaf` of it. Where the act exchanges a hasher it
-//! is a `MeasuringPlan`, of which `Measuring` makes one. A layer above may use that `need` gives the
-//! tree's next need, that `write` hands out the changes of its end in order, and that each address
+//! that the tree means its row; `Planned` makes a `Leaf` of it. A layer above may use that `need` gives
+//! the tree's next need, that `write` hands out the changes of its end in order, and that each address
 //! is in the leaf's machine.
 #![tactic(auto)]
 
@@ -13,7 +12,6 @@ mod asking;
 mod events;
 mod laws;
 mod leaves;
-mod measuring;
 mod needs;
 mod plans;
 mod processors;
@@ -25,8 +23,7 @@ pub use laws::{
     calls_follow, facts_stand, leaves_follow, leaves_follow_rows, turns_in_pieces, turns_show,
 };
 pub use leaves::Leaf;
-pub use measuring::{Measuring, MeasuringPlan};
-pub use needs::{Need, Place, Write};
-pub use plans::{ANSWERS, Plan, Planned, Stop, Told, Verdict, WRITES, need_at};
+pub use needs::{Hand, Need, Place, Write};
+pub use plans::{ANSWERS, Act, Plan, Planned, Stop, Told, Verdict, need_at};
 pub use processors::{Gate, NoGate, Processor, Turn};
 pub use runs::{LOCKS, Run};

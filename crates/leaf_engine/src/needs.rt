@@ -1,5 +1,6 @@
 //! What a leaf asks for, and what it writes.
 
+use mrtd_measure::Measure;
 use step_core::WordStep;
 use td_words::{LockName, Machine, Mode, Reply};
 
@@ -27,6 +28,20 @@ pub enum Write {
     Zero(u16),
     Copy { from: u16, to: u16 },
     Swap(u8),
+}
+
+/// The hasher in a leaf's hand.
+pub type Hand = Option<Measure>;
+
+ghost use Rattle.std.specs.Prelude.{◌≡◌};
+
+impl Write {
+    /// The store of a word.
+    pub fn store(at: u32, word: u64) -> Write
+        ensures { result ≡ Write.Word (WordStep.Store at word) }
+    {
+        Write::Word(WordStep::Store(at, word))
+    }
 }
 
 impl Default for Write {

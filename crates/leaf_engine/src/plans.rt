@@ -1,23 +1,21 @@
 //! Plans: a leaf as a function of the words that it was told.
 
-ghost use Rattle.std.specs.Prelude.{◌≡◌, ℕ, ◌+◌, ◌-◌, ◌*◌, ◌<◌, ◌≤◌, Bool, true, false, List, [], ◌∷◌, length, drop, Err, MatchOption, MatchResult};
+ghost use Rattle.std.specs.Prelude.{◌≡◌, ℕ, ◌+◌, ◌-◌, ◌*◌, ◌<◌, Bool, true, false, List, [], ◌∷◌, length, drop, Err, MatchOption, MatchResult};
 ghost use Rattle.td_words.specs.declared.replies.Reply.TheVariants.{Refused};
-ghost use Rattle.leaf_engine.specs.Trees.{feed};
-ghost use Rattle.leaf_engine.specs.Decides.{Decides, need_for, told_then};
+ghost use Rattle.leaf_engine.specs.Changes.{Change};
+ghost use Rattle.leaf_engine.specs.Trees.{feed, changes_of};
+ghost use Rattle.leaf_engine.specs.Decides.{Decides, HandsAt, ending, need_for, told_then};
 ghost use Rattle.leaf_engine.specs.Inside.{DecisionIn, DecidesEarly, StopEarly, is_load};
 ghost use Rattle.leaf_engine.specs.Means.{Task, MeansRow};
 
 use crate::leaves::Leaf;
-use crate::needs::{Need, Write};
+use crate::needs::{Hand, Need, Write};
 use arrayvec::ArrayVec;
 use mrtd_measure::Measure;
-use td_words::{LockName, Mode, Reply, Status};
+use td_words::{LockName, Mode, Reply, Status, Value};
 
 /// At most how many locks and loads a plan has.
 pub const ANSWERS: usize = 32;
-
-/// At most how many writes.
-pub const WRITES: usize = 16;
 
 /// Why a plan goes no further: it wants a lock or a word, or one of its conditions fails.
 #[derive(Clone, Copy, Debug, PartialEq, Eq)]
@@ -27,11 +25,60 @@ pub enum Stop {
     Refused(Reply),
 }
 
-/// What a plan ends with: its reply, and all its writes in order.
-#[derive(Drop)]
+/// What a plan's writes depend on besides what its call is given and was told: of these what the call
+/// uses, and 0 elsewhere.
+#[derive(Clone, Copy, Debug, PartialEq, Eq)]
+pub struct Act {
+    /// The TDCS page, or the secure EPT page in which an entry stands.
+    pub page: u16,
+    /// The HKID that the TDR page tells.
+    pub hkid: u64,
+    /// How many pages or virtual processors the TD has of a kind, before.
+    pub count: u64,
+    /// The child count, before.
+    pub children: u64,
+}
+
+impl Act {
+    /// Of a call whose writes depend on nothing besides.
+    pub const NONE: Act = Act {
+        page: 0,
+        hkid: 0,
+        count: 0,
+        children: 0,
+    };
+}
+
+/// What a plan ends with: its reply, and its act.
+#[derive(Clone, Copy, Debug, PartialEq, Eq)]
 pub struct Verdict {
     pub reply: Reply,
-    pub writes: ArrayVec<Write, WRITES>,
+    pub act: Act,
+}
+
+impl Verdict {
+    ghost use Rattle.td_words.specs.declared.replies.Reply.TheVariants.{Done};
+    ghost use Rattle.td_words.specs.declared.replies.Value.TheVariants.{Nothing};
+
+    /// Of a call that answers nothing.
+    pub fn done(act: Act) -> Verdict
+        ensures { result ≡ record { reply = Done Nothing; act = act } }
+    {
+        Verdict {
+            reply: Reply::Done(Value::Nothing),
+            act,
+        }
+    }
+
+    /// Of a call that changes nothing.
+    pub fn answer(value: Value) -> Verdict
+        ensures { result.reply ≡ Done value }
+    {
+        Verdict {
+            reply: Reply::Done(value),
+            act: Act::NONE,
+        }
+    }
 }
 
 /// The answers that a plan was told, as it goes through them.
@@ -88,16 +135,30 @@ impl<'a> Told<'a> {
     }
 }
 
-/// A row as a function of the words that it was told, for a leaf that uses no hasher.
+/// A row as a function of the words that it was told.
 pub trait Plan {
+    ghost use Rattle.leaf_engine.specs.declared.plans.Act.{Act};
+
     /// Where it was made for, its tree, and its row.
     ghost task: { Self → Task };
 
+    /// All changes of an act, in order, where it was told these words.
+    ghost changes: { Self → List ℕ → Act → List Change };
+
+    /// What its conditions have shown of an act.
+    ghost shown: { Self → List ℕ → Act → Bool };
+
     /// How far it comes with these words.
     fn decide(&self, told: Told) -> Result<Verdict, Stop>
-        ensures decides { Decides (task self.now).place.machine.pages (task self.now).tree told.entry.left.now result }
-        ensures inside { DecisionIn (task self.now).place.machine result }
+        ensures decides { let xs = told.entry.left.now in Decides (task self.now).place.machine.pages (task self.now).tree xs (ending (changes self.now xs) result) }
+        ensures inside { DecisionIn (task self.now).place.machine (λ a. shown self.now told.entry.left.now a ≡ true) result }
         ensures early { DecidesEarly 32 (length told.entry.left.now) result };
+
+    /// The write of that number of an act, made with the hasher in hand.
+    fn write(&self, act: Act, told: &[u64], number: usize, hand: &mut Hand) -> Option<Write>
+        requires { shown self.now told.now act ≡ true }
+        ensures hands { HandsAt (task self.now).place.machine (changes self.now told.now act) number hand.old hand.new result }
+        ensures few { MatchOption result Unit (λ w. number < 16) };
 
     ghost means: { (p : Self) → MeansRow (task p) };
 }
@@ -123,14 +184,19 @@ pub fn need_at(stop: Stop, told: &mut ArrayVec<u64, ANSWERS>, waits: &mut bool) 
     }
 }
 
-/// A leaf that goes by a plan.
+ghost use Rattle.std.specs.Prelude.{IfSome};
+ghost use Rattle.std.proofs.Props.{props};
+
+/// A leaf that goes by a plan. The act is kept once it was decided.
 #[derive(Drop)]
 pub struct Planned<P: Plan + Drop> {
     plan: P,
     told: ArrayVec<u64, ANSWERS>,
+    act: Option<Act>,
     written: usize,
     waits: bool,
     ghost room: { waits ≡ true → length told.items < 32 },
+    ghost known: { IfSome act (λ a. (changes_of (feed (P.task plan).tree told.items) ≡ P.changes plan told.items a) × (P.shown plan told.items a ≡ true)) } by { Prim.hlevel props },
 }
 
 impl<P: Plan + Drop> Planned<P> {
@@ -145,16 +211,26 @@ impl<P: Plan + Drop> Planned<P> {
         Planned {
             plan,
             told: ArrayVec::new(),
+            act: None,
             written: 0,
             waits: false,
         }
     }
 
-    /// The plan.
-    pub fn into_plan(self) -> P
-        ensures { result ≡ self.plan }
+    /// The act, where its words decide on one.
+    fn act(&self) -> Option<Act>
+        ensures { MatchOption result (changes_of (feed (P.task self.now.plan).tree self.now.told.items) ≡ [])
+            (λ a. (changes_of (feed (P.task self.now.plan).tree self.now.told.items) ≡ P.changes self.now.plan self.now.told.items a) × (P.shown self.now.plan self.now.told.items a ≡ true)) }
     {
-        self.plan
+        match self.act {
+            Some(act) => Some(act),
+            None => match self.plan.decide(Told {
+                left: self.told.as_slice(),
+            }) {
+                Ok(verdict) => Some(verdict.act),
+                Err(_) => None,
+            },
+        }
     }
 }
 
@@ -180,39 +256,31 @@ impl<P: Plan + Drop> Leaf for Planned<P> {
         match self.plan.decide(Told {
             left: self.told.as_slice(),
         }) {
-            Ok(verdict) => Need::Verdict(verdict.reply),
-            Err(stop) => need_at(stop, &mut self.told, &mut self.waits),
+            Ok(verdict) => {
+                self.act = Some(verdict.act);
+                Need::Verdict(verdict.reply)
+            }
+            Err(stop) => {
+                self.act = None;
+                need_at(stop, &mut self.told, &mut self.waits)
+            }
         }
     }
 
     fn tell(&mut self, word: u64) {
         self.waits = false;
+        self.act = None;
         self.told.push(word);
     }
 
-    fn write(&mut self, _hasher: &mut Option<Measure>) -> Option<Write> {
-        match self.plan.decide(Told {
-            left: self.told.as_slice(),
-        }) {
-            Ok(verdict) => next_write(&verdict.writes, &mut self.written),
-            Err(_) => None,
-        }
+    fn write(&mut self, hasher: &mut Option<Measure>) -> Option<Write> {
+        let act = self.act()?;
+        let write = self
+            .plan
+            .write(act, self.told.as_slice(), self.written, hasher)?;
+        self.written += 1;
+        Some(write)
     }
 
     ghost means = { λ l. P.means l.plan };
-}
-
-/// The next of the writes.
-fn next_write(writes: &ArrayVec<Write, WRITES>, written: &mut usize) -> Option<Write>
-    ensures next { MatchOption result (drop written.old writes.now.items ≡ [])
-        (λ w. drop written.old writes.now.items ≡ w ∷ drop written.new writes.now.items) }
-    ensures count { MatchOption result (written.new ≡ written.old) (λ w. (written.new ≡ written.old + 1) × (written.old < 16)) }
-{
-    if *written < writes.len() {
-        let write = writes.as_slice()[*written];
-        *written += 1;
-        Some(write)
-    } else {
-        None
-    }
 }

@@ -6,9 +6,8 @@ use Rattle.td_words.specs.declared.refusals.Status.{Status}
 use Rattle.td_words.specs.declared.replies.Reply.TheVariants.{Refused}
 use Rattle.leaf_engine.specs.declared.plans.Stop.{Stop}
 use Rattle.leaf_engine.specs.declared.plans.Stop.TheVariants as stop
-use Rattle.leaf_engine.specs.declared.plans.Verdict.{Verdict}
 use Rattle.leaf_engine.specs.Trees.{Tree, needs, feed}
-use Rattle.leaf_engine.specs.Decides.{Decides}
+use Rattle.leaf_engine.specs.Decides.{Ending, Decides}
 use Rattle.leaf_engine.specs.Inside.{StopEarly}
 use Rattle.leaf_parts.specs.Parts.{Goes, Feeds}
 
@@ -30,7 +29,7 @@ goes-off {A = A} {B = B} n first second before between after e r is a = goes-sto
 abbrev pub Checked : Bool → Status → Result (Unit {0}) Stop → Type 0
 Checked b s r = MatchResult r (λ u. b ≡ true) (λ e. (b ≡ false) × (e ≡ stop.Refused (Refused s)))
 
-pub passes : (n : ℕ) (b : Bool) (s : Status) (t : Tree) (after : List ℕ) (v : Result Verdict Stop) → b ≡ true → Decides n t after v → Decides n (needs b s t) after v
+pub passes : (n : ℕ) (b : Bool) (s : Status) (t : Tree) (after : List ℕ) (v : Result Ending Stop) → b ≡ true → Decides n t after v → Decides n (needs b s t) after v
 passes n true s t after v e d = (λ y. d, λ y. cc)
 passes n false s t after v e d = cc
 
@@ -39,13 +38,13 @@ refuses n true s t after e never is = cc
 refuses n false s t after e never is = (λ y. cc, λ y. ap Err is)
 
 pub goes-check : {A : Type 0} (n : ℕ) (tree : (A → Tree) → Tree) (before after : List ℕ) (b : Bool) (s : Status) (r : Result (Unit {0}) Stop) (x : A)
-    → ((f : A → Tree) (v : Result Verdict Stop) → Decides n (needs b s (f x)) after v → Decides n (tree f) before v) → Checked b s r
+    → ((f : A → Tree) (v : Result Ending Stop) → Decides n (needs b s (f x)) after v → Decides n (tree f) before v) → Checked b s r
     → Goes n (λ (f : Unit {0} → Tree). tree (λ y. f tt)) before after r
 goes-check n tree before after b s (Ok u) x h k = λ further v d. h (λ y. further tt) v (passes n b s (further tt) after v k d)
 goes-check n tree before after b s (Err e) x h k = λ further. h (λ y. further tt) (Err e) (refuses n b s (further tt) after e k.0 k.1)
 
 pub goes-refused : {A : Type 0} (n : ℕ) (tree : (A → Tree) → Tree) (before after last : List ℕ) (b : Bool) (s : Status) (e : Stop) (r : Result A Stop) (rest : (A → Tree) → Tree)
-    → r ≡ Err e → (b ≡ false) × (e ≡ stop.Refused (Refused s)) → ((f : A → Tree) (v : Result Verdict Stop) → Decides n (needs b s (rest f)) after v → Decides n (tree f) before v)
+    → r ≡ Err e → (b ≡ false) × (e ≡ stop.Refused (Refused s)) → ((f : A → Tree) (v : Result Ending Stop) → Decides n (needs b s (rest f)) after v → Decides n (tree f) before v)
     → Goes n tree before last r
 goes-refused n tree before after last b s e r rest is k h = goes-stop n tree before last r e is (λ f. h f (Err e) (refuses n b s (rest f) after e k.0 k.1))
 
@@ -65,12 +64,11 @@ feeds-on first second before between after x (Ok y) a b = λ further. a (λ z. s
 feeds-on first second before between after x (Err e) a b = tt
 
 -- behind conditions that hold a part stops, or what comes after it decides
-module _ (n : ℕ) (conditions : Tree → Tree) (hold : (t : Tree) (xs : List ℕ) (r : Result Verdict Stop) → Decides n t xs r → Decides n (conditions t) xs r) where
-  pub behind-stop : {A : Type 0} (tree : (A → Tree) → Tree) (further : A → Tree) (before after : List ℕ) (e : Stop) (r : Result Verdict Stop) → r ≡ Err e
-      → Goes {A = A} n tree before after (Err e) → Decides n (conditions (tree further)) before r
-  behind-stop tree further before after e r is g = hold (tree further) before r (subst (λ (x : Result Verdict Stop). Decides n (tree further) before x) (sym is) (g further))
+module _ (n : ℕ) (conditions : Tree → Tree) (hold : (t : Tree) (xs : List ℕ) (r : Result Ending Stop) → Decides n t xs r → Decides n (conditions t) xs r) where
+  pub behind-stop : {A : Type 0} (tree : (A → Tree) → Tree) (further : A → Tree) (before after : List ℕ) (e : Stop) → Goes {A = A} n tree before after (Err e) → Decides n (conditions (tree further)) before (Err e)
+  behind-stop tree further before after e g = hold (tree further) before (Err e) (g further)
 
-  pub behind-go : {A : Type 0} (tree : (A → Tree) → Tree) (further : A → Tree) (before after : List ℕ) (x : A) (r : Result Verdict Stop)
+  pub behind-go : {A : Type 0} (tree : (A → Tree) → Tree) (further : A → Tree) (before after : List ℕ) (x : A) (r : Result Ending Stop)
       → Goes {A = A} n tree before after (Ok x) → Decides n (further x) after r → Decides n (conditions (tree further)) before r
   behind-go tree further before after x r g d = hold (tree further) before r (g further r d)
 

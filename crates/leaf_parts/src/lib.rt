@@ -14,6 +14,6 @@ pub use heads::{Td, life_in, op_in, root, td_head, tdcs, tdr_head};
 pub use vp_words::{VpWord, vps_apart};
 pub use word_bytes::put_bytes;
 pub use words::{
-    hkid_slot, is_among, is_hkid, is_life_among, life_told, lowered, op_told, page_told, raised,
-    says_free, says_host, says_kind, says_owner, vps_told,
+    hkid_slot, is_among, is_hkid, is_life_among, life_told, lowered, op_told, owner_word,
+    page_told, raised, says_free, says_host, says_kind, says_owner, vps_told,
 };

@@ -3,8 +3,10 @@
 ghost use Rattle.std.specs.Prelude.{◌≡◌, ◌-◌, ◌<◌, ◌≤◌, ◌==◌, true, false, MatchOption};
 ghost use Rattle.std.specs.List.{list_any};
 ghost use Rattle.td_words.specs.NameNumber.{op_number, life_number};
+ghost use Rattle.td_words.specs.Packing.{pamt_word};
 ghost use Rattle.leaf_parts.specs.Words.{says_kind, says_host, says_owner, says_free, is_hkid, life_told, op_told, page_told, vps_told, raised, lowered};
 
+use pamt_core::PamtWord;
 use td_words::{LifeState, Machine, OpState, PageKind};
 
 /// Whether a PAMT word says that its page is of that kind.
@@ -26,6 +28,18 @@ pub fn says_owner(tdr: u16, pamt: u64) -> bool
     ensures { result ≡ says_owner tdr pamt }
 {
     pamt / 16 % 65536 == u64::from(tdr)
+}
+
+/// The PAMT word of a page that is taken for a TD.
+pub fn owner_word(kind: PageKind, tdr: u16) -> u64
+    ensures { result ≡ pamt_word (record { kind = kind; owner = tdr; epoch = 0 }) }
+{
+    let word = PamtWord {
+        kind,
+        owner: tdr,
+        epoch: 0,
+    };
+    word.pack()
 }
 
 /// Whether a key table word says that its HKID is free.

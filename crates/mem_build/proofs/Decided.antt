@@ -5,9 +5,8 @@ use Rattle.td_words.specs.declared.machines.Machine.{Machine}
 use Rattle.td_words.specs.declared.refusals.Status.TheVariants.{OperandInvalid}
 use Rattle.flat_core.specs.Arguments.{level_size}
 use Rattle.leaf_engine.specs.declared.plans.Stop.{Stop}
-use Rattle.leaf_engine.specs.declared.plans.Verdict.{Verdict}
 use Rattle.leaf_engine.specs.Trees.{Tree, needs}
-use Rattle.leaf_engine.specs.Decides.{Decides}
+use Rattle.leaf_engine.specs.Decides.{Ending, Decides}
 use Rattle.leaf_parts.proofs.Parts.{passes}
 use Rattle.mem_build.specs.SeptReadTrees.{read_arguments}
 use Rattle.mem_build.specs.SeptAddTrees.{add_arguments}
@@ -15,7 +14,7 @@ use Rattle.mem_build.specs.PageAugTrees.{augment_arguments}
 
 -- the arguments of MEM.SEPT.RD
 pub read-arguments : (n : ℕ) (m : Machine) (tdr gpa level : ℕ) → nat_lt tdr m.pages ≡ true → nat_lt gpa (2 ^ 47) ≡ true → nat_le level 3 ≡ true → (gpa % level_size level == 0) ≡ true
-    → (t : Tree) (xs : List ℕ) (r : Result Verdict Stop) → Decides n t xs r → Decides n (read_arguments m tdr gpa level t) xs r
+    → (t : Tree) (xs : List ℕ) (r : Result Ending Stop) → Decides n t xs r → Decides n (read_arguments m tdr gpa level t) xs r
 read-arguments n m tdr gpa level a b c d t xs r h =
     passes n (nat_lt tdr m.pages) (OperandInvalid 1) (needs (nat_lt gpa (2 ^ 47)) (OperandInvalid 2) (needs (nat_le level 3) (OperandInvalid 3) (needs (gpa % level_size level == 0) (OperandInvalid 2) t))) xs r a
     (passes n (nat_lt gpa (2 ^ 47)) (OperandInvalid 2) (needs (nat_le level 3) (OperandInvalid 3) (needs (gpa % level_size level == 0) (OperandInvalid 2) t)) xs r b
@@ -24,7 +23,7 @@ read-arguments n m tdr gpa level a b c d t xs r h =
 
 -- and of MEM.SEPT.ADD
 pub add-arguments : (n : ℕ) (m : Machine) (tdr gpa level page : ℕ) → nat_lt tdr m.pages ≡ true → nat_lt gpa (2 ^ 47) ≡ true → (nat_le 1 level && nat_le level 3) ≡ true → nat_lt page m.pages ≡ true → not (page == tdr) ≡ true → (gpa % level_size level == 0) ≡ true
-    → (t : Tree) (xs : List ℕ) (r : Result Verdict Stop) → Decides n t xs r → Decides n (add_arguments m tdr gpa level page t) xs r
+    → (t : Tree) (xs : List ℕ) (r : Result Ending Stop) → Decides n t xs r → Decides n (add_arguments m tdr gpa level page t) xs r
 add-arguments n m tdr gpa level page a b c d e f t xs r h =
     let last : Tree = needs (gpa % level_size level == 0) (OperandInvalid 2) t in
     let fifth : Tree = needs (not (page == tdr)) (OperandInvalid 4) last in

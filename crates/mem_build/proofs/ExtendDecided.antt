@@ -14,8 +14,7 @@ use Rattle.flat_core.specs.Processor.{OfPage}
 use Rattle.flat_core.specs.Tree.{same_state}
 use Rattle.leaf_engine.specs.declared.plans.Stop.{Stop}
 use Rattle.leaf_engine.specs.declared.plans.Stop.TheVariants as stop
-use Rattle.leaf_engine.specs.declared.plans.Verdict.{Verdict}
-use Rattle.leaf_engine.specs.Decides.{Decides}
+use Rattle.leaf_engine.specs.Decides.{Ending, Decides}
 use Rattle.leaf_engine.specs.Trees.{Tree, Lock, needs, feed}
 use Rattle.leaf_parts.specs.Parts.{Goes, Feeds}
 use Rattle.leaf_parts.proofs.Parts.{goes-stop, goes-off, goes-on, passes, refuses, feed-passes}
@@ -53,7 +52,7 @@ module _ (n t tdcs gpa : ℕ) (before between : List ℕ) where
         (goes-off n finding (λ (f : Found) (k : ℕ → Tree). checking f.entry k) between told after e r is h)
 
     module _ (f : Found) (e : Entry) (is : f.entry ≡ e) (found : Goes n finding between told (Ok f)) where
-      behind : (k : ℕ → Tree) (r : Result Verdict Stop) → Decides n (checking e k) told r → Decides n (whole k) before r
+      behind : (k : ℕ → Tree) (r : Result Ending Stop) → Decides n (checking e k) told r → Decides n (whole k) before r
       behind k r d = lock (λ v. finding (λ g. checking g.entry k)) r (found (λ g. checking g.entry k) r (subst (λ (x : Entry). Decides n (checking x k) told r) (sym is) d))
 
       pub unmapped : (after : List ℕ) (s : Stop) (r : Result ℕ Stop) → r ≡ Err s → is_mapped e ≡ false → s ≡ stop.Refused (Refused (EptEntryStateIncorrect e.state)) → Goes n whole before after r
@@ -79,7 +78,7 @@ module _ (n t tdcs gpa : ℕ) (before between : List ℕ) where
 
 -- behind the arguments
 module _ (n : ℕ) (m : Machine) (tdr gpa : ℕ) (in_one : nat_lt tdr m.pages ≡ true) (in_two : nat_lt gpa (2 ^ 47) ≡ true) (whole : (gpa % 256 == 0) ≡ true) where
-  pub argued : (xs : List ℕ) (r : Result Verdict Stop) → Decides n (conditions_tree m tdr gpa) xs r → Decides n (extend_tree m tdr gpa) xs r
+  pub argued : (xs : List ℕ) (r : Result Ending Stop) → Decides n (conditions_tree m tdr gpa) xs r → Decides n (extend_tree m tdr gpa) xs r
   argued xs r d =
       passes n (nat_lt tdr m.pages) (OperandInvalid 1) (needs (nat_lt gpa (2 ^ 47)) (OperandInvalid 2) (needs (gpa % 256 == 0) (OperandInvalid 2) (conditions_tree m tdr gpa))) xs r in_one
       (passes n (nat_lt gpa (2 ^ 47)) (OperandInvalid 2) (needs (gpa % 256 == 0) (OperandInvalid 2) (conditions_tree m tdr gpa)) xs r in_two

@@ -45,8 +45,7 @@ use Rattle.sept_parts.specs.SeptPages.{HasEntry, HoldsTree}
 use Rattle.sept_parts.specs.SeptTrees.{state_tree}
 use Rattle.sept_parts.proofs.SeptLocks.{tree_held, entry-writes, count-reads, count-owes}
 use Rattle.sept_parts.proofs.SeptBegun.{row-find-means}
-use Rattle.mem_build.specs.declared.page_additions.Addition.{Addition}
-use Rattle.mem_build.specs.PageAddTrees.{page_fills, page_changes, addition_end, alone, host_tree, pages_tree, td_tree, page_add_tree, page_add_task}
+use Rattle.mem_build.specs.PageAddTrees.{Addition, page_fills, page_changes, addition_end, alone, host_tree, pages_tree, td_tree, page_add_tree, page_add_task}
 use Rattle.mem_build.specs.PageAddShows.{page-added-shown}
 
 module _ (m : Machine) (c : Instant) (t gpa p q : ℕ) (limits : IsMachine m) (in_tdr : t < m.pages) (small : gpa < 2 ^ 47) (in_page : p < m.pages) (in_source : q < m.pages)

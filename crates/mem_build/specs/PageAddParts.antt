@@ -10,7 +10,6 @@ use Rattle.sept_parts.specs.declared.finds.Found.{Found}
 use Rattle.td_words.specs.declared.machines.Machine.{Machine}
 use Rattle.leaf_engine.specs.declared.plans.Stop.{Stop}
 use Rattle.mem_build.specs.declared.page_additions.Given.{Given}
-use Rattle.mem_build.specs.declared.page_additions.Addition.{Addition}
 
 -- what the argument rules tell of the pages
 abbrev pub AreAllowed : Machine → Given → Type 0
@@ -23,7 +22,3 @@ is_free f = list_any (λ s. same_state s f.entry.state) (entry.Free ∷ [])
 abbrev pub TableOf : Found → Result ℕ Stop → Type 0
 TableOf f (Ok page) = (is_free f ≡ true) × (page ≡ f.page)
 TableOf f (Err e) = (is_free f ≡ false) × (e ≡ stop.Refused (Refused (EptEntryStateIncorrect f.entry.state)))
-
--- its pages are of the machine, and the source is another one than the page
-abbrev pub IsInside : ℕ → Addition → Type 0
-IsInside pages a = (a.tdr < pages) × (a.page < pages) × (a.source < pages) × (a.table < pages) × (a.source ≢ a.page)

@@ -26,11 +26,10 @@ use Rattle.sept_parts.specs.SeptPages.{HasEntry}
 use Rattle.sept_parts.proofs.SeptPut.{entry-put}
 use Rattle.sept_parts.proofs.Filled.{set-lawful}
 use Rattle.sept_parts.proofs.Nodes.{node-taken}
-use Rattle.mem_build.specs.declared.page_additions.Addition.{Addition}
 use Rattle.leaf_parts.proofs.Told.{only-op}
 use Rattle.leaf_parts.proofs.Aside.{AllShown, aside, back, words-but, untold}
 use Rattle.leaf_parts.proofs.Hashers.{initialized, hasher-told, hashers-but}
-use Rattle.mem_build.specs.PageAddTrees.{with_page, page_fills, page_changes}
+use Rattle.mem_build.specs.PageAddTrees.{Addition, with_page, page_fills, page_changes}
 
 module _ (m : Machine) (s : State) (mem : Memory) (t gpa p q table : ℕ) (sh : Shows m mem.words mem.slots s) (la : Lawful m s.world) (x : IsTd m s.world t initialized)
     (small : gpa < 2 ^ 47) (has : HasEntry m s.world t x.controls.root table gpa 0) (host : is_host s.world p ≡ true) (source : is_host s.world q ≡ true)

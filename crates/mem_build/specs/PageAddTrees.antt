@@ -22,7 +22,21 @@ use Rattle.leaf_engine.specs.Means.{Task, OfCall}
 use Rattle.leaf_parts.specs.Words.{says_host, is_hkid, raised}
 use Rattle.sept_parts.specs.declared.finds.Modes.{Modes}
 use Rattle.sept_parts.specs.SeptTrees.{td_find_tree, state_tree}
-use Rattle.mem_build.specs.declared.page_additions.Addition.{Addition}
+use Rattle.leaf_engine.specs.declared.plans.Act.{Act}
+
+-- what the call adds: its arguments, the secure EPT page in which the entry of the GPA stands, and the HKID and the child
+-- count that the TDR tells
+pub record Addition : Type 0 where
+  pub tdr : ℕ
+  pub gpa : ℕ
+  pub page : ℕ
+  pub source : ℕ
+  pub table : ℕ
+  pub hkid : ℕ
+  pub children : ℕ
+
+abbrev pub addition : (tdr gpa page source : ℕ) → Act → Addition
+addition tdr gpa page source a = record { tdr = tdr; gpa = gpa; page = page; source = source; table = a.page; hkid = a.hkid; children = a.children }
 
 -- the record of a page is appended to what the hasher in hand has measured
 abbrev pub with_page : ℕ → Hand → Hand
@@ -50,6 +64,9 @@ all_fills m a = changes_where (is_hkid m a.hkid) (page_fills a)
 
 abbrev pub all_changes : Machine → Addition → List Change
 all_changes m a = changes_where (is_hkid m a.hkid) (page_changes m.pages a)
+
+abbrev pub added_changes : Machine → Addition → List Change
+added_changes m a = all_fills m a ++ all_changes m a
 
 abbrev pub addition_end : Machine → Addition → Tree
 addition_end m a = done (all_fills m a) (all_changes m a)

@@ -3,14 +3,11 @@
 ghost use Rattle.td_words.specs.Limits.{IsMachine};
 
 use crate::arguments::{GPAS, is_aligned};
-use leaf_engine::{Leaf, Measuring, MeasuringPlan, Place, Stop, Told, Write};
-use leaf_parts::{hkid_slot, raised, says_host};
-use mrtd_measure::Measure;
-use pamt_core::PamtWord;
+use leaf_engine::{Act, Hand, Place, Plan, Stop, Told, Verdict, Write};
+use leaf_parts::{hkid_slot, owner_word, raised, says_host};
 use sept_entry::Entry;
 use sept_parts::{Found, Modes, is_state_among, td_find};
 use sept_walk::index;
-use step_core::WordStep;
 use td_words::places::{TDR_CHILDREN, TDR_HKID};
 use td_words::{
     EntryState, LockName, Machine, Mode, OpState, PageKind, Status, lock_address, pamt_address,
@@ -38,16 +35,14 @@ struct Given {
 impl PageAdd {
     ghost use Rattle.std.specs.Prelude.{◌≡◌};
     ghost use Rattle.td_words.specs.Limits.{IsMachine};
-    ghost use Rattle.leaf_engine.specs.Turns.{IsFresh};
     ghost use Rattle.mem_build.specs.PageAddTrees.{page_add_task};
 
-    /// The leaf of a call at a place.
-    pub fn leaf(place: Place, tdr: u64, gpa: u64, page: u64, source: u64) -> Measuring<PageAdd>
+    /// The plan of a call at a place.
+    pub fn plan(place: Place, tdr: u64, gpa: u64, page: u64, source: u64) -> PageAdd
         requires { IsMachine place.machine }
-        ensures task { ⟦<Measuring<PageAdd> as Leaf>⟧.task result ≡ page_add_task place tdr gpa page source }
-        ensures fresh { let leaf = ⟦<Measuring<PageAdd> as Leaf>⟧ in IsFresh (leaf.task result).tree (leaf.rest result) (leaf.tries result) (leaf.written result) (leaf.waits result) }
+        ensures { ⟦<PageAdd as Plan>⟧.task result ≡ page_add_task place tdr gpa page source }
     {
-        Measuring::new(PageAdd {
+        PageAdd {
             place,
             given: Given {
                 tdr,
@@ -55,31 +50,27 @@ impl PageAdd {
                 page,
                 source,
             },
-        })
+        }
     }
 }
 
-impl MeasuringPlan for PageAdd {
-    ghost use Rattle.mem_build.specs.PageAddTrees.{page_add_task, all_fills, all_changes};
-    ghost use Rattle.mem_build.specs.PageAddParts.{IsInside};
+impl Plan for PageAdd {
+    ghost use Rattle.std.specs.Prelude.{◌==◌, ◌&&◌, not, nat_lt};
+    ghost use Rattle.mem_build.specs.PageAddTrees.{page_add_task, addition, added_changes};
     ghost use Rattle.mem_build.specs.PageAddMeanings.{page_add-means};
-
-    type Act = Addition;
 
     ghost task = { λ l. page_add_task l.place l.given.tdr l.given.gpa l.given.page l.given.source };
 
-    ghost fills = { λ l a. all_fills l.place.machine a };
+    ghost changes = { λ l told a. added_changes l.place.machine (addition l.given.tdr l.given.gpa l.given.page l.given.source a) };
 
-    ghost changes = { λ l a. all_changes l.place.machine a };
+    ghost shown = { λ l told a. nat_lt l.given.tdr l.place.machine.pages && nat_lt l.given.page l.place.machine.pages && nat_lt l.given.source l.place.machine.pages && not (l.given.source == l.given.page) && nat_lt a.page l.place.machine.pages };
 
-    ghost shown = { λ l a. IsInside l.place.machine.pages a };
-
-    fn decide(&self, told: Told) -> Result<Addition, Stop> {
+    fn decide(&self, told: Told) -> Result<Verdict, Stop> {
         let mut told = told;
         let given = self.given;
         are_allowed(&mut told, self.place.machine, given)?;
         of_td(
-            &mut told,
+            told,
             self.place,
             given.tdr as u16,
             given.gpa,
@@ -90,63 +81,57 @@ impl MeasuringPlan for PageAdd {
 
     // The copy, the entry, the page's metadata, the child count, and the hasher out of its slot and
     // back with the page's record.
-    fn next_write(
-        &self,
-        act: Addition,
-        written: &mut usize,
-        hasher: &mut Option<Measure>,
-    ) -> Option<Write> {
+    fn write(&self, act: Act, _told: &[u64], number: usize, hand: &mut Hand) -> Option<Write> {
         let machine = self.place.machine;
+        let given = self.given;
         let slot = hkid_slot(machine, act.hkid)?;
-        let write = match *written {
+        let tdr = given.tdr as u16;
+        let page = given.page as u16;
+        let write = match number {
             0 => {
-                let from = act.source;
-                let to = act.page;
-                Write::Copy { from, to }
+                let from = given.source as u16;
+                Write::Copy { from, to: page }
             }
-            1 => entry_store(act),
-            2 => owner_store(act),
-            3 => count_store(machine, act),
+            1 => {
+                let state = EntryState::Mapped;
+                let entry = Entry {
+                    state,
+                    page,
+                    mark: 0,
+                };
+                Write::store(word_address(act.page, index(0, given.gpa)), entry.pack())
+            }
+            2 => Write::store(pamt_address(page), owner_word(PageKind::Reg, tdr)),
+            3 => Write::store(
+                word_address(tdr, TDR_CHILDREN),
+                raised(machine.pages, act.children),
+            ),
             4 => {
-                *hasher = None;
+                *hand = None;
                 Write::Swap(slot)
             }
             5 => {
-                measure(hasher, act.gpa);
+                measure(hand, given.gpa);
                 Write::Swap(slot)
             }
             _ => return None,
         };
-        *written += 1;
         Some(write)
     }
 
     ghost means = { λ l. page_add-means l.place l.given.tdr l.given.gpa l.given.page l.given.source l.machine };
 }
 
-/// What the call adds: its arguments, the secure EPT page in which the entry of the GPA stands, and
-/// the HKID and the child count that the TDR tells.
-#[derive(Clone, Copy, Debug, PartialEq, Eq)]
-pub struct Addition {
-    pub tdr: u16,
-    pub gpa: u64,
-    pub page: u16,
-    pub source: u16,
-    pub table: u16,
-    pub hkid: u64,
-    pub children: u64,
-}
-
-ghost use Rattle.std.specs.Prelude.{◌≡◌, ◌≢◌, ℕ, ◌<◌, MatchResult};
-ghost use Rattle.leaf_engine.specs.Inside.{StopIn};
-ghost use Rattle.leaf_parts.specs.Parts.{Goes, Feeds, Uses};
-ghost use Rattle.mem_build.specs.PageAddTrees.{arguments_tree, free_tree, host_tree, pages_tree, td_tree};
+ghost use Rattle.std.specs.Prelude.{◌≡◌, ◌<◌, length, MatchResult};
+ghost use Rattle.leaf_engine.specs.Decides.{Decides, ending};
+ghost use Rattle.leaf_engine.specs.Inside.{DecisionIn, DecidesEarly, StopIn};
+ghost use Rattle.leaf_parts.specs.Parts.{Goes, Uses};
+ghost use Rattle.mem_build.specs.PageAddTrees.{addition, added_changes, addition_end, arguments_tree, free_tree, host_tree, pages_tree, td_tree};
 ghost use Rattle.mem_build.specs.PageAddParts.{AreAllowed};
 
 /// The argument rules.
 fn are_allowed(told: &mut Told, machine: Machine, given: Given) -> Result<(), Stop>
     ensures goes { Goes machine.pages (λ f. arguments_tree machine given.tdr given.gpa given.page given.source (f tt)) told.old.left.now told.new.left.now result }
-    ensures feeds { Feeds (λ f. arguments_tree machine given.tdr given.gpa given.page given.source (f tt)) told.old.left.now told.new.left.now result }
     ensures uses { Uses 0 told.old.left.now told.new.left.now result }
     ensures inside { MatchResult result (λ u. AreAllowed machine given) (λ e. StopIn machine e) }
 {
@@ -163,37 +148,33 @@ fn are_allowed(told: &mut Told, machine: Machine, given: Given) -> Result<(), St
 
 /// What comes behind the argument rules.
 fn of_td(
-    told: &mut Told,
+    told: Told,
     place: Place,
     tdr: u16,
     gpa: u64,
     page: u16,
     source: u16,
-) -> Result<Addition, Stop>
+) -> Result<Verdict, Stop>
     requires { (tdr < place.machine.pages) × (page < place.machine.pages) × (source < place.machine.pages) }
-    ensures goes { Goes place.machine.pages (λ f. td_tree place.machine.pages tdr gpa page source f) told.old.left.now told.new.left.now result }
-    ensures feeds { Feeds (λ f. td_tree place.machine.pages tdr gpa page source f) told.old.left.now told.new.left.now result }
-    ensures uses { Uses 19 told.old.left.now told.new.left.now result }
-    ensures inside { MatchResult result (λ a. (a.tdr ≡ tdr) × (a.gpa ≡ gpa) × (a.page ≡ page) × (a.source ≡ source) × (a.table < place.machine.pages)) (λ e. StopIn place.machine e) }
+    ensures decides { Decides place.machine.pages (td_tree place.machine.pages tdr gpa page source (λ a. addition_end place.machine a)) told.entry.left.now (ending (λ a. added_changes place.machine (addition tdr gpa page source a)) result) }
+    ensures inside { DecisionIn place.machine (λ a. a.page < place.machine.pages) result }
+    ensures early { DecidesEarly 19 (length told.entry.left.now) result }
 {
-    let table = free_entry(told, place, tdr, gpa)?;
-    let counts = host_pages(told, place, tdr, page, source)?;
-    Ok(Addition {
-        tdr,
-        gpa,
-        page,
-        source,
-        table,
+    let mut told = told;
+    let table = free_entry(&mut told, place, tdr, gpa)?;
+    let counts = host_pages(&mut told, place, tdr, page, source)?;
+    Ok(Verdict::done(Act {
+        page: table,
         hkid: counts.hkid,
         children: counts.children,
-    })
+        ..Act::NONE
+    }))
 }
 
 /// The beginning of the row: the entry of the GPA is FREE. The secure EPT page in which it stands.
 fn free_entry(told: &mut Told, place: Place, tdr: u16, gpa: u64) -> Result<u16, Stop>
     requires { tdr < place.machine.pages }
     ensures goes { Goes place.machine.pages (λ f. free_tree place.machine.pages tdr gpa f) told.old.left.now told.new.left.now result }
-    ensures feeds { Feeds (λ f. free_tree place.machine.pages tdr gpa f) told.old.left.now told.new.left.now result }
     ensures uses { Uses 13 told.old.left.now told.new.left.now result }
     ensures inside { MatchResult result (λ p. p < place.machine.pages) (λ e. StopIn place.machine e) }
 {
@@ -236,7 +217,6 @@ fn host_pages(
 ) -> Result<Counts, Stop>
     requires { (tdr < place.machine.pages) × (page < place.machine.pages) × (source < place.machine.pages) }
     ensures goes { Goes place.machine.pages (λ f. pages_tree tdr page source (λ h n. f (record { hkid = h; children = n }))) told.old.left.now told.new.left.now result }
-    ensures feeds { Feeds (λ f. pages_tree tdr page source (λ h n. f (record { hkid = h; children = n }))) told.old.left.now told.new.left.now result }
     ensures uses { Uses 6 told.old.left.now told.new.left.now result }
     ensures inside { MatchResult result (λ c. Unit {0}) (λ e. StopIn place.machine e) }
 {
@@ -251,7 +231,6 @@ fn host_pages(
 fn host_page(told: &mut Told, place: Place, page: u16) -> Result<(), Stop>
     requires { page < place.machine.pages }
     ensures goes { Goes place.machine.pages (λ f. host_tree page (f tt)) told.old.left.now told.new.left.now result }
-    ensures feeds { Feeds (λ f. host_tree page (f tt)) told.old.left.now told.new.left.now result }
     ensures uses { Uses 2 told.old.left.now told.new.left.now result }
     ensures inside { MatchResult result (λ u. Unit {0}) (λ e. StopIn place.machine e) }
 {
@@ -260,52 +239,13 @@ fn host_page(told: &mut Told, place: Place, page: u16) -> Result<(), Stop>
     told.check(says_host(pamt), Status::PageMetadataIncorrect(page))
 }
 
-ghost use Rattle.td_words.specs.declared.names.PageKind.TheVariants as kind;
-ghost use Rattle.td_words.specs.declared.names.EntryState.TheVariants as entry;
-ghost use Rattle.td_words.specs.Packing.{pamt_word, entry_word};
-ghost use Rattle.td_words.specs.Address.{word_at, pamt_at};
-ghost use Rattle.sept_walk.specs.SecureEpt.{index_at};
-ghost use Rattle.leaf_engine.specs.Changes.{Hand};
+ghost use Rattle.leaf_engine.specs.Changes as memory;
 ghost use Rattle.leaf_engine.specs.Decides.{IsHand};
-ghost use Rattle.leaf_parts.specs.Words.{raised};
 ghost use Rattle.mem_build.specs.PageAddTrees.{with_page};
 
-/// The entry's word.
-fn entry_store(addition: Addition) -> Write
-    ensures { result ≡ Write.Word (WordStep.Store (word_at addition.table (index_at 0 addition.gpa)) (entry_word (record { state = entry.Mapped; page = addition.page; mark = 0 }))) }
-{
-    let entry = Entry {
-        state: EntryState::Mapped,
-        page: addition.page,
-        mark: 0,
-    };
-    let at = word_address(addition.table, index(0, addition.gpa));
-    Write::Word(WordStep::Store(at, entry.pack()))
-}
-
-/// The page's PAMT word.
-fn owner_store(addition: Addition) -> Write
-    ensures { result ≡ Write.Word (WordStep.Store (pamt_at addition.page) (pamt_word (record { kind = kind.Reg; owner = addition.tdr; epoch = 0 }))) }
-{
-    let owned = PamtWord {
-        kind: PageKind::Reg,
-        owner: addition.tdr,
-        epoch: 0,
-    };
-    Write::Word(WordStep::Store(pamt_address(addition.page), owned.pack()))
-}
-
-/// The child count's word.
-fn count_store(machine: Machine, addition: Addition) -> Write
-    ensures { result ≡ Write.Word (WordStep.Store (word_at addition.tdr 2) (raised machine.pages addition.children)) }
-{
-    let at = word_address(addition.tdr, TDR_CHILDREN);
-    Write::Word(WordStep::Store(at, raised(machine.pages, addition.children)))
-}
-
 /// The record of a page is appended to what the hasher in hand has measured.
-fn measure(hasher: &mut Option<Measure>, gpa: u64)
-    ensures { (hand : Hand) → IsHand hasher.old hand → IsHand hasher.new (with_page gpa hand) }
+fn measure(hasher: &mut Hand, gpa: u64)
+    ensures { (hand : memory.Hand) → IsHand hasher.old hand → IsHand hasher.new (with_page gpa hand) }
 {
     if let Some(measure) = hasher {
         measure.add_page(gpa);

@@ -1,18 +1,14 @@
 //! MEM.PAGE.AUG.
 
 use crate::arguments::{GPAS, is_aligned};
-use arrayvec::ArrayVec;
-use leaf_engine::{Leaf, Place, Plan, Planned, Stop, Told, Verdict, Write};
-use leaf_parts::{raised, says_host};
-use pamt_core::PamtWord;
+use leaf_engine::{Act, Hand, Place, Plan, Stop, Told, Verdict, Write};
+use leaf_parts::{owner_word, raised, says_host};
 use sept_entry::Entry;
 use sept_parts::{Found, Modes, is_state_among, td_find};
 use sept_walk::index;
-use step_core::WordStep;
 use td_words::places::TDR_CHILDREN;
 use td_words::{
-    EntryState, LockName, Mode, OpState, PageKind, Reply, Status, Value, lock_address,
-    pamt_address, word_address,
+    EntryState, LockName, Mode, OpState, PageKind, Status, lock_address, pamt_address, word_address,
 };
 
 /// The operation states in which a TD may get private pages that its guest is to accept.
@@ -33,29 +29,33 @@ ghost use Rattle.td_words.specs.Limits.{IsMachine};
 
 impl PageAug {
     ghost use Rattle.std.specs.Prelude.{◌≡◌};
-    ghost use Rattle.leaf_engine.specs.Turns.{IsFresh};
     ghost use Rattle.mem_build.specs.PageAugTrees.{page_aug_task};
 
-    /// The leaf of a call at a place.
-    pub fn leaf(place: Place, tdr: u64, gpa: u64, page: u64) -> Planned<PageAug>
+    /// The plan of a call at a place.
+    pub fn plan(place: Place, tdr: u64, gpa: u64, page: u64) -> PageAug
         requires { IsMachine place.machine }
-        ensures task { ⟦<Planned<PageAug> as Leaf>⟧.task result ≡ page_aug_task place tdr gpa page }
-        ensures fresh { let leaf = ⟦<Planned<PageAug> as Leaf>⟧ in IsFresh (leaf.task result).tree (leaf.rest result) (leaf.tries result) (leaf.written result) (leaf.waits result) }
+        ensures { ⟦<PageAug as Plan>⟧.task result ≡ page_aug_task place tdr gpa page }
     {
-        Planned::new(PageAug {
+        PageAug {
             place,
             tdr,
             gpa,
             page,
-        })
+        }
     }
 }
 
 impl Plan for PageAug {
-    ghost use Rattle.mem_build.specs.PageAugTrees.{page_aug_task};
+    ghost use Rattle.std.specs.Prelude.{◌&&◌, nat_lt};
+    ghost use Rattle.sept_walk.specs.SecureEpt.{index_at};
+    ghost use Rattle.mem_build.specs.PageAugTrees.{page_aug_task, page_aug_changes};
     ghost use Rattle.mem_build.specs.PageAugMeanings.{page_aug-means};
 
     ghost task = { λ l. page_aug_task l.place l.tdr l.gpa l.page };
+
+    ghost changes = { λ l told a. page_aug_changes l.place.machine.pages l.tdr l.page a.page (index_at 0 l.gpa) a.children };
+
+    ghost shown = { λ l told a. nat_lt l.tdr l.place.machine.pages && nat_lt l.page l.place.machine.pages && nat_lt a.page l.place.machine.pages };
 
     fn decide(&self, told: Told) -> Result<Verdict, Stop> {
         let mut told = told;
@@ -71,30 +71,45 @@ impl Plan for PageAug {
         };
         let tdr = self.tdr as u16;
         let found = td_find(&mut told, self.place, tdr, modes, &AUGMENTED, self.gpa, 0)?;
-        let index = index(0, self.gpa);
-        augment(told, self.place, tdr, found, index, self.page as u16)
+        augment(told, self.place, tdr, found, self.page as u16)
+    }
+
+    // The act is the store of the entry that names the page; then the page is taken, and the child
+    // count is raised.
+    fn write(&self, act: Act, _told: &[u64], number: usize, _hand: &mut Hand) -> Option<Write> {
+        let pages = self.place.machine.pages;
+        let tdr = self.tdr as u16;
+        let page = self.page as u16;
+        let write = match number {
+            0 => {
+                let state = EntryState::Pending;
+                let entry = Entry {
+                    state,
+                    page,
+                    mark: 0,
+                };
+                Write::store(word_address(act.page, index(0, self.gpa)), entry.pack())
+            }
+            1 => Write::store(pamt_address(page), owner_word(PageKind::Reg, tdr)),
+            2 => Write::store(word_address(tdr, TDR_CHILDREN), raised(pages, act.children)),
+            _ => return None,
+        };
+        Some(write)
     }
 
     ghost means = { λ l. page_aug-means l.place l.tdr l.gpa l.page l.machine };
 }
 
-ghost use Rattle.std.specs.Prelude.{◌≡◌, ◌<◌, length};
-ghost use Rattle.leaf_engine.specs.Decides.{Decides};
+ghost use Rattle.std.specs.Prelude.{◌≡◌, ℕ, ◌<◌, length};
+ghost use Rattle.leaf_engine.specs.Decides.{Decides, ending};
 ghost use Rattle.leaf_engine.specs.Inside.{DecisionIn, DecidesEarly};
-ghost use Rattle.mem_build.specs.PageAugTrees.{page_aug_rest};
+ghost use Rattle.mem_build.specs.PageAugTrees.{page_aug_rest, page_aug_changes};
 
 /// What comes behind the walk: the entry is FREE, and the page is the host's and is taken.
-fn augment(
-    told: Told,
-    place: Place,
-    tdr: u16,
-    found: Found,
-    index: u16,
-    page: u16,
-) -> Result<Verdict, Stop>
-    requires { (tdr < place.machine.pages) × (found.page < place.machine.pages) × (index < 512) × (page < place.machine.pages) }
-    ensures decides { Decides place.machine.pages (page_aug_rest place.machine.pages tdr page index found) told.entry.left.now result }
-    ensures inside { DecisionIn place.machine result }
+fn augment(told: Told, place: Place, tdr: u16, found: Found, page: u16) -> Result<Verdict, Stop>
+    requires { (tdr < place.machine.pages) × (found.page < place.machine.pages) × (page < place.machine.pages) }
+    ensures decides { (index : ℕ) → Decides place.machine.pages (page_aug_rest place.machine.pages tdr page index found) told.entry.left.now (ending (λ a. page_aug_changes place.machine.pages tdr page a.page index a.children) result) }
+    ensures inside { DecisionIn place.machine (λ a. a.page < place.machine.pages) result }
     ensures early { DecidesEarly 3 (length told.entry.left.now) result }
 {
     let mut told = told;
@@ -107,47 +122,9 @@ fn augment(
     let pamt = told.load(pamt_address(page))?;
     told.check(says_host(pamt), Status::PageMetadataIncorrect(page))?;
     let children = told.load(word_address(tdr, TDR_CHILDREN))?;
-    Ok(Verdict {
-        reply: Reply::Done(Value::Nothing),
-        writes: augmentations(place, tdr, page, found.page, index, children),
-    })
-}
-
-ghost use Rattle.std.specs.Prelude.{map, None};
-ghost use Rattle.leaf_engine.specs.Inside.{WritesInside};
-ghost use Rattle.leaf_engine.specs.Decides.{write_of};
-ghost use Rattle.mem_build.specs.PageAugTrees.{page_aug_changes};
-
-/// The act is the store of the entry that names the page; then the page is taken, and the child
-/// count is raised.
-fn augmentations(
-    place: Place,
-    tdr: u16,
-    page: u16,
-    at: u16,
-    index: u16,
-    children: u64,
-) -> ArrayVec<Write, 16>
-    requires { (tdr < place.machine.pages) × (page < place.machine.pages) × (at < place.machine.pages) × (index < 512) }
-    ensures writes { result.items ≡ map (write_of place.machine.pages None) (page_aug_changes place.machine.pages tdr page at index children) }
-    ensures inside { WritesInside place.machine result.items }
-{
-    let mut writes = ArrayVec::new();
-    let pending = Entry {
-        state: EntryState::Pending,
-        page,
-        mark: 0,
-    };
-    let owned = PamtWord {
-        kind: PageKind::Reg,
-        owner: tdr,
-        epoch: 0,
-    };
-    let entry_at = word_address(at, index);
-    let children_at = word_address(tdr, TDR_CHILDREN);
-    let more = raised(place.machine.pages, children);
-    writes.push(Write::Word(WordStep::Store(entry_at, pending.pack())));
-    writes.push(Write::Word(WordStep::Store(pamt_address(page), owned.pack())));
-    writes.push(Write::Word(WordStep::Store(children_at, more)));
-    writes
+    Ok(Verdict::done(Act {
+        page: found.page,
+        children,
+        ..Act::NONE
+    }))
 }

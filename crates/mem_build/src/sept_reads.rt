@@ -1,11 +1,10 @@
 //! MEM.SEPT.RD.
 
 use crate::arguments::{GPAS, TOP, is_aligned};
-use arrayvec::ArrayVec;
-use leaf_engine::{Leaf, Place, Plan, Planned, Stop, Told, Verdict};
+use leaf_engine::{Act, Hand, Place, Plan, Stop, Told, Verdict, Write};
 use sept_entry::Entry;
 use sept_parts::{Modes, td_find};
-use td_words::{EntryState, Mode, OpState, Reply, Status, Value};
+use td_words::{EntryState, Mode, OpState, Status, Value};
 
 /// The operation states of a TD whose build or import has begun.
 const BEGUN: [OpState; 10] = [
@@ -35,29 +34,32 @@ ghost use Rattle.td_words.specs.Limits.{IsMachine};
 
 impl SeptRd {
     ghost use Rattle.std.specs.Prelude.{◌≡◌};
-    ghost use Rattle.leaf_engine.specs.Turns.{IsFresh};
     ghost use Rattle.mem_build.specs.SeptReadTrees.{sept_read_task};
 
-    /// The leaf of a call at a place.
-    pub fn leaf(place: Place, tdr: u64, gpa: u64, level: u64) -> Planned<SeptRd>
+    /// The plan of a call at a place.
+    pub fn plan(place: Place, tdr: u64, gpa: u64, level: u64) -> SeptRd
         requires { IsMachine place.machine }
-        ensures task { ⟦<Planned<SeptRd> as Leaf>⟧.task result ≡ sept_read_task place tdr gpa level }
-        ensures fresh { let leaf = ⟦<Planned<SeptRd> as Leaf>⟧ in IsFresh (leaf.task result).tree (leaf.rest result) (leaf.tries result) (leaf.written result) (leaf.waits result) }
+        ensures { ⟦<SeptRd as Plan>⟧.task result ≡ sept_read_task place tdr gpa level }
     {
-        Planned::new(SeptRd {
+        SeptRd {
             place,
             tdr,
             gpa,
             level,
-        })
+        }
     }
 }
 
 impl Plan for SeptRd {
+    ghost use Rattle.std.specs.Prelude.{true, []};
     ghost use Rattle.mem_build.specs.SeptReadTrees.{sept_read_task};
     ghost use Rattle.mem_build.specs.SeptReadMeanings.{sept_read-means};
 
     ghost task = { λ l. sept_read_task l.place l.tdr l.gpa l.level };
+
+    ghost changes = { λ l told a. [] };
+
+    ghost shown = { λ l told a. true };
 
     fn decide(&self, told: Told) -> Result<Verdict, Stop> {
         let mut told = told;
@@ -73,10 +75,11 @@ impl Plan for SeptRd {
         };
         let tdr = self.tdr as u16;
         let found = td_find(&mut told, self.place, tdr, modes, &BEGUN, self.gpa, level)?;
-        Ok(Verdict {
-            reply: Reply::Done(entry_value(found.entry)),
-            writes: ArrayVec::new(),
-        })
+        Ok(Verdict::answer(entry_value(found.entry)))
+    }
+
+    fn write(&self, _act: Act, _told: &[u64], _number: usize, _hand: &mut Hand) -> Option<Write> {
+        None
     }
 
     ghost means = { λ l. sept_read-means l.place l.tdr l.gpa l.level l.machine };

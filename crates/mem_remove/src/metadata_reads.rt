@@ -4,10 +4,9 @@ ghost use Rattle.std.specs.Prelude.{◌≡◌, ◌≤◌};
 ghost use Rattle.td_words.specs.Packing.{pamt_in};
 ghost use Rattle.mem_remove.specs.Words.{metadata};
 
-use arrayvec::ArrayVec;
-use leaf_engine::{Leaf, Place, Plan, Planned, Stop, Told, Verdict};
+use leaf_engine::{Act, Hand, Place, Plan, Stop, Told, Verdict, Write};
 use pamt_core::PamtWord;
-use td_words::{LockName, Mode, Reply, Status, Value, lock_address, pamt_address};
+use td_words::{LockName, Mode, Status, Value, lock_address, pamt_address};
 
 /// PHYMEM.PAGE.RDMD PAGE: what the page is used for, its owner and BEPOCH.
 #[derive(Drop)]
@@ -19,24 +18,27 @@ pub struct Rdmd {
 
 impl Rdmd {
     ghost use Rattle.std.specs.Prelude.{◌≡◌, ◌≤◌};
-    ghost use Rattle.leaf_engine.specs.Turns.{IsFresh};
     ghost use Rattle.mem_remove.specs.MetadataTrees.{rdmd_task};
 
-    /// The leaf of a call at a place.
-    pub fn leaf(place: Place, page: u64) -> Planned<Rdmd>
+    /// The plan of a call at a place.
+    pub fn plan(place: Place, page: u64) -> Rdmd
         requires { place.machine.pages ≤ 1024 }
-        ensures task { ⟦<Planned<Rdmd> as Leaf>⟧.task result ≡ rdmd_task place page }
-        ensures fresh { let leaf = ⟦<Planned<Rdmd> as Leaf>⟧ in IsFresh (leaf.task result).tree (leaf.rest result) (leaf.tries result) (leaf.written result) (leaf.waits result) }
+        ensures { ⟦<Rdmd as Plan>⟧.task result ≡ rdmd_task place page }
     {
-        Planned::new(Rdmd { place, page })
+        Rdmd { place, page }
     }
 }
 
 impl Plan for Rdmd {
+    ghost use Rattle.std.specs.Prelude.{true, []};
     ghost use Rattle.mem_remove.specs.MetadataTrees.{rdmd_task};
     ghost use Rattle.mem_remove.specs.MetadataMeanings.{rdmd-means};
 
     ghost task = { λ l. rdmd_task l.place l.page };
+
+    ghost changes = { λ l told a. [] };
+
+    ghost shown = { λ l told a. true };
 
     fn decide(&self, told: Told) -> Result<Verdict, Stop> {
         let mut told = told;
@@ -45,10 +47,11 @@ impl Plan for Rdmd {
         let page = self.page as u16;
         told.lock(LockName::Page(page), lock_address(page), Mode::Shared)?;
         let pamt = told.load(pamt_address(page))?;
-        Ok(Verdict {
-            reply: Reply::Done(metadata(pamt)),
-            writes: ArrayVec::new(),
-        })
+        Ok(Verdict::answer(metadata(pamt)))
+    }
+
+    fn write(&self, _act: Act, _told: &[u64], _number: usize, _hand: &mut Hand) -> Option<Write> {
+        None
     }
 
     ghost means = { λ l. rdmd-means l.place l.page l.few_pages };

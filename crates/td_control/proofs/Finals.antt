@@ -1,49 +1,39 @@
--- The writes of the call that ends a TD's measurement are its changes, one after another.
-use Rattle.std.proofs.Common.{◌≡◌, ℕ, zero, suc, ◌+◌, ◌-◌, ◌<◌, Bool, true, drop, ◌∷◌, Option, Some, refl, sym, subst, arith}
+-- The words of MRTD that the call stores which ends a TD's measurement are those of the digest in hand.
+use Rattle.std.proofs.Common.{◌≡◌, ℕ, zero, suc, ◌+◌, ◌<◌, nat_lt, Bool, true, Option, Some, refl, sym, subst, arith}
+use Rattle.std.proofs.lemmas.Bool.{ltb-true}
 use Rattle.td_words.specs.declared.machines.Machine.{Machine}
 use Rattle.td_words.specs.Address.{word_at}
-use Rattle.td_words.specs.Place as place
 use Rattle.mrtd_measure.specs.declared.measures.Measure.{Measure}
 use Rattle.step_core.specs.Words.{word_count}
 use Rattle.step_core.specs.declared.steps.WordStep.TheVariants as step
 use Rattle.leaf_engine.specs.declared.needs.Write.{Write}
 use Rattle.leaf_engine.specs.declared.needs.Write.TheVariants as write
-use Rattle.leaf_engine.specs.Changes.{Hand, Change, Put, Swap, changes_where}
-use Rattle.leaf_engine.specs.Inside.{WriteInside}
-use Rattle.leaf_engine.specs.Decides.{IsHand, HandsOut, HandsNext}
+use Rattle.leaf_engine.specs.Changes.{Hand, changes_where}
+use Rattle.leaf_engine.specs.Decides.{IsHand, HandsAt}
 use Rattle.leaf_parts.specs.Words.{is_hkid}
-use Rattle.td_control.specs.FinalTrees.{word_in_hand, put_mrtd, end_changes, final_changes}
+use Rattle.td_control.specs.FinalTrees.{word_in_hand, end_changes, final_changes}
 
-mrtd-next : (tdcs hkid k : ℕ) → k < 6 → drop (suc k) (end_changes tdcs hkid) ≡ put_mrtd tdcs k ∷ drop (suc k + 1) (end_changes tdcs hkid)
-mrtd-next tdcs hkid zero b = refl
-mrtd-next tdcs hkid (suc zero) b = refl
-mrtd-next tdcs hkid (suc (suc zero)) b = refl
-mrtd-next tdcs hkid (suc (suc (suc zero))) b = refl
-mrtd-next tdcs hkid (suc (suc (suc (suc zero)))) b = refl
-mrtd-next tdcs hkid (suc (suc (suc (suc (suc zero))))) b = refl
-mrtd-next tdcs hkid (suc (suc (suc (suc (suc (suc k)))))) b = absurd (omega (arith, b))
+module _ (m : Machine) (tdcs hkid : ℕ) (h : Option Measure) (is : is_hkid m hkid ≡ true) (in_page : nat_lt tdcs m.pages ≡ true) where
+  abbrev pub At : ℕ → Write → Type 0
+  At k w = HandsAt m (final_changes m tdcs hkid) k h h (Some w)
 
-module _ (m : Machine) (tdcs hkid : ℕ) (h : Option Measure) (is : is_hkid m hkid ≡ true) (tdcs_in : tdcs < m.pages) where
-  abbrev pub Next : ℕ → Write → Type 0
-  Next k w = HandsNext m (drop k (final_changes m tdcs hkid)) (drop (k + 1) (final_changes m tdcs hkid)) h h (Some w)
+  abbrev store : (i x : ℕ) → Write
+  store i x = write.Word (step.Store (word_at tdcs i) x)
 
-  hands : (k : ℕ) (c : Change) (w : Write) → drop k (end_changes tdcs hkid) ≡ c ∷ drop (k + 1) (end_changes tdcs hkid) → WriteInside m w → HandsOut m c h h w → Next k w
-  hands k c w e i o =
-      subst (λ (b : Bool). HandsNext m (drop k (changes_where b (end_changes tdcs hkid))) (drop (k + 1) (changes_where b (end_changes tdcs hkid))) h h (Some w)) (sym is) (c, e, i, o)
+  inside : (i : ℕ) → i < 512 → word_at tdcs i < word_count m
+  inside i few = (let below = ltb-true tdcs m.pages in_page in omega (arith, few, below))
 
-  pub swap-next : (k slot : ℕ) (w : Write) → k ≡ 0 → slot ≡ hkid - 1 → slot < m.hkids → w ≡ write.Swap slot → Next k w
-  swap-next k slot w at is_slot small e =
-      subst (λ (j : ℕ). Next j w) (sym at) (subst (λ (x : Write). Next 0 x) (sym e)
-      (hands 0 (Swap hkid (λ hand. hand)) (write.Swap slot) refl small (λ hand held. (rw is_slot refl, held))))
+  hands : (k : ℕ) (w : Write) → HandsAt m (end_changes tdcs hkid) k h h (Some w) → At k w
+  hands k w a = subst (λ (b : Bool). HandsAt m (changes_where b (end_changes tdcs hkid)) k h h (Some w)) (sym is) a
 
-  pub word-next : (j k at x : ℕ) (w : Write) → j < 6 → k ≡ suc j → at ≡ word_at tdcs (64 + j) → ((hand : Hand) → IsHand h hand → x ≡ word_in_hand j hand) → w ≡ write.Word (step.Store at x) → Next k w
-  word-next j k at x w few is_k is_at is_word e =
-      let small : at < word_count m = rw is_at (omega (arith, few, tdcs_in)) in
-      subst (λ (i : ℕ). Next i w) (sym is_k) (subst (λ (y : Write). Next (suc j) y) (sym e)
-      (hands (suc j) (put_mrtd tdcs j) (write.Word (step.Store at x)) (mrtd-next tdcs hkid j few) small (λ hand held. (rw (is_at, is_word hand held) refl, held))))
+  word : (j x : ℕ) → j < 6 → ((hand : Hand) → IsHand h hand → x ≡ word_in_hand j hand) → HandsAt m (end_changes tdcs hkid) (suc j) h h (Some (store (64 + j) x))
+  word zero x b told = (inside 64 (omega arith), λ hand held. (rw (told hand held) refl, held))
+  word (suc zero) x b told = (inside 65 (omega arith), λ hand held. (rw (told hand held) refl, held))
+  word (suc (suc zero)) x b told = (inside 66 (omega arith), λ hand held. (rw (told hand held) refl, held))
+  word (suc (suc (suc zero))) x b told = (inside 67 (omega arith), λ hand held. (rw (told hand held) refl, held))
+  word (suc (suc (suc (suc zero)))) x b told = (inside 68 (omega arith), λ hand held. (rw (told hand held) refl, held))
+  word (suc (suc (suc (suc (suc zero))))) x b told = (inside 69 (omega arith), λ hand held. (rw (told hand held) refl, held))
+  word (suc (suc (suc (suc (suc (suc j)))))) x b told = absurd (omega (arith, b))
 
-  pub op-next : (k at : ℕ) (w : Write) → k ≡ 7 → at ≡ word_at tdcs 4 → w ≡ write.Word (step.Store at 2) → Next k w
-  op-next k at w is_k is_at e =
-      let small : at < word_count m = rw is_at (omega (arith, tdcs_in)) in
-      subst (λ (i : ℕ). Next i w) (sym is_k) (subst (λ (y : Write). Next 7 y) (sym e)
-      (hands 7 (Put (place.Word tdcs 4) 2) (write.Word (step.Store at 2)) refl small (λ hand held. (rw is_at refl, held))))
+  pub word-at : (j k x : ℕ) → j < 6 → k ≡ suc j → ((hand : Hand) → IsHand h hand → x ≡ word_in_hand j hand) → At k (store (64 + j) x)
+  word-at j k x few is_k told = subst (λ (i : ℕ). At i (store (64 + j) x)) (sym is_k) (hands (suc j) (store (64 + j) x) (word j x few told))

@@ -1,8 +1,8 @@
 //! Calls that build a TD and read of it, as leaves: MNG.CREATE, MNG.KEY.CONFIG, MNG.ADDCX,
 //! MNG.INIT, MNG.RD and MR.FINALIZE.
 //!
-//! Each leaf has a tree that mirrors its row, with the proof that it means that row. All are `Plan`s
-//! of `leaf_engine`, but MNG.INIT and MR.FINALIZE, which are `MeasuringPlan`s.
+//! Each leaf is a `Plan` of `leaf_engine`, whose tree mirrors its row, with the proof that it means
+//! that row.
 #![tactic(auto)]
 
 mod finalizations;

@@ -6,11 +6,10 @@ ghost use Rattle.leaf_engine.specs.Inside.{StopIn, StopEarly};
 ghost use Rattle.leaf_parts.specs.Parts.{Goes, Uses};
 ghost use Rattle.td_control.specs.ReadTrees.{value_tree, life_tree, op_tree, epoch_tree, mrtd_tree, words_tree};
 
-use arrayvec::ArrayVec;
-use leaf_engine::{Leaf, Place, Plan, Planned, Stop, Told, Verdict};
+use leaf_engine::{Act, Hand, Place, Plan, Stop, Told, Verdict, Write};
 use leaf_parts::{life_told, put_bytes, root, td_head};
 use td_words::places::{TDCS_EPOCH, TDCS_EPOCH_LOCK, TDCS_MRTD, TDR_LIFE};
-use td_words::{LockName, Mode, OpState, ReadField, Reply, Status, Value, word_address};
+use td_words::{LockName, Mode, OpState, ReadField, Status, Value, word_address};
 
 /// The operation states of a TD that is built, or is imported.
 const LATER: [OpState; 9] = [
@@ -64,33 +63,37 @@ pub struct Rd {
 
 impl Rd {
     ghost use Rattle.std.specs.Prelude.{◌≡◌};
-    ghost use Rattle.leaf_engine.specs.Turns.{IsFresh};
     ghost use Rattle.td_control.specs.ReadTrees.{read_task};
 
-    /// The leaf of a call at a place.
-    pub fn leaf(place: Place, tdr: u64, field: ReadField) -> Planned<Rd>
-        ensures task { ⟦<Planned<Rd> as Leaf>⟧.task result ≡ read_task place tdr field }
-        ensures fresh { let leaf = ⟦<Planned<Rd> as Leaf>⟧ in IsFresh (leaf.task result).tree (leaf.rest result) (leaf.tries result) (leaf.written result) (leaf.waits result) }
+    /// The plan of a call at a place.
+    pub fn plan(place: Place, tdr: u64, field: ReadField) -> Rd
+        ensures { ⟦<Rd as Plan>⟧.task result ≡ read_task place tdr field }
     {
-        Planned::new(Rd { place, tdr, field })
+        Rd { place, tdr, field }
     }
 }
 
 impl Plan for Rd {
+    ghost use Rattle.std.specs.Prelude.{true, []};
     ghost use Rattle.td_control.specs.ReadTrees.{read_task};
     ghost use Rattle.td_control.specs.ReadMeanings.{read-means};
 
     ghost task = { λ l. read_task l.place l.tdr l.field };
+
+    ghost changes = { λ l told a. [] };
+
+    ghost shown = { λ l told a. true };
 
     fn decide(&self, told: Told) -> Result<Verdict, Stop> {
         let mut told = told;
         let pages = self.place.machine.pages;
         told.check(self.tdr < u64::from(pages), Status::OperandInvalid(1))?;
         let value = value_read(&mut told, self.place, self.tdr as u16, self.field)?;
-        Ok(Verdict {
-            reply: Reply::Done(value),
-            writes: ArrayVec::new(),
-        })
+        Ok(Verdict::answer(value))
+    }
+
+    fn write(&self, _act: Act, _told: &[u64], _number: usize, _hand: &mut Hand) -> Option<Write> {
+        None
     }
 
     ghost means = { λ l. read-means l.place l.tdr l.field };

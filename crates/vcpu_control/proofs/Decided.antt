@@ -4,14 +4,13 @@ use Rattle.std.specs.Prelude.{nat_lt}
 use Rattle.td_words.specs.declared.machines.Machine.{Machine}
 use Rattle.td_words.specs.declared.refusals.Status.TheVariants.{OperandInvalid}
 use Rattle.leaf_engine.specs.declared.plans.Stop.{Stop}
-use Rattle.leaf_engine.specs.declared.plans.Verdict.{Verdict}
 use Rattle.leaf_engine.specs.Trees.{Tree, needs}
-use Rattle.leaf_engine.specs.Decides.{Decides}
+use Rattle.leaf_engine.specs.Decides.{Ending, Decides}
 use Rattle.leaf_parts.proofs.Parts.{passes}
 use Rattle.vcpu_control.specs.VpTrees.{two_pages}
 
 pub two-pages : (n : ℕ) (m : Machine) (tdr page : ℕ) → nat_lt tdr m.pages ≡ true → nat_lt page m.pages ≡ true → not (page == tdr) ≡ true
-    → (t : Tree) (xs : List ℕ) (r : Result Verdict Stop) → Decides n t xs r → Decides n (two_pages m tdr page t) xs r
+    → (t : Tree) (xs : List ℕ) (r : Result Ending Stop) → Decides n t xs r → Decides n (two_pages m tdr page t) xs r
 two-pages n m tdr page a b c t xs r d =
     passes n (nat_lt tdr m.pages) (OperandInvalid 1) (needs (nat_lt page m.pages) (OperandInvalid 2) (needs (not (page == tdr)) (OperandInvalid 2) t)) xs r a
     (passes n (nat_lt page m.pages) (OperandInvalid 2) (needs (not (page == tdr)) (OperandInvalid 2) t) xs r b

@@ -1,21 +1,17 @@
 //! VP.CREATE.
 
-ghost use Rattle.std.specs.Prelude.{◌≡◌, ◌<◌, length, map, None};
-ghost use Rattle.leaf_engine.specs.Decides.{Decides, write_of};
-ghost use Rattle.leaf_engine.specs.Inside.{DecisionIn, DecidesEarly, WritesInside};
+ghost use Rattle.std.specs.Prelude.{◌≡◌, ◌<◌, length};
+ghost use Rattle.leaf_engine.specs.Decides.{Decides, ending};
+ghost use Rattle.leaf_engine.specs.Inside.{DecisionIn, DecidesEarly};
 ghost use Rattle.vcpu_control.specs.VpChanges.{create_changes};
 ghost use Rattle.vcpu_control.specs.VpTrees.{create_rest, create_page};
 
 use crate::words::has_room;
-use arrayvec::ArrayVec;
-use leaf_engine::{Leaf, Place, Plan, Planned, Stop, Told, Verdict, Write};
-use leaf_parts::{Td, raised, says_host, td_head};
-use pamt_core::PamtWord;
-use step_core::WordStep;
+use leaf_engine::{Act, Hand, Place, Plan, Stop, Told, Verdict, Write};
+use leaf_parts::{Td, owner_word, raised, says_host, td_head};
 use td_words::places::{TDCS_VP_COUNT, TDCS_VPS, TDCS_VPS_EXPECTED, TDR_CHILDREN, VP_INDEX};
 use td_words::{
-    LimitName, LockName, Mode, OpState, PageKind, Reply, Status, Value, lock_address, pamt_address,
-    word_address,
+    LimitName, LockName, Mode, OpState, PageKind, Status, lock_address, pamt_address, word_address,
 };
 
 /// VP.CREATE TDR PAGE: a host page becomes the TDVPR page of the TD's next virtual processor.
@@ -28,23 +24,26 @@ pub struct VpCreate {
 
 impl VpCreate {
     ghost use Rattle.std.specs.Prelude.{◌≡◌};
-    ghost use Rattle.leaf_engine.specs.Turns.{IsFresh};
     ghost use Rattle.vcpu_control.specs.VpTrees.{vp_create_task};
 
-    /// The leaf of a call at a place.
-    pub fn leaf(place: Place, tdr: u64, page: u64) -> Planned<VpCreate>
-        ensures task { ⟦<Planned<VpCreate> as Leaf>⟧.task result ≡ vp_create_task place tdr page }
-        ensures fresh { let leaf = ⟦<Planned<VpCreate> as Leaf>⟧ in IsFresh (leaf.task result).tree (leaf.rest result) (leaf.tries result) (leaf.written result) (leaf.waits result) }
+    /// The plan of a call at a place.
+    pub fn plan(place: Place, tdr: u64, page: u64) -> VpCreate
+        ensures { ⟦<VpCreate as Plan>⟧.task result ≡ vp_create_task place tdr page }
     {
-        Planned::new(VpCreate { place, tdr, page })
+        VpCreate { place, tdr, page }
     }
 }
 
 impl Plan for VpCreate {
+    ghost use Rattle.std.specs.Prelude.{◌&&◌, nat_lt};
     ghost use Rattle.vcpu_control.specs.VpTrees.{vp_create_task};
     ghost use Rattle.vcpu_control.specs.VpMeanings.{vp_create-means};
 
     ghost task = { λ l. vp_create_task l.place l.tdr l.page };
+
+    ghost changes = { λ l told a. create_changes l.place.machine.pages l.tdr a.page l.page a.count a.children };
+
+    ghost shown = { λ l told a. nat_lt l.tdr l.place.machine.pages && nat_lt l.page l.place.machine.pages && nat_lt a.page l.place.machine.pages && nat_lt a.count 8 };
 
     fn decide(&self, told: Told) -> Result<Verdict, Stop> {
         let mut told = told;
@@ -63,14 +62,35 @@ impl Plan for VpCreate {
         add_vp(told, self.place, tdr, td, self.page as u16)
     }
 
+    // The page's place in the TD's list is the act; then the page is cleared, becomes the TDVPR page
+    // of that index, and is counted, among the virtual processors and among the children.
+    fn write(&self, act: Act, _told: &[u64], number: usize, _hand: &mut Hand) -> Option<Write> {
+        let pages = self.place.machine.pages;
+        let tdr = self.tdr as u16;
+        let page = self.page as u16;
+        let write = match number {
+            0 => {
+                let listed = word_address(act.page, TDCS_VPS + act.count as u16);
+                Write::store(listed, self.page)
+            }
+            1 => Write::Zero(page),
+            2 => Write::store(pamt_address(page), owner_word(PageKind::Tdvpr, tdr)),
+            3 => Write::store(word_address(page, VP_INDEX), act.count),
+            4 => Write::store(word_address(act.page, TDCS_VP_COUNT), act.count + 1),
+            5 => Write::store(word_address(tdr, TDR_CHILDREN), raised(pages, act.children)),
+            _ => return None,
+        };
+        Some(write)
+    }
+
     ghost means = { λ l. vp_create-means l.place l.tdr l.page };
 }
 
 /// What comes behind the beginning of the row: there is room for another virtual processor.
 fn add_vp(told: Told, place: Place, tdr: u16, td: Td, page: u16) -> Result<Verdict, Stop>
     requires { (tdr < place.machine.pages) × (td.tdcs < place.machine.pages) × (page < place.machine.pages) }
-    ensures decides { Decides place.machine.pages (create_rest place.machine.pages tdr td page) told.entry.left.now result }
-    ensures inside { DecisionIn place.machine result }
+    ensures decides { Decides place.machine.pages (create_rest place.machine.pages tdr td page) told.entry.left.now (ending (λ a. create_changes place.machine.pages tdr a.page page a.count a.children) result) }
+    ensures inside { DecisionIn place.machine (λ a. (a.page < place.machine.pages) × (a.count < 8)) result }
     ensures early { DecidesEarly 5 (length told.entry.left.now) result }
 {
     let mut told = told;
@@ -93,8 +113,8 @@ fn take_page(
     count: u64,
 ) -> Result<Verdict, Stop>
     requires { (tdr < place.machine.pages) × (tdcs < place.machine.pages) × (page < place.machine.pages) × (count < 8) }
-    ensures decides { Decides place.machine.pages (create_page place.machine.pages tdr tdcs page count) told.entry.left.now result }
-    ensures inside { DecisionIn place.machine result }
+    ensures decides { Decides place.machine.pages (create_page place.machine.pages tdr tdcs page count) told.entry.left.now (ending (λ a. create_changes place.machine.pages tdr a.page page a.count a.children) result) }
+    ensures inside { DecisionIn place.machine (λ a. (a.page < place.machine.pages) × (a.count < 8)) result }
     ensures early { DecidesEarly 3 (length told.entry.left.now) result }
 {
     let mut told = told;
@@ -102,39 +122,10 @@ fn take_page(
     let pamt = told.load(pamt_address(page))?;
     told.check(says_host(pamt), Status::PageMetadataIncorrect(page))?;
     let children = told.load(word_address(tdr, TDR_CHILDREN))?;
-    Ok(Verdict {
-        reply: Reply::Done(Value::Nothing),
-        writes: creations(place, tdr, tdcs, page, count, children),
-    })
-}
-
-/// The page's place in the TD's list is the act; then the page is cleared, becomes the TDVPR page of
-/// that index, and is counted, among the virtual processors and among the children.
-fn creations(
-    place: Place,
-    tdr: u16,
-    tdcs: u16,
-    page: u16,
-    count: u64,
-    children: u64,
-) -> ArrayVec<Write, 16>
-    requires { (tdr < place.machine.pages) × (tdcs < place.machine.pages) × (page < place.machine.pages) × (count < 8) }
-    ensures writes { result.items ≡ map (write_of place.machine.pages None) (create_changes place.machine.pages tdr tdcs page count children) }
-    ensures inside { WritesInside place.machine result.items }
-{
-    let mut writes = ArrayVec::new();
-    let vcpu = PamtWord {
-        kind: PageKind::Tdvpr,
-        owner: tdr,
-        epoch: 0,
-    };
-    let listed = word_address(tdcs, TDCS_VPS + count as u16);
-    let more = raised(place.machine.pages, children);
-    writes.push(Write::Word(WordStep::Store(listed, u64::from(page))));
-    writes.push(Write::Zero(page));
-    writes.push(Write::Word(WordStep::Store(pamt_address(page), vcpu.pack())));
-    writes.push(Write::Word(WordStep::Store(word_address(page, VP_INDEX), count)));
-    writes.push(Write::Word(WordStep::Store(word_address(tdcs, TDCS_VP_COUNT), count + 1)));
-    writes.push(Write::Word(WordStep::Store(word_address(tdr, TDR_CHILDREN), more)));
-    writes
+    Ok(Verdict::done(Act {
+        page: tdcs,
+        count,
+        children,
+        ..Act::NONE
+    }))
 }

@@ -1,19 +1,17 @@
 //! VP.INIT.
 
-ghost use Rattle.std.specs.Prelude.{◌≡◌, ◌<◌, length};
-ghost use Rattle.leaf_engine.specs.Decides.{Decides};
+ghost use Rattle.std.specs.Prelude.{◌≡◌, ℕ, ◌<◌, length};
+ghost use Rattle.leaf_engine.specs.Decides.{Decides, ending};
 ghost use Rattle.leaf_engine.specs.Inside.{DecisionIn, DecidesEarly};
+ghost use Rattle.vcpu_control.specs.VpChanges.{init_changes};
 ghost use Rattle.vcpu_control.specs.VpTrees.{init_rest};
 
 use crate::words::{says_page_of, vcpu_told};
-use arrayvec::ArrayVec;
-use leaf_engine::{Leaf, Place, Plan, Planned, Stop, Told, Verdict, Write};
+use leaf_engine::{Act, Hand, Place, Plan, Stop, Told, Verdict, Write};
 use leaf_parts::td_head;
-use step_core::WordStep;
 use td_words::places::{VP_REGISTERS, VP_STATE};
 use td_words::{
-    LockName, Mode, OpState, PageKind, Reply, Status, Value, VcpuState, lock_address, pamt_address,
-    word_address,
+    LockName, Mode, OpState, PageKind, Status, VcpuState, lock_address, pamt_address, word_address,
 };
 
 /// VP.INIT TDR VP VALUE: a virtual processor becomes READY, and its register 0 is VALUE.
@@ -28,28 +26,31 @@ pub struct VpInit {
 
 impl VpInit {
     ghost use Rattle.std.specs.Prelude.{◌≡◌};
-    ghost use Rattle.leaf_engine.specs.Turns.{IsFresh};
     ghost use Rattle.vcpu_control.specs.VpTrees.{vp_init_task};
 
-    /// The leaf of a call at a place.
-    pub fn leaf(place: Place, tdr: u64, vp: u64, value: u64) -> Planned<VpInit>
-        ensures task { ⟦<Planned<VpInit> as Leaf>⟧.task result ≡ vp_init_task place tdr vp value }
-        ensures fresh { let leaf = ⟦<Planned<VpInit> as Leaf>⟧ in IsFresh (leaf.task result).tree (leaf.rest result) (leaf.tries result) (leaf.written result) (leaf.waits result) }
+    /// The plan of a call at a place.
+    pub fn plan(place: Place, tdr: u64, vp: u64, value: u64) -> VpInit
+        ensures { ⟦<VpInit as Plan>⟧.task result ≡ vp_init_task place tdr vp value }
     {
-        Planned::new(VpInit {
+        VpInit {
             place,
             tdr,
             vp,
             value,
-        })
+        }
     }
 }
 
 impl Plan for VpInit {
+    ghost use Rattle.std.specs.Prelude.{nat_lt};
     ghost use Rattle.vcpu_control.specs.VpTrees.{vp_init_task};
     ghost use Rattle.vcpu_control.specs.VpMeanings.{vp_init-means};
 
     ghost task = { λ l. vp_init_task l.place l.tdr l.vp l.value };
+
+    ghost changes = { λ l told a. init_changes l.vp l.value };
+
+    ghost shown = { λ l told a. nat_lt l.vp l.place.machine.pages };
 
     fn decide(&self, told: Told) -> Result<Verdict, Stop> {
         let mut told = told;
@@ -65,17 +66,28 @@ impl Plan for VpInit {
             Mode::Shared,
             &[OpState::Initialized],
         )?;
-        initialize(told, self.place, tdr, self.vp as u16, self.value)
+        initialize(told, self.place, tdr, self.vp as u16)
+    }
+
+    fn write(&self, _act: Act, _told: &[u64], number: usize, _hand: &mut Hand) -> Option<Write> {
+        let _pages = self.place.machine.pages;
+        let vp = self.vp as u16;
+        let write = match number {
+            0 => Write::store(word_address(vp, VP_STATE), VcpuState::Ready as u64),
+            1 => Write::store(word_address(vp, VP_REGISTERS), self.value),
+            _ => return None,
+        };
+        Some(write)
     }
 
     ghost means = { λ l. vp_init-means l.place l.tdr l.vp l.value l.few_pages };
 }
 
 /// What comes behind the beginning of the row.
-fn initialize(told: Told, place: Place, tdr: u16, vp: u16, value: u64) -> Result<Verdict, Stop>
+fn initialize(told: Told, place: Place, tdr: u16, vp: u16) -> Result<Verdict, Stop>
     requires { vp < place.machine.pages }
-    ensures decides { Decides place.machine.pages (init_rest tdr vp value) told.entry.left.now result }
-    ensures inside { DecisionIn place.machine result }
+    ensures decides { (value : ℕ) → Decides place.machine.pages (init_rest tdr vp value) told.entry.left.now (ending (λ a. init_changes vp value) result) }
+    ensures inside { DecisionIn place.machine (λ a. Unit {0}) result }
     ensures early { DecidesEarly 3 (length told.entry.left.now) result }
 {
     let mut told = told;
@@ -90,12 +102,5 @@ fn initialize(told: Told, place: Place, tdr: u16, vp: u16, value: u64) -> Result
         state == VcpuState::Created,
         Status::VcpuStateIncorrect(state),
     )?;
-    let mut writes = ArrayVec::new();
-    let ready = VcpuState::Ready as u64;
-    writes.push(Write::Word(WordStep::Store(word_address(vp, VP_STATE), ready)));
-    writes.push(Write::Word(WordStep::Store(word_address(vp, VP_REGISTERS), value)));
-    Ok(Verdict {
-        reply: Reply::Done(Value::Nothing),
-        writes,
-    })
+    Ok(Verdict::done(Act::NONE))
 }

@@ -1,21 +1,16 @@
-use Rattle.std.proofs.Common.{◌≡◌, true, List, [], length, map, ◌+◌}
-use Rattle.std.specs.Prelude.{Result, None}
+use Rattle.std.proofs.Common.{◌≡◌, List, [], length, ◌+◌, ◌++◌, Result}
 use Rattle.leaf_engine.specs.declared.plans.Stop.{Stop}
-use Rattle.leaf_engine.specs.declared.plans.Verdict.{Verdict}
-use Rattle.leaf_engine.specs.Changes.{Change, are_plain}
-use Rattle.leaf_engine.specs.Decides.{Decides, write_of}
-use Rattle.leaf_engine.specs.Inside.{WritesInside}
-use Rattle.key_table.specs.CacheTrees.{mark_keys}
+use Rattle.leaf_engine.specs.Changes.{Change}
+use Rattle.leaf_engine.specs.Decides.{Ending, Decides}
+use Rattle.key_table.specs.CacheTrees.{mark_keys, marks}
 use Rattle.key_table.proofs.cache_write_backs.mark_keys.Given as goal
 
 abbrev pub invariant-loop-left : goal.invariant-loop-left
 invariant-loop-left l = record {
-  follows : (r : Result Verdict Stop)
-      → ((cs : List Change) → l.writes.items ≡ map (write_of l.machine.pages None) cs → are_plain cs ≡ true → Decides l.machine.pages (mark_keys l.number l.left cs) l.answers.left.now r)
+  follows : (r : Result Ending Stop)
+      → ((cs : List Change) → cs ++ marks l.number l.left l.answers.left.now ≡ marks 3 l.machine.hkids l.initial.answers.left.now → Decides l.machine.pages (mark_keys l.number l.left cs) l.answers.left.now r)
       → Decides l.machine.pages (mark_keys 3 l.machine.hkids []) l.initial.answers.left.now r;
-  inside : WritesInside l.machine l.writes.items;
   number : l.number + l.left ≡ 3 + l.machine.hkids;
-  count : length l.writes.items + l.left ≡ l.machine.hkids;
   early : length l.initial.answers.left.now + l.left ≡ length l.answers.left.now + l.machine.hkids;
 }
 

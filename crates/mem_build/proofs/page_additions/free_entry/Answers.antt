@@ -1,12 +1,12 @@
 use Rattle.std.proofs.Common.{ℕ, [], ◌∷◌}
 use Rattle.td_words.specs.declared.names.EntryState.TheVariants as entry
 use Rattle.leaf_engine.specs.Trees.{Tree}
-use Rattle.leaf_parts.proofs.Parts.{goes-stop, goes-on, feeds-on, exit}
+use Rattle.leaf_parts.proofs.Parts.{goes-stop, goes-on, exit}
 use Rattle.sept_parts.specs.declared.finds.Found.{Found}
 use Rattle.sept_parts.specs.SeptTrees.{td_find_tree, state_tree}
 use Rattle.td_words.specs.declared.names.OpState.TheVariants as op
 use Rattle.mem_build.specs.PageAddTrees.{alone, free_tree}
-use Rattle.mem_build.proofs.PageAdds.{table-goes, table-feeds}
+use Rattle.mem_build.proofs.PageAdds.{table-goes}
 use Rattle.mem_build.proofs.page_additions.free_entry.Goals as goal
 
 abbrev rest : Found → (ℕ → Tree) → Tree
@@ -23,9 +23,3 @@ returns-clause-goes c =
     goes-on c.args.place.machine.pages (λ (f : Found → Tree). td_find_tree c.args.place.machine.pages c.args.tdr alone (op.Initialized ∷ []) c.args.gpa 0 f) rest
     c.args.told.now.left.now c.td_find.new.told.left.now c.td_find.new.told.left.now c.in_ok-found.found c.table_of.result
     c.in_ok-found.ensures.goes (table-goes c.args.place.machine.pages c.in_ok-found.found c.td_find.new.told.left.now c.table_of.result c.table_of.ensures)
-
-pub returns-clause-feeds : goal.returns-clause-feeds
-returns-clause-feeds c =
-    feeds-on (λ (f : Found → Tree). td_find_tree c.args.place.machine.pages c.args.tdr alone (op.Initialized ∷ []) c.args.gpa 0 f) rest
-    c.args.told.now.left.now c.td_find.new.told.left.now c.td_find.new.told.left.now c.in_ok-found.found c.table_of.result
-    c.in_ok-found.ensures.feeds (table-feeds c.in_ok-found.found c.td_find.new.told.left.now c.table_of.result c.table_of.ensures)

@@ -1,4 +1,4 @@
-use Rattle.std.proofs.Common.{ℕ, Err, refl, ◌∙◌}
+use Rattle.std.proofs.Common.{ℕ, Err, refl}
 use Rattle.td_words.specs.declared.places.TheConstants.{TDR_HKID, TDR_CHILDREN}
 use Rattle.td_words.specs.Place as place
 use Rattle.word_rules.specs.Rules.{Whole}
@@ -45,9 +45,3 @@ returns-clause-goes c = λ further r d.
     c.in_ok-host_page.ensures.goes (λ u. host_tree c.args.page (counts c.args.tdr further)) r
     (c.in_ok-host_page-2.ensures.goes (λ u. counts c.args.tdr further) r
     (rw (c.in_ok-hkid.ensures, c.in_ok-children.ensures) d))
-
-pub returns-clause-feeds : goal.returns-clause-feeds
-returns-clause-feeds c = λ further.
-    c.in_ok-host_page.ensures.feeds (λ u. host_tree c.args.page (counts c.args.tdr further))
-    ∙ (c.in_ok-host_page-2.ensures.feeds (λ u. counts c.args.tdr further)
-    ∙ rw (c.in_ok-hkid.ensures, c.in_ok-children.ensures) refl)

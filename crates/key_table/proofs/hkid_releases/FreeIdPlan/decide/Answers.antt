@@ -16,5 +16,5 @@ returns-in_err-tdr_head-clause-decides c =
 pub returns-clause-decides : goal.returns-clause-decides
 returns-clause-decides c =
     let l = c.args.self.now in
-    passes l.place.machine.pages (nat_lt l.tdr l.place.machine.pages) (OperandInvalid 1) (tdr_head_tree l.tdr (life.Blocked ∷ []) (free_rest l.place.machine l.tdr)) c.args.told.left.now c.free.result (rw c.from.ensures at c.in_ok-check.ensures)
-    (c.in_ok-tdr_head.ensures.goes (λ u. free_rest l.place.machine l.tdr) c.free.result c.free.ensures.decides)
+    passes l.place.machine.pages (nat_lt l.tdr l.place.machine.pages) (OperandInvalid 1) (tdr_head_tree l.tdr (life.Blocked ∷ []) (free_rest l.place.machine l.tdr)) c.args.told.left.now _ (rw c.from.ensures at c.in_ok-check.ensures)
+    (c.in_ok-tdr_head.ensures.goes (λ u. free_rest l.place.machine l.tdr) _ c.free.ensures.decides)

@@ -18,6 +18,6 @@ returns-in_err-tdr_head-clause-decides c =
 pub returns-clause-decides : goal.returns-clause-decides
 returns-clause-decides c =
     let l = c.args.self.now in
-    passes l.place.machine.pages (nat_lt l.tdr l.place.machine.pages) (OperandInvalid 1) (needs (nat_lt l.page l.place.machine.pages) (OperandInvalid 2) (tdr_head_tree l.tdr (life.Teardown ∷ []) (reclaim_rest l.tdr l.page (l.page == l.tdr)))) c.args.told.left.now c.give_back.result (rw c.from.ensures at c.in_ok-check.ensures)
-    (passes l.place.machine.pages (nat_lt l.page l.place.machine.pages) (OperandInvalid 2) (tdr_head_tree l.tdr (life.Teardown ∷ []) (reclaim_rest l.tdr l.page (l.page == l.tdr))) c.args.told.left.now c.give_back.result (rw c.from-2.ensures at c.in_ok-check-2.ensures)
-    (c.in_ok-tdr_head.ensures.goes (λ u. reclaim_rest l.tdr l.page (l.page == l.tdr)) c.give_back.result c.give_back.ensures.decides))
+    passes l.place.machine.pages (nat_lt l.tdr l.place.machine.pages) (OperandInvalid 1) (needs (nat_lt l.page l.place.machine.pages) (OperandInvalid 2) (tdr_head_tree l.tdr (life.Teardown ∷ []) (reclaim_rest l.tdr l.page (l.page == l.tdr)))) c.args.told.left.now _ (rw c.from.ensures at c.in_ok-check.ensures)
+    (passes l.place.machine.pages (nat_lt l.page l.place.machine.pages) (OperandInvalid 2) (tdr_head_tree l.tdr (life.Teardown ∷ []) (reclaim_rest l.tdr l.page (l.page == l.tdr))) c.args.told.left.now _ (rw c.from-2.ensures at c.in_ok-check-2.ensures)
+    (c.in_ok-tdr_head.ensures.goes (λ u. reclaim_rest l.tdr l.page (l.page == l.tdr)) _ c.give_back.ensures.decides))

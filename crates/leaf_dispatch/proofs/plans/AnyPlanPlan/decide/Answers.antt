@@ -3,6 +3,9 @@ use Rattle.leaf_dispatch.proofs.plans.AnyPlanPlan.decide.Goals as goal
 pub returns-in-Create-clause-decides : goal.returns-in-Create-clause-decides
 returns-in-Create-clause-decides c = rw (c.in-Create.is) c.decide-in-Create.ensures.decides
 
+pub returns-in-Finalize-clause-decides : goal.returns-in-Finalize-clause-decides
+returns-in-Finalize-clause-decides c = rw (c.in-Finalize.is) c.decide-in-Finalize.ensures.decides
+
 pub returns-in-FlushDone-clause-decides : goal.returns-in-FlushDone-clause-decides
 returns-in-FlushDone-clause-decides c = rw (c.in-FlushDone.is) c.decide-in-FlushDone.ensures.decides
 

@@ -1,15 +1,16 @@
-use Rattle.std.proofs.Common.{sym, refl}
+use Rattle.std.proofs.Common.{sym}
 use Rattle.leaf_engine.specs.Trees.{feed, changes_of}
-use Rattle.leaf_engine.proofs.Decided.{decided-writes, left-none, hands-next}
+use Rattle.leaf_engine.proofs.Decided.{none-next, some-next}
 use Rattle.leaf_engine.proofs.plans.PlannedLeaf.write.Goals as goal
 
-pub returns-in-Ok-clause-next : goal.returns-in-Ok-clause-next
-returns-in-Ok-clause-next g c =
-    hands-next (g.P.Plan.task c.args.self.now.plan).place.machine (changes_of (feed (g.P.Plan.task c.args.self.now.plan).tree c.args.self.now.told.items)) c.args.self.now.written c.next_write.new.written c.in-Ok.verdict.writes.items c.args._hasher.now c.next_write.result
-    (decided-writes (g.P.Plan.task c.args.self.now.plan).place.machine.pages (g.P.Plan.task c.args.self.now.plan).tree c.args.self.now.told.items c.in-Ok.verdict (rw (sym c.as_slice.ensures.value) c.in-Ok.ensures.decides))
-    c.in-Ok.ensures.inside c.next_write.ensures.next c.next_write.ensures.count
+pub returns-in_err-write-clause-next : goal.returns-in_err-write-clause-next
+returns-in_err-write-clause-next g c =
+    let l = c.args.self.now in
+    let t = g.P.Plan.task l.plan in
+    rw c.from_residual-in_err-write.ensures (none-next t.place.machine (changes_of (feed t.tree l.told.items)) l.written c.args.hasher.now c.write.new.hand (rw (c.in_ok-act.ensures.0, sym c.as_slice.ensures.value) c.in_err-write.ensures.hands))
 
-pub returns-in-Err-clause-next : goal.returns-in-Err-clause-next
-returns-in-Err-clause-next g c =
-    let none = left-none (g.P.Plan.task c.args.self.now.plan).place.machine.pages (g.P.Plan.task c.args.self.now.plan).tree c.args.self.now.told.items c.in-Err.field-0 c.args.self.now.written (rw (sym c.as_slice.ensures.value) c.in-Err.ensures.decides) in
-    (none, none, refl)
+pub returns-clause-next : goal.returns-clause-next
+returns-clause-next g c =
+    let l = c.args.self.now in
+    let t = g.P.Plan.task l.plan in
+    some-next t.place.machine (changes_of (feed t.tree l.told.items)) l.written c.args.hasher.now c.write.new.hand c.in_ok-write.write (rw (c.in_ok-act.ensures.0, sym c.as_slice.ensures.value) c.in_ok-write.ensures.hands)

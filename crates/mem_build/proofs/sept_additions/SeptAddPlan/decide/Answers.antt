@@ -1,9 +1,7 @@
-use Rattle.std.proofs.Common.{ℕ, subst}
 use Rattle.td_words.specs.declared.names.Mode.TheVariants.{Shared, Exclusive}
 use Rattle.flat_core.specs.Conditions.{growing_ops}
 use Rattle.sept_walk.specs.SecureEpt.{index_at}
 use Rattle.leaf_engine.specs.Trees.{Tree}
-use Rattle.leaf_engine.specs.Decides.{Decides}
 use Rattle.leaf_parts.proofs.Parts.{behind-stop, behind-go, exit}
 use Rattle.sept_parts.specs.declared.finds.Found.{Found}
 use Rattle.sept_parts.specs.SeptTrees.{td_find_tree}
@@ -15,11 +13,11 @@ pub returns-in_err-found-clause-decides : goal.returns-in_err-found-clause-decid
 returns-in_err-found-clause-decides c =
     let l = c.args.self.now in
     let m = l.place.machine in
-    behind-stop m.pages (λ t. add_arguments m l.tdr l.gpa l.level l.page t)
+    rw (exit c.from_residual-in_err-found.result c.in_err-found.field-0.0 _ c.from_residual-in_err-found.ensures.1 (λ y h. h))
+    (behind-stop m.pages (λ t. add_arguments m l.tdr l.gpa l.level l.page t)
     (add-arguments m.pages m l.tdr l.gpa l.level l.page (rw c.from.ensures at c.in_ok-check.ensures) c.in_ok-check-2.ensures (rw c.is_upper.ensures at c.in_ok-check-3.ensures) (rw c.from-2.ensures at c.in_ok-check-4.ensures) c.in_ok-check-5.ensures (rw c.is_aligned.ensures at c.in_ok-check-6.ensures))
     (λ (f : Found → Tree). td_find_tree m.pages l.tdr (record { op = Shared; tree = Exclusive }) growing_ops l.gpa l.level f) (λ (found : Found). sept_add_rest m.pages l.tdr l.page (index_at l.level l.gpa) found)
-    c.args.told.left.now c.td_find.new.told.left.now c.in_err-found.field-0.0 c.from_residual-in_err-found.result
-    (exit c.from_residual-in_err-found.result c.in_err-found.field-0.0 _ c.from_residual-in_err-found.ensures.1 (λ y h. h)) c.in_err-found.ensures.goes
+    c.args.told.left.now c.td_find.new.told.left.now c.in_err-found.field-0.0 c.in_err-found.ensures.goes)
 
 pub returns-clause-decides : goal.returns-clause-decides
 returns-clause-decides c =
@@ -28,5 +26,5 @@ returns-clause-decides c =
     behind-go m.pages (λ t. add_arguments m l.tdr l.gpa l.level l.page t)
     (add-arguments m.pages m l.tdr l.gpa l.level l.page (rw c.from.ensures at c.in_ok-check.ensures) c.in_ok-check-2.ensures (rw c.is_upper.ensures at c.in_ok-check-3.ensures) (rw c.from-2.ensures at c.in_ok-check-4.ensures) c.in_ok-check-5.ensures (rw c.is_aligned.ensures at c.in_ok-check-6.ensures))
     (λ (f : Found → Tree). td_find_tree m.pages l.tdr (record { op = Shared; tree = Exclusive }) growing_ops l.gpa l.level f) (λ (found : Found). sept_add_rest m.pages l.tdr l.page (index_at l.level l.gpa) found)
-    c.args.told.left.now c.td_find.new.told.left.now c.in_ok-found.found c.add.result
-    c.in_ok-found.ensures.goes (subst (λ (i : ℕ). Decides m.pages (sept_add_rest m.pages l.tdr l.page i c.in_ok-found.found) c.td_find.new.told.left.now c.add.result) c.index.ensures.index c.add.ensures.decides)
+    c.args.told.left.now c.td_find.new.told.left.now c.in_ok-found.found _
+    c.in_ok-found.ensures.goes (c.add.ensures.decides (index_at l.level l.gpa))

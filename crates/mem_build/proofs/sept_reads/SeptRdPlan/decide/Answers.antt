@@ -15,11 +15,11 @@ pub returns-in_err-found-clause-decides : goal.returns-in_err-found-clause-decid
 returns-in_err-found-clause-decides c =
     let l = c.args.self.now in
     let m = l.place.machine in
-    behind-stop m.pages (λ t. read_arguments m l.tdr l.gpa l.level t)
+    rw (exit c.from_residual-in_err-found.result c.in_err-found.field-0.0 _ c.from_residual-in_err-found.ensures.1 (λ y h. h))
+    (behind-stop m.pages (λ t. read_arguments m l.tdr l.gpa l.level t)
     (read-arguments m.pages m l.tdr l.gpa l.level (rw c.from.ensures at c.in_ok-check.ensures) c.in_ok-check-2.ensures c.in_ok-check-3.ensures (rw c.is_aligned.ensures at c.in_ok-check-4.ensures))
     (λ (f : Found → Tree). td_find_tree m.pages l.tdr (record { op = Shared; tree = Exclusive }) begun_ops l.gpa l.level f) (λ (found : Found). answers (Done (entry_value found.entry)))
-    c.args.told.left.now c.td_find.new.told.left.now c.in_err-found.field-0.0 c.from_residual-in_err-found.result
-    (exit c.from_residual-in_err-found.result c.in_err-found.field-0.0 _ c.from_residual-in_err-found.ensures.1 (λ y h. h)) c.in_err-found.ensures.goes
+    c.args.told.left.now c.td_find.new.told.left.now c.in_err-found.field-0.0 c.in_err-found.ensures.goes)
 
 pub returns-clause-decides : goal.returns-clause-decides
 returns-clause-decides c =
@@ -29,4 +29,4 @@ returns-clause-decides c =
     (read-arguments m.pages m l.tdr l.gpa l.level (rw c.from.ensures at c.in_ok-check.ensures) c.in_ok-check-2.ensures c.in_ok-check-3.ensures (rw c.is_aligned.ensures at c.in_ok-check-4.ensures))
     (λ (f : Found → Tree). td_find_tree m.pages l.tdr (record { op = Shared; tree = Exclusive }) begun_ops l.gpa l.level f) (λ (found : Found). answers (Done (entry_value found.entry)))
     c.args.told.left.now c.td_find.new.told.left.now c.in_ok-found.found _
-    c.in_ok-found.ensures.goes (rw c.entry_value.ensures refl, c.new.ensures, refl)
+    c.in_ok-found.ensures.goes (rw (c.answer.ensures, c.entry_value.ensures) refl, refl)

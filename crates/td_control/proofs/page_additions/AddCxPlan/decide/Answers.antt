@@ -17,7 +17,7 @@ returns-in_err-tdr_head-clause-decides c =
 
 pub returns-clause-decides : goal.returns-clause-decides
 returns-clause-decides c =
-    (passes c.args.self.now.place.machine.pages (nat_lt c.args.self.now.tdr c.args.self.now.place.machine.pages) (OperandInvalid 1) (needs (nat_lt c.args.self.now.page c.args.self.now.place.machine.pages) (OperandInvalid 2) (needs (not (c.args.self.now.page == c.args.self.now.tdr)) (OperandInvalid 2) (tdr_head_tree c.args.self.now.tdr (life.KeysConfigured ∷ []) (room_tree c.args.self.now.place.machine.pages c.args.self.now.tdr c.args.self.now.page)))) c.args.told.left.now c.add.result (rw c.from.ensures at c.in_ok-check.ensures)
-    (passes c.args.self.now.place.machine.pages (nat_lt c.args.self.now.page c.args.self.now.place.machine.pages) (OperandInvalid 2) (needs (not (c.args.self.now.page == c.args.self.now.tdr)) (OperandInvalid 2) (tdr_head_tree c.args.self.now.tdr (life.KeysConfigured ∷ []) (room_tree c.args.self.now.place.machine.pages c.args.self.now.tdr c.args.self.now.page))) c.args.told.left.now c.add.result (rw c.from-2.ensures at c.in_ok-check-2.ensures)
-    (passes c.args.self.now.place.machine.pages (not (c.args.self.now.page == c.args.self.now.tdr)) (OperandInvalid 2) (tdr_head_tree c.args.self.now.tdr (life.KeysConfigured ∷ []) (room_tree c.args.self.now.place.machine.pages c.args.self.now.tdr c.args.self.now.page)) c.args.told.left.now c.add.result c.in_ok-check-3.ensures
-    (c.in_ok-tdr_head.ensures.goes (λ u. room_tree c.args.self.now.place.machine.pages c.args.self.now.tdr c.args.self.now.page) c.add.result c.add.ensures.decides))))
+    (passes c.args.self.now.place.machine.pages (nat_lt c.args.self.now.tdr c.args.self.now.place.machine.pages) (OperandInvalid 1) (needs (nat_lt c.args.self.now.page c.args.self.now.place.machine.pages) (OperandInvalid 2) (needs (not (c.args.self.now.page == c.args.self.now.tdr)) (OperandInvalid 2) (tdr_head_tree c.args.self.now.tdr (life.KeysConfigured ∷ []) (room_tree c.args.self.now.place.machine.pages c.args.self.now.tdr c.args.self.now.page)))) c.args.told.left.now _ (rw c.from.ensures at c.in_ok-check.ensures)
+    (passes c.args.self.now.place.machine.pages (nat_lt c.args.self.now.page c.args.self.now.place.machine.pages) (OperandInvalid 2) (needs (not (c.args.self.now.page == c.args.self.now.tdr)) (OperandInvalid 2) (tdr_head_tree c.args.self.now.tdr (life.KeysConfigured ∷ []) (room_tree c.args.self.now.place.machine.pages c.args.self.now.tdr c.args.self.now.page))) c.args.told.left.now _ (rw c.from-2.ensures at c.in_ok-check-2.ensures)
+    (passes c.args.self.now.place.machine.pages (not (c.args.self.now.page == c.args.self.now.tdr)) (OperandInvalid 2) (tdr_head_tree c.args.self.now.tdr (life.KeysConfigured ∷ []) (room_tree c.args.self.now.place.machine.pages c.args.self.now.tdr c.args.self.now.page)) c.args.told.left.now _ c.in_ok-check-3.ensures
+    (c.in_ok-tdr_head.ensures.goes (λ u. room_tree c.args.self.now.place.machine.pages c.args.self.now.tdr c.args.self.now.page) _ c.add.ensures.decides))))

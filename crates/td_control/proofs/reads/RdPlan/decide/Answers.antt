@@ -15,4 +15,4 @@ returns-in_err-value-clause-decides c =
 pub returns-clause-decides : goal.returns-clause-decides
 returns-clause-decides c =
     passes c.args.self.now.place.machine.pages (nat_lt c.args.self.now.tdr c.args.self.now.place.machine.pages) (OperandInvalid 1) (value_tree c.args.self.now.place.machine.pages c.args.self.now.tdr c.args.self.now.field (λ v. answers (Done v)))
-    c.args.told.left.now _ (rw c.from.ensures at c.in_ok-check.ensures) (c.in_ok-value.ensures.goes (λ v. answers (Done v)) _ (refl, rw c.new.ensures refl, refl))
+    c.args.told.left.now _ (rw c.from.ensures at c.in_ok-check.ensures) (c.in_ok-value.ensures.goes (λ v. answers (Done v)) _ (rw c.answer.ensures refl, refl))

@@ -12,10 +12,11 @@ use Rattle.vcpu_control.proofs.vp_inits.VpInitPlan.decide.Goals as goal
 pub returns-in_err-td_head-clause-decides : goal.returns-in_err-td_head-clause-decides
 returns-in_err-td_head-clause-decides c =
     let l = c.args.self.now in
-    behind-stop l.place.machine.pages (two_pages l.place.machine l.tdr l.vp)
+    rw (exit c.from_residual-in_err-td_head.result c.in_err-td_head.field-0.0 _ c.from_residual-in_err-td_head.ensures.1 (λ y h. h))
+    (behind-stop l.place.machine.pages (two_pages l.place.machine l.tdr l.vp)
     (two-pages l.place.machine.pages l.place.machine l.tdr l.vp (rw c.from.ensures at c.in_ok-check.ensures) (rw c.from-2.ensures at c.in_ok-check-2.ensures) c.in_ok-check-3.ensures)
     (λ (f : Td → Tree). td_head_tree l.place.machine.pages l.tdr Shared (Initialized ∷ []) f) (λ (td : Td). init_rest l.tdr l.vp l.value) c.args.told.left.now c.td_head.new.told.left.now
-    c.in_err-td_head.field-0.0 c.from_residual-in_err-td_head.result (exit c.from_residual-in_err-td_head.result c.in_err-td_head.field-0.0 _ c.from_residual-in_err-td_head.ensures.1 (λ y h. h)) c.in_err-td_head.ensures.goes
+    c.in_err-td_head.field-0.0 c.in_err-td_head.ensures.goes)
 
 pub returns-clause-decides : goal.returns-clause-decides
 returns-clause-decides c =
@@ -23,4 +24,4 @@ returns-clause-decides c =
     behind-go l.place.machine.pages (two_pages l.place.machine l.tdr l.vp)
     (two-pages l.place.machine.pages l.place.machine l.tdr l.vp (rw c.from.ensures at c.in_ok-check.ensures) (rw c.from-2.ensures at c.in_ok-check-2.ensures) c.in_ok-check-3.ensures)
     (λ (f : Td → Tree). td_head_tree l.place.machine.pages l.tdr Shared (Initialized ∷ []) f) (λ (td : Td). init_rest l.tdr l.vp l.value) c.args.told.left.now c.td_head.new.told.left.now
-    c.in_ok-td_head.field-0 c.initialize.result c.in_ok-td_head.ensures.goes c.initialize.ensures.decides
+    c.in_ok-td_head.field-0 _ c.in_ok-td_head.ensures.goes (c.initialize.ensures.decides l.value)

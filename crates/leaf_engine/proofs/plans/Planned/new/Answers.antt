@@ -1,0 +1,4 @@
+use Rattle.leaf_engine.proofs.plans.Planned.new.Goals as goal
+
+pub invariant_of-result-clause-known : goal.invariant_of-result-clause-known
+invariant_of-result-clause-known g c = tt
