@@ -20,7 +20,7 @@ returns-in-MemSeptRd-clause-task c =
 
 pub returns-in-MemPageAug-clause-task : goal.returns-in-MemPageAug-clause-task
 returns-in-MemPageAug-clause-task c =
-    c.by_plan-in-MemPageAug.ensures.task ∙ ap (λ p. plan_task (plan.PageAug p)) c.into_plan-in-MemPageAug.ensures ∙ c.leaf-in-MemPageAug.ensures.task ∙ sym (ap (task_of c.args.place) c.in-MemPageAug.is)
+    c.by_plan-in-MemPageAug.ensures.task ∙ c.plan-in-MemPageAug.ensures ∙ sym (ap (task_of c.args.place) c.in-MemPageAug.is)
 
 pub returns-in-MrExtend-clause-task : goal.returns-in-MrExtend-clause-task
 returns-in-MrExtend-clause-task c = c.leaf.ensures.task ∙ sym (ap (task_of c.args.place) c.in-MrExtend.is)
