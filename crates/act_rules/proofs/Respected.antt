@@ -1,7 +1,7 @@
 -- Words that acts are written in change what words are only as the rules say.
 use Rattle.std.proofs.Common.{◌≡◌, ◌⊎◌, refl, sym, ◌∙◌, ap, subst, inl, inr, ℕ, zero, suc, ◌+◌, ◌-◌, ◌*◌, ◌%◌, ◌≤◌, Bool, true, false, ◌==◌, ◌&&◌, ◌||◌, if◌then◌else◌, List, [], ◌∷◌, arith}
 use Rattle.td_words.specs.declared.places.TheConstants.{TDCS_OP_LOCK, TDCS_OP, TDCS_EPOCH, TDCS_ENTERED}
-use Rattle.std.specs.Prelude.{Option, None, nat_le, nat_lt}
+use Rattle.std.specs.Prelude.{Option, Some, None, nat_le, nat_lt}
 use Rattle.std.proofs.lemmas.Bool.{eq-eqb, eqb-true, and_parts}
 use Rattle.td_words.specs.declared.names.PageKind.{PageKind}
 use Rattle.td_words.specs.declared.names.PageKind.TheVariants as kind
@@ -16,7 +16,7 @@ use Rattle.flat_core.specs.World.{World, Pages, put}
 use Rattle.flat_core.specs.Processor.{OfPage, OfOp, OfTree, OfEpoch}
 use Rattle.flat_core.specs.Lawful.{key_owner, Lawful, ArePagesOf}
 use Rattle.flat_core.specs.Conditions.{same_kind}
-use Rattle.flat_core.specs.Effects.{take_node, set_entry, set_op, set_epoch, set_life, set_key, leave_guest}
+use Rattle.flat_core.specs.Effects.{take_node, set_entry, set_op, set_epoch, set_life, set_key, enter_guest, leave_guest}
 use Rattle.flat_core.proofs.Tests.{by_test, host_kind}
 use Rattle.word_rules.specs.Guards.{Grip, Locked}
 use Rattle.word_rules.specs.Rules.{Class, GuestWord, LeafEntry, Unused, moves, EpochCount}
@@ -413,12 +413,17 @@ fewer : (f : ℕ → Option ℕ) (v b : ℕ) (vs : List ℕ) → entered_of_pari
 fewer f v b [] = omega arith
 fewer f v b (x ∷ vs) = let k = fewer f v b vs in by_test (x == v) (λ y. rw y (omega (arith, k))) (λ n. rw n (omega (arith, k)))
 
-elsewhere : (pages : Pages) (f : ℕ → Option ℕ) (u v b : ℕ) (vs : List ℕ) → ArePagesOf pages u kind.Tdvpr vs → (pages.owners v ≡ u → ⊥) → entered_of_parity b (put f v None) vs ≡ entered_of_parity b f vs
-elsewhere pages f u v b [] a bad = refl
-elsewhere pages f u v b (x ∷ vs) a bad =
+-- one that enters at an epoch of another parity
+no-more : (f : ℕ → Option ℕ) (v b e : ℕ) (vs : List ℕ) → (e % 2 == b) ≡ false → entered_of_parity b (put f v (Some e)) vs ≤ entered_of_parity b f vs
+no-more f v b e [] n = omega arith
+no-more f v b e (x ∷ vs) n = let k = no-more f v b e vs n in by_test (x == v) (λ y. rw (y, n) (omega (arith, k))) (λ m. rw m (omega (arith, k)))
+
+elsewhere : (pages : Pages) (f : ℕ → Option ℕ) (u v b : ℕ) (new : Option ℕ) (vs : List ℕ) → ArePagesOf pages u kind.Tdvpr vs → (pages.owners v ≡ u → ⊥) → entered_of_parity b (put f v new) vs ≡ entered_of_parity b f vs
+elsewhere pages f u v b new [] a bad = refl
+elsewhere pages f u v b new (x ∷ vs) a bad =
     by_test (x == v)
     (λ y. absurd (bad (let is : x ≡ v = eqb-true x v y in subst (λ (z : ℕ). pages.owners z ≡ u) is a.0.owner)))
-    (λ n. rw n (ap (λ (z : ℕ). one_of_parity b (f x) + z) (elsewhere pages f u v b vs a.1 bad)))
+    (λ n. rw n (ap (λ (z : ℕ). one_of_parity b (f x) + z) (elsewhere pages f u v b new vs a.1 bad)))
 
 pub at-end : (s : LifeState) → is_at_end s ≡ false → (life_number s == life_number life.Teardown) ≡ false
 at-end life.HkidAssigned h = refl
@@ -459,7 +464,42 @@ exit-moved g w m t v la own h = record {
     -- of another
     theirs : (u b : ℕ) → w.pages.kinds u ≡ kind.Tdr → (u == t) ≡ false → is_empty w' u b ≡ is_empty w u b
     theirs u b k n = by_test (is_at_end (w.tds.lives u)) (λ y. rw y refl) (λ e.
-        rw e (ap (λ (z : ℕ). z == 0) (elsewhere w.pages w.vps.entered u v b (w.tds.vps u) (la.tds.vps u (record { kind = k; life = at-end (w.tds.lives u) e }))
+        rw e (ap (λ (z : ℕ). z == 0) (elsewhere w.pages w.vps.entered u v b None (w.tds.vps u) (la.tds.vps u (record { kind = k; life = at-end (w.tds.lives u) e }))
+        (λ d. let yes : (u == t) ≡ true = eq-eqb u t (sym d ∙ own) in let bad : true ≡ false = sym yes ∙ n in cc))))
+
+    by : (u p : ℕ) → w.pages.kinds u ≡ kind.Tdr → CountsMay g w w' u p
+    by u p k b = by_test (u == t)
+        (λ y. let is : u ≡ t = eqb-true u t y in
+        subst (λ (z : ℕ). ((is_current w' z b ≡ is_current w z b) × (is_empty w' z b ≡ is_empty w z b)) ⊎ MayAt g (control_spot z p (EpochCount (is_current w z b) (is_empty w z b))) moves) (sym is) (mine p b))
+        (λ n. inl (refl, theirs u b k n))
+
+-- a virtual processor enters at TD_EPOCH
+enter-moved : (g : Grip) (w : World) (m : Machine) (me t v : ℕ) → Lawful m w → w.pages.owners v ≡ t → g.has (Locked (OfPage t)) ≡ true → Respects g w (enter_guest me v (w.tds.epochs t) w)
+enter-moved g w m me t v la own h = record {
+  word = counts-at g w w' (record { pages = refl; ops = refl; controls = refl; entries = refl }) (λ p k. by (w.pages.owners p) p (la.pages.owner p (rw k refl)));
+  slot = λ k. inl refl;
+  life = λ u. inl refl;
+}
+  where
+    w' : World
+    w' = enter_guest me v (w.tds.epochs t) w
+
+    still : (b : ℕ) → (w.tds.epochs t % 2 == b) ≡ false → is_empty w t b ≡ true → is_empty w' t b ≡ true
+    still b c e = by_test (is_at_end (w.tds.lives t)) (λ y. rw y refl) (λ n.
+        let z : entered_of_parity b w.vps.entered (w.tds.vps t) ≡ 0 = eqb-true _ 0 (or-right (is_at_end (w.tds.lives t)) (entered_of_parity b w.vps.entered (w.tds.vps t) == 0) e n) in
+        let k = no-more w.vps.entered v b (w.tds.epochs t) (w.tds.vps t) c in
+        let y : entered_of_parity b (put w.vps.entered v (Some (w.tds.epochs t))) (w.tds.vps t) ≡ 0 = omega (arith, k, z) in rw (n, y) refl)
+
+    mine : (p b : ℕ) → ((is_current w' t b ≡ is_current w t b) × (is_empty w' t b ≡ is_empty w t b)) ⊎ MayAt g (control_spot t p (EpochCount (is_current w t b) (is_empty w t b))) moves
+    mine p b = by_test (is_current w t b)
+        (λ c. inr (subst (λ (z : Bool). MayAt g (control_spot t p (EpochCount z (is_empty w t b))) moves) (sym c) (inl (h, tt))))
+        (λ c. by_test (is_empty w t b)
+        (λ y. inl (refl, still b c y ∙ sym y))
+        (λ n. inr (subst (λ (z : Bool). MayAt g (control_spot t p (EpochCount (is_current w t b) z)) moves) (sym n) (exit-may g t p (is_current w t b) h))))
+
+    theirs : (u b : ℕ) → w.pages.kinds u ≡ kind.Tdr → (u == t) ≡ false → is_empty w' u b ≡ is_empty w u b
+    theirs u b k n = by_test (is_at_end (w.tds.lives u)) (λ y. rw y refl) (λ e.
+        rw e (ap (λ (z : ℕ). z == 0) (elsewhere w.pages w.vps.entered u v b (Some (w.tds.epochs t)) (w.tds.vps u) (la.tds.vps u (record { kind = k; life = at-end (w.tds.lives u) e }))
         (λ d. let yes : (u == t) ≡ true = eq-eqb u t (sym d ∙ own) in let bad : true ≡ false = sym yes ∙ n in cc))))
 
     by : (u p : ℕ) → w.pages.kinds u ≡ kind.Tdr → CountsMay g w w' u p
@@ -497,6 +537,7 @@ effects-respect g w = record {
   epoch = λ t e h s. epoch-set g w t e (λ p x y. epoch-may g t p x y h s);
   epoch_op = λ t e h s. epoch-set g w t e (λ p x y. epoch-may-op g t p x y h s);
   life = life-moved g w;
+  enter = λ m me t v. enter-moved g w m me t v;
   exit = λ m t v. exit-moved g w m t v;
   key = key-moved g w;
 }

@@ -304,6 +304,8 @@ rows-respect o me (call.MrFinalize tdr) g w la ps h = finalized g w tdr h.0 h.1.
 rows-respect o me (call.VpCreate tdr page) g w la ps h =
     vp-added o.machine g w tdr page la (host_kind (w.pages.kinds page) ps.1.1.1.1.1.1.1.1.0) h.1.1.0.1
 rows-respect o me (call.VpInit tdr vp value) g w la ps h = vp-initialized g w vp value
+rows-respect o me (call.VpEnter tdr vp most) g w la ps h =
+    (effects-respect g w).enter o.machine me tdr vp la (eqb-true _ tdr (and_parts (same_kind (w.pages.kinds vp) kind.Tdvpr) (w.pages.owners vp == tdr) ps.1.1.1.1.1.1.1.1.0).1) h.0
 rows-respect o me (call.MrExtend tdr gpa) g w la ps h = measured g w tdr _
 rows-respect o me (call.MemSeptAdd tdr gpa level page) g w la ps h =
     let behind = behind_walk w tdr gpa level _ ps.1.1.1.1.1.1.1.1.1.1 in

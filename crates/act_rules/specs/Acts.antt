@@ -15,7 +15,7 @@ use Rattle.flat_core.specs.Conditions.{is_host}
 use Rattle.flat_core.specs.Opening.{Opening}
 use Rattle.flat_core.specs.Row.{Passes}
 use Rattle.flat_core.specs.Table.{row_of}
-use Rattle.flat_core.specs.Effects.{take_node, set_entry, set_op, set_epoch, set_life, set_key, leave_guest}
+use Rattle.flat_core.specs.Effects.{take_node, set_entry, set_op, set_epoch, set_life, set_key, enter_guest, leave_guest}
 use Rattle.word_rules.specs.Guards.{Grip, Locked}
 use Rattle.word_rules.specs.Permissions.{MayAt, Moves, Respects}
 use Rattle.word_rules.specs.Rules.{moves}
@@ -63,6 +63,7 @@ pub record ActsRespect (g : Grip) (w : World) : Type 0 where
   pub epoch : (t e : ℕ) → HoldsTd g t → g.sole (Locked (OfEpoch t)) ≡ true → Respects g w (set_epoch t e w)
   pub epoch_op : (t e : ℕ) → g.has (Locked (OfPage t)) ≡ true → g.sole (Locked (OfOp t)) ≡ true → Respects g w (set_epoch t e w)
   pub life : (t : ℕ) (s : LifeState) → g.has (Locked (OfPage t)) ≡ true → g.sole (Locked (OfPage t)) ≡ true → Respects g w (set_life t s w)
+  pub enter : (m : Machine) (me t v : ℕ) → Lawful m w → w.pages.owners v ≡ t → g.has (Locked (OfPage t)) ≡ true → Respects g w (enter_guest me v (w.tds.epochs t) w)
   pub exit : (m : Machine) (t v : ℕ) → Lawful m w → w.pages.owners v ≡ t → g.has (Locked (OfPage t)) ≡ true → Respects g w (leave_guest v w)
   pub key : (h : ℕ) (k : Key) → (key_owner k ≡ key_owner (w.key_table.keys h)) ⊎ MayAt g (slot_spot w h) moves → Respects g w (set_key h k w)
 

@@ -11,7 +11,7 @@ use Rattle.td_words.specs.declared.refusals.Status.TheVariants.{OperandInvalid, 
 use Rattle.td_words.specs.declared.replies.Reply.{Reply}
 use Rattle.td_words.specs.declared.replies.Reply.TheVariants.{Done, Refused, Exited}
 use Rattle.flat_core.specs.World.{World}
-use Rattle.flat_core.specs.Processor.{LockId, name_of, Held, Phase, Trying, Undoing, Answered, Progress, Guest, Entering, Lp}
+use Rattle.flat_core.specs.Processor.{LockId, name_of, Held, Phase, Trying, Undoing, Answered, Progress, Guest, Entering, new_guest, Lp}
 use Rattle.flat_core.specs.Opening.{Opening}
 use Rattle.flat_core.specs.Row.{Item, Check, Try, Row, Move, Attempts, Refuses, Succeeds, next, next_in, tries_in}
 use Rattle.flat_core.specs.Tree.{is_passed, state_in, levels_above}
@@ -23,9 +23,8 @@ use Rattle.flat_core.specs.Run.{play}
 use Rattle.flat_core.specs.Laws.{IsBetween, AnswersNext, own_items, CallsHaveTheirEvents}
 use Rattle.flat_core.proofs.Tests.{by_test}
 use Rattle.flat_core.proofs.Kept.{others_stay}
-use Rattle.flat_core.proofs.Ends.{row_enters}
 use Rattle.flat_core.proofs.Tries.{rows_try_the_same}
-use Rattle.flat_core.proofs.Refused.{after_here, play_grows, no_more, same_last}
+use Rattle.flat_core.proofs.Refused.{after_here, play_grows, no_more, same_last, HasActed, has_entered, Stays, still, over, own_stays}
 
 -- how many events a call has in all that is answered so, where its row tries n locks
 abbrev Takes : ℕ → Reply → ℕ → Type 0
@@ -142,6 +141,7 @@ row_ordered o me (call.MrExtend t gpa) w = (refl, (refl, (refl, (tt, (tt, (tt, (
 row_ordered o me (call.MrFinalize t) w = (refl, (tt, (tt, (tt, (tt, (tt, tt))))))
 row_ordered o me (call.VpCreate t page) w = (refl, (refl, (refl, (tt, (tt, (tt, (tt, (tt, (tt, tt)))))))))
 row_ordered o me (call.VpInit t vp value) w = (refl, (refl, (refl, (tt, (tt, (tt, (tt, (tt, (tt, tt)))))))))
+row_ordered o me (call.VpEnter t vp most) w = (refl, (refl, (refl, (refl, (tt, (tt, (tt, (tt, (tt, (tt, (tt, tt)))))))))))
 row_ordered o me (call.MemSeptAdd t gpa level page) w = (refl, (refl, (refl, (refl, (refl, (refl, (tt, (tt, (tt, (tt, walk_ordered 3 (is_passed w t gpa) (levels_above level) (state_in w t gpa level (entry.Free ∷ []) ∷ page_exclusive page ∷ host_page w page ∷ []) (tt, (tt, tt))))))))))))
 row_ordered o me (call.MemSeptRd t gpa level) w = (refl, (refl, (refl, (refl, (tt, (tt, (tt, (tt, walk_alone_ordered 3 (is_passed w t gpa) (levels_above level)))))))))
 row_ordered o me (call.MemPageAdd t gpa page source) w = (refl, (refl, (refl, (refl, (refl, (refl, (refl, (refl, (tt, (tt, (tt, (tt, (tt, (tt, (tt, (tt, (tt, (tt, tt))))))))))))))))))
@@ -170,15 +170,71 @@ StandsAt Arguments n k (Undoing l) hs = Unit {0}
 StandsAt Arguments n k (Answered r) [] = ⊥
 StandsAt Arguments n k (Answered r) (h ∷ hs) = Takes n r (k + suc (length hs))
 
--- and its processor after them
-data Comes (Arguments : Type 0) (n k : ℕ) (base : List Reply) (lp : Lp) : Type 0 where
-  goes_on : lp.replies ≡ base → lp.guest ≡ None → StandsAt Arguments n k lp.call.phase lp.call.held → Comes Arguments n k base lp
-  is_done : (r : Reply) → lp.replies ≡ base ++ r ∷ [] → Takes n r k → Comes Arguments n k base lp
+-- a processor after k events of its call: it goes on so, or it is done so
+pub data Comes (At : ℕ → Lp → Type 0) (Last : ℕ → Reply → Type 0) (k : ℕ) (base : List Reply) (lp : Lp) : Type 0 where
+  goes_on : lp.replies ≡ base → At k lp → Comes At Last k base lp
+  is_done : (r : Reply) → lp.replies ≡ base ++ r ∷ [] → Last k r → Comes At Last k base lp
+
+-- Where each event of it comes to that, so does each schedule that brings no reply.
+module _ (o : Opening) (p : ℕ) (base : List Reply) (At : ℕ → Lp → Type 0) (Last : ℕ → Reply → Type 0) (own : (s : State) (k : ℕ) → (s.lps p).replies ≡ base → At k (s.lps p) → Comes At Last (suc k) base ((event o s p).lps p)) where
+  -- a reply would stay
+  still_at : (qs : List ℕ) (s : State) (k : ℕ) → ((play o qs (event o s p)).lps p).replies ≡ base → Comes At Last k base ((event o s p).lps p) → (((event o s p).lps p).replies ≡ base) × At k ((event o s p).lps p)
+  still_at qs s k none_yet (goes_on e at) = (e, at)
+  still_at qs s k none_yet (is_done r e t) =
+      absurd (
+      let grown = play_grows o p qs (event o s p) in
+      let longer = ap length e in
+      let last = ap length none_yet in
+      omega (arith, grown, longer, last, length-append base (r ∷ [])))
+
+  pub counted : (qs : List ℕ) (s : State) (k : ℕ) → (s.lps p).replies ≡ base → At k (s.lps p) → ((play o qs s).lps p).replies ≡ base → At (own_items p qs + k) ((play o qs s).lps p)
+  counted [] s k so_far at none_yet = let e : k ≡ own_items p [] + k = omega arith in subst (λ (m : ℕ). At m (s.lps p)) e at
+  counted (q ∷ qs) s k so_far at none_yet = by_test (q == p)
+      (λ y. let here : p ≡ q = sym (eqb-true q p y) in
+      let own_yet : ((play o qs (event o s p)).lps p).replies ≡ base = subst (λ (x : ℕ). ((play o qs (event o s x)).lps p).replies ≡ base) (sym here) none_yet in
+      let next = still_at qs s (suc k) own_yet (own s k so_far at) in
+      let rest : At (own_items p qs + suc k) ((play o qs (event o s p)).lps p) = counted qs (event o s p) (suc k) next.0 next.1 own_yet in
+      let more : own_items p qs + suc k ≡ own_items p (q ∷ qs) + k = rw y (omega arith) in
+      subst (λ (m : ℕ). At m ((play o qs (event o s q)).lps p)) more (subst (λ (x : ℕ). At (own_items p qs + suc k) ((play o qs (event o s x)).lps p)) here rest))
+      (λ y. let stays : (event o s q).lps p ≡ s.lps p = others_stay o s q p (λ e. eqb-false q p y (sym e)) in
+      let rest : At (own_items p qs + k) ((play o qs (event o s q)).lps p) =
+      counted qs (event o s q) k (ap (λ (x : Lp). x.replies) stays ∙ so_far) (subst (λ (x : Lp). At k x) (sym stays) at) none_yet in
+      let none : own_items p qs + k ≡ own_items p (q ∷ qs) + k = rw y (omega arith) in
+      subst (λ (m : ℕ). At m ((play o qs (event o s q)).lps p)) none rest)
+
+  pub last_comes : (lp : Lp) (k : ℕ) (r : Reply) → lp.replies ≡ base ++ r ∷ [] → Comes At Last k base lp → Last k r
+  last_comes lp k r last (goes_on e at) = absurd (no_more base r (sym e ∙ last))
+  last_comes lp k r last (is_done x e d) = subst (λ (y : Reply). Last k y) (same_last base x r (sym e ∙ last)) d
+
+  -- so of the schedule and the event behind it that brings the reply
+  pub answered_after : (schedule : List ℕ) (s : State) (k : ℕ) (r : Reply) → (s.lps p).replies ≡ base → At k (s.lps p)
+      → ((play o schedule s).lps p).replies ≡ base → ((event o (play o schedule s) p).lps p).replies ≡ base ++ r ∷ [] → Last (suc (own_items p schedule + k)) r
+  answered_after schedule s k r so_far at none_yet last =
+      let t = play o schedule s in
+      last_comes ((event o t p).lps p) (suc (own_items p schedule + k)) r last (own t (own_items p schedule + k) none_yet (counted schedule s k so_far at none_yet))
+
+-- a call that has entered a guest answers no more than its exit
+abbrev IsExit : Reply → Type 0
+IsExit (Exited out) = Unit {0}
+IsExit _ = ⊥
+
+exit_takes : (n m : ℕ) (r : Reply) → IsExit r → Takes n r m
+exit_takes n m (Exited out) h = tt
+exit_takes n m (Done v) h = absurd h
+exit_takes n m (Refused status) h = absurd h
+
+-- where a processor stands after k events of its call: outside guests, or its guest has been in
+data Standing (Arguments : Type 0) (n k : ℕ) (lp : Lp) : Type 0 where
+  outside : lp.guest ≡ None → StandsAt Arguments n k lp.call.phase lp.call.held → Standing Arguments n k lp
+  entered : HasActed IsExit lp → Standing Arguments n k lp
+
+abbrev CallComes : (Arguments : Type 0) (n k : ℕ) → List Reply → Lp → Type 0
+CallComes A n k base lp = Comes (Standing A n) (λ m r. Takes n r m) k base lp
 
 answers : (A : Type 0) (n k : ℕ) (lp : Lp) (r : Reply) (hs : List Held) → lp.guest ≡ None → Takes n r (k + length hs)
-    → Comes A n k lp.replies (settle (Answered r) hs (record lp { call = record { phase = Answered r; held = hs } }))
+    → CallComes A n k lp.replies (settle (Answered r) hs (record lp { call = record { phase = Answered r; held = hs } }))
 answers A n k lp r [] g t = let e : k + 0 ≡ k = omega arith in is_done r refl (subst (Takes n r) e t)
-answers A n k lp r (h ∷ hs) g t = goes_on refl g t
+answers A n k lp r (h ∷ hs) g t = goes_on refl (outside g t)
 
 module _ (o : Opening) (p : ℕ) (c : Call) (v : World) where
   abbrev row : Row
@@ -197,91 +253,59 @@ module _ (o : Opening) (p : ℕ) (c : Call) (v : World) where
     same_tries : n ≡ tries_in (row.items w)
     same_tries = rows_try_the_same o p c v w
 
-    tries : (b : Bool) (l : LockId) (m : Mode) → length lp.call.held < tries_in (row.items w) → ArgumentsHold (row.items w) → Comes Arguments n (suc k) lp.replies (made b (Attempts l m))
-    tries true l m room holding = let e = same_tries in goes_on refl g (omega arith, omega arith, λ some. row_holds o p c w v holding)
-    tries false l Shared room holding = goes_on refl g tt
+    tries : (b : Bool) (l : LockId) (m : Mode) → length lp.call.held < tries_in (row.items w) → ArgumentsHold (row.items w) → CallComes Arguments n (suc k) lp.replies (made b (Attempts l m))
+    tries true l m room holding = let e = same_tries in goes_on refl (outside g (omega arith, omega arith, λ some. row_holds o p c w v holding))
+    tries false l Shared room holding = goes_on refl (outside g tt)
     tries false l Exclusive room holding = answers Arguments n (suc k) lp (call_busy (name_of l)) lp.call.held g tt
 
-    succeeds : tries_in (row.items w) ≤ length lp.call.held → Comes Arguments n (suc k) lp.replies (settled (succeeded w row row.enters lp))
-    succeeds most =
-        let P : Option Entering → Type 0 = λ x. Comes Arguments n (suc k) lp.replies (settled (succeeded w row x lp)) in
-        let e = same_tries in
-        subst P (sym (row_enters o p c)) (answers Arguments n (suc k) (record lp { cached = row.cached w lp.cached }) (Done (row.value w)) lp.call.held g (omega arith))
+    succeeds : lp.call.phase ≡ Trying → tries_in (row.items w) ≤ length lp.call.held → CallComes Arguments n (suc k) lp.replies (settled (succeeded w row row.enters lp))
+    succeeds t most = by row.enters
+      where
+        by : (x : Option Entering) → CallComes Arguments n (suc k) lp.replies (settled (succeeded w row x lp))
+        by None = let e = same_tries in answers Arguments n (suc k) (record lp { cached = row.cached w lp.cached }) (Done (row.value w)) lp.call.held g (omega arith)
+        by (Some x) =
+            let lp1 : Lp = record lp { guest = Some (new_guest x); cached = row.cached w lp.cached } in
+            subst (λ (y : Phase Reply). CallComes Arguments n (suc k) lp.replies (settle y lp.call.held lp1)) (sym t) (goes_on refl (entered (has_entered (new_guest x) refl t)))
 
-    refuses : (r : Reply) → Takes n r (2 * length lp.call.held + 1) → Comes Arguments n (suc k) lp.replies (settle (Answered r) lp.call.held (record lp { call = record { phase = Answered r; held = lp.call.held } }))
+    refuses : (r : Reply) → Takes n r (2 * length lp.call.held + 1) → CallComes Arguments n (suc k) lp.replies (settle (Answered r) lp.call.held (record lp { call = record { phase = Answered r; held = lp.call.held } }))
     refuses r t = let e : 2 * length lp.call.held + 1 ≡ suc k + length lp.call.held = omega arith in answers Arguments n (suc k) lp r lp.call.held g (subst (Takes n r) e t)
 
-    trying : (b : Move Reply → Bool) → let move = next (row.items w) (length lp.call.held) in Comes Arguments n (suc k) lp.replies (made (b move) move)
-    trying b =
-        next_is (λ move. Comes Arguments n (suc k) lp.replies (made (b move) move)) n (length lp.call.held) (row.items w) (length lp.call.held) 0 (row_ordered o p c w)
-        (λ some. row_holds o p c v w (holds some)) refuses succeeds (λ l m room holding. tries (b (Attempts l m)) l m room holding)
+    trying : (b : Move Reply → Bool) → lp.call.phase ≡ Trying → let move = next (row.items w) (length lp.call.held) in CallComes Arguments n (suc k) lp.replies (made (b move) move)
+    trying b t =
+        next_is (λ move. CallComes Arguments n (suc k) lp.replies (made (b move) move)) n (length lp.call.held) (row.items w) (length lp.call.held) 0 (row_ordered o p c w)
+        (λ some. row_holds o p c v w (holds some)) refuses (succeeds t) (λ l m room holding. tries (b (Attempts l m)) l m room holding)
 
   moves : (w : World) (lp : Lp) (phase : Phase Reply) (hs : List Held) (b : Move Reply → Bool) (k : ℕ) → lp.guest ≡ None → StandsAt Arguments n k phase hs
       → let move = next_in (row.items w) phase hs in
-      Comes Arguments n (suc k) lp.replies (settled (call_lp w (b move) row move (record lp { call = record { phase = phase; held = hs } })))
-  moves w lp Trying hs b k g at = trying w (record lp { call = record { phase = Trying; held = hs } }) k g at.0 at.1 at.2 b
+      CallComes Arguments n (suc k) lp.replies (settled (call_lp w (b move) row move (record lp { call = record { phase = phase; held = hs } })))
+  moves w lp Trying hs b k g at = trying w (record lp { call = record { phase = Trying; held = hs } }) k g at.0 at.1 at.2 b refl
   moves w lp (Undoing l) hs b k g at = answers Arguments n (suc k) (record lp { call = record { phase = Undoing l; held = hs } }) (call_busy (name_of l)) hs g tt
   moves w lp (Answered r) [] b k g at = absurd at
   moves w lp (Answered r) (h ∷ hs) b k g at =
       let e : k + suc (length hs) ≡ suc k + length hs = omega arith in
       answers Arguments n (suc k) (record lp { call = record { phase = Answered r; held = h ∷ hs } }) r hs g (subst (Takes n r) e at)
 
-  -- the event of its processor
+  -- the event of its processor outside guests
   module _ (s : State) (k : ℕ) (at : StandsAt Arguments n k (s.lps p).call.phase (s.lps p).call.held) where
     by_guest : (g : Option Guest) → (s.lps p).guest ≡ None → g ≡ None
-        → let e = line_event o s.world (s.lps p) row g in Comes Arguments n (suc k) (s.lps p).replies (lp_after s.world (is_granted s e) e (s.lps p))
+        → let e = line_event o s.world (s.lps p) row g in CallComes Arguments n (suc k) (s.lps p).replies (lp_after s.world (is_granted s e) e (s.lps p))
     by_guest None g e = moves s.world (s.lps p) (s.lps p).call.phase (s.lps p).call.held (λ m. is_granted s (OfCall row m)) k g at
     by_guest (Some x) g e = cc
 
-    own_event : (cs : List Call) → (s.lps p).guest ≡ None → lines_left o p (s.lps p) ≡ c ∷ cs → Comes Arguments n (suc k) (s.lps p).replies ((event o s p).lps p)
-    own_event cs g line =
+    outside_event : (cs : List Call) → (s.lps p).guest ≡ None → lines_left o p (s.lps p) ≡ c ∷ cs → CallComes Arguments n (suc k) (s.lps p).replies ((event o s p).lps p)
+    outside_event cs g line =
         let e : Event = line_event o s.world (s.lps p) row (s.lps p).guest in
-        let P : List Call → Type 0 = λ x. Comes Arguments n (suc k) (s.lps p).replies ((after_event p s (event_for o s.world p (s.lps p) x)).lps p) in
-        subst P (sym line) (subst (λ (z : Lp). Comes Arguments n (suc k) (s.lps p).replies z) (sym (after_here p s e)) (by_guest (s.lps p).guest g g))
+        let P : List Call → Type 0 = λ x. CallComes Arguments n (suc k) (s.lps p).replies ((after_event p s (event_for o s.world p (s.lps p) x)).lps p) in
+        subst P (sym line) (subst (λ (z : Lp). CallComes Arguments n (suc k) (s.lps p).replies z) (sym (after_here p s e)) (by_guest (s.lps p).guest g g))
 
-  -- a state after k events of the call, which has no reply yet
-  record IsAfter (base : List Reply) (k : ℕ) (s : State) : Type 0 where
-    so_far : (s.lps p).replies ≡ base
-    guest : (s.lps p).guest ≡ None
-    at : StandsAt Arguments n k (s.lps p).call.phase (s.lps p).call.held
-
-  module _ (base : List Reply) (cs : List Call) (line : drop (length base) (calls_of o.calls p) ≡ c ∷ cs) where
-    own : (s : State) (k : ℕ) → IsAfter base k s → Comes Arguments n (suc k) base ((event o s p).lps p)
-    own s k h =
-        let left : lines_left o p (s.lps p) ≡ c ∷ cs = ap (λ (rs : List Reply). drop (length rs) (calls_of o.calls p)) h.so_far ∙ line in
-        subst (λ (rs : List Reply). Comes Arguments n (suc k) rs ((event o s p).lps p)) h.so_far (own_event s k h.at cs h.guest left)
-
-    -- a reply would stay
-    still : (qs : List ℕ) (s : State) (k : ℕ) → ((play o qs (event o s p)).lps p).replies ≡ base → Comes Arguments n k base ((event o s p).lps p) → IsAfter base k (event o s p)
-    still qs s k none_yet (goes_on e g at) = record { so_far = e; guest = g; at = at }
-    still qs s k none_yet (is_done r e t) =
-        absurd (
-        let grown = play_grows o p qs (event o s p) in
-        let longer = ap length e in
-        let last = ap length none_yet in
-        omega (arith, grown, longer, last, length-append base (r ∷ [])))
-
-    counted : (qs : List ℕ) (s : State) (k : ℕ) → IsAfter base k s → ((play o qs s).lps p).replies ≡ base → IsAfter base (own_items p qs + k) (play o qs s)
-    counted [] s k h none_yet = let e : k ≡ own_items p [] + k = omega arith in subst (λ (m : ℕ). IsAfter base m s) e h
-    counted (q ∷ qs) s k h none_yet = by_test (q == p)
-        (λ y. let here : p ≡ q = sym (eqb-true q p y) in
-        let own_yet : ((play o qs (event o s p)).lps p).replies ≡ base = subst (λ (x : ℕ). ((play o qs (event o s x)).lps p).replies ≡ base) (sym here) none_yet in
-        let rest : IsAfter base (own_items p qs + suc k) (play o qs (event o s p)) = counted qs (event o s p) (suc k) (still qs s (suc k) own_yet (own s k h)) own_yet in
-        let more : own_items p qs + suc k ≡ own_items p (q ∷ qs) + k = rw y (omega arith) in
-        subst (λ (m : ℕ). IsAfter base m (play o qs (event o s q))) more (subst (λ (x : ℕ). IsAfter base (own_items p qs + suc k) (play o qs (event o s x))) here rest))
-        (λ y. let stays : (event o s q).lps p ≡ s.lps p = others_stay o s q p (λ e. eqb-false q p y (sym e)) in
-        let h' : IsAfter base k (event o s q) = record {
-          so_far = ap (λ (x : Lp). x.replies) stays ∙ h.so_far;
-          guest = ap (λ (x : Lp). x.guest) stays ∙ h.guest;
-          at = subst (λ (x : Lp). StandsAt Arguments n k x.call.phase x.call.held) (sym stays) h.at;
-        } in
-        let rest : IsAfter base (own_items p qs + k) (play o qs (event o s q)) = counted qs (event o s q) k h' none_yet in
-        let none : own_items p qs + k ≡ own_items p (q ∷ qs) + k = rw y (omega arith) in
-        subst (λ (m : ℕ). IsAfter base m (play o qs (event o s q))) none rest)
-
-    last_comes : (t : State) (k : ℕ) (r : Reply) → ((event o t p).lps p).replies ≡ base ++ r ∷ [] → Comes Arguments n k base ((event o t p).lps p) → Takes n r k
-    last_comes t k r last (goes_on e g at) = absurd (no_more base r (sym e ∙ last))
-    last_comes t k r last (is_done x e takes) = subst (λ (y : Reply). Takes n y k) (same_last base x r (sym e ∙ last)) takes
+  -- and any other
+  own_event : (cs : List Call) (s : State) (k : ℕ) → lines_left o p (s.lps p) ≡ c ∷ cs → Standing Arguments n k (s.lps p) → CallComes Arguments n (suc k) (s.lps p).replies ((event o s p).lps p)
+  own_event cs s k line (outside g at) = outside_event s k at cs g line
+  own_event cs s k line (entered u) = by (own_stays o s p IsExit (λ out. tt) u)
+    where
+      by : Stays IsExit (s.lps p).replies ((event o s p).lps p) → CallComes Arguments n (suc k) (s.lps p).replies ((event o s p).lps p)
+      by (still e a) = goes_on e (entered a)
+      by (over r x e) = is_done r e (exit_takes n (suc k) r x)
 
 -- so many events has a call in all
 takes : (o : Opening) (s : State) (p : ℕ) (schedule : List ℕ) (c : Call) (cs : List Call) (r : Reply) → IsBetween (s.lps p) → lines_left o p (s.lps p) ≡ c ∷ cs → AnswersNext o s p schedule r
@@ -291,15 +315,11 @@ takes o s p schedule c cs r b line h =
     let A = Arguments o p c s.world in
     let m = n o p c s.world in
     let first : StandsAt A m 0 Trying [] = (refl, omega arith, λ some. absurd (omega arith)) in
-    let begin : IsAfter o p c s.world base 0 s = record {
-      so_far = refl;
-      guest = b.guest;
-      at = subst (λ (x : Progress Reply). StandsAt A m 0 x.phase x.held) (sym b.call) first;
-    } in
-    let t = play o schedule s in
-    let k = own_items p schedule + 0 in
-    let after : IsAfter o p c s.world base k t = counted o p c s.world base cs line schedule s 0 begin h.none_yet in
-    last_comes o p c s.world base cs line t (suc k) r h.last (own o p c s.world base cs line t k after)
+    let at : StandsAt A m 0 (s.lps p).call.phase (s.lps p).call.held = subst (λ (x : Progress Reply). StandsAt A m 0 x.phase x.held) (sym b.call) first in
+    answered_after o p base (Standing A m) (λ k r. Takes m r k)
+    (λ t k so_far at. (let left : lines_left o p (t.lps p) ≡ c ∷ cs = ap (λ (rs : List Reply). drop (length rs) (calls_of o.calls p)) so_far ∙ line in
+    subst (λ (rs : List Reply). CallComes A m (suc k) rs ((event o t p).lps p)) so_far (own_event o p c s.world cs t k left at)))
+    schedule s 0 r refl (outside b.guest at) h.none_yet h.last
 
 -- where no line is left there is no reply to come
 some_line : (o : Opening) (s : State) (p : ℕ) (schedule : List ℕ) (r : Reply) → lines_left o p (s.lps p) ≡ [] → AnswersNext o s p schedule r → ⊥

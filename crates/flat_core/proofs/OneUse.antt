@@ -1,5 +1,5 @@
 -- Pages have one use: what a call takes was the host's, and nothing but a call's act changes what a page is used for.
-use Rattle.std.proofs.Common.{lit≤, ◌≡◌, refl, sym, ◌∙◌, ap, subst, ℕ, zero, suc, ◌+◌, List, [], ◌∷◌, length, Option, Some, None, true, false, ◌==◌}
+use Rattle.std.proofs.Common.{lit≤, ◌≡◌, refl, sym, ◌∙◌, ap, subst, ℕ, ◌+◌, List, [], ◌∷◌, length, Option, Some, None, true, false, ◌==◌}
 use Rattle.std.proofs.lemmas.Bool.{eqb-true}
 use Rattle.td_words.specs.declared.names.PageKind.{PageKind}
 use Rattle.td_words.specs.declared.names.EntryState.TheVariants as entry
@@ -13,7 +13,7 @@ use Rattle.td_words.specs.declared.replies.Reply.{Reply}
 use Rattle.flat_core.specs.World.{World, Pages}
 use Rattle.flat_core.specs.Processor.{Phase, Trying, Undoing, Answered, Held, Lp}
 use Rattle.flat_core.specs.Opening.{Opening}
-use Rattle.flat_core.specs.Row.{Item, Check, Try, OperationRow, Move, Attempts, Undoes, Refuses, Succeeds, Releases, Rests, Passes, next, next_in}
+use Rattle.flat_core.specs.Row.{OperationRow, Move, Attempts, Undoes, Refuses, Succeeds, Releases, Rests, Passes, next, next_in}
 use Rattle.flat_core.specs.Conditions.{is_host_in, host_page, page_exclusive}
 use Rattle.flat_core.specs.Effects.{take_node, tell_words}
 use Rattle.flat_core.specs.Tree.{state_in}
@@ -25,6 +25,7 @@ use Rattle.flat_core.specs.PageUses.{is_act, is_act_giving_back, EventsKeepUses}
 use Rattle.flat_core.proofs.Tests.{by_test, range_of}
 use Rattle.flat_core.proofs.Maps.{walk_passed}
 use Rattle.flat_core.proofs.Operations.{operation_row, accepted}
+use Rattle.flat_core.proofs.Enter.{all_pass}
 use Rattle.flat_core.proofs.Due.{Due, calls, frees, leaves, stops, fills, operates, walks, reaches, undoes, gives_back, due_event_is}
 
 abbrev same_use : (pages : Pages) (p : ℕ) → IsUsedAsBefore pages pages p
@@ -74,14 +75,6 @@ reach_uses : (t v : ℕ) (access : Access) (r gpa page : ℕ) (w : World) (q : �
 reach_uses t v Read r gpa page w q = same_use w.pages q
 reach_uses t v Write r gpa page w q = same_use w.pages q
 
--- a call that goes on to its act has passed each condition
-acts_passed : (items : List (Item Reply)) (n : ℕ) → next items n ≡ Succeeds → Passes items
-acts_passed [] n e = tt
-acts_passed (Check true r ∷ items) n e = (refl, acts_passed items n e)
-acts_passed (Check false r ∷ items) n e = cc
-acts_passed (Try l m ∷ items) zero e = cc
-acts_passed (Try l m ∷ items) (suc n) e = acts_passed items n e
-
 module _ (o : Opening) (s : State) (p q : ℕ) where
   abbrev lp : Lp
   lp = s.lps p
@@ -101,7 +94,7 @@ module _ (o : Opening) (s : State) (p q : ℕ) where
     by_move c cs Rests passed a = same_use s.world.pages q
 
     passed_in : (c : Call) (phase : Phase Reply) (hs : List Held) → next_in ((row_of o p c).items s.world) phase hs ≡ Succeeds → Passes ((row_of o p c).items s.world)
-    passed_in c Trying hs e = acts_passed ((row_of o p c).items s.world) (length hs) e
+    passed_in c Trying hs e = all_pass ((row_of o p c).items s.world) (length hs) e
     passed_in c (Undoing l) hs e = cc
     passed_in c (Answered r) [] e = cc
     passed_in c (Answered r) (x ∷ hs) e = cc

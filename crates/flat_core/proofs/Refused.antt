@@ -97,10 +97,13 @@ MayRefuse Trying = Unit {0}
 MayRefuse (Undoing l) = Unit {0}
 MayRefuse (Answered r) = IsRefusal r
 
--- a call that is answered otherwise, or whose guest is in: only its exit is left to be answered
-pub data HasActed (lp : Lp) : Type 0 where
-  has_answered : (r : Reply) → (IsRefusal r → ⊥) → lp.call.phase ≡ Answered r → lp.guest ≡ None → HasActed lp
-  has_entered : (g : Guest) → lp.guest ≡ Some g → lp.call.phase ≡ Trying → HasActed lp
+-- a call that has such an answer, or whose guest is in: only its exit is left to be answered
+pub data HasActed (P : Reply → Type 0) (lp : Lp) : Type 0 where
+  has_answered : (r : Reply) → P r → lp.call.phase ≡ Answered r → lp.guest ≡ None → HasActed P lp
+  has_entered : (g : Guest) → lp.guest ≡ Some g → lp.call.phase ≡ Trying → HasActed P lp
+
+abbrev IsOther : Reply → Type 0
+IsOther r = IsRefusal r → ⊥
 
 pub record IsUnacted (lp : Lp) : Type 0 where
   pub call : MayRefuse lp.call.phase
@@ -110,7 +113,7 @@ pub record IsUnacted (lp : Lp) : Type 0 where
 pub data Came (e : Event) (base : List Reply) (lp : Lp) : Type 0 where
   goes_on : IsQuiet e → lp.replies ≡ base → IsUnacted lp → Came e base lp
   is_refused : IsQuiet e → (s : Status) → lp.replies ≡ base ++ Refused s ∷ [] → Came e base lp
-  has_acted : lp.replies ≡ base → HasActed lp → Came e base lp
+  has_acted : lp.replies ≡ base → HasActed IsOther lp → Came e base lp
   is_done : (r : Reply) → (IsRefusal r → ⊥) → lp.replies ≡ base ++ r ∷ [] → Came e base lp
 
 acting : (e : Event) (lp : Lp) (r : Reply) (hs : List Held) → (IsRefusal r → ⊥) → lp.guest ≡ None → Came e lp.replies (settle (Answered r) hs (record lp { call = record { phase = Answered r; held = hs } }))
@@ -160,24 +163,24 @@ from_phase w row lp (Answered (Done v)) hs b g may = absurd may
 from_phase w row lp (Answered (Exited out)) hs b g may = absurd may
 
 -- the event of a call that has acted
-pub data Stays (base : List Reply) (lp : Lp) : Type 0 where
-  still : lp.replies ≡ base → HasActed lp → Stays base lp
-  over : (r : Reply) → (IsRefusal r → ⊥) → lp.replies ≡ base ++ r ∷ [] → Stays base lp
+pub data Stays (P : Reply → Type 0) (base : List Reply) (lp : Lp) : Type 0 where
+  still : lp.replies ≡ base → HasActed P lp → Stays P base lp
+  over : (r : Reply) → P r → lp.replies ≡ base ++ r ∷ [] → Stays P base lp
 
-answered_stays : (w : World) (row : Row) (lp : Lp) (r : Reply) (hs : List Held) (b : Move Reply → Bool) → (IsRefusal r → ⊥) → lp.guest ≡ None
-    → let move = next_in (row.items w) (Answered r) hs in Stays lp.replies (settled (call_lp w (b move) row move (record lp { call = record { phase = Answered r; held = hs } })))
-answered_stays w row lp r [] b n g = over r n refl
-answered_stays w row lp r (h ∷ []) b n g = over r n refl
-answered_stays w row lp r (h ∷ x ∷ hs) b n g = still refl (has_answered r n refl g)
+answered_stays : (P : Reply → Type 0) (w : World) (row : Row) (lp : Lp) (r : Reply) (hs : List Held) (b : Move Reply → Bool) → P r → lp.guest ≡ None
+    → let move = next_in (row.items w) (Answered r) hs in Stays P lp.replies (settled (call_lp w (b move) row move (record lp { call = record { phase = Answered r; held = hs } })))
+answered_stays P w row lp r [] b n g = over r n refl
+answered_stays P w row lp r (h ∷ []) b n g = over r n refl
+answered_stays P w row lp r (h ∷ x ∷ hs) b n g = still refl (has_answered r n refl g)
 
 -- a guest's event: it stays in, or is left
-stays_in : (lp lp' : Lp) (g : Guest) → lp.call.phase ≡ Trying → lp'.replies ≡ lp.replies → lp'.call ≡ lp.call → lp'.guest ≡ Some g → Stays lp.replies lp'
-stays_in lp lp' g t rs cl gs = still rs (has_entered g gs (ap (λ (x : Progress Reply). x.phase) cl ∙ t))
+stays_in : (P : Reply → Type 0) (lp lp' : Lp) (g : Guest) → lp.call.phase ≡ Trying → lp'.replies ≡ lp.replies → lp'.call ≡ lp.call → lp'.guest ≡ Some g → Stays P lp.replies lp'
+stays_in P lp lp' g t rs cl gs = still rs (has_entered g gs (ap (λ (x : Progress Reply). x.phase) cl ∙ t))
 
-frees_stays : (w : World) (b : Bool) (row : Row) (h : Held) (lp : Lp) (g : Guest) → lp.guest ≡ Some g → lp.call.phase ≡ Trying → Stays lp.replies (settled (call_lp w b row (Releases h) lp))
-frees_stays w b row h lp g guest t =
+frees_stays : (P : Reply → Type 0) (w : World) (b : Bool) (row : Row) (h : Held) (lp : Lp) (g : Guest) → lp.guest ≡ Some g → lp.call.phase ≡ Trying → Stays P lp.replies (settled (call_lp w b row (Releases h) lp))
+frees_stays P w b row h lp g guest t =
     let lp1 : Lp = record lp { call = record { phase = lp.call.phase; held = but_newest lp.call.held } } in
-    subst (λ (x : Phase Reply). Stays lp.replies (settle x (but_newest lp.call.held) lp1)) (sym t) (still refl (has_entered g guest t))
+    subst (λ (x : Phase Reply). Stays P lp.replies (settle x (but_newest lp.call.held) lp1)) (sym t) (still refl (has_entered g guest t))
 
 -- the processor's own event, if it has one
 pub data OwnCame (x : Option Event) (base : List Reply) (lp : Lp) : Type 0 where
@@ -203,48 +206,48 @@ module _ (o : Opening) (s : State) (p : ℕ) where
   own_event u = by_lines (lines_left o p lp) u
 
   -- of a call that has acted
-  module _ (b : Event → Bool) where
-    of_call : (c : Call) → lp.guest ≡ None → HasActed lp → let mv = next_in ((row_of o p c).items s.world) lp.call.phase lp.call.held in Stays lp.replies (lp_after s.world (b (OfCall (row_of o p c) mv)) (OfCall (row_of o p c) mv) lp)
+  module _ (P : Reply → Type 0) (exits : (out : Outcome) → P (Exited out)) (b : Event → Bool) where
+    of_call : (c : Call) → lp.guest ≡ None → HasActed P lp → let mv = next_in ((row_of o p c).items s.world) lp.call.phase lp.call.held in Stays P lp.replies (lp_after s.world (b (OfCall (row_of o p c) mv)) (OfCall (row_of o p c) mv) lp)
     of_call c g (has_answered r n t g0) =
-        let P : Phase Reply → Type 0 = λ phase. let mv = next_in ((row_of o p c).items s.world) phase lp.call.held in Stays lp.replies (settled (call_lp s.world (b (OfCall (row_of o p c) mv)) (row_of o p c) mv (record lp { call = record { phase = phase; held = lp.call.held } }))) in
-        subst P (sym t) (answered_stays s.world (row_of o p c) lp r lp.call.held (λ m. b (OfCall (row_of o p c) m)) n g)
+        let Q : Phase Reply → Type 0 = λ phase. let mv = next_in ((row_of o p c).items s.world) phase lp.call.held in Stays P lp.replies (settled (call_lp s.world (b (OfCall (row_of o p c) mv)) (row_of o p c) mv (record lp { call = record { phase = phase; held = lp.call.held } }))) in
+        subst Q (sym t) (answered_stays P s.world (row_of o p c) lp r lp.call.held (λ m. b (OfCall (row_of o p c) m)) n g)
     of_call c g (has_entered x is t) = absurd (let no : None ≡ Some x = sym g ∙ is in cc)
 
     -- its call is on its way
-    entered_trying : (g : Guest) → lp.guest ≡ Some g → HasActed lp → lp.call.phase ≡ Trying
+    entered_trying : (g : Guest) → lp.guest ≡ Some g → HasActed P lp → lp.call.phase ≡ Trying
     entered_trying g is (has_answered r n t none) = absurd (let no : None ≡ Some g = sym none ∙ is in cc)
     entered_trying g is (has_entered x same t) = t
 
-    of_operation : (row : OperationRow) (mv : Move (Option Outcome)) (g : Guest) → lp.guest ≡ Some g → HasActed lp → Stays lp.replies (lp_after s.world (b (OfOperation row mv)) (OfOperation row mv) lp)
+    of_operation : (row : OperationRow) (mv : Move (Option Outcome)) (g : Guest) → lp.guest ≡ Some g → HasActed P lp → Stays P lp.replies (lp_after s.world (b (OfOperation row mv)) (OfOperation row mv) lp)
     of_operation row mv g is u =
         let e : Event = OfOperation row mv in
-        stays_in lp (lp_after s.world (b e) e lp) (operation_guest s.world (b e) row mv g) (entered_trying g is u) refl refl (ap (λ (x : Option Guest). option_map (operation_guest s.world (b e) row mv) x) is)
+        stays_in P lp (lp_after s.world (b e) e lp) (operation_guest s.world (b e) row mv g) (entered_trying g is u) refl refl (ap (λ (x : Option Guest). option_map (operation_guest s.world (b e) row mv) x) is)
 
-    of_leave : (g : Guest) (out : Outcome) → Stays lp.replies (lp_after s.world (b (Leaves g.vp out)) (Leaves g.vp out) lp)
-    of_leave g out = still refl (has_answered (Exited out) (λ x. x) refl refl)
+    of_leave : (g : Guest) (out : Outcome) → Stays P lp.replies (lp_after s.world (b (Leaves g.vp out)) (Leaves g.vp out) lp)
+    of_leave g out = still refl (has_answered (Exited out) (exits out) refl refl)
 
-    of_due : (e : Event) → Due o s.world p lp e → HasActed lp → Stays lp.replies (lp_after s.world (b e) e lp)
+    of_due : (e : Event) → Due o s.world p lp e → HasActed P lp → Stays P lp.replies (lp_after s.world (b e) e lp)
     of_due e (calls c cs line g) u = of_call c g u
-    of_due e (frees c cs g h hs line guest held epoch) u = frees_stays s.world (b (OfCall (row_of o p c) (Releases h))) (row_of o p c) h lp g guest (entered_trying g guest u)
+    of_due e (frees c cs g h hs line guest held epoch) u = frees_stays P s.world (b (OfCall (row_of o p c) (Releases h))) (row_of o p c) h lp g guest (entered_trying g guest u)
     of_due e (leaves c cs g out i l) u = of_leave g out
     of_due e (stops c cs g i l t d) u = of_leave g Stop
     of_due e (fills c cs g op i l t d m) u = of_leave g Max
     of_due e (operates c cs g op row i way is) u = of_operation row (next (row.items s.world) (length g.operation.held)) g i.guest u
     of_due e (walks c cs g op access r gpa i way is lost) u =
-        stays_in lp (lp_after s.world (b (Walks access gpa)) (Walks access gpa) lp) (settled_guest (walk_step s.world g access gpa)) (entered_trying g i.guest u) refl refl
+        stays_in P lp (lp_after s.world (b (Walks access gpa)) (Walks access gpa) lp) (settled_guest (walk_step s.world g access gpa)) (entered_trying g i.guest u) refl refl
         (ap (λ (x : Option Guest). option_map (λ y. settled_guest (walk_step s.world y access gpa)) x) i.guest)
     of_due e (reaches c cs g op access r gpa page i way is found) u =
         let x : Event = Reaches g.tdr g.vp access r gpa page in
-        stays_in lp (lp_after s.world (b x) x lp) (settled_guest (with_answer None g)) (entered_trying g i.guest u) refl refl (ap (λ (y : Option Guest). option_map (λ z. settled_guest (with_answer None z)) y) i.guest)
+        stays_in P lp (lp_after s.world (b x) x lp) (settled_guest (with_answer None g)) (entered_trying g i.guest u) refl refl (ap (λ (y : Option Guest). option_map (λ z. settled_guest (with_answer None z)) y) i.guest)
     of_due e (undoes c cs g l i stays h) u = of_operation nothing_more (Undoes l) g i.guest u
     of_due e (gives_back c cs g out i stays h) u = of_operation nothing_more (next_in [] (Answered out) g.operation.held) g i.guest u
 
-  own_stays : HasActed lp → Stays lp.replies ((event o s p).lps p)
-  own_stays u = by (next_event o s p) refl
+  pub own_stays : (P : Reply → Type 0) → ((out : Outcome) → P (Exited out)) → HasActed P lp → Stays P lp.replies ((event o s p).lps p)
+  own_stays P exits u = by (next_event o s p) refl
     where
-      by : (x : Option Event) → next_event o s p ≡ x → Stays lp.replies ((after_event p s x).lps p)
+      by : (x : Option Event) → next_event o s p ≡ x → Stays P lp.replies ((after_event p s x).lps p)
       by None is = still refl u
-      by (Some e) is = subst (λ (z : Lp). Stays lp.replies z) (sym (after_here p s e)) (of_due (is_granted s) e (due_event_is o s p e is) u)
+      by (Some e) is = subst (λ (z : Lp). Stays P lp.replies z) (sym (after_here p s e)) (of_due P exits (is_granted s) e (due_event_is o s p e is) u)
 
 pub same_last : (base : List Reply) (r q : Reply) → base ++ r ∷ [] ≡ base ++ q ∷ [] → r ≡ q
 same_last [] r q h = cc
@@ -281,27 +284,27 @@ module _ (o : Opening) (p : ℕ) (base : List Reply) (status : Status) where
 
   -- a call that has acted is never refused
   abbrev Never : List ℕ → Type 0
-  Never qs = (s : State) → Ahead o p base status qs s → HasActed (s.lps p) → ⊥
+  Never qs = (s : State) → Ahead o p base status qs s → HasActed IsOther (s.lps p) → ⊥
 
-  last_acted : (s : State) → (s.lps p).replies ≡ base → ((event o s p).lps p).replies ≡ base ++ Refused status ∷ [] → Stays (s.lps p).replies ((event o s p).lps p) → ⊥
+  last_acted : (s : State) → (s.lps p).replies ≡ base → ((event o s p).lps p).replies ≡ base ++ Refused status ∷ [] → Stays IsOther (s.lps p).replies ((event o s p).lps p) → ⊥
   last_acted s e last (still k a) = no_more base (Refused status) (sym e ∙ sym k ∙ last)
   last_acted s e last (over r n k) =
       let both : base ++ r ∷ [] ≡ base ++ Refused status ∷ [] = ap (λ (b : List Reply). b ++ r ∷ []) (sym e) ∙ sym k ∙ last in
       n (subst IsRefusal (sym (same_last base r (Refused status) both)) tt)
 
   own_acted : (qs : List ℕ) (s : State) → Never qs → (s.lps p).replies ≡ base
-      → ((play o qs (event o s p)).lps p).replies ≡ base → ((event o (play o qs (event o s p)) p).lps p).replies ≡ base ++ Refused status ∷ [] → Stays (s.lps p).replies ((event o s p).lps p) → ⊥
+      → ((play o qs (event o s p)).lps p).replies ≡ base → ((event o (play o qs (event o s p)) p).lps p).replies ≡ base ++ Refused status ∷ [] → Stays IsOther (s.lps p).replies ((event o s p).lps p) → ⊥
   own_acted qs s never e same last (still k a) = never (event o s p) (record { so_far = k ∙ e; then_ = same; last = last }) a
   own_acted qs s never e same last (over r n k) = too_long qs s r e same k
 
   never_refused : (qs : List ℕ) → Never qs
-  never_refused [] s h u = last_acted s h.so_far h.last (own_stays o s p u)
+  never_refused [] s h u = last_acted s h.so_far h.last (own_stays o s p IsOther (λ out x. x) u)
   never_refused (q ∷ qs) s h u =
       let never = never_refused qs in
       by_test (p == q)
-      (λ y. let h' = own_first q qs s (eqb-true p q y) h in own_acted qs s never h.so_far h'.0 h'.1 (own_stays o s p u))
+      (λ y. let h' = own_first q qs s (eqb-true p q y) h in own_acted qs s never h.so_far h'.0 h'.1 (own_stays o s p IsOther (λ out x. x) u))
       (λ y. let stays : (event o s q).lps p ≡ s.lps p = others_stay o s q p (eqb-false p q y) in
-      never (event o s q) (other_first q qs s y h) (subst (λ (x : Lp). HasActed x) (sym stays) u))
+      never (event o s q) (other_first q qs s y h) (subst (λ (x : Lp). HasActed IsOther x) (sym stays) u))
 
   -- each own event up to a refusal is quiet
   abbrev Quiet : List ℕ → Type 0

@@ -28,7 +28,10 @@ pub mod Guests
 pub mod Inside
 pub mod Access
 pub mod Laws
+pub mod Rtmrs
+pub mod PageUses
 pub mod AccessLaw
+pub mod TwoWorlds
 pub mod Order
 pub mod Bounds
 pub mod Replies

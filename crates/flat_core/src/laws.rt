@@ -1,27 +1,38 @@
 //! Laws of the flat machine, as contracts of functions that do nothing.
 
-ghost use Rattle.flat_core.specs.Worked.{Examples};
-ghost use Rattle.flat_core.specs.Tries.{RowsTryTheirLists};
-ghost use Rattle.flat_core.specs.Bounds.{RowsTryFew, TimelinessIsKept, TimelyEventsRunOut, EventsRunOut, RunsEnd};
+ghost use Rattle.flat_core.specs.AccessLaw.{AccessIsKept, AccessAlwaysHolds, GuestsReachTheirOwn, LoadsGiveTheirOwn, MemoriesAreKept, CachesAreKept, CachesAreSmall, RoomIsUsed};
+ghost use Rattle.flat_core.specs.Bounds.{RowsTryFew, TimelinessIsKept, TimelyEventsRunOut, EventsRunOut, RunsEnd, EntriesAreBounded};
+ghost use Rattle.flat_core.specs.GuestWorked.{GuestExamples};
+ghost use Rattle.flat_core.specs.Guests.{RowsSpare};
+ghost use Rattle.flat_core.specs.Laws.{RowsKeep, RowsAreBlind, MrtdIsTheDigest, RecordsAreMeasured, LawfulIsKept, EveryWorldIsLawful, LawfulPagesAreOwned, OwnersAreKept, EveryPageIsOwned, LawfulWorldsAreCounted, CountsAreKept, ExportedAreCounted, OthersStay, QuietEventsStay, NoWordsToTell, ExclusionIsKept, LocksExclude, BlindRunsPrintTheSame, BlindRunsMakeTheSameBundles, AgreeingRunsShowTheSame, RowsTryTheSame, EventsKeepLawful, MrtdsAreKept, EveryMrtdIsTheDigest, EventsMeasure, PagesHaveOneUse, GuestsKnowTheirPages, ToldAreMerged, OperationsTellBoth};
 ghost use Rattle.flat_core.specs.Order.{OrderIsKept, TreeIsFreeInOrder, TreeIsNeverBusy};
-ghost use Rattle.flat_core.specs.Replies.{RepliesComeOneByOne, RepliesAreKept, RepliesAreToLines, EveryLineIsAnswered};
-ghost use Rattle.flat_core.specs.Laws.{RowsKeep, RowsAreBlind, MrtdIsTheDigest, RecordsAreMeasured, LawfulIsKept, EveryWorldIsLawful, LawfulPagesAreOwned, OwnersAreKept, EveryPageIsOwned, LawfulWorldsAreCounted, CountsAreKept, ExportedAreCounted, OthersStay, QuietEventsStay, NoWordsToTell, ExclusionIsKept, LocksExclude, BlindRunsPrintTheSame, BlindRunsMakeTheSameBundles, AgreeingRunsShowTheSame, RefusedCallsStay, QuietCallsKeep, RefusalsLeaveTheirReply, RowsTryTheSame, CallsHaveTheirEvents, EventsKeepLawful, MrtdsAreKept, EveryMrtdIsTheDigest, EventsMeasure, PagesHaveOneUse, MemoriesAreKept, GuestsKnowTheirPages, ToldAreMerged, OperationsTellBoth};
+ghost use Rattle.flat_core.specs.PageUses.{EventsKeepUses};
+ghost use Rattle.flat_core.specs.Rtmrs.{EventsExtend};
+ghost use Rattle.flat_core.specs.Tries.{RowsTryTheirLists};
+ghost use Rattle.flat_core.specs.TwoWorlds.{OperationsAreBlind, EventsAreBlind};
+ghost use Rattle.flat_core.specs.Worked.{Examples};
 
 /// The worked examples: replies of small runs, and how many events they take.
 pub fn worked_examples()
     ensures { Examples }
 {}
 
+/// The worked examples of guests: their exits, notes and told words, and how many events they take.
+pub fn guest_examples()
+    ensures { GuestExamples }
+{}
+
 /// The two facts beside each row: its act keeps what every world keeps, and it is blind to private
 /// words. And MRTD is read as the digest of what was measured: the records of pages added and of
 /// chunks, in their order, and nothing else. A page that isn't the host's keeps its one use until
-/// PHYMEM.PAGE.RECLAIM gives it back.
+/// PHYMEM.PAGE.RECLAIM gives it back, and no event but a call's act changes what pages are used for.
 pub fn row_laws()
     ensures keep { RowsKeep }
     ensures blind { RowsAreBlind }
     ensures mrtd { MrtdIsTheDigest }
     ensures records { RecordsAreMeasured }
     ensures one_use { PagesHaveOneUse }
+    ensures uses { EventsKeepUses }
 {}
 
 /// Every run starts in a lawful world, each event keeps it lawful, whatever bundles have come in, and
@@ -53,17 +64,40 @@ pub fn count_law()
     ensures run { ExportedAreCounted }
 {}
 
+/// The act of each call leaves a virtual processor as it is that is in guest on another logical
+/// processor.
+pub fn guest_law()
+    ensures { RowsSpare }
+{}
+
+/// No stale translation is used: what each cached translation that may still be used, and each walk
+/// under way, says of the secure EPT holds at the start of every run, after each event, whatever
+/// bundles have come in, and so after any schedule. So each access of a guest through a translation
+/// reaches a private page of its own TD, which the TD's map names at that GPA page, and a load gives
+/// the word that the guest knows from its own events.
+pub fn access_law()
+    ensures kept { AccessIsKept }
+    ensures run { AccessAlwaysHolds }
+    ensures own { GuestsReachTheirOwn }
+    ensures loads { LoadsGiveTheirOwn }
+{}
+
+/// A logical processor has at most 16 translations cached, no two of one GPA page of a TD: at the start
+/// of every run, after each event, whatever bundles have come in, and so after any schedule. Caching
+/// one more drops none of another GPA page while there is room.
+pub fn cache_law()
+    ensures kept { CachesAreKept }
+    ensures run { CachesAreSmall }
+    ensures room { RoomIsUsed }
+{}
+
 /// An event of one processor leaves the others' records alone; what is refused, tried, undone or
-/// released changes nothing but locks and the processor's own record; and so a call that is refused
-/// changes nothing from its first event to its last, holds no lock at its end, and leaves nothing but
-/// its refusal in the processor's record. Where there are no words to tell, an event brings none.
+/// released changes nothing but locks and the processor's own record. Where there are no words to
+/// tell, an event brings none.
 pub fn event_laws()
     ensures others { OthersStay }
     ensures quiet { QuietEventsStay }
-    ensures refused { RefusedCallsStay }
     ensures own_words { NoWordsToTell }
-    ensures kept { QuietCallsKeep }
-    ensures left { RefusalsLeaveTheirReply }
 {}
 
 /// Nobody holds a lock beside one who holds it alone: at the start of every run, after each event,
@@ -73,22 +107,14 @@ pub fn lock_law()
     ensures run { LocksExclude }
 {}
 
-/// The tree lock of a TD can't be busy for a processor that holds the TD's op state lock alone: no
-/// other holds it or is being refused it, and a try of it is granted in either mode. So it is where
-/// what each call holds are the first locks that it tries, which each event keeps, whatever bundles
-/// have come in.
+/// Tree locks.
 pub fn tree_lock_law()
     ensures kept { OrderIsKept }
     ensures free { TreeIsFreeInOrder }
     ensures run { TreeIsNeverBusy }
 {}
 
-/// Every call tries the locks of its list, as many as the leaf table says at most, and ends after a number of its own
-/// events that this bounds, whatever the other processors do: 2n + 1 where it succeeds with n locks,
-/// and one where it is refused for an argument. No processor holds more locks than its call may try,
-/// which each event keeps, whatever bundles have come in. At the end of a run no processor has an event left.
-/// An event brings one reply or none; after any schedule a processor has no more replies than lines,
-/// and at the end of a run it has exactly one for each.
+/// Ends.
 pub fn end_laws()
     ensures lists { RowsTryTheirLists }
     ensures tries { RowsTryFew }
@@ -96,18 +122,16 @@ pub fn end_laws()
     ensures timely { TimelyEventsRunOut }
     ensures runs_out { EventsRunOut }
     ensures runs_end { RunsEnd }
+    ensures bounded { EntriesAreBounded }
     ensures same_tries { RowsTryTheSame }
-    ensures events { CallsHaveTheirEvents }
-    ensures one_reply { RepliesComeOneByOne }
-    ensures few_kept { RepliesAreKept }
-    ensures no_more { RepliesAreToLines }
-    ensures every_line { EveryLineIsAnswered }
 {}
 
 /// What a run prints, and the public part of the bundles that it makes, are the same whatever the
 /// private words are, apart from what guests tell: the same as with every private word 0, and so the
 /// same for any two openings that agree on all that is public.
 pub fn two_world_law()
+    ensures operations { OperationsAreBlind }
+    ensures events { EventsAreBlind }
     ensures prints { BlindRunsPrintTheSame }
     ensures bundles { BlindRunsMakeTheSameBundles }
     ensures agreeing { AgreeingRunsShowTheSame }
@@ -115,16 +139,17 @@ pub fn two_world_law()
 
 /// MRTD of a TD in RUNNABLE is read as the digest of what it has measured: at the start of every run,
 /// after each event, whatever bundles have come in, and so after any schedule. No event but the act of
-/// a call changes what TDs have measured.
+/// a call changes what TDs have measured, and none but an `rtmr` operation's act extends an RTMR.
 pub fn measurement_laws()
     ensures kept { MrtdsAreKept }
     ensures mrtd { EveryMrtdIsTheDigest }
     ensures events { EventsMeasure }
+    ensures rtmrs { EventsExtend }
 {}
 
 /// What the guest of a TD knows of a private page is what the page holds: at the start of every run,
-/// after each event of a lawful world, whatever bundles have come in, and so after any schedule,
-/// and it knows nothing of a page whose entry is FREE, PENDING or PENDING_BLOCKED.
+/// after each event where no stale translation is used, whatever bundles have come in, and so after
+/// any schedule, and it knows nothing of a page whose entry is FREE, PENDING or PENDING_BLOCKED.
 pub fn memory_law()
     ensures kept { MemoriesAreKept }
     ensures run { GuestsKnowTheirPages }

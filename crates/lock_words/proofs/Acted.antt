@@ -44,6 +44,7 @@ acts-go-on o me (call.MngInit tdr) w t la ps st = inl (same-td w _ t st refl ref
 acts-go-on o me (call.MrExtend tdr gpa) w t la ps st = inl (same-td w _ t st refl refl refl)
 acts-go-on o me (call.MrFinalize tdr) w t la ps st = inl (same-td w _ t st refl refl refl)
 acts-go-on o me (call.VpInit tdr vp value) w t la ps st = inl (same-td w _ t st refl refl refl)
+acts-go-on o me (call.VpEnter tdr vp most) w t la ps st = inl (same-td w _ t st refl refl refl)
 acts-go-on o me (call.MemSeptRd tdr gpa level) w t la ps st = inl st
 acts-go-on o me (call.VpCreate tdr page) w t la ps st =
     let n : (t == page) ≡ false = apart-host w t page st ps.1.1.1.1.1.1.1.1.0 in

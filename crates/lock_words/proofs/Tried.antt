@@ -19,7 +19,7 @@ use Rattle.flat_core.specs.World.{World}
 use Rattle.flat_core.specs.Processor.{LockId, Held}
 use Rattle.flat_core.specs.Opening.{Opening}
 use Rattle.flat_core.specs.Row.{Item, Check, Try, Attempts, Succeeds, next, Passes}
-use Rattle.flat_core.specs.Conditions.{all_ops, begun_ops, growing_ops, augmented_ops, later_ops, td_row, page_exclusive, tree_shared, tree_exclusive, epoch_shared, host_page, td_page, vps_ready, vp_room, vp_in}
+use Rattle.flat_core.specs.Conditions.{all_ops, begun_ops, growing_ops, later_ops, running_ops, not_elsewhere, td_row, page_exclusive, tree_shared, tree_exclusive, epoch_shared, host_page, td_page, vps_ready, vp_room, vp_in, augmented_ops}
 use Rattle.flat_core.specs.KeyRows.{reclaim_conditions}
 use Rattle.flat_core.specs.Tree.{entry_at, same_state, walk, state_in, named_page}
 use Rattle.flat_core.specs.Table.{row_of}
@@ -91,6 +91,7 @@ rows-fit o me (call.MrExtend tdr gpa) w =
 rows-fit o me (call.MrFinalize tdr) w = λ a. head-fits w tdr Exclusive (op.Initialized ∷ []) (vps_ready w tdr ∷ []) (λ st x. tt)
 rows-fit o me (call.VpCreate tdr page) w = λ a b c. head-fits w tdr Exclusive (op.Initialized ∷ op.MemoryImport ∷ []) (vp_room w tdr ∷ page_exclusive page ∷ host_page w page ∷ []) (λ st x. ((tt, tt), λ y. tt))
 rows-fit o me (call.VpInit tdr vp value) w = λ a b c. head-fits w tdr Shared (op.Initialized ∷ []) (page_exclusive vp ∷ td_page w tdr vp kind.Tdvpr ∷ vp_in w vp vcpu.Created ∷ []) (λ st. ((tt, tt), λ x y. tt))
+rows-fit o me (call.VpEnter tdr vp most) w = λ a b c d. head-fits w tdr Shared running_ops (page_exclusive vp ∷ td_page w tdr vp kind.Tdvpr ∷ vp_in w vp vcpu.Ready ∷ not_elsewhere w me vp ∷ epoch_shared tdr ∷ []) (λ st. ((tt, tt), λ x y z. ((refl, st), tt)))
 rows-fit o me (call.MemSeptAdd tdr gpa level page) w =
     let page_items : List (Item Reply) = state_in w tdr gpa level (entry.Free ∷ []) ∷ page_exclusive page ∷ host_page w page ∷ [] in
     λ a b c d e f. head-fits w tdr Shared growing_ops (tree_exclusive tdr ∷ (walk w tdr gpa level ++ page_items))

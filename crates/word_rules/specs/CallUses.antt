@@ -16,7 +16,7 @@ use Rattle.flat_core.specs.Table.{row_of}
 use Rattle.word_rules.specs.Guards.{Guard, Locked, Role, Grip, MeetsAll}
 use Rattle.word_rules.specs.Rules.{Unused}
 use Rattle.word_rules.specs.Views.{no_page}
-use Rattle.word_rules.specs.Uses.{Use, HeadPage, HeadTdr, HeadOp, Taken, GivenBack, HostRead, HostWrite, PageRdmd, CacheWb, Reclaim, MngCreate, KeyConfig, Addcx, MngInit, MngRdLife, MngRdOp, MngRdEpoch, VpFlushDone, KeyFreeid, MrExtend, MrFinalize, VpCreate, VpInit, SeptAdd, SeptRd, PageAdd, PageAddPages, PageAug, TakesPage, ReclaimsControl, ReclaimsRest, AddsEntry, ChangesOp, BeginsEpochs, GivesHkid, FreesHkid, line_of}
+use Rattle.word_rules.specs.Uses.{Use, HeadPage, HeadTdr, HeadOp, Taken, GivenBack, HostRead, HostWrite, PageRdmd, CacheWb, Reclaim, MngCreate, KeyConfig, Addcx, MngInit, MngRdLife, MngRdOp, MngRdEpoch, VpFlushDone, KeyFreeid, MrExtend, MrFinalize, VpCreate, VpInit, VpEnter, Enters, SeptAdd, SeptRd, PageAdd, PageAddPages, TakesPage, ReclaimsControl, ReclaimsRest, AddsEntry, ChangesOp, BeginsEpochs, GivesHkid, FreesHkid, line_of, PageAug}
 use Rattle.word_rules.specs.Spots.{guard_at}
 
 -- the locks of a row's tries are held, each in its mode
@@ -84,6 +84,7 @@ uses_of w (call.MrExtend tdr gpa) = td_uses tdr ++ of_both tdr (entry_at w tdr 0
 uses_of w (call.MrFinalize tdr) = td_uses tdr ++ of_td tdr MrFinalize ∷ of_td tdr ChangesOp ∷ []
 uses_of w (call.VpCreate tdr page) = td_uses tdr ++ (taken_uses page ++ of_both tdr page VpCreate ∷ [])
 uses_of w (call.VpInit tdr vp value) = td_uses tdr ++ of_page vp HeadPage ∷ of_both tdr vp VpInit ∷ []
+uses_of w (call.VpEnter tdr vp max) = td_uses tdr ++ of_page vp HeadPage ∷ of_both tdr vp VpEnter ∷ of_both tdr vp Enters ∷ []
 uses_of w (call.MemSeptAdd tdr gpa level page) = td_uses tdr ++ (taken_uses page ++ of_td tdr SeptAdd ∷ [])
 uses_of w (call.MemSeptRd tdr gpa level) = td_uses tdr ++ of_td tdr SeptRd ∷ []
 uses_of w (call.MemPageAdd tdr gpa page source) =
