@@ -31,7 +31,7 @@ tail-others t g (suc k) access (c ∷ cs) ds = by_test (is_of_page t g c)
 
 pub cached_found : (c : Translation) (cs : List Translation) (access : Access) → allows_access access c ≡ true → look_up (cache c cs) c.tdr c.gpa_page access ≡ Some c.page
 cached_found c cs access h =
-    tail-others c.tdr c.gpa_page (length (others c.tdr c.gpa_page cs) - 15) access cs (c ∷ [])
+    tail-others c.tdr c.gpa_page _ access cs (c ∷ [])
     ∙ (let a = eq-eqb c.tdr c.tdr refl in let b = eq-eqb c.gpa_page c.gpa_page refl in rw (a, b, h) refl)
 
 -- a leaf entry that allows an access gives a translation that does
@@ -67,9 +67,7 @@ dropped t cs c h = (
 
 -- once one more is cached there is that one besides
 pub one_more : (x : Translation) (cs : List Translation) (c : Translation) → Contains (cache x cs) c → Contains cs c ⊎ (x ≡ c)
-one_more x cs c h =
-    let kept : List Translation = others x.tdr x.gpa_page cs in
-    elim (Contains-push_cases (drop (length kept - 15) kept) x c h) [
-      | inl a ↦ inl (left_of_filter (λ y. not (is_of_page x.tdr x.gpa_page y)) cs c (left_of_drop (length kept - 15) kept c a))
-      | inr b ↦ inr b
-    ]
+one_more x cs c h = elim (Contains-push_cases _ x c h) [
+  | inl a ↦ inl (left_of_filter (λ y. not (is_of_page x.tdr x.gpa_page y)) cs c (left_of_drop _ (others x.tdr x.gpa_page cs) c a))
+  | inr b ↦ inr b
+]

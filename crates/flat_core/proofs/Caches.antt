@@ -1,5 +1,5 @@
 -- What a processor has cached is at most 16 translations, no two of one GPA page of a TD.
-use Rattle.std.proofs.Common.{◌≡◌, refl, sym, ◌∙◌, ap, subst, ℕ, zero, suc, ◌-◌, List, [], ◌∷◌, ◌++◌, length, drop, filter, Option, Some, None, Bool, true, false, not, ◌==◌, length-drop, arith}
+use Rattle.std.proofs.Common.{◌≡◌, refl, sym, ◌∙◌, ap, subst, ℕ, zero, suc, ◌-◌, ◌≤◌, List, [], ◌∷◌, ◌++◌, length, drop, filter, Option, Some, None, Bool, true, false, not, ◌==◌, length-drop, arith}
 use Rattle.std.specs.Prelude.{Contains}
 use Rattle.std.specs.List.{list_all}
 use Rattle.std.proofs.lemmas.Bool.{and_parts}
@@ -84,15 +84,17 @@ filtered p cs h = record {
   apart = apart_filtered p cs h.apart;
 }
 
-cached : (c : Translation) (cs : List Translation) → IsCache cs → IsCache (cache c cs)
-cached c cs h =
+pushed : (n : ℕ) (c : Translation) (cs : List Translation) → IsCache cs → (let others = filter (λ x. not (is_of_page c.tdr c.gpa_page x)) cs in length others - n ≤ 15 → IsCache (drop n others ++ c ∷ []))
+pushed n c cs h low =
     let f : Translation → Bool = λ x. not (is_of_page c.tdr c.gpa_page x) in
     let others = filter f cs in
-    let n = length others - 15 in
     record {
-      few = (let a = length_push (drop n others) c in let b = length-drop n others in omega (arith, a, b));
+      few = (let a = length_push (drop n others) c in let b = length-drop n others in omega (arith, a, b, low));
       apart = apart_pushed (drop n others) c (apart_dropped n others (apart_filtered f cs h.apart)) (all_dropped f n others (all_pass f cs));
     }
+
+cached : (c : Translation) (cs : List Translation) → IsCache cs → IsCache (cache c cs)
+cached c cs h = pushed _ c cs h (omega arith)
 
 pub room_is_used : RoomIsUsed
 room_is_used c x cs few i e =
