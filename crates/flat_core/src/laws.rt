@@ -39,10 +39,11 @@ pub fn row_laws()
     ensures uses { EventsKeepUses }
 {}
 
-/// Every run starts in a lawful world, each event keeps it lawful, whatever bundles have come in, and
-/// so every schedule leads to a lawful one: who owns which page and
-/// in which list or entry of its TD that page stands, which pages a TD's entries name, whose each HKID
-/// is, and how many entries of a TD are dirty and how many are exported.
+/// Every run starts in a lawful world, in which processors stand in their calls and guests as they can,
+/// each event keeps both, whatever bundles have come in, and so every schedule leads to a lawful one:
+/// who owns which page and in which list or entry of its TD that page stands, which pages a TD's entries
+/// name, whose each HKID is, and how many entries of a TD are dirty and how many are exported. An event
+/// keeps any lawful world lawful where the TD of its processor's guest runs.
 pub fn lawful_law()
     ensures kept { LawfulIsKept }
     ensures event { EventsKeepLawful }
@@ -166,7 +167,9 @@ pub fn guest_order_law()
 
 /// What a run prints, and the public part of the bundles that it makes, are the same whatever the
 /// private words are, apart from what guests tell: the same as with every private word 0, and so the
-/// same for any two openings that agree on all that is public.
+/// same for any two openings that agree on all that is public. Beside each guest operation: it asks,
+/// answers and tells the same in two worlds of which the second tells the words that the first tells;
+/// and one event of each of two such runs keeps them alike, but for what guests note of their own.
 pub fn two_world_law()
     ensures operations { OperationsAreBlind }
     ensures events { EventsAreBlind }
