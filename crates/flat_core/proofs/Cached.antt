@@ -1,6 +1,6 @@
 -- Lists of cached translations: the one that was cached last is found, one that is found is in the list, and what each
 -- change leaves in the list was in it.
-use Rattle.std.proofs.Common.{◌≡◌, ◌⊎◌, inl, inr, refl, ◌∙◌, ℕ, zero, suc, ◌-◌, List, [], ◌∷◌, ◌++◌, length, drop, filter, Some, Bool, true, false, not, ◌==◌, ◌&&◌, arith}
+use Rattle.std.proofs.Common.{◌≡◌, ◌⊎◌, inl, inr, refl, ◌∙◌, ℕ, zero, suc, List, [], ◌∷◌, ◌++◌, drop, filter, Some, Bool, true, false, not, ◌==◌, ◌&&◌, arith}
 use Rattle.std.specs.Prelude.{Contains}
 use Rattle.std.proofs.lemmas.Bool.{eq-eqb, eqb-true, and_parts}
 use Rattle.std.proofs.lemmas.List.Elements.{All-drop, All-filter, All-contains, All-contains_itself, filter_passes, Contains-push_cases}

@@ -667,7 +667,7 @@ module _ (o : Opening) (w : World) (lawful : Lawful o.machine w) (p : ℕ) (lp :
 
 -- where a processor stands depends on its own virtual processor alone
 
-same_due : (o : Opening) (w w' : World) (g : Guest) → SameVp w w' g.vp → operation_due o w' g ≡ operation_due o w g
+pub same_due : (o : Opening) (w w' : World) (g : Guest) → SameVp w w' g.vp → operation_due o w' g ≡ operation_due o w g
 same_due o w w' g same = ap (λ (n : ℕ). slice_get (o.codes g.tdr n) (w'.vps.positions g.vp)) same.index ∙ ap (λ (n : ℕ). slice_get (o.codes g.tdr (w.vps.indexes g.vp)) n) same.position
 
 guest_stands : (o : Opening) (w w' : World) (lp : Lp) (g : Guest) (leaving : Option Outcome) → SameVp w w' g.vp → GuestAt o w lp g leaving → GuestAt o w' lp g leaving
@@ -711,7 +711,7 @@ module _ (o : Opening) (s : State) (p : ℕ) (e : Event) (is : next_event o s p 
   lowers : Lowers o p (events_left o s p) (world_after e s.world) (lp_after s.world (is_granted s e) e (s.lps p))
   lowers = by_due o s.world p (s.lps p) (h.each p) (is_granted s) e (due_event_is o s p e is)
 
-  leave : (q u x : ℕ) → q ≢ p → IsOccupied s.world q u x → Spares s.world (world_after e s.world) q u x
+  pub leave : (q u x : ℕ) → q ≢ p → IsOccupied s.world q u x → Spares s.world (world_after e s.world) q u x
   leave q u x apart occ = others_left o s.world h.lawful p (s.lps p) (h.each p) q u x occ apart e (due_event_is o s p e is)
 
   pub timely_step : AreTimely o (after_event p s (Some e))

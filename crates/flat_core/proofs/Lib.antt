@@ -23,6 +23,13 @@ pub mod Owned
 pub mod Counted
 pub mod LockLaw
 pub mod TreeLock
+pub mod Refused
+pub mod RefusedKeep
+pub mod Replies
+pub mod Counts
+pub mod Entries
+pub mod Entered
+pub mod GuestOrder
 pub mod Blind
 pub mod BlindOperations
 pub mod Accesses

@@ -100,7 +100,7 @@ kinds_same _ v w = refl
 
 -- the locks held, oldest first, and then these
 
-drop_onto : (hs : List Held) (j : ℕ) (xs : List (Option LockId)) → drop (length hs + j) (onto hs xs) ≡ drop j xs
+pub drop_onto : (hs : List Held) (j : ℕ) (xs : List (Option LockId)) → drop (length hs + j) (onto hs xs) ≡ drop j xs
 drop_onto [] j xs = let e : 0 + j ≡ j = omega arith in ap (λ (n : ℕ). drop n xs) e
 drop_onto (h ∷ hs) j xs =
     let e : suc (length hs) + j ≡ length hs + suc j = omega arith in
@@ -111,7 +111,7 @@ from_order [] xs h = (tt, h)
 from_order (x ∷ hs) xs h = let i = from_order hs (but_page x.lock ∷ xs) h in ((i.1.0, i.0), i.1.1)
 
 -- the next try, and those behind it
-next_tried : (items : List (Item Reply)) (k : ℕ) (l : LockId) (m : Mode) → next items k ≡ Attempts l m → (xs : List (Option LockId)) × (drop k (kinds (tries items)) ≡ but_page l ∷ xs)
+pub next_tried : {R : Type 0} (items : List (Item R)) (k : ℕ) (l : LockId) (m : Mode) → next items k ≡ Attempts l m → (xs : List (Option LockId)) × (drop k (kinds (tries items)) ≡ but_page l ∷ xs)
 next_tried [] k l m e = cc
 next_tried (Check true r ∷ items) k l m e = next_tried items k l m e
 next_tried (Check false r ∷ items) k l m e = cc

@@ -1,5 +1,5 @@
 -- Virtual processors in guest: what stays of one while it runs on its logical processor, through all that others do.
-use Rattle.std.specs.Prelude.{◌≡◌, ◌≢◌, ◌⊎◌, ℕ, true, ◌==◌, List, [], ◌∷◌, Option, Some}
+use Rattle.std.specs.Prelude.{◌≡◌, ◌≢◌, ℕ, true, ◌==◌, List, [], ◌∷◌, Some}
 use Rattle.std.specs.List.{list_any}
 use Rattle.td_words.specs.NameNumber.{op_number}
 use Rattle.flat_core.specs.Conditions.{running_ops}
@@ -15,7 +15,6 @@ use Rattle.flat_core.specs.Opening.{Opening}
 use Rattle.flat_core.specs.Row.{Row, Passes}
 use Rattle.flat_core.specs.Table.{row_of}
 use Rattle.flat_core.specs.Lawful.{Lawful, IsPageOf}
-use Rattle.flat_core.specs.Event.{State}
 
 -- a virtual processor that runs on logical processor p: its TD is there and runs, it is READY, associated with p, and counted
 -- at the epoch at which it last entered

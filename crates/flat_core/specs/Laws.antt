@@ -258,9 +258,6 @@ memory_of e words = if holds_memory e.state then Some (words e.page) else None
 abbrev pub ArePagesKnown : World → Type 0
 ArePagesKnown w = (t n : ℕ) → IsAlive w.pages w.tds t → w.hidden.memories t n ≡ memory_of (w.tds.entries t 0 n) w.words
 
-abbrev pub MemoriesAreKept : Type 0
-MemoriesAreKept = IsKept (IsLawfulWith ArePagesKnown)
-
 abbrev pub GuestsKnowTheirPages : Type 0
 GuestsKnowTheirPages = HoldsInRuns (λ o s. ArePagesKnown s.world)
 

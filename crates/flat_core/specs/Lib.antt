@@ -33,7 +33,10 @@ pub mod PageUses
 pub mod AccessLaw
 pub mod TwoWorlds
 pub mod Order
+pub mod GuestOrder
 pub mod Bounds
 pub mod Replies
+pub mod Entries
+pub mod Entered
 pub mod Worked
 pub mod GuestWorked

@@ -5,7 +5,6 @@ use Rattle.td_words.specs.declared.names.OpState.TheVariants as op
 use Rattle.td_words.specs.declared.names.VcpuState.TheVariants as vcpu
 use Rattle.td_words.specs.declared.replies.Value.TheVariants as value
 use Rattle.td_words.specs.declared.machines.Machine.{Machine}
-use Rattle.flat_core.specs.Processor.{Entering}
 use Rattle.flat_core.specs.Translations.{cache_at_entry}
 use Rattle.flat_core.specs.Row.{Row, call_row}
 use Rattle.flat_core.specs.Arguments.{page_argument, apart_argument, most_argument}

@@ -2,11 +2,15 @@
 
 ghost use Rattle.flat_core.specs.AccessLaw.{AccessIsKept, AccessAlwaysHolds, GuestsReachTheirOwn, LoadsGiveTheirOwn, MemoriesAreKept, CachesAreKept, CachesAreSmall, RoomIsUsed};
 ghost use Rattle.flat_core.specs.Bounds.{RowsTryFew, TimelinessIsKept, TimelyEventsRunOut, EventsRunOut, RunsEnd, EntriesAreBounded};
+ghost use Rattle.flat_core.specs.Entered.{EnteredIsKept, EnteredAreInGuest};
+ghost use Rattle.flat_core.specs.Entries.{EntriesHaveTheirEvents};
+ghost use Rattle.flat_core.specs.GuestOrder.{OperationsTryTheirLists, GuestOrderIsKept, GuestOrderHolds};
 ghost use Rattle.flat_core.specs.GuestWorked.{GuestExamples};
 ghost use Rattle.flat_core.specs.Guests.{RowsSpare};
-ghost use Rattle.flat_core.specs.Laws.{RowsKeep, RowsAreBlind, MrtdIsTheDigest, RecordsAreMeasured, LawfulIsKept, EveryWorldIsLawful, LawfulPagesAreOwned, OwnersAreKept, EveryPageIsOwned, LawfulWorldsAreCounted, CountsAreKept, ExportedAreCounted, OthersStay, QuietEventsStay, NoWordsToTell, ExclusionIsKept, LocksExclude, BlindRunsPrintTheSame, BlindRunsMakeTheSameBundles, AgreeingRunsShowTheSame, RowsTryTheSame, EventsKeepLawful, MrtdsAreKept, EveryMrtdIsTheDigest, EventsMeasure, PagesHaveOneUse, GuestsKnowTheirPages, ToldAreMerged, OperationsTellBoth};
+ghost use Rattle.flat_core.specs.Laws.{RowsKeep, RowsAreBlind, MrtdIsTheDigest, RecordsAreMeasured, LawfulIsKept, EveryWorldIsLawful, LawfulPagesAreOwned, OwnersAreKept, EveryPageIsOwned, LawfulWorldsAreCounted, CountsAreKept, ExportedAreCounted, OthersStay, QuietEventsStay, NoWordsToTell, ExclusionIsKept, LocksExclude, BlindRunsPrintTheSame, BlindRunsMakeTheSameBundles, AgreeingRunsShowTheSame, RefusedCallsStay, QuietCallsKeep, RefusalsLeaveTheirReply, RowsTryTheSame, CallsHaveTheirEvents, EventsKeepLawful, MrtdsAreKept, EveryMrtdIsTheDigest, EventsMeasure, PagesHaveOneUse, GuestsKnowTheirPages, ToldAreMerged, OperationsTellBoth};
 ghost use Rattle.flat_core.specs.Order.{OrderIsKept, TreeIsFreeInOrder, TreeIsNeverBusy};
 ghost use Rattle.flat_core.specs.PageUses.{EventsKeepUses};
+ghost use Rattle.flat_core.specs.Replies.{RepliesComeOneByOne, RepliesAreKept, RepliesAreToLines, EveryLineIsAnswered};
 ghost use Rattle.flat_core.specs.Rtmrs.{EventsExtend};
 ghost use Rattle.flat_core.specs.Tries.{RowsTryTheirLists};
 ghost use Rattle.flat_core.specs.TwoWorlds.{OperationsAreBlind, EventsAreBlind};
@@ -35,10 +39,11 @@ pub fn row_laws()
     ensures uses { EventsKeepUses }
 {}
 
-/// Every run starts in a lawful world, each event keeps it lawful, whatever bundles have come in, and
-/// so every schedule leads to a lawful one: who owns which page and
-/// in which list or entry of its TD that page stands, which pages a TD's entries name, whose each HKID
-/// is, and how many entries of a TD are dirty and how many are exported.
+/// Every run starts in a lawful world, in which processors stand in their calls and guests as they can,
+/// each event keeps both, whatever bundles have come in, and so every schedule leads to a lawful one:
+/// who owns which page and in which list or entry of its TD that page stands, which pages a TD's entries
+/// name, whose each HKID is, and how many entries of a TD are dirty and how many are exported. An event
+/// keeps any lawful world lawful where the TD of its processor's guest runs.
 pub fn lawful_law()
     ensures kept { LawfulIsKept }
     ensures event { EventsKeepLawful }
@@ -65,9 +70,13 @@ pub fn count_law()
 {}
 
 /// The act of each call leaves a virtual processor as it is that is in guest on another logical
-/// processor.
+/// processor. And one that is counted at its entry epoch is in guest on the logical processor with
+/// which it is associated: at the start of every run, after each event, whatever bundles have come in,
+/// and so after any schedule.
 pub fn guest_law()
-    ensures { RowsSpare }
+    ensures spare { RowsSpare }
+    ensures kept { EnteredIsKept }
+    ensures run { EnteredAreInGuest }
 {}
 
 /// No stale translation is used: what each cached translation that may still be used, and each walk
@@ -92,12 +101,16 @@ pub fn cache_law()
 {}
 
 /// An event of one processor leaves the others' records alone; what is refused, tried, undone or
-/// released changes nothing but locks and the processor's own record. Where there are no words to
-/// tell, an event brings none.
+/// released changes nothing but locks and the processor's own record; and so a call that is refused
+/// changes nothing from its first event to its last, holds no lock at its end, and leaves nothing but
+/// its refusal in the processor's record. Where there are no words to tell, an event brings none.
 pub fn event_laws()
     ensures others { OthersStay }
     ensures quiet { QuietEventsStay }
+    ensures refused { RefusedCallsStay }
     ensures own_words { NoWordsToTell }
+    ensures kept { QuietCallsKeep }
+    ensures left { RefusalsLeaveTheirReply }
 {}
 
 /// Nobody holds a lock beside one who holds it alone: at the start of every run, after each event,
@@ -107,14 +120,26 @@ pub fn lock_law()
     ensures run { LocksExclude }
 {}
 
-/// Tree locks.
+/// The tree lock of a TD can't be busy for a processor that holds the TD's op state lock alone: no
+/// other holds it or is being refused it, also in guest, and a try of it is granted in either mode. So
+/// it is where what each call holds are the first locks that it tries, and a guest's operation tries
+/// the tree lock of its own TD alone, whose op state lock its call shares; which each event keeps,
+/// whatever bundles have come in.
 pub fn tree_lock_law()
     ensures kept { OrderIsKept }
     ensures free { TreeIsFreeInOrder }
     ensures run { TreeIsNeverBusy }
 {}
 
-/// Ends.
+/// Every call tries the locks of its list, as many as the leaf table says at most, and ends after a
+/// number of its own events that this bounds, whatever the other processors do: 2n + 1 where it
+/// succeeds with n locks, one where it is refused for an argument, and 10 and five for each operation
+/// that VP.ENTER asks for, of which its guest completes no more. Of VP.ENTER's six come before its
+/// guest can begin its first operation, and four from the count step on. No processor holds more locks
+/// than its call and its guest's operation may try, which each event keeps, whatever bundles have come
+/// in. At the end of a run no processor has an event left. An event brings one reply or none; after any
+/// schedule a processor has no more replies than lines, and at the end of a run it has exactly one for
+/// each.
 pub fn end_laws()
     ensures lists { RowsTryTheirLists }
     ensures tries { RowsTryFew }
@@ -124,11 +149,27 @@ pub fn end_laws()
     ensures runs_end { RunsEnd }
     ensures bounded { EntriesAreBounded }
     ensures same_tries { RowsTryTheSame }
+    ensures events { CallsHaveTheirEvents }
+    ensures entries { EntriesHaveTheirEvents }
+    ensures one_reply { RepliesComeOneByOne }
+    ensures few_kept { RepliesAreKept }
+    ensures no_more { RepliesAreToLines }
+    ensures every_line { EveryLineIsAnswered }
+{}
+
+/// Each guest operation tries the locks of its list, and holds the first of them in their order: at the
+/// start of every run, after each event, whatever bundles have come in, and so after any schedule.
+pub fn guest_order_law()
+    ensures lists { OperationsTryTheirLists }
+    ensures kept { GuestOrderIsKept }
+    ensures run { GuestOrderHolds }
 {}
 
 /// What a run prints, and the public part of the bundles that it makes, are the same whatever the
 /// private words are, apart from what guests tell: the same as with every private word 0, and so the
-/// same for any two openings that agree on all that is public.
+/// same for any two openings that agree on all that is public. Beside each guest operation: it asks,
+/// answers and tells the same in two worlds of which the second tells the words that the first tells;
+/// and one event of each of two such runs keeps them alike, but for what guests note of their own.
 pub fn two_world_law()
     ensures operations { OperationsAreBlind }
     ensures events { EventsAreBlind }
