@@ -48,13 +48,13 @@ pub record IsMerge (n : ℕ) (own : ℕ → List Piece) (is : List Item) : Type 
 abbrev pub no_table : Table
 no_table = record { words = λ n. 0; slots = λ k. None }
 
--- what each processor makes its calls by: a leaf made for it, whose row is the call's, and which means that row. No call
--- enters a guest yet
+-- what each processor makes its calls by: a leaf made for it, whose row is the call's, and which means that row. A call that
+-- enters a guest has none yet
 pub record AreLeaves (o : Opening) (leaf : ℕ → Call → Task) : Type 0 where
   pub machine : (p : ℕ) (c : Call) → (leaf p c).place.machine ≡ o.machine
   pub processor : (p : ℕ) (c : Call) → (leaf p c).place.lp ≡ p
-  pub row : (p : ℕ) (c : Call) → (leaf p c).meaning ≡ OfCall (row_of o p c)
-  pub means : (p : ℕ) (c : Call) → MeansRow (leaf p c)
+  pub row : (p : ℕ) (c : Call) → (row_of o p c).enters ≡ None → (leaf p c).meaning ≡ OfCall (row_of o p c)
+  pub means : (p : ℕ) (c : Call) → (row_of o p c).enters ≡ None → MeansRow (leaf p c)
 
 -- no line of a script enters a guest
 abbrev pub LinesEnterNone : Opening → Type 0

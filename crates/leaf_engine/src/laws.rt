@@ -1,6 +1,6 @@
 //! What the layers above may rest on, as contracts of functions that do nothing.
 
-ghost use Rattle.leaf_engine.specs.Facts.{EventsKeepFacts, FactsBegin, FactsStand};
+ghost use Rattle.leaf_engine.specs.Facts.{EventsKeepFacts, FactsBegin, FactsStand, OutsideNoneIsCounted};
 ghost use Rattle.leaf_engine.specs.Follows.{LeavesFollowRows};
 ghost use Rattle.leaf_engine.specs.Shown.{TurnsShow};
 ghost use Rattle.leaf_engine.specs.Calls.{CallsBegin, CallsFollow, StartIsMet};
@@ -31,11 +31,13 @@ pub fn turns_show()
 }
 
 /// Facts of states, of who holds what, of the locks that stand, and of the guests that run, are so at
-/// the start, after each event, and so in every state that a run reaches.
+/// the start, after each event where locks are sound, and so in every state that a run reaches. A
+/// processor outside guests then finds no virtual processor counted that isn't another's.
 pub fn facts_stand()
     ensures begin { FactsBegin }
     ensures events { EventsKeepFacts }
     ensures reached { FactsStand }
+    ensures outside { OutsideNoneIsCounted }
 {
     reached_locks_stand();
 }
