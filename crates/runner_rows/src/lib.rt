@@ -8,3 +8,5 @@ mod memory;
 mod options;
 #[cfg(test)]
 mod replays;
+#[cfg(test)]
+mod too_long;

@@ -10,10 +10,11 @@ const USAGE: &[u8] =
     b"usage: tdx replay|run SCRIPT [--bundles F] [--keys F] [--secrets F] [--out-bundles F] [--guest-out F] | tdx check SCRIPT | tdx soak N\n";
 
 // The script s, which has one reply; e, whose bytes are none; the container b, and c with 3 bytes
-// more; and keys of 64, 63 and 65 bytes.
+// more; keys of 64, 63 and 65 bytes; and the most bytes that a key file is loaded with, and one more.
 fn files(alloc: Global, failing: &[u64]) -> Result<MemFiles, Fail> {
     let keys = [7u8; 65];
-    let list: [(&str, &[u8]); 7] = [
+    let long = vec![in alloc; 7u8; 65_537]?;
+    let list: [(&str, &[u8]); 9] = [
         ("s", b"machine 1 8 1\nlp 0\nHOST.READ 1 0\nend\n"),
         ("e", b""),
         ("b", b"TDXBNDL1"),
@@ -21,6 +22,8 @@ fn files(alloc: Global, failing: &[u64]) -> Result<MemFiles, Fail> {
         ("k", &keys[..64]),
         ("k63", &keys[..63]),
         ("k65", &keys),
+        ("k65536", &long[..65_536]),
+        ("k65537", &long),
     ];
     let mut files = Vec::new(alloc);
     for (name, bytes) in list {
@@ -91,6 +94,8 @@ const ROWS: &[Row<'static>] = &[
         false,
     ),
     ("replay s --keys k65", &[], &[], 7, b"key file\n", false),
+    ("replay s --keys k65536", &[], &[], 7, b"key file\n", false),
+    ("replay s --keys k65537", &[], &[], 7, b"key file\n", false),
     // The container's form is tested before the keys', and both are loaded before.
     (
         "replay s --keys k63 --bundles c",

@@ -1,8 +1,11 @@
 pub mod Part
-pub mod Fronts
-pub mod Done
+pub mod Due
+pub mod Closing
+pub mod Came
+pub mod Told
+pub mod Endings
+pub mod Histories
 pub mod RunningOut
 pub mod Turning
 pub mod Places
 pub mod Replayed
-pub mod Alone

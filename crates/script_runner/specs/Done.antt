@@ -1,5 +1,5 @@
--- What one call loads and puts, by the histories alone: of files and outputs that tell what they hold, and of those that don't.
-use Rattle.std.specs.Prelude.{◌≡◌, ◌≢◌, ◌⊎◌, ℕ, ◌^◌, List, [], ◌∷◌, ◌++◌, Option, Some, None, IfSome, IfNone, Result, Ok, Err}
+-- What one call loads, puts and saves, by the histories alone: of files and outputs that tell what they hold, and of those that don't.
+use Rattle.std.specs.Prelude.{◌≡◌, ◌≢◌, ◌⊎◌, ℕ, List, [], ◌∷◌, ◌++◌, Option, Some, None, Result, Ok, Err}
 use Rattle.std.specs.Global.{Vec}
 use Rattle.script_text.specs.declared.faults.Reason.{Reason}
 use Rattle.script_text.specs.declared.faults.Reason.TheVariants.{Length}
@@ -9,16 +9,26 @@ use Rattle.script_text.specs.Seen.{ScriptSeen}
 use Rattle.flat_core.specs.HostText.{host_text}
 use Rattle.bundle_store.specs.declared.outside.LoadFault.{LoadFault}
 use Rattle.bundle_store.specs.declared.outside.LoadFault.TheVariants as load
+use Rattle.bundle_store.specs.declared.outside.SaveFault.TheVariants as save
 use Rattle.bundle_store.specs.declared.outside.PutFault.{PutFault}
 use Rattle.bundle_store.specs.declared.outside.PutFault.TheVariants as put
-use Rattle.bundle_store.specs.Outside.{LoadsTold, LoadsUntold, LoadCause}
-use Rattle.bundle_store.specs.History.{Loaded, Put}
-use Rattle.script_runner.specs.Ending.{Ended, words_read, opening_of, usage_end, bad_end, unread_end, memory_end, script_end}
-use Rattle.script_runner.specs.Ends.{unput_status}
+use Rattle.bundle_store.specs.Containers.{container_bytes}
+use Rattle.bundle_store.specs.History.{Loaded, Saved, Put}
+use Rattle.command_files.specs.declared.inputs.InputFault.TheVariants as fault
+use Rattle.command_files.specs.Commands.{CommandSeen}
+use Rattle.command_files.specs.Inputs.{container_fault, keys_fault}
+use Rattle.script_runner.specs.Ending.{opening_of, usage_end, bad_end, unread_end, memory_end, container_end, keys_end, unwritten_end}
+use Rattle.script_runner.specs.Ends.{IsRead}
+
+-- ---- histories
 
 -- one load, of this name, with this answer
 abbrev pub LoadsOnce : List Loaded → List ℕ → Result (Vec ℕ) LoadFault → List Loaded → Type 0
 LoadsOnce old name answer new = new ≡ old ++ record { name = name; answer = answer } ∷ []
+
+-- the same, and then others
+abbrev pub LoadsFirst : List Loaded → List ℕ → Result (Vec ℕ) LoadFault → List Loaded → Type 0
+LoadsFirst old name answer new = (more : List Loaded) × (new ≡ old ++ record { name = name; answer = answer } ∷ more)
 
 -- one put, of these bytes, with this answer
 abbrev pub PutsOnce : List Put → List ℕ → Result (Unit {0}) PutFault → List Put → Type 0
@@ -28,51 +38,22 @@ PutsOnce old bytes answer new = new ≡ old ++ record { bytes = bytes; answer = 
 abbrev pub PutsText : List Put → List ℕ → List Put → Type 0
 PutsText old text new = (answer : Result (Unit {0}) PutFault) × (answer ≢ Err put.OutOfMemory) × PutsOnce old text answer new
 
--- the ending that is due by what a load handed out; where it found no memory, none is
-abbrev pub ComesTo : List ℕ → Result (Vec ℕ) LoadFault → Ended → Type 0
-ComesTo name (Ok given) e = e ≡ script_end (read_of given.items)
-ComesTo name (Err load.Absent) e = e ≡ unread_end name
-ComesTo name (Err load.TooLong) e = e ≡ bad_end 0 Length
-ComesTo name (Err load.Failed) e = e ≡ unread_end name
-ComesTo name (Err load.OutOfMemory) e = ⊥
+-- ---- what each status says
 
--- the script that the words name is loaded once, and nothing else; and its ending is due, or that of words that are no command
-abbrev pub Decides : Option (List ℕ) → List Loaded → List Loaded → Ended → Type 0
-Decides None old new e = (new ≡ old) × (e ≡ usage_end)
-Decides (Some name) old new e = (answer : Result (Vec ℕ) LoadFault) × LoadsOnce old name answer new × ComesTo name answer e
-
--- one put of an ending's text, whose answer decides on the status; where it found no memory, one more that says so
-abbrev pub TellsBy : List Put → Ended → List Put → ℕ → Result (Unit {0}) PutFault → Type 0
-TellsBy old e new status (Ok t) = PutsOnce old e.text (Ok t) new × (status ≡ e.status)
-TellsBy old e new status (Err put.Failed) = PutsOnce old e.text (Err put.Failed) new × (status ≡ unput_status e.status)
-TellsBy old e new status (Err put.OutOfMemory) =
-    (status ≡ 5) × (answer : Result (Unit {0}) PutFault) × PutsOnce (old ++ record { bytes = e.text; answer = Err put.OutOfMemory } ∷ []) memory_end.text answer new
-
--- the script that the words name is loaded once, and nothing else
-abbrev pub LoadsNamed : Option (List ℕ) → List Loaded → List Loaded → Type 0
-LoadsNamed None old new = new ≡ old
-LoadsNamed (Some name) old new = (answer : Result (Vec ℕ) LoadFault) × LoadsOnce old name answer new
-
--- What a call does: the ending that is due is decided and told; or memory is wanting on the way, which is told instead.
-abbrev pub Does : List (List ℕ) → (loads loads' : List Loaded) → (puts puts' : List Put) → ℕ → Type 0
-Does words loads loads' puts puts' status =
-    ((e : Ended) × Decides (words_read words) loads loads' e × (answer : Result (Unit {0}) PutFault) × TellsBy puts e puts' status answer)
-    ⊎ ((status ≡ 5) × LoadsNamed (words_read words) loads loads' × (answer : Result (Unit {0}) PutFault) × PutsOnce puts memory_end.text answer puts')
-
--- The named script was loaded, once. What was handed out is in the grammar, and one put was given just the reply lines of the
+-- The named script was loaded first. What was handed out is in the grammar, and one put was given just the reply lines of the
 -- flat machine's run of it under its schedule.
-pub record PutsRun (words : List (List ℕ)) (loads loads' : List Loaded) (puts puts' : List Put) (answer : Result (Unit {0}) PutFault) : Type 0 where
-  pub name : List ℕ
-  pub named : words_read words ≡ Some name
+pub record PutsRun (c : Option CommandSeen) (loads loads' : List Loaded) (puts puts' : List Put) (answer : Result (Unit {0}) PutFault) : Type 0 where
+  pub command : CommandSeen
+  pub read_as : c ≡ Some command
   pub given : Vec ℕ
-  pub loaded : LoadsOnce loads name (Ok given) loads'
+  pub loaded : LoadsFirst loads command.script (Ok given) loads'
   pub script : ScriptSeen
   pub reads : read_of given.items ≡ Ok script
   pub prints : PutsOnce puts (host_text (opening_of script) script.schedule) answer puts'
 
 -- the words are no command; nothing was loaded, and the usage line was put
-abbrev pub PutsUsage : List (List ℕ) → (loads loads' : List Loaded) → (puts puts' : List Put) → Type 0
-PutsUsage words loads loads' puts puts' = (words_read words ≡ None) × (loads' ≡ loads) × PutsText puts usage_end.text puts'
+abbrev pub PutsUsage : Option CommandSeen → (loads loads' : List Loaded) → (puts puts' : List Put) → Type 0
+PutsUsage c loads loads' puts puts' = (c ≡ None) × (loads' ≡ loads) × PutsText puts usage_end.text puts'
 
 -- the first fault of what was loaded, or that it was too long
 abbrev pub IsFirstFault : Result (Vec ℕ) LoadFault → ℕ → Reason → Type 0
@@ -82,12 +63,12 @@ IsFirstFault (Err load.TooLong) line reason = (line ≡ 0) × (reason ≡ Length
 IsFirstFault (Err load.Failed) line reason = ⊥
 IsFirstFault (Err load.OutOfMemory) line reason = ⊥
 
--- the named script was loaded, once, and its first fault was put
-pub record PutsFault (words : List (List ℕ)) (loads loads' : List Loaded) (puts puts' : List Put) : Type 0 where
-  pub name : List ℕ
-  pub named : words_read words ≡ Some name
+-- the named script was loaded, and nothing else, and its first fault was put
+pub record PutsFault (c : Option CommandSeen) (loads loads' : List Loaded) (puts puts' : List Put) : Type 0 where
+  pub command : CommandSeen
+  pub read_as : c ≡ Some command
   pub answer : Result (Vec ℕ) LoadFault
-  pub loaded : LoadsOnce loads name answer loads'
+  pub loaded : LoadsOnce loads command.script answer loads'
   pub line : ℕ
   pub reason : Reason
   pub first : IsFirstFault answer line reason
@@ -97,27 +78,70 @@ pub record PutsFault (words : List (List ℕ)) (loads loads' : List Loaded) (put
 abbrev pub IsUnread : Result (Vec ℕ) LoadFault → Type 0
 IsUnread answer = (answer ≡ Err load.Absent) ⊎ (answer ≡ Err load.Failed)
 
--- the named script was loaded, once, but couldn't be read, and its name was put
-pub record PutsName (words : List (List ℕ)) (loads loads' : List Loaded) (puts puts' : List Put) : Type 0 where
+-- the last load couldn't be read, and its name was put
+pub record PutsName (c : Option CommandSeen) (loads loads' : List Loaded) (puts puts' : List Put) : Type 0 where
+  pub command : CommandSeen
+  pub read_as : c ≡ Some command
   pub name : List ℕ
-  pub named : words_read words ≡ Some name
+  pub named : IsRead command name
+  pub before : List Loaded
   pub answer : Result (Vec ℕ) LoadFault
-  pub loaded : LoadsOnce loads name answer loads'
+  pub loaded : LoadsOnce (loads ++ before) name answer loads'
   pub unread : IsUnread answer
   pub prints : PutsText puts (unread_end name).text puts'
 
--- the last put says that memory was wanting; at most one was before it, and found none
-abbrev pub PutsMemory : (puts puts' : List Put) → Type 0
-PutsMemory puts puts' =
-    (answer : Result (Unit {0}) PutFault) × (PutsOnce puts memory_end.text answer puts'
-    ⊎ ((text : List ℕ) × PutsOnce (puts ++ record { bytes = text; answer = Err put.OutOfMemory } ∷ []) memory_end.text answer puts'))
+-- the named container was loaded, and its fault was put
+pub record PutsPlace (c : Option CommandSeen) (loads loads' : List Loaded) (puts puts' : List Put) : Type 0 where
+  pub command : CommandSeen
+  pub read_as : c ≡ Some command
+  pub name : List ℕ
+  pub named : command.bundles ≡ Some name
+  pub before : List Loaded
+  pub answer : Result (Vec ℕ) LoadFault
+  pub loaded : LoadsFirst (loads ++ before) name answer loads'
+  pub place : ℕ
+  pub wrong : container_fault (Some answer) ≡ Some (fault.Container place)
+  pub prints : PutsText puts (container_end place).text puts'
 
--- a load of at most 2^24 bytes, as its law has it
-pub record IsLoad (contents : Option (List ℕ → Option (List ℕ))) (reads reads' read read' : ℕ) (l : Loaded) : Type 0 where
-  pub told : IfSome contents (λ c. LoadsTold (c l.name) (2 ^ 24) l.answer)
-  pub untold : IfNone contents (LoadsUntold reads reads' read read' (2 ^ 24) l.answer)
-  pub cause : LoadCause reads reads' l.answer
+-- the named key file was loaded, and hasn't its length, which was put
+pub record PutsKeys (c : Option CommandSeen) (loads loads' : List Loaded) (puts puts' : List Put) : Type 0 where
+  pub command : CommandSeen
+  pub read_as : c ≡ Some command
+  pub name : List ℕ
+  pub named : command.keys ≡ Some name
+  pub before : List Loaded
+  pub answer : Result (Vec ℕ) LoadFault
+  pub loaded : LoadsOnce (loads ++ before) name answer loads'
+  pub wrong : keys_fault (Some answer) ≡ Some fault.Keys
+  pub prints : PutsText puts keys_end.text puts'
 
--- each load of this call, of which there is at most one, is such a one
-abbrev pub AreLoads : Option (List ℕ → Option (List ℕ)) → (reads reads' read read' : ℕ) → (loads loads' : List Loaded) → Type 0
-AreLoads contents reads reads' read read' loads loads' = (l : Loaded) → loads' ≡ loads ++ l ∷ [] → IsLoad contents reads reads' read read' l
+-- the reply lines were put, the one save of the container failed, and its name was put
+pub record PutsUnsaved (c : Option CommandSeen) (name : Option (List ℕ)) (loads loads' : List Loaded) (saves saves' : List Saved) (puts puts' : List Put) : Type 0 where
+  pub out : List ℕ
+  pub named : name ≡ Some out
+  pub between : List Put
+  pub replies : PutsRun c loads loads' puts between (Ok tt)
+  pub saved : saves' ≡ saves ++ record { name = out; bytes = container_bytes []; answer = Err save.Failed } ∷ []
+  pub prints : PutsText between (unwritten_end out).text puts'
+
+-- the put of the reply lines failed, and nothing was saved; or the save of the container did
+abbrev pub PutsLost : Option CommandSeen → Option (List ℕ) → (loads loads' : List Loaded) → (saves saves' : List Saved) → (puts puts' : List Put) → Type 0
+PutsLost c name loads loads' saves saves' puts puts' =
+    (PutsRun c loads loads' puts puts' (Err put.Failed) × (saves' ≡ saves)) ⊎ PutsUnsaved c name loads loads' saves saves' puts puts'
+
+-- a put that found no memory, or none
+abbrev pub IsWanting : List Put → Type 0
+IsWanting puts = (puts ≡ []) ⊎ ((text : List ℕ) × (puts ≡ record { bytes = text; answer = Err put.OutOfMemory } ∷ []))
+
+-- a text that was put where a container was to be saved, or none
+abbrev pub IsPut : Option (List ℕ) → List Put → Type 0
+IsPut name puts = (puts ≡ []) ⊎ ((name ≢ None) × (text : List ℕ) × (puts ≡ record { bytes = text; answer = Ok tt } ∷ []))
+
+-- the last put says that memory was wanting; before it at most one found none, and at most one came through
+abbrev pub PutsMemory : Option (List ℕ) → (puts puts' : List Put) → Type 0
+PutsMemory name puts puts' =
+    (first second : List Put) × (answer : Result (Unit {0}) PutFault) × IsPut name first × IsWanting second × PutsOnce ((puts ++ first) ++ second) memory_end.text answer puts'
+
+-- a container is saved only at the statuses 0, 4 and 5
+abbrev pub SavesNothing : Option (List ℕ) → ℕ → Type 0
+SavesNothing name status = (name ≡ None) ⊎ ((status ≢ 0) × (status ≢ 4) × (status ≢ 5))

@@ -1,6 +1,7 @@
 -- How a command ends: its status and its text, over the contents that are told.
-use Rattle.std.specs.Prelude.{ℕ, List, [], ◌∷◌, ◌++◌, Option, Some, None, Result, Ok, Err, ◌==◌, ◌&&◌, if◌then◌else◌, codes}
+use Rattle.std.specs.Prelude.{ℕ, ◌^◌, List, [], ◌∷◌, ◌++◌, length, Option, Some, None, Result, Ok, Err, ◌==◌, ◌&&◌, nat_le, if◌then◌else◌, codes}
 use Rattle.std.specs.Fmt.{decimal}
+use Rattle.std.specs.Str.{bytes_eq}
 use Rattle.td_words.specs.Seen.{CodeSeen}
 use Rattle.td_words.specs.declared.calls.GuestOp.{GuestOp}
 use Rattle.script_text.specs.declared.faults.Reason.{Reason}
@@ -11,7 +12,13 @@ use Rattle.script_text.specs.Reading.{read_of}
 use Rattle.script_text.specs.Seen.{ScriptSeen}
 use Rattle.flat_core.specs.Opening.{Opening}
 use Rattle.flat_core.specs.HostText.{host_text}
-use Rattle.command_files.specs.Commands.{CommandSeen, command_in}
+use Rattle.bundle_store.specs.Containers.{container_in}
+use Rattle.command_files.specs.declared.inputs.Input.{Input}
+use Rattle.command_files.specs.declared.inputs.Input.TheVariants as input
+use Rattle.command_files.specs.declared.inputs.InputFault.{InputFault}
+use Rattle.command_files.specs.declared.inputs.InputFault.TheVariants as fault
+use Rattle.command_files.specs.Commands.{CommandSeen}
+use Rattle.command_files.specs.Inputs.{place_fault, first}
 use Rattle.script_runner.specs.declared.ending.Ending.{Ending}
 
 -- an exit status, and what is put to the output
@@ -21,14 +28,6 @@ pub record Ended : Type 0 where
 
 abbrev pub ending_seen : Ending → Ended
 ending_seen e = record { status = e.status; text = e.text.items }
-
--- the name of the script, where the words are a command
-abbrev pub script_named : Option CommandSeen → Option (List ℕ)
-script_named None = None
-script_named (Some c) = Some c.script
-
-unfoldable pub words_read : List (List ℕ) → Option (List ℕ)
-words_read words = script_named (command_in words)
 
 -- the first list of that virtual processor; one without a list has an empty one
 abbrev pub code_in : List CodeSeen → ℕ → ℕ → List GuestOp
@@ -59,14 +58,77 @@ script_end (Ok s) = record { status = 0; text = host_text (opening_of s) s.sched
 script_end (Err (Bad line reason)) = bad_end line reason
 script_end (Err OutOfMemory) = memory_end
 
-abbrev pub held_end : List ℕ → Option (List ℕ) → Ended
-held_end name None = unread_end name
-held_end name (Some bytes) = script_end (read_of bytes)
+-- the container's bytes are none, from that place on
+abbrev pub container_end : ℕ → Ended
+container_end place = record { status = 6; text = codes "bundle file byte " ++ (decimal place ++ 10 ∷ []) }
 
-abbrev pub named_end : (List ℕ → Option (List ℕ)) → Option (List ℕ) → Ended
-named_end contents None = usage_end
-named_end contents (Some name) = held_end name (contents name)
+-- the key file hasn't its length
+abbrev pub keys_end : Ended
+keys_end = record { status = 7; text = codes "key file" ++ 10 ∷ [] }
+
+-- a save failed
+abbrev pub unwritten_end : List ℕ → Ended
+unwritten_end name = record { status = 4; text = codes "cannot write " ++ name ++ 10 ∷ [] }
+
+-- ---- the ending that is due by what each name has, where nothing fails
+
+abbrev pub name_in : Option (List ℕ) → List ℕ
+name_in None = []
+name_in (Some name) = name
+
+abbrev pub input_name : CommandSeen → Input → List ℕ
+input_name c input.Bundles = name_in c.bundles
+input_name c input.Keys = name_in c.keys
+
+-- what an input has, where it is named; None in it says that the name isn't there
+abbrev pub held : (List ℕ → Option (List ℕ)) → Option (List ℕ) → Option (Option (List ℕ))
+held contents None = None
+held contents (Some name) = Some (contents name)
+
+-- a named input isn't there
+abbrev pub absent_fault : Input → Option (Option (List ℕ)) → Option InputFault
+absent_fault i None = None
+absent_fault i (Some None) = Some (fault.Unread i)
+absent_fault i (Some (Some bytes)) = None
+
+-- the container's bytes are none, or too many
+abbrev pub container_wrong : Option (Option (List ℕ)) → Option InputFault
+container_wrong None = None
+container_wrong (Some None) = None
+container_wrong (Some (Some bytes)) = if nat_le (length bytes) (2 ^ 29) then place_fault (container_in bytes) else Some (fault.Container (2 ^ 29))
+
+-- the key file hasn't 64 bytes
+abbrev pub keys_wrong : Option (Option (List ℕ)) → Option InputFault
+keys_wrong None = None
+keys_wrong (Some None) = None
+keys_wrong (Some (Some bytes)) = if length bytes == 64 then None else Some fault.Keys
+
+-- the first fault of the inputs: both are there, and then the form of both is tested, the container's first
+abbrev pub wrong_input : (bundles keys : Option (Option (List ℕ))) → Option InputFault
+wrong_input bundles keys = first (absent_fault input.Bundles bundles) (first (absent_fault input.Keys keys) (first (container_wrong bundles) (keys_wrong keys)))
+
+-- a script is run where its inputs have no fault, which else is told
+abbrev pub inputs_end : CommandSeen → ScriptSeen → Option InputFault → Ended
+inputs_end c s None = script_end (Ok s)
+inputs_end c s (Some (fault.Unread i)) = unread_end (input_name c i)
+inputs_end c s (Some (fault.Container place)) = container_end place
+inputs_end c s (Some fault.Keys) = keys_end
+inputs_end c s (Some fault.OutOfMemory) = memory_end
+
+-- the inputs count where the script is in the grammar
+abbrev pub read_end : (List ℕ → Option (List ℕ)) → CommandSeen → Result ScriptSeen ScriptFault → Ended
+read_end contents c (Ok s) = inputs_end c s (wrong_input (held contents c.bundles) (held contents c.keys))
+read_end contents c (Err f) = script_end (Err f)
+
+abbrev pub held_end : (List ℕ → Option (List ℕ)) → CommandSeen → Option (List ℕ) → Ended
+held_end contents c None = unread_end c.script
+held_end contents c (Some bytes) = read_end contents c (read_of bytes)
 
 -- the ending that is due, where nothing fails
-abbrev pub ending_of : (List ℕ → Option (List ℕ)) → List (List ℕ) → Ended
-ending_of contents words = named_end contents (words_read words)
+abbrev pub ending_of : (List ℕ → Option (List ℕ)) → Option CommandSeen → Ended
+ending_of contents None = usage_end
+ending_of contents (Some c) = held_end contents c (contents c.script)
+
+-- what names have, if that one isn't there
+abbrev pub without : List ℕ → (List ℕ → Option (List ℕ)) → List ℕ → Option (List ℕ)
+without name contents other = if bytes_eq other name then None else contents other

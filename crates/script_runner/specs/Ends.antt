@@ -1,90 +1,159 @@
 -- What may become of the ending that is due, and why.
-use Rattle.std.specs.Prelude.{◌≡◌, ◌⊎◌, ℕ, List, [], ◌++◌, take, Option, Some, None, Ok, Err, ◌==◌, if◌then◌else◌}
+use Rattle.std.specs.Prelude.{◌≡◌, ◌≢◌, ◌<◌, ◌⊎◌, ℕ, ◌^◌, List, [], ◌++◌, length, take, Option, Some, None, Ok, Err, ◌==◌, if◌then◌else◌}
 use Rattle.script_text.specs.declared.faults.Reason.{Reason}
 use Rattle.script_text.specs.declared.faults.ScriptFault.TheVariants.{Bad}
 use Rattle.script_text.specs.Reading.{read_of}
 use Rattle.script_text.specs.Seen.{ScriptSeen}
 use Rattle.flat_core.specs.HostText.{host_text}
 use Rattle.bundle_store.specs.Outside.{Rose, Gains}
-use Rattle.script_runner.specs.Ending.{Ended, words_read, opening_of, usage_end, unread_end, memory_end, held_end}
+use Rattle.bundle_store.specs.Containers.{container_in}
+use Rattle.command_files.specs.Commands.{CommandSeen}
+use Rattle.script_runner.specs.Ending.{Ended, opening_of, unread_end, memory_end, unwritten_end, held, wrong_input, ending_of, without}
 
--- the named script's ending, or a read fault
-abbrev pub IsNamedEnding : ℕ → ℕ → (List ℕ → Option (List ℕ)) → List ℕ → Ended → Type 0
-IsNamedEnding reads reads' contents name e = (e ≡ held_end name (contents name)) ⊎ ((e ≡ unread_end name) × Rose reads reads')
+-- how often reading and writing files failed, and putting to the output
+pub record Faults : Type 0 where
+  pub reads : ℕ
+  pub writes : ℕ
+  pub puts : ℕ
 
--- the ending that is due, or a read fault where a script is named
-abbrev pub IsReadEnding : ℕ → ℕ → (List ℕ → Option (List ℕ)) → Option (List ℕ) → Ended → Type 0
-IsReadEnding reads reads' contents None e = e ≡ usage_end
-IsReadEnding reads reads' contents (Some name) e = IsNamedEnding reads reads' contents name e
+-- ---- how a call ends, where contents are told
 
-abbrev pub IsEnding : ℕ → ℕ → (List ℕ → Option (List ℕ)) → List (List ℕ) → Ended → Type 0
-IsEnding reads reads' contents words e = IsReadEnding reads reads' contents (words_read words) e
+-- reading a name failed, which counts as if it weren't there
+pub record ReadingFailed (before after : Faults) (contents : List ℕ → Option (List ℕ)) (c : Option CommandSeen) (e : Ended) : Type 0 where
+  pub name : List ℕ
+  pub told : e ≡ unread_end name
+  pub due : e ≡ ending_of (without name contents) c
+  pub rose : Rose before.reads after.reads
+
+-- the ending that is due, or a read fault
+abbrev pub IsEnding : (before after : Faults) → (List ℕ → Option (List ℕ)) → Option CommandSeen → Ended → Type 0
+IsEnding before after contents c e = (e ≡ ending_of contents c) ⊎ ReadingFailed before after contents c e
 
 -- a front of these bytes was put
 abbrev pub PutsPart : Option (List ℕ) → List ℕ → Option (List ℕ) → Type 0
 PutsPart old bytes new = (n : ℕ) × Gains old (take n bytes) new
 
+-- the first bytes were put, and a front of the second
+abbrev pub PutsBehind : Option (List ℕ) → (first second : List ℕ) → Option (List ℕ) → Type 0
+PutsBehind old first second new = (n : ℕ) × Gains old (first ++ take n second) new
+
 -- a put that fails makes 4 of the status 0, and leaves each other one
 abbrev pub unput_status : ℕ → ℕ
 unput_status status = if status == 0 then 4 else status
 
--- The text is put whole; or in part, where the output fails; or it isn't put for want of memory, which is told instead.
-abbrev pub Tells : ℕ → ℕ → Option (List ℕ) → Option (List ℕ) → Ended → ℕ → Type 0
-Tells faults faults' old new e status =
+-- Behind the replies a save that failed is told, in whole, or in part where the output fails; or want of memory is.
+abbrev pub TellsUnsaved : (before after : Faults) → Option (List ℕ) → (replies : List ℕ) → Option (List ℕ) → Option (List ℕ) → ℕ → Type 0
+TellsUnsaved before after None replies old new status = ⊥
+TellsUnsaved before after (Some name) replies old new status =
+    ((status ≡ 4) × Rose before.writes after.writes × Gains old (replies ++ (unwritten_end name).text) new)
+    ⊎ ((status ≡ 4) × Rose before.writes after.writes × Rose before.puts after.puts × PutsBehind old replies (unwritten_end name).text new)
+    ⊎ ((status ≡ 5) × PutsBehind old replies memory_end.text new)
+
+-- The text is put whole; or in part, where the output fails; or it isn't put for want of memory, which is told instead; or it is
+-- put, and then the container isn't saved under its name.
+abbrev pub Tells : (before after : Faults) → Option (List ℕ) → Option (List ℕ) → Option (List ℕ) → Ended → ℕ → Type 0
+Tells before after name old new e status =
     ((status ≡ e.status) × Gains old e.text new)
-    ⊎ ((status ≡ unput_status e.status) × Rose faults faults' × PutsPart old e.text new)
+    ⊎ ((status ≡ unput_status e.status) × Rose before.puts after.puts × PutsPart old e.text new)
+    ⊎ ((status ≡ 5) × PutsPart old memory_end.text new)
+    ⊎ ((e.status ≡ 0) × TellsUnsaved before after name e.text old new status)
+
+-- how the call ends, with the container to be saved under that name
+abbrev pub EndsWith : (before after : Faults) → (List ℕ → Option (List ℕ)) → Option CommandSeen → Option (List ℕ) → Option (List ℕ) → Option (List ℕ) → ℕ → Type 0
+EndsWith before after contents c name old new status =
+    ((e : Ended) × IsEnding before after contents c e × Tells before after name old new e status)
     ⊎ ((status ≡ 5) × PutsPart old memory_end.text new)
 
--- how the call ends, where contents are told
-abbrev pub EndsWith : (reads reads' faults faults' : ℕ) → (List ℕ → Option (List ℕ)) → List (List ℕ) → Option (List ℕ) → Option (List ℕ) → ℕ → Type 0
-EndsWith reads reads' faults faults' contents words old new status =
-    ((e : Ended) × IsEnding reads reads' contents words e × Tells faults faults' old new e status)
-    ⊎ ((status ≡ 5) × PutsPart old memory_end.text new)
+-- ---- what each status says, where contents are told
 
--- One run: the named script is there and is in the grammar, and the output got just the reply lines of the flat machine's
--- run of it under its schedule.
-pub record OneRun (contents : List ℕ → Option (List ℕ)) (words : List (List ℕ)) (old new : Option (List ℕ)) : Type 0 where
-  pub name : List ℕ
-  pub named : words_read words ≡ Some name
+-- One run: the named script is there and is in the grammar, the named inputs are there and have their forms, and the output got
+-- just the reply lines of the flat machine's run of the script under its schedule.
+pub record OneRun (contents : List ℕ → Option (List ℕ)) (c : Option CommandSeen) (old new : Option (List ℕ)) : Type 0 where
+  pub command : CommandSeen
+  pub read_as : c ≡ Some command
   pub bytes : List ℕ
-  pub there : contents name ≡ Some bytes
+  pub there : contents command.script ≡ Some bytes
   pub script : ScriptSeen
   pub reads : read_of bytes ≡ Ok script
+  pub fits : wrong_input (held contents command.bundles) (held contents command.keys) ≡ None
   pub prints : Gains old (host_text (opening_of script) script.schedule) new
 
 -- the named script is there and isn't in the grammar
-pub record IsBadScript (contents : List ℕ → Option (List ℕ)) (words : List (List ℕ)) : Type 0 where
-  pub name : List ℕ
-  pub named : words_read words ≡ Some name
+pub record IsBadScript (contents : List ℕ → Option (List ℕ)) (c : Option CommandSeen) : Type 0 where
+  pub command : CommandSeen
+  pub read_as : c ≡ Some command
   pub bytes : List ℕ
-  pub there : contents name ≡ Some bytes
+  pub there : contents command.script ≡ Some bytes
   pub line : ℕ
   pub reason : Reason
   pub reads : read_of bytes ≡ Err (Bad line reason)
 
--- the named script isn't there
-pub record IsAbsent (contents : List ℕ → Option (List ℕ)) (words : List (List ℕ)) : Type 0 where
+-- the command reads that name
+abbrev pub IsRead : CommandSeen → List ℕ → Type 0
+IsRead command name = (name ≡ command.script) ⊎ (command.bundles ≡ Some name) ⊎ (command.keys ≡ Some name)
+
+-- a name that the command reads isn't there
+pub record IsAbsent (contents : List ℕ → Option (List ℕ)) (c : Option CommandSeen) : Type 0 where
+  pub command : CommandSeen
+  pub read_as : c ≡ Some command
   pub name : List ℕ
-  pub named : words_read words ≡ Some name
+  pub named : IsRead command name
   pub absent : contents name ≡ None
 
--- why a script couldn't be read: the count of read faults rose, or the name isn't there where contents are told
-abbrev pub ReadCause : Option (List ℕ → Option (List ℕ)) → List (List ℕ) → ℕ → ℕ → Type 0
-ReadCause None words reads reads' = Rose reads reads'
-ReadCause (Some contents) words reads reads' = Rose reads reads' ⊎ IsAbsent contents words
+-- these bytes are no container, or too many
+abbrev pub IsNoContainer : List ℕ → Type 0
+IsNoContainer bytes = ((place : ℕ) × (container_in bytes ≡ Err place)) ⊎ (2 ^ 29 < length bytes)
+
+-- the named container is there, and is none
+pub record IsBadContainer (contents : List ℕ → Option (List ℕ)) (c : Option CommandSeen) : Type 0 where
+  pub command : CommandSeen
+  pub read_as : c ≡ Some command
+  pub name : List ℕ
+  pub named : command.bundles ≡ Some name
+  pub bytes : List ℕ
+  pub there : contents name ≡ Some bytes
+  pub wrong : IsNoContainer bytes
+
+-- the named key file is there, and hasn't its length
+pub record IsBadKeys (contents : List ℕ → Option (List ℕ)) (c : Option CommandSeen) : Type 0 where
+  pub command : CommandSeen
+  pub read_as : c ≡ Some command
+  pub name : List ℕ
+  pub named : command.keys ≡ Some name
+  pub bytes : List ℕ
+  pub there : contents name ≡ Some bytes
+  pub wrong : length bytes ≢ 64
+
+-- ---- causes
+
+-- why a name couldn't be read: the count of read faults rose, or the name isn't there where contents are told
+abbrev pub ReadCause : Option (List ℕ → Option (List ℕ)) → Option CommandSeen → ℕ → ℕ → Type 0
+ReadCause None c reads reads' = Rose reads reads'
+ReadCause (Some contents) c reads reads' = Rose reads reads' ⊎ IsAbsent contents c
+
+-- why an output wasn't written: the output's count of faults rose, or that of write faults where a container is named
+abbrev pub WriteCause : (before after : Faults) → Option (List ℕ) → Type 0
+WriteCause before after name = Rose before.puts after.puts ⊎ ((name ≢ None) × Rose before.writes after.writes)
+
+-- the ending that is due comes, unless memory was wanting, a count of read faults rose, or, at status 0, another count
+abbrev pub IsComplete : (before after : Faults) → Ended → ℕ → Type 0
+IsComplete before after due status =
+    (status ≡ due.status) ⊎ (status ≡ 5) ⊎ Rose before.reads after.reads ⊎ ((due.status ≡ 0) × (Rose before.writes after.writes ⊎ Rose before.puts after.puts))
+
+-- ---- after the statuses 4 and 5
 
 -- what the status 0 puts, where it is due
 abbrev pub success_text : Ended → List ℕ
 success_text e = if e.status == 0 then e.text else []
 
--- of the statuses 4 and 5, the status 5 alone has a text of its own where nothing was to be saved
-abbrev pub own_text : ℕ → List ℕ
-own_text status = if status == 5 then memory_end.text else []
+-- the text of the status 5, or of the status 4 where a container was to be saved under that name
+abbrev pub unsaved_text : Option (List ℕ) → List ℕ
+unsaved_text None = []
+unsaved_text (Some name) = (unwritten_end name).text
+
+abbrev pub own_text : Option (List ℕ) → ℕ → List ℕ
+own_text name status = if status == 5 then memory_end.text else unsaved_text name
 
 -- After a status 4 or 5 the output got a front of what the status 0 puts, and then a front of that status's own text.
 abbrev pub PutsFronts : Option (List ℕ) → List ℕ → List ℕ → Option (List ℕ) → Type 0
 PutsFronts old first second new = (n m : ℕ) × Gains old (take n first ++ take m second) new
-
--- Where the status 0 is due it comes, unless memory was wanting or a count of faults rose.
-abbrev pub IsComplete : (reads reads' faults faults' : ℕ) → Ended → ℕ → Type 0
-IsComplete reads reads' faults faults' due status = due.status ≡ 0 → (status ≡ 0) ⊎ (status ≡ 5) ⊎ Rose reads reads' ⊎ Rose faults faults'

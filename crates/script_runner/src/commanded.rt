@@ -1,17 +1,13 @@
 //! The ending that is due by what a command loads.
 
-ghost use Rattle.std.specs.Prelude.{◌≡◌, ◌≢◌, ◌≤◌, ℕ, Result, Some, IfOk, IfSome, IfNone};
-ghost use Rattle.std.specs.Global.{Vec};
+ghost use Rattle.std.specs.Prelude.{◌≡◌, ◌≢◌, ◌≤◌, Result, IfOk};
 ghost use Rattle.script_text.specs.Laws.{IsInForm};
 ghost use Rattle.script_text.specs.Reading.{read_of};
-ghost use Rattle.command_files.specs.Commands.{CommandSeen, command_seen};
-ghost use Rattle.command_files.specs.Inputs.{Reads, TakesInputs};
+ghost use Rattle.command_files.specs.Commands.{command_seen};
+ghost use Rattle.command_files.specs.Inputs.{TakesInputs};
 ghost use Rattle.command_files.specs.declared.inputs.InputFault.{InputFault};
-ghost use Rattle.bundle_store.specs.Outside.{Rose};
 ghost use Rattle.script_runner.specs.Ending.{ending_seen};
-ghost use Rattle.script_runner.specs.Ends.{IsNamedEnding};
-ghost use Rattle.script_runner.specs.Done.{LoadsOnce, ComesTo, IsLoad};
-ghost use Rattle.script_runner.specs.Commanded.{InputsEnd, ReadEnd, AnswerEnd, FurtherPart, Reaches, ReachesPart, IsAlone};
+ghost use Rattle.script_runner.specs.Commanded.{InputsEnd, ReadEnd, AnswerEnd, FurtherPart, Reaches, ReachesPart};
 
 use crate::ending::{Ending, bad, of_fault, run, unread};
 use bundle_store::{Files, LoadFault};
@@ -111,11 +107,6 @@ pub fn of_command<F: Files>(
 ) -> Result<Ending, AllocError>
     ensures ends { IfOk result (λ e. Reaches (F.contents files.old) (command_seen command.now) (record { loads = F.loads files.old; faults = F.read_faults files.old; bytes = F.bytes_read files.old }) (record { loads = F.loads files.new; faults = F.read_faults files.new; bytes = F.bytes_read files.new }) (ending_seen e)) }
     ensures part { ReachesPart (F.contents files.old) (command_seen command.now) (record { loads = F.loads files.old; faults = F.read_faults files.old; bytes = F.bytes_read files.old }) (record { loads = F.loads files.new; faults = F.read_faults files.new; bytes = F.bytes_read files.new }) }
-    ensures alone_load { IsAlone (Some (command_seen command.now)) → (answer : Result (Vec ℕ) LoadFault) × LoadsOnce (F.loads files.old) command.now.script.now answer (F.loads files.new) × IsLoad (F.contents files.old) (F.read_faults files.old) (F.read_faults files.new) (F.bytes_read files.old) (F.bytes_read files.new) (record { name = command.now.script.now; answer = answer }) }
-    ensures alone_comes { IsAlone (Some (command_seen command.now)) → IfOk result (λ e. (answer : Result (Vec ℕ) LoadFault) × LoadsOnce (F.loads files.old) command.now.script.now answer (F.loads files.new) × ComesTo command.now.script.now answer (ending_seen e)) }
-    ensures alone_told { IsAlone (Some (command_seen command.now)) → IfSome (F.contents files.old) (λ c. IfOk result (λ e. IsNamedEnding (F.read_faults files.old) (F.read_faults files.new) c command.now.script.now (ending_seen e))) }
-    ensures alone_untold { IsAlone (Some (command_seen command.now)) → IfNone (F.contents files.old) (IfOk result (λ e. e.status ≡ 3 → Rose (F.read_faults files.old) (F.read_faults files.new))) }
-    ensures alone_few { IsAlone (Some (command_seen command.now)) → IfOk result (λ e. e.status ≤ 5) }
     ensures same { F.contents files.new ≡ F.contents files.old }
     ensures saves { F.saves files.new ≡ F.saves files.old }
     ensures writes { F.write_faults files.new ≡ F.write_faults files.old }

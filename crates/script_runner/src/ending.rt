@@ -4,8 +4,8 @@ ghost use Rattle.std.specs.Prelude.{◌≡◌, ◌≢◌, ◌≤◌, IfOk, Ok, E
 ghost use Rattle.script_text.specs.Laws.{IsInForm};
 ghost use Rattle.script_text.specs.Seen.{ScriptSeen};
 ghost use Rattle.command_files.specs.Commands.{command_seen};
-ghost use Rattle.script_runner.specs.Ending.{ending_seen, usage_end, unread_end, bad_end, script_end};
-ghost use Rattle.script_runner.specs.Commanded.{container_end, keys_end, unwritten_end, input_name, InputsEnd};
+ghost use Rattle.script_runner.specs.Ending.{ending_seen, usage_end, unread_end, bad_end, script_end, container_end, keys_end, unwritten_end, input_name};
+ghost use Rattle.script_runner.specs.Commanded.{InputsEnd};
 
 use crate::replay::replay_text;
 use command_files::{Command, Input, InputFault};

@@ -42,7 +42,7 @@ fn writes_the_first_bundles_header(rt: HostRuntime) -> Result<(), Fail> {
 }
 
 /// The first bundle's bytes, with a byte changed.
-fn changed(place: usize, value: u8) -> [u8; 4160] {
+pub fn changed(place: usize, value: u8) -> [u8; 4160] {
     let mut bytes = [0u8; 4160];
     write_header(&first(), &mut bytes[..64]);
     if place < 4160 {

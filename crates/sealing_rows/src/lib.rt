@@ -8,3 +8,5 @@ mod ciphers;
 mod containers;
 #[cfg(test)]
 mod headers;
+#[cfg(test)]
+mod turned_bits;

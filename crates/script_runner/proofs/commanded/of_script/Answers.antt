@@ -1,4 +1,4 @@
-use Rattle.script_runner.proofs.Alone.{fault_ends}
+use Rattle.script_runner.proofs.Came.{fault_ends}
 use Rattle.script_runner.proofs.commanded.of_script.Goals as goal
 
 pub returns-in-Err-clause-ends : goal.returns-in-Err-clause-ends

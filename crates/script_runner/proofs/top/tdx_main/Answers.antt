@@ -1,52 +1,82 @@
-use Rattle.std.proofs.Common.{map, string_bytes}
-use Rattle.command_files.specs.Commands.{command_in}
-use Rattle.script_runner.proofs.Fronts.{told_fronts, told_memory}
-use Rattle.script_runner.proofs.Done.{run_put, run_lost, fault_put, memory_put}
-use Rattle.script_runner.proofs.Alone.{no_container, told_ends, told_bad, told_unread, some_put}
+use Rattle.std.proofs.Common.{ap}
+use Rattle.script_runner.specs.Commanded.{Writes}
+use Rattle.script_runner.proofs.Histories.{all_loads, all_ends, told_run, told_complete, told_bad, told_container, told_keys, told_fronts, put_run, all_saved, put_usage, put_fault, put_name, put_place, put_keys, put_lost, put_memory, unread_cause, lost_cause, used, one_text, some_text, same_files, none_saved}
 use Rattle.script_runner.proofs.top.tdx_main.Goals as goal
 
-pub returns-in-Ok-clause-put_run : goal.returns-in-Ok-clause-put_run
-returns-in-Ok-clause-put_run g c alone zero =
-    let (answer, tells) = c.finish.ensures.put (no_container (command_in (map string_bytes c.args.words.now)) alone) in
-    rw c.finish.ensures.loads (run_put _ _ _ _ _ _ _ (c.in-Ok.ensures.comes alone) answer tells zero)
+pub returns-clause-loads : goal.returns-clause-loads
+returns-clause-loads g c = all_loads _ _ _ _ _ _ _ _ _ c.do_command.ensures.does
 
-pub returns-in-Ok-clause-put_fault : goal.returns-in-Ok-clause-put_fault
-returns-in-Ok-clause-put_fault g c alone two =
-    let (answer, tells) = c.finish.ensures.put (no_container (command_in (map string_bytes c.args.words.now)) alone) in
-    rw c.finish.ensures.loads (fault_put _ _ _ _ _ _ _ (c.in-Ok.ensures.comes alone) answer tells two)
+pub returns-clause-put_run : goal.returns-clause-put_run
+returns-clause-put_run g c = put_run _ _ _ _ _ _ _ _ _ c.do_command.ensures.does
 
-pub returns-in-Ok-clause-put_lost : goal.returns-in-Ok-clause-put_lost
-returns-in-Ok-clause-put_lost g c alone four =
-    let (answer, tells) = c.finish.ensures.put (no_container (command_in (map string_bytes c.args.words.now)) alone) in
-    rw c.finish.ensures.loads (run_lost _ _ _ _ _ _ _ c.in-Ok.ensures.not_write (c.in-Ok.ensures.comes alone) answer tells four)
+pub returns-clause-saved : goal.returns-clause-saved
+returns-clause-saved g c = all_saved _ _ _ _ _ _ _ _ _ c.do_command.ensures.does
 
-pub returns-in-Ok-clause-put_memory : goal.returns-in-Ok-clause-put_memory
-returns-in-Ok-clause-put_memory g c alone five =
-    let (answer, tells) = c.finish.ensures.put (no_container (command_in (map string_bytes c.args.words.now)) alone) in
-    memory_put _ _ _ _ _ _ _ (c.in-Ok.ensures.comes alone) answer tells five
+pub returns-clause-put_usage : goal.returns-clause-put_usage
+returns-clause-put_usage g c = put_usage _ _ _ _ _ _ _ _ _ c.do_command.ensures.does
 
-pub returns-in-Ok-clause-ends : goal.returns-in-Ok-clause-ends
-returns-in-Ok-clause-ends g c alone =
-    rw c.finish.ensures.reads
-    (told_ends _ _ _ _ _ _ _ _ _ _ (c.in-Ok.ensures.told alone) (c.finish.ensures.tells (no_container (command_in (map string_bytes c.args.words.now)) alone)))
+pub returns-clause-put_fault : goal.returns-clause-put_fault
+returns-clause-put_fault g c = put_fault _ _ _ _ _ _ _ _ _ c.do_command.ensures.does
 
-pub returns-in-Ok-clause-bad : goal.returns-in-Ok-clause-bad
-returns-in-Ok-clause-bad g c alone two =
-    told_bad _ _ _ _ _ _ _ _ _ _ (c.in-Ok.ensures.told alone) (c.finish.ensures.tells (no_container (command_in (map string_bytes c.args.words.now)) alone)) two
+pub returns-clause-put_name : goal.returns-clause-put_name
+returns-clause-put_name g c = put_name _ _ _ _ _ _ _ _ _ c.do_command.ensures.does
 
-pub returns-in-Ok-clause-read : goal.returns-in-Ok-clause-read
-returns-in-Ok-clause-read g c alone three =
-    rw c.finish.ensures.reads
-    (told_unread _ _ _ _ _ _ _ _ _ _ (c.in-Ok.ensures.told alone) (c.in-Ok.ensures.untold alone) (c.finish.ensures.tells (no_container (command_in (map string_bytes c.args.words.now)) alone)) three)
+pub returns-clause-put_place : goal.returns-clause-put_place
+returns-clause-put_place g c = put_place _ _ _ _ _ _ _ _ _ c.do_command.ensures.does
 
-pub returns-in-Ok-clause-fronts : goal.returns-in-Ok-clause-fronts
-returns-in-Ok-clause-fronts g c alone which =
-    told_fronts _ _ _ _ _ _ _ _ _ _ c.in-Ok.ensures.not_write (c.in-Ok.ensures.told alone) (c.finish.ensures.tells (no_container (command_in (map string_bytes c.args.words.now)) alone)) which
+pub returns-clause-put_keys : goal.returns-clause-put_keys
+returns-clause-put_keys g c = put_keys _ _ _ _ _ _ _ _ _ c.do_command.ensures.does
 
-pub returns-in-Err-clause-fronts : goal.returns-in-Err-clause-fronts
-returns-in-Err-clause-fronts g c alone which = told_memory _ _ _ _ _ c.give_up.ensures.status c.give_up.ensures.text
+pub returns-clause-put_lost : goal.returns-clause-put_lost
+returns-clause-put_lost g c = put_lost _ _ _ _ _ _ _ _ _ c.do_command.ensures.does
 
-pub returns-in-Ok-clause-tried : goal.returns-in-Ok-clause-tried
-returns-in-Ok-clause-tried g c alone =
-    let (answer, tells) = c.finish.ensures.put (no_container (command_in (map string_bytes c.args.words.now)) alone) in
-    some_put _ _ _ _ answer tells
+pub returns-clause-put_memory : goal.returns-clause-put_memory
+returns-clause-put_memory g c = put_memory _ _ _ _ _ _ _ _ _ c.do_command.ensures.does
+
+pub returns-clause-one_run : goal.returns-clause-one_run
+returns-clause-one_run g c zero = told_run _ _ _ _ _ _ _ _ _ c.do_command.ensures.does zero
+
+pub returns-clause-ends : goal.returns-clause-ends
+returns-clause-ends g c = all_ends _ _ _ _ _ _ _ _ _ c.do_command.ensures.does
+
+pub returns-clause-complete : goal.returns-clause-complete
+returns-clause-complete g c = told_complete _ _ _ _ _ _ _ _ _ c.do_command.ensures.does
+
+pub returns-clause-usage : goal.returns-clause-usage
+returns-clause-usage g c one = (put_usage _ _ _ _ _ _ _ _ _ c.do_command.ensures.does one).0
+
+pub returns-clause-used : goal.returns-clause-used
+returns-clause-used g c = used _ _ _ _ _ _ _ _ _ c.do_command.ensures.does
+
+pub returns-clause-bad : goal.returns-clause-bad
+returns-clause-bad g c two = told_bad _ _ _ _ _ _ _ _ _ c.do_command.ensures.does two
+
+pub returns-clause-read : goal.returns-clause-read
+returns-clause-read g c = unread_cause _ _ _ _ _ _ _ _ _ c.do_command.ensures.does
+
+pub returns-clause-write : goal.returns-clause-write
+returns-clause-write g c = lost_cause _ _ _ _ _ _ _ _ _ c.do_command.ensures.does
+
+pub returns-clause-container : goal.returns-clause-container
+returns-clause-container g c six = told_container _ _ _ _ _ _ _ _ _ c.do_command.ensures.does six
+
+pub returns-clause-keys : goal.returns-clause-keys
+returns-clause-keys g c seven = told_keys _ _ _ _ _ _ _ _ _ c.do_command.ensures.does seven
+
+pub returns-clause-fronts : goal.returns-clause-fronts
+returns-clause-fronts g c which = told_fronts _ _ _ _ _ _ _ _ _ c.do_command.ensures.does which
+
+pub returns-clause-put : goal.returns-clause-put
+returns-clause-put g c = one_text _ _ _ _ _ _ _ _ _ c.do_command.ensures.does
+
+pub returns-clause-tried : goal.returns-clause-tried
+returns-clause-tried g c = some_text _ _ _ _ _ _ _ _ _ c.do_command.ensures.does
+
+pub returns-clause-same : goal.returns-clause-same
+returns-clause-same g c = same_files _ _ _ _ _ _ _ _ _ c.do_command.ensures.does
+
+pub returns-clause-saves : goal.returns-clause-saves
+returns-clause-saves g c h = ap (λ (x : Writes). x.saves) (none_saved _ _ _ _ _ _ _ _ _ c.do_command.ensures.does h)
+
+pub returns-clause-writes : goal.returns-clause-writes
+returns-clause-writes g c h = ap (λ (x : Writes). x.faults) (none_saved _ _ _ _ _ _ _ _ _ c.do_command.ensures.does h)

@@ -1,0 +1,413 @@
+-- What the call's histories say of each status, and what changes.
+use Rattle.std.proofs.Common.{◌≡◌, ◌≢◌, ◌⊎◌, inl, inr, refl, sym, ◌∙◌, ap, subst, ℕ, List, [], ◌∷◌, ◌++◌, append-nil, append_assoc, Option, Some, None, IfSome, IfNone, Result, Ok, Err, arith}
+use Rattle.std.specs.Global.{Vec}
+use Rattle.script_text.specs.declared.faults.ScriptFault.{ScriptFault}
+use Rattle.script_text.specs.Reading.{read_of}
+use Rattle.script_text.specs.Seen.{ScriptSeen}
+use Rattle.bundle_store.specs.declared.outside.LoadFault.{LoadFault}
+use Rattle.bundle_store.specs.declared.outside.LoadFault.TheVariants as load
+use Rattle.bundle_store.specs.declared.outside.PutFault.{PutFault}
+use Rattle.bundle_store.specs.declared.outside.PutFault.TheVariants as put
+use Rattle.bundle_store.specs.Outside.{Rose}
+use Rattle.bundle_store.specs.History.{Put}
+use Rattle.command_files.specs.Commands.{CommandSeen}
+use Rattle.command_files.specs.Inputs.{Reads}
+use Rattle.script_runner.specs.Ending.{Ended, memory_end, unwritten_end, ending_of}
+use Rattle.script_runner.specs.Ends.{Faults, ReadCause, WriteCause, EndsWith, OneRun, IsBadScript, IsBadContainer, IsBadKeys, IsComplete, success_text, own_text, PutsFronts}
+use Rattle.script_runner.specs.Done.{PutsOnce, PutsText, PutsRun, PutsUsage, PutsFault, PutsName, PutsPlace, PutsKeys, PutsLost, PutsMemory, SavesNothing}
+use Rattle.script_runner.specs.Commanded.{Comes, ComesPart, AnswerEnd, ReadEnd, FurtherPart, Outputs, Writes, AllSaved, DoesCommand, out_name}
+use Rattle.script_runner.proofs.Closing.{Closing, closing, unput, never_zero, Told, Lost, Wanting, Whole, Unsaved, WantingAfter}
+use Rattle.script_runner.proofs.Came.{Came, came, Usage, Unread, BadScript, Want, Place, Keys, Run}
+use Rattle.script_runner.proofs.Endings.{ends_with}
+use Rattle.script_runner.proofs.Endings as endings
+
+-- ---- what was loaded, and the text that was put
+
+module _ (contents : Option (List ℕ → Option (List ℕ))) (c : Option CommandSeen) (r r' : Reads) (e : Ended) (puts puts' : List Put) where
+  run_done : (answer : Result (Unit {0}) PutFault) → Came contents c r r' e → e.status ≡ 0 → PutsOnce puts e.text answer puts' → PutsRun c r.loads r'.loads puts puts' answer
+  run_done a (Usage none same is) st p = absurd (let t = ap (λ (x : Ended). x.status) is in omega (arith, t, st))
+  run_done a (Unread k is_c n named before answer loaded u rose is) st p = absurd (let t = ap (λ (x : Ended). x.status) is in omega (arith, t, st))
+  run_done a (BadScript k is_c answer loaded line reason first is) st p = absurd (let t = ap (λ (x : Ended). x.status) is in omega (arith, t, st))
+  run_done a (Want k is_c is) st p = absurd (let t = ap (λ (x : Ended). x.status) is in omega (arith, t, st))
+  run_done a (Place k is_c n named before answer loaded place wrong is) st p = absurd (let t = ap (λ (x : Ended). x.status) is in omega (arith, t, st))
+  run_done a (Keys k is_c n named before answer loaded wrong is) st p = absurd (let t = ap (λ (x : Ended). x.status) is in omega (arith, t, st))
+  run_done a (Run k is_c given loaded s reads is) st p = record { command = k; read_as = is_c; given = given; loaded = loaded; script = s; reads = reads; prints = subst (λ (x : Ended). PutsOnce puts x.text a puts') is p }
+
+  usage_done : Came contents c r r' e → e.status ≡ 1 → PutsText puts e.text puts' → PutsUsage c r.loads r'.loads puts puts'
+  usage_done (Usage none same is) st p = (none, same, subst (λ (x : Ended). PutsText puts x.text puts') is p)
+  usage_done (Unread k is_c n named before answer loaded u rose is) st p = absurd (let t = ap (λ (x : Ended). x.status) is in omega (arith, t, st))
+  usage_done (BadScript k is_c answer loaded line reason first is) st p = absurd (let t = ap (λ (x : Ended). x.status) is in omega (arith, t, st))
+  usage_done (Want k is_c is) st p = absurd (let t = ap (λ (x : Ended). x.status) is in omega (arith, t, st))
+  usage_done (Place k is_c n named before answer loaded place wrong is) st p = absurd (let t = ap (λ (x : Ended). x.status) is in omega (arith, t, st))
+  usage_done (Keys k is_c n named before answer loaded wrong is) st p = absurd (let t = ap (λ (x : Ended). x.status) is in omega (arith, t, st))
+  usage_done (Run k is_c given loaded s reads is) st p = absurd (let t = ap (λ (x : Ended). x.status) is in omega (arith, t, st))
+
+  fault_done : Came contents c r r' e → e.status ≡ 2 → PutsText puts e.text puts' → PutsFault c r.loads r'.loads puts puts'
+  fault_done (Usage none same is) st p = absurd (let t = ap (λ (x : Ended). x.status) is in omega (arith, t, st))
+  fault_done (Unread k is_c n named before answer loaded u rose is) st p = absurd (let t = ap (λ (x : Ended). x.status) is in omega (arith, t, st))
+  fault_done (BadScript k is_c answer loaded line reason first is) st p = record { command = k; read_as = is_c; answer = answer; loaded = loaded; line = line; reason = reason; first = first; prints = subst (λ (x : Ended). PutsText puts x.text puts') is p }
+  fault_done (Want k is_c is) st p = absurd (let t = ap (λ (x : Ended). x.status) is in omega (arith, t, st))
+  fault_done (Place k is_c n named before answer loaded place wrong is) st p = absurd (let t = ap (λ (x : Ended). x.status) is in omega (arith, t, st))
+  fault_done (Keys k is_c n named before answer loaded wrong is) st p = absurd (let t = ap (λ (x : Ended). x.status) is in omega (arith, t, st))
+  fault_done (Run k is_c given loaded s reads is) st p = absurd (let t = ap (λ (x : Ended). x.status) is in omega (arith, t, st))
+
+  name_done : Came contents c r r' e → e.status ≡ 3 → PutsText puts e.text puts' → PutsName c r.loads r'.loads puts puts'
+  name_done (Usage none same is) st p = absurd (let t = ap (λ (x : Ended). x.status) is in omega (arith, t, st))
+  name_done (Unread k is_c n named before answer loaded u rose is) st p = record { command = k; read_as = is_c; name = n; named = named; before = before; answer = answer; loaded = loaded; unread = u; prints = subst (λ (x : Ended). PutsText puts x.text puts') is p }
+  name_done (BadScript k is_c answer loaded line reason first is) st p = absurd (let t = ap (λ (x : Ended). x.status) is in omega (arith, t, st))
+  name_done (Want k is_c is) st p = absurd (let t = ap (λ (x : Ended). x.status) is in omega (arith, t, st))
+  name_done (Place k is_c n named before answer loaded place wrong is) st p = absurd (let t = ap (λ (x : Ended). x.status) is in omega (arith, t, st))
+  name_done (Keys k is_c n named before answer loaded wrong is) st p = absurd (let t = ap (λ (x : Ended). x.status) is in omega (arith, t, st))
+  name_done (Run k is_c given loaded s reads is) st p = absurd (let t = ap (λ (x : Ended). x.status) is in omega (arith, t, st))
+
+  place_done : Came contents c r r' e → e.status ≡ 6 → PutsText puts e.text puts' → PutsPlace c r.loads r'.loads puts puts'
+  place_done (Usage none same is) st p = absurd (let t = ap (λ (x : Ended). x.status) is in omega (arith, t, st))
+  place_done (Unread k is_c n named before answer loaded u rose is) st p = absurd (let t = ap (λ (x : Ended). x.status) is in omega (arith, t, st))
+  place_done (BadScript k is_c answer loaded line reason first is) st p = absurd (let t = ap (λ (x : Ended). x.status) is in omega (arith, t, st))
+  place_done (Want k is_c is) st p = absurd (let t = ap (λ (x : Ended). x.status) is in omega (arith, t, st))
+  place_done (Place k is_c n named before answer loaded place wrong is) st p = record { command = k; read_as = is_c; name = n; named = named; before = before; answer = answer; loaded = loaded; place = place; wrong = wrong; prints = subst (λ (x : Ended). PutsText puts x.text puts') is p }
+  place_done (Keys k is_c n named before answer loaded wrong is) st p = absurd (let t = ap (λ (x : Ended). x.status) is in omega (arith, t, st))
+  place_done (Run k is_c given loaded s reads is) st p = absurd (let t = ap (λ (x : Ended). x.status) is in omega (arith, t, st))
+
+  keys_done : Came contents c r r' e → e.status ≡ 7 → PutsText puts e.text puts' → PutsKeys c r.loads r'.loads puts puts'
+  keys_done (Usage none same is) st p = absurd (let t = ap (λ (x : Ended). x.status) is in omega (arith, t, st))
+  keys_done (Unread k is_c n named before answer loaded u rose is) st p = absurd (let t = ap (λ (x : Ended). x.status) is in omega (arith, t, st))
+  keys_done (BadScript k is_c answer loaded line reason first is) st p = absurd (let t = ap (λ (x : Ended). x.status) is in omega (arith, t, st))
+  keys_done (Want k is_c is) st p = absurd (let t = ap (λ (x : Ended). x.status) is in omega (arith, t, st))
+  keys_done (Place k is_c n named before answer loaded place wrong is) st p = absurd (let t = ap (λ (x : Ended). x.status) is in omega (arith, t, st))
+  keys_done (Keys k is_c n named before answer loaded wrong is) st p = record { command = k; read_as = is_c; name = n; named = named; before = before; answer = answer; loaded = loaded; wrong = wrong; prints = subst (λ (x : Ended). PutsText puts x.text puts') is p }
+  keys_done (Run k is_c given loaded s reads is) st p = absurd (let t = ap (λ (x : Ended). x.status) is in omega (arith, t, st))
+
+  memory_due : Came contents c r r' e → e.status ≡ 5 → e.text ≡ memory_end.text
+  memory_due (Usage none same is) st = absurd (let t = ap (λ (x : Ended). x.status) is in omega (arith, t, st))
+  memory_due (Unread k is_c n named before answer loaded u rose is) st = absurd (let t = ap (λ (x : Ended). x.status) is in omega (arith, t, st))
+  memory_due (BadScript k is_c answer loaded line reason first is) st = absurd (let t = ap (λ (x : Ended). x.status) is in omega (arith, t, st))
+  memory_due (Want k is_c is) st = ap (λ (x : Ended). x.text) is
+  memory_due (Place k is_c n named before answer loaded place wrong is) st = absurd (let t = ap (λ (x : Ended). x.status) is in omega (arith, t, st))
+  memory_due (Keys k is_c n named before answer loaded wrong is) st = absurd (let t = ap (λ (x : Ended). x.status) is in omega (arith, t, st))
+  memory_due (Run k is_c given loaded s reads is) st = absurd (let t = ap (λ (x : Ended). x.status) is in omega (arith, t, st))
+
+  never_four : Came contents c r r' e → e.status ≢ 4
+  never_four (Usage none same is) st = absurd (let t = ap (λ (x : Ended). x.status) is in omega (arith, t, st))
+  never_four (Unread k is_c n named before answer loaded u rose is) st = absurd (let t = ap (λ (x : Ended). x.status) is in omega (arith, t, st))
+  never_four (BadScript k is_c answer loaded line reason first is) st = absurd (let t = ap (λ (x : Ended). x.status) is in omega (arith, t, st))
+  never_four (Want k is_c is) st = absurd (let t = ap (λ (x : Ended). x.status) is in omega (arith, t, st))
+  never_four (Place k is_c n named before answer loaded place wrong is) st = absurd (let t = ap (λ (x : Ended). x.status) is in omega (arith, t, st))
+  never_four (Keys k is_c n named before answer loaded wrong is) st = absurd (let t = ap (λ (x : Ended). x.status) is in omega (arith, t, st))
+  never_four (Run k is_c given loaded s reads is) st = absurd (let t = ap (λ (x : Ended). x.status) is in omega (arith, t, st))
+
+  rose_due : Came contents c r r' e → e.status ≡ 3 → IfNone contents (Rose r.faults r'.faults)
+  rose_due (Usage none same is) st = absurd (let t = ap (λ (x : Ended). x.status) is in omega (arith, t, st))
+  rose_due (Unread k is_c n named before answer loaded u rose is) st = rose
+  rose_due (BadScript k is_c answer loaded line reason first is) st = absurd (let t = ap (λ (x : Ended). x.status) is in omega (arith, t, st))
+  rose_due (Want k is_c is) st = absurd (let t = ap (λ (x : Ended). x.status) is in omega (arith, t, st))
+  rose_due (Place k is_c n named before answer loaded place wrong is) st = absurd (let t = ap (λ (x : Ended). x.status) is in omega (arith, t, st))
+  rose_due (Keys k is_c n named before answer loaded wrong is) st = absurd (let t = ap (λ (x : Ended). x.status) is in omega (arith, t, st))
+  rose_due (Run k is_c given loaded s reads is) st = absurd (let t = ap (λ (x : Ended). x.status) is in omega (arith, t, st))
+
+-- each load, however far the call came
+read_part : (contents : Option (List ℕ → Option (List ℕ))) (c : CommandSeen) (b r' : Reads) (read : Result ScriptSeen ScriptFault) (e : Ended) → ReadEnd contents c b r' read e → FurtherPart contents c b r'
+read_part contents c b r' (Ok s) e (res, takes, ends) = inr (res, takes)
+read_part contents c b r' (Err f) e (same, is) = inl same
+
+answer_part : (contents : Option (List ℕ → Option (List ℕ))) (c : CommandSeen) (b r' : Reads) (answer : Result (Vec ℕ) LoadFault) (e : Ended) → AnswerEnd contents c b r' answer e → FurtherPart contents c b r'
+answer_part contents c b r' (Ok given) e h = read_part contents c b r' (read_of given.items) e h
+answer_part contents c b r' (Err load.Absent) e h = inl h.0
+answer_part contents c b r' (Err load.TooLong) e h = inl h.0
+answer_part contents c b r' (Err load.Failed) e h = inl h.0
+answer_part contents c b r' (Err load.OutOfMemory) e h = absurd h
+
+comes_part : (contents : Option (List ℕ → Option (List ℕ))) (c : Option CommandSeen) (r r' : Reads) (e : Ended) → Comes contents c r r' e → ComesPart contents c r r'
+comes_part contents None r r' e h = h.0
+comes_part contents (Some c) r r' e h = record { answer = h.answer; between = h.between; script_loaded = h.script_loaded; further = answer_part contents c h.between r' h.answer e h.ends }
+
+-- ---- what was put and saved, by the status
+
+module _ (name : Option (List ℕ)) (e : Ended) (w w' : Writes) (o o' : Outputs) (status : ℕ) where
+  closes : status ≢ 0 → status ≢ 4 → status ≢ 5 → Closing name e w w' o o' status → (e.status ≡ status) × PutsText o.puts e.text o'.puts
+  closes x0 x4 x5 (Told puts not_zero is kept) = (sym is, (Ok tt, (λ q. cc), puts.noted))
+  closes x0 x4 x5 (Lost puts is kept) = elim (unput e.status status is) [ inl x ↦ absurd (x4 x.1) | inr x ↦ (sym x.1, (Err put.Failed, (λ q. cc), puts.noted)) ]
+  closes x0 x4 x5 (Wanting b puts want kept) = absurd (x5 want.0)
+  closes x0 x4 x5 (Whole puts zero is saved) = absurd (x0 is)
+  closes x0 x4 x5 (Unsaved n b answer named zero puts saves not_want last four) = absurd (x4 four)
+  closes x0 x4 x5 (WantingAfter n b b' named zero puts kept which want) = absurd (x5 want.0)
+
+  closes_whole : status ≡ 0 → Closing name e w w' o o' status → (e.status ≡ 0) × PutsOnce o.puts e.text (Ok tt) o'.puts × AllSaved name w w'
+  closes_whole zero (Told puts not_zero is kept) = absurd (not_zero (sym is ∙ zero))
+  closes_whole zero (Lost puts is kept) = absurd (never_zero e.status status is zero)
+  closes_whole zero (Wanting b puts want kept) = absurd (let q = want.0 in omega (arith, zero, q))
+  closes_whole zero (Whole puts is_zero is saved) = (is_zero, puts.noted, saved)
+  closes_whole zero (Unsaved n b answer named is_zero puts saves not_want last four) = absurd (omega (arith, zero, four))
+  closes_whole zero (WantingAfter n b b' named is_zero puts kept which want) = absurd (let q = want.0 in omega (arith, zero, q))
+
+  -- nothing was saved
+  keeps : SavesNothing name status → Closing name e w w' o o' status → w' ≡ w
+  keeps h (Told puts not_zero is kept) = kept
+  keeps h (Lost puts is kept) = kept
+  keeps h (Wanting b puts want kept) = kept
+  keeps (inl none) (Whole puts zero is saved) = subst (λ (x : Option (List ℕ)). AllSaved x w w') none saved
+  keeps (inr h) (Whole puts zero is saved) = absurd (h.0 is)
+  keeps (inl none) (Unsaved n b answer named zero puts saves not_want last four) = absurd (cc)
+  keeps (inr h) (Unsaved n b answer named zero puts saves not_want last four) = absurd (h.1 four)
+  keeps (inl none) (WantingAfter n b b' named zero puts kept which want) = absurd (cc)
+  keeps (inr h) (WantingAfter n b b' named zero puts kept which want) = absurd (h.2 want.0)
+
+  -- what files have is as before
+  same_contents : (name ≡ None) ⊎ (status ≢ 0) → Closing name e w w' o o' status → w'.contents ≡ w.contents
+  same_contents h (Told puts not_zero is kept) = ap (λ (x : Writes). x.contents) kept
+  same_contents h (Lost puts is kept) = ap (λ (x : Writes). x.contents) kept
+  same_contents h (Wanting b puts want kept) = ap (λ (x : Writes). x.contents) kept
+  same_contents (inl none) (Whole puts zero is saved) = ap (λ (x : Writes). x.contents) (subst (λ (x : Option (List ℕ)). AllSaved x w w') none saved)
+  same_contents (inr h) (Whole puts zero is saved) = absurd (h is)
+  same_contents h (Unsaved n b answer named zero puts saves not_want last four) = saves.kept
+  same_contents h (WantingAfter n b b' named zero puts kept which want) = kept
+
+  one_put : (name ≡ None) ⊎ (status ≢ 4) → status ≢ 5 → Closing name e w w' o o' status → (p : Put) × (o'.puts ≡ o.puts ++ p ∷ [])
+  one_put h x5 (Told puts not_zero is kept) = (_, puts.noted)
+  one_put h x5 (Lost puts is kept) = (_, puts.noted)
+  one_put h x5 (Wanting b puts want kept) = absurd (x5 want.0)
+  one_put h x5 (Whole puts zero is saved) = (_, puts.noted)
+  one_put (inl none) x5 (Unsaved n b answer named zero puts saves not_want last four) = absurd (cc)
+  one_put (inr h) x5 (Unsaved n b answer named zero puts saves not_want last four) = absurd (h four)
+  one_put h x5 (WantingAfter n b b' named zero puts kept which want) = absurd (x5 want.0)
+
+  -- two puts
+  then_put : (a b d : List Put) (p q : Put) → b ≡ a ++ p ∷ [] → d ≡ b ++ q ∷ [] → d ≡ a ++ p ∷ q ∷ []
+  then_put a b d p q g h = h ∙ ap (λ (x : List Put). x ++ q ∷ []) g ∙ append_assoc a (p ∷ []) (q ∷ [])
+
+  some_put : Closing name e w w' o o' status → (p : Put) × (more : List Put) × (o'.puts ≡ o.puts ++ p ∷ more)
+  some_put (Told puts not_zero is kept) = (_, [], puts.noted)
+  some_put (Lost puts is kept) = (_, [], puts.noted)
+  some_put (Wanting b puts (five, answer, last) kept) = (_, _, then_put o.puts b.puts o'.puts _ _ puts.noted last.noted)
+  some_put (Whole puts zero is saved) = (_, [], puts.noted)
+  some_put (Unsaved n b answer named zero puts saves not_want last four) = (_, _, then_put o.puts b.puts o'.puts _ _ puts.noted last.noted)
+  some_put (WantingAfter n b b' named zero puts kept (inl same) (five, answer, last)) =
+      (_, _, then_put o.puts b.puts o'.puts _ _ puts.noted (last.noted ∙ ap (λ (x : Outputs). x.puts ++ record { bytes = memory_end.text; answer = answer } ∷ []) same))
+  some_put (WantingAfter n b b' named zero puts kept (inr lost) (five, answer, last)) = (
+    _,
+    _,
+    last.noted ∙ ap (λ (x : List Put). x ++ record { bytes = memory_end.text; answer = answer } ∷ []) (then_put o.puts b.puts b'.puts _ _ puts.noted lost.noted)
+        ∙ append_assoc o.puts _ _,
+  )
+
+  -- want of memory was put, and nothing before it
+  alone_put : (answer : Result (Unit {0}) PutFault) → PutsOnce o.puts memory_end.text answer o'.puts → PutsMemory name o.puts o'.puts
+  alone_put answer h = (
+    [],
+    [],
+    answer,
+    inl refl,
+    inl refl,
+    h ∙ ap (λ (x : List Put). x ++ record { bytes = memory_end.text; answer = answer } ∷ []) (sym (append-nil (o.puts ++ []) ∙ append-nil o.puts)),
+  )
+
+  text_put : (answer : Result (Unit {0}) PutFault) → e.text ≡ memory_end.text → PutsOnce o.puts e.text answer o'.puts → PutsMemory name o.puts o'.puts
+  text_put answer memory h = alone_put answer (subst (λ (x : List ℕ). PutsOnce o.puts x answer o'.puts) memory h)
+
+  memory_put : (e.status ≡ 5 → e.text ≡ memory_end.text) → status ≡ 5 → Closing name e w w' o o' status → PutsMemory name o.puts o'.puts
+  memory_put memory five (Told puts not_zero is kept) = text_put (Ok tt) (memory (sym is ∙ five)) puts.noted
+  memory_put memory five (Lost puts is kept) =
+      elim (unput e.status status is) [ inl x ↦ absurd (let q = x.1 in omega (arith, q, five)) | inr x ↦ text_put (Err put.Failed) (memory (sym x.1 ∙ five)) puts.noted ]
+  memory_put memory five (Wanting b puts (f, answer, last) kept) = (
+    [],
+    _,
+    answer,
+    inl refl,
+    inr (e.text, refl),
+    last.noted ∙ ap (λ (x : List Put). x ++ record { bytes = memory_end.text; answer = answer } ∷ [])
+        (puts.noted ∙ ap (λ (x : List Put). x ++ record { bytes = e.text; answer = Err put.OutOfMemory } ∷ []) (sym (append-nil o.puts))),
+  )
+  memory_put memory five (Whole puts zero is saved) = absurd (omega (arith, is, five))
+  memory_put memory five (Unsaved n b answer named zero puts saves not_want last four) = absurd (omega (arith, four, five))
+  memory_put memory five (WantingAfter n b b' named zero puts kept (inl same) (f, answer, last)) = (
+    _,
+    [],
+    answer,
+    inr ((λ q. cc), e.text, refl),
+    inl refl,
+    last.noted ∙ ap (λ (x : List Put). x ++ record { bytes = memory_end.text; answer = answer } ∷ [])
+        (ap (λ (x : Outputs). x.puts) same ∙ puts.noted ∙ sym (append-nil (o.puts ++ record { bytes = e.text; answer = Ok tt } ∷ []))),
+  )
+  memory_put memory five (WantingAfter n b b' named zero puts kept (inr lost) (f, answer, last)) = (
+    _,
+    _,
+    answer,
+    inr ((λ q. cc), e.text, refl),
+    inr ((unwritten_end n).text, refl),
+    last.noted ∙ ap (λ (x : List Put). x ++ record { bytes = memory_end.text; answer = answer } ∷ [])
+        (lost.noted ∙ ap (λ (x : List Put). x ++ record { bytes = (unwritten_end n).text; answer = Err put.OutOfMemory } ∷ []) puts.noted),
+  )
+
+  -- why an output wasn't written
+  write_cause : (r r' : Reads) → e.status ≢ 4 → status ≡ 4 → Closing name e w w' o o' status
+      → WriteCause (record { reads = r.faults; writes = w.faults; puts = o.faults }) (record { reads = r'.faults; writes = w'.faults; puts = o'.faults }) name
+  write_cause r r' never four (Told puts not_zero is kept) = absurd (never (sym is ∙ four))
+  write_cause r r' never four (Lost puts is kept) = inl puts.cause
+  write_cause r r' never four (Wanting b puts want kept) = absurd (let q = want.0 in omega (arith, q, four))
+  write_cause r r' never four (Whole puts zero is saved) = absurd (omega (arith, is, four))
+  write_cause r r' never four (Unsaved n b answer named zero puts saves not_want last is) = inr ((λ q. cc), saves.cause)
+  write_cause r r' never four (WantingAfter n b b' named zero puts kept which want) = absurd (let q = want.0 in omega (arith, q, four))
+
+  lost_done : (contents : Option (List ℕ → Option (List ℕ))) (c : Option CommandSeen) (r r' : Reads) → Came contents c r r' e → status ≡ 4 → Closing name e w w' o o' status
+      → PutsLost c name r.loads r'.loads w.saves w'.saves o.puts o'.puts
+  lost_done contents c r r' m four (Told puts not_zero is kept) = absurd (never_four contents c r r' e o.puts o'.puts m (sym is ∙ four))
+  lost_done contents c r r' m four (Lost puts is kept) =
+      elim (unput e.status status is) [
+        | inl x ↦ inl (run_done contents c r r' e o.puts o'.puts (Err put.Failed) m x.0 puts.noted, ap (λ (x : Writes). x.saves) kept)
+        | inr x ↦ absurd (never_four contents c r r' e o.puts o'.puts m (sym x.1 ∙ four))
+      ]
+  lost_done contents c r r' m four (Wanting b puts want kept) = absurd (let q = want.0 in omega (arith, q, four))
+  lost_done contents c r r' m four (Whole puts zero is saved) = absurd (omega (arith, is, four))
+  lost_done contents c r r' m four (Unsaved n b answer named zero puts saves not_want last is) = inr (record {
+    out = n;
+    named = named;
+    between = b.puts;
+    replies = run_done contents c r r' e o.puts b.puts (Ok tt) m zero puts.noted;
+    saved = saves.noted;
+    prints = (answer, not_want, last.noted);
+  })
+  lost_done contents c r r' m four (WantingAfter n b b' named zero puts kept which want) = absurd (let q = want.0 in omega (arith, q, four))
+
+-- ---- the whole call
+
+usage_status : (contents : Option (List ℕ → Option (List ℕ))) (c : Option CommandSeen) (r r' : Reads) (e : Ended) → c ≡ None → Came contents c r r' e → e.status ≡ 1
+usage_status contents c r r' e none (Usage n same is) = ap (λ (x : Ended). x.status) is
+usage_status contents c r r' e none (Unread k is_c n named before answer loaded u rose is) = absurd (cc)
+usage_status contents c r r' e none (BadScript k is_c answer loaded line reason first is) = absurd (cc)
+usage_status contents c r r' e none (Want k is_c is) = absurd (cc)
+usage_status contents c r r' e none (Place k is_c n named before answer loaded place wrong is) = absurd (cc)
+usage_status contents c r r' e none (Keys k is_c n named before answer loaded wrong is) = absurd (cc)
+usage_status contents c r r' e none (Run k is_c given loaded s reads is) = absurd (cc)
+
+if_some : {P Q : (List ℕ → Option (List ℕ)) → Type 0} (o : Option (List ℕ → Option (List ℕ))) → ((k : List ℕ → Option (List ℕ)) → P k → Q k) → IfSome o P → IfSome o Q
+if_some None f h = tt
+if_some (Some k) f h = f k h
+
+module _ (contents : Option (List ℕ → Option (List ℕ))) (c : Option CommandSeen) (r r' : Reads) (w w' : Writes) (o o' : Outputs) (status : ℕ) where
+  abbrev Does : Type 0
+  Does = DoesCommand contents c r r' w w' o o' status
+
+  abbrev before : Faults
+  before = record { reads = r.faults; writes = w.faults; puts = o.faults }
+
+  abbrev after : Faults
+  after = record { reads = r'.faults; writes = w'.faults; puts = o'.faults }
+
+  pub all_loads : Does → ComesPart contents c r r'
+  all_loads (inl (e, comes, p)) = comes_part contents c r r' e comes
+  all_loads (inr (part, kept, want)) = part
+
+  -- what a status that no put makes tells
+  done_at : (s : ℕ) → s ≢ 0 → s ≢ 4 → s ≢ 5 → status ≡ s → Does → (e : Ended) × Came contents c r r' e × (e.status ≡ s) × PutsText o.puts e.text o'.puts
+  done_at s x0 x4 x5 is (inl (e, comes, p)) =
+      let (own, text) = closes (out_name c) e w w' o o' status (λ q. x0 (sym is ∙ q)) (λ q. x4 (sym is ∙ q)) (λ q. x5 (sym is ∙ q)) (closing (out_name c) e w w' o o' status p) in
+      (e, came contents c r r' e comes, own ∙ is, text)
+  done_at s x0 x4 x5 is (inr (part, kept, want)) = absurd (x5 (sym is ∙ want.0))
+
+  done_zero : status ≡ 0 → Does → PutsRun c r.loads r'.loads o.puts o'.puts (Ok tt) × AllSaved (out_name c) w w'
+  done_zero zero (inl (e, comes, p)) =
+      let (own, text, saved) = closes_whole (out_name c) e w w' o o' status zero (closing (out_name c) e w w' o o' status p) in
+      (run_done contents c r r' e o.puts o'.puts (Ok tt) (came contents c r r' e comes) own text, saved)
+  done_zero zero (inr (part, kept, want)) = absurd (let q = want.0 in omega (arith, q, zero))
+
+  pub put_run : Does → status ≡ 0 → PutsRun c r.loads r'.loads o.puts o'.puts (Ok tt)
+  put_run d zero = (done_zero zero d).0
+
+  pub all_saved : Does → status ≡ 0 → AllSaved (out_name c) w w'
+  all_saved d zero = (done_zero zero d).1
+
+  pub put_usage : Does → status ≡ 1 → PutsUsage c r.loads r'.loads o.puts o'.puts
+  put_usage d s = let (e, m, own, text) = done_at 1 (λ q. omega (arith, q)) (λ q. omega (arith, q)) (λ q. omega (arith, q)) s d in usage_done contents c r r' e o.puts o'.puts m own text
+
+  pub put_fault : Does → status ≡ 2 → PutsFault c r.loads r'.loads o.puts o'.puts
+  put_fault d s = let (e, m, own, text) = done_at 2 (λ q. omega (arith, q)) (λ q. omega (arith, q)) (λ q. omega (arith, q)) s d in fault_done contents c r r' e o.puts o'.puts m own text
+
+  pub put_name : Does → status ≡ 3 → PutsName c r.loads r'.loads o.puts o'.puts
+  put_name d s = let (e, m, own, text) = done_at 3 (λ q. omega (arith, q)) (λ q. omega (arith, q)) (λ q. omega (arith, q)) s d in name_done contents c r r' e o.puts o'.puts m own text
+
+  pub put_place : Does → status ≡ 6 → PutsPlace c r.loads r'.loads o.puts o'.puts
+  put_place d s = let (e, m, own, text) = done_at 6 (λ q. omega (arith, q)) (λ q. omega (arith, q)) (λ q. omega (arith, q)) s d in place_done contents c r r' e o.puts o'.puts m own text
+
+  pub put_keys : Does → status ≡ 7 → PutsKeys c r.loads r'.loads o.puts o'.puts
+  put_keys d s = let (e, m, own, text) = done_at 7 (λ q. omega (arith, q)) (λ q. omega (arith, q)) (λ q. omega (arith, q)) s d in keys_done contents c r r' e o.puts o'.puts m own text
+
+  pub put_lost : Does → status ≡ 4 → PutsLost c (out_name c) r.loads r'.loads w.saves w'.saves o.puts o'.puts
+  put_lost (inl (e, comes, p)) s = lost_done (out_name c) e w w' o o' status contents c r r' (came contents c r r' e comes) s (closing (out_name c) e w w' o o' status p)
+  put_lost (inr (part, kept, want)) s = absurd (let q = want.0 in omega (arith, q, s))
+
+  pub put_memory : Does → status ≡ 5 → PutsMemory (out_name c) o.puts o'.puts
+  put_memory (inl (e, comes, p)) s =
+      memory_put (out_name c) e w w' o o' status (memory_due contents c r r' e o.puts o'.puts (came contents c r r' e comes)) s (closing (out_name c) e w w' o o' status p)
+  put_memory (inr (part, kept, (five, answer, last))) s = alone_put (out_name c) memory_end w w' o o' status answer last.noted
+
+  abbrev Ends : (List ℕ → Option (List ℕ)) → Type 0
+  Ends k = EndsWith before after k c (out_name c) o.told o'.told status
+
+  pub all_ends : Does → IfSome contents Ends
+  all_ends d = ends_with contents c r r' w w' o o' status d
+
+  pub told_run : Does → status ≡ 0 → IfSome contents (λ k. OneRun k c o.told o'.told)
+  told_run d s = if_some {P = Ends} {Q = λ k. OneRun k c o.told o'.told} contents (λ k h. endings.one_run before after k c (out_name c) o.told o'.told status s h) (all_ends d)
+
+  pub told_complete : Does → IfSome contents (λ k. IsComplete before after (ending_of k c) status)
+  told_complete d = if_some {P = Ends} {Q = λ k. IsComplete before after (ending_of k c) status} contents (λ k h. endings.complete before after k c (out_name c) o.told o'.told status h) (all_ends d)
+
+  pub told_bad : Does → status ≡ 2 → IfSome contents (λ k. IsBadScript k c)
+  told_bad d s = if_some {P = Ends} {Q = λ k. IsBadScript k c} contents (λ k h. endings.bad_script before after k c (out_name c) o.told o'.told status s h) (all_ends d)
+
+  pub told_container : Does → status ≡ 6 → IfSome contents (λ k. IsBadContainer k c)
+  told_container d s = if_some {P = Ends} {Q = λ k. IsBadContainer k c} contents (λ k h. endings.bad_container before after k c (out_name c) o.told o'.told status s h) (all_ends d)
+
+  pub told_keys : Does → status ≡ 7 → IfSome contents (λ k. IsBadKeys k c)
+  told_keys d s = if_some {P = Ends} {Q = λ k. IsBadKeys k c} contents (λ k h. endings.bad_keys before after k c (out_name c) o.told o'.told status s h) (all_ends d)
+
+  pub told_fronts : Does → (status ≡ 4) ⊎ (status ≡ 5) → IfSome contents (λ k. PutsFronts o.told (success_text (ending_of k c)) (own_text (out_name c) status) o'.told)
+  told_fronts d s =
+      if_some {P = Ends} {Q = λ k. PutsFronts o.told (success_text (ending_of k c)) (own_text (out_name c) status) o'.told} contents
+      (λ k h. endings.fronts before after k c (out_name c) o.told o'.told status s h) (all_ends d)
+
+  pub unread_cause : Does → status ≡ 3 → ReadCause contents c r.faults r'.faults
+  unread_cause d s = by contents (all_ends d) rose
+    where
+      rose : IfNone contents (Rose r.faults r'.faults)
+      rose = let (e, m, own, text) = done_at 3 (λ q. omega (arith, q)) (λ q. omega (arith, q)) (λ q. omega (arith, q)) s d in rose_due contents c r r' e o.puts o'.puts m own
+
+      by : (k : Option (List ℕ → Option (List ℕ))) → IfSome k (λ k. EndsWith before after k c (out_name c) o.told o'.told status) → IfNone k (Rose r.faults r'.faults) → ReadCause k c r.faults r'.faults
+      by None h n = n
+      by (Some k) h n = endings.unread before after k c (out_name c) o.told o'.told status s h
+
+  pub lost_cause : Does → status ≡ 4 → WriteCause before after (out_name c)
+  lost_cause (inl (e, comes, p)) s =
+      write_cause (out_name c) e w w' o o' status r r' (never_four contents c r r' e o.puts o'.puts (came contents c r r' e comes)) s (closing (out_name c) e w w' o o' status p)
+  lost_cause (inr (part, kept, want)) s = absurd (let q = want.0 in omega (arith, q, s))
+
+  pub used : Does → c ≡ None → (status ≡ 1) ⊎ (status ≡ 5)
+  used (inl (e, comes, p)) none = by (closing (out_name c) e w w' o o' status p)
+    where
+      one : e.status ≡ 1
+      one = usage_status contents c r r' e none (came contents c r r' e comes)
+
+      by : Closing (out_name c) e w w' o o' status → (status ≡ 1) ⊎ (status ≡ 5)
+      by (Told puts not_zero is kept) = inl (is ∙ one)
+      by (Lost puts is kept) = elim (unput e.status status is) [ inl x ↦ absurd (let q = x.0 in omega (arith, q, one)) | inr x ↦ inl (x.1 ∙ one) ]
+      by (Wanting b puts want kept) = inr want.0
+      by (Whole puts zero is saved) = absurd (omega (arith, zero, one))
+      by (Unsaved n b answer named zero puts saves not_want last four) = absurd (omega (arith, zero, one))
+      by (WantingAfter n b b' named zero puts kept which want) = absurd (omega (arith, zero, one))
+  used (inr (part, kept, want)) none = inr want.0
+
+  pub one_text : Does → (out_name c ≡ None) ⊎ (status ≢ 4) → status ≢ 5 → (p : Put) × (o'.puts ≡ o.puts ++ p ∷ [])
+  one_text (inl (e, comes, p)) h x5 = one_put (out_name c) e w w' o o' status h x5 (closing (out_name c) e w w' o o' status p)
+  one_text (inr (part, kept, want)) h x5 = absurd (x5 want.0)
+
+  pub some_text : Does → (p : Put) × (more : List Put) × (o'.puts ≡ o.puts ++ p ∷ more)
+  some_text (inl (e, comes, p)) = some_put (out_name c) e w w' o o' status (closing (out_name c) e w w' o o' status p)
+  some_text (inr (part, kept, (five, answer, last))) = (_, [], last.noted)
+
+  pub same_files : Does → (out_name c ≡ None) ⊎ (status ≢ 0) → w'.contents ≡ w.contents
+  same_files (inl (e, comes, p)) h = same_contents (out_name c) e w w' o o' status h (closing (out_name c) e w w' o o' status p)
+  same_files (inr (part, kept, want)) h = ap (λ (x : Writes). x.contents) kept
+
+  pub none_saved : Does → SavesNothing (out_name c) status → w' ≡ w
+  none_saved (inl (e, comes, p)) h = keeps (out_name c) e w w' o o' status h (closing (out_name c) e w w' o o' status p)
+  none_saved (inr (part, kept, want)) h = kept
