@@ -5,3 +5,4 @@ pub mod Swaps
 pub mod Openings
 pub mod Seats
 pub mod Ended
+pub mod Alone

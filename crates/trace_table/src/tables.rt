@@ -28,7 +28,7 @@ pub struct SharedTable {
     ghost wide: { table.shared.table_id.words ≡ guards + word_count machine },
     ghost deep: { table.shared.table_id.slots ≡ machine.hkids },
     ghost key: { table.shared.key ≡ machine },
-    ghost room: { length words.items ≡ word_count machine },
+    ghost room: { length words.items ≡ guards + word_count machine },
 }
 
 /// A machine's words in the order of their addresses, as the steps on them left them.
@@ -62,15 +62,12 @@ impl SharedTable {
         ensures pass { IfOk result (λ r. pass_of r.1 ≡ first_pass (table_of r.0)) }
     {
         let count = 514 * machine.pages as usize + KEY_FIRST as usize + machine.hkids as usize;
-        let Ok(opening) = zeros(alloc, GUARDS + count) else {
-            return Err(OutOfMemory);
-        };
-        let Ok(words) = zeros(alloc, count) else {
+        let Ok(words) = zeros(alloc, GUARDS + count) else {
             return Err(OutOfMemory);
         };
         let made: Result<(Whole, Place), _> = Table::vacant(
             alloc,
-            &opening,
+            &words,
             machine.hkids as usize,
             &machine,
         );
