@@ -1,4 +1,4 @@
-use Rattle.std.proofs.Common.{◌∙◌, ap, sym, subst, ℕ, ◌+◌, slice_index, arith}
+use Rattle.std.proofs.Common.{◌∙◌, ap, sym, subst, ℕ, ◌+◌, slice_index, List, arith}
 use Rattle.td_words.specs.declared.machines.Machine.{Machine}
 use Rattle.trace_table.specs.Views.{guards}
 use Rattle.trace_table.specs.Kept.{Kept}
