@@ -1,11 +1,10 @@
 -- What is left of a run, turn by turn, and what is printed at its end.
-use Rattle.std.proofs.Common.{◌≡◌, ◌≢◌, ◌⊎◌, inl, inr, refl, sym, ◌∙◌, ap, subst, ℕ, zero, suc, ◌+◌, ◌<◌, ◌≤◌, List, [], ◌∷◌, ◌++◌, length, get_or, set, take, drop, map, replicate, Option, None, Result, Ok, Err, IfOk, true, false, not, ◌==◌, arith, slice_index, slice_index_or, append-nil, append_assoc, add-one}
+use Rattle.std.proofs.Common.{◌≡◌, ◌≢◌, ◌⊎◌, inl, inr, refl, sym, ◌∙◌, ap, subst, ℕ, zero, suc, ◌+◌, ◌<◌, ◌≤◌, List, [], ◌∷◌, ◌++◌, length, get_or, set, take, drop, map, None, Result, Ok, Err, IfOk, true, false, not, ◌==◌, arith, append-nil, append_assoc, add-one}
 use Rattle.std.proofs.Math.Seq.{drop-cons}
 use Rattle.std.proofs.lemmas.Bool.Decides.{eqb_tells}
 use Rattle.std.proofs.lemmas.List.{set-get_or, length-map, length-take-le, take_more, map_push}
 use Rattle.std.proofs.lemmas.List.Folds.{concat-append}
 use Rattle.std.specs.Global.{Vec}
-use mathlib.Core.Path.{fun_ext}
 use Rattle.std.proofs.Math.ListN.{length-set}
 use Rattle.std.specs.List.{concat}
 use Rattle.td_words.specs.declared.machines.Machine.{Machine}
@@ -24,7 +23,7 @@ use Rattle.step_core.specs.declared.items.Taken.{Taken}
 use Rattle.step_core.specs.declared.items.Taken.TheVariants.{Stepped, Swapped, Missed}
 use Rattle.atomic_table.specs.Seated.{TableId}
 use Rattle.trace_table.specs.Merges.{MergesTo}
-use Rattle.trace_table.specs.Benches.{BenchSeen, bench_of, with_items, BenchDid}
+use Rattle.trace_table.specs.Benches.{BenchSeen, bench_of, first_pass, with_items, BenchDid}
 use Rattle.trace_table.specs.declared.benches.SharedBench.{SharedBench}
 use Rattle.trace_table.proofs.Alone.{alone}
 use Rattle.leaf_engine.specs.declared.needs.Place.{Place}
@@ -34,7 +33,7 @@ use Rattle.leaf_engine.specs.declared.processors.Turn.TheVariants as turn
 use Rattle.leaf_engine.specs.Processors.{Turned, has_moved}
 use Rattle.leaf_engine.specs.OwnLists.{Piece, taken_in, WordLp, first_lp, LpTurns}
 use Rattle.leaf_engine.specs.Merges.{Item, order, no_table}
-use Rattle.merge_laws.specs.Merge.{MergePlays, Merge}
+use Rattle.merge_laws.specs.Merge.{Merge}
 use Rattle.merge_laws.specs.Laws.{IsWhere}
 use Rattle.leaf_dispatch.specs.Table.{task_of, leaf_table}
 use Rattle.leaf_dispatch.specs.States.{seen_of, Moves}
@@ -45,7 +44,7 @@ use Rattle.script_text.specs.Laws.{IsInForm}
 use Rattle.script_runner.specs.Ending.{opening_of}
 use Rattle.script_runner.specs.Replaying.{AreNumbered, AreFirst, IsMidway, only_bench, IsAtBench, HaveEnded, TurnsAreEvents, seen_at, lines_seen}
 use Rattle.script_runner.proofs.RunningOut.{one-more-item, idle-item}
-use Rattle.script_runner.proofs.Turning.{made_by, one-event, same-table, merge-more, order-more}
+use Rattle.script_runner.proofs.Turning.{made_by, one-event, merge-more, order-more}
 use Rattle.script_runner.proofs.Places.{seen-at, seen-own, seen-other, place-at, numbered-set, first-count, first-numbered, first-seen, first-more}
 
 -- of a machine that a script may have
@@ -235,6 +234,10 @@ lines-next lps i d text lines all rs inside replied printed so_far =
     append_assoc text lines (concat rest)
     ∙ (ap (λ x. text ++ (x ++ concat rest)) (printed ∙ ap (λ x. concat (reply_lines i 1 x)) replied)
     ∙ (ap (λ x. text ++ x) (sym (concat-append (reply_lines i 1 (seen_of (get_or lps i d)).replies) rest)) ∙ (ap (λ (x : List LpState). text ++ concat (lines_seen i x)) (sym here) ∙ so_far)))
+
+-- the bench of a table that was started
+pub first-bench : (b : BenchSeen) (m : Machine) (id : TableId) → b.machine ≡ m → b.pass ≡ first_pass id → b ≡ only_bench m id []
+first-bench b m id machine pass = λ i. record { machine = machine i; pass = pass i }
 
 -- of a script that was read
 pub starts : (script : ScriptSeen) (m : Machine) (lists : List (List Call)) (lps now : List LpState) (id : TableId) (b : BenchSeen) → m ≡ script.machine → lists ≡ script.calls → now ≡ lps → b ≡ only_bench m id [] → AreFirst m 0 lps lists
