@@ -1,11 +1,10 @@
 -- What is left of a run, turn by turn, and what is printed at its end.
-use Rattle.std.proofs.Common.{◌≡◌, ◌≢◌, ◌⊎◌, inl, inr, refl, sym, ◌∙◌, ap, subst, ℕ, zero, suc, ◌+◌, ◌<◌, ◌≤◌, List, [], ◌∷◌, ◌++◌, length, get_or, set, take, drop, map, replicate, Option, None, Result, Ok, Err, IfOk, true, false, not, ◌==◌, arith, slice_index, slice_index_or, append-nil, append_assoc, add-one}
+use Rattle.std.proofs.Common.{◌≡◌, ◌≢◌, ◌⊎◌, inl, inr, refl, sym, ◌∙◌, ap, subst, ℕ, zero, suc, ◌+◌, ◌<◌, ◌≤◌, List, [], ◌∷◌, ◌++◌, length, get_or, set, take, drop, map, None, Result, Ok, Err, IfOk, true, false, not, ◌==◌, arith, append-nil, append_assoc, add-one}
 use Rattle.std.proofs.Math.Seq.{drop-cons}
 use Rattle.std.proofs.lemmas.Bool.Decides.{eqb_tells}
 use Rattle.std.proofs.lemmas.List.{set-get_or, length-map, length-take-le, take_more, map_push}
 use Rattle.std.proofs.lemmas.List.Folds.{concat-append}
 use Rattle.std.specs.Global.{Vec}
-use mathlib.Core.Path.{fun_ext}
 use Rattle.std.proofs.Math.ListN.{length-set}
 use Rattle.std.specs.List.{concat}
 use Rattle.td_words.specs.declared.machines.Machine.{Machine}
@@ -18,10 +17,15 @@ use Rattle.flat_core.specs.Event.{State, start, lines_left}
 use Rattle.flat_core.specs.Run.{play, run, to_the_end}
 use Rattle.flat_core.specs.HostText.{reply_lines, lines_from, text_of, host_text}
 use Rattle.flat_core.proofs.Induction.{counts_stay}
-use Rattle.mrtd_measure.specs.declared.measures.Measure.{Measure}
-use Rattle.step_core.specs.Words.{word_count}
-use Rattle.step_core.specs.Items.{Table, PlaysTo}
-use Rattle.step_core.specs.Plain.{PlainSeen, table_of, start_of}
+use Rattle.step_core.specs.Words.{after_step}
+use Rattle.step_core.specs.Items.{Table, PlaysTo, with_slot}
+use Rattle.step_core.specs.declared.items.Taken.{Taken}
+use Rattle.step_core.specs.declared.items.Taken.TheVariants.{Stepped, Swapped, Missed}
+use Rattle.atomic_table.specs.Seated.{TableId}
+use Rattle.trace_table.specs.Merges.{MergesTo}
+use Rattle.trace_table.specs.Benches.{BenchSeen, bench_of, first_pass, with_items, BenchDid}
+use Rattle.trace_table.specs.declared.benches.SharedBench.{SharedBench}
+use Rattle.trace_table.proofs.Alone.{alone}
 use Rattle.leaf_engine.specs.declared.needs.Place.{Place}
 use Rattle.leaf_engine.specs.declared.events.Event.{Event}
 use Rattle.leaf_engine.specs.declared.processors.Turn.{Turn}
@@ -29,7 +33,7 @@ use Rattle.leaf_engine.specs.declared.processors.Turn.TheVariants as turn
 use Rattle.leaf_engine.specs.Processors.{Turned, has_moved}
 use Rattle.leaf_engine.specs.OwnLists.{Piece, taken_in, WordLp, first_lp, LpTurns}
 use Rattle.leaf_engine.specs.Merges.{Item, order, no_table}
-use Rattle.merge_laws.specs.Merge.{MergePlays, Merge}
+use Rattle.merge_laws.specs.Merge.{Merge}
 use Rattle.merge_laws.specs.Laws.{IsWhere}
 use Rattle.leaf_dispatch.specs.Table.{task_of, leaf_table}
 use Rattle.leaf_dispatch.specs.States.{seen_of, Moves}
@@ -38,9 +42,9 @@ use Rattle.leaf_dispatch.specs.declared.states.LpState.{LpState}
 use Rattle.script_text.specs.Seen.{ScriptSeen}
 use Rattle.script_text.specs.Laws.{IsInForm}
 use Rattle.script_runner.specs.Ending.{opening_of}
-use Rattle.script_runner.specs.Replaying.{AreFirst, IsMidway, HaveEnded, TurnsAreEvents, seen_at, lines_seen}
+use Rattle.script_runner.specs.Replaying.{AreNumbered, AreFirst, IsMidway, only_bench, IsAtBench, HaveEnded, TurnsAreEvents, seen_at, lines_seen}
 use Rattle.script_runner.proofs.RunningOut.{one-more-item, idle-item}
-use Rattle.script_runner.proofs.Turning.{made_by, one-event, same-table, merge-more, order-more}
+use Rattle.script_runner.proofs.Turning.{made_by, one-event, merge-more, order-more}
 use Rattle.script_runner.proofs.Places.{seen-at, seen-own, seen-other, place-at, numbered-set, first-count, first-numbered, first-seen, first-more}
 
 -- of a machine that a script may have
@@ -48,52 +52,49 @@ pub record IsOpen (o : Opening) : Type 0 where
   pub machine : IsMachine o.machine
   pub few : length o.calls ≤ 8
 
--- words that are all 0 and slots without hashers
-
-zeros : (n i : ℕ) → slice_index (replicate n 0) i ≡ 0
-zeros zero i = refl
-zeros (suc n) zero = refl
-zeros (suc n) (suc i) = zeros n i
-
-nones : (n i : ℕ) → slice_index_or {A = Option Measure} (replicate n None) i None ≡ None
-nones zero i = refl
-nones (suc n) zero = refl
-nones (suc n) (suc i) = nones n i
-
 -- at the start the whole schedule is left
-pub at-start : (o : Opening) (schedule : List ℕ) (lps : List LpState) → AreFirst o.machine 0 lps o.calls → IsMidway o schedule schedule lps (start_of o.machine)
-at-start o schedule lps h = record {
-  machine = refl;
-  count = first-count o.machine 0 lps o.calls h;
-  numbered = first-numbered o.machine 0 lps o.calls h;
+at-start : (o : Opening) (schedule : List ℕ) (lps : List LpState) (t : Table) → AreFirst o.machine 0 lps o.calls → PlaysTo no_table [] t → IsMidway o schedule schedule lps t
+at-start o schedule lps t h play = record {
   made = [];
   merge = record {
     own = λ p. [];
     turns = λ p inside. first-seen o.machine 0 lps o.calls p h;
     merge = record { each = λ p inside. refl; nothing_else = λ p out. refl };
-    plays = (fun_ext (zeros (word_count o.machine)), fun_ext (nones o.machine.hkids));
+    plays = play;
   };
   same = refl;
 }
+
+-- items that play one after another have a table between them
+between : (t v : Table) (xs ys : List Taken) → PlaysTo t (xs ++ ys) v → (u : Table) × PlaysTo t xs u × PlaysTo u ys v
+between t v [] ys h = (t, (refl, refl), h)
+between t v (Stepped s a ∷ xs) ys h = let r = between (record t { words = after_step t.words s }) v xs ys h.1 in (r.0, (h.0, r.1), r.2)
+between t v (Swapped k put taken ∷ xs) ys h = let r = between (record t { slots = with_slot t.slots k put }) v xs ys h.1 in (r.0, (h.0, r.1), r.2)
+between t v (Missed k ∷ xs) ys h = absurd h
 
 -- where the flat machine is after the events of a merge
 where-now : TurnsAreEvents → (o : Opening) (made : List Item) (now : ℕ → WordLp) (u : Table) → IsOpen o → Merge o (leaf_table o.machine) made now u → IsWhere o now (play o (order made) (start o None))
 where-now ls o made now u op m = (ls.merges.turns o (leaf_table o.machine) made now u op.few (ls.leaves o op.machine) (ls.enters o) m).1
 
 -- a processor without lines has none in the flat machine
-ended-flat : TurnsAreEvents → (o : Opening) (schedule left : List ℕ) (lps : List LpState) (b : PlainSeen) (p : ℕ) → IsOpen o → (l : IsMidway o schedule left lps b) → p < length lps → (seen_at lps p).lines ≡ []
+ended-flat : TurnsAreEvents → (o : Opening) (schedule left : List ℕ) (lps : List LpState) (t : Table) (p : ℕ) → IsOpen o → (l : IsMidway o schedule left lps t) → p < length o.calls → (seen_at lps p).lines ≡ []
     → lines_left o p ((play o (order l.made) (start o None)).lps p) ≡ []
-ended-flat ls o schedule left lps b p op l inside e = (where-now ls o l.made (seen_at lps) (table_of b) op l.merge).lines p (omega (arith, l.count)) ∙ e
+ended-flat ls o schedule left lps t p op l inside e = (where-now ls o l.made (seen_at lps) t op l.merge).lines p inside ∙ e
 
 -- an item of a processor more, where all before it have ended
-pub one-more-left : TurnsAreEvents → (o : Opening) (schedule : List ℕ) (lps : List LpState) (b : PlainSeen) (p : ℕ) → IsOpen o → p < length lps → HaveEnded p lps → IsMidway o schedule [] lps b → IsMidway o schedule (p ∷ []) lps b
-one-more-left ls o schedule lps b p op inside ended l = record {
-  machine = l.machine;
+pub one-more-left : TurnsAreEvents → (o : Opening) (schedule : List ℕ) (lps : List LpState) (id : TableId) (b : BenchSeen) (p : ℕ) → IsOpen o → p < length lps → HaveEnded p lps → IsAtBench o schedule [] lps id b → IsAtBench o schedule (p ∷ []) lps id b
+one-more-left ls o schedule lps id b p op inside ended l = record {
+  own = l.own;
+  is = l.is;
   count = l.count;
   numbered = l.numbered;
-  made = l.made;
-  merge = l.merge;
-  same = one-more-item ls.runs_out ls.others o (order l.made) p (omega (arith, l.count)) (λ q h. ended-flat ls o schedule [] lps b q op l (omega arith) (ended q h)) ∙ l.same;
+  midway = λ t play.
+      let now = l.midway t play in
+      record {
+        made = now.made;
+        merge = now.merge;
+        same = one-more-item ls.runs_out ls.others o (order now.made) p (omega (arith, l.count)) (λ q h. ended-flat ls o schedule [] lps t q op now (omega (arith, l.count)) (ended q h)) ∙ now.same;
+      };
 }
 
 no-lines : (cs : List Call) → false ≡ not (length cs == 0) → cs ≡ []
@@ -107,23 +108,19 @@ no-lines cs e = by (eqb_tells (length cs) 0)
     by (inl t) = empty cs t.1
     by (inr f) = (let apart : false ≡ true = e ∙ ap not f.0 in cc)
 
-module _ (ls : TurnsAreEvents) (o : Opening) (schedule rest : List ℕ) (lps : List LpState) (p : ℕ) (d s' : LpState) (b b' : PlainSeen) (op : IsOpen o) (inside : p < length lps)
-    (l : IsMidway o schedule (p ∷ rest) lps b) (machine : b'.machine ≡ b.machine) where
+module _ (ls : TurnsAreEvents) (o : Opening) (schedule rest : List ℕ) (lps : List LpState) (p : ℕ) (d s' : LpState) (op : IsOpen o) (inside : p < length lps) (count : length lps ≡ length o.calls) (numbered : AreNumbered o.machine 0 lps) where
   abbrev s : LpState
   s = get_or lps p d
 
   place : s.place ≡ record { machine = o.machine; lp = p }
-  place = place-at o.machine 0 lps p d l.numbered inside ∙ ap (λ (k : ℕ). record { machine = o.machine; lp = k }) (omega arith)
+  place = place-at o.machine 0 lps p d numbered inside ∙ ap (λ (k : ℕ). record { machine = o.machine; lp = k }) (omega arith)
 
   -- its event, in these pieces
-  moved : (e : Event) (ps : List Piece) → PlaysTo (table_of b) (taken_in ps) (table_of b') → Moves s e ps s' → IsMidway o schedule rest (set lps p s') b'
-  moved e ps did moves = record {
-    machine = machine ∙ l.machine;
-    count = length-set lps p s' ∙ l.count;
-    numbered = numbered-set o.machine 0 lps p s' l.numbered (moves.0 ∙ place-at o.machine 0 lps p d l.numbered inside);
+  moved : (t t' : Table) → IsMidway o schedule (p ∷ rest) lps t → (e : Event) (ps : List Piece) → PlaysTo t (taken_in ps) t' → Moves s e ps s' → IsMidway o schedule rest (set lps p s') t'
+  moved t t' l e ps did moves = record {
     made = l.made ++ made_by p ps;
     merge =
-        merge-more o (leaf_table o.machine) l.made (seen_at lps) (seen_at (set lps p s')) (table_of b) (table_of b') p e ps l.merge (omega (arith, l.count)) turns
+        merge-more o (leaf_table o.machine) l.made (seen_at lps) (seen_at (set lps p s')) t t' p e ps l.merge (omega (arith, count)) turns
         (λ q ne. seen-other lps p s' q ne) did;
     same = ap (run o) (order-more l.made p ps rest (one-event ls.pieces (task_of s.place) s.place.machine s.lines.now _ _ _ e ps (seen_of s') moves.1)) ∙ l.same;
   }
@@ -135,42 +132,54 @@ module _ (ls : TurnsAreEvents) (o : Opening) (schedule rest : List ℕ) (lps : L
           (subst (λ (z : Place). LpTurns (task_of z) z.machine (seen_of s) e ps (seen_of s')) place moves.1))
 
   -- or nothing, where it has ended
-  ended : PlaysTo (table_of b) [] (table_of b') → s' ≡ s → (seen_at lps p).lines ≡ [] → IsMidway o schedule rest (set lps p s') b'
-  ended did same none =
+  ended : (t : Table) → IsMidway o schedule (p ∷ rest) lps t → s' ≡ s → (seen_at lps p).lines ≡ [] → IsMidway o schedule rest (set lps p s') t
+  ended t l same none =
       let stay : set lps p s' ≡ lps = ap (set lps p) same ∙ set-get_or lps p d in
-      subst (λ (z : List LpState). IsMidway o schedule rest z b') (sym stay) (record {
-        machine = machine ∙ l.machine;
-        count = l.count;
-        numbered = l.numbered;
-        made = l.made;
-        merge = record {
-          own = l.merge.own;
-          turns = l.merge.turns;
-          merge = l.merge.merge;
-          plays = subst (λ (t : Table). MergePlays no_table l.made t) (sym (same-table (table_of b) (table_of b') did.0 did.1)) l.merge.plays;
-        };
-        same = sym (idle-item o (order l.made) rest p (ended-flat ls o schedule (p ∷ rest) lps b p op l inside none)) ∙ l.same;
-      })
+      subst (λ (z : List LpState). IsMidway o schedule rest z t) (sym stay)
+      (record { made = l.made; merge = l.merge; same = sym (idle-item o (order l.made) rest p (ended-flat ls o schedule (p ∷ rest) lps t p op l (omega (arith, count)) none)) ∙ l.same })
 
-  pub after-turn : (r : Turn) → Turned Moves (λ z. events_left (seen_of z)) (λ xs c. PlaysTo (table_of b) xs (table_of c)) s b' s' r → has_moved r ≡ not (length s.lines.now == 0) → IsMidway o schedule rest (set lps p s') b'
-  after-turn (turn.Moved e) t h = moved e t.0.0 t.0.1 t.0.2
-  after-turn turn.Ended t h = ended t.0 t.1 (ap (λ (z : WordLp). z.lines) (seen-at lps p d inside) ∙ no-lines s.lines.now h)
+  numbered-now : s'.place ≡ s.place → AreNumbered o.machine 0 (set lps p s')
+  numbered-now same = numbered-set o.machine 0 lps p s' numbered (same ∙ place-at o.machine 0 lps p d numbered inside)
 
-pub machine-at : (o : Opening) (schedule left : List ℕ) (lps : List LpState) (b : PlainSeen) (p : ℕ) (d : LpState) → IsMidway o schedule left lps b → p < length lps → (get_or lps p d).place.machine ≡ b.machine
-machine-at o schedule left lps b p d l inside = ap (λ (z : Place). z.machine) (place-at o.machine 0 lps p d l.numbered inside) ∙ sym l.machine
+-- after a turn its items are the bench's
+pub after-turn : TurnsAreEvents → (o : Opening) (schedule rest : List ℕ) (lps : List LpState) (p : ℕ) (d s' : LpState) (id : TableId) (b b' : SharedBench) → IsOpen o → p < length lps → IsAtBench o schedule (p ∷ rest) lps id (bench_of b)
+    → (r : Turn) → Turned Moves (λ z. events_left (seen_of z)) (λ xs c. BenchDid b xs c) (get_or lps p d) b' s' r → has_moved r ≡ not (length (get_or lps p d).lines.now == 0) → IsAtBench o schedule rest (set lps p s') id (bench_of b')
+after-turn ls o schedule rest lps p d s' id b b' op inside l (turn.Moved e) t h = record {
+  own = l.own ++ taken_in t.0.0;
+  is = t.0.1 ∙ ap (λ (z : BenchSeen). with_items z (taken_in t.0.0)) l.is;
+  count = length-set lps p s' ∙ l.count;
+  numbered = numbered-now ls o schedule rest lps p d s' op inside l.count l.numbered t.0.2.0;
+  midway = λ u play.
+      let m = between no_table u l.own (taken_in t.0.0) play in
+      moved ls o schedule rest lps p d s' op inside l.count l.numbered m.0 u (l.midway m.0 m.1) e t.0.0 m.2 t.0.2;
+}
+after-turn ls o schedule rest lps p d s' id b b' op inside l turn.Ended t h = record {
+  own = l.own;
+  is = t.0 ∙ (ap (λ (z : BenchSeen). with_items z []) l.is ∙ ap (only_bench o.machine id) (append-nil l.own));
+  count = length-set lps p s' ∙ l.count;
+  numbered = numbered-now ls o schedule rest lps p d s' op inside l.count l.numbered (ap (λ (z : LpState). z.place) t.1);
+  midway = λ u play. ended ls o schedule rest lps p d s' op inside l.count l.numbered u (l.midway u play) t.1 (ap (λ (z : WordLp). z.lines) (seen-at lps p d inside) ∙ no-lines (get_or lps p d).lines.now h);
+}
+
+pub machine-at : (o : Opening) (schedule left : List ℕ) (lps : List LpState) (id : TableId) (b : BenchSeen) (p : ℕ) (d : LpState) → IsAtBench o schedule left lps id b → p < length lps → (get_or lps p d).place.machine ≡ b.machine
+machine-at o schedule left lps id b p d l inside = ap (λ (z : Place). z.machine) (place-at o.machine 0 lps p d l.numbered inside) ∙ sym (ap (λ (z : BenchSeen). z.machine) l.is)
+
+-- the bench is of the table that it was of
+pub table-stays : (o : Opening) (schedule left : List ℕ) (lps : List LpState) (id : TableId) (b : BenchSeen) → IsAtBench o schedule left lps id b → b.pass.table ≡ id
+table-stays o schedule left lps id b l = ap (λ (z : BenchSeen). z.pass.table) l.is
 
 -- the item of the schedule whose turn it is
-pub item-inside : (script : ScriptSeen) (left : List ℕ) (lps : List LpState) (b : PlainSeen) (i d p : ℕ) → IsInForm script → IsMidway (opening_of script) script.schedule left lps b → i < length script.schedule
+pub item-inside : (script : ScriptSeen) (left : List ℕ) (lps : List LpState) (id : TableId) (b : BenchSeen) (i d p : ℕ) → IsInForm script → IsAtBench (opening_of script) script.schedule left lps id b → i < length script.schedule
     → p ≡ get_or script.schedule i d → p < length lps
-item-inside script left lps b i d p form l inside is =
+item-inside script left lps id b i d p form l inside is =
     let below : get_or script.schedule i d < script.machine.lps = form.items i d inside in
     omega (arith, is, l.count, form.lists)
 
-pub item-next : (o : Opening) (schedule : List ℕ) (lps : List LpState) (b : PlainSeen) (i d p : ℕ) → IsMidway o schedule (drop i schedule) lps b → i < length schedule → p ≡ get_or schedule i d
-    → IsMidway o schedule (p ∷ drop (i + 1) schedule) lps b
-item-next o schedule lps b i d p l inside is =
+pub item-next : (o : Opening) (schedule : List ℕ) (lps : List LpState) (id : TableId) (b : BenchSeen) (i d p : ℕ) → IsAtBench o schedule (drop i schedule) lps id b → i < length schedule → p ≡ get_or schedule i d
+    → IsAtBench o schedule (p ∷ drop (i + 1) schedule) lps id b
+item-next o schedule lps id b i d p l inside is =
     let next : drop i schedule ≡ p ∷ drop (i + 1) schedule = rw add-one (drop-cons schedule i d inside ∙ ap (λ (x : ℕ). x ∷ drop (suc i) schedule) (sym is)) in
-    subst (λ (z : List ℕ). IsMidway o schedule z lps b) next l
+    subst (λ (z : List ℕ). IsAtBench o schedule z lps id b) next l
 
 pub open-of : (script : ScriptSeen) → IsInForm script → IsOpen (opening_of script)
 open-of script form = record { machine = form.machine; few = omega (arith, form.machine.lps.1, form.lists) }
@@ -226,24 +235,39 @@ lines-next lps i d text lines all rs inside replied printed so_far =
     ∙ (ap (λ x. text ++ (x ++ concat rest)) (printed ∙ ap (λ x. concat (reply_lines i 1 x)) replied)
     ∙ (ap (λ x. text ++ x) (sym (concat-append (reply_lines i 1 (seen_of (get_or lps i d)).replies) rest)) ∙ (ap (λ (x : List LpState). text ++ concat (lines_seen i x)) (sym here) ∙ so_far)))
 
+-- the bench of a table that was started
+pub first-bench : (b : BenchSeen) (m : Machine) (id : TableId) → b.machine ≡ m → b.pass ≡ first_pass id → b ≡ only_bench m id []
+first-bench b m id machine pass = λ i. record { machine = machine i; pass = pass i }
+
 -- of a script that was read
-pub starts : (script : ScriptSeen) (m : Machine) (lists : List (List Call)) (lps now : List LpState) (b : PlainSeen) → m ≡ script.machine → lists ≡ script.calls → now ≡ lps → b ≡ start_of m → AreFirst m 0 lps lists
-    → IsMidway (opening_of script) script.schedule script.schedule now b
-starts script m lists lps now b machine calls same new h =
+pub starts : (script : ScriptSeen) (m : Machine) (lists : List (List Call)) (lps now : List LpState) (id : TableId) (b : BenchSeen) → m ≡ script.machine → lists ≡ script.calls → now ≡ lps → b ≡ only_bench m id [] → AreFirst m 0 lps lists
+    → IsAtBench (opening_of script) script.schedule script.schedule now b.pass.table b
+starts script m lists lps now id b machine calls same new h =
     let o : Opening = opening_of script in
     let first : AreFirst script.machine 0 now script.calls =
     subst (λ (x : List LpState). AreFirst script.machine 0 x script.calls) (sym same) (subst (AreFirst script.machine 0 lps) calls (subst (λ (x : Machine). AreFirst x 0 lps lists) machine h)) in
-    subst (λ (x : PlainSeen). IsMidway o script.schedule script.schedule now x) (sym (new ∙ ap start_of machine)) (at-start o script.schedule now first)
+    let named : b ≡ only_bench m b.pass.table [] = new ∙ ap (λ (z : TableId). only_bench m z []) (sym (ap (λ (z : BenchSeen). z.pass.table) new)) in
+    record {
+      own = [];
+      is = named ∙ ap (λ (x : Machine). only_bench x b.pass.table []) machine;
+      count = first-count o.machine 0 now o.calls first;
+      numbered = first-numbered o.machine 0 now o.calls first;
+      midway = λ t play. at-start o script.schedule now t first play;
+    }
 
 pub prints : {E : Type 0} (r : Result (Vec ℕ) E) (lines all : List ℕ) → IfOk r (λ v. v.items ≡ lines) → lines ≡ all → IfOk r (λ v. v.items ≡ all)
 prints (Ok v) lines all h e = h ∙ e
 prints (Err x) lines all h e = tt
 
-pub prints-all : TurnsAreEvents → (o : Opening) (schedule : List ℕ) (lps : List LpState) (b : PlainSeen) → IsOpen o → IsMidway o schedule [] lps b → HaveEnded (length lps) lps → concat (lines_seen 0 lps) ≡ host_text o schedule
+-- the close tells that the bench's list plays
+pub prints-all : TurnsAreEvents → (o : Opening) (schedule : List ℕ) (lps : List LpState) (id : TableId) (b : BenchSeen) (m : Machine) (words : List ℕ) → IsOpen o → IsAtBench o schedule [] lps id b → HaveEnded (length lps) lps → MergesTo m b.pass.lists words
+    → concat (lines_seen 0 lps) ≡ host_text o schedule
 unfolding host_text text_of
-prints-all ls o schedule lps b op l ended =
-    let there = ls.merges.ended o (leaf_table o.machine) l.made (seen_at lps) (table_of b) op.few (ls.leaves o op.machine) (ls.enters o) l.merge (λ p i. ended p (omega (arith, l.count))) in
-    let s : State = run o (order l.made) in
+prints-all ls o schedule lps id b m words op l ended closed =
+    let plays = alone m l.own words (subst (λ (z : List (List Taken)). MergesTo m z words) (ap (λ (z : BenchSeen). z.pass.lists) l.is) closed) in
+    let now = l.midway plays.0 plays.1 in
+    let there = ls.merges.ended o (leaf_table o.machine) now.made (seen_at lps) plays.0 op.few (ls.leaves o op.machine) (ls.enters o) now.merge (λ p i. ended p (omega (arith, l.count))) in
+    let s : State = run o (order now.made) in
     let lines : lines_from s.lp_count 0 s.lps ≡ lines_seen 0 lps =
-    same-lines s.lp_count 0 s.lps lps (l.count ∙ sym (counts_stay o (order l.made ++ to_the_end 0 o.calls) (start o None))) (λ q i. ap (λ (k : ℕ). (s.lps k).replies) (omega arith) ∙ there.1.replies q (omega (arith, counts_stay o (order l.made ++ to_the_end 0 o.calls) (start o None)))) in
-    ap concat (sym lines) ∙ ap text_of (ap (run o) (sym (append-nil (order l.made))) ∙ l.same)
+    same-lines s.lp_count 0 s.lps lps (l.count ∙ sym (counts_stay o (order now.made ++ to_the_end 0 o.calls) (start o None))) (λ q i. ap (λ (k : ℕ). (s.lps k).replies) (omega arith) ∙ there.1.replies q (omega (arith, counts_stay o (order now.made ++ to_the_end 0 o.calls) (start o None)))) in
+    ap concat (sym lines) ∙ ap text_of (ap (run o) (sym (append-nil (order now.made))) ∙ now.same)

@@ -1,5 +1,5 @@
 -- Where the logical processors of a script are, over words, while its run is replayed.
-use Rattle.std.specs.Prelude.{◌≡◌, ℕ, zero, suc, ◌+◌, ◌<◌, List, [], ◌∷◌, ◌++◌, length}
+use Rattle.std.specs.Prelude.{◌≡◌, ℕ, zero, suc, ◌+◌, ◌<◌, true, List, [], ◌∷◌, ◌++◌, length}
 use Rattle.td_words.specs.declared.machines.Machine.{Machine}
 use Rattle.td_words.specs.declared.calls.Call.{Call}
 use Rattle.flat_core.specs.Opening.{Opening}
@@ -7,7 +7,11 @@ use Rattle.flat_core.specs.Run.{run}
 use Rattle.flat_core.specs.Bounds.{EventsRunOut}
 use Rattle.flat_core.specs.Laws.{OthersStay}
 use Rattle.flat_core.specs.HostText.{reply_lines}
-use Rattle.step_core.specs.Plain.{PlainSeen, table_of}
+use Rattle.step_core.specs.Items.{Table, PlaysTo}
+use Rattle.step_core.specs.declared.items.Taken.{Taken}
+use Rattle.atomic_table.specs.Seated.{TableId}
+use Rattle.trace_table.specs.Merges.{no_table}
+use Rattle.trace_table.specs.Benches.{BenchSeen}
 use Rattle.leaf_engine.specs.OwnLists.{TurnsInPieces, WordLp, first_lp}
 use Rattle.leaf_engine.specs.Merges.{Item, order}
 use Rattle.merge_laws.specs.Merge.{Merge}
@@ -44,15 +48,25 @@ abbrev pub lines_seen : ℕ → List LpState → List (List ℕ)
 lines_seen p [] = []
 lines_seen p (s ∷ ss) = reply_lines p 1 (seen_of s).replies ++ lines_seen (p + 1) ss
 
--- So far the turns that the processors made over these words are a merge; and its events, and then the items that are left,
--- lead to the end of the flat machine's run under the schedule.
-pub record IsMidway (o : Opening) (schedule left : List ℕ) (lps : List LpState) (bench : PlainSeen) : Type 0 where
-  pub machine : bench.machine ≡ o.machine
+-- So far the turns that the processors made, which lead to this table, are a merge; and its events, and then the items that
+-- are left, lead to the end of the flat machine's run under the schedule.
+pub record IsMidway (o : Opening) (schedule left : List ℕ) (lps : List LpState) (t : Table) : Type 0 where
+  pub made : List Item
+  pub merge : Merge o (leaf_table o.machine) made (seen_at lps) t
+  pub same : run o (order made ++ left) ≡ run o schedule
+
+-- the first bench of a table, with this list of its own and none that it took in or has out
+abbrev pub only_bench : Machine → TableId → List Taken → BenchSeen
+only_bench m id own = record { machine = m; pass = record { table = id; first = true; lists = own ∷ []; out = 0 } }
+
+-- The processors make their turns at one bench of a table, and its own list is what they did. That they are midway, by
+-- whatever table the list leads to, is known once the table tells at its close that there is one.
+pub record IsAtBench (o : Opening) (schedule left : List ℕ) (lps : List LpState) (id : TableId) (bench : BenchSeen) : Type 0 where
+  pub own : List Taken
+  pub is : bench ≡ only_bench o.machine id own
   pub count : length lps ≡ length o.calls
   pub numbered : AreNumbered o.machine 0 lps
-  pub made : List Item
-  pub merge : Merge o (leaf_table o.machine) made (seen_at lps) (table_of bench)
-  pub same : run o (order made ++ left) ≡ run o schedule
+  pub midway : (t : Table) → PlaysTo no_table own t → IsMidway o schedule left lps t
 
 -- what ties turns over words to events of the flat machine
 pub record TurnsAreEvents : Type 0 where

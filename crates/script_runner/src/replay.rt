@@ -5,8 +5,9 @@ ghost use Rattle.std.specs.List.{concat};
 ghost use Rattle.td_words.specs.Limits.{IsMachine};
 ghost use Rattle.flat_core.specs.HostText.{host_text};
 ghost use Rattle.script_text.specs.Laws.{IsInForm};
+ghost use Rattle.trace_table.specs.Benches.{bench_of};
 ghost use Rattle.script_runner.specs.Ending.{opening_of};
-ghost use Rattle.script_runner.specs.Replaying.{AreFirst, IsMidway, HaveEnded, TurnsAreEvents, lines_seen};
+ghost use Rattle.script_runner.specs.Replaying.{AreFirst, IsAtBench, HaveEnded, TurnsAreEvents, lines_seen};
 
 use crate::report::host_lines;
 use flat_core::{end_laws, event_laws};
@@ -15,8 +16,8 @@ use leaf_engine::{Processor, Turn, turns_in_pieces};
 use merge_laws::merge_law;
 use script_text::Script;
 use std::alloc::Global;
-use step_core::PlainBench;
 use td_words::{Call, Machine, OutOfMemory};
+use trace_table::{SharedBench, SharedTable};
 
 // What turns over words have to do with events of the flat machine.
 fn laws_of_turns()
@@ -53,10 +54,10 @@ fn processors<'a>(
 }
 
 // One turn for each item of the schedule.
-fn follow_schedule(script: &Script, lps: &mut [LpState<'_>], bench: &mut PlainBench)
+fn follow_schedule(script: &Script, lps: &mut [LpState<'_>], bench: &mut SharedBench<'_>)
     requires form { IsInForm script.now }
-    requires left { IsMidway (opening_of script.now) script.now.schedule script.now.schedule lps.old bench.old }
-    ensures { IsMidway (opening_of script.now) script.now.schedule [] lps.new bench.new }
+    requires left { IsAtBench (opening_of script.now) script.now.schedule script.now.schedule lps.old (bench_of bench.old).pass.table (bench_of bench.old) }
+    ensures { IsAtBench (opening_of script.now) script.now.schedule [] lps.new (bench_of bench.old).pass.table (bench_of bench.new) }
 {
     laws_of_turns();
     for item in 0..script.schedule.len() {
@@ -65,25 +66,25 @@ fn follow_schedule(script: &Script, lps: &mut [LpState<'_>], bench: &mut PlainBe
 }
 
 // The turns of a processor up to its end, where those before it have ended.
-fn finish(script: &Script, lps: &mut [LpState<'_>], lp: usize, bench: &mut PlainBench)
+fn finish(script: &Script, lps: &mut [LpState<'_>], lp: usize, bench: &mut SharedBench<'_>)
     requires form { IsInForm script.now }
     requires lp { lp < length lps.old }
     requires ended { HaveEnded lp lps.old }
-    requires left { IsMidway (opening_of script.now) script.now.schedule [] lps.old bench.old }
+    requires left { IsAtBench (opening_of script.now) script.now.schedule [] lps.old (bench_of bench.old).pass.table (bench_of bench.old) }
     ensures count { length lps.new ≡ length lps.old }
     ensures ended { HaveEnded (lp + 1) lps.new }
-    ensures left { IsMidway (opening_of script.now) script.now.schedule [] lps.new bench.new }
+    ensures left { IsAtBench (opening_of script.now) script.now.schedule [] lps.new (bench_of bench.old).pass.table (bench_of bench.new) }
 {
     laws_of_turns();
     while let Turn::Moved(_) = lps[lp].turn(bench) {}
 }
 
 // Each processor to its end, in number order.
-fn finish_all(script: &Script, lps: &mut [LpState<'_>], bench: &mut PlainBench)
+fn finish_all(script: &Script, lps: &mut [LpState<'_>], bench: &mut SharedBench<'_>)
     requires form { IsInForm script.now }
-    requires left { IsMidway (opening_of script.now) script.now.schedule [] lps.old bench.old }
+    requires left { IsAtBench (opening_of script.now) script.now.schedule [] lps.old (bench_of bench.old).pass.table (bench_of bench.old) }
     ensures ended { HaveEnded (length lps.new) lps.new }
-    ensures left { IsMidway (opening_of script.now) script.now.schedule [] lps.new bench.new }
+    ensures left { IsAtBench (opening_of script.now) script.now.schedule [] lps.new (bench_of bench.old).pass.table (bench_of bench.new) }
 {
     for lp in 0..lps.len() {
         finish(script, lps, lp, bench);
@@ -113,8 +114,11 @@ pub fn replay_text(alloc: Global, script: &Script) -> Result<Vec<u8>, OutOfMemor
     laws_of_turns();
     let mut states = processors(alloc, script.machine, &script.calls)?;
     let lps = states.as_mut_slice();
-    let mut bench = PlainBench::new(alloc, script.machine)?;
+    let (table, pass) = SharedTable::start(alloc, script.machine)?;
+    let mut bench = SharedBench::new(&table, pass);
     follow_schedule(script, lps, &mut bench);
     finish_all(script, lps, &mut bench);
+    let pass = bench.into_pass();
+    table.close(pass);
     all_lines(alloc, lps)
 }

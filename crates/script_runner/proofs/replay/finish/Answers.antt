@@ -5,7 +5,7 @@ use Rattle.script_runner.proofs.Replayed.{machine-at, open-of, one-more-left, af
 use Rattle.script_runner.proofs.replay.finish.Goals as goal
 
 pub turn-requires : goal.turn-requires
-turn-requires c = machine-at _ _ _ c.loop.lps _ c.args.lp c.index-lps-lp.result c.loop.invariant.left (omega (arith, c.loop.invariant.count, c.requires.lp))
+turn-requires c = machine-at _ _ _ c.loop.lps _ _ c.args.lp c.index-lps-lp.result c.loop.invariant.left (omega (arith, c.loop.invariant.count, c.requires.lp))
 
 pub loop-smaller : goal.loop-smaller
 loop-smaller c = fewer-left c.loop.lps c.args.lp c.index-lps-lp.result c.turn.new.self (omega (arith, c.loop.invariant.count, c.requires.lp)) c.in-Moved.ensures.turned.1
@@ -19,8 +19,8 @@ loop-preserved c =
       count = length-set c.loop.lps c.args.lp c.turn.new.self ∙ c.loop.invariant.count;
       ended = still-ended c.loop.lps c.args.lp c.turn.new.self c.loop.invariant.ended;
       left =
-          after-turn c.laws_of_turns.ensures o c.args.script.now.schedule [] c.loop.lps c.args.lp c.index-lps-lp.result c.turn.new.self c.loop.bench c.turn.new.bench op inside
-          (one-more-left c.laws_of_turns.ensures o c.args.script.now.schedule c.loop.lps c.loop.bench c.args.lp op inside c.loop.invariant.ended c.loop.invariant.left) c.turn.ensures.same.0 c.turn.result c.turn.ensures.turned c.turn.ensures.ended;
+          after-turn c.laws_of_turns.ensures o c.args.script.now.schedule [] c.loop.lps c.args.lp c.index-lps-lp.result c.turn.new.self _ c.loop.bench c.turn.new.bench op inside
+          (one-more-left c.laws_of_turns.ensures o c.args.script.now.schedule c.loop.lps _ _ c.args.lp op inside c.loop.invariant.ended c.loop.invariant.left) c.turn.result c.turn.ensures.turned c.turn.ensures.ended;
     }
 
 pub returns-clause-ended : goal.returns-clause-ended
@@ -32,5 +32,5 @@ returns-clause-left c =
     let o = opening_of c.args.script.now in
     let op = open-of c.args.script.now c.requires.form in
     let inside : c.args.lp < length c.loop.lps = omega (arith, c.loop.invariant.count, c.requires.lp) in
-    after-turn c.laws_of_turns.ensures o c.args.script.now.schedule [] c.loop.lps c.args.lp c.index-lps-lp.result c.turn.new.self c.loop.bench c.turn.new.bench op inside
-    (one-more-left c.laws_of_turns.ensures o c.args.script.now.schedule c.loop.lps c.loop.bench c.args.lp op inside c.loop.invariant.ended c.loop.invariant.left) c.turn.ensures.same.0 c.turn.result c.turn.ensures.turned c.turn.ensures.ended
+    after-turn c.laws_of_turns.ensures o c.args.script.now.schedule [] c.loop.lps c.args.lp c.index-lps-lp.result c.turn.new.self _ c.loop.bench c.turn.new.bench op inside
+    (one-more-left c.laws_of_turns.ensures o c.args.script.now.schedule c.loop.lps _ _ c.args.lp op inside c.loop.invariant.ended c.loop.invariant.left) c.turn.result c.turn.ensures.turned c.turn.ensures.ended

@@ -1,14 +1,15 @@
 use Rattle.std.proofs.Common.{◌≡◌, [], length}
 use Rattle.leaf_dispatch.specs.Bounds.{events_left}
+use Rattle.trace_table.specs.Benches.{bench_of}
 use Rattle.script_runner.specs.Ending.{opening_of}
-use Rattle.script_runner.specs.Replaying.{IsMidway, HaveEnded, seen_at}
+use Rattle.script_runner.specs.Replaying.{IsAtBench, HaveEnded, seen_at}
 use Rattle.script_runner.proofs.replay.finish.Given as goal
 
 abbrev pub invariant-loop : goal.invariant-loop
 invariant-loop l = record {
   count : length l.lps ≡ length l.initial.lps;
   ended : HaveEnded l.lp l.lps;
-  left : IsMidway (opening_of l.script) l.script.schedule [] l.lps l.bench;
+  left : IsAtBench (opening_of l.script) l.script.schedule [] l.lps (bench_of l.initial.bench).pass.table (bench_of l.bench);
 }
 
 abbrev pub decreases-loop : goal.decreases-loop

@@ -8,7 +8,7 @@ pub turn-requires : goal.turn-requires
 turn-requires c =
     let is : c.from.result ≡ get_or c.args.script.now.schedule c.loop-item.item c.index.result.now =
     c.from.ensures ∙ (c.index.ensures ∙ ap (λ (s : ScriptSeen). get_or s.schedule c.loop-item.item c.index.result.now) c.script.view_is) in
-    machine-at _ _ _ _ _ _ _ c.loop-item.invariant (item-inside c.args.script.now _ _ _ c.loop-item.item c.index.result.now c.from.result c.requires.form c.loop-item.invariant (omega (arith, c.loop-item-test.true, c.len-item-end.ensures, ap (λ (s : ScriptSeen). length s.schedule) c.script.view_is)) is)
+    machine-at _ _ _ _ _ _ _ _ c.loop-item.invariant (item-inside c.args.script.now _ _ _ _ c.loop-item.item c.index.result.now c.from.result c.requires.form c.loop-item.invariant (omega (arith, c.loop-item-test.true, c.len-item-end.ensures, ap (λ (s : ScriptSeen). length s.schedule) c.script.view_is)) is)
 
 pub loop-item-preserved : goal.loop-item-preserved
 loop-item-preserved c =
@@ -17,6 +17,6 @@ loop-item-preserved c =
     let inside : c.loop-item.item < length schedule = omega (arith, c.loop-item-test.true, c.len-item-end.ensures, ap (λ (s : ScriptSeen). length s.schedule) c.script.view_is) in
     let is : c.from.result ≡ get_or schedule c.loop-item.item c.index.result.now =
     c.from.ensures ∙ (c.index.ensures ∙ ap (λ (s : ScriptSeen). get_or s.schedule c.loop-item.item c.index.result.now) c.script.view_is) in
-    after-turn c.laws_of_turns.ensures o schedule (drop (c.loop-item.item + 1) schedule) c.loop-item.lps c.from.result c.index-lps-from.result c.turn.new.self c.loop-item.bench c.turn.new.bench
-    (open-of c.args.script.now c.requires.form) (item-inside c.args.script.now _ _ _ c.loop-item.item c.index.result.now c.from.result c.requires.form c.loop-item.invariant inside is)
-    (item-next o schedule c.loop-item.lps c.loop-item.bench c.loop-item.item c.index.result.now c.from.result c.loop-item.invariant inside is) c.turn.ensures.same.0 c.turn.result c.turn.ensures.turned c.turn.ensures.ended
+    after-turn c.laws_of_turns.ensures o schedule (drop (c.loop-item.item + 1) schedule) c.loop-item.lps c.from.result c.index-lps-from.result c.turn.new.self _ c.loop-item.bench c.turn.new.bench
+    (open-of c.args.script.now c.requires.form) (item-inside c.args.script.now _ _ _ _ c.loop-item.item c.index.result.now c.from.result c.requires.form c.loop-item.invariant inside is)
+    (item-next o schedule c.loop-item.lps _ _ c.loop-item.item c.index.result.now c.from.result c.loop-item.invariant inside is) c.turn.result c.turn.ensures.turned c.turn.ensures.ended

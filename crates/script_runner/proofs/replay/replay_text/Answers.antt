@@ -1,15 +1,20 @@
-use Rattle.std.proofs.Common.{◌∙◌, ap, map}
+use Rattle.std.proofs.Common.{◌∙◌, ap, map, subst, List}
 use Rattle.script_text.specs.Seen.{ScriptSeen}
+use Rattle.step_core.specs.declared.items.Taken.{Taken}
+use Rattle.trace_table.specs.Merges.{MergesTo}
+use Rattle.trace_table.specs.Benches.{PassSeen, bench_of, table_of}
 use Rattle.script_runner.specs.Ending.{opening_of}
-use Rattle.script_runner.proofs.Replayed.{starts, open-of, prints, prints-all}
+use Rattle.script_runner.proofs.Replayed.{starts, first-bench, open-of, prints, prints-all}
 use Rattle.script_runner.proofs.replay.replay_text.Goals as goal
 
 pub follow_schedule-requires-clause-left : goal.follow_schedule-requires-clause-left
 follow_schedule-requires-clause-left c =
-    starts c.args.script.now c.script.inside.machine _ _ _ _ (ap (λ (s : ScriptSeen). s.machine) c.script.view_is)
-    (ap (map (λ list. list.items)) c.deref.ensures.value ∙ ap (λ (s : ScriptSeen). s.calls) c.script.view_is) c.as_mut_slice-lps.ensures.value c.in_ok-bench.ensures c.in_ok-states.ensures
+    starts c.args.script.now c.script.inside.machine _ _ _ (table_of c.in_ok-table.table) (bench_of c.new-bench.result) (ap (λ (s : ScriptSeen). s.machine) c.script.view_is)
+    (ap (map (λ list. list.items)) c.deref.ensures.value ∙ ap (λ (s : ScriptSeen). s.calls) c.script.view_is) c.as_mut_slice-lps.ensures.value
+    (first-bench (bench_of c.new-bench.result) c.script.inside.machine (table_of c.in_ok-table.table) (c.new-bench.ensures.machine ∙ c.in_ok-table.ensures.machine) (c.new-bench.ensures.pass ∙ c.in_ok-table.ensures.pass)) c.in_ok-states.ensures
 
 pub returns : goal.returns
 returns c =
     prints c.all_lines.result _ _ c.all_lines.ensures
-    (prints-all c.laws_of_turns.ensures (opening_of c.args.script.now) c.args.script.now.schedule _ _ (open-of c.args.script.now c.requires) c.finish_all.ensures.left c.finish_all.ensures.ended)
+    (prints-all c.laws_of_turns.ensures (opening_of c.args.script.now) c.args.script.now.schedule _ _ _ _ _ (open-of c.args.script.now c.requires) c.finish_all.ensures.left c.finish_all.ensures.ended
+    (subst (λ (z : List (List Taken)). MergesTo c.in_ok-table.table.machine z c.close.result.words) (ap (λ (p : PassSeen). p.lists) c.into_pass-pass.ensures) c.close.ensures))

@@ -1,0 +1,5 @@
+pub mod Merges
+pub mod Views
+pub mod Kept
+pub mod Tells
+pub mod Benches
