@@ -16,7 +16,7 @@ use Rattle.flat_core.specs.Processor.{LockId, name_of, Held, Phase, Trying, Undo
 use Rattle.flat_core.specs.Locks.{grants as lock_grants}
 use Rattle.flat_core.specs.Opening.{Opening}
 use Rattle.flat_core.specs.Row.{Row, OperationRow, Move, Attempts, Undoes, Refuses, Succeeds, Releases, Rests, next, next_in, after_try, after_move, but_newest}
-use Rattle.flat_core.specs.Event.{State, Event, OfCall, OfOperation, Walks, Reaches, Leaves, event, after_event, world_after, lp_after, call_lp, call_busy, succeeded, settle, settled, walk_translations, is_granted}
+use Rattle.flat_core.specs.Event.{State, Event, OfOperation, Walks, Reaches, Leaves, event, after_event, world_after, lp_after, call_lp, call_busy, succeeded, settle, settled, walk_translations, is_granted}
 use Rattle.flat_core.specs.Tree.{entry_at}
 use Rattle.flat_core.specs.Guest.{reach_notes, walk_level}
 use Rattle.flat_core.specs.Laws.{IsQuiet}
