@@ -3,6 +3,8 @@ use Rattle.std.proofs.Common.{◌≡◌, ℕ, ◌+◌, ◌^◌, ◌<◌, ◌≤�
 use Rattle.std.proofs.lemmas.List.{length-append, append_assoc}
 use Rattle.td_words.specs.declared.calls.Call.{Call}
 use Rattle.td_words.specs.declared.machines.Machine.{Machine}
+use Rattle.td_words.specs.Seen.{CodeSeen}
+use Rattle.script_text.specs.declared.lines.Block.{Block}
 use Rattle.script_text.specs.declared.faults.Reason.TheVariants as reason
 use Rattle.script_text.specs.declared.faults.ScriptFault.{ScriptFault}
 use Rattle.script_text.specs.declared.faults.ScriptFault.TheVariants.{Bad}
@@ -32,14 +34,14 @@ line_fault : (read : Result SoFar Reason) (m n : ℕ) (r : Reason) (f : SoFar �
 line_fault (Ok e) m n r f h = inl (e, refl, h)
 line_fault (Err q) m n r f h = let s = same_fault m n r q h in inr (s.0, ap Err s.1)
 
-end_option : (m : Option Machine) (b : Option ℕ) (schedule : List ℕ) (calls : List (List Call)) (k n : ℕ) (r : Reason) → script_of m b schedule calls k ≡ Err (Bad n r) → k ≡ n
-end_option None b schedule calls k n r h = (same_fault k n r reason.Machine h).0
-end_option (Some m) (Some lp) schedule calls k n r h = (same_fault k n r reason.Endless h).0
-end_option (Some m) None schedule calls k n r h = cc
+end_option : (m : Option Machine) (b : Option Block) (schedule : List ℕ) (codes : List CodeSeen) (calls : List (List Call)) (k n : ℕ) (r : Reason) → script_of m b schedule codes calls k ≡ Err (Bad n r) → k ≡ n
+end_option None b schedule codes calls k n r h = (same_fault k n r reason.Machine h).0
+end_option (Some m) (Some b) schedule codes calls k n r h = (same_fault k n r reason.Endless h).0
+end_option (Some m) None schedule codes calls k n r h = cc
 
-end_cases : (empty : Bool) (d : SoFar) (k n : ℕ) (r : Reason) → cond (not empty) (Err (Bad k reason.Unterminated)) (script_of d.stage.machine d.stage.block d.schedule d.calls k) ≡ Err (Bad n r) → k ≡ n
+end_cases : (empty : Bool) (d : SoFar) (k n : ℕ) (r : Reason) → cond (not empty) (Err (Bad k reason.Unterminated)) (script_of d.stage.machine d.stage.block d.schedule d.codes d.calls k) ≡ Err (Bad n r) → k ≡ n
 end_cases false d k n r h = (same_fault k n r reason.Unterminated h).0
-end_cases true d k n r h = end_option d.stage.machine d.stage.block d.schedule d.calls k n r h
+end_cases true d k n r h = end_option d.stage.machine d.stage.block d.schedule d.codes d.calls k n r h
 
 end_number : (d : SoFar) (k n : ℕ) (piece : List ℕ) (r : Reason) → ended_of d k piece ≡ Err (Bad n r) → k ≡ n
 end_number d k n piece r h = end_cases (length piece == 0) d k n r h

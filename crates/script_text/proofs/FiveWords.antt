@@ -3,9 +3,12 @@ use Rattle.std.proofs.Common.{◌≡◌, ℕ, ◌≤◌, List, [], ◌∷◌, le
 use Rattle.std.specs.List.{list_all}
 use Rattle.std.specs.Str.{bytes_eq}
 use Rattle.std.proofs.lemmas.Bool.{and_parts}
+use Rattle.td_words.specs.declared.calls.GuestOp.{GuestOp}
 use Rattle.td_words.specs.declared.machines.Machine.{Machine}
 use Rattle.script_text.specs.declared.faults.Reason.{Reason}
 use Rattle.script_text.specs.declared.faults.Reason.TheVariants as reason
+use Rattle.script_text.specs.declared.lines.Block.{Block}
+use Rattle.script_text.specs.declared.lines.Block.TheVariants as block
 use Rattle.script_text.specs.declared.lines.Entry.{Entry}
 use Rattle.script_text.specs.declared.lines.Keyword.{Keyword}
 use Rattle.script_text.specs.declared.lines.Keyword.TheVariants as keyword
@@ -14,8 +17,12 @@ use Rattle.script_text.specs.declared.mnemonics.CallName.{CallName}
 use Rattle.script_text.specs.declared.mnemonics.CallName.TheVariants as name
 use Rattle.script_text.specs.declared.mnemonics.Mnemonic.{Mnemonic}
 use Rattle.script_text.specs.Mnemonics.{mnemonics, mnemonic_in}
+use Rattle.script_text.specs.declared.operations.OpName.{OpName}
+use Rattle.script_text.specs.declared.operations.OpName.TheVariants as op
+use Rattle.script_text.specs.Blocks.{code_of, operation_of, operand_count, guest_op_of}
 use Rattle.script_text.specs.Number.{number}
-use Rattle.script_text.specs.Line.{counted_of, machine_of, block_of, end_of, built_of, judged_of, call_of, first_of, outside_of, inside_of, placed_of, entry_of, keyword_of}
+use Rattle.script_text.specs.Counted.{counted_of, argument}
+use Rattle.script_text.specs.Line.{machine_of, block_of, end_of, built_of, judged_of, call_of, first_of, list_of, judged_operation_of, operation_line_of, outside_of, named_of, inside_of, placed_of, entry_of, keyword_of}
 
 -- five numbers and more are too many wherever at most four are counted
 miscounted : (n : ℕ) (ns : List (Option ℕ)) → n ≤ 4 → 5 ≤ length ns → counted_of n ns ≡ Err reason.Count
@@ -48,6 +55,37 @@ row_few (row ∷ rows) word h =
     let p = and_parts (leb row.3 4) (list_all (λ row. leb row.3 4) rows) h in
     few_if (bytes_eq word row.0) (record { call = row.1; least = row.2; most = row.3 }) (mnemonic_in rows word) p.0 (row_few rows word p.1)
 
+code_miscounted : (m : Machine) (listed : List Bool) (ns : List (Option ℕ)) → 5 ≤ length ns → list_of m listed ns ≡ Err reason.Count
+unfolding code_of
+code_miscounted m listed ns h = rw (miscounted 2 ns (omega arith) h) refl
+
+-- what is left to say of an operation whose operands are too many
+abbrev too_many_operands : Option GuestOp → Result Entry Reason
+too_many_operands None = Err reason.Unbuilt
+too_many_operands (Some g) = Err reason.Count
+
+has_two : (o : OpName) → leb (operand_count o) 2 ≡ true
+has_two op.Set = refl
+has_two _ = refl
+
+judged_operands : (g : Option GuestOp) (o : OpName) (ns : List (Option ℕ)) → leb (operand_count o) 2 ≡ true → 5 ≤ length ns → judged_operation_of g o ns ≡ too_many_operands g
+judged_operands None o ns few h = refl
+judged_operands (Some g) o ns few h =
+    let over : (length ns == operand_count o) ≡ false = grind (arith, few) in
+    rw over refl
+
+guest_alike : (o : OpName) (a b c d : ℕ) → too_many_operands (guest_op_of o a b) ≡ too_many_operands (guest_op_of o c d)
+guest_alike op.Set a b c d = refl
+guest_alike _ a b c d = refl
+
+operation_alike : (o : Option OpName) (ns ms : List (Option ℕ)) → 5 ≤ length ns → 5 ≤ length ms → operation_line_of o ns ≡ operation_line_of o ms
+unfolding operation_line_of
+operation_alike None ns ms h k = refl
+operation_alike (Some o) ns ms h k =
+    judged_operands (guest_op_of o (argument ns 0) (argument ns 1)) o ns (has_two o) h
+    ∙ guest_alike o (argument ns 0) (argument ns 1) (argument ms 0) (argument ms 1)
+    ∙ sym (judged_operands (guest_op_of o (argument ms 0) (argument ms 1)) o ms (has_two o) k)
+
 -- what is left to say of a call whose arguments are too many
 abbrev too_many : Option Entry → Result Entry Reason
 too_many None = Err reason.Unbuilt
@@ -75,33 +113,37 @@ first_alike : (word : Option Keyword) (ns ms : List (Option ℕ)) → 5 ≤ leng
 first_alike (Some keyword.Machine) ns ms h k = machine_miscounted ns h ∙ sym (machine_miscounted ms k)
 first_alike _ ns ms h k = refl
 
-outside_alike : (m : Machine) (had : List Bool) (word : Option Keyword) (ns ms : List (Option ℕ)) → 5 ≤ length ns → 5 ≤ length ms → outside_of m had word ns ≡ outside_of m had word ms
-outside_alike m had (Some keyword.Lp) ns ms h k = block_miscounted m had ns h ∙ sym (block_miscounted m had ms k)
-outside_alike m had (Some keyword.Machine) ns ms h k = refl
-outside_alike m had (Some keyword.Schedule) ns ms h k = refl
-outside_alike m had (Some keyword.Code) ns ms h k = refl
-outside_alike m had (Some keyword.End) ns ms h k = refl
-outside_alike m had None ns ms h k = refl
+outside_alike : (m : Machine) (had listed : List Bool) (word : Option Keyword) (ns ms : List (Option ℕ)) → 5 ≤ length ns → 5 ≤ length ms → outside_of m had listed word ns ≡ outside_of m had listed word ms
+outside_alike m had listed (Some keyword.Lp) ns ms h k = block_miscounted m had ns h ∙ sym (block_miscounted m had ms k)
+outside_alike m had listed (Some keyword.Machine) ns ms h k = refl
+outside_alike m had listed (Some keyword.Schedule) ns ms h k = refl
+outside_alike m had listed (Some keyword.Code) ns ms h k = code_miscounted m listed ns h ∙ sym (code_miscounted m listed ms k)
+outside_alike m had listed (Some keyword.End) ns ms h k = refl
+outside_alike m had listed None ns ms h k = refl
 
-inside_alike : (lp : ℕ) (word : Option Keyword) (w : List ℕ) (ns ms : List (Option ℕ)) → 5 ≤ length ns → 5 ≤ length ms → inside_of lp word w ns ≡ inside_of lp word w ms
-inside_alike lp (Some keyword.End) w ns ms h k = end_miscounted ns h ∙ sym (end_miscounted ms k)
-inside_alike lp (Some keyword.Machine) w ns ms h k = refl
-inside_alike lp (Some keyword.Schedule) w ns ms h k = refl
-inside_alike lp (Some keyword.Code) w ns ms h k = refl
-inside_alike lp (Some keyword.Lp) w ns ms h k = refl
-inside_alike lp None w ns ms h k = call_alike lp (mnemonic_in mnemonics w) ns ms (row_few mnemonics w refl) h k
+named_alike : (b : Block) (w : List ℕ) (ns ms : List (Option ℕ)) → 5 ≤ length ns → 5 ≤ length ms → named_of b w ns ≡ named_of b w ms
+named_alike (block.Lp lp) w ns ms h k = call_alike lp (mnemonic_in mnemonics w) ns ms (row_few mnemonics w refl) h k
+named_alike (block.Code p) w ns ms h k = operation_alike (operation_of w) ns ms h k
 
-placed_alike : (m : Option Machine) (block : Option ℕ) (had : List Bool) (w : List ℕ) (ns ms : List (Option ℕ)) → 5 ≤ length ns → 5 ≤ length ms → placed_of m block had w ns ≡ placed_of m block had w ms
-placed_alike None block had w ns ms h k = first_alike (keyword_of w) ns ms h k
-placed_alike (Some m) None had w ns ms h k = outside_alike m had (keyword_of w) ns ms h k
-placed_alike (Some m) (Some lp) had w ns ms h k = inside_alike lp (keyword_of w) w ns ms h k
+inside_alike : (b : Block) (word : Option Keyword) (w : List ℕ) (ns ms : List (Option ℕ)) → 5 ≤ length ns → 5 ≤ length ms → inside_of b word w ns ≡ inside_of b word w ms
+inside_alike b (Some keyword.End) w ns ms h k = end_miscounted ns h ∙ sym (end_miscounted ms k)
+inside_alike b (Some keyword.Machine) w ns ms h k = refl
+inside_alike b (Some keyword.Schedule) w ns ms h k = refl
+inside_alike b (Some keyword.Code) w ns ms h k = refl
+inside_alike b (Some keyword.Lp) w ns ms h k = refl
+inside_alike b None w ns ms h k = named_alike b w ns ms h k
 
-pub five_suffice : (s : Stage) (w : List ℕ) (ws : List (List ℕ)) → entry_of s w (map number (take 5 ws)) ≡ entry_of s w (map number ws)
+placed_alike : (m : Option Machine) (b : Option Block) (had listed : List Bool) (w : List ℕ) (ns ms : List (Option ℕ)) → 5 ≤ length ns → 5 ≤ length ms → placed_of m b had listed w ns ≡ placed_of m b had listed w ms
+placed_alike None b had listed w ns ms h k = first_alike (keyword_of w) ns ms h k
+placed_alike (Some m) None had listed w ns ms h k = outside_alike m had listed (keyword_of w) ns ms h k
+placed_alike (Some m) (Some b) had listed w ns ms h k = inside_alike b (keyword_of w) w ns ms h k
+
+pub five_suffice : (s : Stage) (listed : List Bool) (w : List ℕ) (ws : List (List ℕ)) → entry_of s listed w (map number (take 5 ws)) ≡ entry_of s listed w (map number ws)
 unfolding entry_of
-five_suffice s w [] = refl
-five_suffice s w (a ∷ []) = refl
-five_suffice s w (a ∷ b ∷ []) = refl
-five_suffice s w (a ∷ b ∷ c ∷ []) = refl
-five_suffice s w (a ∷ b ∷ c ∷ d ∷ []) = refl
-five_suffice s w (a ∷ b ∷ c ∷ d ∷ e ∷ ws) =
-    placed_alike s.machine s.block s.had w (map number (take 5 (a ∷ b ∷ c ∷ d ∷ e ∷ ws))) (map number (a ∷ b ∷ c ∷ d ∷ e ∷ ws)) (omega arith) (omega arith)
+five_suffice s listed w [] = refl
+five_suffice s listed w (a ∷ []) = refl
+five_suffice s listed w (a ∷ b ∷ []) = refl
+five_suffice s listed w (a ∷ b ∷ c ∷ []) = refl
+five_suffice s listed w (a ∷ b ∷ c ∷ d ∷ []) = refl
+five_suffice s listed w (a ∷ b ∷ c ∷ d ∷ e ∷ ws) =
+    placed_alike s.machine s.block s.had listed w (map number (take 5 (a ∷ b ∷ c ∷ d ∷ e ∷ ws))) (map number (a ∷ b ∷ c ∷ d ∷ e ∷ ws)) (omega arith) (omega arith)

@@ -1,15 +1,17 @@
 -- What each script that is read has.
-use Rattle.std.proofs.Common.{◌≡◌, ℕ, ◌+◌, ◌*◌, ◌^◌, ◌<◌, ◌≤◌, List, [], ◌∷◌, ◌++◌, length, map, drop, get_or, set, replicate, Bool, true, false, not, cond, leb, ltb, ◌==◌, ◌&&◌, Option, Some, None, Result, Ok, Err, ◌⊎◌, inl, inr, refl, subst, arith}
+use Rattle.std.proofs.Common.{◌≡◌, ℕ, ◌+◌, ◌*◌, ◌^◌, ◌<◌, ◌≤◌, ◌≢◌, ◌%◌, List, [], ◌∷◌, ◌++◌, length, map, drop, get_or, set, replicate, Bool, true, false, not, cond, leb, ltb, ◌==◌, ◌&&◌, Option, Some, None, Result, Ok, Err, ◌⊎◌, inl, inr, refl, sym, subst, arith}
 use Rattle.std.specs.Prelude.{is_some, unwrap_or}
 use Rattle.std.specs.List.{All, list_all}
-use Rattle.std.proofs.lemmas.Bool.{cases_lt, and_parts}
-use Rattle.std.proofs.lemmas.List.{length-append, length-replicate, length-set, get_or_past}
+use Rattle.std.proofs.lemmas.Bool.{cases_lt, cases_eq, and_parts}
+use Rattle.std.proofs.lemmas.List.{length-append, length-replicate, length-set, get_or_past, get_or-set_other, get_or-set_same}
 use Rattle.std.proofs.lemmas.List.Elements.{All-nil, All-cons, All-head, All-tail, All-replicate, All-append, All-push, All-set}
 use Rattle.td_words.specs.declared.calls.Call.{Call}
 use Rattle.td_words.specs.declared.calls.Call.TheVariants as call
+use Rattle.td_words.specs.declared.calls.GuestOp.{GuestOp}
 use Rattle.td_words.specs.declared.names.ReadField.{ReadField}
 use Rattle.td_words.specs.declared.machines.Machine.{Machine}
 use Rattle.td_words.specs.Limits.{IsMachine, in_limits}
+use Rattle.td_words.specs.Seen.{CodeSeen}
 use Rattle.script_text.specs.declared.faults.Reason.{Reason}
 use Rattle.script_text.specs.declared.faults.Reason.TheVariants as reason
 use Rattle.script_text.specs.declared.faults.ScriptFault.{ScriptFault}
@@ -19,20 +21,26 @@ use Rattle.script_text.specs.declared.mnemonics.CallName.TheVariants as name
 use Rattle.script_text.specs.declared.mnemonics.Mnemonic.{Mnemonic}
 use Rattle.script_text.specs.declared.lines.Keyword.{Keyword}
 use Rattle.script_text.specs.declared.lines.Keyword.TheVariants as keyword
+use Rattle.script_text.specs.declared.lines.Block.{Block}
+use Rattle.script_text.specs.declared.lines.Block.TheVariants as block
 use Rattle.script_text.specs.declared.lines.Entry.{Entry}
 use Rattle.script_text.specs.declared.lines.Entry.TheVariants as entry
+use Rattle.script_text.specs.declared.code_blocks.CodePlace.{CodePlace}
+use Rattle.script_text.specs.declared.operations.OpName.{OpName}
+use Rattle.script_text.specs.declared.operations.OpName.TheVariants as op
 use Rattle.script_text.specs.declared.schedules.Item.{Item}
 use Rattle.script_text.specs.declared.schedules.Turns.{Turns}
 use Rattle.script_text.specs.Mnemonics.{mnemonics, mnemonic_in}
 use Rattle.script_text.specs.Number.{digit, number_on, digits_in, is_prefixed, number}
-use Rattle.script_text.specs.Line.{◌>>=◌, machine_of, block_of, end_of, counted_of, number_at, argument, built_of, are_given, judged_of, call_of, first_of, outside_of, inside_of, placed_of, entry_of, keyword_of}
-use Rattle.script_text.specs.Blocks.{field_of}
+use Rattle.script_text.specs.Counted.{◌>>=◌, counted_of, number_at, argument}
+use Rattle.script_text.specs.Line.{machine_of, block_of, end_of, built_of, are_given, judged_of, call_of, first_of, list_of, judged_operation_of, operation_line_of, outside_of, named_of, inside_of, placed_of, entry_of, keyword_of}
+use Rattle.script_text.specs.Blocks.{field_of, code_of, list_place, none_listed, operation_of, operand_count, fit_operands, operands_of, guest_op_of}
 use Rattle.script_text.specs.Schedule.{item_of, in_range_of, turns_in, with_turns, written_of, schedule_of}
 use Rattle.script_text.specs.Words.{pieces, words, is_printable, is_comment}
-use Rattle.script_text.specs.Reading.{SoFar, nothing_yet, with_call, entered_of, worded_of, line_of, script_of, ended_of, then_on, read_from, read_of}
-use Rattle.script_text.specs.Spelling.{FitsCall}
+use Rattle.script_text.specs.Reading.{SoFar, nothing_yet, with_call, with_op, closed_of, entered_of, worded_of, line_of, script_of, ended_of, then_on, read_from, read_of}
+use Rattle.script_text.specs.Spelling.{FitsCall, FitsOp}
 use Rattle.script_text.specs.Seen.{ScriptSeen}
-use Rattle.script_text.specs.Laws.{IsInForm, ScriptsAreInForm}
+use Rattle.script_text.specs.Laws.{IsCode, AreOfOthers, IsInForm, ScriptsAreInForm}
 
 -- a value that is given has it
 abbrev IfGiven : {A : Type 0} → (A → Type 0) → Result A Reason → Type 0
@@ -89,15 +97,23 @@ argument_in ns i h (inr past) = rw (get_or_past ns i None past) tt
 argument_fits : (ns : List (Option ℕ)) (i : ℕ) → All FitsNumber ns → argument ns i < 2 ^ 64
 argument_fits ns i h = unwrapped (get_or ns i None) (argument_in ns i h (cases_lt i (length ns)))
 
--- what a line says fits the machine so far
-abbrev FitsEntry : Option Machine → Entry → Type 0
-FitsEntry None (entry.Machine m) = in_limits m.lps m.pages m.hkids ≡ true
-FitsEntry None _ = ⊥
-FitsEntry (Some m) (entry.Machine _) = ⊥
-FitsEntry (Some m) (entry.Schedule lps) = lps ≡ m.lps
-FitsEntry (Some m) (entry.Call lp c) = FitsCall c
-FitsEntry (Some m) (entry.Read lp tdr) = tdr < 2 ^ 64
-FitsEntry (Some m) _ = Unit {0}
+-- a list begins that didn't before
+record FitsPlace (m : Machine) (listed : List Bool) (p : CodePlace) : Type 0 where
+  pub tdr : p.tdr < m.pages
+  pub index : p.index < 8
+  pub free : get_or listed (list_place p) false ≡ false
+
+-- what a line says fits the machine so far, and the lists
+abbrev FitsEntry : Option Machine → List Bool → Entry → Type 0
+FitsEntry None listed (entry.Machine m) = in_limits m.lps m.pages m.hkids ≡ true
+FitsEntry None listed _ = ⊥
+FitsEntry (Some m) listed (entry.Machine _) = ⊥
+FitsEntry (Some m) listed (entry.Schedule lps) = lps ≡ m.lps
+FitsEntry (Some m) listed (entry.Call lp c) = FitsCall c
+FitsEntry (Some m) listed (entry.Read lp tdr) = tdr < 2 ^ 64
+FitsEntry (Some m) listed (entry.List p) = FitsPlace m listed p
+FitsEntry (Some m) listed (entry.Operation g) = FitsOp g
+FitsEntry (Some m) listed _ = Unit {0}
 
 not_false : (b : Bool) → not b ≡ false → b ≡ true
 not_false true h = refl
@@ -116,29 +132,101 @@ given_count : {B : Type 0} (Q : B → Type 0) (r : Result (Unit {0}) Reason) (x 
 given_count Q (Ok t) x h = h
 given_count Q (Err r) x h = tt
 
-machine_fits : (ns : List (Option ℕ)) → IfGiven (FitsEntry None) (machine_of ns)
+machine_fits : (listed : List Bool) (ns : List (Option ℕ)) → IfGiven (FitsEntry None listed) (machine_of ns)
 unfolding machine_of
-machine_fits ns =
-    given_count (FitsEntry None) (counted_of 3 ns) _
-    (given_number (FitsEntry None) (number_at ns 0) _
-    (λ lps. given_number (FitsEntry None) (number_at ns 1) _
-    (λ pages. given_number (FitsEntry None) (number_at ns 2) _
-    (λ hkids. given_if (FitsEntry None) (not (in_limits lps pages hkids)) _ reason.Range _ refl (λ e. not_false (in_limits lps pages hkids) e)))))
+machine_fits listed ns =
+    given_count (FitsEntry None listed) (counted_of 3 ns) _
+    (given_number (FitsEntry None listed) (number_at ns 0) _
+    (λ lps. given_number (FitsEntry None listed) (number_at ns 1) _
+    (λ pages. given_number (FitsEntry None listed) (number_at ns 2) _
+    (λ hkids. given_if (FitsEntry None listed) (not (in_limits lps pages hkids)) _ reason.Range _ refl (λ e. not_false (in_limits lps pages hkids) e)))))
 
-first_fits : (k : Option Keyword) (ns : List (Option ℕ)) → IfGiven (FitsEntry None) (first_of k ns)
-first_fits (Some keyword.Machine) ns = machine_fits ns
-first_fits _ ns = tt
+first_fits : (listed : List Bool) (k : Option Keyword) (ns : List (Option ℕ)) → IfGiven (FitsEntry None listed) (first_of k ns)
+first_fits listed (Some keyword.Machine) ns = machine_fits listed ns
+first_fits listed _ ns = tt
 
-block_fits : (m : Machine) (had : List Bool) (ns : List (Option ℕ)) → IfGiven (FitsEntry (Some m)) (block_of m had ns)
+block_fits : (m : Machine) (had listed : List Bool) (ns : List (Option ℕ)) → IfGiven (FitsEntry (Some m) listed) (block_of m had ns)
 unfolding block_of
-block_fits m had ns =
-    given_count (FitsEntry (Some m)) (counted_of 1 ns) _
-    (given_number (FitsEntry (Some m)) (number_at ns 0) _
-    (λ lp. given_if (FitsEntry (Some m)) (not (ltb lp m.lps)) _ reason.Range _ refl (λ e. given_if (FitsEntry (Some m)) (get_or had lp false) _ reason.Repeated (Ok (entry.Open lp)) refl (λ e. tt))))
+block_fits m had listed ns =
+    given_count (FitsEntry (Some m) listed) (counted_of 1 ns) _
+    (given_number (FitsEntry (Some m) listed) (number_at ns 0) _
+    (λ lp. given_if (FitsEntry (Some m) listed) (not (ltb lp m.lps)) _ reason.Range _ refl (λ e. given_if (FitsEntry (Some m) listed) (get_or had lp false) _ reason.Repeated (Ok (entry.Open lp)) refl (λ e. tt))))
 
-end_fits : (m : Machine) (ns : List (Option ℕ)) → IfGiven (FitsEntry (Some m)) (end_of ns)
+end_fits : (m : Machine) (listed : List Bool) (ns : List (Option ℕ)) → IfGiven (FitsEntry (Some m) listed) (end_of ns)
 unfolding end_of
-end_fits m ns = given_count (FitsEntry (Some m)) (counted_of 0 ns) (Ok entry.End) tt
+end_fits m listed ns = given_count (FitsEntry (Some m) listed) (counted_of 0 ns) (Ok entry.End) tt
+
+place_fits : (m : Machine) (listed : List Bool) (tdr index : ℕ) → not (ltb tdr m.pages && ltb index 8) ≡ false → get_or listed (8 * tdr + index) false ≡ false → FitsPlace m listed (record { tdr = tdr; index = index })
+place_fits m listed tdr index h k =
+    let p = and_parts (ltb tdr m.pages) (ltb index 8) (not_false (ltb tdr m.pages && ltb index 8) h) in
+    record { tdr = grind (arith, p.0); index = grind (arith, p.1); free = k }
+
+code_fits : (m : Machine) (listed : List Bool) (ns : List (Option ℕ)) → IfGiven (FitsPlace m listed) (code_of m listed ns)
+unfolding code_of
+code_fits m listed ns =
+    given_count (FitsPlace m listed) (counted_of 2 ns) _
+    (given_number (FitsPlace m listed) (number_at ns 0) _
+    (λ tdr. given_number (FitsPlace m listed) (number_at ns 1) _
+    (λ index. given_if (FitsPlace m listed) (not (ltb tdr m.pages && ltb index 8)) _ reason.Range _ refl
+    (λ e. given_if (FitsPlace m listed) (get_or listed (8 * tdr + index) false) _ reason.Repeated (Ok (record { tdr = tdr; index = index })) refl (λ f. place_fits m listed tdr index e f)))))
+
+list_fits_entry : (m : Machine) (listed : List Bool) (ns : List (Option ℕ)) → IfGiven (FitsEntry (Some m) listed) (list_of m listed ns)
+list_fits_entry m listed ns = given_then (FitsPlace m listed) (FitsEntry (Some m) listed) (code_of m listed ns) (λ p. Ok (entry.List p)) (code_fits m listed ns) (λ p f. f)
+
+-- operations of such operands
+abbrev IfGuestOp : Option GuestOp → Type 0
+IfGuestOp None = Unit {0}
+IfGuestOp (Some g) = FitsOp g
+
+word_gpa_fits : (r gpa : ℕ) → (ltb r 8 && (ltb gpa (2 ^ 48) && (gpa % 8 == 0))) ≡ true → (r < 8) × (gpa < 2 ^ 48) × (gpa % 8 ≡ 0)
+word_gpa_fits r gpa h =
+    let p = and_parts (ltb r 8) (ltb gpa (2 ^ 48) && (gpa % 8 == 0)) h in
+    let q = and_parts (ltb gpa (2 ^ 48)) (gpa % 8 == 0) p.1 in
+    (grind (arith, p.0), grind (arith, q.0), grind (arith, q.1))
+
+page_gpa_fits : (gpa : ℕ) → ((ltb gpa (2 ^ 47) && (gpa % 4096 == 0)) && true) ≡ true → (gpa < 2 ^ 47) × (gpa % 4096 ≡ 0)
+page_gpa_fits gpa h =
+    let q = and_parts (ltb gpa (2 ^ 47)) (gpa % 4096 == 0) (and_parts (ltb gpa (2 ^ 47) && (gpa % 4096 == 0)) true h).0 in
+    (grind (arith, q.0), grind (arith, q.1))
+
+below_and : (n k : ℕ) (b : Bool) → (ltb n k && b) ≡ true → n < k
+below_and n k b h = grind arith
+
+two_below : (n k : ℕ) → (ltb n 8 && ltb k 8) ≡ true → (n < 8) × (k < 8)
+two_below n k h = let p = and_parts (ltb n 8) (ltb k 8) h in (grind (arith, p.0), grind (arith, p.1))
+
+guest_fits : (o : OpName) (a b : ℕ) → b < 2 ^ 64 → fit_operands o a b ≡ true → IfGuestOp (guest_op_of o a b)
+guest_fits op.Set a b small h = (below_and a 8 true h, small)
+guest_fits op.Secret a b small h = tt
+guest_fits op.Add a b small h = two_below a b h
+guest_fits op.Load a b small h = word_gpa_fits a b h
+guest_fits op.Store a b small h = word_gpa_fits a b h
+guest_fits op.Accept a b small h = page_gpa_fits a h
+guest_fits op.Rtmr a b small h = below_and a 4 true h
+guest_fits op.Vmcall a b small h = below_and a 8 true h
+
+-- operands in range are used
+abbrev tested : Bool → Bool → Bool → Result (Unit {0}) Reason
+tested a b c = cond (not a) (Err reason.Count) (cond (not b) (Err reason.Number) (cond (not c) (Err reason.Range) (Ok tt)))
+
+operands_cases : {B : Type 0} (Q : B → Type 0) (a b c : Bool) (x : Result B Reason) → (c ≡ true → IfGiven Q x) → IfGiven Q (tested a b c >>= (λ t. x))
+operands_cases Q false b c x h = tt
+operands_cases Q true false c x h = tt
+operands_cases Q true true false x h = tt
+operands_cases Q true true true x h = h refl
+
+given_operands : {B : Type 0} (Q : B → Type 0) (o : OpName) (ns : List (Option ℕ)) (x : Result B Reason) → (fit_operands o (argument ns 0) (argument ns 1) ≡ true → IfGiven Q x) → IfGiven Q (operands_of o ns >>= (λ t. x))
+given_operands Q o ns x h = operands_cases Q (length ns == operand_count o) (list_all is_some ns) (fit_operands o (argument ns 0) (argument ns 1)) x h
+
+judged_guest_fits : (m : Machine) (listed : List Bool) (g : Option GuestOp) (o : OpName) (ns : List (Option ℕ)) → (fit_operands o (argument ns 0) (argument ns 1) ≡ true → IfGuestOp g) → IfGiven (FitsEntry (Some m) listed) (judged_operation_of g o ns)
+judged_guest_fits m listed None o ns h = tt
+judged_guest_fits m listed (Some g) o ns h = given_operands (FitsEntry (Some m) listed) o ns (Ok (entry.Operation g)) h
+
+operation_fits : (m : Machine) (listed : List Bool) (o : Option OpName) (ns : List (Option ℕ)) → All FitsNumber ns → IfGiven (FitsEntry (Some m) listed) (operation_line_of o ns)
+unfolding operation_line_of
+operation_fits m listed None ns h = tt
+operation_fits m listed (Some o) ns h =
+    judged_guest_fits m listed (guest_op_of o (argument ns 0) (argument ns 1)) o ns (λ e. guest_fits o (argument ns 0) (argument ns 1) (argument_fits ns 1 h) e)
 
 -- calls of such arguments
 abbrev fits : ℕ → Type 0
@@ -156,64 +244,68 @@ three_fit ns h = All-push fits (argument ns 0 ∷ argument ns 1 ∷ []) (argumen
 four_fit : (ns : List (Option ℕ)) → All FitsNumber ns → All fits (argument ns 0 ∷ argument ns 1 ∷ argument ns 2 ∷ argument ns 3 ∷ [])
 four_fit ns h = All-push fits (argument ns 0 ∷ argument ns 1 ∷ argument ns 2 ∷ []) (argument ns 3) (three_fit ns h) (argument_fits ns 3 h)
 
-abbrev IfBuilt : Machine → Option Entry → Type 0
-IfBuilt m (Some e) = FitsEntry (Some m) e
-IfBuilt m None = Unit {0}
+abbrev IfBuilt : Machine → List Bool → Option Entry → Type 0
+IfBuilt m listed (Some e) = FitsEntry (Some m) listed e
+IfBuilt m listed None = Unit {0}
 
-built_fits : (m : Machine) (lp : ℕ) (n : CallName) (ns : List (Option ℕ)) → All FitsNumber ns → IfBuilt m (built_of lp n ns)
-built_fits m lp name.HostRead ns h = two_fit ns h
-built_fits m lp name.HostWrite ns h = three_fit ns h
-built_fits m lp name.PhymemPageRdmd ns h = one_fits ns h
-built_fits m lp name.PhymemCacheWb ns h = All-nil fits
-built_fits m lp name.PhymemPageReclaim ns h = two_fit ns h
-built_fits m lp name.MngCreate ns h = two_fit ns h
-built_fits m lp name.MngKeyConfig ns h = one_fits ns h
-built_fits m lp name.MngAddcx ns h = two_fit ns h
-built_fits m lp name.MngInit ns h = one_fits ns h
-built_fits m lp name.MngRd ns h = argument_fits ns 0 h
-built_fits m lp name.MngVpflushdone ns h = one_fits ns h
-built_fits m lp name.MngKeyFreeid ns h = one_fits ns h
-built_fits m lp name.MrExtend ns h = two_fit ns h
-built_fits m lp name.MrFinalize ns h = one_fits ns h
-built_fits m lp name.VpCreate ns h = two_fit ns h
-built_fits m lp name.VpInit ns h = three_fit ns h
-built_fits m lp name.MemSeptAdd ns h = four_fit ns h
-built_fits m lp name.MemSeptRd ns h = three_fit ns h
-built_fits m lp name.MemPageAdd ns h = four_fit ns h
-built_fits m lp name.MemPageAug ns h = three_fit ns h
-built_fits m lp _ ns h = tt
+built_fits : (m : Machine) (listed : List Bool) (lp : ℕ) (n : CallName) (ns : List (Option ℕ)) → All FitsNumber ns → IfBuilt m listed (built_of lp n ns)
+built_fits m listed lp name.HostRead ns h = (tt, two_fit ns h)
+built_fits m listed lp name.HostWrite ns h = (tt, three_fit ns h)
+built_fits m listed lp name.PhymemPageRdmd ns h = (tt, one_fits ns h)
+built_fits m listed lp name.PhymemCacheWb ns h = (tt, All-nil fits)
+built_fits m listed lp name.PhymemPageReclaim ns h = (tt, two_fit ns h)
+built_fits m listed lp name.MngCreate ns h = (tt, two_fit ns h)
+built_fits m listed lp name.MngKeyConfig ns h = (tt, one_fits ns h)
+built_fits m listed lp name.MngAddcx ns h = (tt, two_fit ns h)
+built_fits m listed lp name.MngInit ns h = (tt, one_fits ns h)
+built_fits m listed lp name.MngRd ns h = argument_fits ns 0 h
+built_fits m listed lp name.MngVpflushdone ns h = (tt, one_fits ns h)
+built_fits m listed lp name.MngKeyFreeid ns h = (tt, one_fits ns h)
+built_fits m listed lp name.MrExtend ns h = (tt, two_fit ns h)
+built_fits m listed lp name.MrFinalize ns h = (tt, one_fits ns h)
+built_fits m listed lp name.VpCreate ns h = (tt, two_fit ns h)
+built_fits m listed lp name.VpInit ns h = (tt, three_fit ns h)
+built_fits m listed lp name.MemSeptAdd ns h = (tt, four_fit ns h)
+built_fits m listed lp name.MemSeptRd ns h = (tt, three_fit ns h)
+built_fits m listed lp name.MemPageAdd ns h = (tt, four_fit ns h)
+built_fits m listed lp name.MemPageAug ns h = (tt, three_fit ns h)
+built_fits m listed lp _ ns h = tt
 
-judged_fits : (m : Machine) (e : Option Entry) (row : Mnemonic) (ns : List (Option ℕ)) → IfBuilt m e → IfGiven (FitsEntry (Some m)) (judged_of e row ns)
-judged_fits m None row ns h = tt
-judged_fits m (Some e) row ns h =
-    given_if (FitsEntry (Some m)) (not (leb row.least (length ns) && leb (length ns) row.most)) _ reason.Count _ refl
-    (λ c. given_if (FitsEntry (Some m)) (not (are_given row.call ns)) _ reason.Number (Ok e) refl (λ g. h))
+judged_fits : (m : Machine) (listed : List Bool) (e : Option Entry) (row : Mnemonic) (ns : List (Option ℕ)) → IfBuilt m listed e → IfGiven (FitsEntry (Some m) listed) (judged_of e row ns)
+judged_fits m listed None row ns h = tt
+judged_fits m listed (Some e) row ns h =
+    given_if (FitsEntry (Some m) listed) (not (leb row.least (length ns) && leb (length ns) row.most)) _ reason.Count _ refl
+    (λ c. given_if (FitsEntry (Some m) listed) (not (are_given row.call ns)) _ reason.Number (Ok e) refl (λ g. h))
 
-call_fits : (m : Machine) (lp : ℕ) (row : Option Mnemonic) (ns : List (Option ℕ)) → All FitsNumber ns → IfGiven (FitsEntry (Some m)) (call_of lp row ns)
+call_fits : (m : Machine) (listed : List Bool) (lp : ℕ) (row : Option Mnemonic) (ns : List (Option ℕ)) → All FitsNumber ns → IfGiven (FitsEntry (Some m) listed) (call_of lp row ns)
 unfolding call_of
-call_fits m lp None ns h = tt
-call_fits m lp (Some row) ns h = judged_fits m (built_of lp row.call ns) row ns (built_fits m lp row.call ns h)
+call_fits m listed lp None ns h = tt
+call_fits m listed lp (Some row) ns h = judged_fits m listed (built_of lp row.call ns) row ns (built_fits m listed lp row.call ns h)
 
-outside_fits : (m : Machine) (had : List Bool) (k : Option Keyword) (ns : List (Option ℕ)) → IfGiven (FitsEntry (Some m)) (outside_of m had k ns)
-outside_fits m had (Some keyword.Machine) ns = tt
-outside_fits m had (Some keyword.End) ns = tt
-outside_fits m had (Some keyword.Schedule) ns = refl
-outside_fits m had (Some keyword.Code) ns = tt
-outside_fits m had (Some keyword.Lp) ns = block_fits m had ns
-outside_fits m had None ns = tt
+outside_fits : (m : Machine) (had listed : List Bool) (k : Option Keyword) (ns : List (Option ℕ)) → IfGiven (FitsEntry (Some m) listed) (outside_of m had listed k ns)
+outside_fits m had listed (Some keyword.Machine) ns = tt
+outside_fits m had listed (Some keyword.End) ns = tt
+outside_fits m had listed (Some keyword.Schedule) ns = refl
+outside_fits m had listed (Some keyword.Code) ns = list_fits_entry m listed ns
+outside_fits m had listed (Some keyword.Lp) ns = block_fits m had listed ns
+outside_fits m had listed None ns = tt
 
-inside_fits : (m : Machine) (lp : ℕ) (k : Option Keyword) (w : List ℕ) (ns : List (Option ℕ)) → All FitsNumber ns → IfGiven (FitsEntry (Some m)) (inside_of lp k w ns)
-inside_fits m lp (Some keyword.Machine) w ns h = tt
-inside_fits m lp (Some keyword.Schedule) w ns h = tt
-inside_fits m lp (Some keyword.Code) w ns h = tt
-inside_fits m lp (Some keyword.Lp) w ns h = tt
-inside_fits m lp (Some keyword.End) w ns h = end_fits m ns
-inside_fits m lp None w ns h = call_fits m lp (mnemonic_in mnemonics w) ns h
+named_fits : (m : Machine) (listed : List Bool) (b : Block) (w : List ℕ) (ns : List (Option ℕ)) → All FitsNumber ns → IfGiven (FitsEntry (Some m) listed) (named_of b w ns)
+named_fits m listed (block.Lp lp) w ns h = call_fits m listed lp (mnemonic_in mnemonics w) ns h
+named_fits m listed (block.Code p) w ns h = operation_fits m listed (operation_of w) ns h
 
-placed_fits : (m : Option Machine) (block : Option ℕ) (had : List Bool) (w : List ℕ) (ns : List (Option ℕ)) → All FitsNumber ns → IfGiven (FitsEntry m) (placed_of m block had w ns)
-placed_fits None block had w ns h = first_fits (keyword_of w) ns
-placed_fits (Some m) None had w ns h = outside_fits m had (keyword_of w) ns
-placed_fits (Some m) (Some lp) had w ns h = inside_fits m lp (keyword_of w) w ns h
+inside_fits : (m : Machine) (listed : List Bool) (b : Block) (k : Option Keyword) (w : List ℕ) (ns : List (Option ℕ)) → All FitsNumber ns → IfGiven (FitsEntry (Some m) listed) (inside_of b k w ns)
+inside_fits m listed b (Some keyword.Machine) w ns h = tt
+inside_fits m listed b (Some keyword.Schedule) w ns h = tt
+inside_fits m listed b (Some keyword.Code) w ns h = tt
+inside_fits m listed b (Some keyword.Lp) w ns h = tt
+inside_fits m listed b (Some keyword.End) w ns h = end_fits m listed ns
+inside_fits m listed b None w ns h = named_fits m listed b w ns h
+
+placed_fits : (m : Option Machine) (b : Option Block) (had listed : List Bool) (w : List ℕ) (ns : List (Option ℕ)) → All FitsNumber ns → IfGiven (FitsEntry m listed) (placed_of m b had listed w ns)
+placed_fits None b had listed w ns h = first_fits listed (keyword_of w) ns
+placed_fits (Some m) None had listed w ns h = outside_fits m had listed (keyword_of w) ns
+placed_fits (Some m) (Some b) had listed w ns h = inside_fits m listed b (keyword_of w) w ns h
 
 -- the schedule so far
 record FitsItems (lps : ℕ) (schedule : List ℕ) : Type 0 where
@@ -291,49 +383,186 @@ none_called lps = record {
   arguments = All-replicate (λ list. All FitsCall list) lps [] (All-nil FitsCall);
 }
 
+-- the lists that have ended are marked, and the one that is open is none of them
+abbrev IsMarked : List Bool → CodeSeen → Type 0
+IsMarked listed c = get_or listed (8 * c.tdr + c.index) false ≡ true
+
+abbrev IsOfAnother : CodePlace → CodeSeen → Type 0
+IsOfAnother p c = p.tdr ≡ c.tdr → p.index ≢ c.index
+
+record FitsOpen (m : Machine) (listed : List Bool) (codes : List CodeSeen) (p : CodePlace) : Type 0 where
+  pub tdr : p.tdr < m.pages
+  pub index : p.index < 8
+  pub marked : get_or listed (list_place p) false ≡ true
+  pub other : All (IsOfAnother p) codes
+
+abbrev FitsBlock : Machine → List Bool → List CodeSeen → Option Block → Type 0
+FitsBlock m listed codes (Some (block.Code p)) = FitsOpen m listed codes p
+FitsBlock m listed codes _ = Unit {0}
+
+record FitsOps (ops : List GuestOp) : Type 0 where
+  pub few : length ops ≤ 256
+  pub operands : All FitsOp ops
+
+record FitsCodes (m : Machine) (listed : List Bool) (codes : List CodeSeen) : Type 0 where
+  pub room : 8 * m.pages ≤ length listed
+  pub fit : All (IsCode m) codes
+  pub marked : All (IsMarked listed) codes
+  pub others : AreOfOthers codes
+
+no_ops : FitsOps []
+no_ops = record { few = omega arith; operands = All-nil FitsOp }
+
+op_added : (ops : List GuestOp) (g : GuestOp) → FitsOps ops → FitsOp g → IfGiven FitsOps (with_op ops g)
+op_added ops g h fit =
+    given_if FitsOps (leb 256 (length ops)) _ reason.Full (Ok (ops ++ g ∷ [])) refl
+    (λ e. record { few = rw length-append (grind (arith, e)); operands = All-push FitsOp ops g h.operands fit })
+
+-- a list that begins: its mark is set, and all marks before stay
+still_marked : (listed : List Bool) (i k : ℕ) → get_or listed k false ≡ true → (i ≡ k) ⊎ (i ≢ k) → i < length listed → get_or (set listed i true) k false ≡ true
+still_marked listed i k h (inl e) room = subst (λ j. get_or (set listed i true) j false ≡ true) e (get_or-set_same listed i true false room)
+still_marked listed i k h (inr e) room = let apart : k ≢ i = λ f. e (sym f) in rw (get_or-set_other listed i k true false apart) h
+
+all_still_marked : (listed : List Bool) (i : ℕ) (codes : List CodeSeen) → i < length listed → All (IsMarked listed) codes → All (IsMarked (set listed i true)) codes
+all_still_marked listed i [] room h = All-nil (IsMarked (set listed i true))
+all_still_marked listed i (c ∷ cs) room h =
+    All-cons (IsMarked (set listed i true)) c cs
+    (still_marked listed i (8 * c.tdr + c.index) (All-head (IsMarked listed) c cs h) (cases_eq i (8 * c.tdr + c.index)) room)
+    (all_still_marked listed i cs room (All-tail (IsMarked listed) c cs h))
+
+of_another : (listed : List Bool) (p : CodePlace) (c : CodeSeen) → get_or listed (list_place p) false ≡ false → IsMarked listed c → IsOfAnother p c
+of_another listed p c free marked = λ t i. let P : ℕ → ℕ → Type 0 = λ a b. get_or listed (8 * a + b) false ≡ false in cc_of (subst (λ b. P c.tdr b) i (subst (λ a. P a p.index) t free)) marked
+  where
+    cc_of : {x : Bool} → x ≡ false → x ≡ true → ⊥
+    cc_of h k = cc
+
+all_of_another : (listed : List Bool) (p : CodePlace) (codes : List CodeSeen) → get_or listed (list_place p) false ≡ false → All (IsMarked listed) codes → All (IsOfAnother p) codes
+all_of_another listed p [] free h = All-nil (IsOfAnother p)
+all_of_another listed p (c ∷ cs) free h =
+    All-cons (IsOfAnother p) c cs (of_another listed p c free (All-head (IsMarked listed) c cs h)) (all_of_another listed p cs free (All-tail (IsMarked listed) c cs h))
+
+in_room : (pages tdr index size : ℕ) → tdr < pages → index < 8 → 8 * pages ≤ size → 8 * tdr + index < size
+in_room pages tdr index size h k room = omega (arith, h, k, room)
+
+opened_codes : (m : Machine) (listed : List Bool) (codes : List CodeSeen) (p : CodePlace) → FitsCodes m listed codes → FitsPlace m listed p → FitsCodes m (set listed (list_place p) true) codes
+opened_codes m listed codes p h k = record {
+  room = rw length-set h.room;
+  fit = h.fit;
+  marked = all_still_marked listed (list_place p) codes (in_room m.pages p.tdr p.index (length listed) k.tdr k.index h.room) h.marked;
+  others = h.others;
+}
+
+opened : (m : Machine) (listed : List Bool) (codes : List CodeSeen) (p : CodePlace) → FitsCodes m listed codes → FitsPlace m listed p → FitsOpen m (set listed (list_place p) true) codes p
+opened m listed codes p h k = record {
+  tdr = k.tdr;
+  index = k.index;
+  marked = get_or-set_same listed (list_place p) true false (in_room m.pages p.tdr p.index (length listed) k.tdr k.index h.room);
+  other = all_of_another listed p codes k.free h.marked;
+}
+
+-- a list that ends stands behind the others
+others_more : (codes : List CodeSeen) (p : CodePlace) (ops : List GuestOp) → AreOfOthers codes → All (IsOfAnother p) codes → AreOfOthers (codes ++ (record { tdr = p.tdr; index = p.index; ops = ops }) ∷ [])
+others_more [] p ops h k = (All-nil _, tt)
+others_more (c ∷ cs) p ops h k = (
+  All-push (λ d. d.tdr ≡ c.tdr → d.index ≢ c.index) cs (record { tdr = p.tdr; index = p.index; ops = ops }) h.0 (All-head (IsOfAnother p) c cs k),
+  others_more cs p ops h.1 (All-tail (IsOfAnother p) c cs k),
+)
+
+closed_codes : (m : Machine) (listed : List Bool) (codes : List CodeSeen) (ops : List GuestOp) (p : CodePlace) → FitsCodes m listed codes → FitsOps ops → FitsOpen m listed codes p
+    → FitsCodes m listed (codes ++ (record { tdr = p.tdr; index = p.index; ops = ops }) ∷ [])
+closed_codes m listed codes ops p h o k = record {
+  room = h.room;
+  fit = All-push (IsCode m) codes (record { tdr = p.tdr; index = p.index; ops = ops }) h.fit (record { tdr = k.tdr; index = k.index; few = o.few; operands = o.operands });
+  marked = All-push (IsMarked listed) codes (record { tdr = p.tdr; index = p.index; ops = ops }) h.marked k.marked;
+  others = others_more codes p ops h.others k.other;
+}
+
 -- what the lines so far said
-record FitsMachine (m : Machine) (schedule : List ℕ) (calls : List (List Call)) : Type 0 where
+record FitsMachine (m : Machine) (b : Option Block) (listed : List Bool) (schedule : List ℕ) (codes : List CodeSeen) (ops : List GuestOp) (calls : List (List Call)) : Type 0 where
   pub limits : in_limits m.lps m.pages m.hkids ≡ true
   pub items : FitsItems m.lps schedule
+  pub codes_fit : FitsCodes m listed codes
+  pub ops_fit : FitsOps ops
+  pub block_fits : FitsBlock m listed codes b
   pub calls_fit : FitsCalls m.lps calls
 
-abbrev FitsParts : Option Machine → List ℕ → List (List Call) → Type 0
-FitsParts None schedule calls = schedule ≡ []
-FitsParts (Some m) schedule calls = FitsMachine m schedule calls
+-- before the machine's line
+record FitsNothing (b : Option Block) (listed : List Bool) (schedule : List ℕ) (codes : List CodeSeen) (ops : List GuestOp) : Type 0 where
+  pub outside : b ≡ None
+  pub marks : length listed ≡ 8192
+  pub items : schedule ≡ []
+  pub lists : codes ≡ []
+  pub operations : ops ≡ []
+
+abbrev FitsParts : Option Machine → Option Block → List Bool → List ℕ → List CodeSeen → List GuestOp → List (List Call) → Type 0
+FitsParts None b listed schedule codes ops calls = FitsNothing b listed schedule codes ops
+FitsParts (Some m) b listed schedule codes ops calls = FitsMachine m b listed schedule codes ops calls
 
 abbrev FitsSoFar : SoFar → Type 0
-FitsSoFar d = FitsParts d.stage.machine d.schedule d.calls
+FitsSoFar d = FitsParts d.stage.machine d.stage.block d.listed d.schedule d.codes d.ops d.calls
+
+abbrev state : Option Machine → Option Block → List Bool → List Bool → List ℕ → List CodeSeen → List GuestOp → List (List Call) → SoFar
+state machine b had listed schedule codes ops calls = record { stage = record { machine = machine; block = b; had = had }; listed = listed; schedule = schedule; codes = codes; ops = ops; calls = calls }
 
 no_items : (lps : ℕ) (schedule : List ℕ) → schedule ≡ [] → FitsItems lps schedule
 no_items lps schedule e = record { below = rw e (All-nil (λ lp. lp < lps)); few = rw e (omega arith) }
 
-entered_fits : (machine : Option Machine) (block : Option ℕ) (had : List Bool) (schedule : List ℕ) (calls : List (List Call)) (e : Entry) (ws : List (List ℕ)) → FitsParts machine schedule calls → FitsEntry machine e
-    → IfGiven FitsSoFar (entered_of (record { stage = record { machine = machine; block = block; had = had }; schedule = schedule; calls = calls }) e ws)
+few_pages : (m : Machine) → in_limits m.lps m.pages m.hkids ≡ true → m.pages ≤ 1024
+few_pages m h = grind arith
+
+no_codes : (m : Machine) (listed : List Bool) (codes : List CodeSeen) → m.pages ≤ 1024 → length listed ≡ 8192 → codes ≡ [] → FitsCodes m listed codes
+no_codes m listed codes few marks e = record { room = omega (arith, few, marks); fit = rw e (All-nil (IsCode m)); marked = rw e (All-nil (IsMarked listed)); others = rw e tt }
+
+machine_entered : (m : Machine) (b : Option Block) (listed : List Bool) (schedule : List ℕ) (codes : List CodeSeen) (ops : List GuestOp) → FitsNothing b listed schedule codes ops → in_limits m.lps m.pages m.hkids ≡ true → FitsMachine m b listed schedule codes ops (replicate m.lps [])
+machine_entered m b listed schedule codes ops h k = record {
+  limits = k;
+  items = no_items m.lps schedule h.items;
+  codes_fit = no_codes m listed codes (few_pages m k) h.marks h.lists;
+  ops_fit = rw h.operations no_ops;
+  block_fits = rw h.outside tt;
+  calls_fit = none_called m.lps;
+}
+
+closed_fits : (m : Machine) (b : Option Block) (had listed : List Bool) (schedule : List ℕ) (codes : List CodeSeen) (ops : List GuestOp) (calls : List (List Call)) → FitsMachine m b listed schedule codes ops calls
+    → FitsSoFar (closed_of (state (Some m) b had listed schedule codes ops calls) b)
+closed_fits m None had listed schedule codes ops calls h = record { limits = h.limits; items = h.items; codes_fit = h.codes_fit; ops_fit = h.ops_fit; block_fits = tt; calls_fit = h.calls_fit }
+closed_fits m (Some (block.Lp lp)) had listed schedule codes ops calls h = record { limits = h.limits; items = h.items; codes_fit = h.codes_fit; ops_fit = h.ops_fit; block_fits = tt; calls_fit = h.calls_fit }
+closed_fits m (Some (block.Code p)) had listed schedule codes ops calls h = record { limits = h.limits; items = h.items; codes_fit = closed_codes m listed codes ops p h.codes_fit h.ops_fit h.block_fits; ops_fit = no_ops; block_fits = tt; calls_fit = h.calls_fit }
+
+entered_fits : (machine : Option Machine) (b : Option Block) (had listed : List Bool) (schedule : List ℕ) (codes : List CodeSeen) (ops : List GuestOp) (calls : List (List Call)) (e : Entry) (ws : List (List ℕ))
+    → FitsParts machine b listed schedule codes ops calls → FitsEntry machine listed e → IfGiven FitsSoFar (entered_of (state machine b had listed schedule codes ops calls) e ws)
 unfolding entered_of
-entered_fits None block had schedule calls (entry.Machine m) ws h k = record { limits = k; items = no_items m.lps schedule h; calls_fit = none_called m.lps }
-entered_fits None block had schedule calls (entry.Schedule lps) ws h k = absurd k
-entered_fits None block had schedule calls (entry.Open lp) ws h k = absurd k
-entered_fits None block had schedule calls entry.End ws h k = absurd k
-entered_fits None block had schedule calls (entry.Call lp c) ws h k = absurd k
-entered_fits None block had schedule calls (entry.Read lp tdr) ws h k = absurd k
-entered_fits (Some m) block had schedule calls (entry.Machine n) ws h k = absurd k
-entered_fits (Some m) block had schedule calls (entry.Schedule lps) ws h k =
+entered_fits None b had listed schedule codes ops calls (entry.Machine m) ws h k = machine_entered m b listed schedule codes ops h k
+entered_fits None b had listed schedule codes ops calls (entry.Schedule lps) ws h k = absurd k
+entered_fits None b had listed schedule codes ops calls (entry.Open lp) ws h k = absurd k
+entered_fits None b had listed schedule codes ops calls (entry.List p) ws h k = absurd k
+entered_fits None b had listed schedule codes ops calls entry.End ws h k = absurd k
+entered_fits None b had listed schedule codes ops calls (entry.Call lp c) ws h k = absurd k
+entered_fits None b had listed schedule codes ops calls (entry.Read lp tdr) ws h k = absurd k
+entered_fits None b had listed schedule codes ops calls (entry.Operation g) ws h k = absurd k
+entered_fits (Some m) b had listed schedule codes ops calls (entry.Machine n) ws h k = absurd k
+entered_fits (Some m) b had listed schedule codes ops calls (entry.Schedule lps) ws h k =
     rw k
     (given_then (FitsItems m.lps) FitsSoFar (schedule_of m.lps schedule ws) _ (schedule_fits m.lps schedule ws h.items)
-    (λ s f. record { limits = h.limits; items = f; calls_fit = h.calls_fit }))
-entered_fits (Some m) block had schedule calls (entry.Open lp) ws h k = h
-entered_fits (Some m) block had schedule calls entry.End ws h k = h
-entered_fits (Some m) block had schedule calls (entry.Call lp c) ws h k =
+    (λ s f. record { limits = h.limits; items = f; codes_fit = h.codes_fit; ops_fit = h.ops_fit; block_fits = h.block_fits; calls_fit = h.calls_fit }))
+entered_fits (Some m) b had listed schedule codes ops calls (entry.Open lp) ws h k = record { limits = h.limits; items = h.items; codes_fit = h.codes_fit; ops_fit = h.ops_fit; block_fits = tt; calls_fit = h.calls_fit }
+entered_fits (Some m) b had listed schedule codes ops calls (entry.List p) ws h k =
+    record { limits = h.limits; items = h.items; codes_fit = opened_codes m listed codes p h.codes_fit k; ops_fit = h.ops_fit; block_fits = opened m listed codes p h.codes_fit k; calls_fit = h.calls_fit }
+entered_fits (Some m) b had listed schedule codes ops calls entry.End ws h k = closed_fits m b had listed schedule codes ops calls h
+entered_fits (Some m) b had listed schedule codes ops calls (entry.Call lp c) ws h k =
     given_then (FitsCalls m.lps) FitsSoFar (with_call calls lp c) _ (call_added m.lps lp calls c h.calls_fit k)
-    (λ x f. record { limits = h.limits; items = h.items; calls_fit = f })
-entered_fits (Some m) block had schedule calls (entry.Read lp tdr) ws h k =
+    (λ x f. record { limits = h.limits; items = h.items; codes_fit = h.codes_fit; ops_fit = h.ops_fit; block_fits = h.block_fits; calls_fit = f })
+entered_fits (Some m) b had listed schedule codes ops calls (entry.Read lp tdr) ws h k =
     given_field FitsSoFar (field_of (get_or ws 1 [])) _
-    (λ field. given_then (FitsCalls m.lps) FitsSoFar (with_call calls lp (call.MngRd tdr field)) _ (call_added m.lps lp calls (call.MngRd tdr field) h.calls_fit (All-cons fits tdr [] k (All-nil fits)))
-    (λ x f. record { limits = h.limits; items = h.items; calls_fit = f }))
+    (λ field. given_then (FitsCalls m.lps) FitsSoFar (with_call calls lp (call.MngRd tdr field)) _ (call_added m.lps lp calls (call.MngRd tdr field) h.calls_fit (tt, All-cons fits tdr [] k (All-nil fits)))
+    (λ x f. record { limits = h.limits; items = h.items; codes_fit = h.codes_fit; ops_fit = h.ops_fit; block_fits = h.block_fits; calls_fit = f }))
+entered_fits (Some m) b had listed schedule codes ops calls (entry.Operation g) ws h k =
+    given_then FitsOps FitsSoFar (with_op ops g) _ (op_added ops g h.ops_fit k)
+    (λ x f. record { limits = h.limits; items = h.items; codes_fit = h.codes_fit; ops_fit = f; block_fits = h.block_fits; calls_fit = h.calls_fit })
 
-entry_fits : (d : SoFar) (w : List ℕ) (ws : List (List ℕ)) → IfGiven (FitsEntry d.stage.machine) (entry_of d.stage w (map number ws))
+entry_fits : (d : SoFar) (w : List ℕ) (ws : List (List ℕ)) → IfGiven (FitsEntry d.stage.machine d.listed) (entry_of d.stage d.listed w (map number ws))
 unfolding entry_of
-entry_fits d w ws = placed_fits d.stage.machine d.stage.block d.stage.had w (map number ws) (numbers_fit ws)
+entry_fits d w ws = placed_fits d.stage.machine d.stage.block d.stage.had d.listed w (map number ws) (numbers_fit ws)
 
 comment_fits : (b : Bool) (d : SoFar) (x : Result SoFar Reason) → FitsSoFar d → IfGiven FitsSoFar x → IfGiven FitsSoFar (cond b (Ok d) x)
 comment_fits true d x h k = h
@@ -344,8 +573,8 @@ unfolding worded_of
 words_fit d [] h = h
 words_fit d (w ∷ ws) h =
     comment_fits (is_comment w) d _ h
-    (given_then (FitsEntry d.stage.machine) FitsSoFar (entry_of d.stage w (map number ws)) (λ e. entered_of d e ws) (entry_fits d w ws)
-    (λ e f. entered_fits d.stage.machine d.stage.block d.stage.had d.schedule d.calls e ws h f))
+    (given_then (FitsEntry d.stage.machine d.listed) FitsSoFar (entry_of d.stage d.listed w (map number ws)) (λ e. entered_of d e ws) (entry_fits d w ws)
+    (λ e f. entered_fits d.stage.machine d.stage.block d.stage.had d.listed d.schedule d.codes d.ops d.calls e ws h f))
 
 line_fits : (d : SoFar) (line : List ℕ) → FitsSoFar d → IfGiven FitsSoFar (line_of d line)
 unfolding line_of
@@ -359,15 +588,16 @@ IfRead (Err e) = Unit {0}
 all_in_limits : (m : Machine) → in_limits m.lps m.pages m.hkids ≡ true → IsMachine m
 all_in_limits m h = record { lps = (grind arith, grind arith); pages = (grind arith, grind arith); hkids = (grind arith, grind arith) }
 
-script_fits : (m : Option Machine) (block : Option ℕ) (schedule : List ℕ) (calls : List (List Call)) (n : ℕ) → FitsParts m schedule calls → IfRead (script_of m block schedule calls n)
-script_fits None block schedule calls n h = tt
-script_fits (Some m) (Some lp) schedule calls n h = tt
-script_fits (Some m) None schedule calls n h =
+script_fits : (m : Option Machine) (b : Option Block) (listed : List Bool) (schedule : List ℕ) (codes : List CodeSeen) (ops : List GuestOp) (calls : List (List Call)) (n : ℕ) → FitsParts m b listed schedule codes ops calls → IfRead (script_of m b schedule codes calls n)
+script_fits None b listed schedule codes ops calls n h = tt
+script_fits (Some m) (Some b) listed schedule codes ops calls n h = tt
+script_fits (Some m) None listed schedule codes ops calls n h =
     record {
       machine = all_in_limits m h.limits;
       items = h.items.below;
       few_items = h.items.few;
-      no_codes = refl;
+      codes = h.codes_fit.fit;
+      others = h.codes_fit.others;
       lists = h.calls_fit.lists;
       few_calls = h.calls_fit.few;
       arguments = h.calls_fit.arguments;
@@ -378,7 +608,7 @@ read_if true x y h k = h
 read_if false x y h k = k
 
 ended_fits : (d : SoFar) (n : ℕ) (rest : List ℕ) → FitsSoFar d → IfRead (ended_of d n rest)
-ended_fits d n rest h = read_if (not (length rest == 0)) (Err (Bad n reason.Unterminated)) _ tt (script_fits d.stage.machine d.stage.block d.schedule d.calls n h)
+ended_fits d n rest h = read_if (not (length rest == 0)) (Err (Bad n reason.Unterminated)) _ tt (script_fits d.stage.machine d.stage.block d.listed d.schedule d.codes d.ops d.calls n h)
 
 then_fits : (r : Result SoFar Reason) (n : ℕ) (f : SoFar → Result ScriptSeen ScriptFault) → IfGiven FitsSoFar r → ((e : SoFar) → FitsSoFar e → IfRead (f e)) → IfRead (then_on r n f)
 then_fits (Ok e) n f h k = k e h
@@ -390,9 +620,16 @@ rest_fits (piece ∷ parts) d n h =
     read_if (length parts == 0) (ended_of d n piece) _ (ended_fits d n piece h)
     (then_fits (line_of d piece) n (λ e. read_from e (n + 1) parts) (line_fits d piece h) (λ e f. rest_fits parts e (n + 1) f))
 
+marks_are : length none_listed ≡ 8192
+unfolding none_listed
+marks_are = length-replicate 8192 false
+
+nothing_fits : FitsSoFar nothing_yet
+nothing_fits = record { outside = refl; marks = marks_are; items = refl; lists = refl; operations = refl }
+
 read_fits : (bytes : List ℕ) → IfRead (read_of bytes)
 unfolding read_of
-read_fits bytes = read_if (ltb (2 ^ 24) (length bytes)) (Err (Bad 0 reason.Length)) _ tt (rest_fits (pieces bytes) nothing_yet 1 refl)
+read_fits bytes = read_if (ltb (2 ^ 24) (length bytes)) (Err (Bad 0 reason.Length)) _ tt (rest_fits (pieces bytes) nothing_yet 1 nothing_fits)
 
 pub in_forms : ScriptsAreInForm
 in_forms = record { in_form = λ bytes s is. let h : IfRead (read_of bytes) = read_fits bytes in subst IfRead is h }

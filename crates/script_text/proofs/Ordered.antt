@@ -1,18 +1,22 @@
 -- A line's fault is the first reason that holds.
-use Rattle.std.proofs.Common.{◌≡◌, ℕ, ◌+◌, ◌^◌, ◌≤◌, List, [], ◌∷◌, ◌++◌, length, map, find, option_map, get_or, replicate, Bool, true, false, not, cond, leb, ltb, ◌==◌, ◌&&◌, Option, Some, None, Result, Ok, Err, refl, ap, sym, ◌∙◌, arith}
+use Rattle.std.proofs.Common.{◌≡◌, ℕ, ◌+◌, ◌*◌, ◌^◌, ◌≤◌, List, [], ◌∷◌, ◌++◌, length, map, find, option_map, get_or, replicate, Bool, true, false, not, cond, leb, ltb, ◌==◌, ◌&&◌, Option, Some, None, Result, Ok, Err, refl, ap, sym, ◌∙◌, arith}
 use Rattle.std.specs.Prelude.{is_some, unwrap_or, codes}
 use Rattle.std.specs.List.{list_all}
 use Rattle.std.specs.Str.{bytes_eq}
 use Rattle.std.proofs.lemmas.Bool.{and_parts}
 use Rattle.std.proofs.lemmas.List.{length-append, length-replicate, length-map}
 use Rattle.td_words.specs.declared.calls.Call.{Call}
+use Rattle.td_words.specs.declared.calls.GuestOp.{GuestOp}
 use Rattle.td_words.specs.declared.machines.Machine.{Machine}
 use Rattle.td_words.specs.declared.names.ReadField.{ReadField}
 use Rattle.td_words.specs.declared.names.ReadField.TheVariants as field
 use Rattle.td_words.specs.Limits.{in_limits}
+use Rattle.td_words.specs.Seen.{CodeSeen}
 use Rattle.script_text.specs.declared.faults.Reason.{Reason}
 use Rattle.script_text.specs.declared.faults.Reason.TheVariants as reason
 use Rattle.script_text.specs.declared.faults.ScriptFault.TheVariants.{Bad}
+use Rattle.script_text.specs.declared.lines.Block.{Block}
+use Rattle.script_text.specs.declared.lines.Block.TheVariants as block
 use Rattle.script_text.specs.declared.lines.Entry.{Entry}
 use Rattle.script_text.specs.declared.lines.Entry.TheVariants as entry
 use Rattle.script_text.specs.declared.lines.Keyword.{Keyword}
@@ -20,13 +24,18 @@ use Rattle.script_text.specs.declared.lines.Keyword.TheVariants as keyword
 use Rattle.script_text.specs.declared.mnemonics.CallName.{CallName}
 use Rattle.script_text.specs.declared.mnemonics.CallName.TheVariants as name
 use Rattle.script_text.specs.declared.mnemonics.Mnemonic.{Mnemonic}
+use Rattle.script_text.specs.declared.code_blocks.CodePlace.{CodePlace}
+use Rattle.script_text.specs.declared.operations.OpName.{OpName}
+use Rattle.script_text.specs.declared.operations.OpName.TheVariants as op
 use Rattle.script_text.specs.declared.schedules.Turns.{Turns}
-use Rattle.script_text.specs.Blocks.{field_of}
-use Rattle.script_text.specs.Line.{◌>>=◌, keyword_of, machine_of, block_of, end_of, built_of, are_given, judged_of, call_of, first_of, outside_of, inside_of, placed_of, entry_of}
+use Rattle.script_text.specs.Blocks.{field_of, code_of, operation_of, operand_count, fit_operands, guest_op_of}
+use Rattle.script_text.specs.Counted.{◌>>=◌, argument}
+use Rattle.script_text.specs.Line.{keyword_of, machine_of, block_of, end_of, built_of, are_given, judged_of, call_of, first_of, list_of, judged_operation_of, operation_line_of, outside_of, named_of, inside_of, placed_of, entry_of}
 use Rattle.script_text.specs.Mnemonics.{mnemonics, mnemonic_in}
 use Rattle.script_text.specs.Number.{number}
 use Rattle.script_text.specs.Reading.{SoFar, entered_of, worded_of, line_of, script_of, ended_of}
-use Rattle.script_text.specs.Reasons.{fault_in, line_reasons, end_reasons, times_of, turns_count, names_no_field, is_built, holds_of, holds_in, holds_at, holds_at_end}
+use Rattle.script_text.specs.Reasons.{fault_in, line_reasons, end_reasons, times_of, turns_count, names_no_field, is_built, is_built_operation, FirstWord, call_word, operation_word, word_in, machine_holds, holds_of, holds_in, holds_at, holds_at_end}
+use Rattle.script_text.specs.Reasons.FirstWord.{Key}
 use Rattle.script_text.specs.Schedule.{item_of, turns_in, written_of, schedule_of}
 use Rattle.script_text.specs.Words.{words, is_printable, is_comment}
 use Rattle.script_text.specs.Laws.{ReasonsInOrder}
@@ -52,8 +61,8 @@ wrong_count x f c y e h = rw (e, h) refl
 abbrev behind_count : List Reason
 behind_count = reason.Number ∷ reason.Name ∷ reason.Range ∷ reason.Repeated ∷ reason.Full ∷ []
 
-abbrev state : Option Machine → Option ℕ → List Bool → List ℕ → List (List Call) → SoFar
-state machine block had schedule calls = record { stage = record { machine = machine; block = block; had = had }; schedule = schedule; calls = calls }
+abbrev state : Option Machine → Option Block → SoFar → SoFar
+state machine b d = record d { stage = record d.stage { machine = machine; block = b } }
 
 -- `machine`
 
@@ -70,17 +79,17 @@ machine_count : (ns : List (Option ℕ)) → (length ns == 3) ≡ false → mach
 unfolding machine_of
 machine_count ns h = rw h refl
 
-machine_order : (block : Option ℕ) (had : List Bool) (schedule : List ℕ) (calls : List (List Call)) (row : Option Mnemonic) (ws : List (List ℕ))
-    → fault_in (machine_of (map number ws) >>= (λ e. entered_of (state None block had schedule calls) e ws)) ≡ find (holds_of (state None block had schedule calls) (Some keyword.Machine) row ws) behind_byte
+machine_order : (b : Option Block) (d : SoFar) (ws : List (List ℕ))
+    → fault_in (machine_of (map number ws) >>= (λ e. entered_of (state None b d) e ws)) ≡ find (holds_of (state None b d) (Key keyword.Machine) ws) behind_byte
 unfolding machine_of entered_of
-machine_order block had schedule calls row [] = refl
-machine_order block had schedule calls row (a ∷ []) = refl
-machine_order block had schedule calls row (a ∷ b ∷ []) = refl
-machine_order block had schedule calls row (a ∷ b ∷ c ∷ []) = machine_three (number a) (number b) (number c) (λ e. entered_of (state None block had schedule calls) e (a ∷ b ∷ c ∷ [])) (λ m. refl)
-machine_order block had schedule calls row (a ∷ b ∷ c ∷ d ∷ ws) =
-    let all : List (List ℕ) = a ∷ b ∷ c ∷ d ∷ ws in
-    let so_far : SoFar = state None block had schedule calls in
-    wrong_count (machine_of (map number all)) (λ e. entered_of so_far e all) (length all == 3) (find (holds_of so_far (Some keyword.Machine) row all) behind_count)
+machine_order b d [] = refl
+machine_order b d (w ∷ []) = refl
+machine_order b d (w ∷ x ∷ []) = refl
+machine_order b d (w ∷ x ∷ y ∷ []) = machine_three (number w) (number x) (number y) (λ e. entered_of (state None b d) e (w ∷ x ∷ y ∷ [])) (λ m. refl)
+machine_order b d (w ∷ x ∷ y ∷ z ∷ ws) =
+    let all : List (List ℕ) = w ∷ x ∷ y ∷ z ∷ ws in
+    let so_far : SoFar = state None b d in
+    wrong_count (machine_of (map number all)) (λ e. entered_of so_far e all) (length all == 3) (find (holds_of so_far (Key keyword.Machine) all) behind_count)
     (machine_count (map number all) (grind arith)) (grind arith)
 
 -- `lp`
@@ -97,16 +106,16 @@ block_count : (m : Machine) (had : List Bool) (ns : List (Option ℕ)) → (leng
 unfolding block_of
 block_count m had ns h = rw h refl
 
-block_order : (m : Machine) (had : List Bool) (schedule : List ℕ) (calls : List (List Call)) (row : Option Mnemonic) (ws : List (List ℕ))
-    → fault_in (block_of m had (map number ws) >>= (λ e. entered_of (state (Some m) None had schedule calls) e ws)) ≡ find (holds_of (state (Some m) None had schedule calls) (Some keyword.Lp) row ws) behind_byte
+block_order : (m : Machine) (d : SoFar) (ws : List (List ℕ))
+    → fault_in (block_of m d.stage.had (map number ws) >>= (λ e. entered_of (state (Some m) None d) e ws)) ≡ find (holds_of (state (Some m) None d) (Key keyword.Lp) ws) behind_byte
 unfolding block_of entered_of
-block_order m had schedule calls row [] = refl
-block_order m had schedule calls row (a ∷ []) = block_one m had (number a) (λ e. entered_of (state (Some m) None had schedule calls) e (a ∷ [])) (λ lp. refl)
-block_order m had schedule calls row (a ∷ b ∷ ws) =
+block_order m d [] = refl
+block_order m d (a ∷ []) = block_one m d.stage.had (number a) (λ e. entered_of (state (Some m) None d) e (a ∷ [])) (λ lp. refl)
+block_order m d (a ∷ b ∷ ws) =
     let all : List (List ℕ) = a ∷ b ∷ ws in
-    let so_far : SoFar = state (Some m) None had schedule calls in
-    wrong_count (block_of m had (map number all)) (λ e. entered_of so_far e all) (length all == 1) (find (holds_of so_far (Some keyword.Lp) row all) behind_count)
-    (block_count m had (map number all) (grind arith)) (grind arith)
+    let so_far : SoFar = state (Some m) None d in
+    wrong_count (block_of m d.stage.had (map number all)) (λ e. entered_of so_far e all) (length all == 1) (find (holds_of so_far (Key keyword.Lp) all) behind_count)
+    (block_count m d.stage.had (map number all) (grind arith)) (grind arith)
 
 -- `end`
 
@@ -114,14 +123,15 @@ end_count : (ns : List (Option ℕ)) → (length ns == 0) ≡ false → end_of n
 unfolding end_of
 end_count ns h = rw h refl
 
-end_order : (m : Machine) (lp : ℕ) (had : List Bool) (schedule : List ℕ) (calls : List (List Call)) (row : Option Mnemonic) (ws : List (List ℕ))
-    → fault_in (end_of (map number ws) >>= (λ e. entered_of (state (Some m) (Some lp) had schedule calls) e ws)) ≡ find (holds_of (state (Some m) (Some lp) had schedule calls) (Some keyword.End) row ws) behind_byte
+end_order : (m : Machine) (b : Block) (d : SoFar) (ws : List (List ℕ))
+    → fault_in (end_of (map number ws) >>= (λ e. entered_of (state (Some m) (Some b) d) e ws)) ≡ find (holds_of (state (Some m) (Some b) d) (Key keyword.End) ws) behind_byte
 unfolding end_of entered_of
-end_order m lp had schedule calls row [] = refl
-end_order m lp had schedule calls row (a ∷ ws) =
+end_order m (block.Lp lp) d [] = refl
+end_order m (block.Code p) d [] = refl
+end_order m b d (a ∷ ws) =
     let all : List (List ℕ) = a ∷ ws in
-    let so_far : SoFar = state (Some m) (Some lp) had schedule calls in
-    wrong_count (end_of (map number all)) (λ e. entered_of so_far e all) (length all == 0) (find (holds_of so_far (Some keyword.End) row all) behind_count)
+    let so_far : SoFar = state (Some m) (Some b) d in
+    wrong_count (end_of (map number all)) (λ e. entered_of so_far e all) (length all == 0) (find (holds_of so_far (Key keyword.End) all) behind_count)
     (end_count (map number all) (grind arith)) (grind arith)
 
 -- `schedule`
@@ -165,17 +175,17 @@ written_order lps (w ∷ ws) f fine all =
     let p = and_parts (is_some (turns_in lps w)) (list_all (λ x. is_some (turns_in lps x)) ws) all in
     λ s room. written_next lps w ws s f p.0 (written_order lps ws f fine p.1)
 
-schedule_order : (m : Machine) (had : List Bool) (schedule : List ℕ) (calls : List (List Call)) (row : Option Mnemonic) (ws : List (List ℕ))
-    → fault_in (entered_of (state (Some m) None had schedule calls) (entry.Schedule m.lps) ws) ≡ find (holds_of (state (Some m) None had schedule calls) (Some keyword.Schedule) row ws) behind_byte
+schedule_order : (m : Machine) (d : SoFar) (ws : List (List ℕ))
+    → fault_in (entered_of (state (Some m) None d) (entry.Schedule m.lps) ws) ≡ find (holds_of (state (Some m) None d) (Key keyword.Schedule) ws) behind_byte
 unfolding entered_of schedule_of
-schedule_order m had schedule calls row [] = refl
-schedule_order m had schedule calls row (w ∷ ws) =
-    let f : List ℕ → Result SoFar Reason = λ s. Ok (state (Some m) None had s calls) in
+schedule_order m d [] = refl
+schedule_order m d (w ∷ ws) =
+    let f : List ℕ → Result SoFar Reason = λ s. Ok (record (state (Some m) None d) { schedule = s }) in
     fault_then (length (w ∷ ws) == 0) reason.Count _ f _
     (λ a. fault_then (not (list_all (λ w. is_some (item_of w)) (w ∷ ws))) reason.Number _ f _
-    (λ b. fault_then (not (list_all (λ w. is_some (turns_in m.lps w)) (w ∷ ws))) reason.Range (written_of schedule (map (turns_in m.lps) (w ∷ ws))) f (full_if (length schedule + turns_count m.lps (w ∷ ws)))
+    (λ b. fault_then (not (list_all (λ w. is_some (turns_in m.lps w)) (w ∷ ws))) reason.Range (written_of d.schedule (map (turns_in m.lps) (w ∷ ws))) f (full_if (length d.schedule + turns_count m.lps (w ∷ ws)))
     (λ c. let p = and_parts (is_some (turns_in m.lps w)) (list_all (λ x. is_some (turns_in m.lps x)) ws) (not_false _ c) in
-    written_next m.lps w ws schedule f p.0 (written_order m.lps ws f (λ s. refl) p.1))))
+    written_next m.lps w ws d.schedule f p.0 (written_order m.lps ws f (λ s. refl) p.1))))
   where
     not_false : (b : Bool) → not b ≡ false → b ≡ true
     not_false true h = refl
@@ -216,92 +226,193 @@ field_order (Err r) g y h k = ap Some h
 abbrev crowded : List (List Call) → ℕ → Bool
 crowded calls lp = leb 4096 (length (get_or calls lp []))
 
-call_full : (m : Machine) (lp : ℕ) (had : List Bool) (schedule : List ℕ) (calls : List (List Call)) (c : Call) (ws : List (List ℕ))
-    → fault_in (entered_of (state (Some m) (Some lp) had schedule calls) (entry.Call lp c) ws) ≡ cond (crowded calls lp) (Some reason.Full) None
+call_full : (m : Machine) (lp : ℕ) (d : SoFar) (c : Call) (ws : List (List ℕ))
+    → fault_in (entered_of (state (Some m) (Some (block.Lp lp)) d) (entry.Call lp c) ws) ≡ cond (crowded d.calls lp) (Some reason.Full) None
 unfolding entered_of
-call_full m lp had schedule calls c ws = fault_then (crowded calls lp) reason.Full _ _ None (λ e. refl)
+call_full m lp d c ws = fault_then (crowded d.calls lp) reason.Full _ _ None (λ e. refl)
 
-read_full : (m : Machine) (lp tdr : ℕ) (had : List Bool) (schedule : List ℕ) (calls : List (List Call)) (ws : List (List ℕ))
-    → fault_in (entered_of (state (Some m) (Some lp) had schedule calls) (entry.Read lp tdr) ws) ≡ cond (names_no_field name.MngRd ws) (Some reason.Name) (cond (crowded calls lp) (Some reason.Full) None)
+read_full : (m : Machine) (lp tdr : ℕ) (d : SoFar) (ws : List (List ℕ))
+    → fault_in (entered_of (state (Some m) (Some (block.Lp lp)) d) (entry.Read lp tdr) ws) ≡ cond (names_no_field name.MngRd ws) (Some reason.Name) (cond (crowded d.calls lp) (Some reason.Full) None)
 unfolding entered_of
-read_full m lp tdr had schedule calls ws =
-    field_order (field_of (get_or ws 1 [])) _ (cond (crowded calls lp) (Some reason.Full) None) (by_name (get_or ws 1 [])) (λ x. fault_then (crowded calls lp) reason.Full _ _ None (λ e. refl))
+read_full m lp tdr d ws =
+    field_order (field_of (get_or ws 1 [])) _ (cond (crowded d.calls lp) (Some reason.Full) None) (by_name (get_or ws 1 [])) (λ x. fault_then (crowded d.calls lp) reason.Full _ _ None (λ e. refl))
 
 -- what a call's line comes to, once its words are counted and numbers
 abbrev call_ends : CallName → List (List Call) → ℕ → List (List ℕ) → Option Reason
 call_ends call calls lp ws = cond (names_no_field call ws) (Some reason.Name) (cond (crowded calls lp) (Some reason.Full) None)
 
-abbrev EntryEnds : Machine → ℕ → List Bool → List ℕ → List (List Call) → List (List ℕ) → CallName → Option Entry → Type 0
-EntryEnds m lp had schedule calls ws call None = is_built call ≡ false
-EntryEnds m lp had schedule calls ws call (Some e) = (is_built call ≡ true) × (fault_in (entered_of (state (Some m) (Some lp) had schedule calls) e ws) ≡ call_ends call calls lp ws)
+abbrev EntryEnds : Machine → ℕ → SoFar → List (List ℕ) → CallName → Option Entry → Type 0
+EntryEnds m lp d ws call None = is_built call ≡ false
+EntryEnds m lp d ws call (Some e) = (is_built call ≡ true) × (fault_in (entered_of (state (Some m) (Some (block.Lp lp)) d) e ws) ≡ call_ends call d.calls lp ws)
 
-entry_ends : (m : Machine) (lp : ℕ) (had : List Bool) (schedule : List ℕ) (calls : List (List Call)) (ws : List (List ℕ)) (call : CallName) (ns : List (Option ℕ)) → EntryEnds m lp had schedule calls ws call (built_of lp call ns)
-entry_ends m lp had schedule calls ws name.HostRead ns = (refl, call_full m lp had schedule calls _ ws)
-entry_ends m lp had schedule calls ws name.HostWrite ns = (refl, call_full m lp had schedule calls _ ws)
-entry_ends m lp had schedule calls ws name.PhymemPageRdmd ns = (refl, call_full m lp had schedule calls _ ws)
-entry_ends m lp had schedule calls ws name.PhymemCacheWb ns = (refl, call_full m lp had schedule calls _ ws)
-entry_ends m lp had schedule calls ws name.PhymemPageReclaim ns = (refl, call_full m lp had schedule calls _ ws)
-entry_ends m lp had schedule calls ws name.MngCreate ns = (refl, call_full m lp had schedule calls _ ws)
-entry_ends m lp had schedule calls ws name.MngKeyConfig ns = (refl, call_full m lp had schedule calls _ ws)
-entry_ends m lp had schedule calls ws name.MngAddcx ns = (refl, call_full m lp had schedule calls _ ws)
-entry_ends m lp had schedule calls ws name.MngInit ns = (refl, call_full m lp had schedule calls _ ws)
-entry_ends m lp had schedule calls ws name.MngRd ns = (refl, read_full m lp _ had schedule calls ws)
-entry_ends m lp had schedule calls ws name.MngVpflushdone ns = (refl, call_full m lp had schedule calls _ ws)
-entry_ends m lp had schedule calls ws name.MngKeyFreeid ns = (refl, call_full m lp had schedule calls _ ws)
-entry_ends m lp had schedule calls ws name.MrExtend ns = (refl, call_full m lp had schedule calls _ ws)
-entry_ends m lp had schedule calls ws name.MrFinalize ns = (refl, call_full m lp had schedule calls _ ws)
-entry_ends m lp had schedule calls ws name.VpCreate ns = (refl, call_full m lp had schedule calls _ ws)
-entry_ends m lp had schedule calls ws name.VpInit ns = (refl, call_full m lp had schedule calls _ ws)
-entry_ends m lp had schedule calls ws name.MemSeptAdd ns = (refl, call_full m lp had schedule calls _ ws)
-entry_ends m lp had schedule calls ws name.MemSeptRd ns = (refl, call_full m lp had schedule calls _ ws)
-entry_ends m lp had schedule calls ws name.MemPageAdd ns = (refl, call_full m lp had schedule calls _ ws)
-entry_ends m lp had schedule calls ws name.MemPageAug ns = (refl, call_full m lp had schedule calls _ ws)
-entry_ends m lp had schedule calls ws _ ns = refl
+entry_ends : (m : Machine) (lp : ℕ) (d : SoFar) (ws : List (List ℕ)) (call : CallName) (ns : List (Option ℕ)) → EntryEnds m lp d ws call (built_of lp call ns)
+entry_ends m lp d ws name.HostRead ns = (refl, call_full m lp d _ ws)
+entry_ends m lp d ws name.HostWrite ns = (refl, call_full m lp d _ ws)
+entry_ends m lp d ws name.PhymemPageRdmd ns = (refl, call_full m lp d _ ws)
+entry_ends m lp d ws name.PhymemCacheWb ns = (refl, call_full m lp d _ ws)
+entry_ends m lp d ws name.PhymemPageReclaim ns = (refl, call_full m lp d _ ws)
+entry_ends m lp d ws name.MngCreate ns = (refl, call_full m lp d _ ws)
+entry_ends m lp d ws name.MngKeyConfig ns = (refl, call_full m lp d _ ws)
+entry_ends m lp d ws name.MngAddcx ns = (refl, call_full m lp d _ ws)
+entry_ends m lp d ws name.MngInit ns = (refl, call_full m lp d _ ws)
+entry_ends m lp d ws name.MngRd ns = (refl, read_full m lp _ d ws)
+entry_ends m lp d ws name.MngVpflushdone ns = (refl, call_full m lp d _ ws)
+entry_ends m lp d ws name.MngKeyFreeid ns = (refl, call_full m lp d _ ws)
+entry_ends m lp d ws name.MrExtend ns = (refl, call_full m lp d _ ws)
+entry_ends m lp d ws name.MrFinalize ns = (refl, call_full m lp d _ ws)
+entry_ends m lp d ws name.VpCreate ns = (refl, call_full m lp d _ ws)
+entry_ends m lp d ws name.VpInit ns = (refl, call_full m lp d _ ws)
+entry_ends m lp d ws name.MemSeptAdd ns = (refl, call_full m lp d _ ws)
+entry_ends m lp d ws name.MemSeptRd ns = (refl, call_full m lp d _ ws)
+entry_ends m lp d ws name.MemPageAdd ns = (refl, call_full m lp d _ ws)
+entry_ends m lp d ws name.MemPageAug ns = (refl, call_full m lp d _ ws)
+entry_ends m lp d ws _ ns = refl
 
-judged_order : (m : Machine) (lp : ℕ) (had : List Bool) (schedule : List ℕ) (calls : List (List Call)) (ws : List (List ℕ)) (row : Mnemonic) (e : Option Entry) (ns : List (Option ℕ)) → EntryEnds m lp had schedule calls ws row.call e
-    → fault_in (judged_of e row ns >>= (λ x. entered_of (state (Some m) (Some lp) had schedule calls) x ws))
-    ≡ cond (not (is_built row.call)) (Some reason.Unbuilt) (cond (not (leb row.least (length ns) && leb (length ns) row.most)) (Some reason.Count) (cond (not (are_given row.call ns)) (Some reason.Number) (call_ends row.call calls lp ws)))
-judged_order m lp had schedule calls ws row None ns h = rw h refl
-judged_order m lp had schedule calls ws row (Some e) ns h =
-    rw h.0 (counted_call e row ns (λ x. entered_of (state (Some m) (Some lp) had schedule calls) x ws) (call_ends row.call calls lp ws) h.1)
+judged_order : (m : Machine) (lp : ℕ) (d : SoFar) (ws : List (List ℕ)) (row : Mnemonic) (e : Option Entry) (ns : List (Option ℕ)) → EntryEnds m lp d ws row.call e
+    → fault_in (judged_of e row ns >>= (λ x. entered_of (state (Some m) (Some (block.Lp lp)) d) x ws))
+    ≡ cond (not (is_built row.call)) (Some reason.Unbuilt) (cond (not (leb row.least (length ns) && leb (length ns) row.most)) (Some reason.Count) (cond (not (are_given row.call ns)) (Some reason.Number) (call_ends row.call d.calls lp ws)))
+judged_order m lp d ws row None ns h = rw h refl
+judged_order m lp d ws row (Some e) ns h =
+    rw h.0 (counted_call e row ns (λ x. entered_of (state (Some m) (Some (block.Lp lp)) d) x ws) (call_ends row.call d.calls lp ws) h.1)
 
-call_order : (m : Machine) (lp : ℕ) (had : List Bool) (schedule : List ℕ) (calls : List (List Call)) (row : Option Mnemonic) (ws : List (List ℕ))
-    → fault_in (call_of lp row (map number ws) >>= (λ e. entered_of (state (Some m) (Some lp) had schedule calls) e ws)) ≡ find (holds_of (state (Some m) (Some lp) had schedule calls) None row ws) behind_byte
+call_order : (m : Machine) (lp : ℕ) (d : SoFar) (row : Option Mnemonic) (ws : List (List ℕ))
+    → fault_in (call_of lp row (map number ws) >>= (λ e. entered_of (state (Some m) (Some (block.Lp lp)) d) e ws)) ≡ find (holds_of (state (Some m) (Some (block.Lp lp)) d) (call_word row) ws) behind_byte
 unfolding call_of
-call_order m lp had schedule calls None ws = refl
-call_order m lp had schedule calls (Some row) ws =
-    judged_order m lp had schedule calls ws row (built_of lp row.call (map number ws)) (map number ws) (entry_ends m lp had schedule calls ws row.call (map number ws)) ∙ rw length-map refl
+call_order m lp d None ws = refl
+call_order m lp d (Some row) ws =
+    judged_order m lp d ws row (built_of lp row.call (map number ws)) (map number ws) (entry_ends m lp d ws row.call (map number ws)) ∙ rw length-map refl
+
+-- `code`
+
+code_two : (m : Machine) (listed : List Bool) (x y : Option ℕ) (f : Entry → Result SoFar Reason) → ((p : CodePlace) → fault_in (f (entry.List p)) ≡ None)
+    → fault_in (list_of m listed (x ∷ y ∷ []) >>= f)
+    ≡ cond (not (is_some x && (is_some y && true))) (Some reason.Number) (cond (not (ltb (unwrap_or x 0) m.pages && ltb (unwrap_or y 0) 8)) (Some reason.Range) (cond (get_or listed (8 * unwrap_or x 0 + unwrap_or y 0) false) (Some reason.Repeated) None))
+unfolding code_of
+code_two m listed (Some tdr) (Some index) f h = two_tests (not (ltb tdr m.pages && ltb index 8)) (get_or listed (8 * tdr + index) false) (record { tdr = tdr; index = index }) f (h (record { tdr = tdr; index = index }))
+  where
+    two_tests : (a b : Bool) (p : CodePlace) (f : Entry → Result SoFar Reason) → fault_in (f (entry.List p)) ≡ None
+        → fault_in ((cond a (Err reason.Range) (cond b (Err reason.Repeated) (Ok p)) >>= (λ place. Ok (entry.List place))) >>= f) ≡ cond a (Some reason.Range) (cond b (Some reason.Repeated) None)
+    two_tests true b p f h = refl
+    two_tests false true p f h = refl
+    two_tests false false p f h = h
+code_two m listed None y f h = refl
+code_two m listed (Some tdr) None f h = refl
+
+code_count : (m : Machine) (listed : List Bool) (ns : List (Option ℕ)) → (length ns == 2) ≡ false → list_of m listed ns ≡ Err reason.Count
+unfolding code_of
+code_count m listed ns h = rw h refl
+
+code_order : (m : Machine) (d : SoFar) (ws : List (List ℕ))
+    → fault_in (list_of m d.listed (map number ws) >>= (λ e. entered_of (state (Some m) None d) e ws)) ≡ find (holds_of (state (Some m) None d) (Key keyword.Code) ws) behind_byte
+unfolding code_of entered_of
+code_order m d [] = refl
+code_order m d (w ∷ []) = refl
+code_order m d (w ∷ x ∷ []) = code_two m d.listed (number w) (number x) (λ e. entered_of (state (Some m) None d) e (w ∷ x ∷ [])) (λ p. refl)
+code_order m d (w ∷ x ∷ y ∷ ws) =
+    let all : List (List ℕ) = w ∷ x ∷ y ∷ ws in
+    let so_far : SoFar = state (Some m) None d in
+    wrong_count (list_of m d.listed (map number all)) (λ e. entered_of so_far e all) (length all == 2) (find (holds_of so_far (Key keyword.Code) all) behind_count)
+    (code_count m d.listed (map number all) (grind arith)) (grind arith)
+
+-- operations
+
+operation_full : (m : Machine) (p : CodePlace) (d : SoFar) (g : GuestOp) (ws : List (List ℕ))
+    → fault_in (entered_of (state (Some m) (Some (block.Code p)) d) (entry.Operation g) ws) ≡ cond (leb 256 (length d.ops)) (Some reason.Full) None
+unfolding entered_of
+operation_full m p d g ws = fault_then (leb 256 (length d.ops)) reason.Full _ _ None (λ e. refl)
+
+-- what an operation's line comes to, once it is built
+abbrev tested : Bool → Bool → Bool → Result (Unit {0}) Reason
+tested a b c = cond a (Err reason.Count) (cond b (Err reason.Number) (cond c (Err reason.Range) (Ok tt)))
+
+operands_order : (a b c : Bool) (g : GuestOp) (f : Entry → Result SoFar Reason) (y : Option Reason) → fault_in (f (entry.Operation g)) ≡ y
+    → fault_in ((tested a b c >>= (λ t. Ok (entry.Operation g))) >>= f) ≡ cond a (Some reason.Count) (cond b (Some reason.Number) (cond c (Some reason.Range) y))
+operands_order true b c g f y h = refl
+operands_order false true c g f y h = refl
+operands_order false false true g f y h = refl
+operands_order false false false g f y h = h
+
+abbrev AreBuilt : Option GuestOp → OpName → Type 0
+AreBuilt g o = is_some g ≡ is_built_operation o
+
+operation_built : (o : OpName) (a b : ℕ) → AreBuilt (guest_op_of o a b) o
+operation_built op.Set a b = refl
+operation_built _ a b = refl
+
+judged_operation_order : (m : Machine) (p : CodePlace) (d : SoFar) (g : Option GuestOp) (o : OpName) (ns : List (Option ℕ)) (ws : List (List ℕ)) → AreBuilt g o
+    → fault_in (judged_operation_of g o ns >>= (λ e. entered_of (state (Some m) (Some (block.Code p)) d) e ws))
+    ≡ cond (not (is_built_operation o)) (Some reason.Unbuilt) (cond (not (length ns == operand_count o)) (Some reason.Count) (cond (not (list_all is_some ns)) (Some reason.Number) (cond (not (fit_operands o (argument ns 0) (argument ns 1))) (Some reason.Range) (cond (leb 256 (length d.ops)) (Some reason.Full) None))))
+judged_operation_order m p d None o ns ws h = rw (← h) refl
+judged_operation_order m p d (Some g) o ns ws h =
+    rw (← h)
+    (operands_order (not (length ns == operand_count o)) (not (list_all is_some ns)) (not (fit_operands o (argument ns 0) (argument ns 1))) g (λ e. entered_of (state (Some m) (Some (block.Code p)) d) e ws) (cond (leb 256 (length d.ops)) (Some reason.Full) None)
+    (operation_full m p d g ws))
+
+operation_order : (m : Machine) (p : CodePlace) (d : SoFar) (o : Option OpName) (ws : List (List ℕ))
+    → fault_in (operation_line_of o (map number ws) >>= (λ e. entered_of (state (Some m) (Some (block.Code p)) d) e ws)) ≡ find (holds_of (state (Some m) (Some (block.Code p)) d) (operation_word o) ws) behind_byte
+unfolding operation_line_of
+operation_order m p d None ws = refl
+operation_order m p d (Some o) ws =
+    judged_operation_order m p d (guest_op_of o (argument (map number ws) 0) (argument (map number ws) 1)) o (map number ws) ws (operation_built o (argument (map number ws) 0) (argument (map number ws) 1)) ∙ rw length-map refl
 
 -- by the place of the line
 
-first_order : (block : Option ℕ) (had : List Bool) (schedule : List ℕ) (calls : List (List Call)) (k : Option Keyword) (row : Option Mnemonic) (ws : List (List ℕ))
-    → fault_in (first_of k (map number ws) >>= (λ e. entered_of (state None block had schedule calls) e ws)) ≡ find (holds_of (state None block had schedule calls) k row ws) behind_byte
-first_order block had schedule calls (Some keyword.Machine) row ws = machine_order block had schedule calls row ws
-first_order block had schedule calls _ row ws = refl
+first_order : (b : Option Block) (d : SoFar) (k : Option Keyword) (w : List ℕ) (ws : List (List ℕ))
+    → fault_in (first_of k (map number ws) >>= (λ e. entered_of (state None b d) e ws)) ≡ find (holds_of (state None b d) (word_in k b w) ws) behind_byte
+first_order b d (Some keyword.Machine) w ws = machine_order b d ws
+first_order b d (Some keyword.Schedule) w ws = refl
+first_order b d (Some keyword.Code) w ws = refl
+first_order b d (Some keyword.Lp) w ws = refl
+first_order b d (Some keyword.End) w ws = refl
+first_order b d None w ws = not_first (state None b d) (word_in None b w) ws (not_machine b w)
+  where
+    IsNoMachine : FirstWord → Type 0
+    IsNoMachine w = machine_holds false w ≡ true
 
-outside_order : (m : Machine) (had : List Bool) (schedule : List ℕ) (calls : List (List Call)) (k : Option Keyword) (row : Option Mnemonic) (ws : List (List ℕ))
-    → fault_in (outside_of m had k (map number ws) >>= (λ e. entered_of (state (Some m) None had schedule calls) e ws)) ≡ find (holds_of (state (Some m) None had schedule calls) k row ws) behind_byte
-outside_order m had schedule calls (Some keyword.Machine) row ws = refl
-outside_order m had schedule calls (Some keyword.End) row ws = refl
-outside_order m had schedule calls (Some keyword.Schedule) row ws = schedule_order m had schedule calls row ws
-outside_order m had schedule calls (Some keyword.Code) row ws = refl
-outside_order m had schedule calls (Some keyword.Lp) row ws = block_order m had schedule calls row ws
-outside_order m had schedule calls None row ws = refl
+    not_first : (d : SoFar) (w : FirstWord) (ws : List (List ℕ)) → machine_holds (is_some d.stage.machine) w ≡ true → Some reason.Machine ≡ find (holds_of d w ws) behind_byte
+    not_first d w ws h = rw h refl
 
-inside_order : (m : Machine) (lp : ℕ) (had : List Bool) (schedule : List ℕ) (calls : List (List Call)) (k : Option Keyword) (w : List ℕ) (ws : List (List ℕ))
-    → fault_in (inside_of lp k w (map number ws) >>= (λ e. entered_of (state (Some m) (Some lp) had schedule calls) e ws)) ≡ find (holds_of (state (Some m) (Some lp) had schedule calls) k (mnemonic_in mnemonics w) ws) behind_byte
-inside_order m lp had schedule calls (Some keyword.Machine) w ws = refl
-inside_order m lp had schedule calls (Some keyword.Schedule) w ws = refl
-inside_order m lp had schedule calls (Some keyword.Code) w ws = refl
-inside_order m lp had schedule calls (Some keyword.Lp) w ws = refl
-inside_order m lp had schedule calls (Some keyword.End) w ws = end_order m lp had schedule calls (mnemonic_in mnemonics w) ws
-inside_order m lp had schedule calls None w ws = call_order m lp had schedule calls (mnemonic_in mnemonics w) ws
+    named_no_call : (m : Option Mnemonic) → machine_holds false (call_word m) ≡ true
+    named_no_call None = refl
+    named_no_call (Some m) = refl
 
-placed_order : (machine : Option Machine) (block : Option ℕ) (had : List Bool) (schedule : List ℕ) (calls : List (List Call)) (w : List ℕ) (ws : List (List ℕ))
-    → fault_in (placed_of machine block had w (map number ws) >>= (λ e. entered_of (state machine block had schedule calls) e ws)) ≡ find (holds_of (state machine block had schedule calls) (keyword_of w) (mnemonic_in mnemonics w) ws) behind_byte
-placed_order None block had schedule calls w ws = first_order block had schedule calls (keyword_of w) (mnemonic_in mnemonics w) ws
-placed_order (Some m) None had schedule calls w ws = outside_order m had schedule calls (keyword_of w) (mnemonic_in mnemonics w) ws
-placed_order (Some m) (Some lp) had schedule calls w ws = inside_order m lp had schedule calls (keyword_of w) w ws
+    named_no_operation : (o : Option OpName) → machine_holds false (operation_word o) ≡ true
+    named_no_operation None = refl
+    named_no_operation (Some o) = refl
+
+    not_machine : (b : Option Block) (w : List ℕ) → machine_holds false (word_in None b w) ≡ true
+    not_machine None w = refl
+    not_machine (Some (block.Lp lp)) w = named_no_call (mnemonic_in mnemonics w)
+    not_machine (Some (block.Code p)) w = named_no_operation (operation_of w)
+
+outside_order : (m : Machine) (d : SoFar) (k : Option Keyword) (w : List ℕ) (ws : List (List ℕ))
+    → fault_in (outside_of m d.stage.had d.listed k (map number ws) >>= (λ e. entered_of (state (Some m) None d) e ws)) ≡ find (holds_of (state (Some m) None d) (word_in k None w) ws) behind_byte
+outside_order m d (Some keyword.Machine) w ws = refl
+outside_order m d (Some keyword.End) w ws = refl
+outside_order m d (Some keyword.Schedule) w ws = schedule_order m d ws
+outside_order m d (Some keyword.Code) w ws = code_order m d ws
+outside_order m d (Some keyword.Lp) w ws = block_order m d ws
+outside_order m d None w ws = refl
+
+named_order : (m : Machine) (b : Block) (d : SoFar) (w : List ℕ) (ws : List (List ℕ))
+    → fault_in (named_of b w (map number ws) >>= (λ e. entered_of (state (Some m) (Some b) d) e ws)) ≡ find (holds_of (state (Some m) (Some b) d) (word_in None (Some b) w) ws) behind_byte
+named_order m (block.Lp lp) d w ws = call_order m lp d (mnemonic_in mnemonics w) ws
+named_order m (block.Code p) d w ws = operation_order m p d (operation_of w) ws
+
+inside_order : (m : Machine) (b : Block) (d : SoFar) (k : Option Keyword) (w : List ℕ) (ws : List (List ℕ))
+    → fault_in (inside_of b k w (map number ws) >>= (λ e. entered_of (state (Some m) (Some b) d) e ws)) ≡ find (holds_of (state (Some m) (Some b) d) (word_in k (Some b) w) ws) behind_byte
+inside_order m b d (Some keyword.Machine) w ws = refl
+inside_order m b d (Some keyword.Schedule) w ws = refl
+inside_order m b d (Some keyword.Code) w ws = refl
+inside_order m b d (Some keyword.Lp) w ws = refl
+inside_order m b d (Some keyword.End) w ws = end_order m b d ws
+inside_order m b d None w ws = named_order m b d w ws
+
+placed_order : (machine : Option Machine) (b : Option Block) (d : SoFar) (w : List ℕ) (ws : List (List ℕ))
+    → fault_in (placed_of machine b d.stage.had d.listed w (map number ws) >>= (λ e. entered_of (state machine b d) e ws)) ≡ find (holds_of (state machine b d) (word_in (keyword_of w) b w) ws) behind_byte
+placed_order None b d w ws = first_order b d (keyword_of w) w ws
+placed_order (Some m) None d w ws = outside_order m d (keyword_of w) w ws
+placed_order (Some m) (Some b) d w ws = inside_order m b d (keyword_of w) w ws
 
 comment_order : (c : Bool) (d : SoFar) (x : Result SoFar Reason) (holds : Reason → Bool) → fault_in x ≡ find holds behind_byte → fault_in (cond c (Ok d) x) ≡ find (λ r. not c && holds r) behind_byte
 comment_order true d x holds h = refl
@@ -311,23 +422,23 @@ words_order : (d : SoFar) (ws : List (List ℕ)) → fault_in (worded_of d ws) �
 unfolding worded_of entry_of
 words_order d [] = refl
 words_order d (w ∷ ws) =
-    comment_order (is_comment w) d _ (holds_of d (keyword_of w) (mnemonic_in mnemonics w) ws) (placed_order d.stage.machine d.stage.block d.stage.had d.schedule d.calls w ws)
+    comment_order (is_comment w) d _ (holds_of d (word_in (keyword_of w) d.stage.block w) ws) (placed_order d.stage.machine d.stage.block d w ws)
 
 line_order : (d : SoFar) (line : List ℕ) → fault_in (line_of d line) ≡ find (holds_at d line) line_reasons
 unfolding line_of
 line_order d line = fault_if (not (is_printable line)) reason.Byte (worded_of d (words line)) _ (words_order d (words line))
 
 -- the end of a script
-end_cases : (empty : Bool) (m : Option Machine) (block : Option ℕ) (schedule : List ℕ) (calls : List (List Call)) (n : ℕ)
-    → fault_in (cond (not empty) (Err (Bad n reason.Unterminated)) (script_of m block schedule calls n))
-    ≡ option_map (Bad n) (cond (not empty) (Some reason.Unterminated) (cond (not (is_some m)) (Some reason.Machine) (cond (is_some block) (Some reason.Endless) None)))
-end_cases false m block schedule calls n = refl
-end_cases true None block schedule calls n = refl
-end_cases true (Some m) (Some lp) schedule calls n = refl
-end_cases true (Some m) None schedule calls n = refl
+end_cases : (empty : Bool) (m : Option Machine) (b : Option Block) (schedule : List ℕ) (lists : List CodeSeen) (calls : List (List Call)) (n : ℕ)
+    → fault_in (cond (not empty) (Err (Bad n reason.Unterminated)) (script_of m b schedule lists calls n))
+    ≡ option_map (Bad n) (cond (not empty) (Some reason.Unterminated) (cond (not (is_some m)) (Some reason.Machine) (cond (is_some b) (Some reason.Endless) None)))
+end_cases false m b schedule lists calls n = refl
+end_cases true None b schedule lists calls n = refl
+end_cases true (Some m) (Some b) schedule lists calls n = refl
+end_cases true (Some m) None schedule lists calls n = refl
 
 script_end_order : (d : SoFar) (n : ℕ) (rest : List ℕ) → fault_in (ended_of d n rest) ≡ option_map (Bad n) (find (holds_at_end d rest) end_reasons)
-script_end_order d n rest = end_cases (length rest == 0) d.stage.machine d.stage.block d.schedule d.calls n
+script_end_order d n rest = end_cases (length rest == 0) d.stage.machine d.stage.block d.schedule d.codes d.calls n
 
 pub ordered : ReasonsInOrder
 ordered = record { in_line = line_order; at_end = script_end_order }

@@ -6,7 +6,7 @@ use Rattle.std.proofs.lemmas.List.{take_rest}
 use Rattle.script_text.specs.declared.faults.Reason.{Reason}
 use Rattle.script_text.specs.declared.faults.Reason.TheVariants as reason
 use Rattle.script_text.specs.declared.schedules.Turns.{Turns}
-use Rattle.script_text.specs.Line.{◌>>=◌}
+use Rattle.script_text.specs.Counted.{◌>>=◌}
 use Rattle.script_text.specs.Schedule.{item_of, turns_in, with_turns, written_of, IsCutTo, first_reason, schedule_of}
 
 item_short : (b : ℕ) → 48 ≤ b → b ≤ 57 → item_of (b ∷ []) ≡ Some (record { lp = b - 48; times = 1 })

@@ -7,7 +7,7 @@ use Rattle.script_text.specs.declared.faults.Reason.{Reason}
 use Rattle.script_text.specs.Seen.{ScriptSeen}
 use Rattle.script_text.specs.Words.{pieces}
 use Rattle.script_text.specs.Reading.{SoFar, line_of, read_from, then_on, IsAnswered}
-use Rattle.script_text.specs.Line.{IsAnsweredAt}
+use Rattle.script_text.specs.Counted.{IsAnsweredAt}
 
 pub some_pieces : (bytes : List ℕ) → (length (pieces bytes) == 0) ≡ false
 some_pieces bytes = grind (arith, length-slice_split (λ b. b == 10) bytes)

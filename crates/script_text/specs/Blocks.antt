@@ -1,7 +1,9 @@
--- What comes with later calls: the fields of MNG.RD, output slots, `code` blocks and their operations.
-use Rattle.std.specs.Prelude.{ℕ, ◌+◌, ◌*◌, ◌^◌, ◌%◌, List, Option, Some, None, is_some, Result, Ok, Err, Bool, true, false, not, ◌&&◌, ◌==◌, nat_lt, slice_index_or, length, if◌then◌else◌, codes}
+-- The fields of MNG.RD, output slots, `code` blocks and their operations.
+use Rattle.std.specs.Prelude.{ℕ, ◌+◌, ◌*◌, ◌^◌, ◌%◌, List, Option, Some, None, is_some, Result, Ok, Err, Bool, true, false, not, ◌&&◌, ◌==◌, nat_lt, slice_index_or, length, replicate, if◌then◌else◌, codes}
 use Rattle.std.specs.List.{list_all}
 use Rattle.std.specs.Str.{bytes_eq}
+use Rattle.td_words.specs.declared.calls.GuestOp.{GuestOp}
+use Rattle.td_words.specs.declared.calls.GuestOp.TheVariants as guest
 use Rattle.td_words.specs.declared.machines.Machine.{Machine}
 use Rattle.td_words.specs.declared.names.ReadField.{ReadField}
 use Rattle.td_words.specs.declared.names.ReadField.TheVariants as field
@@ -14,7 +16,7 @@ use Rattle.script_text.specs.declared.operations.OpName.TheVariants as op
 use Rattle.script_text.specs.declared.operations.Operand.{Operand}
 use Rattle.script_text.specs.declared.operations.Operand.TheVariants as operand
 use Rattle.script_text.specs.declared.code_blocks.CodePlace.{CodePlace}
-use Rattle.script_text.specs.Line.{◌>>=◌, counted_of, number_at, argument}
+use Rattle.script_text.specs.Counted.{◌>>=◌, counted_of, number_at, argument}
 
 -- the field of MNG.RD that a word names
 abbrev pub field_of : List ℕ → Result ReadField Reason
@@ -42,20 +44,28 @@ slot_of named slot =
     else if slice_index_or named slot false then Err reason.Slot
     else Ok slot
 
--- VCPU 0 to 7 of a page of the machine; `had` says of 8 times the page and the VCPU whether it had a list
+-- where `listed` marks a VCPU's list
+abbrev pub list_place : CodePlace → ℕ
+list_place p = 8 * p.tdr + p.index
+
+-- no VCPU of the 1,024 pages that there may be had a list
+unfoldable pub none_listed : List Bool
+none_listed = replicate 8192 false
+
+-- VCPU 0 to 7 of a page of the machine; `listed` says of 8 times the page and the VCPU whether it had a list
 abbrev pub code_in : Machine → List Bool → ℕ → ℕ → Result CodePlace Reason
-code_in m had tdr index =
+code_in m listed tdr index =
     if not (nat_lt tdr m.pages && nat_lt index 8) then Err reason.Range
-    else if slice_index_or had (8 * tdr + index) false then Err reason.Repeated
+    else if slice_index_or listed (8 * tdr + index) false then Err reason.Repeated
     else Ok (record { tdr = tdr; index = index })
 
 -- `code TDR INDEX`
 unfoldable pub code_of : Machine → List Bool → List (Option ℕ) → Result CodePlace Reason
-code_of m had ns = do
+code_of m listed ns = do
   _ ← counted_of 2 ns
   tdr ← number_at ns 0
   index ← number_at ns 1
-  code_in m had tdr index
+  code_in m listed tdr index
 
 abbrev pub operation_of : List ℕ → Option OpName
 operation_of word =
@@ -98,10 +108,24 @@ fits_second (Some o) n = is_operand o n
 abbrev pub operand_count : OpName → ℕ
 operand_count o = if is_some (second_operand_of o) then 2 else 1
 
+abbrev pub fit_operands : OpName → ℕ → ℕ → Bool
+fit_operands o first second = is_operand (first_operand_of o) first && fits_second (second_operand_of o) second
+
 -- as many numbers as the operation has operands, each in range
 abbrev pub operands_of : OpName → List (Option ℕ) → Result (Unit {0}) Reason
 operands_of o ns =
     if not (length ns == operand_count o) then Err reason.Count
     else if not (list_all is_some ns) then Err reason.Number
-    else if not (is_operand (first_operand_of o) (argument ns 0) && fits_second (second_operand_of o) (argument ns 1)) then Err reason.Range
+    else if not (fit_operands o (argument ns 0) (argument ns 1)) then Err reason.Range
     else Ok tt
+
+-- the operation of a name and its operands, as far as it is built
+abbrev pub guest_op_of : OpName → ℕ → ℕ → Option GuestOp
+guest_op_of op.Set register value = Some (guest.Set register value)
+guest_op_of op.Secret register word = None
+guest_op_of op.Add register other = Some (guest.Add register other)
+guest_op_of op.Load register gpa = Some (guest.Load register gpa)
+guest_op_of op.Store register gpa = Some (guest.Store register gpa)
+guest_op_of op.Accept gpa none = Some (guest.Accept gpa)
+guest_op_of op.Rtmr index none = Some (guest.Rtmr index)
+guest_op_of op.Vmcall register none = Some (guest.Vmcall register)

@@ -1,22 +1,38 @@
 -- Laws of scripts in a reader's terms.
-use Rattle.std.specs.Prelude.{◌≡◌, ℕ, ◌+◌, ◌^◌, ◌<◌, ◌≤◌, List, [], ◌∷◌, ◌++◌, length, find, option_map, Ok, Err}
+use Rattle.std.specs.Prelude.{◌≡◌, ◌≢◌, ℕ, ◌+◌, ◌^◌, ◌<◌, ◌≤◌, List, [], ◌∷◌, ◌++◌, length, find, option_map, Ok, Err}
 use Rattle.std.specs.List.{All}
+use Rattle.td_words.specs.declared.machines.Machine.{Machine}
 use Rattle.td_words.specs.Limits.{IsMachine}
+use Rattle.td_words.specs.Seen.{CodeSeen}
 use Rattle.script_text.specs.declared.faults.Reason.{Reason}
 use Rattle.script_text.specs.declared.faults.Reason.TheVariants as reason
 use Rattle.script_text.specs.declared.faults.ScriptFault.TheVariants.{Bad}
 use Rattle.script_text.specs.Seen.{ScriptSeen}
 use Rattle.script_text.specs.Words.{pieces}
 use Rattle.script_text.specs.Reading.{SoFar, nothing_yet, line_of, ended_of, read_of}
-use Rattle.script_text.specs.Spelling.{FitsCall, script_text}
+use Rattle.script_text.specs.Spelling.{FitsCall, FitsOp, codes_text, script_text}
 use Rattle.script_text.specs.Reasons.{fault_in, line_reasons, holds_at, end_reasons, holds_at_end}
 
--- a script as the grammar has it: a machine within the limits, a schedule of its processors, and a list of calls for each
+-- a list is that of a VCPU, 0 to 7, of a page of the machine, with at most 256 operations
+pub record IsCode (m : Machine) (c : CodeSeen) : Type 0 where
+  pub tdr : c.tdr < m.pages
+  pub index : c.index < 8
+  pub few : length c.ops ≤ 256
+  pub operands : All FitsOp c.ops
+
+-- no VCPU has two lists
+abbrev pub AreOfOthers : List CodeSeen → Type 0
+AreOfOthers [] = Unit {0}
+AreOfOthers (c ∷ cs) = All (λ d. d.tdr ≡ c.tdr → d.index ≢ c.index) cs × AreOfOthers cs
+
+-- a script as the grammar has it: a machine within the limits, a schedule of its processors, lists of operations of some
+-- VCPUs, and a list of calls for each processor
 pub record IsInForm (s : ScriptSeen) : Type 0 where
   pub machine : IsMachine s.machine
   pub items : All (λ lp. lp < s.machine.lps) s.schedule
   pub few_items : length s.schedule ≤ 2 ^ 20
-  pub no_codes : s.codes ≡ []
+  pub codes : All (IsCode s.machine) s.codes
+  pub others : AreOfOthers s.codes
   pub lists : length s.calls ≡ s.machine.lps
   pub few_calls : All (λ calls. length calls ≤ 4096) s.calls
   pub arguments : All (λ calls. All FitsCall calls) s.calls
@@ -25,9 +41,10 @@ pub record IsInForm (s : ScriptSeen) : Type 0 where
 pub record ScriptsAreInForm : Type 0 where
   pub in_form : (bytes : List ℕ) (s : ScriptSeen) → read_of bytes ≡ Ok s → IsInForm s
 
--- a script in form that is written out is read again as that script
+-- a script in form that is written out is read again as that script, unless it is too long then, as its lists alone can make it
 pub record ScriptsReadAgain : Type 0 where
-  pub read_again : (s : ScriptSeen) → IsInForm s → read_of (script_text s) ≡ Ok s
+  pub read_again : (s : ScriptSeen) → IsInForm s → length (script_text s) ≤ 2 ^ 24 → read_of (script_text s) ≡ Ok s
+  pub short : (s : ScriptSeen) → IsInForm s → length (codes_text s.codes) ≤ 2 ^ 23 → length (script_text s) ≤ 2 ^ 24
 
 -- good lines, one after the other, and what they say
 pub data Good : List (List ℕ) → SoFar → Type 0 where

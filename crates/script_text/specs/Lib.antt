@@ -2,11 +2,12 @@ pub mod Number
 pub mod Words
 pub mod ReasonText
 pub mod Mnemonics
+pub mod Counted
+pub mod Blocks
 pub mod Line
 pub mod Seen
 pub mod Schedule
 pub mod Reading
-pub mod Blocks
 pub mod Spelling
 pub mod Reasons
 pub mod Laws

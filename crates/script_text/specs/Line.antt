@@ -1,35 +1,27 @@
 -- What one line says, by its first word and the numbers behind it, or the first reason why it is bad.
-use Rattle.std.specs.Prelude.{◌≡◌, ℕ, List, Option, Some, None, is_some, Result, Ok, Err, Bool, false, not, ◌&&◌, ◌==◌, nat_lt, nat_le, slice_index_or, ok_or, unwrap_or, length, if◌then◌else◌, codes}
+use Rattle.std.specs.Prelude.{ℕ, List, Option, Some, None, is_some, Result, Ok, Err, Bool, false, not, ◌&&◌, nat_lt, nat_le, slice_index_or, length, if◌then◌else◌, codes}
 use Rattle.std.specs.List.{list_all}
 use Rattle.std.specs.Str.{bytes_eq}
 use Rattle.td_words.specs.declared.calls.Call.TheVariants as calls
+use Rattle.td_words.specs.declared.calls.GuestOp.{GuestOp}
 use Rattle.td_words.specs.declared.machines.Machine.{Machine}
 use Rattle.td_words.specs.Limits.{in_limits}
 use Rattle.script_text.specs.declared.faults.Reason.{Reason}
 use Rattle.script_text.specs.declared.faults.Reason.TheVariants as reason
-use Rattle.script_text.specs.declared.faults.ScriptFault.{ScriptFault}
-use Rattle.script_text.specs.declared.faults.ScriptFault.TheVariants.{Bad, OutOfMemory}
 use Rattle.script_text.specs.declared.mnemonics.CallName.{CallName}
 use Rattle.script_text.specs.declared.mnemonics.CallName.TheVariants as name
 use Rattle.script_text.specs.declared.mnemonics.Mnemonic.{Mnemonic}
+use Rattle.script_text.specs.declared.operations.OpName.{OpName}
 use Rattle.script_text.specs.declared.lines.Keyword.{Keyword}
 use Rattle.script_text.specs.declared.lines.Keyword.TheVariants as keyword
+use Rattle.script_text.specs.declared.lines.Block.{Block}
+use Rattle.script_text.specs.declared.lines.Block.TheVariants as block
 use Rattle.script_text.specs.declared.lines.Stage.{Stage}
 use Rattle.script_text.specs.declared.lines.Entry.{Entry}
 use Rattle.script_text.specs.declared.lines.Entry.TheVariants as entry
+use Rattle.script_text.specs.Counted.{◌>>=◌, counted_of, number_at, argument}
+use Rattle.script_text.specs.Blocks.{code_of, operation_of, guest_op_of, operands_of}
 use Rattle.script_text.specs.Mnemonics.{mnemonics, mnemonic_in}
-
--- the next reason is looked for where none held so far
-infixl 10 ◌>>=◌
-abbrev pub ◌>>=◌ : {A B : Type 0} → Result A Reason → (A → Result B Reason) → Result B Reason
-(Ok x) >>= f = f x
-(Err e) >>= f = Err e
-
--- what reading line n gives, unless memory ran out
-abbrev pub IsAnsweredAt : {A : Type 0} → ℕ → Result A Reason → A → Result (Unit {0}) ScriptFault → Type 0
-IsAnsweredAt n read new (Ok t) = read ≡ Ok new
-IsAnsweredAt n read new (Err (Bad m r)) = (m ≡ n) × (read ≡ Err r)
-IsAnsweredAt n read new (Err OutOfMemory) = Unit {0}
 
 abbrev pub keyword_of : List ℕ → Option Keyword
 keyword_of word =
@@ -39,12 +31,6 @@ keyword_of word =
     else if bytes_eq word (codes "lp") then Some keyword.Lp
     else if bytes_eq word (codes "end") then Some keyword.End
     else None
-
-abbrev pub counted_of : ℕ → List (Option ℕ) → Result (Unit {0}) Reason
-counted_of n numbers = if length numbers == n then Ok tt else Err reason.Count
-
-abbrev pub number_at : List (Option ℕ) → ℕ → Result ℕ Reason
-number_at numbers i = ok_or (slice_index_or numbers i None) reason.Number
 
 abbrev pub machine_in : ℕ → ℕ → ℕ → Result Entry Reason
 machine_in lps pages hkids =
@@ -77,10 +63,6 @@ unfoldable pub end_of : List (Option ℕ) → Result Entry Reason
 end_of numbers = do
   _ ← counted_of 0 numbers
   Ok entry.End
-
--- the argument at a place, 0 where none is written
-abbrev pub argument : List (Option ℕ) → ℕ → ℕ
-argument numbers i = unwrap_or (slice_index_or numbers i None) 0
 
 -- the call of a mnemonic, as far as it is built; the field of MNG.RD isn't looked at here
 abbrev pub built_of : ℕ → CallName → List (Option ℕ) → Option Entry
@@ -128,29 +110,47 @@ abbrev pub first_of : Option Keyword → List (Option ℕ) → Result Entry Reas
 first_of (Some keyword.Machine) ns = machine_of ns
 first_of _ ns = Err reason.Machine
 
+-- `code TDR INDEX`
+abbrev pub list_of : Machine → List Bool → List (Option ℕ) → Result Entry Reason
+list_of m listed ns = code_of m listed ns >>= (λ place. Ok (entry.List place))
+
+-- the operands are looked at where the operation is built
+abbrev pub judged_operation_of : Option GuestOp → OpName → List (Option ℕ) → Result Entry Reason
+judged_operation_of None o ns = Err reason.Unbuilt
+judged_operation_of (Some g) o ns = operands_of o ns >>= (λ t. Ok (entry.Operation g))
+
+unfoldable pub operation_line_of : Option OpName → List (Option ℕ) → Result Entry Reason
+operation_line_of None ns = Err reason.Word
+operation_line_of (Some o) ns = judged_operation_of (guest_op_of o (argument ns 0) (argument ns 1)) o ns
+
 -- a later line outside blocks; the items of a schedule line aren't looked at here
-abbrev pub outside_of : Machine → List Bool → Option Keyword → List (Option ℕ) → Result Entry Reason
-outside_of m had (Some keyword.Machine) ns = Err reason.Machine
-outside_of m had (Some keyword.End) ns = Err reason.Place
-outside_of m had (Some keyword.Schedule) ns = Ok (entry.Schedule m.lps)
-outside_of m had (Some keyword.Code) ns = Err reason.Unbuilt
-outside_of m had (Some keyword.Lp) ns = block_of m had ns
-outside_of m had None ns = Err reason.Word
+abbrev pub outside_of : Machine → List Bool → List Bool → Option Keyword → List (Option ℕ) → Result Entry Reason
+outside_of m had listed (Some keyword.Machine) ns = Err reason.Machine
+outside_of m had listed (Some keyword.End) ns = Err reason.Place
+outside_of m had listed (Some keyword.Schedule) ns = Ok (entry.Schedule m.lps)
+outside_of m had listed (Some keyword.Code) ns = list_of m listed ns
+outside_of m had listed (Some keyword.Lp) ns = block_of m had ns
+outside_of m had listed None ns = Err reason.Word
 
--- a line in a processor's block
-abbrev pub inside_of : ℕ → Option Keyword → List ℕ → List (Option ℕ) → Result Entry Reason
-inside_of lp (Some keyword.Machine) word ns = Err reason.Machine
-inside_of lp (Some keyword.Schedule) word ns = Err reason.Place
-inside_of lp (Some keyword.Code) word ns = Err reason.Place
-inside_of lp (Some keyword.Lp) word ns = Err reason.Place
-inside_of lp (Some keyword.End) word ns = end_of ns
-inside_of lp None word ns = call_of lp (mnemonic_in mnemonics word) ns
+-- a processor's block has calls, a list operations
+abbrev pub named_of : Block → List ℕ → List (Option ℕ) → Result Entry Reason
+named_of (block.Lp lp) word ns = call_of lp (mnemonic_in mnemonics word) ns
+named_of (block.Code place) word ns = operation_line_of (operation_of word) ns
 
-abbrev pub placed_of : Option Machine → Option ℕ → List Bool → List ℕ → List (Option ℕ) → Result Entry Reason
-placed_of None block had word ns = first_of (keyword_of word) ns
-placed_of (Some m) None had word ns = outside_of m had (keyword_of word) ns
-placed_of (Some m) (Some lp) had word ns = inside_of lp (keyword_of word) word ns
+-- a line in a block
+abbrev pub inside_of : Block → Option Keyword → List ℕ → List (Option ℕ) → Result Entry Reason
+inside_of b (Some keyword.Machine) word ns = Err reason.Machine
+inside_of b (Some keyword.Schedule) word ns = Err reason.Place
+inside_of b (Some keyword.Code) word ns = Err reason.Place
+inside_of b (Some keyword.Lp) word ns = Err reason.Place
+inside_of b (Some keyword.End) word ns = end_of ns
+inside_of b None word ns = named_of b word ns
 
--- what a line says that isn't skipped, by its first word and the numbers behind it
-unfoldable pub entry_of : Stage → List ℕ → List (Option ℕ) → Result Entry Reason
-entry_of s word ns = placed_of s.machine s.block s.had word ns
+abbrev pub placed_of : Option Machine → Option Block → List Bool → List Bool → List ℕ → List (Option ℕ) → Result Entry Reason
+placed_of None b had listed word ns = first_of (keyword_of word) ns
+placed_of (Some m) None had listed word ns = outside_of m had listed (keyword_of word) ns
+placed_of (Some m) (Some b) had listed word ns = inside_of b (keyword_of word) word ns
+
+-- what a line says that isn't skipped, by its first word and the numbers behind it; `listed` says which lists there were
+unfoldable pub entry_of : Stage → List Bool → List ℕ → List (Option ℕ) → Result Entry Reason
+entry_of s listed word ns = placed_of s.machine s.block s.had listed word ns

@@ -1,18 +1,23 @@
 -- A script, line by line.
-use Rattle.std.specs.Prelude.{◌≡◌, ℕ, ◌+◌, ◌^◌, List, [], ◌∷◌, ◌++◌, length, map, replicate, Option, Some, None, Result, Ok, Err, true, false, not, ◌==◌, nat_lt, nat_le, slice_index_or, slice_set, if◌then◌else◌}
+use Rattle.std.specs.Prelude.{◌≡◌, ℕ, ◌+◌, ◌^◌, Bool, List, [], ◌∷◌, ◌++◌, length, map, replicate, Option, Some, None, Result, Ok, Err, true, false, not, ◌==◌, nat_lt, nat_le, slice_index_or, slice_set, if◌then◌else◌}
 use Rattle.td_words.specs.declared.calls.Call.{Call}
 use Rattle.td_words.specs.declared.calls.Call.TheVariants as call
+use Rattle.td_words.specs.declared.calls.GuestOp.{GuestOp}
 use Rattle.td_words.specs.declared.machines.Machine.{Machine}
+use Rattle.td_words.specs.Seen.{CodeSeen}
 use Rattle.script_text.specs.declared.faults.Reason.{Reason}
 use Rattle.script_text.specs.declared.faults.Reason.TheVariants as reason
 use Rattle.script_text.specs.declared.faults.ScriptFault.{ScriptFault}
 use Rattle.script_text.specs.declared.faults.ScriptFault.TheVariants.{Bad, OutOfMemory}
+use Rattle.script_text.specs.declared.lines.Block.{Block}
+use Rattle.script_text.specs.declared.lines.Block.TheVariants as block
 use Rattle.script_text.specs.declared.lines.Entry.{Entry}
 use Rattle.script_text.specs.declared.lines.Entry.TheVariants as entry
 use Rattle.script_text.specs.declared.lines.Stage.{Stage}
 use Rattle.script_text.specs.declared.drafts.Draft.{Draft}
-use Rattle.script_text.specs.Blocks.{field_of}
-use Rattle.script_text.specs.Line.{entry_of, ◌>>=◌}
+use Rattle.script_text.specs.Blocks.{field_of, list_place, none_listed}
+use Rattle.script_text.specs.Counted.{◌>>=◌}
+use Rattle.script_text.specs.Line.{entry_of}
 use Rattle.script_text.specs.Number.{number}
 use Rattle.script_text.specs.Schedule.{schedule_of}
 use Rattle.script_text.specs.Words.{pieces, words, is_printable, is_comment}
@@ -21,20 +26,32 @@ use Rattle.script_text.specs.Seen.{ScriptSeen}
 -- what the lines so far said
 pub record SoFar : Type 0 where
   pub stage : Stage
+  pub listed : List Bool  -- which lists of operations there were
   pub schedule : List ℕ  -- its items so far, written out
+  pub codes : List CodeSeen  -- the lists that have ended
+  pub ops : List GuestOp  -- the operations so far of the list that is open
   pub calls : List (List Call)
 
 abbrev pub draft_seen : Draft → SoFar
-draft_seen d = record { stage = d.stage; schedule = d.schedule.items; calls = map (λ list. list.items) d.calls.items }
+draft_seen d = record { stage = d.stage; listed = d.listed; schedule = d.schedule.items; codes = d.codes.items; ops = d.ops.items; calls = map (λ list. list.items) d.calls.items }
 
 abbrev pub nothing_yet : SoFar
-nothing_yet = record { stage = record { machine = None; block = None; had = replicate 8 false }; schedule = []; calls = [] }
+nothing_yet = record { stage = record { machine = None; block = None; had = replicate 8 false }; listed = none_listed; schedule = []; codes = []; ops = []; calls = [] }
 
 -- at most 4,096 calls a processor
 abbrev pub with_call : List (List Call) → ℕ → Call → Result (List (List Call)) Reason
 with_call calls lp c =
     if nat_le 4096 (length (slice_index_or calls lp [])) then Err reason.Full
     else Ok (slice_set calls lp (slice_index_or calls lp [] ++ c ∷ []))
+
+-- at most 256 operations a list
+abbrev pub with_op : List GuestOp → GuestOp → Result (List GuestOp) Reason
+with_op ops g = if nat_le 256 (length ops) then Err reason.Full else Ok (ops ++ g ∷ [])
+
+-- `end`: the operations of a list are its VCPU's
+abbrev pub closed_of : SoFar → Option Block → SoFar
+closed_of d (Some (block.Code p)) = record d { stage = record d.stage { block = None }; codes = d.codes ++ (record { tdr = p.tdr; index = p.index; ops = d.ops }) ∷ []; ops = [] }
+closed_of d _ = record d { stage = record d.stage { block = None } }
 
 -- a machine's processors have no calls yet; a block is open from its line to its `end`; words behind the first are looked
 -- at as the items of a schedule line, and as the field of MNG.RD, which is the second of them
@@ -43,8 +60,9 @@ entered_of d (entry.Machine m) words = Ok (record d { stage = record d.stage { m
 entered_of d (entry.Schedule lps) words = do
   schedule ← schedule_of lps d.schedule words
   Ok (record d { schedule = schedule })
-entered_of d (entry.Open lp) words = Ok (record d { stage = record d.stage { block = Some lp; had = slice_set d.stage.had lp true } })
-entered_of d entry.End words = Ok (record d { stage = record d.stage { block = None } })
+entered_of d (entry.Open lp) words = Ok (record d { stage = record d.stage { block = Some (block.Lp lp); had = slice_set d.stage.had lp true } })
+entered_of d (entry.List p) words = Ok (record d { stage = record d.stage { block = Some (block.Code p) }; listed = slice_set d.listed (list_place p) true })
+entered_of d entry.End words = Ok (closed_of d d.stage.block)
 entered_of d (entry.Call lp c) words = do
   calls ← with_call d.calls lp c
   Ok (record d { calls = calls })
@@ -52,29 +70,32 @@ entered_of d (entry.Read lp tdr) words = do
   field ← field_of (slice_index_or words 1 [])
   calls ← with_call d.calls lp (call.MngRd tdr field)
   Ok (record d { calls = calls })
+entered_of d (entry.Operation g) words = do
+  ops ← with_op d.ops g
+  Ok (record d { ops = ops })
 
 -- a line without words and a comment are skipped
 unfoldable pub worded_of : SoFar → List (List ℕ) → Result SoFar Reason
 worded_of d [] = Ok d
 worded_of d (w ∷ ws) =
     if is_comment w then Ok d else do
-      e ← entry_of d.stage w (map number ws)
+      e ← entry_of d.stage d.listed w (map number ws)
       entered_of d e ws
 
 unfoldable pub line_of : SoFar → List ℕ → Result SoFar Reason
 line_of d line = if not (is_printable line) then Err reason.Byte else worded_of d (words line)
 
 -- a script ends outside blocks, and has a machine
-abbrev pub script_of : Option Machine → Option ℕ → List ℕ → List (List Call) → ℕ → Result ScriptSeen ScriptFault
-script_of None block schedule calls n = Err (Bad n reason.Machine)
-script_of (Some m) (Some lp) schedule calls n = Err (Bad n reason.Endless)
-script_of (Some m) None schedule calls n = Ok (record { machine = m; schedule = schedule; codes = []; calls = calls })
+abbrev pub script_of : Option Machine → Option Block → List ℕ → List CodeSeen → List (List Call) → ℕ → Result ScriptSeen ScriptFault
+script_of None b schedule codes calls n = Err (Bad n reason.Machine)
+script_of (Some m) (Some b) schedule codes calls n = Err (Bad n reason.Endless)
+script_of (Some m) None schedule codes calls n = Ok (record { machine = m; schedule = schedule; codes = codes; calls = calls })
 
 -- where the lines end; behind the last newline nothing may stand
 abbrev pub ended_of : SoFar → ℕ → List ℕ → Result ScriptSeen ScriptFault
 ended_of d n rest =
     if not (length rest == 0) then Err (Bad n reason.Unterminated)
-    else script_of d.stage.machine d.stage.block d.schedule d.calls n
+    else script_of d.stage.machine d.stage.block d.schedule d.codes d.calls n
 
 -- a line's fault, at its number
 abbrev pub then_on : Result SoFar Reason → ℕ → (SoFar → Result ScriptSeen ScriptFault) → Result ScriptSeen ScriptFault

@@ -5,7 +5,7 @@ use Rattle.script_text.specs.declared.faults.Reason.{Reason}
 use Rattle.script_text.specs.declared.faults.Reason.TheVariants as reason
 use Rattle.script_text.specs.declared.schedules.Item.{Item}
 use Rattle.script_text.specs.declared.schedules.Turns.{Turns}
-use Rattle.script_text.specs.Line.{◌>>=◌}
+use Rattle.script_text.specs.Counted.{◌>>=◌}
 use Rattle.script_text.specs.Number.{number}
 use Rattle.script_text.specs.Words.{words}
 

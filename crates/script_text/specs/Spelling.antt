@@ -1,10 +1,13 @@
 -- How a script is written: the words of a line, each behind a space but the first, then a newline; numbers in decimal.
-use Rattle.std.specs.Prelude.{ℕ, ◌+◌, ◌^◌, ◌<◌, List, [], ◌∷◌, ◌++◌, map, codes}
+use Rattle.std.specs.Prelude.{◌≡◌, ℕ, ◌+◌, ◌%◌, ◌^◌, ◌<◌, List, [], ◌∷◌, ◌++◌, map, codes}
 use Rattle.std.specs.List.{All}
 use Rattle.std.specs.Fmt.{decimal}
 use Rattle.td_words.specs.declared.calls.Call.{Call}
 use Rattle.td_words.specs.declared.calls.Call.TheVariants as calls
+use Rattle.td_words.specs.declared.calls.GuestOp.{GuestOp}
+use Rattle.td_words.specs.declared.calls.GuestOp.TheVariants as guest
 use Rattle.td_words.specs.NameText.{read_text}
+use Rattle.td_words.specs.Seen.{CodeSeen}
 use Rattle.script_text.specs.Seen.{ScriptSeen}
 
 abbrev pub words_text : List (List ℕ) → List ℕ
@@ -31,6 +34,7 @@ call_word (calls.MrExtend tdr gpa) = codes "MR.EXTEND"
 call_word (calls.MrFinalize tdr) = codes "MR.FINALIZE"
 call_word (calls.VpCreate tdr page) = codes "VP.CREATE"
 call_word (calls.VpInit tdr vp value) = codes "VP.INIT"
+call_word (calls.VpEnter tdr vp max) = codes "VP.ENTER"
 call_word (calls.MemSeptAdd tdr gpa level page) = codes "MEM.SEPT.ADD"
 call_word (calls.MemSeptRd tdr gpa level) = codes "MEM.SEPT.RD"
 call_word (calls.MemPageAdd tdr gpa page source) = codes "MEM.PAGE.ADD"
@@ -53,6 +57,7 @@ call_numbers (calls.MrExtend tdr gpa) = tdr ∷ gpa ∷ []
 call_numbers (calls.MrFinalize tdr) = tdr ∷ []
 call_numbers (calls.VpCreate tdr page) = tdr ∷ page ∷ []
 call_numbers (calls.VpInit tdr vp value) = tdr ∷ vp ∷ value ∷ []
+call_numbers (calls.VpEnter tdr vp max) = tdr ∷ vp ∷ max ∷ []
 call_numbers (calls.MemSeptAdd tdr gpa level page) = tdr ∷ gpa ∷ level ∷ page ∷ []
 call_numbers (calls.MemSeptRd tdr gpa level) = tdr ∷ gpa ∷ level ∷ []
 call_numbers (calls.MemPageAdd tdr gpa page source) = tdr ∷ gpa ∷ page ∷ source ∷ []
@@ -63,9 +68,14 @@ abbrev pub call_names : Call → List (List ℕ)
 call_names (calls.MngRd tdr field) = read_text field ∷ []
 call_names _ = []
 
+-- each call but VP.ENTER has a line today
+abbrev pub IsBuilt : Call → Type 0
+IsBuilt (calls.VpEnter tdr vp max) = ⊥
+IsBuilt _ = Unit {0}
+
 -- an argument is a number of 64 bits
 abbrev pub FitsCall : Call → Type 0
-FitsCall c = All (λ n. n < 2 ^ 64) (call_numbers c)
+FitsCall c = IsBuilt c × All (λ n. n < 2 ^ 64) (call_numbers c)
 
 abbrev pub calls_text : List Call → List ℕ
 calls_text [] = []
@@ -81,5 +91,43 @@ abbrev pub blocks_text : ℕ → List (List Call) → List ℕ
 blocks_text lp [] = []
 blocks_text lp (calls ∷ more) = line_text (codes "lp") (decimal lp ∷ []) ++ (calls_text calls ++ (line_text (codes "end") [] ++ blocks_text (lp + 1) more))
 
+abbrev pub op_word : GuestOp → List ℕ
+op_word (guest.Set register value) = codes "set"
+op_word (guest.Add register other) = codes "add"
+op_word (guest.Load register gpa) = codes "load"
+op_word (guest.Store register gpa) = codes "store"
+op_word (guest.Accept gpa) = codes "accept"
+op_word (guest.Rtmr index) = codes "rtmr"
+op_word (guest.Vmcall register) = codes "vmcall"
+
+abbrev pub op_numbers : GuestOp → List ℕ
+op_numbers (guest.Set register value) = register ∷ value ∷ []
+op_numbers (guest.Add register other) = register ∷ other ∷ []
+op_numbers (guest.Load register gpa) = register ∷ gpa ∷ []
+op_numbers (guest.Store register gpa) = register ∷ gpa ∷ []
+op_numbers (guest.Accept gpa) = gpa ∷ []
+op_numbers (guest.Rtmr index) = index ∷ []
+op_numbers (guest.Vmcall register) = register ∷ []
+
+-- registers 0 to 7, RTMRs 0 to 3, values of 64 bits; the addresses of words and of private pages
+abbrev pub FitsOp : GuestOp → Type 0
+FitsOp (guest.Set register value) = (register < 8) × (value < 2 ^ 64)
+FitsOp (guest.Add register other) = (register < 8) × (other < 8)
+FitsOp (guest.Load register gpa) = (register < 8) × (gpa < 2 ^ 48) × (gpa % 8 ≡ 0)
+FitsOp (guest.Store register gpa) = (register < 8) × (gpa < 2 ^ 48) × (gpa % 8 ≡ 0)
+FitsOp (guest.Accept gpa) = (gpa < 2 ^ 47) × (gpa % 4096 ≡ 0)
+FitsOp (guest.Rtmr index) = index < 4
+FitsOp (guest.Vmcall register) = register < 8
+
+abbrev pub ops_text : List GuestOp → List ℕ
+ops_text [] = []
+ops_text (g ∷ gs) = line_text (op_word g) (map decimal (op_numbers g)) ++ ops_text gs
+
+-- a block for each list of operations, in their order
+abbrev pub codes_text : List CodeSeen → List ℕ
+codes_text [] = []
+codes_text (c ∷ cs) = line_text (codes "code") (map decimal (c.tdr ∷ c.index ∷ [])) ++ (ops_text c.ops ++ (line_text (codes "end") [] ++ codes_text cs))
+
 abbrev pub script_text : ScriptSeen → List ℕ
-script_text s = line_text (codes "machine") (map decimal (s.machine.lps ∷ s.machine.pages ∷ s.machine.hkids ∷ [])) ++ (schedule_text s.schedule ++ blocks_text 0 s.calls)
+script_text s =
+    line_text (codes "machine") (map decimal (s.machine.lps ∷ s.machine.pages ∷ s.machine.hkids ∷ [])) ++ (schedule_text s.schedule ++ (codes_text s.codes ++ blocks_text 0 s.calls))

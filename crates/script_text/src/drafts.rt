@@ -1,28 +1,37 @@
 //! What the lines so far say.
 
-ghost use Rattle.std.specs.Prelude.{◌≡◌, map, replicate, [], ◌∷◌, slice_set, true, IfOk};
-ghost use Rattle.script_text.specs.Line.{IsAnsweredAt};
-ghost use Rattle.script_text.specs.Reading.{draft_seen, with_call, entered_of, worded_of, line_of};
+ghost use Rattle.std.specs.Prelude.{◌≡◌, map, replicate, [], ◌∷◌, slice_set, true, Ok, IfOk};
+ghost use Rattle.script_text.specs.Counted.{IsAnsweredAt};
+ghost use Rattle.script_text.specs.Reading.{draft_seen, with_call, with_op, closed_of, entered_of, worded_of, line_of};
 ghost use Rattle.script_text.specs.Words.{words};
 
+use crate::code_blocks::{CodePlace, list_place};
 use crate::faults::{Reason, Taken, bad};
 use crate::fields::field_in;
-use crate::lines::{Entry, Stage, entry_at};
+use crate::lines::{Block, Entry, Stage, entry_at};
 use crate::numbers::first_numbers;
 use crate::schedules::schedule_line;
 use crate::words::{is_comment, is_printable, next_word};
 use std::alloc::{AllocError, Global};
-use td_words::Call;
+use std::mem;
+use td_words::{Call, Code, GuestOp};
 
-/// The state before the next line, and the schedule's items and each processor's calls so far.
+/// The state before the next line; which lists of operations there were; and so far the schedule's
+/// items, the lists that have ended, the operations of the one that is open, and each processor's
+/// calls.
 #[derive(Drop)]
 pub struct Draft {
     pub stage: Stage,
+    pub listed: [bool; 8192],
     pub schedule: Vec<u8>,
+    pub codes: Vec<Code>,
+    pub ops: Vec<GuestOp>,
     pub calls: Vec<Vec<Call>>,
 }
 
 const MOST_CALLS: usize = 4096;
+
+const MOST_OPS: usize = 256;
 
 fn no_calls(alloc: Global, lps: u8) -> Result<Vec<Vec<Call>>, AllocError>
     ensures { IfOk result (λ v. map (λ list. list.items) v.items ≡ replicate lps []) }
@@ -34,11 +43,11 @@ fn no_calls(alloc: Global, lps: u8) -> Result<Vec<Vec<Call>>, AllocError>
     Ok(calls)
 }
 
-fn mark(had: &mut [bool; 8], lp: u8)
-    ensures { had.new ≡ slice_set had.old lp true }
+fn mark(marks: &mut [bool], place: usize)
+    ensures { marks.new ≡ slice_set marks.old place true }
 {
-    if usize::from(lp) < had.len() {
-        had[usize::from(lp)] = true;
+    if place < marks.len() {
+        marks[place] = true;
     }
 }
 
@@ -57,6 +66,28 @@ fn add_call(calls: &mut Vec<Vec<Call>>, number: u64, lp: u8, call: Call) -> Take
     Ok(())
 }
 
+fn add_op(ops: &mut Vec<GuestOp>, number: u64, op: GuestOp) -> Taken
+    ensures { IsAnsweredAt number (with_op ops.old.items op) ops.new.items result }
+{
+    if ops.len() >= MOST_OPS {
+        return Err(bad(number, Reason::Full));
+    }
+    ops.push(op)?;
+    Ok(())
+}
+
+// The block that is open ends. A list keeps its operations where they are.
+fn close(draft: &mut Draft, alloc: Global, number: u64) -> Taken
+    ensures { IsAnsweredAt number (Ok (closed_of (draft_seen draft.old) draft.old.stage.block)) (draft_seen draft.new) result }
+{
+    if let Some(Block::Code(CodePlace { tdr, index })) = draft.stage.block {
+        let ops = mem::replace(&mut draft.ops, Vec::new(alloc));
+        draft.codes.push(Code { tdr, index, ops })?;
+    }
+    draft.stage.block = None;
+    Ok(())
+}
+
 #[tactic(auto, unfolding(crate::specs::Reading::entered_of))]
 fn enter(draft: &mut Draft, alloc: Global, number: u64, entry: Entry, text: &[u8]) -> Taken
     ensures { IsAnsweredAt number (entered_of (draft_seen draft.old) entry (words text.now)) (draft_seen draft.new) result }
@@ -69,19 +100,22 @@ fn enter(draft: &mut Draft, alloc: Global, number: u64, entry: Entry, text: &[u8
         }
         Entry::Schedule(lps) => schedule_line(&mut draft.schedule, number, lps, text),
         Entry::Open(lp) => {
-            mark(&mut draft.stage.had, lp);
-            draft.stage.block = Some(lp);
+            mark(&mut draft.stage.had, usize::from(lp));
+            draft.stage.block = Some(Block::Lp(lp));
             Ok(())
         }
-        Entry::End => {
-            draft.stage.block = None;
+        Entry::List(place) => {
+            mark(&mut draft.listed, list_place(place));
+            draft.stage.block = Some(Block::Code(place));
             Ok(())
         }
+        Entry::End => close(draft, alloc, number),
         Entry::Call(lp, call) => add_call(&mut draft.calls, number, lp, call),
         Entry::Read(lp, tdr) => match field_in(text) {
             Ok(field) => add_call(&mut draft.calls, number, lp, Call::MngRd { tdr, field }),
             Err(reason) => Err(bad(number, reason)),
         },
+        Entry::Operation(op) => add_op(&mut draft.ops, number, op),
     }
 }
 
@@ -94,7 +128,7 @@ fn take_words(draft: &mut Draft, alloc: Global, number: u64, word: &[u8], text: 
         return Ok(());
     }
     let numbers = first_numbers(alloc, text)?;
-    match entry_at(&draft.stage, word, &numbers) {
+    match entry_at(&draft.stage, &draft.listed, word, &numbers) {
         Ok(entry) => enter(draft, alloc, number, entry, text),
         Err(reason) => Err(bad(number, reason)),
     }

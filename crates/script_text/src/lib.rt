@@ -5,8 +5,8 @@
 //! exactly what `specs/Reading.antt` defines, unless memory wasn't found, and four laws: what is
 //! read is in form (`scripts_are_in_form`), a script in form that is written out is read again
 //! (`scripts_read_again`), a fault names the first bad line (`faults_are_first`), and the first
-//! reason that holds of it (`reasons_in_order`). Nineteen calls are built; any other mnemonic, and
-//! `code`, is UNBUILT. Public functions read code heads, operands and output slots.
+//! reason that holds of it (`reasons_in_order`). Twenty calls and seven guest operations are built;
+//! any other mnemonic, and `secret`, is UNBUILT. Public functions read output slots.
 #![tactic(auto)]
 
 mod code_blocks;
@@ -22,10 +22,8 @@ mod schedules;
 mod scripts;
 mod words;
 
-pub use code_blocks::{CodePlace, code_line};
 pub use faults::{Reason, ScriptFault};
 pub use fields::{output_slot, slot_place};
 pub use laws::{faults_are_first, reasons_in_order, scripts_are_in_form, scripts_read_again};
 pub use mnemonics::{CallName, Mnemonic, mnemonic_at};
-pub use operations::{OpName, Operand, check_operands, operation_at};
 pub use scripts::{Script, read_script};

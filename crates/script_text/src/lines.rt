@@ -3,11 +3,14 @@
 ghost use Rattle.std.specs.Prelude.{◌≡◌, None, is_some, slice_index_or, false};
 ghost use Rattle.std.specs.List.{list_all};
 ghost use Rattle.script_text.specs.Mnemonics.{mnemonics, mnemonic_in};
-ghost use Rattle.script_text.specs.Line.{keyword_of, counted_of, number_at, machine_in, machine_of, block_in, block_of, end_of, argument, built_of, are_given, judged_of, call_of, outside_of, inside_of, entry_of};
+ghost use Rattle.script_text.specs.Counted.{counted_of, number_at, argument};
+ghost use Rattle.script_text.specs.Line.{keyword_of, machine_in, machine_of, block_in, block_of, end_of, built_of, are_given, judged_of, call_of, list_of, operation_line_of, outside_of, named_of, inside_of, entry_of};
 
+use crate::code_blocks::{CodePlace, code_line};
 use crate::faults::Reason;
 use crate::mnemonics::{CallName, Mnemonic, is, mnemonic_at};
-use td_words::{Call, Machine};
+use crate::operations::{OpName, check_operands, guest_op, operation_at};
+use td_words::{Call, GuestOp, Machine};
 
 /// The first word of a line that isn't a call.
 #[derive(Clone, Copy, Debug, PartialEq, Eq)]
@@ -19,12 +22,20 @@ pub enum Keyword {
     End,
 }
 
-/// What stood before a line: the machine, the processor whose block is open, and which
-/// processors had a block.
+/// A block that is open.
+#[derive(Clone, Copy, Debug, PartialEq, Eq)]
+pub enum Block {
+    /// That processor's calls.
+    Lp(u8),
+    /// The operations of that virtual processor.
+    Code(CodePlace),
+}
+
+/// What stood before a line: the machine, the block that is open, and which processors had a block.
 #[derive(Clone, Copy, Debug, PartialEq, Eq)]
 pub struct Stage {
     pub machine: Option<Machine>,
-    pub block: Option<u8>,
+    pub block: Option<Block>,
     pub had: [bool; 8],
 }
 
@@ -36,11 +47,15 @@ pub enum Entry {
     Schedule(u8),
     /// The block of that processor begins.
     Open(u8),
+    /// The list of that virtual processor begins.
+    List(CodePlace),
     End,
     /// A call of that processor.
     Call(u8, Call),
     /// That processor's MNG.RD of that TDR; the second word behind the first names the field.
     Read(u8, u64),
+    /// The next operation of the list that is open.
+    Operation(GuestOp),
 }
 
 /// What a line says, or the first reason why it is bad.
@@ -231,39 +246,70 @@ fn call_line(lp: u8, mnemonic: Option<Mnemonic>, numbers: &[Option<u64>]) -> Sai
     judged(built(lp, mnemonic.call, numbers), mnemonic, numbers)
 }
 
+fn list_line(machine: Machine, listed: &[bool], numbers: &[Option<u64>]) -> Said
+    ensures { result ≡ list_of machine listed.now numbers.now }
+{
+    let place = code_line(machine, listed, numbers)?;
+    Ok(Entry::List(place))
+}
+
+#[tactic(auto, unfolding(crate::specs::Line::operation_line_of))]
+fn operation_line(op: Option<OpName>, numbers: &[Option<u64>]) -> Said
+    ensures { result ≡ operation_line_of op numbers.now }
+{
+    let op = op.ok_or(Reason::Word)?;
+    if op == OpName::Secret {
+        return Err(Reason::Unbuilt);
+    }
+    check_operands(op, numbers)?;
+    let built = guest_op(op, argument(numbers, 0), argument(numbers, 1));
+    Ok(Entry::Operation(built.ok_or(Reason::Unbuilt)?))
+}
+
 fn outside_at(
     machine: Machine,
     had: &[bool; 8],
+    listed: &[bool],
     keyword: Option<Keyword>,
     numbers: &[Option<u64>],
 ) -> Said
-    ensures { result ≡ outside_of machine had.now keyword numbers.now }
+    ensures { result ≡ outside_of machine had.now listed.now keyword numbers.now }
 {
     match keyword {
         Some(Keyword::Machine) => Err(Reason::Machine),
         Some(Keyword::End) => Err(Reason::Place),
         Some(Keyword::Schedule) => Ok(Entry::Schedule(machine.lps)),
-        Some(Keyword::Code) => Err(Reason::Unbuilt),
+        Some(Keyword::Code) => list_line(machine, listed, numbers),
         Some(Keyword::Lp) => block_line(machine, had, numbers),
         None => Err(Reason::Word),
     }
 }
 
-fn inside_at(lp: u8, keyword: Option<Keyword>, word: &[u8], numbers: &[Option<u64>]) -> Said
-    ensures { result ≡ inside_of lp keyword word.now numbers.now }
+fn named_at(block: Block, word: &[u8], numbers: &[Option<u64>]) -> Said
+    ensures { result ≡ named_of block word.now numbers.now }
+{
+    match block {
+        Block::Lp(lp) => call_line(lp, mnemonic_at(word), numbers),
+        Block::Code(_) => operation_line(operation_at(word), numbers),
+    }
+}
+
+fn inside_at(block: Block, keyword: Option<Keyword>, word: &[u8], numbers: &[Option<u64>]) -> Said
+    ensures { result ≡ inside_of block keyword word.now numbers.now }
 {
     match keyword {
         Some(Keyword::Machine) => Err(Reason::Machine),
         Some(Keyword::End) => end_line(numbers),
         Some(_) => Err(Reason::Place),
-        None => call_line(lp, mnemonic_at(word), numbers),
+        None => named_at(block, word, numbers),
     }
 }
 
-/// What a line says whose first word is that and whose next words are those numbers.
+/// What a line says whose first word is that and whose next words are those numbers. `listed` says
+/// of 8 times a page and a VCPU whether that VCPU had a list.
 #[tactic(auto, unfolding(crate::specs::Line::entry_of))]
-pub fn entry_at(stage: &Stage, word: &[u8], numbers: &[Option<u64>]) -> Said
-    ensures { result ≡ entry_of stage.now word.now numbers.now }
+pub fn entry_at(stage: &Stage, listed: &[bool], word: &[u8], numbers: &[Option<u64>]) -> Said
+    ensures { result ≡ entry_of stage.now listed.now word.now numbers.now }
 {
     let keyword = keyword_at(word);
     match stage.machine {
@@ -272,8 +318,8 @@ pub fn entry_at(stage: &Stage, word: &[u8], numbers: &[Option<u64>]) -> Said
             _ => Err(Reason::Machine),
         },
         Some(machine) => match stage.block {
-            None => outside_at(machine, &stage.had, keyword, numbers),
-            Some(lp) => inside_at(lp, keyword, word, numbers),
+            None => outside_at(machine, &stage.had, listed, keyword, numbers),
+            Some(block) => inside_at(block, keyword, word, numbers),
         },
     }
 }

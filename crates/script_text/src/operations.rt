@@ -1,13 +1,14 @@
 //! The words of guest operations.
 
-ghost use Rattle.std.specs.Prelude.{◌≡◌};
-ghost use Rattle.script_text.specs.Blocks.{operation_of, first_operand_of, second_operand_of, is_operand, operands_of};
+ghost use Rattle.std.specs.Prelude.{◌≡◌, true};
+ghost use Rattle.script_text.specs.Blocks.{operation_of, first_operand_of, second_operand_of, is_operand, fit_operands, operands_of, guest_op_of};
 
 use crate::faults::Reason;
 use crate::lines::{are_numbers, argument, check_count};
 use crate::mnemonics::is;
+use td_words::GuestOp;
 
-/// A guest operation, whether or not it is built.
+/// The name of a guest operation, whether or not it is built.
 #[derive(Clone, Copy, Debug, PartialEq, Eq)]
 pub enum OpName {
     Set,
@@ -114,4 +115,36 @@ pub fn check_operands(op: OpName, numbers: &[Option<u64>]) -> Result<(), Reason>
         return Err(Reason::Range);
     }
     Ok(())
+}
+
+/// The operation of that name and those operands, as far as it is built.
+pub fn guest_op(op: OpName, first: u64, second: u64) -> Option<GuestOp>
+    requires { fit_operands op first second ≡ true }
+    ensures { result ≡ guest_op_of op first second }
+{
+    let built = match op {
+        OpName::Set => GuestOp::Set {
+            register: first as u8,
+            value: second,
+        },
+        OpName::Secret => return None,
+        OpName::Add => GuestOp::Add {
+            register: first as u8,
+            other: second as u8,
+        },
+        OpName::Load => GuestOp::Load {
+            register: first as u8,
+            gpa: second,
+        },
+        OpName::Store => GuestOp::Store {
+            register: first as u8,
+            gpa: second,
+        },
+        OpName::Accept => GuestOp::Accept { gpa: first },
+        OpName::Rtmr => GuestOp::Rtmr { index: first as u8 },
+        OpName::Vmcall => GuestOp::Vmcall {
+            register: first as u8,
+        },
+    };
+    Some(built)
 }

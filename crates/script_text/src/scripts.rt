@@ -4,6 +4,7 @@ ghost use Rattle.std.specs.Prelude.{◌≡◌, ◌≤◌, ◌^◌, length};
 ghost use Rattle.script_text.specs.Reading.{IsAnswered, read_of, read_from, ended_of, nothing_yet, draft_seen};
 ghost use Rattle.script_text.specs.Words.{pieces};
 
+use crate::code_blocks::none_listed;
 use crate::drafts::{Draft, take_line};
 use crate::faults::{Reason, ScriptFault, bad};
 use crate::lines::Stage;
@@ -12,8 +13,8 @@ use std::alloc::Global;
 use std::marker::Model;
 use td_words::{Call, Code, Machine};
 
-/// What a script says: the machine, the schedule's items written out, the lists of guest
-/// operations, and one list of calls for each logical processor, in order.
+/// What a script says: the machine, the schedule's items written out, the lists of guest operations
+/// in the order of their blocks, and one list of calls for each logical processor, in order.
 #[derive(Drop)]
 pub struct Script {
     pub machine: Machine,
@@ -31,7 +32,7 @@ impl Model for Script {
     ghost view = { λ s. record { machine = s.machine; schedule = s.schedule.items; codes = s.codes.items; calls = map (λ list. list.items) s.calls.items } };
 }
 
-fn ended(alloc: Global, draft: Draft, number: u64, rest: &[u8]) -> Result<Script, ScriptFault>
+fn ended(draft: Draft, number: u64, rest: &[u8]) -> Result<Script, ScriptFault>
     ensures { result ≡ ended_of (draft_seen draft) number rest.now }
 {
     if !rest.is_empty() {
@@ -45,7 +46,7 @@ fn ended(alloc: Global, draft: Draft, number: u64, rest: &[u8]) -> Result<Script
         None => Ok(Script {
             machine,
             schedule: draft.schedule,
-            codes: Vec::new(alloc),
+            codes: draft.codes,
             calls: draft.calls,
         }),
     }
@@ -61,7 +62,10 @@ fn read_lines(alloc: Global, bytes: &[u8]) -> Result<Script, ScriptFault>
             block: None,
             had: [false; 8],
         },
+        listed: none_listed(),
         schedule: Vec::new(alloc),
+        codes: Vec::new(alloc),
+        ops: Vec::new(alloc),
         calls: Vec::new(alloc),
     };
     let mut number = 1;
@@ -71,7 +75,7 @@ fn read_lines(alloc: Global, bytes: &[u8]) -> Result<Script, ScriptFault>
         number += 1;
         rest = more;
     }
-    ended(alloc, draft, number, rest)
+    ended(draft, number, rest)
 }
 
 /// The script that the bytes say, or the first bad line with the first reason that holds.
