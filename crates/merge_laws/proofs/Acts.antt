@@ -39,7 +39,7 @@ use Rattle.merge_laws.proofs.Stores.{Due, last_at, or_else, laid, laid-one, laid
 use Rattle.merge_laws.proofs.Swaps.{SwapDue, last_put, SwapsMay}
 use Rattle.merge_laws.proofs.Keeping.{Keeps, keeps-each, keeps-same}
 use Rattle.merge_laws.proofs.Holding.{bare, turned-round}
-use Rattle.merge_laws.proofs.Standing.{Laws, leaf_for, AreTrees, Known, RunsAt, on_table, Position, back, Stands}
+use Rattle.merge_laws.proofs.Standing.{means-here, Laws, leaf_for, AreTrees, Known, RunsAt, on_table, Position, back, Stands}
 use Rattle.merge_laws.proofs.Others.{shown-of}
 use Rattle.merge_laws.proofs.SlotSteps.{slots-event}
 use Rattle.merge_laws.proofs.Own.{apart-from, grows-by, with_hasher, stands-after, world-of-event, at-other, Spares, gathered, none-due}
@@ -109,7 +109,7 @@ module _ (ls : Laws) (o : Opening) (trees : ℕ → Call → Tree) (s : State) (
   -- the call is after its act as its leaf says
   act-made : After o (leaf_for o trees p c) (row_of o p c) s (event o s p) act_table (with_hasher run' (hasher_for one.after.hand)) result
   act-made =
-      ends (engine ls) o (leaf_for o trees p c) (row_of o p c) s mem (table_of machine mem.slots mem.words) act_table run (with_hasher run' (hasher_for one.after.hand)) result (are.means p c) refl
+      ends (engine ls) o (leaf_for o trees p c) (row_of o p c) s mem (table_of machine mem.slots mem.words) act_table run (with_hasher run' (hasher_for one.after.hand)) result (means-here o trees are p c (s.lps p) ra.call.line) refl
       (shown-of o trees s mem t pos p c run known sd i (ra.trying e)) ra.call e
       (one.ends act_table (hasher_for one.after.hand) act-shows) one.act one.reply
 

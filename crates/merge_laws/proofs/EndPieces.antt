@@ -46,7 +46,7 @@ use Rattle.merge_laws.proofs.Swaps.{SwapDue, last_put, swaps_of}
 use Rattle.merge_laws.proofs.Owing.{Owed, stores_in, swaps_in, AreOwed, all_owed, stores-are, swaps-are}
 use Rattle.merge_laws.proofs.SlotSteps.{slot-shown}
 use Rattle.merge_laws.proofs.Holding.{bare, turned-round}
-use Rattle.merge_laws.proofs.Standing.{Laws, leaf_for, on_table, Position, back, Rest}
+use Rattle.merge_laws.proofs.Standing.{means-here, Laws, leaf_for, on_table, Position, back, Rest}
 use Rattle.merge_laws.proofs.Others.{shown-of, hold-is}
 use Rattle.merge_laws.proofs.Own.{apart-from, none-due}
 use Rattle.merge_laws.proofs.LockSteps.{Moved}
@@ -65,7 +65,7 @@ pub end-may : (o : Opening) (trees : ℕ → Call → Tree) (s : State) (mem : M
     → (a : AtTurn o trees s mem t pos p c cs run) → (st : run.stage ≡ stages.Trying) → AtEnd o trees s mem p c (a.runs.call.told st).told now reply run run' result
     → EndMay o.machine (bare (s.lps p).call.held) s.world ((row_of o p c).act s.world) mem (feed (trees p c) now)
 end-may o trees s mem t pos p c cs now reply run run' result a st en =
-    by (feed (trees p c) now) (leaves-follow-rows task inst now (a.are.means p c) (at-instant o task (row_of o p c) s mem (table_of m mem.slots mem.words) run refl (shown-of o trees s mem t pos p c run a.known a.all a.inside (a.hand.trying st)) a.runs.call st) en.current)
+    by (feed (trees p c) now) (leaves-follow-rows task inst now (means-here o trees a.are p c (s.lps p) a.runs.call.line) (at-instant o task (row_of o p c) s mem (table_of m mem.slots mem.words) run refl (shown-of o trees s mem t pos p c run a.known a.all a.inside (a.hand.trying st)) a.runs.call st) en.current)
   where
     m : Machine
     m = o.machine

@@ -38,7 +38,7 @@ use Rattle.merge_laws.proofs.Stores.{Due, last_at, later, or_else, stores_of, al
 use Rattle.merge_laws.proofs.Swaps.{SwapDue, last_put, swaps_of, all_swaps, SwapsMay, swaps-same, one-slot, changed-slots, owed-swaps}
 use Rattle.merge_laws.proofs.Keeping.{Keeps, keeps-each, keeps-same, owed-keeps}
 use Rattle.merge_laws.proofs.Holding.{bare, turned-round}
-use Rattle.merge_laws.proofs.Standing.{Laws, leaf_for, AreTrees, line-enters, Known, on_table, Position, back, Stands}
+use Rattle.merge_laws.proofs.Standing.{means-here, Laws, leaf_for, AreTrees, line-enters, Known, on_table, Position, back, Stands}
 use Rattle.merge_laws.proofs.Others.{shown-of, hold-is}
 use Rattle.merge_laws.proofs.Own.{lp-of-event, with_hasher}
 use Rattle.merge_laws.proofs.Acts.{IsAct, CanWrite, OneAct}
@@ -455,4 +455,4 @@ module _ (ls : Laws) (o : Opening) (trees : ℕ → Call → Tree) (s : State) (
       → ((r : WordPlace) → IsIn o.machine r → t'.words (address o.machine.pages r) ≡ or_else (last_at (first_of (feed (trees p c) now) mem) r) (t.words (address o.machine.pages r)))
       → ((h : ℕ) → IsHkid o.machine h → IsHand (t'.slots (h - 1)) (or_else (last_put (puts_of (feed (trees p c) now) mem) h) (sd.slots.now h)))
       → (one : OneAct o trees s mem t t' pos p c (ca.told e).told run run' result sd.slots.now) × (one.owes ≡ owes_of (feed (trees p c) now) mem) × (one.swaps ≡ swaps_left (feed (trees p c) now) mem)
-  one-act has table slots = tree-acts (feed (trees p c) now) en.rest_is (leaves-follow-rows task moment now (are.means p c) at-moment en.current) en.gives has table slots
+  one-act has table slots = tree-acts (feed (trees p c) now) en.rest_is (leaves-follow-rows task moment now (means-here o trees are p c (s.lps p) ca.line) at-moment en.current) en.gives has table slots

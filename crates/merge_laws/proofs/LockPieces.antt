@@ -45,7 +45,7 @@ use Rattle.leaf_engine.proofs.Turning.{instant, at-instant, due-is}
 use Rattle.leaf_engine.proofs.Calling.{next-is, snoc}
 use Rattle.merge_laws.proofs.Virtual.{table_of}
 use Rattle.merge_laws.proofs.Holding.{bare, may-try}
-use Rattle.merge_laws.proofs.Standing.{Laws, leaf_for, AreTrees, Known, HandOf, RunsAt, Position, HasInHand, Rest, Stands}
+use Rattle.merge_laws.proofs.Standing.{means-here, Laws, leaf_for, AreTrees, Known, HandOf, RunsAt, Position, HasInHand, Rest, Stands}
 use Rattle.merge_laws.proofs.Others.{shown-of, hold-is}
 use Rattle.merge_laws.proofs.LockSteps.{OneStep, lock-step}
 use Rattle.merge_laws.proofs.Pieces.{Came}
@@ -198,7 +198,7 @@ pub try-piece : (ls : Laws) (o : Opening) (trees : ℕ → Call → Tree) (s : S
     → OwnTurns (leaf_for o trees p) o.machine (after_turn c cs (pos p).at.replies (beside_after e run'.rest (pos p).at.beside) run' (last_reply run'.stage run'.held)) tps end_
     → Came o trees p s t pos (Marked (Stepped (try_step at mode) seen)) (joined tps) end_
 try-piece ls o trees s mem t pos p c cs run run' e tree name at mode seen tps end_ a none st turn gives after an own =
-    by (feed (trees p c) told) (leaves-follow-rows task inst told (a.are.means p c) (at-instant o task (row_of o p c) s mem (table_of m mem.slots mem.words) run refl (shown-of o trees s mem t pos p c run a.known a.all a.inside (a.hand.trying st)) a.runs.call st) (a.runs.call.told st).current)
+    by (feed (trees p c) told) (leaves-follow-rows task inst told (means-here o trees a.are p c (s.lps p) a.runs.call.line) (at-instant o task (row_of o p c) s mem (table_of m mem.slots mem.words) run refl (shown-of o trees s mem t pos p c run a.known a.all a.inside (a.hand.trying st)) a.runs.call st) (a.runs.call.told st).current)
     (subst (λ (z : Tree). Wants m.pages z (need.Lock name at mode)) (ap settle (a.runs.call.told st).rest ∙ settled (trees p c) told) gives)
   where
     m : Machine

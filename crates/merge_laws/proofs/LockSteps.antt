@@ -36,7 +36,7 @@ use Rattle.leaf_engine.proofs.Turning.{calls-follow}
 use Rattle.merge_laws.proofs.Virtual.{table_of, holds-memory, step-same, step-elsewhere}
 use Rattle.merge_laws.proofs.Stores.{Due, last_at, laid, laid-none, laid-same}
 use Rattle.merge_laws.proofs.Holding.{bare, turned-round}
-use Rattle.merge_laws.proofs.Standing.{Laws, leaf_for, AreTrees, Known, HandOf, RunsAt, on_table, Position, Stands}
+use Rattle.merge_laws.proofs.Standing.{means-here, Laws, leaf_for, AreTrees, Known, HandOf, RunsAt, on_table, Position, Stands}
 use Rattle.merge_laws.proofs.Others.{shown-hand}
 use Rattle.merge_laws.proofs.SlotSteps.{slots-event}
 use Rattle.merge_laws.proofs.Own.{apart-from, grows-by, stands-after, world-of-event, at-other, gathered, none-due}
@@ -122,7 +122,7 @@ module _ (ls : Laws) (o : Opening) (trees : ℕ → Call → Tree) (s : State) (
   -- the call is after its step as its leaf says
   step-made : After o (leaf_for o trees p c) (row_of o p c) s (event o s p) shown_after run' result
   step-made =
-      calls-follow (engine ls) o (leaf_for o trees p c) (row_of o p c) s memory_in_hand shown_table shown_after run run' (Stepped st a ∷ []) result (are.means p c) refl
+      calls-follow (engine ls) o (leaf_for o trees p c) (row_of o p c) s memory_in_hand shown_table shown_after run run' (Stepped st a ∷ []) result (means-here o trees are p c (s.lps p) ra.call.line) refl
       (shown-hand o trees s mem t pos p c run known sd i ho) ra.call one.going one.turn
       (an ∙ answers-same t.words shown_table.words st (address machine.pages q) one.at word-shown, (refl, refl))
 

@@ -33,7 +33,7 @@ use Rattle.merge_laws.proofs.Stores.{Due, last_at, or_else, each-map, FillsAt, l
 use Rattle.merge_laws.proofs.Filling.{all_todos, dues-same, todos-kept}
 use Rattle.merge_laws.proofs.Keeping.{keeps-same}
 use Rattle.merge_laws.proofs.Holding.{bare, IsOlder, lock-stays, EachTold, told-reads, told-older, still-current}
-use Rattle.merge_laws.proofs.Standing.{Laws, leaf_for, AreTrees, Known, HandOf, RunsAt, RunAt, on_table, Fill, Position, seen_by, back, FillHolds, Pending, Holds, Stands}
+use Rattle.merge_laws.proofs.Standing.{means-here, Laws, leaf_for, AreTrees, Known, HandOf, RunsAt, RunAt, on_table, Fill, Position, seen_by, back, FillHolds, Pending, Holds, Stands}
 
 -- words that show a state, on a table that holds them, with the hasher that a run has in hand
 pub shown-hand : (o : Opening) (trees : ℕ → Call → Tree) (s : State) (mem : Memory) (t : Table) (pos : ℕ → Position) (p : ℕ) (c : Call) (run : Standing) → Known o s → Stands o trees s mem t pos → p < length o.calls
@@ -75,7 +75,7 @@ stable-told o trees s mem t pos p c run are known st i none ca e =
     let task : Task = leaf_for o trees p c in
     let told = ca.told e in
     let at : IsAt task (instant task s mem) = at-instant o task (row_of o p c) s mem (table_of o.machine mem.slots mem.words) run refl (shown-of o trees s mem t pos p c run known st i none) ca e in
-    let reads = told-reads o.machine (instant task s mem) (work_of task.meaning) [] (trees p c) ((work_of task.meaning).items s.world) told.told ((are.means p c).means (instant task s mem) at) told.current told.waits in
+    let reads = told-reads o.machine (instant task s mem) (work_of task.meaning) [] (trees p c) ((work_of task.meaning).items s.world) told.told ((means-here o trees are p c (s.lps p) ca.line).means (instant task s mem) at) told.current told.waits in
     let older = told-older (trees p c) told.told [] _ reads in
     each (trees p c) told.told [] (λ ks v q x. (
       subst (λ (hs : List Held). IsOlder ks hs) told.locks x.0,

@@ -39,7 +39,7 @@ use Rattle.merge_laws.proofs.Virtual.{table_of}
 use Rattle.merge_laws.proofs.Stores.{Due, last_at, or_else, first-at, not-at, laid, laid-one, laid-same, last-each, OwesAt, FillsAt}
 use Rattle.merge_laws.proofs.Keeping.{Keeps, keeps-same, laid-looks}
 use Rattle.merge_laws.proofs.Holding.{bare, turned-round}
-use Rattle.merge_laws.proofs.Standing.{Laws, leaf_for, AreTrees, Known, on_table, Fill, Position, back, Pending, Holds, Slots, Stands}
+use Rattle.merge_laws.proofs.Standing.{means-here, Laws, leaf_for, AreTrees, Known, on_table, Fill, Position, back, Pending, Holds, Slots, Stands}
 use Rattle.merge_laws.proofs.Others.{shown-of, hold-is}
 use Rattle.merge_laws.proofs.Swaps.{SwapDue}
 use Rattle.merge_laws.proofs.SlotSteps.{slots-stay, slots-swap}
@@ -96,7 +96,7 @@ pub loads-right : (ls : Laws) (o : Opening) (trees : ℕ → Call → Tree) (s :
     → (pos p).owes ≡ [] → run.hasher ≡ None → (ca : IsCallAt o (leaf_for o trees p c) (row_of o p c) s.world mem.words (s.lps p) run) → (e : run.stage ≡ stages.Trying)
     → IsLoadAt o.machine.pages (feed (trees p c) (ca.told e).told) at → a ≡ t.words at → LooksRight mem.words (feed (trees p c) (ca.told e).told) a
 loads-right ls o trees s mem t pos p c run at a are known sd i none no_hasher ca e load is =
-    by (feed (trees p c) told) (leaves-follow-rows task inst told (are.means p c) (at-instant o task (row_of o p c) s mem (table_of m mem.slots mem.words) run refl (shown-of o trees s mem t pos p c run known sd i no_hasher) ca e) (ca.told e).current) load
+    by (feed (trees p c) told) (leaves-follow-rows task inst told (means-here o trees are p c (s.lps p) ca.line) (at-instant o task (row_of o p c) s mem (table_of m mem.slots mem.words) run refl (shown-of o trees s mem t pos p c run known sd i no_hasher) ca e) (ca.told e).current) load
   where
     m : Machine
     m = o.machine

@@ -1,25 +1,28 @@
 -- A merge is a run of the flat machine, and none of its swaps misses.
-use Rattle.std.proofs.Common.{◌≡◌, ◌⊎◌, ℕ, zero, suc, ◌-◌, ◌<◌, ◌≤◌, List, [], ◌∷◌, ◌++◌, map, length, drop, Option, Some, None, refl, ap, sym, ◌∙◌, subst, inl, inr, arith}
+use Rattle.std.proofs.Common.{◌≡◌, ◌⊎◌, ℕ, zero, suc, false, ◌-◌, ◌<◌, ◌≤◌, List, [], ◌∷◌, ◌++◌, map, length, drop, Option, Some, None, refl, ap, sym, ◌∙◌, subst, inl, inr, arith}
 use Rattle.std.proofs.lemmas.Bool.{cases_lt}
 use Rattle.td_words.specs.declared.calls.Call.{Call}
+use Rattle.td_words.specs.declared.replies.Reply.{Reply}
 use Rattle.td_words.specs.Place.{address}
 use Rattle.mrtd_measure.specs.declared.measures.Measure.{Measure}
 use Rattle.flat_core.specs.Opening.{Opening}
+use Rattle.flat_core.specs.Table.{row_of}
 use Rattle.flat_core.specs.Event.{State, start, event, next_event, after_event, event_for, lines_left, calls_of}
 use Rattle.flat_core.specs.Run.{play, run, to_the_end}
 use Rattle.flat_core.proofs.Induction.{play_append}
+use Rattle.flat_core.proofs.Ends.{drop_next}
 use Rattle.step_core.specs.Words.{Words}
 use Rattle.step_core.specs.Items.{Table, PlaysTo}
 use Rattle.step_core.specs.declared.items.Taken.{Taken}
 use Rattle.leaf_engine.specs.declared.events.Event.{Event as RunEvent}
 use Rattle.leaf_engine.specs.Trees.{Tree}
-use Rattle.leaf_engine.specs.Besides.{beside_of}
+use Rattle.leaf_engine.specs.Besides.{Beside, beside_of, beside_after}
 use Rattle.leaf_engine.specs.Means.{Task, MeansRow}
 use Rattle.leaf_engine.specs.Changes.{Hand}
 use Rattle.leaf_engine.specs.Decides.{IsHand}
-use Rattle.leaf_engine.specs.Turns.{Standing}
+use Rattle.leaf_engine.specs.Turns.{Standing, last_reply, has_ended}
 use Rattle.leaf_engine.specs.Calls.{no_memory}
-use Rattle.leaf_engine.specs.OwnLists.{Piece, Unmarked, joined, marked_behind, running, WordLp, first_lp, LinesTurn, OwnTurns}
+use Rattle.leaf_engine.specs.OwnLists.{Piece, Unmarked, joined, marked_behind, running, WordLp, first_lp, after_turn, TurnIn, LineTurn, LinesTurn, OwnTurns}
 use Rattle.leaf_engine.specs.Merges.{Item, part, steps_taken, order, no_table, AreLeaves, LinesEnterNone}
 use Rattle.merge_laws.specs.Merge.{Merge}
 use Rattle.merge_laws.specs.Laws.{nothing_made, IsShownBy, IsWhere, MergesAreRuns}
@@ -34,14 +37,46 @@ use Rattle.merge_laws.proofs.Merged.{known-of, Through, through}
 abbrev trees_of : (ℕ → Call → Task) → ℕ → Call → Tree
 trees_of leaf p c = (leaf p c).tree
 
-leaves-are : (o : Opening) (leaf : ℕ → Call → Task) → AreLeaves o leaf → leaf ≡ leaf_for o (trees_of leaf)
-leaves-are o leaf are = λ i p c. record { place = record { machine = are.machine p c i; lp = are.processor p c i }; tree = (leaf p c).tree; meaning = are.row p c i }
+leaves-are : (o : Opening) (leaf : ℕ → Call → Task) → AreLeaves o leaf → (p : ℕ) (c : Call) → (row_of o p c).enters ≡ None → leaf p c ≡ leaf_for o (trees_of leaf) p c
+leaves-are o leaf are p c none = λ i. record { place = record { machine = are.machine p c i; lp = are.processor p c i }; tree = (leaf p c).tree; meaning = are.row p c none i }
 
 trees-are : (o : Opening) (leaf : ℕ → Call → Task) → AreLeaves o leaf → LinesEnterNone o → AreTrees o (trees_of leaf)
 trees-are o leaf are none = record {
-  means = λ p c. subst (λ (f : ℕ → Call → Task). MeansRow (f p c)) (leaves-are o leaf are) (are.means p c);
+  means = λ p c enters. subst (λ (f : Task). MeansRow f) (leaves-are o leaf are p c enters) (are.means p c enters);
   enters_none = none;
 }
+
+-- so an own list is one of them, as no line enters a guest
+module _ (o : Opening) (leaf : ℕ → Call → Task) (are : AreLeaves o leaf) (none : LinesEnterNone o) (p : ℕ) where
+  abbrev tree_leaf : Call → Task
+  tree_leaf = leaf_for o (trees_of leaf) p
+
+  turn-as : (c : Call) (cs : List Call) (run : Option Standing) (rs : List Reply) (b : Beside) (e : RunEvent) (ps : List Piece) (after : WordLp) → leaf p c ≡ tree_leaf c
+      → LineTurn (leaf p) o.machine c cs run rs b e ps after → LineTurn tree_leaf o.machine c cs run rs b e ps after
+  turn-as c cs run rs b e ps after same t = record {
+    stands = t.stands;
+    turn = subst (λ (f : Task). TurnIn (running f run).stage o.machine (running f run) ps t.stands e) same t.turn;
+    going = subst (λ (f : Task). has_ended (running f run).stage (running f run).held ≡ false) same t.going;
+    after_is = t.after_is;
+  }
+
+  -- the lines that are left after a turn are the last of the processor's too
+  lines-after : (n : ℕ) (c : Call) (cs : List Call) (rs : List Reply) (b : Beside) (s : Standing) (reply : Option Reply) → drop n (calls_of o.calls p) ≡ c ∷ cs → (m : ℕ) × (drop m (calls_of o.calls p) ≡ (after_turn c cs rs b s reply).lines)
+  lines-after n c cs rs b s None lines = (n, lines)
+  lines-after n c cs rs b s (Some r) lines = (suc n, drop_next n (calls_of o.calls p) c cs lines)
+
+  one-turn : (n : ℕ) (cs : List Call) (at after : WordLp) (e : RunEvent) (ps : List Piece) → drop n (calls_of o.calls p) ≡ cs → LinesTurn (leaf p) o.machine cs at.run at.replies at.beside e ps after
+      → LinesTurn tree_leaf o.machine cs at.run at.replies at.beside e ps after × ((m : ℕ) × (drop m (calls_of o.calls p) ≡ after.lines))
+  one-turn n [] at after e ps l t = absurd t
+  one-turn n (c ∷ cs) at after e ps l t =
+      let left = lines-after n c cs at.replies (beside_after e t.stands.rest at.beside) t.stands (last_reply t.stands.stage t.stands.held) l in
+      (turn-as c cs at.run at.replies at.beside e ps after (leaves-are o leaf are p c (none p n c cs l)) t, (left.0, left.1 ∙ ap (λ (x : WordLp). x.lines) (sym t.after_is)))
+
+  own-as : (pss : List (List Piece)) (at now : WordLp) (n : ℕ) → drop n (calls_of o.calls p) ≡ at.lines → OwnTurns (leaf p) o.machine at pss now → OwnTurns tree_leaf o.machine at pss now
+  own-as [] at now n lines own = own
+  own-as (ps ∷ pss) at now n lines (e, (after, turn, rest)) =
+      let one = one-turn n at.lines at after e ps lines turn in
+      (e, (after, one.0, own-as pss after now one.1.0 one.1.1 rest))
 
 -- the start
 
@@ -142,7 +177,7 @@ merges ls o leaf is now u most are none merge =
     let trees = trees_of leaf in
     let known : Known o (start o None) = known-of ls o [] (start o None) most refl refl refl in
     let own : (p : ℕ) → p < length o.calls → OwnTurns (leaf_for o trees p) o.machine (first_lp (calls_of o.calls p)) (merge.own p) (now p) =
-    λ p i. subst (λ (f : ℕ → Call → Task). OwnTurns (f p) o.machine (first_lp (calls_of o.calls p)) (merge.own p) (now p)) (leaves-are o leaf are) (merge.turns p i) in
+    λ p i. own-as o leaf are none p (merge.own p) (first_lp (calls_of o.calls p)) (now p) 0 refl (merge.turns p i) in
     let went =
     through ls o trees is (start o None) no_memory no_table u (first_position o) now most (trees-are o leaf are none) known (starts ls o trees)
     (λ p i. rest-first p (part p is) (merge.own p) (merge.merge.each p i) (own p i)) merge.merge.nothing_else merge.plays in

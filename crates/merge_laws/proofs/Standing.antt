@@ -75,12 +75,16 @@ abbrev pub leaf_for : Opening → (ℕ → Call → Tree) → ℕ → Call → T
 leaf_for o trees p c = record { place = record { machine = o.machine; lp = p }; tree = trees p c; meaning = OfCall (row_of o p c) }
 
 pub record AreTrees (o : Opening) (trees : ℕ → Call → Tree) : Type 0 where
-  pub means : (p : ℕ) (c : Call) → MeansRow (leaf_for o trees p c)
+  pub means : (p : ℕ) (c : Call) → (row_of o p c).enters ≡ None → MeansRow (leaf_for o trees p c)
   pub enters_none : LinesEnterNone o
 
 -- the row of a call that is on its way enters none
 pub line-enters : (o : Opening) → LinesEnterNone o → (p : ℕ) (row : Row) (lp : Lp) → IsLine o p row lp → row.enters ≡ None
 line-enters o none p row lp at = subst (λ (r : Row). r.enters ≡ None) at.row_is (none p (length lp.replies) at.call at.further at.lines)
+
+-- and so its leaf means it
+pub means-here : (o : Opening) (trees : ℕ → Call → Tree) → AreTrees o trees → (p : ℕ) (c : Call) (lp : Lp) → IsLine o p (row_of o p c) lp → MeansRow (leaf_for o trees p c)
+means-here o trees are p c lp at = are.means p c (line-enters o are.enters_none p (row_of o p c) lp at)
 
 -- what is known of a state that a run reaches
 pub record Known (o : Opening) (s : State) : Type 0 where
