@@ -1,11 +1,11 @@
 -- A merge of one list is that list: nobody else has a swap under way, so none misses.
-use Rattle.std.proofs.Common.{◌≡◌, ◌≢◌, ◌⊎◌, inl, inr, refl, sym, ◌∙◌, ap, subst, ℕ, zero, suc, ◌==◌, if◌then◌else◌, true, false, Bool, List, [], ◌∷◌, arith, slice_index_or}
+use Rattle.std.proofs.Common.{◌≡◌, ◌≢◌, ◌⊎◌, inl, inr, refl, sym, ◌∙◌, ap, subst, ℕ, zero, suc, ◌==◌, if◌then◌else◌, true, false, Bool, List, [], ◌∷◌, slice_index_or}
 use Rattle.std.proofs.lemmas.Bool.Decides.{eqb_tells}
 use Rattle.td_words.specs.declared.machines.Machine.{Machine}
 use Rattle.step_core.specs.Items.{Table, PlaysTo}
 use Rattle.step_core.specs.declared.items.Taken.{Taken}
 use Rattle.step_core.specs.declared.items.Taken.TheVariants.{Stepped, Swapped, Missed}
-use Rattle.trace_table.specs.Merges.{Made, part, IsUnderWay, TakenFits, taken_after, MergePlays, no_table, MergesTo}
+use Rattle.trace_table.specs.Merges.{Made, part, TakenFits, taken_after, MergePlays, no_table, MergesTo}
 
 abbrev is-empty : List Taken → Type 0
 is-empty [] = Unit {0}

@@ -13,7 +13,7 @@ use Rattle.step_core.specs.declared.items.Taken.TheVariants.{Stepped, Swapped, M
 use Rattle.trace_table.specs.declared.told.Told.{Told}
 use Rattle.trace_table.specs.Merges.{Made, part, IsMergeOf, TakenFits, taken_after, MergePlays, no_table, MergesTo}
 use Rattle.trace_table.specs.Views.{guards}
-use Rattle.trace_table.specs.Kept.{Fits, Plays, Hall, Kept}
+use Rattle.trace_table.specs.Kept.{Fits, Plays, TableState, Kept}
 use Rattle.trace_table.proofs.Lists.{none-some, none-due, looked-up}
 
 looked : (ls : List ℕ) (i x : ℕ) → get_elem? ls i ≡ some x → slice_index ls i ≡ x
@@ -45,7 +45,7 @@ module _ (due : ℕ → Option ℕ) (none-out : (p : ℕ) → due p ≡ None) wh
   plays-all [] t u h = (ap (λ (z : Table). z.words) h, ap (λ (z : Table). z.slots) h)
   plays-all (m ∷ ms) t u h = (fits-all ms t m.list m.taken h.0, plays-all ms (taken_after t m.taken) u h.1)
 
-pub closes : (m : Machine) (s : Hall) → Kept m s → (id : ℕ) (v : Told) → get_elem? s.views id ≡ some v → v.first ≡ true → v.out ≡ 0 → v.under_way ≡ None
+pub closes : (m : Machine) (s : TableState) → Kept m s → (id : ℕ) (v : Told) → get_elem? s.views id ≡ some v → v.first ≡ true → v.out ≡ 0 → v.under_way ≡ None
     → (words : List ℕ) → length words ≡ word_count m → ((n : ℕ) → n < length words → slice_index words n ≡ slice_index s.words (guards + n)) → MergesTo m v.lists words
 closes m s k id v at is-first none-out idle words count are = record {
   made = k.made;

@@ -10,7 +10,7 @@ use Rattle.step_core.specs.declared.items.Taken.{Taken}
 use Rattle.trace_table.specs.declared.told.Told.{Told}
 use Rattle.trace_table.specs.Merges.{no_table}
 use Rattle.trace_table.specs.Views.{guards, first_told}
-use Rattle.trace_table.specs.Kept.{Hall, Holders, IsList, IsTrue, Kept, due_at}
+use Rattle.trace_table.specs.Kept.{TableState, Holders, IsList, IsTrue, Kept, due_at}
 use Rattle.trace_table.proofs.Lists.{none-some}
 
 zeros : (n i : ℕ) → slice_index (replicate n 0) i ≡ 0
@@ -38,7 +38,7 @@ first-list : (q : ℕ) (xs : List Taken) → get_elem? first_told.lists q ≡ so
 first-list zero xs e = record { owner = refl; is = some-injective [] xs e; due_is = refl; inside = omega arith }
 first-list (suc q) xs e = absurd (some-ne-none xs (sym e))
 
-first-true : (m : Machine) (s : Hall) → IsTrue m s [] no_table nobody 0 first_told
+first-true : (m : Machine) (s : TableState) → IsTrue m s [] no_table nobody 0 first_told
 first-true m s = record {
   lists = first-list;
   first = λ e. (refl, refl, refl);
@@ -49,8 +49,8 @@ first-true m s = record {
 pub opens : (m : Machine) (words : List ℕ) (homes : List (Option Measure)) → m.hkids < guards → words ≡ replicate (guards + word_count m) 0 → homes ≡ replicate m.hkids None → Kept m (opening words homes first_told)
 opens m words homes narrow ws hs = subst (λ (z : List ℕ). Kept m (opening z homes first_told)) (sym ws) (subst (λ (z : List (Option Measure)). Kept m (opening (replicate (guards + word_count m) 0) z first_told)) (sym hs) opened)
   where
-    hall : Hall
-    hall = opening (replicate (guards + word_count m) 0) (replicate m.hkids None) first_told
+    next_state : TableState
+    next_state = opening (replicate (guards + word_count m) 0) (replicate m.hkids None) first_told
 
     views-are : (id : ℕ) (v : Told) → get_elem? (first_told ∷ []) id ≡ some v → IsTrue m (opening (replicate (guards + word_count m) 0) (replicate m.hkids None) first_told) [] no_table nobody id v
     views-are zero v e = subst (λ (z : Told). IsTrue m (opening (replicate (guards + word_count m) 0) (replicate m.hkids None) first_told) [] no_table nobody 0 z) (some-injective first_told v e) (first-true m (opening (replicate (guards + word_count m) 0) (replicate m.hkids None) first_told))

@@ -13,14 +13,14 @@ use Rattle.step_core.specs.declared.items.Taken.{Taken}
 use Rattle.trace_table.specs.declared.told.Told.{Told}
 use Rattle.trace_table.specs.Merges.{part, no_table}
 use Rattle.trace_table.specs.Views.{new_told, spent_told, one_more_out, joined_told}
-use Rattle.trace_table.specs.Kept.{Hall, Holders, IsSlot, IsList, IsTrue, Kept, slot_of, due_at}
+use Rattle.trace_table.specs.Kept.{TableState, Holders, IsSlot, IsList, IsTrue, Kept, slot_of, due_at}
 use Rattle.trace_table.proofs.Merging.{turned, turned-second, turned-else, turned-again, renumbered, part-renumbered, plays-renumbered}
 use Rattle.trace_table.proofs.Lists.{none-some, own_of, own-there, at-inside, in-two, at-end, none-due}
 use Rattle.trace_table.proofs.Openings.{true-false}
 use Rattle.trace_table.proofs.Steps.{mine}
 
 -- who has a slot out is another seat than one that has no swap under way
-idle-taker : (s : Hall) (h : Holders) (id : ℕ) (v : Told) → get_elem? s.views id ≡ some v → v.under_way ≡ None → (j : ℕ) (u : Told) → get_elem? s.views (h.taker j) ≡ some u → slot_of u.under_way ≡ Some j → h.taker j ≢ id
+idle-taker : (s : TableState) (h : Holders) (id : ℕ) (v : Told) → get_elem? s.views id ≡ some v → v.under_way ≡ None → (j : ℕ) (u : Told) → get_elem? s.views (h.taker j) ≡ some u → slot_of u.under_way ≡ Some j → h.taker j ≢ id
 idle-taker s h id v at idle j u there busy e =
     let same : u ≡ v = some-injective u v (sym there ∙ (ap (get_elem? s.views) e ∙ at)) in
     absurd (none-some j (sym (ap slot_of idle) ∙ (sym (ap (λ (z : Told). slot_of z.under_way) same) ∙ busy)))
@@ -49,13 +49,13 @@ splits m id v is-first own idle s k at = record {
     h' : Holders
     h' = record k.holders { base = λ i. if i == length s.views then k.holders.total else k.holders.base i; owner = λ p. if p == k.holders.total then length s.views else k.holders.owner p; total = k.holders.total + 1 }
 
-    hall : Hall
-    hall = record { words = s.words; homes = s.homes; views = slice_set s.views id (one_more_out v) ++ new_told ∷ [] }
+    next_state : TableState
+    next_state = record { words = s.words; homes = s.homes; views = slice_set s.views id (one_more_out v) ++ new_told ∷ [] }
 
     f : (k.holders.base id ≡ 0) × (k.holders.kept ≡ length v.lists) × (k.holders.total ≡ length v.lists + v.out)
     f = (k.views id v at).first is-first
 
-    slots-are : (j : ℕ) → j < m.hkids → IsSlot hall k.table h' j
+    slots-are : (j : ℕ) → j < m.hkids → IsSlot next_state k.table h' j
     slots-are j lt = (
       (k.slots j lt).0,
       (λ nz.
@@ -78,7 +78,7 @@ splits m id v is-first own idle s k at = record {
     listed : (j : ℕ) (v' : Told) (q : ℕ) (xs : List Taken) → j < length s.views → IsList k.made k.holders j (k.holders.base j + q) xs (due_at v'.under_way q) → IsList k.made h' j (h'.base j + q) xs (due_at v'.under_way q)
     listed j v' q xs lt o = subst (λ (b : ℕ). IsList k.made h' j (b + q) xs (due_at v'.under_way q)) (sym (base-else j lt)) (stays j (k.holders.base j + q) xs (due_at v'.under_way q) o)
 
-    first-true : IsTrue m hall k.made k.table h' id (one_more_out v)
+    first-true : IsTrue m next_state k.made k.table h' id (one_more_out v)
     first-true = record {
       lists = λ q xs e. listed id v q xs (at-inside s.views id v at) ((k.views id v at).lists q xs e);
       first = λ e. (base-else id (at-inside s.views id v at) ∙ f.0, f.1, (let t = f.2 in omega (arith, t)));
@@ -86,7 +86,7 @@ splits m id v is-first own idle s k at = record {
       busy = λ x b. absurd (none-some x (sym idle ∙ b));
     }
 
-    other-true : (j : ℕ) (v' : Told) → j ≢ id → get_elem? s.views j ≡ some v' → IsTrue m hall k.made k.table h' j v'
+    other-true : (j : ℕ) (v' : Told) → j ≢ id → get_elem? s.views j ≡ some v' → IsTrue m next_state k.made k.table h' j v'
     other-true j v' ne at' =
         let lt = at-inside s.views j v' at' in
         let them = k.views j v' at' in
@@ -103,9 +103,9 @@ splits m id v is-first own idle s k at = record {
             let some-list : 0 < length v'.lists = subst (λ (n : ℕ). 0 < n) (sym f.1 ∙ g.1) own in
             sym (mine m s k j v' at' some-list).owner ∙ (ap k.holders.owner (g.0 ∙ sym f.0) ∙ (mine m s k id v at own).owner)
 
-    before : (j : ℕ) (v' : Told) → get_elem? (slice_set s.views id (one_more_out v)) j ≡ some v' → IsTrue m hall k.made k.table h' j v'
+    before : (j : ℕ) (v' : Told) → get_elem? (slice_set s.views id (one_more_out v)) j ≡ some v' → IsTrue m next_state k.made k.table h' j v'
     before j v' e = ⊎_elim
-        (λ t. subst (λ (z : ℕ). IsTrue m hall k.made k.table h' z v') (sym t.0) (subst (λ (z : Told). IsTrue m hall k.made k.table h' id z) t.1 first-true))
+        (λ t. subst (λ (z : ℕ). IsTrue m next_state k.made k.table h' z v') (sym t.0) (subst (λ (z : Told). IsTrue m next_state k.made k.table h' id z) t.1 first-true))
         (λ t. other-true j v' t.0 t.1)
         (at_set s.views id j (one_more_out v) v' e)
 
@@ -121,7 +121,7 @@ splits m id v is-first own idle s k at = record {
     })
     new-list (suc q) xs e = absurd (some-ne-none xs (sym e))
 
-    new-true : IsTrue m hall k.made k.table h' (length s.views) new_told
+    new-true : IsTrue m next_state k.made k.table h' (length s.views) new_told
     new-true = record {
       lists = new-list;
       first = λ e. absurd (true-false (sym e));
@@ -129,8 +129,8 @@ splits m id v is-first own idle s k at = record {
       busy = λ x b. absurd (none-some x b);
     }
 
-    behind : (j : ℕ) (v' : Told) → (j ≡ length (slice_set s.views id (one_more_out v))) × (new_told ≡ v') → IsTrue m hall k.made k.table h' j v'
-    behind j v' t = subst (λ (z : Told). IsTrue m hall k.made k.table h' j z) t.1 (subst (λ (z : ℕ). IsTrue m hall k.made k.table h' z new_told) (sym (t.0 ∙ length-set s.views id (one_more_out v))) new-true)
+    behind : (j : ℕ) (v' : Told) → (j ≡ length (slice_set s.views id (one_more_out v))) × (new_told ≡ v') → IsTrue m next_state k.made k.table h' j v'
+    behind j v' t = subst (λ (z : Told). IsTrue m next_state k.made k.table h' j z) t.1 (subst (λ (z : ℕ). IsTrue m next_state k.made k.table h' z new_told) (sym (t.0 ∙ length-set s.views id (one_more_out v))) new-true)
 
 -- The list that is taken in changes its number with the one behind those that the first seat keeps.
 pub joins : (m : Machine) (id : ℕ) (v : Told) (other : ℕ) (w : Told) → v.first ≡ true → 0 < length v.lists → v.under_way ≡ None → w.first ≡ false → length w.lists ≡ 1 → w.under_way ≡ None → Joins (Kept m) id v other w (joined_told v w) spent_told
@@ -186,10 +186,10 @@ joins m id v other w is-first own idle is-other one idle' s k at ne at2 = record
     h' : Holders
     h' = record k.holders { base = λ i. turn (k.holders.base i); owner = λ p. if p == n then id else k.holders.owner (turn p); due = λ p. k.holders.due (turn p); kept = n + 1 }
 
-    hall : Hall
-    hall = record { words = s.words; homes = s.homes; views = slice_set (slice_set s.views id (joined_told v w)) other spent_told }
+    next_state : TableState
+    next_state = record { words = s.words; homes = s.homes; views = slice_set (slice_set s.views id (joined_told v w)) other spent_told }
 
-    slots-are : (j : ℕ) → j < m.hkids → IsSlot hall k.table h' j
+    slots-are : (j : ℕ) → j < m.hkids → IsSlot next_state k.table h' j
     slots-are j lt = (
       (k.slots j lt).0,
       (λ nz.
@@ -249,7 +249,7 @@ joins m id v other w is-first own idle is-other one idle' s k at ne at2 = record
             let same : own_of w.lists ≡ xs = some-injective (own_of w.lists) xs (sym (own-there w.lists some-w) ∙ (ap (get_elem? w.lists) (sym z0) ∙ t.2)) in
             subst (λ (p : ℕ). IsList (renumbered turn k.made) h' id p xs None) r-n (subst (λ (ys : List Taken). IsList (renumbered turn k.made) h' id n ys None) same taken-in)
 
-    both-true : IsTrue m hall (renumbered turn k.made) k.table h' id (joined_told v w)
+    both-true : IsTrue m next_state (renumbered turn k.made) k.table h' id (joined_told v w)
     both-true = record {
       lists = both-list;
       first = λ e. (
@@ -261,7 +261,7 @@ joins m id v other w is-first own idle is-other one idle' s k at ne at2 = record
       busy = λ x b. absurd (none-some x (sym idle ∙ b));
     }
 
-    spent-true : IsTrue m hall (renumbered turn k.made) k.table h' other spent_told
+    spent-true : IsTrue m next_state (renumbered turn k.made) k.table h' other spent_told
     spent-true = record {
       lists = λ r xs e. absurd (some-ne-none xs (sym e));
       first = λ e. absurd (true-false (sym e));
@@ -269,7 +269,7 @@ joins m id v other w is-first own idle is-other one idle' s k at ne at2 = record
       busy = λ x b. absurd (none-some x b);
     }
 
-    further-true : (j : ℕ) (v' : Told) → j ≢ id → j ≢ other → get_elem? s.views j ≡ some v' → IsTrue m hall (renumbered turn k.made) k.table h' j v'
+    further-true : (j : ℕ) (v' : Told) → j ≢ id → j ≢ other → get_elem? s.views j ≡ some v' → IsTrue m next_state (renumbered turn k.made) k.table h' j v'
     further-true j v' nid not at' = record {
       lists = listed;
       first = λ e. absurd (nid (twice (them.first e)));
@@ -311,11 +311,11 @@ joins m id v other w is-first own idle is-other one idle' s k at ne at2 = record
             by (inl t) = subst (λ (z : ℕ). n + 1 ≤ z) (sym (ap turn t.1 ∙ turned-second q n)) (above n q n-first (λ z. apart h (t.1 ∙ z)))
             by (inr u) = subst (λ (z : ℕ). n + 1 ≤ z) (sym (turned-else q n (k.holders.base j) (apart h) u.1)) (above n (k.holders.base j) low (λ z. u.1 (sym z)))
 
-    views-are : (j : ℕ) (v' : Told) → get_elem? (slice_set (slice_set s.views id (joined_told v w)) other spent_told) j ≡ some v' → IsTrue m hall (renumbered turn k.made) k.table h' j v'
+    views-are : (j : ℕ) (v' : Told) → get_elem? (slice_set (slice_set s.views id (joined_told v w)) other spent_told) j ≡ some v' → IsTrue m next_state (renumbered turn k.made) k.table h' j v'
     views-are j v' e = ⊎_elim
-        (λ t. subst (λ (z : ℕ). IsTrue m hall (renumbered turn k.made) k.table h' z v') (sym t.0) (subst (λ (z : Told). IsTrue m hall (renumbered turn k.made) k.table h' other z) t.1 spent-true))
+        (λ t. subst (λ (z : ℕ). IsTrue m next_state (renumbered turn k.made) k.table h' z v') (sym t.0) (subst (λ (z : Told). IsTrue m next_state (renumbered turn k.made) k.table h' other z) t.1 spent-true))
         (λ t. ⊎_elim
-        (λ a. subst (λ (z : ℕ). IsTrue m hall (renumbered turn k.made) k.table h' z v') (sym a.0) (subst (λ (z : Told). IsTrue m hall (renumbered turn k.made) k.table h' id z) a.1 both-true))
+        (λ a. subst (λ (z : ℕ). IsTrue m next_state (renumbered turn k.made) k.table h' z v') (sym a.0) (subst (λ (z : Told). IsTrue m next_state (renumbered turn k.made) k.table h' id z) a.1 both-true))
         (λ a. further-true j v' a.0 t.0 a.1)
         (at_set s.views id j (joined_told v w) v' t.1))
         (at_set (slice_set s.views id (joined_told v w)) other j spent_told v' e)

@@ -23,8 +23,8 @@ use Rattle.trace_table.specs.declared.told.Told.{Told}
 use Rattle.trace_table.specs.declared.benches.SharedBench.{SharedBench}
 use Rattle.trace_table.specs.Merges.{Made, part, taken_after, no_table}
 use Rattle.trace_table.specs.Views.{guards, grown, grown_in, IsAtRest}
-use Rattle.trace_table.specs.Kept.{Fits, Hall, IsSlot, IsList, IsTrue, Kept, slot_of, due_at}
-use Rattle.trace_table.specs.Tells.{Sat, loaded, stored, added, taken_off, exchanged}
+use Rattle.trace_table.specs.Kept.{Fits, TableState, IsSlot, IsList, IsTrue, Kept, slot_of, due_at}
+use Rattle.trace_table.specs.Tells.{Seated, loaded, stored, added, taken_off, exchanged}
 use Rattle.trace_table.proofs.Merging.{made_by, part-own, part-other, plays-more}
 use Rattle.trace_table.proofs.Lists.{none-some, own_of, own-there, grown-length, grown-there}
 
@@ -35,7 +35,7 @@ after-elsewhere w (Add at v) n ne = rw (ne_eqb n at ne) refl
 after-elsewhere w (Sub at v) n ne = rw (ne_eqb n at ne) refl
 after-elsewhere w (Exchange at old new) n ne = rw (ne_eqb n at ne) refl
 
-module _ (m : Machine) (s : Hall) (k : Kept m s) (id : ℕ) (v : Told) (at : get_elem? s.views id ≡ some v) (own : 0 < length v.lists) where
+module _ (m : Machine) (s : TableState) (k : Kept m s) (id : ℕ) (v : Told) (at : get_elem? s.views id ≡ some v) (own : 0 < length v.lists) where
   -- the number of the seat's own list
   abbrev pub here : ℕ
   here = k.holders.base id
@@ -110,10 +110,10 @@ module _ (m : Machine) (s : Hall) (k : Kept m s) (id : ℕ) (v : Told) (at : get
       w : Told
       w = grown v (x ∷ [])
 
-      hall : Hall
-      hall = record { words = ws; homes = s.homes; views = slice_set s.views id w }
+      next_state : TableState
+      next_state = record { words = ws; homes = s.homes; views = slice_set s.views id w }
 
-      slots-are : (j : ℕ) → j < m.hkids → IsSlot hall t' k.holders j
+      slots-are : (j : ℕ) → j < m.hkids → IsSlot next_state t' k.holders j
       slots-are j lt = (
         (λ z. subst (λ (y : Option Measure). get_elem? s.homes j ≡ some (some y)) (sym (slots' j)) ((k.slots j lt).0 (sym (guards' j lt) ∙ z))),
         (λ nz.
@@ -121,10 +121,10 @@ module _ (m : Machine) (s : Hall) (k : Kept m s) (id : ℕ) (v : Told) (at : get
             (old.0, set_else s.views id (k.holders.taker j) w (not-taker idle j old.0 old.1 old.2) ∙ old.1, old.2)),
       )
 
-      own-true : IsTrue m hall made' t' k.holders id w
+      own-true : IsTrue m next_state made' t' k.holders id w
       own-true = record { lists = lists-more x; first = first-more x; other = other-more x; busy = λ y e. absurd (none-some y (sym idle ∙ e)) }
 
-      other-true : (id' : ℕ) (v' : Told) → id' ≢ id → get_elem? s.views id' ≡ some v' → IsTrue m hall made' t' k.holders id' v'
+      other-true : (id' : ℕ) (v' : Told) → id' ≢ id → get_elem? s.views id' ≡ some v' → IsTrue m next_state made' t' k.holders id' v'
       other-true id' v' ne at' = record {
         lists = lists-others x id' v' ne at';
         first = (k.views id' v' at').first;
@@ -140,9 +140,9 @@ module _ (m : Machine) (s : Hall) (k : Kept m s) (id : ℕ) (v : Told) (at : get
             };
       }
 
-      views-are : (id' : ℕ) (v' : Told) → get_elem? (slice_set s.views id w) id' ≡ some v' → IsTrue m hall made' t' k.holders id' v'
+      views-are : (id' : ℕ) (v' : Told) → get_elem? (slice_set s.views id w) id' ≡ some v' → IsTrue m next_state made' t' k.holders id' v'
       views-are id' v' e = ⊎_elim
-          (λ t. subst (λ (z : ℕ). IsTrue m hall made' t' k.holders z v') (sym t.0) (subst (λ (z : Told). IsTrue m hall made' t' k.holders id z) t.1 own-true))
+          (λ t. subst (λ (z : ℕ). IsTrue m next_state made' t' k.holders z v') (sym t.0) (subst (λ (z : Told). IsTrue m next_state made' t' k.holders id z) t.1 own-true))
           (λ t. other-true id' v' t.0 t.1)
           (at_set s.views id id' w v' e)
 
@@ -160,8 +160,8 @@ module _ (m : Machine) (s : Hall) (k : Kept m s) (id : ℕ) (v : Told) (at : get
           by (inr f) = get_or-set_other s.words (guards + n) (guards + n') x 0 (λ e. f.1 (omega (arith, e))) ∙ (k.words n' lt' ∙ sym (after-elsewhere k.table.words st n' (λ e. f.1 (e ∙ adr))))
 
 -- a step on a word is allowed
-pub word-allowed : (m : Machine) (slots id : ℕ) (me : Sat) (n : ℕ) → n < word_count m → (st : WordStep) → address_of st ≡ n → (f answer : ℕ → ℕ) → ((w : Words) → f (w n) ≡ after_step w st n) → ((w : Words) → answer (w n) ≡ answer_of w st)
-    → 0 < length me.0.lists → me.0.under_way ≡ None → (tells : ℕ → Sat → Type 0) → ((found : ℕ) → tells found (grown me.0 (Stepped st (answer found) ∷ []), me.1)) → Allows (Kept m) slots id me (guards + n) f tells
+pub word-allowed : (m : Machine) (slots id : ℕ) (me : Seated) (n : ℕ) → n < word_count m → (st : WordStep) → address_of st ≡ n → (f answer : ℕ → ℕ) → ((w : Words) → f (w n) ≡ after_step w st n) → ((w : Words) → answer (w n) ≡ answer_of w st)
+    → 0 < length me.0.lists → me.0.under_way ≡ None → (tells : ℕ → Seated → Type 0) → ((found : ℕ) → tells found (grown me.0 (Stepped st (answer found) ∷ []), me.1)) → Allows (Kept m) slots id me (guards + n) f tells
 word-allowed m slots id me n lt st adr f answer becomes answers own idle tells told s k len at small =
     let found : ℕ = slice_index s.words (guards + n) in (
       grown me.0 (Stepped st (answer found) ∷ []),
@@ -176,7 +176,7 @@ minus n = omega arith
 
 -- what a bench owes at a step on a word
 pub perform-allowed : (b : SharedBench) (step st : WordStep) (n : ℕ) → step ≡ st → address_of st ≡ n → address_of step < word_count b.machine → (f answer : ℕ → ℕ) → ((w : Words) → f (w n) ≡ after_step w st n) → ((w : Words) → answer (w n) ≡ answer_of w st)
-    → (tells : ℕ → Sat → Type 0) → ((found : ℕ) → tells found (grown b.seat.me.0 (Stepped st (answer found) ∷ []), b.seat.me.1))
+    → (tells : ℕ → Seated → Type 0) → ((found : ℕ) → tells found (grown b.seat.me.0 (Stepped st (answer found) ∷ []), b.seat.me.1))
     → (b.seat.table_id ≡ b.table.now.table_id) × (guards + n < b.table.now.table_id.words) × Allows (Kept b.table.now.key) b.table.now.table_id.slots b.seat.id b.seat.me (guards + n) f tells
 perform-allowed b step st n is adr inside f answer becomes answers tells told =
     let lt : n < word_count b.machine = subst (λ (z : ℕ). z < word_count b.machine) (ap address_of is ∙ adr) inside in (
@@ -194,43 +194,43 @@ pub load-allowed : (b : SharedBench) (step : WordStep) (n slots : ℕ) → step 
     × Allows (Kept b.table.now.key) b.table.now.table_id.slots b.seat.id b.seat.me (guards + n) (λ x. x) (loaded (Rattle.atomic_table.specs.Table.step slots (guards + n) 0 0 none) b.seat.me)
 load-allowed b step n slots is inside =
     perform-allowed b step (Load n) n is refl inside (λ x. x) (λ x. x) (λ w. refl) (λ w. refl) (loaded (Rattle.atomic_table.specs.Table.step slots (guards + n) 0 0 none) b.seat.me)
-    (λ found. ap {B = Sat} (λ (z : ℕ). (grown b.seat.me.0 (Stepped (Load z) found ∷ []), b.seat.me.1)) (minus n))
+    (λ found. ap {B = Seated} (λ (z : ℕ). (grown b.seat.me.0 (Stepped (Load z) found ∷ []), b.seat.me.1)) (minus n))
 
 pub store-allowed : (b : SharedBench) (step : WordStep) (n v slots : ℕ) → step ≡ Store n v → address_of step < word_count b.machine
     → (b.seat.table_id ≡ b.table.now.table_id) × (guards + n < b.table.now.table_id.words)
     × Allows (Kept b.table.now.key) b.table.now.table_id.slots b.seat.id b.seat.me (guards + n) (λ x. v) (λ x. stored (Rattle.atomic_table.specs.Table.step slots (guards + n) v 0 none) b.seat.me v)
 store-allowed b step n v slots is inside =
     perform-allowed b step (Store n v) n is refl inside (λ x. v) (λ x. 0) (λ w. rw (eq-eqb n n refl) refl) (λ w. refl) (λ x. stored (Rattle.atomic_table.specs.Table.step slots (guards + n) v 0 none) b.seat.me v)
-    (λ found. ap {B = Sat} (λ (z : ℕ). (grown b.seat.me.0 (Stepped (Store z v) 0 ∷ []), b.seat.me.1)) (minus n))
+    (λ found. ap {B = Seated} (λ (z : ℕ). (grown b.seat.me.0 (Stepped (Store z v) 0 ∷ []), b.seat.me.1)) (minus n))
 
 pub add-allowed : (b : SharedBench) (step : WordStep) (n v slots : ℕ) → step ≡ Add n v → address_of step < word_count b.machine
     → (b.seat.table_id ≡ b.table.now.table_id) × (guards + n < b.table.now.table_id.words)
     × Allows (Kept b.table.now.key) b.table.now.table_id.slots b.seat.id b.seat.me (guards + n) (λ x. (x + v) % 2 ^ 64) (added (Rattle.atomic_table.specs.Table.step slots (guards + n) v 0 none) b.seat.me)
 add-allowed b step n v slots is inside =
     perform-allowed b step (Add n v) n is refl inside (λ x. (x + v) % 2 ^ 64) (λ x. x) (λ w. rw (eq-eqb n n refl) refl) (λ w. refl) (added (Rattle.atomic_table.specs.Table.step slots (guards + n) v 0 none) b.seat.me)
-    (λ found. ap {B = Sat} (λ (z : ℕ). (grown b.seat.me.0 (Stepped (Add z v) found ∷ []), b.seat.me.1)) (minus n))
+    (λ found. ap {B = Seated} (λ (z : ℕ). (grown b.seat.me.0 (Stepped (Add z v) found ∷ []), b.seat.me.1)) (minus n))
 
 pub sub-allowed : (b : SharedBench) (step : WordStep) (n v slots : ℕ) → step ≡ Sub n v → address_of step < word_count b.machine
     → (b.seat.table_id ≡ b.table.now.table_id) × (guards + n < b.table.now.table_id.words)
     × Allows (Kept b.table.now.key) b.table.now.table_id.slots b.seat.id b.seat.me (guards + n) (λ x. (x + (2 ^ 64 - v)) % 2 ^ 64) (taken_off (Rattle.atomic_table.specs.Table.step slots (guards + n) v 0 none) b.seat.me)
 sub-allowed b step n v slots is inside =
     perform-allowed b step (Sub n v) n is refl inside (λ x. (x + (2 ^ 64 - v)) % 2 ^ 64) (λ x. x) (λ w. rw (eq-eqb n n refl) refl) (λ w. refl) (taken_off (Rattle.atomic_table.specs.Table.step slots (guards + n) v 0 none) b.seat.me)
-    (λ found. ap {B = Sat} (λ (z : ℕ). (grown b.seat.me.0 (Stepped (Sub z v) found ∷ []), b.seat.me.1)) (minus n))
+    (λ found. ap {B = Seated} (λ (z : ℕ). (grown b.seat.me.0 (Stepped (Sub z v) found ∷ []), b.seat.me.1)) (minus n))
 
 pub exchange-allowed : (b : SharedBench) (step : WordStep) (n old new slots : ℕ) → step ≡ Exchange n old new → address_of step < word_count b.machine
     → (b.seat.table_id ≡ b.table.now.table_id) × (guards + n < b.table.now.table_id.words)
     × Allows (Kept b.table.now.key) b.table.now.table_id.slots b.seat.id b.seat.me (guards + n) (λ x. either (x == old) new x) (exchanged (Rattle.atomic_table.specs.Table.step slots (guards + n) old new none) b.seat.me)
 exchange-allowed b step n old new slots is inside =
     perform-allowed b step (Exchange n old new) n is refl inside (λ x. either (x == old) new x) (λ x. x) (λ w. rw (eq-eqb n n refl) (if-either (w n == old) new (w n))) (λ w. refl) (exchanged (Rattle.atomic_table.specs.Table.step slots (guards + n) old new none) b.seat.me)
-    (λ found. ap {B = Sat} (λ (z : ℕ). (grown b.seat.me.0 (Stepped (Exchange z old new) found ∷ []), b.seat.me.1)) (minus n))
+    (λ found. ap {B = Seated} (λ (z : ℕ). (grown b.seat.me.0 (Stepped (Exchange z old new) found ∷ []), b.seat.me.1)) (minus n))
 
 -- a seat whose own list has an item more is at rest as before
 pub rests : (s s' : Seat (Option Measure) Told) (x : Taken) → IsAtRest s → s'.me ≡ (grown s.me.0 (x ∷ []), s.me.1) → IsAtRest s'
 rests s s' x r is = record {
-  holds_none = ap (λ (z : Sat). z.1) is ∙ r.holds_none;
-  idle = ap (λ (z : Sat). z.0.under_way) is ∙ r.idle;
-  own = subst (λ (n : ℕ). 0 < n) (sym (ap (λ (z : Sat). length z.0.lists) is ∙ grown-length s.me.0.lists (x ∷ []))) r.own;
+  holds_none = ap (λ (z : Seated). z.1) is ∙ r.holds_none;
+  idle = ap (λ (z : Seated). z.0.under_way) is ∙ r.idle;
+  own = subst (λ (n : ℕ). 0 < n) (sym (ap (λ (z : Seated). length z.0.lists) is ∙ grown-length s.me.0.lists (x ∷ []))) r.own;
   alone = λ e.
-      let a = r.alone (sym (ap (λ (z : Sat). z.0.first) is) ∙ e) in
-      (ap (λ (z : Sat). length z.0.lists) is ∙ (grown-length s.me.0.lists (x ∷ []) ∙ a.0), ap (λ (z : Sat). z.0.out) is ∙ a.1);
+      let a = r.alone (sym (ap (λ (z : Seated). z.0.first) is) ∙ e) in
+      (ap (λ (z : Seated). length z.0.lists) is ∙ (grown-length s.me.0.lists (x ∷ []) ∙ a.0), ap (λ (z : Seated). z.0.out) is ∙ a.1);
 }

@@ -19,8 +19,8 @@ use Rattle.trace_table.specs.declared.told.Told.{Told}
 use Rattle.trace_table.specs.declared.benches.SharedBench.{SharedBench}
 use Rattle.trace_table.specs.Merges.{no_table}
 use Rattle.trace_table.specs.Views.{guards, grown}
-use Rattle.trace_table.specs.Kept.{IsDue, Hall, Holders, IsSlot, IsTaker, IsList, IsTrue, Kept, slot_of, due_at}
-use Rattle.trace_table.specs.Tells.{Sat, took, gave, carried, taken_of}
+use Rattle.trace_table.specs.Kept.{IsDue, TableState, Holders, IsSlot, IsTaker, IsList, IsTrue, Kept, slot_of, due_at}
+use Rattle.trace_table.specs.Tells.{Seated, took, gave, carried, taken_of}
 use Rattle.trace_table.proofs.Merging.{made_by, IsNext, plays-more, plays-due}
 use Rattle.trace_table.proofs.Lists.{none-some, some-same, at-inside, under-way}
 use Rattle.trace_table.proofs.Steps.{here, mine, others-list, not-taker, lists-more, lists-others, nothing-more, first-more, other-more, grows}
@@ -32,7 +32,7 @@ swap-of k y = record { slot = k; taken = y }
 abbrev pub busy-with : Told → ℕ → Option Measure → Told
 busy-with v k y = record v { under_way = Some (swap-of k y) }
 
-module _ (m : Machine) (s : Hall) (k : Kept m s) (id : ℕ) (v : Told) (at : get_elem? s.views id ≡ some v) (own : 0 < length v.lists) (slot : ℕ) (inside : slot < m.hkids) where
+module _ (m : Machine) (s : TableState) (k : Kept m s) (id : ℕ) (v : Told) (at : get_elem? s.views id ≡ some v) (own : 0 < length v.lists) (slot : ℕ) (inside : slot < m.hkids) where
   abbrev home : ℕ
   home = here m s k id v at own
 
@@ -47,13 +47,13 @@ module _ (m : Machine) (s : Hall) (k : Kept m s) (id : ℕ) (v : Told) (at : get
     abbrev h' : Holders
     h' = record k.holders { taker = λ j. if j == slot then id else k.holders.taker j; due = λ p. if p == home then Some slot else k.holders.due p }
 
-    abbrev hall : Hall
-    hall = record { words = slice_set s.words slot 1; homes = slice_set s.homes slot none; views = slice_set s.views id w }
+    abbrev next_state : TableState
+    next_state = record { words = slice_set s.words slot 1; homes = slice_set s.homes slot none; views = slice_set s.views id w }
 
-    word-here : slice_index hall.words slot ≡ 1
+    word-here : slice_index next_state.words slot ≡ 1
     word-here = get_or-set_same s.words slot 1 0 wide-enough
 
-    word-else : (j : ℕ) → j ≢ slot → slice_index hall.words j ≡ slice_index s.words j
+    word-else : (j : ℕ) → j ≢ slot → slice_index next_state.words j ≡ slice_index s.words j
     word-else j ne = get_or-set_other s.words slot j 1 0 ne
 
     taker-here : h'.taker slot ≡ id
@@ -68,20 +68,20 @@ module _ (m : Machine) (s : Hall) (k : Kept m s) (id : ℕ) (v : Told) (at : get
     due-else : (p : ℕ) → p ≢ home → h'.due p ≡ k.holders.due p
     due-else p ne = rw (ne_eqb p home ne) refl
 
-    slots-are : (j : ℕ) → j < m.hkids → IsSlot hall k.table h' j
+    slots-are : (j : ℕ) → j < m.hkids → IsSlot next_state k.table h' j
     slots-are j lt = by (eqb_tells j slot)
       where
-        by : (((j == slot) ≡ true) × (j ≡ slot)) ⊎ (((j == slot) ≡ false) × (j ≢ slot)) → IsSlot hall k.table h' j
-        by (inl t) = subst (IsSlot hall k.table h') (sym t.1) (
+        by : (((j == slot) ≡ true) × (j ≡ slot)) ⊎ (((j == slot) ≡ false) × (j ≢ slot)) → IsSlot next_state k.table h' j
+        by (inl t) = subst (IsSlot next_state k.table h') (sym t.1) (
           (λ z. absurd (let n : 1 ≡ 0 = sym word-here ∙ z in omega (arith, n))),
-          (λ nz. (w, ap (get_elem? hall.views) taker-here ∙ set_here s.views id w (at-inside s.views id v at), refl)),
+          (λ nz. (w, ap (get_elem? next_state.views) taker-here ∙ set_here s.views id w (at-inside s.views id v at), refl)),
         )
         by (inr f) = (
           (λ z. set_else s.homes slot j none f.1 ∙ (k.slots j lt).0 (sym (word-else j f.1) ∙ z)),
           (λ nz.
               let old = (k.slots j lt).1 (λ z. nz (word-else j f.1 ∙ z)) in (
                 old.0,
-                ap (get_elem? hall.views) (taker-else j f.1) ∙ (set_else s.views id (k.holders.taker j) w (not-taker m s k id v at own idle j old.0 old.1 old.2) ∙ old.1),
+                ap (get_elem? next_state.views) (taker-else j f.1) ∙ (set_else s.views id (k.holders.taker j) w (not-taker m s k id v at own idle j old.0 old.1 old.2) ∙ old.1),
                 old.2,
               )),
         )
@@ -92,14 +92,14 @@ module _ (m : Machine) (s : Hall) (k : Kept m s) (id : ℕ) (v : Told) (at : get
         let o = (k.views id v at).lists (suc q) xs e in
         record { owner = o.owner; is = o.is; due_is = due-else (home + suc q) (λ n. absurd (omega (arith, n))) ∙ o.due_is; inside = o.inside }
 
-    own-true : IsTrue m hall k.made k.table h' id w
+    own-true : IsTrue m next_state k.made k.table h' id w
     own-true = record { lists = own-lists; first = (k.views id v at).first; other = (k.views id v at).other; busy = busy-is }
       where
-        busy-is : (y : Swap) → w.under_way ≡ Some y → IsTaker m hall k.table h' id w y
-        busy-is y e = subst (IsTaker m hall k.table h' id w) (some-same (swap-of slot (k.table.slots slot)) y e)
+        busy-is : (y : Swap) → w.under_way ≡ Some y → IsTaker m next_state k.table h' id w y
+        busy-is y e = subst (IsTaker m next_state k.table h' id w) (some-same (swap-of slot (k.table.slots slot)) y e)
             (record { inside = inside; mine = taker-here; guarded = λ z. absurd (let n : 1 ≡ 0 = sym word-here ∙ z in omega (arith, n)); knows = refl; own = own })
 
-    other-true : (id' : ℕ) (v' : Told) → id' ≢ id → get_elem? s.views id' ≡ some v' → IsTrue m hall k.made k.table h' id' v'
+    other-true : (id' : ℕ) (v' : Told) → id' ≢ id → get_elem? s.views id' ≡ some v' → IsTrue m next_state k.made k.table h' id' v'
     other-true id' v' ne at' = record {
       lists = λ q xs e.
           let o = (k.views id' v' at').lists q xs e in
@@ -115,7 +115,7 @@ module _ (m : Machine) (s : Hall) (k : Kept m s) (id : ℕ) (v : Told) (at : get
     more-due : (q j : ℕ) → k.holders.due q ≡ Some j → h'.due q ≡ Some j
     more-due q j e = due-else q (λ n. absurd (none-some j (sym ((mine m s k id v at own).due_is ∙ ap slot_of idle) ∙ (ap k.holders.due (sym n) ∙ e)))) ∙ e
 
-    pub takes-kept : Kept m hall
+    pub takes-kept : Kept m next_state
     takes-kept = record {
       narrow = k.narrow;
       made = k.made;
@@ -126,7 +126,7 @@ module _ (m : Machine) (s : Hall) (k : Kept m s) (id : ℕ) (v : Told) (at : get
       words = λ n lt. word-else (guards + n) (λ e. absurd (let b = k.narrow in omega (arith, e, b, inside))) ∙ k.words n lt;
       slots = slots-are;
       views = λ id' v' e. ⊎_elim
-          (λ t. subst (λ (z : ℕ). IsTrue m hall k.made k.table h' z v') (sym t.0) (subst (λ (z : Told). IsTrue m hall k.made k.table h' id z) t.1 own-true))
+          (λ t. subst (λ (z : ℕ). IsTrue m next_state k.made k.table h' z v') (sym t.0) (subst (λ (z : Told). IsTrue m next_state k.made k.table h' id z) t.1 own-true))
           (λ t. other-true id' v' t.0 t.1)
           (at_set s.views id id' w v' e);
       nothing_else = λ p h. ((k.nothing_else p h).0, due-else p (λ q. absurd (let l = (mine m s k id v at own).inside in omega (arith, q, l, h))) ∙ (k.nothing_else p h).1);
@@ -162,16 +162,16 @@ module _ (m : Machine) (s : Hall) (k : Kept m s) (id : ℕ) (v : Told) (at : get
     abbrev g' : Holders
     g' = record k.holders { due = λ p. if p == home then None else k.holders.due p }
 
-    abbrev hall' : Hall
-    hall' = record { words = slice_set s.words slot 0; homes = slice_set s.homes slot (some put); views = slice_set s.views id w' }
+    abbrev next_state' : TableState
+    next_state' = record { words = slice_set s.words slot 0; homes = slice_set s.homes slot (some put); views = slice_set s.views id w' }
 
     me : IsTaker m s k.table k.holders id v (swap-of slot y)
     me = (k.views id v at).busy (swap-of slot y) busy
 
-    word-else' : (j : ℕ) → j ≢ slot → slice_index hall'.words j ≡ slice_index s.words j
+    word-else' : (j : ℕ) → j ≢ slot → slice_index next_state'.words j ≡ slice_index s.words j
     word-else' j ne = get_or-set_other s.words slot j 0 0 ne
 
-    word-here' : slice_index hall'.words slot ≡ 0
+    word-here' : slice_index next_state'.words slot ≡ 0
     word-here' = get_or-set_same s.words slot 0 0 wide-enough
 
     slot-here : t'.slots slot ≡ put
@@ -186,11 +186,11 @@ module _ (m : Machine) (s : Hall) (k : Kept m s) (id : ℕ) (v : Told) (at : get
     due-else' : (p : ℕ) → p ≢ home → g'.due p ≡ k.holders.due p
     due-else' p ne = rw (ne_eqb p home ne) refl
 
-    slots-are' : (j : ℕ) → j < m.hkids → IsSlot hall' t' g' j
+    slots-are' : (j : ℕ) → j < m.hkids → IsSlot next_state' t' g' j
     slots-are' j lt = by (eqb_tells j slot)
       where
-        by : (((j == slot) ≡ true) × (j ≡ slot)) ⊎ (((j == slot) ≡ false) × (j ≢ slot)) → IsSlot hall' t' g' j
-        by (inl t) = subst (IsSlot hall' t' g') (sym t.1) (
+        by : (((j == slot) ≡ true) × (j ≡ slot)) ⊎ (((j == slot) ≡ false) × (j ≢ slot)) → IsSlot next_state' t' g' j
+        by (inl t) = subst (IsSlot next_state' t' g') (sym t.1) (
           (λ z. set_here s.homes slot (some put) (subst (λ (n : ℕ). slot < n) (sym deep) inside) ∙ ap (λ (h : Option Measure). some (some h)) (sym slot-here)),
           (λ nz. absurd (nz word-here')),
         )
@@ -218,10 +218,10 @@ module _ (m : Machine) (s : Hall) (k : Kept m s) (id : ℕ) (v : Told) (at : get
         let o = lists-more m s k id v at own x (suc q) xs e in
         record { owner = o.owner; is = o.is; due_is = due-else' (home + suc q) (λ n. absurd (omega (arith, n))) ∙ o.due_is; inside = o.inside }
 
-    own-true' : IsTrue m hall' (k.made ++ made_by home x ∷ []) t' g' id w'
+    own-true' : IsTrue m next_state' (k.made ++ made_by home x ∷ []) t' g' id w'
     own-true' = record { lists = own-lists'; first = first-more m s k id v at own x; other = other-more m s k id v at own x; busy = λ z b. absurd (none-some z b) }
 
-    other-true' : (id' : ℕ) (v' : Told) → id' ≢ id → get_elem? s.views id' ≡ some v' → IsTrue m hall' (k.made ++ made_by home x ∷ []) t' g' id' v'
+    other-true' : (id' : ℕ) (v' : Told) → id' ≢ id → get_elem? s.views id' ≡ some v' → IsTrue m next_state' (k.made ++ made_by home x ∷ []) t' g' id' v'
     other-true' id' v' ne at' = record {
       lists = λ q xs e.
           let o = lists-others m s k id v at own x id' v' ne at' q xs e in
@@ -234,7 +234,7 @@ module _ (m : Machine) (s : Hall) (k : Kept m s) (id : ℕ) (v : Told) (at : get
           record { inside = old.inside; mine = old.mine; guarded = λ n. old.guarded (sym (word-else' z.slot apart) ∙ n); knows = slot-else z.slot apart ∙ old.knows; own = old.own };
     }
 
-    pub gives-kept : Kept m hall'
+    pub gives-kept : Kept m next_state'
     gives-kept = record {
       narrow = k.narrow;
       made = k.made ++ made_by home x ∷ [];
@@ -245,7 +245,7 @@ module _ (m : Machine) (s : Hall) (k : Kept m s) (id : ℕ) (v : Told) (at : get
       words = λ n lt. word-else' (guards + n) (λ e. absurd (let b = k.narrow in omega (arith, e, b, inside))) ∙ k.words n lt;
       slots = slots-are';
       views = λ id' v' e. ⊎_elim
-          (λ t. subst (λ (z : ℕ). IsTrue m hall' (k.made ++ made_by home x ∷ []) t' g' z v') (sym t.0) (subst (λ (z : Told). IsTrue m hall' (k.made ++ made_by home x ∷ []) t' g' id z) t.1 own-true'))
+          (λ t. subst (λ (z : ℕ). IsTrue m next_state' (k.made ++ made_by home x ∷ []) t' g' z v') (sym t.0) (subst (λ (z : Told). IsTrue m next_state' (k.made ++ made_by home x ∷ []) t' g' id z) t.1 own-true'))
           (λ t. other-true' id' v' t.0 t.1)
           (at_set s.views id id' w' v' e);
       nothing_else = λ p h. let f = nothing-more m s k id v at own x p h in (f.0, due-else' p (λ q. absurd (let l = (mine m s k id v at own).inside in omega (arith, q, l, h))) ∙ f.1);
@@ -288,7 +288,7 @@ take-allowed b slot inside = (b.at_table, (let a = b.wide in let c = b.few in om
             )
 
 -- and where it gives it back
-pub give-allowed : (m : Machine) (slots id : ℕ) (me : Sat) (slot : ℕ) → slot < m.hkids → slots ≡ m.hkids → 0 < length me.0.lists → (y : Option Measure) → me.0.under_way ≡ Some (swap-of slot y) → (put : Option Measure) (more : List (ℕ × Option Measure)) → me.1 ≡ (slot, put) ∷ more
+pub give-allowed : (m : Machine) (slots id : ℕ) (me : Seated) (slot : ℕ) → slot < m.hkids → slots ≡ m.hkids → 0 < length me.0.lists → (y : Option Measure) → me.0.under_way ≡ Some (swap-of slot y) → (put : Option Measure) (more : List (ℕ × Option Measure)) → me.1 ≡ (slot, put) ∷ more
     → Allows (Kept m) slots id me slot (λ _. 0) (λ _. gave (step slots slot 0 0 none) me 0)
 give-allowed m slots id me slot inside deep own y busy put more held s k len at small =
     let w : Option Measure → Option Measure → Told = λ h z. record (grown me.0 (Swapped slot h z ∷ [])) { under_way = None } in (
@@ -301,15 +301,15 @@ give-allowed m slots id me slot inside deep own y busy put more held s k len at 
       refl,
     )
 
-pub give-again : (b : SharedBench) (slot : ℕ) (put y : Option Measure) → slot < b.machine.hkids → (id : ℕ) (me : Sat) → me.0 ≡ busy-with b.seat.me.0 slot y → (more : List (ℕ × Option Measure)) → me.1 ≡ (slot, put) ∷ more
+pub give-again : (b : SharedBench) (slot : ℕ) (put y : Option Measure) → slot < b.machine.hkids → (id : ℕ) (me : Seated) → me.0 ≡ busy-with b.seat.me.0 slot y → (more : List (ℕ × Option Measure)) → me.1 ≡ (slot, put) ∷ more
     → Allows (Kept b.table.now.key) b.table.now.table_id.slots id me slot (λ _. 0) (λ _. gave (step b.table.now.table_id.slots slot 0 0 none) me 0)
 give-again b slot put y inside id me same more held =
     give-allowed b.table.now.key b.table.now.table_id.slots id me slot (subst (λ (z : Machine). slot < z.hkids) (sym b.key) inside) (b.deep ∙ ap (λ (z : Machine). z.hkids) (sym b.key))
     (subst (λ (z : Told). 0 < length z.lists) (sym same) b.rest.own) y (ap (λ (z : Told). z.under_way) same) put more held
 
-pub after-give : (b : SharedBench) (slot : ℕ) (put y : Option Measure) (me me' : Sat) → me.0 ≡ busy-with b.seat.me.0 slot y → me.1 ≡ (slot, put) ∷ b.seat.me.1
+pub after-give : (b : SharedBench) (slot : ℕ) (put y : Option Measure) (me me' : Seated) → me.0 ≡ busy-with b.seat.me.0 slot y → me.1 ≡ (slot, put) ∷ b.seat.me.1
     → me' ≡ (record (grown me.0 (Swapped slot (carried me.1) (taken_of me.0.under_way) ∷ [])) { under_way = None }, rest me.1) → me' ≡ (grown b.seat.me.0 (Swapped slot put y ∷ []), b.seat.me.1)
 after-give b slot put y me me' same held is =
-    is ∙ (ap {B = Sat} (λ (z : Told). (record (grown z (Swapped slot (carried me.1) (taken_of z.under_way) ∷ [])) { under_way = None }, rest me.1)) same
-    ∙ (ap {B = Sat} (λ (z : List (ℕ × Option Measure)). (record (grown (busy-with b.seat.me.0 slot y) (Swapped slot (carried z) y ∷ [])) { under_way = None }, rest z)) held
-    ∙ ap {B = Sat} (λ (h : Option Swap). (record (grown b.seat.me.0 (Swapped slot put y ∷ [])) { under_way = h }, b.seat.me.1)) (sym b.rest.idle)))
+    is ∙ (ap {B = Seated} (λ (z : Told). (record (grown z (Swapped slot (carried me.1) (taken_of z.under_way) ∷ [])) { under_way = None }, rest me.1)) same
+    ∙ (ap {B = Seated} (λ (z : List (ℕ × Option Measure)). (record (grown (busy-with b.seat.me.0 slot y) (Swapped slot (carried z) y ∷ [])) { under_way = None }, rest z)) held
+    ∙ ap {B = Seated} (λ (h : Option Swap). (record (grown b.seat.me.0 (Swapped slot put y ∷ [])) { under_way = h }, b.seat.me.1)) (sym b.rest.idle)))

@@ -15,8 +15,8 @@ use Rattle.trace_table.specs.declared.told.Told.{Told}
 use Rattle.trace_table.specs.Merges.{Made, part, BeginsInSwap, taken_after, no_table}
 use Rattle.trace_table.specs.Views.{guards}
 
-abbrev pub Hall : Type 0
-Hall = State (Option Measure) Told
+abbrev pub TableState : Type 0
+TableState = State (Option Measure) Told
 
 -- Another list than p has a swap on that slot under way: it is the next of its items, or it is yet to be told, where `due`
 -- says which list has which slot out.
@@ -55,13 +55,13 @@ due_at x zero = slot_of x
 due_at x (suc q) = None
 
 -- a slot is at home where its guard word is 0, and has what the merge says; else a seat has it
-abbrev pub IsSlot : Hall → Table → Holders → ℕ → Type 0
+abbrev pub IsSlot : TableState → Table → Holders → ℕ → Type 0
 IsSlot s t h k =
     (slice_index s.words k ≡ 0 → get_elem? s.homes k ≡ some (some (t.slots k)))
     × (slice_index s.words k ≢ 0 → (v : Told) × (get_elem? s.views (h.taker k) ≡ some v) × (slot_of v.under_way ≡ Some k))
 
 -- a seat has a slot out, and knows what it took
-pub record IsTaker (m : Machine) (s : Hall) (t : Table) (h : Holders) (id : ℕ) (v : Told) (x : Swap) : Type 0 where
+pub record IsTaker (m : Machine) (s : TableState) (t : Table) (h : Holders) (id : ℕ) (v : Told) (x : Swap) : Type 0 where
   pub inside : x.slot < m.hkids
   pub mine : h.taker x.slot ≡ id
   pub guarded : slice_index s.words x.slot ≢ 0
@@ -76,13 +76,13 @@ pub record IsList (made : List Made) (h : Holders) (id p : ℕ) (xs : List Taken
   pub inside : p < h.total
 
 -- what a seat knows is so
-pub record IsTrue (m : Machine) (s : Hall) (made : List Made) (t : Table) (h : Holders) (id : ℕ) (v : Told) : Type 0 where
+pub record IsTrue (m : Machine) (s : TableState) (made : List Made) (t : Table) (h : Holders) (id : ℕ) (v : Told) : Type 0 where
   pub lists : (q : ℕ) (xs : List Taken) → get_elem? v.lists q ≡ some xs → IsList made h id (h.base id + q) xs (due_at v.under_way q)
   pub first : v.first ≡ true → (h.base id ≡ 0) × (h.kept ≡ length v.lists) × (h.total ≡ length v.lists + v.out)
   pub other : v.first ≡ false → (length v.lists ≤ 1) × (0 < length v.lists → h.kept ≤ h.base id)
   pub busy : (x : Swap) → v.under_way ≡ Some x → IsTaker m s t h id v x
 
-pub record Kept (m : Machine) (s : Hall) : Type 0 where
+pub record Kept (m : Machine) (s : TableState) : Type 0 where
   pub narrow : m.hkids < guards
   pub made : List Made
   pub table : Table

@@ -3,3 +3,4 @@ pub mod Views
 pub mod Kept
 pub mod Tells
 pub mod Benches
+pub mod Growing

@@ -10,33 +10,33 @@ use Rattle.trace_table.specs.declared.told.Told.{Told}
 use Rattle.trace_table.specs.Views.{guards, grown}
 
 -- a seat with the slots that it holds, and a step of the table
-abbrev pub Sat : Type 0
-Sat = Me (Option Measure) Told
+abbrev pub Seated : Type 0
+Seated = Me (Option Measure) Told
 
-abbrev pub At : Type 0
-At = Step (Option Measure)
+abbrev pub StepAt : Type 0
+StepAt = Step (Option Measure)
 
 -- a step on a machine's word: the seat's own list has it more, with its answer
-abbrev pub did_step : WordStep → ℕ → Sat → Sat → Type 0
+abbrev pub did_step : WordStep → ℕ → Seated → Seated → Type 0
 did_step s answer me me' = me' ≡ (grown me.0 (Stepped s answer ∷ []), me.1)
 
-abbrev pub loaded : At → Sat → ℕ → Sat → Type 0
+abbrev pub loaded : StepAt → Seated → ℕ → Seated → Type 0
 loaded s me found me' = did_step (Load (s.word - guards)) found me me'
 
-abbrev pub stored : At → Sat → ℕ → Sat → Type 0
+abbrev pub stored : StepAt → Seated → ℕ → Seated → Type 0
 stored s me found me' = did_step (Store (s.word - guards) s.first) 0 me me'
 
-abbrev pub added : At → Sat → ℕ → Sat → Type 0
+abbrev pub added : StepAt → Seated → ℕ → Seated → Type 0
 added s me found me' = did_step (Add (s.word - guards) s.first) found me me'
 
-abbrev pub taken_off : At → Sat → ℕ → Sat → Type 0
+abbrev pub taken_off : StepAt → Seated → ℕ → Seated → Type 0
 taken_off s me found me' = did_step (Sub (s.word - guards) s.first) found me me'
 
-abbrev pub exchanged : At → Sat → ℕ → Sat → Type 0
+abbrev pub exchanged : StepAt → Seated → ℕ → Seated → Type 0
 exchanged s me found me' = did_step (Exchange (s.word - guards) s.first s.second) found me me'
 
 -- a swap begins: its slot was taken, with what was in it; or another seat has it, which is a miss
-abbrev pub took : At → Sat → ℕ → Sat → Type 0
+abbrev pub took : StepAt → Seated → ℕ → Seated → Type 0
 took s me found me' =
     (found ≡ 0 → (y : Option Measure) × (me' ≡ (record me.0 { under_way = Some (record { slot = s.word; taken = y }) }, (s.word, y) ∷ me.1)))
     × (found ≢ 0 → me' ≡ (grown me.0 (Missed s.word ∷ []), me.1))
@@ -51,5 +51,5 @@ taken_of None = None
 taken_of (Some x) = x.taken
 
 -- a swap ends: its slot was given back, and here it is told
-abbrev pub gave : At → Sat → ℕ → Sat → Type 0
+abbrev pub gave : StepAt → Seated → ℕ → Seated → Type 0
 gave s me found me' = me' ≡ (record (grown me.0 (Swapped s.word (carried me.1) (taken_of me.0.under_way) ∷ [])) { under_way = None }, rest me.1)

@@ -87,7 +87,8 @@ impl<'t> SharedBench<'t> {
 }
 
 impl<'t> Bench for SharedBench<'t> {
-    ghost use Rattle.trace_table.specs.Benches.{machine_of, BenchDid, bench_did-none, bench_did-more};
+    ghost use Rattle.trace_table.specs.Benches.{machine_of, BenchDid};
+    ghost use Rattle.trace_table.specs.Growing.{bench_did-none, bench_did-more};
 
     ghost machine = { machine_of };
 
