@@ -1,18 +1,21 @@
 //! What no clause says: that the grammar means what its users were promised.
 
 use script_text::{
-    CallName, OpName, Reason, ScriptFault, check_operands, code_line, mnemonic_at, operation_at,
-    output_slot, read_script, slot_place,
+    CallName, Reason, ScriptFault, mnemonic_at, output_slot, read_script, slot_place,
 };
 use std::alloc::Global;
 use std::test::Fail;
 
-/// The line and the reason of a bad script; of a good one processor 0's first call, if any.
+/// The line and the reason of a bad script; of a good one processor 0's first call, if any, else the
+/// first list's first operation, if any.
 fn answer(alloc: Global, bytes: &[u8]) -> Result<String, Fail> {
     match read_script(alloc, bytes) {
         Ok(script) => match script.calls.first().and_then(|calls| calls.first()) {
             Some(call) => Ok(format!(in alloc; "{call:?}")?),
-            None => Ok(format!(in alloc; "good")?),
+            None => match script.codes.first().and_then(|list| list.ops.first()) {
+                Some(op) => Ok(format!(in alloc; "{op:?}")?),
+                None => Ok(format!(in alloc; "good")?),
+            },
         },
         Err(ScriptFault::Bad { line, reason }) => Ok(format!(in alloc; "{line} {reason}")?),
         Err(ScriptFault::OutOfMemory) => Ok(format!(in alloc; "out of memory")?),
@@ -26,7 +29,11 @@ const WHOLE_SCRIPTS: &[&str] = &[
     "good | machine 2 8 1\nschedule 1 0*3 1\n | machine 1 8 1\n#~ \n",
     "1 UNTERMINATED | \x07 | machine 2 8 1",
     "3 UNTERMINATED | machine 1 8 1\nlp 0\nHOST.RE | machine 1 8 1\nlp 0\n#",
-    "4 ENDLESS | machine 1 8 1\nlp 0\nHOST.READ 0 0\n",
+    "4 ENDLESS | machine 1 8 1\nlp 0\nHOST.READ 0 0\n | machine 1 8 1\ncode 0 0\nset 0 0\n",
+    "3 UNTERMINATED | machine 1 8 1\ncode 0 0\nset 0 0 | machine 1 8 1\ncode 0 0\nend",
+    "good | machine 1 1024 1\ncode 1023 7\nend\ncode 1023 6\nend\ncode 1022 7\nend\n",
+    "2 RANGE | machine 1 1024 1\ncode 1024 0\nend\n | machine 1 1023 1\ncode 1023 0\nend\n",
+    "4 REPEATED | machine 1 1024 1\ncode 1023 7\nend\ncode 1023 7\nend\n",
     "1 BYTE | lp\t0\n | machine 1 8 1\r\n",
     "2 BYTE | machine 1 8 1\n#\x7f\n | machine 1 8 1\n\x1f\n",
     "1 MACHINE |  | end\n | Machine 1 8 1\n | schedule 0\n",
@@ -44,9 +51,13 @@ const ON_ONE_PROCESSOR: &[&str] = &[
     "good | schedule 0x0*0x2 00*02 |   schedule   0 0 0 0 0 0   0*0x00100 ",
     "good | schedule 0*1048575\nschedule 0 | lp 0\nend\nschedule 0",
     "2 PLACE | end 1",
-    "2 WORD | HOST.READ 1 | set 0 0",
-    "2 UNBUILT | code",
-    "2 COUNT | lp 1 1 | schedule",
+    "2 WORD | HOST.READ 1 | set 0 0 | secret 0 0 | codes 1 0 | CODE 1 0",
+    "good | code 7 7\nend | code 0 0\nend\nlp 0\nend\ncode 0 1\nend\ncode 1 0\nend\nschedule 0",
+    "2 COUNT | lp 1 1 | schedule | code | code 1 | code x | code 8 0 0 | code 1 0 set 0 0 end",
+    "2 NUMBER | code x 0 | code 9 x | code 1 -1 | code 1, 0",
+    "2 RANGE | code 8 0 | code 0 8 | code 18446744073709551615 0 | code 8 8 | code 0 9",
+    "4 REPEATED | code 1 0\nend\ncode 0x1 00 | code 7 7\nend\ncode 7 7",
+    "6 REPEATED | code 1 0\nend\ncode 0 7\nend\ncode 1 0",
     "2 NUMBER | lp x | schedule # | schedule 0**2 | schedule 0* | schedule *0 | schedule 1*2*3",
     "2 NUMBER | schedule 9 0*0 0*1048576 0 x | schedule 0 1 x | schedule 0*1048576 0 x | schedule 0 #",
     "2 RANGE | lp 1 | schedule 1 | schedule 9 | schedule 0*0 | schedule 0*1048577",
@@ -58,8 +69,8 @@ const ON_ONE_PROCESSOR: &[&str] = &[
 
 const IN_BLOCK: &[&str] = &[
     "good |  |  # end",
-    "3 PLACE | lp | lp 0 | schedule 0 | schedule x | code 9",
-    "3 WORD | host.read 5 0 | HOST.READX 5",
+    "3 PLACE | lp | lp 0 | schedule 0 | schedule x | code 9 | code 1 0",
+    "3 WORD | host.read 5 0 | HOST.READX 5 | set 0 0 | vmcall 0 | secret 0 0",
     "3 UNBUILT | MEM.TRACK | MEM.TRACK x | EXPORT.ABORT 1 2 | VP.ENTER 1 4 1",
     "3 COUNT | end 0 | HOST.READ 5 | HOST.READ x 0 0 | HOST.WRITE 0 0 0 0 0 0 0 | PHYMEM.PAGE.RDMD",
     "3 NUMBER | MNG.CREATE 1 0x | MNG.CREATE 0X1 1 | MNG.CREATE -1 1 | HOST.READ 0xfg 1",
@@ -108,6 +119,39 @@ const CALLS: &[&str] = &[
     "MrExtend { tdr: 1, gpa: 256 } | MR.EXTEND 1 256 | MR.EXTEND 0x1 0x100",
 ];
 
+const IN_LIST: &[&str] = &[
+    "good |  |  # end",
+    "3 MACHINE | machine 1 8 1 | machine",
+    "3 PLACE | lp | lp 0 | schedule 0 | schedule x | code | code 9 | code 7 7 | code 1 0",
+    "3 WORD | HOST.READ 5 0 | VP.ENTER 1 4 1 | SET 0 0 | sets 0 0 | se 0 0 | fence",
+    "3 UNBUILT | secret | secret 0 0 | secret 7 511 | secret 8 512 | secret x | secret 0 0 0",
+    "3 COUNT | end 0 | set | set 0 | set x | set 8 0 0 | add 0 | add 0 0 0 | load 0 | load x 0 0",
+    "3 COUNT | store 0 | store 0 0 0 0 0 0 0 | accept | accept 1 0 | rtmr | rtmr 4 0 | vmcall",
+    "3 COUNT | vmcall 0 0 | vmcall x 0",
+    "3 NUMBER | set x 0 | set 8 x | set 0 18446744073709551616 | add x 8 | add 8 x | load 0 0x",
+    "3 NUMBER | load x 1 | store 8 x | store x 0 | accept x | rtmr 0y | vmcall -1 | vmcall #",
+    "3 RANGE | set 8 0 | set 18446744073709551615 0 | add 8 0 | add 0 8 | load 8 0 | store 8 0",
+    "3 RANGE | load 0 281474976710656 | load 0 281474976710655 | load 0 4 | load 0 1",
+    "3 RANGE | store 0 281474976710656 | store 0 281474976710652 | store 0 7 | store 9 8",
+    "3 RANGE | accept 140737488355328 | accept 140737488351231 | accept 2048 | accept 1",
+    "3 RANGE | rtmr 4 | rtmr 256 | vmcall 8 | vmcall 256",
+];
+
+const OPERATIONS: &[&str] = &[
+    "Set { register: 7, value: 18446744073709551615 } | set 7 0xffffffffFFFFFFFF",
+    "Set { register: 0, value: 0 } | set 0 0 |  set  00   0x0 \nset 1 1",
+    "Add { register: 7, other: 0 } | add 7 0 | add 0x7 00",
+    "Add { register: 0, other: 7 } | add 0 7",
+    "Load { register: 7, gpa: 281474976710648 } | load 7 281474976710648 | load 7 0xfffffffffff8",
+    "Load { register: 0, gpa: 140737488355328 } | load 0 140737488355328",
+    "Store { register: 7, gpa: 281474976710648 } | store 7 281474976710648",
+    "Store { register: 0, gpa: 8 } | store 0 8 | store 0x0 0x008",
+    "Accept { gpa: 140737488351232 } | accept 140737488351232 | accept 0x7FFFFFFFF000",
+    "Accept { gpa: 0 } | accept 0",
+    "Rtmr { index: 3 } | rtmr 3 | rtmr 0x3",
+    "Vmcall { register: 7 } | vmcall 7 | vmcall 07",
+];
+
 #[test]
 fn names_the_first_bad_line(rt: HostRuntime) -> Result<(), Fail> {
     let alloc = rt.alloc();
@@ -116,6 +160,8 @@ fn names_the_first_bad_line(rt: HostRuntime) -> Result<(), Fail> {
         ("machine 1 8 1\n", ON_ONE_PROCESSOR, "\n"),
         ("machine 1 8 1\nlp 0\n", IN_BLOCK, "\nend\n"),
         ("machine 1 8 1\nlp 0\n", CALLS, "\nend\n"),
+        ("machine 1 8 1\ncode 7 7\n", IN_LIST, "\nend\n"),
+        ("machine 1 8 1\ncode 7 7\n", OPERATIONS, "\nend\n"),
     ];
     for (front, rows, back) in tables {
         for row in rows {
@@ -160,18 +206,56 @@ fn stops_at_its_limits(rt: HostRuntime) -> Result<(), Fail> {
 }
 
 #[test]
+fn stops_at_the_limit_of_a_list(rt: HostRuntime) -> Result<(), Fail> {
+    let alloc = rt.alloc();
+    let first = "Set { register: 3, value: 10 }";
+    let rows = [
+        (256, "end\n", first),
+        (255, "vmcall 1\nend\n", first),
+        (256, "end\ncode 1 1\nvmcall 1\nend\n", first),
+        (256, "secret 0 0\n", "259 UNBUILT"),
+        (256, "vmcall\n", "259 COUNT"),
+        (256, "vmcall x\n", "259 NUMBER"),
+        (256, "vmcall 8\n", "259 RANGE"),
+        (256, "vmcall 1\n", "259 FULL"),
+        (256, "vmcall 1", "259 UNTERMINATED"),
+        (257, "end\n", "259 FULL"),
+    ];
+    for (ops, last, want) in rows {
+        let mut bytes = b"machine 1 8 1\ncode 1 0\n".to_vec(alloc)?;
+        for _op in 0..ops {
+            bytes.extend_from_slice(b"set 3 0xa\n")?;
+        }
+        bytes.extend_from_slice(last.as_bytes())?;
+        assert_eq!(rt; answer(alloc, &bytes)?.as_str(), want, "at {last}");
+    }
+    Ok(())
+}
+
+#[test]
 fn reads_what_stands_there(rt: HostRuntime) -> Result<(), Fail> {
-    let text = "# a\nmachine 2 9 3\n schedule 1 0x0*0x2\nlp 1\nHOST.WRITE 5 6 0x7\nMNG.CREATE 1 2\n\
-        end\nschedule 01*02\nlp 0\nHOST.READ 3 4\nPHYMEM.PAGE.RDMD 8\nend\nschedule 0\n";
+    let text = "# a\nmachine 2 9 3\n schedule 1 0x0*0x2\ncode 8 1\nset 2 7\n\nvmcall 2\nend\n\
+        lp 1\nHOST.WRITE 5 6 0x7\nMNG.CREATE 1 2\nend\nschedule 01*02\nlp 0\nHOST.READ 3 4\n\
+        PHYMEM.PAGE.RDMD 8\nend\ncode 3 0\nend\nschedule 0\ncode 8 0\naccept 4096\nend\n";
     let alloc = rt.alloc();
     let script = read_script(alloc, text.as_bytes())?;
-    assert_eq!(rt; script.codes.len(), 0);
     let (machine, schedule, calls) = (&script.machine, &script.schedule, &script.calls);
     let said = format!(in alloc; "{machine:?} {schedule:?} {calls:?}")?;
     let want = "Machine { lps: 2, pages: 9, hkids: 3 } [1, 0, 0, 1, 1, 0] \
         [[HostRead { page: 3, word: 4 }, PhymemPageRdmd { page: 8 }], \
         [HostWrite { page: 5, word: 6, value: 7 }, MngCreate { tdr: 1, hkid: 2 }]]";
     assert_eq!(rt; said.as_str(), want);
+    let lists = [
+        "8.1 [Set { register: 2, value: 7 }, Vmcall { register: 2 }]",
+        "3.0 []",
+        "8.0 [Accept { gpa: 4096 }]",
+    ];
+    assert_eq!(rt; script.codes.len(), lists.len());
+    for (list, want) in script.codes.iter().zip(lists) {
+        let (tdr, index, ops) = (list.tdr, list.index, &list.ops);
+        let said = format!(in alloc; "{tdr}.{index} {ops:?}")?;
+        assert_eq!(rt; said.as_str(), want);
+    }
     Ok(())
 }
 
@@ -183,15 +267,5 @@ fn reads_what_comes_later(rt: HostRuntime) -> Result<(), Fail> {
     assert_eq!(rt; slot_place(CallName::ExportMem), Some(3));
     let abort = mnemonic_at(b"EXPORT.ABORT").ok_or("absent")?;
     assert_eq!(rt; (abort.least, abort.most), (1, 2));
-    let machine = read_script(rt.alloc(), b"machine 8 8 1\n")?.machine;
-    let past = code_line(machine, &[], &[Some(8), Some(0)]);
-    assert_eq!(rt; past.err(), Some(Reason::Range));
-    let again = code_line(machine, &[true], &[Some(0), Some(0)]);
-    assert_eq!(rt; again.err(), Some(Reason::Repeated));
-    let load = operation_at(b"load").ok_or("absent")?;
-    assert_eq!(rt; load, OpName::Load);
-    assert_eq!(rt; check_operands(load, &[Some(7), Some(8)]), Ok(()));
-    let unaligned = check_operands(load, &[Some(7), Some(4)]);
-    assert_eq!(rt; unaligned, Err(Reason::Range));
     Ok(())
 }
