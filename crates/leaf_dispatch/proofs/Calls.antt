@@ -1,10 +1,12 @@
 -- The table's leaves, call by call.
-use Rattle.std.proofs.Common.{◌≡◌, ℕ, None, refl, ap, arith}
+use Rattle.std.proofs.Common.{◌≡◌, ℕ, zero, suc, List, [], ◌∷◌, drop, None, true, refl, sym, ◌∙◌, ap, arith}
+use Rattle.std.proofs.lemmas.Bool.{and_parts}
 use Rattle.td_words.specs.declared.calls.Call.{Call}
 use Rattle.td_words.specs.declared.calls.Call.TheVariants as call
 use Rattle.td_words.specs.Limits.{IsMachine}
 use Rattle.flat_core.specs.Opening.{Opening}
 use Rattle.flat_core.specs.Table.{row_of}
+use Rattle.flat_core.specs.Event.{calls_of}
 use Rattle.leaf_engine.specs.declared.needs.Place.{Place}
 use Rattle.leaf_engine.specs.Means.{OfCall, MeansRow}
 use Rattle.access_core.specs.HostMeanings.{host_read-means, host_write-means}
@@ -25,7 +27,7 @@ use Rattle.mem_build.specs.SeptReadMeanings.{sept_read-means}
 use Rattle.mem_build.specs.PageAddMeanings.{page_add-means}
 use Rattle.mem_build.specs.PageAugMeanings.{page_aug-means}
 use Rattle.mem_build.specs.ExtendMeanings.{extend-means}
-use Rattle.leaf_dispatch.specs.Table.{task_of}
+use Rattle.leaf_dispatch.specs.Table.{has_leaf, have_leaves, task_of}
 use Rattle.leaf_dispatch.specs.Laws.{CallsHaveLeaves, NoneEnters}
 
 pub of-place : (p : Place) (c : Call) → (task_of p c).place ≡ p
@@ -44,13 +46,14 @@ of-place p (call.MngKeyFreeid tdr) = refl
 of-place p (call.MrFinalize tdr) = refl
 of-place p (call.VpCreate tdr page) = refl
 of-place p (call.VpInit tdr vp value) = refl
+of-place p (call.VpEnter tdr vp max) = refl
 of-place p (call.MemSeptAdd tdr gpa level page) = refl
 of-place p (call.MemSeptRd tdr gpa level) = refl
 of-place p (call.MemPageAdd tdr gpa page source) = refl
 of-place p (call.MemPageAug tdr gpa page) = refl
 of-place p (call.MrExtend tdr gpa) = refl
 
-of-row : (o : Opening) (p : ℕ) (c : Call) → (task_of (record { machine = o.machine; lp = p }) c).meaning ≡ OfCall (row_of o p c)
+pub of-row : (o : Opening) (p : ℕ) (c : Call) → (task_of (record { machine = o.machine; lp = p }) c).meaning ≡ OfCall (row_of o p c)
 of-row o p (call.HostRead page word) = refl
 of-row o p (call.HostWrite page word value) = refl
 of-row o p (call.PhymemPageRdmd page) = refl
@@ -66,46 +69,55 @@ of-row o p (call.MngKeyFreeid tdr) = refl
 of-row o p (call.MrFinalize tdr) = refl
 of-row o p (call.VpCreate tdr page) = refl
 of-row o p (call.VpInit tdr vp value) = refl
+of-row o p (call.VpEnter tdr vp max) = refl
 of-row o p (call.MemSeptAdd tdr gpa level page) = refl
 of-row o p (call.MemSeptRd tdr gpa level) = refl
 of-row o p (call.MemPageAdd tdr gpa page source) = refl
 of-row o p (call.MemPageAug tdr gpa page) = refl
 of-row o p (call.MrExtend tdr gpa) = refl
 
--- no call enters a guest yet
-enters-none : (o : Opening) (p : ℕ) (c : Call) → (row_of o p c).enters ≡ None
-enters-none o p (call.HostRead page word) = refl
-enters-none o p _ = refl
+-- no call that has a leaf enters a guest
+enters-none : (o : Opening) (p : ℕ) (c : Call) → has_leaf c ≡ true → (row_of o p c).enters ≡ None
+enters-none o p (call.VpEnter tdr vp max) h = cc
+enters-none o p (call.HostRead page word) h = refl
+enters-none o p _ h = refl
 
-means : (p : Place) (c : Call) → IsMachine p.machine → MeansRow (task_of p c)
-means p (call.HostRead page word) m = host_read-means p page word
-means p (call.HostWrite page word value) m = host_write-means p page word value
-means p (call.PhymemPageRdmd page) m = rdmd-means p page m.pages.1
-means p call.PhymemCacheWb m = cache-means p
-means p (call.PhymemPageReclaim tdr page) m = reclaim-means p tdr page (let few = m.pages.1 in omega arith)
-means p (call.MngCreate tdr hkid) m = create-means p tdr hkid
-means p (call.MngKeyConfig tdr) m = configure-means p tdr
-means p (call.MngAddcx tdr page) m = add-means p tdr page
-means p (call.MngInit tdr) m = init-means p tdr
-means p (call.MngRd tdr field) m = read-means p tdr field
-means p (call.MngVpflushdone tdr) m = flush-means p tdr
-means p (call.MngKeyFreeid tdr) m = free-means p tdr
-means p (call.MrFinalize tdr) m = finalize-means p tdr
-means p (call.VpCreate tdr page) m = vp_create-means p tdr page
-means p (call.VpInit tdr vp value) m = vp_init-means p tdr vp value (let few = m.pages.1 in omega arith)
-means p (call.MemSeptAdd tdr gpa level page) m = sept_add-means p tdr gpa level page m
-means p (call.MemSeptRd tdr gpa level) m = sept_read-means p tdr gpa level m
-means p (call.MemPageAdd tdr gpa page source) m = page_add-means p tdr gpa page source m
-means p (call.MemPageAug tdr gpa page) m = page_aug-means p tdr gpa page m
-means p (call.MrExtend tdr gpa) m = extend-means p tdr gpa m
+lines-enter-none : (o : Opening) (p : ℕ) (cs : List Call) (n : ℕ) (c : Call) (further : List Call) → have_leaves cs ≡ true → drop n cs ≡ c ∷ further → (row_of o p c).enters ≡ None
+lines-enter-none o p [] zero c further h e = cc
+lines-enter-none o p [] (suc n) c further h e = cc
+lines-enter-none o p (x ∷ xs) zero c further h e = let same : x ≡ c = cc in enters-none o p c (ap has_leaf (sym same) ∙ (and_parts (has_leaf x) (have_leaves xs) h).0)
+lines-enter-none o p (x ∷ xs) (suc n) c further h e = lines-enter-none o p xs n c further (and_parts (has_leaf x) (have_leaves xs) h).1 e
+
+means : (o : Opening) (p : Place) (c : Call) → IsMachine p.machine → (row_of o p.lp c).enters ≡ None → MeansRow (task_of p c)
+means o p (call.HostRead page word) m e = host_read-means p page word
+means o p (call.HostWrite page word value) m e = host_write-means p page word value
+means o p (call.PhymemPageRdmd page) m e = rdmd-means p page m.pages.1
+means o p call.PhymemCacheWb m e = cache-means p
+means o p (call.PhymemPageReclaim tdr page) m e = reclaim-means p tdr page (let few = m.pages.1 in omega arith)
+means o p (call.MngCreate tdr hkid) m e = create-means p tdr hkid
+means o p (call.MngKeyConfig tdr) m e = configure-means p tdr
+means o p (call.MngAddcx tdr page) m e = add-means p tdr page
+means o p (call.MngInit tdr) m e = init-means p tdr
+means o p (call.MngRd tdr field) m e = read-means p tdr field
+means o p (call.MngVpflushdone tdr) m e = flush-means p tdr
+means o p (call.MngKeyFreeid tdr) m e = free-means p tdr
+means o p (call.MrFinalize tdr) m e = finalize-means p tdr
+means o p (call.VpCreate tdr page) m e = vp_create-means p tdr page
+means o p (call.VpInit tdr vp value) m e = vp_init-means p tdr vp value (let few = m.pages.1 in omega arith)
+means o p (call.VpEnter tdr vp max) m e = cc
+means o p (call.MemSeptAdd tdr gpa level page) m e = sept_add-means p tdr gpa level page m
+means o p (call.MemSeptRd tdr gpa level) m e = sept_read-means p tdr gpa level m
+means o p (call.MemPageAdd tdr gpa page source) m e = page_add-means p tdr gpa page source m
+means o p (call.MemPageAug tdr gpa page) m e = page_aug-means p tdr gpa page m
+means o p (call.MrExtend tdr gpa) m e = extend-means p tdr gpa m
 
 pub calls-have-leaves : CallsHaveLeaves
 calls-have-leaves o m = record {
   machine = λ p c. ap (λ (z : Place). z.machine) (of-place (record { machine = o.machine; lp = p }) c);
   processor = λ p c. ap (λ (z : Place). z.lp) (of-place (record { machine = o.machine; lp = p }) c);
-  row = of-row o;
-  means = λ p c. means (record { machine = o.machine; lp = p }) c m;
+  row = λ p c e. of-row o p c;
+  means = λ p c e. means o (record { machine = o.machine; lp = p }) c m e;
 }
 
 pub none-enters : NoneEnters
-none-enters o p n c further lines = enters-none o p c
+none-enters o have p n c further lines = lines-enter-none o p (calls_of o.calls p) n c further (have p) lines

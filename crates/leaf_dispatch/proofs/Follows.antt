@@ -30,7 +30,8 @@ use Rattle.leaf_engine.proofs.Pieces.{turn-of-taken}
 use Rattle.leaf_dispatch.specs.Bounds.{events_left}
 use Rattle.leaf_dispatch.specs.Table.{task_of, leaf_table}
 use Rattle.leaf_dispatch.specs.States.{seen_of, Moves}
-use Rattle.leaf_dispatch.specs.Laws.{CallsHaveLeaves, NoneEnters}
+use Rattle.leaf_dispatch.proofs.Calls.{of-row}
+use Rattle.leaf_dispatch.specs.Laws.{CallsHaveLeaves, LinesHaveLeaves, NoneEnters}
 use Rattle.leaf_dispatch.specs.Follows.{in_hand, IsRunIn, StandsAt, IsProcessor, LpStands, IsNext, ProcessorsFollow}
 use Rattle.leaf_dispatch.specs.declared.states.LpState.{LpState}
 
@@ -53,7 +54,7 @@ module _ (begin : CallsBegin) (follow : CallsFollow) (met : ReachedIsMet) (o : O
   abbrev leaf : Call → Task
   leaf c = record { place = record { machine = o.machine; lp = p }; tree = trees c; meaning = OfCall (row_of o p c) }
 
-  module _ (means : (c : Call) → MeansRow (leaf c)) (t u : Table) (c : Call) (cs : List Call) (run : Option Standing) (rs : List Reply) (b : Beside) (at : StandsAt o leaf s t p (record { lines = c ∷ cs; run = run; replies = rs; beside = b })) where
+  module _ (means : (c : Call) → (row_of o p c).enters ≡ None → MeansRow (leaf c)) (t u : Table) (c : Call) (cs : List Call) (run : Option Standing) (rs : List Reply) (b : Beside) (at : StandsAt o leaf s t p (record { lines = c ∷ cs; run = run; replies = rs; beside = b })) where
     -- where its call is, begun or not
     call-at : (r : Option Standing) → IsRunIn o leaf p s at.memory (c ∷ cs) r → IsCallAt o (leaf c) (row_of o p c) s.world at.memory.words (s.lps p) (running (leaf c) r)
     call-at None i = begin o (leaf c) (row_of o p c) s.world at.memory.words (s.lps p) (record { call = c; further = cs; lines = at.lines; row_is = refl }) i.0
@@ -118,20 +119,20 @@ module _ (begin : CallsBegin) (follow : CallsFollow) (met : ReachedIsMet) (o : O
     line-follows e ps after plays lt =
         let result : RunTurn = record { event = e; reply = last_reply lt.stands.stage lt.stands.held } in
         let af =
-        follow o (leaf c) (row_of o p c) s at.memory t u (running (leaf c) run) lt.stands (taken_in ps) result (means c) refl shown (call-at run at.run) lt.going
+        follow o (leaf c) (row_of o p c) s at.memory t u (running (leaf c) run) lt.stands (taken_in ps) result (means c (none p (length (s.lps p).replies) c cs at.lines)) refl shown (call-at run at.run) lt.going
         (record { turn = turn-of-taken o.machine (running (leaf c) run) lt.stands ps e lt.turn; reply = refl }) plays in (
           (line_event o s.world (s.lps p) (row_of o p c) (s.lps p).guest, ap (event_for o s.world p (s.lps p)) at.lines),
           subst (λ (z : WordLp). StandsAt o leaf (event o s p) u p z) (sym lt.after_is) (arrives lt.stands result af),
         )
 
-  follows : ((c : Call) → MeansRow (leaf c)) → (t u : Table) (cs : List Call) (run : Option Standing) (rs : List Reply) (b : Beside) (e : RunEvent) (ps : List Piece) (after : WordLp) → StandsAt o leaf s t p (record { lines = cs; run = run; replies = rs; beside = b })
+  follows : ((c : Call) → (row_of o p c).enters ≡ None → MeansRow (leaf c)) → (t u : Table) (cs : List Call) (run : Option Standing) (rs : List Reply) (b : Beside) (e : RunEvent) (ps : List Piece) (after : WordLp) → StandsAt o leaf s t p (record { lines = cs; run = run; replies = rs; beside = b })
       → PlaysTo t (taken_in ps) u → LinesTurn leaf o.machine cs run rs b e ps after → ((f : Event) × (next_event o s p ≡ Some f)) × StandsAt o leaf (event o s p) u p after
   follows means t u [] run rs b e ps after at plays lt = absurd lt
   follows means t u (c ∷ cs) run rs b e ps after at plays lt = line-follows means t u c cs run rs b at e ps after plays lt
 
 -- the table's leaves, by their trees
 leaves-are : (o : Opening) (p : ℕ) → AreLeaves o (leaf_table o.machine) → leaf_table o.machine p ≡ (λ (c : Call). record { place = record { machine = o.machine; lp = p }; tree = (leaf_table o.machine p c).tree; meaning = OfCall (row_of o p c) })
-leaves-are o p are = λ i c. record { place = record { machine = are.machine p c i; lp = are.processor p c i }; tree = (leaf_table o.machine p c).tree; meaning = are.row p c i }
+leaves-are o p are = λ i c. record { place = record { machine = are.machine p c i; lp = are.processor p c i }; tree = (leaf_table o.machine p c).tree; meaning = of-row o p c i }
 
 same-table : (t u : Table) → u.words ≡ t.words → u.slots ≡ t.slots → u ≡ t
 same-table t u a b = λ i. record { words = a i; slots = b i }
@@ -140,7 +141,7 @@ no-lines : (cs : List Call) → false ≡ not (length cs == 0) → cs ≡ []
 no-lines [] e = refl
 no-lines (c ∷ cs) e = (let apart : false ≡ true = e ∙ ap not (ne_eqb (length (c ∷ cs)) 0 (λ z. absurd (omega (arith, z)))) in cc)
 
-module _ (begin : CallsBegin) (follow : CallsFollow) (met : ReachedIsMet) (leaves : CallsHaveLeaves) (enters : NoneEnters) (o : Opening) (schedule : List ℕ) (p : ℕ) (machine : IsMachine o.machine) (few : length o.calls ≤ 8) (inside : p < length o.calls) where
+module _ (begin : CallsBegin) (follow : CallsFollow) (met : ReachedIsMet) (leaves : CallsHaveLeaves) (enters : NoneEnters) (o : Opening) (schedule : List ℕ) (p : ℕ) (machine : IsMachine o.machine) (few : length o.calls ≤ 8) (have : LinesHaveLeaves o) (inside : p < length o.calls) where
   abbrev now : State
   now = reached o None schedule
 
@@ -150,7 +151,7 @@ module _ (begin : CallsBegin) (follow : CallsFollow) (met : ReachedIsMet) (leave
       let are = leaves o machine in
       let same = leaves-are o p are in
       subst (λ (f : Call → Task). StandsAt o f now t p at → PlaysTo t (taken_in ps) u → LpTurns f o.machine at e ps after → ((x : Event) × (next_event o now p ≡ Some x)) × StandsAt o f (event o now p) u p after) (sym same)
-      (λ i plays lt. follows begin follow met o schedule p few inside (λ c. (leaf_table o.machine p c).tree) (enters o) (λ c. subst (λ (f : Call → Task). MeansRow (f c)) same (are.means p c)) t u at.lines at.run at.replies at.beside e ps after i plays lt)
+      (λ i plays lt. follows begin follow met o schedule p few inside (λ c. (leaf_table o.machine p c).tree) (enters o have) (λ c e. subst (λ (f : Call → Task). MeansRow (f c)) same (are.means p c e)) t u at.lines at.run at.replies at.beside e ps after i plays lt)
 
   next : (l l' : LpState) (t u : Table) (r : Turn) → l.place ≡ record { machine = o.machine; lp = p } → LpStands o now t p l → Turned Moves (λ z. events_left (seen_of z)) (PlaysTo t) l u l' r → has_moved r ≡ not (length l.lines.now == 0)
       → IsNext o now u p l' r
@@ -184,5 +185,5 @@ starts met o p l is first =
 pub processors-follow : StartIsMet → CallsBegin → CallsFollow → ReachedIsMet → CallsHaveLeaves → NoneEnters → ProcessorsFollow
 processors-follow start begin follow met leaves enters = record {
   starts = starts start;
-  follow = λ o schedule p l l' t u r machine few is stands t' h. next begin follow met leaves enters o schedule p machine few is.1 l l' t u r is.0 stands t' h;
+  follow = λ o schedule p l l' t u r machine few have is stands t' h. next begin follow met leaves enters o schedule p machine few have is.1 l l' t u r is.0 stands t' h;
 }

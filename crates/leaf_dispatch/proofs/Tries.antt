@@ -92,6 +92,7 @@ few_tries p (call.MngKeyFreeid tdr) = (omega arith, λ pamt life. (omega arith, 
 few_tries p (call.MrFinalize tdr) = (omega arith, λ pamt life count tdcs. (omega arith, λ op hkid n. vps-few 0 p.machine.pages (ready_vp (page_told p.machine.pages tdcs)) 0 (vps_told n) 0 (λ created. needs (created == 0) (VcpuStateIncorrect vcpu.Created) (acts (Done value.Nothing) (final_changes p.machine (page_told p.machine.pages tdcs) hkid))) (λ created. refl)))
 few_tries p (call.VpCreate tdr page) = (omega arith, λ pamt life count tdcs. (omega arith, λ op vps expected. (omega arith, λ host children. refl)))
 few_tries p (call.VpInit tdr vp value) = (omega arith, λ pamt life count tdcs. (omega arith, λ op. (omega arith, λ host state. refl)))
+few_tries p (call.VpEnter tdr vp max) = refl
 few_tries p (call.MemSeptAdd tdr gpa level page) = (omega arith, λ pamt life count tdcs. (omega arith, λ op. (omega arith, find-few 1 p.machine.pages tdr gpa level (sept_add_rest p.machine.pages tdr page (index_at level gpa)) (λ f. (omega arith, λ host children. refl)))))
 few_tries p (call.MemSeptRd tdr gpa level) = (omega arith, λ pamt life count tdcs. (omega arith, λ op. (omega arith, find-few 0 p.machine.pages tdr gpa level (λ (f : Found). answers (Done (entry_value f.entry))) (λ f. refl))))
 few_tries p (call.MemPageAdd tdr gpa page source) = page_add-few p.machine tdr gpa page source

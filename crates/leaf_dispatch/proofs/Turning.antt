@@ -1,5 +1,5 @@
 -- A turn of the present call's run is a turn of its processor.
-use Rattle.std.proofs.Common.{◌≡◌, ℕ, ◌+◌, ◌<◌, false, List, [], ◌∷◌, ◌++◌, length, Option, Some, None, refl, ap, sym, ◌∙◌, subst, arith}
+use Rattle.std.proofs.Common.{◌≡◌, ℕ, ◌+◌, ◌<◌, ◌≤◌, false, List, [], ◌∷◌, ◌++◌, length, Option, Some, None, refl, ap, sym, ◌∙◌, subst, arith}
 use Rattle.td_words.specs.declared.machines.Machine.{Machine}
 use Rattle.td_words.specs.declared.calls.Call.{Call}
 use Rattle.td_words.specs.declared.replies.Reply.{Reply}
@@ -33,14 +33,14 @@ bound-before : (leaf : Call → Task) (c : Call) (cs : List Call) (run : Option 
 bound-before leaf c cs None = omega arith
 bound-before leaf c cs (Some s) = refl
 
-none-begun : (cs : List Call) → left_of cs None ≡ events_in cs
-none-begun [] = refl
-none-begun (c ∷ cs) = refl
+none-begun : (cs : List Call) → left_of cs None ≤ events_in cs
+none-begun [] = omega arith
+none-begun (c ∷ cs) = omega arith
 
 bound-after : (c : Call) (cs : List Call) (rs : List Reply) (b : Beside) (s : Standing) (reply : Option Reply) (x : ℕ) → stage_left (most_tries c) s.stage (length s.held) < x
     → events_left (after_turn c cs rs b s reply) < x + events_in cs
 bound-after c cs rs b s None x l = omega arith
-bound-after c cs rs b s (Some r) x l = rw (none-begun cs) (omega arith)
+bound-after c cs rs b s (Some r) x l = let few = none-begun cs in omega (arith, few, l)
 
 pub record Moved {B : Type 0} (did : List Taken → B → Type 0) (bench : B) (leaf : Call → Task) (m : Machine) (p q : WordLp) (result : RunTurn) : Type 0 where
   pub pieces : List Piece

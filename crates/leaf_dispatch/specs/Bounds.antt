@@ -22,16 +22,16 @@ TriesAtMost n (Since a cs) = a ≡ only a.reply
 abbrev pub FewTries : ℕ → Standing → Type 0
 FewTries n s = s.stage ≡ stage.Trying → (length s.held ≤ n) × TriesAtMost (n - length s.held) s.rest
 
--- the tries to come, the act, and the releases; or the undo and the releases
+-- the tries to come, the act, and the releases; or the undo and the releases. No call that has a leaf enters a guest
 abbrev pub stage_left : ℕ → Stage → ℕ → ℕ
-stage_left n stage.Trying held = trying_left n held
+stage_left n stage.Trying held = trying_left n 0 held
 stage_left n (stage.Undoing name at) held = undoing_left held
 stage_left n (stage.Answered reply) held = held
 
 -- with these lines left, and the run of the first if it has begun
 abbrev pub left_of : List Call → Option Standing → ℕ
 left_of [] run = 0
-left_of (c ∷ cs) None = events_in (c ∷ cs)
+left_of (c ∷ cs) None = trying_left (most_tries c) 0 0 + events_in cs
 left_of (c ∷ cs) (Some s) = stage_left (most_tries c) s.stage (length s.held) + events_in cs
 
 abbrev pub events_left : WordLp → ℕ

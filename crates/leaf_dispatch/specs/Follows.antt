@@ -22,6 +22,7 @@ use Rattle.leaf_engine.specs.OwnLists.{WordLp, first_lp}
 use Rattle.leaf_engine.specs.Processors.{Turned, has_moved}
 use Rattle.leaf_engine.specs.Merges.{no_table}
 use Rattle.leaf_dispatch.specs.Bounds.{events_left}
+use Rattle.leaf_dispatch.specs.Laws.{LinesHaveLeaves}
 use Rattle.leaf_dispatch.specs.Table.{task_of}
 use Rattle.leaf_dispatch.specs.States.{seen_of, Moves}
 use Rattle.leaf_dispatch.specs.declared.states.LpState.{LpState}
@@ -63,9 +64,9 @@ IsNext o s u p l turn.Ended = (next_event o s p ≡ None) × LpStands o s u p l
 
 -- A processor at the first of its calls stands where the start of a run has it. From then on, in each state that a schedule
 -- leads to, the turn of a processor that stands where that state has it is its next event, after which it stands where the
--- state after that event has it; and it has ended exactly where no line is left.
+-- state after that event has it; and it has ended exactly where no line is left. So it is where each line has a leaf.
 pub record ProcessorsFollow : Type 0 where
   pub starts : (o : Opening) (p : ℕ) (l : LpState) → IsProcessor o p l → seen_of l ≡ first_lp (calls_of o.calls p) → LpStands o (start o None) no_table p l
-  pub follow : (o : Opening) (schedule : List ℕ) (p : ℕ) (l l' : LpState) (t u : Table) (r : Turn) → IsMachine o.machine → length o.calls ≤ 8 → IsProcessor o p l
+  pub follow : (o : Opening) (schedule : List ℕ) (p : ℕ) (l l' : LpState) (t u : Table) (r : Turn) → IsMachine o.machine → length o.calls ≤ 8 → LinesHaveLeaves o → IsProcessor o p l
       → let s = reached o None schedule in LpStands o s t p l → Turned Moves (λ z. events_left (seen_of z)) (PlaysTo t) l u l' r → has_moved r ≡ not (length l.lines.now == 0)
       → IsNext o s u p l' r

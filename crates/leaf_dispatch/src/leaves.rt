@@ -1,10 +1,10 @@
 //! The leaf of each call.
 
-ghost use Rattle.std.specs.Prelude.{◌≡◌};
+ghost use Rattle.std.specs.Prelude.{◌≡◌, true};
 ghost use Rattle.td_words.specs.Limits.{IsMachine};
 ghost use Rattle.leaf_engine.specs.Turns.{IsFresh};
 ghost use Rattle.leaf_dispatch.specs.Plans.{plan_task};
-ghost use Rattle.leaf_dispatch.specs.Table.{task_of};
+ghost use Rattle.leaf_dispatch.specs.Table.{has_leaf, task_of};
 
 use crate::plans::AnyPlan;
 use access_core::{HostRead, HostWrite};
@@ -71,9 +71,10 @@ fn by_plan(plan: AnyPlan) -> AnyLeaf
     AnyLeaf::ByPlan(Planned::new(plan))
 }
 
-/// The leaf of a call at a place, which has done nothing yet.
+/// The leaf of a call at a place, which has done nothing yet. VP.ENTER has none.
 pub fn leaf_of(place: Place, call: &Call) -> AnyLeaf
-    requires { IsMachine place.machine }
+    requires machine { IsMachine place.machine }
+    requires leaf { has_leaf call.now ≡ true }
     ensures task { ⟦<AnyLeaf as Leaf>⟧.task result ≡ task_of place call.now }
     ensures fresh { let leaf = ⟦<AnyLeaf as Leaf>⟧ in IsFresh (leaf.task result).tree (leaf.rest result) (leaf.tries result) (leaf.written result) (leaf.waits result) }
 {
@@ -105,6 +106,7 @@ pub fn leaf_of(place: Place, call: &Call) -> AnyLeaf
         Call::VpInit { tdr, vp, value } => {
             by_plan(AnyPlan::VpInit(VpInit::plan(place, tdr, vp, value)))
         }
+        Call::VpEnter { .. } => unreachable!(),
         Call::MemSeptAdd {
             tdr,
             gpa,

@@ -1,9 +1,9 @@
 //! The run of a call's leaf.
 
-ghost use Rattle.std.specs.Prelude.{◌≡◌, None};
+ghost use Rattle.std.specs.Prelude.{◌≡◌, true, None};
 ghost use Rattle.td_words.specs.Limits.{IsMachine};
 ghost use Rattle.leaf_engine.specs.OwnLists.{running};
-ghost use Rattle.leaf_dispatch.specs.Table.{task_of};
+ghost use Rattle.leaf_dispatch.specs.Table.{has_leaf, task_of};
 ghost use Rattle.leaf_dispatch.specs.Running.{standing_of, run_seen, IsUnderWay, IsRunOf, IsBegun, CanTurn, HasTurned, CallTurned};
 
 use crate::leaves::{AnyLeaf, leaf_of};
@@ -35,6 +35,7 @@ pub fn turn_call<B: Bench>(
     bench: &mut B,
 ) -> RunTurn
     requires machine { IsMachine place.machine }
+    requires leaf { has_leaf call.now ≡ true }
     requires at { place.machine ≡ B.machine bench.old }
     requires under_way { IsRunOf place.machine call.now kept.old }
     ensures turned { CallTurned (B.did bench.old) place call.now (run_seen kept.old) bench.new kept.new result }
@@ -51,6 +52,7 @@ pub fn turn_call<B: Bench>(
 // Where no run is kept, that of a call begins.
 fn begin_where_none(kept: &mut Option<Running>, place: Place, call: &Call)
     requires machine { IsMachine place.machine }
+    requires leaf { has_leaf call.now ≡ true }
     requires under_way { IsRunOf place.machine call.now kept.old }
     ensures { IsBegun place call.now (run_seen kept.old) kept.new }
 {
@@ -62,7 +64,8 @@ fn begin_where_none(kept: &mut Option<Running>, place: Place, call: &Call)
 
 #[inline(never)]
 fn enter(kept: &mut Option<Running>, place: Place, call: &Call)
-    requires { IsMachine place.machine }
+    requires machine { IsMachine place.machine }
+    requires leaf { has_leaf call.now ≡ true }
     ensures { IsBegun place call.now None kept.new }
 {
     *kept = Some(begin(place, call));
@@ -90,7 +93,8 @@ fn turn_kept<B: Bench>(kept: &mut Option<Running>, bench: &mut B) -> RunTurn
 /// The run of a call at its first event.
 #[tactic(auto, using(crate::proofs::Tries::few_tries))]
 fn begin(place: Place, call: &Call) -> Running
-    requires { IsMachine place.machine }
+    requires machine { IsMachine place.machine }
+    requires leaf { has_leaf call.now ≡ true }
     ensures stands { standing_of result ≡ running (task_of place call.now) None }
     ensures under_way { IsUnderWay place.machine call.now result }
 {

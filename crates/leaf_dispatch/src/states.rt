@@ -1,7 +1,8 @@
 //! Logical processors with their calls.
 
-ghost use Rattle.std.specs.Prelude.{◌+◌, ◌≤◌, length, vec_capacity};
+ghost use Rattle.std.specs.Prelude.{◌≡◌, ◌+◌, ◌≤◌, true, length, vec_capacity};
 ghost use Rattle.td_words.specs.Limits.{IsMachine};
+ghost use Rattle.leaf_dispatch.specs.Table.{have_leaves};
 ghost use Rattle.leaf_dispatch.specs.Running.{IsRunAt};
 ghost use Rattle.leaf_dispatch.specs.Kept.{IsRunAt-prop};
 
@@ -20,24 +21,28 @@ pub struct LpState<'a> {
     run: Option<Running>,
     replies: Vec<Reply>,
     ghost machine: { IsMachine place.machine },
+    ghost leaves: { have_leaves lines.now ≡ true },
     ghost under_way: { IsRunAt place.machine lines.now run } by { IsRunAt-prop place.machine lines.now run },
     ghost room: { length replies.items + length lines.now ≤ vec_capacity replies },
 }
 
 impl<'a> LpState<'a> {
-    ghost use Rattle.std.specs.Prelude.{◌≡◌, IfOk};
+    ghost use Rattle.std.specs.Prelude.{◌≡◌, true, IfOk};
     ghost use Rattle.td_words.specs.Limits.{IsMachine};
     ghost use Rattle.leaf_engine.specs.OwnLists.{first_lp};
+    ghost use Rattle.leaf_dispatch.specs.Table.{have_leaves};
     ghost use Rattle.leaf_dispatch.specs.States.{seen_of};
 
-    /// At the first of its calls. All the memory that its replies need is taken here.
+    /// At the first of its calls, which all have leaves. All the memory that its replies need is taken
+    /// here.
     pub fn new(
         alloc: Global,
         machine: Machine,
         lp: u8,
         calls: &'a [Call],
     ) -> Result<LpState<'a>, OutOfMemory>
-        requires { IsMachine machine }
+        requires machine { IsMachine machine }
+        requires leaves { have_leaves calls.now ≡ true }
         ensures place { IfOk result (λ s. s.place ≡ record { machine = machine; lp = lp }) }
         ensures first { IfOk result (λ s. seen_of s ≡ first_lp calls.now) }
     {

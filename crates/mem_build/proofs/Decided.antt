@@ -39,7 +39,7 @@ add-arguments n m tdr gpa level page a b c d e f t xs r h =
 
 -- and of MEM.PAGE.AUG
 pub augment-arguments : (n : ℕ) (m : Machine) (tdr gpa page : ℕ) → nat_lt tdr m.pages ≡ true → nat_lt gpa (2 ^ 47) ≡ true → nat_lt page m.pages ≡ true → not (page == tdr) ≡ true → (gpa % level_size 0 == 0) ≡ true
-    → (t : Tree) (xs : List ℕ) (r : Result Verdict Stop) → Decides n t xs r → Decides n (augment_arguments m tdr gpa page t) xs r
+    → (t : Tree) (xs : List ℕ) (r : Result Ending Stop) → Decides n t xs r → Decides n (augment_arguments m tdr gpa page t) xs r
 augment-arguments n m tdr gpa page a b c d e t xs r h =
     let last : Tree = needs (gpa % level_size 0 == 0) (OperandInvalid 2) t in
     let fourth : Tree = needs (not (page == tdr)) (OperandInvalid 3) last in
