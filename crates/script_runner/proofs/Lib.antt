@@ -1,3 +1,4 @@
+pub mod Built
 pub mod Part
 pub mod Due
 pub mod Closing

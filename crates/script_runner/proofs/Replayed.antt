@@ -36,6 +36,8 @@ use Rattle.leaf_engine.specs.Merges.{Item, order, no_table}
 use Rattle.merge_laws.specs.Merge.{Merge}
 use Rattle.merge_laws.specs.Laws.{IsWhere}
 use Rattle.leaf_dispatch.specs.Table.{task_of, leaf_table}
+use Rattle.leaf_dispatch.specs.Laws.{LinesHaveLeaves}
+use Rattle.script_runner.proofs.Built.{lists-have}
 use Rattle.leaf_dispatch.specs.States.{seen_of, Moves}
 use Rattle.leaf_dispatch.specs.Bounds.{events_left}
 use Rattle.leaf_dispatch.specs.declared.states.LpState.{LpState}
@@ -51,6 +53,7 @@ use Rattle.script_runner.proofs.Places.{seen-at, seen-own, seen-other, place-at,
 pub record IsOpen (o : Opening) : Type 0 where
   pub machine : IsMachine o.machine
   pub few : length o.calls ≤ 8
+  pub leaves : LinesHaveLeaves o
 
 -- at the start the whole schedule is left
 at-start : (o : Opening) (schedule : List ℕ) (lps : List LpState) (t : Table) → AreFirst o.machine 0 lps o.calls → PlaysTo no_table [] t → IsMidway o schedule schedule lps t
@@ -74,7 +77,7 @@ between t v (Missed k ∷ xs) ys h = absurd h
 
 -- where the flat machine is after the events of a merge
 where-now : TurnsAreEvents → (o : Opening) (made : List Item) (now : ℕ → WordLp) (u : Table) → IsOpen o → Merge o (leaf_table o.machine) made now u → IsWhere o now (play o (order made) (start o None))
-where-now ls o made now u op m = (ls.merges.turns o (leaf_table o.machine) made now u op.few (ls.leaves o op.machine) (ls.enters o) m).1
+where-now ls o made now u op m = (ls.merges.turns o (leaf_table o.machine) made now u op.few (ls.leaves o op.machine) (ls.enters o op.leaves) m).1
 
 -- a processor without lines has none in the flat machine
 ended-flat : TurnsAreEvents → (o : Opening) (schedule left : List ℕ) (lps : List LpState) (t : Table) (p : ℕ) → IsOpen o → (l : IsMidway o schedule left lps t) → p < length o.calls → (seen_at lps p).lines ≡ []
@@ -182,7 +185,7 @@ item-next o schedule lps id b i d p l inside is =
     subst (λ (z : List ℕ). IsAtBench o schedule z lps id b) next l
 
 pub open-of : (script : ScriptSeen) → IsInForm script → IsOpen (opening_of script)
-open-of script form = record { machine = form.machine; few = omega (arith, form.machine.lps.1, form.lists) }
+open-of script form = record { machine = form.machine; few = omega (arith, form.machine.lps.1, form.lists); leaves = lists-have script.calls form.arguments }
 
 -- those before a processor stay at their ends
 pub still-ended : (lps : List LpState) (p : ℕ) (s' : LpState) → HaveEnded p lps → HaveEnded p (set lps p s')
@@ -266,7 +269,7 @@ unfolding host_text text_of
 prints-all ls o schedule lps id b m words op l ended closed =
     let plays = alone m l.own words (subst (λ (z : List (List Taken)). MergesTo m z words) (ap (λ (z : BenchSeen). z.pass.lists) l.is) closed) in
     let now = l.midway plays.0 plays.1 in
-    let there = ls.merges.ended o (leaf_table o.machine) now.made (seen_at lps) plays.0 op.few (ls.leaves o op.machine) (ls.enters o) now.merge (λ p i. ended p (omega (arith, l.count))) in
+    let there = ls.merges.ended o (leaf_table o.machine) now.made (seen_at lps) plays.0 op.few (ls.leaves o op.machine) (ls.enters o op.leaves) now.merge (λ p i. ended p (omega (arith, l.count))) in
     let s : State = run o (order now.made) in
     let lines : lines_from s.lp_count 0 s.lps ≡ lines_seen 0 lps =
     same-lines s.lp_count 0 s.lps lps (l.count ∙ sym (counts_stay o (order now.made ++ to_the_end 0 o.calls) (start o None))) (λ q i. ap (λ (k : ℕ). (s.lps k).replies) (omega arith) ∙ there.1.replies q (omega (arith, counts_stay o (order now.made ++ to_the_end 0 o.calls) (start o None)))) in

@@ -1,15 +1,20 @@
 -- Items of a processor behind its last event do nothing; and so, where those before it have ended, one more of its own changes
 -- nothing of a run.
-use Rattle.std.proofs.Common.{◌≡◌, ◌≢◌, ◌⊎◌, inl, inr, refl, sym, ◌∙◌, ap, subst, ℕ, zero, suc, ◌+◌, ◌<◌, ◌≤◌, List, [], ◌∷◌, ◌++◌, length, replicate, Option, Some, None, true, false, ◌==◌, arith, append-nil}
-use Rattle.std.proofs.lemmas.Bool.Decides.{eqb_tells}
+use Rattle.std.proofs.Common.{◌≡◌, ◌≢◌, ◌⊎◌, inl, inr, refl, sym, ◌∙◌, ap, subst, ℕ, zero, suc, ◌+◌, ◌*◌, ◌<◌, ◌≤◌, List, [], ◌∷◌, ◌++◌, length, drop, replicate, Option, Some, None, arith, append-nil}
 use Rattle.td_words.specs.declared.calls.Call.{Call}
-use Rattle.flat_core.specs.Processor.{Lp, idle}
+use Rattle.td_words.specs.declared.replies.Outcome.{Outcome}
+use Rattle.td_words.specs.declared.replies.Reply.{Reply}
+use Rattle.flat_core.specs.World.{World}
+use Rattle.flat_core.specs.Processor.{Phase, Trying, Undoing, Answered, Guest, Lp}
 use Rattle.flat_core.specs.Opening.{Opening}
+use Rattle.flat_core.specs.Table.{most_tries, guest_events, most_events}
 use Rattle.flat_core.specs.Event.{State, Event, start, event, next_event, event_for, after_event, lines_left, calls_of}
 use Rattle.flat_core.specs.Run.{play, run, events_in, to_the_end}
-use Rattle.flat_core.specs.Bounds.{left_of, events_left, EventsRunOut}
+use Rattle.flat_core.specs.Inside.{InGuest, LineAt, StandsAt, AreTimely}
+use Rattle.flat_core.specs.Bounds.{call_left, guest_left, line_left, left_of, events_left, EventsRunOut}
 use Rattle.flat_core.specs.Laws.{OthersStay}
 use Rattle.flat_core.proofs.Induction.{play_append}
+use Rattle.flat_core.proofs.Ends.{always_timely}
 
 pub stays : (o : Opening) (s : State) (p : ℕ) → lines_left o p (s.lps p) ≡ [] → event o s p ≡ s
 stays o s p e = ap (λ (cs : List Call). after_event p s (event_for o s.world p (s.lps p) cs)) e
@@ -46,37 +51,42 @@ enough out o p (suc n) s r h = by (next_event o s p) refl (λ less. enough out o
     by None e further = ap (play o (replicate (suc n) p)) (no-event o s p e)
     by (Some e) is further = let l = lowers out o s p e r is in further (omega arith)
 
-one-falls : EventsRunOut → OthersStay → (o : Opening) (s : State) (p q : ℕ) → IsReached o s → events_left o (event o s q) p ≤ events_left o s p
-one-falls out others o s p q r = by (eqb_tells q p)
-  where
-    own : (x : Option Event) → next_event o s p ≡ x → events_left o (event o s p) p ≤ events_left o s p
-    own None e = (let same : events_left o (event o s p) p ≡ events_left o s p = ap (λ (z : State). events_left o z p) (no-event o s p e) in omega arith)
-    own (Some e) is = (let l = lowers out o s p e r is in omega arith)
+-- a line has no more left than it can have in all
+phase-few : (n k held : ℕ) (phase : Phase Reply) → held ≤ n → call_left n k phase held ≤ 2 * n + 1 + k
+phase-few n k held Trying h = omega arith
+phase-few n k held (Undoing l) h = omega arith
+phase-few n k held (Answered r) h = omega arith
 
-    by : (((q == p) ≡ true) × (q ≡ p)) ⊎ (((q == p) ≡ false) × (q ≢ p)) → events_left o (event o s q) p ≤ events_left o s p
-    by (inl t) = subst (λ (z : ℕ). events_left o (event o s z) p ≤ events_left o s p) (sym t.1) (own (next_event o s p) refl)
-    by (inr f) =
-        let same : events_left o (event o s q) p ≡ events_left o s p = ap (λ (z : Lp). left_of (lines_left o p z) z) (others o s q p (λ e. f.1 (sym e))) in
-        omega arith
+guest-few : (o : Opening) (w : World) (lp : Lp) (g : Guest) (leaving : Option Outcome) → guest_left o w lp g leaving ≤ 5 * g.most
+guest-few o w lp g (Some out) = omega arith
+guest-few o w lp g None = omega arith
 
-falls : EventsRunOut → OthersStay → (o : Opening) (p : ℕ) (xs : List ℕ) (s : State) → IsReached o s → events_left o (play o xs s) p ≤ events_left o s p
-falls out others o p [] s r = omega arith
-falls out others o p (x ∷ xs) s r =
-    let one = one-falls out others o s p x r in
-    let more = falls out others o p xs (event o s x) (reached-next o s x r) in
-    omega arith
+entered-few : (o : Opening) (w : World) (p : ℕ) (c : Call) (lp : Lp) (g : Guest) → InGuest o w p c lp g → length lp.call.held ≤ 4
+entered-few o w p c lp g h = elim h.locks [ | inl e ↦ (let n : length lp.call.held ≡ 3 = ap length e in omega (arith, n)) | inr e ↦ (let n : length lp.call.held ≡ 4 = ap length e.0 in omega (arith, n)) ]
 
-at-first : (cs : List Call) → left_of cs idle ≡ events_in cs
-at-first [] = refl
-at-first (c ∷ cs) = omega arith
+line-few : (o : Opening) (w : World) (p : ℕ) (c : Call) (lp : Lp) (x : Option Guest) → LineAt o w p c lp x → line_left o w c lp x ≤ most_events c
+line-few o w p c lp None h = phase-few (most_tries c) (guest_events c) (length lp.call.held) lp.call.phase h.0
+line-few o w p c lp (Some g) h =
+    let held = entered-few o w p c lp g h in
+    let left = guest-few o w lp g g.leaving in
+    subst (λ (x : Call). line_left o w c lp (Some g) ≤ most_events x) (sym h.entered) (omega (arith, held, left))
+
+lines-few : (o : Opening) (w : World) (p : ℕ) (cs : List Call) (lp : Lp) → StandsAt o w p cs lp → left_of o w cs lp ≤ events_in cs
+lines-few o w p [] lp h = omega arith
+lines-few o w p (c ∷ cs) lp h = let one = line-few o w p c lp lp.guest h in omega (arith, one)
+
+drop-few : (k : ℕ) (cs : List Call) → events_in (drop k cs) ≤ events_in cs
+drop-few zero cs = omega arith
+drop-few (suc k) [] = omega arith
+drop-few (suc k) (c ∷ cs) = let few = drop-few k cs in omega (arith, few)
 
 -- no more than all its lines need
-few-left : EventsRunOut → OthersStay → (o : Opening) (s : State) (p : ℕ) → IsReached o s → events_left o s p ≤ events_in (calls_of o.calls p)
-few-left out others o s p r =
-    let first : events_left o (start o None) p ≡ events_in (calls_of o.calls p) = at-first (calls_of o.calls p) in
-    let fall = falls out others o p r.schedule (start o None) (record { schedule = []; is = refl }) in
-    let same : events_left o s p ≡ events_left o (play o r.schedule (start o None)) p = ap (λ (z : State). events_left o z p) r.is in
-    omega arith
+few-left : (o : Opening) (s : State) (p : ℕ) → IsReached o s → events_left o s p ≤ events_in (calls_of o.calls p)
+few-left o s p r =
+    let timely : AreTimely o s = subst (λ (z : State). AreTimely o z) (sym r.is) (always_timely o None r.schedule) in
+    let lines = lines-few o s.world p (lines_left o p (s.lps p)) (s.lps p) (timely.each p) in
+    let fewer = drop-few (length (s.lps p).replies) (calls_of o.calls p) in
+    omega (arith, lines, fewer)
 
 idle-items : (o : Opening) (s : State) (p n : ℕ) → event o s p ≡ s → play o (replicate n p) s ≡ s
 idle-items o s p zero e = refl
@@ -92,7 +102,7 @@ one-more : EventsRunOut → OthersStay → (o : Opening) (s : State) (p : ℕ) �
 one-more out others o s p r ended [] k j e inside same = absurd (omega arith)
 one-more out others o s p r ended (cs ∷ css) k zero e inside same =
     let here : k ≡ p = omega arith in
-    let few = few-left out others o s p r in
+    let few = few-left o s p r in
     let all : events_in cs ≡ events_in (calls_of o.calls p) = ap events_in same in
     let P : ℕ → Type 0 = λ z. play o (replicate (events_in cs) z ++ to_the_end (suc k) css) (event o s p) ≡ play o (replicate (events_in cs) z ++ to_the_end (suc k) css) s in
     subst P (sym here)

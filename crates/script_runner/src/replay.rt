@@ -1,10 +1,11 @@
 //! A script's run over words: its processors under its schedule, and then each to its end.
 
-ghost use Rattle.std.specs.Prelude.{◌≡◌, ◌≤◌, ◌<◌, ◌+◌, [], length, map, IfOk};
-ghost use Rattle.std.specs.List.{concat};
+ghost use Rattle.std.specs.Prelude.{◌≡◌, ◌≤◌, ◌<◌, ◌+◌, true, [], length, map, IfOk};
+ghost use Rattle.std.specs.List.{All, concat};
 ghost use Rattle.td_words.specs.Limits.{IsMachine};
 ghost use Rattle.flat_core.specs.HostText.{host_text};
 ghost use Rattle.script_text.specs.Laws.{IsInForm};
+ghost use Rattle.leaf_dispatch.specs.Table.{have_leaves};
 ghost use Rattle.trace_table.specs.Benches.{bench_of};
 ghost use Rattle.script_runner.specs.Ending.{opening_of};
 ghost use Rattle.script_runner.specs.Replaying.{AreFirst, IsAtBench, HaveEnded, TurnsAreEvents, lines_seen};
@@ -31,7 +32,7 @@ fn laws_of_turns()
     event_laws();
 }
 
-// The processors of a machine, each at the first of its calls.
+// The processors of a machine, each at the first of its calls, which have leaves.
 fn processors<'a>(
     alloc: Global,
     machine: Machine,
@@ -39,6 +40,7 @@ fn processors<'a>(
 ) -> Result<Vec<LpState<'a>>, OutOfMemory>
     requires machine { IsMachine machine }
     requires few { length lists.now ≤ 8 }
+    requires leaves { All (λ list. have_leaves list.items ≡ true) lists.now }
     ensures { IfOk result (λ v. AreFirst machine 0 v.items (map (λ list. list.items) lists.now)) }
 {
     let Ok(mut lps) = Vec::with_capacity(alloc, lists.len()) else {
