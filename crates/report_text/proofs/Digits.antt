@@ -1,7 +1,6 @@
 -- The hexadecimal text of a digest, as replies print it.
-use Rattle.std.proofs.Common.{◌≡◌, ℕ, zero, suc, ◌/◌, ◌%◌, ◌<◌, ◌==◌, ◌&&◌, inl, inr, Bool, true, false, List, [], ◌∷◌, ◌++◌, slice_index, refl, ap, sym, ◌∙◌, arith}
+use Rattle.std.proofs.Common.{◌≡◌, ℕ, zero, suc, ◌/◌, ◌%◌, ◌<◌, ◌==◌, ◌&&◌, inl, inr, Bool, true, false, List, [], ◌∷◌, slice_index, refl, ap, ◌∙◌, arith}
 use Rattle.std.specs.Fmt.{digits, digit_glyph}
-use Rattle.std.specs.List.{flat_map}
 use Rattle.std.proofs.lemmas.Bool.{and_parts, cases_lt, eqb-true}
 use Rattle.std.proofs.lemmas.Fmt.{hex_one_digit}
 use Rattle.hex.specs.Hex.{encode_with, encode_lower, lower_digits}

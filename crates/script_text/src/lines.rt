@@ -262,6 +262,7 @@ fn operation_line(op: Option<OpName>, numbers: &[Option<u64>]) -> Said
         return Err(Reason::Unbuilt);
     }
     check_operands(op, numbers)?;
+    // Operands in range fit the types of the operation's fields.
     let built = guest_op(op, argument(numbers, 0), argument(numbers, 1));
     Ok(Entry::Operation(built.ok_or(Reason::Unbuilt)?))
 }

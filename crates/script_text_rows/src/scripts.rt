@@ -233,6 +233,22 @@ fn stops_at_the_limit_of_a_list(rt: HostRuntime) -> Result<(), Fail> {
 }
 
 #[test]
+fn has_one_list_for_each_vcpu(rt: HostRuntime) -> Result<(), Fail> {
+    let alloc = rt.alloc();
+    let mut bytes = b"machine 1 1024 1\n".to_vec(alloc)?;
+    for list in 0..8192 {
+        let (tdr, index) = (list / 8, list % 8);
+        let block = format!(in alloc; "code {tdr} {index}\nvmcall {index}\nend\n")?;
+        bytes.extend_from_slice(block.as_bytes())?;
+    }
+    let script = read_script(alloc, &bytes)?;
+    assert_eq!(rt; script.codes.len(), 8192);
+    bytes.extend_from_slice(b"code 511 7\n")?;
+    assert_eq!(rt; answer(alloc, &bytes)?.as_str(), "24578 REPEATED");
+    Ok(())
+}
+
+#[test]
 fn reads_what_stands_there(rt: HostRuntime) -> Result<(), Fail> {
     let text = "# a\nmachine 2 9 3\n schedule 1 0x0*0x2\ncode 8 1\nset 2 7\n\nvmcall 2\nend\n\
         lp 1\nHOST.WRITE 5 6 0x7\nMNG.CREATE 1 2\nend\nschedule 01*02\nlp 0\nHOST.READ 3 4\n\
