@@ -8,3 +8,6 @@ pub mod VpAdded
 pub mod CreateShows
 pub mod CreateMeans
 pub mod VpMeanings
+pub mod EnterTrees
+pub mod EnterShows
+pub mod EnterMeans
