@@ -5,5 +5,7 @@
 #![tactic(auto)]
 
 mod host_accesses;
+mod laws;
 
 pub use host_accesses::{HostRead, HostWrite};
+pub use laws::operations_mean;

@@ -1,0 +1,10 @@
+//! What guest operations mean, as a contract of a function that does nothing.
+
+ghost use Rattle.access_core.specs.OperationTrees.{AddMeans, SetMeans, VmcallMeans};
+
+/// The leaf of each guest operation means its row.
+pub fn operations_mean()
+    ensures set { SetMeans }
+    ensures add { AddMeans }
+    ensures vmcall { VmcallMeans }
+{}
