@@ -64,16 +64,19 @@ shared_tree m v access gpa further =
     (Load Whole (place.Pamt (shared_page gpa)) (λ pamt. unless_violation access gpa (says_host pamt) further)))
 
 -- a shared load: the load of the word is the act
+abbrev pub loaded : (vp line register gpa position word : ℕ) → Tree
+loaded v line r gpa at x = Since (with_notes (Done (value.Number x)) (LoadNote line gpa x ∷ []) []) (put_register v r x ∷ put_next v at ∷ [])
+
 abbrev pub shared_load_tree : Machine → (vp line register gpa : ℕ) → Tree
 shared_load_tree m v line r gpa =
-    shared_tree m v Read gpa (with_position v (λ at. Load Whole (place.Word (shared_page gpa) (word_of_gpa gpa)) (λ x.
-    Since (with_notes (Done (value.Number x)) (LoadNote line gpa x ∷ []) []) (put_register v r x ∷ put_next v at ∷ []))))
+    shared_tree m v Read gpa (with_position v (λ at. Load Whole (place.Word (shared_page gpa) (word_of_gpa gpa)) (λ x. loaded v line r gpa at x)))
 
 -- a shared store: the store of the word is the act
+abbrev pub stored : (vp gpa position word : ℕ) → Tree
+stored v gpa at x = End (with_notes (Done (value.Number x)) [] (x ∷ [])) [] (Put (place.Word (shared_page gpa) (word_of_gpa gpa)) x ∷ put_next v at ∷ [])
+
 abbrev pub shared_store_tree : Machine → (vp register gpa : ℕ) → Tree
-shared_store_tree m v r gpa =
-    shared_tree m v Write gpa (with_position v (λ at. with_register v r (λ x.
-    End (with_notes (Done (value.Number x)) [] (x ∷ [])) [] (Put (place.Word (shared_page gpa) (word_of_gpa gpa)) x ∷ put_next v at ∷ []))))
+shared_store_tree m v r gpa = shared_tree m v Write gpa (with_position v (λ at. with_register v r (λ x. stored v gpa at x)))
 
 -- their leaves, for a virtual processor of a TD, at a call line
 abbrev pub set_task : Place → (tdr vp register value : ℕ) → Task

@@ -1,10 +1,12 @@
 //! What guest operations mean, as a contract of a function that does nothing.
 
-ghost use Rattle.access_core.specs.OperationTrees.{AddMeans, SetMeans, VmcallMeans};
+ghost use Rattle.access_core.specs.OperationTrees.{AddMeans, SetMeans, SharedLoadMeans, SharedStoreMeans, VmcallMeans};
 
 /// The leaf of each guest operation means its row.
 pub fn operations_mean()
     ensures set { SetMeans }
     ensures add { AddMeans }
     ensures vmcall { VmcallMeans }
+    ensures load { SharedLoadMeans }
+    ensures store { SharedStoreMeans }
 {}
