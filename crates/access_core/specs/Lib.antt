@@ -4,3 +4,6 @@ pub mod OperationTrees
 pub mod VpShows
 pub mod GuestWords
 pub mod OperationMeanings
+pub mod RtmrTrees
+pub mod RtmrShows
+pub mod RtmrMeanings

@@ -1,32 +1,28 @@
 -- The leaves of guest operations mean their rows.
-use Rattle.std.proofs.Common.{◌≡◌, ℕ, ◌+◌, ◌%◌, ◌^◌, ◌<◌, Bool, not, ◌==◌, ◌&&◌, nat_lt, List, [], ◌∷◌, Option, Some, None, map, refl, ap, sym, subst, inl, inr, arith}
+use Rattle.std.proofs.Common.{◌≡◌, ℕ, ◌+◌, ◌%◌, ◌^◌, ◌<◌, not, ◌==◌, nat_lt, List, [], ◌∷◌, None, map, refl, sym, subst, inl, inr, arith}
 use Rattle.std.proofs.lemmas.Bool.{ltb-true, and_parts}
 use Rattle.td_words.specs.declared.names.PageKind.TheVariants as kind
 use Rattle.td_words.specs.declared.names.Mode.TheVariants.{Shared}
 use Rattle.td_words.specs.declared.names.Access.{Access}
 use Rattle.td_words.specs.declared.names.Access.TheVariants.{Read, Write}
 use Rattle.td_words.specs.declared.replies.Value.TheVariants as value
-use Rattle.td_words.specs.declared.replies.Reply.{Reply}
 use Rattle.td_words.specs.declared.replies.Reply.TheVariants.{Done, Exited}
-use Rattle.td_words.specs.declared.replies.Outcome.TheVariants.{EptViolation, Vmcall}
+use Rattle.td_words.specs.declared.replies.Outcome.TheVariants.{Vmcall}
 use Rattle.td_words.specs.declared.machines.Machine.{Machine}
 use Rattle.td_words.specs.Place as place
 use Rattle.flat_core.proofs.Tests.{host_kind}
 use Rattle.flat_core.specs.World.{World}
-use Rattle.flat_core.specs.Processor.{OfPage, Held, LoadNote}
+use Rattle.flat_core.specs.Processor.{Held}
 use Rattle.flat_core.specs.Conditions.{is_host}
 use Rattle.flat_core.specs.Effects.{set_word, set_register, pass_operation, tell_words}
-use Rattle.flat_core.specs.Row.{Item}
 use Rattle.flat_core.specs.Tree.{word_of_gpa}
 use Rattle.flat_core.specs.Guest.{plain_operation, set_value, add_registers, call_host, register_told, shared_page, shared_items, unless_violated, shared_load, shared_store}
 use Rattle.flat_core.specs.Lawful.{Lawful}
 use Rattle.word_rules.specs.Rules.{Whole, KeepsNothing}
 use Rattle.word_rules.specs.Cells.{Shows}
-use Rattle.leaf_engine.specs.declared.needs.Place.{Place}
-use Rattle.leaf_engine.specs.Changes.{Put}
 use Rattle.leaf_engine.specs.Facts.{GuestFits}
-use Rattle.leaf_engine.specs.Trees.{Tree, Load, End, Since, acts}
-use Rattle.leaf_engine.specs.Means.{Instant, Means, MeansRow, Work, work_of, OfOperation, hold, exit_item}
+use Rattle.leaf_engine.specs.Trees.{Tree, Load, End, acts}
+use Rattle.leaf_engine.specs.Means.{Instant, Means, Work, work_of, OfOperation, hold, exit_item}
 use Rattle.leaf_parts.specs.Words.{says_host}
 use Rattle.leaf_parts.proofs.Begun.{page_lock, holds-newest}
 use Rattle.leaf_parts.proofs.Checks.{page-told}

@@ -1,6 +1,6 @@
 -- Guest operations as decisions over the words that they are told. The words of the virtual processor's own page are loaded
 -- and stored under the locks of its VP.ENTER.
-use Rattle.std.specs.Prelude.{ℕ, ◌+◌, ◌-◌, ◌*◌, ◌<◌, ◌%◌, ◌^◌, Bool, not, ◌==◌, ◌&&◌, nat_lt, None, List, [], ◌∷◌}
+use Rattle.std.specs.Prelude.{ℕ, ◌+◌, ◌<◌, ◌%◌, ◌^◌, Bool, not, ◌==◌, ◌&&◌, nat_lt, None, List, [], ◌∷◌}
 use Rattle.td_words.specs.declared.names.Mode.TheVariants.{Shared}
 use Rattle.td_words.specs.declared.names.Access.{Access}
 use Rattle.td_words.specs.declared.names.Access.TheVariants.{Read, Write}

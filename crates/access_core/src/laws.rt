@@ -1,6 +1,7 @@
 //! What guest operations mean, as a contract of a function that does nothing.
 
 ghost use Rattle.access_core.specs.OperationTrees.{AddMeans, SetMeans, SharedLoadMeans, SharedStoreMeans, VmcallMeans};
+ghost use Rattle.access_core.specs.RtmrTrees.{RtmrMeans};
 
 /// The leaf of each guest operation means its row.
 pub fn operations_mean()
@@ -9,4 +10,5 @@ pub fn operations_mean()
     ensures vmcall { VmcallMeans }
     ensures load { SharedLoadMeans }
     ensures store { SharedStoreMeans }
+    ensures rtmr { RtmrMeans }
 {}
