@@ -1,9 +1,10 @@
-//! What guest operations mean, as a contract of a function that does nothing.
+//! What the leaves of guest operations mean, as a contract of a function that does nothing.
 
 ghost use Rattle.access_core.specs.OperationTrees.{AddMeans, SetMeans, SharedLoadMeans, SharedStoreMeans, VmcallMeans};
 ghost use Rattle.access_core.specs.RtmrTrees.{RtmrMeans};
 
-/// The leaf of each guest operation means its row.
+/// The leaves of `set`, `add`, `vmcall` and `rtmr`, and of loads and stores of shared words, mean
+/// their rows.
 pub fn operations_mean()
     ensures set { SetMeans }
     ensures add { AddMeans }
