@@ -68,7 +68,7 @@ host_read-means p page i = record {
 }
 
 -- a word that is stored in a host page
-shows_stored : (m : Machine) (words : WordPlace → ℕ) (slots : ℕ → Option (List ℕ)) (s : State) (page i v : ℕ) → page < m.pages → Shows m words slots s → s.world.pages.kinds page ≡ kind.Nda
+pub shows_stored : (m : Machine) (words : WordPlace → ℕ) (slots : ℕ → Option (List ℕ)) (s : State) (page i v : ℕ) → page < m.pages → Shows m words slots s → s.world.pages.kinds page ≡ kind.Nda
     → Shows m (put_word words (place.Word page i) v) slots (record s { world = set_word page i v s.world })
 shows_stored m words slots s page i v in_page sh nda = record {
   word = back (words-but (aside page m words s sh.word) (put_in s.world.words page i v) (λ q j o. rw o refl)) (put_word words (place.Word page i) v) (λ r. refl) (λ r. refl) (λ k. refl) (λ r j o. rw o refl)

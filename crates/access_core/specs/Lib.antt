@@ -1,2 +1,9 @@
 pub mod HostTrees
 pub mod HostMeanings
+pub mod OperationTrees
+pub mod VpShows
+pub mod GuestWords
+pub mod OperationMeanings
+pub mod RtmrTrees
+pub mod RtmrShows
+pub mod RtmrMeanings

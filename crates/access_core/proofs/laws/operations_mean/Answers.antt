@@ -1,0 +1,21 @@
+use Rattle.access_core.specs.OperationMeanings.{set-means, add-means, vmcall-means, shared_load-means, shared_store-means}
+use Rattle.access_core.specs.RtmrMeanings.{rtmr-means}
+use Rattle.access_core.proofs.laws.operations_mean.Goals as goal
+
+pub returns-clause-set : goal.returns-clause-set
+returns-clause-set c = set-means
+
+pub returns-clause-add : goal.returns-clause-add
+returns-clause-add c = add-means
+
+pub returns-clause-vmcall : goal.returns-clause-vmcall
+returns-clause-vmcall c = vmcall-means
+
+pub returns-clause-load : goal.returns-clause-load
+returns-clause-load c = shared_load-means
+
+pub returns-clause-store : goal.returns-clause-store
+returns-clause-store c = shared_store-means
+
+pub returns-clause-rtmr : goal.returns-clause-rtmr
+returns-clause-rtmr c = rtmr-means

@@ -1,0 +1,15 @@
+//! What the leaves of guest operations mean, as a contract of a function that does nothing.
+
+ghost use Rattle.access_core.specs.OperationTrees.{AddMeans, SetMeans, SharedLoadMeans, SharedStoreMeans, VmcallMeans};
+ghost use Rattle.access_core.specs.RtmrTrees.{RtmrMeans};
+
+/// The leaves of `set`, `add`, `vmcall` and `rtmr`, and of loads and stores of shared words, mean
+/// their rows.
+pub fn operations_mean()
+    ensures set { SetMeans }
+    ensures add { AddMeans }
+    ensures vmcall { VmcallMeans }
+    ensures load { SharedLoadMeans }
+    ensures store { SharedStoreMeans }
+    ensures rtmr { RtmrMeans }
+{}
