@@ -27,7 +27,7 @@ use Rattle.access_core.specs.HostTrees.{host_read_tree, host_write_tree}
 use Rattle.merge_laws.specs.Merge.{Merge, MergePlays}
 use Rattle.merge_laws.specs.Laws.{IsShownBy, IsWhere, MergesAreRuns}
 use Rattle.leaf_dispatch.specs.Table.{leaf_table}
-use Rattle.leaf_dispatch.specs.Laws.{CallsHaveLeaves, NoneEnters}
+use Rattle.leaf_dispatch.specs.Laws.{CallsHaveLeaves, LinesHaveLeaves, NoneEnters}
 use Rattle.worked_merges.specs.Worked.{writer_and_reader, lock_word, pamt_word, content_word, load_behind_store, load_before_store, order_behind, order_before, table_left, done_with, ends_reading, RunsAs, Examples}
 
 abbrev m : Machine
@@ -227,6 +227,12 @@ other-two p h = (ne_eqb 0 p (λ (e : 0 ≡ p). absurd (omega arith)), ne_eqb 1 p
 in-limits : IsMachine m
 in-limits = record { lps = (omega arith, omega arith); pages = (omega arith, omega arith); hkids = (omega arith, omega arith) }
 
+-- each of their calls has a leaf
+with-leaves : LinesHaveLeaves writer_and_reader
+with-leaves zero = refl
+with-leaves (suc zero) = refl
+with-leaves (suc (suc p)) = refl
+
 -- items in which those own lists stand, and which play, are a run by the law of merges
 runs-as : MergesAreRuns → CallsHaveLeaves → NoneEnters → (word : ℕ) → (is : List Item) → (schedule : List ℕ) → part 0 is ≡ joined writer_own → part 1 is ≡ joined (reader_own word) → ((p : ℕ) → (0 == p) ≡ false → (1 == p) ≡ false → part p is ≡ [])
     → MergePlays no_table is (table_left no_table is) → order is ≡ schedule → RunsAs writer_and_reader is (ends_reading word) schedule
@@ -255,7 +261,7 @@ runs-as law leaves none word is schedule zeroth first further plays ordered = re
     both : IsShownBy m (table_left no_table is) (run writer_and_reader schedule) × IsWhere writer_and_reader (ends_reading word) (run writer_and_reader schedule)
     both =
         subst (λ (ps : List ℕ). IsShownBy m (table_left no_table is) (run writer_and_reader ps) × IsWhere writer_and_reader (ends_reading word) (run writer_and_reader ps)) ordered
-        (law.ended writer_and_reader (leaf_table m) is (ends_reading word) (table_left no_table is) (omega arith) (leaves writer_and_reader in-limits) (none writer_and_reader) merge ended)
+        (law.ended writer_and_reader (leaf_table m) is (ends_reading word) (table_left no_table is) (omega arith) (leaves writer_and_reader in-limits) (none writer_and_reader with-leaves) merge ended)
 
 -- each answer is what the merge has made
 behind-plays : MergePlays no_table load_behind_store (table_left no_table load_behind_store)
