@@ -62,7 +62,7 @@ guest-few o w lp g (Some out) = omega arith
 guest-few o w lp g None = omega arith
 
 entered-few : (o : Opening) (w : World) (p : ℕ) (c : Call) (lp : Lp) (g : Guest) → InGuest o w p c lp g → length lp.call.held ≤ 4
-entered-few o w p c lp g h = elim h.locks [ | inl e ↦ (let n : length lp.call.held ≡ 3 = ap length e in omega (arith, n)) | inr e ↦ (let n : length lp.call.held ≡ 4 = ap length e.0 in omega (arith, n)) ]
+entered-few o w p c lp g h = elim h.locks [ inl e ↦ (let n : length lp.call.held ≡ 3 = ap length e in omega (arith, n)) | inr e ↦ (let n : length lp.call.held ≡ 4 = ap length e.0 in omega (arith, n)) ]
 
 line-few : (o : Opening) (w : World) (p : ℕ) (c : Call) (lp : Lp) (x : Option Guest) → LineAt o w p c lp x → line_left o w c lp x ≤ most_events c
 line-few o w p c lp None h = phase-few (most_tries c) (guest_events c) (length lp.call.held) lp.call.phase h.0
