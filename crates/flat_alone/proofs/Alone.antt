@@ -24,7 +24,8 @@ use Rattle.flat_core.specs.Table.{row_of, most_events}
 use Rattle.flat_core.specs.Bounds.{RowsTryFew}
 use Rattle.flat_core.specs.Event.{State, Event, OfCall, start, lines_left, calls_of, event_for, line_event, world_after, lp_after, is_granted, after_event, event, settled}
 use Rattle.flat_core.specs.Run.{play, events_in, to_the_end}
-use Rattle.flat_core.specs.HostText.{reply_lines, lines_from, text_of, host_text}
+use Rattle.report_text.specs.Lines.{reply_lines}
+use Rattle.flat_core.specs.HostText.{lines_from, text_of, host_text}
 use Rattle.flat_core.proofs.Tests.{same_self, put_here}
 use Rattle.flat_core.proofs.Induction.{counts_stay, play_append}
 use Rattle.flat_core.proofs.Ends.{drop_next}

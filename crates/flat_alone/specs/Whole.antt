@@ -10,7 +10,8 @@ use Rattle.flat_core.specs.Row.{Item, Check, Try, Row}
 use Rattle.flat_core.specs.Table.{row_of}
 use Rattle.flat_core.specs.Event.{calls_of}
 use Rattle.flat_core.specs.Run.{run}
-use Rattle.flat_core.specs.HostText.{reply_lines, host_text}
+use Rattle.report_text.specs.Lines.{reply_lines}
+use Rattle.flat_core.specs.HostText.{host_text}
 
 -- what the first condition that fails answers, where every try is granted
 abbrev pub first_fault : List (Item Reply) → Option Reply

@@ -7,7 +7,8 @@ use Rattle.flat_core.specs.Processor.{Lp}
 use Rattle.flat_core.specs.Opening.{Opening, Incoming, Agree, blind, blind_bundle, blind_words, is_private_kind}
 use Rattle.flat_core.specs.Event.{State, start, event}
 use Rattle.flat_core.specs.Run.{play, run, run_told, to_the_end, told_in}
-use Rattle.flat_core.specs.HostText.{host_text, text_of, lines_from, reply_lines}
+use Rattle.report_text.specs.Lines.{reply_lines}
+use Rattle.flat_core.specs.HostText.{host_text, text_of, lines_from}
 use Rattle.flat_core.specs.Laws.{public_bundles, BlindRunsPrintTheSame, BlindRunsMakeTheSameBundles, AgreeingRunsShowTheSame}
 use Rattle.flat_core.specs.AccessLaw.{IsGuarded}
 use Rattle.flat_core.specs.TwoWorlds.{AreSameButNotes, AreAlikeStates}

@@ -1,24 +1,13 @@
--- The reply lines of a run: the processor's number, a dot, the number of its call line from 1, a space, the reply, a
--- newline; by processor and then by line.
-use Rattle.std.specs.Prelude.{ℕ, zero, suc, ◌+◌, List, [], ◌∷◌, ◌++◌, codes}
+-- The reply lines of a run, by processor and then by line.
+use Rattle.std.specs.Prelude.{ℕ, zero, suc, ◌+◌, List, [], ◌++◌}
 use Rattle.std.specs.List.{concat}
-use Rattle.std.specs.Fmt.{decimal}
-use Rattle.td_words.specs.declared.replies.Reply.{Reply}
-use Rattle.td_words.specs.ReplyText.{reply_text}
+use Rattle.report_text.specs.Lines.{reply_lines}
 use Rattle.flat_core.specs.Processor.{Lp}
 use Rattle.flat_core.specs.Opening.{Opening}
 use Rattle.flat_core.specs.Event.{State}
 use Rattle.flat_core.specs.Run.{run}
 
-abbrev pub reply_line : ℕ → ℕ → Reply → List ℕ
-reply_line p n r = decimal p ++ (codes "." ++ (decimal n ++ (codes " " ++ (reply_text r ++ 10 ∷ []))))
-
--- the lines of processor p, from number n on
-abbrev pub reply_lines : ℕ → ℕ → List Reply → List (List ℕ)
-reply_lines p n [] = []
-reply_lines p n (r ∷ rs) = reply_line p n r ∷ reply_lines p (n + 1) rs
-
--- of so many processors, from p on
+-- the lines of so many processors, from p on
 abbrev pub lines_from : ℕ → ℕ → (ℕ → Lp) → List (List ℕ)
 lines_from zero p lps = []
 lines_from (suc n) p lps = reply_lines p 1 (lps p).replies ++ lines_from n (p + 1) lps

@@ -15,7 +15,8 @@ use Rattle.td_words.specs.Limits.{IsMachine}
 use Rattle.flat_core.specs.Opening.{Opening}
 use Rattle.flat_core.specs.Event.{State, start, lines_left}
 use Rattle.flat_core.specs.Run.{play, run, to_the_end}
-use Rattle.flat_core.specs.HostText.{reply_lines, lines_from, text_of, host_text}
+use Rattle.report_text.specs.Lines.{reply_lines}
+use Rattle.flat_core.specs.HostText.{lines_from, text_of, host_text}
 use Rattle.flat_core.proofs.Induction.{counts_stay}
 use Rattle.step_core.specs.Words.{after_step}
 use Rattle.step_core.specs.Items.{Table, PlaysTo, with_slot}

@@ -6,7 +6,7 @@ use Rattle.flat_core.specs.Opening.{Opening}
 use Rattle.flat_core.specs.Run.{run}
 use Rattle.flat_core.specs.Bounds.{EventsRunOut}
 use Rattle.flat_core.specs.Laws.{OthersStay}
-use Rattle.flat_core.specs.HostText.{reply_lines}
+use Rattle.report_text.specs.Lines.{reply_lines}
 use Rattle.step_core.specs.Items.{Table, PlaysTo}
 use Rattle.step_core.specs.declared.items.Taken.{Taken}
 use Rattle.atomic_table.specs.Seated.{TableId}

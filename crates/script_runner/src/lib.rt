@@ -5,8 +5,6 @@
 mod commanded;
 mod ending;
 mod replay;
-mod report;
 mod top;
 
-pub use report::host_lines;
 pub use top::{give_up, tdx_main};

@@ -10,11 +10,11 @@ ghost use Rattle.trace_table.specs.Benches.{bench_of};
 ghost use Rattle.script_runner.specs.Ending.{opening_of};
 ghost use Rattle.script_runner.specs.Replaying.{AreFirst, IsAtBench, HaveEnded, TurnsAreEvents, lines_seen};
 
-use crate::report::host_lines;
 use flat_core::{end_laws, event_laws};
 use leaf_dispatch::{LpState, calls_have_leaves, none_enters};
 use leaf_engine::{Processor, Turn, turns_in_pieces};
 use merge_laws::merge_law;
+use report_text::host_lines;
 use script_text::Script;
 use std::alloc::Global;
 use td_words::{Call, Machine, OutOfMemory};

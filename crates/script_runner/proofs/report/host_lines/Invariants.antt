@@ -1,7 +1,0 @@
-use Rattle.std.proofs.Common.{◌≡◌, ◌++◌, ◌+◌, drop, string_bytes}
-use Rattle.std.specs.List.{concat}
-use Rattle.flat_core.specs.HostText.{reply_lines}
-use Rattle.script_runner.proofs.report.host_lines.Given as goal
-
-abbrev pub invariant-loop-i : goal.invariant-loop-i
-invariant-loop-i l = string_bytes l.text ++ concat (reply_lines l.lp (l.i + 1) (drop l.i l.replies)) ≡ concat (reply_lines l.lp 1 l.replies)
