@@ -1,8 +1,7 @@
 -- Facts of states are kept by each event of a state whose locks are sound. Of guests, where a processor stands tells them.
-use Rattle.std.proofs.Common.{◌≡◌, ◌⊎◌, inl, inr, ℕ, zero, suc, ◌+◌, ◌<◌, Bool, true, false, ◌==◌, ◌&&◌, ◌||◌, not, List, [], ◌∷◌, length, Option, Some, None, option_map, refl, ap, sym, ◌∙◌, subst, arith}
+use Rattle.std.proofs.Common.{◌≡◌, ◌⊎◌, inl, inr, ℕ, zero, suc, ◌+◌, ◌<◌, Bool, true, false, ◌==◌, ◌||◌, not, List, [], ◌∷◌, length, Option, Some, None, option_map, refl, ap, sym, ◌∙◌, subst, arith}
 use Rattle.std.specs.List.{list_any}
 use Rattle.std.proofs.lemmas.Bool.{eq-eqb, eqb-true}
-use Rattle.td_words.specs.declared.names.Mode.TheVariants.{Shared, Exclusive}
 use Rattle.td_words.specs.declared.names.OpState.{OpState}
 use Rattle.td_words.specs.declared.names.OpState.TheVariants as op
 use Rattle.td_words.specs.declared.names.LifeState.{LifeState}
@@ -23,11 +22,11 @@ use Rattle.flat_core.specs.Opening.{Opening, Incoming}
 use Rattle.flat_core.specs.Row.{Row, OperationRow, Move, Attempts, Undoes, Refuses, Succeeds, Releases, Rests, next, next_in}
 use Rattle.flat_core.specs.Conditions.{running_ops, is_elsewhere}
 use Rattle.flat_core.specs.Table.{row_of}
-use Rattle.flat_core.specs.Effects.{tell_words, leave_guest, pass_operation}
+use Rattle.flat_core.specs.Effects.{tell_words, pass_operation}
 use Rattle.flat_core.specs.Guest.{ByRow, operation_of, reach, answered, is_pending_at, walk_level, walk_step, walked_on, walked_entry, goes_on}
 use Rattle.flat_core.specs.Guests.{guest_locks, entry_locks}
 use Rattle.flat_core.specs.Inside.{InGuest, LineAt, StandsAt, AreTimely}
-use Rattle.flat_core.specs.Event.{State, Event, OfCall, OfOperation, Walks, Reaches, Leaves, start, next_event, event, after_event, world_after, lp_after, call_world, call_lp, operation_world, operation_guest, nothing_more, settled, settled_guest, settle_operation, succeeded, lines_left, is_granted}
+use Rattle.flat_core.specs.Event.{State, Event, OfCall, OfOperation, Walks, Reaches, Leaves, start, next_event, event, after_event, world_after, lp_after, call_world, call_lp, operation_world, operation_guest, nothing_more, settled, settled_guest, settle_operation, lines_left, is_granted}
 use Rattle.flat_core.specs.Laws.{with_bundles}
 use Rattle.flat_core.proofs.Tests.{by_test, put_here}
 use Rattle.flat_core.proofs.Induction.{in_runs}

@@ -23,11 +23,11 @@ use Rattle.flat_core.specs.Opening.{Opening, Incoming}
 use Rattle.flat_core.specs.Row.{Item, Check, Try, Row, OperationRow, Move, Attempts, Undoes, Refuses, Succeeds, Releases, Rests, next, next_in, but_newest}
 use Rattle.flat_core.specs.Table.{row_of}
 use Rattle.flat_core.specs.Lawful.{Lawful}
-use Rattle.flat_core.specs.Event.{State, Event, OfCall, OfOperation, Walks, Reaches, Leaves, next_event, lines_left, calls_of, event, after_event, world_after, call_world, operation_world, nothing_more, is_epoch_lock, lp_after, call_lp, call_busy, succeeded, settle, settled, is_granted}
+use Rattle.flat_core.specs.Event.{State, Event, OfCall, OfOperation, Walks, Reaches, Leaves, next_event, lines_left, calls_of, event, after_event, world_after, call_world, operation_world, nothing_more, lp_after, call_lp, call_busy, succeeded, settle, settled, is_granted}
 use Rattle.flat_core.specs.Tries.{tries_of}
-use Rattle.flat_core.specs.Inside.{InGuest, LineAt, StandsAt, AreTimely}
-use Rattle.flat_core.specs.Order.{IsOfGuest, AreOfGuest, undo_of, IsOrderlyInside, IsOrderlyIn, IsOrderlyAt, IsInOrder}
-use Rattle.flat_core.specs.Guest.{Operation, ByRow, operation_of, reach, is_pending_at}
+use Rattle.flat_core.specs.Inside.{InGuest, LineAt, StandsAt}
+use Rattle.flat_core.specs.Order.{IsOfGuest, AreOfGuest, undo_of, IsOrderlyInside, IsOrderlyIn, IsOrderlyAt}
+use Rattle.flat_core.specs.Guest.{ByRow, operation_of, reach, is_pending_at}
 use Rattle.flat_core.specs.Effects.{tell_words, leave_guest, pass_operation}
 use Rattle.flat_core.specs.Guests.{guest_locks, entry_locks}
 use Rattle.flat_core.specs.Laws.{reached, with_bundles}
@@ -35,7 +35,7 @@ use Rattle.flat_core.proofs.Tests.{by_test, put_here}
 use Rattle.flat_core.proofs.Induction.{count_stays, in_runs}
 use Rattle.flat_core.proofs.TreeLock.{order_kept}
 use Rattle.flat_core.proofs.Operations.{operation_row, accepted}
-use Rattle.flat_core.proofs.Due.{IsInside, Due, calls, frees, leaves, stops, fills, operates, walks, reaches, undoes, gives_back, due_event_is}
+use Rattle.flat_core.proofs.Due.{Due, calls, frees, leaves, stops, fills, operates, walks, reaches, undoes, gives_back, due_event_is}
 use Rattle.flat_core.proofs.Ends.{next_is, timeliness_kept, timely_rebundled}
 use Rattle.word_rules.specs.Guards.{Locked}
 use Rattle.lock_words.specs.Grips.{holds, operation_locks, HoldsTdr, HoldTdrs, UndoTdr, GuestTdrs}

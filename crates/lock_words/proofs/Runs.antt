@@ -1,5 +1,5 @@
 -- In every state that a run reaches each processor holds few locks, and its next event is one that lock words follow.
-use Rattle.std.proofs.Common.{◌≡◌, refl, sym, ap, subst, inl, inr, ℕ, zero, suc, ◌+◌, ◌*◌, ◌^◌, ◌<◌, ◌≤◌, Bool, true, false, ◌==◌, List, [], ◌∷◌, length, length-append, arith}
+use Rattle.std.proofs.Common.{◌≡◌, refl, sym, ap, subst, inl, inr, ℕ, zero, suc, ◌+◌, ◌*◌, ◌^◌, ◌<◌, ◌≤◌, true, List, [], ◌∷◌, length, length-append, arith}
 use Rattle.std.specs.Prelude.{Option, Some, None, nat_le}
 use Rattle.std.proofs.lemmas.Bool.{leb-true}
 use Rattle.td_words.specs.declared.calls.Call.{Call}
@@ -12,10 +12,10 @@ use Rattle.flat_core.specs.World.{World}
 use Rattle.flat_core.specs.Processor.{LockId, Held, Phase, Trying, Undoing, Answered, Progress, nothing_yet, Guest, Lp}
 use Rattle.flat_core.specs.Locks.{sharers, refusals}
 use Rattle.flat_core.specs.Opening.{Opening}
-use Rattle.flat_core.specs.Table.{row_of, most_tries}
+use Rattle.flat_core.specs.Table.{most_tries}
 use Rattle.flat_core.specs.Guest.{Operation, ByRow, Private, operation_of}
 use Rattle.flat_core.specs.Inside.{OperationAt, DueAt, PhaseAt, GuestAt, InGuest, LineAt, StandsAt, IsTimely}
-use Rattle.flat_core.specs.Event.{State, Event, Leaves, start, next_event, lines_left, calls_of, operation_due}
+use Rattle.flat_core.specs.Event.{State, Event, Leaves, start, lines_left, calls_of, operation_due}
 use Rattle.flat_core.specs.Run.{play}
 use Rattle.flat_core.proofs.Induction.{counts_stay}
 use Rattle.flat_core.proofs.Due.{Due, IsInside, calls, frees, leaves, stops, fills, operates, walks, reaches, undoes, gives_back, due_event_is}
