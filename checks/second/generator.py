@@ -292,11 +292,35 @@ def text_of(lines):
     return "".join(f"{line}\n" for line in lines).encode("latin-1")
 
 
+def code_block(chance, scene, vcpu):
+    """A list of guest operations."""
+    gpa = [chance.choice(scene.lives).gpa + 8 * chance.randrange(1024) for _ in range(4)]
+    gpa += [GPA_END + 8 * chance.randrange(512 * scene.size), 0, GPA_END - 8, 2 * GPA_END - 8]
+    makes = (
+        lambda: f"set {chance.randrange(8)} {scene.written(chance.choice((0, 1, chance.getrandbits(64))))}",
+        lambda: f"add {chance.randrange(8)} {chance.randrange(8)}",
+        lambda: f"{chance.choice(('load', 'store'))} {chance.randrange(8)} {scene.written(chance.choice(gpa))}",
+        lambda: f"accept {scene.written(chance.choice(gpa) % GPA_END // PAGE_BYTES * PAGE_BYTES)}",
+        lambda: f"rtmr {chance.randrange(4)}",
+        lambda: f"vmcall {chance.randrange(8)}",
+    )
+    operations = [chance.choice(makes)() for _ in range(chance.choice((0, 1, 8, 20, 256)))]
+    return [f"code {vcpu[0]} {vcpu[1]}", *operations, "end"]
+
+
+def code_blocks(chance, scene):
+    """Lists of a few virtual processors, no two of one."""
+    pages = [life.td for life in scene.lives] + [0, scene.size - 1]
+    vcpus = {(chance.choice(pages), chance.randrange(8)) for _ in range(chance.choice((0, 0, 1, 3)))}
+    return [code_block(chance, scene, vcpu) for vcpu in sorted(vcpus)]
+
+
 def script_lines(chance, make, turn):
     """The lines of a script without a fault."""
     scene = Scene(chance, ROOMY if make is race else SIZES)
     blocks, turns = make(chance, scene, turn)
     parts = [[f"lp {lp}", *block, "end"] for lp, block in enumerate(blocks) if block or chance.random() < 0.5]
+    parts += code_blocks(chance, scene)
     chance.shuffle(parts)
     schedule = [[line] for line in schedule_lines(chance, [turn for turn in turns if turn[1]])]
     lines = [f"machine {scene.lps} {scene.size} {scene.hkids}"]
@@ -322,7 +346,8 @@ BAD_OUTSIDE = (
     "machine", "machine 1 8 1", "machine x", "end", "end x y", "lp", "lp 7", "lp 8", "lp x", "lp 0 0", "lp {lp}",
     "lp {lp}", "lp {lp}", "lp {lp}", "lp {lp}", "lp {lp} x", "lp 18446744073709551616", "schedule", "schedule x",
     "schedule 0*0", "schedule 0*", "schedule *1", "schedule 0*1*1", "schedule 9*x", "schedule 0*1048577",
-    "schedule 0*1048576 0", "schedule 8 x", "schedule 0x0*0x2 00*02", "code", "code 0 0", "code x", "code 9999 9",
+    "schedule 0*1048576 0", "schedule 8 x", "schedule 0x0*0x2 00*02", "code", "code 0", "code x", "code 9999 9",
+    "code 0 8", "code 1024 0", "code x 0", "code 0 0 0", "code {code}", "code {code}", "code {code} x",
     "set 0 0", "foo", "Machine 1 8 1", "{call}", "{unbuilt}", "\t", "lp\t0", "# \xff", "\x00", "schedule \x80",
     "foo \x01 x",
 )
@@ -334,6 +359,14 @@ BAD_INSIDE = (
     "MNG.RD 7 OPS", "MNG.RD 0 mrtd", "MNG.RD x LIF", "MNG.RD x OP", "MNG.RD 1 OP OP", "MNG.RD OP 1",
     "MEM.PAGE.RELOCATE 1 0 2", "MEM.TRACK", "{call}", "{call} x", "{call} 1 2 3 4 5 6", "{call} 1 0 3 x", "{unbuilt}",
     "{unbuilt} 1 0", "{unbuilt} x", "{unbuilt} \x1f", "end\x7f", "HOST.READ 1 1\r",
+)
+BAD_IN_CODE = (
+    "code 0 0", "code {code}", "lp 0", "schedule x", "end end", "machine", "foo", "SET 0 0", "{call}", "{unbuilt}",
+    "secret 0 0", "secret x", "secret", "set 0", "set 8 0", "set x 0", "set 8 x", "set 0 18446744073709551616",
+    "set 0 0 0", "add 0 8", "add 8 0", "add 7 7 7", "add 0 r1", "load 0 4", "load 0 0x1000000000000",
+    "load 8 0", "load 0", "store 0 0xffffffffffff", "store x 4", "store 7 0 0", "accept 0x1008",
+    "accept 0x800000000000", "accept", "accept 0 0", "accept x", "rtmr 4", "rtmr", "rtmr x", "vmcall 8",
+    "vmcall 0 0", "vmcall -1", "vmcall\t0", "{full}",
 )
 FIRST_LINES = ("", "end", "foo", "lp 0", "machine", "machine 1 8", "machine 1 8 x", "machine 0 8 1", "machine 9 8 x",
                "machine 9 8 1", "machine 8 7 1", "machine 8 1025 1", "machine 1 8 0", "machine 1 8 16", "schedule 0",
@@ -363,18 +396,25 @@ def faulty_script(chance, turn):
 
 def put_bad_line(chance, lines, turn):
     """Puts in the bad line whose turn it is, in most cases where nothing before it is bad."""
-    begins = [place for place, line in enumerate(lines) if line.split()[:1] == ["lp"]]
-    ends = [place for place, line in enumerate(lines) if line.split() == ["end"]]
-    turn %= len(BAD_OUTSIDE + BAD_INSIDE)
-    places, bad = ends if turn < len(BAD_OUTSIDE) else begins, (BAD_OUTSIDE + BAD_INSIDE)[turn]
+    kinds = (("end", BAD_OUTSIDE), ("lp", BAD_INSIDE), ("code", BAD_IN_CODE))
+    first, bad = [(first, bad) for first, some in kinds for bad in some][turn % sum(len(some) for _, some in kinds)]
+    if first == "code" and chance.random() < 0.7:
+        lines += ["code 7 7", "set 0 0", "end"]
+    places = [place for place, line in enumerate(lines) if line.split()[:1] == [first]]
     place = chance.choice(places) + 1 if places and chance.random() < 0.9 else chance.randint(1, len(lines))
-    before = [word for line in lines[:place] if line.split()[:1] == ["lp"] for word in line.split()[1:2]]
+
+    def begun(keyword):
+        """What blocks before that place are of."""
+        return [" ".join(line.split()[1:]) for line in lines[:place] if line.split()[:1] == [keyword]]
+
     words = {
-        "lp": chance.choice(before or ["0"]),
+        "lp": chance.choice(begun("lp") or ["0"]),
+        "code": chance.choice(begun("code") or ["0 0"]),
         "call": chance.choice(tuple(ARGUMENTS)),
-        "unbuilt": chance.choice(sorted(UNBUILT - {"code"})),
+        "unbuilt": chance.choice(sorted(UNBUILT)),
+        "full": "\n".join(["add 0 0"] * 257),
     }
-    lines.insert(place, bad.format(**words))
+    lines[place:place] = bad.format(**words).split("\n")
 
 
 def misspelled(chance, line):

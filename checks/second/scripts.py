@@ -15,7 +15,7 @@ OUTSIDE = ("schedule", "lp", "code")
 # The first words of the finished grammar that the program doesn't have.
 UNBUILT = set(
     """
-    code
+    secret
     VP.ENTER VP.FLUSH
     MEM.SEPT.REMOVE MEM.PAGE.REMOVE MEM.RANGE.BLOCK MEM.RANGE.UNBLOCK MEM.TRACK
     MIG.STREAM.CREATE EXPORT.STATE.IMMUTABLE EXPORT.BLOCKW EXPORT.UNBLOCKW EXPORT.MEM EXPORT.TRACK
@@ -116,7 +116,6 @@ class Script:
     def outside(self, first, rest):
         """Reads a line that stands outside blocks."""
         need(first in OUTSIDE or first == "machine", "WORD")
-        need(first not in self.unbuilt, "UNBUILT")
         {"machine": self.size, "schedule": self.items, "lp": self.begin_calls, "code": self.begin_code}[first](rest)
 
     def size(self, rest):
@@ -176,6 +175,7 @@ class Script:
     def operation(self, code, name, rest):
         """Reads a guest operation."""
         need(name in OPERATIONS, "WORD")
+        need(name not in self.unbuilt, "UNBUILT")
         ranges = OPERATIONS[name]
         need(len(rest) == len(ranges), "COUNT")
         operands = numbers(rest)
