@@ -7,6 +7,8 @@ mod ciphers;
 #[cfg(test)]
 mod containers;
 #[cfg(test)]
+mod gcm_cases;
+#[cfg(test)]
 mod headers;
 #[cfg(test)]
 mod turned_bits;
