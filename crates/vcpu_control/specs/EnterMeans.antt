@@ -48,7 +48,7 @@ lp_again None = refl
 lp_again (Some lp) = (let one : lp + 1 ≡ suc lp = omega arith in rw one refl)
 
 -- the class of the counts
-count-class : (current empty : ℕ → Bool) (b : ℕ) → b < 2 → or_unused (in_lines (tdcs_classes current empty) (6 + b)) ≡ EpochCount (current b) (empty b)
+pub count-class : (current empty : ℕ → Bool) (b : ℕ) → b < 2 → or_unused (in_lines (tdcs_classes current empty) (6 + b)) ≡ EpochCount (current b) (empty b)
 count-class current empty zero h = refl
 count-class current empty (suc zero) h = refl
 count-class current empty (suc (suc b)) h = absurd (omega (arith, h))

@@ -24,7 +24,7 @@ use Rattle.vcpu_control.specs.EnterTrees.{enter_changes}
 
 -- counts of a parity where one virtual processor enters
 
-absent : (f : ℕ → Option ℕ) (v b : ℕ) (new : Option ℕ) (vs : List ℕ) → list_any (λ q. q == v) vs ≡ false → entered_of_parity b (put f v new) vs ≡ entered_of_parity b f vs
+pub absent : (f : ℕ → Option ℕ) (v b : ℕ) (new : Option ℕ) (vs : List ℕ) → list_any (λ q. q == v) vs ≡ false → entered_of_parity b (put f v new) vs ≡ entered_of_parity b f vs
 absent f v b new [] none = refl
 absent f v b new (x ∷ vs) none = by_test (x == v)
     (λ y. absurd (let no : true ≡ false = rw y at none in cc))
@@ -55,11 +55,11 @@ one-small : (b : ℕ) (o : Option ℕ) → one_of_parity b o ≤ 1
 one-small b None = omega arith
 one-small b (Some e) = by_test (e % 2 == b) (λ y. rw y (omega arith)) (λ n. rw n (omega arith))
 
-few-in : (f : ℕ → Option ℕ) (b : ℕ) (vs : List ℕ) → entered_of_parity b f vs ≤ length vs
+pub few-in : (f : ℕ → Option ℕ) (b : ℕ) (vs : List ℕ) → entered_of_parity b f vs ≤ length vs
 few-in f b [] = omega arith
 few-in f b (x ∷ vs) = (let one = one-small b (f x) in let rest = few-in f b vs in omega (arith, one, rest))
 
-elsewhere : (w : World) (t v u b : ℕ) (new : Option ℕ) (vs : List ℕ) → w.pages.owners v ≡ t → (u == t) ≡ false → ArePagesOf w.pages u kind.Tdvpr vs → entered_of_parity b (put w.vps.entered v new) vs ≡ entered_of_parity b w.vps.entered vs
+pub elsewhere : (w : World) (t v u b : ℕ) (new : Option ℕ) (vs : List ℕ) → w.pages.owners v ≡ t → (u == t) ≡ false → ArePagesOf w.pages u kind.Tdvpr vs → entered_of_parity b (put w.vps.entered v new) vs ≡ entered_of_parity b w.vps.entered vs
 elsewhere w t v u b new [] own n a = refl
 elsewhere w t v u b new (x ∷ vs) own n a = by_test (x == v)
     (λ y. absurd (let is : x ≡ v = eqb-true x v y in

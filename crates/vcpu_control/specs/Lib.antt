@@ -11,3 +11,6 @@ pub mod VpMeanings
 pub mod EnterTrees
 pub mod EnterShows
 pub mod EnterMeans
+pub mod ExitTrees
+pub mod ExitShows
+pub mod ExitMeans
