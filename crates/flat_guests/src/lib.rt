@@ -6,4 +6,4 @@
 
 mod laws;
 
-pub use laws::memory_events;
+pub use laws::{memory_events, told_events};
