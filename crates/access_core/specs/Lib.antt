@@ -7,3 +7,5 @@ pub mod OperationMeanings
 pub mod RtmrTrees
 pub mod RtmrShows
 pub mod RtmrMeanings
+pub mod AcceptTrees
+pub mod AcceptMeanings

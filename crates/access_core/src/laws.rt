@@ -2,9 +2,10 @@
 
 ghost use Rattle.access_core.specs.OperationTrees.{AddMeans, SetMeans, SharedLoadMeans, SharedStoreMeans, VmcallMeans};
 ghost use Rattle.access_core.specs.RtmrTrees.{RtmrMeans};
+ghost use Rattle.access_core.specs.AcceptTrees.{AcceptMeans};
 
 /// The leaves of `set`, `add`, `vmcall` and `rtmr`, and of loads and stores of shared words, mean
-/// their rows.
+/// their rows; and so does the leaf of `accept` where the entry isn't PENDING.
 pub fn operations_mean()
     ensures set { SetMeans }
     ensures add { AddMeans }
@@ -12,4 +13,5 @@ pub fn operations_mean()
     ensures load { SharedLoadMeans }
     ensures store { SharedStoreMeans }
     ensures rtmr { RtmrMeans }
+    ensures accept { AcceptMeans }
 {}
