@@ -1,4 +1,5 @@
--- The leaf that accepts a private page means its row where the entry isn't PENDING.
+-- The leaf that accepts a private page means its row where the entry isn't PENDING, and where the zeros of a PENDING page may be
+-- stored before the act.
 use Rattle.std.proofs.Common.{◌≡◌, ℕ, suc, ◌^◌, ◌<◌, ◌≤◌, Bool, true, false, not, ◌==◌, ◌||◌, ◌&&◌, List, [], ◌∷◌, ◌++◌, slice_index, refl, ap, sym, ◌∙◌, subst, inl, inr, lit<, arith}
 use Rattle.std.proofs.lemmas.Bool.{eq-eqb, ne_eqb}
 use Rattle.td_words.specs.declared.names.EntryState.{EntryState}
@@ -8,7 +9,7 @@ use Rattle.td_words.specs.declared.names.Mode.TheVariants.{Shared, Exclusive}
 use Rattle.td_words.specs.declared.names.Access.TheVariants.{Write}
 use Rattle.td_words.specs.declared.machines.Machine.{Machine}
 use Rattle.td_words.specs.declared.replies.Reply.{Reply}
-use Rattle.td_words.specs.Packing.{Entry}
+use Rattle.td_words.specs.Packing.{Entry, entry_word, is_lawful_entry}
 use Rattle.td_words.specs.Place as place
 use Rattle.td_words.proofs.Unpacked.{packings}
 use Rattle.flat_core.specs.World.{World}
@@ -45,6 +46,22 @@ use Rattle.access_core.specs.OperationTrees.{with_position, put_next, unless_vio
 use Rattle.access_core.specs.VpShows.{passed-shown}
 use Rattle.access_core.specs.GuestWords.{held-under, kept-respects, vp-in, vp-writes, position-load}
 use Rattle.access_core.specs.RtmrMeanings.{running-controls}
+use Rattle.flat_core.specs.Effects.{set_entry}
+use Rattle.flat_core.specs.Lawful.{IsNodeOf}
+use Rattle.std.proofs.lemmas.Bool.{lt-ltb}
+use Rattle.std.proofs.Common.{◌⊎◌}
+use Rattle.word_rules.specs.Rules.{KeepsPage}
+use Rattle.word_rules.proofs.Conflicts.{respects-compose}
+use Rattle.act_rules.proofs.Respected.{effects-respect}
+use Rattle.lock_words.specs.Grips.{holds_alone}
+use Rattle.leaf_engine.specs.Trees.{done}
+use Rattle.leaf_engine.specs.Changes.{Change, Clear, changed}
+use Rattle.leaf_engine.specs.Means.{MayFill, MayFillAll}
+use Rattle.leaf_parts.proofs.Begun.{alone-newest}
+use Rattle.sept_parts.proofs.SeptLocks.{named-writes}
+use Rattle.access_core.specs.GuestWords.{vp-owes}
+use Rattle.access_core.specs.AcceptShows.{accepted-shown}
+use Rattle.access_core.specs.AcceptTrees.{map_entry}
 use Rattle.access_core.specs.AcceptTrees.{or_violation, passed_tree, passed_walk, accepted, accept_held, accept_found, accept_at, accept_tree, AcceptMeans}
 
 -- an entry names a page exactly where it isn't FREE
@@ -92,8 +109,16 @@ not-true : (b : Bool) → not b ≡ true → b ≡ false
 not-true false e = refl
 not-true true e = cc
 
+-- the locks under which it ends: P of the page alone, over T
+abbrev accept_locks : World → (tdr gpa : ℕ) → List Held
+accept_locks w t gpa = page_lock (entry_at w t 0 gpa).page Exclusive ∷ tree_held t Shared ∷ []
+
+-- an entry that names a page and becomes MAPPED is lawful
+mapped-lawful : (p : ℕ) → p < 1024 → is_lawful_entry (record { state = entry.Mapped; page = p; mark = 0 }) ≡ true
+mapped-lawful p few = rw (lt-ltb p 1024 few) refl
+
 module _ (m : Machine) (c : Instant) (t v gpa : ℕ) (limit : m.pages ≤ 1024) (small : gpa < 2 ^ 47) (la : Lawful m c.state.world) (sh : Shows m c.memory.words c.memory.slots c.state) (fits : GuestFits c.state.world c.me c.kept t v)
-    (stays : is_pending_at c.state.world t gpa ≡ false) where
+    (may_fill : is_pending_at c.state.world t gpa ≡ true → MayFill m (hold c (accept_locks c.state.world t gpa)) c.state.world (Clear (entry_at c.state.world t 0 gpa).page)) where
   abbrev w : World
   w = c.state.world
 
@@ -128,15 +153,31 @@ module _ (m : Machine) (c : Instant) (t v gpa : ℕ) (limit : m.pages ≤ 1024) 
     tree = held-under (page_lock p Exclusive ∷ []) (tree ++ c.kept) (OfTree t) locks.tree;
   }
 
-  -- nothing but the position changes
-  record Ends (w' : World) : Type 0 where
+  -- what is to show of an end that makes this world
+  record Ends (fills changes : List Change) (w' : World) : Type 0 where
     pub bundles_are : w'.outgoing.bundles ≡ w.outgoing.bundles
     pub respects : Respects (hold c (both e.page)) w w'
     pub locks_stay : LocksStay w w' (both e.page)
-    pub shows : (let mem = changed_all (put_next v (w.vps.positions v) ∷ []) c.memory in Shows m mem.words mem.slots (record c.state { world = w' }))
-    pub changes : MayChange m (hold c (both e.page)) w w' c.memory (put_next v (w.vps.positions v) ∷ [])
+    pub shows : (let mem = changed_all changes (changed_all fills c.memory) in Shows m mem.words mem.slots (record c.state { world = w' }))
+    pub changes_allowed : MayChange m (hold c (both e.page)) w w' (changed_all fills c.memory) changes
 
-  passes : Ends (tell_words [] (pass_operation v w))
+  act-is : (b : Bool) → is_pending_at w t gpa ≡ b → tell_words [] (pass_operation v (accept_page b t gpa w)) ≡ k.act w
+  act-is b is = ap (λ (y : Bool). tell_words [] (pass_operation v (accept_page y t gpa w))) (sym is)
+
+  ended : (fills changes : List Change) → Ends fills changes (k.act w) → MayFillAll m (hold c (both e.page)) w fills → Means m c k (both e.page) (done fills changes) []
+  ended fills changes ends filled = (
+    record {
+      answers = record { reply_is = refl; cached_is = refl; enters_is = refl; notes_are = refl; tells_are = refl; bundles_are = ends.bundles_are };
+      fills_allowed = filled;
+      respects = ends.respects;
+      locks_stay = ends.locks_stay;
+      shows = ends.shows;
+    },
+    ends.changes_allowed,
+  )
+
+  -- nothing but the position changes
+  passes : Ends [] (put_next v (w.vps.positions v) ∷ []) (tell_words [] (pass_operation v w))
   passes =
       let one = passed-shown m c.memory.words c.memory.slots c.state sh t v fits.alive.life fits.vp_page inside in
       record {
@@ -144,26 +185,72 @@ module _ (m : Machine) (c : Instant) (t v gpa : ℕ) (limit : m.pages ≤ 1024) 
         respects = kept-respects (hold c (both e.page)) w (tell_words [] (pass_operation v w)) refl refl refl refl;
         locks_stay = ((refl, λ y. y), ((refl, λ y. record { alive = record { kind = y.alive.kind; life = y.alive.life }; has_tdcs = y.has_tdcs }), tt));
         shows = record { word = one.word; hasher = one.hasher };
-        changes = (((inside, omega arith), (KeepsNothing, vp-writes m c t v la sh fits (both e.page) 4 refl, tt)), tt);
+        changes_allowed = (((inside, omega arith), (KeepsNothing, vp-writes m c t v la sh fits (both e.page) 4 refl, tt)), tt);
       }
 
-  act-is : tell_words [] (pass_operation v w) ≡ k.act w
-  act-is = ap (λ (b : Bool). tell_words [] (pass_operation v (accept_page b t gpa w))) (sym stays)
+  stays-end : (at : ℕ) → is_pending_at w t gpa ≡ false → Means m c k (both e.page) (accepted false v at (index_at 0 gpa) e.page (w.vps.positions v)) []
+  stays-end at stays = ended [] (put_next v (w.vps.positions v) ∷ []) (subst (λ (w' : World). Ends [] (put_next v (w.vps.positions v) ∷ []) w') (act-is false stays) passes) tt
 
-  ends : Ends (k.act w)
-  ends = subst (λ (w' : World). Ends w') act-is passes
+  -- the page holds zeros, and its entry becomes MAPPED
+  module _ (at : ℕ) (has : HasEntry m w t z.root at gpa 0) (full : is_free e.state ≡ false) where
+    abbrev mapped : Entry
+    mapped = record { state = entry.Mapped; page = e.page; mark = 0 }
 
-  stays-end : (at : ℕ) → Means m c k (both e.page) (accepted false v at (index_at 0 gpa) e.page (w.vps.positions v)) []
-  stays-end at = (
-    record {
-      answers = record { reply_is = refl; cached_is = refl; enters_is = refl; notes_are = refl; tells_are = refl; bundles_are = ends.bundles_are };
-      fills_allowed = tt;
-      respects = ends.respects;
-      locks_stay = ends.locks_stay;
-      shows = ends.shows;
-    },
-    ends.changes,
-  )
+    abbrev changes : List Change
+    changes = map_entry at (index_at 0 gpa) e.page ∷ put_next v (w.vps.positions v) ∷ []
+
+    abbrev w' : World
+    w' = tell_words [] (pass_operation v (accept_page true t gpa w))
+
+    its_node : IsNodeOf w.pages t e.page kind.Reg 0 (number_at 0 gpa)
+    its_node = (la.tree.leaf t (number_at 0 gpa) fits.alive full).1
+
+    table-kind : (level : ℕ) → level ≡ 0 → ((level ≡ 3) × (at ≡ z.root)) ⊎ ((level < 3) × IsNodeOf w.pages t at kind.Ept (suc level) (number_at (suc level) gpa)) → w.pages.kinds at ≡ kind.Ept
+    table-kind level is (inl y) = absurd (omega (arith, is, y.0))
+    table-kind level is (inr y) = y.1.page.kind
+
+    apart : (at == e.page) ≡ false
+    apart = ne_eqb at e.page (λ y. (let no : kind.Ept ≡ kind.Reg = sym (table-kind 0 refl has.node) ∙ (ap w.pages.kinds y ∙ its_node.page.kind) in cc))
+
+    few : e.page < 1024
+    few = (let small_page : e.page < m.pages = named-in m w t in_page limit la fits.alive 0 (number_at 0 gpa) full in omega (arith, small_page, limit))
+
+    looks : look ThePage (entry_word mapped) ≡ e.page
+    looks = ap (of_entry named_by) (packings.entry mapped (mapped-lawful e.page few))
+
+    looked : look ThePage (c.memory.words (place.Word at (index_at 0 gpa))) ≡ e.page
+    looked = ap (look ThePage) (said m c.memory c.state t sh fits.alive z gpa small at 0 has) ∙ (ap (of_entry named_by) (packings.entry e (la.tree.entry limit t 0 (number_at 0 gpa))) ∙ named-page e full)
+
+    kept : look ThePage (entry_word mapped) ≡ look ThePage ((changed (Clear e.page) c.memory).words (place.Word at (index_at 0 gpa)))
+    kept = looks ∙ rw apart (sym looked)
+
+    alone : holds_alone (both e.page ++ c.kept) (OfPage (named_by e)) ≡ true
+    alone = subst (λ (p : ℕ). holds_alone (both e.page ++ c.kept) (OfPage p) ≡ true) (sym (named-page e full)) (alone-newest e.page (tree ++ c.kept))
+
+    respected : Respects (hold c (both e.page)) w w'
+    respected =
+        let named : World = set_entry t 0 (number_at 0 gpa) mapped w in
+        respects-compose.both (hold c (both e.page)) w named w' ((effects-respect (hold c (both e.page)) w).entry_state t 0 (number_at 0 gpa) mapped (sym (named-page e full))) (kept-respects (hold c (both e.page)) named w' refl refl refl refl)
+
+    maps : Ends (Clear e.page ∷ []) changes w'
+    maps = record {
+      bundles_are = refl;
+      respects = respected;
+      locks_stay = ((refl, λ y. y), ((refl, λ y. record { alive = record { kind = y.alive.kind; life = y.alive.life }; has_tdcs = y.has_tdcs }), tt));
+      shows = accepted-shown m c.memory c.state t v gpa at sh la fits.alive z small has its_node.page.kind fits.vp_page inside;
+      changes_allowed = (
+        ((has.in_machine, split.index 0 gpa), (KeepsPage, named-writes m c t sh fits.alive z (both e.page) (both-locks e.page) gpa at small has alone, kept)),
+        (((inside, omega arith), (KeepsNothing, vp-owes m c t v la sh fits (both e.page) w' 4 (record { kind = fits.vp_page.kind; owner = fits.vp_page.owner }) refl, tt)), tt),
+      );
+    }
+
+    maps-end : is_pending_at w t gpa ≡ true → Means m c k (both e.page) (accepted true v at (index_at 0 gpa) e.page (w.vps.positions v)) []
+    maps-end pends = ended (Clear e.page ∷ []) changes (subst (λ (y : World). Ends (Clear e.page ∷ []) changes y) (act-is true pends) maps) (may_fill pends, tt)
+
+    accepted-end : Means m c k (both e.page) (accepted (is_pending_at w t gpa) v at (index_at 0 gpa) e.page (w.vps.positions v)) []
+    accepted-end = by_test (is_pending_at w t gpa)
+        (λ y. subst (λ (b : Bool). Means m c k (both e.page) (accepted b v at (index_at 0 gpa) e.page (w.vps.positions v)) []) (sym y) (maps-end y))
+        (λ n. subst (λ (b : Bool). Means m c k (both e.page) (accepted b v at (index_at 0 gpa) e.page (w.vps.positions v)) []) (sym n) (stays-end at n))
 
   abbrev last : Item Reply
   last = exit_item (unless_violated Write gpa (is_pending_at w t gpa || may_read e.state))
@@ -178,7 +265,7 @@ module _ (m : Machine) (c : Instant) (t v gpa : ℕ) (limit : m.pages ≤ 1024) 
         refl,
         λ y. refl,
         λ y. position-load m c t v la sh fits hs k (λ n. accepted (same_state e.state entry.Pending) v at (index_at 0 gpa) e.page n) []
-            (subst (λ (b : Bool). Means m c k hs (accepted b v at (index_at 0 gpa) e.page (w.vps.positions v)) []) (sym stays) (stays-end at)),
+            (accepted-end at has full),
       )
 
   abbrev tests : Item Reply
@@ -255,4 +342,4 @@ module _ (m : Machine) (c : Instant) (t v gpa : ℕ) (limit : m.pages ≤ 1024) 
       (subst (λ (p : ℕ). Means m c k [] (accept_at m t v gpa p) items) (sym told) at-means)
 
 pub accept-means : AcceptMeans
-accept-means p t v gpa limits small c at stays = accept-at p.machine c t v gpa limits.pages.1 small at.lawful at.shown at.maker.1.fits stays
+accept-means p t v gpa limits small c at stays = accept-at p.machine c t v gpa limits.pages.1 small at.lawful at.shown at.maker.1.fits (λ y. absurd (let no : true ≡ false = sym y ∙ stays in cc))

@@ -8,4 +8,5 @@ pub mod RtmrTrees
 pub mod RtmrShows
 pub mod RtmrMeanings
 pub mod AcceptTrees
+pub mod AcceptShows
 pub mod AcceptMeanings
