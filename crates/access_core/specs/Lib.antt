@@ -10,3 +10,4 @@ pub mod RtmrMeanings
 pub mod AcceptTrees
 pub mod AcceptShows
 pub mod AcceptMeanings
+pub mod AcceptReach

@@ -9,4 +9,4 @@ mod host_accesses;
 mod laws;
 
 pub use host_accesses::{HostRead, HostWrite};
-pub use laws::operations_mean;
+pub use laws::{operations_mean, pending_is_unreached};
