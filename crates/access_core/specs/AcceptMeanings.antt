@@ -1,7 +1,7 @@
 -- The leaf that accepts a private page means its row where the entry isn't PENDING, and where the zeros of a PENDING page may be
 -- stored before the act.
-use Rattle.std.proofs.Common.{◌≡◌, ℕ, suc, ◌^◌, ◌<◌, ◌≤◌, Bool, true, false, not, ◌==◌, ◌||◌, ◌&&◌, List, [], ◌∷◌, ◌++◌, slice_index, refl, ap, sym, ◌∙◌, subst, inl, inr, lit<, arith}
-use Rattle.std.proofs.lemmas.Bool.{eq-eqb, ne_eqb}
+use Rattle.std.proofs.Common.{◌≡◌, ℕ, suc, ◌^◌, ◌<◌, ◌≤◌, Bool, true, false, not, ◌==◌, ◌||◌, ◌&&◌, List, [], ◌∷◌, ◌++◌, slice_index, refl, ap, sym, ◌∙◌, subst, inl, inr, lit<, arith, ◌⊎◌}
+use Rattle.std.proofs.lemmas.Bool.{eq-eqb, ne_eqb, lt-ltb}
 use Rattle.td_words.specs.declared.names.EntryState.{EntryState}
 use Rattle.td_words.specs.declared.names.EntryState.TheVariants as entry
 use Rattle.td_words.specs.declared.names.PageKind.TheVariants as kind
@@ -14,55 +14,42 @@ use Rattle.td_words.specs.Place as place
 use Rattle.td_words.proofs.Unpacked.{packings}
 use Rattle.flat_core.specs.World.{World}
 use Rattle.flat_core.specs.Processor.{OfPage, OfOp, OfTree, Held}
-use Rattle.flat_core.specs.Effects.{pass_operation, tell_words}
+use Rattle.flat_core.specs.Effects.{pass_operation, tell_words, set_entry}
 use Rattle.flat_core.specs.Row.{Item, Try}
 use Rattle.flat_core.specs.Tree.{entry_at, number_at, same_state, may_read, is_passed}
 use Rattle.flat_core.specs.Guest.{accept, accept_page, names_page, is_pending_at, unless_violated}
-use Rattle.flat_core.specs.Lawful.{Lawful, is_free}
+use Rattle.flat_core.specs.Lawful.{Lawful, is_free, IsNodeOf}
 use Rattle.flat_core.proofs.Maps.{not_free}
 use Rattle.flat_core.proofs.Tests.{by_test}
 use Rattle.sept_walk.specs.SecureEpt.{index_at, is_mapped_on}
 use Rattle.sept_walk.proofs.Meets.{split}
-use Rattle.word_rules.specs.Rules.{ThePage, KeepsNothing}
+use Rattle.word_rules.specs.Rules.{ThePage, KeepsNothing, KeepsPage}
 use Rattle.word_rules.specs.Permissions.{Respects}
 use Rattle.word_rules.specs.Views.{no_page, named_by, look, of_entry}
 use Rattle.word_rules.specs.Cells.{Shows}
-use Rattle.lock_words.specs.Grips.{holds}
+use Rattle.lock_words.specs.Grips.{holds, holds_alone}
 use Rattle.lock_words.specs.LockWords.{tdcs_of}
 use Rattle.leaf_engine.specs.Facts.{GuestFits}
-use Rattle.leaf_engine.specs.Trees.{Tree, Lock}
-use Rattle.leaf_engine.specs.Changes.{changed_all}
-use Rattle.leaf_engine.specs.Means.{Instant, Means, Work, work_of, OfOperation, hold, exit_item, LocksStay, MayChange}
+use Rattle.leaf_engine.specs.Trees.{Tree, Lock, done}
+use Rattle.leaf_engine.specs.Changes.{changed_all, Change, Clear, changed}
+use Rattle.leaf_engine.specs.Means.{Instant, Means, Work, work_of, OfOperation, hold, exit_item, LocksStay, MayChange, MayFill, MayFillAll}
 use Rattle.leaf_parts.specs.Words.{page_told}
-use Rattle.leaf_parts.proofs.Begun.{TwoControls, page-in, page_lock, holds-newest}
+use Rattle.leaf_parts.proofs.Begun.{TwoControls, page-in, page_lock, holds-newest, alone-newest}
 use Rattle.leaf_parts.proofs.Checks.{tdr-load}
 use Rattle.leaf_parts.proofs.Told.{page-back}
 use Rattle.sept_parts.specs.SeptPages.{HasEntry, HoldsTree}
 use Rattle.sept_parts.proofs.SeptTold.{said, named-in}
-use Rattle.sept_parts.proofs.SeptLocks.{tree_held, upper-reads, page-reads, named-reads}
+use Rattle.sept_parts.proofs.SeptLocks.{tree_held, upper-reads, page-reads, named-reads, named-writes}
 use Rattle.sept_parts.proofs.SeptBegun.{tree-lock-means, root-page-means, entry-means}
 use Rattle.sept_parts.specs.SeptTrees.{root_page_tree}
 use Rattle.access_core.specs.OperationTrees.{with_position, put_next, unless_violation}
 use Rattle.access_core.specs.VpShows.{passed-shown}
-use Rattle.access_core.specs.GuestWords.{held-under, kept-respects, vp-in, vp-writes, position-load}
+use Rattle.access_core.specs.GuestWords.{held-under, kept-respects, vp-in, vp-writes, position-load, vp-owes}
 use Rattle.access_core.specs.RtmrMeanings.{running-controls}
-use Rattle.flat_core.specs.Effects.{set_entry}
-use Rattle.flat_core.specs.Lawful.{IsNodeOf}
-use Rattle.std.proofs.lemmas.Bool.{lt-ltb}
-use Rattle.std.proofs.Common.{◌⊎◌}
-use Rattle.word_rules.specs.Rules.{KeepsPage}
 use Rattle.word_rules.proofs.Conflicts.{respects-compose}
 use Rattle.act_rules.proofs.Respected.{effects-respect}
-use Rattle.lock_words.specs.Grips.{holds_alone}
-use Rattle.leaf_engine.specs.Trees.{done}
-use Rattle.leaf_engine.specs.Changes.{Change, Clear, changed}
-use Rattle.leaf_engine.specs.Means.{MayFill, MayFillAll}
-use Rattle.leaf_parts.proofs.Begun.{alone-newest}
-use Rattle.sept_parts.proofs.SeptLocks.{named-writes}
-use Rattle.access_core.specs.GuestWords.{vp-owes}
 use Rattle.access_core.specs.AcceptShows.{accepted-shown}
-use Rattle.access_core.specs.AcceptTrees.{map_entry}
-use Rattle.access_core.specs.AcceptTrees.{or_violation, passed_tree, passed_walk, accepted, accept_held, accept_found, accept_at, accept_tree, AcceptMeans}
+use Rattle.access_core.specs.AcceptTrees.{map_entry, or_violation, passed_tree, passed_walk, accepted, accept_held, accept_found, accept_at, accept_tree, AcceptMeans}
 
 -- an entry names a page exactly where it isn't FREE
 named-free : (e : Entry) → is_free e.state ≡ true → named_by e ≡ no_page

@@ -65,8 +65,8 @@ accept_tree m t v gpa = Load Whole (place.Word t TDR_TDCS) (λ word. accept_at m
 abbrev pub accept_task : Place → (tdr vp gpa : ℕ) → Task
 accept_task p t v gpa = record { place = p; tree = accept_tree p.machine t v gpa; meaning = OfOperation t v (accept t v gpa) }
 
--- it means its row of a private GPA whose entry isn't PENDING. The zeros of a PENDING page are stored where nobody reaches
--- it, which a law of accesses would have to tell the leaf
+-- it means its row of a private GPA whose entry isn't PENDING. The zeros of a PENDING page are stored before the act where
+-- nobody reaches the page (`AcceptReach`), which the locks of a leaf don't tell it
 abbrev pub AcceptMeans : Type 0
 AcceptMeans = (p : Place) (t v gpa : ℕ) → IsMachine p.machine → gpa < 2 ^ 47 → (c : Instant) → IsAt (accept_task p t v gpa) c → is_pending_at c.state.world t gpa ≡ false
     → let k = work_of (accept_task p t v gpa).meaning in Means p.machine c k [] (accept_tree p.machine t v gpa) (k.items c.state.world)
