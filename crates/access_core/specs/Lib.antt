@@ -7,3 +7,7 @@ pub mod OperationMeanings
 pub mod RtmrTrees
 pub mod RtmrShows
 pub mod RtmrMeanings
+pub mod AcceptTrees
+pub mod AcceptShows
+pub mod AcceptMeanings
+pub mod AcceptReach

@@ -38,6 +38,11 @@ use Rattle.access_core.specs.RtmrShows.{rtmr-line, rtmr-class, extended-shown}
 running-old : (s : OpState) → s ≡ op.Uninitialized → runs_in s ≡ true → ⊥
 running-old s e r = (let no : runs_in op.Uninitialized ≡ true = subst (λ (x : OpState). runs_in x ≡ true) e r in cc)
 
+pub running-controls : (m : Machine) (c : Instant) (t v : ℕ) → Lawful m c.state.world → GuestFits c.state.world c.me c.kept t v → TwoControls m c.state.world t
+running-controls m c t v la fits =
+    let two : (length (c.state.world.tds.controls t) == 2) ≡ true = by_test (length (c.state.world.tds.controls t) == 2) (λ y. y) (λ n. absurd (running-old (c.state.world.tds.ops t) (la.beginnings.is_new t fits.alive n).op fits.running)) in
+    two-controls m c.state.world t la fits.alive two
+
 -- words are loaded one after another, where each of them may be
 abbrev listed : (ℕ → ℕ) → (from left : ℕ) → List ℕ
 listed said n zero = []
@@ -59,11 +64,8 @@ module _ (m : Machine) (c : Instant) (t v line i : ℕ) (few : i < 4) (la : Lawf
   abbrev hs : List Held
   hs = record { lock = OfRtmr t; mode = Exclusive } ∷ []
 
-  two : (length (w.tds.controls t) == 2) ≡ true
-  two = by_test (length (w.tds.controls t) == 2) (λ y. y) (λ n. absurd (running-old (w.tds.ops t) (la.beginnings.is_new t fits.alive n).op fits.running))
-
   z : TwoControls m w t
-  z = two-controls m w t la fits.alive two
+  z = running-controls m c t v la fits
 
   inside : v < m.pages
   inside = vp-in m c t v la sh fits

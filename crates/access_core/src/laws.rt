@@ -2,9 +2,11 @@
 
 ghost use Rattle.access_core.specs.OperationTrees.{AddMeans, SetMeans, SharedLoadMeans, SharedStoreMeans, VmcallMeans};
 ghost use Rattle.access_core.specs.RtmrTrees.{RtmrMeans};
+ghost use Rattle.access_core.specs.AcceptTrees.{AcceptMeans};
+ghost use Rattle.access_core.specs.AcceptReach.{PendingIsUnreached, PendingMayBeFilled};
 
 /// The leaves of `set`, `add`, `vmcall` and `rtmr`, and of loads and stores of shared words, mean
-/// their rows.
+/// their rows; and so does the leaf of `accept` where the entry isn't PENDING.
 pub fn operations_mean()
     ensures set { SetMeans }
     ensures add { AddMeans }
@@ -12,4 +14,13 @@ pub fn operations_mean()
     ensures load { SharedLoadMeans }
     ensures store { SharedStoreMeans }
     ensures rtmr { RtmrMeans }
+    ensures accept { AcceptMeans }
+{}
+
+/// Nobody reaches the page of an entry whose guest hasn't accepted it (`reach`), so the rules let
+/// whoever holds P of it alone, with the locks of its TD's guest, store its zeros before the act
+/// (`fill`).
+pub fn pending_is_unreached()
+    ensures reach { PendingIsUnreached }
+    ensures fill { PendingMayBeFilled }
 {}
