@@ -72,7 +72,7 @@ const REPLIES: &[&str] = &[
 const BAD_LINES: &[&str] = &[
     "script line 3 UNTERMINATED\n| machine 1 8 1\nlp 0\nHOST.RE",
     "script line 3 COUNT\n| machine 1 8 1\nlp 0\nHOST.READ 5\nend\n",
-    "script line 2 UNBUILT\n| machine 1 8 1\ncode 1 0\n",
+    "script line 3 UNBUILT\n| machine 1 8 1\ncode 1 0\nsecret 0 1\nend\n",
     "script line 3 UNBUILT\n| machine 1 8 1\nlp 0\nMEM.TRACK 1\n",
     "script line 4 ENDLESS\n| machine 1 8 1\nlp 0\nHOST.READ 5 0\n",
     "script line 3 MACHINE\n| # nothing\n\n",
