@@ -36,10 +36,9 @@ use Rattle.lock_words.specs.Grips.{holds, holds_alone}
 use Rattle.lock_words.specs.Reached.{AreSound, SoundnessIsKept, SoundLocksStand}
 use Rattle.lock_words.proofs.Runs.{has-line}
 use Rattle.word_rules.specs.Spots.{runs_in}
-use Rattle.leaf_engine.specs.Besides.{Beside, entered}
 use Rattle.leaf_engine.specs.Facts.{GuestFits, GuestIsIn, IsInside, CountedAreIn, Facts, FactsBegin, EventsKeepFacts, FactsStand, OutsideNoneIsCounted}
 use Rattle.leaf_engine.proofs.Doings.{settle-beside}
-use Rattle.leaf_engine.proofs.Turning.{succeeded-beside}
+use Rattle.leaf_engine.proofs.Turning.{entered, succeeded-guest}
 
 -- a guest is where it runs, under the locks that VP.ENTER left it
 
@@ -200,7 +199,7 @@ module _ (o : Opening) (s : State) (p : ℕ) (small : (e : Event) → Due o s.wo
         | inr x ↦ (let e : Entering = x.1.0 in
             let granted : Bool = is_granted s (OfCall row Succeeds) in
             let in' : (settled (call_lp s.world granted row Succeeds lp)).guest ≡ Some (new_guest e) =
-            guest-settled (call_lp s.world granted row Succeeds lp) ∙ (ap (λ (b : Beside). b.guest) (succeeded-beside s.world row row.enters lp []) ∙ ap (λ (z : Option Entering). entered z lp.guest) x.1.1) in
+            guest-settled (call_lp s.world granted row Succeeds lp) ∙ (succeeded-guest s.world row row.enters lp ∙ ap (λ (z : Option Entering). entered z lp.guest) x.1.1) in
             subst (λ (m : Move Reply). IsInside (after_event p s (Some (OfCall row m))) v) (sym x.0) (mine (OfCall row Succeeds) v (new_guest e) below in' x.1.2))
       ]
 

@@ -9,6 +9,7 @@ pub mod Items
 pub mod Turns
 pub mod Follows
 pub mod Tables
+pub mod Guests
 pub mod OwnLists
 pub mod Processors
 pub mod Merges
