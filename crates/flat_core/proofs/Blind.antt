@@ -419,7 +419,7 @@ pub enter_vp-blind : (m : Machine) (me t vp most : ℕ) → AreBlind m (enter_vp
 enter_vp-blind m me t vp most = record {
   enters = refl;
   items = λ v w a. rw (a.pages, a.tds, a.vps) refl;
-  value = λ v w a. refl;
+  value = λ v w a. rw (a.tds, a.vps) refl;
   cached = λ v w ts a. rw (a.tds, a.vps) refl;
   act = λ v w lv lw a ps.
       vps_alike v w a (enter_guest me vp (v.tds.epochs t) v).vps (enter_guest me vp (w.tds.epochs t) w).vps

@@ -90,6 +90,16 @@ impl fmt::Display for Value {
                 state,
                 page: Some(page),
             } => write!(f, "SUCCESS {state} {page}"),
+            Value::Entered {
+                stale: true,
+                index,
+                position,
+            } => write!(f, "SUCCESS STALE {index} {position}"),
+            Value::Entered {
+                stale: false,
+                index,
+                position,
+            } => write!(f, "SUCCESS FRESH {index} {position}"),
         }
     }
 }
