@@ -75,7 +75,7 @@ value_text (value.Op s) = codes "SUCCESS " ++ op_text s
 value_text (value.Digest bytes) = codes "SUCCESS " ++ digest_text bytes
 value_text (value.Page kind owner epoch) = codes "SUCCESS " ++ (kind_text kind ++ (codes " " ++ (decimal owner ++ (codes " " ++ decimal epoch))))
 value_text (value.Entry state page) = codes "SUCCESS " ++ (entry_text state ++ named_text page)
-value_text (value.Entered stale index position) = codes "SUCCESS " ++ (stale_text stale ++ (decimal index ++ (codes " " ++ decimal position)))
+value_text (value.Entered stale index position root) = codes "SUCCESS " ++ (stale_text stale ++ (decimal index ++ (codes " " ++ (decimal position ++ (codes " " ++ decimal root)))))
 
 abbrev pub outcome_text : Outcome → List ℕ
 outcome_text outcome.Stop = codes "STOP"

@@ -94,12 +94,14 @@ impl fmt::Display for Value {
                 stale: true,
                 index,
                 position,
-            } => write!(f, "SUCCESS STALE {index} {position}"),
+                root,
+            } => write!(f, "SUCCESS STALE {index} {position} {root}"),
             Value::Entered {
                 stale: false,
                 index,
                 position,
-            } => write!(f, "SUCCESS FRESH {index} {position}"),
+                root,
+            } => write!(f, "SUCCESS FRESH {index} {position} {root}"),
         }
     }
 }
