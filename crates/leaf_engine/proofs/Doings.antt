@@ -185,6 +185,12 @@ settle-beside (Answered r) (h ∷ hs) lp bs = refl
 settle-beside Trying hs lp bs = refl
 settle-beside (Undoing l) hs lp bs = refl
 
+pub settle-guest : (ph : Phase Reply) (hs : List Held) (lp : Lp) → (settle ph hs lp).guest ≡ lp.guest
+settle-guest (Answered r) [] lp = refl
+settle-guest (Answered r) (h ∷ hs) lp = refl
+settle-guest Trying hs lp = refl
+settle-guest (Undoing l) hs lp = refl
+
 -- what an event of a leaf makes of what its processor caches, has noted and told
 
 not-acted : (mv : Move Reply) (e : RunEvent) (t : Tree) (k : Work) (w : World) (b : Beside) → (mv ≡ Succeeds → ⊥) → ActsBy mv e k w (answer_of t) → beside_after e t b ≡ b

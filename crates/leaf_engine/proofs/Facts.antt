@@ -37,7 +37,7 @@ use Rattle.lock_words.specs.Reached.{AreSound, SoundnessIsKept, SoundLocksStand}
 use Rattle.lock_words.proofs.Runs.{has-line}
 use Rattle.word_rules.specs.Spots.{runs_in}
 use Rattle.leaf_engine.specs.Facts.{GuestFits, GuestIsIn, IsInside, CountedAreIn, Facts, FactsBegin, EventsKeepFacts, FactsStand, OutsideNoneIsCounted}
-use Rattle.leaf_engine.proofs.Doings.{settle-beside}
+use Rattle.leaf_engine.proofs.Doings.{settle-guest}
 use Rattle.leaf_engine.proofs.Turning.{entered, succeeded-guest}
 
 -- a guest is where it runs, under the locks that VP.ENTER left it
@@ -110,7 +110,7 @@ walked-vp access gpa true (suc level) e g = refl
 walked-vp access gpa false level e g = refl
 
 guest-settled : (lp : Lp) → (settled lp).guest ≡ lp.guest
-guest-settled lp = ap (λ (b : Beside). b.guest) (settle-beside lp.call.phase lp.call.held lp [])
+guest-settled lp = settle-guest lp.call.phase lp.call.held lp
 
 -- and who is counted
 

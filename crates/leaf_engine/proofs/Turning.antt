@@ -68,7 +68,7 @@ succeeded-beside w row None lp bs = refl
 succeeded-beside w row (Some e) lp bs = refl
 
 -- and of its guest
-pub entered : Option Entering → Option Guest → Option Guest
+abbrev pub entered : Option Entering → Option Guest → Option Guest
 entered None g = g
 entered (Some e) g = Some (new_guest e)
 

@@ -1,5 +1,5 @@
 -- Own lists: the word steps that a logical processor makes, in its order, with their answers, and which of them are events.
-use Rattle.std.specs.Prelude.{◌≡◌, ℕ, zero, suc, ◌+◌, false, if◌then◌else◌, Option, Some, None, List, [], ◌∷◌, ◌++◌, map, length}
+use Rattle.std.specs.Prelude.{◌≡◌, ℕ, zero, suc, ◌+◌, Bool, true, false, Option, Some, None, List, [], ◌∷◌, ◌++◌, map, length}
 use Rattle.td_words.specs.declared.machines.Machine.{Machine}
 use Rattle.td_words.specs.declared.calls.Call.{Call}
 use Rattle.td_words.specs.declared.calls.GuestOp.{GuestOp}
@@ -160,14 +160,14 @@ pub record GuestTurn (t : LeafTable) (m : Machine) (c : Call) (cs : List Call) (
   pub after_is : after ≡ after_step c cs line g rs (beside_after e stands.rest b) (step_of t.codes b.cached g) stands (last_reply stands.stage stands.held)
 
 -- in a guest, its VP.ENTER gives E back first
-abbrev pub EnteredTurn : LeafTable → Machine → Call → List Call → Option Standing → WordGuest → List Reply → Beside → Event → List Piece → WordLp → Type 0
-EnteredTurn t m c cs None g rs b e ps after = ⊥
-EnteredTurn t m c cs (Some line) g rs b e ps after =
-    if gives_epoch_back line.held then LineTurn t.call m c cs (Some line) (Some g) rs b e ps after else GuestTurn t m c cs line g rs b e ps after
+abbrev pub EnteredTurn : LeafTable → Machine → Call → List Call → (line : Standing) → WordGuest → List Reply → Beside → Event → List Piece → WordLp → Bool → Type 0
+EnteredTurn t m c cs line g rs b e ps after true = LineTurn t.call m c cs (Some line) (Some g) rs b e ps after
+EnteredTurn t m c cs line g rs b e ps after false = GuestTurn t m c cs line g rs b e ps after
 
 abbrev pub CallTurn : LeafTable → Machine → Call → List Call → Option Standing → Option WordGuest → List Reply → Beside → Event → List Piece → WordLp → Type 0
 CallTurn t m c cs run None rs b e ps after = LineTurn t.call m c cs run None rs b e ps after
-CallTurn t m c cs run (Some g) rs b e ps after = EnteredTurn t m c cs run g rs b e ps after
+CallTurn t m c cs None (Some g) rs b e ps after = ⊥
+CallTurn t m c cs (Some line) (Some g) rs b e ps after = EnteredTurn t m c cs line g rs b e ps after (gives_epoch_back line.held)
 
 -- A processor makes this event in these pieces; none where it has no line left.
 abbrev pub LinesTurn : LeafTable → Machine → List Call → Option Standing → Option WordGuest → List Reply → Beside → Event → List Piece → WordLp → Type 0
