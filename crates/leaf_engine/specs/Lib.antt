@@ -16,4 +16,5 @@ pub mod Merges
 pub mod Shown
 pub mod Calls
 pub mod Doing
+pub mod Standing
 pub mod Reached
