@@ -2,7 +2,7 @@
 
 ghost use Rattle.flat_core.specs.AccessLaw.{AccessIsKept, AccessAlwaysHolds, GuestsReachTheirOwn, LoadsGiveTheirOwn, MemoriesAreKept, CachesAreKept, CachesAreSmall, RoomIsUsed};
 ghost use Rattle.flat_core.specs.Bounds.{RowsTryFew, TimelinessIsKept, TimelyEventsRunOut, EventsRunOut, RunsEnd, EntriesAreBounded};
-ghost use Rattle.flat_core.specs.Entered.{EnteredIsKept, EnteredAreInGuest};
+ghost use Rattle.flat_core.specs.Entered.{EventsSpare, EnteredIsKept, EnteredAreInGuest};
 ghost use Rattle.flat_core.specs.Entries.{EntriesHaveTheirEvents};
 ghost use Rattle.flat_core.specs.GuestOrder.{OperationsTryTheirLists, GuestOrderIsKept, GuestOrderHolds};
 ghost use Rattle.flat_core.specs.GuestWorked.{GuestExamples};
@@ -69,12 +69,14 @@ pub fn count_law()
     ensures run { ExportedAreCounted }
 {}
 
-/// The act of each call leaves a virtual processor as it is that is in guest on another logical
-/// processor. And one that is counted at its entry epoch is in guest on the logical processor with
-/// which it is associated: at the start of every run, after each event, whatever bundles have come in,
-/// and so after any schedule.
+/// The act of each call leaves a virtual processor as it is, with its registers, that is in guest on
+/// another logical processor; and so does each event of another processor, where processors stand as
+/// they do in runs, whatever bundles have come in. And one that is counted at its entry epoch is in
+/// guest on the logical processor with which it is associated: at the start of every run, after each
+/// event, whatever bundles have come in, and so after any schedule.
 pub fn guest_law()
     ensures spare { RowsSpare }
+    ensures events { EventsSpare }
     ensures kept { EnteredIsKept }
     ensures run { EnteredAreInGuest }
 {}
