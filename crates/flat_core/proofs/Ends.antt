@@ -39,9 +39,9 @@ use Rattle.flat_core.specs.Run.{play, events_in, to_the_end}
 use Rattle.flat_core.specs.Lawful.{Lawful}
 use Rattle.flat_core.specs.Guests.{IsOccupied, SameVp, Spares, guest_locks, entry_locks}
 use Rattle.flat_core.specs.Locks.{one_if}
-use Rattle.flat_core.specs.Laws.{reached, with_bundles, HoldsInRuns, own_items}
+use Rattle.flat_core.specs.Laws.{reached, with_bundles, TimelinessIsKept, HoldsInRuns, own_items}
 use Rattle.flat_core.specs.Inside.{WalkFits, OperationAt, DueAt, PhaseAt, GuestAt, InGuest, IsNotDone, EnterFits, LineAt, StandsAt, IsTimely, AreTimely}
-use Rattle.flat_core.specs.Bounds.{call_left, private_used, operation_used, due_used, phase_used, guest_left, line_left, left_of, events_left, TimelinessIsKept, TimelyEventsRunOut, EventsRunOut, RunsEnd, IsBounded, EntriesAreBounded}
+use Rattle.flat_core.specs.Bounds.{call_left, private_used, operation_used, due_used, phase_used, guest_left, line_left, left_of, events_left, TimelyEventsRunOut, EventsRunOut, RunsEnd, IsBounded, EntriesAreBounded}
 use Rattle.flat_core.specs.Entered.{EventsSpare}
 use Rattle.flat_core.proofs.Induction.{event_keeps, in_runs, play_append}
 use Rattle.flat_core.proofs.Tests.{by_test, put_here, tdr_kind, some_same}

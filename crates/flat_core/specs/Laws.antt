@@ -139,9 +139,9 @@ ExportedAreCounted = HoldsInRuns (λ o s. AreCounted s.world)
 abbrev pub GuestRuns : World → Lp → Type 0
 GuestRuns w lp = (g : Guest) → lp.guest ≡ Some g → list_any (λ s. op_number s == op_number (w.tds.ops g.tdr)) running_ops ≡ true
 
--- one event keeps it, whatever bundles have come in, where processors stand as they do in runs
-abbrev pub LawfulIsKept : Type 0
-LawfulIsKept = IsKept AreTimely
+-- the world stays lawful, and processors stand as they do in runs
+abbrev pub TimelinessIsKept : Type 0
+TimelinessIsKept = IsKept AreTimely
 
 -- so does each event of any opening with that machine, where the TD of its processor's guest runs, and so is built: one that
 -- isn't has RTMRs of zeros in every lawful world
