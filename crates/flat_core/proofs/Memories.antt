@@ -92,7 +92,7 @@ module _ (m : Machine) (w : World) (l : Lawful m w) (h : ArePagesKnown w) where
   -- a page that an entry names was no host page
   apart : (q t n : ℕ) → w.pages.kinds q ≡ kind.Nda → IsAlive w.pages w.tds t → is_free (w.tds.entries t 0 n).state ≡ false → ((w.tds.entries t 0 n).page == q) ≡ false
   apart q t n host a e = by_test ((w.tds.entries t 0 n).page == q)
-      (λ y. absurd (let no : kind.Nda ≡ kind.Reg = sym host ∙ (ap w.pages.kinds (sym (eqb-true _ q y)) ∙ (l.tree.leaf t n a e).1.page.kind) in cc))
+      (λ y. absurd (let no : kind.Nda ≡ kind.Reg = sym host ∙ (ap w.pages.kinds (sym (eqb-true _ q y)) ∙ (l.tree.lowest t n a e).1.page.kind) in cc))
       (λ y. y)
 
   -- where no words but those of a page that was the host's have changed
@@ -126,7 +126,7 @@ module _ (m : Machine) (w : World) (l : Lawful m w) (h : ArePagesKnown w) where
       (λ y. absurd (let no : true ≡ false = sym dead ∙ subst (λ (z : ℕ). IsLive (w.tds.lives z)) (eqb-true x t y) before.life in cc))
       (λ y. y) in
       let elsewhere : is_free (w.tds.entries x 0 n).state ≡ false → ((w.tds.entries x 0 n).page == q) ≡ false = λ e. by_test ((w.tds.entries x 0 n).page == q)
-      (λ y. absurd (let same : x ≡ t = sym (l.tree.leaf x n before e).1.page.owner ∙ (ap w.pages.owners (eqb-true _ q y) ∙ mine) in
+      (λ y. absurd (let same : x ≡ t = sym (l.tree.lowest x n before e).1.page.owner ∙ (ap w.pages.owners (eqb-true _ q y) ∙ mine) in
       let no : true ≡ false = sym (eq-eqb x t same) ∙ another in cc))
       (λ y. y) in
       still_known (give_back q (end_memory_in t q w)) x n before (rw another refl) refl (λ e. rw (elsewhere e) refl)

@@ -225,7 +225,7 @@ measured_after_event _ _ w = w.tds.measured
 abbrev pub EventsMeasure : Type 0
 EventsMeasure = (o : Opening) (s : State) (p t : ℕ) → (event o s p).world.tds.measured t ≡ measured_after_event (lines_left o p (s.lps p)) (next_event o s p) s.world t
 
--- the page that a call gives back to the host. MEM.PAGE.REMOVE does too, once it is built
+-- the page that a call gives back to the host. MEM.PAGE.REMOVE and MEM.SEPT.REMOVE will be among these, once they are built
 abbrev pub gives_back : Call → ℕ → Bool
 gives_back (call.PhymemPageReclaim tdr page) p = p == page
 gives_back _ p = false
