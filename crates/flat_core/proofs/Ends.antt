@@ -579,7 +579,7 @@ module _ (o : Opening) (w : World) (p : ℕ) (lp : Lp) (timely : IsInTime o w p 
 -- an event of another processor leaves a virtual processor in guest as it is
 
 same_world : (w : World) (q t v : ℕ) → IsOccupied w q t v → Spares w w q t v
-same_world w q t v x = record { occupied = x; same = record { index = refl; state = refl; associated = refl; last = refl; position = refl; entered = refl; registers = λ r. refl } }
+same_world w q t v x = record { occupied = x; same = record { index = refl; state = refl; associated = refl; last = refl; position = refl; exported = refl; entered = refl; registers = λ r. refl } }
 
 -- two virtual processors in guest on two logical processors are two
 two_vps : (w : World) (p q t v u x : ℕ) → IsOccupied w p t v → IsOccupied w q u x → q ≢ p → (x == v) ≡ false
@@ -619,6 +619,7 @@ module _ (o : Opening) (w : World) (lawful : Lawful o.machine w) (p : ℕ) (lp :
         associated = ap (λ (z : Vps). z.associated x) d;
         last = ap (λ (z : Vps). z.lasts x) d;
         position = ap (λ (z : Vps). z.positions x) d ∙ (let n = off in rw n refl);
+        exported = ap (λ (z : Vps). z.exported x) d;
         registers = k;
         entered = ap (λ (z : Vps). z.entered x) d;
       };
@@ -650,7 +651,7 @@ module _ (o : Opening) (w : World) (lawful : Lawful o.machine w) (p : ℕ) (lp :
     of_leave : Left (leave_guest g.vp w)
     of_leave = record {
       occupied = record { tdr = occ.tdr; life = occ.life; running = occ.running; page = record { kind = occ.page.kind; owner = occ.page.owner }; ready = occ.ready; associated = occ.associated; epoch = occ.epoch; entered = (let n = off in rw n (occ.entered)); current = occ.current };
-      same = record { index = refl; state = refl; associated = refl; last = refl; position = refl; entered = (let n = off in rw n refl); registers = λ r. refl };
+      same = record { index = refl; state = refl; associated = refl; last = refl; position = refl; exported = refl; entered = (let n = off in rw n refl); registers = λ r. refl };
     }
 
   own_of : (c : Call) (cs : List Call) (g : Guest) → IsInside o p lp c cs g → IsOccupied w p g.tdr g.vp

@@ -29,14 +29,14 @@ pub record IsOccupied (w : World) (p t v : ℕ) : Type 0 where
   pub entered : w.vps.entered v ≡ Some epoch
   pub current : w.vps.lasts v ≡ epoch
 
--- a virtual processor is as it was, with its registers. The session of its last export is left out: an export of it may
--- change that
+-- a virtual processor is as it was, with its registers
 pub record SameVp (before after : World) (v : ℕ) : Type 0 where
   pub index : after.vps.indexes v ≡ before.vps.indexes v
   pub state : after.vps.states v ≡ before.vps.states v
   pub associated : after.vps.associated v ≡ before.vps.associated v
   pub last : after.vps.lasts v ≡ before.vps.lasts v
   pub position : after.vps.positions v ≡ before.vps.positions v
+  pub exported : after.vps.exported v ≡ before.vps.exported v
   pub entered : after.vps.entered v ≡ before.vps.entered v
   pub registers : (r : ℕ) → after.hidden.registers v r ≡ before.hidden.registers v r
 
