@@ -190,7 +190,7 @@ module _ (m : Machine) (c : Instant) (t v gpa : ℕ) (limit : m.pages ≤ 1024) 
     w' = tell_words [] (pass_operation v (accept_page true t gpa w))
 
     its_node : IsNodeOf w.pages t e.page kind.Reg 0 (number_at 0 gpa)
-    its_node = (la.tree.leaf t (number_at 0 gpa) fits.alive full).1
+    its_node = (la.tree.lowest t (number_at 0 gpa) fits.alive full).1
 
     table-kind : (level : ℕ) → level ≡ 0 → ((level ≡ 3) × (at ≡ z.root)) ⊎ ((level < 3) × IsNodeOf w.pages t at kind.Ept (suc level) (number_at (suc level) gpa)) → w.pages.kinds at ≡ kind.Ept
     table-kind level is (inl y) = absurd (omega (arith, is, y.0))

@@ -1,4 +1,4 @@
--- Calls that build virtual processors (Base Architecture, "TD VCPU Life Cycle").
+-- Calls on virtual processors, which create, initialize and enter them (Base Architecture, "TD VCPU Life Cycle").
 use Rattle.std.specs.Prelude.{ℕ, [], ◌∷◌, ◌++◌, Some, slice_index}
 use Rattle.td_words.specs.declared.names.PageKind.TheVariants as kind
 use Rattle.td_words.specs.declared.names.OpState.TheVariants as op
