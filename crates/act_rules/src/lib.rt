@@ -7,4 +7,4 @@
 
 mod laws;
 
-pub use laws::{acts_respect, stores_keep_reads};
+pub use laws::{acts_respect, guests_respect, stores_keep_reads};
