@@ -11,3 +11,5 @@ pub mod AcceptTrees
 pub mod AcceptShows
 pub mod AcceptMeanings
 pub mod AcceptReach
+pub mod WalkTrees
+pub mod WalkMeanings
