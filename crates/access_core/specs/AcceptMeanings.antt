@@ -32,7 +32,7 @@ use Rattle.lock_words.specs.LockWords.{tdcs_of}
 use Rattle.leaf_engine.specs.Facts.{GuestFits}
 use Rattle.leaf_engine.specs.Trees.{Tree, Lock, done}
 use Rattle.leaf_engine.specs.Changes.{changed_all, Change, Clear, changed}
-use Rattle.leaf_engine.specs.Means.{Instant, Means, Work, work_of, OfOperation, hold, exit_item, LocksStay, MayChange, MayFill, MayFillAll}
+use Rattle.leaf_engine.specs.Means.{Instant, Means, Work, work_of, OfOperation, IsAtOperation, hold, exit_item, LocksStay, MayChange, MayFill, MayFillAll}
 use Rattle.leaf_parts.specs.Words.{page_told}
 use Rattle.leaf_parts.proofs.Begun.{TwoControls, page-in, page_lock, holds-newest, alone-newest}
 use Rattle.leaf_parts.proofs.Checks.{tdr-load}
@@ -104,7 +104,7 @@ accept_locks w t gpa = page_lock (entry_at w t 0 gpa).page Exclusive ∷ tree_he
 mapped-lawful : (p : ℕ) → p < 1024 → is_lawful_entry (record { state = entry.Mapped; page = p; mark = 0 }) ≡ true
 mapped-lawful p few = rw (lt-ltb p 1024 few) refl
 
-module _ (m : Machine) (c : Instant) (t v gpa : ℕ) (limit : m.pages ≤ 1024) (small : gpa < 2 ^ 47) (la : Lawful m c.state.world) (sh : Shows m c.memory.words c.memory.slots c.state) (fits : GuestFits c.state.world c.me c.kept t v)
+module _ (m : Machine) (c : Instant) (t v gpa : ℕ) (limit : m.pages ≤ 1024) (small : gpa < 2 ^ 47) (la : Lawful m c.state.world) (sh : Shows m c.memory.words c.memory.slots c.state) (fits : GuestFits c.state.world c.me c.kept t v) (starts : IsAtOperation c.state.world v)
     (may_fill : is_pending_at c.state.world t gpa ≡ true → MayFill m (hold c (accept_locks c.state.world t gpa)) c.state.world (Clear (entry_at c.state.world t 0 gpa).page)) where
   abbrev w : World
   w = c.state.world
@@ -166,7 +166,7 @@ module _ (m : Machine) (c : Instant) (t v gpa : ℕ) (limit : m.pages ≤ 1024) 
   -- nothing but the position changes
   passes : Ends [] (put_next v (w.vps.positions v) ∷ []) (tell_words [] (pass_operation v w))
   passes =
-      let one = passed-shown m c.memory.words c.memory.slots c.state sh t v fits.alive.life fits.vp_page inside in
+      let one = passed-shown m c.memory.words c.memory.slots c.state sh t v fits.alive.life fits.vp_page inside starts in
       record {
         bundles_are = refl;
         respects = kept-respects (hold c (both e.page)) w (tell_words [] (pass_operation v w)) refl refl refl refl;
@@ -224,7 +224,7 @@ module _ (m : Machine) (c : Instant) (t v gpa : ℕ) (limit : m.pages ≤ 1024) 
       bundles_are = refl;
       respects = respected;
       locks_stay = ((refl, λ y. y), ((refl, λ y. record { alive = record { kind = y.alive.kind; life = y.alive.life }; has_tdcs = y.has_tdcs }), tt));
-      shows = accepted-shown m c.memory c.state t v gpa at sh la fits.alive z small has its_node.page.kind fits.vp_page inside;
+      shows = accepted-shown m c.memory c.state t v gpa at sh la fits.alive z small has its_node.page.kind fits.vp_page inside starts;
       changes_allowed = (
         ((has.in_machine, split.index 0 gpa), (KeepsPage, named-writes m c t sh fits.alive z (both e.page) (both-locks e.page) gpa at small has alone, kept)),
         (((inside, omega arith), (KeepsNothing, vp-owes m c t v la sh fits (both e.page) w' 4 (record { kind = fits.vp_page.kind; owner = fits.vp_page.owner }) refl, tt)), tt),
@@ -329,4 +329,4 @@ module _ (m : Machine) (c : Instant) (t v gpa : ℕ) (limit : m.pages ≤ 1024) 
       (subst (λ (p : ℕ). Means m c k [] (accept_at m t v gpa p) items) (sym told) at-means)
 
 pub accept-means : AcceptMeans
-accept-means p t v gpa limits small c at stays = accept-at p.machine c t v gpa limits.pages.1 small at.lawful at.shown at.maker.1.fits (λ y. absurd (let no : true ≡ false = sym y ∙ stays in cc))
+accept-means p t v gpa limits small c at stays = accept-at p.machine c t v gpa limits.pages.1 small at.lawful at.shown at.maker.1.fits at.maker.2 (λ y. absurd (let no : true ≡ false = sym y ∙ stays in cc))

@@ -23,7 +23,7 @@ use Rattle.lock_words.specs.Grips.{holds, holds_alone}
 use Rattle.lock_words.specs.LockWords.{tdcs_of}
 use Rattle.leaf_engine.specs.Facts.{GuestFits}
 use Rattle.leaf_engine.specs.Trees.{Tree, Load}
-use Rattle.leaf_engine.specs.Means.{Instant, Means, Work, work_of, OfOperation, hold}
+use Rattle.leaf_engine.specs.Means.{Instant, Means, Work, work_of, OfOperation, IsAtOperation, hold}
 use Rattle.leaf_parts.specs.Words.{page_told}
 use Rattle.leaf_parts.proofs.Begun.{TwoControls, two-controls}
 use Rattle.leaf_parts.proofs.Checks.{spot_of, at-tdcs, tdr-load, tdcs-load}
@@ -54,7 +54,7 @@ words-mean m c k hs rest at said one zero n few further h = h
 words-mean m c k hs rest at said one (suc left) n few further h =
     one n (omega (arith, few)) (λ x. with_words at (n + 1) left (λ xs. further (x ∷ xs))) (words-mean m c k hs rest at said one left (n + 1) (omega (arith, few)) (λ xs. further (said n ∷ xs)) h)
 
-module _ (m : Machine) (c : Instant) (t v line i : ℕ) (few : i < 4) (la : Lawful m c.state.world) (sh : Shows m c.memory.words c.memory.slots c.state) (fits : GuestFits c.state.world c.me c.kept t v) where
+module _ (m : Machine) (c : Instant) (t v line i : ℕ) (few : i < 4) (la : Lawful m c.state.world) (sh : Shows m c.memory.words c.memory.slots c.state) (fits : GuestFits c.state.world c.me c.kept t v) (starts : IsAtOperation c.state.world v) where
   abbrev w : World
   w = c.state.world
 
@@ -105,7 +105,7 @@ module _ (m : Machine) (c : Instant) (t v line i : ℕ) (few : i < 4) (la : Lawf
   extended-end : Means m c k hs (extended v line z.tdcs i (w.vps.positions v) (extended_rtmr w t v i)) []
   extended-end =
       let one = extended-shown m c.memory.words c.memory.slots c.state sh t fits.alive z i few (extended_rtmr w t v i) in
-      let all = passed-shown m _ c.memory.slots (record c.state { world = set_rtmr t i (extended_rtmr w t v i) w }) one t v fits.alive.life (record { kind = fits.vp_page.kind; owner = fits.vp_page.owner }) inside in (
+      let all = passed-shown m _ c.memory.slots (record c.state { world = set_rtmr t i (extended_rtmr w t v i) w }) one t v fits.alive.life (record { kind = fits.vp_page.kind; owner = fits.vp_page.owner }) inside starts in (
         record {
           answers = record { reply_is = refl; cached_is = refl; enters_is = refl; notes_are = refl; tells_are = refl; bundles_are = refl };
           fills_allowed = tt;
@@ -163,4 +163,4 @@ module _ (m : Machine) (c : Instant) (t v line i : ℕ) (few : i < 4) (la : Lawf
       (subst (λ (p : ℕ). Means m c k [] (extend_at t v line i p) (Try (OfRtmr t) Exclusive ∷ [])) (sym told) at-means)
 
 pub rtmr-means : RtmrMeans
-rtmr-means p t v line i few = record { means = λ c at. rtmr-at p.machine c t v line i few at.lawful at.shown at.maker.1.fits }
+rtmr-means p t v line i few = record { means = λ c at. rtmr-at p.machine c t v line i few at.lawful at.shown at.maker.1.fits at.maker.2 }

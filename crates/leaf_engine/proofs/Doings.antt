@@ -277,7 +277,7 @@ act-comes (meaning.OfOperation tdr v row) c granted e t mk a =
 act-comes (meaning.OfAccess tdr v line access r gpa page) c granted e t mk a =
     let lp : Lp = c.state.lps c.me in
     came (work_of (meaning.OfAccess tdr v line access r gpa page)) c.state.world lp (lp_after c.state.world granted (Reaches tdr v access r gpa page) lp) e t a refl
-    (ap (λ (z : ℕ). lp.notes ++ reach_notes c.state.world access z gpa page) (sym mk.2)) (sym (append-nil lp.told))
+    (ap (λ (z : ℕ). lp.notes ++ reach_notes c.state.world access z gpa page) (sym mk.3)) (sym (append-nil lp.told))
 act-comes (meaning.OfWalk tdr v access gpa level page) c granted e t mk a =
     let lp : Lp = c.state.lps c.me in
     came (work_of (meaning.OfWalk tdr v access gpa level page)) c.state.world lp (lp_after c.state.world granted (Walks access gpa) lp) e t a

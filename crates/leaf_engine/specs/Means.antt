@@ -142,6 +142,10 @@ pub record IsInGuest (c : Instant) (t v : ℕ) (g : Guest) : Type 0 where
   pub vp : g.vp ≡ v
   pub fits : GuestFits c.state.world c.me c.kept t v
 
+-- it stands at an operation of its list, which has at most 256
+abbrev pub IsAtOperation : World → (vp : ℕ) → Type 0
+IsAtOperation w v = w.vps.positions v < 256
+
 -- the page where the entry of a level stands that maps a GPA: the root, or the node above it
 abbrev pub IsEntryPage : World → (tdr level gpa page : ℕ) → Type 0
 IsEntryPage w t (suc (suc (suc zero))) gpa page = (d : ℕ) × (w.tds.controls t ≡ d ∷ page ∷ [])
@@ -150,9 +154,9 @@ IsEntryPage w t level gpa page = IsNodeOf w.pages t page kind.Ept (suc level) (n
 -- who makes it: a call's processor has no guest, an operation's has
 abbrev pub IsMaker : Meaning → Instant → Type 0
 IsMaker (OfCall row) c = ((c.state.lps c.me).guest ≡ None) × (c.kept ≡ [])
-IsMaker (OfOperation t v row) c = (g : Guest) × IsInGuest c t v g
+IsMaker (OfOperation t v row) c = (g : Guest) × IsInGuest c t v g × IsAtOperation c.state.world v
 IsMaker (OfAccess t v line access r gpa page) c =
-    (g : Guest) × IsInGuest c t v g × (line ≡ length (c.state.lps c.me).replies + 1) × (look_up (c.state.lps c.me).cached t (page_of_gpa gpa) access ≡ Some page) × IsPageOf c.state.world.pages t page kind.Reg
+    (g : Guest) × IsInGuest c t v g × IsAtOperation c.state.world v × (line ≡ length (c.state.lps c.me).replies + 1) × (look_up (c.state.lps c.me).cached t (page_of_gpa gpa) access ≡ Some page) × IsPageOf c.state.world.pages t page kind.Reg
 IsMaker (OfWalk t v access gpa level page) c = (g : Guest) × IsInGuest c t v g × (walk_level g.walk ≡ level) × IsEntryPage c.state.world t level gpa page
 IsMaker (OfExit t v out) c = (g : Guest) × IsInGuest c t v g × (c.state.world.vps.entered v ≡ Some (c.state.world.vps.lasts v))
 
