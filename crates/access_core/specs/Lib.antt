@@ -13,3 +13,6 @@ pub mod AcceptMeanings
 pub mod AcceptReach
 pub mod WalkTrees
 pub mod WalkMeanings
+pub mod ReachTrees
+pub mod ReachShows
+pub mod ReachMeanings
