@@ -1,8 +1,8 @@
 //! Leaves that access words: the host's plain memory accesses, and the operations of guests.
 //!
 //! Each leaf is a `Plan` of `leaf_engine`, whose tree mirrors its row, with the proof that it means
-//! that row. Of a guest's operations `operations_mean` has the meanings of the trees; of ACCEPT
-//! where the entry isn't PENDING.
+//! that row. The trees of `rtmr` and `accept` have no plan; their meanings stand in
+//! `operations_mean` with the others'.
 #![tactic(auto)]
 
 mod guest_operations;
