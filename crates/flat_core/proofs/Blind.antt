@@ -1,5 +1,5 @@
 -- Each row asks and answers the same in two worlds that differ in private words alone, and keeps them so.
-use Rattle.std.proofs.Common.{◌≡◌, refl, sym, ◌∙◌, subst, ap, ℕ, List, [], ◌∷◌, ◌++◌, length, Bool, true, false, not, ◌==◌, ◌&&◌, ◌||◌, if◌then◌else◌}
+use Rattle.std.proofs.Common.{◌≡◌, refl, sym, ◌∙◌, subst, ap, ℕ, ◌+◌, List, [], ◌∷◌, ◌++◌, length, Bool, true, false, not, ◌==◌, ◌&&◌, ◌||◌, if◌then◌else◌}
 use Rattle.std.specs.Prelude.{Some, None}
 use Rattle.std.specs.List.{list_any}
 use Rattle.sha2.specs.Sha512.{sha384}
@@ -27,12 +27,12 @@ use Rattle.flat_core.specs.Opening.{Opening, Agree}
 use Rattle.flat_core.specs.Row.{Row}
 use Rattle.flat_core.specs.Digests.{digest_word}
 use Rattle.flat_core.specs.Conditions.{same_kind, is_host_in, host_page, page_exclusive}
-use Rattle.flat_core.specs.Effects.{put_in, new_td, take_node, take_page, map_page, set_page, begin_memory, measure, clear_page, give_back, enter_guest, end_memory_in, set_key, set_life, set_op, add_vp, set_vp_state, set_register, end_measurement, set_epoch, written_back}
+use Rattle.flat_core.specs.Effects.{put_in, new_td, take_node, take_page, map_page, set_page, begin_memory, measure, clear_page, give_back, block_page, set_state, enter_guest, end_memory_in, set_key, set_life, set_op, add_vp, set_vp_state, set_register, end_measurement, set_epoch, written_back}
 use Rattle.flat_core.specs.HostRows.{host_read, host_write, read_metadata}
 use Rattle.flat_core.specs.TdRows.{create, configure_key, add_tdcx, initialize, read_conditions, field_value, read_td, finalize}
 use Rattle.flat_core.specs.KeyRows.{write_caches_back, reclaim_conditions, reclaim_page, end_flush, free_hkid}
 use Rattle.flat_core.specs.VpRows.{create_vp, initialize_vp, enter_vp}
-use Rattle.flat_core.specs.MemRows.{add_sept, read_sept, add_page, augment_page, chunk_bytes, extend}
+use Rattle.flat_core.specs.MemRows.{add_sept, read_sept, add_page, augment_page, blocked_state, unblocked_state, block_range, unblock_range, advance_epoch, chunk_bytes, extend}
 use Rattle.flat_core.specs.Tree.{page_of_gpa, number_at, entry_at, same_state, state_in}
 use Rattle.flat_core.specs.Table.{row_of}
 use Rattle.flat_core.specs.Lawful.{IsAlive, LawfulPages, Lawful, is_free}
@@ -477,6 +477,56 @@ augment_page-blind m t gpa p = record {
   act = λ v w lv lw a ps. mapped_alike v w p kind.Reg entry.Pending t 0 (number_at 0 gpa) (host_kind _ ps.1.1.1.1.1.1.1.1.1.1.1.1.1.0) a;
 }
 
+-- an entry gets another state for the page that it names, and that page another BEPOCH
+abbrev with_state : ℕ → ℕ → ℕ → (EntryState → EntryState) → Tds → Tds
+with_state t level n f x = record x { entries = put x.entries t (put_in (x.entries t) level n (record { state = f (x.entries t level n).state; page = (x.entries t level n).page; mark = 0 })) }
+
+blocked_alike : (v w : World) (t p q : ℕ) → p ≡ q → Alike v w → Alike (block_page t p v) (block_page t q w)
+blocked_alike v w t p q e a = record {
+  size = a.size;
+  pages = ap (λ (x : Pages). record x { blocked = put x.blocked p (v.tds.epochs t) }) a.pages
+      ∙ (ap (λ (x : Tds). record (w.pages) { blocked = put w.pages.blocked p (x.epochs t) }) a.tds ∙ ap (λ (x : ℕ). record (w.pages) { blocked = put w.pages.blocked x (w.tds.epochs t) }) e);
+  words = λ p i known. a.words p i known;
+  tds = a.tds;
+  vps = a.vps;
+  streams = a.streams;
+  key_table = a.key_table;
+  told = a.told;
+  bundles = a.bundles;
+}
+
+pub block_range-blind : (m : Machine) (t gpa level : ℕ) → AreBlind m (block_range m t gpa level) (block_range m t gpa level)
+block_range-blind m t gpa level = record {
+  enters = refl;
+  items = λ v w a. rw (a.pages, a.tds) refl;
+  value = λ v w a. refl;
+  cached = λ v w ts a. refl;
+  act = λ v w lv lw a ps.
+      let n : ℕ = number_at level gpa in
+      let v1 : World = set_state t level n (blocked_state (entry_at v t level gpa).state) v in
+      let w1 : World = set_state t level n (blocked_state (entry_at w t level gpa).state) w in
+      blocked_alike v1 w1 t (entry_at v t level gpa).page (entry_at w t level gpa).page (ap (λ (x : Tds). (x.entries t level n).page) a.tds)
+      (tds_alike v w a (with_state t level n blocked_state) (λ x. refl));
+}
+
+pub unblock_range-blind : (m : Machine) (t gpa level : ℕ) → AreBlind m (unblock_range m t gpa level) (unblock_range m t gpa level)
+unblock_range-blind m t gpa level = record {
+  enters = refl;
+  items = λ v w a. rw (a.pages, a.tds, a.vps) refl;
+  value = λ v w a. refl;
+  cached = λ v w ts a. refl;
+  act = λ v w lv lw a ps. tds_alike v w a (with_state t level (number_at level gpa) unblocked_state) (λ x. refl);
+}
+
+pub advance_epoch-blind : (m : Machine) (t : ℕ) → AreBlind m (advance_epoch m t) (advance_epoch m t)
+advance_epoch-blind m t = record {
+  enters = refl;
+  items = λ v w a. rw (a.pages, a.tds, a.vps) refl;
+  value = λ v w a. refl;
+  cached = λ v w ts a. refl;
+  act = λ v w lv lw a ps. tds_alike v w a (λ x. record x { epochs = put x.epochs t (x.epochs t + 1) }) (λ x. refl);
+}
+
 -- MR.EXTEND measures a page of a TD that is still being built, whose words are public
 mapped_used : (s : EntryState) → list_any (λ a. same_state a s) (entry.Mapped ∷ []) ≡ true → is_free s ≡ false
 mapped_used entry.Mapped h = refl
@@ -542,3 +592,6 @@ row-blind o q a me (call.MemSeptAdd t gpa level p) = blind_at o q a.machine (λ 
 row-blind o q a me (call.MemSeptRd t gpa level) = blind_at o q a.machine (λ m. read_sept m t gpa level) (read_sept-blind o.machine t gpa level)
 row-blind o q a me (call.MemPageAdd t gpa p source) = blind_at o q a.machine (λ m. add_page m t gpa p source) (add_page-blind o.machine t gpa p source)
 row-blind o q a me (call.MemPageAug t gpa p) = blind_at o q a.machine (λ m. augment_page m t gpa p) (augment_page-blind o.machine t gpa p)
+row-blind o q a me (call.MemRangeBlock t gpa level) = blind_at o q a.machine (λ m. block_range m t gpa level) (block_range-blind o.machine t gpa level)
+row-blind o q a me (call.MemRangeUnblock t gpa level) = blind_at o q a.machine (λ m. unblock_range m t gpa level) (unblock_range-blind o.machine t gpa level)
+row-blind o q a me (call.MemTrack t) = blind_at o q a.machine (λ m. advance_epoch m t) (advance_epoch-blind o.machine t)

@@ -4,6 +4,9 @@ use Rattle.flat_core.specs.GuestWorked.{GuestExamples}
 
 pub guest_examples : GuestExamples
 guest_examples = record {
+  epoch_waits = refl;
+  tracked_after_exit = refl;
+  used_until_exit = refl;
   exits = refl;
   stop_before_max = refl;
   sums = refl;

@@ -55,6 +55,7 @@ one_use o me (call.MemPageAdd t gpa page source) w p ps owned stays =
 one_use o me (call.MemPageAug t gpa page) w p ps owned stays =
     let behind = walk_passed w t gpa (state_in w t gpa 0 (entry.Free ∷ []) ∷ page_exclusive page ∷ host_page w page ∷ []) 0 (lit≤ tt) ps.1.1.1.1.1.1.1.1.1 in
     host_taken w page _ t 0 _ p behind.0.1.0 owned
+one_use o me (call.MemRangeBlock t gpa level) w p ps owned stays = record { kind = refl; owner = refl; level = refl; number = refl }
 one_use o me _ w p ps owned stays = same_use w.pages p
 
 -- through events

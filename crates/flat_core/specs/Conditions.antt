@@ -94,6 +94,9 @@ tree_exclusive t = Try (OfTree t) Exclusive
 abbrev pub epoch_shared : ℕ → Item Reply
 epoch_shared t = Try (OfEpoch t) Shared
 
+abbrev pub epoch_exclusive : ℕ → Item Reply
+epoch_exclusive t = Try (OfEpoch t) Exclusive
+
 abbrev pub keys_exclusive : Item Reply
 keys_exclusive = Try OfKeys Exclusive
 
@@ -172,11 +175,16 @@ all_ops = op.Uninitialized ∷ begun_ops
 abbrev pub running_ops : List OpState
 running_ops = op.Runnable ∷ op.LiveExport ∷ op.LiveImport ∷ []
 
+-- the one in which its pages are blocked, unblocked and removed: while it runs and no session stands
+abbrev pub blocking_ops : List OpState
+blocking_ops = op.Runnable ∷ []
+
 -- those in which a TD may get secure EPT pages: while it is built or imported, and while it runs
 abbrev pub growing_ops : List OpState
 growing_ops = op.Initialized ∷ op.Runnable ∷ op.LiveExport ∷ op.MemoryImport ∷ op.StateImport ∷ op.PostImport ∷ op.LiveImport ∷ []
 
--- those in which it may get private pages that its guest is to accept: while it runs, or is exported running
+-- those in which it may get private pages that its guest is to accept, and in which its epoch may advance: while it runs, or
+-- is exported running
 abbrev pub augmented_ops : List OpState
 augmented_ops = op.Runnable ∷ op.LiveExport ∷ []
 

@@ -75,6 +75,10 @@ set_epoch t e w = record w { tds = record (w.tds) { epochs = put w.tds.epochs t 
 abbrev pub set_entry : ℕ → ℕ → ℕ → Entry → World → World
 set_entry t level number e w = record w { tds = record (w.tds) { entries = put w.tds.entries t (put_in (w.tds.entries t) level number e) } }
 
+-- an entry gets another state for the page that it names; the page isn't exported, so there is no mark
+abbrev pub set_state : ℕ → ℕ → ℕ → EntryState → World → World
+set_state t level number s w = set_entry t level number (record { state = s; page = (w.tds.entries t level number).page; mark = 0 }) w
+
 -- a host page becomes the one that an entry of a TD names: it is taken as the node there, and the entry gets that state
 abbrev pub map_page : ℕ → PageKind → EntryState → (t level number : ℕ) → World → World
 map_page p k s t level number w = set_entry t level number (record { state = s; page = p; mark = 0 }) (take_node p k t level number w)

@@ -5,10 +5,10 @@ use Rattle.td_words.specs.declared.names.LockName.TheVariants as lock
 use Rattle.td_words.specs.declared.names.Access.TheVariants as access
 use Rattle.td_words.specs.declared.names.EntryState.TheVariants as entry
 use Rattle.td_words.specs.declared.calls.Call.{Call}
-use Rattle.td_words.specs.declared.calls.Call.TheVariants.{HostWrite, HostRead, MngCreate, MngVpflushdone, MrFinalize, VpCreate, VpInit, VpEnter, MemSeptRd, MemPageAdd, MemPageAug}
+use Rattle.td_words.specs.declared.calls.Call.TheVariants.{HostWrite, HostRead, MngCreate, MngVpflushdone, MrFinalize, VpCreate, VpInit, VpEnter, MemSeptRd, MemPageAdd, MemPageAug, MemRangeBlock, MemRangeUnblock, MemTrack}
 use Rattle.td_words.specs.declared.calls.GuestOp.{GuestOp}
 use Rattle.td_words.specs.declared.calls.GuestOp.TheVariants.{Set, Add, Load, Store, Accept, Rtmr, Vmcall}
-use Rattle.td_words.specs.declared.refusals.Status.TheVariants.{OperandInvalid, OperandBusy, PageMetadataIncorrect, VcpuAssociated, HkidNotFree, FlushvpNotDone}
+use Rattle.td_words.specs.declared.refusals.Status.TheVariants.{OperandInvalid, OperandBusy, PageMetadataIncorrect, VcpuAssociated, HkidNotFree, FlushvpNotDone, TlbTrackingNotDone, PreviousTlbEpochBusy}
 use Rattle.td_words.specs.declared.replies.Value.TheVariants.{Nothing, Number, Entry}
 use Rattle.td_words.specs.declared.replies.Outcome.TheVariants.{Stop, Max, Vmcall as Called, EptViolation, Busy}
 use Rattle.td_words.specs.declared.replies.Reply.{Reply}
@@ -18,7 +18,7 @@ use Rattle.flat_core.specs.Processor.{Note, LoadNote, RtmrNote}
 use Rattle.flat_core.specs.Opening.{Opening}
 use Rattle.flat_core.specs.Event.{State, start}
 use Rattle.flat_core.specs.Run.{run, told_in}
-use Rattle.flat_core.specs.Worked.{plain_opening, building, events_taken, replies_of}
+use Rattle.flat_core.specs.Worked.{plain_opening, building, events_taken, replies_of, success}
 
 -- each virtual processor of TD 1 has this code
 abbrev pub opening_with : List GuestOp → List (List Call) → Opening
@@ -79,7 +79,18 @@ two_guests =
     let build = building ++ VpCreate 1 9 ∷ VpInit 1 9 0 ∷ MemPageAdd 1 0 8 0 ∷ MrFinalize 1 ∷ VpEnter 1 4 9 ∷ [] in
     run (record (plain_opening 2 32 1 (build ∷ (VpEnter 1 9 9 ∷ []) ∷ [])) { codes = λ t i. stores_or_loads i }) (replicate 120 0)
 
+-- TD 1 has loaded a word of its page at GPA 0 on processor 0, and is in guest; processor 1 makes these calls in so many events
+abbrev pub beside_guest : List GuestOp → List Call → ℕ → State
+beside_guest ops calls n =
+    run (opening_with ops ((building ++ MemPageAdd 1 0 8 0 ∷ MrFinalize 1 ∷ VpEnter 1 4 100 ∷ VpEnter 1 4 100 ∷ []) ∷ calls ∷ [])) (replicate 91 0 ++ replicate n 1)
+
 pub record GuestExamples : Type 0 where
+  -- the epoch advances twice only once nobody is in guest any more that entered at the first
+  pub epoch_waits : replies_of (beside_guest (Load 1 0 ∷ Set 2 5 ∷ []) (MemTrack 1 ∷ MemTrack 1 ∷ []) 14) 1 ≡ success ∷ Refused (PreviousTlbEpochBusy 1) ∷ []
+  -- and a block isn't tracked before: until the exit the guest uses the translation that it has cached, and afterwards none
+  pub tracked_after_exit : replies_of (beside_guest (Load 1 0 ∷ Load 2 0 ∷ Vmcall 2 ∷ Load 3 0 ∷ []) (MemRangeBlock 1 0 0 ∷ MemTrack 1 ∷ MemRangeUnblock 1 0 0 ∷ []) 29) 1 ≡ success ∷ success ∷ Refused TlbTrackingNotDone ∷ []
+  pub used_until_exit : drop 12 (replies_of (beside_guest (Load 1 0 ∷ Load 2 0 ∷ Vmcall 2 ∷ Load 3 0 ∷ []) (MemRangeBlock 1 0 0 ∷ MemTrack 1 ∷ MemRangeUnblock 1 0 0 ∷ []) 29) 0)
+      ≡ Exited (Called 0) ∷ Exited (EptViolation 0 access.Read) ∷ []
   -- operations are completed until as many as asked for are, until a VMCALL, or until the list's end, which is tested first
   pub exits : after_ready (Set 1 7 ∷ Vmcall 1 ∷ []) (VpEnter 1 4 1 ∷ VpEnter 1 4 1 ∷ VpEnter 1 4 1 ∷ []) ≡ Exited Max ∷ Exited (Called 7) ∷ Exited Stop ∷ []
   pub stop_before_max : after_ready (Set 1 7 ∷ []) (VpEnter 1 4 1 ∷ []) ≡ Exited Stop ∷ []

@@ -90,6 +90,19 @@ pub enum Call {
         gpa: u64,
         page: u64,
     },
+    MemRangeBlock {
+        tdr: u64,
+        gpa: u64,
+        level: u64,
+    },
+    MemRangeUnblock {
+        tdr: u64,
+        gpa: u64,
+        level: u64,
+    },
+    MemTrack {
+        tdr: u64,
+    },
 }
 
 /// An operation of guest code, with its operands in order: registers 0 to 7, RTMRs 0 to 3, guest
