@@ -1,5 +1,5 @@
 -- The act of each row, and of an acceptance, keeps what cached translations and walks say.
-use Rattle.std.proofs.Common.{lit≤, ◌≡◌, ◌≢◌, ◌⊎◌, inl, inr, refl, sym, ◌∙◌, subst, ap, ℕ, suc, ◌+◌, ◌≤◌, List, [], ◌∷◌, Option, Some, None, Bool, true, false, not, ◌==◌, ◌&&◌, arith}
+use Rattle.std.proofs.Common.{lit≤, ◌≡◌, ◌≢◌, ◌⊎◌, inl, inr, refl, sym, ◌∙◌, subst, ap, ℕ, suc, ◌+◌, ◌/◌, ◌<◌, ◌≤◌, List, [], ◌∷◌, Option, Some, None, Bool, true, false, not, ◌==◌, ◌&&◌, arith}
 use Rattle.std.specs.List.{list_any}
 use Rattle.std.proofs.lemmas.Bool.{eq-eqb, eqb-true, eqb-false, ne_eqb, and_parts}
 use Rattle.td_words.specs.declared.names.PageKind.{PageKind}
@@ -15,25 +15,27 @@ use Rattle.td_words.specs.declared.calls.Call.{Call}
 use Rattle.td_words.specs.declared.calls.Call.TheVariants as call
 use Rattle.td_words.specs.NameNumber.{life_number, op_number}
 use Rattle.td_words.specs.Packing.{Entry, is_exported}
-use Rattle.flat_core.specs.World.{World, Pages, Tds, Vps, put}
+use Rattle.flat_core.specs.World.{World, Pages, Tds, Vps, put, free_entry}
 use Rattle.flat_core.specs.Processor.{Translation, Walk, Guest}
 use Rattle.flat_core.specs.Opening.{Opening}
 use Rattle.flat_core.specs.Row.{Passes}
 use Rattle.flat_core.specs.Conditions.{is_host, host_page, page_exclusive, associated_in, is_elsewhere}
-use Rattle.flat_core.specs.Effects.{put_in, take_node, set_state, set_epoch}
-use Rattle.flat_core.specs.Tracking.{tracked_page}
+use Rattle.flat_core.specs.Effects.{put_in, take_node, set_state, set_entry, set_epoch}
+use Rattle.flat_core.specs.Tracking.{tracked_page, is_tracked}
 use Rattle.flat_core.specs.KeyRows.{reclaim_conditions}
-use Rattle.flat_core.specs.MemRows.{open_states, blocked_states, blocked_state, unblocked_state}
-use Rattle.flat_core.specs.Tree.{state_in, entry_at, number_at, same_state}
+use Rattle.flat_core.specs.MemRows.{open_states, blocked_states, removed_states, blocked_state, unblocked_state}
+use Rattle.flat_core.specs.Tree.{state_in, empty_below, entry_at, number_at, same_state}
 use Rattle.flat_core.specs.Table.{row_of}
 use Rattle.flat_core.specs.Alike.{is_being_built}
-use Rattle.flat_core.specs.Lawful.{Lawful, IsAlive, IsPageOf, is_free}
+use Rattle.flat_core.specs.Lawful.{Lawful, IsAlive, IsPageOf, is_free, is_named_kind}
 use Rattle.flat_core.specs.Guests.{IsOccupied}
 use Rattle.flat_core.specs.Access.{IsHere, IsUsable, inside, outside, entry_of, node_of, node_number, allows_less, is_pending, is_after_pause, Names, IsCurrent, IsOnCourse, LawfulTranslations, LawfulEpochs}
 use Rattle.flat_core.proofs.Tests.{by_test, host_kind, tdr_kind, range_of}
-use Rattle.flat_core.proofs.Maps.{walk_passed, node_named}
+use Rattle.flat_core.proofs.Maps.{walk_passed, unlisted, node_named}
 use Rattle.flat_core.proofs.EntryStates.{entry_set}
-use Rattle.flat_core.proofs.Ranges.{named_passed, named_alive, Restates, block_restates, unblock_restates, blocked_less, blocked_stops}
+use Rattle.flat_core.proofs.Ranges.{named_passed, named_alive, Restates, block_restates, unblock_restates, blocked_less, blocked_stops, IsRemoved, page_removed, sept_removed}
+use Rattle.flat_core.proofs.Removals.{empty_at, other_entry}
+use Rattle.flat_core.proofs.Trackings.{entered_later, epoch_later}
 use Rattle.flat_core.proofs.Spared.{not_configured, counted}
 
 pub is_new : (s : OpState) → list_any (λ a. op_number a == op_number s) (op.Uninitialized ∷ []) ≡ true → is_being_built s ≡ true
@@ -376,8 +378,98 @@ module _ (m : Machine) (w : World) (la : Lawful m w) (le : LawfulEpochs w) (p : 
           (λ y. absurd (let same = eqb-true t u y in let up : w.vps.lasts v ≡ w.tds.epochs u + 1 = rw y at last in let low = le.last t v k.tdr k.page in let e2 : w.tds.epochs t ≡ w.tds.epochs u = ap w.tds.epochs same in omega (arith, up, low, e2)))
           (λ n. outside v other k (rw n at last) (rw n at at))
 
-  pub row-access : (o : Opening) (me : ℕ) (c : Call) → o.machine ≡ m → Passes ((row_of o me c).items w) → ((t v most : ℕ) → c ≡ call.VpEnter t v most → p ≢ me) → LawfulTranslations ((row_of o me c).act w) p cs g
-  row-access o me (call.PhymemPageReclaim u page) em ps n =
+  -- The page of an entry is given back, whose block is tracked: whoever is in guest entered later, and what may be used may be at
+  -- a later epoch, so nothing of this goes through that entry.
+  module _ (u level number : ℕ) (alive : IsAlive w.pages w.tds u) (r : IsRemoved (w.tds.entries u level number).state)
+      (empty : (j n : ℕ) → suc j ≡ level → n / 512 ≡ number → is_free (w.tds.entries u j n).state ≡ true) (over : is_tracked w u (w.tds.entries u level number).page ≡ true)
+      (w' : World) (pg : w'.pages ≡ (take_node (w.tds.entries u level number).page kind.Nda 0 0 0 w).pages) (td : w'.tds ≡ (set_entry u level number free_entry w).tds) (vp : w'.vps ≡ w.vps) where
+    abbrev removed : Entry
+    removed = w.tds.entries u level number
+
+    entered-late : (x : Guest) (e : ℕ) → g ≡ Some x → x.tdr ≡ u → w.vps.entered x.vp ≡ Some e → w.pages.blocked removed.page < e
+    entered-late x e is same n =
+        let h = occupied-here w p x.tdr x.vp (occ x is) in
+        entered_later (w.pages.blocked removed.page) (w.tds.epochs u) w.vps.entered x.vp e (w.tds.vps u) over
+        (subst (λ (z : ℕ). list_any (λ q. q == x.vp) (w.tds.vps z) ≡ true) same (listed x.tdr x.vp (here-built w le p x.tdr x.vp h) h.page)) n
+
+    usable-late : (t e : ℕ) → t ≡ u → IsUsable w p g t e → w.pages.blocked removed.page < e
+    usable-late t e same (inside x is td n) = entered-late x e is (td ∙ same) n
+    usable-late t e same (outside v other h last at) =
+        let later = epoch_later (w.pages.blocked removed.page) (w.tds.epochs u) _ over in let here : w.tds.epochs t ≡ w.tds.epochs u = ap w.tds.epochs same in omega (arith, later, at, here)
+
+    unexempt : (x : Entry) → is_exported x.state ≡ false → x.state ≡ entry.ExportedBlockedW → ⊥
+    unexempt x h e = let no : true ≡ false = sym (ap is_exported e) ∙ h in cc
+
+    at-removed : (t l n : ℕ) → t ≡ u → l ≡ level → n ≡ number → w.tds.entries t l n ≡ removed
+    at-removed t l n x y z = ap (λ (q : ℕ). w.tds.entries q l n) x ∙ (ap (λ (q : ℕ). w.tds.entries u q n) y ∙ ap (λ (q : ℕ). w.tds.entries u level q) z)
+
+    translation-apart : (c : Translation) (e : ℕ) → IsUsable w p g c.tdr e → IsCurrent w c e → c.tdr ≡ u → 0 ≡ level → c.gpa_page ≡ number → ⊥
+    translation-apart c e us h x y z =
+        let at = at-removed c.tdr 0 c.gpa_page x y z in
+        let page : removed.page ≡ c.page = ap (λ (q : Entry). q.page) (sym at) ∙ h.named.page_is in
+        let late = usable-late c.tdr e x us in
+        elim (h.rights (ap (λ (q : Entry). allows_less c.may_write q.state) at ∙ r.less c.may_write)) [
+          | inl k ↦ (let same : w.pages.blocked removed.page ≡ w.pages.blocked c.page = ap w.pages.blocked page in omega (arith, late, k, same))
+          | inr k ↦ unexempt removed r.unmarked (sym (ap (λ (q : Entry). q.state) at) ∙ k.0)
+        ]
+
+    walk-apart : (x : Guest) (k : Walk) (e : ℕ) → g ≡ Some x → w.vps.entered x.vp ≡ Some e → IsOnCourse w x.tdr k e → x.tdr ≡ u → suc k.level ≡ level → node_number k ≡ number → ⊥
+    walk-apart x k e is n h i j y =
+        let at = at-removed x.tdr (suc k.level) (node_number k) i j y in
+        let page : removed.page ≡ k.page = ap (λ (q : Entry). q.page) (sym at) ∙ h.named.page_is in
+        let late = entered-late x e is i n in
+        let low = h.rights (ap (λ (q : Entry). same_state q.state entry.NlMapped) at ∙ r.stops) in
+        let same : w.pages.blocked removed.page ≡ w.pages.blocked k.page = ap w.pages.blocked page in omega (arith, late, low, same)
+
+    entries-kept : (t l n : ℕ) → (t ≡ u → l ≡ level → n ≡ number → ⊥) → w'.tds.entries t l n ≡ w.tds.entries t l n
+    entries-kept t l n apart = ap (λ (z : Tds). z.entries t l n) td ∙ entry-apart w u level number free_entry t l n apart
+
+    blocked-at : (q : ℕ) → (q == removed.page) ≡ false → w'.pages.blocked q ≡ w.pages.blocked q
+    blocked-at q n = ap (λ (z : Pages). z.blocked q) pg ∙ rw n refl
+
+    other-page : (t l n q : ℕ) → IsBuilt w t → Names (w.tds.entries t l n) q → (t ≡ u → l ≡ level → n ≡ number → ⊥) → (q == removed.page) ≡ false
+    other-page t l n q bu h apart = subst (λ (z : ℕ). (z == removed.page) ≡ false) h.page_is (other_entry m w u level number la alive r.used r.unmarked empty t l n (built-alive w t bu) h.used apart)
+
+    -- it is neither a TDR page nor one of a virtual processor
+    kind-off : (q : ℕ) (j : PageKind) → is_named_kind j ≡ false → w.pages.kinds q ≡ j → (q == removed.page) ≡ false
+    kind-off q j h e = by_test (q == removed.page)
+        (λ y. absurd (unlisted level j h (sym (node_named m w la u level number alive r.used).page.kind ∙ (ap w.pages.kinds (sym (eqb-true q _ y)) ∙ e))))
+        (λ z. z)
+
+    not-given : {j : PageKind} (q : ℕ) → w'.pages.kinds q ≡ j → (kind.Nda ≡ j → ⊥) → (q == removed.page) ≡ false
+    not-given q e apart = by_test (q == removed.page) (λ y. absurd (apart (sym (rw y refl) ∙ (sym (ap (λ (z : Pages). z.kinds q) pg) ∙ e)))) (λ z. z)
+
+    kinds-at : (q : ℕ) → (q == removed.page) ≡ false → w'.pages.kinds q ≡ w.pages.kinds q
+    kinds-at q n = ap (λ (z : Pages). z.kinds q) pg ∙ rw n refl
+
+    owners-at : (q : ℕ) → (q == removed.page) ≡ false → w'.pages.owners q ≡ w.pages.owners q
+    owners-at q n = ap (λ (z : Pages). z.owners q) pg ∙ rw n refl
+
+    is-here : (t v : ℕ) → IsHere w p t v → IsHere w' p t v
+    is-here t v h =
+        let x = kind-off t kind.Tdr refl h.tdr in let y = kind-off v kind.Tdvpr refl h.page.kind in
+        record { tdr = kinds-at t x ∙ h.tdr; life = ap (λ (z : Tds). z.lives t) td ∙ h.life; page = record { kind = kinds-at v y ∙ h.page.kind; owner = owners-at v y ∙ h.page.owner }; associated = ap (λ (z : Vps). z.associated v) vp ∙ h.associated }
+
+    was-here : (t v : ℕ) → IsHere w' p t v → IsHere w p t v × (w'.vps.lasts v ≡ w.vps.lasts v) × (w'.tds.epochs t ≡ w.tds.epochs t)
+    was-here t v h =
+        let x = not-given t h.tdr (λ e. cc) in let y = not-given v h.page.kind (λ e. cc) in (
+          record { tdr = sym (kinds-at t x) ∙ h.tdr; life = sym (ap (λ (z : Tds). z.lives t) td) ∙ h.life; page = record { kind = sym (kinds-at v y) ∙ h.page.kind; owner = sym (owners-at v y) ∙ h.page.owner }; associated = sym (ap (λ (z : Vps). z.associated v) vp) ∙ h.associated },
+          ap (λ (z : Vps). z.lasts v) vp,
+          ap (λ (z : Tds). z.epochs t) td,
+        )
+
+    removed-act : LawfulTranslations w' p cs g
+    removed-act =
+        let enters : (x : Guest) (e : ℕ) → g ≡ Some x → w'.vps.entered x.vp ≡ Some e → w.vps.entered x.vp ≡ Some e = λ x e is n. sym (ap (λ (z : Vps). z.entered x.vp) vp) ∙ n in
+        wide-frame w w' le p cs g occ is-here (λ t v h. (let k = was-here t v h in (k.0, k.1))) enters (usable-same w w' p g was-here enters)
+        (λ c e bu us h. let apart = translation-apart c e us h in
+        current-same w w' c e (entries-kept c.tdr 0 c.gpa_page apart) (blocked-at c.page (other-page c.tdr 0 c.gpa_page c.page bu h.named apart)) (ap (λ (z : Tds). z.ops c.tdr) td) h)
+        (λ x k e is bu n h. let apart = walk-apart x k e is n h in
+        walking-same w w' x.tdr k e (entries-kept x.tdr (suc k.level) (node_number k) apart) (blocked-at k.page (other-page x.tdr (suc k.level) (node_number k) k.page bu h.named apart)) h) a
+
+  pub row-access : (o : Opening) (me : ℕ) (c : Call) → o.machine ≡ m → Passes ((row_of o me c).items w) → ((t v most : ℕ) → c ≡ call.VpEnter t v most → p ≢ me) → ((t v : ℕ) → c ≡ call.VpFlush t v → p ≢ me)
+      → LawfulTranslations ((row_of o me c).act w) p cs g
+  row-access o me (call.PhymemPageReclaim u page) em ps n k =
       let off = life-off u (life.Teardown ∷ []) refl ps.1.1.1.0 in
       let own = owner_of u page (page == u) refl (tdr_kind _ ps.1.1.0) ps.1.1.1.1 in
       taken-act page kind.Nda 0 0 0 (λ t x bu o nn. by_test (x == page) (λ y. absurd (eqb-false t u (off t bu) (sym o ∙ (ap w.pages.owners (eqb-true x page y) ∙ own)))) (λ z. z)) ((row_of o me (call.PhymemPageReclaim u page)).act w) refl
@@ -388,32 +480,32 @@ module _ (m : Machine) (w : World) (la : Lawful m w) (le : LawfulEpochs w) (p : 
       owner_of : (u q : ℕ) (b : Bool) → (q == u) ≡ b → w.pages.kinds u ≡ kind.Tdr → Passes (reclaim_conditions w u q b) → w.pages.owners q ≡ u
       owner_of u q true e root ps = let here : q ≡ u = eqb-true q u e in la.pages.tdr q (rw here root) ∙ here
       owner_of u q false e root ps = eqb-true _ u (and_parts (not (is_host w q)) (w.pages.owners q == u) ps.0).1
-  row-access o me (call.MngCreate u h) em ps n =
+  row-access o me (call.MngCreate u h) em ps n k =
       host-act u kind.Tdr u 0 0 (host_kind _ ps.1.1.0) ((row_of o me (call.MngCreate u h)).act w) refl
       (λ e l. let z : (u == u) ≡ true = eq-eqb u u refl in let no : life.HkidAssigned ≡ life.KeysConfigured = rw z at l in cc) (λ e. cc)
       (λ t x. rw x refl) (λ t x. rw x refl) (λ t x. rw x refl) (λ t l i x f. rw x refl) (λ v x. refl) (λ v x. refl) (λ v x. refl)
-  row-access o me (call.MngKeyConfig u) em ps n =
+  row-access o me (call.MngKeyConfig u) em ps n k =
       td-act ((row_of o me (call.MngKeyConfig u)).act w) refl refl (λ t v h. let x = life-off u (life.HkidAssigned ∷ []) refl ps.1.1.0 t (here-built w le p t v h) in rw x refl)
       (λ t v h. (le.bound t v p h.tdr (record { kind = h.page.kind; owner = h.page.owner }) h.associated).0) (λ t bu. refl) (λ t bu. refl) (λ t l i bu f. refl)
-  row-access o me (call.MngAddcx u page) em ps n =
+  row-access o me (call.MngAddcx u page) em ps n k =
       host-act page kind.Tdcx u 0 0 (host_kind _ ps.1.1.1.1.1.1.0) ((row_of o me (call.MngAddcx u page)).act w) refl (λ e. cc) (λ e. cc)
       (λ t x. refl) (λ t x. refl) (λ t x. refl) (λ t l i x f. refl) (λ v x. refl) (λ v x. refl) (λ v x. refl)
-  row-access o me (call.MngInit u) em ps n =
+  row-access o me (call.MngInit u) em ps n k =
       let off = op-off u (is_new (w.tds.ops u) ps.1.1.1.1.0) in
       td-act ((row_of o me (call.MngInit u)).act w) refl refl (λ t v h. refl) (λ t v h. h.life) (λ t bu. let x = off t bu in rw x refl) (λ t bu. let x = off t bu in rw x refl) (λ t l i bu f. refl)
-  row-access o me (call.MngVpflushdone u) em ps n =
+  row-access o me (call.MngVpflushdone u) em ps n k =
       td-act ((row_of o me (call.MngVpflushdone u)).act w) refl refl (λ t v h. let x = flushed-off u ps.1.1.1.0 t v h in rw x refl)
       (λ t v h. (le.bound t v p h.tdr (record { kind = h.page.kind; owner = h.page.owner }) h.associated).0) (λ t bu. refl) (λ t bu. refl) (λ t l i bu f. refl)
-  row-access o me (call.MngKeyFreeid u) em ps n =
+  row-access o me (call.MngKeyFreeid u) em ps n k =
       td-act ((row_of o me (call.MngKeyFreeid u)).act w) refl refl (λ t v h. let x = life-off u (life.Blocked ∷ []) refl ps.1.1.0 t (here-built w le p t v h) in rw x refl)
       (λ t v h. (le.bound t v p h.tdr (record { kind = h.page.kind; owner = h.page.owner }) h.associated).0) (λ t bu. refl) (λ t bu. refl) (λ t l i bu f. refl)
-  row-access o me (call.MrFinalize u) em ps n =
+  row-access o me (call.MrFinalize u) em ps n k =
       let off = op-off u (is_begun (w.tds.ops u) ps.1.1.1.1.0) in
       td-act ((row_of o me (call.MrFinalize u)).act w) refl refl (λ t v h. refl) (λ t v h. h.life) (λ t bu. let x = off t bu in rw x refl) (λ t bu. refl) (λ t l i bu f. refl)
-  row-access o me (call.VpCreate u page) em ps n =
+  row-access o me (call.VpCreate u page) em ps n k =
       host-act page kind.Tdvpr u 0 0 (host_kind _ ps.1.1.1.1.1.1.1.1.0) ((row_of o me (call.VpCreate u page)).act w) refl (λ e. cc) (λ e z. let y : (page == page) ≡ true = eq-eqb page page refl in let no : None ≡ Some p = rw y at z in cc)
       (λ t x. refl) (λ t x. refl) (λ t x. refl) (λ t l i x f. refl) (λ v x. rw x refl) (λ v x. rw x refl) (λ v x. rw x refl)
-  row-access o me (call.VpEnter u v most) em ps n =
+  row-access o me (call.VpEnter u v most) em ps n k =
       let apart = n u v most refl in
       let off : (x : ℕ) → w.vps.associated x ≡ Some p → (x == v) ≡ false = λ x e. by_test (x == v)
       (λ y. absurd (let here : w.vps.associated v ≡ Some p = ap w.vps.associated (sym (eqb-true x v y)) ∙ e in
@@ -429,22 +521,47 @@ module _ (m : Machine) (w : World) (la : Lawful m w) (le : LawfulEpochs w) (p : 
       (λ x e is k. let y = off x.vp (occ x is).associated in rw y at k)
       (λ c e bu h. current-same w w' c e refl refl refl h)
       (λ t k e bu h. walking-same w w' t k e refl refl h) a
-  row-access o me (call.MemSeptAdd u gpa level page) em ps n =
+  row-access o me (call.VpFlush u v) em ps n k =
+      let apart = k u v refl in
+      let off : (x : ℕ) → w.vps.associated x ≡ Some p → (x == v) ≡ false = λ x e. by_test (x == v)
+      (λ y. absurd (let here : w.vps.associated v ≡ Some p = ap w.vps.associated (sym (eqb-true x v y)) ∙ e in
+      let d : (p == me) ≡ false = ne_eqb p me apart in
+      let ok : not (is_elsewhere me (Some p)) ≡ true = subst (λ (z : Option ℕ). not (is_elsewhere me z) ≡ true) here ps.1.1.1.1.1.1.1.0 in
+      let bad : false ≡ true = rw d at ok in cc)) (λ z. z) in
+      let w' : World = (row_of o me (call.VpFlush u v)).act w in
+      let mine : (t x : ℕ) → IsHere w' p t x → (x == v) ≡ false = λ t x h. by_test (x == v) (λ y. absurd (let no : None ≡ Some p = rw y at h.associated in cc)) (λ z. z) in
+      frame w w' le p cs g occ
+      (λ t x h. let y = off x h.associated in record { tdr = h.tdr; life = h.life; page = record { kind = h.page.kind; owner = h.page.owner }; associated = rw y (h.associated) })
+      (λ t x h. let y = mine t x h in (record { tdr = h.tdr; life = h.life; page = record { kind = h.page.kind; owner = h.page.owner }; associated = rw y at h.associated }, refl, refl))
+      (λ x e is z. z)
+      (λ c e bu h. current-same w w' c e refl refl refl h)
+      (λ t z e bu h. walking-same w w' t z e refl refl h) a
+  row-access o me (call.MemPageRemove u gpa) em ps n k =
+      let rest = tracked_page w u (entry_at w u 0 gpa).page ∷ [] in
+      let q = named_passed w u gpa 0 removed_states rest ps.1.1.1 in
+      let r = page_removed (entry_at w u 0 gpa).state q.state in
+      removed-act u 0 (number_at 0 gpa) (named_alive w u gpa 0 removed_states rest q) r (λ j i e. cc) q.rest_holds.0 ((row_of o me (call.MemPageRemove u gpa)).act w) refl refl refl
+  row-access o me (call.MemSeptRemove u gpa level) em ps n k =
+      let rest = empty_below w u gpa level ∷ tracked_page w u (entry_at w u level gpa).page ∷ [] in
+      let q = named_passed w u gpa level (entry.NlBlocked ∷ []) rest ps.1.1.1.1 in
+      let r = sept_removed (entry_at w u level gpa).state q.state in
+      removed-act u level (number_at level gpa) (named_alive w u gpa level (entry.NlBlocked ∷ []) rest q) r (empty_at w u gpa level q.rest_holds.0) q.rest_holds.1.0 ((row_of o me (call.MemSeptRemove u gpa level)).act w) refl refl refl
+  row-access o me (call.MemSeptAdd u gpa level page) em ps n k =
       let behind = walk_passed w u gpa (state_in w u gpa level (entry.Free ∷ []) ∷ page_exclusive page ∷ host_page w page ∷ []) level (range_of level 3 ps.1.1.0).1 ps.1.1.1.1.1.1.1.1.1.1 in
       let free = free_of (entry_at w u level gpa).state behind.0.0 in
       host-act page kind.Ept u level (number_at level gpa) (host_kind _ behind.0.1.0) ((row_of o me (call.MemSeptAdd u gpa level page)).act w) refl (λ e. cc) (λ e. cc)
       (λ t x. refl) (λ t x. refl) (λ t x. refl) (λ t l i x f. entry-kept w u level (number_at level gpa) _ t l i free f) (λ v x. refl) (λ v x. refl) (λ v x. refl)
-  row-access o me (call.MemPageAdd u gpa page source) em ps n =
+  row-access o me (call.MemPageAdd u gpa page source) em ps n k =
       let behind = walk_passed w u gpa (state_in w u gpa 0 (entry.Free ∷ []) ∷ page_exclusive source ∷ host_page w source ∷ page_exclusive page ∷ host_page w page ∷ []) 0 (lit≤ tt) ps.1.1.1.1.1.1.1.1.1.1.1.1 in
       let free = free_of (entry_at w u 0 gpa).state behind.0.0 in
       host-act page kind.Reg u 0 (number_at 0 gpa) (host_kind _ behind.0.1.1.0) ((row_of o me (call.MemPageAdd u gpa page source)).act w) refl (λ e. cc) (λ e. cc)
       (λ t x. refl) (λ t x. refl) (λ t x. refl) (λ t l i x f. entry-kept w u 0 (number_at 0 gpa) _ t l i free f) (λ v x. refl) (λ v x. refl) (λ v x. refl)
-  row-access o me (call.MemPageAug u gpa page) em ps n =
+  row-access o me (call.MemPageAug u gpa page) em ps n k =
       let behind = walk_passed w u gpa (state_in w u gpa 0 (entry.Free ∷ []) ∷ page_exclusive page ∷ host_page w page ∷ []) 0 (lit≤ tt) ps.1.1.1.1.1.1.1.1.1 in
       let free = free_of (entry_at w u 0 gpa).state behind.0.0 in
       host-act page kind.Reg u 0 (number_at 0 gpa) (host_kind _ behind.0.1.0) ((row_of o me (call.MemPageAug u gpa page)).act w) refl (λ e. cc) (λ e. cc)
       (λ t x. refl) (λ t x. refl) (λ t x. refl) (λ t l i x f. entry-kept w u 0 (number_at 0 gpa) _ t l i free f) (λ v x. refl) (λ v x. refl) (λ v x. refl)
-  row-access o me (call.MemRangeBlock u gpa level) em ps n =
+  row-access o me (call.MemRangeBlock u gpa level) em ps n k =
       let q = named_passed w u gpa level open_states [] ps.1.1.1.1 in
       let alive = named_alive w u gpa level open_states [] q in
       let r = block_restates (entry_at w u level gpa).state q.state in
@@ -456,15 +573,15 @@ module _ (m : Machine) (w : World) (la : Lawful m w) (le : LawfulEpochs w) (p : 
       (λ z. rw z h))
       (λ writes e less low. inl (let z = eq-eqb page page refl in rw z low)) (λ e off low. inl (let z = eq-eqb page page refl in rw z low))
       ((row_of o me (call.MemRangeBlock u gpa level)).act w) refl refl refl
-  row-access o me (call.MemRangeUnblock u gpa level) em ps n =
+  row-access o me (call.MemRangeUnblock u gpa level) em ps n k =
       let q = named_passed w u gpa level blocked_states (tracked_page w u (entry_at w u level gpa).page ∷ []) ps.1.1.1.1 in
       let s : EntryState = (entry_at w u level gpa).state in
       restated-act u level (number_at level gpa) (unblocked_state s) w.pages.blocked (unblock_restates s q.state)
       (λ t x e o low h. h) (λ writes e less low. inr (blocked_less writes s q.state)) (λ e off low. inr (blocked_stops s q.state))
       ((row_of o me (call.MemRangeUnblock u gpa level)).act w) refl refl refl
-  row-access o me (call.MemTrack u) em ps n = raised-act u
-  row-access o me (call.HostRead page i) em ps n = a
-  row-access o me _ em ps n = quiet-act _ refl refl refl refl refl refl refl refl
+  row-access o me (call.MemTrack u) em ps n k = raised-act u
+  row-access o me (call.HostRead page i) em ps n k = a
+  row-access o me _ em ps n k = quiet-act _ refl refl refl refl refl refl refl refl
 
   -- A page that was PENDING is MAPPED. Nothing that may be used names it.
   pub accept-access : (w' : World) (u n : ℕ) (x : Entry) → is_pending (w.tds.entries u 0 n).state ≡ true

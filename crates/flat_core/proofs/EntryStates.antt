@@ -1,6 +1,6 @@
 -- An entry gets another state for the page that it names, and neither is exported: what every world keeps. And a page that
 -- is blocked.
-use Rattle.std.proofs.Common.{◌≡◌, refl, sym, ◌∙◌, subst, ap, ℕ, suc, List, [], ◌∷◌, Bool, true, false, ◌==◌, ◌&&◌}
+use Rattle.std.proofs.Common.{◌≡◌, refl, sym, ◌∙◌, subst, ap, ℕ, suc, Bool, true, false, ◌==◌, ◌&&◌}
 use Rattle.std.specs.Prelude.{nat_lt}
 use Rattle.std.proofs.lemmas.Bool.{eqb-true, eqb-false, and_parts}
 use Rattle.td_words.specs.declared.names.PageKind.{PageKind}
@@ -12,8 +12,9 @@ use Rattle.td_words.specs.Packing.{Entry, is_lawful_entry, is_exported}
 use Rattle.flat_core.specs.World.{World, Pages, Tds}
 use Rattle.flat_core.specs.Conditions.{same_kind, is_host_in}
 use Rattle.flat_core.specs.Effects.{set_entry, set_state, block_page}
-use Rattle.flat_core.specs.Lawful.{IsAlive, IsPageOf, IsNodeOf, AreControls, ArePagesOf, LawfulTree, LawfulCounts, Lawful, is_free, is_node}
+use Rattle.flat_core.specs.Lawful.{IsAlive, IsPageOf, IsNodeOf, LawfulTree, LawfulCounts, Lawful, is_free, is_node}
 use Rattle.flat_core.proofs.Tests.{by_test}
+use Rattle.flat_core.proofs.Pages.{controls_as, pages_as}
 use Rattle.flat_core.proofs.Exports.{IsOfExported, counts_kept}
 use Rattle.flat_core.proofs.Parts.{new_kept}
 
@@ -157,16 +158,6 @@ module _ (m : Machine) (w : World) (t p : ℕ) (l : Lawful m w) (owned : is_host
   node_still : (x q : ℕ) (k : PageKind) (j n : ℕ) → IsNodeOf w.pages x q k j n → IsNodeOf blocked x q k j n
   node_still x q k j n h = record { page = page_still x q k h.page; level_is = h.level_is; number_is = h.number_is }
 
-  controls_still : (x : ℕ) (cs : List ℕ) → AreControls w.pages x cs → AreControls blocked x cs
-  controls_still x [] h = tt
-  controls_still x (c ∷ []) h = page_still x c kind.Tdcx h
-  controls_still x (c ∷ r ∷ []) h = (page_still x c kind.Tdcx h.0, page_still x r kind.Tdcx h.1, h.2)
-  controls_still x (c ∷ r ∷ y ∷ cs) h = absurd h
-
-  pages_still : (x : ℕ) (k : PageKind) (ps : List ℕ) → ArePagesOf w.pages x k ps → ArePagesOf blocked x k ps
-  pages_still x k [] h = tt
-  pages_still x k (q ∷ qs) h = (page_still x q k h.0, pages_still x k qs h.1)
-
   pub block_kept : Lawful m (block_page t p w)
   block_kept = record {
     size = l.size;
@@ -183,12 +174,12 @@ module _ (m : Machine) (w : World) (t p : ℕ) (l : Lawful m w) (owned : is_host
       blocked = λ q. by_test (q == p) (λ y. rw y (l.tds.epoch t)) (λ n. rw n (l.pages.blocked q));
     };
     tds = record {
-      controls = λ x a. controls_still x (w.tds.controls x) (l.tds.controls x (was_alive x a));
-      vps = λ x a. pages_still x kind.Tdvpr (w.tds.vps x) (l.tds.vps x (was_alive x a));
+      controls = λ x a. controls_as w.pages blocked x (λ q. page_still x q kind.Tdcx) (w.tds.controls x) (l.tds.controls x (was_alive x a));
+      vps = λ x a. pages_as w.pages blocked x kind.Tdvpr (λ q. page_still x q kind.Tdvpr) (w.tds.vps x) (l.tds.vps x (was_alive x a));
       vps_few = l.tds.vps_few;
       vps_differ = l.tds.vps_differ;
       vps_expected = l.tds.vps_expected;
-      streams = λ x a. pages_still x kind.Migsc (w.tds.streams x) (l.tds.streams x (was_alive x a));
+      streams = λ x a. pages_as w.pages blocked x kind.Migsc (λ q. page_still x q kind.Migsc) (w.tds.streams x) (l.tds.streams x (was_alive x a));
       streams_few = l.tds.streams_few;
       streams_differ = l.tds.streams_differ;
       epoch = l.tds.epoch;

@@ -11,12 +11,12 @@ use Rattle.td_words.specs.declared.names.OpState.TheVariants as op
 use Rattle.td_words.specs.declared.calls.Call.{Call}
 use Rattle.td_words.specs.declared.calls.Call.TheVariants as call
 use Rattle.td_words.specs.NameNumber.{life_number, op_number}
-use Rattle.flat_core.specs.World.{World, Pages}
+use Rattle.flat_core.specs.World.{World, Pages, Tds, Vps}
 use Rattle.flat_core.specs.Opening.{Opening}
 use Rattle.flat_core.specs.Row.{Passes}
 use Rattle.flat_core.specs.Conditions.{associated_in, same_kind, running_ops, augmented_ops}
-use Rattle.flat_core.specs.Effects.{take_node, leave_guest}
-use Rattle.flat_core.specs.Tree.{number_at}
+use Rattle.flat_core.specs.Effects.{take_node, unmap_page, end_memory, leave_guest}
+use Rattle.flat_core.specs.Tree.{page_of_gpa, number_at}
 use Rattle.flat_core.specs.Table.{row_of}
 use Rattle.flat_core.specs.Alike.{is_being_built}
 use Rattle.flat_core.specs.Lawful.{Lawful, IsAlive, IsPageOf}
@@ -85,6 +85,23 @@ module _ (o : Opening) (w : World) (la : Lawful o.machine w) (le : LawfulEpochs 
 
     page-was : (t v : ℕ) → (v == q) ≡ false → IsPageOf w'.pages t v kind.Tdvpr → IsPageOf w.pages t v kind.Tdvpr
     page-was t v n pa = record { kind = sym (kind-at v n) ∙ pa.kind; owner = sym (owner-at v n) ∙ pa.owner }
+
+  -- a page leaves the map
+  unmapped-epochs : (w1 : World) (u level n : ℕ) → w1.pages ≡ w.pages → w1.tds ≡ w.tds → w1.vps ≡ w.vps → LawfulEpochs (unmap_page u level n w1)
+  unmapped-epochs w1 u level n pg td vp =
+      let q : ℕ = (w1.tds.entries u level n).page in
+      let w' : World = unmap_page u level n w1 in
+      let here : w'.pages ≡ (take_node q kind.Nda 0 0 0 w).pages = ap (λ (z : Pages). (take_node q kind.Nda 0 0 0 (record w { pages = z })).pages) pg in
+      let lasts = ap (λ (z : Vps). z.lasts) vp in
+      let entered = ap (λ (z : Vps). z.entered) vp in
+      let assoc = ap (λ (z : Vps). z.associated) vp in
+      let tdr-off : (t : ℕ) → w'.pages.kinds t ≡ kind.Tdr → (t == q) ≡ false = λ t k. by_test (t == q) (λ y. absurd (let no : kind.Nda ≡ kind.Tdr = kind-here q kind.Nda 0 0 0 w' here t k y in cc)) (λ z. z) in
+      le-frame w w' le
+      (λ t v k pa. let a = tdr-off t k in
+      let b = page-off q kind.Nda 0 0 0 w' here v t pa (λ e. cc) in
+      old (sym (kind-at q kind.Nda 0 0 0 w' here t a) ∙ k) (page-was q kind.Nda 0 0 0 w' here t v b pa) (ap (λ (z : ℕ → ℕ). z v) lasts) (ap (λ (z : ℕ → Option ℕ). z v) entered) (ap (λ (z : ℕ → Option ℕ). z v) assoc)
+      (inl (ap (λ (z : Tds). z.epochs t) td)) (λ p n l b. (ap (λ (z : Tds). z.lives t) td ∙ l, ap (λ (z : Tds). is_being_built (z.ops t)) td ∙ b)))
+      (λ t k e. ap (λ (z : Tds). z.epochs t) td ∙ le.early t (sym (kind-at q kind.Nda 0 0 0 w' here t (tdr-off t k)) ∙ k) (sym (ap (λ (z : Tds). z.ops t) td) ∙ e))
 
   pub row-epochs : (me : ℕ) (c : Call) → Passes ((row_of o me c).items w) → LawfulEpochs ((row_of o me c).act w)
   row-epochs me (call.PhymemPageReclaim u page) ps =
@@ -183,6 +200,14 @@ module _ (o : Opening) (w : World) (la : Lawful o.machine w) (le : LawfulEpochs 
       built op.Uninitialized e = cc
       built op.Initialized e = cc
       built _ e = refl
+  row-epochs me (call.VpFlush u v) ps = record {
+    last = λ t x k pa. le.last t x k (record { kind = pa.kind; owner = pa.owner });
+    near = λ t x e k pa n. le.near t x e k (record { kind = pa.kind; owner = pa.owner }) n;
+    bound = λ t x p k pa n. by_test (x == v) (λ y. let no : None ≡ Some p = rw y at n in cc) (λ y. le.bound t x p k (record { kind = pa.kind; owner = pa.owner }) (rw y at n));
+    early = λ t k e. le.early t k e;
+  }
+  row-epochs me (call.MemSeptRemove u gpa level) ps = unmapped-epochs w u level (number_at level gpa) refl refl refl
+  row-epochs me (call.MemPageRemove u gpa) ps = unmapped-epochs (end_memory u (page_of_gpa gpa) w) u 0 (number_at 0 gpa) refl refl refl
   row-epochs me (call.MemSeptAdd u gpa level page) ps =
       let w' : World = (row_of o me (call.MemSeptAdd u gpa level page)).act w in
       let n = number_at level gpa in

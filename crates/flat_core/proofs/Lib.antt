@@ -9,6 +9,7 @@ pub mod GuestWorked
 pub mod Operations
 pub mod EntryStates
 pub mod Ranges
+pub mod Removals
 pub mod Trackings
 pub mod Tries
 pub mod Keeps

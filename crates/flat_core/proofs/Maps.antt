@@ -43,15 +43,15 @@ pub node_named : (m : Machine) (w : World) → Lawful m w → (t l n : ℕ) → 
 node_named m w lawful t zero n a e = (lawful.tree.leaf t n a e).1
 node_named m w lawful t (suc l) n a e = (lawful.tree.upper t l n a e).1
 
-named_kind : (l : ℕ) → is_named_kind (kind_named l) ≡ true
+pub named_kind : (l : ℕ) → is_named_kind (kind_named l) ≡ true
 named_kind zero = refl
 named_kind (suc l) = refl
 
 -- no page that a list has
-unlisted : (l : ℕ) (j : PageKind) → is_named_kind j ≡ false → kind_named l ≢ j
+pub unlisted : (l : ℕ) (j : PageKind) → is_named_kind j ≡ false → kind_named l ≢ j
 unlisted l j h e = let no : true ≡ false = sym (named_kind l) ∙ (ap is_named_kind e ∙ h) in cc
 
-never_tdr : (l : ℕ) → kind_named l ≢ kind.Tdr
+pub never_tdr : (l : ℕ) → kind_named l ≢ kind.Tdr
 never_tdr zero e = cc
 never_tdr (suc l) e = cc
 

@@ -13,7 +13,7 @@ use Rattle.flat_core.specs.World.{World}
 use Rattle.flat_core.specs.Row.{Item, Passes}
 use Rattle.flat_core.specs.Conditions.{same_kind, blocking_ops}
 use Rattle.flat_core.specs.Tree.{same_state, entry_at, state_in, named_page}
-use Rattle.flat_core.specs.MemRows.{named_row, open_states, blocked_states, blocked_state, unblocked_state}
+use Rattle.flat_core.specs.MemRows.{named_row, open_states, blocked_states, removed_states, blocked_state, unblocked_state}
 use Rattle.flat_core.specs.Lawful.{IsAlive, is_free, is_node}
 use Rattle.flat_core.specs.Access.{allows_less, is_pending}
 use Rattle.flat_core.specs.Laws.{holds_memory}
@@ -75,3 +75,19 @@ blocked_stops entry.Blocked h = refl
 blocked_stops entry.PendingBlocked h = refl
 blocked_stops entry.NlBlocked h = refl
 blocked_stops _ h = cc
+
+-- what is removed was blocked
+pub record IsRemoved (s : EntryState) : Type 0 where
+  pub used : is_free s ≡ false
+  pub unmarked : is_exported s ≡ false
+  pub less : (writes : Bool) → allows_less writes s ≡ true
+  pub stops : same_state s entry.NlMapped ≡ false
+
+pub page_removed : (s : EntryState) → list_any (λ a. same_state a s) removed_states ≡ true → IsRemoved s
+page_removed entry.Blocked h = record { used = refl; unmarked = refl; less = λ writes. refl; stops = refl }
+page_removed entry.PendingBlocked h = record { used = refl; unmarked = refl; less = λ writes. refl; stops = refl }
+page_removed _ h = cc
+
+pub sept_removed : (s : EntryState) → list_any (λ a. same_state a s) (entry.NlBlocked ∷ []) ≡ true → IsRemoved s
+sept_removed entry.NlBlocked h = record { used = refl; unmarked = refl; less = λ writes. refl; stops = refl }
+sept_removed _ h = cc

@@ -13,7 +13,7 @@ use Rattle.flat_core.specs.World.{World}
 use Rattle.flat_core.specs.Processor.{OfPage, OfTree, OfEpoch, Held}
 use Rattle.flat_core.specs.Row.{Item, Check, Try, tries_in}
 use Rattle.flat_core.specs.Conditions.{page_exclusive, host_page}
-use Rattle.flat_core.specs.Tree.{entry_at, walk, state_in, named_page, is_passed, levels_above}
+use Rattle.flat_core.specs.Tree.{entry_at, walk, state_in, empty_below, named_page, is_passed, levels_above}
 use Rattle.flat_core.specs.Tracking.{tracked_page}
 use Rattle.flat_core.specs.KeyRows.{reclaim_conditions}
 use Rattle.flat_core.specs.MemRows.{named_row, open_states, blocked_states}
@@ -56,6 +56,8 @@ rows_try_lists o me (call.MemSeptAdd t gpa level page) w =
     ap (λ (hs : List Held). td_tries t Shared ++ alone (OfTree t) ∷ hs)
     (tries_append (walk w t gpa level) rest ∙ ap (λ (hs : List Held). hs ++ tries rest) (walk_tries_nothing w t gpa level))
 rows_try_lists o me (call.MemSeptRd t gpa level) w = ap (λ (hs : List Held). td_tries t Shared ++ alone (OfTree t) ∷ hs) (walk_tries_nothing w t gpa level)
+rows_try_lists o me (call.MemSeptRemove t gpa level) w =
+    named_lists w t gpa level (entry.NlBlocked ∷ []) (empty_below w t gpa level ∷ tracked_page w t (entry_at w t level gpa).page ∷ [])
 rows_try_lists o me (call.MemRangeBlock t gpa level) w = named_lists w t gpa level open_states []
 rows_try_lists o me (call.MemRangeUnblock t gpa level) w =
     named_lists w t gpa level blocked_states (tracked_page w t (entry_at w t level gpa).page ∷ [])

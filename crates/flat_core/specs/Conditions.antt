@@ -12,7 +12,7 @@ use Rattle.td_words.specs.declared.names.VcpuState.TheVariants as vcpu
 use Rattle.td_words.specs.declared.names.LimitName.TheVariants.{Vcpus}
 use Rattle.td_words.specs.declared.names.Mode.{Mode}
 use Rattle.td_words.specs.declared.names.Mode.TheVariants.{Shared, Exclusive}
-use Rattle.td_words.specs.declared.refusals.Status.TheVariants.{PageMetadataIncorrect, LifecycleStateIncorrect, OpStateIncorrect, TdcxNumIncorrect, VcpuStateIncorrect, VcpuAssociated, PagesExist, FlushvpNotDone, Limit, CacheWbNotDone}
+use Rattle.td_words.specs.declared.refusals.Status.TheVariants.{PageMetadataIncorrect, LifecycleStateIncorrect, OpStateIncorrect, TdcxNumIncorrect, VcpuStateIncorrect, VcpuAssociated, VcpuNotAssociated, PagesExist, FlushvpNotDone, Limit, CacheWbNotDone}
 use Rattle.td_words.specs.declared.replies.Reply.{Reply}
 use Rattle.td_words.specs.NameNumber.{kind_number, life_number, op_number, vcpu_number}
 use Rattle.td_words.specs.Packing.{Key, Unassigned, AssignedTo, FlushedOf}
@@ -150,6 +150,14 @@ lp_shown (Some lp) = lp
 
 abbrev pub not_elsewhere : World → ℕ → ℕ → Item Reply
 not_elsewhere w me v = needs (not (is_elsewhere me (w.vps.associated v))) (VcpuAssociated (lp_shown (w.vps.associated v)))
+
+-- it is associated with one
+abbrev pub is_associated : Option ℕ → Bool
+is_associated None = false
+is_associated (Some lp) = true
+
+abbrev pub associated_vp : World → ℕ → Item Reply
+associated_vp w v = needs (is_associated (w.vps.associated v)) VcpuNotAssociated
 
 -- no virtual processor of the TD is associated; its HKID was written back; the TDR has no child page
 abbrev pub none_associated : World → ℕ → Item Reply

@@ -83,6 +83,10 @@ set_state t level number s w = set_entry t level number (record { state = s; pag
 abbrev pub map_page : ℕ → PageKind → EntryState → (t level number : ℕ) → World → World
 map_page p k s t level number w = set_entry t level number (record { state = s; page = p; mark = 0 }) (take_node p k t level number w)
 
+-- the page that an entry of a TD names is given back, and the entry is FREE
+abbrev pub unmap_page : (t level number : ℕ) → World → World
+unmap_page t level number w = give_back (w.tds.entries t level number).page (set_entry t level number free_entry w)
+
 -- a page becomes the TD's next TDCX page
 abbrev pub add_control : ℕ → ℕ → World → World
 add_control t p w = record w { tds = record (w.tds) { controls = put w.tds.controls t (w.tds.controls t ++ p ∷ []) } }
@@ -189,6 +193,10 @@ abbrev pub enter_guest : (me v epoch : ℕ) → World → World
 enter_guest me v e w = record w {
   vps = record (w.vps) { associated = put w.vps.associated v (Some me); lasts = put w.vps.lasts v e; entered = put w.vps.entered v (Some e) };
 }
+
+-- its association ends
+abbrev pub end_association : ℕ → World → World
+end_association v w = record w { vps = record (w.vps) { associated = put w.vps.associated v None } }
 
 -- a virtual processor leaves the guest: it is taken out of the count of its entry epoch
 abbrev pub leave_guest : ℕ → World → World

@@ -1,4 +1,4 @@
--- Calls that build a TD's secure EPT, add its pages, block and track them, and measure the first (Base Architecture, "Secure
+-- Calls that build a TD's secure EPT, add its pages, block, track and remove them, and measure the first (Base Architecture, "Secure
 -- EPT", "TLB Tracking Sequence" and "TD Measurement").
 use Rattle.std.specs.Prelude.{ℕ, ◌+◌, List, [], ◌∷◌, ◌++◌, map, Option, Some, None}
 use Rattle.std.specs.List.{range_with_len}
@@ -18,9 +18,9 @@ use Rattle.flat_core.specs.Row.{Item, Row, call_row}
 use Rattle.flat_core.specs.Arguments.{page_argument, gpa_argument, level_argument, upper_level_argument, apart_argument, aligned_argument, chunk_argument}
 use Rattle.flat_core.specs.Digests.{digest_bytes}
 use Rattle.flat_core.specs.Conditions.{page_exclusive, tree_shared, tree_exclusive, epoch_shared, epoch_exclusive, host_page, blocking_ops, growing_ops, augmented_ops, begun_ops, td_shared, td_exclusive}
-use Rattle.flat_core.specs.Tree.{page_of_gpa, word_of_gpa, number_at, entry_at, walk, state_in, named_page}
+use Rattle.flat_core.specs.Tree.{page_of_gpa, word_of_gpa, number_at, entry_at, walk, state_in, empty_below, named_page}
 use Rattle.flat_core.specs.Tracking.{tracked_page, epoch_room, previous_epoch_left}
-use Rattle.flat_core.specs.Effects.{set_page, clear_page, block_page, set_epoch, set_state, map_page, begin_memory, measure}
+use Rattle.flat_core.specs.Effects.{set_page, clear_page, block_page, set_epoch, set_state, map_page, unmap_page, begin_memory, end_memory, measure}
 
 -- MEM.SEPT.ADD TDR GPA LEVEL PAGE: the page is cleared, and will hold the 512 entries below the one of that level (ABI
 -- Reference, "TDH.MEM.SEPT.ADD")
@@ -109,6 +109,26 @@ unblock_range m tdr gpa level = call_row
     (λ w. page_argument m 1 tdr ∷ gpa_argument 2 gpa ∷ level_argument 3 level ∷ aligned_argument 2 level gpa
     ∷ named_row w tdr gpa level blocked_states (tracked_page w tdr (entry_at w tdr level gpa).page ∷ []))
     (λ w. set_state tdr level (number_at level gpa) (unblocked_state (entry_at w tdr level gpa).state) w)
+    (λ w. value.Nothing)
+
+-- MEM.PAGE.REMOVE TDR GPA: a private page is the host's again, once nobody can use a translation to it (ABI Reference,
+-- "TDH.MEM.PAGE.REMOVE")
+abbrev pub removed_states : List EntryState
+removed_states = entry.Blocked ∷ entry.PendingBlocked ∷ []
+
+abbrev pub remove_page : Machine → (tdr gpa : ℕ) → Row
+remove_page m tdr gpa = call_row
+    (λ w. page_argument m 1 tdr ∷ gpa_argument 2 gpa ∷ aligned_argument 2 0 gpa
+    ∷ named_row w tdr gpa 0 removed_states (tracked_page w tdr (entry_at w tdr 0 gpa).page ∷ []))
+    (λ w. unmap_page tdr 0 (number_at 0 gpa) (end_memory tdr (page_of_gpa gpa) w))
+    (λ w. value.Nothing)
+
+-- MEM.SEPT.REMOVE TDR GPA LEVEL: so is a secure EPT page of which all entries are FREE (ABI Reference, "TDH.MEM.SEPT.REMOVE")
+abbrev pub remove_sept : Machine → (tdr gpa level : ℕ) → Row
+remove_sept m tdr gpa level = call_row
+    (λ w. page_argument m 1 tdr ∷ gpa_argument 2 gpa ∷ upper_level_argument 3 level ∷ aligned_argument 2 level gpa
+    ∷ named_row w tdr gpa level (entry.NlBlocked ∷ []) (empty_below w tdr gpa level ∷ tracked_page w tdr (entry_at w tdr level gpa).page ∷ []))
+    (λ w. unmap_page tdr level (number_at level gpa) w)
     (λ w. value.Nothing)
 
 -- MEM.TRACK TDR: TD_EPOCH rises, once no virtual processor is in guest that entered at the epoch before it (ABI Reference,

@@ -10,8 +10,8 @@ use Rattle.td_words.specs.declared.names.VcpuState.TheVariants as vcpu
 use Rattle.td_words.specs.declared.names.LimitName.TheVariants.{Vcpus}
 use Rattle.td_words.specs.declared.names.ReadField.TheVariants as field
 use Rattle.td_words.specs.declared.calls.Call.{Call}
-use Rattle.td_words.specs.declared.calls.Call.TheVariants.{HostRead, HostWrite, PhymemPageRdmd, PhymemCacheWb, PhymemPageReclaim, MngCreate, MngKeyConfig, MngAddcx, MngInit, MngRd, MngVpflushdone, MngKeyFreeid, MrExtend, MrFinalize, VpCreate, VpInit, MemSeptAdd, MemSeptRd, MemPageAdd, MemPageAug, MemRangeBlock, MemRangeUnblock, MemTrack}
-use Rattle.td_words.specs.declared.refusals.Status.TheVariants.{OperandInvalid, OperandBusy, NotHost, PageMetadataIncorrect, LifecycleStateIncorrect, OpStateIncorrect, EptWalkFailed, EptEntryStateIncorrect, HkidNotFree, TdcxNumIncorrect, VcpuStateIncorrect, PagesExist, Limit, CacheWbNotDone, TlbTrackingNotDone}
+use Rattle.td_words.specs.declared.calls.Call.TheVariants.{HostRead, HostWrite, PhymemPageRdmd, PhymemCacheWb, PhymemPageReclaim, MngCreate, MngKeyConfig, MngAddcx, MngInit, MngRd, MngVpflushdone, MngKeyFreeid, MrExtend, MrFinalize, VpCreate, VpInit, VpFlush, MemSeptAdd, MemSeptRd, MemPageAdd, MemPageAug, MemPageRemove, MemSeptRemove, MemRangeBlock, MemRangeUnblock, MemTrack}
+use Rattle.td_words.specs.declared.refusals.Status.TheVariants.{OperandInvalid, OperandBusy, NotHost, PageMetadataIncorrect, LifecycleStateIncorrect, OpStateIncorrect, EptWalkFailed, EptEntryStateIncorrect, HkidNotFree, TdcxNumIncorrect, VcpuStateIncorrect, PagesExist, Limit, CacheWbNotDone, TlbTrackingNotDone, SeptNotEmpty, VcpuNotAssociated}
 use Rattle.td_words.specs.declared.replies.Value.TheVariants.{Nothing, Number, Life, Op, Page, Entry}
 use Rattle.td_words.specs.declared.replies.Reply.{Reply}
 use Rattle.td_words.specs.declared.replies.Reply.TheVariants.{Done, Refused}
@@ -205,6 +205,21 @@ pub record Examples : Type 0 where
       ≡ Refused (OperandInvalid 3) ∷ Refused (OperandInvalid 2) ∷ Refused (OperandInvalid 3) ∷ Refused (OperandInvalid 2) ∷ Refused (EptEntryStateIncorrect entry.Free) ∷ Refused (EptEntryStateIncorrect entry.Free)
       ∷ Refused (OperandInvalid 1) ∷ Refused (PageMetadataIncorrect 8) ∷ []
   pub blocked_early : answers_to (built ++ MemRangeBlock 1 0 0 ∷ MemTrack 1 ∷ []) ≡ ten_successes ++ success ∷ Refused (OpStateIncorrect op.Initialized) ∷ Refused (OpStateIncorrect op.Initialized) ∷ []
+  -- A page is removed once its block is tracked, in eleven events. It is the host's then, with zeros, and its place can be used
+  -- again. So is a page that its guest hasn't accepted.
+  pub removed_events : events_of (running ++ MemRangeBlock 1 0 0 ∷ MemTrack 1 ∷ MemPageRemove 1 0 ∷ []) ≡ 64 + 11 + 5 + 11 + 7 + 11
+  pub removed : answers_to (HostWrite 0 0 7 ∷ (running ++ MemPageRemove 1 0 ∷ MemRangeBlock 1 0 0 ∷ MemPageRemove 1 0 ∷ MemTrack 1 ∷ MemPageRemove 1 0 ∷ MemPageRemove 1 0 ∷ PhymemPageRdmd 8 ∷ HostRead 8 0 ∷ MemSeptRd 1 0 0 ∷ MemPageAug 1 0 8 ∷ []))
+      ≡ (success ∷ (ten_successes ++ success ∷ success ∷ [])) ++ Refused (EptEntryStateIncorrect entry.Mapped) ∷ success ∷ Refused TlbTrackingNotDone ∷ success ∷ success ∷ Refused (EptEntryStateIncorrect entry.Free)
+      ∷ Done (Page kind.Nda 0 0) ∷ Done (Number 0) ∷ Done (Entry entry.Free None) ∷ success ∷ []
+  pub removed_pending : after_running (MemPageAug 1 4096 9 ∷ MemRangeBlock 1 4096 0 ∷ MemTrack 1 ∷ MemPageRemove 1 4096 ∷ PhymemPageRdmd 9 ∷ []) ≡ success ∷ success ∷ success ∷ success ∷ Done (Page kind.Nda 0 0) ∷ []
+  -- a secure EPT page is removed once each of its entries is FREE; else the first that isn't is told
+  pub not_empty : after_running (MemPageAug 1 0x1000 9 ∷ MemRangeBlock 1 0 0 ∷ MemTrack 1 ∷ MemPageRemove 1 0 ∷ MemSeptRemove 1 0 1 ∷ MemRangeBlock 1 0 1 ∷ MemSeptRemove 1 0 1 ∷ MemRangeUnblock 1 0 1 ∷ MemTrack 1 ∷ MemRangeUnblock 1 0 1 ∷ MemRangeBlock 1 0x1000 0
+      ∷ MemTrack 1 ∷ MemPageRemove 1 0x1000 ∷ MemRangeBlock 1 0 1 ∷ MemSeptRemove 1 0 1 ∷ MemTrack 1 ∷ MemSeptRemove 1 0 1 ∷ PhymemPageRdmd 7 ∷ HostRead 7 0 ∷ MemSeptRd 1 0 1 ∷ MemSeptRemove 1 0 1 ∷ [])
+      ≡ success ∷ success ∷ success ∷ success ∷ Refused (EptEntryStateIncorrect entry.NlMapped) ∷ success ∷ Refused (SeptNotEmpty 1) ∷ Refused TlbTrackingNotDone ∷ success ∷ success ∷ success
+      ∷ success ∷ success ∷ success ∷ Refused TlbTrackingNotDone ∷ success ∷ success ∷ Done (Page kind.Nda 0 0) ∷ Done (Number 0) ∷ Done (Entry entry.Free None) ∷ Refused (EptEntryStateIncorrect entry.Free) ∷ []
+  pub not_empty_at_first : after_running (MemRangeBlock 1 0 1 ∷ MemTrack 1 ∷ MemSeptRemove 1 0 1 ∷ []) ≡ success ∷ success ∷ Refused (SeptNotEmpty 0) ∷ []
+  pub not_removed : after_running (MemSeptRemove 1 0 0 ∷ MemSeptRemove 1 0 4 ∷ MemSeptRemove 1 4096 1 ∷ MemPageRemove 1 4097 ∷ MemPageRemove 1 0x200000 ∷ VpFlush 1 1 ∷ VpFlush 1 8 ∷ VpFlush 1 4 ∷ [])
+      ≡ Refused (OperandInvalid 3) ∷ Refused (OperandInvalid 3) ∷ Refused (OperandInvalid 2) ∷ Refused (OperandInvalid 2) ∷ Refused (EptWalkFailed 1) ∷ Refused (OperandInvalid 2) ∷ Refused (PageMetadataIncorrect 8) ∷ Refused VcpuNotAssociated ∷ []
   -- what is measured: that the page was added; and where a chunk of it is, and its bytes
   pub one_page : measured_by added_page ≡ added_record
   pub one_chunk : measured_by (added_page ++ MrExtend 1 4352 ∷ [])
