@@ -1,5 +1,5 @@
 -- The act of each row, and of an acceptance, keeps what cached translations and walks say.
-use Rattle.std.proofs.Common.{lit≤, ◌≡◌, ◌≢◌, inl, inr, refl, sym, ◌∙◌, subst, ap, ℕ, suc, ◌≤◌, List, [], ◌∷◌, Option, Some, None, Bool, true, false, not, ◌==◌, ◌&&◌, arith}
+use Rattle.std.proofs.Common.{lit≤, ◌≡◌, ◌≢◌, ◌⊎◌, inl, inr, refl, sym, ◌∙◌, subst, ap, ℕ, suc, ◌+◌, ◌/◌, ◌<◌, ◌≤◌, List, [], ◌∷◌, Option, Some, None, Bool, true, false, not, ◌==◌, ◌&&◌, arith}
 use Rattle.std.specs.List.{list_any}
 use Rattle.std.proofs.lemmas.Bool.{eq-eqb, eqb-true, eqb-false, ne_eqb, and_parts}
 use Rattle.td_words.specs.declared.names.PageKind.{PageKind}
@@ -14,22 +14,28 @@ use Rattle.td_words.specs.declared.machines.Machine.{Machine}
 use Rattle.td_words.specs.declared.calls.Call.{Call}
 use Rattle.td_words.specs.declared.calls.Call.TheVariants as call
 use Rattle.td_words.specs.NameNumber.{life_number, op_number}
-use Rattle.td_words.specs.Packing.{Entry}
-use Rattle.flat_core.specs.World.{World, Pages, Tds, Vps, put}
+use Rattle.td_words.specs.Packing.{Entry, is_exported}
+use Rattle.flat_core.specs.World.{World, Pages, Tds, Vps, put, free_entry}
 use Rattle.flat_core.specs.Processor.{Translation, Walk, Guest}
 use Rattle.flat_core.specs.Opening.{Opening}
 use Rattle.flat_core.specs.Row.{Passes}
 use Rattle.flat_core.specs.Conditions.{is_host, host_page, page_exclusive, associated_in, is_elsewhere}
-use Rattle.flat_core.specs.Effects.{put_in, take_node}
+use Rattle.flat_core.specs.Effects.{put_in, take_node, set_state, set_entry, set_epoch}
+use Rattle.flat_core.specs.Tracking.{tracked_page, is_tracked}
 use Rattle.flat_core.specs.KeyRows.{reclaim_conditions}
-use Rattle.flat_core.specs.Tree.{state_in, entry_at, number_at, same_state}
+use Rattle.flat_core.specs.MemRows.{open_states, blocked_states, removed_states, blocked_state, unblocked_state}
+use Rattle.flat_core.specs.Tree.{state_in, empty_below, entry_at, number_at, same_state}
 use Rattle.flat_core.specs.Table.{row_of}
 use Rattle.flat_core.specs.Alike.{is_being_built}
-use Rattle.flat_core.specs.Lawful.{Lawful, IsAlive, IsPageOf, is_free}
+use Rattle.flat_core.specs.Lawful.{Lawful, IsAlive, IsPageOf, is_free, is_named_kind}
 use Rattle.flat_core.specs.Guests.{IsOccupied}
-use Rattle.flat_core.specs.Access.{IsHere, IsUsable, inside, outside, entry_of, node_of, node_number, allows_less, is_pending, may_be_exempt, IsCurrent, IsOnCourse, LawfulTranslations, LawfulEpochs}
+use Rattle.flat_core.specs.Access.{IsHere, IsUsable, inside, outside, entry_of, node_of, node_number, allows_less, is_pending, may_be_exempt, Names, IsCurrent, IsOnCourse, LawfulTranslations, LawfulEpochs}
 use Rattle.flat_core.proofs.Tests.{by_test, host_kind, tdr_kind, range_of}
-use Rattle.flat_core.proofs.Maps.{walk_passed}
+use Rattle.flat_core.proofs.Maps.{walk_passed, unlisted, node_named}
+use Rattle.flat_core.proofs.EntryStates.{entry_set}
+use Rattle.flat_core.proofs.Ranges.{named_passed, named_alive, Restates, block_restates, unblock_restates, blocked_less, blocked_stops, IsRemoved, page_removed, sept_removed}
+use Rattle.flat_core.proofs.Removals.{empty_at, other_entry}
+use Rattle.flat_core.proofs.Trackings.{entered_later, epoch_later}
 use Rattle.flat_core.proofs.Spared.{not_configured, counted}
 
 pub is_new : (s : OpState) → list_any (λ a. op_number a == op_number s) (op.Uninitialized ∷ []) ≡ true → is_being_built s ≡ true
@@ -60,23 +66,38 @@ occupied-here w p t v x = record { tdr = x.tdr; life = x.life; page = record { k
 pub built-alive : (w : World) (t : ℕ) → IsBuilt w t → IsAlive w.pages w.tds t
 built-alive w t b = record { kind = b.tdr; life = rw (b.life) refl }
 
+-- where associations, last epochs and TD_EPOCH are as before, what may be used is
+pub usable-same : (w w' : World) (p : ℕ) (g : Option Guest)
+    → ((t v : ℕ) → IsHere w' p t v → IsHere w p t v × (w'.vps.lasts v ≡ w.vps.lasts v) × (w'.tds.epochs t ≡ w.tds.epochs t)) → ((x : Guest) (e : ℕ) → g ≡ Some x → w'.vps.entered x.vp ≡ Some e → w.vps.entered x.vp ≡ Some e)
+    → (t e : ℕ) → IsUsable w' p g t e → IsUsable w p g t e
+usable-same w w' p g back enters t e (inside x is same n) = inside x is same (enters x e is n)
+usable-same w w' p g back enters t e (outside v other h last at) = (let b = back t v h in outside v other b.0 (sym b.1 ∙ (last ∙ b.2)) (at ∙ b.2))
+
+-- What may be used after an act may have been used before, at the same epoch; and what could be, and walks, are current still.
+module _ (w w' : World) (le : LawfulEpochs w) (p : ℕ) (cs : List Translation) (g : Option Guest) (occ : (x : Guest) → g ≡ Some x → IsOccupied w p x.tdr x.vp)
+    (fore : (t v : ℕ) → IsHere w p t v → IsHere w' p t v)
+    (back : (t v : ℕ) → IsHere w' p t v → IsHere w p t v × (w'.vps.lasts v ≡ w.vps.lasts v))
+    (enters : (x : Guest) (e : ℕ) → g ≡ Some x → w'.vps.entered x.vp ≡ Some e → w.vps.entered x.vp ≡ Some e)
+    (usable-back : (t e : ℕ) → IsUsable w' p g t e → IsUsable w p g t e)
+    (holds : (c : Translation) (e : ℕ) → IsBuilt w c.tdr → IsUsable w p g c.tdr e → IsCurrent w c e → IsCurrent w' c e)
+    (walks : (x : Guest) (k : Walk) (e : ℕ) → g ≡ Some x → IsBuilt w x.tdr → w.vps.entered x.vp ≡ Some e → IsOnCourse w x.tdr k e → IsOnCourse w' x.tdr k e) where
+  pub wide-frame : LawfulTranslations w p cs g → LawfulTranslations w' p cs g
+  wide-frame a = record {
+    associated = λ c i. (let h = a.associated c i in (h.0, fore c.tdr h.0 h.1));
+    newest = λ x e v is n h. (let b = back x.tdr v h in let l = a.newest x e v is (enters x e is n) b.0 in let same = b.1 in omega (arith, l, same));
+    usable = λ c e i u. (let h = a.associated c i in let us = usable-back c.tdr e u in holds c e (here-built w le p c.tdr h.0 h.1) us (a.usable c e i us));
+    walk = λ x k e is at n. (let m = enters x e is n in walks x k e is (here-built w le p x.tdr x.vp (occupied-here w p x.tdr x.vp (occ x is))) m (a.walk x k e is at m));
+  }
+
+-- so where what may be used is the same
 module _ (w w' : World) (le : LawfulEpochs w) (p : ℕ) (cs : List Translation) (g : Option Guest) (occ : (x : Guest) → g ≡ Some x → IsOccupied w p x.tdr x.vp)
     (fore : (t v : ℕ) → IsHere w p t v → IsHere w' p t v)
     (back : (t v : ℕ) → IsHere w' p t v → IsHere w p t v × (w'.vps.lasts v ≡ w.vps.lasts v) × (w'.tds.epochs t ≡ w.tds.epochs t))
     (enters : (x : Guest) (e : ℕ) → g ≡ Some x → w'.vps.entered x.vp ≡ Some e → w.vps.entered x.vp ≡ Some e)
     (holds : (c : Translation) (e : ℕ) → IsBuilt w c.tdr → IsCurrent w c e → IsCurrent w' c e)
     (walks : (t : ℕ) (k : Walk) (e : ℕ) → IsBuilt w t → IsOnCourse w t k e → IsOnCourse w' t k e) where
-  usable-back : (t e : ℕ) → IsUsable w' p g t e → IsUsable w p g t e
-  usable-back t e (inside x is same n) = inside x is same (enters x e is n)
-  usable-back t e (outside v other h last at) = (let b = back t v h in outside v other b.0 (sym b.1 ∙ (last ∙ b.2)) (at ∙ b.2))
-
   pub frame : LawfulTranslations w p cs g → LawfulTranslations w' p cs g
-  frame a = record {
-    associated = λ c i. (let h = a.associated c i in (h.0, fore c.tdr h.0 h.1));
-    newest = λ x e v is n h. (let b = back x.tdr v h in let l = a.newest x e v is (enters x e is n) b.0 in let same = b.1 in omega (arith, l, same));
-    usable = λ c e i u. (let h = a.associated c i in holds c e (here-built w le p c.tdr h.0 h.1) (a.usable c e i (usable-back c.tdr e u)));
-    walk = λ x k e is at n. walks x.tdr k e (here-built w le p x.tdr x.vp (occupied-here w p x.tdr x.vp (occ x is))) (a.walk x k e is at (enters x e is n));
-  }
+  frame = wide-frame w w' le p cs g occ fore (λ t v h. (let b = back t v h in (b.0, b.1))) enters (usable-same w w' p g back enters) (λ c e bu us. holds c e bu) (λ x k e is bu n. walks x.tdr k e bu)
 
 -- entries, blocks and operation states as before
 pub current-same : (w w' : World) (c : Translation) (e : ℕ) → entry_of w' c ≡ entry_of w c → w'.pages.blocked c.page ≡ w.pages.blocked c.page → w'.tds.ops c.tdr ≡ w.tds.ops c.tdr → IsCurrent w c e → IsCurrent w' c e
@@ -226,8 +247,229 @@ module _ (m : Machine) (w : World) (la : Lawful m w) (le : LawfulEpochs w) (p : 
       at-q : (x : ℕ) {k : PageKind} → w'.pages.kinds x ≡ k → (x == q) ≡ true → k' ≡ k
       at-q x e y = sym (rw y refl) ∙ (sym (ap (λ (z : Pages). z.kinds x) pg) ∙ e)
 
-  pub row-access : (o : Opening) (me : ℕ) (c : Call) → o.machine ≡ m → Passes ((row_of o me c).items w) → ((t v most : ℕ) → c ≡ call.VpEnter t v most → p ≢ me) → LawfulTranslations ((row_of o me c).act w) p cs g
-  row-access o me (call.PhymemPageReclaim u page) em ps n =
+  -- a virtual processor of a TD that runs is in its list
+  listed : (t v : ℕ) → IsBuilt w t → IsPageOf w.pages t v kind.Tdvpr → list_any (λ q. q == v) (w.tds.vps t) ≡ true
+  listed t v bu pa =
+      subst (λ (z : ℕ). list_any (λ q. q == v) (w.tds.vps z) ≡ true) pa.owner (la.lists.vp v pa.kind (subst (λ (z : ℕ). IsAlive w.pages w.tds z) (sym pa.owner) (built-alive w t bu)))
+
+  -- whoever is in guest entered at TD_EPOCH or before; so what may be used, may be at such an epoch
+  entered-low : (x : Guest) (e : ℕ) → g ≡ Some x → w.vps.entered x.vp ≡ Some e → e ≤ w.tds.epochs x.tdr
+  entered-low x e is n = let h = occupied-here w p x.tdr x.vp (occ x is) in (le.near x.tdr x.vp e h.tdr h.page n).0
+
+  usable-low : (t e : ℕ) → IsUsable w p g t e → e ≤ w.tds.epochs t
+  usable-low t e (inside x is same n) = subst (λ (z : ℕ). e ≤ w.tds.epochs z) same (entered-low x e is n)
+  usable-low t e (outside v other h last at) = omega (arith, at)
+
+  -- The entry of a page gets another state for that page, and its BEPOCH may be TD_EPOCH now. What the new state allows less
+  -- than a translation, the old one did, or TD_EPOCH is noted.
+  module _ (u level number : ℕ) (s' : EntryState) (b : ℕ → ℕ) (r : Restates (w.tds.entries u level number).state s')
+      (high : (t q e : ℕ) → w.pages.owners q ≡ t → e ≤ w.tds.epochs t → e ≤ w.pages.blocked q → e ≤ b q)
+      (fewer : (writes : Bool) (e : ℕ) → allows_less writes s' ≡ true → e ≤ w.tds.epochs u → (e ≤ b (w.tds.entries u level number).page) ⊎ (allows_less writes (w.tds.entries u level number).state ≡ true))
+      (stops : (e : ℕ) → same_state s' entry.NlMapped ≡ false → e ≤ w.tds.epochs u → (e ≤ b (w.tds.entries u level number).page) ⊎ (same_state (w.tds.entries u level number).state entry.NlMapped ≡ false))
+      (w' : World) (pg : w'.pages ≡ record (w.pages) { blocked = b }) (td : w'.tds ≡ (set_state u level number s' w).tds) (vp : w'.vps ≡ w.vps) where
+    abbrev was : Entry
+    was = w.tds.entries u level number
+
+    abbrev put-there : Entry
+    put-there = record { state = s'; page = was.page; mark = 0 }
+
+    blocked-is : (q : ℕ) → w'.pages.blocked q ≡ b q
+    blocked-is q = ap (λ (z : Pages). z.blocked q) pg
+
+    abbrev Says : Translation → ℕ → Entry → Type 0
+    Says c e x = Names x c.page × (allows_less c.may_write x.state ≡ true → (e ≤ w'.pages.blocked c.page) ⊎ ((x.state ≡ entry.ExportedBlockedW) × (may_be_exempt (w'.tds.ops c.tdr) ≡ true))) × (is_pending x.state ≡ false)
+
+    to-say : (c : Translation) (e : ℕ) → Says c e (entry_of w' c) → IsCurrent w' c e
+    to-say c e h = record { named = h.0; rights = h.1; accepted = h.2 }
+
+    noted : (q e : ℕ) → e ≤ b q → e ≤ w'.pages.blocked q
+    noted q e h = subst (λ (z : ℕ). e ≤ z) (sym (blocked-is q)) h
+
+    exempt-no : (x : Entry) → is_exported x.state ≡ false → x.state ≡ entry.ExportedBlockedW → ⊥
+    exempt-no x h e = let no : true ≡ false = sym (ap is_exported e) ∙ h in cc
+
+    current-still : (c : Translation) (e : ℕ) → IsBuilt w c.tdr → IsUsable w p g c.tdr e → IsCurrent w c e → IsCurrent w' c e
+    current-still c e bu us h =
+        let pa = current-page c e bu h in
+        let low = usable-low c.tdr e us in
+        to-say c e (subst (λ (z : Tds). Says c e (z.entries c.tdr 0 c.gpa_page)) (sym td)
+        (entry_set w u level number put-there (Says c e) c.tdr 0 c.gpa_page
+        (λ x y z. let at : entry_of w c ≡ was = ap (λ (q : ℕ). w.tds.entries q 0 c.gpa_page) x ∙ (ap (λ (q : ℕ). w.tds.entries u q c.gpa_page) y ∙ ap (λ (q : ℕ). w.tds.entries u level q) z) in
+        let page : was.page ≡ c.page = ap (λ (q : Entry). q.page) (sym at) ∙ h.named.page_is in (
+          record { used = r.still_used; page_is = page },
+          λ less. elim (fewer c.may_write e less (subst (λ (q : ℕ). e ≤ w.tds.epochs q) x low)) [
+            | inl k ↦ inl (noted c.page e (subst (λ (q : ℕ). e ≤ b q) page k))
+            | inr k ↦ elim (h.rights (ap (λ (q : Entry). allows_less c.may_write q.state) at ∙ k)) [
+              | inl k ↦ inl (noted c.page e (high c.tdr c.page e pa.owner low k))
+              | inr k ↦ absurd (exempt-no was r.unmarked (sym (ap (λ (q : Entry). q.state) at) ∙ k.0))
+            ]
+          ],
+          r.same_pending ∙ (sym (ap (λ (q : Entry). is_pending q.state) at) ∙ h.accepted),
+        ))
+        (λ apart. (
+          h.named,
+          λ less. elim (h.rights less) [
+            | inl k ↦ inl (noted c.page e (high c.tdr c.page e pa.owner low k))
+            | inr k ↦ inr (k.0, ap (λ (z : Tds). may_be_exempt (z.ops c.tdr)) td ∙ k.1)
+          ],
+          h.accepted,
+        ))))
+
+    abbrev Leads : ℕ → Walk → ℕ → Entry → Type 0
+    Leads t k e x = Names x k.page × (same_state x.state entry.NlMapped ≡ false → e ≤ w'.pages.blocked k.page)
+
+    walking-still : (x : Guest) (k : Walk) (e : ℕ) → g ≡ Some x → IsBuilt w x.tdr → w.vps.entered x.vp ≡ Some e → IsOnCourse w x.tdr k e → IsOnCourse w' x.tdr k e
+    walking-still x k e is bu n h =
+        let pa = node-page x.tdr k e bu h in
+        let low = entered-low x e is n in
+        let says : Leads x.tdr k e (node_of w' x.tdr k) = subst (λ (z : Tds). Leads x.tdr k e (z.entries x.tdr (suc k.level) (node_number k))) (sym td)
+        (entry_set w u level number put-there (Leads x.tdr k e) x.tdr (suc k.level) (node_number k)
+        (λ i j y. let at : node_of w x.tdr k ≡ was = ap (λ (q : ℕ). w.tds.entries q (suc k.level) (node_number k)) i ∙ (ap (λ (q : ℕ). w.tds.entries u q (node_number k)) j ∙ ap (λ (q : ℕ). w.tds.entries u level q) y) in
+        let page : was.page ≡ k.page = ap (λ (q : Entry). q.page) (sym at) ∙ h.named.page_is in (
+          record { used = r.still_used; page_is = page },
+          λ off. elim (stops e off (subst (λ (q : ℕ). e ≤ w.tds.epochs q) i low)) [
+            | inl z ↦ noted k.page e (subst (λ (q : ℕ). e ≤ b q) page z)
+            | inr z ↦ noted k.page e (high x.tdr k.page e pa.owner low (h.rights (ap (λ (q : Entry). same_state q.state entry.NlMapped) at ∙ z)))
+          ],
+        ))
+        (λ apart. (h.named, λ off. noted k.page e (high x.tdr k.page e pa.owner low (h.rights off))))) in
+        record { level = h.level; named = says.0; rights = says.1 }
+
+    here-still : (t v : ℕ) → IsHere w p t v → IsHere w' p t v
+    here-still t v h = record {
+      tdr = ap (λ (z : Pages). z.kinds t) pg ∙ h.tdr;
+      life = ap (λ (z : Tds). z.lives t) td ∙ h.life;
+      page = record { kind = ap (λ (z : Pages). z.kinds v) pg ∙ h.page.kind; owner = ap (λ (z : Pages). z.owners v) pg ∙ h.page.owner };
+      associated = ap (λ (z : Vps). z.associated v) vp ∙ h.associated;
+    }
+
+    here-was : (t v : ℕ) → IsHere w' p t v → IsHere w p t v × (w'.vps.lasts v ≡ w.vps.lasts v) × (w'.tds.epochs t ≡ w.tds.epochs t)
+    here-was t v h = (
+      record {
+        tdr = sym (ap (λ (z : Pages). z.kinds t) pg) ∙ h.tdr;
+        life = sym (ap (λ (z : Tds). z.lives t) td) ∙ h.life;
+        page = record { kind = sym (ap (λ (z : Pages). z.kinds v) pg) ∙ h.page.kind; owner = sym (ap (λ (z : Pages). z.owners v) pg) ∙ h.page.owner };
+        associated = sym (ap (λ (z : Vps). z.associated v) vp) ∙ h.associated;
+      },
+      ap (λ (z : Vps). z.lasts v) vp,
+      ap (λ (z : Tds). z.epochs t) td,
+    )
+
+    restated-act : LawfulTranslations w' p cs g
+    restated-act =
+        let enters : (x : Guest) (e : ℕ) → g ≡ Some x → w'.vps.entered x.vp ≡ Some e → w.vps.entered x.vp ≡ Some e = λ x e is n. sym (ap (λ (z : Vps). z.entered x.vp) vp) ∙ n in
+        wide-frame w w' le p cs g occ here-still (λ t v h. (let k = here-was t v h in (k.0, k.1))) enters (usable-same w w' p g here-was enters) current-still walking-still a
+
+  -- TD_EPOCH rises: what may still be used is used in guest
+  raised-act : (u : ℕ) → LawfulTranslations (set_epoch u (w.tds.epochs u + 1) w) p cs g
+  raised-act u =
+      let w' : World = set_epoch u (w.tds.epochs u + 1) w in
+      let was : (t v : ℕ) → IsHere w' p t v → IsHere w p t v = λ t v h. record { tdr = h.tdr; life = h.life; page = record { kind = h.page.kind; owner = h.page.owner }; associated = h.associated } in
+      wide-frame w w' le p cs g occ
+      (λ t v h. record { tdr = h.tdr; life = h.life; page = record { kind = h.page.kind; owner = h.page.owner }; associated = h.associated })
+      (λ t v h. (was t v h, refl)) (λ x e is n. n) (λ t e us. before w' was t e us)
+      (λ c e bu us h. current-same w w' c e refl refl refl h) (λ x k e is bu n h. walking-same w w' x.tdr k e refl refl h) a
+    where
+      before : (w' : World) → ((t v : ℕ) → IsHere w' p t v → IsHere w p t v) → (t e : ℕ) → IsUsable (set_epoch u (w.tds.epochs u + 1) w) p g t e → IsUsable w p g t e
+      before w' was t e (inside x is same n) = inside x is same n
+      before w' was t e (outside v other h last at) =
+          let k : IsHere w p t v = record { tdr = h.tdr; life = h.life; page = record { kind = h.page.kind; owner = h.page.owner }; associated = h.associated } in
+          by_test (t == u)
+          (λ y. absurd (let same = eqb-true t u y in let up : w.vps.lasts v ≡ w.tds.epochs u + 1 = rw y at last in let low = le.last t v k.tdr k.page in let e2 : w.tds.epochs t ≡ w.tds.epochs u = ap w.tds.epochs same in omega (arith, up, low, e2)))
+          (λ n. outside v other k (rw n at last) (rw n at at))
+
+  -- The page of an entry is given back, whose block is tracked: whoever is in guest entered later, and what may be used may be at
+  -- a later epoch, so nothing of this goes through that entry.
+  module _ (u level number : ℕ) (alive : IsAlive w.pages w.tds u) (r : IsRemoved (w.tds.entries u level number).state)
+      (empty : (j n : ℕ) → suc j ≡ level → n / 512 ≡ number → is_free (w.tds.entries u j n).state ≡ true) (over : is_tracked w u (w.tds.entries u level number).page ≡ true)
+      (w' : World) (pg : w'.pages ≡ (take_node (w.tds.entries u level number).page kind.Nda 0 0 0 w).pages) (td : w'.tds ≡ (set_entry u level number free_entry w).tds) (vp : w'.vps ≡ w.vps) where
+    abbrev removed : Entry
+    removed = w.tds.entries u level number
+
+    entered-late : (x : Guest) (e : ℕ) → g ≡ Some x → x.tdr ≡ u → w.vps.entered x.vp ≡ Some e → w.pages.blocked removed.page < e
+    entered-late x e is same n =
+        let h = occupied-here w p x.tdr x.vp (occ x is) in
+        entered_later (w.pages.blocked removed.page) (w.tds.epochs u) w.vps.entered x.vp e (w.tds.vps u) over
+        (subst (λ (z : ℕ). list_any (λ q. q == x.vp) (w.tds.vps z) ≡ true) same (listed x.tdr x.vp (here-built w le p x.tdr x.vp h) h.page)) n
+
+    usable-late : (t e : ℕ) → t ≡ u → IsUsable w p g t e → w.pages.blocked removed.page < e
+    usable-late t e same (inside x is td n) = entered-late x e is (td ∙ same) n
+    usable-late t e same (outside v other h last at) =
+        let later = epoch_later (w.pages.blocked removed.page) (w.tds.epochs u) _ over in let here : w.tds.epochs t ≡ w.tds.epochs u = ap w.tds.epochs same in omega (arith, later, at, here)
+
+    unexempt : (x : Entry) → is_exported x.state ≡ false → x.state ≡ entry.ExportedBlockedW → ⊥
+    unexempt x h e = let no : true ≡ false = sym (ap is_exported e) ∙ h in cc
+
+    at-removed : (t l n : ℕ) → t ≡ u → l ≡ level → n ≡ number → w.tds.entries t l n ≡ removed
+    at-removed t l n x y z = ap (λ (q : ℕ). w.tds.entries q l n) x ∙ (ap (λ (q : ℕ). w.tds.entries u q n) y ∙ ap (λ (q : ℕ). w.tds.entries u level q) z)
+
+    translation-apart : (c : Translation) (e : ℕ) → IsUsable w p g c.tdr e → IsCurrent w c e → c.tdr ≡ u → 0 ≡ level → c.gpa_page ≡ number → ⊥
+    translation-apart c e us h x y z =
+        let at = at-removed c.tdr 0 c.gpa_page x y z in
+        let page : removed.page ≡ c.page = ap (λ (q : Entry). q.page) (sym at) ∙ h.named.page_is in
+        let late = usable-late c.tdr e x us in
+        elim (h.rights (ap (λ (q : Entry). allows_less c.may_write q.state) at ∙ r.less c.may_write)) [
+          | inl k ↦ (let same : w.pages.blocked removed.page ≡ w.pages.blocked c.page = ap w.pages.blocked page in omega (arith, late, k, same))
+          | inr k ↦ unexempt removed r.unmarked (sym (ap (λ (q : Entry). q.state) at) ∙ k.0)
+        ]
+
+    walk-apart : (x : Guest) (k : Walk) (e : ℕ) → g ≡ Some x → w.vps.entered x.vp ≡ Some e → IsOnCourse w x.tdr k e → x.tdr ≡ u → suc k.level ≡ level → node_number k ≡ number → ⊥
+    walk-apart x k e is n h i j y =
+        let at = at-removed x.tdr (suc k.level) (node_number k) i j y in
+        let page : removed.page ≡ k.page = ap (λ (q : Entry). q.page) (sym at) ∙ h.named.page_is in
+        let late = entered-late x e is i n in
+        let low = h.rights (ap (λ (q : Entry). same_state q.state entry.NlMapped) at ∙ r.stops) in
+        let same : w.pages.blocked removed.page ≡ w.pages.blocked k.page = ap w.pages.blocked page in omega (arith, late, low, same)
+
+    entries-kept : (t l n : ℕ) → (t ≡ u → l ≡ level → n ≡ number → ⊥) → w'.tds.entries t l n ≡ w.tds.entries t l n
+    entries-kept t l n apart = ap (λ (z : Tds). z.entries t l n) td ∙ entry-apart w u level number free_entry t l n apart
+
+    blocked-at : (q : ℕ) → (q == removed.page) ≡ false → w'.pages.blocked q ≡ w.pages.blocked q
+    blocked-at q n = ap (λ (z : Pages). z.blocked q) pg ∙ rw n refl
+
+    other-page : (t l n q : ℕ) → IsBuilt w t → Names (w.tds.entries t l n) q → (t ≡ u → l ≡ level → n ≡ number → ⊥) → (q == removed.page) ≡ false
+    other-page t l n q bu h apart = subst (λ (z : ℕ). (z == removed.page) ≡ false) h.page_is (other_entry m w u level number la alive r.used r.unmarked empty t l n (built-alive w t bu) h.used apart)
+
+    -- it is neither a TDR page nor one of a virtual processor
+    kind-off : (q : ℕ) (j : PageKind) → is_named_kind j ≡ false → w.pages.kinds q ≡ j → (q == removed.page) ≡ false
+    kind-off q j h e = by_test (q == removed.page)
+        (λ y. absurd (unlisted level j h (sym (node_named m w la u level number alive r.used).page.kind ∙ (ap w.pages.kinds (sym (eqb-true q _ y)) ∙ e))))
+        (λ z. z)
+
+    not-given : {j : PageKind} (q : ℕ) → w'.pages.kinds q ≡ j → (kind.Nda ≡ j → ⊥) → (q == removed.page) ≡ false
+    not-given q e apart = by_test (q == removed.page) (λ y. absurd (apart (sym (rw y refl) ∙ (sym (ap (λ (z : Pages). z.kinds q) pg) ∙ e)))) (λ z. z)
+
+    kinds-at : (q : ℕ) → (q == removed.page) ≡ false → w'.pages.kinds q ≡ w.pages.kinds q
+    kinds-at q n = ap (λ (z : Pages). z.kinds q) pg ∙ rw n refl
+
+    owners-at : (q : ℕ) → (q == removed.page) ≡ false → w'.pages.owners q ≡ w.pages.owners q
+    owners-at q n = ap (λ (z : Pages). z.owners q) pg ∙ rw n refl
+
+    is-here : (t v : ℕ) → IsHere w p t v → IsHere w' p t v
+    is-here t v h =
+        let x = kind-off t kind.Tdr refl h.tdr in let y = kind-off v kind.Tdvpr refl h.page.kind in
+        record { tdr = kinds-at t x ∙ h.tdr; life = ap (λ (z : Tds). z.lives t) td ∙ h.life; page = record { kind = kinds-at v y ∙ h.page.kind; owner = owners-at v y ∙ h.page.owner }; associated = ap (λ (z : Vps). z.associated v) vp ∙ h.associated }
+
+    was-here : (t v : ℕ) → IsHere w' p t v → IsHere w p t v × (w'.vps.lasts v ≡ w.vps.lasts v) × (w'.tds.epochs t ≡ w.tds.epochs t)
+    was-here t v h =
+        let x = not-given t h.tdr (λ e. cc) in let y = not-given v h.page.kind (λ e. cc) in (
+          record { tdr = sym (kinds-at t x) ∙ h.tdr; life = sym (ap (λ (z : Tds). z.lives t) td) ∙ h.life; page = record { kind = sym (kinds-at v y) ∙ h.page.kind; owner = sym (owners-at v y) ∙ h.page.owner }; associated = sym (ap (λ (z : Vps). z.associated v) vp) ∙ h.associated },
+          ap (λ (z : Vps). z.lasts v) vp,
+          ap (λ (z : Tds). z.epochs t) td,
+        )
+
+    removed-act : LawfulTranslations w' p cs g
+    removed-act =
+        let enters : (x : Guest) (e : ℕ) → g ≡ Some x → w'.vps.entered x.vp ≡ Some e → w.vps.entered x.vp ≡ Some e = λ x e is n. sym (ap (λ (z : Vps). z.entered x.vp) vp) ∙ n in
+        wide-frame w w' le p cs g occ is-here (λ t v h. (let k = was-here t v h in (k.0, k.1))) enters (usable-same w w' p g was-here enters)
+        (λ c e bu us h. let apart = translation-apart c e us h in
+        current-same w w' c e (entries-kept c.tdr 0 c.gpa_page apart) (blocked-at c.page (other-page c.tdr 0 c.gpa_page c.page bu h.named apart)) (ap (λ (z : Tds). z.ops c.tdr) td) h)
+        (λ x k e is bu n h. let apart = walk-apart x k e is n h in
+        walking-same w w' x.tdr k e (entries-kept x.tdr (suc k.level) (node_number k) apart) (blocked-at k.page (other-page x.tdr (suc k.level) (node_number k) k.page bu h.named apart)) h) a
+
+  pub row-access : (o : Opening) (me : ℕ) (c : Call) → o.machine ≡ m → Passes ((row_of o me c).items w) → ((t v most : ℕ) → c ≡ call.VpEnter t v most → p ≢ me) → ((t v : ℕ) → c ≡ call.VpFlush t v → p ≢ me)
+      → LawfulTranslations ((row_of o me c).act w) p cs g
+  row-access o me (call.PhymemPageReclaim u page) em ps n k =
       let off = life-off u (life.Teardown ∷ []) refl ps.1.1.1.0 in
       let own = owner_of u page (page == u) refl (tdr_kind _ ps.1.1.0) ps.1.1.1.1 in
       taken-act page kind.Nda 0 0 0 (λ t x bu o nn. by_test (x == page) (λ y. absurd (eqb-false t u (off t bu) (sym o ∙ (ap w.pages.owners (eqb-true x page y) ∙ own)))) (λ z. z)) ((row_of o me (call.PhymemPageReclaim u page)).act w) refl
@@ -238,32 +480,32 @@ module _ (m : Machine) (w : World) (la : Lawful m w) (le : LawfulEpochs w) (p : 
       owner_of : (u q : ℕ) (b : Bool) → (q == u) ≡ b → w.pages.kinds u ≡ kind.Tdr → Passes (reclaim_conditions w u q b) → w.pages.owners q ≡ u
       owner_of u q true e root ps = let here : q ≡ u = eqb-true q u e in la.pages.tdr q (rw here root) ∙ here
       owner_of u q false e root ps = eqb-true _ u (and_parts (not (is_host w q)) (w.pages.owners q == u) ps.0).1
-  row-access o me (call.MngCreate u h) em ps n =
+  row-access o me (call.MngCreate u h) em ps n k =
       host-act u kind.Tdr u 0 0 (host_kind _ ps.1.1.0) ((row_of o me (call.MngCreate u h)).act w) refl
       (λ e l. let z : (u == u) ≡ true = eq-eqb u u refl in let no : life.HkidAssigned ≡ life.KeysConfigured = rw z at l in cc) (λ e. cc)
       (λ t x. rw x refl) (λ t x. rw x refl) (λ t x. rw x refl) (λ t l i x f. rw x refl) (λ v x. refl) (λ v x. refl) (λ v x. refl)
-  row-access o me (call.MngKeyConfig u) em ps n =
+  row-access o me (call.MngKeyConfig u) em ps n k =
       td-act ((row_of o me (call.MngKeyConfig u)).act w) refl refl (λ t v h. let x = life-off u (life.HkidAssigned ∷ []) refl ps.1.1.0 t (here-built w le p t v h) in rw x refl)
       (λ t v h. (le.bound t v p h.tdr (record { kind = h.page.kind; owner = h.page.owner }) h.associated).0) (λ t bu. refl) (λ t bu. refl) (λ t l i bu f. refl)
-  row-access o me (call.MngAddcx u page) em ps n =
+  row-access o me (call.MngAddcx u page) em ps n k =
       host-act page kind.Tdcx u 0 0 (host_kind _ ps.1.1.1.1.1.1.0) ((row_of o me (call.MngAddcx u page)).act w) refl (λ e. cc) (λ e. cc)
       (λ t x. refl) (λ t x. refl) (λ t x. refl) (λ t l i x f. refl) (λ v x. refl) (λ v x. refl) (λ v x. refl)
-  row-access o me (call.MngInit u) em ps n =
+  row-access o me (call.MngInit u) em ps n k =
       let off = op-off u (is_new (w.tds.ops u) ps.1.1.1.1.0) in
       td-act ((row_of o me (call.MngInit u)).act w) refl refl (λ t v h. refl) (λ t v h. h.life) (λ t bu. let x = off t bu in rw x refl) (λ t bu. let x = off t bu in rw x refl) (λ t l i bu f. refl)
-  row-access o me (call.MngVpflushdone u) em ps n =
+  row-access o me (call.MngVpflushdone u) em ps n k =
       td-act ((row_of o me (call.MngVpflushdone u)).act w) refl refl (λ t v h. let x = flushed-off u ps.1.1.1.0 t v h in rw x refl)
       (λ t v h. (le.bound t v p h.tdr (record { kind = h.page.kind; owner = h.page.owner }) h.associated).0) (λ t bu. refl) (λ t bu. refl) (λ t l i bu f. refl)
-  row-access o me (call.MngKeyFreeid u) em ps n =
+  row-access o me (call.MngKeyFreeid u) em ps n k =
       td-act ((row_of o me (call.MngKeyFreeid u)).act w) refl refl (λ t v h. let x = life-off u (life.Blocked ∷ []) refl ps.1.1.0 t (here-built w le p t v h) in rw x refl)
       (λ t v h. (le.bound t v p h.tdr (record { kind = h.page.kind; owner = h.page.owner }) h.associated).0) (λ t bu. refl) (λ t bu. refl) (λ t l i bu f. refl)
-  row-access o me (call.MrFinalize u) em ps n =
+  row-access o me (call.MrFinalize u) em ps n k =
       let off = op-off u (is_begun (w.tds.ops u) ps.1.1.1.1.0) in
       td-act ((row_of o me (call.MrFinalize u)).act w) refl refl (λ t v h. refl) (λ t v h. h.life) (λ t bu. let x = off t bu in rw x refl) (λ t bu. refl) (λ t l i bu f. refl)
-  row-access o me (call.VpCreate u page) em ps n =
+  row-access o me (call.VpCreate u page) em ps n k =
       host-act page kind.Tdvpr u 0 0 (host_kind _ ps.1.1.1.1.1.1.1.1.0) ((row_of o me (call.VpCreate u page)).act w) refl (λ e. cc) (λ e z. let y : (page == page) ≡ true = eq-eqb page page refl in let no : None ≡ Some p = rw y at z in cc)
       (λ t x. refl) (λ t x. refl) (λ t x. refl) (λ t l i x f. refl) (λ v x. rw x refl) (λ v x. rw x refl) (λ v x. rw x refl)
-  row-access o me (call.VpEnter u v most) em ps n =
+  row-access o me (call.VpEnter u v most) em ps n k =
       let apart = n u v most refl in
       let off : (x : ℕ) → w.vps.associated x ≡ Some p → (x == v) ≡ false = λ x e. by_test (x == v)
       (λ y. absurd (let here : w.vps.associated v ≡ Some p = ap w.vps.associated (sym (eqb-true x v y)) ∙ e in
@@ -279,23 +521,67 @@ module _ (m : Machine) (w : World) (la : Lawful m w) (le : LawfulEpochs w) (p : 
       (λ x e is k. let y = off x.vp (occ x is).associated in rw y at k)
       (λ c e bu h. current-same w w' c e refl refl refl h)
       (λ t k e bu h. walking-same w w' t k e refl refl h) a
-  row-access o me (call.MemSeptAdd u gpa level page) em ps n =
+  row-access o me (call.VpFlush u v) em ps n k =
+      let apart = k u v refl in
+      let off : (x : ℕ) → w.vps.associated x ≡ Some p → (x == v) ≡ false = λ x e. by_test (x == v)
+      (λ y. absurd (let here : w.vps.associated v ≡ Some p = ap w.vps.associated (sym (eqb-true x v y)) ∙ e in
+      let d : (p == me) ≡ false = ne_eqb p me apart in
+      let ok : not (is_elsewhere me (Some p)) ≡ true = subst (λ (z : Option ℕ). not (is_elsewhere me z) ≡ true) here ps.1.1.1.1.1.1.1.0 in
+      let bad : false ≡ true = rw d at ok in cc)) (λ z. z) in
+      let w' : World = (row_of o me (call.VpFlush u v)).act w in
+      let mine : (t x : ℕ) → IsHere w' p t x → (x == v) ≡ false = λ t x h. by_test (x == v) (λ y. absurd (let no : None ≡ Some p = rw y at h.associated in cc)) (λ z. z) in
+      frame w w' le p cs g occ
+      (λ t x h. let y = off x h.associated in record { tdr = h.tdr; life = h.life; page = record { kind = h.page.kind; owner = h.page.owner }; associated = rw y (h.associated) })
+      (λ t x h. let y = mine t x h in (record { tdr = h.tdr; life = h.life; page = record { kind = h.page.kind; owner = h.page.owner }; associated = rw y at h.associated }, refl, refl))
+      (λ x e is z. z)
+      (λ c e bu h. current-same w w' c e refl refl refl h)
+      (λ t z e bu h. walking-same w w' t z e refl refl h) a
+  row-access o me (call.MemPageRemove u gpa) em ps n k =
+      let rest = tracked_page w u (entry_at w u 0 gpa).page ∷ [] in
+      let q = named_passed w u gpa 0 removed_states rest ps.1.1.1 in
+      let r = page_removed (entry_at w u 0 gpa).state q.state in
+      removed-act u 0 (number_at 0 gpa) (named_alive w u gpa 0 removed_states rest q) r (λ j i e. cc) q.rest_holds.0 ((row_of o me (call.MemPageRemove u gpa)).act w) refl refl refl
+  row-access o me (call.MemSeptRemove u gpa level) em ps n k =
+      let rest = empty_below w u gpa level ∷ tracked_page w u (entry_at w u level gpa).page ∷ [] in
+      let q = named_passed w u gpa level (entry.NlBlocked ∷ []) rest ps.1.1.1.1 in
+      let r = sept_removed (entry_at w u level gpa).state q.state in
+      removed-act u level (number_at level gpa) (named_alive w u gpa level (entry.NlBlocked ∷ []) rest q) r (empty_at w u gpa level q.rest_holds.0) q.rest_holds.1.0 ((row_of o me (call.MemSeptRemove u gpa level)).act w) refl refl refl
+  row-access o me (call.MemSeptAdd u gpa level page) em ps n k =
       let behind = walk_passed w u gpa (state_in w u gpa level (entry.Free ∷ []) ∷ page_exclusive page ∷ host_page w page ∷ []) level (range_of level 3 ps.1.1.0).1 ps.1.1.1.1.1.1.1.1.1.1 in
       let free = free_of (entry_at w u level gpa).state behind.0.0 in
       host-act page kind.Ept u level (number_at level gpa) (host_kind _ behind.0.1.0) ((row_of o me (call.MemSeptAdd u gpa level page)).act w) refl (λ e. cc) (λ e. cc)
       (λ t x. refl) (λ t x. refl) (λ t x. refl) (λ t l i x f. entry-kept w u level (number_at level gpa) _ t l i free f) (λ v x. refl) (λ v x. refl) (λ v x. refl)
-  row-access o me (call.MemPageAdd u gpa page source) em ps n =
+  row-access o me (call.MemPageAdd u gpa page source) em ps n k =
       let behind = walk_passed w u gpa (state_in w u gpa 0 (entry.Free ∷ []) ∷ page_exclusive source ∷ host_page w source ∷ page_exclusive page ∷ host_page w page ∷ []) 0 (lit≤ tt) ps.1.1.1.1.1.1.1.1.1.1.1.1 in
       let free = free_of (entry_at w u 0 gpa).state behind.0.0 in
       host-act page kind.Reg u 0 (number_at 0 gpa) (host_kind _ behind.0.1.1.0) ((row_of o me (call.MemPageAdd u gpa page source)).act w) refl (λ e. cc) (λ e. cc)
       (λ t x. refl) (λ t x. refl) (λ t x. refl) (λ t l i x f. entry-kept w u 0 (number_at 0 gpa) _ t l i free f) (λ v x. refl) (λ v x. refl) (λ v x. refl)
-  row-access o me (call.MemPageAug u gpa page) em ps n =
+  row-access o me (call.MemPageAug u gpa page) em ps n k =
       let behind = walk_passed w u gpa (state_in w u gpa 0 (entry.Free ∷ []) ∷ page_exclusive page ∷ host_page w page ∷ []) 0 (lit≤ tt) ps.1.1.1.1.1.1.1.1.1 in
       let free = free_of (entry_at w u 0 gpa).state behind.0.0 in
       host-act page kind.Reg u 0 (number_at 0 gpa) (host_kind _ behind.0.1.0) ((row_of o me (call.MemPageAug u gpa page)).act w) refl (λ e. cc) (λ e. cc)
       (λ t x. refl) (λ t x. refl) (λ t x. refl) (λ t l i x f. entry-kept w u 0 (number_at 0 gpa) _ t l i free f) (λ v x. refl) (λ v x. refl) (λ v x. refl)
-  row-access o me (call.HostRead page i) em ps n = a
-  row-access o me _ em ps n = quiet-act _ refl refl refl refl refl refl refl refl
+  row-access o me (call.MemRangeBlock u gpa level) em ps n k =
+      let q = named_passed w u gpa level open_states [] ps.1.1.1.1 in
+      let alive = named_alive w u gpa level open_states [] q in
+      let r = block_restates (entry_at w u level gpa).state q.state in
+      let page : ℕ = (entry_at w u level gpa).page in
+      let own : w.pages.owners page ≡ u = (node_named m w la u level (number_at level gpa) alive r.used).page.owner in
+      restated-act u level (number_at level gpa) (blocked_state (entry_at w u level gpa).state) (put w.pages.blocked page (w.tds.epochs u)) r
+      (λ t x e o low h. by_test (x == page)
+      (λ y. rw y (subst (λ (z : ℕ). e ≤ w.tds.epochs z) (sym o ∙ (ap w.pages.owners (eqb-true x page y) ∙ own)) low))
+      (λ z. rw z h))
+      (λ writes e less low. inl (let z = eq-eqb page page refl in rw z low)) (λ e off low. inl (let z = eq-eqb page page refl in rw z low))
+      ((row_of o me (call.MemRangeBlock u gpa level)).act w) refl refl refl
+  row-access o me (call.MemRangeUnblock u gpa level) em ps n k =
+      let q = named_passed w u gpa level blocked_states (tracked_page w u (entry_at w u level gpa).page ∷ []) ps.1.1.1.1 in
+      let s : EntryState = (entry_at w u level gpa).state in
+      restated-act u level (number_at level gpa) (unblocked_state s) w.pages.blocked (unblock_restates s q.state)
+      (λ t x e o low h. h) (λ writes e less low. inr (blocked_less writes s q.state)) (λ e off low. inr (blocked_stops s q.state))
+      ((row_of o me (call.MemRangeUnblock u gpa level)).act w) refl refl refl
+  row-access o me (call.MemTrack u) em ps n k = raised-act u
+  row-access o me (call.HostRead page i) em ps n k = a
+  row-access o me _ em ps n k = quiet-act _ refl refl refl refl refl refl refl refl
 
   -- A page that was PENDING is MAPPED. Nothing that may be used names it.
   pub accept-access : (w' : World) (u n : ℕ) (x : Entry) → is_pending (w.tds.entries u 0 n).state ≡ true

@@ -15,10 +15,10 @@ use Rattle.td_words.specs.Packing.{Entry}
 use Rattle.flat_core.specs.World.{World, Tds}
 use Rattle.flat_core.specs.Processor.{Held, Phase, Trying, Undoing, Answered, Translation, Walk, Guest, Entering, Lp}
 use Rattle.flat_core.specs.Opening.{Opening, Incoming}
-use Rattle.flat_core.specs.Row.{Item, Row, OperationRow, after_move, Passes, Move, Attempts, Undoes, Refuses, Succeeds, Releases, Rests, next, next_in}
+use Rattle.flat_core.specs.Row.{Row, OperationRow, after_move, Passes, Move, Attempts, Undoes, Refuses, Succeeds, Releases, Rests, next, next_in}
 use Rattle.flat_core.specs.Effects.{tell_words, leave_guest, pass_operation}
 use Rattle.flat_core.specs.Tree.{page_of_gpa, number_at, entry_at, same_state}
-use Rattle.flat_core.specs.Translations.{cache, look_up}
+use Rattle.flat_core.specs.Translations.{cache, look_up, drop_td}
 use Rattle.flat_core.specs.Guest.{ByRow, operation_of, is_pending_at, accept_page, accept, reach, answered, walk_level, walk_step, walked_on, walked_entry, goes_on, cached_after, translation_of}
 use Rattle.flat_core.specs.Table.{row_of}
 use Rattle.flat_core.specs.Event.{State, Event, OfCall, OfOperation, Walks, Reaches, Leaves, start, next_event, calls_of, after_event, world_after, call_world, operation_world, lp_after, call_lp, succeeded, settled, settle, settled_guest, settle_operation, operation_guest, operation_busy, nothing_more, walk_translations, is_granted}
@@ -34,10 +34,10 @@ use Rattle.flat_core.proofs.Cached.{found_in}
 use Rattle.flat_core.proofs.Induction.{in_runs}
 use Rattle.flat_core.proofs.Operations.{operation_row, accepted}
 use Rattle.flat_core.proofs.Due.{Due, calls, frees, leaves, stops, fills, operates, walks, reaches, undoes, gives_back, due_event_is}
-use Rattle.flat_core.proofs.Enter.{enters_or_none, all_pass}
+use Rattle.flat_core.proofs.Enter.{enters_or_none, passed}
 use Rattle.flat_core.proofs.Ends.{timeliness_kept}
 use Rattle.flat_core.proofs.Accesses.{row-access, quiet-act, accept-access, frame, current-same, walking-same}
-use Rattle.flat_core.proofs.Guarded.{enter-access, guest-changed, left-access, filled, stepped}
+use Rattle.flat_core.proofs.Guarded.{enter-access, flush-access, guest-changed, left-access, filled, stepped}
 use Rattle.flat_core.proofs.Epochs.{row-epochs, quiet-epochs, leave-epochs}
 
 abbrev pub SameGuest : Guest → Guest → Type 0
@@ -54,12 +54,6 @@ settled-same g g0 s = by g.operation.phase g.operation.held
     by Trying hs = s
     by (Undoing l) hs = s
 
-pub passed : (items : List (Item Reply)) (phase : Phase Reply) (hs : List Held) → next_in items phase hs ≡ Succeeds → Passes items
-passed items Trying hs e = all_pass items (length hs) e
-passed items (Undoing l) hs e = cc
-passed items (Answered r) [] e = cc
-passed items (Answered r) (h ∷ hs) e = cc
-
 pub settled-lp : (x : Lp) → ((settled x).cached ≡ x.cached) × ((settled x).guest ≡ x.guest)
 settled-lp x = by x.call.phase x.call.held
   where
@@ -68,12 +62,6 @@ settled-lp x = by x.call.phase x.call.held
     by (Answered r) (h ∷ hs) = (refl, refl)
     by Trying hs = (refl, refl)
     by (Undoing l) hs = (refl, refl)
-
--- a row that enters no guest leaves the translations
-row-cached : (o : Opening) (me : ℕ) (c : Call) (w : World) (cs : List Translation) → (row_of o me c).enters ≡ None → (row_of o me c).cached w cs ≡ cs
-row-cached o me (call.VpEnter t v most) w cs e = cc
-row-cached o me (call.HostRead page i) w cs e = refl
-row-cached o me _ w cs e = refl
 
 -- whose virtual processor is in guest there
 pub occ-of : (o : Opening) (s : State) → AreTimely o s → (q : ℕ) (g : Guest) → (s.lps q).guest ≡ Some g → IsOccupied s.world q g.tdr g.vp
@@ -153,6 +141,15 @@ module _ (o : Opening) (s : State) (p : ℕ) (lawful : Lawful o.machine s.world)
       pending_state entry.Free e = cc
       pending_state _ e = cc
 
+  -- the act of a row that enters no guest, of which VP.FLUSH alone changes what is cached
+  own-act : (c : Call) → Passes ((row_of o p c).items w) → (row_of o p c).enters ≡ None → lp.guest ≡ None → LawfulTranslations ((row_of o p c).act w) p ((row_of o p c).cached w lp.cached) lp.guest
+  own-act (call.VpEnter t v most) ps en none = cc
+  own-act (call.VpFlush t v) ps en none =
+      subst (λ (x : Option Guest). LawfulTranslations ((row_of o p (call.VpFlush t v)).act w) p (drop_td t lp.cached) x) (sym none)
+      (flush-access o p t v w holds.epochs lp.cached ps (subst (λ (x : Option Guest). LawfulTranslations w p lp.cached x) none own))
+  own-act (call.HostRead page i) ps en none = own
+  own-act c ps en none = row-access o.machine w lawful holds.epochs p lp.cached lp.guest (λ z i. occ p z i) own o p c refl ps (λ t v most i. cc) (λ t v i. cc)
+
   -- a call's moves
   of-call : (c : Call) (b : Bool) (phase : Phase Reply) (hs : List Held) → lp.guest ≡ None → lp.call.phase ≡ phase → lp.call.held ≡ hs → IsAfter (OfCall (row_of o p c) (next_in ((row_of o p c).items w) phase hs)) b
   of-call c b phase hs none ph he = by (next_in ((row_of o p c).items w) phase hs) refl
@@ -176,7 +173,7 @@ module _ (o : Opening) (s : State) (p : ℕ) (lawful : Lawful o.machine s.world)
       acts e =
           let ps : Passes ((row_of o p c).items w) = passed ((row_of o p c).items w) phase hs e in
           let others : (q : ℕ) → q ≢ p → LawfulTranslations ((row_of o p c).act w) q (s.lps q).cached (s.lps q).guest =
-          λ q n. row-access o.machine w lawful holds.epochs q (s.lps q).cached (s.lps q).guest (λ x i. occ q x i) (holds.each q) o p c refl ps (λ t v most i. n) in
+          λ q n. row-access o.machine w lawful holds.epochs q (s.lps q).cached (s.lps q).guest (λ x i. occ q x i) (holds.each q) o p c refl ps (λ t v most i. n) (λ t v i. n) in
           elim (enters_or_none o p c) [
             | inl en ↦ (row-epochs o w lawful holds.epochs p c ps, plain ps en, others)
             | inr x ↦ (row-epochs o w lawful holds.epochs p c ps, enters ps x.0 x.1 x.2 x.3, others)
@@ -188,8 +185,7 @@ module _ (o : Opening) (s : State) (p : ℕ) (lawful : Lawful o.machine s.world)
               let y = settled-lp x in
               let at : (z : Option Entering) → z ≡ None → ((succeeded w (row_of o p c) z lp).cached ≡ (row_of o p c).cached w lp.cached) × ((succeeded w (row_of o p c) z lp).guest ≡ lp.guest) = same-record in
               let k = at (row_of o p c).enters en in
-              with-lp ((row_of o p c).act w) (settled x) lp.cached lp.guest (y.0 ∙ (k.0 ∙ row-cached o p c w lp.cached en)) (y.1 ∙ k.1)
-              (row-access o.machine w lawful holds.epochs p lp.cached lp.guest (λ z i. occ p z i) own o p c refl ps (λ t v most i. absurd (let no : (row_of o p (call.VpEnter t v most)).enters ≡ None = subst (λ (z : Call). (row_of o p z).enters ≡ None) i en in cc)))
+              with-lp ((row_of o p c).act w) (settled x) ((row_of o p c).cached w lp.cached) lp.guest (y.0 ∙ k.0) (y.1 ∙ k.1) (own-act c ps en none)
             where
               same-record : (z : Option Entering) → z ≡ None → ((succeeded w (row_of o p c) z lp).cached ≡ (row_of o p c).cached w lp.cached) × ((succeeded w (row_of o p c) z lp).guest ≡ lp.guest)
               same-record None e = (refl, refl)

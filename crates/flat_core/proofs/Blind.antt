@@ -1,5 +1,5 @@
 -- Each row asks and answers the same in two worlds that differ in private words alone, and keeps them so.
-use Rattle.std.proofs.Common.{◌≡◌, refl, sym, ◌∙◌, subst, ap, ℕ, List, [], ◌∷◌, ◌++◌, length, Bool, true, false, not, ◌==◌, ◌&&◌, ◌||◌, if◌then◌else◌}
+use Rattle.std.proofs.Common.{◌≡◌, refl, sym, ◌∙◌, subst, ap, ℕ, ◌+◌, List, [], ◌∷◌, ◌++◌, length, Bool, true, false, not, ◌==◌, ◌&&◌, ◌||◌, if◌then◌else◌}
 use Rattle.std.specs.Prelude.{Some, None}
 use Rattle.std.specs.List.{list_any}
 use Rattle.sha2.specs.Sha512.{sha384}
@@ -22,17 +22,17 @@ use Rattle.td_words.specs.declared.calls.Call.TheVariants as call
 use Rattle.td_words.specs.declared.replies.Value.TheVariants as value
 use Rattle.td_words.specs.NameNumber.{op_number, life_number}
 use Rattle.td_words.specs.Packing.{Key, Unassigned, AssignedTo, FlushedOf}
-use Rattle.flat_core.specs.World.{World, Pages, Tds, Vps, KeyTable, Hidden, put}
+use Rattle.flat_core.specs.World.{World, Pages, Tds, Vps, KeyTable, Hidden, put, free_entry}
 use Rattle.flat_core.specs.Opening.{Opening, Agree}
 use Rattle.flat_core.specs.Row.{Row}
 use Rattle.flat_core.specs.Digests.{digest_word}
 use Rattle.flat_core.specs.Conditions.{same_kind, is_host_in, host_page, page_exclusive}
-use Rattle.flat_core.specs.Effects.{put_in, new_td, take_node, take_page, map_page, set_page, begin_memory, measure, clear_page, give_back, enter_guest, end_memory_in, set_key, set_life, set_op, add_vp, set_vp_state, set_register, end_measurement, set_epoch, written_back}
+use Rattle.flat_core.specs.Effects.{put_in, new_td, take_node, take_page, map_page, set_page, begin_memory, measure, clear_page, give_back, block_page, set_state, set_entry, unmap_page, end_memory, enter_guest, end_association, end_memory_in, set_key, set_life, set_op, add_vp, set_vp_state, set_register, end_measurement, set_epoch, written_back}
 use Rattle.flat_core.specs.HostRows.{host_read, host_write, read_metadata}
 use Rattle.flat_core.specs.TdRows.{create, configure_key, add_tdcx, initialize, read_conditions, field_value, read_td, finalize}
 use Rattle.flat_core.specs.KeyRows.{write_caches_back, reclaim_conditions, reclaim_page, end_flush, free_hkid}
-use Rattle.flat_core.specs.VpRows.{create_vp, initialize_vp, enter_vp}
-use Rattle.flat_core.specs.MemRows.{add_sept, read_sept, add_page, augment_page, chunk_bytes, extend}
+use Rattle.flat_core.specs.VpRows.{create_vp, initialize_vp, enter_vp, flush_vp}
+use Rattle.flat_core.specs.MemRows.{add_sept, read_sept, add_page, augment_page, remove_page, remove_sept, blocked_state, unblocked_state, block_range, unblock_range, advance_epoch, chunk_bytes, extend}
 use Rattle.flat_core.specs.Tree.{page_of_gpa, number_at, entry_at, same_state, state_in}
 use Rattle.flat_core.specs.Table.{row_of}
 use Rattle.flat_core.specs.Lawful.{IsAlive, LawfulPages, Lawful, is_free}
@@ -426,6 +426,15 @@ enter_vp-blind m me t vp most = record {
       (ap (λ (x : Tds). (enter_guest me vp (x.epochs t) v).vps) a.tds ∙ ap (λ (x : Vps). with_entered x me vp (w.tds.epochs t)) a.vps);
 }
 
+pub flush_vp-blind : (m : Machine) (me t vp : ℕ) → AreBlind m (flush_vp m me t vp) (flush_vp m me t vp)
+flush_vp-blind m me t vp = record {
+  enters = refl;
+  items = λ v w a. rw (a.pages, a.tds, a.vps) refl;
+  value = λ v w a. refl;
+  cached = λ v w ts a. refl;
+  act = λ v w lv lw a ps. vps_alike v w a (end_association vp v).vps (end_association vp w).vps (ap (λ (x : Vps). record x { associated = put x.associated vp None }) a.vps);
+}
+
 pub add_sept-blind : (m : Machine) (t gpa level p : ℕ) → AreBlind m (add_sept m t gpa level p) (add_sept m t gpa level p)
 add_sept-blind m t gpa level p = record {
   enters = refl;
@@ -475,6 +484,85 @@ augment_page-blind m t gpa p = record {
   value = λ v w a. refl;
   cached = λ v w ts a. refl;
   act = λ v w lv lw a ps. mapped_alike v w p kind.Reg entry.Pending t 0 (number_at 0 gpa) (host_kind _ ps.1.1.1.1.1.1.1.1.1.1.1.1.1.0) a;
+}
+
+-- an entry gets another state for the page that it names, and that page another BEPOCH
+abbrev with_state : ℕ → ℕ → ℕ → (EntryState → EntryState) → Tds → Tds
+with_state t level n f x = record x { entries = put x.entries t (put_in (x.entries t) level n (record { state = f (x.entries t level n).state; page = (x.entries t level n).page; mark = 0 })) }
+
+blocked_alike : (v w : World) (t p q : ℕ) → p ≡ q → Alike v w → Alike (block_page t p v) (block_page t q w)
+blocked_alike v w t p q e a = record {
+  size = a.size;
+  pages = ap (λ (x : Pages). record x { blocked = put x.blocked p (v.tds.epochs t) }) a.pages
+      ∙ (ap (λ (x : Tds). record (w.pages) { blocked = put w.pages.blocked p (x.epochs t) }) a.tds ∙ ap (λ (x : ℕ). record (w.pages) { blocked = put w.pages.blocked x (w.tds.epochs t) }) e);
+  words = λ p i known. a.words p i known;
+  tds = a.tds;
+  vps = a.vps;
+  streams = a.streams;
+  key_table = a.key_table;
+  told = a.told;
+  bundles = a.bundles;
+}
+
+pub block_range-blind : (m : Machine) (t gpa level : ℕ) → AreBlind m (block_range m t gpa level) (block_range m t gpa level)
+block_range-blind m t gpa level = record {
+  enters = refl;
+  items = λ v w a. rw (a.pages, a.tds) refl;
+  value = λ v w a. refl;
+  cached = λ v w ts a. refl;
+  act = λ v w lv lw a ps.
+      let n : ℕ = number_at level gpa in
+      let v1 : World = set_state t level n (blocked_state (entry_at v t level gpa).state) v in
+      let w1 : World = set_state t level n (blocked_state (entry_at w t level gpa).state) w in
+      blocked_alike v1 w1 t (entry_at v t level gpa).page (entry_at w t level gpa).page (ap (λ (x : Tds). (x.entries t level n).page) a.tds)
+      (tds_alike v w a (with_state t level n blocked_state) (λ x. refl));
+}
+
+pub unblock_range-blind : (m : Machine) (t gpa level : ℕ) → AreBlind m (unblock_range m t gpa level) (unblock_range m t gpa level)
+unblock_range-blind m t gpa level = record {
+  enters = refl;
+  items = λ v w a. rw (a.pages, a.tds, a.vps) refl;
+  value = λ v w a. refl;
+  cached = λ v w ts a. refl;
+  act = λ v w lv lw a ps. tds_alike v w a (with_state t level (number_at level gpa) unblocked_state) (λ x. refl);
+}
+
+pub advance_epoch-blind : (m : Machine) (t : ℕ) → AreBlind m (advance_epoch m t) (advance_epoch m t)
+advance_epoch-blind m t = record {
+  enters = refl;
+  items = λ v w a. rw (a.pages, a.tds, a.vps) refl;
+  value = λ v w a. refl;
+  cached = λ v w ts a. refl;
+  act = λ v w lv lw a ps. tds_alike v w a (λ x. record x { epochs = put x.epochs t (x.epochs t + 1) }) (λ x. refl);
+}
+
+-- a page that leaves the map
+unmapped_alike : (v w : World) (t level n : ℕ) → Alike v w → Alike (unmap_page t level n v) (unmap_page t level n w)
+unmapped_alike v w t level n a =
+    let v1 : World = set_entry t level n free_entry v in
+    let w1 : World = set_entry t level n free_entry w in
+    let a1 : Alike v1 w1 = tds_alike v w a (λ x. record x { entries = put x.entries t (put_in (x.entries t) level n free_entry) }) (λ x. refl) in
+    subst (λ (p : ℕ). Alike (unmap_page t level n v) (give_back p w1)) (ap (λ (x : Tds). (x.entries t level n).page) a.tds) (left_alike v1 w1 a1 (v.tds.entries t level n).page)
+
+pub remove_page-blind : (m : Machine) (t gpa : ℕ) → AreBlind m (remove_page m t gpa) (remove_page m t gpa)
+remove_page-blind m t gpa = record {
+  enters = refl;
+  items = λ v w a. rw (a.pages, a.tds, a.vps) refl;
+  value = λ v w a. refl;
+  cached = λ v w ts a. refl;
+  act = λ v w lv lw a ps.
+      let v1 : World = end_memory t (page_of_gpa gpa) v in
+      let w1 : World = end_memory t (page_of_gpa gpa) w in
+      unmapped_alike v1 w1 t 0 (number_at 0 gpa) (hidden_alike v w a v1.hidden w1.hidden);
+}
+
+pub remove_sept-blind : (m : Machine) (t gpa level : ℕ) → AreBlind m (remove_sept m t gpa level) (remove_sept m t gpa level)
+remove_sept-blind m t gpa level = record {
+  enters = refl;
+  items = λ v w a. rw (a.pages, a.tds, a.vps) refl;
+  value = λ v w a. refl;
+  cached = λ v w ts a. refl;
+  act = λ v w lv lw a ps. unmapped_alike v w t level (number_at level gpa) a;
 }
 
 -- MR.EXTEND measures a page of a TD that is still being built, whose words are public
@@ -538,7 +626,13 @@ row-blind o q a me (call.MrFinalize t) = blind_at o q a.machine (λ m. finalize 
 row-blind o q a me (call.VpCreate t p) = blind_at o q a.machine (λ m. create_vp m t p) (create_vp-blind o.machine t p)
 row-blind o q a me (call.VpInit t vp x) = blind_at o q a.machine (λ m. initialize_vp m t vp x) (initialize_vp-blind o.machine t vp x)
 row-blind o q a me (call.VpEnter t vp most) = blind_at o q a.machine (λ m. enter_vp m me t vp most) (enter_vp-blind o.machine me t vp most)
+row-blind o q a me (call.VpFlush t vp) = blind_at o q a.machine (λ m. flush_vp m me t vp) (flush_vp-blind o.machine me t vp)
 row-blind o q a me (call.MemSeptAdd t gpa level p) = blind_at o q a.machine (λ m. add_sept m t gpa level p) (add_sept-blind o.machine t gpa level p)
 row-blind o q a me (call.MemSeptRd t gpa level) = blind_at o q a.machine (λ m. read_sept m t gpa level) (read_sept-blind o.machine t gpa level)
+row-blind o q a me (call.MemSeptRemove t gpa level) = blind_at o q a.machine (λ m. remove_sept m t gpa level) (remove_sept-blind o.machine t gpa level)
 row-blind o q a me (call.MemPageAdd t gpa p source) = blind_at o q a.machine (λ m. add_page m t gpa p source) (add_page-blind o.machine t gpa p source)
 row-blind o q a me (call.MemPageAug t gpa p) = blind_at o q a.machine (λ m. augment_page m t gpa p) (augment_page-blind o.machine t gpa p)
+row-blind o q a me (call.MemPageRemove t gpa) = blind_at o q a.machine (λ m. remove_page m t gpa) (remove_page-blind o.machine t gpa)
+row-blind o q a me (call.MemRangeBlock t gpa level) = blind_at o q a.machine (λ m. block_range m t gpa level) (block_range-blind o.machine t gpa level)
+row-blind o q a me (call.MemRangeUnblock t gpa level) = blind_at o q a.machine (λ m. unblock_range m t gpa level) (unblock_range-blind o.machine t gpa level)
+row-blind o q a me (call.MemTrack t) = blind_at o q a.machine (λ m. advance_epoch m t) (advance_epoch-blind o.machine t)

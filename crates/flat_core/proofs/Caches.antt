@@ -111,6 +111,7 @@ at_entry associated last epoch t cs h = by_test (is_stale associated last epoch)
 
 row_cached : (o : Opening) (me : ℕ) (c : Call) (w : World) (cs : List Translation) → IsCache cs → IsCache ((row_of o me c).cached w cs)
 row_cached o me (call.VpEnter t v most) w cs h = at_entry (w.vps.associated v) (w.vps.lasts v) (w.tds.epochs t) t cs h
+row_cached o me (call.VpFlush t v) w cs h = filtered (λ c. not (c.tdr == t)) cs h
 row_cached o me (call.HostRead page i) w cs h = h
 row_cached o me _ w cs h = h
 

@@ -15,9 +15,8 @@ use Rattle.flat_core.specs.Exports.{is_dirty, is_page_where, entries_where}
 use Rattle.flat_core.specs.Lawful.{IsAlive, IsNodeOf, Lawful, all_differ, is_free, is_node, is_named_kind}
 use Rattle.flat_core.specs.Laws.{AreSoMany, AreCounted, LawfulWorldsAreCounted, CountsAreKept, ExportedAreCounted}
 use Rattle.flat_core.proofs.Tests.{by_test, same_self}
-use Rattle.flat_core.proofs.Maps.{kind_named}
+use Rattle.flat_core.proofs.Maps.{kind_named, node_named}
 use Rattle.flat_core.proofs.Exports.{IsOfExported, dirty_exported, free_unmarked}
-use Rattle.flat_core.proofs.Owned.{node_named}
 use Rattle.flat_core.proofs.EveryWorld.{every_lawful, kept_with}
 
 private_kind : (k : PageKind) → same_kind k kind.Reg ≡ true → k ≡ kind.Reg

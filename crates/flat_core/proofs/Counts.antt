@@ -14,9 +14,11 @@ use Rattle.flat_core.specs.World.{World}
 use Rattle.flat_core.specs.Processor.{LockId, name_of, Held, Phase, Trying, Undoing, Answered, Progress, Guest, Entering, new_guest, Lp}
 use Rattle.flat_core.specs.Opening.{Opening}
 use Rattle.flat_core.specs.Row.{Item, Check, Try, Row, Move, Attempts, Refuses, Succeeds, next, next_in, tries_in}
-use Rattle.flat_core.specs.Tree.{is_passed, state_in, levels_above}
+use Rattle.flat_core.specs.Tree.{is_passed, entry_at, state_in, empty_below, named_page, levels_above}
 use Rattle.flat_core.specs.Conditions.{page_exclusive, host_page}
+use Rattle.flat_core.specs.Tracking.{tracked_page}
 use Rattle.flat_core.specs.KeyRows.{reclaim_conditions}
+use Rattle.flat_core.specs.MemRows.{open_states, blocked_states}
 use Rattle.flat_core.specs.Table.{row_of}
 use Rattle.flat_core.specs.Event.{State, Event, OfCall, event_for, line_event, lines_left, calls_of, event, after_event, lp_after, call_lp, succeeded, settled, settle, call_busy, is_granted}
 use Rattle.flat_core.specs.Run.{play}
@@ -146,6 +148,12 @@ row_ordered o me (call.MemSeptAdd t gpa level page) w = (refl, (refl, (refl, (re
 row_ordered o me (call.MemSeptRd t gpa level) w = (refl, (refl, (refl, (refl, (tt, (tt, (tt, (tt, walk_alone_ordered 3 (is_passed w t gpa) (levels_above level)))))))))
 row_ordered o me (call.MemPageAdd t gpa page source) w = (refl, (refl, (refl, (refl, (refl, (refl, (refl, (refl, (tt, (tt, (tt, (tt, (tt, (tt, (tt, (tt, (tt, (tt, tt))))))))))))))))))
 row_ordered o me (call.MemPageAug t gpa page) w = (refl, (refl, (refl, (refl, (refl, (tt, (tt, (tt, (tt, (tt, (tt, (tt, (tt, (tt, tt))))))))))))))
+row_ordered o me (call.VpFlush t vp) w = (refl, (refl, (refl, (tt, (tt, (tt, (tt, (tt, tt))))))))
+row_ordered o me (call.MemSeptRemove t gpa level) w = (refl, (refl, (refl, (refl, (tt, (tt, (tt, (tt, walk_ordered 4 (is_passed w t gpa) (levels_above level) (state_in w t gpa level (entry.NlBlocked ∷ []) ∷ named_page w t gpa level Exclusive ∷ empty_below w t gpa level ∷ tracked_page w t (entry_at w t level gpa).page ∷ []) (tt, (tt, (tt, tt)))))))))))
+row_ordered o me (call.MemPageRemove t gpa) w = (refl, (refl, (refl, (tt, (tt, (tt, (tt, (tt, (tt, (tt, (tt, (tt, tt))))))))))))
+row_ordered o me (call.MemRangeBlock t gpa level) w = (refl, (refl, (refl, (refl, (tt, (tt, (tt, (tt, walk_ordered 4 (is_passed w t gpa) (levels_above level) (state_in w t gpa level open_states ∷ named_page w t gpa level Exclusive ∷ []) (tt, tt)))))))))
+row_ordered o me (call.MemRangeUnblock t gpa level) w = (refl, (refl, (refl, (refl, (tt, (tt, (tt, (tt, walk_ordered 4 (is_passed w t gpa) (levels_above level) (state_in w t gpa level blocked_states ∷ named_page w t gpa level Exclusive ∷ tracked_page w t (entry_at w t level gpa).page ∷ []) (tt, (tt, tt))))))))))
+row_ordered o me (call.MemTrack t) w = (refl, (tt, (tt, (tt, (tt, (tt, (tt, tt)))))))
 
 -- arguments are the same in every world
 reclaim_holds : (v w : World) (t page : ℕ) (b : Bool) → ArgumentsHold (reclaim_conditions v t page b) → ArgumentsHold (reclaim_conditions w t page b)
@@ -160,6 +168,9 @@ row_holds o me (call.MngRd t field.Epoch) v w h = (h.0, (tt, (tt, (tt, (tt, tt))
 row_holds o me (call.MngRd t field.Mrtd) v w h = (h.0, (tt, (tt, (tt, (tt, tt)))))
 row_holds o me (call.MemSeptAdd t gpa level page) v w h = (h.0, (h.1.0, (h.1.1.0, (h.1.1.1.0, (h.1.1.1.1.0, (h.1.1.1.1.1.0, (tt, (tt, (tt, (tt, walk_holds (is_passed w t gpa) (levels_above level) (state_in w t gpa level (entry.Free ∷ []) ∷ page_exclusive page ∷ host_page w page ∷ []) (tt, (tt, tt))))))))))))
 row_holds o me (call.MemSeptRd t gpa level) v w h = (h.0, (h.1.0, (h.1.1.0, (h.1.1.1.0, (tt, (tt, (tt, (tt, walk_alone_holds (is_passed w t gpa) (levels_above level)))))))))
+row_holds o me (call.MemSeptRemove t gpa level) v w h = (h.0, (h.1.0, (h.1.1.0, (h.1.1.1.0, (tt, (tt, (tt, (tt, walk_holds (is_passed w t gpa) (levels_above level) (state_in w t gpa level (entry.NlBlocked ∷ []) ∷ named_page w t gpa level Exclusive ∷ empty_below w t gpa level ∷ tracked_page w t (entry_at w t level gpa).page ∷ []) (tt, (tt, (tt, tt)))))))))))
+row_holds o me (call.MemRangeBlock t gpa level) v w h = (h.0, (h.1.0, (h.1.1.0, (h.1.1.1.0, (tt, (tt, (tt, (tt, walk_holds (is_passed w t gpa) (levels_above level) (state_in w t gpa level open_states ∷ named_page w t gpa level Exclusive ∷ []) (tt, tt)))))))))
+row_holds o me (call.MemRangeUnblock t gpa level) v w h = (h.0, (h.1.0, (h.1.1.0, (h.1.1.1.0, (tt, (tt, (tt, (tt, walk_holds (is_passed w t gpa) (levels_above level) (state_in w t gpa level blocked_states ∷ named_page w t gpa level Exclusive ∷ tracked_page w t (entry_at w t level gpa).page ∷ []) (tt, (tt, tt))))))))))
 row_holds o me (call.HostRead page word) v w h = h
 row_holds o me _ v w h = h
 

@@ -5,9 +5,9 @@ use Rattle.td_words.specs.declared.calls.Call.{Call}
 use Rattle.td_words.specs.declared.calls.Call.TheVariants as call
 use Rattle.td_words.specs.declared.replies.Reply.{Reply}
 use Rattle.flat_core.specs.World.{World}
-use Rattle.flat_core.specs.Processor.{LockId, Held, Trying, Undoing, Answered}
+use Rattle.flat_core.specs.Processor.{LockId, Held, Phase, Trying, Undoing, Answered}
 use Rattle.flat_core.specs.Opening.{Opening}
-use Rattle.flat_core.specs.Row.{Item, Check, Try, Passes, Attempts, Succeeds, next}
+use Rattle.flat_core.specs.Row.{Item, Check, Try, Passes, Attempts, Succeeds, next, next_in}
 use Rattle.flat_core.specs.Table.{row_of}
 use Rattle.flat_core.specs.Tries.{enter_tries}
 use Rattle.flat_core.specs.Guests.{entry_locks}
@@ -44,6 +44,13 @@ all_pass (Check true r ∷ items) k e = (refl, all_pass items k e)
 all_pass (Check false r ∷ items) k e = cc
 all_pass (Try l m ∷ items) zero e = cc
 all_pass (Try l m ∷ items) (suc k) e = all_pass items k e
+
+-- so where a call's act comes next
+pub passed : (items : List (Item Reply)) (phase : Phase Reply) (hs : List Held) → next_in items phase hs ≡ Succeeds → Passes items
+passed items Trying hs e = all_pass items (length hs) e
+passed items (Undoing l) hs e = cc
+passed items (Answered r) [] e = cc
+passed items (Answered r) (h ∷ hs) e = cc
 
 all-tried : (items : List (Item Reply)) (k : ℕ) → next items k ≡ Succeeds → length (tried_locks items) ≤ k
 all-tried [] k e = omega arith

@@ -1,5 +1,5 @@
 -- A virtual processor that is counted is in guest on the processor with which it is associated.
-use Rattle.std.proofs.Common.{◌≡◌, ◌⊎◌, inl, inr, refl, sym, ◌∙◌, subst, ap, ℕ, zero, suc, ◌+◌, List, [], ◌∷◌, length, Option, Some, None, option_map, Bool, true, false, ◌==◌}
+use Rattle.std.proofs.Common.{◌≡◌, ◌⊎◌, inl, inr, refl, sym, ◌∙◌, subst, ap, ℕ, zero, suc, ◌+◌, List, [], ◌∷◌, length, Option, Some, None, option_map, Bool, true, false, not, ◌==◌}
 use Rattle.std.proofs.lemmas.Bool.{eqb-true, eqb-false}
 use Rattle.td_words.specs.declared.names.Access.{Access}
 use Rattle.td_words.specs.declared.names.Access.TheVariants.{Read, Write}
@@ -13,7 +13,8 @@ use Rattle.td_words.specs.Packing.{Entry}
 use Rattle.flat_core.specs.World.{World}
 use Rattle.flat_core.specs.Processor.{Held, Phase, Trying, Undoing, Answered, Guest, new_guest, Lp}
 use Rattle.flat_core.specs.Opening.{Opening}
-use Rattle.flat_core.specs.Row.{OperationRow, after_move, Move, Attempts, Undoes, Refuses, Succeeds, Releases, Rests, next, next_in}
+use Rattle.flat_core.specs.Row.{Passes, OperationRow, after_move, Move, Attempts, Undoes, Refuses, Succeeds, Releases, Rests, next, next_in}
+use Rattle.flat_core.specs.Conditions.{is_associated, is_elsewhere}
 use Rattle.flat_core.specs.Effects.{pass_operation, tell_words}
 use Rattle.flat_core.specs.Guest.{ByRow, operation_of, is_pending_at, reach, walk_level, walk_step, walked_on, walked_entry, goes_on, answered}
 use Rattle.flat_core.specs.Table.{row_of}
@@ -24,17 +25,35 @@ use Rattle.flat_core.proofs.Tests.{by_test, same_self}
 use Rattle.flat_core.proofs.Induction.{event_keeps, in_runs}
 use Rattle.flat_core.proofs.Operations.{operation_row, accepted}
 use Rattle.flat_core.proofs.Due.{Due, calls, frees, leaves, stops, fills, operates, walks, reaches, undoes, gives_back, due_event_is}
-use Rattle.flat_core.proofs.Enter.{enters_or_none}
+use Rattle.flat_core.proofs.Enter.{enters_or_none, passed}
 
--- what a row leaves of who is counted
-row_entered : (o : Opening) (me : ℕ) (c : Call) (w : World) (x e : ℕ) → ((t v most : ℕ) → c ≡ call.VpEnter t v most → ⊥) → ((row_of o me c).act w).vps.entered x ≡ Some e
+-- One that nobody else has, and whose own processor has no guest, isn't counted.
+pub not_entered : (s : State) → EnteredAreIn s → (me v : ℕ) → (s.lps me).guest ≡ None → ((p : ℕ) → s.world.vps.associated v ≡ Some p → p ≡ me) → s.world.vps.entered v ≡ None
+not_entered s h me v none own = by (s.world.vps.entered v) refl
+  where
+    by : (x : Option ℕ) → s.world.vps.entered v ≡ x → x ≡ None
+    by None e = refl
+    by (Some n) e = absurd (let f = h v n e in let no : None ≡ Some f.guest = sym none ∙ (ap (λ (q : ℕ). (s.lps q).guest) (sym (own f.lp f.associated)) ∙ f.is) in cc)
+
+-- one that VP.FLUSH flushes is associated with its own processor
+pub flushed_here : (me : ℕ) (x : Option ℕ) → is_associated x ≡ true → not (is_elsewhere me x) ≡ true → x ≡ Some me
+flushed_here me None a b = cc
+flushed_here me (Some lp) a b = by_test (lp == me) (λ y. ap Some (eqb-true lp me y)) (λ n. absurd (let no : false ≡ true = rw n at b in cc))
+
+-- what a row leaves of who is counted, where nobody is that is associated with its processor
+row_entered : (o : Opening) (me : ℕ) (c : Call) (w : World) (x e : ℕ) → ((t v most : ℕ) → c ≡ call.VpEnter t v most → ⊥) → Passes ((row_of o me c).items w)
+    → ((v : ℕ) → w.vps.associated v ≡ Some me → w.vps.entered v ≡ None) → ((row_of o me c).act w).vps.entered x ≡ Some e
     → (w.vps.entered x ≡ Some e) × (((row_of o me c).act w).vps.associated x ≡ w.vps.associated x)
-row_entered o me (call.VpEnter t v most) w x e off h = absurd (off t v most refl)
-row_entered o me (call.VpCreate t page) w x e off h = by_test (x == page)
+row_entered o me (call.VpEnter t v most) w x e off ps none h = absurd (off t v most refl)
+row_entered o me (call.VpCreate t page) w x e off ps none h = by_test (x == page)
     (λ y. let no : None ≡ Some e = rw y at h in cc)
     (λ n. (rw n at h, rw n refl))
-row_entered o me (call.HostRead page i) w x e off h = (h, refl)
-row_entered o me _ w x e off h = (h, refl)
+row_entered o me (call.VpFlush t v) w x e off ps none h = by_test (x == v)
+    (λ y. absurd (let at : w.vps.entered v ≡ Some e = ap w.vps.entered (sym (eqb-true x v y)) ∙ h in
+    let no : None ≡ Some e = sym (none v (flushed_here me (w.vps.associated v) ps.1.1.1.1.1.1.0 ps.1.1.1.1.1.1.1.0)) ∙ at in cc))
+    (λ n. (h, rw n refl))
+row_entered o me (call.HostRead page i) w x e off ps none h = (h, refl)
+row_entered o me _ w x e off ps none h = (h, refl)
 
 -- an operation changes of virtual processors the position alone
 abbrev EnteredAlike : World → World → Type 0
@@ -126,9 +145,10 @@ module _ (o : Opening) (s : State) (p : ℕ) (h : EnteredAreIn s) where
     nobody : {A : Type 0} (g : Guest) → lp.guest ≡ Some g → A
     nobody g is = absurd (let no : None ≡ Some g = sym none ∙ is in cc)
 
-    plain : (row_of o p c).enters ≡ None → IsNow (OfCall (row_of o p c) Succeeds) b
-    plain en x e is =
-        let k = row_entered o p c w x e (λ t v most q. let no : (row_of o p (call.VpEnter t v most)).enters ≡ None = subst (λ (z : Call). (row_of o p z).enters ≡ None) q en in cc) is in
+    plain : Passes ((row_of o p c).items w) → (row_of o p c).enters ≡ None → IsNow (OfCall (row_of o p c) Succeeds) b
+    plain ps en x e is =
+        let alone : (v : ℕ) → w.vps.associated v ≡ Some p → w.vps.entered v ≡ None = λ v a. not_entered s h p v none (λ q k. let same : Some p ≡ Some q = sym a ∙ k in let z : p ≡ q = cc in sym z) in
+        let k = row_entered o p c w x e (λ t v most q. let no : (row_of o p (call.VpEnter t v most)).enters ≡ None = subst (λ (z : Call). (row_of o p z).enters ≡ None) q en in cc) ps alone is in
         inr (k.0, k.1, λ g a z. nobody g a)
 
     entering : (t v most : ℕ) → c ≡ call.VpEnter t v most → IsNow (OfCall (row_of o p c) Succeeds) b
@@ -138,16 +158,16 @@ module _ (o : Opening) (s : State) (p : ℕ) (h : EnteredAreIn s) where
         (λ y. inl (new_guest (record { tdr = t; vp = v; most = most }), settled_in (call_lp w b (row_of o p (call.VpEnter t v most)) Succeeds lp), sym (eqb-true x v y), rw y refl))
         (λ n. inr (rw n at is, rw n refl, λ g a z. nobody g a)))
 
-    of_call : (mv : Move Reply) → IsNow (OfCall (row_of o p c) mv) b
-    of_call Succeeds = elim (enters_or_none o p c) [
-      | inl en ↦ plain en
+    of_call : (mv : Move Reply) → (mv ≡ Succeeds → Passes ((row_of o p c).items w)) → IsNow (OfCall (row_of o p c) mv) b
+    of_call Succeeds ok = elim (enters_or_none o p c) [
+      | inl en ↦ plain (ok refl) en
       | inr y ↦ entering y.0 y.1 y.2 y.3
     ]
-    of_call (Attempts l m) = λ x e is. inr (is, refl, λ g a z. nobody g a)
-    of_call (Undoes l) = λ x e is. inr (is, refl, λ g a z. nobody g a)
-    of_call (Refuses r) = λ x e is. inr (is, refl, λ g a z. nobody g a)
-    of_call (Releases y) = λ x e is. inr (is, refl, λ g a z. nobody g a)
-    of_call Rests = λ x e is. inr (is, refl, λ g a z. nobody g a)
+    of_call (Attempts l m) ok = λ x e is. inr (is, refl, λ g a z. nobody g a)
+    of_call (Undoes l) ok = λ x e is. inr (is, refl, λ g a z. nobody g a)
+    of_call (Refuses r) ok = λ x e is. inr (is, refl, λ g a z. nobody g a)
+    of_call (Releases y) ok = λ x e is. inr (is, refl, λ g a z. nobody g a)
+    of_call Rests ok = λ x e is. inr (is, refl, λ g a z. nobody g a)
 
   -- a guest that stays in
   stays_in : (ev : Event) (b : Bool) (g g' : Guest) → lp.guest ≡ Some g → (lp_after w b ev lp).guest ≡ Some g' → g'.vp ≡ g.vp → EnteredAlike w (world_after ev w) → IsNow ev b
@@ -170,7 +190,7 @@ module _ (o : Opening) (s : State) (p : ℕ) (h : EnteredAreIn s) where
       (settled_vp (record g { operation = after_move operation_busy b (row.answer w) mv g.operation })) alike
 
   by_due : (b : Event → Bool) (e : Event) → Due o w p lp e → IsNow e (b e)
-  by_due b e (calls c cs line g) = of_call c (b (OfCall (row_of o p c) (next_in ((row_of o p c).items w) lp.call.phase lp.call.held))) g (next_in ((row_of o p c).items w) lp.call.phase lp.call.held)
+  by_due b e (calls c cs line g) = of_call c (b (OfCall (row_of o p c) (next_in ((row_of o p c).items w) lp.call.phase lp.call.held))) g (next_in ((row_of o p c).items w) lp.call.phase lp.call.held) (passed ((row_of o p c).items w) lp.call.phase lp.call.held)
   by_due b e (frees c cs g x hs line guest held epoch) =
       let ev : Event = OfCall (row_of o p c) (Releases x) in stays_in ev (b ev) g g guest (settled_in (call_lp w (b ev) (row_of o p c) (Releases x) lp) ∙ guest) refl (refl, refl)
   by_due b e (leaves c cs g out i l) = leaving g out (b (Leaves g.vp out)) i.guest
@@ -200,11 +220,3 @@ entered_kept = record {
 
 pub entered_in_guest : EnteredAreInGuest
 entered_in_guest = in_runs (λ o s. EnteredAreIn s) entered_kept
-
--- So one that nobody else has, and whose own processor has no guest, isn't counted.
-pub not_entered : (s : State) → EnteredAreIn s → (me v : ℕ) → (s.lps me).guest ≡ None → ((p : ℕ) → s.world.vps.associated v ≡ Some p → p ≡ me) → s.world.vps.entered v ≡ None
-not_entered s h me v none own = by (s.world.vps.entered v) refl
-  where
-    by : (x : Option ℕ) → s.world.vps.entered v ≡ x → x ≡ None
-    by None e = refl
-    by (Some n) e = absurd (let f = h v n e in let no : None ≡ Some f.guest = sym none ∙ (ap (λ (q : ℕ). (s.lps q).guest) (sym (own f.lp f.associated)) ∙ f.is) in cc)

@@ -1,17 +1,20 @@
--- An entry of level 0 gets another state for the page that it names, and neither is exported: what every world keeps.
+-- An entry gets another state for the page that it names, and neither is exported: what every world keeps. And a page that
+-- is blocked.
 use Rattle.std.proofs.Common.{◌≡◌, refl, sym, ◌∙◌, subst, ap, ℕ, suc, Bool, true, false, ◌==◌, ◌&&◌}
 use Rattle.std.specs.Prelude.{nat_lt}
-use Rattle.std.proofs.lemmas.Bool.{eqb-true, and_parts}
+use Rattle.std.proofs.lemmas.Bool.{eqb-true, eqb-false, and_parts}
+use Rattle.td_words.specs.declared.names.PageKind.{PageKind}
 use Rattle.td_words.specs.declared.names.PageKind.TheVariants as kind
 use Rattle.td_words.specs.declared.names.EntryState.{EntryState}
 use Rattle.td_words.specs.declared.names.EntryState.TheVariants as entry
 use Rattle.td_words.specs.declared.machines.Machine.{Machine}
 use Rattle.td_words.specs.Packing.{Entry, is_lawful_entry, is_exported}
-use Rattle.flat_core.specs.World.{World, Tds}
-use Rattle.flat_core.specs.Conditions.{same_kind}
-use Rattle.flat_core.specs.Effects.{set_entry}
-use Rattle.flat_core.specs.Lawful.{IsAlive, IsNodeOf, LawfulTree, LawfulCounts, Lawful, is_free, is_node}
+use Rattle.flat_core.specs.World.{World, Pages, Tds}
+use Rattle.flat_core.specs.Conditions.{same_kind, is_host_in}
+use Rattle.flat_core.specs.Effects.{set_entry, set_state, block_page}
+use Rattle.flat_core.specs.Lawful.{IsAlive, IsPageOf, IsNodeOf, LawfulTree, LawfulCounts, Lawful, is_free, is_node}
 use Rattle.flat_core.proofs.Tests.{by_test}
+use Rattle.flat_core.proofs.Pages.{controls_as, pages_as}
 use Rattle.flat_core.proofs.Exports.{IsOfExported, counts_kept}
 use Rattle.flat_core.proofs.Parts.{new_kept}
 
@@ -29,14 +32,14 @@ restated s e lawful used unmarked = by s used unmarked
     by entry.ExportedDirtyBlockedW h k = cc
     by _ h k = rw fits refl
 
-module _ (m : Machine) (w : World) (t number : ℕ) (s : EntryState) (l : Lawful m w)
-    (used : is_free (w.tds.entries t 0 number).state ≡ false) (unmarked : is_exported (w.tds.entries t 0 number).state ≡ false)
-    (still_used : is_free s ≡ false) (no_node : is_node s ≡ false) (still_unmarked : is_exported s ≡ false) where
+module _ (m : Machine) (w : World) (t level number : ℕ) (s : EntryState) (l : Lawful m w)
+    (used : is_free (w.tds.entries t level number).state ≡ false) (unmarked : is_exported (w.tds.entries t level number).state ≡ false)
+    (still_used : is_free s ≡ false) (same_level : is_node s ≡ is_node (w.tds.entries t level number).state) (still_unmarked : is_exported s ≡ false) where
   abbrev new : Entry
-  new = record { state = s; page = (w.tds.entries t 0 number).page; mark = 0 }
+  new = record { state = s; page = (w.tds.entries t level number).page; mark = 0 }
 
   abbrev after : Tds
-  after = (set_entry t 0 number new w).tds
+  after = (set_entry t level number new w).tds
 
   back : (x : ℕ) → IsAlive w.pages after x → IsAlive w.pages w.tds x
   back x a = record { kind = a.kind; life = a.life }
@@ -45,11 +48,11 @@ module _ (m : Machine) (w : World) (t number : ℕ) (s : EntryState) (l : Lawful
   forth x a = record { kind = a.kind; life = a.life }
 
   -- an entry is the new one, or as it was
-  at_place : (P : Entry → Type 0) (x j n : ℕ) → (x ≡ t → j ≡ 0 → n ≡ number → P new) → P (w.tds.entries x j n) → P (after.entries x j n)
+  at_place : (P : Entry → Type 0) (x j n : ℕ) → (x ≡ t → j ≡ level → n ≡ number → P new) → P (w.tds.entries x j n) → P (after.entries x j n)
   at_place P x j n here there = by_test (x == t)
-      (λ y. by_test (j == 0)
+      (λ y. by_test (j == level)
       (λ u. by_test (n == number)
-      (λ v. rw (y, u, v) (here (eqb-true x t y) (eqb-true j 0 u) (eqb-true n number v)))
+      (λ v. rw (y, u, v) (here (eqb-true x t y) (eqb-true j level u) (eqb-true n number v)))
       (λ v. rw (y, u, v) (subst (λ (z : ℕ). P (w.tds.entries z j n)) (eqb-true x t y) there)))
       (λ u. rw (y, u) (subst (λ (z : ℕ). P (w.tds.entries z j n)) (eqb-true x t y) there)))
       (λ y. rw y there)
@@ -70,24 +73,24 @@ module _ (m : Machine) (w : World) (t number : ℕ) (s : EntryState) (l : Lawful
 
   after_tree : LawfulTree m.pages w.pages after
   after_tree = record {
-    entry = λ few x j n. at_place (λ (e : Entry). is_lawful_entry e ≡ true) x j n (λ a b c. restated s (w.tds.entries t 0 number) (l.tree.entry few t 0 number) still_used still_unmarked) (l.tree.entry few x j n);
+    entry = λ few x j n. at_place (λ (e : Entry). is_lawful_entry e ≡ true) x j n (λ a b c. restated s (w.tds.entries t level number) (l.tree.entry few t level number) still_used still_unmarked) (l.tree.entry few x j n);
     upper = λ x j n a h. (let u = l.tree.upper x j n (back x a) (used_before x (suc j) n h) in
-        (at_place (λ (e : Entry). is_node e.state ≡ true) x (suc j) n (λ e f g. cc) u.0, subst (λ (p : ℕ). IsNodeOf w.pages x p kind.Ept (suc j) n) (sym (same_page x (suc j) n)) u.1));
+        (at_place (λ (e : Entry). is_node e.state ≡ true) x (suc j) n (λ e f g. same_level ∙ (rw (e, f, g) at u.0)) u.0, subst (λ (p : ℕ). IsNodeOf w.pages x p kind.Ept (suc j) n) (sym (same_page x (suc j) n)) u.1));
     lowest = λ x n a h. (let u = l.tree.lowest x n (back x a) (used_before x 0 n h) in
-        (at_place (λ (e : Entry). is_node e.state ≡ false) x 0 n (λ e f g. no_node) u.0, subst (λ (p : ℕ). IsNodeOf w.pages x p kind.Reg 0 n) (sym (same_page x 0 n)) u.1));
+        (at_place (λ (e : Entry). is_node e.state ≡ false) x 0 n (λ e f g. same_level ∙ (rw (e, f, g) at u.0)) u.0, subst (λ (p : ℕ). IsNodeOf w.pages x p kind.Reg 0 n) (sym (same_page x 0 n)) u.1));
     below = λ x j n few a h. still x (suc j) _ (l.tree.below x j n few (back x a) (used_before x j n h));
     in_range = λ x j n h. l.tree.in_range x j n (used_before x j n h);
     named = λ p k a. (let u = l.tree.named p k (back (w.pages.owners p) a) in (still _ _ _ u.0, same_page _ _ _ ∙ u.1, u.2));
   }
 
   same_where : (f : EntryState → Bool) → IsOfExported f → (x n : ℕ) → f (after.entries x 0 n).state ≡ f (w.tds.entries x 0 n).state
-  same_where f of x n = at_place (λ (e : Entry). f e.state ≡ f (w.tds.entries x 0 n).state) x 0 n (λ a b c. of s still_unmarked ∙ sym (rw (a, c) (of _ unmarked))) refl
+  same_where f of x n = at_place (λ (e : Entry). f e.state ≡ f (w.tds.entries x 0 n).state) x 0 n (λ a b c. of s still_unmarked ∙ sym (rw (a, b, c) (of _ unmarked))) refl
 
   after_counts : LawfulCounts m.pages w.pages after w.streams
   after_counts = counts_kept m.pages w.pages w.pages w.tds after w.streams back (λ x. refl)
       (λ x a f of p. ap (λ (b : Bool). same_kind (w.pages.kinds p) kind.Reg && (w.pages.owners p == x && b)) (same_where f of x (w.pages.numbers p))) l.counts
 
-  pub state_kept : Lawful m (set_entry t 0 number new w)
+  pub state_kept : Lawful m (set_state t level number s w)
   state_kept = record {
     size = l.size;
     pages = l.pages;
@@ -118,8 +121,90 @@ module _ (m : Machine) (w : World) (t number : ℕ) (s : EntryState) (l : Lawful
     };
     beginnings = record {
       is_new = λ x a n. (let is_new = l.beginnings.is_new x (back x a) n in by_test (x == t)
-          (λ y. absurd (let no : true ≡ false = sym (ap (λ (e : Entry). is_free e.state) (is_new.entries 0 number)) ∙ (ap (λ (z : ℕ). is_free (w.tds.entries z 0 number).state) (eqb-true x t y) ∙ used) in cc))
+          (λ y. absurd (let no : true ≡ false = sym (ap (λ (e : Entry). is_free e.state) (is_new.entries level number)) ∙ (ap (λ (z : ℕ). is_free (w.tds.entries z level number).state) (eqb-true x t y) ∙ used) in cc))
           (λ y. new_kept w.tds after w.hidden.rtmrs w.hidden.rtmrs x (rw y refl) is_new));
     };
     counts = after_counts;
+  }
+
+-- what is at an entry's place after another entry was put somewhere: that one, or what stood there
+pub entry_set : (w : World) (t level number : ℕ) (new : Entry) (P : Entry → Type 0) (x j n : ℕ) → (x ≡ t → j ≡ level → n ≡ number → P new) → ((x ≡ t → j ≡ level → n ≡ number → ⊥) → P (w.tds.entries x j n))
+    → P ((set_entry t level number new w).tds.entries x j n)
+entry_set w t level number new P x j n here there = by_test (x == t)
+    (λ y. by_test (j == level)
+    (λ u. by_test (n == number)
+    (λ v. rw (y, u, v) (here (eqb-true x t y) (eqb-true j level u) (eqb-true n number v)))
+    (λ v. rw (y, u, v) (moved (eqb-true x t y) (λ a b c. eqb-false n number v c))))
+    (λ u. rw (y, u) (moved (eqb-true x t y) (λ a b c. eqb-false j level u b))))
+    (λ y. rw y (there (λ a b c. eqb-false x t y a)))
+  where
+    moved : x ≡ t → (x ≡ t → j ≡ level → n ≡ number → ⊥) → P (w.tds.entries t j n)
+    moved e apart = subst (λ (z : ℕ). P (w.tds.entries z j n)) e (there apart)
+
+-- a page of a TD gets another BEPOCH
+module _ (m : Machine) (w : World) (t p : ℕ) (l : Lawful m w) (owned : is_host_in w.pages p ≡ false) where
+  abbrev blocked : Pages
+  blocked = (block_page t p w).pages
+
+  was_alive : (x : ℕ) → IsAlive blocked w.tds x → IsAlive w.pages w.tds x
+  was_alive x a = record { kind = a.kind; life = a.life }
+
+  is_alive : (x : ℕ) → IsAlive w.pages w.tds x → IsAlive blocked w.tds x
+  is_alive x a = record { kind = a.kind; life = a.life }
+
+  page_still : (x q : ℕ) (k : PageKind) → IsPageOf w.pages x q k → IsPageOf blocked x q k
+  page_still x q k h = record { kind = h.kind; owner = h.owner }
+
+  node_still : (x q : ℕ) (k : PageKind) (j n : ℕ) → IsNodeOf w.pages x q k j n → IsNodeOf blocked x q k j n
+  node_still x q k j n h = record { page = page_still x q k h.page; level_is = h.level_is; number_is = h.number_is }
+
+  pub block_kept : Lawful m (block_page t p w)
+  block_kept = record {
+    size = l.size;
+    pages = record {
+      tdr = l.pages.tdr;
+      owner = l.pages.owner;
+      in_machine = l.pages.in_machine;
+      host = λ q h. (
+        (l.pages.host q h).0,
+        by_test (q == p)
+            (λ y. absurd (let no : true ≡ false = sym h ∙ (ap (is_host_in w.pages) (eqb-true q p y) ∙ owned) in cc))
+            (λ n. rw n (l.pages.host q h).1),
+      );
+      blocked = λ q. by_test (q == p) (λ y. rw y (l.tds.epoch t)) (λ n. rw n (l.pages.blocked q));
+    };
+    tds = record {
+      controls = λ x a. controls_as w.pages blocked x (λ q. page_still x q kind.Tdcx) (w.tds.controls x) (l.tds.controls x (was_alive x a));
+      vps = λ x a. pages_as w.pages blocked x kind.Tdvpr (λ q. page_still x q kind.Tdvpr) (w.tds.vps x) (l.tds.vps x (was_alive x a));
+      vps_few = l.tds.vps_few;
+      vps_differ = l.tds.vps_differ;
+      vps_expected = l.tds.vps_expected;
+      streams = λ x a. pages_as w.pages blocked x kind.Migsc (λ q. page_still x q kind.Migsc) (w.tds.streams x) (l.tds.streams x (was_alive x a));
+      streams_few = l.tds.streams_few;
+      streams_differ = l.tds.streams_differ;
+      epoch = l.tds.epoch;
+      epoch_begun = l.tds.epoch_begun;
+    };
+    lists = record {
+      control = λ q e a. l.lists.control q e (was_alive (w.pages.owners q) a);
+      vp = λ q e a. l.lists.vp q e (was_alive (w.pages.owners q) a);
+      stream = λ q e a. l.lists.stream q e (was_alive (w.pages.owners q) a);
+      index = λ x i v a. l.lists.index x i v (was_alive x a);
+    };
+    tree = record {
+      entry = l.tree.entry;
+      upper = λ x j n a h. (let u = l.tree.upper x j n (was_alive x a) h in (u.0, node_still x _ kind.Ept (suc j) n u.1));
+      lowest = λ x n a h. (let u = l.tree.lowest x n (was_alive x a) h in (u.0, node_still x _ kind.Reg 0 n u.1));
+      below = λ x j n few a. l.tree.below x j n few (was_alive x a);
+      in_range = l.tree.in_range;
+      named = λ q k a. l.tree.named q k (was_alive (w.pages.owners q) a);
+    };
+    keys = record {
+      in_range = λ x a. l.keys.in_range x (was_alive x a);
+      owner = λ x a. l.keys.owner x (was_alive x a);
+      owned = λ h x e. (let o = l.keys.owned h x e in (is_alive x o.0, o.1));
+      flushed = λ x a. l.keys.flushed x (was_alive x a);
+    };
+    beginnings = record { is_new = λ x a n. l.beginnings.is_new x (was_alive x a) n };
+    counts = counts_kept m.pages w.pages blocked w.tds w.tds w.streams was_alive (λ x. refl) (λ x a f of q. refl) l.counts;
   }

@@ -1,7 +1,7 @@
 -- What the act of each row, and a count step, keep of epochs and associations.
-use Rattle.std.proofs.Common.{◌≡◌, ◌⊎◌, inl, inr, refl, sym, ◌∙◌, subst, ap, ℕ, suc, ◌≤◌, [], ◌∷◌, Option, Some, None, true, false, ◌==◌, arith}
+use Rattle.std.proofs.Common.{◌≡◌, ◌⊎◌, inl, inr, refl, sym, ◌∙◌, subst, ap, ℕ, suc, ◌-◌, ◌≤◌, [], ◌∷◌, Option, Some, None, true, false, ◌==◌, arith}
 use Rattle.std.specs.List.{list_any}
-use Rattle.std.proofs.lemmas.Bool.{eqb-true, and_parts}
+use Rattle.std.proofs.lemmas.Bool.{eqb-true, eqb-false, and_parts}
 use Rattle.td_words.specs.declared.names.PageKind.{PageKind}
 use Rattle.td_words.specs.declared.names.PageKind.TheVariants as kind
 use Rattle.td_words.specs.declared.names.LifeState.{LifeState}
@@ -11,17 +11,18 @@ use Rattle.td_words.specs.declared.names.OpState.TheVariants as op
 use Rattle.td_words.specs.declared.calls.Call.{Call}
 use Rattle.td_words.specs.declared.calls.Call.TheVariants as call
 use Rattle.td_words.specs.NameNumber.{life_number, op_number}
-use Rattle.flat_core.specs.World.{World, Pages}
+use Rattle.flat_core.specs.World.{World, Pages, Tds, Vps}
 use Rattle.flat_core.specs.Opening.{Opening}
 use Rattle.flat_core.specs.Row.{Passes}
-use Rattle.flat_core.specs.Conditions.{associated_in, same_kind, running_ops}
-use Rattle.flat_core.specs.Effects.{take_node, leave_guest}
-use Rattle.flat_core.specs.Tree.{number_at}
+use Rattle.flat_core.specs.Conditions.{associated_in, same_kind, running_ops, augmented_ops}
+use Rattle.flat_core.specs.Effects.{take_node, unmap_page, end_memory, leave_guest}
+use Rattle.flat_core.specs.Tree.{page_of_gpa, number_at}
 use Rattle.flat_core.specs.Table.{row_of}
 use Rattle.flat_core.specs.Alike.{is_being_built}
 use Rattle.flat_core.specs.Lawful.{Lawful, IsAlive, IsPageOf}
 use Rattle.flat_core.specs.Access.{LawfulEpochs}
 use Rattle.flat_core.proofs.Tests.{by_test, host_kind, tdr_kind}
+use Rattle.flat_core.proofs.Trackings.{none_at}
 use Rattle.flat_core.proofs.Spared.{not_configured, counted}
 
 -- a virtual processor as it was, or one that is new
@@ -84,6 +85,23 @@ module _ (o : Opening) (w : World) (la : Lawful o.machine w) (le : LawfulEpochs 
 
     page-was : (t v : ℕ) → (v == q) ≡ false → IsPageOf w'.pages t v kind.Tdvpr → IsPageOf w.pages t v kind.Tdvpr
     page-was t v n pa = record { kind = sym (kind-at v n) ∙ pa.kind; owner = sym (owner-at v n) ∙ pa.owner }
+
+  -- a page leaves the map
+  unmapped-epochs : (w1 : World) (u level n : ℕ) → w1.pages ≡ w.pages → w1.tds ≡ w.tds → w1.vps ≡ w.vps → LawfulEpochs (unmap_page u level n w1)
+  unmapped-epochs w1 u level n pg td vp =
+      let q : ℕ = (w1.tds.entries u level n).page in
+      let w' : World = unmap_page u level n w1 in
+      let here : w'.pages ≡ (take_node q kind.Nda 0 0 0 w).pages = ap (λ (z : Pages). (take_node q kind.Nda 0 0 0 (record w { pages = z })).pages) pg in
+      let lasts = ap (λ (z : Vps). z.lasts) vp in
+      let entered = ap (λ (z : Vps). z.entered) vp in
+      let assoc = ap (λ (z : Vps). z.associated) vp in
+      let tdr-off : (t : ℕ) → w'.pages.kinds t ≡ kind.Tdr → (t == q) ≡ false = λ t k. by_test (t == q) (λ y. absurd (let no : kind.Nda ≡ kind.Tdr = kind-here q kind.Nda 0 0 0 w' here t k y in cc)) (λ z. z) in
+      le-frame w w' le
+      (λ t v k pa. let a = tdr-off t k in
+      let b = page-off q kind.Nda 0 0 0 w' here v t pa (λ e. cc) in
+      old (sym (kind-at q kind.Nda 0 0 0 w' here t a) ∙ k) (page-was q kind.Nda 0 0 0 w' here t v b pa) (ap (λ (z : ℕ → ℕ). z v) lasts) (ap (λ (z : ℕ → Option ℕ). z v) entered) (ap (λ (z : ℕ → Option ℕ). z v) assoc)
+      (inl (ap (λ (z : Tds). z.epochs t) td)) (λ p n l b. (ap (λ (z : Tds). z.lives t) td ∙ l, ap (λ (z : Tds). is_being_built (z.ops t)) td ∙ b)))
+      (λ t k e. ap (λ (z : Tds). z.epochs t) td ∙ le.early t (sym (kind-at q kind.Nda 0 0 0 w' here t (tdr-off t k)) ∙ k) (sym (ap (λ (z : Tds). z.ops t) td) ∙ e))
 
   pub row-epochs : (me : ℕ) (c : Call) → Passes ((row_of o me c).items w) → LawfulEpochs ((row_of o me c).act w)
   row-epochs me (call.PhymemPageReclaim u page) ps =
@@ -182,6 +200,14 @@ module _ (o : Opening) (w : World) (la : Lawful o.machine w) (le : LawfulEpochs 
       built op.Uninitialized e = cc
       built op.Initialized e = cc
       built _ e = refl
+  row-epochs me (call.VpFlush u v) ps = record {
+    last = λ t x k pa. le.last t x k (record { kind = pa.kind; owner = pa.owner });
+    near = λ t x e k pa n. le.near t x e k (record { kind = pa.kind; owner = pa.owner }) n;
+    bound = λ t x p k pa n. by_test (x == v) (λ y. let no : None ≡ Some p = rw y at n in cc) (λ y. le.bound t x p k (record { kind = pa.kind; owner = pa.owner }) (rw y at n));
+    early = λ t k e. le.early t k e;
+  }
+  row-epochs me (call.MemSeptRemove u gpa level) ps = unmapped-epochs w u level (number_at level gpa) refl refl refl
+  row-epochs me (call.MemPageRemove u gpa) ps = unmapped-epochs (end_memory u (page_of_gpa gpa) w) u 0 (number_at 0 gpa) refl refl refl
   row-epochs me (call.MemSeptAdd u gpa level page) ps =
       let w' : World = (row_of o me (call.MemSeptAdd u gpa level page)).act w in
       let n = number_at level gpa in
@@ -206,6 +232,41 @@ module _ (o : Opening) (w : World) (la : Lawful o.machine w) (le : LawfulEpochs 
       let b = page-off page kind.Reg u 0 n w' refl v t pa (λ e. cc) in
       old (sym (kind-at page kind.Reg u 0 n w' refl t a) ∙ k) (page-was page kind.Reg u 0 n w' refl t v b pa) refl refl refl (inl refl) (λ p n l b. (l, b)))
       (λ t k e. le.early t (sym (kind-at page kind.Reg u 0 n w' refl t (by_test (t == page) (λ y. absurd (let no : kind.Reg ≡ kind.Tdr = kind-here page kind.Reg u 0 n w' refl t k y in cc)) (λ z. z))) ∙ k) e)
+  row-epochs me (call.MemRangeBlock u gpa level) ps =
+      le-frame w _ le
+      (λ t v k pa. old k (record { kind = pa.kind; owner = pa.owner }) refl refl refl (inl refl) (λ p n l b. (l, b)))
+      (λ t k e. le.early t k e)
+  row-epochs me (call.MemTrack u) ps =
+      let runs = ps.1.1.1.1.0 in record {
+        last = λ t v k pa. (let low = le.last t v k (record { kind = pa.kind; owner = pa.owner }) in by_test (t == u)
+            (λ y. let same : w.tds.epochs t ≡ w.tds.epochs u = ap w.tds.epochs (eqb-true t u y) in rw y (omega (arith, low, same)))
+            (λ n. rw n low));
+        near = λ t v e k pa n. (let near = le.near t v e k (record { kind = pa.kind; owner = pa.owner }) n in by_test (t == u)
+            (λ y. let here = eqb-true t u y in
+            let same : w.tds.epochs t ≡ w.tds.epochs u = ap w.tds.epochs here in
+            let live : w.tds.lives u ≡ life.KeysConfigured = live (w.tds.lives u) ps.1.1.0 in
+            let alive : IsAlive w.pages w.tds t = record { kind = k; life = ap (λ (z : ℕ). life_number (w.tds.lives z) == life_number life.Teardown) here ∙ rw live refl } in
+            let listed : list_any (λ q. q == v) (w.tds.vps u) ≡ true = subst (λ (z : ℕ). list_any (λ q. q == v) (w.tds.vps z) ≡ true) (pa.owner ∙ here) (la.lists.vp v pa.kind (subst (λ (z : ℕ). IsAlive w.pages w.tds z) (sym pa.owner) alive)) in
+            let not_before : (e ≡ w.tds.epochs u - 1) → ⊥ = λ q. none_at w.vps.entered (w.tds.epochs u - 1) v (w.tds.vps u) (eqb-true _ 0 ps.1.1.1.1.1.1.0) listed (n ∙ ap (λ (z : ℕ). Some z) q) in
+            let low = near.0 in let high = near.1 in
+            let now : e ≡ w.tds.epochs u = by_test (e == w.tds.epochs u - 1)
+            (λ z. absurd (not_before (eqb-true e _ z)))
+            (λ z. let other = eqb-false e (w.tds.epochs u - 1) z in omega (arith, low, high, same, other)) in
+            rw y (omega (arith, now), omega (arith, now)))
+            (λ z. rw z near));
+        bound = λ t v p k pa n. le.bound t v p k (record { kind = pa.kind; owner = pa.owner }) n;
+        early = λ t k e. by_test (t == u)
+            (λ y. absurd (started (w.tds.ops u) runs (ap w.tds.ops (sym (eqb-true t u y)) ∙ e)))
+            (λ n. rw n (le.early t k e));
+      }
+    where
+      live : (s : LifeState) → list_any (λ b. life_number b == life_number s) (life.KeysConfigured ∷ []) ≡ true → s ≡ life.KeysConfigured
+      live life.KeysConfigured e = refl
+      live _ e = cc
+
+      started : (s : OpState) → list_any (λ b. op_number b == op_number s) augmented_ops ≡ true → s ≡ op.Uninitialized → ⊥
+      started op.Uninitialized e h = cc
+      started _ e h = cc
   row-epochs me (call.HostRead page i) ps = le
   row-epochs me _ ps = quiet-epochs _ refl refl refl refl refl refl refl
 

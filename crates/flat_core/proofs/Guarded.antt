@@ -22,9 +22,9 @@ use Rattle.flat_core.specs.Processor.{Translation, Walk, Guest, new_guest}
 use Rattle.flat_core.specs.Opening.{Opening}
 use Rattle.flat_core.specs.Row.{Passes}
 use Rattle.flat_core.specs.Conditions.{is_elsewhere, same_kind, running_ops}
-use Rattle.flat_core.specs.Effects.{leave_guest}
+use Rattle.flat_core.specs.Effects.{leave_guest, end_association}
 use Rattle.flat_core.specs.Tree.{page_of_gpa, number_at, entry_at, same_state, allows, may_read, may_write}
-use Rattle.flat_core.specs.Translations.{cache, is_stale, cache_at_entry}
+use Rattle.flat_core.specs.Translations.{cache, is_stale, cache_at_entry, drop_td}
 use Rattle.flat_core.specs.Guest.{walk_level, walked_entry, translation_of}
 use Rattle.flat_core.specs.Table.{row_of}
 use Rattle.flat_core.specs.Alike.{is_being_built}
@@ -169,6 +169,30 @@ module _ (o : Opening) (me u v most : ℕ) (w : World) (la : Lawful o.machine w)
           (λ y. absurd (let own : c.tdr ≡ u = sym h.page.owner ∙ (ap w.pages.owners (eqb-true x v y) ∙ v-page.owner) in let on : (u == c.tdr) ≡ true = eq-eqb u c.tdr (sym own) in let no : true ≡ false = sym on ∙ other in cc)) (λ z. z) in
           let last' : w.vps.lasts x ≡ w.tds.epochs c.tdr = (let z : w'.vps.lasts x ≡ w.vps.lasts x = rw off refl in sym z ∙ last) in
           current-now c e (a.usable c e (was-in c i).0 (outside x tt (was-here c.tdr x off h) last' at))
+
+-- VP.FLUSH on its own processor: what is left in the list is of other TDs
+module _ (o : Opening) (me u v : ℕ) (w : World) (le : LawfulEpochs w) (cs : List Translation) (ps : Passes ((row_of o me (call.VpFlush u v)).items w)) (a : LawfulTranslations w me cs None) where
+  pub flush-access : LawfulTranslations (end_association v w) me (drop_td u cs) None
+  flush-access =
+      let owner : w.pages.owners v ≡ u = eqb-true _ u (and_parts (same_kind (w.pages.kinds v) kind.Tdvpr) (w.pages.owners v == u) ps.1.1.1.1.1.0).1 in
+      record {
+        associated = λ c i.
+            let d = dropped u cs c i in
+            let h = a.associated c d.0 in
+            let n : (h.0 == v) ≡ false = by_test (h.0 == v)
+            (λ y. absurd (let same : c.tdr ≡ u = sym h.1.page.owner ∙ (ap w.pages.owners (eqb-true h.0 v y) ∙ owner) in let no : true ≡ false = sym (eq-eqb c.tdr u same) ∙ d.1 in cc))
+            (λ z. z) in
+            (h.0, record { tdr = h.1.tdr; life = h.1.life; page = record { kind = h.1.page.kind; owner = h.1.page.owner }; associated = rw n (h.1.associated) });
+        newest = λ g e x is n h. cc;
+        usable = λ c e i us. current-same w (end_association v w) c e refl refl refl (a.usable c e (dropped u cs c i).0 (used-before c.tdr e us));
+        walk = λ g k e is at n. cc;
+      }
+    where
+      used-before : (t e : ℕ) → IsUsable (end_association v w) me None t e → IsUsable w me None t e
+      used-before t e (inside g is td n) = cc
+      used-before t e (outside x other h last at) =
+          let was : w.vps.associated x ≡ Some me = by_test (x == v) (λ y. absurd (let no : None ≡ Some me = rw y at h.associated in cc)) (λ z. rw z at h.associated) in
+          outside x tt (record { tdr = h.tdr; life = h.life; page = record { kind = h.page.kind; owner = h.page.owner }; associated = was }) last at
 
 -- a guest's own changes
 

@@ -4,6 +4,20 @@ use Rattle.flat_core.specs.GuestWorked.{GuestExamples}
 
 pub guest_examples : GuestExamples
 guest_examples = record {
+  epoch_waits = refl;
+  tracked_after_exit = refl;
+  used_until_exit = refl;
+  removed_after_exit_0 = refl;
+  removed_after_exit_1 = refl;
+  sept_after_exit_0 = refl;
+  sept_after_exit_1 = refl;
+  moved_0 = refl;
+  moved_1 = refl;
+  flushed_0 = refl;
+  flushed_1 = refl;
+  flushed_in_guest = refl;
+  flushed_elsewhere = refl;
+  flush_events = refl;
   exits = refl;
   stop_before_max = refl;
   sums = refl;

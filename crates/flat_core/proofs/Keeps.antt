@@ -1,5 +1,5 @@
 -- Each row's act keeps what every world keeps.
-use Rattle.std.proofs.Common.{lit<, lit≤, ◌≡◌, ◌≢◌, refl, sym, ◌∙◌, subst, ap, ℕ, zero, suc, ◌*◌, ◌^◌, ◌<◌, ◌≤◌, List, [], ◌∷◌, length, Option, Some, None, Bool, true, false, not, ◌==◌, ◌&&◌, nat_lt, nat_le, arith}
+use Rattle.std.proofs.Common.{lit<, lit≤, ◌≡◌, ◌≢◌, refl, sym, ◌∙◌, subst, ap, ℕ, zero, suc, ◌+◌, ◌-◌, ◌*◌, ◌^◌, ◌<◌, ◌≤◌, List, [], ◌∷◌, length, Option, Some, None, Bool, true, false, not, ◌==◌, ◌&&◌, nat_lt, nat_le, arith}
 use Rattle.std.specs.List.{list_any}
 use Rattle.std.proofs.lemmas.Bool.{eqb-true, not-true, and_parts, ltb-true}
 use Rattle.std.proofs.Math.Nat.{lt_of_le_of_lt, div-mul-le_self}
@@ -21,21 +21,25 @@ use Rattle.td_words.specs.Packing.{Key, Unassigned, AssignedTo, FlushedOf}
 use Rattle.flat_core.specs.World.{World, Pages, Tds, Streams, KeyTable, put, first_world}
 use Rattle.flat_core.specs.Opening.{Opening}
 use Rattle.flat_core.specs.Row.{Passes}
-use Rattle.flat_core.specs.Conditions.{is_free_key, is_host, vp_limit, host_page, page_exclusive}
+use Rattle.flat_core.specs.Conditions.{same_kind, is_free_key, is_host, vp_limit, host_page, page_exclusive}
 use Rattle.flat_core.specs.Arguments.{level_size}
-use Rattle.flat_core.specs.Tree.{page_of_gpa, number_at, entry_at, same_state, state_in}
-use Rattle.flat_core.specs.Effects.{new_td, set_page, clear_page, take_page, map_page, begin_memory, end_memory_in, set_op, set_epoch, end_measurement}
+use Rattle.flat_core.specs.Tree.{page_of_gpa, number_at, entry_at, same_state, state_in, empty_below}
+use Rattle.flat_core.specs.Effects.{new_td, set_page, clear_page, take_page, map_page, begin_memory, end_memory_in, set_state, unmap_page, set_op, set_epoch, end_measurement}
+use Rattle.flat_core.specs.Tracking.{tracked_page}
 use Rattle.flat_core.specs.HostRows.{host_read, host_write, read_metadata}
 use Rattle.flat_core.specs.TdRows.{create, configure_key, add_tdcx, initialize, read_td, finalize}
 use Rattle.flat_core.specs.KeyRows.{write_caches_back, reclaim_conditions, reclaim_page, end_flush, free_hkid}
-use Rattle.flat_core.specs.VpRows.{create_vp, initialize_vp, enter_vp}
-use Rattle.flat_core.specs.MemRows.{add_sept, read_sept, add_page, augment_page, chunk_bytes, extend}
+use Rattle.flat_core.specs.VpRows.{create_vp, initialize_vp, enter_vp, flush_vp}
+use Rattle.flat_core.specs.MemRows.{add_sept, read_sept, add_page, augment_page, remove_page, remove_sept, removed_states, open_states, blocked_states, blocked_state, unblocked_state, block_range, unblock_range, advance_epoch, chunk_bytes, extend}
 use Rattle.flat_core.specs.Table.{row_of}
 use Rattle.flat_core.specs.Lawful.{IsAlive, AreControls, ArePagesOf, LawfulPages, LawfulTds, IsListed, LawfulLists, LawfulTree, LawfulKeys, LawfulBeginnings, LawfulCounts, Lawful, IsNew, RowKeeps, is_free, is_named_kind, key_owner}
 use Rattle.flat_core.proofs.Tests.{by_test, host_kind, tdr_kind, range_of, some_same, same_self}
 use Rattle.flat_core.proofs.Pages.{taken, other, taken_node, taken_controls, taken_list, unowned, taken_pages}
 use Rattle.flat_core.proofs.Exports.{counts_of, new_counted, counted_still, taken_where}
-use Rattle.flat_core.proofs.Maps.{kind_named, is_upper, map_kept, walk_passed}
+use Rattle.flat_core.proofs.Maps.{kind_named, named_owned, node_named, is_upper, map_kept, walk_passed}
+use Rattle.flat_core.proofs.EntryStates.{state_kept, block_kept}
+use Rattle.flat_core.proofs.Ranges.{named_passed, named_alive, block_restates, unblock_restates, page_removed, sept_removed}
+use Rattle.flat_core.proofs.Removals.{empty_at, unmapped_kept}
 use Rattle.flat_core.proofs.Parts.{IsLive, LawfulBut, untouched, new_kept, write_back_kept, life_kept, flush_kept, op_kept, epoch_kept, begin_kept, measure_kept, end_kept, control_kept, vp_kept, taken_kept, ended_kept, left_kept}
 
 pub host_read-keeps : (m : Machine) (page i : ℕ) → RowKeeps m (host_read m page i)
@@ -355,6 +359,10 @@ initialize_vp-keeps m t v x = record { act = λ w l ps. untouched m w _ refl l; 
 pub enter_vp-keeps : (m : Machine) (me t v most : ℕ) → RowKeeps m (enter_vp m me t v most)
 enter_vp-keeps m me t v most = record { act = λ w l ps. untouched m w _ refl l; to_tell = λ w. refl }
 
+-- VP.FLUSH changes an association
+pub flush_vp-keeps : (m : Machine) (me t v : ℕ) → RowKeeps m (flush_vp m me t v)
+flush_vp-keeps m me t v = record { act = λ w l ps. untouched m w _ refl l; to_tell = λ w. refl }
+
 -- the number of the entry that maps a GPA
 within : (gpa level : ℕ) → nat_lt gpa (2 ^ 47) ≡ true → number_at level gpa * level_size level < 2 ^ 47
 within gpa level h = lt_of_le_of_lt (div-mul-le_self gpa (level_size level)) (ltb-true gpa (2 ^ 47) h)
@@ -411,6 +419,57 @@ augment_page-keeps m t gpa p = record {
   to_tell = λ w. refl;
 }
 
+-- MEM.RANGE.BLOCK, MEM.RANGE.UNBLOCK and MEM.TRACK
+pub block_range-keeps : (m : Machine) (t gpa level : ℕ) → RowKeeps m (block_range m t gpa level)
+block_range-keeps m t gpa level = record {
+  act = λ w l ps.
+      let p = named_passed w t gpa level open_states [] ps.1.1.1.1 in
+      let r = block_restates (entry_at w t level gpa).state p.state in
+      let node = node_named m w l t level (number_at level gpa) (named_alive w t gpa level open_states [] p) r.used in
+      let owned : is_host w (entry_at w t level gpa).page ≡ false = ap (λ (k : PageKind). same_kind k kind.Nda) node.page.kind ∙ named_owned level in
+      block_kept m (set_state t level (number_at level gpa) (blocked_state (entry_at w t level gpa).state) w) t (entry_at w t level gpa).page
+      (state_kept m w t level (number_at level gpa) (blocked_state (entry_at w t level gpa).state) l r.used r.unmarked r.still_used r.same_level r.still_unmarked) owned;
+  to_tell = λ w. refl;
+}
+
+pub unblock_range-keeps : (m : Machine) (t gpa level : ℕ) → RowKeeps m (unblock_range m t gpa level)
+unblock_range-keeps m t gpa level = record {
+  act = λ w l ps.
+      let p = named_passed w t gpa level blocked_states (tracked_page w t (entry_at w t level gpa).page ∷ []) ps.1.1.1.1 in
+      let r = unblock_restates (entry_at w t level gpa).state p.state in
+      state_kept m w t level (number_at level gpa) (unblocked_state (entry_at w t level gpa).state) l r.used r.unmarked r.still_used r.same_level r.still_unmarked;
+  to_tell = λ w. refl;
+}
+
+pub advance_epoch-keeps : (m : Machine) (t : ℕ) → RowKeeps m (advance_epoch m t)
+advance_epoch-keeps m t = record {
+  act = λ w l ps. (let room : w.tds.epochs t < 2 ^ 32 - 1 = ltb-true _ _ ps.1.1.1.1.1.0 in
+      epoch_kept m w t ps.1.1.1.0 l (w.tds.epochs t + 1) (omega arith) (omega (arith, room)));
+  to_tell = λ w. refl;
+}
+
+-- MEM.PAGE.REMOVE and MEM.SEPT.REMOVE
+pub remove_page-keeps : (m : Machine) (t gpa : ℕ) → RowKeeps m (remove_page m t gpa)
+remove_page-keeps m t gpa = record {
+  act = λ w l ps.
+      let rest = tracked_page w t (entry_at w t 0 gpa).page ∷ [] in
+      let p = named_passed w t gpa 0 removed_states rest ps.1.1.1 in
+      let r = page_removed (entry_at w t 0 gpa).state p.state in
+      untouched m (unmap_page t 0 (number_at 0 gpa) w) _ refl
+      (unmapped_kept m w t 0 (number_at 0 gpa) l (named_alive w t gpa 0 removed_states rest p) r.used r.unmarked (λ j n e. cc));
+  to_tell = λ w. refl;
+}
+
+pub remove_sept-keeps : (m : Machine) (t gpa level : ℕ) → RowKeeps m (remove_sept m t gpa level)
+remove_sept-keeps m t gpa level = record {
+  act = λ w l ps.
+      let rest = empty_below w t gpa level ∷ tracked_page w t (entry_at w t level gpa).page ∷ [] in
+      let p = named_passed w t gpa level (entry.NlBlocked ∷ []) rest ps.1.1.1.1 in
+      let r = sept_removed (entry_at w t level gpa).state p.state in
+      unmapped_kept m w t level (number_at level gpa) l (named_alive w t gpa level (entry.NlBlocked ∷ []) rest p) r.used r.unmarked (empty_at w t gpa level p.rest_holds.0);
+  to_tell = λ w. refl;
+}
+
 -- MR.EXTEND
 pub extend-keeps : (m : Machine) (t gpa : ℕ) → RowKeeps m (extend m t gpa)
 extend-keeps m t gpa = record {
@@ -436,10 +495,16 @@ row-keeps o me (call.MrFinalize t) = finalize-keeps o.machine t
 row-keeps o me (call.VpCreate t page) = create_vp-keeps o.machine t page
 row-keeps o me (call.VpInit t v x) = initialize_vp-keeps o.machine t v x
 row-keeps o me (call.VpEnter t v most) = enter_vp-keeps o.machine me t v most
+row-keeps o me (call.VpFlush t v) = flush_vp-keeps o.machine me t v
 row-keeps o me (call.MemSeptAdd t gpa level page) = add_sept-keeps o.machine t gpa level page
 row-keeps o me (call.MemSeptRd t gpa level) = read_sept-keeps o.machine t gpa level
+row-keeps o me (call.MemSeptRemove t gpa level) = remove_sept-keeps o.machine t gpa level
 row-keeps o me (call.MemPageAdd t gpa page source) = add_page-keeps o.machine t gpa page source
 row-keeps o me (call.MemPageAug t gpa page) = augment_page-keeps o.machine t gpa page
+row-keeps o me (call.MemPageRemove t gpa) = remove_page-keeps o.machine t gpa
+row-keeps o me (call.MemRangeBlock t gpa level) = block_range-keeps o.machine t gpa level
+row-keeps o me (call.MemRangeUnblock t gpa level) = unblock_range-keeps o.machine t gpa level
+row-keeps o me (call.MemTrack t) = advance_epoch-keeps o.machine t
 
 pub first-lawful : (m : Machine) (words_to_tell : Option (List ℕ)) → Lawful m (first_world m.pages words_to_tell)
 first-lawful m ws = record {

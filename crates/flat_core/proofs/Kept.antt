@@ -22,7 +22,7 @@ use Rattle.flat_core.specs.Tree.{number_at, entry_at, same_state}
 use Rattle.flat_core.specs.Effects.{set_entry, set_rtmr, leave_guest, tell_words}
 use Rattle.flat_core.specs.Guest.{ByRow, operation_of, is_pending_at, accept_page, extended_rtmr, reach}
 use Rattle.flat_core.specs.Event.{State, Event, OfCall, OfOperation, Walks, Reaches, Leaves, next_event, after_event}
-use Rattle.flat_core.specs.Lawful.{Lawful, is_free}
+use Rattle.flat_core.specs.Lawful.{Lawful, is_free, is_node}
 use Rattle.flat_core.specs.Guests.{IsOccupied}
 use Rattle.flat_core.specs.Inside.{LineAt, StandsAt, IsTimely}
 use Rattle.flat_core.specs.Laws.{GuestRuns, EventsKeepLawful, OthersStay, QuietEventsStay, NoWordsToTell}
@@ -52,7 +52,7 @@ accept_lawful m t gpa w l =
     accepted (Lawful m) (is_pending_at w t gpa) t gpa w
     (λ e. let pending : (entry_at w t 0 gpa).state ≡ entry.Pending = is_pending _ e in
     untouched m (set_entry t 0 (number_at 0 gpa) (record { state = entry.Mapped; page = (entry_at w t 0 gpa).page; mark = 0 }) w) _ refl
-    (state_kept m w t (number_at 0 gpa) entry.Mapped l (ap is_free pending) (ap is_exported pending) refl refl refl))
+    (state_kept m w t 0 (number_at 0 gpa) entry.Mapped l (ap is_free pending) (ap is_exported pending) refl (sym (ap is_node pending)) refl))
     (λ e. l)
 
 -- a TD that runs isn't new

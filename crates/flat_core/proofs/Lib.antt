@@ -8,6 +8,9 @@ pub mod Induction
 pub mod GuestWorked
 pub mod Operations
 pub mod EntryStates
+pub mod Ranges
+pub mod Removals
+pub mod Trackings
 pub mod Tries
 pub mod Keeps
 pub mod Mrtd

@@ -35,15 +35,23 @@ never_host : (l : ℕ) → kind_named l ≢ kind.Nda
 never_host zero e = cc
 never_host (suc l) e = cc
 
-named_kind : (l : ℕ) → is_named_kind (kind_named l) ≡ true
+pub named_owned : (l : ℕ) → same_kind (kind_named l) kind.Nda ≡ false
+named_owned zero = refl
+named_owned (suc l) = refl
+
+pub node_named : (m : Machine) (w : World) → Lawful m w → (t l n : ℕ) → IsAlive w.pages w.tds t → is_free (w.tds.entries t l n).state ≡ false → IsNodeOf w.pages t (w.tds.entries t l n).page (kind_named l) l n
+node_named m w lawful t zero n a e = (lawful.tree.lowest t n a e).1
+node_named m w lawful t (suc l) n a e = (lawful.tree.upper t l n a e).1
+
+pub named_kind : (l : ℕ) → is_named_kind (kind_named l) ≡ true
 named_kind zero = refl
 named_kind (suc l) = refl
 
 -- no page that a list has
-unlisted : (l : ℕ) (j : PageKind) → is_named_kind j ≡ false → kind_named l ≢ j
+pub unlisted : (l : ℕ) (j : PageKind) → is_named_kind j ≡ false → kind_named l ≢ j
 unlisted l j h e = let no : true ≡ false = sym (named_kind l) ∙ (ap is_named_kind e ∙ h) in cc
 
-never_tdr : (l : ℕ) → kind_named l ≢ kind.Tdr
+pub never_tdr : (l : ℕ) → kind_named l ≢ kind.Tdr
 never_tdr zero e = cc
 never_tdr (suc l) e = cc
 

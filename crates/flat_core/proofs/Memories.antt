@@ -1,5 +1,5 @@
 -- What guests know of their private pages is what the pages hold.
-use Rattle.std.proofs.Common.{lit≤, ◌≡◌, ◌≢◌, refl, sym, ◌∙◌, ap, subst, ℕ, ◌+◌, ◌≤◌, List, [], ◌∷◌, ◌++◌, length, Option, Some, None, option_map, Bool, true, false, not, ◌==◌, ◌&&◌, arith}
+use Rattle.std.proofs.Common.{lit≤, ◌≡◌, ◌≢◌, refl, sym, ◌∙◌, ap, subst, ℕ, suc, ◌+◌, ◌/◌, ◌≤◌, List, [], ◌∷◌, ◌++◌, length, Option, Some, None, option_map, Bool, true, false, not, ◌==◌, ◌&&◌, if◌then◌else◌, arith}
 use Rattle.std.proofs.lemmas.Bool.{eq-eqb, eqb-true, ne_eqb, and_parts}
 use Rattle.td_words.specs.declared.names.PageKind.{PageKind}
 use Rattle.td_words.specs.declared.names.PageKind.TheVariants as kind
@@ -15,17 +15,19 @@ use Rattle.std.proofs.lemmas.List.{append-nil}
 use Rattle.td_words.specs.declared.names.Access.{Access}
 use Rattle.td_words.specs.declared.names.Access.TheVariants.{Read, Write}
 use Rattle.td_words.specs.NameNumber.{life_number}
-use Rattle.td_words.specs.Packing.{Entry}
+use Rattle.td_words.specs.Packing.{Entry, is_exported}
 use Rattle.mrtd_measure.specs.Records.{page_record}
-use Rattle.flat_core.specs.World.{World, Tds, put}
+use Rattle.flat_core.specs.World.{World, Tds, put, free_entry}
 use Rattle.flat_core.specs.Processor.{Guest, LoadNote}
 use Rattle.flat_core.specs.Opening.{Opening, Incoming}
 use Rattle.flat_core.specs.Row.{OperationRow, Passes}
 use Rattle.flat_core.specs.Conditions.{is_host, host_page, page_exclusive}
-use Rattle.flat_core.specs.Tree.{page_of_gpa, word_of_gpa, number_at, entry_at, same_state, state_in}
-use Rattle.flat_core.specs.Effects.{put_in, stored_in, pass_operation, tell_words, set_word, set_page, clear_page, take_node, take_page, give_back, map_page, add_control, add_vp, measure, set_life, begin_memory, end_memory_in}
+use Rattle.flat_core.specs.Tree.{page_of_gpa, word_of_gpa, number_at, entry_at, same_state, state_in, empty_below}
+use Rattle.flat_core.specs.Effects.{put_in, stored_in, pass_operation, tell_words, set_word, set_page, clear_page, take_node, take_page, give_back, map_page, add_control, add_vp, measure, set_life, set_state, set_entry, unmap_page, begin_memory, end_memory, end_memory_in}
 use Rattle.flat_core.specs.TdRows.{create}
+use Rattle.flat_core.specs.Tracking.{tracked_page}
 use Rattle.flat_core.specs.KeyRows.{reclaim_conditions}
+use Rattle.flat_core.specs.MemRows.{open_states, blocked_states, removed_states}
 use Rattle.flat_core.specs.Table.{row_of}
 use Rattle.flat_core.specs.Guest.{ByRow, operation_of, shared_page, register_told, shared_store, is_pending_at, accept_page, reach, word_reached}
 use Rattle.flat_core.specs.Event.{State, Event, Reaches, next_event, after_event, event}
@@ -35,6 +37,9 @@ use Rattle.flat_core.specs.Access.{Names, is_pending}
 use Rattle.flat_core.specs.AccessLaw.{IsGuarded, MemoriesAreKept, known_word, Loads, Stores, IsOwnAccess, AccessesAreOwn}
 use Rattle.flat_core.proofs.Tests.{by_test, host_kind, tdr_kind, range_of, same_self}
 use Rattle.flat_core.proofs.Maps.{walk_passed}
+use Rattle.flat_core.proofs.EntryStates.{entry_set}
+use Rattle.flat_core.proofs.Ranges.{named_passed, named_alive, Restates, block_restates, unblock_restates, page_removed, sept_removed}
+use Rattle.flat_core.proofs.Removals.{empty_at, other_entry}
 use Rattle.flat_core.proofs.Parts.{IsLive}
 use Rattle.flat_core.proofs.Keeps.{live_of, ended_of, free_of}
 use Rattle.flat_core.proofs.Induction.{in_runs}
@@ -169,6 +174,29 @@ module _ (m : Machine) (w : World) (l : Lawful m w) (h : ArePagesKnown w) where
       (λ z. known_beside v q x n host before (λ p e. refl) refl (rw (y, z) (ap (λ (z : ℕ). w.tds.entries z 0 n) (sym (eqb-true x t y))))))
       (λ y. known_beside v q x n host before (λ p e. refl) refl (rw y refl))
 
+  -- MEM.RANGE.BLOCK and MEM.RANGE.UNBLOCK: the page holds the guest's memory as before
+  restated_known : (t level number : ℕ) (s : EntryState) → Restates (w.tds.entries t level number).state s → (x n : ℕ) → IsAlive w.pages w.tds x
+      → w.hidden.memories x n ≡ memory_of ((set_state t level number s w).tds.entries x 0 n) w.words
+  restated_known t level number s r x n a =
+      let was : Entry = w.tds.entries t level number in
+      entry_set w t level number (record { state = s; page = was.page; mark = 0 }) (λ e. w.hidden.memories x n ≡ memory_of e w.words) x 0 n
+      (λ i j k. let at : w.tds.entries x 0 n ≡ was = ap (λ (z : ℕ). w.tds.entries z 0 n) i ∙ (ap (λ (z : ℕ). w.tds.entries t z n) j ∙ ap (λ (z : ℕ). w.tds.entries t level z) k) in
+      h x n a ∙ (ap (λ (e : Entry). memory_of e w.words) at ∙ ap (λ (b : Bool). if b then Some (w.words was.page) else None) (sym r.same_memory)))
+      (λ apart. h x n a)
+
+  -- MEM.PAGE.REMOVE and MEM.SEPT.REMOVE: where the page was a private one, its memory ends
+  unmapped_known : (t level number : ℕ) (v : World) → IsAlive w.pages w.tds t → is_free (w.tds.entries t level number).state ≡ false → is_exported (w.tds.entries t level number).state ≡ false
+      → ((j n : ℕ) → suc j ≡ level → n / 512 ≡ number → is_free (w.tds.entries t j n).state ≡ true) → v.tds ≡ (set_entry t level number free_entry w).tds
+      → v.words ≡ put w.words (w.tds.entries t level number).page (λ i. 0) → (0 ≡ level → v.hidden.memories t number ≡ None)
+      → ((x n : ℕ) → (x ≡ t → 0 ≡ level → n ≡ number → ⊥) → v.hidden.memories x n ≡ w.hidden.memories x n) → (x n : ℕ) → IsAlive w.pages w.tds x → v.hidden.memories x n ≡ memory_of (v.tds.entries x 0 n) v.words
+  unmapped_known t level number v alive used unmarked empty td words here there x n a =
+      let says : v.hidden.memories x n ≡ memory_of ((set_entry t level number free_entry w).tds.entries x 0 n) v.words =
+      entry_set w t level number free_entry (λ e. v.hidden.memories x n ≡ memory_of e v.words) x 0 n
+      (λ i j k. subst (λ (z : ℕ). v.hidden.memories z n ≡ None) (sym i) (subst (λ (z : ℕ). v.hidden.memories t z ≡ None) (sym k) (here j)))
+      (λ off. there x n off ∙ (h x n a ∙ sym (same_memory (w.tds.entries x 0 n) w.words v.words (λ e. let other = other_entry m w t level number l alive used unmarked empty x 0 n a e off in
+      ap (λ (z : ℕ → ℕ → ℕ). z (w.tds.entries x 0 n).page) words ∙ rw other refl)))) in
+      subst (λ (z : Tds). v.hidden.memories x n ≡ memory_of (z.entries x 0 n) v.words) (sym td) says
+
 row_known : (o : Opening) (me : ℕ) (c : Call) (w : World) → Lawful o.machine w → ArePagesKnown w → Passes ((row_of o me c).items w) → ArePagesKnown ((row_of o me c).act w)
 row_known o me (call.HostWrite page i v) w l h ps x n a = known_beside o.machine w l h (set_word page i v w) page x n (host_kind _ ps.1.1.0) a (λ p e. words_stay w.words page i v p e) refl refl
 row_known o me (call.PhymemPageReclaim t page) w l h ps x n a =
@@ -196,6 +224,32 @@ row_known o me (call.MemPageAdd t gpa page source) w l h ps x n a =
 row_known o me (call.MemPageAug t gpa page) w l h ps x n a =
     let behind = walk_passed w t gpa (state_in w t gpa 0 (entry.Free ∷ []) ∷ page_exclusive page ∷ host_page w page ∷ []) 0 (lit≤ tt) ps.1.1.1.1.1.1.1.1.1 in
     augmented_known o.machine w l h t (page_of_gpa gpa) page (host_kind _ behind.0.1.0) (free_of (entry_at w t 0 gpa).state behind.0.0) x n a
+row_known o me (call.MemPageRemove t gpa) w l h ps x n a =
+    let rest = tracked_page w t (entry_at w t 0 gpa).page ∷ [] in
+    let q = named_passed w t gpa 0 removed_states rest ps.1.1.1 in
+    let r = page_removed (entry_at w t 0 gpa).state q.state in
+    let v : World = unmap_page t 0 (number_at 0 gpa) (end_memory t (page_of_gpa gpa) w) in
+    unmapped_known o.machine w l h t 0 (number_at 0 gpa) v (named_alive w t gpa 0 removed_states rest q) r.used r.unmarked (λ j i e. cc) refl refl
+    (λ e. let a = same_self t in let b = same_self (page_of_gpa gpa) in rw (a, b) refl)
+    (λ x n off. by_test (x == t)
+    (λ y. by_test (n == page_of_gpa gpa) (λ z. absurd (off (eqb-true x t y) refl (eqb-true n _ z))) (λ z. rw (y, z) refl))
+    (λ y. rw y refl))
+    x n (alive_before o.machine w l h (entry_at w t 0 gpa).page kind.Nda 0 0 0 (λ e. cc) v.tds refl x a)
+row_known o me (call.MemSeptRemove t gpa level) w l h ps x n a =
+    let rest = empty_below w t gpa level ∷ tracked_page w t (entry_at w t level gpa).page ∷ [] in
+    let q = named_passed w t gpa level (entry.NlBlocked ∷ []) rest ps.1.1.1.1 in
+    let r = sept_removed (entry_at w t level gpa).state q.state in
+    let v : World = unmap_page t level (number_at level gpa) w in
+    let upper = (range_of level 3 ps.1.1.0).0 in
+    unmapped_known o.machine w l h t level (number_at level gpa) v (named_alive w t gpa level (entry.NlBlocked ∷ []) rest q) r.used r.unmarked (empty_at w t gpa level q.rest_holds.0) refl refl
+    (λ e. absurd (omega (arith, upper, e))) (λ x n off. refl)
+    x n (alive_before o.machine w l h (entry_at w t level gpa).page kind.Nda 0 0 0 (λ e. cc) v.tds refl x a)
+row_known o me (call.MemRangeBlock t gpa level) w l h ps x n a =
+    let q = named_passed w t gpa level open_states [] ps.1.1.1.1 in
+    restated_known o.machine w l h t level (number_at level gpa) _ (block_restates (entry_at w t level gpa).state q.state) x n (record { kind = a.kind; life = a.life })
+row_known o me (call.MemRangeUnblock t gpa level) w l h ps x n a =
+    let q = named_passed w t gpa level blocked_states (tracked_page w t (entry_at w t level gpa).page ∷ []) ps.1.1.1.1 in
+    restated_known o.machine w l h t level (number_at level gpa) _ (unblock_restates (entry_at w t level gpa).state q.state) x n (record { kind = a.kind; life = a.life })
 row_known o me _ w l h ps x n a = h x n (record { kind = a.kind; life = a.life })
 
 -- what a store puts into one page changes, of what guests know, that page's word alone

@@ -16,7 +16,7 @@ use Rattle.flat_core.specs.Opening.{Opening}
 use Rattle.flat_core.specs.Row.{OperationRow, Move, Attempts, Undoes, Refuses, Succeeds, Releases, Rests, Passes, next, next_in}
 use Rattle.flat_core.specs.Conditions.{is_host_in, host_page, page_exclusive}
 use Rattle.flat_core.specs.Effects.{take_node, tell_words}
-use Rattle.flat_core.specs.Tree.{state_in}
+use Rattle.flat_core.specs.Tree.{entry_at, state_in}
 use Rattle.flat_core.specs.Guest.{ByRow, operation_of, is_pending_at, reach}
 use Rattle.flat_core.specs.Table.{row_of}
 use Rattle.flat_core.specs.Event.{State, Event, OfCall, OfOperation, lines_left, next_event, nothing_more, world_after, after_event, event}
@@ -55,6 +55,9 @@ one_use o me (call.MemPageAdd t gpa page source) w p ps owned stays =
 one_use o me (call.MemPageAug t gpa page) w p ps owned stays =
     let behind = walk_passed w t gpa (state_in w t gpa 0 (entry.Free ∷ []) ∷ page_exclusive page ∷ host_page w page ∷ []) 0 (lit≤ tt) ps.1.1.1.1.1.1.1.1.1 in
     host_taken w page _ t 0 _ p behind.0.1.0 owned
+one_use o me (call.MemPageRemove t gpa) w p ps owned stays = other_taken w (entry_at w t 0 gpa).page _ 0 0 0 p stays
+one_use o me (call.MemSeptRemove t gpa level) w p ps owned stays = other_taken w (entry_at w t level gpa).page _ 0 0 0 p stays
+one_use o me (call.MemRangeBlock t gpa level) w p ps owned stays = record { kind = refl; owner = refl; level = refl; number = refl }
 one_use o me _ w p ps owned stays = same_use w.pages p
 
 -- through events
@@ -134,5 +137,5 @@ module _ (o : Opening) (s : State) (p q : ℕ) where
 pub events_keep_uses : EventsKeepUses
 events_keep_uses = record {
   acts_alone = λ o s p q. still_used o s p q (λ cs x. is_act x ≡ false) (λ c cs a ps. cc);
-  one_use = λ o s p q owned. still_used o s p q (λ cs x. is_act_giving_back cs x q ≡ false) (λ c cs a ps. one_use o p c s.world q ps owned a);
+  one_use = λ o s p q owned. still_used o s p q (λ cs x. is_act_giving_back cs x s.world q ≡ false) (λ c cs a ps. one_use o p c s.world q ps owned a);
 }

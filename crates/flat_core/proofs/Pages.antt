@@ -8,6 +8,17 @@ use Rattle.flat_core.specs.Conditions.{is_host_in}
 use Rattle.flat_core.specs.Lawful.{IsPageOf, IsNodeOf, AreControls, ArePagesOf, LawfulPages}
 use Rattle.flat_core.proofs.Tests.{by_test, kind_owned}
 
+-- lists of pages of a TD that are pages of it still
+pub controls_as : (old new : Pages) (t : ℕ) → ((q : ℕ) → IsPageOf old t q kind.Tdcx → IsPageOf new t q kind.Tdcx) → (cs : List ℕ) → AreControls old t cs → AreControls new t cs
+controls_as old new t f [] h = tt
+controls_as old new t f (c ∷ []) h = f c h
+controls_as old new t f (c ∷ r ∷ []) h = (f c h.0, f r h.1, h.2)
+controls_as old new t f (c ∷ r ∷ y ∷ cs) h = absurd h
+
+pub pages_as : (old new : Pages) (t : ℕ) (j : PageKind) → ((q : ℕ) → IsPageOf old t q j → IsPageOf new t q j) → (ps : List ℕ) → ArePagesOf old t j ps → ArePagesOf new t j ps
+pages_as old new t j f [] h = tt
+pages_as old new t j f (q ∷ qs) h = (f q h.0, pages_as old new t j f qs h.1)
+
 -- where a page isn't one that has changed, all that is said of it stays
 module _ (old new : Pages) (p : ℕ) (kinds : (q : ℕ) → (q == p) ≡ false → new.kinds q ≡ old.kinds q) (owners : (q : ℕ) → (q == p) ≡ false → new.owners q ≡ old.owners q)
     (levels : (q : ℕ) → (q == p) ≡ false → new.levels q ≡ old.levels q) (numbers : (q : ℕ) → (q == p) ≡ false → new.numbers q ≡ old.numbers q)
@@ -19,14 +30,10 @@ module _ (old new : Pages) (p : ℕ) (kinds : (q : ℕ) → (q == p) ≡ false �
   node_kept q j l n ne h = let e = other q j h.page ne in record { page = page_kept q j ne h.page; level_is = levels q e ∙ h.level_is; number_is = numbers q e ∙ h.number_is }
 
   pub controls_kept : (cs : List ℕ) → AreControls old t cs → AreControls new t cs
-  controls_kept [] h = tt
-  controls_kept (c ∷ []) h = page_kept c kind.Tdcx (λ e. cc) h
-  controls_kept (c ∷ r ∷ []) h = (page_kept c kind.Tdcx (λ e. cc) h.0, page_kept r kind.Tdcx (λ e. cc) h.1, h.2)
-  controls_kept (c ∷ r ∷ y ∷ cs) h = absurd h
+  controls_kept cs h = controls_as old new t (λ q. page_kept q kind.Tdcx (λ e. cc)) cs h
 
   pub pages_kept : (j : PageKind) (ps : List ℕ) → j ≢ kind.Nda → ArePagesOf old t j ps → ArePagesOf new t j ps
-  pages_kept j [] n h = tt
-  pages_kept j (q ∷ qs) n h = (page_kept q j n h.0, pages_kept j qs n h.1)
+  pages_kept j ps n h = pages_as old new t j (λ q. page_kept q j n) ps h
 
 -- a page that was the host's is taken
 module _ (count : ℕ) (old : Pages) (p : ℕ) (k : PageKind) (t level number : ℕ) (host : old.kinds p ≡ kind.Nda) (lawful : LawfulPages count old) where

@@ -16,12 +16,15 @@ use Rattle.td_words.specs.declared.names.OpState.TheVariants as op
 use Rattle.flat_core.specs.World.{World, Vps}
 use Rattle.flat_core.specs.Row.{Passes}
 use Rattle.flat_core.specs.Conditions.{is_host, host_page, page_exclusive, associated_in, is_elsewhere, same_vp_state, running_ops}
+use Rattle.flat_core.specs.Tracking.{tracked_page}
 use Rattle.flat_core.specs.KeyRows.{reclaim_conditions}
-use Rattle.flat_core.specs.Tree.{state_in}
+use Rattle.flat_core.specs.MemRows.{removed_states}
+use Rattle.flat_core.specs.Tree.{number_at, entry_at, state_in, empty_below}
 use Rattle.flat_core.specs.Lawful.{Lawful, IsAlive}
 use Rattle.flat_core.specs.Guests.{IsOccupied, SameVp, Spares, RowsSpare}
 use Rattle.flat_core.proofs.Tests.{by_test, host_kind, tdr_kind, range_of}
-use Rattle.flat_core.proofs.Maps.{walk_passed}
+use Rattle.flat_core.proofs.Maps.{kind_named, unlisted, node_named, walk_passed}
+use Rattle.flat_core.proofs.Ranges.{named_passed, named_alive, page_removed, sept_removed}
 
 -- life states that aren't this one
 pub not_configured : (allowed : List LifeState) (s : LifeState) → list_any (λ a. life_number a == life_number life.KeysConfigured) allowed ≡ false → list_any (λ a. life_number a == life_number s) allowed ≡ true → s ≡ life.KeysConfigured → ⊥
@@ -123,6 +126,13 @@ module _ (m : Machine) (w : World) (l : Lawful m w) (p t v : ℕ) (x : IsOccupie
   owner_of u q true e root ps = let here : q ≡ u = eqb-true q u e in l.pages.tdr q (rw here root) ∙ here
   owner_of u q false e root ps = eqb-true _ u (and_parts (not (is_host w q)) (w.pages.owners q == u) ps.0).1
 
+  -- nor is either a page that an entry names
+  named_off : (level q : ℕ) → w.pages.kinds q ≡ kind_named level → ((v == q) ≡ false) × ((t == q) ≡ false)
+  named_off level q k = (
+    by_test (v == q) (λ y. absurd (unlisted level kind.Tdvpr refl (sym k ∙ (ap w.pages.kinds (sym (eqb-true v q y)) ∙ x.page.kind)))) (λ n. n),
+    by_test (t == q) (λ y. absurd (unlisted level kind.Tdr refl (sym k ∙ (ap w.pages.kinds (sym (eqb-true t q y)) ∙ x.tdr)))) (λ n. n),
+  )
+
   -- another virtual processor
   created_off : (q : ℕ) → same_vp_state (w.vps.states q) vcpu.Created ≡ true → (v == q) ≡ false
   created_off q h = by_test (v == q) (λ y. absurd (ready_only (w.vps.states q) (ap w.vps.states (sym (eqb-true v q y)) ∙ x.ready) h)) (λ n. n)
@@ -176,6 +186,24 @@ row_spares o me (call.VpEnter u q most) w p t v l ps x apart =
     let m = o.machine in
     let a = elsewhere_off m w l p t v x me q apart ps.1.1.1.1.1.1.1.1.1.1.0 in
     beside m w l p t v x _ refl refl refl refl refl (record { index = refl; state = refl; associated = rw a refl; last = rw a refl; position = refl; exported = refl; entered = rw a refl; registers = λ r. refl })
+row_spares o me (call.VpFlush u q) w p t v l ps x apart =
+    let m = o.machine in
+    let a = elsewhere_off m w l p t v x me q apart ps.1.1.1.1.1.1.1.0 in
+    beside m w l p t v x _ refl refl refl refl refl (record { index = refl; state = refl; associated = rw a refl; last = refl; position = refl; exported = refl; entered = refl; registers = λ r. refl })
+row_spares o me (call.MemPageRemove u gpa) w p t v l ps x apart =
+    let m = o.machine in
+    let rest = tracked_page w u (entry_at w u 0 gpa).page ∷ [] in
+    let q = named_passed w u gpa 0 removed_states rest ps.1.1.1 in
+    let node = node_named m w l u 0 (number_at 0 gpa) (named_alive w u gpa 0 removed_states rest q) (page_removed (entry_at w u 0 gpa).state q.state).used in
+    let off = named_off m w l p t v x 0 (entry_at w u 0 gpa).page node.page.kind in
+    beside m w l p t v x _ (rw (off.1) refl) refl refl (rw (off.0) refl) (rw (off.0) refl) (no_change m w l p t v x _ refl refl)
+row_spares o me (call.MemSeptRemove u gpa level) w p t v l ps x apart =
+    let m = o.machine in
+    let rest = empty_below w u gpa level ∷ tracked_page w u (entry_at w u level gpa).page ∷ [] in
+    let q = named_passed w u gpa level (entry.NlBlocked ∷ []) rest ps.1.1.1.1 in
+    let node = node_named m w l u level (number_at level gpa) (named_alive w u gpa level (entry.NlBlocked ∷ []) rest q) (sept_removed (entry_at w u level gpa).state q.state).used in
+    let off = named_off m w l p t v x level (entry_at w u level gpa).page node.page.kind in
+    beside m w l p t v x _ (rw (off.1) refl) refl refl (rw (off.0) refl) (rw (off.0) refl) (no_change m w l p t v x _ refl refl)
 row_spares o me (call.MemSeptAdd u gpa level page) w p t v l ps x apart =
     let m = o.machine in
     let behind = walk_passed w u gpa (state_in w u gpa level (entry.Free ∷ []) ∷ page_exclusive page ∷ host_page w page ∷ []) level (range_of level 3 ps.1.1.0).1 ps.1.1.1.1.1.1.1.1.1.1 in

@@ -88,10 +88,16 @@ tries_in_order (call.MrFinalize t) w = (tt, (tt, tt))
 tries_in_order (call.VpCreate t page) w = (tt, (tt, (tt, tt)))
 tries_in_order (call.VpInit t vp value) w = (tt, (tt, (tt, tt)))
 tries_in_order (call.VpEnter t vp most) w = (tt, (tt, (tt, (tt, tt))))
+tries_in_order (call.VpFlush t vp) w = (tt, (tt, tt))
 tries_in_order (call.MemSeptAdd t gpa level page) w = tree_first t (None ∷ []) (tt, tt)
 tries_in_order (call.MemSeptRd t gpa level) w = tree_first t [] tt
 tries_in_order (call.MemPageAdd t gpa page source) w = tree_first t (None ∷ None ∷ []) (tt, (tt, tt))
 tries_in_order (call.MemPageAug t gpa page) w = tree_first t (None ∷ []) (tt, tt)
+tries_in_order (call.MemSeptRemove t gpa level) w = tree_first t (Some (OfEpoch t) ∷ None ∷ []) (tt, (tt, tt))
+tries_in_order (call.MemPageRemove t gpa) w = tree_first t (Some (OfEpoch t) ∷ None ∷ []) (tt, (tt, tt))
+tries_in_order (call.MemRangeBlock t gpa level) w = tree_first t (Some (OfEpoch t) ∷ None ∷ []) (tt, (tt, tt))
+tries_in_order (call.MemRangeUnblock t gpa level) w = tree_first t (Some (OfEpoch t) ∷ None ∷ []) (tt, (tt, tt))
+tries_in_order (call.MemTrack t) w = (tt, (tt, (tt, tt)))
 
 -- and in every world they are the same
 kinds_same : (c : Call) (v w : World) → kinds (tries_of c v) ≡ kinds (tries_of c w)

@@ -1,23 +1,26 @@
 -- Each row tries what its call's line says; so no more than it may, and as many in every world.
 use Rattle.std.proofs.Common.{◌≡◌, refl, sym, ◌∙◌, ap, ℕ, ◌≤◌, List, [], ◌∷◌, ◌++◌, length, map, Bool, true, false, ◌==◌, if◌then◌else◌, arith}
 use Rattle.td_words.specs.declared.names.ReadField.TheVariants as field
+use Rattle.td_words.specs.declared.names.EntryState.{EntryState}
 use Rattle.td_words.specs.declared.names.EntryState.TheVariants as entry
 use Rattle.td_words.specs.declared.calls.Call.{Call}
 use Rattle.td_words.specs.declared.calls.Call.TheVariants as call
-use Rattle.td_words.specs.declared.names.Mode.TheVariants.{Shared}
+use Rattle.td_words.specs.declared.names.Mode.TheVariants.{Shared, Exclusive}
 use Rattle.td_words.specs.declared.refusals.Status.TheVariants.{EptWalkFailed}
 use Rattle.td_words.specs.declared.replies.Reply.{Reply}
 use Rattle.td_words.specs.declared.replies.Reply.TheVariants.{Refused}
 use Rattle.flat_core.specs.World.{World}
-use Rattle.flat_core.specs.Processor.{OfPage, OfTree, Held}
+use Rattle.flat_core.specs.Processor.{OfPage, OfTree, OfEpoch, Held}
 use Rattle.flat_core.specs.Row.{Item, Check, Try, tries_in}
 use Rattle.flat_core.specs.Conditions.{page_exclusive, host_page}
-use Rattle.flat_core.specs.Tree.{walk, state_in, is_passed, levels_above}
+use Rattle.flat_core.specs.Tree.{entry_at, walk, state_in, empty_below, named_page, is_passed, levels_above}
+use Rattle.flat_core.specs.Tracking.{tracked_page}
 use Rattle.flat_core.specs.KeyRows.{reclaim_conditions}
+use Rattle.flat_core.specs.MemRows.{named_row, open_states, blocked_states}
 use Rattle.flat_core.specs.Table.{row_of, most_tries}
 use Rattle.flat_core.specs.Bounds.{RowsTryFew}
 use Rattle.flat_core.specs.Laws.{RowsTryTheSame}
-use Rattle.flat_core.specs.Tries.{tries, alone, td_tries, tries_of, RowsTryTheirLists}
+use Rattle.flat_core.specs.Tries.{tries, shared, alone, td_tries, named_tries, tries_of, RowsTryTheirLists}
 
 -- a walk is conditions alone
 conditions_try_nothing : (b : ℕ → Bool) (r : ℕ → Reply) (ls : List ℕ) → tries (map (λ l. Check (b l) (r l)) ls) ≡ []
@@ -31,6 +34,12 @@ tries_append : (xs ys : List (Item Reply)) → tries (xs ++ ys) ≡ tries xs ++ 
 tries_append [] ys = refl
 tries_append (Check b r ∷ xs) ys = tries_append xs ys
 tries_append (Try l m ∷ xs) ys = ap (λ (hs : List Held). record { lock = l; mode = m } ∷ hs) (tries_append xs ys)
+
+named_lists : (w : World) (t gpa level : ℕ) (allowed : List EntryState) (rest : List (Item Reply)) → tries (named_row w t gpa level allowed rest) ≡ named_tries w t gpa level ++ tries rest
+named_lists w t gpa level allowed rest =
+    let items : List (Item Reply) = state_in w t gpa level allowed ∷ named_page w t gpa level Exclusive ∷ rest in
+    ap (λ (hs : List Held). td_tries t Shared ++ alone (OfTree t) ∷ shared (OfEpoch t) ∷ hs)
+    (tries_append (walk w t gpa level) items ∙ ap (λ (hs : List Held). hs ++ tries items) (walk_tries_nothing w t gpa level))
 
 pub rows_try_lists : RowsTryTheirLists
 rows_try_lists o me (call.PhymemPageReclaim t page) w = ap (λ (hs : List Held). alone (OfPage t) ∷ hs) (by (page == t))
@@ -47,6 +56,11 @@ rows_try_lists o me (call.MemSeptAdd t gpa level page) w =
     ap (λ (hs : List Held). td_tries t Shared ++ alone (OfTree t) ∷ hs)
     (tries_append (walk w t gpa level) rest ∙ ap (λ (hs : List Held). hs ++ tries rest) (walk_tries_nothing w t gpa level))
 rows_try_lists o me (call.MemSeptRd t gpa level) w = ap (λ (hs : List Held). td_tries t Shared ++ alone (OfTree t) ∷ hs) (walk_tries_nothing w t gpa level)
+rows_try_lists o me (call.MemSeptRemove t gpa level) w =
+    named_lists w t gpa level (entry.NlBlocked ∷ []) (empty_below w t gpa level ∷ tracked_page w t (entry_at w t level gpa).page ∷ [])
+rows_try_lists o me (call.MemRangeBlock t gpa level) w = named_lists w t gpa level open_states []
+rows_try_lists o me (call.MemRangeUnblock t gpa level) w =
+    named_lists w t gpa level blocked_states (tracked_page w t (entry_at w t level gpa).page ∷ [])
 rows_try_lists o me (call.HostRead page word) w = refl
 rows_try_lists o me _ w = refl
 

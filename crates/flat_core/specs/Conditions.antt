@@ -12,7 +12,7 @@ use Rattle.td_words.specs.declared.names.VcpuState.TheVariants as vcpu
 use Rattle.td_words.specs.declared.names.LimitName.TheVariants.{Vcpus}
 use Rattle.td_words.specs.declared.names.Mode.{Mode}
 use Rattle.td_words.specs.declared.names.Mode.TheVariants.{Shared, Exclusive}
-use Rattle.td_words.specs.declared.refusals.Status.TheVariants.{PageMetadataIncorrect, LifecycleStateIncorrect, OpStateIncorrect, TdcxNumIncorrect, VcpuStateIncorrect, VcpuAssociated, PagesExist, FlushvpNotDone, Limit, CacheWbNotDone}
+use Rattle.td_words.specs.declared.refusals.Status.TheVariants.{PageMetadataIncorrect, LifecycleStateIncorrect, OpStateIncorrect, TdcxNumIncorrect, VcpuStateIncorrect, VcpuAssociated, VcpuNotAssociated, PagesExist, FlushvpNotDone, Limit, CacheWbNotDone}
 use Rattle.td_words.specs.declared.replies.Reply.{Reply}
 use Rattle.td_words.specs.NameNumber.{kind_number, life_number, op_number, vcpu_number}
 use Rattle.td_words.specs.Packing.{Key, Unassigned, AssignedTo, FlushedOf}
@@ -94,6 +94,9 @@ tree_exclusive t = Try (OfTree t) Exclusive
 abbrev pub epoch_shared : ℕ → Item Reply
 epoch_shared t = Try (OfEpoch t) Shared
 
+abbrev pub epoch_exclusive : ℕ → Item Reply
+epoch_exclusive t = Try (OfEpoch t) Exclusive
+
 abbrev pub keys_exclusive : Item Reply
 keys_exclusive = Try OfKeys Exclusive
 
@@ -148,6 +151,14 @@ lp_shown (Some lp) = lp
 abbrev pub not_elsewhere : World → ℕ → ℕ → Item Reply
 not_elsewhere w me v = needs (not (is_elsewhere me (w.vps.associated v))) (VcpuAssociated (lp_shown (w.vps.associated v)))
 
+-- it is associated with one
+abbrev pub is_associated : Option ℕ → Bool
+is_associated None = false
+is_associated (Some lp) = true
+
+abbrev pub associated_vp : World → ℕ → Item Reply
+associated_vp w v = needs (is_associated (w.vps.associated v)) VcpuNotAssociated
+
 -- no virtual processor of the TD is associated; its HKID was written back; the TDR has no child page
 abbrev pub none_associated : World → ℕ → Item Reply
 none_associated w t = needs (associated_count w t == 0) (FlushvpNotDone (associated_count w t))
@@ -172,11 +183,16 @@ all_ops = op.Uninitialized ∷ begun_ops
 abbrev pub running_ops : List OpState
 running_ops = op.Runnable ∷ op.LiveExport ∷ op.LiveImport ∷ []
 
+-- the one in which its pages are blocked, unblocked and removed: while it runs and no session stands
+abbrev pub blocking_ops : List OpState
+blocking_ops = op.Runnable ∷ []
+
 -- those in which a TD may get secure EPT pages: while it is built or imported, and while it runs
 abbrev pub growing_ops : List OpState
 growing_ops = op.Initialized ∷ op.Runnable ∷ op.LiveExport ∷ op.MemoryImport ∷ op.StateImport ∷ op.PostImport ∷ op.LiveImport ∷ []
 
--- those in which it may get private pages that its guest is to accept: while it runs, or is exported running
+-- those in which it may get private pages that its guest is to accept, and in which its epoch may advance: while it runs, or
+-- is exported running
 abbrev pub augmented_ops : List OpState
 augmented_ops = op.Runnable ∷ op.LiveExport ∷ []
 

@@ -75,9 +75,17 @@ set_epoch t e w = record w { tds = record (w.tds) { epochs = put w.tds.epochs t 
 abbrev pub set_entry : ℕ → ℕ → ℕ → Entry → World → World
 set_entry t level number e w = record w { tds = record (w.tds) { entries = put w.tds.entries t (put_in (w.tds.entries t) level number e) } }
 
+-- an entry gets another state for the page that it names; the page isn't exported, so there is no mark
+abbrev pub set_state : ℕ → ℕ → ℕ → EntryState → World → World
+set_state t level number s w = set_entry t level number (record { state = s; page = (w.tds.entries t level number).page; mark = 0 }) w
+
 -- a host page becomes the one that an entry of a TD names: it is taken as the node there, and the entry gets that state
 abbrev pub map_page : ℕ → PageKind → EntryState → (t level number : ℕ) → World → World
 map_page p k s t level number w = set_entry t level number (record { state = s; page = p; mark = 0 }) (take_node p k t level number w)
+
+-- the page that an entry of a TD names is given back, and the entry is FREE
+abbrev pub unmap_page : (t level number : ℕ) → World → World
+unmap_page t level number w = give_back (w.tds.entries t level number).page (set_entry t level number free_entry w)
 
 -- a page becomes the TD's next TDCX page
 abbrev pub add_control : ℕ → ℕ → World → World
@@ -185,6 +193,10 @@ abbrev pub enter_guest : (me v epoch : ℕ) → World → World
 enter_guest me v e w = record w {
   vps = record (w.vps) { associated = put w.vps.associated v (Some me); lasts = put w.vps.lasts v e; entered = put w.vps.entered v (Some e) };
 }
+
+-- its association ends
+abbrev pub end_association : ℕ → World → World
+end_association v w = record w { vps = record (w.vps) { associated = put w.vps.associated v None } }
 
 -- a virtual processor leaves the guest: it is taken out of the count of its entry epoch
 abbrev pub leave_guest : ℕ → World → World

@@ -5,10 +5,10 @@ use Rattle.td_words.specs.declared.names.LockName.TheVariants as lock
 use Rattle.td_words.specs.declared.names.Access.TheVariants as access
 use Rattle.td_words.specs.declared.names.EntryState.TheVariants as entry
 use Rattle.td_words.specs.declared.calls.Call.{Call}
-use Rattle.td_words.specs.declared.calls.Call.TheVariants.{HostWrite, HostRead, MngCreate, MngVpflushdone, MrFinalize, VpCreate, VpInit, VpEnter, MemSeptRd, MemPageAdd, MemPageAug}
+use Rattle.td_words.specs.declared.calls.Call.TheVariants.{HostWrite, HostRead, MngCreate, MngVpflushdone, MrFinalize, VpCreate, VpInit, VpEnter, VpFlush, MemSeptRd, MemPageAdd, MemPageAug, MemPageRemove, MemSeptRemove, MemRangeBlock, MemRangeUnblock, MemTrack}
 use Rattle.td_words.specs.declared.calls.GuestOp.{GuestOp}
 use Rattle.td_words.specs.declared.calls.GuestOp.TheVariants.{Set, Add, Load, Store, Accept, Rtmr, Vmcall}
-use Rattle.td_words.specs.declared.refusals.Status.TheVariants.{OperandInvalid, OperandBusy, PageMetadataIncorrect, VcpuAssociated, HkidNotFree, FlushvpNotDone}
+use Rattle.td_words.specs.declared.refusals.Status.TheVariants.{OperandInvalid, OperandBusy, PageMetadataIncorrect, VcpuAssociated, VcpuNotAssociated, HkidNotFree, FlushvpNotDone, TlbTrackingNotDone, PreviousTlbEpochBusy}
 use Rattle.td_words.specs.declared.replies.Value.TheVariants.{Nothing, Number, Entry}
 use Rattle.td_words.specs.declared.replies.Outcome.TheVariants.{Stop, Max, Vmcall as Called, EptViolation, Busy}
 use Rattle.td_words.specs.declared.replies.Reply.{Reply}
@@ -18,7 +18,7 @@ use Rattle.flat_core.specs.Processor.{Note, LoadNote, RtmrNote}
 use Rattle.flat_core.specs.Opening.{Opening}
 use Rattle.flat_core.specs.Event.{State, start}
 use Rattle.flat_core.specs.Run.{run, told_in}
-use Rattle.flat_core.specs.Worked.{plain_opening, building, events_taken, replies_of}
+use Rattle.flat_core.specs.Worked.{plain_opening, building, events_taken, replies_of, success}
 
 -- each virtual processor of TD 1 has this code
 abbrev pub opening_with : List GuestOp → List (List Call) → Opening
@@ -79,7 +79,72 @@ two_guests =
     let build = building ++ VpCreate 1 9 ∷ VpInit 1 9 0 ∷ MemPageAdd 1 0 8 0 ∷ MrFinalize 1 ∷ VpEnter 1 4 9 ∷ [] in
     run (record (plain_opening 2 32 1 (build ∷ (VpEnter 1 9 9 ∷ []) ∷ [])) { codes = λ t i. stores_or_loads i }) (replicate 120 0)
 
+-- TD 1 has a page at GPA 0 and is RUNNABLE, and processor 0 goes on with these lines beside processor 1, with these items
+abbrev pub beside_calls : List GuestOp → (own others : List Call) → List ℕ → State
+beside_calls ops own others items = run (opening_with ops ((building ++ MemPageAdd 1 0 8 0 ∷ MrFinalize 1 ∷ own) ∷ others ∷ [])) items
+
+-- a guest that has loaded a word of it is in, in 91 events; and so many of processor 1
+abbrev pub beside_guest : List GuestOp → (own others : List Call) → ℕ → State
+beside_guest ops own others n = beside_calls ops own others (replicate 91 0 ++ replicate n 1)
+
+-- it loads once before the block, and once after it
+abbrev pub loads_twice : List GuestOp
+loads_twice = Load 1 0 ∷ Load 2 0 ∷ Vmcall 2 ∷ Load 3 0 ∷ []
+
+abbrev pub unblocks_beside : State
+unblocks_beside = beside_guest loads_twice (VpEnter 1 4 9 ∷ VpEnter 1 4 9 ∷ []) (MemRangeBlock 1 0 0 ∷ MemTrack 1 ∷ MemRangeUnblock 1 0 0 ∷ []) 29
+
+-- its page is removed beside it; and another one's secure EPT page, where it has loaded three entries of a walk
+abbrev pub removes_beside : State
+removes_beside =
+    beside_guest (Load 1 0 ∷ Set 2 5 ∷ []) (VpEnter 1 4 100 ∷ []) (MemRangeBlock 1 0 0 ∷ MemPageRemove 1 0 ∷ MemTrack 1 ∷ MemPageRemove 1 0 ∷ MemPageRemove 1 0 ∷ HostRead 8 0 ∷ []) 40
+
+abbrev pub removes_sept_beside : State
+removes_sept_beside =
+    let build = building ++ MrFinalize 1 ∷ VpEnter 1 4 9 ∷ [] in
+    run (opening_with (Load 1 0 ∷ []) (build ∷ (MemRangeBlock 1 0 1 ∷ MemTrack 1 ∷ MemSeptRemove 1 0 1 ∷ MemSeptRemove 1 0 1 ∷ HostRead 7 0 ∷ []) ∷ [])) (replicate 78 0 ++ replicate 29 1)
+
+-- Processor 1 has a translation by its own virtual processor. The other one is flushed from processor 0 after the page was
+-- removed, and enters there.
+abbrev pub sets_or_loads : ℕ → List GuestOp
+sets_or_loads zero = Set 2 1 ∷ Load 1 0 ∷ []
+sets_or_loads (suc i) = Load 1 0 ∷ []
+
+abbrev pub moves_on : State
+moves_on =
+    let build = building ++ VpCreate 1 9 ∷ VpInit 1 9 0 ∷ MemPageAdd 1 0 8 0 ∷ MrFinalize 1 ∷ MemRangeBlock 1 0 0 ∷ MemTrack 1 ∷ MemPageRemove 1 0 ∷ VpEnter 1 4 1 ∷ VpFlush 1 4 ∷ [] in
+    run (record (plain_opening 2 32 1 (build ∷ (VpEnter 1 9 1 ∷ VpEnter 1 4 1 ∷ []) ∷ [])) { codes = λ t i. sets_or_loads i }) (replicate 94 0 ++ (replicate 15 1 ++ replicate 45 0))
+
+-- processor 1 flushes a virtual processor that is in guest on processor 0, or has left it
+abbrev pub flushed_beside : (entering flushing : ℕ) → List Reply
+flushed_beside n k =
+    let build = building ++ MrFinalize 1 ∷ VpEnter 1 4 9 ∷ [] in
+    replies_of (run (opening_with [] (build ∷ (VpFlush 1 4 ∷ []) ∷ [])) (replicate n 0 ++ replicate k 1)) 1
+
+-- processor 1 flushes a virtual processor that isn't its own, and then its own processor does, twice
+abbrev pub flushes_beside : State
+flushes_beside = beside_calls [] (VpEnter 1 4 1 ∷ VpFlush 1 4 ∷ VpFlush 1 4 ∷ MngVpflushdone 1 ∷ []) (VpFlush 1 4 ∷ []) (replicate 90 0 ++ replicate 5 1)
+
 pub record GuestExamples : Type 0 where
+  -- the epoch advances twice only once nobody is in guest any more that entered at the first
+  pub epoch_waits : replies_of (beside_guest (Load 1 0 ∷ Set 2 5 ∷ []) (VpEnter 1 4 100 ∷ []) (MemTrack 1 ∷ MemTrack 1 ∷ []) 14) 1 ≡ success ∷ Refused (PreviousTlbEpochBusy 1) ∷ []
+  -- and a block isn't tracked before: until the exit the guest uses the translation that it has cached, and afterwards none
+  pub tracked_after_exit : replies_of unblocks_beside 1 ≡ success ∷ success ∷ Refused TlbTrackingNotDone ∷ []
+  pub used_until_exit : drop 12 (replies_of unblocks_beside 0) ≡ Exited (Called 0) ∷ Exited (EptViolation 0 access.Read) ∷ []
+  -- so a page isn't removed while a guest may use it, nor a secure EPT page where a walk stands
+  pub removed_after_exit_0 : drop 12 (replies_of removes_beside 0) ≡ Exited Stop ∷ []
+  pub removed_after_exit_1 : replies_of removes_beside 1 ≡ success ∷ Refused TlbTrackingNotDone ∷ success ∷ Refused TlbTrackingNotDone ∷ success ∷ Done (Number 0) ∷ []
+  pub sept_after_exit_0 : drop 11 (replies_of removes_sept_beside 0) ≡ Exited (EptViolation 0 access.Read) ∷ []
+  pub sept_after_exit_1 : replies_of removes_sept_beside 1 ≡ success ∷ success ∷ Refused TlbTrackingNotDone ∷ success ∷ Done (Number 0) ∷ []
+  -- translations are dropped where an association is new
+  pub moved_0 : drop 14 (replies_of moves_on 0) ≡ success ∷ success ∷ success ∷ Exited Max ∷ success ∷ []
+  pub moved_1 : replies_of moves_on 1 ≡ Exited Stop ∷ Exited (EptViolation 0 access.Read) ∷ []
+  -- an association ends once, on its own logical processor; and then a TD can end
+  pub flushed_0 : drop 12 (replies_of flushes_beside 0) ≡ Exited Stop ∷ success ∷ Refused VcpuNotAssociated ∷ success ∷ []
+  pub flushed_1 : replies_of flushes_beside 1 ≡ Refused (VcpuAssociated 0) ∷ []
+  pub flushed_in_guest : flushed_beside 75 2 ≡ Refused (OperandBusy (lock.Page 4)) ∷ []
+  pub flushed_elsewhere : flushed_beside 79 5 ≡ Refused (VcpuAssociated 0) ∷ []
+  pub flush_events : events_after [] (VpEnter 1 4 1 ∷ VpFlush 1 4 ∷ []) ≡ events_after [] (VpEnter 1 4 1 ∷ []) + 5
   -- operations are completed until as many as asked for are, until a VMCALL, or until the list's end, which is tested first
   pub exits : after_ready (Set 1 7 ∷ Vmcall 1 ∷ []) (VpEnter 1 4 1 ∷ VpEnter 1 4 1 ∷ VpEnter 1 4 1 ∷ []) ≡ Exited Max ∷ Exited (Called 7) ∷ Exited Stop ∷ []
   pub stop_before_max : after_ready (Set 1 7 ∷ []) (VpEnter 1 4 1 ∷ []) ≡ Exited Stop ∷ []

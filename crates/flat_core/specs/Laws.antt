@@ -225,10 +225,12 @@ measured_after_event _ _ w = w.tds.measured
 abbrev pub EventsMeasure : Type 0
 EventsMeasure = (o : Opening) (s : State) (p t : ℕ) → (event o s p).world.tds.measured t ≡ measured_after_event (lines_left o p (s.lps p)) (next_event o s p) s.world t
 
--- the page that a call gives back to the host. MEM.PAGE.REMOVE and MEM.SEPT.REMOVE will be among these, once they are built
-abbrev pub gives_back : Call → ℕ → Bool
-gives_back (call.PhymemPageReclaim tdr page) p = p == page
-gives_back _ p = false
+-- the page that a call gives back to the host
+abbrev pub gives_back : Call → World → ℕ → Bool
+gives_back (call.PhymemPageReclaim tdr page) w p = p == page
+gives_back (call.MemPageRemove tdr gpa) w p = p == (entry_at w tdr 0 gpa).page
+gives_back (call.MemSeptRemove tdr gpa level) w p = p == (entry_at w tdr level gpa).page
+gives_back _ w p = false
 
 -- what a page is used for: its kind, its TD and its node
 pub record IsUsedAsBefore (old new : Pages) (p : ℕ) : Type 0 where
@@ -240,7 +242,7 @@ pub record IsUsedAsBefore (old new : Pages) (p : ℕ) : Type 0 where
 -- Pages have one use: a page that isn't the host's isn't given to a second use before it is the host's again.
 abbrev pub PagesHaveOneUse : Type 0
 PagesHaveOneUse = (o : Opening) (me : ℕ) (c : Call) (w : World) (p : ℕ)
-    → Passes ((row_of o me c).items w) → is_host_in w.pages p ≡ false → gives_back c p ≡ false → IsUsedAsBefore w.pages ((row_of o me c).act w).pages p
+    → Passes ((row_of o me c).items w) → is_host_in w.pages p ≡ false → gives_back c w p ≡ false → IsUsedAsBefore w.pages ((row_of o me c).act w).pages p
 
 -- whether the page that an entry names holds its guest's memory: not before the guest has accepted it (Base Architecture,
 -- "Secure EPT Entry State Diagram")

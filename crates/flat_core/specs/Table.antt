@@ -7,8 +7,8 @@ use Rattle.flat_core.specs.Row.{Row}
 use Rattle.flat_core.specs.HostRows.{host_read, host_write, read_metadata}
 use Rattle.flat_core.specs.TdRows.{create, configure_key, add_tdcx, initialize, read_td, finalize}
 use Rattle.flat_core.specs.KeyRows.{write_caches_back, reclaim_page, end_flush, free_hkid}
-use Rattle.flat_core.specs.VpRows.{create_vp, initialize_vp, enter_vp}
-use Rattle.flat_core.specs.MemRows.{add_sept, read_sept, add_page, augment_page, extend}
+use Rattle.flat_core.specs.VpRows.{create_vp, initialize_vp, enter_vp, flush_vp}
+use Rattle.flat_core.specs.MemRows.{add_sept, read_sept, add_page, augment_page, remove_page, remove_sept, block_range, unblock_range, advance_epoch, extend}
 
 abbrev pub row_of : Opening → ℕ → Call → Row
 row_of o me (call.HostRead page word) = host_read o.machine page word
@@ -28,10 +28,16 @@ row_of o me (call.MrFinalize tdr) = finalize o.machine tdr
 row_of o me (call.VpCreate tdr page) = create_vp o.machine tdr page
 row_of o me (call.VpInit tdr vp value) = initialize_vp o.machine tdr vp value
 row_of o me (call.VpEnter tdr vp max) = enter_vp o.machine me tdr vp max
+row_of o me (call.VpFlush tdr vp) = flush_vp o.machine me tdr vp
 row_of o me (call.MemSeptAdd tdr gpa level page) = add_sept o.machine tdr gpa level page
 row_of o me (call.MemSeptRd tdr gpa level) = read_sept o.machine tdr gpa level
+row_of o me (call.MemSeptRemove tdr gpa level) = remove_sept o.machine tdr gpa level
 row_of o me (call.MemPageAdd tdr gpa page source) = add_page o.machine tdr gpa page source
 row_of o me (call.MemPageAug tdr gpa page) = augment_page o.machine tdr gpa page
+row_of o me (call.MemPageRemove tdr gpa) = remove_page o.machine tdr gpa
+row_of o me (call.MemRangeBlock tdr gpa level) = block_range o.machine tdr gpa level
+row_of o me (call.MemRangeUnblock tdr gpa level) = unblock_range o.machine tdr gpa level
+row_of o me (call.MemTrack tdr) = advance_epoch o.machine tdr
 
 -- at most how many locks a call tries
 abbrev pub most_tries : Call → ℕ
@@ -52,10 +58,16 @@ most_tries (call.MrFinalize tdr) = 2
 most_tries (call.VpCreate tdr page) = 3
 most_tries (call.VpInit tdr vp value) = 3
 most_tries (call.VpEnter tdr vp max) = 4
+most_tries (call.VpFlush tdr vp) = 2
 most_tries (call.MemSeptAdd tdr gpa level page) = 4
 most_tries (call.MemSeptRd tdr gpa level) = 3
+most_tries (call.MemSeptRemove tdr gpa level) = 5
 most_tries (call.MemPageAdd tdr gpa page source) = 5
 most_tries (call.MemPageAug tdr gpa page) = 4
+most_tries (call.MemPageRemove tdr gpa) = 5
+most_tries (call.MemRangeBlock tdr gpa level) = 5
+most_tries (call.MemRangeUnblock tdr gpa level) = 5
+most_tries (call.MemTrack tdr) = 3
 
 -- at most how many events a guest has that a call enters: of each operation its tries, its act and releases, or four loads
 -- of a walk and the access; and the count step at the exit. So many operations may be completed, or one fewer and one not

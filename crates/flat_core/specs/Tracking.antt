@@ -1,8 +1,9 @@
 -- TLB epochs (Base Architecture, "TLB Tracking Sequence"). A block at epoch b is tracked where TD_EPOCH is above b and
 -- each virtual processor in guest entered at an epoch above b.
-use Rattle.std.specs.Prelude.{ℕ, ◌+◌, ◌-◌, List, [], ◌∷◌, Option, Some, None, Bool, ◌==◌, ◌&&◌, nat_lt}
+use Rattle.std.specs.Prelude.{ℕ, ◌+◌, ◌-◌, ◌^◌, List, [], ◌∷◌, Option, Some, None, Bool, ◌==◌, ◌&&◌, nat_lt}
 use Rattle.std.specs.List.{list_all}
-use Rattle.td_words.specs.declared.refusals.Status.TheVariants.{TlbTrackingNotDone, PreviousTlbEpochBusy}
+use Rattle.td_words.specs.declared.refusals.Status.TheVariants.{TlbTrackingNotDone, PreviousTlbEpochBusy, CounterLimit}
+use Rattle.td_words.specs.declared.names.Counter.TheVariants.{TdEpoch}
 use Rattle.td_words.specs.declared.replies.Reply.{Reply}
 use Rattle.flat_core.specs.World.{World}
 use Rattle.flat_core.specs.Locks.{one_if}
@@ -35,6 +36,10 @@ is_tracked w t p = tracked (w.pages.blocked p) (w.tds.epochs t) (entry_epochs w.
 
 abbrev pub tracked_page : World → ℕ → ℕ → Item Reply
 tracked_page w t p = needs (is_tracked w t p) TlbTrackingNotDone
+
+-- TD_EPOCH can rise
+abbrev pub epoch_room : World → ℕ → Item Reply
+epoch_room w t = needs (nat_lt (w.tds.epochs t) (2 ^ 32 - 1)) (CounterLimit TdEpoch)
 
 -- the count of the previous epoch
 abbrev pub previous_count : World → ℕ → ℕ

@@ -1,14 +1,14 @@
 -- The secure EPT of a TD: four levels of 512 entries, the root's being level 3 and those that name private pages level 0
 -- (Base Architecture, "Secure EPT"). An entry is known by its level and its number: the GPA that it maps from, in units
 -- of what an entry of its level maps. The entries below an entry n have the numbers 512 n to 512 n + 511.
-use Rattle.std.specs.Prelude.{ℕ, ◌/◌, ◌%◌, List, [], ◌∷◌, map, filter, Bool, true, false, not, ◌==◌, nat_lt}
+use Rattle.std.specs.Prelude.{ℕ, zero, suc, ◌+◌, ◌-◌, ◌*◌, ◌/◌, ◌%◌, List, [], ◌∷◌, map, filter, Option, Some, None, Bool, true, false, not, ◌==◌, nat_lt, if◌then◌else◌}
 use Rattle.std.specs.List.{list_any}
 use Rattle.td_words.specs.declared.names.EntryState.{EntryState}
 use Rattle.td_words.specs.declared.names.EntryState.TheVariants as entry
 use Rattle.td_words.specs.declared.names.Access.{Access}
 use Rattle.td_words.specs.declared.names.Access.TheVariants.{Read, Write}
 use Rattle.td_words.specs.declared.names.Mode.{Mode}
-use Rattle.td_words.specs.declared.refusals.Status.TheVariants.{EptWalkFailed, EptEntryStateIncorrect}
+use Rattle.td_words.specs.declared.refusals.Status.TheVariants.{EptWalkFailed, EptEntryStateIncorrect, SeptNotEmpty}
 use Rattle.td_words.specs.declared.replies.Reply.{Reply}
 use Rattle.td_words.specs.NameNumber as numbers
 use Rattle.td_words.specs.Packing.{Entry}
@@ -72,6 +72,27 @@ state_in w t gpa level allowed =
 
 abbrev pub has_page : World → ℕ → ℕ → ℕ → Item Reply
 has_page w t gpa level = needs (not (same_state (entry_at w t level gpa).state entry.Free)) (EptEntryStateIncorrect entry.Free)
+
+-- the index of the first of these that is used, from an index on
+abbrev pub first_used : (ℕ → Bool) → (index count : ℕ) → Option ℕ
+first_used used i zero = None
+first_used used i (suc n) = if used i then Some i else first_used used (suc i) n
+
+-- among the 512 entries of the page that an upper entry names
+abbrev pub is_used_below : World → (tdr gpa level index : ℕ) → Bool
+is_used_below w t gpa level i = not (same_state (w.tds.entries t (level - 1) (512 * number_at level gpa + i)).state entry.Free)
+
+abbrev pub none_used : Option ℕ → Bool
+none_used None = true
+none_used (Some i) = false
+
+abbrev pub index_shown : Option ℕ → ℕ
+index_shown None = 0
+index_shown (Some i) = i
+
+abbrev pub empty_below : World → (tdr gpa level : ℕ) → Item Reply
+empty_below w t gpa level =
+    let first = first_used (is_used_below w t gpa level) 0 512 in needs (none_used first) (SeptNotEmpty (index_shown first))
 
 -- the try of the page that the entry names
 abbrev pub named_page : World → ℕ → ℕ → ℕ → Mode → Item Reply

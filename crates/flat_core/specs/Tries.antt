@@ -38,7 +38,11 @@ read_tries t field.Mrtd = td_tries t Shared
 abbrev pub enter_tries : (tdr vp : ℕ) → List Held
 enter_tries t v = td_tries t Shared ++ alone (OfPage v) ∷ shared (OfEpoch t) ∷ []
 
--- The table of tries, a line a call. Only MR.EXTEND looks at the world: it tries the page that the entry names.
+-- the beginning of the rows that block, unblock and remove
+abbrev pub named_tries : World → (tdr gpa level : ℕ) → List Held
+named_tries w t gpa level = td_tries t Shared ++ alone (OfTree t) ∷ shared (OfEpoch t) ∷ alone (OfPage (entry_at w t level gpa).page) ∷ []
+
+-- The table of tries, a line a call. A line looks at the world where the page is tried that an entry names.
 abbrev pub tries_of : Call → World → List Held
 tries_of (call.HostRead page word) w = shared (OfPage page) ∷ []
 tries_of (call.HostWrite page word value) w = shared (OfPage page) ∷ []
@@ -57,10 +61,16 @@ tries_of (call.MrFinalize tdr) w = td_tries tdr Exclusive
 tries_of (call.VpCreate tdr page) w = td_tries tdr Exclusive ++ alone (OfPage page) ∷ []
 tries_of (call.VpInit tdr vp value) w = td_tries tdr Shared ++ alone (OfPage vp) ∷ []
 tries_of (call.VpEnter tdr vp max) w = enter_tries tdr vp
+tries_of (call.VpFlush tdr vp) w = shared (OfPage tdr) ∷ alone (OfPage vp) ∷ []
 tries_of (call.MemSeptAdd tdr gpa level page) w = td_tries tdr Shared ++ alone (OfTree tdr) ∷ alone (OfPage page) ∷ []
 tries_of (call.MemSeptRd tdr gpa level) w = td_tries tdr Shared ++ alone (OfTree tdr) ∷ []
+tries_of (call.MemSeptRemove tdr gpa level) w = named_tries w tdr gpa level
 tries_of (call.MemPageAdd tdr gpa page source) w = td_tries tdr Exclusive ++ alone (OfTree tdr) ∷ alone (OfPage source) ∷ alone (OfPage page) ∷ []
 tries_of (call.MemPageAug tdr gpa page) w = td_tries tdr Shared ++ alone (OfTree tdr) ∷ alone (OfPage page) ∷ []
+tries_of (call.MemPageRemove tdr gpa) w = named_tries w tdr gpa 0
+tries_of (call.MemRangeBlock tdr gpa level) w = named_tries w tdr gpa level
+tries_of (call.MemRangeUnblock tdr gpa level) w = named_tries w tdr gpa level
+tries_of (call.MemTrack tdr) w = td_tries tdr Shared ++ alone (OfEpoch tdr) ∷ []
 
 -- each row tries just what its call's line says
 abbrev pub RowsTryTheirLists : Type 0

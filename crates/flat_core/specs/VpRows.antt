@@ -1,15 +1,16 @@
--- Calls on virtual processors, which create, initialize and enter them (Base Architecture, "TD VCPU Life Cycle").
-use Rattle.std.specs.Prelude.{ℕ, [], ◌∷◌, ◌++◌, Some, slice_index}
+-- Calls that build virtual processors, and that enter and flush them (Base Architecture, "TD VCPU Life Cycle").
+use Rattle.std.specs.Prelude.{ℕ, [], ◌∷◌, ◌++◌, Some, None, slice_index}
 use Rattle.td_words.specs.declared.names.PageKind.TheVariants as kind
+use Rattle.td_words.specs.declared.names.LifeState.TheVariants as life
 use Rattle.td_words.specs.declared.names.OpState.TheVariants as op
 use Rattle.td_words.specs.declared.names.VcpuState.TheVariants as vcpu
 use Rattle.td_words.specs.declared.replies.Value.TheVariants as value
 use Rattle.td_words.specs.declared.machines.Machine.{Machine}
-use Rattle.flat_core.specs.Translations.{is_stale, cache_at_entry}
+use Rattle.flat_core.specs.Translations.{is_stale, cache_at_entry, drop_td}
 use Rattle.flat_core.specs.Row.{Row, call_row}
 use Rattle.flat_core.specs.Arguments.{page_argument, apart_argument, most_argument}
-use Rattle.flat_core.specs.Conditions.{page_exclusive, epoch_shared, host_page, td_page, vp_room, vp_in, not_elsewhere, running_ops, td_shared, td_exclusive}
-use Rattle.flat_core.specs.Effects.{take_page, clear_page, add_vp, set_vp_state, set_register, enter_guest}
+use Rattle.flat_core.specs.Conditions.{page_shared, page_exclusive, epoch_shared, root, host_page, td_page, life_in, vp_room, vp_in, associated_vp, not_elsewhere, running_ops, td_shared, td_exclusive}
+use Rattle.flat_core.specs.Effects.{take_page, clear_page, add_vp, set_vp_state, set_register, enter_guest, end_association}
 
 -- VP.CREATE TDR PAGE: the page is cleared and becomes the TDVPR page of the next virtual processor (ABI Reference,
 -- "TDH.VP.CREATE")
@@ -39,4 +40,16 @@ enter_vp m me tdr vp most = record {
   cached = λ w cs. cache_at_entry (w.vps.associated vp) (w.vps.lasts vp) (w.tds.epochs tdr) tdr cs;
   enters = Some (record { tdr = tdr; vp = vp; most = most });
   value = λ w. value.Entered (is_stale (w.vps.associated vp) (w.vps.lasts vp) (w.tds.epochs tdr)) (w.vps.indexes vp) (w.vps.positions vp) (slice_index (w.tds.controls tdr) 1);
+}
+
+-- VP.FLUSH TDR VP: the association with this logical processor ends, and the translations that it has cached for the TD are
+-- dropped (ABI Reference, "TDH.VP.FLUSH")
+abbrev pub flush_vp : Machine → (me tdr vp : ℕ) → Row
+flush_vp m me tdr vp = record {
+  items = λ w. page_argument m 1 tdr ∷ page_argument m 2 vp ∷ apart_argument 2 vp tdr
+      ∷ page_shared tdr ∷ root w tdr ∷ life_in w tdr (life.KeysConfigured ∷ []) ∷ page_exclusive vp ∷ td_page w tdr vp kind.Tdvpr ∷ associated_vp w vp ∷ not_elsewhere w me vp ∷ [];
+  act = λ w. end_association vp w;
+  cached = λ w cs. drop_td tdr cs;
+  enters = None;
+  value = λ w. value.Nothing;
 }

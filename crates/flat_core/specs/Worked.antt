@@ -1,6 +1,6 @@
 -- Worked examples, which compute: the replies of runs, and how many events they take. Where no machine is named it has 32
 -- pages, one HKID and as many processors as there are lists of calls.
-use Rattle.std.specs.Prelude.{◌≡◌, ℕ, zero, suc, ◌+◌, List, [], ◌∷◌, ◌++◌, length, replicate, codes, Option, Some, None}
+use Rattle.std.specs.Prelude.{◌≡◌, ℕ, zero, suc, ◌+◌, List, [], ◌∷◌, ◌++◌, length, replicate, drop, codes, Option, Some, None}
 use Rattle.td_words.specs.declared.names.LockName.TheVariants as lock
 use Rattle.td_words.specs.declared.names.PageKind.TheVariants as kind
 use Rattle.td_words.specs.declared.names.LifeState.TheVariants as life
@@ -10,8 +10,8 @@ use Rattle.td_words.specs.declared.names.VcpuState.TheVariants as vcpu
 use Rattle.td_words.specs.declared.names.LimitName.TheVariants.{Vcpus}
 use Rattle.td_words.specs.declared.names.ReadField.TheVariants as field
 use Rattle.td_words.specs.declared.calls.Call.{Call}
-use Rattle.td_words.specs.declared.calls.Call.TheVariants.{HostRead, HostWrite, PhymemPageRdmd, PhymemCacheWb, PhymemPageReclaim, MngCreate, MngKeyConfig, MngAddcx, MngInit, MngRd, MngVpflushdone, MngKeyFreeid, MrExtend, MrFinalize, VpCreate, VpInit, MemSeptAdd, MemSeptRd, MemPageAdd, MemPageAug}
-use Rattle.td_words.specs.declared.refusals.Status.TheVariants.{OperandInvalid, OperandBusy, NotHost, PageMetadataIncorrect, LifecycleStateIncorrect, OpStateIncorrect, EptWalkFailed, EptEntryStateIncorrect, HkidNotFree, TdcxNumIncorrect, VcpuStateIncorrect, PagesExist, Limit, CacheWbNotDone}
+use Rattle.td_words.specs.declared.calls.Call.TheVariants.{HostRead, HostWrite, PhymemPageRdmd, PhymemCacheWb, PhymemPageReclaim, MngCreate, MngKeyConfig, MngAddcx, MngInit, MngRd, MngVpflushdone, MngKeyFreeid, MrExtend, MrFinalize, VpCreate, VpInit, VpFlush, MemSeptAdd, MemSeptRd, MemPageAdd, MemPageAug, MemPageRemove, MemSeptRemove, MemRangeBlock, MemRangeUnblock, MemTrack}
+use Rattle.td_words.specs.declared.refusals.Status.TheVariants.{OperandInvalid, OperandBusy, NotHost, PageMetadataIncorrect, LifecycleStateIncorrect, OpStateIncorrect, EptWalkFailed, EptEntryStateIncorrect, HkidNotFree, TdcxNumIncorrect, VcpuStateIncorrect, PagesExist, Limit, CacheWbNotDone, TlbTrackingNotDone, SeptNotEmpty, VcpuNotAssociated}
 use Rattle.td_words.specs.declared.replies.Value.TheVariants.{Nothing, Number, Life, Op, Page, Entry}
 use Rattle.td_words.specs.declared.replies.Reply.{Reply}
 use Rattle.td_words.specs.declared.replies.Reply.TheVariants.{Done, Refused}
@@ -109,6 +109,13 @@ after_items o items = play o items (start o None)
 abbrev pub built : List Call
 built = building ++ MemPageAdd 1 0 8 0 ∷ []
 
+-- and is RUNNABLE: the replies to what follows
+abbrev pub running : List Call
+running = built ++ MrFinalize 1 ∷ []
+
+abbrev pub after_running : List Call → List Reply
+after_running calls = drop 12 (answers_to (running ++ calls))
+
 abbrev pub built_items : List ℕ
 built_items = replicate 75 0
 
@@ -183,6 +190,36 @@ pub record Examples : Type 0 where
   pub augmented : answers_to (building ++ HostWrite 8 0 7 ∷ MemPageAug 1 0 8 ∷ MrFinalize 1 ∷ MemPageAug 1 0 8 ∷ MemPageAug 1 0 9 ∷ MemPageAug 1 4096 8 ∷ MemPageAug 1 0x200000 9 ∷ MemSeptRd 1 0 0 ∷ PhymemPageRdmd 8 ∷ HostRead 8 0 ∷ [])
       ≡ ten_successes ++ success ∷ Refused (OpStateIncorrect op.Initialized) ∷ success ∷ success ∷ Refused (EptEntryStateIncorrect entry.Pending) ∷ Refused (PageMetadataIncorrect 8)
       ∷ Refused (EptWalkFailed 1) ∷ Done (Entry entry.Pending (Some 8)) ∷ Done (Page kind.Reg 1 0) ∷ Done (Number 0) ∷ []
+  -- a page is blocked at TD_EPOCH, and unblocked once the block is tracked: with five locks in eleven events; the epoch advances
+  -- in seven
+  pub tracked_events : events_of (running ++ MemRangeBlock 1 0 0 ∷ MemTrack 1 ∷ MemRangeUnblock 1 0 0 ∷ []) ≡ 64 + 11 + 5 + 11 + 7 + 11
+  pub blocked : after_running (MemRangeUnblock 1 0 0 ∷ MemRangeBlock 1 0 0 ∷ MemRangeBlock 1 0 0 ∷ MemSeptRd 1 0 0 ∷ PhymemPageRdmd 8 ∷ MemRangeUnblock 1 0 0 ∷ MemTrack 1 ∷ MemRangeUnblock 1 0 0 ∷ MemSeptRd 1 0 0 ∷ MngRd 1 field.Epoch ∷ [])
+      ≡ Refused (EptEntryStateIncorrect entry.Mapped) ∷ success ∷ Refused (EptEntryStateIncorrect entry.Blocked) ∷ Done (Entry entry.Blocked (Some 8)) ∷ Done (Page kind.Reg 1 1) ∷ Refused TlbTrackingNotDone
+      ∷ success ∷ success ∷ Done (Entry entry.Mapped (Some 8)) ∷ Done (Number 2) ∷ []
+  -- so is a part of the map, in which no walk goes on then; and a page that its guest hasn't accepted
+  pub blocked_above : after_running (MemRangeBlock 1 0 1 ∷ MemSeptRd 1 0 1 ∷ MemRangeBlock 1 0 0 ∷ MemTrack 1 ∷ MemRangeUnblock 1 0 1 ∷ MemRangeBlock 1 0 0 ∷ [])
+      ≡ success ∷ Done (Entry entry.NlBlocked (Some 7)) ∷ Refused (EptWalkFailed 1) ∷ success ∷ success ∷ success ∷ []
+  pub blocked_pending : after_running (MemPageAug 1 4096 9 ∷ MemRangeBlock 1 4096 0 ∷ MemSeptRd 1 4096 0 ∷ MemTrack 1 ∷ MemRangeUnblock 1 4096 0 ∷ MemSeptRd 1 4096 0 ∷ [])
+      ≡ success ∷ success ∷ Done (Entry entry.PendingBlocked (Some 9)) ∷ success ∷ success ∷ Done (Entry entry.Pending (Some 9)) ∷ []
+  pub not_blocked : after_running (MemRangeBlock 1 0 4 ∷ MemRangeBlock 1 4096 1 ∷ MemRangeUnblock 1 0 4 ∷ MemRangeUnblock 1 4096 1 ∷ MemRangeBlock 1 4096 0 ∷ MemRangeUnblock 1 4096 0 ∷ MemTrack 32 ∷ MemTrack 8 ∷ [])
+      ≡ Refused (OperandInvalid 3) ∷ Refused (OperandInvalid 2) ∷ Refused (OperandInvalid 3) ∷ Refused (OperandInvalid 2) ∷ Refused (EptEntryStateIncorrect entry.Free) ∷ Refused (EptEntryStateIncorrect entry.Free)
+      ∷ Refused (OperandInvalid 1) ∷ Refused (PageMetadataIncorrect 8) ∷ []
+  pub blocked_early : answers_to (built ++ MemRangeBlock 1 0 0 ∷ MemTrack 1 ∷ []) ≡ ten_successes ++ success ∷ Refused (OpStateIncorrect op.Initialized) ∷ Refused (OpStateIncorrect op.Initialized) ∷ []
+  -- A page is removed once its block is tracked, in eleven events. It is the host's then, with zeros, and its place can be used
+  -- again. So is a page that its guest hasn't accepted.
+  pub removed_events : events_of (running ++ MemRangeBlock 1 0 0 ∷ MemTrack 1 ∷ MemPageRemove 1 0 ∷ []) ≡ 64 + 11 + 5 + 11 + 7 + 11
+  pub removed : answers_to (HostWrite 0 0 7 ∷ (running ++ MemPageRemove 1 0 ∷ MemRangeBlock 1 0 0 ∷ MemPageRemove 1 0 ∷ MemTrack 1 ∷ MemPageRemove 1 0 ∷ MemPageRemove 1 0 ∷ PhymemPageRdmd 8 ∷ HostRead 8 0 ∷ MemSeptRd 1 0 0 ∷ MemPageAug 1 0 8 ∷ []))
+      ≡ (success ∷ (ten_successes ++ success ∷ success ∷ [])) ++ Refused (EptEntryStateIncorrect entry.Mapped) ∷ success ∷ Refused TlbTrackingNotDone ∷ success ∷ success ∷ Refused (EptEntryStateIncorrect entry.Free)
+      ∷ Done (Page kind.Nda 0 0) ∷ Done (Number 0) ∷ Done (Entry entry.Free None) ∷ success ∷ []
+  pub removed_pending : after_running (MemPageAug 1 4096 9 ∷ MemRangeBlock 1 4096 0 ∷ MemTrack 1 ∷ MemPageRemove 1 4096 ∷ PhymemPageRdmd 9 ∷ []) ≡ success ∷ success ∷ success ∷ success ∷ Done (Page kind.Nda 0 0) ∷ []
+  -- a secure EPT page is removed once each of its entries is FREE; else the first that isn't is told
+  pub not_empty : after_running (MemPageAug 1 0x1000 9 ∷ MemRangeBlock 1 0 0 ∷ MemTrack 1 ∷ MemPageRemove 1 0 ∷ MemSeptRemove 1 0 1 ∷ MemRangeBlock 1 0 1 ∷ MemSeptRemove 1 0 1 ∷ MemRangeUnblock 1 0 1 ∷ MemTrack 1 ∷ MemRangeUnblock 1 0 1 ∷ MemRangeBlock 1 0x1000 0
+      ∷ MemTrack 1 ∷ MemPageRemove 1 0x1000 ∷ MemRangeBlock 1 0 1 ∷ MemSeptRemove 1 0 1 ∷ MemTrack 1 ∷ MemSeptRemove 1 0 1 ∷ PhymemPageRdmd 7 ∷ HostRead 7 0 ∷ MemSeptRd 1 0 1 ∷ MemSeptRemove 1 0 1 ∷ [])
+      ≡ success ∷ success ∷ success ∷ success ∷ Refused (EptEntryStateIncorrect entry.NlMapped) ∷ success ∷ Refused (SeptNotEmpty 1) ∷ Refused TlbTrackingNotDone ∷ success ∷ success ∷ success
+      ∷ success ∷ success ∷ success ∷ Refused TlbTrackingNotDone ∷ success ∷ success ∷ Done (Page kind.Nda 0 0) ∷ Done (Number 0) ∷ Done (Entry entry.Free None) ∷ Refused (EptEntryStateIncorrect entry.Free) ∷ []
+  pub not_empty_at_first : after_running (MemRangeBlock 1 0 1 ∷ MemTrack 1 ∷ MemSeptRemove 1 0 1 ∷ []) ≡ success ∷ success ∷ Refused (SeptNotEmpty 0) ∷ []
+  pub not_removed : after_running (MemSeptRemove 1 0 0 ∷ MemSeptRemove 1 0 4 ∷ MemSeptRemove 1 4096 1 ∷ MemPageRemove 1 4097 ∷ MemPageRemove 1 0x200000 ∷ VpFlush 1 1 ∷ VpFlush 1 8 ∷ VpFlush 1 4 ∷ [])
+      ≡ Refused (OperandInvalid 3) ∷ Refused (OperandInvalid 3) ∷ Refused (OperandInvalid 2) ∷ Refused (OperandInvalid 2) ∷ Refused (EptWalkFailed 1) ∷ Refused (OperandInvalid 2) ∷ Refused (PageMetadataIncorrect 8) ∷ Refused VcpuNotAssociated ∷ []
   -- what is measured: that the page was added; and where a chunk of it is, and its bytes
   pub one_page : measured_by added_page ≡ added_record
   pub one_chunk : measured_by (added_page ++ MrExtend 1 4352 ∷ [])

@@ -68,6 +68,10 @@ pub enum Call {
         vp: u64,
         max: u64,
     },
+    VpFlush {
+        tdr: u64,
+        vp: u64,
+    },
     MemSeptAdd {
         tdr: u64,
         gpa: u64,
@@ -75,6 +79,11 @@ pub enum Call {
         page: u64,
     },
     MemSeptRd {
+        tdr: u64,
+        gpa: u64,
+        level: u64,
+    },
+    MemSeptRemove {
         tdr: u64,
         gpa: u64,
         level: u64,
@@ -89,6 +98,23 @@ pub enum Call {
         tdr: u64,
         gpa: u64,
         page: u64,
+    },
+    MemPageRemove {
+        tdr: u64,
+        gpa: u64,
+    },
+    MemRangeBlock {
+        tdr: u64,
+        gpa: u64,
+        level: u64,
+    },
+    MemRangeUnblock {
+        tdr: u64,
+        gpa: u64,
+        level: u64,
+    },
+    MemTrack {
+        tdr: u64,
     },
 }
 
