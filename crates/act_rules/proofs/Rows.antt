@@ -1,5 +1,5 @@
 -- The act of each row changes what words are only as the rules say.
-use Rattle.std.proofs.Common.{◌≡◌, ◌⊎◌, refl, sym, ◌∙◌, ap, subst, inl, inr, ℕ, ◌+◌, List, [], ◌∷◌, ◌++◌, length, map, Bool, true, false, not, ◌==◌, nat_lt, arith}
+use Rattle.std.proofs.Common.{◌≡◌, ◌⊎◌, refl, sym, ◌∙◌, ap, subst, inl, inr, ℕ, zero, suc, ◌+◌, List, [], ◌∷◌, ◌++◌, length, map, Bool, true, false, not, ◌==◌, nat_lt, arith}
 use Rattle.std.specs.Prelude.{Option, Some, None}
 use Rattle.std.proofs.lemmas.Bool.{eq-eqb, eqb-true, ne_eqb, not-true, and_parts}
 use Rattle.std.proofs.lemmas.Bool.Decides.{nat_tests}
@@ -16,26 +16,29 @@ use Rattle.td_words.specs.declared.replies.Reply.{Reply}
 use Rattle.td_words.specs.declared.replies.Reply.TheVariants.{Refused}
 use Rattle.td_words.specs.declared.refusals.Status.TheVariants.{EptWalkFailed}
 use Rattle.td_words.specs.declared.machines.Machine.{Machine}
-use Rattle.td_words.specs.Packing.{Key as KeyState, Unassigned, AssignedTo, FlushedOf}
+use Rattle.td_words.specs.Packing.{Entry, Key as KeyState, Unassigned, AssignedTo, FlushedOf}
 use Rattle.td_words.specs.Place.{WordPlace, Lock, Pamt, Word, Key}
-use Rattle.flat_core.specs.World.{World, put}
+use Rattle.flat_core.specs.World.{World, put, free_entry}
 use Rattle.flat_core.specs.Processor.{OfPage, OfOp, OfTree, OfKeys}
 use Rattle.flat_core.specs.Lawful.{Lawful, ArePagesOf, key_owner}
 use Rattle.flat_core.specs.Row.{Item, Check, Passes}
 use Rattle.flat_core.specs.Conditions.{same_kind, is_host, is_host_in, is_free_key}
-use Rattle.flat_core.specs.Effects.{set_word, take_node, clear_page, give_back, end_memory_in, set_key, set_life, set_op, set_epoch, set_register, set_vp_state, begin_measurement, measure, end_measurement, begin_memory, set_page, map_page, write_back, written_back}
+use Rattle.flat_core.specs.Effects.{set_word, take_node, set_entry, block_page, unmap_page, end_memory, end_association, clear_page, give_back, end_memory_in, set_key, set_life, set_op, set_epoch, set_register, set_vp_state, begin_measurement, measure, end_measurement, begin_memory, set_page, map_page, write_back, written_back}
 use Rattle.flat_core.specs.TdRows.{create, add_tdcx}
 use Rattle.flat_core.specs.KeyRows.{reclaim_conditions}
 use Rattle.flat_core.specs.VpRows.{create_vp}
-use Rattle.flat_core.specs.Tree.{is_passed, page_of_gpa, number_at, levels_above}
-use Rattle.flat_core.proofs.Maps.{behind_walk}
+use Rattle.flat_core.specs.Tree.{is_passed, page_of_gpa, number_at, entry_at, empty_below, levels_above}
+use Rattle.flat_core.specs.Tracking.{tracked_page}
+use Rattle.flat_core.specs.MemRows.{removed_states}
+use Rattle.flat_core.proofs.Maps.{kind_named, node_named, behind_walk}
+use Rattle.flat_core.proofs.Ranges.{named_passed, named_alive, page_removed, sept_removed}
 use Rattle.flat_core.proofs.Keeps.{live_of}
 use Rattle.flat_core.proofs.Tests.{by_test, host_kind, tdr_kind}
 use Rattle.word_rules.specs.Guards.{Grip, Locked}
 use Rattle.word_rules.specs.Rules.{moves}
 use Rattle.word_rules.specs.Views.{named_by}
 use Rattle.word_rules.specs.Cells.{one_of_parity, entered_of_parity}
-use Rattle.word_rules.specs.Spots.{spot, slot_spot, slot_of, page_spot, control_class, is_empty, is_at_end}
+use Rattle.word_rules.specs.Spots.{spot, slot_spot, slot_of, page_spot, control_class, entry_class, entry_named, is_empty, is_at_end}
 use Rattle.word_rules.specs.Permissions.{MayAt, Moves, Respects}
 use Rattle.word_rules.specs.CallUses.{HoldsTries}
 use Rattle.word_rules.proofs.Conflicts.{respects-compose}
@@ -274,6 +277,43 @@ module _ (g : Grip) (w : World) where
       → Respects g w (map_page p kind.Reg entry.Pending t 0 (number_at 0 gpa) w)
   page-augmented t gpa p host own td tree = mapped p kind.Reg entry.Pending t 0 (number_at 0 gpa) host own td tree
 
+  -- MEM.RANGE.BLOCK and MEM.RANGE.UNBLOCK: an entry's state, and the epoch of a block
+  range-blocked : (t level number : ℕ) (e : Entry) (p : ℕ) → HoldsTd g t → g.sole (Locked (OfTree t)) ≡ true → Respects g w (block_page t p (set_entry t level number e w))
+  range-blocked t level number e p td tree =
+      let w1 : World = set_entry t level number e w in
+      let w2 : World = block_page t p w1 in
+      respects-compose.both g w w1 w2 ((effects-respect g w).entry t level number e td tree)
+      (leaves g w1 w2 (record { kinds = refl; owners = refl; levels = refl; numbers = refl; tds = λ u. same-td w1 w2 u refl refl refl (λ b. refl) (λ n. refl) }) (λ h. refl) refl)
+
+  -- VP.FLUSH
+  flushed : (v : ℕ) → Respects g w (end_association v w)
+  flushed v = let w' : World = end_association v w in leaves g w w' (all-same w w' refl (λ u. same-td w w' u refl refl refl (λ b. refl) (λ n. refl))) (λ h. refl) refl
+
+  -- MEM.PAGE.REMOVE and MEM.SEPT.REMOVE: the words of a page that an entry names, which is held alone with its TD's tree
+  node-moves : (t p level i : ℕ) → w.pages.kinds p ≡ kind_named level → w.pages.owners p ≡ t → HoldsTd g t → g.sole (Locked (OfTree t)) ≡ true → g.sole (Locked (OfPage p)) ≡ true → Moves g w (Word p i)
+  node-moves t p level i k o td tree own = rw (k, o) (by level)
+    where
+      entries : (l : ℕ) → MayAt g (record { class = entry_class w t l; td = t; page = p; named = entry_named w t l (w.pages.numbers p) i }) moves
+      entries zero = inl (td.tdr, (own, tt))
+      entries (suc zero) = inr (inr (inl (td.tdr, (td.op, (tree, tt)))))
+      entries (suc (suc l)) = inr (inl (td.tdr, (td.op, (tree, tt))))
+
+      by : (l : ℕ) → MayAt g (page_spot w t p (kind_named l) i) moves
+      by zero = inr (inr (inl (td.tdr, (own, tt))))
+      by (suc l) = entries (w.pages.levels p)
+
+  unmapped : (t level number : ℕ) → w.pages.kinds (w.tds.entries t level number).page ≡ kind_named level → w.pages.owners (w.tds.entries t level number).page ≡ t → HoldsTd g t → g.sole (Locked (OfTree t)) ≡ true
+      → g.sole (Locked (OfPage (w.tds.entries t level number).page)) ≡ true → Respects g w (unmap_page t level number w)
+  unmapped t level number k o td tree own =
+      let p : ℕ = (w.tds.entries t level number).page in
+      let w1 : World = take_node p kind.Nda 0 0 0 w in
+      let w2 : World = set_entry t level number free_entry w1 in
+      let w3 : World = clear_page p w2 in
+      let a : Respects g w w1 = (effects-respect g w).page p kind.Nda 0 0 0 (λ i. node-moves t p level i k o td tree own) in
+      let b : Respects g w1 w2 = (effects-respect g w1).entry t level number free_entry td tree in
+      let c : Respects g w2 w3 = leaves g w2 w3 (all-same w2 w3 refl (λ u. same-td w2 w3 u refl refl refl (λ b. refl) (λ n. refl))) (λ h. refl) refl in
+      respects-compose.both g w w2 w3 (respects-compose.both g w w1 w2 a b) c
+
   -- MR.EXTEND
   pub measured : (t : ℕ) (records : List ℕ) → Respects g w (measure t records w)
   measured t records = let w' : World = measure t records w in leaves g w w' (all-same w w' refl (λ u. same-td w w' u refl refl refl (λ b. refl) (λ n. refl))) (λ h. refl) refl
@@ -282,6 +322,13 @@ module _ (g : Grip) (w : World) where
 held-behind : (g : Grip) (b : ℕ → Bool) (r : ℕ → Reply) (ls : List ℕ) (items : List (Item Reply)) → HoldsTries g (map (λ l. Check (b l) (r l)) ls ++ items) → HoldsTries g items
 held-behind g b r [] items h = h
 held-behind g b r (l ∷ ls) items h = held-behind g b r ls items h
+
+page-unmapped : (g : Grip) (w : World) (t gpa : ℕ) → w.pages.kinds (entry_at w t 0 gpa).page ≡ kind.Reg → w.pages.owners (entry_at w t 0 gpa).page ≡ t → HoldsTd g t → g.sole (Locked (OfTree t)) ≡ true
+    → g.sole (Locked (OfPage (entry_at w t 0 gpa).page)) ≡ true → Respects g w (unmap_page t 0 (number_at 0 gpa) (end_memory t (page_of_gpa gpa) w))
+page-unmapped g w t gpa k o td tree own =
+    let w1 : World = end_memory t (page_of_gpa gpa) w in
+    let a : Respects g w w1 = leaves g w w1 (all-same w w1 refl (λ u. record { op = refl; controls = refl; epoch = refl; empty = λ b. refl; named = λ n. refl })) (λ h. refl) refl in
+    respects-compose.both g w w1 (unmap_page t 0 (number_at 0 gpa) w1) a (unmapped g w1 t 0 (number_at 0 gpa) k o td tree own)
 
 pub rows-respect : RowsRespect
 rows-respect o me (call.HostRead page word) g w la ps h = stays g w
@@ -312,6 +359,22 @@ rows-respect o me (call.MemSeptAdd tdr gpa level page) g w la ps h =
     let held = held-behind g (is_passed w tdr gpa) (λ l. Refused (EptWalkFailed l)) (levels_above level) _ h.1.1.1 in
     sept-added g w tdr gpa level page behind.1.0 held.0.1 (record { tdr = h.0; op = h.1.0 }) h.1.1.0.1
 rows-respect o me (call.MemSeptRd tdr gpa level) g w la ps h = stays g w
+rows-respect o me (call.VpFlush tdr vp) g w la ps h = flushed g w vp
+rows-respect o me (call.MemTrack tdr) g w la ps h = (effects-respect g w).epoch tdr (w.tds.epochs tdr + 1) (record { tdr = h.0; op = h.1.0 }) h.1.1.0.1
+rows-respect o me (call.MemRangeBlock tdr gpa level) g w la ps h =
+    range-blocked g w tdr level (number_at level gpa) _ (entry_at w tdr level gpa).page (record { tdr = h.0; op = h.1.0 }) h.1.1.0.1
+rows-respect o me (call.MemRangeUnblock tdr gpa level) g w la ps h = (effects-respect g w).entry tdr level (number_at level gpa) _ (record { tdr = h.0; op = h.1.0 }) h.1.1.0.1
+rows-respect o me (call.MemPageRemove tdr gpa) g w la ps h =
+    let rest = tracked_page w tdr (entry_at w tdr 0 gpa).page ∷ [] in
+    let q = named_passed w tdr gpa 0 removed_states rest ps.1.1.1 in
+    let node = node_named o.machine w la tdr 0 (number_at 0 gpa) (named_alive w tdr gpa 0 removed_states rest q) (page_removed (entry_at w tdr 0 gpa).state q.state).used in
+    page-unmapped g w tdr gpa node.page.kind node.page.owner (record { tdr = h.0; op = h.1.0 }) h.1.1.0.1 h.1.1.1.1.0.1
+rows-respect o me (call.MemSeptRemove tdr gpa level) g w la ps h =
+    let rest = empty_below w tdr gpa level ∷ tracked_page w tdr (entry_at w tdr level gpa).page ∷ [] in
+    let q = named_passed w tdr gpa level (entry.NlBlocked ∷ []) rest ps.1.1.1.1 in
+    let node = node_named o.machine w la tdr level (number_at level gpa) (named_alive w tdr gpa level (entry.NlBlocked ∷ []) rest q) (sept_removed (entry_at w tdr level gpa).state q.state).used in
+    let held = held-behind g (is_passed w tdr gpa) (λ l. Refused (EptWalkFailed l)) (levels_above level) _ h.1.1.1.1 in
+    unmapped g w tdr level (number_at level gpa) node.page.kind node.page.owner (record { tdr = h.0; op = h.1.0 }) h.1.1.0.1 held.0.1
 rows-respect o me (call.MemPageAdd tdr gpa page source) g w la ps h =
     page-added g w tdr gpa page (w.words source) _ ps.1.1.1.1.1.1.1.1.1.1.1.1.1.1.1.1.1.0 h.1.1.1.1.0.1 (record { tdr = h.0; op = h.1.0.0 }) h.1.1.0.1
 rows-respect o me (call.MemPageAug tdr gpa page) g w la ps h =

@@ -1,6 +1,6 @@
 -- A processor that runs while nobody else holds a lock: each try is granted, and a call is as good as done at once.
-use Rattle.std.proofs.Common.{◌≡◌, ◌≢◌, refl, sym, ◌∙◌, ap, subst, ℕ, zero, suc, ◌+◌, ◌-◌, ◌*◌, ◌<◌, ◌≤◌, List, [], ◌∷◌, ◌++◌, length, map, drop, replicate, Some, None, Bool, true, false, not, ◌==◌, arith, append_assoc, append-nil, length-append, inl, inr}
-use Rattle.std.specs.List.{concat}
+use Rattle.std.proofs.Common.{◌≡◌, ◌≢◌, refl, sym, ◌∙◌, ap, subst, ℕ, zero, suc, ◌+◌, ◌-◌, ◌*◌, ◌<◌, ◌≤◌, List, [], ◌∷◌, ◌++◌, length, map, drop, replicate, Option, Some, None, Bool, true, false, not, ◌==◌, arith, append_assoc, append-nil, length-append, inl, inr}
+use Rattle.std.specs.List.{concat, list_any}
 use Rattle.std.proofs.lemmas.Bool.{ne_eqb}
 use Rattle.std.proofs.lemmas.Bool.Decides.{eqb_tells}
 use Rattle.td_words.specs.declared.names.ReadField.{ReadField}
@@ -12,21 +12,32 @@ use Rattle.td_words.specs.declared.calls.Call.TheVariants as call
 use Rattle.td_words.specs.declared.replies.Reply.{Reply}
 use Rattle.td_words.specs.declared.replies.Reply.TheVariants.{Done, Refused}
 use Rattle.td_words.specs.declared.refusals.Status.TheVariants.{EptWalkFailed}
-use Rattle.flat_core.specs.Tree.{is_passed, levels_above}
+use Rattle.td_words.specs.declared.machines.Machine.{Machine}
+use Rattle.td_words.specs.declared.names.PageKind.TheVariants as kind
+use Rattle.td_words.specs.declared.names.EntryState.{EntryState}
+use Rattle.td_words.specs.declared.names.EntryState.TheVariants as entry
+use Rattle.flat_core.specs.Tree.{number_at, entry_at, same_state, empty_below, is_passed, levels_above}
+use Rattle.flat_core.specs.Tracking.{tracked_page}
+use Rattle.flat_core.specs.MemRows.{named_row, open_states, blocked_states, removed_states}
+use Rattle.flat_core.specs.Lawful.{Lawful, is_free}
 use Rattle.flat_core.specs.World.{World, first_world, put}
-use Rattle.flat_core.specs.Processor.{LockId, OfPage, Held, Phase, Trying, Answered, Lp, idle}
+use Rattle.flat_core.specs.Processor.{LockId, OfPage, OfOp, OfTree, OfEpoch, Held, Phase, Trying, Answered, Translation, Entering, Lp, idle}
 use Rattle.flat_core.specs.Locks.{alone_in, shared_in, alone_of, shared_of, refused_of, sum_below, holders, sharers, refusals, grants}
 use Rattle.flat_core.specs.Opening.{Opening}
-use Rattle.flat_core.specs.Row.{Item, Check, Try, Row, Attempts, Refuses, Succeeds, Releases, next, tries_in, call_row}
+use Rattle.flat_core.specs.Row.{Item, Check, Try, Attempts, Refuses, Succeeds, Releases, Passes, next, tries_in}
 use Rattle.flat_core.specs.TdRows.{read_conditions}
 use Rattle.flat_core.specs.KeyRows.{reclaim_conditions}
 use Rattle.flat_core.specs.Table.{row_of, most_events}
 use Rattle.flat_core.specs.Bounds.{RowsTryFew}
-use Rattle.flat_core.specs.Event.{State, Event, OfCall, start, lines_left, calls_of, event_for, line_event, world_after, lp_after, is_granted, after_event, event, settled}
+use Rattle.flat_core.specs.Event.{State, Event, OfCall, start, lines_left, calls_of, event_for, line_event, world_after, lp_after, is_granted, after_event, event, succeeded, settled}
 use Rattle.flat_core.specs.Run.{play, events_in, to_the_end}
 use Rattle.report_text.specs.Lines.{reply_lines}
 use Rattle.flat_core.specs.HostText.{lines_from, text_of, host_text}
-use Rattle.flat_core.proofs.Tests.{same_self, put_here}
+use Rattle.flat_core.proofs.Tests.{same_self, put_here, tdr_kind}
+use Rattle.flat_core.proofs.Maps.{unlisted, node_named}
+use Rattle.flat_core.proofs.Ranges.{block_restates, unblock_restates, page_removed, sept_removed}
+use Rattle.flat_core.proofs.Keeps.{row-keeps, first-lawful}
+use Rattle.flat_core.proofs.Blind.{is_living}
 use Rattle.flat_core.proofs.Induction.{counts_stay, play_append}
 use Rattle.flat_core.proofs.Ends.{drop_next}
 use Rattle.flat_alone.specs.Whole.{first_fault, reply_unless, world_unless, row_reply, row_world, replies_of, world_of, lines_at_once, world_at_once, EnterNone, CallsEnterNone, EachCallAtOnce, EndsInTheirWorld}
@@ -65,11 +76,11 @@ play-replicate o p (suc a) b s =
     let e : suc a + b ≡ suc (a + b) = omega arith in
     ap (λ (n : ℕ). play o (replicate n p) s) e ∙ play-replicate o p a b (event o s p)
 
--- a call that enters no guest leaves the cached translations as they are
-plain_row : (o : Opening) (p : ℕ) (c : Call) → (row_of o p c).enters ≡ None → row_of o p c ≡ call_row (row_of o p c).items (row_of o p c).act (row_of o p c).value
-plain_row o p (call.VpEnter tdr vp most) e = cc
-plain_row o p (call.HostRead page word) e = refl
-plain_row o p _ e = refl
+-- a call that enters no guest leaves a processor that has cached nothing so
+nothing_cached : (o : Opening) (p : ℕ) (c : Call) (w : World) → (row_of o p c).enters ≡ None → (row_of o p c).cached w [] ≡ []
+nothing_cached o p (call.VpEnter tdr vp most) w e = cc
+nothing_cached o p (call.HostRead page word) w e = refl
+nothing_cached o p _ w e = refl
 
 -- a page that isn't the TDR page
 other_page : (page tdr : ℕ) → not (page == tdr) ≡ true → (tdr == page) ≡ false
@@ -98,26 +109,53 @@ apart_false : (b : Bool) → not b ≡ true → b ≡ false
 apart_false true h = cc
 apart_false false h = refl
 
-free_row : (o : Opening) (p : ℕ) (c : Call) (w : World) → FreeTries [] ((row_of o p c).items w)
-free_row o p (call.HostRead page word) w = λ a b. (refl, refl, tt)
-free_row o p (call.HostWrite page word value) w = λ a b. (refl, refl, λ d. tt)
-free_row o p (call.PhymemPageRdmd page) w = λ a. (refl, refl, tt)
-free_row o p call.PhymemCacheWb w = (refl, refl, tt)
-free_row o p (call.PhymemPageReclaim tdr page) w = λ a b. (refl, refl, λ d e. free_reclaim w tdr page (page == tdr) refl)
-free_row o p (call.MngCreate tdr hkid) w = λ a b. (refl, refl, λ d. (refl, refl, λ e. tt))
-free_row o p (call.MngKeyConfig tdr) w = λ a. (refl, refl, λ b d. tt)
-free_row o p (call.MngAddcx tdr page) w = λ a b apart. (refl, refl, λ d e f. let n : (tdr == page) ≡ false = other_page page tdr apart in (rw n refl, refl, λ g. tt))
-free_row o p (call.MngInit tdr) w = λ a. (refl, refl, λ b d e. (refl, refl, λ f. tt))
-free_row o p (call.MngRd tdr f) w = λ a. free_read w tdr f
-free_row o p (call.MngVpflushdone tdr) w = λ a. (refl, refl, λ b d e. (refl, refl, tt))
-free_row o p (call.MngKeyFreeid tdr) w = λ a. (refl, refl, λ b d. (refl, refl, λ e. tt))
-free_row o p (call.MrFinalize tdr) w = λ a. (refl, refl, λ b d e. (refl, refl, λ f g. tt))
-free_row o p (call.VpCreate tdr page) w = λ a b apart. (refl, refl, λ d e f. (refl, refl, λ g h. let n : (tdr == page) ≡ false = other_page page tdr apart in (refl, rw n refl, λ i. tt)))
-free_row o p (call.VpInit tdr vp v) w = λ a b apart. (refl, refl, λ d e f. (refl, refl, λ g. let n : (tdr == vp) ≡ false = other_page vp tdr apart in (refl, rw n refl, λ h i. tt)))
-free_row o p (call.VpEnter tdr vp most) w =
+-- an entry of a TD names a page that isn't its TDR page
+free_named : (m : Machine) (w : World) → Lawful m w → (tdr gpa level : ℕ) (allowed : List EntryState) → ((s : EntryState) → list_any (λ a. same_state a s) allowed ≡ true → is_free s ≡ false) → (rest : List (Item Reply))
+    → FreeTries (record { lock = OfPage (entry_at w tdr level gpa).page; mode = Exclusive } ∷ record { lock = OfEpoch tdr; mode = Shared } ∷ record { lock = OfTree tdr; mode = Exclusive } ∷ record { lock = OfOp tdr; mode = Shared } ∷ record { lock = OfPage tdr; mode = Shared } ∷ []) rest
+    → FreeTries [] (named_row w tdr gpa level allowed rest)
+free_named m w la tdr gpa level allowed used rest more = (
+  refl,
+  refl,
+  λ root living two. (
+    refl,
+    refl,
+    λ runs. (
+      refl,
+      refl,
+      (
+        refl,
+        refl,
+        free_walk _ (is_passed w tdr gpa) (λ l. Refused (EptWalkFailed l)) (levels_above level) _
+            (λ state.
+            let tdr_is : w.pages.kinds tdr ≡ kind.Tdr = tdr_kind _ root in
+            let node = node_named m w la tdr level (number_at level gpa) (record { kind = tdr_is; life = is_living (w.tds.lives tdr) living }) (used _ state) in
+            let n : (tdr == (entry_at w tdr level gpa).page) ≡ false = ne_eqb tdr _ (λ e. unlisted level kind.Tdr refl (sym node.page.kind ∙ (ap w.pages.kinds (sym e) ∙ tdr_is))) in
+            (refl, rw n refl, more)),
+      ),
+    ),
+  ),
+)
+
+free_row : (o : Opening) (p : ℕ) (c : Call) (w : World) → Lawful o.machine w → FreeTries [] ((row_of o p c).items w)
+free_row o p (call.HostRead page word) w la = λ a b. (refl, refl, tt)
+free_row o p (call.HostWrite page word value) w la = λ a b. (refl, refl, λ d. tt)
+free_row o p (call.PhymemPageRdmd page) w la = λ a. (refl, refl, tt)
+free_row o p call.PhymemCacheWb w la = (refl, refl, tt)
+free_row o p (call.PhymemPageReclaim tdr page) w la = λ a b. (refl, refl, λ d e. free_reclaim w tdr page (page == tdr) refl)
+free_row o p (call.MngCreate tdr hkid) w la = λ a b. (refl, refl, λ d. (refl, refl, λ e. tt))
+free_row o p (call.MngKeyConfig tdr) w la = λ a. (refl, refl, λ b d. tt)
+free_row o p (call.MngAddcx tdr page) w la = λ a b apart. (refl, refl, λ d e f. let n : (tdr == page) ≡ false = other_page page tdr apart in (rw n refl, refl, λ g. tt))
+free_row o p (call.MngInit tdr) w la = λ a. (refl, refl, λ b d e. (refl, refl, λ f. tt))
+free_row o p (call.MngRd tdr f) w la = λ a. free_read w tdr f
+free_row o p (call.MngVpflushdone tdr) w la = λ a. (refl, refl, λ b d e. (refl, refl, tt))
+free_row o p (call.MngKeyFreeid tdr) w la = λ a. (refl, refl, λ b d. (refl, refl, λ e. tt))
+free_row o p (call.MrFinalize tdr) w la = λ a. (refl, refl, λ b d e. (refl, refl, λ f g. tt))
+free_row o p (call.VpCreate tdr page) w la = λ a b apart. (refl, refl, λ d e f. (refl, refl, λ g h. let n : (tdr == page) ≡ false = other_page page tdr apart in (refl, rw n refl, λ i. tt)))
+free_row o p (call.VpInit tdr vp v) w la = λ a b apart. (refl, refl, λ d e f. (refl, refl, λ g. let n : (tdr == vp) ≡ false = other_page vp tdr apart in (refl, rw n refl, λ h i. tt)))
+free_row o p (call.VpEnter tdr vp most) w la =
     λ a b m apart. (refl, refl, λ d e f. (refl, refl, λ g. let n : (tdr == vp) ≡ false = other_page vp tdr apart in (refl, rw n refl, λ h i j. (refl, refl, tt))))
-free_row o p (call.MrExtend tdr gpa) w = λ a b d. (refl, refl, λ e f g. (refl, refl, λ h. (refl, refl, λ i j k l. (refl, refl, tt))))
-free_row o p (call.MemSeptAdd tdr gpa level page) w = λ a b d e apart f. (
+free_row o p (call.MrExtend tdr gpa) w la = λ a b d. (refl, refl, λ e f g. (refl, refl, λ h. (refl, refl, λ i j k l. (refl, refl, tt))))
+free_row o p (call.MemSeptAdd tdr gpa level page) w la = λ a b d e apart f. (
   refl,
   refl,
   λ g h i. (
@@ -131,7 +169,7 @@ free_row o p (call.MemSeptAdd tdr gpa level page) w = λ a b d e apart f. (
     ),
   ),
 )
-free_row o p (call.MemSeptRd tdr gpa level) w = λ a b d e. (
+free_row o p (call.MemSeptRd tdr gpa level) w la = λ a b d e. (
   refl,
   refl,
   λ g h i. (
@@ -144,7 +182,17 @@ free_row o p (call.MemSeptRd tdr gpa level) w = λ a b d e. (
     ),
   ),
 )
-free_row o p (call.MemPageAdd tdr gpa page source) w = λ a b d e first second third f. (
+free_row o p (call.MemSeptRemove tdr gpa level) w la =
+    λ a b d e. free_named o.machine w la tdr gpa level (entry.NlBlocked ∷ []) (λ s h. (sept_removed s h).used) (empty_below w tdr gpa level ∷ tracked_page w tdr (entry_at w tdr level gpa).page ∷ []) (λ x y. tt)
+free_row o p (call.MemPageRemove tdr gpa) w la =
+    λ a b d. free_named o.machine w la tdr gpa 0 removed_states (λ s h. (page_removed s h).used) (tracked_page w tdr (entry_at w tdr 0 gpa).page ∷ []) (λ x. tt)
+free_row o p (call.MemRangeBlock tdr gpa level) w la =
+    λ a b d e. free_named o.machine w la tdr gpa level open_states (λ s h. (block_restates s h).used) [] tt
+free_row o p (call.MemRangeUnblock tdr gpa level) w la =
+    λ a b d e. free_named o.machine w la tdr gpa level blocked_states (λ s h. (unblock_restates s h).used) (tracked_page w tdr (entry_at w tdr level gpa).page ∷ []) (λ x. tt)
+free_row o p (call.MemTrack tdr) w la = λ a. (refl, refl, λ b d e. (refl, refl, λ f. (refl, refl, λ g h. tt)))
+free_row o p (call.VpFlush tdr vp) w la = λ a b apart. (refl, refl, λ d e. let n : (tdr == vp) ≡ false = other_page vp tdr apart in (refl, rw n refl, λ f g h. tt))
+free_row o p (call.MemPageAdd tdr gpa page source) w la = λ a b d e first second third f. (
   refl,
   refl,
   λ g h i. (
@@ -161,7 +209,7 @@ free_row o p (call.MemPageAdd tdr gpa page source) w = λ a b d e first second t
     ),
   ),
 )
-free_row o p (call.MemPageAug tdr gpa page) w = λ a b d apart e. (
+free_row o p (call.MemPageAug tdr gpa page) w la = λ a b d apart e. (
   refl,
   refl,
   λ g h i. (
@@ -176,6 +224,24 @@ free_row o p (call.MemPageAug tdr gpa page) w = λ a b d apart e. (
     ),
   ),
 )
+
+-- and every world is lawful
+passes_of : (items : List (Item Reply)) → first_fault items ≡ None → Passes items
+passes_of [] e = tt
+passes_of (Check true r ∷ items) e = (refl, passes_of items e)
+passes_of (Check false r ∷ items) e = cc
+passes_of (Try l m ∷ items) e = passes_of items e
+
+row_lawful : (o : Opening) (p : ℕ) (c : Call) (w : World) → Lawful o.machine w → Lawful o.machine (row_world (row_of o p c) w)
+row_lawful o p c w la = by (first_fault ((row_of o p c).items w)) refl
+  where
+    by : (x : Option Reply) → first_fault ((row_of o p c).items w) ≡ x → Lawful o.machine (world_unless x (row_of o p c) w)
+    by None e = (row-keeps o p c).act w la (passes_of ((row_of o p c).items w) e)
+    by (Some r) e = la
+
+calls_lawful : (o : Opening) (p : ℕ) (cs : List Call) (w : World) → Lawful o.machine w → Lawful o.machine (world_of o p w cs)
+calls_lawful o p [] w la = la
+calls_lawful o p (c ∷ cs) w la = calls_lawful o p cs (row_world (row_of o p c) w) (row_lawful o p c w la)
 
 module _ (tries : RowsTryFew) (o : Opening) (p : ℕ) (before : ℕ → Lp) (quiet : (q : ℕ) → q ≢ p → Quiet (before q)) where
   -- the world and its own record; the others' are as before
@@ -255,7 +321,8 @@ module _ (tries : RowsTryFew) (o : Opening) (p : ℕ) (before : ℕ → Lp) (qui
   through w c cs rs none line [] hs s at free passes =
       let row = row_of o p c in
       let done : lp_after w false (OfCall row Succeeds) (lp_of Trying hs rs) ≡ settled (lp_of (Answered (Done (row.value w))) hs rs) =
-      ap (λ (x : Row). lp_after w false (OfCall x Succeeds) (lp_of Trying hs rs)) (plain_row o p c none) in
+      ap (λ (x : Option Entering). settled (succeeded w row x (lp_of Trying hs rs))) none
+      ∙ ap (λ (ts : List Translation). settled (record (lp_of (Answered (Done (row.value w))) hs rs) { cached = ts })) (nothing_cached o p c w none) in
       step s w (row.act w) (lp_of Trying hs rs) (lp_of Trying [] (rs ++ Done (row.value w) ∷ [])) c cs (OfCall row Succeeds) false (length hs + 0)
       at line (ap (OfCall row) (passes (length hs) 0 (omega arith))) refl
       (λ t at'. later (length hs) (length hs + 0) t _ _ (omega arith) (back (row.act w) c cs rs (Done (row.value w)) line hs t (subst (At t (row.act w)) done at')))
@@ -273,18 +340,18 @@ module _ (tries : RowsTryFew) (o : Opening) (p : ℕ) (before : ℕ → Lp) (qui
       (through w c cs rs none line items (h ∷ hs) t at' free.2 (λ a k e. passes a (suc k) (omega arith))))
 
   -- all its lines
-  finish : (cs : List Call) (w : World) (rs : List Reply) (s : State) → EnterNone o p cs → drop (length rs) (calls_of o.calls p) ≡ cs → At s w (lp_of Trying [] rs)
+  finish : (cs : List Call) (w : World) (rs : List Reply) (s : State) → Lawful o.machine w → EnterNone o p cs → drop (length rs) (calls_of o.calls p) ≡ cs → At s w (lp_of Trying [] rs)
       → Comes (events_in cs) s (world_of o p w cs) (lp_of Trying [] (rs ++ replies_of o p w cs))
-  finish [] w rs s none line at = (0, omega arith, subst (λ x. At s w (lp_of Trying [] x)) (sym (append-nil rs)) at)
-  finish (c ∷ cs) w rs s none line at =
+  finish [] w rs s la none line at = (0, omega arith, subst (λ x. At s w (lp_of Trying [] x)) (sym (append-nil rs)) at)
+  finish (c ∷ cs) w rs s la none line at =
       let row = row_of o p c in
       let r : Reply = row_reply row w in
       let one : length (rs ++ r ∷ []) ≡ suc (length rs) = omega (arith, length-append rs (r ∷ [])) in
       more (most_events c) (events_in cs) s (row_world row w) _ (lp_of Trying [] (rs ++ r ∷ [])) _
       (later (suc (0 + 2 * tries_in (row.items w))) (most_events c) s _ _ (omega (arith, tries o p c w))
-      (through w c cs rs none.0 line (row.items w) [] s at (free_row o p c w) (λ a k e. ap (next (row.items w)) (omega arith))))
+      (through w c cs rs none.0 line (row.items w) [] s at (free_row o p c w la) (λ a k e. ap (next (row.items w)) (omega arith))))
       (λ t at'. subst (λ x. Comes (events_in cs) t (world_of o p (row_world row w) cs) (lp_of Trying [] x)) (append_assoc rs (r ∷ []) (replies_of o p (row_world row w) cs))
-      (finish cs (row_world row w) (rs ++ r ∷ []) t none.1 (ap (λ k. drop k (calls_of o.calls p)) one ∙ drop_next (length rs) (calls_of o.calls p) c cs line) at'))
+      (finish cs (row_world row w) (rs ++ r ∷ []) t (row_lawful o p c w la) none.1 (ap (λ k. drop k (calls_of o.calls p)) one ∙ drop_next (length rs) (calls_of o.calls p) c cs line) at'))
 
   -- what is left over of its items does nothing
   stays : (n : ℕ) (s : State) → lines_left o p (s.lps p) ≡ [] → play o (replicate n p) s ≡ s
@@ -294,11 +361,11 @@ module _ (tries : RowsTryFew) (o : Opening) (p : ℕ) (before : ℕ → Lp) (qui
       ap (λ t. play o (replicate n p) t) same ∙ stays n s none
 
   -- from its first line on
-  pub to_its_end : (cs : List Call) (w : World) (s : State) → EnterNone o p cs → calls_of o.calls p ≡ cs → At s w (lp_of Trying [] [])
+  pub to_its_end : (cs : List Call) (w : World) (s : State) → Lawful o.machine w → EnterNone o p cs → calls_of o.calls p ≡ cs → At s w (lp_of Trying [] [])
       → At (play o (replicate (events_in cs) p) s) (world_of o p w cs) (lp_of Trying [] (replies_of o p w cs))
-  to_its_end cs w s enter line at =
+  to_its_end cs w s la enter line at =
       let rs = replies_of o p w cs in
-      let (k, le, at') = finish cs w [] s enter line at in
+      let (k, le, at') = finish cs w [] s la enter line at in
       let done = play o (replicate k p) s in
       let count : events_in cs ≡ k + (events_in cs - k) = omega arith in
       let none : lines_left o p (done.lps p) ≡ [] =
@@ -319,17 +386,17 @@ quiet_out : (rs : List Reply) → Quiet (lp_of Trying [] rs)
 quiet_out rs = record { alone = λ l. refl; shared = λ l. refl; refused = λ l. refl }
 
 -- from processor p on
-each : (tries : RowsTryFew) (o : Opening) (enter : CallsEnterNone o) (css : List (List Call)) (p : ℕ) (w : World) (s : State) → s.world ≡ w → ((q : ℕ) → Quiet (s.lps q)) → ((q : ℕ) → p ≤ q → s.lps q ≡ idle)
+each : (tries : RowsTryFew) (o : Opening) (enter : CallsEnterNone o) (css : List (List Call)) (p : ℕ) (w : World) (s : State) → Lawful o.machine w → s.world ≡ w → ((q : ℕ) → Quiet (s.lps q)) → ((q : ℕ) → p ≤ q → s.lps q ≡ idle)
     → ((i : ℕ) → calls_of o.calls (p + i) ≡ calls_of css i)
     → (lines_from (length css) p (play o (to_the_end p css) s).lps ≡ lines_at_once o p w css) × ((q : ℕ) → q < p → (play o (to_the_end p css) s).lps q ≡ s.lps q)
     × ((play o (to_the_end p css) s).world ≡ world_at_once o p w css)
-each tries o enter [] p w s world quiet fresh calls = (refl, λ q h. refl, world)
-each tries o enter (cs ∷ css) p w s world quiet fresh calls =
+each tries o enter [] p w s la world quiet fresh calls = (refl, λ q h. refl, world)
+each tries o enter (cs ∷ css) p w s la world quiet fresh calls =
     let out : (q : ℕ) → q ≢ p → Quiet (s.lps q) = λ q ne. quiet q in
     let mine : calls_of o.calls p ≡ cs = let e : p ≡ p + 0 = omega arith in ap (calls_of o.calls) e ∙ calls 0 in
-    let at = to_its_end tries o p s.lps out cs w s (subst (λ (x : List Call). EnterNone o p x) mine (enter p)) mine (record { world = world; own = fresh p (omega arith); others = λ q ne. refl }) in
+    let at = to_its_end tries o p s.lps out cs w s la (subst (λ (x : List Call). EnterNone o p x) mine (enter p)) mine (record { world = world; own = fresh p (omega arith); others = λ q ne. refl }) in
     let t = play o (replicate (events_in cs) p) s in
-    let rest = each tries o enter css (suc p) (world_of o p w cs) t at.world
+    let rest = each tries o enter css (suc p) (world_of o p w cs) t (calls_lawful o p cs w la) at.world
     (λ q. elim (eqb_tells q p) [
       | inl x ↦ subst Quiet (sym (ap t.lps x.1 ∙ at.own)) (quiet_out (replies_of o p w cs))
       | inr x ↦ subst Quiet (sym (at.others q x.1)) (quiet q)
@@ -355,7 +422,7 @@ each tries o enter (cs ∷ css) p w s world quiet fresh calls =
 from_the_start : (tries : RowsTryFew) (o : Opening) → CallsEnterNone o → let t = play o (to_the_end 0 o.calls) (start o None) in
     (lines_from (length o.calls) 0 t.lps ≡ lines_at_once o 0 (first_world o.machine.pages None) o.calls) × (t.world ≡ world_at_once o 0 (first_world o.machine.pages None) o.calls)
 from_the_start tries o enter =
-    let all = each tries o enter o.calls 0 (first_world o.machine.pages None) (start o None) refl (λ q. quiet_out []) (λ q h. refl)
+    let all = each tries o enter o.calls 0 (first_world o.machine.pages None) (start o None) (first-lawful o.machine None) refl (λ q. quiet_out []) (λ q h. refl)
     (λ i. let e : 0 + i ≡ i = omega arith in ap (calls_of o.calls) e) in
     (all.0, all.2)
 

@@ -52,6 +52,7 @@ module _ (o : Opening) (w : World) (t n : ℕ) where
   call_remembers me (call.MngCreate tdr hkid) = begins tdr (t == tdr)
   call_remembers me (call.PhymemPageReclaim tdr page) = ends tdr (w.pages.numbers page) (same_kind (w.pages.kinds page) kind.Reg)
   call_remembers me (call.MemPageAdd tdr gpa page source) = refl
+  call_remembers me (call.MemPageRemove tdr gpa) = refl
   call_remembers me (call.HostRead page word) = refl
   call_remembers me _ = refl
 

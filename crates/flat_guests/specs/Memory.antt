@@ -19,12 +19,13 @@ abbrev pub memory_at : World → (tdr gpa_page : ℕ) → Option (ℕ → ℕ)
 memory_at w t n = w.hidden.memories t n
 
 -- after a call has succeeded: of a TD that begins nothing is known, a page that is added has the source's words, and of a
--- private page that is reclaimed nothing is known
+-- private page that is removed or reclaimed nothing is known
 abbrev pub memory_after_call : Call → World → (tdr gpa_page : ℕ) → Option (ℕ → ℕ)
 memory_after_call (call.MngCreate tdr hkid) w t n = if t == tdr then None else memory_at w t n
 memory_after_call (call.MemPageAdd tdr gpa page source) w t n = if t == tdr && n == page_of_gpa gpa then Some (w.words source) else memory_at w t n
 memory_after_call (call.PhymemPageReclaim tdr page) w t n =
     if same_kind (w.pages.kinds page) kind.Reg && (t == tdr && n == w.pages.numbers page) then None else memory_at w t n
+memory_after_call (call.MemPageRemove tdr gpa) w t n = if t == tdr && n == page_of_gpa gpa then None else memory_at w t n
 memory_after_call _ w t n = memory_at w t n
 
 -- after a guest's operation has: a page that was PENDING is accepted with zeros

@@ -1,8 +1,9 @@
 -- After the act of each row a TD whose locks stood goes on to stand, but where the row holds P of its TDR page alone.
-use Rattle.std.proofs.Common.{◌≡◌, ◌⊎◌, refl, sym, ◌∙◌, ap, inl, inr, ℕ, Bool, true, false, not, ◌==◌}
+use Rattle.std.proofs.Common.{◌≡◌, ◌⊎◌, refl, sym, ◌∙◌, ap, inl, inr, ℕ, [], ◌∷◌, Bool, true, false, not, ◌==◌}
 use Rattle.std.proofs.lemmas.Bool.{eqb-true, eqb-false, ne_eqb, and_parts}
 use Rattle.td_words.specs.declared.names.Mode.TheVariants.{Exclusive}
 use Rattle.td_words.specs.declared.names.PageKind.TheVariants as kind
+use Rattle.td_words.specs.declared.names.EntryState.TheVariants as entry
 use Rattle.td_words.specs.declared.calls.Call.{Call}
 use Rattle.td_words.specs.declared.calls.Call.TheVariants as call
 use Rattle.flat_core.specs.World.{World}
@@ -10,9 +11,13 @@ use Rattle.flat_core.specs.Opening.{Opening}
 use Rattle.flat_core.specs.Row.{Passes}
 use Rattle.flat_core.specs.Conditions.{is_host}
 use Rattle.flat_core.specs.KeyRows.{reclaim_conditions}
-use Rattle.flat_core.specs.Lawful.{Lawful}
+use Rattle.flat_core.specs.MemRows.{removed_states}
+use Rattle.flat_core.specs.Tracking.{tracked_page}
+use Rattle.flat_core.specs.Tree.{number_at, entry_at, empty_below}
+use Rattle.flat_core.specs.Lawful.{Lawful, IsAlive, is_free}
 use Rattle.flat_core.specs.Table.{row_of}
-use Rattle.flat_core.proofs.Maps.{behind_walk}
+use Rattle.flat_core.proofs.Maps.{unlisted, node_named, behind_walk}
+use Rattle.flat_core.proofs.Ranges.{named_passed, named_alive, page_removed, sept_removed}
 use Rattle.flat_core.proofs.Tests.{by_test, host_kind}
 use Rattle.lock_words.specs.LockWords.{TdStands}
 use Rattle.lock_words.specs.Reached.{held_as}
@@ -30,6 +35,12 @@ apart-host w t p st host = ne_eqb t p (λ e. let bad : kind.Tdr ≡ kind.Nda = s
 apart-owned : (o : Opening) (w : World) (t u p : ℕ) → Lawful o.machine w → TdStands w t → (t == u) ≡ false → w.pages.owners p ≡ u → (t == p) ≡ false
 apart-owned o w t u p la st n owned = ne_eqb t p (λ e. eqb-false t u n (sym (la.pages.tdr t st.alive.kind) ∙ (ap w.pages.owners e ∙ owned)))
 
+-- nor one that an entry of a TD names
+apart-named : (o : Opening) (w : World) (t u level n : ℕ) → Lawful o.machine w → TdStands w t → IsAlive w.pages w.tds u → is_free (w.tds.entries u level n).state ≡ false → (t == (w.tds.entries u level n).page) ≡ false
+apart-named o w t u level n la st alive used =
+    let node = node_named o.machine w la u level n alive used in
+    ne_eqb t _ (λ e. unlisted level kind.Tdr refl (sym node.page.kind ∙ (ap w.pages.kinds (sym e) ∙ st.alive.kind)))
+
 same-page : (t tdr : ℕ) → (t == tdr) ≡ true → held_as tdr Exclusive ≡ held_as t Exclusive
 same-page t tdr y = ap (λ (x : ℕ). held_as x Exclusive) (sym (eqb-true t tdr y))
 
@@ -46,6 +57,20 @@ acts-go-on o me (call.MrFinalize tdr) w t la ps st = inl (same-td w _ t st refl 
 acts-go-on o me (call.VpInit tdr vp value) w t la ps st = inl (same-td w _ t st refl refl refl)
 acts-go-on o me (call.VpEnter tdr vp most) w t la ps st = inl (same-td w _ t st refl refl refl)
 acts-go-on o me (call.MemSeptRd tdr gpa level) w t la ps st = inl st
+acts-go-on o me (call.VpFlush tdr vp) w t la ps st = inl (same-td w _ t st refl refl refl)
+acts-go-on o me (call.MemRangeBlock tdr gpa level) w t la ps st = inl (same-td w _ t st refl refl refl)
+acts-go-on o me (call.MemRangeUnblock tdr gpa level) w t la ps st = inl (same-td w _ t st refl refl refl)
+acts-go-on o me (call.MemTrack tdr) w t la ps st = inl (same-td w _ t st refl refl refl)
+acts-go-on o me (call.MemPageRemove tdr gpa) w t la ps st =
+    let rest = tracked_page w tdr (entry_at w tdr 0 gpa).page ∷ [] in
+    let q = named_passed w tdr gpa 0 removed_states rest ps.1.1.1 in
+    let n = apart-named o w t tdr 0 (number_at 0 gpa) la st (named_alive w tdr gpa 0 removed_states rest q) (page_removed (entry_at w tdr 0 gpa).state q.state).used in
+    inl (same-td w _ t st (rw n refl) refl refl)
+acts-go-on o me (call.MemSeptRemove tdr gpa level) w t la ps st =
+    let rest = empty_below w tdr gpa level ∷ tracked_page w tdr (entry_at w tdr level gpa).page ∷ [] in
+    let q = named_passed w tdr gpa level (entry.NlBlocked ∷ []) rest ps.1.1.1.1 in
+    let n = apart-named o w t tdr level (number_at level gpa) la st (named_alive w tdr gpa level (entry.NlBlocked ∷ []) rest q) (sept_removed (entry_at w tdr level gpa).state q.state).used in
+    inl (same-td w _ t st (rw n refl) refl refl)
 acts-go-on o me (call.VpCreate tdr page) w t la ps st =
     let n : (t == page) ≡ false = apart-host w t page st ps.1.1.1.1.1.1.1.1.0 in
     inl (same-td w _ t st (rw n refl) refl refl)

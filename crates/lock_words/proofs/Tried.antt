@@ -7,6 +7,7 @@ use Rattle.td_words.specs.declared.names.Mode.TheVariants.{Shared, Exclusive}
 use Rattle.td_words.specs.declared.names.PageKind.TheVariants as kind
 use Rattle.td_words.specs.declared.names.OpState.{OpState}
 use Rattle.td_words.specs.declared.names.OpState.TheVariants as op
+use Rattle.td_words.specs.declared.names.EntryState.{EntryState}
 use Rattle.td_words.specs.declared.names.EntryState.TheVariants as entry
 use Rattle.td_words.specs.declared.names.VcpuState.TheVariants as vcpu
 use Rattle.td_words.specs.declared.names.ReadField.TheVariants as field
@@ -19,9 +20,11 @@ use Rattle.flat_core.specs.World.{World}
 use Rattle.flat_core.specs.Processor.{LockId, Held}
 use Rattle.flat_core.specs.Opening.{Opening}
 use Rattle.flat_core.specs.Row.{Item, Check, Try, Attempts, Succeeds, next, Passes}
-use Rattle.flat_core.specs.Conditions.{all_ops, begun_ops, growing_ops, later_ops, running_ops, not_elsewhere, td_row, page_exclusive, tree_shared, tree_exclusive, epoch_shared, host_page, td_page, vps_ready, vp_room, vp_in, augmented_ops}
+use Rattle.flat_core.specs.Conditions.{all_ops, begun_ops, growing_ops, later_ops, running_ops, not_elsewhere, td_row, page_exclusive, tree_shared, tree_exclusive, epoch_shared, epoch_exclusive, host_page, td_page, vps_ready, vp_room, vp_in, augmented_ops, blocking_ops}
+use Rattle.flat_core.specs.Tracking.{tracked_page, epoch_room, previous_epoch_left}
 use Rattle.flat_core.specs.KeyRows.{reclaim_conditions}
-use Rattle.flat_core.specs.Tree.{entry_at, same_state, walk, state_in, named_page}
+use Rattle.flat_core.specs.MemRows.{named_row, open_states, blocked_states, removed_states}
+use Rattle.flat_core.specs.Tree.{entry_at, same_state, walk, state_in, empty_below, named_page}
 use Rattle.flat_core.specs.Table.{row_of}
 use Rattle.flat_core.specs.Tries.{tries, tries_of}
 use Rattle.flat_core.proofs.Tries.{rows_try_lists}
@@ -64,6 +67,12 @@ module _ (w : World) (t : ℕ) (mode : Mode) (allowed : List OpState) (items : L
   head-fits : (TdStands w t → TriesFit w (held_as t Shared) items) → TriesFit w None (td_row w t mode allowed ++ items)
   head-fits k = ((tt, tt), λ root alive count. let st = td-stands w t root alive count in ((refl, st), λ in_state. k st))
 
+-- and of the rows that block, unblock and remove
+named-fits : (w : World) (t gpa level : ℕ) (allowed : List EntryState) (rest : List (Item Reply)) → TriesFit w (held_as t Shared) rest → TriesFit w None (named_row w t gpa level allowed rest)
+named-fits w t gpa level allowed rest h =
+    let items : List (Item Reply) = state_in w t gpa level allowed ∷ named_page w t gpa level Exclusive ∷ rest in
+    head-fits w t Shared blocking_ops (tree_exclusive t ∷ epoch_shared t ∷ (walk w t gpa level ++ items)) (λ st. ((refl, st), ((refl, st), walk-fits w t gpa level items (λ x. ((tt, tt), h)))))
+
 pub rows-fit : (o : Opening) (me : ℕ) (c : Call) (w : World) → TriesFit w None ((row_of o me c).items w)
 rows-fit o me (call.HostRead page word) w = λ a b. ((tt, tt), tt)
 rows-fit o me (call.HostWrite page word value) w = λ a b. ((tt, tt), λ x. tt)
@@ -99,6 +108,13 @@ rows-fit o me (call.MemSeptAdd tdr gpa level page) w =
 rows-fit o me (call.MemSeptRd tdr gpa level) w =
     λ a b c d. head-fits w tdr Shared begun_ops (tree_exclusive tdr ∷ walk w tdr gpa level)
     (λ st. ((refl, st), checks-alone w (held_as tdr Shared) (λ l. same_state (entry_at w tdr l gpa).state entry.NlMapped) (λ l. Refused (EptWalkFailed l)) (filter (λ l. nat_lt level l) (3 ∷ 2 ∷ 1 ∷ []))))
+rows-fit o me (call.MemSeptRemove tdr gpa level) w =
+    λ a b c d. named-fits w tdr gpa level (entry.NlBlocked ∷ []) (empty_below w tdr gpa level ∷ tracked_page w tdr (entry_at w tdr level gpa).page ∷ []) (λ x y. tt)
+rows-fit o me (call.MemPageRemove tdr gpa) w = λ a b c. named-fits w tdr gpa 0 removed_states (tracked_page w tdr (entry_at w tdr 0 gpa).page ∷ []) (λ x. tt)
+rows-fit o me (call.MemRangeBlock tdr gpa level) w = λ a b c d. named-fits w tdr gpa level open_states [] tt
+rows-fit o me (call.MemRangeUnblock tdr gpa level) w = λ a b c d. named-fits w tdr gpa level blocked_states (tracked_page w tdr (entry_at w tdr level gpa).page ∷ []) (λ x. tt)
+rows-fit o me (call.MemTrack tdr) w = λ a. head-fits w tdr Shared augmented_ops (epoch_exclusive tdr ∷ epoch_room w tdr ∷ previous_epoch_left w tdr ∷ []) (λ st. ((refl, st), λ x y. tt))
+rows-fit o me (call.VpFlush tdr vp) w = λ a b c. ((tt, tt), λ root alive. ((tt, tt), λ x y z. tt))
 rows-fit o me (call.MemPageAdd tdr gpa page source) w =
     let page_items : List (Item Reply) = state_in w tdr gpa 0 (entry.Free ∷ []) ∷ page_exclusive source ∷ host_page w source ∷ page_exclusive page ∷ host_page w page ∷ [] in
     λ a b c d e f g h. head-fits w tdr Exclusive (op.Initialized ∷ []) (tree_exclusive tdr ∷ (walk w tdr gpa 0 ++ page_items))

@@ -31,4 +31,7 @@ lists-are-rows o me (call.MngRd tdr field.Op) w g h = assumption h
 lists-are-rows o me (call.MngRd tdr field.Epoch) w g h = assumption h
 lists-are-rows o me (call.MngRd tdr field.Mrtd) w g h = assumption h
 lists-are-rows o me (call.MemSeptAdd tdr gpa level page) w g h = let rest = behind g (walk w tdr gpa level) _ h.1.1.1 in assumption (h, rest)
+lists-are-rows o me (call.MemSeptRemove tdr gpa level) w g h = let rest = behind g (walk w tdr gpa level) _ h.1.1.1.1 in assumption (h, rest)
+lists-are-rows o me (call.MemRangeBlock tdr gpa level) w g h = let rest = behind g (walk w tdr gpa level) _ h.1.1.1.1 in assumption (h, rest)
+lists-are-rows o me (call.MemRangeUnblock tdr gpa level) w g h = let rest = behind g (walk w tdr gpa level) _ h.1.1.1.1 in assumption (h, rest)
 lists-are-rows o me _ w g h = assumption h

@@ -16,7 +16,7 @@ use Rattle.flat_core.specs.Table.{row_of}
 use Rattle.word_rules.specs.Guards.{Guard, Locked, Role, Grip, MeetsAll}
 use Rattle.word_rules.specs.Rules.{Unused}
 use Rattle.word_rules.specs.Views.{no_page}
-use Rattle.word_rules.specs.Uses.{Use, HeadPage, HeadTdr, HeadOp, Taken, GivenBack, HostRead, HostWrite, PageRdmd, CacheWb, Reclaim, MngCreate, KeyConfig, Addcx, MngInit, MngRdLife, MngRdOp, MngRdEpoch, VpFlushDone, KeyFreeid, MrExtend, MrFinalize, VpCreate, VpInit, VpEnter, Enters, SeptAdd, SeptRd, PageAdd, PageAddPages, TakesPage, ReclaimsControl, ReclaimsRest, AddsEntry, ChangesOp, BeginsEpochs, GivesHkid, FreesHkid, line_of, PageAug}
+use Rattle.word_rules.specs.Uses.{Use, HeadPage, HeadTdr, HeadOp, Taken, GivenBack, HostRead, HostWrite, PageRdmd, CacheWb, Reclaim, MngCreate, KeyConfig, Addcx, MngInit, MngRdLife, MngRdOp, MngRdEpoch, VpFlushDone, KeyFreeid, MrExtend, MrFinalize, VpCreate, VpInit, VpEnter, Enters, SeptAdd, SeptRd, PageAdd, PageAddPages, TakesPage, ReclaimsControl, ReclaimsRest, AddsEntry, ChangesOp, BeginsEpochs, GivesHkid, FreesHkid, line_of, PageAug, BlockNoted, BlockTested, VpFlush, SeptRemove, PageRemove, RangeBlock, RangeUnblock, Track, GivesPageBack, GivesNodeBack, Tracks}
 use Rattle.word_rules.specs.Spots.{guard_at}
 
 -- the locks of a row's tries are held, each in its mode
@@ -85,12 +85,20 @@ uses_of w (call.MrFinalize tdr) = td_uses tdr ++ of_td tdr MrFinalize ∷ of_td 
 uses_of w (call.VpCreate tdr page) = td_uses tdr ++ (taken_uses page ++ of_both tdr page VpCreate ∷ [])
 uses_of w (call.VpInit tdr vp value) = td_uses tdr ++ of_page vp HeadPage ∷ of_both tdr vp VpInit ∷ []
 uses_of w (call.VpEnter tdr vp max) = td_uses tdr ++ of_page vp HeadPage ∷ of_both tdr vp VpEnter ∷ of_both tdr vp Enters ∷ []
+uses_of w (call.VpFlush tdr vp) = tdr_uses tdr ++ of_page vp HeadPage ∷ of_both tdr vp VpFlush ∷ []
 uses_of w (call.MemSeptAdd tdr gpa level page) = td_uses tdr ++ (taken_uses page ++ of_td tdr SeptAdd ∷ [])
 uses_of w (call.MemSeptRd tdr gpa level) = td_uses tdr ++ of_td tdr SeptRd ∷ []
+uses_of w (call.MemSeptRemove tdr gpa level) =
+    let page = (entry_at w tdr level gpa).page in td_uses tdr ++ (of_page page HeadPage ∷ of_td tdr BlockTested ∷ of_td tdr SeptRemove ∷ of_page page GivenBack ∷ of_both tdr page GivesNodeBack ∷ [])
 uses_of w (call.MemPageAdd tdr gpa page source) =
     td_uses tdr ++ (of_page source HeadPage ∷ of_page source PageAddPages ∷ of_page page PageAddPages
     ∷ (taken_uses page ++ of_td tdr PageAdd ∷ of_td tdr AddsEntry ∷ []))
 uses_of w (call.MemPageAug tdr gpa page) = td_uses tdr ++ (taken_uses page ++ of_td tdr PageAug ∷ of_td tdr AddsEntry ∷ [])
+uses_of w (call.MemPageRemove tdr gpa) =
+    let page = (entry_at w tdr 0 gpa).page in td_uses tdr ++ (of_page page HeadPage ∷ of_td tdr BlockTested ∷ of_td tdr PageRemove ∷ of_page page GivenBack ∷ of_both tdr page GivesPageBack ∷ [])
+uses_of w (call.MemRangeBlock tdr gpa level) = let page = (entry_at w tdr level gpa).page in td_uses tdr ++ (of_page page HeadPage ∷ of_td tdr RangeBlock ∷ of_page page BlockNoted ∷ [])
+uses_of w (call.MemRangeUnblock tdr gpa level) = let page = (entry_at w tdr level gpa).page in td_uses tdr ++ (of_page page HeadPage ∷ of_td tdr BlockTested ∷ of_td tdr RangeUnblock ∷ [])
+uses_of w (call.MemTrack tdr) = td_uses tdr ++ of_td tdr Track ∷ of_td tdr Tracks ∷ []
 
 -- the locks that are written of a use are had, as its TD and its page name them
 abbrev pub guards_of : CallUse → Role → Guard

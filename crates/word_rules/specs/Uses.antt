@@ -67,12 +67,13 @@ vp_td_alone = Sole Own ∷ op_alone
 
 -- the rows, in the order of the leaf table, and the parts of those whose locks grow on the way
 pub data Use : Type 0 where
-  -- what rows share: the head of a TD's row, a page that is taken, one that is given back, the test of a block
+  -- what rows share: the head of a TD's row, a page that is taken, one that is given back, the epoch of a block, and its test
   HeadPage : Use
   HeadTdr : Use
   HeadOp : Use
   Taken : Use
   GivenBack : Use
+  BlockNoted : Use
   BlockTested : Use
   BlockTestedShared : Use
   -- calls on host pages, keys, TDs and virtual processors
@@ -175,12 +176,13 @@ abbrev pub under : List Want → List Rule → UseLine
 under had asked = record { locks = had; rules = asked }
 
 abbrev pub line_of : Use → UseLine
--- what rows share: the head of a TD's row, a page that is taken, one that is given back, the test of a block
+-- what rows share: the head of a TD's row, a page that is taken, one that is given back, the epoch of a block, and its test
 line_of HeadPage = under (Has Own ∷ []) (loads PamtWord ∷ [])
 line_of HeadTdr = under (Has Tdr ∷ []) (loads TdrWord ∷ [])
 line_of HeadOp = under op_held (loads TdcsWord ∷ [])
 line_of Taken = under (Sole Own ∷ []) (loads PamtWord ∷ fills HostWord ∷ still PamtWord ∷ [])
 line_of GivenBack = under (Sole Own ∷ []) (acts PamtWord ∷ still PamtWord ∷ still HostWord ∷ [])
+line_of BlockNoted = under (Sole Own ∷ []) (loads PamtWord ∷ still PamtWord ∷ [])
 line_of BlockTested = under tree_alone_epoch (loads TdEpoch ∷ loads (EpochCount false true) ∷ finds (EpochCount false false) ∷ [])
 line_of BlockTestedShared = under tree_epoch (loads TdEpoch ∷ loads (EpochCount false true) ∷ finds (EpochCount false false) ∷ [])
 -- calls on host pages, keys, TDs and virtual processors
