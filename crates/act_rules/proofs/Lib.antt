@@ -1,4 +1,6 @@
 pub mod Stored
 pub mod Respected
 pub mod Rows
+pub mod Unreached
+pub mod OperationLocks
 pub mod GuestActs

@@ -1,3 +1,4 @@
 pub mod Stores
 pub mod Acts
+pub mod GuestLocks
 pub mod GuestActs

@@ -1,4 +1,4 @@
-use Rattle.act_rules.proofs.GuestActs.{operations-keep-spots, guests-respect, guests-store-theirs, guarded-guests-respect, every-guest-event-respects, guests-spare-others}
+use Rattle.act_rules.proofs.GuestActs.{operations-keep-spots, guests-respect, guarded-guests-respect, every-guest-event-respects, guests-spare-others}
 use Rattle.act_rules.proofs.laws.guests_respect.Goals as goal
 
 pub returns-clause-spots : goal.returns-clause-spots
@@ -6,9 +6,6 @@ returns-clause-spots c = operations-keep-spots
 
 pub returns-clause-respect : goal.returns-clause-respect
 returns-clause-respect c = guests-respect
-
-pub returns-clause-stores : goal.returns-clause-stores
-returns-clause-stores c = guests-store-theirs
 
 pub returns-clause-guarded : goal.returns-clause-guarded
 returns-clause-guarded c = guarded-guests-respect
