@@ -39,12 +39,12 @@ use Rattle.word_rules.specs.Guards.{Grip, Locked, Reached, Written}
 use Rattle.word_rules.specs.Rules.{Whole, KeepsNothing}
 use Rattle.word_rules.specs.Views.{named_by}
 use Rattle.word_rules.specs.Spots.{runs_in}
-use Rattle.word_rules.specs.Permissions.{Sees, Writes, Fills, Respects, ActsNeverConflict}
+use Rattle.word_rules.specs.Permissions.{Sees, Writes, Fills, Respects}
 use Rattle.word_rules.specs.CallUses.{HoldsTries}
 use Rattle.word_rules.proofs.Conflicts.{respects-compose}
-use Rattle.lock_words.specs.Grips.{holds, holds_alone, operation_locks, locks_of, is_usable_at, reaches_as, grip_of, GripsStayApart}
+use Rattle.lock_words.specs.Grips.{holds, holds_alone, operation_locks, locks_of, is_usable_at, reaches_as, grip_of}
 use Rattle.act_rules.specs.Acts.{SameSpots}
-use Rattle.act_rules.specs.GuestActs.{OperationsKeepSpots, HasGuest, GuestRespects, GuestsRespect, MayStore, NoneReachesPending, GuestStores, GuestsStoreTheirs, MayAccess, GuardedGuestsRespect, EveryGuestEventRespects, HoldsAll, GuardedGuestsStore, EveryGuestEventStores, GuestsSpareOthers}
+use Rattle.act_rules.specs.GuestActs.{OperationsKeepSpots, HasGuest, GuestRespects, GuestsRespect, MayStore, NoneReachesPending, GuestStores, GuestsStoreTheirs, MayAccess, GuardedGuestsRespect, EveryGuestEventRespects, HoldsAll, GuardedGuestsStore, EveryGuestEventStores}
 use Rattle.act_rules.specs.GuestLocks.{OperationsHoldTheirs}
 use Rattle.act_rules.proofs.Unreached.{none-reaches-pending}
 use Rattle.act_rules.proofs.OperationLocks.{operation-passes, operation-locks-hold}
@@ -377,8 +377,3 @@ guarded-guests-store o s all theirs = record {
 
 pub every-guest-event-stores : EveryGuestEventStores
 every-guest-event-stores o ws schedule = guarded-guests-store o _ (always_guarded o ws schedule) (operation-locks-hold o ws schedule)
-
-pub guests-spare-others : GripsStayApart → ActsNeverConflict → GuestsSpareOthers
-guests-spare-others apart never o ws schedule p q g e in-p in-q differ is next =
-    let s : State = reached o ws schedule in
-    never (grip_of s q) (grip_of s p) s.world (world_after e s.world) (apart o ws schedule q p in-q in-p differ) ((every-guest-event-respects o ws schedule).event p g e is next)

@@ -1,8 +1,8 @@
 -- A guest's operation holds the first of the locks that its row tries, in every state that a run reaches: the page that
 -- `accept` has tried is still the one that its entry names.
-use Rattle.std.proofs.Common.{lit≤, ◌≡◌, ◌≢◌, refl, sym, ◌∙◌, subst, ap, ℕ, zero, suc, ◌+◌, ◌≤◌, List, [], ◌∷◌, ◌++◌, length, drop, Option, Some, None, option_map, IfSome, Bool, true, false, not, ◌==◌, ◌&&◌, ◌||◌, arith}
+use Rattle.std.proofs.Common.{lit≤, ◌≡◌, ◌≢◌, refl, sym, ◌∙◌, subst, ap, ℕ, zero, suc, ◌+◌, List, [], ◌∷◌, ◌++◌, length, drop, Option, Some, None, option_map, IfSome, Bool, true, false, not, ◌==◌, ◌||◌, arith}
 use Rattle.std.specs.List.{list_all}
-use Rattle.std.proofs.lemmas.Bool.{eq-eqb, eqb-true, eqb-false, and_parts}
+use Rattle.std.proofs.lemmas.Bool.{eqb-true, eqb-false, and_parts}
 use Rattle.td_words.specs.declared.names.PageKind.TheVariants as kind
 use Rattle.td_words.specs.declared.names.EntryState.{EntryState}
 use Rattle.td_words.specs.declared.names.EntryState.TheVariants as entry
@@ -18,10 +18,9 @@ use Rattle.td_words.specs.declared.replies.Outcome.{Outcome}
 use Rattle.td_words.specs.declared.replies.Reply.{Reply}
 use Rattle.td_words.specs.Packing.{Entry}
 use Rattle.flat_core.specs.World.{World, put}
-use Rattle.flat_core.specs.Processor.{LockId, OfPage, OfOp, OfTree, OfEpoch, OfRtmr, OfKeys, Held, Phase, Trying, Undoing, Answered, Guest, Entering, new_guest, Lp}
-use Rattle.flat_core.specs.Locks.{same_lock, is_alone}
+use Rattle.flat_core.specs.Processor.{LockId, OfPage, OfTree, Held, Phase, Trying, Undoing, Answered, Guest, Entering, new_guest, Lp}
 use Rattle.flat_core.specs.Opening.{Opening, Incoming}
-use Rattle.flat_core.specs.Row.{Item, Check, Try, Row, OperationRow, Move, Attempts, Undoes, Refuses, Succeeds, Releases, Rests, Passes, next, next_in, after_try, after_move, but_newest}
+use Rattle.flat_core.specs.Row.{Row, OperationRow, Move, Attempts, Undoes, Refuses, Succeeds, Releases, Rests, Passes, next, next_in, after_try, after_move, but_newest}
 use Rattle.flat_core.specs.Conditions.{host_page, page_exclusive}
 use Rattle.flat_core.specs.Effects.{put_in}
 use Rattle.flat_core.specs.Tree.{same_state, entry_at, number_at, levels_above, is_passed, state_in}
@@ -43,9 +42,9 @@ use Rattle.flat_core.proofs.Accesses.{entry-apart}
 use Rattle.flat_core.proofs.Always.{passed}
 use Rattle.flat_core.proofs.Maps.{walk_passed}
 use Rattle.flat_core.proofs.GuestOrder.{operations_try_lists}
-use Rattle.word_rules.specs.Guards.{Grip, Locked}
-use Rattle.word_rules.specs.CallUses.{HoldsTry, HoldsTries}
-use Rattle.lock_words.specs.Grips.{holds, holds_alone, operation_locks, locks_of, grip_of}
+use Rattle.word_rules.specs.CallUses.{HoldsTries}
+use Rattle.lock_words.specs.Grips.{operation_locks, locks_of, grip_of}
+use Rattle.act_rules.proofs.Tried.{drop-then, next-locks, held-behind, alone-behind, IsWithin, all-pass, tries-held}
 use Rattle.act_rules.specs.GuestLocks.{HoldsFirst, NamesTried, IsNamed, HoldsDue, HoldsIn, HoldsTheirs, OperationsHoldTheirs, OperationLocksAreKept, OperationLocksHold}
 
 -- Entries of level 0 that aren't FREE name the same page after each event
@@ -145,20 +144,6 @@ module _ (o : Opening) (w : World) (t n : ℕ) (tdr : w.pages.kinds t ≡ kind.T
 fresh : (w : World) (t : ℕ) (x : Option GuestOp) → HoldsDue w t x []
 fresh w t None = tt
 fresh w t (Some op) = ((operation_tries t op w, refl), tt)
-
--- one more of them
-drop-then : (hs : List Held) (j : ℕ) (xs : List Held) → drop (length hs + j) (held_then hs xs) ≡ drop j xs
-drop-then [] j xs = let e : 0 + j ≡ j = omega arith in ap (λ (n : ℕ). drop n xs) e
-drop-then (h ∷ hs) j xs =
-    let e : suc (length hs) + j ≡ length hs + suc j = omega arith in
-    ap (λ (n : ℕ). drop n (held_then hs (h ∷ xs))) e ∙ drop-then hs (suc j) (h ∷ xs)
-
-next-locks : {R : Type 0} (items : List (Item R)) (k : ℕ) (l : LockId) (m : Mode) → next items k ≡ Attempts l m → (xs : List Held) × (drop k (tries items) ≡ record { lock = l; mode = m } ∷ xs)
-next-locks [] k l m e = cc
-next-locks (Check true r ∷ items) k l m e = next-locks items k l m e
-next-locks (Check false r ∷ items) k l m e = cc
-next-locks (Try a b ∷ items) zero l m e = let x : a ≡ l = cc in let y : b ≡ m = cc in (tries items, λ j. record { lock = x j; mode = y j } ∷ tries items)
-next-locks (Try a b ∷ items) (suc k) l m e = next-locks items k l m e
 
 not-free : (s : EntryState) → not (same_state s entry.Free) ≡ true → is_free s ≡ false
 not-free entry.Free h = cc
@@ -381,105 +366,18 @@ operation-locks-hold = in_runs OperationsHoldTheirs operation-locks-kept
 
 -- At its act it holds all that it tries
 
-same-self : (l : LockId) → same_lock l l ≡ true
-same-self (OfPage p) = eq-eqb p p refl
-same-self (OfOp p) = eq-eqb p p refl
-same-self (OfTree p) = eq-eqb p p refl
-same-self (OfEpoch p) = eq-eqb p p refl
-same-self (OfRtmr p) = eq-eqb p p refl
-same-self OfKeys = refl
-
-or-last : (a b : Bool) → b ≡ true → (a || b) ≡ true
-or-last true b h = refl
-or-last false b h = h
-
-held-behind : (xs hs : List Held) (l : LockId) → holds hs l ≡ true → holds (xs ++ hs) l ≡ true
-held-behind [] hs l h = h
-held-behind (x ∷ xs) hs l h = or-last (same_lock x.lock l) (holds (xs ++ hs) l) (held-behind xs hs l h)
-
-alone-behind : (xs hs : List Held) (l : LockId) → holds_alone hs l ≡ true → holds_alone (xs ++ hs) l ≡ true
-alone-behind [] hs l h = h
-alone-behind (x ∷ xs) hs l h = or-last (is_alone x.mode && same_lock x.lock l) (holds_alone (xs ++ hs) l) (alone-behind xs hs l h)
-
--- what is in a list is held by it, so it is by one that it is in
-record IsWithin (hs all : List Held) : Type 0 where
-  held : (l : LockId) → holds hs l ≡ true → holds all l ≡ true
-  alone : (l : LockId) → holds_alone hs l ≡ true → holds_alone all l ≡ true
-
-but-first : (x : Held) (hs all : List Held) → IsWithin (x ∷ hs) all → IsWithin hs all
-but-first x hs all i = record {
-  held = λ l h. i.held l (or-last (same_lock x.lock l) (holds hs l) h);
-  alone = λ l h. i.alone l (or-last (is_alone x.mode && same_lock x.lock l) (holds_alone hs l) h);
-}
-
-module _ (g : Grip) (all : List Held) (has : (l : LockId) → holds all l ≡ true → g.has (Locked l) ≡ true) (sole : (l : LockId) → holds_alone all l ≡ true → g.sole (Locked l) ≡ true) where
-  abbrev AllHeld : List Held → Type 0
-  AllHeld [] = Unit {0}
-  AllHeld (h ∷ hs) = HoldsTry g h.lock h.mode × AllHeld hs
-
-  each-held : (hs : List Held) → IsWithin hs all → AllHeld hs
-  each-held [] i = tt
-  each-held (x ∷ hs) i = (by x.mode (λ e. i.alone x.lock (rw (e, same-self x.lock) refl)), each-held hs (but-first x hs all i))
-    where
-      here : g.has (Locked x.lock) ≡ true
-      here = has x.lock (i.held x.lock (rw (same-self x.lock) refl))
-
-      by : (m : Mode) → (is_alone m ≡ true → holds_alone all x.lock ≡ true) → HoldsTry g x.lock m
-      by Shared h = here
-      by Exclusive h = (here, sole x.lock (h refl))
-
-  turned : (hs xs : List Held) → AllHeld hs → AllHeld xs → AllHeld (held_then hs xs)
-  turned [] xs a b = b
-  turned (x ∷ hs) xs a b = turned hs (x ∷ xs) a.1 (a.0, b)
-
-  of-items : {R : Type 0} (items : List (Item R)) → AllHeld (tries items) → HoldsTries g items
-  of-items [] a = tt
-  of-items (Check b r ∷ items) a = of-items items a
-  of-items (Try l m ∷ items) a = (a.0, of-items items a.1)
-
-all-tried : {R : Type 0} (items : List (Item R)) (k : ℕ) → next items k ≡ Succeeds → length (tries items) ≤ k
-all-tried [] k e = omega arith
-all-tried (Check true r ∷ items) k e = all-tried items k e
-all-tried (Check false r ∷ items) k e = cc
-all-tried (Try l m ∷ items) zero e = cc
-all-tried (Try l m ∷ items) (suc k) e = let i = all-tried items k e in omega (arith, i)
-
-all-pass : {R : Type 0} (items : List (Item R)) (k : ℕ) → next items k ≡ Succeeds → Passes items
-all-pass [] k e = tt
-all-pass (Check true r ∷ items) k e = (refl, all-pass items k e)
-all-pass (Check false r ∷ items) k e = cc
-all-pass (Try l m ∷ items) zero e = cc
-all-pass (Try l m ∷ items) (suc k) e = all-pass items k e
-
-length-then : (hs xs : List Held) → length (held_then hs xs) ≡ length hs + length xs
-length-then [] xs = omega arith
-length-then (h ∷ hs) xs = let k = length-then hs (h ∷ xs) in omega (arith, k)
-
-nothing-left : (xs : List Held) → length xs ≡ 0 → xs ≡ []
-nothing-left [] e = refl
-nothing-left (x ∷ xs) e = absurd (omega (arith, e))
-
 -- of a processor whose guest's operation is on its way
 module _ (o : Opening) (s : State) (p : ℕ) (all : OperationsHoldTheirs o s) (g : Guest) (is : (s.lps p).guest ≡ Some g) (op : GuestOp) (row : OperationRow) (trying : g.operation.phase ≡ Trying) (due : operation_due o s.world g ≡ Some op)
     (by-row : operation_of o g.tdr g.vp (length (s.lps p).replies + 1) op ≡ ByRow row) (succeeds : next (row.items s.world) (length g.operation.held) ≡ Succeeds) where
   its : HoldsFirst s.world g.tdr op g.operation.held
   its = due-first o s.world p (s.lps p) (all.each p) (λ e. false) g is op trying due
 
-  nothing : its.0 ≡ []
-  nothing =
-      let items = row.items s.world in
-      let few = all-tried items (length g.operation.held) succeeds in
-      let same = ap length (row-tries o g.tdr g.vp (length (s.lps p).replies + 1) op row s.world by-row ∙ its.1) in
-      let long = length-then g.operation.held its.0 in
-      nothing-left its.0 (omega (arith, few, same, long))
-
   pub operation-passes : Passes (row.items s.world) × HoldsTries (grip_of s p) (row.items s.world)
   operation-passes =
       let hs : List Held = g.operation.held in
-      let locks : List Held = locks_of (s.lps p) in
-      let within : IsWithin hs locks = subst (λ (x : Option Guest). IsWithin hs ((s.lps p).call.held ++ operation_locks x)) (sym is) (record { held = held-behind (s.lps p).call.held hs; alone = alone-behind (s.lps p).call.held hs }) in
-      let held = turned (grip_of s p) locks (λ l h. h) (λ l h. h) hs [] (each-held (grip_of s p) locks (λ l h. h) (λ l h. h) hs within) tt in
-      let are : held_then hs [] ≡ tries (row.items s.world) = ap (held_then hs) (sym nothing) ∙ sym (row-tries o g.tdr g.vp (length (s.lps p).replies + 1) op row s.world by-row ∙ its.1) in (
+      let within : IsWithin hs (locks_of (s.lps p)) =
+      subst (λ (x : Option Guest). IsWithin hs ((s.lps p).call.held ++ operation_locks x)) (sym is) (record { held = held-behind (s.lps p).call.held hs; alone = alone-behind (s.lps p).call.held hs }) in (
         all-pass (row.items s.world) (length hs) succeeds,
-        of-items (grip_of s p) locks (λ l h. h) (λ l h. h) (row.items s.world) (subst (λ (xs : List Held). AllHeld (grip_of s p) locks (λ l h. h) (λ l h. h) xs) are held),
+        tries-held (grip_of s p) (locks_of (s.lps p)) (λ l h. h) (λ l h. h) (row.items s.world) hs its.0 within
+            (row-tries o g.tdr g.vp (length (s.lps p).replies + 1) op row s.world by-row ∙ its.1) succeeds,
       )

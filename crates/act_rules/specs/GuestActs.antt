@@ -1,6 +1,6 @@
 -- What a guest's events change of what words are, and under which locks: each operation's act, each access to a private page,
 -- and the count step of its exit. And which words of pages they may load and store.
-use Rattle.std.specs.Prelude.{◌≡◌, ◌⊎◌, ℕ, ◌<◌, ◌==◌, true, false, List, Option, Some}
+use Rattle.std.specs.Prelude.{◌≡◌, ◌⊎◌, ℕ, true, Some}
 use Rattle.td_words.specs.declared.names.PageKind.TheVariants as kind
 use Rattle.td_words.specs.declared.names.Access.{Access}
 use Rattle.td_words.specs.declared.names.Access.TheVariants.{Read, Write}
@@ -18,10 +18,10 @@ use Rattle.flat_core.specs.Guests.{IsOccupied}
 use Rattle.flat_core.specs.Access.{is_pending}
 use Rattle.flat_core.specs.Event.{State, Event, OfOperation, Reaches, next_event, operation_world, world_after}
 use Rattle.flat_core.specs.AccessLaw.{IsGuarded}
-use Rattle.flat_core.specs.Laws.{reached, HoldsInRuns}
+use Rattle.flat_core.specs.Laws.{HoldsInRuns}
 use Rattle.word_rules.specs.Guards.{Grip, Locked, Reached, Written}
 use Rattle.word_rules.specs.Rules.{Whole, KeepsNothing}
-use Rattle.word_rules.specs.Permissions.{Sees, Writes, Fills, Respects, NoLaterConflict}
+use Rattle.word_rules.specs.Permissions.{Sees, Writes, Fills, Respects}
 use Rattle.word_rules.specs.CallUses.{HoldsTries}
 use Rattle.lock_words.specs.Grips.{grip_of}
 use Rattle.act_rules.specs.Acts.{SameSpots, HoldsTd}
@@ -107,9 +107,3 @@ GuardedGuestsStore = (o : Opening) (s : State) → IsGuarded o s → OperationsH
 
 abbrev pub EveryGuestEventStores : Type 0
 EveryGuestEventStores = HoldsInRuns GuestEventsStore
-
--- What another processor may read, owe, fill, try or swap stays allowed to it through each event of a guest.
-abbrev pub GuestsSpareOthers : Type 0
-GuestsSpareOthers = (o : Opening) (words_to_tell : Option (List ℕ)) (schedule : List ℕ) (p q : ℕ) (g : Guest) (e : Event)
-    → let s = reached o words_to_tell schedule in p < s.lp_count → q < s.lp_count → (q == p) ≡ false → (s.lps p).guest ≡ Some g → next_event o s p ≡ Some e
-    → NoLaterConflict (grip_of s q) (grip_of s p) s.world (world_after e s.world)

@@ -2,7 +2,8 @@
 
 ghost use Rattle.act_rules.specs.Stores.{OthersStoresKeepReads};
 ghost use Rattle.act_rules.specs.Acts.{EffectsRespect, RowsRespect};
-ghost use Rattle.act_rules.specs.GuestActs.{OperationsKeepSpots, GuestsRespect, GuestsStoreTheirs, GuardedGuestsRespect, EveryGuestEventRespects, GuardedGuestsStore, EveryGuestEventStores, GuestsSpareOthers};
+ghost use Rattle.act_rules.specs.GuestActs.{OperationsKeepSpots, GuestsRespect, GuestsStoreTheirs, GuardedGuestsRespect, EveryGuestEventRespects, GuardedGuestsStore, EveryGuestEventStores};
+ghost use Rattle.act_rules.specs.CallLocks.{CallLocksAreKept, GuardedEventsRespect, EveryEventRespects, EventsSpareOthers};
 ghost use Rattle.act_rules.specs.GuestLocks.{OperationLocksAreKept, OperationLocksHold};
 
 /// What one processor reads as stable looks the same after each store of another: its act, the
@@ -26,18 +27,13 @@ pub fn acts_respect()
 /// VP.ENTER: the act of every operation's row, whatever its numbers are, and every access to a private
 /// page change nothing of it, and the count step of the exit an epoch count alone. In every state in
 /// which no stale translation is used, and so after any schedule, a processor on which a guest is in
-/// has those locks, and they let each of the guest's events change what words are as it does; so what
-/// another processor may do at a word stays allowed to it.
+/// has those locks, and they let each of the guest's events change what words are as it does.
 pub fn guests_respect()
     ensures spots { OperationsKeepSpots }
     ensures respect { GuestsRespect }
     ensures guarded { GuardedGuestsRespect }
     ensures run { EveryGuestEventRespects }
-    ensures others { GuestsSpareOthers }
-{
-    lock_words::grips_are_apart();
-    word_rules::words_never_conflict();
-}
+{}
 
 /// The words of pages that an event of a guest changes it may store to: those of a host page under the
 /// lock of its try, those of a page that it accepts under that page's lock where nobody else reaches
@@ -52,3 +48,17 @@ pub fn guests_store()
     ensures guarded { GuardedGuestsStore }
     ensures run { EveryGuestEventStores }
 {}
+
+/// A call holds the first of the locks that its row tries: at the start of every run, after each event,
+/// whatever bundles have come in. So in every state in which no stale translation is used besides, and
+/// after any schedule, every event, a call's and a guest's, changes what words are only as the rules
+/// say, under what its processor has; and what another processor may do at a word stays allowed to it.
+pub fn events_respect()
+    ensures kept { CallLocksAreKept }
+    ensures guarded { GuardedEventsRespect }
+    ensures run { EveryEventRespects }
+    ensures others { EventsSpareOthers }
+{
+    lock_words::grips_are_apart();
+    word_rules::words_never_conflict();
+}
