@@ -1,5 +1,5 @@
 -- The locks that a call holds on its way to its act: the first that its row tries, in their order and modes. MR.EXTEND alone
--- tries other locks in another world, and its act needs none to change nothing of what words are.
+-- may try another lock in another world: that of the page that an entry names. Its act changes nothing of what words are.
 use Rattle.std.specs.Prelude.{◌≡◌, ℕ, List, [], ◌∷◌, ◌<◌, ◌==◌, false, Option, Some, None}
 use Rattle.td_words.specs.declared.calls.Call.{Call}
 use Rattle.td_words.specs.declared.replies.Reply.{Reply}

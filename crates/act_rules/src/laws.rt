@@ -49,10 +49,11 @@ pub fn guests_store()
     ensures run { EveryGuestEventStores }
 {}
 
-/// A call holds the first of the locks that its row tries: at the start of every run, after each event,
-/// whatever bundles have come in. So in every state in which no stale translation is used besides, and
-/// after any schedule, every event, a call's and a guest's, changes what words are only as the rules
-/// say, under what its processor has; and what another processor may do at a word stays allowed to it.
+/// A call that tries the same locks in every world, as all but MR.EXTEND do, holds the first of those
+/// that its row tries: at the start of every run, after each event, whatever bundles have come in. So in
+/// every state in which no stale translation is used besides, and after any schedule, every event, a
+/// call's and a guest's, changes what words are only as the rules say, under what its processor has;
+/// and what another processor may do at a word stays allowed to it.
 pub fn events_respect()
     ensures kept { CallLocksAreKept }
     ensures guarded { GuardedEventsRespect }
