@@ -20,7 +20,7 @@ use Rattle.flat_core.specs.Processor.{OfPage, OfOp, Held, Translation, Guest, Lp
 use Rattle.flat_core.specs.Opening.{Opening}
 use Rattle.flat_core.specs.Row.{OperationRow, Move, Attempts, Undoes, Refuses, Succeeds, Releases, Rests, Passes, next, next_in}
 use Rattle.flat_core.specs.Conditions.{running_ops, is_host}
-use Rattle.flat_core.specs.Effects.{put_in, pass_operation, tell_words}
+use Rattle.flat_core.specs.Effects.{put_in, pass_operation, tell_words, leave_guest}
 use Rattle.flat_core.specs.Tree.{same_state, entry_at, number_at, page_of_gpa, word_of_gpa}
 use Rattle.flat_core.specs.Translations.{is_of_page, allows_access, look_up}
 use Rattle.flat_core.specs.Guest.{ByRow, operation_of, set_value, add_registers, shared_load, shared_store, shared_page, accept_page, is_pending_at, extend_rtmr, call_host, reach}
@@ -29,7 +29,7 @@ use Rattle.flat_core.specs.Guests.{guest_locks, entry_locks}
 use Rattle.flat_core.specs.Inside.{InGuest, LineAt, StandsAt}
 use Rattle.flat_core.specs.Access.{is_pending}
 use Rattle.flat_core.specs.AccessLaw.{IsGuarded}
-use Rattle.flat_core.specs.Event.{State, Event, Reaches, calls_of, nothing_more, operation_world, world_after}
+use Rattle.flat_core.specs.Event.{State, Event, OfOperation, Reaches, calls_of, nothing_more, operation_world, world_after}
 use Rattle.flat_core.specs.Laws.{reached}
 use Rattle.flat_core.proofs.Tests.{by_test, host_kind, some_same}
 use Rattle.flat_core.proofs.Operations.{operation_row, accepted}
@@ -39,12 +39,15 @@ use Rattle.word_rules.specs.Guards.{Grip, Locked, Reached, Written}
 use Rattle.word_rules.specs.Rules.{Whole, KeepsNothing}
 use Rattle.word_rules.specs.Views.{named_by}
 use Rattle.word_rules.specs.Spots.{runs_in}
-use Rattle.word_rules.specs.Permissions.{Sees, Writes, Fills, Respects, ActsNeverConflict}
+use Rattle.word_rules.specs.Permissions.{Sees, Writes, Fills, Respects}
 use Rattle.word_rules.specs.CallUses.{HoldsTries}
 use Rattle.word_rules.proofs.Conflicts.{respects-compose}
-use Rattle.lock_words.specs.Grips.{holds, holds_alone, operation_locks, locks_of, is_usable_at, reaches_as, grip_of, GripsStayApart}
+use Rattle.lock_words.specs.Grips.{holds, holds_alone, operation_locks, locks_of, is_usable_at, reaches_as, grip_of}
 use Rattle.act_rules.specs.Acts.{SameSpots}
-use Rattle.act_rules.specs.GuestActs.{OperationsKeepSpots, HasGuest, GuestRespects, GuestsRespect, MayStore, NoneReachesPending, GuestStores, GuestsStoreTheirs, MayAccess, GuardedGuestsRespect, EveryGuestEventRespects, GuestsSpareOthers}
+use Rattle.act_rules.specs.GuestActs.{OperationsKeepSpots, HasGuest, GuestRespects, GuestsRespect, MayStore, NoneReachesPending, GuestStores, GuestsStoreTheirs, MayAccess, GuardedGuestsRespect, EveryGuestEventRespects, HoldsAll, GuardedGuestsStore, EveryGuestEventStores}
+use Rattle.act_rules.specs.GuestLocks.{OperationsHoldTheirs}
+use Rattle.act_rules.proofs.Unreached.{none-reaches-pending}
+use Rattle.act_rules.proofs.OperationLocks.{operation-passes, operation-locks-hold}
 use Rattle.act_rules.proofs.Respected.{all-same, entry-same, effects-respect}
 
 -- a page that is accepted
@@ -241,6 +244,12 @@ module _ (o : Opening) (s : State) (all : IsGuarded o s) (p : ℕ) where
           occupied = occ-of o s all.timely p g is;
         }
 
+    none-reaches : NoneReachesPending grip w g.tdr
+    none-reaches n pends = none-reaches-pending o s g.tdr n all (occupied-alive w p g.tdr g.vp (occ-of o s all.timely p g is)) pends p s.lp_count
+
+    may-store : GuestStores o g.tdr g.vp grip w
+    may-store = guests-store-theirs o p g.tdr g.vp grip w all.timely.lawful has-guest
+
     respects : GuestRespects o g.tdr g.vp grip w
     respects = guests-respect o p g.tdr g.vp grip w all.timely.lawful has-guest
 
@@ -296,9 +305,63 @@ module _ (o : Opening) (s : State) (all : IsGuarded o s) (p : ℕ) where
   event-accesses e (undoes c cs g l i st h) = tt
   event-accesses e (gives_back c cs g out i st h) = tt
 
+  module _ (theirs : OperationsHoldTheirs o s) where
+    event-holds : (e : Event) → Due o w p lp e → HoldsAll grip w e
+    event-holds e (calls c cs line none) = tt
+    event-holds e (frees c cs g h hs line guest held epoch) = tt
+    event-holds e (leaves c cs g out i l) = tt
+    event-holds e (stops c cs g i l t d) = tt
+    event-holds e (fills c cs g op i l t d m) = tt
+    event-holds e (operates c cs g op row i way is) = by (next (row.items w) (length g.operation.held)) refl
+      where
+        by : (mv : Move (Option Outcome)) → next (row.items w) (length g.operation.held) ≡ mv → HoldsAll grip w (OfOperation row mv)
+        by Succeeds e = operation-passes o s p theirs g i.guest op row way.trying way.due is e
+        by (Attempts l m) e = tt
+        by (Undoes l) e = tt
+        by (Refuses r) e = tt
+        by (Releases x) e = tt
+        by Rests e = tt
+    event-holds e (walks c cs g op access r gpa i way is lost) = tt
+    event-holds e (reaches c cs g op access r gpa page i way is found) = tt
+    event-holds e (undoes c cs g l i st h) = tt
+    event-holds e (gives_back c cs g out i st h) = by g.operation.held
+      where
+        by : (hs : List Held) → HoldsAll grip w (OfOperation nothing_more (next_in [] (Answered out) hs))
+        by [] = tt
+        by (x ∷ hs) = tt
+
+    -- a move of an operation that isn't its act stores nothing
+    move-stores : (row : OperationRow) (mv : Move (Option Outcome)) → (mv ≡ Succeeds → MayStore grip w (operation_world row Succeeds w)) → MayStore grip w (operation_world row mv w)
+    move-stores row Succeeds h = h refl
+    move-stores row (Attempts l m) h = none-stored grip w w refl
+    move-stores row (Undoes l) h = none-stored grip w w refl
+    move-stores row (Refuses r) h = none-stored grip w w refl
+    move-stores row (Releases x) h = none-stored grip w w refl
+    move-stores row Rests h = none-stored grip w w refl
+
+    access-stores : (t v : ℕ) (access : Access) (r gpa page : ℕ) → MayAccess grip w (Reaches t v access r gpa page) → MayStore grip w (reach t v access r gpa page w)
+    access-stores t v Read r gpa page may = none-stored grip w (reach t v Read r gpa page w) refl
+    access-stores t v Write r gpa page may = one-stored grip w (reach t v Write r gpa page w) page (word_of_gpa gpa) (w.hidden.registers v r) refl may
+
+    event-stores : (x : Guest) → lp.guest ≡ Some x → (e : Event) → Due o w p lp e → MayStore grip w (world_after e w)
+    event-stores x at e (calls c cs line none) = absurd (let no : None ≡ Some x = sym none ∙ at in cc)
+    event-stores x at e (frees c cs g h hs line guest held epoch) = none-stored grip w w refl
+    event-stores x at e (leaves c cs g out i l) = none-stored grip w (leave_guest g.vp w) refl
+    event-stores x at e (stops c cs g i l t d) = none-stored grip w (leave_guest g.vp w) refl
+    event-stores x at e (fills c cs g op i l t d m) = none-stored grip w (leave_guest g.vp w) refl
+    event-stores x at e (operates c cs g op row i way is) =
+        move-stores row (next (row.items w) (length g.operation.held))
+        (λ y. let all-held = operation-passes o s p theirs g i.guest op row way.trying way.due is y in
+        (may-store g i.guest).operation (length lp.replies + 1) op row is all-held.0 all-held.1 (none-reaches g i.guest))
+    event-stores x at e (walks c cs g op access r gpa i way is lost) = none-stored grip w w refl
+    event-stores x at e (reaches c cs g op access r gpa page i way is found) = access-stores g.tdr g.vp access r gpa page (may-access g i.guest access r gpa page found)
+    event-stores x at e (undoes c cs g l i st h) = none-stored grip w w refl
+    event-stores x at e (gives_back c cs g out i st h) = move-stores nothing_more (next_in [] (Answered out) g.operation.held) (λ y. none-stored grip w (operation_world nothing_more Succeeds w) refl)
+
 pub guarded-guests-respect : GuardedGuestsRespect
 guarded-guests-respect o s all = record {
   has = λ p g is. has-guest o s all p g is;
+  pending = λ p g is. none-reaches o s all p g is;
   event = λ p g e is next. event-respects o s all p g is e (due_event_is o s p e next);
   access = λ p e next. event-accesses o s all p e (due_event_is o s p e next);
 }
@@ -306,7 +369,11 @@ guarded-guests-respect o s all = record {
 pub every-guest-event-respects : EveryGuestEventRespects
 every-guest-event-respects o ws schedule = guarded-guests-respect o _ (always_guarded o ws schedule)
 
-pub guests-spare-others : GripsStayApart → ActsNeverConflict → GuestsSpareOthers
-guests-spare-others apart never o ws schedule p q g e in-p in-q differ is next =
-    let s : State = reached o ws schedule in
-    never (grip_of s q) (grip_of s p) s.world (world_after e s.world) (apart o ws schedule q p in-q in-p differ) ((every-guest-event-respects o ws schedule).event p g e is next)
+pub guarded-guests-store : GuardedGuestsStore
+guarded-guests-store o s all theirs = record {
+  holds = λ p g e is next. event-holds o s all p theirs e (due_event_is o s p e next);
+  stores = λ p g e is next. event-stores o s all p theirs g is e (due_event_is o s p e next);
+}
+
+pub every-guest-event-stores : EveryGuestEventStores
+every-guest-event-stores o ws schedule = guarded-guests-store o _ (always_guarded o ws schedule) (operation-locks-hold o ws schedule)

@@ -1,6 +1,6 @@
 -- What a guest's events change of what words are, and under which locks: each operation's act, each access to a private page,
 -- and the count step of its exit. And which words of pages they may load and store.
-use Rattle.std.specs.Prelude.{◌≡◌, ◌⊎◌, ℕ, ◌<◌, ◌==◌, true, false, List, Option, Some}
+use Rattle.std.specs.Prelude.{◌≡◌, ◌⊎◌, ℕ, true, Some}
 use Rattle.td_words.specs.declared.names.PageKind.TheVariants as kind
 use Rattle.td_words.specs.declared.names.Access.{Access}
 use Rattle.td_words.specs.declared.names.Access.TheVariants.{Read, Write}
@@ -16,15 +16,16 @@ use Rattle.flat_core.specs.Guest.{ByRow, operation_of, reach}
 use Rattle.flat_core.specs.Lawful.{Lawful, IsPageOf}
 use Rattle.flat_core.specs.Guests.{IsOccupied}
 use Rattle.flat_core.specs.Access.{is_pending}
-use Rattle.flat_core.specs.Event.{State, Event, Reaches, next_event, operation_world, world_after}
+use Rattle.flat_core.specs.Event.{State, Event, OfOperation, Reaches, next_event, operation_world, world_after}
 use Rattle.flat_core.specs.AccessLaw.{IsGuarded}
-use Rattle.flat_core.specs.Laws.{reached, HoldsInRuns}
+use Rattle.flat_core.specs.Laws.{HoldsInRuns}
 use Rattle.word_rules.specs.Guards.{Grip, Locked, Reached, Written}
 use Rattle.word_rules.specs.Rules.{Whole, KeepsNothing}
-use Rattle.word_rules.specs.Permissions.{Sees, Writes, Fills, Respects, NoLaterConflict}
+use Rattle.word_rules.specs.Permissions.{Sees, Writes, Fills, Respects}
 use Rattle.word_rules.specs.CallUses.{HoldsTries}
 use Rattle.lock_words.specs.Grips.{grip_of}
 use Rattle.act_rules.specs.Acts.{SameSpots, HoldsTd}
+use Rattle.act_rules.specs.GuestLocks.{OperationsHoldTheirs}
 
 -- Nothing of what words are changes by the act of an operation, whatever its numbers are, with the words that it tells, nor by
 -- an access to a private page. No lock is needed for this: a page that is accepted is named by its entry before and after.
@@ -41,7 +42,7 @@ pub record HasGuest (g : Grip) (w : World) (me t v : ℕ) : Type 0 where
   pub vp : g.sole (Locked (OfPage v)) ≡ true
   pub occupied : IsOccupied w me t v
 
--- So under these locks each of its events respects the rules; of the count step of its exit an epoch count may become 0.
+-- So under these locks each of its events respects the rules; by the count step of its exit an epoch count may become 0.
 pub record GuestRespects (o : Opening) (t v : ℕ) (g : Grip) (w : World) : Type 0 where
   pub operation : (line : ℕ) (op : GuestOp) (row : OperationRow) → operation_of o t v line op ≡ ByRow row → Respects g w (operation_world row Succeeds w)
   pub access : (access : Access) (r gpa page : ℕ) → Respects g w (reach t v access r gpa page w)
@@ -75,9 +76,16 @@ MayAccess g w (Reaches t v Read r gpa page) = Sees g w (Word page (word_of_gpa g
 MayAccess g w (Reaches t v Write r gpa page) = Writes g w (Word page (word_of_gpa gpa)) KeepsNothing
 MayAccess g w _ = Unit {0}
 
--- In a state: whose guest is in has its locks, by which, and by its cached translations, each event of it is allowed.
+-- an operation that comes to its act passes, and the locks that its row tries are held
+abbrev pub HoldsAll : Grip → World → Event → Type 0
+HoldsAll g w (OfOperation row Succeeds) = Passes (row.items w) × HoldsTries g (row.items w)
+HoldsAll g w _ = Unit {0}
+
+-- In a state: a processor whose guest is in has the locks of its VP.ENTER, and nobody else reaches what its TD hasn't
+-- accepted; so each event of the guest respects the rules, and each access is allowed.
 pub record GuestEventsRespect (o : Opening) (s : State) : Type 0 where
   pub has : (p : ℕ) (g : Guest) → (s.lps p).guest ≡ Some g → HasGuest (grip_of s p) s.world p g.tdr g.vp
+  pub pending : (p : ℕ) (g : Guest) → (s.lps p).guest ≡ Some g → NoneReachesPending (grip_of s p) s.world g.tdr
   pub event : (p : ℕ) (g : Guest) (e : Event) → (s.lps p).guest ≡ Some g → next_event o s p ≡ Some e → Respects (grip_of s p) s.world (world_after e s.world)
   pub access : (p : ℕ) (e : Event) → next_event o s p ≡ Some e → MayAccess (grip_of s p) s.world e
 
@@ -88,8 +96,14 @@ GuardedGuestsRespect = (o : Opening) (s : State) → IsGuarded o s → GuestEven
 abbrev pub EveryGuestEventRespects : Type 0
 EveryGuestEventRespects = HoldsInRuns GuestEventsRespect
 
--- What another processor may read, owe, fill, try or swap stays allowed to it through each event of a guest.
-abbrev pub GuestsSpareOthers : Type 0
-GuestsSpareOthers = (o : Opening) (words_to_tell : Option (List ℕ)) (schedule : List ℕ) (p q : ℕ) (g : Guest) (e : Event)
-    → let s = reached o words_to_tell schedule in p < s.lp_count → q < s.lp_count → (q == p) ≡ false → (s.lps p).guest ≡ Some g → next_event o s p ≡ Some e
-    → NoLaterConflict (grip_of s q) (grip_of s p) s.world (world_after e s.world)
+-- Where operations hold their locks besides, each of them holds all that it tries at its act, and each event of a guest stores
+-- to such words of pages alone as it may.
+pub record GuestEventsStore (o : Opening) (s : State) : Type 0 where
+  pub holds : (p : ℕ) (g : Guest) (e : Event) → (s.lps p).guest ≡ Some g → next_event o s p ≡ Some e → HoldsAll (grip_of s p) s.world e
+  pub stores : (p : ℕ) (g : Guest) (e : Event) → (s.lps p).guest ≡ Some g → next_event o s p ≡ Some e → MayStore (grip_of s p) s.world (world_after e s.world)
+
+abbrev pub GuardedGuestsStore : Type 0
+GuardedGuestsStore = (o : Opening) (s : State) → IsGuarded o s → OperationsHoldTheirs o s → GuestEventsStore o s
+
+abbrev pub EveryGuestEventStores : Type 0
+EveryGuestEventStores = HoldsInRuns GuestEventsStore

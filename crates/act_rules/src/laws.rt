@@ -2,7 +2,9 @@
 
 ghost use Rattle.act_rules.specs.Stores.{OthersStoresKeepReads};
 ghost use Rattle.act_rules.specs.Acts.{EffectsRespect, RowsRespect};
-ghost use Rattle.act_rules.specs.GuestActs.{OperationsKeepSpots, GuestsRespect, GuestsStoreTheirs, GuardedGuestsRespect, EveryGuestEventRespects, GuestsSpareOthers};
+ghost use Rattle.act_rules.specs.GuestActs.{OperationsKeepSpots, GuestsRespect, GuestsStoreTheirs, GuardedGuestsRespect, EveryGuestEventRespects, GuardedGuestsStore, EveryGuestEventStores};
+ghost use Rattle.act_rules.specs.CallLocks.{CallLocksAreKept, GuardedEventsRespect, EveryEventRespects, EventsSpareOthers};
+ghost use Rattle.act_rules.specs.GuestLocks.{OperationLocksAreKept, OperationLocksHold};
 
 /// What one processor reads as stable looks the same after each store of another: its act, the
 /// stores that it owes, and its fills.
@@ -23,20 +25,40 @@ pub fn acts_respect()
 
 /// Each event of a guest changes what words are only as the rules say, under the locks of its
 /// VP.ENTER: the act of every operation's row, whatever its numbers are, and every access to a private
-/// page change nothing of it, and the count step of the exit an epoch count alone. The words of pages
-/// that an operation's act or an access changes it may store to: those of a host page under the lock
-/// of its try, those of a page that it accepts where nobody else reaches it, and a private page's word
-/// where a usable translation of the TD may write. In every state in which no stale translation is
-/// used, and so after any schedule, a processor on which a guest is in has those locks, and they let
-/// each of its events change what words are as it does, and with its cached translations make each of
-/// its accesses; so what another processor may do at a word stays allowed to it.
+/// page change nothing of it, and the count step of the exit an epoch count alone. In every state in
+/// which no stale translation is used, and so after any schedule, a processor on which a guest is in
+/// has those locks, and they let each of the guest's events change what words are as it does.
 pub fn guests_respect()
     ensures spots { OperationsKeepSpots }
     ensures respect { GuestsRespect }
-    ensures stores { GuestsStoreTheirs }
     ensures guarded { GuardedGuestsRespect }
     ensures run { EveryGuestEventRespects }
-    ensures others { GuestsSpareOthers }
+{}
+
+/// The words of pages that an event of a guest changes it may store to: those of a host page under the
+/// lock of its try, those of a page that it accepts under that page's lock where nobody else reaches
+/// it, and a private page's word where a usable translation of the TD may write. An operation holds
+/// the first of the locks that its row tries, of which the page that `accept` has tried is the one
+/// that its entry names: at the start of every run, after each event, whatever bundles have come in,
+/// and so after any schedule. So at its act it holds all of them, and what it stores is allowed.
+pub fn guests_store()
+    ensures stores { GuestsStoreTheirs }
+    ensures kept { OperationLocksAreKept }
+    ensures locks { OperationLocksHold }
+    ensures guarded { GuardedGuestsStore }
+    ensures run { EveryGuestEventStores }
+{}
+
+/// A call that tries the same locks in every world, as all but MR.EXTEND do, holds the first of those
+/// that its row tries: at the start of every run, after each event, whatever bundles have come in. So in
+/// every state in which no stale translation is used besides, and after any schedule, every event, a
+/// call's and a guest's, changes what words are only as the rules say, under what its processor has;
+/// and what another processor may do at a word stays allowed to it.
+pub fn events_respect()
+    ensures kept { CallLocksAreKept }
+    ensures guarded { GuardedEventsRespect }
+    ensures run { EveryEventRespects }
+    ensures others { EventsSpareOthers }
 {
     lock_words::grips_are_apart();
     word_rules::words_never_conflict();
