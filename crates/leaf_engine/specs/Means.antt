@@ -158,7 +158,7 @@ IsMaker (OfOperation t v row) c = (g : Guest) × IsInGuest c t v g × IsAtOperat
 IsMaker (OfAccess t v line access r gpa page) c =
     (g : Guest) × IsInGuest c t v g × IsAtOperation c.state.world v × (line ≡ length (c.state.lps c.me).replies + 1) × (look_up (c.state.lps c.me).cached t (page_of_gpa gpa) access ≡ Some page) × IsPageOf c.state.world.pages t page kind.Reg
 IsMaker (OfWalk t v access gpa level page) c = (g : Guest) × IsInGuest c t v g × (walk_level g.walk ≡ level) × IsEntryPage c.state.world t level gpa page
-IsMaker (OfExit t v out) c = (g : Guest) × IsInGuest c t v g × (c.state.world.vps.entered v ≡ Some (c.state.world.vps.lasts v))
+IsMaker (OfExit t v out) c = (g : Guest) × IsInGuest c t v g
 
 -- the premise of the law
 pub record IsAt (task : Task) (c : Instant) : Type 0 where
