@@ -13,3 +13,5 @@ pub mod OnTheWay
 pub mod Pieces
 pub mod Doings
 pub mod Facts
+pub mod Steps
+pub mod GuestDoing
