@@ -15,3 +15,4 @@ pub mod Doings
 pub mod Facts
 pub mod Steps
 pub mod GuestDoing
+pub mod GuestActs
