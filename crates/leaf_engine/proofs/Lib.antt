@@ -16,3 +16,5 @@ pub mod Facts
 pub mod Steps
 pub mod GuestDoing
 pub mod GuestActs
+pub mod GuestThen
+pub mod GuestGoes

@@ -115,3 +115,41 @@ module _ (o : Opening) (w : World) (lp : Lp) (g : Guest) (root index position : 
   step-fits st e level (operates op row l i is) = i
   step-fits st e level (walks op access r gpa l below is misses) = (level, below)
   step-fits st e level (reaches op access r gpa page l fits is hits) = fits
+
+-- whatever its run
+module _ (codes : ℕ → ℕ → List GuestOp) (ts : List Translation) (g : Guest) (root index position : ℕ) (run run' : Option Standing) where
+  abbrev y : WordGuest
+  y = seen g root index position run
+
+  abbrev z : WordGuest
+  z = seen g root index position run'
+
+  same-private : (access : Access) (r gpa : ℕ) (page : Option ℕ) → private_step y access r gpa page ≡ private_step z access r gpa page
+  same-private access r gpa None = refl
+  same-private access r gpa (Some page) = refl
+
+  same-choice : (b : Bool) (access : Access) (r gpa : ℕ) (op : GuestOp)
+      → (if b then private_step y access r gpa (look_up ts g.tdr (page_of_gpa gpa) access) else Operates op) ≡ (if b then private_step z access r gpa (look_up ts g.tdr (page_of_gpa gpa) access) else Operates op)
+  same-choice true access r gpa op = same-private access r gpa (look_up ts g.tdr (page_of_gpa gpa) access)
+  same-choice false access r gpa op = refl
+
+  same-operation : (op : GuestOp) → operation_step ts y op ≡ operation_step ts z op
+  same-operation (op.Load r gpa) = same-choice (is_private gpa) Read r gpa (op.Load r gpa)
+  same-operation (op.Store r gpa) = same-choice (is_private gpa) Write r gpa (op.Store r gpa)
+  same-operation (op.Set r v) = refl
+  same-operation (op.Add r k) = refl
+  same-operation (op.Accept gpa) = refl
+  same-operation (op.Rtmr k) = refl
+  same-operation (op.Vmcall r) = refl
+
+  same-max : (b : Bool) (op : GuestOp) → (if b then Leaves Max else operation_step ts y op) ≡ (if b then Leaves Max else operation_step ts z op)
+  same-max true op = refl
+  same-max false op = same-operation op
+
+  same-due : (found : Option GuestOp) → due_step ts y found ≡ due_step ts z found
+  same-due None = refl
+  same-due (Some op) = same-max (nat_le g.most g.completed) op
+
+  pub same-step : (l : Option Outcome) → staying_step codes ts y l ≡ staying_step codes ts z l
+  same-step (Some out) = refl
+  same-step None = same-due (slice_get (codes g.tdr index) position)
