@@ -18,7 +18,7 @@ use Rattle.flat_core.specs.Processor.{Held, Phase, Trying, Undoing, Answered, Pr
 use Rattle.flat_core.specs.Opening.{Opening}
 use Rattle.flat_core.specs.Row.{OperationRow, Move, Attempts, Undoes, Refuses, Succeeds, Releases, Rests, after_move}
 use Rattle.flat_core.specs.Table.{row_of}
-use Rattle.flat_core.specs.Tree.{entry_at}
+use Rattle.flat_core.specs.Tree.{page_of_gpa, entry_at}
 use Rattle.flat_core.specs.Guest.{goes_on, walk_level, walk_step, walked_on, answered, reach}
 use Rattle.flat_core.specs.Guests.{guest_locks}
 use Rattle.flat_core.specs.Effects.{leave_guest}
@@ -35,7 +35,7 @@ use Rattle.leaf_engine.specs.Means as meaning
 use Rattle.leaf_engine.specs.Means.{Task, Meaning, work_of, LocksStay}
 use Rattle.word_rules.specs.Views.{rights_by}
 use Rattle.leaf_engine.specs.Turns.{Standing, last_reply}
-use Rattle.leaf_engine.specs.Guests.{WordGuest, Step, Operates, Accesses, Loads, Leaves, step_of, walk_page, passed_on, operated, exited_with, leaving_with, loaded, walked, is_right, gives_epoch_back}
+use Rattle.leaf_engine.specs.Guests.{WordGuest, Step, Operates, Accesses, Loads, Leaves, step_of, walk_page, passed_on, operated, exited_with, leaving_with, loaded, walked, is_right, named_page, gives_epoch_back}
 use Rattle.leaf_engine.specs.OwnLists.{LeafTable, WordLp, step_leaf, after_step}
 use Rattle.leaf_engine.specs.Calls.{AreLocks, IsStage}
 use Rattle.leaf_engine.specs.Doing.{out_move, row_then, outcome_of, HasMoves, LeafAt, ActsBy, LeafAfter, work_world}
@@ -140,6 +140,39 @@ module _ (o : Opening) (s : State) (p : ℕ) (c : Call) (cs : List Call) (g : Gu
   index-same : (w' : World) → KeepsTds w w' → w'.vps.indexes g.vp ≡ index
   index-same w' keeps = ap (λ (f : ℕ → ℕ). f g.vp) keeps.indexes
 
+  -- it is over
+  module _ (words : WordPlace → ℕ) (w' : World) (lp' : Lp) (keeps : KeepsTds w w') (same : Same lp') where
+    passed : w'.vps.positions g.vp ≡ n + 1 → lp'.guest ≡ Some (record g { operation = nothing_yet; walk = None; completed = g.completed + 1 }) → Goal words w' lp' (record { lines = c ∷ cs; run = Some line; guest = Some (passed_on x); replies = lp.replies; beside = beside })
+    passed position is =
+        stays words w' lp' (record g { operation = nothing_yet; walk = None; completed = g.completed + 1 }) (passed_on x) is same keeps (record {
+          tdr = refl;
+          vp = refl;
+          most = refl;
+          completed = refl;
+          walk = refl;
+          leaving = refl;
+          root = root-same w' keeps;
+          index = index-same w' keeps;
+          position = position;
+          operation = refl;
+        })
+
+    left : (out : Outcome) (n' : ℕ) → w'.vps.positions g.vp ≡ n' → lp'.guest ≡ Some (record g { operation = nothing_yet; walk = None; leaving = Some out })
+        → Goal words w' lp' (record { lines = c ∷ cs; run = Some line; guest = Some (leaving_with out (record x { position = n' })); replies = lp.replies; beside = beside })
+    left out n' position is =
+        stays words w' lp' (record g { operation = nothing_yet; walk = None; leaving = Some out }) (leaving_with out (record x { position = n' })) is same keeps (record {
+          tdr = refl;
+          vp = refl;
+          most = refl;
+          completed = refl;
+          walk = refl;
+          leaving = refl;
+          root = root-same w' keeps;
+          index = index-same w' keeps;
+          position = position;
+          operation = refl;
+        })
+
   -- an operation
   module _ (op : GuestOp) (row : OperationRow) (step-is : its-step ≡ Operates op) (kind-is : kinds g.tdr g.vp number (Operates op) ≡ meaning.OfOperation g.tdr g.vp row) (hasher : HasNoHasher stands) where
     abbrev task : Task
@@ -175,49 +208,17 @@ module _ (o : Opening) (s : State) (p : ℕ) (c : Call) (cs : List Call) (g : Gu
                 });
           })
 
-      -- it is over
-      passed : w'.vps.positions g.vp ≡ n + 1 → lp'.guest ≡ Some (record g { operation = nothing_yet; walk = None; completed = g.completed + 1 }) → Goal words w' lp' (record { lines = c ∷ cs; run = Some line; guest = Some (passed_on x); replies = lp.replies; beside = beside })
-      passed position is =
-          stays words w' lp' (record g { operation = nothing_yet; walk = None; completed = g.completed + 1 }) (passed_on x) is same keeps (record {
-            tdr = refl;
-            vp = refl;
-            most = refl;
-            completed = refl;
-            walk = refl;
-            leaving = refl;
-            root = root-same w' keeps;
-            index = index-same w' keeps;
-            position = position;
-            operation = refl;
-          })
-
-      left : (out : Outcome) (n' : ℕ) → w'.vps.positions g.vp ≡ n' → lp'.guest ≡ Some (record g { operation = nothing_yet; walk = None; leaving = Some out })
-          → Goal words w' lp' (record { lines = c ∷ cs; run = Some line; guest = Some (leaving_with out (record x { position = n' })); replies = lp.replies; beside = beside })
-      left out n' position is =
-          stays words w' lp' (record g { operation = nothing_yet; walk = None; leaving = Some out }) (leaving_with out (record x { position = n' })) is same keeps (record {
-            tdr = refl;
-            vp = refl;
-            most = refl;
-            completed = refl;
-            walk = refl;
-            leaving = refl;
-            root = root-same w' keeps;
-            index = index-same w' keeps;
-            position = position;
-            operation = refl;
-          })
-
       exits : (out : Outcome) → w'.vps.positions g.vp ≡ position_of n (Answered (Exited out)) → lp'.guest ≡ Some (record g { operation = nothing_yet; walk = None; leaving = Some out }) → Then (Some (Exited out))
-      exits (Vmcall y) position is = left (Vmcall y) (n + 1) position is
-      exits Stop position is = left Stop n position is
-      exits Max position is = left Max n position is
-      exits (EptViolation gpa access) position is = left (EptViolation gpa access) n position is
-      exits (Busy name) position is = left (Busy name) n position is
+      exits (Vmcall y) position is = left words w' lp' keeps same (Vmcall y) (n + 1) position is
+      exits Stop position is = left words w' lp' keeps same Stop n position is
+      exits Max position is = left words w' lp' keeps same Max n position is
+      exits (EptViolation gpa access) position is = left words w' lp' keeps same (EptViolation gpa access) n position is
+      exits (Busy name) position is = left words w' lp' keeps same (Busy name) n position is
 
       over : (r : Reply) → AnswersGuest (Answered r) → w'.vps.positions g.vp ≡ position_of n (Answered r) → lp'.guest ≡ Some (settle_operation (Answered (outcome_of r)) [] (record g { operation = record { phase = Answered (outcome_of r); held = [] } })) → Then (Some r)
-      over (Done v) answers position is = passed position is
+      over (Done v) answers position is = passed words w' lp' keeps same position is
       over (Exited out) answers position is = exits out position is
-      over (Refused (OperandBusy name)) answers position is = left (Busy name) n position is
+      over (Refused (OperandBusy name)) answers position is = left words w' lp' keeps same (Busy name) n position is
       over (Refused _) answers position is = absurd answers
 
       ended : (ph : Phase Reply) (hs : List Held) (st : Stage) → stands.stage ≡ st → IsStage m w' st ph → AreLocks m w' stands.held hs → LeafAt task w' words stands (record { phase = ph; held = hs }) → w'.vps.positions g.vp ≡ position_of n ph → AnswersGuest ph
@@ -261,3 +262,113 @@ module _ (o : Opening) (s : State) (p : ℕ) (c : Call) (cs : List Call) (g : Gu
         from-event o s p ev a.next.next (λ (v : World) (z : Lp). beside_of z beside.bundles ≡ beside) (beside-is e stands.rest lp ((event o s p).lps p) bs a.comes) in
         at-event o s p ev a.next.next (λ (v : World) (z : Lp). LpStands o table p v a.mem.words z (After (Operates op) (last_reply stands.stage stands.held)))
         (ended a.mem.words w' lp' now.keeps (refl, refl, besides) refl own'.phase own'.held stands.stage refl at.stage at.held at now.position now.answers guest-is)
+
+  -- a single event
+  module _ (own : Progress Reply) (fresh : own ≡ nothing_yet) (none : g.operation ≡ nothing_yet) (at-n : w.vps.positions g.vp ≡ n) (u : Table) where
+    no-held : g.operation.held ≡ []
+    no-held = ap (λ (z : Progress (Option Outcome)). z.held) none
+
+    abbrev leaf : Step → Meaning → Task
+    leaf st k = record { place = here; tree = steps g.tdr g.vp number st; meaning = k }
+
+    abbrev IsAfter : (WordPlace → ℕ) → Step → Type 0
+    IsAfter words st = LpStands o table p (event o s p).world words ((event o s p).lps p) (After st (last_reply stands.stage stands.held))
+
+    -- an access to a word
+    pub access-goes : (access : Access) (r gpa page : ℕ) → (a : LeafAfter o (leaf (Accesses access r gpa page) (meaning.OfAccess g.tdr g.vp number access r gpa page)) s own u stands e) → IsAfter a.mem.words (Accesses access r gpa page)
+    access-goes access r gpa page a =
+        let st : Step = Accesses access r gpa page in
+        let ev : Event = Reaches g.tdr g.vp access r gpa page in
+        let lp' : Lp = lp_after w (is_granted s ev) ev lp in
+        let it : IsSingle (work_of (meaning.OfAccess g.tdr g.vp number access r gpa page)) w e stands = single o (leaf st (meaning.OfAccess g.tdr g.vp number access r gpa page)) s own u stands e fresh refl a in
+        let guest-is : lp'.guest ≡ Some (record g { operation = nothing_yet; walk = None; completed = g.completed + 1 }) =
+        ap (option_map (λ (z : Guest). settled_guest (answered None z))) is-in
+        ∙ ap (λ (z : List Held). Some (settle_operation (Answered None) z (record g { operation = record { phase = Answered None; held = z } }))) no-held in
+        let besides : beside_of lp' beside.bundles ≡ beside =
+        from-event o s p ev a.next.next (λ (v : World) (z : Lp). beside_of z beside.bundles ≡ beside) (beside-is e stands.rest lp ((event o s p).lps p) bs a.comes) in
+        let act = reach-passes g.tdr g.vp access r gpa page w in
+        at-event o s p ev a.next.next (λ (v : World) (z : Lp). LpStands o table p v a.mem.words z (After st (last_reply stands.stage stands.held)))
+        (subst (λ (z : Option Reply). Goal a.mem.words (reach g.tdr g.vp access r gpa page w) lp' (After st z)) (sym it.last)
+        (passed a.mem.words (reach g.tdr g.vp access r gpa page w) lp' act.keeps (refl, refl, besides) (act.position ∙ ap (λ (z : ℕ). z + 1) at-n) guest-is))
+
+    -- the load of an entry
+    module _ (access : Access) (gpa : ℕ) (words : WordPlace → ℕ) (lp' : Lp) (same : Same lp') where
+      abbrev Stands : WordGuest → Type 0
+      Stands x' = Goal words w lp' (record { lines = c ∷ cs; run = Some line; guest = Some x'; replies = lp.replies; beside = beside })
+
+      goes-to : (k k' : Option Walk) → k ≡ k' → lp'.guest ≡ Some (settled_guest (record g { walk = k })) → Stands (record x { walk = k'; run = None })
+      goes-to k k' k-is is =
+          let settles : settled_guest (record g { walk = k }) ≡ record g { walk = k } = ap (λ (z : Progress (Option Outcome)). settle_operation z.phase z.held (record g { walk = k })) none in
+          stays words w lp' (record g { walk = k }) (record x { walk = k'; run = None }) (is ∙ ap Some settles) same (same-tds w) (record {
+            tdr = refl;
+            vp = refl;
+            most = refl;
+            completed = refl;
+            walk = k-is;
+            leaving = refl;
+            root = refl;
+            index = refl;
+            position = at-n;
+            operation = none;
+          })
+
+      violates : lp'.guest ≡ Some (settled_guest (answered (Some (EptViolation gpa access)) g)) → Stands (leaving_with (EptViolation gpa access) x)
+      violates is =
+          left words w lp' (same-tds w) same (EptViolation gpa access) n at-n
+          (is ∙ ap (λ (z : List Held). Some (settle_operation (Answered (Some (EptViolation gpa access))) z (record g { operation = record { phase = Answered (Some (EptViolation gpa access)); held = z } }))) no-held)
+
+      walks-on : (level : ℕ) (ent : Entry) (b : Bool) → goes_on access level ent ≡ b → lp'.guest ≡ Some (settled_guest (walked_on access gpa b level ent g)) → Stands (walked access gpa level (rights_by ent) b x)
+      walks-on zero ent true on is = goes-to None None refl is
+      walks-on (suc level) ent true on is =
+          goes-to (Some (record { gpa_page = page_of_gpa gpa; level = level; page = ent.page })) (Some (record { gpa_page = page_of_gpa gpa; level = level; page = named_page (rights_by ent) }))
+          (ap (λ (z : ℕ). Some (record { gpa_page = page_of_gpa gpa; level = level; page = z })) (sym (page-is access level ent on))) is
+      walks-on zero ent false on is = violates is
+      walks-on (suc level) ent false on is = violates is
+
+    pub walk-goes : (access : Access) (gpa : ℕ) → let level = walk_level g.walk in let st = Loads access gpa level (walk_page root g.walk) in
+        (a : LeafAfter o (leaf st (meaning.OfWalk g.tdr g.vp access gpa level (walk_page root g.walk))) s own u stands e) → IsAfter a.mem.words st
+    walk-goes access gpa a =
+        let level : ℕ = walk_level g.walk in
+        let page : ℕ = walk_page root g.walk in
+        let st : Step = Loads access gpa level page in
+        let ent : Entry = entry_at w g.tdr level gpa in
+        let ev : Event = Walks access gpa in
+        let lp' : Lp = lp_after w (is_granted s ev) ev lp in
+        let r : Reply = (answer_of stands.rest).reply in
+        let it : IsSingle (work_of (meaning.OfWalk g.tdr g.vp access gpa level page)) w e stands = single o (leaf st (meaning.OfWalk g.tdr g.vp access gpa level page)) s own u stands e fresh refl a in
+        let guest-is : lp'.guest ≡ Some (settled_guest (walk_step w g access gpa)) = ap (option_map (λ (z : Guest). settled_guest (walk_step w z access gpa))) is-in in
+        let besides : beside_of lp' beside.bundles ≡ beside =
+        from-event o s p ev a.next.next (λ (v : World) (z : Lp). beside_of z beside.bundles ≡ beside) (beside-is e stands.rest lp ((event o s p).lps p) bs a.comes) in
+        let on : Bool = goes_on access level ent in
+        at-event o s p ev a.next.next (λ (v : World) (z : Lp). LpStands o table p v a.mem.words z (After st (last_reply stands.stage stands.held)))
+        (subst (λ (z : Option Reply). Goal a.mem.words w lp' (After st z)) (sym (it.last ∙ ap Some it.answers.reply_is))
+        (subst (λ (b : Bool). Goal a.mem.words w lp' (record { lines = c ∷ cs; run = Some line; guest = Some (walked access gpa level (rights_by ent) b x); replies = lp.replies; beside = beside })) (sym (right-is access level ent))
+        (walks-on access gpa a.mem.words lp' (refl, refl, besides) level ent on refl guest-is)))
+
+    -- the exit
+    pub exit-goes : (out : Outcome) → (a : LeafAfter o (leaf (Leaves out) (meaning.OfExit g.tdr g.vp out)) s own u stands e) → IsAfter a.mem.words (Leaves out)
+    exit-goes out a =
+        let st : Step = Leaves out in
+        let ev : Event = LeavesGuest g.vp out in
+        let w' : World = leave_guest g.vp w in
+        let lp' : Lp = lp_after w (is_granted s ev) ev lp in
+        let r : Reply = (answer_of stands.rest).reply in
+        let it : IsSingle (work_of (meaning.OfExit g.tdr g.vp out)) w e stands = single o (leaf st (meaning.OfExit g.tdr g.vp out)) s own u stands e fresh refl a in
+        let besides : beside_of lp' beside.bundles ≡ beside =
+        from-event o s p ev a.next.next (λ (v : World) (z : Lp). beside_of z beside.bundles ≡ beside) (beside-is e stands.rest lp ((event o s p).lps p) bs a.comes) in
+        at-event o s p ev a.next.next (λ (v : World) (z : Lp). LpStands o table p v a.mem.words z (After st (last_reply stands.stage stands.held)))
+        (subst (λ (z : Option Reply). Goal a.mem.words w' lp' (After st z)) (sym it.last) (record {
+          lines = is-line;
+          replies = refl;
+          beside = besides;
+          run = record {
+            at = record {
+              line = record { call = c; further = cs; lines = is-line; row_is = refl };
+              guest = refl;
+              stage = it.answers.reply_is;
+              held = locks-after m w w' lp.call.held line.held (subst (λ (hs : List Held). LocksStay w w' hs) (sym locked) (guest-locks-stay w w' g.tdr g.vp (record { controls = refl; kinds = refl; lives = refl; indexes = refl }))) held;
+              told = λ z. cc;
+            };
+            waits = λ z. cc;
+          };
+        }))
