@@ -31,6 +31,8 @@ use Rattle.leaf_engine.specs.declared.events.Stage.TheVariants as stages
 use Rattle.leaf_engine.specs.declared.needs.Place.{Place}
 use Rattle.leaf_engine.specs.Trees.{Tree, answer_of}
 use Rattle.leaf_engine.specs.Besides.{Beside, beside_of, beside_after}
+use Rattle.leaf_engine.specs.Changes.{Hand}
+use Rattle.leaf_engine.specs.Decides.{IsHand}
 use Rattle.leaf_engine.specs.Means as meaning
 use Rattle.leaf_engine.specs.Means.{Task, Meaning, work_of, LocksStay}
 use Rattle.word_rules.specs.Views.{rights_by}
@@ -68,7 +70,7 @@ world-same t v row Rests w = refl
 module _ (o : Opening) (s : State) (p : ℕ) (c : Call) (cs : List Call) (g : Guest) (trees : Call → Tree) (steps : (tdr vp line : ℕ) → Step → Tree) (kinds : (tdr vp line : ℕ) → Step → Meaning)
     (line : Standing) (reply : Reply) (bs : List Made) (n : ℕ) (run : Option Standing)
     (is-line : lines_left o p (s.lps p) ≡ c ∷ cs) (is-in : (s.lps p).guest ≡ Some g) (answered-by : line.stage ≡ stages.Answered reply) (held : AreLocks o.machine s.world line.held (s.lps p).call.held)
-    (locked : (s.lps p).call.held ≡ guest_locks g.tdr g.vp) (freed : gives_epoch_back line.held ≡ false) (e : RunEvent) (stands : Standing) where
+    (locked : (s.lps p).call.held ≡ guest_locks g.tdr g.vp) (freed : gives_epoch_back line.held ≡ false) (hand : Hand) (in-hand : IsHand line.hasher hand) (e : RunEvent) (stands : Standing) where
   abbrev w : World
   w = s.world
 
@@ -131,6 +133,8 @@ module _ (o : Opening) (s : State) (p : ℕ) (c : Call) (cs : List Call) (g : Gu
               (locks-after m w w' lp.call.held line.held (subst (λ (hs : List Held). LocksStay w w' hs) (sym locked) (guest-locks-stay w w' g.tdr g.vp keeps)) held);
           at = at;
           fresh = λ y. (let no : true ≡ false = sym y ∙ freed in cc);
+          hand = hand;
+          in_hand = in-hand;
         };
       }
 

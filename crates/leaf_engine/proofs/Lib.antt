@@ -18,3 +18,4 @@ pub mod GuestDoing
 pub mod GuestActs
 pub mod GuestThen
 pub mod GuestGoes
+pub mod Processing

@@ -52,8 +52,9 @@ then_at t c cs None run rs b e s = after_turn c cs (guest_after e s.rest None) r
 then_at t c cs (Some x) None rs b e s = after_turn c cs (Some x) rs b s None
 then_at t c cs (Some x) (Some line) rs b e s = then_in t c cs x line rs b e s (gives_epoch_back line.held)
 
--- what a processor does is what one leaf means, beside the locks that its call keeps
-pub record Does (o : Opening) (p : ℕ) (s : State) (mem : Memory) (task : Task) (run : Standing) : Type 0 where
+-- What a processor does is what one leaf means, beside the locks that its call keeps; and after that leaf's turn it stands
+-- where the turn leaves it.
+pub record Does (o : Opening) (t : LeafTable) (p : ℕ) (s : State) (mem : Memory) (task : Task) (run : Standing) (after : RunEvent → Standing → WordLp) : Type 0 where
   pub processor : task.place.lp ≡ p
   pub machine : task.place.machine ≡ o.machine
   pub kept : List Held
@@ -63,17 +64,12 @@ pub record Does (o : Opening) (p : ℕ) (s : State) (mem : Memory) (task : Task)
   pub at : LeafAt task s.world mem.words run progress
   pub waits : HasNoHasher run
   pub locks : locks_of (s.lps p) ≡ kept ++ progress.held
+  pub then_ : (u : Table) (e : RunEvent) (stands : Standing) (a : LeafAfter o task s progress u stands e)
+      → LpStands o t p (event o s p).world a.mem.words ((event o s p).lps p) (after e stands)
 
--- Where a processor stands, at a line, it does what the leaf there means.
+-- So does each that stands, at a line.
 abbrev pub ProcessorsDo : Type 0
 ProcessorsDo = (o : Opening) (leaf : ℕ → LeafTable) (p : ℕ) (s : State) (mem : Memory) (at : WordLp) (c : Call) (cs : List Call)
     → AreLeaves o leaf → AreCodes o → AreTimely o s → Facts s → p < s.lp_count → LpStands o (leaf p) p s.world mem.words (s.lps p) at → at.lines ≡ c ∷ cs
-    → let task = task_at (leaf p) c at.guest at.run at.replies at.beside in Does o p s mem task (running task (run_at at.guest at.run))
-
--- After that leaf's turn it stands where the turn leaves it.
-abbrev pub ProcessorsGoOn : Type 0
-ProcessorsGoOn = (o : Opening) (leaf : ℕ → LeafTable) (p : ℕ) (s : State) (mem : Memory) (at : WordLp) (c : Call) (cs : List Call) (u : Table) (e : RunEvent) (stands : Standing)
-    → AreLeaves o leaf → AreCodes o → AreTimely o s → Facts s → p < s.lp_count → LpStands o (leaf p) p s.world mem.words (s.lps p) at → at.lines ≡ c ∷ cs
     → let task = task_at (leaf p) c at.guest at.run at.replies at.beside in
-    (d : Does o p s mem task (running task (run_at at.guest at.run))) → (a : LeafAfter o task s d.progress u stands e)
-    → LpStands o (leaf p) p (event o s p).world a.mem.words ((event o s p).lps p) (then_at (leaf p) c cs at.guest at.run at.replies at.beside e stands)
+    Does o (leaf p) p s mem task (running task (run_at at.guest at.run)) (λ e stands. then_at (leaf p) c cs at.guest at.run at.replies at.beside e stands)

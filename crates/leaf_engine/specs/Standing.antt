@@ -17,6 +17,8 @@ use Rattle.flat_core.specs.Laws.{IsBetween}
 use Rattle.leaf_engine.specs.declared.events.Stage.{Stage}
 use Rattle.leaf_engine.specs.declared.events.Stage.TheVariants as stages
 use Rattle.leaf_engine.specs.Besides.{Beside, beside_of}
+use Rattle.leaf_engine.specs.Changes.{Hand}
+use Rattle.leaf_engine.specs.Decides.{IsHand}
 use Rattle.leaf_engine.specs.Means.{Task}
 use Rattle.leaf_engine.specs.Turns.{Standing}
 use Rattle.leaf_engine.specs.Guests.{WordGuest, gives_epoch_back}
@@ -89,7 +91,8 @@ pub record IsGuestAt (task : Task) (w : World) (words : WordPlace → ℕ) (g : 
   pub position : w.vps.positions x.vp ≡ position_at x.position x.run
   pub operation : IsStepRun task w words x.run g.operation
 
--- its VP.ENTER has acted, and holds what the flat machine's does; while E is to be given back its guest has done nothing
+-- its VP.ENTER has acted, and holds what the flat machine's does; while E is to be given back its guest has done nothing. What
+-- VP.ENTER had in hand it has again at the exit
 pub record GuestStands (o : Opening) (t : LeafTable) (p : ℕ) (c : Call) (w : World) (words : WordPlace → ℕ) (lp : Lp) (line : Standing) (x : WordGuest) (rs : List Reply) (b : Beside) : Type 0 where
   pub line_is : IsLine o p (row_of o p c) lp
   pub guest : Guest
@@ -99,6 +102,8 @@ pub record GuestStands (o : Opening) (t : LeafTable) (p : ℕ) (c : Call) (w : W
   pub held : AreLocks o.machine w line.held lp.call.held
   pub at : IsGuestAt (step_leaf t x rs b) w words guest x
   pub fresh : gives_epoch_back line.held ≡ true → x.run ≡ None
+  pub hand : Hand
+  pub in_hand : IsHand line.hasher hand
 
 -- in the call of a line
 pub record CallStands (o : Opening) (t : LeafTable) (p : ℕ) (c : Call) (w : World) (words : WordPlace → ℕ) (lp : Lp) (run : Standing) : Type 0 where
