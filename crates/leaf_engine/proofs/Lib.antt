@@ -19,3 +19,4 @@ pub mod GuestActs
 pub mod GuestThen
 pub mod GuestGoes
 pub mod Processing
+pub mod Doers

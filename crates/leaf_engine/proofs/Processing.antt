@@ -59,13 +59,13 @@ use Rattle.leaf_engine.proofs.GuestGoes.{table_of, operation-goes, access-goes, 
 
 -- the lines behind one that is done
 
-drop-next : (n : ℕ) (xs cs : List Call) (c : Call) → drop n xs ≡ c ∷ cs → drop (suc n) xs ≡ cs
+pub drop-next : (n : ℕ) (xs cs : List Call) (c : Call) → drop n xs ≡ c ∷ cs → drop (suc n) xs ≡ cs
 drop-next zero [] cs c e = cc
 drop-next zero (x ∷ xs) cs c e = cc
 drop-next (suc n) [] cs c e = cc
 drop-next (suc n) (x ∷ xs) cs c e = drop-next n xs cs c e
 
-one-longer : (rs : List Reply) (r : Reply) → length (rs ++ r ∷ []) ≡ suc (length rs)
+pub one-longer : (rs : List Reply) (r : Reply) → length (rs ++ r ∷ []) ≡ suc (length rs)
 one-longer [] r = refl
 one-longer (x ∷ rs) r = ap suc (one-longer rs r)
 
@@ -84,7 +84,7 @@ named-epoch (OfEpoch t) = refl
 named-epoch (OfRtmr t) = refl
 named-epoch OfKeys = refl
 
-gives-back : (m : Machine) (w : World) (held : List HeldLock) (h : Held) (hs : List Held) → AreLocks m w held (h ∷ hs) → gives_epoch_back held ≡ is_epoch_lock h.lock
+pub gives-back : (m : Machine) (w : World) (held : List HeldLock) (h : Held) (hs : List Held) → AreLocks m w held (h ∷ hs) → gives_epoch_back held ≡ is_epoch_lock h.lock
 gives-back m w held h hs are = ap gives_epoch_back are.1.1 ∙ (newest-name are.0 are.1.0 ∙ (ap is_epoch_name are.1.3.name_is ∙ named-epoch h.lock))
 
 some-last : (m : Machine) (w : World) (st : Stage) (r : Reply) (held : List HeldLock) (h : Held) (hs : List Held) → st ≡ stages.Answered r → AreLocks m w held (h ∷ hs) → last_reply st held ≡ None
@@ -125,7 +125,7 @@ enters-as o p (call.VpEnter t v most) en e =
 enters-as o p (call.HostRead page i) en e = cc
 enters-as o p _ en e = cc
 
-stage-position : (m : Machine) (w : World) (n : ℕ) (st : Stage) (ph : Phase Reply) → IsStage m w st ph → position_in n st ≡ position_of n ph
+pub stage-position : (m : Machine) (w : World) (n : ℕ) (st : Stage) (ph : Phase Reply) → IsStage m w st ph → position_in n st ≡ position_of n ph
 stage-position m w n stages.Trying Trying i = refl
 stage-position m w n stages.Trying (Undoing l) i = absurd i
 stage-position m w n stages.Trying (Answered r) i = absurd i
@@ -165,7 +165,7 @@ module _ (o : Opening) (p : ℕ) (s : State) (mem : Memory) (c : Call) (cs : Lis
   timely-after : IsTimely o (event o s p).world p (calls_of o.calls p) ((event o s p).lps p)
   timely-after = (timeliness_kept.event o o.bundles s p (record { lawful = timely.lawful; each = timely.each })).each p
 
-  inside-of : (w' : World) (lp' : Lp) (g : Guest) → lines_left o p lp' ≡ c ∷ cs → lp'.guest ≡ Some g → IsTimely o w' p (calls_of o.calls p) lp' → InGuest o w' p c lp' g
+  pub inside-of : (w' : World) (lp' : Lp) (g : Guest) → lines_left o p lp' ≡ c ∷ cs → lp'.guest ≡ Some g → IsTimely o w' p (calls_of o.calls p) lp' → InGuest o w' p c lp' g
   inside-of w' lp' g line is h = subst (λ (z : Option Guest). LineAt o w' p c lp' z) is (subst (λ (z : List Call). StandsAt o w' p z lp') line h)
 
   -- a turn of the line's leaf
