@@ -76,12 +76,16 @@ enter_rest pages me tdr tdcs vp most =
     (Load Whole (place.Word vp VP_STATE) (λ state.
     needs (same_vp_state (vcpu_told state) vcpu.Ready) (VcpuStateIncorrect (vcpu_told state)) (enter_associated pages me tdr tdcs vp most)))))
 
-abbrev pub enter_tree : Machine → (me tdr vp most : ℕ) → Tree
-enter_tree m me tdr vp most =
+-- two pages, which are not the same, and a number of operations
+abbrev pub entry_arguments : Machine → (tdr vp most : ℕ) → Tree → Tree
+entry_arguments m tdr vp most further =
     needs (nat_lt tdr m.pages) (OperandInvalid 1)
     (needs (nat_lt vp m.pages) (OperandInvalid 2)
     (needs (nat_le 1 most && nat_lt most (2 ^ 16)) (OperandInvalid 3)
-    (needs (not (vp == tdr)) (OperandInvalid 2) (td_head_tree m.pages tdr Shared running_ops (λ td. enter_rest m.pages me tdr td.tdcs vp most)))))
+    (needs (not (vp == tdr)) (OperandInvalid 2) further)))
+
+abbrev pub enter_tree : Machine → (me tdr vp most : ℕ) → Tree
+enter_tree m me tdr vp most = entry_arguments m tdr vp most (td_head_tree m.pages tdr Shared running_ops (λ td. enter_rest m.pages me tdr td.tdcs vp most))
 
 abbrev pub vp_enter_task : Place → (tdr vp most : ℕ) → Task
 vp_enter_task p tdr vp most = record { place = p; tree = enter_tree p.machine p.lp tdr vp most; meaning = OfCall (enter_vp p.machine p.lp tdr vp most) }
