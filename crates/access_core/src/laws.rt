@@ -5,8 +5,8 @@ ghost use Rattle.access_core.specs.RtmrTrees.{RtmrMeans};
 ghost use Rattle.access_core.specs.AcceptTrees.{AcceptMeans};
 ghost use Rattle.access_core.specs.AcceptReach.{PendingIsUnreached, PendingMayBeFilled};
 
-/// The leaves of `set`, `add`, `vmcall` and `rtmr`, and of loads and stores of shared words, mean
-/// their rows; and so does the leaf of `accept` where the entry isn't PENDING.
+/// The leaves of `set`, `add`, `vmcall`, `rtmr` and `accept`, and of loads and stores of shared
+/// words, mean their rows.
 pub fn operations_mean()
     ensures set { SetMeans }
     ensures add { AddMeans }
