@@ -29,7 +29,7 @@ use Rattle.merge_laws.specs.Laws.{nothing_made, IsShownBy, IsWhere, MergesAreRun
 use Rattle.merge_laws.proofs.Stores.{Due, over-none, laid-none}
 use Rattle.merge_laws.proofs.Swaps.{SwapDue, last_put}
 use Rattle.merge_laws.proofs.Owing.{Owed, Stores, Swaps, stores_in, swaps_in, FirstSwaps, FirstMisses, AreOwed}
-use Rattle.merge_laws.proofs.Standing.{Laws, leaf_for, AreTrees, Known, on_table, Fill, Position, Rest, RestBy, RestOf, Stands}
+use Rattle.merge_laws.proofs.Standing.{Trees, Trees, Laws, leaf_for, AreTrees, Known, on_table, Fill, Position, Rest, RestBy, RestOf, Stands}
 use Rattle.merge_laws.proofs.Merged.{known-of, Through, through}
 
 -- leaves by their trees
@@ -83,7 +83,7 @@ module _ (o : Opening) (leaf : ℕ → Call → Task) (are : AreLeaves o leaf) (
 first_position : Opening → ℕ → Position
 first_position o p = record { at = first_lp (calls_of o.calls p); owes = []; swaps = []; fill = None }
 
-starts : (ls : Laws) (o : Opening) (trees : ℕ → Call → Tree) → Stands o trees (start o None) no_memory no_table (first_position o)
+starts : (ls : Laws) (o : Opening) (trees : Trees) → Stands o trees (start o None) no_memory no_table (first_position o)
 unfolding first_position
 starts ls o trees = record {
   shows = ls.start o None;
@@ -94,7 +94,6 @@ starts ls o trees = record {
     laid_is = λ h in_h. sym (over-none (length o.calls) (λ p. None) None (λ q l. refl));
     may = λ p i. tt;
   };
-  guests = λ p. refl;
   bundles = record { own = λ p. []; each = λ p i. refl; merged = nothing_made };
   holds = λ p i. record { stands = record { lines = refl; replies = refl; beside = refl; run = record { call = refl; guest = refl } }; due = tt };
   laid_is = λ r in_r. sym (laid-none (length o.calls) (λ p. []) (λ q. 0) r (λ q l. refl));
@@ -102,8 +101,8 @@ starts ls o trees = record {
 
 -- the end
 
-nothing-left : (ls : Laws) (o : Opening) (trees : ℕ → Call → Tree) (p : ℕ) (pos : Position) (end_ : WordLp) → RestOf o trees p pos [] end_ → (pos.owes ≡ []) × (pos.swaps ≡ []) × (pos.at ≡ end_)
-nothing-left ls o trees p pos end_ rest = by-fill pos.fill pos.at.lines pos.at.run rest
+nothing-left : (ls : Laws) (o : Opening) (trees : Trees) (p : ℕ) (pos : Position) (end_ : WordLp) → RestOf o trees p pos [] end_ → (pos.owes ≡ []) × (pos.swaps ≡ []) × (pos.at ≡ end_)
+nothing-left ls o trees p pos end_ rest = by-fill pos.fill rest
   where
     turn : (cs : List Call) → pos.at.lines ≡ cs → (e : RunEvent) (after : WordLp) → LinesTurn (leaf_for o trees p) o.machine cs pos.at.run pos.at.replies pos.at.beside e [] after → ⊥
     turn [] l e after lt = lt
@@ -133,13 +132,11 @@ nothing-left ls o trees p pos end_ rest = by-fill pos.fill pos.at.lines pos.at.r
     act-left [] (x ∷ xs) ps e = cc
     act-left (x ∷ xs) act ps e = cc
 
-    by-fill : (f : Option Fill) (cs : List Call) (r : Option Standing) → RestBy o trees p pos [] end_ f cs r → (pos.owes ≡ []) × (pos.swaps ≡ []) × (pos.at ≡ end_)
-    by-fill None cs r re = by re re.owed refl re.are
-    by-fill (Some f) (c ∷ cs) (Some run) re = absurd (act-left re.stores re.act (joined re.turns) re.pieces)
-    by-fill (Some f) [] r re = absurd re
-    by-fill (Some f) (c ∷ cs) None re = absurd re
+    by-fill : (f : Option Fill) → RestBy o trees p pos [] end_ f → (pos.owes ≡ []) × (pos.swaps ≡ []) × (pos.at ≡ end_)
+    by-fill None re = by re re.owed refl re.are
+    by-fill (Some f) re = absurd (act-left re.stores re.act (joined re.turns) re.pieces)
 
-ends-so : (ls : Laws) (o : Opening) (trees : ℕ → Call → Tree) (s : State) (u : Table) (ends : ℕ → WordLp) → Through o trees s u ends → IsShownBy o.machine u s × IsWhere o ends s
+ends-so : (ls : Laws) (o : Opening) (trees : Trees) (s : State) (u : Table) (ends : ℕ → WordLp) → Through o trees s u ends → IsShownBy o.machine u s × IsWhere o ends s
 ends-so ls o trees s u ends th =
     let left : (p : ℕ) → p < length o.calls → ((th.pos p).owes ≡ []) × ((th.pos p).swaps ≡ []) × ((th.pos p).at ≡ ends p) = λ p i. nothing-left ls o trees p (th.pos p) (ends p) (th.rest p i) in (
       record {
