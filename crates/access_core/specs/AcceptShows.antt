@@ -17,6 +17,7 @@ use Rattle.sept_walk.specs.SecureEpt.{index_at}
 use Rattle.word_rules.specs.Cells.{Shows}
 use Rattle.lock_words.specs.LockWords.{put_word}
 use Rattle.leaf_engine.specs.Changes.{Memory, Clear, put_page, changed, changed_all}
+use Rattle.leaf_engine.specs.Means.{IsAtOperation}
 use Rattle.leaf_parts.proofs.Aside.{aside, back, words-but, all-kept, control-kept}
 use Rattle.leaf_parts.proofs.Begun.{TwoControls}
 use Rattle.sept_parts.specs.SeptPages.{HasEntry}
@@ -27,7 +28,7 @@ use Rattle.access_core.specs.VpShows.{passed-shown}
 use Rattle.access_core.specs.AcceptTrees.{map_entry}
 
 module _ (m : Machine) (mem : Memory) (s : State) (t v gpa at : ℕ) (sh : Shows m mem.words mem.slots s) (la : Lawful m s.world) (alive : IsAlive s.world.pages s.world.tds t) (x : TwoControls m s.world t) (small : gpa < 2 ^ 47)
-    (has : HasEntry m s.world t x.root at gpa 0) (reg : s.world.pages.kinds (entry_at s.world t 0 gpa).page ≡ kind.Reg) (vp_page : IsPageOf s.world.pages t v kind.Tdvpr) (inside : v < m.pages) where
+    (has : HasEntry m s.world t x.root at gpa 0) (reg : s.world.pages.kinds (entry_at s.world t 0 gpa).page ≡ kind.Reg) (vp_page : IsPageOf s.world.pages t v kind.Tdvpr) (inside : v < m.pages) (starts : IsAtOperation s.world v) where
   abbrev w : World
   w = s.world
 
@@ -91,5 +92,5 @@ module _ (m : Machine) (mem : Memory) (s : State) (t v gpa at : ℕ) (sh : Shows
 
   pub accepted-shown : Shows m after.words after.slots (record s { world = tell_words [] (pass_operation v begun) })
   accepted-shown =
-      let one = passed-shown m (put_word zeros (place.Word at (index_at 0 gpa)) (entry_word mapped)) mem.slots (record s { world = begun }) begun-shown t v alive.life (record { kind = vp_page.kind; owner = vp_page.owner }) inside in
+      let one = passed-shown m (put_word zeros (place.Word at (index_at 0 gpa)) (entry_word mapped)) mem.slots (record s { world = begun }) begun-shown t v alive.life (record { kind = vp_page.kind; owner = vp_page.owner }) inside starts in
       record { word = one.word; hasher = one.hasher }

@@ -22,7 +22,7 @@ use Rattle.word_rules.specs.Rules.{Whole, KeepsNothing}
 use Rattle.word_rules.specs.Cells.{Shows}
 use Rattle.leaf_engine.specs.Facts.{GuestFits}
 use Rattle.leaf_engine.specs.Trees.{Tree, Load, End, acts}
-use Rattle.leaf_engine.specs.Means.{Instant, Means, Work, work_of, OfOperation, hold, exit_item}
+use Rattle.leaf_engine.specs.Means.{Instant, Means, Work, work_of, OfOperation, IsAtOperation, grasp_of, exit_item}
 use Rattle.leaf_parts.specs.Words.{says_host}
 use Rattle.leaf_parts.proofs.Begun.{page_lock, holds-newest}
 use Rattle.leaf_parts.proofs.Checks.{page-told}
@@ -31,7 +31,7 @@ use Rattle.access_core.specs.OperationTrees.{with_position, with_register, put_r
 use Rattle.access_core.specs.VpShows.{register-class, passed-shown, registered-shown}
 use Rattle.access_core.specs.GuestWords.{kept-respects, vp-in, vp-writes, vp-owes, position-load, register-load}
 
-module _ (m : Machine) (c : Instant) (t v : ℕ) (la : Lawful m c.state.world) (sh : Shows m c.memory.words c.memory.slots c.state) (fits : GuestFits c.state.world c.me c.kept t v) where
+module _ (m : Machine) (c : Instant) (t v : ℕ) (la : Lawful m c.state.world) (sh : Shows m c.memory.words c.memory.slots c.state) (fits : GuestFits c.state.world c.me c.kept t v) (starts : IsAtOperation c.state.world v) where
   abbrev w : World
   w = c.state.world
 
@@ -43,11 +43,11 @@ module _ (m : Machine) (c : Instant) (t v : ℕ) (la : Lawful m c.state.world) (
   registers-end r word few =
       let w' : World = tell_words [] (pass_operation v (set_register v r (word w) w)) in
       let one = registered-shown m c.memory.words c.memory.slots c.state sh t v fits.alive.life fits.vp_page inside r (word w) few in
-      let two = passed-shown m _ c.memory.slots (record c.state { world = set_register v r (word w) w }) one t v fits.alive.life (record { kind = fits.vp_page.kind; owner = fits.vp_page.owner }) inside in (
+      let two = passed-shown m _ c.memory.slots (record c.state { world = set_register v r (word w) w }) one t v fits.alive.life (record { kind = fits.vp_page.kind; owner = fits.vp_page.owner }) inside starts in (
         record {
           answers = record { reply_is = refl; cached_is = refl; enters_is = refl; notes_are = refl; tells_are = refl; bundles_are = refl };
           fills_allowed = tt;
-          respects = kept-respects (hold c []) w w' refl refl refl refl;
+          respects = kept-respects (grasp_of c []) w w' refl refl refl refl;
           locks_stay = tt;
           shows = record { word = two.word; hasher = two.hasher };
         },
@@ -72,11 +72,11 @@ module _ (m : Machine) (c : Instant) (t v : ℕ) (la : Lawful m c.state.world) (
   told-end : (r : ℕ) → w.outgoing.to_tell ≡ None → Means m c (work_of (OfOperation t v (call_host v r))) [] (End (with_notes (Exited (Vmcall (w.hidden.registers v r))) [] (w.hidden.registers v r ∷ [])) [] (put_next v (w.vps.positions v) ∷ [])) []
   told-end r none =
       let w' : World = tell_words (register_told w v r ∷ []) (pass_operation v w) in
-      let one = passed-shown m c.memory.words c.memory.slots c.state sh t v fits.alive.life fits.vp_page inside in (
+      let one = passed-shown m c.memory.words c.memory.slots c.state sh t v fits.alive.life fits.vp_page inside starts in (
         record {
           answers = record { reply_is = rw none refl; cached_is = refl; enters_is = refl; notes_are = refl; tells_are = rw none refl; bundles_are = refl };
           fills_allowed = tt;
-          respects = kept-respects (hold c []) w w' refl refl refl refl;
+          respects = kept-respects (grasp_of c []) w w' refl refl refl refl;
           locks_stay = tt;
           shows = record { word = one.word; hasher = one.hasher };
         },
@@ -115,11 +115,11 @@ module _ (m : Machine) (c : Instant) (t v : ℕ) (la : Lawful m c.state.world) (
       let hs : List Held = page_lock (shared_page gpa) Shared ∷ [] in
       let w' : World = tell_words [] (pass_operation v (set_register v r x w)) in
       let one = registered-shown m c.memory.words c.memory.slots c.state sh t v fits.alive.life fits.vp_page inside r x few in
-      let two = passed-shown m _ c.memory.slots (record c.state { world = set_register v r x w }) one t v fits.alive.life (record { kind = fits.vp_page.kind; owner = fits.vp_page.owner }) inside in (
+      let two = passed-shown m _ c.memory.slots (record c.state { world = set_register v r x w }) one t v fits.alive.life (record { kind = fits.vp_page.kind; owner = fits.vp_page.owner }) inside starts in (
         record {
           answers = record { reply_is = refl; cached_is = refl; enters_is = refl; notes_are = refl; tells_are = refl; bundles_are = refl };
           fills_allowed = tt;
-          respects = kept-respects (hold c hs) w w' refl refl refl refl;
+          respects = kept-respects (grasp_of c hs) w w' refl refl refl refl;
           locks_stay = ((refl, λ y. y), tt);
           shows = record { word = two.word; hasher = two.hasher };
         },
@@ -154,11 +154,11 @@ module _ (m : Machine) (c : Instant) (t v : ℕ) (la : Lawful m c.state.world) (
       let hs : List Held = page_lock q Shared ∷ [] in
       let w' : World = tell_words (register_told w v r ∷ []) (pass_operation v (set_word q i (register_told w v r) w)) in
       let one = shows_stored m c.memory.words c.memory.slots c.state q i x in_page sh nda in
-      let two = passed-shown m _ c.memory.slots (record c.state { world = set_word q i x w }) one t v fits.alive.life (record { kind = fits.vp_page.kind; owner = fits.vp_page.owner }) inside in (
+      let two = passed-shown m _ c.memory.slots (record c.state { world = set_word q i x w }) one t v fits.alive.life (record { kind = fits.vp_page.kind; owner = fits.vp_page.owner }) inside starts in (
         record {
           answers = record { reply_is = rw none refl; cached_is = refl; enters_is = refl; notes_are = refl; tells_are = rw none refl; bundles_are = refl };
           fills_allowed = tt;
-          respects = kept-respects (hold c hs) w w' refl refl refl refl;
+          respects = kept-respects (grasp_of c hs) w w' refl refl refl refl;
           locks_stay = ((refl, λ y. y), tt);
           shows = rw none (record { word = two.word; hasher = two.hasher });
         },
@@ -178,16 +178,16 @@ module _ (m : Machine) (c : Instant) (t v : ℕ) (la : Lawful m c.state.world) (
       (stored-end r gpa none in_page nda)))
 
 pub set-means : SetMeans
-set-means p t v r x few = record { means = λ c at. set-at p.machine c t v at.lawful at.shown at.maker.1.fits r x few }
+set-means p t v r x few = record { means = λ c at. set-at p.machine c t v at.lawful at.shown at.maker.1.fits at.maker.2 r x few }
 
 pub add-means : AddMeans
-add-means p t v r s few few' = record { means = λ c at. add-at p.machine c t v at.lawful at.shown at.maker.1.fits r s few few' }
+add-means p t v r s few few' = record { means = λ c at. add-at p.machine c t v at.lawful at.shown at.maker.1.fits at.maker.2 r s few few' }
 
 pub vmcall-means : VmcallMeans
-vmcall-means p t v r few = record { means = λ c at. vmcall-at p.machine c t v at.lawful at.shown at.maker.1.fits r few at.nothing_to_tell }
+vmcall-means p t v r few = record { means = λ c at. vmcall-at p.machine c t v at.lawful at.shown at.maker.1.fits at.maker.2 r few at.nothing_to_tell }
 
 pub shared_load-means : SharedLoadMeans
-shared_load-means p t v line r gpa few = record { means = λ c at. load-at p.machine c t v at.lawful at.shown at.maker.1.fits line r gpa few }
+shared_load-means p t v line r gpa few = record { means = λ c at. load-at p.machine c t v at.lawful at.shown at.maker.1.fits at.maker.2 line r gpa few }
 
 pub shared_store-means : SharedStoreMeans
-shared_store-means p t v r gpa few = record { means = λ c at. store-at p.machine c t v at.lawful at.shown at.maker.1.fits r gpa few at.nothing_to_tell }
+shared_store-means p t v r gpa few = record { means = λ c at. store-at p.machine c t v at.lawful at.shown at.maker.1.fits at.maker.2 r gpa few at.nothing_to_tell }

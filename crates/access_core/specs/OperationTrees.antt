@@ -33,7 +33,7 @@ abbrev pub put_register : (vp register word : ℕ) → Change
 put_register v r x = Put (place.Word v (VP_REGISTERS + r)) x
 
 abbrev pub put_next : (vp position : ℕ) → Change
-put_next v at = Put (place.Word v VP_POSITION) (at + 1)
+put_next v at = Put (place.Word v VP_POSITION) ((at + 1) % 2 ^ 64)
 
 -- an operation that notes and tells these
 abbrev pub with_notes : Reply → List Note → (tells : List ℕ) → Answer

@@ -23,7 +23,7 @@ use Rattle.lock_words.specs.Grips.{holds, holds_alone}
 use Rattle.lock_words.specs.LockWords.{tdcs_of}
 use Rattle.leaf_engine.specs.Facts.{GuestFits}
 use Rattle.leaf_engine.specs.Trees.{Tree, Load}
-use Rattle.leaf_engine.specs.Means.{Instant, Means, Work, work_of, OfOperation, hold}
+use Rattle.leaf_engine.specs.Means.{Instant, Means, Work, work_of, OfOperation, IsAtOperation, hold, grasp_of}
 use Rattle.leaf_parts.specs.Words.{page_told}
 use Rattle.leaf_parts.proofs.Begun.{TwoControls, two-controls}
 use Rattle.leaf_parts.proofs.Checks.{spot_of, at-tdcs, tdr-load, tdcs-load}
@@ -54,7 +54,7 @@ words-mean m c k hs rest at said one zero n few further h = h
 words-mean m c k hs rest at said one (suc left) n few further h =
     one n (omega (arith, few)) (λ x. with_words at (n + 1) left (λ xs. further (x ∷ xs))) (words-mean m c k hs rest at said one left (n + 1) (omega (arith, few)) (λ xs. further (said n ∷ xs)) h)
 
-module _ (m : Machine) (c : Instant) (t v line i : ℕ) (few : i < 4) (la : Lawful m c.state.world) (sh : Shows m c.memory.words c.memory.slots c.state) (fits : GuestFits c.state.world c.me c.kept t v) where
+module _ (m : Machine) (c : Instant) (t v line i : ℕ) (few : i < 4) (la : Lawful m c.state.world) (sh : Shows m c.memory.words c.memory.slots c.state) (fits : GuestFits c.state.world c.me c.kept t v) (starts : IsAtOperation c.state.world v) where
   abbrev w : World
   w = c.state.world
 
@@ -79,8 +79,11 @@ module _ (m : Machine) (c : Instant) (t v line i : ℕ) (few : i < 4) (la : Lawf
   may_load : MayAt (hold c hs) (spot_of RtmrWord t z.tdcs) (λ x. reads x Whole)
   may_load = inr (inr (inl (fits.tdr_held, (fits.op_held, (held, tt)))))
 
-  may_store : MayAt (hold c hs) (spot_of RtmrWord t z.tdcs) (λ x. writes x KeepsNothing)
+  may_store : MayAt (grasp_of c hs) (spot_of RtmrWord t z.tdcs) (λ x. writes x KeepsNothing)
   may_store = inr (inr (inl (fits.tdr_held, (fits.op_held, (alone, tt)))))
+
+  may_owe : MayAt (hold c hs) (spot_of RtmrWord t z.tdcs) (λ x. owes x KeepsNothing)
+  may_owe = inr (inr (inl (fits.tdr_held, (fits.op_held, (alone, tt)))))
 
   -- a word of the RTMR is loaded, and stored
   rtmr-load : (n : ℕ) → n < 6 → (f : ℕ → Tree) → Means m c k hs (f (w.hidden.rtmrs t (6 * i + n))) [] → Means m c k hs (Load Whole (rtmr_at z.tdcs i n) f) []
@@ -88,8 +91,8 @@ module _ (m : Machine) (c : Instant) (t v line i : ℕ) (few : i < 4) (la : Lawf
       tdcs-load m c k hs sh t (16 + (6 * i + n)) (w.hidden.rtmrs t (6 * i + n)) fits.alive z (omega (arith, few, small)) (rtmr-line w (lock_word c.state.lps c.state.lp_count) t (6 * i + n) (omega (arith, few, small)))
       (rw (rtmr-class (is_current w t) (is_empty w t) (6 * i + n) (omega (arith, few, small))) may_load) f [] h
 
-  rtmr-writes : (n : ℕ) → n < 6 → Writes (hold c hs) w (rtmr_at z.tdcs i n) KeepsNothing
-  rtmr-writes n small = at-tdcs (hold c hs) w t z.tdcs (16 + (6 * i + n)) (z.root ∷ []) (λ x. writes x KeepsNothing) z.list z.tdcs_page
+  rtmr-writes : (n : ℕ) → n < 6 → Writes (grasp_of c hs) w (rtmr_at z.tdcs i n) KeepsNothing
+  rtmr-writes n small = at-tdcs (grasp_of c hs) w t z.tdcs (16 + (6 * i + n)) (z.root ∷ []) (λ x. writes x KeepsNothing) z.list z.tdcs_page
       (rw (rtmr-class (is_current w t) (is_empty w t) (6 * i + n) (omega (arith, few, small))) may_store)
 
   abbrev w' : World
@@ -97,7 +100,7 @@ module _ (m : Machine) (c : Instant) (t v line i : ℕ) (few : i < 4) (la : Lawf
 
   rtmr-owes : (n : ℕ) → n < 6 → Owes (hold c hs) w' (rtmr_at z.tdcs i n) KeepsNothing
   rtmr-owes n small = at-tdcs (hold c hs) w' t z.tdcs (16 + (6 * i + n)) (z.root ∷ []) (λ x. owes x KeepsNothing) z.list (record { kind = z.tdcs_page.kind; owner = z.tdcs_page.owner })
-      (rw (rtmr-class (is_current w' t) (is_empty w' t) (6 * i + n) (omega (arith, few, small))) may_store)
+      (rw (rtmr-class (is_current w' t) (is_empty w' t) (6 * i + n) (omega (arith, few, small))) may_owe)
 
   rtmr-in : (n : ℕ) → n < 6 → 16 + (6 * i + n) < 512
   rtmr-in n small = omega (arith, few, small)
@@ -105,11 +108,11 @@ module _ (m : Machine) (c : Instant) (t v line i : ℕ) (few : i < 4) (la : Lawf
   extended-end : Means m c k hs (extended v line z.tdcs i (w.vps.positions v) (extended_rtmr w t v i)) []
   extended-end =
       let one = extended-shown m c.memory.words c.memory.slots c.state sh t fits.alive z i few (extended_rtmr w t v i) in
-      let all = passed-shown m _ c.memory.slots (record c.state { world = set_rtmr t i (extended_rtmr w t v i) w }) one t v fits.alive.life (record { kind = fits.vp_page.kind; owner = fits.vp_page.owner }) inside in (
+      let all = passed-shown m _ c.memory.slots (record c.state { world = set_rtmr t i (extended_rtmr w t v i) w }) one t v fits.alive.life (record { kind = fits.vp_page.kind; owner = fits.vp_page.owner }) inside starts in (
         record {
           answers = record { reply_is = refl; cached_is = refl; enters_is = refl; notes_are = refl; tells_are = refl; bundles_are = refl };
           fills_allowed = tt;
-          respects = kept-respects (hold c hs) w w' refl refl refl refl;
+          respects = kept-respects (grasp_of c hs) w w' refl refl refl refl;
           locks_stay = ((refl, λ y. record { alive = record { kind = y.alive.kind; life = y.alive.life }; has_tdcs = y.has_tdcs }), tt);
           shows = record { word = all.word; hasher = all.hasher };
         },
@@ -163,4 +166,4 @@ module _ (m : Machine) (c : Instant) (t v line i : ℕ) (few : i < 4) (la : Lawf
       (subst (λ (p : ℕ). Means m c k [] (extend_at t v line i p) (Try (OfRtmr t) Exclusive ∷ [])) (sym told) at-means)
 
 pub rtmr-means : RtmrMeans
-rtmr-means p t v line i few = record { means = λ c at. rtmr-at p.machine c t v line i few at.lawful at.shown at.maker.1.fits }
+rtmr-means p t v line i few = record { means = λ c at. rtmr-at p.machine c t v line i few at.lawful at.shown at.maker.1.fits at.maker.2 }

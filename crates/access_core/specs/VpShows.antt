@@ -1,5 +1,5 @@
 -- Words of a virtual processor's page that an operation of its guest stores show its act.
-use Rattle.std.proofs.Common.{◌≡◌, ℕ, zero, suc, ◌+◌, ◌-◌, ◌<◌, true, false, ◌==◌, List, Option, Some, refl, ap, sym, ◌∙◌, subst, arith}
+use Rattle.std.proofs.Common.{◌≡◌, ℕ, zero, suc, ◌+◌, ◌-◌, ◌%◌, ◌^◌, ◌<◌, true, false, ◌==◌, List, Option, Some, refl, ap, sym, ◌∙◌, subst, arith}
 use Rattle.std.specs.Prelude.{nat_le}
 use Rattle.std.proofs.lemmas.Bool.{eq-eqb, eqb-true}
 use Rattle.std.proofs.lemmas.Bool.Decides.{nat_tests}
@@ -19,6 +19,7 @@ use Rattle.word_rules.specs.Rules.{VcpuWord}
 use Rattle.word_rules.specs.Spots.{or_unused, vp_classes}
 use Rattle.word_rules.specs.Cells.{Shows, IsAs, vp_lines}
 use Rattle.lock_words.specs.LockWords.{put_word}
+use Rattle.leaf_engine.specs.Means.{IsAtOperation}
 use Rattle.leaf_parts.proofs.Aside.{aside, back, kept-but, control-kept}
 use Rattle.leaf_parts.proofs.Vps.{vp-shown}
 
@@ -60,31 +61,35 @@ module _ (m : Machine) (words : WordPlace → ℕ) (slots : ℕ → Option (List
   passed = pass_operation v s.world
 
   abbrev words_passed : WordPlace → ℕ
-  words_passed = put_word words (place.Word v 4) (s.world.vps.positions v + 1)
+  words_passed = put_word words (place.Word v 4) ((s.world.vps.positions v + 1) % 2 ^ 64)
 
-  passed-line : (i : ℕ) → (i == 4) ≡ false → in_lines (vp_lines passed v) i ≡ in_lines (vp_lines s.world v) i
-  passed-line i n = rw n refl
+  module _ (few : IsAtOperation s.world v) where
+    counts : (s.world.vps.positions v + 1) % 2 ^ 64 ≡ s.world.vps.positions v + 1
+    counts = omega (arith, few)
 
-  passed-word : (i : ℕ) → i < 512 → IsAs (in_lines (vp_lines passed v) i) (words_passed (place.Word v i))
-  passed-word i b = by_test (i == 4)
-      (λ e. rw (e, eqb-true i 4 e, itself) refl)
-      (λ n. stays i (words_passed (place.Word v i)) (in_lines (vp_lines passed v) i) b (passed-line i n) (rw (itself, n) refl))
+    passed-line : (i : ℕ) → (i == 4) ≡ false → in_lines (vp_lines passed v) i ≡ in_lines (vp_lines s.world v) i
+    passed-line i n = rw n refl
 
-  pub passed-shown : Shows m words_passed slots (record s { world = passed })
-  passed-shown = record {
-    word = back (kept-but passed (aside v m words s sh.word) (record {
-      kinds = refl;
-      owners = refl;
-      blocked = refl;
-      key_table = refl;
-      page = λ q o n. record {
-        words = λ i. refl;
-        tdr = λ is i. refl;
-        owned = λ h. record { stands = λ z. z; level = refl; number = refl; entries = λ l e. refl; vp = λ i. rw o refl; stream = λ i. refl; control = λ is z. control-kept refl (λ l e. refl) (λ f i. refl) };
-      };
-    })) words_passed (λ r. refl) (λ r. refl) (λ k. refl) (λ r i o. rw o refl) (λ i b. rw (its.kind, its.owner, stands) (passed-word i b));
-    hasher = sh.hasher;
-  }
+    passed-word : (i : ℕ) → i < 512 → IsAs (in_lines (vp_lines passed v) i) (words_passed (place.Word v i))
+    passed-word i b = by_test (i == 4)
+        (λ e. rw (e, eqb-true i 4 e, itself) counts)
+        (λ n. stays i (words_passed (place.Word v i)) (in_lines (vp_lines passed v) i) b (passed-line i n) (rw (itself, n) refl))
+
+    pub passed-shown : Shows m words_passed slots (record s { world = passed })
+    passed-shown = record {
+      word = back (kept-but passed (aside v m words s sh.word) (record {
+        kinds = refl;
+        owners = refl;
+        blocked = refl;
+        key_table = refl;
+        page = λ q o n. record {
+          words = λ i. refl;
+          tdr = λ is i. refl;
+          owned = λ h. record { stands = λ z. z; level = refl; number = refl; entries = λ l e. refl; vp = λ i. rw o refl; stream = λ i. refl; control = λ is z. control-kept refl (λ l e. refl) (λ f i. refl) };
+        };
+      })) words_passed (λ r. refl) (λ r. refl) (λ k. refl) (λ r i o. rw o refl) (λ i b. rw (its.kind, its.owner, stands) (passed-word i b));
+      hasher = sh.hasher;
+    }
 
   -- a register
   module _ (r x : ℕ) (few : r < 8) where

@@ -27,7 +27,7 @@ use Rattle.flat_core.specs.Table.{row_of}
 use Rattle.flat_core.specs.Alike.{is_being_built}
 use Rattle.flat_core.specs.Lawful.{Lawful, IsAlive, IsPageOf, is_free}
 use Rattle.flat_core.specs.Guests.{IsOccupied}
-use Rattle.flat_core.specs.Access.{IsHere, IsUsable, inside, outside, entry_of, node_of, node_number, allows_less, is_pending, is_after_pause, IsCurrent, IsOnCourse, LawfulTranslations, LawfulEpochs}
+use Rattle.flat_core.specs.Access.{IsHere, IsUsable, inside, outside, entry_of, node_of, node_number, allows_less, is_pending, may_be_exempt, IsCurrent, IsOnCourse, LawfulTranslations, LawfulEpochs}
 use Rattle.flat_core.proofs.Tests.{by_test, host_kind, tdr_kind, range_of}
 use Rattle.flat_core.proofs.Maps.{walk_passed}
 use Rattle.flat_core.proofs.Spared.{not_configured, counted}
@@ -86,7 +86,7 @@ current-same w w' c e en bl os h = record {
       let was : allows_less c.may_write (entry_of w c).state ≡ true = ap (λ (x : Entry). allows_less c.may_write x.state) (sym en) ∙ less in
       elim (h.rights was) [
         | inl y ↦ inl (subst (λ (z : ℕ). e ≤ z) (sym bl) y)
-        | inr y ↦ inr (ap (λ (x : Entry). x.state) en ∙ y.0, ap is_after_pause os ∙ y.1)
+        | inr y ↦ inr (ap (λ (x : Entry). x.state) en ∙ y.0, ap may_be_exempt os ∙ y.1)
       ];
   accepted = ap (λ (x : Entry). is_pending x.state) en ∙ h.accepted;
 }
@@ -116,9 +116,9 @@ entry-kept w u level number x t l n free used = entry-apart w u level number x t
 
 module _ (m : Machine) (w : World) (la : Lawful m w) (le : LawfulEpochs w) (p : ℕ) (cs : List Translation) (g : Option Guest) (occ : (x : Guest) → g ≡ Some x → IsOccupied w p x.tdr x.vp) (a : LawfulTranslations w p cs g) where
   -- the page of an entry of a TD that runs
-  leaf-page : (c : Translation) (e : ℕ) → IsBuilt w c.tdr → IsCurrent w c e → IsPageOf w.pages c.tdr c.page kind.Reg
-  leaf-page c e bu h =
-      let x = (la.tree.leaf c.tdr c.gpa_page (built-alive w c.tdr bu) h.named.used).1.page in
+  current-page : (c : Translation) (e : ℕ) → IsBuilt w c.tdr → IsCurrent w c e → IsPageOf w.pages c.tdr c.page kind.Reg
+  current-page c e bu h =
+      let x = (la.tree.lowest c.tdr c.gpa_page (built-alive w c.tdr bu) h.named.used).1.page in
       subst (λ (q : ℕ). IsPageOf w.pages c.tdr q kind.Reg) h.named.page_is (record { kind = x.kind; owner = x.owner })
 
   node-page : (t : ℕ) (k : Walk) (e : ℕ) → IsBuilt w t → IsOnCourse w t k e → IsPageOf w.pages t k.page kind.Ept
@@ -170,7 +170,7 @@ module _ (m : Machine) (w : World) (la : Lawful m w) (le : LawfulEpochs w) (p : 
         let was : IsHere w p t v = record { tdr = sym (kinds-kept t n.0) ∙ h.tdr; life = lb t h.life n.0; page = record { kind = sym (kinds-kept v n.1) ∙ h.page.kind; owner = sym (owners-kept v n.1) ∙ h.page.owner }; associated = sym (assoc v n.1) ∙ h.associated } in
         (was, ls v n.1, ep t (here-built w le p t v was)))
         (λ x e is n. let h = occupied-here w p x.tdr x.vp (occ x is) in let bu = here-built w le p x.tdr x.vp h in sym (et x.vp (vp-off x.tdr x.vp bu h.page)) ∙ n)
-        (λ c e bu h. let pa = leaf-page c e bu h in
+        (λ c e bu h. let pa = current-page c e bu h in
         current-same w w' c e (en c.tdr 0 c.gpa_page bu h.named.used) (blocked-kept c.page (off c.tdr c.page bu pa.owner (λ z. let no : kind.Reg ≡ kind.Nda = sym pa.kind ∙ z in cc))) (os c.tdr bu) h)
         (λ t k e bu h. let pa = node-page t k e bu h in
         walking-same w w' t k e (en t (suc k.level) (node_number k) bu h.named.used) (blocked-kept k.page (off t k.page bu pa.owner (λ z. let no : kind.Ept ≡ kind.Nda = sym pa.kind ∙ z in cc))) h) a

@@ -369,7 +369,7 @@ reaches_own o s all p n page access g is found =
     let at : entry_of s.world f.0 ≡ s.world.tds.entries g.tdr 0 n = ap (λ (z : ℕ). s.world.tds.entries z 0 f.0.gpa_page) f.2 ∙ ap (λ (z : ℕ). s.world.tds.entries g.tdr 0 z) f.3 in
     let used : is_free (s.world.tds.entries g.tdr 0 n).state ≡ false = ap (λ (e : Entry). is_free e.state) (sym at) ∙ now.named.used in
     let page_is : (s.world.tds.entries g.tdr 0 n).page ≡ page = ap (λ (e : Entry). e.page) (sym at) ∙ (now.named.page_is ∙ f.4) in
-    let node = (all.timely.lawful.tree.leaf g.tdr n (occupied-alive s.world p g.tdr g.vp x) used).1.page in (
+    let node = (all.timely.lawful.tree.lowest g.tdr n (occupied-alive s.world p g.tdr g.vp x) used).1.page in (
       record {
         private = subst (λ (z : ℕ). IsPageOf s.world.pages g.tdr z kind.Reg) page_is (record { kind = node.kind; owner = node.owner });
         named = record { used = used; page_is = page_is };

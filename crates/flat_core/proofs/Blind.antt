@@ -419,7 +419,7 @@ pub enter_vp-blind : (m : Machine) (me t vp most : ℕ) → AreBlind m (enter_vp
 enter_vp-blind m me t vp most = record {
   enters = refl;
   items = λ v w a. rw (a.pages, a.tds, a.vps) refl;
-  value = λ v w a. refl;
+  value = λ v w a. rw (a.tds, a.vps) refl;
   cached = λ v w ts a. rw (a.tds, a.vps) refl;
   act = λ v w lv lw a ps.
       vps_alike v w a (enter_guest me vp (v.tds.epochs t) v).vps (enter_guest me vp (w.tds.epochs t) w).vps
@@ -497,7 +497,7 @@ measured_chunk : (m : Machine) (v w : World) (t gpa : ℕ) → Lawful m v → Al
     → chunk_bytes (v.words (entry_at v t 0 gpa).page) gpa ≡ chunk_bytes (w.words (entry_at w t 0 gpa).page) gpa
 measured_chunk m v w t gpa lv a alive built used =
     let page : ℕ = (entry_at v t 0 gpa).page in
-    let node = (lv.tree.leaf t (number_at 0 gpa) alive used).1 in
+    let node = (lv.tree.lowest t (number_at 0 gpa) alive used).1 in
     let known : is_public v.pages v.tds page ≡ true = rw (node.page.kind, node.page.owner, built) refl in
     same_chunk (v.words page) (w.words page) gpa (λ i. a.words page i known)
     ∙ ap (λ (x : Tds). chunk_bytes (w.words (x.entries t 0 (number_at 0 gpa)).page) gpa) a.tds

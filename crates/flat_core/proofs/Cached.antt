@@ -34,7 +34,7 @@ cached_found c cs access h =
     tail-others c.tdr c.gpa_page _ access cs (c ∷ [])
     ∙ (let a = eq-eqb c.tdr c.tdr refl in let b = eq-eqb c.gpa_page c.gpa_page refl in rw (a, b, h) refl)
 
--- a leaf entry that allows an access gives a translation that does
+-- an entry of level 0 that allows an access gives a translation that does
 pub allowed_cached : (access : Access) (s : EntryState) (c : Translation) → c.may_write ≡ may_write s → allows s access ≡ true → allows_access access c ≡ true
 allowed_cached Read s c e h = refl
 allowed_cached Write s c e h = e ∙ h

@@ -117,7 +117,7 @@ module _ (m : Machine) (w : World) (lawful : Lawful m w) (t : ℕ) (alive : IsAl
 
     here : (n : ℕ) → f (entries n).state ≡ true → list_any (λ i. i == n) (numbers_below m.pages) ≡ true
     here n h =
-        let node : IsNodeOf w.pages t (entries n).page kind.Reg 0 n = (lawful.tree.leaf t n alive (used _ h)).1 in
+        let node : IsNodeOf w.pages t (entries n).page kind.Reg 0 n = (lawful.tree.lowest t n alive (used _ h)).1 in
         let c : counts (entries n).page ≡ true = rw (node.page.kind, node.page.owner, same_self t, node.number_is) h in
         let small : (entries n).page < m.pages = lawful.pages.in_machine _ (ap (λ (k : PageKind). same_kind k kind.Nda) node.page.kind) in
         subst (λ (i : ℕ). list_any (λ j. j == i) (numbers_below m.pages) ≡ true) node.number_is (among m.pages (entries n).page small c)

@@ -39,13 +39,14 @@ use Rattle.flat_core.specs.Run.{play, events_in, to_the_end}
 use Rattle.flat_core.specs.Lawful.{Lawful}
 use Rattle.flat_core.specs.Guests.{IsOccupied, SameVp, Spares, guest_locks, entry_locks}
 use Rattle.flat_core.specs.Locks.{one_if}
-use Rattle.flat_core.specs.Laws.{reached, with_bundles, HoldsInRuns, own_items}
+use Rattle.flat_core.specs.Laws.{reached, with_bundles, TimelinessIsKept, HoldsInRuns, own_items}
 use Rattle.flat_core.specs.Inside.{WalkFits, OperationAt, DueAt, PhaseAt, GuestAt, InGuest, IsNotDone, EnterFits, LineAt, StandsAt, IsTimely, AreTimely}
-use Rattle.flat_core.specs.Bounds.{call_left, private_used, operation_used, due_used, phase_used, guest_left, line_left, left_of, events_left, TimelinessIsKept, TimelyEventsRunOut, EventsRunOut, RunsEnd, IsBounded, EntriesAreBounded}
+use Rattle.flat_core.specs.Bounds.{call_left, private_used, operation_used, due_used, phase_used, guest_left, line_left, left_of, events_left, TimelyEventsRunOut, EventsRunOut, RunsEnd, IsBounded, EntriesAreBounded}
+use Rattle.flat_core.specs.Entered.{EventsSpare}
 use Rattle.flat_core.proofs.Induction.{event_keeps, in_runs, play_append}
 use Rattle.flat_core.proofs.Tests.{by_test, put_here, tdr_kind, some_same}
 use Rattle.flat_core.proofs.Keeps.{first-lawful}
-use Rattle.flat_core.proofs.Kept.{events_keep, timely_runs}
+use Rattle.flat_core.proofs.Kept.{events_keep, timely_occupied, timely_runs}
 use Rattle.flat_core.proofs.Spared.{row_spares}
 use Rattle.flat_core.proofs.Operations.{each_operation, operation_row, accepted}
 use Rattle.flat_core.proofs.Cached.{cached_found, allowed_cached}
@@ -578,7 +579,7 @@ module _ (o : Opening) (w : World) (p : ℕ) (lp : Lp) (timely : IsInTime o w p 
 -- an event of another processor leaves a virtual processor in guest as it is
 
 same_world : (w : World) (q t v : ℕ) → IsOccupied w q t v → Spares w w q t v
-same_world w q t v x = record { occupied = x; same = record { index = refl; state = refl; associated = refl; last = refl; position = refl; entered = refl } }
+same_world w q t v x = record { occupied = x; same = record { index = refl; state = refl; associated = refl; last = refl; position = refl; exported = refl; entered = refl; registers = λ r. refl } }
 
 -- two virtual processors in guest on two logical processors are two
 two_vps : (w : World) (p q t v u x : ℕ) → IsOccupied w p t v → IsOccupied w q u x → q ≢ p → (x == v) ≡ false
@@ -608,8 +609,9 @@ module _ (o : Opening) (w : World) (lawful : Lawful o.machine w) (p : ℕ) (lp :
     off : (x == g.vp) ≡ false
     off = two_vps w p q g.tdr g.vp u x own occ apart
 
-    moved : (w' : World) → w'.pages ≡ w.pages → w'.tds.lives ≡ w.tds.lives → w'.tds.ops ≡ w.tds.ops → w'.vps ≡ record (w.vps) { positions = put w.vps.positions g.vp (w.vps.positions g.vp + 1) } → Left w'
-    moved w' a lives ops d = record {
+    moved : (w' : World) → w'.pages ≡ w.pages → w'.tds.lives ≡ w.tds.lives → w'.tds.ops ≡ w.tds.ops → w'.vps ≡ record (w.vps) { positions = put w.vps.positions g.vp (w.vps.positions g.vp + 1) }
+        → ((r : ℕ) → w'.hidden.registers x r ≡ w.hidden.registers x r) → Left w'
+    moved w' a lives ops d k = record {
       occupied = still_occupied w w' q u x a lives ops (ap (λ (z : Vps). z.states) d) (ap (λ (z : Vps). z.associated) d) (ap (λ (z : Vps). z.lasts) d) (ap (λ (z : Vps). z.entered) d) occ;
       same = record {
         index = ap (λ (z : Vps). z.indexes x) d;
@@ -617,6 +619,8 @@ module _ (o : Opening) (w : World) (lawful : Lawful o.machine w) (p : ℕ) (lp :
         associated = ap (λ (z : Vps). z.associated x) d;
         last = ap (λ (z : Vps). z.lasts x) d;
         position = ap (λ (z : Vps). z.positions x) d ∙ (let n = off in rw n refl);
+        exported = ap (λ (z : Vps). z.exported x) d;
+        registers = k;
         entered = ap (λ (z : Vps). z.entered x) d;
       };
     }
@@ -624,9 +628,9 @@ module _ (o : Opening) (w : World) (lawful : Lawful o.machine w) (p : ℕ) (lp :
     of_operation_act : (line : ℕ) (op : GuestOp) (row : OperationRow) → operation_of o g.tdr g.vp line op ≡ ByRow row → Left (tell_words (row.tells w) (row.act w))
     of_operation_act line op row is =
         operation_row o g.tdr g.vp line (λ y. Left (tell_words (y.tells w) (y.act w)))
-        (λ r n. moved _ refl refl refl refl) (λ r s. moved _ refl refl refl refl) (λ r gpa. moved _ refl refl refl refl) (λ r gpa. moved _ refl refl refl refl)
-        (λ gpa. accepted (λ z. Left (tell_words [] (pass_operation g.vp z))) (is_pending_at w g.tdr gpa) g.tdr gpa w (λ pends. moved _ refl refl refl refl) (λ stays. moved _ refl refl refl refl))
-        (λ i. moved _ refl refl refl refl) (λ r. moved _ refl refl refl refl) op row is
+        (λ r n. moved _ refl refl refl refl (λ k. let d = off in rw d refl)) (λ r s. moved _ refl refl refl refl (λ k. let d = off in rw d refl)) (λ r gpa. moved _ refl refl refl refl (λ k. let d = off in rw d refl)) (λ r gpa. moved _ refl refl refl refl (λ k. refl))
+        (λ gpa. accepted (λ z. Left (tell_words [] (pass_operation g.vp z))) (is_pending_at w g.tdr gpa) g.tdr gpa w (λ pends. moved _ refl refl refl refl (λ k. refl)) (λ stays. moved _ refl refl refl refl (λ k. refl)))
+        (λ i. moved _ refl refl refl refl (λ k. refl)) (λ r. moved _ refl refl refl refl (λ k. refl)) op row is
 
     of_operation : (line : ℕ) (op : GuestOp) (row : OperationRow) (mv : Move (Option Outcome)) → operation_of o g.tdr g.vp line op ≡ ByRow row → Left (operation_world row mv w)
     of_operation line op r Succeeds is = of_operation_act line op r is
@@ -641,13 +645,13 @@ module _ (o : Opening) (w : World) (lawful : Lawful o.machine w) (p : ℕ) (lp :
     of_ending out (h ∷ hs) = same_world w q u x occ
 
     of_reach : (access : Access) (r gpa page : ℕ) → Left (reach g.tdr g.vp access r gpa page w)
-    of_reach Read r gpa page = moved _ refl refl refl refl
-    of_reach Write r gpa page = moved _ refl refl refl refl
+    of_reach Read r gpa page = moved _ refl refl refl refl (λ k. let n = off in rw n refl)
+    of_reach Write r gpa page = moved _ refl refl refl refl (λ k. refl)
 
     of_leave : Left (leave_guest g.vp w)
     of_leave = record {
       occupied = record { tdr = occ.tdr; life = occ.life; running = occ.running; page = record { kind = occ.page.kind; owner = occ.page.owner }; ready = occ.ready; associated = occ.associated; epoch = occ.epoch; entered = (let n = off in rw n (occ.entered)); current = occ.current };
-      same = record { index = refl; state = refl; associated = refl; last = refl; position = refl; entered = (let n = off in rw n refl) };
+      same = record { index = refl; state = refl; associated = refl; last = refl; position = refl; exported = refl; entered = (let n = off in rw n refl); registers = λ r. refl };
     }
 
   own_of : (c : Call) (cs : List Call) (g : Guest) → IsInside o p lp c cs g → IsOccupied w p g.tdr g.vp
@@ -747,6 +751,19 @@ timeliness_kept = record {
 
 pub always_timely : HoldsInRuns AreTimely
 always_timely = in_runs AreTimely timeliness_kept
+
+pub events_spare : EventsSpare
+events_spare = record {
+  occupied = λ o s p g h guest. occupied o s p g h guest;
+  spared = λ o bundles s p q g h guest apart. spared (with_bundles o bundles) s p q g (timely_rebundled o bundles s h) guest (λ e. apart (sym e)) (next_event (with_bundles o bundles) s q) refl;
+}
+  where
+    occupied : (o : Opening) (s : State) (p : ℕ) (g : Guest) → AreTimely o s → (s.lps p).guest ≡ Some g → IsOccupied s.world p g.tdr g.vp
+    occupied o s p g h guest = timely_occupied o s.world p (calls_of o.calls p) (s.lps p) (h.each p) g guest
+
+    spared : (o : Opening) (s : State) (p q : ℕ) (g : Guest) → AreTimely o s → (s.lps p).guest ≡ Some g → p ≢ q → (x : Option Event) → next_event o s q ≡ x → Spares s.world (after_event q s x).world p g.tdr g.vp
+    spared o s p q g h guest apart None is = same_world s.world p g.tdr g.vp (occupied o s p g h guest)
+    spared o s p q g h guest apart (Some e) is = leave o s q e is h p g.tdr g.vp apart (occupied o s p g h guest)
 
 event_lowers : (o : Opening) (s : State) (p : ℕ) (e : Event) → AreTimely o s → next_event o s p ≡ Some e → events_left o (event o s p) p < events_left o s p
 event_lowers o s p e h is =

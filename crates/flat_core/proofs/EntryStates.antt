@@ -31,7 +31,7 @@ restated s e lawful used unmarked = by s used unmarked
 
 module _ (m : Machine) (w : World) (t number : ℕ) (s : EntryState) (l : Lawful m w)
     (used : is_free (w.tds.entries t 0 number).state ≡ false) (unmarked : is_exported (w.tds.entries t 0 number).state ≡ false)
-    (still_used : is_free s ≡ false) (leaf : is_node s ≡ false) (still_unmarked : is_exported s ≡ false) where
+    (still_used : is_free s ≡ false) (no_node : is_node s ≡ false) (still_unmarked : is_exported s ≡ false) where
   abbrev new : Entry
   new = record { state = s; page = (w.tds.entries t 0 number).page; mark = 0 }
 
@@ -73,8 +73,8 @@ module _ (m : Machine) (w : World) (t number : ℕ) (s : EntryState) (l : Lawful
     entry = λ few x j n. at_place (λ (e : Entry). is_lawful_entry e ≡ true) x j n (λ a b c. restated s (w.tds.entries t 0 number) (l.tree.entry few t 0 number) still_used still_unmarked) (l.tree.entry few x j n);
     upper = λ x j n a h. (let u = l.tree.upper x j n (back x a) (used_before x (suc j) n h) in
         (at_place (λ (e : Entry). is_node e.state ≡ true) x (suc j) n (λ e f g. cc) u.0, subst (λ (p : ℕ). IsNodeOf w.pages x p kind.Ept (suc j) n) (sym (same_page x (suc j) n)) u.1));
-    leaf = λ x n a h. (let u = l.tree.leaf x n (back x a) (used_before x 0 n h) in
-        (at_place (λ (e : Entry). is_node e.state ≡ false) x 0 n (λ e f g. leaf) u.0, subst (λ (p : ℕ). IsNodeOf w.pages x p kind.Reg 0 n) (sym (same_page x 0 n)) u.1));
+    lowest = λ x n a h. (let u = l.tree.lowest x n (back x a) (used_before x 0 n h) in
+        (at_place (λ (e : Entry). is_node e.state ≡ false) x 0 n (λ e f g. no_node) u.0, subst (λ (p : ℕ). IsNodeOf w.pages x p kind.Reg 0 n) (sym (same_page x 0 n)) u.1));
     below = λ x j n few a h. still x (suc j) _ (l.tree.below x j n few (back x a) (used_before x j n h));
     in_range = λ x j n h. l.tree.in_range x j n (used_before x j n h);
     named = λ p k a. (let u = l.tree.named p k (back (w.pages.owners p) a) in (still _ _ _ u.0, same_page _ _ _ ∙ u.1, u.2));

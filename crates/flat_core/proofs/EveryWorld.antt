@@ -2,11 +2,8 @@
 use Rattle.td_words.specs.declared.machines.Machine.{Machine}
 use Rattle.flat_core.specs.World.{World}
 use Rattle.flat_core.specs.Lawful.{Lawful}
-use Rattle.flat_core.specs.Laws.{IsKept, IsLawfulWith, LawfulIsKept, EveryWorldIsLawful}
+use Rattle.flat_core.specs.Laws.{IsKept, IsLawfulWith, EveryWorldIsLawful}
 use Rattle.flat_core.proofs.Ends.{timeliness_kept, always_timely}
-
-pub lawful_kept : LawfulIsKept
-lawful_kept = timeliness_kept
 
 pub every_lawful : EveryWorldIsLawful
 every_lawful o ws schedule = (always_timely o ws schedule).lawful

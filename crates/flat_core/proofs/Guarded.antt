@@ -65,8 +65,8 @@ mapped-node entry.Free h = cc
 mapped-node _ h = cc
 
 -- the GPA page of an entry
-leaf-number : (gpa : ℕ) → number_at 0 gpa ≡ page_of_gpa gpa
-leaf-number gpa = omega arith
+last-number : (gpa : ℕ) → number_at 0 gpa ≡ page_of_gpa gpa
+last-number gpa = omega arith
 
 -- VP.ENTER on its own processor
 module _ (o : Opening) (me u v most : ℕ) (w : World) (la : Lawful o.machine w) (le : LawfulEpochs w) (cs : List Translation) (ps : Passes ((row_of o me (call.VpEnter u v most)).items w)) (a : LawfulTranslations w me cs None) where
@@ -235,7 +235,7 @@ module _ (w : World) (p : ℕ) (cs : List Translation) (g : Guest) (occ : IsOccu
       let c0 : Translation = translation_of g gpa e0 in
       let b = guest-changed w p cs g g' t v (inr wk) a in
       let facts = allowed-used e0.state access ok in
-      let at : w.tds.entries g.tdr 0 (page_of_gpa gpa) ≡ e0 = ap (λ (n : ℕ). w.tds.entries g.tdr 0 n) (sym (leaf-number gpa)) ∙ ap (λ (l : ℕ). entry_at w g.tdr l gpa) (sym level) in
+      let at : w.tds.entries g.tdr 0 (page_of_gpa gpa) ≡ e0 = ap (λ (n : ℕ). w.tds.entries g.tdr 0 n) (sym (last-number gpa)) ∙ ap (λ (l : ℕ). entry_at w g.tdr l gpa) (sym level) in
       let now : (e : ℕ) → IsCurrent w c0 e = λ e. record {
         named = record { used = ap (λ (x : Entry). is_free x.state) at ∙ facts.0; page_is = ap (λ (x : Entry). x.page) at };
         rights = λ less. absurd (not-less e0.state facts.2 (ap (λ (x : Entry). allows_less (may_write e0.state) x.state) (sym at) ∙ less));

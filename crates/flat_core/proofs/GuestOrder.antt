@@ -11,21 +11,25 @@ use Rattle.td_words.specs.declared.calls.GuestOp.TheVariants as op
 use Rattle.td_words.specs.declared.replies.Outcome.{Outcome}
 use Rattle.td_words.specs.declared.replies.Reply.{Reply}
 use Rattle.td_words.specs.Packing.{Entry}
-use Rattle.flat_core.specs.World.{World}
+use Rattle.flat_core.specs.World.{World, Vps, put}
 use Rattle.flat_core.specs.Processor.{LockId, Held, Phase, Trying, Undoing, Answered, Guest, Entering, new_guest, Lp}
 use Rattle.flat_core.specs.Opening.{Opening}
-use Rattle.flat_core.specs.Row.{Row, OperationRow, Move, Attempts, Undoes, Refuses, Succeeds, Releases, Rests, next, next_in, after_try, after_move, but_newest}
+use Rattle.flat_core.specs.Row.{Item, Check, Try, Row, OperationRow, Move, Attempts, Undoes, Refuses, Succeeds, Releases, Rests, next, next_in, after_try, after_move, but_newest}
 use Rattle.flat_core.specs.Table.{row_of}
 use Rattle.flat_core.specs.Tries.{tries, shared}
 use Rattle.flat_core.specs.Order.{but_page, kinds, onto}
-use Rattle.flat_core.specs.Guest.{Operation, ByRow, Private, operation_of, is_private, shared_load, shared_store, walk_level, walk_step, walked_on, walked_entry, goes_on, answered}
+use Rattle.flat_core.specs.Guest.{Operation, ByRow, Private, operation_of, is_private, shared_load, shared_store, walk_level, walk_step, walked_on, walked_entry, goes_on, answered, reach, is_pending_at}
 use Rattle.flat_core.specs.Inside.{LineAt, StandsAt}
-use Rattle.flat_core.specs.Event.{State, Event, OfCall, OfOperation, Walks, Reaches, next_event, lines_left, event, after_event, world_after, lp_after, call_lp, succeeded, settled, settle, settled_guest, settle_operation, operation_guest, operation_busy, operation_due, nothing_more, is_granted}
-use Rattle.flat_core.specs.GuestOrder.{operation_tries, tried_by, OperationsTryTheirLists, AreFirstOf, DueHolds, GuestHolds, GuestsHoldInOrder, GuestOrderIsKept, GuestOrderHolds}
+use Rattle.flat_core.specs.Event.{State, Event, OfCall, OfOperation, Walks, Reaches, next_event, lines_left, event, after_event, world_after, operation_world, lp_after, call_lp, succeeded, settled, settle, settled_guest, settle_operation, operation_guest, operation_busy, operation_due, nothing_more, is_granted}
+use Rattle.flat_core.specs.GuestOrder.{operation_tries, tried_by, OperationsTryTheirLists, AreFirstOf, DueHolds, operation_before, operation_answered, GuestHolds, GuestsHoldInOrder, GuestOrderIsKept, GuestOrderHolds}
 use Rattle.flat_core.specs.Laws.{with_bundles}
 use Rattle.flat_core.specs.Opening.{Incoming}
 use Rattle.flat_core.specs.Guests.{SameVp}
-use Rattle.flat_core.proofs.Tests.{by_test}
+use Rattle.std.specs.Prelude.{slice_get}
+use Rattle.td_words.specs.declared.replies.Outcome.TheVariants.{EptViolation}
+use Rattle.flat_core.specs.Effects.{pass_operation, tell_words}
+use Rattle.flat_core.proofs.Operations.{operation_row, accepted}
+use Rattle.flat_core.proofs.Tests.{by_test, put_here}
 use Rattle.flat_core.proofs.Induction.{event_keeps, in_runs}
 use Rattle.flat_core.proofs.Due.{Due, calls, frees, leaves, stops, fills, operates, walks, reaches, undoes, gives_back, due_event_is}
 use Rattle.flat_core.proofs.Ends.{next_is, leave, same_due, timely_step, timeliness_kept, timely_rebundled}
@@ -73,6 +77,58 @@ first_more o t v line op row w hs l m is first e n u =
 
 but_first : (t : ℕ) (op : GuestOp) (h : Held) (hs : List Held) → AreFirstOf t op (h ∷ hs) → AreFirstOf t op hs
 but_first t op h hs first w = let x = first w in (but_page h.lock ∷ x.0, x.1)
+
+-- so of the operation that is due, or answered
+due_less : (t : ℕ) (x : Option GuestOp) (h : Held) (hs : List Held) → DueHolds t x (h ∷ hs) → DueHolds t x hs
+due_less t None h hs first = cc
+due_less t (Some op) h hs first = but_first t op h hs first
+
+-- what an operation's row refuses is an EPT violation
+abbrev IsViolation : Option Outcome → Type 0
+IsViolation out = (gpa : ℕ) × (access : Access) × (out ≡ Some (EptViolation gpa access))
+
+abbrev AreViolations : List (Item (Option Outcome)) → Type 0
+AreViolations [] = Unit {0}
+AreViolations (Check b out ∷ items) = IsViolation out × AreViolations items
+AreViolations (Try l m ∷ items) = AreViolations items
+
+refused_violates : (items : List (Item (Option Outcome))) (n : ℕ) (out : Option Outcome) → AreViolations items → next items n ≡ Refuses out → IsViolation out
+refused_violates [] n out all e = cc
+refused_violates (Check true r ∷ items) n out all e = refused_violates items n out all.1 e
+refused_violates (Check false r ∷ items) n out all e = let same : r ≡ out = cc in subst IsViolation same all.0
+refused_violates (Try l m ∷ items) zero out all e = cc
+refused_violates (Try l m ∷ items) (suc n) out all e = refused_violates items n out all e
+
+rows_violate : (o : Opening) (t v line : ℕ) (op : GuestOp) (row : OperationRow) (w : World) → operation_of o t v line op ≡ ByRow row → AreViolations (row.items w)
+rows_violate o t v line op row w is =
+    operation_row o t v line (λ y. AreViolations (y.items w)) (λ r n. tt) (λ r s. tt)
+    (λ r gpa. ((gpa, Read, refl), ((gpa, Read, refl), tt))) (λ r gpa. ((gpa, Write, refl), ((gpa, Write, refl), tt))) (λ gpa. ((gpa, Write, refl), ((gpa, Write, refl), tt))) (λ i. tt) (λ r. tt) op row is
+
+-- an operation that was completed stands before the position
+module _ (code : ℕ → List GuestOp) (v : ℕ) (w : World) where
+  abbrev IsBefore : Vps → Type 0
+  IsBefore x = operation_before (code (x.indexes v)) (x.positions v) ≡ slice_get (code (w.vps.indexes v)) (w.vps.positions v)
+
+  before_is : IsBefore (record (w.vps) { positions = put w.vps.positions v (w.vps.positions v + 1) })
+  before_is =
+      let moved : put w.vps.positions v (w.vps.positions v + 1) v ≡ w.vps.positions v + 1 = put_here w.vps.positions v (w.vps.positions v + 1) in
+      let next : put w.vps.positions v (w.vps.positions v + 1) v ≡ suc (w.vps.positions v) = omega (arith, moved) in
+      ap (operation_before (code (w.vps.indexes v))) next
+
+  abbrev IsAnswered : OperationRow → Type 0
+  IsAnswered row =
+      let w' : World = tell_words (row.tells w) (row.act w) in
+      operation_answered (code (w'.vps.indexes v)) (w'.vps.positions v) (row.answer w) ≡ slice_get (code (w.vps.indexes v)) (w.vps.positions v)
+
+  rows_answer : (o : Opening) (t line : ℕ) (op : GuestOp) (row : OperationRow) → operation_of o t v line op ≡ ByRow row → IsAnswered row
+  rows_answer o t line op row is =
+      operation_row o t v line IsAnswered (λ r n. before_is) (λ r s. before_is) (λ r gpa. before_is) (λ r gpa. before_is)
+      (λ gpa. accepted (λ z. IsBefore (tell_words [] (pass_operation v z)).vps) (is_pending_at w t gpa) t gpa w (λ pends. before_is) (λ stays. before_is))
+      (λ i. before_is) (λ r. before_is) op row is
+
+  reach_answers : (t : ℕ) (access : Access) (r gpa page : ℕ) → IsBefore (reach t v access r gpa page w).vps
+  reach_answers t Read r gpa page = before_is
+  reach_answers t Write r gpa page = before_is
 
 fresh_holds : (t : ℕ) (x : Option GuestOp) → DueHolds t x []
 fresh_holds t None = refl
@@ -147,15 +203,25 @@ module _ (o : Opening) (w : World) (p : ℕ) (lp : Lp) (h : IfSome lp.guest (λ 
       first : AreFirstOf g.tdr op g.operation.held
       first = due_first op t due
 
+      as_due : DueHolds g.tdr (operation_due o w g) g.operation.held
+      as_due = in_phase Trying t
+
+      refused : (out : Option Outcome) → IsViolation out → InOrder o w (record g { operation = record { phase = Answered out; held = g.operation.held } })
+      refused out x = subst (λ (y : Option Outcome). InOrder o w (record g { operation = record { phase = Answered y; held = g.operation.held } })) (sym x.2) as_due
+
+      done : InOrder o (operation_world row Succeeds w) (record g { operation = record { phase = Answered (row.answer w); held = g.operation.held } })
+      done = subst (λ (x : Option GuestOp). DueHolds g.tdr x g.operation.held) (sym (rows_answer (o.codes g.tdr) g.vp w o g.tdr (length lp.replies + 1) op row is)) as_due
+
       tried : (x : Bool) (l : LockId) (m : Mode) → next (row.items w) (length g.operation.held) ≡ Attempts l m → InOrder o w (record g { operation = after_try operation_busy l m x g.operation })
       tried true l m e = subst (λ (x : Option GuestOp). DueHolds g.tdr x (record { lock = l; mode = m } ∷ g.operation.held)) (sym due) (first_more o g.tdr g.vp (length lp.replies + 1) op row w g.operation.held l m is first e m)
-      tried false l Shared e = (op, first_more o g.tdr g.vp (length lp.replies + 1) op row w g.operation.held l Shared is first e Shared)
-      tried false l Exclusive e = (op, first)
+      tried false l Shared e = subst (λ (x : Option GuestOp). DueHolds g.tdr x (shared l ∷ g.operation.held)) (sym due) (first_more o g.tdr g.vp (length lp.replies + 1) op row w g.operation.held l Shared is first e Shared)
+      tried false l Exclusive e = as_due
 
       by_row : let mv = next (row.items w) (length g.operation.held) in Now (OfOperation row mv)
       by_row =
           next_is (λ mv. next (row.items w) (length g.operation.held) ≡ mv → Now (OfOperation row mv)) (row.items w) (length g.operation.held)
-          (λ r e. of_operation row (Refuses r) (op, first)) (λ e. of_operation row Succeeds (op, first)) (λ l m room e. of_operation row (Attempts l m) (tried (b (OfOperation row (Attempts l m))) l m e)) refl
+          (λ r e. of_operation row (Refuses r) (refused r (refused_violates (row.items w) (length g.operation.held) r (rows_violate o g.tdr g.vp (length lp.replies + 1) op row w is) e)))
+          (λ e. of_operation row Succeeds done) (λ l m room e. of_operation row (Attempts l m) (tried (b (OfOperation row (Attempts l m))) l m e)) refl
 
     by_walk : (op : GuestOp) (access : Access) (gpa : ℕ) → g.operation.phase ≡ Trying → operation_due o w g ≡ Some op → Now (Walks access gpa)
     by_walk op access gpa t due =
@@ -165,29 +231,33 @@ module _ (o : Opening) (w : World) (p : ℕ) (lp : Lp) (h : IfSome lp.guest (λ 
         walked : (ok : Bool) (level : ℕ) (y : Entry) → InOrder o w (walked_on access gpa ok level y g)
         walked true zero y = here
         walked true (suc level) y = here
-        walked false level y = (op, due_first op t due)
+        walked false level y = in_phase Trying t
 
     by_reach : (op : GuestOp) (access : Access) (r gpa page : ℕ) → g.operation.phase ≡ Trying → operation_due o w g ≡ Some op → Now (Reaches g.tdr g.vp access r gpa page)
     by_reach op access r gpa page t due =
         let e : Event = Reaches g.tdr g.vp access r gpa page in
-        now_is (world_after e w) (lp_after w (b e) e lp) (answered None g) (ap (λ (x : Option Guest). option_map (λ y. settled_guest (answered None y)) x) guest) (op, due_first op t due)
+        now_is (world_after e w) (lp_after w (b e) e lp) (answered None g) (ap (λ (x : Option Guest). option_map (λ y. settled_guest (answered None y)) x) guest)
+        (subst (λ (x : Option GuestOp). DueHolds g.tdr x g.operation.held) (sym (reach_answers (o.codes g.tdr) g.vp w g.tdr access r gpa page)) (in_phase Trying t))
 
     by_undo : (l : LockId) → g.operation.phase ≡ Undoing l → Now (OfOperation nothing_more (Undoes l))
-    by_undo l e = let k = in_phase (Undoing l) e in of_operation nothing_more (Undoes l) (k.0, but_first g.tdr k.0 (shared l) g.operation.held k.1)
+    by_undo l e = of_operation nothing_more (Undoes l) (due_less g.tdr (operation_due o w g) (shared l) g.operation.held (in_phase (Undoing l) e))
 
     by_release : (out : Option Outcome) → g.operation.phase ≡ Answered out → Now (OfOperation nothing_more (next_in [] (Answered out) g.operation.held))
     by_release out e = by g.operation.held refl
       where
-        k : (op : GuestOp) × AreFirstOf g.tdr op g.operation.held
+        its : Option GuestOp
+        its = operation_answered (o.codes g.tdr (w.vps.indexes g.vp)) (w.vps.positions g.vp) out
+
+        k : DueHolds g.tdr its g.operation.held
         k = in_phase (Answered out) e
 
         by : (hs : List Held) → g.operation.held ≡ hs → Now (OfOperation nothing_more (next_in [] (Answered out) hs))
         by [] same = of_operation nothing_more Rests here
         by (x ∷ hs) same =
-            let first : AreFirstOf g.tdr k.0 (x ∷ hs) = subst (λ (y : List Held). AreFirstOf g.tdr k.0 y) same k.1 in
+            let first : DueHolds g.tdr its (x ∷ hs) = subst (λ (y : List Held). DueHolds g.tdr its y) same k in
             let Q : Phase (Option Outcome) → Type 0 = λ y. GuestHolds o w (record g { operation = record { phase = y; held = but_newest g.operation.held } }) y in
             let newest : but_newest g.operation.held ≡ hs = ap but_newest same in
-            of_operation nothing_more (Releases x) (subst Q (sym e) (k.0, subst (λ (y : List Held). AreFirstOf g.tdr k.0 y) (sym newest) (but_first g.tdr k.0 x hs first)))
+            of_operation nothing_more (Releases x) (subst Q (sym e) (subst (λ (y : List Held). DueHolds g.tdr its y) (sym newest) (due_less g.tdr its x hs first)))
 
   by_due : (e : Event) → Due o w p lp e → Now e
   by_due e (calls c cs line none) =
@@ -210,8 +280,11 @@ other_holds o w w' g same h = by g.operation.phase h
   where
     by : (phase : Phase (Option Outcome)) → GuestHolds o w g phase → GuestHolds o w' g phase
     by Trying k = subst (λ (x : Option GuestOp). DueHolds g.tdr x g.operation.held) (sym (same_due o w w' g same)) k
-    by (Undoing l) k = k
-    by (Answered out) k = k
+    by (Undoing l) k = subst (λ (x : Option GuestOp). DueHolds g.tdr x (shared l ∷ g.operation.held)) (sym (same_due o w w' g same)) k
+    by (Answered out) k =
+        let its : ℕ → ℕ → Option GuestOp = λ i n. operation_answered (o.codes g.tdr i) n out in
+        let now : its (w'.vps.indexes g.vp) (w'.vps.positions g.vp) ≡ its (w.vps.indexes g.vp) (w.vps.positions g.vp) = ap (λ (n : ℕ). its n (w'.vps.positions g.vp)) same.index ∙ ap (its (w.vps.indexes g.vp)) same.position in
+        subst (λ (x : Option GuestOp). DueHolds g.tdr x g.operation.held) (sym now) k
 
 module _ (o : Opening) (s : State) (p : ℕ) (e : Event) (is : next_event o s p ≡ Some e) (h : GuestsHoldInOrder o s) where
   others : (q : ℕ) → q ≢ p → IfSome (s.lps q).guest (λ g. GuestHolds o (world_after e s.world) g g.operation.phase)

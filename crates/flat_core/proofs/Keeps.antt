@@ -153,9 +153,9 @@ module _ (count : ℕ) (old : Pages) (tds : Tds) (table : KeyTable) (t h : ℕ) 
     upper = λ x k n a. by_test (x == t)
         (λ y e. absurd (let no : true ≡ false = rw y at e in cc))
         (λ y e. rw y (let u = l.upper x k n (alive_before x y a) (rw y at e) in (u.0, taken_node count old t kind.Tdr t 0 0 host lawful x _ kind.Ept (suc k) n (λ e. cc) u.1)));
-    leaf = λ x n a. by_test (x == t)
+    lowest = λ x n a. by_test (x == t)
         (λ y e. absurd (let no : true ≡ false = rw y at e in cc))
-        (λ y e. rw y (let u = l.leaf x n (alive_before x y a) (rw y at e) in (u.0, taken_node count old t kind.Tdr t 0 0 host lawful x _ kind.Reg 0 n (λ e. cc) u.1)));
+        (λ y e. rw y (let u = l.lowest x n (alive_before x y a) (rw y at e) in (u.0, taken_node count old t kind.Tdr t 0 0 host lawful x _ kind.Reg 0 n (λ e. cc) u.1)));
     below = λ x k n few a. by_test (x == t)
         (λ y e. absurd (let no : true ≡ false = rw y at e in cc))
         (λ y e. rw y (l.below x k n few (alive_before x y a) (rw y at e)));
@@ -447,7 +447,7 @@ first-lawful m ws = record {
   pages = record { tdr = λ t h. cc; owner = λ p h. cc; in_machine = λ p h. cc; host = λ p h. (refl, refl); blocked = λ p. lit< tt };
   tds = record { controls = λ t a. tt; vps = λ t a. tt; streams = λ t a. tt; vps_few = λ t. lit≤ tt; vps_differ = λ t. refl; vps_expected = λ t. lit≤ tt; streams_few = λ t. lit≤ tt; streams_differ = λ t. refl; epoch = λ t. lit< tt; epoch_begun = λ t n. absurd (n refl) };
   lists = record { control = λ p e a. cc; vp = λ p e a. cc; stream = λ p e a. cc; index = λ t i v a e. cc };
-  tree = record { entry = λ few t l n. refl; upper = λ t l n a h. absurd (let no : true ≡ false = h in cc); leaf = λ t n a h. absurd (let no : true ≡ false = h in cc); below = λ t l n few a h. absurd (let no : true ≡ false = h in cc); in_range = λ t l n h. absurd (let no : true ≡ false = h in cc); named = λ p h a. cc };
+  tree = record { entry = λ few t l n. refl; upper = λ t l n a h. absurd (let no : true ≡ false = h in cc); lowest = λ t n a h. absurd (let no : true ≡ false = h in cc); below = λ t l n few a h. absurd (let no : true ≡ false = h in cc); in_range = λ t l n h. absurd (let no : true ≡ false = h in cc); named = λ p h a. cc };
   keys = record {
     in_range = λ t a. absurd (let no : kind.Nda ≡ kind.Tdr = a.kind in cc);
     owner = λ t a. absurd (let no : kind.Nda ≡ kind.Tdr = a.kind in cc);

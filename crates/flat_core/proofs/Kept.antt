@@ -23,6 +23,7 @@ use Rattle.flat_core.specs.Effects.{set_entry, set_rtmr, leave_guest, tell_words
 use Rattle.flat_core.specs.Guest.{ByRow, operation_of, is_pending_at, accept_page, extended_rtmr, reach}
 use Rattle.flat_core.specs.Event.{State, Event, OfCall, OfOperation, Walks, Reaches, Leaves, next_event, after_event}
 use Rattle.flat_core.specs.Lawful.{Lawful, is_free}
+use Rattle.flat_core.specs.Guests.{IsOccupied}
 use Rattle.flat_core.specs.Inside.{LineAt, StandsAt, IsTimely}
 use Rattle.flat_core.specs.Laws.{GuestRuns, EventsKeepLawful, OthersStay, QuietEventsStay, NoWordsToTell}
 use Rattle.flat_core.proofs.Tests.{by_test}
@@ -100,17 +101,20 @@ events_keep o s p l runs =
     (λ c cs g op access r gpa page i is found. reach_lawful o g.tdr g.vp access r gpa page s.world l)
     (λ c cs g i. leave_lawful o g.vp s.world l)
 
--- where a processor stands as it does in runs its guest's TD runs
-pub timely_runs : (o : Opening) (w : World) (p : ℕ) (calls : List Call) (lp : Lp) → IsTimely o w p calls lp → GuestRuns w lp
-timely_runs o w p calls lp timely = by (drop (length lp.replies) calls) timely
+-- where a processor stands as it does in runs its guest runs there, and so does the guest's TD
+pub timely_occupied : (o : Opening) (w : World) (p : ℕ) (calls : List Call) (lp : Lp) → IsTimely o w p calls lp → (g : Guest) → lp.guest ≡ Some g → IsOccupied w p g.tdr g.vp
+timely_occupied o w p calls lp timely = by (drop (length lp.replies) calls) timely
   where
-    at : (c : Call) (x : Option Guest) → LineAt o w p c lp x → (g : Guest) → x ≡ Some g → Runs w g.tdr
+    at : (c : Call) (x : Option Guest) → LineAt o w p c lp x → (g : Guest) → x ≡ Some g → IsOccupied w p g.tdr g.vp
     at c None h g e = cc
-    at c (Some y) h g e = let same : y ≡ g = cc in subst (λ (z : Guest). Runs w z.tdr) same h.occupied.running
+    at c (Some y) h g e = let same : y ≡ g = cc in subst (λ (z : Guest). IsOccupied w p z.tdr z.vp) same h.occupied
 
-    by : (cs : List Call) → StandsAt o w p cs lp → GuestRuns w lp
+    by : (cs : List Call) → StandsAt o w p cs lp → (g : Guest) → lp.guest ≡ Some g → IsOccupied w p g.tdr g.vp
     by [] h g e = absurd (let no : None ≡ Some g = sym h.0 ∙ e in cc)
     by (c ∷ cs) h g e = at c lp.guest h g e
+
+pub timely_runs : (o : Opening) (w : World) (p : ℕ) (calls : List Call) (lp : Lp) → IsTimely o w p calls lp → GuestRuns w lp
+timely_runs o w p calls lp timely g e = (timely_occupied o w p calls lp timely g e).running
 
 other_stays : (s : State) (p q : ℕ) (x : Option Event) → q ≢ p → (after_event p s x).lps q ≡ s.lps q
 other_stays s p q None n = refl

@@ -20,7 +20,7 @@ use Rattle.flat_core.specs.Effects.{map_page}
 use Rattle.flat_core.specs.Lawful.{IsAlive, IsNodeOf, IsListed, Lawful, LawfulTree, LawfulCounts, is_free, is_node, is_named_kind}
 use Rattle.flat_core.proofs.Tests.{by_test, same_self}
 use Rattle.flat_core.proofs.Exports.{IsOfExported, free_unmarked, counts_kept, taken_where}
-use Rattle.flat_core.proofs.Parts.{now, IsNamed, new_kept, built_other, taken_back, taken_page_facts, taken_tds, taken_all_listed, taken_upper, taken_leaf, taken_keys, named_there}
+use Rattle.flat_core.proofs.Parts.{now, IsNamed, new_kept, built_other, taken_back, taken_page_facts, taken_tds, taken_all_listed, taken_upper, taken_lowest, taken_keys, named_there}
 
 -- what an entry of a level names: an upper one a secure EPT page, one of level 0 a private page
 abbrev pub kind_named : ℕ → PageKind
@@ -103,8 +103,8 @@ module _ (m : Machine) (w : World) (p t level number : ℕ) (s : EntryState) (ho
   abbrev SaysUpper : ℕ → ℕ → ℕ → Entry → Type 0
   SaysUpper x j n e = is_free e.state ≡ false → (is_node e.state ≡ true) × IsNodeOf pages x e.page kind.Ept (suc j) n
 
-  abbrev SaysLeaf : ℕ → ℕ → Entry → Type 0
-  SaysLeaf x n e = is_free e.state ≡ false → (is_node e.state ≡ false) × IsNodeOf pages x e.page kind.Reg 0 n
+  abbrev SaysLowest : ℕ → ℕ → Entry → Type 0
+  SaysLowest x n e = is_free e.state ≡ false → (is_node e.state ≡ false) × IsNodeOf pages x e.page kind.Reg 0 n
 
   abbrev Says : ℕ → ℕ → ℕ → Entry → Type 0
   Says x j n e = (is_node e.state ≡ is_upper j) × IsNodeOf pages x e.page (kind_named j) j n
@@ -140,9 +140,9 @@ module _ (m : Machine) (w : World) (p t level number : ℕ) (s : EntryState) (ho
     upper = λ x j n a. at_place (SaysUpper x j n) x (suc j) n
         (λ e f g h. says_new x (suc j) n e f g)
         (λ apart. taken_upper m w p k t level number host small l (never_host level) (never_tdr level) root x j n (as_before x a));
-    leaf = λ x n a. at_place (SaysLeaf x n) x 0 n
+    lowest = λ x n a. at_place (SaysLowest x n) x 0 n
         (λ e f g h. says_new x 0 n e f g)
-        (λ apart. taken_leaf m w p k t level number host small l (never_host level) (never_tdr level) root x n (as_before x a));
+        (λ apart. taken_lowest m w p k t level number host small l (never_host level) (never_tdr level) root x n (as_before x a));
     below = λ x j n few a. at_place (λ (e : Entry). is_free e.state ≡ false → is_free (mapped.entries x (suc j) (n / 512)).state ≡ false) x j n
         (λ e f g h. above_kept x j (n / 512) (parent_at x j n e f g few))
         (λ apart h. above_kept x j (n / 512) (l.tree.below x j n few (back x a) h));

@@ -11,6 +11,7 @@ use Rattle.td_words.specs.declared.machines.Machine.{Machine}
 use Rattle.td_words.specs.declared.calls.Call.{Call}
 use Rattle.td_words.specs.declared.calls.Call.TheVariants as call
 use Rattle.td_words.specs.declared.calls.GuestOp.{GuestOp}
+use Rattle.std.proofs.lemmas.List.{append-nil}
 use Rattle.td_words.specs.declared.names.Access.{Access}
 use Rattle.td_words.specs.declared.names.Access.TheVariants.{Read, Write}
 use Rattle.td_words.specs.NameNumber.{life_number}
@@ -31,7 +32,7 @@ use Rattle.flat_core.specs.Event.{State, Event, Reaches, next_event, after_event
 use Rattle.flat_core.specs.Lawful.{IsAlive, Lawful, is_free}
 use Rattle.flat_core.specs.Laws.{reached, with_bundles, HoldsInRuns, holds_memory, memory_of, ArePagesKnown, GuestsKnowTheirPages}
 use Rattle.flat_core.specs.Access.{Names, is_pending}
-use Rattle.flat_core.specs.AccessLaw.{IsGuarded, MemoriesAreKept, known_word, Loads, IsOwnAccess, LoadsGiveTheirOwn}
+use Rattle.flat_core.specs.AccessLaw.{IsGuarded, MemoriesAreKept, known_word, Loads, Stores, IsOwnAccess, AccessesAreOwn}
 use Rattle.flat_core.proofs.Tests.{by_test, host_kind, tdr_kind, range_of, same_self}
 use Rattle.flat_core.proofs.Maps.{walk_passed}
 use Rattle.flat_core.proofs.Parts.{IsLive}
@@ -91,7 +92,7 @@ module _ (m : Machine) (w : World) (l : Lawful m w) (h : ArePagesKnown w) where
   -- a page that an entry names was no host page
   apart : (q t n : ℕ) → w.pages.kinds q ≡ kind.Nda → IsAlive w.pages w.tds t → is_free (w.tds.entries t 0 n).state ≡ false → ((w.tds.entries t 0 n).page == q) ≡ false
   apart q t n host a e = by_test ((w.tds.entries t 0 n).page == q)
-      (λ y. absurd (let no : kind.Nda ≡ kind.Reg = sym host ∙ (ap w.pages.kinds (sym (eqb-true _ q y)) ∙ (l.tree.leaf t n a e).1.page.kind) in cc))
+      (λ y. absurd (let no : kind.Nda ≡ kind.Reg = sym host ∙ (ap w.pages.kinds (sym (eqb-true _ q y)) ∙ (l.tree.lowest t n a e).1.page.kind) in cc))
       (λ y. y)
 
   -- where no words but those of a page that was the host's have changed
@@ -125,7 +126,7 @@ module _ (m : Machine) (w : World) (l : Lawful m w) (h : ArePagesKnown w) where
       (λ y. absurd (let no : true ≡ false = sym dead ∙ subst (λ (z : ℕ). IsLive (w.tds.lives z)) (eqb-true x t y) before.life in cc))
       (λ y. y) in
       let elsewhere : is_free (w.tds.entries x 0 n).state ≡ false → ((w.tds.entries x 0 n).page == q) ≡ false = λ e. by_test ((w.tds.entries x 0 n).page == q)
-      (λ y. absurd (let same : x ≡ t = sym (l.tree.leaf x n before e).1.page.owner ∙ (ap w.pages.owners (eqb-true _ q y) ∙ mine) in
+      (λ y. absurd (let same : x ≡ t = sym (l.tree.lowest x n before e).1.page.owner ∙ (ap w.pages.owners (eqb-true _ q y) ∙ mine) in
       let no : true ≡ false = sym (eq-eqb x t same) ∙ another in cc))
       (λ y. y) in
       still_known (give_back q (end_memory_in t q w)) x n before (rw another refl) refl (λ e. rw (elsewhere e) refl)
@@ -308,12 +309,26 @@ module _ (o : Opening) (s : State) (p : ℕ) (all : IsGuarded o s) (h : ArePages
     note = subst (λ (x : Option Event). ((after_event p s x).lps p).notes ≡ (s.lps p).notes ++ LoadNote (length (s.lps p).replies + 1) gpa (word_reached s.world page gpa) ∷ []) (sym is) (rw (same_self p) refl);
   }
 
+  stores : (t v r gpa page : ℕ) (ws : ℕ → ℕ) → s.world.hidden.memories t (page_of_gpa gpa) ≡ Some ws → next_event o s p ≡ Some (Reaches t v Write r gpa page) → Stores o s p t v r gpa page
+  stores t v r gpa page ws has is =
+      let x = s.world.hidden.registers v r in
+      record {
+        word = subst (λ (y : Option Event). (after_event p s y).world.words page (word_of_gpa gpa) ≡ x) (sym is) (rw (same_self page, same_self (word_of_gpa gpa)) refl);
+        known = subst (λ (y : Option Event). known_word (after_event p s y).world t gpa ≡ Some x) (sym is) (rw (same_self t, same_self (page_of_gpa gpa), has, same_self (word_of_gpa gpa)) refl);
+        note = subst (λ (y : Option Event). ((after_event p s y).lps p).notes ≡ (s.lps p).notes) (sym is) (rw (same_self p) (append-nil (s.lps p).notes));
+      }
+
+  held_here : (t gpa page : ℕ) → IsAlive s.world.pages s.world.tds t → Names (s.world.tds.entries t 0 (page_of_gpa gpa)) page → is_pending (s.world.tds.entries t 0 (page_of_gpa gpa)).state ≡ false
+      → s.world.hidden.memories t (page_of_gpa gpa) ≡ Some (s.world.words (s.world.tds.entries t 0 (page_of_gpa gpa)).page)
+  held_here t gpa page alive named ok =
+      let holds = accepted_holds (s.world.tds.entries t 0 (page_of_gpa gpa)).state named.used ok in
+      h t (page_of_gpa gpa) alive ∙ rw holds refl
+
   known_here : (t gpa page : ℕ) → IsAlive s.world.pages s.world.tds t → Names (s.world.tds.entries t 0 (page_of_gpa gpa)) page → is_pending (s.world.tds.entries t 0 (page_of_gpa gpa)).state ≡ false
       → known_word s.world t gpa ≡ Some (word_reached s.world page gpa)
   known_here t gpa page alive named ok =
-      let holds = accepted_holds (s.world.tds.entries t 0 (page_of_gpa gpa)).state named.used ok in
-      ap (λ (f : Option (ℕ → ℕ)). option_map (λ words. words (word_of_gpa gpa)) f) (h t (page_of_gpa gpa) alive)
-      ∙ rw holds (ap (λ (q : ℕ). Some (s.world.words q (word_of_gpa gpa))) named.page_is)
+      ap (λ (f : Option (ℕ → ℕ)). option_map (λ words. words (word_of_gpa gpa)) f) (held_here t gpa page alive named ok)
+      ∙ ap (λ (q : ℕ). Some (s.world.words q (word_of_gpa gpa))) named.page_is
 
   own_access : (e : Event) → Due o s.world p (s.lps p) e → next_event o s p ≡ Some e → OfReach e
   own_access e (calls c cs line none) next = tt
@@ -333,12 +348,13 @@ module _ (o : Opening) (s : State) (p : ℕ) (all : IsGuarded o s) (h : ArePages
           known_here g.tdr gpa page alive own.0.named own.1,
           loads g.tdr g.vp r gpa page (next ∙ ap (λ (z : Access). Some (Reaches g.tdr g.vp z r gpa page)) a),
         );
+        store = λ a. stores g.tdr g.vp r gpa page (s.world.words (s.world.tds.entries g.tdr 0 (page_of_gpa gpa)).page) (held_here g.tdr gpa page alive own.0.named own.1) (next ∙ ap (λ (z : Access). Some (Reaches g.tdr g.vp z r gpa page)) a);
       }
   own_access e (undoes c cs g l i st x) next = tt
   own_access e (gives_back c cs g out i st x) next = tt
 
-pub loads_give_their_own : LoadsGiveTheirOwn
-loads_give_their_own o ws schedule p t v access r gpa page is =
+pub accesses_are_own : AccessesAreOwn
+accesses_are_own o ws schedule p t v access r gpa page is =
     let s = reached o ws schedule in
     let k = always_known o ws schedule in
     own_access o s p k.0 k.1 (Reaches t v access r gpa page) (due_event_is o s p (Reaches t v access r gpa page) is) is

@@ -16,7 +16,7 @@ not_host (suc l) = refl
 
 module _ (m : Machine) (w : World) (lawful : Lawful m w) where
   pub node_named : (t l n : ℕ) → IsAlive w.pages w.tds t → is_free (w.tds.entries t l n).state ≡ false → IsNodeOf w.pages t (w.tds.entries t l n).page (kind_named l) l n
-  node_named t zero n a e = (lawful.tree.leaf t n a e).1
+  node_named t zero n a e = (lawful.tree.lowest t n a e).1
   node_named t (suc l) n a e = (lawful.tree.upper t l n a e).1
 
   abbrev NamedBy : (t p : ℕ) → Type 0

@@ -140,7 +140,7 @@ module _ (pages : Pages) (tds tds' : Tds) (back : (x : ℕ) → IsAlive pages td
   shape_tree count same l = subst (λ (f : ℕ → ℕ → ℕ → Entry). LawfulTree count pages (record tds' { entries = f })) (sym same) (record {
     entry = l.entry;
     upper = λ x k n a. l.upper x k n (back x (record { kind = a.kind; life = a.life }));
-    leaf = λ x n a. l.leaf x n (back x (record { kind = a.kind; life = a.life }));
+    lowest = λ x n a. l.lowest x n (back x (record { kind = a.kind; life = a.life }));
     below = λ x k n few a. l.below x k n few (back x (record { kind = a.kind; life = a.life }));
     in_range = l.in_range;
     named = λ p k a. l.named p k (back (pages.owners p) (record { kind = a.kind; life = a.life }));
@@ -520,9 +520,9 @@ module _ (m : Machine) (w : World) (p : ℕ) (k : PageKind) (t level number : �
       → (is_node (w.tds.entries x (suc j) n).state ≡ true) × IsNodeOf now x (w.tds.entries x (suc j) n).page kind.Ept (suc j) n
   taken_upper x j n a e = let u = l.tree.upper x j n (taken_back x a) e in (u.0, taken_node m.pages w.pages p k t level number host l.pages x _ kind.Ept (suc j) n (λ e. cc) u.1)
 
-  pub taken_leaf : (x n : ℕ) → IsAlive now w.tds x → is_free (w.tds.entries x 0 n).state ≡ false
+  pub taken_lowest : (x n : ℕ) → IsAlive now w.tds x → is_free (w.tds.entries x 0 n).state ≡ false
       → (is_node (w.tds.entries x 0 n).state ≡ false) × IsNodeOf now x (w.tds.entries x 0 n).page kind.Reg 0 n
-  taken_leaf x n a e = let u = l.tree.leaf x n (taken_back x a) e in (u.0, taken_node m.pages w.pages p k t level number host l.pages x _ kind.Reg 0 n (λ e. cc) u.1)
+  taken_lowest x n a e = let u = l.tree.lowest x n (taken_back x a) e in (u.0, taken_node m.pages w.pages p k t level number host l.pages x _ kind.Reg 0 n (λ e. cc) u.1)
 
   pub taken_keys : LawfulKeys m.hkids now w.tds w.key_table
   taken_keys = record {
@@ -544,7 +544,7 @@ module _ (m : Machine) (w : World) (p : ℕ) (k : PageKind) (t level number : �
     tree = record {
       entry = l.tree.entry;
       upper = taken_upper;
-      leaf = taken_leaf;
+      lowest = taken_lowest;
       below = λ x j n few a. l.tree.below x j n few (taken_back x a);
       in_range = l.tree.in_range;
       named = λ q e a. by_test (q == p) (λ y. absurd (let no : true ≡ false = sym (rw y at e) ∙ not_node in cc)) (λ n. named_there q n e a);
@@ -704,7 +704,7 @@ module _ (m : Machine) (w : World) (t p : ℕ) (l : Lawful m w) (root : w.pages.
     tree = record {
       entry = l.tree.entry;
       upper = λ x j n a e. (let u = l.tree.upper x j n (left_back x a) e in (u.0, node_kept w.pages left p kinds_left owners_left levels_left numbers_left x (of_another x a) _ kind.Ept (suc j) n (λ e. cc) u.1));
-      leaf = λ x n a e. (let u = l.tree.leaf x n (left_back x a) e in (u.0, node_kept w.pages left p kinds_left owners_left levels_left numbers_left x (of_another x a) _ kind.Reg 0 n (λ e. cc) u.1));
+      lowest = λ x n a e. (let u = l.tree.lowest x n (left_back x a) e in (u.0, node_kept w.pages left p kinds_left owners_left levels_left numbers_left x (of_another x a) _ kind.Reg 0 n (λ e. cc) u.1));
       below = λ x j n few a. l.tree.below x j n few (left_back x a);
       in_range = l.tree.in_range;
       named = λ q e a. by_test (q == p) (λ y. absurd (let no : false ≡ true = rw y at e in cc)) (λ n. named_left q n e a);

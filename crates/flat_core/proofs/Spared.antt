@@ -73,13 +73,15 @@ module _ (m : Machine) (w : World) (l : Lawful m w) (p t v : ℕ) (x : IsOccupie
     same = same;
   }
 
-  no_change : (w' : World) → w'.vps ≡ w.vps → SameVp w w' v
-  no_change w' e = record {
+  no_change : (w' : World) → w'.vps ≡ w.vps → w'.hidden.registers ≡ w.hidden.registers → SameVp w w' v
+  no_change w' e k = record {
+    registers = λ r. ap (λ (z : ℕ → ℕ → ℕ). z v r) k;
     index = ap (λ (z : Vps). z.indexes v) e;
     state = ap (λ (z : Vps). z.states v) e;
     associated = ap (λ (z : Vps). z.associated v) e;
     last = ap (λ (z : Vps). z.lasts v) e;
     position = ap (λ (z : Vps). z.positions v) e;
+    exported = ap (λ (z : Vps). z.exported v) e;
     entered = ap (λ (z : Vps). z.entered v) e;
   }
 
@@ -138,65 +140,65 @@ row_spares o me (call.PhymemPageReclaim u page) w p t v l ps x apart =
     let m = o.machine in
     let off = life_off m w l p t v x u (life.Teardown ∷ []) refl ps.1.1.1.0 in
     let pages = owned_off m w l p t v x u page off (owner_of m w l p t v x u page (page == u) refl (tdr_kind _ ps.1.1.0) ps.1.1.1.1) in
-    beside m w l p t v x _ (rw (pages.1) refl) refl refl (rw (pages.0) refl) (rw (pages.0) refl) (no_change m w l p t v x _ refl)
+    beside m w l p t v x _ (rw (pages.1) refl) refl refl (rw (pages.0) refl) (rw (pages.0) refl) (no_change m w l p t v x _ refl refl)
 row_spares o me (call.MngCreate u h) w p t v l ps x apart =
     let m = o.machine in
     let host = host_kind _ ps.1.1.0 in
     let a = page_off m w l p t v x u host in let b = tdr_off m w l p t v x u host in
-    beside m w l p t v x _ (rw b refl) (rw b refl) (rw b refl) (rw a refl) (rw a refl) (no_change m w l p t v x _ refl)
+    beside m w l p t v x _ (rw b refl) (rw b refl) (rw b refl) (rw a refl) (rw a refl) (no_change m w l p t v x _ refl refl)
 row_spares o me (call.MngKeyConfig u) w p t v l ps x apart =
     let m = o.machine in
     let off = life_off m w l p t v x u (life.HkidAssigned ∷ []) refl ps.1.1.0 in
-    beside m w l p t v x _ refl (rw off refl) refl refl refl (no_change m w l p t v x _ refl)
+    beside m w l p t v x _ refl (rw off refl) refl refl refl (no_change m w l p t v x _ refl refl)
 row_spares o me (call.MngAddcx u page) w p t v l ps x apart =
     let m = o.machine in
     let host = host_kind _ ps.1.1.1.1.1.1.0 in
     let a = page_off m w l p t v x page host in let b = tdr_off m w l p t v x page host in
-    beside m w l p t v x _ (rw b refl) refl refl (rw a refl) (rw a refl) (no_change m w l p t v x _ refl)
+    beside m w l p t v x _ (rw b refl) refl refl (rw a refl) (rw a refl) (no_change m w l p t v x _ refl refl)
 row_spares o me (call.MngVpflushdone u) w p t v l ps x apart =
     let m = o.machine in
     let off = flushed_off m w l p t v x u ps.1.1.1.0 in
-    beside m w l p t v x _ refl (rw off refl) refl refl refl (no_change m w l p t v x _ refl)
+    beside m w l p t v x _ refl (rw off refl) refl refl refl (no_change m w l p t v x _ refl refl)
 row_spares o me (call.MngKeyFreeid u) w p t v l ps x apart =
     let m = o.machine in
     let off = life_off m w l p t v x u (life.Blocked ∷ []) refl ps.1.1.0 in
-    beside m w l p t v x _ refl (rw off refl) refl refl refl (no_change m w l p t v x _ refl)
+    beside m w l p t v x _ refl (rw off refl) refl refl refl (no_change m w l p t v x _ refl refl)
 row_spares o me (call.VpCreate u page) w p t v l ps x apart =
     let m = o.machine in
     let host = host_kind _ ps.1.1.1.1.1.1.1.1.0 in
     let a = page_off m w l p t v x page host in let b = tdr_off m w l p t v x page host in
-    beside m w l p t v x _ (rw b refl) refl refl (rw a refl) (rw a refl) (record { index = rw a refl; state = rw a refl; associated = rw a refl; last = rw a refl; position = rw a refl; entered = rw a refl })
+    beside m w l p t v x _ (rw b refl) refl refl (rw a refl) (rw a refl) (record { index = rw a refl; state = rw a refl; associated = rw a refl; last = rw a refl; position = rw a refl; exported = rw a refl; entered = rw a refl; registers = λ r. rw a refl })
 row_spares o me (call.VpInit u q value) w p t v l ps x apart =
     let m = o.machine in
     let a = created_off m w l p t v x q ps.1.1.1.1.1.1.1.1.0 in
-    beside m w l p t v x _ refl refl refl refl refl (record { index = refl; state = rw a refl; associated = refl; last = refl; position = refl; entered = refl })
+    beside m w l p t v x _ refl refl refl refl refl (record { index = refl; state = rw a refl; associated = refl; last = refl; position = refl; exported = refl; entered = refl; registers = λ r. rw a refl })
 row_spares o me (call.VpEnter u q most) w p t v l ps x apart =
     let m = o.machine in
     let a = elsewhere_off m w l p t v x me q apart ps.1.1.1.1.1.1.1.1.1.1.0 in
-    beside m w l p t v x _ refl refl refl refl refl (record { index = refl; state = refl; associated = rw a refl; last = rw a refl; position = refl; entered = rw a refl })
+    beside m w l p t v x _ refl refl refl refl refl (record { index = refl; state = refl; associated = rw a refl; last = rw a refl; position = refl; exported = refl; entered = rw a refl; registers = λ r. refl })
 row_spares o me (call.MemSeptAdd u gpa level page) w p t v l ps x apart =
     let m = o.machine in
     let behind = walk_passed w u gpa (state_in w u gpa level (entry.Free ∷ []) ∷ page_exclusive page ∷ host_page w page ∷ []) level (range_of level 3 ps.1.1.0).1 ps.1.1.1.1.1.1.1.1.1.1 in
     let host = host_kind _ behind.0.1.0 in
     let a = page_off m w l p t v x page host in let b = tdr_off m w l p t v x page host in
-    beside m w l p t v x _ (rw b refl) refl refl (rw a refl) (rw a refl) (no_change m w l p t v x _ refl)
+    beside m w l p t v x _ (rw b refl) refl refl (rw a refl) (rw a refl) (no_change m w l p t v x _ refl refl)
 row_spares o me (call.MemPageAdd u gpa page source) w p t v l ps x apart =
     let m = o.machine in
     let behind = walk_passed w u gpa (state_in w u gpa 0 (entry.Free ∷ []) ∷ page_exclusive source ∷ host_page w source ∷ page_exclusive page ∷ host_page w page ∷ []) 0 (lit≤ tt) ps.1.1.1.1.1.1.1.1.1.1.1.1 in
     let host = host_kind _ behind.0.1.1.0 in
     let a = page_off m w l p t v x page host in let b = tdr_off m w l p t v x page host in
-    beside m w l p t v x _ (rw b refl) refl refl (rw a refl) (rw a refl) (no_change m w l p t v x _ refl)
+    beside m w l p t v x _ (rw b refl) refl refl (rw a refl) (rw a refl) (no_change m w l p t v x _ refl refl)
 row_spares o me (call.MemPageAug u gpa page) w p t v l ps x apart =
     let m = o.machine in
     let behind = walk_passed w u gpa (state_in w u gpa 0 (entry.Free ∷ []) ∷ page_exclusive page ∷ host_page w page ∷ []) 0 (lit≤ tt) ps.1.1.1.1.1.1.1.1.1 in
     let host = host_kind _ behind.0.1.0 in
     let a = page_off m w l p t v x page host in let b = tdr_off m w l p t v x page host in
-    beside m w l p t v x _ (rw b refl) refl refl (rw a refl) (rw a refl) (no_change m w l p t v x _ refl)
+    beside m w l p t v x _ (rw b refl) refl refl (rw a refl) (rw a refl) (no_change m w l p t v x _ refl refl)
 row_spares o me (call.MngInit u) w p t v l ps x apart =
     let off = op_off o.machine w l p t v x u (op.Uninitialized ∷ []) (λ s a b. uninitialized_runs s a b) ps.1.1.1.1.0 in
-    beside o.machine w l p t v x _ refl refl (rw off refl) refl refl (no_change o.machine w l p t v x _ refl)
+    beside o.machine w l p t v x _ refl refl (rw off refl) refl refl (no_change o.machine w l p t v x _ refl refl)
 row_spares o me (call.MrFinalize u) w p t v l ps x apart =
     let off = op_off o.machine w l p t v x u (op.Initialized ∷ []) (λ s a b. initialized_runs s a b) ps.1.1.1.1.0 in
-    beside o.machine w l p t v x _ refl refl (rw off refl) refl refl (no_change o.machine w l p t v x _ refl)
-row_spares o me (call.HostRead page i) w p t v l ps x apart = beside o.machine w l p t v x _ refl refl refl refl refl (no_change o.machine w l p t v x _ refl)
-row_spares o me _ w p t v l ps x apart = beside o.machine w l p t v x _ refl refl refl refl refl (record { index = refl; state = refl; associated = refl; last = refl; position = refl; entered = refl })
+    beside o.machine w l p t v x _ refl refl (rw off refl) refl refl (no_change o.machine w l p t v x _ refl refl)
+row_spares o me (call.HostRead page i) w p t v l ps x apart = beside o.machine w l p t v x _ refl refl refl refl refl (no_change o.machine w l p t v x _ refl refl)
+row_spares o me _ w p t v l ps x apart = beside o.machine w l p t v x _ refl refl refl refl refl (record { index = refl; state = refl; associated = refl; last = refl; position = refl; exported = refl; entered = refl; registers = λ r. refl })

@@ -1,12 +1,18 @@
 -- No stale translation is used (Base Architecture, "TLB Tracking Sequence"). A translation may be used, at an epoch, as
--- `IsUsable` says; a walk under way is used at its guest's entry epoch. What every state keeps has six parts:
+-- `IsUsable` says; a walk under way is used at its guest's entry epoch. What every state keeps:
+--   * no virtual processor's last epoch is above its TD's TD_EPOCH (`last`), and each in guest entered at TD_EPOCH or at the
+--     epoch before (`near`)
+--   * one that is associated is of a TD that is built and hasn't ended (`bound`), and TD_EPOCH is 0 before MNG.INIT (`early`)
 --   * a cached translation of a TD has a virtual processor of the TD that is associated with its logical processor
---     (`associated`), and a walk one in guest there, whose record it stands in (`IsOccupied` says what that is)
---   * no last epoch is above TD_EPOCH (`last`), nor, where a TD is in guest, above the entry epoch there (`newest`)
---   * a walk, or a translation that may be used, names what the TD's map names at that place, blocked or not (`named`)
---   * where the entry there allows less by now, its page was blocked at that epoch or later, or is exempt (`rights`)
---   * each virtual processor in guest entered at TD_EPOCH or at the epoch before (`near`)
+--     (`associated`)
+--   * where a TD is in guest on a logical processor, none of the TD's virtual processors that are associated with it last
+--     entered at a later epoch than that guest (`newest`)
+--   * a translation that may be used, and a walk, names what the TD's map names at that place, blocked or not (`named`); the
+--     entry that a walk loads next is of level 2 at most (`level`)
+--   * where the entry there allows less by now, its page was blocked at that epoch or later, or a translation is exempt
+--     (`rights`)
 --   * no translation that may be used is of a page that its guest hasn't accepted (`accepted`)
+-- That the guest whose record a walk stands in is associated there, and counted at its last epoch, is said by `IsOccupied`.
 use Rattle.std.specs.Prelude.{◌≡◌, ◌⊎◌, ℕ, suc, ◌/◌, ◌^◌, ◌≤◌, Bool, true, false, not, ◌==◌, ◌&&◌, ◌||◌, List, Contains, Option, Some, None}
 use Rattle.td_words.specs.declared.names.PageKind.TheVariants as kind
 use Rattle.td_words.specs.declared.names.LifeState.TheVariants as life
@@ -63,14 +69,14 @@ is_pending _ = false
 
 -- Exempt is a page that an export took without a block, while no virtual processor of the TD could run: from the pause on, and
 -- in RUNNABLE after an abort (TD Migration Architecture, "Private Memory Migration").
-abbrev pub is_after_pause : OpState → Bool
-is_after_pause op.PausedExport = true
-is_after_pause op.PostExport = true
-is_after_pause op.Runnable = true
-is_after_pause _ = false
+abbrev pub may_be_exempt : OpState → Bool
+may_be_exempt op.PausedExport = true
+may_be_exempt op.PostExport = true
+may_be_exempt op.Runnable = true
+may_be_exempt _ = false
 
 abbrev pub IsExempt : World → Translation → Type 0
-IsExempt w c = ((entry_of w c).state ≡ entry.ExportedBlockedW) × (is_after_pause (w.tds.ops c.tdr) ≡ true)
+IsExempt w c = ((entry_of w c).state ≡ entry.ExportedBlockedW) × (may_be_exempt (w.tds.ops c.tdr) ≡ true)
 
 -- the page that an entry is of, where the entry isn't FREE
 pub record Names (e : Entry) (page : ℕ) : Type 0 where
@@ -96,8 +102,7 @@ pub record LawfulTranslations (w : World) (p : ℕ) (cached : List Translation) 
   pub usable : (c : Translation) (epoch : ℕ) → Contains cached c → IsUsable w p guest c.tdr epoch → IsCurrent w c epoch
   pub walk : (g : Guest) (k : Walk) (epoch : ℕ) → guest ≡ Some g → g.walk ≡ Some k → w.vps.entered g.vp ≡ Some epoch → IsOnCourse w g.tdr k epoch
 
--- of the world alone; and two facts more that these need: a virtual processor that is associated is of a TD that is built and
--- hasn't ended, and TD_EPOCH is 0 before MNG.INIT
+-- of the world alone
 pub record LawfulEpochs (w : World) : Type 0 where
   pub last : (t v : ℕ) → w.pages.kinds t ≡ kind.Tdr → IsPageOf w.pages t v kind.Tdvpr → w.vps.lasts v ≤ w.tds.epochs t
   pub near : (t v epoch : ℕ) → w.pages.kinds t ≡ kind.Tdr → IsPageOf w.pages t v kind.Tdvpr → w.vps.entered v ≡ Some epoch

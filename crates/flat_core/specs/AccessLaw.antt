@@ -2,7 +2,7 @@
 use Rattle.std.specs.Prelude.{◌≡◌, ℕ, ◌+◌, ◌≤◌, List, [], ◌∷◌, ◌++◌, length, Contains, Option, Some, option_map, Bool, true, false, not, ◌&&◌}
 use Rattle.std.specs.List.{list_all}
 use Rattle.td_words.specs.declared.names.Access.{Access}
-use Rattle.td_words.specs.declared.names.Access.TheVariants.{Read}
+use Rattle.td_words.specs.declared.names.Access.TheVariants.{Read, Write}
 use Rattle.td_words.specs.declared.names.PageKind.TheVariants as kind
 use Rattle.flat_core.specs.World.{World}
 use Rattle.flat_core.specs.Processor.{Translation, Guest, LoadNote}
@@ -52,14 +52,21 @@ pub record Loads (o : Opening) (s : State) (p v r gpa word : ℕ) : Type 0 where
   pub register : (event o s p).world.hidden.registers v r ≡ word
   pub note : ((event o s p).lps p).notes ≡ (s.lps p).notes ++ LoadNote (length (s.lps p).replies + 1) gpa word ∷ []
 
--- In a reader's terms: an access to a word through a translation is one to the guest's own page, and a load gives the word
--- that its guest knows from its own events, whatever other processors and the host did.
+-- A store puts the register's word into that page, and from then on it is what the guest knows there. It notes nothing.
+pub record Stores (o : Opening) (s : State) (p t v r gpa page : ℕ) : Type 0 where
+  pub word : (event o s p).world.words page (word_of_gpa gpa) ≡ s.world.hidden.registers v r
+  pub known : known_word (event o s p).world t gpa ≡ Some (s.world.hidden.registers v r)
+  pub note : ((event o s p).lps p).notes ≡ (s.lps p).notes
+
+-- In a reader's terms: an access to a word through a translation is one to the guest's own page; a load gives the word that
+-- its guest knows from its own events, whatever other processors and the host did; and a store leaves it the register's.
 pub record IsOwnAccess (o : Opening) (s : State) (p t v : ℕ) (access : Access) (r gpa page : ℕ) : Type 0 where
   pub page_is : IsOwnPage s.world t (page_of_gpa gpa) page
   pub load : access ≡ Read → (word : ℕ) × (known_word s.world t gpa ≡ Some word) × Loads o s p v r gpa word
+  pub store : access ≡ Write → Stores o s p t v r gpa page
 
-abbrev pub LoadsGiveTheirOwn : Type 0
-LoadsGiveTheirOwn = (o : Opening) (words_to_tell : Option (List ℕ)) (schedule : List ℕ) (p t v : ℕ) (access : Access) (r gpa page : ℕ)
+abbrev pub AccessesAreOwn : Type 0
+AccessesAreOwn = (o : Opening) (words_to_tell : Option (List ℕ)) (schedule : List ℕ) (p t v : ℕ) (access : Access) (r gpa page : ℕ)
     → let s = reached o words_to_tell schedule in
     next_event o s p ≡ Some (Reaches t v access r gpa page) → IsOwnAccess o s p t v access r gpa page
 

@@ -15,7 +15,7 @@ use Rattle.flat_core.specs.Translations.{look_up}
 use Rattle.flat_core.specs.Guest.{Operation, ByRow, Private, operation_of, walk_level}
 use Rattle.flat_core.specs.Event.{State, Event, next_event, lines_left, event, operation_due}
 use Rattle.flat_core.specs.Run.{run_telling, events_in}
-use Rattle.flat_core.specs.Laws.{reached, with_bundles, IsKept, HoldsInRuns}
+use Rattle.flat_core.specs.Laws.{reached, with_bundles, HoldsInRuns}
 use Rattle.flat_core.specs.Inside.{AreTimely}
 
 -- no row tries more locks than its call may, in any world
@@ -72,9 +72,6 @@ left_of o w (c ∷ cs) lp = line_left o w c lp lp.guest + events_in cs
 
 abbrev pub events_left : Opening → State → ℕ → ℕ
 events_left o s p = left_of o s.world (lines_left o p (s.lps p)) (s.lps p)
-
-abbrev pub TimelinessIsKept : Type 0
-TimelinessIsKept = IsKept AreTimely
 
 -- where processors are timely each event of one lowers what it can still make, whatever bundles have come in; and one that
 -- can make none has no event left

@@ -76,7 +76,7 @@ abbrev pub guest_event : Opening → World → Lp → Guest → Option Outcome �
 guest_event o w lp g (Some out) = Leaves g.vp out
 guest_event o w lp g None = staying_event o w lp g g.operation.phase
 
--- is this lock an E
+-- a lock that is the E of a TD
 abbrev pub is_epoch_lock : LockId → Bool
 is_epoch_lock (OfEpoch t) = true
 is_epoch_lock _ = false
@@ -141,7 +141,8 @@ settle (Undoing l) hs lp = lp
 abbrev pub settled : Lp → Lp
 settled lp = settle lp.call.phase lp.call.held lp
 
--- an operation that is answered and holds nothing is done: completed, or the guest is to be left
+-- An operation that is answered and holds nothing is done. Where it answers nothing it was completed, which is counted; else
+-- the guest is to be left, and nothing is counted: neither of one that wasn't completed nor of a VMCALL, which was.
 abbrev pub settle_operation : Phase (Option Outcome) → List Held → Guest → Guest
 settle_operation (Answered None) [] g = record g { operation = nothing_yet; walk = None; completed = g.completed + 1 }
 settle_operation (Answered (Some out)) [] g = record g { operation = nothing_yet; walk = None; leaving = Some out }

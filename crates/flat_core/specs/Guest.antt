@@ -170,7 +170,7 @@ walk_level (Some k) = k.level
 abbrev pub walked_entry : World → Guest → ℕ → Entry
 walked_entry w g gpa = entry_at w g.tdr (walk_level g.walk) gpa
 
--- A walk goes on behind an upper entry that is NL_MAPPED, and ends well at a leaf entry that allows the access.
+-- A walk goes on behind an upper entry that is NL_MAPPED, and ends well at an entry of level 0 that allows the access.
 abbrev pub goes_on : Access → ℕ → Entry → Bool
 goes_on access zero e = allows e.state access
 goes_on access (suc level) e = same_state e.state entry.NlMapped
@@ -185,7 +185,7 @@ abbrev pub walk_step : World → Guest → Access → ℕ → Guest
 walk_step w g access gpa =
     let e = walked_entry w g gpa in walked_on access gpa (goes_on access (walk_level g.walk) e) (walk_level g.walk) e g
 
--- A leaf entry that allows the access is cached, with the right to write where its state allows writing.
+-- An entry of level 0 that allows the access is cached, with the right to write where its state allows writing.
 abbrev pub cached_after : Bool → ℕ → Translation → List Translation → List Translation
 cached_after true zero c cs = cache c cs
 cached_after true (suc level) c cs = cs

@@ -1,17 +1,18 @@
 -- What a guest's operation tries, and the order in which it holds its locks: the first that it tries.
-use Rattle.std.specs.Prelude.{◌≡◌, ℕ, List, [], ◌∷◌, ◌++◌, Option, Some, None, IfSome, if◌then◌else◌}
+use Rattle.std.specs.Prelude.{◌≡◌, ℕ, zero, suc, List, [], ◌∷◌, Option, Some, None, IfSome, if◌then◌else◌, slice_get}
 use Rattle.td_words.specs.declared.calls.GuestOp.{GuestOp}
 use Rattle.td_words.specs.declared.calls.GuestOp.TheVariants as op
 use Rattle.td_words.specs.declared.replies.Outcome.{Outcome}
+use Rattle.td_words.specs.declared.replies.Outcome.TheVariants.{Vmcall}
 use Rattle.flat_core.specs.World.{World}
-use Rattle.flat_core.specs.Processor.{LockId, OfPage, OfTree, OfRtmr, Held, Phase, Trying, Guest}
+use Rattle.flat_core.specs.Processor.{LockId, OfPage, OfTree, OfRtmr, Held, Phase, Trying, Undoing, Answered, Guest}
 use Rattle.flat_core.specs.Opening.{Opening}
 use Rattle.flat_core.specs.Tree.{entry_at}
 use Rattle.flat_core.specs.Tries.{tries, shared, alone}
 use Rattle.flat_core.specs.Guest.{Operation, ByRow, Private, operation_of, is_private, shared_page}
 use Rattle.flat_core.specs.Event.{State, operation_due}
 use Rattle.flat_core.specs.Inside.{AreTimely}
-use Rattle.flat_core.specs.Order.{kinds, onto, undo_of}
+use Rattle.flat_core.specs.Order.{kinds, onto}
 use Rattle.flat_core.specs.Laws.{IsKept, HoldsInRuns}
 
 -- an access to a shared page tries that page
@@ -47,10 +48,22 @@ abbrev pub DueHolds : (tdr : ℕ) → Option GuestOp → List Held → Type 0
 DueHolds t None hs = hs ≡ []
 DueHolds t (Some op) hs = AreFirstOf t op hs
 
--- those of a guest: an operation that undoes or releases may have been completed already
+-- the operation of a list that an answer is of, with the position as it is by then: one that was completed stands before it,
+-- and any other is still due
+abbrev pub operation_before : List GuestOp → (position : ℕ) → Option GuestOp
+operation_before code zero = None
+operation_before code (suc i) = slice_get code i
+
+abbrev pub operation_answered : List GuestOp → (position : ℕ) → Option Outcome → Option GuestOp
+operation_answered code i None = operation_before code i
+operation_answered code i (Some (Vmcall word)) = operation_before code i
+operation_answered code i (Some out) = slice_get code i
+
+-- those of a guest: of the operation that is due, with the lock that it is being refused; or of the one that is answered
 abbrev pub GuestHolds : Opening → World → Guest → Phase (Option Outcome) → Type 0
 GuestHolds o w g Trying = DueHolds g.tdr (operation_due o w g) g.operation.held
-GuestHolds o w g phase = (op : GuestOp) × AreFirstOf g.tdr op (undo_of phase ++ g.operation.held)
+GuestHolds o w g (Undoing l) = DueHolds g.tdr (operation_due o w g) (shared l ∷ g.operation.held)
+GuestHolds o w g (Answered out) = DueHolds g.tdr (operation_answered (o.codes g.tdr (w.vps.indexes g.vp)) (w.vps.positions g.vp) out) g.operation.held
 
 -- so of each guest, where processors stand as they do in runs
 pub record GuestsHoldInOrder (o : Opening) (s : State) : Type 0 where

@@ -29,21 +29,25 @@ pub record IsOccupied (w : World) (p t v : ℕ) : Type 0 where
   pub entered : w.vps.entered v ≡ Some epoch
   pub current : w.vps.lasts v ≡ epoch
 
--- nothing of a virtual processor but what an export notes of it
+-- a virtual processor is as it was, with its registers
 pub record SameVp (before after : World) (v : ℕ) : Type 0 where
   pub index : after.vps.indexes v ≡ before.vps.indexes v
   pub state : after.vps.states v ≡ before.vps.states v
   pub associated : after.vps.associated v ≡ before.vps.associated v
   pub last : after.vps.lasts v ≡ before.vps.lasts v
   pub position : after.vps.positions v ≡ before.vps.positions v
+  pub exported : after.vps.exported v ≡ before.vps.exported v
   pub entered : after.vps.entered v ≡ before.vps.entered v
+  pub registers : (r : ℕ) → after.hidden.registers v r ≡ before.hidden.registers v r
 
--- beside each row: the act of another processor's call leaves one that runs on p as it is. No lock is needed for this: the
--- row's conditions alone keep others off
+-- one that runs on p runs on, as it was
 pub record Spares (before after : World) (p t v : ℕ) : Type 0 where
   pub occupied : IsOccupied after p t v
   pub same : SameVp before after v
 
+-- Beside each row: the act of another processor's call leaves one that runs on p so. Of the calls that are built the
+-- conditions of each row alone keep others off, and no lock is needed for it. It won't be so of EXPORT.PAUSE: its conditions
+-- hold also with a virtual processor in guest, and only O, which the guest's VP.ENTER shares, keeps it off.
 abbrev pub RowSpares : (m : Machine) (me : ℕ) → Row → Type 0
 RowSpares m me row = (w : World) (p t v : ℕ) → Lawful m w → Passes (row.items w) → IsOccupied w p t v → p ≢ me → Spares w (row.act w) p t v
 

@@ -107,7 +107,7 @@ pub record LawfulTree (count : ℕ) (pages : Pages) (tds : Tds) : Type 0 where
   pub entry : count ≤ 1024 → (t l n : ℕ) → is_lawful_entry (tds.entries t l n) ≡ true
   pub upper : (t l n : ℕ) → IsAlive pages tds t → is_free (tds.entries t (suc l) n).state ≡ false
       → (is_node (tds.entries t (suc l) n).state ≡ true) × IsNodeOf pages t (tds.entries t (suc l) n).page kind.Ept (suc l) n
-  pub leaf : (t n : ℕ) → IsAlive pages tds t → is_free (tds.entries t 0 n).state ≡ false
+  pub lowest : (t n : ℕ) → IsAlive pages tds t → is_free (tds.entries t 0 n).state ≡ false
       → (is_node (tds.entries t 0 n).state ≡ false) × IsNodeOf pages t (tds.entries t 0 n).page kind.Reg 0 n
   pub below : (t l n : ℕ) → l < 3 → IsAlive pages tds t → is_free (tds.entries t l n).state ≡ false → is_free (tds.entries t (suc l) (n / 512)).state ≡ false
   pub in_range : (t l n : ℕ) → is_free (tds.entries t l n).state ≡ false → n * level_size l < 2 ^ 47

@@ -139,9 +139,9 @@ ExportedAreCounted = HoldsInRuns (λ o s. AreCounted s.world)
 abbrev pub GuestRuns : World → Lp → Type 0
 GuestRuns w lp = (g : Guest) → lp.guest ≡ Some g → list_any (λ s. op_number s == op_number (w.tds.ops g.tdr)) running_ops ≡ true
 
--- one event keeps it, whatever bundles have come in, where processors stand as they do in runs
-abbrev pub LawfulIsKept : Type 0
-LawfulIsKept = IsKept AreTimely
+-- the world stays lawful, and processors stand as they do in runs
+abbrev pub TimelinessIsKept : Type 0
+TimelinessIsKept = IsKept AreTimely
 
 -- so does each event of any opening with that machine, where the TD of its processor's guest runs, and so is built: one that
 -- isn't has RTMRs of zeros in every lawful world
@@ -225,7 +225,7 @@ measured_after_event _ _ w = w.tds.measured
 abbrev pub EventsMeasure : Type 0
 EventsMeasure = (o : Opening) (s : State) (p t : ℕ) → (event o s p).world.tds.measured t ≡ measured_after_event (lines_left o p (s.lps p)) (next_event o s p) s.world t
 
--- the page that a call gives back to the host. MEM.PAGE.REMOVE does too, once it is built
+-- the page that a call gives back to the host. MEM.PAGE.REMOVE and MEM.SEPT.REMOVE will be among these, once they are built
 abbrev pub gives_back : Call → ℕ → Bool
 gives_back (call.PhymemPageReclaim tdr page) p = p == page
 gives_back _ p = false

@@ -1,5 +1,5 @@
--- Calls that build a TD's secure EPT, add its first pages and measure them (Base Architecture, "Secure EPT" and "TD
--- Measurement").
+-- Calls that build a TD's secure EPT and read it, add private pages before the TD runs and while it does, and measure them
+-- (Base Architecture, "Secure EPT" and "TD Measurement").
 use Rattle.std.specs.Prelude.{ℕ, List, [], ◌∷◌, ◌++◌, map, Option, Some, None}
 use Rattle.std.specs.List.{range_with_len}
 use Rattle.mrtd_measure.specs.Records.{page_record, chunk_records}

@@ -58,13 +58,14 @@ pub record Walk : Type 0 where
   pub level : ℕ
   pub page : ℕ
 
--- the virtual processor that runs on a logical processor, from the act of VP.ENTER to the exit. An operation answers
--- nothing where it is completed, else why the guest is left
+-- the virtual processor that runs on a logical processor, from the act of VP.ENTER to the count step of its exit. An
+-- operation answers nothing where the guest goes on behind it, else why the guest is left. `vmcall` is completed and leaves
+-- the guest, and isn't counted
 pub record Guest : Type 0 where
   pub tdr : ℕ
   pub vp : ℕ
   pub most : ℕ  -- operations, in this entry
-  pub completed : ℕ
+  pub completed : ℕ  -- in this entry, so far, but for `vmcall`
   pub operation : Progress (Option Outcome)
   pub walk : Option Walk
   pub leaving : Option Outcome

@@ -17,7 +17,8 @@ pub data Item (R : Type 0) : Type 0 where
   Try : (lock : LockId) (mode : Mode) → Item R
 
 -- a call's conditions and tries on the world as it is, what its act changes of the world and of the translations
--- cached by its processor, the guest that it enters, and what it answers where it enters none
+-- cached by its processor, the guest that it enters, and what it answers. Where it enters a guest, that is told to its
+-- processor alone, and the line is answered at the exit
 pub record Row : Type 0 where
   pub items : World → List (Item Reply)
   pub act : World → World

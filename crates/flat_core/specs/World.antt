@@ -35,7 +35,7 @@ pub record Tds : Type 0 where
   pub epochs : ℕ → ℕ  -- TD_EPOCH
   pub entries : ℕ → ℕ → ℕ → Entry  -- the secure EPT, by level and number
   pub vps : ℕ → List ℕ  -- its TDVPR pages, in the order of their indexes
-  pub vps_expected : ℕ → ℕ  -- as many virtual processors does an import expect
+  pub vps_expected : ℕ → ℕ  -- how many virtual processors an import expects
   pub streams : ℕ → List ℕ  -- its stream pages, in the order of their indexes
   pub measured : ℕ → List ℕ  -- the bytes that MRTD is the digest of
   pub mrtds : ℕ → ℕ → ℕ  -- MRTD, six words
@@ -73,7 +73,7 @@ pub record KeyTable : Type 0 where
 pub record Hidden : Type 0 where
   pub registers : ℕ → ℕ → ℕ  -- by TDVPR page
   pub rtmrs : ℕ → ℕ → ℕ  -- by TDR page, four RTMRs of six words each
-  pub memories : ℕ → ℕ → Option (ℕ → ℕ)  -- by TDR page and GPA page: the guest's memory, by its own events alone
+  pub memories : ℕ → ℕ → Option (ℕ → ℕ)  -- by TDR page and GPA page: the words that the TD's guest knows to be there
 
 -- a bundle's header without its tag
 pub record ClearHeader : Type 0 where

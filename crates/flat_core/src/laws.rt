@@ -1,13 +1,13 @@
 //! Laws of the flat machine, as contracts of functions that do nothing.
 
-ghost use Rattle.flat_core.specs.AccessLaw.{AccessIsKept, AccessAlwaysHolds, GuestsReachTheirOwn, LoadsGiveTheirOwn, MemoriesAreKept, CachesAreKept, CachesAreSmall, RoomIsUsed};
-ghost use Rattle.flat_core.specs.Bounds.{RowsTryFew, TimelinessIsKept, TimelyEventsRunOut, EventsRunOut, RunsEnd, EntriesAreBounded};
-ghost use Rattle.flat_core.specs.Entered.{EnteredIsKept, EnteredAreInGuest};
+ghost use Rattle.flat_core.specs.AccessLaw.{AccessIsKept, AccessAlwaysHolds, GuestsReachTheirOwn, AccessesAreOwn, MemoriesAreKept, CachesAreKept, CachesAreSmall, RoomIsUsed};
+ghost use Rattle.flat_core.specs.Bounds.{RowsTryFew, TimelyEventsRunOut, EventsRunOut, RunsEnd, EntriesAreBounded};
+ghost use Rattle.flat_core.specs.Entered.{EventsSpare, EnteredIsKept, EnteredAreInGuest};
 ghost use Rattle.flat_core.specs.Entries.{EntriesHaveTheirEvents};
 ghost use Rattle.flat_core.specs.GuestOrder.{OperationsTryTheirLists, GuestOrderIsKept, GuestOrderHolds};
 ghost use Rattle.flat_core.specs.GuestWorked.{GuestExamples};
 ghost use Rattle.flat_core.specs.Guests.{RowsSpare};
-ghost use Rattle.flat_core.specs.Laws.{RowsKeep, RowsAreBlind, MrtdIsTheDigest, RecordsAreMeasured, LawfulIsKept, EveryWorldIsLawful, LawfulPagesAreOwned, OwnersAreKept, EveryPageIsOwned, LawfulWorldsAreCounted, CountsAreKept, ExportedAreCounted, OthersStay, QuietEventsStay, NoWordsToTell, ExclusionIsKept, LocksExclude, BlindRunsPrintTheSame, BlindRunsMakeTheSameBundles, AgreeingRunsShowTheSame, RefusedCallsStay, QuietCallsKeep, RefusalsLeaveTheirReply, RowsTryTheSame, CallsHaveTheirEvents, EventsKeepLawful, MrtdsAreKept, EveryMrtdIsTheDigest, EventsMeasure, PagesHaveOneUse, GuestsKnowTheirPages, ToldAreMerged, OperationsTellBoth};
+ghost use Rattle.flat_core.specs.Laws.{RowsKeep, RowsAreBlind, MrtdIsTheDigest, RecordsAreMeasured, TimelinessIsKept, EveryWorldIsLawful, LawfulPagesAreOwned, OwnersAreKept, EveryPageIsOwned, LawfulWorldsAreCounted, CountsAreKept, ExportedAreCounted, OthersStay, QuietEventsStay, NoWordsToTell, ExclusionIsKept, LocksExclude, BlindRunsPrintTheSame, BlindRunsMakeTheSameBundles, AgreeingRunsShowTheSame, RefusedCallsStay, QuietCallsKeep, RefusalsLeaveTheirReply, RowsTryTheSame, CallsHaveTheirEvents, EventsKeepLawful, MrtdsAreKept, EveryMrtdIsTheDigest, EventsMeasure, PagesHaveOneUse, GuestsKnowTheirPages, ToldAreMerged, OperationsTellBoth};
 ghost use Rattle.flat_core.specs.Order.{OrderIsKept, TreeIsFreeInOrder, TreeIsNeverBusy};
 ghost use Rattle.flat_core.specs.PageUses.{EventsKeepUses};
 ghost use Rattle.flat_core.specs.Replies.{RepliesComeOneByOne, RepliesAreKept, RepliesAreToLines, EveryLineIsAnswered};
@@ -39,13 +39,14 @@ pub fn row_laws()
     ensures uses { EventsKeepUses }
 {}
 
-/// Every run starts in a lawful world, in which processors stand in their calls and guests as they can,
-/// each event keeps both, whatever bundles have come in, and so every schedule leads to a lawful one:
+/// Every run starts in a lawful world, in which processors stand in their calls and guests as they can
+/// and hold no more locks than a call and its guest's operation may try, each event keeps both,
+/// whatever bundles have come in, and so every schedule leads to a lawful one:
 /// who owns which page and in which list or entry of its TD that page stands, which pages a TD's entries
 /// name, whose each HKID is, and how many entries of a TD are dirty and how many are exported. An event
 /// keeps any lawful world lawful where the TD of its processor's guest runs.
 pub fn lawful_law()
-    ensures kept { LawfulIsKept }
+    ensures kept { TimelinessIsKept }
     ensures event { EventsKeepLawful }
     ensures run { EveryWorldIsLawful }
 {}
@@ -69,12 +70,14 @@ pub fn count_law()
     ensures run { ExportedAreCounted }
 {}
 
-/// The act of each call leaves a virtual processor as it is that is in guest on another logical
-/// processor. And one that is counted at its entry epoch is in guest on the logical processor with
-/// which it is associated: at the start of every run, after each event, whatever bundles have come in,
-/// and so after any schedule.
+/// The act of each call leaves a virtual processor as it is, with its registers, that is in guest on
+/// another logical processor; and so does each event of another processor, where processors stand as
+/// they do in runs, whatever bundles have come in. And one that is counted at its entry epoch is in
+/// guest on the logical processor with which it is associated: at the start of every run, after each
+/// event, whatever bundles have come in, and so after any schedule.
 pub fn guest_law()
     ensures spare { RowsSpare }
+    ensures events { EventsSpare }
     ensures kept { EnteredIsKept }
     ensures run { EnteredAreInGuest }
 {}
@@ -82,13 +85,13 @@ pub fn guest_law()
 /// No stale translation is used: what each cached translation that may still be used, and each walk
 /// under way, says of the secure EPT holds at the start of every run, after each event, whatever
 /// bundles have come in, and so after any schedule. So each access of a guest through a translation
-/// reaches a private page of its own TD, which the TD's map names at that GPA page, and a load gives
-/// the word that the guest knows from its own events.
+/// reaches a private page of its own TD, which the TD's map names at that GPA page; a load gives the
+/// word that the guest knows from its own events; and what a store puts there is what it then knows.
 pub fn access_law()
     ensures kept { AccessIsKept }
     ensures run { AccessAlwaysHolds }
     ensures own { GuestsReachTheirOwn }
-    ensures loads { LoadsGiveTheirOwn }
+    ensures accesses { AccessesAreOwn }
 {}
 
 /// A logical processor has at most 16 translations cached, no two of one GPA page of a TD: at the start
@@ -135,15 +138,12 @@ pub fn tree_lock_law()
 /// number of its own events that this bounds, whatever the other processors do: 2n + 1 where it
 /// succeeds with n locks, one where it is refused for an argument, and 10 and five for each operation
 /// that VP.ENTER asks for, of which its guest completes no more. Of VP.ENTER's six come before its
-/// guest can begin its first operation, and four from the count step on. No processor holds more locks
-/// than its call and its guest's operation may try, which each event keeps, whatever bundles have come
-/// in. At the end of a run no processor has an event left. An event brings one reply or none; after any
-/// schedule a processor has no more replies than lines, and at the end of a run it has exactly one for
-/// each.
+/// guest can begin its first operation, and four from the count step on. At the end of a run no
+/// processor has an event left. An event brings one reply or none; after any schedule a processor has
+/// no more replies than lines, and at the end of a run it has exactly one for each.
 pub fn end_laws()
     ensures lists { RowsTryTheirLists }
     ensures tries { RowsTryFew }
-    ensures kept { TimelinessIsKept }
     ensures timely { TimelyEventsRunOut }
     ensures runs_out { EventsRunOut }
     ensures runs_end { RunsEnd }
@@ -157,8 +157,9 @@ pub fn end_laws()
     ensures every_line { EveryLineIsAnswered }
 {}
 
-/// Each guest operation tries the locks of its list, and holds the first of them in their order: at the
-/// start of every run, after each event, whatever bundles have come in, and so after any schedule.
+/// Each guest operation tries the locks of its list. What a guest holds are the first of them in their
+/// order, of the operation that is due, or where one was completed of that one: at the start of every
+/// run, after each event, whatever bundles have come in, and so after any schedule.
 pub fn guest_order_law()
     ensures lists { OperationsTryTheirLists }
     ensures kept { GuestOrderIsKept }

@@ -11,8 +11,8 @@ use Rattle.flat_core.specs.Event.{start}
 use Rattle.flat_core.specs.Laws.{EveryWorldIsLawful, LocksExclude}
 use Rattle.word_rules.specs.Cells.{Shows, StartIsShown}
 use Rattle.leaf_engine.specs.Decides.{IsHand}
+use Rattle.leaf_engine.specs.Facts.{FactsBegin}
 use Rattle.leaf_engine.specs.Calls.{StartIsMet, no_memory, CallsBegin, IsStage, AreLocks}
-use Rattle.leaf_engine.proofs.Facts.{facts-begin}
 use Rattle.leaf_engine.proofs.Showing.{current-end, granted-end, not-acted-end}
 
 pub calls-begin : CallsBegin
@@ -30,8 +30,8 @@ none-below : (n : ℕ) → sum_below (λ p. 0) n ≡ 0
 none-below zero = refl
 none-below (suc n) = rw (none-below n) refl
 
-pub start-is-met : StartIsShown → EveryWorldIsLawful → LocksExclude → StartIsMet
-start-is-met shown lawful locks o task run m lp none = record {
+pub start-is-met : StartIsShown → EveryWorldIsLawful → LocksExclude → FactsBegin → StartIsMet
+start-is-met shown lawful locks begin o task run m lp none = record {
   processor = lp;
   lawful = subst (λ (x : Machine). Lawful x (start o None).world) m (lawful o None []);
   shown = subst (λ (x : Machine). Shows x no_memory.words no_memory.slots (start o None)) m (shown o None);
@@ -40,6 +40,6 @@ start-is-met shown lawful locks o task run m lp none = record {
   few_sharers = λ l. (let a : sharers (start o None).lps (start o None).lp_count l ≡ 0 = none-below (length o.calls) in
       let b : refusals (start o None).lps (start o None).lp_count l ≡ 0 = none-below (length o.calls) in omega (arith, a, b));
   nothing_to_tell = refl;
-  facts = facts-begin o;
+  facts = begin o;
   empty_hand = λ e. refl;
 }

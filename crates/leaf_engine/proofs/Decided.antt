@@ -9,7 +9,7 @@ use Rattle.leaf_engine.specs.declared.plans.Stop.{Stop}
 use Rattle.leaf_engine.specs.declared.plans.Stop.TheVariants as stop
 use Rattle.word_rules.specs.Views.{look}
 use Rattle.leaf_engine.specs.Changes.{Change}
-use Rattle.leaf_engine.specs.Trees.{Answer, Tree, Lock, Load, Test, End, Since, feed, settle, passed, changes_of}
+use Rattle.leaf_engine.specs.Trees.{Tree, Lock, Load, Test, End, Since, feed, settle, passed, changes_of}
 use Rattle.leaf_engine.specs.Decides.{Ending, Decides, Wants, need_for, told_then, HandsNext, HandsAt}
 
 pub feed-append : (t : Tree) (xs ys : List ℕ) → feed (feed t xs) ys ≡ feed t (xs ++ ys)
@@ -32,9 +32,9 @@ decides-gives n (Load v q k) [] r h = ap need_for h
 decides-gives n (Load v q k) (x ∷ xs) r h = decides-gives n (k (look v x)) xs r h
 decides-gives n (Test true out t) xs r h = decides-gives n t xs r (h.0 refl)
 decides-gives n (Test false out t) xs r h = ap need_for (h.1 refl)
-decides-gives n (End a fs cs) xs (Ok v) h = ap (λ (z : Answer). need.Verdict z.reply) (sym h.0)
+decides-gives n (End a fs cs) xs (Ok v) h = ap need.Verdict (sym h.0)
 decides-gives n (End a fs cs) xs (Err e) h = absurd h
-decides-gives n (Since a cs) xs (Ok v) h = ap (λ (z : Answer). need.Verdict z.reply) (sym h.0)
+decides-gives n (Since a cs) xs (Ok v) h = ap need.Verdict (sym h.0)
 decides-gives n (Since a cs) xs (Err e) h = absurd h
 
 -- what is left of a tree once it gave a need

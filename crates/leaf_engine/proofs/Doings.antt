@@ -185,6 +185,12 @@ settle-beside (Answered r) (h ∷ hs) lp bs = refl
 settle-beside Trying hs lp bs = refl
 settle-beside (Undoing l) hs lp bs = refl
 
+pub settle-guest : (ph : Phase Reply) (hs : List Held) (lp : Lp) → (settle ph hs lp).guest ≡ lp.guest
+settle-guest (Answered r) [] lp = refl
+settle-guest (Answered r) (h ∷ hs) lp = refl
+settle-guest Trying hs lp = refl
+settle-guest (Undoing l) hs lp = refl
+
 -- what an event of a leaf makes of what its processor caches, has noted and told
 
 not-acted : (mv : Move Reply) (e : RunEvent) (t : Tree) (k : Work) (w : World) (b : Beside) → (mv ≡ Succeeds → ⊥) → ActsBy mv e k w (answer_of t) → beside_after e t b ≡ b
@@ -277,7 +283,7 @@ act-comes (meaning.OfOperation tdr v row) c granted e t mk a =
 act-comes (meaning.OfAccess tdr v line access r gpa page) c granted e t mk a =
     let lp : Lp = c.state.lps c.me in
     came (work_of (meaning.OfAccess tdr v line access r gpa page)) c.state.world lp (lp_after c.state.world granted (Reaches tdr v access r gpa page) lp) e t a refl
-    (ap (λ (z : ℕ). lp.notes ++ reach_notes c.state.world access z gpa page) (sym mk.2)) (sym (append-nil lp.told))
+    (ap (λ (z : ℕ). lp.notes ++ reach_notes c.state.world access z gpa page) (sym mk.3)) (sym (append-nil lp.told))
 act-comes (meaning.OfWalk tdr v access gpa level page) c granted e t mk a =
     let lp : Lp = c.state.lps c.me in
     came (work_of (meaning.OfWalk tdr v access gpa level page)) c.state.world lp (lp_after c.state.world granted (Walks access gpa) lp) e t a

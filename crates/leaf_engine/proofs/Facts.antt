@@ -1,4 +1,4 @@
--- Facts of states are kept by each event of a state whose locks are sound. Of guests, where a processor stands tells them.
+-- Facts of states are kept by each event of a state whose locks are sound, and that is guarded. Of guests, where a processor stands tells them.
 use Rattle.std.proofs.Common.{◌≡◌, ◌⊎◌, inl, inr, ℕ, zero, suc, ◌+◌, ◌<◌, Bool, true, false, ◌==◌, ◌||◌, not, List, [], ◌∷◌, length, Option, Some, None, option_map, refl, ap, sym, ◌∙◌, subst, arith}
 use Rattle.std.specs.List.{list_any}
 use Rattle.std.proofs.lemmas.Bool.{eq-eqb, eqb-true}
@@ -27,6 +27,7 @@ use Rattle.flat_core.specs.Guest.{ByRow, operation_of, reach, answered, is_pendi
 use Rattle.flat_core.specs.Guests.{guest_locks, entry_locks}
 use Rattle.flat_core.specs.Inside.{InGuest, LineAt, StandsAt, AreTimely}
 use Rattle.flat_core.specs.Event.{State, Event, OfCall, OfOperation, Walks, Reaches, Leaves, start, next_event, event, after_event, world_after, lp_after, call_world, call_lp, operation_world, operation_guest, nothing_more, settled, settled_guest, settle_operation, lines_left, is_granted}
+use Rattle.flat_core.specs.AccessLaw.{IsGuarded, AccessIsKept}
 use Rattle.flat_core.specs.Laws.{with_bundles}
 use Rattle.flat_core.proofs.Tests.{by_test, put_here}
 use Rattle.flat_core.proofs.Induction.{in_runs}
@@ -36,10 +37,9 @@ use Rattle.lock_words.specs.Grips.{holds, holds_alone}
 use Rattle.lock_words.specs.Reached.{AreSound, SoundnessIsKept, SoundLocksStand}
 use Rattle.lock_words.proofs.Runs.{has-line}
 use Rattle.word_rules.specs.Spots.{runs_in}
-use Rattle.leaf_engine.specs.Besides.{Beside, entered}
 use Rattle.leaf_engine.specs.Facts.{GuestFits, GuestIsIn, IsInside, CountedAreIn, Facts, FactsBegin, EventsKeepFacts, FactsStand, OutsideNoneIsCounted}
-use Rattle.leaf_engine.proofs.Doings.{settle-beside}
-use Rattle.leaf_engine.proofs.Turning.{succeeded-beside}
+use Rattle.leaf_engine.proofs.Doings.{settle-guest}
+use Rattle.leaf_engine.proofs.Turning.{entered, succeeded-guest}
 
 -- a guest is where it runs, under the locks that VP.ENTER left it
 
@@ -80,6 +80,7 @@ module _ (o : Opening) (w : World) (me : ℕ) (c : Call) (lp : Lp) (g : Guest) (
     vp_page = at.occupied.page;
     associated = at.occupied.associated;
     running = runs _ at.occupied.running;
+    counted = at.occupied.entered ∙ ap Some (sym at.occupied.current);
   }
     where
       of : (P : List Held → Type 0) → P (guest_locks g.tdr g.vp) → P (entry_locks g.tdr g.vp) → P lp.call.held
@@ -111,7 +112,7 @@ walked-vp access gpa true (suc level) e g = refl
 walked-vp access gpa false level e g = refl
 
 guest-settled : (lp : Lp) → (settled lp).guest ≡ lp.guest
-guest-settled lp = ap (λ (b : Beside). b.guest) (settle-beside lp.call.phase lp.call.held lp [])
+guest-settled lp = settle-guest lp.call.phase lp.call.held lp
 
 -- and who is counted
 
@@ -200,7 +201,7 @@ module _ (o : Opening) (s : State) (p : ℕ) (small : (e : Event) → Due o s.wo
         | inr x ↦ (let e : Entering = x.1.0 in
             let granted : Bool = is_granted s (OfCall row Succeeds) in
             let in' : (settled (call_lp s.world granted row Succeeds lp)).guest ≡ Some (new_guest e) =
-            guest-settled (call_lp s.world granted row Succeeds lp) ∙ (ap (λ (b : Beside). b.guest) (succeeded-beside s.world row row.enters lp []) ∙ ap (λ (z : Option Entering). entered z lp.guest) x.1.1) in
+            guest-settled (call_lp s.world granted row Succeeds lp) ∙ (succeeded-guest s.world row row.enters lp ∙ ap (λ (z : Option Entering). entered z lp.guest) x.1.1) in
             subst (λ (m : Move Reply). IsInside (after_event p s (Some (OfCall row m))) v) (sym x.0) (mine (OfCall row Succeeds) v (new_guest e) below in' x.1.2))
       ]
 
@@ -247,37 +248,40 @@ module _ (o : Opening) (s : State) (p : ℕ) (small : (e : Event) → Due o s.wo
   counted-after None is = are
   counted-after (Some x) is = let due = due_event_is o s p x is in by-due x due (small x due)
 
-begins : (o : Opening) (ws : Option (List ℕ)) → Facts (start o ws)
-begins o ws = record { tdrs = λ q. ((tt, tt), tt); stand = λ q small. (tt, tt, tt); guests = λ p small. tt; counted = λ v n is. cc }
+begins : AccessIsKept → (o : Opening) (ws : Option (List ℕ)) → Facts (start o ws)
+begins guards o ws = record { tdrs = λ q. ((tt, tt), tt); stand = λ q small. (tt, tt, tt); guests = λ p small. tt; counted = λ v n is. cc; access = (guards.start o ws).access }
 
-pub facts-begin : FactsBegin
-facts-begin o = begins o None
+pub facts-begin : AccessIsKept → FactsBegin
+facts-begin guards o = begins guards o None
 
-one-event : SoundnessIsKept → SoundLocksStand → (o : Opening) (bundles : ℕ → Option Incoming) (s : State) (p : ℕ) → AreSound o s → Facts s
-    → let s' = event (with_bundles o bundles) s p in AreSound o s' × Facts s'
-one-event kept stand o bundles s p sound facts =
+one-event : SoundnessIsKept → SoundLocksStand → AccessIsKept → (o : Opening) (bundles : ℕ → Option Incoming) (s : State) (p : ℕ) → AreSound o s → IsGuarded o s → Facts s
+    → let s' = event (with_bundles o bundles) s p in AreSound o s' × IsGuarded o s' × Facts s'
+one-event kept stand guards o bundles s p sound guarded facts =
     let q : Opening = with_bundles o bundles in
     let s' : State = event q s p in
     let sound' : AreSound o s' = kept.event o bundles s p sound in
+    let guarded' : IsGuarded o s' = guards.event o bundles s p guarded in
     let locks = stand o o.bundles s' sound' in
     let small : (e : Event) → Due q s.world p (s.lps p) e → p < s.lp_count = λ e due. (let a = has-line q s.world p (s.lps p) e due in let b = sound.in_order.count in omega (arith, a, b)) in (
       sound',
+      guarded',
       record {
         tdrs = locks.tdrs;
         stand = locks.stand;
         guests = λ i below. guests-fit o s' sound'.timely i;
         counted = counted-after q s p small facts.counted (next_event q s p) refl;
+        access = guarded'.access;
       },
     )
 
-pub events-keep-facts : SoundnessIsKept → SoundLocksStand → EventsKeepFacts
-events-keep-facts kept stand = record {
-  start = λ o ws. (kept.start o ws, begins o ws);
-  event = λ o bundles s p h. one-event kept stand o bundles s p h.0 h.1;
+pub events-keep-facts : SoundnessIsKept → SoundLocksStand → AccessIsKept → EventsKeepFacts
+events-keep-facts kept stand guards = record {
+  start = λ o ws. (kept.start o ws, guards.start o ws, begins guards o ws);
+  event = λ o bundles s p h. one-event kept stand guards o bundles s p h.0 h.1 h.2;
 }
 
 pub facts-stand : EventsKeepFacts → FactsStand
-facts-stand kept o schedule = (in_runs (λ o s. AreSound o s × Facts s) kept o None schedule).1
+facts-stand kept o schedule = (in_runs (λ o s. AreSound o s × IsGuarded o s × Facts s) kept o None schedule).2
 
 pub outside-none : OutsideNoneIsCounted
 outside-none s me v facts outside nowhere = by (s.world.vps.entered v) refl

@@ -5,7 +5,7 @@ use Rattle.td_words.specs.declared.machines.Machine.{Machine}
 use Rattle.td_words.specs.declared.replies.Reply.{Reply}
 use Rattle.td_words.specs.declared.replies.Reply.TheVariants.{Done}
 use Rattle.flat_core.specs.World.{World, Made}
-use Rattle.flat_core.specs.Processor.{Held, Phase, Trying, Undoing, Answered, Progress, Entering, Lp}
+use Rattle.flat_core.specs.Processor.{Held, Phase, Trying, Undoing, Answered, Progress, Entering, new_guest, Guest, Lp}
 use Rattle.flat_core.specs.Opening.{Opening}
 use Rattle.flat_core.specs.Row.{Item, Row, Move, Attempts, Undoes, Refuses, Succeeds, Releases, Rests, next, next_in, after_move}
 use Rattle.flat_core.specs.Event.{State, OfCall, next_event, event, call_busy, call_world, call_lp, succeeded, settle, settled, is_granted}
@@ -18,7 +18,7 @@ use Rattle.leaf_engine.specs.declared.events.Stage.{Stage}
 use Rattle.leaf_engine.specs.declared.events.Stage.TheVariants as stages
 use Rattle.leaf_engine.specs.Changes.{Memory}
 use Rattle.leaf_engine.specs.Trees.{Answer, Tree, answer_of, added}
-use Rattle.leaf_engine.specs.Besides.{Beside, beside_of, entered, answered_by, beside_after, bundles_made}
+use Rattle.leaf_engine.specs.Besides.{Beside, beside_of, answered_by, beside_after, bundles_made}
 use Rattle.leaf_engine.specs.Means.{Task, Meaning, OfCall as CallOf, Instant, IsAt, work_of, AnswersAs, MeansRow}
 use Rattle.leaf_engine.specs.Turns.{Standing, last_reply}
 use Rattle.leaf_engine.specs.Shown.{move_due, locks_held, EndsRow}
@@ -63,9 +63,18 @@ due-is o task row s mem run mv mean ca st due =
 -- what a call's event makes of what its processor has besides
 
 pub succeeded-beside : (w : World) (row : Row) (en : Option Entering) (lp : Lp) (bs : List Made)
-    → beside_of (succeeded w row en lp) bs ≡ record { guest = entered en lp.guest; cached = row.cached w lp.cached; notes = lp.notes; told = lp.told; bundles = bs }
+    → beside_of (succeeded w row en lp) bs ≡ record { cached = row.cached w lp.cached; notes = lp.notes; told = lp.told; bundles = bs }
 succeeded-beside w row None lp bs = refl
 succeeded-beside w row (Some e) lp bs = refl
+
+-- and of its guest
+abbrev pub entered : Option Entering → Option Guest → Option Guest
+entered None g = g
+entered (Some e) g = Some (new_guest e)
+
+pub succeeded-guest : (w : World) (row : Row) (en : Option Entering) (lp : Lp) → (succeeded w row en lp).guest ≡ entered en lp.guest
+succeeded-guest w row None lp = refl
+succeeded-guest w row (Some e) lp = refl
 
 answered-stage : (m : Machine) (w : World) (st : Stage) (r : Reply) → IsStage m w st (Answered r) → st ≡ stages.Answered r
 answered-stage m w stages.Trying r i = absurd i
@@ -163,7 +172,6 @@ module _ (o : Opening) (place : Place) (tree : Tree) (row : Row) (s : State) (ru
       settle-beside x.call.phase x.call.held x bs'
       ∙ (succeeded-beside w row row.enters lp bs'
       ∙ (λ i. record {
-        guest = entered (sym k.enters_is i) lp.guest;
         cached = sym k.cached_is i lp.cached;
         notes = added lp.notes (sym k.notes_are i);
         told = added lp.told (sym k.tells_are i);

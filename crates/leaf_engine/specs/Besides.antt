@@ -1,35 +1,28 @@
--- What a logical processor has besides its calls, and what the turns of their leaves make of it.
-use Rattle.std.specs.Prelude.{ℕ, Option, Some, None, List, []}
+-- What a logical processor has besides its calls and its guest, and what the turns of their leaves make of it.
+use Rattle.std.specs.Prelude.{ℕ, List, []}
 use Rattle.flat_core.specs.World.{Made}
-use Rattle.flat_core.specs.Processor.{Translation, Guest, Entering, new_guest, Note, Lp}
+use Rattle.flat_core.specs.Processor.{Translation, Note, Lp}
 use Rattle.leaf_engine.specs.declared.events.Event.{Event}
 use Rattle.leaf_engine.specs.declared.events.Event.TheVariants as event
 use Rattle.leaf_engine.specs.Trees.{Answer, Tree, answer_of, added}
 
--- the virtual processor that runs on it, its cached translations, its notes, the words that its guests told, and the
--- bundles that it made
+-- its cached translations, its notes, the words that its guests told, and the bundles that it made
 pub record Beside : Type 0 where
-  pub guest : Option Guest
   pub cached : List Translation
   pub notes : List Note
   pub told : List ℕ
   pub bundles : List Made
 
 abbrev pub nothing_beside : Beside
-nothing_beside = record { guest = None; cached = []; notes = []; told = []; bundles = [] }
+nothing_beside = record { cached = []; notes = []; told = []; bundles = [] }
 
 -- of a processor of the flat machine that made these bundles
 abbrev pub beside_of : Lp → List Made → Beside
-beside_of lp bundles = record { guest = lp.guest; cached = lp.cached; notes = lp.notes; told = lp.told; bundles = bundles }
-
-abbrev pub entered : Option Entering → Option Guest → Option Guest
-entered None g = g
-entered (Some e) g = Some (new_guest e)
+beside_of lp bundles = record { cached = lp.cached; notes = lp.notes; told = lp.told; bundles = bundles }
 
 -- what an answer makes of it
 abbrev pub answered_by : Answer → Beside → Beside
 answered_by a b = record {
-  guest = entered a.enters b.guest;
   cached = a.cached b.cached;
   notes = added b.notes a.notes;
   told = added b.told a.tells;

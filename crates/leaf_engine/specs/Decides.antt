@@ -17,7 +17,7 @@ use Rattle.leaf_engine.specs.declared.plans.Act.{Act}
 use Rattle.leaf_engine.specs.declared.plans.Verdict.{Verdict}
 use Rattle.word_rules.specs.Views.{look}
 use Rattle.leaf_engine.specs.Changes.{Hand, Change, Put, PutHash, Raise, Clear, Copy, Swap}
-use Rattle.leaf_engine.specs.Trees.{Tree, Lock, Load, Test, End, Since, only}
+use Rattle.leaf_engine.specs.Trees.{Tree, Lock, Load, Test, End, Since}
 use Rattle.leaf_engine.specs.Inside.{WriteInside}
 
 -- a change as it is made in a machine of so many pages, with this hasher in hand. HKID h has slot h - 1
@@ -44,15 +44,15 @@ abbrev pub ending : (Act → List Change) → Result Verdict Stop → Result End
 ending changes (Ok v) = Ok (record { reply = v.reply; changes = changes v.act })
 ending changes (Err e) = Err e
 
--- the decision that a tree takes after these answers. What a plan decides answers a reply alone
+-- the decision that a tree takes after these answers. What else its answer has, the tree alone says
 abbrev pub Decides : ℕ → Tree → List ℕ → Result Ending Stop → Type 0
 Decides n (Lock l q m t) [] r = r ≡ Err (stop.Lock (name_of l) (address n q) m)
 Decides n (Lock l q m t) (x ∷ xs) r = Decides n t xs r
 Decides n (Load v q k) [] r = r ≡ Err (stop.Load (address n q))
 Decides n (Load v q k) (x ∷ xs) r = Decides n (k (look v x)) xs r
 Decides n (Test b out t) xs r = (b ≡ true → Decides n t xs r) × (b ≡ false → r ≡ Err (stop.Refused out))
-Decides n (End a fs cs) xs r = MatchResult r (λ v. (a ≡ only v.reply) × (v.changes ≡ fs ++ cs)) (λ e. ⊥)
-Decides n (Since a cs) xs r = MatchResult r (λ v. (a ≡ only v.reply) × (v.changes ≡ cs)) (λ e. ⊥)
+Decides n (End a fs cs) xs r = MatchResult r (λ v. (a.reply ≡ v.reply) × (v.changes ≡ fs ++ cs)) (λ e. ⊥)
+Decides n (Since a cs) xs r = MatchResult r (λ v. (a.reply ≡ v.reply) × (v.changes ≡ cs)) (λ e. ⊥)
 
 -- the need that a tree with its conditions tested comes to
 abbrev pub Wants : ℕ → Tree → Need → Type 0

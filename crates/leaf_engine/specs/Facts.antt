@@ -8,6 +8,8 @@ use Rattle.flat_core.specs.Opening.{Opening}
 use Rattle.flat_core.specs.Conditions.{is_elsewhere}
 use Rattle.flat_core.specs.Lawful.{IsAlive, IsPageOf}
 use Rattle.flat_core.specs.Event.{State, start}
+use Rattle.flat_core.specs.Access.{AccessHolds}
+use Rattle.flat_core.specs.AccessLaw.{IsGuarded}
 use Rattle.flat_core.specs.Laws.{reached, IsKept}
 use Rattle.word_rules.specs.Spots.{runs_in}
 use Rattle.lock_words.specs.Grips.{holds, holds_alone, TdrsAreHeld}
@@ -15,7 +17,7 @@ use Rattle.lock_words.specs.LockWords.{LocksStand}
 use Rattle.lock_words.specs.Reached.{AreSound}
 
 -- while a virtual processor is in guest, its VP.ENTER holds P of its TDR page and O, and P of its own page alone; its TD is
--- alive, in an op state that runs, and it is associated with the processor that it is on
+-- alive, in an op state that runs; and it is associated with the processor that it is on, and counted at its last epoch
 pub record GuestFits (w : World) (me : ℕ) (held : List Held) (t v : ℕ) : Type 0 where
   pub tdr_held : holds held (OfPage t) ≡ true
   pub op_held : holds held (OfOp t) ≡ true
@@ -24,6 +26,7 @@ pub record GuestFits (w : World) (me : ℕ) (held : List Held) (t v : ℕ) : Typ
   pub vp_page : IsPageOf w.pages t v kind.Tdvpr
   pub associated : w.vps.associated v ≡ Some me
   pub running : runs_in (w.tds.ops t) ≡ true
+  pub counted : w.vps.entered v ≡ Some (w.vps.lasts v)
 
 abbrev pub GuestIsIn : World → ℕ → List Held → Option Guest → Type 0
 GuestIsIn w me held None = Unit {0}
@@ -43,20 +46,21 @@ abbrev pub CountedAreIn : State → Type 0
 CountedAreIn s = (v epoch : ℕ) → s.world.vps.entered v ≡ Some epoch → IsInside s v
 
 -- who holds, or is being refused, a lock of a TD holds P of its TDR page; the locks that are held, or being refused, stand;
--- guests are where they run; and no other virtual processor is counted
+-- guests are where they run; no other virtual processor is counted; and no stale translation is used
 pub record Facts (s : State) : Type 0 where
   pub tdrs : TdrsAreHeld s
   pub stand : LocksStand s
   pub guests : (p : ℕ) → p < s.lp_count → GuestIsIn s.world p (s.lps p).call.held (s.lps p).guest
   pub counted : CountedAreIn s
+  pub access : AccessHolds s
 
--- So it is at the start; after each event of a state whose locks are sound, whatever bundles have come in; and in every
--- state that a run reaches.
+-- So it is at the start; after each event of a state whose locks are sound, and that is guarded, whatever bundles have come
+-- in; and in every state that a run reaches.
 abbrev pub FactsBegin : Type 0
 FactsBegin = (o : Opening) → Facts (start o None)
 
 abbrev pub EventsKeepFacts : Type 0
-EventsKeepFacts = IsKept (λ o s. AreSound o s × Facts s)
+EventsKeepFacts = IsKept (λ o s. AreSound o s × IsGuarded o s × Facts s)
 
 abbrev pub FactsStand : Type 0
 FactsStand = (o : Opening) (schedule : List ℕ) → Facts (reached o None schedule)

@@ -9,10 +9,12 @@ pub mod Items
 pub mod Turns
 pub mod Follows
 pub mod Tables
+pub mod Guests
 pub mod OwnLists
 pub mod Processors
 pub mod Merges
 pub mod Shown
 pub mod Calls
 pub mod Doing
+pub mod Standing
 pub mod Reached

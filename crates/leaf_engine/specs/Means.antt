@@ -79,11 +79,12 @@ pub record Instant : Type 0 where
 abbrev pub hold : Instant → List Held → Grip
 hold c hs = lock_grip (hs ++ c.kept)
 
--- and, at that instant, by its cached translations as well
+-- and, at that instant, by what is cached as well: its own translations, and that no other's reach a page
 abbrev pub grasp_of : Instant → List Held → Grip
 grasp_of c hs = grip_with c.state c.me (hs ++ c.kept)
 
--- what there is to do: a row, with what it makes of its processor besides its reply
+-- what there is to do: a row, with what it makes of its processor besides its reply, and what its act and the stores before
+-- it are guarded by
 pub record Work : Type 0 where
   pub items : World → List (Item Reply)
   pub act : World → World
@@ -125,7 +126,7 @@ work_of (OfOperation t v row) = record {
   enters = None;
   notes = row.notes;
   tells = row.tells;
-  grasp = hold;
+  grasp = grasp_of;
 }
 -- what an access answers: the word
 work_of (OfAccess t v line access r gpa page) =
@@ -142,6 +143,10 @@ pub record IsInGuest (c : Instant) (t v : ℕ) (g : Guest) : Type 0 where
   pub vp : g.vp ≡ v
   pub fits : GuestFits c.state.world c.me c.kept t v
 
+-- it stands at an operation of its list, which has at most 256
+abbrev pub IsAtOperation : World → (vp : ℕ) → Type 0
+IsAtOperation w v = w.vps.positions v < 256
+
 -- the page where the entry of a level stands that maps a GPA: the root, or the node above it
 abbrev pub IsEntryPage : World → (tdr level gpa page : ℕ) → Type 0
 IsEntryPage w t (suc (suc (suc zero))) gpa page = (d : ℕ) × (w.tds.controls t ≡ d ∷ page ∷ [])
@@ -150,11 +155,11 @@ IsEntryPage w t level gpa page = IsNodeOf w.pages t page kind.Ept (suc level) (n
 -- who makes it: a call's processor has no guest, an operation's has
 abbrev pub IsMaker : Meaning → Instant → Type 0
 IsMaker (OfCall row) c = ((c.state.lps c.me).guest ≡ None) × (c.kept ≡ [])
-IsMaker (OfOperation t v row) c = (g : Guest) × IsInGuest c t v g
+IsMaker (OfOperation t v row) c = (g : Guest) × IsInGuest c t v g × IsAtOperation c.state.world v
 IsMaker (OfAccess t v line access r gpa page) c =
-    (g : Guest) × IsInGuest c t v g × (line ≡ length (c.state.lps c.me).replies + 1) × (look_up (c.state.lps c.me).cached t (page_of_gpa gpa) access ≡ Some page) × IsPageOf c.state.world.pages t page kind.Reg
+    (g : Guest) × IsInGuest c t v g × IsAtOperation c.state.world v × (line ≡ length (c.state.lps c.me).replies + 1) × (look_up (c.state.lps c.me).cached t (page_of_gpa gpa) access ≡ Some page) × IsPageOf c.state.world.pages t page kind.Reg
 IsMaker (OfWalk t v access gpa level page) c = (g : Guest) × IsInGuest c t v g × (walk_level g.walk ≡ level) × IsEntryPage c.state.world t level gpa page
-IsMaker (OfExit t v out) c = (g : Guest) × IsInGuest c t v g × (c.state.world.vps.entered v ≡ Some (c.state.world.vps.lasts v))
+IsMaker (OfExit t v out) c = (g : Guest) × IsInGuest c t v g
 
 -- the premise of the law
 pub record IsAt (task : Task) (c : Instant) : Type 0 where
@@ -245,7 +250,7 @@ pub record AnswersAs (k : Work) (w : World) (a : Answer) : Type 0 where
 -- the changes are allowed, and are the act
 pub record Acts (m : Machine) (c : Instant) (k : Work) (hs : List Held) (answer : Answer) (fills changes : List Change) : Type 0 where
   pub answers : AnswersAs k c.state.world answer
-  pub fills_allowed : MayFillAll m (hold c hs) c.state.world fills
+  pub fills_allowed : MayFillAll m (k.grasp c hs) c.state.world fills
   pub respects : Respects (k.grasp c hs) c.state.world (k.act c.state.world)
   pub locks_stay : LocksStay c.state.world (k.act c.state.world) hs
   pub shows : let mem = changed_all changes (changed_all fills c.memory) in Shows m mem.words mem.slots (acted k c.state)

@@ -1,13 +1,18 @@
 -- The own lists of logical processors as one list, and what their calls are made by.
-use Rattle.std.specs.Prelude.{◌≡◌, ℕ, ◌<◌, ◌≤◌, ◌==◌, if◌then◌else◌, None, List, [], ◌∷◌, drop}
+use Rattle.std.specs.Prelude.{◌≡◌, ℕ, ◌<◌, ◌≤◌, ◌^◌, ◌==◌, if◌then◌else◌, None, List, [], ◌∷◌, length}
+use Rattle.std.specs.List.{All}
 use Rattle.td_words.specs.declared.calls.Call.{Call}
+use Rattle.td_words.specs.declared.calls.GuestOp.{GuestOp}
+use Rattle.td_words.specs.declared.calls.GuestOp.TheVariants as op
 use Rattle.flat_core.specs.Opening.{Opening}
+use Rattle.flat_core.specs.Row.{OperationRow}
+use Rattle.flat_core.specs.Guest.{ByRow, operation_of}
 use Rattle.flat_core.specs.Table.{row_of}
-use Rattle.flat_core.specs.Event.{calls_of}
 use Rattle.step_core.specs.Items.{Table}
 use Rattle.step_core.specs.declared.items.Taken.{Taken}
-use Rattle.leaf_engine.specs.Means.{Task, OfCall, MeansRow}
-use Rattle.leaf_engine.specs.OwnLists.{Piece, Unmarked, Marked, Wordless}
+use Rattle.leaf_engine.specs.Means.{Meaning, OfCall, OfOperation, OfAccess, OfWalk, OfExit, MeansRow}
+use Rattle.leaf_engine.specs.Guests.{Step, Operates, Accesses, Loads, Leaves}
+use Rattle.leaf_engine.specs.OwnLists.{Piece, Unmarked, Marked, Wordless, LeafTable}
 
 -- a piece of a processor's own list
 pub record Item : Type 0 where
@@ -48,14 +53,44 @@ pub record IsMerge (n : ℕ) (own : ℕ → List Piece) (is : List Item) : Type 
 abbrev pub no_table : Table
 no_table = record { words = λ n. 0; slots = λ k. None }
 
--- what each processor makes its calls by: a leaf made for it, whose row is the call's, and which means that row. A call that
--- enters a guest has none yet
-pub record AreLeaves (o : Opening) (leaf : ℕ → Call → Task) : Type 0 where
-  pub machine : (p : ℕ) (c : Call) → (leaf p c).place.machine ≡ o.machine
-  pub processor : (p : ℕ) (c : Call) → (leaf p c).place.lp ≡ p
-  pub row : (p : ℕ) (c : Call) → (row_of o p c).enters ≡ None → (leaf p c).meaning ≡ OfCall (row_of o p c)
-  pub means : (p : ℕ) (c : Call) → (row_of o p c).enters ≡ None → MeansRow (leaf p c)
+-- the meaning of a guest's step, where an operation goes by that row
+abbrev pub ByItsRow : Opening → (tdr vp line : ℕ) → Step → Meaning → Type 0
+ByItsRow o t v line (Operates op) k = (row : OperationRow) → operation_of o t v line op ≡ ByRow row → k ≡ OfOperation t v row
+ByItsRow o t v line (Accesses access r gpa page) k = k ≡ OfAccess t v line access r gpa page
+ByItsRow o t v line (Loads access gpa level page) k = k ≡ OfWalk t v access gpa level page
+ByItsRow o t v line (Leaves out) k = k ≡ OfExit t v out
 
--- no line of a script enters a guest
-abbrev pub LinesEnterNone : Opening → Type 0
-LinesEnterNone o = (p n : ℕ) (c : Call) (further : List Call) → drop n (calls_of o.calls p) ≡ c ∷ further → (row_of o p c).enters ≡ None
+-- an operation's registers, RTMR and address are within the limits of the grammar
+abbrev pub IsOperation : GuestOp → Type 0
+IsOperation (op.Set r x) = r < 8
+IsOperation (op.Add r s) = (r < 8) × (s < 8)
+IsOperation (op.Load r gpa) = r < 8
+IsOperation (op.Store r gpa) = r < 8
+IsOperation (op.Accept gpa) = gpa < 2 ^ 47
+IsOperation (op.Rtmr i) = i < 4
+IsOperation (op.Vmcall r) = r < 8
+
+-- and so are a step's
+abbrev pub IsStepOf : Step → Type 0
+IsStepOf (Operates op) = IsOperation op
+IsStepOf (Accesses access r gpa page) = (r < 8) × (gpa < 2 ^ 47)
+IsStepOf (Loads access gpa level page) = (level ≤ 3) × (gpa < 2 ^ 47)
+IsStepOf (Leaves out) = Unit {0}
+
+-- what each processor makes its events by: leaves made for it, whose rows are its calls', and which mean these rows; and for
+-- each step of a guest one that means it
+pub record AreLeaves (o : Opening) (leaf : ℕ → LeafTable) : Type 0 where
+  pub machine : (p : ℕ) (c : Call) → ((leaf p).call c).place.machine ≡ o.machine
+  pub processor : (p : ℕ) (c : Call) → ((leaf p).call c).place.lp ≡ p
+  pub row : (p : ℕ) (c : Call) → ((leaf p).call c).meaning ≡ OfCall (row_of o p c)
+  pub means : (p : ℕ) (c : Call) → MeansRow ((leaf p).call c)
+  pub step_machine : (p t v line : ℕ) (step : Step) → ((leaf p).step t v line step).place.machine ≡ o.machine
+  pub step_processor : (p t v line : ℕ) (step : Step) → ((leaf p).step t v line step).place.lp ≡ p
+  pub step_row : (p t v line : ℕ) (step : Step) → ByItsRow o t v line step ((leaf p).step t v line step).meaning
+  pub step_means : (p t v line : ℕ) (step : Step) → IsStepOf step → MeansRow ((leaf p).step t v line step)
+  pub codes : (p t i : ℕ) → (leaf p).codes t i ≡ o.codes t i
+
+-- A script's lists have at most 256 operations, each within the limits of the grammar.
+pub record AreCodes (o : Opening) : Type 0 where
+  pub few : (t i : ℕ) → length (o.codes t i) ≤ 256
+  pub each : (t i : ℕ) → All IsOperation (o.codes t i)

@@ -1,7 +1,8 @@
 -- Own lists: the word steps that a logical processor makes, in its order, with their answers, and which of them are events.
-use Rattle.std.specs.Prelude.{◌≡◌, ℕ, zero, suc, ◌+◌, false, Option, Some, None, List, [], ◌∷◌, ◌++◌, map}
+use Rattle.std.specs.Prelude.{◌≡◌, ℕ, zero, suc, ◌+◌, Bool, true, false, Option, Some, None, List, [], ◌∷◌, ◌++◌, map, length}
 use Rattle.td_words.specs.declared.machines.Machine.{Machine}
 use Rattle.td_words.specs.declared.calls.Call.{Call}
+use Rattle.td_words.specs.declared.calls.GuestOp.{GuestOp}
 use Rattle.td_words.specs.declared.replies.Reply.{Reply}
 use Rattle.step_core.specs.declared.items.Taken.{Taken}
 use Rattle.leaf_engine.specs.declared.needs.Need.{Need}
@@ -14,6 +15,7 @@ use Rattle.leaf_engine.specs.Changes.{Change, Clear, Copy}
 use Rattle.leaf_engine.specs.Trees.{Tree, End, Since, settle, passed}
 use Rattle.leaf_engine.specs.Besides.{Beside, nothing_beside, beside_after}
 use Rattle.leaf_engine.specs.Means.{Task}
+use Rattle.leaf_engine.specs.Guests.{WordGuest, guest_after, Step, Leaves, step_of, stepped, gives_epoch_back}
 use Rattle.leaf_engine.specs.Turns.{Standing, standing, Advances, TurnBy, IsTurn, has_ended, last_reply}
 
 -- a piece of an own list: a word step that is no event, one that is, or an event without a word step
@@ -103,41 +105,79 @@ pub record TurnsInPieces : Type 0 where
       → (ps : List Piece) × TurnIn s.stage m s ps s' result.event × (taken_in ps ≡ xs)
   pub one : (m : Machine) (s s' : Standing) (ps : List Piece) (e : Event) → TurnIn s.stage m s ps s' e → events_among ps ≡ 1
 
+-- what a logical processor makes its events by: the leaf of each call, and of each step of a guest of a TD's virtual processor
+-- at a call line; and the lists of operations, by TDR page and index
+pub record LeafTable : Type 0 where
+  pub call : Call → Task
+  pub step : (tdr vp line : ℕ) → Step → Task
+  pub codes : ℕ → ℕ → List GuestOp
+
 -- a logical processor over words: its lines from the present one on, the run of that line's leaf once its first event is
--- made, its replies, and what it has besides
+-- made, the guest that it is in, its replies, and what it has besides
 pub record WordLp : Type 0 where
   pub lines : List Call
   pub run : Option Standing
+  pub guest : Option WordGuest
   pub replies : List Reply
   pub beside : Beside
 
 abbrev pub first_lp : List Call → WordLp
-first_lp cs = record { lines = cs; run = None; replies = []; beside = nothing_beside }
+first_lp cs = record { lines = cs; run = None; guest = None; replies = []; beside = nothing_beside }
 
 abbrev pub running : Task → Option Standing → Standing
 running task None = standing (settle task.tree) stage.Trying [] None
 running task (Some s) = s
 
-abbrev pub after_turn : Call → List Call → List Reply → Beside → Standing → Option Reply → WordLp
-after_turn c cs rs b s None = record { lines = c ∷ cs; run = Some s; replies = rs; beside = b }
-after_turn c cs rs b s (Some r) = record { lines = cs; run = None; replies = rs ++ r ∷ []; beside = b }
+abbrev pub after_turn : Call → List Call → Option WordGuest → List Reply → Beside → Standing → Option Reply → WordLp
+after_turn c cs g rs b s None = record { lines = c ∷ cs; run = Some s; guest = g; replies = rs; beside = b }
+after_turn c cs g rs b s (Some r) = record { lines = cs; run = None; guest = None; replies = rs ++ r ∷ []; beside = b }
 
--- a turn of the run of a processor's present line, in pieces; what the leaf answers besides its reply comes with its act
-pub record LineTurn (leaf : Call → Task) (m : Machine) (c : Call) (cs : List Call) (run : Option Standing) (rs : List Reply) (b : Beside) (e : Event) (ps : List Piece) (after : WordLp) : Type 0 where
+-- a turn of the run of a processor's present line, in pieces; the guest that it enters, and what the leaf answers besides its
+-- reply, come with its act
+pub record LineTurn (leaf : Call → Task) (m : Machine) (c : Call) (cs : List Call) (run : Option Standing) (g : Option WordGuest) (rs : List Reply) (b : Beside) (e : Event) (ps : List Piece) (after : WordLp) : Type 0 where
   pub stands : Standing
   pub turn : TurnIn (running (leaf c) run).stage m (running (leaf c) run) ps stands e
   pub going : has_ended (running (leaf c) run).stage (running (leaf c) run).held ≡ false
-  pub after_is : after ≡ after_turn c cs rs (beside_after e stands.rest b) stands (last_reply stands.stage stands.held)
+  pub after_is : after ≡ after_turn c cs (guest_after e stands.rest g) rs (beside_after e stands.rest b) stands (last_reply stands.stage stands.held)
 
--- A processor with leaves for its calls makes this event in these pieces; none where it has no line left.
-abbrev pub LinesTurn : (Call → Task) → Machine → List Call → Option Standing → List Reply → Beside → Event → List Piece → WordLp → Type 0
-LinesTurn leaf m [] run rs b e ps after = ⊥
-LinesTurn leaf m (c ∷ cs) run rs b e ps after = LineTurn leaf m c cs run rs b e ps after
+-- its VP.ENTER is answered at the exit
+abbrev pub line_after : Step → Reply → Standing → Standing
+line_after (Leaves out) r line = record line { stage = stage.Answered r }
+line_after _ r line = line
 
-abbrev pub LpTurns : (Call → Task) → Machine → WordLp → Event → List Piece → WordLp → Type 0
-LpTurns leaf m p e ps q = LinesTurn leaf m p.lines p.run p.replies p.beside e ps q
+abbrev pub after_step : Call → List Call → (line : Standing) → WordGuest → List Reply → Beside → Step → Standing → Option Reply → WordLp
+after_step c cs line g rs b step s None = record { lines = c ∷ cs; run = Some line; guest = Some (record g { run = Some s }); replies = rs; beside = b }
+after_step c cs line g rs b step s (Some r) = record { lines = c ∷ cs; run = Some (line_after step r line); guest = stepped step r g; replies = rs; beside = b }
+
+-- the leaf of a guest's next step, and a turn of its run
+abbrev pub step_leaf : LeafTable → WordGuest → List Reply → Beside → Task
+step_leaf t g rs b = t.step g.tdr g.vp (length rs + 1) (step_of t.codes b.cached g)
+
+pub record GuestTurn (t : LeafTable) (m : Machine) (c : Call) (cs : List Call) (line : Standing) (g : WordGuest) (rs : List Reply) (b : Beside) (e : Event) (ps : List Piece) (after : WordLp) : Type 0 where
+  pub stands : Standing
+  pub turn : TurnIn (running (step_leaf t g rs b) g.run).stage m (running (step_leaf t g rs b) g.run) ps stands e
+  pub going : has_ended (running (step_leaf t g rs b) g.run).stage (running (step_leaf t g rs b) g.run).held ≡ false
+  pub after_is : after ≡ after_step c cs line g rs (beside_after e stands.rest b) (step_of t.codes b.cached g) stands (last_reply stands.stage stands.held)
+
+-- in a guest, its VP.ENTER gives E back first
+abbrev pub EnteredTurn : LeafTable → Machine → Call → List Call → (line : Standing) → WordGuest → List Reply → Beside → Event → List Piece → WordLp → Bool → Type 0
+EnteredTurn t m c cs line g rs b e ps after true = LineTurn t.call m c cs (Some line) (Some g) rs b e ps after
+EnteredTurn t m c cs line g rs b e ps after false = GuestTurn t m c cs line g rs b e ps after
+
+abbrev pub CallTurn : LeafTable → Machine → Call → List Call → Option Standing → Option WordGuest → List Reply → Beside → Event → List Piece → WordLp → Type 0
+CallTurn t m c cs run None rs b e ps after = LineTurn t.call m c cs run None rs b e ps after
+CallTurn t m c cs None (Some g) rs b e ps after = ⊥
+CallTurn t m c cs (Some line) (Some g) rs b e ps after = EnteredTurn t m c cs line g rs b e ps after (gives_epoch_back line.held)
+
+-- A processor makes this event in these pieces; none where it has no line left.
+abbrev pub LinesTurn : LeafTable → Machine → List Call → Option Standing → Option WordGuest → List Reply → Beside → Event → List Piece → WordLp → Type 0
+LinesTurn t m [] run g rs b e ps after = ⊥
+LinesTurn t m (c ∷ cs) run g rs b e ps after = CallTurn t m c cs run g rs b e ps after
+
+abbrev pub LpTurns : LeafTable → Machine → WordLp → Event → List Piece → WordLp → Type 0
+LpTurns t m p e ps q = LinesTurn t m p.lines p.run p.guest p.replies p.beside e ps q
 
 -- its own list over any number of turns, turn by turn
-abbrev pub OwnTurns : (Call → Task) → Machine → WordLp → List (List Piece) → WordLp → Type 0
-OwnTurns leaf m p [] q = p ≡ q
-OwnTurns leaf m p (ps ∷ pss) q = (e : Event) × ((r : WordLp) × LpTurns leaf m p e ps r × OwnTurns leaf m r pss q)
+abbrev pub OwnTurns : LeafTable → Machine → WordLp → List (List Piece) → WordLp → Type 0
+OwnTurns t m p [] q = p ≡ q
+OwnTurns t m p (ps ∷ pss) q = (e : Event) × ((r : WordLp) × LpTurns t m p e ps r × OwnTurns t m r pss q)

@@ -30,15 +30,17 @@ pub fn turns_show()
     pages_change_alone();
 }
 
-/// Facts of states, of who holds what, of the locks that stand, and of the guests that run, are so at
-/// the start, after each event where locks are sound, and so in every state that a run reaches. A
-/// processor outside guests then finds no virtual processor counted that isn't another's.
+/// Facts of states, of who holds what, of the locks that stand, of the guests that run, and of the
+/// translations that they use, are so at the start, after each event where locks are sound and no
+/// stale translation is used, and so in every state that a run reaches. A processor outside guests
+/// then finds no virtual processor counted that isn't another's.
 pub fn facts_stand()
     ensures begin { FactsBegin }
     ensures events { EventsKeepFacts }
     ensures reached { FactsStand }
     ensures outside { OutsideNoneIsCounted }
 {
+    flat_core::access_law();
     reached_locks_stand();
 }
 

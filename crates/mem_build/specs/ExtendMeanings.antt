@@ -215,7 +215,7 @@ module _ (m : Machine) (c : Instant) (t gpa : ℕ) (in_page : t < m.pages) (limi
   mapped-means = (
     refl,
     λ f. refl,
-    λ f. (let node : IsNodeOf v.pages t p kind.Reg 0 (number_at 0 gpa) = (la.tree.leaf t (number_at 0 gpa) x.alive (mapped-names e.state f)).1 in
+    λ f. (let node : IsNodeOf v.pages t p kind.Reg 0 (number_at 0 gpa) = (la.tree.lowest t (number_at 0 gpa) x.alive (mapped-names e.state f)).1 in
         let p_in : p < m.pages = page-in m v t p kind.Reg la node.page refl in (
           refl,
           refl,

@@ -43,7 +43,7 @@ named_at w t gpa (suc level) = no_page
 module _ (m : Machine) (w : World) (t : ℕ) (in_page : t < m.pages) (limit : m.pages ≤ 1024) (la : Lawful m w) (alive : IsAlive w.pages w.tds t) where
   -- an entry that isn't FREE names a page of its TD, at its own node
   pub named-in : (l n : ℕ) → is_free (w.tds.entries t l n).state ≡ false → (w.tds.entries t l n).page < m.pages
-  named-in zero n f = page-in m w t (w.tds.entries t 0 n).page kind.Reg la (la.tree.leaf t n alive f).1.page refl
+  named-in zero n f = page-in m w t (w.tds.entries t 0 n).page kind.Reg la (la.tree.lowest t n alive f).1.page refl
   named-in (suc l) n f = page-in m w t (w.tds.entries t (suc l) n).page kind.Ept la (la.tree.upper t l n alive f).1.page refl
 
   pub entry-small : (l n : ℕ) → (w.tds.entries t l n).page < m.pages

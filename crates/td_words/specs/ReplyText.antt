@@ -1,5 +1,5 @@
 -- How replies are printed: the status or reason, and the values that it shows, each after one space.
-use Rattle.std.specs.Prelude.{ℕ, ◌/◌, ◌%◌, List, [], ◌++◌, Option, Some, None, false, codes}
+use Rattle.std.specs.Prelude.{ℕ, ◌/◌, ◌%◌, List, [], ◌++◌, Option, Some, None, Bool, true, false, codes}
 use Rattle.std.specs.List.{flat_map}
 use Rattle.std.specs.Fmt.{decimal, digits}
 use Rattle.td_words.specs.NameText.{kind_text, life_text, op_text, entry_text, vcpu_text, access_text, counter_text, limit_text, field_text, lock_text}
@@ -62,6 +62,11 @@ abbrev pub named_text : Option ℕ → List ℕ
 named_text None = []
 named_text (Some page) = codes " " ++ decimal page
 
+-- whether cached translations are dropped
+abbrev pub stale_text : Bool → List ℕ
+stale_text true = codes "STALE "
+stale_text false = codes "FRESH "
+
 abbrev pub value_text : Value → List ℕ
 value_text value.Nothing = codes "SUCCESS"
 value_text (value.Number n) = codes "SUCCESS " ++ decimal n
@@ -70,6 +75,7 @@ value_text (value.Op s) = codes "SUCCESS " ++ op_text s
 value_text (value.Digest bytes) = codes "SUCCESS " ++ digest_text bytes
 value_text (value.Page kind owner epoch) = codes "SUCCESS " ++ (kind_text kind ++ (codes " " ++ (decimal owner ++ (codes " " ++ decimal epoch))))
 value_text (value.Entry state page) = codes "SUCCESS " ++ (entry_text state ++ named_text page)
+value_text (value.Entered stale index position root) = codes "SUCCESS " ++ (stale_text stale ++ (decimal index ++ (codes " " ++ (decimal position ++ (codes " " ++ decimal root)))))
 
 abbrev pub outcome_text : Outcome → List ℕ
 outcome_text outcome.Stop = codes "STOP"

@@ -23,6 +23,16 @@ pub enum Value {
         state: EntryState,
         page: Option<u16>,
     },
+    /// What the act of VP.ENTER tells the logical processor that makes it: whether the translations
+    /// that it has cached for the TD are dropped, the virtual processor's index, its position in its list
+    /// of operations, and the root page of the TD's secure EPT. No line of a script is answered with
+    /// it, since VP.ENTER is answered at the exit.
+    Entered {
+        stale: bool,
+        index: u64,
+        position: u64,
+        root: u16,
+    },
 }
 
 /// Why a virtual processor came back from the guest.

@@ -90,6 +90,18 @@ impl fmt::Display for Value {
                 state,
                 page: Some(page),
             } => write!(f, "SUCCESS {state} {page}"),
+            Value::Entered {
+                stale: true,
+                index,
+                position,
+                root,
+            } => write!(f, "SUCCESS STALE {index} {position} {root}"),
+            Value::Entered {
+                stale: false,
+                index,
+                position,
+                root,
+            } => write!(f, "SUCCESS FRESH {index} {position} {root}"),
         }
     }
 }

@@ -62,8 +62,7 @@ count-writes g t d true false e tdr o = inr (inl (tdr, (o, tt)))
 count-writes g t d false false e tdr o = inr (inl (tdr, (o, tt)))
 count-writes g t d current true e tdr o = cc
 
-module _ (m : Machine) (c : Instant) (t v : ℕ) (out : Outcome) (la : Lawful m c.state.world) (sh : Shows m c.memory.words c.memory.slots c.state) (fits : GuestFits c.state.world c.me c.kept t v)
-    (counted : c.state.world.vps.entered v ≡ Some (c.state.world.vps.lasts v)) where
+module _ (m : Machine) (c : Instant) (t v : ℕ) (out : Outcome) (la : Lawful m c.state.world) (sh : Shows m c.memory.words c.memory.slots c.state) (fits : GuestFits c.state.world c.me c.kept t v) where
   abbrev w : World
   w = c.state.world
 
@@ -87,7 +86,7 @@ module _ (m : Machine) (c : Instant) (t v : ℕ) (out : Outcome) (la : Lawful m 
 
   -- it is counted, so the count isn't 0
   one : entered_of_parity (e % 2) w.vps.entered (w.tds.vps t) ≡ entered_of_parity (e % 2) (leave_guest v w).vps.entered (w.tds.vps t) + 1
-  one = one-there m c.state c.memory t v z.tdcs z.root e sh la fits.alive z.list z.tdcs_page fits.vp_page z.tdcs_in counted
+  one = one-there m c.state c.memory t v z.tdcs z.root e sh la fits.alive z.list z.tdcs_page fits.vp_page z.tdcs_in fits.counted
 
   not-empty : is_empty w t (e % 2) ≡ false
   not-empty =
@@ -111,7 +110,7 @@ module _ (m : Machine) (c : Instant) (t v : ℕ) (out : Outcome) (la : Lawful m 
             fills_allowed = tt;
             respects = (effects-respect (hold c []) w).exit m t v la fits.vp_page.owner fits.tdr_held;
             locks_stay = tt;
-            shows = left m c.state c.memory t v z.tdcs z.root e sh la fits.alive z.list z.tdcs_page fits.vp_page z.tdcs_in counted;
+            shows = left m c.state c.memory t v z.tdcs z.root e sh la fits.alive z.list z.tdcs_page fits.vp_page z.tdcs_in fits.counted;
           },
           (((z.tdcs_in, omega (arith, parity)), count-written), tt),
         ),
@@ -125,4 +124,4 @@ module _ (m : Machine) (c : Instant) (t v : ℕ) (out : Outcome) (la : Lawful m 
       (subst (λ (p : ℕ). Means m c k [] (exit_at v out p) []) (sym told) at-means)
 
 pub exit-means : ExitMeans
-exit-means p t v out = record { means = λ c at. exit-at p.machine c t v out at.lawful at.shown at.maker.1.fits at.maker.2 }
+exit-means p t v out = record { means = λ c at. exit-at p.machine c t v out at.lawful at.shown at.maker.1.fits }

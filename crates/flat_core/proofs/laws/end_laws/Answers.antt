@@ -1,5 +1,5 @@
 use Rattle.flat_core.proofs.Counts.{calls_have_their_events}
-use Rattle.flat_core.proofs.Ends.{timeliness_kept, timely_run_out, runs_out, runs_end, entries_bounded}
+use Rattle.flat_core.proofs.Ends.{timely_run_out, runs_out, runs_end, entries_bounded}
 use Rattle.flat_core.proofs.Entries.{entries_have_their_events}
 use Rattle.flat_core.proofs.Tries.{rows_try_lists, row_tries, rows_try_the_same}
 use Rattle.flat_core.proofs.Replies.{replies_one_by_one, replies_kept, replies_to_lines, every_line_answered}
@@ -10,9 +10,6 @@ returns-clause-lists c = rows_try_lists
 
 pub returns-clause-tries : goal.returns-clause-tries
 returns-clause-tries c = row_tries
-
-pub returns-clause-kept : goal.returns-clause-kept
-returns-clause-kept c = timeliness_kept
 
 pub returns-clause-timely : goal.returns-clause-timely
 returns-clause-timely c = timely_run_out

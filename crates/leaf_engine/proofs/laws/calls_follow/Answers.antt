@@ -5,7 +5,7 @@ use Rattle.leaf_engine.proofs.laws.calls_follow.Goals as goal
 
 pub returns : goal.returns
 returns c = record {
-  start = start-is-met c.start_is_shown.ensures c.lawful_law.ensures.run c.lock_law.ensures.run;
+  start = start-is-met c.start_is_shown.ensures c.lawful_law.ensures.run c.lock_law.ensures.run c.facts_stand.ensures.begin;
   reached = reached-is-met (record {
     lawful = c.lawful_law.ensures.run;
     exclude = c.lock_law.ensures.run;
