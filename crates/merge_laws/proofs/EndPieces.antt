@@ -40,9 +40,9 @@ use Rattle.merge_laws.proofs.Stores.{Due, last_at, or_else, laid-none, stores_of
 use Rattle.merge_laws.proofs.Swaps.{SwapDue, last_put, swaps_of}
 use Rattle.merge_laws.proofs.Owing.{Owed, stores_in, swaps_in, AreOwed, all_owed, stores-are, swaps-are}
 use Rattle.merge_laws.proofs.SlotSteps.{slot-shown}
-use Rattle.merge_laws.proofs.Holding.{lock_grip_of, part-fills, turned-round}
+use Rattle.merge_laws.proofs.Holding.{lock_grip_of, turned-round}
 use Rattle.merge_laws.proofs.Standing.{Trees, Does, task_for, moment, act_grip, Leads, TurnsTo, Laws, on_table, Position, back, Rest}
-use Rattle.merge_laws.proofs.Others.{at-moment, hold-is, act-part, locks-in-act}
+use Rattle.merge_laws.proofs.Others.{at-moment, hold-is, act-part}
 use Rattle.merge_laws.proofs.Own.{none-due}
 use Rattle.merge_laws.proofs.LockSteps.{Moved}
 use Rattle.merge_laws.proofs.Acts.{act-step}
@@ -96,8 +96,8 @@ end-may o trees s mem t pos p d now reply run run' e a st en =
     act-is : (work_of d.meaning).grasp inst hs ≡ act
     act-is = ap ((work_of d.meaning).grasp inst) held
 
-    fills-may : (fs : List Change) → MayFillAll m (hold inst hs) s.world fs → MayFillAll m act s.world fs
-    fills-may fs may = part-fills m mine act s.world fs (locks-in-act o s mem p d a.here) (subst (λ (g : Grip). MayFillAll m g s.world fs) own-is may)
+    fills-may : (fs : List Change) → MayFillAll m ((work_of d.meaning).grasp inst hs) s.world fs → MayFillAll m act s.world fs
+    fills-may fs may = subst (λ (g : Grip). MayFillAll m g s.world fs) act-is may
 
     by : (x : Tree) → Comes m inst (work_of task.meaning) hs x (next ((work_of task.meaning).items s.world) (length hs)) → EndMay m act mine s.world after mem x
     by (Lock l q mode x) co = tt

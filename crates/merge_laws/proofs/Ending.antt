@@ -34,7 +34,7 @@ use Rattle.leaf_engine.proofs.Following.{leaves-follow-rows}
 use Rattle.merge_laws.proofs.Stores.{Due, last_at, later, or_else, stores_of, all_stores, EachDue, OwesAt, FillsAt, last-each, last-append, or-later, changed-is, one-is, filled-stores, looks-owed, looks-filled}
 use Rattle.merge_laws.proofs.Swaps.{SwapDue, last_put, swaps_of, all_swaps, SwapsMay, swaps-same, one-slot, changed-slots, owed-swaps}
 use Rattle.merge_laws.proofs.Keeping.{Keeps, keeps-each, keeps-same, owed-keeps}
-use Rattle.merge_laws.proofs.Holding.{lock_grip_of, IsPart, part-meets, part-fills, part-owes, turned-round}
+use Rattle.merge_laws.proofs.Holding.{lock_grip_of, IsPart, part-meets, part-owes, turned-round}
 use Rattle.merge_laws.proofs.Standing.{RunsAt, Trees, Does, task_for, moment, act_grip, DoesHere, with_hasher, Laws, Known, on_table, Position, back, Stands}
 use Rattle.merge_laws.proofs.Others.{at-moment, hold-is, locks-in-act, due-move}
 use Rattle.merge_laws.proofs.Own.{moves-refused, world-stays, world-acted}
@@ -383,13 +383,13 @@ module _ (ls : Laws) (o : Opening) (trees : Trees) (s : State) (mem : Memory) (t
       → HasPut (act_puts cs (changed_all fs mem)) → (one : ItsAct) × (one.owes ≡ act_owes cs (changed_all fs mem)) × (one.swaps ≡ act_swaps cs (changed_all fs mem))
   end-acts r fs [] h q an ac may hf same slots =
       let rs : Respects act s.world (work.act s.world) = subst (λ (g : Grip). Respects g s.world (work.act s.world)) act-is ac.respects in
-      let fills : MayFillAll machine act s.world fs = part-fills machine own_grip act s.world fs locks-of-act (subst (λ (g : Grip). MayFillAll machine g s.world fs) own-is ac.fills_allowed) in
+      let fills : MayFillAll machine act s.world fs = subst (λ (g : Grip). MayFillAll machine g s.world fs) act-is ac.fills_allowed in
       succeeded-act fs [] [] [] [] [] h (ap (λ (z : Answer). z.reply) an ∙ q) (subst (λ (z : Answer). AnswersAs work s.world z) (sym an) ac.answers) ac.shows ac.locks_stay rs
       (λ xs v x apart in_x reads. fill-looks ls machine xs act s.world mem fs x v apart in_x fills reads) (λ x. refl) fills tt tt hf same slots
       (λ k. ap (λ (f : ℕ → Hand). f k) (fills-rest machine act s.world fs mem fills).0) (λ k x e. cc) tt
   end-acts r fs (c1 ∷ cs) h q an ac may hf same slots =
       let rs : Respects act s.world (work.act s.world) = subst (λ (g : Grip). Respects g s.world (work.act s.world)) act-is ac.respects in
-      let fills : MayFillAll machine act s.world fs = part-fills machine own_grip act s.world fs locks-of-act (subst (λ (g : Grip). MayFillAll machine g s.world fs) own-is ac.fills_allowed) in
+      let fills : MayFillAll machine act s.world fs = subst (λ (g : Grip). MayFillAll machine g s.world fs) act-is ac.fills_allowed in
       let mem1 : Memory = changed_all fs mem in
       let first' : MayAct machine act s.world mem1 c1 = subst (λ (g : Grip). MayAct machine g s.world mem1 c1) act-is may.0 in
       let owes' : MayOweAll machine own_grip (work.act s.world) (changed c1 mem1) cs = subst (λ (g : Grip). MayOweAll machine g (work.act s.world) (changed c1 mem1) cs) own-is may.1 in

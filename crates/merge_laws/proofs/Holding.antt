@@ -29,7 +29,7 @@ use Rattle.lock_words.proofs.Shown.{tdcs-page}
 use Rattle.lock_words.proofs.Anchored.{lock_spot}
 use Rattle.leaf_engine.specs.Trees.{Tree, Lock, Load, Test, End, Since, has_acted}
 use Rattle.leaf_engine.specs.Changes.{Memory, Change, Put, PutHash, Raise, Clear, Copy, Swap, changed}
-use Rattle.leaf_engine.specs.Means.{Meaning, OfCall, OfOperation, OfAccess, OfWalk, OfExit, Instant, Work, work_of, hold, MayFillAll, MayOweAll, Loads, Means}
+use Rattle.leaf_engine.specs.Means.{Meaning, OfCall, OfOperation, OfAccess, OfWalk, OfExit, Instant, Work, work_of, hold, MayOweAll, Loads, Means}
 use Rattle.leaf_engine.specs.Follows.{granted, Current, NotActed}
 
 -- the grip that locks alone give
@@ -138,23 +138,29 @@ with-part s p hs older = record { has = has; sole = sole; clear = λ x y. y }
 -- what a leaf acts under is part of what its processor has
 pub grasp-part : (k : Meaning) (c : Instant) (hs : List Held) → IsOlder (hs ++ c.kept) (locks_at (c.state.lps c.me)) → IsPart ((work_of k).grasp c hs) (grip_of c.state c.me)
 grasp-part (OfCall row) c hs older = older-part c.state c.me (hs ++ c.kept) older
-grasp-part (OfOperation t v row) c hs older = older-part c.state c.me (hs ++ c.kept) older
+grasp-part (OfOperation t v row) c hs older = with-part c.state c.me (hs ++ c.kept) older
 grasp-part (OfAccess t v line access r gpa page) c hs older = with-part c.state c.me (hs ++ c.kept) older
 grasp-part (OfWalk t v access gpa level page) c hs older = older-part c.state c.me (hs ++ c.kept) older
 grasp-part (OfExit t v out) c hs older = older-part c.state c.me (hs ++ c.kept) older
 
 -- and has what its locks give
 pub hold-part : (k : Meaning) (c : Instant) (hs : List Held) → IsPart (hold c hs) ((work_of k).grasp c hs)
-hold-part (OfCall row) c hs = record { has = λ x y. y; sole = λ x y. y; clear = λ x y. y }
-hold-part (OfOperation t v row) c hs = record { has = λ x y. y; sole = λ x y. y; clear = λ x y. y }
-hold-part (OfWalk t v access gpa level page) c hs = record { has = λ x y. y; sole = λ x y. y; clear = λ x y. y }
-hold-part (OfExit t v out) c hs = record { has = λ x y. y; sole = λ x y. y; clear = λ x y. y }
-hold-part (OfAccess t v line access r gpa page) c hs = record { has = has; sole = λ x y. y; clear = λ x y. cc }
+hold-part k c hs = by k
   where
-    has : (x : Guard) → lock_has (hs ++ c.kept) x ≡ true → (grip_with c.state c.me (hs ++ c.kept)).has x ≡ true
-    has (Locked l) y = y
-    has (Reached q) y = cc
-    has (Written q) y = cc
+    more : IsPart (lock_grip (hs ++ c.kept)) (grip_with c.state c.me (hs ++ c.kept))
+    more = record { has = has; sole = λ x y. y; clear = λ x y. cc }
+      where
+        has : (x : Guard) → lock_has (hs ++ c.kept) x ≡ true → (grip_with c.state c.me (hs ++ c.kept)).has x ≡ true
+        has (Locked l) y = y
+        has (Reached q) y = cc
+        has (Written q) y = cc
+
+    by : (k : Meaning) → IsPart (hold c hs) ((work_of k).grasp c hs)
+    by (OfCall row) = same-part (hold c hs)
+    by (OfOperation t v row) = more
+    by (OfAccess t v line access r gpa page) = more
+    by (OfWalk t v access gpa level page) = same-part (hold c hs)
+    by (OfExit t v out) = same-part (hold c hs)
 
 -- more of a grip meets what less does
 pub part-meets : (g all : Grip) (at : Role → Guard) (r : Rule) → IsPart g all → Meets g at r → Meets all at r
@@ -170,16 +176,6 @@ part-meets g all at (ws ∷ r) u (inl m) = inl (each ws m)
     each [] m = tt
     each (w ∷ ws) m = (one w m.0, each ws m.1)
 part-meets g all at (ws ∷ r) u (inr m) = inr (part-meets g all at r u m)
-
-pub part-fills : (m : Machine) (g all : Grip) (w : World) (cs : List Change) → IsPart g all → MayFillAll m g w cs → MayFillAll m all w cs
-part-fills m g all w [] u may = tt
-part-fills m g all w (Put q x ∷ cs) u may = ((may.0.0, part-meets g all _ _ u may.0.1), part-fills m g all w cs u may.1)
-part-fills m g all w (PutHash q x ∷ cs) u may = absurd may.0
-part-fills m g all w (Raise q more ∷ cs) u may = absurd may.0
-part-fills m g all w (Clear p ∷ cs) u may = ((may.0.0, λ i l. part-meets g all _ _ u (may.0.1 i l)), part-fills m g all w cs u may.1)
-part-fills m g all w (Copy p q ∷ cs) u may =
-    ((may.0.0, may.0.1, may.0.2, λ i l. part-meets g all _ _ u (may.0.3 i l), λ i l. part-meets g all _ _ u (may.0.4 i l)), part-fills m g all w cs u may.1)
-part-fills m g all w (Swap h made ∷ cs) u may = absurd may.0
 
 pub part-owes : (m : Machine) (g all : Grip) (w : World) (mem : Memory) (cs : List Change) → IsPart g all → MayOweAll m g w mem cs → MayOweAll m all w mem cs
 part-owes m g all w mem [] u may = tt

@@ -17,11 +17,13 @@ use Rattle.step_core.specs.Items.{Table}
 use Rattle.leaf_engine.specs.declared.events.Event.{Event as RunEvent}
 use Rattle.leaf_engine.specs.declared.events.Event.TheVariants as events
 use Rattle.leaf_engine.specs.declared.events.RunTurn.{RunTurn}
-use Rattle.leaf_engine.specs.Trees.{added, Tree}
+use Rattle.leaf_engine.specs.Trees.{Answer, answer_of, added, Tree}
+use Rattle.leaf_engine.specs.Guests.{WordGuest, guest_after, guest_entered, entered_at, or_else}
+use Rattle.leaf_engine.specs.Means.{Work, work_of, OfCall as CallOf}
 use Rattle.leaf_engine.specs.Besides.{Beside, beside_of, beside_after, bundles_made}
 use Rattle.leaf_engine.specs.Turns.{Standing, last_reply}
 use Rattle.leaf_engine.specs.Calls.{IsLine, IsCallAt, Then, After}
-use Rattle.leaf_engine.specs.Doing.{LeafAfter}
+use Rattle.leaf_engine.specs.Doing.{IsNoAct, ActsBy, LeafAfter}
 use Rattle.leaf_engine.specs.OwnLists.{WordLp, after_turn}
 use Rattle.leaf_engine.proofs.Calling.{next-is, is-next, event-is, lp-now}
 use Rattle.leaf_engine.proofs.Turning.{leaf-after, leaf-after-memory}
@@ -59,7 +61,7 @@ one-more rs r = omega (arith, length-append rs (r ∷ []))
 
 stands-after : (o : Opening) (trees : Trees) (p : ℕ) (c : Call) (cs : List Call) (s s' : State) (u : Table) (run' : Standing) (h : Option Measure) (result : RunTurn) → (row_of o p c).enters ≡ None → lines_left o p (s.lps p) ≡ c ∷ cs
     → (after : After o (leaf_for o trees p c) (row_of o p c) s s' u (with_hasher run' h) result) → NoneOnWay run' → (rs : List Reply) → (s.lps p).replies ≡ rs → (had : Beside) → beside_of (s.lps p) had.bundles ≡ had
-    → StandsAt o trees p s'.world after.mem.words (s'.lps p) (after_turn c cs rs (beside_after result.event run'.rest had) run' result.reply)
+    → StandsAt o trees p s'.world after.mem.words (s'.lps p) (after_turn c cs None rs (beside_after result.event run'.rest had) run' result.reply)
 stands-after o trees p c cs s s' u run' h result enters lines after none rs same had same-had = by result.reply after.then_
   where
     on-call : IsCallAt o (leaf_for o trees p c) (row_of o p c) s'.world after.mem.words (s'.lps p) (with_hasher run' h) → OnCall o trees p c s'.world after.mem.words (s'.lps p) run'
@@ -85,7 +87,7 @@ stands-after o trees p c cs s s' u run' h result enters lines after none rs same
     besides = subst (λ (z : Beside). let x = beside_after result.event run'.rest z in beside_of (s'.lps p) x.bundles ≡ x) same-had (after.beside had.bundles)
 
     by : (reply : Option Reply) → Then o (leaf_for o trees p c) (row_of o p c) lp s'.world after.mem (s'.lps p) (with_hasher run' h) reply
-        → StandsAt o trees p s'.world after.mem.words (s'.lps p) (after_turn c cs rs has run' reply)
+        → StandsAt o trees p s'.world after.mem.words (s'.lps p) (after_turn c cs None rs has run' reply)
     by None (inl g) = record {
       lines = ap (λ (z : List Reply). drop (length z) (calls_of o.calls p)) g.replies_are ∙ lines;
       replies = g.replies_are ∙ same;
@@ -116,13 +118,32 @@ made-beside (events.Walk level) t b = refl
 made-beside (events.Word at) t b = refl
 made-beside (events.Count parity) t b = refl
 
-turned-beside : (c : Call) (cs : List Call) (rs : List Reply) (b : Beside) (run : Standing) (reply : Option Reply) → (after_turn c cs rs b run reply).beside ≡ b
-turned-beside c cs rs b run None = refl
-turned-beside c cs rs b run (Some r) = refl
+turned-beside : (c : Call) (cs : List Call) (g : Option WordGuest) (rs : List Reply) (b : Beside) (run : Standing) (reply : Option Reply) → (after_turn c cs g rs b run reply).beside ≡ b
+turned-beside c cs g rs b run None = refl
+turned-beside c cs g rs b run (Some r) = refl
 
-in-hand-after : (c : Call) (cs : List Call) (rs : List Reply) (b : Beside) (run' : Standing) (reply : Option Reply) (h : Option Measure) → run'.hasher ≡ h → HasInHand (after_turn c cs rs b run' reply).run h
-in-hand-after c cs rs b run' None h e = e
-in-hand-after c cs rs b run' (Some r) h e = tt
+in-hand-after : (c : Call) (cs : List Call) (g : Option WordGuest) (rs : List Reply) (b : Beside) (run' : Standing) (reply : Option Reply) (h : Option Measure) → run'.hasher ≡ h → HasInHand (after_turn c cs g rs b run' reply).run h
+in-hand-after c cs g rs b run' None h e = e
+in-hand-after c cs g rs b run' (Some r) h e = tt
+
+-- where a row enters no guest, nor does its leaf
+no-guest-after : (e : RunEvent) (t : Tree) (g : Option WordGuest) → IsNoAct e → guest_after e t g ≡ g
+no-guest-after events.Act t g n = absurd n
+no-guest-after (events.Try name mode granted) t g n = refl
+no-guest-after (events.Undo name) t g n = refl
+no-guest-after (events.Free name) t g n = refl
+no-guest-after (events.Walk level) t g n = refl
+no-guest-after (events.Word at) t g n = refl
+no-guest-after (events.Count parity) t g n = refl
+
+none-entered : (mv : Move Reply) (e : RunEvent) (k : Work) (w : World) (t : Tree) → ActsBy mv e k w (answer_of t) → k.enters ≡ None → guest_after e t None ≡ None
+none-entered (Attempts l m) e k w t a none = no-guest-after e t None a
+none-entered (Undoes l) e k w t a none = no-guest-after e t None a
+none-entered (Releases h) e k w t a none = no-guest-after e t None a
+none-entered Rests e k w t a none = no-guest-after e t None a
+none-entered (Refuses r) e k w t a none = ap (λ (z : RunEvent). guest_after z t None) a.0 ∙ ap (λ (z : Answer). or_else (guest_entered z) None) a.1
+none-entered Succeeds e k w t a none =
+    ap (λ (z : RunEvent). guest_after z t None) a.0 ∙ ap (λ (z : Option Entering). or_else (entered_at z (answer_of t).reply) None) (a.1.enters_is ∙ none)
 
 -- a call
 
@@ -151,7 +172,7 @@ module _ (o : Opening) (trees : Trees) (s : State) (p : ℕ) (c : Call) (cs : Li
 
   pub call-here : DoesHere o s p its_call
   call-here = record {
-    means = are.means p c enters-none;
+    means = are.means p c;
     doing = λ mem. record {
       next = is-next o s p row (next_in (row.items s.world) lp.call.phase lp.call.held) (subst (λ (n : ℕ). p < n) (sym known.count) i) due;
       single = inl tt;
@@ -166,7 +187,7 @@ module _ (o : Opening) (trees : Trees) (s : State) (p : ℕ) (c : Call) (cs : Li
   result e run' = record { event = e; reply = last_reply run'.stage run'.held }
 
   after-of : (u : Table) (run' : Standing) (h : Option Measure) (e : RunEvent) → LeafAfter o (task_for o p its_call) s lp.call u (with_hasher run' h) e → After o (leaf_for o trees p c) row s (event o s p) u (with_hasher run' h) (result e run')
-  after-of u run' h e la = leaf-after o (record { machine = o.machine; lp = p }) (trees p c) row s (with_hasher run' h) (result e run') line guest refl u due la
+  after-of u run' h e la = leaf-after o (record { machine = o.machine; lp = p }) (trees.call p c) row s (with_hasher run' h) (result e run') line guest refl u due la
 
   pub call-leads : lp.replies ≡ rs → beside_of lp b.bundles ≡ b → Leads o trees s p its_call
   unfolding after-of
@@ -176,14 +197,16 @@ module _ (o : Opening) (trees : Trees) (s : State) (p : ℕ) (c : Call) (cs : Li
     within_run = λ run h e. e;
     turns = λ run run' e tp tn going. record { stands = run'; turn = tn; going = going; after_is = refl };
     after_stands = λ u run' h e la none.
-        subst (λ (m : Memory). StandsAt o trees p (event o s p).world m.words ((event o s p).lps p) (its_call.after e run')) (leaf-after-memory o (record { machine = o.machine; lp = p }) (trees p c) row s (with_hasher run' h) (result e run') line guest refl u due la)
-        (stands-after o trees p c cs s (event o s p) u run' h (result e run') enters-none lines (after-of u run' h e la) none rs replies b beside);
+        subst (λ (m : Memory). StandsAt o trees p (event o s p).world m.words ((event o s p).lps p) (its_call.after e run')) (leaf-after-memory o (record { machine = o.machine; lp = p }) (trees.call p c) row s (with_hasher run' h) (result e run') line guest refl u due la)
+        (subst (λ (g : Option WordGuest). StandsAt o trees p (event o s p).world (after-of u run' h e la).mem.words ((event o s p).lps p) (after_turn c cs g rs (beside_after e run'.rest b) run' (last_reply run'.stage run'.held)))
+        (sym (none-entered la.move e (work_of (CallOf row)) s.world run'.rest la.acts enters-none))
+        (stands-after o trees p c cs s (event o s p) u run' h (result e run') enters-none lines (after-of u run' h e la) none rs replies b beside));
     after_grows = λ u run' h e la. record {
       more = bundles_made e run'.rest;
       all = (after-of u run' h e la).bundles;
-      own = ap (λ (z : Beside). z.bundles) (turned-beside c cs rs (beside_after e run'.rest b) run' (last_reply run'.stage run'.held)) ∙ made-beside e run'.rest b;
+      own = ap (λ (z : Beside). z.bundles) (turned-beside c cs (guest_after e run'.rest None) rs (beside_after e run'.rest b) run' (last_reply run'.stage run'.held)) ∙ made-beside e run'.rest b;
     };
-    after_run = λ e run' h f. in-hand-after c cs rs (beside_after e run'.rest b) run' (last_reply run'.stage run'.held) h f;
+    after_run = λ e run' h f. in-hand-after c cs (guest_after e run'.rest None) rs (beside_after e run'.rest b) run' (last_reply run'.stage run'.held) h f;
     locks_stay = λ mv act next. act-locks o s p row mv next.next enters-none act;
   }
 
@@ -200,11 +223,15 @@ does-leads o trees s p d are known i is =
 pub stands-stay : (o : Opening) (trees : Trees) (s : State) (p : ℕ) (at : WordLp) (w' : World) (words words' : WordPlace → ℕ) → AreTrees o trees → Known o s → p < length o.calls
     → ((d : Does) (run : Standing) → DoesHere o s p d → RunsAt (task_for o p d) d.far s.world words run → RunsAt (task_for o p d) d.far w' words' run)
     → StandsAt o trees p s.world words (s.lps p) at → StandsAt o trees p w' words' (s.lps p) at
-stands-stay o trees s p at w' words words' are known i stays st = record { lines = st.lines; replies = st.replies; beside = st.beside; run = by at.lines at.run st.lines st.run }
+stands-stay o trees s p at w' words words' are known i stays st = record { lines = st.lines; replies = st.replies; beside = st.beside; run = by at.lines at.run at.guest st.lines st.run }
   where
-    by : (cs : List Call) (r : Option Standing) → lines_left o p (s.lps p) ≡ cs → RunAt o trees p s.world words (s.lps p) cs r → RunAt o trees p w' words' (s.lps p) cs r
-    by cs None l a = a
-    by [] (Some r) l a = absurd a
-    by (c ∷ cs) (Some r) l a =
+    by : (cs : List Call) (r : Option Standing) (g : Option WordGuest) → lines_left o p (s.lps p) ≡ cs → RunAt o trees p s.world words (s.lps p) cs r g → RunAt o trees p w' words' (s.lps p) cs r g
+    by cs None None l a = a
+    by [] None (Some g) l a = absurd a
+    by (c ∷ cs) None (Some g) l a = absurd a
+    by [] (Some r) None l a = absurd a
+    by [] (Some r) (Some g) l a = absurd a
+    by (c ∷ cs) (Some r) (Some g) l a = absurd a
+    by (c ∷ cs) (Some r) None l a =
         let d : Does = call_does o trees p (s.lps p) c cs at.replies at.beside in
         record { guest = a.guest; runs = stays d r (call-here o trees s p c cs at.replies at.beside are known i l a.guest) a.runs }

@@ -35,7 +35,7 @@ use Rattle.merge_laws.proofs.Virtual.{table_of, holds-memory}
 use Rattle.merge_laws.proofs.Stores.{Due, last_at, or_else, EachDue, FillsAt, last-each}
 use Rattle.merge_laws.proofs.Filling.{Todo, Puts, Takes, all_todos, EachTodo, dues_of, fills-todo, dues-same}
 use Rattle.merge_laws.proofs.Keeping.{keeps-same}
-use Rattle.merge_laws.proofs.Holding.{bare, locks_at, lock_grip_of, IsOlder, whole, IsPart, parts-apart, older-part, locks-part, grasp-part, hold-part, part-fills, lock-stays, EachTold, told-reads, told-older, still-current}
+use Rattle.merge_laws.proofs.Holding.{bare, locks_at, lock_grip_of, IsOlder, whole, IsPart, parts-apart, older-part, locks-part, grasp-part, hold-part, lock-stays, EachTold, told-reads, told-older, still-current}
 use Rattle.merge_laws.proofs.Standing.{Laws, Trees, AreTrees, Known, HandOf, Does, task_for, moment, act_grip, RunsAt, DoesHere, on_table, Fill, Position, seen_by, back, AreLeft, AreLeftLoaded, FillHolds, Pending, Holds, Stands}
 use Rattle.merge_laws.proofs.Lines.{does-here, stands-stay}
 
@@ -169,8 +169,7 @@ fills-allowed o trees s mem t pos p f known st here a at owes h =
     by : (fs cs : List Change) → f.fills ≡ fs → Comes o.machine c (work_of d.meaning) hs (End f.answer fs cs) (next ((work_of d.meaning).items s.world) (length hs)) → MayFillAll o.machine (act_grip s mem p d) s.world fs
     by fs cs e (inl co) = subst (λ (z : List Change). MayFillAll o.machine (act_grip s mem p d) s.world z) (sym co.2) tt
     by fs cs e (inr co) =
-        part-fills o.machine (hold c d.far.held) (act_grip s mem p d) s.world fs (hold-part d.meaning c d.far.held)
-        (subst (λ (z : List Held). MayFillAll o.machine (hold c z) s.world fs) (h.runs.at.told h.trying).locks co.1.fills_allowed)
+        subst (λ (z : List Held). MayFillAll o.machine ((work_of d.meaning).grasp c z) s.world fs) (h.runs.at.told h.trying).locks co.1.fills_allowed
 
 -- those that are made, and those that are left
 pub record FillMay (m : Machine) (g : Grip) (w : World) (words : WordPlace → ℕ) (f : Fill) : Type 0 where

@@ -16,11 +16,12 @@ use Rattle.leaf_engine.specs.declared.events.Stage.{Stage}
 use Rattle.leaf_engine.specs.Changes.{Hand, Memory}
 use Rattle.leaf_engine.specs.Decides.{IsHand}
 use Rattle.leaf_engine.specs.Turns.{Standing, has_ended}
+use Rattle.leaf_engine.specs.Guests.{WordGuest}
 use Rattle.leaf_engine.specs.OwnLists.{Piece, Unmarked, Marked, Wordless, behind, TurnIn, WordLp, running, LinesTurn, LpTurns}
 use Rattle.leaf_engine.specs.Merges.{Item, step_before}
 use Rattle.leaf_engine.proofs.Beginning.{calls-begin}
 use Rattle.merge_laws.specs.Merge.{IsUnderWay, PieceFits, table_after}
-use Rattle.merge_laws.proofs.Standing.{Trees, leaf_for, AreTrees, Known, HandOf, Does, task_for, RunsAt, OnCall, RunAt, StandsAt, call_does, IsDoes, DoesHere, HasInHand, Leads, Fill, FillHolds, on_table, Position, RestOf, Stands}
+use Rattle.merge_laws.proofs.Standing.{Trees, leaf_for, table_for, AreTrees, Known, HandOf, Does, task_for, RunsAt, OnCall, RunAt, StandsAt, call_does, IsDoes, DoesHere, HasInHand, Leads, Fill, FillHolds, on_table, Position, RestOf, Stands}
 use Rattle.merge_laws.proofs.Lines.{call-here, call-leads, does-here, does-leads}
 
 abbrev pub state_after : Opening → State → ℕ → Piece → State
@@ -113,8 +114,8 @@ pub record NextTurn (o : Opening) (trees : Trees) (s : State) (mem : Memory) (t 
   pub after_is : after ≡ does.after e stands
 
 pub next-turn : (o : Opening) (trees : Trees) (s : State) (mem : Memory) (t : Table) (pos : ℕ → Position) (p : ℕ) (last : Option Measure) (hand : Hand) (e : RunEvent) (tp : List Piece) (after : WordLp) → AreTrees o trees → Known o s → Stands o trees s mem t pos → p < length o.calls
-    → (pos p).swaps ≡ [] → HasInHand (pos p).at.run last → IsHand last hand → LpTurns (leaf_for o trees p) o.machine (pos p).at e tp after → NextTurn o trees s mem t pos p e tp after
-next-turn o trees s mem t pos p last hand e tp after are known sd i no-swaps has in-hand turn = by (pos p).at.lines (pos p).at.run (sd.holds p i).stands.lines (sd.holds p i).stands.run has turn
+    → (pos p).swaps ≡ [] → HasInHand (pos p).at.run last → IsHand last hand → LpTurns (table_for o trees p) o.machine (pos p).at e tp after → NextTurn o trees s mem t pos p e tp after
+next-turn o trees s mem t pos p last hand e tp after are known sd i no-swaps has in-hand turn = by (pos p).at.lines (pos p).at.run (pos p).at.guest (sd.holds p i).stands.lines (sd.holds p i).stands.run has turn
   where
     st : StandsAt o trees p s.world mem.words (s.lps p) (pos p).at
     st = (sd.holds p i).stands
@@ -138,18 +139,23 @@ next-turn o trees s mem t pos p last hand e tp after are known sd i no-swaps has
       going = going;
     }
 
+    no-guest : (c : Call) (cs : List Call) (r : Option Standing) (g : WordGuest) → RunAt o trees p s.world mem.words (s.lps p) (c ∷ cs) r (Some g) → ⊥
+    no-guest c cs None g a = a
+    no-guest c cs (Some r) g a = a
+
     begun : (c : Call) (cs : List Call) → lines_left o p (s.lps p) ≡ c ∷ cs → IsBetween (s.lps p) → OnCall o trees p c s.world mem.words (s.lps p) (running (leaf_for o trees p c) None)
     begun c cs l between =
         let ca = calls-begin o (leaf_for o trees p c) (row_of o p c) s.world mem.words (s.lps p) (record { call = c; further = cs; lines = l; row_is = refl }) between in
         record { guest = between.guest; runs = record { at = record { stage = ca.stage; held = ca.held; told = ca.told }; trying = λ z. refl } }
 
-    by : (cs : List Call) (r : Option Standing) → lines_left o p (s.lps p) ≡ cs → RunAt o trees p s.world mem.words (s.lps p) cs r → HasInHand r last → LinesTurn (leaf_for o trees p) o.machine cs r (pos p).at.replies (pos p).at.beside e tp after
-        → NextTurn o trees s mem t pos p e tp after
-    by [] r l a h lt = absurd lt
-    by (c ∷ cs) None l a h lt =
+    by : (cs : List Call) (r : Option Standing) (g : Option WordGuest) → lines_left o p (s.lps p) ≡ cs → RunAt o trees p s.world mem.words (s.lps p) cs r g → HasInHand r last
+        → LinesTurn (table_for o trees p) o.machine cs r g (pos p).at.replies (pos p).at.beside e tp after → NextTurn o trees s mem t pos p e tp after
+    by [] r g l a h lt = absurd lt
+    by (c ∷ cs) r (Some g) l a h lt = absurd (no-guest c cs r g a)
+    by (c ∷ cs) None None l a h lt =
         let run : Standing = running (leaf_for o trees p c) None in
         record { does = its c cs; run = run; stands = lt.stands; at = at-turn c cs run l (begun c cs l a) (record { hand = None; is = tt; trying = λ z. refl }) lt.going; turn = lt.turn; after_is = lt.after_is }
-    by (c ∷ cs) (Some r) l a h lt = record {
+    by (c ∷ cs) (Some r) None l a h lt = record {
       does = its c cs;
       run = r;
       stands = lt.stands;

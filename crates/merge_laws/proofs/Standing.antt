@@ -39,10 +39,11 @@ use Rattle.leaf_engine.specs.declared.events.Stage.TheVariants as stages
 use Rattle.leaf_engine.specs.Items.{AreChanged}
 use Rattle.leaf_engine.specs.Turns.{Standing, standing, has_ended, last_reply}
 use Rattle.leaf_engine.specs.Doing.{event_of, IsDoing, LeafAt, LeafAfter}
-use Rattle.leaf_engine.specs.OwnLists.{Piece, Unmarked, joined, marked_behind, TurnIn, TurnsInPieces, WordLp, after_turn, LpTurns, OwnTurns}
-use Rattle.leaf_engine.specs.Merges.{LinesEnterNone}
+use Rattle.leaf_engine.specs.OwnLists.{Piece, Unmarked, joined, marked_behind, TurnIn, TurnsInPieces, LeafTable, WordLp, after_turn, LpTurns, OwnTurns}
+use Rattle.leaf_engine.specs.Merges.{ByItsRow, IsStepOf}
+use Rattle.leaf_engine.specs.Guests.{WordGuest, guest_after, Step}
 use Rattle.leaf_engine.specs.Trees.{added}
-use Rattle.merge_laws.specs.Laws.{AreBundlesOf}
+use Rattle.merge_laws.specs.Laws.{AreBundlesOf, LinesEnterNone}
 use Rattle.merge_laws.proofs.Stores.{Due, due, last_at, or_else, laid}
 use Rattle.merge_laws.proofs.Swaps.{SwapDue, slots_laid, SwapsMay}
 use Rattle.merge_laws.proofs.Owing.{Owed, stores_in, swaps_in, AreOwed}
@@ -72,20 +73,30 @@ pub record Laws : Type 0 where
   pub start : StartIsShown
   pub one : TurnsInPieces
 
--- leaves of calls, by their trees
-abbrev pub Trees : Type 0
-Trees = ℕ → Call → Tree
+-- leaves by their trees: of each call, and of each step of a guest, with what it means
+pub record Trees : Type 0 where
+  pub call : ℕ → Call → Tree
+  pub step : (lp tdr vp line : ℕ) → Step → Tree
+  pub means : (lp tdr vp line : ℕ) → Step → Meaning
 
 abbrev pub leaf_for : Opening → Trees → ℕ → Call → Task
-leaf_for o trees p c = record { place = record { machine = o.machine; lp = p }; tree = trees p c; meaning = OfCall (row_of o p c) }
+leaf_for o trees p c = record { place = record { machine = o.machine; lp = p }; tree = trees.call p c; meaning = OfCall (row_of o p c) }
+
+abbrev pub step_for : Opening → Trees → (lp tdr vp line : ℕ) → Step → Task
+step_for o trees p t v line step = record { place = record { machine = o.machine; lp = p }; tree = trees.step p t v line step; meaning = trees.means p t v line step }
+
+abbrev pub table_for : Opening → Trees → ℕ → LeafTable
+table_for o trees p = record { call = leaf_for o trees p; step = step_for o trees p; codes = o.codes }
 
 pub record AreTrees (o : Opening) (trees : Trees) : Type 0 where
-  pub means : (p : ℕ) (c : Call) → (row_of o p c).enters ≡ None → MeansRow (leaf_for o trees p c)
+  pub means : (p : ℕ) (c : Call) → MeansRow (leaf_for o trees p c)
+  pub steps : (p t v line : ℕ) (step : Step) → ByItsRow o t v line step (trees.means p t v line step)
+  pub steps_mean : (p t v line : ℕ) (step : Step) → IsStepOf step → MeansRow (step_for o trees p t v line step)
   pub enters_none : LinesEnterNone o
 
 -- its own list, turn by turn
 abbrev pub TurnsTo : Opening → Trees → ℕ → WordLp → List (List Piece) → WordLp → Type 0
-TurnsTo o trees p at tps end_ = OwnTurns (leaf_for o trees p) o.machine at tps end_
+TurnsTo o trees p at tps end_ = OwnTurns (table_for o trees p) o.machine at tps end_
 
 -- what is known of a state that a run reaches
 pub record Known (o : Opening) (s : State) : Type 0 where
@@ -139,27 +150,27 @@ pub record OnCall (o : Opening) (trees : Trees) (p : ℕ) (c : Call) (w : World)
   pub guest : lp.guest ≡ None
   pub runs : RunsAt (leaf_for o trees p c) lp.call w words run
 
-abbrev pub RunAt : Opening → Trees → ℕ → World → (WordPlace → ℕ) → Lp → List Call → Option Standing → Type 0
-RunAt o trees p w words lp cs None = IsBetween lp
-RunAt o trees p w words lp [] (Some r) = ⊥
-RunAt o trees p w words lp (c ∷ cs) (Some r) = OnCall o trees p c w words lp r
+abbrev pub RunAt : Opening → Trees → ℕ → World → (WordPlace → ℕ) → Lp → List Call → Option Standing → Option WordGuest → Type 0
+RunAt o trees p w words lp cs None None = IsBetween lp
+RunAt o trees p w words lp (c ∷ cs) (Some r) None = OnCall o trees p c w words lp r
+RunAt o trees p w words lp _ _ _ = ⊥
 
 pub record StandsAt (o : Opening) (trees : Trees) (p : ℕ) (w : World) (words : WordPlace → ℕ) (lp : Lp) (at : WordLp) : Type 0 where
   pub lines : lines_left o p lp ≡ at.lines
   pub replies : lp.replies ≡ at.replies
   pub beside : beside_of lp at.beside.bundles ≡ at.beside
-  pub run : RunAt o trees p w words lp at.lines at.run
+  pub run : RunAt o trees p w words lp at.lines at.run at.guest
 
 -- a call, as what its processor does
 abbrev pub call_does : Opening → Trees → ℕ → Lp → Call → List Call → List Reply → Beside → Does
 call_does o trees p lp c cs rs b = record {
-  tree = trees p c;
+  tree = trees.call p c;
   meaning = OfCall (row_of o p c);
   kept = [];
   far = lp.call;
   bundles = b.bundles;
-  within = λ run. record { lines = c ∷ cs; run = Some run; replies = rs; beside = b };
-  after = λ e run. after_turn c cs rs (beside_after e run.rest b) run (last_reply run.stage run.held);
+  within = λ run. record { lines = c ∷ cs; run = Some run; guest = None; replies = rs; beside = b };
+  after = λ e run. after_turn c cs (guest_after e run.rest None) rs (beside_after e run.rest b) run (last_reply run.stage run.held);
 }
 
 -- whatever others do, a processor does this while it is as it is
@@ -208,7 +219,7 @@ pub record Leads (o : Opening) (trees : Trees) (s : State) (p : ℕ) (d : Does) 
   pub within_stands : (words : WordPlace → ℕ) (run : Standing) → RunsAt (task_for o p d) d.far s.world words run → StandsAt o trees p s.world words (s.lps p) (d.within run)
   pub within_bundles : (run : Standing) → (d.within run).beside.bundles ≡ d.bundles
   pub within_run : (run : Standing) (h : Option Measure) → run.hasher ≡ h → HasInHand (d.within run).run h
-  pub turns : (run run' : Standing) (e : RunEvent) (tp : List Piece) → TurnIn run.stage o.machine run tp run' e → has_ended run.stage run.held ≡ false → LpTurns (leaf_for o trees p) o.machine (d.within run) e tp (d.after e run')
+  pub turns : (run run' : Standing) (e : RunEvent) (tp : List Piece) → TurnIn run.stage o.machine run tp run' e → has_ended run.stage run.held ≡ false → LpTurns (table_for o trees p) o.machine (d.within run) e tp (d.after e run')
   pub after_stands : (u : Table) (run' : Standing) (h : Option Measure) (e : RunEvent) → (la : LeafAfter o (task_for o p d) s d.far u (with_hasher run' h) e) → NoneOnWay run'
       → StandsAt o trees p (event o s p).world la.mem.words ((event o s p).lps p) (d.after e run')
   pub after_grows : (u : Table) (run' : Standing) (h : Option Measure) (e : RunEvent) → LeafAfter o (task_for o p d) s d.far u (with_hasher run' h) e → Grows (bundles_in s) (bundles_in (event o s p)) d.bundles (d.after e run').beside.bundles

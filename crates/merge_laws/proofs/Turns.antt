@@ -27,7 +27,7 @@ use Rattle.leaf_engine.specs.OwnLists.{Piece, Unmarked, Marked, joined, last_mar
 use Rattle.leaf_engine.proofs.Decided.{settled}
 use Rattle.leaf_engine.proofs.Loading.{LooksRight}
 use Rattle.merge_laws.proofs.Stores.{Due, last_at, laid-same}
-use Rattle.merge_laws.proofs.Standing.{leaf_for, Trees, Does, TurnsTo, Laws, on_table, Position}
+use Rattle.merge_laws.proofs.Standing.{table_for, Trees, Does, TurnsTo, Laws, on_table, Position}
 use Rattle.merge_laws.proofs.SlotSteps.{slots-stay}
 use Rattle.merge_laws.proofs.Own.{at-other}
 use Rattle.merge_laws.proofs.QuietSteps.{rearranged, loads-right, GoesOnBehind, loaded, told-load}
@@ -77,7 +77,7 @@ load-piece ls o trees s mem t pos p d run run' e at x tp tps end_ a none st load
     after : WordLp
     after = d.after e run'
 
-    line : LpTurns (leaf_for o trees p) o.machine (d.within (loaded run x)) e tp after
+    line : LpTurns (table_for o trees p) o.machine (d.within (loaded run x)) e tp after
     line = a.leads.turns (loaded run x) run' e tp (subst (λ (z : Stage). TurnIn z o.machine (loaded run x) tp run' e) (sym st) goes) a.going
 
     right : LooksRight mem.words (feed d.tree (a.runs.at.told st).told) x
