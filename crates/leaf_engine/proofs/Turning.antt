@@ -200,7 +200,7 @@ module _ (o : Opening) (place : Place) (tree : Tree) (row : Row) (s : State) (ru
     bundles : Bundles w'
     then_ : Then o its-task row lp w' mem lp' run' result.reply
 
-  leaf-after : (u : Table) → next_event o s me ≡ Some (OfCall row (next_in (row.items w) lp.call.phase lp.call.held)) → LeafAfter o its-task s lp.call u run' result.event → After o its-task row s (event o s me) u run' result
+  pub leaf-after : (u : Table) → next_event o s me ≡ Some (OfCall row (next_in (row.items w) lp.call.phase lp.call.held)) → LeafAfter o its-task s lp.call u run' result.event → After o its-task row s (event o s me) u run' result
   leaf-after u due la =
       let mv : Move Reply = la.move in
       let granted : Bool = is_granted s (OfCall row mv) in
@@ -216,6 +216,11 @@ module _ (o : Opening) (place : Place) (tree : Tree) (row : Row) (s : State) (ru
       let at-step : AtLp la.mem (stepped s me row mv).world ((stepped s me row mv).lps me) = subst (λ (z : Lp). AtLp la.mem (call_world row mv w) z) (sym (lp-now s me lp')) at-lp in
       let at-event : AtLp la.mem (event o s me).world ((event o s me).lps me) = subst (λ (z : State). AtLp la.mem z.world (z.lps me)) (sym (event-is o s me row mv la.next.next)) at-step in
       record { mem = la.mem; shown = la.shown; memory = la.memory; beside = at-event.beside; bundles = at-event.bundles; then_ = at-event.then_ }
+
+  -- over the same memory
+  pub leaf-after-memory : (u : Table) (due : next_event o s me ≡ Some (OfCall row (next_in (row.items w) lp.call.phase lp.call.held))) (la : LeafAfter o its-task s lp.call u run' result.event) → (leaf-after u due la).mem ≡ la.mem
+  unfolding leaf-after
+  leaf-after-memory u due la = refl
 
 -- a call does what its row says
 module _ (o : Opening) (task : Task) (row : Row) (s : State) (mem : Memory) (t : Table) (run : Standing) (mean : task.meaning ≡ CallOf row) (sh : IsShown task s mem t run)

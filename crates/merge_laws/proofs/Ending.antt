@@ -3,15 +3,15 @@ use Rattle.std.proofs.lemmas.Bool.{eqb-true}
 use Rattle.mrtd_measure.specs.declared.measures.Measure.{Measure}
 use Rattle.std.proofs.Common.{◌==◌, ◌≡◌, ℕ, ◌+◌, ◌%◌, ◌^◌, ◌<◌, Bool, true, false, List, [], ◌∷◌, length, Option, Some, None, refl, ap, sym, ◌∙◌, subst, inl, inr, ◌-◌}
 use Rattle.td_words.specs.declared.machines.Machine.{Machine}
-use Rattle.td_words.specs.declared.calls.Call.{Call}
 use Rattle.td_words.specs.declared.replies.Reply.{Reply}
 use Rattle.td_words.specs.Place.{WordPlace, IsIn, address}
 use Rattle.flat_core.specs.World.{World}
-use Rattle.flat_core.specs.Processor.{Held, Answered, Entering, Lp}
+use Rattle.flat_core.specs.Processor.{Held}
 use Rattle.flat_core.specs.Opening.{Opening}
-use Rattle.flat_core.specs.Row.{Row, Move, Attempts, Undoes, Refuses, Succeeds, Releases, Rests, next}
-use Rattle.flat_core.specs.Table.{row_of}
-use Rattle.flat_core.specs.Event.{State, OfCall, next_event, event, call_lp, settle, settled, succeeded, is_granted}
+use Rattle.flat_core.specs.Row.{Move, Refuses, Succeeds, next}
+use Rattle.flat_core.specs.Event.{State}
+use Rattle.lock_words.specs.LockWords.{IsNext}
+use Rattle.leaf_engine.specs.Doing.{event_of}
 use Rattle.word_rules.specs.Guards.{Apart, Grip}
 use Rattle.word_rules.specs.Rules.{View, Grade, KeepsNothing}
 use Rattle.word_rules.specs.Views.{look}
@@ -19,29 +19,26 @@ use Rattle.word_rules.specs.Permissions.{Reads, Owes, Fills, SwapsAct, Respects}
 use Rattle.word_rules.specs.Cells.{Shows}
 use Rattle.step_core.specs.Items.{Table}
 use Rattle.leaf_engine.specs.declared.events.Event.TheVariants as events
-use Rattle.leaf_engine.specs.declared.events.RunTurn.{RunTurn}
+use Rattle.leaf_engine.specs.declared.events.Event.{Event as RunEvent}
 use Rattle.leaf_engine.specs.declared.events.Stage.TheVariants as stages
 use Rattle.leaf_engine.specs.declared.needs.Need.TheVariants as need
 use Rattle.leaf_engine.specs.Changes.{Hand, Memory, Change, Put, PutHash, Raise, Clear, Copy, Swap, changed, changed_all}
 use Rattle.leaf_engine.specs.Trees.{Answer, only, Tree, Lock, Load, Test, End, Since, answer_of, feed}
-use Rattle.leaf_engine.specs.Means.{Task, Instant, Work, IsAt, work_of, hold, Acts, MayAct, MayFillAll, MayChange, MayOweAll, acted, LocksStay, AnswersAs, IsHkid}
+use Rattle.leaf_engine.specs.Means.{Task, Instant, Work, IsAt, work_of, hold, Acts, MayAct, MayFillAll, MayChangeBy, MayOweAll, acted, LocksStay, AnswersAs, IsHkid}
 use Rattle.leaf_engine.specs.Decides.{Wants, IsHand}
 use Rattle.leaf_engine.specs.Tables.{IsMemory}
-use Rattle.leaf_engine.specs.Turns.{Standing, last_reply}
+use Rattle.leaf_engine.specs.Turns.{Standing}
 use Rattle.leaf_engine.specs.Follows.{granted, Current, Comes}
 use Rattle.leaf_engine.specs.Shown.{EndsRow, move_due}
-use Rattle.leaf_engine.specs.Calls.{IsCallAt}
 use Rattle.leaf_engine.proofs.Following.{leaves-follow-rows}
-use Rattle.leaf_engine.proofs.Turning.{instant, at-instant, due-is}
-use Rattle.merge_laws.proofs.Virtual.{table_of}
 use Rattle.merge_laws.proofs.Stores.{Due, last_at, later, or_else, stores_of, all_stores, EachDue, OwesAt, FillsAt, last-each, last-append, or-later, changed-is, one-is, filled-stores, looks-owed, looks-filled}
 use Rattle.merge_laws.proofs.Swaps.{SwapDue, last_put, swaps_of, all_swaps, SwapsMay, swaps-same, one-slot, changed-slots, owed-swaps}
 use Rattle.merge_laws.proofs.Keeping.{Keeps, keeps-each, keeps-same, owed-keeps}
-use Rattle.merge_laws.proofs.Holding.{bare, turned-round}
-use Rattle.merge_laws.proofs.Standing.{means-here, Laws, leaf_for, AreTrees, line-enters, Known, on_table, Position, back, Stands}
-use Rattle.merge_laws.proofs.Others.{shown-of, hold-is}
-use Rattle.merge_laws.proofs.Own.{lp-of-event, with_hasher}
-use Rattle.merge_laws.proofs.Acts.{IsAct, CanWrite, OneAct}
+use Rattle.merge_laws.proofs.Holding.{lock_grip_of, IsPart, part-meets, part-owes, turned-round}
+use Rattle.merge_laws.proofs.Standing.{RunsAt, Trees, Does, task_for, moment, act_grip, DoesHere, with_hasher, Laws, Known, on_table, Position, back, Stands}
+use Rattle.merge_laws.proofs.Others.{at-moment, hold-is, locks-in-act, due-move}
+use Rattle.merge_laws.proofs.Own.{moves-refused, world-stays, world-acted}
+use Rattle.merge_laws.proofs.Acts.{CanWrite, OneAct}
 
 -- what the first item of an act stores, and what is owed then
 abbrev pub act_first : List Change → Memory → List Due
@@ -51,25 +48,6 @@ act_first (c ∷ cs) mem = stores_of c mem
 abbrev pub act_owes : List Change → Memory → List Due
 act_owes [] mem = []
 act_owes (c ∷ cs) mem = all_stores cs (changed c mem)
-
--- the locks held stay through an act
-act-held : (o : Opening) (s : State) (p : ℕ) (row : Row) (mv : Move Reply) → next_event o s p ≡ Some (OfCall row mv) → row.enters ≡ None → IsAct mv → ((event o s p).lps p).call.held ≡ (s.lps p).call.held
-act-held o s p row mv e none a =
-    ap (λ (z : Lp). z.call.held) (lp-of-event o s p row mv e) ∙ by mv a
-  where
-    settled-held : (r : Reply) (hs : List Held) (lp : Lp) → lp.call.held ≡ hs → (settle (Answered r) hs lp).call.held ≡ hs
-    settled-held r [] lp h = refl
-    settled-held r (x ∷ hs) lp h = h
-
-    by : (mv : Move Reply) → IsAct mv → (settled (call_lp s.world (is_granted s (OfCall row mv)) row mv (s.lps p))).call.held ≡ (s.lps p).call.held
-    by (Refuses r) a = settled-held r (s.lps p).call.held _ refl
-    by Succeeds a =
-        subst (λ (x : Option Entering). (settled (succeeded s.world row x (s.lps p))).call.held ≡ (s.lps p).call.held) (sym none)
-        (settled-held (Rattle.td_words.specs.declared.replies.Reply.TheVariants.Done (row.value s.world)) (s.lps p).call.held _ refl)
-    by (Attempts l m) a = absurd a
-    by (Undoes l) a = absurd a
-    by (Releases h) a = absurd a
-    by Rests a = absurd a
 
 -- a store that is the act leaves what others have read
 act-looks : (ls : Laws) (m : Machine) (g h : Grip) (w : World) (mem : Memory) (c : Change) (r : WordPlace) (v : View) → Apart g h → MayAct m h w mem c → Reads g w r v
@@ -121,15 +99,14 @@ fills-rest m g w (Raise q more ∷ fs) mem may = absurd may.0
 fills-rest m g w (Swap k made ∷ fs) mem may = absurd may.0
 
 -- where a turn stands that comes to its end, having been told these words
-pub record AtEnd (o : Opening) (trees : ℕ → Call → Tree) (s : State) (mem : Memory) (p : ℕ) (c : Call) (told now : List ℕ) (reply : Reply) (run run' : Standing) (result : RunTurn) : Type 0 where
-  pub current : Current mem.words (trees p c) now
-  pub locks : granted (trees p c) now [] ≡ granted (trees p c) told []
-  pub gives : Wants o.machine.pages (feed (trees p c) now) (need.Verdict reply)
+pub record AtEnd (o : Opening) (mem : Memory) (d : Does) (told now : List ℕ) (reply : Reply) (run run' : Standing) (e : RunEvent) : Type 0 where
+  pub current : Current mem.words d.tree now
+  pub locks : granted d.tree now [] ≡ granted d.tree told []
+  pub gives : Wants o.machine.pages (feed d.tree now) (need.Verdict reply)
   pub answered : run'.stage ≡ stages.Answered reply
   pub held : run'.held ≡ run.held
-  pub last : result.reply ≡ last_reply run'.stage run'.held
-  pub act : result.event ≡ events.Act
-  pub rest_is : run'.rest ≡ feed (trees p c) now
+  pub act : e ≡ events.Act
+  pub rest_is : run'.rest ≡ feed d.tree now
 
 -- what its end has filled, stores first, and owes
 abbrev pub filled_of : Tree → Memory → List Due
@@ -196,61 +173,67 @@ end-gives : (n : ℕ) (a : Answer) (r' : Reply) (fs cs : List Change) → Wants 
 end-gives n a r' fs cs g = cc
 
 -- a turn that comes to its end is an act
-module _ (ls : Laws) (o : Opening) (trees : ℕ → Call → Tree) (s : State) (mem : Memory) (t t' : Table) (pos : ℕ → Position) (p : ℕ) (c : Call) (now : List ℕ) (reply : Reply) (run run' : Standing) (result : RunTurn) (are : AreTrees o trees) (known : Known o s)
-    (sd : Stands o trees s mem t pos) (i : p < length o.calls) (no_hasher : run.hasher ≡ None) (ca : IsCallAt o (leaf_for o trees p c) (row_of o p c) s.world mem.words (s.lps p) run) (e : run.stage ≡ stages.Trying)
-    (en : AtEnd o trees s mem p c (ca.told e).told now reply run run' result) where
+module _ (ls : Laws) (o : Opening) (trees : Trees) (s : State) (mem : Memory) (t t' : Table) (pos : ℕ → Position) (p : ℕ) (d : Does) (now : List ℕ) (reply : Reply) (run run' : Standing) (e : RunEvent) (known : Known o s)
+    (sd : Stands o trees s mem t pos) (i : p < length o.calls) (here : DoesHere o s p d) (ra : RunsAt (task_for o p d) d.far s.world mem.words run) (st : run.stage ≡ stages.Trying)
+    (en : AtEnd o mem d (ra.at.told st).told now reply run run' e) where
   -- the turn's parts by name: its machine, what its leaf is to do, its row, the moment and the work
   abbrev machine : Machine
   machine = o.machine
 
   abbrev task : Task
-  task = leaf_for o trees p c
+  task = task_for o p d
 
-  abbrev leaf_row : Row
-  leaf_row = row_of o p c
-
-  abbrev moment : Instant
-  moment = instant task s mem
+  abbrev its_moment : Instant
+  its_moment = moment s mem p d
 
   abbrev work : Work
   work = work_of task.meaning
 
   -- the locks that its tree was granted, and the move that is due then
   abbrev locks : List Held
-  locks = granted (trees p c) now []
+  locks = granted d.tree now []
 
   abbrev due_move : Move Reply
-  due_move = move_due task moment now
+  due_move = move_due task its_moment now
 
-  -- the words that it was told before, and the grip of the locks that its processor holds
+  -- the words that it was told before, what its processor has by its locks, and what it acts under
   abbrev words_told : List ℕ
-  words_told = (ca.told e).told
+  words_told = (ra.at.told st).told
 
   abbrev own_grip : Grip
-  own_grip = bare (s.lps p).call.held
+  own_grip = lock_grip_of s p
+
+  abbrev act : Grip
+  act = act_grip s mem p d
 
   -- the turn stands at this moment
-  at-moment : IsAt task moment
-  at-moment = at-instant o task leaf_row s mem (table_of machine mem.slots mem.words) run refl (shown-of o trees s mem t pos p c run known sd i no_hasher) ca e
+  at-this : IsAt task its_moment
+  at-this = at-moment o trees s mem t pos p d known sd here
 
-  -- the locks of the tree are those that the processor holds
-  locks-held : locks ≡ (s.lps p).call.held
-  locks-held = en.locks ∙ (ca.told e).locks
+  -- the locks of the tree are those that the leaf holds
+  locks-held : locks ≡ d.far.held
+  locks-held = en.locks ∙ (ra.at.told st).locks
 
-  -- and its grip is theirs
-  own-is : hold moment locks ≡ own_grip
-  own-is = hold-is s mem task locks ∙ ap bare locks-held
+  -- so they give these grips
+  own-is : hold its_moment locks ≡ own_grip
+  own-is = ap (hold its_moment) locks-held ∙ hold-is o s mem p d here
+
+  act-is : work.grasp its_moment locks ≡ act
+  act-is = ap (work.grasp its_moment) locks-held
+
+  locks-of-act : IsPart own_grip act
+  locks-of-act = locks-in-act o s mem p d here
 
   -- the move that is due is the same at the words told before
-  move-is : move_due task moment words_told ≡ due_move
+  move-is : move_due task its_moment words_told ≡ due_move
   move-is = ap (λ (xs : List Held). next (work.items s.world) (length xs)) (sym en.locks)
 
   -- it is the flat machine's next event
-  next-move : (mv' : Move Reply) → due_move ≡ mv' → next_event o s p ≡ Some (OfCall leaf_row mv')
-  next-move mv' h = due-is o task leaf_row s mem run mv' refl ca e (move-is ∙ h)
+  next-move : (mv' : Move Reply) → due_move ≡ mv' → IsNext o s p (event_of d.meaning mv')
+  next-move mv' h = due-move o s mem p d run here ra st mv' (move-is ∙ h)
 
   -- the run that ends refused ends as its row does
-  ends-refused : (r : Reply) → due_move ≡ Refuses r → r ≡ reply → answer_of run'.rest ≡ only reply → (u : Table) (h : Option Measure) → IsMemory machine u h mem → EndsRow task moment words_told u run (with_hasher run' h)
+  ends-refused : (r : Reply) → due_move ≡ Refuses r → r ≡ reply → answer_of run'.rest ≡ only reply → (u : Table) (h : Option Measure) → IsMemory machine u h mem → EndsRow task its_moment words_told u run (with_hasher run' h)
   ends-refused r h q an u hasher mm = record {
     reply = reply;
     after = mem;
@@ -261,7 +244,7 @@ module _ (ls : Laws) (o : Opening) (trees : ℕ → Call → Tree) (s : State) (
   }
 
   -- so does the run whose act succeeds
-  ends-succeeded : (after : Memory) → due_move ≡ Succeeds → (answer_of run'.rest).reply ≡ reply → AnswersAs work s.world (answer_of run'.rest) → Shows machine after.words after.slots (acted work s) → LocksStay s.world (work.act s.world) locks → (u : Table) (h : Option Measure) → IsMemory machine u h after → EndsRow task moment words_told u run (with_hasher run' h)
+  ends-succeeded : (after : Memory) → due_move ≡ Succeeds → (answer_of run'.rest).reply ≡ reply → AnswersAs work s.world (answer_of run'.rest) → Shows machine after.words after.slots (acted work s) → LocksStay s.world (work.act s.world) locks → (u : Table) (h : Option Measure) → IsMemory machine u h after → EndsRow task its_moment words_told u run (with_hasher run' h)
   ends-succeeded after h q an sh st u hasher mm = record {
     reply = reply;
     after = after;
@@ -281,7 +264,7 @@ module _ (ls : Laws) (o : Opening) (trees : ℕ → Call → Tree) (s : State) (
 
   -- the act of this turn
   abbrev ItsAct : Type 0
-  ItsAct = OneAct o trees s mem t t' pos p c words_told run run' result sd.slots.now
+  ItsAct = OneAct o s mem t t' pos p d words_told run run' e sd.slots.now
 
   -- a refusal is an act that stores nothing and owes nothing
   refused-act : (r : Reply) → due_move ≡ Refuses r → r ≡ reply → answer_of run'.rest ≡ only reply → HasFilled o t pos p mem [] → ((x : WordPlace) → IsIn machine x → t'.words (address machine.pages x) ≡ t.words (address machine.pages x)) → HasPut [] → (one : ItsAct) × (one.owes ≡ []) × (one.swaps ≡ [])
@@ -290,12 +273,12 @@ module _ (ls : Laws) (o : Opening) (trees : ℕ → Call → Tree) (s : State) (
       move = Refuses r;
       is_act = tt;
       next = next-move (Refuses r) h;
+      world = world-stays o s p d.meaning (Refuses r) (moves-refused d.meaning s.world (length locks) r h) (λ y. cc) (next-move (Refuses r) h);
       after = mem;
       hashers = sd.shows.hasher;
       ends = ends-refused r h q an;
       act = en.act;
       answered = has-answered;
-      reply = en.last;
       filled = [];
       first = [];
       owes = [];
@@ -306,7 +289,7 @@ module _ (ls : Laws) (o : Opening) (trees : ℕ → Call → Tree) (s : State) (
       slots_written = λ h x e. cc;
       slots_may = tt;
       spares = record {
-        respects = ls.compose.same own_grip s.world;
+        respects = ls.compose.same act s.world;
         looks = λ xs v x apart in_x reads. refl;
         still = λ xs x g apart in_x owes. sym (same x in_x);
         filled = λ xs x apart in_x fills. (sym (same x in_x), refl);
@@ -317,7 +300,6 @@ module _ (ls : Laws) (o : Opening) (trees : ℕ → Call → Tree) (s : State) (
       filled_may = tt;
       there = hf.there;
       undo = hf.undo;
-      held_or_none = act-held o s p leaf_row (Refuses r) (next-move (Refuses r) h) (line-enters o are.enters_none p leaf_row (s.lps p) ca.line) tt;
       table = same;
     },
     refl,
@@ -332,24 +314,24 @@ module _ (ls : Laws) (o : Opening) (trees : ℕ → Call → Tree) (s : State) (
 
   -- the act that succeeds, whose stores are these, and which owes these
   succeeded-act : (fs cs : List Change) (first owes : List Due) (put swaps : List SwapDue) → due_move ≡ Succeeds → (answer_of run'.rest).reply ≡ reply → AnswersAs work s.world (answer_of run'.rest)
-      → (let after = changed_all cs (changed_all fs mem) in Shows machine after.words after.slots (acted work s)) → LocksStay s.world (work.act s.world) locks → Respects own_grip s.world (leaf_row.act s.world)
-      → ((xs : List Held) (v : View) (r : WordPlace) → Apart (bare xs) own_grip → IsIn machine r → Reads (bare xs) s.world r v → look v ((changed_all cs (changed_all fs mem)).words r) ≡ look v (mem.words r))
+      → (let after = changed_all cs (changed_all fs mem) in Shows machine after.words after.slots (acted work s)) → LocksStay s.world (work.act s.world) locks → Respects act s.world (work.act s.world)
+      → ((xs : Grip) (v : View) (r : WordPlace) → Apart xs act → IsIn machine r → Reads xs s.world r v → look v ((changed_all cs (changed_all fs mem)).words r) ≡ look v (mem.words r))
       → ((r : WordPlace) → last_at (all_stores cs (changed_all fs mem)) r ≡ later (last_at owes r) (last_at first r))
-      → MayFillAll machine own_grip s.world fs → EachDue (CanWrite own_grip s.world) first → Keeps machine own_grip (leaf_row.act s.world) (λ x. or_else (last_at first x) ((changed_all fs mem).words x)) owes → HasFilled o t pos p mem (all_stores fs mem)
+      → MayFillAll machine act s.world fs → EachDue (CanWrite act s.world) first → Keeps machine own_grip (work.act s.world) (λ x. or_else (last_at first x) ((changed_all fs mem).words x)) owes → HasFilled o t pos p mem (all_stores fs mem)
       → ((r : WordPlace) → IsIn machine r → t'.words (address machine.pages r) ≡ or_else (last_at first r) (t.words (address machine.pages r)))
       → HasPut put → ((h : ℕ) → (changed_all cs (changed_all fs mem)).slots h ≡ or_else (last_put swaps h) (or_else (last_put put h) (mem.slots h)))
-      → ((h : ℕ) (x : Hand) → last_put put h ≡ Some x → SwapsAct own_grip s.world h) → SwapsMay machine own_grip (leaf_row.act s.world) (λ h. or_else (last_put put h) (mem.slots h)) swaps → (one : ItsAct) × (one.owes ≡ owes) × (one.swaps ≡ swaps)
+      → ((h : ℕ) (x : Hand) → last_put put h ≡ Some x → SwapsAct act s.world h) → SwapsMay machine own_grip (work.act s.world) (λ h. or_else (last_put put h) (mem.slots h)) swaps → (one : ItsAct) × (one.owes ≡ owes) × (one.swaps ≡ swaps)
   succeeded-act fs cs first owes put swaps h q an sh st rs looks parts fills written owed hf same slots makes-slots put-may swaps-may = (
     record {
       move = Succeeds;
       is_act = tt;
       next = next-move Succeeds h;
+      world = world-acted o s p d.meaning (next-move Succeeds h);
       after = changed_all cs (changed_all fs mem);
       hashers = sh.hasher;
       ends = ends-succeeded (changed_all cs (changed_all fs mem)) h q an sh st;
       act = en.act;
       answered = has-answered;
-      reply = en.last;
       filled = all_stores fs mem;
       first = first;
       owes = owes;
@@ -362,24 +344,23 @@ module _ (ls : Laws) (o : Opening) (trees : ℕ → Call → Tree) (s : State) (
       spares = record {
         respects = rs;
         looks = looks;
-        still = λ xs x g apart in_x owes'. not-stored first x in_x (last_at first x) refl (λ y z. never-owed ls own_grip (bare xs) s.world x g apart owes' first y written z) same;
+        still = λ xs x g apart in_x owes'. not-stored first x in_x (last_at first x) refl (λ y z. never-owed ls act xs s.world x g apart owes' first y written z) same;
         filled = λ xs x apart in_x fill. (
-          not-stored first x in_x (last_at first x) refl (λ y z. never-filled ls own_grip (bare xs) s.world x apart fill first y written z) same,
+          not-stored first x in_x (last_at first x) refl (λ y z. never-filled ls act xs s.world x apart fill first y written z) same,
           makes x in_x
               ∙ untouched mem.words owes first (all_stores fs mem) x
-              (λ y z. (let may = last-each ls.places (OwesAt machine own_grip (leaf_row.act s.world)) owes x y (keeps-each machine own_grip (leaf_row.act s.world) base owes owed) z in (ls.acts (bare xs) own_grip s.world (leaf_row.act s.world) apart rs).fills_later x may.1.0 fill may.1.1))
-              (λ y z. never-filled ls own_grip (bare xs) s.world x apart fill first y written z)
-              (λ y z. (let may = last-each ls.places (FillsAt machine own_grip s.world) (all_stores fs mem) x y (filled-stores machine own_grip s.world mem fs fills) z in (ls.words (bare xs) own_grip s.world apart).fills_fills x fill may.1)),
+              (λ y z. (let may = last-each ls.places (OwesAt machine own_grip (work.act s.world)) owes x y (keeps-each machine own_grip (work.act s.world) base owes owed) z in (ls.acts xs act s.world (work.act s.world) apart rs).fills_later x may.1.0 fill (part-meets own_grip act _ _ locks-of-act may.1.1)))
+              (λ y z. never-filled ls act xs s.world x apart fill first y written z)
+              (λ y z. (let may = last-each ls.places (FillsAt machine act s.world) (all_stores fs mem) x y (filled-stores machine act s.world mem fs fills) z in (ls.words xs act s.world apart).fills_fills x fill may.1)),
         );
       };
       makes = makes;
       written = written;
-      owed = keeps-same machine own_grip own_grip (leaf_row.act s.world) (leaf_row.act s.world) base (λ x. or_else (last_at first x) (or_else (last_at (all_stores fs mem) x) (mem.words x))) owes (λ x g z. z)
+      owed = keeps-same machine own_grip own_grip (work.act s.world) (work.act s.world) base (λ x. or_else (last_at first x) (or_else (last_at (all_stores fs mem) x) (mem.words x))) owes (λ x g z. z)
           (λ x g in_x z. ap (or_else (last_at first x)) (changed-is ls.places machine fs mem x in_x)) owed;
-      filled_may = filled-stores machine own_grip s.world mem fs fills;
+      filled_may = filled-stores machine act s.world mem fs fills;
       there = hf.there;
       undo = hf.undo;
-      held_or_none = act-held o s p leaf_row Succeeds (next-move Succeeds h) (line-enters o are.enters_none p leaf_row (s.lps p) ca.line) tt;
       table = same;
     },
     refl,
@@ -397,48 +378,49 @@ module _ (ls : Laws) (o : Opening) (trees : ℕ → Call → Tree) (s : State) (
           ∙ ap (λ (y : ℕ). or_else (last_at owes r) (or_else (last_at first r) y)) (changed-is ls.places machine fs mem r in_r)))
 
   -- a tree's end that succeeds is an act: its first change, and the rest owed
-  end-acts : (r : Answer) (fs cs : List Change) → due_move ≡ Succeeds → r.reply ≡ reply → answer_of run'.rest ≡ r → Acts machine moment work locks r fs cs → MayChange machine (hold moment locks) s.world (work.act s.world) (changed_all fs mem) cs
+  end-acts : (r : Answer) (fs cs : List Change) → due_move ≡ Succeeds → r.reply ≡ reply → answer_of run'.rest ≡ r → Acts machine its_moment work locks r fs cs → MayChangeBy machine (work.grasp its_moment locks) (hold its_moment locks) s.world (work.act s.world) (changed_all fs mem) cs
       → HasFilled o t pos p mem (all_stores fs mem) → ((x : WordPlace) → IsIn machine x → t'.words (address machine.pages x) ≡ or_else (last_at (act_first cs (changed_all fs mem)) x) (t.words (address machine.pages x)))
       → HasPut (act_puts cs (changed_all fs mem)) → (one : ItsAct) × (one.owes ≡ act_owes cs (changed_all fs mem)) × (one.swaps ≡ act_swaps cs (changed_all fs mem))
   end-acts r fs [] h q an ac may hf same slots =
-      let rs : Respects own_grip s.world (leaf_row.act s.world) = subst (λ (g : Grip). Respects g s.world (leaf_row.act s.world)) own-is ac.respects in
-      let fills : MayFillAll machine own_grip s.world fs = subst (λ (g : Grip). MayFillAll machine g s.world fs) own-is ac.fills_allowed in
+      let rs : Respects act s.world (work.act s.world) = subst (λ (g : Grip). Respects g s.world (work.act s.world)) act-is ac.respects in
+      let fills : MayFillAll machine act s.world fs = subst (λ (g : Grip). MayFillAll machine g s.world fs) act-is ac.fills_allowed in
       succeeded-act fs [] [] [] [] [] h (ap (λ (z : Answer). z.reply) an ∙ q) (subst (λ (z : Answer). AnswersAs work s.world z) (sym an) ac.answers) ac.shows ac.locks_stay rs
-      (λ xs v x apart in_x reads. fill-looks ls machine (bare xs) own_grip s.world mem fs x v apart in_x fills reads) (λ x. refl) fills tt tt hf same slots
-      (λ k. ap (λ (f : ℕ → Hand). f k) (fills-rest machine own_grip s.world fs mem fills).0) (λ k x e. cc) tt
+      (λ xs v x apart in_x reads. fill-looks ls machine xs act s.world mem fs x v apart in_x fills reads) (λ x. refl) fills tt tt hf same slots
+      (λ k. ap (λ (f : ℕ → Hand). f k) (fills-rest machine act s.world fs mem fills).0) (λ k x e. cc) tt
   end-acts r fs (c1 ∷ cs) h q an ac may hf same slots =
-      let rs : Respects own_grip s.world (leaf_row.act s.world) = subst (λ (g : Grip). Respects g s.world (leaf_row.act s.world)) own-is ac.respects in
-      let fills : MayFillAll machine own_grip s.world fs = subst (λ (g : Grip). MayFillAll machine g s.world fs) own-is ac.fills_allowed in
+      let rs : Respects act s.world (work.act s.world) = subst (λ (g : Grip). Respects g s.world (work.act s.world)) act-is ac.respects in
+      let fills : MayFillAll machine act s.world fs = subst (λ (g : Grip). MayFillAll machine g s.world fs) act-is ac.fills_allowed in
       let mem1 : Memory = changed_all fs mem in
-      let may' : MayChange machine own_grip s.world (work.act s.world) mem1 (c1 ∷ cs) = subst (λ (g : Grip). MayChange machine g s.world (work.act s.world) mem1 (c1 ∷ cs)) own-is may in
+      let first' : MayAct machine act s.world mem1 c1 = subst (λ (g : Grip). MayAct machine g s.world mem1 c1) act-is may.0 in
+      let owes' : MayOweAll machine own_grip (work.act s.world) (changed c1 mem1) cs = subst (λ (g : Grip). MayOweAll machine g (work.act s.world) (changed c1 mem1) cs) own-is may.1 in
       succeeded-act fs (c1 ∷ cs) (stores_of c1 mem1) (all_stores cs (changed c1 mem1)) (swaps_of c1 mem1) (all_swaps cs (changed c1 mem1)) h (ap (λ (z : Answer). z.reply) an ∙ q) (subst (λ (z : Answer). AnswersAs work s.world z) (sym an) ac.answers) ac.shows ac.locks_stay rs
       (λ xs v x apart in_x reads.
-      owed-looks ls machine (bare xs) own_grip s.world (leaf_row.act s.world) (changed c1 mem1) cs x v apart rs in_x may'.1 reads
-      ∙ (act-looks ls machine (bare xs) own_grip s.world mem1 c1 x v apart may'.0 reads ∙ fill-looks ls machine (bare xs) own_grip s.world mem fs x v apart in_x fills reads))
+      owed-looks ls machine xs act s.world (work.act s.world) (changed c1 mem1) cs x v apart rs in_x (part-owes machine own_grip act (work.act s.world) (changed c1 mem1) cs locks-of-act owes') reads
+      ∙ (act-looks ls machine xs act s.world mem1 c1 x v apart first' reads ∙ fill-looks ls machine xs act s.world mem fs x v apart in_x fills reads))
       (λ x. last-append (stores_of c1 mem1) (all_stores cs (changed c1 mem1)) x) fills
-      (act-written machine own_grip s.world mem1 c1 may'.0)
-      (keeps-same machine own_grip own_grip (leaf_row.act s.world) (leaf_row.act s.world) (changed c1 mem1).words (λ x. or_else (last_at (stores_of c1 mem1) x) (mem1.words x)) (all_stores cs (changed c1 mem1))
-      (λ x g owes. owes) (λ x g in_x owes. one-is machine c1 mem1 x in_x) (owed-keeps machine own_grip (leaf_row.act s.world) (changed c1 mem1) cs may'.1)) hf same slots
-      (λ k. changed-slots cs (changed c1 mem1) k ∙ ap (or_else (last_put (all_swaps cs (changed c1 mem1)) k)) (one-slot c1 mem1 k ∙ ap (λ (f : ℕ → Hand). or_else (last_put (swaps_of c1 mem1) k) (f k)) (fills-rest machine own_grip s.world fs mem fills).0))
-      (act-put machine own_grip s.world mem1 c1 may'.0)
-      (swaps-same machine own_grip own_grip (leaf_row.act s.world) (leaf_row.act s.world) (changed c1 mem1).slots (λ k. or_else (last_put (swaps_of c1 mem1) k) (mem.slots k)) (all_swaps cs (changed c1 mem1)) (λ k x. x)
-      (λ k in_k owes. one-slot c1 mem1 k ∙ ap (λ (f : ℕ → Hand). or_else (last_put (swaps_of c1 mem1) k) (f k)) (fills-rest machine own_grip s.world fs mem fills).0)
-      (owed-swaps machine own_grip (leaf_row.act s.world) (changed c1 mem1) cs may'.1))
+      (act-written machine act s.world mem1 c1 first')
+      (keeps-same machine own_grip own_grip (work.act s.world) (work.act s.world) (changed c1 mem1).words (λ x. or_else (last_at (stores_of c1 mem1) x) (mem1.words x)) (all_stores cs (changed c1 mem1))
+      (λ x g owes. owes) (λ x g in_x owes. one-is machine c1 mem1 x in_x) (owed-keeps machine own_grip (work.act s.world) (changed c1 mem1) cs owes')) hf same slots
+      (λ k. changed-slots cs (changed c1 mem1) k ∙ ap (or_else (last_put (all_swaps cs (changed c1 mem1)) k)) (one-slot c1 mem1 k ∙ ap (λ (f : ℕ → Hand). or_else (last_put (swaps_of c1 mem1) k) (f k)) (fills-rest machine act s.world fs mem fills).0))
+      (act-put machine act s.world mem1 c1 first')
+      (swaps-same machine own_grip own_grip (work.act s.world) (work.act s.world) (changed c1 mem1).slots (λ k. or_else (last_put (swaps_of c1 mem1) k) (mem.slots k)) (all_swaps cs (changed c1 mem1)) (λ k x. x)
+      (λ k in_k owes. one-slot c1 mem1 k ∙ ap (λ (f : ℕ → Hand). or_else (last_put (swaps_of c1 mem1) k) (f k)) (fills-rest machine act s.world fs mem fills).0)
+      (owed-swaps machine own_grip (work.act s.world) (changed c1 mem1) cs owes'))
 
   -- a tree that had its event before owes all its changes
-  since-acts : (r : Answer) (cs : List Change) → due_move ≡ Succeeds → r.reply ≡ reply → answer_of run'.rest ≡ r → Acts machine moment work locks r [] cs → MayOweAll machine (hold moment locks) (work.act s.world) mem cs
+  since-acts : (r : Answer) (cs : List Change) → due_move ≡ Succeeds → r.reply ≡ reply → answer_of run'.rest ≡ r → Acts machine its_moment work locks r [] cs → MayOweAll machine (hold its_moment locks) (work.act s.world) mem cs
       → HasFilled o t pos p mem [] → ((x : WordPlace) → IsIn machine x → t'.words (address machine.pages x) ≡ t.words (address machine.pages x))
       → HasPut [] → (one : ItsAct) × (one.owes ≡ all_stores cs mem) × (one.swaps ≡ all_swaps cs mem)
   since-acts r cs h q an ac may hf same slots =
-      let rs : Respects own_grip s.world (leaf_row.act s.world) = subst (λ (g : Grip). Respects g s.world (leaf_row.act s.world)) own-is ac.respects in
+      let rs : Respects act s.world (work.act s.world) = subst (λ (g : Grip). Respects g s.world (work.act s.world)) act-is ac.respects in
       let may' : MayOweAll machine own_grip (work.act s.world) mem cs = subst (λ (g : Grip). MayOweAll machine g (work.act s.world) mem cs) own-is may in
       succeeded-act [] cs [] (all_stores cs mem) [] (all_swaps cs mem) h (ap (λ (z : Answer). z.reply) an ∙ q) (subst (λ (z : Answer). AnswersAs work s.world z) (sym an) ac.answers) ac.shows ac.locks_stay rs
-      (λ xs v x apart in_x reads. owed-looks ls machine (bare xs) own_grip s.world (leaf_row.act s.world) mem cs x v apart rs in_x may' reads)
-      (λ x. last-append [] (all_stores cs mem) x) tt tt (owed-keeps machine own_grip (leaf_row.act s.world) mem cs may') hf same slots
-      (changed-slots cs mem) (λ k x e. cc) (owed-swaps machine own_grip (leaf_row.act s.world) mem cs may')
+      (λ xs v x apart in_x reads. owed-looks ls machine xs act s.world (work.act s.world) mem cs x v apart rs in_x (part-owes machine own_grip act (work.act s.world) mem cs locks-of-act may') reads)
+      (λ x. last-append [] (all_stores cs mem) x) tt tt (owed-keeps machine own_grip (work.act s.world) mem cs may') hf same slots
+      (changed-slots cs mem) (λ k x e. cc) (owed-swaps machine own_grip (work.act s.world) mem cs may')
 
   -- whichever way the tree ends, it is an act
-  tree-acts : (tree : Tree) → run'.rest ≡ tree → Comes machine moment work locks tree due_move → Wants machine.pages tree (need.Verdict reply) → HasFilled o t pos p mem (filled_of tree mem)
+  tree-acts : (tree : Tree) → run'.rest ≡ tree → Comes machine its_moment work locks tree due_move → Wants machine.pages tree (need.Verdict reply) → HasFilled o t pos p mem (filled_of tree mem)
       → ((r : WordPlace) → IsIn machine r → t'.words (address machine.pages r) ≡ or_else (last_at (first_of tree mem) r) (t.words (address machine.pages r)))
       → HasPut (puts_of tree mem) → (one : ItsAct) × (one.owes ≡ owes_of tree mem) × (one.swaps ≡ swaps_left tree mem)
   tree-acts (Lock l q mode x) at co g hf same slots = cc
@@ -451,8 +433,8 @@ module _ (ls : Laws) (o : Opening) (trees : ℕ → Call → Tree) (s : State) (
   tree-acts (Since r cs) at co g hf same slots = since-acts r cs co.0 (cc g) (ap answer_of at) co.1 co.2 hf same slots
 
   -- the turn is an act, which owes what its tree's end does, in words and in swaps
-  pub one-act : HasFilled o t pos p mem (filled_of (feed (trees p c) now) mem)
-      → ((r : WordPlace) → IsIn o.machine r → t'.words (address o.machine.pages r) ≡ or_else (last_at (first_of (feed (trees p c) now) mem) r) (t.words (address o.machine.pages r)))
-      → ((h : ℕ) → IsHkid o.machine h → IsHand (t'.slots (h - 1)) (or_else (last_put (puts_of (feed (trees p c) now) mem) h) (sd.slots.now h)))
-      → (one : OneAct o trees s mem t t' pos p c (ca.told e).told run run' result sd.slots.now) × (one.owes ≡ owes_of (feed (trees p c) now) mem) × (one.swaps ≡ swaps_left (feed (trees p c) now) mem)
-  one-act has table slots = tree-acts (feed (trees p c) now) en.rest_is (leaves-follow-rows task moment now (means-here o trees are p c (s.lps p) ca.line) at-moment en.current) en.gives has table slots
+  pub one-act : HasFilled o t pos p mem (filled_of (feed d.tree now) mem)
+      → ((r : WordPlace) → IsIn o.machine r → t'.words (address o.machine.pages r) ≡ or_else (last_at (first_of (feed d.tree now) mem) r) (t.words (address o.machine.pages r)))
+      → ((h : ℕ) → IsHkid o.machine h → IsHand (t'.slots (h - 1)) (or_else (last_put (puts_of (feed d.tree now) mem) h) (sd.slots.now h)))
+      → (one : OneAct o s mem t t' pos p d (ra.at.told st).told run run' e sd.slots.now) × (one.owes ≡ owes_of (feed d.tree now) mem) × (one.swaps ≡ swaps_left (feed d.tree now) mem)
+  one-act has table slots = tree-acts (feed d.tree now) en.rest_is (leaves-follow-rows task its_moment now here.means at-this en.current) en.gives has table slots

@@ -81,12 +81,6 @@ dues-same m g w (Takes f q ∷ ts) a b e same =
     let rest = dues-same m g w ts (put_word a q (a f)) (put_word b q (b f)) e.1 (λ r i reads. both_same (same_place r q) taken (same r i reads)) in
     ap (λ (x : ℕ). due q x ∷ dues_of ts (put_word a q (a f))) taken ∙ ap (λ (ds : List Due). due q (b f) ∷ ds) rest
 
--- they stay allowed where reading and filling does
-pub todos-kept : (m : Machine) (g : Grip) (w w' : World) (ts : List Todo) → ((q : WordPlace) → Reads g w q Whole → Reads g w' q Whole) → ((q : WordPlace) → Fills g w q → Fills g w' q) → EachTodo m g w ts → EachTodo m g w' ts
-todos-kept m g w w' [] r f e = tt
-todos-kept m g w w' (Puts d ∷ ts) r f e = ((e.0.0, f d.at e.0.1), todos-kept m g w w' ts r f e.1)
-todos-kept m g w w' (Takes p q ∷ ts) r f e = (((e.0.0.0, r p e.0.0.1), e.0.1, f q e.0.2), todos-kept m g w w' ts r f e.1)
-
 each-append : (m : Machine) (g : Grip) (w : World) (ts us : List Todo) → EachTodo m g w ts → EachTodo m g w us → EachTodo m g w (ts ++ us)
 each-append m g w [] us a b = b
 each-append m g w (Puts d ∷ ts) us a b = (a.0, each-append m g w ts us a.1 b)

@@ -1,5 +1,5 @@
--- What processors may do by the locks that their calls hold, while nobody is in guest.
-use Rattle.std.proofs.Common.{◌≡◌, ℕ, ◌<◌, Bool, true, false, ◌==◌, ◌&&◌, ◌||◌, List, [], ◌∷◌, ◌++◌, length, Some, None, refl, ap, sym, ◌∙◌, subst, inl, inr}
+-- What processors may do by the locks that they hold, and by their grips.
+use Rattle.std.proofs.Common.{◌≡◌, ℕ, Bool, true, false, ◌==◌, ◌&&◌, ◌||◌, List, [], ◌∷◌, ◌++◌, length, Some, refl, ap, sym, ◌∙◌, subst, inl, inr}
 use Rattle.std.specs.Prelude.{slice_index}
 use Rattle.std.specs.List.{list_any}
 use Rattle.std.proofs.lemmas.Bool.{eq-eqb}
@@ -17,26 +17,32 @@ use Rattle.flat_core.specs.Lawful.{Lawful}
 use Rattle.flat_core.specs.Row.{Item, Check, Try}
 use Rattle.flat_core.specs.Event.{State}
 use Rattle.flat_core.proofs.Tests.{by_test}
-use Rattle.word_rules.specs.Guards.{Guard, Locked, Reached, Written, Grip, Parted, Apart}
+use Rattle.word_rules.specs.Guards.{Guard, Locked, Reached, Written, Role, Want, Has, Sole, Clear as IsClear, Rule, Grip, Apart, MeetsWant, MeetsAll, Meets}
 use Rattle.word_rules.specs.Lines.{in_lines}
 use Rattle.word_rules.specs.Rules.{View, TdLock, tries}
 use Rattle.word_rules.specs.Spots.{Spot, spot, is_current, is_empty, tdcs_classes, control_class}
 use Rattle.word_rules.specs.Views.{look}
 use Rattle.word_rules.specs.Permissions.{MayAt, Reads, Tries, Respects}
-use Rattle.lock_words.specs.Grips.{HoldsTdr, holds, holds_alone, operation_locks, locks_of, sole_of, lock_has, lock_grip, grip_of, IsExclusive, GripsAreApart}
+use Rattle.lock_words.specs.Grips.{HoldsTdr, holds, operation_locks, locks_of, sole_of, lock_has, lock_grip, grip_with, grip_of}
 use Rattle.lock_words.specs.LockWords.{tdcs_of, place_of, TdStands, Stands, TdLocksStay}
 use Rattle.lock_words.proofs.Shown.{tdcs-page}
 use Rattle.lock_words.proofs.Anchored.{lock_spot}
 use Rattle.leaf_engine.specs.Trees.{Tree, Lock, Load, Test, End, Since, has_acted}
-use Rattle.leaf_engine.specs.Means.{Instant, Work, hold, Loads, Means}
+use Rattle.leaf_engine.specs.Changes.{Memory, Change, Put, PutHash, Raise, Clear, Copy, Swap, changed}
+use Rattle.leaf_engine.specs.Means.{Meaning, OfCall, OfOperation, OfAccess, OfWalk, OfExit, Instant, Work, work_of, hold, MayOweAll, Loads, Means}
 use Rattle.leaf_engine.specs.Follows.{granted, Current, NotActed}
 
 -- the grip that locks alone give
 abbrev pub bare : List Held → Grip
 bare hs = lock_grip hs
 
-abbrev pub NoGuests : State → Type 0
-NoGuests s = (p : ℕ) → (s.lps p).guest ≡ None
+-- the locks of a processor, the newest first: of its guest's operation, and of its call
+abbrev pub locks_at : Lp → List Held
+locks_at lp = operation_locks lp.guest ++ lp.call.held
+
+-- what it has by all of them
+abbrev pub lock_grip_of : State → ℕ → Grip
+lock_grip_of s p = bare (locks_at (s.lps p))
 
 or-true : (a : Bool) → (a || true) ≡ true
 or-true true = refl
@@ -45,6 +51,9 @@ or-true false = refl
 -- locks that were held before those that are
 abbrev pub IsOlder : List Held → List Held → Type 0
 IsOlder hs all = (newer : List Held) × (all ≡ newer ++ hs)
+
+pub whole : (hs : List Held) → IsOlder hs hs
+whole hs = ([], refl)
 
 -- more locks hold what fewer do
 any-left : (f : Held → Bool) (a b : List Held) → list_any f a ≡ true → list_any f (a ++ b) ≡ true
@@ -59,76 +68,126 @@ any-right : (f : Held → Bool) (a b : List Held) → list_any f b ≡ true → 
 any-right f [] b h = h
 any-right f (x ∷ a) b h = rw (any-right f a b h) (or-true (f x))
 
-any-older : (f : Held → Bool) (hs : List Held) (lp : Lp) → IsOlder hs lp.call.held → list_any f hs ≡ true → list_any f (locks_of lp) ≡ true
-any-older f hs lp older h =
-    any-left f lp.call.held (operation_locks lp.guest) (subst (λ (z : List Held). list_any f z ≡ true) (sym older.1) (any-right f older.0 hs h))
-
-parted-held : (s : State) (p q : ℕ) (hs ks : List Held) → Parted (grip_of s p) (grip_of s q) → IsOlder hs (s.lps p).call.held → IsOlder ks (s.lps q).call.held → Parted (bare hs) (bare ks)
-parted-held s p q hs ks all older older' = record { sole = sole; both = both; clear = clear }
+any-inside : (f : Held → Bool) (c a : List Held) (x : Held) → list_any f (c ++ a) ≡ true → list_any f (c ++ x ∷ a) ≡ true
+any-inside f [] a x r = rw r (or-true (f x))
+any-inside f (y ∷ c) a x r = more (f y) (list_any f (c ++ a)) (list_any f (c ++ x ∷ a)) (any-inside f c a x) r
   where
-    has-more : (l : LockId) → holds ks l ≡ true → holds (locks_of (s.lps q)) l ≡ true
-    has-more l = any-older (λ h. same_lock h.lock l) ks (s.lps q) older'
+    more : (u v w : Bool) → (v ≡ true → w ≡ true) → (u || v) ≡ true → (u || w) ≡ true
+    more true v w k q = refl
+    more false v w k q = k q
 
-    sole-more : (l : LockId) (r : ℕ) (js : List Held) → IsOlder js (s.lps r).call.held → holds_alone js l ≡ true → holds_alone (locks_of (s.lps r)) l ≡ true
-    sole-more l r js = any-older (λ h. is_alone h.mode && same_lock h.lock l) js (s.lps r)
+any-swapped : (f : Held → Bool) (a b : List Held) → list_any f (a ++ b) ≡ true → list_any f (b ++ a) ≡ true
+any-swapped f [] b h = any-left f b [] h
+any-swapped f (x ∷ a) b h = by (f x) refl (any-swapped f a b)
+  where
+    by : (t : Bool) → f x ≡ t → (list_any f (a ++ b) ≡ true → list_any f (b ++ a) ≡ true) → list_any f (b ++ x ∷ a) ≡ true
+    by true e k = any-right f b (x ∷ a) (ap (λ (z : Bool). z || list_any f a) e)
+    by false e k = any-inside f b a x (k (ap (λ (z : Bool). z || list_any f (a ++ b)) (sym e) ∙ h))
 
-    sole : (x : Guard) → sole_of hs x ≡ true → lock_has ks x ≡ true → ⊥
-    sole (Locked l) a b = all.sole (Locked l) (sole-more l p hs older a) (has-more l b)
-    sole (Reached r) a b = cc
-    sole (Written r) a b = cc
+any-older : (f : Held → Bool) (hs : List Held) (lp : Lp) → IsOlder hs (locks_at lp) → list_any f hs ≡ true → list_any f (locks_of lp) ≡ true
+any-older f hs lp older h =
+    any-swapped f (operation_locks lp.guest) lp.call.held (subst (λ (z : List Held). list_any f z ≡ true) (sym older.1) (any-right f older.0 hs h))
 
-    both : (x : Guard) → sole_of hs x ≡ true → sole_of ks x ≡ true → ⊥
-    both (Locked l) a b = all.both (Locked l) (sole-more l p hs older a) (sole-more l q ks older' b)
-    both (Reached r) a b = cc
-    both (Written r) a b = cc
+-- a grip that is part of another
+pub record IsPart (g all : Grip) : Type 0 where
+  pub has : (x : Guard) → g.has x ≡ true → all.has x ≡ true
+  pub sole : (x : Guard) → g.sole x ≡ true → all.sole x ≡ true
+  pub clear : (x : Guard) → g.clear x ≡ true → all.clear x ≡ true
 
-    clear : (x : Guard) → (bare hs).clear x ≡ true → lock_has ks x ≡ true → ⊥
-    clear x a b = cc
+pub same-part : (g : Grip) → IsPart g g
+same-part g = record { has = λ x y. y; sole = λ x y. y; clear = λ x y. y }
+
+-- parts of grips that are apart are apart
+pub parts-apart : (g h all others : Grip) → Apart all others → IsPart g all → IsPart h others → Apart g h
+parts-apart g h all others a u v = record {
+  there = record { sole = λ x y z. a.there.sole x (u.sole x y) (v.has x z); both = λ x y z. a.there.both x (u.sole x y) (v.sole x z); clear = λ x y z. a.there.clear x (u.clear x y) (v.has x z) };
+  back = record { sole = λ x y z. a.back.sole x (v.sole x y) (u.has x z); both = λ x y z. a.back.both x (v.sole x y) (u.sole x z); clear = λ x y z. a.back.clear x (v.clear x y) (u.has x z) };
+}
+
+-- what a processor has by locks that it holds, or held before, is part of all that it has
+pub older-part : (s : State) (p : ℕ) (hs : List Held) → IsOlder hs (locks_at (s.lps p)) → IsPart (bare hs) (grip_of s p)
+older-part s p hs older = record { has = has; sole = sole; clear = λ x y. cc }
+  where
+    has : (x : Guard) → lock_has hs x ≡ true → (grip_of s p).has x ≡ true
+    has (Locked l) y = any-older (λ h. same_lock h.lock l) hs (s.lps p) older y
+    has (Reached r) y = cc
+    has (Written r) y = cc
+
+    sole : (x : Guard) → sole_of hs x ≡ true → (grip_of s p).sole x ≡ true
+    sole (Locked l) y = any-older (λ h. is_alone h.mode && same_lock h.lock l) hs (s.lps p) older y
+    sole (Reached r) y = cc
+    sole (Written r) y = cc
+
+pub locks-part : (s : State) (p : ℕ) → IsPart (lock_grip_of s p) (grip_of s p)
+locks-part s p = older-part s p (locks_at (s.lps p)) (whole (locks_at (s.lps p)))
+
+-- and so is what it has by them and its cached translations
+pub with-part : (s : State) (p : ℕ) (hs : List Held) → IsOlder hs (locks_at (s.lps p)) → IsPart (grip_with s p hs) (grip_of s p)
+with-part s p hs older = record { has = has; sole = sole; clear = λ x y. y }
+  where
+    has : (x : Guard) → (grip_with s p hs).has x ≡ true → (grip_of s p).has x ≡ true
+    has (Locked l) y = any-older (λ h. same_lock h.lock l) hs (s.lps p) older y
+    has (Reached r) y = y
+    has (Written r) y = y
+
+    sole : (x : Guard) → sole_of hs x ≡ true → (grip_of s p).sole x ≡ true
+    sole (Locked l) y = any-older (λ h. is_alone h.mode && same_lock h.lock l) hs (s.lps p) older y
+    sole (Reached r) y = cc
+    sole (Written r) y = cc
+
+-- what a leaf acts under is part of what its processor has
+pub grasp-part : (k : Meaning) (c : Instant) (hs : List Held) → IsOlder (hs ++ c.kept) (locks_at (c.state.lps c.me)) → IsPart ((work_of k).grasp c hs) (grip_of c.state c.me)
+grasp-part (OfCall row) c hs older = older-part c.state c.me (hs ++ c.kept) older
+grasp-part (OfOperation t v row) c hs older = with-part c.state c.me (hs ++ c.kept) older
+grasp-part (OfAccess t v line access r gpa page) c hs older = with-part c.state c.me (hs ++ c.kept) older
+grasp-part (OfWalk t v access gpa level page) c hs older = older-part c.state c.me (hs ++ c.kept) older
+grasp-part (OfExit t v out) c hs older = older-part c.state c.me (hs ++ c.kept) older
+
+-- and has what its locks give
+pub hold-part : (k : Meaning) (c : Instant) (hs : List Held) → IsPart (hold c hs) ((work_of k).grasp c hs)
+hold-part k c hs = by k
+  where
+    more : IsPart (lock_grip (hs ++ c.kept)) (grip_with c.state c.me (hs ++ c.kept))
+    more = record { has = has; sole = λ x y. y; clear = λ x y. cc }
+      where
+        has : (x : Guard) → lock_has (hs ++ c.kept) x ≡ true → (grip_with c.state c.me (hs ++ c.kept)).has x ≡ true
+        has (Locked l) y = y
+        has (Reached q) y = cc
+        has (Written q) y = cc
+
+    by : (k : Meaning) → IsPart (hold c hs) ((work_of k).grasp c hs)
+    by (OfCall row) = same-part (hold c hs)
+    by (OfOperation t v row) = more
+    by (OfAccess t v line access r gpa page) = more
+    by (OfWalk t v access gpa level page) = same-part (hold c hs)
+    by (OfExit t v out) = same-part (hold c hs)
+
+-- more of a grip meets what less does
+pub part-meets : (g all : Grip) (at : Role → Guard) (r : Rule) → IsPart g all → Meets g at r → Meets all at r
+part-meets g all at [] u m = absurd m
+part-meets g all at (ws ∷ r) u (inl m) = inl (each ws m)
+  where
+    one : (w : Want) → MeetsWant g at w → MeetsWant all at w
+    one (Has x) m = u.has (at x) m
+    one (Sole x) m = u.sole (at x) m
+    one (IsClear x) m = u.clear (at x) m
+
+    each : (ws : List Want) → MeetsAll g at ws → MeetsAll all at ws
+    each [] m = tt
+    each (w ∷ ws) m = (one w m.0, each ws m.1)
+part-meets g all at (ws ∷ r) u (inr m) = inr (part-meets g all at r u m)
+
+pub part-owes : (m : Machine) (g all : Grip) (w : World) (mem : Memory) (cs : List Change) → IsPart g all → MayOweAll m g w mem cs → MayOweAll m all w mem cs
+part-owes m g all w mem [] u may = tt
+part-owes m g all w mem (Put q x ∷ cs) u may = ((may.0.0, (may.0.1.0, part-meets g all _ _ u may.0.1.1, may.0.1.2)), part-owes m g all w (changed (Put q x) mem) cs u may.1)
+part-owes m g all w mem (PutHash q x ∷ cs) u may = ((may.0.0, part-meets g all _ _ u may.0.1), part-owes m g all w (changed (PutHash q x) mem) cs u may.1)
+part-owes m g all w mem (Raise q more ∷ cs) u may = absurd may.0
+part-owes m g all w mem (Clear p ∷ cs) u may = ((may.0.0, λ i l. part-meets g all _ _ u (may.0.1 i l)), part-owes m g all w (changed (Clear p) mem) cs u may.1)
+part-owes m g all w mem (Copy p q ∷ cs) u may = absurd may.0
+part-owes m g all w mem (Swap h made ∷ cs) u may = ((may.0.0, part-meets g all _ _ u may.0.1), part-owes m g all w (changed (Swap h made) mem) cs u may.1)
 
 pub turned-round : (g h : Grip) → Apart g h → Apart h g
 turned-round g h a = record { there = a.back; back = a.there }
-
-pub apart-held : GripsAreApart → (s : State) (p q : ℕ) (hs ks : List Held) → IsExclusive s → p < s.lp_count → q < s.lp_count → (p == q) ≡ false
-    → IsOlder hs (s.lps p).call.held → IsOlder ks (s.lps q).call.held → Apart (bare hs) (bare ks)
-apart-held apart s p q hs ks ex a b e older older' =
-    let all = apart s p q ex a b e in
-    record { there = parted-held s p q hs ks all.there older older'; back = parted-held s q p ks hs all.back older' older }
-
--- and what each has by its locks is apart from all that another has, with its guest's translations, as in a guest's access
-pub apart-grasp : GripsAreApart → (s : State) (p q : ℕ) (hs : List Held) → IsExclusive s → p < s.lp_count → q < s.lp_count → (p == q) ≡ false → IsOlder hs (s.lps p).call.held → Apart (bare hs) (grip_of s q)
-apart-grasp apart s p q hs ex a b e older =
-    let all = apart s p q ex a b e in
-    let more : (l : LockId) → holds hs l ≡ true → holds (locks_of (s.lps p)) l ≡ true = λ l. any-older (λ h. same_lock h.lock l) hs (s.lps p) older in
-    let more-alone : (l : LockId) → holds_alone hs l ≡ true → holds_alone (locks_of (s.lps p)) l ≡ true = λ l. any-older (λ h. is_alone h.mode && same_lock h.lock l) hs (s.lps p) older in
-    record {
-      there = record { sole = there-sole all more-alone; both = there-both all more-alone; clear = λ x y z. cc };
-      back = record { sole = back-sole all more; both = back-both all more-alone; clear = back-clear all more };
-    }
-  where
-    there-sole : Apart (grip_of s p) (grip_of s q) → ((l : LockId) → holds_alone hs l ≡ true → holds_alone (locks_of (s.lps p)) l ≡ true) → (x : Guard) → sole_of hs x ≡ true → (grip_of s q).has x ≡ true → ⊥
-    there-sole all more (Locked l) y z = all.there.sole (Locked l) (more l y) z
-    there-sole all more (Reached r) y z = cc
-    there-sole all more (Written r) y z = cc
-
-    there-both : Apart (grip_of s p) (grip_of s q) → ((l : LockId) → holds_alone hs l ≡ true → holds_alone (locks_of (s.lps p)) l ≡ true) → (x : Guard) → sole_of hs x ≡ true → (grip_of s q).sole x ≡ true → ⊥
-    there-both all more (Locked l) y z = all.there.both (Locked l) (more l y) z
-    there-both all more (Reached r) y z = cc
-    there-both all more (Written r) y z = cc
-
-    back-sole : Apart (grip_of s p) (grip_of s q) → ((l : LockId) → holds hs l ≡ true → holds (locks_of (s.lps p)) l ≡ true) → (x : Guard) → (grip_of s q).sole x ≡ true → lock_has hs x ≡ true → ⊥
-    back-sole all more (Locked l) y z = all.back.sole (Locked l) y (more l z)
-    back-sole all more (Reached r) y z = cc
-    back-sole all more (Written r) y z = cc
-
-    back-both : Apart (grip_of s p) (grip_of s q) → ((l : LockId) → holds_alone hs l ≡ true → holds_alone (locks_of (s.lps p)) l ≡ true) → (x : Guard) → (grip_of s q).sole x ≡ true → sole_of hs x ≡ true → ⊥
-    back-both all more (Locked l) y z = all.back.both (Locked l) y (more l z)
-    back-both all more (Reached r) y z = cc
-    back-both all more (Written r) y z = cc
-
-    back-clear : Apart (grip_of s p) (grip_of s q) → ((l : LockId) → holds hs l ≡ true → holds (locks_of (s.lps p)) l ≡ true) → (x : Guard) → (grip_of s q).clear x ≡ true → lock_has hs x ≡ true → ⊥
-    back-clear all more (Locked l) y z = all.back.clear (Locked l) y (more l z)
-    back-clear all more (Reached r) y z = cc
-    back-clear all more (Written r) y z = cc
 
 -- the words of a TD's locks are its, in its TDCS page
 

@@ -6,6 +6,7 @@ pub mod Filling
 pub mod Keeping
 pub mod Holding
 pub mod Standing
+pub mod Lines
 pub mod Others
 pub mod Own
 pub mod SlotSteps

@@ -1,19 +1,16 @@
 -- A try, an undo or a release in a merge: one step on the word of a lock, which is the flat machine's next event.
-use Rattle.std.proofs.Common.{◌≡◌, ℕ, ◌<◌, Bool, true, false, ◌==◌, List, [], ◌∷◌, length, Some, None, refl, ap, sym, ◌∙◌, subst}
+use Rattle.std.proofs.Common.{◌≡◌, ℕ, ◌<◌, Bool, true, false, ◌==◌, List, [], ◌∷◌, length, None, refl, ap, sym, ◌∙◌, subst}
 use Rattle.std.proofs.lemmas.Bool.{eqb-true}
 use Rattle.td_words.specs.declared.machines.Machine.{Machine}
-use Rattle.td_words.specs.declared.calls.Call.{Call}
 use Rattle.td_words.specs.declared.replies.Reply.{Reply}
 use Rattle.td_words.specs.Place.{WordPlace, IsIn, address, same_place}
-use Rattle.flat_core.specs.World.{World, put}
-use Rattle.flat_core.specs.Processor.{Held}
+use Rattle.flat_core.specs.World.{World, Made, put}
 use Rattle.flat_core.specs.Opening.{Opening}
 use Rattle.flat_core.specs.Row.{Move}
-use Rattle.flat_core.specs.Table.{row_of}
-use Rattle.flat_core.specs.Event.{State, OfCall, next_event, lines_left, event, call_world}
+use Rattle.flat_core.specs.Event.{State, event}
 use Rattle.flat_core.specs.Run.{bundles_in}
 use Rattle.flat_core.proofs.Tests.{put_here}
-use Rattle.word_rules.specs.Guards.{Apart}
+use Rattle.word_rules.specs.Guards.{Grip, Apart}
 use Rattle.word_rules.specs.Rules.{View, Grade}
 use Rattle.word_rules.specs.Views.{look}
 use Rattle.word_rules.specs.Cells.{IsAs, hasher_cell}
@@ -23,23 +20,19 @@ use Rattle.step_core.specs.declared.steps.WordStep.TheVariants as step
 use Rattle.step_core.specs.Words.{Words, after_step, address_of, answer_of}
 use Rattle.step_core.specs.Items.{Table}
 use Rattle.step_core.specs.declared.items.Taken.TheVariants.{Stepped}
-use Rattle.leaf_engine.specs.declared.events.RunTurn.{RunTurn}
+use Rattle.leaf_engine.specs.declared.events.Event.{Event as RunEvent}
 use Rattle.leaf_engine.specs.Changes.{Memory}
-use Rattle.leaf_engine.specs.Trees.{Tree}
-use Rattle.leaf_engine.specs.Besides.{beside_after}
 use Rattle.leaf_engine.specs.Tables.{IsMemory}
-use Rattle.leaf_engine.specs.Turns.{Standing, IsTurn, has_ended}
-use Rattle.leaf_engine.specs.Calls.{After}
-use Rattle.leaf_engine.specs.OwnLists.{after_turn}
-use Rattle.leaf_engine.proofs.Doings.{Laws as EngineLaws}
-use Rattle.leaf_engine.proofs.Turning.{calls-follow}
+use Rattle.leaf_engine.specs.Turns.{Standing, TurnBy, has_ended}
+use Rattle.leaf_engine.specs.Doing.{LeafAfter}
+use Rattle.leaf_engine.proofs.Doings.{Laws as EngineLaws, follows}
 use Rattle.merge_laws.proofs.Virtual.{table_of, holds-memory, step-same, step-elsewhere}
 use Rattle.merge_laws.proofs.Stores.{Due, last_at, laid, laid-none, laid-same}
-use Rattle.merge_laws.proofs.Holding.{bare, turned-round}
-use Rattle.merge_laws.proofs.Standing.{means-here, Laws, leaf_for, AreTrees, Known, HandOf, RunsAt, on_table, Position, Stands}
+use Rattle.merge_laws.proofs.Holding.{lock_grip_of, locks-part, same-part, turned-round}
+use Rattle.merge_laws.proofs.Standing.{Trees, Does, task_for, DoesHere, Leads, Laws, Grows, AreTrees, Known, HandOf, RunsAt, on_table, Position, Stands}
 use Rattle.merge_laws.proofs.Others.{shown-hand}
 use Rattle.merge_laws.proofs.SlotSteps.{slots-event}
-use Rattle.merge_laws.proofs.Own.{apart-from, grows-by, stands-after, world-of-event, at-other, gathered, none-due}
+use Rattle.merge_laws.proofs.Own.{at-other, gathered, none-due}
 
 pub engine : Laws → EngineLaws
 engine ls = record { follow = ls.follow; steps = ls.steps; places = ls.places; pages = ls.pages }
@@ -52,31 +45,34 @@ answers-same w v (step.Sub n x) at a e = ap w a ∙ (e ∙ ap v (sym a))
 answers-same w v (step.Exchange n old new) at a e = ap w a ∙ (e ∙ ap v (sym a))
 
 -- the event of a turn that is one step on a lock's word
-pub record OneStep (o : Opening) (trees : ℕ → Call → Tree) (s : State) (p : ℕ) (c : Call) (mv : Move Reply) (run run' : Standing) (st : WordStep) (a : ℕ) (q : WordPlace) (result : RunTurn) : Type 0 where
-  pub turn : IsTurn o.machine run (Stepped st a ∷ []) run' result
+pub record OneStep (o : Opening) (s : State) (p : ℕ) (d : Does) (mv : Move Reply) (run run' : Standing) (st : WordStep) (a : ℕ) (q : WordPlace) (e : RunEvent) : Type 0 where
+  pub turn : TurnBy run.stage o.machine run (Stepped st a ∷ []) run' e
   pub going : has_ended run.stage run.held ≡ false
   pub hand : HandOf run'
-  pub next : next_event o s p ≡ Some (OfCall (row_of o p c) mv)
-  pub quiet : call_world (row_of o p c) mv s.world ≡ s.world
+  pub quiet : (event o s p).world ≡ s.world
   pub inside : IsIn o.machine q
   pub at : address_of st ≡ address o.machine.pages q
-  pub tries : Tries (bare (s.lps p).call.held) s.world q
+  pub tries : Tries (lock_grip_of s p) s.world q
 
 -- what came of a piece: memory that shows the state after it
-pub record Moved (o : Opening) (trees : ℕ → Call → Tree) (s : State) (t : Table) (pos : ℕ → Position) : Type 0 where
+pub record Moved (o : Opening) (trees : Trees) (s : State) (t : Table) (pos : ℕ → Position) : Type 0 where
   pub memory : Memory
   pub stands : Stands o trees s memory t pos
 
 -- the event of one step on a lock's word, and how all stands after it
-module _ (ls : Laws) (o : Opening) (trees : ℕ → Call → Tree) (s : State) (mem : Memory) (t : Table) (pos : ℕ → Position) (p : ℕ) (c : Call) (cs : List Call) (rs : List Reply) (mv : Move Reply) (run run' : Standing) (st : WordStep) (a : ℕ) (q : WordPlace)
-    (result : RunTurn) (are : AreTrees o trees) (known : Known o s) (sd : Stands o trees s mem t pos) (i : p < length o.calls) (lines : lines_left o p (s.lps p) ≡ c ∷ cs) (replies : (s.lps p).replies ≡ rs) (none : (pos p).owes ≡ []) (no-swaps : (pos p).swaps ≡ [])
-    (ra : RunsAt o (leaf_for o trees p c) (row_of o p c) s.world mem.words (s.lps p) run) (ho : HandOf run) (one : OneStep o trees s p c mv run run' st a q result) (an : a ≡ answer_of t.words st) where
+module _ (ls : Laws) (o : Opening) (trees : Trees) (s : State) (mem : Memory) (t : Table) (pos : ℕ → Position) (p : ℕ) (d : Does) (mv : Move Reply) (run run' : Standing) (st : WordStep) (a : ℕ) (q : WordPlace)
+    (e : RunEvent) (are : AreTrees o trees) (known : Known o s) (sd : Stands o trees s mem t pos) (i : p < length o.calls) (here : DoesHere o s p d) (leads : Leads o trees s p d) (same_bundles : d.bundles ≡ (pos p).at.beside.bundles) (none : (pos p).owes ≡ []) (no-swaps : (pos p).swaps ≡ [])
+    (ra : RunsAt (task_for o p d) d.far s.world mem.words run) (ho : HandOf run) (one : OneStep o s p d mv run run' st a q e) (an : a ≡ answer_of t.words st) where
   abbrev machine : Machine
   machine = o.machine
 
+  -- what the processor has by its locks
+  abbrev mine : Grip
+  mine = lock_grip_of s p
+
   -- where the processor is after the step
   abbrev its_position : Position
-  its_position = record { at = after_turn c cs rs (beside_after result.event run'.rest (pos p).at.beside) run' result.reply; owes = []; swaps = []; fill = None }
+  its_position = record { at = d.after e run'; owes = []; swaps = []; fill = None }
 
   -- the table after the step
   abbrev stepped_table : Table
@@ -105,10 +101,10 @@ module _ (ls : Laws) (o : Opening) (trees : ℕ → Call → Tree) (s : State) (
       by : (b : Bool) → (k == p) ≡ b → last_at (pos k).owes q ≡ None
       by true e = (let k-is : k ≡ p = eqb-true k p e in ap (λ (z : ℕ). last_at (pos z).owes q) k-is ∙ ap (λ (ds : List Due). last_at ds q) none)
       by false e =
-          none-due ls o trees s mem t pos p q (bare (s.lps p).call.held) (λ k hs j e older. apart-from ls o trees s mem t pos p k hs known sd i j e older) known sd i
+          none-due ls o trees s mem t pos p q mine (locks-part s p) are known sd i
           (record {
-            owes = λ hs g apart owes. (ls.words (bare (s.lps p).call.held) (bare hs) s.world (turned-round (bare hs) (bare (s.lps p).call.held) apart)).tries_owes q g one.tries owes;
-            fills = λ hs apart fills. (ls.words (bare (s.lps p).call.held) (bare hs) s.world (turned-round (bare hs) (bare (s.lps p).call.held) apart)).tries_fills q one.tries fills;
+            owes = λ h g apart owes. (ls.words mine h s.world (turned-round h mine apart)).tries_owes q g one.tries owes;
+            fills = λ h apart fills. (ls.words mine h s.world (turned-round h mine apart)).tries_fills q one.tries fills;
           }) k j e
 
   -- so it is on the table what it is in memory
@@ -119,16 +115,11 @@ module _ (ls : Laws) (o : Opening) (trees : ℕ → Call → Tree) (s : State) (
   word-shown : t.words (address machine.pages q) ≡ shown_table.words (address machine.pages q)
   word-shown = sym word-here ∙ sym (table-shows.words q one.inside)
 
-  -- the call is after its step as its leaf says
-  step-made : After o (leaf_for o trees p c) (row_of o p c) s (event o s p) shown_after run' result
+  -- the leaf is after its step as it says
+  step-made : LeafAfter o (task_for o p d) s d.far shown_after run' e
   step-made =
-      calls-follow (engine ls) o (leaf_for o trees p c) (row_of o p c) s memory_in_hand shown_table shown_after run run' (Stepped st a ∷ []) result (means-here o trees are p c (s.lps p) ra.call.line) refl
-      (shown-hand o trees s mem t pos p c run known sd i ho) ra.call one.going one.turn
+      follows (engine ls) o (task_for o p d) s memory_in_hand d.kept d.far shown_table run here.means (shown-hand o trees s mem t pos p d run known sd i ho) (here.doing memory_in_hand) ra.at shown_after run' (Stepped st a ∷ []) e one.going one.turn
       (an ∙ answers-same t.words shown_table.words st (address machine.pages q) one.at word-shown, (refl, refl))
-
-  -- the world stays
-  world-stays : (event o s p).world ≡ s.world
-  world-stays = world-of-event o s p (row_of o p c) mv one.next ∙ one.quiet
 
   -- memory after the step
   abbrev memory_after : Memory
@@ -143,22 +134,22 @@ module _ (ls : Laws) (o : Opening) (trees : ℕ → Call → Tree) (s : State) (
       by false e = sym (step-made.memory.words r in_r) ∙ (step-elsewhere ls.places machine shown_table.words st q r one.inside in_r one.at e ∙ table-shows.words r in_r)
 
   -- nobody else reads the lock's word
-  never-read : (hs : List Held) (v : View) (r : WordPlace) → Apart (bare hs) (bare (s.lps p).call.held) → Reads (bare hs) s.world r v → same_place r q ≡ true → ⊥
-  never-read hs v r apart reads e =
+  never-read : (h : Grip) (v : View) (r : WordPlace) → Apart h mine → Reads h s.world r v → same_place r q ≡ true → ⊥
+  never-read h v r apart reads e =
       let r-is : r ≡ q = (ls.places.same r q).0 e in
-      (ls.words (bare (s.lps p).call.held) (bare hs) s.world (turned-round (bare hs) (bare (s.lps p).call.held) apart)).tries_reads q v one.tries (subst (λ (z : WordPlace). Reads (bare hs) s.world z v) r-is reads)
+      (ls.words mine h s.world (turned-round h mine apart)).tries_reads q v one.tries (subst (λ (z : WordPlace). Reads h s.world z v) r-is reads)
 
   -- nobody else owes it
-  never-owed : (hs : List Held) (r : WordPlace) (g : Grade) → Apart (bare hs) (bare (s.lps p).call.held) → Owes (bare hs) s.world r g → same_place r q ≡ true → ⊥
-  never-owed hs r g apart owes e =
+  never-owed : (h : Grip) (r : WordPlace) (g : Grade) → Apart h mine → Owes h s.world r g → same_place r q ≡ true → ⊥
+  never-owed h r g apart owes e =
       let r-is : r ≡ q = (ls.places.same r q).0 e in
-      (ls.words (bare (s.lps p).call.held) (bare hs) s.world (turned-round (bare hs) (bare (s.lps p).call.held) apart)).tries_owes q g one.tries (subst (λ (z : WordPlace). Owes (bare hs) s.world z g) r-is owes)
+      (ls.words mine h s.world (turned-round h mine apart)).tries_owes q g one.tries (subst (λ (z : WordPlace). Owes h s.world z g) r-is owes)
 
   -- nobody else fills it
-  never-filled : (hs : List Held) (r : WordPlace) → Apart (bare hs) (bare (s.lps p).call.held) → Fills (bare hs) s.world r → same_place r q ≡ true → ⊥
-  never-filled hs r apart fills e =
+  never-filled : (h : Grip) (r : WordPlace) → Apart h mine → Fills h s.world r → same_place r q ≡ true → ⊥
+  never-filled h r apart fills e =
       let r-is : r ≡ q = (ls.places.same r q).0 e in
-      (ls.words (bare (s.lps p).call.held) (bare hs) s.world (turned-round (bare hs) (bare (s.lps p).call.held) apart)).tries_fills q one.tries (subst (λ (z : WordPlace). Fills (bare hs) s.world z) r-is fills)
+      (ls.words mine h s.world (turned-round h mine apart)).tries_fills q one.tries (subst (λ (z : WordPlace). Fills h s.world z) r-is fills)
 
   -- every other word of the table is as it was
   elsewhere : (r : WordPlace) → IsIn machine r → (same_place r q ≡ true → ⊥) → stepped_table.words (address machine.pages r) ≡ t.words (address machine.pages r)
@@ -195,30 +186,31 @@ module _ (ls : Laws) (o : Opening) (trees : ℕ → Call → Tree) (s : State) (
           (sym (step-elsewhere ls.places machine t.words st q r one.inside in_r one.at e)))
 
   -- after the step all stands as it leaves it
-  pub lock-step : Moved o trees (event o s p) (record t { words = after_step t.words st }) (put pos p (record { at = after_turn c cs rs (beside_after result.event run'.rest (pos p).at.beside) run' result.reply; owes = []; swaps = []; fill = None }))
+  pub lock-step : Moved o trees (event o s p) (record t { words = after_step t.words st }) (put pos p (record { at = d.after e run'; owes = []; swaps = []; fill = None }))
   lock-step =
+      let respects : Respects mine s.world (event o s p).world = subst (λ (w : World). Respects mine s.world w) (sym one.quiet) (ls.compose.same mine s.world) in
       record {
         memory = memory_after;
-        stands = gathered ls o trees s mem memory_after t stepped_table pos p its_position (bare (s.lps p).call.held) (λ k hs j e older. apart-from ls o trees s mem t pos p k hs known sd i j e older) are known sd i
+        stands = gathered ls o trees s mem memory_after t stepped_table pos p its_position mine (locks-part s p) are known sd i
             (record {
-              respects = subst (λ (w : World). Respects (bare (s.lps p).call.held) s.world w) (sym world-stays) (ls.compose.same (bare (s.lps p).call.held) s.world);
-              looks = λ hs v r apart in_r reads. ap (look v) (as-it-was r in_r (λ e. absurd (never-read hs v r apart reads e)));
-              still = λ hs r g apart in_r owes. sym (elsewhere r in_r (λ e. never-owed hs r g apart owes e));
-              filled = λ hs r apart in_r fills. (sym (elsewhere r in_r (λ e. never-filled hs r apart fills e)), as-it-was r in_r (λ e. absurd (never-filled hs r apart fills e)));
+              respects = respects;
+              looks = λ h v r apart in_r reads. ap (look v) (as-it-was r in_r (λ e. absurd (never-read h v r apart reads e)));
+              still = λ h r g apart in_r owes. sym (elsewhere r in_r (λ e. never-owed h r g apart owes e));
+              filled = λ h r apart in_r fills. (sym (elsewhere r in_r (λ e. never-filled h r apart fills e)), as-it-was r in_r (λ e. absurd (never-filled h r apart fills e)));
             })
-            (record { word = step-made.shown.word; hasher = λ h. subst (λ (w : World). IsAs (hasher_cell w h) (mem.slots h)) (sym world-stays) (sd.shows.hasher h) }) refl
-            (slots-event ls o trees s mem t t.slots pos p mem.slots [] its_position known sd i no-swaps
+            (record { word = step-made.shown.word; hasher = λ h. subst (λ (w : World). IsAs (hasher_cell w h) (mem.slots h)) (sym one.quiet) (sd.shows.hasher h) }) refl
+            (slots-event ls o trees s mem t t.slots pos p mem.slots [] its_position mine (locks-part s p) (same-part mine) known sd i no-swaps
             (record {
-              respects = subst (λ (w : World). Respects (bare (s.lps p).call.held) s.world w) (sym world-stays) (ls.compose.same (bare (s.lps p).call.held) s.world);
+              respects = respects;
               there = sd.slots.there;
               makes = λ h in_h. refl;
               written = λ h x e. cc;
               may = tt;
               held = λ x. tt;
             }))
-            (grows-by c cs rs (pos p).at run' result (bundles_in s) (bundles_in (event o s p)) step-made.bundles)
+            (subst (λ (z : List Made). Grows (bundles_in s) (bundles_in (event o s p)) z (d.after e run').beside.bundles) same_bundles (leads.after_grows shown_after run' run'.hasher e step-made))
             (record {
-              stands = stands-after o trees p c cs s (event o s p) shown_after run' run'.hasher result (are.enters_none p (length (s.lps p).replies) c cs lines) lines step-made one.hand.trying rs replies (pos p).at.beside (sd.holds p i).stands.beside;
+              stands = leads.after_stands shown_after run' run'.hasher e step-made one.hand.trying;
               due = tt;
             })
             laid-after;

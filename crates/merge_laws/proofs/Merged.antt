@@ -1,13 +1,11 @@
 -- A merge, gone through piece by piece.
 use Rattle.std.proofs.Common.{◌≡◌, ◌≢◌, ◌⊎◌, ℕ, ◌+◌, ◌-◌, ◌^◌, ◌<◌, ◌≤◌, Bool, true, false, ◌==◌, if◌then◌else◌, List, [], ◌∷◌, ◌++◌, map, length, Option, Some, None, refl, ap, sym, ◌∙◌, subst, inl, inr}
 use Rattle.std.proofs.lemmas.Bool.{eq-eqb, eqb-true, ne_eqb, cases_lt}
-use Rattle.td_words.specs.declared.calls.Call.{Call}
 use Rattle.td_words.specs.Place.{address}
 use Rattle.flat_core.specs.World.{put}
 use Rattle.flat_core.specs.Locks.{sharers, refusals}
 use Rattle.flat_core.specs.Lawful.{Lawful}
 use Rattle.flat_core.specs.Opening.{Opening}
-use Rattle.flat_core.specs.Table.{row_of}
 use Rattle.flat_core.specs.Event.{State, start, event}
 use Rattle.flat_core.specs.Run.{play, run}
 use Rattle.flat_core.proofs.Tests.{put_here}
@@ -26,40 +24,39 @@ use Rattle.leaf_engine.specs.declared.events.Stage.TheVariants as stages
 use Rattle.leaf_engine.specs.declared.needs.Need.{Need}
 use Rattle.leaf_engine.specs.declared.needs.Need.TheVariants as need
 use Rattle.leaf_engine.specs.Changes.{Hand, Memory}
-use Rattle.leaf_engine.specs.Trees.{Tree, settle, passed}
-use Rattle.leaf_engine.specs.Besides.{beside_after}
+use Rattle.leaf_engine.specs.Trees.{settle, passed}
 use Rattle.leaf_engine.specs.Decides.{Wants, IsHand}
-use Rattle.leaf_engine.specs.Turns.{Standing, Comes as TurnComes, TurnBy, TakesBack, GivesBack, has_ended, last_reply}
-use Rattle.leaf_engine.specs.OwnLists.{Piece, Unmarked, Marked, Wordless, joined, last_marked, pieces_for, behind, GoesIn, TurnIn, WordLp, running, after_turn, LinesTurn, OwnTurns}
+use Rattle.leaf_engine.specs.Turns.{Standing, Comes as TurnComes, TurnBy, TakesBack, GivesBack}
+use Rattle.leaf_engine.specs.OwnLists.{Piece, Unmarked, Marked, Wordless, joined, last_marked, pieces_for, behind, GoesIn, TurnIn, WordLp}
 use Rattle.leaf_engine.specs.Merges.{Item, part, steps_taken, order, event_before}
 use Rattle.merge_laws.specs.Merge.{IsUnderWay, MergePlays, table_after}
 use Rattle.merge_laws.proofs.Owing.{Owed, Stores, Swaps, stores_in, swaps_in, FirstSwaps, FirstMisses, AreOwed}
-use Rattle.merge_laws.proofs.Holding.{bare}
-use Rattle.merge_laws.proofs.Standing.{Laws, leaf_for, AreTrees, Known, RunsAt, Fill, Position, Pending, HasInHand, Rest, RestFilling, RestBy, RestOf, on_table, Holds, Stands}
+use Rattle.merge_laws.proofs.Holding.{lock_grip_of}
+use Rattle.merge_laws.proofs.Standing.{FillHolds, Trees, Does, TurnsTo, Laws, AreTrees, Known, Fill, Position, Pending, HasInHand, Rest, RestFilling, RestBy, RestOf, on_table, Holds, Stands}
 use Rattle.merge_laws.proofs.Own.{at-other}
 use Rattle.merge_laws.proofs.Swaps.{SwapDue, SwapsMay}
 use Rattle.merge_laws.proofs.QuietSteps.{owed-step, swap-step}
-use Rattle.merge_laws.proofs.Pieces.{state_after, PieceAnswers, SwapsOn, fits-answers, plays-piece, Came, came-as, answers-as, line-runs}
-use Rattle.merge_laws.proofs.LockPieces.{AtTurn, undo-piece, free-piece}
+use Rattle.merge_laws.proofs.Pieces.{state_after, PieceAnswers, SwapsOn, fits-answers, plays-piece, Came, came-as, answers-as, AtTurn, next-turn, fill-turn}
+use Rattle.merge_laws.proofs.LockPieces.{undo-piece, free-piece}
 use Rattle.merge_laws.proofs.Turns.{Heads, lock-turn}
 use Rattle.merge_laws.proofs.FillSteps.{fill-piece}
 use Rattle.merge_laws.proofs.Verdicts.{verdict-turn}
 use Rattle.merge_laws.proofs.Misses.{may-swap, two-never}
 
 -- the next piece of a turn
-turn-piece : (ls : Laws) (o : Opening) (trees : ℕ → Call → Tree) (s : State) (mem : Memory) (t : Table) (pos : ℕ → Position) (p : ℕ) (c : Call) (cs : List Call) (run run' : Standing) (e : RunEvent) (tp : List Piece) (tps : List (List Piece)) (end_ : WordLp)
-    (piece : Piece) (ps : List Piece) → AtTurn o trees s mem t pos p c cs run → (pos p).owes ≡ [] → TurnIn run.stage o.machine run tp run' e
-    → OwnTurns (leaf_for o trees p) o.machine (after_turn c cs (pos p).at.replies (beside_after e run'.rest (pos p).at.beside) run' (last_reply run'.stage run'.held)) tps end_
+turn-piece : (ls : Laws) (o : Opening) (trees : Trees) (s : State) (mem : Memory) (t : Table) (pos : ℕ → Position) (p : ℕ) (d : Does) (run run' : Standing) (e : RunEvent) (tp : List Piece) (tps : List (List Piece)) (end_ : WordLp)
+    (piece : Piece) (ps : List Piece) → AtTurn o trees s mem t pos p d run → (pos p).owes ≡ [] → TurnIn run.stage o.machine run tp run' e
+    → TurnsTo o trees p (d.after e run') tps end_
     → Heads tp tps piece ps → PieceAnswers t piece → Came o trees p s t pos piece ps end_
-turn-piece ls o trees s mem t pos p c cs run run' e tp tps end_ piece ps a none tn own h an = by run.stage refl tn
+turn-piece ls o trees s mem t pos p d run run' e tp tps end_ piece ps a none tn own h an = by run.stage refl tn
   where
     by-need : (gi : GoesIn o.machine run tp run' e) → run.stage ≡ stages.Trying → (x : Need) → Wants o.machine.pages (settle gi.goes.tree) x → TurnComes o.machine run (passed (settle gi.goes.tree)) gi.goes.loads gi.items x run' e
         → tp ≡ pieces_for x (passed (settle gi.goes.tree)) gi.goes.loads gi.items (behind gi.goes.loads gi.items) → Came o trees p s t pos piece ps end_
     by-need gi st (need.Lock name at mode) g co q =
-        lock-turn ls o trees s mem t pos p c cs run run' e gi.goes.loads gi.items gi.goes.tree name at mode tps end_ piece ps a none st gi.goes.loaded g co own (ap (λ (z : List Piece). z ++ joined tps) (sym q) ∙ h) an
+        lock-turn ls o trees s mem t pos p d run run' e gi.goes.loads gi.items gi.goes.tree name at mode tps end_ piece ps a none st gi.goes.loaded g co own (ap (λ (z : List Piece). z ++ joined tps) (sym q) ∙ h) an
     by-need gi st (need.Load at) g co q = absurd co
     by-need gi st (need.Verdict reply) g co q =
-        verdict-turn ls o trees s mem t pos p c cs run run' e gi.goes.loads gi.items gi.goes.tree reply tps end_ piece ps a none st gi.goes.loaded g co own (ap (λ (z : List Piece). z ++ joined tps) (sym q) ∙ h) an
+        verdict-turn ls o trees s mem t pos p d run run' e gi.goes.loads gi.items gi.goes.tree reply tps end_ piece ps a none st gi.goes.loaded g co own (ap (λ (z : List Piece). z ++ joined tps) (sym q) ∙ h) an
 
     by : (st : Stage) → run.stage ≡ st → TurnIn st o.machine run tp run' e → Came o trees p s t pos piece ps end_
     by stages.Trying st gi = by-need gi st gi.goes.need gi.goes.gives gi.goes.comes gi.pieces
@@ -68,64 +65,29 @@ turn-piece ls o trees s mem t pos p c cs run run' e tp tps end_ piece ps a none 
         let x : Taken = Stepped (step.Sub at 1) tb.items.0 in
         let h' : Marked x ∷ joined tps ≡ piece ∷ ps = ap (λ (z : List Taken). last_marked z ++ joined tps) (sym tb.items.1) ∙ (ap (λ (z : List Piece). z ++ joined tps) (sym si.pieces) ∙ h) in
         came-as o trees p s t pos (Marked x) piece (joined tps) ps end_ h'
-        (undo-piece ls o trees s mem t pos p c cs run run' si.items e name at tps end_ a none st si.turn tb (answers-as t (Marked x) piece (joined tps) ps h' an) own)
+        (undo-piece ls o trees s mem t pos p d run run' si.items e name at tps end_ a none st si.turn tb (answers-as t (Marked x) piece (joined tps) ps h' an) own)
     by (stages.Answered r) st si =
         let both : GivesBack run.held si.items run'.held e × (run' ≡ record run { held = run'.held }) = subst (λ (z : Stage). TurnBy z o.machine run si.items run' e) st si.turn in
         let x : Taken = Stepped (step.Sub both.0.newest.at (weight_of both.0.newest.mode)) both.0.items.0 in
         let h' : Marked x ∷ joined tps ≡ piece ∷ ps = ap (λ (z : List Taken). last_marked z ++ joined tps) (sym both.0.items.1) ∙ (ap (λ (z : List Piece). z ++ joined tps) (sym si.pieces) ∙ h) in
         came-as o trees p s t pos (Marked x) piece (joined tps) ps end_ h'
-        (free-piece ls o trees s mem t pos p c cs run run' si.items e r tps end_ a none st si.turn both.0 both.1 (answers-as t (Marked x) piece (joined tps) ps h' an) own)
+        (free-piece ls o trees s mem t pos p d run run' si.items e r tps end_ a none st si.turn both.0 both.1 (answers-as t (Marked x) piece (joined tps) ps h' an) own)
 
 -- a processor, and the next piece of what it has still to do
-module _ (ls : Laws) (o : Opening) (trees : ℕ → Call → Tree) (s : State) (mem : Memory) (t : Table) (pos : ℕ → Position) (p : ℕ) (end_ : WordLp) (piece : Piece) (ps : List Piece) (are : AreTrees o trees) (known : Known o s) (sd : Stands o trees s mem t pos)
+module _ (ls : Laws) (o : Opening) (trees : Trees) (s : State) (mem : Memory) (t : Table) (pos : ℕ → Position) (p : ℕ) (end_ : WordLp) (piece : Piece) (ps : List Piece) (are : AreTrees o trees) (known : Known o s) (sd : Stands o trees s mem t pos)
     (i : p < length o.calls) (an : PieceAnswers t piece) where
   -- how the processor stands
   processor-stands : Holds o trees p s.world mem.words (on_table o.machine t) (s.lps p) (pos p)
   processor-stands = sd.holds p i
 
-  -- the run that its first line is at
-  runs-at : (c : Call) (cs : List Call) → (pos p).at.lines ≡ c ∷ cs → (run : Standing) → running (leaf_for o trees p c) (pos p).at.run ≡ run → RunsAt o (leaf_for o trees p c) (row_of o p c) s.world mem.words (s.lps p) run
-  runs-at c cs l run is = subst (λ (z : Standing). RunsAt o (leaf_for o trees p c) (row_of o p c) s.world mem.words (s.lps p) z) is (line-runs o trees p c cs s.world mem.words (s.lps p) (pos p).at processor-stands.stands l)
-
-  -- its turn on that line
-  at-turn : (c : Call) (cs : List Call) → (pos p).at.lines ≡ c ∷ cs → (run : Standing) → running (leaf_for o trees p c) (pos p).at.run ≡ run → has_ended run.stage run.held ≡ false → (pos p).swaps ≡ [] → (hand : Hand) → IsHand run.hasher hand
-      → AtTurn o trees s mem t pos p c cs run
-  at-turn c cs l run is going no-swaps hand in-hand =
-      let runs = runs-at c cs l run is in
-      record {
-        are = are;
-        known = known;
-        all = sd;
-        inside = i;
-        lines = processor-stands.stands.lines ∙ l;
-        replies = processor-stands.stands.replies;
-        runs = runs;
-        hand = record { hand = hand; is = in-hand; trying = runs.trying };
-        no_swaps = no-swaps;
-        going = going;
-      }
-
-  -- the hasher in hand of the run that goes on, or of one that begins
-  has-in-hand : (c : Call) (r : Option Standing) (last : Option Measure) (hand : Hand) → HasInHand r last → IsHand last hand → (x : Hand) × IsHand (running (leaf_for o trees p c) r).hasher x
-  has-in-hand c None last hand e k = (None, tt)
-  has-in-hand c (Some r) last hand e k = (hand, subst (λ (z : Option Measure). IsHand z hand) (sym e) k)
-
-  -- the next piece of a turn on the first of these lines
-  next-of-line : (cs : List Call) → (pos p).at.lines ≡ cs → (pos p).owes ≡ [] → (pos p).swaps ≡ [] → (last : Option Measure) (hand : Hand) → HasInHand (pos p).at.run last → IsHand last hand
-      → (e : RunEvent) (tp : List Piece) (tps : List (List Piece)) (after : WordLp) → LinesTurn (leaf_for o trees p) o.machine cs (pos p).at.run (pos p).at.replies (pos p).at.beside e tp after
-      → OwnTurns (leaf_for o trees p) o.machine after tps end_ → Heads tp tps piece ps → Came o trees p s t pos piece ps end_
-  next-of-line [] l none no-swaps last hand has k e tp tps after lt own hd = absurd lt
-  next-of-line (c ∷ cs) l none no-swaps last hand has k e tp tps after lt own hd =
-      let held = has-in-hand c (pos p).at.run last hand has k in
-      turn-piece ls o trees s mem t pos p c cs (running (leaf_for o trees p c) (pos p).at.run) lt.stands e tp tps end_ piece ps
-      (at-turn c cs l (running (leaf_for o trees p c) (pos p).at.run) refl lt.going no-swaps held.0 held.1) none lt.turn
-      (subst (λ (z : WordLp). OwnTurns (leaf_for o trees p) o.machine z tps end_) lt.after_is own) hd an
-
   -- the next piece of these turns
-  next-of-turns : (pos p).owes ≡ [] → (pos p).swaps ≡ [] → (last : Option Measure) (hand : Hand) → HasInHand (pos p).at.run last → IsHand last hand → (turns : List (List Piece)) → OwnTurns (leaf_for o trees p) o.machine (pos p).at turns end_ → joined turns ≡ piece ∷ ps
+  next-of-turns : (pos p).owes ≡ [] → (pos p).swaps ≡ [] → (last : Option Measure) (hand : Hand) → HasInHand (pos p).at.run last → IsHand last hand → (turns : List (List Piece)) → TurnsTo o trees p (pos p).at turns end_ → joined turns ≡ piece ∷ ps
       → Came o trees p s t pos piece ps end_
   next-of-turns q no-swaps last hand has k [] own f = cc
-  next-of-turns q no-swaps last hand has k (tp ∷ tps) own f = next-of-line (pos p).at.lines refl q no-swaps last hand has k own.0 tp tps own.1.0 own.1.1 own.1.2 f
+  next-of-turns q no-swaps last hand has k (tp ∷ tps) own f =
+      let next = next-turn o trees s mem t pos p last hand own.0 tp own.1.0 are known sd i no-swaps has k own.1.1 in
+      turn-piece ls o trees s mem t pos p next.does next.run next.stands own.0 tp tps end_ piece ps next.at q next.turn
+      (subst (λ (z : WordLp). TurnsTo o trees p z tps end_) next.after_is own.1.2) f an
 
   -- the next piece of what is owed: a store, a swap, or a turn once nothing is
   next-of-owed : (pos p).fill ≡ None → (re : Rest o trees p (pos p).at (pos p).owes (pos p).swaps (piece ∷ ps) end_) → (os : List Owed) → re.owed ≡ os → AreOwed o.machine.pages re.hasher re.hand re.items os re.last → Came o trees p s t pos piece ps end_
@@ -141,7 +103,7 @@ module _ (ls : Laws) (o : Opening) (trees : ℕ → Call → Tree) (s : State) (
       (record {
         memory = mem;
         now = record { at = (pos p).at; owes = stores_in os; swaps = (pos p).swaps; fill = None };
-        stands = owed-step ls o trees s mem t pos p d (stores_in os) known sd i (re.owes_are ∙ ap stores_in q) n;
+        stands = owed-step ls o trees s mem t pos p d (stores_in os) are known sd i (re.owes_are ∙ ap stores_in q) n;
         rest = record {
           owed = os;
           owes_are = refl;
@@ -163,8 +125,8 @@ module _ (ls : Laws) (o : Opening) (trees : ℕ → Call → Tree) (s : State) (
       left : (pos p).swaps ≡ d ∷ swaps_in os
       left = re.swaps_are ∙ ap swaps_in q
 
-      may : SwapsMay o.machine (bare (s.lps p).call.held) s.world sd.slots.now (d ∷ swaps_in os)
-      may = subst (λ (z : List SwapDue). SwapsMay o.machine (bare (s.lps p).call.held) s.world sd.slots.now z) left (sd.slots.may p i)
+      may : SwapsMay o.machine (lock_grip_of s p) s.world sd.slots.now (d ∷ swaps_in os)
+      may = subst (λ (z : List SwapDue). SwapsMay o.machine (lock_grip_of s p) s.world sd.slots.now z) left (sd.slots.may p i)
 
       by : FirstSwaps re.items d (λ k ys. AreOwed o.machine.pages k d.taken ys os re.last) ⊎ FirstMisses re.items d → Came o trees p s t pos piece ps end_
       by (inr r) =
@@ -179,7 +141,7 @@ module _ (ls : Laws) (o : Opening) (trees : ℕ → Call → Tree) (s : State) (
           (record {
             memory = mem;
             now = record { at = (pos p).at; owes = (pos p).owes; swaps = swaps_in os; fill = None };
-            stands = swap-step ls o trees s mem t pos p d (swaps_in os) r.put known sd i left n r.is_put;
+            stands = swap-step ls o trees s mem t pos p d (swaps_in os) r.put are known sd i left n r.is_put;
             rest = record {
               owed = os;
               owes_are = re.owes_are ∙ ap stores_in q;
@@ -198,27 +160,21 @@ module _ (ls : Laws) (o : Opening) (trees : ℕ → Call → Tree) (s : State) (
           })
 
   -- the next piece of a fill that goes on
-  next-of-fill : (f : Fill) → (pos p).fill ≡ Some f → (c : Call) (cs : List Call) → (pos p).at.lines ≡ c ∷ cs → (run : Standing) → (pos p).at.run ≡ Some run → RestFilling o trees p c cs (pos p).at.replies (pos p).at.beside (pos p).swaps run f (piece ∷ ps) end_
-      → Came o trees p s t pos piece ps end_
-  next-of-fill f n c cs l run r re =
-      let due : Pending o.machine (bare (s.lps p).call.held) s.world mem.words (on_table o.machine t) (pos p).owes (Some run) (Some f) =
-      subst (λ (z : Option Standing). Pending o.machine (bare (s.lps p).call.held) s.world mem.words (on_table o.machine t) (pos p).owes z (Some f)) r
-      (subst (λ (z : Option Fill). Pending o.machine (bare (s.lps p).call.held) s.world mem.words (on_table o.machine t) (pos p).owes (pos p).at.run z) n processor-stands.due) in
-      let going : has_ended run.stage run.held ≡ false = ap (λ (z : Stage). has_ended z run.held) due.at_end.0 in
-      let is : running (leaf_for o trees p c) (pos p).at.run ≡ run = ap (running (leaf_for o trees p c)) r in
-      let none : IsHand run.hasher None = subst (λ (z : Option Measure). IsHand z None) (sym ((runs-at c cs l run is).trying due.at_end.0)) tt in
-      fill-piece ls o trees s mem t pos p c cs run f end_ piece ps (at-turn c cs l run is going re.no_swaps None none) due re an
+  next-of-fill : (f : Fill) → (pos p).fill ≡ Some f → RestFilling o trees p (pos p).swaps f (piece ∷ ps) end_ → Came o trees p s t pos piece ps end_
+  next-of-fill f n re =
+      let due : FillHolds o trees p s.world mem.words (on_table o.machine t) (s.lps p) (pos p).at (pos p).owes f =
+      subst (λ (z : Option Fill). Pending o trees p s.world mem.words (on_table o.machine t) (s.lps p) (pos p).at (pos p).owes z) n processor-stands.due in
+      fill-piece ls o trees s mem t pos p f end_ piece ps (fill-turn o trees s mem t pos p f are known sd i re.no_swaps due)
+      (subst (λ (z : WordLp). FillHolds o trees p s.world mem.words (on_table o.machine t) (s.lps p) z (pos p).owes f) due.at_is due) re an
 
   -- the next piece, whether a fill goes on or not
-  next-by-fill : (f : Option Fill) (cs : List Call) (r : Option Standing) → (pos p).fill ≡ f → (pos p).at.lines ≡ cs → (pos p).at.run ≡ r → RestBy o trees p (pos p) (piece ∷ ps) end_ f cs r → Came o trees p s t pos piece ps end_
-  next-by-fill None cs r n l q re = next-of-owed n re re.owed refl re.are
-  next-by-fill (Some f) (c ∷ cs) (Some run) n l q re = next-of-fill f n c cs l run q re
-  next-by-fill (Some f) [] r n l q re = absurd re
-  next-by-fill (Some f) (c ∷ cs) None n l q re = absurd re
+  next-by-fill : (f : Option Fill) → (pos p).fill ≡ f → RestBy o trees p (pos p) (piece ∷ ps) end_ f → Came o trees p s t pos piece ps end_
+  next-by-fill None n re = next-of-owed n re re.owed refl re.are
+  next-by-fill (Some f) n re = next-of-fill f n re
 
   -- the next piece comes of what is left
   next-piece : RestOf o trees p (pos p) (piece ∷ ps) end_ → Came o trees p s t pos piece ps end_
-  next-piece rest = next-by-fill (pos p).fill (pos p).at.lines (pos p).at.run refl refl refl rest
+  next-piece rest = next-by-fill (pos p).fill refl rest
 
 -- what is known of the state after an event
 
@@ -245,7 +201,7 @@ known-after ls o s p (Marked x) most known = known-next ls o s p most known
 known-after ls o s p Wordless most known = known-next ls o s p most known
 
 -- after all pieces
-pub record Through (o : Opening) (trees : ℕ → Call → Tree) (s : State) (u : Table) (ends : ℕ → WordLp) : Type 0 where
+pub record Through (o : Opening) (trees : Trees) (s : State) (u : Table) (ends : ℕ → WordLp) : Type 0 where
   pub known : Known o s
   pub memory : Memory
   pub table : Table
@@ -271,7 +227,7 @@ part-other i is k e = ap (λ (b : Bool). if b then i.piece ∷ part k is else pa
     by true f = (let t : (k == i.lp) ≡ true = eq-eqb k i.lp (sym (eqb-true i.lp k f)) in cc)
 
 -- a merge is gone through, piece by piece: its items play, since no swap misses
-pub through : (ls : Laws) (o : Opening) (trees : ℕ → Call → Tree) (is : List Item) (s : State) (mem : Memory) (t u : Table) (pos : ℕ → Position) (ends : ℕ → WordLp) → length o.calls ≤ 8 → AreTrees o trees → Known o s → Stands o trees s mem t pos
+pub through : (ls : Laws) (o : Opening) (trees : Trees) (is : List Item) (s : State) (mem : Memory) (t u : Table) (pos : ℕ → Position) (ends : ℕ → WordLp) → length o.calls ≤ 8 → AreTrees o trees → Known o s → Stands o trees s mem t pos
     → ((p : ℕ) → p < length o.calls → RestOf o trees p (pos p) (part p is) (ends p)) → ((p : ℕ) → length o.calls ≤ p → part p is ≡ []) → MergePlays t is u
     → PlaysTo t (steps_taken is) u × Through o trees (play o (order is) s) u ends
 through ls o trees [] s mem t u pos ends most are known sd rests others plays =
@@ -311,7 +267,7 @@ through ls o trees (i ∷ is) s mem t u pos ends most are known sd rests others 
           where
             both : (x : Piece) → SwapsOn k x → part way.lp is ≡ x ∷ way.swaps.further → ⊥
             both x on e =
-                two-never ls o trees s mem t pos i.lp way.lp k known sd inside lt way.other (may-swap ls o trees s mem t pos i.lp (ends i.lp) i.piece (part i.lp is) are known sd inside k sw mine)
+                two-never ls o s i.lp way.lp k known inside lt way.other (may-swap ls o trees s mem t pos i.lp (ends i.lp) i.piece (part i.lp is) are known sd inside k sw mine)
                 (may-swap ls o trees s mem t pos way.lp (ends way.lp) x way.swaps.further are known sd lt k on
                 (subst (λ (z : List Piece). RestOf o trees way.lp (pos way.lp) z (ends way.lp)) (theirs way.lp way.other ∙ e) (rests way.lp lt)))
 

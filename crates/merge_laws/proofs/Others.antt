@@ -1,15 +1,14 @@
 -- What an event of one processor leaves of where another one is.
-use Rattle.std.proofs.Common.{◌≡◌, ℕ, ◌<◌, List, [], ◌∷◌, ◌++◌, length, Option, Some, None, refl, ap, sym, ◌∙◌, subst, append_assoc}
-use Rattle.std.proofs.lemmas.List.{append-nil}
+use Rattle.std.proofs.Common.{◌≡◌, ◌⊎◌, ℕ, ◌<◌, false, ◌==◌, List, [], ◌∷◌, ◌++◌, length, Option, Some, None, refl, ap, sym, ◌∙◌, subst, append_assoc, inl, inr}
 use Rattle.td_words.specs.declared.machines.Machine.{Machine}
-use Rattle.td_words.specs.declared.calls.Call.{Call}
 use Rattle.td_words.specs.declared.replies.Reply.{Reply}
 use Rattle.td_words.specs.Place.{WordPlace, IsIn, address}
 use Rattle.mrtd_measure.specs.declared.measures.Measure.{Measure}
 use Rattle.flat_core.specs.World.{World}
 use Rattle.flat_core.specs.Processor.{LockId, Held, Phase, Trying, Undoing, Answered}
 use Rattle.flat_core.specs.Opening.{Opening}
-use Rattle.flat_core.specs.Table.{row_of}
+use Rattle.flat_core.specs.Row.{Move, next, next_in}
+use Rattle.leaf_engine.specs.Doing.{event_of}
 use Rattle.flat_core.specs.Lawful.{Lawful}
 use Rattle.flat_core.specs.Event.{State}
 use Rattle.word_rules.specs.Guards.{Grip, Apart}
@@ -17,28 +16,33 @@ use Rattle.word_rules.specs.Rules.{View, Whole, Grade}
 use Rattle.word_rules.specs.Views.{look}
 use Rattle.word_rules.specs.Permissions.{Reads, Owes, Fills, Respects, NoLaterConflict}
 use Rattle.step_core.specs.Items.{Table}
-use Rattle.lock_words.specs.Grips.{HoldTdrs, HoldsTdr, UndoTdr}
+use Rattle.lock_words.specs.Grips.{HoldTdrs, HoldsTdr, UndoTdr, grip_of}
+use Rattle.lock_words.specs.LockWords.{put_word, IsNext}
 use Rattle.leaf_engine.specs.declared.events.HeldLock.{HeldLock}
 use Rattle.leaf_engine.specs.declared.events.Stage.{Stage}
 use Rattle.leaf_engine.specs.declared.events.Stage.TheVariants as stages
-use Rattle.leaf_engine.specs.Changes.{Hand, Memory}
-use Rattle.leaf_engine.specs.Trees.{Tree, Lock, Load, Test, End, Since}
-use Rattle.leaf_engine.specs.Means.{Task, IsAt, work_of, hold}
+use Rattle.leaf_engine.specs.Changes.{Hand, Memory, Change}
+use Rattle.leaf_engine.specs.Trees.{Tree, Lock, Load, Test, End, Since, feed, settle}
+use Rattle.leaf_engine.specs.Follows.{granted, Comes}
+use Rattle.leaf_engine.specs.Means.{Task, Instant, IsAt, work_of, hold, MayFillAll}
 use Rattle.leaf_engine.specs.Decides.{IsHand}
 use Rattle.leaf_engine.specs.Turns.{Standing}
-use Rattle.leaf_engine.specs.Calls.{IsLockAt, AreLocks, IsStage, IsCallAt, IsShown}
-use Rattle.leaf_engine.proofs.Turning.{instant, at-instant}
+use Rattle.leaf_engine.specs.Calls.{IsLockAt, AreLocks, IsStage, IsShown}
+use Rattle.leaf_engine.specs.OwnLists.{WordLp}
+use Rattle.leaf_engine.proofs.Decided.{settled}
+use Rattle.leaf_engine.proofs.Following.{leaves-follow-rows}
 use Rattle.merge_laws.proofs.Virtual.{table_of, holds-memory}
-use Rattle.merge_laws.proofs.Stores.{Due, last_at, or_else, each-map, FillsAt, last-each}
-use Rattle.merge_laws.proofs.Filling.{all_todos, dues-same, todos-kept}
+use Rattle.merge_laws.proofs.Stores.{Due, last_at, or_else, EachDue, FillsAt, last-each}
+use Rattle.merge_laws.proofs.Filling.{Todo, Puts, Takes, all_todos, EachTodo, dues_of, fills-todo, dues-same}
 use Rattle.merge_laws.proofs.Keeping.{keeps-same}
-use Rattle.merge_laws.proofs.Holding.{bare, IsOlder, lock-stays, EachTold, told-reads, told-older, still-current}
-use Rattle.merge_laws.proofs.Standing.{means-here, Laws, leaf_for, AreTrees, Known, HandOf, RunsAt, RunAt, on_table, Fill, Position, seen_by, back, FillHolds, Pending, Holds, Stands}
+use Rattle.merge_laws.proofs.Holding.{bare, locks_at, lock_grip_of, IsOlder, whole, IsPart, parts-apart, older-part, locks-part, grasp-part, hold-part, lock-stays, EachTold, told-reads, told-older, still-current}
+use Rattle.merge_laws.proofs.Standing.{Laws, Trees, AreTrees, Known, HandOf, Does, task_for, moment, act_grip, RunsAt, DoesHere, on_table, Fill, Position, seen_by, back, AreLeft, AreLeftLoaded, FillHolds, Pending, Holds, Stands}
+use Rattle.merge_laws.proofs.Lines.{does-here, stands-stay}
 
 -- words that show a state, on a table that holds them, with the hasher that a run has in hand
-pub shown-hand : (o : Opening) (trees : ℕ → Call → Tree) (s : State) (mem : Memory) (t : Table) (pos : ℕ → Position) (p : ℕ) (c : Call) (run : Standing) → Known o s → Stands o trees s mem t pos → p < length o.calls
-    → (ho : HandOf run) → IsShown (leaf_for o trees p c) s (record mem { hand = ho.hand }) (table_of o.machine mem.slots mem.words) run
-shown-hand o trees s mem t pos p c run known st i ho = record {
+pub shown-hand : (o : Opening) (trees : Trees) (s : State) (mem : Memory) (t : Table) (pos : ℕ → Position) (p : ℕ) (d : Does) (run : Standing) → Known o s → Stands o trees s mem t pos → p < length o.calls
+    → (ho : HandOf run) → IsShown (task_for o p d) s (record mem { hand = ho.hand }) (table_of o.machine mem.slots mem.words) run
+shown-hand o trees s mem t pos p d run known st i ho = record {
   processor = subst (λ (n : ℕ). p < n) (sym known.count) i;
   lawful = known.lawful;
   shown = st.shows;
@@ -54,33 +58,77 @@ shown-hand o trees s mem t pos p c run known st i ho = record {
     empty None x = refl
     empty (Some bytes) x = absurd x
 
-pub shown-of : (o : Opening) (trees : ℕ → Call → Tree) (s : State) (mem : Memory) (t : Table) (pos : ℕ → Position) (p : ℕ) (c : Call) (run : Standing) → Known o s → Stands o trees s mem t pos → p < length o.calls
-    → run.hasher ≡ None → IsShown (leaf_for o trees p c) s mem (table_of o.machine mem.slots mem.words) run
-shown-of o trees s mem t pos p c run known st i none =
+pub shown-of : (o : Opening) (trees : Trees) (s : State) (mem : Memory) (t : Table) (pos : ℕ → Position) (p : ℕ) (d : Does) (run : Standing) → Known o s → Stands o trees s mem t pos → p < length o.calls
+    → run.hasher ≡ None → IsShown (task_for o p d) s mem (table_of o.machine mem.slots mem.words) run
+shown-of o trees s mem t pos p d run known st i none =
     let empty : IsHand run.hasher mem.hand = subst (λ (h : Option Measure). IsHand h mem.hand) (sym none) (subst (λ (h : Hand). IsHand None h) (sym st.hand) tt) in
-    shown-hand o trees s mem t pos p c run known st i (record { hand = mem.hand; is = empty; trying = λ e. none })
+    shown-hand o trees s mem t pos p d run known st i (record { hand = mem.hand; is = empty; trying = λ e. none })
+
+-- the moment at which its leaf's meaning is told
+pub at-moment : (o : Opening) (trees : Trees) (s : State) (mem : Memory) (t : Table) (pos : ℕ → Position) (p : ℕ) (d : Does) → Known o s → Stands o trees s mem t pos → DoesHere o s p d → IsAt (task_for o p d) (moment s mem p d)
+at-moment o trees s mem t pos p d known st here = record {
+  processor = refl;
+  lawful = known.lawful;
+  shown = st.shows;
+  empty_hand = st.hand;
+  nothing_to_tell = known.nothing_to_tell;
+  facts = known.facts;
+  maker = (here.doing mem).maker;
+}
 
 -- what it holds in an instant is its locks
-pub hold-is : (s : State) (mem : Memory) (task : Task) (hs : List Held) → hold (instant task s mem) hs ≡ bare hs
-hold-is s mem task hs = ap bare (append-nil hs)
+pub hold-is : (o : Opening) (s : State) (mem : Memory) (p : ℕ) (d : Does) → DoesHere o s p d → hold (moment s mem p d) d.far.held ≡ lock_grip_of s p
+hold-is o s mem p d here = ap bare here.locks
+
+-- what it acts under is part of what it has
+pub act-part : (o : Opening) (s : State) (mem : Memory) (p : ℕ) (d : Does) → DoesHere o s p d → IsPart (act_grip s mem p d) (grip_of s p)
+act-part o s mem p d here = grasp-part d.meaning (moment s mem p d) d.far.held ([], sym here.locks)
+
+-- and its locks are part of that
+pub locks-in-act : (o : Opening) (s : State) (mem : Memory) (p : ℕ) (d : Does) → DoesHere o s p d → IsPart (lock_grip_of s p) (act_grip s mem p d)
+locks-in-act o s mem p d here = subst (λ (g : Grip). IsPart g (act_grip s mem p d)) (hold-is o s mem p d here) (hold-part d.meaning (moment s mem p d) d.far.held)
+
+-- grips of two processors are apart
+pub grips-apart : (ls : Laws) (o : Opening) (s : State) (k p : ℕ) (g h : Grip) → Known o s → k < length o.calls → p < length o.calls → (k == p) ≡ false → IsPart g (grip_of s k) → IsPart h (grip_of s p) → Apart g h
+grips-apart ls o s k p g h known j i e u v =
+    parts-apart g h (grip_of s k) (grip_of s p) (ls.apart s k p known.exclusive (subst (λ (n : ℕ). k < n) (sym known.count) j) (subst (λ (n : ℕ). p < n) (sym known.count) i) e) u v
+
+-- the move that is due is the flat machine's next event
+trying-phase : (m : Machine) (w : World) (st : Stage) (ph : Phase Reply) → IsStage m w st ph → st ≡ stages.Trying → ph ≡ Trying
+trying-phase m w st Trying i e = refl
+trying-phase m w st (Undoing l) i e = absurd (subst (λ (z : Stage). IsStage m w z (Undoing l)) e i)
+trying-phase m w st (Answered r) i e = absurd (subst (λ (z : Stage). IsStage m w z (Answered r)) e i)
+
+pub due-move : (o : Opening) (s : State) (mem : Memory) (p : ℕ) (d : Does) (run : Standing) → DoesHere o s p d → (ra : RunsAt (task_for o p d) d.far s.world mem.words run) → (st : run.stage ≡ stages.Trying) → (mv : Move Reply)
+    → next ((work_of d.meaning).items s.world) (length (granted d.tree (ra.at.told st).told [])) ≡ mv → IsNext o s p (event_of d.meaning mv)
+due-move o s mem p d run here ra st mv e =
+    let is : next_in ((work_of d.meaning).items s.world) d.far.phase d.far.held ≡ mv =
+    ap (λ (y : Phase Reply). next_in ((work_of d.meaning).items s.world) y d.far.held) (trying-phase o.machine s.world run.stage d.far.phase ra.at.stage st)
+    ∙ (ap (λ (hs : List Held). next ((work_of d.meaning).items s.world) (length hs)) (sym (ra.at.told st).locks) ∙ e) in
+    subst (λ (y : Move Reply). IsNext o s p (event_of d.meaning y)) is (here.doing mem).next
 
 -- what was told is stable, under locks that it had then
 abbrev pub IsStable : Machine → World → List Held → List Held → View → WordPlace → Type 0
-IsStable m w held ks v q = IsOlder ks held × IsIn m q × Reads (bare ks) w q v
+IsStable m w all ks v q = IsOlder ks all × IsIn m q × Reads (bare ks) w q v
 
-pub stable-told : (o : Opening) (trees : ℕ → Call → Tree) (s : State) (mem : Memory) (t : Table) (pos : ℕ → Position) (p : ℕ) (c : Call) (run : Standing) → AreTrees o trees → Known o s → Stands o trees s mem t pos
-    → p < length o.calls → run.hasher ≡ None → (ca : IsCallAt o (leaf_for o trees p c) (row_of o p c) s.world mem.words (s.lps p) run) → (e : run.stage ≡ stages.Trying)
-    → EachTold (IsStable o.machine s.world (s.lps p).call.held) (trees p c) (ca.told e).told []
-stable-told o trees s mem t pos p c run are known st i none ca e =
-    let task : Task = leaf_for o trees p c in
-    let told = ca.told e in
-    let at : IsAt task (instant task s mem) = at-instant o task (row_of o p c) s mem (table_of o.machine mem.slots mem.words) run refl (shown-of o trees s mem t pos p c run known st i none) ca e in
-    let reads = told-reads o.machine (instant task s mem) (work_of task.meaning) [] (trees p c) ((work_of task.meaning).items s.world) told.told ((means-here o trees are p c (s.lps p) ca.line).means (instant task s mem) at) told.current told.waits in
-    let older = told-older (trees p c) told.told [] _ reads in
-    each (trees p c) told.told [] (λ ks v q x. (
-      subst (λ (hs : List Held). IsOlder ks hs) told.locks x.0,
+-- what was told, under the locks held then with those that it keeps
+abbrev pub WithKept : (List Held → View → WordPlace → Type 0) → List Held → List Held → View → WordPlace → Type 0
+WithKept P kept ks v q = P (ks ++ kept) v q
+
+pub stable-told : (o : Opening) (trees : Trees) (s : State) (mem : Memory) (t : Table) (pos : ℕ → Position) (p : ℕ) (d : Does) (run : Standing) → Known o s → Stands o trees s mem t pos → DoesHere o s p d
+    → (ra : RunsAt (task_for o p d) d.far s.world mem.words run) → (e : run.stage ≡ stages.Trying)
+    → EachTold (WithKept (IsStable o.machine s.world (locks_at (s.lps p))) d.kept) d.tree (ra.at.told e).told []
+stable-told o trees s mem t pos p d run known st here ra e =
+    let task : Task = task_for o p d in
+    let told = ra.at.told e in
+    let at : IsAt task (moment s mem p d) = at-moment o trees s mem t pos p d known st here in
+    let reads = told-reads o.machine (moment s mem p d) (work_of task.meaning) [] d.tree ((work_of task.meaning).items s.world) told.told (here.means.means (moment s mem p d) at) told.current told.waits in
+    let older = told-older d.tree told.told [] _ reads in
+    each d.tree told.told [] (λ ks v q x. (
+      subst (λ (all : List Held). IsOlder (ks ++ d.kept) all) here.locks
+          (x.0.0, ap (λ (hs : List Held). hs ++ d.kept) (sym told.locks ∙ x.0.1) ∙ append_assoc x.0.0 ks d.kept),
       x.1.0,
-      subst (λ (g : Grip). Reads g s.world q v) (hold-is s mem task ks) x.1.1,
+      x.1.1,
     )) older
   where
     each : {P Q : List Held → View → WordPlace → Type 0} (t : Tree) (told : List ℕ) (hs : List Held) → ((ks : List Held) (v : View) (q : WordPlace) → P ks v q → Q ks v q) → EachTold P t told hs → EachTold Q t told hs
@@ -91,6 +139,77 @@ stable-told o trees s mem t pos p c run are known st i none ca e =
     each (Test b r t) xs hs f e = λ h. each t xs hs f (e h)
     each (End r fs cs) xs hs f e = tt
     each (Since r cs) xs hs f e = tt
+
+-- the fills of a leaf that fills are allowed
+
+-- what it has come to
+pub told-end : (o : Opening) (p : ℕ) (d : Does) (w : World) (words : WordPlace → ℕ) (run : Standing) (end_ : Tree) → (ra : RunsAt (task_for o p d) d.far w words run) → (e : run.stage ≡ stages.Trying) → run.rest ≡ end_ → settle end_ ≡ end_
+    → feed d.tree (ra.at.told e).told ≡ end_
+told-end o p d w words run end_ ra e is same = sym (settled d.tree (ra.at.told e).told) ∙ (ap settle (sym (ra.at.told e).rest ∙ is) ∙ same)
+
+pub fills-allowed : (o : Opening) (trees : Trees) (s : State) (mem : Memory) (t : Table) (pos : ℕ → Position) (p : ℕ) (f : Fill) → Known o s → Stands o trees s mem t pos → DoesHere o s p f.does
+    → (a : WordPlace → ℕ) (at : WordLp) (owes : List Due) → FillHolds o trees p s.world mem.words a (s.lps p) at owes f → MayFillAll o.machine (act_grip s mem p f.does) s.world f.fills
+fills-allowed o trees s mem t pos p f known st here a at owes h =
+    by f.fills f.changes refl
+    (subst (λ (x : Tree). Comes o.machine c (work_of d.meaning) hs x (next ((work_of d.meaning).items s.world) (length hs))) (told-end o p d s.world mem.words f.run (End f.answer f.fills f.changes) h.runs h.trying h.rest refl)
+    (leaves-follow-rows (task_for o p d) c told here.means (at-moment o trees s mem t pos p d known st here) (h.runs.at.told h.trying).current))
+  where
+    d : Does
+    d = f.does
+
+    c : Instant
+    c = moment s mem p d
+
+    told : List ℕ
+    told = (h.runs.at.told h.trying).told
+
+    hs : List Held
+    hs = granted d.tree told []
+
+    by : (fs cs : List Change) → f.fills ≡ fs → Comes o.machine c (work_of d.meaning) hs (End f.answer fs cs) (next ((work_of d.meaning).items s.world) (length hs)) → MayFillAll o.machine (act_grip s mem p d) s.world fs
+    by fs cs e (inl co) = subst (λ (z : List Change). MayFillAll o.machine (act_grip s mem p d) s.world z) (sym co.2) tt
+    by fs cs e (inr co) =
+        subst (λ (z : List Held). MayFillAll o.machine ((work_of d.meaning).grasp c z) s.world fs) (h.runs.at.told h.trying).locks co.1.fills_allowed
+
+-- those that are made, and those that are left
+pub record FillMay (m : Machine) (g : Grip) (w : World) (words : WordPlace → ℕ) (f : Fill) : Type 0 where
+  pub made : EachDue (FillsAt m g w) f.made
+  pub left : EachTodo m g w f.left
+  pub all : EachTodo m g w (all_todos f.fills)
+
+todos-right : (m : Machine) (g : Grip) (w : World) (xs ys : List Todo) → EachTodo m g w (xs ++ ys) → EachTodo m g w ys
+todos-right m g w [] ys e = e
+todos-right m g w (Puts d ∷ xs) ys e = todos-right m g w xs ys e.1
+todos-right m g w (Takes a b ∷ xs) ys e = todos-right m g w xs ys e.1
+
+dues-left : (P : WordPlace → Type 0) (xs ys : List Due) → EachDue P (xs ++ ys) → EachDue P xs
+dues-left P [] ys e = tt
+dues-left P (x ∷ xs) ys e = (e.0, dues-left P xs ys e.1)
+
+todo-dues : (m : Machine) (g : Grip) (w : World) (ts : List Todo) (a : WordPlace → ℕ) → EachTodo m g w ts → EachDue (FillsAt m g w) (dues_of ts a)
+todo-dues m g w [] a e = tt
+todo-dues m g w (Puts d ∷ ts) a e = (e.0, todo-dues m g w ts (put_word a d.at d.word) e.1)
+todo-dues m g w (Takes f q ∷ ts) a e = ((e.0.1, e.0.2), todo-dues m g w ts (put_word a q (a f)) e.1)
+
+pub fill-may : (o : Opening) (trees : Trees) (s : State) (mem : Memory) (t : Table) (pos : ℕ → Position) (p : ℕ) (f : Fill) → Known o s → Stands o trees s mem t pos → DoesHere o s p f.does
+    → (a : WordPlace → ℕ) (at : WordLp) (owes : List Due) → FillHolds o trees p s.world mem.words a (s.lps p) at owes f → FillMay o.machine (act_grip s mem p f.does) s.world mem.words f
+fill-may o trees s mem t pos p f known st here a at owes h = record {
+  made = dues-left (FillsAt o.machine g s.world) f.made (dues_of f.left (seen_by f.made mem.words)) (subst (λ (z : List Due). EachDue (FillsAt o.machine g s.world) z) (sym h.stores) (todo-dues o.machine g s.world (all_todos f.fills) mem.words all));
+  left = left h.left;
+  all = all;
+}
+  where
+    g : Grip
+    g = act_grip s mem p f.does
+
+    all : EachTodo o.machine g s.world (all_todos f.fills)
+    all = fills-todo o.machine g s.world f.fills (fills-allowed o trees s mem t pos p f known st here a at owes h)
+
+    left : AreLeft (all_todos f.fills) f.left ⊎ AreLeftLoaded (all_todos f.fills) f.left → EachTodo o.machine g s.world f.left
+    left (inl l) = todos-right o.machine g s.world l.done f.left (subst (λ (z : List Todo). EachTodo o.machine g s.world z) l.is all)
+    left (inr l) =
+        let e = todos-right o.machine g s.world l.done (Takes l.from l.at ∷ l.further) (subst (λ (z : List Todo). EachTodo o.machine g s.world z) l.is all) in
+        subst (λ (z : List Todo). EachTodo o.machine g s.world z) (sym l.left_is) ((e.0.1, e.0.2), e.1)
 
 -- locks stay where they are through another's act
 lock-kept : (ls : Laws) (m : Machine) (w w' : World) (hs : List Held) (g' : Grip) (l : LockId) (name : Rattle.td_words.specs.declared.names.LockName.LockName) (at : ℕ) → Lawful m w → Respects g' w w' → Apart (bare hs) g' → HoldsTdr hs l
@@ -107,18 +226,18 @@ lock-kept ls m w w' hs g' l name at lawful r ap_ h it =
 older-more : (h : Held) (hs all : List Held) → IsOlder (h ∷ hs) all → IsOlder hs all
 older-more h hs all (newer, e) = (newer ++ h ∷ [], e ∙ sym (append_assoc newer (h ∷ []) hs))
 
-locks-kept : (ls : Laws) (m : Machine) (w w' : World) (all hs : List Held) (g' : Grip) (held : List HeldLock) → Lawful m w → Respects g' w w' → ((xs : List Held) → IsOlder xs all → Apart (bare xs) g') → IsOlder hs all → HoldTdrs hs
+locks-kept : (ls : Laws) (m : Machine) (w w' : World) (all hs kept : List Held) (g' : Grip) (held : List HeldLock) → Lawful m w → Respects g' w w' → ((xs : List Held) → IsOlder xs all → Apart (bare xs) g') → IsOlder (hs ++ kept) all → HoldTdrs (hs ++ kept)
     → AreLocks m w held hs → AreLocks m w' held hs
-locks-kept ls m w w' all [] g' held lawful r apart older h a = a
-locks-kept ls m w w' all (x ∷ hs) g' held lawful r apart older h a =
-    let further = older-more x hs all older in (
+locks-kept ls m w w' all [] kept g' held lawful r apart older h a = a
+locks-kept ls m w w' all (x ∷ hs) kept g' held lawful r apart older h a =
+    let further = older-more x (hs ++ kept) all older in (
       a.0,
       (
         a.1.0,
         a.1.1,
         a.1.2,
-        lock-kept ls m w w' hs g' x.lock a.1.0.name a.1.0.at lawful r (apart hs further) h.0 a.1.3,
-        locks-kept ls m w w' all hs g' a.0 lawful r apart further h.1 a.1.4,
+        lock-kept ls m w w' (hs ++ kept) g' x.lock a.1.0.name a.1.0.at lawful r (apart (hs ++ kept) further) h.0 a.1.3,
+        locks-kept ls m w w' all hs kept g' a.0 lawful r apart further h.1 a.1.4,
       ),
     )
 
@@ -133,80 +252,85 @@ stage-kept ls m w w' hs g' (stages.Answered reply) Trying lawful r a u i = absur
 stage-kept ls m w w' hs g' (stages.Answered reply) (Undoing l) lawful r a u i = absurd i
 stage-kept ls m w w' hs g' (stages.Answered reply) (Answered x) lawful r a u i = i
 
--- the acting processor's locks are apart from this one's, and it looks the same wherever this one has looked
-pub record Leaves (m : Machine) (held : List Held) (g' : Grip) (w w' : World) (words words' a a' : WordPlace → ℕ) : Type 0 where
-  pub apart : (hs : List Held) → IsOlder hs held → Apart (bare hs) g'
-  pub respects : Respects g' w w'
-  pub looks : (hs : List Held) (v : View) (r : WordPlace) → IsOlder hs held → IsIn m r → Reads (bare hs) w r v → look v (words' r) ≡ look v (words r)
-  pub still : (q : WordPlace) (g : Grade) → IsIn m q → Owes (bare held) w q g → a q ≡ a' q
-  pub filled : (q : WordPlace) → IsIn m q → Fills (bare held) w q → (a q ≡ a' q) × (words' q ≡ words q)
+-- the acting processor's grip is apart from this one's, and it looks the same wherever this one has looked
+pub record Leaves (m : Machine) (s : State) (k : ℕ) (g' : Grip) (w' : World) (words words' a a' : WordPlace → ℕ) : Type 0 where
+  pub apart : (g : Grip) → IsPart g (grip_of s k) → Apart g g'
+  pub respects : Respects g' s.world w'
+  pub looks : (g : Grip) (v : View) (r : WordPlace) → IsPart g (grip_of s k) → IsIn m r → Reads g s.world r v → look v (words' r) ≡ look v (words r)
+  pub still : (q : WordPlace) (g : Grade) → IsIn m q → Owes (lock_grip_of s k) s.world q g → a q ≡ a' q
+  pub filled : (g : Grip) (q : WordPlace) → IsPart g (grip_of s k) → IsIn m q → Fills g s.world q → (a q ≡ a' q) × (words' q ≡ words q)
 
-pub others-stay : (ls : Laws) (o : Opening) (trees : ℕ → Call → Tree) (s : State) (mem : Memory) (t : Table) (pos : ℕ → Position) (k : ℕ) (w' : World) (words' a' : WordPlace → ℕ) (g' : Grip) → AreTrees o trees → Known o s → Stands o trees s mem t pos
-    → k < length o.calls → Leaves o.machine (s.lps k).call.held g' s.world w' mem.words words' (on_table o.machine t) a' → Holds o trees k w' words' a' (s.lps k) (pos k)
+-- a leaf is as far as it was
+pub leaf-stays : (ls : Laws) (o : Opening) (trees : Trees) (s : State) (mem : Memory) (t : Table) (pos : ℕ → Position) (k : ℕ) (d : Does) (run : Standing) (w' : World) (words' a a' : WordPlace → ℕ) (g' : Grip) → Known o s → Stands o trees s mem t pos
+    → DoesHere o s k d → Leaves o.machine s k g' w' mem.words words' a a' → RunsAt (task_for o k d) d.far s.world mem.words run → RunsAt (task_for o k d) d.far w' words' run
+leaf-stays ls o trees s mem t pos k d run w' words' a a' g' known st here lv ra =
+    let all : List Held = d.far.held ++ d.kept in
+    let apart : (xs : List Held) → IsOlder xs all → Apart (bare xs) g' = λ xs older. lv.apart (bare xs) (older-part s k xs (subst (λ (z : List Held). IsOlder xs z) here.locks older)) in
+    record {
+      at = record {
+        stage = stage-kept ls o.machine s.world w' all g' run.stage d.far.phase known.lawful lv.respects (apart all (whole all)) (subst (λ (z : List Held). UndoTdr d.far.phase z) (sym here.locks) here.undo_tdr) ra.at.stage;
+        held = locks-kept ls o.machine s.world w' all d.far.held d.kept g' run.held known.lawful lv.respects apart (whole all) (subst (λ (z : List Held). HoldTdrs z) (sym here.locks) here.held_tdrs) ra.at.held;
+        told = λ e.
+            let told = ra.at.told e in
+            record {
+              told = told.told;
+              current = still-current d.tree told.told [] mem.words words' _ (stable-told o trees s mem t pos k d run known st here ra e) (λ hs v q x. lv.looks (bare (hs ++ d.kept)) v q (older-part s k (hs ++ d.kept) x.0) x.1 x.2) told.current;
+              waits = told.waits;
+              rest = told.rest;
+              locks = told.locks;
+            };
+      };
+      trying = ra.trying;
+    }
+
+pub others-stay : (ls : Laws) (o : Opening) (trees : Trees) (s : State) (mem : Memory) (t : Table) (pos : ℕ → Position) (k : ℕ) (w' : World) (words' a' : WordPlace → ℕ) (g' : Grip) → AreTrees o trees → Known o s → Stands o trees s mem t pos
+    → k < length o.calls → Leaves o.machine s k g' w' mem.words words' (on_table o.machine t) a' → Holds o trees k w' words' a' (s.lps k) (pos k)
 others-stay ls o trees s mem t pos k w' words' a' g' are known st i lv =
     let h = st.holds k i in
-    let whole : IsOlder (s.lps k).call.held (s.lps k).call.held = ([], refl) in
     record {
-      stands = record { lines = h.stands.lines; replies = h.stands.replies; beside = h.stands.beside; run = run (pos k).at.lines (pos k).at.run h.stands.run };
+      stands = stands-stay o trees s k (pos k).at w' mem.words words' are known i (λ d run here. leaf-stays ls o trees s mem t pos k d run w' words' (on_table o.machine t) a' g' known st here lv) h.stands;
       due = pending (pos k).fill h.due;
     }
   where
-    held : List Held
-    held = (s.lps k).call.held
+    held : Grip
+    held = lock_grip_of s k
 
-    later : NoLaterConflict (bare held) g' s.world w'
-    later = ls.acts (bare held) g' s.world w' (lv.apart held ([], refl)) lv.respects
+    later : NoLaterConflict held g' s.world w'
+    later = ls.acts held g' s.world w' (lv.apart held (locks-part s k)) lv.respects
 
-    same-words : (q : WordPlace) → IsIn o.machine q → Reads (bare held) s.world q Whole → words' q ≡ mem.words q
-    same-words q in_q reads = lv.looks held Whole q ([], refl) in_q reads
-
-    filling : (f : Fill) → FillHolds o.machine (bare held) s.world mem.words (on_table o.machine t) (pos k).owes (pos k).at.run f → FillHolds o.machine (bare held) w' words' a' (pos k).owes (pos k).at.run f
+    filling : (f : Fill) → FillHolds o trees k s.world mem.words (on_table o.machine t) (s.lps k) (pos k).at (pos k).owes f → FillHolds o trees k w' words' a' (s.lps k) (pos k).at (pos k).owes f
     filling f h = record {
-      at_end = h.at_end;
-      made_may = each-map (FillsAt o.machine (bare held) s.world) (FillsAt o.machine (bare held) w') f.made (λ q x. (x.0, later.fills_kept q x.1)) h.made_may;
-      left_may = todos-kept o.machine (bare held) s.world w' f.left (λ q x. later.reads_kept q Whole x) later.fills_kept h.left_may;
-      all_may = todos-kept o.machine (bare held) s.world w' (all_todos f.fills) (λ q x. later.reads_kept q Whole x) later.fills_kept h.all_may;
+      is = h.is;
+      at_is = h.at_is;
+      runs = leaf-stays ls o trees s mem t pos k f.does f.run w' words' (on_table o.machine t) a' g' known st here lv h.runs;
+      trying = h.trying;
+      rest = h.rest;
+      left = h.left;
       stores =
-          ap (λ (ds : List Due). f.made ++ ds) (dues-same o.machine (bare held) s.world f.left (seen_by f.made words') (seen_by f.made mem.words) h.left_may (λ q in_q reads. ap (or_else (last_at f.made q)) (same-words q in_q reads)))
-          ∙ (h.stores ∙ sym (dues-same o.machine (bare held) s.world (all_todos f.fills) words' mem.words h.all_may same-words));
-      there = λ r x in_r e. sym (lv.filled r in_r (last-each ls.places (FillsAt o.machine (bare held) s.world) f.made r x h.made_may e).1).0 ∙ h.there r x in_r e;
+          ap (λ (ds : List Due). f.made ++ ds) (dues-same o.machine g s.world f.left (seen_by f.made words') (seen_by f.made mem.words) may.left (λ q in_q reads. ap (or_else (last_at f.made q)) (same-words q in_q reads)))
+          ∙ (h.stores ∙ sym (dues-same o.machine g s.world (all_todos f.fills) words' mem.words may.all same-words));
+      there = λ r x in_r e. sym (lv.filled g r (act-part o s mem k f.does here) in_r (last-each ls.places (FillsAt o.machine g s.world) f.made r x may.made e).1).0 ∙ h.there r x in_r e;
       undo = λ r. h.undo r ∙ by r (last_at f.made r) refl;
     }
       where
+        here : DoesHere o s k f.does
+        here = does-here o trees s k f.does are known i h.is
+
+        g : Grip
+        g = act_grip s mem k f.does
+
+        may : FillMay o.machine g s.world mem.words f
+        may = fill-may o trees s mem t pos k f known st here (on_table o.machine t) (pos k).at (pos k).owes h
+
+        same-words : (q : WordPlace) → IsIn o.machine q → Reads g s.world q Whole → words' q ≡ mem.words q
+        same-words q in_q reads = lv.looks g Whole q (act-part o s mem k f.does here) in_q reads
+
         by : (r : WordPlace) (x : Option ℕ) → last_at f.made r ≡ x → back (last_at f.made r) (mem.words r) ≡ back (last_at f.made r) (words' r)
         by r None e = rw e refl
         by r (Some x) e =
-            let may = last-each ls.places (FillsAt o.machine (bare held) s.world) f.made r x h.made_may e in
-            ap (back (last_at f.made r)) (sym (lv.filled r may.0 may.1).1)
+            let fills = last-each ls.places (FillsAt o.machine g s.world) f.made r x may.made e in
+            ap (back (last_at f.made r)) (sym (lv.filled g r (act-part o s mem k f.does here) fills.0 fills.1).1)
 
-    pending : (f : Option Fill) → Pending o.machine (bare held) s.world mem.words (on_table o.machine t) (pos k).owes (pos k).at.run f → Pending o.machine (bare held) w' words' a' (pos k).owes (pos k).at.run f
-    pending None h = keeps-same o.machine (bare held) (bare held) s.world w' (on_table o.machine t) a' (pos k).owes later.owes_kept lv.still h
+    pending : (f : Option Fill) → Pending o trees k s.world mem.words (on_table o.machine t) (s.lps k) (pos k).at (pos k).owes f → Pending o trees k w' words' a' (s.lps k) (pos k).at (pos k).owes f
+    pending None h = keeps-same o.machine held held s.world w' (on_table o.machine t) a' (pos k).owes later.owes_kept lv.still h
     pending (Some f) h = filling f h
-
-    begun : (c : Call) (r : Standing) → RunsAt o (leaf_for o trees k c) (row_of o k c) s.world mem.words (s.lps k) r → RunsAt o (leaf_for o trees k c) (row_of o k c) w' words' (s.lps k) r
-    begun c r a =
-        let ca = a.call in
-        let whole : IsOlder (s.lps k).call.held (s.lps k).call.held = ([], refl) in
-        record {
-          call = record {
-            line = ca.line;
-            guest = ca.guest;
-            stage = stage-kept ls o.machine s.world w' (s.lps k).call.held g' r.stage (s.lps k).call.phase known.lawful lv.respects (lv.apart (s.lps k).call.held whole) (known.facts.tdrs k).0.1 ca.stage;
-            held = locks-kept ls o.machine s.world w' (s.lps k).call.held (s.lps k).call.held g' r.held known.lawful lv.respects lv.apart whole (known.facts.tdrs k).0.0 ca.held;
-            told = λ e.
-                let told = ca.told e in
-                record {
-                  told = told.told;
-                  current = still-current (trees k c) told.told [] mem.words words' _ (stable-told o trees s mem t pos k c r are known st i (a.trying e) ca e) (λ hs v q x. lv.looks hs v q x.0 x.1 x.2) told.current;
-                  waits = told.waits;
-                  rest = told.rest;
-                  locks = told.locks;
-                };
-          };
-          trying = a.trying;
-        }
-
-    run : (cs : List Call) (r : Option Standing) → RunAt o trees k s.world mem.words (s.lps k) cs r → RunAt o trees k w' words' (s.lps k) cs r
-    run cs None a = a
-    run [] (Some r) a = absurd a
-    run (c ∷ cs) (Some r) a = begun c r a

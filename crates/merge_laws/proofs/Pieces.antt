@@ -1,24 +1,28 @@
 -- One piece of a merge: what it makes of the state, the table, and where its processor is.
-use Rattle.std.proofs.Common.{◌≡◌, ℕ, List, [], ◌∷◌, ◌++◌, Option, Some, None, refl, ◌∙◌, subst}
+use Rattle.std.proofs.Common.{◌≡◌, ℕ, ◌<◌, false, length, sym, ap, List, [], ◌∷◌, ◌++◌, Option, Some, None, refl, ◌∙◌, subst}
 use Rattle.td_words.specs.declared.calls.Call.{Call}
-use Rattle.td_words.specs.Place.{WordPlace}
-use Rattle.flat_core.specs.World.{World, put}
-use Rattle.flat_core.specs.Processor.{Lp}
+use Rattle.flat_core.specs.World.{put}
 use Rattle.flat_core.specs.Opening.{Opening}
 use Rattle.flat_core.specs.Table.{row_of}
-use Rattle.flat_core.specs.Event.{State, event}
+use Rattle.flat_core.specs.Event.{State, lines_left, event}
 use Rattle.step_core.specs.Words.{answer_of}
 use Rattle.step_core.specs.Items.{Table, PlaysTo}
 use Rattle.step_core.specs.declared.items.Taken.{Taken}
 use Rattle.step_core.specs.declared.items.Taken.TheVariants.{Stepped, Swapped, Missed}
-use Rattle.leaf_engine.specs.Changes.{Memory}
-use Rattle.leaf_engine.specs.Trees.{Tree}
-use Rattle.leaf_engine.specs.Turns.{Standing}
-use Rattle.leaf_engine.specs.OwnLists.{Piece, Unmarked, Marked, Wordless, behind, WordLp, running}
+use Rattle.mrtd_measure.specs.declared.measures.Measure.{Measure}
+use Rattle.flat_core.specs.Laws.{IsBetween}
+use Rattle.leaf_engine.specs.declared.events.Event.{Event as RunEvent}
+use Rattle.leaf_engine.specs.declared.events.Stage.{Stage}
+use Rattle.leaf_engine.specs.Changes.{Hand, Memory}
+use Rattle.leaf_engine.specs.Decides.{IsHand}
+use Rattle.leaf_engine.specs.Turns.{Standing, has_ended}
+use Rattle.leaf_engine.specs.Guests.{WordGuest}
+use Rattle.leaf_engine.specs.OwnLists.{Piece, Unmarked, Marked, Wordless, behind, TurnIn, WordLp, running, LinesTurn, LpTurns}
 use Rattle.leaf_engine.specs.Merges.{Item, step_before}
 use Rattle.leaf_engine.proofs.Beginning.{calls-begin}
 use Rattle.merge_laws.specs.Merge.{IsUnderWay, PieceFits, table_after}
-use Rattle.merge_laws.proofs.Standing.{leaf_for, RunsAt, RunAt, StandsAt, Position, RestOf, Stands}
+use Rattle.merge_laws.proofs.Standing.{Trees, leaf_for, table_for, AreTrees, Known, HandOf, Does, task_for, RunsAt, OnCall, RunAt, StandsAt, call_does, IsDoes, DoesHere, HasInHand, Leads, Fill, FillHolds, on_table, Position, RestOf, Stands}
+use Rattle.merge_laws.proofs.Lines.{call-here, call-leads, does-here, does-leads}
 
 abbrev pub state_after : Opening → State → ℕ → Piece → State
 state_after o s p (Unmarked x) = s
@@ -64,14 +68,14 @@ plays-piece t u (Marked (Missed k)) xs f p = absurd f
 plays-piece t u Wordless xs f p = p
 
 -- what came of it
-pub record Came (o : Opening) (trees : ℕ → Call → Tree) (p : ℕ) (s : State) (t : Table) (pos : ℕ → Position) (piece : Piece) (ps : List Piece) (end_ : WordLp) : Type 0 where
+pub record Came (o : Opening) (trees : Trees) (p : ℕ) (s : State) (t : Table) (pos : ℕ → Position) (piece : Piece) (ps : List Piece) (end_ : WordLp) : Type 0 where
   pub memory : Memory
   pub now : Position
   pub stands : Stands o trees (state_after o s p piece) memory (table_after t piece) (put pos p now)
   pub rest : RestOf o trees p now ps end_
 
 -- it is this piece, and these are left
-pub came-as : (o : Opening) (trees : ℕ → Call → Tree) (p : ℕ) (s : State) (t : Table) (pos : ℕ → Position) (piece piece' : Piece) (ps ps' : List Piece) (end_ : WordLp) → piece ∷ ps ≡ piece' ∷ ps' → Came o trees p s t pos piece ps end_
+pub came-as : (o : Opening) (trees : Trees) (p : ℕ) (s : State) (t : Table) (pos : ℕ → Position) (piece piece' : Piece) (ps ps' : List Piece) (end_ : WordLp) → piece ∷ ps ≡ piece' ∷ ps' → Came o trees p s t pos piece ps end_
     → Came o trees p s t pos piece' ps' end_
 came-as o trees p s t pos piece piece' ps ps' end_ e c =
     let a : piece ≡ piece' = cc in
@@ -85,14 +89,97 @@ pub behind-append : (xs ys : List Taken) → behind xs (xs ++ ys) ≡ ys
 behind-append [] ys = refl
 behind-append (x ∷ xs) ys = behind-append xs ys
 
--- a run of a processor's present line, begun or not
-pub line-runs : (o : Opening) (trees : ℕ → Call → Tree) (p : ℕ) (c : Call) (cs : List Call) (w : World) (words : WordPlace → ℕ) (lp : Lp) (at : WordLp) → StandsAt o trees p w words lp at → at.lines ≡ c ∷ cs
-    → RunsAt o (leaf_for o trees p c) (row_of o p c) w words lp (running (leaf_for o trees p c) at.run)
-line-runs o trees p c cs w words lp at st lines = by at.run (subst (λ (z : List Call). RunAt o trees p w words lp z at.run) lines st.run)
+-- a processor at a turn of what it does
+pub record AtTurn (o : Opening) (trees : Trees) (s : State) (mem : Memory) (t : Table) (pos : ℕ → Position) (p : ℕ) (d : Does) (run : Standing) : Type 0 where
+  pub are : AreTrees o trees
+  pub known : Known o s
+  pub all : Stands o trees s mem t pos
+  pub inside : p < length o.calls
+  pub is : IsDoes o trees p (s.lps p) d
+  pub here : DoesHere o s p d
+  pub leads : Leads o trees s p d
+  pub bundles : d.bundles ≡ (pos p).at.beside.bundles
+  pub runs : RunsAt (task_for o p d) d.far s.world mem.words run
+  pub hand : HandOf run
+  pub no_swaps : (pos p).swaps ≡ []
+  pub going : has_ended run.stage run.held ≡ false
+
+-- the turn that it makes next
+pub record NextTurn (o : Opening) (trees : Trees) (s : State) (mem : Memory) (t : Table) (pos : ℕ → Position) (p : ℕ) (e : RunEvent) (tp : List Piece) (after : WordLp) : Type 0 where
+  pub does : Does
+  pub run : Standing
+  pub stands : Standing
+  pub at : AtTurn o trees s mem t pos p does run
+  pub turn : TurnIn run.stage o.machine run tp stands e
+  pub after_is : after ≡ does.after e stands
+
+pub next-turn : (o : Opening) (trees : Trees) (s : State) (mem : Memory) (t : Table) (pos : ℕ → Position) (p : ℕ) (last : Option Measure) (hand : Hand) (e : RunEvent) (tp : List Piece) (after : WordLp) → AreTrees o trees → Known o s → Stands o trees s mem t pos → p < length o.calls
+    → (pos p).swaps ≡ [] → HasInHand (pos p).at.run last → IsHand last hand → LpTurns (table_for o trees p) o.machine (pos p).at e tp after → NextTurn o trees s mem t pos p e tp after
+next-turn o trees s mem t pos p last hand e tp after are known sd i no-swaps has in-hand turn = by (pos p).at.lines (pos p).at.run (pos p).at.guest (sd.holds p i).stands.lines (sd.holds p i).stands.run has turn
   where
-    by : (r : Option Standing) → RunAt o trees p w words lp (c ∷ cs) r → RunsAt o (leaf_for o trees p c) (row_of o p c) w words lp (running (leaf_for o trees p c) r)
-    by None between = record {
-      call = calls-begin o (leaf_for o trees p c) (row_of o p c) w words lp (record { call = c; further = cs; lines = st.lines ∙ lines; row_is = refl }) between;
-      trying = λ e. refl;
+    st : StandsAt o trees p s.world mem.words (s.lps p) (pos p).at
+    st = (sd.holds p i).stands
+
+    its : Call → List Call → Does
+    its c cs = call_does o trees p (s.lps p) c cs (pos p).at.replies (pos p).at.beside
+
+    at-turn : (c : Call) (cs : List Call) (run : Standing) → lines_left o p (s.lps p) ≡ c ∷ cs → OnCall o trees p c s.world mem.words (s.lps p) run → HandOf run → has_ended run.stage run.held ≡ false → AtTurn o trees s mem t pos p (its c cs) run
+    at-turn c cs run l on h going = record {
+      are = are;
+      known = known;
+      all = sd;
+      inside = i;
+      is = record { call = c; further = cs; replies = (pos p).at.replies; beside = (pos p).at.beside; lines = l; replies_are = st.replies; beside_is = st.beside; guest = on.guest; is = refl };
+      here = call-here o trees s p c cs (pos p).at.replies (pos p).at.beside are known i l on.guest;
+      leads = call-leads o trees s p c cs (pos p).at.replies (pos p).at.beside are known i l on.guest st.replies st.beside;
+      bundles = refl;
+      runs = on.runs;
+      hand = h;
+      no_swaps = no-swaps;
+      going = going;
     }
-    by (Some r) a = a
+
+    no-guest : (c : Call) (cs : List Call) (r : Option Standing) (g : WordGuest) → RunAt o trees p s.world mem.words (s.lps p) (c ∷ cs) r (Some g) → ⊥
+    no-guest c cs None g a = a
+    no-guest c cs (Some r) g a = a
+
+    begun : (c : Call) (cs : List Call) → lines_left o p (s.lps p) ≡ c ∷ cs → IsBetween (s.lps p) → OnCall o trees p c s.world mem.words (s.lps p) (running (leaf_for o trees p c) None)
+    begun c cs l between =
+        let ca = calls-begin o (leaf_for o trees p c) (row_of o p c) s.world mem.words (s.lps p) (record { call = c; further = cs; lines = l; row_is = refl }) between in
+        record { guest = between.guest; runs = record { at = record { stage = ca.stage; held = ca.held; told = ca.told }; trying = λ z. refl } }
+
+    by : (cs : List Call) (r : Option Standing) (g : Option WordGuest) → lines_left o p (s.lps p) ≡ cs → RunAt o trees p s.world mem.words (s.lps p) cs r g → HasInHand r last
+        → LinesTurn (table_for o trees p) o.machine cs r g (pos p).at.replies (pos p).at.beside e tp after → NextTurn o trees s mem t pos p e tp after
+    by [] r g l a h lt = absurd lt
+    by (c ∷ cs) r (Some g) l a h lt = absurd (no-guest c cs r g a)
+    by (c ∷ cs) None None l a h lt =
+        let run : Standing = running (leaf_for o trees p c) None in
+        record { does = its c cs; run = run; stands = lt.stands; at = at-turn c cs run l (begun c cs l a) (record { hand = None; is = tt; trying = λ z. refl }) lt.going; turn = lt.turn; after_is = lt.after_is }
+    by (c ∷ cs) (Some r) None l a h lt = record {
+      does = its c cs;
+      run = r;
+      stands = lt.stands;
+      at = at-turn c cs r l a (record { hand = hand; is = subst (λ (z : Option Measure). IsHand z hand) (sym h) in-hand; trying = a.runs.trying }) lt.going;
+      turn = lt.turn;
+      after_is = lt.after_is;
+    }
+
+-- a processor that fills
+pub fill-turn : (o : Opening) (trees : Trees) (s : State) (mem : Memory) (t : Table) (pos : ℕ → Position) (p : ℕ) (f : Fill) → AreTrees o trees → Known o s → Stands o trees s mem t pos → p < length o.calls → (pos p).swaps ≡ []
+    → FillHolds o trees p s.world mem.words (on_table o.machine t) (s.lps p) (pos p).at (pos p).owes f → AtTurn o trees s mem t pos p f.does f.run
+fill-turn o trees s mem t pos p f are known sd i no-swaps h =
+    let leads = does-leads o trees s p f.does are known i h.is in
+    record {
+      are = are;
+      known = known;
+      all = sd;
+      inside = i;
+      is = h.is;
+      here = does-here o trees s p f.does are known i h.is;
+      leads = leads;
+      bundles = sym (leads.within_bundles f.run) ∙ ap (λ (w : WordLp). w.beside.bundles) (sym h.at_is);
+      runs = h.runs;
+      hand = record { hand = None; is = subst (λ (z : Option Measure). IsHand z None) (sym (h.runs.trying h.trying)) tt; trying = h.runs.trying };
+      no_swaps = no-swaps;
+      going = ap (λ (z : Stage). has_ended z f.run.held) h.trying;
+    }

@@ -2,18 +2,16 @@
 use Rattle.std.proofs.Common.{◌≡◌, ◌⊎◌, ℕ, ◌-◌, ◌<◌, Bool, true, false, ◌==◌, if◌then◌else◌, List, [], ◌∷◌, ◌++◌, length, Option, Some, None, refl, ap, sym, ◌∙◌, subst, inl, inr}
 use Rattle.std.proofs.lemmas.Bool.{eqb-true}
 use Rattle.td_words.specs.declared.machines.Machine.{Machine}
-use Rattle.td_words.specs.declared.calls.Call.{Call}
 use Rattle.td_words.specs.Place.{WordPlace, IsIn, address, same_place}
 use Rattle.mrtd_measure.specs.declared.measures.Measure.{Measure}
 use Rattle.flat_core.specs.World.{World, put}
-use Rattle.flat_core.specs.Processor.{Held, Lp}
+use Rattle.flat_core.specs.Processor.{Held}
 use Rattle.flat_core.specs.Opening.{Opening}
 use Rattle.flat_core.specs.Row.{next}
-use Rattle.flat_core.specs.Table.{row_of}
 use Rattle.flat_core.specs.Event.{State}
 use Rattle.flat_core.specs.Run.{bundles_in}
 use Rattle.flat_core.proofs.Tests.{put_here}
-use Rattle.word_rules.specs.Guards.{Apart, Grip}
+use Rattle.word_rules.specs.Guards.{Grip}
 use Rattle.word_rules.specs.Rules.{View, Grade, spares}
 use Rattle.word_rules.specs.Views.{look}
 use Rattle.word_rules.specs.Permissions.{Reads, Sees, Owes, Fills}
@@ -29,51 +27,55 @@ use Rattle.leaf_engine.specs.Decides.{IsHand}
 use Rattle.leaf_engine.specs.Items.{IsLoadAt}
 use Rattle.leaf_engine.specs.Turns.{Standing}
 use Rattle.leaf_engine.specs.Follows.{granted, NotActed, Comes}
-use Rattle.leaf_engine.specs.Calls.{IsCallAt}
+use Rattle.lock_words.specs.Grips.{grip_of}
 use Rattle.leaf_engine.proofs.Decided.{feed-append, settled}
 use Rattle.leaf_engine.proofs.Following.{leaves-follow-rows}
 use Rattle.leaf_engine.proofs.Loading.{LooksRight, current-load, granted-load}
-use Rattle.leaf_engine.proofs.Turning.{instant, at-instant}
 use Rattle.leaf_engine.proofs.Changing.{word_put}
-use Rattle.merge_laws.proofs.Virtual.{table_of}
 use Rattle.merge_laws.proofs.Stores.{Due, last_at, or_else, first-at, not-at, laid, laid-one, laid-same, last-each, OwesAt, FillsAt}
 use Rattle.merge_laws.proofs.Keeping.{Keeps, keeps-same, laid-looks}
-use Rattle.merge_laws.proofs.Holding.{bare, turned-round}
-use Rattle.merge_laws.proofs.Standing.{means-here, Laws, leaf_for, AreTrees, Known, on_table, Fill, Position, back, Pending, Holds, Slots, Stands}
-use Rattle.merge_laws.proofs.Others.{shown-of, hold-is}
+use Rattle.merge_laws.proofs.Holding.{lock_grip_of, IsPart, locks-part, turned-round}
+use Rattle.merge_laws.proofs.Standing.{RunsAt, Trees, Does, task_for, moment, act_grip, DoesHere, Laws, AreTrees, Known, on_table, Fill, Position, back, Pending, Holds, Slots, Stands}
+use Rattle.merge_laws.proofs.Lines.{does-here}
+use Rattle.merge_laws.proofs.Others.{at-moment, hold-is, act-part, grips-apart, fill-may}
 use Rattle.merge_laws.proofs.Swaps.{SwapDue}
 use Rattle.merge_laws.proofs.SlotSteps.{slots-stay, slots-swap}
-use Rattle.merge_laws.proofs.Own.{at-other, grown, whole, apart-from, due-at}
+use Rattle.merge_laws.proofs.Own.{at-other, grown, apart-from, FillsThere, due-at}
 
 -- one processor is elsewhere, in the same state
-pub rearranged : (ls : Laws) (o : Opening) (trees : ℕ → Call → Tree) (s : State) (mem : Memory) (t t' : Table) (pos : ℕ → Position) (p : ℕ) (now : Position) → Stands o trees s mem t pos → Slots o s mem.slots t'.slots (put pos p now)
-    → ((k : ℕ) → k < length o.calls → (k == p) ≡ false → (q : WordPlace) (g : Grade) → IsIn o.machine q → Owes (bare (s.lps k).call.held) s.world q g → on_table o.machine t q ≡ on_table o.machine t' q)
-    → ((k : ℕ) → k < length o.calls → (k == p) ≡ false → (q : WordPlace) → IsIn o.machine q → Fills (bare (s.lps k).call.held) s.world q → on_table o.machine t q ≡ on_table o.machine t' q)
+pub rearranged : (ls : Laws) (o : Opening) (trees : Trees) (s : State) (mem : Memory) (t t' : Table) (pos : ℕ → Position) (p : ℕ) (now : Position) → AreTrees o trees → Known o s → Stands o trees s mem t pos → Slots o s mem.slots t'.slots (put pos p now)
+    → ((k : ℕ) → k < length o.calls → (k == p) ≡ false → (q : WordPlace) (g : Grade) → IsIn o.machine q → Owes (lock_grip_of s k) s.world q g → on_table o.machine t q ≡ on_table o.machine t' q)
+    → ((k : ℕ) → k < length o.calls → (k == p) ≡ false → (g : Grip) → IsPart g (grip_of s k) → (q : WordPlace) → IsIn o.machine q → Fills g s.world q → on_table o.machine t q ≡ on_table o.machine t' q)
     → now.at.beside.bundles ≡ (pos p).at.beside.bundles → Holds o trees p s.world mem.words (on_table o.machine t') (s.lps p) now
     → ((r : WordPlace) → IsIn o.machine r → mem.words r ≡ laid (length o.calls) (λ k. (put pos p now k).owes) (on_table o.machine t') r)
     → Stands o trees s mem t' (put pos p now)
-rearranged ls o trees s mem t t' pos p now sd slots still unfilled same own laid_is = record {
+rearranged ls o trees s mem t t' pos p now are known sd slots still unfilled same own laid_is = record {
   shows = sd.shows;
   hand = sd.hand;
   slots = slots;
-  guests = sd.guests;
   bundles = grown (length o.calls) pos p now (bundles_in s) (bundles_in s) (record { more = []; all = refl; own = same }) sd.bundles;
   holds = holds;
   laid_is = laid_is;
 }
   where
-    pending : (k : ℕ) → k < length o.calls → (k == p) ≡ false → (f : Option Fill) → Pending o.machine (bare (s.lps k).call.held) s.world mem.words (on_table o.machine t) (pos k).owes (pos k).at.run f
-        → Pending o.machine (bare (s.lps k).call.held) s.world mem.words (on_table o.machine t') (pos k).owes (pos k).at.run f
-    pending k j e None h = keeps-same o.machine (bare (s.lps k).call.held) (bare (s.lps k).call.held) s.world s.world (on_table o.machine t) (on_table o.machine t') (pos k).owes (λ q g owes. owes) (still k j e) h
-    pending k j e (Some f) h = record {
-      at_end = h.at_end;
-      made_may = h.made_may;
-      left_may = h.left_may;
-      all_may = h.all_may;
-      stores = h.stores;
-      there = λ r x in_r z. sym (unfilled k j e r in_r (last-each ls.places (FillsAt o.machine (bare (s.lps k).call.held) s.world) f.made r x h.made_may z).1) ∙ h.there r x in_r z;
-      undo = h.undo;
-    }
+    pending : (k : ℕ) → k < length o.calls → (k == p) ≡ false → (f : Option Fill) → Pending o trees k s.world mem.words (on_table o.machine t) (s.lps k) (pos k).at (pos k).owes f
+        → Pending o trees k s.world mem.words (on_table o.machine t') (s.lps k) (pos k).at (pos k).owes f
+    pending k j e None h = keeps-same o.machine (lock_grip_of s k) (lock_grip_of s k) s.world s.world (on_table o.machine t) (on_table o.machine t') (pos k).owes (λ q g owes. owes) (still k j e) h
+    pending k j e (Some f) h =
+        let here : DoesHere o s k f.does = does-here o trees s k f.does are known j h.is in
+        let may = fill-may o trees s mem t pos k f known sd here (on_table o.machine t) (pos k).at (pos k).owes h in
+        record {
+          is = h.is;
+          at_is = h.at_is;
+          runs = h.runs;
+          trying = h.trying;
+          rest = h.rest;
+          left = h.left;
+          stores = h.stores;
+          there = λ r x in_r z.
+              sym (unfilled k j e (act_grip s mem k f.does) (act-part o s mem k f.does here) r in_r (last-each ls.places (FillsAt o.machine (act_grip s mem k f.does) s.world) f.made r x may.made z).1) ∙ h.there r x in_r z;
+          undo = h.undo;
+        }
 
     holds : (k : ℕ) → k < length o.calls → Holds o trees k s.world mem.words (on_table o.machine t') (s.lps k) (put pos p now k)
     holds k j = by (k == p) refl
@@ -92,45 +94,54 @@ rearranged ls o trees s mem t t' pos p now sd slots still unfilled same own laid
             })
 
 -- a load finds what it looks at as memory shows it
-pub loads-right : (ls : Laws) (o : Opening) (trees : ℕ → Call → Tree) (s : State) (mem : Memory) (t : Table) (pos : ℕ → Position) (p : ℕ) (c : Call) (run : Standing) (at a : ℕ) → AreTrees o trees → Known o s → Stands o trees s mem t pos → p < length o.calls
-    → (pos p).owes ≡ [] → run.hasher ≡ None → (ca : IsCallAt o (leaf_for o trees p c) (row_of o p c) s.world mem.words (s.lps p) run) → (e : run.stage ≡ stages.Trying)
-    → IsLoadAt o.machine.pages (feed (trees p c) (ca.told e).told) at → a ≡ t.words at → LooksRight mem.words (feed (trees p c) (ca.told e).told) a
-loads-right ls o trees s mem t pos p c run at a are known sd i none no_hasher ca e load is =
-    by (feed (trees p c) told) (leaves-follow-rows task inst told (means-here o trees are p c (s.lps p) ca.line) (at-instant o task (row_of o p c) s mem (table_of m mem.slots mem.words) run refl (shown-of o trees s mem t pos p c run known sd i no_hasher) ca e) (ca.told e).current) load
+pub loads-right : (ls : Laws) (o : Opening) (trees : Trees) (s : State) (mem : Memory) (t : Table) (pos : ℕ → Position) (p : ℕ) (d : Does) (run : Standing) (at a : ℕ) → AreTrees o trees → Known o s → Stands o trees s mem t pos → p < length o.calls
+    → (pos p).owes ≡ [] → DoesHere o s p d → (ra : RunsAt (task_for o p d) d.far s.world mem.words run) → (e : run.stage ≡ stages.Trying)
+    → IsLoadAt o.machine.pages (feed d.tree (ra.at.told e).told) at → a ≡ t.words at → LooksRight mem.words (feed d.tree (ra.at.told e).told) a
+loads-right ls o trees s mem t pos p d run at a are known sd i none here ra e load is =
+    by (feed d.tree told) (leaves-follow-rows task inst told here.means (at-moment o trees s mem t pos p d known sd here) (ra.at.told e).current) load
   where
     m : Machine
     m = o.machine
 
     task : Task
-    task = leaf_for o trees p c
+    task = task_for o p d
 
     inst : Instant
-    inst = instant task s mem
+    inst = moment s mem p d
 
     told : List ℕ
-    told = (ca.told e).told
+    told = (ra.at.told e).told
 
     hs : List Held
-    hs = granted (trees p c) told []
+    hs = granted d.tree told []
 
-    grip : hold inst hs ≡ bare (s.lps p).call.held
-    grip = hold-is s mem task hs ∙ ap bare (ca.told e).locks
+    own-is : hold inst hs ≡ lock_grip_of s p
+    own-is = ap (hold inst) (ra.at.told e).locks ∙ hold-is o s mem p d here
 
-    never : (v : View) (q : WordPlace) (k : ℕ → Tree) → Loads inst (work_of task.meaning) hs v q k → (j : ℕ) → j < length o.calls → (j == p) ≡ false → (g : Grade) → Owes (bare (s.lps j).call.held) s.world q g → spares g v ≡ false → ⊥
+    act : Grip
+    act = act_grip s mem p d
+
+    act-is : (work_of d.meaning).grasp inst hs ≡ act
+    act-is = ap ((work_of d.meaning).grasp inst) (ra.at.told e).locks
+
+    act-of-it : IsPart act (grip_of s p)
+    act-of-it = act-part o s mem p d here
+
+    never : (v : View) (q : WordPlace) (k : ℕ → Tree) → Loads inst (work_of task.meaning) hs v q k → (j : ℕ) → j < length o.calls → (j == p) ≡ false → (g : Grade) → Owes (lock_grip_of s j) s.world q g → spares g v ≡ false → ⊥
     never v q k (inl reads) j l n g owes ns =
-        (ls.words (bare (s.lps p).call.held) (bare (s.lps j).call.held) s.world (turned-round (bare (s.lps j).call.held) (bare (s.lps p).call.held) (apart-from ls o trees s mem t pos p j (s.lps j).call.held known sd i l n (whole (s.lps j).call.held)))).reads_owes q v g ns
-        (subst (λ (x : Grip). Reads x s.world q v) grip reads) owes
+        (ls.words (lock_grip_of s p) (lock_grip_of s j) s.world (turned-round (lock_grip_of s j) (lock_grip_of s p) (apart-from ls o s p j (lock_grip_of s p) known i l n (locks-part s p)))).reads_owes q v g ns
+        (subst (λ (x : Grip). Reads x s.world q v) own-is reads) owes
     never v q k (inr sees) j l n g owes ns =
-        (ls.words (bare (s.lps p).call.held) (bare (s.lps j).call.held) s.world (turned-round (bare (s.lps j).call.held) (bare (s.lps p).call.held) (apart-from ls o trees s mem t pos p j (s.lps j).call.held known sd i l n (whole (s.lps j).call.held)))).sees_owes q v g ns
-        (subst (λ (x : Grip). Sees x s.world q v) grip sees.0) owes
+        (ls.words act (lock_grip_of s j) s.world (turned-round (lock_grip_of s j) act (apart-from ls o s p j act known i l n act-of-it))).sees_owes q v g ns
+        (subst (λ (x : Grip). Sees x s.world q v) act-is sees.0) owes
 
-    never-filled : (v : View) (q : WordPlace) (k : ℕ → Tree) → Loads inst (work_of task.meaning) hs v q k → (j : ℕ) → j < length o.calls → (j == p) ≡ false → Fills (bare (s.lps j).call.held) s.world q → ⊥
-    never-filled v q k (inl reads) j l n fills =
-        (ls.words (bare (s.lps j).call.held) (bare (s.lps p).call.held) s.world (apart-from ls o trees s mem t pos p j (s.lps j).call.held known sd i l n (whole (s.lps j).call.held))).fills_reads q v fills
-        (subst (λ (x : Grip). Reads x s.world q v) grip reads)
-    never-filled v q k (inr sees) j l n fills =
-        (ls.words (bare (s.lps j).call.held) (bare (s.lps p).call.held) s.world (apart-from ls o trees s mem t pos p j (s.lps j).call.held known sd i l n (whole (s.lps j).call.held))).fills_sees q v fills
-        (subst (λ (x : Grip). Sees x s.world q v) grip sees.0)
+    never-filled : (v : View) (q : WordPlace) (k : ℕ → Tree) → Loads inst (work_of task.meaning) hs v q k → (j : ℕ) → j < length o.calls → (j == p) ≡ false → (g : Grip) → IsPart g (grip_of s j) → Fills g s.world q → ⊥
+    never-filled v q k (inl reads) j l n g part fills =
+        (ls.words g (lock_grip_of s p) s.world (grips-apart ls o s j p g (lock_grip_of s p) known l i n part (locks-part s p))).fills_reads q v fills
+        (subst (λ (x : Grip). Reads x s.world q v) own-is reads)
+    never-filled v q k (inr sees) j l n g part fills =
+        (ls.words g act s.world (grips-apart ls o s j p g act known l i n part act-of-it)).fills_sees q v fills
+        (subst (λ (x : Grip). Sees x s.world q v) act-is sees.0)
 
     Either : (v : View) (q : WordPlace) (j : ℕ) → Type 0
     Either v q j = (last_at (pos j).owes q ≡ None) ⊎ ((g : Grip) × (w : World) × Keeps m g w (on_table m t) (pos j).owes × ((x : Grade) → Owes g w q x → spares x v ≡ false → ⊥))
@@ -138,13 +149,18 @@ loads-right ls o trees s mem t pos p c run at a are known sd i none no_hasher ca
     each : (v : View) (q : WordPlace) (k : ℕ → Tree) → Loads inst (work_of task.meaning) hs v q k → (j : ℕ) → j < length o.calls → Either v q j
     each v q k lo j l = test (j == p) refl
       where
-        other : (j == p) ≡ false → (f : Option Fill) → Pending m (bare (s.lps j).call.held) s.world mem.words (on_table m t) (pos j).owes (pos j).at.run f → Either v q j
-        other h None pe = inr (bare (s.lps j).call.held, s.world, pe, never v q k lo j l h)
+        other : (j == p) ≡ false → (f : Option Fill) → Pending o trees j s.world mem.words (on_table m t) (s.lps j) (pos j).at (pos j).owes f → Either v q j
+        other h None pe = inr (lock_grip_of s j, s.world, pe, never v q k lo j l h)
         other h (Some f) pe = inl (pe.undo q ∙ made (last_at f.made q) refl)
           where
+            there : DoesHere o s j f.does
+            there = does-here o trees s j f.does are known l pe.is
+
             made : (x : Option ℕ) → last_at f.made q ≡ x → back (last_at f.made q) (mem.words q) ≡ None
             made None e = ap (λ (z : Option ℕ). back z (mem.words q)) e
-            made (Some x) e = absurd (never-filled v q k lo j l h (last-each ls.places (FillsAt m (bare (s.lps j).call.held) s.world) f.made q x pe.made_may e).1)
+            made (Some x) e =
+                absurd (never-filled v q k lo j l h (act_grip s mem j f.does) (act-part o s mem j f.does there)
+                (last-each ls.places (FillsAt m (act_grip s mem j f.does) s.world) f.made q x (fill-may o trees s mem t pos j f known sd there (on_table m t) (pos j).at (pos j).owes pe).made e).1)
 
         test : (b : Bool) → (j == p) ≡ b → Either v q j
         test true h = (let j-is : j ≡ p = eqb-true j p h in inl (ap (λ (z : ℕ). last_at (pos z).owes q) j-is ∙ ap (λ (ds : List Due). last_at ds q) none))
@@ -185,37 +201,38 @@ not-acted-load (Since r cs) told a n h = absurd h
 abbrev pub loaded : Standing → ℕ → Standing
 loaded run a = record run { rest = fed (settle run.rest) a }
 
-pub told-load : (o : Opening) (trees : ℕ → Call → Tree) (p : ℕ) (c : Call) (w : World) (words : WordPlace → ℕ) (lp : Lp) (run : Standing) (a : ℕ) → (ca : IsCallAt o (leaf_for o trees p c) (row_of o p c) w words lp run) → (e : run.stage ≡ stages.Trying)
-    → LooksRight words (feed (trees p c) (ca.told e).told) a → GoesOnBehind (feed (trees p c) (ca.told e).told) a → IsCallAt o (leaf_for o trees p c) (row_of o p c) w words lp (loaded run a)
-told-load o trees p c w words lp run a ca e right on = record {
-  line = ca.line;
-  guest = ca.guest;
-  stage = ca.stage;
-  held = ca.held;
-  told = λ h.
-      let told = (ca.told e).told in
-      let at : settle run.rest ≡ feed (trees p c) told = ap settle (ca.told e).rest ∙ settled (trees p c) told in
-      record {
-        told = told ++ a ∷ [];
-        current = current-load words (trees p c) told a (ca.told e).current right;
-        waits = not-acted-load (trees p c) told a (ca.told e).waits on;
-        rest = ap (λ (z : Tree). fed z a) at ∙ feed-append (trees p c) told (a ∷ []);
-        locks = granted-load words (trees p c) told a [] right ∙ (ca.told e).locks;
-      };
+pub told-load : (o : Opening) (p : ℕ) (d : Does) (w : World) (words : WordPlace → ℕ) (run : Standing) (a : ℕ) → (ra : RunsAt (task_for o p d) d.far w words run) → (e : run.stage ≡ stages.Trying)
+    → LooksRight words (feed d.tree (ra.at.told e).told) a → GoesOnBehind (feed d.tree (ra.at.told e).told) a → RunsAt (task_for o p d) d.far w words (loaded run a)
+told-load o p d w words run a ra e right on = record {
+  at = record {
+    stage = ra.at.stage;
+    held = ra.at.held;
+    told = λ h.
+        let told = (ra.at.told e).told in
+        let at : settle run.rest ≡ feed d.tree told = ap settle (ra.at.told e).rest ∙ settled d.tree told in
+        record {
+          told = told ++ a ∷ [];
+          current = current-load words d.tree told a (ra.at.told e).current right;
+          waits = not-acted-load d.tree told a (ra.at.told e).waits on;
+          rest = ap (λ (z : Tree). feed z (a ∷ [])) at ∙ feed-append d.tree told (a ∷ []);
+          locks = granted-load words d.tree told a [] right ∙ (ra.at.told e).locks;
+        };
+  };
+  trying = ra.trying;
 }
 
 -- a store at a place where nobody else may owe or fill: others stay where they are
 pub record SoleAt (o : Opening) (s : State) (p : ℕ) (at : WordPlace) : Type 0 where
-  pub owes : (k : ℕ) → k < length o.calls → (k == p) ≡ false → (g : Grade) → Owes (bare (s.lps k).call.held) s.world at g → ⊥
-  pub fills : (k : ℕ) → k < length o.calls → (k == p) ≡ false → Fills (bare (s.lps k).call.held) s.world at → ⊥
+  pub owes : (k : ℕ) → k < length o.calls → (k == p) ≡ false → (g : Grade) → Owes (lock_grip_of s k) s.world at g → ⊥
+  pub fills : (k : ℕ) → k < length o.calls → (k == p) ≡ false → (g : Grip) → IsPart g (grip_of s k) → Fills g s.world at → ⊥
 
-pub store-step : (ls : Laws) (o : Opening) (trees : ℕ → Call → Tree) (s : State) (mem : Memory) (t : Table) (pos : ℕ → Position) (p : ℕ) (d : Due) (now : Position) → Stands o trees s mem t pos → p < length o.calls → IsIn o.machine d.at → SoleAt o s p d.at
+pub store-step : (ls : Laws) (o : Opening) (trees : Trees) (s : State) (mem : Memory) (t : Table) (pos : ℕ → Position) (p : ℕ) (d : Due) (now : Position) → AreTrees o trees → Known o s → Stands o trees s mem t pos → p < length o.calls → IsIn o.machine d.at → SoleAt o s p d.at
     → (let t' = record t { words = after_step t.words (step.Store (address o.machine.pages d.at) d.word) } in
     Holds o trees p s.world mem.words (on_table o.machine t') (s.lps p) now
     → ((r : WordPlace) → IsIn o.machine r → same_place r d.at ≡ true → mem.words r ≡ or_else (last_at (pos p).owes r) (on_table o.machine t r) → mem.words r ≡ or_else (last_at now.owes r) d.word)
     → ((r : WordPlace) → same_place r d.at ≡ false → last_at now.owes r ≡ last_at (pos p).owes r) → now.swaps ≡ (pos p).swaps → now.at.beside.bundles ≡ (pos p).at.beside.bundles
     → Stands o trees s mem t' (put pos p now))
-store-step ls o trees s mem t pos p d now sd i in_d sole own here there swaps bundles = rearranged ls o trees s mem t t' pos p now sd (slots-stay o s mem.slots t.slots pos p now sd.slots swaps) still unfilled bundles own laid-after
+store-step ls o trees s mem t pos p d now are known sd i in_d sole own here there swaps bundles = rearranged ls o trees s mem t t' pos p now are known sd (slots-stay o s mem.slots t.slots pos p now sd.slots swaps) still unfilled bundles own laid-after
   where
     m : Machine
     m = o.machine
@@ -233,11 +250,11 @@ store-step ls o trees s mem t pos p d now sd i in_d sole own here there swaps bu
         by true f = absurd (not f)
         by false f = sym (stored-at r in_r ∙ ap (λ (b : Bool). if b then d.word else on_table m t r) f)
 
-    still : (k : ℕ) → k < length o.calls → (k == p) ≡ false → (q : WordPlace) (g : Grade) → IsIn m q → Owes (bare (s.lps k).call.held) s.world q g → on_table m t q ≡ on_table m t' q
-    still k j e q g in_q owes = elsewhere q in_q (λ f. sole.owes k j e g (subst (λ (z : WordPlace). Owes (bare (s.lps k).call.held) s.world z g) ((ls.places.same q d.at).0 f) owes))
+    still : (k : ℕ) → k < length o.calls → (k == p) ≡ false → (q : WordPlace) (g : Grade) → IsIn m q → Owes (lock_grip_of s k) s.world q g → on_table m t q ≡ on_table m t' q
+    still k j e q g in_q owes = elsewhere q in_q (λ f. sole.owes k j e g (subst (λ (z : WordPlace). Owes (lock_grip_of s k) s.world z g) ((ls.places.same q d.at).0 f) owes))
 
-    unfilled : (k : ℕ) → k < length o.calls → (k == p) ≡ false → (q : WordPlace) → IsIn m q → Fills (bare (s.lps k).call.held) s.world q → on_table m t q ≡ on_table m t' q
-    unfilled k j e q in_q fills = elsewhere q in_q (λ f. sole.fills k j e (subst (λ (z : WordPlace). Fills (bare (s.lps k).call.held) s.world z) ((ls.places.same q d.at).0 f) fills))
+    unfilled : (k : ℕ) → k < length o.calls → (k == p) ≡ false → (g : Grip) → IsPart g (grip_of s k) → (q : WordPlace) → IsIn m q → Fills g s.world q → on_table m t q ≡ on_table m t' q
+    unfilled k j e g part q in_q fills = elsewhere q in_q (λ f. sole.fills k j e g part (subst (λ (z : WordPlace). Fills g s.world z) ((ls.places.same q d.at).0 f) fills))
 
     none-else : (k : ℕ) → k < length o.calls → (k == p) ≡ false → (r : WordPlace) → same_place r d.at ≡ true → last_at (pos k).owes r ≡ None
     none-else k j e r at = by (last_at (pos k).owes r) refl
@@ -245,13 +262,13 @@ store-step ls o trees s mem t pos p d now sd i in_d sole own here there swaps bu
         r-is : r ≡ d.at
         r-is = (ls.places.same r d.at).0 at
 
-        either : OwesAt m (bare (s.lps k).call.held) s.world r ⊎ FillsAt m (bare (s.lps k).call.held) s.world r → last_at (pos k).owes r ≡ None
-        either (inl owed) = absurd (sole.owes k j e owed.1.0 (subst (λ (z : WordPlace). Owes (bare (s.lps k).call.held) s.world z owed.1.0) r-is owed.1.1))
-        either (inr filled) = absurd (sole.fills k j e (subst (λ (z : WordPlace). Fills (bare (s.lps k).call.held) s.world z) r-is filled.1))
+        either : OwesAt m (lock_grip_of s k) s.world r ⊎ FillsThere m s k r → last_at (pos k).owes r ≡ None
+        either (inl owed) = absurd (sole.owes k j e owed.1.0 (subst (λ (z : WordPlace). Owes (lock_grip_of s k) s.world z owed.1.0) r-is owed.1.1))
+        either (inr filled) = absurd (sole.fills k j e filled.grip filled.part (subst (λ (z : WordPlace). Fills filled.grip s.world z) r-is filled.fills.1))
 
         by : (x : Option ℕ) → last_at (pos k).owes r ≡ x → last_at (pos k).owes r ≡ None
         by None f = f
-        by (Some x) f = either (due-at ls m (bare (s.lps k).call.held) s.world mem.words (on_table m t) (pos k).owes (pos k).at.run (pos k).fill r x (sd.holds k j).due f)
+        by (Some x) f = either (due-at ls o trees s mem t pos k r x are known sd j f)
 
     laid-after : (r : WordPlace) → IsIn m r → mem.words r ≡ laid (length o.calls) (λ k. (put pos p now k).owes) (on_table m t') r
     laid-after r in_r = by (same_place r d.at) refl
@@ -282,13 +299,13 @@ store-step ls o trees s mem t pos p d now sd i in_d sole own here there swaps bu
                 test false f = sym (other k f)
 
 -- the first store that is owed is made
-pub owed-step : (ls : Laws) (o : Opening) (trees : ℕ → Call → Tree) (s : State) (mem : Memory) (t : Table) (pos : ℕ → Position) (p : ℕ) (d : Due) (ds : List Due) → Known o s → Stands o trees s mem t pos → p < length o.calls
+pub owed-step : (ls : Laws) (o : Opening) (trees : Trees) (s : State) (mem : Memory) (t : Table) (pos : ℕ → Position) (p : ℕ) (d : Due) (ds : List Due) → AreTrees o trees → Known o s → Stands o trees s mem t pos → p < length o.calls
     → (pos p).owes ≡ d ∷ ds → (pos p).fill ≡ None → Stands o trees s mem (record t { words = after_step t.words (step.Store (address o.machine.pages d.at) d.word) }) (put pos p (record { at = (pos p).at; owes = ds; swaps = (pos p).swaps; fill = None }))
-owed-step ls o trees s mem t pos p d ds known sd i is plain =
-    store-step ls o trees s mem t pos p d now sd i owed.0.0
+owed-step ls o trees s mem t pos p d ds are known sd i is plain =
+    store-step ls o trees s mem t pos p d now are known sd i owed.0.0
     (record {
-      owes = λ k j e g owes. (ls.words (bare (s.lps k).call.held) (bare (s.lps p).call.held) s.world (apart k j e)).owes_owes d.at g owed.0.1.0 owes owed.0.1.1;
-      fills = λ k j e fills. (ls.words (bare (s.lps k).call.held) (bare (s.lps p).call.held) s.world (apart k j e)).fills_owes d.at owed.0.1.0 fills owed.0.1.1;
+      owes = λ k j e g owes. (ls.words (lock_grip_of s k) mine s.world (apart-from ls o s p k mine known i j e (locks-part s p))).owes_owes d.at g owed.0.1.0 owes owed.0.1.1;
+      fills = λ k j e g part fills. (ls.words g mine s.world (grips-apart ls o s k p g mine known j i e part (locks-part s p))).fills_owes d.at owed.0.1.0 fills owed.0.1.1;
     })
     (record { stands = (sd.holds p i).stands; due = kept })
     (λ r in_r e was. was ∙ (ap (λ (z : List Due). or_else (last_at z r) (on_table m t r)) is ∙ first-at (last_at ds r) (same_place r d.at) d.word (on_table m t r) e))
@@ -303,27 +320,27 @@ owed-step ls o trees s mem t pos p d ds known sd i is plain =
     now : Position
     now = record { at = (pos p).at; owes = ds; swaps = (pos p).swaps; fill = None }
 
-    apart : (k : ℕ) → k < length o.calls → (k == p) ≡ false → Apart (bare (s.lps k).call.held) (bare (s.lps p).call.held)
-    apart k j e = apart-from ls o trees s mem t pos p k (s.lps k).call.held known sd i j e (whole (s.lps k).call.held)
+    mine : Grip
+    mine = lock_grip_of s p
 
-    owed : Keeps m (bare (s.lps p).call.held) s.world (on_table m t) (d ∷ ds)
+    owed : Keeps m mine s.world (on_table m t) (d ∷ ds)
     owed =
-        subst (λ (z : List Due). Keeps m (bare (s.lps p).call.held) s.world (on_table m t) z) is
-        (subst (λ (f : Option Fill). Pending m (bare (s.lps p).call.held) s.world mem.words (on_table m t) (pos p).owes (pos p).at.run f) plain (sd.holds p i).due)
+        subst (λ (z : List Due). Keeps m mine s.world (on_table m t) z) is
+        (subst (λ (f : Option Fill). Pending o trees p s.world mem.words (on_table m t) (s.lps p) (pos p).at (pos p).owes f) plain (sd.holds p i).due)
 
-    kept : Keeps m (bare (s.lps p).call.held) s.world (on_table m t') ds
-    kept = keeps-same m (bare (s.lps p).call.held) (bare (s.lps p).call.held) s.world s.world (put_word (on_table m t) d.at d.word) (on_table m t') ds (λ q g x. x)
+    kept : Keeps m mine s.world (on_table m t') ds
+    kept = keeps-same m mine mine s.world s.world (put_word (on_table m t) d.at d.word) (on_table m t') ds (λ q g x. x)
         (λ q g in_q x. sym (word_put ls.places m t.words t'.words (on_table m t) d.at d.word owed.0.0 refl (λ y in_y. refl) q in_q)) owed.1
 
 -- the first swap that is owed is made
-pub swap-step : (ls : Laws) (o : Opening) (trees : ℕ → Call → Tree) (s : State) (mem : Memory) (t : Table) (pos : ℕ → Position) (p : ℕ) (d : SwapDue) (ds : List SwapDue) (made : Option Measure) → Known o s → Stands o trees s mem t pos → p < length o.calls
+pub swap-step : (ls : Laws) (o : Opening) (trees : Trees) (s : State) (mem : Memory) (t : Table) (pos : ℕ → Position) (p : ℕ) (d : SwapDue) (ds : List SwapDue) (made : Option Measure) → AreTrees o trees → Known o s → Stands o trees s mem t pos → p < length o.calls
     → (pos p).swaps ≡ d ∷ ds → (pos p).fill ≡ None → IsHand made d.put
     → Stands o trees s mem (record t { slots = with_slot t.slots (d.hkid - 1) made }) (put pos p (record { at = (pos p).at; owes = (pos p).owes; swaps = ds; fill = None }))
-swap-step ls o trees s mem t pos p d ds made known sd i is plain put_is =
-    rearranged ls o trees s mem t t' pos p now sd (slots-swap ls o trees s mem t pos p d ds made now known sd i is refl put_is) (λ k j e q g in_q owes. refl) (λ k j e q in_q fills. refl) refl
+swap-step ls o trees s mem t pos p d ds made are known sd i is plain put_is =
+    rearranged ls o trees s mem t t' pos p now are known sd (slots-swap ls o trees s mem t pos p d ds made now known sd i is refl put_is) (λ k j e q g in_q owes. refl) (λ k j e g part q in_q fills. refl) refl
     (record {
       stands = (sd.holds p i).stands;
-      due = subst (λ (f : Option Fill). Pending m (bare (s.lps p).call.held) s.world mem.words (on_table m t) (pos p).owes (pos p).at.run f) plain (sd.holds p i).due;
+      due = subst (λ (f : Option Fill). Pending o trees p s.world mem.words (on_table m t) (s.lps p) (pos p).at (pos p).owes f) plain (sd.holds p i).due;
     })
     (λ r in_r. sd.laid_is r in_r ∙ laid-same (length o.calls) (λ k. (pos k).owes) (λ k. (put pos p now k).owes) (on_table m t) (on_table m t) r (λ k j. same k r (k == p) refl) refl)
   where

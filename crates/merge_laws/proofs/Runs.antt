@@ -1,89 +1,68 @@
 -- A merge is a run of the flat machine, and none of its swaps misses.
-use Rattle.std.proofs.Common.{◌≡◌, ◌⊎◌, ℕ, zero, suc, false, ◌-◌, ◌<◌, ◌≤◌, List, [], ◌∷◌, ◌++◌, map, length, drop, Option, Some, None, refl, ap, sym, ◌∙◌, subst, inl, inr, arith}
+use Rattle.std.proofs.Common.{◌≡◌, ◌⊎◌, ℕ, zero, suc, Bool, true, false, ◌-◌, ◌<◌, ◌≤◌, List, [], ◌∷◌, ◌++◌, map, length, drop, Option, Some, None, refl, ap, sym, ◌∙◌, subst, inl, inr, arith}
 use Rattle.std.proofs.lemmas.Bool.{cases_lt}
 use Rattle.td_words.specs.declared.calls.Call.{Call}
-use Rattle.td_words.specs.declared.replies.Reply.{Reply}
 use Rattle.td_words.specs.Place.{address}
 use Rattle.mrtd_measure.specs.declared.measures.Measure.{Measure}
 use Rattle.flat_core.specs.Opening.{Opening}
-use Rattle.flat_core.specs.Table.{row_of}
 use Rattle.flat_core.specs.Event.{State, start, event, next_event, after_event, event_for, lines_left, calls_of}
 use Rattle.flat_core.specs.Run.{play, run, to_the_end}
 use Rattle.flat_core.proofs.Induction.{play_append}
-use Rattle.flat_core.proofs.Ends.{drop_next}
 use Rattle.step_core.specs.Words.{Words}
 use Rattle.step_core.specs.Items.{Table, PlaysTo}
 use Rattle.step_core.specs.declared.items.Taken.{Taken}
 use Rattle.leaf_engine.specs.declared.events.Event.{Event as RunEvent}
-use Rattle.leaf_engine.specs.Trees.{Tree}
-use Rattle.leaf_engine.specs.Besides.{Beside, beside_of, beside_after}
-use Rattle.leaf_engine.specs.Means.{Task, MeansRow}
+use Rattle.leaf_engine.specs.Besides.{beside_of}
+use Rattle.leaf_engine.specs.Means.{MeansRow}
 use Rattle.leaf_engine.specs.Changes.{Hand}
 use Rattle.leaf_engine.specs.Decides.{IsHand}
-use Rattle.leaf_engine.specs.Turns.{Standing, last_reply, has_ended}
+use Rattle.leaf_engine.specs.Turns.{Standing}
 use Rattle.leaf_engine.specs.Calls.{no_memory}
-use Rattle.leaf_engine.specs.OwnLists.{Piece, Unmarked, joined, marked_behind, running, WordLp, first_lp, after_turn, TurnIn, LineTurn, LinesTurn, OwnTurns}
-use Rattle.leaf_engine.specs.Merges.{Item, part, steps_taken, order, no_table, AreLeaves, LinesEnterNone}
+use Rattle.leaf_engine.specs.OwnLists.{Piece, Unmarked, joined, marked_behind, running, LeafTable, WordLp, first_lp, step_leaf, EnteredTurn, LineTurn, LinesTurn, OwnTurns}
+use Rattle.leaf_engine.specs.Merges.{Item, part, steps_taken, order, no_table, AreLeaves}
+use Rattle.leaf_engine.specs.Guests.{WordGuest, gives_epoch_back}
 use Rattle.merge_laws.specs.Merge.{Merge}
-use Rattle.merge_laws.specs.Laws.{nothing_made, IsShownBy, IsWhere, MergesAreRuns}
+use Rattle.merge_laws.specs.Laws.{LinesEnterNone, nothing_made, IsShownBy, IsWhere, MergesAreRuns}
 use Rattle.merge_laws.proofs.Stores.{Due, over-none, laid-none}
 use Rattle.merge_laws.proofs.Swaps.{SwapDue, last_put}
 use Rattle.merge_laws.proofs.Owing.{Owed, Stores, Swaps, stores_in, swaps_in, FirstSwaps, FirstMisses, AreOwed}
-use Rattle.merge_laws.proofs.Standing.{Laws, leaf_for, AreTrees, Known, on_table, Fill, Position, Rest, RestBy, RestOf, Stands}
+use Rattle.merge_laws.proofs.Standing.{Trees, table_for, Trees, Laws, leaf_for, AreTrees, Known, on_table, Fill, Position, Rest, RestBy, RestOf, Stands}
 use Rattle.merge_laws.proofs.Merged.{known-of, Through, through}
 
 -- leaves by their trees
 
-abbrev trees_of : (ℕ → Call → Task) → ℕ → Call → Tree
-trees_of leaf p c = (leaf p c).tree
-
-leaves-are : (o : Opening) (leaf : ℕ → Call → Task) → AreLeaves o leaf → (p : ℕ) (c : Call) → (row_of o p c).enters ≡ None → leaf p c ≡ leaf_for o (trees_of leaf) p c
-leaves-are o leaf are p c none = λ i. record { place = record { machine = are.machine p c i; lp = are.processor p c i }; tree = (leaf p c).tree; meaning = are.row p c none i }
-
-trees-are : (o : Opening) (leaf : ℕ → Call → Task) → AreLeaves o leaf → LinesEnterNone o → AreTrees o (trees_of leaf)
-trees-are o leaf are none = record {
-  means = λ p c enters. subst (λ (f : Task). MeansRow f) (leaves-are o leaf are p c enters) (are.means p c enters);
-  enters_none = none;
+abbrev trees_of : (ℕ → LeafTable) → Trees
+trees_of leaf = record {
+  call = λ p c. ((leaf p).call c).tree;
+  step = λ p t v line step. ((leaf p).step t v line step).tree;
+  means = λ p t v line step. ((leaf p).step t v line step).meaning;
 }
 
--- so an own list is one of them, as no line enters a guest
-module _ (o : Opening) (leaf : ℕ → Call → Task) (are : AreLeaves o leaf) (none : LinesEnterNone o) (p : ℕ) where
-  abbrev tree_leaf : Call → Task
-  tree_leaf = leaf_for o (trees_of leaf) p
+table-is : (o : Opening) (leaf : ℕ → LeafTable) → AreLeaves o leaf → (p : ℕ) → leaf p ≡ table_for o (trees_of leaf) p
+table-is o leaf are p = λ i. record {
+  call = λ c. record { place = record { machine = are.machine p c i; lp = are.processor p c i }; tree = ((leaf p).call c).tree; meaning = are.row p c i };
+  step = λ t v line step. record {
+    place = record { machine = are.step_machine p t v line step i; lp = are.step_processor p t v line step i };
+    tree = ((leaf p).step t v line step).tree;
+    meaning = ((leaf p).step t v line step).meaning;
+  };
+  codes = λ t x. are.codes p t x i;
+}
 
-  turn-as : (c : Call) (cs : List Call) (run : Option Standing) (rs : List Reply) (b : Beside) (e : RunEvent) (ps : List Piece) (after : WordLp) → leaf p c ≡ tree_leaf c
-      → LineTurn (leaf p) o.machine c cs run rs b e ps after → LineTurn tree_leaf o.machine c cs run rs b e ps after
-  turn-as c cs run rs b e ps after same t = record {
-    stands = t.stands;
-    turn = subst (λ (f : Task). TurnIn (running f run).stage o.machine (running f run) ps t.stands e) same t.turn;
-    going = subst (λ (f : Task). has_ended (running f run).stage (running f run).held ≡ false) same t.going;
-    after_is = t.after_is;
-  }
-
-  -- the lines that are left after a turn are the last of the processor's too
-  lines-after : (n : ℕ) (c : Call) (cs : List Call) (rs : List Reply) (b : Beside) (s : Standing) (reply : Option Reply) → drop n (calls_of o.calls p) ≡ c ∷ cs → (m : ℕ) × (drop m (calls_of o.calls p) ≡ (after_turn c cs rs b s reply).lines)
-  lines-after n c cs rs b s None lines = (n, lines)
-  lines-after n c cs rs b s (Some r) lines = (suc n, drop_next n (calls_of o.calls p) c cs lines)
-
-  one-turn : (n : ℕ) (cs : List Call) (at after : WordLp) (e : RunEvent) (ps : List Piece) → drop n (calls_of o.calls p) ≡ cs → LinesTurn (leaf p) o.machine cs at.run at.replies at.beside e ps after
-      → LinesTurn tree_leaf o.machine cs at.run at.replies at.beside e ps after × ((m : ℕ) × (drop m (calls_of o.calls p) ≡ after.lines))
-  one-turn n [] at after e ps l t = absurd t
-  one-turn n (c ∷ cs) at after e ps l t =
-      let left = lines-after n c cs at.replies (beside_after e t.stands.rest at.beside) t.stands (last_reply t.stands.stage t.stands.held) l in
-      (turn-as c cs at.run at.replies at.beside e ps after (leaves-are o leaf are p c (none p n c cs l)) t, (left.0, left.1 ∙ ap (λ (x : WordLp). x.lines) (sym t.after_is)))
-
-  own-as : (pss : List (List Piece)) (at now : WordLp) (n : ℕ) → drop n (calls_of o.calls p) ≡ at.lines → OwnTurns (leaf p) o.machine at pss now → OwnTurns tree_leaf o.machine at pss now
-  own-as [] at now n lines own = own
-  own-as (ps ∷ pss) at now n lines (e, (after, turn, rest)) =
-      let one = one-turn n at.lines at after e ps lines turn in
-      (e, (after, one.0, own-as pss after now one.1.0 one.1.1 rest))
+trees-are : (o : Opening) (leaf : ℕ → LeafTable) → AreLeaves o leaf → LinesEnterNone o → AreTrees o (trees_of leaf)
+trees-are o leaf are none = record {
+  means = λ p c. subst (λ (t : LeafTable). MeansRow (t.call c)) (table-is o leaf are p) (are.means p c);
+  steps = are.step_row;
+  steps_mean = λ p t v line step in_range. subst (λ (x : LeafTable). MeansRow (x.step t v line step)) (table-is o leaf are p) (are.step_means p t v line step in_range);
+  enters_none = none;
+}
 
 -- the start
 
 first_position : Opening → ℕ → Position
 first_position o p = record { at = first_lp (calls_of o.calls p); owes = []; swaps = []; fill = None }
 
-starts : (ls : Laws) (o : Opening) (trees : ℕ → Call → Tree) → Stands o trees (start o None) no_memory no_table (first_position o)
+starts : (ls : Laws) (o : Opening) (trees : Trees) → Stands o trees (start o None) no_memory no_table (first_position o)
 unfolding first_position
 starts ls o trees = record {
   shows = ls.start o None;
@@ -94,7 +73,6 @@ starts ls o trees = record {
     laid_is = λ h in_h. sym (over-none (length o.calls) (λ p. None) None (λ q l. refl));
     may = λ p i. tt;
   };
-  guests = λ p. refl;
   bundles = record { own = λ p. []; each = λ p i. refl; merged = nothing_made };
   holds = λ p i. record { stands = record { lines = refl; replies = refl; beside = refl; run = record { call = refl; guest = refl } }; due = tt };
   laid_is = λ r in_r. sym (laid-none (length o.calls) (λ p. []) (λ q. 0) r (λ q l. refl));
@@ -102,16 +80,25 @@ starts ls o trees = record {
 
 -- the end
 
-nothing-left : (ls : Laws) (o : Opening) (trees : ℕ → Call → Tree) (p : ℕ) (pos : Position) (end_ : WordLp) → RestOf o trees p pos [] end_ → (pos.owes ≡ []) × (pos.swaps ≡ []) × (pos.at ≡ end_)
-nothing-left ls o trees p pos end_ rest = by-fill pos.fill pos.at.lines pos.at.run rest
+nothing-left : (ls : Laws) (o : Opening) (trees : Trees) (p : ℕ) (pos : Position) (end_ : WordLp) → RestOf o trees p pos [] end_ → (pos.owes ≡ []) × (pos.swaps ≡ []) × (pos.at ≡ end_)
+nothing-left ls o trees p pos end_ rest = by-fill pos.fill rest
   where
-    turn : (cs : List Call) → pos.at.lines ≡ cs → (e : RunEvent) (after : WordLp) → LinesTurn (leaf_for o trees p) o.machine cs pos.at.run pos.at.replies pos.at.beside e [] after → ⊥
-    turn [] l e after lt = lt
-    turn (c ∷ cs) l e after lt = (let one = ls.one.one o.machine (running (leaf_for o trees p c) pos.at.run) lt.stands [] e lt.turn in cc)
+    line : (c : Call) (cs : List Call) (r : Option Standing) (g : Option WordGuest) (e : RunEvent) (after : WordLp) → LineTurn (leaf_for o trees p) o.machine c cs r g pos.at.replies pos.at.beside e [] after → ⊥
+    line c cs r g e after lt = (let one = ls.one.one o.machine (running (leaf_for o trees p c) r) lt.stands [] e lt.turn in cc)
 
-    turns : (tps : List (List Piece)) → [] ≡ joined tps → OwnTurns (leaf_for o trees p) o.machine pos.at tps end_ → pos.at ≡ end_
+    step : (c : Call) (cs : List Call) (r : Standing) (x : WordGuest) (e : RunEvent) (after : WordLp) (b : Bool) → EnteredTurn (table_for o trees p) o.machine c cs r x pos.at.replies pos.at.beside e [] after b → ⊥
+    step c cs r x e after true lt = line c cs (Some r) (Some x) e after lt
+    step c cs r x e after false lt = (let one = ls.one.one o.machine (running (step_leaf (table_for o trees p) x pos.at.replies pos.at.beside) x.run) lt.stands [] e lt.turn in cc)
+
+    turn : (cs : List Call) (r : Option Standing) (g : Option WordGuest) (e : RunEvent) (after : WordLp) → LinesTurn (table_for o trees p) o.machine cs r g pos.at.replies pos.at.beside e [] after → ⊥
+    turn [] r g e after lt = lt
+    turn (c ∷ cs) r None e after lt = line c cs r None e after lt
+    turn (c ∷ cs) None (Some x) e after lt = lt
+    turn (c ∷ cs) (Some r) (Some x) e after lt = step c cs r x e after (gives_epoch_back r.held) lt
+
+    turns : (tps : List (List Piece)) → [] ≡ joined tps → OwnTurns (table_for o trees p) o.machine pos.at tps end_ → pos.at ≡ end_
     turns [] e own = own
-    turns ([] ∷ tps) e own = absurd (turn pos.at.lines refl own.0 own.1.0 own.1.1)
+    turns ([] ∷ tps) e own = absurd (turn pos.at.lines pos.at.run pos.at.guest own.0 own.1.0 own.1.1)
     turns ((x ∷ tp) ∷ tps) e own = cc
 
     no-items : (xs : List Taken) (ps : List Piece) → [] ≡ map Unmarked xs ++ ps → (xs ≡ []) × ([] ≡ ps)
@@ -133,13 +120,11 @@ nothing-left ls o trees p pos end_ rest = by-fill pos.fill pos.at.lines pos.at.r
     act-left [] (x ∷ xs) ps e = cc
     act-left (x ∷ xs) act ps e = cc
 
-    by-fill : (f : Option Fill) (cs : List Call) (r : Option Standing) → RestBy o trees p pos [] end_ f cs r → (pos.owes ≡ []) × (pos.swaps ≡ []) × (pos.at ≡ end_)
-    by-fill None cs r re = by re re.owed refl re.are
-    by-fill (Some f) (c ∷ cs) (Some run) re = absurd (act-left re.stores re.act (joined re.turns) re.pieces)
-    by-fill (Some f) [] r re = absurd re
-    by-fill (Some f) (c ∷ cs) None re = absurd re
+    by-fill : (f : Option Fill) → RestBy o trees p pos [] end_ f → (pos.owes ≡ []) × (pos.swaps ≡ []) × (pos.at ≡ end_)
+    by-fill None re = by re re.owed refl re.are
+    by-fill (Some f) re = absurd (act-left re.stores re.act (joined re.turns) re.pieces)
 
-ends-so : (ls : Laws) (o : Opening) (trees : ℕ → Call → Tree) (s : State) (u : Table) (ends : ℕ → WordLp) → Through o trees s u ends → IsShownBy o.machine u s × IsWhere o ends s
+ends-so : (ls : Laws) (o : Opening) (trees : Trees) (s : State) (u : Table) (ends : ℕ → WordLp) → Through o trees s u ends → IsShownBy o.machine u s × IsWhere o ends s
 ends-so ls o trees s u ends th =
     let left : (p : ℕ) → p < length o.calls → ((th.pos p).owes ≡ []) × ((th.pos p).swaps ≡ []) × ((th.pos p).at ≡ ends p) = λ p i. nothing-left ls o trees p (th.pos p) (ends p) (th.rest p i) in (
       record {
@@ -170,20 +155,20 @@ ends-so ls o trees s u ends th =
       },
     )
 
-merges : (ls : Laws) (o : Opening) (leaf : ℕ → Call → Task) (is : List Item) (now : ℕ → WordLp) (u : Table) → length o.calls ≤ 8 → AreLeaves o leaf → LinesEnterNone o → Merge o leaf is now u
+merges : (ls : Laws) (o : Opening) (leaf : ℕ → LeafTable) (is : List Item) (now : ℕ → WordLp) (u : Table) → length o.calls ≤ 8 → AreLeaves o leaf → LinesEnterNone o → Merge o leaf is now u
     → let s = play o (order is) (start o None) in PlaysTo no_table (steps_taken is) u × (IsShownBy o.machine u s × IsWhere o now s)
 unfolding first_position
 merges ls o leaf is now u most are none merge =
     let trees = trees_of leaf in
     let known : Known o (start o None) = known-of ls o [] (start o None) most refl refl refl in
-    let own : (p : ℕ) → p < length o.calls → OwnTurns (leaf_for o trees p) o.machine (first_lp (calls_of o.calls p)) (merge.own p) (now p) =
-    λ p i. own-as o leaf are none p (merge.own p) (first_lp (calls_of o.calls p)) (now p) 0 refl (merge.turns p i) in
+    let own : (p : ℕ) → p < length o.calls → OwnTurns (table_for o trees p) o.machine (first_lp (calls_of o.calls p)) (merge.own p) (now p) =
+    λ p i. subst (λ (t : LeafTable). OwnTurns t o.machine (first_lp (calls_of o.calls p)) (merge.own p) (now p)) (table-is o leaf are p) (merge.turns p i) in
     let went =
     through ls o trees is (start o None) no_memory no_table u (first_position o) now most (trees-are o leaf are none) known (starts ls o trees)
     (λ p i. rest-first p (part p is) (merge.own p) (merge.merge.each p i) (own p i)) merge.merge.nothing_else merge.plays in
     (went.0, ends-so ls o trees (play o (order is) (start o None)) u now went.1)
   where
-    rest-first : (p : ℕ) (ps : List Piece) (tps : List (List Piece)) → ps ≡ joined tps → OwnTurns (leaf_for o (trees_of leaf) p) o.machine (first_lp (calls_of o.calls p)) tps (now p) → RestOf o (trees_of leaf) p (first_position o p) ps (now p)
+    rest-first : (p : ℕ) (ps : List Piece) (tps : List (List Piece)) → ps ≡ joined tps → OwnTurns (table_for o (trees_of leaf) p) o.machine (first_lp (calls_of o.calls p)) tps (now p) → RestOf o (trees_of leaf) p (first_position o p) ps (now p)
     rest-first p ps tps e own = record {
       owed = [];
       owes_are = refl;

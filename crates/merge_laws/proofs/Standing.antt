@@ -1,27 +1,27 @@
 -- Where each processor is beside the flat machine, while a merge is gone through.
 use Rattle.mrtd_measure.specs.declared.measures.Measure.{Measure}
-use Rattle.std.proofs.Common.{◌≡◌, ℕ, ◌+◌, ◌-◌, ◌^◌, ◌<◌, List, [], ◌∷◌, ◌++◌, map, length, Option, Some, None, subst}
+use Rattle.std.proofs.Common.{◌≡◌, ◌⊎◌, ℕ, ◌+◌, ◌-◌, ◌^◌, ◌<◌, false, List, [], ◌∷◌, ◌++◌, map, length, Option, Some, None}
 use Rattle.td_words.specs.declared.machines.Machine.{Machine}
 use Rattle.td_words.specs.declared.calls.Call.{Call}
 use Rattle.td_words.specs.declared.replies.Reply.{Reply}
 use Rattle.td_words.specs.Place.{WordPlace, IsIn, address}
 use Rattle.td_words.specs.Laws.{PlacesInjective}
-use Rattle.flat_core.specs.World.{World}
-use Rattle.flat_core.specs.Processor.{LockId, Lp}
+use Rattle.flat_core.specs.World.{World, Made}
+use Rattle.flat_core.specs.Processor.{LockId, Held, Progress, Lp}
 use Rattle.flat_core.specs.Locks.{sharers, refusals}
 use Rattle.flat_core.specs.Opening.{Opening}
-use Rattle.flat_core.specs.Row.{Row}
+use Rattle.flat_core.specs.Row.{Move, Refuses, Succeeds}
 use Rattle.flat_core.specs.Table.{row_of}
 use Rattle.flat_core.specs.Lawful.{Lawful}
-use Rattle.flat_core.specs.Event.{State, start, lines_left}
+use Rattle.flat_core.specs.Event.{State, start, lines_left, event}
 use Rattle.flat_core.specs.Run.{play, bundles_in}
 use Rattle.flat_core.specs.Laws.{EveryWorldIsLawful, LocksExclude, OthersStay, NoWordsToTell, IsBetween}
 use Rattle.word_rules.specs.Guards.{Grip}
 use Rattle.word_rules.specs.Permissions.{WordsNeverConflict, ActsNeverConflict, RespectsCompose}
 use Rattle.word_rules.specs.Views.{ViewsAreKept}
 use Rattle.word_rules.specs.Cells.{Shows, StartIsShown}
-use Rattle.lock_words.specs.Grips.{IsExclusive, GripsAreApart}
-use Rattle.lock_words.specs.LockWords.{LockWordsFollow, LockStepsShown, RunsFollow, TdLocksStay}
+use Rattle.lock_words.specs.Grips.{IsExclusive, GripsAreApart, HoldTdrs, UndoTdr}
+use Rattle.lock_words.specs.LockWords.{LockWordsFollow, LockStepsShown, RunsFollow, TdLocksStay, IsNext}
 use Rattle.leaf_engine.specs.Facts.{Facts, FactsStand}
 use Rattle.act_rules.specs.Stores.{OthersStoresKeepReads}
 use Rattle.step_core.specs.Items.{Table}
@@ -31,22 +31,25 @@ use Rattle.leaf_engine.specs.Changes.{Memory}
 use Rattle.leaf_engine.specs.Trees.{Answer, Tree, End}
 use Rattle.leaf_engine.specs.Besides.{Beside, beside_of, beside_after}
 use Rattle.leaf_engine.specs.Changes.{Hand, Change}
-use Rattle.leaf_engine.specs.Means.{Task, OfCall, MeansRow, IsHkid}
+use Rattle.leaf_engine.specs.Means.{Task, Meaning, OfCall, Instant, work_of, MeansRow, IsHkid}
 use Rattle.leaf_engine.specs.Decides.{IsHand}
+use Rattle.leaf_engine.specs.declared.events.Event.{Event as RunEvent}
 use Rattle.leaf_engine.specs.declared.events.Event.TheVariants as events
 use Rattle.leaf_engine.specs.declared.events.Stage.TheVariants as stages
 use Rattle.leaf_engine.specs.Items.{AreChanged}
-use Rattle.leaf_engine.specs.Turns.{Standing, standing, last_reply}
-use Rattle.leaf_engine.specs.Calls.{IsLine, IsCallAt}
-use Rattle.leaf_engine.specs.OwnLists.{Piece, Unmarked, joined, marked_behind, TurnsInPieces, WordLp, after_turn, OwnTurns}
-use Rattle.leaf_engine.specs.Merges.{LinesEnterNone}
-use Rattle.merge_laws.specs.Laws.{AreBundlesOf}
-use Rattle.merge_laws.proofs.Stores.{Due, last_at, or_else, laid, EachDue, FillsAt}
+use Rattle.leaf_engine.specs.Turns.{Standing, standing, has_ended, last_reply}
+use Rattle.leaf_engine.specs.Doing.{event_of, IsDoing, LeafAt, LeafAfter}
+use Rattle.leaf_engine.specs.OwnLists.{Piece, Unmarked, joined, marked_behind, TurnIn, TurnsInPieces, LeafTable, WordLp, after_turn, LpTurns, OwnTurns}
+use Rattle.leaf_engine.specs.Merges.{ByItsRow, IsStepOf}
+use Rattle.leaf_engine.specs.Guests.{WordGuest, guest_after, Step}
+use Rattle.leaf_engine.specs.Trees.{added}
+use Rattle.merge_laws.specs.Laws.{AreBundlesOf, LinesEnterNone}
+use Rattle.merge_laws.proofs.Stores.{Due, due, last_at, or_else, laid}
 use Rattle.merge_laws.proofs.Swaps.{SwapDue, slots_laid, SwapsMay}
 use Rattle.merge_laws.proofs.Owing.{Owed, stores_in, swaps_in, AreOwed}
-use Rattle.merge_laws.proofs.Filling.{Todo, all_todos, AreTodos, dues_of, EachTodo}
+use Rattle.merge_laws.proofs.Filling.{Todo, Puts, Takes, all_todos, AreTodos, dues_of}
 use Rattle.merge_laws.proofs.Keeping.{Keeps}
-use Rattle.merge_laws.proofs.Holding.{bare, NoGuests}
+use Rattle.merge_laws.proofs.Holding.{bare, locks_at, lock_grip_of}
 
 -- the laws that it rests on
 pub record Laws : Type 0 where
@@ -70,21 +73,30 @@ pub record Laws : Type 0 where
   pub start : StartIsShown
   pub one : TurnsInPieces
 
--- leaves, by their trees
-abbrev pub leaf_for : Opening → (ℕ → Call → Tree) → ℕ → Call → Task
-leaf_for o trees p c = record { place = record { machine = o.machine; lp = p }; tree = trees p c; meaning = OfCall (row_of o p c) }
+-- leaves by their trees: of each call, and of each step of a guest, with what it means
+pub record Trees : Type 0 where
+  pub call : ℕ → Call → Tree
+  pub step : (lp tdr vp line : ℕ) → Step → Tree
+  pub means : (lp tdr vp line : ℕ) → Step → Meaning
 
-pub record AreTrees (o : Opening) (trees : ℕ → Call → Tree) : Type 0 where
-  pub means : (p : ℕ) (c : Call) → (row_of o p c).enters ≡ None → MeansRow (leaf_for o trees p c)
+abbrev pub leaf_for : Opening → Trees → ℕ → Call → Task
+leaf_for o trees p c = record { place = record { machine = o.machine; lp = p }; tree = trees.call p c; meaning = OfCall (row_of o p c) }
+
+abbrev pub step_for : Opening → Trees → (lp tdr vp line : ℕ) → Step → Task
+step_for o trees p t v line step = record { place = record { machine = o.machine; lp = p }; tree = trees.step p t v line step; meaning = trees.means p t v line step }
+
+abbrev pub table_for : Opening → Trees → ℕ → LeafTable
+table_for o trees p = record { call = leaf_for o trees p; step = step_for o trees p; codes = o.codes }
+
+pub record AreTrees (o : Opening) (trees : Trees) : Type 0 where
+  pub means : (p : ℕ) (c : Call) → MeansRow (leaf_for o trees p c)
+  pub steps : (p t v line : ℕ) (step : Step) → ByItsRow o t v line step (trees.means p t v line step)
+  pub steps_mean : (p t v line : ℕ) (step : Step) → IsStepOf step → MeansRow (step_for o trees p t v line step)
   pub enters_none : LinesEnterNone o
 
--- the row of a call that is on its way enters none
-pub line-enters : (o : Opening) → LinesEnterNone o → (p : ℕ) (row : Row) (lp : Lp) → IsLine o p row lp → row.enters ≡ None
-line-enters o none p row lp at = subst (λ (r : Row). r.enters ≡ None) at.row_is (none p (length lp.replies) at.call at.further at.lines)
-
--- and so its leaf means it
-pub means-here : (o : Opening) (trees : ℕ → Call → Tree) → AreTrees o trees → (p : ℕ) (c : Call) (lp : Lp) → IsLine o p (row_of o p c) lp → MeansRow (leaf_for o trees p c)
-means-here o trees are p c lp at = are.means p c (line-enters o are.enters_none p (row_of o p c) lp at)
+-- its own list, turn by turn
+abbrev pub TurnsTo : Opening → Trees → ℕ → WordLp → List (List Piece) → WordLp → Type 0
+TurnsTo o trees p at tps end_ = OwnTurns (table_for o trees p) o.machine at tps end_
 
 -- what is known of a state that a run reaches
 pub record Known (o : Opening) (s : State) : Type 0 where
@@ -106,24 +118,119 @@ pub record HandOf (run : Standing) : Type 0 where
   pub is : IsHand run.hasher hand
   pub trying : NoneOnWay run
 
+-- What a processor does: a leaf, by its tree and what it means; the locks that the processor holds besides, how far the leaf
+-- is, and the bundles made before; and where the processor is over words while the leaf is on its way, and after a turn that
+-- makes an event.
+pub record Does : Type 0 where
+  pub tree : Tree
+  pub meaning : Meaning
+  pub kept : List Held
+  pub far : Progress Reply
+  pub bundles : List Made
+  pub within : Standing → WordLp
+  pub after : RunEvent → Standing → WordLp
+
+abbrev pub task_for : Opening → ℕ → Does → Task
+task_for o p d = record { place = record { machine = o.machine; lp = p }; tree = d.tree; meaning = d.meaning }
+
+abbrev pub moment : State → Memory → ℕ → Does → Instant
+moment s mem p d = record { state = s; memory = mem; me = p; kept = d.kept }
+
+-- what it acts and fills under
+abbrev pub act_grip : State → Memory → ℕ → Does → Grip
+act_grip s mem p d = (work_of d.meaning).grasp (moment s mem p d) d.far.held
+
 -- a run that has begun
-pub record RunsAt (o : Opening) (task : Task) (row : Row) (w : World) (words : WordPlace → ℕ) (lp : Lp) (run : Standing) : Type 0 where
-  pub call : IsCallAt o task row w words lp run
+pub record RunsAt (task : Task) (far : Progress Reply) (w : World) (words : WordPlace → ℕ) (run : Standing) : Type 0 where
+  pub at : LeafAt task w words run far
   pub trying : NoneOnWay run
 
-abbrev pub RunAt : Opening → (ℕ → Call → Tree) → ℕ → World → (WordPlace → ℕ) → Lp → List Call → Option Standing → Type 0
-RunAt o trees p w words lp cs None = IsBetween lp
-RunAt o trees p w words lp [] (Some r) = ⊥
-RunAt o trees p w words lp (c ∷ cs) (Some r) = RunsAt o (leaf_for o trees p c) (row_of o p c) w words lp r
+-- a call on its way
+pub record OnCall (o : Opening) (trees : Trees) (p : ℕ) (c : Call) (w : World) (words : WordPlace → ℕ) (lp : Lp) (run : Standing) : Type 0 where
+  pub guest : lp.guest ≡ None
+  pub runs : RunsAt (leaf_for o trees p c) lp.call w words run
 
-pub record StandsAt (o : Opening) (trees : ℕ → Call → Tree) (p : ℕ) (w : World) (words : WordPlace → ℕ) (lp : Lp) (at : WordLp) : Type 0 where
+abbrev pub RunAt : Opening → Trees → ℕ → World → (WordPlace → ℕ) → Lp → List Call → Option Standing → Option WordGuest → Type 0
+RunAt o trees p w words lp cs None None = IsBetween lp
+RunAt o trees p w words lp (c ∷ cs) (Some r) None = OnCall o trees p c w words lp r
+RunAt o trees p w words lp _ _ _ = ⊥
+
+pub record StandsAt (o : Opening) (trees : Trees) (p : ℕ) (w : World) (words : WordPlace → ℕ) (lp : Lp) (at : WordLp) : Type 0 where
   pub lines : lines_left o p lp ≡ at.lines
   pub replies : lp.replies ≡ at.replies
   pub beside : beside_of lp at.beside.bundles ≡ at.beside
-  pub run : RunAt o trees p w words lp at.lines at.run
+  pub run : RunAt o trees p w words lp at.lines at.run at.guest
 
--- a leaf that stores before its act: the end that it has come to, the stores that it made, and what it has still to do
+-- a call, as what its processor does
+abbrev pub call_does : Opening → Trees → ℕ → Lp → Call → List Call → List Reply → Beside → Does
+call_does o trees p lp c cs rs b = record {
+  tree = trees.call p c;
+  meaning = OfCall (row_of o p c);
+  kept = [];
+  far = lp.call;
+  bundles = b.bundles;
+  within = λ run. record { lines = c ∷ cs; run = Some run; guest = None; replies = rs; beside = b };
+  after = λ e run. after_turn c cs (guest_after e run.rest None) rs (beside_after e run.rest b) run (last_reply run.stage run.held);
+}
+
+-- whatever others do, a processor does this while it is as it is
+pub record IsDoes (o : Opening) (trees : Trees) (p : ℕ) (lp : Lp) (d : Does) : Type 0 where
+  pub call : Call
+  pub further : List Call
+  pub replies : List Reply
+  pub beside : Beside
+  pub lines : lines_left o p lp ≡ call ∷ further
+  pub replies_are : lp.replies ≡ replies
+  pub beside_is : beside_of lp beside.bundles ≡ beside
+  pub guest : lp.guest ≡ None
+  pub is : d ≡ call_does o trees p lp call further replies beside
+
+-- what it does in a state: its leaf means what it does, which is the flat machine's next event, under these locks
+pub record DoesHere (o : Opening) (s : State) (p : ℕ) (d : Does) : Type 0 where
+  pub means : MeansRow (task_for o p d)
+  pub doing : (mem : Memory) → IsDoing o (task_for o p d) s mem d.kept d.far
+  pub locks : d.far.held ++ d.kept ≡ locks_at (s.lps p)
+  pub held_tdrs : HoldTdrs (locks_at (s.lps p))
+  pub undo_tdr : UndoTdr d.far.phase (locks_at (s.lps p))
+
+-- a run has this hasher in hand
+abbrev pub HasInHand : Option Standing → Option Measure → Type 0
+HasInHand None h = Unit {0}
+HasInHand (Some r) h = r.hasher ≡ h
+
+-- where a run then is doesn't hang on the hasher in hand
+abbrev pub with_hasher : Standing → Option Measure → Standing
+with_hasher run h = record run { hasher = h }
+
+-- the bundles of all of them, where those of one grow
+pub record Grows (before after was now : List Made) : Type 0 where
+  pub more : List Made
+  pub all : after ≡ added before more
+  pub own : now ≡ added was more
+
+-- a refusal, or the act that succeeds
+abbrev pub IsAct : Move Reply → Type 0
+IsAct (Refuses r) = Unit {0}
+IsAct Succeeds = Unit {0}
+IsAct _ = ⊥
+
+-- where it leads: on its way, and after each turn of it
+pub record Leads (o : Opening) (trees : Trees) (s : State) (p : ℕ) (d : Does) : Type 0 where
+  pub within_stands : (words : WordPlace → ℕ) (run : Standing) → RunsAt (task_for o p d) d.far s.world words run → StandsAt o trees p s.world words (s.lps p) (d.within run)
+  pub within_bundles : (run : Standing) → (d.within run).beside.bundles ≡ d.bundles
+  pub within_run : (run : Standing) (h : Option Measure) → run.hasher ≡ h → HasInHand (d.within run).run h
+  pub turns : (run run' : Standing) (e : RunEvent) (tp : List Piece) → TurnIn run.stage o.machine run tp run' e → has_ended run.stage run.held ≡ false → LpTurns (table_for o trees p) o.machine (d.within run) e tp (d.after e run')
+  pub after_stands : (u : Table) (run' : Standing) (h : Option Measure) (e : RunEvent) → (la : LeafAfter o (task_for o p d) s d.far u (with_hasher run' h) e) → NoneOnWay run'
+      → StandsAt o trees p (event o s p).world la.mem.words ((event o s p).lps p) (d.after e run')
+  pub after_grows : (u : Table) (run' : Standing) (h : Option Measure) (e : RunEvent) → LeafAfter o (task_for o p d) s d.far u (with_hasher run' h) e → Grows (bundles_in s) (bundles_in (event o s p)) d.bundles (d.after e run').beside.bundles
+  pub after_run : (e : RunEvent) (run' : Standing) (h : Option Measure) → run'.hasher ≡ h → HasInHand (d.after e run').run h
+  pub locks_stay : (mv : Move Reply) → IsAct mv → IsNext o s p (event_of d.meaning mv) → locks_at ((event o s p).lps p) ≡ locks_at (s.lps p)
+
+-- a leaf that stores before its act: what its processor does, its run and the end that it has come to, the stores that it
+-- made, and what it has still to do
 pub record Fill : Type 0 where
+  pub does : Does
+  pub run : Standing
   pub answer : Answer
   pub fills : List Change
   pub changes : List Change
@@ -146,39 +253,47 @@ abbrev pub back : Option ℕ → ℕ → Option ℕ
 back None x = None
 back (Some y) x = Some x
 
--- the end that a run has come to
-abbrev pub IsAtEnd : Option Standing → Fill → Type 0
-IsAtEnd None f = ⊥
-IsAtEnd (Some r) f = (r.stage ≡ stages.Trying) × (r.rest ≡ End f.answer f.fills f.changes)
+-- what is left of these; and the same where the first takes a word that was loaded, so that its store is left
+pub record AreLeft (all left : List Todo) : Type 0 where
+  pub done : List Todo
+  pub is : all ≡ done ++ left
 
-pub record FillHolds (m : Machine) (g : Grip) (w : World) (words a : WordPlace → ℕ) (owes : List Due) (run : Option Standing) (f : Fill) : Type 0 where
-  pub at_end : IsAtEnd run f
-  pub made_may : EachDue (FillsAt m g w) f.made
-  pub left_may : EachTodo m g w f.left
-  pub all_may : EachTodo m g w (all_todos f.fills)
+pub record AreLeftLoaded (all left : List Todo) : Type 0 where
+  pub done : List Todo
+  pub from : WordPlace
+  pub at : WordPlace
+  pub word : ℕ
+  pub further : List Todo
+  pub is : all ≡ done ++ Takes from at ∷ further
+  pub left_is : left ≡ Puts (due at word) ∷ further
+
+-- What is told of a leaf that fills: what it was told, the end that it has come to, and which fills are made. That they are
+-- allowed its meaning says in each state.
+pub record FillHolds (o : Opening) (trees : Trees) (p : ℕ) (w : World) (words a : WordPlace → ℕ) (lp : Lp) (at : WordLp) (owes : List Due) (f : Fill) : Type 0 where
+  pub is : IsDoes o trees p lp f.does
+  pub at_is : at ≡ f.does.within f.run
+  pub runs : RunsAt (task_for o p f.does) f.does.far w words f.run
+  pub trying : f.run.stage ≡ stages.Trying
+  pub rest : f.run.rest ≡ End f.answer f.fills f.changes
+  pub left : AreLeft (all_todos f.fills) f.left ⊎ AreLeftLoaded (all_todos f.fills) f.left
   pub stores : f.made ++ dues_of f.left (seen_by f.made words) ≡ dues_of (all_todos f.fills) words
-  pub there : (r : WordPlace) (x : ℕ) → IsIn m r → last_at f.made r ≡ Some x → a r ≡ x
+  pub there : (r : WordPlace) (x : ℕ) → IsIn o.machine r → last_at f.made r ≡ Some x → a r ≡ x
   pub undo : (r : WordPlace) → last_at owes r ≡ back (last_at f.made r) (words r)
 
-abbrev pub Pending : Machine → Grip → World → (words a : WordPlace → ℕ) → List Due → Option Standing → Option Fill → Type 0
-Pending m g w words a owes run None = Keeps m g w a owes
-Pending m g w words a owes run (Some f) = FillHolds m g w words a owes run f
+abbrev pub Pending : Opening → Trees → ℕ → World → (words a : WordPlace → ℕ) → Lp → WordLp → List Due → Option Fill → Type 0
+Pending o trees p w words a lp at owes None = Keeps o.machine (bare (locks_at lp)) w a owes
+Pending o trees p w words a lp at owes (Some f) = FillHolds o trees p w words a lp at owes f
 
-pub record Holds (o : Opening) (trees : ℕ → Call → Tree) (p : ℕ) (w : World) (words a : WordPlace → ℕ) (lp : Lp) (pos : Position) : Type 0 where
+pub record Holds (o : Opening) (trees : Trees) (p : ℕ) (w : World) (words a : WordPlace → ℕ) (lp : Lp) (pos : Position) : Type 0 where
   pub stands : StandsAt o trees p w words lp pos.at
-  pub due : Pending o.machine (bare lp.call.held) w words a pos.owes pos.at.run pos.fill
+  pub due : Pending o trees p w words a lp pos.at pos.owes pos.fill
 
 -- a table's words by their places
 abbrev pub on_table : Machine → Table → WordPlace → ℕ
 on_table m t q = t.words (address m.pages q)
 
--- a run has this hasher in hand
-abbrev pub HasInHand : Option Standing → Option Measure → Type 0
-HasInHand None h = Unit {0}
-HasInHand (Some r) h = r.hasher ≡ h
-
 -- what it has still to do: the stores and swaps that are owed, and its turns
-pub record Rest (o : Opening) (trees : ℕ → Call → Tree) (p : ℕ) (at : WordLp) (owes : List Due) (swaps : List SwapDue) (ps : List Piece) (end_ : WordLp) : Type 0 where
+pub record Rest (o : Opening) (trees : Trees) (p : ℕ) (at : WordLp) (owes : List Due) (swaps : List SwapDue) (ps : List Piece) (end_ : WordLp) : Type 0 where
   pub owed : List Owed
   pub owes_are : owes ≡ stores_in owed
   pub swaps_are : swaps ≡ swaps_in owed
@@ -191,10 +306,10 @@ pub record Rest (o : Opening) (trees : ℕ → Call → Tree) (p : ℕ) (at : Wo
   pub last_is : HasInHand at.run last
   pub turns : List (List Piece)
   pub pieces : ps ≡ map Unmarked items ++ joined turns
-  pub own : OwnTurns (leaf_for o trees p) o.machine at turns end_
+  pub own : TurnsTo o trees p at turns end_
 
 -- or the fills that are left, its act, and its further turns
-pub record RestFilling (o : Opening) (trees : ℕ → Call → Tree) (p : ℕ) (c : Call) (cs : List Call) (replies : List Reply) (beside : Beside) (swaps : List SwapDue) (run : Standing) (f : Fill) (ps : List Piece) (end_ : WordLp) : Type 0 where
+pub record RestFilling (o : Opening) (trees : Trees) (p : ℕ) (swaps : List SwapDue) (f : Fill) (ps : List Piece) (end_ : WordLp) : Type 0 where
   pub no_swaps : swaps ≡ []
   pub stores : List Taken
   pub act : List Taken
@@ -204,31 +319,28 @@ pub record RestFilling (o : Opening) (trees : ℕ → Call → Tree) (p : ℕ) (
   pub changed : AreChanged o.machine f.changes None act hasher
   pub pieces : ps ≡ map Unmarked stores ++ (marked_behind 0 act ++ joined turns)
   pub after : Standing
-  pub after_is : after ≡ standing (End f.answer f.fills f.changes) (stages.Answered f.answer.reply) run.held hasher
-  pub own : OwnTurns (leaf_for o trees p) o.machine (after_turn c cs replies (beside_after events.Act after.rest beside) after (last_reply after.stage after.held)) turns end_
+  pub after_is : after ≡ standing (End f.answer f.fills f.changes) (stages.Answered f.answer.reply) f.run.held hasher
+  pub own : TurnsTo o trees p (f.does.after events.Act after) turns end_
 
-abbrev pub RestBy : Opening → (ℕ → Call → Tree) → ℕ → Position → List Piece → WordLp → Option Fill → List Call → Option Standing → Type 0
-RestBy o trees p pos ps end_ None cs run = Rest o trees p pos.at pos.owes pos.swaps ps end_
-RestBy o trees p pos ps end_ (Some f) (c ∷ cs) (Some run) = RestFilling o trees p c cs pos.at.replies pos.at.beside pos.swaps run f ps end_
-RestBy o trees p pos ps end_ (Some f) [] run = ⊥
-RestBy o trees p pos ps end_ (Some f) (c ∷ cs) None = ⊥
+abbrev pub RestBy : Opening → Trees → ℕ → Position → List Piece → WordLp → Option Fill → Type 0
+RestBy o trees p pos ps end_ None = Rest o trees p pos.at pos.owes pos.swaps ps end_
+RestBy o trees p pos ps end_ (Some f) = RestFilling o trees p pos.swaps f ps end_
 
-abbrev pub RestOf : Opening → (ℕ → Call → Tree) → ℕ → Position → List Piece → WordLp → Type 0
-RestOf o trees p pos ps end_ = RestBy o trees p pos ps end_ pos.fill pos.at.lines pos.at.run
+abbrev pub RestOf : Opening → Trees → ℕ → Position → List Piece → WordLp → Type 0
+RestOf o trees p pos ps end_ = RestBy o trees p pos ps end_ pos.fill
 
 -- the slots of a table, with the swaps that are due laid over them, are these
 pub record Slots (o : Opening) (s : State) (shown : ℕ → Hand) (table : ℕ → Option Measure) (pos : ℕ → Position) : Type 0 where
   pub now : ℕ → Hand
   pub there : (h : ℕ) → IsHkid o.machine h → IsHand (table (h - 1)) (now h)
   pub laid_is : (h : ℕ) → IsHkid o.machine h → shown h ≡ slots_laid (length o.calls) (λ p. (pos p).swaps) now h
-  pub may : (p : ℕ) → p < length o.calls → SwapsMay o.machine (bare (s.lps p).call.held) s.world now (pos p).swaps
+  pub may : (p : ℕ) → p < length o.calls → SwapsMay o.machine (lock_grip_of s p) s.world now (pos p).swaps
 
 -- all of them: memory with what is due laid over it shows the state
-pub record Stands (o : Opening) (trees : ℕ → Call → Tree) (s : State) (mem : Memory) (t : Table) (pos : ℕ → Position) : Type 0 where
+pub record Stands (o : Opening) (trees : Trees) (s : State) (mem : Memory) (t : Table) (pos : ℕ → Position) : Type 0 where
   pub shows : Shows o.machine mem.words mem.slots s
   pub hand : mem.hand ≡ None
   pub slots : Slots o s mem.slots t.slots pos
-  pub guests : NoGuests s
   pub bundles : AreBundlesOf (length o.calls) (λ p. (pos p).at) (bundles_in s)
   pub holds : (p : ℕ) → p < length o.calls → Holds o trees p s.world mem.words (on_table o.machine t) (s.lps p) (pos p)
   pub laid_is : (r : WordPlace) → IsIn o.machine r → mem.words r ≡ laid (length o.calls) (λ p. (pos p).owes) (on_table o.machine t) r

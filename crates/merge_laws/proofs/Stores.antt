@@ -149,10 +149,6 @@ pub each-append : (P : WordPlace → Type 0) (xs ys : List Due) → EachDue P xs
 each-append P [] ys a b = b
 each-append P (d ∷ xs) ys a b = (a.0, each-append P xs ys a.1 b)
 
-pub each-map : (P Q : WordPlace → Type 0) (ds : List Due) → ((q : WordPlace) → P q → Q q) → EachDue P ds → EachDue Q ds
-each-map P Q [] f e = tt
-each-map P Q (d ∷ ds) f e = (f d.at e.0, each-map P Q ds f e.1)
-
 -- the words of a page
 
 words-at : (p n : ℕ) (xs : ℕ → ℕ) (i : ℕ) → i < n → last_at (words_from p n xs) (Word p i) ≡ Some (xs i)

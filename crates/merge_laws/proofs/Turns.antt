@@ -1,9 +1,8 @@
 -- The next piece of a processor's turn.
-use Rattle.std.proofs.Common.{◌≡◌, ℕ, Bool, true, false, ◌==◌, List, [], ◌∷◌, ◌++◌, length, Some, None, refl, ap, sym, ◌∙◌, subst}
+use Rattle.std.proofs.Common.{◌≡◌, ℕ, Bool, true, false, ◌==◌, List, [], ◌∷◌, ◌++◌, length, None, refl, ap, sym, ◌∙◌, subst}
 use Rattle.std.proofs.lemmas.Bool.{eqb-true}
 use Rattle.td_words.specs.declared.names.LockName.{LockName}
 use Rattle.td_words.specs.declared.names.Mode.{Mode}
-use Rattle.td_words.specs.declared.calls.Call.{Call}
 use Rattle.td_words.specs.Place.{WordPlace}
 use Rattle.flat_core.specs.World.{put}
 use Rattle.flat_core.specs.Opening.{Opening}
@@ -21,46 +20,37 @@ use Rattle.leaf_engine.specs.declared.events.Stage.TheVariants as stages
 use Rattle.leaf_engine.specs.declared.needs.Need.TheVariants as need
 use Rattle.leaf_engine.specs.Changes.{Memory}
 use Rattle.leaf_engine.specs.Trees.{Tree, Lock, Load, Test, End, Since, feed, settle, fed, passed, has_acted}
-use Rattle.leaf_engine.specs.Besides.{beside_after}
 use Rattle.leaf_engine.specs.Decides.{Wants}
 use Rattle.leaf_engine.specs.Items.{IsLoadAt, IsLoaded}
-use Rattle.leaf_engine.specs.Turns.{Standing, Advances, Tries, last_reply, tried, try_step, grants}
-use Rattle.leaf_engine.specs.OwnLists.{Piece, Unmarked, Marked, joined, last_marked, GoesIn, TurnIn, WordLp, after_turn, LineTurn, OwnTurns}
+use Rattle.leaf_engine.specs.Turns.{Standing, Advances, Tries, tried, try_step, grants}
+use Rattle.leaf_engine.specs.OwnLists.{Piece, Unmarked, Marked, joined, last_marked, GoesIn, TurnIn, WordLp, LpTurns}
 use Rattle.leaf_engine.proofs.Decided.{settled}
 use Rattle.leaf_engine.proofs.Loading.{LooksRight}
 use Rattle.merge_laws.proofs.Stores.{Due, last_at, laid-same}
-use Rattle.merge_laws.proofs.Standing.{Laws, leaf_for, on_table, Position}
+use Rattle.merge_laws.proofs.Standing.{table_for, Trees, Does, TurnsTo, Laws, on_table, Position}
 use Rattle.merge_laws.proofs.SlotSteps.{slots-stay}
 use Rattle.merge_laws.proofs.Own.{at-other}
 use Rattle.merge_laws.proofs.QuietSteps.{rearranged, loads-right, GoesOnBehind, loaded, told-load}
-use Rattle.merge_laws.proofs.Pieces.{Came, came-as, answers-as, PieceAnswers}
-use Rattle.merge_laws.proofs.LockPieces.{AtTurn, try-piece}
+use Rattle.merge_laws.proofs.Pieces.{AtTurn, Came, came-as, answers-as, PieceAnswers}
+use Rattle.merge_laws.proofs.LockPieces.{try-piece}
 
 -- a load of a leaf that goes on
 
-pub told-tree : (o : Opening) (trees : ℕ → Call → Tree) (s : State) (mem : Memory) (t : Table) (pos : ℕ → Position) (p : ℕ) (c : Call) (cs : List Call) (run : Standing) → (a : AtTurn o trees s mem t pos p c cs run) → (st : run.stage ≡ stages.Trying)
-    → settle run.rest ≡ feed (trees p c) (a.runs.call.told st).told
-told-tree o trees s mem t pos p c cs run a st = ap settle (a.runs.call.told st).rest ∙ settled (trees p c) (a.runs.call.told st).told
+pub told-tree : (o : Opening) (trees : Trees) (s : State) (mem : Memory) (t : Table) (pos : ℕ → Position) (p : ℕ) (d : Does) (run : Standing) → (a : AtTurn o trees s mem t pos p d run) → (st : run.stage ≡ stages.Trying)
+    → settle run.rest ≡ feed d.tree (a.runs.at.told st).told
+told-tree o trees s mem t pos p d run a st = ap settle (a.runs.at.told st).rest ∙ settled d.tree (a.runs.at.told st).told
 
-pub load-piece : (ls : Laws) (o : Opening) (trees : ℕ → Call → Tree) (s : State) (mem : Memory) (t : Table) (pos : ℕ → Position) (p : ℕ) (c : Call) (cs : List Call) (run run' : Standing) (e : RunEvent) (at x : ℕ) (tp : List Piece) (tps : List (List Piece)) (end_ : WordLp)
-    → AtTurn o trees s mem t pos p c cs run → (pos p).owes ≡ [] → run.stage ≡ stages.Trying → IsLoadAt o.machine.pages (settle run.rest) at → GoesOnBehind (settle run.rest) x → x ≡ t.words at → GoesIn o.machine (loaded run x) tp run' e
-    → OwnTurns (leaf_for o trees p) o.machine (after_turn c cs (pos p).at.replies (beside_after e run'.rest (pos p).at.beside) run' (last_reply run'.stage run'.held)) tps end_
+pub load-piece : (ls : Laws) (o : Opening) (trees : Trees) (s : State) (mem : Memory) (t : Table) (pos : ℕ → Position) (p : ℕ) (d : Does) (run run' : Standing) (e : RunEvent) (at x : ℕ) (tp : List Piece) (tps : List (List Piece)) (end_ : WordLp)
+    → AtTurn o trees s mem t pos p d run → (pos p).owes ≡ [] → run.stage ≡ stages.Trying → IsLoadAt o.machine.pages (settle run.rest) at → GoesOnBehind (settle run.rest) x → x ≡ t.words at → GoesIn o.machine (loaded run x) tp run' e
+    → TurnsTo o trees p (d.after e run') tps end_
     → Came o trees p s t pos (Unmarked (Stepped (step.Load at) x)) (tp ++ joined tps) end_
-load-piece ls o trees s mem t pos p c cs run run' e at x tp tps end_ a none st load on an goes own =
+load-piece ls o trees s mem t pos p d run run' e at x tp tps end_ a none st load on an goes own =
     record {
       memory = mem;
       now = now;
-      stands = rearranged ls o trees s mem t t pos p now a.all (slots-stay o s mem.slots t.slots pos p now a.all.slots (sym a.no_swaps)) (λ k j f q g in_q owes. refl) (λ k j f q in_q fills. refl) refl
+      stands = rearranged ls o trees s mem t t pos p now a.are a.known a.all (slots-stay o s mem.slots t.slots pos p now a.all.slots (sym a.no_swaps)) (λ k j f q g in_q owes. refl) (λ k j f g part q in_q fills. refl) (a.leads.within_bundles (loaded run x) ∙ a.bundles)
           (record {
-            stands = record {
-              lines = a.lines;
-              replies = a.replies;
-              beside = (a.all.holds p a.inside).stands.beside;
-              run = record {
-                call = told-load o trees p c s.world mem.words (s.lps p) run x a.runs.call st right (subst (λ (z : Tree). GoesOnBehind z x) (told-tree o trees s mem t pos p c cs run a st) on);
-                trying = a.runs.trying;
-              };
-            };
+            stands = a.leads.within_stands mem.words (loaded run x) (told-load o p d s.world mem.words run x a.runs st right (subst (λ (z : Tree). GoesOnBehind z x) (told-tree o trees s mem t pos p d run a st) on));
             due = tt;
           })
           (λ r in_r. a.all.laid_is r in_r ∙ laid-same (length o.calls) (λ k. (pos k).owes) (λ k. (put pos p now k).owes) (on_table o.machine t) (on_table o.machine t) r (λ k j. same k r) refl);
@@ -74,7 +64,7 @@ load-piece ls o trees s mem t pos p c cs run run' e at x tp tps end_ a none st l
         items = [];
         last = run.hasher;
         are = λ i. (refl, i);
-        last_is = refl;
+        last_is = a.leads.within_run (loaded run x) run.hasher refl;
         turns = tp ∷ tps;
         pieces = refl;
         own = (e, (after, line, own));
@@ -82,16 +72,16 @@ load-piece ls o trees s mem t pos p c cs run run' e at x tp tps end_ a none st l
     }
   where
     now : Position
-    now = record { at = record { lines = c ∷ cs; run = Some (loaded run x); replies = (pos p).at.replies; beside = (pos p).at.beside }; owes = []; swaps = []; fill = None }
+    now = record { at = d.within (loaded run x); owes = []; swaps = []; fill = None }
 
     after : WordLp
-    after = after_turn c cs (pos p).at.replies (beside_after e run'.rest (pos p).at.beside) run' (last_reply run'.stage run'.held)
+    after = d.after e run'
 
-    line : LineTurn (leaf_for o trees p) o.machine c cs (Some (loaded run x)) (pos p).at.replies (pos p).at.beside e tp after
-    line = record { stands = run'; turn = subst (λ (z : Stage). TurnIn z o.machine (loaded run x) tp run' e) (sym st) goes; going = a.going; after_is = refl }
+    line : LpTurns (table_for o trees p) o.machine (d.within (loaded run x)) e tp after
+    line = a.leads.turns (loaded run x) run' e tp (subst (λ (z : Stage). TurnIn z o.machine (loaded run x) tp run' e) (sym st) goes) a.going
 
-    right : LooksRight mem.words (feed (trees p c) (a.runs.call.told st).told) x
-    right = loads-right ls o trees s mem t pos p c run at x a.are a.known a.all a.inside none (a.hand.trying st) a.runs.call st (subst (λ (z : Tree). IsLoadAt o.machine.pages z at) (told-tree o trees s mem t pos p c cs run a st) load) an
+    right : LooksRight mem.words (feed d.tree (a.runs.at.told st).told) x
+    right = loads-right ls o trees s mem t pos p d run at x a.are a.known a.all a.inside none a.here a.runs st (subst (λ (z : Tree). IsLoadAt o.machine.pages z at) (told-tree o trees s mem t pos p d run a st) load) an
 
     same : (k : ℕ) (r : WordPlace) → last_at (pos k).owes r ≡ last_at (put pos p now k).owes r
     same k r = by (k == p) refl
@@ -172,12 +162,12 @@ no-lock-given n (End r fs cs) name at mode d g = cc
 no-lock-given n (Since r cs) name at mode d g = cc
 
 -- a turn that comes to a lock
-pub lock-turn : (ls : Laws) (o : Opening) (trees : ℕ → Call → Tree) (s : State) (mem : Memory) (t : Table) (pos : ℕ → Position) (p : ℕ) (c : Call) (cs : List Call) (run run' : Standing) (e : RunEvent) (loads items : List Taken) (tree : Tree) (name : LockName) (at : ℕ)
-    (mode : Mode) (tps : List (List Piece)) (end_ : WordLp) (piece : Piece) (ps : List Piece) → AtTurn o trees s mem t pos p c cs run → (pos p).owes ≡ [] → run.stage ≡ stages.Trying → IsLoaded o.machine.pages run.rest loads tree
+pub lock-turn : (ls : Laws) (o : Opening) (trees : Trees) (s : State) (mem : Memory) (t : Table) (pos : ℕ → Position) (p : ℕ) (d : Does) (run run' : Standing) (e : RunEvent) (loads items : List Taken) (tree : Tree) (name : LockName) (at : ℕ)
+    (mode : Mode) (tps : List (List Piece)) (end_ : WordLp) (piece : Piece) (ps : List Piece) → AtTurn o trees s mem t pos p d run → (pos p).owes ≡ [] → run.stage ≡ stages.Trying → IsLoaded o.machine.pages run.rest loads tree
     → Wants o.machine.pages (settle tree) (need.Lock name at mode) → Tries run (passed (settle tree)) loads items name at mode run' e
-    → OwnTurns (leaf_for o trees p) o.machine (after_turn c cs (pos p).at.replies (beside_after e run'.rest (pos p).at.beside) run' (last_reply run'.stage run'.held)) tps end_
+    → TurnsTo o trees p (d.after e run') tps end_
     → Heads (last_marked items) tps piece ps → PieceAnswers t piece → Came o trees p s t pos piece ps end_
-lock-turn ls o trees s mem t pos p c cs run run' e [] items tree name at mode tps end_ piece ps a none st l g tr own h an =
+lock-turn ls o trees s mem t pos p d run run' e [] items tree name at mode tps end_ piece ps a none st l g tr own h an =
     let x : Taken = Stepped (try_step at mode) tr.seen in
     let h' : Marked x ∷ joined tps ≡ piece ∷ ps = ap (λ (z : List Taken). last_marked z ++ joined tps) (sym tr.items) ∙ h in
     let goes : Advances o.machine run (x ∷ []) run' e = record {
@@ -190,10 +180,10 @@ lock-turn ls o trees s mem t pos p c cs run run' e [] items tree name at mode tp
     } in
     let given : Wants o.machine.pages (settle run.rest) (need.Lock name at mode) = subst (λ (z : Tree). Wants o.machine.pages (settle z) (need.Lock name at mode)) (sym l) g in
     came-as o trees p s t pos (Marked x) piece (joined tps) ps end_ h'
-    (try-piece ls o trees s mem t pos p c cs run run' e (passed (settle tree)) name at mode tr.seen tps end_ a none st goes given tr.after (answers-as t (Marked x) piece (joined tps) ps h' an) own)
-lock-turn ls o trees s mem t pos p c cs run run' e (Swapped k u v ∷ loads) items tree name at mode tps end_ piece ps a none st l g tr own h an = absurd l
-lock-turn ls o trees s mem t pos p c cs run run' e (Missed k ∷ loads) items tree name at mode tps end_ piece ps a none st l g tr own h an = absurd l
-lock-turn ls o trees s mem t pos p c cs run run' e (Stepped w x ∷ loads) items tree name at mode tps end_ piece ps a none st l g tr own h an =
+    (try-piece ls o trees s mem t pos p d run run' e (passed (settle tree)) name at mode tr.seen tps end_ a none st goes given tr.after (answers-as t (Marked x) piece (joined tps) ps h' an) own)
+lock-turn ls o trees s mem t pos p d run run' e (Swapped k u v ∷ loads) items tree name at mode tps end_ piece ps a none st l g tr own h an = absurd l
+lock-turn ls o trees s mem t pos p d run run' e (Missed k ∷ loads) items tree name at mode tps end_ piece ps a none st l g tr own h an = absurd l
+lock-turn ls o trees s mem t pos p d run run' e (Stepped w x ∷ loads) items tree name at mode tps end_ piece ps a none st l g tr own h an =
     let n = o.machine.pages in
     let from : ℕ = l.0.0 in
     let y : Taken = Stepped (try_step at mode) tr.seen in
@@ -217,5 +207,5 @@ lock-turn ls o trees s mem t pos p c cs run run' e (Stepped w x ∷ loads) items
       pieces = refl;
     } in
     came-as o trees p s t pos (Unmarked (Stepped (step.Load from) x)) piece (tp ++ joined tps) ps end_ h'
-    (load-piece ls o trees s mem t pos p c cs run run' e from x tp tps end_ a none st l.0.1 (goes-on n (settle run.rest) from x l.0.1 never)
+    (load-piece ls o trees s mem t pos p d run run' e from x tp tps end_ a none st l.0.1 (goes-on n (settle run.rest) from x l.0.1 never)
     (answers-as t (Unmarked (Stepped (step.Load from) x)) piece (tp ++ joined tps) ps h' an) goes own)

@@ -1,6 +1,5 @@
 -- Merges of the own lists of a script's processors, over words and slots that they share.
 use Rattle.std.specs.Prelude.{◌≡◌, ◌≢◌, ◌⊎◌, ℕ, ◌<◌, Option, List, [], ◌∷◌, length}
-use Rattle.td_words.specs.declared.calls.Call.{Call}
 use Rattle.mrtd_measure.specs.declared.measures.Measure.{Measure}
 use Rattle.flat_core.specs.Opening.{Opening}
 use Rattle.flat_core.specs.Event.{calls_of}
@@ -8,8 +7,7 @@ use Rattle.step_core.specs.Words.{answer_of, after_step}
 use Rattle.step_core.specs.Items.{Table, with_slot}
 use Rattle.step_core.specs.declared.items.Taken.{Taken}
 use Rattle.step_core.specs.declared.items.Taken.TheVariants.{Stepped, Swapped, Missed}
-use Rattle.leaf_engine.specs.Means.{Task}
-use Rattle.leaf_engine.specs.OwnLists.{Piece, Unmarked, Marked, Wordless, joined, WordLp, first_lp, OwnTurns}
+use Rattle.leaf_engine.specs.OwnLists.{Piece, Unmarked, Marked, Wordless, joined, LeafTable, WordLp, first_lp, OwnTurns}
 use Rattle.leaf_engine.specs.Merges.{Item, part, IsMerge, no_table}
 
 -- the first of these pieces is a swap on that slot
@@ -56,7 +54,7 @@ MergePlays t (i ∷ is) u = PieceFits is t i.lp i.piece × MergePlays (table_aft
 -- A merge of own lists, one for each processor of a script, from the processor's first line on to where it then is, in
 -- which each load reads what the merge has stored, each swap takes what the merge has put, and a swap misses only where
 -- another processor has one on its slot under way.
-pub record Merge (o : Opening) (leaf : ℕ → Call → Task) (is : List Item) (now : ℕ → WordLp) (u : Table) : Type 0 where
+pub record Merge (o : Opening) (leaf : ℕ → LeafTable) (is : List Item) (now : ℕ → WordLp) (u : Table) : Type 0 where
   pub own : ℕ → List (List Piece)
   pub turns : (p : ℕ) → p < length o.calls → OwnTurns (leaf p) o.machine (first_lp (calls_of o.calls p)) (own p) (now p)
   pub merge : IsMerge (length o.calls) (λ p. joined (own p)) is
