@@ -3,6 +3,7 @@ pub mod Respected
 pub mod Rows
 pub mod Tried
 pub mod Unreached
+pub mod CallHolds
 pub mod OperationLocks
 pub mod GuestActs
 pub mod CallLocks

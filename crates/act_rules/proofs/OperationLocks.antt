@@ -1,9 +1,8 @@
 -- A guest's operation holds the first of the locks that its row tries, in every state that a run reaches: the page that
 -- `accept` has tried is still the one that its entry names.
-use Rattle.std.proofs.Common.{lit≤, ◌≡◌, ◌≢◌, refl, sym, ◌∙◌, subst, ap, ℕ, zero, suc, ◌+◌, List, [], ◌∷◌, ◌++◌, length, drop, Option, Some, None, option_map, IfSome, Bool, true, false, not, ◌==◌, ◌||◌, arith}
+use Rattle.std.proofs.Common.{◌≡◌, ◌≢◌, inl, inr, ◌<◌, refl, sym, ◌∙◌, subst, ap, ℕ, zero, suc, ◌+◌, List, [], ◌∷◌, ◌++◌, length, drop, Option, Some, None, option_map, IfSome, Bool, true, false, not, ◌==◌, arith}
 use Rattle.std.specs.List.{list_all}
-use Rattle.std.proofs.lemmas.Bool.{eqb-true, eqb-false, and_parts}
-use Rattle.td_words.specs.declared.names.PageKind.TheVariants as kind
+use Rattle.std.proofs.lemmas.Bool.{eq-eqb, eqb-true, eqb-false, and_parts}
 use Rattle.td_words.specs.declared.names.EntryState.{EntryState}
 use Rattle.td_words.specs.declared.names.EntryState.TheVariants as entry
 use Rattle.td_words.specs.declared.names.Mode.{Mode}
@@ -11,53 +10,40 @@ use Rattle.td_words.specs.declared.names.Mode.TheVariants.{Shared, Exclusive}
 use Rattle.td_words.specs.declared.names.Access.{Access}
 use Rattle.td_words.specs.declared.names.Access.TheVariants.{Read, Write}
 use Rattle.td_words.specs.declared.calls.Call.{Call}
-use Rattle.td_words.specs.declared.calls.Call.TheVariants as call
 use Rattle.td_words.specs.declared.calls.GuestOp.{GuestOp}
 use Rattle.td_words.specs.declared.calls.GuestOp.TheVariants as op
 use Rattle.td_words.specs.declared.replies.Outcome.{Outcome}
 use Rattle.td_words.specs.declared.replies.Reply.{Reply}
 use Rattle.td_words.specs.Packing.{Entry}
-use Rattle.flat_core.specs.World.{World, put}
-use Rattle.flat_core.specs.Processor.{LockId, OfPage, OfTree, Held, Phase, Trying, Undoing, Answered, Guest, Entering, new_guest, Lp}
+use Rattle.flat_core.specs.World.{World}
+use Rattle.flat_core.specs.Processor.{LockId, OfPage, OfOp, OfTree, OfEpoch, Held, Phase, Trying, Undoing, Answered, Guest, Entering, new_guest, Lp}
+use Rattle.flat_core.specs.Locks.{same_lock}
 use Rattle.flat_core.specs.Opening.{Opening, Incoming}
 use Rattle.flat_core.specs.Row.{Row, OperationRow, Move, Attempts, Undoes, Refuses, Succeeds, Releases, Rests, Passes, next, next_in, after_try, after_move, but_newest}
-use Rattle.flat_core.specs.Conditions.{host_page, page_exclusive}
-use Rattle.flat_core.specs.Effects.{put_in}
-use Rattle.flat_core.specs.Tree.{same_state, entry_at, number_at, levels_above, is_passed, state_in}
+use Rattle.flat_core.specs.Tree.{same_state, entry_at, number_at, levels_above, is_passed}
 use Rattle.flat_core.specs.Table.{row_of}
 use Rattle.flat_core.specs.Tries.{tries, shared, alone}
 use Rattle.flat_core.specs.Guest.{Operation, ByRow, operation_of, names_page, accept, accept_page, is_pending_at, walk_level, walk_step, walked_on, walked_entry, goes_on, answered, reach}
 use Rattle.flat_core.specs.Lawful.{is_free}
 use Rattle.flat_core.specs.Guests.{SameVp}
-use Rattle.flat_core.specs.Inside.{LineAt, StandsAt, held_then}
+use Rattle.flat_core.specs.Inside.{InGuest, LineAt, StandsAt, held_then}
 use Rattle.flat_core.specs.GuestOrder.{operation_tries, tried_by}
 use Rattle.flat_core.specs.Event.{State, Event, OfCall, OfOperation, Walks, Reaches, next_event, lines_left, event, after_event, world_after, call_world, operation_world, lp_after, call_lp, succeeded, settled, settle, settled_guest, settle_operation, operation_guest, operation_busy, operation_due, nothing_more, is_granted}
 use Rattle.flat_core.specs.Laws.{with_bundles}
-use Rattle.flat_core.proofs.Tests.{by_test, host_kind, range_of}
-use Rattle.flat_core.proofs.Induction.{event_keeps, in_runs}
+use Rattle.flat_core.proofs.Tests.{by_test}
+use Rattle.flat_core.proofs.Induction.{in_runs}
 use Rattle.flat_core.proofs.Operations.{operation_row, accepted}
 use Rattle.flat_core.proofs.Due.{Due, calls, frees, leaves, stops, fills, operates, walks, reaches, undoes, gives_back, due_event_is}
 use Rattle.flat_core.proofs.Ends.{next_is, leave, same_due, timely_step, timeliness_kept, timely_rebundled}
 use Rattle.flat_core.proofs.Accesses.{entry-apart}
-use Rattle.flat_core.proofs.Always.{passed}
-use Rattle.flat_core.proofs.Maps.{walk_passed}
 use Rattle.flat_core.proofs.GuestOrder.{operations_try_lists}
 use Rattle.word_rules.specs.CallUses.{HoldsTries}
-use Rattle.lock_words.specs.Grips.{operation_locks, locks_of, grip_of}
-use Rattle.act_rules.proofs.Tried.{drop-then, next-locks, held-behind, alone-behind, IsWithin, all-pass, tries-held}
-use Rattle.act_rules.specs.GuestLocks.{HoldsFirst, NamesTried, IsNamed, HoldsDue, HoldsIn, HoldsTheirs, OperationsHoldTheirs, OperationLocksAreKept, OperationLocksHold}
+use Rattle.lock_words.specs.Grips.{holds, operation_locks, locks_of, grip_of}
+use Rattle.act_rules.proofs.Tried.{drop-then, next-locks, held-before, held-behind, alone-behind, IsWithin, all-pass, length-then, nothing-left, all-turned, tries-held}
+use Rattle.act_rules.proofs.CallHolds.{in-machine, entries-stay, calls-rebundled, call-locks-kept}
+use Rattle.act_rules.specs.GuestLocks.{HoldsFirst, NamesTried, IsNamed, HoldsDue, HoldsIn, HoldsTheirs, OperationsHoldTheirs, AllHoldTheirs, OperationLocksAreKept, OperationLocksHold}
 
--- Entries of level 0 that aren't FREE name the same page after each event
-
-free_of : (s : EntryState) → (same_state entry.Free s || false) ≡ true → is_free s ≡ true
-free_of entry.Free h = refl
-free_of _ h = cc
-
-entry-kept : (w : World) (u level number : ℕ) (x : Entry) (t l n : ℕ) → is_free (w.tds.entries u level number).state ≡ true → is_free (w.tds.entries t l n).state ≡ false
-    → put w.tds.entries u (put_in (w.tds.entries u) level number x) t l n ≡ w.tds.entries t l n
-entry-kept w u level number x t l n free used = entry-apart w u level number x t l n
-    (λ a b c. let at : w.tds.entries t l n ≡ w.tds.entries u level number = ap (λ (q : ℕ). w.tds.entries q l n) a ∙ (ap (λ (q : ℕ). w.tds.entries u q n) b ∙ ap (λ (q : ℕ). w.tds.entries u level q) c) in
-    let no : true ≡ false = sym free ∙ (ap (λ (e : Entry). is_free e.state) (sym at) ∙ used) in cc)
+-- An entry of level 0 that isn't FREE names the same page after each event, where the act of a call leaves the TD's entries
 
 pending-used : (s : EntryState) → same_state s entry.Pending ≡ true → is_free s ≡ false
 pending-used entry.Free h = cc
@@ -66,28 +52,12 @@ pending-used _ h = refl
 abbrev Renames : World → (tdr number : ℕ) → World → Type 0
 Renames w t n w' = (is_free (w'.tds.entries t 0 n).state ≡ false) × ((w'.tds.entries t 0 n).page ≡ (w.tds.entries t 0 n).page)
 
-module _ (o : Opening) (w : World) (t n : ℕ) (tdr : w.pages.kinds t ≡ kind.Tdr) (used : is_free (w.tds.entries t 0 n).state ≡ false) where
+module _ (o : Opening) (w : World) (t n : ℕ) (used : is_free (w.tds.entries t 0 n).state ≡ false) where
   abbrev StillNames : World → Type 0
   StillNames w' = Renames w t n w'
 
   as-before : (w' : World) → w'.tds.entries t 0 n ≡ w.tds.entries t 0 n → StillNames w'
   as-before w' e = (ap (λ (x : Entry). is_free x.state) e ∙ used, ap (λ (x : Entry). x.page) e)
-
-  row-entries : (me : ℕ) (c : Call) → Passes ((row_of o me c).items w) → ((row_of o me c).act w).tds.entries t 0 n ≡ w.tds.entries t 0 n
-  row-entries me (call.MngCreate u h) ps =
-      let off : (t == u) ≡ false = by_test (t == u)
-      (λ y. absurd (let no : kind.Tdr ≡ kind.Nda = sym tdr ∙ (ap w.pages.kinds (eqb-true t u y) ∙ host_kind (w.pages.kinds u) ps.1.1.0) in cc)) (λ x. x) in rw off refl
-  row-entries me (call.MemSeptAdd u gpa level page) ps =
-      let behind = walk_passed w u gpa (state_in w u gpa level (entry.Free ∷ []) ∷ page_exclusive page ∷ host_page w page ∷ []) level (range_of level 3 ps.1.1.0).1 ps.1.1.1.1.1.1.1.1.1.1 in
-      entry-kept w u level (number_at level gpa) _ t 0 n (free_of (entry_at w u level gpa).state behind.0.0) used
-  row-entries me (call.MemPageAdd u gpa page source) ps =
-      let behind = walk_passed w u gpa (state_in w u gpa 0 (entry.Free ∷ []) ∷ page_exclusive source ∷ host_page w source ∷ page_exclusive page ∷ host_page w page ∷ []) 0 (lit≤ tt) ps.1.1.1.1.1.1.1.1.1.1.1.1 in
-      entry-kept w u 0 (number_at 0 gpa) _ t 0 n (free_of (entry_at w u 0 gpa).state behind.0.0) used
-  row-entries me (call.MemPageAug u gpa page) ps =
-      let behind = walk_passed w u gpa (state_in w u gpa 0 (entry.Free ∷ []) ∷ page_exclusive page ∷ host_page w page ∷ []) 0 (lit≤ tt) ps.1.1.1.1.1.1.1.1.1 in
-      entry-kept w u 0 (number_at 0 gpa) _ t 0 n (free_of (entry_at w u 0 gpa).state behind.0.0) used
-  row-entries me (call.HostRead page i) ps = refl
-  row-entries me _ ps = refl
 
   -- a page that is accepted is named by its entry
   page-accepted : (u gpa : ℕ) → is_pending_at w u gpa ≡ true → StillNames (accept_page true u gpa w)
@@ -125,19 +95,24 @@ module _ (o : Opening) (w : World) (t n : ℕ) (tdr : w.pages.kinds t ≡ kind.T
   operation-moved row (Releases x) h = (used, refl)
   operation-moved row Rests h = (used, refl)
 
-  event-names : (p : ℕ) (lp : Lp) (e : Event) → Due o w p lp e → StillNames (world_after e w)
-  event-names p lp e (calls c cs line none) =
+  -- the act of a call that leaves the entries of the TD
+  abbrev ActsLeave : ℕ → Lp → Type 0
+  ActsLeave p lp = (c : Call) (cs : List Call) → lines_left o p lp ≡ c ∷ cs → lp.guest ≡ None → next_in ((row_of o p c).items w) lp.call.phase lp.call.held ≡ Succeeds
+      → ((row_of o p c).act w).tds.entries t ≡ w.tds.entries t
+
+  event-names : (p : ℕ) (lp : Lp) → ActsLeave p lp → (e : Event) → Due o w p lp e → StillNames (world_after e w)
+  event-names p lp leave e (calls c cs line none) =
       call-moved (row_of o p c) (next_in ((row_of o p c).items w) lp.call.phase lp.call.held)
-      (λ y. as-before ((row_of o p c).act w) (row-entries p c (passed ((row_of o p c).items w) lp.call.phase lp.call.held y)))
-  event-names p lp e (frees c cs g h hs line guest held epoch) = (used, refl)
-  event-names p lp e (leaves c cs g out i l) = (used, refl)
-  event-names p lp e (stops c cs g i l x d) = (used, refl)
-  event-names p lp e (fills c cs g op i l x d m) = (used, refl)
-  event-names p lp e (operates c cs g op row i way is) = operation-moved row (next (row.items w) (length g.operation.held)) (operation-names g.tdr g.vp (length lp.replies + 1) op row is)
-  event-names p lp e (walks c cs g op access r gpa i way is lost) = (used, refl)
-  event-names p lp e (reaches c cs g op access r gpa page i way is found) = reach-names g.tdr g.vp access r gpa page
-  event-names p lp e (undoes c cs g l i st h) = (used, refl)
-  event-names p lp e (gives_back c cs g out i st h) = operation-moved nothing_more (next_in [] (Answered out) g.operation.held) (used, refl)
+      (λ y. as-before ((row_of o p c).act w) (ap (λ (f : ℕ → ℕ → Entry). f 0 n) (leave c cs line none y)))
+  event-names p lp leave e (frees c cs g h hs line guest held epoch) = (used, refl)
+  event-names p lp leave e (leaves c cs g out i l) = (used, refl)
+  event-names p lp leave e (stops c cs g i l x d) = (used, refl)
+  event-names p lp leave e (fills c cs g op i l x d m) = (used, refl)
+  event-names p lp leave e (operates c cs g op row i way is) = operation-moved row (next (row.items w) (length g.operation.held)) (operation-names g.tdr g.vp (length lp.replies + 1) op row is)
+  event-names p lp leave e (walks c cs g op access r gpa i way is lost) = (used, refl)
+  event-names p lp leave e (reaches c cs g op access r gpa page i way is found) = reach-names g.tdr g.vp access r gpa page
+  event-names p lp leave e (undoes c cs g l i st h) = (used, refl)
+  event-names p lp leave e (gives_back c cs g out i st h) = operation-moved nothing_more (next_in [] (Answered out) g.operation.held) (used, refl)
 
 -- The locks that an operation holds
 
@@ -287,82 +262,112 @@ module _ (o : Opening) (w : World) (p : ℕ) (lp : Lp) (h : IfSome lp.guest (Hol
   by-due e (gives_back c cs g out i st k) = by-release g i.guest out k
 
 -- another processor's event leaves it
-module _ (w w' : World) (t : ℕ) (names : (n : ℕ) → is_free (w.tds.entries t 0 n).state ≡ false → Renames w t n w') where
-  named-stays : (x : GuestOp) (hs : List Held) → IsNamed w t x hs → IsNamed w' t x hs
-  named-stays x [] k = tt
-  named-stays x (a ∷ []) k = tt
-  named-stays x (a ∷ b ∷ hs) k = by x k
-    where
-      by : (x : GuestOp) → NamesTried w t x → NamesTried w' t x
-      by (op.Accept gpa) k = (names (number_at 0 gpa) k).0
-      by (op.Set r y) k = tt
-      by (op.Add r s) k = tt
-      by (op.Load r gpa) k = tt
-      by (op.Store r gpa) k = tt
-      by (op.Rtmr i) k = tt
-      by (op.Vmcall r) k = tt
+module _ (w w' : World) (t : ℕ) where
+  -- where T is held, an entry that isn't FREE names its page
+  abbrev WhereHeld : List Held → Type 0
+  WhereHeld hs = holds hs (OfTree t) ≡ true → (n : ℕ) → is_free (w.tds.entries t 0 n).state ≡ false → Renames w t n w'
 
-  accept-stays : (gpa : ℕ) (hs : List Held) → HoldsFirst w t (op.Accept gpa) hs → IsNamed w t (op.Accept gpa) hs → HoldsFirst w' t (op.Accept gpa) hs
-  accept-stays gpa [] f k = (operation_tries t (op.Accept gpa) w', refl)
-  accept-stays gpa (a ∷ []) f k =
+  -- of the two locks that `accept` tries both are held
+  tree-held : (gpa : ℕ) (a b : Held) (hs : List Held) → HoldsFirst w t (op.Accept gpa) (a ∷ b ∷ hs) → holds (a ∷ b ∷ hs) (OfTree t) ≡ true
+  tree-held gpa a b hs f =
+      let same = ap length f.1 in
+      let long = length-then (a ∷ b ∷ hs) f.0 in
+      let none : f.0 ≡ [] = nothing-left f.0 (omega (arith, same, long)) in
+      let all : operation_tries t (op.Accept gpa) w ≡ held_then (a ∷ b ∷ hs) [] = f.1 ∙ ap (held_then (a ∷ b ∷ hs)) none in
+      let tried : holds (operation_tries t (op.Accept gpa) w) (OfTree t) ≡ true = rw (eq-eqb t t refl) refl in
+      all-turned (λ h. same_lock h.lock (OfTree t)) (a ∷ b ∷ hs) (subst (λ (xs : List Held). holds xs (OfTree t) ≡ true) all tried)
+
+  accept-stays : (gpa : ℕ) (hs : List Held) → WhereHeld hs → HoldsFirst w t (op.Accept gpa) hs → IsNamed w t (op.Accept gpa) hs → HoldsFirst w' t (op.Accept gpa) hs × IsNamed w' t (op.Accept gpa) hs
+  accept-stays gpa [] names f k = ((operation_tries t (op.Accept gpa) w', refl), tt)
+  accept-stays gpa (a ∷ []) names f k =
       let same : shared (OfTree t) ≡ a = (let e = f.1 in cc) in
-      (alone (OfPage (entry_at w' t 0 gpa).page) ∷ [], ap (λ (h : Held). h ∷ alone (OfPage (entry_at w' t 0 gpa).page) ∷ []) same)
-  accept-stays gpa (a ∷ b ∷ hs) f k = (f.0, ap (λ (p : ℕ). shared (OfTree t) ∷ alone (OfPage p) ∷ []) (names (number_at 0 gpa) k).1 ∙ f.1)
+      ((alone (OfPage (entry_at w' t 0 gpa).page) ∷ [], ap (λ (h : Held). h ∷ alone (OfPage (entry_at w' t 0 gpa).page) ∷ []) same), tt)
+  accept-stays gpa (a ∷ b ∷ hs) names f k =
+      let x = names (tree-held gpa a b hs f) (number_at 0 gpa) k in
+      ((f.0, ap (λ (p : ℕ). shared (OfTree t) ∷ alone (OfPage p) ∷ []) x.1 ∙ f.1), x.0)
 
-  due-stays : (x : Option GuestOp) (hs : List Held) → HoldsDue w t x hs → HoldsDue w' t x hs
-  due-stays None hs k = tt
-  due-stays (Some (op.Accept gpa)) hs k = (accept-stays gpa hs k.0 k.1, named-stays (op.Accept gpa) hs k.1)
-  due-stays (Some (op.Set r x)) hs k = (k.0, named-stays (op.Set r x) hs k.1)
-  due-stays (Some (op.Add r s)) hs k = (k.0, named-stays (op.Add r s) hs k.1)
-  due-stays (Some (op.Load r gpa)) hs k = (k.0, named-stays (op.Load r gpa) hs k.1)
-  due-stays (Some (op.Store r gpa)) hs k = (k.0, named-stays (op.Store r gpa) hs k.1)
-  due-stays (Some (op.Rtmr i)) hs k = (k.0, named-stays (op.Rtmr i) hs k.1)
-  due-stays (Some (op.Vmcall r)) hs k = (k.0, named-stays (op.Vmcall r) hs k.1)
+  named-stays : (x : GuestOp) (hs : List Held) → (NamesTried w t x → NamesTried w' t x) → IsNamed w t x hs → IsNamed w' t x hs
+  named-stays x [] still k = tt
+  named-stays x (a ∷ []) still k = tt
+  named-stays x (a ∷ b ∷ hs) still k = still k
 
-  other-theirs : (o : Opening) (g : Guest) → g.tdr ≡ t → SameVp w w' g.vp → HoldsTheirs o w g → HoldsTheirs o w' g
-  other-theirs o g td same h = by g.operation.phase h
+  due-stays : (x : Option GuestOp) (hs : List Held) → WhereHeld hs → HoldsDue w t x hs → HoldsDue w' t x hs
+  due-stays None hs names k = tt
+  due-stays (Some (op.Accept gpa)) hs names k = accept-stays gpa hs names k.0 k.1
+  due-stays (Some (op.Set r x)) hs names k = (k.0, named-stays (op.Set r x) hs (λ y. y) k.1)
+  due-stays (Some (op.Add r s)) hs names k = (k.0, named-stays (op.Add r s) hs (λ y. y) k.1)
+  due-stays (Some (op.Load r gpa)) hs names k = (k.0, named-stays (op.Load r gpa) hs (λ y. y) k.1)
+  due-stays (Some (op.Store r gpa)) hs names k = (k.0, named-stays (op.Store r gpa) hs (λ y. y) k.1)
+  due-stays (Some (op.Rtmr i)) hs names k = (k.0, named-stays (op.Rtmr i) hs (λ y. y) k.1)
+  due-stays (Some (op.Vmcall r)) hs names k = (k.0, named-stays (op.Vmcall r) hs (λ y. y) k.1)
+
+  other-theirs : (o : Opening) (g : Guest) → g.tdr ≡ t → WhereHeld g.operation.held → SameVp w w' g.vp → HoldsTheirs o w g → HoldsTheirs o w' g
+  other-theirs o g td names same h = by g.operation.phase h
     where
       by : (phase : Phase (Option Outcome)) → HoldsIn o w g phase → HoldsIn o w' g phase
       by Trying k = subst (λ (x : Option GuestOp). HoldsDue w' g.tdr x g.operation.held) (sym (same_due o w w' g same))
-          (subst (λ (u : ℕ). HoldsDue w u (operation_due o w g) g.operation.held → HoldsDue w' u (operation_due o w g) g.operation.held) (sym td) (due-stays (operation_due o w g) g.operation.held) k)
+          (subst (λ (u : ℕ). HoldsDue w u (operation_due o w g) g.operation.held → HoldsDue w' u (operation_due o w g) g.operation.held) (sym td) (due-stays (operation_due o w g) g.operation.held names) k)
       by (Undoing l) k = tt
       by (Answered out) k = tt
 
-module _ (o : Opening) (s : State) (p : ℕ) (e : Event) (is : next_event o s p ≡ Some e) (h : OperationsHoldTheirs o s) where
-  others : (q : ℕ) → q ≢ p → IfSome (s.lps q).guest (HoldsTheirs o (world_after e s.world))
-  others q apart = by (lines_left o q (s.lps q)) (h.timely.each q)
-    where
-      at : (c : Call) (x : Option Guest) → LineAt o s.world q c (s.lps q) x → IfSome x (HoldsTheirs o s.world) → IfSome x (HoldsTheirs o (world_after e s.world))
-      at c None t k = tt
-      at c (Some g) t k =
-          other-theirs s.world (world_after e s.world) g.tdr (λ n used. event-names o s.world g.tdr n t.occupied.tdr used p (s.lps p) e (due_event_is o s p e is)) o g refl
-          (leave o s p e is h.timely q g.tdr g.vp apart t.occupied).same k
+-- in guest P of the TDR page is held
+tdr-held : (o : Opening) (w : World) (q : ℕ) (c : Call) (lp : Lp) (g : Guest) → InGuest o w q c lp g → holds lp.call.held (OfPage g.tdr) ≡ true
+tdr-held o w q c lp g i =
+    let own : holds (shared (OfPage g.tdr) ∷ []) (OfPage g.tdr) ≡ true = rw (eq-eqb g.tdr g.tdr refl) refl in
+    elim i.locks [
+      | inl e ↦ rw e (held-behind (alone (OfPage g.vp) ∷ shared (OfOp g.tdr) ∷ []) (shared (OfPage g.tdr) ∷ []) (OfPage g.tdr) own)
+      | inr e ↦ rw (e.0) (held-behind (shared (OfEpoch g.tdr) ∷ alone (OfPage g.vp) ∷ shared (OfOp g.tdr) ∷ []) (shared (OfPage g.tdr) ∷ []) (OfPage g.tdr) own)
+    ]
 
-      by : (cs : List Call) → StandsAt o s.world q cs (s.lps q) → IfSome (s.lps q).guest (HoldsTheirs o (world_after e s.world))
-      by [] t = subst (λ (x : Option Guest). IfSome x (HoldsTheirs o (world_after e s.world))) (sym t.0) tt
-      by (c ∷ cs) t = at c (s.lps q).guest t (h.each q)
+module _ (o : Opening) (s : State) (p : ℕ) (e : Event) (is : next_event o s p ≡ Some e) (h : AllHoldTheirs o s) where
+  others : (q : ℕ) → q ≢ p → IfSome (s.lps q).guest (HoldsTheirs o (world_after e s.world))
+  others q apart = by (lines_left o q (s.lps q)) refl (h.operations.timely.each q)
+    where
+      at : (c : Call) → q < s.lp_count → (x : Option Guest) → (s.lps q).guest ≡ x → LineAt o s.world q c (s.lps q) x → IfSome x (HoldsTheirs o s.world) → IfSome x (HoldsTheirs o (world_after e s.world))
+      at c below None guest t k = tt
+      at c below (Some g) guest t k =
+          let lp : Lp = s.lps q in
+          let page = held-before lp.call.held (operation_locks lp.guest) (OfPage g.tdr) (tdr-held o s.world q c lp g t) in
+          other-theirs s.world (world_after e s.world) g.tdr o g refl
+          (λ tree n used. let all : holds (locks_of lp) (OfTree g.tdr) ≡ true = subst (λ (x : Option Guest). holds (lp.call.held ++ operation_locks x) (OfTree g.tdr) ≡ true) (sym guest) (held-behind lp.call.held g.operation.held (OfTree g.tdr) tree) in
+          event-names o s.world g.tdr n used p (s.lps p) (λ c cs line none acts. entries-stay o s h.calls p c cs line none acts q apart below g.tdr page all) e (due_event_is o s p e is))
+          (leave o s p e is h.operations.timely q g.tdr g.vp apart t.occupied).same k
+
+      by : (cs : List Call) → lines_left o q (s.lps q) ≡ cs → StandsAt o s.world q cs (s.lps q) → IfSome (s.lps q).guest (HoldsTheirs o (world_after e s.world))
+      by [] line t = subst (λ (x : Option Guest). IfSome x (HoldsTheirs o (world_after e s.world))) (sym t.0) tt
+      by (c ∷ cs) line t = at c (in-machine o s h.calls q c cs line) (s.lps q).guest refl t (h.operations.each q)
 
   step : OperationsHoldTheirs o (after_event p s (Some e))
   step = record {
-    timely = timely_step o s p e is h.timely;
+    timely = timely_step o s p e is h.operations.timely;
     each = λ q. by_test (q == p)
-        (λ y. rw y (by-due o s.world p (s.lps p) (h.each p) (is_granted s) e (due_event_is o s p e is)))
+        (λ y. rw y (by-due o s.world p (s.lps p) (h.operations.each p) (is_granted s) e (due_event_is o s p e is)))
         (λ n. rw n (others q (eqb-false q p n)));
   }
+
+after : (o : Opening) (s : State) (p : ℕ) → AllHoldTheirs o s → OperationsHoldTheirs o (event o s p)
+after o s p h = by (next_event o s p) refl
+  where
+    by : (x : Option Event) → next_event o s p ≡ x → OperationsHoldTheirs o (after_event p s x)
+    by None is = h.operations
+    by (Some e) is = step o s p e is h
 
 rebundled : (o : Opening) (bundles : ℕ → Option Incoming) (s : State) → OperationsHoldTheirs o s → OperationsHoldTheirs (with_bundles o bundles) s
 rebundled o bundles s h = record { timely = timely_rebundled o bundles s h.timely; each = h.each }
 
 pub operation-locks-kept : OperationLocksAreKept
 operation-locks-kept = record {
-  start = λ o ws. record { timely = timeliness_kept.start o ws; each = λ q. tt };
+  start = λ o ws. record { calls = call-locks-kept.start o ws; operations = record { timely = timeliness_kept.start o ws; each = λ q. tt } };
   event = λ o bundles s p h.
       let q = with_bundles o bundles in
-      rebundled q o.bundles (event q s p) (event_keeps q (OperationsHoldTheirs q) (step q) s p (rebundled o bundles s h));
+      record {
+        calls = call-locks-kept.event o bundles s p h.calls;
+        operations = rebundled q o.bundles (event q s p) (after q s p (record { calls = calls-rebundled o bundles s h.calls; operations = rebundled o bundles s h.operations }));
+      };
 }
 
 pub operation-locks-hold : OperationLocksHold
-operation-locks-hold = in_runs OperationsHoldTheirs operation-locks-kept
+operation-locks-hold o ws schedule = (in_runs AllHoldTheirs operation-locks-kept o ws schedule).operations
 
 -- At its act it holds all that it tries
 

@@ -194,7 +194,7 @@ module _ (g : Grip) (w : World) where
   -- an act that leaves what words are, before or after another
   abbrev same-td : (w w' : World) (u : ℕ) → w'.tds.ops u ≡ w.tds.ops u → w'.tds.controls u ≡ w.tds.controls u → w'.tds.epochs u ≡ w.tds.epochs u → ((b : ℕ) → is_empty w' u b ≡ is_empty w u b)
       → ((n : ℕ) → named_by (w'.tds.entries u 0 n) ≡ named_by (w.tds.entries u 0 n)) → SameTd w w' u
-  same-td w w' u a b c d e = record { op = a; controls = b; epoch = c; empty = d; named = e }
+  same-td _ _ _ a b c d e = record { op = a; controls = b; epoch = c; empty = d; named = e }
 
   -- PHYMEM.PAGE.RECLAIM
   given-back : (t p : ℕ) → is_host w p ≡ false → w.pages.owners p ≡ t → g.has (Locked (OfPage t)) ≡ true → g.sole (Locked (OfPage t)) ≡ true → g.sole (Locked (OfPage p)) ≡ true → Respects g w (give_back p (end_memory_in t p w))

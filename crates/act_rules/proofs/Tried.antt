@@ -1,6 +1,7 @@
 -- What is held of the locks that a row tries, in their order.
-use Rattle.std.proofs.Common.{◌≡◌, refl, sym, ◌∙◌, subst, ap, ℕ, zero, suc, ◌+◌, ◌≤◌, List, [], ◌∷◌, ◌++◌, length, drop, Bool, true, false, ◌&&◌, ◌||◌, arith}
-use Rattle.std.proofs.lemmas.Bool.{eq-eqb}
+use Rattle.std.proofs.Common.{◌≡◌, ◌⊎◌, inl, inr, refl, sym, ◌∙◌, subst, ap, ℕ, zero, suc, ◌+◌, ◌≤◌, List, [], ◌∷◌, ◌++◌, length, drop, Bool, true, false, ◌&&◌, ◌||◌, arith}
+use Rattle.std.specs.List.{list_any}
+use Rattle.std.proofs.lemmas.Bool.{eq-eqb, or_cases}
 use Rattle.td_words.specs.declared.names.Mode.{Mode}
 use Rattle.td_words.specs.declared.names.Mode.TheVariants.{Shared, Exclusive}
 use Rattle.flat_core.specs.Processor.{LockId, OfPage, OfOp, OfTree, OfEpoch, OfRtmr, OfKeys, Held}
@@ -91,6 +92,25 @@ pub nothing-left : (xs : List Held) → length xs ≡ 0 → xs ≡ []
 nothing-left [] e = refl
 nothing-left (x ∷ xs) e = absurd (omega (arith, e))
 
+-- so where as many are held as are tried, nothing is left
+pub all-had : {R : Type 0} (items : List (Item R)) (hs rest : List Held) → tries items ≡ held_then hs rest → next items (length hs) ≡ Succeeds → rest ≡ []
+all-had items hs rest are e =
+    let few = all-tried items (length hs) e in
+    let same = ap length are in
+    let long = length-then hs rest in
+    nothing-left rest (omega (arith, few, same, long))
+
+-- and one of these that passes a test is one of those held
+turned-any : (f : Held → Bool) (hs xs : List Held) → list_any f (held_then hs xs) ≡ true → (list_any f hs ≡ true) ⊎ (list_any f xs ≡ true)
+turned-any f [] xs e = inr e
+turned-any f (h ∷ hs) xs e = elim (turned-any f hs (h ∷ xs) e) [
+  | inl a ↦ inl (or-last (f h) (list_any f hs) a)
+  | inr b ↦ (elim (or_cases (f h) (list_any f xs) b) [ inl c ↦ inl (rw c refl) | inr d ↦ inr d ])
+]
+
+pub all-turned : (f : Held → Bool) (hs : List Held) → list_any f (held_then hs []) ≡ true → list_any f hs ≡ true
+all-turned f hs e = elim (turned-any f hs [] e) [ inl a ↦ a | inr b ↦ cc ]
+
 -- so all that a row tries is held, where what is held is what it tries first, and there is nothing more to try
 module _ (g : Grip) (all : List Held) (has : (l : LockId) → holds all l ≡ true → g.has (Locked l) ≡ true) (sole : (l : LockId) → holds_alone all l ≡ true → g.sole (Locked l) ≡ true) where
   abbrev AllHeld : List Held → Type 0
@@ -119,8 +139,5 @@ module _ (g : Grip) (all : List Held) (has : (l : LockId) → holds all l ≡ tr
 
   pub tries-held : {R : Type 0} (items : List (Item R)) (hs rest : List Held) → IsWithin hs all → tries items ≡ held_then hs rest → next items (length hs) ≡ Succeeds → HoldsTries g items
   tries-held items hs rest i are e =
-      let few = all-tried items (length hs) e in
-      let same = ap length are in
-      let long = length-then hs rest in
-      let none : rest ≡ [] = nothing-left rest (omega (arith, few, same, long)) in
+      let none : rest ≡ [] = all-had items hs rest are e in
       of-items items (subst AllHeld (sym (are ∙ ap (held_then hs) none)) (turned hs [] (each-held hs i) tt))

@@ -49,7 +49,7 @@ module _ (o : Opening) (s : State) (t n : ℕ) (all : IsGuarded o s) (alive : Is
   p = (w.tds.entries t 0 n).page
 
   pub node : IsNodeOf w.pages t p kind.Reg 0 n
-  node = (all.timely.lawful.tree.leaf t n alive (pending-used (w.tds.entries t 0 n).state pends)).1
+  node = (all.timely.lawful.tree.lowest t n alive (pending-used (w.tds.entries t 0 n).state pends)).1
 
   module _ (q : ℕ) (g : Guest) (is : (s.lps q).guest ≡ Some g) where
     occupied : IsOccupied w q g.tdr g.vp
@@ -61,7 +61,7 @@ module _ (o : Opening) (s : State) (t n : ℕ) (all : IsGuarded o s) (alive : Is
         let us : IsUsable w q (s.lps q).guest c.tdr x.epoch = inside g is (sym td) x.entered in
         let now : IsCurrent w c x.epoch = (all.access.each q).usable c x.epoch has us in
         let its : IsAlive w.pages w.tds c.tdr = subst (λ (u : ℕ). IsAlive w.pages w.tds u) (sym td) (occupied-alive w q g.tdr g.vp x) in
-        let other : IsNodeOf w.pages c.tdr (entry_of w c).page kind.Reg 0 c.gpa_page = (all.timely.lawful.tree.leaf c.tdr c.gpa_page its now.named.used).1 in
+        let other : IsNodeOf w.pages c.tdr (entry_of w c).page kind.Reg 0 c.gpa_page = (all.timely.lawful.tree.lowest c.tdr c.gpa_page its now.named.used).1 in
         let same : (entry_of w c).page ≡ p = now.named.page_is ∙ page in
         let owner : c.tdr ≡ t = sym other.page.owner ∙ (ap w.pages.owners same ∙ node.page.owner) in
         let number : c.gpa_page ≡ n = sym other.number_is ∙ (ap w.pages.numbers same ∙ node.number_is) in

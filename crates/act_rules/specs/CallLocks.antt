@@ -1,6 +1,6 @@
--- The locks that a call holds on its way to its act: the first that its row tries, in their order and modes. MR.EXTEND alone
--- may try another lock in another world: that of the page that an entry names. Its act changes nothing of what words are.
-use Rattle.std.specs.Prelude.{◌≡◌, ℕ, List, [], ◌∷◌, ◌<◌, ◌==◌, false, Option, Some, None}
+-- The locks that a call holds on its way to its act: the first that its row tries, in their order and modes. The page that it
+-- has tried because an entry names it is still the one named, whatever others do: whoever changes that holds T alone.
+use Rattle.std.specs.Prelude.{◌≡◌, ℕ, List, [], ◌∷◌, length, ◌<◌, ◌==◌, false, Option, Some, None}
 use Rattle.td_words.specs.declared.calls.Call.{Call}
 use Rattle.td_words.specs.declared.replies.Reply.{Reply}
 use Rattle.flat_core.specs.World.{World}
@@ -10,29 +10,35 @@ use Rattle.flat_core.specs.Tries.{tries_of}
 use Rattle.flat_core.specs.Inside.{held_then}
 use Rattle.flat_core.specs.Event.{State, Event, lines_left, next_event, world_after}
 use Rattle.flat_core.specs.AccessLaw.{IsGuarded}
-use Rattle.flat_core.specs.Laws.{reached, IsKept, HoldsInRuns}
+use Rattle.flat_core.specs.Laws.{reached, IsExclusive, IsKept, HoldsInRuns}
 use Rattle.word_rules.specs.Permissions.{Respects, NoLaterConflict}
 use Rattle.lock_words.specs.Grips.{grip_of}
 
--- a call that tries the same in every world holds the first of it
-abbrev pub HoldsFirstOf : Call → List Held → Type 0
-HoldsFirstOf c hs = ((v w : World) → tries_of c v ≡ tries_of c w) → (w : World) → (rest : List Held) × (tries_of c w ≡ held_then hs rest)
+-- the first of its list
+abbrev pub HoldsFirstOf : World → Call → List Held → Type 0
+HoldsFirstOf w c hs = (rest : List Held) × (tries_of c w ≡ held_then hs rest)
 
 -- so of the next line, outside guests, while it is on its way
-abbrev pub LineHolds : List Call → List Held → Type 0
-LineHolds [] hs = Unit {0}
-LineHolds (c ∷ cs) hs = HoldsFirstOf c hs
+abbrev pub LineHolds : World → List Call → List Held → Type 0
+LineHolds w [] hs = Unit {0}
+LineHolds w (c ∷ cs) hs = HoldsFirstOf w c hs
 
-abbrev pub PhaseHolds : List Call → Option Guest → Phase Reply → List Held → Type 0
-PhaseHolds cs None Trying hs = LineHolds cs hs
-PhaseHolds cs _ _ hs = Unit {0}
+abbrev pub PhaseHolds : World → List Call → Option Guest → Phase Reply → List Held → Type 0
+PhaseHolds w cs None Trying hs = LineHolds w cs hs
+PhaseHolds w cs _ _ hs = Unit {0}
 
 -- and of each processor
 abbrev pub CallsHoldTheirs : Opening → State → Type 0
-CallsHoldTheirs o s = (q : ℕ) → PhaseHolds (lines_left o q (s.lps q)) (s.lps q).guest (s.lps q).call.phase (s.lps q).call.held
+CallsHoldTheirs o s = (q : ℕ) → PhaseHolds s.world (lines_left o q (s.lps q)) (s.lps q).guest (s.lps q).call.phase (s.lps q).call.held
+
+-- where locks exclude, and as many processors take part as have calls
+pub record CallsHoldApart (o : Opening) (s : State) : Type 0 where
+  pub exclusive : IsExclusive s
+  pub count : s.lp_count ≡ length o.calls
+  pub each : CallsHoldTheirs o s
 
 abbrev pub CallLocksAreKept : Type 0
-CallLocksAreKept = IsKept CallsHoldTheirs
+CallLocksAreKept = IsKept CallsHoldApart
 
 -- In a state: every event, a call's and a guest's, changes what words are only as the rules say, under what its processor has.
 abbrev pub EventsRespect : Opening → State → Type 0

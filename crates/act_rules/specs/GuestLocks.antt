@@ -13,6 +13,7 @@ use Rattle.flat_core.specs.Inside.{AreTimely, held_then}
 use Rattle.flat_core.specs.GuestOrder.{operation_tries}
 use Rattle.flat_core.specs.Event.{State, operation_due}
 use Rattle.flat_core.specs.Laws.{IsKept, HoldsInRuns}
+use Rattle.act_rules.specs.CallLocks.{CallsHoldApart}
 
 -- the first of its list
 abbrev pub HoldsFirst : World → (tdr : ℕ) → GuestOp → List Held → Type 0
@@ -44,8 +45,13 @@ pub record OperationsHoldTheirs (o : Opening) (s : State) : Type 0 where
   pub timely : AreTimely o s
   pub each : (q : ℕ) → IfSome (s.lps q).guest (HoldsTheirs o s.world)
 
+-- and calls hold theirs: one that changes which page an entry names holds T alone, which `accept` shares
+pub record AllHoldTheirs (o : Opening) (s : State) : Type 0 where
+  pub calls : CallsHoldApart o s
+  pub operations : OperationsHoldTheirs o s
+
 abbrev pub OperationLocksAreKept : Type 0
-OperationLocksAreKept = IsKept OperationsHoldTheirs
+OperationLocksAreKept = IsKept AllHoldTheirs
 
 abbrev pub OperationLocksHold : Type 0
 OperationLocksHold = HoldsInRuns OperationsHoldTheirs

@@ -1,5 +1,5 @@
 pub mod Stores
 pub mod Acts
+pub mod CallLocks
 pub mod GuestLocks
 pub mod GuestActs
-pub mod CallLocks

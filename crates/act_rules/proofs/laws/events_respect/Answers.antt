@@ -1,4 +1,5 @@
-use Rattle.act_rules.proofs.CallLocks.{call-locks-kept, guarded-events-respect, every-event-respects, events-spare-others}
+use Rattle.act_rules.proofs.CallHolds.{call-locks-kept}
+use Rattle.act_rules.proofs.CallLocks.{guarded-events-respect, every-event-respects, events-spare-others}
 use Rattle.act_rules.proofs.laws.events_respect.Goals as goal
 
 pub returns-clause-kept : goal.returns-clause-kept

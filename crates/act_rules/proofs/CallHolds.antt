@@ -1,0 +1,379 @@
+-- A call holds the first of the locks that its row tries, in every state that a run reaches. Which page an entry of a TD names
+-- stays the same for whoever holds P of the TDR page and T, in either mode: a call that changes it has one of them alone.
+use Rattle.std.proofs.Common.{◌≡◌, ◌⊎◌, inl, inr, ◌≢◌, refl, sym, ◌∙◌, subst, ap, ℕ, ◌+◌, ◌<◌, List, [], ◌∷◌, ◌++◌, length, drop, Option, Some, None, option_map, Bool, true, false, ◌==◌, ◌&&◌, arith}
+use Rattle.std.proofs.lemmas.Bool.{eq-eqb, eqb-true, eqb-false, ne_eqb, and_parts}
+use Rattle.td_words.specs.declared.names.Mode.{Mode}
+use Rattle.td_words.specs.declared.names.Mode.TheVariants.{Shared, Exclusive}
+use Rattle.td_words.specs.declared.calls.Call.{Call}
+use Rattle.td_words.specs.declared.calls.Call.TheVariants as call
+use Rattle.td_words.specs.declared.calls.GuestOp.{GuestOp}
+use Rattle.td_words.specs.declared.names.Access.{Access}
+use Rattle.td_words.specs.declared.names.Access.TheVariants.{Read, Write}
+use Rattle.td_words.specs.declared.replies.Outcome.{Outcome}
+use Rattle.td_words.specs.declared.replies.Reply.{Reply}
+use Rattle.td_words.specs.Packing.{Entry}
+use Rattle.flat_core.specs.World.{World, put}
+use Rattle.flat_core.specs.Processor.{LockId, OfPage, OfTree, OfEpoch, Held, Phase, Trying, Undoing, Answered, Guest, Entering, Lp, idle}
+use Rattle.flat_core.specs.Locks.{same_lock, is_alone}
+use Rattle.flat_core.specs.Opening.{Opening, Incoming}
+use Rattle.flat_core.specs.Row.{Item, Row, OperationRow, Move, Attempts, Undoes, Refuses, Succeeds, Releases, Rests, next, next_in, but_newest}
+use Rattle.flat_core.specs.Table.{row_of}
+use Rattle.flat_core.specs.Effects.{put_in}
+use Rattle.flat_core.specs.Tree.{entry_at, number_at}
+use Rattle.flat_core.specs.Tries.{shared, alone, td_tries, named_tries, tries_of}
+use Rattle.flat_core.specs.Guest.{ByRow, operation_of, is_pending_at, reach, walk_step, answered}
+use Rattle.flat_core.specs.Inside.{held_then}
+use Rattle.flat_core.specs.Event.{State, Event, OfCall, OfOperation, Walks, Reaches, start, next_event, event, lines_left, after_event, world_after, call_world, operation_world, lp_after, call_lp, succeeded, settled, settle, settled_guest, operation_guest, nothing_more, is_granted}
+use Rattle.flat_core.specs.Laws.{with_bundles}
+use Rattle.flat_core.proofs.Tests.{by_test}
+use Rattle.flat_core.proofs.Induction.{count_stays}
+use Rattle.flat_core.proofs.LockLaw.{exclusion_kept}
+use Rattle.flat_core.proofs.Operations.{operation_row, accepted}
+use Rattle.flat_core.proofs.Due.{Due, calls, frees, leaves, stops, fills, operates, walks, reaches, undoes, gives_back, due_event_is}
+use Rattle.flat_core.proofs.Ends.{next_is, below_calls}
+use Rattle.flat_core.proofs.Always.{settled-lp}
+use Rattle.flat_core.proofs.Tries.{rows_try_lists}
+use Rattle.word_rules.specs.Guards.{Locked}
+use Rattle.lock_words.specs.Grips.{holds, holds_alone, operation_locks, locks_of}
+use Rattle.lock_words.proofs.Apart.{grips-apart}
+use Rattle.act_rules.specs.CallLocks.{HoldsFirstOf, LineHolds, PhaseHolds, CallsHoldTheirs, CallsHoldApart, CallLocksAreKept}
+use Rattle.act_rules.proofs.Tried.{drop-then, next-locks, held-before, alone-before, all-turned, all-had}
+
+abbrev Holds : Opening → ℕ → World → Lp → Type 0
+Holds o p w lp = PhaseHolds w (lines_left o p lp) lp.guest lp.call.phase lp.call.held
+
+-- The page that a call tries because an entry names it
+
+-- the newest of a list is another
+abbrev new-last : Held → List Held → List Held
+new-last y [] = []
+new-last y (x ∷ []) = y ∷ []
+new-last y (x ∷ z ∷ xs) = x ∷ new-last y (z ∷ xs)
+
+new-last-is : (y x : Held) (front : List Held) → new-last y (front ++ x ∷ []) ≡ front ++ y ∷ []
+new-last-is y x [] = refl
+new-last-is y x (a ∷ []) = refl
+new-last-is y x (a ∷ b ∷ front) = ap (λ (hs : List Held). a ∷ hs) (new-last-is y x (b ∷ front))
+
+new-last-then : (y : Held) (hs : List Held) (r : Held) (rs : List Held) → new-last y (held_then hs (r ∷ rs)) ≡ held_then hs (new-last y (r ∷ rs))
+new-last-then y [] r rs = refl
+new-last-then y (h ∷ hs) r rs = new-last-then y hs h (r ∷ rs)
+
+-- it is the last that the call tries, with P of the TDR page and T before it
+record NamesLast (c : Call) : Type 0 where
+  tdr : ℕ
+  level : ℕ
+  gpa : ℕ
+  front : List Held
+  mode : Mode
+  are : (w : World) → tries_of c w ≡ front ++ record { lock = OfPage (entry_at w tdr level gpa).page; mode = mode } ∷ []
+  page : holds front (OfPage tdr) ≡ true
+  tree : holds front (OfTree tdr) ≡ true
+
+named : (c : Call) (t gpa level : ℕ) → ((w : World) → tries_of c w ≡ named_tries w t gpa level) → NamesLast c
+named c t gpa level are = record {
+  tdr = t;
+  level = level;
+  gpa = gpa;
+  front = td_tries t Shared ++ alone (OfTree t) ∷ shared (OfEpoch t) ∷ [];
+  mode = Exclusive;
+  are = are;
+  page = rw (eq-eqb t t refl) refl;
+  tree = rw (eq-eqb t t refl) refl;
+}
+
+names-last : (c : Call) → ((v w : World) → tries_of c v ≡ tries_of c w) ⊎ NamesLast c
+names-last (call.MrExtend t gpa) = inr (record {
+  tdr = t;
+  level = 0;
+  gpa = gpa;
+  front = td_tries t Exclusive ++ shared (OfTree t) ∷ [];
+  mode = Shared;
+  are = λ w. refl;
+  page = rw (eq-eqb t t refl) refl;
+  tree = rw (eq-eqb t t refl) refl;
+})
+names-last (call.MemSeptRemove t gpa level) = inr (named (call.MemSeptRemove t gpa level) t gpa level (λ w. refl))
+names-last (call.MemPageRemove t gpa) = inr (named (call.MemPageRemove t gpa) t gpa 0 (λ w. refl))
+names-last (call.MemRangeBlock t gpa level) = inr (named (call.MemRangeBlock t gpa level) t gpa level (λ w. refl))
+names-last (call.MemRangeUnblock t gpa level) = inr (named (call.MemRangeUnblock t gpa level) t gpa level (λ w. refl))
+names-last (call.HostRead page word) = inl (λ v w. refl)
+names-last _ = inl (λ v w. refl)
+
+-- entries of a TD name the same pages
+abbrev pub NamesSame : (before after : World) → ℕ → Type 0
+NamesSame w v t = (l n : ℕ) → (v.tds.entries t l n).page ≡ (w.tds.entries t l n).page
+
+-- so what is held is the first of the list in another world too
+first-stays : (c : Call) (hs : List Held) (v w : World) → HoldsFirstOf w c hs → ((t : ℕ) → holds hs (OfPage t) ≡ true → holds hs (OfTree t) ≡ true → NamesSame w v t) → HoldsFirstOf v c hs
+first-stays c hs v w f pages = elim (names-last c) [ inl same ↦ (f.0, same v w ∙ f.1) | inr x ↦ by x f.0 f.1 ]
+  where
+    by : NamesLast c → (rest : List Held) → tries_of c w ≡ held_then hs rest → HoldsFirstOf v c hs
+    by x [] e =
+        let was : Held = record { lock = OfPage (entry_at w x.tdr x.level x.gpa).page; mode = x.mode } in
+        let all : x.front ++ was ∷ [] ≡ held_then hs [] = sym (x.are w) ∙ e in
+        let has : (l : LockId) → holds x.front l ≡ true → holds hs l ≡ true =
+        λ l k. all-turned (λ h. same_lock h.lock l) hs (subst (λ (xs : List Held). holds xs l ≡ true) all (held-before x.front (was ∷ []) l k)) in
+        let same = pages x.tdr (has (OfPage x.tdr) x.page) (has (OfTree x.tdr) x.tree) x.level (number_at x.level x.gpa) in
+        ([], x.are v ∙ (ap (λ (p : ℕ). x.front ++ record { lock = OfPage p; mode = x.mode } ∷ []) same ∙ all))
+    by x (r ∷ rs) e =
+        let was : Held = record { lock = OfPage (entry_at w x.tdr x.level x.gpa).page; mode = x.mode } in
+        let now : Held = record { lock = OfPage (entry_at v x.tdr x.level x.gpa).page; mode = x.mode } in
+        (new-last now (r ∷ rs), x.are v ∙ (sym (new-last-is now was x.front) ∙ (ap (new-last now) (sym (x.are w) ∙ e) ∙ new-last-then now hs r rs)))
+
+-- What changes of entries
+
+off : (t u : ℕ) → ((u == t) ≡ true → ⊥) → (t == u) ≡ false
+off t u apart = ne_eqb t u (λ e. apart (eq-eqb u t (sym e)))
+
+-- a call that tries neither T of a TD nor P of its TDR page alone leaves the TD's entries
+row-entries : (o : Opening) (me : ℕ) (c : Call) (w : World) (t : ℕ) → (holds_alone (tries_of c w) (OfTree t) ≡ true → ⊥) → (holds_alone (tries_of c w) (OfPage t) ≡ true → ⊥)
+    → ((row_of o me c).act w).tds.entries t ≡ w.tds.entries t
+row-entries o me (call.MngCreate u h) w t tree page = let n = off t u (λ y. page (rw y refl)) in rw n refl
+row-entries o me (call.MemSeptAdd u gpa level p) w t tree page = let n = off t u (λ y. tree (rw y refl)) in rw n refl
+row-entries o me (call.MemSeptRemove u gpa level) w t tree page = let n = off t u (λ y. tree (rw y refl)) in rw n refl
+row-entries o me (call.MemPageAdd u gpa p source) w t tree page = let n = off t u (λ y. tree (rw y refl)) in rw n refl
+row-entries o me (call.MemPageAug u gpa p) w t tree page = let n = off t u (λ y. tree (rw y refl)) in rw n refl
+row-entries o me (call.MemPageRemove u gpa) w t tree page = let n = off t u (λ y. tree (rw y refl)) in rw n refl
+row-entries o me (call.MemRangeBlock u gpa level) w t tree page = let n = off t u (λ y. tree (rw y refl)) in rw n refl
+row-entries o me (call.MemRangeUnblock u gpa level) w t tree page = let n = off t u (λ y. tree (rw y refl)) in rw n refl
+row-entries o me (call.HostRead p i) w t tree page = refl
+row-entries o me _ w t tree page = refl
+
+-- an entry that gets another state names its page
+same-page : (w : World) (u level number : ℕ) (x : Entry) (t l n : ℕ) → x.page ≡ (w.tds.entries u level number).page
+    → (put w.tds.entries u (put_in (w.tds.entries u) level number x) t l n).page ≡ (w.tds.entries t l n).page
+same-page w u level number x t l n same = by_test (t == u)
+    (λ y. by_test (l == level && n == number)
+    (λ z. let both = and_parts (l == level) (n == number) z in
+    rw (y, z)
+    (same ∙ (ap (λ (q : ℕ). (w.tds.entries q level number).page) (sym (eqb-true t u y))
+    ∙ (ap (λ (q : ℕ). (w.tds.entries t q number).page) (sym (eqb-true l level both.0)) ∙ ap (λ (q : ℕ). (w.tds.entries t l q).page) (sym (eqb-true n number both.1))))))
+    (λ z. rw (y, z) (ap (λ (q : ℕ). (w.tds.entries q l n).page) (sym (eqb-true t u y)))))
+    (λ y. rw y refl)
+
+-- whatever a guest does, entries name the same pages
+module _ (o : Opening) (w : World) (t : ℕ) where
+  operation-names : (u v line : ℕ) (op : GuestOp) (row : OperationRow) → operation_of o u v line op ≡ ByRow row → NamesSame w (operation_world row Succeeds w) t
+  operation-names u v line op row is =
+      operation_row o u v line (λ x. NamesSame w (operation_world x Succeeds w) t)
+      (λ r x l n. refl) (λ r s l n. refl) (λ r gpa l n. refl) (λ r gpa l n. refl)
+      (λ gpa. accepted (λ x. NamesSame w x t) (is_pending_at w u gpa) u gpa w (λ y l n. same-page w u 0 (number_at 0 gpa) _ t l n refl) (λ y l n. refl))
+      (λ i l n. refl) (λ r l n. refl) op row is
+
+  operation-moved : (row : OperationRow) (mv : Move (Option Outcome)) → NamesSame w (operation_world row Succeeds w) t → NamesSame w (operation_world row mv w) t
+  operation-moved row Succeeds h = h
+  operation-moved row (Attempts x m) h = λ l n. refl
+  operation-moved row (Undoes x) h = λ l n. refl
+  operation-moved row (Refuses r) h = λ l n. refl
+  operation-moved row (Releases x) h = λ l n. refl
+  operation-moved row Rests h = λ l n. refl
+
+  reach-names : (u v : ℕ) (access : Access) (r gpa page : ℕ) → NamesSame w (reach u v access r gpa page w) t
+  reach-names u v Read r gpa page = λ l n. refl
+  reach-names u v Write r gpa page = λ l n. refl
+
+  call-moved : (row : Row) (mv : Move Reply) → (mv ≡ Succeeds → (row.act w).tds.entries t ≡ w.tds.entries t) → NamesSame w (call_world row mv w) t
+  call-moved row Succeeds h = let e = h refl in λ l n. ap (λ (f : ℕ → ℕ → Entry). (f l n).page) e
+  call-moved row (Attempts x m) h = λ l n. refl
+  call-moved row (Undoes x) h = λ l n. refl
+  call-moved row (Refuses r) h = λ l n. refl
+  call-moved row (Releases x) h = λ l n. refl
+  call-moved row Rests h = λ l n. refl
+
+-- What a call holds
+
+module _ (w : World) where
+  fresh-line : (cs : List Call) → LineHolds w cs []
+  fresh-line [] = tt
+  fresh-line (c ∷ cs) = (tries_of c w, refl)
+
+  fresh : (cs : List Call) (g : Option Guest) → PhaseHolds w cs g Trying []
+  fresh cs None = fresh-line cs
+  fresh cs (Some g) = tt
+
+  undoing : (cs : List Call) (g : Option Guest) (l : LockId) (hs : List Held) → PhaseHolds w cs g (Undoing l) hs
+  undoing cs None l hs = tt
+  undoing cs (Some g) l hs = tt
+
+  done : (cs : List Call) (g : Option Guest) (r : Reply) (hs : List Held) → PhaseHolds w cs g (Answered r) hs
+  done cs None r hs = tt
+  done cs (Some g) r hs = tt
+
+module _ (o : Opening) (p : ℕ) where
+  in-guest : (w : World) (lp : Lp) (g : Guest) → lp.guest ≡ Some g → Holds o p w lp
+  in-guest w lp g is = subst (λ (x : Option Guest). PhaseHolds w (lines_left o p lp) x lp.call.phase lp.call.held) (sym is) tt
+
+  settled-holds : (w : World) (lp : Lp) → Holds o p w lp → Holds o p w (settled lp)
+  settled-holds w lp k = by lp.call.phase lp.call.held
+    where
+      by : (phase : Phase Reply) (hs : List Held) → Holds o p w (settle phase hs lp)
+      by (Answered r) [] = fresh w (lines_left o p (settle (Answered r) [] lp)) lp.guest
+      by (Answered r) (h ∷ hs) = k
+      by Trying hs = k
+      by (Undoing l) hs = k
+
+  module _ (w : World) (b : Bool) (lp : Lp) (h : Holds o p w lp) (c : Call) (cs : List Call) (line : lines_left o p lp ≡ c ∷ cs) (none : lp.guest ≡ None) where
+    abbrev its_row : Row
+    its_row = row_of o p c
+
+    abbrev After : Move Reply → Type 0
+    After mv = Holds o p (call_world its_row mv w) (call_lp w b its_row mv lp)
+
+    pub first : lp.call.phase ≡ Trying → HoldsFirstOf w c lp.call.held
+    first t =
+        subst (λ (x : List Call). LineHolds w x lp.call.held) line
+        (subst (λ (x : Option Guest). PhaseHolds w (lines_left o p lp) x Trying lp.call.held) none
+        (subst (λ (x : Phase Reply). PhaseHolds w (lines_left o p lp) lp.guest x lp.call.held) t h))
+
+    -- the lock of a try that is granted is the next of them
+    one-more : (l : LockId) (m : Mode) → HoldsFirstOf w c lp.call.held → next (its_row.items w) (length lp.call.held) ≡ Attempts l m → HoldsFirstOf w c (record { lock = l; mode = m } ∷ lp.call.held)
+    one-more l m x e =
+        let hs : List Held = lp.call.held in
+        let y = next-locks (its_row.items w) (length hs) l m e in
+        let none : length hs ≡ length hs + 0 = omega arith in
+        let left : x.0 ≡ record { lock = l; mode = m } ∷ y.0 =
+        sym (drop-then hs 0 x.0) ∙ (ap (λ (k : ℕ). drop k (held_then hs x.0)) (sym none) ∙ (ap (drop (length hs)) (sym (rows_try_lists o p c w ∙ x.1)) ∙ y.1)) in
+        (y.0, x.1 ∙ ap (held_then hs) left)
+
+    tried : (x : Bool) (l : LockId) (m : Mode) → b ≡ x → HoldsFirstOf w c lp.call.held → next (its_row.items w) (length lp.call.held) ≡ Attempts l m → After (Attempts l m)
+    tried true l m is f e =
+        rw is
+        (subst (λ (x : Option Guest). PhaseHolds w (lines_left o p lp) x Trying (record { lock = l; mode = m } ∷ lp.call.held)) (sym none)
+        (subst (λ (x : List Call). LineHolds w x (record { lock = l; mode = m } ∷ lp.call.held)) (sym line) (one-more l m f e)))
+    tried false l Shared is f e = rw is (undoing w (lines_left o p lp) lp.guest l lp.call.held)
+    tried false l Exclusive is f e = rw is (done w (lines_left o p lp) lp.guest _ lp.call.held)
+
+    acted : (x : Option Entering) → Holds o p (its_row.act w) (succeeded w its_row x lp)
+    acted None = done (its_row.act w) (lines_left o p lp) lp.guest _ lp.call.held
+    acted (Some e) = tt
+
+    on-its-way : lp.call.phase ≡ Trying → After (next (its_row.items w) (length lp.call.held))
+    on-its-way t =
+        next_is (λ mv. next (its_row.items w) (length lp.call.held) ≡ mv → After mv) (its_row.items w) (length lp.call.held)
+        (λ r e. done w (lines_left o p lp) lp.guest r lp.call.held) (λ e. acted its_row.enters) (λ l m room e. tried b l m refl (first t) e) refl
+
+    by-phase : (phase : Phase Reply) (hs : List Held) → lp.call.phase ≡ phase → lp.call.held ≡ hs → After (next_in (its_row.items w) phase hs)
+    by-phase Trying hs t e = subst (λ (x : List Held). After (next (its_row.items w) (length x))) e (on-its-way t)
+    by-phase (Undoing l) hs t e = done w (lines_left o p lp) lp.guest _ lp.call.held
+    by-phase (Answered r) [] t e = h
+    by-phase (Answered r) (x ∷ hs) t e = subst (λ (y : Phase Reply). PhaseHolds w (lines_left o p lp) lp.guest y (but_newest lp.call.held)) (sym t) (done w (lines_left o p lp) lp.guest r (but_newest lp.call.held))
+
+  -- after an event of its own
+  pub own : (w : World) (b : Event → Bool) (lp : Lp) → Holds o p w lp → (e : Event) → Due o w p lp e → Holds o p (world_after e w) (lp_after w (b e) e lp)
+  own w b lp h e (calls c cs line none) =
+      let mv = next_in ((row_of o p c).items w) lp.call.phase lp.call.held in
+      let ok : Bool = b (OfCall (row_of o p c) mv) in
+      settled-holds (call_world (row_of o p c) mv w) (call_lp w ok (row_of o p c) mv lp) (by-phase w ok lp h c cs line none lp.call.phase lp.call.held refl refl)
+  own w b lp h e (frees c cs g x hs line guest held epoch) =
+      let ev : Event = OfCall (row_of o p c) (Releases x) in
+      in-guest (world_after ev w) (lp_after w (b ev) ev lp) g ((settled-lp (call_lp w (b ev) (row_of o p c) (Releases x) lp)).1 ∙ guest)
+  own w b lp h e (leaves c cs g out i l) = tt
+  own w b lp h e (stops c cs g i l t d) = tt
+  own w b lp h e (fills c cs g op i l t d m) = tt
+  own w b lp h e (operates c cs g op row i way is) =
+      let mv = next (row.items w) (length g.operation.held) in
+      let ev : Event = OfOperation row mv in
+      in-guest (world_after ev w) (lp_after w (b ev) ev lp) (operation_guest w (b ev) row mv g) (ap (λ (x : Option Guest). option_map (operation_guest w (b ev) row mv) x) i.guest)
+  own w b lp h e (walks c cs g op access r gpa i way is lost) =
+      let ev : Event = Walks access gpa in
+      in-guest (world_after ev w) (lp_after w (b ev) ev lp) (settled_guest (walk_step w g access gpa)) (ap (λ (x : Option Guest). option_map (λ y. settled_guest (walk_step w y access gpa)) x) i.guest)
+  own w b lp h e (reaches c cs g op access r gpa page i way is found) =
+      let ev : Event = Reaches g.tdr g.vp access r gpa page in
+      in-guest (world_after ev w) (lp_after w (b ev) ev lp) (settled_guest (answered None g)) (ap (λ (x : Option Guest). option_map (λ y. settled_guest (answered None y)) x) i.guest)
+  own w b lp h e (undoes c cs g l i st k) =
+      let ev : Event = OfOperation nothing_more (Undoes l) in
+      in-guest (world_after ev w) (lp_after w (b ev) ev lp) (operation_guest w (b ev) nothing_more (Undoes l) g) (ap (λ (x : Option Guest). option_map (operation_guest w (b ev) nothing_more (Undoes l)) x) i.guest)
+  own w b lp h e (gives_back c cs g out i st k) =
+      let mv = next_in [] (Answered out) g.operation.held in
+      let ev : Event = OfOperation nothing_more mv in
+      in-guest (world_after ev w) (lp_after w (b ev) ev lp) (operation_guest w (b ev) nothing_more mv g) (ap (λ (x : Option Guest). option_map (operation_guest w (b ev) nothing_more mv) x) i.guest)
+
+-- an act comes once nothing more is to be tried
+pub act-tries : (items : List (Item Reply)) (phase : Phase Reply) (hs : List Held) → next_in items phase hs ≡ Succeeds → (phase ≡ Trying) × (next items (length hs) ≡ Succeeds)
+act-tries items Trying hs e = (refl, e)
+act-tries items (Undoing l) hs e = cc
+act-tries items (Answered r) [] e = cc
+act-tries items (Answered r) (h ∷ hs) e = cc
+
+module _ (o : Opening) (s : State) (h : CallsHoldApart o s) where
+  abbrev w : World
+  w = s.world
+
+  pub in-machine : (q : ℕ) (c : Call) (cs : List Call) → lines_left o q (s.lps q) ≡ c ∷ cs → q < s.lp_count
+  in-machine q c cs e =
+      let b = below_calls o.calls q (length (s.lps q).replies) c cs e in
+      omega (arith, b, h.count)
+
+  module _ (p : ℕ) (c : Call) (cs : List Call) (line : lines_left o p (s.lps p) ≡ c ∷ cs) (none : (s.lps p).guest ≡ None) (acts : next_in ((row_of o p c).items w) (s.lps p).call.phase (s.lps p).call.held ≡ Succeeds) where
+    -- at its act a call holds alone what it tries alone
+    its : (l : LockId) → holds_alone (tries_of c w) l ≡ true → holds_alone (locks_of (s.lps p)) l ≡ true
+    its l k =
+        let lp : Lp = s.lps p in
+        let hs : List Held = lp.call.held in
+        let at = act-tries ((row_of o p c).items w) lp.call.phase hs acts in
+        let f = first o p w true lp (h.each p) c cs line none at.0 in
+        let all : tries_of c w ≡ held_then hs [] = f.1 ∙ ap (held_then hs) (all-had ((row_of o p c).items w) hs f.0 (rows_try_lists o p c w ∙ f.1) at.1) in
+        alone-before hs (operation_locks lp.guest) l (all-turned (λ x. is_alone x.mode && same_lock x.lock l) hs (subst (λ (xs : List Held). holds_alone xs l ≡ true) all k))
+
+    -- so it leaves the entries of a TD whose T and P another holds
+    pub entries-stay : (q : ℕ) → q ≢ p → q < s.lp_count → (t : ℕ) → holds (locks_of (s.lps q)) (OfPage t) ≡ true → holds (locks_of (s.lps q)) (OfTree t) ≡ true
+        → ((row_of o p c).act w).tds.entries t ≡ w.tds.entries t
+    entries-stay q apart below t page tree =
+        let parts = grips-apart s p q h.exclusive (in-machine p c cs line) below (ne_eqb p q (λ e. apart (sym e))) in
+        row-entries o p c w t (λ y. parts.there.sole (Locked (OfTree t)) (its (OfTree t) y) tree) (λ y. parts.there.sole (Locked (OfPage t)) (its (OfPage t) y) page)
+
+  module _ (p : ℕ) (e : Event) (is : next_event o s p ≡ Some e) where
+    event-names : (q : ℕ) → q ≢ p → q < s.lp_count → (t : ℕ) → holds (locks_of (s.lps q)) (OfPage t) ≡ true → holds (locks_of (s.lps q)) (OfTree t) ≡ true → (x : Event) → Due o w p (s.lps p) x → NamesSame w (world_after x w) t
+    event-names q apart below t page tree x (calls c cs line none) =
+        call-moved o w t (row_of o p c) (next_in ((row_of o p c).items w) (s.lps p).call.phase (s.lps p).call.held) (λ y. entries-stay p c cs line none y q apart below t page tree)
+    event-names q apart below t page tree x (frees c cs g y hs line guest held epoch) = λ l n. refl
+    event-names q apart below t page tree x (leaves c cs g out i l) = λ l n. refl
+    event-names q apart below t page tree x (stops c cs g i l y d) = λ l n. refl
+    event-names q apart below t page tree x (fills c cs g op i l y d m) = λ l n. refl
+    event-names q apart below t page tree x (operates c cs g op row i way is) =
+        operation-moved o w t row (next (row.items w) (length g.operation.held)) (operation-names o w t g.tdr g.vp (length (s.lps p).replies + 1) op row is)
+    event-names q apart below t page tree x (walks c cs g op access r gpa i way is lost) = λ l n. refl
+    event-names q apart below t page tree x (reaches c cs g op access r gpa reached i way is found) = reach-names o w t g.tdr g.vp access r gpa reached
+    event-names q apart below t page tree x (undoes c cs g l i st y) = λ l n. refl
+    event-names q apart below t page tree x (gives_back c cs g out i st y) = operation-moved o w t nothing_more (next_in [] (Answered out) g.operation.held) (λ l n. refl)
+
+    others : (q : ℕ) → q ≢ p → Holds o q (world_after e w) (s.lps q)
+    others q apart = by (lines_left o q (s.lps q)) refl (s.lps q).guest (s.lps q).call.phase (h.each q)
+      where
+        by : (cs : List Call) → lines_left o q (s.lps q) ≡ cs → (g : Option Guest) (phase : Phase Reply) → PhaseHolds w cs g phase (s.lps q).call.held → PhaseHolds (world_after e w) cs g phase (s.lps q).call.held
+        by [] line None Trying k = tt
+        by (c ∷ cs) line None Trying k =
+            let hs : List Held = (s.lps q).call.held in
+            let more : List Held = operation_locks (s.lps q).guest in
+            first-stays c hs (world_after e w) w k
+            (λ t page tree. event-names q apart (in-machine q c cs line) t (held-before hs more (OfPage t) page) (held-before hs more (OfTree t) tree) e (due_event_is o s p e is))
+        by cs line None (Undoing l) k = tt
+        by cs line None (Answered r) k = tt
+        by cs line (Some g) phase k = tt
+
+    step : CallsHoldTheirs o (after_event p s (Some e))
+    step q = by_test (q == p)
+        (λ y. let here : p ≡ q = sym (eqb-true q p y) in
+        rw y (subst (λ (x : ℕ). Holds o x (world_after e w) (lp_after w (is_granted s e) e (s.lps p))) here (own o p w (is_granted s) (s.lps p) (h.each p) e (due_event_is o s p e is))))
+        (λ n. rw n (others q (eqb-false q p n)))
+
+  after : (p : ℕ) → CallsHoldTheirs o (event o s p)
+  after p = by (next_event o s p) refl
+    where
+      by : (x : Option Event) → next_event o s p ≡ x → CallsHoldTheirs o (after_event p s x)
+      by None is = h.each
+      by (Some e) is = step p e is
+
+pub calls-rebundled : (o : Opening) (bundles : ℕ → Option Incoming) (s : State) → CallsHoldApart o s → CallsHoldApart (with_bundles o bundles) s
+calls-rebundled o bundles s h = record { exclusive = h.exclusive; count = h.count; each = h.each }
+
+pub call-locks-kept : CallLocksAreKept
+call-locks-kept = record {
+  start = λ o ws. record { exclusive = exclusion_kept.start o ws; count = refl; each = λ q. fresh-line (start o ws).world (lines_left o q idle) };
+  event = λ o bundles s p h. record {
+    exclusive = exclusion_kept.event o bundles s p h.exclusive;
+    count = count_stays (with_bundles o bundles) s p ∙ h.count;
+    each = after (with_bundles o bundles) s (calls-rebundled o bundles s h) p;
+  };
+}
