@@ -68,7 +68,7 @@ augment_page m tdr gpa page = call_row
     (λ w. map_page page kind.Reg entry.Pending tdr 0 (number_at 0 gpa) w)
     (λ w. value.Nothing)
 
--- the states that are blocked, and those that they become
+-- the states of entries that can be blocked, and of those that are
 abbrev pub open_states : List EntryState
 open_states = entry.Mapped ∷ entry.Pending ∷ entry.NlMapped ∷ []
 
