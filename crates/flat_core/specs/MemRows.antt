@@ -111,11 +111,12 @@ unblock_range m tdr gpa level = call_row
     (λ w. set_state tdr level (number_at level gpa) (unblocked_state (entry_at w tdr level gpa).state) w)
     (λ w. value.Nothing)
 
--- MEM.PAGE.REMOVE TDR GPA: a private page is the host's again, once nobody can use a translation to it (ABI Reference,
--- "TDH.MEM.PAGE.REMOVE")
+-- those in which a private page can be removed
 abbrev pub removed_states : List EntryState
 removed_states = entry.Blocked ∷ entry.PendingBlocked ∷ []
 
+-- MEM.PAGE.REMOVE TDR GPA: a private page is the host's again, once nobody can use a translation to it (ABI Reference,
+-- "TDH.MEM.PAGE.REMOVE")
 abbrev pub remove_page : Machine → (tdr gpa : ℕ) → Row
 remove_page m tdr gpa = call_row
     (λ w. page_argument m 1 tdr ∷ gpa_argument 2 gpa ∷ aligned_argument 2 0 gpa
