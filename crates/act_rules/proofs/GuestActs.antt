@@ -1,5 +1,5 @@
 -- Each event of a guest changes what words are, and stores to words of pages, only as the rules say.
-use Rattle.std.proofs.Common.{◌≡◌, refl, sym, ◌∙◌, subst, inl, inr, ℕ, Bool, true, false, not, ◌==◌, ◌&&◌, ◌||◌, List, [], ◌∷◌, ◌++◌, ◌+◌, length, drop, Option, Some, None}
+use Rattle.std.proofs.Common.{◌≡◌, refl, sym, ◌∙◌, subst, ap, inl, inr, ℕ, Bool, true, false, not, ◌==◌, ◌&&◌, ◌||◌, List, [], ◌∷◌, ◌++◌, ◌+◌, length, drop, Option, Some, None}
 use Rattle.std.specs.List.{list_any}
 use Rattle.std.proofs.lemmas.Bool.{eq-eqb, eqb-true, and_parts}
 use Rattle.td_words.specs.declared.names.PageKind.TheVariants as kind
@@ -46,7 +46,7 @@ use Rattle.lock_words.specs.Grips.{holds, holds_alone, operation_locks, locks_of
 use Rattle.act_rules.specs.Acts.{SameSpots}
 use Rattle.act_rules.specs.GuestActs.{OperationsKeepSpots, HasGuest, GuestRespects, GuestsRespect, MayStore, NoneReachesPending, GuestStores, GuestsStoreTheirs, MayAccess, GuardedGuestsRespect, EveryGuestEventRespects, HoldsAll, GuardedGuestsStore, EveryGuestEventStores}
 use Rattle.act_rules.specs.GuestLocks.{OperationsHoldTheirs}
-use Rattle.act_rules.proofs.Unreached.{none-reaches-pending}
+use Rattle.act_rules.proofs.Unreached.{IsCounted, none-reaches-pending}
 use Rattle.act_rules.proofs.OperationLocks.{operation-passes, operation-locks-hold}
 use Rattle.act_rules.proofs.Respected.{all-same, entry-same, effects-respect}
 
@@ -218,6 +218,11 @@ module _ (o : Opening) (s : State) (all : IsGuarded o s) (p : ℕ) where
   abbrev grip : Grip
   grip = grip_of s p
 
+  guest-counted : (q : ℕ) (g : Guest) → (s.lps q).guest ≡ Some g → IsCounted w g.tdr g.vp
+  guest-counted q g is =
+      let x = occ-of o s all.timely q g is in
+      record { alive = occupied-alive w q g.tdr g.vp x; counted = x.entered ∙ ap (λ (e : ℕ). Some e) (sym x.current) }
+
   module _ (g : Guest) (is : lp.guest ≡ Some g) where
     inside : (c : Call) × InGuest o w p c lp g
     inside = by (drop (length lp.replies) (calls_of o.calls p)) (all.timely.each p)
@@ -245,7 +250,7 @@ module _ (o : Opening) (s : State) (all : IsGuarded o s) (p : ℕ) where
         }
 
     none-reaches : NoneReachesPending grip w g.tdr
-    none-reaches n pends = none-reaches-pending o s g.tdr n all (occupied-alive w p g.tdr g.vp (occ-of o s all.timely p g is)) pends p s.lp_count
+    none-reaches n pends = none-reaches-pending o.machine s g.tdr n all.timely.lawful all.access (λ q x below e. guest-counted q x e) (guest-counted p g is).alive pends p
 
     may-store : GuestStores o g.tdr g.vp grip w
     may-store = guests-store-theirs o p g.tdr g.vp grip w all.timely.lawful has-guest

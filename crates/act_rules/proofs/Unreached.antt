@@ -1,20 +1,17 @@
 -- A page that its guest hasn't accepted is reached through no cached translation that a guest may use.
-use Rattle.std.proofs.Common.{◌≡◌, ℕ, zero, suc, Bool, true, false, not, ◌==◌, ◌||◌, ◌&&◌, List, [], ◌∷◌, Contains, Option, Some, None, refl, ap, sym, ◌∙◌, subst, arith}
+use Rattle.std.proofs.Common.{◌≡◌, ℕ, zero, suc, ◌<◌, ◌≤◌, Bool, true, false, not, ◌==◌, ◌||◌, ◌&&◌, List, [], ◌∷◌, Contains, Option, Some, None, refl, ap, sym, ◌∙◌, subst, arith}
 use Rattle.std.specs.List.{list_any}
 use Rattle.std.proofs.lemmas.Bool.{eqb-true, and_parts}
 use Rattle.td_words.specs.declared.names.EntryState.{EntryState}
 use Rattle.td_words.specs.declared.names.EntryState.TheVariants as entry
 use Rattle.td_words.specs.declared.names.PageKind.TheVariants as kind
+use Rattle.td_words.specs.declared.machines.Machine.{Machine}
 use Rattle.td_words.specs.Packing.{Entry}
 use Rattle.flat_core.specs.World.{World}
 use Rattle.flat_core.specs.Processor.{Translation, Guest}
-use Rattle.flat_core.specs.Opening.{Opening}
-use Rattle.flat_core.specs.Lawful.{IsAlive, IsNodeOf, is_free}
-use Rattle.flat_core.specs.Guests.{IsOccupied}
+use Rattle.flat_core.specs.Lawful.{Lawful, IsAlive, IsNodeOf, is_free}
 use Rattle.flat_core.specs.Event.{State}
-use Rattle.flat_core.specs.Access.{IsUsable, inside, IsCurrent, entry_of, is_pending}
-use Rattle.flat_core.specs.AccessLaw.{IsGuarded}
-use Rattle.flat_core.proofs.Always.{occ-of, occupied-alive}
+use Rattle.flat_core.specs.Access.{IsUsable, inside, IsCurrent, entry_of, is_pending, AccessHolds}
 use Rattle.flat_core.proofs.Tests.{by_test}
 use Rattle.lock_words.specs.Grips.{is_usable_at, reaches, reaches_as, none_reaches}
 
@@ -41,7 +38,13 @@ usable-of (c ∷ cs) test e = by_test (test c)
     later false b n e = e
     later true b n e = cc
 
-module _ (o : Opening) (s : State) (t n : ℕ) (all : IsGuarded o s) (alive : IsAlive s.world.pages s.world.tds t) (pends : is_pending (s.world.tds.entries t 0 n).state ≡ true) where
+-- a guest's virtual processor is counted at its last epoch, and its TD is alive
+pub record IsCounted (w : World) (t v : ℕ) : Type 0 where
+  pub alive : IsAlive w.pages w.tds t
+  pub counted : w.vps.entered v ≡ Some (w.vps.lasts v)
+
+module _ (m : Machine) (s : State) (t n : ℕ) (la : Lawful m s.world) (access : AccessHolds s) (guests : (q : ℕ) (g : Guest) → q < s.lp_count → (s.lps q).guest ≡ Some g → IsCounted s.world g.tdr g.vp)
+    (alive : IsAlive s.world.pages s.world.tds t) (pends : is_pending (s.world.tds.entries t 0 n).state ≡ true) where
   abbrev w : World
   w = s.world
 
@@ -49,19 +52,16 @@ module _ (o : Opening) (s : State) (t n : ℕ) (all : IsGuarded o s) (alive : Is
   p = (w.tds.entries t 0 n).page
 
   pub node : IsNodeOf w.pages t p kind.Reg 0 n
-  node = (all.timely.lawful.tree.lowest t n alive (pending-used (w.tds.entries t 0 n).state pends)).1
+  node = (la.tree.lowest t n alive (pending-used (w.tds.entries t 0 n).state pends)).1
 
-  module _ (q : ℕ) (g : Guest) (is : (s.lps q).guest ≡ Some g) where
-    occupied : IsOccupied w q g.tdr g.vp
-    occupied = occ-of o s all.timely q g is
-
+  module _ (q : ℕ) (below : q < s.lp_count) (g : Guest) (is : (s.lps q).guest ≡ Some g) where
     unusable : (c : Translation) → Contains (s.lps q).cached c → c.tdr ≡ g.tdr → c.page ≡ p → ⊥
     unusable c has td page =
-        let x : IsOccupied w q g.tdr g.vp = occ-of o s all.timely q g is in
-        let us : IsUsable w q (s.lps q).guest c.tdr x.epoch = inside g is (sym td) x.entered in
-        let now : IsCurrent w c x.epoch = (all.access.each q).usable c x.epoch has us in
-        let its : IsAlive w.pages w.tds c.tdr = subst (λ (u : ℕ). IsAlive w.pages w.tds u) (sym td) (occupied-alive w q g.tdr g.vp x) in
-        let other : IsNodeOf w.pages c.tdr (entry_of w c).page kind.Reg 0 c.gpa_page = (all.timely.lawful.tree.lowest c.tdr c.gpa_page its now.named.used).1 in
+        let its = guests q g below is in
+        let us : IsUsable w q (s.lps q).guest c.tdr (w.vps.lasts g.vp) = inside g is (sym td) its.counted in
+        let now : IsCurrent w c (w.vps.lasts g.vp) = (access.each q).usable c (w.vps.lasts g.vp) has us in
+        let lives : IsAlive w.pages w.tds c.tdr = subst (λ (u : ℕ). IsAlive w.pages w.tds u) (sym td) its.alive in
+        let other : IsNodeOf w.pages c.tdr (entry_of w c).page kind.Reg 0 c.gpa_page = (la.tree.lowest c.tdr c.gpa_page lives now.named.used).1 in
         let same : (entry_of w c).page ≡ p = now.named.page_is ∙ page in
         let owner : c.tdr ≡ t = sym other.page.owner ∙ (ap w.pages.owners same ∙ node.page.owner) in
         let number : c.gpa_page ≡ n = sym other.number_is ∙ (ap w.pages.numbers same ∙ node.number_is) in
@@ -76,18 +76,19 @@ module _ (o : Opening) (s : State) (t n : ℕ) (all : IsGuarded o s) (alive : Is
         unusable u.translation u.is_in (eqb-true u.translation.tdr g.tdr first.0) (eqb-true u.translation.page p second.0)))
         (λ y. y)
 
-  as-guest : (q : ℕ) (x : Option Guest) → (s.lps q).guest ≡ x → reaches_as x p false (s.lps q).cached ≡ false
-  as-guest q None is = refl
-  as-guest q (Some g) is = no-guest q g is
+  as-guest : (q : ℕ) → q < s.lp_count → (x : Option Guest) → (s.lps q).guest ≡ x → reaches_as x p false (s.lps q).cached ≡ false
+  as-guest q below None is = refl
+  as-guest q below (Some g) is = no-guest q below g is
 
-  unreached : (q : ℕ) → reaches (s.lps q) p false ≡ false
-  unreached q = as-guest q (s.lps q).guest refl
-
-  pub none-reaches-pending : (me count : ℕ) → none_reaches s.lps count me p false ≡ true
-  none-reaches-pending me zero = refl
-  none-reaches-pending me (suc count) = both (count == me) (reaches (s.lps count) p false) (none_reaches s.lps count me p false) (unreached count) (none-reaches-pending me count)
+  none : (me count : ℕ) → count ≤ s.lp_count → none_reaches s.lps count me p false ≡ true
+  none me zero few = refl
+  none me (suc count) few =
+      both (count == me) (reaches (s.lps count) p false) (none_reaches s.lps count me p false) (as-guest count (omega (arith, few)) (s.lps count).guest refl) (none me count (omega (arith, few)))
     where
       both : (a b d : Bool) → b ≡ false → d ≡ true → ((a || not b) && d) ≡ true
       both true false true e f = refl
       both false false true e f = refl
       both _ _ _ e f = cc
+
+  pub none-reaches-pending : (me : ℕ) → none_reaches s.lps s.lp_count me p false ≡ true
+  none-reaches-pending me = none me s.lp_count (omega arith)
