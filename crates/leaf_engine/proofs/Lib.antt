@@ -20,3 +20,4 @@ pub mod GuestThen
 pub mod GuestGoes
 pub mod Processing
 pub mod Doers
+pub mod Followed
