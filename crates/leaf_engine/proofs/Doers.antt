@@ -17,12 +17,11 @@ use Rattle.flat_core.specs.Guests.{guest_locks, entry_locks}
 use Rattle.flat_core.specs.Guest.{walk_level}
 use Rattle.flat_core.specs.Inside.{InGuest, AreTimely}
 use Rattle.flat_core.specs.Event.{State, Event, OfCall, next_event, event_for, line_event, entered_event, guest_event, staying_event, due_event, event, lines_left}
-use Rattle.lock_words.specs.Grips.{locks_of, operation_locks}
+use Rattle.lock_words.specs.Grips.{operation_locks}
 use Rattle.step_core.specs.Items.{Table}
 use Rattle.leaf_engine.specs.declared.events.Event.{Event as RunEvent}
 use Rattle.leaf_engine.specs.declared.events.Stage.{Stage}
 use Rattle.leaf_engine.specs.declared.events.Stage.TheVariants as stages
-use Rattle.leaf_engine.specs.declared.needs.Place.{Place}
 use Rattle.leaf_engine.specs.Facts.{Facts}
 use Rattle.leaf_engine.specs.Changes.{Memory, Hand}
 use Rattle.leaf_engine.specs.Trees.{Tree}
@@ -36,7 +35,7 @@ use Rattle.leaf_engine.specs.OwnLists.{LeafTable, WordLp, running, step_leaf, af
 use Rattle.leaf_engine.specs.Merges.{AreLeaves, AreCodes, ByItsRow, IsStepOf}
 use Rattle.leaf_engine.specs.Calls.{AreLocks, IsStage, IsCallAt}
 use Rattle.leaf_engine.specs.Doing.{HasMoves, LeafAfter}
-use Rattle.leaf_engine.specs.Standing.{out_phase, out_progress, position_in, position_at, HasNoHasher, RunOfStep, IsStepRun, IsGuestAt, GuestStands, RunStands, LpStands}
+use Rattle.leaf_engine.specs.Standing.{out_phase, out_progress, position_in, position_at, HasNoHasher, RunOfStep, IsStepRun, IsGuestAt, RunStands, LpStands}
 use Rattle.leaf_engine.specs.Following.{task_in, task_at, run_in, run_at, then_in, then_at, Does, ProcessorsDo}
 use Rattle.leaf_engine.proofs.Showing.{current-end, granted-end, not-acted-end}
 use Rattle.leaf_engine.proofs.Beginning.{calls-begin}
@@ -252,8 +251,8 @@ module _ (o : Opening) (p : ℕ) (s : State) (mem : Memory) (c : Call) (cs : Lis
           step-then st ev step-is (operates op of-row l i is) at =
               subst (λ (z : Meaning). Then st z at.own) (sym (rows g.tdr g.vp number st of-row is.1))
               (λ a. operation-goes o s p c cs g trees steps kinds line reply bs n run is-line is-in answered-by held locked freed hand in-hand e stands op of-row step-is (rows g.tdr g.vp number st of-row is.1)
-                  (λ z. no-hasher stands.hasher a.mem.hand (a.empty_hand z) a.memory.hand) (row-is o g.tdr g.vp number op of-row is.1) at.own at.is
-                  (position ∙ stage-position m w n r.stage at.own.phase at.at.stage) at.answers u a)
+              (λ z. no-hasher stands.hasher a.mem.hand (a.empty_hand z) a.memory.hand) (row-is o g.tdr g.vp number op of-row is.1) at.own at.is
+              (position ∙ stage-position m w n r.stage at.own.phase at.at.stage) at.answers u a)
 
         goes-on : (at : IsGuestAt (leaf (step_of o.codes lp.cached x)) w mem.words g x)
             → Does o table p s mem (leaf (step_of o.codes lp.cached x)) (running (leaf (step_of o.codes lp.cached x)) run) (λ e stands. After (step_of o.codes lp.cached x) e stands)
@@ -344,12 +343,12 @@ processors-do o leaf p s mem at c cs are codes timely facts inside stands lines 
     let kinds : ℕ → ℕ → ℕ → Step → Meaning = λ td v l st. (t.step td v l st).meaning in
     subst (λ (z : LeafTable). LpStands o z p s.world mem.words (s.lps p) at → let task = task_at z c at.guest at.run at.replies at.beside in Does o z p s mem task (running task (run_at at.guest at.run)) (λ e stands. then_at z c cs at.guest at.run at.replies at.beside e stands)) (sym same)
     (λ (st : LpStands o (table_of o p trees steps kinds) p s.world mem.words (s.lps p) at).
-        let z : LeafTable = table_of o p trees steps kinds in
-        let at-is = stood o z p s.world mem.words (s.lps p) c cs at st lines in
-        subst (λ (q : WordLp). let task = task_at z c q.guest q.run q.replies q.beside in Does o z p s mem task (running task (run_at q.guest q.run)) (λ e stands. then_at z c cs q.guest q.run q.replies q.beside e stands)) (sym at-is)
-        (let now : LpStands o z p s.world mem.words (s.lps p) (record { lines = c ∷ cs; run = at.run; guest = at.guest; replies = (s.lps p).replies; beside = beside_of (s.lps p) at.beside.bundles }) = subst (λ (q : WordLp). LpStands o z p s.world mem.words (s.lps p) q) at-is st in
-        does-at o p s mem c cs trees steps kinds at.beside.bundles inside timely facts codes (st.lines ∙ lines)
-        (λ k. subst (λ (q : LeafTable). MeansRow (q.call k)) same (are.means p k))
-        (λ td v l x. are.step_row p td v l x)
-        (λ td v l x fits. subst (λ (q : LeafTable). MeansRow (q.step td v l x)) same (are.step_means p td v l x fits))
-        at.guest at.run now.run)) stands
+    let z : LeafTable = table_of o p trees steps kinds in
+    let at-is = stood o z p s.world mem.words (s.lps p) c cs at st lines in
+    subst (λ (q : WordLp). let task = task_at z c q.guest q.run q.replies q.beside in Does o z p s mem task (running task (run_at q.guest q.run)) (λ e stands. then_at z c cs q.guest q.run q.replies q.beside e stands)) (sym at-is)
+    (let now : LpStands o z p s.world mem.words (s.lps p) (record { lines = c ∷ cs; run = at.run; guest = at.guest; replies = (s.lps p).replies; beside = beside_of (s.lps p) at.beside.bundles }) = subst (λ (q : WordLp). LpStands o z p s.world mem.words (s.lps p) q) at-is st in
+    does-at o p s mem c cs trees steps kinds at.beside.bundles inside timely facts codes (st.lines ∙ lines)
+    (λ k. subst (λ (q : LeafTable). MeansRow (q.call k)) same (are.means p k))
+    (λ td v l x. are.step_row p td v l x)
+    (λ td v l x fits. subst (λ (q : LeafTable). MeansRow (q.step td v l x)) same (are.step_means p td v l x fits))
+    at.guest at.run now.run)) stands

@@ -1,10 +1,9 @@
 -- Each turn of a processor is its next event.
-use Rattle.std.proofs.Common.{◌≡◌, ◌⊎◌, inl, inr, ℕ, zero, suc, ◌+◌, ◌<◌, ◌≤◌, Bool, true, false, List, [], ◌∷◌, ◌++◌, length, Option, Some, None, refl, ap, sym, ◌∙◌, subst}
+use Rattle.std.proofs.Common.{◌≡◌, ◌⊎◌, inl, inr, ℕ, zero, suc, ◌<◌, Bool, true, false, List, [], ◌∷◌, Option, Some, None, refl, sym, subst}
 use Rattle.td_words.specs.declared.machines.Machine.{Machine}
 use Rattle.td_words.specs.declared.names.Access.{Access}
 use Rattle.td_words.specs.declared.calls.Call.{Call}
 use Rattle.td_words.specs.declared.refusals.Status.TheVariants.{OperandBusy}
-use Rattle.td_words.specs.declared.replies.Outcome.{Outcome}
 use Rattle.td_words.specs.declared.replies.Outcome.TheVariants.{Stop, Max, EptViolation, Busy, Vmcall}
 use Rattle.td_words.specs.declared.replies.Value.TheVariants as value
 use Rattle.td_words.specs.declared.replies.Reply.{Reply}
@@ -15,15 +14,15 @@ use Rattle.flat_core.specs.World.{World}
 use Rattle.flat_core.specs.Processor.{Entering, Lp}
 use Rattle.flat_core.specs.Opening.{Opening}
 use Rattle.flat_core.specs.Lawful.{Lawful}
-use Rattle.flat_core.specs.Event.{State, Event, start, calls_of, next_event, event}
-use Rattle.flat_core.specs.Laws.{reached}
+use Rattle.flat_core.specs.Event.{State, Event, start, next_event, event}
+use Rattle.flat_core.specs.Laws.{LocksExclude, NoWordsToTell}
+use Rattle.flat_core.proofs.Ends.{always_timely}
+use Rattle.lock_words.specs.LockWords.{RunsFollow}
 use Rattle.word_rules.specs.Cells.{Shows, StartIsShown}
 use Rattle.step_core.specs.Items.{Table, PlaysTo}
 use Rattle.leaf_engine.specs.declared.events.Event.{Event as RunEvent}
 use Rattle.leaf_engine.specs.declared.events.Event.TheVariants as events
-use Rattle.leaf_engine.specs.declared.events.HeldLock.{HeldLock}
 use Rattle.leaf_engine.specs.declared.events.RunTurn.{RunTurn}
-use Rattle.leaf_engine.specs.declared.events.Stage.TheVariants as stages
 use Rattle.leaf_engine.specs.Changes.{Memory, Hand}
 use Rattle.leaf_engine.specs.Trees.{Tree, answer_of}
 use Rattle.leaf_engine.specs.Besides.{Beside, beside_after}
@@ -31,13 +30,15 @@ use Rattle.leaf_engine.specs.Decides.{IsHand}
 use Rattle.leaf_engine.specs.Means.{Task}
 use Rattle.leaf_engine.specs.Tables.{IsMemory}
 use Rattle.leaf_engine.specs.Turns.{Standing, TurnBy, has_ended, last_reply}
-use Rattle.leaf_engine.specs.Guests.{WordGuest, Step, Operates, Accesses, Loads, Leaves, guest_after, entered_at, or_else, operated, walked, is_right, loaded, stepped, step_of, gives_epoch_back}
-use Rattle.leaf_engine.specs.OwnLists.{Piece, taken_in, TurnIn, LeafTable, WordLp, first_lp, running, after_turn, after_step, CallTurn, EnteredTurn, LinesTurn, LpTurns}
-use Rattle.leaf_engine.specs.Merges.{no_table, AreLeaves, AreCodes}
+use Rattle.leaf_engine.specs.Guests.{WordGuest, Step, Operates, Accesses, Loads, Leaves, guest_after, entered_at, or_else, passed_on, operated, walked, is_right, loaded, step_of, gives_epoch_back}
+use Rattle.leaf_engine.specs.OwnLists.{Piece, taken_in, TurnIn, LeafTable, WordLp, running, after_turn, after_step, CallTurn, EnteredTurn, LinesTurn}
+use Rattle.leaf_engine.specs.Merges.{AreLeaves, AreCodes}
 use Rattle.leaf_engine.specs.Calls.{IsShown, no_memory}
-use Rattle.leaf_engine.specs.Doing.{LeafAfter, LeavesFollow}
-use Rattle.leaf_engine.specs.Standing.{HasNoHasher, RunStands, LpStands}
-use Rattle.leaf_engine.specs.Following.{task_in, task_at, run_in, run_at, then_in, then_at, Does, hasher_of, hasher_at, StandsOn, IsRunning}
+use Rattle.leaf_engine.specs.Doing.{event_of, LeafAfter, LeavesFollow}
+use Rattle.leaf_engine.specs.Standing.{RunStands}
+use Rattle.leaf_engine.specs.Following.{task_in, task_at, run_in, run_at, then_in, then_at, Does, hasher_of, hasher_at, StandsOn, IsRunning, ProcessorsFollow}
+use Rattle.leaf_engine.specs.Facts.{FactsStand}
+use Rattle.leaf_engine.proofs.OnTheWay.{none-to-tell}
 use Rattle.leaf_engine.proofs.Pieces.{turn-of-taken}
 use Rattle.leaf_engine.proofs.Doers.{processors-do}
 
@@ -135,7 +136,7 @@ module _ (line : Standing) (freed : gives_epoch_back line.held ≡ false) (kept 
       → HasHand (hasher_at (after_step c cs line x rs b st stands r))
   step-hand c cs x rs b st stands None before h = in-step (record x { run = Some stands }) h
   step-hand c cs x rs b (Operates op) stands (Some r) before h = kept-run x (operated r x) before (run-operated r x)
-  step-hand c cs x rs b (Accesses access q gpa page) stands (Some r) before h = kept-run x (record x { completed = x.completed + 1; position = x.position + 1; walk = None; run = None }) before (inl refl)
+  step-hand c cs x rs b (Accesses access q gpa page) stands (Some r) before h = kept-run x (passed_on x) before (inl refl)
   step-hand c cs x rs b (Loads access gpa level page) stands (Some r) before h = kept-run x (loaded access gpa level r x) before (run-loaded access gpa level r x)
   step-hand c cs x rs b (Leaves out) stands (Some r) before h = kept
 
@@ -211,7 +212,7 @@ module _ (follow : LeavesFollow) (o : Opening) (leaf : ℕ → LeafTable) (p : �
         shows = subst (λ (q : ℕ). Shows o.machine a.mem.words a.mem.slots (event o s q)) d.processor (subst (λ (z : Machine). Shows z a.mem.words a.mem.slots (event o s task.place.lp)) d.machine a.shown);
         stands = d.then_ u e stands a;
       } in (
-        (Rattle.leaf_engine.specs.Doing.event_of task.meaning a.move, subst (λ (q : ℕ). next_event o s q ≡ Some (Rattle.leaf_engine.specs.Doing.event_of task.meaning a.move)) d.processor a.next.next),
+        (event_of task.meaning a.move, subst (λ (q : ℕ). next_event o s q ≡ Some (event_of task.meaning a.move)) d.processor a.next.next),
         subst (λ (z : WordLp). StandsOn o (leaf p) p (event o s p) u z) (sym to.after_is) after-on,
       )
 
@@ -221,3 +222,30 @@ pub follows : LeavesFollow → (o : Opening) (leaf : ℕ → LeafTable) (p : ℕ
 follows follow o leaf p s t u [] run guest rs b after e ps are codes runs inside on lt plays = absurd lt
 follows follow o leaf p s t u (c ∷ cs) run guest rs b after e ps are codes runs inside on lt plays =
     follows-to follow o leaf p s t u run guest rs b c cs after e ps are codes runs inside on (turns-to (leaf p) o.machine c cs run guest rs b e ps after lt) plays
+
+pub record Laws : Type 0 where
+  pub leaves : LeavesFollow
+  pub shown : StartIsShown
+  pub exclude : LocksExclude
+  pub tell : NoWordsToTell
+  pub few : RunsFollow
+  pub facts : FactsStand
+
+pub processors-follow : Laws → ProcessorsFollow
+processors-follow ls = record {
+  does = processors-do;
+  starts = λ o t p. record {
+    memory = no_memory;
+    is = record { words = λ q a. refl; slots = λ h a. tt; hand = tt };
+    shows = ls.shown o None;
+    stands = record { lines = refl; replies = refl; beside = refl; run = record { call = refl; guest = refl } };
+  };
+  runs = λ o schedule eight. record {
+    timely = always_timely o None schedule;
+    exclusive = λ l. ls.exclude o None schedule l;
+    few_sharers = λ l. ls.few.few o None schedule l eight;
+    nothing_to_tell = none-to-tell ls.tell o schedule (start o None) refl;
+    facts = ls.facts o schedule;
+  };
+  follow = λ o leaf p s t u at after e ps are codes runs inside on lt plays. follows ls.leaves o leaf p s t u at.lines at.run at.guest at.replies at.beside after e ps are codes runs inside on lt plays;
+}

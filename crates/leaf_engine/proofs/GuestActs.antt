@@ -1,5 +1,5 @@
 -- What the acts of a guest's operations leave, and what they answer.
-use Rattle.std.proofs.Common.{◌≡◌, ◌⊎◌, inl, inr, ℕ, zero, suc, ◌≤◌, ◌+◌, ◌*◌, ◌/◌, ◌%◌, Bool, true, false, ◌==◌, if◌then◌else◌, List, [], ◌∷◌, map, length, Option, Some, None, refl, ap, sym, ◌∙◌, subst, arith}
+use Rattle.std.proofs.Common.{◌≡◌, ◌⊎◌, inl, inr, ℕ, zero, suc, ◌≤◌, ◌+◌, ◌*◌, ◌/◌, ◌%◌, Bool, true, false, ◌==◌, List, [], ◌∷◌, map, length, Option, Some, None, refl, ap, sym, ◌∙◌, subst, arith}
 use Rattle.std.specs.Prelude.{slice_index}
 use Rattle.std.proofs.lemmas.Bool.{eq-eqb, ne_eqb}
 use Rattle.td_words.specs.declared.names.PageKind.{PageKind}
@@ -20,12 +20,12 @@ use Rattle.td_words.specs.Packing.{Entry}
 use Rattle.td_words.specs.Place.{lock_place}
 use Rattle.flat_core.specs.World.{World, put}
 use Rattle.flat_core.specs.Locks.{one_if}
-use Rattle.flat_core.specs.Processor.{Held, Note, LoadNote, RtmrNote}
+use Rattle.flat_core.specs.Processor.{Note, LoadNote, RtmrNote}
 use Rattle.flat_core.specs.Opening.{Opening}
-use Rattle.flat_core.specs.Row.{Item, Check, Try, OperationRow, Move, Refuses, next}
+use Rattle.flat_core.specs.Row.{Item, Check, Try, OperationRow, Refuses, next}
 use Rattle.flat_core.specs.Effects.{tell_words, pass_operation}
 use Rattle.flat_core.specs.Tree.{same_state, may_read, may_write}
-use Rattle.flat_core.specs.Guest.{ByRow, operation_of, goes_on, reach, accept_page, is_pending_at, register_told}
+use Rattle.flat_core.specs.Guest.{ByRow, operation_of, goes_on, reach, is_pending_at, register_told}
 use Rattle.flat_core.specs.Guests.{guest_locks}
 use Rattle.flat_core.specs.Lawful.{is_free}
 use Rattle.flat_core.proofs.Tests.{put_here}

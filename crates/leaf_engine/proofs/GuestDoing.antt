@@ -1,10 +1,9 @@
 -- What a processor in a guest does is what the leaf of its guest's next step means.
-use Rattle.std.proofs.Common.{◌≡◌, ◌⊎◌, inl, inr, ℕ, zero, suc, ◌+◌, ◌*◌, ◌/◌, ◌^◌, ◌<◌, ◌≤◌, Bool, true, false, ◌==◌, List, [], ◌∷◌, map, length, Option, Some, None, refl, ap, sym, ◌∙◌, subst, arith}
+use Rattle.std.proofs.Common.{◌≡◌, ◌⊎◌, inl, inr, ℕ, zero, suc, ◌+◌, ◌/◌, ◌^◌, ◌<◌, ◌≤◌, true, false, ◌==◌, List, [], ◌∷◌, map, length, Option, Some, None, refl, ap, sym, ◌∙◌, subst, arith}
 use Rattle.std.specs.Prelude.{slice_get, slice_index}
 use Rattle.std.proofs.Math.Nat.{div-div-eq-div-mul}
 use Rattle.std.proofs.lemmas.Option.{slice_get_within, get_or_from_slice_get}
 use Rattle.td_words.specs.declared.names.PageKind.TheVariants as kind
-use Rattle.td_words.specs.declared.names.OpState.{OpState}
 use Rattle.td_words.specs.declared.names.OpState.TheVariants as op
 use Rattle.td_words.specs.declared.machines.Machine.{Machine}
 use Rattle.td_words.specs.declared.names.Access.{Access}
@@ -12,17 +11,14 @@ use Rattle.td_words.specs.declared.calls.Call.{Call}
 use Rattle.td_words.specs.declared.calls.GuestOp.{GuestOp}
 use Rattle.td_words.specs.declared.replies.Outcome.{Outcome}
 use Rattle.td_words.specs.declared.replies.Reply.{Reply}
-use Rattle.td_words.specs.Packing.{Entry}
 use Rattle.flat_core.specs.World.{World}
 use Rattle.flat_core.specs.Processor.{Held, Phase, Trying, Undoing, Answered, Progress, nothing_yet, Walk, Guest, Lp}
 use Rattle.flat_core.specs.Opening.{Opening}
 use Rattle.flat_core.specs.Row.{Item, Check, Try, OperationRow, next, next_in}
 use Rattle.flat_core.specs.Tree.{page_of_gpa, number_at}
-use Rattle.flat_core.specs.Translations.{look_up}
-use Rattle.flat_core.specs.Guest.{Operation, ByRow, Private, operation_of, walk_level}
-use Rattle.flat_core.specs.Lawful.{IsNodeOf, IsPageOf, AreControls}
+use Rattle.flat_core.specs.Guest.{Operation, Private, operation_of, walk_level}
+use Rattle.flat_core.specs.Lawful.{IsNodeOf, AreControls}
 use Rattle.flat_core.specs.Access.{IsOnCourse, node_number}
-use Rattle.flat_core.specs.AccessLaw.{IsGuarded}
 use Rattle.flat_core.specs.Inside.{OperationAt, DueAt, PhaseAt, GuestAt, WalkFits, InGuest, AreTimely}
 use Rattle.flat_core.specs.Event.{State, Event, OfOperation, next_event, guest_event, staying_event, operation_due, nothing_more}
 use Rattle.flat_core.proofs.Always.{reaches_own}

@@ -1,5 +1,5 @@
 -- Where a processor in a guest stands after a turn of the leaf of its guest's next step.
-use Rattle.std.proofs.Common.{◌≡◌, ◌⊎◌, inl, inr, ℕ, zero, suc, ◌+◌, Bool, true, false, if◌then◌else◌, List, [], ◌∷◌, ◌++◌, length, drop, Option, Some, None, option_map, refl, ap, sym, ◌∙◌, subst}
+use Rattle.std.proofs.Common.{◌≡◌, inl, ℕ, zero, suc, ◌+◌, Bool, true, false, List, [], ◌∷◌, length, drop, Option, Some, None, option_map, refl, ap, sym, ◌∙◌, subst}
 use Rattle.std.specs.Prelude.{slice_index}
 use Rattle.td_words.specs.declared.machines.Machine.{Machine}
 use Rattle.td_words.specs.declared.names.Access.{Access}
@@ -8,7 +8,6 @@ use Rattle.td_words.specs.declared.calls.GuestOp.{GuestOp}
 use Rattle.td_words.specs.declared.refusals.Status.TheVariants.{OperandBusy}
 use Rattle.td_words.specs.declared.replies.Outcome.{Outcome}
 use Rattle.td_words.specs.declared.replies.Outcome.TheVariants.{Stop, Max, EptViolation, Busy, Vmcall}
-use Rattle.td_words.specs.declared.replies.Value.TheVariants as value
 use Rattle.td_words.specs.declared.replies.Reply.{Reply}
 use Rattle.td_words.specs.declared.replies.Reply.TheVariants.{Done, Refused, Exited}
 use Rattle.td_words.specs.Packing.{Entry}
@@ -22,7 +21,7 @@ use Rattle.flat_core.specs.Tree.{page_of_gpa, entry_at}
 use Rattle.flat_core.specs.Guest.{goes_on, walk_level, walk_step, walked_on, answered, reach}
 use Rattle.flat_core.specs.Guests.{guest_locks}
 use Rattle.flat_core.specs.Effects.{leave_guest}
-use Rattle.flat_core.specs.Event.{State, Event, OfOperation, Walks, Reaches, Leaves as LeavesGuest, event, world_after, operation_world, lp_after, lines_left, calls_of, call_busy, operation_busy, operation_guest, settle_operation, settled_guest, is_granted}
+use Rattle.flat_core.specs.Event.{State, Event, OfOperation, Walks, Reaches, Leaves as LeavesGuest, event, operation_world, lp_after, lines_left, calls_of, call_busy, operation_busy, operation_guest, settle_operation, settled_guest, is_granted}
 use Rattle.step_core.specs.Items.{Table}
 use Rattle.leaf_engine.specs.declared.events.Event.{Event as RunEvent}
 use Rattle.leaf_engine.specs.declared.events.HeldLock.{HeldLock}
@@ -37,7 +36,7 @@ use Rattle.leaf_engine.specs.Means as meaning
 use Rattle.leaf_engine.specs.Means.{Task, Meaning, work_of, LocksStay}
 use Rattle.word_rules.specs.Views.{rights_by}
 use Rattle.leaf_engine.specs.Turns.{Standing, last_reply}
-use Rattle.leaf_engine.specs.Guests.{WordGuest, Step, Operates, Accesses, Loads, Leaves, step_of, walk_page, passed_on, operated, exited_with, leaving_with, loaded, walked, is_right, named_page, gives_epoch_back}
+use Rattle.leaf_engine.specs.Guests.{WordGuest, Step, Operates, Accesses, Loads, Leaves, step_of, walk_page, passed_on, leaving_with, walked, named_page, gives_epoch_back}
 use Rattle.leaf_engine.specs.OwnLists.{LeafTable, WordLp, step_leaf, after_step}
 use Rattle.leaf_engine.specs.Calls.{AreLocks, IsStage}
 use Rattle.leaf_engine.specs.Doing.{out_move, row_then, outcome_of, HasMoves, LeafAt, ActsBy, LeafAfter, work_world}
@@ -45,7 +44,7 @@ use Rattle.leaf_engine.specs.Standing.{out_phase, out_progress, is_behind, posit
 use Rattle.leaf_engine.proofs.Calling.{last-none, locks-after}
 use Rattle.leaf_engine.proofs.Steps.{seen, same-step}
 use Rattle.leaf_engine.proofs.GuestActs.{KeepsTds, same-tds, guest-locks-stay, IsRowOf, reach-passes, right-is, page-is}
-use Rattle.leaf_engine.proofs.GuestThen.{at-event, from-event, beside-is, no-hasher, answered-stage, position_of, IsSingle, single, IsMoved, moved}
+use Rattle.leaf_engine.proofs.GuestThen.{at-event, from-event, beside-is, position_of, IsSingle, single, IsMoved, moved}
 
 -- the leaves of processor p, by their trees and meanings
 abbrev pub table_of : Opening → ℕ → (Call → Tree) → ((tdr vp line : ℕ) → Step → Tree) → ((tdr vp line : ℕ) → Step → Meaning) → LeafTable

@@ -1,52 +1,32 @@
 -- What becomes of a processor in a guest by a turn of the leaf of its guest's next step.
-use Rattle.std.proofs.Common.{◌≡◌, ◌⊎◌, inl, inr, ℕ, zero, suc, ◌+◌, ◌<◌, ◌≤◌, Bool, true, false, if◌then◌else◌, List, [], ◌∷◌, ◌++◌, map, length, drop, Option, Some, None, option_map, refl, ap, sym, ◌∙◌, subst, arith}
-use Rattle.std.specs.Prelude.{slice_index}
+use Rattle.std.proofs.Common.{◌≡◌, ℕ, ◌+◌, Bool, true, false, if◌then◌else◌, List, [], ◌∷◌, map, length, Option, Some, None, refl, ap, sym, ◌∙◌, subst}
 use Rattle.td_words.specs.declared.machines.Machine.{Machine}
 use Rattle.td_words.specs.declared.names.Mode.TheVariants.{Shared, Exclusive}
-use Rattle.td_words.specs.declared.names.Access.{Access}
-use Rattle.td_words.specs.declared.calls.Call.{Call}
-use Rattle.td_words.specs.declared.calls.GuestOp.{GuestOp}
-use Rattle.td_words.specs.declared.refusals.Status.TheVariants.{OperandBusy}
 use Rattle.td_words.specs.declared.replies.Outcome.{Outcome}
-use Rattle.td_words.specs.declared.replies.Outcome.TheVariants.{Stop, Max, EptViolation, Busy, Vmcall}
-use Rattle.td_words.specs.declared.replies.Value.TheVariants as value
 use Rattle.td_words.specs.declared.replies.Reply.{Reply}
-use Rattle.td_words.specs.declared.replies.Reply.TheVariants.{Done, Refused, Exited}
-use Rattle.td_words.specs.Packing.{Entry}
-use Rattle.td_words.specs.Place.{WordPlace}
 use Rattle.mrtd_measure.specs.declared.measures.Measure.{Measure}
 use Rattle.flat_core.specs.World.{World, Made}
-use Rattle.flat_core.specs.Processor.{LockId, Held, Phase, Trying, Undoing, Answered, Progress, nothing_yet, Walk, Guest, Lp}
+use Rattle.flat_core.specs.Processor.{Held, Phase, Trying, Undoing, Answered, Progress, nothing_yet, Lp}
 use Rattle.flat_core.specs.Opening.{Opening}
 use Rattle.flat_core.specs.Row.{Item, OperationRow, Move, Attempts, Undoes, Refuses, Succeeds, Releases, Rests, next_in, after_move}
-use Rattle.flat_core.specs.Table.{row_of}
-use Rattle.flat_core.specs.Tree.{page_of_gpa, entry_at}
-use Rattle.flat_core.specs.Guest.{ByRow, operation_of, goes_on, walk_level, walk_step, walked_on, answered, reach}
-use Rattle.flat_core.specs.Guests.{guest_locks}
-use Rattle.flat_core.specs.Event.{State, Event, OfOperation, next_event, event, after_event, world_after, operation_world, lp_after, lines_left, calls_of, call_busy, operation_busy, operation_guest, settle_operation, settled_guest, is_granted}
+use Rattle.flat_core.specs.Event.{State, Event, next_event, event, after_event, world_after, operation_world, lp_after, call_busy, operation_busy, is_granted}
 use Rattle.step_core.specs.Items.{Table}
 use Rattle.leaf_engine.specs.declared.events.Event.{Event as RunEvent}
 use Rattle.leaf_engine.specs.declared.events.Event.TheVariants as events
 use Rattle.leaf_engine.specs.declared.events.HeldLock.{HeldLock}
 use Rattle.leaf_engine.specs.declared.events.Stage.{Stage}
 use Rattle.leaf_engine.specs.declared.events.Stage.TheVariants as stages
-use Rattle.leaf_engine.specs.declared.needs.Place.{Place}
 use Rattle.leaf_engine.specs.Changes.{Hand}
-use Rattle.leaf_engine.specs.Changes.{Memory}
-use Rattle.leaf_engine.specs.Trees.{Answer, Tree, answer_of, added}
-use Rattle.leaf_engine.specs.Besides.{Beside, beside_of, beside_after}
-use Rattle.leaf_engine.specs.Means as meaning
-use Rattle.leaf_engine.specs.Means.{Task, Meaning, Work, work_of, exit_item, operation_reply, AnswersAs, LocksStay}
+use Rattle.leaf_engine.specs.Trees.{Tree, answer_of, added}
+use Rattle.leaf_engine.specs.Besides.{beside_of, beside_after}
+use Rattle.leaf_engine.specs.Means.{Task, Work, work_of, exit_item, operation_reply, AnswersAs}
 use Rattle.leaf_engine.specs.Decides.{IsHand}
 use Rattle.leaf_engine.specs.Turns.{Standing, last_reply}
-use Rattle.leaf_engine.specs.Guests.{WordGuest, Step, Operates, Accesses, Loads, Leaves, step_of, passed_on, operated, walked, is_right, named_page, gives_epoch_back}
-use Rattle.leaf_engine.specs.OwnLists.{LeafTable, WordLp, step_leaf, after_step}
-use Rattle.leaf_engine.specs.Calls.{AreLocks, IsStage, IsTold}
-use Rattle.leaf_engine.specs.Doing.{out_move, row_then, event_of, outcome_of, HasMoves, LeafAt, ActsBy, HasCome, LeafAfter, work_world}
-use Rattle.leaf_engine.specs.Standing.{out_phase, out_progress, is_behind, AnswersGuest, IsOfGuest, HasNoHasher, RunOfStep, IsStepRun, IsGuestAt, LpStands}
-use Rattle.leaf_engine.proofs.Calling.{lp-now, last-none, locks-after}
-use Rattle.leaf_engine.proofs.Steps.{seen, same-step}
-use Rattle.leaf_engine.proofs.GuestActs.{KeepsTds, same-tds, guest-locks-stay, Passes, IsRowOf, reach-passes, refused, IsAnswer, completed, right-is, page-is}
+use Rattle.leaf_engine.specs.Calls.{AreLocks, IsStage}
+use Rattle.leaf_engine.specs.Doing.{out_move, row_then, event_of, LeafAt, ActsBy, HasCome, LeafAfter, work_world}
+use Rattle.leaf_engine.specs.Standing.{out_progress, is_behind, AnswersGuest, IsOfGuest}
+use Rattle.leaf_engine.proofs.Calling.{lp-now}
+use Rattle.leaf_engine.proofs.GuestActs.{KeepsTds, same-tds, IsRowOf, refused, IsAnswer, completed}
 
 -- the state after an event
 

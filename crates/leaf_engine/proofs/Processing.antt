@@ -1,61 +1,46 @@
 -- What a processor does is what one leaf means, and after that leaf's turn it stands where the turn leaves it.
-use Rattle.std.proofs.Common.{◌≡◌, ◌⊎◌, inl, inr, ℕ, zero, suc, ◌+◌, ◌<◌, Bool, true, false, List, [], ◌∷◌, ◌++◌, length, drop, Option, Some, None, refl, ap, sym, ◌∙◌, subst}
+use Rattle.std.proofs.Common.{◌≡◌, ◌⊎◌, inl, inr, ℕ, zero, suc, Bool, List, [], ◌∷◌, ◌++◌, length, drop, Option, Some, None, refl, ap, sym, ◌∙◌, subst}
 use Rattle.std.specs.Prelude.{slice_index}
-use Rattle.std.proofs.lemmas.List.{append-nil}
 use Rattle.td_words.specs.declared.machines.Machine.{Machine}
 use Rattle.td_words.specs.declared.names.Mode.TheVariants.{Shared, Exclusive}
 use Rattle.td_words.specs.declared.calls.Call.{Call}
 use Rattle.td_words.specs.declared.calls.Call.TheVariants as call
-use Rattle.td_words.specs.declared.replies.Outcome.{Outcome}
 use Rattle.td_words.specs.declared.replies.Value.TheVariants as value
 use Rattle.td_words.specs.declared.replies.Reply.{Reply}
 use Rattle.td_words.specs.declared.replies.Reply.TheVariants.{Done}
-use Rattle.td_words.specs.declared.names.LockName.{LockName}
-use Rattle.td_words.specs.Place.{WordPlace}
 use Rattle.flat_core.specs.World.{World, Made}
 use Rattle.flat_core.specs.Processor.{LockId, OfPage, OfOp, OfTree, OfEpoch, OfRtmr, OfKeys, name_of, Held, Phase, Trying, Undoing, Answered, Progress, nothing_yet, Guest, Entering, new_guest, Lp}
 use Rattle.flat_core.specs.Opening.{Opening}
 use Rattle.flat_core.specs.Row.{Row, Move, Attempts, Undoes, Refuses, Succeeds, Releases, Rests, next_in, after_move, but_newest}
 use Rattle.flat_core.specs.Table.{row_of}
 use Rattle.flat_core.specs.Guests.{guest_locks, entry_locks}
-use Rattle.flat_core.specs.Guest.{walk_level}
 use Rattle.flat_core.specs.Inside.{InGuest, LineAt, StandsAt, IsTimely, AreTimely}
 use Rattle.flat_core.specs.Event.{State, Event, OfCall, next_event, event_for, line_event, entered_event, epoch_event, guest_event, event, world_after, lp_after, call_world, call_lp, settle, settled, lines_left, calls_of, call_busy, is_granted, is_epoch_lock}
-use Rattle.flat_core.specs.Laws.{IsBetween}
 use Rattle.flat_core.proofs.Ends.{timeliness_kept}
-use Rattle.lock_words.specs.Grips.{locks_of, operation_locks}
 use Rattle.step_core.specs.Items.{Table}
 use Rattle.leaf_engine.specs.declared.events.Event.{Event as RunEvent}
 use Rattle.leaf_engine.specs.declared.events.Event.TheVariants as events
 use Rattle.leaf_engine.specs.declared.events.HeldLock.{HeldLock}
-use Rattle.leaf_engine.specs.declared.events.RunTurn.{RunTurn}
 use Rattle.leaf_engine.specs.declared.events.Stage.{Stage}
 use Rattle.leaf_engine.specs.declared.events.Stage.TheVariants as stages
 use Rattle.leaf_engine.specs.declared.needs.Place.{Place}
-use Rattle.leaf_engine.specs.Facts.{Facts}
 use Rattle.leaf_engine.specs.Changes.{Memory}
-use Rattle.leaf_engine.specs.Trees.{Answer, only, Tree, answer_of}
+use Rattle.leaf_engine.specs.Trees.{Answer, Tree, answer_of}
 use Rattle.leaf_engine.specs.Besides.{Beside, beside_of, beside_after}
 use Rattle.leaf_engine.specs.Means as meaning
 use Rattle.leaf_engine.specs.Means.{Task, Meaning, work_of, MeansRow}
 use Rattle.leaf_engine.specs.Turns.{Standing, last_reply}
-use Rattle.leaf_engine.specs.Guests.{WordGuest, Step, Operates, guest_after, guest_entered, or_else, entered_at, step_of, is_epoch_name, gives_epoch_back}
-use Rattle.leaf_engine.specs.OwnLists.{LeafTable, WordLp, running, step_leaf, after_turn, after_step}
-use Rattle.leaf_engine.specs.Merges.{AreLeaves, AreCodes, ByItsRow, IsStepOf}
-use Rattle.leaf_engine.specs.Calls.{AreLocks, IsStage, IsCallAt, GoesOn, IsOver, HasEntered, Then}
-use Rattle.leaf_engine.specs.Doing.{HasMoves, IsDoing, LeafAt, IsNoAct, ActsBy, LeafAfter, work_world}
-use Rattle.leaf_engine.specs.Standing.{out_progress, position_in, position_at, HasNoHasher, RunOfStep, IsGuestAt, GuestStands, RunStands, LpStands}
-use Rattle.leaf_engine.specs.Following.{task_in, task_at, run_in, run_at, then_in, then_at, Does, ProcessorsDo}
-use Rattle.leaf_engine.proofs.Showing.{current-end, granted-end, not-acted-end}
-use Rattle.leaf_engine.proofs.Beginning.{calls-begin}
-use Rattle.leaf_engine.proofs.Calling.{next-is, is-next, last-none}
+use Rattle.leaf_engine.specs.Guests.{WordGuest, Step, guest_after, or_else, entered_at, is_epoch_name, gives_epoch_back}
+use Rattle.leaf_engine.specs.OwnLists.{LeafTable, WordLp, after_turn}
+use Rattle.leaf_engine.specs.Calls.{AreLocks, IsStage, HasEntered, Then}
+use Rattle.leaf_engine.specs.Doing.{LeafAt, IsNoAct, ActsBy, LeafAfter, work_world}
+use Rattle.leaf_engine.specs.Standing.{position_in, HasNoHasher, LpStands}
+use Rattle.leaf_engine.proofs.Calling.{last-none}
 use Rattle.leaf_engine.proofs.Doings.{settle-guest}
 use Rattle.leaf_engine.proofs.Turning.{then-by, succeeds-trying, entered, succeeded-guest}
-use Rattle.leaf_engine.proofs.Steps.{seen, IsDue, leaves, ends, operates, walks, reaches, going_event, due-is, step-fits}
-use Rattle.leaf_engine.proofs.GuestDoing.{level-fits, operation-is, doing}
-use Rattle.leaf_engine.proofs.GuestActs.{row-is}
+use Rattle.leaf_engine.proofs.Steps.{seen}
 use Rattle.leaf_engine.proofs.GuestThen.{at-event, from-event, beside-is, no-hasher, answered-stage, position_of}
-use Rattle.leaf_engine.proofs.GuestGoes.{table_of, operation-goes, access-goes, walk-goes, exit-goes}
+use Rattle.leaf_engine.proofs.GuestGoes.{table_of}
 
 -- the lines behind one that is done
 
