@@ -45,6 +45,7 @@ use Rattle.leaf_engine.proofs.GuestDoing.{level-fits, operation-is, doing}
 use Rattle.leaf_engine.proofs.GuestActs.{row-is}
 use Rattle.leaf_engine.proofs.GuestThen.{no-hasher}
 use Rattle.leaf_engine.proofs.GuestGoes.{table_of, operation-goes, access-goes, walk-goes, exit-goes}
+use Rattle.leaf_engine.proofs.Making.{adds-bundles}
 use Rattle.leaf_engine.proofs.Processing.{stage-position, gives-back, inside-of, outside-then, given-back-then}
 
 out-trying : (ph : Phase Reply) → out_phase ph ≡ Trying → ph ≡ Trying
@@ -116,6 +117,7 @@ module _ (o : Opening) (p : ℕ) (s : State) (mem : Memory) (c : Call) (cs : Lis
     waits = waits;
     locks = ap (λ (z : Option Guest). lp.call.held ++ operation_locks z) ca.guest ∙ append-nil lp.call.held;
     then_ = λ u e stands a. outside-then o p s mem c cs trees steps kinds bs timely is-line u e stands ca.guest a;
+    makes = λ u e stands a. adds-bundles o (table.call c) s lp.call u stands e (inl tt) a;
   }
 
   -- in a guest
@@ -172,6 +174,7 @@ module _ (o : Opening) (p : ℕ) (s : State) (mem : Memory) (c : Call) (cs : Lis
               waits = λ z. absurd (not-trying z);
               locks = ap (λ (z : Option Guest). lp.call.held ++ operation_locks z) is-in ∙ (ap (λ (z : Progress (Option Outcome)). lp.call.held ++ z.held) none ∙ append-nil lp.call.held);
               then_ = λ u e stands a. given-back-then o p s mem c cs trees steps kinds bs timely is-line u e stands line reply g n is-in answered-by h.0 at-guest.trying none position a;
+              makes = λ u e stands a. adds-bundles o (table.call c) s (record { phase = Answered reply; held = lp.call.held }) u stands e (inl tt) a;
             }
 
     -- with E given back
@@ -275,6 +278,7 @@ module _ (o : Opening) (p : ℕ) (s : State) (mem : Memory) (c : Call) (cs : Lis
               waits = it.waits;
               locks = ap (λ (z : Option Guest). lp.call.held ++ operation_locks z) is-in ∙ ap (λ (z : Progress (Option Outcome)). lp.call.held ++ z.held) (sym it.is);
               then_ = λ u e stands a. step-then r position u e stands st ev refl now it a;
+              makes = λ u e stands a. adds-bundles o (leaf st) s it.own u stands e it.single a;
             }
 
     -- as its word guest has it

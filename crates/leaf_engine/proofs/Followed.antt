@@ -1,5 +1,5 @@
 -- Each turn of a processor is its next event.
-use Rattle.std.proofs.Common.{◌≡◌, ◌⊎◌, inl, inr, ℕ, zero, suc, ◌<◌, Bool, true, false, List, [], ◌∷◌, Option, Some, None, refl, sym, subst}
+use Rattle.std.proofs.Common.{◌≡◌, ◌⊎◌, inl, inr, ℕ, zero, suc, ◌<◌, Bool, true, false, List, [], ◌∷◌, Option, Some, None, refl, ap, sym, ◌∙◌, subst}
 use Rattle.td_words.specs.declared.machines.Machine.{Machine}
 use Rattle.td_words.specs.declared.names.Access.{Access}
 use Rattle.td_words.specs.declared.calls.Call.{Call}
@@ -14,7 +14,7 @@ use Rattle.flat_core.specs.World.{World}
 use Rattle.flat_core.specs.Processor.{Entering, Lp}
 use Rattle.flat_core.specs.Opening.{Opening}
 use Rattle.flat_core.specs.Lawful.{Lawful}
-use Rattle.flat_core.specs.Event.{State, Event, start, next_event, event}
+use Rattle.flat_core.specs.Event.{State, start, next_event, event}
 use Rattle.flat_core.specs.Laws.{LocksExclude, NoWordsToTell}
 use Rattle.flat_core.proofs.Ends.{always_timely}
 use Rattle.lock_words.specs.LockWords.{RunsFollow}
@@ -24,8 +24,8 @@ use Rattle.leaf_engine.specs.declared.events.Event.{Event as RunEvent}
 use Rattle.leaf_engine.specs.declared.events.Event.TheVariants as events
 use Rattle.leaf_engine.specs.declared.events.RunTurn.{RunTurn}
 use Rattle.leaf_engine.specs.Changes.{Memory, Hand}
-use Rattle.leaf_engine.specs.Trees.{Tree, answer_of}
-use Rattle.leaf_engine.specs.Besides.{Beside, beside_after}
+use Rattle.leaf_engine.specs.Trees.{Tree, added, answer_of}
+use Rattle.leaf_engine.specs.Besides.{Beside, beside_after, bundles_made}
 use Rattle.leaf_engine.specs.Decides.{IsHand}
 use Rattle.leaf_engine.specs.Means.{Task}
 use Rattle.leaf_engine.specs.Tables.{IsMemory}
@@ -36,10 +36,11 @@ use Rattle.leaf_engine.specs.Merges.{AreLeaves, AreCodes}
 use Rattle.leaf_engine.specs.Calls.{IsShown, no_memory}
 use Rattle.leaf_engine.specs.Doing.{event_of, LeafAfter, LeavesFollow}
 use Rattle.leaf_engine.specs.Standing.{RunStands}
-use Rattle.leaf_engine.specs.Following.{task_in, task_at, run_in, run_at, then_in, then_at, Does, hasher_of, hasher_at, StandsOn, IsRunning, ProcessorsFollow}
+use Rattle.leaf_engine.specs.Following.{task_in, task_at, run_in, run_at, then_in, then_at, Does, hasher_of, hasher_at, StandsOn, IsRunning, IsFollowed, ProcessorsFollow}
 use Rattle.leaf_engine.specs.Facts.{FactsStand}
 use Rattle.leaf_engine.proofs.OnTheWay.{none-to-tell}
 use Rattle.leaf_engine.proofs.Pieces.{turn-of-taken}
+use Rattle.leaf_engine.proofs.Making.{own-bundles}
 use Rattle.leaf_engine.proofs.Doers.{processors-do}
 
 -- a turn of a processor is one of the leaf that it is at
@@ -182,6 +183,23 @@ module _ (follow : LeavesFollow) (o : Opening) (leaf : ℕ → LeafTable) (p : �
   d : Does o (leaf p) p s mem task now (λ e stands. then_at (leaf p) c cs guest run rs b e stands)
   d = processors-do o leaf p s mem at c cs are codes runs.timely runs.facts inside on.stands refl
 
+  turn-bundles : (g : Option WordGuest) (b' : Beside) (stands : Standing) (r : Option Reply) → (after_turn c cs g rs b' stands r).beside.bundles ≡ b'.bundles
+  turn-bundles g b' stands None = refl
+  turn-bundles g b' stands (Some r) = refl
+
+  step-bundles : (line : Standing) (x : WordGuest) (b' : Beside) (st : Step) (stands : Standing) (r : Option Reply) → (after_step c cs line x rs b' st stands r).beside.bundles ≡ b'.bundles
+  step-bundles line x b' st stands None = refl
+  step-bundles line x b' st stands (Some r) = refl
+
+  in-bundles : (x : WordGuest) (line stands : Standing) (give : Bool) → (then_in (leaf p) c cs x line rs b e stands give).beside.bundles ≡ added b.bundles (bundles_made e stands.rest)
+  in-bundles x line stands true = turn-bundles (guest_after e stands.rest (Some x)) (beside_after e stands.rest b) stands (last_reply stands.stage stands.held) ∙ own-bundles e stands.rest b
+  in-bundles x line stands false = step-bundles line x (beside_after e stands.rest b) (step_of (leaf p).codes b.cached x) stands (last_reply stands.stage stands.held) ∙ own-bundles e stands.rest b
+
+  then-bundles : (g : Option WordGuest) (r : Option Standing) → RunStands o (leaf p) p s.world mem.words (s.lps p) (c ∷ cs) r g rs b → (stands : Standing) → (then_at (leaf p) c cs g r rs b e stands).beside.bundles ≡ added b.bundles (bundles_made e stands.rest)
+  then-bundles None r i stands = turn-bundles (guest_after e stands.rest None) (beside_after e stands.rest b) stands (last_reply stands.stage stands.held) ∙ own-bundles e stands.rest b
+  then-bundles (Some x) None i stands = absurd i
+  then-bundles (Some x) (Some line) i stands = in-bundles x line stands (gives_epoch_back line.held)
+
   is-hand : IsHand now.hasher mem.hand
   is-hand = subst (λ (z : Option Measure). IsHand z mem.hand) (sym (hasher-running task (run_at guest run))) on.is.hand
 
@@ -198,7 +216,7 @@ module _ (follow : LeavesFollow) (o : Opening) (leaf : ℕ → LeafTable) (p : �
     empty_hand = λ z. no-hand now.hasher mem.hand (d.waits z) is-hand;
   }
 
-  follows-to : TurnsTo o.machine task now e ps (λ e stands. then_at (leaf p) c cs guest run rs b e stands) after → PlaysTo t (taken_in ps) u → ((f : Event) × (next_event o s p ≡ Some f)) × StandsOn o (leaf p) p (event o s p) u after
+  follows-to : TurnsTo o.machine task now e ps (λ e stands. then_at (leaf p) c cs guest run rs b e stands) after → PlaysTo t (taken_in ps) u → IsFollowed o (leaf p) p s u at after
   follows-to to plays =
       let stands : Standing = to.stands in
       let result : RunTurn = record { event = e; reply = last_reply stands.stage stands.held } in
@@ -211,14 +229,19 @@ module _ (follow : LeavesFollow) (o : Opening) (leaf : ℕ → LeafTable) (p : �
         is = record { words = memory.words; slots = memory.slots; hand = hand.1 };
         shows = subst (λ (q : ℕ). Shows o.machine a.mem.words a.mem.slots (event o s q)) d.processor (subst (λ (z : Machine). Shows z a.mem.words a.mem.slots (event o s task.place.lp)) d.machine a.shown);
         stands = d.then_ u e stands a;
-      } in (
-        (event_of task.meaning a.move, subst (λ (q : ℕ). next_event o s q ≡ Some (event_of task.meaning a.move)) d.processor a.next.next),
-        subst (λ (z : WordLp). StandsOn o (leaf p) p (event o s p) u z) (sym to.after_is) after-on,
-      )
+      } in
+      record {
+        event_is = event_of task.meaning a.move;
+        next = subst (λ (q : ℕ). next_event o s q ≡ Some (event_of task.meaning a.move)) d.processor a.next.next;
+        stands = subst (λ (z : WordLp). StandsOn o (leaf p) p (event o s p) u z) (sym to.after_is) after-on;
+        more = bundles_made e stands.rest;
+        bundles = d.makes u e stands a;
+        own_bundles = ap (λ (z : WordLp). z.beside.bundles) to.after_is ∙ then-bundles guest run on.stands.run stands;
+      }
 
 pub follows : LeavesFollow → (o : Opening) (leaf : ℕ → LeafTable) (p : ℕ) (s : State) (t u : Table) (lines : List Call) (run : Option Standing) (guest : Option WordGuest) (rs : List Reply) (b : Beside) (after : WordLp) (e : RunEvent) (ps : List Piece)
     → AreLeaves o leaf → AreCodes o → IsRunning o s → p < s.lp_count → StandsOn o (leaf p) p s t (record { lines = lines; run = run; guest = guest; replies = rs; beside = b }) → LinesTurn (leaf p) o.machine lines run guest rs b e ps after → PlaysTo t (taken_in ps) u
-    → ((f : Event) × (next_event o s p ≡ Some f)) × StandsOn o (leaf p) p (event o s p) u after
+    → IsFollowed o (leaf p) p s u (record { lines = lines; run = run; guest = guest; replies = rs; beside = b }) after
 follows follow o leaf p s t u [] run guest rs b after e ps are codes runs inside on lt plays = absurd lt
 follows follow o leaf p s t u (c ∷ cs) run guest rs b after e ps are codes runs inside on lt plays =
     follows-to follow o leaf p s t u run guest rs b c cs after e ps are codes runs inside on (turns-to (leaf p) o.machine c cs run guest rs b e ps after lt) plays

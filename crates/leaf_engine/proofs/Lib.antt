@@ -19,5 +19,6 @@ pub mod GuestActs
 pub mod GuestThen
 pub mod GuestGoes
 pub mod Processing
+pub mod Making
 pub mod Doers
 pub mod Followed

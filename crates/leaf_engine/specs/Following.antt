@@ -4,6 +4,7 @@ use Rattle.std.specs.Prelude.{◌≡◌, ℕ, ◌+◌, ◌<◌, ◌≤◌, ◌^�
 use Rattle.td_words.specs.declared.calls.Call.{Call}
 use Rattle.td_words.specs.declared.replies.Reply.{Reply}
 use Rattle.mrtd_measure.specs.declared.measures.Measure.{Measure}
+use Rattle.flat_core.specs.World.{Made}
 use Rattle.flat_core.specs.Processor.{LockId, Held, Progress}
 use Rattle.flat_core.specs.Locks.{sharers, refusals}
 use Rattle.flat_core.specs.Opening.{Opening}
@@ -16,7 +17,8 @@ use Rattle.step_core.specs.Items.{Table, PlaysTo}
 use Rattle.leaf_engine.specs.declared.events.Event.{Event as RunEvent}
 use Rattle.leaf_engine.specs.Facts.{Facts}
 use Rattle.leaf_engine.specs.Changes.{Memory}
-use Rattle.leaf_engine.specs.Besides.{Beside, beside_after}
+use Rattle.leaf_engine.specs.Trees.{added}
+use Rattle.leaf_engine.specs.Besides.{Beside, beside_after, bundles_made}
 use Rattle.leaf_engine.specs.Means.{Task, MeansRow}
 use Rattle.leaf_engine.specs.Tables.{IsMemory}
 use Rattle.leaf_engine.specs.Turns.{Standing, last_reply}
@@ -71,6 +73,8 @@ pub record Does (o : Opening) (t : LeafTable) (p : ℕ) (s : State) (mem : Memor
   pub locks : locks_of (s.lps p) ≡ kept ++ progress.held
   pub then_ : (u : Table) (e : RunEvent) (stands : Standing) (a : LeafAfter o task s progress u stands e)
       → LpStands o t p (event o s p).world a.mem.words ((event o s p).lps p) (after e stands)
+  pub makes : (u : Table) (e : RunEvent) (stands : Standing) → LeafAfter o task s progress u stands e
+      → (event o s p).world.outgoing.bundles ≡ added s.world.outgoing.bundles (bundles_made e stands.rest)
 
 -- So does each that stands, at a line.
 abbrev pub ProcessorsDo : Type 0
@@ -102,6 +106,16 @@ pub record IsRunning (o : Opening) (s : State) : Type 0 where
   pub nothing_to_tell : s.world.outgoing.to_tell ≡ None
   pub facts : Facts s
 
+-- a turn of a processor was its next event: it stands where the state after that event has it, and the bundles made so far are
+-- those before and the turn's
+pub record IsFollowed (o : Opening) (t : LeafTable) (p : ℕ) (s : State) (u : Table) (at after : WordLp) : Type 0 where
+  pub event_is : Event
+  pub next : next_event o s p ≡ Some event_is
+  pub stands : StandsOn o t p (event o s p) u after
+  pub more : List Made
+  pub bundles : (event o s p).world.outgoing.bundles ≡ added s.world.outgoing.bundles more
+  pub own_bundles : after.beside.bundles ≡ added at.beside.bundles more
+
 -- A processor at the first of its calls stands where the start of a run has it. From then on each turn of it is its next event,
 -- after which it stands where the state after that event has it.
 pub record ProcessorsFollow : Type 0 where
@@ -110,4 +124,4 @@ pub record ProcessorsFollow : Type 0 where
   pub runs : (o : Opening) (schedule : List ℕ) → length o.calls ≤ 8 → IsRunning o (reached o None schedule)
   pub follow : (o : Opening) (leaf : ℕ → LeafTable) (p : ℕ) (s : State) (t u : Table) (at after : WordLp) (e : RunEvent) (ps : List Piece)
       → AreLeaves o leaf → AreCodes o → IsRunning o s → p < s.lp_count → StandsOn o (leaf p) p s t at → LpTurns (leaf p) o.machine at e ps after → PlaysTo t (taken_in ps) u
-      → ((f : Event) × (next_event o s p ≡ Some f)) × StandsOn o (leaf p) p (event o s p) u after
+      → IsFollowed o (leaf p) p s u at after
