@@ -20,5 +20,6 @@ pub mod GuestThen
 pub mod GuestGoes
 pub mod Processing
 pub mod Making
+pub mod Grasp
 pub mod Doers
 pub mod Followed

@@ -12,7 +12,7 @@ use Rattle.flat_core.specs.Event.{State, Event, start, calls_of, next_event, eve
 use Rattle.flat_core.specs.Inside.{AreTimely}
 use Rattle.flat_core.specs.Laws.{reached}
 use Rattle.word_rules.specs.Cells.{Shows}
-use Rattle.lock_words.specs.Grips.{IsExclusive, locks_of}
+use Rattle.lock_words.specs.Grips.{IsExclusive, locks_of, lock_grip, grip_with, grip_of}
 use Rattle.step_core.specs.Items.{Table, PlaysTo}
 use Rattle.leaf_engine.specs.declared.events.Event.{Event as RunEvent}
 use Rattle.leaf_engine.specs.Facts.{Facts}
@@ -71,6 +71,8 @@ pub record Does (o : Opening) (t : LeafTable) (p : ℕ) (s : State) (mem : Memor
   pub at : LeafAt task s.world mem.words run progress
   pub waits : HasNoHasher run
   pub locks : locks_of (s.lps p) ≡ kept ++ progress.held
+  pub hold_is : lock_grip (progress.held ++ kept) ≡ lock_grip (locks_of (s.lps p))
+  pub grasp_is : grip_with s p (progress.held ++ kept) ≡ grip_of s p
   pub then_ : (u : Table) (e : RunEvent) (stands : Standing) (a : LeafAfter o task s progress u stands e)
       → LpStands o t p (event o s p).world a.mem.words ((event o s p).lps p) (after e stands)
   pub makes : (u : Table) (e : RunEvent) (stands : Standing) → LeafAfter o task s progress u stands e
