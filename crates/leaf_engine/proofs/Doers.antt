@@ -45,6 +45,8 @@ use Rattle.leaf_engine.proofs.GuestDoing.{level-fits, operation-is, doing}
 use Rattle.leaf_engine.proofs.GuestActs.{row-is}
 use Rattle.leaf_engine.proofs.GuestThen.{no-hasher}
 use Rattle.leaf_engine.proofs.GuestGoes.{table_of, operation-goes, access-goes, walk-goes, exit-goes}
+use Rattle.leaf_engine.proofs.Making.{adds-bundles}
+use Rattle.leaf_engine.proofs.Grasp.{hold-is, grasp-is}
 use Rattle.leaf_engine.proofs.Processing.{stage-position, gives-back, inside-of, outside-then, given-back-then}
 
 out-trying : (ph : Phase Reply) → out_phase ph ≡ Trying → ph ≡ Trying
@@ -103,6 +105,12 @@ module _ (o : Opening) (p : ℕ) (s : State) (mem : Memory) (c : Call) (cs : Lis
   number = length lp.replies + 1
 
   -- outside guests
+  locks-outside : lp.guest ≡ None → locks_of lp ≡ [] ++ lp.call.held
+  locks-outside none = ap (λ (z : Option Guest). lp.call.held ++ operation_locks z) none ∙ append-nil lp.call.held
+
+  locks-inside : (g : Guest) → lp.guest ≡ Some g → locks_of lp ≡ lp.call.held ++ g.operation.held
+  locks-inside g is = ap (λ (z : Option Guest). lp.call.held ++ operation_locks z) is
+
   outside : (run : Standing) → IsCallAt o (table.call c) row w mem.words lp run → HasNoHasher run
       → Does o table p s mem (table.call c) run (λ e stands. after_turn c cs (guest_after e stands.rest None) lp.replies (beside_after e stands.rest b) stands (last_reply stands.stage stands.held))
   outside run ca waits = record {
@@ -114,8 +122,11 @@ module _ (o : Opening) (p : ℕ) (s : State) (mem : Memory) (c : Call) (cs : Lis
     does = record { next = is-next o s p row (next_in (row.items w) lp.call.phase lp.call.held) inside (next-is o s p row lp.call.phase lp.call.held ca.line ca.guest refl refl); single = inl tt; maker = λ e. (ca.guest, refl) };
     at = record { stage = ca.stage; held = ca.held; told = ca.told };
     waits = waits;
-    locks = ap (λ (z : Option Guest). lp.call.held ++ operation_locks z) ca.guest ∙ append-nil lp.call.held;
+    locks = locks-outside ca.guest;
+    hold_is = hold-is s p [] lp.call.held (locks-outside ca.guest);
+    grasp_is = grasp-is s p [] lp.call.held (locks-outside ca.guest);
     then_ = λ u e stands a. outside-then o p s mem c cs trees steps kinds bs timely is-line u e stands ca.guest a;
+    makes = λ u e stands a. adds-bundles o (table.call c) s lp.call u stands e (inl tt) a;
   }
 
   -- in a guest
@@ -153,6 +164,7 @@ module _ (o : Opening) (p : ℕ) (s : State) (mem : Memory) (c : Call) (cs : Lis
         by (inl h) = (let no : true ≡ false = sym gives ∙ not-epoch h in cc)
         by (inr h) =
             let none : g.operation ≡ nothing_yet = ap (λ (z : Guest). z.operation) h.1 in
+            let locks : locks_of lp ≡ [] ++ lp.call.held = locks-inside g is-in ∙ (ap (λ (z : Progress (Option Outcome)). lp.call.held ++ z.held) none ∙ append-nil lp.call.held) in
             record {
               processor = refl;
               machine = refl;
@@ -170,8 +182,11 @@ module _ (o : Opening) (p : ℕ) (s : State) (mem : Memory) (c : Call) (cs : Lis
               };
               at = record { stage = subst (λ (z : Stage). IsStage m w z (Answered reply)) (sym answered-by) refl; held = held; told = λ z. absurd (not-trying z) };
               waits = λ z. absurd (not-trying z);
-              locks = ap (λ (z : Option Guest). lp.call.held ++ operation_locks z) is-in ∙ (ap (λ (z : Progress (Option Outcome)). lp.call.held ++ z.held) none ∙ append-nil lp.call.held);
+              locks = locks;
+              hold_is = hold-is s p [] lp.call.held locks;
+              grasp_is = grasp-is s p [] lp.call.held locks;
               then_ = λ u e stands a. given-back-then o p s mem c cs trees steps kinds bs timely is-line u e stands line reply g n is-in answered-by h.0 at-guest.trying none position a;
+              makes = λ u e stands a. adds-bundles o (table.call c) s (record { phase = Answered reply; held = lp.call.held }) u stands e (inl tt) a;
             }
 
     -- with E given back
@@ -263,6 +278,7 @@ module _ (o : Opening) (p : ℕ) (s : State) (mem : Memory) (c : Call) (cs : Lis
             let now : IsNow st ev = due-is o w lp g root index n run (operation-is o s p mem inside timely facts codes g is-in c at-guest n) in
             let it : RunOfStep (leaf st) w mem.words r g.operation = run-of (leaf st) w mem.words run g.operation at.operation in
             let position : w.vps.positions g.vp ≡ position_in n r.stage = at.position ∙ run-position (leaf st) n run in
+            let locks : locks_of lp ≡ lp.call.held ++ it.own.held = locks-inside g is-in ∙ ap (λ (z : Progress (Option Outcome)). lp.call.held ++ z.held) (sym it.is) in
             record {
               processor = refl;
               machine = refl;
@@ -273,8 +289,11 @@ module _ (o : Opening) (p : ℕ) (s : State) (mem : Memory) (c : Call) (cs : Lis
                   (rows g.tdr g.vp number st) it.single;
               at = record { stage = it.at.stage; held = it.at.held; told = it.at.told };
               waits = it.waits;
-              locks = ap (λ (z : Option Guest). lp.call.held ++ operation_locks z) is-in ∙ ap (λ (z : Progress (Option Outcome)). lp.call.held ++ z.held) (sym it.is);
+              locks = locks;
+              hold_is = hold-is s p lp.call.held it.own.held locks;
+              grasp_is = grasp-is s p lp.call.held it.own.held locks;
               then_ = λ u e stands a. step-then r position u e stands st ev refl now it a;
+              makes = λ u e stands a. adds-bundles o (leaf st) s it.own u stands e it.single a;
             }
 
     -- as its word guest has it

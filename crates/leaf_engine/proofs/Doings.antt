@@ -142,7 +142,7 @@ act-adds (meaning.OfAccess t v line access r gpa page) b l = (refl, refl)
 act-adds (meaning.OfWalk t v access gpa level page) b l = (refl, refl)
 act-adds (meaning.OfExit t v out) b l = (refl, refl)
 
-act-world : (k : Meaning) (w : World) → world_after (event_of k Succeeds) w ≡ (work_of k).act w
+pub act-world : (k : Meaning) (w : World) → world_after (event_of k Succeeds) w ≡ (work_of k).act w
 act-world (meaning.OfCall row) w = refl
 act-world (meaning.OfOperation t v row) w = refl
 act-world (meaning.OfAccess t v line access r gpa page) w = refl

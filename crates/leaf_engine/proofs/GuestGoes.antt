@@ -58,7 +58,7 @@ settle-more : (out : Option Outcome) (h : Held) (hs : List Held) (g : Guest) →
 settle-more None h hs g = refl
 settle-more (Some out) h hs g = refl
 
-world-same : (t v : ℕ) (row : OperationRow) (mv : Move Reply) (w : World) → work_world (work_of (meaning.OfOperation t v row)) mv w ≡ operation_world (row_then row mv) (out_move mv) w
+pub world-same : (t v : ℕ) (row : OperationRow) (mv : Move Reply) (w : World) → work_world (work_of (meaning.OfOperation t v row)) mv w ≡ operation_world (row_then row mv) (out_move mv) w
 world-same t v row (Attempts l m) w = refl
 world-same t v row (Undoes l) w = refl
 world-same t v row (Refuses r) w = refl

@@ -19,4 +19,7 @@ pub mod GuestActs
 pub mod GuestThen
 pub mod GuestGoes
 pub mod Processing
+pub mod Making
+pub mod Grasp
 pub mod Doers
+pub mod Followed

@@ -1,23 +1,30 @@
 -- A turn of a logical processor over words, of a call or in a guest, beside the flat machine: it is the turn of one leaf, and
 -- the processor's next event.
-use Rattle.std.specs.Prelude.{◌≡◌, ℕ, ◌<◌, Bool, true, false, Option, Some, None, List, ◌∷◌, ◌++◌}
+use Rattle.std.specs.Prelude.{◌≡◌, ℕ, ◌+◌, ◌<◌, ◌≤◌, ◌^◌, Bool, true, false, Option, Some, None, List, ◌∷◌, ◌++◌, length}
 use Rattle.td_words.specs.declared.calls.Call.{Call}
 use Rattle.td_words.specs.declared.replies.Reply.{Reply}
-use Rattle.flat_core.specs.Processor.{Held, Progress}
+use Rattle.mrtd_measure.specs.declared.measures.Measure.{Measure}
+use Rattle.flat_core.specs.World.{Made}
+use Rattle.flat_core.specs.Processor.{LockId, Held, Progress}
+use Rattle.flat_core.specs.Locks.{sharers, refusals}
 use Rattle.flat_core.specs.Opening.{Opening}
-use Rattle.flat_core.specs.Event.{State, event}
+use Rattle.flat_core.specs.Event.{State, Event, start, calls_of, next_event, event}
 use Rattle.flat_core.specs.Inside.{AreTimely}
-use Rattle.lock_words.specs.Grips.{locks_of}
-use Rattle.step_core.specs.Items.{Table}
+use Rattle.flat_core.specs.Laws.{reached}
+use Rattle.word_rules.specs.Cells.{Shows}
+use Rattle.lock_words.specs.Grips.{IsExclusive, locks_of, lock_grip, grip_with, grip_of}
+use Rattle.step_core.specs.Items.{Table, PlaysTo}
 use Rattle.leaf_engine.specs.declared.events.Event.{Event as RunEvent}
 use Rattle.leaf_engine.specs.Facts.{Facts}
 use Rattle.leaf_engine.specs.Changes.{Memory}
-use Rattle.leaf_engine.specs.Besides.{Beside, beside_after}
+use Rattle.leaf_engine.specs.Trees.{added}
+use Rattle.leaf_engine.specs.Besides.{Beside, beside_after, bundles_made}
 use Rattle.leaf_engine.specs.Means.{Task, MeansRow}
+use Rattle.leaf_engine.specs.Tables.{IsMemory}
 use Rattle.leaf_engine.specs.Turns.{Standing, last_reply}
 use Rattle.leaf_engine.specs.Guests.{WordGuest, guest_after, step_of, gives_epoch_back}
-use Rattle.leaf_engine.specs.OwnLists.{LeafTable, WordLp, running, step_leaf, after_turn, after_step}
-use Rattle.leaf_engine.specs.Merges.{AreLeaves, AreCodes}
+use Rattle.leaf_engine.specs.OwnLists.{Piece, taken_in, LeafTable, WordLp, first_lp, running, step_leaf, after_turn, after_step, LpTurns}
+use Rattle.leaf_engine.specs.Merges.{no_table, AreLeaves, AreCodes}
 use Rattle.leaf_engine.specs.Doing.{IsDoing, LeafAt, LeafAfter}
 use Rattle.leaf_engine.specs.Standing.{HasNoHasher, LpStands}
 
@@ -64,8 +71,12 @@ pub record Does (o : Opening) (t : LeafTable) (p : ℕ) (s : State) (mem : Memor
   pub at : LeafAt task s.world mem.words run progress
   pub waits : HasNoHasher run
   pub locks : locks_of (s.lps p) ≡ kept ++ progress.held
+  pub hold_is : lock_grip (progress.held ++ kept) ≡ lock_grip (locks_of (s.lps p))
+  pub grasp_is : grip_with s p (progress.held ++ kept) ≡ grip_of s p
   pub then_ : (u : Table) (e : RunEvent) (stands : Standing) (a : LeafAfter o task s progress u stands e)
       → LpStands o t p (event o s p).world a.mem.words ((event o s p).lps p) (after e stands)
+  pub makes : (u : Table) (e : RunEvent) (stands : Standing) → LeafAfter o task s progress u stands e
+      → (event o s p).world.outgoing.bundles ≡ added s.world.outgoing.bundles (bundles_made e stands.rest)
 
 -- So does each that stands, at a line.
 abbrev pub ProcessorsDo : Type 0
@@ -73,3 +84,46 @@ ProcessorsDo = (o : Opening) (leaf : ℕ → LeafTable) (p : ℕ) (s : State) (m
     → AreLeaves o leaf → AreCodes o → AreTimely o s → Facts s → p < s.lp_count → LpStands o (leaf p) p s.world mem.words (s.lps p) at → at.lines ≡ c ∷ cs
     → let task = task_at (leaf p) c at.guest at.run at.replies at.beside in
     Does o (leaf p) p s mem task (running task (run_at at.guest at.run)) (λ e stands. then_at (leaf p) c cs at.guest at.run at.replies at.beside e stands)
+
+-- the hasher in hand
+abbrev pub hasher_of : Option Standing → Option Measure
+hasher_of None = None
+hasher_of (Some r) = r.hasher
+
+abbrev pub hasher_at : WordLp → Option Measure
+hasher_at at = hasher_of (run_at at.guest at.run)
+
+-- the words and slots of a table show a state, in which processor p stands so
+pub record StandsOn (o : Opening) (t : LeafTable) (p : ℕ) (s : State) (table : Table) (at : WordLp) : Type 0 where
+  pub memory : Memory
+  pub is : IsMemory o.machine table (hasher_at at) memory
+  pub shows : Shows o.machine memory.words memory.slots s
+  pub stands : LpStands o t p s.world memory.words (s.lps p) at
+
+-- what is asked of a state: all of it is so in each that a run of at most eight processors reaches
+pub record IsRunning (o : Opening) (s : State) : Type 0 where
+  pub timely : AreTimely o s
+  pub exclusive : IsExclusive s
+  pub few_sharers : (l : LockId) → sharers s.lps s.lp_count l + refusals s.lps s.lp_count l + 1 < 2 ^ 63
+  pub nothing_to_tell : s.world.outgoing.to_tell ≡ None
+  pub facts : Facts s
+
+-- a turn of a processor was its next event: it stands where the state after that event has it, and the bundles made so far are
+-- those before and the turn's
+pub record IsFollowed (o : Opening) (t : LeafTable) (p : ℕ) (s : State) (u : Table) (at after : WordLp) : Type 0 where
+  pub event_is : Event
+  pub next : next_event o s p ≡ Some event_is
+  pub stands : StandsOn o t p (event o s p) u after
+  pub more : List Made
+  pub bundles : (event o s p).world.outgoing.bundles ≡ added s.world.outgoing.bundles more
+  pub own_bundles : after.beside.bundles ≡ added at.beside.bundles more
+
+-- A processor at the first of its calls stands where the start of a run has it. From then on each turn of it is its next event,
+-- after which it stands where the state after that event has it.
+pub record ProcessorsFollow : Type 0 where
+  pub does : ProcessorsDo
+  pub starts : (o : Opening) (t : LeafTable) (p : ℕ) → StandsOn o t p (start o None) no_table (first_lp (calls_of o.calls p))
+  pub runs : (o : Opening) (schedule : List ℕ) → length o.calls ≤ 8 → IsRunning o (reached o None schedule)
+  pub follow : (o : Opening) (leaf : ℕ → LeafTable) (p : ℕ) (s : State) (t u : Table) (at after : WordLp) (e : RunEvent) (ps : List Piece)
+      → AreLeaves o leaf → AreCodes o → IsRunning o s → p < s.lp_count → StandsOn o (leaf p) p s t at → LpTurns (leaf p) o.machine at e ps after → PlaysTo t (taken_in ps) u
+      → IsFollowed o (leaf p) p s u at after
