@@ -1,3 +1,5 @@
 pub mod Words
 pub mod MetadataTrees
 pub mod MetadataMeanings
+pub mod NamedTrees
+pub mod TrackedTrees
