@@ -12,7 +12,7 @@ use crate::leaves::Leaf;
 use crate::needs::{Hand, Need, Write};
 use arrayvec::ArrayVec;
 use mrtd_measure::Measure;
-use td_words::{LockName, Mode, Reply, Status, Value};
+use td_words::{EntryState, LockName, Mode, Reply, Status, Value};
 
 /// At most how many locks and loads a plan has.
 pub const ANSWERS: usize = 32;
@@ -40,6 +40,12 @@ pub struct Act {
     pub children: u64,
     /// The page that is filled with zeros before, where one is.
     pub cleared: Option<u16>,
+    /// The page that a secure EPT entry names.
+    pub named: u16,
+    /// The state of that entry, before.
+    pub state: EntryState,
+    /// TD_EPOCH, before.
+    pub epoch: u64,
 }
 
 impl Act {
@@ -50,6 +56,9 @@ impl Act {
         count: 0,
         children: 0,
         cleared: None,
+        named: 0,
+        state: EntryState::Free,
+        epoch: 0,
     };
 }
 

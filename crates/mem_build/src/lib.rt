@@ -5,7 +5,6 @@
 //! may use that each leaf is made for its call's row, and means that row.
 #![tactic(auto)]
 
-mod arguments;
 mod extensions;
 mod page_additions;
 mod page_augmentations;

@@ -1,10 +1,9 @@
 //! MEM.PAGE.AUG.
 
-use crate::arguments::{GPAS, is_aligned};
 use leaf_engine::{Act, Hand, Place, Plan, Stop, Told, Verdict, Write};
 use leaf_parts::{owner_word, raised, says_host};
 use sept_entry::Entry;
-use sept_parts::{Found, Modes, is_state_among, td_find};
+use sept_parts::{Found, GPAS, Modes, is_aligned, is_state_among, td_find};
 use sept_walk::index;
 use td_words::places::TDR_CHILDREN;
 use td_words::{

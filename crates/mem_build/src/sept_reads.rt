@@ -1,9 +1,8 @@
 //! MEM.SEPT.RD.
 
-use crate::arguments::{GPAS, TOP, is_aligned};
 use leaf_engine::{Act, Hand, Place, Plan, Stop, Told, Verdict, Write};
 use sept_entry::Entry;
-use sept_parts::{Modes, td_find};
+use sept_parts::{GPAS, Modes, TOP, is_aligned, td_find};
 use td_words::{EntryState, Mode, OpState, Status, Value};
 
 /// The operation states of a TD whose build or import has begun.

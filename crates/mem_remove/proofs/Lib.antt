@@ -1,0 +1,2 @@
+pub mod NamedDecided
+pub mod TrackedDecided

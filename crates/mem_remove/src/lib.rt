@@ -5,5 +5,8 @@
 #![tactic(auto)]
 
 mod metadata_reads;
+mod named_entries;
+mod tracked_blocks;
 
 pub use metadata_reads::Rdmd;
+pub use named_entries::Named;

@@ -10,8 +10,10 @@
 //! names it is stored (proofs/SeptPut.antt), and it is taken as the node there (proofs/Nodes.antt).
 #![tactic(auto)]
 
+mod arguments;
 mod entries;
 mod finds;
 
+pub use arguments::{GPAS, TOP, is_aligned, is_upper};
 pub use entries::{entry, entry_told, is_mapped_on, is_state_among, root_page, tree_lock};
 pub use finds::{Found, Modes, find, td_find, walk};

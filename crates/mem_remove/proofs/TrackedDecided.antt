@@ -1,0 +1,30 @@
+-- The decision whether a block at the epoch before TD_EPOCH is tracked.
+use Rattle.std.proofs.Common.{◌≡◌, ℕ, ◌+◌, ◌==◌, List, ◌∷◌, Result, Ok, Err}
+use Rattle.std.proofs.lemmas.Bool.{eq-eqb}
+use Rattle.td_words.specs.declared.refusals.Status.TheVariants.{TlbTrackingNotDone}
+use Rattle.leaf_engine.specs.declared.plans.Stop.{Stop}
+use Rattle.leaf_engine.specs.Trees.{Tree, needs}
+use Rattle.leaf_engine.specs.Decides.{Ending, Decides}
+use Rattle.leaf_parts.specs.Parts.{Goes}
+use Rattle.leaf_parts.proofs.Parts.{goes-stop, passes, refuses, Checked}
+use Rattle.mem_remove.specs.TrackedTrees.{blocked_told, previous_tree, tracked_tree}
+
+module _ (n tdcs page : ℕ) (before : List ℕ) (pamt epoch : ℕ) (left : List ℕ) (told : before ≡ pamt ∷ epoch ∷ left) (next : blocked_told pamt + 1 ≡ epoch) where
+  abbrev whole : (Unit {0} → Tree) → Tree
+  whole k = tracked_tree tdcs page (k tt)
+
+  abbrev counting : (ℕ → Tree) → Tree
+  counting k = previous_tree tdcs epoch k
+
+  abbrev none_left : Tree → ℕ → Tree
+  none_left k count = needs (count == 0) TlbTrackingNotDone k
+
+  behind : (k : Tree) (r : Result Ending Stop) → Decides n (counting (none_left k)) left r → Decides n (tracked_tree tdcs page k) before r
+  behind k r d = rw (told, eq-eqb (blocked_told pamt + 1) epoch next) d
+
+  pub uncounted : (after : List ℕ) (e : Stop) (r : Result (Unit {0}) Stop) → r ≡ Err e → Goes {A = ℕ} n counting left after (Err e) → Goes n whole before after r
+  uncounted after e r is g = goes-stop n whole before after r e is (λ k. behind (k tt) (Err e) (g (none_left (k tt))))
+
+  pub counted : (after : List ℕ) (count : ℕ) (r : Result (Unit {0}) Stop) → Goes {A = ℕ} n counting left after (Ok count) → Checked (count == 0) TlbTrackingNotDone r → Goes n whole before after r
+  counted after count (Ok u) g h = λ k r d. behind (k tt) r (g (none_left (k tt)) r (passes n (count == 0) TlbTrackingNotDone (k tt) after r h d))
+  counted after count (Err e) g h = λ k. behind (k tt) (Err e) (g (none_left (k tt)) (Err e) (refuses n (count == 0) TlbTrackingNotDone (k tt) after e h.0 h.1))
