@@ -11,3 +11,8 @@ pub mod AcceptTrees
 pub mod AcceptShows
 pub mod AcceptMeanings
 pub mod AcceptReach
+pub mod WalkTrees
+pub mod WalkMeanings
+pub mod ReachTrees
+pub mod ReachShows
+pub mod ReachMeanings

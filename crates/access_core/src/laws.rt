@@ -3,10 +3,14 @@
 ghost use Rattle.access_core.specs.OperationTrees.{AddMeans, SetMeans, SharedLoadMeans, SharedStoreMeans, VmcallMeans};
 ghost use Rattle.access_core.specs.RtmrTrees.{RtmrMeans};
 ghost use Rattle.access_core.specs.AcceptTrees.{AcceptMeans};
+ghost use Rattle.access_core.specs.WalkTrees.{WalksMean};
+ghost use Rattle.access_core.specs.ReachTrees.{AccessesMean};
 ghost use Rattle.access_core.specs.AcceptReach.{PendingIsUnreached, PendingMayBeFilled};
 
 /// The leaves of `set`, `add`, `vmcall` and `rtmr`, and of loads and stores of shared words, mean
-/// their rows; and so does the leaf of `accept` where the entry isn't PENDING.
+/// their rows; and so does the leaf of `accept` where the entry isn't PENDING. The leaf that loads
+/// an entry in a guest's walk (`walk`) means that event, and so does the leaf of an access to a
+/// private word through a cached translation (`access`).
 pub fn operations_mean()
     ensures set { SetMeans }
     ensures add { AddMeans }
@@ -15,6 +19,8 @@ pub fn operations_mean()
     ensures store { SharedStoreMeans }
     ensures rtmr { RtmrMeans }
     ensures accept { AcceptMeans }
+    ensures walk { WalksMean }
+    ensures access { AccessesMean }
 {}
 
 /// Nobody reaches the page of an entry whose guest hasn't accepted it (`reach`), so the rules let

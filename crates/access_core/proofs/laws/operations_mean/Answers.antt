@@ -1,6 +1,8 @@
 use Rattle.access_core.specs.OperationMeanings.{set-means, add-means, vmcall-means, shared_load-means, shared_store-means}
 use Rattle.access_core.specs.RtmrMeanings.{rtmr-means}
 use Rattle.access_core.specs.AcceptMeanings.{accept-means}
+use Rattle.access_core.specs.WalkMeanings.{walks-mean}
+use Rattle.access_core.specs.ReachMeanings.{accesses-mean}
 use Rattle.access_core.proofs.laws.operations_mean.Goals as goal
 
 pub returns-clause-set : goal.returns-clause-set
@@ -23,3 +25,9 @@ returns-clause-rtmr c = rtmr-means
 
 pub returns-clause-accept : goal.returns-clause-accept
 returns-clause-accept c = accept-means
+
+pub returns-clause-walk : goal.returns-clause-walk
+returns-clause-walk c = walks-mean
+
+pub returns-clause-access : goal.returns-clause-access
+returns-clause-access c = accesses-mean
