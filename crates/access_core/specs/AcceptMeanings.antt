@@ -1,5 +1,4 @@
--- The leaf that accepts a private page means its row where the entry isn't PENDING, and where the zeros of a PENDING page may be
--- stored before the act.
+-- The leaf that accepts a private page means its row.
 use Rattle.std.proofs.Common.{◌≡◌, ℕ, suc, ◌^◌, ◌<◌, ◌≤◌, Bool, true, false, not, ◌==◌, ◌||◌, ◌&&◌, List, [], ◌∷◌, ◌++◌, slice_index, refl, ap, sym, ◌∙◌, subst, inl, inr, lit<, arith, ◌⊎◌}
 use Rattle.std.proofs.lemmas.Bool.{eq-eqb, ne_eqb, lt-ltb}
 use Rattle.td_words.specs.declared.names.EntryState.{EntryState}
@@ -19,6 +18,7 @@ use Rattle.flat_core.specs.Row.{Item, Try}
 use Rattle.flat_core.specs.Tree.{entry_at, number_at, same_state, may_read, is_passed}
 use Rattle.flat_core.specs.Guest.{accept, accept_page, names_page, is_pending_at, unless_violated}
 use Rattle.flat_core.specs.Lawful.{Lawful, is_free, IsNodeOf}
+use Rattle.flat_core.specs.Access.{is_pending}
 use Rattle.flat_core.proofs.Maps.{not_free}
 use Rattle.flat_core.proofs.Tests.{by_test}
 use Rattle.sept_walk.specs.SecureEpt.{index_at, is_mapped_on}
@@ -29,10 +29,10 @@ use Rattle.word_rules.specs.Views.{no_page, named_by, look, of_entry}
 use Rattle.word_rules.specs.Cells.{Shows}
 use Rattle.lock_words.specs.Grips.{holds, holds_alone}
 use Rattle.lock_words.specs.LockWords.{tdcs_of}
-use Rattle.leaf_engine.specs.Facts.{GuestFits}
+use Rattle.leaf_engine.specs.Facts.{GuestFits, Facts}
 use Rattle.leaf_engine.specs.Trees.{Tree, Lock, done}
 use Rattle.leaf_engine.specs.Changes.{changed_all, Change, Clear, changed}
-use Rattle.leaf_engine.specs.Means.{Instant, Means, Work, work_of, OfOperation, IsAtOperation, hold, exit_item, LocksStay, MayChange, MayFill, MayFillAll}
+use Rattle.leaf_engine.specs.Means.{Instant, Means, Work, work_of, OfOperation, IsAtOperation, hold, grasp_of, exit_item, LocksStay, MayChangeBy, MayFill, MayFillAll}
 use Rattle.leaf_parts.specs.Words.{page_told}
 use Rattle.leaf_parts.proofs.Begun.{TwoControls, page-in, page_lock, holds-newest, alone-newest}
 use Rattle.leaf_parts.proofs.Checks.{tdr-load}
@@ -44,10 +44,11 @@ use Rattle.sept_parts.proofs.SeptBegun.{tree-lock-means, root-page-means, entry-
 use Rattle.sept_parts.specs.SeptTrees.{root_page_tree}
 use Rattle.access_core.specs.OperationTrees.{with_position, put_next, unless_violation}
 use Rattle.access_core.specs.VpShows.{passed-shown}
-use Rattle.access_core.specs.GuestWords.{held-under, kept-respects, vp-in, vp-writes, position-load, vp-owes}
+use Rattle.access_core.specs.GuestWords.{held-under, writes-beside, kept-respects, vp-in, vp-writes, position-load, vp-owes}
 use Rattle.access_core.specs.RtmrMeanings.{running-controls}
 use Rattle.word_rules.proofs.Conflicts.{respects-compose}
 use Rattle.act_rules.proofs.Respected.{effects-respect}
+use Rattle.access_core.specs.AcceptReach.{pending-may-be-filled}
 use Rattle.access_core.specs.AcceptShows.{accepted-shown}
 use Rattle.access_core.specs.AcceptTrees.{map_entry, or_violation, passed_tree, passed_walk, accepted, accept_held, accept_found, accept_at, accept_tree, AcceptMeans}
 
@@ -96,16 +97,17 @@ not-true : (b : Bool) → not b ≡ true → b ≡ false
 not-true false e = refl
 not-true true e = cc
 
--- the locks under which it ends: P of the page alone, over T
-abbrev accept_locks : World → (tdr gpa : ℕ) → List Held
-accept_locks w t gpa = page_lock (entry_at w t 0 gpa).page Exclusive ∷ tree_held t Shared ∷ []
+pending-waits : (s : EntryState) → same_state s entry.Pending ≡ true → is_pending s ≡ true
+pending-waits entry.Pending e = refl
+pending-waits entry.PendingBlocked e = refl
+pending-waits _ e = cc
 
 -- an entry that names a page and becomes MAPPED is lawful
 mapped-lawful : (p : ℕ) → p < 1024 → is_lawful_entry (record { state = entry.Mapped; page = p; mark = 0 }) ≡ true
 mapped-lawful p few = rw (lt-ltb p 1024 few) refl
 
 module _ (m : Machine) (c : Instant) (t v gpa : ℕ) (limit : m.pages ≤ 1024) (small : gpa < 2 ^ 47) (la : Lawful m c.state.world) (sh : Shows m c.memory.words c.memory.slots c.state) (fits : GuestFits c.state.world c.me c.kept t v) (starts : IsAtOperation c.state.world v)
-    (may_fill : is_pending_at c.state.world t gpa ≡ true → MayFill m (hold c (accept_locks c.state.world t gpa)) c.state.world (Clear (entry_at c.state.world t 0 gpa).page)) where
+    (facts : Facts c.state) where
   abbrev w : World
   w = c.state.world
 
@@ -143,15 +145,15 @@ module _ (m : Machine) (c : Instant) (t v gpa : ℕ) (limit : m.pages ≤ 1024) 
   -- what is to show of an end that makes this world
   record Ends (fills changes : List Change) (w' : World) : Type 0 where
     pub bundles_are : w'.outgoing.bundles ≡ w.outgoing.bundles
-    pub respects : Respects (hold c (both e.page)) w w'
+    pub respects : Respects (grasp_of c (both e.page)) w w'
     pub locks_stay : LocksStay w w' (both e.page)
     pub shows : (let mem = changed_all changes (changed_all fills c.memory) in Shows m mem.words mem.slots (record c.state { world = w' }))
-    pub changes_allowed : MayChange m (hold c (both e.page)) w w' (changed_all fills c.memory) changes
+    pub changes_allowed : MayChangeBy m (grasp_of c (both e.page)) (hold c (both e.page)) w w' (changed_all fills c.memory) changes
 
   act-is : (b : Bool) → is_pending_at w t gpa ≡ b → tell_words [] (pass_operation v (accept_page b t gpa w)) ≡ k.act w
   act-is b is = ap (λ (y : Bool). tell_words [] (pass_operation v (accept_page y t gpa w))) (sym is)
 
-  ended : (fills changes : List Change) → Ends fills changes (k.act w) → MayFillAll m (hold c (both e.page)) w fills → Means m c k (both e.page) (done fills changes) []
+  ended : (fills changes : List Change) → Ends fills changes (k.act w) → MayFillAll m (grasp_of c (both e.page)) w fills → Means m c k (both e.page) (done fills changes) []
   ended fills changes ends filled = (
     record {
       answers = record { reply_is = refl; cached_is = refl; enters_is = refl; notes_are = refl; tells_are = refl; bundles_are = ends.bundles_are };
@@ -169,7 +171,7 @@ module _ (m : Machine) (c : Instant) (t v gpa : ℕ) (limit : m.pages ≤ 1024) 
       let one = passed-shown m c.memory.words c.memory.slots c.state sh t v fits.alive.life fits.vp_page inside starts in
       record {
         bundles_are = refl;
-        respects = kept-respects (hold c (both e.page)) w (tell_words [] (pass_operation v w)) refl refl refl refl;
+        respects = kept-respects (grasp_of c (both e.page)) w (tell_words [] (pass_operation v w)) refl refl refl refl;
         locks_stay = ((refl, λ y. y), ((refl, λ y. record { alive = record { kind = y.alive.kind; life = y.alive.life }; has_tdcs = y.has_tdcs }), tt));
         shows = record { word = one.word; hasher = one.hasher };
         changes_allowed = (((inside, omega arith), (KeepsNothing, vp-writes m c t v la sh fits (both e.page) 4 refl, tt)), tt);
@@ -214,10 +216,10 @@ module _ (m : Machine) (c : Instant) (t v gpa : ℕ) (limit : m.pages ≤ 1024) 
     alone : holds_alone (both e.page ++ c.kept) (OfPage (named_by e)) ≡ true
     alone = subst (λ (p : ℕ). holds_alone (both e.page ++ c.kept) (OfPage p) ≡ true) (sym (named-page e full)) (alone-newest e.page (tree ++ c.kept))
 
-    respected : Respects (hold c (both e.page)) w w'
+    respected : Respects (grasp_of c (both e.page)) w w'
     respected =
         let named : World = set_entry t 0 (number_at 0 gpa) mapped w in
-        respects-compose.both (hold c (both e.page)) w named w' ((effects-respect (hold c (both e.page)) w).entry_state t 0 (number_at 0 gpa) mapped (sym (named-page e full))) (kept-respects (hold c (both e.page)) named w' refl refl refl refl)
+        respects-compose.both (grasp_of c (both e.page)) w named w' ((effects-respect (grasp_of c (both e.page)) w).entry_state t 0 (number_at 0 gpa) mapped (sym (named-page e full))) (kept-respects (grasp_of c (both e.page)) named w' refl refl refl refl)
 
     maps : Ends (Clear e.page ∷ []) changes w'
     maps = record {
@@ -226,13 +228,20 @@ module _ (m : Machine) (c : Instant) (t v gpa : ℕ) (limit : m.pages ≤ 1024) 
       locks_stay = ((refl, λ y. y), ((refl, λ y. record { alive = record { kind = y.alive.kind; life = y.alive.life }; has_tdcs = y.has_tdcs }), tt));
       shows = accepted-shown m c.memory c.state t v gpa at sh la fits.alive z small has its_node.page.kind fits.vp_page inside starts;
       changes_allowed = (
-        ((has.in_machine, split.index 0 gpa), (KeepsPage, named-writes m c t sh fits.alive z (both e.page) (both-locks e.page) gpa at small has alone, kept)),
+        ((has.in_machine, split.index 0 gpa), (KeepsPage, writes-beside c (both e.page) w (place.Word at (index_at 0 gpa)) KeepsPage (named-writes m c t sh fits.alive z (both e.page) (both-locks e.page) gpa at small has alone), kept)),
         (((inside, omega arith), (KeepsNothing, vp-owes m c t v la sh fits (both e.page) w' 4 (record { kind = fits.vp_page.kind; owner = fits.vp_page.owner }) refl, tt)), tt),
       );
     }
 
+    -- nobody reaches the page, so its zeros may be stored before the act
+    filled : is_pending_at w t gpa ≡ true → MayFill m (grasp_of c (both e.page)) w (Clear e.page)
+    filled pends = (
+      named-in m w t in_page limit la fits.alive 0 (number_at 0 gpa) full,
+      λ i b. pending-may-be-filled m c.state c.me t (number_at 0 gpa) (both e.page ++ c.kept) la facts fits.alive (pending-waits e.state pends) fits.running (both-locks e.page).tdr (both-locks e.page).op (alone-newest e.page (tree ++ c.kept)) i,
+    )
+
     maps-end : is_pending_at w t gpa ≡ true → Means m c k (both e.page) (accepted true v at (index_at 0 gpa) e.page (w.vps.positions v)) []
-    maps-end pends = ended (Clear e.page ∷ []) changes (subst (λ (y : World). Ends (Clear e.page ∷ []) changes y) (act-is true pends) maps) (may_fill pends, tt)
+    maps-end pends = ended (Clear e.page ∷ []) changes (subst (λ (y : World). Ends (Clear e.page ∷ []) changes y) (act-is true pends) maps) (filled pends, tt)
 
     accepted-end : Means m c k (both e.page) (accepted (is_pending_at w t gpa) v at (index_at 0 gpa) e.page (w.vps.positions v)) []
     accepted-end = by_test (is_pending_at w t gpa)
@@ -329,4 +338,4 @@ module _ (m : Machine) (c : Instant) (t v gpa : ℕ) (limit : m.pages ≤ 1024) 
       (subst (λ (p : ℕ). Means m c k [] (accept_at m t v gpa p) items) (sym told) at-means)
 
 pub accept-means : AcceptMeans
-accept-means p t v gpa limits small c at stays = accept-at p.machine c t v gpa limits.pages.1 small at.lawful at.shown at.maker.1.fits at.maker.2 (λ y. absurd (let no : true ≡ false = sym y ∙ stays in cc))
+accept-means p t v gpa limits small = record { means = λ c at. accept-at p.machine c t v gpa limits.pages.1 small at.lawful at.shown at.maker.1.fits at.maker.2 at.facts }

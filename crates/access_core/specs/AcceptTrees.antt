@@ -1,5 +1,5 @@
 -- The acceptance of a private page by a guest as a decision over the words that it is told.
-use Rattle.std.specs.Prelude.{◌≡◌, ℕ, ◌^◌, ◌<◌, Bool, true, false, not, ◌==◌, ◌||◌, [], ◌∷◌}
+use Rattle.std.specs.Prelude.{ℕ, ◌^◌, ◌<◌, Bool, true, false, not, ◌==◌, ◌||◌, [], ◌∷◌}
 use Rattle.td_words.specs.Limits.{IsMachine}
 use Rattle.td_words.specs.declared.names.Mode.TheVariants.{Shared, Exclusive}
 use Rattle.td_words.specs.declared.names.Access.TheVariants.{Write}
@@ -12,14 +12,14 @@ use Rattle.td_words.specs.Packing.{entry_word}
 use Rattle.td_words.specs.Place as place
 use Rattle.flat_core.specs.Processor.{OfPage}
 use Rattle.flat_core.specs.Tree.{same_state, may_read}
-use Rattle.flat_core.specs.Guest.{is_pending_at, accept}
+use Rattle.flat_core.specs.Guest.{accept}
 use Rattle.sept_walk.specs.SecureEpt.{index_at, is_mapped_on}
 use Rattle.word_rules.specs.Rules.{Whole, ThePage}
 use Rattle.word_rules.specs.Views.{no_page}
 use Rattle.leaf_engine.specs.declared.needs.Place.{Place}
 use Rattle.leaf_engine.specs.Changes.{Change, Put, Clear}
 use Rattle.leaf_engine.specs.Trees.{Tree, Lock, Load, done, answers}
-use Rattle.leaf_engine.specs.Means.{Instant, Task, Means, OfOperation, IsAt, work_of}
+use Rattle.leaf_engine.specs.Means.{Task, OfOperation, MeansRow}
 use Rattle.leaf_parts.specs.Words.{page_told}
 use Rattle.sept_parts.specs.SeptTrees.{tree_lock_tree, root_page_tree, entry_tree}
 use Rattle.access_core.specs.OperationTrees.{with_position, put_next, unless_violation}
@@ -65,8 +65,7 @@ accept_tree m t v gpa = Load Whole (place.Word t TDR_TDCS) (λ word. accept_at m
 abbrev pub accept_task : Place → (tdr vp gpa : ℕ) → Task
 accept_task p t v gpa = record { place = p; tree = accept_tree p.machine t v gpa; meaning = OfOperation t v (accept t v gpa) }
 
--- it means its row of a private GPA whose entry isn't PENDING. The zeros of a PENDING page are stored before the act where
--- nobody reaches the page (`AcceptReach`), which the locks of a leaf don't tell it
+-- it means its row of a private GPA. The zeros of a PENDING page are stored before the act, since nobody reaches the page
+-- (`AcceptReach`)
 abbrev pub AcceptMeans : Type 0
-AcceptMeans = (p : Place) (t v gpa : ℕ) → IsMachine p.machine → gpa < 2 ^ 47 → (c : Instant) → IsAt (accept_task p t v gpa) c → is_pending_at c.state.world t gpa ≡ false
-    → let k = work_of (accept_task p t v gpa).meaning in Means p.machine c k [] (accept_tree p.machine t v gpa) (k.items c.state.world)
+AcceptMeans = (p : Place) (t v gpa : ℕ) → IsMachine p.machine → gpa < 2 ^ 47 → MeansRow (accept_task p t v gpa)

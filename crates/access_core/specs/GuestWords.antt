@@ -3,23 +3,25 @@ use Rattle.std.proofs.Common.{◌≡◌, ℕ, ◌+◌, ◌<◌, Bool, true, fals
 use Rattle.td_words.specs.declared.names.PageKind.TheVariants as kind
 use Rattle.td_words.specs.declared.machines.Machine.{Machine}
 use Rattle.td_words.specs.declared.replies.Reply.{Reply}
+use Rattle.td_words.specs.Place.{WordPlace}
 use Rattle.td_words.specs.Place as place
 use Rattle.flat_core.specs.World.{World}
-use Rattle.flat_core.specs.Processor.{LockId, OfPage, OfOp, Held}
+use Rattle.flat_core.specs.Processor.{LockId, OfPage, OfOp, Held, Lp}
 use Rattle.flat_core.specs.Locks.{same_lock, is_alone}
 use Rattle.flat_core.specs.Row.{Item}
 use Rattle.flat_core.specs.Lawful.{Lawful, IsPageOf}
-use Rattle.word_rules.specs.Guards.{Grip}
-use Rattle.word_rules.specs.Rules.{Class, VcpuWord, Whole, KeepsNothing, reads, writes, owes}
-use Rattle.word_rules.specs.Spots.{spot, or_unused, vp_classes}
+use Rattle.flat_core.specs.Event.{State}
+use Rattle.word_rules.specs.Guards.{Grip, Guard, Locked, Reached, Written, Role, Want, Has, Sole, Clear, Rule, MeetsWant, MeetsAll, Meets}
+use Rattle.word_rules.specs.Rules.{Class, VcpuWord, Whole, Grade, KeepsNothing, reads, writes, owes}
+use Rattle.word_rules.specs.Spots.{spot, guard_at, or_unused, vp_classes}
 use Rattle.word_rules.specs.Lines.{in_lines}
 use Rattle.word_rules.specs.Permissions.{Reads, Writes, Owes, Respects}
 use Rattle.word_rules.specs.Cells.{Shows, IsAs}
-use Rattle.lock_words.specs.Grips.{holds, holds_alone}
+use Rattle.lock_words.specs.Grips.{holds, holds_alone, has_of, lock_has, lock_grip, grip_with}
 use Rattle.act_rules.proofs.Respected.{leaves, all-same}
 use Rattle.leaf_engine.specs.Facts.{GuestFits}
 use Rattle.leaf_engine.specs.Trees.{Tree}
-use Rattle.leaf_engine.specs.Means.{Instant, Work, Means, hold}
+use Rattle.leaf_engine.specs.Means.{Instant, Work, Means, hold, grasp_of}
 use Rattle.leaf_parts.proofs.Begun.{page-in}
 use Rattle.leaf_parts.proofs.Checks.{spot_of, at-spot}
 use Rattle.leaf_parts.proofs.Vps.{vp-shown, vp-spot}
@@ -48,6 +50,30 @@ held-of (h ∷ hs) l e = by (is_alone h.mode) (same_lock h.lock l) (holds_alone 
     by true false c d f e = f e
     by false true c d f e = refl
     by false false c d f e = f e
+
+-- what locks alone allow, they allow beside the cached translations of who holds them
+has-beside : (lp : Lp) (hs : List Held) (x : Guard) → lock_has hs x ≡ true → has_of lp hs x ≡ true
+has-beside lp hs (Locked l) e = e
+has-beside lp hs (Reached p) e = cc
+has-beside lp hs (Written p) e = cc
+
+module _ (s : State) (me : ℕ) (hs : List Held) (at : Role → Guard) where
+  want-beside : (x : Want) → MeetsWant (lock_grip hs) at x → MeetsWant (grip_with s me hs) at x
+  want-beside (Has r) e = has-beside (s.lps me) hs (at r) e
+  want-beside (Sole r) e = e
+  want-beside (Clear r) e = cc
+
+  all-beside : (xs : List Want) → MeetsAll (lock_grip hs) at xs → MeetsAll (grip_with s me hs) at xs
+  all-beside [] e = tt
+  all-beside (x ∷ xs) e = (want-beside x e.0, all-beside xs e.1)
+
+  meets-beside : (rule : Rule) → Meets (lock_grip hs) at rule → Meets (grip_with s me hs) at rule
+  meets-beside [] e = absurd e
+  meets-beside (xs ∷ rule) (inl e) = inl (all-beside xs e)
+  meets-beside (xs ∷ rule) (inr e) = inr (meets-beside rule e)
+
+pub writes-beside : (c : Instant) (hs : List Held) (w : World) (q : WordPlace) (k : Grade) → Writes (hold c hs) w q k → Writes (grasp_of c hs) w q k
+writes-beside c hs w q k may = meets-beside c.state c.me (hs ++ c.kept) (guard_at (spot w q)) (writes (spot w q).class k) may
 
 -- an act that leaves pages, TDs, keys and counts respects all that words are
 pub kept-respects : (g : Grip) (w w' : World) → w'.pages ≡ w.pages → w'.tds ≡ w.tds → w'.vps.entered ≡ w.vps.entered → w'.key_table ≡ w.key_table → Respects g w w'
@@ -79,8 +105,8 @@ module _ (m : Machine) (c : Instant) (t v : ℕ) (la : Lawful m c.state.world) (
     vp-reads i class = at-spot (hold c hs) w (place.Word v i) (spot_of VcpuWord t v) (λ z. reads z Whole) (vp-spot-is w i fits.vp_page class)
         (inr (inr (inl (tdr-held, (op-held, (held-of (hs ++ c.kept) (OfPage v) vp-alone, tt))))))
 
-    pub vp-writes : (i : ℕ) → or_unused (in_lines vp_classes i) ≡ VcpuWord → Writes (hold c hs) w (place.Word v i) KeepsNothing
-    vp-writes i class = at-spot (hold c hs) w (place.Word v i) (spot_of VcpuWord t v) (λ z. writes z KeepsNothing) (vp-spot-is w i fits.vp_page class)
+    pub vp-writes : (i : ℕ) → or_unused (in_lines vp_classes i) ≡ VcpuWord → Writes (grasp_of c hs) w (place.Word v i) KeepsNothing
+    vp-writes i class = at-spot (grasp_of c hs) w (place.Word v i) (spot_of VcpuWord t v) (λ z. writes z KeepsNothing) (vp-spot-is w i fits.vp_page class)
         (inr (inl (tdr-held, (op-held, (vp-alone, tt)))))
 
     pub vp-owes : (w' : World) (i : ℕ) → IsPageOf w'.pages t v kind.Tdvpr → or_unused (in_lines vp_classes i) ≡ VcpuWord → Owes (hold c hs) w' (place.Word v i) KeepsNothing

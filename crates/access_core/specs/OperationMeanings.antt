@@ -22,7 +22,7 @@ use Rattle.word_rules.specs.Rules.{Whole, KeepsNothing}
 use Rattle.word_rules.specs.Cells.{Shows}
 use Rattle.leaf_engine.specs.Facts.{GuestFits}
 use Rattle.leaf_engine.specs.Trees.{Tree, Load, End, acts}
-use Rattle.leaf_engine.specs.Means.{Instant, Means, Work, work_of, OfOperation, IsAtOperation, hold, exit_item}
+use Rattle.leaf_engine.specs.Means.{Instant, Means, Work, work_of, OfOperation, IsAtOperation, grasp_of, exit_item}
 use Rattle.leaf_parts.specs.Words.{says_host}
 use Rattle.leaf_parts.proofs.Begun.{page_lock, holds-newest}
 use Rattle.leaf_parts.proofs.Checks.{page-told}
@@ -47,7 +47,7 @@ module _ (m : Machine) (c : Instant) (t v : ℕ) (la : Lawful m c.state.world) (
         record {
           answers = record { reply_is = refl; cached_is = refl; enters_is = refl; notes_are = refl; tells_are = refl; bundles_are = refl };
           fills_allowed = tt;
-          respects = kept-respects (hold c []) w w' refl refl refl refl;
+          respects = kept-respects (grasp_of c []) w w' refl refl refl refl;
           locks_stay = tt;
           shows = record { word = two.word; hasher = two.hasher };
         },
@@ -76,7 +76,7 @@ module _ (m : Machine) (c : Instant) (t v : ℕ) (la : Lawful m c.state.world) (
         record {
           answers = record { reply_is = rw none refl; cached_is = refl; enters_is = refl; notes_are = refl; tells_are = rw none refl; bundles_are = refl };
           fills_allowed = tt;
-          respects = kept-respects (hold c []) w w' refl refl refl refl;
+          respects = kept-respects (grasp_of c []) w w' refl refl refl refl;
           locks_stay = tt;
           shows = record { word = one.word; hasher = one.hasher };
         },
@@ -119,7 +119,7 @@ module _ (m : Machine) (c : Instant) (t v : ℕ) (la : Lawful m c.state.world) (
         record {
           answers = record { reply_is = refl; cached_is = refl; enters_is = refl; notes_are = refl; tells_are = refl; bundles_are = refl };
           fills_allowed = tt;
-          respects = kept-respects (hold c hs) w w' refl refl refl refl;
+          respects = kept-respects (grasp_of c hs) w w' refl refl refl refl;
           locks_stay = ((refl, λ y. y), tt);
           shows = record { word = two.word; hasher = two.hasher };
         },
@@ -158,7 +158,7 @@ module _ (m : Machine) (c : Instant) (t v : ℕ) (la : Lawful m c.state.world) (
         record {
           answers = record { reply_is = rw none refl; cached_is = refl; enters_is = refl; notes_are = refl; tells_are = rw none refl; bundles_are = refl };
           fills_allowed = tt;
-          respects = kept-respects (hold c hs) w w' refl refl refl refl;
+          respects = kept-respects (grasp_of c hs) w w' refl refl refl refl;
           locks_stay = ((refl, λ y. y), tt);
           shows = rw none (record { word = two.word; hasher = two.hasher });
         },

@@ -23,7 +23,7 @@ use Rattle.lock_words.specs.Grips.{holds, holds_alone}
 use Rattle.lock_words.specs.LockWords.{tdcs_of}
 use Rattle.leaf_engine.specs.Facts.{GuestFits}
 use Rattle.leaf_engine.specs.Trees.{Tree, Load}
-use Rattle.leaf_engine.specs.Means.{Instant, Means, Work, work_of, OfOperation, IsAtOperation, hold}
+use Rattle.leaf_engine.specs.Means.{Instant, Means, Work, work_of, OfOperation, IsAtOperation, hold, grasp_of}
 use Rattle.leaf_parts.specs.Words.{page_told}
 use Rattle.leaf_parts.proofs.Begun.{TwoControls, two-controls}
 use Rattle.leaf_parts.proofs.Checks.{spot_of, at-tdcs, tdr-load, tdcs-load}
@@ -79,8 +79,11 @@ module _ (m : Machine) (c : Instant) (t v line i : ℕ) (few : i < 4) (la : Lawf
   may_load : MayAt (hold c hs) (spot_of RtmrWord t z.tdcs) (λ x. reads x Whole)
   may_load = inr (inr (inl (fits.tdr_held, (fits.op_held, (held, tt)))))
 
-  may_store : MayAt (hold c hs) (spot_of RtmrWord t z.tdcs) (λ x. writes x KeepsNothing)
+  may_store : MayAt (grasp_of c hs) (spot_of RtmrWord t z.tdcs) (λ x. writes x KeepsNothing)
   may_store = inr (inr (inl (fits.tdr_held, (fits.op_held, (alone, tt)))))
+
+  may_owe : MayAt (hold c hs) (spot_of RtmrWord t z.tdcs) (λ x. owes x KeepsNothing)
+  may_owe = inr (inr (inl (fits.tdr_held, (fits.op_held, (alone, tt)))))
 
   -- a word of the RTMR is loaded, and stored
   rtmr-load : (n : ℕ) → n < 6 → (f : ℕ → Tree) → Means m c k hs (f (w.hidden.rtmrs t (6 * i + n))) [] → Means m c k hs (Load Whole (rtmr_at z.tdcs i n) f) []
@@ -88,8 +91,8 @@ module _ (m : Machine) (c : Instant) (t v line i : ℕ) (few : i < 4) (la : Lawf
       tdcs-load m c k hs sh t (16 + (6 * i + n)) (w.hidden.rtmrs t (6 * i + n)) fits.alive z (omega (arith, few, small)) (rtmr-line w (lock_word c.state.lps c.state.lp_count) t (6 * i + n) (omega (arith, few, small)))
       (rw (rtmr-class (is_current w t) (is_empty w t) (6 * i + n) (omega (arith, few, small))) may_load) f [] h
 
-  rtmr-writes : (n : ℕ) → n < 6 → Writes (hold c hs) w (rtmr_at z.tdcs i n) KeepsNothing
-  rtmr-writes n small = at-tdcs (hold c hs) w t z.tdcs (16 + (6 * i + n)) (z.root ∷ []) (λ x. writes x KeepsNothing) z.list z.tdcs_page
+  rtmr-writes : (n : ℕ) → n < 6 → Writes (grasp_of c hs) w (rtmr_at z.tdcs i n) KeepsNothing
+  rtmr-writes n small = at-tdcs (grasp_of c hs) w t z.tdcs (16 + (6 * i + n)) (z.root ∷ []) (λ x. writes x KeepsNothing) z.list z.tdcs_page
       (rw (rtmr-class (is_current w t) (is_empty w t) (6 * i + n) (omega (arith, few, small))) may_store)
 
   abbrev w' : World
@@ -97,7 +100,7 @@ module _ (m : Machine) (c : Instant) (t v line i : ℕ) (few : i < 4) (la : Lawf
 
   rtmr-owes : (n : ℕ) → n < 6 → Owes (hold c hs) w' (rtmr_at z.tdcs i n) KeepsNothing
   rtmr-owes n small = at-tdcs (hold c hs) w' t z.tdcs (16 + (6 * i + n)) (z.root ∷ []) (λ x. owes x KeepsNothing) z.list (record { kind = z.tdcs_page.kind; owner = z.tdcs_page.owner })
-      (rw (rtmr-class (is_current w' t) (is_empty w' t) (6 * i + n) (omega (arith, few, small))) may_store)
+      (rw (rtmr-class (is_current w' t) (is_empty w' t) (6 * i + n) (omega (arith, few, small))) may_owe)
 
   rtmr-in : (n : ℕ) → n < 6 → 16 + (6 * i + n) < 512
   rtmr-in n small = omega (arith, few, small)
@@ -109,7 +112,7 @@ module _ (m : Machine) (c : Instant) (t v line i : ℕ) (few : i < 4) (la : Lawf
         record {
           answers = record { reply_is = refl; cached_is = refl; enters_is = refl; notes_are = refl; tells_are = refl; bundles_are = refl };
           fills_allowed = tt;
-          respects = kept-respects (hold c hs) w w' refl refl refl refl;
+          respects = kept-respects (grasp_of c hs) w w' refl refl refl refl;
           locks_stay = ((refl, λ y. record { alive = record { kind = y.alive.kind; life = y.alive.life }; has_tdcs = y.has_tdcs }), tt);
           shows = record { word = all.word; hasher = all.hasher };
         },

@@ -7,10 +7,10 @@ ghost use Rattle.access_core.specs.WalkTrees.{WalksMean};
 ghost use Rattle.access_core.specs.ReachTrees.{AccessesMean};
 ghost use Rattle.access_core.specs.AcceptReach.{PendingIsUnreached, PendingMayBeFilled};
 
-/// The leaves of `set`, `add`, `vmcall` and `rtmr`, and of loads and stores of shared words, mean
-/// their rows; and so does the leaf of `accept` where the entry isn't PENDING. The leaf that loads
-/// an entry in a guest's walk (`walk`) means that event, and so does the leaf of an access to a
-/// private word through a cached translation (`access`).
+/// The leaves of `set`, `add`, `vmcall`, `rtmr` and `accept`, and of loads and stores of shared
+/// words, mean their rows. The leaf that loads an entry in a guest's walk (`walk`) means that
+/// event, and so does the leaf of an access to a private word through a cached translation
+/// (`access`).
 pub fn operations_mean()
     ensures set { SetMeans }
     ensures add { AddMeans }

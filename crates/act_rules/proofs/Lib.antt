@@ -1,3 +1,4 @@
 pub mod Stored
 pub mod Respected
 pub mod Rows
+pub mod GuestActs

@@ -102,20 +102,16 @@ entry-page w t level number e u n k =
 entry-td : (w : World) (t level number : ℕ) (e : Entry) (u : ℕ) → ((n : ℕ) → (u == t) ≡ true → (0 == level && n == number) ≡ true → named_by e ≡ named_by (w.tds.entries u 0 n)) → SameTd w (set_entry t level number e w) u
 entry-td w t level number e u k = record { op = refl; controls = refl; epoch = refl; empty = λ b. refl; named = λ n. entry-page w t level number e u n (k n) }
 
+-- one that names the same page as before
+pub entry-same : (w : World) (t level number : ℕ) (e : Entry) → named_by e ≡ named_by (w.tds.entries t level number) → (u : ℕ) → SameTd w (set_entry t level number e w) u
+entry-same w t level number e h u = entry-td w t level number e u (λ n y z.
+    let a : u ≡ t = eqb-true u t y in
+    let b : 0 ≡ level = eqb-true 0 level (and_parts (0 == level) (n == number) z).0 in
+    let c : n ≡ number = eqb-true n number (and_parts (0 == level) (n == number) z).1 in h ∙ rw (a, ← b, c) refl)
+
 entry-state : (g : Grip) (w : World) (t level number : ℕ) (e : Entry) → named_by e ≡ named_by (w.tds.entries t level number) → Respects g w (set_entry t level number e w)
 entry-state g w t level number e h =
-    leaves g w (set_entry t level number e w) (record {
-      kinds = refl;
-      owners = refl;
-      levels = refl;
-      numbers = refl;
-      tds = λ u. entry-td w t level number e u (λ n y z.
-          let a : u ≡ t = eqb-true u t y in
-          let b : 0 ≡ level = eqb-true 0 level (and_parts (0 == level) (n == number) z).0 in
-          let c : n ≡ number = eqb-true n number (and_parts (0 == level) (n == number) z).1 in h ∙ rw (a, ← b, c) refl);
-    })
-    (λ k. refl)
-    refl
+    leaves g w (set_entry t level number e w) (record { kinds = refl; owners = refl; levels = refl; numbers = refl; tds = entry-same w t level number e h }) (λ k. refl) refl
 
 -- what may be moved under these locks, kind by kind
 module _ (g : Grip) (w w' : World) (t p i : ℕ) where

@@ -211,7 +211,7 @@ ends-with m c k hs n (End a fs cs) reply (inl co) g =
 ends-with m c k hs n (End a fs cs) reply (inr co) g =
     let e : a.reply ≡ reply = cc in
     record {
-      inside = fills-in m (hold c hs) c.state.world fs cs co.1.fills_allowed (act-in m (k.grasp c hs) (hold c hs) c.state.world (k.act c.state.world) (changed_all fs c.memory) cs co.2);
+      inside = fills-in m (k.grasp c hs) c.state.world fs cs co.1.fills_allowed (act-in m (k.grasp c hs) (hold c hs) c.state.world (k.act c.state.world) (changed_all fs c.memory) cs co.2);
       kept = refl;
       ends = inr (co.0, e, co.1.answers, shows-append m c k fs cs co.1.shows, co.1.locks_stay);
     }

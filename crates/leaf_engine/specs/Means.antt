@@ -79,11 +79,12 @@ pub record Instant : Type 0 where
 abbrev pub hold : Instant → List Held → Grip
 hold c hs = lock_grip (hs ++ c.kept)
 
--- and, at that instant, by its cached translations as well
+-- and, at that instant, by what is cached as well: its own translations, and that no other's reach a page
 abbrev pub grasp_of : Instant → List Held → Grip
 grasp_of c hs = grip_with c.state c.me (hs ++ c.kept)
 
--- what there is to do: a row, with what it makes of its processor besides its reply
+-- what there is to do: a row, with what it makes of its processor besides its reply, and what its act and the stores before
+-- it are guarded by
 pub record Work : Type 0 where
   pub items : World → List (Item Reply)
   pub act : World → World
@@ -125,7 +126,7 @@ work_of (OfOperation t v row) = record {
   enters = None;
   notes = row.notes;
   tells = row.tells;
-  grasp = hold;
+  grasp = grasp_of;
 }
 -- what an access answers: the word
 work_of (OfAccess t v line access r gpa page) =
@@ -249,7 +250,7 @@ pub record AnswersAs (k : Work) (w : World) (a : Answer) : Type 0 where
 -- the changes are allowed, and are the act
 pub record Acts (m : Machine) (c : Instant) (k : Work) (hs : List Held) (answer : Answer) (fills changes : List Change) : Type 0 where
   pub answers : AnswersAs k c.state.world answer
-  pub fills_allowed : MayFillAll m (hold c hs) c.state.world fills
+  pub fills_allowed : MayFillAll m (k.grasp c hs) c.state.world fills
   pub respects : Respects (k.grasp c hs) c.state.world (k.act c.state.world)
   pub locks_stay : LocksStay c.state.world (k.act c.state.world) hs
   pub shows : let mem = changed_all changes (changed_all fills c.memory) in Shows m mem.words mem.slots (acted k c.state)

@@ -8,7 +8,7 @@ use Rattle.flat_core.specs.Effects.{add_bundle, tell_words}
 use Rattle.word_rules.specs.Guards.{Grip}
 use Rattle.word_rules.specs.Permissions.{Respects}
 use Rattle.word_rules.proofs.Conflicts.{respects-compose}
-use Rattle.leaf_engine.specs.Means.{hold}
+use Rattle.leaf_engine.specs.Means.{hold, grasp_of}
 use Rattle.leaf_trials.specs.Trials.{EnteringMeans, MakingMeans, TellingMeans}
 
 pub entering-means : EnteringMeans
@@ -61,7 +61,7 @@ telling-means p t v line gpa x = record {
     record {
       answers = record { reply_is = refl; cached_is = refl; enters_is = refl; notes_are = refl; tells_are = refl; bundles_are = refl };
       fills_allowed = tt;
-      respects = told-respects (hold c []) c.state.world (x ∷ []);
+      respects = told-respects (grasp_of c []) c.state.world (x ∷ []);
       locks_stay = tt;
       shows = record { word = at.shown.word; hasher = at.shown.hasher };
     },
