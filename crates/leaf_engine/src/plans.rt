@@ -33,7 +33,8 @@ pub struct Act {
     pub page: u16,
     /// The HKID that the TDR page tells.
     pub hkid: u64,
-    /// How many pages or virtual processors the TD has of a kind, before.
+    /// How many pages or virtual processors the TD has of a kind, before; where a guest is entered or
+    /// left, the epoch of that entry.
     pub count: u64,
     /// The child count, before.
     pub children: u64,
