@@ -145,7 +145,7 @@ module _ (o : Opening) (me t v : ℕ) (g : Grip) (w : World) (la : Lawful o.mach
   zeros-stored : (gpa : ℕ) → is_pending_at w t gpa ≡ true → g.sole (Locked (OfPage (entry_at w t 0 gpa).page)) ≡ true → NoneReachesPending g w t → MayStore g w (then_passed t v w (accept_page true t gpa w))
   zeros-stored gpa y alone none q j =
       let e : Entry = entry_at w t 0 gpa in
-      let its = (la.tree.leaf t (number_at 0 gpa) (occupied-alive w me t v has.occupied) (pending-used e.state y)).1.page in
+      let its = (la.tree.lowest t (number_at 0 gpa) (occupied-alive w me t v has.occupied) (pending-used e.state y)).1.page in
       by_test (q == e.page)
       (λ z. inr (inr (subst (λ (n : ℕ). Fills g w (Word n j)) (sym (eqb-true q e.page z))
       (word-filled e.page j (record { kind = its.kind; owner = its.owner }) alone (none (number_at 0 gpa) (pending-is e.state y))))))
