@@ -15,6 +15,7 @@ use Rattle.flat_core.specs.Locks.{one_if}
 use Rattle.flat_core.specs.Tree.{page_of_gpa, number_at, entry_at, same_state, may_read, may_write, allows}
 use Rattle.flat_core.specs.Guest.{goes_on, cached_after}
 use Rattle.flat_core.specs.Lawful.{Lawful, IsNodeOf, is_free}
+use Rattle.flat_core.proofs.Maps.{not_free}
 use Rattle.sept_walk.specs.SecureEpt.{index_at}
 use Rattle.sept_walk.proofs.Meets.{split}
 use Rattle.word_rules.specs.Guards.{Grip, Locked}
@@ -31,7 +32,7 @@ use Rattle.leaf_parts.proofs.Begun.{TwoControls, page-in}
 use Rattle.sept_parts.specs.SeptPages.{HasEntry}
 use Rattle.sept_parts.proofs.SeptTold.{named_at, said, entry-spot}
 use Rattle.access_core.specs.RtmrMeanings.{running-controls}
-use Rattle.access_core.specs.WalkTrees.{may_write_by, allows_by, goes_on_by, page_by, translation_by, walked, walk_tree, WalksMean}
+use Rattle.access_core.specs.WalkTrees.{may_write_by, allows_by, goes_on_by, page_by, translation_by, walked, walk_tree, WalksMean, WalksAreTold}
 
 -- what a load tells of an entry is what the entry says
 bit-back : (b : Bool) → (one_if b == 1) ≡ b
@@ -90,19 +91,22 @@ module _ (e : Entry) where
       ap (λ (p : ℕ). record { tdr = t; gpa_page = page_of_gpa gpa; page = p; may_write = may_write_by (rights_by e) }) (named-by full)
       ∙ ap (λ (b : Bool). record { tdr = t; gpa_page = page_of_gpa gpa; page = e.page; may_write = b }) writes-by
 
-cached-same : (b : Bool) (level : ℕ) (x y : Translation) → (b ≡ true → level ≡ 0 → x ≡ y) → cached_after b level x ≡ cached_after b level y
+gone-full : (access : Access) (level : ℕ) (e : Entry) → goes_on access level e ≡ true → is_free e.state ≡ false
+gone-full access zero e goes = allowed-full access e.state goes
+gone-full access (suc l) e goes = not_free e.state goes
+
+pub walks-are-told : WalksAreTold
+walks-are-told access level e = (goes-on-by e access level, λ goes. named-by e (gone-full access level e goes))
+
+cached-same : (b : Bool) (level : ℕ) (x y : Translation) → (b ≡ true → x ≡ y) → cached_after b level x ≡ cached_after b level y
 cached-same false level x y h = refl
-cached-same true zero x y h = ap (λ (z : Translation). cached_after true zero z) (h refl refl)
+cached-same true zero x y h = ap (λ (z : Translation). cached_after true zero z) (h refl)
 cached-same true (suc l) x y h = refl
 
-module _ (access : Access) (level gpa t : ℕ) (e : Entry) where
-  allowed-entry : goes_on access level e ≡ true → level ≡ 0 → is_free e.state ≡ false
-  allowed-entry goes low = allowed-full access e.state (subst (λ (l : ℕ). goes_on access l e ≡ true) low goes)
-
-  cached-is : (walked t access gpa level (rights_by e)).cached ≡ cached_by access level gpa t e
-  cached-is =
-      ap (λ (b : Bool). cached_after b level (translation_by t gpa (rights_by e))) (goes-on-by e access level)
-      ∙ cached-same (goes_on access level e) level (translation_by t gpa (rights_by e)) (cached e t gpa) (λ goes low. translation-by e t gpa (allowed-entry goes low))
+cached-is : (access : Access) (level gpa t : ℕ) (e : Entry) → (walked t access gpa level (rights_by e)).cached ≡ cached_by access level gpa t e
+cached-is access level gpa t e =
+    ap (λ (b : Bool). cached_after b level (translation_by t gpa (rights_by e))) (goes-on-by e access level)
+    ∙ cached-same (goes_on access level e) level (translation_by t gpa (rights_by e)) (cached e t gpa) (λ goes. translation-by e t gpa (gone-full access level e goes))
 
 -- an entry's page and rights may be seen by whoever holds P of the TDR page and O, in a TD that runs
 module _ (g : Grip) (w : World) (t page named : ℕ) (tdr : g.has (Locked (OfPage t)) ≡ true) (op : g.has (Locked (OfOp t)) ≡ true) (runs : runs_in (w.tds.ops t) ≡ true) where

@@ -1,16 +1,18 @@
 -- The load of an entry in a guest's walk as a decision over its word: one load, which is the act.
-use Rattle.std.specs.Prelude.{ℕ, zero, suc, ◌/◌, ◌%◌, ◌^◌, ◌<◌, ◌≤◌, Bool, ◌==◌, None, []}
+use Rattle.std.specs.Prelude.{◌≡◌, ℕ, zero, suc, ◌/◌, ◌%◌, ◌^◌, ◌<◌, ◌≤◌, Bool, true, ◌==◌, None, []}
 use Rattle.td_words.specs.declared.names.Access.{Access}
 use Rattle.td_words.specs.declared.names.Access.TheVariants.{Read, Write}
 use Rattle.td_words.specs.declared.replies.Value.TheVariants as value
 use Rattle.td_words.specs.declared.replies.Reply.TheVariants.{Done}
 use Rattle.td_words.specs.Limits.{IsMachine}
+use Rattle.td_words.specs.Packing.{Entry}
 use Rattle.td_words.specs.Place as place
 use Rattle.flat_core.specs.Processor.{Translation}
 use Rattle.flat_core.specs.Tree.{page_of_gpa}
-use Rattle.flat_core.specs.Guest.{cached_after}
+use Rattle.flat_core.specs.Guest.{goes_on, cached_after}
 use Rattle.sept_walk.specs.SecureEpt.{index_at}
 use Rattle.word_rules.specs.Rules.{TheRights}
+use Rattle.word_rules.specs.Views.{rights_by}
 use Rattle.leaf_engine.specs.declared.needs.Place.{Place}
 use Rattle.leaf_engine.specs.Trees.{Answer, Tree, Load, Since}
 use Rattle.leaf_engine.specs.Means.{Task, OfWalk, MeansRow}
@@ -55,3 +57,7 @@ walk_task p t v access gpa level page = record { place = p; tree = walk_tree t a
 -- it means that event of the guest's walk of a private GPA
 abbrev pub WalksMean : Type 0
 WalksMean = (p : Place) (t v : ℕ) (access : Access) (gpa level page : ℕ) → IsMachine p.machine → gpa < 2 ^ 47 → level ≤ 3 → MeansRow (walk_task p t v access gpa level page)
+
+-- and of each entry that number tells whether the guest's walk goes on there, and where it does, to which page
+abbrev pub WalksAreTold : Type 0
+WalksAreTold = (access : Access) (level : ℕ) (e : Entry) → (goes_on_by access level (rights_by e) ≡ goes_on access level e) × (goes_on access level e ≡ true → page_by (rights_by e) ≡ e.page)

@@ -3,14 +3,14 @@
 ghost use Rattle.access_core.specs.OperationTrees.{AddMeans, SetMeans, SharedLoadMeans, SharedStoreMeans, VmcallMeans};
 ghost use Rattle.access_core.specs.RtmrTrees.{RtmrMeans};
 ghost use Rattle.access_core.specs.AcceptTrees.{AcceptMeans};
-ghost use Rattle.access_core.specs.WalkTrees.{WalksMean};
+ghost use Rattle.access_core.specs.WalkTrees.{WalksMean, WalksAreTold};
 ghost use Rattle.access_core.specs.ReachTrees.{AccessesMean};
 ghost use Rattle.access_core.specs.AcceptReach.{PendingIsUnreached, PendingMayBeFilled};
 
 /// The leaves of `set`, `add`, `vmcall`, `rtmr` and `accept`, and of loads and stores of shared
 /// words, mean their rows. The leaf that loads an entry in a guest's walk (`walk`) means that
-/// event, and so does the leaf of an access to a private word through a cached translation
-/// (`access`).
+/// event, and its answer tells how the walk goes on (`told`). The leaf of an access to a private
+/// word through a cached translation means that event (`access`).
 pub fn operations_mean()
     ensures set { SetMeans }
     ensures add { AddMeans }
@@ -21,6 +21,7 @@ pub fn operations_mean()
     ensures accept { AcceptMeans }
     ensures walk { WalksMean }
     ensures access { AccessesMean }
+    ensures told { WalksAreTold }
 {}
 
 /// Nobody reaches the page of an entry whose guest hasn't accepted it (`reach`), so the rules let

@@ -1,7 +1,7 @@
 use Rattle.access_core.specs.OperationMeanings.{set-means, add-means, vmcall-means, shared_load-means, shared_store-means}
 use Rattle.access_core.specs.RtmrMeanings.{rtmr-means}
 use Rattle.access_core.specs.AcceptMeanings.{accept-means}
-use Rattle.access_core.specs.WalkMeanings.{walks-mean}
+use Rattle.access_core.specs.WalkMeanings.{walks-mean, walks-are-told}
 use Rattle.access_core.specs.ReachMeanings.{accesses-mean}
 use Rattle.access_core.proofs.laws.operations_mean.Goals as goal
 
@@ -31,3 +31,6 @@ returns-clause-walk c = walks-mean
 
 pub returns-clause-access : goal.returns-clause-access
 returns-clause-access c = accesses-mean
+
+pub returns-clause-told : goal.returns-clause-told
+returns-clause-told c = walks-are-told
