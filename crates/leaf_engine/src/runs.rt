@@ -1,7 +1,7 @@
 //! Runs of leaves, event by event.
 
 ghost use Rattle.std.specs.Prelude.{◌≡◌, ◌≤◌, ◌<◌, ◌==◌, ℕ, [], ◌∷◌, ◌++◌, length, None, true, false, if◌then◌else◌};
-ghost use Rattle.leaf_engine.specs.declared.events.Stage.TheVariants.{Trying};
+ghost use Rattle.leaf_engine.specs.declared.events.Stage.TheVariants.{Trying, Answered};
 ghost use Rattle.leaf_engine.specs.Trees.{settle};
 ghost use Rattle.leaf_engine.specs.Turns.{standing, CanRun, IsFresh, Turned, Went, GaveBack, AreIn, TriedOnce, has_ended, busy, last_reply, denied};
 ghost use Rattle.leaf_engine.specs.Guests.{is_epoch_name, gives_epoch_back};
@@ -66,6 +66,14 @@ impl<L: Leaf> Run<L> {
         ensures { result ≡ gives_epoch_back self.now.held.items }
     {
         gives_epoch_back(self.held.as_slice())
+    }
+
+    /// Answers this from now on, as VP.ENTER does once its guest is left.
+    pub fn answer(&mut self, reply: Reply)
+        ensures leaf { self.new.leaf ≡ self.old.leaf }
+        ensures stands { standing (L.rest self.new.leaf) self.new.stage self.new.held.items self.new.hasher ≡ standing (L.rest self.old.leaf) (Answered reply) self.old.held.items self.old.hasher }
+    {
+        self.stage = Stage::Answered(reply);
     }
 
     /// The leaf, as it now is.
