@@ -1,10 +1,10 @@
-//! The leaf of each call.
+//! The leaf of each call, and of each step of a guest.
 
-ghost use Rattle.std.specs.Prelude.{◌≡◌, true};
+ghost use Rattle.std.specs.Prelude.{◌≡◌, ◌<◌, true};
 ghost use Rattle.td_words.specs.Limits.{IsMachine};
 ghost use Rattle.leaf_engine.specs.Turns.{IsFresh};
 ghost use Rattle.leaf_dispatch.specs.Plans.{plan_task};
-ghost use Rattle.leaf_dispatch.specs.Table.{has_leaf, task_of};
+ghost use Rattle.leaf_dispatch.specs.Table.{task_of};
 
 use crate::plans::AnyPlan;
 use access_core::{HostRead, HostWrite};
@@ -15,9 +15,9 @@ use mem_remove::Rdmd;
 use mrtd_measure::Measure;
 use td_control::{AddCx, Create, Finalize, Init, KeyConfig, Rd};
 use td_words::Call;
-use vcpu_control::{VpCreate, VpInit};
+use vcpu_control::{Enter, VpCreate, VpInit};
 
-/// A leaf of any call that is built: one that goes by a plan of any call, or MR.EXTEND's.
+/// A leaf of any call that is built, or of any step of a guest: one that goes by a plan, or MR.EXTEND's.
 #[derive(Drop)]
 pub enum AnyLeaf {
     ByPlan(Planned<AnyPlan>),
@@ -71,10 +71,9 @@ fn by_plan(plan: AnyPlan) -> AnyLeaf
     AnyLeaf::ByPlan(Planned::new(plan))
 }
 
-/// The leaf of a call at a place, which has done nothing yet. VP.ENTER has none.
+/// The leaf of a call at a place, which has done nothing yet.
 pub fn leaf_of(place: Place, call: &Call) -> AnyLeaf
     requires machine { IsMachine place.machine }
-    requires leaf { has_leaf call.now ≡ true }
     ensures task { ⟦<AnyLeaf as Leaf>⟧.task result ≡ task_of place call.now }
     ensures fresh { let leaf = ⟦<AnyLeaf as Leaf>⟧ in IsFresh (leaf.task result).tree (leaf.rest result) (leaf.tries result) (leaf.written result) (leaf.waits result) }
 {
@@ -106,7 +105,7 @@ pub fn leaf_of(place: Place, call: &Call) -> AnyLeaf
         Call::VpInit { tdr, vp, value } => {
             by_plan(AnyPlan::VpInit(VpInit::plan(place, tdr, vp, value)))
         }
-        Call::VpEnter { .. } => unreachable!(),
+        Call::VpEnter { tdr, vp, max } => by_plan(AnyPlan::Enter(Enter::plan(place, tdr, vp, max))),
         Call::MemSeptAdd {
             tdr,
             gpa,
