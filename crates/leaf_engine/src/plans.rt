@@ -34,10 +34,12 @@ pub struct Act {
     /// The HKID that the TDR page tells.
     pub hkid: u64,
     /// How many pages or virtual processors the TD has of a kind, before; where a guest is entered or
-    /// left, the epoch of that entry.
+    /// left, the epoch of that entry; of a guest's operation, its position.
     pub count: u64,
     /// The child count, before.
     pub children: u64,
+    /// The page that is filled with zeros before, where one is.
+    pub cleared: Option<u16>,
 }
 
 impl Act {
@@ -47,6 +49,7 @@ impl Act {
         hkid: 0,
         count: 0,
         children: 0,
+        cleared: None,
     };
 }
 
