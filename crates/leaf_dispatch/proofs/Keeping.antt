@@ -1,5 +1,5 @@
 -- What a turn leaves of a run.
-use Rattle.std.proofs.Common.{◌≡◌, ◌∙◌, false, List, [], ◌∷◌, Option, Some, None, refl, ap, sym, subst}
+use Rattle.std.proofs.Common.{◌≡◌, ◌∙◌, false, List, [], ◌∷◌, Option, Some, None, refl, ap, sym, subst, arith}
 use Rattle.td_words.specs.declared.machines.Machine.{Machine}
 use Rattle.td_words.specs.declared.calls.Call.{Call}
 use Rattle.td_words.specs.declared.replies.Reply.{Reply}
@@ -10,13 +10,14 @@ use Rattle.leaf_engine.specs.declared.events.RunTurn.{RunTurn}
 use Rattle.leaf_engine.specs.declared.events.Stage.{Stage}
 use Rattle.leaf_engine.specs.declared.events.Stage.TheVariants as stages
 use Rattle.leaf_engine.specs.Means.{Task}
-use Rattle.leaf_engine.specs.Turns.{Standing, CanRun, Turned, has_ended, last_reply}
+use Rattle.leaf_engine.specs.Trees.{Tree, settle}
+use Rattle.leaf_engine.specs.Turns.{Standing, standing, CanRun, Turned, has_ended, last_reply}
 use Rattle.leaf_dispatch.specs.Leaves.{leaf_seen}
-use Rattle.leaf_dispatch.specs.Answers.{Ends, call_ends, act_of, FewTries, FitsStage, OldestIsOther}
+use Rattle.leaf_dispatch.specs.Answers.{Ends, EndsAs, BeginsUnderOther, call_ends, act_of, FewTries, FitsStage, OldestIsOther}
 use Rattle.leaf_dispatch.specs.Running.{standing_of, run_seen, kept_after, turn_of, act_in, IsUnderWay, IsRunOf, IsRunAt, IsKept, CanTurn, HasTurned, LeafTurned}
 use Rattle.leaf_dispatch.specs.declared.running.Running.{Running}
 use Rattle.leaf_dispatch.specs.declared.running.LeafTurn.{LeafTurn}
-use Rattle.leaf_dispatch.proofs.Lowering.{Gives, turn-gives}
+use Rattle.leaf_dispatch.proofs.Lowering.{ends-fed, other-settled, Gives, turn-gives}
 
 -- a run that goes on has something left to do
 pub goes-on : (s : Stage) (held : List HeldLock) → last_reply s held ≡ None → has_ended s held ≡ false
@@ -83,3 +84,28 @@ pub no-run-at : (m : Machine) (lines : List Call) (kept : Option Running) → ru
 no-run-at m [] kept e = tt
 no-run-at m (c ∷ cs) None e = tt
 no-run-at m (c ∷ cs) (Some r) e = cc
+
+-- in a machine that is the bench's
+
+pub can-turn-at : (m n : Machine) (e : Ends) (s : Standing) (kept : Option Running) → n ≡ m → IsKept n e s kept → CanTurn m kept
+can-turn-at m n e s kept at k = subst (λ (z : Machine). CanTurn z kept) at (can-turn n e s kept k)
+
+pub turned-at : {B : Type 0} (did : List Taken → B → Type 0) (bench : B) (m n : Machine) (e : Ends) (s : Standing) (kept kept' : Option Running) (result : LeafTurn) → n ≡ m → IsKept n e s kept
+    → ((f : Ends) (x : Standing) → IsKept m f x kept → LeafTurned did m f x bench kept' result) → LeafTurned did n e s bench kept' result
+turned-at did bench m n e s kept kept' result at k h = subst (λ (z : Machine). LeafTurned did z e s bench kept' result) (sym at) (h e s (subst (λ (z : Machine). IsKept z e s kept) at k))
+
+-- a run at its first event
+
+pub begun : (m : Machine) (e : Ends) (tree : Tree) (r : Running) → (leaf_seen r.run.leaf).task.place.machine ≡ m → (leaf_seen r.run.leaf).task.tree ≡ tree
+    → CanRun m (standing_of r) (leaf_seen r.run.leaf).tries (leaf_seen r.run.leaf).written (leaf_seen r.run.leaf).waits → standing_of r ≡ standing (settle (leaf_seen r.run.leaf).task.tree) stages.Trying [] None
+    → EndsAs e e.tries tree → BeginsUnderOther tree → IsUnderWay m e r
+begun m e tree r machine is can at ends other =
+    let start : standing_of r ≡ standing (settle tree) stages.Trying [] None = at ∙ ap (λ (t : Tree). standing (settle t) stages.Trying [] None) is in
+    record {
+      machine = machine;
+      can_run = can;
+      going = subst (λ (z : Standing). has_ended z.stage z.held ≡ false) (sym start) refl;
+      few_tries = subst (λ (z : Standing). FewTries e z) (sym start) (omega arith, λ st. ends-fed e e.tries tree [] ends);
+      fits = subst (λ (z : Standing). FitsStage e z.stage) (sym start) tt;
+      oldest = subst (λ (z : Standing). OldestIsOther z.held z) (sym start) (λ st. other-settled tree other);
+    }

@@ -227,7 +227,7 @@ act-gives e t0 t held h h' reply room a o none = record {
   act = λ r is. same-reply e t0 t held h h' reply r is (record { on = refl; fits = a.fits; stage = refl; held = refl; few = room; under_other = λ z. sym (ap (λ (y : Answer). y.enters) a.answer) ∙ none z });
   lower = λ k. omega arith;
   used = λ two. (omega (arith, two), omega (arith, two));
-  once = λ n on. (reply, (refl, held-none held (omega (arith, n))));
+  once = λ n on. (reply, refl, held-none held (omega (arith, n)));
 }
   where
     held-none : (hs : List HeldLock) → length hs ≤ 0 → last_reply (stages.Answered reply) hs ≡ Some reply

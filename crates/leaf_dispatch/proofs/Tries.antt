@@ -36,18 +36,19 @@ use Rattle.leaf_parts.specs.declared.vp_words.VpWord.{VpWord}
 use Rattle.leaf_parts.specs.Words.{says_host, page_told, vps_told}
 use Rattle.leaf_parts.specs.Vps.{vps_from}
 use Rattle.access_core.specs.HostTrees.{read_word}
-use Rattle.access_core.specs.OperationTrees.{with_notes}
-use Rattle.access_core.specs.AcceptTrees.{or_violation, accepted}
-use Rattle.access_core.specs.RtmrTrees.{with_words, extension}
+use Rattle.access_core.specs.OperationTrees.{with_notes, with_position}
+use Rattle.access_core.specs.AcceptTrees.{or_violation, passed_tree, accepted, accept_found}
+use Rattle.access_core.specs.RtmrTrees.{with_words, rtmr_at, register_at, extension, extended, extend_held}
 use Rattle.access_core.specs.WalkTrees.{goes_on_by, page_by}
 use Rattle.access_core.specs.WalkMeanings.{walks-are-told}
 use Rattle.key_table.specs.CacheTrees.{mark_keys}
 use Rattle.key_table.specs.FlushTrees.{flush_counted, flush_vps}
 use Rattle.key_table.specs.ReclaimTrees.{reclaim_rest}
 use Rattle.td_control.specs.FinalTrees.{ready_vp, final_changes}
-use Rattle.sept_walk.specs.SecureEpt.{index_at}
+use Rattle.sept_walk.specs.SecureEpt.{index_at, is_mapped_on}
 use Rattle.sept_parts.specs.declared.finds.Found.{Found}
 use Rattle.sept_parts.specs.SeptTrees.{walk_on_tree, find_tree, state_tree}
+use Rattle.sept_parts.specs.SeptWords.{entry_told}
 use Rattle.mem_build.specs.SeptAddTrees.{sept_add_rest}
 use Rattle.mem_build.specs.PageAugTrees.{page_aug_rest}
 use Rattle.mem_build.specs.PageAddTrees.{page_add_tree, pages_tree, addition_end}
@@ -195,7 +196,10 @@ begins_other p (call.MngCreate tdr hkid) = refl
 begins_other p (call.MngKeyConfig tdr) = refl
 begins_other p (call.MngAddcx tdr page) = refl
 begins_other p (call.MngInit tdr) = refl
-begins_other p (call.MngRd tdr field) = refl
+begins_other p (call.MngRd tdr field.Life) = refl
+begins_other p (call.MngRd tdr field.Op) = refl
+begins_other p (call.MngRd tdr field.Epoch) = refl
+begins_other p (call.MngRd tdr field.Mrtd) = refl
 begins_other p (call.MngVpflushdone tdr) = refl
 begins_other p (call.MngKeyFreeid tdr) = refl
 begins_other p (call.MrFinalize tdr) = refl
@@ -215,6 +219,10 @@ or-ends : (e : Ends) (n gpa : ℕ) (b : Bool) (t : Tree) → only (Exited (EptVi
 or-ends e n gpa true t h f i g few = few
 or-ends e n gpa false t h f i g few = (h, f, λ y. (i, g))
 
+passed-ends : (e : Ends) (n pages gpa page level : ℕ) (further : ℕ → Tree) → only (Exited (EptViolation gpa Write)) ≡ e.answer (Exited (EptViolation gpa Write)) → e.fits (Exited (EptViolation gpa Write)) ≡ true → only (Done value.Nothing) ≡ e.answer (Done value.Nothing) → e.fits (Done value.Nothing) ≡ true
+    → ((q : ℕ) → EndsAs e n (further q)) → EndsAs e n (passed_tree pages gpa page level further)
+passed-ends e n pages gpa page level further h f i g few = λ word. or-ends e n gpa (is_mapped_on (entry_told pages word)) (further (entry_told pages word).page) h f i g (few (entry_told pages word).page)
+
 accepted-ends : (e : Ends) (n : ℕ) (b : Bool) (v at i p position : ℕ) → only (Done value.Nothing) ≡ e.answer (Done value.Nothing) → e.fits (Done value.Nothing) ≡ true → EndsAs e n (accepted b v at i p position)
 accepted-ends e n true v at i p position h f = (h, f)
 accepted-ends e n false v at i p position h f = (h, f)
@@ -222,6 +230,12 @@ accepted-ends e n false v at i p position h f = (h, f)
 with-ends : (e : Ends) (n : ℕ) (at : ℕ → WordPlace) (from left : ℕ) (k : List ℕ → Tree) → ((xs : List ℕ) → EndsAs e n (k xs)) → EndsAs e n (with_words at from left k)
 with-ends e n at from zero k few = few []
 with-ends e n at from (suc left) k few = λ x. with-ends e n at (from + 1) left (λ xs. k (x ∷ xs)) (λ xs. few (x ∷ xs))
+
+rtmr-ends : (e : Ends) (v line i d : ℕ) → ((old registers : List ℕ) → let a = with_notes (Done (value.Digest (digest_bytes (six_words (extension old registers))))) (RtmrNote line i (six_words (extension old registers)) ∷ []) [] in (a ≡ e.answer a.reply) × (e.fits a.reply ≡ true))
+    → EndsAs e 1 (extend_held v line i d)
+rtmr-ends e v line i d h =
+    with-ends e 1 (rtmr_at d i) 0 6 (λ old. with_words (register_at v) 0 6 (λ registers. with_position v (λ at. extended v line d i at (extension old registers))))
+    (λ old. with-ends e 1 (register_at v) 0 6 (λ registers. with_position v (λ at. extended v line d i at (extension old registers))) (λ registers. λ at. h old registers))
 
 page-small : (b : Bool) (x e : Entry) → x.page < 65536 → (if b then Some x else None) ≡ Some e → e.page < 65536
 page-small true x e small is = (let same : x ≡ e = cc in subst (λ (z : Entry). z.page < 65536) same small)
@@ -253,15 +267,16 @@ step_ends_as p t v line (Operates (op.Load r gpa)) = (refl, refl, λ y. (omega a
 step_ends_as p t v line (Operates (op.Store r gpa)) = (refl, refl, λ y. (omega arith, λ pamt. (refl, refl, λ z. λ at x. (refl, refl))))
 step_ends_as p t v line (Operates (op.Accept gpa)) =
     let e : Ends = step_ends t line (Operates (op.Accept gpa)) in
-    λ word. (omega arith, λ root.
-    λ a. or-ends e 1 gpa _ _ refl refl refl refl (λ b. or-ends e 1 gpa _ _ refl refl refl refl (λ c. or-ends e 1 gpa _ _ refl refl refl refl
-    (λ page. (refl, refl, λ y. (omega arith, λ entry. (refl, refl, λ z. λ n. accepted-ends e 0 _ v _ _ _ n refl refl)))))))
+    λ word. (omega arith, λ root. passed-ends e 1 p.machine.pages gpa _ 3 (λ q. passed_tree p.machine.pages gpa q 2 (λ r. passed_tree p.machine.pages gpa r 1 (accept_found p.machine v gpa))) refl refl refl refl
+    (λ q. passed-ends e 1 p.machine.pages gpa q 2 (λ r. passed_tree p.machine.pages gpa r 1 (accept_found p.machine v gpa)) refl refl refl refl
+    (λ r. passed-ends e 1 p.machine.pages gpa r 1 (accept_found p.machine v gpa) refl refl refl refl
+    (λ at. λ page. (refl, refl, λ y. (omega arith, λ entry. (refl, refl, λ z. λ n. accepted-ends e 0 _ v at _ _ n refl refl)))))))
 step_ends_as p t v line (Operates (op.Rtmr i)) =
     let e : Ends = step_ends t line (Operates (op.Rtmr i)) in
-    λ word. (omega arith, with-ends e 1 _ 0 6 _ (λ old. with-ends e 1 _ 0 6 _ (λ registers. λ at. (
+    λ word. (omega arith, rtmr-ends e v line i (page_told p.machine.pages word) (λ old registers. (
       ap (λ (bytes : List ℕ). with_notes (Done (value.Digest (digest_bytes (six_words (extension old registers))))) (RtmrNote line i (six_words (digest_word bytes)) ∷ []) []) (sym (digest_read (digest_bytes old ++ digest_bytes registers))),
       refl,
-    ))))
+    )))
 step_ends_as p t v line (Operates (op.Vmcall r)) = λ at x. (refl, refl)
 step_ends_as p t v line (Accesses Read r gpa page) = λ at x. (refl, refl)
 step_ends_as p t v line (Accesses Write r gpa page) = λ at x. (refl, refl)

@@ -33,7 +33,7 @@ pub record LineMoved {B : Type 0} (did : List Taken → B → Type 0) (bench : B
   pub turn : LineTurn (task_of p) p.machine c cs run g rs b result.event pieces q
 
 -- what is left of it afterwards, by the replies of its act and of its last event
-pub after_line : Call → List Call → Option WordGuest → List Reply → Beside → Standing → LeafTurn → WordLp
+abbrev pub after_line : Call → List Call → Option WordGuest → List Reply → Beside → Standing → LeafTurn → WordLp
 after_line c cs g rs b s t = after_turn c cs (guest_by (call_answer c) t.act g) rs (beside_by (call_answer c) t.act b) s t.reply
 
 pub line-moves : TurnsInPieces → {B : Type 0} (did : List Taken → B → Type 0) (bench : B) (p : Place) (c : Call) (cs : List Call) (run : Option Standing) (g : Option WordGuest) (rs : List Reply) (b : Beside) (kept : Option Running) (q : WordLp) (result : LeafTurn)

@@ -1,5 +1,5 @@
 -- What contracts see of a plan of any call, and of any step of a guest.
-use Rattle.std.specs.Prelude.{ℕ, ◌+◌, ◌%◌, ◌^◌, ◌==◌, ◌&&◌, not, nat_lt, nat_le, Bool, true, false, List, [], ◌∷◌, length, slice_index}
+use Rattle.std.specs.Prelude.{ℕ, ◌+◌, ◌%◌, ◌^◌, ◌==◌, ◌&&◌, not, nat_lt, nat_le, Bool, true, false, List, [], ◌∷◌, length, drop, slice_index}
 use Rattle.td_words.specs.declared.names.LifeState.TheVariants as life
 use Rattle.td_words.specs.Packing.{Unassigned, FlushedOf}
 use Rattle.td_words.specs.Place.{Word}
@@ -14,11 +14,15 @@ use Rattle.flat_core.specs.Tree.{word_of_gpa}
 use Rattle.flat_core.specs.Guest.{shared_page}
 use Rattle.access_core.specs.HostTrees.{host_read_task, host_write_task}
 use Rattle.access_core.specs.OperationTrees.{put_register, put_next, set_task, add_task as sum_task, vmcall_task, shared_load_task, shared_store_task}
+use Rattle.access_core.specs.AcceptTrees.{accept_changes, is_cleared_in, accept_task}
+use Rattle.access_core.specs.RtmrTrees.{rtmr_changes, rtmr_task}
 use Rattle.access_core.specs.ReachTrees.{access_task}
 use Rattle.access_core.specs.WalkTrees.{walk_task}
 use Rattle.vcpu_control.specs.EnterTrees.{enter_changes, vp_enter_task}
 use Rattle.vcpu_control.specs.ExitTrees.{exit_changes, exit_task}
 use Rattle.access_core.specs.OperationMeanings.{set-means, add-means as sum-means, vmcall-means, shared_load-means, shared_store-means}
+use Rattle.access_core.specs.AcceptMeanings.{accept-means}
+use Rattle.access_core.specs.RtmrMeanings.{rtmr-means}
 use Rattle.access_core.specs.ReachMeanings.{accesses-mean}
 use Rattle.access_core.specs.WalkMeanings.{walks-mean}
 use Rattle.vcpu_control.specs.EnterMeans.{entry-means}
@@ -85,6 +89,8 @@ plan_task (plan.Enter l) = vp_enter_task l.place l.tdr l.vp l.most
 plan_task (plan.Exit l) = exit_task l.place l.tdr l.vp l.outcome
 plan_task (plan.Set l) = set_task l.place l.tdr l.vp l.register l.value
 plan_task (plan.Sum l) = sum_task l.place l.tdr l.vp l.register l.other
+plan_task (plan.Rtmr l) = rtmr_task l.place l.tdr l.vp l.line l.index
+plan_task (plan.Accept l) = accept_task l.place l.tdr l.vp l.gpa
 plan_task (plan.Vmcall l) = vmcall_task l.place l.tdr l.vp l.register
 plan_task (plan.SharedLoad l) = shared_load_task l.place l.tdr l.vp l.line l.register l.gpa
 plan_task (plan.SharedStore l) = shared_store_task l.place l.tdr l.vp l.register l.gpa
@@ -117,6 +123,8 @@ plan_changes (plan.Enter l) told a = enter_changes a.page l.place.lp l.vp a.coun
 plan_changes (plan.Exit l) told a = exit_changes a.page a.count
 plan_changes (plan.Set l) told a = put_register l.vp l.register l.value ∷ put_next l.vp (slice_index told 0) ∷ []
 plan_changes (plan.Sum l) told a = put_register l.vp l.register ((slice_index told 1 + slice_index told 2) % 2 ^ 64) ∷ put_next l.vp (slice_index told 0) ∷ []
+plan_changes (plan.Rtmr l) told a = rtmr_changes l.vp l.index a.page a.count (drop 2 told)
+plan_changes (plan.Accept l) told a = accept_changes l.vp l.gpa a.page a.count a.cleared
 plan_changes (plan.Vmcall l) told a = put_next l.vp (slice_index told 0) ∷ []
 plan_changes (plan.SharedLoad l) told a = put_register l.vp l.register (slice_index told 3) ∷ put_next l.vp (slice_index told 2) ∷ []
 plan_changes (plan.SharedStore l) told a = Put (Word (shared_page l.gpa) (word_of_gpa l.gpa)) (slice_index told 3) ∷ put_next l.vp (slice_index told 2) ∷ []
@@ -152,6 +160,8 @@ plan_shown (plan.Enter l) told a = is_page l.place l.vp && is_page l.place a.pag
 plan_shown (plan.Exit l) told a = is_page l.place a.page
 plan_shown (plan.Set l) told a = true
 plan_shown (plan.Sum l) told a = true
+plan_shown (plan.Rtmr l) told a = is_page l.place a.page && nat_le 15 (length told)
+plan_shown (plan.Accept l) told a = is_page l.place a.page && is_cleared_in l.place.machine.pages a.cleared
 plan_shown (plan.Vmcall l) told a = true
 plan_shown (plan.SharedLoad l) told a = true
 plan_shown (plan.SharedStore l) told a = is_page l.place (shared_page l.gpa)
@@ -184,6 +194,8 @@ plans-mean (plan.Enter l) = entry-means l.place l.tdr l.vp l.most l.few_pages
 plans-mean (plan.Exit l) = exit-means l.place l.tdr l.vp l.outcome
 plans-mean (plan.Set l) = set-means l.place l.tdr l.vp l.register l.value l.few
 plans-mean (plan.Sum l) = sum-means l.place l.tdr l.vp l.register l.other l.few l.other_few
+plans-mean (plan.Rtmr l) = rtmr-means l.place l.tdr l.vp l.line l.index l.few
+plans-mean (plan.Accept l) = accept-means l.place l.tdr l.vp l.gpa l.machine l.private
 plans-mean (plan.Vmcall l) = vmcall-means l.place l.tdr l.vp l.register l.few
 plans-mean (plan.SharedLoad l) = shared_load-means l.place l.tdr l.vp l.line l.register l.gpa l.few
 plans-mean (plan.SharedStore l) = shared_store-means l.place l.tdr l.vp l.register l.gpa l.few

@@ -122,7 +122,7 @@ fn next_private(
 ) -> Step
     requires low { IsLow guest.now.walk }
     requires inside { (register < 8) × (is_private gpa ≡ true) }
-    ensures step { (run : Option Standing) → step_seen result ≡ private_step (guest_seen guest.now run) access register gpa (look_up cached.now guest.tdr (page_of_gpa gpa) access) }
+    ensures step { (run : Option Standing) → step_seen result ≡ private_step (guest_seen guest.now run) access register gpa (look_up cached.now guest.now.tdr (page_of_gpa gpa) access) }
     ensures inside { IsStepOf (step_seen result) }
 {
     match cached.look_up(guest.tdr, gpa, access) {
@@ -149,12 +149,12 @@ fn next_private(
 
 /// What becomes of the guest once a step has its reply; none where it was left.
 pub fn step_on<'a>(guest: GuestAt<'a>, step: Step, reply: Reply) -> Option<GuestAt<'a>>
-    requires counted { CanCount guest (step_seen step) }
+    requires counted { CanCount guest.entry (step_seen step) }
     requires fits { IsReplyOf (step_seen step) reply }
-    requires low { IsLow guest.walk }
+    requires low { IsLow guest.entry.walk }
     requires level { IsStepOf (step_seen step) }
-    ensures stepped { IsStepped guest (step_seen step) reply result }
-    ensures kept { IfSome result (λ g. IsLow g.walk × (g.list.now ≡ guest.list.now)) }
+    ensures stepped { IsStepped guest.entry (step_seen step) reply result }
+    ensures kept { IfSome result (λ g. IsLow g.walk × (g.list.now ≡ guest.entry.list.now)) }
 {
     match step {
         Step::Operates(_) => Some(operate_on(guest, reply)),
@@ -168,9 +168,9 @@ pub fn step_on<'a>(guest: GuestAt<'a>, step: Step, reply: Reply) -> Option<Guest
 
 // An operation is completed.
 fn pass_on<'a>(guest: GuestAt<'a>) -> GuestAt<'a>
-    requires counted { (guest.completed < guest.most) × (guest.position < length guest.list.now) }
-    ensures seen { (run : Option Standing) → guest_seen result None ≡ passed_on (guest_seen guest run) }
-    ensures list { result.list.now ≡ guest.list.now }
+    requires counted { (guest.entry.completed < guest.entry.most) × (guest.entry.position < length guest.entry.list.now) }
+    ensures seen { (run : Option Standing) → guest_seen result None ≡ passed_on (guest_seen guest.entry run) }
+    ensures list { result.list.now ≡ guest.entry.list.now }
 {
     GuestAt {
         completed: guest.completed + 1,
@@ -182,8 +182,8 @@ fn pass_on<'a>(guest: GuestAt<'a>) -> GuestAt<'a>
 
 // The guest is to be left.
 fn leave_with<'a>(guest: GuestAt<'a>, outcome: Outcome) -> GuestAt<'a>
-    ensures seen { (run : Option Standing) → guest_seen result None ≡ leaving_with outcome (guest_seen guest run) }
-    ensures list { result.list.now ≡ guest.list.now }
+    ensures seen { (run : Option Standing) → guest_seen result None ≡ leaving_with outcome (guest_seen guest.entry run) }
+    ensures list { result.list.now ≡ guest.entry.list.now }
 {
     GuestAt {
         walk: None,
@@ -194,10 +194,10 @@ fn leave_with<'a>(guest: GuestAt<'a>, outcome: Outcome) -> GuestAt<'a>
 
 // A VMCALL is behind its guest, and yet the guest is left.
 fn operate_on<'a>(guest: GuestAt<'a>, reply: Reply) -> GuestAt<'a>
-    requires counted { (guest.completed < guest.most) × (guest.position < length guest.list.now) }
+    requires counted { (guest.entry.completed < guest.entry.most) × (guest.entry.position < length guest.entry.list.now) }
     requires outcome { is_outcome reply ≡ true }
-    ensures seen { (run : Option Standing) → guest_seen result None ≡ operated reply (guest_seen guest run) }
-    ensures list { result.list.now ≡ guest.list.now }
+    ensures seen { (run : Option Standing) → guest_seen result None ≡ operated reply (guest_seen guest.entry run) }
+    ensures list { result.list.now ≡ guest.entry.list.now }
 {
     match reply {
         Reply::Done(_) => pass_on(guest),
@@ -223,9 +223,9 @@ fn walk_on<'a>(
     reply: Reply,
 ) -> GuestAt<'a>
     requires number { IsNumber reply }
-    ensures seen { (run : Option Standing) → guest_seen result None ≡ loaded access gpa level reply (guest_seen guest run) }
-    ensures low { IsLow guest.walk → level ≤ 3 → IsLow result.walk }
-    ensures list { result.list.now ≡ guest.list.now }
+    ensures seen { (run : Option Standing) → guest_seen result None ≡ loaded access gpa level reply (guest_seen guest.entry run) }
+    ensures low { IsLow guest.entry.walk → level ≤ 3 → IsLow result.walk }
+    ensures list { result.list.now ≡ guest.entry.list.now }
 {
     let Reply::Done(Value::Number(rights)) = reply else {
         unreachable!()

@@ -14,7 +14,8 @@ mod plans;
 mod running;
 mod states;
 
+pub use guests::Step;
 pub use laws::calls_have_leaves;
-pub use leaves::{AnyLeaf, leaf_of};
+pub use leaves::{AnyLeaf, leaf_of, step_leaf};
 pub use plans::AnyPlan;
 pub use states::LpState;

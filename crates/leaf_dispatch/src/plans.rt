@@ -1,7 +1,8 @@
 //! The plan of each call, and of each step of a guest, that goes by one.
 
 use access_core::{
-    Add, HostRead, HostWrite, PrivateLoad, PrivateStore, Set, SharedLoad, SharedStore, Vmcall, WalkLoad,
+    Accept, Add, HostRead, HostWrite, PrivateLoad, PrivateStore, Rtmr, Set, SharedLoad, SharedStore,
+    Vmcall, WalkLoad,
 };
 use key_table::{CacheWb, FlushDone, FreeId, Reclaim};
 use leaf_engine::{Act, Hand, Plan, Stop, Told, Verdict, Write};
@@ -37,6 +38,8 @@ pub enum AnyPlan {
     Set(Set),
     Sum(Add),
     Vmcall(Vmcall),
+    Accept(Accept),
+    Rtmr(Rtmr),
     SharedLoad(SharedLoad),
     SharedStore(SharedStore),
     PrivateLoad(PrivateLoad),
@@ -79,6 +82,8 @@ impl Plan for AnyPlan {
             AnyPlan::Set(plan) => plan.decide(told),
             AnyPlan::Sum(plan) => plan.decide(told),
             AnyPlan::Vmcall(plan) => plan.decide(told),
+            AnyPlan::Accept(plan) => plan.decide(told),
+            AnyPlan::Rtmr(plan) => plan.decide(told),
             AnyPlan::SharedLoad(plan) => plan.decide(told),
             AnyPlan::SharedStore(plan) => plan.decide(told),
             AnyPlan::PrivateLoad(plan) => plan.decide(told),
@@ -113,6 +118,8 @@ impl Plan for AnyPlan {
             AnyPlan::Set(plan) => plan.write(act, told, number, hand),
             AnyPlan::Sum(plan) => plan.write(act, told, number, hand),
             AnyPlan::Vmcall(plan) => plan.write(act, told, number, hand),
+            AnyPlan::Accept(plan) => plan.write(act, told, number, hand),
+            AnyPlan::Rtmr(plan) => plan.write(act, told, number, hand),
             AnyPlan::SharedLoad(plan) => plan.write(act, told, number, hand),
             AnyPlan::SharedStore(plan) => plan.write(act, told, number, hand),
             AnyPlan::PrivateLoad(plan) => plan.write(act, told, number, hand),
