@@ -347,7 +347,7 @@ module _ (ls : Laws) (o : Opening) (task : Task) (s : State) (mem : Memory) (kep
     empty_hand = sh.empty_hand st;
     nothing_to_tell = sh.nothing_to_tell;
     facts = sh.facts;
-    maker = doing.maker;
+    maker = doing.maker (trying-phase task.place.machine w run.stage x.phase at.stage st);
   }
 
   -- the move that is due
@@ -371,7 +371,8 @@ module _ (ls : Laws) (o : Opening) (task : Task) (s : State) (mem : Memory) (kep
       → LeafAfter o task s x u run' e
   undoes u run' xs e name addr l ph it tb p =
       let moves : HasMoves k = has-moves k x doing.single (λ y. let no : Undoing l ≡ Trying = sym ph ∙ y in cc) in
-      let n : IsNext o s me (event_of k (Undoes l)) = is-next (Undoes l) (ap (λ (y : Phase Reply). next_in ((work_of k).items w) y x.held) ph) in
+      let due : next_in ((work_of k).items w) x.phase x.held ≡ Undoes l = ap (λ (y : Phase Reply). next_in ((work_of k).items w) y x.held) ph in
+      let n : IsNext o s me (event_of k (Undoes l)) = is-next (Undoes l) due in
       let word : mem.words (place_of w l) ≡ lock_word s.lps s.lp_count l = ls.steps.seen m mem.words mem.slots s l sh.shown sh.lawful it.stands it.in_machine in
       let small : lock_word s.lps s.lp_count l + 1 < 2 ^ 64 = word-small s l sh.exclusive (sh.few_sharers l) in
       let follow = ls.follow.event o s me (event_of k (Undoes l)) n l in
@@ -388,6 +389,7 @@ module _ (ls : Laws) (o : Opening) (task : Task) (s : State) (mem : Memory) (kep
       let held : run'.held ≡ run.held = ap (λ (z : Standing). z.held) tb.after in
       record {
         move = Undoes l;
+        due = due;
         next = n;
         mem = mem';
         shown = step-shown (Undoes l) l v n (quiet-of k moves (Undoes l) (λ y. cc)) (lock-undone k moves l) it.stands value;
@@ -408,8 +410,8 @@ module _ (ls : Laws) (o : Opening) (task : Task) (s : State) (mem : Memory) (kep
   frees u run' xs e r h hs ph he are st gb same p =
       let l : LockId = h.lock in
       let moves : HasMoves k = has-moves k x doing.single (λ y. let no : Answered r ≡ Trying = sym ph ∙ y in cc) in
-      let n : IsNext o s me (event_of k (Releases h)) =
-      is-next (Releases h) (ap (λ (y : Phase Reply). next_in ((work_of k).items w) y x.held) ph ∙ ap (λ (y : List Held). next_in ((work_of k).items w) (Answered r) y) he) in
+      let due : next_in ((work_of k).items w) x.phase x.held ≡ Releases h = ap (λ (y : Phase Reply). next_in ((work_of k).items w) y x.held) ph ∙ ap (λ (y : List Held). next_in ((work_of k).items w) (Answered r) y) he in
+      let n : IsNext o s me (event_of k (Releases h)) = is-next (Releases h) due in
       let split = snoc are.0 run'.held are.1.0 gb.newest (sym are.1.1 ∙ gb.held_are) in
       let mode : gb.newest.mode ≡ h.mode = ap (λ (z : HeldLock). z.mode) (sym split.1) ∙ are.1.2 in
       let it : IsLockAt m w gb.newest.name gb.newest.at l = subst (λ (z : HeldLock). IsLockAt m w z.name z.at l) split.1 are.1.3 in
@@ -430,6 +432,7 @@ module _ (ls : Laws) (o : Opening) (task : Task) (s : State) (mem : Memory) (kep
       let stage : run'.stage ≡ stages.Answered r = ap (λ (z : Standing). z.stage) same ∙ st in
       record {
         move = Releases h;
+        due = due;
         next = n;
         mem = mem';
         shown = step-shown (Releases h) l v n (quiet-of k moves (Releases h) (λ y. cc)) (lock-freed k moves h) it.stands value;
@@ -450,7 +453,8 @@ module _ (ls : Laws) (o : Opening) (task : Task) (s : State) (mem : Memory) (kep
       let l : LockId = tr.lock in
       let moves : HasMoves k = moves-tried k w (length (locks_held task (at.told st).told)) l mode tr.due in
       let place : WordPlace = place_of w l in
-      let n : IsNext o s me (event_of k (Attempts l mode)) = is-next (Attempts l mode) (due-is st (Attempts l mode) tr.due) in
+      let due : next_in ((work_of k).items w) x.phase x.held ≡ Attempts l mode = due-is st (Attempts l mode) tr.due in
+      let n : IsNext o s me (event_of k (Attempts l mode)) = is-next (Attempts l mode) due in
       let word : mem.words place ≡ lock_word s.lps s.lp_count l = ls.steps.seen m mem.words mem.slots s l sh.shown sh.lawful tr.stands.stands tr.stands.in_machine in
       let small : lock_word s.lps s.lp_count l + 1 < 2 ^ 64 = word-small s l sh.exclusive (sh.few_sharers l) in
       let told-by : grants mode (lock_word s.lps s.lp_count l) ≡ lock_grants s.lps s.lp_count l mode = grants-same ls.follow s l mode (sh.few_sharers l) in
@@ -483,6 +487,7 @@ module _ (ls : Laws) (o : Opening) (task : Task) (s : State) (mem : Memory) (kep
       (subst (λ (z : Bool). run'.held ≡ (if z then run.held ++ record { name = name; at = addr; mode = mode } ∷ [] else run.held)) same tr.held_is)) in
       record {
         move = Attempts l mode;
+        due = due;
         next = n;
         mem = mem';
         shown = step-shown (Attempts l mode) l v n (quiet-of k moves (Attempts l mode) (λ y. cc)) (lock-tried k moves l mode) tr.stands.stands value;
@@ -544,6 +549,7 @@ module _ (ls : Laws) (o : Opening) (task : Task) (s : State) (mem : Memory) (kep
           let n : IsNext o s me (event_of k (Refuses er.reply)) = is-next (Refuses er.reply) (due-is st (Refuses er.reply) y.0) in
           record {
             move = Refuses er.reply;
+            due = due-is st (Refuses er.reply) y.0;
             next = n;
             mem = mem;
             shown = ls.steps.quiet m mem.words mem.slots o s me (event_of k (Refuses er.reply)) sh.shown n (quiet-of k moves (Refuses er.reply) (λ z. cc)) (lock-refused k moves er.reply);
@@ -562,12 +568,13 @@ module _ (ls : Laws) (o : Opening) (task : Task) (s : State) (mem : Memory) (kep
           let stay : LocksStay w ((work_of k).act w) x.held = subst (λ (hs : List Held). LocksStay w ((work_of k).act w) hs) (at.told st).locks y.4 in
           record {
             move = Succeeds;
+            due = due-is st Succeeds y.0;
             next = n;
             mem = er.after;
             shown = act-shown er.after n y.3;
             memory = er.memory;
             acts = (refl, y.2);
-            comes = come-at Succeeds events.Act run'.rest n (act-comes k c (is_granted s (event_of k Succeeds)) events.Act run'.rest doing.maker (refl, y.2));
+            comes = come-at Succeeds events.Act run'.rest n (act-comes k c (is_granted s (event_of k Succeeds)) events.Act run'.rest (doing.maker (trying-phase m w run.stage x.phase at.stage st)) (refl, y.2));
             at = record {
               stage = subst (λ (z : Stage). IsStage m ((work_of k).act w) z (Answered (answer_of run'.rest).reply)) (sym er.answered) (sym y.1);
               held = subst (λ (z : List HeldLock). AreLocks m ((work_of k).act w) z x.held) (sym er.held_is) (locks-after m w ((work_of k).act w) x.held run.held stay at.held);

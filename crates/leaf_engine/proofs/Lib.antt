@@ -13,3 +13,11 @@ pub mod OnTheWay
 pub mod Pieces
 pub mod Doings
 pub mod Facts
+pub mod Steps
+pub mod GuestDoing
+pub mod GuestActs
+pub mod GuestThen
+pub mod GuestGoes
+pub mod Processing
+pub mod Doers
+pub mod Followed

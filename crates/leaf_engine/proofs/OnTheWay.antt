@@ -12,7 +12,7 @@ use Rattle.leaf_engine.specs.Facts.{FactsStand}
 use Rattle.leaf_engine.specs.Reached.{ReachedIsMet}
 
 -- there are no words to tell, as at the start
-none-to-tell : NoWordsToTell → (o : Opening) (schedule : List ℕ) (s : State) → s.world.outgoing.to_tell ≡ None → (play o schedule s).world.outgoing.to_tell ≡ None
+pub none-to-tell : NoWordsToTell → (o : Opening) (schedule : List ℕ) (s : State) → s.world.outgoing.to_tell ≡ None → (play o schedule s).world.outgoing.to_tell ≡ None
 none-to-tell none o [] s h = h
 none-to-tell none o (p ∷ ps) s h = none-to-tell none o ps (event o s p) (none o s p h)
 

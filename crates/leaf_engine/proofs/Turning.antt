@@ -81,7 +81,7 @@ answered-stage m w stages.Trying r i = absurd i
 answered-stage m w (stages.Undoing name at) r i = absurd i
 answered-stage m w (stages.Answered reply) r i = ap stages.Answered i
 
-succeeds-trying : (items : List (Item Reply)) (ph : Phase Reply) (hs : List Held) → next_in items ph hs ≡ Succeeds → ph ≡ Trying
+pub succeeds-trying : (items : List (Item Reply)) (ph : Phase Reply) (hs : List Held) → next_in items ph hs ≡ Succeeds → ph ≡ Trying
 succeeds-trying items Trying hs e = refl
 succeeds-trying items (Undoing l) hs e = cc
 succeeds-trying items (Answered r) [] e = cc
@@ -137,7 +137,7 @@ module _ (o : Opening) (place : Place) (tree : Tree) (row : Row) (s : State) (ru
         held = at.held;
       })))
 
-  then-by : (mv : Move Reply) (mem : Memory) (granted : Bool) → LeafAt its-task (work_world (work_of (CallOf row)) mv w) mem.words run' (after_move call_busy granted a.reply mv lp.call) → (run'.stage ≡ stages.Trying → mem.hand ≡ None)
+  pub then-by : (mv : Move Reply) (mem : Memory) (granted : Bool) → LeafAt its-task (work_world (work_of (CallOf row)) mv w) mem.words run' (after_move call_busy granted a.reply mv lp.call) → (run'.stage ≡ stages.Trying → mem.hand ≡ None)
       → ItsActs mv → (mv ≡ Succeeds → lp.call.phase ≡ Trying) → Then o its-task row lp (call_world row mv w) mem (settled (call_lp w granted row mv lp)) run' result.reply
   then-by (Attempts l mode) mem granted at hand acts t = goes-on w mem (after_move call_busy granted a.reply (Attempts l mode) lp.call) at hand
   then-by (Undoes l) mem granted at hand acts t = goes-on w mem (after_move call_busy granted a.reply (Undoes l) lp.call) at hand
@@ -230,7 +230,7 @@ module _ (o : Opening) (task : Task) (row : Row) (s : State) (mem : Memory) (t :
   call-doing = subst (λ (k : Meaning). IsDoing o (record { place = task.place; tree = task.tree; meaning = k }) s mem [] its-call) (sym mean) (record {
     next = is-next o s task.place.lp row (next_in (row.items s.world) its-call.phase its-call.held) sh.processor due;
     single = inl tt;
-    maker = (ca.guest, refl);
+    maker = λ e. (ca.guest, refl);
   })
 
   call-at : LeafAt task s.world mem.words run its-call

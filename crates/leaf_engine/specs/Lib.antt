@@ -17,4 +17,5 @@ pub mod Shown
 pub mod Calls
 pub mod Doing
 pub mod Standing
+pub mod Following
 pub mod Reached

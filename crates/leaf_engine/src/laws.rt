@@ -6,6 +6,7 @@ ghost use Rattle.leaf_engine.specs.Shown.{TurnsShow};
 ghost use Rattle.leaf_engine.specs.Calls.{CallsBegin, CallsFollow, StartIsMet};
 ghost use Rattle.leaf_engine.specs.OwnLists.{TurnsInPieces};
 ghost use Rattle.leaf_engine.specs.Doing.{LeavesFollow};
+ghost use Rattle.leaf_engine.specs.Following.{ProcessorsFollow};
 ghost use Rattle.leaf_engine.specs.Reached.{ReachedIsMet};
 
 use lock_words::{lock_steps_shown, lock_words_follow, reached_locks_stand};
@@ -76,6 +77,22 @@ pub fn leaves_follow()
     lock_steps_shown();
     places_injective();
     pages_change_alone();
+}
+
+/// A logical processor over words, in its calls and in its guests, does what one leaf means at a time:
+/// that of its line, or that of its guest's next step. Each of its turns is its next event in the flat
+/// machine, after which it stands where the state after that event has it, and the words show that
+/// state. It starts where the start of a run has it, and all that is asked of a state is so in every
+/// state that a run of at most eight processors reaches.
+pub fn processors_follow()
+    ensures { ProcessorsFollow }
+{
+    flat_core::lock_law();
+    flat_core::event_laws();
+    word_rules::start_is_shown();
+    lock_words_follow();
+    facts_stand();
+    leaves_follow();
 }
 
 /// The word steps of a turn are told in pieces, in order, and exactly one of them is its event: the

@@ -20,7 +20,8 @@ mod runs;
 pub use asking::{Choice, ask, change, make};
 pub use events::{Event, HeldLock, RunTurn, Stage};
 pub use laws::{
-    calls_follow, facts_stand, leaves_follow, leaves_follow_rows, turns_in_pieces, turns_show,
+    calls_follow, facts_stand, leaves_follow, leaves_follow_rows, processors_follow,
+    turns_in_pieces, turns_show,
 };
 pub use leaves::Leaf;
 pub use needs::{Hand, Need, Place, Write};
