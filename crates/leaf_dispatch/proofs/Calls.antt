@@ -1,15 +1,33 @@
--- The table's leaves, call by call.
-use Rattle.std.proofs.Common.{◌≡◌, ℕ, zero, suc, List, [], ◌∷◌, drop, None, true, refl, sym, ◌∙◌, ap, arith}
-use Rattle.std.proofs.lemmas.Bool.{and_parts}
+-- The table's leaves, call by call and step by step.
+use Rattle.std.proofs.Common.{◌≡◌, ℕ, zero, suc, ◌^◌, ◌<◌, ◌≤◌, Bool, true, false, if◌then◌else◌, List, [], slice_index, refl, sym, ◌∙◌, ap, subst, arith}
+use Rattle.td_words.specs.declared.machines.Machine.{Machine}
+use Rattle.td_words.specs.declared.names.Access.{Access}
+use Rattle.td_words.specs.declared.names.Access.TheVariants.{Read, Write}
+use Rattle.td_words.specs.declared.names.PageKind.TheVariants as kind
 use Rattle.td_words.specs.declared.calls.Call.{Call}
 use Rattle.td_words.specs.declared.calls.Call.TheVariants as call
+use Rattle.td_words.specs.declared.calls.GuestOp.TheVariants as op
 use Rattle.td_words.specs.Limits.{IsMachine}
 use Rattle.flat_core.specs.Opening.{Opening}
+use Rattle.flat_core.specs.Row.{OperationRow}
 use Rattle.flat_core.specs.Table.{row_of}
-use Rattle.flat_core.specs.Event.{calls_of}
+use Rattle.flat_core.specs.Lawful.{Lawful}
+use Rattle.flat_core.specs.Guest.{ByRow, Private, is_private}
 use Rattle.leaf_engine.specs.declared.needs.Place.{Place}
-use Rattle.leaf_engine.specs.Means.{OfCall, MeansRow}
+use Rattle.leaf_engine.specs.Facts.{GuestFits}
+use Rattle.leaf_engine.specs.Means.{OfCall, OfOperation, OfAccess, OfWalk, Instant, IsEntryPage, Means, MeansRow, work_of}
+use Rattle.leaf_engine.specs.Guests.{Step, Operates, Accesses, Loads, Leaves}
+use Rattle.leaf_engine.specs.Merges.{ByItsRow, IsStepOf}
+use Rattle.leaf_parts.proofs.Begun.{page-in}
+use Rattle.leaf_parts.proofs.Told.{page-back}
 use Rattle.access_core.specs.HostMeanings.{host_read-means, host_write-means}
+use Rattle.access_core.specs.OperationMeanings.{set-means, add-means as sum-means, vmcall-means, shared_load-means, shared_store-means}
+use Rattle.access_core.specs.AcceptMeanings.{accept-means}
+use Rattle.access_core.specs.RtmrMeanings.{rtmr-means, running-controls}
+use Rattle.access_core.specs.ReachTrees.{access_tree}
+use Rattle.access_core.specs.ReachMeanings.{accesses-mean}
+use Rattle.access_core.specs.WalkTrees.{walk_tree}
+use Rattle.access_core.specs.WalkMeanings.{walks-mean}
 use Rattle.mem_remove.specs.MetadataMeanings.{rdmd-means}
 use Rattle.key_table.specs.CacheMeanings.{cache-means}
 use Rattle.key_table.specs.ReclaimMeanings.{reclaim-means}
@@ -27,8 +45,10 @@ use Rattle.mem_build.specs.SeptReadMeanings.{sept_read-means}
 use Rattle.mem_build.specs.PageAddMeanings.{page_add-means}
 use Rattle.mem_build.specs.PageAugMeanings.{page_aug-means}
 use Rattle.mem_build.specs.ExtendMeanings.{extend-means}
-use Rattle.leaf_dispatch.specs.Table.{has_leaf, have_leaves, task_of}
-use Rattle.leaf_dispatch.specs.Laws.{CallsHaveLeaves, NoneEnters}
+use Rattle.vcpu_control.specs.EnterMeans.{entry-means}
+use Rattle.vcpu_control.specs.ExitMeans.{exit-means}
+use Rattle.leaf_dispatch.specs.Table.{task_of, access_in, walk_in, step_task}
+use Rattle.leaf_dispatch.specs.Laws.{CallsHaveLeaves}
 
 pub of-place : (p : Place) (c : Call) → (task_of p c).place ≡ p
 of-place p (call.HostRead page word) = refl
@@ -77,47 +97,126 @@ of-row o p (call.MemPageAug tdr gpa page) = refl
 of-row o p (call.MrExtend tdr gpa) = refl
 
 -- no call that has a leaf enters a guest
-enters-none : (o : Opening) (p : ℕ) (c : Call) → has_leaf c ≡ true → (row_of o p c).enters ≡ None
-enters-none o p (call.VpEnter tdr vp max) h = cc
-enters-none o p (call.HostRead page word) h = refl
-enters-none o p _ h = refl
+means : (p : Place) (c : Call) → IsMachine p.machine → MeansRow (task_of p c)
+means p (call.HostRead page word) m = host_read-means p page word
+means p (call.HostWrite page word value) m = host_write-means p page word value
+means p (call.PhymemPageRdmd page) m = rdmd-means p page m.pages.1
+means p call.PhymemCacheWb m = cache-means p
+means p (call.PhymemPageReclaim tdr page) m = reclaim-means p tdr page (let few = m.pages.1 in omega arith)
+means p (call.MngCreate tdr hkid) m = create-means p tdr hkid
+means p (call.MngKeyConfig tdr) m = configure-means p tdr
+means p (call.MngAddcx tdr page) m = add-means p tdr page
+means p (call.MngInit tdr) m = init-means p tdr
+means p (call.MngRd tdr field) m = read-means p tdr field
+means p (call.MngVpflushdone tdr) m = flush-means p tdr
+means p (call.MngKeyFreeid tdr) m = free-means p tdr
+means p (call.MrFinalize tdr) m = finalize-means p tdr
+means p (call.VpCreate tdr page) m = vp_create-means p tdr page
+means p (call.VpInit tdr vp value) m = vp_init-means p tdr vp value (let few = m.pages.1 in omega arith)
+means p (call.VpEnter tdr vp max) m = entry-means p tdr vp max (let few = m.pages.1 in omega arith)
+means p (call.MemSeptAdd tdr gpa level page) m = sept_add-means p tdr gpa level page m
+means p (call.MemSeptRd tdr gpa level) m = sept_read-means p tdr gpa level m
+means p (call.MemPageAdd tdr gpa page source) m = page_add-means p tdr gpa page source m
+means p (call.MemPageAug tdr gpa page) m = page_aug-means p tdr gpa page m
+means p (call.MrExtend tdr gpa) m = extend-means p tdr gpa m
 
-lines-enter-none : (o : Opening) (p : ℕ) (cs : List Call) (n : ℕ) (c : Call) (further : List Call) → have_leaves cs ≡ true → drop n cs ≡ c ∷ further → (row_of o p c).enters ≡ None
-lines-enter-none o p [] zero c further h e = cc
-lines-enter-none o p [] (suc n) c further h e = cc
-lines-enter-none o p (x ∷ xs) zero c further h e = let same : x ≡ c = cc in enters-none o p c (ap has_leaf (sym same) ∙ (and_parts (has_leaf x) (have_leaves xs) h).0)
-lines-enter-none o p (x ∷ xs) (suc n) c further h e = lines-enter-none o p xs n c further (and_parts (has_leaf x) (have_leaves xs) h).1 e
+-- steps of guests
 
-means : (o : Opening) (p : Place) (c : Call) → IsMachine p.machine → (row_of o p.lp c).enters ≡ None → MeansRow (task_of p c)
-means o p (call.HostRead page word) m e = host_read-means p page word
-means o p (call.HostWrite page word value) m e = host_write-means p page word value
-means o p (call.PhymemPageRdmd page) m e = rdmd-means p page m.pages.1
-means o p call.PhymemCacheWb m e = cache-means p
-means o p (call.PhymemPageReclaim tdr page) m e = reclaim-means p tdr page (let few = m.pages.1 in omega arith)
-means o p (call.MngCreate tdr hkid) m e = create-means p tdr hkid
-means o p (call.MngKeyConfig tdr) m e = configure-means p tdr
-means o p (call.MngAddcx tdr page) m e = add-means p tdr page
-means o p (call.MngInit tdr) m e = init-means p tdr
-means o p (call.MngRd tdr field) m e = read-means p tdr field
-means o p (call.MngVpflushdone tdr) m e = flush-means p tdr
-means o p (call.MngKeyFreeid tdr) m e = free-means p tdr
-means o p (call.MrFinalize tdr) m e = finalize-means p tdr
-means o p (call.VpCreate tdr page) m e = vp_create-means p tdr page
-means o p (call.VpInit tdr vp value) m e = vp_init-means p tdr vp value (let few = m.pages.1 in omega arith)
-means o p (call.VpEnter tdr vp max) m e = cc
-means o p (call.MemSeptAdd tdr gpa level page) m e = sept_add-means p tdr gpa level page m
-means o p (call.MemSeptRd tdr gpa level) m e = sept_read-means p tdr gpa level m
-means o p (call.MemPageAdd tdr gpa page source) m e = page_add-means p tdr gpa page source m
-means o p (call.MemPageAug tdr gpa page) m e = page_aug-means p tdr gpa page m
-means o p (call.MrExtend tdr gpa) m e = extend-means p tdr gpa m
+step-place : (p : Place) (t v line : ℕ) (s : Step) → (step_task p t v line s).place ≡ p
+step-place p t v line (Operates (op.Set r x)) = refl
+step-place p t v line (Operates (op.Add r s)) = refl
+step-place p t v line (Operates (op.Load r gpa)) = refl
+step-place p t v line (Operates (op.Store r gpa)) = refl
+step-place p t v line (Operates (op.Accept gpa)) = refl
+step-place p t v line (Operates (op.Rtmr i)) = refl
+step-place p t v line (Operates (op.Vmcall r)) = refl
+step-place p t v line (Accesses access r gpa page) = refl
+step-place p t v line (Loads access gpa level page) = refl
+step-place p t v line (Leaves out) = refl
+
+same-row : (t v : ℕ) (x row : OperationRow) → ByRow x ≡ ByRow row → OfOperation t v x ≡ OfOperation t v row
+same-row t v x row e = (let same : x ≡ row = cc in ap (OfOperation t v) same)
+
+shared-row : (b : Bool) (t v : ℕ) (access : Access) (r gpa : ℕ) (x row : OperationRow) → (if b then Private access r gpa else ByRow x) ≡ ByRow row → OfOperation t v x ≡ OfOperation t v row
+shared-row true t v access r gpa x row e = cc
+shared-row false t v access r gpa x row e = same-row t v x row e
+
+step-row : (o : Opening) (p t v line : ℕ) (s : Step) → ByItsRow o t v line s (step_task (record { machine = o.machine; lp = p }) t v line s).meaning
+step-row o p t v line (Operates (op.Set r x)) = λ row e. same-row t v _ row e
+step-row o p t v line (Operates (op.Add r s)) = λ row e. same-row t v _ row e
+step-row o p t v line (Operates (op.Load r gpa)) = λ row e. shared-row (is_private gpa) t v Read r gpa _ row e
+step-row o p t v line (Operates (op.Store r gpa)) = λ row e. shared-row (is_private gpa) t v Write r gpa _ row e
+step-row o p t v line (Operates (op.Accept gpa)) = λ row e. same-row t v _ row e
+step-row o p t v line (Operates (op.Rtmr i)) = λ row e. same-row t v _ row e
+step-row o p t v line (Operates (op.Vmcall r)) = λ row e. same-row t v _ row e
+step-row o p t v line (Accesses access r gpa page) = refl
+step-row o p t v line (Loads access gpa level page) = refl
+step-row o p t v line (Leaves out) = refl
+
+-- the page that a translation names, and the one where an entry stands, is the machine's
+
+access-means : (p : Place) (t v line : ℕ) (access : Access) (r gpa page : ℕ) → r < 8 → MeansRow (access_in p t v line access r gpa page)
+access-means p t v line access r gpa page few = record {
+  means = λ c at. (let its = at.maker.5 in
+      let inside : page < p.machine.pages = page-in p.machine c.state.world t page kind.Reg at.lawful its refl in
+      subst (λ (q : ℕ). Means p.machine c (work_of (OfAccess t v line access r gpa page)) [] (access_tree v line access r gpa q) []) (sym (page-back p.machine.pages page inside))
+      ((accesses-mean p t v line access r gpa page few).means c (record {
+        processor = at.processor;
+        lawful = at.lawful;
+        shown = at.shown;
+        empty_hand = at.empty_hand;
+        nothing_to_tell = at.nothing_to_tell;
+        facts = at.facts;
+        maker = at.maker;
+      })));
+}
+
+entry-inside : (m : Machine) (c : Instant) (t v level gpa page : ℕ) → Lawful m c.state.world → GuestFits c.state.world c.me c.kept t v → IsEntryPage c.state.world t level gpa page → page < m.pages
+entry-inside m c t v zero gpa page la fits is = page-in m c.state.world t page kind.Ept la is.page refl
+entry-inside m c t v (suc zero) gpa page la fits is = page-in m c.state.world t page kind.Ept la is.page refl
+entry-inside m c t v (suc (suc zero)) gpa page la fits is = page-in m c.state.world t page kind.Ept la is.page refl
+entry-inside m c t v (suc (suc (suc zero))) gpa page la fits is =
+    let z = running-controls m c t v la fits in
+    let root : page ≡ z.root = ap (λ (cs : List ℕ). slice_index cs 1) (sym is.1 ∙ z.list) in
+    subst (λ (q : ℕ). q < m.pages) (sym root) z.root_in
+entry-inside m c t v (suc (suc (suc (suc level)))) gpa page la fits is = page-in m c.state.world t page kind.Ept la is.page refl
+
+walk-means : (p : Place) (t v : ℕ) (access : Access) (gpa level page : ℕ) → IsMachine p.machine → gpa < 2 ^ 47 → level ≤ 3 → MeansRow (walk_in p t v access gpa level page)
+walk-means p t v access gpa level page limits small low = record {
+  means = λ c at. (let inside : page < p.machine.pages = entry-inside p.machine c t v level gpa page at.lawful at.maker.1.fits at.maker.3 in
+      subst (λ (q : ℕ). Means p.machine c (work_of (OfWalk t v access gpa level page)) [] (walk_tree t access gpa level q) []) (sym (page-back p.machine.pages page inside))
+      ((walks-mean p t v access gpa level page limits small low).means c (record {
+        processor = at.processor;
+        lawful = at.lawful;
+        shown = at.shown;
+        empty_hand = at.empty_hand;
+        nothing_to_tell = at.nothing_to_tell;
+        facts = at.facts;
+        maker = at.maker;
+      })));
+}
+
+step-means : (p : Place) (t v line : ℕ) (s : Step) → IsMachine p.machine → IsStepOf s → MeansRow (step_task p t v line s)
+step-means p t v line (Operates (op.Set r x)) m i = set-means p t v r x i
+step-means p t v line (Operates (op.Add r s)) m i = sum-means p t v r s i.0 i.1
+step-means p t v line (Operates (op.Load r gpa)) m i = shared_load-means p t v line r gpa i
+step-means p t v line (Operates (op.Store r gpa)) m i = shared_store-means p t v r gpa i
+step-means p t v line (Operates (op.Accept gpa)) m i = accept-means p t v gpa m i
+step-means p t v line (Operates (op.Rtmr x)) m i = rtmr-means p t v line x i
+step-means p t v line (Operates (op.Vmcall r)) m i = vmcall-means p t v r i
+step-means p t v line (Accesses access r gpa page) m i = access-means p t v line access r gpa page i.0
+step-means p t v line (Loads access gpa level page) m i = walk-means p t v access gpa level page m i.1 i.0
+step-means p t v line (Leaves out) m i = exit-means p t v out
 
 pub calls-have-leaves : CallsHaveLeaves
 calls-have-leaves o m = record {
   machine = λ p c. ap (λ (z : Place). z.machine) (of-place (record { machine = o.machine; lp = p }) c);
   processor = λ p c. ap (λ (z : Place). z.lp) (of-place (record { machine = o.machine; lp = p }) c);
-  row = λ p c e. of-row o p c;
-  means = λ p c e. means o (record { machine = o.machine; lp = p }) c m e;
+  row = λ p c. of-row o p c;
+  means = λ p c. means (record { machine = o.machine; lp = p }) c m;
+  step_machine = λ p t v line s. ap (λ (z : Place). z.machine) (step-place (record { machine = o.machine; lp = p }) t v line s);
+  step_processor = λ p t v line s. ap (λ (z : Place). z.lp) (step-place (record { machine = o.machine; lp = p }) t v line s);
+  step_row = λ p t v line s. step-row o p t v line s;
+  step_means = λ p t v line s i. step-means (record { machine = o.machine; lp = p }) t v line s m i;
+  codes = λ p t i. refl;
 }
-
-pub none-enters : NoneEnters
-none-enters o have p n c further lines = lines-enter-none o p (calls_of o.calls p) n c further (have p) lines

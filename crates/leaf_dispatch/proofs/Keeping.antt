@@ -1,71 +1,111 @@
--- What a turn leaves of the present call's run.
-use Rattle.std.proofs.Common.{◌≡◌, ◌∙◌, false, List, [], ◌∷◌, Option, Some, None, refl, ap, sym, subst}
+-- What a turn leaves of a run.
+use Rattle.std.proofs.Common.{◌≡◌, ◌∙◌, false, List, [], ◌∷◌, Option, Some, None, refl, ap, sym, subst, arith}
 use Rattle.td_words.specs.declared.machines.Machine.{Machine}
 use Rattle.td_words.specs.declared.calls.Call.{Call}
 use Rattle.td_words.specs.declared.replies.Reply.{Reply}
-use Rattle.flat_core.specs.Table.{most_tries}
 use Rattle.step_core.specs.declared.items.Taken.{Taken}
+use Rattle.leaf_engine.specs.declared.events.Event.{Event}
+use Rattle.leaf_engine.specs.declared.events.HeldLock.{HeldLock}
 use Rattle.leaf_engine.specs.declared.events.RunTurn.{RunTurn}
+use Rattle.leaf_engine.specs.declared.events.Stage.{Stage}
+use Rattle.leaf_engine.specs.declared.events.Stage.TheVariants as stages
 use Rattle.leaf_engine.specs.Means.{Task}
-use Rattle.leaf_engine.specs.declared.needs.Place.{Place}
-use Rattle.leaf_engine.specs.Turns.{Standing, CanRun, Turned, has_ended}
+use Rattle.leaf_engine.specs.Trees.{Tree, settle}
+use Rattle.leaf_engine.specs.Turns.{Standing, standing, CanRun, Turned, has_ended, last_reply}
 use Rattle.leaf_dispatch.specs.Leaves.{leaf_seen}
-use Rattle.leaf_dispatch.specs.Bounds.{FewTries}
-use Rattle.leaf_dispatch.specs.Running.{standing_of, run_seen, kept_after, IsUnderWay, IsRunOf, IsRunAt, IsBegun, CanTurn, HasTurned, CallTurned}
+use Rattle.leaf_dispatch.specs.Answers.{Ends, EndsAs, BeginsUnderOther, call_ends, act_of, FewTries, FitsStage, OldestIsOther}
+use Rattle.leaf_dispatch.specs.Running.{standing_of, run_seen, kept_after, turn_of, act_in, IsUnderWay, IsRunOf, IsRunAt, IsKept, CanTurn, HasTurned, LeafTurned}
 use Rattle.leaf_dispatch.specs.declared.running.Running.{Running}
-use Rattle.leaf_dispatch.proofs.Lowering.{turn-lowers}
-use Rattle.leaf_dispatch.proofs.Turning.{goes-on}
+use Rattle.leaf_dispatch.specs.declared.running.LeafTurn.{LeafTurn}
+use Rattle.leaf_dispatch.proofs.Lowering.{ends-fed, other-settled, Gives, turn-gives}
 
-pub still-under-way : {B : Type 0} (did : List Taken → B → Type 0) (bench : B) (m n n' : Machine) (c : Call) (r r' : Running) (result : RunTurn) → m ≡ n → n' ≡ n → IsUnderWay m c r
-    → Turned did n (standing_of r) bench (standing_of r') result → (leaf_seen r'.run.leaf).task ≡ (leaf_seen r.run.leaf).task
-    → CanRun n' (standing_of r') (leaf_seen r'.run.leaf).tries (leaf_seen r'.run.leaf).written (leaf_seen r'.run.leaf).waits → result.reply ≡ None
-    → IsUnderWay m c r'
-still-under-way did bench m n n' c r r' result at at' u t task can none = record {
+-- a run that goes on has something left to do
+pub goes-on : (s : Stage) (held : List HeldLock) → last_reply s held ≡ None → has_ended s held ≡ false
+goes-on stages.Trying held e = refl
+goes-on (stages.Undoing name at) held e = refl
+goes-on (stages.Answered reply) [] e = cc
+goes-on (stages.Answered reply) (h ∷ hs) e = refl
+
+still-under-way : (m : Machine) (e : Ends) (r r' : Running) (ev : Event) (reply : Option Reply) → IsUnderWay m e r → Gives e (standing_of r) (standing_of r') ev → reply ≡ last_reply r'.run.stage r'.run.held.items
+    → (leaf_seen r'.run.leaf).task ≡ (leaf_seen r.run.leaf).task → CanRun m (standing_of r') (leaf_seen r'.run.leaf).tries (leaf_seen r'.run.leaf).written (leaf_seen r'.run.leaf).waits → reply ≡ None
+    → IsUnderWay m e r'
+still-under-way m e r r' ev reply u gives is task can none = record {
   machine = ap (λ (z : Task). z.place.machine) task ∙ u.machine;
-  can_run = subst (λ (z : Machine). CanRun z (standing_of r') (leaf_seen r'.run.leaf).tries (leaf_seen r'.run.leaf).written (leaf_seen r'.run.leaf).waits) (at' ∙ sym at) can;
-  going = goes-on r'.run.stage r'.run.held.items (sym t.2.reply ∙ none);
-  few_tries = (turn-lowers n (most_tries c) (standing_of r) (standing_of r') t.0 result.event u.few_tries t.2.turn).few;
+  can_run = can;
+  going = goes-on r'.run.stage r'.run.held.items (sym is ∙ none);
+  few_tries = gives.few;
+  fits = gives.fits;
+  oldest = gives.oldest;
 }
 
-pub can-turn : (m : Machine) (p : Place) (c : Call) (run : Option Standing) (kept : Option Running) → p.machine ≡ m → IsBegun p c run kept → CanTurn m kept
-can-turn m p c run None at begun = begun
-can-turn m p c run (Some r) at begun = (begun.1.machine ∙ at, subst (λ (z : Machine). CanRun z (standing_of r) (leaf_seen r.run.leaf).tries (leaf_seen r.run.leaf).written (leaf_seen r.run.leaf).waits) at begun.1.can_run, begun.1.going)
+pub can-turn : (m : Machine) (e : Ends) (s : Standing) (kept : Option Running) → IsKept m e s kept → CanTurn m kept
+can-turn m e s None k = k
+can-turn m e s (Some r) k = (k.1.machine, k.1.can_run, k.1.going)
 
 -- a turn of the run that is kept, by whether its reply has come
 
-kept-turned : {B : Type 0} (did : List Taken → B → Type 0) (bench : B) (m : Machine) (p : Place) (c : Call) (run : Option Standing) (r r' : Running) (kept : Option Running) (result : RunTurn) → p.machine ≡ m
-    → IsBegun p c run (Some r) → HasTurned did m (Some r) bench (Some r') result → run_seen kept ≡ kept_after result.reply (standing_of r') → IsRunOf p.machine c kept
-    → CallTurned did p c run bench kept result
-kept-turned did bench m p c run r r' kept result at begun t seen is = record {
-  going = subst (λ (z : Standing). has_ended z.stage z.held ≡ false) begun.0 begun.1.going;
-  few_tries = subst (λ (z : Standing). FewTries (most_tries c) z) begun.0 begun.1.few_tries;
+kept-turned : {B : Type 0} (did : List Taken → B → Type 0) (bench : B) (m : Machine) (e : Ends) (s : Standing) (r r' : Running) (kept : Option Running) (result : LeafTurn)
+    → IsKept m e s (Some r) → HasTurned did m (Some r) bench (Some r') (turn_of result) → result.act ≡ act_of result.event r'.run.stage → run_seen kept ≡ kept_after result.reply (standing_of r') → IsRunOf m e kept
+    → LeafTurned did m e s bench kept result
+kept-turned did bench m e s r r' kept result k t act seen is = record {
+  going = subst (λ (z : Standing). has_ended z.stage z.held ≡ false) k.0 k.1.going;
+  few_tries = subst (λ (z : Standing). FewTries e z) k.0 k.1.few_tries;
+  fits = subst (λ (z : Standing). FitsStage e z.stage) k.0 k.1.fits;
+  oldest = subst (λ (z : Standing). OldestIsOther z.held z) k.0 k.1.oldest;
   stands = standing_of r';
-  turned = subst (λ (z : Standing). Turned did p.machine z bench (standing_of r') result) begun.0 (subst (λ (z : Machine). Turned did z (standing_of r) bench (standing_of r') result) (sym at) t.0);
+  turned = subst (λ (z : Standing). Turned did m z bench (standing_of r') (turn_of result)) k.0 t.0;
+  act_is = act;
   seen = seen;
   under_way = is;
 }
 
-pub call-goes-on : {B : Type 0} (did : List Taken → B → Type 0) (bench : B) (m : Machine) (p : Place) (c : Call) (run : Option Standing) (kept kept' : Option Running) (result : RunTurn) → p.machine ≡ m
-    → IsBegun p c run kept → HasTurned did m kept bench kept' result → result.reply ≡ None → CallTurned did p c run bench kept' result
-call-goes-on did bench m p c run None kept' result at begun t none = elim begun [ ]
-call-goes-on did bench m p c run (Some r) None result at begun t none = elim t [ ]
-call-goes-on did bench m p c run (Some r) (Some r') result at begun t none =
-    kept-turned did bench m p c run r r' (Some r') result at begun t (sym (ap (λ (z : Option Reply). kept_after z (standing_of r')) none))
-    (still-under-way did bench p.machine m m c r r' result at refl begun.1 t.0 t.1 t.2 none)
+pub run-goes-on : {B : Type 0} (did : List Taken → B → Type 0) (bench : B) (m : Machine) (e : Ends) (s : Standing) (kept kept' : Option Running) (result : LeafTurn)
+    → IsKept m e s kept → HasTurned did m kept bench kept' (turn_of result) → result.act ≡ act_in kept' result.event → result.reply ≡ None → LeafTurned did m e s bench kept' result
+run-goes-on did bench m e s None kept' result k t act none = elim k [ ]
+run-goes-on did bench m e s (Some r) None result k t act none = elim t [ ]
+run-goes-on did bench m e s (Some r) (Some r') result k t act none =
+    let gives = turn-gives m e (standing_of r) (standing_of r') t.0.0 result.event k.1.few_tries k.1.fits k.1.oldest t.0.2.turn in
+    kept-turned did bench m e s r r' (Some r') result k t act (sym (ap (λ (z : Option Reply). kept_after z (standing_of r')) none))
+    (still-under-way m e r r' result.event result.reply k.1 gives t.0.2.reply t.1 t.2 none)
 
-pub call-is-over : {B : Type 0} (did : List Taken → B → Type 0) (bench : B) (m : Machine) (p : Place) (c : Call) (run : Option Standing) (kept kept' : Option Running) (result : RunTurn) (reply : Reply) → p.machine ≡ m
-    → IsBegun p c run kept → HasTurned did m kept bench kept' result → result.reply ≡ Some reply → CallTurned did p c run bench None result
-call-is-over did bench m p c run None kept' result reply at begun t some = elim begun [ ]
-call-is-over did bench m p c run (Some r) None result reply at begun t some = elim t [ ]
-call-is-over did bench m p c run (Some r) (Some r') result reply at begun t some =
-    kept-turned did bench m p c run r r' None result at begun t (sym (ap (λ (z : Option Reply). kept_after z (standing_of r')) some)) tt
+pub run-is-over : {B : Type 0} (did : List Taken → B → Type 0) (bench : B) (m : Machine) (e : Ends) (s : Standing) (kept kept' : Option Running) (result : LeafTurn) (reply : Reply)
+    → IsKept m e s kept → HasTurned did m kept bench kept' (turn_of result) → result.act ≡ act_in kept' result.event → result.reply ≡ Some reply → LeafTurned did m e s bench None result
+run-is-over did bench m e s None kept' result reply k t act some = elim k [ ]
+run-is-over did bench m e s (Some r) None result reply k t act some = elim t [ ]
+run-is-over did bench m e s (Some r) (Some r') result reply k t act some =
+    kept-turned did bench m e s r r' None result k t act (sym (ap (λ (z : Option Reply). kept_after z (standing_of r')) some)) tt
 
 -- what is kept, as the run of the first line
 
-pub run-at : (m : Machine) (c : Call) (cs lines : List Call) (kept : Option Running) → lines ≡ c ∷ cs → IsRunOf m c kept → IsRunAt m lines kept
+pub run-at : (m : Machine) (c : Call) (cs lines : List Call) (kept : Option Running) → lines ≡ c ∷ cs → IsRunOf m (call_ends m c) kept → IsRunAt m lines kept
 run-at m c cs lines kept e is = subst (λ (z : List Call). IsRunAt m z kept) (sym e) is
 
 pub no-run-at : (m : Machine) (lines : List Call) (kept : Option Running) → run_seen kept ≡ None → IsRunAt m lines kept
 no-run-at m [] kept e = tt
 no-run-at m (c ∷ cs) None e = tt
 no-run-at m (c ∷ cs) (Some r) e = cc
+
+-- in a machine that is the bench's
+
+pub can-turn-at : (m n : Machine) (e : Ends) (s : Standing) (kept : Option Running) → n ≡ m → IsKept n e s kept → CanTurn m kept
+can-turn-at m n e s kept at k = subst (λ (z : Machine). CanTurn z kept) at (can-turn n e s kept k)
+
+pub turned-at : {B : Type 0} (did : List Taken → B → Type 0) (bench : B) (m n : Machine) (e : Ends) (s : Standing) (kept kept' : Option Running) (result : LeafTurn) → n ≡ m → IsKept n e s kept
+    → ((f : Ends) (x : Standing) → IsKept m f x kept → LeafTurned did m f x bench kept' result) → LeafTurned did n e s bench kept' result
+turned-at did bench m n e s kept kept' result at k h = subst (λ (z : Machine). LeafTurned did z e s bench kept' result) (sym at) (h e s (subst (λ (z : Machine). IsKept z e s kept) at k))
+
+-- a run at its first event
+
+pub begun : (m : Machine) (e : Ends) (tree : Tree) (r : Running) → (leaf_seen r.run.leaf).task.place.machine ≡ m → (leaf_seen r.run.leaf).task.tree ≡ tree
+    → CanRun m (standing_of r) (leaf_seen r.run.leaf).tries (leaf_seen r.run.leaf).written (leaf_seen r.run.leaf).waits → standing_of r ≡ standing (settle (leaf_seen r.run.leaf).task.tree) stages.Trying [] None
+    → EndsAs e e.tries tree → BeginsUnderOther tree → IsUnderWay m e r
+begun m e tree r machine is can at ends other =
+    let start : standing_of r ≡ standing (settle tree) stages.Trying [] None = at ∙ ap (λ (t : Tree). standing (settle t) stages.Trying [] None) is in
+    record {
+      machine = machine;
+      can_run = can;
+      going = subst (λ (z : Standing). has_ended z.stage z.held ≡ false) (sym start) refl;
+      few_tries = subst (λ (z : Standing). FewTries e z) (sym start) (omega arith, λ st. ends-fed e e.tries tree [] ends);
+      fits = subst (λ (z : Standing). FitsStage e z.stage) (sym start) tt;
+      oldest = subst (λ (z : Standing). OldestIsOther z.held z) (sym start) (λ st. other-settled tree other);
+    }

@@ -3,4 +3,3 @@ pub mod Turning
 pub mod Keeping
 pub mod Tries
 pub mod Calls
-pub mod Follows

@@ -1,5 +1,6 @@
--- Each call's leaf tries at most as many locks as its row.
-use Rattle.std.proofs.Common.{ℕ, zero, suc, ◌+◌, ◌-◌, ◌==◌, Bool, true, false, List, [], ◌∷◌, refl, arith}
+-- What each leaf comes to: it tries at most as many locks as its row, and its answer goes by its reply.
+use Rattle.std.proofs.Common.{◌≡◌, ◌∙◌, ℕ, zero, suc, ◌+◌, ◌-◌, ◌/◌, ◌%◌, ◌^◌, ◌<◌, ◌≤◌, ◌==◌, ◌&&◌, nat_lt, if◌then◌else◌, Bool, true, false, Option, Some, None, List, [], ◌∷◌, ◌++◌, refl, ap, sym, subst, arith}
+use Rattle.std.proofs.lemmas.Bool.{lt-ltb}
 use Rattle.td_words.specs.declared.machines.Machine.{Machine}
 use Rattle.td_words.specs.declared.calls.Call.{Call}
 use Rattle.td_words.specs.declared.calls.Call.TheVariants as call
@@ -7,34 +8,68 @@ use Rattle.td_words.specs.declared.names.ReadField.TheVariants as field
 use Rattle.td_words.specs.declared.names.EntryState.TheVariants as entry
 use Rattle.td_words.specs.declared.names.VcpuState.TheVariants as vcpu
 use Rattle.td_words.specs.declared.names.Mode.TheVariants.{Shared}
+use Rattle.td_words.specs.declared.names.EntryState.{EntryState}
+use Rattle.td_words.specs.declared.names.Access.{Access}
+use Rattle.td_words.specs.declared.names.Access.TheVariants.{Read, Write}
+use Rattle.td_words.specs.declared.calls.GuestOp.TheVariants as op
+use Rattle.td_words.specs.Packing.{Entry, is_lawful_entry, entry_word, entry_state_of, entry_of_state, entry_in}
+use Rattle.td_words.specs.Place.{WordPlace}
 use Rattle.td_words.specs.Place as place
 use Rattle.td_words.specs.declared.refusals.Status.TheVariants.{VcpuStateIncorrect}
-use Rattle.td_words.specs.declared.replies.Reply.TheVariants.{Done}
+use Rattle.td_words.specs.declared.replies.Outcome.TheVariants.{EptViolation}
+use Rattle.td_words.specs.declared.replies.Reply.{Reply}
+use Rattle.td_words.specs.declared.replies.Reply.TheVariants.{Done, Exited}
 use Rattle.td_words.specs.declared.replies.Value.TheVariants as value
-use Rattle.flat_core.specs.Processor.{OfPage}
+use Rattle.flat_core.specs.Processor.{OfPage, RtmrNote}
+use Rattle.flat_core.specs.Digests.{digest_word, digest_bytes, six_words}
+use Rattle.flat_core.specs.Guest.{goes_on}
+use Rattle.flat_core.proofs.Mrtd.{digest_read}
+use Rattle.word_rules.specs.Views.{look, of_entry, rights_by}
 use Rattle.flat_core.specs.Tree.{word_of_gpa}
 use Rattle.flat_core.specs.MemRows.{entry_value}
 use Rattle.flat_core.specs.Table.{most_tries}
 use Rattle.leaf_engine.specs.declared.needs.Place.{Place}
 use Rattle.leaf_engine.specs.Changes.{Change}
-use Rattle.leaf_engine.specs.Trees.{Tree, Lock, needs, answers, acts}
+use Rattle.leaf_engine.specs.Trees.{only, Tree, Lock, Load, Test, End, Since, needs, answers, acts}
+use Rattle.leaf_engine.specs.Guests.{Step, Operates, Accesses, Loads, Leaves}
 use Rattle.leaf_parts.specs.declared.vp_words.VpWord.{VpWord}
 use Rattle.leaf_parts.specs.Words.{says_host, page_told, vps_told}
 use Rattle.leaf_parts.specs.Vps.{vps_from}
 use Rattle.access_core.specs.HostTrees.{read_word}
+use Rattle.access_core.specs.OperationTrees.{with_notes, with_position}
+use Rattle.access_core.specs.AcceptTrees.{or_violation, passed_tree, accepted, accept_found}
+use Rattle.access_core.specs.RtmrTrees.{with_words, rtmr_at, register_at, extension, extended, extend_held}
+use Rattle.access_core.specs.WalkTrees.{goes_on_by, page_by}
+use Rattle.access_core.specs.WalkMeanings.{walks-are-told}
 use Rattle.key_table.specs.CacheTrees.{mark_keys}
 use Rattle.key_table.specs.FlushTrees.{flush_counted, flush_vps}
 use Rattle.key_table.specs.ReclaimTrees.{reclaim_rest}
 use Rattle.td_control.specs.FinalTrees.{ready_vp, final_changes}
-use Rattle.sept_walk.specs.SecureEpt.{index_at}
+use Rattle.sept_walk.specs.SecureEpt.{index_at, is_mapped_on}
 use Rattle.sept_parts.specs.declared.finds.Found.{Found}
 use Rattle.sept_parts.specs.SeptTrees.{walk_on_tree, find_tree, state_tree}
+use Rattle.sept_parts.specs.SeptWords.{entry_told}
 use Rattle.mem_build.specs.SeptAddTrees.{sept_add_rest}
 use Rattle.mem_build.specs.PageAugTrees.{page_aug_rest}
 use Rattle.mem_build.specs.PageAddTrees.{page_add_tree, pages_tree, addition_end}
 use Rattle.mem_build.specs.ExtendTrees.{words_tree, measured_tree, measure_tree}
-use Rattle.leaf_dispatch.specs.Bounds.{TriesAtMost}
-use Rattle.leaf_dispatch.specs.Table.{task_of}
+use Rattle.leaf_dispatch.specs.Answers.{Ends, call_ends, is_page_seen, step_ends, step_tries, EndsAs, BeginsUnderOther}
+use Rattle.leaf_dispatch.specs.Table.{task_of, step_task}
+
+-- at most so many locks are tried in a tree, whatever words it is told, and it answers nothing besides a reply
+abbrev pub TriesAtMost : ℕ → Tree → Type 0
+TriesAtMost n (Lock l q m t) = (1 ≤ n) × TriesAtMost (n - 1) t
+TriesAtMost n (Load v q k) = (x : ℕ) → TriesAtMost n (k x)
+TriesAtMost n (Test b r t) = TriesAtMost n t
+TriesAtMost n (End a fs cs) = a ≡ only a.reply
+TriesAtMost n (Since a cs) = a ≡ only a.reply
+
+plain-ends : (e : Ends) → ((r : Reply) → only r ≡ e.answer r) → ((r : Reply) → e.fits r ≡ true) → (n : ℕ) (t : Tree) → TriesAtMost n t → EndsAs e n t
+plain-ends e h f n (Lock l q m t) few = (few.0, plain-ends e h f (n - 1) t few.1)
+plain-ends e h f n (Load v q k) few = λ x. plain-ends e h f n (k (look v x)) (few (look v x))
+plain-ends e h f n (Test b r t) few = (h r, f r, λ y. plain-ends e h f n t few)
+plain-ends e h f n (End a fs cs) few = (few ∙ h a.reply, f a.reply)
+plain-ends e h f n (Since a cs) few = (few ∙ h a.reply, f a.reply)
 
 read-few : (n page i : ℕ) (host : Bool) → TriesAtMost n (read_word page i host)
 read-few n page i true = λ word. refl
@@ -73,31 +108,35 @@ page_add-few : (m : Machine) (t gpa page source : ℕ) → TriesAtMost 5 (page_a
 unfolding page_add_tree
 page_add-few m t gpa page source = (omega arith, λ pamt life count tdcs. (omega arith, λ op. (omega arith, find-few 2 m.pages t gpa 0 (λ (f : Found). state_tree f.entry (entry.Free ∷ []) (pages_tree t page source (λ hkid children. addition_end m (record { tdr = t; gpa = gpa; page = page; source = source; table = f.page; hkid = hkid; children = children })))) (λ f. (omega arith, λ other. (omega arith, λ host hkid children. refl))))))
 
-pub few_tries : (p : Place) (c : Call) → TriesAtMost (most_tries c) (task_of p c).tree
-few_tries p (call.HostRead page word) = (omega arith, λ pamt. read-few 0 page word (says_host pamt))
-few_tries p (call.HostWrite page word value) = (omega arith, λ pamt. refl)
-few_tries p (call.PhymemPageRdmd page) = (omega arith, λ pamt. refl)
-few_tries p call.PhymemCacheWb = (omega arith, mark-few 0 _ p.machine.hkids _)
-few_tries p (call.PhymemPageReclaim tdr page) = (omega arith, λ pamt life. reclaim-few tdr page (page == tdr))
-few_tries p (call.MngCreate tdr hkid) = (omega arith, λ pamt. (omega arith, λ key. refl))
-few_tries p (call.MngKeyConfig tdr) = (omega arith, λ pamt life. refl)
-few_tries p (call.MngAddcx tdr page) = (omega arith, λ pamt life count. (omega arith, λ host children. refl))
-few_tries p (call.MngInit tdr) = (omega arith, λ pamt life count tdcs. (omega arith, λ op hkid. refl))
-few_tries p (call.MngRd tdr field.Life) = (omega arith, λ pamt life. refl)
-few_tries p (call.MngRd tdr field.Op) = (omega arith, λ pamt life count tdcs. (omega arith, λ op. refl))
-few_tries p (call.MngRd tdr field.Epoch) = (omega arith, λ pamt life count tdcs. (omega arith, λ op. (omega arith, λ epoch. refl)))
-few_tries p (call.MngRd tdr field.Mrtd) = (omega arith, λ pamt life count tdcs. (omega arith, λ op a b c d e f. refl))
-few_tries p (call.MngVpflushdone tdr) = (omega arith, λ pamt life count. flush-few p.machine tdr (count == 2))
-few_tries p (call.MngKeyFreeid tdr) = (omega arith, λ pamt life. (omega arith, λ hkid key. refl))
-few_tries p (call.MrFinalize tdr) = (omega arith, λ pamt life count tdcs. (omega arith, λ op hkid n. vps-few 0 p.machine.pages (ready_vp (page_told p.machine.pages tdcs)) 0 (vps_told n) 0 (λ created. needs (created == 0) (VcpuStateIncorrect vcpu.Created) (acts (Done value.Nothing) (final_changes p.machine (page_told p.machine.pages tdcs) hkid))) (λ created. refl)))
-few_tries p (call.VpCreate tdr page) = (omega arith, λ pamt life count tdcs. (omega arith, λ op vps expected. (omega arith, λ host children. refl)))
-few_tries p (call.VpInit tdr vp value) = (omega arith, λ pamt life count tdcs. (omega arith, λ op. (omega arith, λ host state. refl)))
-few_tries p (call.VpEnter tdr vp max) = refl
-few_tries p (call.MemSeptAdd tdr gpa level page) = (omega arith, λ pamt life count tdcs. (omega arith, λ op. (omega arith, find-few 1 p.machine.pages tdr gpa level (sept_add_rest p.machine.pages tdr page (index_at level gpa)) (λ f. (omega arith, λ host children. refl)))))
-few_tries p (call.MemSeptRd tdr gpa level) = (omega arith, λ pamt life count tdcs. (omega arith, λ op. (omega arith, find-few 0 p.machine.pages tdr gpa level (λ (f : Found). answers (Done (entry_value f.entry))) (λ f. refl))))
-few_tries p (call.MemPageAdd tdr gpa page source) = page_add-few p.machine tdr gpa page source
-few_tries p (call.MemPageAug tdr gpa page) = (omega arith, λ pamt life count tdcs. (omega arith, λ op. (omega arith, find-few 1 p.machine.pages tdr gpa 0 (page_aug_rest p.machine.pages tdr page (index_at 0 gpa)) (λ f. (omega arith, λ host children. refl)))))
-few_tries p (call.MrExtend tdr gpa) = (
+abbrev has_no_guest : Call → Bool
+has_no_guest (call.VpEnter tdr vp most) = false
+has_no_guest _ = true
+
+pub few_tries : (p : Place) (c : Call) → has_no_guest c ≡ true → TriesAtMost (most_tries c) (task_of p c).tree
+few_tries p (call.HostRead page word) h = (omega arith, λ pamt. read-few 0 page word (says_host pamt))
+few_tries p (call.HostWrite page word value) h = (omega arith, λ pamt. refl)
+few_tries p (call.PhymemPageRdmd page) h = (omega arith, λ pamt. refl)
+few_tries p call.PhymemCacheWb h = (omega arith, mark-few 0 _ p.machine.hkids _)
+few_tries p (call.PhymemPageReclaim tdr page) h = (omega arith, λ pamt life. reclaim-few tdr page (page == tdr))
+few_tries p (call.MngCreate tdr hkid) h = (omega arith, λ pamt. (omega arith, λ key. refl))
+few_tries p (call.MngKeyConfig tdr) h = (omega arith, λ pamt life. refl)
+few_tries p (call.MngAddcx tdr page) h = (omega arith, λ pamt life count. (omega arith, λ host children. refl))
+few_tries p (call.MngInit tdr) h = (omega arith, λ pamt life count tdcs. (omega arith, λ op hkid. refl))
+few_tries p (call.MngRd tdr field.Life) h = (omega arith, λ pamt life. refl)
+few_tries p (call.MngRd tdr field.Op) h = (omega arith, λ pamt life count tdcs. (omega arith, λ op. refl))
+few_tries p (call.MngRd tdr field.Epoch) h = (omega arith, λ pamt life count tdcs. (omega arith, λ op. (omega arith, λ epoch. refl)))
+few_tries p (call.MngRd tdr field.Mrtd) h = (omega arith, λ pamt life count tdcs. (omega arith, λ op a b c d e f. refl))
+few_tries p (call.MngVpflushdone tdr) h = (omega arith, λ pamt life count. flush-few p.machine tdr (count == 2))
+few_tries p (call.MngKeyFreeid tdr) h = (omega arith, λ pamt life. (omega arith, λ hkid key. refl))
+few_tries p (call.MrFinalize tdr) h = (omega arith, λ pamt life count tdcs. (omega arith, λ op hkid n. vps-few 0 p.machine.pages (ready_vp (page_told p.machine.pages tdcs)) 0 (vps_told n) 0 (λ created. needs (created == 0) (VcpuStateIncorrect vcpu.Created) (acts (Done value.Nothing) (final_changes p.machine (page_told p.machine.pages tdcs) hkid))) (λ created. refl)))
+few_tries p (call.VpCreate tdr page) h = (omega arith, λ pamt life count tdcs. (omega arith, λ op vps expected. (omega arith, λ host children. refl)))
+few_tries p (call.VpEnter tdr vp most) h = cc
+few_tries p (call.VpInit tdr vp value) h = (omega arith, λ pamt life count tdcs. (omega arith, λ op. (omega arith, λ host state. refl)))
+few_tries p (call.MemSeptAdd tdr gpa level page) h = (omega arith, λ pamt life count tdcs. (omega arith, λ op. (omega arith, find-few 1 p.machine.pages tdr gpa level (sept_add_rest p.machine.pages tdr page (index_at level gpa)) (λ f. (omega arith, λ host children. refl)))))
+few_tries p (call.MemSeptRd tdr gpa level) h = (omega arith, λ pamt life count tdcs. (omega arith, λ op. (omega arith, find-few 0 p.machine.pages tdr gpa level (λ (f : Found). answers (Done (entry_value f.entry))) (λ f. refl))))
+few_tries p (call.MemPageAdd tdr gpa page source) h = page_add-few p.machine tdr gpa page source
+few_tries p (call.MemPageAug tdr gpa page) h = (omega arith, λ pamt life count tdcs. (omega arith, λ op. (omega arith, find-few 1 p.machine.pages tdr gpa 0 (page_aug_rest p.machine.pages tdr page (index_at 0 gpa)) (λ f. (omega arith, λ host children. refl)))))
+few_tries p (call.MrExtend tdr gpa) h = (
   omega arith,
   λ pamt life count tdcs. (
     omega arith,
@@ -108,3 +147,151 @@ few_tries p (call.MrExtend tdr gpa) = (
     ),
   ),
 )
+
+-- VP.ENTER
+enters-as : (p : Place) (tdr vp most : ℕ) → EndsAs (call_ends p.machine (call.VpEnter tdr vp most)) 4 (task_of p (call.VpEnter tdr vp most)).tree
+enters-as p tdr vp most = (refl, refl, λ a. (refl, refl, λ b. (refl, refl, λ c. (refl, refl, λ d. (
+  omega arith,
+  λ pamt. (refl, refl, λ y. λ life. (refl, refl, λ z. λ count. (refl, refl, λ u. λ tdcs. (
+    omega arith,
+    λ op. (refl, refl, λ v. (
+      omega arith,
+      λ its. (refl, refl, λ w. λ state. (refl, refl, λ x. λ word. (refl, refl, λ q. (omega arith, λ epoch last index position root. (refl, rw (a, b) refl))))),
+    )),
+  )))),
+)))))
+
+-- calls
+
+pub ends_as : (p : Place) (c : Call) → EndsAs (call_ends p.machine c) (most_tries c) (task_of p c).tree
+ends_as p (call.HostRead page word) = plain-ends (call_ends p.machine (call.HostRead page word)) (λ r. refl) (λ r. refl) (most_tries (call.HostRead page word)) (task_of p (call.HostRead page word)).tree (few_tries p (call.HostRead page word) refl)
+ends_as p (call.HostWrite page word value) = plain-ends (call_ends p.machine (call.HostWrite page word value)) (λ r. refl) (λ r. refl) (most_tries (call.HostWrite page word value)) (task_of p (call.HostWrite page word value)).tree (few_tries p (call.HostWrite page word value) refl)
+ends_as p (call.PhymemPageRdmd page) = plain-ends (call_ends p.machine (call.PhymemPageRdmd page)) (λ r. refl) (λ r. refl) (most_tries (call.PhymemPageRdmd page)) (task_of p (call.PhymemPageRdmd page)).tree (few_tries p (call.PhymemPageRdmd page) refl)
+ends_as p call.PhymemCacheWb = plain-ends (call_ends p.machine call.PhymemCacheWb) (λ r. refl) (λ r. refl) (most_tries call.PhymemCacheWb) (task_of p call.PhymemCacheWb).tree (few_tries p call.PhymemCacheWb refl)
+ends_as p (call.PhymemPageReclaim tdr page) = plain-ends (call_ends p.machine (call.PhymemPageReclaim tdr page)) (λ r. refl) (λ r. refl) (most_tries (call.PhymemPageReclaim tdr page)) (task_of p (call.PhymemPageReclaim tdr page)).tree (few_tries p (call.PhymemPageReclaim tdr page) refl)
+ends_as p (call.MngCreate tdr hkid) = plain-ends (call_ends p.machine (call.MngCreate tdr hkid)) (λ r. refl) (λ r. refl) (most_tries (call.MngCreate tdr hkid)) (task_of p (call.MngCreate tdr hkid)).tree (few_tries p (call.MngCreate tdr hkid) refl)
+ends_as p (call.MngKeyConfig tdr) = plain-ends (call_ends p.machine (call.MngKeyConfig tdr)) (λ r. refl) (λ r. refl) (most_tries (call.MngKeyConfig tdr)) (task_of p (call.MngKeyConfig tdr)).tree (few_tries p (call.MngKeyConfig tdr) refl)
+ends_as p (call.MngAddcx tdr page) = plain-ends (call_ends p.machine (call.MngAddcx tdr page)) (λ r. refl) (λ r. refl) (most_tries (call.MngAddcx tdr page)) (task_of p (call.MngAddcx tdr page)).tree (few_tries p (call.MngAddcx tdr page) refl)
+ends_as p (call.MngInit tdr) = plain-ends (call_ends p.machine (call.MngInit tdr)) (λ r. refl) (λ r. refl) (most_tries (call.MngInit tdr)) (task_of p (call.MngInit tdr)).tree (few_tries p (call.MngInit tdr) refl)
+ends_as p (call.MngRd tdr field) = plain-ends (call_ends p.machine (call.MngRd tdr field)) (λ r. refl) (λ r. refl) (most_tries (call.MngRd tdr field)) (task_of p (call.MngRd tdr field)).tree (few_tries p (call.MngRd tdr field) refl)
+ends_as p (call.MngVpflushdone tdr) = plain-ends (call_ends p.machine (call.MngVpflushdone tdr)) (λ r. refl) (λ r. refl) (most_tries (call.MngVpflushdone tdr)) (task_of p (call.MngVpflushdone tdr)).tree (few_tries p (call.MngVpflushdone tdr) refl)
+ends_as p (call.MngKeyFreeid tdr) = plain-ends (call_ends p.machine (call.MngKeyFreeid tdr)) (λ r. refl) (λ r. refl) (most_tries (call.MngKeyFreeid tdr)) (task_of p (call.MngKeyFreeid tdr)).tree (few_tries p (call.MngKeyFreeid tdr) refl)
+ends_as p (call.MrFinalize tdr) = plain-ends (call_ends p.machine (call.MrFinalize tdr)) (λ r. refl) (λ r. refl) (most_tries (call.MrFinalize tdr)) (task_of p (call.MrFinalize tdr)).tree (few_tries p (call.MrFinalize tdr) refl)
+ends_as p (call.VpCreate tdr page) = plain-ends (call_ends p.machine (call.VpCreate tdr page)) (λ r. refl) (λ r. refl) (most_tries (call.VpCreate tdr page)) (task_of p (call.VpCreate tdr page)).tree (few_tries p (call.VpCreate tdr page) refl)
+ends_as p (call.VpInit tdr vp value) = plain-ends (call_ends p.machine (call.VpInit tdr vp value)) (λ r. refl) (λ r. refl) (most_tries (call.VpInit tdr vp value)) (task_of p (call.VpInit tdr vp value)).tree (few_tries p (call.VpInit tdr vp value) refl)
+ends_as p (call.VpEnter tdr vp max) = enters-as p tdr vp max
+ends_as p (call.MemSeptAdd tdr gpa level page) = plain-ends (call_ends p.machine (call.MemSeptAdd tdr gpa level page)) (λ r. refl) (λ r. refl) (most_tries (call.MemSeptAdd tdr gpa level page)) (task_of p (call.MemSeptAdd tdr gpa level page)).tree (few_tries p (call.MemSeptAdd tdr gpa level page) refl)
+ends_as p (call.MemSeptRd tdr gpa level) = plain-ends (call_ends p.machine (call.MemSeptRd tdr gpa level)) (λ r. refl) (λ r. refl) (most_tries (call.MemSeptRd tdr gpa level)) (task_of p (call.MemSeptRd tdr gpa level)).tree (few_tries p (call.MemSeptRd tdr gpa level) refl)
+ends_as p (call.MemPageAdd tdr gpa page source) = plain-ends (call_ends p.machine (call.MemPageAdd tdr gpa page source)) (λ r. refl) (λ r. refl) (most_tries (call.MemPageAdd tdr gpa page source)) (task_of p (call.MemPageAdd tdr gpa page source)).tree (few_tries p (call.MemPageAdd tdr gpa page source) refl)
+ends_as p (call.MemPageAug tdr gpa page) = plain-ends (call_ends p.machine (call.MemPageAug tdr gpa page)) (λ r. refl) (λ r. refl) (most_tries (call.MemPageAug tdr gpa page)) (task_of p (call.MemPageAug tdr gpa page)).tree (few_tries p (call.MemPageAug tdr gpa page) refl)
+ends_as p (call.MrExtend tdr gpa) = plain-ends (call_ends p.machine (call.MrExtend tdr gpa)) (λ r. refl) (λ r. refl) (most_tries (call.MrExtend tdr gpa)) (task_of p (call.MrExtend tdr gpa)).tree (few_tries p (call.MrExtend tdr gpa) refl)
+
+pub begins_other : (p : Place) (c : Call) → BeginsUnderOther (task_of p c).tree
+begins_other p (call.HostRead page word) = refl
+begins_other p (call.HostWrite page word value) = refl
+begins_other p (call.PhymemPageRdmd page) = refl
+begins_other p call.PhymemCacheWb = refl
+begins_other p (call.PhymemPageReclaim tdr page) = refl
+begins_other p (call.MngCreate tdr hkid) = refl
+begins_other p (call.MngKeyConfig tdr) = refl
+begins_other p (call.MngAddcx tdr page) = refl
+begins_other p (call.MngInit tdr) = refl
+begins_other p (call.MngRd tdr field.Life) = refl
+begins_other p (call.MngRd tdr field.Op) = refl
+begins_other p (call.MngRd tdr field.Epoch) = refl
+begins_other p (call.MngRd tdr field.Mrtd) = refl
+begins_other p (call.MngVpflushdone tdr) = refl
+begins_other p (call.MngKeyFreeid tdr) = refl
+begins_other p (call.MrFinalize tdr) = refl
+begins_other p (call.VpCreate tdr page) = refl
+begins_other p (call.VpInit tdr vp value) = refl
+begins_other p (call.VpEnter tdr vp max) = refl
+begins_other p (call.MemSeptAdd tdr gpa level page) = refl
+begins_other p (call.MemSeptRd tdr gpa level) = refl
+begins_other p (call.MemPageAdd tdr gpa page source) = refl
+begins_other p (call.MemPageAug tdr gpa page) = refl
+begins_other p (call.MrExtend tdr gpa) = refl
+
+-- steps of guests
+
+or-ends : (e : Ends) (n gpa : ℕ) (b : Bool) (t : Tree) → only (Exited (EptViolation gpa Write)) ≡ e.answer (Exited (EptViolation gpa Write)) → e.fits (Exited (EptViolation gpa Write)) ≡ true → only (Done value.Nothing) ≡ e.answer (Done value.Nothing) → e.fits (Done value.Nothing) ≡ true
+    → EndsAs e n t → EndsAs e n (or_violation gpa b t)
+or-ends e n gpa true t h f i g few = few
+or-ends e n gpa false t h f i g few = (h, f, λ y. (i, g))
+
+passed-ends : (e : Ends) (n pages gpa page level : ℕ) (further : ℕ → Tree) → only (Exited (EptViolation gpa Write)) ≡ e.answer (Exited (EptViolation gpa Write)) → e.fits (Exited (EptViolation gpa Write)) ≡ true → only (Done value.Nothing) ≡ e.answer (Done value.Nothing) → e.fits (Done value.Nothing) ≡ true
+    → ((q : ℕ) → EndsAs e n (further q)) → EndsAs e n (passed_tree pages gpa page level further)
+passed-ends e n pages gpa page level further h f i g few = λ word. or-ends e n gpa (is_mapped_on (entry_told pages word)) (further (entry_told pages word).page) h f i g (few (entry_told pages word).page)
+
+accepted-ends : (e : Ends) (n : ℕ) (b : Bool) (v at i p position : ℕ) → only (Done value.Nothing) ≡ e.answer (Done value.Nothing) → e.fits (Done value.Nothing) ≡ true → EndsAs e n (accepted b v at i p position)
+accepted-ends e n true v at i p position h f = (h, f)
+accepted-ends e n false v at i p position h f = (h, f)
+
+with-ends : (e : Ends) (n : ℕ) (at : ℕ → WordPlace) (from left : ℕ) (k : List ℕ → Tree) → ((xs : List ℕ) → EndsAs e n (k xs)) → EndsAs e n (with_words at from left k)
+with-ends e n at from zero k few = few []
+with-ends e n at from (suc left) k few = λ x. with-ends e n at (from + 1) left (λ xs. k (x ∷ xs)) (λ xs. few (x ∷ xs))
+
+rtmr-ends : (e : Ends) (v line i d : ℕ) → ((old registers : List ℕ) → let a = with_notes (Done (value.Digest (digest_bytes (six_words (extension old registers))))) (RtmrNote line i (six_words (extension old registers)) ∷ []) [] in (a ≡ e.answer a.reply) × (e.fits a.reply ≡ true))
+    → EndsAs e 1 (extend_held v line i d)
+rtmr-ends e v line i d h =
+    with-ends e 1 (rtmr_at d i) 0 6 (λ old. with_words (register_at v) 0 6 (λ registers. with_position v (λ at. extended v line d i at (extension old registers))))
+    (λ old. with-ends e 1 (register_at v) 0 6 (λ registers. with_position v (λ at. extended v line d i at (extension old registers))) (λ registers. λ at. h old registers))
+
+page-small : (b : Bool) (x e : Entry) → x.page < 65536 → (if b then Some x else None) ≡ Some e → e.page < 65536
+page-small true x e small is = (let same : x ≡ e = cc in subst (λ (z : Entry). z.page < 65536) same small)
+page-small false x e small is = cc
+
+state-small : (word : ℕ) (s : Option EntryState) (e : Entry) → entry_of_state word s ≡ Some e → e.page < 65536
+state-small word None e is = cc
+state-small word (Some s) e is =
+    page-small (is_lawful_entry (record { state = s; page = word / 16 % 65536; mark = word / 2 ^ 32 }) && (entry_word (record { state = s; page = word / 16 % 65536; mark = word / 2 ^ 32 }) == word)) (record { state = s; page = word / 16 % 65536; mark = word / 2 ^ 32 }) e (omega arith) is
+
+none-seen : (b : Bool) → is_page_seen b 65536 ≡ true
+none-seen true = refl
+none-seen false = refl
+
+goes-seen : (b : Bool) (seen page : ℕ) → (b ≡ true → page_by seen ≡ page) → page < 65536 → is_page_seen b seen ≡ true
+goes-seen true seen page h small = ap (λ (n : ℕ). nat_lt n 65536) (h refl) ∙ lt-ltb page 65536 small
+goes-seen false seen page h small = refl
+
+seen-as : (access : Access) (level : ℕ) (x : Option Entry) → ((e : Entry) → x ≡ Some e → e.page < 65536) → is_page_seen (goes_on_by access level (of_entry rights_by x)) (of_entry rights_by x) ≡ true
+seen-as access level None h = none-seen (goes_on_by access level 65536)
+seen-as access level (Some e) h =
+    let told = walks-are-told access level e in
+    ap (λ (b : Bool). is_page_seen b (rights_by e)) told.0 ∙ goes-seen (goes_on access level e) (rights_by e) e.page told.1 (h e refl)
+
+pub step_ends_as : (p : Place) (t v line : ℕ) (s : Step) → EndsAs (step_ends t line s) (step_tries s) (step_task p t v line s).tree
+step_ends_as p t v line (Operates (op.Set r x)) = λ at. (refl, refl)
+step_ends_as p t v line (Operates (op.Add r s)) = λ at x y. (refl, refl)
+step_ends_as p t v line (Operates (op.Load r gpa)) = (refl, refl, λ y. (omega arith, λ pamt. (refl, refl, λ z. λ at x. (refl, refl))))
+step_ends_as p t v line (Operates (op.Store r gpa)) = (refl, refl, λ y. (omega arith, λ pamt. (refl, refl, λ z. λ at x. (refl, refl))))
+step_ends_as p t v line (Operates (op.Accept gpa)) =
+    let e : Ends = step_ends t line (Operates (op.Accept gpa)) in
+    λ word. (omega arith, λ root. passed-ends e 1 p.machine.pages gpa _ 3 (λ q. passed_tree p.machine.pages gpa q 2 (λ r. passed_tree p.machine.pages gpa r 1 (accept_found p.machine v gpa))) refl refl refl refl
+    (λ q. passed-ends e 1 p.machine.pages gpa q 2 (λ r. passed_tree p.machine.pages gpa r 1 (accept_found p.machine v gpa)) refl refl refl refl
+    (λ r. passed-ends e 1 p.machine.pages gpa r 1 (accept_found p.machine v gpa) refl refl refl refl
+    (λ at. λ page. (refl, refl, λ y. (omega arith, λ entry. (refl, refl, λ z. λ n. accepted-ends e 0 _ v at _ _ n refl refl)))))))
+step_ends_as p t v line (Operates (op.Rtmr i)) =
+    let e : Ends = step_ends t line (Operates (op.Rtmr i)) in
+    λ word. (omega arith, rtmr-ends e v line i (page_told p.machine.pages word) (λ old registers. (
+      ap (λ (bytes : List ℕ). with_notes (Done (value.Digest (digest_bytes (six_words (extension old registers))))) (RtmrNote line i (six_words (digest_word bytes)) ∷ []) []) (sym (digest_read (digest_bytes old ++ digest_bytes registers))),
+      refl,
+    )))
+step_ends_as p t v line (Operates (op.Vmcall r)) = λ at x. (refl, refl)
+step_ends_as p t v line (Accesses Read r gpa page) = λ at x. (refl, refl)
+step_ends_as p t v line (Accesses Write r gpa page) = λ at x. (refl, refl)
+step_ends_as p t v line (Loads access gpa level page) = λ x. (refl, seen-as access level (entry_in x) (λ e is. state-small x (entry_state_of (x % 16)) e is))
+step_ends_as p t v line (Leaves out) = λ word last. (refl, refl)
+
+pub step_begins_other : (p : Place) (t v line : ℕ) (s : Step) → BeginsUnderOther (step_task p t v line s).tree
+step_begins_other p t v line (Operates (op.Set r x)) = λ at. refl
+step_begins_other p t v line (Operates (op.Add r s)) = λ at x y. refl
+step_begins_other p t v line (Operates (op.Load r gpa)) = refl
+step_begins_other p t v line (Operates (op.Store r gpa)) = refl
+step_begins_other p t v line (Operates (op.Accept gpa)) = λ word. refl
+step_begins_other p t v line (Operates (op.Rtmr i)) = λ word. refl
+step_begins_other p t v line (Operates (op.Vmcall r)) = λ at x. refl
+step_begins_other p t v line (Accesses Read r gpa page) = λ at x. refl
+step_begins_other p t v line (Accesses Write r gpa page) = λ at x. refl
+step_begins_other p t v line (Loads access gpa level page) = λ x. refl
+step_begins_other p t v line (Leaves out) = λ word last. refl

@@ -1,62 +1,50 @@
--- A turn of the present call's run is a turn of its processor.
-use Rattle.std.proofs.Common.{◌≡◌, ℕ, ◌+◌, ◌<◌, ◌≤◌, false, List, [], ◌∷◌, ◌++◌, length, Option, Some, None, refl, ap, sym, ◌∙◌, subst, arith}
+-- A turn of the run of the present line is a turn of its processor.
+use Rattle.std.proofs.Common.{◌≡◌, ℕ, ◌+◌, ◌<◌, ◌≤◌, true, List, [], ◌∷◌, ◌++◌, length, Option, Some, None, refl, ap, sym, ◌∙◌, subst, arith}
 use Rattle.td_words.specs.declared.machines.Machine.{Machine}
 use Rattle.td_words.specs.declared.calls.Call.{Call}
+use Rattle.td_words.specs.declared.calls.Call.TheVariants as call
+use Rattle.td_words.specs.declared.calls.GuestOp.{GuestOp}
 use Rattle.td_words.specs.declared.replies.Reply.{Reply}
-use Rattle.flat_core.specs.Table.{most_tries}
+use Rattle.flat_core.specs.Table.{most_tries, guest_events}
 use Rattle.flat_core.specs.Run.{events_in}
 use Rattle.step_core.specs.declared.items.Taken.{Taken}
-use Rattle.leaf_engine.specs.declared.events.RunTurn.{RunTurn}
-use Rattle.leaf_engine.specs.declared.events.HeldLock.{HeldLock}
-use Rattle.leaf_engine.specs.declared.events.Stage.{Stage}
-use Rattle.leaf_engine.specs.declared.events.Stage.TheVariants as stages
-use Rattle.leaf_engine.specs.Besides.{Beside}
-use Rattle.leaf_engine.specs.Means.{Task}
 use Rattle.leaf_engine.specs.declared.needs.Place.{Place}
-use Rattle.leaf_engine.specs.Turns.{Standing, has_ended, last_reply}
-use Rattle.leaf_engine.specs.OwnLists.{Piece, taken_in, TurnsInPieces, WordLp, running, after_turn, LpTurns}
-use Rattle.leaf_dispatch.specs.Bounds.{stage_left, left_of, events_left}
-use Rattle.leaf_dispatch.specs.Table.{task_of}
-use Rattle.leaf_dispatch.specs.Running.{run_seen, kept_after, CallTurned}
+use Rattle.leaf_engine.specs.declared.events.Event.{Event}
+use Rattle.leaf_engine.specs.Trees.{Answer, only}
+use Rattle.leaf_engine.specs.Besides.{Beside, answered_by, beside_after}
+use Rattle.leaf_engine.specs.Guests.{WordGuest, guest_after, guest_entered, or_else}
+use Rattle.leaf_engine.specs.Turns.{Standing, last_reply}
+use Rattle.leaf_engine.specs.OwnLists.{Piece, taken_in, TurnsInPieces, WordLp, running, after_turn, LineTurn, LpTurns}
+use Rattle.leaf_dispatch.specs.Answers.{Ends, call_answer, call_ends, enters_none, beside_by, guest_by}
+use Rattle.leaf_dispatch.specs.Bounds.{stage_left, run_left, left_of, events_left}
+use Rattle.leaf_dispatch.specs.Table.{task_of, place_table}
+use Rattle.leaf_dispatch.specs.Running.{run_seen, kept_after, turn_of, LeafTurned}
 use Rattle.leaf_dispatch.specs.declared.running.Running.{Running}
-use Rattle.leaf_dispatch.proofs.Lowering.{Lowers, turn-lowers, turn-alone}
+use Rattle.leaf_dispatch.specs.declared.running.LeafTurn.{LeafTurn}
+use Rattle.leaf_dispatch.proofs.Lowering.{Gives, turn-gives}
 
--- a call that goes on has something left to do
-pub goes-on : (s : Stage) (held : List HeldLock) → last_reply s held ≡ None → has_ended s held ≡ false
-goes-on stages.Trying held e = refl
-goes-on (stages.Undoing name at) held e = refl
-goes-on (stages.Answered reply) [] e = cc
-goes-on (stages.Answered reply) (h ∷ hs) e = refl
+-- the present line's run before, and what its turn gives
+pub line-gives : {B : Type 0} (did : List Taken → B → Type 0) (bench : B) (m : Machine) (e : Ends) (s : Standing) (kept : Option Running) (result : LeafTurn) → (t : LeafTurned did m e s bench kept result) → Gives e s t.stands result.event
+line-gives did bench m e s kept result t = turn-gives m e s t.stands t.turned.0 result.event t.few_tries t.fits t.oldest t.turned.2.turn
 
--- the bound before a turn, and after it
-bound-before : (leaf : Call → Task) (c : Call) (cs : List Call) (run : Option Standing) → left_of (c ∷ cs) run ≡ stage_left (most_tries c) (running (leaf c) run).stage (length (running (leaf c) run).held) + events_in cs
-bound-before leaf c cs None = omega arith
-bound-before leaf c cs (Some s) = refl
-
-none-begun : (cs : List Call) → left_of cs None ≤ events_in cs
-none-begun [] = omega arith
-none-begun (c ∷ cs) = omega arith
-
-bound-after : (c : Call) (cs : List Call) (rs : List Reply) (b : Beside) (s : Standing) (reply : Option Reply) (x : ℕ) → stage_left (most_tries c) s.stage (length s.held) < x
-    → events_left (after_turn c cs rs b s reply) < x + events_in cs
-bound-after c cs rs b s None x l = omega arith
-bound-after c cs rs b s (Some r) x l = let few = none-begun cs in omega (arith, few, l)
-
-pub record Moved {B : Type 0} (did : List Taken → B → Type 0) (bench : B) (leaf : Call → Task) (m : Machine) (p q : WordLp) (result : RunTurn) : Type 0 where
+pub record LineMoved {B : Type 0} (did : List Taken → B → Type 0) (bench : B) (p : Place) (c : Call) (cs : List Call) (run : Option Standing) (g : Option WordGuest) (rs : List Reply) (b : Beside) (q : WordLp) (result : LeafTurn) : Type 0 where
   pub pieces : List Piece
   pub did_them : did (taken_in pieces) bench
-  pub turn : LpTurns leaf m p result.event pieces q
-  pub fewer : events_left q < events_left p
+  pub turn : LineTurn (task_of p) p.machine c cs run g rs b result.event pieces q
 
--- from the lines on: a turn of the run of the first
-lines-move : TurnsInPieces → {B : Type 0} (did : List Taken → B → Type 0) (bench : B) (p : Place) (c : Call) (cs : List Call) (run : Option Standing) (rs : List Reply) (b : Beside) (kept : Option Running) (q : WordLp) (result : RunTurn)
-    → (t : CallTurned did p c run bench kept result) → q ≡ after_turn c cs rs b t.stands result.reply
-    → Moved did bench (task_of p) p.machine (record { lines = c ∷ cs; run = run; replies = rs; beside = b }) q result
-lines-move law did bench p c cs run rs b kept q result t after =
+-- what is left of it afterwards, by the replies of its act and of its last event
+abbrev pub after_line : Call → List Call → Option WordGuest → List Reply → Beside → Standing → LeafTurn → WordLp
+after_line c cs g rs b s t = after_turn c cs (guest_by (call_answer c) t.act g) rs (beside_by (call_answer c) t.act b) s t.reply
+
+pub line-moves : TurnsInPieces → {B : Type 0} (did : List Taken → B → Type 0) (bench : B) (p : Place) (c : Call) (cs : List Call) (run : Option Standing) (g : Option WordGuest) (rs : List Reply) (b : Beside) (kept : Option Running) (q : WordLp) (result : LeafTurn)
+    → (t : LeafTurned did p.machine (call_ends p.machine c) (running (task_of p c) run) bench kept result) → q ≡ after_line c cs g rs b t.stands result
+    → LineMoved did bench p c cs run g rs b q result
+line-moves law did bench p c cs run g rs b kept q result t after =
     let s = running (task_of p c) run in
-    let told = law.told p.machine s t.stands t.turned.0 result t.turned.2 in
-    let lower : Lowers (most_tries c) s t.stands = turn-lowers p.machine (most_tries c) s t.stands t.turned.0 result.event t.few_tries t.turned.2.turn in
-    let left : events_left q ≡ events_left (after_turn c cs rs b t.stands result.reply) = ap events_left after in
+    let told = law.told p.machine s t.stands t.turned.0 (turn_of result) t.turned.2 in
+    let gives : Gives (call_ends p.machine c) s t.stands result.event = line-gives did bench p.machine (call_ends p.machine c) s kept result t in
+    let guest : guest_by (call_answer c) result.act g ≡ guest_after result.event t.stands.rest g = ap (λ (z : Option Reply). guest_by (call_answer c) z g) t.act_is ∙ sym (gives.guest g) in
+    let besides : beside_by (call_answer c) result.act b ≡ beside_after result.event t.stands.rest b = ap (λ (z : Option Reply). beside_by (call_answer c) z b) t.act_is ∙ sym (gives.beside b) in
     record {
       pieces = told.0;
       did_them = subst (λ (zs : List Taken). did zs bench) (sym told.2) t.turned.1;
@@ -64,33 +52,91 @@ lines-move law did bench p c cs run rs b kept q result t after =
         stands = t.stands;
         turn = told.1;
         going = t.going;
-        after_is = after ∙ (ap (after_turn c cs rs b t.stands) t.turned.2.reply
-            ∙ ap (λ (z : Beside). after_turn c cs rs z t.stands (last_reply t.stands.stage t.stands.held)) (sym (turn-alone p.machine (most_tries c) s t.stands t.turned.0 result.event b t.few_tries t.turned.2.turn)));
+        after_is =
+            after
+            ∙ (ap (λ (z : Option WordGuest). after_turn c cs z rs (beside_by (call_answer c) result.act b) t.stands result.reply) guest
+            ∙ (ap (λ (z : Beside). after_turn c cs (guest_after result.event t.stands.rest g) rs z t.stands result.reply) besides
+            ∙ ap (after_turn c cs (guest_after result.event t.stands.rest g) rs (beside_after result.event t.stands.rest b) t.stands) t.turned.2.reply));
       };
-      fewer = rw (left, bound-before (task_of p) c cs run) (bound-after c cs rs b t.stands result.reply (stage_left (most_tries c) s.stage (length s.held)) lower.fewer);
     }
 
-lp-moves : TurnsInPieces → {B : Type 0} (did : List Taken → B → Type 0) (bench : B) (p : Place) (c : Call) (cs : List Call) (l q : WordLp) (kept : Option Running) (result : RunTurn)
-    → l.lines ≡ c ∷ cs → (t : CallTurned did p c l.run bench kept result) → q ≡ after_turn c cs l.replies l.beside t.stands result.reply
-    → Moved did bench (task_of p) p.machine l q result
-lp-moves law did bench p c cs l q kept result lines t after =
-    subst (λ (z : List Call). Moved did bench (task_of p) p.machine (record { lines = z; run = l.run; replies = l.replies; beside = l.beside }) q result) (sym lines)
-    (lines-move law did bench p c cs l.run l.replies l.beside kept q result t after)
+-- the bound before a turn, and after it
+
+bound-before : (p : Place) (c : Call) (run : Option Standing) → run_left c run ≡ stage_left (most_tries c) (guest_events c) (running (task_of p c) run).stage (length (running (task_of p c) run).held)
+bound-before p c None = refl
+bound-before p c (Some s) = refl
+
+none-begun : (codes : ℕ → ℕ → List GuestOp) (cs : List Call) (rs : List Reply) (b : Beside) → events_left codes (record { lines = cs; run = None; guest = None; replies = rs; beside = b }) ≤ events_in cs
+none-begun codes [] rs b = omega arith
+none-begun codes (c ∷ cs) rs b = omega arith
+
+pub record Moved {B : Type 0} (codes : ℕ → ℕ → List GuestOp) (did : List Taken → B → Type 0) (bench : B) (place : Place) (p q : WordLp) (event : Event) : Type 0 where
+  pub pieces : List Piece
+  pub did_them : did (taken_in pieces) bench
+  pub turn : LpTurns (place_table place codes) place.machine p event pieces q
+  pub fewer : events_left codes q < events_left codes p
+
+-- outside guests, where no line enters one
+
+only-answer : (c : Call) (cs : List Call) → enters_none (c ∷ cs) ≡ true → (r : Reply) → call_answer c r ≡ only r
+only-answer (call.VpEnter tdr vp most) cs h r = cc
+only-answer (call.HostRead page word) cs h r = refl
+only-answer _ cs h r = refl
+
+nothing-besides : (answer : Reply → Answer) (act : Option Reply) (b : Beside) → ((r : Reply) → answer r ≡ only r) → beside_by answer act b ≡ b
+nothing-besides answer None b h = refl
+nothing-besides answer (Some r) b h = ap (λ (z : Answer). answered_by z b) (h r)
+
+no-guest : (answer : Reply → Answer) (act : Option Reply) → ((r : Reply) → answer r ≡ only r) → guest_by answer act None ≡ None
+no-guest answer None h = refl
+no-guest answer (Some r) h = ap (λ (z : Answer). or_else (guest_entered z) None) (h r)
+
+after-plain : (c : Call) (cs : List Call) → enters_none (c ∷ cs) ≡ true → (rs : List Reply) (b : Beside) (s : Standing) (t : LeafTurn) → after_line c cs None rs b s t ≡ after_turn c cs None rs b s t.reply
+after-plain c cs h rs b s t =
+    ap (λ (z : Option WordGuest). after_turn c cs z rs (beside_by (call_answer c) t.act b) s t.reply) (no-guest (call_answer c) t.act (only-answer c cs h))
+    ∙ ap (λ (z : Beside). after_turn c cs None rs z s t.reply) (nothing-besides (call_answer c) t.act b (only-answer c cs h))
+
+bound-after : (codes : ℕ → ℕ → List GuestOp) (c : Call) (cs : List Call) (rs : List Reply) (b : Beside) (s : Standing) (reply : Option Reply) (x : ℕ) → stage_left (most_tries c) (guest_events c) s.stage (length s.held) < x
+    → events_left codes (after_turn c cs None rs b s reply) < x + events_in cs
+bound-after codes c cs rs b s None x l = omega arith
+bound-after codes c cs rs b s (Some r) x l = let few = none-begun codes cs (rs ++ r ∷ []) b in omega (arith, few, l)
+
+plain-moves : TurnsInPieces → {B : Type 0} (codes : ℕ → ℕ → List GuestOp) (did : List Taken → B → Type 0) (bench : B) (p : Place) (c : Call) (cs : List Call) (run : Option Standing) (rs : List Reply) (b : Beside) (kept : Option Running) (q : WordLp) (result : LeafTurn)
+    → enters_none (c ∷ cs) ≡ true → (t : LeafTurned did p.machine (call_ends p.machine c) (running (task_of p c) run) bench kept result) → q ≡ after_turn c cs None rs b t.stands result.reply
+    → Moved codes did bench p (record { lines = c ∷ cs; run = run; guest = None; replies = rs; beside = b }) q result.event
+plain-moves law codes did bench p c cs run rs b kept q result h t after =
+    let s = running (task_of p c) run in
+    let moved = line-moves law did bench p c cs run None rs b kept q result t (after ∙ sym (after-plain c cs h rs b t.stands result)) in
+    let gives : Gives (call_ends p.machine c) s t.stands result.event = line-gives did bench p.machine (call_ends p.machine c) s kept result t in
+    let left : events_left codes q ≡ events_left codes (after_turn c cs None rs b t.stands result.reply) = ap (events_left codes) after in
+    record {
+      pieces = moved.pieces;
+      did_them = moved.did_them;
+      turn = moved.turn;
+      fewer = rw (left, bound-before p c run) (bound-after codes c cs rs b t.stands result.reply (stage_left (most_tries c) (guest_events c) s.stage (length s.held)) (gives.lower (guest_events c)));
+    }
+
+lp-moves : TurnsInPieces → {B : Type 0} (codes : ℕ → ℕ → List GuestOp) (did : List Taken → B → Type 0) (bench : B) (p : Place) (c : Call) (cs lines : List Call) (run : Option Standing) (rs : List Reply) (b : Beside) (q : WordLp) (kept : Option Running) (result : LeafTurn)
+    → enters_none lines ≡ true → lines ≡ c ∷ cs → (t : LeafTurned did p.machine (call_ends p.machine c) (running (task_of p c) run) bench kept result) → q ≡ after_turn c cs None rs b t.stands result.reply
+    → Moved codes did bench p (record { lines = lines; run = run; guest = None; replies = rs; beside = b }) q result.event
+lp-moves law codes did bench p c cs lines run rs b q kept result h is t after =
+    subst (λ (z : List Call). Moved codes did bench p (record { lines = z; run = run; guest = None; replies = rs; beside = b }) q result.event) (sym is)
+    (plain-moves law codes did bench p c cs run rs b kept q result (subst (λ (z : List Call). enters_none z ≡ true) is h) t after)
 
 -- a call that goes on, and one that has its reply
 
-pub lp-goes-on : TurnsInPieces → {B : Type 0} (did : List Taken → B → Type 0) (bench : B) (p : Place) (c : Call) (cs : List Call) (l : WordLp) (kept : Option Running) (result : RunTurn)
-    → l.lines ≡ c ∷ cs → CallTurned did p c l.run bench kept result → result.reply ≡ None
-    → Moved did bench (task_of p) p.machine l (record { lines = l.lines; run = run_seen kept; replies = l.replies; beside = l.beside }) result
-lp-goes-on law did bench p c cs l kept result lines t none =
-    lp-moves law did bench p c cs l _ kept result lines t
-    (ap (λ (z : List Call). record { lines = z; run = run_seen kept; replies = l.replies; beside = l.beside }) lines
-    ∙ (ap (λ (z : Option Standing). record { lines = c ∷ cs; run = z; replies = l.replies; beside = l.beside }) (t.seen ∙ ap (λ (z : Option Reply). kept_after z t.stands) none) ∙ sym (ap (after_turn c cs l.replies l.beside t.stands) none)))
+pub lp-goes-on : TurnsInPieces → {B : Type 0} (codes : ℕ → ℕ → List GuestOp) (did : List Taken → B → Type 0) (bench : B) (p : Place) (c : Call) (cs lines : List Call) (run : Option Standing) (rs : List Reply) (b : Beside) (kept : Option Running) (result : LeafTurn)
+    → enters_none lines ≡ true → lines ≡ c ∷ cs → LeafTurned did p.machine (call_ends p.machine c) (running (task_of p c) run) bench kept result → result.reply ≡ None
+    → Moved codes did bench p (record { lines = lines; run = run; guest = None; replies = rs; beside = b }) (record { lines = lines; run = run_seen kept; guest = None; replies = rs; beside = b }) result.event
+lp-goes-on law codes did bench p c cs lines run rs b kept result h is t none =
+    lp-moves law codes did bench p c cs lines run rs b _ kept result h is t
+    (ap (λ (z : List Call). record { lines = z; run = run_seen kept; guest = None; replies = rs; beside = b }) is
+    ∙ (ap (λ (z : Option Standing). record { lines = c ∷ cs; run = z; guest = None; replies = rs; beside = b }) (t.seen ∙ ap (λ (z : Option Reply). kept_after z t.stands) none) ∙ sym (ap (after_turn c cs None rs b t.stands) none)))
 
-pub lp-has-reply : TurnsInPieces → {B : Type 0} (did : List Taken → B → Type 0) (bench : B) (p : Place) (c : Call) (cs : List Call) (l : WordLp) (kept : Option Running) (result : RunTurn) (reply : Reply) (replies : List Reply)
-    → l.lines ≡ c ∷ cs → CallTurned did p c l.run bench kept result → result.reply ≡ Some reply → replies ≡ l.replies ++ reply ∷ []
-    → Moved did bench (task_of p) p.machine l (record { lines = cs; run = run_seen kept; replies = replies; beside = l.beside }) result
-lp-has-reply law did bench p c cs l kept result reply replies lines t some more =
-    lp-moves law did bench p c cs l _ kept result lines t
-    (ap (λ (z : Option Standing). record { lines = cs; run = z; replies = replies; beside = l.beside }) (t.seen ∙ ap (λ (z : Option Reply). kept_after z t.stands) some)
-    ∙ (ap (λ (z : List Reply). record { lines = cs; run = None; replies = z; beside = l.beside }) more ∙ sym (ap (after_turn c cs l.replies l.beside t.stands) some)))
+pub lp-has-reply : TurnsInPieces → {B : Type 0} (codes : ℕ → ℕ → List GuestOp) (did : List Taken → B → Type 0) (bench : B) (p : Place) (c : Call) (cs lines : List Call) (run : Option Standing) (rs : List Reply) (b : Beside) (kept : Option Running) (result : LeafTurn) (reply : Reply) (replies : List Reply)
+    → enters_none lines ≡ true → lines ≡ c ∷ cs → LeafTurned did p.machine (call_ends p.machine c) (running (task_of p c) run) bench kept result → result.reply ≡ Some reply → replies ≡ rs ++ reply ∷ []
+    → Moved codes did bench p (record { lines = lines; run = run; guest = None; replies = rs; beside = b }) (record { lines = cs; run = run_seen kept; guest = None; replies = replies; beside = b }) result.event
+lp-has-reply law codes did bench p c cs lines run rs b kept result reply replies h is t some more =
+    lp-moves law codes did bench p c cs lines run rs b _ kept result h is t
+    (ap (λ (z : Option Standing). record { lines = cs; run = z; guest = None; replies = replies; beside = b }) (t.seen ∙ ap (λ (z : Option Reply). kept_after z t.stands) some)
+    ∙ (ap (λ (z : List Reply). record { lines = cs; run = None; guest = None; replies = z; beside = b }) more ∙ sym (ap (after_turn c cs None rs b t.stands) some)))

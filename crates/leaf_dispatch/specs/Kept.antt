@@ -7,8 +7,9 @@ use Rattle.leaf_engine.specs.declared.events.HeldLock.{HeldLock}
 use Rattle.leaf_engine.specs.declared.events.Stage.{Stage}
 use Rattle.leaf_engine.specs.declared.events.Stage.TheVariants as stage
 use Rattle.leaf_engine.specs.Trees.{Tree, Lock, Load, Test, End, Since}
-use Rattle.leaf_engine.specs.Turns.{AreIn, IsStageIn}
-use Rattle.leaf_dispatch.specs.Bounds.{TriesAtMost}
+use Rattle.word_rules.specs.Views.{look}
+use Rattle.leaf_engine.specs.Turns.{Standing, AreIn, IsStageIn}
+use Rattle.leaf_dispatch.specs.Answers.{Ends, EndsAs, FitsStage, BeginsUnderOther, OldestIsOther, call_ends}
 use Rattle.leaf_dispatch.specs.Running.{IsUnderWay, IsRunAt}
 use Rattle.leaf_dispatch.specs.declared.running.Running.{Running}
 
@@ -21,17 +22,33 @@ IsStageIn-prop m written stage.Trying = hlevel props
 IsStageIn-prop m written (stage.Undoing name at) = hlevel props
 IsStageIn-prop m written (stage.Answered reply) = hlevel
 
-TriesAtMost-prop : (n : ℕ) (t : Tree) → IsProp (TriesAtMost n t)
-TriesAtMost-prop n (Lock l q m t) = hlevel (props, TriesAtMost-prop (n - 1) t)
-TriesAtMost-prop n (Load v q k) = hlevel (λ (x : ℕ). TriesAtMost-prop n (k x))
-TriesAtMost-prop n (Test b r t) = TriesAtMost-prop n t
-TriesAtMost-prop n (End a fs cs) = hlevel props
-TriesAtMost-prop n (Since a cs) = hlevel props
+EndsAs-prop : (e : Ends) (n : ℕ) (t : Tree) → IsProp (EndsAs e n t)
+EndsAs-prop e n (Lock l q m t) = hlevel (props, EndsAs-prop e (n - 1) t)
+EndsAs-prop e n (Load v q k) = hlevel (λ (x : ℕ). EndsAs-prop e n (k (look v x)))
+EndsAs-prop e n (Test b r t) = hlevel (props, EndsAs-prop e n t)
+EndsAs-prop e n (End a fs cs) = hlevel props
+EndsAs-prop e n (Since a cs) = hlevel props
 
-pub IsUnderWay-prop : (m : Machine) (c : Call) (r : Running) → IsProp (IsUnderWay m c r)
-IsUnderWay-prop m c r = hlevel (props, AreIn-prop, IsStageIn-prop, TriesAtMost-prop)
+FitsStage-prop : (e : Ends) (s : Stage) → IsProp (FitsStage e s)
+FitsStage-prop e stage.Trying = hlevel
+FitsStage-prop e (stage.Undoing name at) = hlevel
+FitsStage-prop e (stage.Answered reply) = hlevel props
+
+BeginsUnderOther-prop : (t : Tree) → IsProp (BeginsUnderOther t)
+BeginsUnderOther-prop (Lock l q m t) = hlevel props
+BeginsUnderOther-prop (Load v q k) = hlevel (λ (x : ℕ). BeginsUnderOther-prop (k (look v x)))
+BeginsUnderOther-prop (Test b r t) = BeginsUnderOther-prop t
+BeginsUnderOther-prop (End a fs cs) = hlevel props
+BeginsUnderOther-prop (Since a cs) = hlevel props
+
+OldestIsOther-prop : (hs : List HeldLock) (s : Standing) → IsProp (OldestIsOther hs s)
+OldestIsOther-prop [] s = hlevel (BeginsUnderOther-prop s.rest)
+OldestIsOther-prop (h ∷ hs) s = hlevel props
+
+pub IsUnderWay-prop : (m : Machine) (e : Ends) (r : Running) → IsProp (IsUnderWay m e r)
+IsUnderWay-prop m e r = hlevel (props, AreIn-prop, IsStageIn-prop, EndsAs-prop, FitsStage-prop, OldestIsOther-prop)
 
 pub IsRunAt-prop : (m : Machine) (cs : List Call) (run : Option Running) → IsProp (IsRunAt m cs run)
 IsRunAt-prop m [] run = hlevel
 IsRunAt-prop m (c ∷ cs) None = hlevel
-IsRunAt-prop m (c ∷ cs) (Some r) = IsUnderWay-prop m c r
+IsRunAt-prop m (c ∷ cs) (Some r) = IsUnderWay-prop m (call_ends m c) r

@@ -1,9 +1,10 @@
 pub mod Table
 pub mod Plans
 pub mod Leaves
+pub mod Answers
 pub mod Bounds
 pub mod Running
 pub mod Kept
+pub mod Guests
 pub mod States
 pub mod Laws
-pub mod Follows

@@ -1,5 +1,5 @@
--- What contracts see of a plan of any call.
-use Rattle.std.specs.Prelude.{ℕ, ◌==◌, ◌&&◌, not, nat_lt, nat_le, Bool, true, false, List, [], ◌∷◌, length}
+-- What contracts see of a plan of any call, and of any step of a guest.
+use Rattle.std.specs.Prelude.{ℕ, ◌+◌, ◌%◌, ◌^◌, ◌==◌, ◌&&◌, not, nat_lt, nat_le, Bool, true, false, List, [], ◌∷◌, length, drop, slice_index}
 use Rattle.td_words.specs.declared.names.LifeState.TheVariants as life
 use Rattle.td_words.specs.Packing.{Unassigned, FlushedOf}
 use Rattle.td_words.specs.Place.{Word}
@@ -9,7 +9,24 @@ use Rattle.leaf_engine.specs.declared.plans.Act.{Act}
 use Rattle.leaf_engine.specs.Changes.{Change, Put, Clear}
 use Rattle.leaf_engine.specs.Means.{Task, MeansRow}
 use Rattle.leaf_parts.specs.Words.{is_hkid}
+use Rattle.td_words.specs.declared.names.Access.TheVariants as access
+use Rattle.flat_core.specs.Tree.{word_of_gpa}
+use Rattle.flat_core.specs.Guest.{shared_page}
 use Rattle.access_core.specs.HostTrees.{host_read_task, host_write_task}
+use Rattle.access_core.specs.OperationTrees.{put_register, put_next, set_task, add_task as sum_task, vmcall_task, shared_load_task, shared_store_task}
+use Rattle.access_core.specs.AcceptTrees.{accept_changes, is_cleared_in, accept_task}
+use Rattle.access_core.specs.RtmrTrees.{rtmr_changes, rtmr_task}
+use Rattle.access_core.specs.ReachTrees.{access_task}
+use Rattle.access_core.specs.WalkTrees.{walk_task}
+use Rattle.vcpu_control.specs.EnterTrees.{enter_changes, vp_enter_task}
+use Rattle.vcpu_control.specs.ExitTrees.{exit_changes, exit_task}
+use Rattle.access_core.specs.OperationMeanings.{set-means, add-means as sum-means, vmcall-means, shared_load-means, shared_store-means}
+use Rattle.access_core.specs.AcceptMeanings.{accept-means}
+use Rattle.access_core.specs.RtmrMeanings.{rtmr-means}
+use Rattle.access_core.specs.ReachMeanings.{accesses-mean}
+use Rattle.access_core.specs.WalkMeanings.{walks-mean}
+use Rattle.vcpu_control.specs.EnterMeans.{entry-means}
+use Rattle.vcpu_control.specs.ExitMeans.{exit-means}
 use Rattle.mem_remove.specs.MetadataTrees.{rdmd_task}
 use Rattle.key_table.specs.CacheTrees.{cache_task, cache_changes}
 use Rattle.key_table.specs.ReclaimTrees.{reclaim_task, give_back}
@@ -68,6 +85,18 @@ plan_task (plan.SeptAdd l) = sept_add_task l.place l.tdr l.gpa l.level l.page
 plan_task (plan.SeptRd l) = sept_read_task l.place l.tdr l.gpa l.level
 plan_task (plan.PageAdd l) = page_add_task l.place l.given.tdr l.given.gpa l.given.page l.given.source
 plan_task (plan.PageAug l) = page_aug_task l.place l.tdr l.gpa l.page
+plan_task (plan.Enter l) = vp_enter_task l.place l.tdr l.vp l.most
+plan_task (plan.Exit l) = exit_task l.place l.tdr l.vp l.outcome
+plan_task (plan.Set l) = set_task l.place l.tdr l.vp l.register l.value
+plan_task (plan.Sum l) = sum_task l.place l.tdr l.vp l.register l.other
+plan_task (plan.Rtmr l) = rtmr_task l.place l.tdr l.vp l.line l.index
+plan_task (plan.Accept l) = accept_task l.place l.tdr l.vp l.gpa
+plan_task (plan.Vmcall l) = vmcall_task l.place l.tdr l.vp l.register
+plan_task (plan.SharedLoad l) = shared_load_task l.place l.tdr l.vp l.line l.register l.gpa
+plan_task (plan.SharedStore l) = shared_store_task l.place l.tdr l.vp l.register l.gpa
+plan_task (plan.PrivateLoad l) = access_task l.place l.tdr l.vp l.line access.Read l.register l.gpa l.page
+plan_task (plan.PrivateStore l) = access_task l.place l.tdr l.vp l.line access.Write l.register l.gpa l.page
+plan_task (plan.WalkLoad l) = walk_task l.place l.tdr l.vp l.access l.gpa l.level l.page
 
 -- all that it changes, in order
 abbrev pub plan_changes : AnyPlan → List ℕ → Act → List Change
@@ -90,6 +119,18 @@ plan_changes (plan.SeptAdd l) told a = Clear l.page ∷ sept_add_changes l.place
 plan_changes (plan.SeptRd l) told a = []
 plan_changes (plan.PageAdd l) told a = added_changes l.place.machine (addition l.given.tdr l.given.gpa l.given.page l.given.source a)
 plan_changes (plan.PageAug l) told a = page_aug_changes l.place.machine.pages l.tdr l.page a.page (index_at 0 l.gpa) a.children
+plan_changes (plan.Enter l) told a = enter_changes a.page l.place.lp l.vp a.count
+plan_changes (plan.Exit l) told a = exit_changes a.page a.count
+plan_changes (plan.Set l) told a = put_register l.vp l.register l.value ∷ put_next l.vp (slice_index told 0) ∷ []
+plan_changes (plan.Sum l) told a = put_register l.vp l.register ((slice_index told 1 + slice_index told 2) % 2 ^ 64) ∷ put_next l.vp (slice_index told 0) ∷ []
+plan_changes (plan.Rtmr l) told a = rtmr_changes l.vp l.index a.page a.count (drop 2 told)
+plan_changes (plan.Accept l) told a = accept_changes l.vp l.gpa a.page a.count a.cleared
+plan_changes (plan.Vmcall l) told a = put_next l.vp (slice_index told 0) ∷ []
+plan_changes (plan.SharedLoad l) told a = put_register l.vp l.register (slice_index told 3) ∷ put_next l.vp (slice_index told 2) ∷ []
+plan_changes (plan.SharedStore l) told a = Put (Word (shared_page l.gpa) (word_of_gpa l.gpa)) (slice_index told 3) ∷ put_next l.vp (slice_index told 2) ∷ []
+plan_changes (plan.PrivateLoad l) told a = put_register l.vp l.register (slice_index told 1) ∷ put_next l.vp (slice_index told 0) ∷ []
+plan_changes (plan.PrivateStore l) told a = Put (Word l.page (word_of_gpa l.gpa)) (slice_index told 1) ∷ put_next l.vp (slice_index told 0) ∷ []
+plan_changes (plan.WalkLoad l) told a = []
 
 -- what its conditions have shown
 abbrev pub is_page : Place → ℕ → Bool
@@ -115,6 +156,18 @@ plan_shown (plan.SeptAdd l) told a = is_page l.place l.tdr && is_page l.place l.
 plan_shown (plan.SeptRd l) told a = true
 plan_shown (plan.PageAdd l) told a = is_page l.place l.given.tdr && is_page l.place l.given.page && is_page l.place l.given.source && not (l.given.source == l.given.page) && is_page l.place a.page
 plan_shown (plan.PageAug l) told a = is_page l.place l.tdr && is_page l.place l.page && is_page l.place a.page
+plan_shown (plan.Enter l) told a = is_page l.place l.vp && is_page l.place a.page
+plan_shown (plan.Exit l) told a = is_page l.place a.page
+plan_shown (plan.Set l) told a = true
+plan_shown (plan.Sum l) told a = true
+plan_shown (plan.Rtmr l) told a = is_page l.place a.page && nat_le 15 (length told)
+plan_shown (plan.Accept l) told a = is_page l.place a.page && is_cleared_in l.place.machine.pages a.cleared
+plan_shown (plan.Vmcall l) told a = true
+plan_shown (plan.SharedLoad l) told a = true
+plan_shown (plan.SharedStore l) told a = is_page l.place (shared_page l.gpa)
+plan_shown (plan.PrivateLoad l) told a = true
+plan_shown (plan.PrivateStore l) told a = true
+plan_shown (plan.WalkLoad l) told a = true
 
 -- each means its row
 pub plans-mean : (l : AnyPlan) → MeansRow (plan_task l)
@@ -137,3 +190,15 @@ plans-mean (plan.SeptAdd l) = sept_add-means l.place l.tdr l.gpa l.level l.page 
 plans-mean (plan.SeptRd l) = sept_read-means l.place l.tdr l.gpa l.level l.machine
 plans-mean (plan.PageAdd l) = page_add-means l.place l.given.tdr l.given.gpa l.given.page l.given.source l.machine
 plans-mean (plan.PageAug l) = page_aug-means l.place l.tdr l.gpa l.page l.machine
+plans-mean (plan.Enter l) = entry-means l.place l.tdr l.vp l.most l.few_pages
+plans-mean (plan.Exit l) = exit-means l.place l.tdr l.vp l.outcome
+plans-mean (plan.Set l) = set-means l.place l.tdr l.vp l.register l.value l.few
+plans-mean (plan.Sum l) = sum-means l.place l.tdr l.vp l.register l.other l.few l.other_few
+plans-mean (plan.Rtmr l) = rtmr-means l.place l.tdr l.vp l.line l.index l.few
+plans-mean (plan.Accept l) = accept-means l.place l.tdr l.vp l.gpa l.machine l.private
+plans-mean (plan.Vmcall l) = vmcall-means l.place l.tdr l.vp l.register l.few
+plans-mean (plan.SharedLoad l) = shared_load-means l.place l.tdr l.vp l.line l.register l.gpa l.few
+plans-mean (plan.SharedStore l) = shared_store-means l.place l.tdr l.vp l.register l.gpa l.few
+plans-mean (plan.PrivateLoad l) = accesses-mean l.place l.tdr l.vp l.line access.Read l.register l.gpa l.page l.few
+plans-mean (plan.PrivateStore l) = accesses-mean l.place l.tdr l.vp l.line access.Write l.register l.gpa l.page l.few
+plans-mean (plan.WalkLoad l) = walks-mean l.place l.tdr l.vp l.access l.gpa l.level l.page l.machine l.private l.low

@@ -1,18 +1,16 @@
--- What contracts see of the run of a call's leaf, and what it keeps between its turns.
+-- What contracts see of the run of a leaf, and what it keeps between its turns.
 use Rattle.std.specs.Prelude.{◌≡◌, false, List, [], ◌∷◌, Option, Some, None}
 use Rattle.td_words.specs.declared.machines.Machine.{Machine}
 use Rattle.td_words.specs.declared.calls.Call.{Call}
 use Rattle.td_words.specs.declared.replies.Reply.{Reply}
-use Rattle.flat_core.specs.Table.{most_tries}
 use Rattle.step_core.specs.declared.items.Taken.{Taken}
-use Rattle.leaf_engine.specs.declared.needs.Place.{Place}
+use Rattle.leaf_engine.specs.declared.events.Event.{Event}
 use Rattle.leaf_engine.specs.declared.events.RunTurn.{RunTurn}
 use Rattle.leaf_engine.specs.Turns.{Standing, standing, CanRun, Turned, has_ended}
-use Rattle.leaf_engine.specs.OwnLists.{running}
 use Rattle.leaf_dispatch.specs.Leaves.{leaf_seen}
-use Rattle.leaf_dispatch.specs.Bounds.{FewTries}
-use Rattle.leaf_dispatch.specs.Table.{task_of}
+use Rattle.leaf_dispatch.specs.Answers.{Ends, call_ends, FewTries, FitsStage, OldestIsOther, act_of}
 use Rattle.leaf_dispatch.specs.declared.running.Running.{Running}
+use Rattle.leaf_dispatch.specs.declared.running.LeafTurn.{LeafTurn}
 
 -- how far it is
 abbrev pub standing_of : Running → Standing
@@ -22,27 +20,29 @@ abbrev pub run_seen : Option Running → Option Standing
 run_seen None = None
 run_seen (Some r) = Some (standing_of r)
 
--- it can go on in its machine, has something left to do, and tries no more than its call does
-pub record IsUnderWay (m : Machine) (c : Call) (r : Running) : Type 0 where
+-- it can go on in its machine, has something left to do, and comes to what its leaf does
+pub record IsUnderWay (m : Machine) (e : Ends) (r : Running) : Type 0 where
   pub machine : (leaf_seen r.run.leaf).task.place.machine ≡ m
   pub can_run : CanRun m (standing_of r) (leaf_seen r.run.leaf).tries (leaf_seen r.run.leaf).written (leaf_seen r.run.leaf).waits
   pub going : has_ended r.run.stage r.run.held.items ≡ false
-  pub few_tries : FewTries (most_tries c) (standing_of r)
+  pub few_tries : FewTries e (standing_of r)
+  pub fits : FitsStage e r.run.stage
+  pub oldest : OldestIsOther r.run.held.items (standing_of r)
 
--- the run of a line's call, if there is one
-abbrev pub IsRunOf : Machine → Call → Option Running → Type 0
-IsRunOf m c None = Unit {0}
-IsRunOf m c (Some r) = IsUnderWay m c r
+-- a run that is kept, if there is one
+abbrev pub IsRunOf : Machine → Ends → Option Running → Type 0
+IsRunOf m e None = Unit {0}
+IsRunOf m e (Some r) = IsUnderWay m e r
 
 -- the run of the first of these lines, if there is one
 abbrev pub IsRunAt : Machine → List Call → Option Running → Type 0
 IsRunAt m [] run = Unit {0}
-IsRunAt m (c ∷ cs) run = IsRunOf m c run
+IsRunAt m (c ∷ cs) run = IsRunOf m (call_ends m c) run
 
--- the run that is kept where that of this call has begun, and had come so far before
-abbrev pub IsBegun : Place → Call → Option Standing → Option Running → Type 0
-IsBegun p c run None = ⊥
-IsBegun p c run (Some r) = (standing_of r ≡ running (task_of p c) run) × IsUnderWay p.machine c r
+-- the run that is kept stands there
+abbrev pub IsKept : Machine → Ends → Standing → Option Running → Type 0
+IsKept m e s None = ⊥
+IsKept m e s (Some r) = (standing_of r ≡ s) × IsUnderWay m e r
 
 -- the run that is kept can make a turn, and has made it
 abbrev pub CanTurn : Machine → Option Running → Type 0
@@ -59,11 +59,22 @@ abbrev pub kept_after : Option Reply → Standing → Option Standing
 kept_after None s = Some s
 kept_after (Some reply) s = None
 
--- the next turn of a call's run at a place, which had come so far, or begins
-pub record CallTurned {B : Type 0} (did : List Taken → B → Type 0) (p : Place) (c : Call) (run : Option Standing) (bench : B) (kept : Option Running) (result : RunTurn) : Type 0 where
-  pub going : has_ended (running (task_of p c) run).stage (running (task_of p c) run).held ≡ false
-  pub few_tries : FewTries (most_tries c) (running (task_of p c) run)
+-- a turn's event and its reply, without the reply of its act
+abbrev pub turn_of : LeafTurn → RunTurn
+turn_of t = record { event = t.event; reply = t.reply }
+
+abbrev pub act_in : Option Running → Event → Option Reply
+act_in None e = None
+act_in (Some r) e = act_of e r.run.stage
+
+-- the next turn of a leaf's run, which stood there
+pub record LeafTurned {B : Type 0} (did : List Taken → B → Type 0) (m : Machine) (e : Ends) (s : Standing) (bench : B) (kept : Option Running) (result : LeafTurn) : Type 0 where
+  pub going : has_ended s.stage s.held ≡ false
+  pub few_tries : FewTries e s
+  pub fits : FitsStage e s.stage
+  pub oldest : OldestIsOther s.held s
   pub stands : Standing
-  pub turned : Turned did p.machine (running (task_of p c) run) bench stands result
+  pub turned : Turned did m s bench stands (turn_of result)
+  pub act_is : result.act ≡ act_of result.event stands.stage
   pub seen : run_seen kept ≡ kept_after result.reply stands
-  pub under_way : IsRunOf p.machine c kept
+  pub under_way : IsRunOf m e kept

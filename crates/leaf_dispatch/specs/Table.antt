@@ -1,15 +1,23 @@
--- The table from calls to their leaves.
-use Rattle.std.specs.Prelude.{ℕ, Bool, true, false, ◌&&◌, List, [], ◌∷◌}
+-- The table from calls, and from steps of guests, to their leaves.
+use Rattle.std.specs.Prelude.{ℕ, List, [], ◌∷◌, ◌==◌, ◌&&◌, if◌then◌else◌}
+use Rattle.td_words.specs.Seen.{CodeSeen}
 use Rattle.td_words.specs.declared.machines.Machine.{Machine}
+use Rattle.td_words.specs.declared.names.Access.{Access}
 use Rattle.td_words.specs.declared.calls.Call.{Call}
 use Rattle.td_words.specs.declared.calls.Call.TheVariants as call
+use Rattle.td_words.specs.declared.calls.GuestOp.{GuestOp}
+use Rattle.td_words.specs.declared.calls.GuestOp.TheVariants as op
 use Rattle.leaf_engine.specs.declared.needs.Place.{Place}
-use Rattle.td_words.specs.declared.replies.Reply.TheVariants.{Done}
-use Rattle.td_words.specs.declared.replies.Value.TheVariants.{Nothing}
-use Rattle.flat_core.specs.VpRows.{enter_vp}
-use Rattle.leaf_engine.specs.Trees.{answers}
-use Rattle.leaf_engine.specs.Means.{Task, OfCall}
+use Rattle.leaf_engine.specs.Means.{Task, OfAccess, OfWalk}
+use Rattle.leaf_engine.specs.Guests.{Step, Operates, Accesses, Loads, Leaves}
+use Rattle.leaf_engine.specs.OwnLists.{LeafTable}
+use Rattle.leaf_parts.specs.Words.{page_told}
 use Rattle.access_core.specs.HostTrees.{host_read_task, host_write_task}
+use Rattle.access_core.specs.OperationTrees.{set_task, add_task as sum_task, vmcall_task, shared_load_task, shared_store_task}
+use Rattle.access_core.specs.AcceptTrees.{accept_task}
+use Rattle.access_core.specs.RtmrTrees.{rtmr_task}
+use Rattle.access_core.specs.ReachTrees.{access_tree}
+use Rattle.access_core.specs.WalkTrees.{walk_tree}
 use Rattle.mem_remove.specs.MetadataTrees.{rdmd_task}
 use Rattle.key_table.specs.CacheTrees.{cache_task}
 use Rattle.key_table.specs.ReclaimTrees.{reclaim_task}
@@ -21,23 +29,16 @@ use Rattle.td_control.specs.ReadTrees.{read_task}
 use Rattle.key_table.specs.FlushTrees.{flush_task}
 use Rattle.key_table.specs.EndTrees.{free_task}
 use Rattle.td_control.specs.FinalTrees.{finalize_task}
-use Rattle.vcpu_control.specs.VpTrees.{vp_create_task, vp_init_task}
 use Rattle.mem_build.specs.SeptAddTrees.{sept_add_task}
 use Rattle.mem_build.specs.SeptReadTrees.{sept_read_task}
 use Rattle.mem_build.specs.PageAddTrees.{page_add_task}
 use Rattle.mem_build.specs.PageAugTrees.{page_aug_task}
 use Rattle.mem_build.specs.ExtendTrees.{extend_task}
+use Rattle.vcpu_control.specs.VpTrees.{vp_create_task, vp_init_task}
+use Rattle.vcpu_control.specs.EnterTrees.{vp_enter_task}
+use Rattle.vcpu_control.specs.ExitTrees.{exit_task}
 
--- whether a call has a leaf: VP.ENTER has none yet
-abbrev pub has_leaf : Call → Bool
-has_leaf (call.VpEnter tdr vp max) = false
-has_leaf _ = true
-
-abbrev pub have_leaves : List Call → Bool
-have_leaves [] = true
-have_leaves (c ∷ cs) = has_leaf c && have_leaves cs
-
--- what the leaf of a call at a place has to do. Of VP.ENTER this is only a name for its row
+-- what the leaf of a call at a place has to do
 abbrev pub task_of : Place → Call → Task
 task_of p (call.HostRead page word) = host_read_task p page word
 task_of p (call.HostWrite page word value) = host_write_task p page word value
@@ -54,13 +55,45 @@ task_of p (call.MngKeyFreeid tdr) = free_task p tdr
 task_of p (call.MrFinalize tdr) = finalize_task p tdr
 task_of p (call.VpCreate tdr page) = vp_create_task p tdr page
 task_of p (call.VpInit tdr vp value) = vp_init_task p tdr vp value
-task_of p (call.VpEnter tdr vp max) = record { place = p; tree = answers (Done Nothing); meaning = OfCall (enter_vp p.machine p.lp tdr vp max) }
+task_of p (call.VpEnter tdr vp max) = vp_enter_task p tdr vp max
 task_of p (call.MemSeptAdd tdr gpa level page) = sept_add_task p tdr gpa level page
 task_of p (call.MemSeptRd tdr gpa level) = sept_read_task p tdr gpa level
 task_of p (call.MemPageAdd tdr gpa page source) = page_add_task p tdr gpa page source
 task_of p (call.MemPageAug tdr gpa page) = page_aug_task p tdr gpa page
 task_of p (call.MrExtend tdr gpa) = extend_task p tdr gpa
 
--- the leaves of each processor of a machine
-abbrev pub leaf_table : Machine → ℕ → Call → Task
-leaf_table m p c = task_of (record { machine = m; lp = p }) c
+-- what the leaf of an operation that goes by a row has to do, for a virtual processor of a TD, at a call line
+abbrev pub operation_task : Place → (tdr vp line : ℕ) → GuestOp → Task
+operation_task p t v line (op.Set r x) = set_task p t v r x
+operation_task p t v line (op.Add r s) = sum_task p t v r s
+operation_task p t v line (op.Load r gpa) = shared_load_task p t v line r gpa
+operation_task p t v line (op.Store r gpa) = shared_store_task p t v r gpa
+operation_task p t v line (op.Accept gpa) = accept_task p t v gpa
+operation_task p t v line (op.Rtmr i) = rtmr_task p t v line i
+operation_task p t v line (op.Vmcall r) = vmcall_task p t v r
+
+-- The page that a translation or an upper entry names is the machine's wherever the step is made; any other is read as page 0.
+abbrev pub access_in : Place → (tdr vp line : ℕ) → Access → (register gpa page : ℕ) → Task
+access_in p t v line access r gpa page = record { place = p; tree = access_tree v line access r gpa (page_told p.machine.pages page); meaning = OfAccess t v line access r gpa page }
+
+abbrev pub walk_in : Place → (tdr vp : ℕ) → Access → (gpa level page : ℕ) → Task
+walk_in p t v access gpa level page = record { place = p; tree = walk_tree t access gpa level (page_told p.machine.pages page); meaning = OfWalk t v access gpa level page }
+
+-- what the leaf of a guest's step has to do
+abbrev pub step_task : Place → (tdr vp line : ℕ) → Step → Task
+step_task p t v line (Operates o) = operation_task p t v line o
+step_task p t v line (Accesses access r gpa page) = access_in p t v line access r gpa page
+step_task p t v line (Loads access gpa level page) = walk_in p t v access gpa level page
+step_task p t v line (Leaves out) = exit_task p t v out
+
+-- the first list of that virtual processor; one without a list has an empty one
+abbrev pub code_in : List CodeSeen → ℕ → ℕ → List GuestOp
+code_in [] tdr index = []
+code_in (c ∷ cs) tdr index = if c.tdr == tdr && c.index == index then c.ops else code_in cs tdr index
+
+-- the leaves of a place, and of each processor of a machine
+abbrev pub place_table : Place → (ℕ → ℕ → List GuestOp) → LeafTable
+place_table p codes = record { call = task_of p; step = step_task p; codes = codes }
+
+abbrev pub leaf_table : Machine → (ℕ → ℕ → List GuestOp) → ℕ → LeafTable
+leaf_table m codes p = place_table (record { machine = m; lp = p }) codes

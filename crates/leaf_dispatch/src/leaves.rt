@@ -1,23 +1,30 @@
-//! The leaf of each call.
+//! The leaf of each call, and of each step of a guest.
 
-ghost use Rattle.std.specs.Prelude.{◌≡◌, true};
+ghost use Rattle.std.specs.Prelude.{◌≡◌, ◌<◌, true};
 ghost use Rattle.td_words.specs.Limits.{IsMachine};
 ghost use Rattle.leaf_engine.specs.Turns.{IsFresh};
 ghost use Rattle.leaf_dispatch.specs.Plans.{plan_task};
-ghost use Rattle.leaf_dispatch.specs.Table.{has_leaf, task_of};
+ghost use Rattle.leaf_engine.specs.Merges.{IsOperation, IsStepOf};
+ghost use Rattle.leaf_dispatch.specs.Guests.{step_seen};
+ghost use Rattle.leaf_dispatch.specs.Table.{task_of, operation_task, step_task};
 
+use crate::guests::Step;
 use crate::plans::AnyPlan;
-use access_core::{HostRead, HostWrite};
+use access_core::{
+    Accept, Add, HostRead, HostWrite, PrivateLoad, PrivateStore, Rtmr, Set, SharedLoad, SharedStore,
+    Vmcall, WalkLoad,
+};
 use key_table::{CacheWb, FlushDone, FreeId, Reclaim};
 use leaf_engine::{Leaf, Need, Place, Planned, Write};
+use leaf_parts::page_told;
 use mem_build::{Extend, PageAdd, PageAug, SeptAdd, SeptRd};
 use mem_remove::Rdmd;
 use mrtd_measure::Measure;
 use td_control::{AddCx, Create, Finalize, Init, KeyConfig, Rd};
-use td_words::Call;
-use vcpu_control::{VpCreate, VpInit};
+use td_words::{Access, Call, GuestOp};
+use vcpu_control::{Enter, Exit, VpCreate, VpInit};
 
-/// A leaf of any call that is built: one that goes by a plan of any call, or MR.EXTEND's.
+/// A leaf of any call that is built, or of any step of a guest: one that goes by a plan, or MR.EXTEND's.
 #[derive(Drop)]
 pub enum AnyLeaf {
     ByPlan(Planned<AnyPlan>),
@@ -71,10 +78,9 @@ fn by_plan(plan: AnyPlan) -> AnyLeaf
     AnyLeaf::ByPlan(Planned::new(plan))
 }
 
-/// The leaf of a call at a place, which has done nothing yet. VP.ENTER has none.
+/// The leaf of a call at a place, which has done nothing yet.
 pub fn leaf_of(place: Place, call: &Call) -> AnyLeaf
     requires machine { IsMachine place.machine }
-    requires leaf { has_leaf call.now ≡ true }
     ensures task { ⟦<AnyLeaf as Leaf>⟧.task result ≡ task_of place call.now }
     ensures fresh { let leaf = ⟦<AnyLeaf as Leaf>⟧ in IsFresh (leaf.task result).tree (leaf.rest result) (leaf.tries result) (leaf.written result) (leaf.waits result) }
 {
@@ -106,7 +112,7 @@ pub fn leaf_of(place: Place, call: &Call) -> AnyLeaf
         Call::VpInit { tdr, vp, value } => {
             by_plan(AnyPlan::VpInit(VpInit::plan(place, tdr, vp, value)))
         }
-        Call::VpEnter { .. } => unreachable!(),
+        Call::VpEnter { tdr, vp, max } => by_plan(AnyPlan::Enter(Enter::plan(place, tdr, vp, max))),
         Call::MemSeptAdd {
             tdr,
             gpa,
@@ -126,5 +132,71 @@ pub fn leaf_of(place: Place, call: &Call) -> AnyLeaf
             by_plan(AnyPlan::PageAug(PageAug::plan(place, tdr, gpa, page)))
         }
         Call::MrExtend { tdr, gpa } => AnyLeaf::Extend(Extend::leaf(place, tdr, gpa)),
+    }
+}
+
+/// The leaf of a step of a guest of a virtual processor, at a call line, which has done nothing yet.
+/// The page that a translation or an upper entry names is the machine's; any other is read as page 0.
+pub fn step_leaf(place: Place, tdr: u16, vp: u16, line: usize, step: Step) -> AnyLeaf
+    requires machine { IsMachine place.machine }
+    requires inside { (tdr < place.machine.pages) × (vp < place.machine.pages) }
+    requires limits { IsStepOf (step_seen step) }
+    ensures place { (⟦<AnyLeaf as Leaf>⟧.task result).place ≡ place }
+    ensures tree { (⟦<AnyLeaf as Leaf>⟧.task result).tree ≡ (step_task place tdr vp line (step_seen step)).tree }
+    ensures fresh { let leaf = ⟦<AnyLeaf as Leaf>⟧ in IsFresh (leaf.task result).tree (leaf.rest result) (leaf.tries result) (leaf.written result) (leaf.waits result) }
+{
+    match step {
+        Step::Operates(operation) => operation_leaf(place, tdr, vp, line, operation),
+        Step::Accesses {
+            access,
+            register,
+            gpa,
+            page,
+        } => {
+            let page = page_told(place.machine.pages, u64::from(page));
+            match access {
+                Access::Read => by_plan(AnyPlan::PrivateLoad(PrivateLoad::plan(place, tdr, vp, line, register, gpa, page))),
+                Access::Write => by_plan(AnyPlan::PrivateStore(PrivateStore::plan(place, tdr, vp, line, register, gpa, page))),
+            }
+        }
+        Step::Loads {
+            access,
+            gpa,
+            level,
+            page,
+        } => {
+            let page = page_told(place.machine.pages, page);
+            by_plan(AnyPlan::WalkLoad(WalkLoad::plan(place, tdr, vp, access, gpa, level, page)))
+        }
+        Step::Leaves(outcome) => by_plan(AnyPlan::Exit(Exit::plan(place, tdr, vp, outcome))),
+    }
+}
+
+// The leaf of an operation that goes by a row.
+fn operation_leaf(place: Place, tdr: u16, vp: u16, line: usize, operation: GuestOp) -> AnyLeaf
+    requires machine { IsMachine place.machine }
+    requires inside { (tdr < place.machine.pages) × (vp < place.machine.pages) }
+    requires limits { IsOperation operation }
+    ensures task { ⟦<AnyLeaf as Leaf>⟧.task result ≡ operation_task place tdr vp line operation }
+    ensures fresh { let leaf = ⟦<AnyLeaf as Leaf>⟧ in IsFresh (leaf.task result).tree (leaf.rest result) (leaf.tries result) (leaf.written result) (leaf.waits result) }
+{
+    match operation {
+        GuestOp::Set { register, value } => {
+            by_plan(AnyPlan::Set(Set::plan(place, tdr, vp, register, value)))
+        }
+        GuestOp::Add { register, other } => {
+            by_plan(AnyPlan::Sum(Add::plan(place, tdr, vp, register, other)))
+        }
+        GuestOp::Load { register, gpa } => by_plan(AnyPlan::SharedLoad(SharedLoad::plan(
+            place, tdr, vp, line, register, gpa,
+        ))),
+        GuestOp::Store { register, gpa } => by_plan(AnyPlan::SharedStore(SharedStore::plan(
+            place, tdr, vp, register, gpa,
+        ))),
+        GuestOp::Accept { gpa } => by_plan(AnyPlan::Accept(Accept::plan(place, tdr, vp, gpa))),
+        GuestOp::Rtmr { index } => by_plan(AnyPlan::Rtmr(Rtmr::plan(place, tdr, vp, line, index))),
+        GuestOp::Vmcall { register } => {
+            by_plan(AnyPlan::Vmcall(Vmcall::plan(place, tdr, vp, register)))
+        }
     }
 }

@@ -7,13 +7,15 @@
 //! of these leaves; and `processors_follow`, by which a turn is the flat machine's next event.
 #![tactic(auto)]
 
+mod guests;
 mod laws;
 mod leaves;
 mod plans;
 mod running;
 mod states;
 
-pub use laws::{calls_have_leaves, none_enters, processors_follow};
-pub use leaves::{AnyLeaf, leaf_of};
+pub use guests::Step;
+pub use laws::calls_have_leaves;
+pub use leaves::{AnyLeaf, leaf_of, step_leaf};
 pub use plans::AnyPlan;
 pub use states::LpState;

@@ -1,14 +1,17 @@
-//! The plan of each call that goes by one.
+//! The plan of each call, and of each step of a guest, that goes by one.
 
-use access_core::{HostRead, HostWrite};
+use access_core::{
+    Accept, Add, HostRead, HostWrite, PrivateLoad, PrivateStore, Rtmr, Set, SharedLoad, SharedStore,
+    Vmcall, WalkLoad,
+};
 use key_table::{CacheWb, FlushDone, FreeId, Reclaim};
 use leaf_engine::{Act, Hand, Plan, Stop, Told, Verdict, Write};
 use mem_build::{PageAdd, PageAug, SeptAdd, SeptRd};
 use mem_remove::Rdmd;
 use td_control::{AddCx, Create, Finalize, Init, KeyConfig, Rd};
-use vcpu_control::{VpCreate, VpInit};
+use vcpu_control::{Enter, Exit, VpCreate, VpInit};
 
-/// A plan of any call that is built.
+/// A plan of any call that is built, or of any step of a guest.
 #[derive(Drop)]
 pub enum AnyPlan {
     HostRead(HostRead),
@@ -30,6 +33,18 @@ pub enum AnyPlan {
     SeptRd(SeptRd),
     PageAdd(PageAdd),
     PageAug(PageAug),
+    Enter(Enter),
+    Exit(Exit),
+    Set(Set),
+    Sum(Add),
+    Vmcall(Vmcall),
+    Accept(Accept),
+    Rtmr(Rtmr),
+    SharedLoad(SharedLoad),
+    SharedStore(SharedStore),
+    PrivateLoad(PrivateLoad),
+    PrivateStore(PrivateStore),
+    WalkLoad(WalkLoad),
 }
 
 impl Plan for AnyPlan {
@@ -62,6 +77,18 @@ impl Plan for AnyPlan {
             AnyPlan::SeptRd(plan) => plan.decide(told),
             AnyPlan::PageAdd(plan) => plan.decide(told),
             AnyPlan::PageAug(plan) => plan.decide(told),
+            AnyPlan::Enter(plan) => plan.decide(told),
+            AnyPlan::Exit(plan) => plan.decide(told),
+            AnyPlan::Set(plan) => plan.decide(told),
+            AnyPlan::Sum(plan) => plan.decide(told),
+            AnyPlan::Vmcall(plan) => plan.decide(told),
+            AnyPlan::Accept(plan) => plan.decide(told),
+            AnyPlan::Rtmr(plan) => plan.decide(told),
+            AnyPlan::SharedLoad(plan) => plan.decide(told),
+            AnyPlan::SharedStore(plan) => plan.decide(told),
+            AnyPlan::PrivateLoad(plan) => plan.decide(told),
+            AnyPlan::PrivateStore(plan) => plan.decide(told),
+            AnyPlan::WalkLoad(plan) => plan.decide(told),
         }
     }
 
@@ -86,6 +113,18 @@ impl Plan for AnyPlan {
             AnyPlan::SeptRd(plan) => plan.write(act, told, number, hand),
             AnyPlan::PageAdd(plan) => plan.write(act, told, number, hand),
             AnyPlan::PageAug(plan) => plan.write(act, told, number, hand),
+            AnyPlan::Enter(plan) => plan.write(act, told, number, hand),
+            AnyPlan::Exit(plan) => plan.write(act, told, number, hand),
+            AnyPlan::Set(plan) => plan.write(act, told, number, hand),
+            AnyPlan::Sum(plan) => plan.write(act, told, number, hand),
+            AnyPlan::Vmcall(plan) => plan.write(act, told, number, hand),
+            AnyPlan::Accept(plan) => plan.write(act, told, number, hand),
+            AnyPlan::Rtmr(plan) => plan.write(act, told, number, hand),
+            AnyPlan::SharedLoad(plan) => plan.write(act, told, number, hand),
+            AnyPlan::SharedStore(plan) => plan.write(act, told, number, hand),
+            AnyPlan::PrivateLoad(plan) => plan.write(act, told, number, hand),
+            AnyPlan::PrivateStore(plan) => plan.write(act, told, number, hand),
+            AnyPlan::WalkLoad(plan) => plan.write(act, told, number, hand),
         }
     }
 

@@ -1,15 +1,17 @@
-//! The run of a call's leaf.
+//! The run of a leaf.
 
-ghost use Rattle.std.specs.Prelude.{◌≡◌, true, None};
+ghost use Rattle.std.specs.Prelude.{◌≡◌, ◌<◌, true, None};
 ghost use Rattle.td_words.specs.Limits.{IsMachine};
+ghost use Rattle.leaf_engine.specs.Turns.{Standing};
 ghost use Rattle.leaf_engine.specs.OwnLists.{running};
-ghost use Rattle.leaf_dispatch.specs.Table.{has_leaf, task_of};
-ghost use Rattle.leaf_dispatch.specs.Running.{standing_of, run_seen, IsUnderWay, IsRunOf, IsBegun, CanTurn, HasTurned, CallTurned};
+ghost use Rattle.leaf_dispatch.specs.Table.{task_of};
+ghost use Rattle.leaf_dispatch.specs.Answers.{Ends, call_ends, act_of};
+ghost use Rattle.leaf_dispatch.specs.Running.{standing_of, run_seen, turn_of, act_in, IsUnderWay, IsRunOf, IsKept, CanTurn, HasTurned, LeafTurned};
 
 use crate::leaves::{AnyLeaf, leaf_of};
-use leaf_engine::{Place, Run, RunTurn};
+use leaf_engine::{Event, Place, Run, RunTurn, Stage};
 use step_core::Bench;
-use td_words::Call;
+use td_words::{Call, Reply};
 
 /// A run of any leaf, which may be given up.
 pub struct Running {
@@ -23,6 +25,15 @@ impl Drop for Running {
     }
 }
 
+/// A turn's event, the reply that its act comes to, where it is the act, and the reply at the last
+/// event.
+#[derive(Clone, Copy)]
+pub struct LeafTurn {
+    pub event: Event,
+    pub act: Option<Reply>,
+    pub reply: Option<Reply>,
+}
+
 /// The next turn of a call's run, which is kept until its reply comes, and begins where none is kept.
 ///
 /// It is apart from its caller, and its rare steps are apart from it, since a function clears the
@@ -33,28 +44,59 @@ pub fn turn_call<B: Bench>(
     place: Place,
     call: &Call,
     bench: &mut B,
-) -> RunTurn
+) -> LeafTurn
     requires machine { IsMachine place.machine }
-    requires leaf { has_leaf call.now ≡ true }
     requires at { place.machine ≡ B.machine bench.old }
-    requires under_way { IsRunOf place.machine call.now kept.old }
-    ensures turned { CallTurned (B.did bench.old) place call.now (run_seen kept.old) bench.new kept.new result }
+    requires under_way { IsRunOf place.machine (call_ends place.machine call.now) kept.old }
+    ensures turned { LeafTurned (B.did bench.old) place.machine (call_ends place.machine call.now) (running (task_of place call.now) (run_seen kept.old)) bench.new kept.new result }
     ensures machine { B.machine bench.new ≡ B.machine bench.old }
 {
     begin_where_none(kept, place, call);
+    turn_run(kept, bench)
+}
+
+/// The next turn of a run that is kept, which is left once its reply has come.
+fn turn_run<B: Bench>(kept: &mut Option<Running>, bench: &mut B) -> LeafTurn
+    requires { CanTurn (B.machine bench.old) kept.old }
+    ensures turned { (e : Ends) (s : Standing) → IsKept (B.machine bench.old) e s kept.old → LeafTurned (B.did bench.old) (B.machine bench.old) e s bench.new kept.new result }
+    ensures machine { B.machine bench.new ≡ B.machine bench.old }
+{
     let turn = turn_kept(kept, bench);
+    let act = act_in(kept, turn.event);
     if let Some(_) = turn.reply {
         leave(kept);
     }
-    turn
+    LeafTurn {
+        event: turn.event,
+        act,
+        reply: turn.reply,
+    }
+}
+
+// The reply that a run has come to with its act.
+fn act_in(kept: &Option<Running>, event: Event) -> Option<Reply>
+    ensures { result ≡ act_in kept.now event }
+{
+    match kept {
+        Some(Running { run }) => act_of(event, run.stage()),
+        None => None,
+    }
+}
+
+fn act_of(event: Event, stage: Stage) -> Option<Reply>
+    ensures { result ≡ act_of event stage }
+{
+    match (event, stage) {
+        (Event::Act, Stage::Answered(reply)) => Some(reply),
+        _ => None,
+    }
 }
 
 // Where no run is kept, that of a call begins.
 fn begin_where_none(kept: &mut Option<Running>, place: Place, call: &Call)
     requires machine { IsMachine place.machine }
-    requires leaf { has_leaf call.now ≡ true }
-    requires under_way { IsRunOf place.machine call.now kept.old }
-    ensures { IsBegun place call.now (run_seen kept.old) kept.new }
+    requires under_way { IsRunOf place.machine (call_ends place.machine call.now) kept.old }
+    ensures { IsKept place.machine (call_ends place.machine call.now) (running (task_of place call.now) (run_seen kept.old)) kept.new }
 {
     match kept {
         Some(_) => (),
@@ -65,8 +107,7 @@ fn begin_where_none(kept: &mut Option<Running>, place: Place, call: &Call)
 #[inline(never)]
 fn enter(kept: &mut Option<Running>, place: Place, call: &Call)
     requires machine { IsMachine place.machine }
-    requires leaf { has_leaf call.now ≡ true }
-    ensures { IsBegun place call.now None kept.new }
+    ensures { IsKept place.machine (call_ends place.machine call.now) (running (task_of place call.now) None) kept.new }
 {
     *kept = Some(begin(place, call));
 }
@@ -91,12 +132,10 @@ fn turn_kept<B: Bench>(kept: &mut Option<Running>, bench: &mut B) -> RunTurn
 }
 
 /// The run of a call at its first event.
-#[tactic(auto, using(crate::proofs::Tries::few_tries))]
 fn begin(place: Place, call: &Call) -> Running
     requires machine { IsMachine place.machine }
-    requires leaf { has_leaf call.now ≡ true }
     ensures stands { standing_of result ≡ running (task_of place call.now) None }
-    ensures under_way { IsUnderWay place.machine call.now result }
+    ensures under_way { IsUnderWay place.machine (call_ends place.machine call.now) result }
 {
     Running {
         run: Run::new(leaf_of(place, call)),

@@ -2,15 +2,15 @@
 
 ghost use Rattle.std.specs.Prelude.{◌≡◌, ◌+◌, ◌≤◌, true, length, vec_capacity};
 ghost use Rattle.td_words.specs.Limits.{IsMachine};
-ghost use Rattle.leaf_dispatch.specs.Table.{have_leaves};
+ghost use Rattle.leaf_dispatch.specs.Answers.{enters_none};
 ghost use Rattle.leaf_dispatch.specs.Running.{IsRunAt};
 ghost use Rattle.leaf_dispatch.specs.Kept.{IsRunAt-prop};
 
-use crate::running::{Running, turn_call};
-use leaf_engine::{Place, Processor, RunTurn, Turn, turns_in_pieces};
+use crate::running::{LeafTurn, Running, turn_call};
+use leaf_engine::{Place, Processor, Turn, turns_in_pieces};
 use std::alloc::Global;
 use step_core::Bench;
-use td_words::{Call, Machine, OutOfMemory, Reply};
+use td_words::{Call, Code, Machine, OutOfMemory, Reply};
 
 /// A logical processor: its calls from the present one on, the run of that call once its first event
 /// is made, and its replies, one for each call that is done.
@@ -18,10 +18,11 @@ use td_words::{Call, Machine, OutOfMemory, Reply};
 pub struct LpState<'a> {
     place: Place,
     lines: &'a [Call],
+    codes: &'a [Code],
     run: Option<Running>,
     replies: Vec<Reply>,
     ghost machine: { IsMachine place.machine },
-    ghost leaves: { have_leaves lines.now ≡ true },
+    ghost outside: { enters_none lines.now ≡ true },
     ghost under_way: { IsRunAt place.machine lines.now run } by { IsRunAt-prop place.machine lines.now run },
     ghost room: { length replies.items + length lines.now ≤ vec_capacity replies },
 }
@@ -30,20 +31,22 @@ impl<'a> LpState<'a> {
     ghost use Rattle.std.specs.Prelude.{◌≡◌, true, IfOk};
     ghost use Rattle.td_words.specs.Limits.{IsMachine};
     ghost use Rattle.leaf_engine.specs.OwnLists.{first_lp};
-    ghost use Rattle.leaf_dispatch.specs.Table.{have_leaves};
+    ghost use Rattle.leaf_dispatch.specs.Answers.{enters_none};
     ghost use Rattle.leaf_dispatch.specs.States.{seen_of};
 
-    /// At the first of its calls, which all have leaves. All the memory that its replies need is taken
+    /// At the first of its calls, of which none enters a guest, with the lists of operations. All the memory that its replies need is taken
     /// here.
     pub fn new(
         alloc: Global,
         machine: Machine,
         lp: u8,
+        codes: &'a [Code],
         calls: &'a [Call],
     ) -> Result<LpState<'a>, OutOfMemory>
         requires machine { IsMachine machine }
-        requires leaves { have_leaves calls.now ≡ true }
+        requires outside { enters_none calls.now ≡ true }
         ensures place { IfOk result (λ s. s.place ≡ record { machine = machine; lp = lp }) }
+        ensures codes { IfOk result (λ s. s.codes.now ≡ codes.now) }
         ensures first { IfOk result (λ s. seen_of s ≡ first_lp calls.now) }
     {
         let Ok(replies) = Vec::with_capacity(alloc, calls.len()) else {
@@ -52,6 +55,7 @@ impl<'a> LpState<'a> {
         Ok(LpState {
             place: Place { machine, lp },
             lines: calls,
+            codes,
             run: None,
             replies,
         })
@@ -67,6 +71,7 @@ impl<'a> LpState<'a> {
 
 impl<'a> Processor for LpState<'a> {
     ghost use Rattle.std.specs.Prelude.{◌==◌, length};
+    ghost use Rattle.leaf_dispatch.specs.Table.{code_in};
     ghost use Rattle.leaf_dispatch.specs.Bounds.{events_left};
     ghost use Rattle.leaf_dispatch.specs.States.{seen_of, Moves};
 
@@ -74,7 +79,7 @@ impl<'a> Processor for LpState<'a> {
 
     ghost has_ended = { λ s. length s.lines.now == 0 };
 
-    ghost bound = { λ s. events_left (seen_of s) };
+    ghost bound = { λ s. events_left (code_in s.codes.now) (seen_of s) };
 
     ghost moves = { Moves };
 
@@ -84,7 +89,11 @@ impl<'a> Processor for LpState<'a> {
         };
         // The law that the run's turn can be told in pieces.
         turns_in_pieces();
-        let RunTurn { event, reply } = turn_call(&mut self.run, self.place, call, bench);
+        let LeafTurn {
+            event,
+            act: _,
+            reply,
+        } = turn_call(&mut self.run, self.place, call, bench);
         if let Some(reply) = reply {
             let Ok(()) = self.replies.push(reply) else {
                 unreachable!()

@@ -1,9 +1,10 @@
 //! Runs of leaves, event by event.
 
 ghost use Rattle.std.specs.Prelude.{◌≡◌, ◌≤◌, ◌<◌, ◌==◌, ℕ, [], ◌∷◌, ◌++◌, length, None, true, false, if◌then◌else◌};
-ghost use Rattle.leaf_engine.specs.declared.events.Stage.TheVariants.{Trying};
+ghost use Rattle.leaf_engine.specs.declared.events.Stage.TheVariants.{Trying, Answered};
 ghost use Rattle.leaf_engine.specs.Trees.{settle};
 ghost use Rattle.leaf_engine.specs.Turns.{standing, CanRun, IsFresh, Turned, Went, GaveBack, AreIn, TriedOnce, has_ended, busy, last_reply, denied};
+ghost use Rattle.leaf_engine.specs.Guests.{is_epoch_name, gives_epoch_back};
 ghost use Rattle.step_core.specs.Words.{word_count};
 ghost use Rattle.td_words.specs.declared.machines.Machine.{Machine};
 
@@ -51,6 +52,28 @@ impl<L: Leaf> Run<L> {
             Stage::Answered(_) => self.held.is_empty(),
             _ => false,
         }
+    }
+
+    /// How far it is.
+    pub fn stage(&self) -> Stage
+        ensures { result ≡ self.now.stage }
+    {
+        self.stage
+    }
+
+    /// Whether the newest lock that it holds is an E.
+    pub fn gives_epoch_back(&self) -> bool
+        ensures { result ≡ gives_epoch_back self.now.held.items }
+    {
+        gives_epoch_back(self.held.as_slice())
+    }
+
+    /// Answers this from now on, as VP.ENTER does once its guest is left.
+    pub fn answer(&mut self, reply: Reply)
+        ensures leaf { self.new.leaf ≡ self.old.leaf }
+        ensures stands { standing (L.rest self.new.leaf) self.new.stage self.new.held.items self.new.hasher ≡ standing (L.rest self.old.leaf) (Answered reply) self.old.held.items self.old.hasher }
+    {
+        self.stage = Stage::Answered(reply);
     }
 
     /// The leaf, as it now is.
@@ -135,6 +158,25 @@ fn give_back<B: Bench>(held: &mut ArrayVec<HeldLock, LOCKS>, bench: &mut B) -> E
     };
     free(bench, newest.at, newest.mode);
     Event::Free(newest.name)
+}
+
+fn gives_epoch_back(held: &[HeldLock]) -> bool
+    ensures { result ≡ gives_epoch_back held.now }
+{
+    match held {
+        [] => false,
+        [newest] => is_epoch(newest.name),
+        [_, newer @ ..] => gives_epoch_back(newer),
+    }
+}
+
+fn is_epoch(name: LockName) -> bool
+    ensures { result ≡ is_epoch_name name }
+{
+    match name {
+        LockName::Epoch => true,
+        _ => false,
+    }
 }
 
 /// What a run knows after a try.

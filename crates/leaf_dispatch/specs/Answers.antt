@@ -1,0 +1,137 @@
+-- What the leaf of a call, or of a step of a guest, comes to: how many locks it tries at most, and what it answers besides its
+-- reply, by that reply.
+use Rattle.std.specs.Prelude.{◌≡◌, ℕ, ◌-◌, ◌≤◌, Bool, true, false, ◌&&◌, ◌||◌, nat_lt, if◌then◌else◌, Option, Some, None, List, [], ◌∷◌, length}
+use Rattle.td_words.specs.declared.names.Access.TheVariants.{Read, Write}
+use Rattle.td_words.specs.declared.machines.Machine.{Machine}
+use Rattle.td_words.specs.declared.calls.Call.{Call}
+use Rattle.td_words.specs.declared.calls.Call.TheVariants as call
+use Rattle.td_words.specs.declared.calls.GuestOp.TheVariants as op
+use Rattle.td_words.specs.declared.refusals.Status.TheVariants.{OperandBusy}
+use Rattle.td_words.specs.declared.replies.Outcome.TheVariants.{Vmcall}
+use Rattle.td_words.specs.declared.replies.Value.TheVariants as value
+use Rattle.td_words.specs.declared.replies.Reply.{Reply}
+use Rattle.td_words.specs.declared.replies.Reply.TheVariants.{Done, Refused, Exited}
+use Rattle.flat_core.specs.Processor.{name_of, LoadNote, RtmrNote}
+use Rattle.flat_core.specs.Digests.{digest_word, six_words}
+use Rattle.flat_core.specs.Table.{most_tries}
+use Rattle.flat_core.specs.Translations.{drop_td}
+use Rattle.word_rules.specs.Views.{look}
+use Rattle.leaf_engine.specs.declared.events.Event.{Event}
+use Rattle.leaf_engine.specs.declared.events.Event.TheVariants as event
+use Rattle.leaf_engine.specs.declared.events.HeldLock.{HeldLock}
+use Rattle.leaf_engine.specs.declared.events.Stage.{Stage}
+use Rattle.leaf_engine.specs.declared.events.Stage.TheVariants as stage
+use Rattle.leaf_engine.specs.Trees.{Answer, only, Tree, Lock, Load, Test, End, Since}
+use Rattle.leaf_engine.specs.Besides.{Beside, answered_by}
+use Rattle.leaf_engine.specs.Turns.{Standing}
+use Rattle.leaf_engine.specs.Guests.{WordGuest, Step, Operates, Accesses, Loads, Leaves, is_epoch_name, guest_entered, or_else}
+use Rattle.access_core.specs.OperationTrees.{with_notes}
+use Rattle.access_core.specs.WalkTrees.{goes_on_by, page_by, walked}
+
+-- at most how many locks it tries, its answer by its reply, and which replies it has
+pub record Ends : Type 0 where
+  pub tries : ℕ
+  pub answer : Reply → Answer
+  pub fits : Reply → Bool
+
+-- Calls: the act of VP.ENTER drops the TD's translations where they are stale, and enters the guest. Its pages are the machine's.
+abbrev pub call_answer : Call → Reply → Answer
+call_answer (call.VpEnter tdr vp most) (Done (value.Entered stale index position root)) = record {
+  reply = Done (value.Entered stale index position root);
+  cached = λ ts. if stale then drop_td tdr ts else ts;
+  enters = Some (record { tdr = tdr; vp = vp; most = most });
+  notes = [];
+  tells = [];
+  bundles = [];
+}
+call_answer _ r = only r
+
+abbrev pub call_fits : Machine → Call → Reply → Bool
+call_fits m (call.VpEnter tdr vp most) (Done (value.Entered stale index position root)) = nat_lt tdr m.pages && nat_lt vp m.pages
+call_fits m _ r = true
+
+abbrev pub call_ends : Machine → Call → Ends
+call_ends m c = record { tries = most_tries c; answer = call_answer c; fits = call_fits m c }
+
+-- calls of which none enters a guest
+abbrev pub enters_none : List Call → Bool
+enters_none [] = true
+enters_none (call.VpEnter tdr vp most ∷ cs) = false
+enters_none (c ∷ cs) = enters_none cs
+
+-- Steps of a guest: a load is noted, and so is an RTMR's extension; a shared store and VMCALL tell a word; the load of an entry
+-- may let a translation be cached.
+abbrev pub step_answer : (tdr line : ℕ) → Step → Reply → Answer
+step_answer t line (Operates (op.Load r gpa)) (Done (value.Number x)) = with_notes (Done (value.Number x)) (LoadNote line gpa x ∷ []) []
+step_answer t line (Operates (op.Store r gpa)) (Done (value.Number x)) = with_notes (Done (value.Number x)) [] (x ∷ [])
+step_answer t line (Operates (op.Rtmr i)) (Done (value.Digest bytes)) = with_notes (Done (value.Digest bytes)) (RtmrNote line i (six_words (digest_word bytes)) ∷ []) []
+step_answer t line (Operates (op.Vmcall r)) (Exited (Vmcall x)) = with_notes (Exited (Vmcall x)) [] (x ∷ [])
+step_answer t line (Accesses Read r gpa page) (Done (value.Number x)) = with_notes (Done (value.Number x)) (LoadNote line gpa x ∷ []) []
+step_answer t line (Loads access gpa level page) (Done (value.Number seen)) = walked t access gpa level seen
+step_answer t line s r = only r
+
+-- a step isn't refused, but for a lock; and what is cached names a page
+abbrev pub is_page_seen : Bool → ℕ → Bool
+is_page_seen goes seen = if goes then nat_lt (page_by seen) 65536 else true
+
+abbrev pub step_fits : Step → Reply → Bool
+step_fits (Operates o) (Refused s) = false
+step_fits (Operates o) r = true
+step_fits (Loads access gpa level page) (Done (value.Number seen)) = is_page_seen (goes_on_by access level seen) seen
+step_fits (Loads access gpa level page) r = false
+step_fits _ r = true
+
+abbrev pub step_tries : Step → ℕ
+step_tries (Operates o) = 2
+step_tries _ = 0
+
+abbrev pub step_ends : (tdr line : ℕ) → Step → Ends
+step_ends t line s = record { tries = step_tries s; answer = step_answer t line s; fits = step_fits s }
+
+-- what a tree comes to, whatever words it is told, with so many tries left
+abbrev pub EndsAs : Ends → ℕ → Tree → Type 0
+EndsAs e n (Lock l q m t) = (1 ≤ n) × EndsAs e (n - 1) t
+EndsAs e n (Load v q k) = (x : ℕ) → EndsAs e n (k (look v x))
+EndsAs e n (Test b r t) = (only r ≡ e.answer r) × (e.fits r ≡ true) × (b ≡ true → EndsAs e n t)
+EndsAs e n (End a fs cs) = (a ≡ e.answer a.reply) × (e.fits a.reply ≡ true)
+EndsAs e n (Since a cs) = (a ≡ e.answer a.reply) × (e.fits a.reply ≡ true)
+
+-- it holds no more locks than its leaf tries; and on its way the rest of its tree is so
+abbrev pub FewTries : Ends → Standing → Type 0
+FewTries e s = (length s.held ≤ e.tries) × (s.stage ≡ stage.Trying → EndsAs e (e.tries - length s.held) s.rest)
+
+-- once it is answered its reply is one of these, or it says which lock was denied
+abbrev pub is_busy : Reply → Bool
+is_busy (Refused (OperandBusy n)) = true
+is_busy _ = false
+
+abbrev pub FitsStage : Ends → Stage → Type 0
+FitsStage e (stage.Answered r) = (e.fits r || is_busy r) ≡ true
+FitsStage e _ = Unit {0}
+
+-- The first lock that a tree tries isn't an E, and it enters no guest before.
+abbrev pub BeginsUnderOther : Tree → Type 0
+BeginsUnderOther (Lock l q m t) = is_epoch_name (name_of l) ≡ false
+BeginsUnderOther (Load v q k) = (x : ℕ) → BeginsUnderOther (k (look v x))
+BeginsUnderOther (Test b r t) = BeginsUnderOther t
+BeginsUnderOther (End a fs cs) = a.enters ≡ None
+BeginsUnderOther (Since a cs) = a.enters ≡ None
+
+-- The oldest lock that a run holds isn't an E.
+abbrev pub OldestIsOther : List HeldLock → Standing → Type 0
+OldestIsOther [] s = s.stage ≡ stage.Trying → BeginsUnderOther s.rest
+OldestIsOther (h ∷ hs) s = is_epoch_name h.name ≡ false
+
+-- the reply that came with a turn's act
+abbrev pub act_of : Event → Stage → Option Reply
+act_of event.Act (stage.Answered r) = Some r
+act_of _ _ = None
+
+-- what it makes of its processor, and the guest that it enters
+abbrev pub beside_by : (Reply → Answer) → Option Reply → Beside → Beside
+beside_by answer None b = b
+beside_by answer (Some r) b = answered_by (answer r) b
+
+abbrev pub guest_by : (Reply → Answer) → Option Reply → Option WordGuest → Option WordGuest
+guest_by answer None g = g
+guest_by answer (Some r) g = or_else (guest_entered (answer r)) g

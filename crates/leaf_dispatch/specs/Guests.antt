@@ -1,0 +1,81 @@
+-- What contracts see of the guest that a logical processor is in, and of its next step.
+use Rattle.std.specs.Prelude.{◌≡◌, ℕ, ◌<◌, ◌≤◌, Bool, true, false, not, Option, Some, None, option_map, List, slice_get, length}
+use Rattle.td_words.specs.declared.calls.GuestOp.{GuestOp}
+use Rattle.td_words.specs.declared.names.Access.{Access}
+use Rattle.td_words.specs.declared.replies.Outcome.{Outcome}
+use Rattle.td_words.specs.declared.replies.Reply.{Reply}
+use Rattle.td_words.specs.declared.replies.Reply.TheVariants.{Done, Refused}
+use Rattle.td_words.specs.declared.replies.Value.TheVariants as value
+use Rattle.flat_core.specs.Processor.{Translation, Walk}
+use Rattle.leaf_engine.specs.Turns.{Standing}
+use Rattle.leaf_engine.specs.Guests.{WordGuest, Step, Operates, Accesses, Loads, Leaves, due_step, stepped}
+use Rattle.leaf_dispatch.specs.Answers.{is_busy}
+use Rattle.leaf_dispatch.specs.declared.guests.Step.{Step as GuestStep}
+use Rattle.leaf_dispatch.specs.declared.guests.Step.TheVariants as step
+use Rattle.leaf_dispatch.specs.declared.guests.WalkAt.{WalkAt}
+use Rattle.leaf_dispatch.specs.declared.guests.GuestAt.{GuestAt}
+
+abbrev pub step_seen : GuestStep → Step
+step_seen (step.Operates o) = Operates o
+step_seen (step.Accesses access r gpa page) = Accesses access r gpa page
+step_seen (step.Loads access gpa level page) = Loads access gpa level page
+step_seen (step.Leaves out) = Leaves out
+
+abbrev pub walk_seen : WalkAt → Walk
+walk_seen w = record { gpa_page = w.gpa_page; level = w.level; page = w.page }
+
+-- with the run of what it does
+abbrev pub guest_seen : GuestAt → Option Standing → WordGuest
+guest_seen g run = record {
+  tdr = g.tdr;
+  vp = g.vp;
+  root = g.root;
+  most = g.most;
+  completed = g.completed;
+  index = g.index;
+  position = g.position;
+  walk = option_map walk_seen g.walk;
+  leaving = g.leaving;
+  run = run;
+}
+
+-- its next step, by its own list
+abbrev pub unless_left : Option Outcome → Step → Step
+unless_left None s = s
+unless_left (Some out) s = Leaves out
+
+abbrev pub due_in : List Translation → GuestAt → Option Standing → Step
+due_in ts g run = due_step ts (guest_seen g run) (slice_get g.list.now g.position)
+
+abbrev pub next_in : List Translation → GuestAt → Option Standing → Step
+next_in ts g run = unless_left g.leaving (due_in ts g run)
+
+-- the level of a walk is one of the four
+abbrev pub IsLow : Option WalkAt → Type 0
+IsLow None = Unit {0}
+IsLow (Some w) = w.level ≤ 3
+
+-- where it isn't left, an operation of its list is due, and may be completed
+abbrev pub CanCount : GuestAt → Step → Type 0
+CanCount g (Leaves out) = Unit {0}
+CanCount g s = (g.completed < g.most) × (g.position < length g.list.now)
+
+-- a reply that isn't a refusal, but for a lock
+abbrev pub is_outcome : Reply → Bool
+is_outcome (Refused s) = is_busy (Refused s)
+is_outcome r = true
+
+-- what the load of an entry answers
+abbrev pub IsNumber : Reply → Type 0
+IsNumber (Done (value.Number seen)) = Unit {0}
+IsNumber _ = ⊥
+
+-- the reply that a step may have
+abbrev pub IsReplyOf : Step → Reply → Type 0
+IsReplyOf (Operates o) r = is_outcome r ≡ true
+IsReplyOf (Loads access gpa level page) r = IsNumber r
+IsReplyOf _ r = Unit {0}
+
+-- what became of it
+abbrev pub IsStepped : GuestAt → Step → Reply → Option GuestAt → Type 0
+IsStepped g s r h = (run : Option Standing) → option_map (λ z. guest_seen z None) h ≡ stepped s r (guest_seen g run)

@@ -1,0 +1,256 @@
+//! The guest that a logical processor is in, and what it does next.
+
+ghost use Rattle.std.specs.Prelude.{◌≡◌, ◌+◌, ◌<◌, ◌≤◌, true, length, Option, None, IfSome};
+ghost use Rattle.std.specs.List.{All};
+ghost use Rattle.flat_core.specs.Guest.{is_private};
+ghost use Rattle.flat_core.specs.Tree.{page_of_gpa};
+ghost use Rattle.flat_core.specs.Translations.{look_up};
+ghost use Rattle.leaf_engine.specs.Turns.{Standing};
+ghost use Rattle.leaf_engine.specs.Guests.{private_step, operation_step, passed_on, leaving_with, operated, is_right, walked, loaded};
+ghost use Rattle.leaf_engine.specs.Merges.{IsOperation, IsStepOf};
+ghost use Rattle.leaf_dispatch.specs.Guests.{step_seen, guest_seen, due_in, next_in, IsLow, CanCount, is_outcome, IsNumber, IsReplyOf, IsStepped};
+
+use td_words::{Access, GuestOp, Outcome, Reply, Status, Value};
+use tlb_epochs::Tlb;
+
+/// Private GPAs are below this one.
+const SHARED: u64 = 1 << 47;
+
+/// What a guest does next: an operation that goes by a row; an access to a word of a page through a
+/// cached translation; the load of the entry of a level in its walk, from the page where it stands;
+/// or it is left.
+#[derive(Clone, Copy)]
+pub enum Step {
+    Operates(GuestOp),
+    Accesses {
+        access: Access,
+        register: u8,
+        gpa: u64,
+        page: u16,
+    },
+    Loads {
+        access: Access,
+        gpa: u64,
+        level: u8,
+        page: u64,
+    },
+    Leaves(Outcome),
+}
+
+/// A walk under way: its GPA page, the level of the entry that it loads next, and the page where
+/// that entry stands.
+#[derive(Clone, Copy)]
+pub struct WalkAt {
+    pub gpa_page: u64,
+    pub level: u8,
+    pub page: u64,
+}
+
+/// A virtual processor in guest: its TD, its page, the root page of the TD's secure EPT, how many
+/// operations it may complete in this entry and has completed, its index, its list of operations and
+/// its position there, its walk, and why it is to be left.
+#[derive(Clone, Copy)]
+pub struct GuestAt<'a> {
+    pub tdr: u16,
+    pub vp: u16,
+    pub root: u16,
+    pub most: u64,
+    pub completed: u64,
+    pub index: u64,
+    pub list: &'a [GuestOp],
+    pub position: u64,
+    pub walk: Option<WalkAt>,
+    pub leaving: Option<Outcome>,
+}
+
+/// The guest's next step, by the translations that are cached.
+pub fn next_step(guest: &GuestAt<'_>, cached: &Tlb) -> Step
+    requires low { IsLow guest.now.walk }
+    requires limits { All IsOperation guest.now.list.now }
+    ensures step { (run : Option Standing) → step_seen result ≡ next_in cached.now guest.now run }
+    ensures inside { IsStepOf (step_seen result) }
+{
+    match guest.leaving {
+        Some(outcome) => Step::Leaves(outcome),
+        None => next_due(guest, cached),
+    }
+}
+
+// At the list's end the guest is left, which is tested first.
+fn next_due(guest: &GuestAt<'_>, cached: &Tlb) -> Step
+    requires low { IsLow guest.now.walk }
+    requires limits { All IsOperation guest.now.list.now }
+    ensures step { (run : Option Standing) → step_seen result ≡ due_in cached.now guest.now run }
+    ensures inside { IsStepOf (step_seen result) }
+{
+    match guest.list.get(guest.position as usize) {
+        Some(operation) => {
+            if guest.most <= guest.completed {
+                Step::Leaves(Outcome::Max)
+            } else {
+                next_operation(guest, cached, *operation)
+            }
+        }
+        None => Step::Leaves(Outcome::Stop),
+    }
+}
+
+fn next_operation(guest: &GuestAt<'_>, cached: &Tlb, operation: GuestOp) -> Step
+    requires low { IsLow guest.now.walk }
+    requires inside { IsOperation operation }
+    ensures step { (run : Option Standing) → step_seen result ≡ operation_step cached.now (guest_seen guest.now run) operation }
+    ensures inside { IsStepOf (step_seen result) }
+{
+    match operation {
+        GuestOp::Load { register, gpa } if gpa < SHARED => {
+            next_private(guest, cached, Access::Read, register, gpa)
+        }
+        GuestOp::Store { register, gpa } if gpa < SHARED => {
+            next_private(guest, cached, Access::Write, register, gpa)
+        }
+        _ => Step::Operates(operation),
+    }
+}
+
+// An access to a private GPA goes by a cached translation, or walks until there is one.
+fn next_private(
+    guest: &GuestAt<'_>,
+    cached: &Tlb,
+    access: Access,
+    register: u8,
+    gpa: u64,
+) -> Step
+    requires low { IsLow guest.now.walk }
+    requires inside { (register < 8) × (is_private gpa ≡ true) }
+    ensures step { (run : Option Standing) → step_seen result ≡ private_step (guest_seen guest.now run) access register gpa (look_up cached.now guest.now.tdr (page_of_gpa gpa) access) }
+    ensures inside { IsStepOf (step_seen result) }
+{
+    match cached.look_up(guest.tdr, gpa, access) {
+        Some(page) => Step::Accesses {
+            access,
+            register,
+            gpa,
+            page,
+        },
+        None => {
+            let (level, page) = match guest.walk {
+                Some(walk) => (walk.level, walk.page),
+                None => (3, u64::from(guest.root)),
+            };
+            Step::Loads {
+                access,
+                gpa,
+                level,
+                page,
+            }
+        }
+    }
+}
+
+/// What becomes of the guest once a step has its reply; none where it was left.
+pub fn step_on<'a>(guest: GuestAt<'a>, step: Step, reply: Reply) -> Option<GuestAt<'a>>
+    requires counted { CanCount guest.entry (step_seen step) }
+    requires fits { IsReplyOf (step_seen step) reply }
+    requires low { IsLow guest.entry.walk }
+    requires level { IsStepOf (step_seen step) }
+    ensures stepped { IsStepped guest.entry (step_seen step) reply result }
+    ensures kept { IfSome result (λ g. IsLow g.walk × (g.list.now ≡ guest.entry.list.now)) }
+{
+    match step {
+        Step::Operates(_) => Some(operate_on(guest, reply)),
+        Step::Accesses { .. } => Some(pass_on(guest)),
+        Step::Loads {
+            access, gpa, level, ..
+        } => Some(walk_on(guest, access, gpa, level, reply)),
+        Step::Leaves(_) => None,
+    }
+}
+
+// An operation is completed.
+fn pass_on<'a>(guest: GuestAt<'a>) -> GuestAt<'a>
+    requires counted { (guest.entry.completed < guest.entry.most) × (guest.entry.position < length guest.entry.list.now) }
+    ensures seen { (run : Option Standing) → guest_seen result None ≡ passed_on (guest_seen guest.entry run) }
+    ensures list { result.list.now ≡ guest.entry.list.now }
+{
+    GuestAt {
+        completed: guest.completed + 1,
+        position: guest.position + 1,
+        walk: None,
+        ..guest
+    }
+}
+
+// The guest is to be left.
+fn leave_with<'a>(guest: GuestAt<'a>, outcome: Outcome) -> GuestAt<'a>
+    ensures seen { (run : Option Standing) → guest_seen result None ≡ leaving_with outcome (guest_seen guest.entry run) }
+    ensures list { result.list.now ≡ guest.entry.list.now }
+{
+    GuestAt {
+        walk: None,
+        leaving: Some(outcome),
+        ..guest
+    }
+}
+
+// A VMCALL is behind its guest, and yet the guest is left.
+fn operate_on<'a>(guest: GuestAt<'a>, reply: Reply) -> GuestAt<'a>
+    requires counted { (guest.entry.completed < guest.entry.most) × (guest.entry.position < length guest.entry.list.now) }
+    requires outcome { is_outcome reply ≡ true }
+    ensures seen { (run : Option Standing) → guest_seen result None ≡ operated reply (guest_seen guest.entry run) }
+    ensures list { result.list.now ≡ guest.entry.list.now }
+{
+    match reply {
+        Reply::Done(_) => pass_on(guest),
+        Reply::Exited(Outcome::Vmcall(word)) => leave_with(
+            GuestAt {
+                position: guest.position + 1,
+                ..guest
+            },
+            Outcome::Vmcall(word),
+        ),
+        Reply::Exited(outcome) => leave_with(guest, outcome),
+        Reply::Refused(Status::OperandBusy(name)) => leave_with(guest, Outcome::Busy(name)),
+        Reply::Refused(_) => guest,
+    }
+}
+
+// A walk goes on, is done, or is an EPT violation.
+fn walk_on<'a>(
+    guest: GuestAt<'a>,
+    access: Access,
+    gpa: u64,
+    level: u8,
+    reply: Reply,
+) -> GuestAt<'a>
+    requires number { IsNumber reply }
+    ensures seen { (run : Option Standing) → guest_seen result None ≡ loaded access gpa level reply (guest_seen guest.entry run) }
+    ensures low { IsLow guest.entry.walk → level ≤ 3 → IsLow result.walk }
+    ensures list { result.list.now ≡ guest.entry.list.now }
+{
+    let Reply::Done(Value::Number(rights)) = reply else {
+        unreachable!()
+    };
+    if !is_right(access, level, rights) {
+        return leave_with(guest, Outcome::EptViolation { gpa, access });
+    }
+    let walk = match level {
+        0 => None,
+        _ => Some(WalkAt {
+            gpa_page: gpa / 4096,
+            level: level - 1,
+            page: rights / 8,
+        }),
+    };
+    GuestAt { walk, ..guest }
+}
+
+// Whether a walk goes on behind an upper entry, or an entry of level 0 allows the access.
+fn is_right(access: Access, level: u8, rights: u64) -> bool
+    ensures { result ≡ is_right access level rights }
+{
+    match (level, access) {
+        (0, Access::Read) => rights / 2 % 2 == 1,
+        (0, Access::Write) => rights % 2 == 1,
+        _ => rights / 4 % 2 == 1,
+    }
+}
