@@ -17,7 +17,7 @@ use Rattle.flat_core.specs.Guests.{guest_locks, entry_locks}
 use Rattle.flat_core.specs.Guest.{walk_level}
 use Rattle.flat_core.specs.Inside.{InGuest, AreTimely}
 use Rattle.flat_core.specs.Event.{State, Event, OfCall, next_event, event_for, line_event, entered_event, guest_event, staying_event, due_event, event, lines_left}
-use Rattle.lock_words.specs.Grips.{operation_locks}
+use Rattle.lock_words.specs.Grips.{operation_locks, locks_of}
 use Rattle.step_core.specs.Items.{Table}
 use Rattle.leaf_engine.specs.declared.events.Event.{Event as RunEvent}
 use Rattle.leaf_engine.specs.declared.events.Stage.{Stage}
