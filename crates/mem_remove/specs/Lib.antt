@@ -5,3 +5,5 @@ pub mod NamedTrees
 pub mod TrackedTrees
 pub mod NamedMeanings
 pub mod TrackedMeanings
+pub mod TrackTrees
+pub mod TrackMeanings

@@ -7,6 +7,8 @@
 mod metadata_reads;
 mod named_entries;
 mod tracked_blocks;
+mod trackings;
 
 pub use metadata_reads::Rdmd;
 pub use named_entries::Named;
+pub use trackings::Track;
