@@ -262,10 +262,17 @@ entry_ends m lp d ws name.MrExtend ns = (refl, call_full m lp d _ ws)
 entry_ends m lp d ws name.MrFinalize ns = (refl, call_full m lp d _ ws)
 entry_ends m lp d ws name.VpCreate ns = (refl, call_full m lp d _ ws)
 entry_ends m lp d ws name.VpInit ns = (refl, call_full m lp d _ ws)
+entry_ends m lp d ws name.VpEnter ns = (refl, call_full m lp d _ ws)
+entry_ends m lp d ws name.VpFlush ns = (refl, call_full m lp d _ ws)
 entry_ends m lp d ws name.MemSeptAdd ns = (refl, call_full m lp d _ ws)
 entry_ends m lp d ws name.MemSeptRd ns = (refl, call_full m lp d _ ws)
+entry_ends m lp d ws name.MemSeptRemove ns = (refl, call_full m lp d _ ws)
 entry_ends m lp d ws name.MemPageAdd ns = (refl, call_full m lp d _ ws)
 entry_ends m lp d ws name.MemPageAug ns = (refl, call_full m lp d _ ws)
+entry_ends m lp d ws name.MemPageRemove ns = (refl, call_full m lp d _ ws)
+entry_ends m lp d ws name.MemRangeBlock ns = (refl, call_full m lp d _ ws)
+entry_ends m lp d ws name.MemRangeUnblock ns = (refl, call_full m lp d _ ws)
+entry_ends m lp d ws name.MemTrack ns = (refl, call_full m lp d _ ws)
 entry_ends m lp d ws _ ns = refl
 
 judged_order : (m : Machine) (lp : ℕ) (d : SoFar) (ws : List (List ℕ)) (row : Mnemonic) (e : Option Entry) (ns : List (Option ℕ)) → EntryEnds m lp d ws row.call e
