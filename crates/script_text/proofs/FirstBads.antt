@@ -10,7 +10,7 @@ use Rattle.script_text.specs.declared.faults.ScriptFault.{ScriptFault}
 use Rattle.script_text.specs.declared.faults.ScriptFault.TheVariants.{Bad}
 use Rattle.script_text.specs.declared.faults.Reason.{Reason}
 use Rattle.script_text.specs.Seen.{ScriptSeen}
-use Rattle.script_text.specs.Words.{pieces}
+use Rattle.line_words.specs.Words.{pieces}
 use Rattle.script_text.specs.Reading.{SoFar, nothing_yet, line_of, read_from, read_of, then_on, ended_of, script_of}
 use Rattle.script_text.specs.Laws.{Good, IsBad, FirstBad, FaultsAreFirst}
 use Rattle.script_text.specs.Laws.Good.{none, more}

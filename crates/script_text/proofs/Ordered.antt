@@ -21,9 +21,9 @@ use Rattle.script_text.specs.declared.lines.Entry.{Entry}
 use Rattle.script_text.specs.declared.lines.Entry.TheVariants as entry
 use Rattle.script_text.specs.declared.lines.Keyword.{Keyword}
 use Rattle.script_text.specs.declared.lines.Keyword.TheVariants as keyword
-use Rattle.script_text.specs.declared.mnemonics.CallName.{CallName}
-use Rattle.script_text.specs.declared.mnemonics.CallName.TheVariants as name
-use Rattle.script_text.specs.declared.mnemonics.Mnemonic.{Mnemonic}
+use Rattle.line_words.specs.declared.mnemonics.CallName.{CallName}
+use Rattle.line_words.specs.declared.mnemonics.CallName.TheVariants as name
+use Rattle.line_words.specs.declared.mnemonics.Mnemonic.{Mnemonic}
 use Rattle.script_text.specs.declared.code_blocks.CodePlace.{CodePlace}
 use Rattle.script_text.specs.declared.operations.OpName.{OpName}
 use Rattle.script_text.specs.declared.operations.OpName.TheVariants as op
@@ -31,13 +31,13 @@ use Rattle.script_text.specs.declared.schedules.Turns.{Turns}
 use Rattle.script_text.specs.Blocks.{field_of, code_of, operation_of, operand_count, fit_operands, guest_op_of}
 use Rattle.script_text.specs.Counted.{◌>>=◌, argument}
 use Rattle.script_text.specs.Line.{keyword_of, machine_of, block_of, end_of, built_of, are_given, judged_of, call_of, first_of, list_of, judged_operation_of, operation_line_of, outside_of, named_of, inside_of, placed_of, entry_of}
-use Rattle.script_text.specs.Mnemonics.{mnemonics, mnemonic_in}
-use Rattle.script_text.specs.Number.{number}
+use Rattle.line_words.specs.Mnemonics.{mnemonics, mnemonic_in}
+use Rattle.line_words.specs.Number.{number}
 use Rattle.script_text.specs.Reading.{SoFar, entered_of, worded_of, line_of, script_of, ended_of}
 use Rattle.script_text.specs.Reasons.{fault_in, line_reasons, end_reasons, times_of, turns_count, names_no_field, is_built, is_built_operation, FirstWord, call_word, operation_word, word_in, machine_holds, holds_of, holds_in, holds_at, holds_at_end}
 use Rattle.script_text.specs.Reasons.FirstWord.{Key}
 use Rattle.script_text.specs.Schedule.{item_of, turns_in, written_of, schedule_of}
-use Rattle.script_text.specs.Words.{words, is_printable, is_comment}
+use Rattle.line_words.specs.Words.{words, is_printable, is_comment}
 use Rattle.script_text.specs.Laws.{ReasonsInOrder}
 
 -- all reasons but BYTE
@@ -262,10 +262,17 @@ entry_ends m lp d ws name.MrExtend ns = (refl, call_full m lp d _ ws)
 entry_ends m lp d ws name.MrFinalize ns = (refl, call_full m lp d _ ws)
 entry_ends m lp d ws name.VpCreate ns = (refl, call_full m lp d _ ws)
 entry_ends m lp d ws name.VpInit ns = (refl, call_full m lp d _ ws)
+entry_ends m lp d ws name.VpEnter ns = (refl, call_full m lp d _ ws)
+entry_ends m lp d ws name.VpFlush ns = (refl, call_full m lp d _ ws)
 entry_ends m lp d ws name.MemSeptAdd ns = (refl, call_full m lp d _ ws)
 entry_ends m lp d ws name.MemSeptRd ns = (refl, call_full m lp d _ ws)
+entry_ends m lp d ws name.MemSeptRemove ns = (refl, call_full m lp d _ ws)
 entry_ends m lp d ws name.MemPageAdd ns = (refl, call_full m lp d _ ws)
 entry_ends m lp d ws name.MemPageAug ns = (refl, call_full m lp d _ ws)
+entry_ends m lp d ws name.MemPageRemove ns = (refl, call_full m lp d _ ws)
+entry_ends m lp d ws name.MemRangeBlock ns = (refl, call_full m lp d _ ws)
+entry_ends m lp d ws name.MemRangeUnblock ns = (refl, call_full m lp d _ ws)
+entry_ends m lp d ws name.MemTrack ns = (refl, call_full m lp d _ ws)
 entry_ends m lp d ws _ ns = refl
 
 judged_order : (m : Machine) (lp : ℕ) (d : SoFar) (ws : List (List ℕ)) (row : Mnemonic) (e : Option Entry) (ns : List (Option ℕ)) → EntryEnds m lp d ws row.call e

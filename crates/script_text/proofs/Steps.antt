@@ -5,7 +5,7 @@ use Rattle.script_text.specs.declared.faults.ScriptFault.{ScriptFault}
 use Rattle.script_text.specs.declared.faults.ScriptFault.TheVariants.{Bad, OutOfMemory}
 use Rattle.script_text.specs.declared.faults.Reason.{Reason}
 use Rattle.script_text.specs.Seen.{ScriptSeen}
-use Rattle.script_text.specs.Words.{pieces}
+use Rattle.line_words.specs.Words.{pieces}
 use Rattle.script_text.specs.Reading.{SoFar, line_of, read_from, then_on, IsAnswered}
 use Rattle.script_text.specs.Counted.{IsAnsweredAt}
 

@@ -8,9 +8,9 @@ use Rattle.td_words.specs.declared.machines.Machine.{Machine}
 use Rattle.td_words.specs.Limits.{in_limits}
 use Rattle.script_text.specs.declared.faults.Reason.{Reason}
 use Rattle.script_text.specs.declared.faults.Reason.TheVariants as reason
-use Rattle.script_text.specs.declared.mnemonics.CallName.{CallName}
-use Rattle.script_text.specs.declared.mnemonics.CallName.TheVariants as name
-use Rattle.script_text.specs.declared.mnemonics.Mnemonic.{Mnemonic}
+use Rattle.line_words.specs.declared.mnemonics.CallName.{CallName}
+use Rattle.line_words.specs.declared.mnemonics.CallName.TheVariants as name
+use Rattle.line_words.specs.declared.mnemonics.Mnemonic.{Mnemonic}
 use Rattle.script_text.specs.declared.operations.OpName.{OpName}
 use Rattle.script_text.specs.declared.lines.Keyword.{Keyword}
 use Rattle.script_text.specs.declared.lines.Keyword.TheVariants as keyword
@@ -21,7 +21,7 @@ use Rattle.script_text.specs.declared.lines.Entry.{Entry}
 use Rattle.script_text.specs.declared.lines.Entry.TheVariants as entry
 use Rattle.script_text.specs.Counted.{◌>>=◌, counted_of, number_at, argument}
 use Rattle.script_text.specs.Blocks.{code_of, operation_of, guest_op_of, operands_of}
-use Rattle.script_text.specs.Mnemonics.{mnemonics, mnemonic_in}
+use Rattle.line_words.specs.Mnemonics.{mnemonics, mnemonic_in}
 
 abbrev pub keyword_of : List ℕ → Option Keyword
 keyword_of word =
@@ -82,10 +82,17 @@ built_of lp name.MrExtend ns = Some (entry.Call lp (calls.MrExtend (argument ns 
 built_of lp name.MrFinalize ns = Some (entry.Call lp (calls.MrFinalize (argument ns 0)))
 built_of lp name.VpCreate ns = Some (entry.Call lp (calls.VpCreate (argument ns 0) (argument ns 1)))
 built_of lp name.VpInit ns = Some (entry.Call lp (calls.VpInit (argument ns 0) (argument ns 1) (argument ns 2)))
+built_of lp name.VpEnter ns = Some (entry.Call lp (calls.VpEnter (argument ns 0) (argument ns 1) (argument ns 2)))
+built_of lp name.VpFlush ns = Some (entry.Call lp (calls.VpFlush (argument ns 0) (argument ns 1)))
 built_of lp name.MemSeptAdd ns = Some (entry.Call lp (calls.MemSeptAdd (argument ns 0) (argument ns 1) (argument ns 2) (argument ns 3)))
 built_of lp name.MemSeptRd ns = Some (entry.Call lp (calls.MemSeptRd (argument ns 0) (argument ns 1) (argument ns 2)))
+built_of lp name.MemSeptRemove ns = Some (entry.Call lp (calls.MemSeptRemove (argument ns 0) (argument ns 1) (argument ns 2)))
 built_of lp name.MemPageAdd ns = Some (entry.Call lp (calls.MemPageAdd (argument ns 0) (argument ns 1) (argument ns 2) (argument ns 3)))
 built_of lp name.MemPageAug ns = Some (entry.Call lp (calls.MemPageAug (argument ns 0) (argument ns 1) (argument ns 2)))
+built_of lp name.MemPageRemove ns = Some (entry.Call lp (calls.MemPageRemove (argument ns 0) (argument ns 1)))
+built_of lp name.MemRangeBlock ns = Some (entry.Call lp (calls.MemRangeBlock (argument ns 0) (argument ns 1) (argument ns 2)))
+built_of lp name.MemRangeUnblock ns = Some (entry.Call lp (calls.MemRangeUnblock (argument ns 0) (argument ns 1) (argument ns 2)))
+built_of lp name.MemTrack ns = Some (entry.Call lp (calls.MemTrack (argument ns 0)))
 built_of lp _ ns = None
 
 -- whether those arguments are numbers that must be: all but the field of MNG.RD

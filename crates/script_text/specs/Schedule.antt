@@ -6,8 +6,8 @@ use Rattle.script_text.specs.declared.faults.Reason.TheVariants as reason
 use Rattle.script_text.specs.declared.schedules.Item.{Item}
 use Rattle.script_text.specs.declared.schedules.Turns.{Turns}
 use Rattle.script_text.specs.Counted.{◌>>=◌}
-use Rattle.script_text.specs.Number.{number}
-use Rattle.script_text.specs.Words.{words}
+use Rattle.line_words.specs.Number.{number}
+use Rattle.line_words.specs.Words.{words}
 
 abbrev pub item_from : Option ℕ → Option ℕ → Option Item
 item_from (Some lp) (Some times) = Some (record { lp = lp; times = times })

@@ -1,4 +1,4 @@
--- How a script is written: the words of a line, each behind a space but the first, then a newline; numbers in decimal.
+-- How a script is written: line by line, numbers in decimal.
 use Rattle.std.specs.Prelude.{◌≡◌, ℕ, ◌+◌, ◌%◌, ◌^◌, ◌<◌, List, [], ◌∷◌, ◌++◌, map, codes}
 use Rattle.std.specs.List.{All}
 use Rattle.std.specs.Fmt.{decimal}
@@ -8,14 +8,8 @@ use Rattle.td_words.specs.declared.calls.GuestOp.{GuestOp}
 use Rattle.td_words.specs.declared.calls.GuestOp.TheVariants as guest
 use Rattle.td_words.specs.NameText.{read_text}
 use Rattle.td_words.specs.Seen.{CodeSeen}
+use Rattle.line_words.specs.Lines.{line_text}
 use Rattle.script_text.specs.Seen.{ScriptSeen}
-
-abbrev pub words_text : List (List ℕ) → List ℕ
-words_text [] = []
-words_text (w ∷ ws) = 32 ∷ (w ++ words_text ws)
-
-abbrev pub line_text : List ℕ → List (List ℕ) → List ℕ
-line_text word words = (word ++ words_text words) ++ 10 ∷ []
 
 abbrev pub call_word : Call → List ℕ
 call_word (calls.HostRead page word) = codes "HOST.READ"
@@ -35,10 +29,16 @@ call_word (calls.MrFinalize tdr) = codes "MR.FINALIZE"
 call_word (calls.VpCreate tdr page) = codes "VP.CREATE"
 call_word (calls.VpInit tdr vp value) = codes "VP.INIT"
 call_word (calls.VpEnter tdr vp max) = codes "VP.ENTER"
+call_word (calls.VpFlush tdr vp) = codes "VP.FLUSH"
 call_word (calls.MemSeptAdd tdr gpa level page) = codes "MEM.SEPT.ADD"
 call_word (calls.MemSeptRd tdr gpa level) = codes "MEM.SEPT.RD"
+call_word (calls.MemSeptRemove tdr gpa level) = codes "MEM.SEPT.REMOVE"
 call_word (calls.MemPageAdd tdr gpa page source) = codes "MEM.PAGE.ADD"
 call_word (calls.MemPageAug tdr gpa page) = codes "MEM.PAGE.AUG"
+call_word (calls.MemPageRemove tdr gpa) = codes "MEM.PAGE.REMOVE"
+call_word (calls.MemRangeBlock tdr gpa level) = codes "MEM.RANGE.BLOCK"
+call_word (calls.MemRangeUnblock tdr gpa level) = codes "MEM.RANGE.UNBLOCK"
+call_word (calls.MemTrack tdr) = codes "MEM.TRACK"
 
 abbrev pub call_numbers : Call → List ℕ
 call_numbers (calls.HostRead page word) = page ∷ word ∷ []
@@ -58,24 +58,25 @@ call_numbers (calls.MrFinalize tdr) = tdr ∷ []
 call_numbers (calls.VpCreate tdr page) = tdr ∷ page ∷ []
 call_numbers (calls.VpInit tdr vp value) = tdr ∷ vp ∷ value ∷ []
 call_numbers (calls.VpEnter tdr vp max) = tdr ∷ vp ∷ max ∷ []
+call_numbers (calls.VpFlush tdr vp) = tdr ∷ vp ∷ []
 call_numbers (calls.MemSeptAdd tdr gpa level page) = tdr ∷ gpa ∷ level ∷ page ∷ []
 call_numbers (calls.MemSeptRd tdr gpa level) = tdr ∷ gpa ∷ level ∷ []
+call_numbers (calls.MemSeptRemove tdr gpa level) = tdr ∷ gpa ∷ level ∷ []
 call_numbers (calls.MemPageAdd tdr gpa page source) = tdr ∷ gpa ∷ page ∷ source ∷ []
 call_numbers (calls.MemPageAug tdr gpa page) = tdr ∷ gpa ∷ page ∷ []
+call_numbers (calls.MemPageRemove tdr gpa) = tdr ∷ gpa ∷ []
+call_numbers (calls.MemRangeBlock tdr gpa level) = tdr ∷ gpa ∷ level ∷ []
+call_numbers (calls.MemRangeUnblock tdr gpa level) = tdr ∷ gpa ∷ level ∷ []
+call_numbers (calls.MemTrack tdr) = tdr ∷ []
 
 -- MNG.RD names its field behind its numbers
 abbrev pub call_names : Call → List (List ℕ)
 call_names (calls.MngRd tdr field) = read_text field ∷ []
 call_names _ = []
 
--- each call but VP.ENTER has a line today
-abbrev pub IsBuilt : Call → Type 0
-IsBuilt (calls.VpEnter tdr vp max) = ⊥
-IsBuilt _ = Unit {0}
-
 -- an argument is a number of 64 bits
 abbrev pub FitsCall : Call → Type 0
-FitsCall c = IsBuilt c × All (λ n. n < 2 ^ 64) (call_numbers c)
+FitsCall c = All (λ n. n < 2 ^ 64) (call_numbers c)
 
 abbrev pub calls_text : List Call → List ℕ
 calls_text [] = []

@@ -2,14 +2,14 @@
 
 ghost use Rattle.std.specs.Prelude.{◌≡◌, None, is_some, slice_index_or, false};
 ghost use Rattle.std.specs.List.{list_all};
-ghost use Rattle.script_text.specs.Mnemonics.{mnemonics, mnemonic_in};
+ghost use Rattle.line_words.specs.Mnemonics.{mnemonics, mnemonic_in};
 ghost use Rattle.script_text.specs.Counted.{counted_of, number_at, argument};
 ghost use Rattle.script_text.specs.Line.{keyword_of, machine_in, machine_of, block_in, block_of, end_of, built_of, are_given, judged_of, call_of, list_of, operation_line_of, outside_of, named_of, inside_of, entry_of};
 
 use crate::code_blocks::{CodePlace, code_line};
 use crate::faults::Reason;
-use crate::mnemonics::{CallName, Mnemonic, is, mnemonic_at};
 use crate::operations::{OpName, check_operands, guest_op, operation_at};
+use line_words::{CallName, Mnemonic, is, mnemonic_at};
 use td_words::{Call, GuestOp, Machine};
 
 /// The first word of a line that isn't a call.
@@ -169,7 +169,7 @@ fn built(lp: u8, call: CallName, numbers: &[Option<u64>]) -> Option<Entry>
     let (first, second) = (argument(numbers, 0), argument(numbers, 1));
     let (third, fourth) = (argument(numbers, 2), argument(numbers, 3));
     let (page, tdr, word, vp, gpa) = (first, first, second, second, second);
-    let (value, level, augmented) = (third, third, third);
+    let (value, max, level, augmented) = (third, third, third, third);
     let call = match call {
         CallName::HostRead => Call::HostRead { page, word },
         CallName::HostWrite => Call::HostWrite { page, word, value },
@@ -187,6 +187,8 @@ fn built(lp: u8, call: CallName, numbers: &[Option<u64>]) -> Option<Entry>
         CallName::MrFinalize => Call::MrFinalize { tdr },
         CallName::VpCreate => Call::VpCreate { tdr, page: second },
         CallName::VpInit => Call::VpInit { tdr, vp, value },
+        CallName::VpEnter => Call::VpEnter { tdr, vp, max },
+        CallName::VpFlush => Call::VpFlush { tdr, vp },
         CallName::MemSeptAdd => Call::MemSeptAdd {
             tdr,
             gpa,
@@ -194,6 +196,7 @@ fn built(lp: u8, call: CallName, numbers: &[Option<u64>]) -> Option<Entry>
             page: fourth,
         },
         CallName::MemSeptRd => Call::MemSeptRd { tdr, gpa, level },
+        CallName::MemSeptRemove => Call::MemSeptRemove { tdr, gpa, level },
         CallName::MemPageAdd => Call::MemPageAdd {
             tdr,
             gpa,
@@ -205,6 +208,10 @@ fn built(lp: u8, call: CallName, numbers: &[Option<u64>]) -> Option<Entry>
             gpa,
             page: augmented,
         },
+        CallName::MemPageRemove => Call::MemPageRemove { tdr, gpa },
+        CallName::MemRangeBlock => Call::MemRangeBlock { tdr, gpa, level },
+        CallName::MemRangeUnblock => Call::MemRangeUnblock { tdr, gpa, level },
+        CallName::MemTrack => Call::MemTrack { tdr },
         _ => return None,
     };
     Some(Entry::Call(lp, call))
