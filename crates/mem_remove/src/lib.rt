@@ -4,11 +4,13 @@
 //! that row.
 #![tactic(auto)]
 
+mod blocks;
 mod metadata_reads;
 mod named_entries;
 mod tracked_blocks;
 mod trackings;
 
+pub use blocks::{RangeBlock, RangeUnblock};
 pub use metadata_reads::Rdmd;
 pub use named_entries::Named;
 pub use trackings::Track;
