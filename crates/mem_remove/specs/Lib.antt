@@ -7,3 +7,6 @@ pub mod NamedMeanings
 pub mod TrackedMeanings
 pub mod TrackTrees
 pub mod TrackMeanings
+pub mod RangeTrees
+pub mod RangeShows
+pub mod BlockMeanings
