@@ -49,7 +49,8 @@ def answer(words, load):
     the run where there was one. A file's bytes come from `load`, or None where it can't be read."""
     try:
         need_usage(len(words) == 2 and words[0] == "replay" and not words[1].startswith("-"))
-        processors = replay(read(loaded(words[1], load)))
+        script = read(loaded(words[1], load))
+        processors = replay(script, Outside(script.code))
     except Ended as ended:
         return *ended.args, []
     except Fault as fault:
