@@ -357,7 +357,7 @@ BAD_INSIDE = (
     "HOST.READ 0 0x", "HOST.READ -1 0", "HOST.READ 0 18446744073709551616", "HOST.READ 0 0x10000000000000000",
     "HOST.READ 0X1 0", "HOST.READ 0 0xfg", "MNG.RD 1", "MNG.RD 1 LIF", "MNG.RD 1 life", "MNG.RD 7 NOFIELD",
     "MNG.RD 7 OPS", "MNG.RD 0 mrtd", "MNG.RD x LIF", "MNG.RD x OP", "MNG.RD 1 OP OP", "MNG.RD OP 1",
-    "MEM.PAGE.RELOCATE 1 0 2", "MEM.TRACK", "MEM.TRACK x", "{call}", "{call} x", "{call} 1 2 3 4 5 6", "{call} 1 0 3 x", "{unbuilt}",
+    "MEM.PAGE.RELOCATE 1 0 2", "MEM.TRACK", "{call}", "{call} x", "{call} 1 2 3 4 5 6", "{call} 1 0 3 x", "{unbuilt}",
     "{unbuilt} 1 0", "{unbuilt} x", "{unbuilt} \x1f", "end\x7f", "HOST.READ 1 1\r",
 )
 BAD_IN_CODE = (
@@ -432,7 +432,7 @@ def long_script(chance, turn):
     if turn % 3 == 1:
         more = chance.choice(("schedule 0", "schedule 0*2", "schedule 0 0", "schedule 0 0 x"))
         return text_of([begin[0], f"schedule 0*{ITEMS - 1}", more])
-    last = chance.choice(("end", "HOST.READ 1 1", "HOST.READ 1 1", "HOST.READ 1", "{", "HOST.READ x 1", "EXPORT.PAUSE"))
+    last = chance.choice(("end", "HOST.READ 1 1", "HOST.READ 1 1", "HOST.READ 1", "{", "HOST.READ x 1", "MEM.TRACK"))
     return text_of(begin + ["PHYMEM.CACHE.WB"] * CALLS_OF_A_PROCESSOR + [last, "end"])
 
 

@@ -49,8 +49,7 @@ def answer(words, load):
     the run where there was one. A file's bytes come from `load`, or None where it can't be read."""
     try:
         need_usage(len(words) == 2 and words[0] == "replay" and not words[1].startswith("-"))
-        script = read(loaded(words[1], load))
-        processors = replay(script, Outside(script.code))
+        processors = replay(read(loaded(words[1], load)))
     except Ended as ended:
         return *ended.args, []
     except Fault as fault:
