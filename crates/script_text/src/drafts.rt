@@ -1,9 +1,9 @@
 //! What the lines so far say.
 
 ghost use Rattle.std.specs.Prelude.{◌≡◌, map, replicate, [], ◌∷◌, slice_set, true, Ok, IfOk};
+ghost use Rattle.line_words.specs.Words.{words};
 ghost use Rattle.script_text.specs.Counted.{IsAnsweredAt};
 ghost use Rattle.script_text.specs.Reading.{draft_seen, with_call, with_op, closed_of, entered_of, worded_of, line_of};
-ghost use Rattle.line_words.specs.Words.{words};
 
 use crate::code_blocks::{CodePlace, list_place};
 use crate::faults::{Reason, Taken, bad};

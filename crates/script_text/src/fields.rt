@@ -1,8 +1,8 @@
 //! Arguments that the grammar judges: field names and output slots.
 
 ghost use Rattle.std.specs.Prelude.{◌≡◌, [], slice_index_or};
-ghost use Rattle.script_text.specs.Blocks.{field_of, slot_place_of, slot_of};
 ghost use Rattle.line_words.specs.Words.{words};
+ghost use Rattle.script_text.specs.Blocks.{field_of, slot_place_of, slot_of};
 
 use crate::faults::Reason;
 use crate::lines::is_marked;

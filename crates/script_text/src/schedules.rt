@@ -3,9 +3,9 @@
 ghost use Rattle.std.specs.Prelude.{◌≡◌, ◌<◌, [], Some, is_some, length, map, MatchOption};
 ghost use Rattle.std.specs.List.{list_all};
 ghost use Rattle.line_words.specs.Number.{number};
+ghost use Rattle.line_words.specs.Words.{words};
 ghost use Rattle.script_text.specs.Counted.{IsAnsweredAt};
 ghost use Rattle.script_text.specs.Schedule.{item_from, item_of, in_range_of, turns_in, with_turns, written_of, IsCutTo, first_reason, schedule_of};
-ghost use Rattle.line_words.specs.Words.{words};
 
 use crate::faults::{Reason, ScriptFault, Taken, bad};
 use line_words::{next_word, number, place_of};

@@ -1,8 +1,8 @@
 //! Scripts.
 
 ghost use Rattle.std.specs.Prelude.{◌≡◌, ◌≤◌, ◌^◌, length};
-ghost use Rattle.script_text.specs.Reading.{IsAnswered, read_of, read_from, ended_of, nothing_yet, draft_seen};
 ghost use Rattle.line_words.specs.Words.{pieces};
+ghost use Rattle.script_text.specs.Reading.{IsAnswered, read_of, read_from, ended_of, nothing_yet, draft_seen};
 
 use crate::code_blocks::none_listed;
 use crate::drafts::{Draft, take_line};
