@@ -30,7 +30,7 @@ use Rattle.word_rules.specs.Cells.{Shows}
 use Rattle.lock_words.specs.Grips.{holds, holds_alone}
 use Rattle.lock_words.specs.LockWords.{tdcs_of}
 use Rattle.leaf_engine.specs.Facts.{GuestFits, Facts}
-use Rattle.leaf_engine.specs.Trees.{Tree, Lock, done}
+use Rattle.leaf_engine.specs.Trees.{Tree, done}
 use Rattle.leaf_engine.specs.Changes.{changed_all, Change, Clear, changed}
 use Rattle.leaf_engine.specs.Means.{Instant, Means, Work, work_of, OfOperation, IsAtOperation, hold, grasp_of, exit_item, LocksStay, MayChangeBy, MayFill, MayFillAll}
 use Rattle.leaf_parts.specs.Words.{page_told}
@@ -50,7 +50,7 @@ use Rattle.word_rules.proofs.Conflicts.{respects-compose}
 use Rattle.act_rules.proofs.Respected.{effects-respect}
 use Rattle.access_core.specs.AcceptReach.{pending-may-be-filled}
 use Rattle.access_core.specs.AcceptShows.{accepted-shown}
-use Rattle.access_core.specs.AcceptTrees.{map_entry, or_violation, passed_tree, passed_walk, accepted, accept_held, accept_found, accept_at, accept_tree, AcceptMeans}
+use Rattle.access_core.specs.AcceptTrees.{map_entry, or_violation, passed_tree, passed_walk, accepted, accept_held, accept_named, accept_found, accept_at, accept_tree, AcceptMeans}
 
 -- an entry names a page exactly where it isn't FREE
 named-free : (e : Entry) → is_free e.state ≡ true → named_by e ≡ no_page
@@ -270,7 +270,7 @@ module _ (m : Machine) (c : Instant) (t v gpa : ℕ) (limit : m.pages ≤ 1024) 
   abbrev after : List (Item Reply)
   after = Try (OfPage e.page) Exclusive ∷ last ∷ []
 
-  lock-means : (at : ℕ) → HasEntry m w t z.root at gpa 0 → is_free e.state ≡ false → Means m c k tree (Lock (OfPage e.page) (place.Lock e.page) Exclusive (accept_held m v gpa at e.page)) after
+  lock-means : (at : ℕ) → HasEntry m w t z.root at gpa 0 → is_free e.state ≡ false → Means m c k tree (accept_named m v gpa at e.page) after
   lock-means at has full = (refl, refl, record { in_machine = named-in m w t in_page limit la fits.alive 0 (number_at 0 gpa) full; at = refl; stands = tt; allowed = inl tt }, held-means at has full)
 
   names-full : not (named_by e == no_page) ≡ not (same_state e.state entry.Free)
@@ -286,12 +286,13 @@ module _ (m : Machine) (c : Instant) (t v gpa : ℕ) (limit : m.pages ≤ 1024) 
       ap (look ThePage) (said m c.memory c.state t sh fits.alive z gpa small at 0 has) ∙ ap (of_entry named_by) (packings.entry e (la.tree.entry limit t 0 (number_at 0 gpa))) in (
         (has.in_machine, split.index 0 gpa),
         inl (page-reads m c t sh fits.alive z tree locks gpa at 0 small has),
-        subst (λ (p : ℕ). Means m c k tree (unless_violation Write gpa (not (p == no_page)) (Lock (OfPage p) (place.Lock p) Exclusive (accept_held m v gpa at p))) (tests ∷ after)) (sym told) (
+        subst (λ (p : ℕ). Means m c k tree (unless_violation Write gpa (not (p == no_page)) (accept_named m v gpa at (page_told m.pages p))) (tests ∷ after)) (sym told) (
           is-last (is_passed w t gpa 3) (is_passed w t gpa 2) (is_passed w t gpa 1) (not (same_state e.state entry.Free)) (not (named_by e == no_page)) a b d names-full,
           λ y. refl,
           λ y. (let last_is : not (same_state e.state entry.Free) ≡ true = last-of (is_passed w t gpa 3) (is_passed w t gpa 2) (is_passed w t gpa 1) (not (same_state e.state entry.Free)) y in
               let held : is_free e.state ≡ false = sym (same-free e.state) ∙ not-true (same_state e.state entry.Free) last_is in
-              subst (λ (p : ℕ). Means m c k tree (Lock (OfPage p) (place.Lock p) Exclusive (accept_held m v gpa at p)) after) (sym (named-page e held)) (lock-means at has held)),
+              let back : page_told m.pages (named_by e) ≡ e.page = ap (page_told m.pages) (named-page e held) ∙ page-back m.pages e.page (named-in m w t in_page limit la fits.alive 0 (number_at 0 gpa) held) in
+              subst (λ (p : ℕ). Means m c k tree (accept_named m v gpa at p) after) (sym back) (lock-means at has held)),
         ),
       )
 

@@ -1,5 +1,5 @@
 -- The acceptance of a private page by a guest as a decision over the words that it is told.
-use Rattle.std.specs.Prelude.{ℕ, ◌^◌, ◌<◌, Bool, true, false, not, ◌==◌, ◌||◌, [], ◌∷◌}
+use Rattle.std.specs.Prelude.{ℕ, ◌^◌, ◌<◌, Bool, true, false, not, ◌==◌, ◌||◌, nat_lt, Option, Some, None, List, [], ◌∷◌}
 use Rattle.td_words.specs.Limits.{IsMachine}
 use Rattle.td_words.specs.declared.names.Mode.TheVariants.{Shared, Exclusive}
 use Rattle.td_words.specs.declared.names.Access.TheVariants.{Write}
@@ -44,16 +44,28 @@ abbrev pub accepted : Bool → (vp at index page position : ℕ) → Tree
 accepted true v at i p n = done (Clear p ∷ []) (map_entry at i p ∷ put_next v n ∷ [])
 accepted false v at i p n = done [] (put_next v n ∷ [])
 
+-- its changes, where that page is filled with zeros, or none is
+abbrev pub accept_changes : (vp gpa at position : ℕ) → Option ℕ → List Change
+accept_changes v gpa at n None = put_next v n ∷ []
+accept_changes v gpa at n (Some p) = Clear p ∷ map_entry at (index_at 0 gpa) p ∷ put_next v n ∷ []
+
+abbrev pub is_cleared_in : (pages : ℕ) → Option ℕ → Bool
+is_cleared_in pages None = true
+is_cleared_in pages (Some p) = nat_lt p pages
+
 -- under P of the page alone the whole entry is loaded
 abbrev pub accept_held : Machine → (vp gpa at page : ℕ) → Tree
 accept_held m v gpa at p =
     entry_tree m.pages at gpa 0 (λ e. unless_violation Write gpa (same_state e.state entry.Pending || may_read e.state)
     (with_position v (λ n. accepted (same_state e.state entry.Pending) v at (index_at 0 gpa) p n)))
 
+abbrev pub accept_named : Machine → (vp gpa at page : ℕ) → Tree
+accept_named m v gpa at p = Lock (OfPage p) (place.Lock p) Exclusive (accept_held m v gpa at p)
+
 -- the page that the entry names is held
 abbrev pub accept_found : Machine → (vp gpa at : ℕ) → Tree
 accept_found m v gpa at =
-    Load ThePage (place.Word at (index_at 0 gpa)) (λ p. unless_violation Write gpa (not (p == no_page)) (Lock (OfPage p) (place.Lock p) Exclusive (accept_held m v gpa at p)))
+    Load ThePage (place.Word at (index_at 0 gpa)) (λ p. unless_violation Write gpa (not (p == no_page)) (accept_named m v gpa at (page_told m.pages p)))
 
 -- accept GPA, under T shared
 abbrev pub accept_at : Machine → (tdr vp gpa tdcs : ℕ) → Tree

@@ -1,5 +1,5 @@
 -- The extension of an RTMR by a guest as a decision over the words that it is told.
-use Rattle.std.specs.Prelude.{ℕ, zero, suc, ◌+◌, ◌*◌, ◌<◌, List, [], ◌∷◌, ◌++◌}
+use Rattle.std.specs.Prelude.{ℕ, zero, suc, ◌+◌, ◌*◌, ◌<◌, List, [], ◌∷◌, ◌++◌, take, drop}
 use Rattle.sha2.specs.Sha512.{sha384}
 use Rattle.td_words.specs.declared.names.Mode.TheVariants.{Exclusive}
 use Rattle.td_words.specs.declared.machines.Machine.{Machine}
@@ -38,6 +38,10 @@ extension old registers = digest_word (sha384 (digest_bytes old ++ digest_bytes 
 -- six words are stored, then these
 abbrev pub put_six : (ℕ → WordPlace) → (ℕ → ℕ) → List Change → List Change
 put_six at ws rest = Put (at 0) (ws 0) ∷ Put (at 1) (ws 1) ∷ Put (at 2) (ws 2) ∷ Put (at 3) (ws 3) ∷ Put (at 4) (ws 4) ∷ Put (at 5) (ws 5) ∷ rest
+
+-- its changes by what was told behind R: the old value's words, the registers, and the position
+abbrev pub rtmr_changes : (vp index tdcs position : ℕ) → (told : List ℕ) → List Change
+rtmr_changes v i d at told = put_six (rtmr_at d i) (extension (take 6 told) (take 6 (drop 6 told))) (put_next v at ∷ [])
 
 -- the store of the first word is the act
 abbrev pub extended : (vp line tdcs index position : ℕ) → (ℕ → ℕ) → Tree

@@ -14,7 +14,7 @@ use sept_walk::index;
 use td_words::{Access, EntryState, Value, word_address};
 
 /// A number that is no page's.
-const NO_PAGE: u64 = 1 << 16;
+pub const NO_PAGE: u64 = 1 << 16;
 
 /// The load of the entry of a level that maps a private GPA, in a guest's walk for an access, from the
 /// secure EPT page where it stands.
@@ -110,7 +110,8 @@ fn rights_of(entry: Entry) -> u64
     8 * named_by(entry) + (4 * on + (2 * reads + writes))
 }
 
-fn named_by(entry: Entry) -> u64
+/// The page that an entry names.
+pub fn named_by(entry: Entry) -> u64
     ensures { result ≡ named_by entry }
 {
     match entry.state {

@@ -33,7 +33,8 @@ pub struct Act {
     pub page: u16,
     /// The HKID that the TDR page tells.
     pub hkid: u64,
-    /// How many pages or virtual processors the TD has of a kind, before.
+    /// How many pages or virtual processors the TD has of a kind, before; where a guest is entered or
+    /// left, the epoch of that entry; of a guest's operation, its position.
     pub count: u64,
     /// The child count, before.
     pub children: u64,
@@ -43,6 +44,8 @@ pub struct Act {
     pub state: EntryState,
     /// TD_EPOCH, before.
     pub epoch: u64,
+    /// The page that is filled with zeros before, where one is.
+    pub cleared: Option<u16>,
 }
 
 impl Act {
@@ -55,6 +58,7 @@ impl Act {
         named: 0,
         state: EntryState::Free,
         epoch: 0,
+        cleared: None,
     };
 }
 

@@ -1,5 +1,5 @@
 -- The leaf of VP.ENTER means its row.
-use Rattle.std.proofs.Common.{◌≡◌, ℕ, zero, suc, ◌+◌, ◌%◌, ◌^◌, ◌<◌, Bool, true, false, not, ◌==◌, ◌&&◌, nat_lt, List, [], ◌∷◌, ◌++◌, Option, Some, None, refl, sym, subst, inl, inr, arith}
+use Rattle.std.proofs.Common.{◌≡◌, ℕ, zero, suc, ◌+◌, ◌%◌, ◌^◌, ◌<◌, Bool, true, false, not, ◌==◌, ◌&&◌, nat_lt, List, [], ◌∷◌, ◌++◌, Option, Some, None, slice_index, refl, ap, sym, ◌∙◌, subst, inl, inr, arith}
 use Rattle.std.specs.Prelude.{nat_le}
 use Rattle.std.proofs.lemmas.Bool.{eq-eqb, ltb-true, not-true}
 use Rattle.td_words.specs.declared.names.PageKind.TheVariants as kind
@@ -9,7 +9,7 @@ use Rattle.td_words.specs.declared.names.Mode.TheVariants.{Shared}
 use Rattle.td_words.specs.declared.machines.Machine.{Machine}
 use Rattle.td_words.specs.declared.refusals.Status.{Status}
 use Rattle.td_words.specs.declared.refusals.Status.TheVariants.{OperandInvalid, VcpuStateIncorrect, VcpuAssociated}
-use Rattle.td_words.specs.declared.places.TheConstants.{VP_STATE, VP_LAST_EPOCH}
+use Rattle.td_words.specs.declared.places.TheConstants.{TDR_ROOT, VP_STATE, VP_LAST_EPOCH, VP_POSITION}
 use Rattle.td_words.specs.NameNumber.{vcpu_number}
 use Rattle.td_words.specs.Place as place
 use Rattle.flat_core.specs.World.{World}
@@ -30,13 +30,14 @@ use Rattle.lock_words.specs.Grips.{holds}
 use Rattle.leaf_engine.proofs.Facts.{outside-none}
 use Rattle.leaf_engine.specs.Trees as tree
 use Rattle.leaf_engine.specs.Means.{Instant, Means, Work, work_of, OfCall, hold}
+use Rattle.leaf_parts.specs.Words.{page_told}
 use Rattle.leaf_parts.proofs.Begun.{IsTd}
-use Rattle.leaf_parts.proofs.Checks.{spot_of, at-spot, td-page-means, td-row-means, tdcs-load}
-use Rattle.leaf_parts.proofs.Told.{tdcs-spot}
+use Rattle.leaf_parts.proofs.Checks.{spot_of, at-spot, td-page-means, td-row-means, tdr-load, tdcs-load}
+use Rattle.leaf_parts.proofs.Told.{page-back, tdcs-spot}
 use Rattle.leaf_parts.proofs.Vps.{vp-shown, vp-spot}
 use Rattle.vcpu_control.specs.Words.{vcpu_told}
 use Rattle.vcpu_control.specs.VpLocks.{td_locks, page_locks, held-td, held-op, held-page, alone-page}
-use Rattle.vcpu_control.specs.EnterTrees.{lp_told, enter_changes, enter_answer, enter_epoch, enter_associated, enter_rest, EntryMeans}
+use Rattle.vcpu_control.specs.EnterTrees.{lp_told, enter_changes, enter_answer, enter_guest, enter_epoch, enter_associated, enter_rest, EntryMeans}
 use Rattle.vcpu_control.specs.EnterShows.{entered}
 
 vcpu_again : (s : VcpuState) → vcpu_told (vcpu_number s) ≡ s
@@ -104,7 +105,11 @@ module _ (m : Machine) (c : Instant) (me t v most : ℕ) (few : m.pages < 65536)
     after-its : IsPageOf w'.pages t v kind.Tdvpr
     after-its = record { kind = its.kind; owner = its.owner }
 
-    its_end : is_elsewhere me (w.vps.associated v) ≡ false → Means m c k (enter_locks t v) (tree.End (enter_answer t v most (w.vps.associated v) (w.vps.lasts v) e) [] (enter_changes d me v e)) []
+    -- its end, where these are told
+    abbrev ended : (index position root : ℕ) → tree.Tree
+    ended index position root = tree.End (enter_answer t v most (w.vps.associated v) (w.vps.lasts v) e index position root) [] (enter_changes d me v e)
+
+    its_end : is_elsewhere me (w.vps.associated v) ≡ false → Means m c k (enter_locks t v) (ended (w.vps.indexes v) (w.vps.positions v) (slice_index (w.tds.controls t) 1)) []
     its_end here = (
       record {
         answers = record { reply_is = refl; cached_is = refl; enters_is = refl; notes_are = refl; tells_are = refl; bundles_are = refl };
@@ -122,8 +127,21 @@ module _ (m : Machine) (c : Instant) (me t v most : ℕ) (few : m.pages < 65536)
       ),
     )
 
+    -- where the guest begins
+    at_guest : is_elsewhere me (w.vps.associated v) ≡ false → Means m c k (enter_locks t v) (enter_guest m.pages me t d v most (w.vps.associated v) (w.vps.lasts v) e) []
+    at_guest here =
+        let last : slice_index (w.tds.controls t) 1 ≡ x.controls.root = ap (λ (cs : List ℕ). slice_index cs 1) x.controls.list in
+        let told : page_told m.pages (slice_index (w.tds.controls t) 1) ≡ slice_index (w.tds.controls t) 1 = ap (page_told m.pages) last ∙ (page-back m.pages x.controls.root x.controls.root_in ∙ sym last) in
+        vp-load (enter_locks t v) 0 (w.vps.indexes v) (omega arith) refl (inr (inr (inl (held-td t v Shared c.kept other, (held-op t v Shared c.kept other, (held-page t v Shared c.kept other, tt))))))
+        (λ index. tree.Load Whole (place.Word v VP_POSITION) (λ position. tree.Load Whole (place.Word t TDR_ROOT) (λ root. ended index position (page_told m.pages root)))) []
+        (vp-load (enter_locks t v) 4 (w.vps.positions v) (omega arith) refl (inr (inr (inl (held-td t v Shared c.kept other, (held-op t v Shared c.kept other, (held-page t v Shared c.kept other, tt))))))
+        (λ position. tree.Load Whole (place.Word t TDR_ROOT) (λ root. ended (w.vps.indexes v) position (page_told m.pages root))) []
+        (tdr-load m c k (enter_locks t v) sh t 5 (slice_index (w.tds.controls t) 1) x.alive.kind (la.pages.tdr t x.alive.kind) (la.pages.in_machine t (let is = x.alive.kind in rw is refl)) (omega arith) refl (inl (held-td t v Shared c.kept other, tt))
+        (λ root. ended (w.vps.indexes v) (w.vps.positions v) (page_told m.pages root)) []
+        (subst (λ (r : ℕ). Means m c k (enter_locks t v) (ended (w.vps.indexes v) (w.vps.positions v) r) []) (sym told) (its_end here))))
+
     -- TD_EPOCH and the last epoch
-    at_epoch : is_elsewhere me (w.vps.associated v) ≡ false → Means m c k (page_locks t v Shared) (enter_epoch me t d v most (w.vps.associated v)) (epoch_shared t ∷ [])
+    at_epoch : is_elsewhere me (w.vps.associated v) ≡ false → Means m c k (page_locks t v Shared) (enter_epoch m.pages me t d v most (w.vps.associated v)) (epoch_shared t ∷ [])
     at_epoch here = (
       refl,
       refl,
@@ -134,27 +152,27 @@ module _ (m : Machine) (c : Instant) (me t v most : ℕ) (few : m.pages < 65536)
         allowed = rw (tdcs-spot w t 2 d (x.controls.root ∷ []) x.controls.list x.controls.tdcs_page) (inl (held-td t v Shared c.kept other, tt));
       },
       tdcs-load m c k (enter_locks t v) sh t 5 e x.alive x.controls (omega arith) refl (inr (inr (inl (held-td t v Shared c.kept other, (held-op t v Shared c.kept other, (epoch_held, tt))))))
-          (λ epoch. tree.Load Whole (place.Word v VP_LAST_EPOCH) (λ last. tree.End (enter_answer t v most (w.vps.associated v) last epoch) [] (enter_changes d me v epoch))) []
+          (λ epoch. tree.Load Whole (place.Word v VP_LAST_EPOCH) (λ last. enter_guest m.pages me t d v most (w.vps.associated v) last epoch)) []
           (vp-load (enter_locks t v) 3 (w.vps.lasts v) (omega arith) refl (inr (inr (inl (held-td t v Shared c.kept other, (held-op t v Shared c.kept other, (held-page t v Shared c.kept other, tt))))))
-          (λ last. tree.End (enter_answer t v most (w.vps.associated v) last e) [] (enter_changes d me v e)) [] (its_end here)),
+          (λ last. enter_guest m.pages me t d v most (w.vps.associated v) last e) [] (at_guest here)),
     )
 
-    associated : Means m c k (page_locks t v Shared) (enter_associated me t d v most) (not_elsewhere w me v ∷ epoch_shared t ∷ [])
+    associated : Means m c k (page_locks t v Shared) (enter_associated m.pages me t d v most) (not_elsewhere w me v ∷ epoch_shared t ∷ [])
     associated =
         vp-load (page_locks t v Shared) 2 (associated_word (w.vps.associated v)) (omega arith) refl (inr (inl (held-td t v Shared c.kept other, (held-page t v Shared c.kept other, tt))))
-        (λ word. tree.needs (not (is_elsewhere me (lp_told word))) (VcpuAssociated (lp_shown (lp_told word))) (enter_epoch me t d v most (lp_told word))) (not_elsewhere w me v ∷ epoch_shared t ∷ [])
+        (λ word. tree.needs (not (is_elsewhere me (lp_told word))) (VcpuAssociated (lp_shown (lp_told word))) (enter_epoch m.pages me t d v most (lp_told word))) (not_elsewhere w me v ∷ epoch_shared t ∷ [])
         (rw (lp_again (w.vps.associated v)) (refl, λ f. refl, λ f. at_epoch (not-true (is_elsewhere me (w.vps.associated v)) f)))
 
-    ready : Means m c k (page_locks t v Shared) (tree.Load Whole (place.Word v VP_STATE) (λ state. tree.needs (same_vp_state (vcpu_told state) vcpu.Ready) (VcpuStateIncorrect (vcpu_told state)) (enter_associated me t d v most)))
+    ready : Means m c k (page_locks t v Shared) (tree.Load Whole (place.Word v VP_STATE) (λ state. tree.needs (same_vp_state (vcpu_told state) vcpu.Ready) (VcpuStateIncorrect (vcpu_told state)) (enter_associated m.pages me t d v most)))
         (vp_in w v vcpu.Ready ∷ not_elsewhere w me v ∷ epoch_shared t ∷ [])
     ready =
         vp-load (page_locks t v Shared) 1 (vcpu_number (w.vps.states v)) (omega arith) refl (inr (inr (inl (held-td t v Shared c.kept other, (held-op t v Shared c.kept other, (held-page t v Shared c.kept other, tt))))))
-        (λ state. tree.needs (same_vp_state (vcpu_told state) vcpu.Ready) (VcpuStateIncorrect (vcpu_told state)) (enter_associated me t d v most)) (vp_in w v vcpu.Ready ∷ not_elsewhere w me v ∷ epoch_shared t ∷ [])
+        (λ state. tree.needs (same_vp_state (vcpu_told state) vcpu.Ready) (VcpuStateIncorrect (vcpu_told state)) (enter_associated m.pages me t d v most)) (vp_in w v vcpu.Ready ∷ not_elsewhere w me v ∷ epoch_shared t ∷ [])
         (rw (vcpu_again (w.vps.states v)) (refl, λ f. refl, λ f. associated))
 
-  pub enter_rest-means : Means m c k (td_locks t Shared) (enter_rest me t d v most) (page_exclusive v ∷ td_page w t v kind.Tdvpr ∷ vp_in w v vcpu.Ready ∷ not_elsewhere w me v ∷ epoch_shared t ∷ [])
+  pub enter_rest-means : Means m c k (td_locks t Shared) (enter_rest m.pages me t d v most) (page_exclusive v ∷ td_page w t v kind.Tdvpr ∷ vp_in w v vcpu.Ready ∷ not_elsewhere w me v ∷ epoch_shared t ∷ [])
   enter_rest-means =
-      td-page-means m c k (td_locks t Shared) sh la few t v kind.Tdvpr in_page (tree.Load Whole (place.Word v VP_STATE) (λ state. tree.needs (same_vp_state (vcpu_told state) vcpu.Ready) (VcpuStateIncorrect (vcpu_told state)) (enter_associated me t d v most)))
+      td-page-means m c k (td_locks t Shared) sh la few t v kind.Tdvpr in_page (tree.Load Whole (place.Word v VP_STATE) (λ state. tree.needs (same_vp_state (vcpu_told state) vcpu.Ready) (VcpuStateIncorrect (vcpu_told state)) (enter_associated m.pages me t d v most)))
       (vp_in w v vcpu.Ready ∷ not_elsewhere w me v ∷ epoch_shared t ∷ []) ready
 
 abbrev arguments : Machine → (t v most : ℕ) → List (Bool × Status)
@@ -163,7 +181,7 @@ arguments m t v most = (nat_lt t m.pages, OperandInvalid 1) ∷ (nat_lt v m.page
 pub entry-means : EntryMeans
 entry-means p t v most few = record {
   means = λ c at. td-row-means p.machine c (work_of (OfCall (enter_vp p.machine p.lp t v most))) t at.lawful at.shown (arguments p.machine t v most) (λ a. ltb-true t p.machine.pages a.0) Shared running_ops
-      (λ td. enter_rest p.lp t td.tdcs v most) (page_exclusive v ∷ td_page c.state.world t v kind.Tdvpr ∷ vp_in c.state.world v vcpu.Ready ∷ not_elsewhere c.state.world p.lp v ∷ epoch_shared t ∷ [])
+      (λ td. enter_rest p.machine.pages p.lp t td.tdcs v most) (page_exclusive v ∷ td_page c.state.world t v kind.Tdvpr ∷ vp_in c.state.world v vcpu.Ready ∷ not_elsewhere c.state.world p.lp v ∷ epoch_shared t ∷ [])
       (λ a y. enter_rest-means p.machine c p.lp t v most few at.lawful at.shown y (ltb-true v p.machine.pages a.1.0) (not-true (v == t) a.1.1.1.0)
       (λ here. outside-none c.state p.lp v at.facts (subst (λ (n : ℕ). (c.state.lps n).guest ≡ None) at.processor at.maker.0) here));
 }

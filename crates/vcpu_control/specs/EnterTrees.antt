@@ -4,20 +4,21 @@ use Rattle.td_words.specs.declared.names.PageKind.TheVariants as kind
 use Rattle.td_words.specs.declared.names.VcpuState.TheVariants as vcpu
 use Rattle.td_words.specs.declared.names.Mode.TheVariants.{Shared, Exclusive}
 use Rattle.td_words.specs.declared.machines.Machine.{Machine}
-use Rattle.td_words.specs.declared.places.TheConstants.{TDCS_EPOCH_LOCK, TDCS_EPOCH, TDCS_ENTERED, VP_STATE, VP_ASSOCIATED, VP_LAST_EPOCH}
+use Rattle.td_words.specs.declared.places.TheConstants.{TDR_ROOT, TDCS_EPOCH_LOCK, TDCS_EPOCH, TDCS_ENTERED, VP_INDEX, VP_STATE, VP_ASSOCIATED, VP_LAST_EPOCH, VP_POSITION}
 use Rattle.td_words.specs.declared.refusals.Status.TheVariants.{OperandInvalid, PageMetadataIncorrect, VcpuStateIncorrect, VcpuAssociated}
 use Rattle.td_words.specs.declared.replies.Value.TheVariants as value
 use Rattle.td_words.specs.declared.replies.Reply.TheVariants.{Done}
 use Rattle.td_words.specs.Place as place
 use Rattle.flat_core.specs.Processor.{OfPage, OfEpoch}
 use Rattle.flat_core.specs.Conditions.{same_vp_state, is_elsewhere, lp_shown, running_ops}
-use Rattle.flat_core.specs.Translations.{cache_at_entry}
+use Rattle.flat_core.specs.Translations.{is_stale, cache_at_entry}
 use Rattle.flat_core.specs.VpRows.{enter_vp}
 use Rattle.word_rules.specs.Rules.{Whole}
 use Rattle.leaf_engine.specs.declared.needs.Place.{Place}
 use Rattle.leaf_engine.specs.Changes.{Change, Put, Raise}
 use Rattle.leaf_engine.specs.Trees.{Answer, Tree, Lock, Load, End, needs}
 use Rattle.leaf_engine.specs.Means.{Task, OfCall, MeansRow}
+use Rattle.leaf_parts.specs.Words.{page_told}
 use Rattle.leaf_parts.specs.Heads.{td_head_tree}
 use Rattle.vcpu_control.specs.Words.{says_page_of, vcpu_told}
 
@@ -34,10 +35,11 @@ enter_changes tdcs me vp epoch =
     ∷ Put (place.Word vp VP_LAST_EPOCH) epoch
     ∷ []
 
--- the guest begins, and the TD's translations are dropped where they may be stale
-abbrev pub enter_answer : (tdr vp most : ℕ) → Option ℕ → (last epoch : ℕ) → Answer
-enter_answer tdr vp most associated last epoch = record {
-  reply = Done value.Nothing;
+-- the guest begins, and the TD's translations are dropped where they may be stale, which its processor is told with where
+-- the guest begins
+abbrev pub enter_answer : (tdr vp most : ℕ) → Option ℕ → (last epoch index position root : ℕ) → Answer
+enter_answer tdr vp most associated last epoch index position root = record {
+  reply = Done (value.Entered (is_stale associated last epoch) index position root);
   cached = cache_at_entry associated last epoch tdr;
   enters = Some (record { tdr = tdr; vp = vp; most = most });
   notes = [];
@@ -45,34 +47,45 @@ enter_answer tdr vp most associated last epoch = record {
   bundles = [];
 }
 
+-- the virtual processor's index and position, and the root page
+abbrev pub enter_guest : (pages me tdr tdcs vp most : ℕ) → Option ℕ → (last epoch : ℕ) → Tree
+enter_guest pages me tdr tdcs vp most associated last epoch =
+    Load Whole (place.Word vp VP_INDEX) (λ index.
+    Load Whole (place.Word vp VP_POSITION) (λ position.
+    Load Whole (place.Word tdr TDR_ROOT) (λ root. End (enter_answer tdr vp most associated last epoch index position (page_told pages root)) [] (enter_changes tdcs me vp epoch))))
+
 -- TD_EPOCH is held, and the last epoch told
-abbrev pub enter_epoch : (me tdr tdcs vp most : ℕ) → Option ℕ → Tree
-enter_epoch me tdr tdcs vp most associated =
+abbrev pub enter_epoch : (pages me tdr tdcs vp most : ℕ) → Option ℕ → Tree
+enter_epoch pages me tdr tdcs vp most associated =
     Lock (OfEpoch tdr) (place.Word tdcs TDCS_EPOCH_LOCK) Shared
     (Load Whole (place.Word tdcs TDCS_EPOCH) (λ epoch.
-    Load Whole (place.Word vp VP_LAST_EPOCH) (λ last. End (enter_answer tdr vp most associated last epoch) [] (enter_changes tdcs me vp epoch))))
+    Load Whole (place.Word vp VP_LAST_EPOCH) (λ last. enter_guest pages me tdr tdcs vp most associated last epoch)))
 
 -- the virtual processor is associated with no other logical processor
-abbrev pub enter_associated : (me tdr tdcs vp most : ℕ) → Tree
-enter_associated me tdr tdcs vp most =
+abbrev pub enter_associated : (pages me tdr tdcs vp most : ℕ) → Tree
+enter_associated pages me tdr tdcs vp most =
     Load Whole (place.Word vp VP_ASSOCIATED) (λ word.
-    needs (not (is_elsewhere me (lp_told word))) (VcpuAssociated (lp_shown (lp_told word))) (enter_epoch me tdr tdcs vp most (lp_told word)))
+    needs (not (is_elsewhere me (lp_told word))) (VcpuAssociated (lp_shown (lp_told word))) (enter_epoch pages me tdr tdcs vp most (lp_told word)))
 
 -- and is READY
-abbrev pub enter_rest : (me tdr tdcs vp most : ℕ) → Tree
-enter_rest me tdr tdcs vp most =
+abbrev pub enter_rest : (pages me tdr tdcs vp most : ℕ) → Tree
+enter_rest pages me tdr tdcs vp most =
     Lock (OfPage vp) (place.Lock vp) Exclusive
     (Load Whole (place.Pamt vp) (λ pamt.
     needs (says_page_of tdr kind.Tdvpr pamt) (PageMetadataIncorrect vp)
     (Load Whole (place.Word vp VP_STATE) (λ state.
-    needs (same_vp_state (vcpu_told state) vcpu.Ready) (VcpuStateIncorrect (vcpu_told state)) (enter_associated me tdr tdcs vp most)))))
+    needs (same_vp_state (vcpu_told state) vcpu.Ready) (VcpuStateIncorrect (vcpu_told state)) (enter_associated pages me tdr tdcs vp most)))))
 
-abbrev pub enter_tree : Machine → (me tdr vp most : ℕ) → Tree
-enter_tree m me tdr vp most =
+-- two pages, which are not the same, and a number of operations
+abbrev pub entry_arguments : Machine → (tdr vp most : ℕ) → Tree → Tree
+entry_arguments m tdr vp most further =
     needs (nat_lt tdr m.pages) (OperandInvalid 1)
     (needs (nat_lt vp m.pages) (OperandInvalid 2)
     (needs (nat_le 1 most && nat_lt most (2 ^ 16)) (OperandInvalid 3)
-    (needs (not (vp == tdr)) (OperandInvalid 2) (td_head_tree m.pages tdr Shared running_ops (λ td. enter_rest me tdr td.tdcs vp most)))))
+    (needs (not (vp == tdr)) (OperandInvalid 2) further)))
+
+abbrev pub enter_tree : Machine → (me tdr vp most : ℕ) → Tree
+enter_tree m me tdr vp most = entry_arguments m tdr vp most (td_head_tree m.pages tdr Shared running_ops (λ td. enter_rest m.pages me tdr td.tdcs vp most))
 
 abbrev pub vp_enter_task : Place → (tdr vp most : ℕ) → Task
 vp_enter_task p tdr vp most = record { place = p; tree = enter_tree p.machine p.lp tdr vp most; meaning = OfCall (enter_vp p.machine p.lp tdr vp most) }
