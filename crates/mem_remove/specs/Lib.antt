@@ -3,3 +3,5 @@ pub mod MetadataTrees
 pub mod MetadataMeanings
 pub mod NamedTrees
 pub mod TrackedTrees
+pub mod NamedMeanings
+pub mod TrackedMeanings
