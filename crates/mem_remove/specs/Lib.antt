@@ -5,3 +5,6 @@ pub mod NamedTrees
 pub mod TrackedTrees
 pub mod NamedMeanings
 pub mod TrackedMeanings
+pub mod RemoveTrees
+pub mod RemoveShows
+pub mod RemoveMeanings
