@@ -1,2 +1,3 @@
 pub mod NamedDecided
 pub mod TrackedDecided
+pub mod RemoveDecided

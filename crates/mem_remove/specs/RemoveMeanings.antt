@@ -1,5 +1,5 @@
 -- The leaf that removes a private page means its row.
-use Rattle.std.proofs.Common.{◌≡◌, ℕ, ◌%◌, ◌^◌, ◌<◌, ◌≤◌, Bool, true, false, ◌==◌, nat_lt, List, [], ◌∷◌, ◌++◌, Option, None, refl, sym, subst, inl, arith}
+use Rattle.std.proofs.Common.{◌≡◌, ℕ, ◌%◌, ◌^◌, ◌<◌, ◌≤◌, Bool, false, ◌==◌, nat_lt, List, [], ◌∷◌, ◌++◌, Option, None, refl, sym, subst, inl, arith}
 use Rattle.std.proofs.lemmas.Bool.{eq-eqb, ltb-true}
 use Rattle.td_words.specs.declared.names.EntryState.{EntryState}
 use Rattle.td_words.specs.declared.names.PageKind.{PageKind}
@@ -17,9 +17,9 @@ use Rattle.flat_core.specs.World.{World}
 use Rattle.flat_core.specs.Processor.{Held}
 use Rattle.flat_core.specs.Access.{LawfulEpochs}
 use Rattle.flat_core.specs.Arguments.{level_size}
-use Rattle.flat_core.specs.Row.{Item, Row}
+use Rattle.flat_core.specs.Row.{Item}
 use Rattle.flat_core.specs.Conditions.{is_host, same_kind, children, blocking_ops}
-use Rattle.flat_core.specs.Effects.{unmap_page, end_memory, put_in}
+use Rattle.flat_core.specs.Effects.{unmap_page, put_in}
 use Rattle.flat_core.specs.Lawful.{Lawful, IsAlive}
 use Rattle.flat_core.specs.Tracking.{tracked_page}
 use Rattle.flat_core.specs.Tree.{entry_at, number_at, page_of_gpa}
@@ -30,18 +30,15 @@ use Rattle.sept_walk.specs.SecureEpt.{index_at}
 use Rattle.sept_walk.proofs.Meets.{split}
 use Rattle.word_rules.specs.Cells.{Shows}
 use Rattle.word_rules.specs.Guards.{Grip}
-use Rattle.word_rules.specs.Rules.{Whole, KeepsNothing}
-use Rattle.word_rules.specs.Permissions.{Respects}
+use Rattle.word_rules.specs.Rules.{KeepsNothing}
 use Rattle.lock_words.specs.LockWords.{TdStands}
 use Rattle.act_rules.proofs.Rows.{page-unmapped}
 use Rattle.leaf_engine.specs.declared.needs.Place.{Place}
-use Rattle.leaf_engine.specs.Trees.{Tree, Load, End, only}
+use Rattle.leaf_engine.specs.Trees.{End, only}
 use Rattle.leaf_engine.specs.Means.{Instant, Means, MeansRow, Acts, MayChangeBy, Work, work_of, OfCall, hold}
 use Rattle.leaf_parts.proofs.Aside.{turned}
-use Rattle.leaf_parts.proofs.Begun.{IsTd}
 use Rattle.leaf_parts.proofs.Checks.{checks-mean}
 use Rattle.leaf_parts.proofs.Told.{tdr-shown}
-use Rattle.sept_parts.specs.SeptPages.{HasEntry}
 use Rattle.sept_parts.proofs.SeptLocks.{entry-writes, count-reads, count-owes}
 use Rattle.mem_remove.specs.NamedTrees.{named_tree}
 use Rattle.mem_remove.specs.NamedMeanings.{IsNamed, HoldsNamed, holds-named, named_locks, named-locks-stay, named-means}

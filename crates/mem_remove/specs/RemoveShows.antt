@@ -1,14 +1,12 @@
 -- The words that a removal leaves show its act: the entry is FREE, and the page that it named is cleared and given back.
-use Rattle.std.proofs.Common.{◌≡◌, ℕ, ◌^◌, ◌<◌, ◌≤◌, true, false, ◌==◌, Option, refl}
+use Rattle.std.proofs.Common.{◌≡◌, ℕ, ◌^◌, ◌<◌, true, false, ◌==◌, Option, refl}
 use Rattle.std.proofs.lemmas.Bool.{eq-eqb}
-use Rattle.td_words.specs.declared.names.PageKind.{PageKind}
-use Rattle.td_words.specs.declared.names.PageKind.TheVariants as kind
 use Rattle.td_words.specs.declared.machines.Machine.{Machine}
 use Rattle.td_words.specs.Packing.{entry_word}
 use Rattle.td_words.specs.Place.{WordPlace}
 use Rattle.td_words.specs.Place as place
-use Rattle.flat_core.specs.World.{World, put, free_entry}
-use Rattle.flat_core.specs.Conditions.{is_host, same_kind, children}
+use Rattle.flat_core.specs.World.{World, free_entry}
+use Rattle.flat_core.specs.Conditions.{is_host, children}
 use Rattle.flat_core.specs.Effects.{clear_page, give_back, set_entry}
 use Rattle.flat_core.specs.Lawful.{Lawful, IsAlive}
 use Rattle.flat_core.specs.Tree.{number_at}

@@ -6,7 +6,9 @@
 
 mod metadata_reads;
 mod named_entries;
+mod removals;
 mod tracked_blocks;
 
 pub use metadata_reads::Rdmd;
 pub use named_entries::Named;
+pub use removals::PageRemove;
