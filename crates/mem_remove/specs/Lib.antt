@@ -5,6 +5,11 @@ pub mod NamedTrees
 pub mod TrackedTrees
 pub mod NamedMeanings
 pub mod TrackedMeanings
+pub mod TrackTrees
+pub mod TrackMeanings
+pub mod RangeTrees
+pub mod RangeShows
+pub mod BlockMeanings
 pub mod RemoveTrees
 pub mod RemoveShows
 pub mod RemoveMeanings
