@@ -302,7 +302,7 @@ module _ (g : Grip) (w : World) where
       by zero = inr (inr (inl (td.tdr, (own, tt))))
       by (suc l) = entries (w.pages.levels p)
 
-  unmapped : (t level number : ℕ) → w.pages.kinds (w.tds.entries t level number).page ≡ kind_named level → w.pages.owners (w.tds.entries t level number).page ≡ t → HoldsTd g t → g.sole (Locked (OfTree t)) ≡ true
+  pub unmapped : (t level number : ℕ) → w.pages.kinds (w.tds.entries t level number).page ≡ kind_named level → w.pages.owners (w.tds.entries t level number).page ≡ t → HoldsTd g t → g.sole (Locked (OfTree t)) ≡ true
       → g.sole (Locked (OfPage (w.tds.entries t level number).page)) ≡ true → Respects g w (unmap_page t level number w)
   unmapped t level number k o td tree own =
       let p : ℕ = (w.tds.entries t level number).page in
@@ -323,7 +323,7 @@ held-behind : (g : Grip) (b : ℕ → Bool) (r : ℕ → Reply) (ls : List ℕ) 
 held-behind g b r [] items h = h
 held-behind g b r (l ∷ ls) items h = held-behind g b r ls items h
 
-page-unmapped : (g : Grip) (w : World) (t gpa : ℕ) → w.pages.kinds (entry_at w t 0 gpa).page ≡ kind.Reg → w.pages.owners (entry_at w t 0 gpa).page ≡ t → HoldsTd g t → g.sole (Locked (OfTree t)) ≡ true
+pub page-unmapped : (g : Grip) (w : World) (t gpa : ℕ) → w.pages.kinds (entry_at w t 0 gpa).page ≡ kind.Reg → w.pages.owners (entry_at w t 0 gpa).page ≡ t → HoldsTd g t → g.sole (Locked (OfTree t)) ≡ true
     → g.sole (Locked (OfPage (entry_at w t 0 gpa).page)) ≡ true → Respects g w (unmap_page t 0 (number_at 0 gpa) (end_memory t (page_of_gpa gpa) w))
 page-unmapped g w t gpa k o td tree own =
     let w1 : World = end_memory t (page_of_gpa gpa) w in

@@ -38,14 +38,14 @@ pub struct Act {
     pub count: u64,
     /// The child count, before.
     pub children: u64,
-    /// The page that is filled with zeros before, where one is.
-    pub cleared: Option<u16>,
     /// The page that a secure EPT entry names.
     pub named: u16,
     /// The state of that entry, before.
     pub state: EntryState,
     /// TD_EPOCH, before.
     pub epoch: u64,
+    /// The page that is filled with zeros before, where one is.
+    pub cleared: Option<u16>,
 }
 
 impl Act {
@@ -55,10 +55,10 @@ impl Act {
         hkid: 0,
         count: 0,
         children: 0,
-        cleared: None,
         named: 0,
         state: EntryState::Free,
         epoch: 0,
+        cleared: None,
     };
 }
 

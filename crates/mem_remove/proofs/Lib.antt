@@ -1,3 +1,4 @@
 pub mod NamedDecided
 pub mod TrackedDecided
 pub mod TrackDecided
+pub mod RemoveDecided

@@ -10,3 +10,6 @@ pub mod TrackMeanings
 pub mod RangeTrees
 pub mod RangeShows
 pub mod BlockMeanings
+pub mod RemoveTrees
+pub mod RemoveShows
+pub mod RemoveMeanings

@@ -1,19 +1,20 @@
-//! Leaves on pages that are in use: the look at a page's metadata, blocks of entries, and the advance
-//! of TD_EPOCH.
+//! Leaves on pages that are in use: the look at a page's metadata, blocking, tracking and unblocking,
+//! and the removal of a private page.
 //!
 //! Each leaf is a `Plan` of `leaf_engine`, whose tree mirrors its row, with the proof that it means
-//! that row. Blocking, unblocking and removing begin with `find_named`, whose lemma is `named-means`
-//! (specs/NamedMeanings.antt), and whether a block is tracked is told by `tracked`, with the lemma
-//! `tracked-means` (specs/TrackedMeanings.antt).
+//! that row. Those on an entry begin alike, by `find_named`; and whether a block is tracked is judged
+//! once, by `tracked`.
 #![tactic(auto)]
 
 mod blocks;
 mod metadata_reads;
 mod named_entries;
+mod removals;
 mod tracked_blocks;
 mod trackings;
 
 pub use blocks::{RangeBlock, RangeUnblock};
 pub use metadata_reads::Rdmd;
 pub use named_entries::Named;
+pub use removals::PageRemove;
 pub use trackings::Track;

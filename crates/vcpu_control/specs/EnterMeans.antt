@@ -44,9 +44,9 @@ vcpu_again : (s : VcpuState) → vcpu_told (vcpu_number s) ≡ s
 vcpu_again vcpu.Created = refl
 vcpu_again vcpu.Ready = refl
 
-lp_again : (o : Option ℕ) → lp_told (associated_word o) ≡ o
-lp_again None = refl
-lp_again (Some lp) = (let one : lp + 1 ≡ suc lp = omega arith in rw one refl)
+pub lp-again : (o : Option ℕ) → lp_told (associated_word o) ≡ o
+lp-again None = refl
+lp-again (Some lp) = (let one : lp + 1 ≡ suc lp = omega arith in rw one refl)
 
 -- the class of the counts
 pub count-class : (current empty : ℕ → Bool) (b : ℕ) → b < 2 → or_unused (in_lines (tdcs_classes current empty) (6 + b)) ≡ EpochCount (current b) (empty b)
@@ -161,7 +161,7 @@ module _ (m : Machine) (c : Instant) (me t v most : ℕ) (few : m.pages < 65536)
     associated =
         vp-load (page_locks t v Shared) 2 (associated_word (w.vps.associated v)) (omega arith) refl (inr (inl (held-td t v Shared c.kept other, (held-page t v Shared c.kept other, tt))))
         (λ word. tree.needs (not (is_elsewhere me (lp_told word))) (VcpuAssociated (lp_shown (lp_told word))) (enter_epoch m.pages me t d v most (lp_told word))) (not_elsewhere w me v ∷ epoch_shared t ∷ [])
-        (rw (lp_again (w.vps.associated v)) (refl, λ f. refl, λ f. at_epoch (not-true (is_elsewhere me (w.vps.associated v)) f)))
+        (rw (lp-again (w.vps.associated v)) (refl, λ f. refl, λ f. at_epoch (not-true (is_elsewhere me (w.vps.associated v)) f)))
 
     ready : Means m c k (page_locks t v Shared) (tree.Load Whole (place.Word v VP_STATE) (λ state. tree.needs (same_vp_state (vcpu_told state) vcpu.Ready) (VcpuStateIncorrect (vcpu_told state)) (enter_associated m.pages me t d v most)))
         (vp_in w v vcpu.Ready ∷ not_elsewhere w me v ∷ epoch_shared t ∷ [])

@@ -14,3 +14,5 @@ pub mod EnterMeans
 pub mod ExitTrees
 pub mod ExitShows
 pub mod ExitMeans
+pub mod FlushTrees
+pub mod FlushMeans
