@@ -209,7 +209,7 @@ step-means p t v line (Loads access gpa level page) m i = walk-means p t v acces
 step-means p t v line (Leaves out) m i = exit-means p t v out
 
 pub calls-have-leaves : CallsHaveLeaves
-calls-have-leaves o m = record {
+calls-have-leaves o codes m same = record {
   machine = λ p c. ap (λ (z : Place). z.machine) (of-place (record { machine = o.machine; lp = p }) c);
   processor = λ p c. ap (λ (z : Place). z.lp) (of-place (record { machine = o.machine; lp = p }) c);
   row = λ p c. of-row o p c;
@@ -218,5 +218,5 @@ calls-have-leaves o m = record {
   step_processor = λ p t v line s. ap (λ (z : Place). z.lp) (step-place (record { machine = o.machine; lp = p }) t v line s);
   step_row = λ p t v line s. step-row o p t v line s;
   step_means = λ p t v line s i. step-means (record { machine = o.machine; lp = p }) t v line s m i;
-  codes = λ p t i. refl;
+  codes = λ p t i. same t i;
 }

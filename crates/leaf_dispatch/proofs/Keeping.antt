@@ -1,5 +1,5 @@
 -- What a turn leaves of a run.
-use Rattle.std.proofs.Common.{◌≡◌, ◌∙◌, false, List, [], ◌∷◌, Option, Some, None, refl, ap, sym, subst, arith}
+use Rattle.std.proofs.Common.{◌≡◌, ◌∙◌, ℕ, ◌-◌, false, List, [], ◌∷◌, Option, Some, None, refl, ap, sym, subst, arith}
 use Rattle.td_words.specs.declared.machines.Machine.{Machine}
 use Rattle.td_words.specs.declared.calls.Call.{Call}
 use Rattle.td_words.specs.declared.replies.Reply.{Reply}
@@ -96,16 +96,16 @@ turned-at did bench m n e s kept kept' result at k h = subst (λ (z : Machine). 
 
 -- a run at its first event
 
-pub begun : (m : Machine) (e : Ends) (tree : Tree) (r : Running) → (leaf_seen r.run.leaf).task.place.machine ≡ m → (leaf_seen r.run.leaf).task.tree ≡ tree
-    → CanRun m (standing_of r) (leaf_seen r.run.leaf).tries (leaf_seen r.run.leaf).written (leaf_seen r.run.leaf).waits → standing_of r ≡ standing (settle (leaf_seen r.run.leaf).task.tree) stages.Trying [] None
+pub begun : (m : Machine) (e : Ends) (tree : Tree) (r : Running) → (leaf_seen r.run.leaf).task.place.machine ≡ m
+    → CanRun m (standing_of r) (leaf_seen r.run.leaf).tries (leaf_seen r.run.leaf).written (leaf_seen r.run.leaf).waits → standing_of r ≡ standing (settle tree) stages.Trying [] None
     → EndsAs e e.tries tree → BeginsUnderOther tree → IsUnderWay m e r
-begun m e tree r machine is can at ends other =
-    let start : standing_of r ≡ standing (settle tree) stages.Trying [] None = at ∙ ap (λ (t : Tree). standing (settle t) stages.Trying [] None) is in
+begun m e tree r machine can start ends other =
+    let same : e.tries ≡ e.tries - 0 = omega arith in
     record {
       machine = machine;
       can_run = can;
       going = subst (λ (z : Standing). has_ended z.stage z.held ≡ false) (sym start) refl;
-      few_tries = subst (λ (z : Standing). FewTries e z) (sym start) (omega arith, λ st. ends-fed e e.tries tree [] ends);
+      few_tries = subst (λ (z : Standing). FewTries e z) (sym start) (omega arith, λ st. subst (λ (n : ℕ). EndsAs e n (settle tree)) same (ends-fed e e.tries tree [] ends));
       fits = subst (λ (z : Standing). FitsStage e z.stage) (sym start) tt;
       oldest = subst (λ (z : Standing). OldestIsOther z.held z) (sym start) (λ st. other-settled tree other);
     }

@@ -22,7 +22,7 @@ use Rattle.leaf_engine.specs.Besides.{Beside, answered_by, beside_after}
 use Rattle.leaf_engine.specs.Decides.{Wants}
 use Rattle.leaf_engine.specs.Guests.{WordGuest, is_epoch_name, guest_after, guest_entered, or_else}
 use Rattle.leaf_engine.specs.Items.{IsLoadAt, IsLoaded}
-use Rattle.leaf_engine.specs.Turns.{Standing, standing, tried, denied, busy, last_reply, has_ended, Comes, TurnBy}
+use Rattle.leaf_engine.specs.Turns.{Standing, standing, grants, tried, denied, busy, last_reply, has_ended, Comes, TurnBy}
 use Rattle.leaf_dispatch.specs.Answers.{Ends, EndsAs, FewTries, is_busy, FitsStage, BeginsUnderOther, OldestIsOther, act_of, beside_by, guest_by}
 use Rattle.leaf_dispatch.specs.Bounds.{stage_left, stage_used}
 
@@ -275,8 +275,8 @@ goes-give m e t0 held h s' xs loads t (need.Lock name at mode) ev room few o l g
     let here : EndsAs e (e.tries - length held) (settle t) = ends-fed e (e.tries - length held) t [] (ends-loaded e m.pages (e.tries - length held) t0 t loads few l) in
     let more = ends-lock e m.pages (e.tries - length held) (settle t) name at mode g here in
     subst (λ (z : Event). Gives e (standing t0 stages.Trying held h) s' z) (sym c.event)
-    (subst (λ (z : Standing). Gives e (standing t0 stages.Trying held h) z (event.Try name mode _)) (sym c.after)
-    (tries-give e t0 (passed (settle t)) held h name at mode _ room more.0 more.1 o
+    (subst (λ (z : Standing). Gives e (standing t0 stages.Trying held h) z (event.Try name mode (grants mode c.seen))) (sym c.after)
+    (tries-give e t0 (passed (settle t)) held h name at mode (grants mode c.seen) room more.0 more.1 o
     (λ z. other-lock m.pages (settle t) name at mode g (other-settled t (other-loaded m.pages t0 t loads (begins held z o) l)))))
   where
     begins : (hs : List HeldLock) → hs ≡ [] → OldestIsOther hs (standing t0 stages.Trying held h) → BeginsUnderOther t0

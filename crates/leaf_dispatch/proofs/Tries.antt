@@ -24,6 +24,8 @@ use Rattle.flat_core.specs.Processor.{OfPage, RtmrNote}
 use Rattle.flat_core.specs.Digests.{digest_word, digest_bytes, six_words}
 use Rattle.flat_core.specs.Guest.{goes_on}
 use Rattle.flat_core.proofs.Mrtd.{digest_read}
+use Rattle.word_rules.specs.Rules.{ThePage}
+use Rattle.flat_core.specs.Tree.{same_state}
 use Rattle.word_rules.specs.Views.{look, of_entry, rights_by}
 use Rattle.flat_core.specs.Tree.{word_of_gpa}
 use Rattle.flat_core.specs.MemRows.{entry_value}
@@ -150,16 +152,48 @@ few_tries p (call.MrExtend tdr gpa) h = (
 
 -- VP.ENTER
 enters-as : (p : Place) (tdr vp most : ℕ) → EndsAs (call_ends p.machine (call.VpEnter tdr vp most)) 4 (task_of p (call.VpEnter tdr vp most)).tree
-enters-as p tdr vp most = (refl, refl, λ a. (refl, refl, λ b. (refl, refl, λ c. (refl, refl, λ d. (
-  omega arith,
-  λ pamt. (refl, refl, λ y. λ life. (refl, refl, λ z. λ count. (refl, refl, λ u. λ tdcs. (
-    omega arith,
-    λ op. (refl, refl, λ v. (
-      omega arith,
-      λ its. (refl, refl, λ w. λ state. (refl, refl, λ x. λ word. (refl, refl, λ q. (omega arith, λ epoch last index position root. (refl, rw (a, b) refl))))),
-    )),
-  )))),
-)))))
+enters-as p tdr vp most = (
+  refl,
+  refl,
+  λ a. (
+    refl,
+    refl,
+    λ b. (
+      refl,
+      refl,
+      λ c. (
+        refl,
+        refl,
+        λ d. (
+          omega arith,
+          λ pamt. (
+            refl,
+            refl,
+            λ y. λ life. (
+              refl,
+              refl,
+              λ z. λ count. (
+                refl,
+                refl,
+                λ u. λ tdcs. (
+                  omega arith,
+                  λ op. (
+                    refl,
+                    refl,
+                    λ v. (
+                      omega arith,
+                      λ its. (refl, refl, λ w. λ state. (refl, refl, λ x. λ word. (refl, refl, λ q. (omega arith, λ epoch last index position root. (refl, rw (a, b) refl))))),
+                    ),
+                  ),
+                ),
+              ),
+            ),
+          ),
+        ),
+      ),
+    ),
+  ),
+)
 
 -- calls
 
@@ -186,6 +220,10 @@ ends_as p (call.MemPageAdd tdr gpa page source) = plain-ends (call_ends p.machin
 ends_as p (call.MemPageAug tdr gpa page) = plain-ends (call_ends p.machine (call.MemPageAug tdr gpa page)) (λ r. refl) (λ r. refl) (most_tries (call.MemPageAug tdr gpa page)) (task_of p (call.MemPageAug tdr gpa page)).tree (few_tries p (call.MemPageAug tdr gpa page) refl)
 ends_as p (call.MrExtend tdr gpa) = plain-ends (call_ends p.machine (call.MrExtend tdr gpa)) (λ r. refl) (λ r. refl) (most_tries (call.MrExtend tdr gpa)) (task_of p (call.MrExtend tdr gpa)).tree (few_tries p (call.MrExtend tdr gpa) refl)
 
+page_add-begins : (m : Machine) (t gpa page source : ℕ) → BeginsUnderOther (page_add_tree m t gpa page source)
+unfolding page_add_tree
+page_add-begins m t gpa page source = refl
+
 pub begins_other : (p : Place) (c : Call) → BeginsUnderOther (task_of p c).tree
 begins_other p (call.HostRead page word) = refl
 begins_other p (call.HostWrite page word value) = refl
@@ -208,7 +246,7 @@ begins_other p (call.VpInit tdr vp value) = refl
 begins_other p (call.VpEnter tdr vp max) = refl
 begins_other p (call.MemSeptAdd tdr gpa level page) = refl
 begins_other p (call.MemSeptRd tdr gpa level) = refl
-begins_other p (call.MemPageAdd tdr gpa page source) = refl
+begins_other p (call.MemPageAdd tdr gpa page source) = page_add-begins p.machine tdr gpa page source
 begins_other p (call.MemPageAug tdr gpa page) = refl
 begins_other p (call.MrExtend tdr gpa) = refl
 
@@ -267,16 +305,22 @@ step_ends_as p t v line (Operates (op.Load r gpa)) = (refl, refl, λ y. (omega a
 step_ends_as p t v line (Operates (op.Store r gpa)) = (refl, refl, λ y. (omega arith, λ pamt. (refl, refl, λ z. λ at x. (refl, refl))))
 step_ends_as p t v line (Operates (op.Accept gpa)) =
     let e : Ends = step_ends t line (Operates (op.Accept gpa)) in
-    λ word. (omega arith, λ root. passed-ends e 1 p.machine.pages gpa _ 3 (λ q. passed_tree p.machine.pages gpa q 2 (λ r. passed_tree p.machine.pages gpa r 1 (accept_found p.machine v gpa))) refl refl refl refl
-    (λ q. passed-ends e 1 p.machine.pages gpa q 2 (λ r. passed_tree p.machine.pages gpa r 1 (accept_found p.machine v gpa)) refl refl refl refl
-    (λ r. passed-ends e 1 p.machine.pages gpa r 1 (accept_found p.machine v gpa) refl refl refl refl
-    (λ at. λ page. (refl, refl, λ y. (omega arith, λ entry. (refl, refl, λ z. λ n. accepted-ends e 0 _ v at _ _ n refl refl)))))))
+    λ word. (
+      omega arith,
+      λ root. passed-ends e 1 p.machine.pages gpa (page_told p.machine.pages root) 3 (λ q. passed_tree p.machine.pages gpa q 2 (λ r. passed_tree p.machine.pages gpa r 1 (accept_found p.machine v gpa))) refl refl refl refl
+          (λ q. passed-ends e 1 p.machine.pages gpa q 2 (λ r. passed_tree p.machine.pages gpa r 1 (accept_found p.machine v gpa)) refl refl refl refl
+          (λ r. passed-ends e 1 p.machine.pages gpa r 1 (accept_found p.machine v gpa) refl refl refl refl
+          (λ at. λ named. (refl, refl, λ y. (omega arith, λ x. (refl, refl, λ z. λ n. accepted-ends e 0 (same_state (entry_told p.machine.pages x).state entry.Pending) v at (index_at 0 gpa) (page_told p.machine.pages (look ThePage named)) n refl refl)))))),
+    )
 step_ends_as p t v line (Operates (op.Rtmr i)) =
     let e : Ends = step_ends t line (Operates (op.Rtmr i)) in
-    λ word. (omega arith, rtmr-ends e v line i (page_told p.machine.pages word) (λ old registers. (
-      ap (λ (bytes : List ℕ). with_notes (Done (value.Digest (digest_bytes (six_words (extension old registers))))) (RtmrNote line i (six_words (digest_word bytes)) ∷ []) []) (sym (digest_read (digest_bytes old ++ digest_bytes registers))),
-      refl,
-    )))
+    λ word. (
+      omega arith,
+      rtmr-ends e v line i (page_told p.machine.pages word) (λ old registers. (
+        ap (λ (bytes : List ℕ). with_notes (Done (value.Digest (digest_bytes (six_words (extension old registers))))) (RtmrNote line i (six_words (digest_word bytes)) ∷ []) []) (sym (digest_read (digest_bytes old ++ digest_bytes registers))),
+        refl,
+      )),
+    )
 step_ends_as p t v line (Operates (op.Vmcall r)) = λ at x. (refl, refl)
 step_ends_as p t v line (Accesses Read r gpa page) = λ at x. (refl, refl)
 step_ends_as p t v line (Accesses Write r gpa page) = λ at x. (refl, refl)

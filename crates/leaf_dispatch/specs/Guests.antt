@@ -1,12 +1,15 @@
 -- What contracts see of the guest that a logical processor is in, and of its next step.
-use Rattle.std.specs.Prelude.{◌≡◌, ℕ, ◌<◌, ◌≤◌, Bool, true, false, not, Option, Some, None, option_map, List, slice_get, length}
+use Rattle.std.specs.Prelude.{◌≡◌, ℕ, ◌<◌, ◌≤◌, Bool, true, false, not, Option, Some, None, option_map, List, [], ◌∷◌, slice_get, length}
 use Rattle.td_words.specs.declared.calls.GuestOp.{GuestOp}
 use Rattle.td_words.specs.declared.names.Access.{Access}
 use Rattle.td_words.specs.declared.replies.Outcome.{Outcome}
 use Rattle.td_words.specs.declared.replies.Reply.{Reply}
 use Rattle.td_words.specs.declared.replies.Reply.TheVariants.{Done, Refused}
 use Rattle.td_words.specs.declared.replies.Value.TheVariants as value
-use Rattle.flat_core.specs.Processor.{Translation, Walk}
+use Rattle.flat_core.specs.Processor.{Translation, Walk, Note, LoadNote, RtmrNote}
+use Rattle.flat_core.specs.Digests.{digest_word, six_words}
+use Rattle.report_text.specs.declared.guest.GuestNote.{GuestNote}
+use Rattle.report_text.specs.declared.guest.GuestNote.TheVariants as note
 use Rattle.leaf_engine.specs.Turns.{Standing}
 use Rattle.leaf_engine.specs.Guests.{WordGuest, Step, Operates, Accesses, Loads, Leaves, due_step, stepped}
 use Rattle.leaf_dispatch.specs.Answers.{is_busy}
@@ -79,3 +82,16 @@ IsReplyOf _ r = Unit {0}
 -- what became of it
 abbrev pub IsStepped : GuestAt → Step → Reply → Option GuestAt → Type 0
 IsStepped g s r h = (run : Option Standing) → option_map (λ z. guest_seen z None) h ≡ stepped s r (guest_seen g run)
+
+-- what its guests noted, and the words that they told
+abbrev pub note_seen : GuestNote → Note
+note_seen (note.Load line gpa word) = LoadNote line gpa word
+note_seen (note.Rtmr line index digest) = RtmrNote line index (six_words (digest_word digest))
+
+abbrev pub notes_in : Option GuestNote → List Note
+notes_in None = []
+notes_in (Some n) = note_seen n ∷ []
+
+abbrev pub words_in : Option ℕ → List ℕ
+words_in None = []
+words_in (Some x) = x ∷ []

@@ -1,10 +1,12 @@
 -- That the table is one of leaves, as merges of own lists want it.
+use Rattle.std.specs.Prelude.{◌≡◌, ℕ, List}
 use Rattle.td_words.specs.Limits.{IsMachine}
+use Rattle.td_words.specs.declared.calls.GuestOp.{GuestOp}
 use Rattle.flat_core.specs.Opening.{Opening}
 use Rattle.leaf_engine.specs.Merges.{AreLeaves}
 use Rattle.leaf_dispatch.specs.Table.{leaf_table}
 
 -- Each call's leaf, and that of each step of a guest, is made for its machine and processor, has the row of the call or of the
--- step, and means it.
+-- step, and means it. So it is with the opening's lists of operations.
 abbrev pub CallsHaveLeaves : Type 0
-CallsHaveLeaves = (o : Opening) → IsMachine o.machine → AreLeaves o (leaf_table o.machine o.codes)
+CallsHaveLeaves = (o : Opening) (codes : ℕ → ℕ → List GuestOp) → IsMachine o.machine → ((t i : ℕ) → codes t i ≡ o.codes t i) → AreLeaves o (leaf_table o.machine codes)

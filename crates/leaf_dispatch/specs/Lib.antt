@@ -8,3 +8,4 @@ pub mod Kept
 pub mod Guests
 pub mod States
 pub mod Laws
+pub mod Follows

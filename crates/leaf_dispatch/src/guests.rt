@@ -6,8 +6,10 @@ ghost use Rattle.flat_core.specs.Guest.{is_private};
 ghost use Rattle.flat_core.specs.Tree.{page_of_gpa};
 ghost use Rattle.flat_core.specs.Translations.{look_up};
 ghost use Rattle.leaf_engine.specs.Turns.{Standing};
-ghost use Rattle.leaf_engine.specs.Guests.{private_step, operation_step, passed_on, leaving_with, operated, is_right, walked, loaded};
+ghost use Rattle.leaf_engine.specs.Guests.{private_step, operation_step, passed_on, leaving_with, exited_with, operated, is_right, walked, loaded};
 ghost use Rattle.leaf_engine.specs.Merges.{IsOperation, IsStepOf};
+ghost use Rattle.td_words.specs.declared.replies.Reply.TheVariants.{Refused};
+ghost use Rattle.leaf_dispatch.specs.Answers.{is_busy};
 ghost use Rattle.leaf_dispatch.specs.Guests.{step_seen, guest_seen, due_in, next_in, IsLow, CanCount, is_outcome, IsNumber, IsReplyOf, IsStepped};
 
 use td_words::{Access, GuestOp, Outcome, Reply, Status, Value};
@@ -113,13 +115,7 @@ fn next_operation(guest: &GuestAt<'_>, cached: &Tlb, operation: GuestOp) -> Step
 }
 
 // An access to a private GPA goes by a cached translation, or walks until there is one.
-fn next_private(
-    guest: &GuestAt<'_>,
-    cached: &Tlb,
-    access: Access,
-    register: u8,
-    gpa: u64,
-) -> Step
+fn next_private(guest: &GuestAt<'_>, cached: &Tlb, access: Access, register: u8, gpa: u64) -> Step
     requires low { IsLow guest.now.walk }
     requires inside { (register < 8) × (is_private gpa ≡ true) }
     ensures step { (run : Option Standing) → step_seen result ≡ private_step (guest_seen guest.now run) access register gpa (look_up cached.now guest.now.tdr (page_of_gpa gpa) access) }
@@ -149,9 +145,9 @@ fn next_private(
 
 /// What becomes of the guest once a step has its reply; none where it was left.
 pub fn step_on<'a>(guest: GuestAt<'a>, step: Step, reply: Reply) -> Option<GuestAt<'a>>
-    requires counted { CanCount guest.entry (step_seen step) }
+    requires counted { CanCount guest (step_seen step) }
     requires fits { IsReplyOf (step_seen step) reply }
-    requires low { IsLow guest.entry.walk }
+    requires low { IsLow guest.walk }
     requires level { IsStepOf (step_seen step) }
     ensures stepped { IsStepped guest.entry (step_seen step) reply result }
     ensures kept { IfSome result (λ g. IsLow g.walk × (g.list.now ≡ guest.entry.list.now)) }
@@ -160,7 +156,10 @@ pub fn step_on<'a>(guest: GuestAt<'a>, step: Step, reply: Reply) -> Option<Guest
         Step::Operates(_) => Some(operate_on(guest, reply)),
         Step::Accesses { .. } => Some(pass_on(guest)),
         Step::Loads {
-            access, gpa, level, ..
+            access,
+            gpa,
+            level,
+            ..
         } => Some(walk_on(guest, access, gpa, level, reply)),
         Step::Leaves(_) => None,
     }
@@ -168,8 +167,9 @@ pub fn step_on<'a>(guest: GuestAt<'a>, step: Step, reply: Reply) -> Option<Guest
 
 // An operation is completed.
 fn pass_on<'a>(guest: GuestAt<'a>) -> GuestAt<'a>
-    requires counted { (guest.entry.completed < guest.entry.most) × (guest.entry.position < length guest.entry.list.now) }
+    requires counted { (guest.completed < guest.most) × (guest.position < length guest.list.now) }
     ensures seen { (run : Option Standing) → guest_seen result None ≡ passed_on (guest_seen guest.entry run) }
+    ensures walk { result.walk ≡ None }
     ensures list { result.list.now ≡ guest.entry.list.now }
 {
     GuestAt {
@@ -183,6 +183,7 @@ fn pass_on<'a>(guest: GuestAt<'a>) -> GuestAt<'a>
 // The guest is to be left.
 fn leave_with<'a>(guest: GuestAt<'a>, outcome: Outcome) -> GuestAt<'a>
     ensures seen { (run : Option Standing) → guest_seen result None ≡ leaving_with outcome (guest_seen guest.entry run) }
+    ensures walk { result.walk ≡ None }
     ensures list { result.list.now ≡ guest.entry.list.now }
 {
     GuestAt {
@@ -192,60 +193,101 @@ fn leave_with<'a>(guest: GuestAt<'a>, outcome: Outcome) -> GuestAt<'a>
     }
 }
 
-// A VMCALL is behind its guest, and yet the guest is left.
+// What becomes of it by an operation's reply.
 fn operate_on<'a>(guest: GuestAt<'a>, reply: Reply) -> GuestAt<'a>
-    requires counted { (guest.entry.completed < guest.entry.most) × (guest.entry.position < length guest.entry.list.now) }
+    requires counted { (guest.completed < guest.most) × (guest.position < length guest.list.now) }
     requires outcome { is_outcome reply ≡ true }
     ensures seen { (run : Option Standing) → guest_seen result None ≡ operated reply (guest_seen guest.entry run) }
+    ensures walk { result.walk ≡ None }
     ensures list { result.list.now ≡ guest.entry.list.now }
 {
     match reply {
         Reply::Done(_) => pass_on(guest),
-        Reply::Exited(Outcome::Vmcall(word)) => leave_with(
+        Reply::Exited(outcome) => exit_on(guest, outcome),
+        Reply::Refused(status) => refuse_on(guest, status),
+    }
+}
+
+// The operation's try of a lock was denied.
+fn refuse_on<'a>(guest: GuestAt<'a>, status: Status) -> GuestAt<'a>
+    requires busy { is_busy (Refused status) ≡ true }
+    ensures seen { (run : Option Standing) → guest_seen result None ≡ operated (Refused status) (guest_seen guest.entry run) }
+    ensures walk { result.walk ≡ None }
+    ensures list { result.list.now ≡ guest.entry.list.now }
+{
+    match status {
+        Status::OperandBusy(name) => leave_with(guest, Outcome::Busy(name)),
+        _ => unreachable!(),
+    }
+}
+
+// A VMCALL is behind its guest, and yet the guest is left.
+fn exit_on<'a>(guest: GuestAt<'a>, outcome: Outcome) -> GuestAt<'a>
+    requires counted { guest.position < length guest.list.now }
+    ensures seen { (run : Option Standing) → guest_seen result None ≡ exited_with outcome (guest_seen guest.entry run) }
+    ensures walk { result.walk ≡ None }
+    ensures list { result.list.now ≡ guest.entry.list.now }
+{
+    match outcome {
+        Outcome::Vmcall(word) => leave_with(
             GuestAt {
                 position: guest.position + 1,
                 ..guest
             },
             Outcome::Vmcall(word),
         ),
-        Reply::Exited(outcome) => leave_with(guest, outcome),
-        Reply::Refused(Status::OperandBusy(name)) => leave_with(guest, Outcome::Busy(name)),
-        Reply::Refused(_) => guest,
+        Outcome::Stop => leave_with(guest, Outcome::Stop),
+        Outcome::Max => leave_with(guest, Outcome::Max),
+        Outcome::EptViolation { gpa, access } => {
+            leave_with(guest, Outcome::EptViolation { gpa, access })
+        }
+        Outcome::Busy(name) => leave_with(guest, Outcome::Busy(name)),
     }
 }
 
 // A walk goes on, is done, or is an EPT violation.
-fn walk_on<'a>(
-    guest: GuestAt<'a>,
-    access: Access,
-    gpa: u64,
-    level: u8,
-    reply: Reply,
-) -> GuestAt<'a>
+fn walk_on<'a>(guest: GuestAt<'a>, access: Access, gpa: u64, level: u8, reply: Reply) -> GuestAt<'a>
     requires number { IsNumber reply }
     ensures seen { (run : Option Standing) → guest_seen result None ≡ loaded access gpa level reply (guest_seen guest.entry run) }
     ensures low { IsLow guest.entry.walk → level ≤ 3 → IsLow result.walk }
     ensures list { result.list.now ≡ guest.entry.list.now }
 {
-    let Reply::Done(Value::Number(rights)) = reply else {
+    let Reply::Done(value) = reply else {
         unreachable!()
     };
-    if !is_right(access, level, rights) {
-        return leave_with(guest, Outcome::EptViolation { gpa, access });
-    }
-    let walk = match level {
-        0 => None,
-        _ => Some(WalkAt {
-            gpa_page: gpa / 4096,
-            level: level - 1,
-            page: rights / 8,
-        }),
+    let Value::Number(rights) = value else {
+        unreachable!()
     };
-    GuestAt { walk, ..guest }
+    match level {
+        0 => {
+            if is_right(access, level, rights) {
+                GuestAt {
+                    walk: None,
+                    ..guest
+                }
+            } else {
+                leave_with(guest, Outcome::EptViolation { gpa, access })
+            }
+        }
+        _ => {
+            if is_right(access, level, rights) {
+                GuestAt {
+                    walk: Some(WalkAt {
+                        gpa_page: gpa / 4096,
+                        level: level - 1,
+                        page: rights / 8,
+                    }),
+                    ..guest
+                }
+            } else {
+                leave_with(guest, Outcome::EptViolation { gpa, access })
+            }
+        }
+    }
 }
 
-// Whether a walk goes on behind an upper entry, or an entry of level 0 allows the access.
-fn is_right(access: Access, level: u8, rights: u64) -> bool
+/// Whether a walk goes on behind an upper entry, or an entry of level 0 allows the access.
+pub fn is_right(access: Access, level: u8, rights: u64) -> bool
     ensures { result ≡ is_right access level rights }
 {
     match (level, access) {

@@ -11,8 +11,8 @@ ghost use Rattle.leaf_dispatch.specs.Table.{task_of, operation_task, step_task};
 use crate::guests::Step;
 use crate::plans::AnyPlan;
 use access_core::{
-    Accept, Add, HostRead, HostWrite, PrivateLoad, PrivateStore, Rtmr, Set, SharedLoad, SharedStore,
-    Vmcall, WalkLoad,
+    Accept, Add, HostRead, HostWrite, PrivateLoad, PrivateStore, Rtmr, Set, SharedLoad,
+    SharedStore, Vmcall, WalkLoad,
 };
 use key_table::{CacheWb, FlushDone, FreeId, Reclaim};
 use leaf_engine::{Leaf, Need, Place, Planned, Write};
@@ -155,8 +155,12 @@ pub fn step_leaf(place: Place, tdr: u16, vp: u16, line: usize, step: Step) -> An
         } => {
             let page = page_told(place.machine.pages, u64::from(page));
             match access {
-                Access::Read => by_plan(AnyPlan::PrivateLoad(PrivateLoad::plan(place, tdr, vp, line, register, gpa, page))),
-                Access::Write => by_plan(AnyPlan::PrivateStore(PrivateStore::plan(place, tdr, vp, line, register, gpa, page))),
+                Access::Read => by_plan(AnyPlan::PrivateLoad(PrivateLoad::plan(
+                    place, tdr, vp, line, register, gpa, page,
+                ))),
+                Access::Write => by_plan(AnyPlan::PrivateStore(PrivateStore::plan(
+                    place, tdr, vp, line, register, gpa, page,
+                ))),
             }
         }
         Step::Loads {

@@ -7,6 +7,7 @@
 //! of these leaves; and `processors_follow`, by which a turn is the flat machine's next event.
 #![tactic(auto)]
 
+mod answers;
 mod guests;
 mod laws;
 mod leaves;
@@ -15,7 +16,7 @@ mod running;
 mod states;
 
 pub use guests::Step;
-pub use laws::calls_have_leaves;
+pub use laws::{calls_have_leaves, processors_follow};
 pub use leaves::{AnyLeaf, leaf_of, step_leaf};
 pub use plans::AnyPlan;
 pub use states::LpState;

@@ -1,8 +1,8 @@
 //! The plan of each call, and of each step of a guest, that goes by one.
 
 use access_core::{
-    Accept, Add, HostRead, HostWrite, PrivateLoad, PrivateStore, Rtmr, Set, SharedLoad, SharedStore,
-    Vmcall, WalkLoad,
+    Accept, Add, HostRead, HostWrite, PrivateLoad, PrivateStore, Rtmr, Set, SharedLoad,
+    SharedStore, Vmcall, WalkLoad,
 };
 use key_table::{CacheWb, FlushDone, FreeId, Reclaim};
 use leaf_engine::{Act, Hand, Plan, Stop, Told, Verdict, Write};

@@ -4,11 +4,14 @@ ghost use Rattle.std.specs.Prelude.{◌≡◌, ◌<◌, true, None};
 ghost use Rattle.td_words.specs.Limits.{IsMachine};
 ghost use Rattle.leaf_engine.specs.Turns.{Standing};
 ghost use Rattle.leaf_engine.specs.OwnLists.{running};
-ghost use Rattle.leaf_dispatch.specs.Table.{task_of};
-ghost use Rattle.leaf_dispatch.specs.Answers.{Ends, call_ends, act_of};
+ghost use Rattle.leaf_engine.specs.Merges.{IsStepOf};
+ghost use Rattle.leaf_dispatch.specs.Guests.{step_seen};
+ghost use Rattle.leaf_dispatch.specs.Table.{task_of, step_task};
+ghost use Rattle.leaf_dispatch.specs.Answers.{Ends, call_ends, step_ends, act_of};
 ghost use Rattle.leaf_dispatch.specs.Running.{standing_of, run_seen, turn_of, act_in, IsUnderWay, IsRunOf, IsKept, CanTurn, HasTurned, LeafTurned};
 
-use crate::leaves::{AnyLeaf, leaf_of};
+use crate::guests::Step;
+use crate::leaves::{AnyLeaf, leaf_of, step_leaf};
 use leaf_engine::{Event, Place, Run, RunTurn, Stage};
 use step_core::Bench;
 use td_words::{Call, Reply};
@@ -52,6 +55,30 @@ pub fn turn_call<B: Bench>(
     ensures machine { B.machine bench.new ≡ B.machine bench.old }
 {
     begin_where_none(kept, place, call);
+    turn_run(kept, bench)
+}
+
+/// The next turn of the run of a guest's step, which is kept until its reply comes, and begins where
+/// none is kept.
+#[inline(never)]
+pub fn turn_step<B: Bench>(
+    kept: &mut Option<Running>,
+    place: Place,
+    tdr: u16,
+    vp: u16,
+    line: usize,
+    step: Step,
+    bench: &mut B,
+) -> LeafTurn
+    requires machine { IsMachine place.machine }
+    requires inside { (tdr < place.machine.pages) × (vp < place.machine.pages) }
+    requires limits { IsStepOf (step_seen step) }
+    requires at { place.machine ≡ B.machine bench.old }
+    requires under_way { IsRunOf place.machine (step_ends tdr line (step_seen step)) kept.old }
+    ensures turned { LeafTurned (B.did bench.old) place.machine (step_ends tdr line (step_seen step)) (running (step_task place tdr vp line (step_seen step)) (run_seen kept.old)) bench.new kept.new result }
+    ensures machine { B.machine bench.new ≡ B.machine bench.old }
+{
+    begin_step_where_none(kept, place, tdr, vp, line, step);
     turn_run(kept, bench)
 }
 
@@ -139,5 +166,49 @@ fn begin(place: Place, call: &Call) -> Running
 {
     Running {
         run: Run::new(leaf_of(place, call)),
+    }
+}
+
+// Where no run is kept, that of a step begins.
+fn begin_step_where_none(
+    kept: &mut Option<Running>,
+    place: Place,
+    tdr: u16,
+    vp: u16,
+    line: usize,
+    step: Step,
+)
+    requires machine { IsMachine place.machine }
+    requires inside { (tdr < place.machine.pages) × (vp < place.machine.pages) }
+    requires limits { IsStepOf (step_seen step) }
+    requires under_way { IsRunOf place.machine (step_ends tdr line (step_seen step)) kept.old }
+    ensures { IsKept place.machine (step_ends tdr line (step_seen step)) (running (step_task place tdr vp line (step_seen step)) (run_seen kept.old)) kept.new }
+{
+    match kept {
+        Some(_) => (),
+        None => enter_step(kept, place, tdr, vp, line, step),
+    }
+}
+
+#[inline(never)]
+fn enter_step(kept: &mut Option<Running>, place: Place, tdr: u16, vp: u16, line: usize, step: Step)
+    requires machine { IsMachine place.machine }
+    requires inside { (tdr < place.machine.pages) × (vp < place.machine.pages) }
+    requires limits { IsStepOf (step_seen step) }
+    ensures { IsKept place.machine (step_ends tdr line (step_seen step)) (running (step_task place tdr vp line (step_seen step)) None) kept.new }
+{
+    *kept = Some(begin_step(place, tdr, vp, line, step));
+}
+
+/// The run of a step at its first event.
+fn begin_step(place: Place, tdr: u16, vp: u16, line: usize, step: Step) -> Running
+    requires machine { IsMachine place.machine }
+    requires inside { (tdr < place.machine.pages) × (vp < place.machine.pages) }
+    requires limits { IsStepOf (step_seen step) }
+    ensures stands { standing_of result ≡ running (step_task place tdr vp line (step_seen step)) None }
+    ensures under_way { IsUnderWay place.machine (step_ends tdr line (step_seen step)) result }
+{
+    Running {
+        run: Run::new(step_leaf(place, tdr, vp, line, step)),
     }
 }

@@ -21,7 +21,7 @@ fn a_creation_has_five_events(rt: HostRuntime) {
     let Ok(mut bench) = PlainBench::new(rt.alloc(), MACHINE) else {
         panic!(rt; "out of memory")
     };
-    let Ok(mut lp) = LpState::new(rt.alloc(), MACHINE, 0, &calls) else {
+    let Ok(mut lp) = LpState::new(rt.alloc(), MACHINE, 0, &[], &calls) else {
         panic!(rt; "out of memory")
     };
     let page = LockName::Page(1);
@@ -67,7 +67,7 @@ fn each_call_is_made_by_its_leaf(rt: HostRuntime) {
     let Ok(mut bench) = PlainBench::new(rt.alloc(), MACHINE) else {
         panic!(rt; "out of memory")
     };
-    let Ok(mut lp) = LpState::new(rt.alloc(), MACHINE, 1, &calls) else {
+    let Ok(mut lp) = LpState::new(rt.alloc(), MACHINE, 1, &[], &calls) else {
         panic!(rt; "out of memory")
     };
     while let Turn::Moved(_) = lp.turn(&mut bench) {}
@@ -96,10 +96,10 @@ fn a_lock_that_another_holds_is_busy(rt: HostRuntime) {
         panic!(rt; "out of memory")
     };
     let (creation, read) = ([CREATE], [READ]);
-    let Ok(mut first) = LpState::new(rt.alloc(), MACHINE, 0, &creation) else {
+    let Ok(mut first) = LpState::new(rt.alloc(), MACHINE, 0, &[], &creation) else {
         panic!(rt; "out of memory")
     };
-    let Ok(mut second) = LpState::new(rt.alloc(), MACHINE, 1, &read) else {
+    let Ok(mut second) = LpState::new(rt.alloc(), MACHINE, 1, &[], &read) else {
         panic!(rt; "out of memory")
     };
     let lock = LockName::Page(1);

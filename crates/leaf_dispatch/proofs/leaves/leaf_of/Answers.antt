@@ -24,3 +24,7 @@ returns-in-MemPageAug-clause-task c =
 
 pub returns-in-MrExtend-clause-task : goal.returns-in-MrExtend-clause-task
 returns-in-MrExtend-clause-task c = c.leaf.ensures.task ∙ sym (ap (task_of c.args.place) c.in-MrExtend.is)
+
+pub returns-in-VpEnter-clause-task : goal.returns-in-VpEnter-clause-task
+returns-in-VpEnter-clause-task c =
+    c.by_plan-in-VpEnter.ensures.task ∙ c.plan-in-VpEnter.ensures ∙ sym (ap (task_of c.args.place) c.in-VpEnter.is)

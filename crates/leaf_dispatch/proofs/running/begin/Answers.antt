@@ -1,7 +1,9 @@
-use Rattle.std.proofs.Common.{◌≡◌, ◌∙◌, ap}
+use Rattle.std.proofs.Common.{◌≡◌, ◌∙◌, [], None, ap}
 use Rattle.leaf_engine.specs.declared.needs.Place.{Place}
+use Rattle.leaf_engine.specs.declared.events.Stage.TheVariants.{Trying}
 use Rattle.leaf_engine.specs.Means.{Task}
-use Rattle.leaf_engine.specs.Trees.{Tree}
+use Rattle.leaf_engine.specs.Trees.{settle}
+use Rattle.leaf_engine.specs.Turns.{standing}
 use Rattle.leaf_dispatch.specs.declared.leaves.AnyLeaf.{AnyLeaf}
 use Rattle.leaf_dispatch.specs.Answers.{call_ends}
 use Rattle.leaf_dispatch.specs.Leaves.{leaf_seen}
@@ -14,7 +16,6 @@ use Rattle.leaf_dispatch.proofs.running.begin.Goals as goal
 pub returns-clause-under_way : goal.returns-clause-under_way
 returns-clause-under_way c =
     let call = c.args.call.now in
-    let task : (leaf_seen c.new.result.leaf).task ≡ task_of c.args.place call = ap (λ (l : AnyLeaf). (leaf_seen l).task) c.new.ensures.leaf ∙ c.leaf_of.ensures.task in
-    begun c.args.place.machine (call_ends c.args.place.machine call) (task_of c.args.place call).tree c.result
-    (ap (λ (z : Task). z.place.machine) task ∙ ap (λ (z : Place). z.machine) (of-place c.args.place call)) (ap (λ (z : Task). z.tree) task)
-    (c.new.ensures.can_run c.args.place.machine) c.new.ensures.at_start (ends_as c.args.place call) (begins_other c.args.place call)
+    begun c.args.place.machine (call_ends c.args.place.machine call) (task_of c.args.place call).tree (record { run = c.new.result })
+    (ap (λ (l : AnyLeaf). (leaf_seen l).task.place.machine) c.new.ensures.leaf ∙ (ap (λ (z : Task). z.place.machine) c.leaf_of.ensures.task ∙ ap (λ (z : Place). z.machine) (of-place c.args.place call)))
+    (c.new.ensures.can_run c.args.place.machine) (c.new.ensures.at_start ∙ ap (λ (z : Task). standing (settle z.tree) Trying [] None) c.leaf_of.ensures.task) (ends_as c.args.place call) (begins_other c.args.place call)

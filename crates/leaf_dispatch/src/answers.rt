@@ -1,0 +1,143 @@
+//! What becomes of a logical processor by the reply of a leaf's act: of its cached translations and
+//! its guest, and what it notes and tells.
+
+ghost use Rattle.std.specs.Prelude.{◌≡◌, ℕ, ◌<◌, true, None, IfSome, option_map};
+ghost use Rattle.leaf_engine.specs.Guests.{guest_entered};
+ghost use Rattle.leaf_dispatch.specs.Answers.{call_answer, call_fits, step_answer, step_fits};
+ghost use Rattle.leaf_dispatch.specs.Guests.{step_seen, guest_seen, notes_in, words_in, IsLow};
+ghost use Rattle.leaf_dispatch.specs.Table.{code_in};
+
+use crate::guests::{GuestAt, Step, is_right};
+use report_text::GuestNote;
+use td_words::{Access, Call, Code, GuestOp, Machine, Outcome, Reply, Value};
+use tlb_epochs::Tlb;
+
+/// The act of VP.ENTER drops the TD's translations where they are stale.
+pub fn drop_stale(machine: Machine, cached: &mut Tlb, call: &Call, reply: Reply)
+    requires { call_fits machine call.now reply ≡ true }
+    ensures { cached.new ≡ (call_answer call.now reply).cached cached.old }
+{
+    let _pages = machine.pages;
+    if let (Call::VpEnter { tdr, .. }, Reply::Done(Value::Entered { stale, .. })) = (*call, reply) {
+        if stale {
+            cached.flush_td(tdr as u16);
+        }
+    }
+}
+
+/// The guest that the act of VP.ENTER enters.
+pub fn entered<'a>(
+    machine: Machine,
+    codes: &'a [Code],
+    call: &Call,
+    reply: Reply,
+) -> Option<GuestAt<'a>>
+    requires { call_fits machine call.now reply ≡ true }
+    ensures seen { option_map (λ g. guest_seen g None) result ≡ guest_entered (call_answer call.now reply) }
+    ensures inside { IfSome result (λ g. (g.tdr < machine.pages) × (g.vp < machine.pages) × (code_in codes.now g.tdr g.index ≡ g.list.now) × IsLow g.walk) }
+{
+    let _pages = machine.pages;
+    let (
+        Call::VpEnter { tdr, vp, max },
+        Reply::Done(
+            Value::Entered {
+                stale: _,
+                index,
+                position,
+                root,
+            },
+        ),
+    ) = (*call, reply)
+    else {
+        return None;
+    };
+    Some(GuestAt {
+        tdr: tdr as u16,
+        vp: vp as u16,
+        root,
+        most: max,
+        completed: 0,
+        index,
+        list: list_of(codes, tdr as u16, index),
+        position,
+        walk: None,
+        leaving: None,
+    })
+}
+
+// The first list of that virtual processor; an empty one where it has none.
+fn list_of<'a>(codes: &'a [Code], tdr: u16, index: u64) -> &'a [GuestOp]
+    ensures { result.now ≡ code_in codes.now tdr index }
+{
+    match codes {
+        [] => &[],
+        [code, further @ ..] => {
+            if code.tdr == tdr && u64::from(code.index) == index {
+                code.ops.as_slice()
+            } else {
+                list_of(further, tdr, index)
+            }
+        }
+    }
+}
+
+/// The load of an entry of level 0 that allows the access lets its translation be cached.
+pub fn cache_walk(cached: &mut Tlb, tdr: u16, step: Step, reply: Reply)
+    requires { step_fits (step_seen step) reply ≡ true }
+    ensures { (line : ℕ) → cached.new ≡ (step_answer tdr line (step_seen step) reply).cached cached.old }
+{
+    if let (
+        Step::Loads {
+            access,
+            gpa,
+            level,
+            ..
+        },
+        Reply::Done(Value::Number(seen)),
+    ) = (step, reply)
+    {
+        if level == 0 && is_right(access, level, seen) {
+            cached.fill(tdr, gpa, (seen / 8) as u16, seen % 2 == 1);
+        }
+    }
+}
+
+/// What a guest read, or the RTMR that it extended, at a call line.
+pub fn noted(line: u32, step: Step, reply: Reply) -> Option<GuestNote>
+    ensures { (tdr : ℕ) → notes_in result ≡ (step_answer tdr line (step_seen step) reply).notes }
+{
+    match (step, reply) {
+        (Step::Operates(GuestOp::Load { gpa, .. }), Reply::Done(Value::Number(word))) => {
+            Some(GuestNote::Load { line, gpa, word })
+        }
+        (
+            Step::Accesses {
+                access: Access::Read,
+                gpa,
+                ..
+            },
+            Reply::Done(Value::Number(word)),
+        ) => Some(GuestNote::Load { line, gpa, word }),
+        (Step::Operates(GuestOp::Rtmr { index }), Reply::Done(Value::Digest(digest))) => {
+            Some(GuestNote::Rtmr {
+                line,
+                index,
+                digest,
+            })
+        }
+        _ => None,
+    }
+}
+
+/// The word that a guest told.
+pub fn told(step: Step, reply: Reply) -> Option<u64>
+    ensures { (tdr line : ℕ) → words_in result ≡ (step_answer tdr line (step_seen step) reply).tells }
+{
+    match (step, reply) {
+        (Step::Operates(GuestOp::Store { .. }), Reply::Done(Value::Number(word))) => Some(word),
+        (Step::Operates(GuestOp::Vmcall { .. }), Reply::Exited(Outcome::Vmcall(word))) => {
+            Some(word)
+        }
+        _ => None,
+    }
+}
