@@ -21,6 +21,7 @@ pub mod Guest
 pub mod Event
 pub mod Run
 pub mod HostText
+pub mod GuestText
 pub mod Exports
 pub mod Lawful
 pub mod Alike
