@@ -1,5 +1,5 @@
 use Rattle.std.proofs.Common.{ap}
-use Rattle.script_runner.specs.Commanded.{Writes}
+use Rattle.script_runner.specs.Saving.{Writes}
 use Rattle.script_runner.proofs.Histories.{all_loads, all_ends, told_run, told_complete, told_bad, told_container, told_keys, told_fronts, put_run, all_saved, put_usage, put_fault, put_name, put_place, put_keys, put_lost, put_memory, unread_cause, lost_cause, used, one_text, some_text, same_files, none_saved}
 use Rattle.script_runner.proofs.top.tdx_main.Goals as goal
 
