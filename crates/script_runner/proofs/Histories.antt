@@ -15,8 +15,8 @@ use Rattle.command_files.specs.Inputs.{Reads}
 use Rattle.script_runner.specs.Ending.{ToSave, Ended, memory_end, unwritten_end, success_end, ending_of}
 use Rattle.script_runner.specs.Saving.{Writes, AllSaved, out_names}
 use Rattle.script_runner.specs.Ends.{Faults, ReadCause, WriteCause, EndsWith, OneRun, IsBadScript, IsBadContainer, IsBadKeys, IsComplete, PutsFronts}
-use Rattle.script_runner.specs.Done.{PutsOnce, PutsText, PutsRun, PutsAndSaved, PutsUsage, PutsFault, PutsName, PutsPlace, PutsKeys, PutsLost, PutsMemory, SavesNothing, ChangesNothing}
-use Rattle.script_runner.specs.Commanded.{Comes, ComesPart, AnswerEnd, ScriptEnd, ReadEnd, FurtherPart, Outputs, DoesCommand}
+use Rattle.script_runner.specs.Done.{PutsOnce, PutsText, PutsRun, PutsAndSaved, PutsUsage, PutsFault, PutsName, PutsPlace, PutsKeys, PutsLost, PutsMemory, SavesNothing, ChangesNothing, SavesFront, KeepsOrSaves}
+use Rattle.script_runner.specs.Commanded.{Comes, ComesPart, AnswerEnd, ScriptEnd, ReadEnd, FurtherPart, Outputs, Puts, DoesCommand}
 use Rattle.script_runner.proofs.Closing.{Closing, closing, saved_later, unput, never_zero, Told, Lost, Wanting, Whole, Unsaved, WantingAfter}
 use Rattle.script_runner.proofs.Came.{Came, came, files_few, rose_earlier, Usage, Unread, BadScript, Want, Place, Keys, Run}
 use Rattle.script_runner.proofs.Told.{told_ending}
@@ -320,6 +320,36 @@ module _ (names : List (List ℕ)) (e : Ended) (few : length e.files ≤ length 
       })
   lost_done contents c r r' h four (WantingAfter front f rest m b b' are all zero puts kept which want) = absurd (let q = want.0 in omega (arith, q, four))
 
+  -- what files have where not all was done
+  front_saved : (contents : Option (List ℕ → Option (List ℕ))) (c : Option CommandSeen) (r r' : Reads) (front : List ToSave) (f : ToSave) (rest : List ToSave) (m : Writes) (b : Outputs) → Came contents c r r' e
+      → e.files ≡ front ++ f ∷ rest → AllSaved front w m → e.status ≡ 0 → Puts e.text o (Ok tt) b → w'.contents ≡ m.contents → SavesFront c r.loads r'.loads w w'
+  front_saved contents c r r' front f rest m b h are all zero puts kept =
+      let (d, same) = run_done contents c r r' e o.puts b.puts (Ok tt) h zero puts.noted in
+      record {
+        command = d.command;
+        read_as = d.read_as;
+        given = d.given;
+        loaded = d.loaded;
+        script = d.script;
+        reads = d.reads;
+        front = front;
+        out = f;
+        rest = rest;
+        are = ap (λ (x : Ended). x.files) (sym same) ∙ are;
+        before = m;
+        front_saved = all;
+        kept = kept;
+      }
+
+  keeps_or_saves : (contents : Option (List ℕ → Option (List ℕ))) (c : Option CommandSeen) (r r' : Reads) → Came contents c r r' e → status ≢ 0 → Closing e w w' o o' status
+      → KeepsOrSaves c r.loads r'.loads w w'
+  keeps_or_saves contents c r r' h x0 (Told puts not_zero is kept) = inl (ap (λ (x : Writes). x.contents) kept)
+  keeps_or_saves contents c r r' h x0 (Lost puts is kept) = inl (ap (λ (x : Writes). x.contents) kept)
+  keeps_or_saves contents c r r' h x0 (Wanting b puts want kept) = inl (ap (λ (x : Writes). x.contents) kept)
+  keeps_or_saves contents c r r' h x0 (Whole puts zero is saved) = absurd (x0 is)
+  keeps_or_saves contents c r r' h x0 (Unsaved front f rest m b answer are all zero puts saves not_want last four) = inr (front_saved contents c r r' front f rest m b h are all zero puts saves.kept)
+  keeps_or_saves contents c r r' h x0 (WantingAfter front f rest m b b' are all zero puts kept which want) = inr (front_saved contents c r r' front f rest m b h are all zero puts kept)
+
 -- ---- the whole call
 
 usage_status : (contents : Option (List ℕ → Option (List ℕ))) (c : Option CommandSeen) (r r' : Reads) (e : Ended) → c ≡ None → Came contents c r r' e → e.status ≡ 1
@@ -474,6 +504,11 @@ module _ (contents : Option (List ℕ → Option (List ℕ))) (c : Option Comman
   pub same_files : Does → ChangesNothing names status → w'.contents ≡ w.contents
   same_files (inl (e, comes, p)) h = same_contents names e (few_of e comes) w w' o o' status h (closing e w w' o o' status p)
   same_files (inr (part, kept, want)) h = ap (λ (x : Writes). x.contents) kept
+
+  pub kept_or_saved : Does → status ≢ 0 → KeepsOrSaves c r.loads r'.loads w w'
+  kept_or_saved (inl (e, comes, p)) x0 =
+      keeps_or_saves names e (few_of e comes) w w' o o' status contents c r r' (came contents c r r' e comes) x0 (closing e w w' o o' status p)
+  kept_or_saved (inr (part, kept, want)) x0 = inl (ap (λ (x : Writes). x.contents) kept)
 
   pub none_saved : Does → SavesNothing names status → w' ≡ w
   none_saved (inl (e, comes, p)) h = keeps names e (few_of e comes) w w' o o' status h (closing e w w' o o' status p)

@@ -134,6 +134,27 @@ pub record PutsUnsaved (c : Option CommandSeen) (loads loads' : List Loaded) (wr
   pub kept : written'.contents ≡ before.contents
   pub prints : PutsText between (unwritten_end out.name).text puts'
 
+-- Files have what they had behind the saves of the first files that a run of the script that was loaded is to save, of which at
+-- least one more was left.
+pub record SavesFront (c : Option CommandSeen) (loads loads' : List Loaded) (written written' : Writes) : Type 0 where
+  pub command : CommandSeen
+  pub read_as : c ≡ Some command
+  pub given : Vec ℕ
+  pub loaded : LoadsFirst loads (script_name command) (Ok given) loads'
+  pub script : ScriptSeen
+  pub reads : read_of given.items ≡ Ok script
+  pub front : List ToSave
+  pub out : ToSave
+  pub rest : List ToSave
+  pub are : (success_end command script).files ≡ front ++ out ∷ rest
+  pub before : Writes
+  pub front_saved : AllSaved front written before
+  pub kept : written'.contents ≡ before.contents
+
+-- what files have is as before, or as the saves that came through left it
+abbrev pub KeepsOrSaves : Option CommandSeen → (loads loads' : List Loaded) → (written written' : Writes) → Type 0
+KeepsOrSaves c loads loads' written written' = (written'.contents ≡ written.contents) ⊎ SavesFront c loads loads' written written'
+
 -- the put of the text failed, and nothing was saved; or the save of a file did
 abbrev pub PutsLost : Option CommandSeen → (loads loads' : List Loaded) → (written written' : Writes) → (puts puts' : List Put) → Type 0
 PutsLost c loads loads' written written' puts puts' =

@@ -6,7 +6,7 @@ ghost use Rattle.bundle_store.specs.History.{Put};
 ghost use Rattle.command_files.specs.Commands.{command_in};
 ghost use Rattle.script_runner.specs.Ending.{ending_seen, file_named, ending_of, memory_end};
 ghost use Rattle.script_runner.specs.Ends.{PutsPart, EndsWith, OneRun, IsComplete, IsBadScript, IsBadContainer, IsBadKeys, ReadCause, WriteCause, PutsFronts};
-ghost use Rattle.script_runner.specs.Done.{PutsOnce, PutsRun, PutsAndSaved, PutsUsage, PutsFault, PutsName, PutsPlace, PutsKeys, PutsLost, PutsMemory, SavesNothing, ChangesNothing};
+ghost use Rattle.script_runner.specs.Done.{PutsOnce, PutsRun, PutsAndSaved, PutsUsage, PutsFault, PutsName, PutsPlace, PutsKeys, PutsLost, PutsMemory, SavesNothing, ChangesNothing, KeepsOrSaves};
 ghost use Rattle.script_runner.specs.Saving.{out_names};
 ghost use Rattle.script_runner.specs.Commanded.{Comes, ComesPart, TellsBy, PutsWant, SavesAll, PutsAndSaves, DoesCommand};
 
@@ -247,8 +247,10 @@ pub fn tdx_main<F: Files, K: Sink, G: Gate + Sync>(
     ensures put { (out_names (command_in (map string_bytes words.now)) ≡ []) ⊎ (result ≢ 4) → result ≢ 5 → (p : Put) × (K.puts out.new ≡ K.puts out.old ++ p ∷ []) }
     ensures tried { (p : Put) × (more : List Put) × (K.puts out.new ≡ K.puts out.old ++ p ∷ more) }
     // What files have changes only where all was done, and a file was to be saved; where two were, it
-    // may also change at the statuses 4 and 5, by the first. A save is tried only where the text was put.
+    // may also change at the statuses 4 and 5, by the first, and then just as that save left it. A save
+    // is tried only where the text was put.
     ensures same { ChangesNothing (out_names (command_in (map string_bytes words.now))) result → F.contents files.new ≡ F.contents files.old }
+    ensures kept { result ≢ 0 → KeepsOrSaves (command_in (map string_bytes words.now)) (F.loads files.old) (F.loads files.new) (record { contents = F.contents files.old; saves = F.saves files.old; faults = F.write_faults files.old }) (record { contents = F.contents files.new; saves = F.saves files.new; faults = F.write_faults files.new }) }
     ensures saves { SavesNothing (out_names (command_in (map string_bytes words.now))) result → F.saves files.new ≡ F.saves files.old }
     ensures writes { SavesNothing (out_names (command_in (map string_bytes words.now))) result → F.write_faults files.new ≡ F.write_faults files.old }
     // At status 0 nothing failed.
