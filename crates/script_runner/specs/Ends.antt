@@ -93,11 +93,12 @@ pub record IsBadScript (contents : List ℕ → Option (List ℕ)) (c : Option C
   pub reason : Reason
   pub reads : read_of bytes ≡ Err (Bad line reason)
 
--- the command reads that name
+-- an input beside the script has that name
 abbrev pub IsInput : CommandSeen → List ℕ → Type 0
 IsInput (Replay n) name = (n.bundles ≡ Some name) ⊎ (n.keys ≡ Some name)
 IsInput (Check script) name = ⊥
 
+-- the command reads that name
 abbrev pub IsRead : CommandSeen → List ℕ → Type 0
 IsRead command name = (name ≡ script_name command) ⊎ IsInput command name
 
