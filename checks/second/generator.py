@@ -440,6 +440,7 @@ def long_script(chance, turn):
 COMMANDS = (
     "", "replay", "replay none", "replay -x", "replay --", "replay - {script}", "replay none/none",
     "replay {script} {script}", "run {script}", "replay .", "replay {script} --keys=x", "check {script}", "soak 2",
+    "check none", "check {script} --keys {script}",
     "replay {script}/none", "soak", "{script}", "Replay {script}", "--help", "none {script}",
 )
 

@@ -48,8 +48,11 @@ def answer(words, load):
     """The status and the text of the command line with these words, as it is built, and the processors of
     the run where there was one. A file's bytes come from `load`, or None where it can't be read."""
     try:
-        need_usage(len(words) == 2 and words[0] == "replay" and not words[1].startswith("-"))
-        processors = replay(read(loaded(words[1], load)))
+        need_usage(len(words) == 2 and words[0] in ("replay", "check") and not words[1].startswith("-"))
+        script = read(loaded(words[1], load))
+        if words[0] == "check":
+            return 0, check_line(script), []
+        processors = replay(script)
     except Ended as ended:
         return *ended.args, []
     except Fault as fault:
@@ -110,12 +113,16 @@ def replay_all(words, load):
     return reply_lines(processors), {options[name]: text for name, text in made.items() if name in options}
 
 
+def check_line(script):
+    """The numbers of a script."""
+    counts = [sum(map(len, blocks.values())) for blocks in (script.calls, script.code)]
+    return f"ok {script.machine[0]} {counts[0]} {counts[1]} {len(script.schedule)}\n"
+
+
 def check(words, load):
     """The text of `check`."""
     need_usage(len(words) == 1 and not words[0].startswith("-"))
-    script = read(loaded(words[0], load), frozenset())
-    counts = [sum(map(len, blocks.values())) for blocks in (script.calls, script.code)]
-    return f"ok {script.machine[0]} {counts[0]} {counts[1]} {len(script.schedule)}\n", {}
+    return check_line(read(loaded(words[0], load), frozenset())), {}
 
 
 def soak(words, _load):

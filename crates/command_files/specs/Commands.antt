@@ -1,17 +1,32 @@
--- Commands: a script, and options that name files.
-use Rattle.std.specs.Prelude.{ℕ, List, [], ◌∷◌, slice_index_or, Option, Some, None, is_some, option_map, Bool, ◌==◌, if◌then◌else◌, codes}
+-- Commands: a script is run, with options that name files, or is checked.
+use Rattle.std.specs.Prelude.{ℕ, List, [], ◌∷◌, slice_index_or, Option, Some, None, is_some, option_map, Bool, ◌==◌, ◌||◌, if◌then◌else◌, codes}
 use Rattle.std.specs.Str.{bytes_eq}
 use Rattle.command_files.specs.declared.commands.Choice.{Choice}
 use Rattle.command_files.specs.declared.commands.Choice.TheVariants as choice
+use Rattle.command_files.specs.declared.commands.Verb.{Verb}
+use Rattle.command_files.specs.declared.commands.Verb.TheVariants as verb
 use Rattle.command_files.specs.declared.commands.Begun.{Begun}
+use Rattle.command_files.specs.declared.commands.Named.{Named}
 use Rattle.command_files.specs.declared.commands.Command.{Command}
+use Rattle.command_files.specs.declared.commands.Command.TheVariants as command
 
 -- a script's name, and those of the files that the options of its command name
-pub record CommandSeen : Type 0 where
+pub record NamedSeen : Type 0 where
   pub script : List ℕ
   pub bundles : Option (List ℕ)
   pub keys : Option (List ℕ)
   pub out_bundles : Option (List ℕ)
+  pub guest_out : Option (List ℕ)
+
+-- a script is run with these files, or the script of that name is checked
+pub data CommandSeen : Type 0 where
+  Replay : NamedSeen → CommandSeen
+  Check : List ℕ → CommandSeen
+
+-- the script's name
+abbrev pub script_name : CommandSeen → List ℕ
+script_name (Replay n) = n.script
+script_name (Check name) = name
 
 -- what was read so far: the option that waits for its value, and what was named
 pub record BegunSeen : Type 0 where
@@ -20,14 +35,20 @@ pub record BegunSeen : Type 0 where
   pub bundles : Option (List ℕ)
   pub keys : Option (List ℕ)
   pub out_bundles : Option (List ℕ)
+  pub guest_out : Option (List ℕ)
+
+abbrev pub named_seen : Named → NamedSeen
+named_seen n = record {
+  script = n.script.now;
+  bundles = option_map (λ name. name.now) n.bundles;
+  keys = option_map (λ name. name.now) n.keys;
+  out_bundles = option_map (λ name. name.now) n.out_bundles;
+  guest_out = option_map (λ name. name.now) n.guest_out;
+}
 
 abbrev pub command_seen : Command → CommandSeen
-command_seen c = record {
-  script = c.script.now;
-  bundles = option_map (λ name. name.now) c.bundles;
-  keys = option_map (λ name. name.now) c.keys;
-  out_bundles = option_map (λ name. name.now) c.out_bundles;
-}
+command_seen (command.Replay n) = Replay (named_seen n)
+command_seen (command.Check name) = Check name.now
 
 abbrev pub begun_seen : Begun → BegunSeen
 begun_seen b = record {
@@ -36,6 +57,7 @@ begun_seen b = record {
   bundles = option_map (λ name. name.now) b.bundles;
   keys = option_map (λ name. name.now) b.keys;
   out_bundles = option_map (λ name. name.now) b.out_bundles;
+  guest_out = option_map (λ name. name.now) b.guest_out;
 }
 
 abbrev pub begins_with_dash : List ℕ → Bool
@@ -47,18 +69,29 @@ choice_of word =
     if bytes_eq word (codes "--bundles") then Some choice.Bundles
     else if bytes_eq word (codes "--keys") then Some choice.Keys
     else if bytes_eq word (codes "--out-bundles") then Some choice.OutBundles
+    else if bytes_eq word (codes "--guest-out") then Some choice.GuestOut
     else None
+
+-- the first words
+abbrev pub verb_of : List ℕ → Option Verb
+verb_of word = if bytes_eq word (codes "replay") then Some verb.Replay else if bytes_eq word (codes "check") then Some verb.Check else None
 
 -- an option has its value
 abbrev pub has : Choice → BegunSeen → Bool
 has choice.Bundles b = is_some b.bundles
 has choice.Keys b = is_some b.keys
 has choice.OutBundles b = is_some b.out_bundles
+has choice.GuestOut b = is_some b.guest_out
+
+-- some option has
+abbrev pub has_option : BegunSeen → Bool
+has_option b = is_some b.bundles || (is_some b.keys || (is_some b.out_bundles || is_some b.guest_out))
 
 abbrev pub given : Choice → List ℕ → BegunSeen → BegunSeen
 given choice.Bundles name b = record b { waits = None; bundles = Some name }
 given choice.Keys name b = record b { waits = None; keys = Some name }
 given choice.OutBundles name b = record b { waits = None; out_bundles = Some name }
+given choice.GuestOut name b = record b { waits = None; guest_out = Some name }
 
 -- an option's word: it is known, and wasn't there before
 abbrev pub after_option : Option Choice → BegunSeen → Option BegunSeen
@@ -76,26 +109,35 @@ after_begun None word b =
 abbrev pub after : List ℕ → BegunSeen → Option BegunSeen
 after word b = after_begun b.waits word b
 
--- a command has a script, and no option waits for its value
-abbrev pub with_script : Option (List ℕ) → BegunSeen → Option CommandSeen
-with_script None b = None
-with_script (Some name) b = Some (record { script = name; bundles = b.bundles; keys = b.keys; out_bundles = b.out_bundles })
+-- replay has these options, and check has none
+abbrev pub ended : Verb → List ℕ → BegunSeen → Option CommandSeen
+ended verb.Replay name b = Some (Replay (record { script = name; bundles = b.bundles; keys = b.keys; out_bundles = b.out_bundles; guest_out = b.guest_out }))
+ended verb.Check name b = if has_option b then None else Some (Check name)
 
-abbrev pub finished : BegunSeen → Option CommandSeen
-finished b = if is_some b.waits then None else with_script b.script b
+-- a command has a script, and no option waits for its value
+abbrev pub with_script : Verb → Option (List ℕ) → BegunSeen → Option CommandSeen
+with_script v None b = None
+with_script v (Some name) b = ended v name b
+
+abbrev pub finished : Verb → BegunSeen → Option CommandSeen
+finished v b = if is_some b.waits then None else with_script v b.script b
 
 abbrev pub nothing_read : BegunSeen
-nothing_read = record { waits = None; script = None; bundles = None; keys = None; out_bundles = None }
+nothing_read = record { waits = None; script = None; bundles = None; keys = None; out_bundles = None; guest_out = None }
 
 abbrev pub further : Option BegunSeen → (BegunSeen → Option CommandSeen) → Option CommandSeen
 further None go = None
 further (Some b) go = go b
 
-abbrev pub reads : List (List ℕ) → BegunSeen → Option CommandSeen
-reads [] b = finished b
-reads (word ∷ words) b = further (after word b) (reads words)
+abbrev pub reads : Verb → List (List ℕ) → BegunSeen → Option CommandSeen
+reads v [] b = finished v b
+reads v (word ∷ words) b = further (after word b) (reads v words)
+
+abbrev pub reads_behind : Option Verb → List (List ℕ) → Option CommandSeen
+reads_behind None words = None
+reads_behind (Some v) words = reads v words nothing_read
 
 -- the command that these words are
 abbrev pub command_in : List (List ℕ) → Option CommandSeen
 command_in [] = None
-command_in (word ∷ words) = if bytes_eq word (codes "replay") then reads words nothing_read else None
+command_in (word ∷ words) = reads_behind (verb_of word) words

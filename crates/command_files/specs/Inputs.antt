@@ -11,7 +11,7 @@ use Rattle.command_files.specs.declared.inputs.Input.{Input}
 use Rattle.command_files.specs.declared.inputs.Input.TheVariants as input
 use Rattle.command_files.specs.declared.inputs.InputFault.{InputFault}
 use Rattle.command_files.specs.declared.inputs.InputFault.TheVariants as fault
-use Rattle.command_files.specs.Commands.{CommandSeen}
+use Rattle.command_files.specs.Commands.{NamedSeen}
 
 -- ---- loads
 
@@ -93,7 +93,7 @@ LoadsKeys contents None name old keys new = LoadsNamed contents (2 ^ 16) name ol
 LoadsKeys contents (Some f) name old keys new = (keys ≡ None) × (new ≡ old)
 
 -- Each named input is loaded once, the container first, and nothing else; and the answer is the fault that is due by these loads.
-pub record TakesInputs (contents : Option (List ℕ → Option (List ℕ))) (c : CommandSeen) (old new : Reads) (result : Result (Unit {0}) InputFault) : Type 0 where
+pub record TakesInputs (contents : Option (List ℕ → Option (List ℕ))) (c : NamedSeen) (old new : Reads) (result : Result (Unit {0}) InputFault) : Type 0 where
   pub bundles : Option (Result (Vec ℕ) LoadFault)
   pub keys : Option (Result (Vec ℕ) LoadFault)
   pub between : Reads

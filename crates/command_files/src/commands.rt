@@ -2,7 +2,7 @@
 
 ghost use Rattle.std.specs.Prelude.{◌≡◌, option_map, map, string_bytes, codes};
 ghost use Rattle.std.specs.Str.{bytes_eq};
-ghost use Rattle.command_files.specs.Commands.{begins_with_dash, choice_of, begun_seen, command_seen, given, has, after, finished, command_in, nothing_read};
+ghost use Rattle.command_files.specs.Commands.{begins_with_dash, choice_of, verb_of, begun_seen, command_seen, given, has, has_option, after, ended, finished, command_in, nothing_read};
 
 /// An option that names a file.
 #[derive(Clone, Copy, Debug, PartialEq, Eq)]
@@ -10,15 +10,31 @@ pub enum Choice {
     Bundles,
     Keys,
     OutBundles,
+    GuestOut,
 }
 
 /// A script's name, and those of the files that the options of its command name.
 #[derive(Clone, Copy, Drop)]
-pub struct Command<'a> {
+pub struct Named<'a> {
     pub script: &'a str,
     pub bundles: Option<&'a str>,
     pub keys: Option<&'a str>,
     pub out_bundles: Option<&'a str>,
+    pub guest_out: Option<&'a str>,
+}
+
+/// What the words ask for: a script is run with these files, or the script of that name is checked.
+#[derive(Clone, Copy, Drop)]
+pub enum Command<'a> {
+    Replay(Named<'a>),
+    Check(&'a str),
+}
+
+/// The first word of a command.
+#[derive(Clone, Copy, Debug, PartialEq, Eq)]
+pub enum Verb {
+    Replay,
+    Check,
 }
 
 /// What was read of a command so far: the option that waits for its value, and what was named.
@@ -29,6 +45,7 @@ pub struct Begun<'a> {
     pub bundles: Option<&'a str>,
     pub keys: Option<&'a str>,
     pub out_bundles: Option<&'a str>,
+    pub guest_out: Option<&'a str>,
 }
 
 fn begins_with_dash(word: &str) -> bool
@@ -53,6 +70,20 @@ fn choice_of(word: &str) -> Option<Choice>
         Some(Choice::Keys)
     } else if is(word, "--out-bundles") {
         Some(Choice::OutBundles)
+    } else if is(word, "--guest-out") {
+        Some(Choice::GuestOut)
+    } else {
+        None
+    }
+}
+
+fn verb_of(word: &str) -> Option<Verb>
+    ensures { result ≡ verb_of word.now }
+{
+    if is(word, "replay") {
+        Some(Verb::Replay)
+    } else if is(word, "check") {
+        Some(Verb::Check)
     } else {
         None
     }
@@ -65,7 +96,18 @@ fn has(begun: Begun<'_>, choice: Choice) -> bool
         Choice::Bundles => begun.bundles.is_some(),
         Choice::Keys => begun.keys.is_some(),
         Choice::OutBundles => begun.out_bundles.is_some(),
+        Choice::GuestOut => begun.guest_out.is_some(),
     }
+}
+
+// Some option has its value.
+fn has_option(begun: Begun<'_>) -> bool
+    ensures { result ≡ has_option (begun_seen begun.entry) }
+{
+    begun.bundles.is_some()
+        || begun.keys.is_some()
+        || begun.out_bundles.is_some()
+        || begun.guest_out.is_some()
 }
 
 fn given<'a>(begun: Begun<'a>, choice: Choice, name: &'a str) -> Begun<'a>
@@ -86,6 +128,10 @@ fn given<'a>(begun: Begun<'a>, choice: Choice, name: &'a str) -> Begun<'a>
         },
         Choice::OutBundles => Begun {
             out_bundles: Some(name),
+            ..begun
+        },
+        Choice::GuestOut => Begun {
+            guest_out: Some(name),
             ..begun
         },
     }
@@ -131,19 +177,36 @@ fn after<'a>(begun: Begun<'a>, word: &'a str) -> Option<Begun<'a>>
     }
 }
 
-fn finished<'a>(begun: Begun<'a>) -> Option<Command<'a>>
-    ensures { option_map command_seen result ≡ finished (begun_seen begun.entry) }
+// A script and its command's options, of which check has none.
+fn ended<'a>(verb: Verb, begun: Begun<'a>, script: &'a str) -> Option<Command<'a>>
+    ensures { option_map command_seen result ≡ ended verb script.now (begun_seen begun.entry) }
+{
+    match verb {
+        Verb::Replay => Some(Command::Replay(Named {
+            script,
+            bundles: begun.bundles,
+            keys: begun.keys,
+            out_bundles: begun.out_bundles,
+            guest_out: begun.guest_out,
+        })),
+        Verb::Check => {
+            if has_option(begun) {
+                None
+            } else {
+                Some(Command::Check(script))
+            }
+        }
+    }
+}
+
+fn finished<'a>(verb: Verb, begun: Begun<'a>) -> Option<Command<'a>>
+    ensures { option_map command_seen result ≡ finished verb (begun_seen begun.entry) }
 {
     if begun.waits.is_some() {
         return None;
     }
     match begun.script {
-        Some(script) => Some(Command {
-            script,
-            bundles: begun.bundles,
-            keys: begun.keys,
-            out_bundles: begun.out_bundles,
-        }),
+        Some(script) => ended(verb, begun, script),
         None => None,
     }
 }
@@ -152,15 +215,17 @@ fn finished<'a>(begun: Begun<'a>) -> Option<Command<'a>>
 pub fn read_command<'a>(words: &'a [String]) -> Option<Command<'a>>
     ensures { option_map command_seen result ≡ command_in (map string_bytes words.now) }
 {
-    if words.is_empty() || !is(words[0].as_str(), "replay") {
+    if words.is_empty() {
         return None;
     }
+    let verb = verb_of(words[0].as_str())?;
     let mut begun = Begun {
         waits: None,
         script: None,
         bundles: None,
         keys: None,
         out_bundles: None,
+        guest_out: None,
     };
     for i in 1..words.len() {
         match after(begun, words[i].as_str()) {
@@ -168,5 +233,5 @@ pub fn read_command<'a>(words: &'a [String]) -> Option<Command<'a>>
             None => return None,
         }
     }
-    finished(begun)
+    finished(verb, begun)
 }

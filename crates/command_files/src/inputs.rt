@@ -1,10 +1,10 @@
 //! The input files that a command names: they are loaded, and then their forms are tested.
 
 ghost use Rattle.std.specs.Prelude.{◌≡◌, ◌≤◌, option_map, OnOk};
-ghost use Rattle.command_files.specs.Commands.{command_seen};
+ghost use Rattle.command_files.specs.Commands.{named_seen};
 ghost use Rattle.command_files.specs.Inputs.{LoadsNamed, load_fault, container_fault, keys_fault, IsDue, TakesInputs};
 
-use crate::commands::Command;
+use crate::commands::Named;
 use bundle_store::{ContainerFault, Files, LoadFault, read_container};
 use std::alloc::Global;
 
@@ -95,10 +95,10 @@ fn keys_fault(answer: &Option<Result<Vec<u8>, LoadFault>>) -> Option<InputFault>
 /// Loads the container and the key file, where they are named, and then tests their forms.
 pub fn take_inputs<F: Files>(
     alloc: Global,
-    command: &Command<'_>,
+    named: &Named<'_>,
     files: &mut F,
 ) -> Result<(), InputFault>
-    ensures takes { TakesInputs (F.contents files.old) (command_seen command.now) (record { loads = F.loads files.old; faults = F.read_faults files.old; bytes = F.bytes_read files.old }) (record { loads = F.loads files.new; faults = F.read_faults files.new; bytes = F.bytes_read files.new }) result }
+    ensures takes { TakesInputs (F.contents files.old) (named_seen named.now) (record { loads = F.loads files.old; faults = F.read_faults files.old; bytes = F.bytes_read files.old }) (record { loads = F.loads files.new; faults = F.read_faults files.new; bytes = F.bytes_read files.new }) result }
     ensures same { F.contents files.new ≡ F.contents files.old }
     ensures saves { F.saves files.new ≡ F.saves files.old }
     ensures writes { F.write_faults files.new ≡ F.write_faults files.old }
@@ -106,11 +106,11 @@ pub fn take_inputs<F: Files>(
     // Where nothing is wrong, nothing failed.
     ensures quiet { OnOk result (F.read_faults files.new ≡ F.read_faults files.old) }
 {
-    let bundles = load_named(alloc, command.bundles, MOST_CONTAINER, files);
+    let bundles = load_named(alloc, named.bundles, MOST_CONTAINER, files);
     if let Some(fault) = load_fault(Input::Bundles, &bundles) {
         return Err(fault);
     }
-    let keys = load_named(alloc, command.keys, MOST_KEYS, files);
+    let keys = load_named(alloc, named.keys, MOST_KEYS, files);
     if let Some(fault) = load_fault(Input::Keys, &keys) {
         return Err(fault);
     }

@@ -8,5 +8,5 @@
 mod commands;
 mod inputs;
 
-pub use commands::{Command, read_command};
+pub use commands::{Command, Named, read_command};
 pub use inputs::{Input, InputFault, take_inputs};

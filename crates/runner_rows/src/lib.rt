@@ -7,6 +7,8 @@ mod memory;
 #[cfg(test)]
 mod options;
 #[cfg(test)]
+mod outputs;
+#[cfg(test)]
 mod replays;
 #[cfg(test)]
 mod too_long;

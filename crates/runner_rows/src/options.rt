@@ -181,7 +181,6 @@ const ROWS: &[Row<'static>] = &[
     ("replay s s --keys k", &[], &[], 1, USAGE, false),
     ("replay --keys k", &[], &[], 1, USAGE, false),
     ("replay s --secrets k", &[], &[], 1, USAGE, false),
-    ("replay s --guest-out o", &[], &[], 1, USAGE, false),
 ];
 
 #[test]

@@ -76,6 +76,9 @@ fn too_long_inputs_have_no_form(rt: HostRuntime) -> Result<(), Fail> {
             0x2001_0010,
         ),
         ("replay s --out-bundles o", 5, "out of memory\n", 14),
+        ("replay s --guest-out g", 5, "out of memory\n", 14),
+        ("check s", 0, "ok 1 0 0 0\n", 14),
+        ("check e", 2, "script line 0 LENGTH\n", 0x100_0001),
     ] {
         let mut words = Vec::new(alloc);
         for word in line.split(' ') {

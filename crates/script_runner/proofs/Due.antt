@@ -13,21 +13,21 @@ use Rattle.command_files.specs.declared.inputs.Input.{Input}
 use Rattle.command_files.specs.declared.inputs.Input.TheVariants as input
 use Rattle.command_files.specs.declared.inputs.InputFault.{InputFault}
 use Rattle.command_files.specs.declared.inputs.InputFault.TheVariants as fault
-use Rattle.command_files.specs.Commands.{CommandSeen}
+use Rattle.command_files.specs.Commands.{NamedSeen, CommandSeen, Replay, Check, script_name}
 use Rattle.command_files.specs.Inputs.{place_fault, first}
-use Rattle.script_runner.specs.Ending.{Ended, usage_end, bad_end, unread_end, memory_end, container_end, keys_end, script_end, input_name, held, absent_fault, container_wrong, keys_wrong, wrong_input, inputs_end, read_end, held_end, ending_of}
+use Rattle.script_runner.specs.Ending.{Ended, usage_end, bad_end, unread_end, memory_end, container_end, keys_end, success_end, input_name, held, absent_fault, container_wrong, keys_wrong, wrong_input, command_wrong, inputs_end, script_end, read_end, held_end, ending_of}
 use Rattle.script_runner.specs.Ends.{IsRead, IsBadScript, IsAbsent, IsNoContainer, IsBadContainer, IsBadKeys}
 
--- a script is run
+-- a script is run, or checked
 pub record IsRun (contents : List ℕ → Option (List ℕ)) (c : Option CommandSeen) (e : Ended) : Type 0 where
   pub command : CommandSeen
   pub read_as : c ≡ Some command
   pub bytes : List ℕ
-  pub there : contents command.script ≡ Some bytes
+  pub there : contents (script_name command) ≡ Some bytes
   pub script : ScriptSeen
   pub reads : read_of bytes ≡ Ok script
-  pub fits : wrong_input (held contents command.bundles) (held contents command.keys) ≡ None
-  pub is : e ≡ script_end (Ok script)
+  pub fits : command_wrong contents command ≡ None
+  pub is : e ≡ success_end command script
 
 -- an ending, with its cause
 pub data Due (contents : List ℕ → Option (List ℕ)) (c : Option CommandSeen) (e : Ended) : Type 0 where
@@ -97,54 +97,60 @@ keys_some contents (Some name) f h = by (contents name) refl h
 
 -- ---- the whole
 
-module _ (contents : List ℕ → Option (List ℕ)) (c : CommandSeen) where
+module _ (contents : List ℕ → Option (List ℕ)) (c : NamedSeen) where
   -- a fault of the inputs
-  input_due : (s : ScriptSeen) (f : InputFault) → wrong_input (held contents c.bundles) (held contents c.keys) ≡ Some f → Due contents (Some c) (inputs_end c s (Some f))
+  input_due : (s : ScriptSeen) (f : InputFault) → wrong_input (held contents c.bundles) (held contents c.keys) ≡ Some f → Due contents (Some (Replay c)) (inputs_end c s (Some f))
   input_due s f h = by (first_cases _ _ f h)
     where
-      unread : (i : Input) (name : List ℕ) → IsRead c name → contents name ≡ None → f ≡ fault.Unread i → Due contents (Some c) (inputs_end c s (Some f))
+      unread : (i : Input) (name : List ℕ) → IsRead (Replay c) name → contents name ≡ None → f ≡ fault.Unread i → Due contents (Some (Replay c)) (inputs_end c s (Some f))
       unread i name named gone is =
-          subst (λ (x : InputFault). Due contents (Some c) (inputs_end c s (Some x))) (sym is)
-          (Absent (input_name c i) (record { command = c; read_as = refl; name = name; named = named; absent = gone }) refl)
+          subst (λ (x : InputFault). Due contents (Some (Replay c)) (inputs_end c s (Some x))) (sym is)
+          (Absent (input_name c i) (record { command = Replay c; read_as = refl; name = name; named = named; absent = gone }) refl)
 
       forms : (container_wrong (held contents c.bundles) ≡ Some f) ⊎ ((container_wrong (held contents c.bundles) ≡ None) × (keys_wrong (held contents c.keys) ≡ Some f))
-          → Due contents (Some c) (inputs_end c s (Some f))
+          → Due contents (Some (Replay c)) (inputs_end c s (Some f))
       forms (inl x) =
           let (name, bytes, place, named, there, wrong, is) = container_some contents c.bundles f x in
-          subst (λ (x : InputFault). Due contents (Some c) (inputs_end c s (Some x))) (sym is)
+          subst (λ (x : InputFault). Due contents (Some (Replay c)) (inputs_end c s (Some x))) (sym is)
           (BadContainer place (record { command = c; read_as = refl; name = name; named = named; bytes = bytes; there = there; wrong = wrong }) refl)
       forms (inr x) =
           let (name, bytes, named, there, wrong, is) = keys_some contents c.keys f x.1 in
-          subst (λ (x : InputFault). Due contents (Some c) (inputs_end c s (Some x))) (sym is)
+          subst (λ (x : InputFault). Due contents (Some (Replay c)) (inputs_end c s (Some x))) (sym is)
           (BadKeys (record { command = c; read_as = refl; name = name; named = named; bytes = bytes; there = there; wrong = wrong }) refl)
 
       keys : (absent_fault input.Keys (held contents c.keys) ≡ Some f) ⊎ ((absent_fault input.Keys (held contents c.keys) ≡ None) × (first (container_wrong (held contents c.bundles)) (keys_wrong (held contents c.keys)) ≡ Some f))
-          → Due contents (Some c) (inputs_end c s (Some f))
+          → Due contents (Some (Replay c)) (inputs_end c s (Some f))
       keys (inl x) = let (name, named, gone, is) = absent_some input.Keys contents c.keys f x in unread input.Keys name (inr (inr named)) gone is
       keys (inr x) = forms (first_cases _ _ f x.1)
 
       by : (absent_fault input.Bundles (held contents c.bundles) ≡ Some f)
           ⊎ ((absent_fault input.Bundles (held contents c.bundles) ≡ None) × (first (absent_fault input.Keys (held contents c.keys)) (first (container_wrong (held contents c.bundles)) (keys_wrong (held contents c.keys))) ≡ Some f))
-          → Due contents (Some c) (inputs_end c s (Some f))
+          → Due contents (Some (Replay c)) (inputs_end c s (Some f))
       by (inl x) = let (name, named, gone, is) = absent_some input.Bundles contents c.bundles f x in unread input.Bundles name (inr (inl named)) gone is
       by (inr x) = keys (first_cases _ _ f x.1)
 
   inputs_due : (bytes : List ℕ) (s : ScriptSeen) (f : Option InputFault) → contents c.script ≡ Some bytes → read_of bytes ≡ Ok s
-      → wrong_input (held contents c.bundles) (held contents c.keys) ≡ f → Due contents (Some c) (inputs_end c s f)
+      → wrong_input (held contents c.bundles) (held contents c.keys) ≡ f → Due contents (Some (Replay c)) (inputs_end c s f)
   inputs_due bytes s None there reads fits =
-      Run (record { command = c; read_as = refl; bytes = bytes; there = there; script = s; reads = reads; fits = fits; is = refl })
+      Run (record { command = Replay c; read_as = refl; bytes = bytes; there = there; script = s; reads = reads; fits = fits; is = refl })
   inputs_due bytes s (Some f) there reads wrong = input_due s f wrong
 
-  read_due : (bytes : List ℕ) (r : Result ScriptSeen ScriptFault) → contents c.script ≡ Some bytes → read_of bytes ≡ r → Due contents (Some c) (read_end contents c r)
-  read_due bytes (Ok s) there reads = inputs_due bytes s _ there reads refl
+module _ (contents : List ℕ → Option (List ℕ)) (c : CommandSeen) where
+  script_due : (k : CommandSeen) (bytes : List ℕ) (s : ScriptSeen) → contents (script_name k) ≡ Some bytes → read_of bytes ≡ Ok s → Due contents (Some k) (script_end contents k s)
+  script_due (Replay n) bytes s there reads = inputs_due contents n bytes s _ there reads refl
+  script_due (Check name) bytes s there reads =
+      Run (record { command = Check name; read_as = refl; bytes = bytes; there = there; script = s; reads = reads; fits = refl; is = refl })
+
+  read_due : (bytes : List ℕ) (r : Result ScriptSeen ScriptFault) → contents (script_name c) ≡ Some bytes → read_of bytes ≡ r → Due contents (Some c) (read_end contents c r)
+  read_due bytes (Ok s) there reads = script_due c bytes s there reads
   read_due bytes (Err (Bad line reason)) there reads =
       BadScript line reason (record { command = c; read_as = refl; bytes = bytes; there = there; line = line; reason = reason; reads = reads }) refl
   read_due bytes (Err OutOfMemory) there reads = Want refl
 
-  held_due : (h : Option (List ℕ)) → contents c.script ≡ h → Due contents (Some c) (held_end contents c h)
-  held_due None gone = Absent c.script (record { command = c; read_as = refl; name = c.script; named = inl refl; absent = gone }) refl
+  held_due : (h : Option (List ℕ)) → contents (script_name c) ≡ h → Due contents (Some c) (held_end contents c h)
+  held_due None gone = Absent (script_name c) (record { command = c; read_as = refl; name = (script_name c); named = inl refl; absent = gone }) refl
   held_due (Some bytes) there = read_due bytes (read_of bytes) there refl
 
 pub due : (contents : List ℕ → Option (List ℕ)) (c : Option CommandSeen) → Due contents c (ending_of contents c)
 due contents None = Usage refl refl
-due contents (Some c) = held_due contents c (contents c.script) refl
+due contents (Some c) = held_due contents c (contents (script_name c)) refl

@@ -1,5 +1,5 @@
 -- What the call's histories say of each status, and what changes.
-use Rattle.std.proofs.Common.{◌≡◌, ◌≢◌, ◌⊎◌, inl, inr, refl, sym, ◌∙◌, ap, subst, ℕ, List, [], ◌∷◌, ◌++◌, append-nil, append_assoc, Option, Some, None, IfSome, IfNone, Result, Ok, Err, arith}
+use Rattle.std.proofs.Common.{◌≡◌, ◌≢◌, ◌⊎◌, inl, inr, refl, sym, ◌∙◌, ap, subst, ℕ, List, [], ◌∷◌, ◌++◌, append-nil, append_assoc, length, ◌≤◌, Option, Some, None, IfSome, IfNone, Result, Ok, Err, arith}
 use Rattle.std.specs.Global.{Vec}
 use Rattle.script_text.specs.declared.faults.ScriptFault.{ScriptFault}
 use Rattle.script_text.specs.Reading.{read_of}
@@ -8,30 +8,34 @@ use Rattle.bundle_store.specs.declared.outside.LoadFault.{LoadFault}
 use Rattle.bundle_store.specs.declared.outside.LoadFault.TheVariants as load
 use Rattle.bundle_store.specs.declared.outside.PutFault.{PutFault}
 use Rattle.bundle_store.specs.declared.outside.PutFault.TheVariants as put
-use Rattle.bundle_store.specs.Outside.{Rose}
+use Rattle.bundle_store.specs.Outside.{Rose, Gains}
 use Rattle.bundle_store.specs.History.{Put}
-use Rattle.command_files.specs.Commands.{CommandSeen}
+use Rattle.command_files.specs.Commands.{CommandSeen, Replay, Check}
 use Rattle.command_files.specs.Inputs.{Reads}
-use Rattle.script_runner.specs.Ending.{Ended, memory_end, unwritten_end, ending_of}
-use Rattle.script_runner.specs.Ends.{Faults, ReadCause, WriteCause, EndsWith, OneRun, IsBadScript, IsBadContainer, IsBadKeys, IsComplete, success_text, own_text, PutsFronts}
-use Rattle.script_runner.specs.Done.{PutsOnce, PutsText, PutsRun, PutsUsage, PutsFault, PutsName, PutsPlace, PutsKeys, PutsLost, PutsMemory, SavesNothing}
-use Rattle.script_runner.specs.Commanded.{Comes, ComesPart, AnswerEnd, ReadEnd, FurtherPart, Outputs, Writes, AllSaved, DoesCommand, out_name}
-use Rattle.script_runner.proofs.Closing.{Closing, closing, unput, never_zero, Told, Lost, Wanting, Whole, Unsaved, WantingAfter}
-use Rattle.script_runner.proofs.Came.{Came, came, Usage, Unread, BadScript, Want, Place, Keys, Run}
-use Rattle.script_runner.proofs.Endings.{ends_with}
+use Rattle.script_runner.specs.Ending.{ToSave, Ended, memory_end, unwritten_end, success_end, ending_of}
+use Rattle.script_runner.specs.Saving.{Writes, AllSaved, out_names}
+use Rattle.script_runner.specs.Ends.{Faults, ReadCause, WriteCause, EndsWith, OneRun, IsBadScript, IsBadContainer, IsBadKeys, IsComplete, PutsFronts}
+use Rattle.script_runner.specs.Done.{PutsOnce, PutsText, PutsRun, PutsAndSaved, PutsUsage, PutsFault, PutsName, PutsPlace, PutsKeys, PutsLost, PutsMemory, SavesNothing, ChangesNothing, SavesFront, KeepsOrSaves}
+use Rattle.script_runner.specs.Commanded.{Comes, ComesPart, AnswerEnd, ScriptEnd, ReadEnd, FurtherPart, Outputs, Puts, DoesCommand}
+use Rattle.script_runner.proofs.Closing.{Closing, closing, saved_later, unput, never_zero, Told, Lost, Wanting, Whole, Unsaved, WantingAfter}
+use Rattle.script_runner.proofs.Came.{Came, came, files_few, rose_earlier, Usage, Unread, BadScript, Want, Place, Keys, Run}
+use Rattle.script_runner.proofs.Told.{told_ending}
+use Rattle.script_runner.proofs.Endings.{ends_with, some_file, success_zero}
 use Rattle.script_runner.proofs.Endings as endings
 
 -- ---- what was loaded, and the text that was put
 
 module _ (contents : Option (List ℕ → Option (List ℕ))) (c : Option CommandSeen) (r r' : Reads) (e : Ended) (puts puts' : List Put) where
-  run_done : (answer : Result (Unit {0}) PutFault) → Came contents c r r' e → e.status ≡ 0 → PutsOnce puts e.text answer puts' → PutsRun c r.loads r'.loads puts puts' answer
+  run_done : (answer : Result (Unit {0}) PutFault) → Came contents c r r' e → e.status ≡ 0 → PutsOnce puts e.text answer puts'
+      → (d : PutsRun c r.loads r'.loads puts puts' answer) × (e ≡ success_end d.command d.script)
   run_done a (Usage none same is) st p = absurd (let t = ap (λ (x : Ended). x.status) is in omega (arith, t, st))
   run_done a (Unread k is_c n named before answer loaded u rose is) st p = absurd (let t = ap (λ (x : Ended). x.status) is in omega (arith, t, st))
   run_done a (BadScript k is_c answer loaded line reason first is) st p = absurd (let t = ap (λ (x : Ended). x.status) is in omega (arith, t, st))
   run_done a (Want k is_c is) st p = absurd (let t = ap (λ (x : Ended). x.status) is in omega (arith, t, st))
   run_done a (Place k is_c n named before answer loaded place wrong is) st p = absurd (let t = ap (λ (x : Ended). x.status) is in omega (arith, t, st))
   run_done a (Keys k is_c n named before answer loaded wrong is) st p = absurd (let t = ap (λ (x : Ended). x.status) is in omega (arith, t, st))
-  run_done a (Run k is_c given loaded s reads is) st p = record { command = k; read_as = is_c; given = given; loaded = loaded; script = s; reads = reads; prints = subst (λ (x : Ended). PutsOnce puts x.text a puts') is p }
+  run_done a (Run k is_c given loaded s reads is) st p =
+      (record { command = k; read_as = is_c; given = given; loaded = loaded; script = s; reads = reads; prints = subst (λ (x : Ended). PutsOnce puts x.text a puts') is p }, is)
 
   usage_done : Came contents c r r' e → e.status ≡ 1 → PutsText puts e.text puts' → PutsUsage c r.loads r'.loads puts puts'
   usage_done (Usage none same is) st p = (none, same, subst (λ (x : Ended). PutsText puts x.text puts') is p)
@@ -40,7 +44,7 @@ module _ (contents : Option (List ℕ → Option (List ℕ))) (c : Option Comman
   usage_done (Want k is_c is) st p = absurd (let t = ap (λ (x : Ended). x.status) is in omega (arith, t, st))
   usage_done (Place k is_c n named before answer loaded place wrong is) st p = absurd (let t = ap (λ (x : Ended). x.status) is in omega (arith, t, st))
   usage_done (Keys k is_c n named before answer loaded wrong is) st p = absurd (let t = ap (λ (x : Ended). x.status) is in omega (arith, t, st))
-  usage_done (Run k is_c given loaded s reads is) st p = absurd (let t = ap (λ (x : Ended). x.status) is in omega (arith, t, st))
+  usage_done (Run k is_c given loaded s reads is) st p = absurd (let t = ap (λ (x : Ended). x.status) is in let z = success_zero k s in omega (arith, t, z, st))
 
   fault_done : Came contents c r r' e → e.status ≡ 2 → PutsText puts e.text puts' → PutsFault c r.loads r'.loads puts puts'
   fault_done (Usage none same is) st p = absurd (let t = ap (λ (x : Ended). x.status) is in omega (arith, t, st))
@@ -49,7 +53,7 @@ module _ (contents : Option (List ℕ → Option (List ℕ))) (c : Option Comman
   fault_done (Want k is_c is) st p = absurd (let t = ap (λ (x : Ended). x.status) is in omega (arith, t, st))
   fault_done (Place k is_c n named before answer loaded place wrong is) st p = absurd (let t = ap (λ (x : Ended). x.status) is in omega (arith, t, st))
   fault_done (Keys k is_c n named before answer loaded wrong is) st p = absurd (let t = ap (λ (x : Ended). x.status) is in omega (arith, t, st))
-  fault_done (Run k is_c given loaded s reads is) st p = absurd (let t = ap (λ (x : Ended). x.status) is in omega (arith, t, st))
+  fault_done (Run k is_c given loaded s reads is) st p = absurd (let t = ap (λ (x : Ended). x.status) is in let z = success_zero k s in omega (arith, t, z, st))
 
   name_done : Came contents c r r' e → e.status ≡ 3 → PutsText puts e.text puts' → PutsName c r.loads r'.loads puts puts'
   name_done (Usage none same is) st p = absurd (let t = ap (λ (x : Ended). x.status) is in omega (arith, t, st))
@@ -58,7 +62,7 @@ module _ (contents : Option (List ℕ → Option (List ℕ))) (c : Option Comman
   name_done (Want k is_c is) st p = absurd (let t = ap (λ (x : Ended). x.status) is in omega (arith, t, st))
   name_done (Place k is_c n named before answer loaded place wrong is) st p = absurd (let t = ap (λ (x : Ended). x.status) is in omega (arith, t, st))
   name_done (Keys k is_c n named before answer loaded wrong is) st p = absurd (let t = ap (λ (x : Ended). x.status) is in omega (arith, t, st))
-  name_done (Run k is_c given loaded s reads is) st p = absurd (let t = ap (λ (x : Ended). x.status) is in omega (arith, t, st))
+  name_done (Run k is_c given loaded s reads is) st p = absurd (let t = ap (λ (x : Ended). x.status) is in let z = success_zero k s in omega (arith, t, z, st))
 
   place_done : Came contents c r r' e → e.status ≡ 6 → PutsText puts e.text puts' → PutsPlace c r.loads r'.loads puts puts'
   place_done (Usage none same is) st p = absurd (let t = ap (λ (x : Ended). x.status) is in omega (arith, t, st))
@@ -67,7 +71,7 @@ module _ (contents : Option (List ℕ → Option (List ℕ))) (c : Option Comman
   place_done (Want k is_c is) st p = absurd (let t = ap (λ (x : Ended). x.status) is in omega (arith, t, st))
   place_done (Place k is_c n named before answer loaded place wrong is) st p = record { command = k; read_as = is_c; name = n; named = named; before = before; answer = answer; loaded = loaded; place = place; wrong = wrong; prints = subst (λ (x : Ended). PutsText puts x.text puts') is p }
   place_done (Keys k is_c n named before answer loaded wrong is) st p = absurd (let t = ap (λ (x : Ended). x.status) is in omega (arith, t, st))
-  place_done (Run k is_c given loaded s reads is) st p = absurd (let t = ap (λ (x : Ended). x.status) is in omega (arith, t, st))
+  place_done (Run k is_c given loaded s reads is) st p = absurd (let t = ap (λ (x : Ended). x.status) is in let z = success_zero k s in omega (arith, t, z, st))
 
   keys_done : Came contents c r r' e → e.status ≡ 7 → PutsText puts e.text puts' → PutsKeys c r.loads r'.loads puts puts'
   keys_done (Usage none same is) st p = absurd (let t = ap (λ (x : Ended). x.status) is in omega (arith, t, st))
@@ -76,7 +80,7 @@ module _ (contents : Option (List ℕ → Option (List ℕ))) (c : Option Comman
   keys_done (Want k is_c is) st p = absurd (let t = ap (λ (x : Ended). x.status) is in omega (arith, t, st))
   keys_done (Place k is_c n named before answer loaded place wrong is) st p = absurd (let t = ap (λ (x : Ended). x.status) is in omega (arith, t, st))
   keys_done (Keys k is_c n named before answer loaded wrong is) st p = record { command = k; read_as = is_c; name = n; named = named; before = before; answer = answer; loaded = loaded; wrong = wrong; prints = subst (λ (x : Ended). PutsText puts x.text puts') is p }
-  keys_done (Run k is_c given loaded s reads is) st p = absurd (let t = ap (λ (x : Ended). x.status) is in omega (arith, t, st))
+  keys_done (Run k is_c given loaded s reads is) st p = absurd (let t = ap (λ (x : Ended). x.status) is in let z = success_zero k s in omega (arith, t, z, st))
 
   memory_due : Came contents c r r' e → e.status ≡ 5 → e.text ≡ memory_end.text
   memory_due (Usage none same is) st = absurd (let t = ap (λ (x : Ended). x.status) is in omega (arith, t, st))
@@ -85,7 +89,7 @@ module _ (contents : Option (List ℕ → Option (List ℕ))) (c : Option Comman
   memory_due (Want k is_c is) st = ap (λ (x : Ended). x.text) is
   memory_due (Place k is_c n named before answer loaded place wrong is) st = absurd (let t = ap (λ (x : Ended). x.status) is in omega (arith, t, st))
   memory_due (Keys k is_c n named before answer loaded wrong is) st = absurd (let t = ap (λ (x : Ended). x.status) is in omega (arith, t, st))
-  memory_due (Run k is_c given loaded s reads is) st = absurd (let t = ap (λ (x : Ended). x.status) is in omega (arith, t, st))
+  memory_due (Run k is_c given loaded s reads is) st = absurd (let t = ap (λ (x : Ended). x.status) is in let z = success_zero k s in omega (arith, t, z, st))
 
   never_four : Came contents c r r' e → e.status ≢ 4
   never_four (Usage none same is) st = absurd (let t = ap (λ (x : Ended). x.status) is in omega (arith, t, st))
@@ -94,7 +98,7 @@ module _ (contents : Option (List ℕ → Option (List ℕ))) (c : Option Comman
   never_four (Want k is_c is) st = absurd (let t = ap (λ (x : Ended). x.status) is in omega (arith, t, st))
   never_four (Place k is_c n named before answer loaded place wrong is) st = absurd (let t = ap (λ (x : Ended). x.status) is in omega (arith, t, st))
   never_four (Keys k is_c n named before answer loaded wrong is) st = absurd (let t = ap (λ (x : Ended). x.status) is in omega (arith, t, st))
-  never_four (Run k is_c given loaded s reads is) st = absurd (let t = ap (λ (x : Ended). x.status) is in omega (arith, t, st))
+  never_four (Run k is_c given loaded s reads is) st = absurd (let t = ap (λ (x : Ended). x.status) is in let z = success_zero k s in omega (arith, t, z, st))
 
   rose_due : Came contents c r r' e → e.status ≡ 3 → IfNone contents (Rose r.faults r'.faults)
   rose_due (Usage none same is) st = absurd (let t = ap (λ (x : Ended). x.status) is in omega (arith, t, st))
@@ -103,11 +107,15 @@ module _ (contents : Option (List ℕ → Option (List ℕ))) (c : Option Comman
   rose_due (Want k is_c is) st = absurd (let t = ap (λ (x : Ended). x.status) is in omega (arith, t, st))
   rose_due (Place k is_c n named before answer loaded place wrong is) st = absurd (let t = ap (λ (x : Ended). x.status) is in omega (arith, t, st))
   rose_due (Keys k is_c n named before answer loaded wrong is) st = absurd (let t = ap (λ (x : Ended). x.status) is in omega (arith, t, st))
-  rose_due (Run k is_c given loaded s reads is) st = absurd (let t = ap (λ (x : Ended). x.status) is in omega (arith, t, st))
+  rose_due (Run k is_c given loaded s reads is) st = absurd (let t = ap (λ (x : Ended). x.status) is in let z = success_zero k s in omega (arith, t, z, st))
 
 -- each load, however far the call came
+script_part : (contents : Option (List ℕ → Option (List ℕ))) (c : CommandSeen) (s : ScriptSeen) (b r' : Reads) (e : Ended) → ScriptEnd contents c s b r' e → FurtherPart contents c b r'
+script_part contents (Replay n) s b r' e (res, takes, ends) = inr (res, takes)
+script_part contents (Check name) s b r' e h = inl h.0
+
 read_part : (contents : Option (List ℕ → Option (List ℕ))) (c : CommandSeen) (b r' : Reads) (read : Result ScriptSeen ScriptFault) (e : Ended) → ReadEnd contents c b r' read e → FurtherPart contents c b r'
-read_part contents c b r' (Ok s) e (res, takes, ends) = inr (res, takes)
+read_part contents c b r' (Ok s) e h = script_part contents c s b r' e h
 read_part contents c b r' (Err f) e (same, is) = inl same
 
 answer_part : (contents : Option (List ℕ → Option (List ℕ))) (c : CommandSeen) (b r' : Reads) (answer : Result (Vec ℕ) LoadFault) (e : Ended) → AnswerEnd contents c b r' answer e → FurtherPart contents c b r'
@@ -123,67 +131,104 @@ comes_part contents (Some c) r r' e h = record { answer = h.answer; between = h.
 
 -- ---- what was put and saved, by the status
 
-module _ (name : Option (List ℕ)) (e : Ended) (w w' : Writes) (o o' : Outputs) (status : ℕ) where
-  closes : status ≢ 0 → status ≢ 4 → status ≢ 5 → Closing name e w w' o o' status → (e.status ≡ status) × PutsText o.puts e.text o'.puts
+-- a file is among so many
+some_named : (names : List (List ℕ)) (files front : List ToSave) (f : ToSave) (rest : List ToSave) → length files ≤ length names → files ≡ front ++ f ∷ rest → names ≢ []
+some_named [] files front f rest few are = λ q. by files few are
+  where
+    by : (x : List ToSave) → length x ≤ 0 → x ≡ front ++ f ∷ rest → ⊥
+    by [] h is = absurd (some_file front f rest (sym is))
+    by (g ∷ x) h is = absurd (omega (arith, h))
+some_named (n ∷ names) files front f rest few are = λ q. cc
+
+-- where one is to be saved at most, none is saved before it
+front_empty : (files front : List ToSave) (f : ToSave) (rest : List ToSave) → length files ≤ 1 → files ≡ front ++ f ∷ rest → front ≡ []
+front_empty files [] f rest few are = refl
+front_empty files (g ∷ front) f rest few are = absurd (by front few are)
+  where
+    by : (x : List ToSave) → length files ≤ 1 → files ≡ g ∷ (x ++ f ∷ rest) → ⊥
+    by [] h is = let q = ap (λ (y : List ToSave). length y) is in omega (arith, q, h)
+    by (y ∷ x) h is = let q = ap (λ (y : List ToSave). length y) is in omega (arith, q, h)
+
+none_of : (files : List ToSave) → length files ≤ 0 → files ≡ []
+none_of [] h = refl
+none_of (f ∷ files) h = absurd (omega (arith, h))
+
+module _ (names : List (List ℕ)) (e : Ended) (few : length e.files ≤ length names) (w w' : Writes) (o o' : Outputs) (status : ℕ) where
+  closes : status ≢ 0 → status ≢ 4 → status ≢ 5 → Closing e w w' o o' status → (e.status ≡ status) × PutsText o.puts e.text o'.puts
   closes x0 x4 x5 (Told puts not_zero is kept) = (sym is, (Ok tt, (λ q. cc), puts.noted))
   closes x0 x4 x5 (Lost puts is kept) = elim (unput e.status status is) [ inl x ↦ absurd (x4 x.1) | inr x ↦ (sym x.1, (Err put.Failed, (λ q. cc), puts.noted)) ]
   closes x0 x4 x5 (Wanting b puts want kept) = absurd (x5 want.0)
   closes x0 x4 x5 (Whole puts zero is saved) = absurd (x0 is)
-  closes x0 x4 x5 (Unsaved n b answer named zero puts saves not_want last four) = absurd (x4 four)
-  closes x0 x4 x5 (WantingAfter n b b' named zero puts kept which want) = absurd (x5 want.0)
+  closes x0 x4 x5 (Unsaved front f rest m b answer are all zero puts saves not_want last four) = absurd (x4 four)
+  closes x0 x4 x5 (WantingAfter front f rest m b b' are all zero puts kept which want) = absurd (x5 want.0)
 
-  closes_whole : status ≡ 0 → Closing name e w w' o o' status → (e.status ≡ 0) × PutsOnce o.puts e.text (Ok tt) o'.puts × AllSaved name w w'
+  closes_whole : status ≡ 0 → Closing e w w' o o' status → (e.status ≡ 0) × PutsOnce o.puts e.text (Ok tt) o'.puts × AllSaved e.files w w' × Gains o.told e.text o'.told
   closes_whole zero (Told puts not_zero is kept) = absurd (not_zero (sym is ∙ zero))
   closes_whole zero (Lost puts is kept) = absurd (never_zero e.status status is zero)
   closes_whole zero (Wanting b puts want kept) = absurd (let q = want.0 in omega (arith, zero, q))
-  closes_whole zero (Whole puts is_zero is saved) = (is_zero, puts.noted, saved)
-  closes_whole zero (Unsaved n b answer named is_zero puts saves not_want last four) = absurd (omega (arith, zero, four))
-  closes_whole zero (WantingAfter n b b' named is_zero puts kept which want) = absurd (let q = want.0 in omega (arith, zero, q))
+  closes_whole zero (Whole puts is_zero is saved) = (is_zero, puts.noted, saved, puts.told)
+  closes_whole zero (Unsaved front f rest m b answer are all is_zero puts saves not_want last four) = absurd (omega (arith, zero, four))
+  closes_whole zero (WantingAfter front f rest m b b' are all is_zero puts kept which want) = absurd (let q = want.0 in omega (arith, zero, q))
+
+  -- a file is to be saved
+  named : (front : List ToSave) (f : ToSave) (rest : List ToSave) → e.files ≡ front ++ f ∷ rest → names ≢ []
+  named front f rest are = some_named names e.files front f rest few are
+
+  -- where none is to be saved, all were
+  none_named : names ≡ [] → AllSaved e.files w w' → w' ≡ w
+  none_named none saved =
+      let zero : length e.files ≤ 0 = (let q = ap (λ (x : List (List ℕ)). length x) none in omega (arith, q, few)) in
+      subst (λ (x : List ToSave). AllSaved x w w') (none_of e.files zero) saved
 
   -- nothing was saved
-  keeps : SavesNothing name status → Closing name e w w' o o' status → w' ≡ w
+  keeps : SavesNothing names status → Closing e w w' o o' status → w' ≡ w
   keeps h (Told puts not_zero is kept) = kept
   keeps h (Lost puts is kept) = kept
   keeps h (Wanting b puts want kept) = kept
-  keeps (inl none) (Whole puts zero is saved) = subst (λ (x : Option (List ℕ)). AllSaved x w w') none saved
+  keeps (inl none) (Whole puts zero is saved) = none_named none saved
   keeps (inr h) (Whole puts zero is saved) = absurd (h.0 is)
-  keeps (inl none) (Unsaved n b answer named zero puts saves not_want last four) = absurd (cc)
-  keeps (inr h) (Unsaved n b answer named zero puts saves not_want last four) = absurd (h.1 four)
-  keeps (inl none) (WantingAfter n b b' named zero puts kept which want) = absurd (cc)
-  keeps (inr h) (WantingAfter n b b' named zero puts kept which want) = absurd (h.2 want.0)
+  keeps (inl none) (Unsaved front f rest m b answer are all zero puts saves not_want last four) = absurd (named front f rest are none)
+  keeps (inr h) (Unsaved front f rest m b answer are all zero puts saves not_want last four) = absurd (h.1 four)
+  keeps (inl none) (WantingAfter front f rest m b b' are all zero puts kept which want) = absurd (named front f rest are none)
+  keeps (inr h) (WantingAfter front f rest m b b' are all zero puts kept which want) = absurd (h.2 want.0)
+
+  -- before the only file nothing was saved
+  first_kept : length names ≤ 1 → (front : List ToSave) (f : ToSave) (rest : List ToSave) (m : Writes) → e.files ≡ front ++ f ∷ rest → AllSaved front w m → m.contents ≡ w.contents
+  first_kept one front f rest m are all =
+      ap (λ (x : Writes). x.contents) (subst (λ (x : List ToSave). AllSaved x w m) (front_empty e.files front f rest (omega (arith, few, one)) are) all)
 
   -- what files have is as before
-  same_contents : (name ≡ None) ⊎ (status ≢ 0) → Closing name e w w' o o' status → w'.contents ≡ w.contents
-  same_contents h (Told puts not_zero is kept) = ap (λ (x : Writes). x.contents) kept
-  same_contents h (Lost puts is kept) = ap (λ (x : Writes). x.contents) kept
-  same_contents h (Wanting b puts want kept) = ap (λ (x : Writes). x.contents) kept
-  same_contents (inl none) (Whole puts zero is saved) = ap (λ (x : Writes). x.contents) (subst (λ (x : Option (List ℕ)). AllSaved x w w') none saved)
-  same_contents (inr h) (Whole puts zero is saved) = absurd (h is)
-  same_contents h (Unsaved n b answer named zero puts saves not_want last four) = saves.kept
-  same_contents h (WantingAfter n b b' named zero puts kept which want) = kept
+  same_contents : ChangesNothing names status → Closing e w w' o o' status → w'.contents ≡ w.contents
+  same_contents (inl h) k = ap (λ (x : Writes). x.contents) (keeps h k)
+  same_contents (inr h) (Told puts not_zero is kept) = ap (λ (x : Writes). x.contents) kept
+  same_contents (inr h) (Lost puts is kept) = ap (λ (x : Writes). x.contents) kept
+  same_contents (inr h) (Wanting b puts want kept) = ap (λ (x : Writes). x.contents) kept
+  same_contents (inr h) (Whole puts zero is saved) = absurd (h.1 is)
+  same_contents (inr h) (Unsaved front f rest m b answer are all zero puts saves not_want last four) = saves.kept ∙ first_kept h.0 front f rest m are all
+  same_contents (inr h) (WantingAfter front f rest m b b' are all zero puts kept which want) = kept ∙ first_kept h.0 front f rest m are all
 
-  one_put : (name ≡ None) ⊎ (status ≢ 4) → status ≢ 5 → Closing name e w w' o o' status → (p : Put) × (o'.puts ≡ o.puts ++ p ∷ [])
+  one_put : (names ≡ []) ⊎ (status ≢ 4) → status ≢ 5 → Closing e w w' o o' status → (p : Put) × (o'.puts ≡ o.puts ++ p ∷ [])
   one_put h x5 (Told puts not_zero is kept) = (_, puts.noted)
   one_put h x5 (Lost puts is kept) = (_, puts.noted)
   one_put h x5 (Wanting b puts want kept) = absurd (x5 want.0)
   one_put h x5 (Whole puts zero is saved) = (_, puts.noted)
-  one_put (inl none) x5 (Unsaved n b answer named zero puts saves not_want last four) = absurd (cc)
-  one_put (inr h) x5 (Unsaved n b answer named zero puts saves not_want last four) = absurd (h four)
-  one_put h x5 (WantingAfter n b b' named zero puts kept which want) = absurd (x5 want.0)
+  one_put (inl none) x5 (Unsaved front f rest m b answer are all zero puts saves not_want last four) = absurd (named front f rest are none)
+  one_put (inr h) x5 (Unsaved front f rest m b answer are all zero puts saves not_want last four) = absurd (h four)
+  one_put h x5 (WantingAfter front f rest m b b' are all zero puts kept which want) = absurd (x5 want.0)
 
   -- two puts
   then_put : (a b d : List Put) (p q : Put) → b ≡ a ++ p ∷ [] → d ≡ b ++ q ∷ [] → d ≡ a ++ p ∷ q ∷ []
   then_put a b d p q g h = h ∙ ap (λ (x : List Put). x ++ q ∷ []) g ∙ append_assoc a (p ∷ []) (q ∷ [])
 
-  some_put : Closing name e w w' o o' status → (p : Put) × (more : List Put) × (o'.puts ≡ o.puts ++ p ∷ more)
+  some_put : Closing e w w' o o' status → (p : Put) × (more : List Put) × (o'.puts ≡ o.puts ++ p ∷ more)
   some_put (Told puts not_zero is kept) = (_, [], puts.noted)
   some_put (Lost puts is kept) = (_, [], puts.noted)
   some_put (Wanting b puts (five, answer, last) kept) = (_, _, then_put o.puts b.puts o'.puts _ _ puts.noted last.noted)
   some_put (Whole puts zero is saved) = (_, [], puts.noted)
-  some_put (Unsaved n b answer named zero puts saves not_want last four) = (_, _, then_put o.puts b.puts o'.puts _ _ puts.noted last.noted)
-  some_put (WantingAfter n b b' named zero puts kept (inl same) (five, answer, last)) =
+  some_put (Unsaved front f rest m b answer are all zero puts saves not_want last four) = (_, _, then_put o.puts b.puts o'.puts _ _ puts.noted last.noted)
+  some_put (WantingAfter front f rest m b b' are all zero puts kept (inl same) (five, answer, last)) =
       (_, _, then_put o.puts b.puts o'.puts _ _ puts.noted (last.noted ∙ ap (λ (x : Outputs). x.puts ++ record { bytes = memory_end.text; answer = answer } ∷ []) same))
-  some_put (WantingAfter n b b' named zero puts kept (inr lost) (five, answer, last)) = (
+  some_put (WantingAfter front f rest m b b' are all zero puts kept (inr lost) (five, answer, last)) = (
     _,
     _,
     last.noted ∙ ap (λ (x : List Put). x ++ record { bytes = memory_end.text; answer = answer } ∷ []) (then_put o.puts b.puts b'.puts _ _ puts.noted lost.noted)
@@ -191,7 +236,7 @@ module _ (name : Option (List ℕ)) (e : Ended) (w w' : Writes) (o o' : Outputs)
   )
 
   -- want of memory was put, and nothing before it
-  alone_put : (answer : Result (Unit {0}) PutFault) → PutsOnce o.puts memory_end.text answer o'.puts → PutsMemory name o.puts o'.puts
+  alone_put : (answer : Result (Unit {0}) PutFault) → PutsOnce o.puts memory_end.text answer o'.puts → PutsMemory names o.puts o'.puts
   alone_put answer h = (
     [],
     [],
@@ -201,10 +246,10 @@ module _ (name : Option (List ℕ)) (e : Ended) (w w' : Writes) (o o' : Outputs)
     h ∙ ap (λ (x : List Put). x ++ record { bytes = memory_end.text; answer = answer } ∷ []) (sym (append-nil (o.puts ++ []) ∙ append-nil o.puts)),
   )
 
-  text_put : (answer : Result (Unit {0}) PutFault) → e.text ≡ memory_end.text → PutsOnce o.puts e.text answer o'.puts → PutsMemory name o.puts o'.puts
+  text_put : (answer : Result (Unit {0}) PutFault) → e.text ≡ memory_end.text → PutsOnce o.puts e.text answer o'.puts → PutsMemory names o.puts o'.puts
   text_put answer memory h = alone_put answer (subst (λ (x : List ℕ). PutsOnce o.puts x answer o'.puts) memory h)
 
-  memory_put : (e.status ≡ 5 → e.text ≡ memory_end.text) → status ≡ 5 → Closing name e w w' o o' status → PutsMemory name o.puts o'.puts
+  memory_put : (e.status ≡ 5 → e.text ≡ memory_end.text) → status ≡ 5 → Closing e w w' o o' status → PutsMemory names o.puts o'.puts
   memory_put memory five (Told puts not_zero is kept) = text_put (Ok tt) (memory (sym is ∙ five)) puts.noted
   memory_put memory five (Lost puts is kept) =
       elim (unput e.status status is) [ inl x ↦ absurd (let q = x.1 in omega (arith, q, five)) | inr x ↦ text_put (Err put.Failed) (memory (sym x.1 ∙ five)) puts.noted ]
@@ -218,55 +263,92 @@ module _ (name : Option (List ℕ)) (e : Ended) (w w' : Writes) (o o' : Outputs)
         (puts.noted ∙ ap (λ (x : List Put). x ++ record { bytes = e.text; answer = Err put.OutOfMemory } ∷ []) (sym (append-nil o.puts))),
   )
   memory_put memory five (Whole puts zero is saved) = absurd (omega (arith, is, five))
-  memory_put memory five (Unsaved n b answer named zero puts saves not_want last four) = absurd (omega (arith, four, five))
-  memory_put memory five (WantingAfter n b b' named zero puts kept (inl same) (f, answer, last)) = (
+  memory_put memory five (Unsaved front f rest m b answer are all zero puts saves not_want last four) = absurd (omega (arith, four, five))
+  memory_put memory five (WantingAfter front f rest m b b' are all zero puts kept (inl same) (five', answer, last)) = (
     _,
     [],
     answer,
-    inr ((λ q. cc), e.text, refl),
+    inr (named front f rest are, e.text, refl),
     inl refl,
     last.noted ∙ ap (λ (x : List Put). x ++ record { bytes = memory_end.text; answer = answer } ∷ [])
         (ap (λ (x : Outputs). x.puts) same ∙ puts.noted ∙ sym (append-nil (o.puts ++ record { bytes = e.text; answer = Ok tt } ∷ []))),
   )
-  memory_put memory five (WantingAfter n b b' named zero puts kept (inr lost) (f, answer, last)) = (
+  memory_put memory five (WantingAfter front f rest m b b' are all zero puts kept (inr lost) (five', answer, last)) = (
     _,
     _,
     answer,
-    inr ((λ q. cc), e.text, refl),
-    inr ((unwritten_end n).text, refl),
+    inr (named front f rest are, e.text, refl),
+    inr ((unwritten_end f.name).text, refl),
     last.noted ∙ ap (λ (x : List Put). x ++ record { bytes = memory_end.text; answer = answer } ∷ [])
-        (lost.noted ∙ ap (λ (x : List Put). x ++ record { bytes = (unwritten_end n).text; answer = Err put.OutOfMemory } ∷ []) puts.noted),
+        (lost.noted ∙ ap (λ (x : List Put). x ++ record { bytes = (unwritten_end f.name).text; answer = Err put.OutOfMemory } ∷ []) puts.noted),
   )
 
   -- why an output wasn't written
-  write_cause : (r r' : Reads) → e.status ≢ 4 → status ≡ 4 → Closing name e w w' o o' status
-      → WriteCause (record { reads = r.faults; writes = w.faults; puts = o.faults }) (record { reads = r'.faults; writes = w'.faults; puts = o'.faults }) name
+  write_cause : (r r' : Reads) → e.status ≢ 4 → status ≡ 4 → Closing e w w' o o' status
+      → WriteCause (record { reads = r.faults; writes = w.faults; puts = o.faults }) (record { reads = r'.faults; writes = w'.faults; puts = o'.faults }) names
   write_cause r r' never four (Told puts not_zero is kept) = absurd (never (sym is ∙ four))
   write_cause r r' never four (Lost puts is kept) = inl puts.cause
   write_cause r r' never four (Wanting b puts want kept) = absurd (let q = want.0 in omega (arith, q, four))
   write_cause r r' never four (Whole puts zero is saved) = absurd (omega (arith, is, four))
-  write_cause r r' never four (Unsaved n b answer named zero puts saves not_want last is) = inr ((λ q. cc), saves.cause)
-  write_cause r r' never four (WantingAfter n b b' named zero puts kept which want) = absurd (let q = want.0 in omega (arith, q, four))
+  write_cause r r' never four (Unsaved front f rest m b answer are all zero puts saves not_want last is) = inr (named front f rest are, rose_earlier w.faults m.faults w'.faults (saved_later front w m all) saves.cause)
+  write_cause r r' never four (WantingAfter front f rest m b b' are all zero puts kept which want) = absurd (let q = want.0 in omega (arith, q, four))
 
-  lost_done : (contents : Option (List ℕ → Option (List ℕ))) (c : Option CommandSeen) (r r' : Reads) → Came contents c r r' e → status ≡ 4 → Closing name e w w' o o' status
-      → PutsLost c name r.loads r'.loads w.saves w'.saves o.puts o'.puts
-  lost_done contents c r r' m four (Told puts not_zero is kept) = absurd (never_four contents c r r' e o.puts o'.puts m (sym is ∙ four))
-  lost_done contents c r r' m four (Lost puts is kept) =
+  lost_done : (contents : Option (List ℕ → Option (List ℕ))) (c : Option CommandSeen) (r r' : Reads) → Came contents c r r' e → status ≡ 4 → Closing e w w' o o' status
+      → PutsLost c r.loads r'.loads w w' o.puts o'.puts
+  lost_done contents c r r' h four (Told puts not_zero is kept) = absurd (never_four contents c r r' e o.puts o'.puts h (sym is ∙ four))
+  lost_done contents c r r' h four (Lost puts is kept) =
       elim (unput e.status status is) [
-        | inl x ↦ inl (run_done contents c r r' e o.puts o'.puts (Err put.Failed) m x.0 puts.noted, ap (λ (x : Writes). x.saves) kept)
-        | inr x ↦ absurd (never_four contents c r r' e o.puts o'.puts m (sym x.1 ∙ four))
+        | inl x ↦ inl ((run_done contents c r r' e o.puts o'.puts (Err put.Failed) h x.0 puts.noted).0, kept)
+        | inr x ↦ absurd (never_four contents c r r' e o.puts o'.puts h (sym x.1 ∙ four))
       ]
-  lost_done contents c r r' m four (Wanting b puts want kept) = absurd (let q = want.0 in omega (arith, q, four))
-  lost_done contents c r r' m four (Whole puts zero is saved) = absurd (omega (arith, is, four))
-  lost_done contents c r r' m four (Unsaved n b answer named zero puts saves not_want last is) = inr (record {
-    out = n;
-    named = named;
-    between = b.puts;
-    replies = run_done contents c r r' e o.puts b.puts (Ok tt) m zero puts.noted;
-    saved = saves.noted;
-    prints = (answer, not_want, last.noted);
-  })
-  lost_done contents c r r' m four (WantingAfter n b b' named zero puts kept which want) = absurd (let q = want.0 in omega (arith, q, four))
+  lost_done contents c r r' h four (Wanting b puts want kept) = absurd (let q = want.0 in omega (arith, q, four))
+  lost_done contents c r r' h four (Whole puts zero is saved) = absurd (omega (arith, is, four))
+  lost_done contents c r r' h four (Unsaved front f rest m b answer are all zero puts saves not_want last is) =
+      let (d, same) = run_done contents c r r' e o.puts b.puts (Ok tt) h zero puts.noted in
+      inr (record {
+        between = b.puts;
+        replies = d;
+        front = front;
+        out = f;
+        rest = rest;
+        are = ap (λ (x : Ended). x.files) (sym same) ∙ are;
+        before = m;
+        front_saved = all;
+        saved = saves.noted;
+        kept = saves.kept;
+        prints = (answer, not_want, last.noted);
+      })
+  lost_done contents c r r' h four (WantingAfter front f rest m b b' are all zero puts kept which want) = absurd (let q = want.0 in omega (arith, q, four))
+
+  -- what files have where not all was done
+  front_saved : (contents : Option (List ℕ → Option (List ℕ))) (c : Option CommandSeen) (r r' : Reads) (front : List ToSave) (f : ToSave) (rest : List ToSave) (m : Writes) (b : Outputs) → Came contents c r r' e
+      → e.files ≡ front ++ f ∷ rest → AllSaved front w m → e.status ≡ 0 → Puts e.text o (Ok tt) b → w'.contents ≡ m.contents → SavesFront c r.loads r'.loads w w'
+  front_saved contents c r r' front f rest m b h are all zero puts kept =
+      let (d, same) = run_done contents c r r' e o.puts b.puts (Ok tt) h zero puts.noted in
+      record {
+        command = d.command;
+        read_as = d.read_as;
+        given = d.given;
+        loaded = d.loaded;
+        script = d.script;
+        reads = d.reads;
+        front = front;
+        out = f;
+        rest = rest;
+        are = ap (λ (x : Ended). x.files) (sym same) ∙ are;
+        before = m;
+        front_saved = all;
+        kept = kept;
+      }
+
+  keeps_or_saves : (contents : Option (List ℕ → Option (List ℕ))) (c : Option CommandSeen) (r r' : Reads) → Came contents c r r' e → status ≢ 0 → Closing e w w' o o' status
+      → KeepsOrSaves c r.loads r'.loads w w'
+  keeps_or_saves contents c r r' h x0 (Told puts not_zero is kept) = inl (ap (λ (x : Writes). x.contents) kept)
+  keeps_or_saves contents c r r' h x0 (Lost puts is kept) = inl (ap (λ (x : Writes). x.contents) kept)
+  keeps_or_saves contents c r r' h x0 (Wanting b puts want kept) = inl (ap (λ (x : Writes). x.contents) kept)
+  keeps_or_saves contents c r r' h x0 (Whole puts zero is saved) = absurd (x0 is)
+  keeps_or_saves contents c r r' h x0 (Unsaved front f rest m b answer are all zero puts saves not_want last four) = inr (front_saved contents c r r' front f rest m b h are all zero puts saves.kept)
+  keeps_or_saves contents c r r' h x0 (WantingAfter front f rest m b b' are all zero puts kept which want) = inr (front_saved contents c r r' front f rest m b h are all zero puts kept)
 
 -- ---- the whole call
 
@@ -293,6 +375,12 @@ module _ (contents : Option (List ℕ → Option (List ℕ))) (c : Option Comman
   abbrev after : Faults
   after = record { reads = r'.faults; writes = w'.faults; puts = o'.faults }
 
+  abbrev names : List (List ℕ)
+  names = out_names c
+
+  few_of : (e : Ended) → Comes contents c r r' e → length e.files ≤ length names
+  few_of e comes = files_few contents c r r' e (came contents c r r' e comes)
+
   pub all_loads : Does → ComesPart contents c r r'
   all_loads (inl (e, comes, p)) = comes_part contents c r r' e comes
   all_loads (inr (part, kept, want)) = part
@@ -300,21 +388,22 @@ module _ (contents : Option (List ℕ → Option (List ℕ))) (c : Option Comman
   -- what a status that no put makes tells
   done_at : (s : ℕ) → s ≢ 0 → s ≢ 4 → s ≢ 5 → status ≡ s → Does → (e : Ended) × Came contents c r r' e × (e.status ≡ s) × PutsText o.puts e.text o'.puts
   done_at s x0 x4 x5 is (inl (e, comes, p)) =
-      let (own, text) = closes (out_name c) e w w' o o' status (λ q. x0 (sym is ∙ q)) (λ q. x4 (sym is ∙ q)) (λ q. x5 (sym is ∙ q)) (closing (out_name c) e w w' o o' status p) in
+      let (own, text) = closes names e (few_of e comes) w w' o o' status (λ q. x0 (sym is ∙ q)) (λ q. x4 (sym is ∙ q)) (λ q. x5 (sym is ∙ q)) (closing e w w' o o' status p) in
       (e, came contents c r r' e comes, own ∙ is, text)
   done_at s x0 x4 x5 is (inr (part, kept, want)) = absurd (x5 (sym is ∙ want.0))
 
-  done_zero : status ≡ 0 → Does → PutsRun c r.loads r'.loads o.puts o'.puts (Ok tt) × AllSaved (out_name c) w w'
+  done_zero : status ≡ 0 → Does → PutsAndSaved c r.loads r'.loads o.puts o'.puts w w'
   done_zero zero (inl (e, comes, p)) =
-      let (own, text, saved) = closes_whole (out_name c) e w w' o o' status zero (closing (out_name c) e w w' o o' status p) in
-      (run_done contents c r r' e o.puts o'.puts (Ok tt) (came contents c r r' e comes) own text, saved)
+      let (own, text, saved, gains) = closes_whole names e (few_of e comes) w w' o o' status zero (closing e w w' o o' status p) in
+      let (d, same) = run_done contents c r r' e o.puts o'.puts (Ok tt) (came contents c r r' e comes) own text in
+      (d, subst (λ (x : Ended). AllSaved x.files w w') same saved)
   done_zero zero (inr (part, kept, want)) = absurd (let q = want.0 in omega (arith, q, zero))
 
   pub put_run : Does → status ≡ 0 → PutsRun c r.loads r'.loads o.puts o'.puts (Ok tt)
   put_run d zero = (done_zero zero d).0
 
-  pub all_saved : Does → status ≡ 0 → AllSaved (out_name c) w w'
-  all_saved d zero = (done_zero zero d).1
+  pub all_saved : Does → status ≡ 0 → PutsAndSaved c r.loads r'.loads o.puts o'.puts w w'
+  all_saved d zero = done_zero zero d
 
   pub put_usage : Does → status ≡ 1 → PutsUsage c r.loads r'.loads o.puts o'.puts
   put_usage d s = let (e, m, own, text) = done_at 1 (λ q. omega (arith, q)) (λ q. omega (arith, q)) (λ q. omega (arith, q)) s d in usage_done contents c r r' e o.puts o'.puts m own text
@@ -331,40 +420,48 @@ module _ (contents : Option (List ℕ → Option (List ℕ))) (c : Option Comman
   pub put_keys : Does → status ≡ 7 → PutsKeys c r.loads r'.loads o.puts o'.puts
   put_keys d s = let (e, m, own, text) = done_at 7 (λ q. omega (arith, q)) (λ q. omega (arith, q)) (λ q. omega (arith, q)) s d in keys_done contents c r r' e o.puts o'.puts m own text
 
-  pub put_lost : Does → status ≡ 4 → PutsLost c (out_name c) r.loads r'.loads w.saves w'.saves o.puts o'.puts
-  put_lost (inl (e, comes, p)) s = lost_done (out_name c) e w w' o o' status contents c r r' (came contents c r r' e comes) s (closing (out_name c) e w w' o o' status p)
+  pub put_lost : Does → status ≡ 4 → PutsLost c r.loads r'.loads w w' o.puts o'.puts
+  put_lost (inl (e, comes, p)) s = lost_done names e (few_of e comes) w w' o o' status contents c r r' (came contents c r r' e comes) s (closing e w w' o o' status p)
   put_lost (inr (part, kept, want)) s = absurd (let q = want.0 in omega (arith, q, s))
 
-  pub put_memory : Does → status ≡ 5 → PutsMemory (out_name c) o.puts o'.puts
+  pub put_memory : Does → status ≡ 5 → PutsMemory names o.puts o'.puts
   put_memory (inl (e, comes, p)) s =
-      memory_put (out_name c) e w w' o o' status (memory_due contents c r r' e o.puts o'.puts (came contents c r r' e comes)) s (closing (out_name c) e w w' o o' status p)
-  put_memory (inr (part, kept, (five, answer, last))) s = alone_put (out_name c) memory_end w w' o o' status answer last.noted
+      memory_put names e (few_of e comes) w w' o o' status (memory_due contents c r r' e o.puts o'.puts (came contents c r r' e comes)) s (closing e w w' o o' status p)
+  put_memory (inr (part, kept, (five, answer, last))) s = alone_put names memory_end (omega arith) w w' o o' status answer last.noted
 
   abbrev Ends : (List ℕ → Option (List ℕ)) → Type 0
-  Ends k = EndsWith before after k c (out_name c) o.told o'.told status
+  Ends k = EndsWith before after k c o.told o'.told status
 
   pub all_ends : Does → IfSome contents Ends
   all_ends d = ends_with contents c r r' w w' o o' status d
 
-  pub told_run : Does → status ≡ 0 → IfSome contents (λ k. OneRun k c o.told o'.told)
-  told_run d s = if_some {P = Ends} {Q = λ k. OneRun k c o.told o'.told} contents (λ k h. endings.one_run before after k c (out_name c) o.told o'.told status s h) (all_ends d)
+  pub told_run : Does → status ≡ 0 → IfSome contents (λ k. OneRun k c o.told o'.told w w')
+  told_run (inl (e, comes, p)) zero = by contents comes
+    where
+      whole : (e.status ≡ 0) × PutsOnce o.puts e.text (Ok tt) o'.puts × AllSaved e.files w w' × Gains o.told e.text o'.told
+      whole = closes_whole names e (few_of e comes) w w' o o' status zero (closing e w w' o o' status p)
+
+      by : (k : Option (List ℕ → Option (List ℕ))) → Comes k c r r' e → IfSome k (λ k. OneRun k c o.told o'.told w w')
+      by None h = tt
+      by (Some k) h = endings.one_run before after k c o.told o'.told status zero e (told_ending before after k c r r' e refl refl h) whole.0 whole.3 w w' whole.2
+  told_run (inr (part, kept, want)) zero = absurd (let q = want.0 in omega (arith, q, zero))
 
   pub told_complete : Does → IfSome contents (λ k. IsComplete before after (ending_of k c) status)
-  told_complete d = if_some {P = Ends} {Q = λ k. IsComplete before after (ending_of k c) status} contents (λ k h. endings.complete before after k c (out_name c) o.told o'.told status h) (all_ends d)
+  told_complete d = if_some {P = Ends} {Q = λ k. IsComplete before after (ending_of k c) status} contents (λ k h. endings.complete before after k c o.told o'.told status h) (all_ends d)
 
   pub told_bad : Does → status ≡ 2 → IfSome contents (λ k. IsBadScript k c)
-  told_bad d s = if_some {P = Ends} {Q = λ k. IsBadScript k c} contents (λ k h. endings.bad_script before after k c (out_name c) o.told o'.told status s h) (all_ends d)
+  told_bad d s = if_some {P = Ends} {Q = λ k. IsBadScript k c} contents (λ k h. endings.bad_script before after k c o.told o'.told status s h) (all_ends d)
 
   pub told_container : Does → status ≡ 6 → IfSome contents (λ k. IsBadContainer k c)
-  told_container d s = if_some {P = Ends} {Q = λ k. IsBadContainer k c} contents (λ k h. endings.bad_container before after k c (out_name c) o.told o'.told status s h) (all_ends d)
+  told_container d s = if_some {P = Ends} {Q = λ k. IsBadContainer k c} contents (λ k h. endings.bad_container before after k c o.told o'.told status s h) (all_ends d)
 
   pub told_keys : Does → status ≡ 7 → IfSome contents (λ k. IsBadKeys k c)
-  told_keys d s = if_some {P = Ends} {Q = λ k. IsBadKeys k c} contents (λ k h. endings.bad_keys before after k c (out_name c) o.told o'.told status s h) (all_ends d)
+  told_keys d s = if_some {P = Ends} {Q = λ k. IsBadKeys k c} contents (λ k h. endings.bad_keys before after k c o.told o'.told status s h) (all_ends d)
 
-  pub told_fronts : Does → (status ≡ 4) ⊎ (status ≡ 5) → IfSome contents (λ k. PutsFronts o.told (success_text (ending_of k c)) (own_text (out_name c) status) o'.told)
+  pub told_fronts : Does → (status ≡ 4) ⊎ (status ≡ 5) → IfSome contents (λ k. PutsFronts o.told (ending_of k c) status o'.told)
   told_fronts d s =
-      if_some {P = Ends} {Q = λ k. PutsFronts o.told (success_text (ending_of k c)) (own_text (out_name c) status) o'.told} contents
-      (λ k h. endings.fronts before after k c (out_name c) o.told o'.told status s h) (all_ends d)
+      if_some {P = Ends} {Q = λ k. PutsFronts o.told (ending_of k c) status o'.told} contents
+      (λ k h. endings.fronts before after k c o.told o'.told status s h) (all_ends d)
 
   pub unread_cause : Does → status ≡ 3 → ReadCause contents c r.faults r'.faults
   unread_cause d s = by contents (all_ends d) rose
@@ -372,42 +469,47 @@ module _ (contents : Option (List ℕ → Option (List ℕ))) (c : Option Comman
       rose : IfNone contents (Rose r.faults r'.faults)
       rose = let (e, m, own, text) = done_at 3 (λ q. omega (arith, q)) (λ q. omega (arith, q)) (λ q. omega (arith, q)) s d in rose_due contents c r r' e o.puts o'.puts m own
 
-      by : (k : Option (List ℕ → Option (List ℕ))) → IfSome k (λ k. EndsWith before after k c (out_name c) o.told o'.told status) → IfNone k (Rose r.faults r'.faults) → ReadCause k c r.faults r'.faults
+      by : (k : Option (List ℕ → Option (List ℕ))) → IfSome k (λ k. EndsWith before after k c o.told o'.told status) → IfNone k (Rose r.faults r'.faults) → ReadCause k c r.faults r'.faults
       by None h n = n
-      by (Some k) h n = endings.unread before after k c (out_name c) o.told o'.told status s h
+      by (Some k) h n = endings.unread before after k c o.told o'.told status s h
 
-  pub lost_cause : Does → status ≡ 4 → WriteCause before after (out_name c)
+  pub lost_cause : Does → status ≡ 4 → WriteCause before after names
   lost_cause (inl (e, comes, p)) s =
-      write_cause (out_name c) e w w' o o' status r r' (never_four contents c r r' e o.puts o'.puts (came contents c r r' e comes)) s (closing (out_name c) e w w' o o' status p)
+      write_cause names e (few_of e comes) w w' o o' status r r' (never_four contents c r r' e o.puts o'.puts (came contents c r r' e comes)) s (closing e w w' o o' status p)
   lost_cause (inr (part, kept, want)) s = absurd (let q = want.0 in omega (arith, q, s))
 
   pub used : Does → c ≡ None → (status ≡ 1) ⊎ (status ≡ 5)
-  used (inl (e, comes, p)) none = by (closing (out_name c) e w w' o o' status p)
+  used (inl (e, comes, p)) none = by (closing e w w' o o' status p)
     where
       one : e.status ≡ 1
       one = usage_status contents c r r' e none (came contents c r r' e comes)
 
-      by : Closing (out_name c) e w w' o o' status → (status ≡ 1) ⊎ (status ≡ 5)
+      by : Closing e w w' o o' status → (status ≡ 1) ⊎ (status ≡ 5)
       by (Told puts not_zero is kept) = inl (is ∙ one)
       by (Lost puts is kept) = elim (unput e.status status is) [ inl x ↦ absurd (let q = x.0 in omega (arith, q, one)) | inr x ↦ inl (x.1 ∙ one) ]
       by (Wanting b puts want kept) = inr want.0
       by (Whole puts zero is saved) = absurd (omega (arith, zero, one))
-      by (Unsaved n b answer named zero puts saves not_want last four) = absurd (omega (arith, zero, one))
-      by (WantingAfter n b b' named zero puts kept which want) = absurd (omega (arith, zero, one))
+      by (Unsaved front f rest m b answer are all zero puts saves not_want last four) = absurd (omega (arith, zero, one))
+      by (WantingAfter front f rest m b b' are all zero puts kept which want) = absurd (omega (arith, zero, one))
   used (inr (part, kept, want)) none = inr want.0
 
-  pub one_text : Does → (out_name c ≡ None) ⊎ (status ≢ 4) → status ≢ 5 → (p : Put) × (o'.puts ≡ o.puts ++ p ∷ [])
-  one_text (inl (e, comes, p)) h x5 = one_put (out_name c) e w w' o o' status h x5 (closing (out_name c) e w w' o o' status p)
+  pub one_text : Does → (names ≡ []) ⊎ (status ≢ 4) → status ≢ 5 → (p : Put) × (o'.puts ≡ o.puts ++ p ∷ [])
+  one_text (inl (e, comes, p)) h x5 = one_put names e (few_of e comes) w w' o o' status h x5 (closing e w w' o o' status p)
   one_text (inr (part, kept, want)) h x5 = absurd (x5 want.0)
 
   pub some_text : Does → (p : Put) × (more : List Put) × (o'.puts ≡ o.puts ++ p ∷ more)
-  some_text (inl (e, comes, p)) = some_put (out_name c) e w w' o o' status (closing (out_name c) e w w' o o' status p)
+  some_text (inl (e, comes, p)) = some_put names e (few_of e comes) w w' o o' status (closing e w w' o o' status p)
   some_text (inr (part, kept, (five, answer, last))) = (_, [], last.noted)
 
-  pub same_files : Does → (out_name c ≡ None) ⊎ (status ≢ 0) → w'.contents ≡ w.contents
-  same_files (inl (e, comes, p)) h = same_contents (out_name c) e w w' o o' status h (closing (out_name c) e w w' o o' status p)
+  pub same_files : Does → ChangesNothing names status → w'.contents ≡ w.contents
+  same_files (inl (e, comes, p)) h = same_contents names e (few_of e comes) w w' o o' status h (closing e w w' o o' status p)
   same_files (inr (part, kept, want)) h = ap (λ (x : Writes). x.contents) kept
 
-  pub none_saved : Does → SavesNothing (out_name c) status → w' ≡ w
-  none_saved (inl (e, comes, p)) h = keeps (out_name c) e w w' o o' status h (closing (out_name c) e w w' o o' status p)
+  pub kept_or_saved : Does → status ≢ 0 → KeepsOrSaves c r.loads r'.loads w w'
+  kept_or_saved (inl (e, comes, p)) x0 =
+      keeps_or_saves names e (few_of e comes) w w' o o' status contents c r r' (came contents c r r' e comes) x0 (closing e w w' o o' status p)
+  kept_or_saved (inr (part, kept, want)) x0 = inl (ap (λ (x : Writes). x.contents) kept)
+
+  pub none_saved : Does → SavesNothing names status → w' ≡ w
+  none_saved (inl (e, comes, p)) h = keeps names e (few_of e comes) w w' o o' status h (closing e w w' o o' status p)
   none_saved (inr (part, kept, want)) h = kept

@@ -1,4 +1,5 @@
 pub mod Built
+pub mod Counts
 pub mod Part
 pub mod Due
 pub mod Closing

@@ -1,5 +1,5 @@
 -- What is left of a run, turn by turn, and what is printed at its end.
-use Rattle.std.proofs.Common.{◌≡◌, ◌≢◌, ◌⊎◌, inl, inr, refl, sym, ◌∙◌, ap, subst, ℕ, zero, suc, ◌+◌, ◌<◌, ◌≤◌, List, [], ◌∷◌, ◌++◌, length, get_or, set, take, drop, map, None, Result, Ok, Err, IfOk, true, false, not, ◌==◌, arith, append-nil, append_assoc, add-one}
+use Rattle.std.proofs.Common.{◌≡◌, ◌≢◌, ◌⊎◌, inl, inr, refl, sym, ◌∙◌, ap, subst, ℕ, zero, suc, ◌+◌, ◌<◌, ◌≤◌, List, [], ◌∷◌, ◌++◌, length, get_or, set, take, drop, map, Option, None, Result, Ok, Err, IfOk, true, false, not, ◌==◌, arith, append-nil, append_assoc, add-one}
 use Rattle.std.proofs.Math.Seq.{drop-cons}
 use Rattle.std.proofs.lemmas.Bool.Decides.{eqb_tells}
 use Rattle.std.proofs.lemmas.List.{set-get_or, length-map, length-take-le, take_more, map_push}
@@ -10,12 +10,14 @@ use Rattle.std.specs.List.{concat}
 use Rattle.td_words.specs.declared.machines.Machine.{Machine}
 use Rattle.td_words.specs.declared.calls.Call.{Call}
 use Rattle.td_words.specs.declared.replies.Reply.{Reply}
-use Rattle.flat_core.specs.Processor.{Lp}
+use Rattle.flat_core.specs.Processor.{Lp, Note}
 use Rattle.td_words.specs.Limits.{IsMachine}
 use Rattle.flat_core.specs.Opening.{Opening}
 use Rattle.flat_core.specs.Event.{State, start, lines_left}
 use Rattle.flat_core.specs.Run.{play, run, to_the_end}
-use Rattle.report_text.specs.Lines.{reply_lines}
+use Rattle.report_text.specs.Lines.{reply_lines, note_line}
+use Rattle.report_text.specs.declared.guest.GuestNote.{GuestNote}
+use Rattle.flat_core.specs.GuestText.{note_told, notes_from, notes_of, guest_text}
 use Rattle.flat_core.specs.HostText.{lines_from, text_of, host_text}
 use Rattle.flat_core.proofs.Induction.{counts_stay}
 use Rattle.step_core.specs.Words.{after_step}
@@ -32,6 +34,7 @@ use Rattle.leaf_engine.specs.declared.events.Event.{Event}
 use Rattle.leaf_engine.specs.declared.processors.Turn.{Turn}
 use Rattle.leaf_engine.specs.declared.processors.Turn.TheVariants as turn
 use Rattle.leaf_engine.specs.Processors.{Turned, has_moved}
+use Rattle.leaf_engine.specs.Besides.{Beside}
 use Rattle.leaf_engine.specs.OwnLists.{Piece, taken_in, WordLp, first_lp, LpTurns}
 use Rattle.leaf_engine.specs.Merges.{Item, order, no_table}
 use Rattle.merge_laws.specs.Merge.{Merge}
@@ -44,8 +47,9 @@ use Rattle.leaf_dispatch.specs.Bounds.{events_left}
 use Rattle.leaf_dispatch.specs.declared.states.LpState.{LpState}
 use Rattle.script_text.specs.Seen.{ScriptSeen}
 use Rattle.script_text.specs.Laws.{IsInForm}
-use Rattle.script_runner.specs.Ending.{opening_of}
-use Rattle.script_runner.specs.Replaying.{AreNumbered, AreFirst, IsMidway, only_bench, IsAtBench, HaveEnded, TurnsAreEvents, seen_at, lines_seen}
+use Rattle.script_runner.specs.Ending.{opening_of, file_named}
+use Rattle.script_runner.specs.Replaying.{AreNumbered, AreFirst, IsMidway, only_bench, IsAtBench, HaveEnded, TurnsAreEvents, seen_at, lines_seen, notes_seen, TellAll}
+use Rattle.script_runner.specs.declared.replay.Texts.{Texts}
 use Rattle.script_runner.proofs.RunningOut.{one-more-item, idle-item}
 use Rattle.script_runner.proofs.Turning.{made_by, one-event, merge-more, order-more}
 use Rattle.script_runner.proofs.Places.{seen-at, seen-own, seen-other, place-at, numbered-set, first-count, first-numbered, first-seen, first-more}
@@ -218,6 +222,20 @@ same-lines (suc n) p f (s ∷ ss) e h =
     ap (λ (rs : List Reply). reply_lines p 1 rs ++ lines_from n (p + 1) f) here
     ∙ ap (λ zs. reply_lines p 1 (seen_of s).replies ++ zs) (same-lines n (p + 1) f ss (omega (arith, e)) (λ q i. ap (λ (k : ℕ). (f k).replies) (omega arith) ∙ h (suc q) (omega arith)))
 
+told-lines : (p : ℕ) (ns : List Note) → map (λ n. note_line p (note_told n)) ns ≡ map (note_line p) (map note_told ns)
+told-lines p [] = refl
+told-lines p (n ∷ ns) = ap (λ (zs : List (List ℕ)). note_line p (note_told n) ∷ zs) (told-lines p ns)
+
+same-notes : (n p : ℕ) (f : ℕ → Lp) (lps : List LpState) → length lps ≡ n → ((q : ℕ) → q < n → (f (p + q)).notes ≡ (seen_at lps q).beside.notes) → notes_from n p f ≡ notes_seen p lps
+same-notes zero p f [] e h = refl
+same-notes zero p f (s ∷ ss) e h = absurd (omega (arith, e))
+same-notes (suc n) p f [] e h = absurd (omega (arith, e))
+same-notes (suc n) p f (s ∷ ss) e h =
+    let here : (f p).notes ≡ (seen_of s).beside.notes = ap (λ (k : ℕ). (f k).notes) (omega arith) ∙ h 0 (omega arith) in
+    ap (λ (ns : List Note). map (λ n. note_line p (note_told n)) ns ++ notes_from n (p + 1) f) here
+    ∙ ap (λ (ls : List (List ℕ)). ls ++ notes_from n (p + 1) f) (told-lines p (seen_of s).beside.notes)
+    ∙ ap (λ zs. map (note_line p) (map note_told (seen_of s).beside.notes) ++ zs) (same-notes n (p + 1) f ss (omega (arith, e)) (λ q i. ap (λ (k : ℕ). (f k).notes) (omega arith) ∙ h (suc q) (omega arith)))
+
 -- one processor more
 pub first-next : (m : Machine) (lps : List LpState) (lists : List (Vec Call)) (i : ℕ) (v : Vec Call) (s : LpState) (cs : List Call) → i < length lists → v ≡ get_or lists i v → cs ≡ v.items
     → AreFirst m 0 lps (map (λ list. list.items) (take i lists)) → s.place ≡ record { machine = m; lp = i } → seen_of s ≡ first_lp cs → AreFirst m 0 (lps ++ s ∷ []) (map (λ list. list.items) (take (i + 1) lists))
@@ -239,6 +257,16 @@ lines-next lps i d text lines all rs inside replied printed so_far =
     ∙ (ap (λ x. text ++ (x ++ concat rest)) (printed ∙ ap (λ x. concat (reply_lines i 1 x)) replied)
     ∙ (ap (λ x. text ++ x) (sym (concat-append (reply_lines i 1 (seen_of (get_or lps i d)).replies) rest)) ∙ (ap (λ (x : List LpState). text ++ concat (lines_seen i x)) (sym here) ∙ so_far)))
 
+-- the notes of one processor more
+pub notes-next : (lps : List LpState) (i : ℕ) (d : LpState) (text lines all : List ℕ) (ns : List GuestNote) → i < length lps → ns ≡ map note_told (seen_of (get_or lps i d)).beside.notes → lines ≡ concat (map (note_line i) ns)
+    → text ++ concat (notes_seen i (drop i lps)) ≡ all → (text ++ lines) ++ concat (notes_seen (i + 1) (drop (i + 1) lps)) ≡ all
+notes-next lps i d text lines all ns inside noted printed so_far =
+    let here : drop i lps ≡ get_or lps i d ∷ drop (i + 1) lps = rw add-one (drop-cons lps i d inside) in
+    let rest : List (List ℕ) = notes_seen (i + 1) (drop (i + 1) lps) in
+    append_assoc text lines (concat rest)
+    ∙ (ap (λ x. text ++ (x ++ concat rest)) (printed ∙ ap (λ (x : List GuestNote). concat (map (note_line i) x)) noted)
+    ∙ (ap (λ x. text ++ x) (sym (concat-append (map (note_line i) (map note_told (seen_of (get_or lps i d)).beside.notes)) rest)) ∙ (ap (λ (x : List LpState). text ++ concat (notes_seen i x)) (sym here) ∙ so_far)))
+
 -- the bench of a table that was started
 pub first-bench : (b : BenchSeen) (m : Machine) (id : TableId) → b.machine ≡ m → b.pass ≡ first_pass id → b ≡ only_bench m id []
 first-bench b m id machine pass = λ i. record { machine = machine i; pass = pass i }
@@ -259,19 +287,41 @@ starts script m lists lps now id b machine calls same new h =
       midway = λ t play. at-start o script.schedule now t first play;
     }
 
-pub prints : {E : Type 0} (r : Result (Vec ℕ) E) (lines all : List ℕ) → IfOk r (λ v. v.items ≡ lines) → lines ≡ all → IfOk r (λ v. v.items ≡ all)
-prints (Ok v) lines all h e = h ∙ e
-prints (Err x) lines all h e = tt
+pub tells : {E : Type 0} (r : Result Texts E) (name : Option (List ℕ)) (lines all notes told : List ℕ) → IfOk r (λ t. TellAll name lines notes t) → lines ≡ all → notes ≡ told → IfOk r (λ t. TellAll name all told t)
+tells (Ok t) name lines all notes told h e f = (h.0 ∙ e, h.1 ∙ ap (λ (x : List ℕ). file_named name x) f)
+tells (Err x) name lines all notes told h e f = tt
 
 -- the close tells that the bench's list plays
-pub prints-all : TurnsAreEvents → (o : Opening) (schedule : List ℕ) (lps : List LpState) (id : TableId) (b : BenchSeen) (m : Machine) (words : List ℕ) → IsOpen o → IsAtBench o schedule [] lps id b → HaveEnded (length lps) lps → MergesTo m b.pass.lists words
-    → concat (lines_seen 0 lps) ≡ host_text o schedule
-unfolding host_text text_of
-prints-all ls o schedule lps id b m words op l ended closed =
-    let plays = alone m l.own words (subst (λ (z : List (List Taken)). MergesTo m z words) (ap (λ (z : BenchSeen). z.pass.lists) l.is) closed) in
-    let now = l.midway plays.0 plays.1 in
-    let there = ls.merges.ended o (leaf_table o.machine) now.made (seen_at lps) plays.0 op.few (ls.leaves o op.machine) (ls.enters o op.leaves) now.merge (λ p i. ended p (omega (arith, l.count))) in
-    let s : State = run o (order now.made) in
-    let lines : lines_from s.lp_count 0 s.lps ≡ lines_seen 0 lps =
-    same-lines s.lp_count 0 s.lps lps (l.count ∙ sym (counts_stay o (order now.made ++ to_the_end 0 o.calls) (start o None))) (λ q i. ap (λ (k : ℕ). (s.lps k).replies) (omega arith) ∙ there.1.replies q (omega (arith, counts_stay o (order now.made ++ to_the_end 0 o.calls) (start o None)))) in
-    ap concat (sym lines) ∙ ap text_of (ap (run o) (sym (append-nil (order now.made))) ∙ now.same)
+module _ (ls : TurnsAreEvents) (o : Opening) (schedule : List ℕ) (lps : List LpState) (id : TableId) (b : BenchSeen) (m : Machine) (words : List ℕ) (op : IsOpen o) (l : IsAtBench o schedule [] lps id b) (ended : HaveEnded (length lps) lps) (closed : MergesTo m b.pass.lists words) where
+  plays : (t : Table) × PlaysTo no_table l.own t
+  plays = alone m l.own words (subst (λ (z : List (List Taken)). MergesTo m z words) (ap (λ (z : BenchSeen). z.pass.lists) l.is) closed)
+
+  abbrev now : IsMidway o schedule [] lps plays.0
+  now = l.midway plays.0 plays.1
+
+  abbrev end : State
+  end = run o (order now.made)
+
+  there : IsWhere o (seen_at lps) end
+  there = (ls.merges.ended o (leaf_table o.machine) now.made (seen_at lps) plays.0 op.few (ls.leaves o op.machine) (ls.enters o op.leaves) now.merge (λ p i. ended p (omega (arith, l.count)))).1
+
+  count : end.lp_count ≡ length o.calls
+  count = counts_stay o (order now.made ++ to_the_end 0 o.calls) (start o None)
+
+  same : end ≡ run o schedule
+  same = ap (run o) (sym (append-nil (order now.made))) ∙ now.same
+
+  pub prints-all : concat (lines_seen 0 lps) ≡ host_text o schedule
+  unfolding host_text text_of
+  prints-all =
+      let lines : lines_from end.lp_count 0 end.lps ≡ lines_seen 0 lps =
+      same-lines end.lp_count 0 end.lps lps (l.count ∙ sym count) (λ q i. ap (λ (k : ℕ). (end.lps k).replies) (omega arith) ∙ there.replies q (omega (arith, count, i))) in
+      ap concat (sym lines) ∙ ap text_of same
+
+  -- what the guests noted stands beside the processors' lines
+  pub notes-all : concat (notes_seen 0 lps) ≡ guest_text o schedule
+  unfolding guest_text notes_of
+  notes-all =
+      let lines : notes_from end.lp_count 0 end.lps ≡ notes_seen 0 lps =
+      same-notes end.lp_count 0 end.lps lps (l.count ∙ sym count) (λ q i. ap (λ (k : ℕ). (end.lps k).notes) (omega arith) ∙ ap (λ (x : Beside). x.notes) (there.beside q (omega (arith, count, i)))) in
+      ap concat (sym lines) ∙ ap notes_of same

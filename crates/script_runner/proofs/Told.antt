@@ -16,11 +16,11 @@ use Rattle.command_files.specs.declared.inputs.Input.{Input}
 use Rattle.command_files.specs.declared.inputs.Input.TheVariants as input
 use Rattle.command_files.specs.declared.inputs.InputFault.{InputFault}
 use Rattle.command_files.specs.declared.inputs.InputFault.TheVariants as fault
-use Rattle.command_files.specs.Commands.{CommandSeen}
+use Rattle.command_files.specs.Commands.{NamedSeen, CommandSeen, Replay, Check, script_name}
 use Rattle.command_files.specs.Inputs.{Reads, Loads, LoadsNamed, LoadsKeys, TakesInputs, IsDue, due, load_fault, container_fault, keys_fault, place_fault}
 use Rattle.script_runner.specs.Ending.{Ended, bad_end, unread_end, name_in, held, absent_fault, container_wrong, keys_wrong, wrong_input, inputs_end, read_end, ending_of, without}
 use Rattle.script_runner.specs.Ends.{Faults, IsEnding}
-use Rattle.script_runner.specs.Commanded.{Comes, AnswerEnd, ReadEnd, InputsEnd}
+use Rattle.script_runner.specs.Commanded.{Comes, AnswerEnd, ReadEnd, ScriptEnd, InputsEnd}
 use Rattle.script_runner.proofs.Came.{loads_later, keys_later, rose_later, rose_earlier}
 
 -- ---- without a name
@@ -109,21 +109,21 @@ keys_agree contents (Some n) old (Some (Err load.OutOfMemory)) new l fine = absu
 -- ---- both inputs
 
 -- the ending is that of the fault that is due
-ends_by : (c : CommandSeen) (s : ScriptSeen) (d : Option InputFault) (res : Result (Unit {0}) InputFault) (e : Ended) → IsDue d res → InputsEnd c s res e → e ≡ inputs_end c s d
+ends_by : (c : NamedSeen) (s : ScriptSeen) (d : Option InputFault) (res : Result (Unit {0}) InputFault) (e : Ended) → IsDue d res → InputsEnd c s res e → e ≡ inputs_end c s d
 ends_by c s d (Ok t) e is h = rw is h
 ends_by c s d (Err (fault.Unread i)) e is h = rw is h
 ends_by c s d (Err (fault.Container place)) e is h = rw is h
 ends_by c s d (Err fault.Keys) e is h = rw is h
 ends_by c s d (Err fault.OutOfMemory) e is h = absurd h
 
-never_wanting : (c : CommandSeen) (s : ScriptSeen) (d : Option InputFault) (res : Result (Unit {0}) InputFault) (e : Ended) → d ≡ Some fault.OutOfMemory → IsDue d res → InputsEnd c s res e → ⊥
+never_wanting : (c : NamedSeen) (s : ScriptSeen) (d : Option InputFault) (res : Result (Unit {0}) InputFault) (e : Ended) → d ≡ Some fault.OutOfMemory → IsDue d res → InputsEnd c s res e → ⊥
 never_wanting c s d (Ok t) e want is h = cc
 never_wanting c s d (Err (fault.Unread i)) e want is h = cc
 never_wanting c s d (Err (fault.Container place)) e want is h = cc
 never_wanting c s d (Err fault.Keys) e want is h = cc
 never_wanting c s d (Err fault.OutOfMemory) e want is h = h
 
-module _ (contents : List ℕ → Option (List ℕ)) (c : CommandSeen) (s : ScriptSeen) (b r' : Reads) (res : Result (Unit {0}) InputFault) (e : Ended) where
+module _ (contents : List ℕ → Option (List ℕ)) (c : NamedSeen) (s : ScriptSeen) (b r' : Reads) (res : Result (Unit {0}) InputFault) (e : Ended) where
   -- reading an input failed
   record InputFailed : Type 0 where
     pub name : List ℕ
@@ -197,47 +197,52 @@ module _ (before after : Faults) (contents : List ℕ → Option (List ℕ)) (c 
   rises : Rose r.faults r'.faults → Rose before.reads after.reads
   rises h = rw (starts, stops) h
 
-  told_read : (bytes : List ℕ) (read : Result ScriptSeen ScriptFault) → contents c.script ≡ Some bytes → read_of bytes ≡ read → r.faults ≤ b.faults → ReadEnd (Some contents) c b r' read e
-      → IsEnding before after contents (Some c) e
-  told_read bytes (Ok s) there reads later (res, takes, ends) = by (told_inputs contents c s b r' res e takes ends)
+  told_script : (k : CommandSeen) (bytes : List ℕ) (s : ScriptSeen) → contents (script_name k) ≡ Some bytes → read_of bytes ≡ Ok s → r.faults ≤ b.faults → ScriptEnd (Some contents) k s b r' e
+      → IsEnding before after contents (Some k) e
+  told_script (Replay n) bytes s there reads later (res, takes, ends) = by (told_inputs contents n s b r' res e takes ends)
     where
-      by : (e ≡ inputs_end c s (wrong_input (held contents c.bundles) (held contents c.keys))) ⊎ InputFailed contents c s b r' res e → IsEnding before after contents (Some c) e
+      by : (e ≡ inputs_end n s (wrong_input (held contents n.bundles) (held contents n.keys))) ⊎ InputFailed contents n s b r' res e → IsEnding before after contents (Some (Replay n)) e
       by (inl is) = inl (rw (there, reads) is)
       by (inr f) = inr (record {
         name = f.name;
         told = f.told;
-        due = of (without_cases f.name c.script contents);
+        due = of (without_cases f.name n.script contents);
         rose = rises (rose_earlier r.faults b.faults r'.faults later f.rose);
       })
         where
-          of : (c.script ≡ f.name) ⊎ (without f.name contents c.script ≡ contents c.script) → e ≡ ending_of (without f.name contents) (Some c)
+          of : (n.script ≡ f.name) ⊎ (without f.name contents n.script ≡ contents n.script) → e ≡ ending_of (without f.name contents) (Some (Replay n))
           of (inl is) =
-              let lost : without f.name contents c.script ≡ None = subst (λ (x : List ℕ). without f.name contents x ≡ None) (sym is) (gone f.name contents) in
+              let lost : without f.name contents n.script ≡ None = subst (λ (x : List ℕ). without f.name contents x ≡ None) (sym is) (gone f.name contents) in
               rw lost (f.told ∙ ap unread_end (sym is))
           of (inr as_before) = rw (as_before, there, reads) f.due
+  told_script (Check name) bytes s there reads later (stay, is) = inl (rw (there, reads) is)
+
+  told_read : (bytes : List ℕ) (read : Result ScriptSeen ScriptFault) → contents (script_name c) ≡ Some bytes → read_of bytes ≡ read → r.faults ≤ b.faults → ReadEnd (Some contents) c b r' read e
+      → IsEnding before after contents (Some c) e
+  told_read bytes (Ok s) there reads later h = told_script c bytes s there reads later h
   told_read bytes (Err f) there reads later (same, is) = inl (rw (there, reads) is)
 
-  told_answer : (answer : Result (Vec ℕ) LoadFault) → Loads (Some contents) (2 ^ 24) c.script r answer b → AnswerEnd (Some contents) c b r' answer e → IsEnding before after contents (Some c) e
-  told_answer (Ok v) l h = by (contents c.script) refl l.told
+  told_answer : (answer : Result (Vec ℕ) LoadFault) → Loads (Some contents) (2 ^ 24) (script_name c) r answer b → AnswerEnd (Some contents) c b r' answer e → IsEnding before after contents (Some c) e
+  told_answer (Ok v) l h = by (contents (script_name c)) refl l.told
     where
-      by : (q : Option (List ℕ)) → contents c.script ≡ q → LoadsTold q (2 ^ 24) (Ok v) → IsEnding before after contents (Some c) e
+      by : (q : Option (List ℕ)) → contents (script_name c) ≡ q → LoadsTold q (2 ^ 24) (Ok v) → IsEnding before after contents (Some c) e
       by None there told = absurd told
       by (Some bytes) there told =
           told_read bytes (read_of bytes) there refl l.later (subst (λ (x : List ℕ). ReadEnd (Some contents) c b r' (read_of x) e) told.0 h)
-  told_answer (Err load.Absent) l (same, is) = by (contents c.script) refl l.told
+  told_answer (Err load.Absent) l (same, is) = by (contents (script_name c)) refl l.told
     where
-      by : (q : Option (List ℕ)) → contents c.script ≡ q → LoadsTold q (2 ^ 24) (Err load.Absent) → IsEnding before after contents (Some c) e
+      by : (q : Option (List ℕ)) → contents (script_name c) ≡ q → LoadsTold q (2 ^ 24) (Err load.Absent) → IsEnding before after contents (Some c) e
       by None there told = inl (rw there is)
       by (Some bytes) there told = absurd told
-  told_answer (Err load.TooLong) l (same, is) = by (contents c.script) refl l.told
+  told_answer (Err load.TooLong) l (same, is) = by (contents (script_name c)) refl l.told
     where
-      by : (q : Option (List ℕ)) → contents c.script ≡ q → LoadsTold q (2 ^ 24) (Err load.TooLong) → IsEnding before after contents (Some c) e
+      by : (q : Option (List ℕ)) → contents (script_name c) ≡ q → LoadsTold q (2 ^ 24) (Err load.TooLong) → IsEnding before after contents (Some c) e
       by None there told = absurd told
       by (Some bytes) there told = inl (rw there (is ∙ sym (long_script contents c bytes told)))
   told_answer (Err load.Failed) l (same, is) = inr (record {
-    name = c.script;
+    name = (script_name c);
     told = is;
-    due = rw (gone c.script contents) is;
+    due = rw (gone (script_name c) contents) is;
     rose = rises (subst (λ (x : Reads). Rose r.faults x.faults) (sym same) l.cause);
   })
   told_answer (Err load.OutOfMemory) l h = absurd h

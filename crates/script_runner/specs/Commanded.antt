@@ -1,5 +1,5 @@
 -- What a command comes to, with the files that its options name: what is loaded, put and saved.
-use Rattle.std.specs.Prelude.{◌≡◌, ◌≢◌, ◌⊎◌, ℕ, ◌^◌, ◌≤◌, List, [], ◌∷◌, ◌++◌, Option, Some, None, Result, Ok, Err, OnOk, OnErr}
+use Rattle.std.specs.Prelude.{◌≡◌, ◌≢◌, ◌⊎◌, ℕ, ◌^◌, ◌≤◌, List, [], ◌∷◌, Option, Some, None, Result, Ok, Err}
 use Rattle.std.specs.Global.{Vec}
 use Rattle.script_text.specs.declared.faults.Reason.TheVariants.{Length}
 use Rattle.script_text.specs.declared.faults.ScriptFault.{ScriptFault}
@@ -11,55 +11,64 @@ use Rattle.bundle_store.specs.declared.outside.SaveFault.{SaveFault}
 use Rattle.bundle_store.specs.declared.outside.SaveFault.TheVariants as save
 use Rattle.bundle_store.specs.declared.outside.PutFault.{PutFault}
 use Rattle.bundle_store.specs.declared.outside.PutFault.TheVariants as put
-use Rattle.bundle_store.specs.Outside.{SavesTold, SaveCause, PutsTold, PutCause}
-use Rattle.bundle_store.specs.History.{Saved, Put}
-use Rattle.bundle_store.specs.Containers.{container_bytes}
+use Rattle.bundle_store.specs.Outside.{PutsTold, PutCause}
+use Rattle.bundle_store.specs.History.{Put}
 use Rattle.command_files.specs.declared.inputs.InputFault.{InputFault}
 use Rattle.command_files.specs.declared.inputs.InputFault.TheVariants as fault
-use Rattle.command_files.specs.Commands.{CommandSeen}
+use Rattle.command_files.specs.Commands.{NamedSeen, CommandSeen, Replay, Check, script_name}
 use Rattle.command_files.specs.Inputs.{Reads, Loads, TakesInputs}
-use Rattle.script_runner.specs.Ending.{Ended, usage_end, bad_end, unread_end, memory_end, script_end, container_end, keys_end, unwritten_end, input_name}
+use Rattle.script_runner.specs.Ending.{ToSave, Ended, usage_end, bad_end, unread_end, memory_end, run_end, check_end, fault_end, container_end, keys_end, unwritten_end, input_name}
+use Rattle.script_runner.specs.Saving.{Writes, Saves}
 use Rattle.script_runner.specs.Ends.{unput_status}
 use Rattle.script_runner.specs.Done.{PutsOnce}
 
 -- ---- the ending that is due by what was loaded
 
 -- a script is run where the inputs have no fault, and else that fault is told; want of memory is no ending
-abbrev pub InputsEnd : CommandSeen → ScriptSeen → Result (Unit {0}) InputFault → Ended → Type 0
-InputsEnd c s (Ok t) e = e ≡ script_end (Ok s)
+abbrev pub InputsEnd : NamedSeen → ScriptSeen → Result (Unit {0}) InputFault → Ended → Type 0
+InputsEnd c s (Ok t) e = e ≡ run_end c s
 InputsEnd c s (Err (fault.Unread i)) e = e ≡ unread_end (input_name c i)
 InputsEnd c s (Err (fault.Container place)) e = e ≡ container_end place
 InputsEnd c s (Err fault.Keys) e = e ≡ keys_end
 InputsEnd c s (Err fault.OutOfMemory) e = ⊥
 
--- the other inputs are loaded where the script is in the grammar
+-- the other inputs are loaded for a run; check loads nothing else
+abbrev pub ScriptEnd : Option (List ℕ → Option (List ℕ)) → CommandSeen → ScriptSeen → Reads → Reads → Ended → Type 0
+ScriptEnd contents (Replay n) s old new e = (r : Result (Unit {0}) InputFault) × TakesInputs contents n old new r × InputsEnd n s r e
+ScriptEnd contents (Check name) s old new e = (new ≡ old) × (e ≡ check_end s)
+
+-- and nothing else is loaded where the script isn't in the grammar
 abbrev pub ReadEnd : Option (List ℕ → Option (List ℕ)) → CommandSeen → Reads → Reads → Result ScriptSeen ScriptFault → Ended → Type 0
-ReadEnd contents c old new (Ok s) e = (r : Result (Unit {0}) InputFault) × TakesInputs contents c old new r × InputsEnd c s r e
-ReadEnd contents c old new (Err f) e = (new ≡ old) × (e ≡ script_end (Err f))
+ReadEnd contents c old new (Ok s) e = ScriptEnd contents c s old new e
+ReadEnd contents c old new (Err f) e = (new ≡ old) × (e ≡ fault_end f)
 
 abbrev pub AnswerEnd : Option (List ℕ → Option (List ℕ)) → CommandSeen → Reads → Reads → Result (Vec ℕ) LoadFault → Ended → Type 0
 AnswerEnd contents c old new (Ok given) e = ReadEnd contents c old new (read_of given.items) e
-AnswerEnd contents c old new (Err load.Absent) e = (new ≡ old) × (e ≡ unread_end c.script)
+AnswerEnd contents c old new (Err load.Absent) e = (new ≡ old) × (e ≡ unread_end (script_name c))
 AnswerEnd contents c old new (Err load.TooLong) e = (new ≡ old) × (e ≡ bad_end 0 Length)
-AnswerEnd contents c old new (Err load.Failed) e = (new ≡ old) × (e ≡ unread_end c.script)
+AnswerEnd contents c old new (Err load.Failed) e = (new ≡ old) × (e ≡ unread_end (script_name c))
 AnswerEnd contents c old new (Err load.OutOfMemory) e = ⊥
 
 -- The script is loaded once, then each input that is named and due, and nothing else; and that ending is due by these loads.
 pub record Reaches (contents : Option (List ℕ → Option (List ℕ))) (c : CommandSeen) (old new : Reads) (e : Ended) : Type 0 where
   pub answer : Result (Vec ℕ) LoadFault
   pub between : Reads
-  pub script_loaded : Loads contents (2 ^ 24) c.script old answer between
+  pub script_loaded : Loads contents (2 ^ 24) (script_name c) old answer between
   pub ends : AnswerEnd contents c between new answer e
 
--- behind the script nothing was loaded, or the inputs
+-- behind the script nothing was loaded, or the inputs, of which check has none
+abbrev pub InputsPart : Option (List ℕ → Option (List ℕ)) → CommandSeen → Reads → Reads → Type 0
+InputsPart contents (Replay n) old new = (r : Result (Unit {0}) InputFault) × TakesInputs contents n old new r
+InputsPart contents (Check name) old new = ⊥
+
 abbrev pub FurtherPart : Option (List ℕ → Option (List ℕ)) → CommandSeen → Reads → Reads → Type 0
-FurtherPart contents c old new = (new ≡ old) ⊎ ((r : Result (Unit {0}) InputFault) × TakesInputs contents c old new r)
+FurtherPart contents c old new = (new ≡ old) ⊎ InputsPart contents c old new
 
 -- the same, where memory was wanting on the way: the script alone was loaded, or the inputs too
 pub record ReachesPart (contents : Option (List ℕ → Option (List ℕ))) (c : CommandSeen) (old new : Reads) : Type 0 where
   pub answer : Result (Vec ℕ) LoadFault
   pub between : Reads
-  pub script_loaded : Loads contents (2 ^ 24) c.script old answer between
+  pub script_loaded : Loads contents (2 ^ 24) (script_name c) old answer between
   pub further : FurtherPart contents c between new
 
 -- words that are no command load nothing
@@ -98,60 +107,37 @@ TellsBy old e new status (Err put.OutOfMemory) = (between : Outputs) × Puts e.t
 
 -- ---- what is saved
 
--- what the law of a save speaks of: contents, the saves so far, and how often writing failed
-pub record Writes : Type 0 where
-  pub contents : Option (List ℕ → Option (List ℕ))
-  pub saves : List Saved
-  pub faults : ℕ
+-- a save that didn't come through is told
+abbrev pub TellsSave : List ℕ → SaveFault → Outputs → Outputs → ℕ → Type 0
+TellsSave name save.Failed old new status = ((answer : Result (Unit {0}) PutFault) × TellsBy old (unwritten_end name) new status answer) ⊎ PutsWant old new status
+TellsSave name save.OutOfMemory old new status = PutsWant old new status
 
--- one save of these bytes under that name, as its law has it
-pub record Saves (name bytes : List ℕ) (old : Writes) (answer : Result (Unit {0}) SaveFault) (new : Writes) : Type 0 where
-  pub noted : new.saves ≡ old.saves ++ record { name = name; bytes = bytes; answer = answer } ∷ []
-  pub told : OnOk answer (SavesTold old.contents name bytes new.contents)
-  pub kept : OnErr answer (new.contents ≡ old.contents)
-  pub cause : SaveCause old.faults new.faults answer
-  pub later : old.faults ≤ new.faults
-
--- what the answer of a save comes to: a save that failed is told
-abbrev pub TellsSave : List ℕ → Result (Unit {0}) SaveFault → Outputs → Outputs → ℕ → Type 0
-TellsSave name (Ok t) old new status = (new ≡ old) × (status ≡ 0)
-TellsSave name (Err save.Failed) old new status = ((answer : Result (Unit {0}) PutFault) × TellsBy old (unwritten_end name) new status answer) ⊎ PutsWant old new status
-TellsSave name (Err save.OutOfMemory) old new status = PutsWant old new status
-
--- the container is saved where it is named, in one save; it has no bundles, since no call makes any
-abbrev pub SavesNamed : Option (List ℕ) → Writes → Writes → Outputs → Outputs → ℕ → Type 0
-SavesNamed None written written' old new status = (written' ≡ written) × (new ≡ old) × (status ≡ 0)
-SavesNamed (Some name) written written' old new status =
-    ((answer : Result (Unit {0}) SaveFault) × Saves name (container_bytes []) written answer written' × TellsSave name answer old new status)
+-- Files are saved in order, one save each. The first that isn't saved is told, and nothing more is saved.
+abbrev pub SavesAll : List ToSave → Writes → Writes → Outputs → Outputs → ℕ → Type 0
+SavesAll [] written written' old new status = (written' ≡ written) × (new ≡ old) × (status ≡ 0)
+SavesAll (f ∷ fs) written written' old new status =
+    ((between : Writes) × Saves f.name f.bytes written (Ok tt) between × SavesAll fs between written' old new status)
+    ⊎ ((fault : SaveFault) × Saves f.name f.bytes written (Err fault) written' × TellsSave f.name fault old new status)
     ⊎ ((written' ≡ written) × PutsWant old new status)
 
--- nothing is saved unless the replies were put, at status 0
-abbrev pub Finishes : Option (List ℕ) → Writes → Writes → Outputs → Outputs → (told status : ℕ) → Type 0
-Finishes name written written' old new told status =
-    ((told ≡ 0) × SavesNamed name written written' old new status) ⊎ ((told ≢ 0) × (written' ≡ written) × (new ≡ old) × (status ≡ told))
-
-abbrev pub out_name : Option CommandSeen → Option (List ℕ)
-out_name None = None
-out_name (Some c) = c.out_bundles
-
--- every output was written: the container that is named, and else none
-abbrev pub AllSaved : Option (List ℕ) → Writes → Writes → Type 0
-AllSaved None written written' = written' ≡ written
-AllSaved (Some name) written written' = Saves name (container_bytes []) written (Ok tt) written'
+-- nothing is saved unless the text was put, at status 0
+abbrev pub Finishes : List ToSave → Writes → Writes → Outputs → Outputs → (told status : ℕ) → Type 0
+Finishes files written written' old new told status =
+    ((told ≡ 0) × SavesAll files written written' old new status) ⊎ ((told ≢ 0) × (written' ≡ written) × (new ≡ old) × (status ≡ told))
 
 -- ---- the whole
 
--- an ending is put, and then the container is saved
-pub record PutsAndSaves (name : Option (List ℕ)) (e : Ended) (written written' : Writes) (old new : Outputs) (status : ℕ) : Type 0 where
+-- an ending is put, and then its files are saved
+pub record PutsAndSaves (e : Ended) (written written' : Writes) (old new : Outputs) (status : ℕ) : Type 0 where
   pub told : ℕ
   pub answer : Result (Unit {0}) PutFault
   pub between : Outputs
   pub tells : TellsBy old e between told answer
-  pub finishes : Finishes name written written' between new told status
+  pub finishes : Finishes e.files written written' between new told status
 
--- What a command does: the ending that is due by what it loads is put, and then the container is saved; or memory is wanting on
+-- What a command does: the ending that is due by what it loads is put, and then its files are saved; or memory is wanting on
 -- the way, which is put instead.
 abbrev pub DoesCommand : Option (List ℕ → Option (List ℕ)) → Option CommandSeen → Reads → Reads → Writes → Writes → Outputs → Outputs → ℕ → Type 0
 DoesCommand contents c read read' written written' old new status =
-    ((e : Ended) × Comes contents c read read' e × PutsAndSaves (out_name c) e written written' old new status)
+    ((e : Ended) × Comes contents c read read' e × PutsAndSaves e written written' old new status)
     ⊎ (ComesPart contents c read read' × (written' ≡ written) × PutsWant old new status)

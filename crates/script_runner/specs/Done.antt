@@ -1,23 +1,22 @@
 -- What one call loads, puts and saves, by the histories alone: of files and outputs that tell what they hold, and of those that don't.
-use Rattle.std.specs.Prelude.{◌≡◌, ◌≢◌, ◌⊎◌, ℕ, List, [], ◌∷◌, ◌++◌, Option, Some, None, Result, Ok, Err}
+use Rattle.std.specs.Prelude.{◌≡◌, ◌≢◌, ◌⊎◌, ℕ, List, [], ◌∷◌, ◌++◌, Option, Some, None, Result, Ok, Err, ◌≤◌, length}
 use Rattle.std.specs.Global.{Vec}
 use Rattle.script_text.specs.declared.faults.Reason.{Reason}
 use Rattle.script_text.specs.declared.faults.Reason.TheVariants.{Length}
 use Rattle.script_text.specs.declared.faults.ScriptFault.TheVariants.{Bad}
 use Rattle.script_text.specs.Reading.{read_of}
 use Rattle.script_text.specs.Seen.{ScriptSeen}
-use Rattle.flat_core.specs.HostText.{host_text}
 use Rattle.bundle_store.specs.declared.outside.LoadFault.{LoadFault}
 use Rattle.bundle_store.specs.declared.outside.LoadFault.TheVariants as load
 use Rattle.bundle_store.specs.declared.outside.SaveFault.TheVariants as save
 use Rattle.bundle_store.specs.declared.outside.PutFault.{PutFault}
 use Rattle.bundle_store.specs.declared.outside.PutFault.TheVariants as put
-use Rattle.bundle_store.specs.Containers.{container_bytes}
-use Rattle.bundle_store.specs.History.{Loaded, Saved, Put}
+use Rattle.bundle_store.specs.History.{Loaded, Put}
 use Rattle.command_files.specs.declared.inputs.InputFault.TheVariants as fault
-use Rattle.command_files.specs.Commands.{CommandSeen}
+use Rattle.command_files.specs.Commands.{NamedSeen, CommandSeen, Replay, script_name}
 use Rattle.command_files.specs.Inputs.{container_fault, keys_fault}
-use Rattle.script_runner.specs.Ending.{opening_of, usage_end, bad_end, unread_end, memory_end, container_end, keys_end, unwritten_end}
+use Rattle.script_runner.specs.Ending.{ToSave, usage_end, bad_end, unread_end, memory_end, container_end, keys_end, unwritten_end, success_end}
+use Rattle.script_runner.specs.Saving.{Writes, AllSaved}
 use Rattle.script_runner.specs.Ends.{IsRead}
 
 -- ---- histories
@@ -41,15 +40,20 @@ PutsText old text new = (answer : Result (Unit {0}) PutFault) × (answer ≢ Err
 -- ---- what each status says
 
 -- The named script was loaded first. What was handed out is in the grammar, and one put was given just the reply lines of the
--- flat machine's run of it under its schedule.
+-- flat machine's run of it under its schedule, or for check its numbers.
 pub record PutsRun (c : Option CommandSeen) (loads loads' : List Loaded) (puts puts' : List Put) (answer : Result (Unit {0}) PutFault) : Type 0 where
   pub command : CommandSeen
   pub read_as : c ≡ Some command
   pub given : Vec ℕ
-  pub loaded : LoadsFirst loads command.script (Ok given) loads'
+  pub loaded : LoadsFirst loads (script_name command) (Ok given) loads'
   pub script : ScriptSeen
   pub reads : read_of given.items ≡ Ok script
-  pub prints : PutsOnce puts (host_text (opening_of script) script.schedule) answer puts'
+  pub prints : PutsOnce puts (success_end command script).text answer puts'
+
+-- the same, and then each file that is named was saved with what that same run leaves
+abbrev pub PutsAndSaved : Option CommandSeen → (loads loads' : List Loaded) → (puts puts' : List Put) → (written written' : Writes) → Type 0
+PutsAndSaved c loads loads' puts puts' written written' =
+    (r : PutsRun c loads loads' puts puts' (Ok tt)) × AllSaved (success_end r.command r.script).files written written'
 
 -- the words are no command; nothing was loaded, and the usage line was put
 abbrev pub PutsUsage : Option CommandSeen → (loads loads' : List Loaded) → (puts puts' : List Put) → Type 0
@@ -68,7 +72,7 @@ pub record PutsFault (c : Option CommandSeen) (loads loads' : List Loaded) (puts
   pub command : CommandSeen
   pub read_as : c ≡ Some command
   pub answer : Result (Vec ℕ) LoadFault
-  pub loaded : LoadsOnce loads command.script answer loads'
+  pub loaded : LoadsOnce loads (script_name command) answer loads'
   pub line : ℕ
   pub reason : Reason
   pub first : IsFirstFault answer line reason
@@ -92,8 +96,8 @@ pub record PutsName (c : Option CommandSeen) (loads loads' : List Loaded) (puts 
 
 -- the named container was loaded, and its fault was put
 pub record PutsPlace (c : Option CommandSeen) (loads loads' : List Loaded) (puts puts' : List Put) : Type 0 where
-  pub command : CommandSeen
-  pub read_as : c ≡ Some command
+  pub command : NamedSeen
+  pub read_as : c ≡ Some (Replay command)
   pub name : List ℕ
   pub named : command.bundles ≡ Some name
   pub before : List Loaded
@@ -105,8 +109,8 @@ pub record PutsPlace (c : Option CommandSeen) (loads loads' : List Loaded) (puts
 
 -- the named key file was loaded, and hasn't its length, which was put
 pub record PutsKeys (c : Option CommandSeen) (loads loads' : List Loaded) (puts puts' : List Put) : Type 0 where
-  pub command : CommandSeen
-  pub read_as : c ≡ Some command
+  pub command : NamedSeen
+  pub read_as : c ≡ Some (Replay command)
   pub name : List ℕ
   pub named : command.keys ≡ Some name
   pub before : List Loaded
@@ -115,33 +119,64 @@ pub record PutsKeys (c : Option CommandSeen) (loads loads' : List Loaded) (puts 
   pub wrong : keys_fault (Some answer) ≡ Some fault.Keys
   pub prints : PutsText puts keys_end.text puts'
 
--- the reply lines were put, the one save of the container failed, and its name was put
-pub record PutsUnsaved (c : Option CommandSeen) (name : Option (List ℕ)) (loads loads' : List Loaded) (saves saves' : List Saved) (puts puts' : List Put) : Type 0 where
-  pub out : List ℕ
-  pub named : name ≡ Some out
+-- The text was put, all files before one were saved, the save of this one failed, and its name was put. Files have what they
+-- had behind the saves that came through.
+pub record PutsUnsaved (c : Option CommandSeen) (loads loads' : List Loaded) (written written' : Writes) (puts puts' : List Put) : Type 0 where
   pub between : List Put
   pub replies : PutsRun c loads loads' puts between (Ok tt)
-  pub saved : saves' ≡ saves ++ record { name = out; bytes = container_bytes []; answer = Err save.Failed } ∷ []
-  pub prints : PutsText between (unwritten_end out).text puts'
+  pub front : List ToSave
+  pub out : ToSave
+  pub rest : List ToSave
+  pub are : (success_end replies.command replies.script).files ≡ front ++ out ∷ rest
+  pub before : Writes
+  pub front_saved : AllSaved front written before
+  pub saved : written'.saves ≡ before.saves ++ record { name = out.name; bytes = out.bytes; answer = Err save.Failed } ∷ []
+  pub kept : written'.contents ≡ before.contents
+  pub prints : PutsText between (unwritten_end out.name).text puts'
 
--- the put of the reply lines failed, and nothing was saved; or the save of the container did
-abbrev pub PutsLost : Option CommandSeen → Option (List ℕ) → (loads loads' : List Loaded) → (saves saves' : List Saved) → (puts puts' : List Put) → Type 0
-PutsLost c name loads loads' saves saves' puts puts' =
-    (PutsRun c loads loads' puts puts' (Err put.Failed) × (saves' ≡ saves)) ⊎ PutsUnsaved c name loads loads' saves saves' puts puts'
+-- Files have what they had behind the saves of the first files that a run of the script that was loaded is to save, of which at
+-- least one more was left.
+pub record SavesFront (c : Option CommandSeen) (loads loads' : List Loaded) (written written' : Writes) : Type 0 where
+  pub command : CommandSeen
+  pub read_as : c ≡ Some command
+  pub given : Vec ℕ
+  pub loaded : LoadsFirst loads (script_name command) (Ok given) loads'
+  pub script : ScriptSeen
+  pub reads : read_of given.items ≡ Ok script
+  pub front : List ToSave
+  pub out : ToSave
+  pub rest : List ToSave
+  pub are : (success_end command script).files ≡ front ++ out ∷ rest
+  pub before : Writes
+  pub front_saved : AllSaved front written before
+  pub kept : written'.contents ≡ before.contents
+
+-- what files have is as before, or as the saves that came through left it
+abbrev pub KeepsOrSaves : Option CommandSeen → (loads loads' : List Loaded) → (written written' : Writes) → Type 0
+KeepsOrSaves c loads loads' written written' = (written'.contents ≡ written.contents) ⊎ SavesFront c loads loads' written written'
+
+-- the put of the text failed, and nothing was saved; or the save of a file did
+abbrev pub PutsLost : Option CommandSeen → (loads loads' : List Loaded) → (written written' : Writes) → (puts puts' : List Put) → Type 0
+PutsLost c loads loads' written written' puts puts' =
+    (PutsRun c loads loads' puts puts' (Err put.Failed) × (written' ≡ written)) ⊎ PutsUnsaved c loads loads' written written' puts puts'
 
 -- a put that found no memory, or none
 abbrev pub IsWanting : List Put → Type 0
 IsWanting puts = (puts ≡ []) ⊎ ((text : List ℕ) × (puts ≡ record { bytes = text; answer = Err put.OutOfMemory } ∷ []))
 
--- a text that was put where a container was to be saved, or none
-abbrev pub IsPut : Option (List ℕ) → List Put → Type 0
-IsPut name puts = (puts ≡ []) ⊎ ((name ≢ None) × (text : List ℕ) × (puts ≡ record { bytes = text; answer = Ok tt } ∷ []))
+-- a text that was put where a file was to be saved, or none
+abbrev pub IsPut : List (List ℕ) → List Put → Type 0
+IsPut names puts = (puts ≡ []) ⊎ ((names ≢ []) × (text : List ℕ) × (puts ≡ record { bytes = text; answer = Ok tt } ∷ []))
 
 -- the last put says that memory was wanting; before it at most one found none, and at most one came through
-abbrev pub PutsMemory : Option (List ℕ) → (puts puts' : List Put) → Type 0
-PutsMemory name puts puts' =
-    (first second : List Put) × (answer : Result (Unit {0}) PutFault) × IsPut name first × IsWanting second × PutsOnce ((puts ++ first) ++ second) memory_end.text answer puts'
+abbrev pub PutsMemory : List (List ℕ) → (puts puts' : List Put) → Type 0
+PutsMemory names puts puts' =
+    (first second : List Put) × (answer : Result (Unit {0}) PutFault) × IsPut names first × IsWanting second × PutsOnce ((puts ++ first) ++ second) memory_end.text answer puts'
 
--- a container is saved only at the statuses 0, 4 and 5
-abbrev pub SavesNothing : Option (List ℕ) → ℕ → Type 0
-SavesNothing name status = (name ≡ None) ⊎ ((status ≢ 0) × (status ≢ 4) × (status ≢ 5))
+-- files are saved only at the statuses 0, 4 and 5
+abbrev pub SavesNothing : List (List ℕ) → ℕ → Type 0
+SavesNothing names status = (names ≡ []) ⊎ ((status ≢ 0) × (status ≢ 4) × (status ≢ 5))
+
+-- what files have stays at each status but 0, where not two are to be saved; of two the first may be saved at the statuses 4 and 5
+abbrev pub ChangesNothing : List (List ℕ) → ℕ → Type 0
+ChangesNothing names status = SavesNothing names status ⊎ ((length names ≤ 1) × (status ≢ 0))

@@ -1,8 +1,9 @@
--- How a command ends: its status and its text, over the contents that are told.
-use Rattle.std.specs.Prelude.{ℕ, ◌^◌, List, [], ◌∷◌, ◌++◌, length, Option, Some, None, Result, Ok, Err, ◌==◌, ◌&&◌, nat_le, if◌then◌else◌, codes}
+-- How a command ends: its status, its text and what it saves, over the contents that are told.
+use Rattle.std.specs.Prelude.{ℕ, ◌+◌, ◌^◌, List, [], ◌∷◌, ◌++◌, length, Option, Some, None, option_map, Result, Ok, Err, ◌==◌, ◌&&◌, nat_le, if◌then◌else◌, codes}
 use Rattle.std.specs.Fmt.{decimal}
 use Rattle.std.specs.Str.{bytes_eq}
 use Rattle.td_words.specs.Seen.{CodeSeen}
+use Rattle.td_words.specs.declared.calls.Call.{Call}
 use Rattle.td_words.specs.declared.calls.GuestOp.{GuestOp}
 use Rattle.script_text.specs.declared.faults.Reason.{Reason}
 use Rattle.script_text.specs.declared.faults.ScriptFault.{ScriptFault}
@@ -12,22 +13,42 @@ use Rattle.script_text.specs.Reading.{read_of}
 use Rattle.script_text.specs.Seen.{ScriptSeen}
 use Rattle.flat_core.specs.Opening.{Opening}
 use Rattle.flat_core.specs.HostText.{host_text}
-use Rattle.bundle_store.specs.Containers.{container_in}
+use Rattle.flat_core.specs.GuestText.{guest_text}
+use Rattle.bundle_store.specs.Containers.{container_in, container_bytes}
 use Rattle.command_files.specs.declared.inputs.Input.{Input}
 use Rattle.command_files.specs.declared.inputs.Input.TheVariants as input
 use Rattle.command_files.specs.declared.inputs.InputFault.{InputFault}
 use Rattle.command_files.specs.declared.inputs.InputFault.TheVariants as fault
-use Rattle.command_files.specs.Commands.{CommandSeen}
+use Rattle.command_files.specs.Commands.{NamedSeen, CommandSeen, Replay, Check, script_name}
 use Rattle.command_files.specs.Inputs.{place_fault, first}
 use Rattle.script_runner.specs.declared.ending.Ending.{Ending}
 
--- an exit status, and what is put to the output
+-- a file that is to be saved
+pub record ToSave : Type 0 where
+  pub name : List ℕ
+  pub bytes : List ℕ
+
+-- an exit status, what is put to the output, and the files that are saved behind it, in order
 pub record Ended : Type 0 where
   pub status : ℕ
   pub text : List ℕ
+  pub files : List ToSave
+
+-- a file that is saved where it is named
+abbrev pub file_named : Option (List ℕ) → List ℕ → List ToSave
+file_named None bytes = []
+file_named (Some name) bytes = record { name = name; bytes = bytes } ∷ []
+
+-- the container is saved first; it has no bundles, since no call makes any
+abbrev pub both_files : (container guest : Option (List ℕ)) → (told : List ℕ) → List ToSave
+both_files container guest told = file_named container (container_bytes []) ++ file_named guest told
 
 abbrev pub ending_seen : Ending → Ended
-ending_seen e = record { status = e.status; text = e.text.items }
+ending_seen e = record {
+  status = e.status;
+  text = e.text.items;
+  files = both_files (option_map (λ name. name.now) e.out_bundles) (option_map (λ name. name.now) e.guest_out) e.guest.items;
+}
 
 -- the first list of that virtual processor; one without a list has an empty one
 abbrev pub code_in : List CodeSeen → ℕ → ℕ → List GuestOp
@@ -41,34 +62,59 @@ opening_of s = record { machine = s.machine; codes = code_in s.codes; calls = s.
 -- texts, each by its status
 
 abbrev pub usage_end : Ended
-usage_end = record { status = 1; text = codes "usage: tdx replay|run SCRIPT [--bundles F] [--keys F] [--secrets F] [--out-bundles F] [--guest-out F] | tdx check SCRIPT | tdx soak N" ++ 10 ∷ [] }
+usage_end = record { status = 1; text = codes "usage: tdx replay|run SCRIPT [--bundles F] [--keys F] [--secrets F] [--out-bundles F] [--guest-out F] | tdx check SCRIPT | tdx soak N" ++ 10 ∷ []; files = [] }
 
 abbrev pub bad_end : ℕ → Reason → Ended
-bad_end line reason = record { status = 2; text = codes "script line " ++ (decimal line ++ (codes " " ++ (reason_text reason ++ 10 ∷ []))) }
+bad_end line reason = record { status = 2; text = codes "script line " ++ (decimal line ++ (codes " " ++ (reason_text reason ++ 10 ∷ []))); files = [] }
 
 abbrev pub unread_end : List ℕ → Ended
-unread_end name = record { status = 3; text = codes "cannot read " ++ name ++ 10 ∷ [] }
+unread_end name = record { status = 3; text = codes "cannot read " ++ name ++ 10 ∷ []; files = [] }
 
 abbrev pub memory_end : Ended
-memory_end = record { status = 5; text = codes "out of memory" ++ 10 ∷ [] }
+memory_end = record { status = 5; text = codes "out of memory" ++ 10 ∷ []; files = [] }
 
--- a script is run under its schedule
-abbrev pub script_end : Result ScriptSeen ScriptFault → Ended
-script_end (Ok s) = record { status = 0; text = host_text (opening_of s) s.schedule }
-script_end (Err (Bad line reason)) = bad_end line reason
-script_end (Err OutOfMemory) = memory_end
+-- a script is run under its schedule; what its guests noted is the text of the guest file
+abbrev pub run_end : NamedSeen → ScriptSeen → Ended
+run_end n s = record { status = 0; text = host_text (opening_of s) s.schedule; files = both_files n.out_bundles n.guest_out (guest_text (opening_of s) s.schedule) }
+
+-- how many calls these lists have, and how many guest operations
+abbrev pub calls_in : List (List Call) → ℕ
+calls_in [] = 0
+calls_in (cs ∷ css) = length cs + calls_in css
+
+abbrev pub ops_in : List CodeSeen → ℕ
+ops_in [] = 0
+ops_in (c ∷ cs) = length c.ops + ops_in cs
+
+-- the numbers of a script: its processors, their calls, the guest operations, and the items of the schedule, written out
+abbrev pub check_text : ScriptSeen → List ℕ
+check_text s =
+    codes "ok "
+    ++ (decimal s.machine.lps ++ (codes " " ++ (decimal (calls_in s.calls) ++ (codes " " ++ (decimal (ops_in s.codes) ++ (codes " " ++ (decimal (length s.schedule) ++ 10 ∷ [])))))))
+
+abbrev pub check_end : ScriptSeen → Ended
+check_end s = record { status = 0; text = check_text s; files = [] }
+
+-- what a command comes to with a script where nothing is wrong
+abbrev pub success_end : CommandSeen → ScriptSeen → Ended
+success_end (Replay n) s = run_end n s
+success_end (Check name) s = check_end s
+
+abbrev pub fault_end : ScriptFault → Ended
+fault_end (Bad line reason) = bad_end line reason
+fault_end OutOfMemory = memory_end
 
 -- the container's bytes are none, from that place on
 abbrev pub container_end : ℕ → Ended
-container_end place = record { status = 6; text = codes "bundle file byte " ++ (decimal place ++ 10 ∷ []) }
+container_end place = record { status = 6; text = codes "bundle file byte " ++ (decimal place ++ 10 ∷ []); files = [] }
 
 -- the key file hasn't its length
 abbrev pub keys_end : Ended
-keys_end = record { status = 7; text = codes "key file" ++ 10 ∷ [] }
+keys_end = record { status = 7; text = codes "key file" ++ 10 ∷ []; files = [] }
 
 -- a save failed
 abbrev pub unwritten_end : List ℕ → Ended
-unwritten_end name = record { status = 4; text = codes "cannot write " ++ name ++ 10 ∷ [] }
+unwritten_end name = record { status = 4; text = codes "cannot write " ++ name ++ 10 ∷ []; files = [] }
 
 -- ---- the ending that is due by what each name has, where nothing fails
 
@@ -76,9 +122,9 @@ abbrev pub name_in : Option (List ℕ) → List ℕ
 name_in None = []
 name_in (Some name) = name
 
-abbrev pub input_name : CommandSeen → Input → List ℕ
-input_name c input.Bundles = name_in c.bundles
-input_name c input.Keys = name_in c.keys
+abbrev pub input_name : NamedSeen → Input → List ℕ
+input_name n input.Bundles = name_in n.bundles
+input_name n input.Keys = name_in n.keys
 
 -- what an input has, where it is named; None in it says that the name isn't there
 abbrev pub held : (List ℕ → Option (List ℕ)) → Option (List ℕ) → Option (Option (List ℕ))
@@ -107,27 +153,36 @@ keys_wrong (Some (Some bytes)) = if length bytes == 64 then None else Some fault
 abbrev pub wrong_input : (bundles keys : Option (Option (List ℕ))) → Option InputFault
 wrong_input bundles keys = first (absent_fault input.Bundles bundles) (first (absent_fault input.Keys keys) (first (container_wrong bundles) (keys_wrong keys)))
 
+-- check has no inputs
+abbrev pub command_wrong : (List ℕ → Option (List ℕ)) → CommandSeen → Option InputFault
+command_wrong contents (Replay n) = wrong_input (held contents n.bundles) (held contents n.keys)
+command_wrong contents (Check name) = None
+
 -- a script is run where its inputs have no fault, which else is told
-abbrev pub inputs_end : CommandSeen → ScriptSeen → Option InputFault → Ended
-inputs_end c s None = script_end (Ok s)
-inputs_end c s (Some (fault.Unread i)) = unread_end (input_name c i)
-inputs_end c s (Some (fault.Container place)) = container_end place
-inputs_end c s (Some fault.Keys) = keys_end
-inputs_end c s (Some fault.OutOfMemory) = memory_end
+abbrev pub inputs_end : NamedSeen → ScriptSeen → Option InputFault → Ended
+inputs_end n s None = run_end n s
+inputs_end n s (Some (fault.Unread i)) = unread_end (input_name n i)
+inputs_end n s (Some (fault.Container place)) = container_end place
+inputs_end n s (Some fault.Keys) = keys_end
+inputs_end n s (Some fault.OutOfMemory) = memory_end
+
+abbrev pub script_end : (List ℕ → Option (List ℕ)) → CommandSeen → ScriptSeen → Ended
+script_end contents (Replay n) s = inputs_end n s (wrong_input (held contents n.bundles) (held contents n.keys))
+script_end contents (Check name) s = check_end s
 
 -- the inputs count where the script is in the grammar
 abbrev pub read_end : (List ℕ → Option (List ℕ)) → CommandSeen → Result ScriptSeen ScriptFault → Ended
-read_end contents c (Ok s) = inputs_end c s (wrong_input (held contents c.bundles) (held contents c.keys))
-read_end contents c (Err f) = script_end (Err f)
+read_end contents c (Ok s) = script_end contents c s
+read_end contents c (Err f) = fault_end f
 
 abbrev pub held_end : (List ℕ → Option (List ℕ)) → CommandSeen → Option (List ℕ) → Ended
-held_end contents c None = unread_end c.script
+held_end contents c None = unread_end (script_name c)
 held_end contents c (Some bytes) = read_end contents c (read_of bytes)
 
 -- the ending that is due, where nothing fails
 abbrev pub ending_of : (List ℕ → Option (List ℕ)) → Option CommandSeen → Ended
 ending_of contents None = usage_end
-ending_of contents (Some c) = held_end contents c (contents c.script)
+ending_of contents (Some c) = held_end contents c (contents (script_name c))
 
 -- what names have, if that one isn't there
 abbrev pub without : List ℕ → (List ℕ → Option (List ℕ)) → List ℕ → Option (List ℕ)

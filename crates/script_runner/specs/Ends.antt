@@ -4,11 +4,11 @@ use Rattle.script_text.specs.declared.faults.Reason.{Reason}
 use Rattle.script_text.specs.declared.faults.ScriptFault.TheVariants.{Bad}
 use Rattle.script_text.specs.Reading.{read_of}
 use Rattle.script_text.specs.Seen.{ScriptSeen}
-use Rattle.flat_core.specs.HostText.{host_text}
 use Rattle.bundle_store.specs.Outside.{Rose, Gains}
 use Rattle.bundle_store.specs.Containers.{container_in}
-use Rattle.command_files.specs.Commands.{CommandSeen}
-use Rattle.script_runner.specs.Ending.{Ended, opening_of, unread_end, memory_end, unwritten_end, held, wrong_input, ending_of, without}
+use Rattle.command_files.specs.Commands.{NamedSeen, CommandSeen, Replay, Check, script_name}
+use Rattle.script_runner.specs.Ending.{ToSave, Ended, unread_end, memory_end, unwritten_end, success_end, command_wrong, ending_of, without}
+use Rattle.script_runner.specs.Saving.{Writes, AllSaved, IsAmong}
 
 -- how often reading and writing files failed, and putting to the output
 pub record Faults : Type 0 where
@@ -41,56 +41,66 @@ PutsBehind old first second new = (n : ℕ) × Gains old (first ++ take n second
 abbrev pub unput_status : ℕ → ℕ
 unput_status status = if status == 0 then 4 else status
 
--- Behind the replies a save that failed is told, in whole, or in part where the output fails; or want of memory is.
-abbrev pub TellsUnsaved : (before after : Faults) → Option (List ℕ) → (replies : List ℕ) → Option (List ℕ) → Option (List ℕ) → ℕ → Type 0
-TellsUnsaved before after None replies old new status = ⊥
-TellsUnsaved before after (Some name) replies old new status =
-    ((status ≡ 4) × Rose before.writes after.writes × Gains old (replies ++ (unwritten_end name).text) new)
-    ⊎ ((status ≡ 4) × Rose before.writes after.writes × Rose before.puts after.puts × PutsBehind old replies (unwritten_end name).text new)
-    ⊎ ((status ≡ 5) × PutsBehind old replies memory_end.text new)
+-- Behind the replies it is told that a name wasn't saved, in whole, or in part where the output fails.
+abbrev pub TellsName : (before after : Faults) → (name replies : List ℕ) → Option (List ℕ) → Option (List ℕ) → Type 0
+TellsName before after name replies old new =
+    Gains old (replies ++ (unwritten_end name).text) new ⊎ (Rose before.puts after.puts × PutsBehind old replies (unwritten_end name).text new)
+
+-- That is the name of one of these files, whose save failed; or want of memory is told.
+abbrev pub TellsUnsaved : (before after : Faults) → List ToSave → (replies : List ℕ) → Option (List ℕ) → Option (List ℕ) → ℕ → Type 0
+TellsUnsaved before after files replies old new status =
+    ((name : List ℕ) × IsAmong name files × (status ≡ 4) × Rose before.writes after.writes × TellsName before after name replies old new)
+    ⊎ ((files ≢ []) × (status ≡ 5) × PutsBehind old replies memory_end.text new)
 
 -- The text is put whole; or in part, where the output fails; or it isn't put for want of memory, which is told instead; or it is
--- put, and then the container isn't saved under its name.
-abbrev pub Tells : (before after : Faults) → Option (List ℕ) → Option (List ℕ) → Option (List ℕ) → Ended → ℕ → Type 0
-Tells before after name old new e status =
+-- put, and then a file isn't saved under its name.
+abbrev pub Tells : (before after : Faults) → Option (List ℕ) → Option (List ℕ) → Ended → ℕ → Type 0
+Tells before after old new e status =
     ((status ≡ e.status) × Gains old e.text new)
     ⊎ ((status ≡ unput_status e.status) × Rose before.puts after.puts × PutsPart old e.text new)
     ⊎ ((status ≡ 5) × PutsPart old memory_end.text new)
-    ⊎ ((e.status ≡ 0) × TellsUnsaved before after name e.text old new status)
+    ⊎ ((e.status ≡ 0) × TellsUnsaved before after e.files e.text old new status)
 
--- how the call ends, with the container to be saved under that name
-abbrev pub EndsWith : (before after : Faults) → (List ℕ → Option (List ℕ)) → Option CommandSeen → Option (List ℕ) → Option (List ℕ) → Option (List ℕ) → ℕ → Type 0
-EndsWith before after contents c name old new status =
-    ((e : Ended) × IsEnding before after contents c e × Tells before after name old new e status)
+-- how the call ends
+abbrev pub EndsWith : (before after : Faults) → (List ℕ → Option (List ℕ)) → Option CommandSeen → Option (List ℕ) → Option (List ℕ) → ℕ → Type 0
+EndsWith before after contents c old new status =
+    ((e : Ended) × IsEnding before after contents c e × Tells before after old new e status)
     ⊎ ((status ≡ 5) × PutsPart old memory_end.text new)
 
 -- ---- what each status says, where contents are told
 
--- One run: the named script is there and is in the grammar, the named inputs are there and have their forms, and the output got
--- just the reply lines of the flat machine's run of the script under its schedule.
-pub record OneRun (contents : List ℕ → Option (List ℕ)) (c : Option CommandSeen) (old new : Option (List ℕ)) : Type 0 where
+-- One run: the named script is there and is in the grammar, the named inputs are there and have their forms, the output got
+-- just the reply lines of the flat machine's run of the script under its schedule, and then each file that is named was saved,
+-- the guest file with what the guests of that same run noted. For check: the output got the script's numbers.
+pub record OneRun (contents : List ℕ → Option (List ℕ)) (c : Option CommandSeen) (old new : Option (List ℕ)) (written written' : Writes) : Type 0 where
   pub command : CommandSeen
   pub read_as : c ≡ Some command
   pub bytes : List ℕ
-  pub there : contents command.script ≡ Some bytes
+  pub there : contents (script_name command) ≡ Some bytes
   pub script : ScriptSeen
   pub reads : read_of bytes ≡ Ok script
-  pub fits : wrong_input (held contents command.bundles) (held contents command.keys) ≡ None
-  pub prints : Gains old (host_text (opening_of script) script.schedule) new
+  pub fits : command_wrong contents command ≡ None
+  pub prints : Gains old (success_end command script).text new
+  pub saves : AllSaved (success_end command script).files written written'
 
 -- the named script is there and isn't in the grammar
 pub record IsBadScript (contents : List ℕ → Option (List ℕ)) (c : Option CommandSeen) : Type 0 where
   pub command : CommandSeen
   pub read_as : c ≡ Some command
   pub bytes : List ℕ
-  pub there : contents command.script ≡ Some bytes
+  pub there : contents (script_name command) ≡ Some bytes
   pub line : ℕ
   pub reason : Reason
   pub reads : read_of bytes ≡ Err (Bad line reason)
 
+-- an input beside the script has that name
+abbrev pub IsInput : CommandSeen → List ℕ → Type 0
+IsInput (Replay n) name = (n.bundles ≡ Some name) ⊎ (n.keys ≡ Some name)
+IsInput (Check script) name = ⊥
+
 -- the command reads that name
 abbrev pub IsRead : CommandSeen → List ℕ → Type 0
-IsRead command name = (name ≡ command.script) ⊎ (command.bundles ≡ Some name) ⊎ (command.keys ≡ Some name)
+IsRead command name = (name ≡ script_name command) ⊎ IsInput command name
 
 -- a name that the command reads isn't there
 pub record IsAbsent (contents : List ℕ → Option (List ℕ)) (c : Option CommandSeen) : Type 0 where
@@ -106,8 +116,8 @@ IsNoContainer bytes = ((place : ℕ) × (container_in bytes ≡ Err place)) ⊎ 
 
 -- the named container is there, and is none
 pub record IsBadContainer (contents : List ℕ → Option (List ℕ)) (c : Option CommandSeen) : Type 0 where
-  pub command : CommandSeen
-  pub read_as : c ≡ Some command
+  pub command : NamedSeen
+  pub read_as : c ≡ Some (Replay command)
   pub name : List ℕ
   pub named : command.bundles ≡ Some name
   pub bytes : List ℕ
@@ -116,8 +126,8 @@ pub record IsBadContainer (contents : List ℕ → Option (List ℕ)) (c : Optio
 
 -- the named key file is there, and hasn't its length
 pub record IsBadKeys (contents : List ℕ → Option (List ℕ)) (c : Option CommandSeen) : Type 0 where
-  pub command : CommandSeen
-  pub read_as : c ≡ Some command
+  pub command : NamedSeen
+  pub read_as : c ≡ Some (Replay command)
   pub name : List ℕ
   pub named : command.keys ≡ Some name
   pub bytes : List ℕ
@@ -131,9 +141,9 @@ abbrev pub ReadCause : Option (List ℕ → Option (List ℕ)) → Option Comman
 ReadCause None c reads reads' = Rose reads reads'
 ReadCause (Some contents) c reads reads' = Rose reads reads' ⊎ IsAbsent contents c
 
--- why an output wasn't written: the output's count of faults rose, or that of write faults where a container is named
-abbrev pub WriteCause : (before after : Faults) → Option (List ℕ) → Type 0
-WriteCause before after name = Rose before.puts after.puts ⊎ ((name ≢ None) × Rose before.writes after.writes)
+-- why an output wasn't written: the output's count of faults rose, or that of write faults where a file is to be saved
+abbrev pub WriteCause : (before after : Faults) → List (List ℕ) → Type 0
+WriteCause before after names = Rose before.puts after.puts ⊎ ((names ≢ []) × Rose before.writes after.writes)
 
 -- the ending that is due comes, unless memory was wanting, a count of read faults rose, or, at status 0, another count
 abbrev pub IsComplete : (before after : Faults) → Ended → ℕ → Type 0
@@ -146,14 +156,12 @@ IsComplete before after due status =
 abbrev pub success_text : Ended → List ℕ
 success_text e = if e.status == 0 then e.text else []
 
--- the text of the status 5, or of the status 4 where a container was to be saved under that name
-abbrev pub unsaved_text : Option (List ℕ) → List ℕ
-unsaved_text None = []
-unsaved_text (Some name) = (unwritten_end name).text
-
-abbrev pub own_text : Option (List ℕ) → ℕ → List ℕ
-own_text name status = if status == 5 then memory_end.text else unsaved_text name
+-- the text of the status 5, or of the status 4 where one of these files wasn't saved
+abbrev pub IsOwnText : List ToSave → ℕ → List ℕ → Type 0
+IsOwnText files status text =
+    ((status ≡ 5) × (text ≡ memory_end.text)) ⊎ ((status ≡ 4) × ((text ≡ []) ⊎ ((name : List ℕ) × IsAmong name files × (text ≡ (unwritten_end name).text))))
 
 -- After a status 4 or 5 the output got a front of what the status 0 puts, and then a front of that status's own text.
-abbrev pub PutsFronts : Option (List ℕ) → List ℕ → List ℕ → Option (List ℕ) → Type 0
-PutsFronts old first second new = (n m : ℕ) × Gains old (take n first ++ take m second) new
+abbrev pub PutsFronts : Option (List ℕ) → Ended → ℕ → Option (List ℕ) → Type 0
+PutsFronts old due status new =
+    (own : List ℕ) × IsOwnText due.files status own × (n m : ℕ) × Gains old (take n (success_text due) ++ take m own) new

@@ -1,12 +1,13 @@
 -- Where the logical processors of a script are, over words, while its run is replayed.
-use Rattle.std.specs.Prelude.{◌≡◌, ℕ, zero, suc, ◌+◌, ◌<◌, true, List, [], ◌∷◌, ◌++◌, length}
+use Rattle.std.specs.Prelude.{◌≡◌, ℕ, zero, suc, ◌+◌, ◌<◌, true, List, [], ◌∷◌, ◌++◌, length, map, Option}
 use Rattle.td_words.specs.declared.machines.Machine.{Machine}
 use Rattle.td_words.specs.declared.calls.Call.{Call}
 use Rattle.flat_core.specs.Opening.{Opening}
 use Rattle.flat_core.specs.Run.{run}
 use Rattle.flat_core.specs.Bounds.{EventsRunOut}
 use Rattle.flat_core.specs.Laws.{OthersStay}
-use Rattle.report_text.specs.Lines.{reply_lines}
+use Rattle.flat_core.specs.GuestText.{note_told}
+use Rattle.report_text.specs.Lines.{reply_lines, note_line}
 use Rattle.step_core.specs.Items.{Table, PlaysTo}
 use Rattle.step_core.specs.declared.items.Taken.{Taken}
 use Rattle.atomic_table.specs.Seated.{TableId}
@@ -20,6 +21,8 @@ use Rattle.leaf_dispatch.specs.Table.{leaf_table}
 use Rattle.leaf_dispatch.specs.Laws.{CallsHaveLeaves, NoneEnters}
 use Rattle.leaf_dispatch.specs.States.{seen_of}
 use Rattle.leaf_dispatch.specs.declared.states.LpState.{LpState}
+use Rattle.script_runner.specs.declared.replay.Texts.{Texts}
+use Rattle.script_runner.specs.Ending.{file_named}
 
 -- these are a machine's processors from number n on
 abbrev pub AreNumbered : Machine → ℕ → List LpState → Type 0
@@ -47,6 +50,15 @@ HaveEnded n lps = (p : ℕ) → p < n → (seen_at lps p).lines ≡ []
 abbrev pub lines_seen : ℕ → List LpState → List (List ℕ)
 lines_seen p [] = []
 lines_seen p (s ∷ ss) = reply_lines p 1 (seen_of s).replies ++ lines_seen (p + 1) ss
+
+-- the lines of what the guests of processor p and of those behind it noted
+abbrev pub notes_seen : ℕ → List LpState → List (List ℕ)
+notes_seen p [] = []
+notes_seen p (s ∷ ss) = map (note_line p) (map note_told (seen_of s).beside.notes) ++ notes_seen (p + 1) ss
+
+-- texts tell these lines, and those of the guest file where it is named
+abbrev pub TellAll : Option (List ℕ) → (replies notes : List ℕ) → Texts → Type 0
+TellAll guest_out replies notes t = (t.replies.items ≡ replies) × (file_named guest_out t.guest.items ≡ file_named guest_out notes)
 
 -- So far the turns that the processors made, which lead to this table, are a merge; and its events, and then the items that
 -- are left, lead to the end of the flat machine's run under the schedule.

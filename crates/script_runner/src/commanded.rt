@@ -3,30 +3,39 @@
 ghost use Rattle.std.specs.Prelude.{◌≡◌, ◌≢◌, ◌≤◌, Result, IfOk};
 ghost use Rattle.script_text.specs.Laws.{IsInForm};
 ghost use Rattle.script_text.specs.Reading.{read_of};
-ghost use Rattle.command_files.specs.Commands.{command_seen};
+ghost use Rattle.command_files.specs.Commands.{named_seen, command_seen, script_name};
 ghost use Rattle.command_files.specs.Inputs.{TakesInputs};
 ghost use Rattle.command_files.specs.declared.inputs.InputFault.{InputFault};
 ghost use Rattle.script_runner.specs.Ending.{ending_seen};
-ghost use Rattle.script_runner.specs.Commanded.{InputsEnd, ReadEnd, AnswerEnd, FurtherPart, Reaches, ReachesPart};
+ghost use Rattle.script_runner.specs.Commanded.{InputsEnd, ScriptEnd, ReadEnd, AnswerEnd, FurtherPart, Reaches, ReachesPart};
 
-use crate::ending::{Ending, bad, of_fault, run, unread};
+use crate::ending::{Ending, bad, check, of_fault, run, unread};
 use bundle_store::{Files, LoadFault};
-use command_files::{Command, take_inputs};
+use command_files::{Command, Named, take_inputs};
 use script_text::{Reason, Script, ScriptFault, read_script, scripts_are_in_form};
 use std::alloc::{AllocError, Global};
 
 const MOST_SCRIPT: u64 = 1 << 24;
 
-// What a script comes to: its inputs are taken, and then it is run.
-fn of_script<F: Files>(
+fn script_name<'a>(command: &Command<'a>) -> &'a str
+    ensures { result.now ≡ script_name (command_seen command.now) }
+{
+    match command {
+        Command::Replay(named) => named.script,
+        Command::Check(script) => script,
+    }
+}
+
+// What a script that is to be run comes to: its inputs are taken, and then it is run.
+fn of_run<'a, F: Files>(
     alloc: Global,
     script: &Script,
-    command: &Command<'_>,
+    named: &Named<'a>,
     files: &mut F,
-) -> Result<Ending, AllocError>
+) -> Result<Ending<'a>, AllocError>
     requires { IsInForm script.now }
-    ensures ends { IfOk result (λ e. (r : Result (Unit {0}) InputFault) × TakesInputs (F.contents files.old) (command_seen command.now) (record { loads = F.loads files.old; faults = F.read_faults files.old; bytes = F.bytes_read files.old }) (record { loads = F.loads files.new; faults = F.read_faults files.new; bytes = F.bytes_read files.new }) r × InputsEnd (command_seen command.now) script.now r (ending_seen e)) }
-    ensures part { (r : Result (Unit {0}) InputFault) × TakesInputs (F.contents files.old) (command_seen command.now) (record { loads = F.loads files.old; faults = F.read_faults files.old; bytes = F.bytes_read files.old }) (record { loads = F.loads files.new; faults = F.read_faults files.new; bytes = F.bytes_read files.new }) r }
+    ensures ends { IfOk result (λ e. (r : Result (Unit {0}) InputFault) × TakesInputs (F.contents files.old) (named_seen named.now) (record { loads = F.loads files.old; faults = F.read_faults files.old; bytes = F.bytes_read files.old }) (record { loads = F.loads files.new; faults = F.read_faults files.new; bytes = F.bytes_read files.new }) r × InputsEnd (named_seen named.now) script.now r (ending_seen e)) }
+    ensures part { (r : Result (Unit {0}) InputFault) × TakesInputs (F.contents files.old) (named_seen named.now) (record { loads = F.loads files.old; faults = F.read_faults files.old; bytes = F.bytes_read files.old }) (record { loads = F.loads files.new; faults = F.read_faults files.new; bytes = F.bytes_read files.new }) r }
     ensures same { F.contents files.new ≡ F.contents files.old }
     ensures saves { F.saves files.new ≡ F.saves files.old }
     ensures writes { F.write_faults files.new ≡ F.write_faults files.old }
@@ -36,19 +45,44 @@ fn of_script<F: Files>(
     ensures not_write { IfOk result (λ e. e.status ≢ 4) }
     ensures few { IfOk result (λ e. e.status ≤ 7) }
 {
-    match take_inputs(alloc, command, files) {
-        Ok(()) => run(alloc, script),
-        Err(fault) => of_fault(alloc, command, fault),
+    match take_inputs(alloc, named, files) {
+        Ok(()) => run(alloc, script, named),
+        Err(fault) => of_fault(alloc, named, fault),
+    }
+}
+
+// What a script comes to by its command.
+fn of_script<'a, F: Files>(
+    alloc: Global,
+    script: &Script,
+    command: &Command<'a>,
+    files: &mut F,
+) -> Result<Ending<'a>, AllocError>
+    requires { IsInForm script.now }
+    ensures ends { IfOk result (λ e. ScriptEnd (F.contents files.old) (command_seen command.now) script.now (record { loads = F.loads files.old; faults = F.read_faults files.old; bytes = F.bytes_read files.old }) (record { loads = F.loads files.new; faults = F.read_faults files.new; bytes = F.bytes_read files.new }) (ending_seen e)) }
+    ensures part { FurtherPart (F.contents files.old) (command_seen command.now) (record { loads = F.loads files.old; faults = F.read_faults files.old; bytes = F.bytes_read files.old }) (record { loads = F.loads files.new; faults = F.read_faults files.new; bytes = F.bytes_read files.new }) }
+    ensures same { F.contents files.new ≡ F.contents files.old }
+    ensures saves { F.saves files.new ≡ F.saves files.old }
+    ensures writes { F.write_faults files.new ≡ F.write_faults files.old }
+    ensures later { F.read_faults files.old ≤ F.read_faults files.new }
+    ensures quiet { IfOk result (λ e. e.status ≡ 0 → F.read_faults files.new ≡ F.read_faults files.old) }
+    ensures not_usage { IfOk result (λ e. e.status ≢ 1) }
+    ensures not_write { IfOk result (λ e. e.status ≢ 4) }
+    ensures few { IfOk result (λ e. e.status ≤ 7) }
+{
+    match command {
+        Command::Replay(named) => of_run(alloc, script, named, files),
+        Command::Check(_) => check(alloc, script),
     }
 }
 
 // What the bytes of a script come to.
-fn of_bytes<F: Files>(
+fn of_bytes<'a, F: Files>(
     alloc: Global,
     bytes: Vec<u8>,
-    command: &Command<'_>,
+    command: &Command<'a>,
     files: &mut F,
-) -> Result<Ending, AllocError>
+) -> Result<Ending<'a>, AllocError>
     ensures ends { IfOk result (λ e. ReadEnd (F.contents files.old) (command_seen command.now) (record { loads = F.loads files.old; faults = F.read_faults files.old; bytes = F.bytes_read files.old }) (record { loads = F.loads files.new; faults = F.read_faults files.new; bytes = F.bytes_read files.new }) (read_of bytes.items) (ending_seen e)) }
     ensures part { FurtherPart (F.contents files.old) (command_seen command.now) (record { loads = F.loads files.old; faults = F.read_faults files.old; bytes = F.bytes_read files.old }) (record { loads = F.loads files.new; faults = F.read_faults files.new; bytes = F.bytes_read files.new }) }
     ensures same { F.contents files.new ≡ F.contents files.old }
@@ -72,12 +106,12 @@ fn of_bytes<F: Files>(
 }
 
 // What the load of a script comes to.
-fn of_answer<F: Files>(
+fn of_answer<'a, F: Files>(
     alloc: Global,
     answer: Result<Vec<u8>, LoadFault>,
-    command: &Command<'_>,
+    command: &Command<'a>,
     files: &mut F,
-) -> Result<Ending, AllocError>
+) -> Result<Ending<'a>, AllocError>
     ensures ends { IfOk result (λ e. AnswerEnd (F.contents files.old) (command_seen command.now) (record { loads = F.loads files.old; faults = F.read_faults files.old; bytes = F.bytes_read files.old }) (record { loads = F.loads files.new; faults = F.read_faults files.new; bytes = F.bytes_read files.new }) answer (ending_seen e)) }
     ensures part { FurtherPart (F.contents files.old) (command_seen command.now) (record { loads = F.loads files.old; faults = F.read_faults files.old; bytes = F.bytes_read files.old }) (record { loads = F.loads files.new; faults = F.read_faults files.new; bytes = F.bytes_read files.new }) }
     ensures same { F.contents files.new ≡ F.contents files.old }
@@ -92,19 +126,19 @@ fn of_answer<F: Files>(
     match answer {
         Ok(bytes) => of_bytes(alloc, bytes, command, files),
         Err(LoadFault::TooLong) => bad(alloc, 0, Reason::Length),
-        Err(LoadFault::Absent) => unread(alloc, command.script),
-        Err(LoadFault::Failed) => unread(alloc, command.script),
+        Err(LoadFault::Absent) => unread(alloc, script_name(command)),
+        Err(LoadFault::Failed) => unread(alloc, script_name(command)),
         Err(LoadFault::OutOfMemory) => Err(AllocError),
     }
 }
 
 /// What a command comes to: its script is loaded and read, then its inputs are taken, and then it is
-/// run.
-pub fn of_command<F: Files>(
+/// run; for check its numbers are told.
+pub fn of_command<'a, F: Files>(
     alloc: Global,
-    command: &Command<'_>,
+    command: &Command<'a>,
     files: &mut F,
-) -> Result<Ending, AllocError>
+) -> Result<Ending<'a>, AllocError>
     ensures ends { IfOk result (λ e. Reaches (F.contents files.old) (command_seen command.now) (record { loads = F.loads files.old; faults = F.read_faults files.old; bytes = F.bytes_read files.old }) (record { loads = F.loads files.new; faults = F.read_faults files.new; bytes = F.bytes_read files.new }) (ending_seen e)) }
     ensures part { ReachesPart (F.contents files.old) (command_seen command.now) (record { loads = F.loads files.old; faults = F.read_faults files.old; bytes = F.bytes_read files.old }) (record { loads = F.loads files.new; faults = F.read_faults files.new; bytes = F.bytes_read files.new }) }
     ensures same { F.contents files.new ≡ F.contents files.old }
@@ -116,6 +150,6 @@ pub fn of_command<F: Files>(
     ensures not_write { IfOk result (λ e. e.status ≢ 4) }
     ensures few { IfOk result (λ e. e.status ≤ 7) }
 {
-    let answer = files.load(alloc, command.script, MOST_SCRIPT);
+    let answer = files.load(alloc, script_name(command), MOST_SCRIPT);
     of_answer(alloc, answer, command, files)
 }

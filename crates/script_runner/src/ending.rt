@@ -1,125 +1,183 @@
-//! How a command ends: its status, and the text that is put.
+//! How a command ends: its status, the text that is put, and the files that are saved.
 
-ghost use Rattle.std.specs.Prelude.{◌≡◌, ◌≢◌, ◌≤◌, IfOk, Ok, Err};
+ghost use Rattle.std.specs.Prelude.{◌≡◌, ◌≢◌, ◌≤◌, ◌<◌, ◌^◌, [], map, IfOk, Err};
 ghost use Rattle.script_text.specs.Laws.{IsInForm};
 ghost use Rattle.script_text.specs.Seen.{ScriptSeen};
-ghost use Rattle.command_files.specs.Commands.{command_seen};
-ghost use Rattle.script_runner.specs.Ending.{ending_seen, usage_end, unread_end, bad_end, script_end, container_end, keys_end, unwritten_end, input_name};
+ghost use Rattle.command_files.specs.Commands.{named_seen};
+ghost use Rattle.script_runner.specs.Ending.{ending_seen, usage_end, unread_end, bad_end, run_end, calls_in, ops_in, check_end, container_end, keys_end, unwritten_end, input_name};
 ghost use Rattle.script_runner.specs.Commanded.{InputsEnd};
 
-use crate::replay::replay_text;
-use command_files::{Command, Input, InputFault};
+use crate::replay::replay_texts;
+use command_files::{Input, InputFault, Named};
 use script_text::{Reason, Script};
 use std::alloc::{AllocError, Global};
-use td_words::OutOfMemory;
+use td_words::{Call, Code, OutOfMemory};
 
-/// An exit status, and the text that is put to the output before it.
+/// An exit status, and the text that is put to the output before it. Behind it the container and the
+/// guest file are saved, where they are named.
 #[derive(Drop)]
-pub struct Ending {
+pub struct Ending<'a> {
     pub status: u8,
     pub text: Vec<u8>,
+    pub out_bundles: Option<&'a str>,
+    pub guest_out: Option<&'a str>,
+    pub guest: Vec<u8>,
 }
 
 const USAGE: &str =
     "usage: tdx replay|run SCRIPT [--bundles F] [--keys F] [--secrets F] [--out-bundles F] [--guest-out F] | tdx check SCRIPT | tdx soak N\n";
 
+// An ending that saves nothing.
+fn plain<'a>(alloc: Global, status: u8, text: Vec<u8>) -> Ending<'a>
+    ensures { ending_seen result ≡ record { status = status; text = text.items; files = [] } }
+{
+    Ending {
+        status,
+        text,
+        out_bundles: None,
+        guest_out: None,
+        guest: Vec::new(alloc),
+    }
+}
+
 /// The words are no command.
-pub fn usage(alloc: Global) -> Result<Ending, AllocError>
+pub fn usage<'a>(alloc: Global) -> Result<Ending<'a>, AllocError>
     ensures { IfOk result (λ e. ending_seen e ≡ usage_end) }
 {
-    Ok(Ending {
-        status: 1,
-        text: USAGE.as_bytes().to_vec(alloc)?,
-    })
+    Ok(plain(alloc, 1, USAGE.as_bytes().to_vec(alloc)?))
 }
 
 /// That line of the script is bad.
-pub fn bad(alloc: Global, line: u64, reason: Reason) -> Result<Ending, AllocError>
+pub fn bad<'a>(alloc: Global, line: u64, reason: Reason) -> Result<Ending<'a>, AllocError>
     ensures { IfOk result (λ e. ending_seen e ≡ bad_end line reason) }
 {
-    Ok(Ending {
-        status: 2,
-        text: format!(in alloc; "script line {line} {reason}\n")?.into_bytes(),
-    })
+    Ok(plain(
+        alloc,
+        2,
+        format!(in alloc; "script line {line} {reason}\n")?.into_bytes(),
+    ))
 }
 
 /// Nothing was read under that name.
-pub fn unread(alloc: Global, name: &str) -> Result<Ending, AllocError>
+pub fn unread<'a>(alloc: Global, name: &str) -> Result<Ending<'a>, AllocError>
     ensures { IfOk result (λ e. ending_seen e ≡ unread_end name.now) }
 {
-    Ok(Ending {
-        status: 3,
-        text: format!(in alloc; "cannot read {name}\n")?.into_bytes(),
-    })
+    Ok(plain(
+        alloc,
+        3,
+        format!(in alloc; "cannot read {name}\n")?.into_bytes(),
+    ))
 }
 
 /// The container's bytes are none, from that place on.
-fn bad_container(alloc: Global, place: u64) -> Result<Ending, AllocError>
+fn bad_container<'a>(alloc: Global, place: u64) -> Result<Ending<'a>, AllocError>
     ensures { IfOk result (λ e. ending_seen e ≡ container_end place) }
 {
-    Ok(Ending {
-        status: 6,
-        text: format!(in alloc; "bundle file byte {place}\n")?.into_bytes(),
-    })
+    Ok(plain(
+        alloc,
+        6,
+        format!(in alloc; "bundle file byte {place}\n")?.into_bytes(),
+    ))
 }
 
 /// The key file hasn't its length.
-fn bad_keys(alloc: Global) -> Result<Ending, AllocError>
+fn bad_keys<'a>(alloc: Global) -> Result<Ending<'a>, AllocError>
     ensures { IfOk result (λ e. ending_seen e ≡ keys_end) }
 {
-    Ok(Ending {
-        status: 7,
-        text: "key file\n".as_bytes().to_vec(alloc)?,
-    })
+    Ok(plain(alloc, 7, "key file\n".as_bytes().to_vec(alloc)?))
 }
 
 /// Nothing was written under that name.
-pub fn unwritten(alloc: Global, name: &str) -> Result<Ending, AllocError>
+pub fn unwritten<'a>(alloc: Global, name: &str) -> Result<Ending<'a>, AllocError>
     ensures { IfOk result (λ e. ending_seen e ≡ unwritten_end name.now) }
 {
-    Ok(Ending {
-        status: 4,
-        text: format!(in alloc; "cannot write {name}\n")?.into_bytes(),
-    })
+    Ok(plain(
+        alloc,
+        4,
+        format!(in alloc; "cannot write {name}\n")?.into_bytes(),
+    ))
 }
 
-fn input_name<'a>(command: &Command<'a>, input: Input) -> &'a str
-    ensures { result.now ≡ input_name (command_seen command.now) input }
+fn input_name<'a>(named: &Named<'a>, input: Input) -> &'a str
+    ensures { result.now ≡ input_name (named_seen named.now) input }
 {
     let name = match input {
-        Input::Bundles => command.bundles,
-        Input::Keys => command.keys,
+        Input::Bundles => named.bundles,
+        Input::Keys => named.keys,
     };
     name.unwrap_or("")
 }
 
 /// An input can't be read, or hasn't its form.
-pub fn of_fault(
+pub fn of_fault<'a>(
     alloc: Global,
-    command: &Command<'_>,
+    named: &Named<'_>,
     fault: InputFault,
-) -> Result<Ending, AllocError>
-    ensures ends { (s : ScriptSeen) → IfOk result (λ e. InputsEnd (command_seen command.now) s (Err fault) (ending_seen e)) }
+) -> Result<Ending<'a>, AllocError>
+    ensures ends { (s : ScriptSeen) → IfOk result (λ e. InputsEnd (named_seen named.now) s (Err fault) (ending_seen e)) }
     ensures not_usage { IfOk result (λ e. e.status ≢ 1) }
     ensures not_write { IfOk result (λ e. e.status ≢ 4) }
     ensures not_run { IfOk result (λ e. e.status ≢ 0) }
     ensures few { IfOk result (λ e. e.status ≤ 7) }
 {
     match fault {
-        InputFault::Unread(input) => unread(alloc, input_name(command, input)),
+        InputFault::Unread(input) => unread(alloc, input_name(named, input)),
         InputFault::Container(place) => bad_container(alloc, place),
         InputFault::Keys => bad_keys(alloc),
         InputFault::OutOfMemory => Err(AllocError),
     }
 }
 
-/// A script is run.
-pub fn run(alloc: Global, script: &Script) -> Result<Ending, AllocError>
+/// A script is run. The guest file's text is made where that file is named.
+pub fn run<'a>(alloc: Global, script: &Script, named: &Named<'a>) -> Result<Ending<'a>, AllocError>
     requires { IsInForm script.now }
-    ensures { IfOk result (λ e. ending_seen e ≡ script_end (Ok script.now)) }
+    ensures { IfOk result (λ e. ending_seen e ≡ run_end (named_seen named.now) script.now) }
 {
-    match replay_text(alloc, script) {
-        Ok(text) => Ok(Ending { status: 0, text }),
+    match replay_texts(alloc, script, named.guest_out) {
+        Ok(texts) => Ok(Ending {
+            status: 0,
+            text: texts.replies,
+            out_bundles: named.out_bundles,
+            guest_out: named.guest_out,
+            guest: texts.guest,
+        }),
         Err(OutOfMemory) => Err(AllocError),
     }
+}
+
+fn count_calls(lists: &[Vec<Call>]) -> u64
+    requires { calls_in (map (λ list. list.items) lists.now) < 2 ^ 64 }
+    ensures { result ≡ calls_in (map (λ list. list.items) lists.now) }
+{
+    let mut total = 0;
+    for i in 0..lists.len() {
+        total += lists[i].len() as u64;
+    }
+    total
+}
+
+// The form of a script bounds its lists by their operations alone, so the sum has more than 64 bits.
+fn count_ops(codes: &[Code]) -> u128
+    requires { ops_in codes.now < 2 ^ 128 }
+    ensures { result ≡ ops_in codes.now }
+{
+    let mut total = 0;
+    for i in 0..codes.len() {
+        let code = &codes[i];
+        total += code.ops.len() as u128;
+    }
+    total
+}
+
+/// The numbers of a script.
+pub fn check<'a>(alloc: Global, script: &Script) -> Result<Ending<'a>, AllocError>
+    requires { IsInForm script.now }
+    ensures { IfOk result (λ e. ending_seen e ≡ check_end script.now) }
+{
+    let lps = script.machine.lps;
+    let calls = count_calls(&script.calls);
+    let ops = count_ops(&script.codes);
+    let items = script.schedule.len();
+    let text = format!(in alloc; "ok {lps} {calls} {ops} {items}\n")?;
+    Ok(plain(alloc, 0, text.into_bytes()))
 }

@@ -1,20 +1,22 @@
 //! A script's run over words: its processors under its schedule, and then each to its end.
 
-ghost use Rattle.std.specs.Prelude.{◌≡◌, ◌≤◌, ◌<◌, ◌+◌, true, [], length, map, IfOk};
+ghost use Rattle.std.specs.Prelude.{◌≡◌, ◌≤◌, ◌<◌, ◌+◌, true, [], length, map, option_map, IfOk};
 ghost use Rattle.std.specs.List.{All, concat};
 ghost use Rattle.td_words.specs.Limits.{IsMachine};
+ghost use Rattle.flat_core.specs.GuestText.{guest_text, note_told};
 ghost use Rattle.flat_core.specs.HostText.{host_text};
 ghost use Rattle.script_text.specs.Laws.{IsInForm};
+ghost use Rattle.leaf_dispatch.specs.States.{seen_of};
 ghost use Rattle.leaf_dispatch.specs.Table.{have_leaves};
 ghost use Rattle.trace_table.specs.Benches.{bench_of};
-ghost use Rattle.script_runner.specs.Ending.{opening_of};
-ghost use Rattle.script_runner.specs.Replaying.{AreFirst, IsAtBench, HaveEnded, TurnsAreEvents, lines_seen};
+ghost use Rattle.script_runner.specs.Ending.{opening_of, file_named};
+ghost use Rattle.script_runner.specs.Replaying.{AreFirst, IsAtBench, HaveEnded, TurnsAreEvents, lines_seen, notes_seen, TellAll};
 
 use flat_core::{end_laws, event_laws};
 use leaf_dispatch::{LpState, calls_have_leaves, none_enters};
 use leaf_engine::{Processor, Turn, turns_in_pieces};
 use merge_laws::merge_law;
-use report_text::host_lines;
+use report_text::{GuestNote, guest_lines, host_lines};
 use script_text::Script;
 use std::alloc::Global;
 use td_words::{Call, Machine, OutOfMemory};
@@ -108,10 +110,72 @@ fn all_lines(alloc: Global, lps: &[LpState<'_>]) -> Result<Vec<u8>, OutOfMemory>
     Ok(text)
 }
 
-/// The reply lines of a script's run under its schedule.
-pub fn replay_text(alloc: Global, script: &Script) -> Result<Vec<u8>, OutOfMemory>
+// What the guests of a processor noted. None runs yet.
+fn notes<'a>(lp: &'a LpState<'_>) -> &'a [GuestNote]
+    ensures { map note_told (seen_of lp.now).beside.notes ≡ result.now }
+{
+    let _ = lp;
+    &[]
+}
+
+// The lines of what the guests of all processors noted.
+fn all_notes(alloc: Global, lps: &[LpState<'_>]) -> Result<Vec<u8>, OutOfMemory>
+    requires { length lps.now ≤ 8 }
+    ensures { IfOk result (λ v. v.items ≡ concat (notes_seen 0 lps.now)) }
+{
+    let mut text = Vec::new(alloc);
+    for lp in 0..lps.len() {
+        let lines = guest_lines(alloc, lp as u8, notes(&lps[lp]))?;
+        let Ok(()) = text.extend_from_slice(&lines) else {
+            return Err(OutOfMemory);
+        };
+    }
+    Ok(text)
+}
+
+// The same where the guest file is named, and else nothing.
+fn guest_notes(
+    alloc: Global,
+    guest_out: Option<&str>,
+    lps: &[LpState<'_>],
+) -> Result<Vec<u8>, OutOfMemory>
+    requires { length lps.now ≤ 8 }
+    ensures { IfOk result (λ v. file_named (option_map (λ name. name.now) guest_out.entry) v.items ≡ file_named (option_map (λ name. name.now) guest_out.entry) (concat (notes_seen 0 lps.now))) }
+{
+    match guest_out {
+        None => Ok(Vec::new(alloc)),
+        Some(_) => all_notes(alloc, lps),
+    }
+}
+
+/// The reply lines of a run, and the text of the guest file, which has bytes only where it is named.
+#[derive(Drop)]
+pub struct Texts {
+    pub replies: Vec<u8>,
+    pub guest: Vec<u8>,
+}
+
+fn both_texts(
+    alloc: Global,
+    guest_out: Option<&str>,
+    lps: &[LpState<'_>],
+) -> Result<Texts, OutOfMemory>
+    requires { length lps.now ≤ 8 }
+    ensures { IfOk result (λ t. TellAll (option_map (λ name. name.now) guest_out.entry) (concat (lines_seen 0 lps.now)) (concat (notes_seen 0 lps.now)) t) }
+{
+    let replies = all_lines(alloc, lps)?;
+    let guest = guest_notes(alloc, guest_out, lps)?;
+    Ok(Texts { replies, guest })
+}
+
+/// The texts of a script's run under its schedule.
+pub fn replay_texts(
+    alloc: Global,
+    script: &Script,
+    guest_out: Option<&str>,
+) -> Result<Texts, OutOfMemory>
     requires { IsInForm script.now }
-    ensures { IfOk result (λ v. v.items ≡ host_text (opening_of script.now) script.now.schedule) }
+    ensures { IfOk result (λ t. TellAll (option_map (λ name. name.now) guest_out.entry) (host_text (opening_of script.now) script.now.schedule) (guest_text (opening_of script.now) script.now.schedule) t) }
 {
     laws_of_turns();
     let mut states = processors(alloc, script.machine, &script.calls)?;
@@ -122,5 +186,5 @@ pub fn replay_text(alloc: Global, script: &Script) -> Result<Vec<u8>, OutOfMemor
     finish_all(script, lps, &mut bench);
     let pass = bench.into_pass();
     table.close(pass);
-    all_lines(alloc, lps)
+    both_texts(alloc, guest_out, lps)
 }

@@ -1,13 +1,14 @@
 //! The top call: the ending that is due is decided, and then told.
 
-ghost use Rattle.std.specs.Prelude.{◌≡◌, ◌≢◌, ◌≤◌, ◌⊎◌, ◌++◌, ◌∷◌, [], ℕ, List, Option, None, Result, Ok, Some, map, option_map, string_bytes, IfSome, IfOk};
-ghost use Rattle.bundle_store.specs.Outside.{Rose};
+ghost use Rattle.std.specs.Prelude.{◌≡◌, ◌≢◌, ◌≤◌, ◌⊎◌, ◌++◌, ◌∷◌, [], ℕ, List, None, Result, Ok, map, option_map, string_bytes, IfSome, IfOk};
+ghost use Rattle.bundle_store.specs.Containers.{container_bytes};
 ghost use Rattle.bundle_store.specs.History.{Put};
 ghost use Rattle.command_files.specs.Commands.{command_in};
-ghost use Rattle.script_runner.specs.Ending.{ending_seen, ending_of, memory_end};
-ghost use Rattle.script_runner.specs.Ends.{PutsPart, EndsWith, OneRun, IsComplete, IsBadScript, IsBadContainer, IsBadKeys, ReadCause, WriteCause, PutsFronts, success_text, own_text};
-ghost use Rattle.script_runner.specs.Done.{PutsOnce, PutsRun, PutsUsage, PutsFault, PutsName, PutsPlace, PutsKeys, PutsLost, PutsMemory, SavesNothing};
-ghost use Rattle.script_runner.specs.Commanded.{Comes, ComesPart, TellsBy, PutsWant, SavesNamed, AllSaved, PutsAndSaves, DoesCommand, out_name};
+ghost use Rattle.script_runner.specs.Ending.{ending_seen, file_named, ending_of, memory_end};
+ghost use Rattle.script_runner.specs.Ends.{PutsPart, EndsWith, OneRun, IsComplete, IsBadScript, IsBadContainer, IsBadKeys, ReadCause, WriteCause, PutsFronts};
+ghost use Rattle.script_runner.specs.Done.{PutsOnce, PutsRun, PutsAndSaved, PutsUsage, PutsFault, PutsName, PutsPlace, PutsKeys, PutsLost, PutsMemory, SavesNothing, ChangesNothing, KeepsOrSaves};
+ghost use Rattle.script_runner.specs.Saving.{out_names};
+ghost use Rattle.script_runner.specs.Commanded.{Comes, ComesPart, TellsBy, PutsWant, SavesAll, PutsAndSaves, DoesCommand};
 
 use crate::commanded::of_command;
 use crate::ending::{Ending, unwritten, usage};
@@ -18,7 +19,11 @@ use std::alloc::{AllocError, Global};
 
 const MEMORY: &str = "out of memory\n";
 
-fn decide<F: Files>(alloc: Global, words: &[String], files: &mut F) -> Result<Ending, AllocError>
+fn decide<'a, F: Files>(
+    alloc: Global,
+    words: &'a [String],
+    files: &mut F,
+) -> Result<Ending<'a>, AllocError>
     ensures ends { IfOk result (λ e. Comes (F.contents files.old) (command_in (map string_bytes words.now)) (record { loads = F.loads files.old; faults = F.read_faults files.old; bytes = F.bytes_read files.old }) (record { loads = F.loads files.new; faults = F.read_faults files.new; bytes = F.bytes_read files.new }) (ending_seen e)) }
     ensures part { ComesPart (F.contents files.old) (command_in (map string_bytes words.now)) (record { loads = F.loads files.old; faults = F.read_faults files.old; bytes = F.bytes_read files.old }) (record { loads = F.loads files.new; faults = F.read_faults files.new; bytes = F.bytes_read files.new }) }
     ensures same { F.contents files.new ≡ F.contents files.old }
@@ -31,16 +36,6 @@ fn decide<F: Files>(alloc: Global, words: &[String], files: &mut F) -> Result<En
     match read_command(words) {
         None => usage(alloc),
         Some(command) => of_command(alloc, &command, files),
-    }
-}
-
-// The name of the container that is to be saved.
-fn container_name<'a>(words: &'a [String]) -> Option<&'a str>
-    ensures { option_map (λ name. name.now) result ≡ out_name (command_in (map string_bytes words.now)) }
-{
-    match read_command(words) {
-        None => None,
-        Some(command) => command.out_bundles,
     }
 }
 
@@ -57,7 +52,7 @@ pub fn give_up<K: Sink>(out: &mut K) -> u8
 }
 
 // Puts the text of an ending.
-fn tell<K: Sink>(how: &Ending, out: &mut K) -> u8
+fn tell<K: Sink>(how: &Ending<'_>, out: &mut K) -> u8
     ensures tells { (answer : Result (Unit {0}) PutFault) × TellsBy (record { told = K.told out.old; puts = K.puts out.old; faults = K.faults out.old }) (ending_seen how.now) (record { told = K.told out.new; puts = K.puts out.new; faults = K.faults out.new }) result answer }
     ensures quiet { result ≡ 0 → K.faults out.new ≡ K.faults out.old }
     ensures later { K.faults out.old ≤ K.faults out.new }
@@ -69,9 +64,15 @@ fn tell<K: Sink>(how: &Ending, out: &mut K) -> u8
     }
 }
 
-// Saves the container: it has no bundles, since no call makes any.
-fn save_container<F: Files, K: Sink>(alloc: Global, name: &str, files: &mut F, out: &mut K) -> u8
-    ensures saves { SavesNamed (Some name.now) (record { contents = F.contents files.old; saves = F.saves files.old; faults = F.write_faults files.old }) (record { contents = F.contents files.new; saves = F.saves files.new; faults = F.write_faults files.new }) (record { told = K.told out.old; puts = K.puts out.old; faults = K.faults out.old }) (record { told = K.told out.new; puts = K.puts out.new; faults = K.faults out.new }) result }
+// Saves one file, and tells where that failed.
+fn save_file<F: Files, K: Sink>(
+    alloc: Global,
+    name: &str,
+    bytes: &[u8],
+    files: &mut F,
+    out: &mut K,
+) -> u8
+    ensures saves { SavesAll (record { name = name.now; bytes = bytes.now } ∷ []) (record { contents = F.contents files.old; saves = F.saves files.old; faults = F.write_faults files.old }) (record { contents = F.contents files.new; saves = F.saves files.new; faults = F.write_faults files.new }) (record { told = K.told out.old; puts = K.puts out.old; faults = K.faults out.old }) (record { told = K.told out.new; puts = K.puts out.new; faults = K.faults out.new }) result }
     ensures loads { F.loads files.new ≡ F.loads files.old }
     ensures reads { F.read_faults files.new ≡ F.read_faults files.old }
     ensures bytes { F.bytes_read files.new ≡ F.bytes_read files.old }
@@ -79,10 +80,7 @@ fn save_container<F: Files, K: Sink>(alloc: Global, name: &str, files: &mut F, o
     ensures later { K.faults out.old ≤ K.faults out.new }
     ensures quiet { result ≡ 0 → (F.write_faults files.new ≡ F.write_faults files.old) × (K.faults out.new ≡ K.faults out.old) }
 {
-    let Ok(bytes) = write_container(alloc, &[]) else {
-        return give_up(out);
-    };
-    match files.save(alloc, name, &bytes) {
+    match files.save(alloc, name, bytes) {
         Ok(()) => 0,
         Err(SaveFault::OutOfMemory) => give_up(out),
         Err(SaveFault::Failed) => match unwritten(alloc, name) {
@@ -92,15 +90,72 @@ fn save_container<F: Files, K: Sink>(alloc: Global, name: &str, files: &mut F, o
     }
 }
 
-// Puts the text of an ending, and then saves what is named, where the replies were put.
-fn finish<F: Files, K: Sink>(
+// Saves the container where it is named: it has no bundles, since no call makes any.
+fn save_container<F: Files, K: Sink>(
     alloc: Global,
-    words: &[String],
-    how: &Ending,
+    name: Option<&str>,
     files: &mut F,
     out: &mut K,
 ) -> u8
-    ensures does { PutsAndSaves (out_name (command_in (map string_bytes words.now))) (ending_seen how.now) (record { contents = F.contents files.old; saves = F.saves files.old; faults = F.write_faults files.old }) (record { contents = F.contents files.new; saves = F.saves files.new; faults = F.write_faults files.new }) (record { told = K.told out.old; puts = K.puts out.old; faults = K.faults out.old }) (record { told = K.told out.new; puts = K.puts out.new; faults = K.faults out.new }) result }
+    ensures saves { SavesAll (file_named (option_map (λ name. name.now) name.entry) (container_bytes [])) (record { contents = F.contents files.old; saves = F.saves files.old; faults = F.write_faults files.old }) (record { contents = F.contents files.new; saves = F.saves files.new; faults = F.write_faults files.new }) (record { told = K.told out.old; puts = K.puts out.old; faults = K.faults out.old }) (record { told = K.told out.new; puts = K.puts out.new; faults = K.faults out.new }) result }
+    ensures loads { F.loads files.new ≡ F.loads files.old }
+    ensures reads { F.read_faults files.new ≡ F.read_faults files.old }
+    ensures bytes { F.bytes_read files.new ≡ F.bytes_read files.old }
+    ensures few { result ≤ 5 }
+    ensures later { K.faults out.old ≤ K.faults out.new }
+    ensures quiet { result ≡ 0 → (F.write_faults files.new ≡ F.write_faults files.old) × (K.faults out.new ≡ K.faults out.old) }
+{
+    let Some(name) = name else {
+        return 0;
+    };
+    let Ok(bytes) = write_container(alloc, &[]) else {
+        return give_up(out);
+    };
+    save_file(alloc, name, &bytes, files, out)
+}
+
+// Saves the guest file where it is named.
+fn save_guest<F: Files, K: Sink>(
+    alloc: Global,
+    name: Option<&str>,
+    text: &[u8],
+    files: &mut F,
+    out: &mut K,
+) -> u8
+    ensures saves { SavesAll (file_named (option_map (λ name. name.now) name.entry) text.now) (record { contents = F.contents files.old; saves = F.saves files.old; faults = F.write_faults files.old }) (record { contents = F.contents files.new; saves = F.saves files.new; faults = F.write_faults files.new }) (record { told = K.told out.old; puts = K.puts out.old; faults = K.faults out.old }) (record { told = K.told out.new; puts = K.puts out.new; faults = K.faults out.new }) result }
+    ensures loads { F.loads files.new ≡ F.loads files.old }
+    ensures reads { F.read_faults files.new ≡ F.read_faults files.old }
+    ensures bytes { F.bytes_read files.new ≡ F.bytes_read files.old }
+    ensures few { result ≤ 5 }
+    ensures later { K.faults out.old ≤ K.faults out.new }
+    ensures quiet { result ≡ 0 → (F.write_faults files.new ≡ F.write_faults files.old) × (K.faults out.new ≡ K.faults out.old) }
+{
+    match name {
+        None => 0,
+        Some(name) => save_file(alloc, name, text, files, out),
+    }
+}
+
+// Saves the files of an ending, the container first.
+fn save_all<F: Files, K: Sink>(alloc: Global, how: &Ending<'_>, files: &mut F, out: &mut K) -> u8
+    ensures saves { SavesAll (ending_seen how.now).files (record { contents = F.contents files.old; saves = F.saves files.old; faults = F.write_faults files.old }) (record { contents = F.contents files.new; saves = F.saves files.new; faults = F.write_faults files.new }) (record { told = K.told out.old; puts = K.puts out.old; faults = K.faults out.old }) (record { told = K.told out.new; puts = K.puts out.new; faults = K.faults out.new }) result }
+    ensures loads { F.loads files.new ≡ F.loads files.old }
+    ensures reads { F.read_faults files.new ≡ F.read_faults files.old }
+    ensures bytes { F.bytes_read files.new ≡ F.bytes_read files.old }
+    ensures few { result ≤ 5 }
+    ensures later { K.faults out.old ≤ K.faults out.new }
+    ensures quiet { result ≡ 0 → (F.write_faults files.new ≡ F.write_faults files.old) × (K.faults out.new ≡ K.faults out.old) }
+{
+    let saved = save_container(alloc, how.out_bundles, files, out);
+    if saved != 0 {
+        return saved;
+    }
+    save_guest(alloc, how.guest_out, &how.guest, files, out)
+}
+
+// Puts the text of an ending, and then saves its files, where that was the text of a success.
+fn finish<F: Files, K: Sink>(alloc: Global, how: &Ending<'_>, files: &mut F, out: &mut K) -> u8
+    ensures does { PutsAndSaves (ending_seen how.now) (record { contents = F.contents files.old; saves = F.saves files.old; faults = F.write_faults files.old }) (record { contents = F.contents files.new; saves = F.saves files.new; faults = F.write_faults files.new }) (record { told = K.told out.old; puts = K.puts out.old; faults = K.faults out.old }) (record { told = K.told out.new; puts = K.puts out.new; faults = K.faults out.new }) result }
     ensures loads { F.loads files.new ≡ F.loads files.old }
     ensures reads { F.read_faults files.new ≡ F.read_faults files.old }
     ensures bytes { F.bytes_read files.new ≡ F.bytes_read files.old }
@@ -113,10 +168,7 @@ fn finish<F: Files, K: Sink>(
     if told != 0 {
         return told;
     }
-    match container_name(words) {
-        None => 0,
-        Some(name) => save_container(alloc, name, files, out),
-    }
+    save_all(alloc, how, files, out)
 }
 
 // The whole: what is due is decided, put and saved.
@@ -128,7 +180,7 @@ fn do_command<F: Files, K: Sink>(alloc: Global, words: &[String], files: &mut F,
     ensures puts_later { K.faults out.old ≤ K.faults out.new }
 {
     match decide(alloc, words, files) {
-        Ok(how) => finish(alloc, words, &how, files, out),
+        Ok(how) => finish(alloc, &how, files, out),
         Err(_) => give_up(out),
     }
 }
@@ -146,17 +198,19 @@ pub fn tdx_main<F: Files, K: Sink, G: Gate + Sync>(
     _gate: &G,
 ) -> u8
     // The call loads what the words name, in order, puts what that comes to, once, and then saves the
-    // container, at most once. Want of memory alone cuts this short, and is put instead. This and what
-    // follows, down to `put_memory`, holds of all files and outputs, whatever they tell.
+    // container and the guest file, each at most once. Want of memory alone cuts this short, and is put
+    // instead. This and what follows, down to `put_memory`, holds of all files and outputs, whatever
+    // they tell.
     ensures does_command { DoesCommand (F.contents files.old) (command_in (map string_bytes words.now)) (record { loads = F.loads files.old; faults = F.read_faults files.old; bytes = F.bytes_read files.old }) (record { loads = F.loads files.new; faults = F.read_faults files.new; bytes = F.bytes_read files.new }) (record { contents = F.contents files.old; saves = F.saves files.old; faults = F.write_faults files.old }) (record { contents = F.contents files.new; saves = F.saves files.new; faults = F.write_faults files.new }) (record { told = K.told out.old; puts = K.puts out.old; faults = K.faults out.old }) (record { told = K.told out.new; puts = K.puts out.new; faults = K.faults out.new }) result }
     ensures statuses { result ≤ 7 }
     // Whatever the status, the script is loaded, and then the inputs that are due or nothing, and each
     // load answers as its law says.
     ensures loads { ComesPart (F.contents files.old) (command_in (map string_bytes words.now)) (record { loads = F.loads files.old; faults = F.read_faults files.old; bytes = F.bytes_read files.old }) (record { loads = F.loads files.new; faults = F.read_faults files.new; bytes = F.bytes_read files.new }) }
     // At status 0 the put was given just the reply lines of the flat machine's run of the script that
-    // the first load handed out, and came through; and every output was written.
+    // the first load handed out, or for `check` its numbers, and came through; and every output was
+    // written, the guest file with what the guests of that same run noted.
     ensures put_run { result ≡ 0 → PutsRun (command_in (map string_bytes words.now)) (F.loads files.old) (F.loads files.new) (K.puts out.old) (K.puts out.new) (Ok tt) }
-    ensures saved { result ≡ 0 → AllSaved (out_name (command_in (map string_bytes words.now))) (record { contents = F.contents files.old; saves = F.saves files.old; faults = F.write_faults files.old }) (record { contents = F.contents files.new; saves = F.saves files.new; faults = F.write_faults files.new }) }
+    ensures saved { result ≡ 0 → PutsAndSaved (command_in (map string_bytes words.now)) (F.loads files.old) (F.loads files.new) (K.puts out.old) (K.puts out.new) (record { contents = F.contents files.old; saves = F.saves files.old; faults = F.write_faults files.old }) (record { contents = F.contents files.new; saves = F.saves files.new; faults = F.write_faults files.new }) }
     // At 1 it was given the usage line, and nothing was loaded; at 2 the first fault of what the one
     // load handed out, or that this is too long; at 3 the name, where the last load handed out nothing;
     // at 6 the place of the first fault of the container that was loaded; at 7 that the key file hasn't
@@ -166,15 +220,15 @@ pub fn tdx_main<F: Files, K: Sink, G: Gate + Sync>(
     ensures put_name { result ≡ 3 → PutsName (command_in (map string_bytes words.now)) (F.loads files.old) (F.loads files.new) (K.puts out.old) (K.puts out.new) }
     ensures put_place { result ≡ 6 → PutsPlace (command_in (map string_bytes words.now)) (F.loads files.old) (F.loads files.new) (K.puts out.old) (K.puts out.new) }
     ensures put_keys { result ≡ 7 → PutsKeys (command_in (map string_bytes words.now)) (F.loads files.old) (F.loads files.new) (K.puts out.old) (K.puts out.new) }
-    // At 4 it was given the reply lines, and failed, or else the save of the container did. At 5 the last
-    // put says that memory was wanting.
-    ensures put_lost { result ≡ 4 → PutsLost (command_in (map string_bytes words.now)) (out_name (command_in (map string_bytes words.now))) (F.loads files.old) (F.loads files.new) (F.saves files.old) (F.saves files.new) (K.puts out.old) (K.puts out.new) }
-    ensures put_memory { result ≡ 5 → PutsMemory (out_name (command_in (map string_bytes words.now))) (K.puts out.old) (K.puts out.new) }
+    // At 4 it was given the text of a success, and failed, or else the save of a file did, behind which
+    // none was saved. At 5 the last put says that memory was wanting.
+    ensures put_lost { result ≡ 4 → PutsLost (command_in (map string_bytes words.now)) (F.loads files.old) (F.loads files.new) (record { contents = F.contents files.old; saves = F.saves files.old; faults = F.write_faults files.old }) (record { contents = F.contents files.new; saves = F.saves files.new; faults = F.write_faults files.new }) (K.puts out.old) (K.puts out.new) }
+    ensures put_memory { result ≡ 5 → PutsMemory (out_names (command_in (map string_bytes words.now))) (K.puts out.old) (K.puts out.new) }
     // Where contents are told, at status 0 the output got just the reply lines of the flat machine's run
-    // of the named script.
-    ensures one_run { result ≡ 0 → IfSome (F.contents files.old) (λ k. OneRun k (command_in (map string_bytes words.now)) (K.told out.old) (K.told out.new)) }
+    // of the named script, or its numbers, and each file that is named has what that same run leaves.
+    ensures one_run { result ≡ 0 → IfSome (F.contents files.old) (λ k. OneRun k (command_in (map string_bytes words.now)) (K.told out.old) (K.told out.new) (record { contents = F.contents files.old; saves = F.saves files.old; faults = F.write_faults files.old }) (record { contents = F.contents files.new; saves = F.saves files.new; faults = F.write_faults files.new })) }
     // There each status comes with its text.
-    ensures ends { IfSome (F.contents files.old) (λ k. EndsWith (record { reads = F.read_faults files.old; writes = F.write_faults files.old; puts = K.faults out.old }) (record { reads = F.read_faults files.new; writes = F.write_faults files.new; puts = K.faults out.new }) k (command_in (map string_bytes words.now)) (out_name (command_in (map string_bytes words.now))) (K.told out.old) (K.told out.new) result) }
+    ensures ends { IfSome (F.contents files.old) (λ k. EndsWith (record { reads = F.read_faults files.old; writes = F.write_faults files.old; puts = K.faults out.old }) (record { reads = F.read_faults files.new; writes = F.write_faults files.new; puts = K.faults out.new }) k (command_in (map string_bytes words.now)) (K.told out.old) (K.told out.new) result) }
     // There the status that is due comes; only a fault or want of memory keeps it from coming.
     ensures complete { IfSome (F.contents files.old) (λ k. IsComplete (record { reads = F.read_faults files.old; writes = F.write_faults files.old; puts = K.faults out.old }) (record { reads = F.read_faults files.new; writes = F.write_faults files.new; puts = K.faults out.new }) (ending_of k (command_in (map string_bytes words.now))) result) }
     // The words alone decide on the usage line.
@@ -183,20 +237,22 @@ pub fn tdx_main<F: Files, K: Sink, G: Gate + Sync>(
     // Each other status has its cause.
     ensures bad { result ≡ 2 → IfSome (F.contents files.old) (λ k. IsBadScript k (command_in (map string_bytes words.now))) }
     ensures read { result ≡ 3 → ReadCause (F.contents files.old) (command_in (map string_bytes words.now)) (F.read_faults files.old) (F.read_faults files.new) }
-    ensures write { result ≡ 4 → WriteCause (record { reads = F.read_faults files.old; writes = F.write_faults files.old; puts = K.faults out.old }) (record { reads = F.read_faults files.new; writes = F.write_faults files.new; puts = K.faults out.new }) (out_name (command_in (map string_bytes words.now))) }
+    ensures write { result ≡ 4 → WriteCause (record { reads = F.read_faults files.old; writes = F.write_faults files.old; puts = K.faults out.old }) (record { reads = F.read_faults files.new; writes = F.write_faults files.new; puts = K.faults out.new }) (out_names (command_in (map string_bytes words.now))) }
     ensures container { result ≡ 6 → IfSome (F.contents files.old) (λ k. IsBadContainer k (command_in (map string_bytes words.now))) }
     ensures keys { result ≡ 7 → IfSome (F.contents files.old) (λ k. IsBadKeys k (command_in (map string_bytes words.now))) }
     // What the output got before the call gave up.
-    ensures fronts { (result ≡ 4) ⊎ (result ≡ 5) → IfSome (F.contents files.old) (λ k. PutsFronts (K.told out.old) (success_text (ending_of k (command_in (map string_bytes words.now)))) (own_text (out_name (command_in (map string_bytes words.now))) result) (K.told out.new)) }
-    // A text is put even where it is empty, in one put; one more may come at the status 4, where the
-    // container wasn't saved, and at the status 5.
-    ensures put { (out_name (command_in (map string_bytes words.now)) ≡ None) ⊎ (result ≢ 4) → result ≢ 5 → (p : Put) × (K.puts out.new ≡ K.puts out.old ++ p ∷ []) }
+    ensures fronts { (result ≡ 4) ⊎ (result ≡ 5) → IfSome (F.contents files.old) (λ k. PutsFronts (K.told out.old) (ending_of k (command_in (map string_bytes words.now))) result (K.told out.new)) }
+    // A text is put even where it is empty, in one put; one more may come at the status 4, where a file
+    // wasn't saved, and at the status 5.
+    ensures put { (out_names (command_in (map string_bytes words.now)) ≡ []) ⊎ (result ≢ 4) → result ≢ 5 → (p : Put) × (K.puts out.new ≡ K.puts out.old ++ p ∷ []) }
     ensures tried { (p : Put) × (more : List Put) × (K.puts out.new ≡ K.puts out.old ++ p ∷ more) }
-    // What files have changes only where all was done, and a container was to be saved. A save is tried
-    // only where the replies were put.
-    ensures same { (out_name (command_in (map string_bytes words.now)) ≡ None) ⊎ (result ≢ 0) → F.contents files.new ≡ F.contents files.old }
-    ensures saves { SavesNothing (out_name (command_in (map string_bytes words.now))) result → F.saves files.new ≡ F.saves files.old }
-    ensures writes { SavesNothing (out_name (command_in (map string_bytes words.now))) result → F.write_faults files.new ≡ F.write_faults files.old }
+    // What files have changes only where all was done, and a file was to be saved; where two were, it
+    // may also change at the statuses 4 and 5, by the first, and then just as that save left it. A save
+    // is tried only where the text was put.
+    ensures same { ChangesNothing (out_names (command_in (map string_bytes words.now))) result → F.contents files.new ≡ F.contents files.old }
+    ensures kept { result ≢ 0 → KeepsOrSaves (command_in (map string_bytes words.now)) (F.loads files.old) (F.loads files.new) (record { contents = F.contents files.old; saves = F.saves files.old; faults = F.write_faults files.old }) (record { contents = F.contents files.new; saves = F.saves files.new; faults = F.write_faults files.new }) }
+    ensures saves { SavesNothing (out_names (command_in (map string_bytes words.now))) result → F.saves files.new ≡ F.saves files.old }
+    ensures writes { SavesNothing (out_names (command_in (map string_bytes words.now))) result → F.write_faults files.new ≡ F.write_faults files.old }
     // At status 0 nothing failed.
     ensures quiet { result ≡ 0 → (F.read_faults files.new ≡ F.read_faults files.old) × (F.write_faults files.new ≡ F.write_faults files.old) × (K.faults out.new ≡ K.faults out.old) }
     // Counts never fall.

@@ -1,6 +1,6 @@
 use Rattle.std.proofs.Common.{ap}
-use Rattle.script_runner.specs.Commanded.{Writes}
-use Rattle.script_runner.proofs.Histories.{all_loads, all_ends, told_run, told_complete, told_bad, told_container, told_keys, told_fronts, put_run, all_saved, put_usage, put_fault, put_name, put_place, put_keys, put_lost, put_memory, unread_cause, lost_cause, used, one_text, some_text, same_files, none_saved}
+use Rattle.script_runner.specs.Saving.{Writes}
+use Rattle.script_runner.proofs.Histories.{all_loads, all_ends, told_run, told_complete, told_bad, told_container, told_keys, told_fronts, put_run, all_saved, put_usage, put_fault, put_name, put_place, put_keys, put_lost, put_memory, unread_cause, lost_cause, used, one_text, some_text, same_files, kept_or_saved, none_saved}
 use Rattle.script_runner.proofs.top.tdx_main.Goals as goal
 
 pub returns-clause-loads : goal.returns-clause-loads
@@ -74,6 +74,9 @@ returns-clause-tried g c = some_text _ _ _ _ _ _ _ _ _ c.do_command.ensures.does
 
 pub returns-clause-same : goal.returns-clause-same
 returns-clause-same g c = same_files _ _ _ _ _ _ _ _ _ c.do_command.ensures.does
+
+pub returns-clause-kept : goal.returns-clause-kept
+returns-clause-kept g c h = kept_or_saved _ _ _ _ _ _ _ _ _ c.do_command.ensures.does h
 
 pub returns-clause-saves : goal.returns-clause-saves
 returns-clause-saves g c h = ap (λ (x : Writes). x.saves) (none_saved _ _ _ _ _ _ _ _ _ c.do_command.ensures.does h)

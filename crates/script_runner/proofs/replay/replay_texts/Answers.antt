@@ -5,8 +5,8 @@ use Rattle.trace_table.specs.Merges.{MergesTo}
 use Rattle.trace_table.specs.Benches.{PassSeen, bench_of, table_of}
 use Rattle.script_runner.specs.Ending.{opening_of}
 use Rattle.script_runner.proofs.Built.{lists-listed}
-use Rattle.script_runner.proofs.Replayed.{starts, first-bench, open-of, prints, prints-all}
-use Rattle.script_runner.proofs.replay.replay_text.Goals as goal
+use Rattle.script_runner.proofs.Replayed.{starts, first-bench, open-of, tells, prints-all, notes-all}
+use Rattle.script_runner.proofs.replay.replay_texts.Goals as goal
 
 pub follow_schedule-requires-clause-left : goal.follow_schedule-requires-clause-left
 follow_schedule-requires-clause-left c =
@@ -20,6 +20,8 @@ processors-requires-clause-leaves c =
 
 pub returns : goal.returns
 returns c =
-    prints c.all_lines.result _ _ c.all_lines.ensures
-    (prints-all c.laws_of_turns.ensures (opening_of c.args.script.now) c.args.script.now.schedule _ _ _ _ _ (open-of c.args.script.now c.requires) c.finish_all.ensures.left c.finish_all.ensures.ended
-    (subst (λ (z : List (List Taken)). MergesTo c.in_ok-table.table.machine z c.close.result.words) (ap (λ (p : PassSeen). p.lists) c.into_pass-pass.ensures) c.close.ensures))
+    let closed = subst (λ (z : List (List Taken)). MergesTo c.in_ok-table.table.machine z c.close.result.words) (ap (λ (p : PassSeen). p.lists) c.into_pass-pass.ensures) c.close.ensures in
+    let op = open-of c.args.script.now c.requires in
+    tells c.both_texts.result _ _ _ _ _ c.both_texts.ensures
+    (prints-all c.laws_of_turns.ensures (opening_of c.args.script.now) c.args.script.now.schedule _ _ _ _ _ op c.finish_all.ensures.left c.finish_all.ensures.ended closed)
+    (notes-all c.laws_of_turns.ensures (opening_of c.args.script.now) c.args.script.now.schedule _ _ _ _ _ op c.finish_all.ensures.left c.finish_all.ensures.ended closed)
