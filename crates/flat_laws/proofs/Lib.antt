@@ -1,0 +1,4 @@
+pub mod Owners
+pub mod Usable
+pub mod Accesses
+pub mod Unreached
