@@ -149,7 +149,7 @@ closed-is-unchanged m s p t n sound living h = closed m s p t n sound living tru
     (λ writes may used accepted. subst (λ (b : Bool). Blocks b (s.world.tds.entries t 0 n).state (is_tracked s.world t (s.world.tds.entries t 0 n).page) (may_be_exempt (s.world.tds.ops t))) (sym (may refl)) (unchanged-blocks _ _ _ h used accepted))
 
 -- a guarded state
-is-sound : (o : Opening) (s : State) → IsGuarded o s → (p : ℕ) → IsSound o.machine s p
+pub is-sound : (o : Opening) (s : State) → IsGuarded o s → (p : ℕ) → IsSound o.machine s p
 is-sound o s all p = record {
   lawful = all.timely.lawful;
   access = all.access;

@@ -33,14 +33,15 @@ HostPagesAreUnnamed = HoldsInRuns (λ o s. (page : ℕ) → is_host_in s.world.p
 abbrev pub OwnersAloneUse : Type 0
 OwnersAloneUse = HoldsInRuns (λ o s. (p : ℕ) (c : Translation) → MayUse s p c → c.tdr ≡ s.world.pages.owners c.page)
 
--- the page is the host's, and no translation that may be used names it
-pub record IsOutOfReach (s : State) (page : ℕ) : Type 0 where
-  pub host : is_host_in s.world.pages page ≡ true
-  pub unnamed : IsUnnamed s page
+-- A page is moved between the host and a TD, and no translation that may be used names it, before and after.
+pub record MovesUnnamed (s after : State) (page : ℕ) : Type 0 where
+  pub host : (is_host_in s.world.pages page ≡ true) ⊎ (is_host_in after.world.pages page ≡ true)
+  pub before : IsUnnamed s page
+  pub behind : IsUnnamed after page
 
--- An event that moves a page, so that it has another kind, owner or place in its TD's map than before, finds it out of reach
--- or leaves it so: from one TD to another it goes through the host.
+-- So each event does that moves a page: it has another kind, owner or place in its TD's map than before. From one TD to
+-- another a page goes through the host, and at no step can an old translation reach it.
 abbrev pub PagesMoveUnnamed : Type 0
 PagesMoveUnnamed = (o : Opening) (words_to_tell : Option (List ℕ)) (schedule : List ℕ) (p page : ℕ)
     → let s = reached o words_to_tell schedule in
-    (IsUsedAsBefore s.world.pages (event o s p).world.pages page → ⊥) → IsOutOfReach s page ⊎ IsOutOfReach (event o s p) page
+    (IsUsedAsBefore s.world.pages (event o s p).world.pages page → ⊥) → MovesUnnamed s (event o s p) page

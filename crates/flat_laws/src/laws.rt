@@ -26,8 +26,8 @@ pub fn access_law()
 /// every run a translation that may be used on a processor names a private page of its own TD, which
 /// the TD's map names at that GPA page: so none names a page of the host's, and none a page of
 /// another TD, however old it is, and however the page came there. And where an event moves a page,
-/// the page is the host's before the event or after it, and then no translation that may be used
-/// names it.
+/// it moves it between the host and a TD, and neither before it nor after it does any translation
+/// that may be used name the page.
 pub fn move_law()
     ensures usable { UsableNameTheirOwn }
     ensures host { HostPagesAreUnnamed }

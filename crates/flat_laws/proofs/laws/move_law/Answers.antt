@@ -1,4 +1,5 @@
-use Rattle.flat_laws.proofs.Usable.{usable-name-their-own, host-pages-are-unnamed, owners-alone-use, pages-move-unnamed}
+use Rattle.flat_laws.proofs.Usable.{usable-name-their-own, host-pages-are-unnamed, owners-alone-use}
+use Rattle.flat_laws.proofs.Moves.{pages-move-unnamed}
 use Rattle.flat_laws.proofs.laws.move_law.Goals as goal
 
 pub returns-clause-usable : goal.returns-clause-usable
