@@ -2,7 +2,9 @@
 -- where it allows less its block isn't tracked.
 use Rattle.std.proofs.Common.{◌≡◌, inl, inr, refl, sym, ◌∙◌, ap, subst, ℕ, suc, ◌<◌, List, [], ◌∷◌, Contains, Option, Some, None, Bool, true, false, not, ◌==◌, ◌&&◌, ◌||◌, arith}
 use Rattle.std.specs.List.{list_any}
-use Rattle.std.proofs.lemmas.Bool.{eqb-true, and_parts}
+use Rattle.std.proofs.lemmas.Bool.{eq-eqb, eqb-true, and_parts}
+use Rattle.td_words.specs.declared.names.Access.{Access}
+use Rattle.td_words.specs.declared.names.Access.TheVariants.{Write}
 use Rattle.td_words.specs.declared.names.EntryState.{EntryState}
 use Rattle.td_words.specs.declared.names.EntryState.TheVariants as entry
 use Rattle.td_words.specs.declared.names.PageKind.TheVariants as kind
@@ -13,16 +15,19 @@ use Rattle.flat_core.specs.Processor.{Translation, Guest}
 use Rattle.flat_core.specs.Opening.{Opening}
 use Rattle.flat_core.specs.Tracking.{is_tracked}
 use Rattle.flat_core.specs.Lawful.{IsAlive, IsNodeOf, is_free}
-use Rattle.flat_core.specs.Event.{State}
+use Rattle.flat_core.specs.Event.{State, Event, Reaches, next_event}
 use Rattle.flat_core.specs.Laws.{reached}
 use Rattle.flat_core.specs.Guests.{IsOccupied}
 use Rattle.flat_core.specs.Access.{IsUsable, inside, outside, entry_of, allows_less, is_pending, may_be_exempt, IsCurrent}
 use Rattle.flat_core.specs.AccessLaw.{IsGuarded}
-use Rattle.flat_core.proofs.Tests.{by_test}
+use Rattle.flat_core.specs.Tree.{page_of_gpa}
+use Rattle.flat_core.specs.Translations.{is_of_page, allows_access, look_up}
+use Rattle.flat_core.proofs.Tests.{by_test, some_same}
+use Rattle.flat_core.proofs.Due.{Due, reaches, due_event_is}
 use Rattle.flat_core.proofs.Trackings.{entered_later, epoch_later}
 use Rattle.flat_core.proofs.Always.{occ-of, always_guarded}
 use Rattle.flat_laws.specs.Usable.{MayUse}
-use Rattle.flat_laws.specs.Unreached.{unreached_in, unchanged_in, names_page, guest_reaches, IsClosed, IsSound, ClosedIsUnreached, ClosedIsUnchanged, UnreachedIsUnchanged, ClosedInGuarded, ClosedInRuns}
+use Rattle.flat_laws.specs.Unreached.{unreached_in, unchanged_in, names_page, guest_reaches, IsClosed, IsSound, ClosedIsUnreached, ClosedIsUnchanged, UnreachedIsUnchanged, ClosedInGuarded, ClosedInRuns, ClosedIsNotAccessed}
 use Rattle.flat_laws.proofs.Usable.{current, node}
 
 -- what is asked of an entry's state, for a translation that may write as it says, whose guest has accepted the page
@@ -164,3 +169,49 @@ closed-in-guarded o s all = record {
 
 pub closed-in-runs : ClosedInRuns
 closed-in-runs o ws schedule = closed-in-guarded o (reached o ws schedule) (always_guarded o ws schedule)
+
+-- an access goes through a translation that names the page
+
+abbrev allows-as : Bool → Access → Type 0
+allows-as must access = (c : Translation) → allows_access access c ≡ true → (not must || c.may_write) ≡ true
+
+found-names : (cs : List Translation) (t n : ℕ) (access : Access) (page : ℕ) (must : Bool) → allows-as must access → look_up cs t n access ≡ Some page → list_any (names_page t page must) cs ≡ true
+found-names [] t n access page must allows e = cc
+found-names (c ∷ cs) t n access page must allows e = by_test (is_of_page t n c && allows_access access c)
+    (λ y. let a = and_parts (is_of_page t n c) (allows_access access c) y in
+    let td = (and_parts (c.tdr == t) (c.gpa_page == n) a.0).0 in
+    let at : Some c.page ≡ Some page = rw y at e in
+    let is : (c.page == page) ≡ true = eq-eqb c.page page (some_same c.page page at) in
+    let may = allows c a.1 in
+    first (names_page t page must c) _ (rw (td, is, may) refl))
+    (λ k. later (names_page t page must c) _ (found-names cs t n access page must allows (rw k at e)))
+  where
+    first : (a b : Bool) → a ≡ true → (a || b) ≡ true
+    first true b h = refl
+    first false b h = cc
+
+    later : (a b : Bool) → b ≡ true → (a || b) ≡ true
+    later true b h = refl
+    later false b h = h
+
+module _ (o : Opening) (s : State) (p page : ℕ) (must : Bool) (shut : guest_reaches (s.lps p).guest page must (s.lps p).cached ≡ false) where
+  due-apart : (e : Event) → Due o s.world p (s.lps p) e → (u v : ℕ) (access : Access) (r gpa : ℕ) → allows-as must access → e ≡ Reaches u v access r gpa page → ⊥
+  due-apart e (reaches c cs g op access r gpa found-page x way is found) u v a b d allows same =
+      let to : found-page ≡ page = cc in
+      let by : access ≡ a = cc in
+      let hit : list_any (names_page g.tdr page must) (s.lps p).cached ≡ true = found-names (s.lps p).cached g.tdr (page_of_gpa gpa) access page must (subst (λ (z : Access). allows-as must z) (sym by) allows) (found ∙ ap (λ (z : ℕ). Some z) to) in
+      let closed : guest_reaches (Some g) page must (s.lps p).cached ≡ false = subst (λ (z : Option Guest). guest_reaches z page must (s.lps p).cached ≡ false) x.guest shut in
+      let no : true ≡ false = sym hit ∙ closed in cc
+  due-apart e _ u v a b d allows same = cc
+
+  not-accessed : (u v : ℕ) (access : Access) (r gpa : ℕ) → allows-as must access → next_event o s p ≡ Some (Reaches u v access r gpa page) → ⊥
+  not-accessed u v access r gpa allows is = due-apart (Reaches u v access r gpa page) (due_event_is o s p (Reaches u v access r gpa page) is) u v access r gpa allows refl
+
+pub closed-is-not-accessed : ClosedIsNotAccessed
+closed-is-not-accessed o ws schedule t n living used =
+    let s : State = reached o ws schedule in
+    let all = closed-in-guarded o s (always_guarded o ws schedule) in
+    record {
+      reached = λ p u v access r gpa h is. not-accessed o s p (s.world.tds.entries t 0 n).page false ((all.unreached p t n living h).guest used) u v access r gpa (λ c a. refl) is;
+      stored = λ p u v r gpa h is. not-accessed o s p (s.world.tds.entries t 0 n).page true ((all.unchanged p t n living h).guest used) u v Write r gpa (λ c a. a) is;
+    }

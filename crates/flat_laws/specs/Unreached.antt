@@ -1,6 +1,8 @@
 -- No reach and no change: when no guest can reach the page of an entry, or write there, told from the world alone.
 use Rattle.std.specs.Prelude.{◌≡◌, ℕ, Bool, true, false, not, ◌==◌, ◌&&◌, ◌||◌, List, Option, Some, None}
 use Rattle.std.specs.List.{list_any}
+use Rattle.td_words.specs.declared.names.Access.{Access}
+use Rattle.td_words.specs.declared.names.Access.TheVariants.{Write}
 use Rattle.td_words.specs.declared.names.EntryState.{EntryState}
 use Rattle.td_words.specs.declared.names.EntryState.TheVariants as entry
 use Rattle.td_words.specs.declared.names.PageKind.TheVariants as kind
@@ -10,7 +12,7 @@ use Rattle.flat_core.specs.Processor.{Translation, Guest}
 use Rattle.flat_core.specs.Opening.{Opening}
 use Rattle.flat_core.specs.Tracking.{is_tracked}
 use Rattle.flat_core.specs.Lawful.{Lawful, IsAlive, IsPageOf, is_free}
-use Rattle.flat_core.specs.Event.{State}
+use Rattle.flat_core.specs.Event.{State, Reaches, next_event}
 use Rattle.flat_core.specs.Laws.{HoldsInRuns}
 use Rattle.flat_core.specs.Access.{AccessHolds, may_be_exempt}
 use Rattle.flat_core.specs.AccessLaw.{IsGuarded}
@@ -33,11 +35,12 @@ unchanged_in entry.ExportedDirtyBlockedW over exempt = over
 unchanged_in entry.ExportedBlockedW over exempt = over && not exempt
 unchanged_in s over exempt = unreached_in s over
 
--- no guest reaches the page of a TD's GPA page
+-- No guest reaches the page of a TD's GPA page through a translation. Where the page is pending its guest's `accept` clears
+-- it, by the entry and through no translation.
 abbrev pub is_unreached : World → (t gpa_page : ℕ) → Bool
 is_unreached w t n = let e = w.tds.entries t 0 n in unreached_in e.state (is_tracked w t e.page)
 
--- no guest writes there
+-- no guest writes there through one
 abbrev pub is_unchanged : World → (t gpa_page : ℕ) → Bool
 is_unchanged w t n = let e = w.tds.entries t 0 n in unchanged_in e.state (is_tracked w t e.page) (may_be_exempt (w.tds.ops t))
 
@@ -88,6 +91,15 @@ pub record AreClosed (s : State) : Type 0 where
 
 abbrev pub ClosedInGuarded : Type 0
 ClosedInGuarded = (o : Opening) (s : State) → IsGuarded o s → AreClosed s
+
+-- So no access of a guest, of whatever TD, reaches the page of an entry that nobody reaches; and no store does that of one
+-- that nobody changes.
+pub record IsNotAccessed (o : Opening) (s : State) (t n : ℕ) : Type 0 where
+  pub reached : (p u v : ℕ) (access : Access) (r gpa : ℕ) → is_unreached s.world t n ≡ true → next_event o s p ≡ Some (Reaches u v access r gpa (s.world.tds.entries t 0 n).page) → ⊥
+  pub stored : (p u v r gpa : ℕ) → is_unchanged s.world t n ≡ true → next_event o s p ≡ Some (Reaches u v Write r gpa (s.world.tds.entries t 0 n).page) → ⊥
+
+abbrev pub ClosedIsNotAccessed : Type 0
+ClosedIsNotAccessed = HoldsInRuns (λ o s. (t n : ℕ) → IsAlive s.world.pages s.world.tds t → is_free (s.world.tds.entries t 0 n).state ≡ false → IsNotAccessed o s t n)
 
 abbrev pub ClosedInRuns : Type 0
 ClosedInRuns = HoldsInRuns (λ o s. AreClosed s)

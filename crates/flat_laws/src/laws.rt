@@ -3,7 +3,7 @@
 ghost use Rattle.flat_laws.specs.Owners.{EveryPageHasItsOwner};
 ghost use Rattle.flat_laws.specs.Usable.{UsableNameTheirOwn, HostPagesAreUnnamed, OwnersAloneUse, PagesMoveUnnamed};
 ghost use Rattle.flat_laws.specs.Accesses.{AccessesAreOwn, AccessesKeepOthers, OthersAreNotReached};
-ghost use Rattle.flat_laws.specs.Unreached.{ClosedIsUnreached, ClosedIsUnchanged, UnreachedIsUnchanged, ClosedInGuarded, ClosedInRuns};
+ghost use Rattle.flat_laws.specs.Unreached.{ClosedIsUnreached, ClosedIsUnchanged, UnreachedIsUnchanged, ClosedInGuarded, ClosedInRuns, ClosedIsNotAccessed};
 
 /// In every state of every run, the map of a living TD names each of its secure EPT and private
 /// pages; what its map names is such a page and is owned by it; and no page is named twice, by one
@@ -40,11 +40,12 @@ pub fn move_law()
 /// page, and none names the page of the entry; where it is blocked for writing and that is tracked,
 /// and the page isn't exempt, none that allows writing does. So it is of each processor of any
 /// lawful state in which no stale translation is used, hence in every guarded state, and in every
-/// run.
+/// run. So in every run no access of any guest reaches such a page, or no store does.
 pub fn reach_law()
     ensures unreached { ClosedIsUnreached }
     ensures unchanged { ClosedIsUnchanged }
     ensures both { UnreachedIsUnchanged }
     ensures guarded { ClosedInGuarded }
     ensures run { ClosedInRuns }
+    ensures accesses { ClosedIsNotAccessed }
 {}
