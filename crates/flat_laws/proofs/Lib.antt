@@ -3,3 +3,4 @@ pub mod Usable
 pub mod Accesses
 pub mod Unreached
 pub mod Moves
+pub mod Worked

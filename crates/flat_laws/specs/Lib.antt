@@ -2,3 +2,4 @@ pub mod Owners
 pub mod Usable
 pub mod Accesses
 pub mod Unreached
+pub mod Worked

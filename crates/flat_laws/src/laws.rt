@@ -4,6 +4,7 @@ ghost use Rattle.flat_laws.specs.Owners.{EveryPageHasItsOwner};
 ghost use Rattle.flat_laws.specs.Usable.{UsableNameTheirOwn, HostPagesAreUnnamed, OwnersAloneUse, PagesMoveUnnamed};
 ghost use Rattle.flat_laws.specs.Accesses.{AccessesAreOwn, AccessesKeepOthers, OthersAreNotReached};
 ghost use Rattle.flat_laws.specs.Unreached.{ClosedIsUnreached, ClosedIsUnchanged, UnreachedIsUnchanged, ClosedInGuarded, ClosedInRuns, ClosedIsNotAccessed};
+ghost use Rattle.flat_laws.specs.Worked.{RemovalExample};
 
 /// In every state of every run, the map of a living TD names each of its secure EPT and private
 /// pages; what its map names is such a page and is owned by it; and no page is named twice, by one
@@ -48,4 +49,10 @@ pub fn reach_law()
     ensures guarded { ClosedInGuarded }
     ensures run { ClosedInRuns }
     ensures accesses { ClosedIsNotAccessed }
+{}
+
+/// A removal beside a guest, computed: the page is in reach until the guest that has cached a
+/// translation of it is left, and that translation is still cached once the page is the host's.
+pub fn worked_removal()
+    ensures { RemovalExample }
 {}

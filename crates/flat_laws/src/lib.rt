@@ -8,4 +8,4 @@
 
 mod laws;
 
-pub use laws::{access_law, move_law, ownership_law, reach_law};
+pub use laws::{access_law, move_law, ownership_law, reach_law, worked_removal};
