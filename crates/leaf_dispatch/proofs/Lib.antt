@@ -7,3 +7,4 @@ pub mod Calls
 pub mod Follows
 pub mod Stepping
 pub mod Walking
+pub mod StepBounds
