@@ -8,3 +8,4 @@ pub mod Follows
 pub mod Stepping
 pub mod Walking
 pub mod StepBounds
+pub mod Fewer
