@@ -14,6 +14,7 @@ use Rattle.td_words.specs.declared.replies.Reply.{Reply}
 use Rattle.td_words.specs.declared.replies.Reply.TheVariants.{Done, Refused, Exited}
 use Rattle.flat_core.specs.Processor.{Translation}
 use Rattle.flat_core.specs.Tree.{page_of_gpa}
+use Rattle.flat_core.specs.Table.{most_tries, operation_events, guest_events}
 use Rattle.flat_core.specs.Run.{events_in}
 use Rattle.flat_core.specs.Translations.{look_up}
 use Rattle.flat_core.specs.Guest.{is_private}
@@ -25,11 +26,11 @@ use Rattle.leaf_engine.specs.Besides.{Beside}
 use Rattle.leaf_engine.specs.Turns.{Standing, last_reply}
 use Rattle.leaf_engine.specs.Guests.{WordGuest, Step, Operates, Accesses, Loads, Leaves, private_step, operation_step, due_step, staying_step, step_of, loaded}
 use Rattle.leaf_engine.specs.OwnLists.{WordLp, after_step}
-use Rattle.leaf_dispatch.specs.Answers.{Ends, step_fits, step_ends, is_busy, FitsStage, act_of, beside_by}
-use Rattle.leaf_dispatch.specs.Bounds.{stage_used, run_used, guest_left, events_left}
+use Rattle.leaf_dispatch.specs.Answers.{Ends, step_fits, step_tries, step_ends, is_busy, FitsStage, act_of, beside_by}
+use Rattle.leaf_dispatch.specs.Bounds.{stage_left, stage_used, run_used, guest_left, events_left}
 use Rattle.leaf_dispatch.specs.Guests.{is_outcome}
 use Rattle.leaf_dispatch.proofs.Lowering.{Gives}
-use Rattle.leaf_dispatch.proofs.StepTurns.{cached-stays, goes-lower, passes-lower}
+use Rattle.leaf_dispatch.proofs.StepTurns.{few-left, cached-stays, goes-lower, passes-lower}
 use Rattle.leaf_dispatch.proofs.StepBounds.{operated-lower, loaded-lower}
 use Rattle.leaf_dispatch.proofs.Walking.{WalkDue, walk-due}
 
@@ -141,3 +142,40 @@ module _ (codes : ℕ → ℕ → List GuestOp) (c : Call) (cs : List Call) (lin
   leaves : (out : Outcome) → (reply : Option Reply) (x : Reply) → reply ≡ Some x → Fewer (Leaves out) reply
   leaves out None x e = cc
   leaves out (Some y) x e = omega arith
+
+  -- a run with a reply at its act has that reply
+  once : (s : Step) → Gives (step_ends t n s) run stands ev → step_tries s ≡ 0 → run.stage ≡ stages.Trying → (reply : Option Reply) → reply ≡ last_reply stands.stage stands.held
+      → (r : Reply) × (act_of ev stands.stage ≡ Some r) × (reply ≡ Some r) × (step_fits s r ≡ true)
+  once s gives none on reply e = (let x = gives.once none on in (x.0, x.1, e ∙ x.2, (gives.act x.0 x.1).fits))
+
+  -- whatever the step is
+  pub step-fewer : (s : Step) → step_of codes b.cached g ≡ s → Counts g s → IsLowStep s → t ≡ g.tdr → run_used g.run ≡ stage_used run.stage (length run.held) → (step_tries s ≡ 0 → run.stage ≡ stages.Trying) → Gives (step_ends t n s) run stands ev
+      → b'.cached ≡ (beside_by (step_ends t n s).answer (act_of ev stands.stage) b).cached → (reply : Option Reply) → reply ≡ last_reply stands.stage stands.held → Fewer s reply
+  step-fewer (Operates o) is counts low tdr used first gives cached reply e = operates used o is counts gives (cached ∙ stays (act_of ev stands.stage)) reply e
+    where
+      stays : (act : Option Reply) → (beside_by (step_ends t n (Operates o)).answer act b).cached ≡ b.cached
+      stays None = refl
+      stays (Some r) = cached-stays t n o r b.cached
+  step-fewer (Accesses access r gpa page) is counts low tdr used first gives cached reply e =
+      let x = once (Accesses access r gpa page) gives refl (first refl) reply e in accesses access r gpa page is counts reply x.0 x.2
+  step-fewer (Loads access gpa level page) is counts low tdr used first gives cached reply e =
+      let x = once (Loads access gpa level page) gives refl (first refl) reply e in
+      loads access gpa level page is low x.0 x.3 (cached ∙ ap (λ (a : Option Reply). (beside_by (step_ends t n (Loads access gpa level page)).answer a b).cached) x.1) tdr reply x.2
+  step-fewer (Leaves out) is counts low tdr used first gives cached reply e =
+      let x = once (Leaves out) gives refl (first refl) reply e in leaves out reply x.0 x.2
+
+-- the entry, and the release of E behind it
+
+pub enters-fewer : (codes : ℕ → ℕ → List GuestOp) (ts : List Translation) (c : Call) (cs : List Call) (e : Ends) (s stands : Standing) (ev : Event) (x : WordGuest) (rs : List Reply) (b : Beside) (r : Reply) → e.tries ≡ most_tries c → guest_events c ≡ operation_events * x.most + 1 → x.completed ≡ 0
+    → Gives e s stands ev → act_of ev stands.stage ≡ Some r
+    → events_left codes (record { lines = c ∷ cs; run = Some stands; guest = Some x; replies = rs; beside = b }) < stage_left (most_tries c) (guest_events c) s.stage (length s.held) + events_in cs
+enters-fewer codes ts c cs e s stands ev x rs b r tries many none gives is =
+    let a = gives.act r is in
+    let left : guest_left codes b.cached x ≤ operation_events * (x.most - x.completed) = few-left codes b.cached x in
+    let held : length stands.held ≡ length s.held = ap length a.held in
+    let few : length s.held ≤ e.tries = a.few in
+    rw a.on (omega (arith, left, held, few, tries, many, none))
+
+pub releases-fewer : (codes : ℕ → ℕ → List GuestOp) (c : Call) (cs : List Call) (s stands : Standing) (x : WordGuest) (rs : List Reply) (b : Beside) → length stands.held < length s.held
+    → events_left codes (record { lines = c ∷ cs; run = Some stands; guest = Some x; replies = rs; beside = b }) < events_left codes (record { lines = c ∷ cs; run = Some s; guest = Some x; replies = rs; beside = b })
+releases-fewer codes c cs s stands x rs b few = omega (arith, few)
