@@ -9,3 +9,4 @@ pub mod Stepping
 pub mod Walking
 pub mod StepBounds
 pub mod Fewer
+pub mod Replying
