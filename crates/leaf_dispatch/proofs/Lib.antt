@@ -6,3 +6,7 @@ pub mod StepTurns
 pub mod Calls
 pub mod Follows
 pub mod Stepping
+pub mod Walking
+pub mod StepBounds
+pub mod Fewer
+pub mod Replying
