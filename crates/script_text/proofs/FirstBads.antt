@@ -4,13 +4,13 @@ use Rattle.std.proofs.lemmas.List.{length-append, append_assoc}
 use Rattle.td_words.specs.declared.calls.Call.{Call}
 use Rattle.td_words.specs.declared.machines.Machine.{Machine}
 use Rattle.td_words.specs.Seen.{CodeSeen}
+use Rattle.line_words.specs.Words.{pieces}
 use Rattle.script_text.specs.declared.lines.Block.{Block}
 use Rattle.script_text.specs.declared.faults.Reason.TheVariants as reason
 use Rattle.script_text.specs.declared.faults.ScriptFault.{ScriptFault}
 use Rattle.script_text.specs.declared.faults.ScriptFault.TheVariants.{Bad}
 use Rattle.script_text.specs.declared.faults.Reason.{Reason}
 use Rattle.script_text.specs.Seen.{ScriptSeen}
-use Rattle.script_text.specs.Words.{pieces}
 use Rattle.script_text.specs.Reading.{SoFar, nothing_yet, line_of, read_from, read_of, then_on, ended_of, script_of}
 use Rattle.script_text.specs.Laws.{Good, IsBad, FirstBad, FaultsAreFirst}
 use Rattle.script_text.specs.Laws.Good.{none, more}

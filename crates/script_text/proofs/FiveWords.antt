@@ -5,6 +5,11 @@ use Rattle.std.specs.Str.{bytes_eq}
 use Rattle.std.proofs.lemmas.Bool.{and_parts}
 use Rattle.td_words.specs.declared.calls.GuestOp.{GuestOp}
 use Rattle.td_words.specs.declared.machines.Machine.{Machine}
+use Rattle.line_words.specs.declared.mnemonics.CallName.{CallName}
+use Rattle.line_words.specs.declared.mnemonics.CallName.TheVariants as name
+use Rattle.line_words.specs.declared.mnemonics.Mnemonic.{Mnemonic}
+use Rattle.line_words.specs.Mnemonics.{mnemonics, mnemonic_in}
+use Rattle.line_words.specs.Number.{number}
 use Rattle.script_text.specs.declared.faults.Reason.{Reason}
 use Rattle.script_text.specs.declared.faults.Reason.TheVariants as reason
 use Rattle.script_text.specs.declared.lines.Block.{Block}
@@ -13,14 +18,9 @@ use Rattle.script_text.specs.declared.lines.Entry.{Entry}
 use Rattle.script_text.specs.declared.lines.Keyword.{Keyword}
 use Rattle.script_text.specs.declared.lines.Keyword.TheVariants as keyword
 use Rattle.script_text.specs.declared.lines.Stage.{Stage}
-use Rattle.script_text.specs.declared.mnemonics.CallName.{CallName}
-use Rattle.script_text.specs.declared.mnemonics.CallName.TheVariants as name
-use Rattle.script_text.specs.declared.mnemonics.Mnemonic.{Mnemonic}
-use Rattle.script_text.specs.Mnemonics.{mnemonics, mnemonic_in}
 use Rattle.script_text.specs.declared.operations.OpName.{OpName}
 use Rattle.script_text.specs.declared.operations.OpName.TheVariants as op
 use Rattle.script_text.specs.Blocks.{code_of, operation_of, operand_count, guest_op_of}
-use Rattle.script_text.specs.Number.{number}
 use Rattle.script_text.specs.Counted.{counted_of, argument}
 use Rattle.script_text.specs.Line.{machine_of, block_of, end_of, built_of, judged_of, call_of, first_of, list_of, judged_operation_of, operation_line_of, outside_of, named_of, inside_of, placed_of, entry_of, keyword_of}
 

@@ -1,8 +1,5 @@
-pub mod Pieces
-pub mod NextWords
 pub mod Steps
 pub mod Calls
-pub mod Texts
 pub mod FirstBads
 pub mod Forms
 pub mod Items
@@ -11,4 +8,3 @@ pub mod InRange
 pub mod FiveWords
 pub mod Ordered
 pub mod Short
-pub mod Far

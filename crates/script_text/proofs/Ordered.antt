@@ -12,6 +12,12 @@ use Rattle.td_words.specs.declared.names.ReadField.{ReadField}
 use Rattle.td_words.specs.declared.names.ReadField.TheVariants as field
 use Rattle.td_words.specs.Limits.{in_limits}
 use Rattle.td_words.specs.Seen.{CodeSeen}
+use Rattle.line_words.specs.declared.mnemonics.CallName.{CallName}
+use Rattle.line_words.specs.declared.mnemonics.CallName.TheVariants as name
+use Rattle.line_words.specs.declared.mnemonics.Mnemonic.{Mnemonic}
+use Rattle.line_words.specs.Mnemonics.{mnemonics, mnemonic_in}
+use Rattle.line_words.specs.Number.{number}
+use Rattle.line_words.specs.Words.{words, is_printable, is_comment}
 use Rattle.script_text.specs.declared.faults.Reason.{Reason}
 use Rattle.script_text.specs.declared.faults.Reason.TheVariants as reason
 use Rattle.script_text.specs.declared.faults.ScriptFault.TheVariants.{Bad}
@@ -21,9 +27,6 @@ use Rattle.script_text.specs.declared.lines.Entry.{Entry}
 use Rattle.script_text.specs.declared.lines.Entry.TheVariants as entry
 use Rattle.script_text.specs.declared.lines.Keyword.{Keyword}
 use Rattle.script_text.specs.declared.lines.Keyword.TheVariants as keyword
-use Rattle.script_text.specs.declared.mnemonics.CallName.{CallName}
-use Rattle.script_text.specs.declared.mnemonics.CallName.TheVariants as name
-use Rattle.script_text.specs.declared.mnemonics.Mnemonic.{Mnemonic}
 use Rattle.script_text.specs.declared.code_blocks.CodePlace.{CodePlace}
 use Rattle.script_text.specs.declared.operations.OpName.{OpName}
 use Rattle.script_text.specs.declared.operations.OpName.TheVariants as op
@@ -31,13 +34,10 @@ use Rattle.script_text.specs.declared.schedules.Turns.{Turns}
 use Rattle.script_text.specs.Blocks.{field_of, code_of, operation_of, operand_count, fit_operands, guest_op_of}
 use Rattle.script_text.specs.Counted.{◌>>=◌, argument}
 use Rattle.script_text.specs.Line.{keyword_of, machine_of, block_of, end_of, built_of, are_given, judged_of, call_of, first_of, list_of, judged_operation_of, operation_line_of, outside_of, named_of, inside_of, placed_of, entry_of}
-use Rattle.script_text.specs.Mnemonics.{mnemonics, mnemonic_in}
-use Rattle.script_text.specs.Number.{number}
 use Rattle.script_text.specs.Reading.{SoFar, entered_of, worded_of, line_of, script_of, ended_of}
 use Rattle.script_text.specs.Reasons.{fault_in, line_reasons, end_reasons, times_of, turns_count, names_no_field, is_built, is_built_operation, FirstWord, call_word, operation_word, word_in, machine_holds, holds_of, holds_in, holds_at, holds_at_end}
 use Rattle.script_text.specs.Reasons.FirstWord.{Key}
 use Rattle.script_text.specs.Schedule.{item_of, turns_in, written_of, schedule_of}
-use Rattle.script_text.specs.Words.{words, is_printable, is_comment}
 use Rattle.script_text.specs.Laws.{ReasonsInOrder}
 
 -- all reasons but BYTE

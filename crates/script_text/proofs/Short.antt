@@ -1,13 +1,18 @@
 -- Items of one digit, and lines that can be written.
 use Rattle.std.proofs.Common.{◌≡◌, ℕ, ◌+◌, ◌-◌, ◌^◌, ◌<◌, ◌≤◌, ◌==◌, List, [], ◌∷◌, length, map, get_or, take, drop, Bool, true, false, not, ltb, Option, Some, None, Ok, Err, refl, ap, arith}
 use Rattle.std.specs.Prelude.{is_some, nat_le, nat_lt, ◌&&◌, Result, if◌then◌else◌}
-use Rattle.std.specs.List.{list_all}
+use Rattle.std.specs.List.{list_all, position}
 use Rattle.std.proofs.lemmas.List.{take_rest}
+use Rattle.line_words.proofs.Pieces.{place_below}
 use Rattle.script_text.specs.declared.faults.Reason.{Reason}
 use Rattle.script_text.specs.declared.faults.Reason.TheVariants as reason
 use Rattle.script_text.specs.declared.schedules.Turns.{Turns}
 use Rattle.script_text.specs.Counted.{◌>>=◌}
 use Rattle.script_text.specs.Schedule.{item_of, turns_in, with_turns, written_of, IsCutTo, first_reason, schedule_of}
+
+-- the star of an item stands inside its word
+pub star_below : (xs : List ℕ) (i : ℕ) → position (λ b. b == 42) xs ≡ Some i → i < length xs
+star_below xs i h = place_below 42 xs i h
 
 item_short : (b : ℕ) → 48 ≤ b → b ≤ 57 → item_of (b ∷ []) ≡ Some (record { lp = b - 48; times = 1 })
 unfolding item_of

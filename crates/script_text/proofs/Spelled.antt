@@ -18,6 +18,10 @@ use Rattle.td_words.specs.declared.names.ReadField.TheVariants as field
 use Rattle.td_words.specs.NameText.{read_text}
 use Rattle.td_words.specs.Limits.{IsMachine, in_limits}
 use Rattle.td_words.specs.Seen.{CodeSeen}
+use Rattle.line_words.specs.Lines.{words_text, line_text}
+use Rattle.line_words.specs.Number.{number}
+use Rattle.line_words.specs.Words.{pieces, is_comment}
+use Rattle.line_words.proofs.Texts.{IsWord, fits, fits_below, decimals_are_words, printable_text, words_again, numbers_read, names_read, pieces_text}
 use Rattle.script_text.specs.declared.code_blocks.CodePlace.{CodePlace}
 use Rattle.script_text.specs.declared.faults.Reason.{Reason}
 use Rattle.script_text.specs.declared.faults.ScriptFault.{ScriptFault}
@@ -29,15 +33,12 @@ use Rattle.script_text.specs.declared.lines.Stage.{Stage}
 use Rattle.script_text.specs.Counted.{◌>>=◌}
 use Rattle.script_text.specs.Line.{entry_of, machine_of, block_of, end_of, call_of, operation_line_of}
 use Rattle.script_text.specs.Blocks.{field_of, code_of, none_listed}
-use Rattle.script_text.specs.Number.{number}
-use Rattle.script_text.specs.Words.{pieces, is_comment}
 use Rattle.script_text.specs.Reading.{SoFar, nothing_yet, with_call, entered_of, worded_of, line_of, read_from}
 use Rattle.script_text.specs.Seen.{ScriptSeen}
-use Rattle.script_text.specs.Spelling.{words_text, line_text, call_word, call_numbers, call_names, FitsCall, FitsOp, op_word, op_numbers, ops_text, codes_text, calls_text, schedule_text, blocks_text, script_text}
+use Rattle.script_text.specs.Spelling.{call_word, call_numbers, call_names, FitsCall, FitsOp, op_word, op_numbers, ops_text, codes_text, calls_text, schedule_text, blocks_text, script_text}
 use Rattle.script_text.specs.Laws.{IsCode, AreOfOthers, IsInForm, ScriptsReadAgain}
 use Rattle.script_text.proofs.FirstBads.{within}
 use Rattle.script_text.proofs.Steps.{good_line}
-use Rattle.script_text.proofs.Texts.{IsWord, fits, fits_below, decimals_are_words, printable_text, words_again, numbers_read, names_read, pieces_text}
 use Rattle.script_text.proofs.Items.{items_read}
 
 -- what a written line says, whose words behind the first are those numbers

@@ -1,11 +1,11 @@
 -- One line of a script, and those that follow.
 use Rattle.std.proofs.Common.{◌≡◌, ℕ, ◌+◌, List, ◌∷◌, length, false, ◌==◌, Result, Ok, Err, refl, sym, ◌∙◌, subst, arith}
 use Rattle.std.proofs.lemmas.List.Splits.{length-slice_split}
+use Rattle.line_words.specs.Words.{pieces}
 use Rattle.script_text.specs.declared.faults.ScriptFault.{ScriptFault}
 use Rattle.script_text.specs.declared.faults.ScriptFault.TheVariants.{Bad, OutOfMemory}
 use Rattle.script_text.specs.declared.faults.Reason.{Reason}
 use Rattle.script_text.specs.Seen.{ScriptSeen}
-use Rattle.script_text.specs.Words.{pieces}
 use Rattle.script_text.specs.Reading.{SoFar, line_of, read_from, then_on, IsAnswered}
 use Rattle.script_text.specs.Counted.{IsAnsweredAt}
 

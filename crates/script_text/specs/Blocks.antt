@@ -7,10 +7,10 @@ use Rattle.td_words.specs.declared.calls.GuestOp.TheVariants as guest
 use Rattle.td_words.specs.declared.machines.Machine.{Machine}
 use Rattle.td_words.specs.declared.names.ReadField.{ReadField}
 use Rattle.td_words.specs.declared.names.ReadField.TheVariants as field
+use Rattle.line_words.specs.declared.mnemonics.CallName.{CallName}
+use Rattle.line_words.specs.declared.mnemonics.CallName.TheVariants as name
 use Rattle.script_text.specs.declared.faults.Reason.{Reason}
 use Rattle.script_text.specs.declared.faults.Reason.TheVariants as reason
-use Rattle.script_text.specs.declared.mnemonics.CallName.{CallName}
-use Rattle.script_text.specs.declared.mnemonics.CallName.TheVariants as name
 use Rattle.script_text.specs.declared.operations.OpName.{OpName}
 use Rattle.script_text.specs.declared.operations.OpName.TheVariants as op
 use Rattle.script_text.specs.declared.operations.Operand.{Operand}

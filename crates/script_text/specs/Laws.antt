@@ -4,11 +4,11 @@ use Rattle.std.specs.List.{All}
 use Rattle.td_words.specs.declared.machines.Machine.{Machine}
 use Rattle.td_words.specs.Limits.{IsMachine}
 use Rattle.td_words.specs.Seen.{CodeSeen}
+use Rattle.line_words.specs.Words.{pieces}
 use Rattle.script_text.specs.declared.faults.Reason.{Reason}
 use Rattle.script_text.specs.declared.faults.Reason.TheVariants as reason
 use Rattle.script_text.specs.declared.faults.ScriptFault.TheVariants.{Bad}
 use Rattle.script_text.specs.Seen.{ScriptSeen}
-use Rattle.script_text.specs.Words.{pieces}
 use Rattle.script_text.specs.Reading.{SoFar, nothing_yet, line_of, ended_of, read_of}
 use Rattle.script_text.specs.Spelling.{FitsCall, FitsOp, codes_text, script_text}
 use Rattle.script_text.specs.Reasons.{fault_in, line_reasons, holds_at, end_reasons, holds_at_end}

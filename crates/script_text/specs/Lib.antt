@@ -1,7 +1,4 @@
-pub mod Number
-pub mod Words
 pub mod ReasonText
-pub mod Mnemonics
 pub mod Counted
 pub mod Blocks
 pub mod Line

@@ -6,11 +6,12 @@ use Rattle.td_words.specs.declared.calls.Call.TheVariants as calls
 use Rattle.td_words.specs.declared.calls.GuestOp.{GuestOp}
 use Rattle.td_words.specs.declared.machines.Machine.{Machine}
 use Rattle.td_words.specs.Limits.{in_limits}
+use Rattle.line_words.specs.declared.mnemonics.CallName.{CallName}
+use Rattle.line_words.specs.declared.mnemonics.CallName.TheVariants as name
+use Rattle.line_words.specs.declared.mnemonics.Mnemonic.{Mnemonic}
+use Rattle.line_words.specs.Mnemonics.{mnemonics, mnemonic_in}
 use Rattle.script_text.specs.declared.faults.Reason.{Reason}
 use Rattle.script_text.specs.declared.faults.Reason.TheVariants as reason
-use Rattle.script_text.specs.declared.mnemonics.CallName.{CallName}
-use Rattle.script_text.specs.declared.mnemonics.CallName.TheVariants as name
-use Rattle.script_text.specs.declared.mnemonics.Mnemonic.{Mnemonic}
 use Rattle.script_text.specs.declared.operations.OpName.{OpName}
 use Rattle.script_text.specs.declared.lines.Keyword.{Keyword}
 use Rattle.script_text.specs.declared.lines.Keyword.TheVariants as keyword
@@ -21,7 +22,6 @@ use Rattle.script_text.specs.declared.lines.Entry.{Entry}
 use Rattle.script_text.specs.declared.lines.Entry.TheVariants as entry
 use Rattle.script_text.specs.Counted.{◌>>=◌, counted_of, number_at, argument}
 use Rattle.script_text.specs.Blocks.{code_of, operation_of, guest_op_of, operands_of}
-use Rattle.script_text.specs.Mnemonics.{mnemonics, mnemonic_in}
 
 abbrev pub keyword_of : List ℕ → Option Keyword
 keyword_of word =

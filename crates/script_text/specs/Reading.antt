@@ -5,6 +5,8 @@ use Rattle.td_words.specs.declared.calls.Call.TheVariants as call
 use Rattle.td_words.specs.declared.calls.GuestOp.{GuestOp}
 use Rattle.td_words.specs.declared.machines.Machine.{Machine}
 use Rattle.td_words.specs.Seen.{CodeSeen}
+use Rattle.line_words.specs.Number.{number}
+use Rattle.line_words.specs.Words.{pieces, words, is_printable, is_comment}
 use Rattle.script_text.specs.declared.faults.Reason.{Reason}
 use Rattle.script_text.specs.declared.faults.Reason.TheVariants as reason
 use Rattle.script_text.specs.declared.faults.ScriptFault.{ScriptFault}
@@ -18,9 +20,7 @@ use Rattle.script_text.specs.declared.drafts.Draft.{Draft}
 use Rattle.script_text.specs.Blocks.{field_of, list_place, none_listed}
 use Rattle.script_text.specs.Counted.{◌>>=◌}
 use Rattle.script_text.specs.Line.{entry_of}
-use Rattle.script_text.specs.Number.{number}
 use Rattle.script_text.specs.Schedule.{schedule_of}
-use Rattle.script_text.specs.Words.{pieces, words, is_printable, is_comment}
 use Rattle.script_text.specs.Seen.{ScriptSeen}
 
 -- what the lines so far said

@@ -4,25 +4,25 @@ use Rattle.std.specs.List.{list_all}
 use Rattle.td_words.specs.declared.calls.Call.{Call}
 use Rattle.td_words.specs.declared.machines.Machine.{Machine}
 use Rattle.td_words.specs.Limits.{in_limits}
+use Rattle.line_words.specs.declared.mnemonics.CallName.{CallName}
+use Rattle.line_words.specs.declared.mnemonics.CallName.TheVariants as name
+use Rattle.line_words.specs.declared.mnemonics.Mnemonic.{Mnemonic}
+use Rattle.line_words.specs.Mnemonics.{mnemonics, mnemonic_in}
+use Rattle.line_words.specs.Number.{number}
+use Rattle.line_words.specs.Words.{words, is_printable, is_comment}
 use Rattle.script_text.specs.declared.faults.Reason.{Reason}
 use Rattle.script_text.specs.declared.faults.Reason.TheVariants as reason
 use Rattle.script_text.specs.declared.lines.Block.{Block}
 use Rattle.script_text.specs.declared.lines.Block.TheVariants as block
 use Rattle.script_text.specs.declared.lines.Keyword.{Keyword}
 use Rattle.script_text.specs.declared.lines.Keyword.TheVariants as keyword
-use Rattle.script_text.specs.declared.mnemonics.CallName.{CallName}
-use Rattle.script_text.specs.declared.mnemonics.CallName.TheVariants as name
-use Rattle.script_text.specs.declared.mnemonics.Mnemonic.{Mnemonic}
 use Rattle.script_text.specs.declared.operations.OpName.{OpName}
 use Rattle.script_text.specs.declared.schedules.Turns.{Turns}
 use Rattle.script_text.specs.Blocks.{field_of, operation_of, operand_count, fit_operands, guest_op_of}
 use Rattle.script_text.specs.Counted.{argument}
 use Rattle.script_text.specs.Line.{keyword_of, built_of, are_given}
-use Rattle.script_text.specs.Mnemonics.{mnemonics, mnemonic_in}
-use Rattle.script_text.specs.Number.{number}
 use Rattle.script_text.specs.Reading.{SoFar}
 use Rattle.script_text.specs.Schedule.{item_of, turns_in}
-use Rattle.script_text.specs.Words.{words, is_printable, is_comment}
 
 -- why something is bad, if it is
 abbrev pub fault_in : {A E : Type 0} → Result A E → Option E

@@ -1,13 +1,13 @@
 -- The items of schedule lines: `L`, or `L*K` for K turns of processor L.
 use Rattle.std.specs.Prelude.{◌≡◌, ℕ, ◌+◌, ◌^◌, List, [], ◌∷◌, ◌++◌, length, map, take, drop, replicate, Option, Some, None, is_some, Result, Ok, Err, not, ◌&&◌, ◌==◌, nat_lt, nat_le, position, if◌then◌else◌}
 use Rattle.std.specs.List.{list_all}
+use Rattle.line_words.specs.Number.{number}
+use Rattle.line_words.specs.Words.{words}
 use Rattle.script_text.specs.declared.faults.Reason.{Reason}
 use Rattle.script_text.specs.declared.faults.Reason.TheVariants as reason
 use Rattle.script_text.specs.declared.schedules.Item.{Item}
 use Rattle.script_text.specs.declared.schedules.Turns.{Turns}
 use Rattle.script_text.specs.Counted.{◌>>=◌}
-use Rattle.script_text.specs.Number.{number}
-use Rattle.script_text.specs.Words.{words}
 
 abbrev pub item_from : Option ℕ → Option ℕ → Option Item
 item_from (Some lp) (Some times) = Some (record { lp = lp; times = times })

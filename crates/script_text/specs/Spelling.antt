@@ -1,4 +1,4 @@
--- How a script is written: the words of a line, each behind a space but the first, then a newline; numbers in decimal.
+-- How a script is written: line by line, numbers in decimal.
 use Rattle.std.specs.Prelude.{◌≡◌, ℕ, ◌+◌, ◌%◌, ◌^◌, ◌<◌, List, [], ◌∷◌, ◌++◌, map, codes}
 use Rattle.std.specs.List.{All}
 use Rattle.std.specs.Fmt.{decimal}
@@ -8,14 +8,8 @@ use Rattle.td_words.specs.declared.calls.GuestOp.{GuestOp}
 use Rattle.td_words.specs.declared.calls.GuestOp.TheVariants as guest
 use Rattle.td_words.specs.NameText.{read_text}
 use Rattle.td_words.specs.Seen.{CodeSeen}
+use Rattle.line_words.specs.Lines.{line_text}
 use Rattle.script_text.specs.Seen.{ScriptSeen}
-
-abbrev pub words_text : List (List ℕ) → List ℕ
-words_text [] = []
-words_text (w ∷ ws) = 32 ∷ (w ++ words_text ws)
-
-abbrev pub line_text : List ℕ → List (List ℕ) → List ℕ
-line_text word words = (word ++ words_text words) ++ 10 ∷ []
 
 abbrev pub call_word : Call → List ℕ
 call_word (calls.HostRead page word) = codes "HOST.READ"

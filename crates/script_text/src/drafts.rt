@@ -1,17 +1,16 @@
 //! What the lines so far say.
 
 ghost use Rattle.std.specs.Prelude.{◌≡◌, map, replicate, [], ◌∷◌, slice_set, true, Ok, IfOk};
+ghost use Rattle.line_words.specs.Words.{words};
 ghost use Rattle.script_text.specs.Counted.{IsAnsweredAt};
 ghost use Rattle.script_text.specs.Reading.{draft_seen, with_call, with_op, closed_of, entered_of, worded_of, line_of};
-ghost use Rattle.script_text.specs.Words.{words};
 
 use crate::code_blocks::{CodePlace, list_place};
 use crate::faults::{Reason, Taken, bad};
 use crate::fields::field_in;
 use crate::lines::{Block, Entry, Stage, entry_at};
-use crate::numbers::first_numbers;
 use crate::schedules::schedule_line;
-use crate::words::{is_comment, is_printable, next_word};
+use line_words::{first_numbers, is_comment, is_printable, next_word};
 use std::alloc::{AllocError, Global};
 use std::mem;
 use td_words::{Call, Code, GuestOp};

@@ -1,13 +1,12 @@
 //! Arguments that the grammar judges: field names and output slots.
 
 ghost use Rattle.std.specs.Prelude.{◌≡◌, [], slice_index_or};
+ghost use Rattle.line_words.specs.Words.{words};
 ghost use Rattle.script_text.specs.Blocks.{field_of, slot_place_of, slot_of};
-ghost use Rattle.script_text.specs.Words.{words};
 
 use crate::faults::Reason;
 use crate::lines::is_marked;
-use crate::mnemonics::{CallName, is};
-use crate::words::next_word;
+use line_words::{CallName, is, next_word};
 use td_words::ReadField;
 
 fn field_at(word: &[u8]) -> Result<ReadField, Reason>

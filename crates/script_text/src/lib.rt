@@ -1,12 +1,12 @@
 //! Scripts: from bytes to a machine, a schedule and calls, or to the first bad line and its reason.
 //!
-//! A script is lines of words; this crate says what each line means and which reason counts where
-//! several hold. It stands on `td_words` alone. A layer above may use that `read_script` gives
-//! exactly what `specs/Reading.antt` defines, unless memory wasn't found, and four laws: what is
-//! read is in form (`scripts_are_in_form`), a script in form that is written out is read again
-//! (`scripts_read_again`), a fault names the first bad line (`faults_are_first`), and the first
-//! reason that holds of it (`reasons_in_order`). Twenty-seven calls and seven guest operations are built;
-//! any other mnemonic, and `secret`, is UNBUILT. Public functions read output slots.
+//! A script is lines of words, which `line_words` cuts; this crate says what each line means and
+//! which reason counts where several hold. A layer above may use that `read_script` gives exactly what
+//! `specs/Reading.antt` defines, unless memory wasn't found, and four laws: what is read is in form
+//! (`scripts_are_in_form`), a script in form that is written out is read again
+//! (`scripts_read_again`), a fault names the first bad line (`faults_are_first`), and the first reason
+//! that holds of it (`reasons_in_order`). Twenty-seven calls and seven guest operations are built; any
+//! other mnemonic, and `secret`, is UNBUILT. Public functions read output slots.
 #![tactic(auto)]
 
 mod code_blocks;
@@ -15,15 +15,11 @@ mod faults;
 mod fields;
 mod laws;
 mod lines;
-mod mnemonics;
-mod numbers;
 mod operations;
 mod schedules;
 mod scripts;
-mod words;
 
 pub use faults::{Reason, ScriptFault};
 pub use fields::{output_slot, slot_place};
 pub use laws::{faults_are_first, reasons_in_order, scripts_are_in_form, scripts_read_again};
-pub use mnemonics::{CallName, Mnemonic, mnemonic_at};
 pub use scripts::{Script, read_script};

@@ -2,14 +2,14 @@
 
 ghost use Rattle.std.specs.Prelude.{◌≡◌, None, is_some, slice_index_or, false};
 ghost use Rattle.std.specs.List.{list_all};
-ghost use Rattle.script_text.specs.Mnemonics.{mnemonics, mnemonic_in};
+ghost use Rattle.line_words.specs.Mnemonics.{mnemonics, mnemonic_in};
 ghost use Rattle.script_text.specs.Counted.{counted_of, number_at, argument};
 ghost use Rattle.script_text.specs.Line.{keyword_of, machine_in, machine_of, block_in, block_of, end_of, built_of, are_given, judged_of, call_of, list_of, operation_line_of, outside_of, named_of, inside_of, entry_of};
 
 use crate::code_blocks::{CodePlace, code_line};
 use crate::faults::Reason;
-use crate::mnemonics::{CallName, Mnemonic, is, mnemonic_at};
 use crate::operations::{OpName, check_operands, guest_op, operation_at};
+use line_words::{CallName, Mnemonic, is, mnemonic_at};
 use td_words::{Call, GuestOp, Machine};
 
 /// The first word of a line that isn't a call.

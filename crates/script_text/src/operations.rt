@@ -5,7 +5,7 @@ ghost use Rattle.script_text.specs.Blocks.{operation_of, first_operand_of, secon
 
 use crate::faults::Reason;
 use crate::lines::{are_numbers, argument, check_count};
-use crate::mnemonics::is;
+use line_words::is;
 use td_words::GuestOp;
 
 /// The name of a guest operation, whether or not it is built.

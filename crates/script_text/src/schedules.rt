@@ -2,14 +2,13 @@
 
 ghost use Rattle.std.specs.Prelude.{◌≡◌, ◌<◌, [], Some, is_some, length, map, MatchOption};
 ghost use Rattle.std.specs.List.{list_all};
-ghost use Rattle.script_text.specs.Number.{number};
+ghost use Rattle.line_words.specs.Number.{number};
+ghost use Rattle.line_words.specs.Words.{words};
 ghost use Rattle.script_text.specs.Counted.{IsAnsweredAt};
 ghost use Rattle.script_text.specs.Schedule.{item_from, item_of, in_range_of, turns_in, with_turns, written_of, IsCutTo, first_reason, schedule_of};
-ghost use Rattle.script_text.specs.Words.{words};
 
 use crate::faults::{Reason, ScriptFault, Taken, bad};
-use crate::numbers::number;
-use crate::words::{next_word, place_of};
+use line_words::{next_word, number, place_of};
 
 /// So many turns of a processor, one after the other.
 #[derive(Clone, Copy, Debug, PartialEq, Eq)]
@@ -36,7 +35,7 @@ fn item_from(lp: Option<u64>, times: Option<u64>) -> Option<Item>
 }
 
 /// The item that a word is: `L`, or `L*K`.
-#[tactic(auto, unfolding(crate::specs::Schedule::item_of), using(crate::proofs::Pieces::star_below))]
+#[tactic(auto, unfolding(crate::specs::Schedule::item_of), using(crate::proofs::Short::star_below))]
 pub fn item_at(word: &[u8]) -> Option<Item>
     ensures { result ≡ item_of word.now }
 {

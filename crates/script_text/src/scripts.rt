@@ -1,14 +1,14 @@
 //! Scripts.
 
 ghost use Rattle.std.specs.Prelude.{◌≡◌, ◌≤◌, ◌^◌, length};
+ghost use Rattle.line_words.specs.Words.{pieces};
 ghost use Rattle.script_text.specs.Reading.{IsAnswered, read_of, read_from, ended_of, nothing_yet, draft_seen};
-ghost use Rattle.script_text.specs.Words.{pieces};
 
 use crate::code_blocks::none_listed;
 use crate::drafts::{Draft, take_line};
 use crate::faults::{Reason, ScriptFault, bad};
 use crate::lines::Stage;
-use crate::words::first_line;
+use line_words::first_line;
 use std::alloc::Global;
 use std::marker::Model;
 use td_words::{Call, Code, Machine};

@@ -1,8 +1,7 @@
 //! What no clause says: that the grammar means what its users were promised.
 
-use script_text::{
-    CallName, Reason, ScriptFault, mnemonic_at, output_slot, read_script, slot_place,
-};
+use line_words::{CallName, mnemonic_at};
+use script_text::{Reason, ScriptFault, output_slot, read_script, slot_place};
 use std::alloc::Global;
 use std::test::Fail;
 
@@ -71,7 +70,7 @@ const IN_BLOCK: &[&str] = &[
     "good |  |  # end",
     "3 PLACE | lp | lp 0 | schedule 0 | schedule x | code 9 | code 1 0",
     "3 WORD | host.read 5 0 | HOST.READX 5 | set 0 0 | vmcall 0 | secret 0 0",
-    "3 UNBUILT | MEM.TRACK | MEM.TRACK x | EXPORT.ABORT 1 2 | VP.ENTER 1 4 1",
+    "3 UNBUILT | EXPORT.PAUSE | EXPORT.PAUSE x | EXPORT.ABORT 1 2 | IMPORT.END 1 2 3 4 5 6",
     "3 COUNT | end 0 | HOST.READ 5 | HOST.READ x 0 0 | HOST.WRITE 0 0 0 0 0 0 0 | PHYMEM.PAGE.RDMD",
     "3 NUMBER | MNG.CREATE 1 0x | MNG.CREATE 0X1 1 | MNG.CREATE -1 1 | HOST.READ 0xfg 1",
     "3 COUNT | PHYMEM.CACHE.WB 0 | PHYMEM.PAGE.RECLAIM 1 | PHYMEM.PAGE.RECLAIM 1 2 3 | MNG.KEY.CONFIG",
@@ -79,9 +78,17 @@ const IN_BLOCK: &[&str] = &[
     "3 COUNT | MNG.RD 1 | MNG.RD NAME | MNG.RD 1 LIFE 1 | MNG.RD x NAME 1 | MNG.VPFLUSHDONE",
     "3 COUNT | MNG.VPFLUSHDONE 1 2 | MNG.KEY.FREEID | MNG.KEY.FREEID 1 2 | MR.FINALIZE",
     "3 COUNT | MR.FINALIZE 1 2 | VP.CREATE 1 | VP.CREATE 1 2 3 | VP.INIT 1 4 | VP.INIT 1 4 0 0",
+    "3 COUNT | VP.ENTER | VP.ENTER 1 4 | VP.ENTER 1 4 1 0 | VP.ENTER x 4 1 0 | VP.FLUSH 1",
+    "3 COUNT | VP.FLUSH 1 4 1 | VP.FLUSH x 4 1 | MEM.SEPT.REMOVE 1 0 | MEM.SEPT.REMOVE 1 0 3 5",
     "3 COUNT | MEM.SEPT.ADD 1 0 3 | MEM.SEPT.ADD 1 0 3 5 5 | MEM.SEPT.RD 1 0 | MEM.SEPT.RD 1 0 3 5",
     "3 COUNT | MEM.PAGE.ADD 1 0 8 | MEM.PAGE.ADD x 0 8 0 0 | MR.EXTEND 1 | MR.EXTEND 1 0 0",
     "3 COUNT | MEM.PAGE.AUG 1 0 | MEM.PAGE.AUG 1 0 8 0 | MEM.PAGE.AUG x 0 8 0 | MEM.PAGE.AUG",
+    "3 COUNT | MEM.PAGE.REMOVE 1 | MEM.PAGE.REMOVE 1 0 8 | MEM.TRACK | MEM.TRACK 1 2 | MEM.TRACK x y",
+    "3 COUNT | MEM.RANGE.BLOCK 1 0 | MEM.RANGE.BLOCK 1 0 3 8 | MEM.RANGE.BLOCK x 0",
+    "3 COUNT | MEM.RANGE.UNBLOCK 1 0 | MEM.RANGE.UNBLOCK 1 0 3 8 | MEM.RANGE.UNBLOCK x 0",
+    "3 NUMBER | VP.ENTER 1 4 x | VP.ENTER x 4 1 | VP.ENTER 1 4 0x | VP.FLUSH 1 x | VP.FLUSH x 4",
+    "3 NUMBER | MEM.SEPT.REMOVE 1 0 x | MEM.SEPT.REMOVE x 0 3 | MEM.PAGE.REMOVE 1 x | MEM.TRACK x",
+    "3 NUMBER | MEM.RANGE.BLOCK 1 0 x | MEM.RANGE.BLOCK x 0 3 | MEM.RANGE.UNBLOCK 1 x 3",
     "3 NUMBER | MEM.SEPT.ADD 1 0 3 x | MEM.SEPT.RD 1 0 x | MEM.PAGE.ADD 1 0 8 x | MR.EXTEND 1 x",
     "3 NUMBER | MEM.PAGE.AUG 1 0 x | MEM.PAGE.AUG x 0 8 | MEM.PAGE.AUG 1 0x 8",
     "3 NUMBER | PHYMEM.PAGE.RECLAIM 1 x | MNG.KEY.CONFIG x | MNG.ADDCX x 1 | MNG.INIT x",
@@ -112,10 +119,21 @@ const CALLS: &[&str] = &[
     "MrFinalize { tdr: 10 } | MR.FINALIZE 10 | MR.FINALIZE 0xA",
     "VpCreate { tdr: 1, page: 18 } | VP.CREATE 1 18 | VP.CREATE 0x1 0x12",
     "VpInit { tdr: 1, vp: 18, value: 3 } | VP.INIT 1 18 3 | VP.INIT 0x1 0x12 0x3",
+    "VpEnter { tdr: 1, vp: 18, max: 100 } | VP.ENTER 1 18 100 | VP.ENTER 0x1 0x12 0x64",
+    "VpEnter { tdr: 0, vp: 0, max: 18446744073709551615 } | VP.ENTER 0 0 0xffffffffFFFFFFFF",
+    "VpFlush { tdr: 1, vp: 18 } | VP.FLUSH 1 18 | VP.FLUSH 0x1 0x12",
     "MemSeptAdd { tdr: 1, gpa: 4096, level: 3, page: 18 } | MEM.SEPT.ADD 1 0x1000 3 18",
     "MemSeptRd { tdr: 1, gpa: 18, level: 3 } | MEM.SEPT.RD 1 18 3 | MEM.SEPT.RD 0x1 0x12 03",
+    "MemSeptRemove { tdr: 1, gpa: 18, level: 3 } | MEM.SEPT.REMOVE 1 18 3",
+    "MemSeptRemove { tdr: 1, gpa: 18, level: 3 } | MEM.SEPT.REMOVE 0x1 0x12 0x3",
     "MemPageAdd { tdr: 1, gpa: 18, page: 8, source: 0 } | MEM.PAGE.ADD 1 0x12 8 0",
     "MemPageAug { tdr: 1, gpa: 18, page: 8 } | MEM.PAGE.AUG 1 0x12 8 | MEM.PAGE.AUG 01 18 0x8",
+    "MemPageRemove { tdr: 1, gpa: 4096 } | MEM.PAGE.REMOVE 1 4096 | MEM.PAGE.REMOVE 0x1 0x1000",
+    "MemRangeBlock { tdr: 1, gpa: 18, level: 3 } | MEM.RANGE.BLOCK 1 18 3",
+    "MemRangeBlock { tdr: 1, gpa: 18, level: 3 } | MEM.RANGE.BLOCK 0x1 0x12 0x3",
+    "MemRangeUnblock { tdr: 1, gpa: 18, level: 3 } | MEM.RANGE.UNBLOCK 1 18 3",
+    "MemRangeUnblock { tdr: 1, gpa: 18, level: 3 } | MEM.RANGE.UNBLOCK 0x1 0x12 0x3",
+    "MemTrack { tdr: 10 } | MEM.TRACK 10 | MEM.TRACK 0xA",
     "MrExtend { tdr: 1, gpa: 256 } | MR.EXTEND 1 256 | MR.EXTEND 0x1 0x100",
 ];
 
@@ -182,7 +200,8 @@ fn stops_at_its_limits(rt: HostRuntime) -> Result<(), Fail> {
     let rows = [
         (4096, "end\n", first),
         (4095, "HOST.READ 1 1\nend\n", first),
-        (4096, "MEM.TRACK 1\n", "4099 UNBUILT"),
+        (4096, "EXPORT.PAUSE 1\n", "4099 UNBUILT"),
+        (4096, "MEM.TRACK 1\n", "4099 FULL"),
         (4096, "HOST.READ x\n", "4099 COUNT"),
         (4096, "HOST.READ x 1\n", "4099 NUMBER"),
         (4096, "HOST.READ 1 1\n", "4099 FULL"),

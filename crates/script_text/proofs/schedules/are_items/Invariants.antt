@@ -1,8 +1,8 @@
 use Rattle.std.proofs.Common.{◌≡◌, length}
 use Rattle.std.specs.Prelude.{is_some}
 use Rattle.std.specs.List.{list_all}
+use Rattle.line_words.specs.Words.{words}
 use Rattle.script_text.specs.Schedule.{item_of}
-use Rattle.script_text.specs.Words.{words}
 use Rattle.script_text.proofs.schedules.are_items.Given as goal
 
 -- the words that are left decide

@@ -1,5 +1,5 @@
 use Rattle.std.proofs.Common.{rules, tests}
-use Rattle.script_text.specs.Words.{words}
+use Rattle.line_words.specs.Words.{words}
 use Rattle.script_text.proofs.Short.{faulty}
 use Rattle.script_text.proofs.schedules.schedule_line.Goals as goal
 

@@ -1,8 +1,8 @@
 use Rattle.std.proofs.Common.{arith, sym, ◌∙◌}
 use Rattle.std.proofs.lemmas.Result.{err_from_is_err_and}
+use Rattle.line_words.specs.Words.{pieces}
 use Rattle.script_text.proofs.Steps.{good_line, bad_line}
 use Rattle.script_text.specs.Reading.{draft_seen, read_from, nothing_yet}
-use Rattle.script_text.specs.Words.{pieces}
 use Rattle.script_text.proofs.scripts.read_lines.Goals as goal
 
 pub returns-in_err-take_line : goal.returns-in_err-take_line

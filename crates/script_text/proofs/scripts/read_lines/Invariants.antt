@@ -1,5 +1,5 @@
 use Rattle.std.proofs.Common.{◌≡◌, ◌+◌, ◌≤◌, ◌^◌, length}
-use Rattle.script_text.specs.Words.{pieces}
+use Rattle.line_words.specs.Words.{pieces}
 use Rattle.script_text.specs.Reading.{read_from, nothing_yet, draft_seen}
 use Rattle.script_text.proofs.scripts.read_lines.Given as goal
 

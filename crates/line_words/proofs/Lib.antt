@@ -1,0 +1,4 @@
+pub mod Pieces
+pub mod NextWords
+pub mod Far
+pub mod Texts

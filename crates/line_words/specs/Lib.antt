@@ -1,0 +1,4 @@
+pub mod Number
+pub mod Words
+pub mod Mnemonics
+pub mod Lines

@@ -1,6 +1,0 @@
-use Rattle.std.proofs.Common.{arith, sym, ◌∙◌}
-use Rattle.script_text.proofs.NextWords.{no_word}
-use Rattle.script_text.proofs.words.next_word.Goals as goal
-
-pub returns-then-is_empty-clause-cut : goal.returns-then-is_empty-clause-cut
-returns-then-is_empty-clause-cut c = sym c.without_front_spaces-text.ensures.same ∙ no_word c.without_front_spaces-text.result.now (grind (arith, c.if-is_empty.ensures))

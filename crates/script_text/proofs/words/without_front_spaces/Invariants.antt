@@ -1,9 +1,0 @@
-use Rattle.std.proofs.Common.{◌≡◌, ◌≤◌, length}
-use Rattle.script_text.specs.Words.{words}
-use Rattle.script_text.proofs.words.without_front_spaces.Given as goal
-
-abbrev pub invariant-loop-rest : goal.invariant-loop-rest
-invariant-loop-rest l = record { same : words l.rest ≡ words l.bytes; shorter : length l.rest ≤ length l.bytes }
-
-abbrev pub decreases-loop-rest : goal.decreases-loop-rest
-decreases-loop-rest l = length l.rest
