@@ -60,7 +60,7 @@ const CHECKS: &[Row<'static>] = &[
 fn check_counts_a_script(rt: HostRuntime) -> Result<(), Fail> {
     let alloc = rt.alloc();
     for (line, script, status, want) in CHECKS {
-        let mut files = one_script(alloc, script)?;
+        let mut files = one_script(alloc, script, &[])?;
         let mut out = MemSink::new(alloc, Vec::new(alloc));
         let words = words_of(alloc, line)?;
         let got = tdx_main(alloc, &words, &mut files, &mut out, &NoGate);
@@ -140,16 +140,18 @@ const SAVED: &[Saved<'static>] = &[
 fn the_guest_file_is_saved_last(rt: HostRuntime) -> Result<(), Fail> {
     let alloc = rt.alloc();
     for (line, failing, status, want, guest) in SAVED {
-        let mut files = one_script(alloc, PLAIN)?;
-        files.failing = failing.to_vec(alloc)?;
+        let mut files = one_script(alloc, PLAIN, failing)?;
         let mut out = MemSink::new(alloc, Vec::new(alloc));
         let words = words_of(alloc, line)?;
         let got = tdx_main(alloc, &words, &mut files, &mut out, &NoGate);
         assert_eq!(rt; got, *status, "status of {line}");
         assert_eq!(rt; out.bytes.as_slice(), want.as_bytes(), "text of {line}");
-        match (held(&files, "g"), *guest) {
-            (Some(bytes), Some(text)) => assert_eq!(rt; bytes, text.as_bytes(), "g of {line}"),
-            (found, wanted) => assert_eq!(rt; found.is_some(), wanted.is_some(), "g of {line}"),
+        match held(&files, "g") {
+            Some(bytes) => {
+                let text = guest.ok_or("g is saved")?;
+                assert_eq!(rt; bytes, text.as_bytes(), "g of {line}");
+            }
+            None => assert_eq!(rt; guest.is_some(), false, "no g of {line}"),
         }
     }
     Ok(())

@@ -78,14 +78,14 @@ fn add_processor(
     Ok(())
 }
 
-/// The script s, and no other file.
-pub fn one_script(alloc: Global, text: &str) -> Result<MemFiles, Fail> {
+/// The script s, and no other file. The loads and saves with these numbers fail.
+pub fn one_script(alloc: Global, text: &str, failing: &[u64]) -> Result<MemFiles, Fail> {
     let mut files = Vec::new(alloc);
     files.push(NamedFile {
         name: String::from_str(alloc, "s")?,
         bytes: text.as_bytes().to_vec(alloc)?,
     })?;
-    Ok(MemFiles::new(alloc, files, Vec::new(alloc)))
+    Ok(MemFiles::new(alloc, files, failing.to_vec(alloc)?))
 }
 
 /// The words of a line.
@@ -141,7 +141,7 @@ fn replay(
         script.push_str(&format!(in alloc; "schedule {schedule}\n")?)?;
     }
     let words = words_of(alloc, "replay s --guest-out g")?;
-    let mut files = one_script(alloc, &script)?;
+    let mut files = one_script(alloc, &script, &[])?;
     let mut out = MemSink::new(alloc, Vec::new(alloc));
     let status = tdx_main(alloc, &words, &mut files, &mut out, &NoGate);
     assert_eq!(rt; status, 0, "status of {script}");
@@ -157,7 +157,7 @@ fn replay(
 }
 
 /// Replays rows, each on 32 pages with two HKIDs.
-pub fn replay_rows(rt: &impl Abort, alloc: Global, rows: &[Row<'_>]) -> Result<(), Fail> {
+pub fn replay_rows(rt: &impl Abort, alloc: Global, rows: &[Row<'static>]) -> Result<(), Fail> {
     for (schedule, lists, processors, guest) in rows {
         replay(rt, alloc, schedule, lists, processors, guest)?;
     }
