@@ -47,7 +47,7 @@ REFUSALS = {
     "MNG.KEY.FREEID": ((1, 2), (TD, ASSIGNED, CONFIGURED, TEARDOWN, "CACHE_WB_NOT_DONE")),
     "VP.CREATE": ((1, 2, 3), (*HEAD, UNINITIALIZED, RUNNABLE, SECOND, "LIMIT VCPUS")),
     "VP.INIT": ((1, 2, 3), (*HEAD, UNINITIALIZED, RUNNABLE, SECOND, "VCPU_STATE_INCORRECT READY")),
-    "MEM.SEPT.ADD": ((1, 2, 3, 4), (*HEAD, UNINITIALIZED, *WALKS[:2], FOURTH, "EPT_ENTRY_STATE_INCORRECT NL_MAPPED")),
+    "MEM.SEPT.ADD": ((1, 2, 3, 4), (*HEAD, UNINITIALIZED, *WALKS[:2], FOURTH, *states("NL_MAPPED", "NL_BLOCKED"))),
     "MEM.SEPT.RD": ((1, 2, 3), (*HEAD, UNINITIALIZED, *WALKS)),
     "MEM.PAGE.ADD": (
         (1, 2, 4, 5),
@@ -55,8 +55,7 @@ REFUSALS = {
     ),
     "MEM.PAGE.AUG": (
         (1, 2, 3, 4),
-        (*HEAD, UNINITIALIZED, INITIALIZED, *WALKS, THIRD, "EPT_ENTRY_STATE_INCORRECT MAPPED",
-         "EPT_ENTRY_STATE_INCORRECT PENDING"),
+        (*EARLY, *WALKS, THIRD, *states("MAPPED", "PENDING", "BLOCKED", "PENDING_BLOCKED")),
     ),
     "VP.ENTER": (
         (1, 2, 3, 4),
@@ -115,14 +114,24 @@ BLOCKING = {
                       "EPT_VIOLATION at PENDING_BLOCKED"),
     "accept": ("EPT_VIOLATION at BLOCKED", "EPT_VIOLATION at PENDING_BLOCKED"),
 }
-# What comes by calls that may not be built yet.
+# What comes by calls and operations that may not be built yet.
 COMES_BY = {
     "MNG.RD EPOCH: OPERAND_BUSY at try 3": "MEM.TRACK",
     "VP.ENTER: OPERAND_BUSY at try 4": "MEM.TRACK",
     "MNG.VPFLUSHDONE: FLUSHVP_NOT_DONE": "VP.ENTER",
+    "MEM.SEPT.ADD: EPT_ENTRY_STATE_INCORRECT NL_BLOCKED": "MEM.RANGE.BLOCK",
+    "MEM.PAGE.AUG: EPT_ENTRY_STATE_INCORRECT BLOCKED": "MEM.RANGE.BLOCK",
+    "MEM.PAGE.AUG: EPT_ENTRY_STATE_INCORRECT PENDING_BLOCKED": "MEM.RANGE.BLOCK",
+    "VP.ENTER: EXIT BUSY T": "accept",
+    "VP.ENTER: EXIT BUSY R": "rtmr",
 }
 # Calls whose success is told by their exit.
 ENTERS = ("VP.ENTER",)
+
+
+def has(outcomes):
+    """What can come of the operations that the program has."""
+    return [(name, came) for name, came in outcomes.items() if name.split()[0] not in UNBUILT]
 
 
 def wanted():
@@ -137,9 +146,9 @@ def wanted():
         names.update(f"{call}: OPERAND_BUSY at try {place}" for place in tries)
         names.update(f"{call}: {refusal}" for refusal in (*refusals, *("SUCCESS",) * (call not in ENTERS)))
     if "VP.ENTER" in BUILT:
-        names.update(f"{name}: {came}" for name, all_came in OPERATIONS.items() if name not in UNBUILT for came in all_came)
+        names.update(f"{name}: {came}" for name, all_came in has(OPERATIONS) for came in all_came)
     if "MEM.RANGE.BLOCK" in BUILT and "VP.ENTER" in BUILT:
-        names.update(f"{name}: {came}" for name, all_came in BLOCKING.items() for came in all_came)
+        names.update(f"{name}: {came}" for name, all_came in has(BLOCKING) for came in all_came)
     names -= {name for name, call in COMES_BY.items() if call in UNBUILT}
     names.update(f"reason {reason}" for reason in REASONS)
     return names | {f"status {status}" for status in range(4)}

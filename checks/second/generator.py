@@ -154,9 +154,9 @@ class Life:
         return calls + [f"HOST.READ {page} {a_word(chance)}" for page in pages]
 
 
-def only_built(calls):
-    """Those calls that the program has."""
-    return [call for call in calls if call.split()[0] in BUILT]
+def only_built(lines):
+    """Those calls and operations that the program has, with other lines of blocks."""
+    return [line for line in lines if line.split()[0] not in UNBUILT]
 
 
 def a_word(chance):
@@ -506,7 +506,7 @@ def code_blocks(chance, scene):
     pages = [life.td for life in scene.lives] + [0, scene.size - 1]
     vcpus = {(chance.choice(pages), chance.randrange(8)) for _ in range(chance.choice((0, 0, 1, 3)))}
     lists |= {vcpu: code_block(chance, scene, vcpu) for vcpu in sorted(vcpus - set(lists))}
-    return list(lists.values())
+    return [only_built(block) for block in lists.values()]
 
 
 def script_lines(chance, make, turn):

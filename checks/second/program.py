@@ -83,13 +83,17 @@ def options_of(words):
     """The words that are no options, and the options with their values."""
     rest, options, left = [], {}, iter(words)
     for word in left:
-        if not word.startswith("-"):
+        if word == "--":
+            rest += left
+        elif word == "-" or not word.startswith("-"):
             rest.append(word)
-            continue
-        name, given, value = word.partition("=")
-        value = value if given else next(left, "-")
-        need_usage(name in OPTIONS and name not in options and not value.startswith("-"))
-        options[name] = value
+        else:
+            name, given, value = word.partition("=")
+            if not given:
+                value = next(left, "--")
+                need_usage(value == "-" or not value.startswith("-"))
+            need_usage(name in OPTIONS and name not in options)
+            options[name] = value
     return rest, options
 
 
