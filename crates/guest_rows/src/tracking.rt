@@ -276,6 +276,91 @@ const ROWS: &[Row<'static>] = &[
         ],
         "",
     ),
+    // A processor caches sixteen translations, and drops the oldest for a seventeenth.
+    (
+        "",
+        &[
+            "1 0 | load 1 0x0 | load 1 0x1000 | load 1 0x2000 | load 1 0x3000 \
+                    | load 1 0x4000 | load 1 0x5000 | load 1 0x6000 | load 1 0x7000 \
+                    | load 1 0x8000 | load 1 0x9000 | load 1 0xa000 | load 1 0xb000 \
+                    | load 1 0xc000 | load 1 0xd000 | load 1 0xe000 | load 1 0xf000 \
+                    | load 1 0x0",
+        ],
+        &[&[
+            TREE,
+            "SUCCESS | MEM.PAGE.ADD 1 0x0 10 0 | MEM.PAGE.ADD 1 0x1000 11 0 \
+                    | MEM.PAGE.ADD 1 0x2000 12 0 | MEM.PAGE.ADD 1 0x3000 13 0 \
+                    | MEM.PAGE.ADD 1 0x4000 14 0 | MEM.PAGE.ADD 1 0x5000 15 0 \
+                    | MEM.PAGE.ADD 1 0x6000 16 0 | MEM.PAGE.ADD 1 0x7000 17 0 \
+                    | MEM.PAGE.ADD 1 0x8000 18 0 | MEM.PAGE.ADD 1 0x9000 19 0 \
+                    | MEM.PAGE.ADD 1 0xa000 20 0 | MEM.PAGE.ADD 1 0xb000 21 0 \
+                    | MEM.PAGE.ADD 1 0xc000 22 0 | MEM.PAGE.ADD 1 0xd000 23 0 \
+                    | MEM.PAGE.ADD 1 0xe000 24 0 | MEM.PAGE.ADD 1 0xf000 25 0",
+            RUNS,
+            "EXIT MAX | VP.ENTER 1 4 16",
+            "SUCCESS | MEM.RANGE.BLOCK 1 0 0",
+            "EXIT STOP | VP.ENTER 1 4 9",
+        ]],
+        "0.28 load 0x0 0 | 0.28 load 0x1000 0 | 0.28 load 0x2000 0 \
+                    | 0.28 load 0x3000 0 | 0.28 load 0x4000 0 | 0.28 load 0x5000 0 \
+                    | 0.28 load 0x6000 0 | 0.28 load 0x7000 0 | 0.28 load 0x8000 0 \
+                    | 0.28 load 0x9000 0 | 0.28 load 0xa000 0 | 0.28 load 0xb000 0 \
+                    | 0.28 load 0xc000 0 | 0.28 load 0xd000 0 | 0.28 load 0xe000 0 \
+                    | 0.28 load 0xf000 0 | 0.30 load 0x0 0",
+    ),
+    (
+        "",
+        &[
+            "1 0 | load 1 0x0 | load 1 0x1000 | load 1 0x2000 | load 1 0x3000 \
+                    | load 1 0x4000 | load 1 0x5000 | load 1 0x6000 | load 1 0x7000 \
+                    | load 1 0x8000 | load 1 0x9000 | load 1 0xa000 | load 1 0xb000 \
+                    | load 1 0xc000 | load 1 0xd000 | load 1 0xe000 | load 1 0xf000 \
+                    | load 1 0x10000 | load 1 0x1000 | load 1 0x0",
+        ],
+        &[&[
+            TREE,
+            "SUCCESS | MEM.PAGE.ADD 1 0x0 10 0 | MEM.PAGE.ADD 1 0x1000 11 0 \
+                    | MEM.PAGE.ADD 1 0x2000 12 0 | MEM.PAGE.ADD 1 0x3000 13 0 \
+                    | MEM.PAGE.ADD 1 0x4000 14 0 | MEM.PAGE.ADD 1 0x5000 15 0 \
+                    | MEM.PAGE.ADD 1 0x6000 16 0 | MEM.PAGE.ADD 1 0x7000 17 0 \
+                    | MEM.PAGE.ADD 1 0x8000 18 0 | MEM.PAGE.ADD 1 0x9000 19 0 \
+                    | MEM.PAGE.ADD 1 0xa000 20 0 | MEM.PAGE.ADD 1 0xb000 21 0 \
+                    | MEM.PAGE.ADD 1 0xc000 22 0 | MEM.PAGE.ADD 1 0xd000 23 0 \
+                    | MEM.PAGE.ADD 1 0xe000 24 0 | MEM.PAGE.ADD 1 0xf000 25 0 \
+                    | MEM.PAGE.ADD 1 0x10000 26 0",
+            RUNS,
+            "EXIT MAX | VP.ENTER 1 4 17",
+            "SUCCESS | MEM.RANGE.BLOCK 1 0 0 | MEM.RANGE.BLOCK 1 4096 0",
+            "EXIT EPT_VIOLATION 0x0 READ | VP.ENTER 1 4 9",
+        ]],
+        "0.29 load 0x0 0 | 0.29 load 0x1000 0 | 0.29 load 0x2000 0 \
+                    | 0.29 load 0x3000 0 | 0.29 load 0x4000 0 | 0.29 load 0x5000 0 \
+                    | 0.29 load 0x6000 0 | 0.29 load 0x7000 0 | 0.29 load 0x8000 0 \
+                    | 0.29 load 0x9000 0 | 0.29 load 0xa000 0 | 0.29 load 0xb000 0 \
+                    | 0.29 load 0xc000 0 | 0.29 load 0xd000 0 | 0.29 load 0xe000 0 \
+                    | 0.29 load 0xf000 0 | 0.29 load 0x10000 0 | 0.32 load 0x1000 0",
+    ),
+    // Another TD's translations are its own, and stay where this one's are dropped.
+    (
+        "",
+        &["1 0 | load 1 0", "20 0 | load 1 0 | load 2 0"],
+        &[&[
+            TREE,
+            "SUCCESS | HOST.WRITE 0 0 11",
+            PAGE,
+            RUNS,
+            "SUCCESS | MNG.CREATE 20 2 | MNG.KEY.CONFIG 20 | MNG.ADDCX 20 21 \
+                    | MNG.ADDCX 20 22 | MNG.INIT 20 | VP.CREATE 20 23 | VP.INIT 20 23 0 \
+                    | MEM.SEPT.ADD 20 0 3 24 | MEM.SEPT.ADD 20 0 2 25 \
+                    | MEM.SEPT.ADD 20 0 1 26 | HOST.WRITE 0 0 22 | MEM.PAGE.ADD 20 0 27 0 \
+                    | MR.FINALIZE 20",
+            "EXIT STOP | VP.ENTER 1 4 9",
+            "EXIT MAX | VP.ENTER 20 23 1",
+            "SUCCESS | VP.FLUSH 1 4 | MEM.RANGE.BLOCK 20 0 0",
+            "EXIT STOP | VP.ENTER 20 23 1",
+        ]],
+        "0.27 load 0x0 11 | 0.28 load 0x0 22 | 0.31 load 0x0 22",
+    ),
 ];
 
 #[test]
