@@ -1,6 +1,6 @@
-//! What `check` says of a script, and where the guest file goes.
+//! What `check` says of a script.
 
-use crate::rows::{held, one_script, words_of};
+use crate::rows::{one_script, words_of};
 use bundle_store::MemSink;
 use leaf_engine::NoGate;
 use script_runner::tdx_main;
@@ -60,99 +60,12 @@ const CHECKS: &[Row<'static>] = &[
 fn check_counts_a_script(rt: HostRuntime) -> Result<(), Fail> {
     let alloc = rt.alloc();
     for (line, script, status, want) in CHECKS {
-        let mut files = one_script(alloc, script, &[])?;
+        let mut files = one_script(alloc, script)?;
         let mut out = MemSink::new(alloc, Vec::new(alloc));
         let words = words_of(alloc, line)?;
         let got = tdx_main(alloc, &words, &mut files, &mut out, &NoGate);
         assert_eq!(rt; got, *status, "status of {line}");
         assert_eq!(rt; out.bytes.as_slice(), want.as_bytes(), "text of {line}");
-    }
-    Ok(())
-}
-
-const PLAIN: &str = "machine 1 8 1\nlp 0\nHOST.READ 1 0\nend\n";
-
-const REPLY: &str = "0.1 SUCCESS 0\n";
-
-// Words, the loads and saves that fail, the status, the text, and the guest file g where it is
-// saved.
-type Saved<'a> = (&'a str, &'a [u64], u8, &'a str, Option<&'a str>);
-
-const SAVED: &[Saved<'static>] = &[
-    ("replay s --guest-out g", &[], 0, REPLY, Some("")),
-    ("replay --guest-out g s", &[], 0, REPLY, Some("")),
-    ("replay s", &[], 0, REPLY, None),
-    (
-        "replay s --out-bundles b --guest-out g",
-        &[],
-        0,
-        REPLY,
-        Some(""),
-    ),
-    (
-        "replay s --guest-out g --out-bundles b",
-        &[],
-        0,
-        REPLY,
-        Some(""),
-    ),
-    // Both outputs in one file: the guest file is saved last.
-    (
-        "replay s --out-bundles g --guest-out g",
-        &[],
-        0,
-        REPLY,
-        Some(""),
-    ),
-    ("replay s --out-bundles g", &[], 0, REPLY, Some("TDXBNDL1")),
-    // The container is saved before the guest file, and nothing is saved behind a failed save.
-    (
-        "replay s --out-bundles b --guest-out g",
-        &[2],
-        4,
-        "0.1 SUCCESS 0\ncannot write g\n",
-        None,
-    ),
-    (
-        "replay s --out-bundles b --guest-out g",
-        &[1],
-        4,
-        "0.1 SUCCESS 0\ncannot write b\n",
-        None,
-    ),
-    (
-        "replay s --guest-out g",
-        &[1],
-        4,
-        "0.1 SUCCESS 0\ncannot write g\n",
-        None,
-    ),
-    ("replay s --guest-out", &[], 1, USAGE, None),
-    ("replay --guest-out s", &[], 1, USAGE, None),
-    ("replay s --guest-out g --guest-out g", &[], 1, USAGE, None),
-    ("replay s --guest-out g --guest-out h", &[], 1, USAGE, None),
-    ("replay s --guest-out -g", &[], 1, USAGE, None),
-    ("replay s --guest-out=g", &[], 1, USAGE, None),
-    ("replay s --secrets g", &[], 1, USAGE, None),
-];
-
-#[test]
-fn the_guest_file_is_saved_last(rt: HostRuntime) -> Result<(), Fail> {
-    let alloc = rt.alloc();
-    for (line, failing, status, want, guest) in SAVED {
-        let mut files = one_script(alloc, PLAIN, failing)?;
-        let mut out = MemSink::new(alloc, Vec::new(alloc));
-        let words = words_of(alloc, line)?;
-        let got = tdx_main(alloc, &words, &mut files, &mut out, &NoGate);
-        assert_eq!(rt; got, *status, "status of {line}");
-        assert_eq!(rt; out.bytes.as_slice(), want.as_bytes(), "text of {line}");
-        match held(&files, "g") {
-            Some(bytes) => {
-                let text = guest.ok_or("g is saved")?;
-                assert_eq!(rt; bytes, text.as_bytes(), "g of {line}");
-            }
-            None => assert_eq!(rt; guest.is_some(), false, "no g of {line}"),
-        }
     }
     Ok(())
 }

@@ -78,14 +78,14 @@ fn add_processor(
     Ok(())
 }
 
-/// The script s, and no other file. The loads and saves with these numbers fail.
-pub fn one_script(alloc: Global, text: &str, failing: &[u64]) -> Result<MemFiles, Fail> {
+/// The script s, and no other file.
+pub fn one_script(alloc: Global, text: &str) -> Result<MemFiles, Fail> {
     let mut files = Vec::new(alloc);
     files.push(NamedFile {
         name: String::from_str(alloc, "s")?,
         bytes: text.as_bytes().to_vec(alloc)?,
     })?;
-    Ok(MemFiles::new(alloc, files, failing.to_vec(alloc)?))
+    Ok(MemFiles::new(alloc, files, Vec::new(alloc)))
 }
 
 /// The words of a line.
@@ -97,8 +97,8 @@ pub fn words_of(alloc: Global, line: &str) -> Result<Vec<String>, Fail> {
     Ok(words)
 }
 
-/// The bytes that a name has.
-pub fn held<'a>(files: &'a MemFiles, name: &str) -> Option<&'a [u8]> {
+// The bytes that a name has.
+fn held<'a>(files: &'a MemFiles, name: &str) -> Option<&'a [u8]> {
     for file in &files.files {
         if file.name.as_str() == name {
             return Some(file.bytes.as_slice());
@@ -141,7 +141,7 @@ fn replay(
         script.push_str(&format!(in alloc; "schedule {schedule}\n")?)?;
     }
     let words = words_of(alloc, "replay s --guest-out g")?;
-    let mut files = one_script(alloc, &script, &[])?;
+    let mut files = one_script(alloc, &script)?;
     let mut out = MemSink::new(alloc, Vec::new(alloc));
     let status = tdx_main(alloc, &words, &mut files, &mut out, &NoGate);
     assert_eq!(rt; status, 0, "status of {script}");
