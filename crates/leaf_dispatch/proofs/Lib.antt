@@ -6,3 +6,4 @@ pub mod StepTurns
 pub mod Calls
 pub mod Follows
 pub mod Stepping
+pub mod Walking
