@@ -13,3 +13,4 @@ pub mod BlockMeanings
 pub mod RemoveTrees
 pub mod RemoveShows
 pub mod RemoveMeanings
+pub mod SeptRemoveMeanings

@@ -42,7 +42,7 @@ module _ (g : Grip) (w : World) (t page named : ℕ) (tdr : g.has (Locked (OfPag
   abbrev at : ℕ → Spot
   at level = record { class = entry_class w t (suc level); td = t; page = page; named = named }
 
-  loads : (level : ℕ) → (g.sole (Locked (OfTree t)) ≡ true) ⊎ (g.sole (Locked (OfOp t)) ≡ true) → MayAt g (at level) (λ c. reads c Whole)
+  pub loads : (level : ℕ) → (g.sole (Locked (OfTree t)) ≡ true) ⊎ (g.sole (Locked (OfOp t)) ≡ true) → MayAt g (at level) (λ c. reads c Whole)
   loads zero (inl a) = inr (inr (inl (tdr, (op, (a, tt)))))
   loads zero (inr a) = inr (inl (tdr, (a, tt)))
   loads (suc l) h = inr (inr (inl (tdr, (op, (tree, tt)))))
