@@ -7,3 +7,6 @@ pub mod Calls
 pub mod Follows
 pub mod Stepping
 pub mod Walking
+pub mod StepBounds
+pub mod Fewer
+pub mod Replying

@@ -11,7 +11,7 @@ use Rattle.td_words.specs.declared.replies.Outcome.TheVariants.{Vmcall}
 use Rattle.td_words.specs.declared.replies.Value.TheVariants as value
 use Rattle.td_words.specs.declared.replies.Reply.{Reply}
 use Rattle.td_words.specs.declared.replies.Reply.TheVariants.{Done, Refused, Exited}
-use Rattle.flat_core.specs.Processor.{name_of, LoadNote, RtmrNote}
+use Rattle.flat_core.specs.Processor.{name_of, Translation, Note, LoadNote, RtmrNote}
 use Rattle.flat_core.specs.Digests.{digest_word, six_words}
 use Rattle.flat_core.specs.Table.{most_tries}
 use Rattle.flat_core.specs.Translations.{drop_td}
@@ -135,3 +135,16 @@ beside_by answer (Some r) b = answered_by (answer r) b
 abbrev pub guest_by : (Reply → Answer) → Option Reply → Option WordGuest → Option WordGuest
 guest_by answer None g = g
 guest_by answer (Some r) g = or_else (guest_entered (answer r)) g
+
+-- part by part
+abbrev pub cached_by : (Reply → Answer) → Option Reply → List Translation → List Translation
+cached_by answer None ts = ts
+cached_by answer (Some r) ts = (answer r).cached ts
+
+abbrev pub notes_by : (Reply → Answer) → Option Reply → List Note
+notes_by answer None = []
+notes_by answer (Some r) = (answer r).notes
+
+abbrev pub tells_by : (Reply → Answer) → Option Reply → List ℕ
+tells_by answer None = []
+tells_by answer (Some r) = (answer r).tells

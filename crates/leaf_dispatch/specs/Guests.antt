@@ -95,3 +95,8 @@ notes_in (Some n) = note_seen n ∷ []
 abbrev pub words_in : Option ℕ → List ℕ
 words_in None = []
 words_in (Some x) = x ∷ []
+
+-- the guest after a turn of its step: as it was, or what its reply makes of it
+abbrev pub IsNextGuest : GuestAt → Step → Option Reply → Option GuestAt → Type 0
+IsNextGuest g s None h = h ≡ Some g
+IsNextGuest g s (Some r) h = IsStepped g s r h

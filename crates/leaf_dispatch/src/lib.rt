@@ -14,6 +14,7 @@ mod leaves;
 mod plans;
 mod running;
 mod states;
+mod turns;
 
 pub use guests::Step;
 pub use laws::{calls_have_leaves, processors_follow};
