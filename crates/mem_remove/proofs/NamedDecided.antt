@@ -1,5 +1,5 @@
 -- The decisions of the beginning of the calls that block, unblock and remove.
-use Rattle.std.proofs.Common.{◌≡◌, ℕ, Bool, true, false, List, [], ◌∷◌, Result, Ok, Err, refl}
+use Rattle.std.proofs.Common.{◌≡◌, ℕ, Bool, true, false, List, [], ◌∷◌, Result, Ok, Err, refl, ◌∙◌}
 use Rattle.std.specs.Prelude.{MatchResult}
 use Rattle.std.specs.List.{list_any}
 use Rattle.td_words.specs.declared.names.EntryState.{EntryState}
@@ -16,8 +16,8 @@ use Rattle.leaf_engine.specs.declared.plans.Stop.{Stop}
 use Rattle.leaf_engine.specs.declared.plans.Stop.TheVariants as stop
 use Rattle.leaf_engine.specs.Trees.{Tree, Lock}
 use Rattle.leaf_parts.specs.declared.heads.Td.{Td}
-use Rattle.leaf_parts.specs.Parts.{Goes}
-use Rattle.leaf_parts.proofs.Parts.{goes-stop, passes, refuses}
+use Rattle.leaf_parts.specs.Parts.{Goes, Feeds}
+use Rattle.leaf_parts.proofs.Parts.{goes-stop, passes, refuses, feed-passes}
 use Rattle.sept_parts.specs.declared.finds.Found.{Found}
 use Rattle.sept_parts.specs.SeptTrees.{tree_lock_tree, find_tree}
 use Rattle.mem_remove.specs.declared.named_entries.Named.{Named}
@@ -40,6 +40,10 @@ module _ (n : ℕ) (e : Entry) (allowed : List EntryState) (before : List ℕ) w
   pub its-page : (after : List ℕ) (r : Result (Unit {0}) Stop) → among ≡ true → MatchResult r (λ u. (word : ℕ) × (before ≡ word ∷ after)) (λ s. (before ≡ []) × (s ≡ stop.Lock (name.Page e.page) (lock_at e.page) Exclusive)) → Goes n taking before after r
   its-page after (Ok u) a h = λ k r d. passes n among (EptEntryStateIncorrect e.state) (holding (k tt)) before r a (rw h.1 d)
   its-page after (Err s) a h = λ k. passes n among (EptEntryStateIncorrect e.state) (holding (k tt)) before (Err s) a (rw (h.0, h.1) refl)
+
+  pub its-page-fed : (after : List ℕ) (r : Result (Unit {0}) Stop) → among ≡ true → MatchResult r (λ u. (word : ℕ) × (before ≡ word ∷ after)) (λ s. (before ≡ []) × (s ≡ stop.Lock (name.Page e.page) (lock_at e.page) Exclusive)) → Feeds taking before after r
+  its-page-fed after (Ok u) a h = λ k. feed-passes among (EptEntryStateIncorrect e.state) (holding (k tt)) before a ∙ rw h.1 refl
+  its-page-fed after (Err s) a h = tt
 
 -- what comes behind each part of the beginning
 module _ (n t gpa level : ℕ) (allowed : List EntryState) where

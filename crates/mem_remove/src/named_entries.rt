@@ -2,7 +2,7 @@
 
 ghost use Rattle.std.specs.Prelude.{◌≡◌, ℕ, ◌-◌, ◌<◌, ◌≤◌, MatchResult};
 ghost use Rattle.leaf_engine.specs.Inside.{StopIn};
-ghost use Rattle.leaf_parts.specs.Parts.{Goes, Uses};
+ghost use Rattle.leaf_parts.specs.Parts.{Goes, Feeds, Uses};
 ghost use Rattle.mem_remove.specs.NamedTrees.{epoch_lock_tree, taken_tree, named_tree};
 
 use leaf_engine::{Place, Stop, Told};
@@ -28,6 +28,7 @@ pub struct Named {
 pub fn epoch_lock(told: &mut Told, place: Place, tdcs: u16, mode: Mode) -> Result<(), Stop>
     requires { tdcs < place.machine.pages }
     ensures goes { (t : ℕ) → Goes place.machine.pages (λ f. epoch_lock_tree t tdcs mode (f tt)) told.old.left.now told.new.left.now result }
+    ensures feeds { (t : ℕ) → Feeds (λ f. epoch_lock_tree t tdcs mode (f tt)) told.old.left.now told.new.left.now result }
     ensures uses { Uses 1 told.old.left.now told.new.left.now result }
     ensures inside { MatchResult result (λ u. Unit {0}) (λ e. StopIn place.machine e) }
 {
@@ -38,6 +39,7 @@ pub fn epoch_lock(told: &mut Told, place: Place, tdcs: u16, mode: Mode) -> Resul
 fn taken(told: &mut Told, place: Place, entry: Entry, allowed: &[EntryState]) -> Result<(), Stop>
     requires { entry.page < place.machine.pages }
     ensures goes { Goes place.machine.pages (λ f. taken_tree entry allowed.now (f tt)) told.old.left.now told.new.left.now result }
+    ensures feeds { Feeds (λ f. taken_tree entry allowed.now (f tt)) told.old.left.now told.new.left.now result }
     ensures uses { Uses 1 told.old.left.now told.new.left.now result }
     ensures inside { MatchResult result (λ u. Unit {0}) (λ e. StopIn place.machine e) }
 {
@@ -65,6 +67,7 @@ pub fn find_named(
 ) -> Result<Named, Stop>
     requires { (tdr < place.machine.pages) × (level ≤ 3) }
     ensures goes { Goes place.machine.pages (λ f. named_tree place.machine.pages tdr gpa level allowed.now f) told.old.left.now told.new.left.now result }
+    ensures feeds { Feeds (λ f. named_tree place.machine.pages tdr gpa level allowed.now f) told.old.left.now told.new.left.now result }
     ensures uses { Uses (15 - level) told.old.left.now told.new.left.now result }
     ensures inside { MatchResult result (λ n. (n.tdcs < place.machine.pages) × (n.page < place.machine.pages) × (n.entry.page < place.machine.pages)) (λ e. StopIn place.machine e) }
 {

@@ -1,4 +1,4 @@
-use Rattle.std.proofs.Common.{Err}
+use Rattle.std.proofs.Common.{Err, ◌∙◌}
 use Rattle.leaf_parts.proofs.Parts.{goes-stop, exit}
 use Rattle.mem_remove.proofs.NamedDecided.{naming, behind_head, behind_tree, behind_epoch, behind_find}
 use Rattle.mem_remove.proofs.named_entries.find_named.Goals as goal
@@ -56,3 +56,12 @@ returns-clause-goes c = λ k r d.
     (c.in_ok-epoch_lock.ensures.goes t (behind_epoch n t c.args.gpa c.args.level a c.in_ok-td.td.tdcs k) r
     (c.in_ok-found.ensures.goes (behind_find n t c.args.gpa c.args.level a c.in_ok-td.td.tdcs k) r
     (c.in_ok-taken.ensures.goes (λ u. k (record { tdcs = c.in_ok-td.td.tdcs; page = c.in_ok-found.found.page; entry = c.in_ok-found.found.entry })) r d))))
+
+pub returns-clause-feeds : goal.returns-clause-feeds
+returns-clause-feeds c = λ k.
+    let n = c.args.place.machine.pages in let t = c.args.tdr in let a = c.args.allowed.now in
+    c.in_ok-td.ensures.feeds (behind_head n t c.args.gpa c.args.level a k)
+    ∙ (c.in_ok-tree_lock.ensures.feeds t (behind_tree n t c.args.gpa c.args.level a c.in_ok-td.td.tdcs k)
+    ∙ (c.in_ok-epoch_lock.ensures.feeds t (behind_epoch n t c.args.gpa c.args.level a c.in_ok-td.td.tdcs k)
+    ∙ (c.in_ok-found.ensures.feeds (behind_find n t c.args.gpa c.args.level a c.in_ok-td.td.tdcs k)
+    ∙ c.in_ok-taken.ensures.feeds (λ u. k (record { tdcs = c.in_ok-td.td.tdcs; page = c.in_ok-found.found.page; entry = c.in_ok-found.found.entry })))))

@@ -1,7 +1,7 @@
 use Rattle.std.proofs.Common.{◌≡◌, true, false, sym, ◌∙◌}
 use Rattle.td_words.specs.Packing.{Entry}
 use Rattle.leaf_parts.proofs.Parts.{exit}
-use Rattle.mem_remove.proofs.NamedDecided.{among, other-state, its-page}
+use Rattle.mem_remove.proofs.NamedDecided.{among, other-state, its-page, its-page-fed}
 use Rattle.mem_remove.proofs.named_entries.taken.Goals as goal
 
 pub returns-in_err-check-clause-goes : goal.returns-in_err-check-clause-goes
@@ -20,3 +20,11 @@ returns-clause-goes c =
     let is : c.args.entry ≡ e = cc in
     let fits : among n e c.args.allowed.now c.args.told.now.left.now ≡ true = sym c.is_state_among.ensures ∙ c.in_ok-check.ensures in
     rw is (its-page n e c.args.allowed.now c.args.told.now.left.now c.lock.new.self.left.now c.lock.result fits (rw c.lock_address.ensures at c.lock.ensures))
+
+pub returns-clause-feeds : goal.returns-clause-feeds
+returns-clause-feeds c =
+    let n = c.args.place.machine.pages in
+    let e : Entry = record { state = c.entry.inside.state; page = c.entry.inside.page; mark = c.entry.inside.mark } in
+    let is : c.args.entry ≡ e = cc in
+    let fits : among n e c.args.allowed.now c.args.told.now.left.now ≡ true = sym c.is_state_among.ensures ∙ c.in_ok-check.ensures in
+    rw is (its-page-fed n e c.args.allowed.now c.args.told.now.left.now c.lock.new.self.left.now c.lock.result fits (rw c.lock_address.ensures at c.lock.ensures))
