@@ -22,7 +22,7 @@ use Rattle.leaf_engine.specs.Besides.{Beside, answered_by, beside_after}
 use Rattle.leaf_engine.specs.Decides.{Wants}
 use Rattle.leaf_engine.specs.Guests.{WordGuest, is_epoch_name, guest_after, guest_entered, or_else}
 use Rattle.leaf_engine.specs.Items.{IsLoadAt, IsLoaded}
-use Rattle.leaf_engine.specs.Turns.{Standing, standing, grants, tried, denied, busy, last_reply, has_ended, Comes, TurnBy}
+use Rattle.leaf_engine.specs.Turns.{Standing, standing, grants, tried, busy, last_reply, Comes, TurnBy}
 use Rattle.leaf_dispatch.specs.Answers.{Ends, EndsAs, FewTries, is_busy, FitsStage, BeginsUnderOther, OldestIsOther, act_of, beside_by, guest_by}
 use Rattle.leaf_dispatch.specs.Bounds.{stage_left, stage_used}
 
