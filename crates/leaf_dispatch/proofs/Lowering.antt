@@ -127,6 +127,7 @@ pub record Gives (e : Ends) (s s' : Standing) (ev : Event) : Type 0 where
   pub act : (r : Reply) → act_of ev s'.stage ≡ Some r → ActsBy e s s' r
   pub lower : (k : ℕ) → stage_left e.tries k s'.stage (length s'.held) < stage_left e.tries k s.stage (length s.held)
   pub used : e.tries ≤ 2 → (stage_used s.stage (length s.held) < stage_used s'.stage (length s'.held)) × (stage_used s.stage (length s.held) < 5)
+  pub stays_answered : (r : Reply) → s.stage ≡ stages.Answered r → (x : Reply) × (s'.stage ≡ stages.Answered x)
   pub once : e.tries ≡ 0 → s.stage ≡ stages.Trying → (r : Reply) × (act_of ev s'.stage ≡ Some r) × (last_reply s'.stage s'.held ≡ Some r)
 
 oldest-more : (held : List HeldLock) (x : HeldLock) (s s' : Standing) → (held ≡ [] → is_epoch_name x.name ≡ false) → OldestIsOther held s → OldestIsOther (held ++ x ∷ []) s'
@@ -171,6 +172,7 @@ granted-gives e t0 t held h name at mode room first few o other =
       act = λ r is. cc;
       lower = λ k. omega (arith, more, first);
       used = λ two. (omega (arith, more), omega (arith, first, two));
+      stays_answered = λ r z. cc;
       once = λ none on. absurd (omega (arith, none, first));
     }
 
@@ -186,6 +188,7 @@ undoing-gives e t0 t held h name at room first o = record {
   act = λ r is. cc;
   lower = λ k. omega (arith, first);
   used = λ two. (omega (arith, first, two), omega (arith, first, two));
+  stays_answered = λ r z. cc;
   once = λ none on. absurd (omega (arith, none, first));
 }
 
@@ -201,6 +204,7 @@ denied-gives e t0 t held h name room first o = record {
   act = λ r is. cc;
   lower = λ k. omega (arith, first);
   used = λ two. (omega (arith, first, two), omega (arith, first, two));
+  stays_answered = λ r z. cc;
   once = λ none on. absurd (omega (arith, none, first));
 }
 
@@ -227,6 +231,7 @@ act-gives e t0 t held h h' reply room a o none = record {
   act = λ r is. same-reply e t0 t held h h' reply r is (record { on = refl; fits = a.fits; stage = refl; held = refl; few = room; under_other = λ z. sym (ap (λ (y : Answer). y.enters) a.answer) ∙ none z });
   lower = λ k. omega arith;
   used = λ two. (omega (arith, two), omega (arith, two));
+  stays_answered = λ r z. cc;
   once = λ n on. (reply, refl, held-none held (omega (arith, n)));
 }
   where
@@ -247,6 +252,7 @@ undo-gives e t held h name at room o = record {
   act = λ r is. cc;
   lower = λ k. omega arith;
   used = λ two. (omega (arith, room, two), omega arith);
+  stays_answered = λ r z. cc;
   once = λ n on. cc;
 }
 
@@ -263,6 +269,7 @@ free-gives e t held older x h reply room is fits o =
       act = λ r z. cc;
       lower = λ k. omega (arith, count);
       used = λ two. (omega (arith, count, room, two), omega (arith, count));
+      stays_answered = λ r z. (reply, refl);
       once = λ n on. cc;
     }
 
