@@ -11,3 +11,4 @@ pub mod StepBounds
 pub mod Fewer
 pub mod Replying
 pub mod Rooming
+pub mod Exiting

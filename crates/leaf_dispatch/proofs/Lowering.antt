@@ -150,7 +150,7 @@ busy-fits e name = either (e.fits _)
     either true = refl
     either false = refl
 
-by-fits : (a b : Bool) → a ≡ true → (a || b) ≡ true
+pub by-fits : (a b : Bool) → a ≡ true → (a || b) ≡ true
 by-fits true b e = refl
 by-fits false b e = cc
 
