@@ -13,10 +13,10 @@ use Rattle.leaf_engine.specs.declared.events.Event.{Event}
 use Rattle.leaf_engine.specs.Trees.{Answer, only}
 use Rattle.leaf_engine.specs.Besides.{Beside, answered_by, beside_after}
 use Rattle.leaf_engine.specs.Guests.{WordGuest, guest_after, guest_entered, or_else}
-use Rattle.leaf_engine.specs.Turns.{Standing, last_reply}
+use Rattle.leaf_engine.specs.Turns.{Standing}
 use Rattle.leaf_engine.specs.OwnLists.{Piece, taken_in, TurnsInPieces, WordLp, running, after_turn, LineTurn, LpTurns}
 use Rattle.leaf_dispatch.specs.Answers.{Ends, call_answer, call_ends, enters_none, beside_by, guest_by}
-use Rattle.leaf_dispatch.specs.Bounds.{stage_left, run_left, left_of, events_left}
+use Rattle.leaf_dispatch.specs.Bounds.{stage_left, run_left, events_left}
 use Rattle.leaf_dispatch.specs.Table.{task_of, place_table}
 use Rattle.leaf_dispatch.specs.Running.{run_seen, kept_after, turn_of, LeafTurned}
 use Rattle.leaf_dispatch.specs.declared.running.Running.{Running}

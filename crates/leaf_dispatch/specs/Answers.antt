@@ -1,7 +1,7 @@
 -- What the leaf of a call, or of a step of a guest, comes to: how many locks it tries at most, and what it answers besides its
 -- reply, by that reply.
 use Rattle.std.specs.Prelude.{◌≡◌, ℕ, ◌-◌, ◌≤◌, Bool, true, false, ◌&&◌, ◌||◌, nat_lt, if◌then◌else◌, Option, Some, None, List, [], ◌∷◌, length}
-use Rattle.td_words.specs.declared.names.Access.TheVariants.{Read, Write}
+use Rattle.td_words.specs.declared.names.Access.TheVariants.{Read}
 use Rattle.td_words.specs.declared.machines.Machine.{Machine}
 use Rattle.td_words.specs.declared.calls.Call.{Call}
 use Rattle.td_words.specs.declared.calls.Call.TheVariants as call
@@ -24,7 +24,7 @@ use Rattle.leaf_engine.specs.declared.events.Stage.TheVariants as stage
 use Rattle.leaf_engine.specs.Trees.{Answer, only, Tree, Lock, Load, Test, End, Since}
 use Rattle.leaf_engine.specs.Besides.{Beside, answered_by}
 use Rattle.leaf_engine.specs.Turns.{Standing}
-use Rattle.leaf_engine.specs.Guests.{WordGuest, Step, Operates, Accesses, Loads, Leaves, is_epoch_name, guest_entered, or_else}
+use Rattle.leaf_engine.specs.Guests.{WordGuest, Step, Operates, Accesses, Loads, is_epoch_name, guest_entered, or_else}
 use Rattle.access_core.specs.OperationTrees.{with_notes}
 use Rattle.access_core.specs.WalkTrees.{goes_on_by, page_by, walked}
 
