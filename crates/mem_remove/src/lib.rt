@@ -10,6 +10,7 @@ mod blocks;
 mod metadata_reads;
 mod named_entries;
 mod removals;
+mod sept_removals;
 mod tracked_blocks;
 mod trackings;
 
@@ -17,4 +18,5 @@ pub use blocks::{RangeBlock, RangeUnblock};
 pub use metadata_reads::Rdmd;
 pub use named_entries::Named;
 pub use removals::PageRemove;
+pub use sept_removals::SeptRemove;
 pub use trackings::Track;
