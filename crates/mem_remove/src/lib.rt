@@ -1,8 +1,9 @@
 //! Leaves on pages that are in use: the look at a page's metadata, blocking, tracking and unblocking,
-//! and the removal of a private page.
+//! and the removal of a private page and of a secure EPT page.
 //!
-//! Each leaf is a `Plan` of `leaf_engine`, whose tree mirrors its row, with the proof that it means
-//! that row. Those on an entry begin alike, by `find_named`; and whether a block is tracked is judged
+//! Each leaf's tree mirrors its row, with the proof that it means that row. All are `Plan`s of
+//! `leaf_engine` but the removal of a secure EPT page, which is told 512 entries and has a `Leaf` of
+//! its own. Those on an entry begin alike, by `find_named`; and whether a block is tracked is judged
 //! once, by `tracked`.
 #![tactic(auto)]
 

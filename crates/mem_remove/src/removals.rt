@@ -67,21 +67,9 @@ impl Plan for PageRemove {
         remove(told, self.place, tdr, named.tdcs, named.page, page)
     }
 
-    // The act is the store of the entry, which is FREE then; then the page that it named is cleared
-    // and given back, and the child count falls.
     fn write(&self, act: Act, _told: &[u64], number: usize, _hand: &mut Hand) -> Option<Write> {
-        let _pages = self.place.machine.pages;
-        let write = match number {
-            0 => Write::store(word_address(act.page, index(0, self.gpa)), 0),
-            1 => Write::Zero(act.named),
-            2 => Write::store(pamt_address(act.named), 0),
-            3 => Write::store(
-                word_address(self.tdr as u16, TDR_CHILDREN),
-                lowered(act.children),
-            ),
-            _ => return None,
-        };
-        Some(write)
+        let at = index(0, self.gpa);
+        give_back(self.place.machine, self.tdr as u16, at, act, number)
     }
 
     ghost means = { λ l. page_remove-means l.place l.tdr l.gpa l.machine };
@@ -112,8 +100,8 @@ pub fn remove(
     }))
 }
 
-/// The write of that number of a removal: the entry is stored, the page that it named is cleared and
-/// given back, and the child count falls.
+/// The write of that number of a removal. The act is the store of the entry, which is FREE then; then
+/// the page that it named is cleared and given back, and the child count falls.
 pub fn give_back(machine: Machine, tdr: u16, index: u16, act: Act, number: usize) -> Option<Write>
     requires { (tdr < machine.pages) × (index < 512) × (act.page < machine.pages) × (act.named < machine.pages) }
     ensures hands { (h : Option Measure) → HandsAt machine (remove_changes tdr act.page index act.named act.children) number h h result }
