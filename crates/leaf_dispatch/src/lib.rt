@@ -12,6 +12,7 @@ mod guests;
 mod laws;
 mod leaves;
 mod plans;
+mod rooms;
 mod running;
 mod states;
 mod turns;
