@@ -1,12 +1,11 @@
 -- A run that answers something else stays under way.
-use Rattle.std.proofs.Common.{◌≡◌, ◌∙◌, ℕ, ◌+◌, ◌≤◌, Bool, true, false, ◌||◌, List, [], ◌∷◌, refl, ap, sym, subst}
+use Rattle.std.proofs.Common.{◌≡◌, ◌∙◌, true, false, List, [], ◌∷◌, refl, ap, sym, subst}
 use Rattle.td_words.specs.declared.machines.Machine.{Machine}
 use Rattle.td_words.specs.declared.replies.Reply.{Reply}
 use Rattle.leaf_engine.specs.declared.events.HeldLock.{HeldLock}
 use Rattle.leaf_engine.specs.declared.events.Stage.{Stage}
 use Rattle.leaf_engine.specs.declared.events.Stage.TheVariants as stages
-use Rattle.leaf_engine.specs.Means.{Task}
-use Rattle.leaf_engine.specs.Turns.{Standing, has_ended, IsStageIn, CanRun}
+use Rattle.leaf_engine.specs.Turns.{Standing, has_ended, CanRun}
 use Rattle.leaf_dispatch.specs.Answers.{Ends, is_busy, FewTries, FitsStage, OldestIsOther}
 use Rattle.leaf_dispatch.specs.Leaves.{leaf_seen}
 use Rattle.leaf_dispatch.specs.Running.{standing_of, answered_with, IsUnderWay, IsAnsweredBy}

@@ -12,3 +12,4 @@ pub mod Fewer
 pub mod Replying
 pub mod Rooming
 pub mod Exiting
+pub mod Summing

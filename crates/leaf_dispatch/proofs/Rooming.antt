@@ -1,9 +1,6 @@
 -- A turn in a guest uses the room of what it notes and tells.
-use Rattle.std.proofs.Common.{◌≡◌, ℕ, ◌+◌, ◌-◌, ◌<◌, ◌≤◌, true, List, [], ◌∷◌, length, Option, Some, None, refl, ap, sym, ◌∙◌, subst, arith}
-use Rattle.td_words.specs.declared.names.Access.{Access}
+use Rattle.std.proofs.Common.{◌≡◌, ℕ, ◌+◌, ◌-◌, ◌<◌, ◌≤◌, true, length, Option, Some, None, refl, ap, ◌∙◌, arith}
 use Rattle.td_words.specs.declared.names.Access.TheVariants.{Read}
-use Rattle.td_words.specs.declared.calls.Call.{Call}
-use Rattle.td_words.specs.declared.calls.GuestOp.{GuestOp}
 use Rattle.td_words.specs.declared.calls.GuestOp.TheVariants as op
 use Rattle.td_words.specs.declared.refusals.Status.TheVariants.{OperandBusy}
 use Rattle.td_words.specs.declared.replies.Outcome.{Outcome}
@@ -19,7 +16,7 @@ use Rattle.leaf_engine.specs.Guests.{WordGuest, Step, Operates, Accesses, Loads,
 use Rattle.leaf_dispatch.specs.Answers.{Ends, step_answer, act_of, notes_by, tells_by}
 use Rattle.leaf_dispatch.specs.Guests.{is_outcome}
 use Rattle.leaf_dispatch.specs.Bounds.{unless_leaving}
-use Rattle.leaf_dispatch.specs.Rooms.{least, stage_made, run_made, guest_room}
+use Rattle.leaf_dispatch.specs.NoteRooms.{least, stage_made, run_made, guest_room}
 use Rattle.leaf_dispatch.proofs.Lowering.{Gives}
 
 -- a step notes and tells at most one thing each
