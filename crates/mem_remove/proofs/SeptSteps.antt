@@ -7,7 +7,6 @@ use Rattle.td_words.specs.Place as place
 use Rattle.flat_core.proofs.Tests.{by_test}
 use Rattle.sept_walk.specs.SecureEpt.{index_at}
 use Rattle.word_rules.specs.Rules.{Whole}
-use Rattle.leaf_engine.specs.declared.needs.Need.{Need}
 use Rattle.leaf_engine.specs.declared.needs.Need.TheVariants as need
 use Rattle.leaf_engine.specs.declared.needs.Place.{Place}
 use Rattle.leaf_engine.specs.declared.plans.Stop.{Stop}

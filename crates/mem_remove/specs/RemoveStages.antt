@@ -1,6 +1,6 @@
 -- How far the leaf is that removes a secure EPT page: while the conditions are asked all words told are kept; once they have
 -- shown the page, its entries are told one by one, of which none is kept; and then what shows whether its block is tracked.
-use Rattle.std.specs.Prelude.{◌≡◌, ℕ, ◌-◌, ◌*◌, ◌/◌, ◌<◌, ◌≤◌, Option, Some, None, List, [], length, Result, Ok, Err}
+use Rattle.std.specs.Prelude.{◌≡◌, ℕ, ◌-◌, ◌*◌, ◌/◌, ◌<◌, ◌≤◌, Option, Some, None, List, length, Result, Ok, Err}
 use Rattle.std.proofs.Props.{props}
 use Rattle.td_words.specs.declared.machines.Machine.{Machine}
 use Rattle.td_words.specs.declared.refusals.Status.TheVariants.{SeptNotEmpty}

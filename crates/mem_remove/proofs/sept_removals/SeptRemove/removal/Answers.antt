@@ -1,4 +1,4 @@
-use Rattle.std.proofs.Common.{◌≡◌, sym, Ok, Err, arith}
+use Rattle.std.proofs.Common.{◌≡◌, sym, Ok, arith}
 use Rattle.sept_walk.specs.SecureEpt.{index_at}
 use Rattle.leaf_engine.specs.Decides.{Ending, Decides}
 use Rattle.mem_remove.specs.RemoveTrees.{remove_changes}

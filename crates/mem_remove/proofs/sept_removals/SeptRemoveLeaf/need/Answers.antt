@@ -1,8 +1,7 @@
-use Rattle.std.proofs.Common.{◌≡◌, ◌+◌, ◌-◌, sym, Ok, Err, length, arith}
+use Rattle.std.proofs.Common.{◌≡◌, sym, Ok, Err, arith}
 use Rattle.sept_walk.specs.SecureEpt.{index_at}
-use Rattle.leaf_engine.specs.Decides.{Ending, Decides}
-use Rattle.mem_remove.specs.RemoveTrees.{remove_changes, sept_remove_tree}
-use Rattle.mem_remove.specs.RemoveStages.{table_rest, ComesTo}
+use Rattle.leaf_engine.specs.Decides.{Ending}
+use Rattle.mem_remove.specs.RemoveTrees.{remove_changes}
 use Rattle.mem_remove.proofs.SeptSteps.{table-known, scan-gives, scan-kept, all-gives, all-kept, all-then, table-gives, table-kept, condition-gives, condition-then}
 use Rattle.mem_remove.proofs.sept_removals.SeptRemoveLeaf.need.Goals as goal
 
