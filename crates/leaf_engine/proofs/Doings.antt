@@ -347,7 +347,7 @@ module _ (ls : Laws) (o : Opening) (task : Task) (s : State) (mem : Memory) (kep
     empty_hand = sh.empty_hand st;
     nothing_to_tell = sh.nothing_to_tell;
     facts = sh.facts;
-    maker = doing.maker;
+    maker = doing.maker (trying-phase m w run.stage x.phase at.stage st);
   }
 
   -- the move that is due
@@ -389,6 +389,7 @@ module _ (ls : Laws) (o : Opening) (task : Task) (s : State) (mem : Memory) (kep
       record {
         move = Undoes l;
         next = n;
+        single = inl moves;
         mem = mem';
         shown = step-shown (Undoes l) l v n (quiet-of k moves (Undoes l) (λ y. cc)) (lock-undone k moves l) it.stands value;
         memory = subst (λ (h : Option Measure). IsMemory m u h mem') (sym (ap (λ (z : Standing). z.hasher) tb.after)) made;
@@ -431,6 +432,7 @@ module _ (ls : Laws) (o : Opening) (task : Task) (s : State) (mem : Memory) (kep
       record {
         move = Releases h;
         next = n;
+        single = inl moves;
         mem = mem';
         shown = step-shown (Releases h) l v n (quiet-of k moves (Releases h) (λ y. cc)) (lock-freed k moves h) it.stands value;
         memory = subst (λ (z : Option Measure). IsMemory m u z mem') (sym (ap (λ (z : Standing). z.hasher) same)) made;
@@ -484,6 +486,7 @@ module _ (ls : Laws) (o : Opening) (task : Task) (s : State) (mem : Memory) (kep
       record {
         move = Attempts l mode;
         next = n;
+        single = inl moves;
         mem = mem';
         shown = step-shown (Attempts l mode) l v n (quiet-of k moves (Attempts l mode) (λ y. cc)) (lock-tried k moves l mode) tr.stands.stands value;
         memory = tr.memory;
@@ -545,6 +548,7 @@ module _ (ls : Laws) (o : Opening) (task : Task) (s : State) (mem : Memory) (kep
           record {
             move = Refuses er.reply;
             next = n;
+            single = inl moves;
             mem = mem;
             shown = ls.steps.quiet m mem.words mem.slots o s me (event_of k (Refuses er.reply)) sh.shown n (quiet-of k moves (Refuses er.reply) (λ z. cc)) (lock-refused k moves er.reply);
             memory = subst (λ (z : Memory). IsMemory m u run'.hasher z) y.2 er.memory;
@@ -563,11 +567,12 @@ module _ (ls : Laws) (o : Opening) (task : Task) (s : State) (mem : Memory) (kep
           record {
             move = Succeeds;
             next = n;
+            single = inr refl;
             mem = er.after;
             shown = act-shown er.after n y.3;
             memory = er.memory;
             acts = (refl, y.2);
-            comes = come-at Succeeds events.Act run'.rest n (act-comes k c (is_granted s (event_of k Succeeds)) events.Act run'.rest doing.maker (refl, y.2));
+            comes = come-at Succeeds events.Act run'.rest n (act-comes k c (is_granted s (event_of k Succeeds)) events.Act run'.rest (doing.maker (trying-phase m w run.stage x.phase at.stage st)) (refl, y.2));
             at = record {
               stage = subst (λ (z : Stage). IsStage m ((work_of k).act w) z (Answered (answer_of run'.rest).reply)) (sym er.answered) (sym y.1);
               held = subst (λ (z : List HeldLock). AreLocks m ((work_of k).act w) z x.held) (sym er.held_is) (locks-after m w ((work_of k).act w) x.held run.held stay at.held);

@@ -235,7 +235,7 @@ module _ (o : Opening) (task : Task) (row : Row) (s : State) (mem : Memory) (t :
   call-doing = subst (λ (k : Meaning). IsDoing o (record { place = task.place; tree = task.tree; meaning = k }) s mem [] its-call) (sym mean) (record {
     next = is-next o s task.place.lp row (next_in (row.items s.world) its-call.phase its-call.held) sh.processor due;
     single = inl tt;
-    maker = (ca.guest, refl);
+    maker = λ t. (ca.guest, refl);
   })
 
   call-at : LeafAt task s.world mem.words run its-call

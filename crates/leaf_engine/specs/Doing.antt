@@ -8,7 +8,7 @@ use Rattle.td_words.specs.declared.replies.Reply.{Reply}
 use Rattle.td_words.specs.declared.replies.Reply.TheVariants.{Done, Refused, Exited}
 use Rattle.td_words.specs.Place.{WordPlace}
 use Rattle.flat_core.specs.World.{World}
-use Rattle.flat_core.specs.Processor.{Held, Progress, nothing_yet, Lp}
+use Rattle.flat_core.specs.Processor.{Held, Trying, Progress, nothing_yet, Lp}
 use Rattle.flat_core.specs.Opening.{Opening}
 use Rattle.flat_core.specs.Row.{OperationRow, Move, Attempts, Undoes, Refuses, Succeeds, Releases, Rests, next_in, after_move}
 use Rattle.flat_core.specs.Event.{State, Event, OfCall, OfOperation, Walks, Reaches, Leaves, event, call_busy, is_granted, nothing_more}
@@ -72,11 +72,12 @@ abbrev pub work_world : Work → Move Reply → World → World
 work_world k Succeeds w = k.act w
 work_world k _ w = w
 
--- a processor does what a leaf means, as far as this: its next event is the leaf's next move
+-- A processor does what a leaf means, as far as this: its next event is the leaf's next move. Who makes it is told while the
+-- leaf is on its way.
 pub record IsDoing (o : Opening) (task : Task) (s : State) (mem : Memory) (kept : List Held) (x : Progress Reply) : Type 0 where
   pub next : IsNext o s task.place.lp (event_of task.meaning (next_in ((work_of task.meaning).items s.world) x.phase x.held))
   pub single : HasMoves task.meaning ⊎ (x ≡ nothing_yet)
-  pub maker : IsMaker task.meaning (record { state = s; memory = mem; me = task.place.lp; kept = kept })
+  pub maker : x.phase ≡ Trying → IsMaker task.meaning (record { state = s; memory = mem; me = task.place.lp; kept = kept })
 
 -- and its run is as far
 pub record LeafAt (task : Task) (w : World) (words : WordPlace → ℕ) (run : Standing) (x : Progress Reply) : Type 0 where
@@ -100,11 +101,12 @@ pub record HasCome (e : RunEvent) (t : Tree) (before after : Lp) : Type 0 where
   pub notes : after.notes ≡ (beside_after e t (beside_of before [])).notes
   pub told : after.told ≡ (beside_after e t (beside_of before [])).told
 
--- after a turn: the flat machine's next event, words that show the state after it, what the turn answers, and the run as far
+-- after a turn: the flat machine's next event, which of a single event is its act, words that show the state after it, what the turn answers, and the run as far
 -- as that move leads
 pub record LeafAfter (o : Opening) (task : Task) (s : State) (x : Progress Reply) (u : Table) (run : Standing) (e : RunEvent) : Type 0 where
   pub move : Move Reply
   pub next : IsNext o s task.place.lp (event_of task.meaning move)
+  pub single : HasMoves task.meaning ⊎ (move ≡ Succeeds)
   pub mem : Memory
   pub shown : Shows task.place.machine mem.words mem.slots (event o s task.place.lp)
   pub memory : IsMemory task.place.machine u run.hasher mem

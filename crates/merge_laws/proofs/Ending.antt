@@ -208,7 +208,7 @@ module _ (ls : Laws) (o : Opening) (trees : Trees) (s : State) (mem : Memory) (t
 
   -- the turn stands at this moment
   at-this : IsAt task its_moment
-  at-this = at-moment o trees s mem t pos p d known sd here
+  at-this = at-moment o trees s mem t pos p d run known sd here ra st
 
   -- the locks of the tree are those that the leaf holds
   locks-held : locks ≡ d.far.held

@@ -7,6 +7,7 @@ use Rattle.td_words.specs.declared.replies.Reply.{Reply}
 use Rattle.td_words.specs.Place.{WordPlace}
 use Rattle.flat_core.specs.World.{World}
 use Rattle.flat_core.specs.Processor.{Held, Answered, Guest, Entering, Lp}
+use Rattle.td_words.specs.declared.replies.Reply.TheVariants.{Done}
 use Rattle.flat_core.specs.Opening.{Opening}
 use Rattle.flat_core.specs.Row.{Row, Move, Attempts, Undoes, Refuses, Succeeds, Releases, Rests, next_in}
 use Rattle.flat_core.specs.Table.{row_of}
@@ -29,7 +30,7 @@ use Rattle.leaf_engine.proofs.Calling.{next-is, is-next, event-is, lp-now}
 use Rattle.leaf_engine.proofs.Turning.{leaf-after, leaf-after-memory}
 use Rattle.leaf_engine.specs.Changes.{Memory}
 use Rattle.merge_laws.proofs.Holding.{locks_at}
-use Rattle.merge_laws.proofs.Standing.{Trees, leaf_for, AreTrees, Known, NoneOnWay, Does, task_for, RunsAt, OnCall, RunAt, StandsAt, call_does, IsDoes, DoesHere, HasInHand, with_hasher, IsAct, Leads}
+use Rattle.merge_laws.proofs.Standing.{Trees, leaf_for, AreTrees, Known, NoneOnWay, Does, task_for, RunsAt, OnCall, RunAt, StandsAt, call_does, IsDoes, DoesHere, HandKnown, guest_run, HasInHand, with_hasher, IsAct, Leads}
 
 -- its record after an event of its call
 pub lp-of-event : (o : Opening) (s : State) (p : ℕ) (row : Row) (mv : Move Reply) → next_event o s p ≡ Some (OfCall row mv)
@@ -122,9 +123,24 @@ turned-beside : (c : Call) (cs : List Call) (g : Option WordGuest) (rs : List Re
 turned-beside c cs g rs b run None = refl
 turned-beside c cs g rs b run (Some r) = refl
 
-in-hand-after : (c : Call) (cs : List Call) (g : Option WordGuest) (rs : List Reply) (b : Beside) (run' : Standing) (reply : Option Reply) (h : Option Measure) → run'.hasher ≡ h → HasInHand (after_turn c cs g rs b run' reply).run h
-in-hand-after c cs g rs b run' None h e = e
-in-hand-after c cs g rs b run' (Some r) h e = tt
+-- a guest that has been entered hasn't begun
+entered-no-run : (x : Option Entering) (r : Reply) → guest_run (or_else (entered_at x r) None) ≡ None
+entered-no-run None r = refl
+entered-no-run (Some e) (Done (Rattle.td_words.specs.declared.replies.Value.TheVariants.Entered stale index position root)) = refl
+entered-no-run (Some e) _ = refl
+
+after-no-run : (e : RunEvent) (t : Tree) → guest_run (guest_after e t None) ≡ None
+after-no-run events.Act t = entered-no-run (answer_of t).enters (answer_of t).reply
+after-no-run (events.Try name mode granted) t = refl
+after-no-run (events.Undo name) t = refl
+after-no-run (events.Free name) t = refl
+after-no-run (events.Walk level) t = refl
+after-no-run (events.Word at) t = refl
+after-no-run (events.Count parity) t = refl
+
+in-hand-after : (c : Call) (cs : List Call) (g : Option WordGuest) (rs : List Reply) (b : Beside) (run' : Standing) (reply : Option Reply) (h : Option Measure) → guest_run g ≡ None → run'.hasher ≡ h → HasInHand (after_turn c cs g rs b run' reply) h
+in-hand-after c cs g rs b run' None h none e = (inl e, subst (λ (z : Option Standing). HandKnown z h) (sym none) tt)
+in-hand-after c cs g rs b run' (Some r) h none e = (tt, tt)
 
 -- where a row enters no guest, nor does its leaf
 no-guest-after : (e : RunEvent) (t : Tree) (g : Option WordGuest) → IsNoAct e → guest_after e t g ≡ g
@@ -176,7 +192,7 @@ module _ (o : Opening) (trees : Trees) (s : State) (p : ℕ) (c : Call) (cs : Li
     doing = λ mem. record {
       next = is-next o s p row (next_in (row.items s.world) lp.call.phase lp.call.held) (subst (λ (n : ℕ). p < n) (sym known.count) i) due;
       single = inl tt;
-      maker = (guest, refl);
+      maker = λ t. (guest, refl);
     };
     locks = append-nil lp.call.held ∙ sym locks-are;
     held_tdrs = subst (λ (z : List Held). HoldTdrs z) (sym locks-are) (known.facts.tdrs p).0.0;
@@ -194,7 +210,8 @@ module _ (o : Opening) (trees : Trees) (s : State) (p : ℕ) (c : Call) (cs : Li
   call-leads replies beside = record {
     within_stands = λ words run ra. record { lines = lines; replies = replies; beside = beside; run = record { guest = guest; runs = ra } };
     within_bundles = λ run. refl;
-    within_run = λ run h e. e;
+    within_is = λ run trying. (record { call = c; further = cs; lines_are = refl; outside = refl; is = refl }, guest);
+    within_run = λ run h e. (inl e, tt);
     turns = λ run run' e tp tn going. record { stands = run'; turn = tn; going = going; after_is = refl };
     after_stands = λ u run' h e la none.
         subst (λ (m : Memory). StandsAt o trees p (event o s p).world m.words ((event o s p).lps p) (its_call.after e run')) (leaf-after-memory o (record { machine = o.machine; lp = p }) (trees.call p c) row s (with_hasher run' h) (result e run') line guest refl u due la)
@@ -206,18 +223,21 @@ module _ (o : Opening) (trees : Trees) (s : State) (p : ℕ) (c : Call) (cs : Li
       all = (after-of u run' h e la).bundles;
       own = ap (λ (z : Beside). z.bundles) (turned-beside c cs (guest_after e run'.rest None) rs (beside_after e run'.rest b) run' (last_reply run'.stage run'.held)) ∙ made-beside e run'.rest b;
     };
-    after_run = λ e run' h f. in-hand-after c cs (guest_after e run'.rest None) rs (beside_after e run'.rest b) run' (last_reply run'.stage run'.held) h f;
+    after_run = λ e run' h f. in-hand-after c cs (guest_after e run'.rest None) rs (beside_after e run'.rest b) run' (last_reply run'.stage run'.held) h (after-no-run e run'.rest) f;
     locks_stay = λ mv act next. act-locks o s p row mv next.next enters-none act;
   }
 
 -- what a processor does in a state, and where it leads
 
-pub does-here : (o : Opening) (trees : Trees) (s : State) (p : ℕ) (d : Does) → AreTrees o trees → Known o s → p < length o.calls → IsDoes o trees p (s.lps p) d → DoesHere o s p d
-does-here o trees s p d are known i is = subst (λ (z : Does). DoesHere o s p z) (sym is.is) (call-here o trees s p is.call is.further is.replies is.beside are known i is.lines is.guest)
+pub does-here : (o : Opening) (trees : Trees) (s : State) (p : ℕ) (d : Does) (at : WordLp) (words : WordPlace → ℕ) → AreTrees o trees → Known o s → p < length o.calls → StandsAt o trees p s.world words (s.lps p) at → IsDoes o trees p (s.lps p) at d
+    → DoesHere o s p d
+does-here o trees s p d at words are known i st is =
+    subst (λ (z : Does). DoesHere o s p z) (sym is.0.is) (call-here o trees s p is.0.call is.0.further at.replies at.beside are known i (st.lines ∙ is.0.lines_are) is.1)
 
-pub does-leads : (o : Opening) (trees : Trees) (s : State) (p : ℕ) (d : Does) → AreTrees o trees → Known o s → p < length o.calls → IsDoes o trees p (s.lps p) d → Leads o trees s p d
-does-leads o trees s p d are known i is =
-    subst (λ (z : Does). Leads o trees s p z) (sym is.is) (call-leads o trees s p is.call is.further is.replies is.beside are known i is.lines is.guest is.replies_are is.beside_is)
+pub does-leads : (o : Opening) (trees : Trees) (s : State) (p : ℕ) (d : Does) (at : WordLp) (words : WordPlace → ℕ) → AreTrees o trees → Known o s → p < length o.calls → StandsAt o trees p s.world words (s.lps p) at → IsDoes o trees p (s.lps p) at d
+    → Leads o trees s p d
+does-leads o trees s p d at words are known i st is =
+    subst (λ (z : Does). Leads o trees s p z) (sym is.0.is) (call-leads o trees s p is.0.call is.0.further at.replies at.beside are known i (st.lines ∙ is.0.lines_are) is.1 st.replies st.beside)
 
 -- a processor stays where it is, as its leaf does
 pub stands-stay : (o : Opening) (trees : Trees) (s : State) (p : ℕ) (at : WordLp) (w' : World) (words words' : WordPlace → ℕ) → AreTrees o trees → Known o s → p < length o.calls

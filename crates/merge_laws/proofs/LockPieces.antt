@@ -180,7 +180,7 @@ pub try-piece : (ls : Laws) (o : Opening) (trees : Trees) (s : State) (mem : Mem
     → TurnsTo o trees p (d.after e run') tps end_
     → Came o trees p s t pos (Marked (Stepped (try_step at mode) seen)) (joined tps) end_
 try-piece ls o trees s mem t pos p d run run' e tree name at mode seen tps end_ a none st turn gives after an own =
-    by (feed d.tree told) (leaves-follow-rows task inst told a.here.means (at-moment o trees s mem t pos p d a.known a.all a.here) (a.runs.at.told st).current)
+    by (feed d.tree told) (leaves-follow-rows task inst told a.here.means (at-moment o trees s mem t pos p d run a.known a.all a.here a.runs st) (a.runs.at.told st).current)
     (subst (λ (z : Tree). Wants m.pages z (need.Lock name at mode)) (ap settle (a.runs.at.told st).rest ∙ settled d.tree told) gives)
   where
     m : Machine

@@ -81,7 +81,7 @@ module _ (ls : Laws) (o : Opening) (trees : Trees) (s : State) (mem : Memory) (t
   processor-stands = sd.holds p i
 
   -- the next piece of these turns
-  next-of-turns : (pos p).owes ≡ [] → (pos p).swaps ≡ [] → (last : Option Measure) (hand : Hand) → HasInHand (pos p).at.run last → IsHand last hand → (turns : List (List Piece)) → TurnsTo o trees p (pos p).at turns end_ → joined turns ≡ piece ∷ ps
+  next-of-turns : (pos p).owes ≡ [] → (pos p).swaps ≡ [] → (last : Option Measure) (hand : Hand) → HasInHand (pos p).at last → IsHand last hand → (turns : List (List Piece)) → TurnsTo o trees p (pos p).at turns end_ → joined turns ≡ piece ∷ ps
       → Came o trees p s t pos piece ps end_
   next-of-turns q no-swaps last hand has k [] own f = cc
   next-of-turns q no-swaps last hand has k (tp ∷ tps) own f =

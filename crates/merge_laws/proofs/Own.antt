@@ -189,7 +189,7 @@ due-at ls o trees s mem t pos k r x are known st j e = by (pos k).fill (st.holds
     by : (f : Option Fill) → Pending o trees k s.world mem.words (on_table o.machine t) (s.lps k) (pos k).at (pos k).owes f → OwesAt o.machine (lock_grip_of s k) s.world r ⊎ FillsThere o.machine s k r
     by None pe = inl (last-each ls.places (OwesAt o.machine (lock_grip_of s k) s.world) (pos k).owes r x (keeps-each o.machine (lock_grip_of s k) s.world (on_table o.machine t) (pos k).owes pe) e)
     by (Some f) pe =
-        let here : DoesHere o s k f.does = does-here o trees s k f.does are known j pe.is in
+        let here : DoesHere o s k f.does = does-here o trees s k f.does (pos k).at mem.words are known j (st.holds k j).stands pe.is in
         let may = fill-may o trees s mem t pos k f known st here (on_table o.machine t) (pos k).at (pos k).owes pe in
         inr (record { grip = act_grip s mem k f.does; part = act-part o s mem k f.does here; fills = made here may (last_at f.made r) refl })
       where

@@ -173,17 +173,17 @@ call_does o trees p lp c cs rs b = record {
   after = λ e run. after_turn c cs (guest_after e run.rest None) rs (beside_after e run.rest b) run (last_reply run.stage run.held);
 }
 
--- whatever others do, a processor does this while it is as it is
-pub record IsDoes (o : Opening) (trees : Trees) (p : ℕ) (lp : Lp) (d : Does) : Type 0 where
+-- at a call line
+pub record IsOnLine (o : Opening) (trees : Trees) (p : ℕ) (lp : Lp) (at : WordLp) (d : Does) : Type 0 where
   pub call : Call
   pub further : List Call
-  pub replies : List Reply
-  pub beside : Beside
-  pub lines : lines_left o p lp ≡ call ∷ further
-  pub replies_are : lp.replies ≡ replies
-  pub beside_is : beside_of lp beside.bundles ≡ beside
-  pub guest : lp.guest ≡ None
-  pub is : d ≡ call_does o trees p lp call further replies beside
+  pub lines_are : at.lines ≡ call ∷ further
+  pub outside : at.guest ≡ None
+  pub is : d ≡ call_does o trees p lp call further at.replies at.beside
+
+-- whatever others do, a processor that stands there does this while it is as it is
+abbrev pub IsDoes : Opening → Trees → ℕ → Lp → WordLp → Does → Type 0
+IsDoes o trees p lp at d = IsOnLine o trees p lp at d × (lp.guest ≡ None)
 
 -- what it does in a state: its leaf means what it does, which is the flat machine's next event, under these locks
 pub record DoesHere (o : Opening) (s : State) (p : ℕ) (d : Does) : Type 0 where
@@ -193,10 +193,18 @@ pub record DoesHere (o : Opening) (s : State) (p : ℕ) (d : Does) : Type 0 wher
   pub held_tdrs : HoldTdrs (locks_at (s.lps p))
   pub undo_tdr : UndoTdr d.far.phase (locks_at (s.lps p))
 
--- a run has this hasher in hand
-abbrev pub HasInHand : Option Standing → Option Measure → Type 0
-HasInHand None h = Unit {0}
-HasInHand (Some r) h = r.hasher ≡ h
+-- the hasher that a run has in hand is this one, or is known
+abbrev pub HandKnown : Option Standing → Option Measure → Type 0
+HandKnown None h = Unit {0}
+HandKnown (Some r) h = (r.hasher ≡ h) ⊎ ((x : Hand) × IsHand r.hasher x)
+
+abbrev pub guest_run : Option WordGuest → Option Standing
+guest_run None = None
+guest_run (Some g) = g.run
+
+-- so of a processor's line, and of its guest
+abbrev pub HasInHand : WordLp → Option Measure → Type 0
+HasInHand at h = HandKnown at.run h × HandKnown (guest_run at.guest) h
 
 -- where a run then is doesn't hang on the hasher in hand
 abbrev pub with_hasher : Standing → Option Measure → Standing
@@ -217,13 +225,14 @@ IsAct _ = ⊥
 -- where it leads: on its way, and after each turn of it
 pub record Leads (o : Opening) (trees : Trees) (s : State) (p : ℕ) (d : Does) : Type 0 where
   pub within_stands : (words : WordPlace → ℕ) (run : Standing) → RunsAt (task_for o p d) d.far s.world words run → StandsAt o trees p s.world words (s.lps p) (d.within run)
+  pub within_is : (run : Standing) → run.stage ≡ stages.Trying → IsDoes o trees p (s.lps p) (d.within run) d
   pub within_bundles : (run : Standing) → (d.within run).beside.bundles ≡ d.bundles
-  pub within_run : (run : Standing) (h : Option Measure) → run.hasher ≡ h → HasInHand (d.within run).run h
+  pub within_run : (run : Standing) (h : Option Measure) → run.hasher ≡ h → HasInHand (d.within run) h
   pub turns : (run run' : Standing) (e : RunEvent) (tp : List Piece) → TurnIn run.stage o.machine run tp run' e → has_ended run.stage run.held ≡ false → LpTurns (table_for o trees p) o.machine (d.within run) e tp (d.after e run')
   pub after_stands : (u : Table) (run' : Standing) (h : Option Measure) (e : RunEvent) → (la : LeafAfter o (task_for o p d) s d.far u (with_hasher run' h) e) → NoneOnWay run'
       → StandsAt o trees p (event o s p).world la.mem.words ((event o s p).lps p) (d.after e run')
   pub after_grows : (u : Table) (run' : Standing) (h : Option Measure) (e : RunEvent) → LeafAfter o (task_for o p d) s d.far u (with_hasher run' h) e → Grows (bundles_in s) (bundles_in (event o s p)) d.bundles (d.after e run').beside.bundles
-  pub after_run : (e : RunEvent) (run' : Standing) (h : Option Measure) → run'.hasher ≡ h → HasInHand (d.after e run').run h
+  pub after_run : (e : RunEvent) (run' : Standing) (h : Option Measure) → run'.hasher ≡ h → HasInHand (d.after e run') h
   pub locks_stay : (mv : Move Reply) → IsAct mv → IsNext o s p (event_of d.meaning mv) → locks_at ((event o s p).lps p) ≡ locks_at (s.lps p)
 
 -- a leaf that stores before its act: what its processor does, its run and the end that it has come to, the stores that it
@@ -270,7 +279,7 @@ pub record AreLeftLoaded (all left : List Todo) : Type 0 where
 -- What is told of a leaf that fills: what it was told, the end that it has come to, and which fills are made. That they are
 -- allowed its meaning says in each state.
 pub record FillHolds (o : Opening) (trees : Trees) (p : ℕ) (w : World) (words a : WordPlace → ℕ) (lp : Lp) (at : WordLp) (owes : List Due) (f : Fill) : Type 0 where
-  pub is : IsDoes o trees p lp f.does
+  pub is : IsDoes o trees p lp at f.does
   pub at_is : at ≡ f.does.within f.run
   pub runs : RunsAt (task_for o p f.does) f.does.far w words f.run
   pub trying : f.run.stage ≡ stages.Trying
@@ -303,7 +312,7 @@ pub record Rest (o : Opening) (trees : Trees) (p : ℕ) (at : WordLp) (owes : Li
   pub items : List Taken
   pub last : Option Measure
   pub are : AreOwed o.machine.pages hasher hand items owed last
-  pub last_is : HasInHand at.run last
+  pub last_is : HasInHand at last
   pub turns : List (List Piece)
   pub pieces : ps ≡ map Unmarked items ++ joined turns
   pub own : TurnsTo o trees p at turns end_
