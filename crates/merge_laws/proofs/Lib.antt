@@ -5,6 +5,7 @@ pub mod Owing
 pub mod Filling
 pub mod Keeping
 pub mod Holding
+pub mod Steps
 pub mod Standing
 pub mod Lines
 pub mod Others
