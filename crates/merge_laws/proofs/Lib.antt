@@ -6,6 +6,7 @@ pub mod Filling
 pub mod Keeping
 pub mod Holding
 pub mod Steps
+pub mod Makers
 pub mod Standing
 pub mod Lines
 pub mod Others
