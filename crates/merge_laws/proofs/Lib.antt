@@ -7,6 +7,7 @@ pub mod Keeping
 pub mod Holding
 pub mod Steps
 pub mod Makers
+pub mod Staying
 pub mod Standing
 pub mod Lines
 pub mod Others
