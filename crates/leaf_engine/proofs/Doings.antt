@@ -389,7 +389,7 @@ module _ (ls : Laws) (o : Opening) (task : Task) (s : State) (mem : Memory) (kep
       record {
         move = Undoes l;
         next = n;
-        single = inl moves;
+        due = ap (λ (y : Phase Reply). next_in ((work_of k).items w) y x.held) ph;
         mem = mem';
         shown = step-shown (Undoes l) l v n (quiet-of k moves (Undoes l) (λ y. cc)) (lock-undone k moves l) it.stands value;
         memory = subst (λ (h : Option Measure). IsMemory m u h mem') (sym (ap (λ (z : Standing). z.hasher) tb.after)) made;
@@ -432,7 +432,7 @@ module _ (ls : Laws) (o : Opening) (task : Task) (s : State) (mem : Memory) (kep
       record {
         move = Releases h;
         next = n;
-        single = inl moves;
+        due = ap (λ (y : Phase Reply). next_in ((work_of k).items w) y x.held) ph ∙ ap (λ (y : List Held). next_in ((work_of k).items w) (Answered r) y) he;
         mem = mem';
         shown = step-shown (Releases h) l v n (quiet-of k moves (Releases h) (λ y. cc)) (lock-freed k moves h) it.stands value;
         memory = subst (λ (z : Option Measure). IsMemory m u z mem') (sym (ap (λ (z : Standing). z.hasher) same)) made;
@@ -486,7 +486,7 @@ module _ (ls : Laws) (o : Opening) (task : Task) (s : State) (mem : Memory) (kep
       record {
         move = Attempts l mode;
         next = n;
-        single = inl moves;
+        due = due-is st (Attempts l mode) tr.due;
         mem = mem';
         shown = step-shown (Attempts l mode) l v n (quiet-of k moves (Attempts l mode) (λ y. cc)) (lock-tried k moves l mode) tr.stands.stands value;
         memory = tr.memory;
@@ -548,7 +548,7 @@ module _ (ls : Laws) (o : Opening) (task : Task) (s : State) (mem : Memory) (kep
           record {
             move = Refuses er.reply;
             next = n;
-            single = inl moves;
+            due = due-is st (Refuses er.reply) y.0;
             mem = mem;
             shown = ls.steps.quiet m mem.words mem.slots o s me (event_of k (Refuses er.reply)) sh.shown n (quiet-of k moves (Refuses er.reply) (λ z. cc)) (lock-refused k moves er.reply);
             memory = subst (λ (z : Memory). IsMemory m u run'.hasher z) y.2 er.memory;
@@ -567,7 +567,7 @@ module _ (ls : Laws) (o : Opening) (task : Task) (s : State) (mem : Memory) (kep
           record {
             move = Succeeds;
             next = n;
-            single = inr refl;
+            due = due-is st Succeeds y.0;
             mem = er.after;
             shown = act-shown er.after n y.3;
             memory = er.memory;

@@ -101,12 +101,12 @@ pub record HasCome (e : RunEvent) (t : Tree) (before after : Lp) : Type 0 where
   pub notes : after.notes ≡ (beside_after e t (beside_of before [])).notes
   pub told : after.told ≡ (beside_after e t (beside_of before [])).told
 
--- after a turn: the flat machine's next event, which of a single event is its act, words that show the state after it, what the turn answers, and the run as far
+-- after a turn: the move that was due, which is the flat machine's next event, words that show the state after it, what the turn answers, and the run as far
 -- as that move leads
 pub record LeafAfter (o : Opening) (task : Task) (s : State) (x : Progress Reply) (u : Table) (run : Standing) (e : RunEvent) : Type 0 where
   pub move : Move Reply
   pub next : IsNext o s task.place.lp (event_of task.meaning move)
-  pub single : HasMoves task.meaning ⊎ (move ≡ Succeeds)
+  pub due : next_in ((work_of task.meaning).items s.world) x.phase x.held ≡ move
   pub mem : Memory
   pub shown : Shows task.place.machine mem.words mem.slots (event o s task.place.lp)
   pub memory : IsMemory task.place.machine u run.hasher mem

@@ -8,6 +8,7 @@ pub mod Holding
 pub mod Steps
 pub mod Makers
 pub mod Staying
+pub mod Stepped
 pub mod Standing
 pub mod Lines
 pub mod Others
