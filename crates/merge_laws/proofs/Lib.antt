@@ -9,6 +9,7 @@ pub mod Steps
 pub mod Makers
 pub mod Staying
 pub mod Stepped
+pub mod Singles
 pub mod Standing
 pub mod Lines
 pub mod Others

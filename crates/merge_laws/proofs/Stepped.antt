@@ -78,7 +78,7 @@ pub record RowPasses (v : ℕ) (row : OperationRow) : Type 0 where
   pub fine : (w : World) → IsFine (operation_reply (row.notes w) (row.tells w) (row.answer w))
   pub outcome : (w : World) → outcome_of (operation_reply (row.notes w) (row.tells w) (row.answer w)) ≡ row.answer w
 
-passed-at : (f : ℕ → ℕ) (v n : ℕ) → (if v == v then n else f v) ≡ n
+pub passed-at : (f : ℕ → ℕ) (v n : ℕ) → (if v == v then n else f v) ≡ n
 passed-at f v n = ap (λ (b : Bool). if b then n else f v) (eq-eqb v v refl)
 
 pub row-passes : (o : Opening) (t v line : ℕ) (op : GuestOp) (row : OperationRow) → operation_of o t v line op ≡ ByRow row → RowPasses v row
