@@ -5,12 +5,15 @@ pub mod Owing
 pub mod Filling
 pub mod Keeping
 pub mod Holding
+pub mod Worlds
 pub mod Steps
 pub mod Makers
 pub mod Staying
 pub mod Stepped
 pub mod Singles
 pub mod Standing
+pub mod Inside
+pub mod Leading
 pub mod Lines
 pub mod Others
 pub mod Own

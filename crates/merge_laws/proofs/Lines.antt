@@ -208,11 +208,11 @@ module _ (o : Opening) (trees : Trees) (s : State) (p : ℕ) (c : Call) (cs : Li
   pub call-leads : lp.replies ≡ rs → beside_of lp b.bundles ≡ b → Leads o trees s p its_call
   unfolding after-of
   call-leads replies beside = record {
-    within_stands = λ words run ra. record { lines = lines; replies = replies; beside = beside; run = record { guest = guest; runs = ra } };
+    within_stands = λ words run ra trying. record { lines = lines; replies = replies; beside = beside; run = record { guest = guest; runs = ra } };
     within_bundles = λ run. refl;
-    within_is = λ run trying. (record { call = c; further = cs; lines_are = refl; outside = refl; is = refl }, guest);
-    within_run = λ run h e. (inl e, tt);
-    turns = λ run run' e tp tn going. record { stands = run'; turn = tn; going = going; after_is = refl };
+    within_is = λ words run ra trying. record { call = c; further = cs; lines_are = refl; outside = refl; guest = guest; is = refl };
+    within_run = λ words run h ra trying e. (inl e, tt);
+    turns = λ words run run' e tp ra trying tn going. record { stands = run'; turn = tn; going = going; after_is = refl };
     after_stands = λ u run' h e la none.
         subst (λ (m : Memory). StandsAt o trees p (event o s p).world m.words ((event o s p).lps p) (its_call.after e run')) (leaf-after-memory o (record { machine = o.machine; lp = p }) (trees.call p c) row s (with_hasher run' h) (result e run') line guest refl u due la)
         (subst (λ (g : Option WordGuest). StandsAt o trees p (event o s p).world (after-of u run' h e la).mem.words ((event o s p).lps p) (after_turn c cs g rs (beside_after e run'.rest b) run' (last_reply run'.stage run'.held)))
@@ -232,12 +232,12 @@ module _ (o : Opening) (trees : Trees) (s : State) (p : ℕ) (c : Call) (cs : Li
 pub does-here : (o : Opening) (trees : Trees) (s : State) (p : ℕ) (d : Does) (at : WordLp) (words : WordPlace → ℕ) → AreTrees o trees → Known o s → p < length o.calls → StandsAt o trees p s.world words (s.lps p) at → IsDoes o trees p (s.lps p) at d
     → DoesHere o s p d
 does-here o trees s p d at words are known i st is =
-    subst (λ (z : Does). DoesHere o s p z) (sym is.0.is) (call-here o trees s p is.0.call is.0.further at.replies at.beside are known i (st.lines ∙ is.0.lines_are) is.1)
+    subst (λ (z : Does). DoesHere o s p z) (sym is.is) (call-here o trees s p is.call is.further at.replies at.beside are known i (st.lines ∙ is.lines_are) is.guest)
 
 pub does-leads : (o : Opening) (trees : Trees) (s : State) (p : ℕ) (d : Does) (at : WordLp) (words : WordPlace → ℕ) → AreTrees o trees → Known o s → p < length o.calls → StandsAt o trees p s.world words (s.lps p) at → IsDoes o trees p (s.lps p) at d
     → Leads o trees s p d
 does-leads o trees s p d at words are known i st is =
-    subst (λ (z : Does). Leads o trees s p z) (sym is.0.is) (call-leads o trees s p is.0.call is.0.further at.replies at.beside are known i (st.lines ∙ is.0.lines_are) is.1 st.replies st.beside)
+    subst (λ (z : Does). Leads o trees s p z) (sym is.is) (call-leads o trees s p is.call is.further at.replies at.beside are known i (st.lines ∙ is.lines_are) is.guest st.replies st.beside)
 
 -- a processor stays where it is, as its leaf does
 pub stands-stay : (o : Opening) (trees : Trees) (s : State) (p : ℕ) (at : WordLp) (w' : World) (words words' : WordPlace → ℕ) → AreTrees o trees → Known o s → p < length o.calls

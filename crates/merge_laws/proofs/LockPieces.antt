@@ -42,7 +42,7 @@ use Rattle.leaf_engine.proofs.Calling.{snoc}
 use Rattle.merge_laws.proofs.Holding.{bare, locks_at, lock_grip_of, may-try}
 use Rattle.merge_laws.proofs.Standing.{Trees, Does, task_for, moment, Leads, TurnsTo, Laws, HandOf, Position, Rest}
 use Rattle.merge_laws.proofs.Others.{at-moment, hold-is, due-move}
-use Rattle.merge_laws.proofs.Own.{world-stays, moves-tried, has-moves}
+use Rattle.merge_laws.proofs.Worlds.{world-stays, moves-tried, has-moves}
 use Rattle.merge_laws.proofs.LockSteps.{OneStep, lock-step}
 use Rattle.merge_laws.proofs.Pieces.{Came, AtTurn}
 

@@ -1,11 +1,10 @@
 -- A guest's step is made by who may make it, within the limits of the grammar.
-use Rattle.std.proofs.Common.{◌≡◌, ◌⊎◌, ℕ, zero, suc, ◌+◌, ◌*◌, ◌/◌, ◌<◌, ◌≤◌, ◌^◌, Bool, true, false, if◌then◌else◌, ◌==◌, List, [], ◌∷◌, length, drop, Option, Some, None, refl, ap, sym, ◌∙◌, subst, inl, inr, arith}
-use Rattle.std.specs.Prelude.{slice_get, slice_index, nat_lt}
+use Rattle.std.proofs.Common.{◌≡◌, ℕ, zero, suc, ◌+◌, ◌/◌, ◌<◌, ◌≤◌, ◌^◌, Bool, true, false, if◌then◌else◌, ◌==◌, List, [], ◌∷◌, length, Option, Some, None, refl, ap, sym, ◌∙◌, subst, arith}
+use Rattle.std.specs.Prelude.{slice_get, slice_index}
 use Rattle.std.specs.List.{All}
 use Rattle.std.proofs.lemmas.Bool.{ltb-true, eqb-true}
 use Rattle.std.proofs.lemmas.List.Elements.{All-head, All-tail}
 use Rattle.std.proofs.lemmas.Option.{slice_get_within}
-use Rattle.td_words.specs.declared.machines.Machine.{Machine}
 use Rattle.td_words.specs.declared.names.PageKind.TheVariants as kind
 use Rattle.td_words.specs.declared.names.OpState.{OpState}
 use Rattle.td_words.specs.declared.names.OpState.TheVariants as ops
@@ -15,7 +14,7 @@ use Rattle.td_words.specs.declared.calls.GuestOp.{GuestOp}
 use Rattle.td_words.specs.declared.calls.GuestOp.TheVariants as op
 use Rattle.td_words.specs.declared.replies.Outcome.{Outcome}
 use Rattle.flat_core.specs.World.{World}
-use Rattle.flat_core.specs.Processor.{Held, Phase, Trying, Translation, Walk, Guest, Lp}
+use Rattle.flat_core.specs.Processor.{Phase, Trying, Walk, Guest, Lp}
 use Rattle.flat_core.specs.Opening.{Opening}
 use Rattle.flat_core.specs.Tree.{page_of_gpa, number_at}
 use Rattle.flat_core.specs.Translations.{look_up}
@@ -25,12 +24,11 @@ use Rattle.flat_core.specs.AccessLaw.{IsGuarded}
 use Rattle.flat_core.proofs.Always.{reaches_own}
 use Rattle.flat_core.specs.Inside.{InGuest, LineAt, GuestAt, PhaseAt, DueAt, OperationAt, WalkFits}
 use Rattle.flat_core.specs.Inside as inside
-use Rattle.flat_core.specs.Lawful.{Lawful, IsAlive, IsPageOf, IsNodeOf, AreControls, IsNew}
+use Rattle.flat_core.specs.Lawful.{IsAlive, IsPageOf, IsNodeOf}
 use Rattle.flat_core.specs.Event.{State, lines_left, operation_due}
 use Rattle.word_rules.specs.Spots.{runs_in}
 use Rattle.leaf_engine.specs.Facts.{GuestFits}
 use Rattle.leaf_engine.specs.Changes.{Memory}
-use Rattle.leaf_engine.specs.Means as meaning
 use Rattle.leaf_engine.specs.Means.{Meaning, Instant, IsMaker, IsInGuest, IsAtOperation, IsEntryPage}
 use Rattle.leaf_engine.specs.Guests.{WordGuest, Step, Operates, Accesses, Loads, Leaves as Left, walk_page, step_of}
 use Rattle.leaf_engine.specs.Merges.{ByItsRow, IsOperation, IsStepOf, AreCodes}

@@ -1,12 +1,12 @@
 -- What a guest's access, and the load of an entry in its walk, make of it.
-use Rattle.std.proofs.Common.{◌≡◌, ◌⊎◌, ℕ, zero, suc, ◌+◌, ◌*◌, ◌/◌, ◌%◌, ◌≤◌, Bool, true, false, if◌then◌else◌, ◌==◌, List, [], ◌∷◌, Option, Some, None, refl, ap, sym, ◌∙◌, subst, arith}
+use Rattle.std.proofs.Common.{◌≡◌, ℕ, zero, suc, ◌+◌, ◌*◌, ◌/◌, ◌%◌, ◌≤◌, Bool, true, false, if◌then◌else◌, ◌==◌, [], Option, Some, None, refl, ap, sym, ◌∙◌, subst, arith}
 use Rattle.td_words.specs.declared.names.Access.{Access}
 use Rattle.td_words.specs.declared.names.Access.TheVariants.{Read, Write}
 use Rattle.td_words.specs.declared.names.EntryState.{EntryState}
 use Rattle.td_words.specs.declared.names.EntryState.TheVariants as entry
 use Rattle.td_words.specs.Packing.{Entry}
 use Rattle.flat_core.specs.World.{World}
-use Rattle.flat_core.specs.Processor.{Held, Phase, Trying, Answered, Progress, nothing_yet, Walk, Guest}
+use Rattle.flat_core.specs.Processor.{Trying, Answered, Progress, nothing_yet, Walk, Guest}
 use Rattle.flat_core.specs.Locks.{one_if}
 use Rattle.flat_core.specs.Tree.{same_state, may_read, may_write, entry_at}
 use Rattle.flat_core.specs.Lawful.{is_free}

@@ -13,7 +13,7 @@ use Rattle.flat_core.specs.Opening.{Opening}
 use Rattle.flat_core.specs.Row.{Move, Refuses, Succeeds}
 use Rattle.flat_core.specs.Table.{row_of}
 use Rattle.flat_core.specs.Lawful.{Lawful}
-use Rattle.flat_core.specs.Event.{State, start, lines_left, event}
+use Rattle.flat_core.specs.Event.{Event, next_event, State, start, lines_left, event}
 use Rattle.flat_core.specs.Run.{play, bundles_in}
 use Rattle.flat_core.specs.Laws.{EveryWorldIsLawful, LocksExclude, OthersStay, NoWordsToTell, IsBetween}
 use Rattle.word_rules.specs.Guards.{Grip}
@@ -39,9 +39,10 @@ use Rattle.leaf_engine.specs.declared.events.Stage.TheVariants as stages
 use Rattle.leaf_engine.specs.Items.{AreChanged}
 use Rattle.leaf_engine.specs.Turns.{Standing, standing, has_ended, last_reply}
 use Rattle.leaf_engine.specs.Doing.{event_of, IsDoing, LeafAt, LeafAfter}
-use Rattle.leaf_engine.specs.OwnLists.{Piece, Unmarked, joined, marked_behind, TurnIn, TurnsInPieces, LeafTable, WordLp, after_turn, LpTurns, OwnTurns}
+use Rattle.leaf_engine.specs.OwnLists.{Piece, Unmarked, joined, marked_behind, TurnIn, TurnsInPieces, LeafTable, WordLp, after_turn, after_step, LpTurns, OwnTurns}
 use Rattle.leaf_engine.specs.Merges.{ByItsRow, IsStepOf}
-use Rattle.leaf_engine.specs.Guests.{WordGuest, guest_after, Step}
+use Rattle.flat_core.specs.AccessLaw.{IsGuarded}
+use Rattle.leaf_engine.specs.Guests.{WordGuest, guest_after, Step, step_of}
 use Rattle.leaf_engine.specs.Trees.{added}
 use Rattle.merge_laws.specs.Laws.{AreBundlesOf, LinesEnterNone}
 use Rattle.merge_laws.proofs.Stores.{Due, due, last_at, or_else, laid}
@@ -108,6 +109,8 @@ pub record Known (o : Opening) (s : State) : Type 0 where
   pub few : (l : LockId) → sharers s.lps s.lp_count l + refusals s.lps s.lp_count l + 1 < 2 ^ 63
   pub nothing_to_tell : s.world.outgoing.to_tell ≡ None
   pub facts : Facts s
+  pub guarded : IsGuarded o s
+  pub next : (p : ℕ) (e : Event) → next_event o s p ≡ Some e → IsNext o s p e
 
 abbrev pub NoneOnWay : Standing → Type 0
 NoneOnWay run = run.stage ≡ stages.Trying → run.hasher ≡ None
@@ -173,17 +176,30 @@ call_does o trees p lp c cs rs b = record {
   after = λ e run. after_turn c cs (guest_after e run.rest None) rs (beside_after e run.rest b) run (last_reply run.stage run.held);
 }
 
+-- a guest's step, under the locks of its VP.ENTER
+abbrev pub step_does : Opening → Trees → ℕ → Lp → Progress Reply → Call → List Call → Standing → WordGuest → List Reply → Beside → Does
+step_does o trees p lp far c cs line x rs b = record {
+  tree = trees.step p x.tdr x.vp (length rs + 1) (step_of o.codes b.cached x);
+  meaning = trees.means p x.tdr x.vp (length rs + 1) (step_of o.codes b.cached x);
+  kept = lp.call.held;
+  far = far;
+  bundles = b.bundles;
+  within = λ run. record { lines = c ∷ cs; run = Some line; guest = Some (record x { run = Some run }); replies = rs; beside = b };
+  after = λ e run. after_step c cs line x rs (beside_after e run.rest b) (step_of o.codes b.cached x) run (last_reply run.stage run.held);
+}
+
 -- at a call line
 pub record IsOnLine (o : Opening) (trees : Trees) (p : ℕ) (lp : Lp) (at : WordLp) (d : Does) : Type 0 where
   pub call : Call
   pub further : List Call
   pub lines_are : at.lines ≡ call ∷ further
   pub outside : at.guest ≡ None
+  pub guest : lp.guest ≡ None
   pub is : d ≡ call_does o trees p lp call further at.replies at.beside
 
 -- whatever others do, a processor that stands there does this while it is as it is
 abbrev pub IsDoes : Opening → Trees → ℕ → Lp → WordLp → Does → Type 0
-IsDoes o trees p lp at d = IsOnLine o trees p lp at d × (lp.guest ≡ None)
+IsDoes o trees p lp at d = IsOnLine o trees p lp at d
 
 -- what it does in a state: its leaf means what it does, which is the flat machine's next event, under these locks
 pub record DoesHere (o : Opening) (s : State) (p : ℕ) (d : Does) : Type 0 where
@@ -224,11 +240,11 @@ IsAct _ = ⊥
 
 -- where it leads: on its way, and after each turn of it
 pub record Leads (o : Opening) (trees : Trees) (s : State) (p : ℕ) (d : Does) : Type 0 where
-  pub within_stands : (words : WordPlace → ℕ) (run : Standing) → RunsAt (task_for o p d) d.far s.world words run → StandsAt o trees p s.world words (s.lps p) (d.within run)
-  pub within_is : (run : Standing) → run.stage ≡ stages.Trying → IsDoes o trees p (s.lps p) (d.within run) d
+  pub within_stands : (words : WordPlace → ℕ) (run : Standing) → RunsAt (task_for o p d) d.far s.world words run → run.stage ≡ stages.Trying → StandsAt o trees p s.world words (s.lps p) (d.within run)
+  pub within_is : (words : WordPlace → ℕ) (run : Standing) → RunsAt (task_for o p d) d.far s.world words run → run.stage ≡ stages.Trying → IsDoes o trees p (s.lps p) (d.within run) d
   pub within_bundles : (run : Standing) → (d.within run).beside.bundles ≡ d.bundles
-  pub within_run : (run : Standing) (h : Option Measure) → run.hasher ≡ h → HasInHand (d.within run) h
-  pub turns : (run run' : Standing) (e : RunEvent) (tp : List Piece) → TurnIn run.stage o.machine run tp run' e → has_ended run.stage run.held ≡ false → LpTurns (table_for o trees p) o.machine (d.within run) e tp (d.after e run')
+  pub within_run : (words : WordPlace → ℕ) (run : Standing) (h : Option Measure) → RunsAt (task_for o p d) d.far s.world words run → run.stage ≡ stages.Trying → run.hasher ≡ h → HasInHand (d.within run) h
+  pub turns : (words : WordPlace → ℕ) (run run' : Standing) (e : RunEvent) (tp : List Piece) → RunsAt (task_for o p d) d.far s.world words run → run.stage ≡ stages.Trying → TurnIn run.stage o.machine run tp run' e → has_ended run.stage run.held ≡ false → LpTurns (table_for o trees p) o.machine (d.within run) e tp (d.after e run')
   pub after_stands : (u : Table) (run' : Standing) (h : Option Measure) (e : RunEvent) → (la : LeafAfter o (task_for o p d) s d.far u (with_hasher run' h) e) → NoneOnWay run'
       → StandsAt o trees p (event o s p).world la.mem.words ((event o s p).lps p) (d.after e run')
   pub after_grows : (u : Table) (run' : Standing) (h : Option Measure) (e : RunEvent) → LeafAfter o (task_for o p d) s d.far u (with_hasher run' h) e → Grows (bundles_in s) (bundles_in (event o s p)) d.bundles (d.after e run').beside.bundles

@@ -1,5 +1,5 @@
 -- What the events of other processors leave of a guest: its virtual processor's index and position, and the TD's root page.
-use Rattle.std.proofs.Common.{lit≤, ◌≡◌, ◌≢◌, ◌⊎◌, ℕ, zero, suc, ◌+◌, ◌<◌, Bool, true, false, nat_lt, ◌==◌, if◌then◌else◌, List, [], ◌∷◌, ◌++◌, length, Option, Some, None, refl, ap, sym, ◌∙◌, subst, inl, inr, arith}
+use Rattle.std.proofs.Common.{◌≡◌, ◌≢◌, ℕ, zero, suc, ◌+◌, ◌<◌, Bool, true, false, ◌==◌, List, [], ◌∷◌, length, Option, Some, None, refl, ap, sym, ◌∙◌, arith}
 use Rattle.std.proofs.lemmas.Bool.{eqb-true, ltb-true}
 use Rattle.td_words.specs.declared.names.PageKind.TheVariants as kind
 use Rattle.td_words.specs.declared.names.OpState.{OpState}
@@ -17,7 +17,7 @@ use Rattle.flat_core.specs.Opening.{Opening}
 use Rattle.flat_core.specs.Row.{Item, Check, Try, OperationRow, Move, Attempts, Undoes, Refuses, Succeeds, Releases, Rests, next, next_in, Passes}
 use Rattle.flat_core.specs.Table.{row_of}
 use Rattle.flat_core.specs.Effects.{tell_words, pass_operation}
-use Rattle.flat_core.specs.Guest.{Operation, ByRow, operation_of, is_pending_at}
+use Rattle.flat_core.specs.Guest.{ByRow, operation_of, is_pending_at}
 use Rattle.flat_core.specs.Guests.{IsOccupied, Spares}
 use Rattle.flat_core.specs.Conditions.{running_ops}
 use Rattle.flat_core.specs.Lawful.{Lawful, IsAlive}

@@ -1,30 +1,25 @@
 -- What an event of a guest's operation makes of it: of the flat machine's guest, and of the guest over words.
-use Rattle.std.proofs.Common.{◌≡◌, ◌⊎◌, ℕ, zero, suc, ◌+◌, Bool, true, false, if◌then◌else◌, ◌==◌, List, [], ◌∷◌, ◌++◌, map, length, Option, Some, None, refl, ap, sym, ◌∙◌, subst, inl, inr}
+use Rattle.std.proofs.Common.{◌≡◌, ◌⊎◌, ℕ, zero, suc, ◌+◌, Bool, true, false, if◌then◌else◌, ◌==◌, List, [], ◌∷◌, map, length, Option, Some, None, refl, ap, sym, ◌∙◌, subst, inl, inr}
 use Rattle.std.proofs.lemmas.Bool.{eq-eqb}
-use Rattle.td_words.specs.declared.machines.Machine.{Machine}
-use Rattle.td_words.specs.declared.names.LockName.{LockName}
 use Rattle.td_words.specs.declared.names.Mode.{Mode}
 use Rattle.td_words.specs.declared.names.Mode.TheVariants.{Shared, Exclusive}
-use Rattle.td_words.specs.declared.names.Access.{Access}
 use Rattle.td_words.specs.declared.calls.GuestOp.{GuestOp}
-use Rattle.td_words.specs.declared.refusals.Status.{Status}
 use Rattle.td_words.specs.declared.refusals.Status.TheVariants.{OperandBusy}
 use Rattle.td_words.specs.declared.replies.Outcome.{Outcome}
-use Rattle.td_words.specs.declared.replies.Outcome.TheVariants.{EptViolation, Busy, Vmcall}
+use Rattle.td_words.specs.declared.replies.Outcome.TheVariants.{EptViolation, Vmcall}
 use Rattle.td_words.specs.declared.replies.Reply.{Reply}
 use Rattle.td_words.specs.declared.replies.Reply.TheVariants.{Done, Refused, Exited}
 use Rattle.flat_core.specs.World.{World}
-use Rattle.flat_core.specs.Processor.{LockId, name_of, Held, Phase, Trying, Undoing, Answered, Progress, nothing_yet, Guest}
+use Rattle.flat_core.specs.Processor.{LockId, Held, Phase, Trying, Undoing, Answered, Progress, nothing_yet, Guest}
 use Rattle.flat_core.specs.Opening.{Opening}
 use Rattle.flat_core.specs.Row.{Item, Check, Try, OperationRow, Move, Attempts, Undoes, Refuses, Succeeds, Releases, Rests, next, next_in, after_try, after_move}
 use Rattle.flat_core.specs.Effects.{tell_words, pass_operation}
-use Rattle.flat_core.specs.Guest.{Operation, ByRow, operation_of, is_pending_at}
-use Rattle.flat_core.specs.Event.{call_busy, operation_busy, operation_world, operation_guest, settle_operation, settled_guest}
+use Rattle.flat_core.specs.Guest.{ByRow, operation_of, is_pending_at}
+use Rattle.flat_core.specs.Event.{call_busy, operation_busy, operation_world, operation_guest, settle_operation}
 use Rattle.flat_core.proofs.Operations.{operation_row, accepted}
 use Rattle.leaf_engine.specs.Means.{exit_of, exit_item, operation_reply}
 use Rattle.leaf_engine.specs.Doing.{outcome_of, out_move, row_then}
 use Rattle.leaf_engine.specs.Standing.{out_phase, out_progress, is_behind}
-use Rattle.leaf_engine.specs.Turns.{Standing}
 use Rattle.leaf_engine.specs.Guests.{WordGuest, operated}
 use Rattle.merge_laws.proofs.Steps.{SameGuest}
 

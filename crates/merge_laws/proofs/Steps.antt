@@ -1,10 +1,7 @@
 -- What a guest over words does next is what the flat machine's guest does next.
-use Rattle.std.proofs.Common.{◌≡◌, ◌⊎◌, ℕ, zero, suc, ◌+◌, ◌<◌, ◌≤◌, ◌^◌, Bool, true, false, if◌then◌else◌, List, [], ◌∷◌, ◌++◌, map, length, Option, Some, None, refl, ap, sym, ◌∙◌, subst, inl, inr, nat_lt}
+use Rattle.std.proofs.Common.{◌≡◌, ◌⊎◌, ℕ, zero, suc, ◌+◌, Bool, true, false, if◌then◌else◌, List, [], ◌∷◌, ◌++◌, map, length, Option, Some, None, refl, ap, sym, ◌∙◌, subst, inl, inr}
 use Rattle.std.specs.Prelude.{nat_le, slice_get}
-use Rattle.std.specs.List.{All}
-use Rattle.std.proofs.lemmas.Bool.{ltb-true}
 use Rattle.td_words.specs.declared.machines.Machine.{Machine}
-use Rattle.td_words.specs.declared.names.LockName.{LockName}
 use Rattle.td_words.specs.declared.names.Access.{Access}
 use Rattle.td_words.specs.declared.names.Access.TheVariants.{Read, Write}
 use Rattle.td_words.specs.declared.calls.Call.{Call}
@@ -14,14 +11,14 @@ use Rattle.td_words.specs.declared.replies.Outcome.{Outcome}
 use Rattle.td_words.specs.declared.replies.Outcome.TheVariants.{Stop, Max}
 use Rattle.td_words.specs.declared.replies.Reply.{Reply}
 use Rattle.flat_core.specs.World.{World}
-use Rattle.flat_core.specs.Processor.{LockId, OfPage, OfOp, OfTree, OfEpoch, OfRtmr, OfKeys, name_of, Held, Phase, Trying, Undoing, Answered, Progress, nothing_yet, Translation, Walk, Guest, Lp}
+use Rattle.flat_core.specs.Processor.{LockId, OfPage, OfOp, OfTree, OfEpoch, OfRtmr, OfKeys, name_of, Held, Phase, Trying, Undoing, Answered, Progress, nothing_yet, Translation, Guest, Lp}
 use Rattle.flat_core.specs.Opening.{Opening}
-use Rattle.flat_core.specs.Row.{Item, Check, Try, Row, OperationRow, Move, Attempts, Undoes, Refuses, Succeeds, Releases, Rests, next, next_in}
+use Rattle.flat_core.specs.Row.{Item, Check, Try, Row, OperationRow, Move, next, next_in}
 use Rattle.flat_core.specs.Table.{row_of}
 use Rattle.flat_core.specs.Tree.{page_of_gpa}
 use Rattle.flat_core.specs.Translations.{look_up}
 use Rattle.flat_core.specs.Guest.{Operation, ByRow, Private, is_private, operation_of, walk_level, shared_load, shared_store}
-use Rattle.flat_core.specs.Event.{State, Event, OfCall, OfOperation, Walks, Reaches, Leaves, next_event, event_for, line_event, entered_event, epoch_event, guest_event, staying_event, due_event, max_event, operation_event, operation_due, private_event, nothing_more, lines_left, is_epoch_lock}
+use Rattle.flat_core.specs.Event.{State, OfOperation, Reaches, Leaves, next_event, event_for, line_event, entered_event, epoch_event, guest_event, staying_event, due_event, max_event, operation_event, operation_due, private_event, nothing_more, lines_left, is_epoch_lock}
 use Rattle.leaf_engine.specs.declared.events.HeldLock.{HeldLock}
 use Rattle.leaf_engine.specs.Means as meaning
 use Rattle.leaf_engine.specs.Means.{Meaning, work_of, exit_of, exit_item}
@@ -29,7 +26,7 @@ use Rattle.leaf_engine.specs.Doing.{outcome_of, out_move, row_then, event_of, Ha
 use Rattle.leaf_engine.specs.Standing.{out_phase, out_progress}
 use Rattle.leaf_engine.specs.Calls.{AreLocks}
 use Rattle.leaf_engine.specs.Guests.{WordGuest, Step, Operates, Accesses, Loads, Leaves as Left, walk_page, private_step, operation_step, due_step, staying_step, step_of, is_epoch_name, gives_epoch_back}
-use Rattle.leaf_engine.specs.Merges.{ByItsRow, IsOperation, IsStepOf, AreCodes}
+use Rattle.leaf_engine.specs.Merges.{ByItsRow}
 
 -- the flat machine's guest, as a processor over words has it
 pub record SameGuest (g : Guest) (x : WordGuest) : Type 0 where
