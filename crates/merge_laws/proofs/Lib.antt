@@ -14,6 +14,7 @@ pub mod Singles
 pub mod Standing
 pub mod Inside
 pub mod Leading
+pub mod Going
 pub mod Lines
 pub mod Others
 pub mod Own

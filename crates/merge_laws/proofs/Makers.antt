@@ -101,7 +101,7 @@ module _ (o : Opening) (s : State) (p : ℕ) (c : Call) (cs : List Call) (g : Gu
   its_step = step_of o.codes lp.cached x
 
   -- where it stands in guest
-  in-guest : InGuest o w p c lp g
+  pub in-guest : InGuest o w p c lp g
   in-guest =
       subst (λ (z : Option Guest). LineAt o w p c lp z) is_in
       (subst (λ (z : List Call). inside.StandsAt o w p z lp) lines (guarded.timely.each p))

@@ -110,6 +110,7 @@ out-after granted r ans Rests own h = refl
 -- an operation goes on, or is done
 pub record OperationGoes (x : Progress Reply) : Type 0 where
   pub settles : (g : Guest) → settle_operation (out_phase x.phase) x.held g ≡ g
+  pub unfinished : (r : Reply) → x.phase ≡ Answered r → x.held ≡ [] → ⊥
 
 pub record OperationIsDone (x : Progress Reply) : Type 0 where
   pub reply : Reply
@@ -119,18 +120,21 @@ pub record OperationIsDone (x : Progress Reply) : Type 0 where
 pub goes-or-done : (x : Progress Reply) → OperationGoes x ⊎ OperationIsDone x
 goes-or-done x = by x.phase x.held refl refl
   where
-    goes-by : (ph : Phase Reply) (hs : List Held) → x.phase ≡ ph → x.held ≡ hs → ((g : Guest) → settle_operation (out_phase ph) hs g ≡ g) → OperationGoes x
-    goes-by ph hs e f h = record { settles = λ g. ap (λ (z : Phase Reply). settle_operation (out_phase z) x.held g) e ∙ (ap (λ (z : List Held). settle_operation (out_phase ph) z g) f ∙ h g) }
+    goes-by : (ph : Phase Reply) (hs : List Held) → x.phase ≡ ph → x.held ≡ hs → ((g : Guest) → settle_operation (out_phase ph) hs g ≡ g) → ((r : Reply) → ph ≡ Answered r → hs ≡ [] → ⊥) → OperationGoes x
+    goes-by ph hs e f h never = record {
+      settles = λ g. ap (λ (z : Phase Reply). settle_operation (out_phase z) x.held g) e ∙ (ap (λ (z : List Held). settle_operation (out_phase ph) z g) f ∙ h g);
+      unfinished = λ r a b. never r (sym e ∙ a) (sym f ∙ b);
+    }
 
     answered-more : (out : Option Outcome) (h : Held) (hs : List Held) (g : Guest) → settle_operation (Answered out) (h ∷ hs) g ≡ g
     answered-more None h hs g = refl
     answered-more (Some out) h hs g = refl
 
     by : (ph : Phase Reply) (hs : List Held) → x.phase ≡ ph → x.held ≡ hs → OperationGoes x ⊎ OperationIsDone x
-    by Trying hs e f = inl (goes-by Trying hs e f (λ g. refl))
-    by (Undoing l) hs e f = inl (goes-by (Undoing l) hs e f (λ g. refl))
+    by Trying hs e f = inl (goes-by Trying hs e f (λ g. refl) (λ r a b. cc))
+    by (Undoing l) hs e f = inl (goes-by (Undoing l) hs e f (λ g. refl) (λ r a b. cc))
     by (Answered r) [] e f = inr (record { reply = r; phase = e; held = f })
-    by (Answered r) (h ∷ hs) e f = inl (goes-by (Answered r) (h ∷ hs) e f (answered-more (outcome_of r) h hs))
+    by (Answered r) (h ∷ hs) e f = inl (goes-by (Answered r) (h ∷ hs) e f (answered-more (outcome_of r) h hs) (λ q a b. cc))
 
 -- the guest that is done with it
 pub record DoneAs (w : World) (v : ℕ) (g : Guest) (x : WordGuest) : Type 0 where
