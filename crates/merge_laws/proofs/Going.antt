@@ -1,17 +1,15 @@
 -- What a turn of a guest's operation leads to.
 use Rattle.mrtd_measure.specs.declared.measures.Measure.{Measure}
-use Rattle.std.proofs.Common.{◌≡◌, ◌⊎◌, ℕ, ◌+◌, ◌<◌, Bool, true, false, List, [], ◌∷◌, ◌++◌, map, length, Option, Some, None, option_map, refl, ap, sym, ◌∙◌, subst, inl, inr}
+use Rattle.std.proofs.Common.{◌≡◌, ◌⊎◌, ℕ, Bool, List, [], ◌∷◌, map, Option, Some, None, option_map, refl, ap, sym, ◌∙◌, subst, inl, inr}
 use Rattle.std.specs.Prelude.{slice_index}
 use Rattle.td_words.specs.declared.machines.Machine.{Machine}
-use Rattle.td_words.specs.declared.names.LockName.{LockName}
 use Rattle.td_words.specs.declared.names.LockName.TheVariants as name
-use Rattle.td_words.specs.declared.calls.Call.{Call}
 use Rattle.td_words.specs.declared.calls.GuestOp.{GuestOp}
 use Rattle.td_words.specs.declared.replies.Reply.{Reply}
 use Rattle.td_words.specs.declared.replies.Outcome.{Outcome}
 use Rattle.td_words.specs.Place.{WordPlace, IsIn, address, lock_place}
 use Rattle.flat_core.specs.World.{World}
-use Rattle.flat_core.specs.Processor.{LockId, OfPage, OfOp, OfEpoch, Held, Phase, Trying, Undoing, Answered, Progress, nothing_yet, Translation, Guest, Lp}
+use Rattle.flat_core.specs.Processor.{OfOp, OfEpoch, Held, Phase, Trying, Undoing, Answered, Progress, nothing_yet, Guest, Lp}
 use Rattle.flat_core.specs.Opening.{Opening}
 use Rattle.flat_core.specs.Row.{OperationRow, Move, Succeeds, next_in, after_move}
 use Rattle.flat_core.specs.Guest.{answered, walk_level, walk_step}
@@ -22,8 +20,8 @@ use Rattle.td_words.specs.declared.replies.Reply.TheVariants.{Done, Exited}
 use Rattle.flat_core.specs.Tree.{entry_at}
 use Rattle.word_rules.specs.Views.{rights_by}
 use Rattle.merge_laws.proofs.Singles.{access-done, access-index, load-done}
-use Rattle.flat_core.specs.Event.{State, Event, OfOperation, Walks, Reaches, Leaves, settled_guest, event, after_event, world_after, lp_after, is_granted, call_busy, operation_guest, operation_world}
-use Rattle.lock_words.specs.LockWords.{place_of, Stands, HeldStand, IsNext}
+use Rattle.flat_core.specs.Event.{State, Event, Walks, Reaches, Leaves, settled_guest, event, after_event, world_after, lp_after, is_granted, call_busy, operation_guest, operation_world}
+use Rattle.lock_words.specs.LockWords.{place_of, HeldStand}
 use Rattle.leaf_engine.specs.declared.events.Event.{Event as RunEvent}
 use Rattle.leaf_engine.specs.declared.events.HeldLock.{HeldLock}
 use Rattle.leaf_engine.specs.declared.events.Stage.{Stage}
@@ -34,9 +32,9 @@ use Rattle.leaf_engine.specs.Means.{Task, Meaning, work_of, operation_reply, exi
 use Rattle.leaf_engine.specs.Trees.{Tree, answer_of}
 use Rattle.leaf_engine.specs.Turns.{Standing, last_reply}
 use Rattle.leaf_engine.specs.Calls.{IsLockAt, AreLocks, IsStage}
-use Rattle.leaf_engine.specs.Doing.{event_of, out_move, row_then, HasMoves, work_world, LeafAt, LeafAfter, ActsBy}
+use Rattle.leaf_engine.specs.Doing.{event_of, out_move, row_then, work_world, LeafAfter, ActsBy}
 use Rattle.leaf_engine.specs.Standing.{out_progress}
-use Rattle.leaf_engine.specs.Guests.{WordGuest, Step, Operates, Accesses, Loads, Leaves as Left, operated, passed_on, stepped, walked, is_right, walk_page}
+use Rattle.leaf_engine.specs.Guests.{WordGuest, Step, Operates, Accesses, Loads, operated, passed_on, stepped, walked, is_right}
 use Rattle.leaf_engine.proofs.Calling.{lp-now, last-none}
 use Rattle.merge_laws.proofs.Steps.{SameGuest}
 use Rattle.merge_laws.proofs.Stepped.{IsFine, IsFinePhase, position_by, RowPasses, OperationGoes, OperationIsDone, goes-or-done, DoneAs, operation-fine, operation-position, operation-index, operation-goes, operation-done}
@@ -180,9 +178,16 @@ module _ (o : Opening) (s : State) (p : ℕ) (tree : Tree) (op : GuestOp) (row :
       acted : (mv : Move Reply) → mv ≡ Succeeds → ActsBy mv e (work_of task.meaning) w (answer_of run'.rest) → (answer_of run'.rest).reply ≡ operation_reply (row.notes w) (row.tells w) (row.answer w)
       acted mv y a = (subst (λ (z : Move Reply). ActsBy z e (work_of task.meaning) w (answer_of run'.rest)) y a).1.reply_is
 
+-- at the exit the call is answered, under the locks that it held
+pub record HasLeft (lp lp' : Lp) (out : Outcome) (r : Option Reply) : Type 0 where
+  pub outside : lp'.guest ≡ None
+  pub call : lp'.call ≡ record { phase = Answered (Exited out); held = lp.call.held }
+  pub replies : lp'.replies ≡ lp.replies
+  pub last : r ≡ Some (Exited out)
+
 -- a single event
 
-one-move : (k : Meaning) (w : World) (own : Progress Reply) (mv : Move Reply) → (work_of k).items w ≡ [] → own ≡ nothing_yet → next_in ((work_of k).items w) own.phase own.held ≡ mv → mv ≡ Succeeds
+pub one-move : (k : Meaning) (w : World) (own : Progress Reply) (mv : Move Reply) → (work_of k).items w ≡ [] → own ≡ nothing_yet → next_in ((work_of k).items w) own.phase own.held ≡ mv → mv ≡ Succeeds
 one-move k w own mv none is due = sym due ∙ (λ i. next_in (none i) (is i).phase (is i).held)
 
 one-after : (granted : Bool) (r : Reply) (mv : Move Reply) (own : Progress Reply) → mv ≡ Succeeds → own ≡ nothing_yet → after_move call_busy granted r mv own ≡ record { phase = Answered r; held = [] }
@@ -272,15 +277,17 @@ module _ (o : Opening) (s : State) (p : ℕ) (tree : Tree) (g : Guest) (x : Word
           → (answer_of run'.rest).reply ≡ Done (value.Number (rights_by (entry_at its-world x.tdr (walk_level x.walk) gpa)))
       acted mv y a = (subst (λ (z : Move Reply). ActsBy z e (work_of (meaning.OfWalk x.tdr x.vp access gpa (walk_level x.walk) page)) its-world (answer_of run'.rest)) y a).1.reply_is
 
-  -- the exit: the call is answered, under the locks that it held
-  pub record HasLeft (w' : World) (lp' : Lp) (out : Outcome) (run' : Standing) (r : Option Reply) : Type 0 where
-    pub outside : lp'.guest ≡ None
-    pub call : lp'.call ≡ record { phase = Answered (Exited out); held = its-lp.call.held }
-    pub replies : lp'.replies ≡ its-lp.replies
-    pub last : r ≡ Some (Exited out)
+  -- it answers
+  pub single-last : (k : Meaning) (u : Table) (run' : Standing) (h : Option Measure) (e : RunEvent) → (work_of k).items its-world ≡ [] → LeafAfter o (task-of k) s own u (with_hasher run' h) e → last_reply run'.stage run'.held ≡ Some (answer_of run'.rest).reply
+  single-last k u run' h e nothing la =
+      let granted : Bool = is_granted s (event_of k la.move) in
+      let q : Reply = (answer_of run'.rest).reply in
+      let mv-is : la.move ≡ Succeeds = one-move k its-world own la.move nothing none la.due in
+      let after-is : after_move call_busy granted q la.move own ≡ record { phase = Answered q; held = [] } = one-after granted q la.move own mv-is none in
+      last-done o.machine _ run'.stage run'.held (after_move call_busy granted q la.move own) q la.at.stage la.at.held (ap (λ (z : Progress Reply). z.phase) after-is) (ap (λ (z : Progress Reply). z.held) after-is)
 
   pub exit-turned : (out : Outcome) (u : Table) (run' : Standing) (h : Option Measure) (e : RunEvent) → LeafAfter o (task-of (meaning.OfExit x.tdr x.vp out)) s own u (with_hasher run' h) e
-      → HasLeft (event o s p).world ((event o s p).lps p) out run' (last_reply run'.stage run'.held)
+      → HasLeft its-lp ((event o s p).lps p) out (last_reply run'.stage run'.held)
   exit-turned out u run' h e la =
       let k : Meaning = meaning.OfExit x.tdr x.vp out in
       let ev : Event = Leaves x.vp out in
