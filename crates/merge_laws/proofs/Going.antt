@@ -180,9 +180,16 @@ module _ (o : Opening) (s : State) (p : ℕ) (tree : Tree) (op : GuestOp) (row :
       acted : (mv : Move Reply) → mv ≡ Succeeds → ActsBy mv e (work_of task.meaning) w (answer_of run'.rest) → (answer_of run'.rest).reply ≡ operation_reply (row.notes w) (row.tells w) (row.answer w)
       acted mv y a = (subst (λ (z : Move Reply). ActsBy z e (work_of task.meaning) w (answer_of run'.rest)) y a).1.reply_is
 
+-- at the exit the call is answered, under the locks that it held
+pub record HasLeft (lp lp' : Lp) (out : Outcome) (r : Option Reply) : Type 0 where
+  pub outside : lp'.guest ≡ None
+  pub call : lp'.call ≡ record { phase = Answered (Exited out); held = lp.call.held }
+  pub replies : lp'.replies ≡ lp.replies
+  pub last : r ≡ Some (Exited out)
+
 -- a single event
 
-one-move : (k : Meaning) (w : World) (own : Progress Reply) (mv : Move Reply) → (work_of k).items w ≡ [] → own ≡ nothing_yet → next_in ((work_of k).items w) own.phase own.held ≡ mv → mv ≡ Succeeds
+pub one-move : (k : Meaning) (w : World) (own : Progress Reply) (mv : Move Reply) → (work_of k).items w ≡ [] → own ≡ nothing_yet → next_in ((work_of k).items w) own.phase own.held ≡ mv → mv ≡ Succeeds
 one-move k w own mv none is due = sym due ∙ (λ i. next_in (none i) (is i).phase (is i).held)
 
 one-after : (granted : Bool) (r : Reply) (mv : Move Reply) (own : Progress Reply) → mv ≡ Succeeds → own ≡ nothing_yet → after_move call_busy granted r mv own ≡ record { phase = Answered r; held = [] }
@@ -272,15 +279,17 @@ module _ (o : Opening) (s : State) (p : ℕ) (tree : Tree) (g : Guest) (x : Word
           → (answer_of run'.rest).reply ≡ Done (value.Number (rights_by (entry_at its-world x.tdr (walk_level x.walk) gpa)))
       acted mv y a = (subst (λ (z : Move Reply). ActsBy z e (work_of (meaning.OfWalk x.tdr x.vp access gpa (walk_level x.walk) page)) its-world (answer_of run'.rest)) y a).1.reply_is
 
-  -- the exit: the call is answered, under the locks that it held
-  pub record HasLeft (w' : World) (lp' : Lp) (out : Outcome) (run' : Standing) (r : Option Reply) : Type 0 where
-    pub outside : lp'.guest ≡ None
-    pub call : lp'.call ≡ record { phase = Answered (Exited out); held = its-lp.call.held }
-    pub replies : lp'.replies ≡ its-lp.replies
-    pub last : r ≡ Some (Exited out)
+  -- it answers
+  pub single-last : (k : Meaning) (u : Table) (run' : Standing) (h : Option Measure) (e : RunEvent) → (work_of k).items its-world ≡ [] → LeafAfter o (task-of k) s own u (with_hasher run' h) e → last_reply run'.stage run'.held ≡ Some (answer_of run'.rest).reply
+  single-last k u run' h e nothing la =
+      let granted : Bool = is_granted s (event_of k la.move) in
+      let q : Reply = (answer_of run'.rest).reply in
+      let mv-is : la.move ≡ Succeeds = one-move k its-world own la.move nothing none la.due in
+      let after-is : after_move call_busy granted q la.move own ≡ record { phase = Answered q; held = [] } = one-after granted q la.move own mv-is none in
+      last-done o.machine _ run'.stage run'.held (after_move call_busy granted q la.move own) q la.at.stage la.at.held (ap (λ (z : Progress Reply). z.phase) after-is) (ap (λ (z : Progress Reply). z.held) after-is)
 
   pub exit-turned : (out : Outcome) (u : Table) (run' : Standing) (h : Option Measure) (e : RunEvent) → LeafAfter o (task-of (meaning.OfExit x.tdr x.vp out)) s own u (with_hasher run' h) e
-      → HasLeft (event o s p).world ((event o s p).lps p) out run' (last_reply run'.stage run'.held)
+      → HasLeft its-lp ((event o s p).lps p) out (last_reply run'.stage run'.held)
   exit-turned out u run' h e la =
       let k : Meaning = meaning.OfExit x.tdr x.vp out in
       let ev : Event = Leaves x.vp out in

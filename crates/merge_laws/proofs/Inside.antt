@@ -56,7 +56,7 @@ module _ (o : Opening) (trees : Trees) (s : State) (p : ℕ) (c : Call) (cs : Li
       subst (λ (z : List Translation). ByItsRow o x.tdr x.vp (length lp.replies + 1) (step_of o.codes z x) k) (sym cached)
       (subst (λ (z : List Reply). ByItsRow o x.tdr x.vp (length z + 1) its_step k) (sym replies) (are.steps p x.tdr x.vp (length rs + 1) its_step))
 
-  fits : GuestFits w p lp.call.held x.tdr x.vp
+  pub fits : GuestFits w p lp.call.held x.tdr x.vp
   fits =
       let at : GuestIsIn w p lp.call.held (Some g) = subst (λ (z : Option Guest). GuestIsIn w p lp.call.held z) is_in (known.facts.guests p (subst (λ (n : ℕ). p < n) (sym known.count) i)) in
       subst (λ (z : ℕ). GuestFits w p lp.call.held x.tdr z) same.vp (subst (λ (z : ℕ). GuestFits w p lp.call.held z g.vp) same.tdr at)

@@ -1,5 +1,5 @@
 -- Where a guest's step leads.
-use Rattle.std.proofs.Common.{◌≡◌, ℕ, zero, suc, Bool, true, false, if◌then◌else◌, List, Option, Some, None, refl, ap}
+use Rattle.std.proofs.Common.{◌≡◌, ℕ, zero, suc, ◌+◌, Bool, true, false, if◌then◌else◌, List, Option, Some, None, refl, ap, subst}
 use Rattle.std.specs.Prelude.{nat_le, slice_get}
 use Rattle.td_words.specs.declared.names.Access.{Access}
 use Rattle.td_words.specs.declared.names.Access.TheVariants.{Read, Write}
@@ -15,6 +15,9 @@ use Rattle.flat_core.specs.Processor.{Translation}
 use Rattle.flat_core.specs.Guest.{is_private}
 use Rattle.leaf_engine.specs.Turns.{Standing}
 use Rattle.leaf_engine.specs.Guests.{WordGuest, Step, Operates, Accesses, Loads, Leaves as Left, private_step, operation_step, due_step, staying_step, step_of, walked, is_right, stepped}
+
+use Rattle.leaf_engine.specs.Turns.{Standing}
+use Rattle.leaf_engine.specs.OwnLists.{line_after}
 
 -- the next step doesn't hang on the run
 
@@ -82,3 +85,43 @@ walked-fresh access gpa zero rights true x = refl
 walked-fresh access gpa (suc level) rights true x = refl
 walked-fresh access gpa zero rights false x = refl
 walked-fresh access gpa (suc level) rights false x = refl
+
+-- it stays of the virtual processor that it is of
+pub record KeepsVp (x y : WordGuest) : Type 0 where
+  pub tdr : y.tdr ≡ x.tdr
+  pub vp : y.vp ≡ x.vp
+  pub root : y.root ≡ x.root
+  pub index : y.index ≡ x.index
+
+abbrev KeepsIn : WordGuest → Option WordGuest → Type 0
+KeepsIn x None = Unit {0}
+KeepsIn x (Some y) = KeepsVp x y
+
+walked-keeps : (access : Access) (gpa level rights : ℕ) (b : Bool) (x : WordGuest) → KeepsVp x (walked access gpa level rights b x)
+walked-keeps access gpa zero rights true x = record { tdr = refl; vp = refl; root = refl; index = refl }
+walked-keeps access gpa (suc level) rights true x = record { tdr = refl; vp = refl; root = refl; index = refl }
+walked-keeps access gpa zero rights false x = record { tdr = refl; vp = refl; root = refl; index = refl }
+walked-keeps access gpa (suc level) rights false x = record { tdr = refl; vp = refl; root = refl; index = refl }
+
+stepped-keeps-in : (step : Step) (r : Reply) (x : WordGuest) → KeepsIn x (stepped step r x)
+stepped-keeps-in (Operates o) (Done v) x = record { tdr = refl; vp = refl; root = refl; index = refl }
+stepped-keeps-in (Operates o) (Exited (Vmcall y)) x = record { tdr = refl; vp = refl; root = refl; index = refl }
+stepped-keeps-in (Operates o) (Exited _) x = record { tdr = refl; vp = refl; root = refl; index = refl }
+stepped-keeps-in (Operates o) (Refused (OperandBusy n)) x = record { tdr = refl; vp = refl; root = refl; index = refl }
+stepped-keeps-in (Operates o) (Refused _) x = record { tdr = refl; vp = refl; root = refl; index = refl }
+stepped-keeps-in (Accesses access r' gpa page) r x = record { tdr = refl; vp = refl; root = refl; index = refl }
+stepped-keeps-in (Loads access gpa level page) (Done (value.Number rights)) x = walked-keeps access gpa level rights (is_right access level rights) x
+stepped-keeps-in (Loads access gpa level page) (Done _) x = record { tdr = refl; vp = refl; root = refl; index = refl }
+stepped-keeps-in (Loads access gpa level page) (Exited out) x = record { tdr = refl; vp = refl; root = refl; index = refl }
+stepped-keeps-in (Loads access gpa level page) (Refused s) x = record { tdr = refl; vp = refl; root = refl; index = refl }
+stepped-keeps-in (Left out) r x = tt
+
+pub stepped-keeps : (step : Step) (r : Reply) (x y : WordGuest) → stepped step r x ≡ Some y → KeepsVp x y
+stepped-keeps step r x y e = subst (KeepsIn x) e (stepped-keeps-in step r x)
+
+-- and VP.ENTER's run waits
+pub line-kept : (step : Step) (r : Reply) (x y : WordGuest) (line : Standing) → stepped step r x ≡ Some y → line_after step r line ≡ line
+line-kept (Operates o) r x y line e = refl
+line-kept (Accesses access r' gpa page) r x y line e = refl
+line-kept (Loads access gpa level page) r x y line e = refl
+line-kept (Left out) r x y line e = cc

@@ -15,6 +15,8 @@ pub mod Standing
 pub mod Inside
 pub mod Leading
 pub mod Going
+pub mod StepLeads
+pub mod Leaving
 pub mod Lines
 pub mod Others
 pub mod Own
