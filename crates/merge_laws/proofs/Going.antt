@@ -1,17 +1,15 @@
 -- What a turn of a guest's operation leads to.
 use Rattle.mrtd_measure.specs.declared.measures.Measure.{Measure}
-use Rattle.std.proofs.Common.{◌≡◌, ◌⊎◌, ℕ, ◌+◌, ◌<◌, Bool, true, false, List, [], ◌∷◌, ◌++◌, map, length, Option, Some, None, option_map, refl, ap, sym, ◌∙◌, subst, inl, inr}
+use Rattle.std.proofs.Common.{◌≡◌, ◌⊎◌, ℕ, Bool, List, [], ◌∷◌, map, Option, Some, None, option_map, refl, ap, sym, ◌∙◌, subst, inl, inr}
 use Rattle.std.specs.Prelude.{slice_index}
 use Rattle.td_words.specs.declared.machines.Machine.{Machine}
-use Rattle.td_words.specs.declared.names.LockName.{LockName}
 use Rattle.td_words.specs.declared.names.LockName.TheVariants as name
-use Rattle.td_words.specs.declared.calls.Call.{Call}
 use Rattle.td_words.specs.declared.calls.GuestOp.{GuestOp}
 use Rattle.td_words.specs.declared.replies.Reply.{Reply}
 use Rattle.td_words.specs.declared.replies.Outcome.{Outcome}
 use Rattle.td_words.specs.Place.{WordPlace, IsIn, address, lock_place}
 use Rattle.flat_core.specs.World.{World}
-use Rattle.flat_core.specs.Processor.{LockId, OfPage, OfOp, OfEpoch, Held, Phase, Trying, Undoing, Answered, Progress, nothing_yet, Translation, Guest, Lp}
+use Rattle.flat_core.specs.Processor.{OfOp, OfEpoch, Held, Phase, Trying, Undoing, Answered, Progress, nothing_yet, Guest, Lp}
 use Rattle.flat_core.specs.Opening.{Opening}
 use Rattle.flat_core.specs.Row.{OperationRow, Move, Succeeds, next_in, after_move}
 use Rattle.flat_core.specs.Guest.{answered, walk_level, walk_step}
@@ -22,8 +20,8 @@ use Rattle.td_words.specs.declared.replies.Reply.TheVariants.{Done, Exited}
 use Rattle.flat_core.specs.Tree.{entry_at}
 use Rattle.word_rules.specs.Views.{rights_by}
 use Rattle.merge_laws.proofs.Singles.{access-done, access-index, load-done}
-use Rattle.flat_core.specs.Event.{State, Event, OfOperation, Walks, Reaches, Leaves, settled_guest, event, after_event, world_after, lp_after, is_granted, call_busy, operation_guest, operation_world}
-use Rattle.lock_words.specs.LockWords.{place_of, Stands, HeldStand, IsNext}
+use Rattle.flat_core.specs.Event.{State, Event, Walks, Reaches, Leaves, settled_guest, event, after_event, world_after, lp_after, is_granted, call_busy, operation_guest, operation_world}
+use Rattle.lock_words.specs.LockWords.{place_of, HeldStand}
 use Rattle.leaf_engine.specs.declared.events.Event.{Event as RunEvent}
 use Rattle.leaf_engine.specs.declared.events.HeldLock.{HeldLock}
 use Rattle.leaf_engine.specs.declared.events.Stage.{Stage}
@@ -34,9 +32,9 @@ use Rattle.leaf_engine.specs.Means.{Task, Meaning, work_of, operation_reply, exi
 use Rattle.leaf_engine.specs.Trees.{Tree, answer_of}
 use Rattle.leaf_engine.specs.Turns.{Standing, last_reply}
 use Rattle.leaf_engine.specs.Calls.{IsLockAt, AreLocks, IsStage}
-use Rattle.leaf_engine.specs.Doing.{event_of, out_move, row_then, HasMoves, work_world, LeafAt, LeafAfter, ActsBy}
+use Rattle.leaf_engine.specs.Doing.{event_of, out_move, row_then, work_world, LeafAfter, ActsBy}
 use Rattle.leaf_engine.specs.Standing.{out_progress}
-use Rattle.leaf_engine.specs.Guests.{WordGuest, Step, Operates, Accesses, Loads, Leaves as Left, operated, passed_on, stepped, walked, is_right, walk_page}
+use Rattle.leaf_engine.specs.Guests.{WordGuest, Step, Operates, Accesses, Loads, operated, passed_on, stepped, walked, is_right}
 use Rattle.leaf_engine.proofs.Calling.{lp-now, last-none}
 use Rattle.merge_laws.proofs.Steps.{SameGuest}
 use Rattle.merge_laws.proofs.Stepped.{IsFine, IsFinePhase, position_by, RowPasses, OperationGoes, OperationIsDone, goes-or-done, DoneAs, operation-fine, operation-position, operation-index, operation-goes, operation-done}

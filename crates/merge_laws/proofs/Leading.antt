@@ -1,5 +1,5 @@
 -- Where a guest's step leads.
-use Rattle.std.proofs.Common.{◌≡◌, ℕ, zero, suc, ◌+◌, Bool, true, false, if◌then◌else◌, List, Option, Some, None, refl, ap, subst}
+use Rattle.std.proofs.Common.{◌≡◌, ℕ, zero, suc, Bool, true, false, if◌then◌else◌, List, Option, Some, None, refl, ap, subst}
 use Rattle.std.specs.Prelude.{nat_le, slice_get}
 use Rattle.td_words.specs.declared.names.Access.{Access}
 use Rattle.td_words.specs.declared.names.Access.TheVariants.{Read, Write}
@@ -15,7 +15,6 @@ use Rattle.flat_core.specs.Processor.{Translation}
 use Rattle.flat_core.specs.Guest.{is_private}
 use Rattle.leaf_engine.specs.Turns.{Standing}
 use Rattle.leaf_engine.specs.Guests.{WordGuest, Step, Operates, Accesses, Loads, Leaves as Left, private_step, operation_step, due_step, staying_step, step_of, walked, is_right, stepped}
-
 use Rattle.leaf_engine.specs.Turns.{Standing}
 use Rattle.leaf_engine.specs.OwnLists.{line_after}
 

@@ -15,8 +15,9 @@ pub mod Standing
 pub mod Inside
 pub mod Leading
 pub mod Going
-pub mod StepLeads
 pub mod Leaving
+pub mod StepLeads
+pub mod Stepping
 pub mod Lines
 pub mod Others
 pub mod Own

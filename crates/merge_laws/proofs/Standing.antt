@@ -40,11 +40,10 @@ use Rattle.leaf_engine.specs.Items.{AreChanged}
 use Rattle.leaf_engine.specs.Turns.{Standing, standing, has_ended, last_reply}
 use Rattle.leaf_engine.specs.Doing.{event_of, IsDoing, LeafAt, LeafAfter}
 use Rattle.leaf_engine.specs.OwnLists.{Piece, Unmarked, joined, marked_behind, TurnIn, TurnsInPieces, LeafTable, WordLp, after_turn, after_step, step_leaf, LpTurns, OwnTurns}
-use Rattle.leaf_engine.specs.Merges.{ByItsRow, IsStepOf, AreCodes}
+use Rattle.leaf_engine.specs.Merges.{ByItsRow, IsStepOf}
 use Rattle.std.specs.Prelude.{slice_index}
 use Rattle.td_words.specs.declared.replies.Outcome.{Outcome}
 use Rattle.flat_core.specs.AccessLaw.{IsGuarded}
-use Rattle.flat_core.specs.Entered.{EventsSpare}
 use Rattle.leaf_engine.specs.Calls.{AreLocks}
 use Rattle.leaf_engine.specs.Standing.{out_progress}
 use Rattle.leaf_engine.specs.Doing.{HasMoves}
@@ -81,7 +80,6 @@ pub record Laws : Type 0 where
   pub views : ViewsAreKept
   pub start : StartIsShown
   pub one : TurnsInPieces
-  pub spare : EventsSpare
 
 -- leaves by their trees: of each call, and of each step of a guest, with what it means
 pub record Trees : Type 0 where
@@ -102,7 +100,6 @@ pub record AreTrees (o : Opening) (trees : Trees) : Type 0 where
   pub means : (p : ℕ) (c : Call) → MeansRow (leaf_for o trees p c)
   pub steps : (p t v line : ℕ) (step : Step) → ByItsRow o t v line step (trees.means p t v line step)
   pub steps_mean : (p t v line : ℕ) (step : Step) → IsStepOf step → MeansRow (step_for o trees p t v line step)
-  pub codes : AreCodes o
   pub enters_none : LinesEnterNone o
 
 -- its own list, turn by turn

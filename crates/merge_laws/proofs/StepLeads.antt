@@ -1,6 +1,6 @@
 -- Where a guest's step leads its processor.
 use Rattle.mrtd_measure.specs.declared.measures.Measure.{Measure}
-use Rattle.std.proofs.Common.{◌≡◌, ◌⊎◌, ℕ, ◌+◌, ◌<◌, Bool, true, false, List, [], ◌∷◌, ◌++◌, length, drop, Option, Some, None, refl, ap, sym, ◌∙◌, subst, inl, inr}
+use Rattle.std.proofs.Common.{◌≡◌, ◌⊎◌, ℕ, ◌+◌, ◌<◌, true, false, List, ◌∷◌, length, drop, Option, Some, None, refl, ap, sym, ◌∙◌, subst, inl, inr}
 use Rattle.std.specs.Prelude.{slice_index}
 use Rattle.td_words.specs.declared.calls.Call.{Call}
 use Rattle.td_words.specs.declared.calls.GuestOp.{GuestOp}
@@ -10,24 +10,20 @@ use Rattle.td_words.specs.declared.names.Access.{Access}
 use Rattle.td_words.specs.declared.replies.Outcome.{Outcome}
 use Rattle.td_words.specs.declared.replies.Outcome.TheVariants.{Stop, Max}
 use Rattle.td_words.specs.Place.{WordPlace}
-use Rattle.flat_core.specs.World.{World, Made}
+use Rattle.flat_core.specs.World.{World}
 use Rattle.flat_core.proofs.Induction.{count_stays}
 use Rattle.leaf_engine.specs.declared.events.Event.TheVariants as events
 use Rattle.leaf_engine.specs.OwnLists.{step_leaf}
-use Rattle.flat_core.specs.Processor.{new_guest, Held, Phase, Trying, Undoing, Answered, Progress, nothing_yet, Translation, Guest, Lp}
+use Rattle.flat_core.specs.Processor.{new_guest, Held, Progress, nothing_yet, Translation, Guest, Lp}
 use Rattle.flat_core.specs.Opening.{Opening}
-use Rattle.flat_core.specs.Row.{OperationRow, Move, Succeeds, next_in, after_move}
+use Rattle.flat_core.specs.Row.{OperationRow, after_move}
 use Rattle.flat_core.specs.Guest.{walk_level}
 use Rattle.flat_core.specs.Guests.{IsOccupied, guest_locks, entry_locks}
 use Rattle.flat_core.specs.Inside.{InGuest}
-use Rattle.flat_core.specs.Run.{bundles_in}
 use Rattle.flat_core.specs.Event.{State, event, lines_left, calls_of, call_busy, is_granted}
-use Rattle.lock_words.specs.LockWords.{HeldStand, IsNext}
+use Rattle.lock_words.specs.LockWords.{HeldStand}
 use Rattle.leaf_engine.specs.declared.events.Event.{Event as RunEvent}
-use Rattle.leaf_engine.specs.declared.events.Stage.{Stage}
 use Rattle.leaf_engine.specs.declared.events.Stage.TheVariants as stages
-use Rattle.leaf_engine.specs.Changes.{Hand, Memory}
-use Rattle.leaf_engine.specs.Decides.{IsHand}
 use Rattle.leaf_engine.specs.Besides.{Beside, beside_of, beside_after}
 use Rattle.leaf_engine.specs.Means as meaning
 use Rattle.leaf_engine.specs.Means.{Task, Meaning, work_of}
@@ -36,21 +32,21 @@ use Rattle.leaf_engine.specs.Turns.{Standing, last_reply}
 use Rattle.leaf_engine.specs.Calls.{AreLocks, IsStage}
 use Rattle.leaf_engine.specs.Doing.{event_of, HasMoves, work_world, LeafAt, LeafAfter, HasCome}
 use Rattle.leaf_engine.specs.Standing.{out_progress}
-use Rattle.leaf_engine.specs.Guests.{WordGuest, Step, Operates, Accesses, Loads, Leaves as Left, walk_page, step_of, stepped, gives_epoch_back}
+use Rattle.leaf_engine.specs.Guests.{WordGuest, Step, Operates, Accesses, Loads, Leaves as Left, walk_page, step_of, gives_epoch_back}
 use Rattle.leaf_engine.specs.OwnLists.{WordLp, after_step}
-use Rattle.leaf_engine.specs.Merges.{ByItsRow}
+use Rattle.leaf_engine.specs.Merges.{AreCodes, ByItsRow}
 use Rattle.step_core.specs.Items.{Table}
 use Rattle.merge_laws.proofs.Worlds.{world-turned}
 use Rattle.merge_laws.proofs.Steps.{SameGuest, StepOf, operates, accesses, loads, leaves, stops, fills, step-of}
 use Rattle.merge_laws.proofs.Makers.{in-guest}
 use Rattle.merge_laws.proofs.Inside.{fits}
 use Rattle.merge_laws.proofs.Staying.{event-controls}
-use Rattle.merge_laws.proofs.Stepped.{IsFinePhase, position_by, row-passes, DoneAs}
-use Rattle.merge_laws.proofs.Standing.{Trees, table_for, step_for, leaf_for, AreTrees, Known, NoneOnWay, Does, task_for, RunsAt, OnCall, StepFar, StepRun, InGuestAt, RunAt, StandsAt, step_does, with_hasher}
+use Rattle.merge_laws.proofs.Stepped.{IsFinePhase, position_by, row-passes}
+use Rattle.merge_laws.proofs.Standing.{Trees, table_for, step_for, AreTrees, Known, NoneOnWay, RunsAt, StepFar, StepRun, InGuestAt, StandsAt, with_hasher}
 use Rattle.merge_laws.proofs.Leading.{step-same, stepped-keeps, line-kept}
 use Rattle.merge_laws.proofs.Going.{locks-moved, guest-places, StepTurned, StepGoes, StepDone, HasLeft, single-last, operation-turned, access-turned, load-turned, exit-turned}
 
-module _ (o : Opening) (trees : Trees) (s : State) (p : ℕ) (c : Call) (cs : List Call) (line : Standing) (x : WordGuest) (rs : List Reply) (b : Beside) (g : Guest) (own : Progress Reply) (are : AreTrees o trees) (known : Known o s) (i : p < length o.calls)
+module _ (o : Opening) (trees : Trees) (s : State) (p : ℕ) (c : Call) (cs : List Call) (line : Standing) (x : WordGuest) (rs : List Reply) (b : Beside) (g : Guest) (own : Progress Reply) (are : AreTrees o trees) (codes : AreCodes o) (known : Known o s) (i : p < length o.calls)
     (lines : lines_left o p (s.lps p) ≡ c ∷ cs) (replies : (s.lps p).replies ≡ rs) (beside : beside_of (s.lps p) b.bundles ≡ b) (is_in : (s.lps p).guest ≡ Some g) (same : SameGuest g x) (root : slice_index (s.world.tds.controls x.tdr) 1 ≡ x.root)
     (index : s.world.vps.indexes x.vp ≡ x.index) (place : s.world.vps.positions x.vp ≡ position_by x.position own.phase) (far : out_progress own ≡ g.operation)
     (single : HasMoves (trees.means p x.tdr x.vp (length rs + 1) (step_of o.codes b.cached x)) ⊎ (own ≡ nothing_yet)) (fine : IsFinePhase own.phase) (held : AreLocks o.machine s.world line.held (s.lps p).call.held) (freed : gives_epoch_back line.held ≡ false)
@@ -87,8 +83,8 @@ module _ (o : Opening) (trees : Trees) (s : State) (p : ℕ) (c : Call) (cs : Li
 
   inside : InGuest o w p c lp g
   inside =
-      in-guest o s p c cs g x lines is_in same index known.guarded are.codes
-      (fits o trees s p c cs line x rs b g own are are.codes known i lines replies beside is_in same root index (λ t. place ∙ ap (position_by x.position) t) far single held freed)
+      in-guest o s p c cs g x lines is_in same index known.guarded codes
+      (fits o trees s p c cs line x rs b g own are codes known i lines replies beside is_in same root index (λ t. place ∙ ap (position_by x.position) t) far single held freed)
 
   controls : w'.tds.controls x.tdr ≡ w.tds.controls x.tdr
   controls = event-controls o s p p x.tdr x.vp known.lawful (subst (λ (z : ℕ). IsOccupied w p x.tdr z) same.vp (subst (λ (z : ℕ). IsOccupied w p z g.vp) same.tdr inside.occupied))
