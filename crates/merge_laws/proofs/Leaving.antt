@@ -69,7 +69,7 @@ turned-bundles k Rests e t w n = sym (ap (added w.outgoing.bundles) (no-act e t 
 turned-bundles k (Refuses r) e t w a = sym (ap (λ (z : RunEvent). added w.outgoing.bundles (bundles_made z t)) a.0 ∙ ap (λ (z : Answer). added w.outgoing.bundles z.bundles) a.1)
 turned-bundles k Succeeds e t w a = a.1.bundles_are ∙ sym (ap (λ (z : RunEvent). added w.outgoing.bundles (bundles_made z t)) a.0)
 
-beside-bundles : (e : RunEvent) (t : Tree) (b : Beside) → (beside_after e t b).bundles ≡ added b.bundles (bundles_made e t)
+pub beside-bundles : (e : RunEvent) (t : Tree) (b : Beside) → (beside_after e t b).bundles ≡ added b.bundles (bundles_made e t)
 beside-bundles events.Act t b = refl
 beside-bundles (events.Try name mode granted) t b = refl
 beside-bundles (events.Undo name) t b = refl

@@ -16,6 +16,8 @@ pub mod Inside
 pub mod Leading
 pub mod Going
 pub mod Leaving
+pub mod StepLeads
+pub mod Stepping
 pub mod Lines
 pub mod Others
 pub mod Own

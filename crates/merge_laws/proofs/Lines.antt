@@ -7,6 +7,8 @@ use Rattle.td_words.specs.declared.replies.Reply.{Reply}
 use Rattle.td_words.specs.Place.{WordPlace}
 use Rattle.flat_core.specs.World.{World}
 use Rattle.flat_core.specs.Processor.{Held, Answered, Guest, Entering, Lp}
+use Rattle.flat_core.specs.Inside.{InGuest, LineAt}
+use Rattle.flat_core.specs.Inside as inside
 use Rattle.td_words.specs.declared.replies.Reply.TheVariants.{Done}
 use Rattle.flat_core.specs.Opening.{Opening}
 use Rattle.flat_core.specs.Row.{Row, Move, Attempts, Undoes, Refuses, Succeeds, Releases, Rests, next_in}
@@ -210,7 +212,7 @@ module _ (o : Opening) (trees : Trees) (s : State) (p : ℕ) (c : Call) (cs : Li
   call-leads replies beside = record {
     within_stands = λ words run ra trying. record { lines = lines; replies = replies; beside = beside; run = record { guest = guest; runs = ra } };
     within_bundles = λ run. refl;
-    within_is = λ words run ra trying. record { call = c; further = cs; lines_are = refl; outside = refl; guest = guest; is = refl };
+    within_is = λ words run ra trying. inl (record { call = c; further = cs; lines_are = refl; outside = refl; guest = guest; is = refl });
     within_run = λ words run h ra trying e. (inl e, tt);
     turns = λ words run run' e tp ra trying tn going. record { stands = run'; turn = tn; going = going; after_is = refl };
     after_stands = λ u run' h e la none.
@@ -227,17 +229,28 @@ module _ (o : Opening) (trees : Trees) (s : State) (p : ℕ) (c : Call) (cs : Li
     locks_stay = λ mv act next. act-locks o s p row mv next.next enters-none act;
   }
 
+-- lines that enter none are in no guest
+pub none-in-guest : (o : Opening) (trees : Trees) (s : State) (p : ℕ) (c : Call) (cs : List Call) (g : Guest) → AreTrees o trees → Known o s → lines_left o p (s.lps p) ≡ c ∷ cs → (s.lps p).guest ≡ Some g → ⊥
+none-in-guest o trees s p c cs g are known lines is_in =
+    let ing : InGuest o s.world p c (s.lps p) g = subst (λ (z : Option Guest). LineAt o s.world p c (s.lps p) z) is_in (subst (λ (z : List Call). inside.StandsAt o s.world p z (s.lps p)) lines (known.guarded.timely.each p)) in
+    not-none (record { tdr = g.tdr; vp = g.vp; most = g.most }) (subst (λ (z : Call). (row_of o p z).enters ≡ None) ing.entered (are.enters_none p (length (s.lps p).replies) c cs lines))
+  where
+    not-none : (x : Entering) → Some x ≡ None → ⊥
+    not-none x e = cc
+
 -- what a processor does in a state, and where it leads
 
 pub does-here : (o : Opening) (trees : Trees) (s : State) (p : ℕ) (d : Does) (at : WordLp) (words : WordPlace → ℕ) → AreTrees o trees → Known o s → p < length o.calls → StandsAt o trees p s.world words (s.lps p) at → IsDoes o trees p (s.lps p) at d
     → DoesHere o s p d
-does-here o trees s p d at words are known i st is =
+does-here o trees s p d at words are known i st (inl is) =
     subst (λ (z : Does). DoesHere o s p z) (sym is.is) (call-here o trees s p is.call is.further at.replies at.beside are known i (st.lines ∙ is.lines_are) is.guest)
+does-here o trees s p d at words are known i st (inr is) = absurd (none-in-guest o trees s p is.call is.further is.guest are known (st.lines ∙ is.lines_are) is.is_in)
 
 pub does-leads : (o : Opening) (trees : Trees) (s : State) (p : ℕ) (d : Does) (at : WordLp) (words : WordPlace → ℕ) → AreTrees o trees → Known o s → p < length o.calls → StandsAt o trees p s.world words (s.lps p) at → IsDoes o trees p (s.lps p) at d
     → Leads o trees s p d
-does-leads o trees s p d at words are known i st is =
+does-leads o trees s p d at words are known i st (inl is) =
     subst (λ (z : Does). Leads o trees s p z) (sym is.is) (call-leads o trees s p is.call is.further at.replies at.beside are known i (st.lines ∙ is.lines_are) is.guest st.replies st.beside)
+does-leads o trees s p d at words are known i st (inr is) = absurd (none-in-guest o trees s p is.call is.further is.guest are known (st.lines ∙ is.lines_are) is.is_in)
 
 -- a processor stays where it is, as its leaf does
 pub stands-stay : (o : Opening) (trees : Trees) (s : State) (p : ℕ) (at : WordLp) (w' : World) (words words' : WordPlace → ℕ) → AreTrees o trees → Known o s → p < length o.calls
@@ -245,13 +258,13 @@ pub stands-stay : (o : Opening) (trees : Trees) (s : State) (p : ℕ) (at : Word
     → StandsAt o trees p s.world words (s.lps p) at → StandsAt o trees p w' words' (s.lps p) at
 stands-stay o trees s p at w' words words' are known i stays st = record { lines = st.lines; replies = st.replies; beside = st.beside; run = by at.lines at.run at.guest st.lines st.run }
   where
-    by : (cs : List Call) (r : Option Standing) (g : Option WordGuest) → lines_left o p (s.lps p) ≡ cs → RunAt o trees p s.world words (s.lps p) cs r g → RunAt o trees p w' words' (s.lps p) cs r g
+    by : (cs : List Call) (r : Option Standing) (g : Option WordGuest) → lines_left o p (s.lps p) ≡ cs → RunAt o trees p s.world words (s.lps p) cs r g at.replies at.beside → RunAt o trees p w' words' (s.lps p) cs r g at.replies at.beside
     by cs None None l a = a
     by [] None (Some g) l a = absurd a
     by (c ∷ cs) None (Some g) l a = absurd a
     by [] (Some r) None l a = absurd a
     by [] (Some r) (Some g) l a = absurd a
-    by (c ∷ cs) (Some r) (Some g) l a = absurd a
+    by (c ∷ cs) (Some r) (Some g) l a = absurd (none-in-guest o trees s p c cs a.guest are known l a.is_in)
     by (c ∷ cs) (Some r) None l a =
         let d : Does = call_does o trees p (s.lps p) c cs at.replies at.beside in
         record { guest = a.guest; runs = stays d r (call-here o trees s p c cs at.replies at.beside are known i l a.guest) a.runs }

@@ -193,6 +193,7 @@ known-of ls o schedule s most is count tell = record {
   facts = subst (λ (z : State). Facts z) (sym is) (ls.facts o schedule);
   guarded = subst (λ (z : State). IsGuarded o z) (sym is) (always_guarded o None schedule);
   next = subst (λ (z : State). (p : ℕ) (e : Event) → next_event o z p ≡ Some e → IsNext o z p e) (sym is) (λ p e h. ls.runs.next o None schedule p e h);
+  later = λ p. subst (λ (z : State). Facts (event o z p)) (sym is) (subst (λ (z : State). Facts z) (play_append o schedule (p ∷ []) (start o None)) (ls.facts o (schedule ++ p ∷ [])));
 }
 
 known-next : (ls : Laws) (o : Opening) (s : State) (p : ℕ) → length o.calls ≤ 8 → Known o s → Known o (event o s p)

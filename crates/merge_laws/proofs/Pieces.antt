@@ -22,7 +22,7 @@ use Rattle.leaf_engine.specs.Merges.{Item, step_before}
 use Rattle.leaf_engine.proofs.Beginning.{calls-begin}
 use Rattle.merge_laws.specs.Merge.{IsUnderWay, PieceFits, table_after}
 use Rattle.merge_laws.proofs.Standing.{Trees, leaf_for, table_for, AreTrees, Known, HandOf, Does, task_for, RunsAt, OnCall, RunAt, StandsAt, call_does, DoesHere, NoneOnWay, HandKnown, HasInHand, Leads, Fill, FillHolds, on_table, Position, RestOf, Stands}
-use Rattle.merge_laws.proofs.Lines.{call-here, call-leads, does-here, does-leads}
+use Rattle.merge_laws.proofs.Lines.{none-in-guest, call-here, call-leads, does-here, does-leads}
 
 abbrev pub state_after : Opening → State → ℕ → Piece → State
 state_after o s p (Unmarked x) = s
@@ -142,19 +142,19 @@ next-turn o trees s mem t pos p last hand e tp after are known sd i no-swaps has
       going = going;
     }
 
-    no-guest : (c : Call) (cs : List Call) (r : Option Standing) (g : WordGuest) → RunAt o trees p s.world mem.words (s.lps p) (c ∷ cs) r (Some g) → ⊥
-    no-guest c cs None g a = a
-    no-guest c cs (Some r) g a = a
+    no-guest : (c : Call) (cs : List Call) (r : Option Standing) (g : WordGuest) → lines_left o p (s.lps p) ≡ c ∷ cs → RunAt o trees p s.world mem.words (s.lps p) (c ∷ cs) r (Some g) (pos p).at.replies (pos p).at.beside → ⊥
+    no-guest c cs None g l a = a
+    no-guest c cs (Some r) g l a = none-in-guest o trees s p c cs a.guest are known l a.is_in
 
     begun : (c : Call) (cs : List Call) → lines_left o p (s.lps p) ≡ c ∷ cs → IsBetween (s.lps p) → OnCall o trees p c s.world mem.words (s.lps p) (running (leaf_for o trees p c) None)
     begun c cs l between =
         let ca = calls-begin o (leaf_for o trees p c) (row_of o p c) s.world mem.words (s.lps p) (record { call = c; further = cs; lines = l; row_is = refl }) between in
         record { guest = between.guest; runs = record { at = record { stage = ca.stage; held = ca.held; told = ca.told }; trying = λ z. refl } }
 
-    by : (cs : List Call) (r : Option Standing) (g : Option WordGuest) → lines_left o p (s.lps p) ≡ cs → RunAt o trees p s.world mem.words (s.lps p) cs r g → HandKnown r last
+    by : (cs : List Call) (r : Option Standing) (g : Option WordGuest) → lines_left o p (s.lps p) ≡ cs → RunAt o trees p s.world mem.words (s.lps p) cs r g (pos p).at.replies (pos p).at.beside → HandKnown r last
         → LinesTurn (table_for o trees p) o.machine cs r g (pos p).at.replies (pos p).at.beside e tp after → NextTurn o trees s mem t pos p e tp after
     by [] r g l a h lt = absurd lt
-    by (c ∷ cs) r (Some g) l a h lt = absurd (no-guest c cs r g a)
+    by (c ∷ cs) r (Some g) l a h lt = absurd (no-guest c cs r g l a)
     by (c ∷ cs) None None l a h lt =
         let run : Standing = running (leaf_for o trees p c) None in
         record { does = its c cs; run = run; stands = lt.stands; at = at-turn c cs run l (begun c cs l a) (record { hand = None; is = tt; trying = λ z. refl }) lt.going; turn = lt.turn; after_is = lt.after_is }
