@@ -18,6 +18,7 @@ pub mod Going
 pub mod Leaving
 pub mod StepLeads
 pub mod Stepping
+pub mod InStep
 pub mod Lines
 pub mod Others
 pub mod Own
