@@ -19,6 +19,7 @@ pub mod Leaving
 pub mod StepLeads
 pub mod Stepping
 pub mod InStep
+pub mod GuestsStay
 pub mod Lines
 pub mod Others
 pub mod Own
