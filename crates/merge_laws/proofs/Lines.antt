@@ -7,6 +7,9 @@ use Rattle.td_words.specs.declared.replies.Reply.{Reply}
 use Rattle.td_words.specs.Place.{WordPlace}
 use Rattle.flat_core.specs.World.{World}
 use Rattle.flat_core.specs.Processor.{Held, Answered, Guest, Entering, Lp}
+use Rattle.flat_core.specs.Inside.{InGuest, LineAt}
+use Rattle.flat_core.specs.Inside as inside
+use Rattle.td_words.specs.declared.replies.Reply.TheVariants.{Done}
 use Rattle.flat_core.specs.Opening.{Opening}
 use Rattle.flat_core.specs.Row.{Row, Move, Attempts, Undoes, Refuses, Succeeds, Releases, Rests, next_in}
 use Rattle.flat_core.specs.Table.{row_of}
@@ -29,7 +32,7 @@ use Rattle.leaf_engine.proofs.Calling.{next-is, is-next, event-is, lp-now}
 use Rattle.leaf_engine.proofs.Turning.{leaf-after, leaf-after-memory}
 use Rattle.leaf_engine.specs.Changes.{Memory}
 use Rattle.merge_laws.proofs.Holding.{locks_at}
-use Rattle.merge_laws.proofs.Standing.{Trees, leaf_for, AreTrees, Known, NoneOnWay, Does, task_for, RunsAt, OnCall, RunAt, StandsAt, call_does, IsDoes, DoesHere, HasInHand, with_hasher, IsAct, Leads}
+use Rattle.merge_laws.proofs.Standing.{Trees, leaf_for, AreTrees, Known, NoneOnWay, Does, task_for, RunsAt, OnCall, RunAt, StandsAt, call_does, IsDoes, DoesHere, HandKnown, guest_run, HasInHand, with_hasher, IsAct, Leads}
 
 -- its record after an event of its call
 pub lp-of-event : (o : Opening) (s : State) (p : ℕ) (row : Row) (mv : Move Reply) → next_event o s p ≡ Some (OfCall row mv)
@@ -122,9 +125,24 @@ turned-beside : (c : Call) (cs : List Call) (g : Option WordGuest) (rs : List Re
 turned-beside c cs g rs b run None = refl
 turned-beside c cs g rs b run (Some r) = refl
 
-in-hand-after : (c : Call) (cs : List Call) (g : Option WordGuest) (rs : List Reply) (b : Beside) (run' : Standing) (reply : Option Reply) (h : Option Measure) → run'.hasher ≡ h → HasInHand (after_turn c cs g rs b run' reply).run h
-in-hand-after c cs g rs b run' None h e = e
-in-hand-after c cs g rs b run' (Some r) h e = tt
+-- a guest that has been entered hasn't begun
+entered-no-run : (x : Option Entering) (r : Reply) → guest_run (or_else (entered_at x r) None) ≡ None
+entered-no-run None r = refl
+entered-no-run (Some e) (Done (Rattle.td_words.specs.declared.replies.Value.TheVariants.Entered stale index position root)) = refl
+entered-no-run (Some e) _ = refl
+
+after-no-run : (e : RunEvent) (t : Tree) → guest_run (guest_after e t None) ≡ None
+after-no-run events.Act t = entered-no-run (answer_of t).enters (answer_of t).reply
+after-no-run (events.Try name mode granted) t = refl
+after-no-run (events.Undo name) t = refl
+after-no-run (events.Free name) t = refl
+after-no-run (events.Walk level) t = refl
+after-no-run (events.Word at) t = refl
+after-no-run (events.Count parity) t = refl
+
+in-hand-after : (c : Call) (cs : List Call) (g : Option WordGuest) (rs : List Reply) (b : Beside) (run' : Standing) (reply : Option Reply) (h : Option Measure) → guest_run g ≡ None → run'.hasher ≡ h → HasInHand (after_turn c cs g rs b run' reply) h
+in-hand-after c cs g rs b run' None h none e = (inl e, subst (λ (z : Option Standing). HandKnown z h) (sym none) tt)
+in-hand-after c cs g rs b run' (Some r) h none e = (tt, tt)
 
 -- where a row enters no guest, nor does its leaf
 no-guest-after : (e : RunEvent) (t : Tree) (g : Option WordGuest) → IsNoAct e → guest_after e t g ≡ g
@@ -176,7 +194,7 @@ module _ (o : Opening) (trees : Trees) (s : State) (p : ℕ) (c : Call) (cs : Li
     doing = λ mem. record {
       next = is-next o s p row (next_in (row.items s.world) lp.call.phase lp.call.held) (subst (λ (n : ℕ). p < n) (sym known.count) i) due;
       single = inl tt;
-      maker = (guest, refl);
+      maker = λ t. (guest, refl);
     };
     locks = append-nil lp.call.held ∙ sym locks-are;
     held_tdrs = subst (λ (z : List Held). HoldTdrs z) (sym locks-are) (known.facts.tdrs p).0.0;
@@ -192,10 +210,11 @@ module _ (o : Opening) (trees : Trees) (s : State) (p : ℕ) (c : Call) (cs : Li
   pub call-leads : lp.replies ≡ rs → beside_of lp b.bundles ≡ b → Leads o trees s p its_call
   unfolding after-of
   call-leads replies beside = record {
-    within_stands = λ words run ra. record { lines = lines; replies = replies; beside = beside; run = record { guest = guest; runs = ra } };
+    within_stands = λ words run ra trying. record { lines = lines; replies = replies; beside = beside; run = record { guest = guest; runs = ra } };
     within_bundles = λ run. refl;
-    within_run = λ run h e. e;
-    turns = λ run run' e tp tn going. record { stands = run'; turn = tn; going = going; after_is = refl };
+    within_is = λ words run ra trying. inl (record { call = c; further = cs; lines_are = refl; outside = refl; guest = guest; is = refl });
+    within_run = λ words run h ra trying e. (inl e, tt);
+    turns = λ words run run' e tp ra trying tn going. record { stands = run'; turn = tn; going = going; after_is = refl };
     after_stands = λ u run' h e la none.
         subst (λ (m : Memory). StandsAt o trees p (event o s p).world m.words ((event o s p).lps p) (its_call.after e run')) (leaf-after-memory o (record { machine = o.machine; lp = p }) (trees.call p c) row s (with_hasher run' h) (result e run') line guest refl u due la)
         (subst (λ (g : Option WordGuest). StandsAt o trees p (event o s p).world (after-of u run' h e la).mem.words ((event o s p).lps p) (after_turn c cs g rs (beside_after e run'.rest b) run' (last_reply run'.stage run'.held)))
@@ -206,18 +225,32 @@ module _ (o : Opening) (trees : Trees) (s : State) (p : ℕ) (c : Call) (cs : Li
       all = (after-of u run' h e la).bundles;
       own = ap (λ (z : Beside). z.bundles) (turned-beside c cs (guest_after e run'.rest None) rs (beside_after e run'.rest b) run' (last_reply run'.stage run'.held)) ∙ made-beside e run'.rest b;
     };
-    after_run = λ e run' h f. in-hand-after c cs (guest_after e run'.rest None) rs (beside_after e run'.rest b) run' (last_reply run'.stage run'.held) h f;
+    after_run = λ e run' h f. in-hand-after c cs (guest_after e run'.rest None) rs (beside_after e run'.rest b) run' (last_reply run'.stage run'.held) h (after-no-run e run'.rest) f;
     locks_stay = λ mv act next. act-locks o s p row mv next.next enters-none act;
   }
 
+-- lines that enter none are in no guest
+pub none-in-guest : (o : Opening) (trees : Trees) (s : State) (p : ℕ) (c : Call) (cs : List Call) (g : Guest) → AreTrees o trees → Known o s → lines_left o p (s.lps p) ≡ c ∷ cs → (s.lps p).guest ≡ Some g → ⊥
+none-in-guest o trees s p c cs g are known lines is_in =
+    let ing : InGuest o s.world p c (s.lps p) g = subst (λ (z : Option Guest). LineAt o s.world p c (s.lps p) z) is_in (subst (λ (z : List Call). inside.StandsAt o s.world p z (s.lps p)) lines (known.guarded.timely.each p)) in
+    not-none (record { tdr = g.tdr; vp = g.vp; most = g.most }) (subst (λ (z : Call). (row_of o p z).enters ≡ None) ing.entered (are.enters_none p (length (s.lps p).replies) c cs lines))
+  where
+    not-none : (x : Entering) → Some x ≡ None → ⊥
+    not-none x e = cc
+
 -- what a processor does in a state, and where it leads
 
-pub does-here : (o : Opening) (trees : Trees) (s : State) (p : ℕ) (d : Does) → AreTrees o trees → Known o s → p < length o.calls → IsDoes o trees p (s.lps p) d → DoesHere o s p d
-does-here o trees s p d are known i is = subst (λ (z : Does). DoesHere o s p z) (sym is.is) (call-here o trees s p is.call is.further is.replies is.beside are known i is.lines is.guest)
+pub does-here : (o : Opening) (trees : Trees) (s : State) (p : ℕ) (d : Does) (at : WordLp) (words : WordPlace → ℕ) → AreTrees o trees → Known o s → p < length o.calls → StandsAt o trees p s.world words (s.lps p) at → IsDoes o trees p (s.lps p) at d
+    → DoesHere o s p d
+does-here o trees s p d at words are known i st (inl is) =
+    subst (λ (z : Does). DoesHere o s p z) (sym is.is) (call-here o trees s p is.call is.further at.replies at.beside are known i (st.lines ∙ is.lines_are) is.guest)
+does-here o trees s p d at words are known i st (inr is) = absurd (none-in-guest o trees s p is.call is.further is.guest are known (st.lines ∙ is.lines_are) is.is_in)
 
-pub does-leads : (o : Opening) (trees : Trees) (s : State) (p : ℕ) (d : Does) → AreTrees o trees → Known o s → p < length o.calls → IsDoes o trees p (s.lps p) d → Leads o trees s p d
-does-leads o trees s p d are known i is =
-    subst (λ (z : Does). Leads o trees s p z) (sym is.is) (call-leads o trees s p is.call is.further is.replies is.beside are known i is.lines is.guest is.replies_are is.beside_is)
+pub does-leads : (o : Opening) (trees : Trees) (s : State) (p : ℕ) (d : Does) (at : WordLp) (words : WordPlace → ℕ) → AreTrees o trees → Known o s → p < length o.calls → StandsAt o trees p s.world words (s.lps p) at → IsDoes o trees p (s.lps p) at d
+    → Leads o trees s p d
+does-leads o trees s p d at words are known i st (inl is) =
+    subst (λ (z : Does). Leads o trees s p z) (sym is.is) (call-leads o trees s p is.call is.further at.replies at.beside are known i (st.lines ∙ is.lines_are) is.guest st.replies st.beside)
+does-leads o trees s p d at words are known i st (inr is) = absurd (none-in-guest o trees s p is.call is.further is.guest are known (st.lines ∙ is.lines_are) is.is_in)
 
 -- a processor stays where it is, as its leaf does
 pub stands-stay : (o : Opening) (trees : Trees) (s : State) (p : ℕ) (at : WordLp) (w' : World) (words words' : WordPlace → ℕ) → AreTrees o trees → Known o s → p < length o.calls
@@ -225,13 +258,13 @@ pub stands-stay : (o : Opening) (trees : Trees) (s : State) (p : ℕ) (at : Word
     → StandsAt o trees p s.world words (s.lps p) at → StandsAt o trees p w' words' (s.lps p) at
 stands-stay o trees s p at w' words words' are known i stays st = record { lines = st.lines; replies = st.replies; beside = st.beside; run = by at.lines at.run at.guest st.lines st.run }
   where
-    by : (cs : List Call) (r : Option Standing) (g : Option WordGuest) → lines_left o p (s.lps p) ≡ cs → RunAt o trees p s.world words (s.lps p) cs r g → RunAt o trees p w' words' (s.lps p) cs r g
+    by : (cs : List Call) (r : Option Standing) (g : Option WordGuest) → lines_left o p (s.lps p) ≡ cs → RunAt o trees p s.world words (s.lps p) cs r g at.replies at.beside → RunAt o trees p w' words' (s.lps p) cs r g at.replies at.beside
     by cs None None l a = a
     by [] None (Some g) l a = absurd a
     by (c ∷ cs) None (Some g) l a = absurd a
     by [] (Some r) None l a = absurd a
     by [] (Some r) (Some g) l a = absurd a
-    by (c ∷ cs) (Some r) (Some g) l a = absurd a
+    by (c ∷ cs) (Some r) (Some g) l a = absurd (none-in-guest o trees s p c cs a.guest are known l a.is_in)
     by (c ∷ cs) (Some r) None l a =
         let d : Does = call_does o trees p (s.lps p) c cs at.replies at.beside in
         record { guest = a.guest; runs = stays d r (call-here o trees s p c cs at.replies at.beside are known i l a.guest) a.runs }

@@ -1,5 +1,5 @@
 -- One piece of a merge: what it makes of the state, the table, and where its processor is.
-use Rattle.std.proofs.Common.{◌≡◌, ℕ, ◌<◌, false, length, sym, ap, List, [], ◌∷◌, ◌++◌, Option, Some, None, refl, ◌∙◌, subst}
+use Rattle.std.proofs.Common.{◌≡◌, ℕ, ◌<◌, false, length, sym, ap, inl, inr, List, [], ◌∷◌, ◌++◌, Option, Some, None, refl, ◌∙◌, subst}
 use Rattle.td_words.specs.declared.calls.Call.{Call}
 use Rattle.flat_core.specs.World.{put}
 use Rattle.flat_core.specs.Opening.{Opening}
@@ -21,8 +21,8 @@ use Rattle.leaf_engine.specs.OwnLists.{Piece, Unmarked, Marked, Wordless, behind
 use Rattle.leaf_engine.specs.Merges.{Item, step_before}
 use Rattle.leaf_engine.proofs.Beginning.{calls-begin}
 use Rattle.merge_laws.specs.Merge.{IsUnderWay, PieceFits, table_after}
-use Rattle.merge_laws.proofs.Standing.{Trees, leaf_for, table_for, AreTrees, Known, HandOf, Does, task_for, RunsAt, OnCall, RunAt, StandsAt, call_does, IsDoes, DoesHere, HasInHand, Leads, Fill, FillHolds, on_table, Position, RestOf, Stands}
-use Rattle.merge_laws.proofs.Lines.{call-here, call-leads, does-here, does-leads}
+use Rattle.merge_laws.proofs.Standing.{Trees, leaf_for, table_for, AreTrees, Known, HandOf, Does, task_for, RunsAt, OnCall, RunAt, StandsAt, call_does, DoesHere, NoneOnWay, HandKnown, HasInHand, Leads, Fill, FillHolds, on_table, Position, RestOf, Stands}
+use Rattle.merge_laws.proofs.Lines.{none-in-guest, call-here, call-leads, does-here, does-leads}
 
 abbrev pub state_after : Opening → State → ℕ → Piece → State
 state_after o s p (Unmarked x) = s
@@ -95,7 +95,6 @@ pub record AtTurn (o : Opening) (trees : Trees) (s : State) (mem : Memory) (t : 
   pub known : Known o s
   pub all : Stands o trees s mem t pos
   pub inside : p < length o.calls
-  pub is : IsDoes o trees p (s.lps p) d
   pub here : DoesHere o s p d
   pub leads : Leads o trees s p d
   pub bundles : d.bundles ≡ (pos p).at.beside.bundles
@@ -103,6 +102,11 @@ pub record AtTurn (o : Opening) (trees : Trees) (s : State) (mem : Memory) (t : 
   pub hand : HandOf run
   pub no_swaps : (pos p).swaps ≡ []
   pub going : has_ended run.stage run.held ≡ false
+
+-- the hasher that a run has in hand
+known-hand : (r : Standing) (last : Option Measure) (hand : Hand) → HandKnown (Some r) last → IsHand last hand → NoneOnWay r → HandOf r
+known-hand r last hand (inl e) is none = record { hand = hand; is = subst (λ (z : Option Measure). IsHand z hand) (sym e) is; trying = none }
+known-hand r last hand (inr x) is none = record { hand = x.0; is = x.1; trying = none }
 
 -- the turn that it makes next
 pub record NextTurn (o : Opening) (trees : Trees) (s : State) (mem : Memory) (t : Table) (pos : ℕ → Position) (p : ℕ) (e : RunEvent) (tp : List Piece) (after : WordLp) : Type 0 where
@@ -114,8 +118,8 @@ pub record NextTurn (o : Opening) (trees : Trees) (s : State) (mem : Memory) (t 
   pub after_is : after ≡ does.after e stands
 
 pub next-turn : (o : Opening) (trees : Trees) (s : State) (mem : Memory) (t : Table) (pos : ℕ → Position) (p : ℕ) (last : Option Measure) (hand : Hand) (e : RunEvent) (tp : List Piece) (after : WordLp) → AreTrees o trees → Known o s → Stands o trees s mem t pos → p < length o.calls
-    → (pos p).swaps ≡ [] → HasInHand (pos p).at.run last → IsHand last hand → LpTurns (table_for o trees p) o.machine (pos p).at e tp after → NextTurn o trees s mem t pos p e tp after
-next-turn o trees s mem t pos p last hand e tp after are known sd i no-swaps has in-hand turn = by (pos p).at.lines (pos p).at.run (pos p).at.guest (sd.holds p i).stands.lines (sd.holds p i).stands.run has turn
+    → (pos p).swaps ≡ [] → HasInHand (pos p).at last → IsHand last hand → LpTurns (table_for o trees p) o.machine (pos p).at e tp after → NextTurn o trees s mem t pos p e tp after
+next-turn o trees s mem t pos p last hand e tp after are known sd i no-swaps has in-hand turn = by (pos p).at.lines (pos p).at.run (pos p).at.guest (sd.holds p i).stands.lines (sd.holds p i).stands.run has.0 turn
   where
     st : StandsAt o trees p s.world mem.words (s.lps p) (pos p).at
     st = (sd.holds p i).stands
@@ -129,7 +133,6 @@ next-turn o trees s mem t pos p last hand e tp after are known sd i no-swaps has
       known = known;
       all = sd;
       inside = i;
-      is = record { call = c; further = cs; replies = (pos p).at.replies; beside = (pos p).at.beside; lines = l; replies_are = st.replies; beside_is = st.beside; guest = on.guest; is = refl };
       here = call-here o trees s p c cs (pos p).at.replies (pos p).at.beside are known i l on.guest;
       leads = call-leads o trees s p c cs (pos p).at.replies (pos p).at.beside are known i l on.guest st.replies st.beside;
       bundles = refl;
@@ -139,19 +142,19 @@ next-turn o trees s mem t pos p last hand e tp after are known sd i no-swaps has
       going = going;
     }
 
-    no-guest : (c : Call) (cs : List Call) (r : Option Standing) (g : WordGuest) → RunAt o trees p s.world mem.words (s.lps p) (c ∷ cs) r (Some g) → ⊥
-    no-guest c cs None g a = a
-    no-guest c cs (Some r) g a = a
+    no-guest : (c : Call) (cs : List Call) (r : Option Standing) (g : WordGuest) → lines_left o p (s.lps p) ≡ c ∷ cs → RunAt o trees p s.world mem.words (s.lps p) (c ∷ cs) r (Some g) (pos p).at.replies (pos p).at.beside → ⊥
+    no-guest c cs None g l a = a
+    no-guest c cs (Some r) g l a = none-in-guest o trees s p c cs a.guest are known l a.is_in
 
     begun : (c : Call) (cs : List Call) → lines_left o p (s.lps p) ≡ c ∷ cs → IsBetween (s.lps p) → OnCall o trees p c s.world mem.words (s.lps p) (running (leaf_for o trees p c) None)
     begun c cs l between =
         let ca = calls-begin o (leaf_for o trees p c) (row_of o p c) s.world mem.words (s.lps p) (record { call = c; further = cs; lines = l; row_is = refl }) between in
         record { guest = between.guest; runs = record { at = record { stage = ca.stage; held = ca.held; told = ca.told }; trying = λ z. refl } }
 
-    by : (cs : List Call) (r : Option Standing) (g : Option WordGuest) → lines_left o p (s.lps p) ≡ cs → RunAt o trees p s.world mem.words (s.lps p) cs r g → HasInHand r last
+    by : (cs : List Call) (r : Option Standing) (g : Option WordGuest) → lines_left o p (s.lps p) ≡ cs → RunAt o trees p s.world mem.words (s.lps p) cs r g (pos p).at.replies (pos p).at.beside → HandKnown r last
         → LinesTurn (table_for o trees p) o.machine cs r g (pos p).at.replies (pos p).at.beside e tp after → NextTurn o trees s mem t pos p e tp after
     by [] r g l a h lt = absurd lt
-    by (c ∷ cs) r (Some g) l a h lt = absurd (no-guest c cs r g a)
+    by (c ∷ cs) r (Some g) l a h lt = absurd (no-guest c cs r g l a)
     by (c ∷ cs) None None l a h lt =
         let run : Standing = running (leaf_for o trees p c) None in
         record { does = its c cs; run = run; stands = lt.stands; at = at-turn c cs run l (begun c cs l a) (record { hand = None; is = tt; trying = λ z. refl }) lt.going; turn = lt.turn; after_is = lt.after_is }
@@ -159,7 +162,7 @@ next-turn o trees s mem t pos p last hand e tp after are known sd i no-swaps has
       does = its c cs;
       run = r;
       stands = lt.stands;
-      at = at-turn c cs r l a (record { hand = hand; is = subst (λ (z : Option Measure). IsHand z hand) (sym h) in-hand; trying = a.runs.trying }) lt.going;
+      at = at-turn c cs r l a (known-hand r last hand h in-hand a.runs.trying) lt.going;
       turn = lt.turn;
       after_is = lt.after_is;
     }
@@ -168,14 +171,13 @@ next-turn o trees s mem t pos p last hand e tp after are known sd i no-swaps has
 pub fill-turn : (o : Opening) (trees : Trees) (s : State) (mem : Memory) (t : Table) (pos : ℕ → Position) (p : ℕ) (f : Fill) → AreTrees o trees → Known o s → Stands o trees s mem t pos → p < length o.calls → (pos p).swaps ≡ []
     → FillHolds o trees p s.world mem.words (on_table o.machine t) (s.lps p) (pos p).at (pos p).owes f → AtTurn o trees s mem t pos p f.does f.run
 fill-turn o trees s mem t pos p f are known sd i no-swaps h =
-    let leads = does-leads o trees s p f.does are known i h.is in
+    let leads = does-leads o trees s p f.does (pos p).at mem.words are known i (sd.holds p i).stands h.is in
     record {
       are = are;
       known = known;
       all = sd;
       inside = i;
-      is = h.is;
-      here = does-here o trees s p f.does are known i h.is;
+      here = does-here o trees s p f.does (pos p).at mem.words are known i (sd.holds p i).stands h.is;
       leads = leads;
       bundles = sym (leads.within_bundles f.run) ∙ ap (λ (w : WordLp). w.beside.bundles) (sym h.at_is);
       runs = h.runs;
