@@ -15,9 +15,7 @@ use Rattle.flat_core.specs.Event.{State, OfCall, next_event, lines_left, event, 
 use Rattle.lock_words.specs.Grips.{HoldTdrs, UndoTdr, operation_locks}
 use Rattle.step_core.specs.Items.{Table}
 use Rattle.leaf_engine.specs.declared.events.Event.{Event as RunEvent}
-use Rattle.leaf_engine.specs.declared.events.Event.TheVariants as events
 use Rattle.leaf_engine.specs.declared.events.RunTurn.{RunTurn}
-use Rattle.leaf_engine.specs.Trees.{added, Tree}
 use Rattle.leaf_engine.specs.Guests.{WordGuest, guest_after}
 use Rattle.leaf_engine.specs.Besides.{Beside, beside_of, beside_after, bundles_made}
 use Rattle.leaf_engine.specs.Turns.{Standing, last_reply}
@@ -32,12 +30,13 @@ use Rattle.lock_words.specs.LockWords.{HeldStand}
 use Rattle.merge_laws.proofs.Holding.{locks_at}
 use Rattle.merge_laws.proofs.Staying.{GuestStays}
 use Rattle.merge_laws.proofs.GuestsStay.{in-guest-stays}
+use Rattle.merge_laws.proofs.Leaving.{beside-bundles}
 use Rattle.merge_laws.proofs.InStep.{in-step-here, in-step-leads}
 use Rattle.merge_laws.proofs.LineStands.{turned-beside, after-no-run, in-hand-after, turned-stands}
 use Rattle.merge_laws.proofs.Standing.{Trees, leaf_for, table_for, AreTrees, Known, Does, task_for, RunsAt, RunAt, StandsAt, call_does, IsDoes, DoesHere, with_hasher, IsAct, Leads}
 
 -- its record after an event of its call
-pub lp-of-event : (o : Opening) (s : State) (p : ℕ) (row : Row) (mv : Move Reply) → next_event o s p ≡ Some (OfCall row mv)
+lp-of-event : (o : Opening) (s : State) (p : ℕ) (row : Row) (mv : Move Reply) → next_event o s p ≡ Some (OfCall row mv)
     → (event o s p).lps p ≡ settled (call_lp s.world (is_granted s (OfCall row mv)) row mv (s.lps p))
 lp-of-event o s p row mv e = ap (λ (z : State). z.lps p) (event-is o s p row mv e) ∙ lp-now s p _
 
@@ -62,16 +61,6 @@ act-locks o s p row mv e none a = ap locks_at (lp-of-event o s p row mv e) ∙ b
     by (Undoes l) a = absurd a
     by (Releases h) a = absurd a
     by Rests a = absurd a
-
--- the bundles that a turn makes
-made-beside : (e : RunEvent) (t : Tree) (b : Beside) → (beside_after e t b).bundles ≡ added b.bundles (bundles_made e t)
-made-beside events.Act t b = refl
-made-beside (events.Try name mode granted) t b = refl
-made-beside (events.Undo name) t b = refl
-made-beside (events.Free name) t b = refl
-made-beside (events.Walk level) t b = refl
-made-beside (events.Word at) t b = refl
-made-beside (events.Count parity) t b = refl
 
 -- a call
 
@@ -132,7 +121,7 @@ module _ (o : Opening) (trees : Trees) (s : State) (p : ℕ) (c : Call) (cs : Li
     after_grows = λ u run' h e la. record {
       more = bundles_made e run'.rest;
       all = (after-of u run' h e la).bundles;
-      own = ap (λ (z : Beside). z.bundles) (turned-beside c cs (guest_after e run'.rest None) rs (beside_after e run'.rest b) run' (last_reply run'.stage run'.held)) ∙ made-beside e run'.rest b;
+      own = ap (λ (z : Beside). z.bundles) (turned-beside c cs (guest_after e run'.rest None) rs (beside_after e run'.rest b) run' (last_reply run'.stage run'.held)) ∙ beside-bundles e run'.rest b;
     };
     after_run = λ e run' h f. in-hand-after c cs (guest_after e run'.rest None) rs (beside_after e run'.rest b) run' (last_reply run'.stage run'.held) h (after-no-run e run'.rest None refl) f;
     locks_stay = λ mv act next. act-locks o s p row mv next.next guest act;
