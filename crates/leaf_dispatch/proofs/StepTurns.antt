@@ -75,10 +75,10 @@ cached-stays t line o r ts = refl
 
 -- how many events a guest can still make, by what is due
 
-abbrev left_by : Option Outcome → ℕ → Step → Option Standing → ℕ
+abbrev pub left_by : Option Outcome → ℕ → Step → Option Standing → ℕ
 left_by l n s run = unless_leaving l (operation_events * n - step_used s run)
 
-left-is : (codes : ℕ → ℕ → List GuestOp) (ts : List Translation) (g : WordGuest) (s : Step) → g.leaving ≡ None → step_of codes ts g ≡ s → guest_left codes ts g ≡ left_by None (g.most - g.completed) s g.run
+pub left-is : (codes : ℕ → ℕ → List GuestOp) (ts : List Translation) (g : WordGuest) (s : Step) → g.leaving ≡ None → step_of codes ts g ≡ s → guest_left codes ts g ≡ left_by None (g.most - g.completed) s g.run
 left-is codes ts g s stays is = ap (λ (l : Option Outcome). left_by l (g.most - g.completed) (step_of codes ts g) g.run) stays ∙ ap (λ (x : Step). left_by None (g.most - g.completed) x g.run) is
 
 -- a step that goes on
@@ -87,7 +87,7 @@ pub goes-lower : (codes : ℕ → ℕ → List GuestOp) (ts ts' : List Translati
 goes-lower codes ts ts' g o s' stays more is is' used few = rw (left-is codes ts g (Operates o) stays is, left-is codes ts' (record g { run = Some s' }) (Operates o) stays is') (omega (arith, more, used, few))
 
 -- an operation that is completed, and a guest that is to be left
-few-left : (codes : ℕ → ℕ → List GuestOp) (ts : List Translation) (g : WordGuest) → guest_left codes ts g ≤ operation_events * (g.most - g.completed)
+pub few-left : (codes : ℕ → ℕ → List GuestOp) (ts : List Translation) (g : WordGuest) → guest_left codes ts g ≤ operation_events * (g.most - g.completed)
 few-left codes ts g = by-leaving g.leaving
   where
     by-leaving : (l : Option Outcome) → left_by l (g.most - g.completed) (step_of codes ts g) g.run ≤ operation_events * (g.most - g.completed)
