@@ -74,13 +74,13 @@ module _ (codes : ℕ → ℕ → List GuestOp) (ts : List Translation) (g : Wor
 
 -- the reply of a run that has ended
 
-answered-by : (s : Stage) (held : List HeldLock) (r : Reply) → last_reply s held ≡ Some r → s ≡ stages.Answered r
+pub answered-by : (s : Stage) (held : List HeldLock) (r : Reply) → last_reply s held ≡ Some r → s ≡ stages.Answered r
 answered-by (stages.Answered x) [] r e = (let same : x ≡ r = cc in ap stages.Answered same)
 answered-by (stages.Answered x) (h ∷ hs) r e = cc
 answered-by stages.Trying held r e = cc
 answered-by (stages.Undoing name at) held r e = cc
 
-outcome-of : (o : GuestOp) (r : Reply) → (step_fits (Operates o) r || is_busy r) ≡ true → is_outcome r ≡ true
+pub outcome-of : (o : GuestOp) (r : Reply) → (step_fits (Operates o) r || is_busy r) ≡ true → is_outcome r ≡ true
 outcome-of o (Done v) h = refl
 outcome-of o (Exited x) h = refl
 outcome-of o (Refused (OperandBusy n)) h = refl

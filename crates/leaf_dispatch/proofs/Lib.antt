@@ -9,3 +9,7 @@ pub mod Stepping
 pub mod Walking
 pub mod StepBounds
 pub mod Fewer
+pub mod Replying
+pub mod Rooming
+pub mod Exiting
+pub mod Summing

@@ -1,7 +1,5 @@
 -- What contracts see of the guest that a logical processor is in, and of its next step.
-use Rattle.std.specs.Prelude.{◌≡◌, ℕ, ◌<◌, ◌≤◌, Bool, true, false, not, Option, Some, None, option_map, List, [], ◌∷◌, slice_get, length}
-use Rattle.td_words.specs.declared.calls.GuestOp.{GuestOp}
-use Rattle.td_words.specs.declared.names.Access.{Access}
+use Rattle.std.specs.Prelude.{◌≡◌, ℕ, ◌<◌, ◌≤◌, Bool, true, Option, Some, None, option_map, List, [], ◌∷◌, slice_get, length}
 use Rattle.td_words.specs.declared.replies.Outcome.{Outcome}
 use Rattle.td_words.specs.declared.replies.Reply.{Reply}
 use Rattle.td_words.specs.declared.replies.Reply.TheVariants.{Done, Refused}
@@ -95,3 +93,8 @@ notes_in (Some n) = note_seen n ∷ []
 abbrev pub words_in : Option ℕ → List ℕ
 words_in None = []
 words_in (Some x) = x ∷ []
+
+-- the guest after a turn of its step: as it was, or what its reply makes of it
+abbrev pub IsNextGuest : GuestAt → Step → Option Reply → Option GuestAt → Type 0
+IsNextGuest g s None h = h ≡ Some g
+IsNextGuest g s (Some r) h = IsStepped g s r h

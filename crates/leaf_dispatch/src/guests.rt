@@ -70,6 +70,7 @@ pub fn next_step(guest: &GuestAt<'_>, cached: &Tlb) -> Step
     requires low { IsLow guest.now.walk }
     requires limits { All IsOperation guest.now.list.now }
     ensures step { (run : Option Standing) → step_seen result ≡ next_in cached.now guest.now run }
+    ensures counts { CanCount guest.now (step_seen result) }
     ensures inside { IsStepOf (step_seen result) }
 {
     match guest.leaving {
@@ -83,6 +84,7 @@ fn next_due(guest: &GuestAt<'_>, cached: &Tlb) -> Step
     requires low { IsLow guest.now.walk }
     requires limits { All IsOperation guest.now.list.now }
     ensures step { (run : Option Standing) → step_seen result ≡ due_in cached.now guest.now run }
+    ensures counts { CanCount guest.now (step_seen result) }
     ensures inside { IsStepOf (step_seen result) }
 {
     match guest.list.get(guest.position as usize) {
@@ -99,8 +101,10 @@ fn next_due(guest: &GuestAt<'_>, cached: &Tlb) -> Step
 
 fn next_operation(guest: &GuestAt<'_>, cached: &Tlb, operation: GuestOp) -> Step
     requires low { IsLow guest.now.walk }
+    requires counted { (guest.now.completed < guest.now.most) × (guest.now.position < length guest.now.list.now) }
     requires inside { IsOperation operation }
     ensures step { (run : Option Standing) → step_seen result ≡ operation_step cached.now (guest_seen guest.now run) operation }
+    ensures counts { CanCount guest.now (step_seen result) }
     ensures inside { IsStepOf (step_seen result) }
 {
     match operation {
@@ -117,8 +121,10 @@ fn next_operation(guest: &GuestAt<'_>, cached: &Tlb, operation: GuestOp) -> Step
 // An access to a private GPA goes by a cached translation, or walks until there is one.
 fn next_private(guest: &GuestAt<'_>, cached: &Tlb, access: Access, register: u8, gpa: u64) -> Step
     requires low { IsLow guest.now.walk }
+    requires counted { (guest.now.completed < guest.now.most) × (guest.now.position < length guest.now.list.now) }
     requires inside { (register < 8) × (is_private gpa ≡ true) }
     ensures step { (run : Option Standing) → step_seen result ≡ private_step (guest_seen guest.now run) access register gpa (look_up cached.now guest.now.tdr (page_of_gpa gpa) access) }
+    ensures counts { CanCount guest.now (step_seen result) }
     ensures inside { IsStepOf (step_seen result) }
 {
     match cached.look_up(guest.tdr, gpa, access) {

@@ -1,0 +1,52 @@
+-- The replies of a guest's step are those that it may have.
+use Rattle.std.proofs.Common.{◌≡◌, ◌∙◌, ℕ, true, List, Option, Some, None, IfSome, refl, ap, sym, subst}
+use Rattle.td_words.specs.declared.machines.Machine.{Machine}
+use Rattle.td_words.specs.declared.names.Access.{Access}
+use Rattle.td_words.specs.declared.replies.Value.TheVariants as value
+use Rattle.td_words.specs.declared.replies.Reply.{Reply}
+use Rattle.td_words.specs.declared.replies.Reply.TheVariants.{Done}
+use Rattle.step_core.specs.declared.items.Taken.{Taken}
+use Rattle.leaf_engine.specs.declared.needs.Place.{Place}
+use Rattle.leaf_engine.specs.declared.events.Stage.{Stage}
+use Rattle.leaf_engine.specs.declared.events.Stage.TheVariants as stages
+use Rattle.leaf_engine.specs.Guests.{Step, Operates, Accesses, Loads, Leaves}
+use Rattle.leaf_engine.specs.OwnLists.{running}
+use Rattle.leaf_engine.specs.Turns.{Standing}
+use Rattle.leaf_dispatch.specs.Answers.{Ends, step_fits, step_tries, step_ends, FitsStage}
+use Rattle.leaf_dispatch.specs.Guests.{IsNumber, IsReplyOf}
+use Rattle.leaf_dispatch.specs.Running.{run_seen, LeafTurned}
+use Rattle.leaf_dispatch.specs.Table.{step_task}
+use Rattle.leaf_dispatch.specs.declared.running.Running.{Running}
+use Rattle.leaf_dispatch.specs.declared.running.LeafTurn.{LeafTurn}
+use Rattle.leaf_dispatch.proofs.Turning.{line-gives}
+use Rattle.leaf_dispatch.proofs.Fewer.{answered-by, outcome-of}
+
+module _ {B : Type 0} (did : List Taken → B → Type 0) (bench : B) (m : Machine) (kept : Option Running) (result : LeafTurn) where
+  pub act-fits : (e : Ends) (s : Standing) → LeafTurned did m e s bench kept result → (act : Option Reply) → result.act ≡ act → IfSome act (λ r. e.fits r ≡ true)
+  act-fits e s t None is = tt
+  act-fits e s t (Some r) is = ((line-gives did bench m e s kept result t).act r (sym t.act_is ∙ is)).fits
+
+  number-of : (access : Access) (gpa level page : ℕ) (r : Reply) → step_fits (Loads access gpa level page) r ≡ true → IsNumber r
+  number-of access gpa level page (Done (value.Number x)) h = tt
+  number-of access gpa level page _ h = cc
+
+  pub reply-fits : (t n : ℕ) (s : Step) (run : Standing) → LeafTurned did m (step_ends t n s) run bench kept result → (step_tries s ≡ 0 → run.stage ≡ stages.Trying) → (reply : Option Reply) → result.reply ≡ reply → IfSome reply (λ r. IsReplyOf s r)
+  reply-fits t n s run turned first None is = tt
+  reply-fits t n (Operates o) run turned first (Some r) is =
+      let gives = line-gives did bench m (step_ends t n (Operates o)) run kept result turned in
+      let on = answered-by turned.stands.stage turned.stands.held r (sym turned.turned.2.reply ∙ is) in
+      outcome-of o r (subst (λ (x : Stage). FitsStage (step_ends t n (Operates o)) x) on gives.fits)
+  reply-fits t n (Accesses access r gpa page) run turned first (Some x) is = tt
+  reply-fits t n (Leaves out) run turned first (Some x) is = tt
+  reply-fits t n (Loads access gpa level page) run turned first (Some r) is =
+      let gives = line-gives did bench m (step_ends t n (Loads access gpa level page)) run kept result turned in
+      let x = gives.once refl (first refl) in
+      let same : x.0 ≡ r = some-same (sym x.2 ∙ (sym turned.turned.2.reply ∙ is)) in
+      subst IsNumber same (number-of access gpa level page x.0 (gives.act x.0 x.1).fits)
+    where
+      some-same : {a b : Reply} → Some a ≡ Some b → a ≡ b
+      some-same e = cc
+
+-- a run that hasn't begun is on its way
+pub first-trying : (p : Place) (t v n : ℕ) (s : Step) (kept : Option Running) → (step_tries s ≡ 0 → kept ≡ None) → step_tries s ≡ 0 → (running (step_task p t v n s) (run_seen kept)).stage ≡ stages.Trying
+first-trying p t v n s kept h none = ap (λ (k : Option Running). (running (step_task p t v n s) (run_seen k)).stage) (h none)
