@@ -1,8 +1,8 @@
-"""What a run of many scripts is to reach: every refusal of every call that is built, every reason of a
-script's fault, and every status of the program that its words and its script decide."""
+"""What a run of many scripts is to reach: every refusal of every call that is built, every exit, all that
+can come of each guest operation, every reason of a script's fault, and every status of the program that its
+words and its script decide."""
 
-from rows import ARGUMENTS
-from scripts import REASONS
+from scripts import BUILT, REASONS, UNBUILT
 
 TD = "PAGE_METADATA_INCORRECT 1"
 SECOND = "PAGE_METADATA_INCORRECT 2"
@@ -17,9 +17,16 @@ INITIALIZED = "OP_STATE_INCORRECT INITIALIZED"
 RUNNABLE = "OP_STATE_INCORRECT RUNNABLE"
 WALKS = ("EPT_WALK_FAILED 3", "EPT_WALK_FAILED 2", "EPT_WALK_FAILED 1")
 HEAD = (TD, ASSIGNED, BLOCKED, TEARDOWN, "TDCX_NUM_INCORRECT 0", "TDCX_NUM_INCORRECT 1")
+EARLY = (*HEAD, UNINITIALIZED, INITIALIZED)
+
+
+def states(*names):
+    """The refusals of an entry in one of these states."""
+    return tuple(f"EPT_ENTRY_STATE_INCORRECT {name}" for name in names)
+
 
 # By call, and by field for MNG.RD: which of its tries can be denied, and its other refusals. Where O is
-# held exclusively T can't be busy, and nobody holds E alone.
+# held exclusively T can't be busy. A TD that runs has no VCPU in CREATED, since nothing is imported.
 REFUSALS = {
     "HOST.READ": ((1,), ()),
     "HOST.WRITE": ((1,), ("NOT_HOST",)),
@@ -32,15 +39,15 @@ REFUSALS = {
     "MNG.INIT": ((1, 2), (*HEAD, INITIALIZED, RUNNABLE)),
     "MNG.RD LIFE": ((1,), (TD,)),
     "MNG.RD OP": ((1, 2), HEAD),
-    "MNG.RD EPOCH": ((1, 2), (*HEAD, UNINITIALIZED)),
+    "MNG.RD EPOCH": ((1, 2, 3), (*HEAD, UNINITIALIZED)),
     "MNG.RD MRTD": ((1, 2), (*HEAD, UNINITIALIZED, INITIALIZED)),
     "MR.EXTEND": ((1, 2, 4), (*HEAD, UNINITIALIZED, RUNNABLE, *WALKS, "EPT_ENTRY_STATE_INCORRECT FREE")),
     "MR.FINALIZE": ((1, 2), (*HEAD, UNINITIALIZED, RUNNABLE, "VCPU_STATE_INCORRECT CREATED")),
-    "MNG.VPFLUSHDONE": ((1, 2), (TD, BLOCKED, TEARDOWN)),
+    "MNG.VPFLUSHDONE": ((1, 2), (TD, BLOCKED, TEARDOWN, "FLUSHVP_NOT_DONE")),
     "MNG.KEY.FREEID": ((1, 2), (TD, ASSIGNED, CONFIGURED, TEARDOWN, "CACHE_WB_NOT_DONE")),
     "VP.CREATE": ((1, 2, 3), (*HEAD, UNINITIALIZED, RUNNABLE, SECOND, "LIMIT VCPUS")),
     "VP.INIT": ((1, 2, 3), (*HEAD, UNINITIALIZED, RUNNABLE, SECOND, "VCPU_STATE_INCORRECT READY")),
-    "MEM.SEPT.ADD": ((1, 2, 3, 4), (*HEAD, UNINITIALIZED, *WALKS[:2], FOURTH, "EPT_ENTRY_STATE_INCORRECT NL_MAPPED")),
+    "MEM.SEPT.ADD": ((1, 2, 3, 4), (*HEAD, UNINITIALIZED, *WALKS[:2], FOURTH, *states("NL_MAPPED", "NL_BLOCKED"))),
     "MEM.SEPT.RD": ((1, 2, 3), (*HEAD, UNINITIALIZED, *WALKS)),
     "MEM.PAGE.ADD": (
         (1, 2, 4, 5),
@@ -48,22 +55,101 @@ REFUSALS = {
     ),
     "MEM.PAGE.AUG": (
         (1, 2, 3, 4),
-        (*HEAD, UNINITIALIZED, INITIALIZED, *WALKS, THIRD, "EPT_ENTRY_STATE_INCORRECT MAPPED",
-         "EPT_ENTRY_STATE_INCORRECT PENDING"),
+        (*EARLY, *WALKS, THIRD, *states("MAPPED", "PENDING", "BLOCKED", "PENDING_BLOCKED")),
     ),
+    "VP.ENTER": (
+        (1, 2, 3, 4),
+        (*EARLY, SECOND, "VCPU_ASSOCIATED", "EXIT STOP", "EXIT MAX", "EXIT VMCALL", "EXIT EPT_VIOLATION READ",
+         "EXIT EPT_VIOLATION WRITE", "EXIT BUSY P", "EXIT BUSY T", "EXIT BUSY R"),
+    ),
+    "VP.FLUSH": (
+        (1, 2), (TD, ASSIGNED, BLOCKED, TEARDOWN, SECOND, "VCPU_NOT_ASSOCIATED", "VCPU_ASSOCIATED")
+    ),
+    "MEM.SEPT.REMOVE": (
+        (1, 2, 3, 4, 5),
+        (*EARLY, *WALKS[:2], *states("FREE", "NL_MAPPED"), "SEPT_NOT_EMPTY", "TLB_TRACKING_NOT_DONE"),
+    ),
+    "MEM.PAGE.REMOVE": (
+        (1, 2, 3, 4, 5), (*EARLY, *WALKS, *states("FREE", "MAPPED", "PENDING"), "TLB_TRACKING_NOT_DONE")
+    ),
+    "MEM.RANGE.BLOCK": (
+        (1, 2, 3, 4, 5), (*EARLY, *WALKS, *states("FREE", "BLOCKED", "PENDING_BLOCKED", "NL_BLOCKED"))
+    ),
+    "MEM.RANGE.UNBLOCK": (
+        (1, 2, 3, 4, 5),
+        (*EARLY, *WALKS, *states("FREE", "MAPPED", "PENDING", "NL_MAPPED"), "TLB_TRACKING_NOT_DONE"),
+    ),
+    "MEM.TRACK": ((1, 2, 3), (*EARLY, "PREVIOUS_TLB_EPOCH_BUSY")),
 }
-SHOWN_WITHOUT_NUMBER = ("SUCCESS", "PAGES_EXIST")
+SHOWN_WITHOUT_NUMBER = (
+    "SUCCESS", "PAGES_EXIST", "FLUSHVP_NOT_DONE", "VCPU_ASSOCIATED", "PREVIOUS_TLB_EPOCH_BUSY", "SEPT_NOT_EMPTY",
+)
+
+# What can come of each guest operation. A private access is decided by a cached translation or by a walk.
+ALLOWED = ("completed by a walk", "completed by a translation", "completed by a walk that drops the oldest translation")
+VIOLATIONS = tuple(
+    f"EPT_VIOLATION at {place}" for place in ("level 3", "level 2", "level 1", "FREE", "PENDING")
+)
+SHARED = ("completed", "BUSY P", *(f"EPT_VIOLATION at {place}" for place in ("no page", "its own TDVPR page", "a page of a TD")))
+OPERATIONS = {
+    "set": ("completed",),
+    "secret": ("completed",),
+    "add": ("completed",),
+    "load private": (*ALLOWED, *VIOLATIONS),
+    "store private": (*ALLOWED, *VIOLATIONS),
+    "load shared": SHARED,
+    "store shared": SHARED,
+    "accept": (
+        "completed at PENDING", "completed at MAPPED", "EPT_VIOLATION at no entry", "EPT_VIOLATION at FREE", "BUSY T",
+        "BUSY P",
+    ),
+    "rtmr": ("completed", "BUSY R"),
+    "vmcall": ("VMCALL",),
+}
+# What a guest meets only where these calls are built.
+BLOCKING = {
+    "load private": ("completed by a translation of a blocked entry", "EPT_VIOLATION at BLOCKED",
+                     "EPT_VIOLATION at PENDING_BLOCKED"),
+    "store private": ("completed by a translation of a blocked entry", "EPT_VIOLATION at BLOCKED",
+                      "EPT_VIOLATION at PENDING_BLOCKED"),
+    "accept": ("EPT_VIOLATION at BLOCKED", "EPT_VIOLATION at PENDING_BLOCKED"),
+}
+# What comes by calls and operations that may not be built yet.
+COMES_BY = {
+    "MNG.RD EPOCH: OPERAND_BUSY at try 3": "MEM.TRACK",
+    "VP.ENTER: OPERAND_BUSY at try 4": "MEM.TRACK",
+    "MNG.VPFLUSHDONE: FLUSHVP_NOT_DONE": "VP.ENTER",
+    "MEM.SEPT.ADD: EPT_ENTRY_STATE_INCORRECT NL_BLOCKED": "MEM.RANGE.BLOCK",
+    "MEM.PAGE.AUG: EPT_ENTRY_STATE_INCORRECT BLOCKED": "MEM.RANGE.BLOCK",
+    "MEM.PAGE.AUG: EPT_ENTRY_STATE_INCORRECT PENDING_BLOCKED": "MEM.RANGE.BLOCK",
+    "VP.ENTER: EXIT BUSY T": "accept",
+    "VP.ENTER: EXIT BUSY R": "rtmr",
+}
+# Calls whose success is told by their exit.
+ENTERS = ("VP.ENTER",)
+
+
+def has(outcomes):
+    """What can come of the operations that the program has."""
+    return [(name, came) for name, came in outcomes.items() if name.split()[0] not in UNBUILT]
 
 
 def wanted():
     """All that is to be reached."""
     names = set()
     for call, (tries, refusals) in REFUSALS.items():
-        kinds = ARGUMENTS[call.split()[0]]
+        if call.split()[0] in UNBUILT:
+            continue
+        kinds = BUILT[call.split()[0]]
         places = [place for place, kind in enumerate(kinds, 1) if kind not in ("value", "field")]
         names.update(f"{call}: OPERAND_INVALID {place}" for place in places)
         names.update(f"{call}: OPERAND_BUSY at try {place}" for place in tries)
-        names.update(f"{call}: {refusal}" for refusal in (*refusals, "SUCCESS"))
+        names.update(f"{call}: {refusal}" for refusal in (*refusals, *("SUCCESS",) * (call not in ENTERS)))
+    if "VP.ENTER" in BUILT:
+        names.update(f"{name}: {came}" for name, all_came in has(OPERATIONS) for came in all_came)
+    if "MEM.RANGE.BLOCK" in BUILT and "VP.ENTER" in BUILT:
+        names.update(f"{name}: {came}" for name, all_came in has(BLOCKING) for came in all_came)
+    names -= {name for name, call in COMES_BY.items() if call in UNBUILT}
     names.update(f"reason {reason}" for reason in REASONS)
     return names | {f"status {status}" for status in range(4)}
 
@@ -75,19 +161,23 @@ def of_reply(name, arguments, reply, locks):
     if status == "OPERAND_BUSY":
         return f"{call}: OPERAND_BUSY at try {locks + 1}"
     if status == "PAGE_METADATA_INCORRECT":
-        pages = zip(ARGUMENTS[name], arguments)
+        pages = zip(BUILT[name], arguments)
         place = [kind == "page" and f"{page}" == shown[0] for kind, page in pages].index(True) + 1
         return f"{call}: {status} {place}"
+    if status == "EXIT":
+        return f"{call}: EXIT {' '.join(word for word in shown if word.isalpha() or '_' in word)}"
     if status in SHOWN_WITHOUT_NUMBER:
         return f"{call}: {status}"
     return f"{call}: {reply}"
 
 
 def of_answer(status, text, processors):
-    """All that a command line has reached: its status, its fault's reason, and each call's reply."""
+    """All that a command line has reached: its status, its fault's reason, each call's reply, and what came
+    of each guest operation."""
     yield f"status {status}"
     if status == 2:
         yield f"reason {text.split()[-1]}"
     for processor in processors:
+        yield from processor.met
         for (name, arguments), (reply, locks) in zip(processor.calls, processor.replies):
             yield of_reply(name, arguments, reply, locks)

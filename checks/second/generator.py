@@ -1,16 +1,21 @@
 """Random machines, scripts and schedules. A case is what its seed and its place say, and nothing else.
 
 A *story* tells lives of TDs, with other calls between them. A *race* has a TD somewhere in its life, and
-processors that call for the same pages and locks at once. A *noise* has calls without any order. Faulty
-scripts are one of these with bad lines put in. Last there are scripts at a limit of the grammar, and
-command lines that name no script. What comes rarely by chance, as a race for one call, comes in turn.
+processors that call for the same pages and locks at once. A *crowd* has a TD that runs, processors that enter
+its VCPUs, and others that give it pages, block, track and remove them meanwhile. A *noise* has calls without
+any order. Faulty scripts are one of these with bad lines put in. Last there are scripts at a limit of the
+grammar, and command lines that name no script. What comes rarely by chance, as a race for one call, comes in
+turn. Calls and operations that the program doesn't have stand in UNBUILT, and come in faulty scripts alone.
 """
 
 import random
 
+from machine import Outside
 from program import processors_of
-from rows import ARGUMENTS, FIELDS, GPA_END, PAGE_BYTES, alignment
-from scripts import CALLS_OF_A_PROCESSOR, ITEMS, SCRIPT_END, UNBUILT, read
+from rows import FIELDS, GPA_END, PAGE_BYTES, alignment
+from scripts import (
+    BUILT, CALLS_OF_A_PROCESSOR, ITEMS, OPERATIONS_OF_A_LIST, SCRIPT_END, UNBUILT, read,
+)
 
 SIZES = (8, 12, 16, 24, 40, 40, 1024)
 ROOMY = (24, 40, 1024)
@@ -20,34 +25,63 @@ LEVEL_BYTES = [PAGE_BYTES << 9 * level for level in range(4)]
 LEADING = ("MR.FINALIZE", "MNG.VPFLUSHDONE")
 
 # Calls whose last conditions are met only where a TD's tree stands.
-DEEP = ("MR.EXTEND", "MEM.SEPT.ADD", "MEM.SEPT.RD", "MEM.PAGE.ADD", "MEM.PAGE.AUG")
+DEEP = (
+    "MR.EXTEND", "MEM.SEPT.ADD", "MEM.SEPT.RD", "MEM.PAGE.ADD", "MEM.PAGE.AUG", "VP.ENTER", "VP.FLUSH",
+    "MEM.SEPT.REMOVE", "MEM.PAGE.REMOVE", "MEM.RANGE.BLOCK", "MEM.RANGE.UNBLOCK",
+)
+
+# Calls on a VCPU of a TD, which is their second argument.
+OF_A_VCPU = ("VP.INIT", "VP.ENTER", "VP.FLUSH")
+
+# Calls that are refused twice in a row; what went before them makes them succeed again.
+IN_ROUNDS = ("MEM.SEPT.REMOVE", "MEM.PAGE.REMOVE", "MEM.RANGE.UNBLOCK")
+
+# How many VCPUs and private pages a TD may have: one in passing, and one whose VCPUs run beside one another.
+# Each processor caches 16 translations.
+FEW, CROWDED = ((0, 1, 2, 8), (1, 2, 2)), ((2, 2, 3, 8), (2, 2, 18))
 
 
 class Life:
     """The pages and addresses of a TD, and the calls from its first page to the return of its last."""
 
-    def __init__(self, chance, pages, hkid):
+    def __init__(self, chance, pages, hkid, sizes=FEW):
         """Takes its pages from the end of that list."""
         self.hkid, self.td = hkid, pages.pop()
         self.control = [pages.pop(), pages.pop()]
-        self.vcpus = [pages.pop() for _ in range(min(chance.choice((0, 1, 2, 8)), len(pages) // 2))]
+        self.vcpus = [pages.pop() for _ in range(min(chance.choice(sizes[0]), len(pages) // 2))]
         self.tables = [pages.pop() for _ in range(min(3, len(pages) // 2))]
-        self.private = [pages.pop() for _ in range(min(chance.choice((1, 2, 2)), max(0, len(pages) - 1)))]
+        self.private = [pages.pop() for _ in range(min(chance.choice(sizes[1]), max(0, len(pages) - 4)))]
         self.waiting = [pages.pop() for _ in range(min(chance.choice((1, 1, 2)), max(0, len(pages) - 1)))]
-        self.gpa = chance.choice((0, 511, 513, 1 << 18, 3 << 34)) * PAGE_BYTES
+        self.spare = [pages.pop() for _ in range(len(pages) > 1)]  # of a table that comes and goes
+        self.gpa = chance.choice((0, 511, 513, 1 << 18, 3 << 33)) * PAGE_BYTES
         if len(self.tables) < 3:
             self.private = self.waiting = []
+        self.first_waiting = max(0, len(self.private) - (chance.choice((0, 0, 1)) if self.waiting else 0))
 
     def owned(self):
         """The pages of the TD, without its TDR."""
-        return self.control + self.vcpus + self.tables + self.private + self.waiting
+        return self.control + self.vcpus + self.tables + self.private + self.waiting + self.spare
+
+    def gpas(self):
+        """The addresses of its private pages."""
+        count = max(len(self.private), self.first_waiting + len(self.waiting))
+        return [self.gpa + place * PAGE_BYTES for place in range(count)]
+
+    def page_at(self, gpa):
+        """The page that its life puts at that address."""
+        place = (gpa - self.gpa) // PAGE_BYTES
+        return [*self.private[: self.first_waiting], *self.waiting, *self.private][place]
 
     def pages_of(self, call):
         """The pages beside its TDR whose locks that call of its life tries."""
         name, *words = call.split()
-        if name == "MR.EXTEND":
-            return [self.private[(int(words[1]) - self.gpa) // PAGE_BYTES]]
-        return [int(word) for kind, word in zip(ARGUMENTS[name], words) if kind == "page"][1:]
+        pages = [int(word) for kind, word in zip(BUILT[name], words) if kind == "page"][1:]
+        if pages or BUILT[name][1:2] != ("gpa",):
+            return pages
+        gpa, level = int(words[1], 0), int(words[2]) if "level" in BUILT[name][-1] else 0
+        if level == 0:
+            return [self.page_at(gpa - gpa % PAGE_BYTES)]
+        return self.spare if gpa > self.gpa else [self.tables[3 - level]]
 
     def build(self, chance, source):
         """The calls that build the TD, with private pages from that source page, and give it further ones."""
@@ -65,8 +99,49 @@ class Life:
             chunks = [gpa + 256 * chance.choice((0, 0, 1, 15)) for _ in range(chance.randrange(3))]
             tree += [f"MR.EXTEND {self.td} {chunk}" for chunk in chunks]
         more = [f"MEM.PAGE.AUG {self.td} {self.gpa + place * PAGE_BYTES} {page}"
-                for place, page in enumerate(self.waiting, len(self.private) - chance.choice((0, 0, 1)))]
+                for place, page in enumerate(self.waiting, self.first_waiting)]
         return calls + riffle(chance, inner, tree) + [f"MR.FINALIZE {self.td}", *more]
+
+    def entries(self, chance):
+        """Entries of its VCPUs, with few operations or with many."""
+        vcpus = [chance.choice(self.vcpus) for _ in range(chance.randint(1, 3)) if self.vcpus]
+        return [f"VP.ENTER {self.td} {page} {chance.choice((1, 1, 2, 5, 300, 65_535))}" for page in vcpus]
+
+    def tracking(self, chance):
+        """A TD's epoch that advances, or doesn't."""
+        return [f"MEM.TRACK {self.td}"] * chance.choice((0, 1, 1, 1, 2))
+
+    def page_round(self, chance):
+        """A private page that is blocked, and unblocked or removed."""
+        if not self.gpas():
+            return []
+        gpa = chance.choice(self.gpas())
+        kept, gone = f"MEM.RANGE.UNBLOCK {self.td} {gpa} 0", f"MEM.PAGE.REMOVE {self.td} {gpa}"
+        later = chance.choice(([kept], [kept], [gone], [gone, f"MEM.PAGE.AUG {self.td} {gpa} {self.page_at(gpa)}"]))
+        return [f"MEM.RANGE.BLOCK {self.td} {gpa} 0", *self.tracking(chance), *later]
+
+    def table_round(self, chance):
+        """A page of its secure EPT that is blocked, and unblocked or removed, often one that was added
+        for that."""
+        level = chance.choice((1, 1, 2, 3))
+        gpa, added = self.gpa, []
+        if self.spare and chance.random() < 0.6:
+            level, gpa = 1, self.gpa + LEVEL_BYTES[1]
+            added = [f"MEM.SEPT.ADD {self.td} {gpa - gpa % LEVEL_BYTES[1]} 1 {self.spare[0]}"]
+        gpa -= gpa % LEVEL_BYTES[level]
+        later = chance.choice(("UNBLOCK", "REMOVE", "REMOVE")) if added else chance.choice(("UNBLOCK",) * 4 + ("REMOVE",))
+        calls = [f"MEM.RANGE.BLOCK {self.td} {gpa} {level}", *self.tracking(chance)]
+        name = "MEM.RANGE.UNBLOCK" if later == "UNBLOCK" else "MEM.SEPT.REMOVE"
+        again = [f"MEM.RANGE.UNBLOCK {self.td} {gpa} {level}"] * (not added)
+        return [*added, *calls, f"{name} {self.td} {gpa} {level}", *again]
+
+    def run(self, chance):
+        """Calls on the TD while it runs, of which the last let its VCPUs go."""
+        calls = []
+        for _ in range(chance.choice((0, 3, 6))):
+            calls += chance.choice((self.entries, self.entries, self.page_round, self.page_round, self.table_round))(chance)
+        calls += [f"VP.FLUSH {self.td} {page}" for page in self.vcpus + self.vcpus[:1]] if calls else []
+        return only_built(calls)
 
     def end(self, chance):
         """The calls that end the TD, and look at what its pages have become."""
@@ -77,6 +152,11 @@ class Life:
         calls += [f"MNG.VPFLUSHDONE {self.td}", "PHYMEM.CACHE.WB", f"MNG.KEY.FREEID {self.td}"]
         calls += [f"PHYMEM.PAGE.RECLAIM {self.td} {page}" for page in pages + [self.td]]
         return calls + [f"HOST.READ {page} {a_word(chance)}" for page in pages]
+
+
+def only_built(lines):
+    """Those calls and operations that the program has, with other lines of blocks."""
+    return [line for line in lines if line.split()[0] not in UNBUILT]
 
 
 def a_word(chance):
@@ -95,7 +175,7 @@ def riffle(chance, first, second):
 class Scene:
     """A machine's size, the lives on it, and pages that are left to the host."""
 
-    def __init__(self, chance, sizes):
+    def __init__(self, chance, sizes, life_sizes=FEW):
         self.chance = chance
         self.lps = chance.choice((1, 1, 2, 2, 3, 4, 8))
         self.size = chance.choice(sizes)
@@ -103,11 +183,12 @@ class Scene:
         pages = list(range(self.size))
         chance.shuffle(pages)
         pages = pages[:40]
-        self.lives = [Life(chance, pages, 1)]
+        self.lives = [Life(chance, pages, 1, life_sizes)]
         while len(pages) > 10 and chance.random() < 0.5:
             self.lives.append(Life(chance, pages, chance.randint(1, self.hkids)))
         self.host = pages or [self.size - 1]
-        self.names = [name for name in ARGUMENTS for _ in range(1 if name in LEADING else 10 if name in DEEP else 4)]
+        self.names = [name for name in BUILT for _ in range(1 if name in LEADING else 10 if name in DEEP else 4)]
+        self.code = code_blocks(chance, self)
 
     def page(self, life, place):
         """A page for the argument at that place of a call on that life."""
@@ -129,7 +210,7 @@ class Scene:
         """An argument of a call, in its range."""
         chance = self.chance
         if kind == "page":
-            if name == "VP.INIT" and place == 2 and life.vcpus and chance.random() < 0.6:
+            if name in OF_A_VCPU and place == 2 and life.vcpus and chance.random() < 0.7:
                 return chance.choice(life.vcpus)
             return self.page(life, place)
         if kind == "hkid":
@@ -140,12 +221,14 @@ class Scene:
             return chance.choice(FIELDS)
         if kind == "word":
             return a_word(chance)
+        if kind == "most":
+            return chance.choice((1, 2, 10, 65_535))
         ranges = {"level": range(4), "upper level": range(1, 4), "value": range(1 << 16)}
         return chance.choice(ranges[kind])
 
     def call(self, name, life, spoiled):
         """A call of that name on that life; where it is spoiled, an argument breaks a rule."""
-        kinds = ARGUMENTS[name]
+        kinds = BUILT[name]
         arguments = [self.argument(life, name, kind, place) for place, kind in enumerate(kinds, 1)]
         if "gpa" in kinds and self.chance.random() < 0.95:
             arguments[1] -= arguments[1] % alignment(name, kinds, arguments)
@@ -165,6 +248,7 @@ class Scene:
             "gpa": (GPA_END, GPA_END - PAGE_BYTES, 1, 255, 4095, PAGE_BYTES),
             "level": (3, 4),
             "upper level": (0, 4),
+            "most": (0, 65_536),
             "value": ((1 << 64) - 1,),
             "field": FIELDS,
         }
@@ -199,7 +283,7 @@ def story(chance, scene, _turn):
     the first time, so that a hasher is left behind."""
     calls = []
     for life in scene.lives:
-        whole = life.build(chance, scene.host[0]) + life.end(chance)
+        whole = life.build(chance, scene.host[0]) + life.run(chance) + life.end(chance)
         if chance.random() < 0.3:
             whole = [call for call in whole if not call.startswith("MR.FINALIZE")] + whole
         calls = riffle(chance, calls, whole) if chance.random() < 0.5 else calls + whole
@@ -211,14 +295,19 @@ def story(chance, scene, _turn):
 
 def holder(life, target):
     """A call that holds the lock which is meant alone, and after how many events: K, that of the op
-    state, of the tree, or of a page."""
-    calls = {"K": ("PHYMEM.CACHE.WB", 1), "O": (f"MNG.INIT {life.td}", 2), "T": (f"MEM.SEPT.RD {life.td} 0 3", 3)}
+    state, of the tree, of the epoch, or of a page."""
+    calls = {
+        "K": ("PHYMEM.CACHE.WB", 1),
+        "O": (f"MNG.INIT {life.td}", 2),
+        "T": (f"MEM.SEPT.RD {life.td} 0 3", 3),
+        "E": (f"MEM.TRACK {life.td}", 3),
+    }
     return calls.get(target, (f"MNG.CREATE {target} {life.hkid}", 1))
 
 
 def rival(chance, life, target):
     """A call that tries the lock which is meant."""
-    if target == "O":
+    if target == "O" or (target == "E" and chance.random() < 0.5):
         return f"MNG.RD {life.td} {chance.choice(FIELDS)}"
     if isinstance(target, str) or chance.random() < 0.5:
         return holder(life, target)[0]
@@ -229,18 +318,23 @@ def race(chance, scene, turn):
     """Processor 0 leads a TD to the call whose turn it is, and makes it and those after it again and
     again. The others try the locks of that call, most of them one and the same lock."""
     life = scene.lives[0]
-    whole = life.build(chance, scene.host[-1]) + life.end(chance)
-    names = [call.split()[0] for call in whole]
-    visit, due = divmod(turn, len(ARGUMENTS))
-    name = tuple(ARGUMENTS)[due]
+    visit, due = divmod(turn, len(BUILT))
+    name, names = tuple(BUILT)[due], []
+    for _ in range(20):
+        if name not in names:
+            whole = life.build(chance, scene.host[-1]) + life.run(chance) + life.end(chance)
+            names = [call.split()[0] for call in whole]
     if name not in names:
         name = chance.choice(names)
     at = chance.choice([place for place, call in enumerate(whole) if call.split()[0] == name])
-    targets = [*life.pages_of(whole[at]) * 2, "K", "O", "T", life.td]
+    targets = [*life.pages_of(whole[at]) * 2, "K", "O", "T", life.td, *["E"] * ("MEM.TRACK" in BUILT)]
     main = targets[visit % len(targets)]
     first, events = holder(life, main)
     scene.lps = chance.choice((2, 3, 3, 4, 8))
-    blocks = [whole[: at + 1] + [chance.choice((whole[at], *whole[at : at + 4])) for _ in range(24)]]
+    again = [chance.choice((whole[at], *whole[at : at + 4])) for _ in range(24)]
+    if name in IN_ROUNDS:
+        again = whole[at - 3 : at + 1] * 6
+    blocks = [whole[: at + 1] + again]
     for _ in range(scene.lps - 1):
         calls = [chance.choice((whole[at], scene.call(name, life, False))) for _ in range(chance.randrange(4))]
         rivals = [rival(chance, life, chance.choice((main, main, main, *targets))) for _ in range(24)]
@@ -252,12 +346,65 @@ def race(chance, scene, turn):
 def exact_events(scene, calls):
     """How many events these calls take on processor 0 alone."""
     lines = [f"machine 1 {scene.size} {scene.hkids}", "lp 0", *calls, "end"]
-    (processor,) = processors_of(read(text_of(lines)))
+    script = read(text_of(lines + [line for block in scene.code for line in block]))
+    (processor,) = processors_of(script, Outside(script.code))
     events = 0
     while not processor.has_ended():
         processor.event()
         events += 1
     return events
+
+
+def host_calls(chance, scene, life):
+    """What a host does beside a TD that runs."""
+    kind = chance.randrange(9)
+    if kind < 3:
+        return life.page_round(chance)
+    if kind == 3:
+        return life.table_round(chance)
+    if kind == 4 and life.gpas():
+        gpa = chance.choice(life.gpas())
+        return [f"MEM.PAGE.AUG {life.td} {gpa} {life.page_at(gpa)}", f"MEM.SEPT.RD {life.td} {gpa} 0"]
+    if kind == 5 and life.gpas():
+        return [f"HOST.READ {life.page_at(chance.choice(life.gpas()))} 0"]
+    if kind == 6:
+        page = scene.host[0]
+        return [f"HOST.READ {page} {a_word(chance)}", f"HOST.WRITE {page} 0 {chance.randrange(100)}"]
+    if kind == 7:
+        return [f"MNG.CREATE {scene.host[0]} {life.hkid}"] * 3  # they are refused, and have held the page
+    return [scene.any_call()]
+
+
+def guest_calls(chance, scene, life, own):
+    """What a processor does that runs a VCPU of its own, most of the time."""
+    most = chance.choice((1, 2, 3, 8, 40, 65_535))
+    kind = chance.randrange(20)
+    if kind == 0:
+        return [f"VP.FLUSH {life.td} {own}"]
+    if kind == 1:
+        return [scene.any_call()]
+    return [f"VP.ENTER {life.td} {own if kind > 3 else chance.choice(life.vcpus)} {most}"]
+
+
+def crowd(chance, scene, _turn):
+    """Processor 0 builds a TD and is its host then. The others enter its VCPUs, or are hosts too."""
+    life = scene.lives[0]
+    scene.lps = chance.choice((2, 3, 3, 4, 8))
+    build = life.build(chance, scene.host[-1])
+    blocks = [build[:]]
+    for lp in range(scene.lps):
+        calls = []
+        is_host = not life.vcpus or (lp != 1 and chance.random() < 0.4)
+        for _ in range(chance.randint(5, 20)):
+            if is_host or chance.random() < 0.1:
+                calls += host_calls(chance, scene, life)
+            else:
+                calls += guest_calls(chance, scene, life, life.vcpus[lp % len(life.vcpus)])
+        if lp == 0:
+            blocks[0] += only_built(calls)
+        else:
+            blocks.append(only_built(calls))
+    return blocks, [(0, exact_events(scene, build))] + bursts(chance, range(scene.lps), 300 * scene.lps)
 
 
 def noise(chance, scene, _turn):
@@ -292,8 +439,52 @@ def text_of(lines):
     return "".join(f"{line}\n" for line in lines).encode("latin-1")
 
 
+def operation(chance, scene, life, own, bad):
+    """A guest operation of the VCPU with that TDVPR page, on memory that the life's TD has, or has at times;
+    where it is bad, on other memory."""
+    place, register, other = 8 * chance.choice((0, 0, 1, 511)), chance.randrange(8), chance.randrange(8)
+    private = [gpa + place for gpa in life.gpas()] or [life.gpa + place]
+    shared = [GPA_END + scene.host[page] * PAGE_BYTES + place for page in (0, 0, 0, -1)]
+    if bad:
+        private = [life.gpa + beside for beside in (PAGE_BYTES * 20, *LEVEL_BYTES[1:], 64)]
+        pages = [own, chance.choice(life.owned()), scene.size]
+        shared = [GPA_END + page * PAGE_BYTES + place for page in pages] + [2 * GPA_END - 8]
+    gpa = chance.choice(private) % GPA_END
+    kinds = ("load", "store", "load shared", "store shared", "accept")
+    kind = chance.choice((*kinds, *kinds[2:4]) if bad else ("set", "add", "rtmr", "vmcall", "load", *kinds))
+    if kind == "accept" and not bad and life.waiting and chance.random() < 0.8:
+        gpa = life.gpa + PAGE_BYTES * (life.first_waiting + chance.randrange(len(life.waiting)))
+    makes = {
+        "set": f"set {register} {scene.written(chance.choice((0, 1, chance.getrandbits(64))))}",
+        "add": f"add {register} {other}",
+        "accept": f"accept {scene.written(gpa - gpa % PAGE_BYTES)}",
+        "rtmr": f"rtmr {chance.randrange(4)}",
+        "vmcall": f"vmcall {register}",
+    }
+    if kind == "set" and "secret" not in UNBUILT and chance.random() < 0.5:
+        return f"secret {register} {chance.randrange(512)}"
+    where = chance.choice(shared) if kind.endswith(" shared") else gpa
+    return makes.get(kind, f"{kind.split()[0]} {register} {scene.written(where)}")
+
+
+def list_of(chance, scene, life, index):
+    """A VCPU's list. A VCPU often begins with the pages that wait, and goes through all private ones."""
+    begin = []
+    if chance.random() < 0.7:
+        begin += [f"accept {gpa}" for gpa in life.gpas()[life.first_waiting :]]
+    if chance.random() < (0.3 if len(life.private) < 16 else 0.9):
+        begin += [f"{chance.choice(('load', 'store'))} {chance.randrange(8)} {gpa}" for gpa in life.gpas() * 2]
+    if chance.random() < 0.2:
+        begin += [f"rtmr {chance.randrange(4)}"] * 20
+    spoilt = chance.choice((0, 0.01, 0.05, 0.3))
+    count = chance.choice((0, 4, 20, 60, 200))
+    own = life.vcpus[index]
+    operations = [operation(chance, scene, life, own, chance.random() < spoilt) for _ in range(count)]
+    return [f"code {life.td} {index}", *(begin + operations)[:OPERATIONS_OF_A_LIST], "end"]
+
+
 def code_block(chance, scene, vcpu):
-    """A list of guest operations."""
+    """A list of guest operations, on any memory."""
     gpa = [chance.choice(scene.lives).gpa + 8 * chance.randrange(1024) for _ in range(4)]
     gpa += [GPA_END + 8 * chance.randrange(512 * scene.size), 0, GPA_END - 8, 2 * GPA_END - 8]
     makes = (
@@ -304,23 +495,26 @@ def code_block(chance, scene, vcpu):
         lambda: f"rtmr {chance.randrange(4)}",
         lambda: f"vmcall {chance.randrange(8)}",
     )
-    operations = [chance.choice(makes)() for _ in range(chance.choice((0, 1, 8, 20, 256)))]
+    operations = [chance.choice(makes)() for _ in range(chance.choice((0, 1, 8, 20, OPERATIONS_OF_A_LIST)))]
     return [f"code {vcpu[0]} {vcpu[1]}", *operations, "end"]
 
 
 def code_blocks(chance, scene):
-    """Lists of a few virtual processors, no two of one."""
+    """Lists of most VCPUs of the lives, and of a few others, no two of one."""
+    lists = {(life.td, index): list_of(chance, scene, life, index)
+             for life in scene.lives for index in range(len(life.vcpus)) if chance.random() < 0.9}
     pages = [life.td for life in scene.lives] + [0, scene.size - 1]
     vcpus = {(chance.choice(pages), chance.randrange(8)) for _ in range(chance.choice((0, 0, 1, 3)))}
-    return [code_block(chance, scene, vcpu) for vcpu in sorted(vcpus)]
+    lists |= {vcpu: code_block(chance, scene, vcpu) for vcpu in sorted(vcpus - set(lists))}
+    return [only_built(block) for block in lists.values()]
 
 
 def script_lines(chance, make, turn):
     """The lines of a script without a fault."""
-    scene = Scene(chance, ROOMY if make is race else SIZES)
+    scene = Scene(chance, ROOMY if make in (race, crowd) else SIZES, CROWDED if make is crowd else FEW)
     blocks, turns = make(chance, scene, turn)
     parts = [[f"lp {lp}", *block, "end"] for lp, block in enumerate(blocks) if block or chance.random() < 0.5]
-    parts += code_blocks(chance, scene)
+    parts += scene.code
     chance.shuffle(parts)
     schedule = [[line] for line in schedule_lines(chance, [turn for turn in turns if turn[1]])]
     lines = [f"machine {scene.lps} {scene.size} {scene.hkids}"]
@@ -410,7 +604,7 @@ def put_bad_line(chance, lines, turn):
     words = {
         "lp": chance.choice(begun("lp") or ["0"]),
         "code": chance.choice(begun("code") or ["0 0"]),
-        "call": chance.choice(tuple(ARGUMENTS)),
+        "call": chance.choice(tuple(BUILT)),
         "unbuilt": chance.choice(sorted(UNBUILT)),
         "full": "\n".join(["add 0 0"] * 257),
     }
@@ -440,15 +634,19 @@ def long_script(chance, turn):
 COMMANDS = (
     "", "replay", "replay none", "replay -x", "replay --", "replay - {script}", "replay none/none",
     "replay {script} {script}", "run {script}", "replay .", "replay {script} --keys=x", "check {script}", "soak 2",
-    "check none", "check {script} --keys {script}",
-    "replay {script}/none", "soak", "{script}", "Replay {script}", "--help", "none {script}",
+    "replay {script}/none", "soak", "{script}", "Replay {script}", "--help", "none {script}", "check", "check none",
+    "check -x", "check {script} {script}", "check {script} --guest-out guest", "check .", "replay --guest-out {script}",
+    "replay --guest-out guest {script}", "replay {script} --guest-out guest --guest-out guest",
+    "replay {script} --guest-out -", "replay {script} --guest-out=guest", "replay {script} --guest-out",
+    "replay none --guest-out guest", "run {script} --guest-out guest", "replay {script} --secrets {script}",
+    "replay --guest-out guest --keys none {script}",
 )
 
 
 def case(seed, place):
     """The case at that place: the words of a command line, and the bytes of the script."""
     chance = random.Random(f"{seed} {place}")
-    round_, kind = divmod(place, 20)
+    round_, kind = divmod(place, 28)
     if kind == 0:
         return COMMANDS[round_ % len(COMMANDS)].split(), text_of(["machine 1 8 1"])
     words = ["replay", "{script}"]
@@ -460,4 +658,6 @@ def case(seed, place):
         return words, text_of(script_lines(chance, story, round_))
     if kind < 19:
         return words, text_of(script_lines(chance, race, 8 * round_ + kind - 11))
+    if kind < 27:
+        return words, text_of(script_lines(chance, crowd, round_))
     return words, text_of(script_lines(chance, noise, round_))

@@ -24,6 +24,7 @@ class Guest:
         self.td_page, self.td = td_page, self.machine.tds[td_page]
         self.vcpu_page, self.vcpu = vcpu_page, self.td.vcpus[vcpu_page]
         self.code = self.machine.outside.code.get((td_page, self.vcpu.index), [])
+        self.how = None  # what decided the operation
 
     def events(self, parity, most):
         """The events behind the act of the entry: the release of E, the operations, and the exit."""
@@ -46,10 +47,19 @@ class Guest:
             if completed == most:
                 return "MAX"
             name, *operands = self.code[self.vcpu.position]
+            self.how = None
             reason = yield from OPERATIONS[name](self, *operands)
+            self.meets(name, operands, reason)
             if reason is not None:
                 return reason
             completed += 1
+
+    def meets(self, name, operands, reason):
+        """Keeps what came of an operation, without the numbers that it shows."""
+        if name in ("load", "store"):
+            name += " shared" if operands[1] >= GPA_END else " private"
+        came = "completed" if reason is None else " ".join(reason.split()[: 2 if reason.startswith("BUSY") else 1])
+        self.processor.met.append(f"{name}: {came}" + (f" {self.how}" if self.how else ""))
 
     def complete(self):
         """The operation is completed."""
@@ -121,7 +131,12 @@ class Guest:
             return (yield from self.shared_access(register, gpa, writes, violation))
         translation = self.translation(gpa, writes)
         if translation is None:
+            self.how = "by a walk"
             translation = yield from self.walk(gpa, writes)
+        else:
+            self.how = "by a translation"
+            if not self.is_reached(gpa, 0) or entry_state(self.td, gpa, 0) not in READABLE:
+                self.how = "by a translation of a blocked entry"
         if translation is None:
             return violation
         self.move(register, gpa, translation[2], writes)
@@ -146,20 +161,32 @@ class Guest:
                 return kept
         return None
 
+    def is_reached(self, gpa, level):
+        """Whether a walk at this moment reaches the entry of that level."""
+        return all(entry_state(self.td, gpa, above) == "NL_MAPPED" for above in range(3, level, -1))
+
     def walk(self, gpa, writes):
         """The walk to a private page, entry by entry; answers the translation that it has cached, or None."""
+        was_reached = self.is_reached(gpa, 0)
         for level in (3, 2, 1):
             reached = entry_state(self.td, gpa, level) == "NL_MAPPED"
+            if not reached:
+                self.how = f"at level {level}"
             yield
             if not reached:
                 return None
         state = entry_state(self.td, gpa, 0)
         if state not in (WRITABLE if writes else READABLE):
+            self.how = f"at {state}"
             yield
             return None
+        if not was_reached:
+            self.how = "by a walk whose way was made meanwhile"
         page = self.td.entries[entry_key(gpa, 0)].page
         found = (self.td_page, gpa // PAGE_BYTES, page, state in WRITABLE)
         others = [kept for kept in self.processor.translations if kept[:2] != found[:2]]
+        if len(others) == TRANSLATIONS:
+            self.how = "by a walk that drops the oldest translation"
         self.processor.translations = [*others, found][-TRANSLATIONS:]
         yield
         return found
@@ -168,6 +195,7 @@ class Guest:
         """A load or a store at a shared GPA."""
         page = (gpa - GPA_END) // PAGE_BYTES
         if page >= len(self.machine.pages) or page == self.vcpu_page:
+            self.how = "at its own TDVPR page" if page == self.vcpu_page else "at no page"
             yield
             return violation
         if not (yield from self.attempt(("P", page), SHARED)):
@@ -175,6 +203,8 @@ class Guest:
         allowed = self.machine.pages[page].kind == "PT_NDA"
         if allowed:
             self.move(register, gpa, page, writes)
+        else:
+            self.how = "at a page of a TD"
         yield
         yield from self.release()
         return None if allowed else violation
@@ -184,15 +214,17 @@ class Guest:
         violation = f"EPT_VIOLATION {gpa:#x} WRITE"
         if not (yield from self.attempt(("T", self.td_page), SHARED)):
             return "BUSY T"
-        reached = all(entry_state(self.td, gpa, level) == "NL_MAPPED" for level in (3, 2, 1))
+        reached = self.is_reached(gpa, 0)
         entry = self.td.entries.get(entry_key(gpa, 0)) if reached else None
         if entry is None:
+            self.how = "at FREE" if reached else "at no entry"
             yield
             yield from self.release()
             return violation
         if not (yield from self.attempt(("P", entry.page), EXCLUSIVELY)):
             yield from self.release()
             return f"BUSY P {entry.page}"
+        self.how = f"at {entry.state}"
         if entry.state == "PENDING":
             entry.state = "MAPPED"
             self.machine.pages[entry.page].words = {}

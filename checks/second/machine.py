@@ -140,6 +140,7 @@ class Processor:
         self.replies = []  # of each call the reply, and how many locks the call had
         self.translations = []  # cached ones, oldest first
         self.guest_lines = []
+        self.met = []  # of each operation what came of it, and how
         self.made = 0
         self.begin()
 

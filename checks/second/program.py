@@ -1,5 +1,5 @@
-"""The program's command line, statuses and texts of docs/profile.md: `replay` as it is built, and all four
-commands as they are to be."""
+"""The program's command line, statuses and texts of docs/profile.md: `replay` and `check` as they are built,
+and all four commands as they are to be."""
 
 import re
 import struct
@@ -7,7 +7,7 @@ import struct
 from bundles import BadContainer, bundles_of, container_of
 from calls import row
 from machine import Machine, Outside, Processor, run
-from scripts import Fault, read
+from scripts import UNBUILT, Fault, read
 from soak import soak_line
 
 USAGE = (
@@ -16,6 +16,9 @@ USAGE = (
 )
 INPUTS = ("--bundles", "--keys", "--secrets")
 OPTIONS = (*INPUTS, "--out-bundles", "--guest-out")
+# What the finished program has and this one hasn't.
+UNBUILT_COMMANDS = ("run", "soak")
+UNBUILT_OPTIONS = ("--secrets",)
 
 
 class Ended(Exception):
@@ -45,19 +48,21 @@ def replay(script, outside=None):
 
 
 def answer(words, load):
-    """The status and the text of the command line with these words, as it is built, and the processors of
-    the run where there was one. A file's bytes come from `load`, or None where it can't be read."""
+    """The status and the text of the command line with these words, as it is built, the files that it saves,
+    and the processors of the run where there was one. A file's bytes come from `load`, or None where it
+    can't be read."""
     try:
-        need_usage(len(words) == 2 and words[0] in ("replay", "check") and not words[1].startswith("-"))
-        script = read(loaded(words[1], load))
+        need_usage(words and words[0] in COMMANDS and words[0] not in UNBUILT_COMMANDS)
         if words[0] == "check":
-            return 0, check_line(script), []
-        processors = replay(script)
+            return 0, *check(words[1:], load, UNBUILT), []
+        need_usage(all(word in OPTIONS and word not in UNBUILT_OPTIONS for word in words if word.startswith("-")))
+        return 0, *replay_of(words[1:], load, UNBUILT)
     except Ended as ended:
-        return *ended.args, []
+        return *ended.args, {}, []
     except Fault as fault:
-        return 2, f"{fault}\n", []
-    return 0, reply_lines(processors), processors
+        return 2, f"{fault}\n", {}, []
+    except BadContainer as bad:
+        return 6, f"bundle file byte {bad}\n", {}, []
 
 
 def need_usage(holds):
@@ -78,13 +83,17 @@ def options_of(words):
     """The words that are no options, and the options with their values."""
     rest, options, left = [], {}, iter(words)
     for word in left:
-        if not word.startswith("-"):
+        if word == "--":
+            rest += left
+        elif word == "-" or not word.startswith("-"):
             rest.append(word)
-            continue
-        name, given, value = word.partition("=")
-        value = value if given else next(left, "-")
-        need_usage(name in OPTIONS and name not in options and not value.startswith("-"))
-        options[name] = value
+        else:
+            name, given, value = word.partition("=")
+            if not given:
+                value = next(left, "--")
+                need_usage(value == "-" or not value.startswith("-"))
+            need_usage(name in OPTIONS and name not in options)
+            options[name] = value
     return rest, options
 
 
@@ -98,11 +107,11 @@ def outside_of(script, files):
     return Outside(script.code, files["--bundles"], files.get("--keys", bytes(64)), secrets)
 
 
-def replay_all(words, load):
-    """The text of `replay` or `run` with all calls and options, and the files that it saves."""
+def replay_of(words, load, unbuilt):
+    """The text of `replay` or `run`, the files that it saves, and its processors."""
     rest, options = options_of(words)
     need_usage(len(rest) == 1)
-    script = read(loaded(rest[0], load), frozenset())
+    script = read(loaded(rest[0], load), unbuilt)
     files = {name: loaded(options[name], load) for name in INPUTS if name in options}
     files["--bundles"] = bundles_of(files["--bundles"]) if "--bundles" in files else {}
     processors = replay(script, outside_of(script, files))
@@ -110,19 +119,21 @@ def replay_all(words, load):
         "--out-bundles": container_of(processors[0].machine.outside.outputs),
         "--guest-out": "".join(f"{line}\n" for at in processors for line in at.guest_lines).encode(),
     }
-    return reply_lines(processors), {options[name]: text for name, text in made.items() if name in options}
+    saved = {options[name]: text for name, text in made.items() if name in options}
+    return reply_lines(processors), saved, processors
 
 
-def check_line(script):
-    """The numbers of a script."""
-    counts = [sum(map(len, blocks.values())) for blocks in (script.calls, script.code)]
-    return f"ok {script.machine[0]} {counts[0]} {counts[1]} {len(script.schedule)}\n"
+def replay_all(words, load):
+    """The text of `replay` or `run` with all calls and options, and the files that it saves."""
+    return replay_of(words, load, frozenset())[:2]
 
 
-def check(words, load):
-    """The text of `check`."""
+def check(words, load, unbuilt=frozenset()):
+    """The text of `check`, which saves no file."""
     need_usage(len(words) == 1 and not words[0].startswith("-"))
-    return check_line(read(loaded(words[0], load), frozenset())), {}
+    script = read(loaded(words[0], load), unbuilt)
+    counts = [sum(map(len, blocks.values())) for blocks in (script.calls, script.code)]
+    return f"ok {script.machine[0]} {counts[0]} {counts[1]} {len(script.schedule)}\n", {}
 
 
 def soak(words, _load):

@@ -22,6 +22,8 @@ UNBUILT = set(
     IMPORT.END IMPORT.ABORT
     """.split()
 )
+# The calls that the program has, with their arguments. All that follows what is built follows UNBUILT.
+BUILT = {name: kinds for name, kinds in ARGUMENTS.items() if name not in UNBUILT}
 # Guest operations, with the values that each operand may have.
 REGISTER = range(8)
 OPERATIONS = {
@@ -47,8 +49,11 @@ class Fault(Exception):
     """A script's fault: its line and its reason."""
 
     def __init__(self, line, reason):
-        super().__init__(f"script line {line} {reason}")
+        super().__init__(line, reason)
         self.line, self.reason = line, reason
+
+    def __str__(self):
+        return f"script line {self.line} {self.reason}"
 
 
 class Bad(Exception):

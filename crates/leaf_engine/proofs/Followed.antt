@@ -1,5 +1,5 @@
 -- Each turn of a processor is its next event.
-use Rattle.std.proofs.Common.{◌≡◌, ◌⊎◌, inl, inr, ℕ, zero, suc, ◌<◌, Bool, true, false, List, [], ◌∷◌, Option, Some, None, refl, ap, sym, ◌∙◌, subst}
+use Rattle.std.proofs.Common.{◌≡◌, ℕ, zero, suc, ◌<◌, Bool, true, false, List, [], ◌∷◌, Option, Some, None, refl, ap, sym, ◌∙◌, subst}
 use Rattle.td_words.specs.declared.machines.Machine.{Machine}
 use Rattle.td_words.specs.declared.names.Access.{Access}
 use Rattle.td_words.specs.declared.calls.Call.{Call}
@@ -99,47 +99,44 @@ turn-hand : (c : Call) (cs : List Call) (g : Option WordGuest) (rs : List Reply)
 turn-hand c cs g rs b stands None n h = line-hand stands h g n
 turn-hand c cs g rs b stands (Some r) n h = (None, tt)
 
--- what a step leaves of its run
-abbrev KeepsRun : WordGuest → WordGuest → Type 0
-KeepsRun x y = (y.run ≡ None) ⊎ (y.run ≡ x.run)
+-- a step that is over leaves no run
 
-run-operated : (r : Reply) (x : WordGuest) → KeepsRun x (operated r x)
-run-operated (Done v) x = inl refl
-run-operated (Exited (Vmcall y)) x = inl refl
-run-operated (Exited Stop) x = inl refl
-run-operated (Exited Max) x = inl refl
-run-operated (Exited (EptViolation gpa access)) x = inl refl
-run-operated (Exited (Busy name)) x = inl refl
-run-operated (Refused (OperandBusy name)) x = inl refl
-run-operated (Refused _) x = inr refl
+run-operated : (r : Reply) (x : WordGuest) → (operated r x).run ≡ None
+run-operated (Done v) x = refl
+run-operated (Exited (Vmcall y)) x = refl
+run-operated (Exited Stop) x = refl
+run-operated (Exited Max) x = refl
+run-operated (Exited (EptViolation gpa access)) x = refl
+run-operated (Exited (Busy name)) x = refl
+run-operated (Refused (OperandBusy name)) x = refl
+run-operated (Refused _) x = refl
 
-run-walked : (access : Access) (gpa level rights : ℕ) (b : Bool) (x : WordGuest) → KeepsRun x (walked access gpa level rights b x)
-run-walked access gpa zero rights true x = inl refl
-run-walked access gpa (suc level) rights true x = inl refl
-run-walked access gpa zero rights false x = inl refl
-run-walked access gpa (suc level) rights false x = inl refl
+run-walked : (access : Access) (gpa level rights : ℕ) (b : Bool) (x : WordGuest) → (walked access gpa level rights b x).run ≡ None
+run-walked access gpa zero rights true x = refl
+run-walked access gpa (suc level) rights true x = refl
+run-walked access gpa zero rights false x = refl
+run-walked access gpa (suc level) rights false x = refl
 
-run-loaded : (access : Access) (gpa level : ℕ) (r : Reply) (x : WordGuest) → KeepsRun x (loaded access gpa level r x)
+run-loaded : (access : Access) (gpa level : ℕ) (r : Reply) (x : WordGuest) → (loaded access gpa level r x).run ≡ None
 run-loaded access gpa level (Done (value.Number rights)) x = run-walked access gpa level rights (is_right access level rights) x
-run-loaded access gpa level (Done _) x = inr refl
-run-loaded access gpa level (Refused s) x = inr refl
-run-loaded access gpa level (Exited out) x = inr refl
+run-loaded access gpa level (Done _) x = refl
+run-loaded access gpa level (Refused s) x = refl
+run-loaded access gpa level (Exited out) x = refl
 
 module _ (line : Standing) (freed : gives_epoch_back line.held ≡ false) (kept : HasHand line.hasher) where
   in-step : (y : WordGuest) → HasHand (hasher_of y.run) → HasHand (hasher_of (run_at (Some y) (Some line)))
   in-step y h = subst (λ (z : Bool). HasHand (hasher_of (run_in y line z))) (sym freed) h
 
-  kept-run : (x y : WordGuest) → HasHand (hasher_of x.run) → KeepsRun x y → HasHand (hasher_of (run_at (Some y) (Some line)))
-  kept-run x y h (inl e) = in-step y (subst (λ (z : Option Standing). HasHand (hasher_of z)) (sym e) (None, tt))
-  kept-run x y h (inr e) = in-step y (subst (λ (z : Option Standing). HasHand (hasher_of z)) (sym e) h)
+  no-run : (y : WordGuest) → y.run ≡ None → HasHand (hasher_of (run_at (Some y) (Some line)))
+  no-run y e = in-step y (subst (λ (z : Option Standing). HasHand (hasher_of z)) (sym e) (None, tt))
 
-  step-hand : (c : Call) (cs : List Call) (x : WordGuest) (rs : List Reply) (b : Beside) (st : Step) (stands : Standing) (r : Option Reply) → HasHand (hasher_of x.run) → HasHand stands.hasher
+  step-hand : (c : Call) (cs : List Call) (x : WordGuest) (rs : List Reply) (b : Beside) (st : Step) (stands : Standing) (r : Option Reply) → HasHand stands.hasher
       → HasHand (hasher_at (after_step c cs line x rs b st stands r))
-  step-hand c cs x rs b st stands None before h = in-step (record x { run = Some stands }) h
-  step-hand c cs x rs b (Operates op) stands (Some r) before h = kept-run x (operated r x) before (run-operated r x)
-  step-hand c cs x rs b (Accesses access q gpa page) stands (Some r) before h = kept-run x (passed_on x) before (inl refl)
-  step-hand c cs x rs b (Loads access gpa level page) stands (Some r) before h = kept-run x (loaded access gpa level r x) before (run-loaded access gpa level r x)
-  step-hand c cs x rs b (Leaves out) stands (Some r) before h = kept
+  step-hand c cs x rs b st stands None h = in-step (record x { run = Some stands }) h
+  step-hand c cs x rs b (Operates op) stands (Some r) h = no-run (operated r x) (run-operated r x)
+  step-hand c cs x rs b (Accesses access q gpa page) stands (Some r) h = no-run (passed_on x) refl
+  step-hand c cs x rs b (Loads access gpa level page) stands (Some r) h = no-run (loaded access gpa level r x) (run-loaded access gpa level r x)
+  step-hand c cs x rs b (Leaves out) stands (Some r) h = kept
 
 module _ (o : Opening) (t : LeafTable) (p : ℕ) (w : World) (words : WordPlace → ℕ) (lp : Lp) (c : Call) (cs : List Call) (rs : List Reply) (b : Beside) (e : RunEvent) (stands : Standing) (h : HasHand stands.hasher) where
   in-hand : (x : WordGuest) (line : Standing) → (gives_epoch_back line.held ≡ true → x.run ≡ None) → HasHand line.hasher → (give : Bool) → gives_epoch_back line.held ≡ give → HasHand (hasher_of (run_in x line give))
@@ -147,7 +144,7 @@ module _ (o : Opening) (t : LeafTable) (p : ℕ) (w : World) (words : WordPlace 
   in-hand x line fresh kept true gives before =
       turn-hand c cs (guest_after e stands.rest (Some x)) rs (beside_after e stands.rest b) stands (last_reply stands.stage stands.held) (no-run-after e stands.rest (Some x) (fresh gives)) h
   in-hand x line fresh kept false gives before =
-      step-hand line gives kept c cs x rs (beside_after e stands.rest b) (step_of t.codes b.cached x) stands (last_reply stands.stage stands.held) before h
+      step-hand line gives kept c cs x rs (beside_after e stands.rest b) (step_of t.codes b.cached x) stands (last_reply stands.stage stands.held) h
 
   hand-at : (guest : Option WordGuest) (run : Option Standing) → RunStands o t p w words lp (c ∷ cs) run guest rs b → HasHand (hasher_of (run_at guest run)) → HasHand (hasher_at (then_at t c cs guest run rs b e stands))
   hand-at None run i before =

@@ -101,7 +101,7 @@ staying_step codes ts g None = due_step ts g (slice_get (codes g.tdr g.index) g.
 abbrev pub step_of : (ℕ → ℕ → List GuestOp) → List Translation → WordGuest → Step
 step_of codes ts g = staying_step codes ts g g.leaving
 
--- what a guest makes of a reply
+-- what a guest makes of a reply, with which its step has ended
 
 -- an operation is completed
 abbrev pub passed_on : WordGuest → WordGuest
@@ -120,7 +120,7 @@ abbrev pub operated : Reply → WordGuest → WordGuest
 operated (Done v) g = passed_on g
 operated (Exited out) g = exited_with out g
 operated (Refused (OperandBusy n)) g = leaving_with (Busy n) g
-operated (Refused s) g = g
+operated (Refused s) g = record g { run = None }
 
 -- the load of an entry tells the page that it names, and whether a walk goes on there, may read, and may write
 abbrev pub named_page : ℕ → ℕ
@@ -139,7 +139,7 @@ walked access gpa level rights false g = leaving_with (EptViolation gpa access) 
 
 abbrev pub loaded : Access → (gpa level : ℕ) → Reply → WordGuest → WordGuest
 loaded access gpa level (Done (value.Number rights)) g = walked access gpa level rights (is_right access level rights) g
-loaded access gpa level _ g = g
+loaded access gpa level _ g = record g { run = None }
 
 abbrev pub stepped : Step → Reply → WordGuest → Option WordGuest
 stepped (Operates o) r g = Some (operated r g)

@@ -64,7 +64,7 @@ pub end-may : (o : Opening) (trees : Trees) (s : State) (mem : Memory) (t : Tabl
     → (a : AtTurn o trees s mem t pos p d run) → (st : run.stage ≡ stages.Trying) → AtEnd o mem d (a.runs.at.told st).told now reply run run' e
     → ItsEndMay o s mem p d (feed d.tree now)
 end-may o trees s mem t pos p d now reply run run' e a st en =
-    by (feed d.tree now) (leaves-follow-rows task inst now a.here.means (at-moment o trees s mem t pos p d a.known a.all a.here) en.current)
+    by (feed d.tree now) (leaves-follow-rows task inst now a.here.means (at-moment o trees s mem t pos p d run a.known a.all a.here a.runs st) en.current)
   where
     m : Machine
     m = o.machine

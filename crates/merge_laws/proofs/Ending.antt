@@ -37,7 +37,7 @@ use Rattle.merge_laws.proofs.Keeping.{Keeps, keeps-each, keeps-same, owed-keeps}
 use Rattle.merge_laws.proofs.Holding.{lock_grip_of, IsPart, part-meets, part-owes, turned-round}
 use Rattle.merge_laws.proofs.Standing.{RunsAt, Trees, Does, task_for, moment, act_grip, DoesHere, with_hasher, Laws, Known, on_table, Position, back, Stands}
 use Rattle.merge_laws.proofs.Others.{at-moment, hold-is, locks-in-act, due-move}
-use Rattle.merge_laws.proofs.Own.{moves-refused, world-stays, world-acted}
+use Rattle.merge_laws.proofs.Worlds.{moves-refused, world-stays, world-acted}
 use Rattle.merge_laws.proofs.Acts.{CanWrite, OneAct}
 
 -- what the first item of an act stores, and what is owed then
@@ -208,7 +208,7 @@ module _ (ls : Laws) (o : Opening) (trees : Trees) (s : State) (mem : Memory) (t
 
   -- the turn stands at this moment
   at-this : IsAt task its_moment
-  at-this = at-moment o trees s mem t pos p d known sd here
+  at-this = at-moment o trees s mem t pos p d run known sd here ra st
 
   -- the locks of the tree are those that the leaf holds
   locks-held : locks ≡ d.far.held

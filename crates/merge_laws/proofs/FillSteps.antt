@@ -87,7 +87,7 @@ fill-store ls o trees s mem t pos p f d ts a left h =
       fills = λ k j e g theirs fills. (ls.words g act s.world (grips-apart ls o s k p g act a.known j a.inside e theirs part)).fills_fills d.at fills may.0.1;
     })
     (record {
-      stands = a.leads.within_stands mem.words f.run a.runs;
+      stands = a.leads.within_stands mem.words f.run a.runs h.trying;
       due = record {
         is = h.is;
         at_is = refl;
@@ -353,7 +353,7 @@ fill-piece ls o trees s mem t pos p f end_ piece ps a h rest an = by rest.stores
           now = now;
           stands = rearranged ls o trees s mem t t pos p now a.are a.known a.all (slots-stay o s mem.slots t.slots pos p now a.all.slots (sym a.no_swaps)) (λ k j z r g in_r owes. refl) (λ k j z g part r in_r fills. refl) (a.leads.within_bundles f.run ∙ a.bundles)
               (record {
-                stands = a.leads.within_stands mem.words f.run a.runs;
+                stands = a.leads.within_stands mem.words f.run a.runs h.trying;
                 due = record {
                   is = h.is;
                   at_is = refl;

@@ -42,7 +42,7 @@ use Rattle.leaf_engine.proofs.Calling.{snoc}
 use Rattle.merge_laws.proofs.Holding.{bare, locks_at, lock_grip_of, may-try}
 use Rattle.merge_laws.proofs.Standing.{Trees, Does, task_for, moment, Leads, TurnsTo, Laws, HandOf, Position, Rest}
 use Rattle.merge_laws.proofs.Others.{at-moment, hold-is, due-move}
-use Rattle.merge_laws.proofs.Own.{world-stays, moves-tried, has-moves}
+use Rattle.merge_laws.proofs.Worlds.{world-stays, moves-tried, has-moves}
 use Rattle.merge_laws.proofs.LockSteps.{OneStep, lock-step}
 use Rattle.merge_laws.proofs.Pieces.{Came, AtTurn}
 
@@ -180,7 +180,7 @@ pub try-piece : (ls : Laws) (o : Opening) (trees : Trees) (s : State) (mem : Mem
     → TurnsTo o trees p (d.after e run') tps end_
     → Came o trees p s t pos (Marked (Stepped (try_step at mode) seen)) (joined tps) end_
 try-piece ls o trees s mem t pos p d run run' e tree name at mode seen tps end_ a none st turn gives after an own =
-    by (feed d.tree told) (leaves-follow-rows task inst told a.here.means (at-moment o trees s mem t pos p d a.known a.all a.here) (a.runs.at.told st).current)
+    by (feed d.tree told) (leaves-follow-rows task inst told a.here.means (at-moment o trees s mem t pos p d run a.known a.all a.here a.runs st) (a.runs.at.told st).current)
     (subst (λ (z : Tree). Wants m.pages z (need.Lock name at mode)) (ap settle (a.runs.at.told st).rest ∙ settled d.tree told) gives)
   where
     m : Machine

@@ -6,7 +6,10 @@ use Rattle.flat_core.specs.World.{put}
 use Rattle.flat_core.specs.Locks.{sharers, refusals}
 use Rattle.flat_core.specs.Lawful.{Lawful}
 use Rattle.flat_core.specs.Opening.{Opening}
-use Rattle.flat_core.specs.Event.{State, start, event}
+use Rattle.flat_core.specs.Event.{State, Event, next_event, start, event}
+use Rattle.flat_core.specs.AccessLaw.{IsGuarded}
+use Rattle.flat_core.proofs.Always.{always_guarded}
+use Rattle.lock_words.specs.LockWords.{IsNext}
 use Rattle.flat_core.specs.Run.{play, run}
 use Rattle.flat_core.proofs.Tests.{put_here}
 use Rattle.flat_core.proofs.Induction.{count_stays, play_append}
@@ -81,7 +84,7 @@ module _ (ls : Laws) (o : Opening) (trees : Trees) (s : State) (mem : Memory) (t
   processor-stands = sd.holds p i
 
   -- the next piece of these turns
-  next-of-turns : (pos p).owes ≡ [] → (pos p).swaps ≡ [] → (last : Option Measure) (hand : Hand) → HasInHand (pos p).at.run last → IsHand last hand → (turns : List (List Piece)) → TurnsTo o trees p (pos p).at turns end_ → joined turns ≡ piece ∷ ps
+  next-of-turns : (pos p).owes ≡ [] → (pos p).swaps ≡ [] → (last : Option Measure) (hand : Hand) → HasInHand (pos p).at last → IsHand last hand → (turns : List (List Piece)) → TurnsTo o trees p (pos p).at turns end_ → joined turns ≡ piece ∷ ps
       → Came o trees p s t pos piece ps end_
   next-of-turns q no-swaps last hand has k [] own f = cc
   next-of-turns q no-swaps last hand has k (tp ∷ tps) own f =
@@ -188,6 +191,9 @@ known-of ls o schedule s most is count tell = record {
   few = λ l. subst (λ (z : State). sharers z.lps z.lp_count l + refusals z.lps z.lp_count l + 1 < 2 ^ 63) (sym is) (ls.runs.few o None schedule l most);
   nothing_to_tell = tell;
   facts = subst (λ (z : State). Facts z) (sym is) (ls.facts o schedule);
+  guarded = subst (λ (z : State). IsGuarded o z) (sym is) (always_guarded o None schedule);
+  next = subst (λ (z : State). (p : ℕ) (e : Event) → next_event o z p ≡ Some e → IsNext o z p e) (sym is) (λ p e h. ls.runs.next o None schedule p e h);
+  later = λ p. subst (λ (z : State). Facts (event o z p)) (sym is) (subst (λ (z : State). Facts z) (play_append o schedule (p ∷ []) (start o None)) (ls.facts o (schedule ++ p ∷ [])));
 }
 
 known-next : (ls : Laws) (o : Opening) (s : State) (p : ℕ) → length o.calls ≤ 8 → Known o s → Known o (event o s p)

@@ -214,7 +214,7 @@ module _ (ls : Laws) (o : Opening) (trees : Trees) (s : State) (mem : Memory) (t
   processor-stands : Holds o trees p s.world mem.words (on_table o.machine t) (s.lps p) (pos p)
   processor-stands = sd.holds p i
 
-  of-turns : (pos p).swaps ≡ [] → (last : Option Measure) (hand : Hand) → HasInHand (pos p).at.run last → IsHand last hand → (turns : List (List Piece)) → TurnsTo o trees p (pos p).at turns end_ → joined turns ≡ piece ∷ ps → Allowed
+  of-turns : (pos p).swaps ≡ [] → (last : Option Measure) (hand : Hand) → HasInHand (pos p).at last → IsHand last hand → (turns : List (List Piece)) → TurnsTo o trees p (pos p).at turns end_ → joined turns ≡ piece ∷ ps → Allowed
   of-turns no-swaps last hand has f [] own h = cc
   of-turns no-swaps last hand has f (tp ∷ tps) own h =
       let next = next-turn o trees s mem t pos p last hand own.0 tp own.1.0 are known sd i no-swaps has f own.1.1 in

@@ -5,7 +5,7 @@ use Rattle.td_words.specs.declared.replies.Reply.{Reply}
 use Rattle.td_words.specs.Place.{WordPlace, IsIn, address}
 use Rattle.mrtd_measure.specs.declared.measures.Measure.{Measure}
 use Rattle.flat_core.specs.World.{World}
-use Rattle.flat_core.specs.Processor.{LockId, Held, Phase, Trying, Undoing, Answered}
+use Rattle.flat_core.specs.Processor.{LockId, Held, Phase, Trying, Undoing, Answered, Guest}
 use Rattle.flat_core.specs.Opening.{Opening}
 use Rattle.flat_core.specs.Row.{Move, next, next_in}
 use Rattle.leaf_engine.specs.Doing.{event_of}
@@ -37,6 +37,8 @@ use Rattle.merge_laws.proofs.Filling.{Todo, Puts, Takes, all_todos, EachTodo, du
 use Rattle.merge_laws.proofs.Keeping.{keeps-same}
 use Rattle.merge_laws.proofs.Holding.{bare, locks_at, lock_grip_of, IsOlder, whole, IsPart, parts-apart, older-part, locks-part, grasp-part, hold-part, lock-stays, EachTold, told-reads, told-older, still-current}
 use Rattle.merge_laws.proofs.Standing.{Laws, Trees, AreTrees, Known, HandOf, Does, task_for, moment, act_grip, RunsAt, DoesHere, on_table, Fill, Position, seen_by, back, AreLeft, AreLeftLoaded, FillHolds, Pending, Holds, Stands}
+use Rattle.lock_words.specs.LockWords.{HeldStand}
+use Rattle.merge_laws.proofs.Staying.{GuestStays}
 use Rattle.merge_laws.proofs.Lines.{does-here, stands-stay}
 
 -- words that show a state, on a table that holds them, with the hasher that a run has in hand
@@ -64,16 +66,21 @@ shown-of o trees s mem t pos p d run known st i none =
     let empty : IsHand run.hasher mem.hand = subst (λ (h : Option Measure). IsHand h mem.hand) (sym none) (subst (λ (h : Hand). IsHand None h) (sym st.hand) tt) in
     shown-hand o trees s mem t pos p d run known st i (record { hand = mem.hand; is = empty; trying = λ e. none })
 
--- the moment at which its leaf's meaning is told
-pub at-moment : (o : Opening) (trees : Trees) (s : State) (mem : Memory) (t : Table) (pos : ℕ → Position) (p : ℕ) (d : Does) → Known o s → Stands o trees s mem t pos → DoesHere o s p d → IsAt (task_for o p d) (moment s mem p d)
-at-moment o trees s mem t pos p d known st here = record {
+trying-phase : (m : Machine) (w : World) (st : Stage) (ph : Phase Reply) → IsStage m w st ph → st ≡ stages.Trying → ph ≡ Trying
+trying-phase m w st Trying i e = refl
+trying-phase m w st (Undoing l) i e = absurd (subst (λ (z : Stage). IsStage m w z (Undoing l)) e i)
+trying-phase m w st (Answered r) i e = absurd (subst (λ (z : Stage). IsStage m w z (Answered r)) e i)
+
+-- the moment at which its leaf's meaning is told, while it is on its way
+pub at-moment : (o : Opening) (trees : Trees) (s : State) (mem : Memory) (t : Table) (pos : ℕ → Position) (p : ℕ) (d : Does) (run : Standing) → Known o s → Stands o trees s mem t pos → DoesHere o s p d → RunsAt (task_for o p d) d.far s.world mem.words run → run.stage ≡ stages.Trying → IsAt (task_for o p d) (moment s mem p d)
+at-moment o trees s mem t pos p d run known st here ra e = record {
   processor = refl;
   lawful = known.lawful;
   shown = st.shows;
   empty_hand = st.hand;
   nothing_to_tell = known.nothing_to_tell;
   facts = known.facts;
-  maker = (here.doing mem).maker;
+  maker = (here.doing mem).maker (trying-phase o.machine s.world run.stage d.far.phase ra.at.stage e);
 }
 
 -- what it holds in an instant is its locks
@@ -94,11 +101,6 @@ grips-apart ls o s k p g h known j i e u v =
     parts-apart g h (grip_of s k) (grip_of s p) (ls.apart s k p known.exclusive (subst (λ (n : ℕ). k < n) (sym known.count) j) (subst (λ (n : ℕ). p < n) (sym known.count) i) e) u v
 
 -- the move that is due is the flat machine's next event
-trying-phase : (m : Machine) (w : World) (st : Stage) (ph : Phase Reply) → IsStage m w st ph → st ≡ stages.Trying → ph ≡ Trying
-trying-phase m w st Trying i e = refl
-trying-phase m w st (Undoing l) i e = absurd (subst (λ (z : Stage). IsStage m w z (Undoing l)) e i)
-trying-phase m w st (Answered r) i e = absurd (subst (λ (z : Stage). IsStage m w z (Answered r)) e i)
-
 pub due-move : (o : Opening) (s : State) (mem : Memory) (p : ℕ) (d : Does) (run : Standing) → DoesHere o s p d → (ra : RunsAt (task_for o p d) d.far s.world mem.words run) → (st : run.stage ≡ stages.Trying) → (mv : Move Reply)
     → next ((work_of d.meaning).items s.world) (length (granted d.tree (ra.at.told st).told [])) ≡ mv → IsNext o s p (event_of d.meaning mv)
 due-move o s mem p d run here ra st mv e =
@@ -121,7 +123,7 @@ pub stable-told : (o : Opening) (trees : Trees) (s : State) (mem : Memory) (t : 
 stable-told o trees s mem t pos p d run known st here ra e =
     let task : Task = task_for o p d in
     let told = ra.at.told e in
-    let at : IsAt task (moment s mem p d) = at-moment o trees s mem t pos p d known st here in
+    let at : IsAt task (moment s mem p d) = at-moment o trees s mem t pos p d run known st here ra e in
     let reads = told-reads o.machine (moment s mem p d) (work_of task.meaning) [] d.tree ((work_of task.meaning).items s.world) told.told (here.means.means (moment s mem p d) at) told.current told.waits in
     let older = told-older d.tree told.told [] _ reads in
     each d.tree told.told [] (λ ks v q x. (
@@ -152,7 +154,7 @@ pub fills-allowed : (o : Opening) (trees : Trees) (s : State) (mem : Memory) (t 
 fills-allowed o trees s mem t pos p f known st here a at owes h =
     by f.fills f.changes refl
     (subst (λ (x : Tree). Comes o.machine c (work_of d.meaning) hs x (next ((work_of d.meaning).items s.world) (length hs))) (told-end o p d s.world mem.words f.run (End f.answer f.fills f.changes) h.runs h.trying h.rest refl)
-    (leaves-follow-rows (task_for o p d) c told here.means (at-moment o trees s mem t pos p d known st here) (h.runs.at.told h.trying).current))
+    (leaves-follow-rows (task_for o p d) c told here.means (at-moment o trees s mem t pos p d f.run known st here h.runs h.trying) (h.runs.at.told h.trying).current))
   where
     d : Does
     d = f.does
@@ -284,11 +286,11 @@ leaf-stays ls o trees s mem t pos k d run w' words' a a' g' known st here lv ra 
     }
 
 pub others-stay : (ls : Laws) (o : Opening) (trees : Trees) (s : State) (mem : Memory) (t : Table) (pos : ℕ → Position) (k : ℕ) (w' : World) (words' a' : WordPlace → ℕ) (g' : Grip) → AreTrees o trees → Known o s → Stands o trees s mem t pos
-    → k < length o.calls → Leaves o.machine s k g' w' mem.words words' (on_table o.machine t) a' → Holds o trees k w' words' a' (s.lps k) (pos k)
-others-stay ls o trees s mem t pos k w' words' a' g' are known st i lv =
+    → k < length o.calls → ((g : Guest) → (s.lps k).guest ≡ Some g → GuestStays s.world w' g.tdr g.vp) → HeldStand w' (s.lps k).call.held → Leaves o.machine s k g' w' mem.words words' (on_table o.machine t) a' → Holds o trees k w' words' a' (s.lps k) (pos k)
+others-stay ls o trees s mem t pos k w' words' a' g' are known st i guest-stays stand lv =
     let h = st.holds k i in
     record {
-      stands = stands-stay o trees s k (pos k).at w' mem.words words' are known i (λ d run here. leaf-stays ls o trees s mem t pos k d run w' words' (on_table o.machine t) a' g' known st here lv) h.stands;
+      stands = stands-stay o trees s k (pos k).at w' mem.words words' are known i guest-stays stand (λ d run here. leaf-stays ls o trees s mem t pos k d run w' words' (on_table o.machine t) a' g' known st here lv) h.stands;
       due = pending (pos k).fill h.due;
     }
   where
@@ -314,7 +316,7 @@ others-stay ls o trees s mem t pos k w' words' a' g' are known st i lv =
     }
       where
         here : DoesHere o s k f.does
-        here = does-here o trees s k f.does are known i h.is
+        here = does-here o trees s k f.does (pos k).at mem.words are known i (st.holds k i).stands h.is
 
         g : Grip
         g = act_grip s mem k f.does

@@ -2,18 +2,14 @@
 use Rattle.std.proofs.Common.{◌≡◌, ◌≢◌, ◌⊎◌, ℕ, ◌<◌, Bool, true, false, ◌==◌, cond, List, [], ◌∷◌, ◌++◌, length, Option, Some, None, refl, ap, sym, ◌∙◌, subst, inl, inr}
 use Rattle.std.proofs.lemmas.Bool.{eq-eqb, eqb-true}
 use Rattle.td_words.specs.declared.machines.Machine.{Machine}
-use Rattle.td_words.specs.declared.replies.Reply.{Reply}
 use Rattle.td_words.specs.Place.{WordPlace, IsIn}
 use Rattle.flat_core.specs.World.{World, Made, put}
-use Rattle.td_words.specs.declared.names.Mode.{Mode}
-use Rattle.flat_core.specs.Processor.{LockId, Trying, Progress, nothing_yet, Lp}
+use Rattle.flat_core.specs.Processor.{Lp}
 use Rattle.flat_core.specs.Opening.{Opening}
-use Rattle.flat_core.specs.Row.{Move, Attempts, Undoes, Refuses, Succeeds, Releases, Rests, next}
-use Rattle.flat_core.specs.Event.{State, Event, event, after_event, world_after}
+use Rattle.flat_core.specs.Event.{State, event}
 use Rattle.flat_core.specs.Run.{bundles_in}
 use Rattle.flat_core.proofs.Tests.{put_here}
 use Rattle.lock_words.specs.Grips.{grip_of}
-use Rattle.lock_words.specs.LockWords.{IsNext}
 use Rattle.word_rules.specs.Guards.{Grip, Apart}
 use Rattle.word_rules.specs.Rules.{View, Grade}
 use Rattle.word_rules.specs.Views.{look}
@@ -21,70 +17,17 @@ use Rattle.word_rules.specs.Permissions.{Reads, Owes, Fills, Respects}
 use Rattle.word_rules.specs.Cells.{Shows}
 use Rattle.step_core.specs.Items.{Table}
 use Rattle.leaf_engine.specs.Changes.{Memory}
-use Rattle.leaf_engine.specs.Means.{Meaning, OfCall, OfOperation, OfAccess, OfWalk, OfExit, work_of}
-use Rattle.leaf_engine.specs.Doing.{HasMoves, event_of}
 use Rattle.merge_laws.specs.Laws.{AreMerged, more_made, AreBundlesOf}
 use Rattle.leaf_engine.specs.Trees.{added}
 use Rattle.merge_laws.proofs.Stores.{last_at, laid, last-each, OwesAt, FillsAt}
 use Rattle.merge_laws.proofs.Keeping.{keeps-each}
 use Rattle.merge_laws.proofs.Holding.{lock_grip_of, IsPart, locks-part}
 use Rattle.merge_laws.proofs.Standing.{Laws, Trees, AreTrees, Known, DoesHere, act_grip, Grows, on_table, Fill, Position, back, Pending, Holds, Slots, Stands}
+use Rattle.lock_words.specs.LockWords.{HeldStand}
+use Rattle.flat_core.proofs.Induction.{count_stays}
+use Rattle.merge_laws.proofs.Staying.{guest-stays}
 use Rattle.merge_laws.proofs.Lines.{does-here}
 use Rattle.merge_laws.proofs.Others.{grips-apart, act-part, fill-may, Leaves, others-stay}
-
--- the world after an event of a leaf's move
-
-act-world : (k : Meaning) (w : World) → world_after (event_of k Succeeds) w ≡ (work_of k).act w
-act-world (OfCall row) w = refl
-act-world (OfOperation t v row) w = refl
-act-world (OfAccess t v line access r gpa page) w = refl
-act-world (OfWalk t v access gpa level page) w = refl
-act-world (OfExit t v out) w = refl
-
-quiet-world : (k : Meaning) → HasMoves k → (mv : Move Reply) → (mv ≡ Succeeds → ⊥) → (w : World) → world_after (event_of k mv) w ≡ w
-quiet-world (OfCall row) h (Attempts l m) n w = refl
-quiet-world (OfCall row) h (Undoes l) n w = refl
-quiet-world (OfCall row) h (Refuses r) n w = refl
-quiet-world (OfCall row) h Succeeds n w = absurd (n refl)
-quiet-world (OfCall row) h (Releases x) n w = refl
-quiet-world (OfCall row) h Rests n w = refl
-quiet-world (OfOperation t v row) h (Attempts l m) n w = refl
-quiet-world (OfOperation t v row) h (Undoes l) n w = refl
-quiet-world (OfOperation t v row) h (Refuses r) n w = refl
-quiet-world (OfOperation t v row) h Succeeds n w = absurd (n refl)
-quiet-world (OfOperation t v row) h (Releases x) n w = refl
-quiet-world (OfOperation t v row) h Rests n w = refl
-quiet-world (OfAccess t v line access r gpa page) h mv n w = absurd h
-quiet-world (OfWalk t v access gpa level page) h mv n w = absurd h
-quiet-world (OfExit t v out) h mv n w = absurd h
-
--- a single event refuses nothing, and tries nothing
-pub moves-refused : (k : Meaning) (w : World) (n : ℕ) (r : Reply) → next ((work_of k).items w) n ≡ Refuses r → HasMoves k
-moves-refused (OfCall row) w n r e = tt
-moves-refused (OfOperation t v row) w n r e = tt
-moves-refused (OfAccess t v line access rg gpa page) w n r e = cc
-moves-refused (OfWalk t v access gpa level page) w n r e = cc
-moves-refused (OfExit t v out) w n r e = cc
-
-pub moves-tried : (k : Meaning) (w : World) (n : ℕ) (l : LockId) (m : Mode) → next ((work_of k).items w) n ≡ Attempts l m → HasMoves k
-moves-tried (OfCall row) w n l m e = tt
-moves-tried (OfOperation t v row) w n l m e = tt
-moves-tried (OfAccess t v line access r gpa page) w n l m e = cc
-moves-tried (OfWalk t v access gpa level page) w n l m e = cc
-moves-tried (OfExit t v out) w n l m e = cc
-
-pub has-moves : (k : Meaning) (x : Progress Reply) → HasMoves k ⊎ (x ≡ nothing_yet) → (x.phase ≡ Trying → ⊥) → HasMoves k
-has-moves k x (inl h) n = h
-has-moves k x (inr e) n = absurd (n (ap (λ (y : Progress Reply). y.phase) e))
-
-event-world : (o : Opening) (s : State) (p : ℕ) (e : Event) → IsNext o s p e → (event o s p).world ≡ world_after e s.world
-event-world o s p e next = ap (λ (x : Option Event). (after_event p s x).world) next.next
-
-pub world-acted : (o : Opening) (s : State) (p : ℕ) (k : Meaning) → IsNext o s p (event_of k Succeeds) → (event o s p).world ≡ (work_of k).act s.world
-world-acted o s p k next = event-world o s p (event_of k Succeeds) next ∙ act-world k s.world
-
-pub world-stays : (o : Opening) (s : State) (p : ℕ) (k : Meaning) (mv : Move Reply) → HasMoves k → (mv ≡ Succeeds → ⊥) → IsNext o s p (event_of k mv) → (event o s p).world ≡ s.world
-world-stays o s p k mv moves not next = event-world o s p (event_of k mv) next ∙ quiet-world k moves mv not s.world
 
 -- all of them together
 
@@ -167,7 +110,8 @@ gathered ls o trees s mem mem' t t' pos p now g' part are known st i sp shows ha
               still = λ q g in_q owes. sp.still (lock_grip_of s k) q g (apart (lock_grip_of s k) (locks-part s k)) in_q owes;
               filled = λ g q mine in_q fills. sp.filled g q (apart g mine) in_q fills;
             } in
-            let there = others-stay ls o trees s mem t pos k (event o s p).world mem'.words (on_table o.machine t') g' are known st j lv in
+            let stand : HeldStand (event o s p).world (s.lps k).call.held = subst (λ (z : Lp). HeldStand (event o s p).world z.call.held) (other k e) ((known.later p).stand k (subst (λ (n : ℕ). k < n) (sym (count_stays o s p ∙ known.count)) j)).0 in
+            let there = others-stay ls o trees s mem t pos k (event o s p).world mem'.words (on_table o.machine t') g' are known st j (λ g is. guest-stays ls.spare o s k p g known.guarded.timely is (λ same. not-same k p e (sym same))) stand lv in
             subst (λ (z : Position). Holds o trees k (event o s p).world mem'.words (on_table o.machine t') ((event o s p).lps k) z) (sym (at-other pos p k now e))
             (subst (λ (z : Lp). Holds o trees k (event o s p).world mem'.words (on_table o.machine t') z (pos k)) (sym (other k e)) there)
 
@@ -189,7 +133,7 @@ due-at ls o trees s mem t pos k r x are known st j e = by (pos k).fill (st.holds
     by : (f : Option Fill) → Pending o trees k s.world mem.words (on_table o.machine t) (s.lps k) (pos k).at (pos k).owes f → OwesAt o.machine (lock_grip_of s k) s.world r ⊎ FillsThere o.machine s k r
     by None pe = inl (last-each ls.places (OwesAt o.machine (lock_grip_of s k) s.world) (pos k).owes r x (keeps-each o.machine (lock_grip_of s k) s.world (on_table o.machine t) (pos k).owes pe) e)
     by (Some f) pe =
-        let here : DoesHere o s k f.does = does-here o trees s k f.does are known j pe.is in
+        let here : DoesHere o s k f.does = does-here o trees s k f.does (pos k).at mem.words are known j (st.holds k j).stands pe.is in
         let may = fill-may o trees s mem t pos k f known st here (on_table o.machine t) (pos k).at (pos k).owes pe in
         inr (record { grip = act_grip s mem k f.does; part = act-part o s mem k f.does here; fills = made here may (last_at f.made r) refl })
       where

@@ -62,7 +62,7 @@ rearranged ls o trees s mem t t' pos p now are known sd slots still unfilled sam
         → Pending o trees k s.world mem.words (on_table o.machine t') (s.lps k) (pos k).at (pos k).owes f
     pending k j e None h = keeps-same o.machine (lock_grip_of s k) (lock_grip_of s k) s.world s.world (on_table o.machine t) (on_table o.machine t') (pos k).owes (λ q g owes. owes) (still k j e) h
     pending k j e (Some f) h =
-        let here : DoesHere o s k f.does = does-here o trees s k f.does are known j h.is in
+        let here : DoesHere o s k f.does = does-here o trees s k f.does (pos k).at mem.words are known j (sd.holds k j).stands h.is in
         let may = fill-may o trees s mem t pos k f known sd here (on_table o.machine t) (pos k).at (pos k).owes h in
         record {
           is = h.is;
@@ -98,7 +98,7 @@ pub loads-right : (ls : Laws) (o : Opening) (trees : Trees) (s : State) (mem : M
     → (pos p).owes ≡ [] → DoesHere o s p d → (ra : RunsAt (task_for o p d) d.far s.world mem.words run) → (e : run.stage ≡ stages.Trying)
     → IsLoadAt o.machine.pages (feed d.tree (ra.at.told e).told) at → a ≡ t.words at → LooksRight mem.words (feed d.tree (ra.at.told e).told) a
 loads-right ls o trees s mem t pos p d run at a are known sd i none here ra e load is =
-    by (feed d.tree told) (leaves-follow-rows task inst told here.means (at-moment o trees s mem t pos p d known sd here) (ra.at.told e).current) load
+    by (feed d.tree told) (leaves-follow-rows task inst told here.means (at-moment o trees s mem t pos p d run known sd here ra e) (ra.at.told e).current) load
   where
     m : Machine
     m = o.machine
@@ -154,7 +154,7 @@ loads-right ls o trees s mem t pos p d run at a are known sd i none here ra e lo
         other h (Some f) pe = inl (pe.undo q ∙ made (last_at f.made q) refl)
           where
             there : DoesHere o s j f.does
-            there = does-here o trees s j f.does are known l pe.is
+            there = does-here o trees s j f.does (pos j).at mem.words are known l (sd.holds j l).stands pe.is
 
             made : (x : Option ℕ) → last_at f.made q ≡ x → back (last_at f.made q) (mem.words q) ≡ None
             made None e = ap (λ (z : Option ℕ). back z (mem.words q)) e

@@ -1,21 +1,22 @@
 -- Where each processor is beside the flat machine, while a merge is gone through.
 use Rattle.mrtd_measure.specs.declared.measures.Measure.{Measure}
-use Rattle.std.proofs.Common.{◌≡◌, ◌⊎◌, ℕ, ◌+◌, ◌-◌, ◌^◌, ◌<◌, false, List, [], ◌∷◌, ◌++◌, map, length, Option, Some, None}
+use Rattle.std.proofs.Common.{◌≡◌, ◌⊎◌, ℕ, ◌+◌, ◌-◌, ◌^◌, ◌<◌, true, false, List, [], ◌∷◌, ◌++◌, map, length, Option, Some, None}
 use Rattle.td_words.specs.declared.machines.Machine.{Machine}
 use Rattle.td_words.specs.declared.calls.Call.{Call}
 use Rattle.td_words.specs.declared.replies.Reply.{Reply}
 use Rattle.td_words.specs.Place.{WordPlace, IsIn, address}
 use Rattle.td_words.specs.Laws.{PlacesInjective}
 use Rattle.flat_core.specs.World.{World, Made}
-use Rattle.flat_core.specs.Processor.{LockId, Held, Progress, Lp}
+use Rattle.flat_core.specs.Processor.{LockId, Held, Progress, nothing_yet, Guest, Lp}
 use Rattle.flat_core.specs.Locks.{sharers, refusals}
 use Rattle.flat_core.specs.Opening.{Opening}
 use Rattle.flat_core.specs.Row.{Move, Refuses, Succeeds}
 use Rattle.flat_core.specs.Table.{row_of}
 use Rattle.flat_core.specs.Lawful.{Lawful}
-use Rattle.flat_core.specs.Event.{State, start, lines_left, event}
+use Rattle.flat_core.specs.Event.{Event, next_event, State, start, lines_left, event}
 use Rattle.flat_core.specs.Run.{play, bundles_in}
 use Rattle.flat_core.specs.Laws.{EveryWorldIsLawful, LocksExclude, OthersStay, NoWordsToTell, IsBetween}
+use Rattle.flat_core.specs.Entered.{EventsSpare}
 use Rattle.word_rules.specs.Guards.{Grip}
 use Rattle.word_rules.specs.Permissions.{WordsNeverConflict, ActsNeverConflict, RespectsCompose}
 use Rattle.word_rules.specs.Views.{ViewsAreKept}
@@ -39,11 +40,19 @@ use Rattle.leaf_engine.specs.declared.events.Stage.TheVariants as stages
 use Rattle.leaf_engine.specs.Items.{AreChanged}
 use Rattle.leaf_engine.specs.Turns.{Standing, standing, has_ended, last_reply}
 use Rattle.leaf_engine.specs.Doing.{event_of, IsDoing, LeafAt, LeafAfter}
-use Rattle.leaf_engine.specs.OwnLists.{Piece, Unmarked, joined, marked_behind, TurnIn, TurnsInPieces, LeafTable, WordLp, after_turn, LpTurns, OwnTurns}
-use Rattle.leaf_engine.specs.Merges.{ByItsRow, IsStepOf}
-use Rattle.leaf_engine.specs.Guests.{WordGuest, guest_after, Step}
+use Rattle.leaf_engine.specs.OwnLists.{Piece, Unmarked, joined, marked_behind, TurnIn, TurnsInPieces, LeafTable, WordLp, after_turn, after_step, step_leaf, LpTurns, OwnTurns}
+use Rattle.leaf_engine.specs.Merges.{ByItsRow, IsStepOf, AreCodes}
+use Rattle.std.specs.Prelude.{slice_index}
+use Rattle.td_words.specs.declared.replies.Outcome.{Outcome}
+use Rattle.flat_core.specs.AccessLaw.{IsGuarded}
+use Rattle.leaf_engine.specs.Calls.{AreLocks}
+use Rattle.leaf_engine.specs.Standing.{out_progress}
+use Rattle.leaf_engine.specs.Doing.{HasMoves}
+use Rattle.merge_laws.proofs.Steps.{SameGuest}
+use Rattle.merge_laws.proofs.Stepped.{IsFinePhase, position_by}
+use Rattle.leaf_engine.specs.Guests.{WordGuest, guest_after, Step, step_of, gives_epoch_back}
 use Rattle.leaf_engine.specs.Trees.{added}
-use Rattle.merge_laws.specs.Laws.{AreBundlesOf, LinesEnterNone}
+use Rattle.merge_laws.specs.Laws.{AreBundlesOf}
 use Rattle.merge_laws.proofs.Stores.{Due, due, last_at, or_else, laid}
 use Rattle.merge_laws.proofs.Swaps.{SwapDue, slots_laid, SwapsMay}
 use Rattle.merge_laws.proofs.Owing.{Owed, stores_in, swaps_in, AreOwed}
@@ -72,6 +81,7 @@ pub record Laws : Type 0 where
   pub views : ViewsAreKept
   pub start : StartIsShown
   pub one : TurnsInPieces
+  pub spare : EventsSpare
 
 -- leaves by their trees: of each call, and of each step of a guest, with what it means
 pub record Trees : Type 0 where
@@ -92,7 +102,7 @@ pub record AreTrees (o : Opening) (trees : Trees) : Type 0 where
   pub means : (p : ℕ) (c : Call) → MeansRow (leaf_for o trees p c)
   pub steps : (p t v line : ℕ) (step : Step) → ByItsRow o t v line step (trees.means p t v line step)
   pub steps_mean : (p t v line : ℕ) (step : Step) → IsStepOf step → MeansRow (step_for o trees p t v line step)
-  pub enters_none : LinesEnterNone o
+  pub codes : AreCodes o
 
 -- its own list, turn by turn
 abbrev pub TurnsTo : Opening → Trees → ℕ → WordLp → List (List Piece) → WordLp → Type 0
@@ -108,6 +118,9 @@ pub record Known (o : Opening) (s : State) : Type 0 where
   pub few : (l : LockId) → sharers s.lps s.lp_count l + refusals s.lps s.lp_count l + 1 < 2 ^ 63
   pub nothing_to_tell : s.world.outgoing.to_tell ≡ None
   pub facts : Facts s
+  pub guarded : IsGuarded o s
+  pub next : (p : ℕ) (e : Event) → next_event o s p ≡ Some e → IsNext o s p e
+  pub later : (p : ℕ) → Facts (event o s p)
 
 abbrev pub NoneOnWay : Standing → Type 0
 NoneOnWay run = run.stage ≡ stages.Trying → run.hasher ≡ None
@@ -150,40 +163,103 @@ pub record OnCall (o : Opening) (trees : Trees) (p : ℕ) (c : Call) (w : World)
   pub guest : lp.guest ≡ None
   pub runs : RunsAt (leaf_for o trees p c) lp.call w words run
 
-abbrev pub RunAt : Opening → Trees → ℕ → World → (WordPlace → ℕ) → Lp → List Call → Option Standing → Option WordGuest → Type 0
-RunAt o trees p w words lp cs None None = IsBetween lp
-RunAt o trees p w words lp (c ∷ cs) (Some r) None = OnCall o trees p c w words lp r
-RunAt o trees p w words lp _ _ _ = ⊥
+-- the run of a guest's step is as far as the flat machine's operation
+pub record StepFar (task : Task) (w : World) (words : WordPlace → ℕ) (v n : ℕ) (run : Standing) (x : Progress (Option Outcome)) : Type 0 where
+  pub own : Progress Reply
+  pub is : out_progress own ≡ x
+  pub single : HasMoves task.meaning ⊎ (own ≡ nothing_yet)
+  pub fine : IsFinePhase own.phase
+  pub position : w.vps.positions v ≡ position_by n own.phase
+  pub runs : RunsAt task own w words run
+
+abbrev pub StepRun : Task → World → (WordPlace → ℕ) → (v n : ℕ) → Option Standing → Progress (Option Outcome) → Type 0
+StepRun task w words v n None x = (x ≡ nothing_yet) × (w.vps.positions v ≡ n)
+StepRun task w words v n (Some run) x = StepFar task w words v n run x
+
+-- in a guest, whose VP.ENTER has acted and holds what the flat machine's does
+pub record InGuestAt (o : Opening) (trees : Trees) (p : ℕ) (w : World) (words : WordPlace → ℕ) (lp : Lp) (line : Standing) (x : WordGuest) (rs : List Reply) (b : Beside) : Type 0 where
+  pub guest : Guest
+  pub is_in : lp.guest ≡ Some guest
+  pub same : SameGuest guest x
+  pub root : slice_index (w.tds.controls x.tdr) 1 ≡ x.root
+  pub index : w.vps.indexes x.vp ≡ x.index
+  pub far : StepRun (step_leaf (table_for o trees p) x rs b) w words x.vp x.position x.run guest.operation
+  pub reply : Reply
+  pub answered : line.stage ≡ stages.Answered reply
+  pub held : AreLocks o.machine w line.held lp.call.held
+  pub waits : gives_epoch_back line.held ≡ true → x.run ≡ None
+
+abbrev pub RunAt : Opening → Trees → ℕ → World → (WordPlace → ℕ) → Lp → List Call → Option Standing → Option WordGuest → List Reply → Beside → Type 0
+RunAt o trees p w words lp cs None None rs b = IsBetween lp
+RunAt o trees p w words lp (c ∷ cs) (Some r) None rs b = OnCall o trees p c w words lp r
+RunAt o trees p w words lp (c ∷ cs) (Some r) (Some x) rs b = InGuestAt o trees p w words lp r x rs b
+RunAt o trees p w words lp _ _ _ rs b = ⊥
 
 pub record StandsAt (o : Opening) (trees : Trees) (p : ℕ) (w : World) (words : WordPlace → ℕ) (lp : Lp) (at : WordLp) : Type 0 where
   pub lines : lines_left o p lp ≡ at.lines
   pub replies : lp.replies ≡ at.replies
   pub beside : beside_of lp at.beside.bundles ≡ at.beside
-  pub run : RunAt o trees p w words lp at.lines at.run at.guest
+  pub run : RunAt o trees p w words lp at.lines at.run at.guest at.replies at.beside
 
--- a call, as what its processor does
-abbrev pub call_does : Opening → Trees → ℕ → Lp → Call → List Call → List Reply → Beside → Does
-call_does o trees p lp c cs rs b = record {
+-- a call, as what its processor does, so far, with the guest that it is in
+abbrev pub line_does : Opening → Trees → ℕ → Progress Reply → Call → List Call → Option WordGuest → List Reply → Beside → Does
+line_does o trees p far c cs g rs b = record {
   tree = trees.call p c;
   meaning = OfCall (row_of o p c);
   kept = [];
-  far = lp.call;
+  far = far;
   bundles = b.bundles;
-  within = λ run. record { lines = c ∷ cs; run = Some run; guest = None; replies = rs; beside = b };
-  after = λ e run. after_turn c cs (guest_after e run.rest None) rs (beside_after e run.rest b) run (last_reply run.stage run.held);
+  within = λ run. record { lines = c ∷ cs; run = Some run; guest = g; replies = rs; beside = b };
+  after = λ e run. after_turn c cs (guest_after e run.rest g) rs (beside_after e run.rest b) run (last_reply run.stage run.held);
 }
 
--- whatever others do, a processor does this while it is as it is
-pub record IsDoes (o : Opening) (trees : Trees) (p : ℕ) (lp : Lp) (d : Does) : Type 0 where
+abbrev pub call_does : Opening → Trees → ℕ → Lp → Call → List Call → List Reply → Beside → Does
+call_does o trees p lp c cs rs b = line_does o trees p lp.call c cs None rs b
+
+-- a guest's step, under the locks of its VP.ENTER
+abbrev pub step_does : Opening → Trees → ℕ → Lp → Progress Reply → Call → List Call → Standing → WordGuest → List Reply → Beside → Does
+step_does o trees p lp far c cs line x rs b = record {
+  tree = trees.step p x.tdr x.vp (length rs + 1) (step_of o.codes b.cached x);
+  meaning = trees.means p x.tdr x.vp (length rs + 1) (step_of o.codes b.cached x);
+  kept = lp.call.held;
+  far = far;
+  bundles = b.bundles;
+  within = λ run. record { lines = c ∷ cs; run = Some line; guest = Some (record x { run = Some run }); replies = rs; beside = b };
+  after = λ e run. after_step c cs line x rs (beside_after e run.rest b) (step_of o.codes b.cached x) run (last_reply run.stage run.held);
+}
+
+-- at a call line
+pub record IsOnLine (o : Opening) (trees : Trees) (p : ℕ) (lp : Lp) (at : WordLp) (d : Does) : Type 0 where
   pub call : Call
   pub further : List Call
-  pub replies : List Reply
-  pub beside : Beside
-  pub lines : lines_left o p lp ≡ call ∷ further
-  pub replies_are : lp.replies ≡ replies
-  pub beside_is : beside_of lp beside.bundles ≡ beside
+  pub lines_are : at.lines ≡ call ∷ further
+  pub outside : at.guest ≡ None
   pub guest : lp.guest ≡ None
-  pub is : d ≡ call_does o trees p lp call further replies beside
+  pub is : d ≡ call_does o trees p lp call further at.replies at.beside
+
+-- or in a guest
+pub record IsInStep (o : Opening) (trees : Trees) (p : ℕ) (lp : Lp) (at : WordLp) (d : Does) : Type 0 where
+  pub call : Call
+  pub further : List Call
+  pub line : Standing
+  pub base : WordGuest
+  pub run : Option Standing
+  pub guest : Guest
+  pub own : Progress Reply
+  pub lines_are : at.lines ≡ call ∷ further
+  pub run_is : at.run ≡ Some line
+  pub guest_is : at.guest ≡ Some (record base { run = run })
+  pub freed : gives_epoch_back line.held ≡ false
+  pub hand : (x : Hand) × IsHand line.hasher x
+  pub is_in : lp.guest ≡ Some guest
+  pub far : out_progress own ≡ guest.operation
+  pub single : HasMoves (trees.means p base.tdr base.vp (length at.replies + 1) (step_of o.codes at.beside.cached base)) ⊎ (own ≡ nothing_yet)
+  pub fine : IsFinePhase own.phase
+  pub is : d ≡ step_does o trees p lp own call further line base at.replies at.beside
+
+-- whatever others do, a processor that stands there does this while it is as it is
+abbrev pub IsDoes : Opening → Trees → ℕ → Lp → WordLp → Does → Type 0
+IsDoes o trees p lp at d = IsOnLine o trees p lp at d ⊎ IsInStep o trees p lp at d
 
 -- what it does in a state: its leaf means what it does, which is the flat machine's next event, under these locks
 pub record DoesHere (o : Opening) (s : State) (p : ℕ) (d : Does) : Type 0 where
@@ -193,10 +269,18 @@ pub record DoesHere (o : Opening) (s : State) (p : ℕ) (d : Does) : Type 0 wher
   pub held_tdrs : HoldTdrs (locks_at (s.lps p))
   pub undo_tdr : UndoTdr d.far.phase (locks_at (s.lps p))
 
--- a run has this hasher in hand
-abbrev pub HasInHand : Option Standing → Option Measure → Type 0
-HasInHand None h = Unit {0}
-HasInHand (Some r) h = r.hasher ≡ h
+-- the hasher that a run has in hand is this one, or is known
+abbrev pub HandKnown : Option Standing → Option Measure → Type 0
+HandKnown None h = Unit {0}
+HandKnown (Some r) h = (r.hasher ≡ h) ⊎ ((x : Hand) × IsHand r.hasher x)
+
+abbrev pub guest_run : Option WordGuest → Option Standing
+guest_run None = None
+guest_run (Some g) = g.run
+
+-- so of a processor's line, and of its guest
+abbrev pub HasInHand : WordLp → Option Measure → Type 0
+HasInHand at h = HandKnown at.run h × HandKnown (guest_run at.guest) h
 
 -- where a run then is doesn't hang on the hasher in hand
 abbrev pub with_hasher : Standing → Option Measure → Standing
@@ -216,14 +300,15 @@ IsAct _ = ⊥
 
 -- where it leads: on its way, and after each turn of it
 pub record Leads (o : Opening) (trees : Trees) (s : State) (p : ℕ) (d : Does) : Type 0 where
-  pub within_stands : (words : WordPlace → ℕ) (run : Standing) → RunsAt (task_for o p d) d.far s.world words run → StandsAt o trees p s.world words (s.lps p) (d.within run)
+  pub within_stands : (words : WordPlace → ℕ) (run : Standing) → RunsAt (task_for o p d) d.far s.world words run → run.stage ≡ stages.Trying → StandsAt o trees p s.world words (s.lps p) (d.within run)
+  pub within_is : (words : WordPlace → ℕ) (run : Standing) → RunsAt (task_for o p d) d.far s.world words run → run.stage ≡ stages.Trying → IsDoes o trees p (s.lps p) (d.within run) d
   pub within_bundles : (run : Standing) → (d.within run).beside.bundles ≡ d.bundles
-  pub within_run : (run : Standing) (h : Option Measure) → run.hasher ≡ h → HasInHand (d.within run).run h
-  pub turns : (run run' : Standing) (e : RunEvent) (tp : List Piece) → TurnIn run.stage o.machine run tp run' e → has_ended run.stage run.held ≡ false → LpTurns (table_for o trees p) o.machine (d.within run) e tp (d.after e run')
+  pub within_run : (words : WordPlace → ℕ) (run : Standing) (h : Option Measure) → RunsAt (task_for o p d) d.far s.world words run → run.stage ≡ stages.Trying → run.hasher ≡ h → HasInHand (d.within run) h
+  pub turns : (words : WordPlace → ℕ) (run run' : Standing) (e : RunEvent) (tp : List Piece) → RunsAt (task_for o p d) d.far s.world words run → run.stage ≡ stages.Trying → TurnIn run.stage o.machine run tp run' e → has_ended run.stage run.held ≡ false → LpTurns (table_for o trees p) o.machine (d.within run) e tp (d.after e run')
   pub after_stands : (u : Table) (run' : Standing) (h : Option Measure) (e : RunEvent) → (la : LeafAfter o (task_for o p d) s d.far u (with_hasher run' h) e) → NoneOnWay run'
       → StandsAt o trees p (event o s p).world la.mem.words ((event o s p).lps p) (d.after e run')
   pub after_grows : (u : Table) (run' : Standing) (h : Option Measure) (e : RunEvent) → LeafAfter o (task_for o p d) s d.far u (with_hasher run' h) e → Grows (bundles_in s) (bundles_in (event o s p)) d.bundles (d.after e run').beside.bundles
-  pub after_run : (e : RunEvent) (run' : Standing) (h : Option Measure) → run'.hasher ≡ h → HasInHand (d.after e run').run h
+  pub after_run : (e : RunEvent) (run' : Standing) (h : Option Measure) → run'.hasher ≡ h → HasInHand (d.after e run') h
   pub locks_stay : (mv : Move Reply) → IsAct mv → IsNext o s p (event_of d.meaning mv) → locks_at ((event o s p).lps p) ≡ locks_at (s.lps p)
 
 -- a leaf that stores before its act: what its processor does, its run and the end that it has come to, the stores that it
@@ -270,7 +355,7 @@ pub record AreLeftLoaded (all left : List Todo) : Type 0 where
 -- What is told of a leaf that fills: what it was told, the end that it has come to, and which fills are made. That they are
 -- allowed its meaning says in each state.
 pub record FillHolds (o : Opening) (trees : Trees) (p : ℕ) (w : World) (words a : WordPlace → ℕ) (lp : Lp) (at : WordLp) (owes : List Due) (f : Fill) : Type 0 where
-  pub is : IsDoes o trees p lp f.does
+  pub is : IsDoes o trees p lp at f.does
   pub at_is : at ≡ f.does.within f.run
   pub runs : RunsAt (task_for o p f.does) f.does.far w words f.run
   pub trying : f.run.stage ≡ stages.Trying
@@ -303,7 +388,7 @@ pub record Rest (o : Opening) (trees : Trees) (p : ℕ) (at : WordLp) (owes : Li
   pub items : List Taken
   pub last : Option Measure
   pub are : AreOwed o.machine.pages hasher hand items owed last
-  pub last_is : HasInHand at.run last
+  pub last_is : HasInHand at last
   pub turns : List (List Piece)
   pub pieces : ps ≡ map Unmarked items ++ joined turns
   pub own : TurnsTo o trees p at turns end_

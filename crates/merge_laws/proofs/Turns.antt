@@ -27,7 +27,7 @@ use Rattle.leaf_engine.specs.OwnLists.{Piece, Unmarked, Marked, joined, last_mar
 use Rattle.leaf_engine.proofs.Decided.{settled}
 use Rattle.leaf_engine.proofs.Loading.{LooksRight}
 use Rattle.merge_laws.proofs.Stores.{Due, last_at, laid-same}
-use Rattle.merge_laws.proofs.Standing.{table_for, Trees, Does, TurnsTo, Laws, on_table, Position}
+use Rattle.merge_laws.proofs.Standing.{table_for, Trees, Does, TurnsTo, Laws, on_table, Position, RunsAt, task_for}
 use Rattle.merge_laws.proofs.SlotSteps.{slots-stay}
 use Rattle.merge_laws.proofs.Own.{at-other}
 use Rattle.merge_laws.proofs.QuietSteps.{rearranged, loads-right, GoesOnBehind, loaded, told-load}
@@ -50,7 +50,7 @@ load-piece ls o trees s mem t pos p d run run' e at x tp tps end_ a none st load
       now = now;
       stands = rearranged ls o trees s mem t t pos p now a.are a.known a.all (slots-stay o s mem.slots t.slots pos p now a.all.slots (sym a.no_swaps)) (λ k j f q g in_q owes. refl) (λ k j f g part q in_q fills. refl) (a.leads.within_bundles (loaded run x) ∙ a.bundles)
           (record {
-            stands = a.leads.within_stands mem.words (loaded run x) (told-load o p d s.world mem.words run x a.runs st right (subst (λ (z : Tree). GoesOnBehind z x) (told-tree o trees s mem t pos p d run a st) on));
+            stands = a.leads.within_stands mem.words (loaded run x) going_on st;
             due = tt;
           })
           (λ r in_r. a.all.laid_is r in_r ∙ laid-same (length o.calls) (λ k. (pos k).owes) (λ k. (put pos p now k).owes) (on_table o.machine t) (on_table o.machine t) r (λ k j. same k r) refl);
@@ -64,7 +64,7 @@ load-piece ls o trees s mem t pos p d run run' e at x tp tps end_ a none st load
         items = [];
         last = run.hasher;
         are = λ i. (refl, i);
-        last_is = a.leads.within_run (loaded run x) run.hasher refl;
+        last_is = a.leads.within_run mem.words (loaded run x) run.hasher going_on st refl;
         turns = tp ∷ tps;
         pieces = refl;
         own = (e, (after, line, own));
@@ -77,11 +77,14 @@ load-piece ls o trees s mem t pos p d run run' e at x tp tps end_ a none st load
     after : WordLp
     after = d.after e run'
 
-    line : LpTurns (table_for o trees p) o.machine (d.within (loaded run x)) e tp after
-    line = a.leads.turns (loaded run x) run' e tp (subst (λ (z : Stage). TurnIn z o.machine (loaded run x) tp run' e) (sym st) goes) a.going
-
     right : LooksRight mem.words (feed d.tree (a.runs.at.told st).told) x
     right = loads-right ls o trees s mem t pos p d run at x a.are a.known a.all a.inside none a.here a.runs st (subst (λ (z : Tree). IsLoadAt o.machine.pages z at) (told-tree o trees s mem t pos p d run a st) load) an
+
+    going_on : RunsAt (task_for o p d) d.far s.world mem.words (loaded run x)
+    going_on = told-load o p d s.world mem.words run x a.runs st right (subst (λ (z : Tree). GoesOnBehind z x) (told-tree o trees s mem t pos p d run a st) on)
+
+    line : LpTurns (table_for o trees p) o.machine (d.within (loaded run x)) e tp after
+    line = a.leads.turns mem.words (loaded run x) run' e tp going_on st (subst (λ (z : Stage). TurnIn z o.machine (loaded run x) tp run' e) (sym st) goes) a.going
 
     same : (k : ℕ) (r : WordPlace) → last_at (pos k).owes r ≡ last_at (put pos p now k).owes r
     same k r = by (k == p) refl

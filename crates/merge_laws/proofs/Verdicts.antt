@@ -159,7 +159,7 @@ end-now ls o trees s mem t pos p d run run' e (End r (f ∷ fs) ds) changes repl
     ∙ (ap (λ (z : List Piece). z ++ joined tps) (sym many) ∙ (ap (λ (z : List Taken). marked_behind (items_in (f ∷ fs)) z ++ joined tps) (sym two.items) ∙ h)) in
     fill-piece ls o trees s mem t pos p (record { does = d; run = run; answer = r; fills = f ∷ fs; changes = ds; made = []; left = all_todos (f ∷ fs) }) last piece ps a
     (record {
-      is = a.is;
+      is = a.leads.within_is mem.words run a.runs st;
       at_is = refl;
       runs = a.runs;
       trying = st;

@@ -1,5 +1,6 @@
 -- What the call's histories say of each status, and what changes.
-use Rattle.std.proofs.Common.{◌≡◌, ◌≢◌, ◌⊎◌, inl, inr, refl, sym, ◌∙◌, ap, subst, ℕ, List, [], ◌∷◌, ◌++◌, append-nil, append_assoc, length, ◌≤◌, Option, Some, None, IfSome, IfNone, Result, Ok, Err, arith}
+use Rattle.std.proofs.Common.{◌≡◌, ◌≢◌, ◌⊎◌, inl, inr, refl, sym, ◌∙◌, ap, subst, ℕ, List, [], ◌∷◌, ◌++◌, append-nil, append_assoc, length, ◌≤◌, Option, Some, None, IfSome, IfNone, Result, Ok, Err, true, false, ◌==◌, arith}
+use Rattle.std.proofs.lemmas.Bool.Decides.{eqb_tells}
 use Rattle.std.specs.Global.{Vec}
 use Rattle.script_text.specs.declared.faults.ScriptFault.{ScriptFault}
 use Rattle.script_text.specs.Reading.{read_of}
@@ -428,6 +429,15 @@ module _ (contents : Option (List ℕ → Option (List ℕ))) (c : Option Comman
   put_memory (inl (e, comes, p)) s =
       memory_put names e (few_of e comes) w w' o o' status (memory_due contents c r r' e o.puts o'.puts (came contents c r r' e comes)) s (closing e w w' o o' status p)
   put_memory (inr (part, kept, (five, answer, last))) s = alone_put names memory_end (omega arith) w w' o o' status answer last.noted
+
+  -- check has no inputs whose form could be wrong
+  pub check_status : Does → (name : List ℕ) → c ≡ Some (Check name) → status ≤ 7 → status ≤ 5
+  check_status d name is few = by (eqb_tells status 6) (eqb_tells status 7)
+    where
+      by : (((status == 6) ≡ true) × (status ≡ 6)) ⊎ (((status == 6) ≡ false) × (status ≢ 6)) → (((status == 7) ≡ true) × (status ≡ 7)) ⊎ (((status == 7) ≡ false) × (status ≢ 7)) → status ≤ 5
+      by (inl six) y = absurd (let q = sym is ∙ (put_place d six.1).read_as in cc)
+      by (inr not_six) (inl seven) = absurd (let q = sym is ∙ (put_keys d seven.1).read_as in cc)
+      by (inr not_six) (inr not_seven) = omega (arith, few, not_six.1, not_seven.1)
 
   abbrev Ends : (List ℕ → Option (List ℕ)) → Type 0
   Ends k = EndsWith before after k c o.told o'.told status

@@ -1,9 +1,9 @@
 //! The top call: the ending that is due is decided, and then told.
 
-ghost use Rattle.std.specs.Prelude.{◌≡◌, ◌≢◌, ◌≤◌, ◌⊎◌, ◌++◌, ◌∷◌, [], ℕ, List, None, Result, Ok, map, option_map, string_bytes, IfSome, IfOk};
+ghost use Rattle.std.specs.Prelude.{◌≡◌, ◌≢◌, ◌≤◌, ◌⊎◌, ◌++◌, ◌∷◌, [], ℕ, List, None, Some, Result, Ok, map, option_map, string_bytes, IfSome, IfOk};
 ghost use Rattle.bundle_store.specs.Containers.{container_bytes};
 ghost use Rattle.bundle_store.specs.History.{Put};
-ghost use Rattle.command_files.specs.Commands.{command_in};
+ghost use Rattle.command_files.specs.Commands.{Check, command_in};
 ghost use Rattle.script_runner.specs.Ending.{opening_of, ending_seen, file_named, ending_of, memory_end};
 ghost use Rattle.script_runner.specs.Accesses.{OwnAccesses};
 ghost use Rattle.script_runner.specs.Ends.{PutsPart, EndsWith, OneRun, IsComplete, IsBadScript, IsBadContainer, IsBadKeys, ReadCause, WriteCause, PutsFronts};
@@ -205,6 +205,7 @@ pub fn tdx_main<F: Files, K: Sink, G: Gate + Sync>(
     // they tell.
     ensures does_command { DoesCommand (F.contents files.old) (command_in (map string_bytes words.now)) (record { loads = F.loads files.old; faults = F.read_faults files.old; bytes = F.bytes_read files.old }) (record { loads = F.loads files.new; faults = F.read_faults files.new; bytes = F.bytes_read files.new }) (record { contents = F.contents files.old; saves = F.saves files.old; faults = F.write_faults files.old }) (record { contents = F.contents files.new; saves = F.saves files.new; faults = F.write_faults files.new }) (record { told = K.told out.old; puts = K.puts out.old; faults = K.faults out.old }) (record { told = K.told out.new; puts = K.puts out.new; faults = K.faults out.new }) result }
     ensures statuses { result ≤ 7 }
+    ensures checked { (name : List ℕ) → command_in (map string_bytes words.now) ≡ Some (Check name) → result ≤ 5 }
     // Whatever the status, the script is loaded, and then the inputs that are due or nothing, and each
     // load answers as its law says.
     ensures loads { ComesPart (F.contents files.old) (command_in (map string_bytes words.now)) (record { loads = F.loads files.old; faults = F.read_faults files.old; bytes = F.bytes_read files.old }) (record { loads = F.loads files.new; faults = F.read_faults files.new; bytes = F.bytes_read files.new }) }

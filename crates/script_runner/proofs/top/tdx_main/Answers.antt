@@ -1,11 +1,14 @@
 use Rattle.std.proofs.Common.{ap}
 use Rattle.script_runner.specs.Saving.{Writes}
 use Rattle.script_runner.proofs.Accesses.{in-put, in-one}
-use Rattle.script_runner.proofs.Histories.{all_loads, all_ends, told_run, told_complete, told_bad, told_container, told_keys, told_fronts, put_run, all_saved, put_usage, put_fault, put_name, put_place, put_keys, put_lost, put_memory, unread_cause, lost_cause, used, one_text, some_text, same_files, kept_or_saved, none_saved}
+use Rattle.script_runner.proofs.Histories.{check_status, all_loads, all_ends, told_run, told_complete, told_bad, told_container, told_keys, told_fronts, put_run, all_saved, put_usage, put_fault, put_name, put_place, put_keys, put_lost, put_memory, unread_cause, lost_cause, used, one_text, some_text, same_files, kept_or_saved, none_saved}
 use Rattle.script_runner.proofs.top.tdx_main.Goals as goal
 
 pub returns-clause-loads : goal.returns-clause-loads
 returns-clause-loads g c = all_loads _ _ _ _ _ _ _ _ _ c.do_command.ensures.does
+
+pub returns-clause-checked : goal.returns-clause-checked
+returns-clause-checked g c name is = check_status _ _ _ _ _ _ _ _ _ c.do_command.ensures.does name is c.do_command.ensures.few
 
 pub returns-clause-put_run : goal.returns-clause-put_run
 returns-clause-put_run g c = put_run _ _ _ _ _ _ _ _ _ c.do_command.ensures.does

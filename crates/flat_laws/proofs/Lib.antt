@@ -1,0 +1,6 @@
+pub mod Owners
+pub mod Usable
+pub mod Accesses
+pub mod Unreached
+pub mod Moves
+pub mod Worked

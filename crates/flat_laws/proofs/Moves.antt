@@ -1,0 +1,200 @@
+-- Pages that move: what is given back was out of reach, and what is taken waits, for its guest to accept it or for its TD to be
+-- built.
+use Rattle.std.proofs.Common.{◌≡◌, ◌⊎◌, inl, inr, refl, sym, ◌∙◌, ap, subst, ℕ, zero, suc, ◌≤◌, [], ◌∷◌, Option, Some, None, Bool, true, false, not, ◌==◌, arith}
+use Rattle.std.specs.List.{list_any}
+use Rattle.std.proofs.lemmas.Bool.{eq-eqb, eqb-true, and_parts}
+use Rattle.td_words.specs.declared.calls.Call.{Call}
+use Rattle.td_words.specs.declared.calls.Call.TheVariants as call
+use Rattle.td_words.specs.declared.names.PageKind.{PageKind}
+use Rattle.td_words.specs.declared.names.PageKind.TheVariants as kind
+use Rattle.td_words.specs.declared.names.LifeState.TheVariants as life
+use Rattle.td_words.specs.declared.names.EntryState.{EntryState}
+use Rattle.td_words.specs.declared.names.EntryState.TheVariants as entry
+use Rattle.td_words.specs.declared.replies.Reply.{Reply}
+use Rattle.td_words.specs.NameNumber.{life_number}
+use Rattle.td_words.specs.Packing.{Entry}
+use Rattle.flat_core.specs.World.{World, put}
+use Rattle.flat_core.specs.Processor.{Lp}
+use Rattle.flat_core.specs.Opening.{Opening}
+use Rattle.flat_core.specs.Conditions.{is_host, is_host_in}
+use Rattle.flat_core.specs.Row.{Move, Attempts, Undoes, Refuses, Succeeds, Releases, Rests, Passes, next_in}
+use Rattle.flat_core.specs.Table.{row_of}
+use Rattle.flat_core.specs.Tracking.{tracked_page}
+use Rattle.flat_core.specs.Tree.{entry_at, number_at, same_state, empty_below}
+use Rattle.flat_core.specs.KeyRows.{reclaim_conditions}
+use Rattle.flat_core.specs.MemRows.{removed_states}
+use Rattle.flat_core.specs.Alike.{is_being_built}
+use Rattle.flat_core.specs.Lawful.{Lawful}
+use Rattle.flat_core.specs.Event.{State, Event, OfCall, next_event, after_event, event}
+use Rattle.flat_core.specs.Laws.{reached, IsUsedAsBefore, gives_back}
+use Rattle.flat_core.specs.PageUses.{is_act}
+use Rattle.flat_core.specs.Access.{entry_of, is_pending}
+use Rattle.flat_core.specs.AccessLaw.{IsGuarded}
+use Rattle.flat_core.proofs.Tests.{by_test, host_kind, tdr_kind, range_of}
+use Rattle.flat_core.proofs.Maps.{kind_named, node_named}
+use Rattle.flat_core.proofs.Ranges.{named_passed, named_alive, page_removed, sept_removed}
+use Rattle.flat_core.proofs.Keeps.{ended_of}
+use Rattle.flat_core.proofs.Enter.{passed}
+use Rattle.flat_core.proofs.Due.{Due, calls, frees, leaves, stops, fills, operates, walks, reaches, undoes, gives_back as returns, due_event_is}
+use Rattle.flat_core.proofs.OneUse.{one_use, events_keep_uses}
+use Rattle.flat_core.proofs.Accesses.{is_begun}
+use Rattle.flat_core.proofs.Always.{always_guarded, access_kept}
+use Rattle.flat_laws.specs.Usable.{IsUnnamed, MovesUnnamed, PagesMoveUnnamed}
+use Rattle.flat_laws.specs.Unreached.{unreached_in, is_unreached}
+use Rattle.flat_laws.proofs.Usable.{current, alive, node, own, host-unnamed, guarded-names}
+use Rattle.flat_laws.proofs.Unreached.{closed-is-unreached, is-sound}
+
+removed-unreached : (x : EntryState) (over : Bool) → list_any (λ a. same_state a x) removed_states ≡ true → over ≡ true → unreached_in x over ≡ true
+removed-unreached entry.Blocked over h k = k
+removed-unreached entry.PendingBlocked over h k = refl
+removed-unreached _ over h k = cc
+
+not-private : (level : ℕ) → 1 ≤ level → kind_named level ≡ kind.Reg → ⊥
+not-private zero low e = omega (arith, low)
+not-private (suc l) low e = cc
+
+-- the page's entry is pending, or its TD isn't built
+abbrev Waits : World → ℕ → Type 0
+Waits w q = (is_pending (w.tds.entries (w.pages.owners q) 0 (w.pages.numbers q)).state ≡ true) ⊎ (is_being_built (w.tds.ops (w.pages.owners q)) ≡ true)
+
+abbrev WaitsWherePrivate : World → ℕ → Type 0
+WaitsWherePrivate w q = w.pages.kinds q ≡ kind.Reg → Waits w q
+
+waits-unnamed : (o : Opening) (s : State) → IsGuarded o s → (q : ℕ) → WaitsWherePrivate s.world q → IsUnnamed s q
+waits-unnamed o s all q waits p c u is =
+    let la : Lawful o.machine s.world = all.timely.lawful in
+    let its = own o.machine s la all.access p c u in
+    let at = node o.machine s la all.access p c u in
+    let now = current o.machine s la all.access p c u in
+    let owner : s.world.pages.owners q ≡ c.tdr = ap s.world.pages.owners (sym is) ∙ its.private.owner in
+    let number : s.world.pages.numbers q ≡ c.gpa_page = ap s.world.pages.numbers (sym (now.named.page_is ∙ is)) ∙ at.number_is in
+    let here = (all.access.each p).associated c u.cached in
+    elim (waits (ap s.world.pages.kinds (sym is) ∙ its.private.kind)) [
+      | inl pends ↦ (let same : s.world.tds.entries (s.world.pages.owners q) 0 (s.world.pages.numbers q) ≡ entry_of s.world c = ap (λ (z : ℕ). s.world.tds.entries z 0 (s.world.pages.numbers q)) owner ∙ ap (λ (z : ℕ). s.world.tds.entries c.tdr 0 z) number in
+          let no : true ≡ false = sym pends ∙ (ap (λ (x : Entry). is_pending x.state) same ∙ now.accepted) in cc)
+      | inr building ↦ (let no : true ≡ false = sym building ∙ (ap (λ (z : ℕ). is_being_built (s.world.tds.ops z)) owner ∙ (all.access.epochs.bound c.tdr here.0 p here.1.tdr here.1.page here.1.associated).1) in cc)
+    ]
+
+module _ (o : Opening) (s : State) (me q : ℕ) (all : IsGuarded o s) where
+  abbrev w : World
+  w = s.world
+
+  abbrev lp : Lp
+  lp = s.lps me
+
+  la : Lawful o.machine w
+  la = all.timely.lawful
+
+  -- what a call gives back
+
+  owner_of : (t page : ℕ) (b : Bool) → (page == t) ≡ b → w.pages.kinds t ≡ kind.Tdr → Passes (reclaim_conditions w t page b) → w.pages.owners page ≡ t
+  owner_of t page true e root ps = let here : page ≡ t = eqb-true page t e in la.pages.tdr page (rw here root) ∙ here
+  owner_of t page false e root ps = eqb-true _ t (and_parts (not (is_host w page)) (w.pages.owners page == t) ps.0).1
+
+  given-unnamed : (c : Call) → Passes ((row_of o me c).items w) → gives_back c w q ≡ true → IsUnnamed s q
+  given-unnamed (call.PhymemPageReclaim t page) ps h p c u is =
+      let owner = owner_of t page (page == t) refl (tdr_kind _ ps.1.1.0) ps.1.1.1.1 in
+      let td : c.tdr ≡ t = sym (own o.machine s la all.access p c u).private.owner ∙ (ap w.pages.owners (is ∙ eqb-true q page h) ∙ owner) in
+      let living = alive o.machine s la all.access p c u in
+      let no : true ≡ false = sym (ended_of (w.tds.lives t) ps.1.1.1.0) ∙ (ap (λ (z : ℕ). life_number (w.tds.lives z) == life_number life.Teardown) (sym td) ∙ living.life) in cc
+  given-unnamed (call.MemPageRemove t gpa) ps h p c u is =
+      let rest = tracked_page w t (entry_at w t 0 gpa).page ∷ [] in
+      let n = named_passed w t gpa 0 removed_states rest ps.1.1.1 in
+      let shut : is_unreached w t (number_at 0 gpa) ≡ true = removed-unreached (entry_at w t 0 gpa).state _ n.state n.rest_holds.0 in
+      (closed-is-unreached o.machine s p t (number_at 0 gpa) (is-sound o s all p) (named_alive w t gpa 0 removed_states rest n) shut).page
+      (page_removed (entry_at w t 0 gpa).state n.state).used c u (λ e. cc) (is ∙ eqb-true q _ h)
+  given-unnamed (call.MemSeptRemove t gpa level) ps h p c u is =
+      let rest = empty_below w t gpa level ∷ tracked_page w t (entry_at w t level gpa).page ∷ [] in
+      let n = named_passed w t gpa level (entry.NlBlocked ∷ []) rest ps.1.1.1.1 in
+      let used = (sept_removed (entry_at w t level gpa).state n.state).used in
+      let at = node_named o.machine w la t level (number_at level gpa) (named_alive w t gpa level (entry.NlBlocked ∷ []) rest n) used in
+      not-private level (range_of level 3 ps.1.1.0).0
+      (sym at.page.kind ∙ (ap w.pages.kinds (sym (is ∙ eqb-true q _ h)) ∙ (own o.machine s la all.access p c u).private.kind))
+  given-unnamed _ ps h p c u is = cc
+
+  given-host : (c : Call) → gives_back c w q ≡ true → is_host_in ((row_of o me c).act w).pages q ≡ true
+  given-host (call.PhymemPageReclaim t page) h = rw h refl
+  given-host (call.MemPageRemove t gpa) h = rw h refl
+  given-host (call.MemSeptRemove t gpa level) h = rw h refl
+  given-host _ h = cc
+
+  -- what a call takes of the host's
+
+  module _ (host : is_host_in w.pages q ≡ true) where
+    never : (k : PageKind) → k ≡ kind.Nda → k ≡ kind.Reg → ⊥
+    never k a b = let no : kind.Nda ≡ kind.Reg = sym a ∙ b in cc
+
+    -- another kind of page
+    other-kind : (page : ℕ) (k : PageKind) → (k ≡ kind.Reg → ⊥) → put w.pages.kinds page k q ≡ kind.Reg → ⊥
+    other-kind page k other e = by_test (q == page) (λ y. other (rw y at e)) (λ n. never (w.pages.kinds q) (host_kind _ host) (rw n at e))
+
+    taken-waits : (c : Call) → Passes ((row_of o me c).items w) → WaitsWherePrivate ((row_of o me c).act w) q
+    taken-waits (call.PhymemPageReclaim t page) ps e = absurd (other-kind page kind.Nda (λ k. cc) e)
+    taken-waits (call.MngCreate t h) ps e = absurd (other-kind t kind.Tdr (λ k. cc) e)
+    taken-waits (call.MngAddcx t page) ps e = absurd (other-kind page kind.Tdcx (λ k. cc) e)
+    taken-waits (call.VpCreate t page) ps e = absurd (other-kind page kind.Tdvpr (λ k. cc) e)
+    taken-waits (call.MemSeptAdd t gpa level page) ps e = absurd (other-kind page kind.Ept (λ k. cc) e)
+    taken-waits (call.MemPageRemove t gpa) ps e = absurd (other-kind (entry_at w t 0 gpa).page kind.Nda (λ k. cc) e)
+    taken-waits (call.MemSeptRemove t gpa level) ps e = absurd (other-kind (entry_at w t level gpa).page kind.Nda (λ k. cc) e)
+    taken-waits (call.MemPageAdd t gpa page source) ps e = by_test (q == page)
+        (λ y. inr (rw y (is_begun (w.tds.ops t) ps.1.1.1.1.1.1.1.1.1.1.1.0)))
+        (λ n. absurd (never (w.pages.kinds q) (host_kind _ host) (rw n at e)))
+    taken-waits (call.MemPageAug t gpa page) ps e = by_test (q == page)
+        (λ y. inl (let a = eq-eqb t t refl in let b = eq-eqb (number_at 0 gpa) (number_at 0 gpa) refl in rw (y, a, b) refl))
+        (λ n. absurd (never (w.pages.kinds q) (host_kind _ host) (rw n at e)))
+    taken-waits _ ps e = absurd (never (w.pages.kinds q) (host_kind _ host) e)
+
+  -- the act of a call
+
+  record IsActOf (c : Call) : Type 0 where
+    pub is : next_event o s me ≡ Some (OfCall (row_of o me c) Succeeds)
+    pub passes : Passes ((row_of o me c).items w)
+
+  by_move : (c : Call) (move : Move Reply) → next_event o s me ≡ Some (OfCall (row_of o me c) move) → (move ≡ Succeeds → Passes ((row_of o me c).items w)) → is_act (Some (OfCall (row_of o me c) move)) ≡ true → IsActOf c
+  by_move c Succeeds is passes a = record { is = is; passes = passes refl }
+  by_move c (Attempts l m) is passes a = cc
+  by_move c (Undoes l) is passes a = cc
+  by_move c (Refuses r) is passes a = cc
+  by_move c (Releases x) is passes a = cc
+  by_move c Rests is passes a = cc
+
+  by_due : (e : Event) → next_event o s me ≡ Some e → Due o w me lp e → is_act (Some e) ≡ true → (c : Call) × IsActOf c
+  by_due e is (calls c cs line none) a = (c, by_move c (next_in ((row_of o me c).items w) lp.call.phase lp.call.held) is (passed ((row_of o me c).items w) lp.call.phase lp.call.held) a)
+  by_due e is (frees c cs g x hs line guest held epoch) a = cc
+  by_due e is (leaves c cs g out x l) a = cc
+  by_due e is (stops c cs g x l t d) a = cc
+  by_due e is (fills c cs g op x l t d m) a = cc
+  by_due e is (operates c cs g op row x way by) a = cc
+  by_due e is (walks c cs g op access r gpa x way by lost) a = cc
+  by_due e is (reaches c cs g op access r gpa page x way by found) a = cc
+  by_due e is (undoes c cs g l x st held) a = cc
+  by_due e is (returns c cs g out x st held) a = cc
+
+  act-of : (x : Option Event) → next_event o s me ≡ x → is_act x ≡ true → (c : Call) × IsActOf c
+  act-of None is a = cc
+  act-of (Some e) is a = by_due e is (due_event_is o s me e is) a
+
+  next-guarded : IsGuarded o (event o s me)
+  next-guarded = access_kept.event o o.bundles s me all
+
+  by_act : (c : Call) → IsActOf c → (IsUsedAsBefore w.pages (event o s me).world.pages q → ⊥) → MovesUnnamed s (event o s me) q
+  by_act c act moved =
+      let becomes : (event o s me).world ≡ (row_of o me c).act w = ap (λ (x : Option Event). (after_event me s x).world) act.is in
+      by_test (gives_back c w q)
+      (λ y. let host : is_host_in (event o s me).world.pages q ≡ true = ap (λ (z : World). is_host_in z.pages q) becomes ∙ given-host c y in
+      record { host = inr host; before = given-unnamed c act.passes y; behind = host-unnamed (event o s me) (guarded-names o (event o s me) next-guarded) q host })
+      (λ n. by_test (is_host_in w.pages q)
+      (λ y. record {
+        host = inl y;
+        before = host-unnamed s (guarded-names o s all) q y;
+        behind = waits-unnamed o (event o s me) next-guarded q (subst (λ (z : World). WaitsWherePrivate z q) (sym becomes) (taken-waits y c act.passes));
+      })
+      (λ k. absurd (moved (subst (λ (z : World). IsUsedAsBefore w.pages z.pages q) (sym becomes) (one_use o me c w q act.passes k n)))))
+
+  moves : (IsUsedAsBefore w.pages (event o s me).world.pages q → ⊥) → MovesUnnamed s (event o s me) q
+  moves moved = by_test (is_act (next_event o s me))
+      (λ y. let x = act-of (next_event o s me) refl y in by_act x.0 x.1 moved)
+      (λ n. absurd (moved (events_keep_uses.acts_alone o s me q n)))
+
+pub pages-move-unnamed : PagesMoveUnnamed
+pages-move-unnamed o ws schedule p page moved = moves o (reached o ws schedule) p page (always_guarded o ws schedule) moved

@@ -1,0 +1,5 @@
+pub mod Owners
+pub mod Usable
+pub mod Accesses
+pub mod Unreached
+pub mod Worked
