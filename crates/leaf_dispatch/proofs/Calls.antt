@@ -29,6 +29,10 @@ use Rattle.access_core.specs.ReachMeanings.{accesses-mean}
 use Rattle.access_core.specs.WalkTrees.{walk_tree}
 use Rattle.access_core.specs.WalkMeanings.{walks-mean}
 use Rattle.mem_remove.specs.MetadataMeanings.{rdmd-means}
+use Rattle.mem_remove.specs.TrackMeanings.{track-means}
+use Rattle.mem_remove.specs.BlockMeanings.{range_block-means, range_unblock-means}
+use Rattle.mem_remove.specs.RemoveMeanings.{page_remove-means}
+use Rattle.mem_remove.specs.SeptRemoveMeanings.{sept_remove-means}
 use Rattle.key_table.specs.CacheMeanings.{cache-means}
 use Rattle.key_table.specs.ReclaimMeanings.{reclaim-means}
 use Rattle.td_control.specs.CreationMeanings.{create-means}
@@ -47,6 +51,7 @@ use Rattle.mem_build.specs.PageAugMeanings.{page_aug-means}
 use Rattle.mem_build.specs.ExtendMeanings.{extend-means}
 use Rattle.vcpu_control.specs.EnterMeans.{entry-means}
 use Rattle.vcpu_control.specs.ExitMeans.{exit-means}
+use Rattle.vcpu_control.specs.FlushMeans.{flush-means as vp_flush-means}
 use Rattle.leaf_dispatch.specs.Table.{task_of, access_in, walk_in, step_task}
 use Rattle.leaf_dispatch.specs.Laws.{CallsHaveLeaves}
 
@@ -67,10 +72,16 @@ of-place p (call.MrFinalize tdr) = refl
 of-place p (call.VpCreate tdr page) = refl
 of-place p (call.VpInit tdr vp value) = refl
 of-place p (call.VpEnter tdr vp max) = refl
+of-place p (call.VpFlush tdr vp) = refl
 of-place p (call.MemSeptAdd tdr gpa level page) = refl
 of-place p (call.MemSeptRd tdr gpa level) = refl
+of-place p (call.MemSeptRemove tdr gpa level) = refl
 of-place p (call.MemPageAdd tdr gpa page source) = refl
 of-place p (call.MemPageAug tdr gpa page) = refl
+of-place p (call.MemPageRemove tdr gpa) = refl
+of-place p (call.MemRangeBlock tdr gpa level) = refl
+of-place p (call.MemRangeUnblock tdr gpa level) = refl
+of-place p (call.MemTrack tdr) = refl
 of-place p (call.MrExtend tdr gpa) = refl
 
 pub of-row : (o : Opening) (p : ℕ) (c : Call) → (task_of (record { machine = o.machine; lp = p }) c).meaning ≡ OfCall (row_of o p c)
@@ -90,10 +101,16 @@ of-row o p (call.MrFinalize tdr) = refl
 of-row o p (call.VpCreate tdr page) = refl
 of-row o p (call.VpInit tdr vp value) = refl
 of-row o p (call.VpEnter tdr vp max) = refl
+of-row o p (call.VpFlush tdr vp) = refl
 of-row o p (call.MemSeptAdd tdr gpa level page) = refl
 of-row o p (call.MemSeptRd tdr gpa level) = refl
+of-row o p (call.MemSeptRemove tdr gpa level) = refl
 of-row o p (call.MemPageAdd tdr gpa page source) = refl
 of-row o p (call.MemPageAug tdr gpa page) = refl
+of-row o p (call.MemPageRemove tdr gpa) = refl
+of-row o p (call.MemRangeBlock tdr gpa level) = refl
+of-row o p (call.MemRangeUnblock tdr gpa level) = refl
+of-row o p (call.MemTrack tdr) = refl
 of-row o p (call.MrExtend tdr gpa) = refl
 
 -- no call that has a leaf enters a guest
@@ -114,10 +131,16 @@ means p (call.MrFinalize tdr) m = finalize-means p tdr
 means p (call.VpCreate tdr page) m = vp_create-means p tdr page
 means p (call.VpInit tdr vp value) m = vp_init-means p tdr vp value (let few = m.pages.1 in omega arith)
 means p (call.VpEnter tdr vp max) m = entry-means p tdr vp max (let few = m.pages.1 in omega arith)
+means p (call.VpFlush tdr vp) m = vp_flush-means p tdr vp (let few = m.pages.1 in omega arith)
 means p (call.MemSeptAdd tdr gpa level page) m = sept_add-means p tdr gpa level page m
 means p (call.MemSeptRd tdr gpa level) m = sept_read-means p tdr gpa level m
+means p (call.MemSeptRemove tdr gpa level) m = sept_remove-means p tdr gpa level m
 means p (call.MemPageAdd tdr gpa page source) m = page_add-means p tdr gpa page source m
 means p (call.MemPageAug tdr gpa page) m = page_aug-means p tdr gpa page m
+means p (call.MemPageRemove tdr gpa) m = page_remove-means p tdr gpa m
+means p (call.MemRangeBlock tdr gpa level) m = range_block-means p tdr gpa level m
+means p (call.MemRangeUnblock tdr gpa level) m = range_unblock-means p tdr gpa level m
+means p (call.MemTrack tdr) m = track-means p tdr
 means p (call.MrExtend tdr gpa) m = extend-means p tdr gpa m
 
 -- steps of guests

@@ -44,9 +44,9 @@ module _ (law : engine.ProcessorsFollow) (leaves : CallsHaveLeaves) (o : Opening
       let at = subst (λ (z : Place). StandsOn o (place_table z (code_in list)) p now t (seen_of l)) is.place stands in
       let lt = subst (λ (z : Place). LpTurns (place_table z (code_in list)) z.machine (seen_of l) e ps (seen_of l')) is.place moves.2 in
       let got = law.follow o (leaf_table o.machine (code_in list)) p now t u (seen_of l) (seen_of l') e ps (leaves o (code_in list) machine is.codes) codes (law.runs o schedule few) (count-inside is.inside) at lt t'.0.1 in (
-        got.0,
+        (got.event_is, got.next),
         subst (λ (z : List CodeSeen). StandsOn o (place_table l'.place (code_in z)) p (event o now p) u (seen_of l')) (sym moves.1)
-            (subst (λ (z : Place). StandsOn o (place_table z (code_in list)) p (event o now p) u (seen_of l')) (sym (moves.0 ∙ is.place)) got.1),
+            (subst (λ (z : Place). StandsOn o (place_table z (code_in list)) p (event o now p) u (seen_of l')) (sym (moves.0 ∙ is.place)) got.stands),
       )
     where
       count-inside : p < length o.calls → p < now.lp_count

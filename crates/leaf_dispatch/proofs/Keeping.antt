@@ -6,7 +6,6 @@ use Rattle.td_words.specs.declared.replies.Reply.{Reply}
 use Rattle.step_core.specs.declared.items.Taken.{Taken}
 use Rattle.leaf_engine.specs.declared.events.Event.{Event}
 use Rattle.leaf_engine.specs.declared.events.HeldLock.{HeldLock}
-use Rattle.leaf_engine.specs.declared.events.RunTurn.{RunTurn}
 use Rattle.leaf_engine.specs.declared.events.Stage.{Stage}
 use Rattle.leaf_engine.specs.declared.events.Stage.TheVariants as stages
 use Rattle.leaf_engine.specs.Means.{Task}

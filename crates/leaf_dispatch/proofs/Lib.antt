@@ -10,3 +10,6 @@ pub mod Walking
 pub mod StepBounds
 pub mod Fewer
 pub mod Replying
+pub mod Rooming
+pub mod Exiting
+pub mod Summing

@@ -22,7 +22,7 @@ use Rattle.leaf_engine.specs.Besides.{Beside, answered_by, beside_after}
 use Rattle.leaf_engine.specs.Decides.{Wants}
 use Rattle.leaf_engine.specs.Guests.{WordGuest, is_epoch_name, guest_after, guest_entered, or_else}
 use Rattle.leaf_engine.specs.Items.{IsLoadAt, IsLoaded}
-use Rattle.leaf_engine.specs.Turns.{Standing, standing, grants, tried, denied, busy, last_reply, has_ended, Comes, TurnBy}
+use Rattle.leaf_engine.specs.Turns.{Standing, standing, grants, tried, busy, last_reply, Comes, TurnBy}
 use Rattle.leaf_dispatch.specs.Answers.{Ends, EndsAs, FewTries, is_busy, FitsStage, BeginsUnderOther, OldestIsOther, act_of, beside_by, guest_by}
 use Rattle.leaf_dispatch.specs.Bounds.{stage_left, stage_used}
 
@@ -127,6 +127,7 @@ pub record Gives (e : Ends) (s s' : Standing) (ev : Event) : Type 0 where
   pub act : (r : Reply) → act_of ev s'.stage ≡ Some r → ActsBy e s s' r
   pub lower : (k : ℕ) → stage_left e.tries k s'.stage (length s'.held) < stage_left e.tries k s.stage (length s.held)
   pub used : e.tries ≤ 2 → (stage_used s.stage (length s.held) < stage_used s'.stage (length s'.held)) × (stage_used s.stage (length s.held) < 5)
+  pub stays_answered : (r : Reply) → s.stage ≡ stages.Answered r → (x : Reply) × (s'.stage ≡ stages.Answered x)
   pub once : e.tries ≡ 0 → s.stage ≡ stages.Trying → (r : Reply) × (act_of ev s'.stage ≡ Some r) × (last_reply s'.stage s'.held ≡ Some r)
 
 oldest-more : (held : List HeldLock) (x : HeldLock) (s s' : Standing) → (held ≡ [] → is_epoch_name x.name ≡ false) → OldestIsOther held s → OldestIsOther (held ++ x ∷ []) s'
@@ -149,7 +150,7 @@ busy-fits e name = either (e.fits _)
     either true = refl
     either false = refl
 
-by-fits : (a b : Bool) → a ≡ true → (a || b) ≡ true
+pub by-fits : (a b : Bool) → a ≡ true → (a || b) ≡ true
 by-fits true b e = refl
 by-fits false b e = cc
 
@@ -171,6 +172,7 @@ granted-gives e t0 t held h name at mode room first few o other =
       act = λ r is. cc;
       lower = λ k. omega (arith, more, first);
       used = λ two. (omega (arith, more), omega (arith, first, two));
+      stays_answered = λ r z. cc;
       once = λ none on. absurd (omega (arith, none, first));
     }
 
@@ -186,6 +188,7 @@ undoing-gives e t0 t held h name at room first o = record {
   act = λ r is. cc;
   lower = λ k. omega (arith, first);
   used = λ two. (omega (arith, first, two), omega (arith, first, two));
+  stays_answered = λ r z. cc;
   once = λ none on. absurd (omega (arith, none, first));
 }
 
@@ -201,6 +204,7 @@ denied-gives e t0 t held h name room first o = record {
   act = λ r is. cc;
   lower = λ k. omega (arith, first);
   used = λ two. (omega (arith, first, two), omega (arith, first, two));
+  stays_answered = λ r z. cc;
   once = λ none on. absurd (omega (arith, none, first));
 }
 
@@ -227,6 +231,7 @@ act-gives e t0 t held h h' reply room a o none = record {
   act = λ r is. same-reply e t0 t held h h' reply r is (record { on = refl; fits = a.fits; stage = refl; held = refl; few = room; under_other = λ z. sym (ap (λ (y : Answer). y.enters) a.answer) ∙ none z });
   lower = λ k. omega arith;
   used = λ two. (omega (arith, two), omega (arith, two));
+  stays_answered = λ r z. cc;
   once = λ n on. (reply, refl, held-none held (omega (arith, n)));
 }
   where
@@ -247,6 +252,7 @@ undo-gives e t held h name at room o = record {
   act = λ r is. cc;
   lower = λ k. omega arith;
   used = λ two. (omega (arith, room, two), omega arith);
+  stays_answered = λ r z. cc;
   once = λ n on. cc;
 }
 
@@ -263,6 +269,7 @@ free-gives e t held older x h reply room is fits o =
       act = λ r z. cc;
       lower = λ k. omega (arith, count);
       used = λ two. (omega (arith, count, room, two), omega (arith, count));
+      stays_answered = λ r z. (reply, refl);
       once = λ n on. cc;
     }
 

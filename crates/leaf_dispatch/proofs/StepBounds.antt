@@ -1,12 +1,12 @@
 -- Each turn of a guest's step lowers how many events its processor can still give.
-use Rattle.std.proofs.Common.{◌≡◌, ℕ, zero, suc, ◌+◌, ◌-◌, ◌*◌, ◌%◌, ◌==◌, ◌<◌, ◌≤◌, Bool, true, false, List, [], ◌∷◌, ◌++◌, length, Option, Some, None, refl, ap, sym, ◌∙◌, subst, arith}
+use Rattle.std.proofs.Common.{◌≡◌, ℕ, zero, suc, ◌-◌, ◌*◌, ◌<◌, ◌≤◌, Bool, true, false, List, Option, Some, None, refl, ap, sym, ◌∙◌, subst, arith}
 use Rattle.std.proofs.lemmas.Bool.{leb-false}
 use Rattle.td_words.specs.declared.names.Access.{Access}
 use Rattle.td_words.specs.declared.names.Access.TheVariants.{Read, Write}
 use Rattle.td_words.specs.declared.calls.GuestOp.{GuestOp}
 use Rattle.td_words.specs.declared.refusals.Status.TheVariants.{OperandBusy}
 use Rattle.td_words.specs.declared.replies.Outcome.{Outcome}
-use Rattle.td_words.specs.declared.replies.Outcome.TheVariants.{Vmcall, Busy, EptViolation}
+use Rattle.td_words.specs.declared.replies.Outcome.TheVariants.{Vmcall, Busy}
 use Rattle.td_words.specs.declared.replies.Value.TheVariants as value
 use Rattle.td_words.specs.declared.replies.Reply.{Reply}
 use Rattle.td_words.specs.declared.replies.Reply.TheVariants.{Done, Refused, Exited}
@@ -14,14 +14,14 @@ use Rattle.flat_core.specs.Processor.{Translation, Walk}
 use Rattle.flat_core.specs.Tree.{page_of_gpa}
 use Rattle.flat_core.specs.Table.{operation_events}
 use Rattle.flat_core.specs.Translations.{look_up, cache, allows_access}
-use Rattle.flat_core.specs.Guest.{walk_level, cached_after}
+use Rattle.flat_core.specs.Guest.{cached_after}
 use Rattle.flat_core.proofs.Cached.{cached_found}
 use Rattle.leaf_engine.specs.Turns.{Standing}
-use Rattle.leaf_engine.specs.Guests.{WordGuest, Step, Operates, Accesses, Loads, Leaves, named_page, is_right, private_step, step_of, passed_on, leaving_with, exited_with, operated, walked, loaded}
+use Rattle.leaf_engine.specs.Guests.{WordGuest, Step, Accesses, Loads, named_page, is_right, private_step, step_of, exited_with, operated, walked, loaded}
 use Rattle.access_core.specs.WalkTrees.{goes_on_by, translation_by}
-use Rattle.leaf_dispatch.specs.Bounds.{run_used, step_used, unless_leaving, guest_left}
-use Rattle.leaf_dispatch.specs.Guests.{is_outcome, IsNumber}
-use Rattle.leaf_dispatch.proofs.StepTurns.{left_by, left-is, passes-lower, leaving-lower}
+use Rattle.leaf_dispatch.specs.Bounds.{step_used, guest_left}
+use Rattle.leaf_dispatch.specs.Guests.{is_outcome}
+use Rattle.leaf_dispatch.proofs.StepTurns.{left-is, passes-lower, leaving-lower}
 use Rattle.leaf_dispatch.proofs.Walking.{WalkDue}
 
 module _ (codes : ℕ → ℕ → List GuestOp) (ts : List Translation) (g : WordGuest) (s : Step) (is : step_of codes ts g ≡ s) (stays : g.leaving ≡ None) (more : g.completed < g.most) (few : step_used s g.run < 5) where

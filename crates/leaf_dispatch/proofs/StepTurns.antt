@@ -1,6 +1,5 @@
 -- A turn of the run of a guest's step is a turn of its processor.
-use Rattle.std.proofs.Common.{◌≡◌, ℕ, ◌+◌, ◌-◌, ◌*◌, ◌<◌, ◌≤◌, false, true, List, [], ◌∷◌, ◌++◌, length, Option, Some, None, slice_get, refl, ap, sym, ◌∙◌, subst, arith}
-use Rattle.td_words.specs.declared.names.Access.TheVariants.{Read, Write}
+use Rattle.std.proofs.Common.{◌≡◌, ℕ, ◌+◌, ◌-◌, ◌*◌, ◌<◌, ◌≤◌, List, length, Option, Some, None, slice_get, refl, ap, sym, ◌∙◌, subst, arith}
 use Rattle.td_words.specs.declared.calls.Call.{Call}
 use Rattle.td_words.specs.declared.calls.GuestOp.{GuestOp}
 use Rattle.td_words.specs.declared.calls.GuestOp.TheVariants as op
@@ -8,18 +7,18 @@ use Rattle.td_words.specs.declared.replies.Outcome.{Outcome}
 use Rattle.td_words.specs.declared.replies.Outcome.TheVariants as out
 use Rattle.td_words.specs.declared.replies.Value.TheVariants as value
 use Rattle.td_words.specs.declared.replies.Reply.{Reply}
-use Rattle.td_words.specs.declared.replies.Reply.TheVariants.{Done, Refused, Exited}
+use Rattle.td_words.specs.declared.replies.Reply.TheVariants.{Done, Exited}
 use Rattle.flat_core.specs.Processor.{Translation}
 use Rattle.flat_core.specs.Table.{operation_events}
 use Rattle.step_core.specs.declared.items.Taken.{Taken}
 use Rattle.leaf_engine.specs.declared.needs.Place.{Place}
 use Rattle.leaf_engine.specs.Besides.{Beside, beside_after}
-use Rattle.leaf_engine.specs.Guests.{WordGuest, Step, Operates, Accesses, Loads, Leaves, due_step, staying_step, step_of, passed_on, leaving_with}
+use Rattle.leaf_engine.specs.Guests.{WordGuest, Step, Operates, due_step, staying_step, step_of, passed_on, leaving_with}
 use Rattle.leaf_engine.specs.Turns.{Standing}
 use Rattle.leaf_engine.specs.OwnLists.{Piece, taken_in, TurnsInPieces, WordLp, running, after_step, GuestTurn}
 use Rattle.leaf_dispatch.specs.Answers.{Ends, step_answer, step_ends, beside_by}
 use Rattle.leaf_dispatch.specs.Bounds.{stage_used, run_used, step_used, unless_leaving, guest_left}
-use Rattle.leaf_dispatch.specs.Guests.{guest_seen, unless_left, due_in, next_in}
+use Rattle.leaf_dispatch.specs.Guests.{guest_seen, unless_left, next_in}
 use Rattle.leaf_dispatch.specs.Table.{step_task, place_table}
 use Rattle.leaf_dispatch.specs.Running.{turn_of, LeafTurned}
 use Rattle.leaf_dispatch.specs.declared.guests.GuestAt.{GuestAt}

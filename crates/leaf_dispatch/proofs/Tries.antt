@@ -15,7 +15,7 @@ use Rattle.td_words.specs.declared.calls.GuestOp.TheVariants as op
 use Rattle.td_words.specs.Packing.{Entry, is_lawful_entry, entry_word, entry_state_of, entry_of_state, entry_in}
 use Rattle.td_words.specs.Place.{WordPlace}
 use Rattle.td_words.specs.Place as place
-use Rattle.td_words.specs.declared.refusals.Status.TheVariants.{VcpuStateIncorrect}
+use Rattle.td_words.specs.declared.refusals.Status.TheVariants.{VcpuStateIncorrect, SeptNotEmpty}
 use Rattle.td_words.specs.declared.replies.Outcome.TheVariants.{EptViolation}
 use Rattle.td_words.specs.declared.replies.Reply.{Reply}
 use Rattle.td_words.specs.declared.replies.Reply.TheVariants.{Done, Exited}
@@ -28,11 +28,11 @@ use Rattle.word_rules.specs.Rules.{ThePage}
 use Rattle.flat_core.specs.Tree.{same_state}
 use Rattle.word_rules.specs.Views.{look, of_entry, rights_by}
 use Rattle.flat_core.specs.Tree.{word_of_gpa}
-use Rattle.flat_core.specs.MemRows.{entry_value}
+use Rattle.flat_core.specs.MemRows.{entry_value, open_states, blocked_states, removed_states}
 use Rattle.flat_core.specs.Table.{most_tries}
 use Rattle.leaf_engine.specs.declared.needs.Place.{Place}
 use Rattle.leaf_engine.specs.Changes.{Change}
-use Rattle.leaf_engine.specs.Trees.{only, Tree, Lock, Load, Test, End, Since, needs, answers, acts}
+use Rattle.leaf_engine.specs.Trees.{only, Tree, Lock, Load, Test, End, Since, needs, answers, acts, done}
 use Rattle.leaf_engine.specs.Guests.{Step, Operates, Accesses, Loads, Leaves}
 use Rattle.leaf_parts.specs.declared.vp_words.VpWord.{VpWord}
 use Rattle.leaf_parts.specs.Words.{says_host, page_told, vps_told}
@@ -52,6 +52,11 @@ use Rattle.sept_parts.specs.declared.finds.Found.{Found}
 use Rattle.sept_parts.specs.SeptTrees.{walk_on_tree, find_tree, state_tree}
 use Rattle.sept_parts.specs.SeptWords.{entry_told}
 use Rattle.mem_build.specs.SeptAddTrees.{sept_add_rest}
+use Rattle.mem_remove.specs.declared.named_entries.Named.{Named}
+use Rattle.mem_remove.specs.NamedTrees.{taken_tree, named_tree}
+use Rattle.mem_remove.specs.TrackedTrees.{blocked_told, tracked_from, tracked_tree}
+use Rattle.mem_remove.specs.RangeTrees.{block_rest, unblock_rest, unblock_changes}
+use Rattle.mem_remove.specs.RemoveTrees.{is_used, scan_tree, given_tree, remove_rest, sept_remove_rest}
 use Rattle.mem_build.specs.PageAugTrees.{page_aug_rest}
 use Rattle.mem_build.specs.PageAddTrees.{page_add_tree, pages_tree, addition_end}
 use Rattle.mem_build.specs.ExtendTrees.{words_tree, measured_tree, measure_tree}
@@ -110,11 +115,45 @@ page_add-few : (m : Machine) (t gpa page source : ℕ) → TriesAtMost 5 (page_a
 unfolding page_add_tree
 page_add-few m t gpa page source = (omega arith, λ pamt life count tdcs. (omega arith, λ op. (omega arith, find-few 2 m.pages t gpa 0 (λ (f : Found). state_tree f.entry (entry.Free ∷ []) (pages_tree t page source (λ hkid children. addition_end m (record { tdr = t; gpa = gpa; page = page; source = source; table = f.page; hkid = hkid; children = children })))) (λ f. (omega arith, λ other. (omega arith, λ host hkid children. refl))))))
 
-abbrev has_no_guest : Call → Bool
-has_no_guest (call.VpEnter tdr vp most) = false
-has_no_guest _ = true
+-- of an entry that is blocked, unblocked or removed
+named-few : (pages t gpa level : ℕ) (allowed : List EntryState) (k : Named → Tree) → ((n : Named) → TriesAtMost 0 (k n)) → TriesAtMost 5 (named_tree pages t gpa level allowed k)
+named-few pages t gpa level allowed k few = (
+  omega arith,
+  λ pamt life count tdcs. (
+    omega arith,
+    λ op. (
+      omega arith,
+      (
+        omega arith,
+        find-few 1 pages t gpa level (λ (f : Found). taken_tree f.entry allowed (k (record { tdcs = page_told pages tdcs; page = f.page; entry = f.entry }))) (λ f. (omega arith, few (record { tdcs = page_told pages tdcs; page = f.page; entry = f.entry }))),
+      ),
+    ),
+  ),
+)
 
-pub few_tries : (p : Place) (c : Call) → has_no_guest c ≡ true → TriesAtMost (most_tries c) (task_of p c).tree
+from-few : (n : ℕ) (is_previous : Bool) (tdcs blocked epoch : ℕ) (further : Tree) → TriesAtMost n further → TriesAtMost n (tracked_from is_previous tdcs blocked epoch further)
+from-few n true tdcs blocked epoch further few = λ count. few
+from-few n false tdcs blocked epoch further few = few
+
+tracked-few : (n tdcs page : ℕ) (further : Tree) → TriesAtMost n further → TriesAtMost n (tracked_tree tdcs page further)
+tracked-few n tdcs page further few = λ pamt epoch. from-few n (blocked_told pamt + 1 == epoch) tdcs (blocked_told pamt) epoch further few
+
+either-few : (n : ℕ) (b : Bool) (x y : Tree) → TriesAtMost n x → TriesAtMost n y → TriesAtMost n (if b then x else y)
+either-few n true x y few others = few
+either-few n false x y few others = others
+
+scan-few : (n pages page at left : ℕ) (further : Tree) → TriesAtMost n further → TriesAtMost n (scan_tree pages page at left further)
+unfolding scan_tree
+scan-few n pages page at zero further few = few
+scan-few n pages page at (suc left) further few = λ word. either-few n (is_used pages word) (needs false (SeptNotEmpty at) further) (scan_tree pages page (suc at) left further) few (scan-few n pages page (suc at) left further few)
+
+-- calls whose answer is their reply alone
+abbrev only_replies : Call → Bool
+only_replies (call.VpEnter tdr vp most) = false
+only_replies (call.VpFlush tdr vp) = false
+only_replies _ = true
+
+pub few_tries : (p : Place) (c : Call) → only_replies c ≡ true → TriesAtMost (most_tries c) (task_of p c).tree
 few_tries p (call.HostRead page word) h = (omega arith, λ pamt. read-few 0 page word (says_host pamt))
 few_tries p (call.HostWrite page word value) h = (omega arith, λ pamt. refl)
 few_tries p (call.PhymemPageRdmd page) h = (omega arith, λ pamt. refl)
@@ -133,11 +172,21 @@ few_tries p (call.MngKeyFreeid tdr) h = (omega arith, λ pamt life. (omega arith
 few_tries p (call.MrFinalize tdr) h = (omega arith, λ pamt life count tdcs. (omega arith, λ op hkid n. vps-few 0 p.machine.pages (ready_vp (page_told p.machine.pages tdcs)) 0 (vps_told n) 0 (λ created. needs (created == 0) (VcpuStateIncorrect vcpu.Created) (acts (Done value.Nothing) (final_changes p.machine (page_told p.machine.pages tdcs) hkid))) (λ created. refl)))
 few_tries p (call.VpCreate tdr page) h = (omega arith, λ pamt life count tdcs. (omega arith, λ op vps expected. (omega arith, λ host children. refl)))
 few_tries p (call.VpEnter tdr vp most) h = cc
+few_tries p (call.VpFlush tdr vp) h = cc
 few_tries p (call.VpInit tdr vp value) h = (omega arith, λ pamt life count tdcs. (omega arith, λ op. (omega arith, λ host state. refl)))
 few_tries p (call.MemSeptAdd tdr gpa level page) h = (omega arith, λ pamt life count tdcs. (omega arith, λ op. (omega arith, find-few 1 p.machine.pages tdr gpa level (sept_add_rest p.machine.pages tdr page (index_at level gpa)) (λ f. (omega arith, λ host children. refl)))))
 few_tries p (call.MemSeptRd tdr gpa level) h = (omega arith, λ pamt life count tdcs. (omega arith, λ op. (omega arith, find-few 0 p.machine.pages tdr gpa level (λ (f : Found). answers (Done (entry_value f.entry))) (λ f. refl))))
+few_tries p (call.MemSeptRemove tdr gpa level) h =
+    named-few p.machine.pages tdr gpa level (entry.NlBlocked ∷ []) (sept_remove_rest p.machine.pages tdr (index_at level gpa))
+    (λ n. scan-few 0 p.machine.pages n.entry.page 0 512 (remove_rest tdr (index_at level gpa) n) (tracked-few 0 n.tdcs n.entry.page (given_tree tdr n.page (index_at level gpa) n.entry.page) (λ children. refl)))
 few_tries p (call.MemPageAdd tdr gpa page source) h = page_add-few p.machine tdr gpa page source
 few_tries p (call.MemPageAug tdr gpa page) h = (omega arith, λ pamt life count tdcs. (omega arith, λ op. (omega arith, find-few 1 p.machine.pages tdr gpa 0 (page_aug_rest p.machine.pages tdr page (index_at 0 gpa)) (λ f. (omega arith, λ host children. refl)))))
+few_tries p (call.MemPageRemove tdr gpa) h =
+    named-few p.machine.pages tdr gpa 0 removed_states (remove_rest tdr (index_at 0 gpa)) (λ n. tracked-few 0 n.tdcs n.entry.page (given_tree tdr n.page (index_at 0 gpa) n.entry.page) (λ children. refl))
+few_tries p (call.MemRangeBlock tdr gpa level) h = named-few p.machine.pages tdr gpa level open_states (block_rest tdr level (index_at level gpa)) (λ n. λ epoch. refl)
+few_tries p (call.MemRangeUnblock tdr gpa level) h =
+    named-few p.machine.pages tdr gpa level blocked_states (unblock_rest (index_at level gpa)) (λ n. tracked-few 0 n.tdcs n.entry.page (done [] (unblock_changes n.page (index_at level gpa) n.entry.page n.entry.state)) refl)
+few_tries p (call.MemTrack tdr) h = (omega arith, λ pamt life count tdcs. (omega arith, λ op. (omega arith, λ epoch count. refl)))
 few_tries p (call.MrExtend tdr gpa) h = (
   omega arith,
   λ pamt life count tdcs. (
@@ -195,6 +244,25 @@ enters-as p tdr vp most = (
   ),
 )
 
+-- VP.FLUSH
+flushes-as : (p : Place) (tdr vp : ℕ) → EndsAs (call_ends p.machine (call.VpFlush tdr vp)) 2 (task_of p (call.VpFlush tdr vp)).tree
+flushes-as p tdr vp = (
+  refl,
+  refl,
+  λ a. (
+    refl,
+    refl,
+    λ b. (
+      refl,
+      refl,
+      λ c. (
+        omega arith,
+        λ pamt. (refl, refl, λ y. λ life. (refl, refl, λ z. (omega arith, λ its. (refl, refl, λ w. λ word. (refl, refl, λ x. (refl, refl, λ u. (refl, rw a refl))))))),
+      ),
+    ),
+  ),
+)
+
 -- calls
 
 pub ends_as : (p : Place) (c : Call) → EndsAs (call_ends p.machine c) (most_tries c) (task_of p c).tree
@@ -214,10 +282,16 @@ ends_as p (call.MrFinalize tdr) = plain-ends (call_ends p.machine (call.MrFinali
 ends_as p (call.VpCreate tdr page) = plain-ends (call_ends p.machine (call.VpCreate tdr page)) (λ r. refl) (λ r. refl) (most_tries (call.VpCreate tdr page)) (task_of p (call.VpCreate tdr page)).tree (few_tries p (call.VpCreate tdr page) refl)
 ends_as p (call.VpInit tdr vp value) = plain-ends (call_ends p.machine (call.VpInit tdr vp value)) (λ r. refl) (λ r. refl) (most_tries (call.VpInit tdr vp value)) (task_of p (call.VpInit tdr vp value)).tree (few_tries p (call.VpInit tdr vp value) refl)
 ends_as p (call.VpEnter tdr vp max) = enters-as p tdr vp max
+ends_as p (call.VpFlush tdr vp) = flushes-as p tdr vp
 ends_as p (call.MemSeptAdd tdr gpa level page) = plain-ends (call_ends p.machine (call.MemSeptAdd tdr gpa level page)) (λ r. refl) (λ r. refl) (most_tries (call.MemSeptAdd tdr gpa level page)) (task_of p (call.MemSeptAdd tdr gpa level page)).tree (few_tries p (call.MemSeptAdd tdr gpa level page) refl)
 ends_as p (call.MemSeptRd tdr gpa level) = plain-ends (call_ends p.machine (call.MemSeptRd tdr gpa level)) (λ r. refl) (λ r. refl) (most_tries (call.MemSeptRd tdr gpa level)) (task_of p (call.MemSeptRd tdr gpa level)).tree (few_tries p (call.MemSeptRd tdr gpa level) refl)
+ends_as p (call.MemSeptRemove tdr gpa level) = plain-ends (call_ends p.machine (call.MemSeptRemove tdr gpa level)) (λ r. refl) (λ r. refl) (most_tries (call.MemSeptRemove tdr gpa level)) (task_of p (call.MemSeptRemove tdr gpa level)).tree (few_tries p (call.MemSeptRemove tdr gpa level) refl)
 ends_as p (call.MemPageAdd tdr gpa page source) = plain-ends (call_ends p.machine (call.MemPageAdd tdr gpa page source)) (λ r. refl) (λ r. refl) (most_tries (call.MemPageAdd tdr gpa page source)) (task_of p (call.MemPageAdd tdr gpa page source)).tree (few_tries p (call.MemPageAdd tdr gpa page source) refl)
 ends_as p (call.MemPageAug tdr gpa page) = plain-ends (call_ends p.machine (call.MemPageAug tdr gpa page)) (λ r. refl) (λ r. refl) (most_tries (call.MemPageAug tdr gpa page)) (task_of p (call.MemPageAug tdr gpa page)).tree (few_tries p (call.MemPageAug tdr gpa page) refl)
+ends_as p (call.MemPageRemove tdr gpa) = plain-ends (call_ends p.machine (call.MemPageRemove tdr gpa)) (λ r. refl) (λ r. refl) (most_tries (call.MemPageRemove tdr gpa)) (task_of p (call.MemPageRemove tdr gpa)).tree (few_tries p (call.MemPageRemove tdr gpa) refl)
+ends_as p (call.MemRangeBlock tdr gpa level) = plain-ends (call_ends p.machine (call.MemRangeBlock tdr gpa level)) (λ r. refl) (λ r. refl) (most_tries (call.MemRangeBlock tdr gpa level)) (task_of p (call.MemRangeBlock tdr gpa level)).tree (few_tries p (call.MemRangeBlock tdr gpa level) refl)
+ends_as p (call.MemRangeUnblock tdr gpa level) = plain-ends (call_ends p.machine (call.MemRangeUnblock tdr gpa level)) (λ r. refl) (λ r. refl) (most_tries (call.MemRangeUnblock tdr gpa level)) (task_of p (call.MemRangeUnblock tdr gpa level)).tree (few_tries p (call.MemRangeUnblock tdr gpa level) refl)
+ends_as p (call.MemTrack tdr) = plain-ends (call_ends p.machine (call.MemTrack tdr)) (λ r. refl) (λ r. refl) (most_tries (call.MemTrack tdr)) (task_of p (call.MemTrack tdr)).tree (few_tries p (call.MemTrack tdr) refl)
 ends_as p (call.MrExtend tdr gpa) = plain-ends (call_ends p.machine (call.MrExtend tdr gpa)) (λ r. refl) (λ r. refl) (most_tries (call.MrExtend tdr gpa)) (task_of p (call.MrExtend tdr gpa)).tree (few_tries p (call.MrExtend tdr gpa) refl)
 
 page_add-begins : (m : Machine) (t gpa page source : ℕ) → BeginsUnderOther (page_add_tree m t gpa page source)
@@ -244,10 +318,16 @@ begins_other p (call.MrFinalize tdr) = refl
 begins_other p (call.VpCreate tdr page) = refl
 begins_other p (call.VpInit tdr vp value) = refl
 begins_other p (call.VpEnter tdr vp max) = refl
+begins_other p (call.VpFlush tdr vp) = refl
 begins_other p (call.MemSeptAdd tdr gpa level page) = refl
 begins_other p (call.MemSeptRd tdr gpa level) = refl
+begins_other p (call.MemSeptRemove tdr gpa level) = refl
 begins_other p (call.MemPageAdd tdr gpa page source) = page_add-begins p.machine tdr gpa page source
 begins_other p (call.MemPageAug tdr gpa page) = refl
+begins_other p (call.MemPageRemove tdr gpa) = refl
+begins_other p (call.MemRangeBlock tdr gpa level) = refl
+begins_other p (call.MemRangeUnblock tdr gpa level) = refl
+begins_other p (call.MemTrack tdr) = refl
 begins_other p (call.MrExtend tdr gpa) = refl
 
 -- steps of guests

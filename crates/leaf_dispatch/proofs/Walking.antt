@@ -1,5 +1,5 @@
 -- Each load of a guest's walk lowers what the guest can still make.
-use Rattle.std.proofs.Common.{◌≡◌, ℕ, zero, suc, ◌+◌, ◌-◌, ◌*◌, ◌%◌, ◌==◌, ◌<◌, ◌≤◌, Bool, true, false, if◌then◌else◌, List, Option, Some, None, slice_get, refl, ap, sym, ◌∙◌, subst, arith}
+use Rattle.std.proofs.Common.{◌≡◌, ℕ, Bool, true, false, if◌then◌else◌, List, Option, Some, None, slice_get, refl, ap, ◌∙◌, subst}
 use Rattle.std.specs.Prelude.{nat_le}
 use Rattle.td_words.specs.declared.names.Access.{Access}
 use Rattle.td_words.specs.declared.names.Access.TheVariants.{Read, Write}
@@ -12,7 +12,7 @@ use Rattle.flat_core.specs.Tree.{page_of_gpa}
 use Rattle.flat_core.specs.Translations.{look_up}
 use Rattle.flat_core.specs.Guest.{is_private, walk_level}
 use Rattle.leaf_engine.specs.Turns.{Standing}
-use Rattle.leaf_engine.specs.Guests.{WordGuest, Step, Operates, Accesses, Loads, Leaves, walk_page, private_step, operation_step, due_step, staying_step, step_of}
+use Rattle.leaf_engine.specs.Guests.{WordGuest, Step, Operates, Loads, Leaves, private_step, operation_step, due_step, staying_step, step_of}
 
 -- a walk is due: its operation stays the same whatever is cached, and wherever the walk is
 pub record WalkDue (codes : ℕ → ℕ → List GuestOp) (ts : List Translation) (g : WordGuest) (access : Access) (gpa level : ℕ) : Type 0 where

@@ -1,7 +1,7 @@
 -- What the leaf of a call, or of a step of a guest, comes to: how many locks it tries at most, and what it answers besides its
 -- reply, by that reply.
 use Rattle.std.specs.Prelude.{◌≡◌, ℕ, ◌-◌, ◌≤◌, Bool, true, false, ◌&&◌, ◌||◌, nat_lt, if◌then◌else◌, Option, Some, None, List, [], ◌∷◌, length}
-use Rattle.td_words.specs.declared.names.Access.TheVariants.{Read, Write}
+use Rattle.td_words.specs.declared.names.Access.TheVariants.{Read}
 use Rattle.td_words.specs.declared.machines.Machine.{Machine}
 use Rattle.td_words.specs.declared.calls.Call.{Call}
 use Rattle.td_words.specs.declared.calls.Call.TheVariants as call
@@ -24,9 +24,10 @@ use Rattle.leaf_engine.specs.declared.events.Stage.TheVariants as stage
 use Rattle.leaf_engine.specs.Trees.{Answer, only, Tree, Lock, Load, Test, End, Since}
 use Rattle.leaf_engine.specs.Besides.{Beside, answered_by}
 use Rattle.leaf_engine.specs.Turns.{Standing}
-use Rattle.leaf_engine.specs.Guests.{WordGuest, Step, Operates, Accesses, Loads, Leaves, is_epoch_name, guest_entered, or_else}
+use Rattle.leaf_engine.specs.Guests.{WordGuest, Step, Operates, Accesses, Loads, is_epoch_name, guest_entered, or_else}
 use Rattle.access_core.specs.OperationTrees.{with_notes}
 use Rattle.access_core.specs.WalkTrees.{goes_on_by, page_by, walked}
+use Rattle.vcpu_control.specs.FlushTrees.{flush_answer}
 
 -- at most how many locks it tries, its answer by its reply, and which replies it has
 pub record Ends : Type 0 where
@@ -34,7 +35,8 @@ pub record Ends : Type 0 where
   pub answer : Reply → Answer
   pub fits : Reply → Bool
 
--- Calls: the act of VP.ENTER drops the TD's translations where they are stale, and enters the guest. Its pages are the machine's.
+-- Calls: the act of VP.ENTER drops the TD's translations where they are stale, and enters the guest; that of VP.FLUSH drops
+-- them. Their pages are the machine's.
 abbrev pub call_answer : Call → Reply → Answer
 call_answer (call.VpEnter tdr vp most) (Done (value.Entered stale index position root)) = record {
   reply = Done (value.Entered stale index position root);
@@ -44,10 +46,12 @@ call_answer (call.VpEnter tdr vp most) (Done (value.Entered stale index position
   tells = [];
   bundles = [];
 }
+call_answer (call.VpFlush tdr vp) (Done value.Nothing) = flush_answer tdr
 call_answer _ r = only r
 
 abbrev pub call_fits : Machine → Call → Reply → Bool
 call_fits m (call.VpEnter tdr vp most) (Done (value.Entered stale index position root)) = nat_lt tdr m.pages && nat_lt vp m.pages
+call_fits m (call.VpFlush tdr vp) (Done value.Nothing) = nat_lt tdr m.pages
 call_fits m _ r = true
 
 abbrev pub call_ends : Machine → Call → Ends

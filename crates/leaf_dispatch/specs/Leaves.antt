@@ -6,6 +6,9 @@ use Rattle.leaf_engine.specs.Means.{Task, MeansRow}
 use Rattle.mem_build.specs.ExtendTrees.{extend_task}
 use Rattle.mem_build.specs.ExtendStages.{rest_of}
 use Rattle.mem_build.specs.ExtendMeanings.{extend-means}
+use Rattle.mem_remove.specs.RemoveTrees.{sept_remove_task}
+use Rattle.mem_remove.specs.RemoveStages.{rest_of as sept_rest_of}
+use Rattle.mem_remove.specs.SeptRemoveMeanings.{sept_remove-means}
 use Rattle.leaf_dispatch.specs.Plans.{plan_task, plans-mean}
 use Rattle.leaf_dispatch.specs.declared.leaves.AnyLeaf.{AnyLeaf}
 use Rattle.leaf_dispatch.specs.declared.leaves.AnyLeaf.TheVariants as leaf
@@ -42,8 +45,17 @@ leaf_seen (leaf.Extend l) = record {
   bound = 2 * (ANSWERS - length l.told.items) + 2 * (32 - length l.words.items) + (16 - l.written) - (if l.waits then 1 else 0);
   tries = ANSWERS - length l.told.items;
 }
+leaf_seen (leaf.SeptRemove l) = record {
+  task = sept_remove_task l.place l.tdr l.gpa l.level;
+  rest = sept_rest_of l.place l.tdr l.gpa l.level l.table l.seen l.used l.told.items l.later.items;
+  written = l.written;
+  waits = l.waits;
+  bound = 2 * (15 - length l.told.items) + 2 * (512 - l.seen) + 2 * (4 - length l.later.items) + (16 - l.written) - (if l.waits then 1 else 0);
+  tries = 15 - length l.told.items + (4 - length l.later.items);
+}
 
 -- each means its row
 pub leaves-mean : (l : AnyLeaf) → MeansRow (leaf_seen l).task
 leaves-mean (leaf.ByPlan l) = plans-mean l.plan
 leaves-mean (leaf.Extend l) = extend-means l.place l.tdr l.gpa l.machine
+leaves-mean (leaf.SeptRemove l) = sept_remove-means l.place l.tdr l.gpa l.level l.machine

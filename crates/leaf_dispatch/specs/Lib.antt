@@ -9,3 +9,4 @@ pub mod Guests
 pub mod States
 pub mod Laws
 pub mod Follows
+pub mod NoteRooms

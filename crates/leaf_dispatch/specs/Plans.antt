@@ -1,5 +1,5 @@
 -- What contracts see of a plan of any call, and of any step of a guest.
-use Rattle.std.specs.Prelude.{ℕ, ◌+◌, ◌%◌, ◌^◌, ◌==◌, ◌&&◌, not, nat_lt, nat_le, Bool, true, false, List, [], ◌∷◌, length, drop, slice_index}
+use Rattle.std.specs.Prelude.{ℕ, ◌+◌, ◌-◌, ◌%◌, ◌^◌, ◌==◌, ◌&&◌, not, nat_lt, nat_le, Bool, true, false, List, [], ◌∷◌, length, drop, slice_index}
 use Rattle.td_words.specs.declared.names.LifeState.TheVariants as life
 use Rattle.td_words.specs.Packing.{Unassigned, FlushedOf}
 use Rattle.td_words.specs.Place.{Word}
@@ -20,6 +20,7 @@ use Rattle.access_core.specs.ReachTrees.{access_task}
 use Rattle.access_core.specs.WalkTrees.{walk_task}
 use Rattle.vcpu_control.specs.EnterTrees.{enter_changes, vp_enter_task}
 use Rattle.vcpu_control.specs.ExitTrees.{exit_changes, exit_task}
+use Rattle.vcpu_control.specs.FlushTrees.{flush_changes, vp_flush_task}
 use Rattle.access_core.specs.OperationMeanings.{set-means, add-means as sum-means, vmcall-means, shared_load-means, shared_store-means}
 use Rattle.access_core.specs.AcceptMeanings.{accept-means}
 use Rattle.access_core.specs.RtmrMeanings.{rtmr-means}
@@ -27,7 +28,11 @@ use Rattle.access_core.specs.ReachMeanings.{accesses-mean}
 use Rattle.access_core.specs.WalkMeanings.{walks-mean}
 use Rattle.vcpu_control.specs.EnterMeans.{entry-means}
 use Rattle.vcpu_control.specs.ExitMeans.{exit-means}
+use Rattle.vcpu_control.specs.FlushMeans.{flush-means as vp_flush-means}
 use Rattle.mem_remove.specs.MetadataTrees.{rdmd_task}
+use Rattle.mem_remove.specs.TrackTrees.{track_task, track_changes}
+use Rattle.mem_remove.specs.RangeTrees.{range_block_task, block_changes, range_unblock_task, unblock_changes}
+use Rattle.mem_remove.specs.RemoveTrees.{page_remove_task, remove_changes}
 use Rattle.key_table.specs.CacheTrees.{cache_task, cache_changes}
 use Rattle.key_table.specs.ReclaimTrees.{reclaim_task, give_back}
 use Rattle.td_control.specs.CreationTrees.{create_task, create_changes}
@@ -46,6 +51,9 @@ use Rattle.mem_build.specs.SeptReadTrees.{sept_read_task}
 use Rattle.mem_build.specs.PageAugTrees.{page_aug_task, page_aug_changes}
 use Rattle.access_core.specs.HostMeanings.{host_read-means, host_write-means}
 use Rattle.mem_remove.specs.MetadataMeanings.{rdmd-means}
+use Rattle.mem_remove.specs.TrackMeanings.{track-means}
+use Rattle.mem_remove.specs.BlockMeanings.{range_block-means, range_unblock-means}
+use Rattle.mem_remove.specs.RemoveMeanings.{page_remove-means}
 use Rattle.key_table.specs.CacheMeanings.{cache-means}
 use Rattle.key_table.specs.ReclaimMeanings.{reclaim-means}
 use Rattle.td_control.specs.CreationMeanings.{create-means}
@@ -81,10 +89,15 @@ plan_task (plan.FreeId l) = free_task l.place l.tdr
 plan_task (plan.Finalize l) = finalize_task l.place l.tdr
 plan_task (plan.VpCreate l) = vp_create_task l.place l.tdr l.page
 plan_task (plan.VpInit l) = vp_init_task l.place l.tdr l.vp l.value
+plan_task (plan.VpFlush l) = vp_flush_task l.place l.tdr l.vp
 plan_task (plan.SeptAdd l) = sept_add_task l.place l.tdr l.gpa l.level l.page
 plan_task (plan.SeptRd l) = sept_read_task l.place l.tdr l.gpa l.level
 plan_task (plan.PageAdd l) = page_add_task l.place l.given.tdr l.given.gpa l.given.page l.given.source
 plan_task (plan.PageAug l) = page_aug_task l.place l.tdr l.gpa l.page
+plan_task (plan.PageRemove l) = page_remove_task l.place l.tdr l.gpa
+plan_task (plan.RangeBlock l) = range_block_task l.place l.tdr l.gpa l.level
+plan_task (plan.RangeUnblock l) = range_unblock_task l.place l.tdr l.gpa l.level
+plan_task (plan.Track l) = track_task l.place l.tdr
 plan_task (plan.Enter l) = vp_enter_task l.place l.tdr l.vp l.most
 plan_task (plan.Exit l) = exit_task l.place l.tdr l.vp l.outcome
 plan_task (plan.Set l) = set_task l.place l.tdr l.vp l.register l.value
@@ -115,10 +128,15 @@ plan_changes (plan.FreeId l) told a = end_changes l.place.machine l.tdr a.hkid U
 plan_changes (plan.Finalize l) told a = final_changes l.place.machine a.page a.hkid
 plan_changes (plan.VpCreate l) told a = vp.create_changes l.place.machine.pages l.tdr a.page l.page a.count a.children
 plan_changes (plan.VpInit l) told a = vp.init_changes l.vp l.value
+plan_changes (plan.VpFlush l) told a = flush_changes l.vp
 plan_changes (plan.SeptAdd l) told a = Clear l.page ∷ sept_add_changes l.place.machine.pages l.tdr l.page a.page (index_at l.level l.gpa) a.children
 plan_changes (plan.SeptRd l) told a = []
 plan_changes (plan.PageAdd l) told a = added_changes l.place.machine (addition l.given.tdr l.given.gpa l.given.page l.given.source a)
 plan_changes (plan.PageAug l) told a = page_aug_changes l.place.machine.pages l.tdr l.page a.page (index_at 0 l.gpa) a.children
+plan_changes (plan.PageRemove l) told a = remove_changes l.tdr a.page (index_at 0 l.gpa) a.named a.children
+plan_changes (plan.RangeBlock l) told a = block_changes l.tdr l.level a.page (index_at l.level l.gpa) a.named a.state a.epoch
+plan_changes (plan.RangeUnblock l) told a = unblock_changes a.page (index_at l.level l.gpa) a.named a.state
+plan_changes (plan.Track l) told a = track_changes a.page a.epoch
 plan_changes (plan.Enter l) told a = enter_changes a.page l.place.lp l.vp a.count
 plan_changes (plan.Exit l) told a = exit_changes a.page a.count
 plan_changes (plan.Set l) told a = put_register l.vp l.register l.value ∷ put_next l.vp (slice_index told 0) ∷ []
@@ -152,10 +170,15 @@ plan_shown (plan.FreeId l) told a = is_page l.place l.tdr
 plan_shown (plan.Finalize l) told a = is_page l.place a.page
 plan_shown (plan.VpCreate l) told a = is_page l.place l.tdr && is_page l.place l.page && is_page l.place a.page && nat_lt a.count 8
 plan_shown (plan.VpInit l) told a = is_page l.place l.vp
+plan_shown (plan.VpFlush l) told a = is_page l.place l.vp
 plan_shown (plan.SeptAdd l) told a = is_page l.place l.tdr && is_page l.place l.page && is_page l.place a.page && nat_le l.level 3
 plan_shown (plan.SeptRd l) told a = true
 plan_shown (plan.PageAdd l) told a = is_page l.place l.given.tdr && is_page l.place l.given.page && is_page l.place l.given.source && not (l.given.source == l.given.page) && is_page l.place a.page
 plan_shown (plan.PageAug l) told a = is_page l.place l.tdr && is_page l.place l.page && is_page l.place a.page
+plan_shown (plan.PageRemove l) told a = is_page l.place l.tdr && is_page l.place a.page && is_page l.place a.named
+plan_shown (plan.RangeBlock l) told a = is_page l.place l.tdr && nat_le l.level 3 && is_page l.place a.page && is_page l.place a.named
+plan_shown (plan.RangeUnblock l) told a = nat_le l.level 3 && is_page l.place a.page && is_page l.place a.named
+plan_shown (plan.Track l) told a = is_page l.place a.page && nat_lt a.epoch (2 ^ 32 - 1)
 plan_shown (plan.Enter l) told a = is_page l.place l.vp && is_page l.place a.page
 plan_shown (plan.Exit l) told a = is_page l.place a.page
 plan_shown (plan.Set l) told a = true
@@ -186,10 +209,15 @@ plans-mean (plan.FreeId l) = free-means l.place l.tdr
 plans-mean (plan.Finalize l) = finalize-means l.place l.tdr
 plans-mean (plan.VpCreate l) = vp_create-means l.place l.tdr l.page
 plans-mean (plan.VpInit l) = vp_init-means l.place l.tdr l.vp l.value l.few_pages
+plans-mean (plan.VpFlush l) = vp_flush-means l.place l.tdr l.vp l.few_pages
 plans-mean (plan.SeptAdd l) = sept_add-means l.place l.tdr l.gpa l.level l.page l.machine
 plans-mean (plan.SeptRd l) = sept_read-means l.place l.tdr l.gpa l.level l.machine
 plans-mean (plan.PageAdd l) = page_add-means l.place l.given.tdr l.given.gpa l.given.page l.given.source l.machine
 plans-mean (plan.PageAug l) = page_aug-means l.place l.tdr l.gpa l.page l.machine
+plans-mean (plan.PageRemove l) = page_remove-means l.place l.tdr l.gpa l.machine
+plans-mean (plan.RangeBlock l) = range_block-means l.place l.tdr l.gpa l.level l.machine
+plans-mean (plan.RangeUnblock l) = range_unblock-means l.place l.tdr l.gpa l.level l.machine
+plans-mean (plan.Track l) = track-means l.place l.tdr
 plans-mean (plan.Enter l) = entry-means l.place l.tdr l.vp l.most l.few_pages
 plans-mean (plan.Exit l) = exit-means l.place l.tdr l.vp l.outcome
 plans-mean (plan.Set l) = set-means l.place l.tdr l.vp l.register l.value l.few

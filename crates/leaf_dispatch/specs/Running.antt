@@ -6,6 +6,8 @@ use Rattle.td_words.specs.declared.replies.Reply.{Reply}
 use Rattle.step_core.specs.declared.items.Taken.{Taken}
 use Rattle.leaf_engine.specs.declared.events.Event.{Event}
 use Rattle.leaf_engine.specs.declared.events.RunTurn.{RunTurn}
+use Rattle.leaf_engine.specs.declared.events.Stage.{Stage}
+use Rattle.leaf_engine.specs.declared.events.Stage.TheVariants as stage
 use Rattle.leaf_engine.specs.Turns.{Standing, standing, CanRun, Turned, has_ended}
 use Rattle.leaf_dispatch.specs.Leaves.{leaf_seen}
 use Rattle.leaf_dispatch.specs.Answers.{Ends, call_ends, FewTries, FitsStage, OldestIsOther, act_of}
@@ -78,3 +80,15 @@ pub record LeafTurned {B : Type 0} (did : List Taken → B → Type 0) (m : Mach
   pub act_is : result.act ≡ act_of result.event stands.stage
   pub seen : run_seen kept ≡ kept_after result.reply stands
   pub under_way : IsRunOf m e kept
+
+-- a run that was answered, and answers something else
+abbrev pub answered_with : Reply → Standing → Standing
+answered_with reply s = record s { stage = stage.Answered reply }
+
+abbrev pub IsAnsweredBy : Stage → Type 0
+IsAnsweredBy (stage.Answered reply) = Unit {0}
+IsAnsweredBy _ = ⊥
+
+abbrev pub IsAnswered : Option Running → Type 0
+IsAnswered None = Unit {0}
+IsAnswered (Some r) = IsAnsweredBy r.run.stage

@@ -19,6 +19,9 @@ use Rattle.access_core.specs.RtmrTrees.{rtmr_task}
 use Rattle.access_core.specs.ReachTrees.{access_tree}
 use Rattle.access_core.specs.WalkTrees.{walk_tree}
 use Rattle.mem_remove.specs.MetadataTrees.{rdmd_task}
+use Rattle.mem_remove.specs.TrackTrees.{track_task}
+use Rattle.mem_remove.specs.RangeTrees.{range_block_task, range_unblock_task}
+use Rattle.mem_remove.specs.RemoveTrees.{page_remove_task, sept_remove_task}
 use Rattle.key_table.specs.CacheTrees.{cache_task}
 use Rattle.key_table.specs.ReclaimTrees.{reclaim_task}
 use Rattle.td_control.specs.CreationTrees.{create_task}
@@ -37,6 +40,7 @@ use Rattle.mem_build.specs.ExtendTrees.{extend_task}
 use Rattle.vcpu_control.specs.VpTrees.{vp_create_task, vp_init_task}
 use Rattle.vcpu_control.specs.EnterTrees.{vp_enter_task}
 use Rattle.vcpu_control.specs.ExitTrees.{exit_task}
+use Rattle.vcpu_control.specs.FlushTrees.{vp_flush_task}
 
 -- what the leaf of a call at a place has to do
 abbrev pub task_of : Place → Call → Task
@@ -56,10 +60,16 @@ task_of p (call.MrFinalize tdr) = finalize_task p tdr
 task_of p (call.VpCreate tdr page) = vp_create_task p tdr page
 task_of p (call.VpInit tdr vp value) = vp_init_task p tdr vp value
 task_of p (call.VpEnter tdr vp max) = vp_enter_task p tdr vp max
+task_of p (call.VpFlush tdr vp) = vp_flush_task p tdr vp
 task_of p (call.MemSeptAdd tdr gpa level page) = sept_add_task p tdr gpa level page
 task_of p (call.MemSeptRd tdr gpa level) = sept_read_task p tdr gpa level
+task_of p (call.MemSeptRemove tdr gpa level) = sept_remove_task p tdr gpa level
 task_of p (call.MemPageAdd tdr gpa page source) = page_add_task p tdr gpa page source
 task_of p (call.MemPageAug tdr gpa page) = page_aug_task p tdr gpa page
+task_of p (call.MemPageRemove tdr gpa) = page_remove_task p tdr gpa
+task_of p (call.MemRangeBlock tdr gpa level) = range_block_task p tdr gpa level
+task_of p (call.MemRangeUnblock tdr gpa level) = range_unblock_task p tdr gpa level
+task_of p (call.MemTrack tdr) = track_task p tdr
 task_of p (call.MrExtend tdr gpa) = extend_task p tdr gpa
 
 -- what the leaf of an operation that goes by a row has to do, for a virtual processor of a TD, at a call line

@@ -12,16 +12,21 @@ use report_text::GuestNote;
 use td_words::{Access, Call, Code, GuestOp, Machine, Outcome, Reply, Value};
 use tlb_epochs::Tlb;
 
-/// The act of VP.ENTER drops the TD's translations where they are stale.
+/// The act of VP.ENTER drops the TD's translations where they are stale, and that of VP.FLUSH drops
+/// them.
 pub fn drop_stale(machine: Machine, cached: &mut Tlb, call: &Call, reply: Reply)
     requires { call_fits machine call.now reply ≡ true }
     ensures { cached.new ≡ (call_answer call.now reply).cached cached.old }
 {
     let _pages = machine.pages;
-    if let (Call::VpEnter { tdr, .. }, Reply::Done(Value::Entered { stale, .. })) = (*call, reply) {
-        if stale {
-            cached.flush_td(tdr as u16);
+    match (*call, reply) {
+        (Call::VpEnter { tdr, .. }, Reply::Done(Value::Entered { stale, .. })) => {
+            if stale {
+                cached.flush_td(tdr as u16);
+            }
         }
+        (Call::VpFlush { tdr, .. }, Reply::Done(Value::Nothing)) => cached.flush_td(tdr as u16),
+        _ => (),
     }
 }
 

@@ -18,17 +18,19 @@ use key_table::{CacheWb, FlushDone, FreeId, Reclaim};
 use leaf_engine::{Leaf, Need, Place, Planned, Write};
 use leaf_parts::page_told;
 use mem_build::{Extend, PageAdd, PageAug, SeptAdd, SeptRd};
-use mem_remove::Rdmd;
+use mem_remove::{PageRemove, RangeBlock, RangeUnblock, Rdmd, SeptRemove, Track};
 use mrtd_measure::Measure;
 use td_control::{AddCx, Create, Finalize, Init, KeyConfig, Rd};
 use td_words::{Access, Call, GuestOp};
-use vcpu_control::{Enter, Exit, VpCreate, VpInit};
+use vcpu_control::{Enter, Exit, VpCreate, VpFlush, VpInit};
 
-/// A leaf of any call that is built, or of any step of a guest: one that goes by a plan, or MR.EXTEND's.
+/// A leaf of any call that is built, or of any step of a guest: one that goes by a plan, or
+/// that of MR.EXTEND or of MEM.SEPT.REMOVE, which are told more words.
 #[derive(Drop)]
 pub enum AnyLeaf {
     ByPlan(Planned<AnyPlan>),
     Extend(Extend),
+    SeptRemove(SeptRemove),
 }
 
 impl Leaf for AnyLeaf {
@@ -50,6 +52,7 @@ impl Leaf for AnyLeaf {
         match self {
             AnyLeaf::ByPlan(leaf) => leaf.need(),
             AnyLeaf::Extend(leaf) => leaf.need(),
+            AnyLeaf::SeptRemove(leaf) => leaf.need(),
         }
     }
 
@@ -57,6 +60,7 @@ impl Leaf for AnyLeaf {
         match self {
             AnyLeaf::ByPlan(leaf) => leaf.tell(word),
             AnyLeaf::Extend(leaf) => leaf.tell(word),
+            AnyLeaf::SeptRemove(leaf) => leaf.tell(word),
         }
     }
 
@@ -64,6 +68,7 @@ impl Leaf for AnyLeaf {
         match self {
             AnyLeaf::ByPlan(leaf) => leaf.write(hasher),
             AnyLeaf::Extend(leaf) => leaf.write(hasher),
+            AnyLeaf::SeptRemove(leaf) => leaf.write(hasher),
         }
     }
 
@@ -113,6 +118,7 @@ pub fn leaf_of(place: Place, call: &Call) -> AnyLeaf
             by_plan(AnyPlan::VpInit(VpInit::plan(place, tdr, vp, value)))
         }
         Call::VpEnter { tdr, vp, max } => by_plan(AnyPlan::Enter(Enter::plan(place, tdr, vp, max))),
+        Call::VpFlush { tdr, vp } => by_plan(AnyPlan::VpFlush(VpFlush::plan(place, tdr, vp))),
         Call::MemSeptAdd {
             tdr,
             gpa,
@@ -122,6 +128,9 @@ pub fn leaf_of(place: Place, call: &Call) -> AnyLeaf
         Call::MemSeptRd { tdr, gpa, level } => by_plan(AnyPlan::SeptRd(SeptRd::plan(
             place, tdr, gpa, level,
         ))),
+        Call::MemSeptRemove { tdr, gpa, level } => {
+            AnyLeaf::SeptRemove(SeptRemove::leaf(place, tdr, gpa, level))
+        }
         Call::MemPageAdd {
             tdr,
             gpa,
@@ -131,6 +140,16 @@ pub fn leaf_of(place: Place, call: &Call) -> AnyLeaf
         Call::MemPageAug { tdr, gpa, page } => {
             by_plan(AnyPlan::PageAug(PageAug::plan(place, tdr, gpa, page)))
         }
+        Call::MemPageRemove { tdr, gpa } => {
+            by_plan(AnyPlan::PageRemove(PageRemove::plan(place, tdr, gpa)))
+        }
+        Call::MemRangeBlock { tdr, gpa, level } => {
+            by_plan(AnyPlan::RangeBlock(RangeBlock::plan(place, tdr, gpa, level)))
+        }
+        Call::MemRangeUnblock { tdr, gpa, level } => {
+            by_plan(AnyPlan::RangeUnblock(RangeUnblock::plan(place, tdr, gpa, level)))
+        }
+        Call::MemTrack { tdr } => by_plan(AnyPlan::Track(Track::plan(place, tdr))),
         Call::MrExtend { tdr, gpa } => AnyLeaf::Extend(Extend::leaf(place, tdr, gpa)),
     }
 }

@@ -7,9 +7,9 @@ use access_core::{
 use key_table::{CacheWb, FlushDone, FreeId, Reclaim};
 use leaf_engine::{Act, Hand, Plan, Stop, Told, Verdict, Write};
 use mem_build::{PageAdd, PageAug, SeptAdd, SeptRd};
-use mem_remove::Rdmd;
+use mem_remove::{PageRemove, RangeBlock, RangeUnblock, Rdmd, Track};
 use td_control::{AddCx, Create, Finalize, Init, KeyConfig, Rd};
-use vcpu_control::{Enter, Exit, VpCreate, VpInit};
+use vcpu_control::{Enter, Exit, VpCreate, VpFlush, VpInit};
 
 /// A plan of any call that is built, or of any step of a guest.
 #[derive(Drop)]
@@ -29,10 +29,15 @@ pub enum AnyPlan {
     Finalize(Finalize),
     VpCreate(VpCreate),
     VpInit(VpInit),
+    VpFlush(VpFlush),
     SeptAdd(SeptAdd),
     SeptRd(SeptRd),
     PageAdd(PageAdd),
     PageAug(PageAug),
+    PageRemove(PageRemove),
+    RangeBlock(RangeBlock),
+    RangeUnblock(RangeUnblock),
+    Track(Track),
     Enter(Enter),
     Exit(Exit),
     Set(Set),
@@ -73,10 +78,15 @@ impl Plan for AnyPlan {
             AnyPlan::Finalize(plan) => plan.decide(told),
             AnyPlan::VpCreate(plan) => plan.decide(told),
             AnyPlan::VpInit(plan) => plan.decide(told),
+            AnyPlan::VpFlush(plan) => plan.decide(told),
             AnyPlan::SeptAdd(plan) => plan.decide(told),
             AnyPlan::SeptRd(plan) => plan.decide(told),
             AnyPlan::PageAdd(plan) => plan.decide(told),
             AnyPlan::PageAug(plan) => plan.decide(told),
+            AnyPlan::PageRemove(plan) => plan.decide(told),
+            AnyPlan::RangeBlock(plan) => plan.decide(told),
+            AnyPlan::RangeUnblock(plan) => plan.decide(told),
+            AnyPlan::Track(plan) => plan.decide(told),
             AnyPlan::Enter(plan) => plan.decide(told),
             AnyPlan::Exit(plan) => plan.decide(told),
             AnyPlan::Set(plan) => plan.decide(told),
@@ -109,10 +119,15 @@ impl Plan for AnyPlan {
             AnyPlan::Finalize(plan) => plan.write(act, told, number, hand),
             AnyPlan::VpCreate(plan) => plan.write(act, told, number, hand),
             AnyPlan::VpInit(plan) => plan.write(act, told, number, hand),
+            AnyPlan::VpFlush(plan) => plan.write(act, told, number, hand),
             AnyPlan::SeptAdd(plan) => plan.write(act, told, number, hand),
             AnyPlan::SeptRd(plan) => plan.write(act, told, number, hand),
             AnyPlan::PageAdd(plan) => plan.write(act, told, number, hand),
             AnyPlan::PageAug(plan) => plan.write(act, told, number, hand),
+            AnyPlan::PageRemove(plan) => plan.write(act, told, number, hand),
+            AnyPlan::RangeBlock(plan) => plan.write(act, told, number, hand),
+            AnyPlan::RangeUnblock(plan) => plan.write(act, told, number, hand),
+            AnyPlan::Track(plan) => plan.write(act, told, number, hand),
             AnyPlan::Enter(plan) => plan.write(act, told, number, hand),
             AnyPlan::Exit(plan) => plan.write(act, told, number, hand),
             AnyPlan::Set(plan) => plan.write(act, told, number, hand),

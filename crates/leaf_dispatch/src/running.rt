@@ -1,6 +1,7 @@
 //! The run of a leaf.
 
-ghost use Rattle.std.specs.Prelude.{◌≡◌, ◌<◌, true, None};
+ghost use Rattle.std.specs.Prelude.{◌≡◌, ◌<◌, true, None, option_map};
+ghost use Rattle.td_words.specs.declared.machines.Machine.{Machine};
 ghost use Rattle.td_words.specs.Limits.{IsMachine};
 ghost use Rattle.leaf_engine.specs.Turns.{Standing};
 ghost use Rattle.leaf_engine.specs.OwnLists.{running};
@@ -8,7 +9,7 @@ ghost use Rattle.leaf_engine.specs.Merges.{IsStepOf};
 ghost use Rattle.leaf_dispatch.specs.Guests.{step_seen};
 ghost use Rattle.leaf_dispatch.specs.Table.{task_of, step_task};
 ghost use Rattle.leaf_dispatch.specs.Answers.{Ends, call_ends, step_ends, act_of};
-ghost use Rattle.leaf_dispatch.specs.Running.{standing_of, run_seen, turn_of, act_in, IsUnderWay, IsRunOf, IsKept, CanTurn, HasTurned, LeafTurned};
+ghost use Rattle.leaf_dispatch.specs.Running.{standing_of, run_seen, answered_with, IsAnswered, turn_of, act_in, IsUnderWay, IsRunOf, IsKept, CanTurn, HasTurned, LeafTurned};
 
 use crate::guests::Step;
 use crate::leaves::{AnyLeaf, leaf_of, step_leaf};
@@ -97,6 +98,17 @@ fn turn_run<B: Bench>(kept: &mut Option<Running>, bench: &mut B) -> LeafTurn
         event: turn.event,
         act,
         reply: turn.reply,
+    }
+}
+
+/// What a kept run that was answered answers from now on, as VP.ENTER does once its guest is left.
+pub fn answer_kept(kept: &mut Option<Running>, reply: Reply)
+    ensures seen { run_seen kept.new ≡ option_map (answered_with reply) (run_seen kept.old) }
+    ensures under_way { (m : Machine) (e : Ends) → IsRunOf m e kept.old → IsAnswered kept.old → e.fits reply ≡ true → IsRunOf m e kept.new }
+{
+    match kept {
+        Some(Running { run }) => run.answer(reply),
+        None => (),
     }
 }
 

@@ -1,23 +1,23 @@
-//! A turn in a guest.
+//! A turn of a call line, and a turn in a guest.
 
-ghost use Rattle.std.specs.Prelude.{◌≡◌, ℕ, ◌<◌, true, Option, IfSome, None};
+ghost use Rattle.std.specs.Prelude.{◌≡◌, ℕ, ◌<◌, true, Option, IfSome, None, option_map};
 ghost use Rattle.std.specs.List.{All};
 ghost use Rattle.td_words.specs.Limits.{IsMachine};
 ghost use Rattle.leaf_engine.specs.Turns.{Standing};
 ghost use Rattle.leaf_engine.specs.OwnLists.{running};
 ghost use Rattle.leaf_engine.specs.Merges.{IsOperation, IsStepOf};
-ghost use Rattle.leaf_dispatch.specs.Answers.{step_answer, step_ends, step_fits, step_tries, cached_by, notes_by, tells_by};
-ghost use Rattle.leaf_dispatch.specs.Guests.{step_seen, next_in, notes_in, words_in, IsLow, CanCount, IsReplyOf, IsNextGuest};
+ghost use Rattle.leaf_dispatch.specs.Answers.{call_answer, call_ends, call_fits, guest_by, step_answer, step_ends, step_fits, step_tries, cached_by, notes_by, tells_by};
+ghost use Rattle.leaf_dispatch.specs.Guests.{step_seen, guest_seen, next_in, notes_in, words_in, IsLow, CanCount, IsReplyOf, IsNextGuest};
 ghost use Rattle.leaf_dispatch.specs.Running.{run_seen, IsRunOf, LeafTurned};
-ghost use Rattle.leaf_dispatch.specs.Table.{step_task};
+ghost use Rattle.leaf_dispatch.specs.Table.{code_in, task_of, step_task};
 
-use crate::answers::{cache_walk, noted, told};
+use crate::answers::{cache_walk, drop_stale, entered, noted, told};
 use crate::guests::{GuestAt, Step, next_step, step_on};
-use crate::running::{LeafTurn, Running, turn_step};
+use crate::running::{LeafTurn, Running, turn_call, turn_step};
 use leaf_engine::Place;
 use report_text::GuestNote;
 use step_core::Bench;
-use td_words::Reply;
+use td_words::{Call, Code, Machine, Reply};
 use tlb_epochs::Tlb;
 
 /// A turn in a guest: its step and that step's turn, what the guest noted and told with its act, and
@@ -28,6 +28,64 @@ pub struct GuestTurn<'a> {
     pub note: Option<GuestNote>,
     pub word: Option<u64>,
     pub guest: Option<GuestAt<'a>>,
+}
+
+/// A turn of a call line, and the guest that its act enters.
+pub struct LineTurn<'a> {
+    pub turn: LeafTurn,
+    pub guest: Option<GuestAt<'a>>,
+}
+
+/// The next turn of a call's run, which is kept until its reply comes, and begins where none is kept.
+#[inline(never)]
+pub fn turn_line<'a, B: Bench>(
+    kept: &mut Option<Running>,
+    cached: &mut Tlb,
+    place: Place,
+    codes: &'a [Code],
+    call: &Call,
+    bench: &mut B,
+) -> LineTurn<'a>
+    requires machine { IsMachine place.machine }
+    requires at { place.machine ≡ B.machine bench.old }
+    requires under_way { IsRunOf place.machine (call_ends place.machine call.now) kept.old }
+    ensures turned { LeafTurned (B.did bench.old) place.machine (call_ends place.machine call.now) (running (task_of place call.now) (run_seen kept.old)) bench.new kept.new result.turn }
+    ensures cached { cached.new ≡ cached_by (call_answer call.now) result.turn.act cached.old }
+    ensures entered { option_map (λ g. guest_seen g None) result.guest ≡ guest_by (call_answer call.now) result.turn.act None }
+    ensures inside { IfSome result.guest (λ g. (g.tdr < place.machine.pages) × (g.vp < place.machine.pages) × (code_in codes.now g.tdr g.index ≡ g.list.now) × IsLow g.walk) }
+    ensures machine { B.machine bench.new ≡ B.machine bench.old }
+{
+    let turn = turn_call(kept, place, call, bench);
+    drop_by(place.machine, cached, call, turn.act);
+    LineTurn {
+        turn,
+        guest: entered_by(place.machine, codes, call, turn.act),
+    }
+}
+
+fn drop_by(machine: Machine, cached: &mut Tlb, call: &Call, act: Option<Reply>)
+    requires { IfSome act (λ r. call_fits machine call.now r ≡ true) }
+    ensures { cached.new ≡ cached_by (call_answer call.now) act cached.old }
+{
+    if let Some(reply) = act {
+        drop_stale(machine, cached, call, reply);
+    }
+}
+
+fn entered_by<'a>(
+    machine: Machine,
+    codes: &'a [Code],
+    call: &Call,
+    act: Option<Reply>,
+) -> Option<GuestAt<'a>>
+    requires { IfSome act (λ r. call_fits machine call.now r ≡ true) }
+    ensures seen { option_map (λ g. guest_seen g None) result ≡ guest_by (call_answer call.now) act None }
+    ensures inside { IfSome result (λ g. (g.tdr < machine.pages) × (g.vp < machine.pages) × (code_in codes.now g.tdr g.index ≡ g.list.now) × IsLow g.walk) }
+{
+    match act {
+        Some(reply) => entered(machine, codes, call, reply),
+        None => None,
+    }
 }
 
 /// The next turn in a guest, at a call line: of the run of its step, which is kept until its reply

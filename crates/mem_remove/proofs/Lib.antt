@@ -2,3 +2,4 @@ pub mod NamedDecided
 pub mod TrackedDecided
 pub mod TrackDecided
 pub mod RemoveDecided
+pub mod SeptSteps

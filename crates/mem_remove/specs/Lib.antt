@@ -14,3 +14,4 @@ pub mod RemoveTrees
 pub mod RemoveShows
 pub mod RemoveMeanings
 pub mod SeptRemoveMeanings
+pub mod RemoveStages

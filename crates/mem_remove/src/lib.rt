@@ -1,8 +1,9 @@
 //! Leaves on pages that are in use: the look at a page's metadata, blocking, tracking and unblocking,
-//! and the removal of a private page.
+//! and the removal of a private page and of a secure EPT page.
 //!
-//! Each leaf is a `Plan` of `leaf_engine`, whose tree mirrors its row, with the proof that it means
-//! that row. Those on an entry begin alike, by `find_named`; and whether a block is tracked is judged
+//! Each leaf's tree mirrors its row, with the proof that it means that row. All are `Plan`s of
+//! `leaf_engine` but the removal of a secure EPT page, which is told 512 entries and has a `Leaf` of
+//! its own. Those on an entry begin alike, by `find_named`; and whether a block is tracked is judged
 //! once, by `tracked`.
 #![tactic(auto)]
 
@@ -10,6 +11,7 @@ mod blocks;
 mod metadata_reads;
 mod named_entries;
 mod removals;
+mod sept_removals;
 mod tracked_blocks;
 mod trackings;
 
@@ -17,4 +19,5 @@ pub use blocks::{RangeBlock, RangeUnblock};
 pub use metadata_reads::Rdmd;
 pub use named_entries::Named;
 pub use removals::PageRemove;
+pub use sept_removals::SeptRemove;
 pub use trackings::Track;

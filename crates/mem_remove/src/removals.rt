@@ -1,8 +1,9 @@
 //! MEM.PAGE.REMOVE.
 
-ghost use Rattle.std.specs.Prelude.{◌≡◌, ℕ, ◌<◌, length};
+ghost use Rattle.std.specs.Prelude.{◌≡◌, ℕ, ◌<◌, length, Option, MatchOption};
+ghost use Rattle.mrtd_measure.specs.declared.measures.Measure.{Measure};
 ghost use Rattle.td_words.specs.Limits.{IsMachine};
-ghost use Rattle.leaf_engine.specs.Decides.{Decides, ending};
+ghost use Rattle.leaf_engine.specs.Decides.{Decides, ending, HandsAt};
 ghost use Rattle.leaf_engine.specs.Inside.{DecisionIn, DecidesEarly};
 ghost use Rattle.mem_remove.specs.TrackedTrees.{tracked_tree};
 ghost use Rattle.mem_remove.specs.RemoveTrees.{given_tree, remove_changes};
@@ -14,7 +15,7 @@ use leaf_parts::lowered;
 use sept_parts::{GPAS, is_aligned};
 use sept_walk::index;
 use td_words::places::TDR_CHILDREN;
-use td_words::{EntryState, Status, pamt_address, word_address};
+use td_words::{EntryState, Machine, Status, pamt_address, word_address};
 
 /// The states of an entry whose private page may be removed.
 const REMOVED: [EntryState; 2] = [EntryState::Blocked, EntryState::PendingBlocked];
@@ -66,28 +67,16 @@ impl Plan for PageRemove {
         remove(told, self.place, tdr, named.tdcs, named.page, page)
     }
 
-    // The act is the store of the entry, which is FREE then; then the page that it named is cleared
-    // and given back, and the child count falls.
     fn write(&self, act: Act, _told: &[u64], number: usize, _hand: &mut Hand) -> Option<Write> {
-        let _pages = self.place.machine.pages;
-        let write = match number {
-            0 => Write::store(word_address(act.page, index(0, self.gpa)), 0),
-            1 => Write::Zero(act.named),
-            2 => Write::store(pamt_address(act.named), 0),
-            3 => Write::store(
-                word_address(self.tdr as u16, TDR_CHILDREN),
-                lowered(act.children),
-            ),
-            _ => return None,
-        };
-        Some(write)
+        let at = index(0, self.gpa);
+        give_back(self.place.machine, self.tdr as u16, at, act, number)
     }
 
     ghost means = { λ l. page_remove-means l.place l.tdr l.gpa l.machine };
 }
 
 /// What comes behind the beginning of the row: the block of the page that the entry names is tracked.
-fn remove(
+pub fn remove(
     told: Told,
     place: Place,
     tdr: u16,
@@ -109,4 +98,22 @@ fn remove(
         children,
         ..Act::NONE
     }))
+}
+
+/// The write of that number of a removal. The act is the store of the entry, which is FREE then; then
+/// the page that it named is cleared and given back, and the child count falls.
+pub fn give_back(machine: Machine, tdr: u16, index: u16, act: Act, number: usize) -> Option<Write>
+    requires { (tdr < machine.pages) × (index < 512) × (act.page < machine.pages) × (act.named < machine.pages) }
+    ensures hands { (h : Option Measure) → HandsAt machine (remove_changes tdr act.page index act.named act.children) number h h result }
+    ensures few { MatchOption result Unit (λ w. number < 4) }
+{
+    let _pages = machine.pages;
+    let write = match number {
+        0 => Write::store(word_address(act.page, index), 0),
+        1 => Write::Zero(act.named),
+        2 => Write::store(pamt_address(act.named), 0),
+        3 => Write::store(word_address(tdr, TDR_CHILDREN), lowered(act.children)),
+        _ => return None,
+    };
+    Some(write)
 }

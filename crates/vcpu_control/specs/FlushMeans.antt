@@ -1,5 +1,5 @@
 -- The leaf of VP.FLUSH means its row.
-use Rattle.std.proofs.Common.{◌≡◌, ℕ, zero, suc, ◌+◌, ◌<◌, Bool, true, false, not, ◌==◌, nat_lt, List, [], ◌∷◌, ◌++◌, Option, Some, None, refl, sym, subst, inl, inr, arith}
+use Rattle.std.proofs.Common.{◌≡◌, ℕ, ◌<◌, Bool, true, false, not, ◌==◌, nat_lt, List, [], ◌∷◌, ◌++◌, Option, refl, sym, subst, inl, inr, arith}
 use Rattle.std.proofs.lemmas.Bool.{eq-eqb, eqb-true, ltb-true, not-true}
 use Rattle.td_words.specs.declared.names.PageKind.TheVariants as kind
 use Rattle.td_words.specs.declared.names.LifeState.TheVariants as life
@@ -10,7 +10,7 @@ use Rattle.td_words.specs.declared.refusals.Status.TheVariants.{OperandInvalid}
 use Rattle.td_words.specs.Place as place
 use Rattle.flat_core.specs.World.{World}
 use Rattle.flat_core.specs.Processor.{OfPage, Held}
-use Rattle.flat_core.specs.Conditions.{is_elsewhere, not_elsewhere, associated_vp, root, life_in, td_page, page_shared, page_exclusive}
+use Rattle.flat_core.specs.Conditions.{not_elsewhere, associated_vp, root, life_in, td_page, page_shared, page_exclusive}
 use Rattle.flat_core.specs.Effects.{end_association}
 use Rattle.flat_core.specs.Event.{State}
 use Rattle.flat_core.specs.Lawful.{Lawful, IsAlive, IsPageOf}

@@ -1,4 +1,5 @@
 use Rattle.std.proofs.Common.{ℕ, ◌+◌, ◌*◌, List, None, Ok, Err, ap, ◌∙◌}
+use Rattle.td_words.specs.declared.names.EntryState.TheVariants.{Free}
 use Rattle.td_words.specs.declared.replies.Value.TheVariants.{Digest}
 use Rattle.td_words.specs.declared.replies.Reply.TheVariants.{Done}
 use Rattle.flat_core.specs.Digests.{digest_bytes}
@@ -35,7 +36,7 @@ returns-clause-decides c = λ line.
     let v = c.args.vp in
     let d = c.args.tdcs in
     let i = c.args.index in
-    let r = ending (λ a. rtmr_changes v i a.page a.count c.args.told.left.now) (Ok (record { reply = Done (Digest c.digest.result); act = record { page = d; hkid = 0; count = c.in_ok-position.position; children = 0; cleared = None } })) in
+    let r = ending (λ a. rtmr_changes v i a.page a.count c.args.told.left.now) (Ok (record { reply = Done (Digest c.digest.result); act = record { page = d; hkid = 0; count = c.in_ok-position.position; children = 0; named = 0; state = Free; epoch = 0; cleared = None } })) in
     rtmr-words n d i (16 + 6 * c.from.result) (ap (λ (k : ℕ). 16 + 6 * k) c.from.ensures) (further v line d i) c.args.told.left.now r
     (c.in_ok-old.ensures.goes (further v line d i) r
     (c.in_ok-given.ensures.goes (last v line d i c.in_ok-old.old) r

@@ -1,4 +1,4 @@
-use Rattle.std.proofs.Common.{◌≡◌, ◌∙◌, sym, ap}
+use Rattle.std.proofs.Common.{◌∙◌, sym, ap}
 use Rattle.td_words.specs.declared.replies.Outcome.{Outcome}
 use Rattle.leaf_engine.specs.Guests.{exited_with}
 use Rattle.leaf_dispatch.specs.Guests.{guest_seen}

@@ -1,4 +1,4 @@
-use Rattle.std.proofs.Common.{◌≡◌, ◌∙◌, Some, sym, ap}
+use Rattle.std.proofs.Common.{◌∙◌, Some, sym, ap}
 use Rattle.leaf_engine.specs.Guests.{Step, stepped}
 use Rattle.leaf_dispatch.specs.Guests.{step_seen, guest_seen}
 use Rattle.leaf_dispatch.proofs.guests.step_on.Goals as goal

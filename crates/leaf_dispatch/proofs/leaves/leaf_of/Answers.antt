@@ -22,8 +22,23 @@ pub returns-in-MemPageAug-clause-task : goal.returns-in-MemPageAug-clause-task
 returns-in-MemPageAug-clause-task c =
     c.by_plan-in-MemPageAug.ensures.task ∙ c.plan-in-MemPageAug.ensures ∙ sym (ap (task_of c.args.place) c.in-MemPageAug.is)
 
+pub returns-in-MemPageRemove-clause-task : goal.returns-in-MemPageRemove-clause-task
+returns-in-MemPageRemove-clause-task c =
+    c.by_plan-in-MemPageRemove.ensures.task ∙ c.plan-in-MemPageRemove.ensures ∙ sym (ap (task_of c.args.place) c.in-MemPageRemove.is)
+
+pub returns-in-MemRangeBlock-clause-task : goal.returns-in-MemRangeBlock-clause-task
+returns-in-MemRangeBlock-clause-task c =
+    c.by_plan-in-MemRangeBlock.ensures.task ∙ c.plan-in-MemRangeBlock.ensures ∙ sym (ap (task_of c.args.place) c.in-MemRangeBlock.is)
+
+pub returns-in-MemRangeUnblock-clause-task : goal.returns-in-MemRangeUnblock-clause-task
+returns-in-MemRangeUnblock-clause-task c =
+    c.by_plan-in-MemRangeUnblock.ensures.task ∙ c.plan-in-MemRangeUnblock.ensures ∙ sym (ap (task_of c.args.place) c.in-MemRangeUnblock.is)
+
+pub returns-in-MemSeptRemove-clause-task : goal.returns-in-MemSeptRemove-clause-task
+returns-in-MemSeptRemove-clause-task c = c.leaf.ensures.task ∙ sym (ap (task_of c.args.place) c.in-MemSeptRemove.is)
+
 pub returns-in-MrExtend-clause-task : goal.returns-in-MrExtend-clause-task
-returns-in-MrExtend-clause-task c = c.leaf.ensures.task ∙ sym (ap (task_of c.args.place) c.in-MrExtend.is)
+returns-in-MrExtend-clause-task c = c.leaf-in-MrExtend.ensures.task ∙ sym (ap (task_of c.args.place) c.in-MrExtend.is)
 
 pub returns-in-VpEnter-clause-task : goal.returns-in-VpEnter-clause-task
 returns-in-VpEnter-clause-task c =

@@ -1,4 +1,4 @@
-use Rattle.std.proofs.Common.{◌≡◌, ◌∙◌, [], None, ap}
+use Rattle.std.proofs.Common.{◌∙◌, [], None, ap}
 use Rattle.leaf_engine.specs.declared.needs.Place.{Place}
 use Rattle.leaf_engine.specs.declared.events.Stage.TheVariants.{Trying}
 use Rattle.leaf_engine.specs.Trees.{Tree, settle}

@@ -1,4 +1,4 @@
-use Rattle.std.proofs.Common.{◌≡◌, ◌∙◌, None, refl, sym, ap, subst}
+use Rattle.std.proofs.Common.{◌∙◌, None, refl, sym, ap, subst}
 use Rattle.leaf_engine.specs.Guests.{Step}
 use Rattle.leaf_engine.specs.OwnLists.{running}
 use Rattle.leaf_dispatch.specs.Answers.{step_tries, step_ends}

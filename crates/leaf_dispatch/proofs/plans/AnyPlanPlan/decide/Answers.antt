@@ -20,3 +20,12 @@ returns-in-SeptAdd-clause-decides c = rw (c.in-SeptAdd.is) c.decide-in-SeptAdd.e
 
 pub returns-in-SeptRd-clause-decides : goal.returns-in-SeptRd-clause-decides
 returns-in-SeptRd-clause-decides c = rw (c.in-SeptRd.is) c.decide-in-SeptRd.ensures.decides
+
+pub returns-in-PageRemove-clause-decides : goal.returns-in-PageRemove-clause-decides
+returns-in-PageRemove-clause-decides c = rw (c.in-PageRemove.is) c.decide-in-PageRemove.ensures.decides
+
+pub returns-in-RangeBlock-clause-decides : goal.returns-in-RangeBlock-clause-decides
+returns-in-RangeBlock-clause-decides c = rw (c.in-RangeBlock.is) c.decide-in-RangeBlock.ensures.decides
+
+pub returns-in-RangeUnblock-clause-decides : goal.returns-in-RangeUnblock-clause-decides
+returns-in-RangeUnblock-clause-decides c = rw (c.in-RangeUnblock.is) c.decide-in-RangeUnblock.ensures.decides

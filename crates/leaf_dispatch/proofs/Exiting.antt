@@ -1,0 +1,42 @@
+-- A run that answers something else stays under way.
+use Rattle.std.proofs.Common.{◌≡◌, ◌∙◌, true, false, List, [], ◌∷◌, refl, ap, sym, subst}
+use Rattle.td_words.specs.declared.machines.Machine.{Machine}
+use Rattle.td_words.specs.declared.replies.Reply.{Reply}
+use Rattle.leaf_engine.specs.declared.events.HeldLock.{HeldLock}
+use Rattle.leaf_engine.specs.declared.events.Stage.{Stage}
+use Rattle.leaf_engine.specs.declared.events.Stage.TheVariants as stages
+use Rattle.leaf_engine.specs.Turns.{Standing, has_ended, CanRun}
+use Rattle.leaf_dispatch.specs.Answers.{Ends, is_busy, FewTries, FitsStage, OldestIsOther}
+use Rattle.leaf_dispatch.specs.Leaves.{leaf_seen}
+use Rattle.leaf_dispatch.specs.Running.{standing_of, answered_with, IsUnderWay, IsAnsweredBy}
+use Rattle.leaf_dispatch.specs.declared.leaves.AnyLeaf.{AnyLeaf}
+use Rattle.leaf_dispatch.specs.declared.running.Running.{Running}
+use Rattle.leaf_dispatch.proofs.Lowering.{by-fits}
+
+still-held : (x : Stage) (held : List HeldLock) (reply : Reply) → IsAnsweredBy x → has_ended x held ≡ false → has_ended (stages.Answered reply) held ≡ false
+still-held (stages.Answered r) [] reply is e = cc
+still-held (stages.Answered r) (h ∷ hs) reply is e = refl
+still-held stages.Trying held reply is e = absurd is
+still-held (stages.Undoing name at) held reply is e = absurd is
+
+still-oldest : (x : Stage) (held : List HeldLock) (s s' : Standing) → IsAnsweredBy x → has_ended x held ≡ false → OldestIsOther held s → OldestIsOther held s'
+still-oldest (stages.Answered r) [] s s' is e o = cc
+still-oldest x (h ∷ hs) s s' is e o = o
+still-oldest stages.Trying [] s s' is e o = absurd is
+still-oldest (stages.Undoing name at) [] s s' is e o = absurd is
+
+pub still-answered : (m : Machine) (e : Ends) (r r' : Running) (reply : Reply) → r'.run.leaf ≡ r.run.leaf → standing_of r' ≡ answered_with reply (standing_of r) → IsUnderWay m e r → IsAnsweredBy r.run.stage → e.fits reply ≡ true → IsUnderWay m e r'
+still-answered m e r r' reply leaf stands u is fits =
+    let can : CanRun m (answered_with reply (standing_of r)) (leaf_seen r.run.leaf).tries (leaf_seen r.run.leaf).written (leaf_seen r.run.leaf).waits =
+    record { held_in = u.can_run.held_in; stage_in = tt; room = u.can_run.room; ready = u.can_run.ready } in
+    let few : FewTries e (answered_with reply (standing_of r)) = (u.few_tries.0, λ st. cc) in
+    record {
+      machine = ap (λ (l : AnyLeaf). (leaf_seen l).task.place.machine) leaf ∙ u.machine;
+      can_run =
+          subst (λ (z : Standing). CanRun m z (leaf_seen r'.run.leaf).tries (leaf_seen r'.run.leaf).written (leaf_seen r'.run.leaf).waits) (sym stands)
+          (subst (λ (l : AnyLeaf). CanRun m (answered_with reply (standing_of r)) (leaf_seen l).tries (leaf_seen l).written (leaf_seen l).waits) (sym leaf) can);
+      going = subst (λ (z : Standing). has_ended z.stage z.held ≡ false) (sym stands) (still-held r.run.stage r.run.held.items reply is u.going);
+      few_tries = subst (λ (z : Standing). FewTries e z) (sym stands) few;
+      fits = subst (λ (z : Standing). FitsStage e z.stage) (sym stands) (by-fits (e.fits reply) (is_busy reply) fits);
+      oldest = subst (λ (z : Standing). OldestIsOther z.held z) (sym stands) (still-oldest r.run.stage r.run.held.items (standing_of r) (answered_with reply (standing_of r)) is u.going u.oldest);
+    }

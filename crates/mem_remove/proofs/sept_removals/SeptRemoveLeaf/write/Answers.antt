@@ -1,0 +1,25 @@
+use Rattle.std.proofs.Common.{ℕ, List, None, Some, sym, subst}
+use Rattle.leaf_engine.specs.Changes.{Change}
+use Rattle.leaf_engine.specs.Decides.{HandsAt}
+use Rattle.leaf_engine.specs.Trees.{changes_of}
+use Rattle.leaf_engine.proofs.Decided.{none-next, some-next}
+use Rattle.mem_remove.specs.RemoveTrees.{remove_changes}
+use Rattle.mem_remove.specs.RemoveStages.{rest_of}
+use Rattle.mem_remove.proofs.sept_removals.SeptRemoveLeaf.write.Goals as goal
+
+pub returns-in_err-write-clause-next : goal.returns-in_err-write-clause-next
+returns-in_err-write-clause-next c =
+    let l = c.args.self.now in
+    let h = c.args._hasher.now in
+    let a = c.in_ok-act.act in
+    let hands = subst (λ (i : ℕ). HandsAt l.place.machine (remove_changes l.tdr a.page i a.named a.children) l.written h h None) c.index-at.ensures.index (c.in_err-write.ensures.hands h) in
+    rw c.from_residual-in_err-write.ensures (none-next l.place.machine (changes_of (rest_of l.place l.tdr l.gpa l.level l.table l.seen l.used l.told.items l.later.items)) l.written h h (subst (λ (cs : List Change). HandsAt l.place.machine cs l.written h h None) (sym c.in_ok-act.ensures.0) hands))
+
+pub returns-clause-next : goal.returns-clause-next
+returns-clause-next c =
+    let l = c.args.self.now in
+    let h = c.args._hasher.now in
+    let a = c.in_ok-act.act in
+    let w = c.in_ok-write.write in
+    let hands = subst (λ (i : ℕ). HandsAt l.place.machine (remove_changes l.tdr a.page i a.named a.children) l.written h h (Some w)) c.index-at.ensures.index (c.in_ok-write.ensures.hands h) in
+    some-next l.place.machine (changes_of (rest_of l.place l.tdr l.gpa l.level l.table l.seen l.used l.told.items l.later.items)) l.written h h w (subst (λ (cs : List Change). HandsAt l.place.machine cs l.written h h (Some w)) (sym c.in_ok-act.ensures.0) hands)
