@@ -54,7 +54,7 @@ walks-follow find meet = record {
 
 -- the table that a merge leads to
 pub walks-follow-merges : EveryWorldIsLawful → MergesAreRuns → WalksFollow → WalksFollowMerges
-walks-follow-merges lawful runs follow o leaf is now u limit most are none merge t tdcs root gpa level alive controls small few =
-    let by : IsShownBy o.machine u (play o (order is) (start o None)) = (runs.turns o leaf is now u most are none merge).0 in
+walks-follow-merges lawful runs follow o leaf is now u limit most are codes merge t tdcs root gpa level alive controls small few =
+    let by : IsShownBy o.machine u (play o (order is) (start o None)) = (runs.turns o leaf is now u most are codes merge).0 in
     follow.ends o.machine by.memory (play o (order is) (start o None)) t root gpa level u None
     (record { limit = limit; lawful = lawful o None (order is); shown = by.shows; alive = alive; tdcs = tdcs; controls = controls }) by.is small few

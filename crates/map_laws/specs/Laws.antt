@@ -1,6 +1,5 @@
 -- Memory holds the map of a TD where its words show the flat machine, so walks of memory are walks of the map.
 use Rattle.std.specs.Prelude.{◌≡◌, ℕ, ◌-◌, ◌^◌, ◌<◌, ◌≤◌, Option, None, List, [], ◌∷◌, ◌++◌, length}
-use Rattle.td_words.specs.declared.calls.Call.{Call}
 use Rattle.td_words.specs.declared.machines.Machine.{Machine}
 use Rattle.td_words.specs.declared.places.TheConstants.{TDR_ROOT}
 use Rattle.td_words.specs.declared.replies.Reply.{Reply}
@@ -18,10 +17,9 @@ use Rattle.sept_walk.specs.Laws.{told_at_most}
 use Rattle.mrtd_measure.specs.declared.measures.Measure.{Measure}
 use Rattle.step_core.specs.Items.{Table}
 use Rattle.leaf_engine.specs.Changes.{Memory}
-use Rattle.leaf_engine.specs.Means.{Task}
 use Rattle.leaf_engine.specs.Tables.{IsMemory}
-use Rattle.leaf_engine.specs.OwnLists.{WordLp}
-use Rattle.leaf_engine.specs.Merges.{Item, order, AreLeaves, LinesEnterNone}
+use Rattle.leaf_engine.specs.OwnLists.{LeafTable, WordLp}
+use Rattle.leaf_engine.specs.Merges.{Item, order, AreLeaves, AreCodes}
 use Rattle.merge_laws.specs.Merge.{Merge}
 use Rattle.map_laws.specs.SeptMaps.{ShowsTd, entries_of, entries_on}
 
@@ -51,6 +49,6 @@ pub record WalksFollow : Type 0 where
 -- After each merge of word steps, turn by turn, the table is such memory: a walk over it ends as the flat machine's map of
 -- the TD says, after a run of the events of the merge.
 abbrev pub WalksFollowMerges : Type 0
-WalksFollowMerges = (o : Opening) (leaf : ℕ → Call → Task) (is : List Item) (now : ℕ → WordLp) (u : Table) → o.machine.pages ≤ 1024 → length o.calls ≤ 8 → AreLeaves o leaf → LinesEnterNone o → Merge o leaf is now u
+WalksFollowMerges = (o : Opening) (leaf : ℕ → LeafTable) (is : List Item) (now : ℕ → WordLp) (u : Table) → o.machine.pages ≤ 1024 → length o.calls ≤ 8 → AreLeaves o leaf → AreCodes o → Merge o leaf is now u
     → let w = (play o (order is) (start o None)).world in (t tdcs root gpa level : ℕ) → IsAlive w.pages w.tds t → w.tds.controls t ≡ tdcs ∷ root ∷ [] → gpa < 2 ^ 47 → level ≤ 3
     → table_walk o.machine u root gpa level ≡ map_end w t gpa level

@@ -20,6 +20,8 @@ pub mod StepLeads
 pub mod Stepping
 pub mod InStep
 pub mod GuestsStay
+pub mod LineStands
+pub mod GivingBack
 pub mod Lines
 pub mod Others
 pub mod Own

@@ -5,7 +5,7 @@ use Rattle.td_words.specs.declared.replies.Reply.{Reply}
 use Rattle.td_words.specs.Place.{WordPlace, IsIn, address}
 use Rattle.mrtd_measure.specs.declared.measures.Measure.{Measure}
 use Rattle.flat_core.specs.World.{World}
-use Rattle.flat_core.specs.Processor.{LockId, Held, Phase, Trying, Undoing, Answered}
+use Rattle.flat_core.specs.Processor.{LockId, Held, Phase, Trying, Undoing, Answered, Guest}
 use Rattle.flat_core.specs.Opening.{Opening}
 use Rattle.flat_core.specs.Row.{Move, next, next_in}
 use Rattle.leaf_engine.specs.Doing.{event_of}
@@ -37,6 +37,8 @@ use Rattle.merge_laws.proofs.Filling.{Todo, Puts, Takes, all_todos, EachTodo, du
 use Rattle.merge_laws.proofs.Keeping.{keeps-same}
 use Rattle.merge_laws.proofs.Holding.{bare, locks_at, lock_grip_of, IsOlder, whole, IsPart, parts-apart, older-part, locks-part, grasp-part, hold-part, lock-stays, EachTold, told-reads, told-older, still-current}
 use Rattle.merge_laws.proofs.Standing.{Laws, Trees, AreTrees, Known, HandOf, Does, task_for, moment, act_grip, RunsAt, DoesHere, on_table, Fill, Position, seen_by, back, AreLeft, AreLeftLoaded, FillHolds, Pending, Holds, Stands}
+use Rattle.lock_words.specs.LockWords.{HeldStand}
+use Rattle.merge_laws.proofs.Staying.{GuestStays}
 use Rattle.merge_laws.proofs.Lines.{does-here, stands-stay}
 
 -- words that show a state, on a table that holds them, with the hasher that a run has in hand
@@ -284,11 +286,11 @@ leaf-stays ls o trees s mem t pos k d run w' words' a a' g' known st here lv ra 
     }
 
 pub others-stay : (ls : Laws) (o : Opening) (trees : Trees) (s : State) (mem : Memory) (t : Table) (pos : ℕ → Position) (k : ℕ) (w' : World) (words' a' : WordPlace → ℕ) (g' : Grip) → AreTrees o trees → Known o s → Stands o trees s mem t pos
-    → k < length o.calls → Leaves o.machine s k g' w' mem.words words' (on_table o.machine t) a' → Holds o trees k w' words' a' (s.lps k) (pos k)
-others-stay ls o trees s mem t pos k w' words' a' g' are known st i lv =
+    → k < length o.calls → ((g : Guest) → (s.lps k).guest ≡ Some g → GuestStays s.world w' g.tdr g.vp) → HeldStand w' (s.lps k).call.held → Leaves o.machine s k g' w' mem.words words' (on_table o.machine t) a' → Holds o trees k w' words' a' (s.lps k) (pos k)
+others-stay ls o trees s mem t pos k w' words' a' g' are known st i guest-stays stand lv =
     let h = st.holds k i in
     record {
-      stands = stands-stay o trees s k (pos k).at w' mem.words words' are known i (λ d run here. leaf-stays ls o trees s mem t pos k d run w' words' (on_table o.machine t) a' g' known st here lv) h.stands;
+      stands = stands-stay o trees s k (pos k).at w' mem.words words' are known i guest-stays stand (λ d run here. leaf-stays ls o trees s mem t pos k d run w' words' (on_table o.machine t) a' g' known st here lv) h.stands;
       due = pending (pos k).fill h.due;
     }
   where

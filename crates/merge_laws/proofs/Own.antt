@@ -23,6 +23,9 @@ use Rattle.merge_laws.proofs.Stores.{last_at, laid, last-each, OwesAt, FillsAt}
 use Rattle.merge_laws.proofs.Keeping.{keeps-each}
 use Rattle.merge_laws.proofs.Holding.{lock_grip_of, IsPart, locks-part}
 use Rattle.merge_laws.proofs.Standing.{Laws, Trees, AreTrees, Known, DoesHere, act_grip, Grows, on_table, Fill, Position, back, Pending, Holds, Slots, Stands}
+use Rattle.lock_words.specs.LockWords.{HeldStand}
+use Rattle.flat_core.proofs.Induction.{count_stays}
+use Rattle.merge_laws.proofs.Staying.{guest-stays}
 use Rattle.merge_laws.proofs.Lines.{does-here}
 use Rattle.merge_laws.proofs.Others.{grips-apart, act-part, fill-may, Leaves, others-stay}
 
@@ -107,7 +110,8 @@ gathered ls o trees s mem mem' t t' pos p now g' part are known st i sp shows ha
               still = λ q g in_q owes. sp.still (lock_grip_of s k) q g (apart (lock_grip_of s k) (locks-part s k)) in_q owes;
               filled = λ g q mine in_q fills. sp.filled g q (apart g mine) in_q fills;
             } in
-            let there = others-stay ls o trees s mem t pos k (event o s p).world mem'.words (on_table o.machine t') g' are known st j lv in
+            let stand : HeldStand (event o s p).world (s.lps k).call.held = subst (λ (z : Lp). HeldStand (event o s p).world z.call.held) (other k e) ((known.later p).stand k (subst (λ (n : ℕ). k < n) (sym (count_stays o s p ∙ known.count)) j)).0 in
+            let there = others-stay ls o trees s mem t pos k (event o s p).world mem'.words (on_table o.machine t') g' are known st j (λ g is. guest-stays ls.spare o s k p g known.guarded.timely is (λ same. not-same k p e (sym same))) stand lv in
             subst (λ (z : Position). Holds o trees k (event o s p).world mem'.words (on_table o.machine t') ((event o s p).lps k) z) (sym (at-other pos p k now e))
             (subst (λ (z : Lp). Holds o trees k (event o s p).world mem'.words (on_table o.machine t') z (pos k)) (sym (other k e)) there)
 

@@ -1,7 +1,10 @@
 -- One piece of a merge: what it makes of the state, the table, and where its processor is.
-use Rattle.std.proofs.Common.{◌≡◌, ℕ, ◌<◌, false, length, sym, ap, inl, inr, List, [], ◌∷◌, ◌++◌, Option, Some, None, refl, ◌∙◌, subst}
+use Rattle.std.proofs.Common.{◌≡◌, ℕ, ◌<◌, Bool, true, false, length, sym, ap, inl, inr, List, [], ◌∷◌, ◌++◌, Option, Some, None, refl, ◌∙◌, subst}
 use Rattle.td_words.specs.declared.calls.Call.{Call}
-use Rattle.flat_core.specs.World.{put}
+use Rattle.td_words.specs.declared.replies.Outcome.{Outcome}
+use Rattle.td_words.specs.Place.{WordPlace}
+use Rattle.flat_core.specs.World.{World, put}
+use Rattle.flat_core.specs.Processor.{Answered, Progress, nothing_yet}
 use Rattle.flat_core.specs.Opening.{Opening}
 use Rattle.flat_core.specs.Table.{row_of}
 use Rattle.flat_core.specs.Event.{State, lines_left, event}
@@ -16,13 +19,17 @@ use Rattle.leaf_engine.specs.declared.events.Stage.{Stage}
 use Rattle.leaf_engine.specs.Changes.{Hand, Memory}
 use Rattle.leaf_engine.specs.Decides.{IsHand}
 use Rattle.leaf_engine.specs.Turns.{Standing, has_ended}
-use Rattle.leaf_engine.specs.Guests.{WordGuest}
-use Rattle.leaf_engine.specs.OwnLists.{Piece, Unmarked, Marked, Wordless, behind, TurnIn, WordLp, running, LinesTurn, LpTurns}
+use Rattle.leaf_engine.specs.Guests.{WordGuest, gives_epoch_back}
+use Rattle.leaf_engine.specs.OwnLists.{Piece, Unmarked, Marked, Wordless, behind, TurnIn, WordLp, running, step_leaf, LineTurn, GuestTurn, EnteredTurn, LinesTurn, LpTurns}
 use Rattle.leaf_engine.specs.Merges.{Item, step_before}
+use Rattle.leaf_engine.specs.Means.{Task}
+use Rattle.leaf_engine.proofs.Showing.{current-end, granted-end, not-acted-end}
 use Rattle.leaf_engine.proofs.Beginning.{calls-begin}
 use Rattle.merge_laws.specs.Merge.{IsUnderWay, PieceFits, table_after}
-use Rattle.merge_laws.proofs.Standing.{Trees, leaf_for, table_for, AreTrees, Known, HandOf, Does, task_for, RunsAt, OnCall, RunAt, StandsAt, call_does, DoesHere, NoneOnWay, HandKnown, HasInHand, Leads, Fill, FillHolds, on_table, Position, RestOf, Stands}
-use Rattle.merge_laws.proofs.Lines.{none-in-guest, call-here, call-leads, does-here, does-leads}
+use Rattle.merge_laws.proofs.Standing.{Trees, leaf_for, table_for, AreTrees, Known, HandOf, Does, task_for, RunsAt, OnCall, StepFar, StepRun, InGuestAt, RunAt, StandsAt, line_does, call_does, step_does, IsInStep, guest_run, DoesHere, NoneOnWay, HandKnown, HasInHand, Leads, Fill, FillHolds, on_table, Position, RestOf, Stands}
+use Rattle.merge_laws.proofs.Lines.{call-here, call-leads, does-here, does-leads}
+use Rattle.merge_laws.proofs.InStep.{in-step-here, in-step-leads}
+use Rattle.merge_laws.proofs.GivingBack.{back-here, back-runs, back-leads}
 
 abbrev pub state_after : Opening → State → ℕ → Piece → State
 state_after o s p (Unmarked x) = s
@@ -108,6 +115,29 @@ known-hand : (r : Standing) (last : Option Measure) (hand : Hand) → HandKnown 
 known-hand r last hand (inl e) is none = record { hand = hand; is = subst (λ (z : Option Measure). IsHand z hand) (sym e) is; trying = none }
 known-hand r last hand (inr x) is none = record { hand = x.0; is = x.1; trying = none }
 
+line-hand : (r : Standing) (last : Option Measure) (hand : Hand) → HandKnown (Some r) last → IsHand last hand → (x : Hand) × IsHand r.hasher x
+line-hand r last hand (inl e) is = (hand, subst (λ (z : Option Measure). IsHand z hand) (sym e) is)
+line-hand r last hand (inr x) is = x
+
+-- a guest's step that hasn't begun begins now
+far-now : (task : Task) (w : World) (words : WordPlace → ℕ) (v n : ℕ) (run : Option Standing) (y : Progress (Option Outcome)) → StepRun task w words v n run y → StepFar task w words v n (running task run) y
+far-now task w words v n (Some r) y f = f
+far-now task w words v n None y f = record {
+  own = nothing_yet;
+  is = sym f.0;
+  single = inr refl;
+  fine = tt;
+  position = f.1;
+  runs = record {
+    at = record { stage = tt; held = refl; told = λ z. record { told = []; current = current-end words task.tree; waits = not-acted-end task.tree; rest = refl; locks = granted-end task.tree [] } };
+    trying = λ z. refl;
+  };
+}
+
+hand-now : (task : Task) (run : Option Standing) (last : Option Measure) (hand : Hand) → HandKnown run last → IsHand last hand → NoneOnWay (running task run) → HandOf (running task run)
+hand-now task None last hand h is none = record { hand = None; is = tt; trying = none }
+hand-now task (Some r) last hand h is none = known-hand r last hand h is none
+
 -- the turn that it makes next
 pub record NextTurn (o : Opening) (trees : Trees) (s : State) (mem : Memory) (t : Table) (pos : ℕ → Position) (p : ℕ) (e : RunEvent) (tp : List Piece) (after : WordLp) : Type 0 where
   pub does : Does
@@ -119,7 +149,7 @@ pub record NextTurn (o : Opening) (trees : Trees) (s : State) (mem : Memory) (t 
 
 pub next-turn : (o : Opening) (trees : Trees) (s : State) (mem : Memory) (t : Table) (pos : ℕ → Position) (p : ℕ) (last : Option Measure) (hand : Hand) (e : RunEvent) (tp : List Piece) (after : WordLp) → AreTrees o trees → Known o s → Stands o trees s mem t pos → p < length o.calls
     → (pos p).swaps ≡ [] → HasInHand (pos p).at last → IsHand last hand → LpTurns (table_for o trees p) o.machine (pos p).at e tp after → NextTurn o trees s mem t pos p e tp after
-next-turn o trees s mem t pos p last hand e tp after are known sd i no-swaps has in-hand turn = by (pos p).at.lines (pos p).at.run (pos p).at.guest (sd.holds p i).stands.lines (sd.holds p i).stands.run has.0 turn
+next-turn o trees s mem t pos p last hand e tp after are known sd i no-swaps has in-hand turn = by (pos p).at.lines (pos p).at.run (pos p).at.guest refl refl refl (sd.holds p i).stands.run has.0 has.1 turn
   where
     st : StandsAt o trees p s.world mem.words (s.lps p) (pos p).at
     st = (sd.holds p i).stands
@@ -142,27 +172,102 @@ next-turn o trees s mem t pos p last hand e tp after are known sd i no-swaps has
       going = going;
     }
 
-    no-guest : (c : Call) (cs : List Call) (r : Option Standing) (g : WordGuest) → lines_left o p (s.lps p) ≡ c ∷ cs → RunAt o trees p s.world mem.words (s.lps p) (c ∷ cs) r (Some g) (pos p).at.replies (pos p).at.beside → ⊥
-    no-guest c cs None g l a = a
-    no-guest c cs (Some r) g l a = none-in-guest o trees s p c cs a.guest are known l a.is_in
-
     begun : (c : Call) (cs : List Call) → lines_left o p (s.lps p) ≡ c ∷ cs → IsBetween (s.lps p) → OnCall o trees p c s.world mem.words (s.lps p) (running (leaf_for o trees p c) None)
     begun c cs l between =
         let ca = calls-begin o (leaf_for o trees p c) (row_of o p c) s.world mem.words (s.lps p) (record { call = c; further = cs; lines = l; row_is = refl }) between in
         record { guest = between.guest; runs = record { at = record { stage = ca.stage; held = ca.held; told = ca.told }; trying = λ z. refl } }
 
-    by : (cs : List Call) (r : Option Standing) (g : Option WordGuest) → lines_left o p (s.lps p) ≡ cs → RunAt o trees p s.world mem.words (s.lps p) cs r g (pos p).at.replies (pos p).at.beside → HandKnown r last
+    -- in a guest: VP.ENTER gives E back, or the guest's step is at its turn
+    back-turn : (c : Call) (cs : List Call) (line : Standing) (x : WordGuest) → lines_left o p (s.lps p) ≡ c ∷ cs → (a : InGuestAt o trees p s.world mem.words (s.lps p) line x (pos p).at.replies (pos p).at.beside) → HandKnown (Some line) last → gives_epoch_back line.held ≡ true
+        → LineTurn (leaf_for o trees p) o.machine c cs (Some line) (Some x) (pos p).at.replies (pos p).at.beside e tp after → NextTurn o trees s mem t pos p e tp after
+    back-turn c cs line x l a h gives lt =
+        let runs = back-runs o trees s p c cs line x (pos p).at.replies (pos p).at.beside are known i l st.replies st.beside mem.words a gives in
+        record {
+          does = line_does o trees p (record { phase = Answered a.reply; held = (s.lps p).call.held }) c cs (Some x) (pos p).at.replies (pos p).at.beside;
+          run = line;
+          stands = lt.stands;
+          at = record {
+            are = are;
+            known = known;
+            all = sd;
+            inside = i;
+            here = back-here o trees s p c cs line x (pos p).at.replies (pos p).at.beside are known i l st.replies st.beside mem.words a gives;
+            leads = back-leads o trees s p c cs line x (pos p).at.replies (pos p).at.beside are known i l st.replies st.beside mem.words a gives;
+            bundles = refl;
+            runs = runs;
+            hand = known-hand line last hand h in-hand runs.trying;
+            no_swaps = no-swaps;
+            going = lt.going;
+          };
+          turn = lt.turn;
+          after_is = lt.after_is;
+        }
+
+    step-turn : (c : Call) (cs : List Call) (line : Standing) (x : WordGuest) → (pos p).at.lines ≡ c ∷ cs → (pos p).at.run ≡ Some line → (pos p).at.guest ≡ Some x → (a : InGuestAt o trees p s.world mem.words (s.lps p) line x (pos p).at.replies (pos p).at.beside) → HandKnown (Some line) last → HandKnown x.run last
+        → gives_epoch_back line.held ≡ false → GuestTurn (table_for o trees p) o.machine c cs line x (pos p).at.replies (pos p).at.beside e tp after → NextTurn o trees s mem t pos p e tp after
+    step-turn c cs line x ls rn gs a h hg freed lt =
+        let task : Task = step_leaf (table_for o trees p) x (pos p).at.replies (pos p).at.beside in
+        let f : StepFar task s.world mem.words x.vp x.position (running task x.run) a.guest.operation = far-now task s.world mem.words x.vp x.position x.run a.guest.operation a.far in
+        let d : Does = step_does o trees p (s.lps p) f.own c cs line x (pos p).at.replies (pos p).at.beside in
+        let is : IsInStep o trees p (s.lps p) (pos p).at d = record {
+          call = c;
+          further = cs;
+          line = line;
+          base = x;
+          run = x.run;
+          guest = a.guest;
+          own = f.own;
+          lines_are = ls;
+          run_is = rn;
+          guest_is = gs;
+          freed = freed;
+          hand = line-hand line last hand h in-hand;
+          is_in = a.is_in;
+          far = f.is;
+          single = f.single;
+          fine = f.fine;
+          is = refl;
+        } in
+        record {
+          does = d;
+          run = running task x.run;
+          stands = lt.stands;
+          at = record {
+            are = are;
+            known = known;
+            all = sd;
+            inside = i;
+            here = in-step-here o trees s p d (pos p).at mem.words are are.codes known i st is;
+            leads = in-step-leads o trees s p d (pos p).at mem.words are are.codes known i st is;
+            bundles = refl;
+            runs = f.runs;
+            hand = hand-now task x.run last hand hg in-hand f.runs.trying;
+            no_swaps = no-swaps;
+            going = lt.going;
+          };
+          turn = lt.turn;
+          after_is = lt.after_is;
+        }
+
+    in-guest-turn : (c : Call) (cs : List Call) (line : Standing) (x : WordGuest) → (pos p).at.lines ≡ c ∷ cs → (pos p).at.run ≡ Some line → (pos p).at.guest ≡ Some x → InGuestAt o trees p s.world mem.words (s.lps p) line x (pos p).at.replies (pos p).at.beside → HandKnown (Some line) last → HandKnown x.run last
+        → (give : Bool) → gives_epoch_back line.held ≡ give → EnteredTurn (table_for o trees p) o.machine c cs line x (pos p).at.replies (pos p).at.beside e tp after give → NextTurn o trees s mem t pos p e tp after
+    in-guest-turn c cs line x ls rn gs a h hg true gives lt = back-turn c cs line x (st.lines ∙ ls) a h gives lt
+    in-guest-turn c cs line x ls rn gs a h hg false gives lt = step-turn c cs line x ls rn gs a h hg gives lt
+
+    by : (cs : List Call) (r : Option Standing) (g : Option WordGuest) → (pos p).at.lines ≡ cs → (pos p).at.run ≡ r → (pos p).at.guest ≡ g → RunAt o trees p s.world mem.words (s.lps p) cs r g (pos p).at.replies (pos p).at.beside → HandKnown r last → HandKnown (guest_run g) last
         → LinesTurn (table_for o trees p) o.machine cs r g (pos p).at.replies (pos p).at.beside e tp after → NextTurn o trees s mem t pos p e tp after
-    by [] r g l a h lt = absurd lt
-    by (c ∷ cs) r (Some g) l a h lt = absurd (no-guest c cs r g l a)
-    by (c ∷ cs) None None l a h lt =
+    by [] r g ls rn gs a h hg lt = absurd lt
+    by (c ∷ cs) None (Some x) ls rn gs a h hg lt = absurd a
+    by (c ∷ cs) (Some line) (Some x) ls rn gs a h hg lt = in-guest-turn c cs line x ls rn gs a h hg (gives_epoch_back line.held) refl lt
+    by (c ∷ cs) None None ls rn gs a h hg lt =
+        let l = st.lines ∙ ls in
         let run : Standing = running (leaf_for o trees p c) None in
         record { does = its c cs; run = run; stands = lt.stands; at = at-turn c cs run l (begun c cs l a) (record { hand = None; is = tt; trying = λ z. refl }) lt.going; turn = lt.turn; after_is = lt.after_is }
-    by (c ∷ cs) (Some r) None l a h lt = record {
+    by (c ∷ cs) (Some r) None ls rn gs a h hg lt = record {
       does = its c cs;
       run = r;
       stands = lt.stands;
-      at = at-turn c cs r l a (known-hand r last hand h in-hand a.runs.trying) lt.going;
+      at = at-turn c cs r (st.lines ∙ ls) a (known-hand r last hand h in-hand a.runs.trying) lt.going;
       turn = lt.turn;
       after_is = lt.after_is;
     }

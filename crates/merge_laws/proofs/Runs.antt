@@ -19,10 +19,10 @@ use Rattle.leaf_engine.specs.Decides.{IsHand}
 use Rattle.leaf_engine.specs.Turns.{Standing}
 use Rattle.leaf_engine.specs.Calls.{no_memory}
 use Rattle.leaf_engine.specs.OwnLists.{Piece, Unmarked, joined, marked_behind, running, LeafTable, WordLp, first_lp, step_leaf, EnteredTurn, LineTurn, LinesTurn, OwnTurns}
-use Rattle.leaf_engine.specs.Merges.{Item, part, steps_taken, order, no_table, AreLeaves}
+use Rattle.leaf_engine.specs.Merges.{Item, part, steps_taken, order, no_table, AreLeaves, AreCodes}
 use Rattle.leaf_engine.specs.Guests.{WordGuest, gives_epoch_back}
 use Rattle.merge_laws.specs.Merge.{Merge}
-use Rattle.merge_laws.specs.Laws.{LinesEnterNone, nothing_made, IsShownBy, IsWhere, MergesAreRuns}
+use Rattle.merge_laws.specs.Laws.{nothing_made, IsShownBy, IsWhere, MergesAreRuns}
 use Rattle.merge_laws.proofs.Stores.{Due, over-none, laid-none}
 use Rattle.merge_laws.proofs.Swaps.{SwapDue, last_put}
 use Rattle.merge_laws.proofs.Owing.{Owed, Stores, Swaps, stores_in, swaps_in, FirstSwaps, FirstMisses, AreOwed}
@@ -49,12 +49,12 @@ table-is o leaf are p = λ i. record {
   codes = λ t x. are.codes p t x i;
 }
 
-trees-are : (o : Opening) (leaf : ℕ → LeafTable) → AreLeaves o leaf → LinesEnterNone o → AreTrees o (trees_of leaf)
-trees-are o leaf are none = record {
+trees-are : (o : Opening) (leaf : ℕ → LeafTable) → AreLeaves o leaf → AreCodes o → AreTrees o (trees_of leaf)
+trees-are o leaf are codes = record {
   means = λ p c. subst (λ (t : LeafTable). MeansRow (t.call c)) (table-is o leaf are p) (are.means p c);
   steps = are.step_row;
   steps_mean = λ p t v line step in_range. subst (λ (x : LeafTable). MeansRow (x.step t v line step)) (table-is o leaf are p) (are.step_means p t v line step in_range);
-  enters_none = none;
+  codes = codes;
 }
 
 -- the start
@@ -155,16 +155,16 @@ ends-so ls o trees s u ends th =
       },
     )
 
-merges : (ls : Laws) (o : Opening) (leaf : ℕ → LeafTable) (is : List Item) (now : ℕ → WordLp) (u : Table) → length o.calls ≤ 8 → AreLeaves o leaf → LinesEnterNone o → Merge o leaf is now u
+merges : (ls : Laws) (o : Opening) (leaf : ℕ → LeafTable) (is : List Item) (now : ℕ → WordLp) (u : Table) → length o.calls ≤ 8 → AreLeaves o leaf → AreCodes o → Merge o leaf is now u
     → let s = play o (order is) (start o None) in PlaysTo no_table (steps_taken is) u × (IsShownBy o.machine u s × IsWhere o now s)
 unfolding first_position
-merges ls o leaf is now u most are none merge =
+merges ls o leaf is now u most are codes merge =
     let trees = trees_of leaf in
     let known : Known o (start o None) = known-of ls o [] (start o None) most refl refl refl in
     let own : (p : ℕ) → p < length o.calls → OwnTurns (table_for o trees p) o.machine (first_lp (calls_of o.calls p)) (merge.own p) (now p) =
     λ p i. subst (λ (t : LeafTable). OwnTurns t o.machine (first_lp (calls_of o.calls p)) (merge.own p) (now p)) (table-is o leaf are p) (merge.turns p i) in
     let went =
-    through ls o trees is (start o None) no_memory no_table u (first_position o) now most (trees-are o leaf are none) known (starts ls o trees)
+    through ls o trees is (start o None) no_memory no_table u (first_position o) now most (trees-are o leaf are codes) known (starts ls o trees)
     (λ p i. rest-first p (part p is) (merge.own p) (merge.merge.each p i) (own p i)) merge.merge.nothing_else merge.plays in
     (went.0, ends-so ls o trees (play o (order is) (start o None)) u now went.1)
   where
@@ -207,10 +207,10 @@ no-event o s p e = ap (λ (cs : List Call). event_for o s.world p (s.lps p) cs) 
 
 pub merges-are-runs : Laws → MergesAreRuns
 merges-are-runs ls = record {
-  none_misses = λ o leaf is now u most are enter merge. (merges ls o leaf is now u most are enter merge).0;
-  turns = λ o leaf is now u most are enter merge. (merges ls o leaf is now u most are enter merge).1;
-  ended = λ o leaf is now u most are enter merge over.
-      let got = (merges ls o leaf is now u most are enter merge).1 in
+  none_misses = λ o leaf is now u most are codes merge. (merges ls o leaf is now u most are codes merge).0;
+  turns = λ o leaf is now u most are codes merge. (merges ls o leaf is now u most are codes merge).1;
+  ended = λ o leaf is now u most are codes merge over.
+      let got = (merges ls o leaf is now u most are codes merge).1 in
       let s : State = play o (order is) (start o None) in
       let none : (p : ℕ) → next_event o s p ≡ None = λ p. by o now s got.1 over p (cases_lt p (length o.calls)) in
       let same : run o (order is) ≡ s = play_append o (order is) (to_the_end 0 o.calls) (start o None) ∙ stays o (to_the_end 0 o.calls) s none in

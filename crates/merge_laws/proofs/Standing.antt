@@ -16,6 +16,7 @@ use Rattle.flat_core.specs.Lawful.{Lawful}
 use Rattle.flat_core.specs.Event.{Event, next_event, State, start, lines_left, event}
 use Rattle.flat_core.specs.Run.{play, bundles_in}
 use Rattle.flat_core.specs.Laws.{EveryWorldIsLawful, LocksExclude, OthersStay, NoWordsToTell, IsBetween}
+use Rattle.flat_core.specs.Entered.{EventsSpare}
 use Rattle.word_rules.specs.Guards.{Grip}
 use Rattle.word_rules.specs.Permissions.{WordsNeverConflict, ActsNeverConflict, RespectsCompose}
 use Rattle.word_rules.specs.Views.{ViewsAreKept}
@@ -40,7 +41,7 @@ use Rattle.leaf_engine.specs.Items.{AreChanged}
 use Rattle.leaf_engine.specs.Turns.{Standing, standing, has_ended, last_reply}
 use Rattle.leaf_engine.specs.Doing.{event_of, IsDoing, LeafAt, LeafAfter}
 use Rattle.leaf_engine.specs.OwnLists.{Piece, Unmarked, joined, marked_behind, TurnIn, TurnsInPieces, LeafTable, WordLp, after_turn, after_step, step_leaf, LpTurns, OwnTurns}
-use Rattle.leaf_engine.specs.Merges.{ByItsRow, IsStepOf}
+use Rattle.leaf_engine.specs.Merges.{ByItsRow, IsStepOf, AreCodes}
 use Rattle.std.specs.Prelude.{slice_index}
 use Rattle.td_words.specs.declared.replies.Outcome.{Outcome}
 use Rattle.flat_core.specs.AccessLaw.{IsGuarded}
@@ -51,7 +52,7 @@ use Rattle.merge_laws.proofs.Steps.{SameGuest}
 use Rattle.merge_laws.proofs.Stepped.{IsFinePhase, position_by}
 use Rattle.leaf_engine.specs.Guests.{WordGuest, guest_after, Step, step_of, gives_epoch_back}
 use Rattle.leaf_engine.specs.Trees.{added}
-use Rattle.merge_laws.specs.Laws.{AreBundlesOf, LinesEnterNone}
+use Rattle.merge_laws.specs.Laws.{AreBundlesOf}
 use Rattle.merge_laws.proofs.Stores.{Due, due, last_at, or_else, laid}
 use Rattle.merge_laws.proofs.Swaps.{SwapDue, slots_laid, SwapsMay}
 use Rattle.merge_laws.proofs.Owing.{Owed, stores_in, swaps_in, AreOwed}
@@ -80,6 +81,7 @@ pub record Laws : Type 0 where
   pub views : ViewsAreKept
   pub start : StartIsShown
   pub one : TurnsInPieces
+  pub spare : EventsSpare
 
 -- leaves by their trees: of each call, and of each step of a guest, with what it means
 pub record Trees : Type 0 where
@@ -100,7 +102,7 @@ pub record AreTrees (o : Opening) (trees : Trees) : Type 0 where
   pub means : (p : ℕ) (c : Call) → MeansRow (leaf_for o trees p c)
   pub steps : (p t v line : ℕ) (step : Step) → ByItsRow o t v line step (trees.means p t v line step)
   pub steps_mean : (p t v line : ℕ) (step : Step) → IsStepOf step → MeansRow (step_for o trees p t v line step)
-  pub enters_none : LinesEnterNone o
+  pub codes : AreCodes o
 
 -- its own list, turn by turn
 abbrev pub TurnsTo : Opening → Trees → ℕ → WordLp → List (List Piece) → WordLp → Type 0

@@ -1,11 +1,9 @@
 -- The law of merges.
-use Rattle.std.specs.Prelude.{◌≡◌, ℕ, ◌<◌, ◌≤◌, None, List, [], ◌∷◌, ◌++◌, length, drop}
+use Rattle.std.specs.Prelude.{◌≡◌, ℕ, ◌<◌, ◌≤◌, None, List, [], ◌++◌, length}
 use Rattle.td_words.specs.declared.machines.Machine.{Machine}
-use Rattle.td_words.specs.declared.calls.Call.{Call}
 use Rattle.flat_core.specs.World.{Made, put}
 use Rattle.flat_core.specs.Opening.{Opening}
-use Rattle.flat_core.specs.Table.{row_of}
-use Rattle.flat_core.specs.Event.{State, start, lines_left, calls_of}
+use Rattle.flat_core.specs.Event.{State, start, lines_left}
 use Rattle.flat_core.specs.Run.{play, run, bundles_in}
 use Rattle.word_rules.specs.Cells.{Shows}
 use Rattle.step_core.specs.Items.{Table, PlaysTo}
@@ -13,7 +11,7 @@ use Rattle.leaf_engine.specs.Changes.{Memory}
 use Rattle.leaf_engine.specs.Besides.{beside_of}
 use Rattle.leaf_engine.specs.Tables.{IsMemory}
 use Rattle.leaf_engine.specs.OwnLists.{LeafTable, WordLp}
-use Rattle.leaf_engine.specs.Merges.{Item, steps_taken, order, no_table, AreLeaves}
+use Rattle.leaf_engine.specs.Merges.{Item, steps_taken, order, no_table, AreLeaves, AreCodes}
 use Rattle.merge_laws.specs.Merge.{Merge}
 
 -- the words and slots of a table show a state
@@ -41,17 +39,13 @@ pub record IsWhere (o : Opening) (now : ℕ → WordLp) (s : State) : Type 0 whe
   pub beside : (p : ℕ) → p < length o.calls → beside_of (s.lps p) (now p).beside.bundles ≡ (now p).beside
   pub bundles : AreBundlesOf (length o.calls) now (bundles_in s)
 
--- no line of a script enters a guest
-abbrev pub LinesEnterNone : Opening → Type 0
-LinesEnterNone o = (p n : ℕ) (c : Call) (further : List Call) → drop n (calls_of o.calls p) ≡ c ∷ further → (row_of o p c).enters ≡ None
-
 -- A merge is a run of the flat machine: its events, in the order in which they stand in the merge, lead to a state that
 -- its words show, and to where its processors are. Where each has come to its last line's end, that is where the whole run
 -- ends. No swap misses: the items play as on a table that nobody else uses.
 pub record MergesAreRuns : Type 0 where
-  pub none_misses : (o : Opening) (leaf : ℕ → LeafTable) (is : List Item) (now : ℕ → WordLp) (u : Table) → length o.calls ≤ 8 → AreLeaves o leaf → LinesEnterNone o → Merge o leaf is now u
+  pub none_misses : (o : Opening) (leaf : ℕ → LeafTable) (is : List Item) (now : ℕ → WordLp) (u : Table) → length o.calls ≤ 8 → AreLeaves o leaf → AreCodes o → Merge o leaf is now u
       → PlaysTo no_table (steps_taken is) u
-  pub turns : (o : Opening) (leaf : ℕ → LeafTable) (is : List Item) (now : ℕ → WordLp) (u : Table) → length o.calls ≤ 8 → AreLeaves o leaf → LinesEnterNone o → Merge o leaf is now u
+  pub turns : (o : Opening) (leaf : ℕ → LeafTable) (is : List Item) (now : ℕ → WordLp) (u : Table) → length o.calls ≤ 8 → AreLeaves o leaf → AreCodes o → Merge o leaf is now u
       → let s = play o (order is) (start o None) in IsShownBy o.machine u s × IsWhere o now s
-  pub ended : (o : Opening) (leaf : ℕ → LeafTable) (is : List Item) (now : ℕ → WordLp) (u : Table) → length o.calls ≤ 8 → AreLeaves o leaf → LinesEnterNone o → Merge o leaf is now u
+  pub ended : (o : Opening) (leaf : ℕ → LeafTable) (is : List Item) (now : ℕ → WordLp) (u : Table) → length o.calls ≤ 8 → AreLeaves o leaf → AreCodes o → Merge o leaf is now u
       → ((p : ℕ) → p < length o.calls → (now p).lines ≡ []) → let s = run o (order is) in IsShownBy o.machine u s × IsWhere o now s

@@ -19,6 +19,7 @@ pub fn merge_law()
     flat_core::lawful_law();
     flat_core::lock_law();
     flat_core::event_laws();
+    flat_core::guest_law();
     start_is_shown();
     views_are_kept();
     words_never_conflict();

@@ -1,4 +1,5 @@
-pub mod Built
+pub mod Accesses
+pub mod Codes
 pub mod Counts
 pub mod Part
 pub mod Due

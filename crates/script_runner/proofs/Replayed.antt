@@ -7,8 +7,10 @@ use Rattle.std.proofs.lemmas.List.Folds.{concat-append}
 use Rattle.std.specs.Global.{Vec}
 use Rattle.std.proofs.Math.ListN.{length-set}
 use Rattle.std.specs.List.{concat}
+use Rattle.td_words.specs.Seen.{CodeSeen}
 use Rattle.td_words.specs.declared.machines.Machine.{Machine}
 use Rattle.td_words.specs.declared.calls.Call.{Call}
+use Rattle.td_words.specs.declared.calls.GuestOp.{GuestOp}
 use Rattle.td_words.specs.declared.replies.Reply.{Reply}
 use Rattle.flat_core.specs.Processor.{Lp, Note}
 use Rattle.td_words.specs.Limits.{IsMachine}
@@ -36,12 +38,10 @@ use Rattle.leaf_engine.specs.declared.processors.Turn.TheVariants as turn
 use Rattle.leaf_engine.specs.Processors.{Turned, has_moved}
 use Rattle.leaf_engine.specs.Besides.{Beside}
 use Rattle.leaf_engine.specs.OwnLists.{Piece, taken_in, WordLp, first_lp, LpTurns}
-use Rattle.leaf_engine.specs.Merges.{Item, order, no_table}
+use Rattle.leaf_engine.specs.Merges.{Item, order, no_table, AreLeaves, AreCodes}
 use Rattle.merge_laws.specs.Merge.{Merge}
 use Rattle.merge_laws.specs.Laws.{IsWhere}
-use Rattle.leaf_dispatch.specs.Table.{task_of, leaf_table}
-use Rattle.leaf_dispatch.specs.Laws.{LinesHaveLeaves}
-use Rattle.script_runner.proofs.Built.{lists-have}
+use Rattle.leaf_dispatch.specs.Table.{code_in, place_table, leaf_table}
 use Rattle.leaf_dispatch.specs.States.{seen_of, Moves}
 use Rattle.leaf_dispatch.specs.Bounds.{events_left}
 use Rattle.leaf_dispatch.specs.declared.states.LpState.{LpState}
@@ -50,23 +50,24 @@ use Rattle.script_text.specs.Laws.{IsInForm}
 use Rattle.script_runner.specs.Ending.{opening_of, file_named}
 use Rattle.script_runner.specs.Replaying.{AreNumbered, AreFirst, IsMidway, only_bench, IsAtBench, HaveEnded, TurnsAreEvents, seen_at, lines_seen, notes_seen, TellAll}
 use Rattle.script_runner.specs.declared.replay.Texts.{Texts}
+use Rattle.script_runner.proofs.Codes.{codes-of}
 use Rattle.script_runner.proofs.RunningOut.{one-more-item, idle-item}
 use Rattle.script_runner.proofs.Turning.{made_by, one-event, merge-more, order-more}
-use Rattle.script_runner.proofs.Places.{seen-at, seen-own, seen-other, place-at, numbered-set, first-count, first-numbered, first-seen, first-more}
+use Rattle.script_runner.proofs.Places.{seen-at, seen-own, seen-other, place-at, codes-at, numbered-set, first-count, first-numbered, first-seen, first-more}
 
--- of a machine that a script may have
+-- of a machine that a script may have, with lists of operations within the limits
 pub record IsOpen (o : Opening) : Type 0 where
   pub machine : IsMachine o.machine
   pub few : length o.calls ≤ 8
-  pub leaves : LinesHaveLeaves o
+  pub codes : AreCodes o
 
 -- at the start the whole schedule is left
-at-start : (o : Opening) (schedule : List ℕ) (lps : List LpState) (t : Table) → AreFirst o.machine 0 lps o.calls → PlaysTo no_table [] t → IsMidway o schedule schedule lps t
-at-start o schedule lps t h play = record {
+at-start : (o : Opening) (codes : List CodeSeen) (schedule : List ℕ) (lps : List LpState) (t : Table) → AreFirst o.machine codes 0 lps o.calls → PlaysTo no_table [] t → IsMidway o schedule schedule lps t
+at-start o codes schedule lps t h play = record {
   made = [];
   merge = record {
     own = λ p. [];
-    turns = λ p inside. first-seen o.machine 0 lps o.calls p h;
+    turns = λ p inside. first-seen o.machine codes 0 lps o.calls p h;
     merge = record { each = λ p inside. refl; nothing_else = λ p out. refl };
     plays = play;
   };
@@ -80,9 +81,13 @@ between t v (Stepped s a ∷ xs) ys h = let r = between (record t { words = afte
 between t v (Swapped k put taken ∷ xs) ys h = let r = between (record t { slots = with_slot t.slots k put }) v xs ys h.1 in (r.0, (h.0, r.1), r.2)
 between t v (Missed k ∷ xs) ys h = absurd h
 
+-- each call and each step of a guest has its leaf
+are-leaves : TurnsAreEvents → (o : Opening) → IsOpen o → AreLeaves o (leaf_table o.machine o.codes)
+are-leaves ls o op = ls.leaves o o.codes op.machine (λ t i. refl)
+
 -- where the flat machine is after the events of a merge
-where-now : TurnsAreEvents → (o : Opening) (made : List Item) (now : ℕ → WordLp) (u : Table) → IsOpen o → Merge o (leaf_table o.machine) made now u → IsWhere o now (play o (order made) (start o None))
-where-now ls o made now u op m = (ls.merges.turns o (leaf_table o.machine) made now u op.few (ls.leaves o op.machine) (ls.enters o op.leaves) m).1
+where-now : TurnsAreEvents → (o : Opening) (made : List Item) (now : ℕ → WordLp) (u : Table) → IsOpen o → Merge o (leaf_table o.machine o.codes) made now u → IsWhere o now (play o (order made) (start o None))
+where-now ls o made now u op m = (ls.merges.turns o (leaf_table o.machine o.codes) made now u op.few (are-leaves ls o op) op.codes m).1
 
 -- a processor without lines has none in the flat machine
 ended-flat : TurnsAreEvents → (o : Opening) (schedule left : List ℕ) (lps : List LpState) (t : Table) (p : ℕ) → IsOpen o → (l : IsMidway o schedule left lps t) → p < length o.calls → (seen_at lps p).lines ≡ []
@@ -116,28 +121,29 @@ no-lines cs e = by (eqb_tells (length cs) 0)
     by (inl t) = empty cs t.1
     by (inr f) = (let apart : false ≡ true = e ∙ ap not f.0 in cc)
 
-module _ (ls : TurnsAreEvents) (o : Opening) (schedule rest : List ℕ) (lps : List LpState) (p : ℕ) (d s' : LpState) (op : IsOpen o) (inside : p < length lps) (count : length lps ≡ length o.calls) (numbered : AreNumbered o.machine 0 lps) where
+module _ (ls : TurnsAreEvents) (o : Opening) (schedule rest : List ℕ) (lps : List LpState) (p : ℕ) (d s' : LpState) (op : IsOpen o) (inside : p < length lps) (count : length lps ≡ length o.calls) (numbered : AreNumbered o 0 lps) where
   abbrev s : LpState
   s = get_or lps p d
 
   place : s.place ≡ record { machine = o.machine; lp = p }
-  place = place-at o.machine 0 lps p d numbered inside ∙ ap (λ (k : ℕ). record { machine = o.machine; lp = k }) (omega arith)
+  place = place-at o 0 lps p d numbered inside ∙ ap (λ (k : ℕ). record { machine = o.machine; lp = k }) (omega arith)
 
   -- its event, in these pieces
   moved : (t t' : Table) → IsMidway o schedule (p ∷ rest) lps t → (e : Event) (ps : List Piece) → PlaysTo t (taken_in ps) t' → Moves s e ps s' → IsMidway o schedule rest (set lps p s') t'
   moved t t' l e ps did moves = record {
     made = l.made ++ made_by p ps;
     merge =
-        merge-more o (leaf_table o.machine) l.made (seen_at lps) (seen_at (set lps p s')) t t' p e ps l.merge (omega (arith, count)) turns
+        merge-more o (leaf_table o.machine o.codes) l.made (seen_at lps) (seen_at (set lps p s')) t t' p e ps l.merge (omega (arith, count)) turns
         (λ q ne. seen-other lps p s' q ne) did;
-    same = ap (run o) (order-more l.made p ps rest (one-event ls.pieces (task_of s.place) s.place.machine s.lines.now _ _ _ e ps (seen_of s') moves.1)) ∙ l.same;
+    same = ap (run o) (order-more l.made p ps rest (one-event ls.pieces (place_table s.place (code_in s.codes.now)) s.place.machine (seen_of s) (seen_of s') e ps moves.2)) ∙ l.same;
   }
     where
-      turns : LpTurns (leaf_table o.machine p) o.machine (seen_at lps p) e ps (seen_at (set lps p s') p)
+      turns : LpTurns (leaf_table o.machine o.codes p) o.machine (seen_at lps p) e ps (seen_at (set lps p s') p)
       turns =
-          subst (λ (x : WordLp). LpTurns (leaf_table o.machine p) o.machine x e ps (seen_at (set lps p s') p)) (sym (seen-at lps p d inside))
-          (subst (λ (x : WordLp). LpTurns (leaf_table o.machine p) o.machine (seen_of s) e ps x) (sym (seen-own lps p s' inside))
-          (subst (λ (z : Place). LpTurns (task_of z) z.machine (seen_of s) e ps (seen_of s')) place moves.1))
+          subst (λ (x : WordLp). LpTurns (leaf_table o.machine o.codes p) o.machine x e ps (seen_at (set lps p s') p)) (sym (seen-at lps p d inside))
+          (subst (λ (x : WordLp). LpTurns (leaf_table o.machine o.codes p) o.machine (seen_of s) e ps x) (sym (seen-own lps p s' inside))
+          (subst (λ (x : ℕ → ℕ → List GuestOp). LpTurns (leaf_table o.machine x p) o.machine (seen_of s) e ps (seen_of s')) (codes-at o 0 lps p d numbered inside)
+          (subst (λ (z : Place). LpTurns (place_table z (code_in s.codes.now)) z.machine (seen_of s) e ps (seen_of s')) place moves.2)))
 
   -- or nothing, where it has ended
   ended : (t : Table) → IsMidway o schedule (p ∷ rest) lps t → s' ≡ s → (seen_at lps p).lines ≡ [] → IsMidway o schedule rest (set lps p s') t
@@ -146,17 +152,17 @@ module _ (ls : TurnsAreEvents) (o : Opening) (schedule rest : List ℕ) (lps : L
       subst (λ (z : List LpState). IsMidway o schedule rest z t) (sym stay)
       (record { made = l.made; merge = l.merge; same = sym (idle-item o (order l.made) rest p (ended-flat ls o schedule (p ∷ rest) lps t p op l (omega (arith, count)) none)) ∙ l.same })
 
-  numbered-now : s'.place ≡ s.place → AreNumbered o.machine 0 (set lps p s')
-  numbered-now same = numbered-set o.machine 0 lps p s' numbered (same ∙ place-at o.machine 0 lps p d numbered inside)
+  numbered-now : s'.place ≡ s.place → s'.codes.now ≡ s.codes.now → AreNumbered o 0 (set lps p s')
+  numbered-now same has = numbered-set o 0 lps p s' numbered (same ∙ place-at o 0 lps p d numbered inside) (ap code_in has ∙ codes-at o 0 lps p d numbered inside)
 
 -- after a turn its items are the bench's
 pub after-turn : TurnsAreEvents → (o : Opening) (schedule rest : List ℕ) (lps : List LpState) (p : ℕ) (d s' : LpState) (id : TableId) (b b' : SharedBench) → IsOpen o → p < length lps → IsAtBench o schedule (p ∷ rest) lps id (bench_of b)
-    → (r : Turn) → Turned Moves (λ z. events_left (seen_of z)) (λ xs c. BenchDid b xs c) (get_or lps p d) b' s' r → has_moved r ≡ not (length (get_or lps p d).lines.now == 0) → IsAtBench o schedule rest (set lps p s') id (bench_of b')
+    → (r : Turn) → Turned Moves (λ z. events_left (code_in z.codes.now) (seen_of z)) (λ xs c. BenchDid b xs c) (get_or lps p d) b' s' r → has_moved r ≡ not (length (get_or lps p d).lines.now == 0) → IsAtBench o schedule rest (set lps p s') id (bench_of b')
 after-turn ls o schedule rest lps p d s' id b b' op inside l (turn.Moved e) t h = record {
   own = l.own ++ taken_in t.0.0;
   is = t.0.1 ∙ ap (λ (z : BenchSeen). with_items z (taken_in t.0.0)) l.is;
   count = length-set lps p s' ∙ l.count;
-  numbered = numbered-now ls o schedule rest lps p d s' op inside l.count l.numbered t.0.2.0;
+  numbered = numbered-now ls o schedule rest lps p d s' op inside l.count l.numbered t.0.2.0 t.0.2.1;
   midway = λ u play.
       let m = between no_table u l.own (taken_in t.0.0) play in
       moved ls o schedule rest lps p d s' op inside l.count l.numbered m.0 u (l.midway m.0 m.1) e t.0.0 m.2 t.0.2;
@@ -165,12 +171,12 @@ after-turn ls o schedule rest lps p d s' id b b' op inside l turn.Ended t h = re
   own = l.own;
   is = t.0 ∙ (ap (λ (z : BenchSeen). with_items z []) l.is ∙ ap (only_bench o.machine id) (append-nil l.own));
   count = length-set lps p s' ∙ l.count;
-  numbered = numbered-now ls o schedule rest lps p d s' op inside l.count l.numbered (ap (λ (z : LpState). z.place) t.1);
+  numbered = numbered-now ls o schedule rest lps p d s' op inside l.count l.numbered (ap (λ (z : LpState). z.place) t.1) (ap (λ (z : LpState). z.codes.now) t.1);
   midway = λ u play. ended ls o schedule rest lps p d s' op inside l.count l.numbered u (l.midway u play) t.1 (ap (λ (z : WordLp). z.lines) (seen-at lps p d inside) ∙ no-lines (get_or lps p d).lines.now h);
 }
 
 pub machine-at : (o : Opening) (schedule left : List ℕ) (lps : List LpState) (id : TableId) (b : BenchSeen) (p : ℕ) (d : LpState) → IsAtBench o schedule left lps id b → p < length lps → (get_or lps p d).place.machine ≡ b.machine
-machine-at o schedule left lps id b p d l inside = ap (λ (z : Place). z.machine) (place-at o.machine 0 lps p d l.numbered inside) ∙ sym (ap (λ (z : BenchSeen). z.machine) l.is)
+machine-at o schedule left lps id b p d l inside = ap (λ (z : Place). z.machine) (place-at o 0 lps p d l.numbered inside) ∙ sym (ap (λ (z : BenchSeen). z.machine) l.is)
 
 -- the bench is of the table that it was of
 pub table-stays : (o : Opening) (schedule left : List ℕ) (lps : List LpState) (id : TableId) (b : BenchSeen) → IsAtBench o schedule left lps id b → b.pass.table ≡ id
@@ -190,7 +196,7 @@ item-next o schedule lps id b i d p l inside is =
     subst (λ (z : List ℕ). IsAtBench o schedule z lps id b) next l
 
 pub open-of : (script : ScriptSeen) → IsInForm script → IsOpen (opening_of script)
-open-of script form = record { machine = form.machine; few = omega (arith, form.machine.lps.1, form.lists); leaves = lists-have script.calls form.arguments }
+open-of script form = record { machine = form.machine; few = omega (arith, form.machine.lps.1, form.lists); codes = codes-of script form }
 
 -- those before a processor stay at their ends
 pub still-ended : (lps : List LpState) (p : ℕ) (s' : LpState) → HaveEnded p lps → HaveEnded p (set lps p s')
@@ -206,10 +212,16 @@ ended-more lps p d s' inside h same none q less = by (eqb_tells q p)
         (ap (λ (x : WordLp). x.lines) (seen-own lps p s' inside) ∙ (ap (λ (z : LpState). z.lines.now) same ∙ no-lines (get_or lps p d).lines.now none))
     by (inr f) = ap (λ (x : WordLp). x.lines) (seen-other lps p s' q f.1) ∙ h q (omega (arith, f.1))
 
-pub fewer-left : (lps : List LpState) (p : ℕ) (d s' : LpState) → p < length lps → events_left (seen_of s') < events_left (seen_of (get_or lps p d)) → events_left (seen_at (set lps p s') p) < events_left (seen_at lps p)
-fewer-left lps p d s' inside h =
-    subst (λ (x : WordLp). events_left x < events_left (seen_at lps p)) (sym (seen-own lps p s' inside))
-    (subst (λ (x : WordLp). events_left (seen_of s') < events_left x) (sym (seen-at lps p d inside)) h)
+pub fewer-left : (o : Opening) (schedule left : List ℕ) (lps : List LpState) (id : TableId) (b : BenchSeen) (p : ℕ) (d s' : LpState) → p < length lps → IsAtBench o schedule left lps id b
+    → s'.codes.now ≡ (get_or lps p d).codes.now → events_left (code_in s'.codes.now) (seen_of s') < events_left (code_in (get_or lps p d).codes.now) (seen_of (get_or lps p d))
+    → events_left o.codes (seen_at (set lps p s') p) < events_left o.codes (seen_at lps p)
+fewer-left o schedule left lps id b p d s' inside l has h =
+    let old : code_in (get_or lps p d).codes.now ≡ o.codes = codes-at o 0 lps p d l.numbered inside in
+    let less : events_left o.codes (seen_of s') < events_left o.codes (seen_of (get_or lps p d)) =
+    subst (λ (x : ℕ → ℕ → List GuestOp). events_left x (seen_of s') < events_left o.codes (seen_of (get_or lps p d))) (ap code_in has ∙ old)
+    (subst (λ (x : ℕ → ℕ → List GuestOp). events_left (code_in s'.codes.now) (seen_of s') < events_left x (seen_of (get_or lps p d))) old h) in
+    subst (λ (x : WordLp). events_left o.codes x < events_left o.codes (seen_at lps p)) (sym (seen-own lps p s' inside))
+    (subst (λ (x : WordLp). events_left o.codes (seen_of s') < events_left o.codes x) (sym (seen-at lps p d inside)) less)
 
 -- at the end
 
@@ -237,15 +249,16 @@ same-notes (suc n) p f (s ∷ ss) e h =
     ∙ ap (λ zs. map (note_line p) (map note_told (seen_of s).beside.notes) ++ zs) (same-notes n (p + 1) f ss (omega (arith, e)) (λ q i. ap (λ (k : ℕ). (f k).notes) (omega arith) ∙ h (suc q) (omega arith)))
 
 -- one processor more
-pub first-next : (m : Machine) (lps : List LpState) (lists : List (Vec Call)) (i : ℕ) (v : Vec Call) (s : LpState) (cs : List Call) → i < length lists → v ≡ get_or lists i v → cs ≡ v.items
-    → AreFirst m 0 lps (map (λ list. list.items) (take i lists)) → s.place ≡ record { machine = m; lp = i } → seen_of s ≡ first_lp cs → AreFirst m 0 (lps ++ s ∷ []) (map (λ list. list.items) (take (i + 1) lists))
-first-next m lps lists i v s cs inside is calls h place seen =
+pub first-next : (m : Machine) (codes : List CodeSeen) (lps : List LpState) (lists : List (Vec Call)) (i : ℕ) (v : Vec Call) (s : LpState) (cs : List Call) → i < length lists → v ≡ get_or lists i v → cs ≡ v.items
+    → AreFirst m codes 0 lps (map (λ list. list.items) (take i lists)) → s.place ≡ record { machine = m; lp = i } → s.codes.now ≡ codes → seen_of s ≡ first_lp cs
+    → AreFirst m codes 0 (lps ++ s ∷ []) (map (λ list. list.items) (take (i + 1) lists))
+first-next m codes lps lists i v s cs inside is calls h place has seen =
     let items : Vec Call → List Call = λ list. list.items in
-    let count : length lps ≡ i = first-count m 0 lps (map items (take i lists)) h ∙ (length-map (take i lists) items ∙ length-take-le i lists (omega arith)) in
+    let count : length lps ≡ i = first-count m codes 0 lps (map items (take i lists)) h ∙ (length-map (take i lists) items ∙ length-take-le i lists (omega arith)) in
     let all : map items (take (i + 1) lists) ≡ map items (take i lists) ++ cs ∷ [] =
     ap (map items) (take_more lists i v inside) ∙ (map_push items (take i lists) (get_or lists i v) ∙ ap (λ (x : List Call). map items (take i lists) ++ x ∷ []) (ap items (sym is) ∙ sym calls)) in
-    subst (AreFirst m 0 (lps ++ s ∷ [])) (sym all)
-    (first-more m 0 lps (map items (take i lists)) s cs h (place ∙ ap (λ (k : ℕ). record { machine = m; lp = k }) (omega (arith, count))) seen)
+    subst (AreFirst m codes 0 (lps ++ s ∷ [])) (sym all)
+    (first-more m codes 0 lps (map items (take i lists)) s cs h (place ∙ ap (λ (k : ℕ). record { machine = m; lp = k }) (omega (arith, count))) has seen)
 
 -- the lines of one processor more
 pub lines-next : (lps : List LpState) (i : ℕ) (d : LpState) (text lines all : List ℕ) (rs : List Reply) → i < length lps → rs ≡ (seen_of (get_or lps i d)).replies → lines ≡ concat (reply_lines i 1 rs)
@@ -272,19 +285,21 @@ pub first-bench : (b : BenchSeen) (m : Machine) (id : TableId) → b.machine ≡
 first-bench b m id machine pass = λ i. record { machine = machine i; pass = pass i }
 
 -- of a script that was read
-pub starts : (script : ScriptSeen) (m : Machine) (lists : List (List Call)) (lps now : List LpState) (id : TableId) (b : BenchSeen) → m ≡ script.machine → lists ≡ script.calls → now ≡ lps → b ≡ only_bench m id [] → AreFirst m 0 lps lists
+pub starts : (script : ScriptSeen) (m : Machine) (codes : List CodeSeen) (lists : List (List Call)) (lps now : List LpState) (id : TableId) (b : BenchSeen) → m ≡ script.machine → codes ≡ script.codes → lists ≡ script.calls → now ≡ lps → b ≡ only_bench m id []
+    → AreFirst m codes 0 lps lists
     → IsAtBench (opening_of script) script.schedule script.schedule now b.pass.table b
-starts script m lists lps now id b machine calls same new h =
+starts script m codes lists lps now id b machine has calls same new h =
     let o : Opening = opening_of script in
-    let first : AreFirst script.machine 0 now script.calls =
-    subst (λ (x : List LpState). AreFirst script.machine 0 x script.calls) (sym same) (subst (AreFirst script.machine 0 lps) calls (subst (λ (x : Machine). AreFirst x 0 lps lists) machine h)) in
+    let first : AreFirst script.machine script.codes 0 now script.calls =
+    subst (λ (x : List LpState). AreFirst script.machine script.codes 0 x script.calls) (sym same)
+    (subst (AreFirst script.machine script.codes 0 lps) calls (subst (λ (x : List CodeSeen). AreFirst script.machine x 0 lps lists) has (subst (λ (x : Machine). AreFirst x codes 0 lps lists) machine h))) in
     let named : b ≡ only_bench m b.pass.table [] = new ∙ ap (λ (z : TableId). only_bench m z []) (sym (ap (λ (z : BenchSeen). z.pass.table) new)) in
     record {
       own = [];
       is = named ∙ ap (λ (x : Machine). only_bench x b.pass.table []) machine;
-      count = first-count o.machine 0 now o.calls first;
-      numbered = first-numbered o.machine 0 now o.calls first;
-      midway = λ t play. at-start o script.schedule now t first play;
+      count = first-count o.machine script.codes 0 now o.calls first;
+      numbered = first-numbered o script.codes 0 now o.calls refl first;
+      midway = λ t play. at-start o script.codes script.schedule now t first play;
     }
 
 pub tells : {E : Type 0} (r : Result Texts E) (name : Option (List ℕ)) (lines all notes told : List ℕ) → IfOk r (λ t. TellAll name lines notes t) → lines ≡ all → notes ≡ told → IfOk r (λ t. TellAll name all told t)
@@ -303,7 +318,7 @@ module _ (ls : TurnsAreEvents) (o : Opening) (schedule : List ℕ) (lps : List L
   end = run o (order now.made)
 
   there : IsWhere o (seen_at lps) end
-  there = (ls.merges.ended o (leaf_table o.machine) now.made (seen_at lps) plays.0 op.few (ls.leaves o op.machine) (ls.enters o op.leaves) now.merge (λ p i. ended p (omega (arith, l.count)))).1
+  there = (ls.merges.ended o (leaf_table o.machine o.codes) now.made (seen_at lps) plays.0 op.few (are-leaves ls o op) op.codes now.merge (λ p i. ended p (omega (arith, l.count)))).1
 
   count : end.lp_count ≡ length o.calls
   count = counts_stay o (order now.made ++ to_the_end 0 o.calls) (start o None)

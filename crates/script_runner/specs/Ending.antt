@@ -1,10 +1,9 @@
 -- How a command ends: its status, its text and what it saves, over the contents that are told.
-use Rattle.std.specs.Prelude.{ℕ, ◌+◌, ◌^◌, List, [], ◌∷◌, ◌++◌, length, Option, Some, None, option_map, Result, Ok, Err, ◌==◌, ◌&&◌, nat_le, if◌then◌else◌, codes}
+use Rattle.std.specs.Prelude.{ℕ, ◌+◌, ◌^◌, List, [], ◌∷◌, ◌++◌, length, Option, Some, None, option_map, Result, Ok, Err, ◌==◌, nat_le, if◌then◌else◌, codes}
 use Rattle.std.specs.Fmt.{decimal}
 use Rattle.std.specs.Str.{bytes_eq}
 use Rattle.td_words.specs.Seen.{CodeSeen}
 use Rattle.td_words.specs.declared.calls.Call.{Call}
-use Rattle.td_words.specs.declared.calls.GuestOp.{GuestOp}
 use Rattle.script_text.specs.declared.faults.Reason.{Reason}
 use Rattle.script_text.specs.declared.faults.ScriptFault.{ScriptFault}
 use Rattle.script_text.specs.declared.faults.ScriptFault.TheVariants.{Bad, OutOfMemory}
@@ -14,6 +13,7 @@ use Rattle.script_text.specs.Seen.{ScriptSeen}
 use Rattle.flat_core.specs.Opening.{Opening}
 use Rattle.flat_core.specs.HostText.{host_text}
 use Rattle.flat_core.specs.GuestText.{guest_text}
+use Rattle.leaf_dispatch.specs.Table.{code_in}
 use Rattle.bundle_store.specs.Containers.{container_in, container_bytes}
 use Rattle.command_files.specs.declared.inputs.Input.{Input}
 use Rattle.command_files.specs.declared.inputs.Input.TheVariants as input
@@ -49,11 +49,6 @@ ending_seen e = record {
   text = e.text.items;
   files = both_files (option_map (λ name. name.now) e.out_bundles) (option_map (λ name. name.now) e.guest_out) e.guest.items;
 }
-
--- the first list of that virtual processor; one without a list has an empty one
-abbrev pub code_in : List CodeSeen → ℕ → ℕ → List GuestOp
-code_in [] tdr index = []
-code_in (c ∷ cs) tdr index = if c.tdr == tdr && c.index == index then c.ops else code_in cs tdr index
 
 -- what a script opens: no bundles come in, and each secret word is 0
 abbrev pub opening_of : ScriptSeen → Opening

@@ -1,4 +1,5 @@
 pub mod Ending
+pub mod Accesses
 pub mod Saving
 pub mod Replaying
 pub mod Ends

@@ -1,5 +1,6 @@
 -- Where the logical processors of a script are, over words, while its run is replayed.
 use Rattle.std.specs.Prelude.{◌≡◌, ℕ, zero, suc, ◌+◌, ◌<◌, true, List, [], ◌∷◌, ◌++◌, length, map, Option}
+use Rattle.td_words.specs.Seen.{CodeSeen}
 use Rattle.td_words.specs.declared.machines.Machine.{Machine}
 use Rattle.td_words.specs.declared.calls.Call.{Call}
 use Rattle.flat_core.specs.Opening.{Opening}
@@ -17,24 +18,25 @@ use Rattle.leaf_engine.specs.OwnLists.{TurnsInPieces, WordLp, first_lp}
 use Rattle.leaf_engine.specs.Merges.{Item, order}
 use Rattle.merge_laws.specs.Merge.{Merge}
 use Rattle.merge_laws.specs.Laws.{MergesAreRuns}
-use Rattle.leaf_dispatch.specs.Table.{leaf_table}
-use Rattle.leaf_dispatch.specs.Laws.{CallsHaveLeaves, NoneEnters}
+use Rattle.leaf_dispatch.specs.Table.{code_in, leaf_table}
+use Rattle.leaf_dispatch.specs.Laws.{CallsHaveLeaves}
 use Rattle.leaf_dispatch.specs.States.{seen_of}
 use Rattle.leaf_dispatch.specs.declared.states.LpState.{LpState}
 use Rattle.script_runner.specs.declared.replay.Texts.{Texts}
 use Rattle.script_runner.specs.Ending.{file_named}
 
--- these are a machine's processors from number n on
-abbrev pub AreNumbered : Machine → ℕ → List LpState → Type 0
-AreNumbered m n [] = Unit {0}
-AreNumbered m n (s ∷ ss) = (s.place ≡ record { machine = m; lp = n }) × AreNumbered m (suc n) ss
+-- these are a machine's processors from number n on, with the opening's lists of operations
+abbrev pub AreNumbered : Opening → ℕ → List LpState → Type 0
+AreNumbered o n [] = Unit {0}
+AreNumbered o n (s ∷ ss) = (s.place ≡ record { machine = o.machine; lp = n }) × (code_in s.codes.now ≡ o.codes) × AreNumbered o (suc n) ss
 
 -- and each is at the first of its calls
-abbrev pub AreFirst : Machine → ℕ → List LpState → List (List Call) → Type 0
-AreFirst m n [] [] = Unit {0}
-AreFirst m n [] (cs ∷ css) = ⊥
-AreFirst m n (s ∷ ss) [] = ⊥
-AreFirst m n (s ∷ ss) (cs ∷ css) = (s.place ≡ record { machine = m; lp = n }) × (seen_of s ≡ first_lp cs) × AreFirst m (suc n) ss css
+abbrev pub AreFirst : Machine → List CodeSeen → ℕ → List LpState → List (List Call) → Type 0
+AreFirst m codes n [] [] = Unit {0}
+AreFirst m codes n [] (cs ∷ css) = ⊥
+AreFirst m codes n (s ∷ ss) [] = ⊥
+AreFirst m codes n (s ∷ ss) (cs ∷ css) =
+    (s.place ≡ record { machine = m; lp = n }) × (s.codes.now ≡ codes) × (seen_of s ≡ first_lp cs) × AreFirst m codes (suc n) ss css
 
 -- what is seen of them, by number
 abbrev pub seen_at : List LpState → ℕ → WordLp
@@ -64,7 +66,7 @@ TellAll guest_out replies notes t = (t.replies.items ≡ replies) × (file_named
 -- are left, lead to the end of the flat machine's run under the schedule.
 pub record IsMidway (o : Opening) (schedule left : List ℕ) (lps : List LpState) (t : Table) : Type 0 where
   pub made : List Item
-  pub merge : Merge o (leaf_table o.machine) made (seen_at lps) t
+  pub merge : Merge o (leaf_table o.machine o.codes) made (seen_at lps) t
   pub same : run o (order made ++ left) ≡ run o schedule
 
 -- the first bench of a table, with this list of its own and none that it took in or has out
@@ -77,14 +79,13 @@ pub record IsAtBench (o : Opening) (schedule left : List ℕ) (lps : List LpStat
   pub own : List Taken
   pub is : bench ≡ only_bench o.machine id own
   pub count : length lps ≡ length o.calls
-  pub numbered : AreNumbered o.machine 0 lps
+  pub numbered : AreNumbered o 0 lps
   pub midway : (t : Table) → PlaysTo no_table own t → IsMidway o schedule left lps t
 
 -- what ties turns over words to events of the flat machine
 pub record TurnsAreEvents : Type 0 where
   pub merges : MergesAreRuns
   pub leaves : CallsHaveLeaves
-  pub enters : NoneEnters
   pub pieces : TurnsInPieces
   pub runs_out : EventsRunOut
   pub others : OthersStay

@@ -1,25 +1,24 @@
 //! A script's run over words: its processors under its schedule, and then each to its end.
 
-ghost use Rattle.std.specs.Prelude.{◌≡◌, ◌≤◌, ◌<◌, ◌+◌, true, [], length, map, option_map, IfOk};
-ghost use Rattle.std.specs.List.{All, concat};
+ghost use Rattle.std.specs.Prelude.{◌≡◌, ◌≤◌, ◌<◌, ◌+◌, [], length, map, option_map, IfOk};
+ghost use Rattle.std.specs.List.{concat};
 ghost use Rattle.td_words.specs.Limits.{IsMachine};
 ghost use Rattle.flat_core.specs.GuestText.{guest_text, note_told};
 ghost use Rattle.flat_core.specs.HostText.{host_text};
 ghost use Rattle.script_text.specs.Laws.{IsInForm};
 ghost use Rattle.leaf_dispatch.specs.States.{seen_of};
-ghost use Rattle.leaf_dispatch.specs.Table.{have_leaves};
 ghost use Rattle.trace_table.specs.Benches.{bench_of};
 ghost use Rattle.script_runner.specs.Ending.{opening_of, file_named};
 ghost use Rattle.script_runner.specs.Replaying.{AreFirst, IsAtBench, HaveEnded, TurnsAreEvents, lines_seen, notes_seen, TellAll};
 
 use flat_core::{end_laws, event_laws};
-use leaf_dispatch::{LpState, calls_have_leaves, none_enters};
+use leaf_dispatch::{LpState, calls_have_leaves};
 use leaf_engine::{Processor, Turn, turns_in_pieces};
 use merge_laws::merge_law;
 use report_text::{GuestNote, guest_lines, host_lines};
 use script_text::Script;
 use std::alloc::Global;
-use td_words::{Call, Machine, OutOfMemory};
+use td_words::{Call, Code, Machine, OutOfMemory};
 use trace_table::{SharedBench, SharedTable};
 
 // What turns over words have to do with events of the flat machine.
@@ -28,28 +27,27 @@ fn laws_of_turns()
 {
     merge_law();
     calls_have_leaves();
-    none_enters();
     turns_in_pieces();
     end_laws();
     event_laws();
 }
 
-// The processors of a machine, each at the first of its calls, which have leaves.
+// The processors of a machine, each at the first of its calls, with the lists of operations.
 fn processors<'a>(
     alloc: Global,
     machine: Machine,
+    codes: &'a [Code],
     lists: &'a [Vec<Call>],
 ) -> Result<Vec<LpState<'a>>, OutOfMemory>
     requires machine { IsMachine machine }
     requires few { length lists.now ≤ 8 }
-    requires leaves { All (λ list. have_leaves list.items ≡ true) lists.now }
-    ensures { IfOk result (λ v. AreFirst machine 0 v.items (map (λ list. list.items) lists.now)) }
+    ensures { IfOk result (λ v. AreFirst machine codes.now 0 v.items (map (λ list. list.items) lists.now)) }
 {
     let Ok(mut lps) = Vec::with_capacity(alloc, lists.len()) else {
         return Err(OutOfMemory);
     };
     for lp in 0..lists.len() {
-        let state = LpState::new(alloc, machine, lp as u8, &lists[lp])?;
+        let state = LpState::new(alloc, machine, lp as u8, codes, &lists[lp])?;
         let Ok(()) = lps.push(state) else {
             return Err(OutOfMemory);
         };
@@ -178,7 +176,7 @@ pub fn replay_texts(
     ensures { IfOk result (λ t. TellAll (option_map (λ name. name.now) guest_out.entry) (host_text (opening_of script.now) script.now.schedule) (guest_text (opening_of script.now) script.now.schedule) t) }
 {
     laws_of_turns();
-    let mut states = processors(alloc, script.machine, &script.calls)?;
+    let mut states = processors(alloc, script.machine, &script.codes, &script.calls)?;
     let lps = states.as_mut_slice();
     let (table, pass) = SharedTable::start(alloc, script.machine)?;
     let mut bench = SharedBench::new(&table, pass);

@@ -4,7 +4,8 @@ ghost use Rattle.std.specs.Prelude.{◌≡◌, ◌≢◌, ◌≤◌, ◌⊎◌, 
 ghost use Rattle.bundle_store.specs.Containers.{container_bytes};
 ghost use Rattle.bundle_store.specs.History.{Put};
 ghost use Rattle.command_files.specs.Commands.{Check, command_in};
-ghost use Rattle.script_runner.specs.Ending.{ending_seen, file_named, ending_of, memory_end};
+ghost use Rattle.script_runner.specs.Ending.{opening_of, ending_seen, file_named, ending_of, memory_end};
+ghost use Rattle.script_runner.specs.Accesses.{OwnAccesses};
 ghost use Rattle.script_runner.specs.Ends.{PutsPart, EndsWith, OneRun, IsComplete, IsBadScript, IsBadContainer, IsBadKeys, ReadCause, WriteCause, PutsFronts};
 ghost use Rattle.script_runner.specs.Done.{PutsOnce, PutsRun, PutsAndSaved, PutsUsage, PutsFault, PutsName, PutsPlace, PutsKeys, PutsLost, PutsMemory, SavesNothing, ChangesNothing, KeepsOrSaves};
 ghost use Rattle.script_runner.specs.Saving.{out_names};
@@ -14,6 +15,7 @@ use crate::commanded::of_command;
 use crate::ending::{Ending, unwritten, usage};
 use bundle_store::{Files, PutFault, SaveFault, Sink, write_container};
 use command_files::read_command;
+use flat_core::access_law;
 use leaf_engine::Gate;
 use std::alloc::{AllocError, Global};
 
@@ -212,6 +214,9 @@ pub fn tdx_main<F: Files, K: Sink, G: Gate + Sync>(
     // written, the guest file with what the guests of that same run noted.
     ensures put_run { result ≡ 0 → PutsRun (command_in (map string_bytes words.now)) (F.loads files.old) (F.loads files.new) (K.puts out.old) (K.puts out.new) (Ok tt) }
     ensures saved { result ≡ 0 → PutsAndSaved (command_in (map string_bytes words.now)) (F.loads files.old) (F.loads files.new) (K.puts out.old) (K.puts out.new) (record { contents = F.contents files.old; saves = F.saves files.old; faults = F.write_faults files.old }) (record { contents = F.contents files.new; saves = F.saves files.new; faults = F.write_faults files.new }) }
+    // In that run each access of a guest to its private memory reached a private page of its own TD,
+    // which the TD's secure EPT named there.
+    ensures put_accesses { result ≡ 0 → (run : PutsRun (command_in (map string_bytes words.now)) (F.loads files.old) (F.loads files.new) (K.puts out.old) (K.puts out.new) (Ok tt)) × OwnAccesses (opening_of run.script) run.script.schedule }
     // At 1 it was given the usage line, and nothing was loaded; at 2 the first fault of what the one
     // load handed out, or that this is too long; at 3 the name, where the last load handed out nothing;
     // at 6 the place of the first fault of the container that was loaded; at 7 that the key file hasn't
@@ -228,6 +233,7 @@ pub fn tdx_main<F: Files, K: Sink, G: Gate + Sync>(
     // Where contents are told, at status 0 the output got just the reply lines of the flat machine's run
     // of the named script, or its numbers, and each file that is named has what that same run leaves.
     ensures one_run { result ≡ 0 → IfSome (F.contents files.old) (λ k. OneRun k (command_in (map string_bytes words.now)) (K.told out.old) (K.told out.new) (record { contents = F.contents files.old; saves = F.saves files.old; faults = F.write_faults files.old }) (record { contents = F.contents files.new; saves = F.saves files.new; faults = F.write_faults files.new })) }
+    ensures one_accesses { result ≡ 0 → IfSome (F.contents files.old) (λ k. (run : OneRun k (command_in (map string_bytes words.now)) (K.told out.old) (K.told out.new) (record { contents = F.contents files.old; saves = F.saves files.old; faults = F.write_faults files.old }) (record { contents = F.contents files.new; saves = F.saves files.new; faults = F.write_faults files.new })) × OwnAccesses (opening_of run.script) run.script.schedule) }
     // There each status comes with its text.
     ensures ends { IfSome (F.contents files.old) (λ k. EndsWith (record { reads = F.read_faults files.old; writes = F.write_faults files.old; puts = K.faults out.old }) (record { reads = F.read_faults files.new; writes = F.write_faults files.new; puts = K.faults out.new }) k (command_in (map string_bytes words.now)) (K.told out.old) (K.told out.new) result) }
     // There the status that is due comes; only a fault or want of memory keeps it from coming.
@@ -260,5 +266,6 @@ pub fn tdx_main<F: Files, K: Sink, G: Gate + Sync>(
     ensures reads_later { F.read_faults files.old ≤ F.read_faults files.new }
     ensures puts_later { K.faults out.old ≤ K.faults out.new }
 {
+    access_law();
     do_command(alloc, words, files, out)
 }

@@ -1,6 +1,7 @@
 -- The worked merges compute.
 use Rattle.std.proofs.Common.{◌≡◌, ℕ, zero, suc, ◌<◌, ◌≤◌, ◌==◌, true, false, List, [], ◌∷◌, None, Some, refl, subst, arith}
 use Rattle.std.proofs.lemmas.Bool.{ne_eqb}
+use Rattle.std.proofs.lemmas.List.Elements.{All-nil}
 use Rattle.td_words.specs.Limits.{IsMachine}
 use Rattle.td_words.specs.declared.names.LockName.TheVariants as lock
 use Rattle.td_words.specs.declared.names.Mode.TheVariants.{Shared}
@@ -21,17 +22,20 @@ use Rattle.leaf_engine.specs.declared.events.Stage.TheVariants as stage
 use Rattle.leaf_engine.specs.Trees.{Tree, settle, fed, passed}
 use Rattle.leaf_engine.specs.Besides.{nothing_beside}
 use Rattle.leaf_engine.specs.Turns.{Standing, standing}
-use Rattle.leaf_engine.specs.OwnLists.{Piece, Unmarked, Marked, joined, WordLp, first_lp, LpTurns, OwnTurns}
-use Rattle.leaf_engine.specs.Merges.{Item, part, order, no_table}
+use Rattle.leaf_engine.specs.OwnLists.{Piece, Unmarked, Marked, joined, LeafTable, WordLp, first_lp, LpTurns, OwnTurns}
+use Rattle.leaf_engine.specs.Merges.{Item, part, order, no_table, IsOperation, AreCodes}
 use Rattle.access_core.specs.HostTrees.{host_read_tree, host_write_tree}
 use Rattle.merge_laws.specs.Merge.{Merge, MergePlays}
 use Rattle.merge_laws.specs.Laws.{IsShownBy, IsWhere, MergesAreRuns}
 use Rattle.leaf_dispatch.specs.Table.{leaf_table}
-use Rattle.leaf_dispatch.specs.Laws.{CallsHaveLeaves, LinesHaveLeaves, NoneEnters}
+use Rattle.leaf_dispatch.specs.Laws.{CallsHaveLeaves}
 use Rattle.worked_merges.specs.Worked.{writer_and_reader, lock_word, pamt_word, content_word, load_behind_store, load_before_store, order_behind, order_before, table_left, done_with, ends_reading, RunsAs, Examples}
 
 abbrev m : Machine
 m = writer_and_reader.machine
+
+abbrev leaves_of : ℕ → LeafTable
+leaves_of = leaf_table m writer_and_reader.codes
 
 abbrev page_lock : HeldLock
 page_lock = record { name = lock.Page 1; at = lock_word; mode = Shared }
@@ -66,7 +70,7 @@ reader_own word =
 
 -- where the processors are behind the try, and behind the act
 abbrev writer_at : Standing → WordLp
-writer_at s = record { lines = HostWrite 1 0 7 ∷ []; run = Some s; replies = []; beside = nothing_beside }
+writer_at s = record { lines = HostWrite 1 0 7 ∷ []; run = Some s; guest = None; replies = []; beside = nothing_beside }
 
 abbrev writer_tried : Standing
 writer_tried = standing writes_tried stage.Trying (page_lock ∷ []) None
@@ -75,7 +79,7 @@ abbrev writer_acted : Standing
 writer_acted = standing writes_loaded (stage.Answered success) (page_lock ∷ []) None
 
 abbrev reader_at : Standing → WordLp
-reader_at s = record { lines = HostRead 1 0 ∷ []; run = Some s; replies = []; beside = nothing_beside }
+reader_at s = record { lines = HostRead 1 0 ∷ []; run = Some s; guest = None; replies = []; beside = nothing_beside }
 
 abbrev reader_tried : Standing
 reader_tried = standing reads_tried stage.Trying (page_lock ∷ []) None
@@ -85,7 +89,7 @@ reader_acted word = standing (reads_loaded word) (stage.Answered (Done (Number w
 
 -- each of their turns
 
-writer-tries : LpTurns (leaf_table m 0) m (first_lp (HostWrite 1 0 7 ∷ [])) (event.Try (lock.Page 1) Shared true) (Marked (Stepped (step.Add lock_word 1) 0) ∷ []) (writer_at writer_tried)
+writer-tries : LpTurns (leaves_of 0) m (first_lp (HostWrite 1 0 7 ∷ [])) (event.Try (lock.Page 1) Shared true) (Marked (Stepped (step.Add lock_word 1) 0) ∷ []) (writer_at writer_tried)
 writer-tries = record {
   stands = writer_tried;
   turn = record {
@@ -104,7 +108,7 @@ writer-tries = record {
   after_is = refl;
 }
 
-writer-stores : LpTurns (leaf_table m 0) m (writer_at writer_tried) event.Act (Unmarked (Stepped (step.Load pamt_word) 0) ∷ Marked (Stepped (step.Store content_word 7) 0) ∷ []) (writer_at writer_acted)
+writer-stores : LpTurns (leaves_of 0) m (writer_at writer_tried) event.Act (Unmarked (Stepped (step.Load pamt_word) 0) ∷ Marked (Stepped (step.Store content_word 7) 0) ∷ []) (writer_at writer_acted)
 writer-stores = record {
   stands = writer_acted;
   turn = record {
@@ -141,7 +145,7 @@ writer-stores = record {
   after_is = refl;
 }
 
-writer-frees : LpTurns (leaf_table m 0) m (writer_at writer_acted) (event.Free (lock.Page 1)) (Marked (Stepped (step.Sub lock_word 1) 2) ∷ []) (done_with success)
+writer-frees : LpTurns (leaves_of 0) m (writer_at writer_acted) (event.Free (lock.Page 1)) (Marked (Stepped (step.Sub lock_word 1) 2) ∷ []) (done_with success)
 writer-frees = record {
   stands = standing writes_loaded (stage.Answered success) [] None;
   turn = record {
@@ -153,7 +157,7 @@ writer-frees = record {
   after_is = refl;
 }
 
-reader-tries : LpTurns (leaf_table m 1) m (first_lp (HostRead 1 0 ∷ [])) (event.Try (lock.Page 1) Shared true) (Marked (Stepped (step.Add lock_word 1) 1) ∷ []) (reader_at reader_tried)
+reader-tries : LpTurns (leaves_of 1) m (first_lp (HostRead 1 0 ∷ [])) (event.Try (lock.Page 1) Shared true) (Marked (Stepped (step.Add lock_word 1) 1) ∷ []) (reader_at reader_tried)
 reader-tries = record {
   stands = reader_tried;
   turn = record {
@@ -172,7 +176,7 @@ reader-tries = record {
   after_is = refl;
 }
 
-reader-loads : (word : ℕ) → LpTurns (leaf_table m 1) m (reader_at reader_tried) event.Act (Unmarked (Stepped (step.Load pamt_word) 0) ∷ Marked (Stepped (step.Load content_word) word) ∷ []) (reader_at (reader_acted word))
+reader-loads : (word : ℕ) → LpTurns (leaves_of 1) m (reader_at reader_tried) event.Act (Unmarked (Stepped (step.Load pamt_word) 0) ∷ Marked (Stepped (step.Load content_word) word) ∷ []) (reader_at (reader_acted word))
 reader-loads word = record {
   stands = reader_acted word;
   turn = record {
@@ -191,7 +195,7 @@ reader-loads word = record {
   after_is = refl;
 }
 
-reader-frees : (word : ℕ) → LpTurns (leaf_table m 1) m (reader_at (reader_acted word)) (event.Free (lock.Page 1)) (Marked (Stepped (step.Sub lock_word 1) 1) ∷ []) (done_with (Done (Number word)))
+reader-frees : (word : ℕ) → LpTurns (leaves_of 1) m (reader_at (reader_acted word)) (event.Free (lock.Page 1)) (Marked (Stepped (step.Sub lock_word 1) 1) ∷ []) (done_with (Done (Number word)))
 reader-frees word = record {
   stands = standing (reads_loaded word) (stage.Answered (Done (Number word))) [] None;
   turn = record {
@@ -203,10 +207,10 @@ reader-frees word = record {
   after_is = refl;
 }
 
-writer-turns : OwnTurns (leaf_table m 0) m (first_lp (HostWrite 1 0 7 ∷ [])) writer_own (done_with success)
+writer-turns : OwnTurns (leaves_of 0) m (first_lp (HostWrite 1 0 7 ∷ [])) writer_own (done_with success)
 writer-turns = (event.Try (lock.Page 1) Shared true, (writer_at writer_tried, writer-tries, (event.Act, (writer_at writer_acted, writer-stores, (event.Free (lock.Page 1), (done_with success, writer-frees, refl))))))
 
-reader-turns : (word : ℕ) → OwnTurns (leaf_table m 1) m (first_lp (HostRead 1 0 ∷ [])) (reader_own word) (done_with (Done (Number word)))
+reader-turns : (word : ℕ) → OwnTurns (leaves_of 1) m (first_lp (HostRead 1 0 ∷ [])) (reader_own word) (done_with (Done (Number word)))
 reader-turns word = (event.Try (lock.Page 1) Shared true, (reader_at reader_tried, reader-tries, (event.Act, (reader_at (reader_acted word), reader-loads word, (event.Free (lock.Page 1), (done_with (Done (Number word)), reader-frees word, refl))))))
 
 -- the own lists by processor
@@ -227,16 +231,14 @@ other-two p h = (ne_eqb 0 p (λ (e : 0 ≡ p). absurd (omega arith)), ne_eqb 1 p
 in-limits : IsMachine m
 in-limits = record { lps = (omega arith, omega arith); pages = (omega arith, omega arith); hkids = (omega arith, omega arith) }
 
--- each of their calls has a leaf
-with-leaves : LinesHaveLeaves writer_and_reader
-with-leaves zero = refl
-with-leaves (suc zero) = refl
-with-leaves (suc (suc p)) = refl
+-- no list has an operation
+no-codes : AreCodes writer_and_reader
+no-codes = record { few = λ t i. omega arith; each = λ t i. All-nil IsOperation }
 
 -- items in which those own lists stand, and which play, are a run by the law of merges
-runs-as : MergesAreRuns → CallsHaveLeaves → NoneEnters → (word : ℕ) → (is : List Item) → (schedule : List ℕ) → part 0 is ≡ joined writer_own → part 1 is ≡ joined (reader_own word) → ((p : ℕ) → (0 == p) ≡ false → (1 == p) ≡ false → part p is ≡ [])
+runs-as : MergesAreRuns → CallsHaveLeaves → (word : ℕ) → (is : List Item) → (schedule : List ℕ) → part 0 is ≡ joined writer_own → part 1 is ≡ joined (reader_own word) → ((p : ℕ) → (0 == p) ≡ false → (1 == p) ≡ false → part p is ≡ [])
     → MergePlays no_table is (table_left no_table is) → order is ≡ schedule → RunsAs writer_and_reader is (ends_reading word) schedule
-runs-as law leaves none word is schedule zeroth first further plays ordered = record {
+runs-as law leaves word is schedule zeroth first further plays ordered = record {
   merge = merge;
   ended = ended;
   order_is = ordered;
@@ -244,10 +246,10 @@ runs-as law leaves none word is schedule zeroth first further plays ordered = re
   stands = both.1;
 }
   where
-    merge : Merge writer_and_reader (leaf_table m) is (ends_reading word) (table_left no_table is)
+    merge : Merge writer_and_reader leaves_of is (ends_reading word) (table_left no_table is)
     merge = record {
       own = own word;
-      turns = below_two (λ p. OwnTurns (leaf_table m p) m (first_lp (calls_of writer_and_reader.calls p)) (own word p) (ends_reading word p)) writer-turns (reader-turns word);
+      turns = below_two (λ p. OwnTurns (leaves_of p) m (first_lp (calls_of writer_and_reader.calls p)) (own word p) (ends_reading word p)) writer-turns (reader-turns word);
       merge = record {
         each = below_two (λ p. part p is ≡ joined (own word p)) zeroth first;
         nothing_else = λ p h. further p (other-two p h).0 (other-two p h).1;
@@ -261,7 +263,7 @@ runs-as law leaves none word is schedule zeroth first further plays ordered = re
     both : IsShownBy m (table_left no_table is) (run writer_and_reader schedule) × IsWhere writer_and_reader (ends_reading word) (run writer_and_reader schedule)
     both =
         subst (λ (ps : List ℕ). IsShownBy m (table_left no_table is) (run writer_and_reader ps) × IsWhere writer_and_reader (ends_reading word) (run writer_and_reader ps)) ordered
-        (law.ended writer_and_reader (leaf_table m) is (ends_reading word) (table_left no_table is) (omega arith) (leaves writer_and_reader in-limits) (none writer_and_reader with-leaves) merge ended)
+        (law.ended writer_and_reader leaves_of is (ends_reading word) (table_left no_table is) (omega arith) (leaves writer_and_reader writer_and_reader.codes in-limits (λ t i. refl)) no-codes merge ended)
 
 -- each answer is what the merge has made
 behind-plays : MergePlays no_table load_behind_store (table_left no_table load_behind_store)
@@ -270,12 +272,12 @@ behind-plays = (refl, (refl, (refl, (refl, (refl, (refl, (refl, (refl, (refl, re
 before-plays : MergePlays no_table load_before_store (table_left no_table load_before_store)
 before-plays = (refl, (refl, (refl, (refl, (refl, (refl, (refl, (refl, (refl, refl)))))))))
 
-pub examples : MergesAreRuns → CallsHaveLeaves → NoneEnters → Examples
-examples law leaves none = record {
-  behind = runs-as law leaves none 7 load_behind_store order_behind refl refl (λ p zeroth first. rw (zeroth, first) refl) behind-plays refl;
+pub examples : MergesAreRuns → CallsHaveLeaves → Examples
+examples law leaves = record {
+  behind = runs-as law leaves 7 load_behind_store order_behind refl refl (λ p zeroth first. rw (zeroth, first) refl) behind-plays refl;
   behind_0 = refl;
   behind_1 = refl;
-  before = runs-as law leaves none 0 load_before_store order_before refl refl (λ p zeroth first. rw (zeroth, first) refl) before-plays refl;
+  before = runs-as law leaves 0 load_before_store order_before refl refl (λ p zeroth first. rw (zeroth, first) refl) before-plays refl;
   before_0 = refl;
   before_1 = refl;
   word_behind = refl;

@@ -70,7 +70,7 @@ table_left t (i ∷ is) = table_left (table_after t i.piece) is
 
 -- a processor whose one line was answered so
 abbrev pub done_with : Reply → WordLp
-done_with r = record { lines = []; run = None; replies = r ∷ []; beside = nothing_beside }
+done_with r = record { lines = []; run = None; guest = None; replies = r ∷ []; beside = nothing_beside }
 
 -- where the processors end once that word was read
 abbrev pub ends_reading : (word : ℕ) → ℕ → WordLp
@@ -81,7 +81,7 @@ ends_reading word (suc (suc p)) = first_lp []
 -- These items are a merge of the processors' own lists up to the end of each, their events have this order, and the flat
 -- machine's run under it is what the words show, and where the processors are.
 pub record RunsAs (o : Opening) (is : List Item) (now : ℕ → WordLp) (schedule : List ℕ) : Type 0 where
-  pub merge : Merge o (leaf_table o.machine) is now (table_left no_table is)
+  pub merge : Merge o (leaf_table o.machine o.codes) is now (table_left no_table is)
   pub ended : (p : ℕ) → p < length o.calls → (now p).lines ≡ []
   pub order_is : order is ≡ schedule
   pub shown : IsShownBy o.machine (table_left no_table is) (run o schedule)

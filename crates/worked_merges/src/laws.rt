@@ -2,7 +2,7 @@
 
 ghost use Rattle.worked_merges.specs.Worked.{Examples};
 
-use leaf_dispatch::{calls_have_leaves, none_enters};
+use leaf_dispatch::calls_have_leaves;
 use merge_laws::merge_law;
 
 /// Two processors share a page, and word steps of one stand inside a turn of the other's: the items
@@ -14,5 +14,4 @@ pub fn worked_merges()
 {
     merge_law();
     calls_have_leaves();
-    none_enters();
 }

@@ -24,4 +24,5 @@ returns c =
       views = c.views_are_kept.ensures;
       start = c.start_is_shown.ensures;
       one = c.turns_in_pieces.ensures;
+      spare = c.guest_law.ensures.events;
     })

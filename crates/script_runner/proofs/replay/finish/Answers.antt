@@ -8,7 +8,7 @@ pub turn-requires : goal.turn-requires
 turn-requires c = machine-at _ _ _ c.loop.lps _ _ c.args.lp c.index-lps-lp.result c.loop.invariant.left (omega (arith, c.loop.invariant.count, c.requires.lp))
 
 pub loop-smaller : goal.loop-smaller
-loop-smaller c = fewer-left c.loop.lps c.args.lp c.index-lps-lp.result c.turn.new.self (omega (arith, c.loop.invariant.count, c.requires.lp)) c.in-Moved.ensures.turned.1
+loop-smaller c = fewer-left (opening_of c.args.script.now) _ _ c.loop.lps _ _ c.args.lp c.index-lps-lp.result c.turn.new.self (omega (arith, c.loop.invariant.count, c.requires.lp)) c.loop.invariant.left c.in-Moved.ensures.turned.0.2.1 c.in-Moved.ensures.turned.1
 
 pub loop-preserved : goal.loop-preserved
 loop-preserved c =

@@ -13,4 +13,4 @@ invariant-loop l = record {
 }
 
 abbrev pub decreases-loop : goal.decreases-loop
-decreases-loop l = events_left (seen_at l.lps l.lp)
+decreases-loop l = events_left (opening_of l.script).codes (seen_at l.lps l.lp)

@@ -1,5 +1,6 @@
 use Rattle.std.proofs.Common.{ap}
 use Rattle.script_runner.specs.Saving.{Writes}
+use Rattle.script_runner.proofs.Accesses.{in-put, in-one}
 use Rattle.script_runner.proofs.Histories.{check_status, all_loads, all_ends, told_run, told_complete, told_bad, told_container, told_keys, told_fronts, put_run, all_saved, put_usage, put_fault, put_name, put_place, put_keys, put_lost, put_memory, unread_cause, lost_cause, used, one_text, some_text, same_files, kept_or_saved, none_saved}
 use Rattle.script_runner.proofs.top.tdx_main.Goals as goal
 
@@ -14,6 +15,9 @@ returns-clause-put_run g c = put_run _ _ _ _ _ _ _ _ _ c.do_command.ensures.does
 
 pub returns-clause-saved : goal.returns-clause-saved
 returns-clause-saved g c = all_saved _ _ _ _ _ _ _ _ _ c.do_command.ensures.does
+
+pub returns-clause-put_accesses : goal.returns-clause-put_accesses
+returns-clause-put_accesses g c zero = in-put c.access_law.ensures.accesses _ _ _ _ _ _ (put_run _ _ _ _ _ _ _ _ _ c.do_command.ensures.does zero)
 
 pub returns-clause-put_usage : goal.returns-clause-put_usage
 returns-clause-put_usage g c = put_usage _ _ _ _ _ _ _ _ _ c.do_command.ensures.does
@@ -38,6 +42,9 @@ returns-clause-put_memory g c = put_memory _ _ _ _ _ _ _ _ _ c.do_command.ensure
 
 pub returns-clause-one_run : goal.returns-clause-one_run
 returns-clause-one_run g c zero = told_run _ _ _ _ _ _ _ _ _ c.do_command.ensures.does zero
+
+pub returns-clause-one_accesses : goal.returns-clause-one_accesses
+returns-clause-one_accesses g c zero = in-one c.access_law.ensures.accesses _ _ _ _ _ _ (told_run _ _ _ _ _ _ _ _ _ c.do_command.ensures.does zero)
 
 pub returns-clause-ends : goal.returns-clause-ends
 returns-clause-ends g c = all_ends _ _ _ _ _ _ _ _ _ c.do_command.ensures.does
