@@ -1,4 +1,5 @@
 pub mod Accesses
+pub mod Built
 pub mod Codes
 pub mod Counts
 pub mod Part

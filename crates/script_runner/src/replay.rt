@@ -1,11 +1,12 @@
 //! A script's run over words: its processors under its schedule, and then each to its end.
 
-ghost use Rattle.std.specs.Prelude.{◌≡◌, ◌≤◌, ◌<◌, ◌+◌, [], length, map, option_map, IfOk};
-ghost use Rattle.std.specs.List.{concat};
+ghost use Rattle.std.specs.Prelude.{◌≡◌, ◌≤◌, ◌<◌, ◌+◌, true, [], length, map, option_map, IfOk};
+ghost use Rattle.std.specs.List.{All, concat};
 ghost use Rattle.td_words.specs.Limits.{IsMachine};
 ghost use Rattle.flat_core.specs.GuestText.{guest_text, note_told};
 ghost use Rattle.flat_core.specs.HostText.{host_text};
 ghost use Rattle.script_text.specs.Laws.{IsInForm};
+ghost use Rattle.leaf_dispatch.specs.Answers.{enters_none};
 ghost use Rattle.leaf_dispatch.specs.States.{seen_of};
 ghost use Rattle.trace_table.specs.Benches.{bench_of};
 ghost use Rattle.script_runner.specs.Ending.{opening_of, file_named};
@@ -32,7 +33,8 @@ fn laws_of_turns()
     event_laws();
 }
 
-// The processors of a machine, each at the first of its calls, with the lists of operations.
+// The processors of a machine, each at the first of its calls, of which none enters a guest, with the lists of
+// operations.
 fn processors<'a>(
     alloc: Global,
     machine: Machine,
@@ -41,6 +43,7 @@ fn processors<'a>(
 ) -> Result<Vec<LpState<'a>>, OutOfMemory>
     requires machine { IsMachine machine }
     requires few { length lists.now ≤ 8 }
+    requires outside { All (λ list. enters_none list.items ≡ true) lists.now }
     ensures { IfOk result (λ v. AreFirst machine codes.now 0 v.items (map (λ list. list.items) lists.now)) }
 {
     let Ok(mut lps) = Vec::with_capacity(alloc, lists.len()) else {

@@ -4,6 +4,7 @@ use Rattle.step_core.specs.declared.items.Taken.{Taken}
 use Rattle.trace_table.specs.Merges.{MergesTo}
 use Rattle.trace_table.specs.Benches.{PassSeen, bench_of, table_of}
 use Rattle.script_runner.specs.Ending.{opening_of}
+use Rattle.script_runner.proofs.Built.{lists-listed}
 use Rattle.script_runner.proofs.Replayed.{starts, first-bench, open-of, tells, prints-all, notes-all}
 use Rattle.script_runner.proofs.replay.replay_texts.Goals as goal
 
@@ -12,6 +13,10 @@ follow_schedule-requires-clause-left c =
     starts c.args.script.now c.script.inside.machine _ _ _ _ (table_of c.in_ok-table.table) (bench_of c.new-bench.result) (ap (λ (s : ScriptSeen). s.machine) c.script.view_is)
     (c.deref.ensures.value ∙ ap (λ (s : ScriptSeen). s.codes) c.script.view_is) (ap (map (λ list. list.items)) c.deref-2.ensures.value ∙ ap (λ (s : ScriptSeen). s.calls) c.script.view_is) c.as_mut_slice-lps.ensures.value
     (first-bench (bench_of c.new-bench.result) c.script.inside.machine (table_of c.in_ok-table.table) (c.new-bench.ensures.machine ∙ c.in_ok-table.ensures.machine) (c.new-bench.ensures.pass ∙ c.in_ok-table.ensures.pass)) c.in_ok-states.ensures
+
+pub processors-requires-clause-outside : goal.processors-requires-clause-outside
+processors-requires-clause-outside c =
+    lists-listed c.deref-2.result.now c.args.script.now.calls (ap (map (λ list. list.items)) c.deref-2.ensures.value ∙ ap (λ (s : ScriptSeen). s.calls) c.script.view_is) c.requires.arguments
 
 pub returns : goal.returns
 returns c =
