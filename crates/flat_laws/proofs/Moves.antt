@@ -1,6 +1,6 @@
 -- Pages that move: what is given back was out of reach, and what is taken waits, for its guest to accept it or for its TD to be
 -- built.
-use Rattle.std.proofs.Common.{◌≡◌, ◌⊎◌, inl, inr, refl, sym, ◌∙◌, ap, subst, ℕ, zero, suc, ◌≤◌, [], ◌∷◌, Option, Some, None, Bool, true, false, not, ◌==◌, arith}
+use Rattle.std.proofs.Common.{◌≡◌, ◌⊎◌, inl, inr, refl, sym, ◌∙◌, ap, subst, ℕ, zero, suc, ◌≤◌, [], ◌∷◌, Bool, true, false, not, ◌==◌, arith}
 use Rattle.std.specs.List.{list_any}
 use Rattle.std.proofs.lemmas.Bool.{eq-eqb, eqb-true, and_parts}
 use Rattle.td_words.specs.declared.calls.Call.{Call}
@@ -10,14 +10,12 @@ use Rattle.td_words.specs.declared.names.PageKind.TheVariants as kind
 use Rattle.td_words.specs.declared.names.LifeState.TheVariants as life
 use Rattle.td_words.specs.declared.names.EntryState.{EntryState}
 use Rattle.td_words.specs.declared.names.EntryState.TheVariants as entry
-use Rattle.td_words.specs.declared.replies.Reply.{Reply}
 use Rattle.td_words.specs.NameNumber.{life_number}
 use Rattle.td_words.specs.Packing.{Entry}
 use Rattle.flat_core.specs.World.{World, put}
-use Rattle.flat_core.specs.Processor.{Lp}
 use Rattle.flat_core.specs.Opening.{Opening}
-use Rattle.flat_core.specs.Conditions.{is_host, is_host_in}
-use Rattle.flat_core.specs.Row.{Move, Attempts, Undoes, Refuses, Succeeds, Releases, Rests, Passes, next_in}
+use Rattle.flat_core.specs.Conditions.{is_host, is_host_in, same_kind}
+use Rattle.flat_core.specs.Row.{Passes}
 use Rattle.flat_core.specs.Table.{row_of}
 use Rattle.flat_core.specs.Tracking.{tracked_page}
 use Rattle.flat_core.specs.Tree.{entry_at, number_at, same_state, empty_below}
@@ -25,7 +23,7 @@ use Rattle.flat_core.specs.KeyRows.{reclaim_conditions}
 use Rattle.flat_core.specs.MemRows.{removed_states}
 use Rattle.flat_core.specs.Alike.{is_being_built}
 use Rattle.flat_core.specs.Lawful.{Lawful}
-use Rattle.flat_core.specs.Event.{State, Event, OfCall, next_event, after_event, event}
+use Rattle.flat_core.specs.Event.{State, next_event, event}
 use Rattle.flat_core.specs.Laws.{reached, IsUsedAsBefore, gives_back}
 use Rattle.flat_core.specs.PageUses.{is_act}
 use Rattle.flat_core.specs.Access.{entry_of, is_pending}
@@ -34,8 +32,6 @@ use Rattle.flat_core.proofs.Tests.{by_test, host_kind, tdr_kind, range_of}
 use Rattle.flat_core.proofs.Maps.{kind_named, node_named}
 use Rattle.flat_core.proofs.Ranges.{named_passed, named_alive, page_removed, sept_removed}
 use Rattle.flat_core.proofs.Keeps.{ended_of}
-use Rattle.flat_core.proofs.Enter.{passed}
-use Rattle.flat_core.proofs.Due.{Due, calls, frees, leaves, stops, fills, operates, walks, reaches, undoes, gives_back as returns, due_event_is}
 use Rattle.flat_core.proofs.OneUse.{one_use, events_keep_uses}
 use Rattle.flat_core.proofs.Accesses.{is_begun}
 use Rattle.flat_core.proofs.Always.{always_guarded, access_kept}
@@ -43,6 +39,7 @@ use Rattle.flat_laws.specs.Usable.{IsUnnamed, MovesUnnamed, PagesMoveUnnamed}
 use Rattle.flat_laws.specs.Unreached.{unreached_in, is_unreached}
 use Rattle.flat_laws.proofs.Usable.{current, alive, node, own, host-unnamed, guarded-names}
 use Rattle.flat_laws.proofs.Unreached.{closed-is-unreached, is-sound}
+use Rattle.flat_laws.proofs.GivenBack.{IsActOf, act-world, act-of, emptied}
 
 removed-unreached : (x : EntryState) (over : Bool) → list_any (λ a. same_state a x) removed_states ≡ true → over ≡ true → unreached_in x over ≡ true
 removed-unreached entry.Blocked over h k = k
@@ -79,9 +76,6 @@ module _ (o : Opening) (s : State) (me q : ℕ) (all : IsGuarded o s) where
   abbrev w : World
   w = s.world
 
-  abbrev lp : Lp
-  lp = s.lps me
-
   la : Lawful o.machine w
   la = all.timely.lawful
 
@@ -112,12 +106,6 @@ module _ (o : Opening) (s : State) (me q : ℕ) (all : IsGuarded o s) where
       (sym at.page.kind ∙ (ap w.pages.kinds (sym (is ∙ eqb-true q _ h)) ∙ (own o.machine s la all.access p c u).private.kind))
   given-unnamed _ ps h p c u is = cc
 
-  given-host : (c : Call) → gives_back c w q ≡ true → is_host_in ((row_of o me c).act w).pages q ≡ true
-  given-host (call.PhymemPageReclaim t page) h = rw h refl
-  given-host (call.MemPageRemove t gpa) h = rw h refl
-  given-host (call.MemSeptRemove t gpa level) h = rw h refl
-  given-host _ h = cc
-
   -- what a call takes of the host's
 
   module _ (host : is_host_in w.pages q ≡ true) where
@@ -144,44 +132,14 @@ module _ (o : Opening) (s : State) (me q : ℕ) (all : IsGuarded o s) where
         (λ n. absurd (never (w.pages.kinds q) (host_kind _ host) (rw n at e)))
     taken-waits _ ps e = absurd (never (w.pages.kinds q) (host_kind _ host) e)
 
-  -- the act of a call
-
-  record IsActOf (c : Call) : Type 0 where
-    pub is : next_event o s me ≡ Some (OfCall (row_of o me c) Succeeds)
-    pub passes : Passes ((row_of o me c).items w)
-
-  by_move : (c : Call) (move : Move Reply) → next_event o s me ≡ Some (OfCall (row_of o me c) move) → (move ≡ Succeeds → Passes ((row_of o me c).items w)) → is_act (Some (OfCall (row_of o me c) move)) ≡ true → IsActOf c
-  by_move c Succeeds is passes a = record { is = is; passes = passes refl }
-  by_move c (Attempts l m) is passes a = cc
-  by_move c (Undoes l) is passes a = cc
-  by_move c (Refuses r) is passes a = cc
-  by_move c (Releases x) is passes a = cc
-  by_move c Rests is passes a = cc
-
-  by_due : (e : Event) → next_event o s me ≡ Some e → Due o w me lp e → is_act (Some e) ≡ true → (c : Call) × IsActOf c
-  by_due e is (calls c cs line none) a = (c, by_move c (next_in ((row_of o me c).items w) lp.call.phase lp.call.held) is (passed ((row_of o me c).items w) lp.call.phase lp.call.held) a)
-  by_due e is (frees c cs g x hs line guest held epoch) a = cc
-  by_due e is (leaves c cs g out x l) a = cc
-  by_due e is (stops c cs g x l t d) a = cc
-  by_due e is (fills c cs g op x l t d m) a = cc
-  by_due e is (operates c cs g op row x way by) a = cc
-  by_due e is (walks c cs g op access r gpa x way by lost) a = cc
-  by_due e is (reaches c cs g op access r gpa page x way by found) a = cc
-  by_due e is (undoes c cs g l x st held) a = cc
-  by_due e is (returns c cs g out x st held) a = cc
-
-  act-of : (x : Option Event) → next_event o s me ≡ x → is_act x ≡ true → (c : Call) × IsActOf c
-  act-of None is a = cc
-  act-of (Some e) is a = by_due e is (due_event_is o s me e is) a
-
   next-guarded : IsGuarded o (event o s me)
   next-guarded = access_kept.event o o.bundles s me all
 
-  by_act : (c : Call) → IsActOf c → (IsUsedAsBefore w.pages (event o s me).world.pages q → ⊥) → MovesUnnamed s (event o s me) q
+  by_act : (c : Call) → IsActOf o s me c → (IsUsedAsBefore w.pages (event o s me).world.pages q → ⊥) → MovesUnnamed s (event o s me) q
   by_act c act moved =
-      let becomes : (event o s me).world ≡ (row_of o me c).act w = ap (λ (x : Option Event). (after_event me s x).world) act.is in
+      let becomes = act-world o s me c act in
       by_test (gives_back c w q)
-      (λ y. let host : is_host_in (event o s me).world.pages q ≡ true = ap (λ (z : World). is_host_in z.pages q) becomes ∙ given-host c y in
+      (λ y. let host : is_host_in (event o s me).world.pages q ≡ true = ap (λ (z : World). is_host_in z.pages q) becomes ∙ ap (λ (k : PageKind). same_kind k kind.Nda) (emptied o me q w c y).kind in
       record { host = inr host; before = given-unnamed c act.passes y; behind = host-unnamed (event o s me) (guarded-names o (event o s me) next-guarded) q host })
       (λ n. by_test (is_host_in w.pages q)
       (λ y. record {
@@ -193,7 +151,7 @@ module _ (o : Opening) (s : State) (me q : ℕ) (all : IsGuarded o s) where
 
   moves : (IsUsedAsBefore w.pages (event o s me).world.pages q → ⊥) → MovesUnnamed s (event o s me) q
   moves moved = by_test (is_act (next_event o s me))
-      (λ y. let x = act-of (next_event o s me) refl y in by_act x.0 x.1 moved)
+      (λ y. let x = act-of o s me (next_event o s me) refl y in by_act x.0 x.1 moved)
       (λ n. absurd (moved (events_keep_uses.acts_alone o s me q n)))
 
 pub pages-move-unnamed : PagesMoveUnnamed

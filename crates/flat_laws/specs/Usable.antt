@@ -1,5 +1,7 @@
 -- A page that moved to another owner isn't reached through an old translation (Base Architecture, "TLB Tracking Sequence").
-use Rattle.std.specs.Prelude.{◌≡◌, ◌⊎◌, ℕ, true, List, Option, Contains}
+use Rattle.std.specs.Prelude.{◌≡◌, ◌⊎◌, ℕ, true, false, List, Option, Contains}
+use Rattle.td_words.specs.declared.names.PageKind.TheVariants as kind
+use Rattle.flat_core.specs.World.{World}
 use Rattle.flat_core.specs.Processor.{Translation}
 use Rattle.flat_core.specs.Opening.{Opening}
 use Rattle.flat_core.specs.Conditions.{is_host_in}
@@ -45,3 +47,16 @@ abbrev pub PagesMoveUnnamed : Type 0
 PagesMoveUnnamed = (o : Opening) (words_to_tell : Option (List ℕ)) (schedule : List ℕ) (p page : ℕ)
     → let s = reached o words_to_tell schedule in
     (IsUsedAsBefore s.world.pages (event o s p).world.pages page → ⊥) → MovesUnnamed s (event o s p) page
+
+-- A page is the host's and nothing is left of a TD: it is PT_NDA, with owner 0, BEPOCH 0 and 512 words that are 0.
+pub record IsEmptied (w : World) (page : ℕ) : Type 0 where
+  pub kind : w.pages.kinds page ≡ kind.Nda
+  pub owner : w.pages.owners page ≡ 0
+  pub blocked : w.pages.blocked page ≡ 0
+  pub words : (i : ℕ) → w.words page i ≡ 0
+
+-- So is a page after the event that gives it back, whatever it was of its TD: nothing of the TD is left there for the host, or for
+-- the next TD (Base Architecture, "Physical Address Metadata Table"). It is so in any state.
+abbrev pub GivenBackAreEmptied : Type 0
+GivenBackAreEmptied = (o : Opening) (s : State) (p page : ℕ)
+    → is_host_in s.world.pages page ≡ false → is_host_in (event o s p).world.pages page ≡ true → IsEmptied (event o s p).world page

@@ -1,7 +1,7 @@
 //! Laws of pages and of guests' accesses, as contracts of functions that do nothing.
 
 ghost use Rattle.flat_laws.specs.Owners.{EveryPageHasItsOwner};
-ghost use Rattle.flat_laws.specs.Usable.{UsableNameTheirOwn, HostPagesAreUnnamed, OwnersAloneUse, PagesMoveUnnamed};
+ghost use Rattle.flat_laws.specs.Usable.{UsableNameTheirOwn, HostPagesAreUnnamed, OwnersAloneUse, PagesMoveUnnamed, GivenBackAreEmptied};
 ghost use Rattle.flat_laws.specs.Accesses.{AccessesAreOwn, AccessesKeepOthers, OthersAreNotReached};
 ghost use Rattle.flat_laws.specs.Unreached.{ClosedIsUnreached, ClosedIsUnchanged, UnreachedIsUnchanged, ClosedInGuarded, ClosedInRuns, ClosedIsNotAccessed};
 ghost use Rattle.flat_laws.specs.Worked.{RemovalExample};
@@ -28,20 +28,23 @@ pub fn access_law()
 /// the TD's map names at that GPA page: so none names a page of the host's, and none a page of
 /// another TD, however old it is, and however the page came there. And where an event moves a page,
 /// it moves it between the host and a TD, and neither before it nor after it does any translation
-/// that may be used name the page.
+/// that may be used name the page. Of any state, a page that an event gives back to the host is then
+/// PT_NDA, with owner 0, BEPOCH 0 and 512 words that are 0.
 pub fn move_law()
     ensures usable { UsableNameTheirOwn }
     ensures host { HostPagesAreUnnamed }
     ensures owners { OwnersAloneUse }
     ensures moves { PagesMoveUnnamed }
+    ensures emptied { GivenBackAreEmptied }
 {}
 
-/// No reach and no change, told from the world alone. Where the entry of a GPA page is FREE or
-/// pending, or is blocked and its block is tracked, no translation that may be used is of that GPA
-/// page, and none names the page of the entry; where it is blocked for writing and that is tracked,
-/// and the page isn't exempt, none that allows writing does. So it is of each processor of any
-/// lawful state in which no stale translation is used, hence in every guarded state, and in every
-/// run. So in every run no access of any guest reaches such a page, or no store does.
+/// No reach and no change, told from the world alone, of a TD that isn't in TD_TEARDOWN. Where the
+/// entry of a GPA page is FREE or pending, or is blocked and its block is tracked, no translation that
+/// may be used is of that GPA page, and none names the page of the entry; where it is blocked for
+/// writing and that is tracked, and the page isn't one that an export may have taken without a block,
+/// none that allows writing does. So it is of each processor of any lawful state in which no stale
+/// translation is used, hence in every guarded state, and in every run. So in every run no access of
+/// any guest reaches the page of such an entry that isn't FREE, or no store does.
 pub fn reach_law()
     ensures unreached { ClosedIsUnreached }
     ensures unchanged { ClosedIsUnchanged }
