@@ -1,14 +1,19 @@
 -- A run that answers something else stays under way.
-use Rattle.std.proofs.Common.{◌≡◌, ◌∙◌, true, false, List, [], ◌∷◌, refl, ap, sym, subst}
+use Rattle.std.proofs.Common.{◌≡◌, ◌∙◌, true, false, List, [], ◌∷◌, Option, refl, ap, sym, subst}
 use Rattle.td_words.specs.declared.machines.Machine.{Machine}
+use Rattle.td_words.specs.declared.calls.Call.{Call}
+use Rattle.td_words.specs.declared.calls.Call.TheVariants as call
+use Rattle.td_words.specs.declared.replies.Outcome.{Outcome}
 use Rattle.td_words.specs.declared.replies.Reply.{Reply}
+use Rattle.td_words.specs.declared.replies.Reply.TheVariants.{Done, Refused, Exited}
 use Rattle.leaf_engine.specs.declared.events.HeldLock.{HeldLock}
 use Rattle.leaf_engine.specs.declared.events.Stage.{Stage}
 use Rattle.leaf_engine.specs.declared.events.Stage.TheVariants as stages
 use Rattle.leaf_engine.specs.Turns.{Standing, has_ended, CanRun}
-use Rattle.leaf_dispatch.specs.Answers.{Ends, is_busy, FewTries, FitsStage, OldestIsOther}
+use Rattle.leaf_dispatch.specs.Answers.{Ends, call_fits, call_ends, is_busy, FewTries, FitsStage, OldestIsOther}
+use Rattle.leaf_dispatch.specs.Guests.{IsExit}
 use Rattle.leaf_dispatch.specs.Leaves.{leaf_seen}
-use Rattle.leaf_dispatch.specs.Running.{standing_of, answered_with, IsUnderWay, IsAnsweredBy}
+use Rattle.leaf_dispatch.specs.Running.{standing_of, answered_with, IsUnderWay, IsRunOf, IsRunAt, IsAnsweredBy}
 use Rattle.leaf_dispatch.specs.declared.leaves.AnyLeaf.{AnyLeaf}
 use Rattle.leaf_dispatch.specs.declared.running.Running.{Running}
 use Rattle.leaf_dispatch.proofs.Lowering.{by-fits}
@@ -40,3 +45,20 @@ still-answered m e r r' reply leaf stands u is fits =
       fits = subst (λ (z : Standing). FitsStage e z.stage) (sym stands) (by-fits (e.fits reply) (is_busy reply) fits);
       oldest = subst (λ (z : Standing). OldestIsOther z.held z) (sym stands) (still-oldest r.run.stage r.run.held.items (standing_of r) (answered_with reply (standing_of r)) is u.going u.oldest);
     }
+
+-- an exit's reply is one that any call may have
+exit-fits : (m : Machine) (c : Call) (out : Outcome) → call_fits m c (Exited out) ≡ true
+exit-fits m (call.VpEnter tdr vp most) out = refl
+exit-fits m (call.VpFlush tdr vp) out = refl
+exit-fits m (call.HostRead page word) out = refl
+exit-fits m _ out = refl
+
+pub exits-fit : (m : Machine) (c : Call) (r : Reply) → IsExit r → call_fits m c r ≡ true
+exits-fit m c (Exited out) is = exit-fits m c out
+exits-fit m c (Done v) is = absurd is
+exits-fit m c (Refused s) is = absurd is
+
+-- the run of the first line, where that of any call would still be under way
+pub still-at : (m : Machine) (lines : List Call) (run run' : Option Running) → ((c : Call) → IsRunOf m (call_ends m c) run → IsRunOf m (call_ends m c) run') → IsRunAt m lines run → IsRunAt m lines run'
+still-at m [] run run' h is = tt
+still-at m (c ∷ cs) run run' h is = h c is

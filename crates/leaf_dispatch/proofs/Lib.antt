@@ -13,3 +13,7 @@ pub mod Replying
 pub mod Rooming
 pub mod Exiting
 pub mod Summing
+pub mod LineEvents
+pub mod GuestEvents
+pub mod StateEvents
+pub mod Firsts

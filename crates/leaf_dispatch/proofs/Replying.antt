@@ -4,7 +4,8 @@ use Rattle.td_words.specs.declared.machines.Machine.{Machine}
 use Rattle.td_words.specs.declared.names.Access.{Access}
 use Rattle.td_words.specs.declared.replies.Value.TheVariants as value
 use Rattle.td_words.specs.declared.replies.Reply.{Reply}
-use Rattle.td_words.specs.declared.replies.Reply.TheVariants.{Done}
+use Rattle.td_words.specs.declared.replies.Outcome.{Outcome}
+use Rattle.td_words.specs.declared.replies.Reply.TheVariants.{Done, Exited}
 use Rattle.step_core.specs.declared.items.Taken.{Taken}
 use Rattle.leaf_engine.specs.declared.needs.Place.{Place}
 use Rattle.leaf_engine.specs.declared.events.Stage.{Stage}
@@ -13,7 +14,7 @@ use Rattle.leaf_engine.specs.Guests.{Step, Operates, Accesses, Loads, Leaves}
 use Rattle.leaf_engine.specs.OwnLists.{running}
 use Rattle.leaf_engine.specs.Turns.{Standing}
 use Rattle.leaf_dispatch.specs.Answers.{Ends, step_fits, step_tries, step_ends, FitsStage}
-use Rattle.leaf_dispatch.specs.Guests.{IsNumber, IsReplyOf}
+use Rattle.leaf_dispatch.specs.Guests.{IsNumber, IsExit, IsReplyOf}
 use Rattle.leaf_dispatch.specs.Running.{run_seen, LeafTurned}
 use Rattle.leaf_dispatch.specs.Table.{step_task}
 use Rattle.leaf_dispatch.specs.declared.running.Running.{Running}
@@ -30,6 +31,20 @@ module _ {B : Type 0} (did : List Taken → B → Type 0) (bench : B) (m : Machi
   number-of access gpa level page (Done (value.Number x)) h = tt
   number-of access gpa level page _ h = cc
 
+  exit-of : (out : Outcome) (r : Reply) → step_fits (Leaves out) r ≡ true → IsExit r
+  exit-of out (Exited x) h = tt
+  exit-of out _ h = cc
+
+  -- a run of a single event has that event's reply
+  at-once : (t n : ℕ) (s : Step) (run : Standing) (r : Reply) → LeafTurned did m (step_ends t n s) run bench kept result → step_tries s ≡ 0 → run.stage ≡ stages.Trying → result.reply ≡ Some r → step_fits s r ≡ true
+  at-once t n s run r turned none on is =
+      let gives = line-gives did bench m (step_ends t n s) run kept result turned in
+      let x = gives.once none on in
+      subst (λ (z : Reply). step_fits s z ≡ true) (some-same (sym x.2 ∙ (sym turned.turned.2.reply ∙ is))) (gives.act x.0 x.1).fits
+    where
+      some-same : {a b : Reply} → Some a ≡ Some b → a ≡ b
+      some-same e = cc
+
   pub reply-fits : (t n : ℕ) (s : Step) (run : Standing) → LeafTurned did m (step_ends t n s) run bench kept result → (step_tries s ≡ 0 → run.stage ≡ stages.Trying) → (reply : Option Reply) → result.reply ≡ reply → IfSome reply (λ r. IsReplyOf s r)
   reply-fits t n s run turned first None is = tt
   reply-fits t n (Operates o) run turned first (Some r) is =
@@ -37,15 +52,8 @@ module _ {B : Type 0} (did : List Taken → B → Type 0) (bench : B) (m : Machi
       let on = answered-by turned.stands.stage turned.stands.held r (sym turned.turned.2.reply ∙ is) in
       outcome-of o r (subst (λ (x : Stage). FitsStage (step_ends t n (Operates o)) x) on gives.fits)
   reply-fits t n (Accesses access r gpa page) run turned first (Some x) is = tt
-  reply-fits t n (Leaves out) run turned first (Some x) is = tt
-  reply-fits t n (Loads access gpa level page) run turned first (Some r) is =
-      let gives = line-gives did bench m (step_ends t n (Loads access gpa level page)) run kept result turned in
-      let x = gives.once refl (first refl) in
-      let same : x.0 ≡ r = some-same (sym x.2 ∙ (sym turned.turned.2.reply ∙ is)) in
-      subst IsNumber same (number-of access gpa level page x.0 (gives.act x.0 x.1).fits)
-    where
-      some-same : {a b : Reply} → Some a ≡ Some b → a ≡ b
-      some-same e = cc
+  reply-fits t n (Loads access gpa level page) run turned first (Some r) is = number-of access gpa level page r (at-once t n (Loads access gpa level page) run r turned refl (first refl) is)
+  reply-fits t n (Leaves out) run turned first (Some r) is = exit-of out r (at-once t n (Leaves out) run r turned refl (first refl) is)
 
 -- a run that hasn't begun is on its way
 pub first-trying : (p : Place) (t v n : ℕ) (s : Step) (kept : Option Running) → (step_tries s ≡ 0 → kept ≡ None) → step_tries s ≡ 0 → (running (step_task p t v n s) (run_seen kept)).stage ≡ stages.Trying

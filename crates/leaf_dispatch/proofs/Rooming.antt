@@ -55,7 +55,7 @@ made-few (Some s) = by-stage s.stage
 abbrev room_by : Option Outcome → ℕ → ℕ → ℕ
 room_by l n made = unless_leaving l (n - made)
 
-room-is : (longest : ℕ) (g : WordGuest) → g.leaving ≡ None → guest_room longest g ≡ least g.most longest - g.completed - run_made g.run
+pub room-is : (longest : ℕ) (g : WordGuest) → g.leaving ≡ None → guest_room longest g ≡ least g.most longest - g.completed - run_made g.run
 room-is longest g stays = ap (λ (l : Option Outcome). room_by l (least g.most longest - g.completed) (run_made g.run)) stays
 
 module _ (longest : ℕ) (g : WordGuest) (stays : g.leaving ≡ None) (more : g.completed < g.most) (short : g.completed < longest) where

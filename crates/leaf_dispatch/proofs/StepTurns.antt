@@ -40,10 +40,10 @@ pub record GuestMoved {B : Type 0} (did : List Taken → B → Type 0) (bench : 
   pub did_them : did (taken_in pieces) bench
   pub turn : GuestTurn (place_table p codes) p.machine c cs line g rs b result.event pieces q
 
-pub guest-moves : TurnsInPieces → {B : Type 0} (did : List Taken → B → Type 0) (bench : B) (p : Place) (codes : ℕ → ℕ → List GuestOp) (c : Call) (cs : List Call) (line : Standing) (g : WordGuest) (rs : List Reply) (b : Beside) (kept : Option Running) (q : WordLp) (result : LeafTurn)
+guest-moves-at : TurnsInPieces → {B : Type 0} (did : List Taken → B → Type 0) (bench : B) (p : Place) (codes : ℕ → ℕ → List GuestOp) (c : Call) (cs : List Call) (line : Standing) (g : WordGuest) (rs : List Reply) (b : Beside) (kept : Option Running) (q : WordLp) (result : LeafTurn)
     → let s = step_of codes b.cached g in let e = step_ends g.tdr (length rs + 1) s in (t : LeafTurned did p.machine e (running (step_task p g.tdr g.vp (length rs + 1) s) g.run) bench kept result)
     → q ≡ after_step c cs line g rs (beside_by e.answer result.act b) s t.stands result.reply → GuestMoved did bench p codes c cs line g rs b q result
-guest-moves law did bench p codes c cs line g rs b kept q result t after =
+guest-moves-at law did bench p codes c cs line g rs b kept q result t after =
     let s : Step = step_of codes b.cached g in
     let e : Ends = step_ends g.tdr (length rs + 1) s in
     let run : Standing = running (step_task p g.tdr g.vp (length rs + 1) s) g.run in
@@ -63,6 +63,17 @@ guest-moves law did bench p codes c cs line g rs b kept q result t after =
             ∙ ap (after_step c cs line g rs (beside_after result.event t.stands.rest b) s t.stands) t.turned.2.reply);
       };
     }
+
+-- whatever its step is
+pub guest-moves : TurnsInPieces → {B : Type 0} (did : List Taken → B → Type 0) (bench : B) (p : Place) (codes : ℕ → ℕ → List GuestOp) (c : Call) (cs : List Call) (line : Standing) (g : WordGuest) (rs : List Reply) (b : Beside) (kept : Option Running) (q : WordLp) (result : LeafTurn)
+    (s : Step) → step_of codes b.cached g ≡ s → let e = step_ends g.tdr (length rs + 1) s in (t : LeafTurned did p.machine e (running (step_task p g.tdr g.vp (length rs + 1) s) g.run) bench kept result)
+    → q ≡ after_step c cs line g rs (beside_by e.answer result.act b) s t.stands result.reply → GuestMoved did bench p codes c cs line g rs b q result
+guest-moves law did bench p codes c cs line g rs b kept q result s is =
+    subst
+    (λ (z : Step). let e = step_ends g.tdr (length rs + 1) z in (t : LeafTurned did p.machine e (running (step_task p g.tdr g.vp (length rs + 1) z) g.run) bench kept result) → q ≡ after_step c cs line g rs (beside_by e.answer result.act b) z t.stands result.reply
+    → GuestMoved did bench p codes c cs line g rs b q result)
+    is
+    (guest-moves-at law did bench p codes c cs line g rs b kept q result)
 
 -- an operation leaves what is cached
 pub cached-stays : (t line : ℕ) (o : GuestOp) (r : Reply) (ts : List Translation) → (step_answer t line (Operates o) r).cached ts ≡ ts

@@ -1,25 +1,22 @@
 -- A turn of the run of the present line is a turn of its processor.
-use Rattle.std.proofs.Common.{◌≡◌, ℕ, ◌+◌, ◌<◌, ◌≤◌, true, List, [], ◌∷◌, ◌++◌, length, Option, Some, None, refl, ap, sym, ◌∙◌, subst, arith}
+use Rattle.std.proofs.Common.{◌≡◌, ℕ, ◌+◌, ◌<◌, ◌≤◌, List, [], ◌∷◌, ◌++◌, length, Option, Some, None, refl, ap, sym, ◌∙◌, subst, arith}
 use Rattle.td_words.specs.declared.machines.Machine.{Machine}
 use Rattle.td_words.specs.declared.calls.Call.{Call}
-use Rattle.td_words.specs.declared.calls.Call.TheVariants as call
 use Rattle.td_words.specs.declared.calls.GuestOp.{GuestOp}
 use Rattle.td_words.specs.declared.replies.Reply.{Reply}
-use Rattle.td_words.specs.declared.replies.Reply.TheVariants.{Done, Refused, Exited}
-use Rattle.td_words.specs.declared.replies.Value.TheVariants as value
 use Rattle.flat_core.specs.Table.{most_tries, guest_events}
 use Rattle.flat_core.specs.Run.{events_in}
 use Rattle.step_core.specs.declared.items.Taken.{Taken}
 use Rattle.leaf_engine.specs.declared.needs.Place.{Place}
 use Rattle.leaf_engine.specs.declared.events.Event.{Event}
-use Rattle.leaf_engine.specs.Besides.{Beside, answered_by, beside_after, nothing_beside}
-use Rattle.leaf_engine.specs.Guests.{WordGuest, guest_after, guest_entered, or_else}
+use Rattle.leaf_engine.specs.Besides.{Beside, beside_after}
+use Rattle.leaf_engine.specs.Guests.{WordGuest, guest_after}
 use Rattle.leaf_engine.specs.Turns.{Standing}
 use Rattle.leaf_engine.specs.OwnLists.{Piece, taken_in, TurnsInPieces, WordLp, running, after_turn, LineTurn, LpTurns}
-use Rattle.leaf_dispatch.specs.Answers.{Ends, call_answer, call_ends, enters_none, beside_by, guest_by}
+use Rattle.leaf_dispatch.specs.Answers.{Ends, call_answer, call_ends, beside_by, guest_by}
 use Rattle.leaf_dispatch.specs.Bounds.{stage_left, run_left, events_left}
 use Rattle.leaf_dispatch.specs.Table.{task_of, place_table}
-use Rattle.leaf_dispatch.specs.Running.{run_seen, kept_after, turn_of, LeafTurned}
+use Rattle.leaf_dispatch.specs.Running.{turn_of, LeafTurned}
 use Rattle.leaf_dispatch.specs.declared.running.Running.{Running}
 use Rattle.leaf_dispatch.specs.declared.running.LeafTurn.{LeafTurn}
 use Rattle.leaf_dispatch.proofs.Lowering.{Gives, turn-gives}
@@ -63,11 +60,11 @@ line-moves law did bench p c cs run g rs b kept q result t after =
 
 -- the bound before a turn, and after it
 
-bound-before : (p : Place) (c : Call) (run : Option Standing) → run_left c run ≡ stage_left (most_tries c) (guest_events c) (running (task_of p c) run).stage (length (running (task_of p c) run).held)
+pub bound-before : (p : Place) (c : Call) (run : Option Standing) → run_left c run ≡ stage_left (most_tries c) (guest_events c) (running (task_of p c) run).stage (length (running (task_of p c) run).held)
 bound-before p c None = refl
 bound-before p c (Some s) = refl
 
-none-begun : (codes : ℕ → ℕ → List GuestOp) (cs : List Call) (rs : List Reply) (b : Beside) → events_left codes (record { lines = cs; run = None; guest = None; replies = rs; beside = b }) ≤ events_in cs
+pub none-begun : (codes : ℕ → ℕ → List GuestOp) (cs : List Call) (rs : List Reply) (b : Beside) → events_left codes (record { lines = cs; run = None; guest = None; replies = rs; beside = b }) ≤ events_in cs
 none-begun codes [] rs b = omega arith
 none-begun codes (c ∷ cs) rs b = omega arith
 
@@ -77,72 +74,7 @@ pub record Moved {B : Type 0} (codes : ℕ → ℕ → List GuestOp) (did : List
   pub turn : LpTurns (place_table place codes) place.machine p event pieces q
   pub fewer : events_left codes q < events_left codes p
 
--- outside guests, where no line enters one
-
--- The answer of a call that enters no guest leaves a processor without translations as it is: VP.FLUSH finds none to drop.
-quiet-answer : (c : Call) (cs : List Call) → enters_none (c ∷ cs) ≡ true → (r : Reply) → (answered_by (call_answer c r) nothing_beside ≡ nothing_beside) × (guest_entered (call_answer c r) ≡ None)
-quiet-answer (call.VpEnter tdr vp most) cs h r = cc
-quiet-answer (call.VpFlush tdr vp) cs h (Done value.Nothing) = (refl, refl)
-quiet-answer (call.VpFlush tdr vp) cs h (Done _) = (refl, refl)
-quiet-answer (call.VpFlush tdr vp) cs h (Refused s) = (refl, refl)
-quiet-answer (call.VpFlush tdr vp) cs h (Exited out) = (refl, refl)
-quiet-answer (call.HostRead page word) cs h r = (refl, refl)
-quiet-answer _ cs h r = (refl, refl)
-
-nothing-besides : (c : Call) (cs : List Call) → enters_none (c ∷ cs) ≡ true → (act : Option Reply) → beside_by (call_answer c) act nothing_beside ≡ nothing_beside
-nothing-besides c cs h None = refl
-nothing-besides c cs h (Some r) = (quiet-answer c cs h r).0
-
-no-guest : (c : Call) (cs : List Call) → enters_none (c ∷ cs) ≡ true → (act : Option Reply) → guest_by (call_answer c) act None ≡ None
-no-guest c cs h None = refl
-no-guest c cs h (Some r) = ap (λ (z : Option WordGuest). or_else z None) (quiet-answer c cs h r).1
-
-after-plain : (c : Call) (cs : List Call) → enters_none (c ∷ cs) ≡ true → (rs : List Reply) (s : Standing) (t : LeafTurn) → after_line c cs None rs nothing_beside s t ≡ after_turn c cs None rs nothing_beside s t.reply
-after-plain c cs h rs s t =
-    ap (λ (z : Option WordGuest). after_turn c cs z rs (beside_by (call_answer c) t.act nothing_beside) s t.reply) (no-guest c cs h t.act)
-    ∙ ap (λ (z : Beside). after_turn c cs None rs z s t.reply) (nothing-besides c cs h t.act)
-
-bound-after : (codes : ℕ → ℕ → List GuestOp) (c : Call) (cs : List Call) (rs : List Reply) (b : Beside) (s : Standing) (reply : Option Reply) (x : ℕ) → stage_left (most_tries c) (guest_events c) s.stage (length s.held) < x
+pub bound-after : (codes : ℕ → ℕ → List GuestOp) (c : Call) (cs : List Call) (rs : List Reply) (b : Beside) (s : Standing) (reply : Option Reply) (x : ℕ) → stage_left (most_tries c) (guest_events c) s.stage (length s.held) < x
     → events_left codes (after_turn c cs None rs b s reply) < x + events_in cs
 bound-after codes c cs rs b s None x l = omega arith
 bound-after codes c cs rs b s (Some r) x l = let few = none-begun codes cs (rs ++ r ∷ []) b in omega (arith, few, l)
-
-plain-moves : TurnsInPieces → {B : Type 0} (codes : ℕ → ℕ → List GuestOp) (did : List Taken → B → Type 0) (bench : B) (p : Place) (c : Call) (cs : List Call) (run : Option Standing) (rs : List Reply) (kept : Option Running) (q : WordLp) (result : LeafTurn)
-    → enters_none (c ∷ cs) ≡ true → (t : LeafTurned did p.machine (call_ends p.machine c) (running (task_of p c) run) bench kept result) → q ≡ after_turn c cs None rs nothing_beside t.stands result.reply
-    → Moved codes did bench p (record { lines = c ∷ cs; run = run; guest = None; replies = rs; beside = nothing_beside }) q result.event
-plain-moves law codes did bench p c cs run rs kept q result h t after =
-    let s = running (task_of p c) run in
-    let moved = line-moves law did bench p c cs run None rs nothing_beside kept q result t (after ∙ sym (after-plain c cs h rs t.stands result)) in
-    let gives : Gives (call_ends p.machine c) s t.stands result.event = line-gives did bench p.machine (call_ends p.machine c) s kept result t in
-    let left : events_left codes q ≡ events_left codes (after_turn c cs None rs nothing_beside t.stands result.reply) = ap (events_left codes) after in
-    record {
-      pieces = moved.pieces;
-      did_them = moved.did_them;
-      turn = moved.turn;
-      fewer = rw (left, bound-before p c run) (bound-after codes c cs rs nothing_beside t.stands result.reply (stage_left (most_tries c) (guest_events c) s.stage (length s.held)) (gives.lower (guest_events c)));
-    }
-
-lp-moves : TurnsInPieces → {B : Type 0} (codes : ℕ → ℕ → List GuestOp) (did : List Taken → B → Type 0) (bench : B) (p : Place) (c : Call) (cs lines : List Call) (run : Option Standing) (rs : List Reply) (q : WordLp) (kept : Option Running) (result : LeafTurn)
-    → enters_none lines ≡ true → lines ≡ c ∷ cs → (t : LeafTurned did p.machine (call_ends p.machine c) (running (task_of p c) run) bench kept result) → q ≡ after_turn c cs None rs nothing_beside t.stands result.reply
-    → Moved codes did bench p (record { lines = lines; run = run; guest = None; replies = rs; beside = nothing_beside }) q result.event
-lp-moves law codes did bench p c cs lines run rs q kept result h is t after =
-    subst (λ (z : List Call). Moved codes did bench p (record { lines = z; run = run; guest = None; replies = rs; beside = nothing_beside }) q result.event) (sym is)
-    (plain-moves law codes did bench p c cs run rs kept q result (subst (λ (z : List Call). enters_none z ≡ true) is h) t after)
-
--- a call that goes on, and one that has its reply
-
-pub lp-goes-on : TurnsInPieces → {B : Type 0} (codes : ℕ → ℕ → List GuestOp) (did : List Taken → B → Type 0) (bench : B) (p : Place) (c : Call) (cs lines : List Call) (run : Option Standing) (rs : List Reply) (kept : Option Running) (result : LeafTurn)
-    → enters_none lines ≡ true → lines ≡ c ∷ cs → LeafTurned did p.machine (call_ends p.machine c) (running (task_of p c) run) bench kept result → result.reply ≡ None
-    → Moved codes did bench p (record { lines = lines; run = run; guest = None; replies = rs; beside = nothing_beside }) (record { lines = lines; run = run_seen kept; guest = None; replies = rs; beside = nothing_beside }) result.event
-lp-goes-on law codes did bench p c cs lines run rs kept result h is t none =
-    lp-moves law codes did bench p c cs lines run rs _ kept result h is t
-    (ap (λ (z : List Call). record { lines = z; run = run_seen kept; guest = None; replies = rs; beside = nothing_beside }) is
-    ∙ (ap (λ (z : Option Standing). record { lines = c ∷ cs; run = z; guest = None; replies = rs; beside = nothing_beside }) (t.seen ∙ ap (λ (z : Option Reply). kept_after z t.stands) none) ∙ sym (ap (after_turn c cs None rs nothing_beside t.stands) none)))
-
-pub lp-has-reply : TurnsInPieces → {B : Type 0} (codes : ℕ → ℕ → List GuestOp) (did : List Taken → B → Type 0) (bench : B) (p : Place) (c : Call) (cs lines : List Call) (run : Option Standing) (rs : List Reply) (kept : Option Running) (result : LeafTurn) (reply : Reply) (replies : List Reply)
-    → enters_none lines ≡ true → lines ≡ c ∷ cs → LeafTurned did p.machine (call_ends p.machine c) (running (task_of p c) run) bench kept result → result.reply ≡ Some reply → replies ≡ rs ++ reply ∷ []
-    → Moved codes did bench p (record { lines = lines; run = run; guest = None; replies = rs; beside = nothing_beside }) (record { lines = cs; run = run_seen kept; guest = None; replies = replies; beside = nothing_beside }) result.event
-lp-has-reply law codes did bench p c cs lines run rs kept result reply replies h is t some more =
-    lp-moves law codes did bench p c cs lines run rs _ kept result h is t
-    (ap (λ (z : Option Standing). record { lines = cs; run = z; guest = None; replies = replies; beside = nothing_beside }) (t.seen ∙ ap (λ (z : Option Reply). kept_after z t.stands) some)
-    ∙ (ap (λ (z : List Reply). record { lines = cs; run = None; guest = None; replies = z; beside = nothing_beside }) more ∙ sym (ap (after_turn c cs None rs nothing_beside t.stands) some)))

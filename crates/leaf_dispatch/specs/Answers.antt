@@ -24,7 +24,7 @@ use Rattle.leaf_engine.specs.declared.events.Stage.TheVariants as stage
 use Rattle.leaf_engine.specs.Trees.{Answer, only, Tree, Lock, Load, Test, End, Since}
 use Rattle.leaf_engine.specs.Besides.{Beside, answered_by}
 use Rattle.leaf_engine.specs.Turns.{Standing}
-use Rattle.leaf_engine.specs.Guests.{WordGuest, Step, Operates, Accesses, Loads, is_epoch_name, guest_entered, or_else}
+use Rattle.leaf_engine.specs.Guests.{WordGuest, Step, Operates, Accesses, Loads, Leaves, is_epoch_name, guest_entered, or_else}
 use Rattle.access_core.specs.OperationTrees.{with_notes}
 use Rattle.access_core.specs.WalkTrees.{goes_on_by, page_by, walked}
 use Rattle.vcpu_control.specs.FlushTrees.{flush_answer}
@@ -57,12 +57,6 @@ call_fits m _ r = true
 abbrev pub call_ends : Machine → Call → Ends
 call_ends m c = record { tries = most_tries c; answer = call_answer c; fits = call_fits m c }
 
--- calls of which none enters a guest
-abbrev pub enters_none : List Call → Bool
-enters_none [] = true
-enters_none (call.VpEnter tdr vp most ∷ cs) = false
-enters_none (c ∷ cs) = enters_none cs
-
 -- Steps of a guest: a load is noted, and so is an RTMR's extension; a shared store and VMCALL tell a word; the load of an entry
 -- may let a translation be cached.
 abbrev pub step_answer : (tdr line : ℕ) → Step → Reply → Answer
@@ -74,7 +68,7 @@ step_answer t line (Accesses Read r gpa page) (Done (value.Number x)) = with_not
 step_answer t line (Loads access gpa level page) (Done (value.Number seen)) = walked t access gpa level seen
 step_answer t line s r = only r
 
--- a step isn't refused, but for a lock; and what is cached names a page
+-- a step isn't refused, but for a lock; what is cached names a page; and where the guest is left that is an exit
 abbrev pub is_page_seen : Bool → ℕ → Bool
 is_page_seen goes seen = if goes then nat_lt (page_by seen) 65536 else true
 
@@ -83,6 +77,8 @@ step_fits (Operates o) (Refused s) = false
 step_fits (Operates o) r = true
 step_fits (Loads access gpa level page) (Done (value.Number seen)) = is_page_seen (goes_on_by access level seen) seen
 step_fits (Loads access gpa level page) r = false
+step_fits (Leaves out) (Exited x) = true
+step_fits (Leaves out) r = false
 step_fits _ r = true
 
 abbrev pub step_tries : Step → ℕ

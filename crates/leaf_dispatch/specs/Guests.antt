@@ -2,7 +2,7 @@
 use Rattle.std.specs.Prelude.{◌≡◌, ℕ, ◌<◌, ◌≤◌, Bool, true, Option, Some, None, option_map, List, [], ◌∷◌, slice_get, length}
 use Rattle.td_words.specs.declared.replies.Outcome.{Outcome}
 use Rattle.td_words.specs.declared.replies.Reply.{Reply}
-use Rattle.td_words.specs.declared.replies.Reply.TheVariants.{Done, Refused}
+use Rattle.td_words.specs.declared.replies.Reply.TheVariants.{Done, Refused, Exited}
 use Rattle.td_words.specs.declared.replies.Value.TheVariants as value
 use Rattle.flat_core.specs.Processor.{Translation, Walk, Note, LoadNote, RtmrNote}
 use Rattle.flat_core.specs.Digests.{digest_word, six_words}
@@ -71,10 +71,16 @@ abbrev pub IsNumber : Reply → Type 0
 IsNumber (Done (value.Number seen)) = Unit {0}
 IsNumber _ = ⊥
 
+-- what the step answers by which a guest is left
+abbrev pub IsExit : Reply → Type 0
+IsExit (Exited out) = Unit {0}
+IsExit _ = ⊥
+
 -- the reply that a step may have
 abbrev pub IsReplyOf : Step → Reply → Type 0
 IsReplyOf (Operates o) r = is_outcome r ≡ true
 IsReplyOf (Loads access gpa level page) r = IsNumber r
+IsReplyOf (Leaves out) r = IsExit r
 IsReplyOf _ r = Unit {0}
 
 -- what became of it

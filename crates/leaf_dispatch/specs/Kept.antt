@@ -10,7 +10,7 @@ use Rattle.leaf_engine.specs.Trees.{Tree, Lock, Load, Test, End, Since}
 use Rattle.word_rules.specs.Views.{look}
 use Rattle.leaf_engine.specs.Turns.{Standing, AreIn, IsStageIn}
 use Rattle.leaf_dispatch.specs.Answers.{Ends, EndsAs, FitsStage, BeginsUnderOther, OldestIsOther, call_ends}
-use Rattle.leaf_dispatch.specs.Running.{IsUnderWay, IsRunAt}
+use Rattle.leaf_dispatch.specs.Running.{IsUnderWay, IsRunOf, IsRunAt, IsAnsweredBy, IsAnswered}
 use Rattle.leaf_dispatch.specs.declared.running.Running.{Running}
 
 AreIn-prop : (m : Machine) (hs : List HeldLock) → IsProp (AreIn m hs)
@@ -48,7 +48,19 @@ OldestIsOther-prop (h ∷ hs) s = hlevel props
 pub IsUnderWay-prop : (m : Machine) (e : Ends) (r : Running) → IsProp (IsUnderWay m e r)
 IsUnderWay-prop m e r = hlevel (props, AreIn-prop, IsStageIn-prop, EndsAs-prop, FitsStage-prop, OldestIsOther-prop)
 
+pub IsRunOf-prop : (m : Machine) (e : Ends) (run : Option Running) → IsProp (IsRunOf m e run)
+IsRunOf-prop m e None = hlevel
+IsRunOf-prop m e (Some r) = IsUnderWay-prop m e r
+
+IsAnsweredBy-prop : (s : Stage) → IsProp (IsAnsweredBy s)
+IsAnsweredBy-prop stage.Trying = hlevel
+IsAnsweredBy-prop (stage.Undoing name at) = hlevel
+IsAnsweredBy-prop (stage.Answered reply) = hlevel
+
+pub IsAnswered-prop : (run : Option Running) → IsProp (IsAnswered run)
+IsAnswered-prop None = hlevel
+IsAnswered-prop (Some r) = IsAnsweredBy-prop r.run.stage
+
 pub IsRunAt-prop : (m : Machine) (cs : List Call) (run : Option Running) → IsProp (IsRunAt m cs run)
 IsRunAt-prop m [] run = hlevel
-IsRunAt-prop m (c ∷ cs) None = hlevel
-IsRunAt-prop m (c ∷ cs) (Some r) = IsUnderWay-prop m (call_ends m c) r
+IsRunAt-prop m (c ∷ cs) run = IsRunOf-prop m (call_ends m c) run

@@ -6,7 +6,9 @@ pub mod Bounds
 pub mod Running
 pub mod Kept
 pub mod Guests
+pub mod Inside
 pub mod States
 pub mod Laws
 pub mod Follows
 pub mod NoteRooms
+pub mod FirstLists

@@ -1,6 +1,7 @@
 -- How many notes, and how many told words, a processor's guests can still make at most, where no list of operations is longer
 -- than this: one for each operation that may still be made.
-use Rattle.std.specs.Prelude.{ℕ, ◌+◌, ◌-◌, List, [], ◌∷◌, Option, Some, None}
+use Rattle.std.specs.Prelude.{ℕ, ◌+◌, ◌-◌, nat_lt, if◌then◌else◌, List, [], ◌∷◌, length, Option, Some, None}
+use Rattle.td_words.specs.Seen.{CodeSeen}
 use Rattle.td_words.specs.declared.calls.Call.{Call}
 use Rattle.td_words.specs.declared.calls.Call.TheVariants as call
 use Rattle.leaf_engine.specs.declared.events.Stage.{Stage}
@@ -9,6 +10,11 @@ use Rattle.leaf_engine.specs.Turns.{Standing}
 use Rattle.leaf_engine.specs.Guests.{WordGuest}
 use Rattle.leaf_engine.specs.OwnLists.{WordLp}
 use Rattle.leaf_dispatch.specs.Bounds.{unless_leaving}
+
+-- how many operations the longest of a script's lists has
+abbrev pub longest_in : List CodeSeen → ℕ
+longest_in [] = 0
+longest_in (c ∷ cs) = if nat_lt (length c.ops) (longest_in cs) then longest_in cs else length c.ops
 
 -- the less of two numbers
 abbrev pub least : ℕ → ℕ → ℕ

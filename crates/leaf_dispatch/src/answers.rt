@@ -5,8 +5,10 @@ ghost use Rattle.std.specs.Prelude.{◌≡◌, ℕ, ◌<◌, true, None, IfSome,
 ghost use Rattle.leaf_engine.specs.Guests.{guest_entered};
 ghost use Rattle.leaf_dispatch.specs.Answers.{call_answer, call_fits, step_answer, step_fits};
 ghost use Rattle.leaf_dispatch.specs.Guests.{step_seen, guest_seen, notes_in, words_in, IsLow};
+ghost use Rattle.leaf_dispatch.specs.FirstLists.{AreFirstLists};
 ghost use Rattle.leaf_dispatch.specs.Table.{code_in};
 
+use crate::first_lists::FirstLists;
 use crate::guests::{GuestAt, Step, is_right};
 use report_text::GuestNote;
 use td_words::{Access, Call, Code, GuestOp, Machine, Outcome, Reply, Value};
@@ -34,10 +36,12 @@ pub fn drop_stale(machine: Machine, cached: &mut Tlb, call: &Call, reply: Reply)
 pub fn entered<'a>(
     machine: Machine,
     codes: &'a [Code],
+    first_lists: &FirstLists,
     call: &Call,
     reply: Reply,
 ) -> Option<GuestAt<'a>>
-    requires { call_fits machine call.now reply ≡ true }
+    requires fits { call_fits machine call.now reply ≡ true }
+    requires first_lists { AreFirstLists codes.now first_lists.now }
     ensures seen { option_map (λ g. guest_seen g None) result ≡ guest_entered (call_answer call.now reply) }
     ensures inside { IfSome result (λ g. (g.tdr < machine.pages) × (g.vp < machine.pages) × (code_in codes.now g.tdr g.index ≡ g.list.now) × IsLow g.walk) }
 {
@@ -63,27 +67,11 @@ pub fn entered<'a>(
         most: max,
         completed: 0,
         index,
-        list: list_of(codes, tdr as u16, index),
+        list: first_lists.list_at(codes, tdr as u16, index),
         position,
         walk: None,
         leaving: None,
     })
-}
-
-// The first list of that virtual processor; an empty one where it has none.
-fn list_of<'a>(codes: &'a [Code], tdr: u16, index: u64) -> &'a [GuestOp]
-    ensures { result.now ≡ code_in codes.now tdr index }
-{
-    match codes {
-        [] => &[],
-        [code, further @ ..] => {
-            if code.tdr == tdr && u64::from(code.index) == index {
-                code.ops.as_slice()
-            } else {
-                list_of(further, tdr, index)
-            }
-        }
-    }
 }
 
 /// The load of an entry of level 0 that allows the access lets its translation be cached.

@@ -92,7 +92,7 @@ fn turn_run<B: Bench>(kept: &mut Option<Running>, bench: &mut B) -> LeafTurn
     let turn = turn_kept(kept, bench);
     let act = act_in(kept, turn.event);
     if let Some(_) = turn.reply {
-        leave(kept);
+        forget(kept);
     }
     LeafTurn {
         event: turn.event,
@@ -105,6 +105,7 @@ fn turn_run<B: Bench>(kept: &mut Option<Running>, bench: &mut B) -> LeafTurn
 pub fn answer_kept(kept: &mut Option<Running>, reply: Reply)
     ensures seen { run_seen kept.new ≡ option_map (answered_with reply) (run_seen kept.old) }
     ensures under_way { (m : Machine) (e : Ends) → IsRunOf m e kept.old → IsAnswered kept.old → e.fits reply ≡ true → IsRunOf m e kept.new }
+    ensures answered { IsAnswered kept.new }
 {
     match kept {
         Some(Running { run }) => run.answer(reply),
@@ -139,20 +140,21 @@ fn begin_where_none(kept: &mut Option<Running>, place: Place, call: &Call)
 {
     match kept {
         Some(_) => (),
-        None => enter(kept, place, call),
+        None => begin_kept(kept, place, call),
     }
 }
 
 #[inline(never)]
-fn enter(kept: &mut Option<Running>, place: Place, call: &Call)
+fn begin_kept(kept: &mut Option<Running>, place: Place, call: &Call)
     requires machine { IsMachine place.machine }
     ensures { IsKept place.machine (call_ends place.machine call.now) (running (task_of place call.now) None) kept.new }
 {
     *kept = Some(begin(place, call));
 }
 
+/// Keeps no run any more.
 #[inline(never)]
-fn leave(kept: &mut Option<Running>)
+pub fn forget(kept: &mut Option<Running>)
     ensures { kept.new ≡ None }
 {
     *kept = None;
@@ -198,12 +200,19 @@ fn begin_step_where_none(
 {
     match kept {
         Some(_) => (),
-        None => enter_step(kept, place, tdr, vp, line, step),
+        None => begin_kept_step(kept, place, tdr, vp, line, step),
     }
 }
 
 #[inline(never)]
-fn enter_step(kept: &mut Option<Running>, place: Place, tdr: u16, vp: u16, line: usize, step: Step)
+fn begin_kept_step(
+    kept: &mut Option<Running>,
+    place: Place,
+    tdr: u16,
+    vp: u16,
+    line: usize,
+    step: Step,
+)
     requires machine { IsMachine place.machine }
     requires inside { (tdr < place.machine.pages) × (vp < place.machine.pages) }
     requires limits { IsStepOf (step_seen step) }

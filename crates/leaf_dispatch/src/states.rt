@@ -1,63 +1,103 @@
-//! Logical processors with their calls.
+//! Logical processors with their calls and their guests.
 
-ghost use Rattle.std.specs.Prelude.{◌≡◌, ◌+◌, ◌≤◌, true, length, vec_capacity};
+ghost use Rattle.std.specs.Prelude.{◌≡◌, ◌+◌, ◌<◌, ◌≤◌, ◌^◌, length, vec_capacity};
 ghost use Rattle.td_words.specs.Limits.{IsMachine};
-ghost use Rattle.leaf_dispatch.specs.Answers.{enters_none};
-ghost use Rattle.leaf_dispatch.specs.Running.{IsRunAt};
+ghost use Rattle.leaf_dispatch.specs.Running.{run_seen, IsRunAt};
 ghost use Rattle.leaf_dispatch.specs.Kept.{IsRunAt-prop};
+ghost use Rattle.leaf_dispatch.specs.Inside.{guest_in, AreOperations, AreOperations-prop, KeepsGuest, KeepsGuest-prop};
+ghost use Rattle.leaf_dispatch.specs.NoteRooms.{longest_in, room_of};
+ghost use Rattle.leaf_dispatch.specs.FirstLists.{AreFirstLists, AreFirstLists-prop};
 
-use crate::running::{LeafTurn, Running, turn_call};
-use leaf_engine::{Place, Processor, Turn, turns_in_pieces};
+use crate::first_lists::FirstLists;
+use crate::guests::GuestAt;
+use crate::rooms::{add_note, add_word, lines_room, longest};
+use crate::running::{Running, forget};
+use crate::turns::{GuestTurn, LineTurn, acting, answer_exit, entered_or, turn_guest, turn_line};
+use leaf_engine::{Event, Place, Processor, Turn, turns_in_pieces};
+use report_text::GuestNote;
 use std::alloc::Global;
 use step_core::Bench;
 use td_words::{Call, Code, Machine, OutOfMemory, Reply};
+use tlb_epochs::Tlb;
 
-/// A logical processor: its calls from the present one on, the run of that call once its first event
-/// is made, and its replies, one for each call that is done.
+/// A logical processor: its calls from the present one on, and the run of that call once its first
+/// event is made; the guest that it is in, and the run of what the guest does; its cached translations;
+/// its replies, one for each call that is done, and what its guests noted and told.
 #[derive(Drop)]
 pub struct LpState<'a> {
     place: Place,
     lines: &'a [Call],
     codes: &'a [Code],
+    first_lists: &'a FirstLists,
     run: Option<Running>,
+    guest: Option<GuestAt<'a>>,
+    step_run: Option<Running>,
+    cached: Tlb,
     replies: Vec<Reply>,
+    notes: Vec<GuestNote>,
+    told: Vec<u64>,
     ghost machine: { IsMachine place.machine },
-    ghost outside: { enters_none lines.now ≡ true },
+    ghost limits: { AreOperations codes.now } by { AreOperations-prop codes.now },
+    ghost lists_are: { AreFirstLists codes.now first_lists.now } by { AreFirstLists-prop codes.now first_lists.now },
+    ghost few: { length replies.items + length lines.now < 2 ^ 32 },
     ghost under_way: { IsRunAt place.machine lines.now run } by { IsRunAt-prop place.machine lines.now run },
+    ghost inside: { KeepsGuest place.machine codes.now cached (length replies.items + 1) guest run step_run } by { KeepsGuest-prop place.machine codes.now cached (length replies.items + 1) guest run step_run },
     ghost room: { length replies.items + length lines.now ≤ vec_capacity replies },
+    ghost note_room: { length notes.items + room_of (longest_in codes.now) lines.now (run_seen run) (guest_in guest step_run) ≤ vec_capacity notes },
+    ghost word_room: { length told.items + room_of (longest_in codes.now) lines.now (run_seen run) (guest_in guest step_run) ≤ vec_capacity told },
 }
 
 impl<'a> LpState<'a> {
-    ghost use Rattle.std.specs.Prelude.{◌≡◌, true, IfOk};
+    ghost use Rattle.std.specs.Prelude.{◌≡◌, ◌<◌, ◌^◌, ◌∷◌, None, Some, length, map, IfOk};
     ghost use Rattle.td_words.specs.Limits.{IsMachine};
     ghost use Rattle.leaf_engine.specs.OwnLists.{first_lp};
-    ghost use Rattle.leaf_dispatch.specs.Answers.{enters_none};
-    ghost use Rattle.leaf_dispatch.specs.States.{seen_of};
+    ghost use Rattle.leaf_dispatch.specs.Guests.{note_seen};
+    ghost use Rattle.leaf_dispatch.specs.Inside.{AreOperations, acting};
+    ghost use Rattle.leaf_dispatch.specs.FirstLists.{AreFirstLists};
+    ghost use Rattle.leaf_dispatch.specs.States.{seen_of, HasMoved};
 
-    /// At the first of its calls, of which none enters a guest, with the lists of operations. All the memory that its replies need is taken
-    /// here.
+    /// At the first of its calls, with the lists of operations and where they stand. All the memory
+    /// that its replies need, and what its guests can note and tell, is taken here.
     pub fn new(
         alloc: Global,
         machine: Machine,
         lp: u8,
         codes: &'a [Code],
+        first_lists: &'a FirstLists,
         calls: &'a [Call],
     ) -> Result<LpState<'a>, OutOfMemory>
         requires machine { IsMachine machine }
-        requires outside { enters_none calls.now ≡ true }
+        requires limits { AreOperations codes.now }
+        requires first_lists { AreFirstLists codes.now first_lists.now }
+        requires few { length calls.now < 2 ^ 32 }
         ensures place { IfOk result (λ s. s.place ≡ record { machine = machine; lp = lp }) }
         ensures codes { IfOk result (λ s. s.codes.now ≡ codes.now) }
         ensures first { IfOk result (λ s. seen_of s ≡ first_lp calls.now) }
     {
+        let Some(room) = lines_room(longest(codes), calls) else {
+            return Err(OutOfMemory);
+        };
         let Ok(replies) = Vec::with_capacity(alloc, calls.len()) else {
+            return Err(OutOfMemory);
+        };
+        let Ok(notes) = Vec::with_capacity(alloc, room) else {
+            return Err(OutOfMemory);
+        };
+        let Ok(told) = Vec::with_capacity(alloc, room) else {
             return Err(OutOfMemory);
         };
         Ok(LpState {
             place: Place { machine, lp },
             lines: calls,
             codes,
+            first_lists,
             run: None,
+            guest: None,
+            step_run: None,
+            cached: Tlb::new(),
             replies,
+            notes,
+            told,
         })
     }
 
@@ -66,6 +106,83 @@ impl<'a> LpState<'a> {
         ensures { result.now ≡ (seen_of self.now).replies }
     {
         self.replies.as_slice()
+    }
+
+    /// What its guests read and extended, in order.
+    pub fn notes(&self) -> &[GuestNote]
+        ensures { map note_seen result.now ≡ (seen_of self.now).beside.notes }
+    {
+        self.notes.as_slice()
+    }
+
+    /// The words that its guests told, in order.
+    pub fn told(&self) -> &[u64]
+        ensures { result.now ≡ (seen_of self.now).beside.told }
+    {
+        self.told.as_slice()
+    }
+
+    // The next event of the present line's own leaf.
+    fn line_event<B: Bench>(&mut self, call: &'a Call, further: &'a [Call], bench: &mut B) -> Event
+        requires machine { self.old.place.machine ≡ B.machine bench.old }
+        requires lines { self.old.lines.now ≡ call.now ∷ further.now }
+        requires own { acting self.old.guest self.old.run ≡ None }
+        ensures moved { HasMoved (B.did bench.old) self.old bench.new self.new result }
+        ensures same { B.machine bench.new ≡ B.machine bench.old }
+    {
+        turns_in_pieces();
+        let LineTurn { turn, guest } = turn_line(
+            &mut self.run,
+            &mut self.cached,
+            self.place,
+            self.codes,
+            self.first_lists,
+            call,
+            bench,
+        );
+        match turn.reply {
+            None => self.guest = entered_or(guest, self.guest),
+            Some(reply) => {
+                let Ok(()) = self.replies.push(reply) else {
+                    unreachable!()
+                };
+                self.lines = further;
+                self.guest = None;
+                forget(&mut self.step_run);
+            }
+        }
+        turn.event
+    }
+
+    // The next event of the guest.
+    fn guest_event<B: Bench>(&mut self, guest: GuestAt<'a>, bench: &mut B) -> Event
+        requires machine { self.old.place.machine ≡ B.machine bench.old }
+        requires lines { 0 < length self.old.lines.now }
+        requires acts { acting self.old.guest self.old.run ≡ Some guest }
+        ensures moved { HasMoved (B.did bench.old) self.old bench.new self.new result }
+        ensures same { B.machine bench.new ≡ B.machine bench.old }
+    {
+        turns_in_pieces();
+        let line = self.replies().len() as u32 + 1;
+        let GuestTurn {
+            step,
+            turn,
+            note,
+            word,
+            guest,
+        } = turn_guest(
+            &mut self.step_run,
+            &mut self.cached,
+            guest,
+            self.place,
+            line,
+            bench,
+        );
+        add_note(&mut self.notes, note);
+        add_word(&mut self.told, word);
+        answer_exit(&mut self.run, step, turn.reply);
+        self.guest = guest;
+        turn.event
     }
 }
 
@@ -87,19 +204,10 @@ impl<'a> Processor for LpState<'a> {
         let Some((call, further)) = self.lines.split_first() else {
             return Turn::Ended;
         };
-        // The law that the run's turn can be told in pieces.
-        turns_in_pieces();
-        let LeafTurn {
-            event,
-            act: _,
-            reply,
-        } = turn_call(&mut self.run, self.place, call, bench);
-        if let Some(reply) = reply {
-            let Ok(()) = self.replies.push(reply) else {
-                unreachable!()
-            };
-            self.lines = further;
-        }
+        let event = match acting(&self.guest, &self.run) {
+            Some(guest) => self.guest_event(guest, bench),
+            None => self.line_event(call, further, bench),
+        };
         Turn::Moved(event)
     }
 }

@@ -2,18 +2,23 @@
 
 ghost use Rattle.std.specs.Prelude.{◌≡◌, ℕ, ◌<◌, true, Option, IfSome, None, option_map};
 ghost use Rattle.std.specs.List.{All};
+ghost use Rattle.td_words.specs.declared.machines.Machine.{Machine};
+ghost use Rattle.td_words.specs.declared.calls.Call.{Call};
 ghost use Rattle.td_words.specs.Limits.{IsMachine};
 ghost use Rattle.leaf_engine.specs.Turns.{Standing};
 ghost use Rattle.leaf_engine.specs.OwnLists.{running};
 ghost use Rattle.leaf_engine.specs.Merges.{IsOperation, IsStepOf};
 ghost use Rattle.leaf_dispatch.specs.Answers.{call_answer, call_ends, call_fits, guest_by, step_answer, step_ends, step_fits, step_tries, cached_by, notes_by, tells_by};
 ghost use Rattle.leaf_dispatch.specs.Guests.{step_seen, guest_seen, next_in, notes_in, words_in, IsLow, CanCount, IsReplyOf, IsNextGuest};
-ghost use Rattle.leaf_dispatch.specs.Running.{run_seen, IsRunOf, LeafTurned};
+ghost use Rattle.leaf_dispatch.specs.Inside.{acting, entered_or, line_then};
+ghost use Rattle.leaf_dispatch.specs.FirstLists.{AreFirstLists};
+ghost use Rattle.leaf_dispatch.specs.Running.{run_seen, IsRunOf, IsAnswered, LeafTurned};
 ghost use Rattle.leaf_dispatch.specs.Table.{code_in, task_of, step_task};
 
 use crate::answers::{cache_walk, drop_stale, entered, noted, told};
+use crate::first_lists::FirstLists;
 use crate::guests::{GuestAt, Step, next_step, step_on};
-use crate::running::{LeafTurn, Running, turn_call, turn_step};
+use crate::running::{LeafTurn, Running, answer_kept, turn_call, turn_step};
 use leaf_engine::Place;
 use report_text::GuestNote;
 use step_core::Bench;
@@ -43,10 +48,12 @@ pub fn turn_line<'a, B: Bench>(
     cached: &mut Tlb,
     place: Place,
     codes: &'a [Code],
+    first_lists: &FirstLists,
     call: &Call,
     bench: &mut B,
 ) -> LineTurn<'a>
     requires machine { IsMachine place.machine }
+    requires first_lists { AreFirstLists codes.now first_lists.now }
     requires at { place.machine ≡ B.machine bench.old }
     requires under_way { IsRunOf place.machine (call_ends place.machine call.now) kept.old }
     ensures turned { LeafTurned (B.did bench.old) place.machine (call_ends place.machine call.now) (running (task_of place call.now) (run_seen kept.old)) bench.new kept.new result.turn }
@@ -59,7 +66,7 @@ pub fn turn_line<'a, B: Bench>(
     drop_by(place.machine, cached, call, turn.act);
     LineTurn {
         turn,
-        guest: entered_by(place.machine, codes, call, turn.act),
+        guest: entered_by(place.machine, codes, first_lists, call, turn.act),
     }
 }
 
@@ -75,15 +82,17 @@ fn drop_by(machine: Machine, cached: &mut Tlb, call: &Call, act: Option<Reply>)
 fn entered_by<'a>(
     machine: Machine,
     codes: &'a [Code],
+    first_lists: &FirstLists,
     call: &Call,
     act: Option<Reply>,
 ) -> Option<GuestAt<'a>>
-    requires { IfSome act (λ r. call_fits machine call.now r ≡ true) }
+    requires fits { IfSome act (λ r. call_fits machine call.now r ≡ true) }
+    requires first_lists { AreFirstLists codes.now first_lists.now }
     ensures seen { option_map (λ g. guest_seen g None) result ≡ guest_by (call_answer call.now) act None }
     ensures inside { IfSome result (λ g. (g.tdr < machine.pages) × (g.vp < machine.pages) × (code_in codes.now g.tdr g.index ≡ g.list.now) × IsLow g.walk) }
 {
     match act {
-        Some(reply) => entered(machine, codes, call, reply),
+        Some(reply) => entered(machine, codes, first_lists, call, reply),
         None => None,
     }
 }
@@ -110,6 +119,7 @@ pub fn turn_guest<'a, B: Bench>(
     ensures counts { CanCount guest.entry (step_seen result.step) }
     ensures within { IsStepOf (step_seen result.step) }
     ensures turned { LeafTurned (B.did bench.old) place.machine (step_ends guest.entry.tdr line (step_seen result.step)) (running (step_task place guest.entry.tdr guest.entry.vp line (step_seen result.step)) (run_seen kept.old)) bench.new kept.new result.turn }
+    ensures fits { IfSome result.turn.reply (λ r. IsReplyOf (step_seen result.step) r) }
     ensures cached { cached.new ≡ cached_by (step_answer guest.entry.tdr line (step_seen result.step)) result.turn.act cached.old }
     ensures notes { notes_in result.note ≡ notes_by (step_answer guest.entry.tdr line (step_seen result.step)) result.turn.act }
     ensures words { words_in result.word ≡ tells_by (step_answer guest.entry.tdr line (step_seen result.step)) result.turn.act }
@@ -167,5 +177,51 @@ fn guest_then<'a>(guest: GuestAt<'a>, step: Step, reply: Option<Reply>) -> Optio
     match reply {
         Some(reply) => step_on(guest, step, reply),
         None => Some(guest),
+    }
+}
+
+/// The guest that makes the next event: none outside guests, and none while its VP.ENTER is to give E
+/// back.
+pub fn acting<'a>(guest: &Option<GuestAt<'a>>, run: &Option<Running>) -> Option<GuestAt<'a>>
+    ensures { result ≡ acting guest.now run.now }
+{
+    match guest {
+        None => None,
+        Some(guest) => match run {
+            None => None,
+            Some(Running { run }) => {
+                if run.gives_epoch_back() {
+                    None
+                } else {
+                    Some(*guest)
+                }
+            }
+        },
+    }
+}
+
+/// The guest behind an event of a line: the one that it entered, or else the one before.
+pub fn entered_or<'a>(
+    entered: Option<GuestAt<'a>>,
+    guest: Option<GuestAt<'a>>,
+) -> Option<GuestAt<'a>>
+    ensures { result ≡ entered_or entered.entry guest.entry }
+{
+    match entered {
+        Some(_) => entered,
+        None => guest,
+    }
+}
+
+/// VP.ENTER answers what the step answered by which its guest was left.
+pub fn answer_exit(kept: &mut Option<Running>, step: Step, reply: Option<Reply>)
+    ensures seen { run_seen kept.new ≡ line_then (step_seen step) reply (run_seen kept.old) }
+    ensures under_way { (m : Machine) (c : Call) → IsRunOf m (call_ends m c) kept.old → IsAnswered kept.old → IfSome reply (λ r. IsReplyOf (step_seen step) r) → IsRunOf m (call_ends m c) kept.new }
+    ensures answered { IsAnswered kept.old → IsAnswered kept.new }
+{
+    if let Step::Leaves(_) = step {
+        if let Some(reply) = reply {
+            answer_kept(kept, reply);
+        }
     }
 }

@@ -1,6 +1,13 @@
-//! Rows of turns, on `leaf_dispatch`: the events and the replies of processors with a few calls. They
-//! have a crate of their own, since one with tests is proved twice.
+//! Rows of turns, on `leaf_dispatch`: the events and the replies of processors with a few calls, on a
+//! bench whose words a test may set. They have a crate of their own, since one with tests is proved
+//! twice.
 #![tactic(auto)]
 
+#[cfg(test)]
+mod benches;
+#[cfg(test)]
+mod guests;
+#[cfg(test)]
+mod last_epochs;
 #[cfg(test)]
 mod turns;

@@ -1,5 +1,6 @@
 //! What the turns of processors are, event by event, where nothing else is looked at.
 
+use crate::benches::first_lists_of;
 use leaf_dispatch::LpState;
 use leaf_engine::{Event, Processor, Turn};
 use step_core::PlainBench;
@@ -21,7 +22,8 @@ fn a_creation_has_five_events(rt: HostRuntime) {
     let Ok(mut bench) = PlainBench::new(rt.alloc(), MACHINE) else {
         panic!(rt; "out of memory")
     };
-    let Ok(mut lp) = LpState::new(rt.alloc(), MACHINE, 0, &[], &calls) else {
+    let first_lists = first_lists_of(&rt, rt.alloc(), &[]);
+    let Ok(mut lp) = LpState::new(rt.alloc(), MACHINE, 0, &[], &first_lists, &calls) else {
         panic!(rt; "out of memory")
     };
     let page = LockName::Page(1);
@@ -67,7 +69,8 @@ fn each_call_is_made_by_its_leaf(rt: HostRuntime) {
     let Ok(mut bench) = PlainBench::new(rt.alloc(), MACHINE) else {
         panic!(rt; "out of memory")
     };
-    let Ok(mut lp) = LpState::new(rt.alloc(), MACHINE, 1, &[], &calls) else {
+    let first_lists = first_lists_of(&rt, rt.alloc(), &[]);
+    let Ok(mut lp) = LpState::new(rt.alloc(), MACHINE, 1, &[], &first_lists, &calls) else {
         panic!(rt; "out of memory")
     };
     while let Turn::Moved(_) = lp.turn(&mut bench) {}
@@ -96,10 +99,11 @@ fn a_lock_that_another_holds_is_busy(rt: HostRuntime) {
         panic!(rt; "out of memory")
     };
     let (creation, read) = ([CREATE], [READ]);
-    let Ok(mut first) = LpState::new(rt.alloc(), MACHINE, 0, &[], &creation) else {
+    let first_lists = first_lists_of(&rt, rt.alloc(), &[]);
+    let Ok(mut first) = LpState::new(rt.alloc(), MACHINE, 0, &[], &first_lists, &creation) else {
         panic!(rt; "out of memory")
     };
-    let Ok(mut second) = LpState::new(rt.alloc(), MACHINE, 1, &[], &read) else {
+    let Ok(mut second) = LpState::new(rt.alloc(), MACHINE, 1, &[], &first_lists, &read) else {
         panic!(rt; "out of memory")
     };
     let lock = LockName::Page(1);

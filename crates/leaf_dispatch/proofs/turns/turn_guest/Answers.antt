@@ -24,6 +24,13 @@ guest_then-requires-clause-fits g c =
     (running (step_task c.args.place c.args.guest.tdr c.args.guest.vp c.args.line s) (run_seen c.args.kept.now)) c.turn_step-turn.ensures.turned
     (first-trying c.args.place c.args.guest.tdr c.args.guest.vp c.args.line s c.args.kept.now (λ z. c.requires.alone (sym (ap step_tries (c.next_step-step.ensures.step None)) ∙ z))) c.turn_step-turn.result.reply refl
 
+pub returns-clause-fits : goal.returns-clause-fits
+returns-clause-fits g c =
+    let s = step_seen c.next_step-step.result in
+    reply-fits (g.B.Bench.did c.args.bench.now) c.turn_step-turn.new.bench c.args.place.machine c.turn_step-turn.new.kept c.turn_step-turn.result c.args.guest.tdr c.args.line s
+    (running (step_task c.args.place c.args.guest.tdr c.args.guest.vp c.args.line s) (run_seen c.args.kept.now)) c.turn_step-turn.ensures.turned
+    (first-trying c.args.place c.args.guest.tdr c.args.guest.vp c.args.line s c.args.kept.now (λ z. c.requires.alone (sym (ap step_tries (c.next_step-step.ensures.step None)) ∙ z))) c.turn_step-turn.result.reply refl
+
 pub returns-clause-cached : goal.returns-clause-cached
 returns-clause-cached g c = c.cache_by.ensures c.args.line
 

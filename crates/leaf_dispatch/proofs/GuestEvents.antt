@@ -1,0 +1,410 @@
+-- An event of a guest's step is an event of its processor.
+use Rattle.std.proofs.Common.{◌≡◌, ◌∙◌, ℕ, zero, suc, ◌+◌, ◌-◌, ◌<◌, ◌≤◌, Bool, true, false, ◌==◌, ◌&&◌, if◌then◌else◌, List, [], ◌∷◌, length, Option, Some, None, option_map, is_none, IfSome, refl, ap, sym, subst, arith}
+use Rattle.std.specs.Prelude.{nat_lt}
+use Rattle.std.proofs.lemmas.Bool.{ltb-false, ltb-true}
+use Rattle.td_words.specs.Seen.{CodeSeen}
+use Rattle.td_words.specs.declared.names.Access.TheVariants.{Read}
+use Rattle.td_words.specs.declared.calls.Call.{Call}
+use Rattle.td_words.specs.declared.calls.GuestOp.TheVariants as op
+use Rattle.td_words.specs.declared.refusals.Status.TheVariants.{OperandBusy}
+use Rattle.td_words.specs.declared.replies.Outcome.{Outcome}
+use Rattle.td_words.specs.declared.replies.Outcome.TheVariants.{Vmcall}
+use Rattle.td_words.specs.declared.replies.Value.TheVariants as value
+use Rattle.td_words.specs.declared.replies.Reply.{Reply}
+use Rattle.td_words.specs.declared.replies.Reply.TheVariants.{Done, Refused, Exited}
+use Rattle.flat_core.specs.Processor.{Translation, Note}
+use Rattle.step_core.specs.declared.items.Taken.{Taken}
+use Rattle.leaf_engine.specs.declared.needs.Place.{Place}
+use Rattle.leaf_engine.specs.declared.events.Stage.TheVariants as stages
+use Rattle.leaf_engine.specs.Trees.{added}
+use Rattle.leaf_engine.specs.Besides.{Beside}
+use Rattle.leaf_engine.specs.Guests.{WordGuest, Step, Operates, Accesses, Loads, Leaves, step_of, stepped, is_right, walked, loaded, operated, exited_with, gives_epoch_back}
+use Rattle.leaf_engine.specs.Merges.{IsStepOf}
+use Rattle.leaf_engine.specs.Turns.{Standing}
+use Rattle.leaf_engine.specs.OwnLists.{TurnsInPieces, WordLp, running, after_step, line_after, EnteredTurn}
+use Rattle.leaf_dispatch.specs.Answers.{Ends, step_answer, step_ends, step_tries, beside_by, cached_by, notes_by, tells_by}
+use Rattle.leaf_dispatch.specs.Bounds.{run_used, stage_used, events_left}
+use Rattle.leaf_dispatch.specs.Guests.{guest_seen, unless_left, next_in, IsLow, CanCount, IsReplyOf, IsNextGuest}
+use Rattle.leaf_dispatch.specs.Inside.{guest_in, unless_gives, acting, line_then, IsGuestKept, KeepsGuest}
+use Rattle.leaf_dispatch.specs.NoteRooms.{longest_in, stage_made, run_made, guest_room, room_left}
+use Rattle.leaf_dispatch.specs.Running.{standing_of, run_seen, kept_after, IsRunOf, IsAnswered, LeafTurned}
+use Rattle.leaf_dispatch.specs.Table.{code_in, step_task, place_table}
+use Rattle.leaf_dispatch.specs.declared.guests.GuestAt.{GuestAt}
+use Rattle.leaf_dispatch.specs.declared.running.Running.{Running}
+use Rattle.leaf_dispatch.specs.declared.running.LeafTurn.{LeafTurn}
+use Rattle.leaf_dispatch.proofs.Lowering.{Gives}
+use Rattle.leaf_dispatch.proofs.Turning.{line-gives, Moved}
+use Rattle.leaf_dispatch.proofs.StepTurns.{step-is, guest-moves, cached-stays}
+use Rattle.leaf_dispatch.proofs.Fewer.{run-same, Counts, IsLowStep, step-fewer}
+use Rattle.leaf_dispatch.proofs.Replying.{reply-fits, first-trying}
+use Rattle.leaf_dispatch.proofs.Rooming.{room-is, operated-room, goes-room}
+use Rattle.leaf_dispatch.proofs.LineEvents.{none-kept}
+
+-- no list of a script is longer than the longest
+pub longest-holds : (cs : List CodeSeen) (t i : ℕ) → length (code_in cs t i) ≤ longest_in cs
+longest-holds [] t i = omega arith
+longest-holds (c ∷ cs) t i = (let rest = longest-holds cs t i in by (c.tdr == t && c.index == i) (nat_lt (length c.ops) (longest_in cs)) refl rest)
+  where
+    by : (b d : Bool) → nat_lt (length c.ops) (longest_in cs) ≡ d → length (code_in cs t i) ≤ longest_in cs
+        → length (if b then c.ops else code_in cs t i) ≤ (if d then longest_in cs else length c.ops)
+    by true true e rest = (let less = ltb-true (length c.ops) (longest_in cs) e in omega (arith, less))
+    by true false e rest = omega arith
+    by false true e rest = rest
+    by false false e rest = (let more = ltb-false (length c.ops) (longest_in cs) e in omega (arith, more, rest))
+
+-- no step makes a bundle
+no-bundles : (t n : ℕ) (s : Step) (r : Reply) → (step_answer t n s r).bundles ≡ []
+no-bundles t n (Operates (op.Load r gpa)) (Done (value.Number x)) = refl
+no-bundles t n (Operates (op.Store r gpa)) (Done (value.Number x)) = refl
+no-bundles t n (Operates (op.Rtmr i)) (Done (value.Digest bytes)) = refl
+no-bundles t n (Operates (op.Vmcall r)) (Exited (Vmcall x)) = refl
+no-bundles t n (Accesses Read r gpa page) (Done (value.Number x)) = refl
+no-bundles t n (Loads access gpa level page) (Done (value.Number x)) = refl
+no-bundles t n s r = refl
+
+-- the load of an entry, and the exit, note and tell nothing
+abbrev pub MakesNone : Step → ℕ → Type 0
+MakesNone (Loads access gpa level page) made = made ≡ 0
+MakesNone (Leaves out) made = made ≡ 0
+MakesNone _ made = Unit {0}
+
+pub notes-none : (t n : ℕ) (s : Step) (act : Option Reply) → MakesNone s (length (notes_by (step_answer t n s) act))
+notes-none t n (Loads access gpa level page) None = refl
+notes-none t n (Loads access gpa level page) (Some (Done (value.Number x))) = refl
+notes-none t n (Loads access gpa level page) (Some r) = refl
+notes-none t n (Leaves out) None = refl
+notes-none t n (Leaves out) (Some r) = refl
+notes-none t n (Operates o) act = tt
+notes-none t n (Accesses access r gpa page) act = tt
+
+pub tells-none : (t n : ℕ) (s : Step) (act : Option Reply) → MakesNone s (length (tells_by (step_answer t n s) act))
+tells-none t n (Loads access gpa level page) None = refl
+tells-none t n (Loads access gpa level page) (Some (Done (value.Number x))) = refl
+tells-none t n (Loads access gpa level page) (Some r) = refl
+tells-none t n (Leaves out) None = refl
+tells-none t n (Leaves out) (Some r) = refl
+tells-none t n (Operates o) act = tt
+tells-none t n (Accesses access r gpa page) act = tt
+
+pub no-notes : (t n : ℕ) (s : Step) (act : Option Reply) → act ≡ None → length (notes_by (step_answer t n s) act) ≡ 0
+no-notes t n s act e = ap (λ (a : Option Reply). length (notes_by (step_answer t n s) a)) e
+
+pub no-tells : (t n : ℕ) (s : Step) (act : Option Reply) → act ≡ None → length (tells_by (step_answer t n s) act) ≡ 0
+no-tells t n s act e = ap (λ (a : Option Reply). length (tells_by (step_answer t n s) a)) e
+
+-- a guest that isn't left stays
+staying : (g : GuestAt) (l : Option Outcome) (x s : Step) → unless_left l x ≡ s → g.leaving ≡ l → CanCount g s → Counts (guest_seen g None) s
+staying g None x (Operates o) is e counts = (e, counts.0)
+staying g None x (Accesses access r gpa page) is e counts = (e, counts.0)
+staying g None x (Loads access gpa level page) is e counts = (e, counts.0)
+staying g l x (Leaves out) is e counts = tt
+staying g (Some out) x (Operates o) is e counts = cc
+staying g (Some out) x (Accesses access r gpa page) is e counts = cc
+staying g (Some out) x (Loads access gpa level page) is e counts = cc
+
+with-run : (g : GuestAt) (run : Option Standing) (s : Step) → Counts (guest_seen g None) s → Counts (guest_seen g run) s
+with-run g run (Operates o) counts = counts
+with-run g run (Accesses access r gpa page) counts = counts
+with-run g run (Loads access gpa level page) counts = counts
+with-run g run (Leaves out) counts = counts
+
+low-step : (s : Step) → IsStepOf s → IsLowStep s
+low-step (Operates o) i = tt
+low-step (Accesses access r gpa page) i = tt
+low-step (Loads access gpa level page) i = i.0
+low-step (Leaves out) i = tt
+
+-- what stays of a guest that its step's reply doesn't leave
+pub record StaysIn (x y : WordGuest) : Type 0 where
+  pub tdr : y.tdr ≡ x.tdr
+  pub vp : y.vp ≡ x.vp
+  pub index : y.index ≡ x.index
+  pub ahead : x.completed ≤ x.position → y.completed ≤ y.position
+
+stays-operated : (r : Reply) (x : WordGuest) → StaysIn x (operated r x)
+stays-operated (Done v) x = record { tdr = refl; vp = refl; index = refl; ahead = λ h. omega (arith, h) }
+stays-operated (Exited (Vmcall word)) x = record { tdr = refl; vp = refl; index = refl; ahead = λ h. omega (arith, h) }
+stays-operated (Exited o) x = exits o
+  where
+    exits : (o : Outcome) → StaysIn x (exited_with o x)
+    exits (Vmcall word) = record { tdr = refl; vp = refl; index = refl; ahead = λ h. omega (arith, h) }
+    exits o = record { tdr = refl; vp = refl; index = refl; ahead = λ h. h }
+stays-operated (Refused (OperandBusy n)) x = record { tdr = refl; vp = refl; index = refl; ahead = λ h. h }
+stays-operated (Refused s) x = record { tdr = refl; vp = refl; index = refl; ahead = λ h. h }
+
+stays-loaded : (access : _) (gpa level : ℕ) (r : Reply) (x : WordGuest) → StaysIn x (loaded access gpa level r x)
+stays-loaded access gpa level (Done (value.Number rights)) x = by level (is_right access level rights)
+  where
+    by : (n : ℕ) (b : Bool) → StaysIn x (walked access gpa n rights b x)
+    by zero true = record { tdr = refl; vp = refl; index = refl; ahead = λ h. h }
+    by (suc n) true = record { tdr = refl; vp = refl; index = refl; ahead = λ h. h }
+    by zero false = record { tdr = refl; vp = refl; index = refl; ahead = λ h. h }
+    by (suc n) false = record { tdr = refl; vp = refl; index = refl; ahead = λ h. h }
+stays-loaded access gpa level r x = record { tdr = refl; vp = refl; index = refl; ahead = λ h. h }
+
+stays-in : (s : Step) (r : Reply) (x y : WordGuest) → stepped s r x ≡ Some y → StaysIn x y
+stays-in (Operates o) r x y e = (let same : operated r x ≡ y = cc in subst (λ (z : WordGuest). StaysIn x z) same (stays-operated r x))
+stays-in (Accesses access q gpa page) r x y e = (let same : record x { completed = x.completed + 1; position = x.position + 1; walk = None; run = None } ≡ y = cc in subst (λ (z : WordGuest). StaysIn x z) same (record { tdr = refl; vp = refl; index = refl; ahead = λ h. omega (arith, h) }))
+stays-in (Loads access gpa level page) r x y e = (let same : loaded access gpa level r x ≡ y = cc in subst (λ (z : WordGuest). StaysIn x z) same (stays-loaded access gpa level r x))
+stays-in (Leaves out) r x y e = cc
+
+none-seen : (k : Option Running) → run_seen k ≡ None → k ≡ None
+none-seen None e = refl
+none-seen (Some r) e = cc
+
+guest-alone : (h : Option GuestAt) (k : Option Running) → run_seen k ≡ None → guest_in h k ≡ option_map (λ (g : GuestAt). guest_seen g None) h
+guest-alone None k e = refl
+guest-alone (Some g) k e = ap (λ (run : Option Standing). Some (guest_seen g run)) e
+
+module _ (p : Place) (codes : List CodeSeen) (c : Call) (cs : List Call) (r : Running) (g : GuestAt) (step : Option Running) (ts us : List Translation) (rs : List Reply) (notes : List Note) (told : List ℕ) where
+  abbrev pub at_line : ℕ
+  at_line = length rs + 1
+
+  abbrev pub x : WordGuest
+  x = guest_seen g (run_seen step)
+
+  abbrev besides : Beside
+  besides = record { cached = ts; notes = notes; told = told; bundles = [] }
+
+  abbrev pub before : WordLp
+  before = record { lines = c ∷ cs; run = Some (standing_of r); guest = Some x; replies = rs; beside = besides }
+
+  module _ {B : Type 0} (did : List Taken → B → Type 0) (bench : B) (kept : Option Running) (result : LeafTurn) (s : Step) (h : Option GuestAt) where
+    abbrev ends : Ends
+    ends = step_ends g.tdr at_line s
+
+    abbrev was : Standing
+    was = running (step_task p g.tdr g.vp at_line s) (run_seen step)
+
+    abbrev pub turned : WordLp
+    turned = record {
+      lines = c ∷ cs;
+      run = line_then s result.reply (Some (standing_of r));
+      guest = guest_in h kept;
+      replies = rs;
+      beside = record { cached = us; notes = added notes (notes_by ends.answer result.act); told = added told (tells_by ends.answer result.act); bundles = [] };
+    }
+
+    module _ (is : next_in ts g None ≡ s) (inside : IsGuestKept p.machine codes ts at_line g step) (counts : CanCount g s) (low : IsStepOf s) (t : LeafTurned did p.machine ends was bench kept result)
+        (cached : us ≡ cached_by ends.answer result.act ts) (next : IsNextGuest g s result.reply h) where
+      gives : Gives ends was t.stands result.event
+      gives = line-gives did bench p.machine ends was kept result t
+
+      step-at : step_of (code_in codes) ts x ≡ s
+      step-at = run-same (code_in codes) ts (guest_seen g None) (run_seen step) ∙ (step-is (code_in codes) ts g None inside.list ∙ is)
+
+      counted : Counts x s
+      counted = with-run g (run_seen step) s (staying g g.leaving _ s is refl counts)
+
+      none-begun : step_tries s ≡ 0 → step ≡ None
+      none-begun none = none-kept step (inside.alone (ap step_tries is ∙ none))
+
+      first : step_tries s ≡ 0 → was.stage ≡ stages.Trying
+      first none = first-trying p g.tdr g.vp at_line s step none-begun none
+
+      used : run_used x.run ≡ stage_used was.stage (length was.held)
+      used = by (run_seen step)
+        where
+          by : (run : Option Standing) → run_used run ≡ stage_used (running (step_task p g.tdr g.vp at_line s) run).stage (length (running (step_task p g.tdr g.vp at_line s) run).held)
+          by None = refl
+          by (Some y) = refl
+
+      made-before : run_made x.run ≡ stage_made was.stage
+      made-before = by (run_seen step)
+        where
+          by : (run : Option Standing) → run_made run ≡ stage_made (running (step_task p g.tdr g.vp at_line s) run).stage
+          by None = refl
+          by (Some y) = refl
+
+      -- a single event has its reply
+      at-once : step_tries s ≡ 0 → (z : Reply) × (result.reply ≡ Some z)
+      at-once none = (let e = gives.once none (first none) in (e.0, t.turned.2.reply ∙ e.2))
+
+      besides-are : turned.beside ≡ beside_by ends.answer result.act besides
+      besides-are = ap (λ (ys : List Translation). record { cached = ys; notes = added notes (notes_by ends.answer result.act); told = added told (tells_by ends.answer result.act); bundles = [] }) cached ∙ by result.act
+        where
+          by : (act : Option Reply) → record { cached = cached_by ends.answer act ts; notes = added notes (notes_by ends.answer act); told = added told (tells_by ends.answer act); bundles = [] } ≡ beside_by ends.answer act besides
+          by None = refl
+          by (Some z) = ap (λ (ms : List _). record { cached = (ends.answer z).cached ts; notes = added notes (ends.answer z).notes; told = added told (ends.answer z).tells; bundles = added [] ms }) (sym (no-bundles g.tdr at_line s z))
+
+      after : turned ≡ after_step c cs (standing_of r) x rs turned.beside s t.stands result.reply
+      after = by result.reply next t.seen
+        where
+          by : (reply : Option Reply) → IsNextGuest g s reply h → run_seen kept ≡ kept_after reply t.stands
+              → record { lines = c ∷ cs; run = line_then s reply (Some (standing_of r)); guest = guest_in h kept; replies = rs; beside = turned.beside } ≡ after_step c cs (standing_of r) x rs turned.beside s t.stands reply
+          by None same seen = ap (λ (y : Option WordGuest). record { lines = c ∷ cs; run = Some (standing_of r); guest = y; replies = rs; beside = turned.beside })
+              (ap (λ (y : Option GuestAt). guest_in y kept) same ∙ ap (λ (run : Option Standing). Some (guest_seen g run)) seen)
+          by (Some z) goes seen = ap (λ (y : Option WordGuest). record { lines = c ∷ cs; run = Some (line_after s z (standing_of r)); guest = y; replies = rs; beside = turned.beside })
+              (guest-alone h kept seen ∙ goes (run_seen step))
+
+      fewer : events_left (code_in codes) turned < events_left (code_in codes) before
+      fewer =
+          subst (λ (q : WordLp). events_left (code_in codes) q < events_left (code_in codes) before) (sym after)
+          (step-fewer (code_in codes) c cs (standing_of r) x rs besides turned.beside g.tdr at_line was t.stands result.event s step-at counted (low-step s low) refl used first gives
+          (cached ∙ (by result.act ∙ ap (λ (a : Option Reply). (beside_by ends.answer a besides).cached) t.act_is)) result.reply t.turned.2.reply)
+        where
+          by : (act : Option Reply) → cached_by ends.answer act ts ≡ (beside_by ends.answer act besides).cached
+          by None = refl
+          by (Some z) = refl
+
+      pub guest-moved : TurnsInPieces → gives_epoch_back r.run.held.items ≡ false → Moved (code_in codes) did bench p before turned result.event
+      guest-moved law back =
+          let moved =
+          guest-moves law did bench p (code_in codes) c cs (standing_of r) x rs besides kept turned result s step-at t
+          (after ∙ ap (λ (b : Beside). after_step c cs (standing_of r) x rs b s t.stands result.reply) besides-are) in
+          record {
+            pieces = moved.pieces;
+            did_them = moved.did_them;
+            turn = subst (λ (b : Bool). EnteredTurn (place_table p (code_in codes)) p.machine c cs (standing_of r) x rs besides result.event moved.pieces turned b) (sym back) moved.turn;
+            fewer = fewer;
+          }
+
+      -- the room of what is noted, or told
+
+      made-once : (made : ℕ) → made ≤ 1 → (result.act ≡ None → made ≡ 0) → made ≤ 1 - run_made x.run
+      made-once made few none = by result.act refl
+        where
+          by : (act : Option Reply) → result.act ≡ act → made ≤ 1 - run_made x.run
+          by None e = (let nil = none e in omega (arith, nil))
+          by (Some z) e =
+              let on : was.stage ≡ stages.Trying = (gives.act z (sym t.act_is ∙ e)).on in
+              let fresh : run_made x.run ≡ 0 = made-before ∙ ap stage_made on in
+              omega (arith, fresh, few)
+
+      fresh-run : step_tries s ≡ 0 → run_made x.run ≡ 0
+      fresh-run none = ap (λ (k : Option Running). run_made (run_seen k)) (none-begun none)
+
+      pub guest-fits : (longest made : ℕ) → longest ≡ longest_in codes → made ≤ 1 → (result.act ≡ None → made ≡ 0) → MakesNone s made → room_left longest turned + made ≤ room_left longest before
+      guest-fits longest made is-longest few none makes =
+          subst (λ (q : WordLp). room_left longest q + made ≤ room_left longest before) (sym after)
+          (by s refl counted counts makes result.reply refl)
+        where
+          short : g.position < length g.list.now → g.completed < longest
+          short within =
+              let lists : length (code_in codes g.tdr g.index) ≤ longest_in codes = longest-holds codes g.tdr g.index in
+              let list : length (code_in codes g.tdr g.index) ≡ length g.list.now = ap length inside.list in
+              let ahead = inside.ahead in
+              omega (arith, within, lists, list, ahead, is-longest)
+
+          by : (s' : Step) → s' ≡ s → Counts x s' → CanCount g s' → MakesNone s' made → (reply : Option Reply) → result.reply ≡ reply
+              → room_left longest (after_step c cs (standing_of r) x rs turned.beside s' t.stands reply) + made ≤ room_left longest before
+          by (Operates o) same now within nil None e =
+              let more = goes-room longest x now.0 now.1 (short within.1) ends was t.stands result.event made-before gives made few (λ no. none (t.act_is ∙ no)) in omega (arith, more)
+          by (Operates o) same now within nil (Some z) e =
+              let fits : IfSome result.reply (λ w. IsReplyOf s w) = reply-fits did bench p.machine kept result g.tdr at_line s was t first result.reply refl in
+              let fit : IsReplyOf (Operates o) z = subst (λ (y : Step). IsReplyOf y z) (sym same) (subst (λ (w : Option Reply). IfSome w (λ w. IsReplyOf s w)) e fits) in
+              let more = operated-room longest x now.0 now.1 (short within.1) z fit in
+              let once = made-once made few none in
+              omega (arith, more, once)
+          by (Accesses access q gpa page) same now within nil None e = (let z = at-once (ap step_tries (sym same)) in absurd (no-none (sym e ∙ z.1)))
+            where
+              no-none : {w : Reply} → None ≡ Some w → ⊥
+              no-none e = cc
+          by (Accesses access q gpa page) same now within nil (Some z) e =
+              let fresh = fresh-run (ap step_tries (sym same)) in
+              let m = short within.1 in
+              let n = now.1 in
+              rw (room-is longest x now.0, now.0) (omega (arith, fresh, m, n, few))
+          by (Loads access gpa level page) same now within nil reply e = loads (fresh-run (ap step_tries (sym same))) now nil reply (at-once (ap step_tries (sym same))) e
+            where
+              walks : (rights n : ℕ) (b : Bool) → x.leaving ≡ None → run_made x.run ≡ 0 → guest_room longest (walked access gpa n rights b x) ≤ guest_room longest x
+              walks rights zero true stays fresh = rw (room-is longest x stays, stays) (omega (arith, fresh))
+              walks rights (suc n) true stays fresh = rw (room-is longest x stays, stays) (omega (arith, fresh))
+              walks rights zero false stays fresh = omega arith
+              walks rights (suc n) false stays fresh = omega arith
+
+              loads : run_made x.run ≡ 0 → Counts x (Loads access gpa level page) → made ≡ 0 → (reply : Option Reply) → (z : Reply) × (result.reply ≡ Some z) → result.reply ≡ reply
+                  → room_left longest (after_step c cs (standing_of r) x rs turned.beside (Loads access gpa level page) t.stands reply) + made ≤ room_left longest before
+              loads fresh now nil None z e = (let no : None ≡ Some z.0 = sym e ∙ z.1 in cc)
+              loads fresh now nil (Some (Done (value.Number rights))) z e = (let w = walks rights level (is_right access level rights) now.0 fresh in omega (arith, w, nil))
+              loads fresh now nil (Some w) z e = rw (room-is longest x now.0, now.0) (omega (arith, fresh, nil))
+          by (Leaves out) same now within nil None e = (let z = at-once (ap step_tries (sym same)) in let no : None ≡ Some z.0 = sym e ∙ z.1 in cc)
+          by (Leaves out) same now within nil (Some z) e = omega (arith, nil)
+
+      -- and what is kept then
+      pub guest-keeps : (run : Option Running) → run_seen run ≡ line_then s result.reply (Some (standing_of r)) → IsAnswered run → IfSome h (λ y. IsLow y.walk × (y.list.now ≡ g.list.now)) → KeepsGuest p.machine codes us at_line h run kept
+      guest-keeps run seen answered same = by h result.reply refl next same
+        where
+          still : (y : GuestAt) (run : Option Running) (reply : Option Reply) → run_seen run ≡ line_then s reply (Some (standing_of r)) → IsAnswered run → IsGuestKept p.machine codes us at_line y kept → KeepsGuest p.machine codes us at_line (Some y) run kept
+          still y None None seen answered is = cc
+          still y None (Some z) seen answered is = cc
+          still y (Some k) reply seen answered is = (answered, is)
+
+          -- a step that goes on is an operation's, which leaves what is cached
+          goes-on : result.reply ≡ None → us ≡ ts × (step_tries s ≡ 0 → ⊥)
+          goes-on none = by s refl
+            where
+              by : (s' : Step) → s ≡ s' → us ≡ ts × (step_tries s ≡ 0 → ⊥)
+              by (Operates o) e = (cached ∙ (ap (λ (y : Step). cached_by (step_answer g.tdr at_line y) result.act ts) e ∙ acts result.act), λ z. two-tries (sym (ap step_tries e) ∙ z))
+                where
+                  acts : (act : Option Reply) → cached_by (step_answer g.tdr at_line (Operates o)) act ts ≡ ts
+                  acts None = refl
+                  acts (Some w) = cached-stays g.tdr at_line o w ts
+
+                  two-tries : step_tries (Operates o) ≡ 0 → ⊥
+                  two-tries z = omega (arith, z)
+              by (Accesses access q gpa page) e = (let z = at-once (ap step_tries e) in let no : None ≡ Some z.0 = sym none ∙ z.1 in cc)
+              by (Loads access gpa level page) e = (let z = at-once (ap step_tries e) in let no : None ≡ Some z.0 = sym none ∙ z.1 in cc)
+              by (Leaves out) e = (let z = at-once (ap step_tries e) in let no : None ≡ Some z.0 = sym none ∙ z.1 in cc)
+
+          by : (h' : Option GuestAt) (reply : Option Reply) → result.reply ≡ reply → IsNextGuest g s reply h' → IfSome h' (λ y. IsLow y.walk × (y.list.now ≡ g.list.now)) → KeepsGuest p.machine codes us at_line h' run kept
+          by None None e next same = cc
+          by None (Some z) e next same = ap is_none (none-seen kept (t.seen ∙ ap (λ (w : Option Reply). kept_after w t.stands) e))
+          by (Some y) None e next same =
+              let on = goes-on e in
+              let at : y ≡ g = cc in
+              still y run result.reply seen answered
+              (subst (λ (z : GuestAt). IsGuestKept p.machine codes us at_line z kept) (sym at)
+              (record {
+                tdr = inside.tdr;
+                vp = inside.vp;
+                list = inside.list;
+                low = inside.low;
+                ahead = inside.ahead;
+                under_way = subst (λ (z : Step). IsRunOf p.machine (step_ends g.tdr at_line z) kept) (sym is ∙ ap (λ (ys : List Translation). next_in ys g None) (sym on.0)) t.under_way;
+                alone = λ none. absurd (on.1 (ap step_tries (sym is ∙ ap (λ (ys : List Translation). next_in ys g None) (sym on.0)) ∙ none));
+              }))
+          by (Some y) (Some z) e next same =
+              let gone : kept ≡ None = none-seen kept (t.seen ∙ ap (λ (w : Option Reply). kept_after w t.stands) e) in
+              let st = stays-in s z x (guest_seen y None) (sym (next (run_seen step))) in
+              still y run result.reply seen answered
+              (subst (λ (k : Option Running). IsGuestKept p.machine codes us at_line y k) (sym gone)
+              (record {
+                tdr = subst (λ (n : ℕ). n < p.machine.pages) (sym st.tdr) inside.tdr;
+                vp = subst (λ (n : ℕ). n < p.machine.pages) (sym st.vp) inside.vp;
+                list = ap (λ (n : ℕ). code_in codes n y.index) st.tdr ∙ (ap (λ (n : ℕ). code_in codes g.tdr n) st.index ∙ (inside.list ∙ sym same.1));
+                low = same.0;
+                ahead = st.ahead inside.ahead;
+                under_way = tt;
+                alone = λ none. refl;
+              }))
+
+-- the guest that makes the next event, and its VP.ENTER
+pub record Acts (g : GuestAt) (guest : Option GuestAt) (run : Option Running) : Type 0 where
+  pub guest_is : guest ≡ Some g
+  pub line : Running
+  pub run_is : run ≡ Some line
+  pub back : gives_epoch_back line.run.held.items ≡ false
+
+pub acts-in : (guest : Option GuestAt) (run : Option Running) (g : GuestAt) → acting guest run ≡ Some g → Acts g guest run
+acts-in None run g e = cc
+acts-in (Some h) None g e = cc
+acts-in (Some h) (Some r) g e = by (gives_epoch_back r.run.held.items) refl e
+  where
+    by : (b : Bool) → gives_epoch_back r.run.held.items ≡ b → unless_gives b h ≡ Some g → Acts g (Some h) (Some r)
+    by true back e = cc
+    by false back e = record { guest_is = e; line = r; run_is = refl; back = back }
+
+pub kept-of : (m : _) (codes : List CodeSeen) (ts : List Translation) (n : ℕ) (guest : Option GuestAt) (run : Option Running) (g : GuestAt) (step : Option Running) → acting guest run ≡ Some g → KeepsGuest m codes ts n guest run step → IsGuestKept m codes ts n g step
+kept-of m codes ts n None run g step e keeps = cc
+kept-of m codes ts n (Some h) None g step e keeps = cc
+kept-of m codes ts n (Some h) (Some r) g step e keeps = by (gives_epoch_back r.run.held.items) e
+  where
+    by : (b : Bool) → unless_gives b h ≡ Some g → IsGuestKept m codes ts n g step
+    by true e = cc
+    by false e = (let same : h ≡ g = cc in subst (λ (z : GuestAt). IsGuestKept m codes ts n z step) same keeps.1)
+
+pub answered-of : (m : _) (codes : List CodeSeen) (ts : List Translation) (n : ℕ) (guest : Option GuestAt) (run : Option Running) (g : GuestAt) (step : Option Running) → acting guest run ≡ Some g → KeepsGuest m codes ts n guest run step → IsAnswered run
+answered-of m codes ts n None run g step e keeps = cc
+answered-of m codes ts n (Some h) None g step e keeps = cc
+answered-of m codes ts n (Some h) (Some r) g step e keeps = keeps.0

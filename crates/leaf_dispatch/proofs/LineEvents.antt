@@ -1,0 +1,255 @@
+-- An event of the present line's own leaf is an event of its processor.
+use Rattle.std.proofs.Common.{◌≡◌, ◌∙◌, ℕ, ◌+◌, ◌*◌, ◌<◌, ◌≤◌, Bool, true, false, List, [], ◌∷◌, ◌++◌, length, Option, Some, None, option_map, is_none, IfSome, refl, ap, sym, subst, arith, length-append}
+use Rattle.td_words.specs.Seen.{CodeSeen}
+use Rattle.td_words.specs.declared.calls.Call.{Call}
+use Rattle.td_words.specs.declared.calls.Call.TheVariants as call
+use Rattle.td_words.specs.declared.replies.Reply.{Reply}
+use Rattle.td_words.specs.declared.replies.Reply.TheVariants.{Done, Refused, Exited}
+use Rattle.td_words.specs.declared.replies.Value.TheVariants as value
+use Rattle.flat_core.specs.Processor.{Translation, Note}
+use Rattle.flat_core.specs.Table.{most_tries, operation_events, guest_events}
+use Rattle.flat_core.specs.Run.{events_in}
+use Rattle.step_core.specs.declared.items.Taken.{Taken}
+use Rattle.leaf_engine.specs.declared.needs.Place.{Place}
+use Rattle.leaf_engine.specs.declared.events.HeldLock.{HeldLock}
+use Rattle.leaf_engine.specs.declared.events.Stage.{Stage}
+use Rattle.leaf_engine.specs.declared.events.Stage.TheVariants as stages
+use Rattle.leaf_engine.specs.Besides.{Beside, answered_by}
+use Rattle.leaf_engine.specs.Guests.{WordGuest, gives_epoch_back, guest_entered, or_else}
+use Rattle.leaf_engine.specs.Turns.{Standing, TurnBy}
+use Rattle.leaf_engine.specs.OwnLists.{TurnsInPieces, WordLp, running, after_turn, EnteredTurn}
+use Rattle.leaf_dispatch.specs.Answers.{Ends, call_answer, call_ends, beside_by, guest_by, cached_by, act_of}
+use Rattle.leaf_dispatch.specs.Bounds.{stage_left, events_left}
+use Rattle.leaf_dispatch.specs.Guests.{guest_seen, IsLow}
+use Rattle.leaf_dispatch.specs.Inside.{unless_gives, entered_or, IsGuestKept, KeepsGuest}
+use Rattle.leaf_dispatch.specs.NoteRooms.{least, call_room, lines_room, stage_room, run_room, room_of, room_left}
+use Rattle.leaf_dispatch.specs.Running.{run_seen, kept_after, IsAnsweredBy, standing_of, LeafTurned}
+use Rattle.leaf_dispatch.specs.Table.{code_in, task_of, place_table}
+use Rattle.leaf_dispatch.specs.declared.guests.GuestAt.{GuestAt}
+use Rattle.leaf_dispatch.specs.declared.running.Running.{Running}
+use Rattle.leaf_dispatch.specs.declared.running.LeafTurn.{LeafTurn}
+use Rattle.leaf_dispatch.proofs.Lowering.{Gives}
+use Rattle.leaf_dispatch.proofs.Turning.{line-gives, line-moves, LineMoved, Moved, bound-before, none-begun, bound-after}
+use Rattle.leaf_dispatch.proofs.Fewer.{enters-fewer, releases-fewer}
+
+-- a call answers its reply, and what it makes of the cached translations
+call-quiet : (c : Call) (r : Reply) (b : Beside) → answered_by (call_answer c r) b ≡ record b { cached = (call_answer c r).cached b.cached }
+call-quiet (call.VpEnter tdr vp most) (Done (value.Entered stale index position root)) b = refl
+call-quiet (call.VpEnter tdr vp most) (Done _) b = refl
+call-quiet (call.VpEnter tdr vp most) (Refused s) b = refl
+call-quiet (call.VpEnter tdr vp most) (Exited out) b = refl
+call-quiet (call.VpFlush tdr vp) (Done value.Nothing) b = refl
+call-quiet (call.VpFlush tdr vp) (Done _) b = refl
+call-quiet (call.VpFlush tdr vp) (Refused s) b = refl
+call-quiet (call.VpFlush tdr vp) (Exited out) b = refl
+call-quiet (call.HostRead page word) r b = refl
+call-quiet _ r b = refl
+
+quiet : (c : Call) (act : Option Reply) (b : Beside) → beside_by (call_answer c) act b ≡ record b { cached = cached_by (call_answer c) act b.cached }
+quiet c None b = refl
+quiet c (Some r) b = call-quiet c r b
+
+-- the guest that an act enters is at its start
+pub record Begins (c : Call) (x : WordGuest) : Type 0 where
+  pub events : guest_events c ≡ operation_events * x.most + 1
+  pub completed : x.completed ≡ 0
+  pub stays : x.leaving ≡ None
+  pub none : x.run ≡ None
+  pub room : (longest : ℕ) → call_room longest c ≡ least x.most longest
+
+begins : (c : Call) (r : Reply) (x : WordGuest) → or_else (guest_entered (call_answer c r)) None ≡ Some x → Begins c x
+begins (call.VpEnter tdr vp most) (Done (value.Entered stale index position root)) x e =
+    let entered : WordGuest = record { tdr = tdr; vp = vp; root = root; most = most; completed = 0; index = index; position = position; walk = None; leaving = None; run = None } in
+    let same : entered ≡ x = cc in
+    subst (λ (z : WordGuest). Begins (call.VpEnter tdr vp most) z) same (record { events = refl; completed = refl; stays = refl; none = refl; room = λ n. refl })
+begins (call.VpEnter tdr vp most) (Done _) x e = cc
+begins (call.VpEnter tdr vp most) (Refused s) x e = cc
+begins (call.VpEnter tdr vp most) (Exited out) x e = cc
+begins (call.VpFlush tdr vp) (Done value.Nothing) x e = cc
+begins (call.VpFlush tdr vp) (Done _) x e = cc
+begins (call.VpFlush tdr vp) (Refused s) x e = cc
+begins (call.VpFlush tdr vp) (Exited out) x e = cc
+begins (call.HostRead page word) r x e = cc
+begins _ r x e = cc
+
+pub gives-back : (b : Bool) (g : GuestAt) → unless_gives b g ≡ None → b ≡ true
+gives-back true g e = refl
+gives-back false g e = cc
+
+pub none-kept : (step : Option Running) → is_none step ≡ true → step ≡ None
+none-kept None e = refl
+none-kept (Some r) e = cc
+
+room-begun : (longest : ℕ) (cs : List Call) → room_of longest cs None None ≡ lines_room longest cs
+room-begun longest [] = refl
+room-begun longest (c ∷ cs) = refl
+
+shorter : (older : List HeldLock) (x : HeldLock) (held : List HeldLock) → held ≡ older ++ x ∷ [] → length older < length held
+shorter older x held e = (let n = ap length e in let m = length-append older (x ∷ []) in omega (arith, n, m))
+
+module _ (p : Place) (codes : List CodeSeen) (c : Call) (cs : List Call) (ts us : List Translation) (rs : List Reply) (notes : List Note) (told : List ℕ) where
+  abbrev besides : List Translation → Beside
+  besides xs = record { cached = xs; notes = notes; told = told; bundles = [] }
+
+  abbrev ends : Ends
+  ends = call_ends p.machine c
+
+  abbrev was : Option Standing → Standing
+  was run = running (task_of p c) run
+
+  abbrev pub before : Option Standing → Option WordGuest → WordLp
+  before run g = record { lines = c ∷ cs; run = run; guest = g; replies = rs; beside = besides ts }
+
+  abbrev pub turned : Option WordGuest → Standing → Option Reply → WordLp
+  turned g s reply = after_turn c cs g rs (besides us) s reply
+
+  module _ {B : Type 0} (did : List Taken → B → Type 0) (bench : B) (kept : Option Running) (result : LeafTurn) (cached : us ≡ cached_by (call_answer c) result.act ts) where
+    besides-are : besides us ≡ beside_by (call_answer c) result.act (besides ts)
+    besides-are = ap besides cached ∙ sym (quiet c result.act (besides ts))
+
+    module _ (run : Option Standing) (t : LeafTurned did p.machine ends (was run) bench kept result) where
+      gives : Gives ends (was run) t.stands result.event
+      gives = line-gives did bench p.machine ends (was run) kept result t
+
+      lower : stage_left (most_tries c) (guest_events c) t.stands.stage (length t.stands.held) < stage_left (most_tries c) (guest_events c) (was run).stage (length (was run).held)
+      lower = gives.lower (guest_events c)
+
+      line-moved : TurnsInPieces → (g G : Option WordGuest) → G ≡ guest_by (call_answer c) result.act g → LineMoved did bench p c cs run g rs (besides ts) (turned G t.stands result.reply) result
+      line-moved law g G is =
+          line-moves law did bench p c cs run g rs (besides ts) kept (turned G t.stands result.reply) result t
+          (ap (λ (z : Option WordGuest). after_turn c cs z rs (besides us) t.stands result.reply) is
+          ∙ ap (λ (z : Beside). after_turn c cs (guest_by (call_answer c) result.act g) rs z t.stands result.reply) besides-are)
+
+      -- outside guests
+
+      enters : (act : Option Reply) (x : WordGuest) → result.act ≡ act → Some x ≡ guest_by (call_answer c) act None → (r : Reply) × (act_of result.event t.stands.stage ≡ Some r) × Begins c x
+      enters None x e is = cc
+      enters (Some r) x e is = (r, sym t.act_is ∙ e, begins c r x (sym is))
+
+      outside-fewer : (G : Option WordGuest) → G ≡ guest_by (call_answer c) result.act None → (reply : Option Reply) → events_left (code_in codes) (turned G t.stands reply) < events_left (code_in codes) (before run None)
+      outside-fewer G is reply = subst (λ (n : ℕ). events_left (code_in codes) (turned G t.stands reply) < n + events_in cs) (sym (bound-before p c run)) (by G is reply)
+        where
+          by : (G : Option WordGuest) → G ≡ guest_by (call_answer c) result.act None → (reply : Option Reply) → events_left (code_in codes) (turned G t.stands reply) < stage_left (most_tries c) (guest_events c) (was run).stage (length (was run).held) + events_in cs
+          by G is (Some r) = bound-after (code_in codes) c cs rs (besides us) t.stands (Some r) (stage_left (most_tries c) (guest_events c) (was run).stage (length (was run).held)) lower
+          by None is None = bound-after (code_in codes) c cs rs (besides us) t.stands None (stage_left (most_tries c) (guest_events c) (was run).stage (length (was run).held)) lower
+          by (Some x) is None =
+              let e = enters result.act x refl is in
+              enters-fewer (code_in codes) ts c cs ends (was run) t.stands result.event x rs (besides us) e.0 refl e.2.events e.2.completed gives e.1
+
+      pub outside-moves : TurnsInPieces → (G : Option WordGuest) → G ≡ guest_by (call_answer c) result.act None → Moved (code_in codes) did bench p (before run None) (turned G t.stands result.reply) result.event
+      outside-moves law G is =
+          let moved = line-moved law None G is in
+          record { pieces = moved.pieces; did_them = moved.did_them; turn = moved.turn; fewer = outside-fewer G is result.reply }
+
+      run-before : (n : ℕ) → run_room n run ≡ stage_room n (was run).stage
+      run-before n = by run
+        where
+          by : (run : Option Standing) → run_room n run ≡ stage_room n (was run).stage
+          by None = refl
+          by (Some s) = refl
+
+      less-room : (n : ℕ) (x y : Stage) → ((r : Reply) → x ≡ stages.Answered r → (z : Reply) × (y ≡ stages.Answered z)) → stage_room n y ≤ stage_room n x
+      less-room n (stages.Answered r) y h = (let e = h r refl in subst (λ (z : Stage). stage_room n z ≤ 0) (sym e.1) (omega arith))
+      less-room n stages.Trying y h = at-most y
+        where
+          at-most : (y : Stage) → stage_room n y ≤ n
+          at-most (stages.Answered r) = omega arith
+          at-most stages.Trying = omega arith
+          at-most (stages.Undoing name at) = omega arith
+      less-room n (stages.Undoing name at) y h = at-most y
+        where
+          at-most : (y : Stage) → stage_room n y ≤ n
+          at-most (stages.Answered r) = omega arith
+          at-most stages.Trying = omega arith
+          at-most (stages.Undoing name at) = omega arith
+
+      pub outside-room : (longest : ℕ) (G : Option WordGuest) → G ≡ guest_by (call_answer c) result.act None → (reply : Option Reply) → room_left longest (turned G t.stands reply) ≤ room_left longest (before run None)
+      outside-room longest G is (Some r) = rw (room-begun longest cs) (omega arith)
+      outside-room longest None is None =
+          let less = less-room (call_room longest c) (was run).stage t.stands.stage gives.stays_answered in
+          rw (run-before (call_room longest c)) (omega (arith, less))
+      outside-room longest (Some x) is None =
+          let e = enters result.act x refl is in
+          let on : (was run).stage ≡ stages.Trying = (gives.act e.0 e.1).on in
+          rw (run-before (call_room longest c), on, e.2.room longest, e.2.stays, e.2.completed) (omega arith)
+
+      -- and what is kept then
+      pub outside-keeps : (ent : Option GuestAt) → option_map (λ (g : GuestAt). guest_seen g None) ent ≡ guest_by (call_answer c) result.act None
+          → IfSome ent (λ g. (g.tdr < p.machine.pages) × (g.vp < p.machine.pages) × (code_in codes g.tdr g.index ≡ g.list.now) × IsLow g.walk) → result.reply ≡ None
+          → KeepsGuest p.machine codes us (length rs + 1) (entered_or ent None) kept None
+      outside-keeps None is inside none = refl
+      outside-keeps (Some g) is inside none =
+          let e = enters result.act (guest_seen g None) refl is in
+          let a = gives.act e.0 e.1 in
+          keeps kept (t.seen ∙ ap (λ (z : Option Reply). kept_after z t.stands) none) (subst IsAnsweredBy (sym a.stage) tt) (record {
+            tdr = inside.0;
+            vp = inside.1;
+            list = inside.2;
+            low = inside.3;
+            ahead = subst (λ (n : ℕ). n ≤ g.position) (sym e.2.completed) (omega arith);
+            under_way = tt;
+            alone = λ z. refl;
+          })
+        where
+          keeps : (k : Option Running) → run_seen k ≡ Some t.stands → IsAnsweredBy t.stands.stage → IsGuestKept p.machine codes us (length rs + 1) g None → KeepsGuest p.machine codes us (length rs + 1) (Some g) k None
+          keeps None seen answered is = cc
+          keeps (Some r) seen answered is = (let same : t.stands ≡ standing_of r = cc in (subst (λ (s : Standing). IsAnsweredBy s.stage) same answered, is))
+
+    -- in a guest, while its VP.ENTER gives E back
+    module _ (r : Running) (x : WordGuest) (answered : IsAnsweredBy r.run.stage) (t : LeafTurned did p.machine ends (standing_of r) bench kept result) where
+      pub acts-once : result.act ≡ None
+      acts-once = by result.act refl
+        where
+          by : (act : Option Reply) → result.act ≡ act → act ≡ None
+          by None e = refl
+          by (Some z) e = (let a = (gives (Some (standing_of r)) t).act z (sym t.act_is ∙ e) in absurd (subst IsAnsweredBy a.on answered))
+
+      stays : Some x ≡ guest_by (call_answer c) result.act (Some x)
+      stays = ap (λ (a : Option Reply). guest_by (call_answer c) a (Some x)) (sym acts-once)
+
+      pub inside-cached : us ≡ ts
+      inside-cached = cached ∙ ap (λ (a : Option Reply). cached_by (call_answer c) a ts) acts-once
+
+      held-less : (s : Stage) → r.run.stage ≡ s → IsAnsweredBy s → TurnBy s p.machine (standing_of r) t.turned.0 t.stands result.event → length t.stands.held < length r.run.held.items
+      held-less (stages.Answered z) e a turn = shorter t.stands.held turn.0.newest r.run.held.items turn.0.held_are
+      held-less stages.Trying e a turn = absurd a
+      held-less (stages.Undoing name at) e a turn = absurd a
+
+      inside-fewer : (reply : Option Reply) → events_left (code_in codes) (turned (Some x) t.stands reply) < events_left (code_in codes) (before (Some (standing_of r)) (Some x))
+      inside-fewer (Some z) = (let few = none-begun (code_in codes) cs (rs ++ z ∷ []) (besides us) in omega (arith, few))
+      inside-fewer None =
+          subst (λ (ys : List Translation). events_left (code_in codes) (record { lines = c ∷ cs; run = Some t.stands; guest = Some x; replies = rs; beside = besides ys }) < events_left (code_in codes) (before (Some (standing_of r)) (Some x))) (sym inside-cached)
+          (releases-fewer (code_in codes) c cs (standing_of r) t.stands x rs (besides ts) (held-less r.run.stage refl answered t.turned.2.turn))
+
+      pub inside-moves : TurnsInPieces → gives_epoch_back r.run.held.items ≡ true → Moved (code_in codes) did bench p (before (Some (standing_of r)) (Some x)) (turned (Some x) t.stands result.reply) result.event
+      inside-moves law back =
+          let moved = line-moved (Some (standing_of r)) t law (Some x) (Some x) stays in
+          record {
+            pieces = moved.pieces;
+            did_them = moved.did_them;
+            turn = subst (λ (b : Bool). EnteredTurn (place_table p (code_in codes)) p.machine c cs (standing_of r) x rs (besides ts) result.event moved.pieces (turned (Some x) t.stands result.reply) b) (sym back) moved.turn;
+            fewer = inside-fewer result.reply;
+          }
+
+      pub inside-room : (longest : ℕ) (reply : Option Reply) → room_left longest (turned (Some x) t.stands reply) ≤ room_left longest (before (Some (standing_of r)) (Some x))
+      inside-room longest (Some z) = rw (room-begun longest cs) (omega arith)
+      inside-room longest None = omega arith
+
+      pub inside-keeps : (g : GuestAt) (step : Option Running) → IsGuestKept p.machine codes ts (length rs + 1) g step → result.reply ≡ None → KeepsGuest p.machine codes us (length rs + 1) (Some g) kept step
+      inside-keeps g step is none =
+          keeps kept (t.seen ∙ ap (λ (z : Option Reply). kept_after z t.stands) none) still (subst (λ (ys : List Translation). IsGuestKept p.machine codes ys (length rs + 1) g step) (sym inside-cached) is)
+        where
+          on : (s : Stage) → r.run.stage ≡ s → IsAnsweredBy s → (z : Reply) × (r.run.stage ≡ stages.Answered z)
+          on (stages.Answered z) e a = (z, e)
+          on stages.Trying e a = absurd a
+          on (stages.Undoing name at) e a = absurd a
+
+          still : IsAnsweredBy t.stands.stage
+          still =
+              let was-on = on r.run.stage refl answered in
+              let now = (gives (Some (standing_of r)) t).stays_answered was-on.0 was-on.1 in
+              subst IsAnsweredBy (sym now.1) tt
+
+          keeps : (k : Option Running) → run_seen k ≡ Some t.stands → IsAnsweredBy t.stands.stage → IsGuestKept p.machine codes us (length rs + 1) g step → KeepsGuest p.machine codes us (length rs + 1) (Some g) k step
+          keeps None seen answered is = cc
+          keeps (Some k) seen answered is = (let same : t.stands ≡ standing_of k = cc in (subst (λ (s : Standing). IsAnsweredBy s.stage) same answered, is))

@@ -1,0 +1,208 @@
+-- An event of a logical processor with its calls and its guest, as it keeps them.
+use Rattle.std.proofs.Common.{◌≡◌, ◌∙◌, ℕ, ◌+◌, ◌<◌, ◌≤◌, false, List, [], ◌∷◌, ◌++◌, length, Option, Some, None, option_map, IfSome, refl, ap, sym, subst, arith}
+use Rattle.td_words.specs.Seen.{CodeSeen}
+use Rattle.td_words.specs.declared.calls.Call.{Call}
+use Rattle.td_words.specs.declared.replies.Reply.{Reply}
+use Rattle.flat_core.specs.Processor.{Translation, Note}
+use Rattle.step_core.specs.declared.items.Taken.{Taken}
+use Rattle.leaf_engine.specs.declared.needs.Place.{Place}
+use Rattle.leaf_engine.specs.Trees.{added}
+use Rattle.leaf_engine.specs.Guests.{WordGuest, Step, gives_epoch_back}
+use Rattle.leaf_engine.specs.Merges.{IsStepOf}
+use Rattle.leaf_engine.specs.Turns.{Standing}
+use Rattle.leaf_engine.specs.OwnLists.{TurnsInPieces, WordLp, running, after_turn}
+use Rattle.leaf_dispatch.specs.Answers.{call_answer, call_ends, guest_by, cached_by, step_answer, step_ends, notes_by, tells_by}
+use Rattle.leaf_dispatch.specs.Guests.{guest_seen, next_in, IsLow, CanCount, IsNextGuest}
+use Rattle.leaf_dispatch.specs.Inside.{guest_in, acting, entered_or, line_then, KeepsGuest}
+use Rattle.leaf_dispatch.specs.NoteRooms.{longest_in, room_of}
+use Rattle.leaf_dispatch.specs.Running.{standing_of, run_seen, kept_after, IsAnswered, LeafTurned}
+use Rattle.leaf_dispatch.specs.Table.{code_in, task_of, step_task}
+use Rattle.leaf_dispatch.specs.declared.guests.GuestAt.{GuestAt}
+use Rattle.leaf_dispatch.specs.declared.running.Running.{Running}
+use Rattle.leaf_dispatch.specs.declared.running.LeafTurn.{LeafTurn}
+use Rattle.leaf_dispatch.proofs.Turning.{Moved}
+use Rattle.leaf_dispatch.proofs.LineEvents.{gives-back, none-kept, outside-moves, outside-room, outside-keeps, acts-once, inside-moves, inside-room, inside-keeps}
+use Rattle.leaf_dispatch.proofs.GuestEvents.{MakesNone, Acts, acts-in, guest-moved, guest-fits, guest-keeps, kept-of}
+
+module _ (p : Place) (codes : List CodeSeen) (c : Call) (cs : List Call) (ts us : List Translation) (rs : List Reply) (notes : List Note) (told : List ℕ) where
+  -- where it is, by the parts that an event changes
+  abbrev pub at : List Call → Option Standing → Option WordGuest → List Reply → List Translation → WordLp
+  at lines run g replies xs = record { lines = lines; run = run; guest = g; replies = replies; beside = record { cached = xs; notes = notes; told = told; bundles = [] } }
+
+  module _ {B : Type 0} (did : List Taken → B → Type 0) (bench : B) (kept : Option Running) (result : LeafTurn) where
+    -- of a line that goes on, and of one that has its reply: the event, what is kept of the guest, and the room
+    pub record GoesOn (then-guest : Option GuestAt) (lines : List Call) (guest : Option GuestAt) (run step : Option Running) : Type 0 where
+      pub moved : Moved (code_in codes) did bench p (at lines (run_seen run) (guest_in guest step) rs ts) (at lines (run_seen kept) (guest_in then-guest step) rs us) result.event
+      pub keeps : KeepsGuest p.machine codes us (length rs + 1) then-guest kept step
+      pub room : (longest : ℕ) → room_of longest lines (run_seen kept) (guest_in then-guest step) ≤ room_of longest lines (run_seen run) (guest_in guest step)
+
+    pub record HasEnded (replies : List Reply) (lines : List Call) (guest : Option GuestAt) (run step : Option Running) : Type 0 where
+      pub moved : Moved (code_in codes) did bench p (at lines (run_seen run) (guest_in guest step) rs ts) (at cs (run_seen kept) None replies us) result.event
+      pub room : (longest : ℕ) → room_of longest cs (run_seen kept) None ≤ room_of longest lines (run_seen run) (guest_in guest step)
+
+    module _ (law : TurnsInPieces) (ent : Option GuestAt) (lines : List Call) (guest : Option GuestAt) (run step : Option Running) (is : lines ≡ c ∷ cs)
+        (own : acting guest run ≡ None) (keeps : KeepsGuest p.machine codes ts (length rs + 1) guest run step) (t : LeafTurned did p.machine (call_ends p.machine c) (running (task_of p c) (run_seen run)) bench kept result) (cached : us ≡ cached_by (call_answer c) result.act ts)
+        (entered : option_map (λ (g : GuestAt). guest_seen g None) ent ≡ guest_by (call_answer c) result.act None)
+        (inside : IfSome ent (λ g. (g.tdr < p.machine.pages) × (g.vp < p.machine.pages) × (code_in codes g.tdr g.index ≡ g.list.now) × IsLow g.walk)) where
+      -- a line that goes on
+
+      goes-on : result.reply ≡ None → GoesOn (entered_or ent guest) lines guest run step
+      goes-on none = subst (λ (ls : List Call). GoesOn (entered_or ent guest) ls guest run step) (sym is) (by guest run step own keeps t)
+        where
+          then-is : (t : Standing) → run_seen kept ≡ kept_after result.reply t → (g : Option WordGuest) → after_turn c cs g rs (record { cached = us; notes = notes; told = told; bundles = [] }) t result.reply ≡ at (c ∷ cs) (run_seen kept) g rs us
+          then-is t seen g =
+              ap (after_turn c cs g rs (record { cached = us; notes = notes; told = told; bundles = [] }) t) none
+              ∙ ap (λ (run : Option Standing). at (c ∷ cs) run g rs us) (sym (seen ∙ ap (λ (z : Option Reply). kept_after z t) none))
+
+          outside : (run : Option Running) → (t : LeafTurned did p.machine (call_ends p.machine c) (running (task_of p c) (run_seen run)) bench kept result) → GoesOn (entered_or ent None) (c ∷ cs) None run None
+          outside run t =
+              let seen : guest_in (entered_or ent None) None ≡ option_map (λ (g : GuestAt). guest_seen g None) ent = alone ent in
+              let same = then-is t.stands t.seen (guest_in (entered_or ent None) None) in
+              record {
+                moved = subst (λ (q : WordLp). Moved (code_in codes) did bench p (at (c ∷ cs) (run_seen run) None rs ts) q result.event) same
+                    (outside-moves p codes c cs ts us rs notes told did bench kept result cached (run_seen run) t law (guest_in (entered_or ent None) None) (seen ∙ entered));
+                keeps = outside-keeps p codes c cs ts us rs notes told did bench kept result cached (run_seen run) t ent entered inside none;
+                room = λ longest. subst (λ (q : WordLp). room_of longest q.lines q.run q.guest ≤ room_of longest (c ∷ cs) (run_seen run) None) same
+                    (outside-room p codes c cs ts us rs notes told did bench kept result cached (run_seen run) t longest (guest_in (entered_or ent None) None) (seen ∙ entered) result.reply);
+              }
+            where
+              alone : (ent : Option GuestAt) → guest_in (entered_or ent None) None ≡ option_map (λ (g : GuestAt). guest_seen g None) ent
+              alone None = refl
+              alone (Some g) = refl
+
+          nobody : (ent : Option GuestAt) → option_map (λ (g : GuestAt). guest_seen g None) ent ≡ None → ent ≡ None
+          nobody None e = refl
+          nobody (Some g) e = cc
+
+          by : (guest : Option GuestAt) (run step : Option Running) → acting guest run ≡ None → KeepsGuest p.machine codes ts (length rs + 1) guest run step → LeafTurned did p.machine (call_ends p.machine c) (running (task_of p c) (run_seen run)) bench kept result → GoesOn (entered_or ent guest) (c ∷ cs) guest run step
+          by None run step own keeps t = subst (λ (s : Option Running). GoesOn (entered_or ent None) (c ∷ cs) None run s) (sym (none-kept step keeps)) (outside run t)
+          by (Some g) None step own keeps t = absurd keeps
+          by (Some g) (Some r) step own keeps t =
+              let x : WordGuest = guest_seen g (run_seen step) in
+              let acts = acts-once p codes c cs ts us rs notes told did bench kept result cached r x keeps.0 t in
+              let no : ent ≡ None = nobody ent (entered ∙ ap (λ (a : Option Reply). guest_by (call_answer c) a None) acts) in
+              let same = then-is t.stands t.seen (Some x) in
+              let goes : GoesOn (Some g) (c ∷ cs) (Some g) (Some r) step =
+              record {
+                moved = subst (λ (q : WordLp). Moved (code_in codes) did bench p (at (c ∷ cs) (Some (standing_of r)) (Some x) rs ts) q result.event) same
+                    (inside-moves p codes c cs ts us rs notes told did bench kept result cached r x keeps.0 t law (gives-back (gives_epoch_back r.run.held.items) g own));
+                keeps = inside-keeps p codes c cs ts us rs notes told did bench kept result cached r x keeps.0 t g step keeps.1 none;
+                room = λ longest. subst (λ (q : WordLp). room_of longest q.lines q.run q.guest ≤ room_of longest (c ∷ cs) (Some (standing_of r)) (Some x)) same
+                    (inside-room p codes c cs ts us rs notes told did bench kept result cached r x keeps.0 t longest result.reply);
+              } in
+              subst (λ (e : Option GuestAt). GoesOn (entered_or e (Some g)) (c ∷ cs) (Some g) (Some r) step) (sym no) goes
+
+      pub line-goes-on : (then-guest : Option GuestAt) → then-guest ≡ entered_or ent guest → result.reply ≡ None → GoesOn then-guest lines guest run step
+      line-goes-on then-guest same none = subst (λ (g : Option GuestAt). GoesOn g lines guest run step) (sym same) (goes-on none)
+
+      -- and one that has its reply
+
+      has-ended : (z : Reply) → result.reply ≡ Some z → HasEnded (rs ++ z ∷ []) lines guest run step
+      has-ended z some = subst (λ (ls : List Call). HasEnded (rs ++ z ∷ []) ls guest run step) (sym is) (by guest run step own keeps t)
+        where
+          then-is : (t : Standing) → run_seen kept ≡ kept_after result.reply t → (g : Option WordGuest) → after_turn c cs g rs (record { cached = us; notes = notes; told = told; bundles = [] }) t result.reply ≡ at cs (run_seen kept) None (rs ++ z ∷ []) us
+          then-is t seen g =
+              ap (after_turn c cs g rs (record { cached = us; notes = notes; told = told; bundles = [] }) t) some
+              ∙ ap (λ (run : Option Standing). at cs run None (rs ++ z ∷ []) us) (sym (seen ∙ ap (λ (z : Option Reply). kept_after z t) some))
+
+          outside : (run : Option Running) → (t : LeafTurned did p.machine (call_ends p.machine c) (running (task_of p c) (run_seen run)) bench kept result) → HasEnded (rs ++ z ∷ []) (c ∷ cs) None run None
+          outside run t =
+              let G = guest_by (call_answer c) result.act None in
+              let same = then-is t.stands t.seen G in
+              record {
+                moved = subst (λ (q : WordLp). Moved (code_in codes) did bench p (at (c ∷ cs) (run_seen run) None rs ts) q result.event) same
+                    (outside-moves p codes c cs ts us rs notes told did bench kept result cached (run_seen run) t law G refl);
+                room = λ longest. subst (λ (q : WordLp). room_of longest q.lines q.run q.guest ≤ room_of longest (c ∷ cs) (run_seen run) None) same
+                    (outside-room p codes c cs ts us rs notes told did bench kept result cached (run_seen run) t longest G refl result.reply);
+              }
+
+          by : (guest : Option GuestAt) (run step : Option Running) → acting guest run ≡ None → KeepsGuest p.machine codes ts (length rs + 1) guest run step → LeafTurned did p.machine (call_ends p.machine c) (running (task_of p c) (run_seen run)) bench kept result → HasEnded (rs ++ z ∷ []) (c ∷ cs) guest run step
+          by None run step own keeps t = subst (λ (s : Option Running). HasEnded (rs ++ z ∷ []) (c ∷ cs) None run s) (sym (none-kept step keeps)) (outside run t)
+          by (Some g) None step own keeps t = absurd keeps
+          by (Some g) (Some r) step own keeps t =
+              let x : WordGuest = guest_seen g (run_seen step) in
+              let same = then-is t.stands t.seen (Some x) in
+              record {
+                moved = subst (λ (q : WordLp). Moved (code_in codes) did bench p (at (c ∷ cs) (Some (standing_of r)) (Some x) rs ts) q result.event) same
+                    (inside-moves p codes c cs ts us rs notes told did bench kept result cached r x keeps.0 t law (gives-back (gives_epoch_back r.run.held.items) g own));
+                room = λ longest. subst (λ (q : WordLp). room_of longest q.lines q.run q.guest ≤ room_of longest (c ∷ cs) (Some (standing_of r)) (Some x)) same
+                    (inside-room p codes c cs ts us rs notes told did bench kept result cached r x keeps.0 t longest result.reply);
+              }
+
+      pub line-has-ended : (z : Reply) (replies : List Reply) → result.reply ≡ Some z → replies ≡ rs ++ z ∷ [] → HasEnded replies lines guest run step
+      line-has-ended z replies some more = subst (λ (zs : List Reply). HasEnded zs lines guest run step) (sym more) (has-ended z some)
+
+-- an event of the guest
+
+module _ (p : Place) (codes : List CodeSeen) (rs : List Reply) (told : List ℕ) (notes : List Note) (ts : List Translation) where
+  abbrev pub inside : List Call → Option Standing → Option WordGuest → List Translation → List Note → List ℕ → WordLp
+  inside lines run g xs ns words = record { lines = lines; run = run; guest = g; replies = rs; beside = record { cached = xs; notes = ns; told = words; bundles = [] } }
+
+  module _ {B : Type 0} (did : List Taken → B → Type 0) (bench : B) (kept : Option Running) (result : LeafTurn) (us : List Translation) (s : Step) (g : GuestAt) (h : Option GuestAt) (step : Option Running) where
+    -- the turn of its step at a line
+    pub record StepsAt (line : ℕ) : Type 0 where
+      pub counts : CanCount g s
+      pub low : IsStepOf s
+      pub is : next_in ts g None ≡ s
+      pub turned : LeafTurned did p.machine (step_ends g.tdr line s) (running (step_task p g.tdr g.vp line s) (run_seen step)) bench kept result
+      pub cached : us ≡ cached_by (step_answer g.tdr line s) result.act ts
+      pub next : IsNextGuest g s result.reply h
+
+    abbrev at_line : ℕ
+    at_line = length rs + 1
+
+    -- there is room for what it notes, and for what it tells
+    pub guest-room : (lines : List Call) (guest : Option GuestAt) (run : Option Running) (n : ℕ) → n ≡ length rs + 1 → StepsAt n → 0 < length lines → acting guest run ≡ Some g → KeepsGuest p.machine codes ts (length rs + 1) guest run step
+        → (made : ℕ) → made ≤ 1 → (result.act ≡ None → made ≡ 0) → MakesNone s made → made ≤ room_of (longest_in codes) lines (run_seen run) (guest_in guest step)
+    guest-room [] guest run n same at some acts keeps made few none makes = absurd (omega (arith, some))
+    guest-room (c ∷ cs) guest run n same at some acts keeps made few none makes =
+        let t = subst StepsAt same at in
+        let a : Acts g guest run = acts-in guest run g acts in
+        let inside = kept-of p.machine codes ts at_line guest run g step acts keeps in
+        let fits = guest-fits p codes c cs a.line g step ts us rs notes told did bench kept result s h t.is inside t.counts t.low t.turned t.cached t.next (longest_in codes) made refl few none makes in
+        let less : made ≤ room_of (longest_in codes) (c ∷ cs) (Some (standing_of a.line)) (guest_in (Some g) step) = omega (arith, fits) in
+        subst (λ (y : Option GuestAt). made ≤ room_of (longest_in codes) (c ∷ cs) (run_seen run) (guest_in y step)) (sym a.guest_is)
+        (subst (λ (k : Option Running). made ≤ room_of (longest_in codes) (c ∷ cs) (run_seen k) (guest_in (Some g) step)) (sym a.run_is) less)
+
+    module _ (run' : Option Running) (notes' : List Note) (told' : List ℕ) where
+      -- the event, what is kept of the guest, and the room
+      pub record HasStepped (lines : List Call) (guest : Option GuestAt) (run : Option Running) : Type 0 where
+        pub moved : Moved (code_in codes) did bench p (inside lines (run_seen run) (guest_in guest step) ts notes told) (inside lines (run_seen run') (guest_in h kept) us notes' told') result.event
+        pub keeps : KeepsGuest p.machine codes us (length rs + 1) h run' kept
+        pub room : (made : ℕ) → made ≤ 1 → (result.act ≡ None → made ≡ 0) → MakesNone s made
+            → room_of (longest_in codes) lines (run_seen run') (guest_in h kept) + made ≤ room_of (longest_in codes) lines (run_seen run) (guest_in guest step)
+
+      module _ (n : ℕ) (same : n ≡ length rs + 1) (at : StepsAt n) (noted : notes' ≡ added notes (notes_by (step_answer g.tdr n s) result.act)) (telling : told' ≡ added told (tells_by (step_answer g.tdr n s) result.act)) (answered : IsAnswered run')
+          (list : IfSome h (λ y. IsLow y.walk × (y.list.now ≡ g.list.now))) where
+        abbrev t : StepsAt at_line
+        t = subst StepsAt same at
+
+        then-are : inside [] None None us notes' told' ≡ inside [] None None us (added notes (notes_by (step_answer g.tdr at_line s) result.act)) (added told (tells_by (step_answer g.tdr at_line s) result.act))
+        then-are =
+            ap (λ (ns : List Note). inside [] None None us ns told') (noted ∙ ap (λ (k : ℕ). added notes (notes_by (step_answer g.tdr k s) result.act)) same)
+            ∙ ap (inside [] None None us (added notes (notes_by (step_answer g.tdr at_line s) result.act))) (telling ∙ ap (λ (k : ℕ). added told (tells_by (step_answer g.tdr k s) result.act)) same)
+
+        pub guest-steps : (law : TurnsInPieces) (lines : List Call) (guest : Option GuestAt) (run : Option Running) → 0 < length lines → acting guest run ≡ Some g → KeepsGuest p.machine codes ts (length rs + 1) guest run step
+            → run_seen run' ≡ line_then s result.reply (run_seen run) → HasStepped lines guest run
+        guest-steps law [] guest run some acts keeps seen = absurd (omega (arith, some))
+        guest-steps law (c ∷ cs) guest run some acts keeps seen =
+            let a : Acts g guest run = acts-in guest run g acts in
+            by guest run a.line a.guest_is a.run_is a.back keeps seen
+          where
+            by : (guest : Option GuestAt) (run : Option Running) (r : Running) → guest ≡ Some g → run ≡ Some r → gives_epoch_back r.run.held.items ≡ false → KeepsGuest p.machine codes ts (length rs + 1) guest run step → run_seen run' ≡ line_then s result.reply (run_seen run)
+                → HasStepped (c ∷ cs) guest run
+            by guest run r guest-is run-is back keeps seen =
+                subst (λ (y : Option GuestAt). HasStepped (c ∷ cs) y run) (sym guest-is)
+                (subst (λ (k : Option Running). HasStepped (c ∷ cs) (Some g) k) (sym run-is)
+                (on r back (subst (λ (k : Option Running). KeepsGuest p.machine codes ts (length rs + 1) (Some g) k step) run-is (subst (λ (y : Option GuestAt). KeepsGuest p.machine codes ts (length rs + 1) y run step) guest-is keeps))
+                (seen ∙ ap (λ (k : Option Running). line_then s result.reply (run_seen k)) run-is)))
+              where
+                on : (r : Running) → gives_epoch_back r.run.held.items ≡ false → KeepsGuest p.machine codes ts (length rs + 1) (Some g) (Some r) step → run_seen run' ≡ line_then s result.reply (Some (standing_of r)) → HasStepped (c ∷ cs) (Some g) (Some r)
+                on r back keeps seen = record {
+                  moved = subst (λ (z : Option Standing). Moved (code_in codes) did bench p (inside (c ∷ cs) (Some (standing_of r)) (guest_in (Some g) step) ts notes told) (inside (c ∷ cs) z (guest_in h kept) us notes' told') result.event) (sym seen)
+                      (subst (λ (q : WordLp). Moved (code_in codes) did bench p (inside (c ∷ cs) (Some (standing_of r)) (guest_in (Some g) step) ts notes told) (record { lines = c ∷ cs; run = line_then s result.reply (Some (standing_of r)); guest = guest_in h kept; replies = rs; beside = q.beside }) result.event) (sym then-are)
+                      (guest-moved p codes c cs r g step ts us rs notes told did bench kept result s h t.is keeps.1 t.counts t.low t.turned t.cached t.next law back));
+                  keeps = guest-keeps p codes c cs r g step ts us rs notes told did bench kept result s h t.is keeps.1 t.counts t.low t.turned t.cached t.next run' seen answered list;
+                  room = λ made few none makes. subst (λ (z : Option Standing). room_of (longest_in codes) (c ∷ cs) z (guest_in h kept) + made ≤ room_of (longest_in codes) (c ∷ cs) (Some (standing_of r)) (guest_in (Some g) step)) (sym seen)
+                      (guest-fits p codes c cs r g step ts us rs notes told did bench kept result s h t.is keeps.1 t.counts t.low t.turned t.cached t.next (longest_in codes) made refl few none makes);
+                }

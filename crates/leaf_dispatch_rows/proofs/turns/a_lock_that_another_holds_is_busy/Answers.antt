@@ -1,0 +1,16 @@
+use Rattle.leaf_dispatch_rows.proofs.turns.a_lock_that_another_holds_is_busy.Goals as goal
+
+pub invariant_of-first : goal.invariant_of-first
+invariant_of-first g c =
+    let s = c.turn.new.self in
+    record {
+      machine = s.machine;
+      limits = s.limits;
+      lists_are = s.lists_are;
+      few = s.few;
+      under_way = s.under_way;
+      inside = s.inside;
+      room = s.room;
+      note_room = s.note_room;
+      word_room = s.word_room;
+    }

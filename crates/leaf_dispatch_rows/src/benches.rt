@@ -1,0 +1,85 @@
+//! A bench on which calls are made, and whose words a test may set.
+
+ghost use Rattle.std.specs.Prelude.{◌≡◌, ◌<◌, ◌^◌, length};
+ghost use Rattle.leaf_dispatch.specs.FirstLists.{AreFirstLists};
+ghost use Rattle.leaf_dispatch_rows.specs.declared.benches.TheConstants.{MACHINE};
+
+use leaf_dispatch::{FirstLists, LpState};
+use leaf_engine::{Processor, Turn};
+use std::alloc::Global;
+use std::process::Abort;
+use step_core::PlainBench;
+use td_words::{Call, Code, Machine, Reply, Value};
+
+/// The machine of these benches.
+pub const MACHINE: Machine = Machine {
+    lps: 1,
+    pages: 32,
+    hkids: 1,
+};
+
+/// A TD with TDR 1, TDCS 2 and VCPU 0, and with the secure EPT of its first 2 MB.
+pub const TREE: [Call; 10] = [
+    Call::MngCreate { tdr: 1, hkid: 1 },
+    Call::MngKeyConfig { tdr: 1 },
+    Call::MngAddcx { tdr: 1, page: 2 },
+    Call::MngAddcx { tdr: 1, page: 3 },
+    Call::MngInit { tdr: 1 },
+    Call::VpCreate { tdr: 1, page: 4 },
+    Call::VpInit {
+        tdr: 1,
+        vp: 4,
+        value: 0,
+    },
+    Call::MemSeptAdd {
+        tdr: 1,
+        gpa: 0,
+        level: 3,
+        page: 5,
+    },
+    Call::MemSeptAdd {
+        tdr: 1,
+        gpa: 0,
+        level: 2,
+        page: 6,
+    },
+    Call::MemSeptAdd {
+        tdr: 1,
+        gpa: 0,
+        level: 1,
+        page: 7,
+    },
+];
+
+/// The TD may run.
+pub const RUNS: [Call; 1] = [Call::MrFinalize { tdr: 1 }];
+
+/// A call's success without a value.
+pub const DONE: Reply = Reply::Done(Value::Nothing);
+
+/// Where lists of operations stand.
+pub fn first_lists_of(rt: &impl Abort, alloc: Global, codes: &[Code]) -> FirstLists
+    ensures { AreFirstLists codes.now result }
+{
+    let Ok(first_lists) = FirstLists::new(alloc, codes) else {
+        panic!(rt; "out of memory")
+    };
+    first_lists
+}
+
+/// Makes a processor's calls, each of which is to have that reply.
+pub fn make(rt: &impl Abort, alloc: Global, bench: &mut PlainBench, calls: &[Call], reply: Reply)
+    requires machine { bench.old.machine ≡ MACHINE }
+    requires few { length calls.now < 2 ^ 32 }
+    ensures { bench.new.machine ≡ MACHINE }
+{
+    let first_lists = first_lists_of(rt, alloc, &[]);
+    let Ok(mut lp) = LpState::new(alloc, MACHINE, 0, &[], &first_lists, calls) else {
+        panic!(rt; "out of memory")
+    };
+    while let Turn::Moved(_) = lp.turn(bench) {}
+    assert_eq!(rt; lp.replies().len(), calls.len());
+    for answer in lp.replies() {
+        assert_eq!(rt; *answer, reply);
+    }
+}

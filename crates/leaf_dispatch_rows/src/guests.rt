@@ -1,0 +1,193 @@
+//! What guests note and tell, and how many events their accesses take.
+
+ghost use Rattle.std.specs.Prelude.{◌≡◌, IfOk};
+ghost use Rattle.std.specs.List.{All};
+ghost use Rattle.leaf_engine.specs.Merges.{IsOperation};
+ghost use Rattle.leaf_dispatch.specs.Inside.{AreOperations};
+ghost use Rattle.leaf_dispatch.specs.FirstLists.{AreFirstLists};
+ghost use Rattle.leaf_dispatch_rows.specs.declared.benches.TheConstants.{MACHINE};
+
+use crate::benches::{DONE, MACHINE, RUNS, TREE, first_lists_of, make};
+use leaf_dispatch::{FirstLists, LpState};
+use leaf_engine::{Processor, Turn};
+use report_text::GuestNote;
+use std::alloc::{AllocError, Global};
+use std::process::Abort;
+use std::test::Fail;
+use step_core::{Bench, PlainBench, WordStep};
+use td_words::places::VP_POSITION;
+use td_words::{Access, Call, Code, GuestOp, LockName, Outcome, Reply, lock_address, word_address};
+
+/// The first shared GPA.
+const SHARED: u64 = 1 << 47;
+
+const ENTER: [Call; 1] = [Call::VpEnter {
+    tdr: 1,
+    vp: 4,
+    max: 65_535,
+}];
+
+// A TD that may run, with so many private pages: from GPA 0 on, and from page 8 on.
+fn bench_with(rt: &impl Abort, alloc: Global, pages: u8) -> PlainBench
+    ensures { result.machine ≡ MACHINE }
+{
+    let Ok(mut bench) = PlainBench::new(alloc, MACHINE) else {
+        panic!(rt; "out of memory")
+    };
+    make(rt, alloc, &mut bench, &TREE, DONE);
+    for number in 0..pages {
+        let calls = [Call::MemPageAdd {
+            tdr: 1,
+            gpa: u64::from(number) * 4096,
+            page: u64::from(number) + 8,
+            source: 0,
+        }];
+        make(rt, alloc, &mut bench, &calls, DONE);
+    }
+    make(rt, alloc, &mut bench, &RUNS, DONE);
+    bench
+}
+
+fn load(gpa: u64) -> GuestOp
+    ensures { IsOperation result }
+{
+    GuestOp::Load { register: 1, gpa }
+}
+
+fn store(gpa: u64) -> GuestOp
+    ensures { IsOperation result }
+{
+    GuestOp::Store { register: 1, gpa }
+}
+
+// Loads of so many private pages from GPA 0 on, and of one of them again.
+fn loads(alloc: Global, pages: u8, again: u8) -> Result<Vec<GuestOp>, AllocError>
+    ensures { IfOk result (λ ops. All IsOperation ops.items) }
+{
+    let mut ops = Vec::new(alloc);
+    for number in 0..pages {
+        ops.push(load(u64::from(number) * 4096))?;
+    }
+    ops.push(load(u64::from(again) * 4096))?;
+    Ok(ops)
+}
+
+// A processor that entered a guest at the beginning of its list and left it, and how many events that
+// took, besides the ten of entry and exit.
+fn visit<'a>(
+    rt: &impl Abort,
+    alloc: Global,
+    bench: &mut PlainBench,
+    codes: &'a [Code],
+    first_lists: &'a FirstLists,
+) -> (LpState<'a>, u64)
+    requires machine { bench.old.machine ≡ MACHINE }
+    requires limits { AreOperations codes.now }
+    requires first_lists { AreFirstLists codes.now first_lists.now }
+    ensures { bench.new.machine ≡ MACHINE }
+{
+    bench.perform(WordStep::Store(word_address(4, VP_POSITION), 0));
+    let Ok(mut lp) = LpState::new(alloc, MACHINE, 0, codes, first_lists, &ENTER) else {
+        panic!(rt; "out of memory")
+    };
+    let mut events: u64 = 0;
+    while let Turn::Moved(_) = lp.turn(bench) {
+        events = events.wrapping_add(1);
+    }
+    (lp, events.wrapping_sub(10))
+}
+
+fn codes_of(ops: Vec<GuestOp>) -> [Code; 1]
+    requires { All IsOperation ops.items }
+    ensures { AreOperations result }
+{
+    [Code {
+        tdr: 1,
+        index: 0,
+        ops,
+    }]
+}
+
+#[test]
+fn a_seventeenth_translation_drops_the_oldest(rt: HostRuntime) -> Result<(), Fail> {
+    let mut bench = bench_with(&rt, rt.alloc(), 17);
+    // Pages that are loaded, the one that is loaded again, and that load's events.
+    for (pages, again, more) in [(15u8, 0u8, 1u8), (16, 0, 1), (17, 0, 5), (17, 1, 1)] {
+        let codes = codes_of(loads(rt.alloc(), pages, again)?);
+        let first_lists = first_lists_of(&rt, rt.alloc(), &codes);
+        let (lp, events) = visit(&rt, rt.alloc(), &mut bench, &codes, &first_lists);
+        assert_eq!(rt; lp.replies(), [Reply::Exited(Outcome::Stop)].as_slice());
+        assert_eq!(rt;
+            events,
+            u64::from(pages) * 5 + u64::from(more),
+            "{pages} pages"
+        );
+    }
+    Ok(())
+}
+
+#[test]
+fn notes_and_told_words_come_in_order(rt: HostRuntime) -> Result<(), Fail> {
+    let mut bench = bench_with(&rt, rt.alloc(), 1);
+    bench.perform(WordStep::Store(word_address(20, 3), 77));
+    bench.perform(WordStep::Store(word_address(8, 2), 99));
+    let host = SHARED + 20 * 4096 + 24;
+    let ops = [
+        load(host),
+        store(8),
+        load(16),
+        store(SHARED + 21 * 4096),
+        load(8),
+        GuestOp::Vmcall { register: 1 },
+    ];
+    let codes = codes_of(ops.to_vec(rt.alloc())?);
+    let first_lists = first_lists_of(&rt, rt.alloc(), &codes);
+    let (lp, events) = visit(&rt, rt.alloc(), &mut bench, &codes, &first_lists);
+    let notes = [(host, 77), (16, 99), (8, 77)].map(|(gpa, word)| GuestNote::Load {
+        line: 1,
+        gpa,
+        word,
+    });
+    assert_eq!(rt; lp.notes(), notes.as_slice());
+    assert_eq!(rt; lp.told(), [99, 77].as_slice());
+    assert_eq!(rt;
+        lp.replies(),
+        [Reply::Exited(Outcome::Vmcall(77))].as_slice()
+    );
+    // A shared access has three events, and the first private one walks.
+    assert_eq!(rt; events, 3 + 5 + 1 + 3 + 1 + 1);
+    assert_eq!(rt; bench.word(word_address(21, 0)), 99);
+    Ok(())
+}
+
+#[test]
+fn a_shared_access_reaches_pages_of_the_host_alone(rt: HostRuntime) -> Result<(), Fail> {
+    let mut bench = bench_with(&rt, rt.alloc(), 1);
+    // The guest's own TDVPR page, which is held alone, and one that isn't there: the act alone. The
+    // TDR page, which is shared twice then, and a private page: the try, the act and the release.
+    for (page, more) in [(4u64, 1), (32, 1), (1, 3), (8, 3)] {
+        let gpa = SHARED + page * 4096;
+        for (op, access) in [(load(gpa), Access::Read), (store(gpa), Access::Write)] {
+            let codes = codes_of([op].to_vec(rt.alloc())?);
+            let first_lists = first_lists_of(&rt, rt.alloc(), &codes);
+            let (lp, events) = visit(&rt, rt.alloc(), &mut bench, &codes, &first_lists);
+            let outcome = Outcome::EptViolation { gpa, access };
+            assert_eq!(rt;
+                lp.replies(),
+                [Reply::Exited(outcome)].as_slice(),
+                "page {page}"
+            );
+            assert_eq!(rt; events, more, "page {page}");
+            assert!(rt; lp.notes().is_empty() && lp.told().is_empty());
+        }
+    }
+    // A page of the host that another holds: the try and its undo.
+    bench.perform(WordStep::Store(lock_address(20), 1 << 63));
+    let codes = codes_of([load(SHARED + 20 * 4096)].to_vec(rt.alloc())?);
+    let first_lists = first_lists_of(&rt, rt.alloc(), &codes);
+    let (lp, events) = visit(&rt, rt.alloc(), &mut bench, &codes, &first_lists);
+    let busy = Outcome::Busy(LockName::Page(20));
+    assert_eq!(rt; lp.replies(), [Reply::Exited(busy)].as_slice());
+    assert_eq!(rt; events, 2);
+    Ok(())
+}
