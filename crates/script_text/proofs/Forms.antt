@@ -249,32 +249,33 @@ IfBuilt m listed (Some e) = FitsEntry (Some m) listed e
 IfBuilt m listed None = Unit {0}
 
 built_fits : (m : Machine) (listed : List Bool) (lp : ℕ) (n : CallName) (ns : List (Option ℕ)) → All FitsNumber ns → IfBuilt m listed (built_of lp n ns)
-built_fits m listed lp name.HostRead ns h = (tt, two_fit ns h)
-built_fits m listed lp name.HostWrite ns h = (tt, three_fit ns h)
-built_fits m listed lp name.PhymemPageRdmd ns h = (tt, one_fits ns h)
-built_fits m listed lp name.PhymemCacheWb ns h = (tt, All-nil fits)
-built_fits m listed lp name.PhymemPageReclaim ns h = (tt, two_fit ns h)
-built_fits m listed lp name.MngCreate ns h = (tt, two_fit ns h)
-built_fits m listed lp name.MngKeyConfig ns h = (tt, one_fits ns h)
-built_fits m listed lp name.MngAddcx ns h = (tt, two_fit ns h)
-built_fits m listed lp name.MngInit ns h = (tt, one_fits ns h)
+built_fits m listed lp name.HostRead ns h = two_fit ns h
+built_fits m listed lp name.HostWrite ns h = three_fit ns h
+built_fits m listed lp name.PhymemPageRdmd ns h = one_fits ns h
+built_fits m listed lp name.PhymemCacheWb ns h = All-nil fits
+built_fits m listed lp name.PhymemPageReclaim ns h = two_fit ns h
+built_fits m listed lp name.MngCreate ns h = two_fit ns h
+built_fits m listed lp name.MngKeyConfig ns h = one_fits ns h
+built_fits m listed lp name.MngAddcx ns h = two_fit ns h
+built_fits m listed lp name.MngInit ns h = one_fits ns h
 built_fits m listed lp name.MngRd ns h = argument_fits ns 0 h
-built_fits m listed lp name.MngVpflushdone ns h = (tt, one_fits ns h)
-built_fits m listed lp name.MngKeyFreeid ns h = (tt, one_fits ns h)
-built_fits m listed lp name.MrExtend ns h = (tt, two_fit ns h)
-built_fits m listed lp name.MrFinalize ns h = (tt, one_fits ns h)
-built_fits m listed lp name.VpCreate ns h = (tt, two_fit ns h)
-built_fits m listed lp name.VpInit ns h = (tt, three_fit ns h)
-built_fits m listed lp name.VpFlush ns h = (tt, two_fit ns h)
-built_fits m listed lp name.MemSeptAdd ns h = (tt, four_fit ns h)
-built_fits m listed lp name.MemSeptRd ns h = (tt, three_fit ns h)
-built_fits m listed lp name.MemSeptRemove ns h = (tt, three_fit ns h)
-built_fits m listed lp name.MemPageAdd ns h = (tt, four_fit ns h)
-built_fits m listed lp name.MemPageAug ns h = (tt, three_fit ns h)
-built_fits m listed lp name.MemPageRemove ns h = (tt, two_fit ns h)
-built_fits m listed lp name.MemRangeBlock ns h = (tt, three_fit ns h)
-built_fits m listed lp name.MemRangeUnblock ns h = (tt, three_fit ns h)
-built_fits m listed lp name.MemTrack ns h = (tt, one_fits ns h)
+built_fits m listed lp name.MngVpflushdone ns h = one_fits ns h
+built_fits m listed lp name.MngKeyFreeid ns h = one_fits ns h
+built_fits m listed lp name.MrExtend ns h = two_fit ns h
+built_fits m listed lp name.MrFinalize ns h = one_fits ns h
+built_fits m listed lp name.VpCreate ns h = two_fit ns h
+built_fits m listed lp name.VpInit ns h = three_fit ns h
+built_fits m listed lp name.VpEnter ns h = three_fit ns h
+built_fits m listed lp name.VpFlush ns h = two_fit ns h
+built_fits m listed lp name.MemSeptAdd ns h = four_fit ns h
+built_fits m listed lp name.MemSeptRd ns h = three_fit ns h
+built_fits m listed lp name.MemSeptRemove ns h = three_fit ns h
+built_fits m listed lp name.MemPageAdd ns h = four_fit ns h
+built_fits m listed lp name.MemPageAug ns h = three_fit ns h
+built_fits m listed lp name.MemPageRemove ns h = two_fit ns h
+built_fits m listed lp name.MemRangeBlock ns h = three_fit ns h
+built_fits m listed lp name.MemRangeUnblock ns h = three_fit ns h
+built_fits m listed lp name.MemTrack ns h = one_fits ns h
 built_fits m listed lp _ ns h = tt
 
 judged_fits : (m : Machine) (listed : List Bool) (e : Option Entry) (row : Mnemonic) (ns : List (Option ℕ)) → IfBuilt m listed e → IfGiven (FitsEntry (Some m) listed) (judged_of e row ns)
@@ -560,7 +561,7 @@ entered_fits (Some m) b had listed schedule codes ops calls (entry.Call lp c) ws
     (λ x f. record { limits = h.limits; items = h.items; codes_fit = h.codes_fit; ops_fit = h.ops_fit; block_fits = h.block_fits; calls_fit = f })
 entered_fits (Some m) b had listed schedule codes ops calls (entry.Read lp tdr) ws h k =
     given_field FitsSoFar (field_of (get_or ws 1 [])) _
-    (λ field. given_then (FitsCalls m.lps) FitsSoFar (with_call calls lp (call.MngRd tdr field)) _ (call_added m.lps lp calls (call.MngRd tdr field) h.calls_fit (tt, All-cons fits tdr [] k (All-nil fits)))
+    (λ field. given_then (FitsCalls m.lps) FitsSoFar (with_call calls lp (call.MngRd tdr field)) _ (call_added m.lps lp calls (call.MngRd tdr field) h.calls_fit (All-cons fits tdr [] k (All-nil fits)))
     (λ x f. record { limits = h.limits; items = h.items; codes_fit = h.codes_fit; ops_fit = h.ops_fit; block_fits = h.block_fits; calls_fit = f }))
 entered_fits (Some m) b had listed schedule codes ops calls (entry.Operation g) ws h k =
     given_then FitsOps FitsSoFar (with_op ops g) _ (op_added ops g h.ops_fit k)

@@ -35,7 +35,7 @@ use Rattle.script_text.specs.Line.{entry_of, machine_of, block_of, end_of, call_
 use Rattle.script_text.specs.Blocks.{field_of, code_of, none_listed}
 use Rattle.script_text.specs.Reading.{SoFar, nothing_yet, with_call, entered_of, worded_of, line_of, read_from}
 use Rattle.script_text.specs.Seen.{ScriptSeen}
-use Rattle.script_text.specs.Spelling.{call_word, call_numbers, call_names, IsBuilt, FitsCall, FitsOp, op_word, op_numbers, ops_text, codes_text, calls_text, schedule_text, blocks_text, script_text}
+use Rattle.script_text.specs.Spelling.{call_word, call_numbers, call_names, FitsCall, FitsOp, op_word, op_numbers, ops_text, codes_text, calls_text, schedule_text, blocks_text, script_text}
 use Rattle.script_text.specs.Laws.{IsCode, AreOfOthers, IsInForm, ScriptsReadAgain}
 use Rattle.script_text.proofs.FirstBads.{within}
 use Rattle.script_text.proofs.Steps.{good_line}
@@ -119,35 +119,35 @@ abbrev entry_in : ℕ → Call → Entry
 entry_in lp (calls.MngRd tdr field) = entry.Read lp tdr
 entry_in lp c = entry.Call lp c
 
-call_entry : (s : Stage) (listed : List Bool) (m : Machine) (lp : ℕ) (c : Call) → IsBuilt c → s.machine ≡ Some m → s.block ≡ Some (block.Lp lp) → entry_of s listed (call_word c) (call_seen c) ≡ Ok (entry_in lp c)
+call_entry : (s : Stage) (listed : List Bool) (m : Machine) (lp : ℕ) (c : Call) → s.machine ≡ Some m → s.block ≡ Some (block.Lp lp) → entry_of s listed (call_word c) (call_seen c) ≡ Ok (entry_in lp c)
 unfolding entry_of call_of
-call_entry s listed m lp (calls.HostRead a b) built h k = rw (h, k) refl
-call_entry s listed m lp (calls.HostWrite a b c) built h k = rw (h, k) refl
-call_entry s listed m lp (calls.PhymemPageRdmd a) built h k = rw (h, k) refl
-call_entry s listed m lp calls.PhymemCacheWb built h k = rw (h, k) refl
-call_entry s listed m lp (calls.PhymemPageReclaim a b) built h k = rw (h, k) refl
-call_entry s listed m lp (calls.MngCreate a b) built h k = rw (h, k) refl
-call_entry s listed m lp (calls.MngKeyConfig a) built h k = rw (h, k) refl
-call_entry s listed m lp (calls.MngAddcx a b) built h k = rw (h, k) refl
-call_entry s listed m lp (calls.MngInit a) built h k = rw (h, k) refl
-call_entry s listed m lp (calls.MngRd a f) built h k = rw (h, k) refl
-call_entry s listed m lp (calls.MngVpflushdone a) built h k = rw (h, k) refl
-call_entry s listed m lp (calls.MngKeyFreeid a) built h k = rw (h, k) refl
-call_entry s listed m lp (calls.MrExtend a b) built h k = rw (h, k) refl
-call_entry s listed m lp (calls.MrFinalize a) built h k = rw (h, k) refl
-call_entry s listed m lp (calls.VpCreate a b) built h k = rw (h, k) refl
-call_entry s listed m lp (calls.VpInit a b c) built h k = rw (h, k) refl
-call_entry s listed m lp (calls.VpEnter a b c) built h k = absurd built
-call_entry s listed m lp (calls.VpFlush a b) built h k = rw (h, k) refl
-call_entry s listed m lp (calls.MemSeptAdd a b c d) built h k = rw (h, k) refl
-call_entry s listed m lp (calls.MemSeptRd a b c) built h k = rw (h, k) refl
-call_entry s listed m lp (calls.MemSeptRemove a b c) built h k = rw (h, k) refl
-call_entry s listed m lp (calls.MemPageAdd a b c d) built h k = rw (h, k) refl
-call_entry s listed m lp (calls.MemPageAug a b c) built h k = rw (h, k) refl
-call_entry s listed m lp (calls.MemPageRemove a b) built h k = rw (h, k) refl
-call_entry s listed m lp (calls.MemRangeBlock a b c) built h k = rw (h, k) refl
-call_entry s listed m lp (calls.MemRangeUnblock a b c) built h k = rw (h, k) refl
-call_entry s listed m lp (calls.MemTrack a) built h k = rw (h, k) refl
+call_entry s listed m lp (calls.HostRead a b) h k = rw (h, k) refl
+call_entry s listed m lp (calls.HostWrite a b c) h k = rw (h, k) refl
+call_entry s listed m lp (calls.PhymemPageRdmd a) h k = rw (h, k) refl
+call_entry s listed m lp calls.PhymemCacheWb h k = rw (h, k) refl
+call_entry s listed m lp (calls.PhymemPageReclaim a b) h k = rw (h, k) refl
+call_entry s listed m lp (calls.MngCreate a b) h k = rw (h, k) refl
+call_entry s listed m lp (calls.MngKeyConfig a) h k = rw (h, k) refl
+call_entry s listed m lp (calls.MngAddcx a b) h k = rw (h, k) refl
+call_entry s listed m lp (calls.MngInit a) h k = rw (h, k) refl
+call_entry s listed m lp (calls.MngRd a f) h k = rw (h, k) refl
+call_entry s listed m lp (calls.MngVpflushdone a) h k = rw (h, k) refl
+call_entry s listed m lp (calls.MngKeyFreeid a) h k = rw (h, k) refl
+call_entry s listed m lp (calls.MrExtend a b) h k = rw (h, k) refl
+call_entry s listed m lp (calls.MrFinalize a) h k = rw (h, k) refl
+call_entry s listed m lp (calls.VpCreate a b) h k = rw (h, k) refl
+call_entry s listed m lp (calls.VpInit a b c) h k = rw (h, k) refl
+call_entry s listed m lp (calls.VpEnter a b c) h k = rw (h, k) refl
+call_entry s listed m lp (calls.VpFlush a b) h k = rw (h, k) refl
+call_entry s listed m lp (calls.MemSeptAdd a b c d) h k = rw (h, k) refl
+call_entry s listed m lp (calls.MemSeptRd a b c) h k = rw (h, k) refl
+call_entry s listed m lp (calls.MemSeptRemove a b c) h k = rw (h, k) refl
+call_entry s listed m lp (calls.MemPageAdd a b c d) h k = rw (h, k) refl
+call_entry s listed m lp (calls.MemPageAug a b c) h k = rw (h, k) refl
+call_entry s listed m lp (calls.MemPageRemove a b) h k = rw (h, k) refl
+call_entry s listed m lp (calls.MemRangeBlock a b c) h k = rw (h, k) refl
+call_entry s listed m lp (calls.MemRangeUnblock a b c) h k = rw (h, k) refl
+call_entry s listed m lp (calls.MemTrack a) h k = rw (h, k) refl
 
 field_again : (f : ReadField) → field_of (read_text f) ≡ Ok f
 field_again field.Life = refl
@@ -173,10 +173,10 @@ call_added m had listed schedule lists done cs later c room =
     let r : leb 4096 (length cs) ≡ false = grind arith in
     rw (get_or-append_seam done cs later [], r, set-append_seam done cs later (cs ++ c ∷ [])) refl
 
-call_said : (m : Machine) (had listed : List Bool) (schedule : List ℕ) (lists : List CodeSeen) (done : List (List Call)) (cs : List Call) (later : List (List Call)) (c : Call) → IsBuilt c → length cs < 4096
+call_said : (m : Machine) (had listed : List Bool) (schedule : List ℕ) (lists : List CodeSeen) (done : List (List Call)) (cs : List Call) (later : List (List Call)) (c : Call) → length cs < 4096
     → said_by (in_block m had listed schedule lists done cs later) (call_word c) (call_seen c) (call_words c) ≡ Ok (in_block m had listed schedule lists done (cs ++ c ∷ []) later)
-call_said m had listed schedule lists done cs later c built room =
-    rw (call_entry (in_block m had listed schedule lists done cs later).stage listed m (length done) c built refl refl)
+call_said m had listed schedule lists done cs later c room =
+    rw (call_entry (in_block m had listed schedule lists done cs later).stage listed m (length done) c refl refl)
     (call_entered (in_block m had listed schedule lists done cs later) (length done) c ∙ call_added m had listed schedule lists done cs later c room)
 
 call_is_word : (c : Call) → IsWord (call_word c)
@@ -196,7 +196,7 @@ names_are_words (calls.MngRd a f) = All-cons IsWord (read_text f) [] (field_is_w
 names_are_words _ = All-nil IsWord
 
 call_words_are_words : (c : Call) → FitsCall c → All IsWord (call_words c)
-call_words_are_words c h = All-append IsWord (map decimal (call_numbers c)) (call_names c) (decimals_are_words (call_numbers c) (all_fit (call_numbers c) h.1)) (names_are_words c)
+call_words_are_words c h = All-append IsWord (map decimal (call_numbers c)) (call_names c) (decimals_are_words (call_numbers c) (all_fit (call_numbers c) h)) (names_are_words c)
 
 -- the calls of a block, whatever stands behind them
 calls_passed : (m : Machine) (had listed : List Bool) (schedule : List ℕ) (lists : List CodeSeen) (done later : List (List Call)) (cs old : List Call) (n : ℕ) (rest : List ℕ) (read : Result ScriptSeen ScriptFault) → length old + length cs ≤ 4096 → All FitsCall cs
@@ -208,7 +208,7 @@ calls_passed m had listed schedule lists done later (c ∷ cs) old n rest read f
     let P : ℕ → List Call → Type 0 = λ k all. read_from (in_block m had listed schedule lists done all later) k (pieces rest) ≡ read in
     rw append_assoc
     (words_passed (in_block m had listed schedule lists done old later) (in_block m had listed schedule lists done (old ++ c ∷ []) later) n (call_word c) (call_seen c) (call_words c) (calls_text cs ++ rest) (call_is_word c) (call_no_comment c)
-    (call_words_are_words c (All-head FitsCall c cs h)) (names_read (call_numbers c) (call_names c) (all_fit (call_numbers c) (All-head FitsCall c cs h).1)) (call_said m had listed schedule lists done old later c (All-head FitsCall c cs h).0 (omega arith))
+    (call_words_are_words c (All-head FitsCall c cs h)) (names_read (call_numbers c) (call_names c) (all_fit (call_numbers c) (All-head FitsCall c cs h))) (call_said m had listed schedule lists done old later c (omega arith))
     ∙ calls_passed m had listed schedule lists done later cs (old ++ c ∷ []) (n + 1) rest read (simp length-append (omega arith)) (All-tail FitsCall c cs h) (λ k. subst (P k) (sym (append_assoc old (c ∷ []) cs)) (go k)))
 
 -- no processor from one on had a block
@@ -475,7 +475,7 @@ call_short _ = (omega arith, omega arith)
 
 call_length : (c : Call) → FitsCall c → length (line_text (call_word c) (call_words c)) ≤ 111
 call_length c h =
-    let numbers : length (words_text (map decimal (call_numbers c))) ≤ 21 * length (call_numbers c) = numbers_length (call_numbers c) (all_fit (call_numbers c) h.1) in
+    let numbers : length (words_text (map decimal (call_numbers c))) ≤ 21 * length (call_numbers c) = numbers_length (call_numbers c) (all_fit (call_numbers c) h) in
     let names : length (words_text (call_names c)) ≤ 6 = names_short c in
     let short : (length (call_word c) ≤ 20) × (length (call_numbers c) ≤ 4) = call_short c in
     let all : length (words_text (call_words c)) ≤ 90 = rw (words_length (map decimal (call_numbers c)) (call_names c)) (omega arith) in

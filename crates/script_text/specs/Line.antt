@@ -82,6 +82,7 @@ built_of lp name.MrExtend ns = Some (entry.Call lp (calls.MrExtend (argument ns 
 built_of lp name.MrFinalize ns = Some (entry.Call lp (calls.MrFinalize (argument ns 0)))
 built_of lp name.VpCreate ns = Some (entry.Call lp (calls.VpCreate (argument ns 0) (argument ns 1)))
 built_of lp name.VpInit ns = Some (entry.Call lp (calls.VpInit (argument ns 0) (argument ns 1) (argument ns 2)))
+built_of lp name.VpEnter ns = Some (entry.Call lp (calls.VpEnter (argument ns 0) (argument ns 1) (argument ns 2)))
 built_of lp name.VpFlush ns = Some (entry.Call lp (calls.VpFlush (argument ns 0) (argument ns 1)))
 built_of lp name.MemSeptAdd ns = Some (entry.Call lp (calls.MemSeptAdd (argument ns 0) (argument ns 1) (argument ns 2) (argument ns 3)))
 built_of lp name.MemSeptRd ns = Some (entry.Call lp (calls.MemSeptRd (argument ns 0) (argument ns 1) (argument ns 2)))

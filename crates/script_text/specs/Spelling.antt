@@ -74,14 +74,9 @@ abbrev pub call_names : Call → List (List ℕ)
 call_names (calls.MngRd tdr field) = read_text field ∷ []
 call_names _ = []
 
--- each call but VP.ENTER has a line today
-abbrev pub IsBuilt : Call → Type 0
-IsBuilt (calls.VpEnter tdr vp max) = ⊥
-IsBuilt _ = Unit {0}
-
 -- an argument is a number of 64 bits
 abbrev pub FitsCall : Call → Type 0
-FitsCall c = IsBuilt c × All (λ n. n < 2 ^ 64) (call_numbers c)
+FitsCall c = All (λ n. n < 2 ^ 64) (call_numbers c)
 
 abbrev pub calls_text : List Call → List ℕ
 calls_text [] = []

@@ -5,7 +5,7 @@
 //! `specs/Reading.antt` defines, unless memory wasn't found, and four laws: what is read is in form
 //! (`scripts_are_in_form`), a script in form that is written out is read again
 //! (`scripts_read_again`), a fault names the first bad line (`faults_are_first`), and the first reason
-//! that holds of it (`reasons_in_order`). Twenty-six calls and seven guest operations are built; any
+//! that holds of it (`reasons_in_order`). Twenty-seven calls and seven guest operations are built; any
 //! other mnemonic, and `secret`, is UNBUILT. Public functions read output slots.
 #![tactic(auto)]
 

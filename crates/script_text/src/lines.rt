@@ -169,7 +169,7 @@ fn built(lp: u8, call: CallName, numbers: &[Option<u64>]) -> Option<Entry>
     let (first, second) = (argument(numbers, 0), argument(numbers, 1));
     let (third, fourth) = (argument(numbers, 2), argument(numbers, 3));
     let (page, tdr, word, vp, gpa) = (first, first, second, second, second);
-    let (value, level, augmented) = (third, third, third);
+    let (value, max, level, augmented) = (third, third, third, third);
     let call = match call {
         CallName::HostRead => Call::HostRead { page, word },
         CallName::HostWrite => Call::HostWrite { page, word, value },
@@ -187,6 +187,7 @@ fn built(lp: u8, call: CallName, numbers: &[Option<u64>]) -> Option<Entry>
         CallName::MrFinalize => Call::MrFinalize { tdr },
         CallName::VpCreate => Call::VpCreate { tdr, page: second },
         CallName::VpInit => Call::VpInit { tdr, vp, value },
+        CallName::VpEnter => Call::VpEnter { tdr, vp, max },
         CallName::VpFlush => Call::VpFlush { tdr, vp },
         CallName::MemSeptAdd => Call::MemSeptAdd {
             tdr,
