@@ -1,5 +1,5 @@
 -- In the run that is printed guests' accesses reach their own private pages.
-use Rattle.std.proofs.Common.{ℕ, List, Option, Some, None, Result, Ok, IfSome}
+use Rattle.std.proofs.Common.{ℕ, List, Option, Some, None, Result, IfSome}
 use Rattle.flat_core.specs.Opening.{Opening}
 use Rattle.flat_core.specs.AccessLaw.{AccessesAreOwn}
 use Rattle.bundle_store.specs.declared.outside.PutFault.{PutFault}

@@ -1,6 +1,6 @@
 pub mod Accesses
-pub mod Built
 pub mod Codes
+pub mod Notes
 pub mod Counts
 pub mod Part
 pub mod Due

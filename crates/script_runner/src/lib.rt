@@ -4,6 +4,7 @@
 
 mod commanded;
 mod ending;
+mod noted;
 mod replay;
 mod top;
 

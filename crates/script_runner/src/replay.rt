@@ -1,22 +1,23 @@
 //! A script's run over words: its processors under its schedule, and then each to its end.
 
-ghost use Rattle.std.specs.Prelude.{◌≡◌, ◌≤◌, ◌<◌, ◌+◌, true, [], length, map, option_map, IfOk};
+ghost use Rattle.std.specs.Prelude.{◌≡◌, ◌≤◌, ◌<◌, ◌+◌, ◌^◌, [], length, map, option_map, IfOk};
 ghost use Rattle.std.specs.List.{All, concat};
 ghost use Rattle.td_words.specs.Limits.{IsMachine};
-ghost use Rattle.flat_core.specs.GuestText.{guest_text, note_told};
+ghost use Rattle.flat_core.specs.GuestText.{guest_text};
 ghost use Rattle.flat_core.specs.HostText.{host_text};
 ghost use Rattle.script_text.specs.Laws.{IsInForm};
-ghost use Rattle.leaf_dispatch.specs.Answers.{enters_none};
-ghost use Rattle.leaf_dispatch.specs.States.{seen_of};
+ghost use Rattle.leaf_dispatch.specs.Inside.{AreOperations};
+ghost use Rattle.leaf_dispatch.specs.FirstLists.{AreFirstLists};
 ghost use Rattle.trace_table.specs.Benches.{bench_of};
 ghost use Rattle.script_runner.specs.Ending.{opening_of, file_named};
 ghost use Rattle.script_runner.specs.Replaying.{AreFirst, IsAtBench, HaveEnded, TurnsAreEvents, lines_seen, notes_seen, TellAll};
 
+use crate::noted::noted_lines;
 use flat_core::{end_laws, event_laws};
-use leaf_dispatch::{LpState, calls_have_leaves};
+use leaf_dispatch::{FirstLists, LpState, calls_have_leaves};
 use leaf_engine::{Processor, Turn, turns_in_pieces};
 use merge_laws::merge_law;
-use report_text::{GuestNote, guest_lines, host_lines};
+use report_text::host_lines;
 use script_text::Script;
 use std::alloc::Global;
 use td_words::{Call, Code, Machine, OutOfMemory};
@@ -33,24 +34,27 @@ fn laws_of_turns()
     event_laws();
 }
 
-// The processors of a machine, each at the first of its calls, of which none enters a guest, with the lists of
-// operations.
+// The processors of a machine, each at the first of its calls, with the lists of operations and where they
+// stand.
 fn processors<'a>(
     alloc: Global,
     machine: Machine,
     codes: &'a [Code],
+    first_lists: &'a FirstLists,
     lists: &'a [Vec<Call>],
 ) -> Result<Vec<LpState<'a>>, OutOfMemory>
     requires machine { IsMachine machine }
     requires few { length lists.now ≤ 8 }
-    requires outside { All (λ list. enters_none list.items ≡ true) lists.now }
+    requires short { All (λ list. length list.items < 2 ^ 32) lists.now }
+    requires limits { AreOperations codes.now }
+    requires first_lists { AreFirstLists codes.now first_lists.now }
     ensures { IfOk result (λ v. AreFirst machine codes.now 0 v.items (map (λ list. list.items) lists.now)) }
 {
     let Ok(mut lps) = Vec::with_capacity(alloc, lists.len()) else {
         return Err(OutOfMemory);
     };
     for lp in 0..lists.len() {
-        let state = LpState::new(alloc, machine, lp as u8, codes, &lists[lp])?;
+        let state = LpState::new(alloc, machine, lp as u8, codes, first_lists, &lists[lp])?;
         let Ok(()) = lps.push(state) else {
             return Err(OutOfMemory);
         };
@@ -111,14 +115,6 @@ fn all_lines(alloc: Global, lps: &[LpState<'_>]) -> Result<Vec<u8>, OutOfMemory>
     Ok(text)
 }
 
-// What the guests of a processor noted. None runs yet.
-fn notes<'a>(lp: &'a LpState<'_>) -> &'a [GuestNote]
-    ensures { map note_told (seen_of lp.now).beside.notes ≡ result.now }
-{
-    let _ = lp;
-    &[]
-}
-
 // The lines of what the guests of all processors noted.
 fn all_notes(alloc: Global, lps: &[LpState<'_>]) -> Result<Vec<u8>, OutOfMemory>
     requires { length lps.now ≤ 8 }
@@ -126,7 +122,7 @@ fn all_notes(alloc: Global, lps: &[LpState<'_>]) -> Result<Vec<u8>, OutOfMemory>
 {
     let mut text = Vec::new(alloc);
     for lp in 0..lps.len() {
-        let lines = guest_lines(alloc, lp as u8, notes(&lps[lp]))?;
+        let lines = noted_lines(alloc, lp as u8, lps[lp].notes())?;
         let Ok(()) = text.extend_from_slice(&lines) else {
             return Err(OutOfMemory);
         };
@@ -179,7 +175,9 @@ pub fn replay_texts(
     ensures { IfOk result (λ t. TellAll (option_map (λ name. name.now) guest_out.entry) (host_text (opening_of script.now) script.now.schedule) (guest_text (opening_of script.now) script.now.schedule) t) }
 {
     laws_of_turns();
-    let mut states = processors(alloc, script.machine, &script.codes, &script.calls)?;
+    let codes: &[Code] = &script.codes;
+    let first_lists = FirstLists::new(alloc, codes)?;
+    let mut states = processors(alloc, script.machine, codes, &first_lists, &script.calls)?;
     let lps = states.as_mut_slice();
     let (table, pass) = SharedTable::start(alloc, script.machine)?;
     let mut bench = SharedBench::new(&table, pass);

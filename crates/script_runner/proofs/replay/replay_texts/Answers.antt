@@ -4,19 +4,22 @@ use Rattle.step_core.specs.declared.items.Taken.{Taken}
 use Rattle.trace_table.specs.Merges.{MergesTo}
 use Rattle.trace_table.specs.Benches.{PassSeen, bench_of, table_of}
 use Rattle.script_runner.specs.Ending.{opening_of}
-use Rattle.script_runner.proofs.Built.{lists-listed}
+use Rattle.script_runner.proofs.Codes.{operations-of, short-lists}
 use Rattle.script_runner.proofs.Replayed.{starts, first-bench, open-of, tells, prints-all, notes-all}
 use Rattle.script_runner.proofs.replay.replay_texts.Goals as goal
 
 pub follow_schedule-requires-clause-left : goal.follow_schedule-requires-clause-left
 follow_schedule-requires-clause-left c =
     starts c.args.script.now c.script.inside.machine _ _ _ _ (table_of c.in_ok-table.table) (bench_of c.new-bench.result) (ap (λ (s : ScriptSeen). s.machine) c.script.view_is)
-    (c.deref.ensures.value ∙ ap (λ (s : ScriptSeen). s.codes) c.script.view_is) (ap (map (λ list. list.items)) c.deref-2.ensures.value ∙ ap (λ (s : ScriptSeen). s.calls) c.script.view_is) c.as_mut_slice-lps.ensures.value
+    (c.deref-codes.ensures.value ∙ ap (λ (s : ScriptSeen). s.codes) c.script.view_is) (ap (map (λ list. list.items)) c.deref.ensures.value ∙ ap (λ (s : ScriptSeen). s.calls) c.script.view_is) c.as_mut_slice-lps.ensures.value
     (first-bench (bench_of c.new-bench.result) c.script.inside.machine (table_of c.in_ok-table.table) (c.new-bench.ensures.machine ∙ c.in_ok-table.ensures.machine) (c.new-bench.ensures.pass ∙ c.in_ok-table.ensures.pass)) c.in_ok-states.ensures
 
-pub processors-requires-clause-outside : goal.processors-requires-clause-outside
-processors-requires-clause-outside c =
-    lists-listed c.deref-2.result.now c.args.script.now.calls (ap (map (λ list. list.items)) c.deref-2.ensures.value ∙ ap (λ (s : ScriptSeen). s.calls) c.script.view_is) c.requires.arguments
+pub processors-requires-clause-limits : goal.processors-requires-clause-limits
+processors-requires-clause-limits c = operations-of c.args.script.now c.deref-codes.result.now c.requires (c.deref-codes.ensures.value ∙ ap (λ (s : ScriptSeen). s.codes) c.script.view_is)
+
+pub processors-requires-clause-short : goal.processors-requires-clause-short
+processors-requires-clause-short c =
+    short-lists c.deref.result.now c.args.script.now.calls (ap (map (λ list. list.items)) c.deref.ensures.value ∙ ap (λ (s : ScriptSeen). s.calls) c.script.view_is) c.requires.few_calls
 
 pub returns : goal.returns
 returns c =
