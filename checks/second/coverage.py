@@ -1,6 +1,7 @@
 """What a run of many scripts is to reach: every refusal of every call that is built, every exit, all that
-can come of each guest operation, every reason of a script's fault, and every status of the program that its
-words and its script decide."""
+can come of each guest operation, what becomes of cached translations, beside which guests memory is taken, how
+many guests are in at once, every reason of a script's fault, and every status of the program that its words and
+its script decide."""
 
 from scripts import BUILT, REASONS, UNBUILT
 
@@ -86,10 +87,12 @@ SHOWN_WITHOUT_NUMBER = (
 )
 
 # What can come of each guest operation. A private access is decided by a cached translation or by a walk.
-ALLOWED = ("completed by a walk", "completed by a translation", "completed by a walk that drops the oldest translation")
-VIOLATIONS = tuple(
-    f"EPT_VIOLATION at {place}" for place in ("level 3", "level 2", "level 1", "FREE", "PENDING")
+ALLOWED = (
+    "completed by a walk", "completed by a translation", "completed by a walk that drops the oldest translation",
+    "completed by a walk whose way was made meanwhile",
 )
+GAPS = tuple(f"EPT_VIOLATION at level {level} FREE" for level in (3, 2, 1))
+VIOLATIONS = (*GAPS, "EPT_VIOLATION at FREE", "EPT_VIOLATION at PENDING")
 SHARED = ("completed", "BUSY P", *(f"EPT_VIOLATION at {place}" for place in ("no page", "its own TDVPR page", "a page of a TD")))
 OPERATIONS = {
     "set": ("completed",),
@@ -100,19 +103,43 @@ OPERATIONS = {
     "load shared": SHARED,
     "store shared": SHARED,
     "accept": (
-        "completed at PENDING", "completed at MAPPED", "EPT_VIOLATION at no entry", "EPT_VIOLATION at FREE", "BUSY T",
-        "BUSY P",
+        "completed at PENDING", "completed at MAPPED", *GAPS, "EPT_VIOLATION at FREE", "BUSY T", "BUSY P",
     ),
     "rtmr": ("completed", "BUSY R"),
     "vmcall": ("VMCALL",),
 }
 # What a guest meets only where these calls are built.
+BLOCKED_WAYS = (
+    *(f"EPT_VIOLATION at level {level} NL_BLOCKED" for level in (3, 2, 1)),
+    "EPT_VIOLATION at BLOCKED", "EPT_VIOLATION at PENDING_BLOCKED",
+)
+USES = ("completed by a translation of a blocked entry", "completed by a walk with a block behind it")
 BLOCKING = {
-    "load private": ("completed by a translation of a blocked entry", "EPT_VIOLATION at BLOCKED",
-                     "EPT_VIOLATION at PENDING_BLOCKED"),
-    "store private": ("completed by a translation of a blocked entry", "EPT_VIOLATION at BLOCKED",
-                      "EPT_VIOLATION at PENDING_BLOCKED"),
-    "accept": ("EPT_VIOLATION at BLOCKED", "EPT_VIOLATION at PENDING_BLOCKED"),
+    "load private": (*USES, *BLOCKED_WAYS),
+    "store private": (*USES, *BLOCKED_WAYS),
+    "accept": BLOCKED_WAYS,
+}
+# Beside which guests of the TD memory is blocked and taken, and why a block isn't tracked.
+BESIDES = ("SUCCESS without a guest", "SUCCESS beside a guest")
+BEFORE = "SUCCESS beside a guest of the epoch before"
+TAKING = (
+    *BESIDES, BEFORE, "TLB_TRACKING_NOT_DONE in the epoch of the block",
+    "TLB_TRACKING_NOT_DONE for a guest of the epoch before",
+)
+BESIDE_GUESTS = {
+    "MEM.RANGE.BLOCK": (*BESIDES, BEFORE),
+    "MEM.RANGE.UNBLOCK": TAKING,
+    "MEM.PAGE.REMOVE": TAKING,
+    "MEM.SEPT.REMOVE": TAKING,
+    "MEM.TRACK": BESIDES,
+    # What is cached of a TD on a processor. None that was removed is kept: no page leaves a TD before that.
+    "translations": (
+        *(f"{what} {which}"
+          for what in ("dropped for a new association", "dropped at a later epoch", "dropped by VP.FLUSH")
+          for which in ("as the map says", "of a blocked page", "of a page that was removed")),
+        "kept at an entry as the map says", "kept at an entry of a blocked page", "left of another TD",
+    ),
+    "guests at once": (*(f"{count}" for count in range(1, 9)), "of two TDs"),
 }
 # What comes by calls and operations that may not be built yet.
 COMES_BY = {
@@ -151,7 +178,8 @@ def wanted():
     if "VP.ENTER" in BUILT:
         names.update(f"{name}: {came}" for name, all_came in has(OPERATIONS) for came in all_came)
     if "MEM.RANGE.BLOCK" in BUILT and "VP.ENTER" in BUILT:
-        names.update(f"{name}: {came}" for name, all_came in has(BLOCKING) for came in all_came)
+        came_by_blocks = has(BLOCKING) + has(BESIDE_GUESTS)
+        names.update(f"{name}: {came}" for name, all_came in came_by_blocks for came in all_came)
     names -= {name for name, call in COMES_BY.items() if call in UNBUILT}
     names.update(f"reason {reason}" for reason in REASONS)
     return names | {f"status {status}" for status in range(4)}
@@ -176,11 +204,12 @@ def of_reply(name, arguments, reply, locks):
 
 def of_answer(status, text, processors):
     """All that a command line has reached: its status, its fault's reason, each call's reply, and what came
-    of each guest operation."""
+    of guests and beside them."""
     yield f"status {status}"
     if status == 2:
         yield f"reason {text.split()[-1]}"
+    if processors:
+        yield from processors[0].machine.met
     for processor in processors:
-        yield from processor.met
         for (name, arguments), (reply, locks) in zip(processor.calls, processor.replies):
             yield of_reply(name, arguments, reply, locks)

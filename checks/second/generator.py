@@ -2,7 +2,8 @@
 
 A *story* tells lives of TDs, with other calls between them. A *race* has a TD somewhere in its life, and
 processors that call for the same pages and locks at once. A *crowd* has a TD that runs, processors that enter
-its VCPUs, and others that give it pages, block, track and remove them meanwhile. A *noise* has calls without
+its VCPUs, and others that give it pages, block, track and remove them meanwhile. A *meeting* changes a map under a
+guest that is just on its way, or lets guests in at once, as it comes rarely in a crowd. A *noise* has calls without
 any order. Faulty scripts are one of these with bad lines put in. Last there are scripts at a limit of the
 grammar, and command lines that name no script. What comes rarely by chance, as a race for one call, comes in
 turn. Calls and operations that the program doesn't have stand in UNBUILT, and come in faulty scripts alone.
@@ -19,6 +20,7 @@ from scripts import (
 
 SIZES = (8, 12, 16, 24, 40, 40, 1024)
 ROOMY = (24, 40, 1024)
+LARGE = (40, 1024)
 LEVEL_BYTES = [PAGE_BYTES << 9 * level for level in range(4)]
 
 # Calls that lead a TD on so far that little can be done with it then.
@@ -39,6 +41,7 @@ IN_ROUNDS = ("MEM.SEPT.REMOVE", "MEM.PAGE.REMOVE", "MEM.RANGE.UNBLOCK")
 # How many VCPUs and private pages a TD may have: one in passing, and one whose VCPUs run beside one another.
 # Each processor caches 16 translations.
 FEW, CROWDED = ((0, 1, 2, 8), (1, 2, 2)), ((2, 2, 3, 8), (2, 2, 18))
+THREE, EIGHT = ((3,), (2,)), ((8,), (2,))
 
 
 class Life:
@@ -173,9 +176,10 @@ def riffle(chance, first, second):
 
 
 class Scene:
-    """A machine's size, the lives on it, and pages that are left to the host."""
+    """A machine's size, the lives on it, of which there are two at least where that is meant, and pages that
+    are left to the host."""
 
-    def __init__(self, chance, sizes, life_sizes=FEW):
+    def __init__(self, chance, sizes, life_sizes=FEW, has_two=False):
         self.chance = chance
         self.lps = chance.choice((1, 1, 2, 2, 3, 4, 8))
         self.size = chance.choice(sizes)
@@ -184,6 +188,9 @@ class Scene:
         chance.shuffle(pages)
         pages = pages[:40]
         self.lives = [Life(chance, pages, 1, life_sizes)]
+        if has_two:
+            self.hkids = max(2, self.hkids)
+            self.lives.append(Life(chance, pages, 2, life_sizes))
         while len(pages) > 10 and chance.random() < 0.5:
             self.lives.append(Life(chance, pages, chance.randint(1, self.hkids)))
         self.host = pages or [self.size - 1]
@@ -407,6 +414,173 @@ def crowd(chance, scene, _turn):
     return blocks, [(0, exact_events(scene, build))] + bursts(chance, range(scene.lps), 300 * scene.lps)
 
 
+def begins(scene, life, index, operations):
+    """Lets the list of that VCPU begin with these operations."""
+    head = f"code {life.td} {index}"
+    old = next((block for block in scene.code if block[0] == head), [head, "end"])
+    scene.code = [block for block in scene.code if block[0] != head]
+    scene.code.append([head, *(operations + old[1:-1])[:OPERATIONS_OF_A_LIST], "end"])
+
+
+class Meeting:
+    """What is done behind a TD's build, in this order: on processor 0 what comes before a guest; on processor 1
+    entries, for so many events behind the first one's six; then what processor 2 does meanwhile. Visits of a kind
+    are numbered, for what is to come in turn."""
+
+    def __init__(self, chance, scene, visit, life=None):
+        self.chance, self.scene, self.life, self.visit = chance, scene, life or scene.lives[0], visit
+        self.beyond = self.life.gpa + LEVEL_BYTES[1]
+        self.before, self.meanwhile = [], []
+        self.entries, self.events = [self.enter(0), self.enter(0), self.enter(1)], 0
+        self.lists({0: self.life.gpa, 1: self.life.gpa})
+
+    def enter(self, index, most=65_535):
+        """An entry of the VCPU with that index."""
+        return f"VP.ENTER {self.life.td} {self.life.vcpus[index]} {most}"
+
+    def lists(self, gpas):
+        """Lets lists begin with an access to these addresses."""
+        for index, gpa in gpas.items():
+            access = ("load", "store")[self.visit % 2]
+            begins(self.scene, self.life, index, [f"{access} {self.chance.randrange(8)} {gpa:#x}"] * 2)
+
+    def ranged(self, name, gpa, *level):
+        """A call on that address and level."""
+        words = [gpa - gpa % LEVEL_BYTES[level[0]], *level] if level else [gpa]
+        return " ".join([name, str(self.life.td), *map(str, words)])
+
+    def block(self, gpa, level):
+        """A block that is tracked."""
+        return [self.ranged("MEM.RANGE.BLOCK", gpa, level), f"MEM.TRACK {self.life.td}"]
+
+    def perhaps_tracked(self):
+        """At every second visit a further epoch, which makes the guest one of the epoch before."""
+        return [f"MEM.TRACK {self.life.td}"] * (self.visit % 2)
+
+    def table(self):
+        """A page of the secure EPT beside those of the build."""
+        return f"{self.ranged('MEM.SEPT.ADD', self.beyond, 1)} {self.life.spare[0]}"
+
+    def blocks_under_a_walk(self):
+        """An entry of any level is blocked under a walk or behind it; nothing is taken back or removed under it."""
+        level = self.chance.choice((0, 0, 1, 2, 3))
+        last = self.ranged("MEM.RANGE.UNBLOCK", self.life.gpa, level)
+        self.meanwhile = [*self.block(self.life.gpa, level), last, f"MEM.TRACK {self.life.td}"]
+        self.events = self.chance.randint(max(1, 4 - level), 5)
+
+    def makes_the_way(self):
+        """What is missing is added under a walk, by the host and by a second guest."""
+        self.lists({0: self.beyond})
+        begins(self.scene, self.life, 1, [f"accept {self.beyond - self.beyond % PAGE_BYTES}"])
+        page = f"{self.ranged('MEM.PAGE.AUG', self.beyond)} {self.scene.host[0]}"
+        self.meanwhile = [self.table(), page, self.enter(1, 1)]
+        self.entries, self.events = self.entries[:2], self.chance.choice((1, 2))
+
+    def takes_a_block_back(self):
+        """A block that is tracked is taken back under a walk."""
+        level = self.chance.randrange(4)
+        self.before = self.block(self.life.gpa, level)
+        self.meanwhile = [self.ranged("MEM.RANGE.UNBLOCK", self.life.gpa, level)]
+        self.events = self.chance.randint(0, 4 - level)
+
+    def removes_a_page(self):
+        """A page is removed beside a guest that entered behind the tracking, and perhaps before the next one."""
+        self.before = self.block(self.life.gpa, 0)
+        again = f"{self.ranged('MEM.PAGE.AUG', self.life.gpa)} {self.life.page_at(self.life.gpa)}"
+        self.meanwhile = [*self.perhaps_tracked(), self.ranged("MEM.PAGE.REMOVE", self.life.gpa), again]
+        self.events = self.chance.randrange(4)
+
+    def removes_a_table(self):
+        """The same of a page of the secure EPT."""
+        self.lists({0: self.beyond})
+        self.before = [self.table(), *self.block(self.beyond, 1)]
+        self.meanwhile = [*self.perhaps_tracked(), self.ranged("MEM.SEPT.REMOVE", self.beyond, 1)]
+        self.events = self.chance.randrange(3)
+
+    def finds_nothing(self):
+        """Walks of loads, of stores and of `accept` end at each level; and shared pages aren't the host's."""
+        places = (20 * PAGE_BYTES, *LEVEL_BYTES[1:])
+        for index, access in enumerate(("load 1", "store 1", "accept")):
+            gpa = (self.life.gpa + places[(self.visit + index) % 4]) % GPA_END
+            if self.visit // 4 % 2 and access != "accept":
+                gpa = GPA_END + PAGE_BYTES * (self.life.vcpus[index], self.scene.size, self.life.td)[(self.visit + index) % 3]
+            begins(self.scene, self.life, index, [f"{access} {gpa:#x}"])
+        self.entries = [self.enter(index) for index in range(3)]
+
+    def moves_a_vcpu(self):
+        """A VCPU comes to a processor that has cached what was removed since, or the one that cached it is flushed."""
+        flush = f"VP.FLUSH {self.life.td} {self.life.vcpus[1]}"
+        self.entries = [self.enter(1, 1), self.chance.choice((self.enter(0), flush)), self.enter(0)]
+        self.meanwhile = [*self.block(self.life.gpa, 0), self.ranged("MEM.PAGE.REMOVE", self.life.gpa)]
+        self.events = 5 + 4
+
+    def flushes_another(self):
+        """A VCPU finds what another one has cached on its processor, unless that one is flushed."""
+        flush = f"VP.FLUSH {self.life.td} {self.life.vcpus[0]}"
+        begins(self.scene, self.life, 1, ["set 1 1"])
+        self.entries = [self.enter(1, 1), self.enter(0, 1), *[flush] * (self.visit % 3 > 0), self.enter(1, 2)]
+        self.meanwhile = [self.ranged("MEM.RANGE.BLOCK", self.life.gpa, 0)]
+        self.events = 1 + 4 + 6 + 5 + 4
+
+    def shares_a_processor(self):
+        """VCPUs of two TDs take turns on one processor, and what it has cached of each is blocked meanwhile."""
+        other = Meeting(self.chance, self.scene, self.visit, self.scene.lives[1])
+        flush = f"VP.FLUSH {self.life.td} {self.life.vcpus[0]}"
+        self.before = other.life.build(self.chance, self.scene.host[-1])
+        self.entries = [self.enter(0, 1), other.enter(0, 1), *[flush] * (self.visit % 2), self.enter(0, 1), other.enter(0, 1)]
+        self.meanwhile = [met.ranged("MEM.RANGE.BLOCK", met.life.gpa, 0) for met in (self, other)]
+        self.events = 5 + 4 + 6 + 5 + 4
+
+
+MEETINGS = (
+    Meeting.blocks_under_a_walk, Meeting.makes_the_way, Meeting.takes_a_block_back, Meeting.removes_a_page,
+    Meeting.removes_a_table, Meeting.finds_nothing, Meeting.moves_a_vcpu, Meeting.flushes_another,
+    Meeting.shares_a_processor,
+)
+# Two more kinds of meetings, which have guests in at once: of two TDs, or eight of one TD.
+KINDS = len(MEETINGS) + 2
+OF_TWO_TDS = (len(MEETINGS) - 1, len(MEETINGS))
+
+
+def meeting(chance, scene, turn):
+    """A map changes under a guest, or guests are in at once: each kind in turn, with loads and with stores."""
+    visit, kind = divmod(turn, KINDS)
+    if kind >= len(MEETINGS):
+        return at_once(chance, scene)
+    life = scene.lives[0]
+    if not all(life.spare and life.first_waiting for life in scene.lives[: 1 + (kind in OF_TWO_TDS)]):
+        return crowd(chance, scene, turn)
+    scene.lps = chance.choice((3, 3, 4))
+    met = Meeting(chance, scene, visit)
+    MEETINGS[kind](met)
+    build = life.build(chance, scene.host[-1]) + met.before
+    turns = [(0, exact_events(scene, build)), (1, 6 + met.events), (2, 11 * len(met.meanwhile))]
+    turns.append((1, chance.randint(1, 20)))
+    blocks = [build, met.entries, met.meanwhile] + [[] for _ in range(scene.lps - 3)]
+    for block in blocks:
+        for _ in range(chance.randrange(6)):
+            block += host_calls(chance, scene, life)
+    return blocks, turns + bursts(chance, range(scene.lps), 100)
+
+
+def at_once(chance, scene):
+    """Guests of all TDs of the scene are in at once, each on a processor of its own, and leave at random. Each
+    processor tries the guest of another one too, which may have left it by then."""
+    calls = [call for life in scene.lives for call in life.build(chance, scene.host[-1])]
+    vcpus = [(life.td, page) for life in scene.lives for page in life.vcpus][:8]
+    scene.lps = len(vcpus)
+    for life in scene.lives:
+        for index in range(len(life.vcpus)):
+            begins(scene, life, index, [f"load 1 {life.gpa:#x}", "add 1 0"])
+    entries = [f"VP.ENTER {td} {page} {chance.choice((1, 3, 20))}" for td, page in vcpus]
+    blocks = [[entry, entry, entries[(lp + 2) % scene.lps], entry] for lp, entry in enumerate(entries)]
+    blocks[0] = calls + blocks[0]
+    for lp, (td, page) in enumerate(vcpus):
+        blocks[lp] += [f"VP.FLUSH {td} {page}", entries[(lp + 2) % scene.lps]] + host_calls(chance, scene, scene.lives[0])
+    turns = [(0, exact_events(scene, calls))] + [(lp, 1) for _ in range(6) for lp in range(scene.lps)]
+    return blocks, turns + bursts(chance, range(scene.lps), 60 * scene.lps)
+
+
 def noise(chance, scene, _turn):
     """Calls without any order, for processors that go at random."""
     blocks = [[scene.any_call() for _ in range(chance.randrange(30))] for _ in range(scene.lps)]
@@ -511,7 +685,11 @@ def code_blocks(chance, scene):
 
 def script_lines(chance, make, turn):
     """The lines of a script without a fault."""
-    scene = Scene(chance, ROOMY if make in (race, crowd) else SIZES, CROWDED if make is crowd else FEW)
+    if make is meeting:
+        kind = turn % KINDS
+        scene = Scene(chance, LARGE, EIGHT if kind == KINDS - 1 else THREE, kind in OF_TWO_TDS)
+    else:
+        scene = Scene(chance, ROOMY if make in (race, crowd) else SIZES, CROWDED if make is crowd else FEW)
     blocks, turns = make(chance, scene, turn)
     parts = [[f"lp {lp}", *block, "end"] for lp, block in enumerate(blocks) if block or chance.random() < 0.5]
     parts += scene.code
@@ -658,6 +836,8 @@ def case(seed, place):
         return words, text_of(script_lines(chance, story, round_))
     if kind < 19:
         return words, text_of(script_lines(chance, race, 8 * round_ + kind - 11))
-    if kind < 27:
+    if kind < 24:
         return words, text_of(script_lines(chance, crowd, round_))
+    if kind < 27:
+        return words, text_of(script_lines(chance, meeting, 3 * round_ + kind - 24))
     return words, text_of(script_lines(chance, noise, round_))

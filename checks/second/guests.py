@@ -11,9 +11,41 @@ WRITABLE = ("MAPPED", "EXPORTED_DIRTY")
 TRANSLATIONS = 16
 
 
-def drop_translations(processor, td_page):
-    """Drops a TD's cached translations on a processor."""
+def drop_translations(processor, td_page, why):
+    """Drops a TD's cached translations on a processor, and keeps why."""
+    meet_translations(processor, td_page, f"dropped {why}")
     processor.translations = [kept for kept in processor.translations if kept[0] != td_page]
+    if processor.translations:
+        processor.machine.met.append("translations: left of another TD")
+
+
+def meet_translations(processor, td_page, what):
+    """Keeps what becomes of a TD's cached translations on a processor, and whether the map still says them."""
+    td = processor.machine.tds[td_page]
+    for _, number, page, _ in (kept for kept in processor.translations if kept[0] == td_page):
+        gpa = number * PAGE_BYTES
+        entry = td.entries.get(entry_key(gpa, 0))
+        if entry is None or entry.page != page:
+            which = "of a page that was removed"
+        elif is_reached(td, gpa, 0) and entry.state in READABLE:
+            which = "as the map says"
+        else:
+            which = "of a blocked page"
+        processor.machine.met.append(f"translations: {what} {which}")
+
+
+def is_reached(td, gpa, level):
+    """Whether a walk at this moment reaches the entry of that level."""
+    return all(entry_state(td, gpa, above) == "NL_MAPPED" for above in range(3, level, -1))
+
+
+def first_gap(td, gpa):
+    """Where a walk at this moment ends before level 0."""
+    for level in (3, 2, 1):
+        state = entry_state(td, gpa, level)
+        if state != "NL_MAPPED":
+            return f"at level {level} {state}"
+    return None
 
 
 class Guest:
@@ -26,8 +58,16 @@ class Guest:
         self.code = self.machine.outside.code.get((td_page, self.vcpu.index), [])
         self.how = None  # what decided the operation
 
+    def meet_others(self):
+        """Keeps how many guests are in at once, and whether of more than one TD."""
+        tds = [sum(td.in_guest) for td in self.machine.tds.values()]
+        self.machine.met.append(f"guests at once: {sum(tds)}")
+        if sum(map(bool, tds)) > 1:
+            self.machine.met.append("guests at once: of two TDs")
+
     def events(self, parity, most):
         """The events behind the act of the entry: the release of E, the operations, and the exit."""
+        self.meet_others()
         self.processor.release()
         yield
         reason = yield from self.operations(most)
@@ -59,7 +99,7 @@ class Guest:
         if name in ("load", "store"):
             name += " shared" if operands[1] >= GPA_END else " private"
         came = "completed" if reason is None else " ".join(reason.split()[: 2 if reason.startswith("BUSY") else 1])
-        self.processor.met.append(f"{name}: {came}" + (f" {self.how}" if self.how else ""))
+        self.machine.met.append(f"{name}: {came}" + (f" {self.how}" if self.how else ""))
 
     def complete(self):
         """The operation is completed."""
@@ -135,10 +175,12 @@ class Guest:
             translation = yield from self.walk(gpa, writes)
         else:
             self.how = "by a translation"
-            if not self.is_reached(gpa, 0) or entry_state(self.td, gpa, 0) not in READABLE:
+            if not self.allows_reading(gpa):
                 self.how = "by a translation of a blocked entry"
         if translation is None:
             return violation
+        if self.how.startswith("by a walk") and not self.allows_reading(gpa):
+            self.how = "by a walk with a block behind it"
         self.move(register, gpa, translation[2], writes)
         yield
         return None
@@ -161,17 +203,18 @@ class Guest:
                 return kept
         return None
 
-    def is_reached(self, gpa, level):
-        """Whether a walk at this moment reaches the entry of that level."""
-        return all(entry_state(self.td, gpa, above) == "NL_MAPPED" for above in range(3, level, -1))
+    def allows_reading(self, gpa):
+        """Whether a walk at this moment would end at an entry that allows reading."""
+        return is_reached(self.td, gpa, 0) and entry_state(self.td, gpa, 0) in READABLE
 
     def walk(self, gpa, writes):
         """The walk to a private page, entry by entry; answers the translation that it has cached, or None."""
-        was_reached = self.is_reached(gpa, 0)
+        was_reached = is_reached(self.td, gpa, 0)
         for level in (3, 2, 1):
-            reached = entry_state(self.td, gpa, level) == "NL_MAPPED"
+            state = entry_state(self.td, gpa, level)
+            reached = state == "NL_MAPPED"
             if not reached:
-                self.how = f"at level {level}"
+                self.how = f"at level {level} {state}"
             yield
             if not reached:
                 return None
@@ -214,10 +257,10 @@ class Guest:
         violation = f"EPT_VIOLATION {gpa:#x} WRITE"
         if not (yield from self.attempt(("T", self.td_page), SHARED)):
             return "BUSY T"
-        reached = self.is_reached(gpa, 0)
-        entry = self.td.entries.get(entry_key(gpa, 0)) if reached else None
+        gap = first_gap(self.td, gpa)
+        entry = None if gap else self.td.entries.get(entry_key(gpa, 0))
         if entry is None:
-            self.how = "at FREE" if reached else "at no entry"
+            self.how = gap or "at FREE"
             yield
             yield from self.release()
             return violation

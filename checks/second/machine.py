@@ -99,6 +99,7 @@ class Machine:
         self.hkids = {number: Hkid() for number in range(1, hkids + 1)}
         self.tds = {}  # by TDR page
         self.locks = defaultdict(int)
+        self.met = []  # what came of guests and beside them, for coverage.py
 
     def takes(self, td_page, page, kind, words=()):
         """The TD takes that page as a child."""
@@ -140,7 +141,6 @@ class Processor:
         self.replies = []  # of each call the reply, and how many locks the call had
         self.translations = []  # cached ones, oldest first
         self.guest_lines = []
-        self.met = []  # of each operation what came of it, and how
         self.made = 0
         self.begin()
 

@@ -26,8 +26,20 @@ def in_previous(td):
     return td.in_guest[(td.epoch - 1) % 2]
 
 
-def need_tracked(td, epoch):
-    """The block at that epoch is tracked."""
+def meet_guests(machine, td, name):
+    """Keeps beside which guests of the TD a call succeeds."""
+    in_current = td.in_guest[td.epoch % 2]
+    beside = "beside a guest" if in_current else "without a guest"
+    machine.met.append(f"{name}: SUCCESS {'beside a guest of the epoch before' if in_previous(td) else beside}")
+
+
+def need_tracked(machine, td, page, name):
+    """The block of that page is tracked."""
+    epoch = machine.pages[page].epoch
+    if epoch == td.epoch:
+        machine.met.append(f"{name}: TLB_TRACKING_NOT_DONE in the epoch of the block")
+    elif epoch == td.epoch - 1 and in_previous(td):
+        machine.met.append(f"{name}: TLB_TRACKING_NOT_DONE for a guest of the epoch before")
     tracked = epoch < td.epoch - 1 or (epoch == td.epoch - 1 and in_previous(td) == 0)
     need(tracked, "TLB_TRACKING_NOT_DONE")
 
@@ -44,7 +56,9 @@ def vp_enter(processor, td_page, page, most):
 
     def effect():
         if vcpu.processor is None or vcpu.last_epoch != td.epoch:
-            guests.drop_translations(processor, td_page)
+            why = "for a new association" if vcpu.processor is None else "at a later epoch"
+            guests.drop_translations(processor, td_page, why)
+        guests.meet_translations(processor, td_page, "kept at an entry")
         vcpu.processor, vcpu.last_epoch = processor.number, td.epoch
         td.in_guest[td.epoch % 2] += 1
         return guests.Guest(processor, td_page, page).events(td.epoch % 2, most)
@@ -63,7 +77,7 @@ def vp_flush(processor, td_page, page):
     need(vcpu.processor == processor.number, f"VCPU_ASSOCIATED {vcpu.processor}")
 
     def effect():
-        guests.drop_translations(processor, td_page)
+        guests.drop_translations(processor, td_page, "by VP.FLUSH")
         vcpu.processor = None
 
     return effect
@@ -85,10 +99,11 @@ def first_child(td, key):
     return min(below, default=None)
 
 
-def remove(machine, td, td_page, key):
+def remove(machine, td, td_page, key, name):
     """The effect that frees an entry and gives its page back."""
 
     def effect():
+        meet_guests(machine, td, name)
         machine.gives_back(td_page, td.entries.pop(key).page)
 
     return effect
@@ -102,8 +117,8 @@ def sept_remove(machine, td_page, gpa, level):
     yield of_page(page, EXCLUSIVELY)
     child = first_child(td, key)
     need(child is None, f"SEPT_NOT_EMPTY {child}")
-    need_tracked(td, machine.pages[page].epoch)
-    return remove(machine, td, td_page, key)
+    need_tracked(machine, td, page, "MEM.SEPT.REMOVE")
+    return remove(machine, td, td_page, key, "MEM.SEPT.REMOVE")
 
 
 def page_remove(machine, td_page, gpa):
@@ -112,8 +127,8 @@ def page_remove(machine, td_page, gpa):
     need_entry(td, gpa, 0, "BLOCKED", "PENDING_BLOCKED")
     page = td.entries[key].page
     yield of_page(page, EXCLUSIVELY)
-    need_tracked(td, machine.pages[page].epoch)
-    return remove(machine, td, td_page, key)
+    need_tracked(machine, td, page, "MEM.PAGE.REMOVE")
+    return remove(machine, td, td_page, key, "MEM.PAGE.REMOVE")
 
 
 def range_block(machine, td_page, gpa, level):
@@ -124,6 +139,7 @@ def range_block(machine, td_page, gpa, level):
     yield of_page(entry.page, EXCLUSIVELY)
 
     def effect():
+        meet_guests(machine, td, "MEM.RANGE.BLOCK")
         entry.state = BLOCKED[entry.state]
         machine.pages[entry.page].epoch = td.epoch
 
@@ -136,9 +152,10 @@ def range_unblock(machine, td_page, gpa, level):
     need_entry(td, gpa, level, *UNBLOCKED)
     entry = td.entries[key]
     yield of_page(entry.page, EXCLUSIVELY)
-    need_tracked(td, machine.pages[entry.page].epoch)
+    need_tracked(machine, td, entry.page, "MEM.RANGE.UNBLOCK")
 
     def effect():
+        meet_guests(machine, td, "MEM.RANGE.UNBLOCK")
         entry.state = UNBLOCKED[entry.state]
 
     return effect
@@ -152,6 +169,7 @@ def mem_track(machine, td_page):
     need(in_previous(td) == 0, f"PREVIOUS_TLB_EPOCH_BUSY {in_previous(td)}")
 
     def effect():
+        meet_guests(machine, td, "MEM.TRACK")
         td.epoch += 1
 
     return effect

@@ -190,7 +190,7 @@ def export_mem(machine, td_page, gpa, stream, slot):
     yield of_page(td.streams[stream].page, EXCLUSIVELY)
     need_room(td, stream)
     if live:
-        need_tracked(td, machine.pages[entry.page].epoch)
+        need_tracked(machine, td, entry.page, "EXPORT.MEM")
 
     def effect():
         words = machine.pages[entry.page].words

@@ -1,6 +1,6 @@
 //! Memory that is taken from a TD: blocked, tracked, and removed or unblocked.
 
-use crate::rows::{PAGE, RUNS, Row, TREE, replay_rows};
+use row_replay::{PAGE, RUNS, Row, TREE, replay_rows};
 use std::test::Fail;
 
 const ROWS: &[Row<'static>] = &[
@@ -180,5 +180,5 @@ const ROWS: &[Row<'static>] = &[
 
 #[test]
 fn no_page_is_taken_before_it_is_tracked(rt: HostRuntime) -> Result<(), Fail> {
-    replay_rows(&rt, rt.alloc(), ROWS)
+    replay_rows(rt.alloc(), ROWS)
 }

@@ -4,20 +4,7 @@ use bundle_store::{MemFiles, MemSink, NamedFile};
 use leaf_engine::NoGate;
 use script_runner::tdx_main;
 use std::alloc::Global;
-use std::process::Abort;
 use std::test::Fail;
-
-/// A TD with TDR 1 and VCPU 0, and with the secure EPT of its first 2 MB, in 64 events.
-pub const TREE: &str =
-    "SUCCESS | MNG.CREATE 1 1 | MNG.KEY.CONFIG 1 | MNG.ADDCX 1 2 | MNG.ADDCX 1 3 | MNG.INIT 1 \
-    | VP.CREATE 1 4 | VP.INIT 1 4 0 | MEM.SEPT.ADD 1 0 3 5 | MEM.SEPT.ADD 1 0 2 6 \
-    | MEM.SEPT.ADD 1 0 1 7";
-
-/// A private page, in 11 events.
-pub const PAGE: &str = "SUCCESS | MEM.PAGE.ADD 1 0 8 0";
-
-/// The TD may run, after 5 events.
-pub const RUNS: &str = "SUCCESS | MR.FINALIZE 1";
 
 /// A row: its schedule (an empty one: none), the lists of its VCPUs, what each processor calls, and
 /// the lines of the guest file.
@@ -71,8 +58,8 @@ fn add_processor(
     Ok(())
 }
 
-/// The script s, and no other file.
-pub fn one_script(alloc: Global, text: &str) -> Result<MemFiles, Fail> {
+// The script s, and no other file.
+fn one_script(alloc: Global, text: &str) -> Result<MemFiles, Fail> {
     let mut files = Vec::new(alloc);
     files.push(NamedFile {
         name: String::from_str(alloc, "s")?,
@@ -81,8 +68,8 @@ pub fn one_script(alloc: Global, text: &str) -> Result<MemFiles, Fail> {
     Ok(MemFiles::new(alloc, files, Vec::new(alloc)))
 }
 
-/// The words of a line.
-pub fn words_of(alloc: Global, line: &str) -> Result<Vec<String>, Fail> {
+// The words of a line.
+fn words_of(alloc: Global, line: &str) -> Result<Vec<String>, Fail> {
     let mut words = Vec::new(alloc);
     for word in line.split(' ') {
         words.push(String::from_str(alloc, word)?)?;
@@ -112,9 +99,17 @@ fn guest_file(alloc: Global, lines: &str) -> Result<String, Fail> {
     Ok(text)
 }
 
+// Whether a text is the one that is wanted.
+fn compare(alloc: Global, what: &str, text: &[u8], wanted: &str, script: &str) -> Result<(), Fail> {
+    if text == wanted.as_bytes() {
+        return Ok(());
+    }
+    let told = str::from_utf8(text).unwrap_or("no text");
+    Err(Fail::new(format!(in alloc; "{what}: {told} in place of {wanted} of {script}")?))
+}
+
 // Replays a row, and compares the replies and the guest file.
 fn replay(
-    rt: &impl Abort,
     alloc: Global,
     schedule: &str,
     lists: &[&str],
@@ -137,22 +132,25 @@ fn replay(
     let mut files = one_script(alloc, &script)?;
     let mut out = MemSink::new(alloc, Vec::new(alloc));
     let status = tdx_main(alloc, &words, &mut files, &mut out, &NoGate);
-    assert_eq!(rt; status, 0, "status of {script}");
-    assert_eq!(rt; out.bytes.as_slice(), want.as_bytes(), "text of {script}");
-    match held(&files, "g") {
-        Some(bytes) => {
-            let wanted = guest_file(alloc, guest)?;
-            assert_eq!(rt; bytes, wanted.as_bytes(), "guest file of {script}");
-        }
-        None => assert!(rt; false, "no guest file of {script}"),
+    compare(alloc, "text", &out.bytes, &want, &script)?;
+    if status != 0 {
+        return Err(Fail::new(format!(in alloc; "status {status} of {script}")?));
     }
-    Ok(())
+    let saved = held(&files, "g").ok_or("no guest file")?;
+    compare(
+        alloc,
+        "guest file",
+        saved,
+        &guest_file(alloc, guest)?,
+        &script,
+    )
 }
 
-/// Replays rows, each on 32 pages with two HKIDs.
-pub fn replay_rows(rt: &impl Abort, alloc: Global, rows: &[Row<'static>]) -> Result<(), Fail> {
+/// Replays rows, each on 32 pages with two HKIDs. A row fails where its replies, its guest file or its
+/// status differ.
+pub fn replay_rows(alloc: Global, rows: &[Row<'static>]) -> Result<(), Fail> {
     for (schedule, lists, processors, guest) in rows {
-        replay(rt, alloc, schedule, lists, processors, guest)?;
+        replay(alloc, schedule, lists, processors, guest)?;
     }
     Ok(())
 }

@@ -1,0 +1,14 @@
+//! How a row of calls and guests is replayed, for the crates of such rows: a script is made of it, the
+//! top call of `script_runner` runs it over files and an output in memory, and its replies and its
+//! guest file are compared with those of the row.
+//!
+//! A processor's calls stand in lists, each an answer and, behind bars, the calls that have it; a
+//! semicolon stands between two lists of one text. So do a VCPU's operations, behind its TDR page and
+//! index, and the lines of the guest file.
+#![tactic(auto)]
+
+mod parts;
+mod rows;
+
+pub use parts::{BUILT, OTHER, PAGE, RUNS, SECOND, TREE};
+pub use rows::{Row, replay_rows};

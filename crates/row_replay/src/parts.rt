@@ -1,0 +1,26 @@
+//! What many rows begin with.
+
+/// A TD with TDR 1 that is initialized.
+pub const BUILT: &str =
+    "SUCCESS | MNG.CREATE 1 1 | MNG.KEY.CONFIG 1 | MNG.ADDCX 1 2 | MNG.ADDCX 1 3 | MNG.INIT 1";
+
+/// The same with VCPU 0 and with the secure EPT of its first 2 MB, in 64 events.
+pub const TREE: &str =
+    "SUCCESS | MNG.CREATE 1 1 | MNG.KEY.CONFIG 1 | MNG.ADDCX 1 2 | MNG.ADDCX 1 3 | MNG.INIT 1 \
+    | VP.CREATE 1 4 | VP.INIT 1 4 0 | MEM.SEPT.ADD 1 0 3 5 | MEM.SEPT.ADD 1 0 2 6 \
+    | MEM.SEPT.ADD 1 0 1 7";
+
+/// VCPU 1, in 14 events.
+pub const SECOND: &str = "SUCCESS | VP.CREATE 1 9 | VP.INIT 1 9 0";
+
+/// A private page, in 11 events.
+pub const PAGE: &str = "SUCCESS | MEM.PAGE.ADD 1 0 8 0";
+
+/// The TD may run, after 5 events.
+pub const RUNS: &str = "SUCCESS | MR.FINALIZE 1";
+
+/// A second TD with TDR 20, as far as TREE, in 64 events.
+pub const OTHER: &str =
+    "SUCCESS | MNG.CREATE 20 2 | MNG.KEY.CONFIG 20 | MNG.ADDCX 20 21 | MNG.ADDCX 20 22 \
+    | MNG.INIT 20 | VP.CREATE 20 23 | VP.INIT 20 23 0 | MEM.SEPT.ADD 20 0 3 24 \
+    | MEM.SEPT.ADD 20 0 2 25 | MEM.SEPT.ADD 20 0 1 26";
