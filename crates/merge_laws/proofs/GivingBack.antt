@@ -1,7 +1,6 @@
 -- VP.ENTER in its guest, with E still to give back: what its processor does, and where that leads.
 use Rattle.std.proofs.Common.{◌≡◌, ◌⊎◌, ℕ, ◌<◌, true, false, List, [], ◌∷◌, ◌++◌, length, Option, Some, None, refl, ap, sym, ◌∙◌, subst, inl, inr}
 use Rattle.std.proofs.lemmas.List.{append-nil}
-use Rattle.std.specs.Prelude.{slice_index}
 use Rattle.td_words.specs.declared.names.Mode.TheVariants.{Shared, Exclusive}
 use Rattle.td_words.specs.declared.calls.Call.{Call}
 use Rattle.td_words.specs.declared.replies.Reply.{Reply}
@@ -24,14 +23,13 @@ use Rattle.leaf_engine.specs.Turns.{Standing, last_reply}
 use Rattle.leaf_engine.specs.Calls.{AreLocks, IsStage}
 use Rattle.leaf_engine.specs.Guests.{WordGuest, guest_after, gives_epoch_back}
 use Rattle.leaf_engine.specs.OwnLists.{after_turn, step_leaf}
-use Rattle.leaf_engine.specs.Standing.{LpStands}
-use Rattle.leaf_engine.proofs.Steps.{seen}
+use Rattle.leaf_engine.specs.Standing.{position_at, LpStands}
+use Rattle.leaf_engine.proofs.Making.{adds-bundles, own-bundles}
 use Rattle.leaf_engine.proofs.Processing.{gives-back, given-back-then}
 use Rattle.merge_laws.proofs.Holding.{locks_at}
-use Rattle.merge_laws.proofs.Worlds.{world-turned}
-use Rattle.merge_laws.proofs.Leaving.{turned-bundles, beside-bundles}
+use Rattle.merge_laws.proofs.Inside.{seen_in, seen-is}
 use Rattle.merge_laws.proofs.LineStands.{turned-beside, after-no-run, in-hand-after, turned-stands}
-use Rattle.merge_laws.proofs.Standing.{Trees, table_for, AreTrees, Known, Does, task_for, RunsAt, StepRun, InGuestAt, StandsAt, line_does, DoesHere, with_hasher, IsAct, Leads}
+use Rattle.merge_laws.proofs.Standing.{Trees, table_for, AreTrees, Known, Does, task_for, RunsAt, InGuestAt, StandsAt, line_does, DoesHere, with_hasher, IsAct, Leads}
 
 module _ (o : Opening) (trees : Trees) (s : State) (p : ℕ) (c : Call) (cs : List Call) (line : Standing) (x : WordGuest) (rs : List Reply) (b : Beside) (are : AreTrees o trees) (known : Known o s) (i : p < length o.calls) (lines : lines_left o p (s.lps p) ≡ c ∷ cs)
     (replies : (s.lps p).replies ≡ rs) (beside : beside_of (s.lps p) b.bundles ≡ b) (words : WordPlace → ℕ) (a : InGuestAt o trees p s.world words (s.lps p) line x rs b) (gives : gives_epoch_back line.held ≡ true) where
@@ -107,24 +105,11 @@ module _ (o : Opening) (trees : Trees) (s : State) (p : ℕ) (c : Call) (cs : Li
   fresh : x.run ≡ None
   fresh = a.waits gives
 
-  place : w.vps.positions x.vp ≡ x.position
-  place =
-      let f : StepRun (step_leaf (table_for o trees p) x rs b) w words x.vp x.position None g.operation = subst (λ (z : Option Standing). StepRun (step_leaf (table_for o trees p) x rs b) w words x.vp x.position z g.operation) fresh a.far in
-      f.1
+  guest-is : seen_in w g x.position None ≡ x
+  guest-is = ap (λ (z : Option Standing). seen_in w g x.position z) (sym fresh) ∙ seen-is (step_leaf (table_for o trees p) x rs b) w words g x x.run a.at
 
-  guest-is : seen g (slice_index (w.tds.controls g.tdr) 1) (w.vps.indexes g.vp) x.position None ≡ x
-  guest-is = λ j. record {
-    tdr = a.same.tdr j;
-    vp = a.same.vp j;
-    root = (ap (λ (q : ℕ). slice_index (w.tds.controls q) 1) a.same.tdr ∙ a.root) j;
-    most = a.same.most j;
-    completed = a.same.completed j;
-    index = (ap w.vps.indexes a.same.vp ∙ a.index) j;
-    position = x.position;
-    walk = a.same.walk j;
-    leaving = a.same.leaving j;
-    run = sym fresh j;
-  }
+  place : w.vps.positions g.vp ≡ x.position
+  place = ap w.vps.positions a.at.vp ∙ (a.at.position ∙ ap (position_at x.position) fresh)
 
   -- it is a release
   releases : (mv : Move Reply) → next_event o s p ≡ Some (OfCall row mv) → Releases (record { lock = OfEpoch g.tdr; mode = Shared }) ≡ mv
@@ -156,11 +141,11 @@ module _ (o : Opening) (trees : Trees) (s : State) (p : ℕ) (c : Call) (cs : Li
         (turned-stands o trees p w' la.mem.words lp' c cs (guest_after e run'.rest (Some x)) lp.replies (beside_after e run'.rest b) run' h reply none-on
         (subst (λ (z : Beside). LpStands o (table_for o trees p) p w' la.mem.words lp' (after_turn c cs (guest_after e run'.rest (Some x)) lp.replies (beside_after e run'.rest z) (with_hasher run' h) reply)) beside
         (subst (λ (z : WordGuest). LpStands o (table_for o trees p) p w' la.mem.words lp' (after_turn c cs (guest_after e run'.rest (Some z)) lp.replies (beside_after e run'.rest (beside_of lp b.bundles)) (with_hasher run' h) reply)) guest-is
-        (given-back-then o p s la.mem c cs (trees.call p) (trees.step p) (trees.means p) b.bundles known.guarded.timely lines u e (with_hasher run' h) line a.reply g x.position a.is_in a.answered entered.0 ing.trying none (ap w.vps.positions a.same.vp ∙ place) la))));
+        (given-back-then o p s la.mem c cs (trees.call p) (trees.step p) (trees.means p) b.bundles known.guarded.timely lines u e (with_hasher run' h) line a.reply g x.position a.is_in a.answered entered.0 ing.trying none place la))));
     after_grows = λ u run' h e la. record {
       more = bundles_made e run'.rest;
-      all = ap (λ (z : World). z.outgoing.bundles) (world-turned o s p its.meaning la.move (inl tt) la.next) ∙ turned-bundles its.meaning la.move e run'.rest s.world la.acts;
-      own = ap (λ (z : Beside). z.bundles) (turned-beside c cs (guest_after e run'.rest (Some x)) rs (beside_after e run'.rest b) run' (last_reply run'.stage run'.held)) ∙ beside-bundles e run'.rest b;
+      all = adds-bundles o (task_for o p its) s far u (with_hasher run' h) e (inl tt) la;
+      own = ap (λ (z : Beside). z.bundles) (turned-beside c cs (guest_after e run'.rest (Some x)) rs (beside_after e run'.rest b) run' (last_reply run'.stage run'.held)) ∙ own-bundles e run'.rest b;
     };
     after_run = λ e run' h f. in-hand-after c cs (guest_after e run'.rest (Some x)) rs (beside_after e run'.rest b) run' (last_reply run'.stage run'.held) h (after-no-run e run'.rest (Some x) fresh) f;
     locks_stay = λ mv act next. absurd (no-act mv act (releases mv next.next));

@@ -1,4 +1,4 @@
--- What a turn of a guest's step leaves: its locks, its run, the bundles of measurement.
+-- What a turn of a guest's step leaves: its run, and its locks.
 use Rattle.std.proofs.Common.{◌≡◌, ◌⊎◌, ℕ, zero, suc, Bool, true, false, List, [], ◌∷◌, ◌++◌, Option, Some, None, option_map, refl, ap, sym, ◌∙◌, inl, inr}
 use Rattle.td_words.specs.declared.names.Access.{Access}
 use Rattle.td_words.specs.declared.refusals.Status.TheVariants.{OperandBusy}
@@ -15,22 +15,16 @@ use Rattle.flat_core.specs.Guest.{answered, walk_level, walk_step, walked_on, go
 use Rattle.flat_core.specs.Event.{State, Event, event, after_event, lp_after, is_granted, settle_operation, settled_guest, operation_guest, operation_busy}
 use Rattle.lock_words.specs.Grips.{operation_locks}
 use Rattle.lock_words.specs.LockWords.{IsNext}
-use Rattle.leaf_engine.specs.declared.events.Event.{Event as RunEvent}
-use Rattle.leaf_engine.specs.declared.events.Event.TheVariants as events
-use Rattle.leaf_engine.specs.Besides.{Beside, beside_of, beside_after, bundles_made}
 use Rattle.leaf_engine.specs.Means as meaning
 use Rattle.leaf_engine.specs.Means.{Meaning, work_of}
-use Rattle.leaf_engine.specs.Trees.{Answer, Tree, answer_of, added}
 use Rattle.leaf_engine.specs.Turns.{Standing}
-use Rattle.leaf_engine.specs.Doing.{event_of, row_then, outcome_of, HasMoves, work_world, ActsBy}
+use Rattle.leaf_engine.specs.Doing.{event_of, row_then, outcome_of, HasMoves}
 use Rattle.leaf_engine.specs.Standing.{out_progress}
 use Rattle.leaf_engine.specs.Guests.{WordGuest, Step, Operates, Accesses, Loads, Leaves as Left, stepped, walked, is_right}
 use Rattle.leaf_engine.specs.OwnLists.{line_after}
 use Rattle.leaf_engine.proofs.Calling.{lp-now}
-use Rattle.leaf_engine.proofs.Doings.{no-act}
 use Rattle.merge_laws.proofs.Holding.{locks_at}
 use Rattle.merge_laws.proofs.Standing.{guest_run, IsAct}
-use Rattle.merge_laws.proofs.Going.{one-move}
 
 -- a step that has ended has no run
 
@@ -58,33 +52,6 @@ line-hasher (Operates o) r line = refl
 line-hasher (Accesses access r' gpa page) r line = refl
 line-hasher (Loads access gpa level page) r line = refl
 line-hasher (Left out) r line = refl
-
--- the bundles that a turn makes
-
-pub turned-bundles : (k : Meaning) (mv : Move Reply) (e : RunEvent) (t : Tree) (w : World) → ActsBy mv e (work_of k) w (answer_of t) → (work_world (work_of k) mv w).outgoing.bundles ≡ added w.outgoing.bundles (bundles_made e t)
-turned-bundles k (Attempts l m) e t w n = sym (ap (added w.outgoing.bundles) (no-act e t (beside_of Rattle.flat_core.specs.Processor.idle []) n).1)
-turned-bundles k (Undoes l) e t w n = sym (ap (added w.outgoing.bundles) (no-act e t (beside_of Rattle.flat_core.specs.Processor.idle []) n).1)
-turned-bundles k (Releases h) e t w n = sym (ap (added w.outgoing.bundles) (no-act e t (beside_of Rattle.flat_core.specs.Processor.idle []) n).1)
-turned-bundles k Rests e t w n = sym (ap (added w.outgoing.bundles) (no-act e t (beside_of Rattle.flat_core.specs.Processor.idle []) n).1)
-turned-bundles k (Refuses r) e t w a = sym (ap (λ (z : RunEvent). added w.outgoing.bundles (bundles_made z t)) a.0 ∙ ap (λ (z : Answer). added w.outgoing.bundles z.bundles) a.1)
-turned-bundles k Succeeds e t w a = a.1.bundles_are ∙ sym (ap (λ (z : RunEvent). added w.outgoing.bundles (bundles_made z t)) a.0)
-
-pub beside-bundles : (e : RunEvent) (t : Tree) (b : Beside) → (beside_after e t b).bundles ≡ added b.bundles (bundles_made e t)
-beside-bundles events.Act t b = refl
-beside-bundles (events.Try name mode granted) t b = refl
-beside-bundles (events.Undo name) t b = refl
-beside-bundles (events.Free name) t b = refl
-beside-bundles (events.Walk level) t b = refl
-beside-bundles (events.Word at) t b = refl
-beside-bundles (events.Count parity) t b = refl
-
-pub moves-or : (k : Meaning) (w : World) (own : Progress Reply) (mv : Move Reply) → HasMoves k ⊎ (own ≡ nothing_yet) → next_in ((work_of k).items w) own.phase own.held ≡ mv → HasMoves k ⊎ (mv ≡ Succeeds)
-moves-or k w own mv (inl m) due = inl m
-moves-or (meaning.OfCall row) w own mv (inr is) due = inl tt
-moves-or (meaning.OfOperation t v row) w own mv (inr is) due = inl tt
-moves-or (meaning.OfAccess t v line access r gpa page) w own mv (inr is) due = inr (one-move (meaning.OfAccess t v line access r gpa page) w own mv refl is due)
-moves-or (meaning.OfWalk t v access gpa level page) w own mv (inr is) due = inr (one-move (meaning.OfWalk t v access gpa level page) w own mv refl is due)
-moves-or (meaning.OfExit t v out) w own mv (inr is) due = inr (one-move (meaning.OfExit t v out) w own mv refl is due)
 
 -- the locks held stay through an act
 

@@ -1,14 +1,13 @@
 -- A processor that stands over words as the leaf engine has it stands so here.
 use Rattle.mrtd_measure.specs.declared.measures.Measure.{Measure}
-use Rattle.std.proofs.Common.{◌≡◌, ℕ, List, Option, Some, None, refl, sym, ◌∙◌, subst, inl}
+use Rattle.std.proofs.Common.{◌≡◌, ℕ, ◌+◌, List, [], ◌∷◌, length, Option, Some, None, refl, sym, ◌∙◌, subst, inl}
 use Rattle.td_words.specs.declared.calls.Call.{Call}
-use Rattle.td_words.specs.declared.refusals.Status.TheVariants.{OperandBusy}
 use Rattle.td_words.specs.declared.replies.Reply.{Reply}
-use Rattle.td_words.specs.declared.replies.Reply.TheVariants.{Done, Refused, Exited}
+use Rattle.td_words.specs.declared.replies.Reply.TheVariants.{Done}
 use Rattle.td_words.specs.declared.replies.Outcome.{Outcome}
 use Rattle.td_words.specs.Place.{WordPlace}
 use Rattle.flat_core.specs.World.{World}
-use Rattle.flat_core.specs.Processor.{Phase, Trying, Undoing, Answered, Progress, Entering, Lp}
+use Rattle.flat_core.specs.Processor.{Held, Progress, Entering, Guest, Lp}
 use Rattle.flat_core.specs.Opening.{Opening}
 use Rattle.leaf_engine.specs.declared.events.Event.{Event as RunEvent}
 use Rattle.leaf_engine.specs.declared.events.Event.TheVariants as events
@@ -16,13 +15,12 @@ use Rattle.leaf_engine.specs.Besides.{Beside}
 use Rattle.leaf_engine.specs.Trees.{Tree, answer_of}
 use Rattle.leaf_engine.specs.Means.{Task}
 use Rattle.leaf_engine.specs.Turns.{Standing}
-use Rattle.leaf_engine.specs.Guests.{WordGuest, guest_after, entered_at, or_else}
-use Rattle.leaf_engine.specs.OwnLists.{after_turn}
-use Rattle.leaf_engine.specs.Standing.{AnswersGuest, IsStepRun, position_at, CallStands, GuestStands, LpStands}
-use Rattle.leaf_engine.proofs.GuestThen.{position_of}
-use Rattle.leaf_engine.proofs.Processing.{stage-position}
-use Rattle.merge_laws.proofs.Stepped.{IsFinePhase, position_by}
-use Rattle.merge_laws.proofs.Standing.{Trees, table_for, NoneOnWay, StepRun, OnCall, InGuestAt, HandKnown, guest_run, HasInHand, StandsAt, with_hasher}
+use Rattle.leaf_engine.specs.Calls.{IsTold}
+use Rattle.leaf_engine.specs.Guests.{WordGuest, Step, guest_after, entered_at, or_else, step_of, stepped}
+use Rattle.leaf_engine.specs.OwnLists.{after_turn, step_leaf, after_step, line_after}
+use Rattle.leaf_engine.specs.Standing.{HasNoHasher, RunOfStep, IsGuestAt, CallStands, GuestStands, RunStands, LpStands}
+use Rattle.merge_laws.proofs.Leading.{step-same}
+use Rattle.merge_laws.proofs.Standing.{Trees, leaf_for, table_for, step_for, OnCall, InGuestAt, RunAt, HandKnown, guest_run, HasInHand, StandsAt, with_hasher}
 
 -- what a turn leaves of its line
 
@@ -51,28 +49,17 @@ in-hand-after c cs g rs b run' (Some r) h none e = (tt, tt)
 
 -- where it is, as the leaf engine has it
 
-fine-of : (ph : Phase Reply) → AnswersGuest ph → IsFinePhase ph
-fine-of Trying h = tt
-fine-of (Undoing l) h = tt
-fine-of (Answered (Done v)) h = tt
-fine-of (Answered (Exited out)) h = tt
-fine-of (Answered (Refused (OperandBusy n))) h = tt
-fine-of (Answered (Refused _)) h = absurd h
+told-so : (task : Task) (words : WordPlace → ℕ) (run : Standing) (h : Option Measure) (hs : List Held) → IsTold task words (with_hasher run h) hs → IsTold task words run hs
+told-so task words run h hs t = record { told = t.told; current = t.current; waits = t.waits; rest = t.rest; locks = t.locks }
 
-same-position : (n : ℕ) (ph : Phase Reply) → position_of n ph ≡ position_by n ph
-same-position n Trying = refl
-same-position n (Undoing l) = refl
-same-position n (Answered r) = refl
-
-step-run : (task : Task) (w : World) (words : WordPlace → ℕ) (v n : ℕ) (run : Option Standing) (y : Progress (Option Outcome)) → w.vps.positions v ≡ position_at n run → IsStepRun task w words run y → StepRun task w words v n run y
-step-run task w words v n None y at is = (is, at)
-step-run task w words v n (Some r) y at is = record {
-  own = is.own;
-  is = is.is;
-  single = is.single;
-  fine = fine-of is.own.phase is.answers;
-  position = at ∙ (stage-position task.place.machine w n r.stage is.own.phase is.at.stage ∙ same-position n is.own.phase);
-  runs = record { at = is.at; trying = is.waits };
+step-so : (task : Task) (w : World) (words : WordPlace → ℕ) (run : Standing) (h : Option Measure) (y : Progress (Option Outcome)) → HasNoHasher run → RunOfStep task w words (with_hasher run h) y → RunOfStep task w words run y
+step-so task w words run h y none q = record {
+  own = q.own;
+  is = q.is;
+  at = record { stage = q.at.stage; held = q.at.held; told = λ e. told-so task words run h q.own.held (q.at.told e) };
+  waits = none;
+  single = q.single;
+  answers = q.answers;
 }
 
 module _ (o : Opening) (trees : Trees) (p : ℕ) (w : World) (words : WordPlace → ℕ) (lp : Lp) where
@@ -80,32 +67,75 @@ module _ (o : Opening) (trees : Trees) (p : ℕ) (w : World) (words : WordPlace 
   in-guest c line h x rs b g = record {
     guest = g.guest;
     is_in = g.is_in;
-    same = record { tdr = g.at.tdr; vp = g.at.vp; most = g.at.most; completed = g.at.completed; walk = g.at.walk; leaving = g.at.leaving };
-    root = g.at.root;
-    index = g.at.index;
-    far = step-run _ w words x.vp x.position x.run g.guest.operation g.at.position g.at.operation;
+    at = g.at;
     reply = g.reply;
     answered = g.answered;
     held = g.held;
     waits = g.fresh;
   }
 
-  on-call : (c : Call) (run : Standing) (h : Option Measure) → NoneOnWay run → CallStands o (table_for o trees p) p c w words lp (with_hasher run h) → OnCall o trees p c w words lp run
+  on-call : (c : Call) (run : Standing) (h : Option Measure) → HasNoHasher run → CallStands o (table_for o trees p) p c w words lp (with_hasher run h) → OnCall o trees p c w words lp run
   on-call c run h none g = record {
     guest = g.at.guest;
     runs = record {
       at = record {
         stage = g.at.stage;
         held = g.at.held;
-        told = λ e. (let told = g.at.told e in record { told = told.told; current = told.current; waits = told.waits; rest = told.rest; locks = told.locks });
+        told = λ e. told-so (leaf_for o trees p c) words run h lp.call.held (g.at.told e);
       };
       trying = none;
     };
   }
 
   -- after a turn of its line's leaf
-  pub turned-stands : (c : Call) (cs : List Call) (g : Option WordGuest) (rs : List Reply) (b : Beside) (run : Standing) (h : Option Measure) (reply : Option Reply) → NoneOnWay run → LpStands o (table_for o trees p) p w words lp (after_turn c cs g rs b (with_hasher run h) reply)
+  pub turned-stands : (c : Call) (cs : List Call) (g : Option WordGuest) (rs : List Reply) (b : Beside) (run : Standing) (h : Option Measure) (reply : Option Reply) → HasNoHasher run → LpStands o (table_for o trees p) p w words lp (after_turn c cs g rs b (with_hasher run h) reply)
       → StandsAt o trees p w words lp (after_turn c cs g rs b run reply)
   turned-stands c cs None rs b run h None none st = record { lines = st.lines; replies = st.replies; beside = st.beside; run = on-call c run h none st.run }
   turned-stands c cs (Some x) rs b run h None none st = record { lines = st.lines; replies = st.replies; beside = st.beside; run = in-guest c run h x rs b st.run }
   turned-stands c cs g rs b run h (Some r) none st = record { lines = st.lines; replies = st.replies; beside = st.beside; run = st.run }
+
+  stands-so : (cs : List Call) (run : Option Standing) (g : Option WordGuest) (rs : List Reply) (b : Beside) → RunStands o (table_for o trees p) p w words lp cs run g rs b → RunAt o trees p w words lp cs run g rs b
+  stands-so cs None None rs b a = a
+  stands-so [] None (Some x) rs b a = absurd a
+  stands-so [] (Some r) None rs b a = absurd a
+  stands-so [] (Some r) (Some x) rs b a = absurd a
+  stands-so (c ∷ cs) None (Some x) rs b a = absurd a
+  stands-so (c ∷ cs) (Some r) None rs b a = on-call c r r.hasher a.waits a
+  stands-so (c ∷ cs) (Some r) (Some x) rs b a = in-guest c r r.hasher x rs b a
+
+  -- after a turn of its guest's step
+  pub stepped-stands : (c : Call) (cs : List Call) (line : Standing) (x : WordGuest) (rs : List Reply) (b : Beside) (step : Step) (run : Standing) (h : Option Measure) (reply : Option Reply) → HasNoHasher run
+      → LpStands o (table_for o trees p) p w words lp (after_step c cs line x rs b step (with_hasher run h) reply) → StandsAt o trees p w words lp (after_step c cs line x rs b step run reply)
+  stepped-stands c cs line x rs b step run h (Some r) none st = record { lines = st.lines; replies = st.replies; beside = st.beside; run = stands-so (c ∷ cs) (Some (line_after step r line)) (stepped step r x) rs b st.run }
+  stepped-stands c cs line x rs b step run h None none st = record {
+    lines = st.lines;
+    replies = st.replies;
+    beside = st.beside;
+    run = record {
+      guest = st.run.guest;
+      is_in = st.run.is_in;
+      at = on-way st.run.guest st.run.at;
+      reply = st.run.reply;
+      answered = st.run.answered;
+      held = st.run.held;
+      waits = λ z. (let no : None ≡ Some (with_hasher run h) = sym (st.run.fresh z) in cc);
+    };
+  }
+    where
+      its-step : step_of o.codes b.cached (record x { run = Some (with_hasher run h) }) ≡ step_of o.codes b.cached (record x { run = Some run })
+      its-step = step-same o.codes b.cached x (Some (with_hasher run h)) ∙ sym (step-same o.codes b.cached x (Some run))
+
+      on-way : (g : Guest) → IsGuestAt (step_leaf (table_for o trees p) (record x { run = Some (with_hasher run h) }) rs b) w words g (record x { run = Some (with_hasher run h) })
+          → IsGuestAt (step_leaf (table_for o trees p) (record x { run = Some run }) rs b) w words g (record x { run = Some run })
+      on-way g at = record {
+        tdr = at.tdr;
+        vp = at.vp;
+        most = at.most;
+        completed = at.completed;
+        walk = at.walk;
+        leaving = at.leaving;
+        root = at.root;
+        index = at.index;
+        position = at.position;
+        operation = subst (λ (z : Step). RunOfStep (step_for o trees p x.tdr x.vp (length rs + 1) z) w words run g.operation) its-step (step-so _ w words run h g.operation none at.operation);
+      }

@@ -23,6 +23,7 @@ use Rattle.leaf_engine.specs.Calls.{IsLine, After}
 use Rattle.leaf_engine.specs.Doing.{LeafAfter}
 use Rattle.leaf_engine.specs.OwnLists.{WordLp, after_turn}
 use Rattle.leaf_engine.proofs.Calling.{next-is, is-next, event-is, lp-now}
+use Rattle.leaf_engine.proofs.Making.{own-bundles}
 use Rattle.leaf_engine.proofs.Turning.{leaf-after}
 use Rattle.leaf_engine.specs.Standing.{LpStands}
 use Rattle.leaf_engine.proofs.Processing.{outside-then}
@@ -30,7 +31,6 @@ use Rattle.lock_words.specs.LockWords.{HeldStand}
 use Rattle.merge_laws.proofs.Holding.{locks_at}
 use Rattle.merge_laws.proofs.Staying.{GuestStays}
 use Rattle.merge_laws.proofs.GuestsStay.{in-guest-stays}
-use Rattle.merge_laws.proofs.Leaving.{beside-bundles}
 use Rattle.merge_laws.proofs.InStep.{in-step-here, in-step-leads}
 use Rattle.merge_laws.proofs.LineStands.{turned-beside, after-no-run, in-hand-after, turned-stands}
 use Rattle.merge_laws.proofs.Standing.{Trees, leaf_for, table_for, AreTrees, Known, Does, task_for, RunsAt, RunAt, StandsAt, call_does, IsDoes, DoesHere, with_hasher, IsAct, Leads}
@@ -121,7 +121,7 @@ module _ (o : Opening) (trees : Trees) (s : State) (p : ℕ) (c : Call) (cs : Li
     after_grows = λ u run' h e la. record {
       more = bundles_made e run'.rest;
       all = (after-of u run' h e la).bundles;
-      own = ap (λ (z : Beside). z.bundles) (turned-beside c cs (guest_after e run'.rest None) rs (beside_after e run'.rest b) run' (last_reply run'.stage run'.held)) ∙ beside-bundles e run'.rest b;
+      own = ap (λ (z : Beside). z.bundles) (turned-beside c cs (guest_after e run'.rest None) rs (beside_after e run'.rest b) run' (last_reply run'.stage run'.held)) ∙ own-bundles e run'.rest b;
     };
     after_run = λ e run' h f. in-hand-after c cs (guest_after e run'.rest None) rs (beside_after e run'.rest b) run' (last_reply run'.stage run'.held) h (after-no-run e run'.rest None refl) f;
     locks_stay = λ mv act next. act-locks o s p row mv next.next guest act;
@@ -133,13 +133,13 @@ pub does-here : (o : Opening) (trees : Trees) (s : State) (p : ℕ) (d : Does) (
     → DoesHere o s p d
 does-here o trees s p d at words are known i st (inl is) =
     subst (λ (z : Does). DoesHere o s p z) (sym is.is) (call-here o trees s p is.call is.further at.replies at.beside are known i (st.lines ∙ is.lines_are) is.guest)
-does-here o trees s p d at words are known i st (inr is) = in-step-here o trees s p d at words are are.codes known i st is
+does-here o trees s p d at words are known i st (inr is) = in-step-here o trees s p d at words are known i st is
 
 pub does-leads : (o : Opening) (trees : Trees) (s : State) (p : ℕ) (d : Does) (at : WordLp) (words : WordPlace → ℕ) → AreTrees o trees → Known o s → p < length o.calls → StandsAt o trees p s.world words (s.lps p) at → IsDoes o trees p (s.lps p) at d
     → Leads o trees s p d
 does-leads o trees s p d at words are known i st (inl is) =
     subst (λ (z : Does). Leads o trees s p z) (sym is.is) (call-leads o trees s p is.call is.further at.replies at.beside are known i (st.lines ∙ is.lines_are) is.guest st.replies st.beside)
-does-leads o trees s p d at words are known i st (inr is) = in-step-leads o trees s p d at words are are.codes known i st is
+does-leads o trees s p d at words are known i st (inr is) = in-step-leads o trees s p d at words are known i st is
 
 -- a processor stays where it is, as its leaf does
 pub stands-stay : (o : Opening) (trees : Trees) (s : State) (p : ℕ) (at : WordLp) (w' : World) (words words' : WordPlace → ℕ) → AreTrees o trees → Known o s → p < length o.calls
@@ -155,7 +155,7 @@ stands-stay o trees s p at w' words words' are known i guest-stays stand stays s
     by [] (Some r) None l a = absurd a
     by [] (Some r) (Some g) l a = absurd a
     by (c ∷ cs) (Some r) (Some x) l a =
-        in-guest-stays o trees s p c cs r x at.replies at.beside are are.codes known i l st.replies st.beside w' words words' a (guest-stays a.guest a.is_in) stand stays
+        in-guest-stays o trees s p c cs r x at.replies at.beside are known i l st.replies st.beside w' words words' a (guest-stays a.guest a.is_in) stand stays
     by (c ∷ cs) (Some r) None l a =
         let d : Does = call_does o trees p (s.lps p) c cs at.replies at.beside in
         record { guest = a.guest; runs = stays d r (call-here o trees s p c cs at.replies at.beside are known i l a.guest) a.runs }

@@ -39,6 +39,7 @@ use Rattle.merge_laws.proofs.Holding.{bare, locks_at, lock_grip_of, IsOlder, who
 use Rattle.merge_laws.proofs.Standing.{Laws, Trees, AreTrees, Known, HandOf, Does, task_for, moment, act_grip, RunsAt, DoesHere, on_table, Fill, Position, seen_by, back, AreLeft, AreLeftLoaded, FillHolds, Pending, Holds, Stands}
 use Rattle.lock_words.specs.LockWords.{HeldStand}
 use Rattle.merge_laws.proofs.Staying.{GuestStays}
+use Rattle.merge_laws.proofs.Inside.{trying-phase}
 use Rattle.merge_laws.proofs.Lines.{does-here, stands-stay}
 
 -- words that show a state, on a table that holds them, with the hasher that a run has in hand
@@ -65,11 +66,6 @@ pub shown-of : (o : Opening) (trees : Trees) (s : State) (mem : Memory) (t : Tab
 shown-of o trees s mem t pos p d run known st i none =
     let empty : IsHand run.hasher mem.hand = subst (λ (h : Option Measure). IsHand h mem.hand) (sym none) (subst (λ (h : Hand). IsHand None h) (sym st.hand) tt) in
     shown-hand o trees s mem t pos p d run known st i (record { hand = mem.hand; is = empty; trying = λ e. none })
-
-trying-phase : (m : Machine) (w : World) (st : Stage) (ph : Phase Reply) → IsStage m w st ph → st ≡ stages.Trying → ph ≡ Trying
-trying-phase m w st Trying i e = refl
-trying-phase m w st (Undoing l) i e = absurd (subst (λ (z : Stage). IsStage m w z (Undoing l)) e i)
-trying-phase m w st (Answered r) i e = absurd (subst (λ (z : Stage). IsStage m w z (Answered r)) e i)
 
 -- the moment at which its leaf's meaning is told, while it is on its way
 pub at-moment : (o : Opening) (trees : Trees) (s : State) (mem : Memory) (t : Table) (pos : ℕ → Position) (p : ℕ) (d : Does) (run : Standing) → Known o s → Stands o trees s mem t pos → DoesHere o s p d → RunsAt (task_for o p d) d.far s.world mem.words run → run.stage ≡ stages.Trying → IsAt (task_for o p d) (moment s mem p d)

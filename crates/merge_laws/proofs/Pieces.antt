@@ -23,12 +23,16 @@ use Rattle.leaf_engine.specs.Guests.{WordGuest, gives_epoch_back}
 use Rattle.leaf_engine.specs.OwnLists.{Piece, Unmarked, Marked, Wordless, behind, TurnIn, WordLp, running, step_leaf, LineTurn, GuestTurn, EnteredTurn, LinesTurn, LpTurns}
 use Rattle.leaf_engine.specs.Merges.{Item, step_before}
 use Rattle.leaf_engine.specs.Means.{Task}
+use Rattle.leaf_engine.specs.Standing.{HasNoHasher, position_in, position_at, RunOfStep, IsStepRun}
+use Rattle.leaf_engine.proofs.GuestThen.{position_of}
+use Rattle.leaf_engine.proofs.Processing.{stage-position}
 use Rattle.leaf_engine.proofs.Showing.{current-end, granted-end, not-acted-end}
 use Rattle.leaf_engine.proofs.Beginning.{calls-begin}
 use Rattle.merge_laws.specs.Merge.{IsUnderWay, PieceFits, table_after}
-use Rattle.merge_laws.proofs.Standing.{Trees, leaf_for, table_for, AreTrees, Known, HandOf, Does, task_for, RunsAt, OnCall, StepFar, StepRun, InGuestAt, RunAt, StandsAt, line_does, call_does, step_does, IsInStep, guest_run, DoesHere, NoneOnWay, HandKnown, HasInHand, Leads, Fill, FillHolds, on_table, Position, RestOf, Stands}
+use Rattle.merge_laws.proofs.Standing.{Trees, leaf_for, table_for, AreTrees, Known, HandOf, Does, task_for, RunsAt, OnCall, InGuestAt, RunAt, StandsAt, line_does, call_does, step_does, guest_run, DoesHere, HandKnown, HasInHand, Leads, Fill, FillHolds, on_table, Position, RestOf, Stands}
 use Rattle.merge_laws.proofs.Lines.{call-here, call-leads, does-here, does-leads}
-use Rattle.merge_laws.proofs.InStep.{in-step-here, in-step-leads}
+use Rattle.merge_laws.proofs.Inside.{seen-is, step-here}
+use Rattle.merge_laws.proofs.Stepping.{step-leads}
 use Rattle.merge_laws.proofs.GivingBack.{back-here, back-runs, back-leads}
 
 abbrev pub state_after : Opening → State → ℕ → Piece → State
@@ -111,7 +115,7 @@ pub record AtTurn (o : Opening) (trees : Trees) (s : State) (mem : Memory) (t : 
   pub going : has_ended run.stage run.held ≡ false
 
 -- the hasher that a run has in hand
-known-hand : (r : Standing) (last : Option Measure) (hand : Hand) → HandKnown (Some r) last → IsHand last hand → NoneOnWay r → HandOf r
+known-hand : (r : Standing) (last : Option Measure) (hand : Hand) → HandKnown (Some r) last → IsHand last hand → HasNoHasher r → HandOf r
 known-hand r last hand (inl e) is none = record { hand = hand; is = subst (λ (z : Option Measure). IsHand z hand) (sym e) is; trying = none }
 known-hand r last hand (inr x) is none = record { hand = x.0; is = x.1; trying = none }
 
@@ -120,21 +124,22 @@ line-hand r last hand (inl e) is = (hand, subst (λ (z : Option Measure). IsHand
 line-hand r last hand (inr x) is = x
 
 -- a guest's step that hasn't begun begins now
-far-now : (task : Task) (w : World) (words : WordPlace → ℕ) (v n : ℕ) (run : Option Standing) (y : Progress (Option Outcome)) → StepRun task w words v n run y → StepFar task w words v n (running task run) y
-far-now task w words v n (Some r) y f = f
-far-now task w words v n None y f = record {
+far-now : (task : Task) (w : World) (words : WordPlace → ℕ) (run : Option Standing) (y : Progress (Option Outcome)) → IsStepRun task w words run y → RunOfStep task w words (running task run) y
+far-now task w words (Some r) y f = f
+far-now task w words None y f = record {
   own = nothing_yet;
-  is = sym f.0;
+  is = sym f;
+  at = record { stage = tt; held = refl; told = λ z. record { told = []; current = current-end words task.tree; waits = not-acted-end task.tree; rest = refl; locks = granted-end task.tree [] } };
+  waits = λ z. refl;
   single = inr refl;
-  fine = tt;
-  position = f.1;
-  runs = record {
-    at = record { stage = tt; held = refl; told = λ z. record { told = []; current = current-end words task.tree; waits = not-acted-end task.tree; rest = refl; locks = granted-end task.tree [] } };
-    trying = λ z. refl;
-  };
+  answers = tt;
 }
 
-hand-now : (task : Task) (run : Option Standing) (last : Option Measure) (hand : Hand) → HandKnown run last → IsHand last hand → NoneOnWay (running task run) → HandOf (running task run)
+run-position : (task : Task) (n : ℕ) (run : Option Standing) → position_at n run ≡ position_in n (running task run).stage
+run-position task n None = refl
+run-position task n (Some r) = refl
+
+hand-now : (task : Task) (run : Option Standing) (last : Option Measure) (hand : Hand) → HandKnown run last → IsHand last hand → HasNoHasher (running task run) → HandOf (running task run)
 hand-now task None last hand h is none = record { hand = None; is = tt; trying = none }
 hand-now task (Some r) last hand h is none = known-hand r last hand h is none
 
@@ -149,7 +154,7 @@ pub record NextTurn (o : Opening) (trees : Trees) (s : State) (mem : Memory) (t 
 
 pub next-turn : (o : Opening) (trees : Trees) (s : State) (mem : Memory) (t : Table) (pos : ℕ → Position) (p : ℕ) (last : Option Measure) (hand : Hand) (e : RunEvent) (tp : List Piece) (after : WordLp) → AreTrees o trees → Known o s → Stands o trees s mem t pos → p < length o.calls
     → (pos p).swaps ≡ [] → HasInHand (pos p).at last → IsHand last hand → LpTurns (table_for o trees p) o.machine (pos p).at e tp after → NextTurn o trees s mem t pos p e tp after
-next-turn o trees s mem t pos p last hand e tp after are known sd i no-swaps has in-hand turn = by (pos p).at.lines (pos p).at.run (pos p).at.guest refl refl refl (sd.holds p i).stands.run has.0 has.1 turn
+next-turn o trees s mem t pos p last hand e tp after are known sd i no-swaps has in-hand turn = by (pos p).at.lines (pos p).at.run (pos p).at.guest refl (sd.holds p i).stands.run has.0 has.1 turn
   where
     st : StandsAt o trees p s.world mem.words (s.lps p) (pos p).at
     st = (sd.holds p i).stands
@@ -203,31 +208,16 @@ next-turn o trees s mem t pos p last hand e tp after are known sd i no-swaps has
           after_is = lt.after_is;
         }
 
-    step-turn : (c : Call) (cs : List Call) (line : Standing) (x : WordGuest) → (pos p).at.lines ≡ c ∷ cs → (pos p).at.run ≡ Some line → (pos p).at.guest ≡ Some x → (a : InGuestAt o trees p s.world mem.words (s.lps p) line x (pos p).at.replies (pos p).at.beside) → HandKnown (Some line) last → HandKnown x.run last
+    step-turn : (c : Call) (cs : List Call) (line : Standing) (x : WordGuest) → (pos p).at.lines ≡ c ∷ cs → (a : InGuestAt o trees p s.world mem.words (s.lps p) line x (pos p).at.replies (pos p).at.beside) → HandKnown (Some line) last → HandKnown x.run last
         → gives_epoch_back line.held ≡ false → GuestTurn (table_for o trees p) o.machine c cs line x (pos p).at.replies (pos p).at.beside e tp after → NextTurn o trees s mem t pos p e tp after
-    step-turn c cs line x ls rn gs a h hg freed lt =
+    step-turn c cs line x ls a h hg freed lt =
         let task : Task = step_leaf (table_for o trees p) x (pos p).at.replies (pos p).at.beside in
-        let f : StepFar task s.world mem.words x.vp x.position (running task x.run) a.guest.operation = far-now task s.world mem.words x.vp x.position x.run a.guest.operation a.far in
+        let f : RunOfStep task s.world mem.words (running task x.run) a.guest.operation = far-now task s.world mem.words x.run a.guest.operation a.at.operation in
+        let runs : RunsAt task f.own s.world mem.words (running task x.run) = record { at = f.at; trying = f.waits } in
         let d : Does = step_does o trees p (s.lps p) f.own c cs line x (pos p).at.replies (pos p).at.beside in
-        let is : IsInStep o trees p (s.lps p) (pos p).at d = record {
-          call = c;
-          further = cs;
-          line = line;
-          base = x;
-          run = x.run;
-          guest = a.guest;
-          own = f.own;
-          lines_are = ls;
-          run_is = rn;
-          guest_is = gs;
-          freed = freed;
-          hand = line-hand line last hand h in-hand;
-          is_in = a.is_in;
-          far = f.is;
-          single = f.single;
-          fine = f.fine;
-          is = refl;
-        } in
+        let x-is = seen-is task s.world mem.words a.guest x x.run a.at in
+        let place : s.world.vps.positions a.guest.vp ≡ position_of x.position f.own.phase =
+        ap s.world.vps.positions a.at.vp ∙ (a.at.position ∙ (run-position task x.position x.run ∙ stage-position o.machine s.world x.position (running task x.run).stage f.own.phase f.at.stage)) in
         record {
           does = d;
           run = running task x.run;
@@ -237,11 +227,12 @@ next-turn o trees s mem t pos p last hand e tp after are known sd i no-swaps has
             known = known;
             all = sd;
             inside = i;
-            here = in-step-here o trees s p d (pos p).at mem.words are are.codes known i st is;
-            leads = in-step-leads o trees s p d (pos p).at mem.words are are.codes known i st is;
+            here = step-here o trees s p c cs line x (pos p).at.replies (pos p).at.beside a.guest f.own are known i (st.lines ∙ ls) st.replies st.beside a.is_in x-is f.is place f.single a.held freed (running task x.run) f.at.stage;
+            leads =
+                step-leads o trees s p c cs line x (pos p).at.replies (pos p).at.beside a.guest f.own are known i (st.lines ∙ ls) st.replies st.beside a.is_in x-is f.is place f.single f.answers a.held freed (line-hand line last hand h in-hand) a.reply a.answered;
             bundles = refl;
-            runs = f.runs;
-            hand = hand-now task x.run last hand hg in-hand f.runs.trying;
+            runs = runs;
+            hand = hand-now task x.run last hand hg in-hand runs.trying;
             no_swaps = no-swaps;
             going = lt.going;
           };
@@ -249,21 +240,21 @@ next-turn o trees s mem t pos p last hand e tp after are known sd i no-swaps has
           after_is = lt.after_is;
         }
 
-    in-guest-turn : (c : Call) (cs : List Call) (line : Standing) (x : WordGuest) → (pos p).at.lines ≡ c ∷ cs → (pos p).at.run ≡ Some line → (pos p).at.guest ≡ Some x → InGuestAt o trees p s.world mem.words (s.lps p) line x (pos p).at.replies (pos p).at.beside → HandKnown (Some line) last → HandKnown x.run last
+    in-guest-turn : (c : Call) (cs : List Call) (line : Standing) (x : WordGuest) → (pos p).at.lines ≡ c ∷ cs → InGuestAt o trees p s.world mem.words (s.lps p) line x (pos p).at.replies (pos p).at.beside → HandKnown (Some line) last → HandKnown x.run last
         → (give : Bool) → gives_epoch_back line.held ≡ give → EnteredTurn (table_for o trees p) o.machine c cs line x (pos p).at.replies (pos p).at.beside e tp after give → NextTurn o trees s mem t pos p e tp after
-    in-guest-turn c cs line x ls rn gs a h hg true gives lt = back-turn c cs line x (st.lines ∙ ls) a h gives lt
-    in-guest-turn c cs line x ls rn gs a h hg false gives lt = step-turn c cs line x ls rn gs a h hg gives lt
+    in-guest-turn c cs line x ls a h hg true gives lt = back-turn c cs line x (st.lines ∙ ls) a h gives lt
+    in-guest-turn c cs line x ls a h hg false gives lt = step-turn c cs line x ls a h hg gives lt
 
-    by : (cs : List Call) (r : Option Standing) (g : Option WordGuest) → (pos p).at.lines ≡ cs → (pos p).at.run ≡ r → (pos p).at.guest ≡ g → RunAt o trees p s.world mem.words (s.lps p) cs r g (pos p).at.replies (pos p).at.beside → HandKnown r last → HandKnown (guest_run g) last
+    by : (cs : List Call) (r : Option Standing) (g : Option WordGuest) → (pos p).at.lines ≡ cs → RunAt o trees p s.world mem.words (s.lps p) cs r g (pos p).at.replies (pos p).at.beside → HandKnown r last → HandKnown (guest_run g) last
         → LinesTurn (table_for o trees p) o.machine cs r g (pos p).at.replies (pos p).at.beside e tp after → NextTurn o trees s mem t pos p e tp after
-    by [] r g ls rn gs a h hg lt = absurd lt
-    by (c ∷ cs) None (Some x) ls rn gs a h hg lt = absurd a
-    by (c ∷ cs) (Some line) (Some x) ls rn gs a h hg lt = in-guest-turn c cs line x ls rn gs a h hg (gives_epoch_back line.held) refl lt
-    by (c ∷ cs) None None ls rn gs a h hg lt =
+    by [] r g ls a h hg lt = absurd lt
+    by (c ∷ cs) None (Some x) ls a h hg lt = absurd a
+    by (c ∷ cs) (Some line) (Some x) ls a h hg lt = in-guest-turn c cs line x ls a h hg (gives_epoch_back line.held) refl lt
+    by (c ∷ cs) None None ls a h hg lt =
         let l = st.lines ∙ ls in
         let run : Standing = running (leaf_for o trees p c) None in
         record { does = its c cs; run = run; stands = lt.stands; at = at-turn c cs run l (begun c cs l a) (record { hand = None; is = tt; trying = λ z. refl }) lt.going; turn = lt.turn; after_is = lt.after_is }
-    by (c ∷ cs) (Some r) None ls rn gs a h hg lt = record {
+    by (c ∷ cs) (Some r) None ls a h hg lt = record {
       does = its c cs;
       run = r;
       stands = lt.stands;

@@ -7,7 +7,7 @@ use Rattle.td_words.specs.declared.replies.Reply.{Reply}
 use Rattle.td_words.specs.Place.{WordPlace, IsIn, address}
 use Rattle.td_words.specs.Laws.{PlacesInjective}
 use Rattle.flat_core.specs.World.{World, Made}
-use Rattle.flat_core.specs.Processor.{LockId, Held, Progress, nothing_yet, Guest, Lp}
+use Rattle.flat_core.specs.Processor.{LockId, Held, Trying, Progress, nothing_yet, Guest, Lp}
 use Rattle.flat_core.specs.Locks.{sharers, refusals}
 use Rattle.flat_core.specs.Opening.{Opening}
 use Rattle.flat_core.specs.Row.{Move, Refuses, Succeeds}
@@ -42,14 +42,10 @@ use Rattle.leaf_engine.specs.Turns.{Standing, standing, has_ended, last_reply}
 use Rattle.leaf_engine.specs.Doing.{event_of, IsDoing, LeafAt, LeafAfter}
 use Rattle.leaf_engine.specs.OwnLists.{Piece, Unmarked, joined, marked_behind, TurnIn, TurnsInPieces, LeafTable, WordLp, after_turn, after_step, step_leaf, LpTurns, OwnTurns}
 use Rattle.leaf_engine.specs.Merges.{ByItsRow, IsStepOf, AreCodes}
-use Rattle.std.specs.Prelude.{slice_index}
-use Rattle.td_words.specs.declared.replies.Outcome.{Outcome}
 use Rattle.flat_core.specs.AccessLaw.{IsGuarded}
 use Rattle.leaf_engine.specs.Calls.{AreLocks}
-use Rattle.leaf_engine.specs.Standing.{out_progress}
+use Rattle.leaf_engine.specs.Standing.{out_progress, HasNoHasher, IsGuestAt}
 use Rattle.leaf_engine.specs.Doing.{HasMoves}
-use Rattle.merge_laws.proofs.Steps.{SameGuest}
-use Rattle.merge_laws.proofs.Stepped.{IsFinePhase, position_by}
 use Rattle.leaf_engine.specs.Guests.{WordGuest, guest_after, Step, step_of, gives_epoch_back}
 use Rattle.leaf_engine.specs.Trees.{added}
 use Rattle.merge_laws.specs.Laws.{AreBundlesOf}
@@ -122,14 +118,11 @@ pub record Known (o : Opening) (s : State) : Type 0 where
   pub next : (p : ℕ) (e : Event) → next_event o s p ≡ Some e → IsNext o s p e
   pub later : (p : ℕ) → Facts (event o s p)
 
-abbrev pub NoneOnWay : Standing → Type 0
-NoneOnWay run = run.stage ≡ stages.Trying → run.hasher ≡ None
-
 -- the hasher that a run has in hand: none on its way
 pub record HandOf (run : Standing) : Type 0 where
   pub hand : Hand
   pub is : IsHand run.hasher hand
-  pub trying : NoneOnWay run
+  pub trying : HasNoHasher run
 
 -- What a processor does: a leaf, by its tree and what it means; the locks that the processor holds besides, how far the leaf
 -- is, and the bundles made before; and where the processor is over words while the leaf is on its way, and after a turn that
@@ -156,34 +149,18 @@ act_grip s mem p d = (work_of d.meaning).grasp (moment s mem p d) d.far.held
 -- a run that has begun
 pub record RunsAt (task : Task) (far : Progress Reply) (w : World) (words : WordPlace → ℕ) (run : Standing) : Type 0 where
   pub at : LeafAt task w words run far
-  pub trying : NoneOnWay run
+  pub trying : HasNoHasher run
 
 -- a call on its way
 pub record OnCall (o : Opening) (trees : Trees) (p : ℕ) (c : Call) (w : World) (words : WordPlace → ℕ) (lp : Lp) (run : Standing) : Type 0 where
   pub guest : lp.guest ≡ None
   pub runs : RunsAt (leaf_for o trees p c) lp.call w words run
 
--- the run of a guest's step is as far as the flat machine's operation
-pub record StepFar (task : Task) (w : World) (words : WordPlace → ℕ) (v n : ℕ) (run : Standing) (x : Progress (Option Outcome)) : Type 0 where
-  pub own : Progress Reply
-  pub is : out_progress own ≡ x
-  pub single : HasMoves task.meaning ⊎ (own ≡ nothing_yet)
-  pub fine : IsFinePhase own.phase
-  pub position : w.vps.positions v ≡ position_by n own.phase
-  pub runs : RunsAt task own w words run
-
-abbrev pub StepRun : Task → World → (WordPlace → ℕ) → (v n : ℕ) → Option Standing → Progress (Option Outcome) → Type 0
-StepRun task w words v n None x = (x ≡ nothing_yet) × (w.vps.positions v ≡ n)
-StepRun task w words v n (Some run) x = StepFar task w words v n run x
-
 -- in a guest, whose VP.ENTER has acted and holds what the flat machine's does
 pub record InGuestAt (o : Opening) (trees : Trees) (p : ℕ) (w : World) (words : WordPlace → ℕ) (lp : Lp) (line : Standing) (x : WordGuest) (rs : List Reply) (b : Beside) : Type 0 where
   pub guest : Guest
   pub is_in : lp.guest ≡ Some guest
-  pub same : SameGuest guest x
-  pub root : slice_index (w.tds.controls x.tdr) 1 ≡ x.root
-  pub index : w.vps.indexes x.vp ≡ x.index
-  pub far : StepRun (step_leaf (table_for o trees p) x rs b) w words x.vp x.position x.run guest.operation
+  pub at : IsGuestAt (step_leaf (table_for o trees p) x rs b) w words guest x
   pub reply : Reply
   pub answered : line.stage ≡ stages.Answered reply
   pub held : AreLocks o.machine w line.held lp.call.held
@@ -243,18 +220,18 @@ pub record IsInStep (o : Opening) (trees : Trees) (p : ℕ) (lp : Lp) (at : Word
   pub further : List Call
   pub line : Standing
   pub base : WordGuest
-  pub run : Option Standing
+  pub run : Standing
   pub guest : Guest
   pub own : Progress Reply
   pub lines_are : at.lines ≡ call ∷ further
   pub run_is : at.run ≡ Some line
-  pub guest_is : at.guest ≡ Some (record base { run = run })
+  pub guest_is : at.guest ≡ Some (record base { run = Some run })
   pub freed : gives_epoch_back line.held ≡ false
   pub hand : (x : Hand) × IsHand line.hasher x
   pub is_in : lp.guest ≡ Some guest
   pub far : out_progress own ≡ guest.operation
   pub single : HasMoves (trees.means p base.tdr base.vp (length at.replies + 1) (step_of o.codes at.beside.cached base)) ⊎ (own ≡ nothing_yet)
-  pub fine : IsFinePhase own.phase
+  pub trying : own.phase ≡ Trying
   pub is : d ≡ step_does o trees p lp own call further line base at.replies at.beside
 
 -- whatever others do, a processor that stands there does this while it is as it is
@@ -305,7 +282,7 @@ pub record Leads (o : Opening) (trees : Trees) (s : State) (p : ℕ) (d : Does) 
   pub within_bundles : (run : Standing) → (d.within run).beside.bundles ≡ d.bundles
   pub within_run : (words : WordPlace → ℕ) (run : Standing) (h : Option Measure) → RunsAt (task_for o p d) d.far s.world words run → run.stage ≡ stages.Trying → run.hasher ≡ h → HasInHand (d.within run) h
   pub turns : (words : WordPlace → ℕ) (run run' : Standing) (e : RunEvent) (tp : List Piece) → RunsAt (task_for o p d) d.far s.world words run → run.stage ≡ stages.Trying → TurnIn run.stage o.machine run tp run' e → has_ended run.stage run.held ≡ false → LpTurns (table_for o trees p) o.machine (d.within run) e tp (d.after e run')
-  pub after_stands : (u : Table) (run' : Standing) (h : Option Measure) (e : RunEvent) → (la : LeafAfter o (task_for o p d) s d.far u (with_hasher run' h) e) → NoneOnWay run'
+  pub after_stands : (u : Table) (run' : Standing) (h : Option Measure) (e : RunEvent) → (la : LeafAfter o (task_for o p d) s d.far u (with_hasher run' h) e) → HasNoHasher run'
       → StandsAt o trees p (event o s p).world la.mem.words ((event o s p).lps p) (d.after e run')
   pub after_grows : (u : Table) (run' : Standing) (h : Option Measure) (e : RunEvent) → LeafAfter o (task_for o p d) s d.far u (with_hasher run' h) e → Grows (bundles_in s) (bundles_in (event o s p)) d.bundles (d.after e run').beside.bundles
   pub after_run : (e : RunEvent) (run' : Standing) (h : Option Measure) → run'.hasher ≡ h → HasInHand (d.after e run') h

@@ -129,7 +129,7 @@ due-controls o s q e (reaches c cs g op access r gpa page i way is found) p t v 
 due-controls o s q e (undoes c cs g l i st h) p t v la x = refl
 due-controls o s q e (gives_back c cs g out i st h) p t v la x = given-controls out g.operation.held s.world t
 
-pub event-controls : (o : Opening) (s : State) (q p t v : ℕ) → Lawful o.machine s.world → IsOccupied s.world p t v → (event o s q).world.tds.controls t ≡ s.world.tds.controls t
+event-controls : (o : Opening) (s : State) (q p t v : ℕ) → Lawful o.machine s.world → IsOccupied s.world p t v → (event o s q).world.tds.controls t ≡ s.world.tds.controls t
 event-controls o s q p t v la x = by (next_event o s q) refl
   where
     by : (e : Option Event) → next_event o s q ≡ e → (event o s q).world.tds.controls t ≡ s.world.tds.controls t

@@ -9,14 +9,8 @@ use Rattle.flat_core.specs.Row.{Move, Attempts, Undoes, Refuses, Succeeds, Relea
 use Rattle.flat_core.specs.Event.{State, Event, event, after_event, world_after}
 use Rattle.lock_words.specs.LockWords.{IsNext}
 use Rattle.leaf_engine.specs.Means.{Meaning, OfCall, OfOperation, OfAccess, OfWalk, OfExit, work_of}
-use Rattle.leaf_engine.specs.Doing.{HasMoves, event_of, work_world}
-
-act-world : (k : Meaning) (w : World) → world_after (event_of k Succeeds) w ≡ (work_of k).act w
-act-world (OfCall row) w = refl
-act-world (OfOperation t v row) w = refl
-act-world (OfAccess t v line access r gpa page) w = refl
-act-world (OfWalk t v access gpa level page) w = refl
-act-world (OfExit t v out) w = refl
+use Rattle.leaf_engine.specs.Doing.{HasMoves, event_of}
+use Rattle.leaf_engine.proofs.Doings.{act-world}
 
 quiet-world : (k : Meaning) → HasMoves k → (mv : Move Reply) → (mv ≡ Succeeds → ⊥) → (w : World) → world_after (event_of k mv) w ≡ w
 quiet-world (OfCall row) h (Attempts l m) n w = refl
@@ -62,16 +56,3 @@ world-acted o s p k next = event-world o s p (event_of k Succeeds) next ∙ act-
 
 pub world-stays : (o : Opening) (s : State) (p : ℕ) (k : Meaning) (mv : Move Reply) → HasMoves k → (mv ≡ Succeeds → ⊥) → IsNext o s p (event_of k mv) → (event o s p).world ≡ s.world
 world-stays o s p k mv moves not next = event-world o s p (event_of k mv) next ∙ quiet-world k moves mv not s.world
-
-pub world-turned : (o : Opening) (s : State) (p : ℕ) (k : Meaning) (mv : Move Reply) → HasMoves k ⊎ (mv ≡ Succeeds) → IsNext o s p (event_of k mv) → (event o s p).world ≡ work_world (work_of k) mv s.world
-world-turned o s p k Succeeds h next = world-acted o s p k next
-world-turned o s p k (Attempts l m) (inl h) next = world-stays o s p k (Attempts l m) h (λ y. cc) next
-world-turned o s p k (Undoes l) (inl h) next = world-stays o s p k (Undoes l) h (λ y. cc) next
-world-turned o s p k (Refuses r) (inl h) next = world-stays o s p k (Refuses r) h (λ y. cc) next
-world-turned o s p k (Releases x) (inl h) next = world-stays o s p k (Releases x) h (λ y. cc) next
-world-turned o s p k Rests (inl h) next = world-stays o s p k Rests h (λ y. cc) next
-world-turned o s p k (Attempts l m) (inr e) next = cc
-world-turned o s p k (Undoes l) (inr e) next = cc
-world-turned o s p k (Refuses r) (inr e) next = cc
-world-turned o s p k (Releases x) (inr e) next = cc
-world-turned o s p k Rests (inr e) next = cc
