@@ -143,6 +143,7 @@ named-tried o t v line (op.Accept gpa) row w k l m is e = by_test (names_page w 
     let at : next ((accept t v gpa).items w) (suc k) ≡ Attempts l m = subst (λ (x : OperationRow). next (x.items w) (suc k) ≡ Attempts l m) same e in
     let no = rw n at at in cc))
 named-tried o t v line (op.Set r x) row w k l m is e = tt
+named-tried o t v line (op.Secret r k) row w j l m is e = tt
 named-tried o t v line (op.Add r s) row w k l m is e = tt
 named-tried o t v line (op.Load r gpa) row w k l m is e = tt
 named-tried o t v line (op.Store r gpa) row w k l m is e = tt
@@ -295,6 +296,7 @@ module _ (w w' : World) (t : ℕ) where
   due-stays None hs names k = tt
   due-stays (Some (op.Accept gpa)) hs names k = accept-stays gpa hs names k.0 k.1
   due-stays (Some (op.Set r x)) hs names k = (k.0, named-stays (op.Set r x) hs (λ y. y) k.1)
+  due-stays (Some (op.Secret r x)) hs names k = (k.0, named-stays (op.Secret r x) hs (λ y. y) k.1)
   due-stays (Some (op.Add r s)) hs names k = (k.0, named-stays (op.Add r s) hs (λ y. y) k.1)
   due-stays (Some (op.Load r gpa)) hs names k = (k.0, named-stays (op.Load r gpa) hs (λ y. y) k.1)
   due-stays (Some (op.Store r gpa)) hs names k = (k.0, named-stays (op.Store r gpa) hs (λ y. y) k.1)

@@ -199,6 +199,7 @@ acts_at o q e r h = subst (λ (m : Machine). AreBlindActs (r o.machine) (r m)) e
 
 pub operations_are_blind : OperationsAreBlind
 operations_are_blind o q a t v line (op.Set r x) = own_blind v _ _ _ _ _ _ (λ v w b. refl)
+operations_are_blind o q a t v line (op.Secret r k) = own_blind v _ _ _ _ _ _ (λ v w b. refl)
 operations_are_blind o q a t v line (op.Add r s) = own_blind v _ _ _ _ _ _ (λ v w b. refl)
 operations_are_blind o q a t v line (op.Load r gpa) =
     either_blind (is_private gpa) (Private Read r gpa) _ _ refl (acts_at o q a.machine (λ m. shared_load m v line r gpa) (own_blind v _ _ _ _ _ _ (λ v w b. rw b.pages refl)))

@@ -38,6 +38,7 @@ use Rattle.flat_core.proofs.TreeLock.{drop_onto, next_tried}
 -- each operation tries the locks of its line
 pub operations_try_lists : OperationsTryTheirLists
 operations_try_lists o t v line (op.Set r x) w = refl
+operations_try_lists o t v line (op.Secret r k) w = refl
 operations_try_lists o t v line (op.Add r s) w = refl
 operations_try_lists o t v line (op.Load r gpa) w = by (is_private gpa)
   where
@@ -56,6 +57,7 @@ operations_try_lists o t v line (op.Vmcall r) w = refl
 -- the same in every world, but for the page
 tries_same : (t : ℕ) (op : GuestOp) (v w : World) → kinds (operation_tries t op v) ≡ kinds (operation_tries t op w)
 tries_same t (op.Set r x) v w = refl
+tries_same t (op.Secret r k) v w = refl
 tries_same t (op.Add r s) v w = refl
 tries_same t (op.Load r gpa) v w = refl
 tries_same t (op.Store r gpa) v w = refl

@@ -47,4 +47,3 @@ pub mod Told
 pub mod Rtmrs
 pub mod Telling
 pub mod TwoEvents
-pub mod TwoWorlds

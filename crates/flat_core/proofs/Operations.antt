@@ -24,6 +24,7 @@ module _ (o : Opening) (t v line : ℕ) (C : Operation → Type 0)
 
   pub each_operation : (op : GuestOp) → C (operation_of o t v line op)
   each_operation (op.Set r x) = sets r x
+  each_operation (op.Secret r k) = sets r (o.secrets k)
   each_operation (op.Add r s) = adds r s
   each_operation (op.Load r gpa) = either (is_private gpa) _ _ (privates Read r gpa) (loads r gpa)
   each_operation (op.Store r gpa) = either (is_private gpa) _ _ (privates Write r gpa) (stores r gpa)

@@ -103,6 +103,7 @@ module _ (o : Opening) (w : World) (t i : ℕ) where
 
     operation_extends : (op : GuestOp) → Extends op (operation_of o g.tdr g.vp line op)
     operation_extends (op.Set r x) = by_row (op.Set r x) _ refl
+    operation_extends (op.Secret r k) = by_row (op.Secret r k) _ refl
     operation_extends (op.Add r s) = by_row (op.Add r s) _ refl
     operation_extends (op.Load r gpa) = either (op.Load r gpa) (is_private gpa) _ _ (λ row e. cc) (by_row (op.Load r gpa) (shared_load o.machine g.vp line r gpa) refl)
     operation_extends (op.Store r gpa) = either (op.Store r gpa) (is_private gpa) _ _ (λ row e. cc) (by_row (op.Store r gpa) (shared_store o.machine g.vp r gpa) refl)

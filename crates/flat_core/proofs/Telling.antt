@@ -1,5 +1,5 @@
--- The words that a run tells from a state on: each event puts those that it tells at the end of the world's list.
-use Rattle.std.proofs.Common.{◌≡◌, refl, sym, ◌∙◌, ap, ℕ, List, [], ◌∷◌, ◌++◌, Option, Some, None, false, append_assoc}
+-- Each event puts the words that it tells at the end of the world's list.
+use Rattle.std.proofs.Common.{◌≡◌, refl, sym, ◌∙◌, ap, ℕ, List, [], ◌∷◌, ◌++◌, Option, Some, None, false}
 use Rattle.std.proofs.lemmas.List.{append-nil}
 use Rattle.td_words.specs.declared.names.Access.{Access}
 use Rattle.td_words.specs.declared.names.Access.TheVariants.{Read, Write}
@@ -13,8 +13,7 @@ use Rattle.flat_core.specs.Opening.{Opening}
 use Rattle.flat_core.specs.Row.{OperationRow, Move, Attempts, Undoes, Refuses, Succeeds, Releases, Rests, next_in}
 use Rattle.flat_core.specs.Table.{row_of}
 use Rattle.flat_core.specs.Event.{State, Event, OfCall, OfOperation, Reaches, nothing_more, next_event, event, after_event, world_after}
-use Rattle.flat_core.specs.Run.{play, told_in}
-use Rattle.flat_core.specs.TwoWorlds.{words_told}
+use Rattle.flat_core.specs.TwoWorlds.{words_told, EventsTellTheirWords}
 use Rattle.flat_core.proofs.Told.{operations_tell_both}
 use Rattle.flat_core.proofs.Operations.{operation_row, accepted}
 use Rattle.flat_core.proofs.Due.{Due, calls, frees, leaves, stops, fills, operates, walks, reaches, undoes, gives_back, due_event_is}
@@ -62,21 +61,9 @@ due_grows o w p lp e (reaches c cs g op access r gpa page inside way is found) =
 due_grows o w p lp e (undoes c cs g l inside stays phase) = unchanged w
 due_grows o w p lp e (gives_back c cs g out inside stays phase) = operation_grows w nothing_more refl (next_in [] (Answered out) g.operation.held)
 
-pub event_grows : (o : Opening) (s : State) (p : ℕ) → (event o s p).world.outgoing.told ≡ s.world.outgoing.told ++ words_told s.world (next_event o s p)
+pub event_grows : EventsTellTheirWords
 event_grows o s p = by (next_event o s p) refl
   where
     by : (x : Option Event) → next_event o s p ≡ x → (after_event p s x).world.outgoing.told ≡ s.world.outgoing.told ++ words_told s.world x
     by None is = unchanged s.world
     by (Some e) is = due_grows o s.world p (s.lps p) e (due_event_is o s p e is)
-
--- the words that a schedule's events tell
-abbrev pub told_from : Opening → List ℕ → State → List ℕ
-told_from o [] s = []
-told_from o (p ∷ ps) s = words_told s.world (next_event o s p) ++ told_from o ps (event o s p)
-
-pub run_grows : (o : Opening) (ps : List ℕ) (s : State) → told_in (play o ps s) ≡ told_in s ++ told_from o ps s
-run_grows o [] s = unchanged s.world
-run_grows o (p ∷ ps) s =
-    run_grows o ps (event o s p)
-    ∙ (ap (λ (xs : List ℕ). xs ++ told_from o ps (event o s p)) (event_grows o s p)
-    ∙ append_assoc (told_in s) (words_told s.world (next_event o s p)) (told_from o ps (event o s p)))

@@ -40,6 +40,10 @@ plain_operation change = record { items = λ w. []; act = change; answer = λ w.
 abbrev pub set_value : (vp register value : ℕ) → OperationRow
 set_value v r x = plain_operation (λ w. pass_operation v (set_register v r x w))
 
+-- secret R K
+abbrev pub take_secret : Opening → (vp register number : ℕ) → OperationRow
+take_secret o v r k = set_value v r (o.secrets k)
+
 -- add R S, modulo 2^64
 abbrev pub add_registers : (vp register other : ℕ) → OperationRow
 add_registers v r s = plain_operation (λ w. pass_operation v (set_register v r ((w.hidden.registers v r + w.hidden.registers v s) % 2 ^ 64) w))
@@ -134,6 +138,7 @@ is_private gpa = nat_lt gpa (2 ^ 47)
 -- the operation of a virtual processor of a TD, at a call line
 abbrev pub operation_of : Opening → (tdr vp line : ℕ) → GuestOp → Operation
 operation_of o t v line (op.Set r x) = ByRow (set_value v r x)
+operation_of o t v line (op.Secret r k) = ByRow (take_secret o v r k)
 operation_of o t v line (op.Add r s) = ByRow (add_registers v r s)
 operation_of o t v line (op.Load r gpa) = if is_private gpa then Private Read r gpa else ByRow (shared_load o.machine v line r gpa)
 operation_of o t v line (op.Store r gpa) = if is_private gpa then Private Write r gpa else ByRow (shared_store o.machine v r gpa)

@@ -23,6 +23,7 @@ access_tries gpa = if is_private gpa then [] else shared (OfPage (shared_page gp
 -- the entry names.
 abbrev pub operation_tries : (tdr : ℕ) → GuestOp → World → List Held
 operation_tries t (op.Set r x) w = []
+operation_tries t (op.Secret r k) w = []
 operation_tries t (op.Add r s) w = []
 operation_tries t (op.Load r gpa) w = access_tries gpa
 operation_tries t (op.Store r gpa) w = access_tries gpa

@@ -7,7 +7,7 @@ use Rattle.td_words.specs.declared.names.EntryState.TheVariants as entry
 use Rattle.td_words.specs.declared.calls.Call.{Call}
 use Rattle.td_words.specs.declared.calls.Call.TheVariants.{HostWrite, HostRead, MngCreate, MngVpflushdone, MrFinalize, VpCreate, VpInit, VpEnter, VpFlush, MemSeptRd, MemPageAdd, MemPageAug, MemPageRemove, MemSeptRemove, MemRangeBlock, MemRangeUnblock, MemTrack}
 use Rattle.td_words.specs.declared.calls.GuestOp.{GuestOp}
-use Rattle.td_words.specs.declared.calls.GuestOp.TheVariants.{Set, Add, Load, Store, Accept, Rtmr, Vmcall}
+use Rattle.td_words.specs.declared.calls.GuestOp.TheVariants.{Set, Secret, Add, Load, Store, Accept, Rtmr, Vmcall}
 use Rattle.td_words.specs.declared.refusals.Status.TheVariants.{OperandInvalid, OperandBusy, PageMetadataIncorrect, VcpuAssociated, VcpuNotAssociated, HkidNotFree, FlushvpNotDone, TlbTrackingNotDone, PreviousTlbEpochBusy}
 use Rattle.td_words.specs.declared.replies.Value.TheVariants.{Nothing, Number, Entry}
 use Rattle.td_words.specs.declared.replies.Outcome.TheVariants.{Stop, Max, Vmcall as Called, EptViolation, Busy}
@@ -42,6 +42,10 @@ told_after ops calls = told_in (run_after ops calls)
 
 abbrev pub events_after : List GuestOp → List Call → ℕ
 events_after ops calls = let o = opening_with ops ((ready ++ calls) ∷ []) in events_taken o 300 (start o None)
+
+-- where secret word k is k + 5
+abbrev pub with_secrets : List GuestOp → State
+with_secrets ops = run (record (opening_with ops ((ready ++ VpEnter 1 4 9 ∷ []) ∷ [])) { secrets = λ k. k + 5 }) []
 
 -- a page of which the host wrote word 1 is added at GPA 4096
 abbrev pub pending_calls : List Call
@@ -149,6 +153,10 @@ pub record GuestExamples : Type 0 where
   pub exits : after_ready (Set 1 7 ∷ Vmcall 1 ∷ []) (VpEnter 1 4 1 ∷ VpEnter 1 4 1 ∷ VpEnter 1 4 1 ∷ []) ≡ Exited Max ∷ Exited (Called 7) ∷ Exited Stop ∷ []
   pub stop_before_max : after_ready (Set 1 7 ∷ []) (VpEnter 1 4 1 ∷ []) ≡ Exited Stop ∷ []
   pub sums : after_ready (Set 1 7 ∷ Set 2 0xffffffffffffffff ∷ Add 1 2 ∷ Add 1 1 ∷ Vmcall 1 ∷ []) (VpEnter 1 4 9 ∷ []) ≡ Exited (Called 12) ∷ []
+  -- a secret word reaches the host where the guest tells it, and else its own notes alone
+  pub secret_told : drop 13 (replies_of (with_secrets (Secret 1 2 ∷ Vmcall 1 ∷ [])) 0) ≡ Exited (Called 7) ∷ []
+  pub secret_kept : drop 13 (replies_of (with_secrets (Secret 1 2 ∷ Store 1 8 ∷ Load 2 8 ∷ [])) 0) ≡ Exited Stop ∷ []
+  pub secret_noted : ((with_secrets (Secret 1 2 ∷ Store 1 8 ∷ Load 2 8 ∷ [])).lps 0).notes ≡ LoadNote 14 8 7 ∷ []
   pub busy_0 : drop 11 (replies_of busy_state 0) ≡ Exited (Busy (lock.Page 20)) ∷ []
   pub busy_1 : replies_of busy_state 1 ≡ Refused HkidNotFree ∷ []
   pub stop_0 : drop 11 (replies_of stop_state 0) ≡ Exited Stop ∷ []

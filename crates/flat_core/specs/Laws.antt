@@ -22,7 +22,7 @@ use Rattle.td_words.specs.Packing.{Entry, is_exported}
 use Rattle.flat_core.specs.World.{World, Pages, Tds, put, Made}
 use Rattle.flat_core.specs.Processor.{LockId, Guest, Lp, nothing_yet}
 use Rattle.flat_core.specs.Locks.{holders, sharers, one_if}
-use Rattle.flat_core.specs.Opening.{Opening, Incoming, Agree, blind, public_bundle}
+use Rattle.flat_core.specs.Opening.{Opening, Incoming, Agree}
 use Rattle.flat_core.specs.Row.{Passes, Succeeds, Row, OperationRow, Move, tries_in}
 use Rattle.flat_core.specs.Conditions.{is_host_in, running_ops}
 use Rattle.flat_core.specs.Tree.{entry_at}
@@ -30,8 +30,7 @@ use Rattle.flat_core.specs.TdRows.{read_td, finalize}
 use Rattle.flat_core.specs.MemRows.{chunk_bytes}
 use Rattle.flat_core.specs.Table.{row_of}
 use Rattle.flat_core.specs.Event.{State, Event, OfCall, OfOperation, Reaches, Leaves, start, lines_left, next_event, event, world_after, operation_told, lp_after}
-use Rattle.flat_core.specs.Run.{play, run, run_told, told_in, bundles_in}
-use Rattle.flat_core.specs.HostText.{host_text, text_of}
+use Rattle.flat_core.specs.Run.{play}
 use Rattle.flat_core.specs.Exports.{is_dirty}
 use Rattle.flat_core.specs.Lawful.{IsAlive, Lawful, RowKeeps, is_free, is_named_kind, all_differ}
 use Rattle.flat_core.specs.Inside.{AreTimely}
@@ -182,11 +181,6 @@ ExclusionIsKept = IsKept (λ o s. IsExclusive s)
 abbrev pub LocksExclude : Type 0
 LocksExclude = HoldsInRuns (λ o s. IsExclusive s)
 
--- What is printed is the same whatever the private words are: as with every private word 0, where guests tell the same.
-abbrev pub BlindRunsPrintTheSame : Type 0
-BlindRunsPrintTheSame = (o : Opening) (schedule : List ℕ)
-    → host_text o schedule ≡ text_of (run_told (blind o) schedule (told_in (run o schedule)))
-
 -- a processor between two calls
 pub record IsBetween (lp : Lp) : Type 0 where
   pub call : lp.call ≡ nothing_yet
@@ -278,23 +272,6 @@ abbrev pub OperationsTellBoth : Type 0
 OperationsTellBoth = (w : World) (granted : Bool) (row : OperationRow) (move : Move (Option Outcome)) (lp : Lp) → (row.act w).outgoing.told ≡ w.outgoing.told
     → let e = OfOperation row move in
     ((world_after e w).outgoing.told ≡ w.outgoing.told ++ operation_told w row move) × ((lp_after w granted e lp).told ≡ lp.told ++ operation_told w row move)
-
--- Two worlds, further
-
--- what anyone can read of the bundles that were made
-abbrev pub public_bundles : State → List Made
-public_bundles s = map public_bundle (bundles_in s)
-
--- The bundles that are made have the same public part, too.
-abbrev pub BlindRunsMakeTheSameBundles : Type 0
-BlindRunsMakeTheSameBundles = (o : Opening) (schedule : List ℕ)
-    → public_bundles (run o schedule) ≡ public_bundles (run_told (blind o) schedule (told_in (run o schedule)))
-
--- So two openings that agree on all that is public print the same and make bundles with the same public part, where guests
--- tell the same.
-abbrev pub AgreeingRunsShowTheSame : Type 0
-AgreeingRunsShowTheSame = (o q : Opening) (schedule : List ℕ) → Agree o q → told_in (run o schedule) ≡ told_in (run q schedule)
-    → (host_text o schedule ≡ host_text q schedule) × (public_bundles (run o schedule) ≡ public_bundles (run q schedule))
 
 -- What a refused call leaves of its processor's record
 

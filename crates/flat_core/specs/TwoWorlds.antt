@@ -1,5 +1,5 @@
--- Two runs side by side: their openings differ in private words alone, and the second is given the words that the first
--- tells.
+-- Two runs side by side, event by event: their openings differ in private words alone, and the second is given the words
+-- that the first tells.
 use Rattle.std.specs.Prelude.{◌≡◌, ℕ, List, [], ◌++◌, Option, Some}
 use Rattle.td_words.specs.declared.calls.GuestOp.{GuestOp}
 use Rattle.flat_core.specs.World.{World}
@@ -35,3 +35,7 @@ words_told w _ = []
 abbrev pub EventsAreBlind : Type 0
 EventsAreBlind = (o q : Opening) (s t : State) (p : ℕ) (rest : List ℕ) → Agree o q → IsGuarded o s → Lawful q.machine t.world
     → AreAlikeStates s t (words_told s.world (next_event o s p) ++ rest) → AreAlikeStates (event o s p) (event q t p) rest
+
+-- Each event puts the words that it tells at the end of the world's list.
+abbrev pub EventsTellTheirWords : Type 0
+EventsTellTheirWords = (o : Opening) (s : State) (p : ℕ) → (event o s p).world.outgoing.told ≡ s.world.outgoing.told ++ words_told s.world (next_event o s p)

@@ -7,13 +7,13 @@ ghost use Rattle.flat_core.specs.Entries.{EntriesHaveTheirEvents};
 ghost use Rattle.flat_core.specs.GuestOrder.{OperationsTryTheirLists, GuestOrderIsKept, GuestOrderHolds};
 ghost use Rattle.flat_core.specs.GuestWorked.{GuestExamples};
 ghost use Rattle.flat_core.specs.Guests.{RowsSpare};
-ghost use Rattle.flat_core.specs.Laws.{RowsKeep, RowsAreBlind, MrtdIsTheDigest, RecordsAreMeasured, TimelinessIsKept, EveryWorldIsLawful, LawfulPagesAreOwned, OwnersAreKept, EveryPageIsOwned, LawfulWorldsAreCounted, CountsAreKept, ExportedAreCounted, OthersStay, QuietEventsStay, NoWordsToTell, ExclusionIsKept, LocksExclude, BlindRunsPrintTheSame, BlindRunsMakeTheSameBundles, AgreeingRunsShowTheSame, RefusedCallsStay, QuietCallsKeep, RefusalsLeaveTheirReply, RowsTryTheSame, CallsHaveTheirEvents, EventsKeepLawful, MrtdsAreKept, EveryMrtdIsTheDigest, EventsMeasure, PagesHaveOneUse, GuestsKnowTheirPages, ToldAreMerged, OperationsTellBoth};
+ghost use Rattle.flat_core.specs.Laws.{RowsKeep, RowsAreBlind, MrtdIsTheDigest, RecordsAreMeasured, TimelinessIsKept, EveryWorldIsLawful, LawfulPagesAreOwned, OwnersAreKept, EveryPageIsOwned, LawfulWorldsAreCounted, CountsAreKept, ExportedAreCounted, OthersStay, QuietEventsStay, NoWordsToTell, ExclusionIsKept, LocksExclude, RefusedCallsStay, QuietCallsKeep, RefusalsLeaveTheirReply, RowsTryTheSame, CallsHaveTheirEvents, EventsKeepLawful, MrtdsAreKept, EveryMrtdIsTheDigest, EventsMeasure, PagesHaveOneUse, GuestsKnowTheirPages, ToldAreMerged, OperationsTellBoth};
 ghost use Rattle.flat_core.specs.Order.{OrderIsKept, TreeIsFreeInOrder, TreeIsNeverBusy};
 ghost use Rattle.flat_core.specs.PageUses.{EventsKeepUses};
 ghost use Rattle.flat_core.specs.Replies.{RepliesComeOneByOne, RepliesAreKept, RepliesAreToLines, EveryLineIsAnswered};
 ghost use Rattle.flat_core.specs.Rtmrs.{EventsExtend};
 ghost use Rattle.flat_core.specs.Tries.{RowsTryTheirLists};
-ghost use Rattle.flat_core.specs.TwoWorlds.{OperationsAreBlind, EventsAreBlind};
+ghost use Rattle.flat_core.specs.TwoWorlds.{OperationsAreBlind, EventsAreBlind, EventsTellTheirWords};
 ghost use Rattle.flat_core.specs.Worked.{Examples};
 
 /// The worked examples: replies of small runs, and how many events they take.
@@ -166,17 +166,14 @@ pub fn guest_order_law()
     ensures run { GuestOrderHolds }
 {}
 
-/// What a run prints, and the public part of the bundles that it makes, are the same whatever the
-/// private words are, apart from what guests tell: the same as with every private word 0, and so the
-/// same for any two openings that agree on all that is public. Beside each guest operation: it asks,
+/// Two runs side by side, whose openings differ in private words alone: each guest operation asks,
 /// answers and tells the same in two worlds of which the second tells the words that the first tells;
-/// and one event of each of two such runs keeps them alike, but for what guests note of their own.
-pub fn two_world_law()
+/// one event of each run keeps them alike, but for what guests note of their own; and each event puts
+/// the words that it tells at the end of the world's list.
+pub fn alike_laws()
     ensures operations { OperationsAreBlind }
     ensures events { EventsAreBlind }
-    ensures prints { BlindRunsPrintTheSame }
-    ensures bundles { BlindRunsMakeTheSameBundles }
-    ensures agreeing { AgreeingRunsShowTheSame }
+    ensures told { EventsTellTheirWords }
 {}
 
 /// MRTD of a TD in RUNNABLE is read as the digest of what it has measured: at the start of every run,

@@ -76,6 +76,7 @@ module _ (o : Opening) (w : World) (t n : ℕ) where
 
     operation_remembers : (op : GuestOp) → Remembers op (operation_of o g.tdr g.vp line op)
     operation_remembers (op.Set r x) = by_row (op.Set r x) _ refl
+    operation_remembers (op.Secret r k) = by_row (op.Secret r k) _ refl
     operation_remembers (op.Add r s) = by_row (op.Add r s) _ refl
     operation_remembers (op.Load r gpa) = either (op.Load r gpa) (is_private gpa) _ _ (λ row e. cc) (by_row (op.Load r gpa) (shared_load o.machine g.vp line r gpa) refl)
     operation_remembers (op.Store r gpa) = either (op.Store r gpa) (is_private gpa) _ _ (λ row e. cc) (by_row (op.Store r gpa) (shared_store o.machine g.vp r gpa) refl)
@@ -105,6 +106,7 @@ module _ (o : Opening) (w : World) (t n : ℕ) where
 
     access_remembers : (op : GuestOp) → Keeps op (operation_of o g.tdr g.vp line op)
     access_remembers (op.Set r x) = λ access r gpa page e. cc
+    access_remembers (op.Secret r k) = λ access r gpa page e. cc
     access_remembers (op.Add r s) = λ access r gpa page e. cc
     access_remembers (op.Load r gpa) = either_access (op.Load r gpa) (is_private gpa) _ _ (by_access (op.Load r gpa) Read r gpa (λ page. refl)) (λ access r gpa page e. cc)
     access_remembers (op.Store r gpa) = either_access (op.Store r gpa) (is_private gpa) _ _ (by_access (op.Store r gpa) Write r gpa (store_puts r gpa)) (λ access r gpa page e. cc)

@@ -35,6 +35,7 @@ module _ (o : Opening) (w : World) (g : Guest) (line : ℕ) where
 
   operation_says : (op : GuestOp) → Says (told_by_operation (Some op) g w) (operation_of o g.tdr g.vp line op)
   operation_says (op.Set r x) = by_row [] _ refl
+  operation_says (op.Secret r k) = by_row [] _ refl
   operation_says (op.Add r s) = by_row [] _ refl
   operation_says (op.Load r gpa) = load_tells r gpa (is_private gpa)
   operation_says (op.Store r gpa) = store_tells r gpa (is_private gpa)

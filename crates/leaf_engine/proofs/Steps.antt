@@ -14,7 +14,7 @@ use Rattle.flat_core.specs.Opening.{Opening}
 use Rattle.flat_core.specs.Row.{OperationRow, next_in}
 use Rattle.flat_core.specs.Tree.{page_of_gpa}
 use Rattle.flat_core.specs.Translations.{look_up}
-use Rattle.flat_core.specs.Guest.{Operation, ByRow, Private, operation_of, is_private, walk_level, set_value, add_registers, shared_load, shared_store, accept, extend_rtmr, call_host}
+use Rattle.flat_core.specs.Guest.{Operation, ByRow, Private, operation_of, is_private, walk_level, set_value, take_secret, add_registers, shared_load, shared_store, accept, extend_rtmr, call_host}
 use Rattle.flat_core.specs.Event.{Event, OfOperation, Walks, Reaches, Leaves as LeavesGuest, due_event, max_event, operation_event, private_event}
 use Rattle.leaf_engine.specs.Turns.{Standing}
 use Rattle.leaf_engine.specs.Guests.{WordGuest, Step, Operates, Accesses, Loads, Leaves, walk_page, private_step, operation_step, due_step, staying_step}
@@ -66,6 +66,7 @@ module _ (o : Opening) (w : World) (lp : Lp) (g : Guest) (root index position : 
   module _ (stays : g.leaving ≡ None) where
     of-operation : (op : GuestOp) → found ≡ Some op → IsOperation op → IsDue (operation_step lp.cached x op) (operation_event w lp g (operation_of o g.tdr g.vp line op))
     of-operation (op.Set r v) is i = operates (op.Set r v) (set_value g.vp r v) stays i (is, refl)
+    of-operation (op.Secret r k) is i = operates (op.Secret r k) (take_secret o g.vp r k) stays i (is, refl)
     of-operation (op.Add r k) is i = operates (op.Add r k) (add_registers g.vp r k) stays i (is, refl)
     of-operation (op.Accept gpa) is i = operates (op.Accept gpa) (accept g.tdr g.vp gpa) stays i (is, refl)
     of-operation (op.Rtmr k) is i = operates (op.Rtmr k) (extend_rtmr g.tdr g.vp line k) stays i (is, refl)
@@ -136,6 +137,7 @@ module _ (codes : ℕ → ℕ → List GuestOp) (ts : List Translation) (g : Gue
   same-operation (op.Load r gpa) = same-choice (is_private gpa) Read r gpa (op.Load r gpa)
   same-operation (op.Store r gpa) = same-choice (is_private gpa) Write r gpa (op.Store r gpa)
   same-operation (op.Set r v) = refl
+  same-operation (op.Secret r k) = refl
   same-operation (op.Add r k) = refl
   same-operation (op.Accept gpa) = refl
   same-operation (op.Rtmr k) = refl

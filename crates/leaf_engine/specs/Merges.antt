@@ -60,9 +60,10 @@ ByItsRow o t v line (Accesses access r gpa page) k = k ≡ OfAccess t v line acc
 ByItsRow o t v line (Loads access gpa level page) k = k ≡ OfWalk t v access gpa level page
 ByItsRow o t v line (Leaves out) k = k ≡ OfExit t v out
 
--- an operation's registers, RTMR and address are within the limits of the grammar
+-- an operation's registers, secret word, RTMR and address are within the limits of the grammar
 abbrev pub IsOperation : GuestOp → Type 0
 IsOperation (op.Set r x) = r < 8
+IsOperation (op.Secret r k) = (r < 8) × (k < 512)
 IsOperation (op.Add r s) = (r < 8) × (s < 8)
 IsOperation (op.Load r gpa) = r < 8
 IsOperation (op.Store r gpa) = r < 8

@@ -118,11 +118,12 @@ pub enum Call {
     },
 }
 
-/// An operation of guest code, with its operands in order: registers 0 to 7, RTMRs 0 to 3, guest
-/// physical addresses within the limits of the grammar.
+/// An operation of guest code, with its operands in order: registers 0 to 7, secret words 0 to 511,
+/// RTMRs 0 to 3, guest physical addresses within the limits of the grammar.
 #[derive(Clone, Copy, Debug, PartialEq, Eq)]
 pub enum GuestOp {
     Set { register: u8, value: u64 },
+    Secret { register: u8, number: u16 },
     Add { register: u8, other: u8 },
     Load { register: u8, gpa: u64 },
     Store { register: u8, gpa: u64 },

@@ -23,8 +23,8 @@ pub fn views_are_kept()
 
 /// The uses of words, which are written by hand for each call and guest operation of the profile,
 /// fit the locks that are written beside them. Three of these, for the words of RELOCATE and
-/// EXPORT.MEM and of `accept`, have *no change* or *no reach* besides, from a law of accesses that
-/// isn't proved yet. A rule that is met by a list of wants is met by each grip that meets them.
+/// EXPORT.MEM and of `accept`, have *no change* or *no reach* besides, as the law of accesses has it
+/// (flat_laws). A rule that is met by a list of wants is met by each grip that meets them.
 /// Of each call that has a row, whoever holds what the row tries has the locks that are written of
 /// the call's uses (`rows`).
 pub fn leaf_table_fits()

@@ -1,0 +1,17 @@
+use Rattle.isol_laws.proofs.Worlds.{blind_alike, blind_prints, blind_bundles, agreeing_show, secrets_are_private}
+use Rattle.isol_laws.proofs.laws.two_world_law.Goals as goal
+
+pub returns-clause-alike : goal.returns-clause-alike
+returns-clause-alike c = blind_alike c.access_law.ensures.kept c.alike_laws.ensures.events c.alike_laws.ensures.told
+
+pub returns-clause-prints : goal.returns-clause-prints
+returns-clause-prints c = blind_prints c.access_law.ensures.kept c.alike_laws.ensures.events c.alike_laws.ensures.told
+
+pub returns-clause-bundles : goal.returns-clause-bundles
+returns-clause-bundles c = blind_bundles c.access_law.ensures.kept c.alike_laws.ensures.events c.alike_laws.ensures.told
+
+pub returns-clause-agreeing : goal.returns-clause-agreeing
+returns-clause-agreeing c = agreeing_show c.access_law.ensures.kept c.alike_laws.ensures.events c.alike_laws.ensures.told
+
+pub returns-clause-private : goal.returns-clause-private
+returns-clause-private c = secrets_are_private
