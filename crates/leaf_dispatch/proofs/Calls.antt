@@ -12,7 +12,7 @@ use Rattle.flat_core.specs.Opening.{Opening}
 use Rattle.flat_core.specs.Row.{OperationRow}
 use Rattle.flat_core.specs.Table.{row_of}
 use Rattle.flat_core.specs.Lawful.{Lawful}
-use Rattle.flat_core.specs.Guest.{ByRow, Private, is_private}
+use Rattle.flat_core.specs.Guest.{ByRow, Private, is_private, set_value}
 use Rattle.leaf_engine.specs.declared.needs.Place.{Place}
 use Rattle.leaf_engine.specs.Facts.{GuestFits}
 use Rattle.leaf_engine.specs.Means.{OfCall, OfOperation, OfAccess, OfWalk, Instant, IsEntryPage, Means, MeansRow, work_of}
@@ -145,17 +145,18 @@ means p (call.MrExtend tdr gpa) m = extend-means p tdr gpa m
 
 -- steps of guests
 
-step-place : (p : Place) (t v line : ℕ) (s : Step) → (step_task p t v line s).place ≡ p
-step-place p t v line (Operates (op.Set r x)) = refl
-step-place p t v line (Operates (op.Add r s)) = refl
-step-place p t v line (Operates (op.Load r gpa)) = refl
-step-place p t v line (Operates (op.Store r gpa)) = refl
-step-place p t v line (Operates (op.Accept gpa)) = refl
-step-place p t v line (Operates (op.Rtmr i)) = refl
-step-place p t v line (Operates (op.Vmcall r)) = refl
-step-place p t v line (Accesses access r gpa page) = refl
-step-place p t v line (Loads access gpa level page) = refl
-step-place p t v line (Leaves out) = refl
+step-place : (secrets : ℕ → ℕ) (p : Place) (t v line : ℕ) (s : Step) → (step_task secrets p t v line s).place ≡ p
+step-place secrets p t v line (Operates (op.Set r x)) = refl
+step-place secrets p t v line (Operates (op.Secret r k)) = refl
+step-place secrets p t v line (Operates (op.Add r s)) = refl
+step-place secrets p t v line (Operates (op.Load r gpa)) = refl
+step-place secrets p t v line (Operates (op.Store r gpa)) = refl
+step-place secrets p t v line (Operates (op.Accept gpa)) = refl
+step-place secrets p t v line (Operates (op.Rtmr i)) = refl
+step-place secrets p t v line (Operates (op.Vmcall r)) = refl
+step-place secrets p t v line (Accesses access r gpa page) = refl
+step-place secrets p t v line (Loads access gpa level page) = refl
+step-place secrets p t v line (Leaves out) = refl
 
 same-row : (t v : ℕ) (x row : OperationRow) → ByRow x ≡ ByRow row → OfOperation t v x ≡ OfOperation t v row
 same-row t v x row e = (let same : x ≡ row = cc in ap (OfOperation t v) same)
@@ -164,17 +165,18 @@ shared-row : (b : Bool) (t v : ℕ) (access : Access) (r gpa : ℕ) (x row : Ope
 shared-row true t v access r gpa x row e = cc
 shared-row false t v access r gpa x row e = same-row t v x row e
 
-step-row : (o : Opening) (p t v line : ℕ) (s : Step) → ByItsRow o t v line s (step_task (record { machine = o.machine; lp = p }) t v line s).meaning
-step-row o p t v line (Operates (op.Set r x)) = λ row e. same-row t v _ row e
-step-row o p t v line (Operates (op.Add r s)) = λ row e. same-row t v _ row e
-step-row o p t v line (Operates (op.Load r gpa)) = λ row e. shared-row (is_private gpa) t v Read r gpa _ row e
-step-row o p t v line (Operates (op.Store r gpa)) = λ row e. shared-row (is_private gpa) t v Write r gpa _ row e
-step-row o p t v line (Operates (op.Accept gpa)) = λ row e. same-row t v _ row e
-step-row o p t v line (Operates (op.Rtmr i)) = λ row e. same-row t v _ row e
-step-row o p t v line (Operates (op.Vmcall r)) = λ row e. same-row t v _ row e
-step-row o p t v line (Accesses access r gpa page) = refl
-step-row o p t v line (Loads access gpa level page) = refl
-step-row o p t v line (Leaves out) = refl
+step-row : (o : Opening) (secrets : ℕ → ℕ) → ((k : ℕ) → secrets k ≡ o.secrets k) → (p t v line : ℕ) (s : Step) → ByItsRow o t v line s (step_task secrets (record { machine = o.machine; lp = p }) t v line s).meaning
+step-row o secrets same p t v line (Operates (op.Set r x)) = λ row e. same-row t v _ row e
+step-row o secrets same p t v line (Operates (op.Secret r k)) = λ row e. ap (λ (x : ℕ). OfOperation t v (set_value v r x)) (same k) ∙ same-row t v _ row e
+step-row o secrets same p t v line (Operates (op.Add r s)) = λ row e. same-row t v _ row e
+step-row o secrets same p t v line (Operates (op.Load r gpa)) = λ row e. shared-row (is_private gpa) t v Read r gpa _ row e
+step-row o secrets same p t v line (Operates (op.Store r gpa)) = λ row e. shared-row (is_private gpa) t v Write r gpa _ row e
+step-row o secrets same p t v line (Operates (op.Accept gpa)) = λ row e. same-row t v _ row e
+step-row o secrets same p t v line (Operates (op.Rtmr i)) = λ row e. same-row t v _ row e
+step-row o secrets same p t v line (Operates (op.Vmcall r)) = λ row e. same-row t v _ row e
+step-row o secrets same p t v line (Accesses access r gpa page) = refl
+step-row o secrets same p t v line (Loads access gpa level page) = refl
+step-row o secrets same p t v line (Leaves out) = refl
 
 -- the page that a translation names, and the one where an entry stands, is the machine's
 
@@ -219,27 +221,28 @@ walk-means p t v access gpa level page limits small low = record {
       })));
 }
 
-step-means : (p : Place) (t v line : ℕ) (s : Step) → IsMachine p.machine → IsStepOf s → MeansRow (step_task p t v line s)
-step-means p t v line (Operates (op.Set r x)) m i = set-means p t v r x i
-step-means p t v line (Operates (op.Add r s)) m i = sum-means p t v r s i.0 i.1
-step-means p t v line (Operates (op.Load r gpa)) m i = shared_load-means p t v line r gpa i
-step-means p t v line (Operates (op.Store r gpa)) m i = shared_store-means p t v r gpa i
-step-means p t v line (Operates (op.Accept gpa)) m i = accept-means p t v gpa m i
-step-means p t v line (Operates (op.Rtmr x)) m i = rtmr-means p t v line x i
-step-means p t v line (Operates (op.Vmcall r)) m i = vmcall-means p t v r i
-step-means p t v line (Accesses access r gpa page) m i = access-means p t v line access r gpa page i.0
-step-means p t v line (Loads access gpa level page) m i = walk-means p t v access gpa level page m i.1 i.0
-step-means p t v line (Leaves out) m i = exit-means p t v out
+step-means : (secrets : ℕ → ℕ) (p : Place) (t v line : ℕ) (s : Step) → IsMachine p.machine → IsStepOf s → MeansRow (step_task secrets p t v line s)
+step-means secrets p t v line (Operates (op.Set r x)) m i = set-means p t v r x i
+step-means secrets p t v line (Operates (op.Secret r k)) m i = set-means p t v r (secrets k) i.0
+step-means secrets p t v line (Operates (op.Add r s)) m i = sum-means p t v r s i.0 i.1
+step-means secrets p t v line (Operates (op.Load r gpa)) m i = shared_load-means p t v line r gpa i
+step-means secrets p t v line (Operates (op.Store r gpa)) m i = shared_store-means p t v r gpa i
+step-means secrets p t v line (Operates (op.Accept gpa)) m i = accept-means p t v gpa m i
+step-means secrets p t v line (Operates (op.Rtmr x)) m i = rtmr-means p t v line x i
+step-means secrets p t v line (Operates (op.Vmcall r)) m i = vmcall-means p t v r i
+step-means secrets p t v line (Accesses access r gpa page) m i = access-means p t v line access r gpa page i.0
+step-means secrets p t v line (Loads access gpa level page) m i = walk-means p t v access gpa level page m i.1 i.0
+step-means secrets p t v line (Leaves out) m i = exit-means p t v out
 
 pub calls-have-leaves : CallsHaveLeaves
-calls-have-leaves o codes m same = record {
+calls-have-leaves o secrets codes m words same = record {
   machine = λ p c. ap (λ (z : Place). z.machine) (of-place (record { machine = o.machine; lp = p }) c);
   processor = λ p c. ap (λ (z : Place). z.lp) (of-place (record { machine = o.machine; lp = p }) c);
   row = λ p c. of-row o p c;
   means = λ p c. means (record { machine = o.machine; lp = p }) c m;
-  step_machine = λ p t v line s. ap (λ (z : Place). z.machine) (step-place (record { machine = o.machine; lp = p }) t v line s);
-  step_processor = λ p t v line s. ap (λ (z : Place). z.lp) (step-place (record { machine = o.machine; lp = p }) t v line s);
-  step_row = λ p t v line s. step-row o p t v line s;
-  step_means = λ p t v line s i. step-means (record { machine = o.machine; lp = p }) t v line s m i;
+  step_machine = λ p t v line s. ap (λ (z : Place). z.machine) (step-place secrets (record { machine = o.machine; lp = p }) t v line s);
+  step_processor = λ p t v line s. ap (λ (z : Place). z.lp) (step-place secrets (record { machine = o.machine; lp = p }) t v line s);
+  step_row = λ p t v line s. step-row o secrets words p t v line s;
+  step_means = λ p t v line s i. step-means secrets (record { machine = o.machine; lp = p }) t v line s m i;
   codes = λ p t i. same t i;
 }

@@ -52,6 +52,7 @@ module _ (codes : ℕ → ℕ → List GuestOp) (ts : List Translation) (g : Wor
   by-operation (op.Load r n) = by-private Read r n (op.Load r n) (is_private n)
   by-operation (op.Store r n) = by-private Write r n (op.Store r n) (is_private n)
   by-operation (op.Set r x) = refl
+  by-operation (op.Secret r k) = refl
   by-operation (op.Add r s) = refl
   by-operation (op.Accept n) = refl
   by-operation (op.Rtmr i) = refl

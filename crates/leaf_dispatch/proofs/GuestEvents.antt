@@ -156,7 +156,7 @@ guest-alone : (h : Option GuestAt) (k : Option Running) → run_seen k ≡ None 
 guest-alone None k e = refl
 guest-alone (Some g) k e = ap (λ (run : Option Standing). Some (guest_seen g run)) e
 
-module _ (p : Place) (codes : List CodeSeen) (c : Call) (cs : List Call) (r : Running) (g : GuestAt) (step : Option Running) (ts us : List Translation) (rs : List Reply) (notes : List Note) (told : List ℕ) where
+module _ (p : Place) (secrets : ℕ → ℕ) (codes : List CodeSeen) (c : Call) (cs : List Call) (r : Running) (g : GuestAt) (step : Option Running) (ts us : List Translation) (rs : List Reply) (notes : List Note) (told : List ℕ) where
   abbrev pub at_line : ℕ
   at_line = length rs + 1
 
@@ -174,7 +174,7 @@ module _ (p : Place) (codes : List CodeSeen) (c : Call) (cs : List Call) (r : Ru
     ends = step_ends g.tdr at_line s
 
     abbrev was : Standing
-    was = running (step_task p g.tdr g.vp at_line s) (run_seen step)
+    was = running (step_task secrets p g.tdr g.vp at_line s) (run_seen step)
 
     abbrev pub turned : WordLp
     turned = record {
@@ -200,19 +200,19 @@ module _ (p : Place) (codes : List CodeSeen) (c : Call) (cs : List Call) (r : Ru
       none-begun none = none-kept step (inside.alone (ap step_tries is ∙ none))
 
       first : step_tries s ≡ 0 → was.stage ≡ stages.Trying
-      first none = first-trying p g.tdr g.vp at_line s step none-begun none
+      first none = first-trying secrets p g.tdr g.vp at_line s step none-begun none
 
       used : run_used x.run ≡ stage_used was.stage (length was.held)
       used = by (run_seen step)
         where
-          by : (run : Option Standing) → run_used run ≡ stage_used (running (step_task p g.tdr g.vp at_line s) run).stage (length (running (step_task p g.tdr g.vp at_line s) run).held)
+          by : (run : Option Standing) → run_used run ≡ stage_used (running (step_task secrets p g.tdr g.vp at_line s) run).stage (length (running (step_task secrets p g.tdr g.vp at_line s) run).held)
           by None = refl
           by (Some y) = refl
 
       made-before : run_made x.run ≡ stage_made was.stage
       made-before = by (run_seen step)
         where
-          by : (run : Option Standing) → run_made run ≡ stage_made (running (step_task p g.tdr g.vp at_line s) run).stage
+          by : (run : Option Standing) → run_made run ≡ stage_made (running (step_task secrets p g.tdr g.vp at_line s) run).stage
           by None = refl
           by (Some y) = refl
 
@@ -247,15 +247,15 @@ module _ (p : Place) (codes : List CodeSeen) (c : Call) (cs : List Call) (r : Ru
           by None = refl
           by (Some z) = refl
 
-      pub guest-moved : TurnsInPieces → gives_epoch_back r.run.held.items ≡ false → Moved (code_in codes) did bench p before turned result.event
+      pub guest-moved : TurnsInPieces → gives_epoch_back r.run.held.items ≡ false → Moved secrets (code_in codes) did bench p before turned result.event
       guest-moved law back =
           let moved =
-          guest-moves law did bench p (code_in codes) c cs (standing_of r) x rs besides kept turned result s step-at t
+          guest-moves law did bench p secrets (code_in codes) c cs (standing_of r) x rs besides kept turned result s step-at t
           (after ∙ ap (λ (b : Beside). after_step c cs (standing_of r) x rs b s t.stands result.reply) besides-are) in
           record {
             pieces = moved.pieces;
             did_them = moved.did_them;
-            turn = subst (λ (b : Bool). EnteredTurn (place_table p (code_in codes)) p.machine c cs (standing_of r) x rs besides result.event moved.pieces turned b) (sym back) moved.turn;
+            turn = subst (λ (b : Bool). EnteredTurn (place_table p secrets (code_in codes)) p.machine c cs (standing_of r) x rs besides result.event moved.pieces turned b) (sym back) moved.turn;
             fewer = fewer;
           }
 

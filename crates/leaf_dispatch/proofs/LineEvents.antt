@@ -87,7 +87,7 @@ room-begun longest (c ∷ cs) = refl
 shorter : (older : List HeldLock) (x : HeldLock) (held : List HeldLock) → held ≡ older ++ x ∷ [] → length older < length held
 shorter older x held e = (let n = ap length e in let m = length-append older (x ∷ []) in omega (arith, n, m))
 
-module _ (p : Place) (codes : List CodeSeen) (c : Call) (cs : List Call) (ts us : List Translation) (rs : List Reply) (notes : List Note) (told : List ℕ) where
+module _ (p : Place) (secrets : ℕ → ℕ) (codes : List CodeSeen) (c : Call) (cs : List Call) (ts us : List Translation) (rs : List Reply) (notes : List Note) (told : List ℕ) where
   abbrev besides : List Translation → Beside
   besides xs = record { cached = xs; notes = notes; told = told; bundles = [] }
 
@@ -136,7 +136,7 @@ module _ (p : Place) (codes : List CodeSeen) (c : Call) (cs : List Call) (ts us 
               let e = enters result.act x refl is in
               enters-fewer (code_in codes) ts c cs ends (was run) t.stands result.event x rs (besides us) e.0 refl e.2.events e.2.completed gives e.1
 
-      pub outside-moves : TurnsInPieces → (G : Option WordGuest) → G ≡ guest_by (call_answer c) result.act None → Moved (code_in codes) did bench p (before run None) (turned G t.stands result.reply) result.event
+      pub outside-moves : TurnsInPieces → (G : Option WordGuest) → G ≡ guest_by (call_answer c) result.act None → Moved secrets (code_in codes) did bench p (before run None) (turned G t.stands result.reply) result.event
       outside-moves law G is =
           let moved = line-moved law None G is in
           record { pieces = moved.pieces; did_them = moved.did_them; turn = moved.turn; fewer = outside-fewer G is result.reply }
@@ -221,13 +221,13 @@ module _ (p : Place) (codes : List CodeSeen) (c : Call) (cs : List Call) (ts us 
           subst (λ (ys : List Translation). events_left (code_in codes) (record { lines = c ∷ cs; run = Some t.stands; guest = Some x; replies = rs; beside = besides ys }) < events_left (code_in codes) (before (Some (standing_of r)) (Some x))) (sym inside-cached)
           (releases-fewer (code_in codes) c cs (standing_of r) t.stands x rs (besides ts) (held-less r.run.stage refl answered t.turned.2.turn))
 
-      pub inside-moves : TurnsInPieces → gives_epoch_back r.run.held.items ≡ true → Moved (code_in codes) did bench p (before (Some (standing_of r)) (Some x)) (turned (Some x) t.stands result.reply) result.event
+      pub inside-moves : TurnsInPieces → gives_epoch_back r.run.held.items ≡ true → Moved secrets (code_in codes) did bench p (before (Some (standing_of r)) (Some x)) (turned (Some x) t.stands result.reply) result.event
       inside-moves law back =
           let moved = line-moved (Some (standing_of r)) t law (Some x) (Some x) stays in
           record {
             pieces = moved.pieces;
             did_them = moved.did_them;
-            turn = subst (λ (b : Bool). EnteredTurn (place_table p (code_in codes)) p.machine c cs (standing_of r) x rs (besides ts) result.event moved.pieces (turned (Some x) t.stands result.reply) b) (sym back) moved.turn;
+            turn = subst (λ (b : Bool). EnteredTurn (place_table p secrets (code_in codes)) p.machine c cs (standing_of r) x rs (besides ts) result.event moved.pieces (turned (Some x) t.stands result.reply) b) (sym back) moved.turn;
             fewer = inside-fewer result.reply;
           }
 

@@ -56,5 +56,5 @@ module _ {B : Type 0} (did : List Taken → B → Type 0) (bench : B) (m : Machi
   reply-fits t n (Leaves out) run turned first (Some r) is = exit-of out r (at-once t n (Leaves out) run r turned refl (first refl) is)
 
 -- a run that hasn't begun is on its way
-pub first-trying : (p : Place) (t v n : ℕ) (s : Step) (kept : Option Running) → (step_tries s ≡ 0 → kept ≡ None) → step_tries s ≡ 0 → (running (step_task p t v n s) (run_seen kept)).stage ≡ stages.Trying
-first-trying p t v n s kept h none = ap (λ (k : Option Running). (running (step_task p t v n s) (run_seen k)).stage) (h none)
+pub first-trying : (secrets : ℕ → ℕ) (p : Place) (t v n : ℕ) (s : Step) (kept : Option Running) → (step_tries s ≡ 0 → kept ≡ None) → step_tries s ≡ 0 → (running (step_task secrets p t v n s) (run_seen kept)).stage ≡ stages.Trying
+first-trying secrets p t v n s kept h none = ap (λ (k : Option Running). (running (step_task secrets p t v n s) (run_seen k)).stage) (h none)

@@ -378,12 +378,13 @@ seen-as access level (Some e) h =
     let told = walks-are-told access level e in
     ap (λ (b : Bool). is_page_seen b (rights_by e)) told.0 ∙ goes-seen (goes_on access level e) (rights_by e) e.page told.1 (h e refl)
 
-pub step_ends_as : (p : Place) (t v line : ℕ) (s : Step) → EndsAs (step_ends t line s) (step_tries s) (step_task p t v line s).tree
-step_ends_as p t v line (Operates (op.Set r x)) = λ at. (refl, refl)
-step_ends_as p t v line (Operates (op.Add r s)) = λ at x y. (refl, refl)
-step_ends_as p t v line (Operates (op.Load r gpa)) = (refl, refl, λ y. (omega arith, λ pamt. (refl, refl, λ z. λ at x. (refl, refl))))
-step_ends_as p t v line (Operates (op.Store r gpa)) = (refl, refl, λ y. (omega arith, λ pamt. (refl, refl, λ z. λ at x. (refl, refl))))
-step_ends_as p t v line (Operates (op.Accept gpa)) =
+pub step_ends_as : (secrets : ℕ → ℕ) (p : Place) (t v line : ℕ) (s : Step) → EndsAs (step_ends t line s) (step_tries s) (step_task secrets p t v line s).tree
+step_ends_as secrets p t v line (Operates (op.Set r x)) = λ at. (refl, refl)
+step_ends_as secrets p t v line (Operates (op.Secret r k)) = λ at. (refl, refl)
+step_ends_as secrets p t v line (Operates (op.Add r s)) = λ at x y. (refl, refl)
+step_ends_as secrets p t v line (Operates (op.Load r gpa)) = (refl, refl, λ y. (omega arith, λ pamt. (refl, refl, λ z. λ at x. (refl, refl))))
+step_ends_as secrets p t v line (Operates (op.Store r gpa)) = (refl, refl, λ y. (omega arith, λ pamt. (refl, refl, λ z. λ at x. (refl, refl))))
+step_ends_as secrets p t v line (Operates (op.Accept gpa)) =
     let e : Ends = step_ends t line (Operates (op.Accept gpa)) in
     λ word. (
       omega arith,
@@ -392,7 +393,7 @@ step_ends_as p t v line (Operates (op.Accept gpa)) =
           (λ r. passed-ends e 1 p.machine.pages gpa r 1 (accept_found p.machine v gpa) refl refl refl refl
           (λ at. λ named. (refl, refl, λ y. (omega arith, λ x. (refl, refl, λ z. λ n. accepted-ends e 0 (same_state (entry_told p.machine.pages x).state entry.Pending) v at (index_at 0 gpa) (page_told p.machine.pages (look ThePage named)) n refl refl)))))),
     )
-step_ends_as p t v line (Operates (op.Rtmr i)) =
+step_ends_as secrets p t v line (Operates (op.Rtmr i)) =
     let e : Ends = step_ends t line (Operates (op.Rtmr i)) in
     λ word. (
       omega arith,
@@ -401,21 +402,22 @@ step_ends_as p t v line (Operates (op.Rtmr i)) =
         refl,
       )),
     )
-step_ends_as p t v line (Operates (op.Vmcall r)) = λ at x. (refl, refl)
-step_ends_as p t v line (Accesses Read r gpa page) = λ at x. (refl, refl)
-step_ends_as p t v line (Accesses Write r gpa page) = λ at x. (refl, refl)
-step_ends_as p t v line (Loads access gpa level page) = λ x. (refl, seen-as access level (entry_in x) (λ e is. state-small x (entry_state_of (x % 16)) e is))
-step_ends_as p t v line (Leaves out) = λ word last. (refl, refl)
+step_ends_as secrets p t v line (Operates (op.Vmcall r)) = λ at x. (refl, refl)
+step_ends_as secrets p t v line (Accesses Read r gpa page) = λ at x. (refl, refl)
+step_ends_as secrets p t v line (Accesses Write r gpa page) = λ at x. (refl, refl)
+step_ends_as secrets p t v line (Loads access gpa level page) = λ x. (refl, seen-as access level (entry_in x) (λ e is. state-small x (entry_state_of (x % 16)) e is))
+step_ends_as secrets p t v line (Leaves out) = λ word last. (refl, refl)
 
-pub step_begins_other : (p : Place) (t v line : ℕ) (s : Step) → BeginsUnderOther (step_task p t v line s).tree
-step_begins_other p t v line (Operates (op.Set r x)) = λ at. refl
-step_begins_other p t v line (Operates (op.Add r s)) = λ at x y. refl
-step_begins_other p t v line (Operates (op.Load r gpa)) = refl
-step_begins_other p t v line (Operates (op.Store r gpa)) = refl
-step_begins_other p t v line (Operates (op.Accept gpa)) = λ word. refl
-step_begins_other p t v line (Operates (op.Rtmr i)) = λ word. refl
-step_begins_other p t v line (Operates (op.Vmcall r)) = λ at x. refl
-step_begins_other p t v line (Accesses Read r gpa page) = λ at x. refl
-step_begins_other p t v line (Accesses Write r gpa page) = λ at x. refl
-step_begins_other p t v line (Loads access gpa level page) = λ x. refl
-step_begins_other p t v line (Leaves out) = λ word last. refl
+pub step_begins_other : (secrets : ℕ → ℕ) (p : Place) (t v line : ℕ) (s : Step) → BeginsUnderOther (step_task secrets p t v line s).tree
+step_begins_other secrets p t v line (Operates (op.Set r x)) = λ at. refl
+step_begins_other secrets p t v line (Operates (op.Secret r k)) = λ at. refl
+step_begins_other secrets p t v line (Operates (op.Add r s)) = λ at x y. refl
+step_begins_other secrets p t v line (Operates (op.Load r gpa)) = refl
+step_begins_other secrets p t v line (Operates (op.Store r gpa)) = refl
+step_begins_other secrets p t v line (Operates (op.Accept gpa)) = λ word. refl
+step_begins_other secrets p t v line (Operates (op.Rtmr i)) = λ word. refl
+step_begins_other secrets p t v line (Operates (op.Vmcall r)) = λ at x. refl
+step_begins_other secrets p t v line (Accesses Read r gpa page) = λ at x. refl
+step_begins_other secrets p t v line (Accesses Write r gpa page) = λ at x. refl
+step_begins_other secrets p t v line (Loads access gpa level page) = λ x. refl
+step_begins_other secrets p t v line (Leaves out) = λ word last. refl

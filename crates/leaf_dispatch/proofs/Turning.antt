@@ -68,10 +68,10 @@ pub none-begun : (codes : ℕ → ℕ → List GuestOp) (cs : List Call) (rs : L
 none-begun codes [] rs b = omega arith
 none-begun codes (c ∷ cs) rs b = omega arith
 
-pub record Moved {B : Type 0} (codes : ℕ → ℕ → List GuestOp) (did : List Taken → B → Type 0) (bench : B) (place : Place) (p q : WordLp) (event : Event) : Type 0 where
+pub record Moved {B : Type 0} (secrets : ℕ → ℕ) (codes : ℕ → ℕ → List GuestOp) (did : List Taken → B → Type 0) (bench : B) (place : Place) (p q : WordLp) (event : Event) : Type 0 where
   pub pieces : List Piece
   pub did_them : did (taken_in pieces) bench
-  pub turn : LpTurns (place_table place codes) place.machine p event pieces q
+  pub turn : LpTurns (place_table place secrets codes) place.machine p event pieces q
   pub fewer : events_left codes q < events_left codes p
 
 pub bound-after : (codes : ℕ → ℕ → List GuestOp) (c : Call) (cs : List Call) (rs : List Reply) (b : Beside) (s : Standing) (reply : Option Reply) (x : ℕ) → stage_left (most_tries c) (guest_events c) s.stage (length s.held) < x

@@ -72,6 +72,7 @@ module _ (codes : ℕ → ℕ → List GuestOp) (ts : List Translation) (g : Wor
   by-operation stays more (op.Load r n) at e = by-load stays more r n at (is_private n) refl e
   by-operation stays more (op.Store r n) at e = by-store stays more r n at (is_private n) refl e
   by-operation stays more (op.Set r x) at e = cc
+  by-operation stays more (op.Secret r k) at e = cc
   by-operation stays more (op.Add r s) at e = cc
   by-operation stays more (op.Accept n) at e = cc
   by-operation stays more (op.Rtmr i) at e = cc

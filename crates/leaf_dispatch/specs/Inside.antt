@@ -70,6 +70,7 @@ KeepsGuest m codes ts line (Some g) (Some r) step = IsAnswered (Some r) × IsGue
 
 IsOperation-prop : (o : GuestOp) → IsProp (IsOperation o)
 IsOperation-prop (op.Set r x) = hlevel props
+IsOperation-prop (op.Secret r k) = hlevel props
 IsOperation-prop (op.Add r s) = hlevel props
 IsOperation-prop (op.Load r gpa) = hlevel props
 IsOperation-prop (op.Store r gpa) = hlevel props

@@ -7,6 +7,6 @@ use Rattle.leaf_engine.specs.Merges.{AreLeaves}
 use Rattle.leaf_dispatch.specs.Table.{leaf_table}
 
 -- Each call's leaf, and that of each step of a guest, is made for its machine and processor, has the row of the call or of the
--- step, and means it. So it is with the opening's lists of operations.
+-- step, and means it. So it is with the opening's secret words and lists of operations.
 abbrev pub CallsHaveLeaves : Type 0
-CallsHaveLeaves = (o : Opening) (codes : ℕ → ℕ → List GuestOp) → IsMachine o.machine → ((t i : ℕ) → codes t i ≡ o.codes t i) → AreLeaves o (leaf_table o.machine codes)
+CallsHaveLeaves = (o : Opening) (secrets : ℕ → ℕ) (codes : ℕ → ℕ → List GuestOp) → IsMachine o.machine → ((k : ℕ) → secrets k ≡ o.secrets k) → ((t i : ℕ) → codes t i ≡ o.codes t i) → AreLeaves o (leaf_table o.machine secrets codes)

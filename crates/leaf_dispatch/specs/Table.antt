@@ -1,5 +1,5 @@
 -- The table from calls, and from steps of guests, to their leaves.
-use Rattle.std.specs.Prelude.{ℕ, List, [], ◌∷◌, ◌==◌, ◌&&◌, if◌then◌else◌}
+use Rattle.std.specs.Prelude.{ℕ, List, [], ◌∷◌, ◌==◌, ◌&&◌, if◌then◌else◌, slice_index}
 use Rattle.td_words.specs.Seen.{CodeSeen}
 use Rattle.td_words.specs.declared.machines.Machine.{Machine}
 use Rattle.td_words.specs.declared.names.Access.{Access}
@@ -72,15 +72,21 @@ task_of p (call.MemRangeUnblock tdr gpa level) = range_unblock_task p tdr gpa le
 task_of p (call.MemTrack tdr) = track_task p tdr
 task_of p (call.MrExtend tdr gpa) = extend_task p tdr gpa
 
--- what the leaf of an operation that goes by a row has to do, for a virtual processor of a TD, at a call line
-abbrev pub operation_task : Place → (tdr vp line : ℕ) → GuestOp → Task
-operation_task p t v line (op.Set r x) = set_task p t v r x
-operation_task p t v line (op.Add r s) = sum_task p t v r s
-operation_task p t v line (op.Load r gpa) = shared_load_task p t v line r gpa
-operation_task p t v line (op.Store r gpa) = shared_store_task p t v r gpa
-operation_task p t v line (op.Accept gpa) = accept_task p t v gpa
-operation_task p t v line (op.Rtmr i) = rtmr_task p t v line i
-operation_task p t v line (op.Vmcall r) = vmcall_task p t v r
+-- secret word k of a list of them
+abbrev pub secrets_in : List ℕ → ℕ → ℕ
+secrets_in words k = slice_index words k
+
+-- what the leaf of an operation that goes by a row has to do, for a virtual processor of a TD, at a call line: that of secret
+-- sets a register to the secret word
+abbrev pub operation_task : (secrets : ℕ → ℕ) → Place → (tdr vp line : ℕ) → GuestOp → Task
+operation_task secrets p t v line (op.Set r x) = set_task p t v r x
+operation_task secrets p t v line (op.Secret r k) = set_task p t v r (secrets k)
+operation_task secrets p t v line (op.Add r s) = sum_task p t v r s
+operation_task secrets p t v line (op.Load r gpa) = shared_load_task p t v line r gpa
+operation_task secrets p t v line (op.Store r gpa) = shared_store_task p t v r gpa
+operation_task secrets p t v line (op.Accept gpa) = accept_task p t v gpa
+operation_task secrets p t v line (op.Rtmr i) = rtmr_task p t v line i
+operation_task secrets p t v line (op.Vmcall r) = vmcall_task p t v r
 
 -- The page that a translation or an upper entry names is the machine's wherever the step is made; any other is read as page 0.
 abbrev pub access_in : Place → (tdr vp line : ℕ) → Access → (register gpa page : ℕ) → Task
@@ -90,11 +96,11 @@ abbrev pub walk_in : Place → (tdr vp : ℕ) → Access → (gpa level page : �
 walk_in p t v access gpa level page = record { place = p; tree = walk_tree t access gpa level (page_told p.machine.pages page); meaning = OfWalk t v access gpa level page }
 
 -- what the leaf of a guest's step has to do
-abbrev pub step_task : Place → (tdr vp line : ℕ) → Step → Task
-step_task p t v line (Operates o) = operation_task p t v line o
-step_task p t v line (Accesses access r gpa page) = access_in p t v line access r gpa page
-step_task p t v line (Loads access gpa level page) = walk_in p t v access gpa level page
-step_task p t v line (Leaves out) = exit_task p t v out
+abbrev pub step_task : (secrets : ℕ → ℕ) → Place → (tdr vp line : ℕ) → Step → Task
+step_task secrets p t v line (Operates o) = operation_task secrets p t v line o
+step_task secrets p t v line (Accesses access r gpa page) = access_in p t v line access r gpa page
+step_task secrets p t v line (Loads access gpa level page) = walk_in p t v access gpa level page
+step_task secrets p t v line (Leaves out) = exit_task p t v out
 
 -- the first list of that virtual processor; one without a list has an empty one
 abbrev pub code_in : List CodeSeen → ℕ → ℕ → List GuestOp
@@ -102,8 +108,8 @@ code_in [] tdr index = []
 code_in (c ∷ cs) tdr index = if c.tdr == tdr && c.index == index then c.ops else code_in cs tdr index
 
 -- the leaves of a place, and of each processor of a machine
-abbrev pub place_table : Place → (ℕ → ℕ → List GuestOp) → LeafTable
-place_table p codes = record { call = task_of p; step = step_task p; codes = codes }
+abbrev pub place_table : Place → (secrets : ℕ → ℕ) → (ℕ → ℕ → List GuestOp) → LeafTable
+place_table p secrets codes = record { call = task_of p; step = step_task secrets p; codes = codes }
 
-abbrev pub leaf_table : Machine → (ℕ → ℕ → List GuestOp) → ℕ → LeafTable
-leaf_table m codes p = place_table (record { machine = m; lp = p }) codes
+abbrev pub leaf_table : Machine → (secrets : ℕ → ℕ) → (ℕ → ℕ → List GuestOp) → ℕ → LeafTable
+leaf_table m secrets codes p = place_table (record { machine = m; lp = p }) secrets codes

@@ -1,12 +1,12 @@
 //! The leaf of each call, and of each step of a guest.
 
-ghost use Rattle.std.specs.Prelude.{◌≡◌, ◌<◌, true};
+ghost use Rattle.std.specs.Prelude.{◌≡◌, ◌<◌, true, length};
 ghost use Rattle.td_words.specs.Limits.{IsMachine};
 ghost use Rattle.leaf_engine.specs.Turns.{IsFresh};
 ghost use Rattle.leaf_dispatch.specs.Plans.{plan_task};
 ghost use Rattle.leaf_engine.specs.Merges.{IsOperation, IsStepOf};
 ghost use Rattle.leaf_dispatch.specs.Guests.{step_seen};
-ghost use Rattle.leaf_dispatch.specs.Table.{task_of, operation_task, step_task};
+ghost use Rattle.leaf_dispatch.specs.Table.{task_of, secrets_in, operation_task, step_task};
 
 use crate::guests::Step;
 use crate::plans::AnyPlan;
@@ -156,16 +156,25 @@ pub fn leaf_of(place: Place, call: &Call) -> AnyLeaf
 
 /// The leaf of a step of a guest of a virtual processor, at a call line, which has done nothing yet.
 /// The page that a translation or an upper entry names is the machine's; any other is read as page 0.
-pub fn step_leaf(place: Place, tdr: u16, vp: u16, line: usize, step: Step) -> AnyLeaf
+/// The word of a secret operation is one of these 512.
+pub fn step_leaf(
+    place: Place,
+    secrets: &[u64],
+    tdr: u16,
+    vp: u16,
+    line: usize,
+    step: Step,
+) -> AnyLeaf
     requires machine { IsMachine place.machine }
     requires inside { (tdr < place.machine.pages) × (vp < place.machine.pages) }
+    requires secrets { length secrets.now ≡ 512 }
     requires limits { IsStepOf (step_seen step) }
     ensures place { (⟦<AnyLeaf as Leaf>⟧.task result).place ≡ place }
-    ensures tree { (⟦<AnyLeaf as Leaf>⟧.task result).tree ≡ (step_task place tdr vp line (step_seen step)).tree }
+    ensures tree { (⟦<AnyLeaf as Leaf>⟧.task result).tree ≡ (step_task (secrets_in secrets.now) place tdr vp line (step_seen step)).tree }
     ensures fresh { let leaf = ⟦<AnyLeaf as Leaf>⟧ in IsFresh (leaf.task result).tree (leaf.rest result) (leaf.tries result) (leaf.written result) (leaf.waits result) }
 {
     match step {
-        Step::Operates(operation) => operation_leaf(place, tdr, vp, line, operation),
+        Step::Operates(operation) => operation_leaf(place, secrets, tdr, vp, line, operation),
         Step::Accesses {
             access,
             register,
@@ -196,16 +205,28 @@ pub fn step_leaf(place: Place, tdr: u16, vp: u16, line: usize, step: Step) -> An
 }
 
 // The leaf of an operation that goes by a row.
-fn operation_leaf(place: Place, tdr: u16, vp: u16, line: usize, operation: GuestOp) -> AnyLeaf
+fn operation_leaf(
+    place: Place,
+    secrets: &[u64],
+    tdr: u16,
+    vp: u16,
+    line: usize,
+    operation: GuestOp,
+) -> AnyLeaf
     requires machine { IsMachine place.machine }
     requires inside { (tdr < place.machine.pages) × (vp < place.machine.pages) }
+    requires secrets { length secrets.now ≡ 512 }
     requires limits { IsOperation operation }
-    ensures task { ⟦<AnyLeaf as Leaf>⟧.task result ≡ operation_task place tdr vp line operation }
+    ensures task { ⟦<AnyLeaf as Leaf>⟧.task result ≡ operation_task (secrets_in secrets.now) place tdr vp line operation }
     ensures fresh { let leaf = ⟦<AnyLeaf as Leaf>⟧ in IsFresh (leaf.task result).tree (leaf.rest result) (leaf.tries result) (leaf.written result) (leaf.waits result) }
 {
     match operation {
         GuestOp::Set { register, value } => {
             by_plan(AnyPlan::Set(Set::plan(place, tdr, vp, register, value)))
+        }
+        GuestOp::Secret { register, number } => {
+            let word = secrets[usize::from(number)];
+            by_plan(AnyPlan::Set(Set::plan(place, tdr, vp, register, word)))
         }
         GuestOp::Add { register, other } => {
             by_plan(AnyPlan::Sum(Add::plan(place, tdr, vp, register, other)))

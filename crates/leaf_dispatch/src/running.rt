@@ -1,13 +1,13 @@
 //! The run of a leaf.
 
-ghost use Rattle.std.specs.Prelude.{◌≡◌, ◌<◌, true, None, option_map};
+ghost use Rattle.std.specs.Prelude.{◌≡◌, ◌<◌, true, length, None, option_map};
 ghost use Rattle.td_words.specs.declared.machines.Machine.{Machine};
 ghost use Rattle.td_words.specs.Limits.{IsMachine};
 ghost use Rattle.leaf_engine.specs.Turns.{Standing};
 ghost use Rattle.leaf_engine.specs.OwnLists.{running};
 ghost use Rattle.leaf_engine.specs.Merges.{IsStepOf};
 ghost use Rattle.leaf_dispatch.specs.Guests.{step_seen};
-ghost use Rattle.leaf_dispatch.specs.Table.{task_of, step_task};
+ghost use Rattle.leaf_dispatch.specs.Table.{task_of, secrets_in, step_task};
 ghost use Rattle.leaf_dispatch.specs.Answers.{Ends, call_ends, step_ends, act_of};
 ghost use Rattle.leaf_dispatch.specs.Running.{standing_of, run_seen, answered_with, IsAnswered, turn_of, act_in, IsUnderWay, IsRunOf, IsKept, CanTurn, HasTurned, LeafTurned};
 
@@ -65,6 +65,7 @@ pub fn turn_call<B: Bench>(
 pub fn turn_step<B: Bench>(
     kept: &mut Option<Running>,
     place: Place,
+    secrets: &[u64],
     tdr: u16,
     vp: u16,
     line: usize,
@@ -73,13 +74,14 @@ pub fn turn_step<B: Bench>(
 ) -> LeafTurn
     requires machine { IsMachine place.machine }
     requires inside { (tdr < place.machine.pages) × (vp < place.machine.pages) }
+    requires secrets { length secrets.now ≡ 512 }
     requires limits { IsStepOf (step_seen step) }
     requires at { place.machine ≡ B.machine bench.old }
     requires under_way { IsRunOf place.machine (step_ends tdr line (step_seen step)) kept.old }
-    ensures turned { LeafTurned (B.did bench.old) place.machine (step_ends tdr line (step_seen step)) (running (step_task place tdr vp line (step_seen step)) (run_seen kept.old)) bench.new kept.new result }
+    ensures turned { LeafTurned (B.did bench.old) place.machine (step_ends tdr line (step_seen step)) (running (step_task (secrets_in secrets.now) place tdr vp line (step_seen step)) (run_seen kept.old)) bench.new kept.new result }
     ensures machine { B.machine bench.new ≡ B.machine bench.old }
 {
-    begin_step_where_none(kept, place, tdr, vp, line, step);
+    begin_step_where_none(kept, place, secrets, tdr, vp, line, step);
     turn_run(kept, bench)
 }
 
@@ -187,6 +189,7 @@ fn begin(place: Place, call: &Call) -> Running
 fn begin_step_where_none(
     kept: &mut Option<Running>,
     place: Place,
+    secrets: &[u64],
     tdr: u16,
     vp: u16,
     line: usize,
@@ -194,13 +197,14 @@ fn begin_step_where_none(
 )
     requires machine { IsMachine place.machine }
     requires inside { (tdr < place.machine.pages) × (vp < place.machine.pages) }
+    requires secrets { length secrets.now ≡ 512 }
     requires limits { IsStepOf (step_seen step) }
     requires under_way { IsRunOf place.machine (step_ends tdr line (step_seen step)) kept.old }
-    ensures { IsKept place.machine (step_ends tdr line (step_seen step)) (running (step_task place tdr vp line (step_seen step)) (run_seen kept.old)) kept.new }
+    ensures { IsKept place.machine (step_ends tdr line (step_seen step)) (running (step_task (secrets_in secrets.now) place tdr vp line (step_seen step)) (run_seen kept.old)) kept.new }
 {
     match kept {
         Some(_) => (),
-        None => begin_kept_step(kept, place, tdr, vp, line, step),
+        None => begin_kept_step(kept, place, secrets, tdr, vp, line, step),
     }
 }
 
@@ -208,6 +212,7 @@ fn begin_step_where_none(
 fn begin_kept_step(
     kept: &mut Option<Running>,
     place: Place,
+    secrets: &[u64],
     tdr: u16,
     vp: u16,
     line: usize,
@@ -215,21 +220,23 @@ fn begin_kept_step(
 )
     requires machine { IsMachine place.machine }
     requires inside { (tdr < place.machine.pages) × (vp < place.machine.pages) }
+    requires secrets { length secrets.now ≡ 512 }
     requires limits { IsStepOf (step_seen step) }
-    ensures { IsKept place.machine (step_ends tdr line (step_seen step)) (running (step_task place tdr vp line (step_seen step)) None) kept.new }
+    ensures { IsKept place.machine (step_ends tdr line (step_seen step)) (running (step_task (secrets_in secrets.now) place tdr vp line (step_seen step)) None) kept.new }
 {
-    *kept = Some(begin_step(place, tdr, vp, line, step));
+    *kept = Some(begin_step(place, secrets, tdr, vp, line, step));
 }
 
 /// The run of a step at its first event.
-fn begin_step(place: Place, tdr: u16, vp: u16, line: usize, step: Step) -> Running
+fn begin_step(place: Place, secrets: &[u64], tdr: u16, vp: u16, line: usize, step: Step) -> Running
     requires machine { IsMachine place.machine }
     requires inside { (tdr < place.machine.pages) × (vp < place.machine.pages) }
+    requires secrets { length secrets.now ≡ 512 }
     requires limits { IsStepOf (step_seen step) }
-    ensures stands { standing_of result ≡ running (step_task place tdr vp line (step_seen step)) None }
+    ensures stands { standing_of result ≡ running (step_task (secrets_in secrets.now) place tdr vp line (step_seen step)) None }
     ensures under_way { IsUnderWay place.machine (step_ends tdr line (step_seen step)) result }
 {
     Running {
-        run: Run::new(step_leaf(place, tdr, vp, line, step)),
+        run: Run::new(step_leaf(place, secrets, tdr, vp, line, step)),
     }
 }

@@ -28,6 +28,7 @@ pub struct LpState<'a> {
     place: Place,
     lines: &'a [Call],
     codes: &'a [Code],
+    secrets: &'a [u64],
     first_lists: &'a FirstLists,
     run: Option<Running>,
     guest: Option<GuestAt<'a>>,
@@ -37,6 +38,7 @@ pub struct LpState<'a> {
     notes: Vec<GuestNote>,
     told: Vec<u64>,
     ghost machine: { IsMachine place.machine },
+    ghost secret_words: { length secrets.now ≡ 512 },
     ghost limits: { AreOperations codes.now } by { AreOperations-prop codes.now },
     ghost lists_are: { AreFirstLists codes.now first_lists.now } by { AreFirstLists-prop codes.now first_lists.now },
     ghost few: { length replies.items + length lines.now < 2 ^ 32 },
@@ -56,22 +58,26 @@ impl<'a> LpState<'a> {
     ghost use Rattle.leaf_dispatch.specs.FirstLists.{AreFirstLists};
     ghost use Rattle.leaf_dispatch.specs.States.{seen_of, HasMoved};
 
-    /// At the first of its calls, with the lists of operations and where they stand. All the memory
-    /// that its replies need, and what its guests can note and tell, is taken here.
+    /// At the first of its calls, with the lists of operations, the 512 secret words, and where the
+    /// lists stand. All the memory that its replies need, and what its guests can note and tell, is
+    /// taken here.
     pub fn new(
         alloc: Global,
         machine: Machine,
         lp: u8,
         codes: &'a [Code],
+        secrets: &'a [u64],
         first_lists: &'a FirstLists,
         calls: &'a [Call],
     ) -> Result<LpState<'a>, OutOfMemory>
         requires machine { IsMachine machine }
         requires limits { AreOperations codes.now }
+        requires secrets { length secrets.now ≡ 512 }
         requires first_lists { AreFirstLists codes.now first_lists.now }
         requires few { length calls.now < 2 ^ 32 }
         ensures place { IfOk result (λ s. s.place ≡ record { machine = machine; lp = lp }) }
         ensures codes { IfOk result (λ s. s.codes.now ≡ codes.now) }
+        ensures secrets { IfOk result (λ s. s.secrets.now ≡ secrets.now) }
         ensures first { IfOk result (λ s. seen_of s ≡ first_lp calls.now) }
     {
         let Some(room) = lines_room(longest(codes), calls) else {
@@ -90,6 +96,7 @@ impl<'a> LpState<'a> {
             place: Place { machine, lp },
             lines: calls,
             codes,
+            secrets,
             first_lists,
             run: None,
             guest: None,
@@ -175,6 +182,7 @@ impl<'a> LpState<'a> {
             &mut self.cached,
             guest,
             self.place,
+            self.secrets,
             line,
             bench,
         );

@@ -1,6 +1,6 @@
 //! A turn of a call line, and a turn in a guest.
 
-ghost use Rattle.std.specs.Prelude.{◌≡◌, ℕ, ◌<◌, true, Option, IfSome, None, option_map};
+ghost use Rattle.std.specs.Prelude.{◌≡◌, ℕ, ◌<◌, true, length, Option, IfSome, None, option_map};
 ghost use Rattle.std.specs.List.{All};
 ghost use Rattle.td_words.specs.declared.machines.Machine.{Machine};
 ghost use Rattle.td_words.specs.declared.calls.Call.{Call};
@@ -13,7 +13,7 @@ ghost use Rattle.leaf_dispatch.specs.Guests.{step_seen, guest_seen, next_in, not
 ghost use Rattle.leaf_dispatch.specs.Inside.{acting, entered_or, line_then};
 ghost use Rattle.leaf_dispatch.specs.FirstLists.{AreFirstLists};
 ghost use Rattle.leaf_dispatch.specs.Running.{run_seen, IsRunOf, IsAnswered, LeafTurned};
-ghost use Rattle.leaf_dispatch.specs.Table.{code_in, task_of, step_task};
+ghost use Rattle.leaf_dispatch.specs.Table.{code_in, task_of, secrets_in, step_task};
 
 use crate::answers::{cache_walk, drop_stale, entered, noted, told};
 use crate::first_lists::FirstLists;
@@ -105,12 +105,14 @@ pub fn turn_guest<'a, B: Bench>(
     cached: &mut Tlb,
     guest: GuestAt<'a>,
     place: Place,
+    secrets: &[u64],
     line: u32,
     bench: &mut B,
 ) -> GuestTurn<'a>
     requires machine { IsMachine place.machine }
     requires at { place.machine ≡ B.machine bench.old }
     requires inside { (guest.tdr < place.machine.pages) × (guest.vp < place.machine.pages) }
+    requires secrets { length secrets.now ≡ 512 }
     requires limits { All IsOperation guest.list.now }
     requires low { IsLow guest.walk }
     requires under_way { IsRunOf place.machine (step_ends guest.tdr line (next_in cached.old guest None)) kept.old }
@@ -118,7 +120,7 @@ pub fn turn_guest<'a, B: Bench>(
     ensures step { (run : Option Standing) → step_seen result.step ≡ next_in cached.old guest.entry run }
     ensures counts { CanCount guest.entry (step_seen result.step) }
     ensures within { IsStepOf (step_seen result.step) }
-    ensures turned { LeafTurned (B.did bench.old) place.machine (step_ends guest.entry.tdr line (step_seen result.step)) (running (step_task place guest.entry.tdr guest.entry.vp line (step_seen result.step)) (run_seen kept.old)) bench.new kept.new result.turn }
+    ensures turned { LeafTurned (B.did bench.old) place.machine (step_ends guest.entry.tdr line (step_seen result.step)) (running (step_task (secrets_in secrets.now) place guest.entry.tdr guest.entry.vp line (step_seen result.step)) (run_seen kept.old)) bench.new kept.new result.turn }
     ensures fits { IfSome result.turn.reply (λ r. IsReplyOf (step_seen result.step) r) }
     ensures cached { cached.new ≡ cached_by (step_answer guest.entry.tdr line (step_seen result.step)) result.turn.act cached.old }
     ensures notes { notes_in result.note ≡ notes_by (step_answer guest.entry.tdr line (step_seen result.step)) result.turn.act }
@@ -128,7 +130,16 @@ pub fn turn_guest<'a, B: Bench>(
     ensures machine { B.machine bench.new ≡ B.machine bench.old }
 {
     let step = next_step(&guest, cached);
-    let turn = turn_step(kept, place, guest.tdr, guest.vp, line as usize, step, bench);
+    let turn = turn_step(
+        kept,
+        place,
+        secrets,
+        guest.tdr,
+        guest.vp,
+        line as usize,
+        step,
+        bench,
+    );
     cache_by(cached, guest.tdr, step, turn.act);
     GuestTurn {
         step,

@@ -57,6 +57,13 @@ pub const RUNS: [Call; 1] = [Call::MrFinalize { tdr: 1 }];
 /// A call's success without a value.
 pub const DONE: Reply = Reply::Done(Value::Nothing);
 
+/// Secret words, each of them 0.
+pub fn no_secrets() -> [u64; 512]
+    ensures { length result ≡ 512 }
+{
+    [0; 512]
+}
+
 /// Where lists of operations stand.
 pub fn first_lists_of(rt: &impl Abort, alloc: Global, codes: &[Code]) -> FirstLists
     ensures { AreFirstLists codes.now result }
@@ -74,7 +81,8 @@ pub fn make(rt: &impl Abort, alloc: Global, bench: &mut PlainBench, calls: &[Cal
     ensures { bench.new.machine ≡ MACHINE }
 {
     let first_lists = first_lists_of(rt, alloc, &[]);
-    let Ok(mut lp) = LpState::new(alloc, MACHINE, 0, &[], &first_lists, calls) else {
+    let secrets = no_secrets();
+    let Ok(mut lp) = LpState::new(alloc, MACHINE, 0, &[], &secrets, &first_lists, calls) else {
         panic!(rt; "out of memory")
     };
     while let Turn::Moved(_) = lp.turn(bench) {}

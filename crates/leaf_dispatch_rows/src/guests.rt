@@ -1,13 +1,13 @@
 //! What guests note and tell, and how many events their accesses take.
 
-ghost use Rattle.std.specs.Prelude.{◌≡◌, IfOk};
+ghost use Rattle.std.specs.Prelude.{◌≡◌, ◌<◌, length, IfOk};
 ghost use Rattle.std.specs.List.{All};
 ghost use Rattle.leaf_engine.specs.Merges.{IsOperation};
 ghost use Rattle.leaf_dispatch.specs.Inside.{AreOperations};
 ghost use Rattle.leaf_dispatch.specs.FirstLists.{AreFirstLists};
 ghost use Rattle.leaf_dispatch_rows.specs.declared.benches.TheConstants.{MACHINE};
 
-use crate::benches::{DONE, MACHINE, RUNS, TREE, first_lists_of, make};
+use crate::benches::{DONE, MACHINE, RUNS, TREE, first_lists_of, make, no_secrets};
 use leaf_dispatch::{FirstLists, LpState};
 use leaf_engine::{Processor, Turn};
 use report_text::GuestNote;
@@ -15,7 +15,7 @@ use std::alloc::{AllocError, Global};
 use std::process::Abort;
 use std::test::Fail;
 use step_core::{Bench, PlainBench, WordStep};
-use td_words::places::VP_POSITION;
+use td_words::places::{VP_POSITION, VP_REGISTERS};
 use td_words::{Access, Call, Code, GuestOp, LockName, Outcome, Reply, lock_address, word_address};
 
 /// The first shared GPA.
@@ -60,6 +60,32 @@ fn store(gpa: u64) -> GuestOp
     GuestOp::Store { register: 1, gpa }
 }
 
+fn set(value: u64) -> GuestOp
+    ensures { IsOperation result }
+{
+    GuestOp::Set { register: 1, value }
+}
+
+fn secret(number: u16) -> GuestOp
+    requires { number < 512 }
+    ensures { IsOperation result }
+{
+    GuestOp::Secret {
+        register: 1,
+        number,
+    }
+}
+
+// The first secret word is 5, the last one is 77, and the others are 0.
+fn two_secrets() -> [u64; 512]
+    ensures { length result ≡ 512 }
+{
+    let mut words = no_secrets();
+    words[0] = 5;
+    words[511] = 77;
+    words
+}
+
 // Loads of so many private pages from GPA 0 on, and of one of them again.
 fn loads(alloc: Global, pages: u8, again: u8) -> Result<Vec<GuestOp>, AllocError>
     ensures { IfOk result (λ ops. All IsOperation ops.items) }
@@ -79,15 +105,17 @@ fn visit<'a>(
     alloc: Global,
     bench: &mut PlainBench,
     codes: &'a [Code],
+    secrets: &'a [u64],
     first_lists: &'a FirstLists,
 ) -> (LpState<'a>, u64)
     requires machine { bench.old.machine ≡ MACHINE }
     requires limits { AreOperations codes.now }
+    requires secrets { length secrets.now ≡ 512 }
     requires first_lists { AreFirstLists codes.now first_lists.now }
     ensures { bench.new.machine ≡ MACHINE }
 {
     bench.perform(WordStep::Store(word_address(4, VP_POSITION), 0));
-    let Ok(mut lp) = LpState::new(alloc, MACHINE, 0, codes, first_lists, &ENTER) else {
+    let Ok(mut lp) = LpState::new(alloc, MACHINE, 0, codes, secrets, first_lists, &ENTER) else {
         panic!(rt; "out of memory")
     };
     let mut events: u64 = 0;
@@ -111,11 +139,12 @@ fn codes_of(ops: Vec<GuestOp>) -> [Code; 1]
 #[test]
 fn a_seventeenth_translation_drops_the_oldest(rt: HostRuntime) -> Result<(), Fail> {
     let mut bench = bench_with(&rt, rt.alloc(), 17);
+    let secrets = no_secrets();
     // Pages that are loaded, the one that is loaded again, and that load's events.
     for (pages, again, more) in [(15u8, 0u8, 1u8), (16, 0, 1), (17, 0, 5), (17, 1, 1)] {
         let codes = codes_of(loads(rt.alloc(), pages, again)?);
         let first_lists = first_lists_of(&rt, rt.alloc(), &codes);
-        let (lp, events) = visit(&rt, rt.alloc(), &mut bench, &codes, &first_lists);
+        let (lp, events) = visit(&rt, rt.alloc(), &mut bench, &codes, &secrets, &first_lists);
         assert_eq!(rt; lp.replies(), [Reply::Exited(Outcome::Stop)].as_slice());
         assert_eq!(rt;
             events,
@@ -129,6 +158,7 @@ fn a_seventeenth_translation_drops_the_oldest(rt: HostRuntime) -> Result<(), Fai
 #[test]
 fn notes_and_told_words_come_in_order(rt: HostRuntime) -> Result<(), Fail> {
     let mut bench = bench_with(&rt, rt.alloc(), 1);
+    let secrets = no_secrets();
     bench.perform(WordStep::Store(word_address(20, 3), 77));
     bench.perform(WordStep::Store(word_address(8, 2), 99));
     let host = SHARED + 20 * 4096 + 24;
@@ -142,7 +172,7 @@ fn notes_and_told_words_come_in_order(rt: HostRuntime) -> Result<(), Fail> {
     ];
     let codes = codes_of(ops.to_vec(rt.alloc())?);
     let first_lists = first_lists_of(&rt, rt.alloc(), &codes);
-    let (lp, events) = visit(&rt, rt.alloc(), &mut bench, &codes, &first_lists);
+    let (lp, events) = visit(&rt, rt.alloc(), &mut bench, &codes, &secrets, &first_lists);
     let notes = [(host, 77), (16, 99), (8, 77)].map(|(gpa, word)| GuestNote::Load {
         line: 1,
         gpa,
@@ -161,8 +191,50 @@ fn notes_and_told_words_come_in_order(rt: HostRuntime) -> Result<(), Fail> {
 }
 
 #[test]
+fn a_secret_operation_sets_a_register_to_its_word(rt: HostRuntime) -> Result<(), Fail> {
+    let mut bench = bench_with(&rt, rt.alloc(), 0);
+    let secrets = two_secrets();
+    // What each has to put into the register.
+    for (op, word) in [
+        (set(77), 77u64),
+        (secret(511), 77),
+        (secret(0), 5),
+        (secret(1), 0),
+    ] {
+        // The word is told by VMCALL alone, and noted nowhere.
+        let codes = codes_of([op, GuestOp::Vmcall { register: 1 }].to_vec(rt.alloc())?);
+        let first_lists = first_lists_of(&rt, rt.alloc(), &codes);
+        let (lp, events) = visit(&rt, rt.alloc(), &mut bench, &codes, &secrets, &first_lists);
+        let told = Reply::Exited(Outcome::Vmcall(word));
+        assert_eq!(rt; lp.replies(), [told].as_slice());
+        assert_eq!(rt; lp.told(), [word].as_slice());
+        assert!(rt; lp.notes().is_empty());
+        // Each of the two operations is one event.
+        assert_eq!(rt; events, 2);
+        assert_eq!(rt; bench.word(word_address(4, VP_REGISTERS + 1)), word);
+        assert_eq!(rt; bench.word(word_address(4, VP_POSITION)), 2);
+    }
+    // One that isn't told stays in the guest.
+    let codes = codes_of([secret(511), store(8), load(8)].to_vec(rt.alloc())?);
+    let first_lists = first_lists_of(&rt, rt.alloc(), &codes);
+    let mut bench = bench_with(&rt, rt.alloc(), 1);
+    let (lp, events) = visit(&rt, rt.alloc(), &mut bench, &codes, &secrets, &first_lists);
+    assert_eq!(rt; lp.replies(), [Reply::Exited(Outcome::Stop)].as_slice());
+    assert!(rt; lp.told().is_empty());
+    let loaded = GuestNote::Load {
+        line: 1,
+        gpa: 8,
+        word: 77,
+    };
+    assert_eq!(rt; lp.notes(), [loaded].as_slice());
+    assert_eq!(rt; events, 1 + 5 + 1);
+    Ok(())
+}
+
+#[test]
 fn a_shared_access_reaches_pages_of_the_host_alone(rt: HostRuntime) -> Result<(), Fail> {
     let mut bench = bench_with(&rt, rt.alloc(), 1);
+    let secrets = no_secrets();
     // The guest's own TDVPR page, which is held alone, and one that isn't there: the act alone. The
     // TDR page, which is shared twice then, and a private page: the try, the act and the release.
     for (page, more) in [(4u64, 1), (32, 1), (1, 3), (8, 3)] {
@@ -170,7 +242,7 @@ fn a_shared_access_reaches_pages_of_the_host_alone(rt: HostRuntime) -> Result<()
         for (op, access) in [(load(gpa), Access::Read), (store(gpa), Access::Write)] {
             let codes = codes_of([op].to_vec(rt.alloc())?);
             let first_lists = first_lists_of(&rt, rt.alloc(), &codes);
-            let (lp, events) = visit(&rt, rt.alloc(), &mut bench, &codes, &first_lists);
+            let (lp, events) = visit(&rt, rt.alloc(), &mut bench, &codes, &secrets, &first_lists);
             let outcome = Outcome::EptViolation { gpa, access };
             assert_eq!(rt;
                 lp.replies(),
@@ -185,7 +257,7 @@ fn a_shared_access_reaches_pages_of_the_host_alone(rt: HostRuntime) -> Result<()
     bench.perform(WordStep::Store(lock_address(20), 1 << 63));
     let codes = codes_of([load(SHARED + 20 * 4096)].to_vec(rt.alloc())?);
     let first_lists = first_lists_of(&rt, rt.alloc(), &codes);
-    let (lp, events) = visit(&rt, rt.alloc(), &mut bench, &codes, &first_lists);
+    let (lp, events) = visit(&rt, rt.alloc(), &mut bench, &codes, &secrets, &first_lists);
     let busy = Outcome::Busy(LockName::Page(20));
     assert_eq!(rt; lp.replies(), [Reply::Exited(busy)].as_slice());
     assert_eq!(rt; events, 2);

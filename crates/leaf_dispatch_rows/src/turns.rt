@@ -1,6 +1,6 @@
 //! What the turns of processors are, event by event, where nothing else is looked at.
 
-use crate::benches::first_lists_of;
+use crate::benches::{first_lists_of, no_secrets};
 use leaf_dispatch::LpState;
 use leaf_engine::{Event, Processor, Turn};
 use step_core::PlainBench;
@@ -23,7 +23,9 @@ fn a_creation_has_five_events(rt: HostRuntime) {
         panic!(rt; "out of memory")
     };
     let first_lists = first_lists_of(&rt, rt.alloc(), &[]);
-    let Ok(mut lp) = LpState::new(rt.alloc(), MACHINE, 0, &[], &first_lists, &calls) else {
+    let secrets = no_secrets();
+    let Ok(mut lp) = LpState::new(rt.alloc(), MACHINE, 0, &[], &secrets, &first_lists, &calls)
+    else {
         panic!(rt; "out of memory")
     };
     let page = LockName::Page(1);
@@ -70,7 +72,9 @@ fn each_call_is_made_by_its_leaf(rt: HostRuntime) {
         panic!(rt; "out of memory")
     };
     let first_lists = first_lists_of(&rt, rt.alloc(), &[]);
-    let Ok(mut lp) = LpState::new(rt.alloc(), MACHINE, 1, &[], &first_lists, &calls) else {
+    let secrets = no_secrets();
+    let Ok(mut lp) = LpState::new(rt.alloc(), MACHINE, 1, &[], &secrets, &first_lists, &calls)
+    else {
         panic!(rt; "out of memory")
     };
     while let Turn::Moved(_) = lp.turn(&mut bench) {}
@@ -100,10 +104,20 @@ fn a_lock_that_another_holds_is_busy(rt: HostRuntime) {
     };
     let (creation, read) = ([CREATE], [READ]);
     let first_lists = first_lists_of(&rt, rt.alloc(), &[]);
-    let Ok(mut first) = LpState::new(rt.alloc(), MACHINE, 0, &[], &first_lists, &creation) else {
+    let secrets = no_secrets();
+    let Ok(mut first) = LpState::new(
+        rt.alloc(),
+        MACHINE,
+        0,
+        &[],
+        &secrets,
+        &first_lists,
+        &creation,
+    ) else {
         panic!(rt; "out of memory")
     };
-    let Ok(mut second) = LpState::new(rt.alloc(), MACHINE, 1, &[], &first_lists, &read) else {
+    let Ok(mut second) = LpState::new(rt.alloc(), MACHINE, 1, &[], &secrets, &first_lists, &read)
+    else {
         panic!(rt; "out of memory")
     };
     let lock = LockName::Page(1);

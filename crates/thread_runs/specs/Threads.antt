@@ -9,11 +9,11 @@ use Rattle.step_core.specs.Items.{Table}
 use Rattle.step_core.specs.declared.items.Taken.{Taken}
 use Rattle.trace_table.specs.Benches.{bench_of}
 use Rattle.trace_table.specs.Merges.{MergesTo}
-use Rattle.leaf_engine.specs.OwnLists.{WordLp, first_lp}
-use Rattle.leaf_engine.specs.Merges.{Item, order, AreCodes}
+use Rattle.leaf_engine.specs.OwnLists.{WordLp, first_lp, taken_in}
+use Rattle.leaf_engine.specs.Merges.{Item, part, order, AreCodes}
 use Rattle.merge_laws.specs.Merge.{Merge}
 use Rattle.merge_laws.specs.Laws.{IsShownBy, IsWhere}
-use Rattle.leaf_dispatch.specs.Table.{code_in, leaf_table}
+use Rattle.leaf_dispatch.specs.Table.{secrets_in, code_in, leaf_table}
 use Rattle.leaf_dispatch.specs.States.{seen_of, Moves}
 use Rattle.leaf_dispatch.specs.declared.states.LpState.{LpState}
 use Rattle.lp_threads.specs.declared.lanes.Lane.{Lane}
@@ -23,6 +23,7 @@ use Rattle.lp_threads.specs.Running.{HasRun}
 -- own list is then this one.
 pub record RanInThread (o : Opening) (p : ℕ) (own : List Taken) (before after : Lane LpState) : Type 0 where
   pub place : before.processor.place ≡ record { machine = o.machine; lp = p }
+  pub secrets : secrets_in before.processor.secrets.now ≡ o.secrets
   pub codes : code_in before.processor.codes.now ≡ o.codes
   pub first : seen_of before.processor ≡ first_lp (calls_of o.calls p)
   pub no_item : (bench_of before.bench).pass.lists ≡ [] ∷ []
@@ -37,11 +38,13 @@ pub record RanInThreads (o : Opening) (lists : List (List Taken)) (number : ℕ 
   pub nothing_else : (k : ℕ) → ((p : ℕ) → p < length o.calls → number p ≢ k) → slice_index_or lists k [] ≡ []
 
 -- What processors did is a merge of their own lists, up to where they are now, and so a run of the flat machine under the
--- order of its events: that ends where each processor is, in a state that these words show.
-pub record IsOneRun (o : Opening) (now : ℕ → WordLp) (words : List ℕ) : Type 0 where
+-- order of its events: that ends where each processor is, in a state that these words show. Each one's pieces in it have just
+-- the items of its own list.
+pub record IsOneRun (o : Opening) (lists : List (List Taken)) (number : ℕ → ℕ) (now : ℕ → WordLp) (words : List ℕ) : Type 0 where
   pub made : List Item
   pub table : Table
-  pub merge : Merge o (leaf_table o.machine o.codes) made now table
+  pub theirs : (p : ℕ) → p < length o.calls → taken_in (part p made) ≡ slice_index_or lists (number p) []
+  pub merge : Merge o (leaf_table o.machine o.secrets o.codes) made now table
   pub words_are : (n : ℕ) → n < word_count o.machine → slice_index words n ≡ table.words n
   pub shown : IsShownBy o.machine table (run o (order made))
   pub lps : IsWhere o now (run o (order made))
@@ -50,4 +53,4 @@ pub record IsOneRun (o : Opening) (now : ℕ → WordLp) (words : List ℕ) : Ty
 -- the lists merge to the words that the table was closed with.
 abbrev pub ThreadsAreRuns : Type 0
 ThreadsAreRuns = (o : Opening) (lists : List (List Taken)) (words : List ℕ) (number : ℕ → ℕ) (before after : ℕ → Lane LpState) → IsMachine o.machine → length o.calls ≤ 8 → AreCodes o
-    → RanInThreads o lists number before after → MergesTo o.machine lists words → IsOneRun o (λ p. seen_of (after p).processor) words
+    → RanInThreads o lists number before after → MergesTo o.machine lists words → IsOneRun o lists number (λ p. seen_of (after p).processor) words

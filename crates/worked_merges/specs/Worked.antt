@@ -81,7 +81,7 @@ ends_reading word (suc (suc p)) = first_lp []
 -- These items are a merge of the processors' own lists up to the end of each, their events have this order, and the flat
 -- machine's run under it is what the words show, and where the processors are.
 pub record RunsAs (o : Opening) (is : List Item) (now : ℕ → WordLp) (schedule : List ℕ) : Type 0 where
-  pub merge : Merge o (leaf_table o.machine o.codes) is now (table_left no_table is)
+  pub merge : Merge o (leaf_table o.machine o.secrets o.codes) is now (table_left no_table is)
   pub ended : (p : ℕ) → p < length o.calls → (now p).lines ≡ []
   pub order_is : order is ≡ schedule
   pub shown : IsShownBy o.machine (table_left no_table is) (run o schedule)

@@ -5,6 +5,7 @@ invariant_of-first g c =
     let s = c.turn.new.self in
     record {
       machine = s.machine;
+      secret_words = s.secret_words;
       limits = s.limits;
       lists_are = s.lists_are;
       few = s.few;
