@@ -3,7 +3,6 @@ use Rattle.std.proofs.Common.{◌≡◌, ℕ, ◌≤◌, List, [], ◌∷◌, le
 use Rattle.std.specs.List.{list_all}
 use Rattle.std.specs.Str.{bytes_eq}
 use Rattle.std.proofs.lemmas.Bool.{and_parts}
-use Rattle.td_words.specs.declared.calls.GuestOp.{GuestOp}
 use Rattle.td_words.specs.declared.machines.Machine.{Machine}
 use Rattle.line_words.specs.declared.mnemonics.CallName.{CallName}
 use Rattle.line_words.specs.declared.mnemonics.CallName.TheVariants as name
@@ -20,9 +19,9 @@ use Rattle.script_text.specs.declared.lines.Keyword.TheVariants as keyword
 use Rattle.script_text.specs.declared.lines.Stage.{Stage}
 use Rattle.script_text.specs.declared.operations.OpName.{OpName}
 use Rattle.script_text.specs.declared.operations.OpName.TheVariants as op
-use Rattle.script_text.specs.Blocks.{code_of, operation_of, operand_count, guest_op_of}
-use Rattle.script_text.specs.Counted.{counted_of, argument}
-use Rattle.script_text.specs.Line.{machine_of, block_of, end_of, built_of, judged_of, call_of, first_of, list_of, judged_operation_of, operation_line_of, outside_of, named_of, inside_of, placed_of, entry_of, keyword_of}
+use Rattle.script_text.specs.Blocks.{code_of, operation_of, operand_count, operands_of}
+use Rattle.script_text.specs.Counted.{counted_of}
+use Rattle.script_text.specs.Line.{machine_of, block_of, end_of, built_of, judged_of, call_of, first_of, list_of, operation_line_of, outside_of, named_of, inside_of, placed_of, entry_of, keyword_of}
 
 -- five numbers and more are too many wherever at most four are counted
 miscounted : (n : ℕ) (ns : List (Option ℕ)) → n ≤ 4 → 5 ≤ length ns → counted_of n ns ≡ Err reason.Count
@@ -59,32 +58,19 @@ code_miscounted : (m : Machine) (listed : List Bool) (ns : List (Option ℕ)) �
 unfolding code_of
 code_miscounted m listed ns h = rw (miscounted 2 ns (omega arith) h) refl
 
--- what is left to say of an operation whose operands are too many
-abbrev too_many_operands : Option GuestOp → Result Entry Reason
-too_many_operands None = Err reason.Unbuilt
-too_many_operands (Some g) = Err reason.Count
-
 has_two : (o : OpName) → leb (operand_count o) 2 ≡ true
 has_two op.Set = refl
 has_two _ = refl
 
-judged_operands : (g : Option GuestOp) (o : OpName) (ns : List (Option ℕ)) → leb (operand_count o) 2 ≡ true → 5 ≤ length ns → judged_operation_of g o ns ≡ too_many_operands g
-judged_operands None o ns few h = refl
-judged_operands (Some g) o ns few h =
+operands_miscounted : (o : OpName) (ns : List (Option ℕ)) → leb (operand_count o) 2 ≡ true → 5 ≤ length ns → operands_of o ns ≡ Err reason.Count
+operands_miscounted o ns few h =
     let over : (length ns == operand_count o) ≡ false = grind (arith, few) in
     rw over refl
-
-guest_alike : (o : OpName) (a b c d : ℕ) → too_many_operands (guest_op_of o a b) ≡ too_many_operands (guest_op_of o c d)
-guest_alike op.Set a b c d = refl
-guest_alike _ a b c d = refl
 
 operation_alike : (o : Option OpName) (ns ms : List (Option ℕ)) → 5 ≤ length ns → 5 ≤ length ms → operation_line_of o ns ≡ operation_line_of o ms
 unfolding operation_line_of
 operation_alike None ns ms h k = refl
-operation_alike (Some o) ns ms h k =
-    judged_operands (guest_op_of o (argument ns 0) (argument ns 1)) o ns (has_two o) h
-    ∙ guest_alike o (argument ns 0) (argument ns 1) (argument ms 0) (argument ms 1)
-    ∙ sym (judged_operands (guest_op_of o (argument ms 0) (argument ms 1)) o ms (has_two o) k)
+operation_alike (Some o) ns ms h k = rw (operands_miscounted o ns (has_two o) h, operands_miscounted o ms (has_two o) k) refl
 
 -- what is left to say of a call whose arguments are too many
 abbrev too_many : Option Entry → Result Entry Reason

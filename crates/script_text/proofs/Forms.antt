@@ -34,7 +34,7 @@ use Rattle.script_text.specs.declared.operations.OpName.TheVariants as op
 use Rattle.script_text.specs.declared.schedules.Item.{Item}
 use Rattle.script_text.specs.declared.schedules.Turns.{Turns}
 use Rattle.script_text.specs.Counted.{◌>>=◌, counted_of, number_at, argument}
-use Rattle.script_text.specs.Line.{machine_of, block_of, end_of, built_of, are_given, judged_of, call_of, first_of, list_of, judged_operation_of, operation_line_of, outside_of, named_of, inside_of, placed_of, entry_of, keyword_of}
+use Rattle.script_text.specs.Line.{machine_of, block_of, end_of, built_of, are_given, judged_of, call_of, first_of, list_of, operation_line_of, outside_of, named_of, inside_of, placed_of, entry_of, keyword_of}
 use Rattle.script_text.specs.Blocks.{field_of, code_of, list_place, none_listed, operation_of, operand_count, fit_operands, operands_of, guest_op_of}
 use Rattle.script_text.specs.Schedule.{item_of, in_range_of, turns_in, with_turns, written_of, schedule_of}
 use Rattle.script_text.specs.Reading.{SoFar, nothing_yet, with_call, with_op, closed_of, entered_of, worded_of, line_of, script_of, ended_of, then_on, read_from, read_of}
@@ -174,9 +174,6 @@ list_fits_entry : (m : Machine) (listed : List Bool) (ns : List (Option ℕ)) �
 list_fits_entry m listed ns = given_then (FitsPlace m listed) (FitsEntry (Some m) listed) (code_of m listed ns) (λ p. Ok (entry.List p)) (code_fits m listed ns) (λ p f. f)
 
 -- operations of such operands
-abbrev IfGuestOp : Option GuestOp → Type 0
-IfGuestOp None = Unit {0}
-IfGuestOp (Some g) = FitsOp g
 
 word_gpa_fits : (r gpa : ℕ) → (ltb r 8 && (ltb gpa (2 ^ 48) && (gpa % 8 == 0))) ≡ true → (r < 8) × (gpa < 2 ^ 48) × (gpa % 8 ≡ 0)
 word_gpa_fits r gpa h =
@@ -192,13 +189,13 @@ page_gpa_fits gpa h =
 below_and : (n k : ℕ) (b : Bool) → (ltb n k && b) ≡ true → n < k
 below_and n k b h = grind arith
 
-two_below : (n k : ℕ) → (ltb n 8 && ltb k 8) ≡ true → (n < 8) × (k < 8)
-two_below n k h = let p = and_parts (ltb n 8) (ltb k 8) h in (grind (arith, p.0), grind (arith, p.1))
+two_below : (n k most : ℕ) → (ltb n 8 && ltb k most) ≡ true → (n < 8) × (k < most)
+two_below n k most h = let p = and_parts (ltb n 8) (ltb k most) h in (grind (arith, p.0), grind (arith, p.1))
 
-guest_fits : (o : OpName) (a b : ℕ) → b < 2 ^ 64 → fit_operands o a b ≡ true → IfGuestOp (guest_op_of o a b)
+guest_fits : (o : OpName) (a b : ℕ) → b < 2 ^ 64 → fit_operands o a b ≡ true → FitsOp (guest_op_of o a b)
 guest_fits op.Set a b small h = (below_and a 8 true h, small)
-guest_fits op.Secret a b small h = tt
-guest_fits op.Add a b small h = two_below a b h
+guest_fits op.Secret a b small h = two_below a b 512 h
+guest_fits op.Add a b small h = two_below a b 8 h
 guest_fits op.Load a b small h = word_gpa_fits a b h
 guest_fits op.Store a b small h = word_gpa_fits a b h
 guest_fits op.Accept a b small h = page_gpa_fits a h
@@ -218,15 +215,12 @@ operands_cases Q true true true x h = h refl
 given_operands : {B : Type 0} (Q : B → Type 0) (o : OpName) (ns : List (Option ℕ)) (x : Result B Reason) → (fit_operands o (argument ns 0) (argument ns 1) ≡ true → IfGiven Q x) → IfGiven Q (operands_of o ns >>= (λ t. x))
 given_operands Q o ns x h = operands_cases Q (length ns == operand_count o) (list_all is_some ns) (fit_operands o (argument ns 0) (argument ns 1)) x h
 
-judged_guest_fits : (m : Machine) (listed : List Bool) (g : Option GuestOp) (o : OpName) (ns : List (Option ℕ)) → (fit_operands o (argument ns 0) (argument ns 1) ≡ true → IfGuestOp g) → IfGiven (FitsEntry (Some m) listed) (judged_operation_of g o ns)
-judged_guest_fits m listed None o ns h = tt
-judged_guest_fits m listed (Some g) o ns h = given_operands (FitsEntry (Some m) listed) o ns (Ok (entry.Operation g)) h
-
 operation_fits : (m : Machine) (listed : List Bool) (o : Option OpName) (ns : List (Option ℕ)) → All FitsNumber ns → IfGiven (FitsEntry (Some m) listed) (operation_line_of o ns)
 unfolding operation_line_of
 operation_fits m listed None ns h = tt
 operation_fits m listed (Some o) ns h =
-    judged_guest_fits m listed (guest_op_of o (argument ns 0) (argument ns 1)) o ns (λ e. guest_fits o (argument ns 0) (argument ns 1) (argument_fits ns 1 h) e)
+    given_operands (FitsEntry (Some m) listed) o ns (Ok (entry.Operation (guest_op_of o (argument ns 0) (argument ns 1))))
+    (λ e. guest_fits o (argument ns 0) (argument ns 1) (argument_fits ns 1 h) e)
 
 -- calls of such arguments
 abbrev fits : ℕ → Type 0

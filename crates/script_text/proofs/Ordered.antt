@@ -29,13 +29,12 @@ use Rattle.script_text.specs.declared.lines.Keyword.{Keyword}
 use Rattle.script_text.specs.declared.lines.Keyword.TheVariants as keyword
 use Rattle.script_text.specs.declared.code_blocks.CodePlace.{CodePlace}
 use Rattle.script_text.specs.declared.operations.OpName.{OpName}
-use Rattle.script_text.specs.declared.operations.OpName.TheVariants as op
 use Rattle.script_text.specs.declared.schedules.Turns.{Turns}
-use Rattle.script_text.specs.Blocks.{field_of, code_of, operation_of, operand_count, fit_operands, guest_op_of}
+use Rattle.script_text.specs.Blocks.{field_of, code_of, operation_of, operand_count, fit_operands, operands_of, guest_op_of}
 use Rattle.script_text.specs.Counted.{◌>>=◌, argument}
-use Rattle.script_text.specs.Line.{keyword_of, machine_of, block_of, end_of, built_of, are_given, judged_of, call_of, first_of, list_of, judged_operation_of, operation_line_of, outside_of, named_of, inside_of, placed_of, entry_of}
+use Rattle.script_text.specs.Line.{keyword_of, machine_of, block_of, end_of, built_of, are_given, judged_of, call_of, first_of, list_of, operation_line_of, outside_of, named_of, inside_of, placed_of, entry_of}
 use Rattle.script_text.specs.Reading.{SoFar, entered_of, worded_of, line_of, script_of, ended_of}
-use Rattle.script_text.specs.Reasons.{fault_in, line_reasons, end_reasons, times_of, turns_count, names_no_field, is_built, is_built_operation, FirstWord, call_word, operation_word, word_in, machine_holds, holds_of, holds_in, holds_at, holds_at_end}
+use Rattle.script_text.specs.Reasons.{fault_in, line_reasons, end_reasons, times_of, turns_count, names_no_field, is_built, FirstWord, call_word, operation_word, word_in, machine_holds, holds_of, holds_in, holds_at, holds_at_end}
 use Rattle.script_text.specs.Reasons.FirstWord.{Key}
 use Rattle.script_text.specs.Schedule.{item_of, turns_in, written_of, schedule_of}
 use Rattle.script_text.specs.Laws.{ReasonsInOrder}
@@ -328,7 +327,7 @@ operation_full : (m : Machine) (p : CodePlace) (d : SoFar) (g : GuestOp) (ws : L
 unfolding entered_of
 operation_full m p d g ws = fault_then (leb 256 (length d.ops)) reason.Full _ _ None (λ e. refl)
 
--- what an operation's line comes to, once it is built
+-- what an operation's line comes to
 abbrev tested : Bool → Bool → Bool → Result (Unit {0}) Reason
 tested a b c = cond a (Err reason.Count) (cond b (Err reason.Number) (cond c (Err reason.Range) (Ok tt)))
 
@@ -339,28 +338,19 @@ operands_order false true c g f y h = refl
 operands_order false false true g f y h = refl
 operands_order false false false g f y h = h
 
-abbrev AreBuilt : Option GuestOp → OpName → Type 0
-AreBuilt g o = is_some g ≡ is_built_operation o
-
-operation_built : (o : OpName) (a b : ℕ) → AreBuilt (guest_op_of o a b) o
-operation_built op.Set a b = refl
-operation_built _ a b = refl
-
-judged_operation_order : (m : Machine) (p : CodePlace) (d : SoFar) (g : Option GuestOp) (o : OpName) (ns : List (Option ℕ)) (ws : List (List ℕ)) → AreBuilt g o
-    → fault_in (judged_operation_of g o ns >>= (λ e. entered_of (state (Some m) (Some (block.Code p)) d) e ws))
-    ≡ cond (not (is_built_operation o)) (Some reason.Unbuilt) (cond (not (length ns == operand_count o)) (Some reason.Count) (cond (not (list_all is_some ns)) (Some reason.Number) (cond (not (fit_operands o (argument ns 0) (argument ns 1))) (Some reason.Range) (cond (leb 256 (length d.ops)) (Some reason.Full) None))))
-judged_operation_order m p d None o ns ws h = rw (← h) refl
-judged_operation_order m p d (Some g) o ns ws h =
-    rw (← h)
-    (operands_order (not (length ns == operand_count o)) (not (list_all is_some ns)) (not (fit_operands o (argument ns 0) (argument ns 1))) g (λ e. entered_of (state (Some m) (Some (block.Code p)) d) e ws) (cond (leb 256 (length d.ops)) (Some reason.Full) None)
-    (operation_full m p d g ws))
+named_order_of : (m : Machine) (p : CodePlace) (d : SoFar) (g : GuestOp) (o : OpName) (ns : List (Option ℕ)) (ws : List (List ℕ))
+    → fault_in ((operands_of o ns >>= (λ t. Ok (entry.Operation g))) >>= (λ e. entered_of (state (Some m) (Some (block.Code p)) d) e ws))
+    ≡ cond (not (length ns == operand_count o)) (Some reason.Count) (cond (not (list_all is_some ns)) (Some reason.Number) (cond (not (fit_operands o (argument ns 0) (argument ns 1))) (Some reason.Range) (cond (leb 256 (length d.ops)) (Some reason.Full) None)))
+named_order_of m p d g o ns ws =
+    operands_order (not (length ns == operand_count o)) (not (list_all is_some ns)) (not (fit_operands o (argument ns 0) (argument ns 1))) g (λ e. entered_of (state (Some m) (Some (block.Code p)) d) e ws) (cond (leb 256 (length d.ops)) (Some reason.Full) None)
+    (operation_full m p d g ws)
 
 operation_order : (m : Machine) (p : CodePlace) (d : SoFar) (o : Option OpName) (ws : List (List ℕ))
     → fault_in (operation_line_of o (map number ws) >>= (λ e. entered_of (state (Some m) (Some (block.Code p)) d) e ws)) ≡ find (holds_of (state (Some m) (Some (block.Code p)) d) (operation_word o) ws) behind_byte
 unfolding operation_line_of
 operation_order m p d None ws = refl
 operation_order m p d (Some o) ws =
-    judged_operation_order m p d (guest_op_of o (argument (map number ws) 0) (argument (map number ws) 1)) o (map number ws) ws (operation_built o (argument (map number ws) 0) (argument (map number ws) 1)) ∙ rw length-map refl
+    named_order_of m p d (guest_op_of o (argument (map number ws) 0) (argument (map number ws) 1)) o (map number ws) ws ∙ rw length-map refl
 
 -- by the place of the line
 

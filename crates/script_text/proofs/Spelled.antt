@@ -277,6 +277,7 @@ multiple_is n k h = rw h refl
 op_entry : (s : Stage) (listed : List Bool) (m : Machine) (p : CodePlace) (g : GuestOp) → FitsOp g → s.machine ≡ Some m → s.block ≡ Some (block.Code p) → entry_of s listed (op_word g) (op_seen g) ≡ Ok (entry.Operation g)
 unfolding entry_of operation_line_of
 op_entry s listed m p (guest.Set r v) f h k = rw (h, k, below_is r 8 f.0) refl
+op_entry s listed m p (guest.Secret r k) f h j = rw (h, j, below_is r 8 f.0, below_is k 512 f.1) refl
 op_entry s listed m p (guest.Add r o) f h k = rw (h, k, below_is r 8 f.0, below_is o 8 f.1) refl
 op_entry s listed m p (guest.Load r gpa) f h k = rw (h, k, below_is r 8 f.0, below_is gpa (2 ^ 48) f.1, multiple_is gpa 8 f.2) refl
 op_entry s listed m p (guest.Store r gpa) f h k = rw (h, k, below_is r 8 f.0, below_is gpa (2 ^ 48) f.1, multiple_is gpa 8 f.2) refl
@@ -307,6 +308,7 @@ two_fit a b h k = one_fits a (b ∷ []) (omega arith) (one_fits b [] k refl)
 
 op_numbers_fit : (g : GuestOp) → FitsOp g → list_all fits (op_numbers g) ≡ true
 op_numbers_fit (guest.Set r v) f = two_fit r v f.0 f.1
+op_numbers_fit (guest.Secret r k) f = two_fit r k f.0 (omega (arith, f.1))
 op_numbers_fit (guest.Add r o) f = two_fit r o f.0 (omega (arith, f.1))
 op_numbers_fit (guest.Load r gpa) f = two_fit r gpa f.0 (omega (arith, f.1))
 op_numbers_fit (guest.Store r gpa) f = two_fit r gpa f.0 (omega (arith, f.1))

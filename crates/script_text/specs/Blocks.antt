@@ -119,13 +119,13 @@ operands_of o ns =
     else if not (fit_operands o (argument ns 0) (argument ns 1)) then Err reason.Range
     else Ok tt
 
--- the operation of a name and its operands, as far as it is built
-abbrev pub guest_op_of : OpName → ℕ → ℕ → Option GuestOp
-guest_op_of op.Set register value = Some (guest.Set register value)
-guest_op_of op.Secret register word = None
-guest_op_of op.Add register other = Some (guest.Add register other)
-guest_op_of op.Load register gpa = Some (guest.Load register gpa)
-guest_op_of op.Store register gpa = Some (guest.Store register gpa)
-guest_op_of op.Accept gpa none = Some (guest.Accept gpa)
-guest_op_of op.Rtmr index none = Some (guest.Rtmr index)
-guest_op_of op.Vmcall register none = Some (guest.Vmcall register)
+-- the operation of a name and its operands
+abbrev pub guest_op_of : OpName → ℕ → ℕ → GuestOp
+guest_op_of op.Set register value = guest.Set register value
+guest_op_of op.Secret register number = guest.Secret register number
+guest_op_of op.Add register other = guest.Add register other
+guest_op_of op.Load register gpa = guest.Load register gpa
+guest_op_of op.Store register gpa = guest.Store register gpa
+guest_op_of op.Accept gpa none = guest.Accept gpa
+guest_op_of op.Rtmr index none = guest.Rtmr index
+guest_op_of op.Vmcall register none = guest.Vmcall register

@@ -3,7 +3,6 @@ use Rattle.std.specs.Prelude.{ℕ, List, Option, Some, None, is_some, Result, Ok
 use Rattle.std.specs.List.{list_all}
 use Rattle.std.specs.Str.{bytes_eq}
 use Rattle.td_words.specs.declared.calls.Call.TheVariants as calls
-use Rattle.td_words.specs.declared.calls.GuestOp.{GuestOp}
 use Rattle.td_words.specs.declared.machines.Machine.{Machine}
 use Rattle.td_words.specs.Limits.{in_limits}
 use Rattle.line_words.specs.declared.mnemonics.CallName.{CallName}
@@ -121,14 +120,9 @@ first_of _ ns = Err reason.Machine
 abbrev pub list_of : Machine → List Bool → List (Option ℕ) → Result Entry Reason
 list_of m listed ns = code_of m listed ns >>= (λ place. Ok (entry.List place))
 
--- the operands are looked at where the operation is built
-abbrev pub judged_operation_of : Option GuestOp → OpName → List (Option ℕ) → Result Entry Reason
-judged_operation_of None o ns = Err reason.Unbuilt
-judged_operation_of (Some g) o ns = operands_of o ns >>= (λ t. Ok (entry.Operation g))
-
 unfoldable pub operation_line_of : Option OpName → List (Option ℕ) → Result Entry Reason
 operation_line_of None ns = Err reason.Word
-operation_line_of (Some o) ns = judged_operation_of (guest_op_of o (argument ns 0) (argument ns 1)) o ns
+operation_line_of (Some o) ns = operands_of o ns >>= (λ t. Ok (entry.Operation (guest_op_of o (argument ns 0) (argument ns 1))))
 
 -- a later line outside blocks; the items of a schedule line aren't looked at here
 abbrev pub outside_of : Machine → List Bool → List Bool → Option Keyword → List (Option ℕ) → Result Entry Reason

@@ -18,7 +18,7 @@ use Rattle.script_text.specs.declared.lines.Keyword.{Keyword}
 use Rattle.script_text.specs.declared.lines.Keyword.TheVariants as keyword
 use Rattle.script_text.specs.declared.operations.OpName.{OpName}
 use Rattle.script_text.specs.declared.schedules.Turns.{Turns}
-use Rattle.script_text.specs.Blocks.{field_of, operation_of, operand_count, fit_operands, guest_op_of}
+use Rattle.script_text.specs.Blocks.{field_of, operation_of, operand_count, fit_operands}
 use Rattle.script_text.specs.Counted.{argument}
 use Rattle.script_text.specs.Line.{keyword_of, built_of, are_given}
 use Rattle.script_text.specs.Reading.{SoFar}
@@ -71,16 +71,12 @@ abbrev pub word_holds : FirstWord → Bool
 word_holds Unknown = true
 word_holds _ = false
 
--- a call is built where its mnemonic has a call, an operation where its name has one
+-- a call is built where its mnemonic has a call; each operation is
 abbrev pub is_built : CallName → Bool
 is_built call = is_some (built_of 0 call [])
 
-abbrev pub is_built_operation : OpName → Bool
-is_built_operation o = is_some (guest_op_of o 0 0)
-
 abbrev pub unbuilt_holds : FirstWord → Bool
 unbuilt_holds (OfCall m) = not (is_built m.call)
-unbuilt_holds (OfOperation o) = not (is_built_operation o)
 unbuilt_holds _ = false
 
 -- so many words stand behind the first

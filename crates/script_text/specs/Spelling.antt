@@ -94,6 +94,7 @@ blocks_text lp (calls ∷ more) = line_text (codes "lp") (decimal lp ∷ []) ++ 
 
 abbrev pub op_word : GuestOp → List ℕ
 op_word (guest.Set register value) = codes "set"
+op_word (guest.Secret register number) = codes "secret"
 op_word (guest.Add register other) = codes "add"
 op_word (guest.Load register gpa) = codes "load"
 op_word (guest.Store register gpa) = codes "store"
@@ -103,6 +104,7 @@ op_word (guest.Vmcall register) = codes "vmcall"
 
 abbrev pub op_numbers : GuestOp → List ℕ
 op_numbers (guest.Set register value) = register ∷ value ∷ []
+op_numbers (guest.Secret register number) = register ∷ number ∷ []
 op_numbers (guest.Add register other) = register ∷ other ∷ []
 op_numbers (guest.Load register gpa) = register ∷ gpa ∷ []
 op_numbers (guest.Store register gpa) = register ∷ gpa ∷ []
@@ -110,9 +112,10 @@ op_numbers (guest.Accept gpa) = gpa ∷ []
 op_numbers (guest.Rtmr index) = index ∷ []
 op_numbers (guest.Vmcall register) = register ∷ []
 
--- registers 0 to 7, RTMRs 0 to 3, values of 64 bits; the addresses of words and of private pages
+-- registers 0 to 7, secret words 0 to 511, RTMRs 0 to 3, values of 64 bits; the addresses of words and of private pages
 abbrev pub FitsOp : GuestOp → Type 0
 FitsOp (guest.Set register value) = (register < 8) × (value < 2 ^ 64)
+FitsOp (guest.Secret register number) = (register < 8) × (number < 512)
 FitsOp (guest.Add register other) = (register < 8) × (other < 8)
 FitsOp (guest.Load register gpa) = (register < 8) × (gpa < 2 ^ 48) × (gpa % 8 ≡ 0)
 FitsOp (guest.Store register gpa) = (register < 8) × (gpa < 2 ^ 48) × (gpa % 8 ≡ 0)

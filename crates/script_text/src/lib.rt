@@ -5,8 +5,8 @@
 //! `specs/Reading.antt` defines, unless memory wasn't found, and four laws: what is read is in form
 //! (`scripts_are_in_form`), a script in form that is written out is read again
 //! (`scripts_read_again`), a fault names the first bad line (`faults_are_first`), and the first reason
-//! that holds of it (`reasons_in_order`). Twenty-seven calls and seven guest operations are built; any
-//! other mnemonic, and `secret`, is UNBUILT. Public functions read output slots.
+//! that holds of it (`reasons_in_order`). Twenty-seven calls and all guest operations are built; any
+//! other mnemonic is UNBUILT. Public functions read output slots.
 #![tactic(auto)]
 
 mod code_blocks;

@@ -265,13 +265,10 @@ fn operation_line(op: Option<OpName>, numbers: &[Option<u64>]) -> Said
     ensures { result ≡ operation_line_of op numbers.now }
 {
     let op = op.ok_or(Reason::Word)?;
-    if op == OpName::Secret {
-        return Err(Reason::Unbuilt);
-    }
     check_operands(op, numbers)?;
     // Operands in range fit the types of the operation's fields.
-    let built = guest_op(op, argument(numbers, 0), argument(numbers, 1));
-    Ok(Entry::Operation(built.ok_or(Reason::Unbuilt)?))
+    let named = guest_op(op, argument(numbers, 0), argument(numbers, 1));
+    Ok(Entry::Operation(named))
 }
 
 fn outside_at(

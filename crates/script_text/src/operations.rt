@@ -8,7 +8,7 @@ use crate::lines::{are_numbers, argument, check_count};
 use line_words::is;
 use td_words::GuestOp;
 
-/// The name of a guest operation, whether or not it is built.
+/// The name of a guest operation.
 #[derive(Clone, Copy, Debug, PartialEq, Eq)]
 pub enum OpName {
     Set,
@@ -117,17 +117,20 @@ pub fn check_operands(op: OpName, numbers: &[Option<u64>]) -> Result<(), Reason>
     Ok(())
 }
 
-/// The operation of that name and those operands, as far as it is built.
-pub fn guest_op(op: OpName, first: u64, second: u64) -> Option<GuestOp>
+/// The operation of that name and those operands.
+pub fn guest_op(op: OpName, first: u64, second: u64) -> GuestOp
     requires { fit_operands op first second ≡ true }
     ensures { result ≡ guest_op_of op first second }
 {
-    let built = match op {
+    match op {
         OpName::Set => GuestOp::Set {
             register: first as u8,
             value: second,
         },
-        OpName::Secret => return None,
+        OpName::Secret => GuestOp::Secret {
+            register: first as u8,
+            number: second as u16,
+        },
         OpName::Add => GuestOp::Add {
             register: first as u8,
             other: second as u8,
@@ -145,6 +148,5 @@ pub fn guest_op(op: OpName, first: u64, second: u64) -> Option<GuestOp>
         OpName::Vmcall => GuestOp::Vmcall {
             register: first as u8,
         },
-    };
-    Some(built)
+    }
 }
