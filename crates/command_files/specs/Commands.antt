@@ -1,4 +1,4 @@
--- Commands: a script is run, with options that name files, or is checked.
+-- Commands: a script is replayed or run, with options that name files, or is checked.
 use Rattle.std.specs.Prelude.{ℕ, List, [], ◌∷◌, slice_index_or, Option, Some, None, is_some, option_map, Bool, ◌==◌, ◌||◌, if◌then◌else◌, codes}
 use Rattle.std.specs.Str.{bytes_eq}
 use Rattle.command_files.specs.declared.commands.Choice.{Choice}
@@ -15,18 +15,27 @@ pub record NamedSeen : Type 0 where
   pub script : List ℕ
   pub bundles : Option (List ℕ)
   pub keys : Option (List ℕ)
+  pub secrets : Option (List ℕ)
   pub out_bundles : Option (List ℕ)
   pub guest_out : Option (List ℕ)
 
--- a script is run with these files, or the script of that name is checked
+-- a script is replayed under its schedule, or run in threads, with these files; or the script of that name is checked
 pub data CommandSeen : Type 0 where
   Replay : NamedSeen → CommandSeen
+  Run : NamedSeen → CommandSeen
   Check : List ℕ → CommandSeen
 
 -- the script's name
 abbrev pub script_name : CommandSeen → List ℕ
 script_name (Replay n) = n.script
+script_name (Run n) = n.script
 script_name (Check name) = name
+
+-- the script and the files that a replay or a run names; check has none
+abbrev pub named_of : CommandSeen → Option NamedSeen
+named_of (Replay n) = Some n
+named_of (Run n) = Some n
+named_of (Check name) = None
 
 -- what was read so far: the option that waits for its value, and what was named
 pub record BegunSeen : Type 0 where
@@ -34,6 +43,7 @@ pub record BegunSeen : Type 0 where
   pub script : Option (List ℕ)
   pub bundles : Option (List ℕ)
   pub keys : Option (List ℕ)
+  pub secrets : Option (List ℕ)
   pub out_bundles : Option (List ℕ)
   pub guest_out : Option (List ℕ)
 
@@ -42,12 +52,14 @@ named_seen n = record {
   script = n.script.now;
   bundles = option_map (λ name. name.now) n.bundles;
   keys = option_map (λ name. name.now) n.keys;
+  secrets = option_map (λ name. name.now) n.secrets;
   out_bundles = option_map (λ name. name.now) n.out_bundles;
   guest_out = option_map (λ name. name.now) n.guest_out;
 }
 
 abbrev pub command_seen : Command → CommandSeen
 command_seen (command.Replay n) = Replay (named_seen n)
+command_seen (command.Run n) = Run (named_seen n)
 command_seen (command.Check name) = Check name.now
 
 abbrev pub begun_seen : Begun → BegunSeen
@@ -56,6 +68,7 @@ begun_seen b = record {
   script = option_map (λ name. name.now) b.script;
   bundles = option_map (λ name. name.now) b.bundles;
   keys = option_map (λ name. name.now) b.keys;
+  secrets = option_map (λ name. name.now) b.secrets;
   out_bundles = option_map (λ name. name.now) b.out_bundles;
   guest_out = option_map (λ name. name.now) b.guest_out;
 }
@@ -68,28 +81,35 @@ abbrev pub choice_of : List ℕ → Option Choice
 choice_of word =
     if bytes_eq word (codes "--bundles") then Some choice.Bundles
     else if bytes_eq word (codes "--keys") then Some choice.Keys
+    else if bytes_eq word (codes "--secrets") then Some choice.Secrets
     else if bytes_eq word (codes "--out-bundles") then Some choice.OutBundles
     else if bytes_eq word (codes "--guest-out") then Some choice.GuestOut
     else None
 
 -- the first words
 abbrev pub verb_of : List ℕ → Option Verb
-verb_of word = if bytes_eq word (codes "replay") then Some verb.Replay else if bytes_eq word (codes "check") then Some verb.Check else None
+verb_of word =
+    if bytes_eq word (codes "replay") then Some verb.Replay
+    else if bytes_eq word (codes "run") then Some verb.Run
+    else if bytes_eq word (codes "check") then Some verb.Check
+    else None
 
 -- an option has its value
 abbrev pub has : Choice → BegunSeen → Bool
 has choice.Bundles b = is_some b.bundles
 has choice.Keys b = is_some b.keys
+has choice.Secrets b = is_some b.secrets
 has choice.OutBundles b = is_some b.out_bundles
 has choice.GuestOut b = is_some b.guest_out
 
 -- some option has
 abbrev pub has_option : BegunSeen → Bool
-has_option b = is_some b.bundles || (is_some b.keys || (is_some b.out_bundles || is_some b.guest_out))
+has_option b = is_some b.bundles || (is_some b.keys || (is_some b.secrets || (is_some b.out_bundles || is_some b.guest_out)))
 
 abbrev pub given : Choice → List ℕ → BegunSeen → BegunSeen
 given choice.Bundles name b = record b { waits = None; bundles = Some name }
 given choice.Keys name b = record b { waits = None; keys = Some name }
+given choice.Secrets name b = record b { waits = None; secrets = Some name }
 given choice.OutBundles name b = record b { waits = None; out_bundles = Some name }
 given choice.GuestOut name b = record b { waits = None; guest_out = Some name }
 
@@ -109,9 +129,14 @@ after_begun None word b =
 abbrev pub after : List ℕ → BegunSeen → Option BegunSeen
 after word b = after_begun b.waits word b
 
--- replay has these options, and check has none
+-- a script, and the files that the options name
+abbrev pub with_files : List ℕ → BegunSeen → NamedSeen
+with_files name b = record { script = name; bundles = b.bundles; keys = b.keys; secrets = b.secrets; out_bundles = b.out_bundles; guest_out = b.guest_out }
+
+-- replay and run have these options, and check has none
 abbrev pub ended : Verb → List ℕ → BegunSeen → Option CommandSeen
-ended verb.Replay name b = Some (Replay (record { script = name; bundles = b.bundles; keys = b.keys; out_bundles = b.out_bundles; guest_out = b.guest_out }))
+ended verb.Replay name b = Some (Replay (with_files name b))
+ended verb.Run name b = Some (Run (with_files name b))
 ended verb.Check name b = if has_option b then None else Some (Check name)
 
 -- a command has a script, and no option waits for its value
@@ -123,7 +148,7 @@ abbrev pub finished : Verb → BegunSeen → Option CommandSeen
 finished v b = if is_some b.waits then None else with_script v b.script b
 
 abbrev pub nothing_read : BegunSeen
-nothing_read = record { waits = None; script = None; bundles = None; keys = None; out_bundles = None; guest_out = None }
+nothing_read = record { waits = None; script = None; bundles = None; keys = None; secrets = None; out_bundles = None; guest_out = None }
 
 abbrev pub further : Option BegunSeen → (BegunSeen → Option CommandSeen) → Option CommandSeen
 further None go = None

@@ -1,6 +1,7 @@
--- The input files that a command names: what is loaded, and the fault that is due by it.
-use Rattle.std.specs.Prelude.{◌≡◌, ◌≤◌, ℕ, ◌^◌, List, [], ◌∷◌, ◌++◌, length, Option, Some, None, IfSome, IfNone, Result, Ok, Err, ◌==◌, if◌then◌else◌}
+-- The input files that a command names: what is loaded, the fault that is due by it, and the secret words.
+use Rattle.std.specs.Prelude.{◌≡◌, ◌≤◌, ℕ, ◌^◌, ◌*◌, List, [], ◌∷◌, ◌++◌, length, drop, slice_index, Option, Some, None, IfSome, IfNone, Result, Ok, Err, IfOk, ◌==◌, if◌then◌else◌}
 use Rattle.std.specs.Global.{Vec}
+use Rattle.byteorder.specs.Endian.{little_number}
 use Rattle.td_words.specs.Seen.{BundleSeen}
 use Rattle.bundle_store.specs.declared.outside.LoadFault.{LoadFault}
 use Rattle.bundle_store.specs.declared.outside.LoadFault.TheVariants as load
@@ -11,6 +12,7 @@ use Rattle.command_files.specs.declared.inputs.Input.{Input}
 use Rattle.command_files.specs.declared.inputs.Input.TheVariants as input
 use Rattle.command_files.specs.declared.inputs.InputFault.{InputFault}
 use Rattle.command_files.specs.declared.inputs.InputFault.TheVariants as fault
+use Rattle.command_files.specs.declared.inputs.Inputs.{Inputs}
 use Rattle.command_files.specs.Commands.{NamedSeen}
 
 -- ---- loads
@@ -60,43 +62,78 @@ container_fault (Some (Err load.TooLong)) = Some (fault.Container (2 ^ 29))
 container_fault (Some (Err load.Failed)) = None
 container_fault (Some (Err load.OutOfMemory)) = None
 
+-- a file that was loaded hasn't so many bytes, which is that fault
+abbrev pub length_fault : ℕ → InputFault → Option (Result (Vec ℕ) LoadFault) → Option InputFault
+length_fault bytes f None = None
+length_fault bytes f (Some (Ok given)) = if length given.items == bytes then None else Some f
+length_fault bytes f (Some (Err load.Absent)) = None
+length_fault bytes f (Some (Err load.TooLong)) = Some f
+length_fault bytes f (Some (Err load.Failed)) = None
+length_fault bytes f (Some (Err load.OutOfMemory)) = None
+
 -- the key file hasn't 64 bytes
 abbrev pub keys_fault : Option (Result (Vec ℕ) LoadFault) → Option InputFault
-keys_fault None = None
-keys_fault (Some (Ok given)) = if length given.items == 64 then None else Some fault.Keys
-keys_fault (Some (Err load.Absent)) = None
-keys_fault (Some (Err load.TooLong)) = Some fault.Keys
-keys_fault (Some (Err load.Failed)) = None
-keys_fault (Some (Err load.OutOfMemory)) = None
+keys_fault answer = length_fault 64 fault.Keys answer
+
+-- the secrets file hasn't 4,096 bytes
+abbrev pub secrets_fault : Option (Result (Vec ℕ) LoadFault) → Option InputFault
+secrets_fault answer = length_fault 4096 fault.Secrets answer
 
 abbrev pub first : Option InputFault → Option InputFault → Option InputFault
 first None next = next
 first (Some f) next = Some f
 
--- the fault that is due by what was loaded: both are read, and then the form of both is tested, the container's first
-abbrev pub due : (bundles keys : Option (Result (Vec ℕ) LoadFault)) → Option InputFault
-due bundles keys = first (load_fault input.Bundles bundles) (first (load_fault input.Keys keys) (first (container_fault bundles) (keys_fault keys)))
+-- an input that was named can't be read: the container, else the key file, else the secrets file
+abbrev pub unread_fault : (bundles keys secrets : Option (Result (Vec ℕ) LoadFault)) → Option InputFault
+unread_fault bundles keys secrets = first (load_fault input.Bundles bundles) (first (load_fault input.Keys keys) (load_fault input.Secrets secrets))
+
+-- one that was read hasn't its form, in the same order
+abbrev pub form_fault : (bundles keys secrets : Option (Result (Vec ℕ) LoadFault)) → Option InputFault
+form_fault bundles keys secrets = first (container_fault bundles) (first (keys_fault keys) (secrets_fault secrets))
+
+-- the fault that is due by what was loaded: all are read, and then the form of each is tested
+abbrev pub due : (bundles keys secrets : Option (Result (Vec ℕ) LoadFault)) → Option InputFault
+due bundles keys secrets = first (unread_fault bundles keys secrets) (form_fault bundles keys secrets)
+
+-- ---- what is handed out
+
+-- the secret word of number i is the little-endian number in bytes 8i to 8i + 7 of what was handed out; without a file each is 0
+abbrev pub secret_word : Option (Result (Vec ℕ) LoadFault) → ℕ → ℕ
+secret_word None i = 0
+secret_word (Some (Ok given)) i = little_number 8 (drop (8 * i) given.items)
+secret_word (Some (Err f)) i = 0
+
+-- these are the 512 secret words
+pub record AreSecrets (answer : Option (Result (Vec ℕ) LoadFault)) (words : List ℕ) : Type 0 where
+  pub count : length words ≡ 512
+  pub each : (i : ℕ) → slice_index words i ≡ secret_word answer i
 
 -- an answer tells the fault that is due, or that there is none; or memory wasn't found
-abbrev pub IsDue : Option InputFault → Result (Unit {0}) InputFault → Type 0
-IsDue d (Ok t) = d ≡ None
+abbrev pub IsDue : {X : Type 0} → Option InputFault → Result X InputFault → Type 0
+IsDue d (Ok x) = d ≡ None
 IsDue d (Err (fault.Unread i)) = d ≡ Some (fault.Unread i)
 IsDue d (Err (fault.Container place)) = d ≡ Some (fault.Container place)
 IsDue d (Err fault.Keys) = d ≡ Some fault.Keys
+IsDue d (Err fault.Secrets) = d ≡ Some fault.Secrets
 IsDue d (Err fault.OutOfMemory) = Unit {0}
 
--- ---- both inputs
+-- ---- all inputs
 
--- the key file is loaded where the container's load found no fault
-abbrev pub LoadsKeys : Option (List ℕ → Option (List ℕ)) → Option InputFault → Option (List ℕ) → Reads → Option (Result (Vec ℕ) LoadFault) → Reads → Type 0
-LoadsKeys contents None name old keys new = LoadsNamed contents (2 ^ 16) name old keys new
-LoadsKeys contents (Some f) name old keys new = (keys ≡ None) × (new ≡ old)
+-- an input is loaded where the loads before it found no fault
+abbrev pub LoadsNext : Option (List ℕ → Option (List ℕ)) → Option InputFault → Option (List ℕ) → Reads → Option (Result (Vec ℕ) LoadFault) → Reads → Type 0
+LoadsNext contents None name old answer new = LoadsNamed contents (2 ^ 16) name old answer new
+LoadsNext contents (Some f) name old answer new = (answer ≡ None) × (new ≡ old)
 
--- Each named input is loaded once, the container first, and nothing else; and the answer is the fault that is due by these loads.
-pub record TakesInputs (contents : Option (List ℕ → Option (List ℕ))) (c : NamedSeen) (old new : Reads) (result : Result (Unit {0}) InputFault) : Type 0 where
+-- Each named input is loaded once, the container first, then the key file and then the secrets file, and nothing else; the
+-- answer is the fault that is due by these loads, and where there is none it is the secret words.
+pub record TakesInputs (contents : Option (List ℕ → Option (List ℕ))) (c : NamedSeen) (old new : Reads) (result : Result Inputs InputFault) : Type 0 where
   pub bundles : Option (Result (Vec ℕ) LoadFault)
   pub keys : Option (Result (Vec ℕ) LoadFault)
-  pub between : Reads
-  pub first_loaded : LoadsNamed contents (2 ^ 29) c.bundles old bundles between
-  pub then_loaded : LoadsKeys contents (load_fault input.Bundles bundles) c.keys between keys new
-  pub is_due : IsDue (due bundles keys) result
+  pub secrets : Option (Result (Vec ℕ) LoadFault)
+  pub behind_bundles : Reads
+  pub behind_keys : Reads
+  pub bundles_loaded : LoadsNamed contents (2 ^ 29) c.bundles old bundles behind_bundles
+  pub keys_loaded : LoadsNext contents (load_fault input.Bundles bundles) c.keys behind_bundles keys behind_keys
+  pub secrets_loaded : LoadsNext contents (first (load_fault input.Bundles bundles) (load_fault input.Keys keys)) c.secrets behind_keys secrets new
+  pub is_due : IsDue (due bundles keys secrets) result
+  pub words : IfOk result (λ inputs. AreSecrets secrets inputs.secrets.items)

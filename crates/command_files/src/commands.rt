@@ -2,13 +2,14 @@
 
 ghost use Rattle.std.specs.Prelude.{◌≡◌, option_map, map, string_bytes, codes};
 ghost use Rattle.std.specs.Str.{bytes_eq};
-ghost use Rattle.command_files.specs.Commands.{begins_with_dash, choice_of, verb_of, begun_seen, command_seen, given, has, has_option, after, ended, finished, command_in, nothing_read};
+ghost use Rattle.command_files.specs.Commands.{begins_with_dash, choice_of, verb_of, begun_seen, named_seen, command_seen, given, has, has_option, after, with_files, ended, finished, command_in, nothing_read};
 
 /// An option that names a file.
 #[derive(Clone, Copy, Debug, PartialEq, Eq)]
 pub enum Choice {
     Bundles,
     Keys,
+    Secrets,
     OutBundles,
     GuestOut,
 }
@@ -19,14 +20,17 @@ pub struct Named<'a> {
     pub script: &'a str,
     pub bundles: Option<&'a str>,
     pub keys: Option<&'a str>,
+    pub secrets: Option<&'a str>,
     pub out_bundles: Option<&'a str>,
     pub guest_out: Option<&'a str>,
 }
 
-/// What the words ask for: a script is run with these files, or the script of that name is checked.
+/// What the words ask for: a script is replayed under its schedule, or run in threads, with these files;
+/// or the script of that name is checked.
 #[derive(Clone, Copy, Drop)]
 pub enum Command<'a> {
     Replay(Named<'a>),
+    Run(Named<'a>),
     Check(&'a str),
 }
 
@@ -34,6 +38,7 @@ pub enum Command<'a> {
 #[derive(Clone, Copy, Debug, PartialEq, Eq)]
 pub enum Verb {
     Replay,
+    Run,
     Check,
 }
 
@@ -44,6 +49,7 @@ pub struct Begun<'a> {
     pub script: Option<&'a str>,
     pub bundles: Option<&'a str>,
     pub keys: Option<&'a str>,
+    pub secrets: Option<&'a str>,
     pub out_bundles: Option<&'a str>,
     pub guest_out: Option<&'a str>,
 }
@@ -68,6 +74,8 @@ fn choice_of(word: &str) -> Option<Choice>
         Some(Choice::Bundles)
     } else if is(word, "--keys") {
         Some(Choice::Keys)
+    } else if is(word, "--secrets") {
+        Some(Choice::Secrets)
     } else if is(word, "--out-bundles") {
         Some(Choice::OutBundles)
     } else if is(word, "--guest-out") {
@@ -82,6 +90,8 @@ fn verb_of(word: &str) -> Option<Verb>
 {
     if is(word, "replay") {
         Some(Verb::Replay)
+    } else if is(word, "run") {
+        Some(Verb::Run)
     } else if is(word, "check") {
         Some(Verb::Check)
     } else {
@@ -95,6 +105,7 @@ fn has(begun: Begun<'_>, choice: Choice) -> bool
     match choice {
         Choice::Bundles => begun.bundles.is_some(),
         Choice::Keys => begun.keys.is_some(),
+        Choice::Secrets => begun.secrets.is_some(),
         Choice::OutBundles => begun.out_bundles.is_some(),
         Choice::GuestOut => begun.guest_out.is_some(),
     }
@@ -106,6 +117,7 @@ fn has_option(begun: Begun<'_>) -> bool
 {
     begun.bundles.is_some()
         || begun.keys.is_some()
+        || begun.secrets.is_some()
         || begun.out_bundles.is_some()
         || begun.guest_out.is_some()
 }
@@ -124,6 +136,10 @@ fn given<'a>(begun: Begun<'a>, choice: Choice, name: &'a str) -> Begun<'a>
         },
         Choice::Keys => Begun {
             keys: Some(name),
+            ..begun
+        },
+        Choice::Secrets => Begun {
+            secrets: Some(name),
             ..begun
         },
         Choice::OutBundles => Begun {
@@ -177,18 +193,27 @@ fn after<'a>(begun: Begun<'a>, word: &'a str) -> Option<Begun<'a>>
     }
 }
 
+// A script, and the files that the options name.
+fn with_files<'a>(begun: Begun<'a>, script: &'a str) -> Named<'a>
+    ensures { named_seen result ≡ with_files script.now (begun_seen begun.entry) }
+{
+    Named {
+        script,
+        bundles: begun.bundles,
+        keys: begun.keys,
+        secrets: begun.secrets,
+        out_bundles: begun.out_bundles,
+        guest_out: begun.guest_out,
+    }
+}
+
 // A script and its command's options, of which check has none.
 fn ended<'a>(verb: Verb, begun: Begun<'a>, script: &'a str) -> Option<Command<'a>>
     ensures { option_map command_seen result ≡ ended verb script.now (begun_seen begun.entry) }
 {
     match verb {
-        Verb::Replay => Some(Command::Replay(Named {
-            script,
-            bundles: begun.bundles,
-            keys: begun.keys,
-            out_bundles: begun.out_bundles,
-            guest_out: begun.guest_out,
-        })),
+        Verb::Replay => Some(Command::Replay(with_files(begun, script))),
+        Verb::Run => Some(Command::Run(with_files(begun, script))),
         Verb::Check => {
             if has_option(begun) {
                 None
@@ -224,6 +249,7 @@ pub fn read_command<'a>(words: &'a [String]) -> Option<Command<'a>>
         script: None,
         bundles: None,
         keys: None,
+        secrets: None,
         out_bundles: None,
         guest_out: None,
     };

@@ -1,18 +1,22 @@
 //! The input files that a command names: they are loaded, and then their forms are tested.
 
-ghost use Rattle.std.specs.Prelude.{◌≡◌, ◌≤◌, option_map, OnOk};
+ghost use Rattle.std.specs.Prelude.{◌≡◌, ◌≤◌, length, replicate, None, option_map, IfOk, OnOk};
+ghost use Rattle.byteorder.specs.Endian.{little_number, IsRead};
+ghost use Rattle.command_files.specs.declared.inputs.Input.TheVariants.{Bundles};
 ghost use Rattle.command_files.specs.Commands.{named_seen};
-ghost use Rattle.command_files.specs.Inputs.{LoadsNamed, load_fault, container_fault, keys_fault, IsDue, TakesInputs};
+ghost use Rattle.command_files.specs.Inputs.{LoadsNamed, load_fault, container_fault, length_fault, secrets_fault, form_fault, AreSecrets, IsDue, TakesInputs};
 
 use crate::commands::Named;
 use bundle_store::{ContainerFault, Files, LoadFault, read_container};
-use std::alloc::Global;
+use byteorder::{ByteOrder, LittleEndian};
+use std::alloc::{AllocError, Global};
 
 /// An input beside the script.
 #[derive(Clone, Copy, Debug, PartialEq, Eq)]
 pub enum Input {
     Bundles,
     Keys,
+    Secrets,
 }
 
 /// Why a command isn't run: an input can't be read, or hasn't its form.
@@ -23,12 +27,26 @@ pub enum InputFault {
     Container(u64),
     /// The key file hasn't 64 bytes.
     Keys,
+    /// The secrets file hasn't 4,096 bytes.
+    Secrets,
     OutOfMemory,
+}
+
+/// What the inputs hand out: the 512 secret words. No call uses bundles or keys yet.
+#[derive(Drop)]
+pub struct Inputs {
+    pub secrets: Vec<u64>,
 }
 
 const MOST_CONTAINER: u64 = 1 << 29;
 
 const MOST_KEYS: u64 = 1 << 16;
+
+const MOST_SECRETS: u64 = 1 << 16;
+
+const KEY_BYTES: usize = 64;
+
+const SECRET_WORDS: usize = 512;
 
 // What the load of an input answers, where it is named.
 fn load_named<F: Files>(
@@ -42,6 +60,7 @@ fn load_named<F: Files>(
     ensures saves { F.saves files.new ≡ F.saves files.old }
     ensures writes { F.write_faults files.new ≡ F.write_faults files.old }
     ensures later { F.read_faults files.old ≤ F.read_faults files.new }
+    ensures quiet { load_fault Bundles result ≡ None → F.read_faults files.new ≡ F.read_faults files.old }
 {
     match name {
         None => None,
@@ -76,29 +95,98 @@ fn container_fault(
     }
 }
 
-fn keys_fault(answer: &Option<Result<Vec<u8>, LoadFault>>) -> Option<InputFault>
-    ensures { result ≡ keys_fault answer.now }
+// A file that was loaded hasn't its length.
+fn length_fault(
+    bytes: usize,
+    fault: InputFault,
+    answer: &Option<Result<Vec<u8>, LoadFault>>,
+) -> Option<InputFault>
+    ensures { result ≡ length_fault bytes fault answer.now }
 {
     match answer {
-        Some(Ok(bytes)) => {
-            if bytes.len() == 64 {
+        Some(Ok(given)) => {
+            if given.len() == bytes {
                 None
             } else {
-                Some(InputFault::Keys)
+                Some(fault)
             }
         }
-        Some(Err(LoadFault::TooLong)) => Some(InputFault::Keys),
+        Some(Err(LoadFault::TooLong)) => Some(fault),
         _ => None,
     }
 }
 
-/// Loads the container and the key file, where they are named, and then tests their forms.
+// The words of a secrets file.
+fn words_of(alloc: Global, bytes: &[u8]) -> Result<Vec<u64>, AllocError>
+    requires { length bytes.now ≡ 4096 }
+    ensures { IfOk result (λ v. (length v.items ≡ 512) × IsRead little_number 8 bytes.now v.items) }
+{
+    let mut words = zeros(alloc, SECRET_WORDS)?;
+    LittleEndian::read_u64_into(bytes, &mut words);
+    Ok(words)
+}
+
+// So many words, each 0.
+fn zeros(alloc: Global, count: usize) -> Result<Vec<u64>, AllocError>
+    ensures { IfOk result (λ v. v.items ≡ replicate count 0) }
+{
+    vec![in alloc; 0u64; count]
+}
+
+// The words where no file is named.
+fn no_words(alloc: Global) -> Result<Vec<u64>, AllocError>
+    ensures { IfOk result (λ v. AreSecrets None v.items) }
+{
+    zeros(alloc, SECRET_WORDS)
+}
+
+// The secret words, where the secrets file is right if one was loaded.
+fn secret_words(
+    alloc: Global,
+    answer: &Option<Result<Vec<u8>, LoadFault>>,
+) -> Result<Vec<u64>, AllocError>
+    requires { secrets_fault answer.now ≡ None }
+    ensures { IfOk result (λ v. AreSecrets answer.now v.items) }
+{
+    match answer {
+        Some(Ok(bytes)) => words_of(alloc, bytes),
+        None | Some(Err(_)) => no_words(alloc),
+    }
+}
+
+// The first fault of the forms, or what the inputs hand out.
+fn inputs_of(
+    alloc: Global,
+    bundles: &Option<Result<Vec<u8>, LoadFault>>,
+    keys: &Option<Result<Vec<u8>, LoadFault>>,
+    secrets: &Option<Result<Vec<u8>, LoadFault>>,
+) -> Result<Inputs, InputFault>
+    ensures due { IsDue (form_fault bundles.now keys.now secrets.now) result }
+    ensures words { IfOk result (λ inputs. AreSecrets secrets.now inputs.secrets.items) }
+{
+    if let Err(fault) = container_fault(alloc, bundles) {
+        return Err(fault);
+    }
+    if let Some(fault) = length_fault(KEY_BYTES, InputFault::Keys, keys) {
+        return Err(fault);
+    }
+    if let Some(fault) = length_fault(8 * SECRET_WORDS, InputFault::Secrets, secrets) {
+        return Err(fault);
+    }
+    match secret_words(alloc, secrets) {
+        Ok(secrets) => Ok(Inputs { secrets }),
+        Err(_) => Err(InputFault::OutOfMemory),
+    }
+}
+
+/// Loads the container, the key file and the secrets file, where they are named, and then tests their forms.
 pub fn take_inputs<F: Files>(
     alloc: Global,
     named: &Named<'_>,
     files: &mut F,
-) -> Result<(), InputFault>
+) -> Result<Inputs, InputFault>
     ensures takes { TakesInputs (F.contents files.old) (named_seen named.now) (record { loads = F.loads files.old; faults = F.read_faults files.old; bytes = F.bytes_read files.old }) (record { loads = F.loads files.new; faults = F.read_faults files.new; bytes = F.bytes_read files.new }) result }
+    ensures secrets { IfOk result (λ inputs. length inputs.secrets.items ≡ 512) }
     ensures same { F.contents files.new ≡ F.contents files.old }
     ensures saves { F.saves files.new ≡ F.saves files.old }
     ensures writes { F.write_faults files.new ≡ F.write_faults files.old }
@@ -114,9 +202,9 @@ pub fn take_inputs<F: Files>(
     if let Some(fault) = load_fault(Input::Keys, &keys) {
         return Err(fault);
     }
-    container_fault(alloc, &bundles)?;
-    match keys_fault(&keys) {
-        Some(fault) => Err(fault),
-        None => Ok(()),
+    let secrets = load_named(alloc, named.secrets, MOST_SECRETS, files);
+    if let Some(fault) = load_fault(Input::Secrets, &secrets) {
+        return Err(fault);
     }
+    inputs_of(alloc, &bundles, &keys, &secrets)
 }
