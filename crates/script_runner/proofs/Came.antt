@@ -1,5 +1,6 @@
 -- What was loaded, by the ending that it came to.
-use Rattle.std.proofs.Common.{◌≡◌, ◌⊎◌, inl, inr, refl, sym, ◌∙◌, ap, subst, ℕ, ◌^◌, ◌≤◌, List, [], ◌∷◌, ◌++◌, append-nil, append_assoc, length, suc, Option, Some, None, IfNone, IfOk, Result, Ok, Err, Bool, true, false, ◌==◌, if◌then◌else◌, arith}
+use Rattle.std.proofs.Common.{◌≡◌, ◌≢◌, ◌⊎◌, slice_index, inl, inr, refl, sym, ◌∙◌, ap, subst, ℕ, ◌^◌, ◌≤◌, List, [], ◌∷◌, ◌++◌, append-nil, append_assoc, length, suc, Option, Some, None, IfNone, IfOk, Result, Ok, Err, Bool, true, false, ◌==◌, if◌then◌else◌, arith}
+use Rattle.std.proofs.lemmas.Bool.Decides.{eqb_tells}
 use Rattle.std.specs.Global.{Vec}
 use Rattle.std.specs.declared.alloc.AllocError.{AllocError}
 use Rattle.td_words.specs.Seen.{BundleSeen}
@@ -19,15 +20,36 @@ use Rattle.command_files.specs.declared.inputs.Input.{Input}
 use Rattle.command_files.specs.declared.inputs.Input.TheVariants as input
 use Rattle.command_files.specs.declared.inputs.InputFault.{InputFault}
 use Rattle.command_files.specs.declared.inputs.InputFault.TheVariants as fault
-use Rattle.command_files.specs.Commands.{NamedSeen, CommandSeen, Replay, Check, script_name}
-use Rattle.command_files.specs.Inputs.{Reads, Loads, LoadsNamed, LoadsKeys, TakesInputs, IsDue, due, load_fault, container_fault, keys_fault, place_fault, first}
+use Rattle.command_files.specs.declared.inputs.Inputs.{Inputs}
+use Rattle.command_files.specs.Commands.{NamedSeen, CommandSeen, Replay, Run, Check, named_of, script_name}
+use Rattle.command_files.specs.Inputs.{Reads, Loads, LoadsNamed, LoadsNext, TakesInputs, AreSecrets, IsDue, due, load_fault, unread_fault, form_fault, container_fault, length_fault, keys_fault, secrets_fault, place_fault, first}
 use Rattle.script_runner.specs.declared.ending.Ending.{Ending}
-use Rattle.script_runner.specs.Ending.{ToSave, Ended, opening_of, ending_seen, file_named, usage_end, bad_end, unread_end, memory_end, container_end, keys_end, run_end, success_end, name_in, input_name}
-use Rattle.script_runner.specs.Saving.{named_once, out_names}
+use Rattle.run_texts.specs.Openings.{opening_of}
+use Rattle.script_runner.specs.Ending.{ToSave, Ended, ending_seen, file_named, usage_end, bad_end, unread_end, memory_end, container_end, keys_end, secrets_end, run_end, success_end, name_in, input_name, secrets_named, IsOrderOf}
+use Rattle.script_runner.specs.Saving.{named_once, outs_of, out_names}
 use Rattle.script_runner.specs.Ends.{IsRead}
-use Rattle.script_runner.specs.Done.{LoadsOnce, LoadsFirst, IsFirstFault, IsUnread}
-use Rattle.script_runner.specs.Commanded.{Comes, AnswerEnd, ReadEnd, ScriptEnd, InputsEnd}
+use Rattle.script_runner.specs.Threads.{ThreadsOf}
+use Rattle.script_runner.specs.Done.{LoadsOnce, LoadsFirst, IsFirstFault, IsUnread, AreHandedOut}
+use Rattle.script_runner.specs.Commanded.{Comes, AnswerEnd, ReadEnd, ScriptEnd, NamedEnd, InputsEnd, EndsRun}
+use Rattle.script_runner.proofs.Named.{secrets_of, input_of, success_of}
 use Rattle.script_runner.proofs.Due.{first_cases}
+
+-- the file that an option names was loaded, and hasn't so many bytes
+pub record LengthCame (file : NamedSeen → Option (List ℕ)) (count : ℕ) (f : InputFault) (told : Ended) (c : Option CommandSeen) (r r' : Reads) (e : Ended) : Type 0 where
+  pub command : CommandSeen
+  pub read_as : c ≡ Some command
+  pub options : NamedSeen
+  pub has : named_of command ≡ Some options
+  pub name : List ℕ
+  pub named : file options ≡ Some name
+  pub before : List Loaded
+  pub answer : Result (Vec ℕ) LoadFault
+  pub loaded : LoadsFirst (r.loads ++ before) name answer r'.loads
+  pub wrong : length_fault count f (Some answer) ≡ Some f
+  pub is : e ≡ told
+
+abbrev pub SomeLength : Option CommandSeen → Reads → Reads → Ended → Type 0
+SomeLength c r r' e = LengthCame (λ n. n.keys) 64 fault.Keys keys_end c r r' e ⊎ LengthCame (λ n. n.secrets) 4096 fault.Secrets secrets_end c r r' e
 
 pub data Came (contents : Option (List ℕ → Option (List ℕ))) (c : Option CommandSeen) (r r' : Reads) (e : Ended) : Type 0 where
   Usage : c ≡ None → r'.loads ≡ r.loads → e ≡ usage_end → Came contents c r r' e
@@ -36,12 +58,13 @@ pub data Came (contents : Option (List ℕ → Option (List ℕ))) (c : Option C
   BadScript : (command : CommandSeen) → c ≡ Some command → (answer : Result (Vec ℕ) LoadFault) → LoadsOnce r.loads (script_name command) answer r'.loads
       → (line : ℕ) (reason : Reason) → IsFirstFault answer line reason → e ≡ bad_end line reason → Came contents c r r' e
   Want : (command : CommandSeen) → c ≡ Some command → e ≡ memory_end → Came contents c r r' e
-  Place : (command : NamedSeen) → c ≡ Some (Replay command) → (name : List ℕ) → command.bundles ≡ Some name → (before : List Loaded) (answer : Result (Vec ℕ) LoadFault)
-      → LoadsFirst (r.loads ++ before) name answer r'.loads → (place : ℕ) → container_fault (Some answer) ≡ Some (fault.Container place) → e ≡ container_end place → Came contents c r r' e
-  Keys : (command : NamedSeen) → c ≡ Some (Replay command) → (name : List ℕ) → command.keys ≡ Some name → (before : List Loaded) (answer : Result (Vec ℕ) LoadFault)
-      → LoadsOnce (r.loads ++ before) name answer r'.loads → keys_fault (Some answer) ≡ Some fault.Keys → e ≡ keys_end → Came contents c r r' e
-  Run : (command : CommandSeen) → c ≡ Some command → (given : Vec ℕ) → LoadsFirst r.loads (script_name command) (Ok given) r'.loads
-      → (s : ScriptSeen) → read_of given.items ≡ Ok s → e ≡ success_end command s → Came contents c r r' e
+  Place : (command : CommandSeen) → c ≡ Some command → (options : NamedSeen) → named_of command ≡ Some options → (name : List ℕ) → options.bundles ≡ Some name
+      → (before : List Loaded) (answer : Result (Vec ℕ) LoadFault) → LoadsFirst (r.loads ++ before) name answer r'.loads
+      → (place : ℕ) → container_fault (Some answer) ≡ Some (fault.Container place) → e ≡ container_end place → Came contents c r r' e
+  WrongLength : SomeLength c r r' e → e.status ≡ 7 → e.files ≡ [] → Came contents c r r' e
+  Success : (command : CommandSeen) → c ≡ Some command → (given : Vec ℕ) → LoadsFirst r.loads (script_name command) (Ok given) r'.loads
+      → (s : ScriptSeen) → read_of given.items ≡ Ok s → (secrets : ℕ → ℕ) → AreHandedOut (secrets_named command) r.loads r'.loads secrets
+      → (order : List ℕ) → IsOrderOf command s order → e ≡ success_end command s secrets order → ThreadsOf command s secrets e → Came contents c r r' e
 
 -- ---- counts
 
@@ -80,10 +103,10 @@ more_loads contents most name old a new h = elim (loading contents most name old
   | Once n x named answered l ↦ (_, l.noted)
 ]
 
-more_keys : (contents : Option (List ℕ → Option (List ℕ))) (f : Option InputFault) (name : Option (List ℕ)) (old : Reads) (a : Option (Result (Vec ℕ) LoadFault)) (new : Reads)
-    → LoadsKeys contents f name old a new → (more : List Loaded) × (new.loads ≡ old.loads ++ more)
-more_keys contents None name old a new h = more_loads contents (2 ^ 16) name old a new h
-more_keys contents (Some f) name old a new h = ([], ap (λ (x : Reads). x.loads) h.1 ∙ sym (append-nil old.loads))
+more_next : (contents : Option (List ℕ → Option (List ℕ))) (f : Option InputFault) (name : Option (List ℕ)) (old : Reads) (a : Option (Result (Vec ℕ) LoadFault)) (new : Reads)
+    → LoadsNext contents f name old a new → (more : List Loaded) × (new.loads ≡ old.loads ++ more)
+more_next contents None name old a new h = more_loads contents (2 ^ 16) name old a new h
+more_next contents (Some f) name old a new h = ([], ap (λ (x : Reads). x.loads) h.1 ∙ sym (append-nil old.loads))
 
 pub loads_later : (contents : Option (List ℕ → Option (List ℕ))) (most : ℕ) (name : Option (List ℕ)) (old : Reads) (a : Option (Result (Vec ℕ) LoadFault)) (new : Reads)
     → LoadsNamed contents most name old a new → old.faults ≤ new.faults
@@ -92,10 +115,10 @@ loads_later contents most name old a new h = elim (loading contents most name ol
   | Once n x named answered l ↦ l.later
 ]
 
-pub keys_later : (contents : Option (List ℕ → Option (List ℕ))) (f : Option InputFault) (name : Option (List ℕ)) (old : Reads) (a : Option (Result (Vec ℕ) LoadFault)) (new : Reads)
-    → LoadsKeys contents f name old a new → old.faults ≤ new.faults
-keys_later contents None name old a new h = loads_later contents (2 ^ 16) name old a new h
-keys_later contents (Some f) name old a new h = subst (λ (x : Reads). old.faults ≤ x.faults) (sym h.1) (omega arith)
+pub next_later : (contents : Option (List ℕ → Option (List ℕ))) (f : Option InputFault) (name : Option (List ℕ)) (old : Reads) (a : Option (Result (Vec ℕ) LoadFault)) (new : Reads)
+    → LoadsNext contents f name old a new → old.faults ≤ new.faults
+next_later contents None name old a new h = loads_later contents (2 ^ 16) name old a new h
+next_later contents (Some f) name old a new h = subst (λ (x : Reads). old.faults ≤ x.faults) (sym h.1) (omega arith)
 
 -- a load that handed out nothing, where it isn't told what names have
 loads_rose : (contents : Option (List ℕ → Option (List ℕ))) (most : ℕ) (n : List ℕ) (old : Reads) (x : Result (Vec ℕ) LoadFault) (new : Reads) → Loads contents most n old x new → IsUnread x
@@ -136,147 +159,270 @@ container_at (Some (Err load.TooLong)) f h = (Err load.TooLong, 2 ^ 29, refl, cc
 container_at (Some (Err load.Failed)) f h = absurd (cc)
 container_at (Some (Err load.OutOfMemory)) f h = absurd (cc)
 
-if_keys : (t : Bool) (f : InputFault) → (if t then None else Some fault.Keys) ≡ Some f → f ≡ fault.Keys
-if_keys true f h = absurd (cc)
-if_keys false f h = cc
+if_length : (t : Bool) (g f : InputFault) → (if t then None else Some g) ≡ Some f → f ≡ g
+if_length true g f h = absurd (cc)
+if_length false g f h = cc
 
-pub keys_at : (a : Option (Result (Vec ℕ) LoadFault)) (f : InputFault) → keys_fault a ≡ Some f → (x : Result (Vec ℕ) LoadFault) × (a ≡ Some x) × (f ≡ fault.Keys)
-keys_at None f h = absurd (cc)
-keys_at (Some (Ok v)) f h = (Ok v, refl, if_keys (length v.items == 64) f h)
-keys_at (Some (Err load.Absent)) f h = absurd (cc)
-keys_at (Some (Err load.TooLong)) f h = (Err load.TooLong, refl, cc)
-keys_at (Some (Err load.Failed)) f h = absurd (cc)
-keys_at (Some (Err load.OutOfMemory)) f h = absurd (cc)
+pub length_at : (count : ℕ) (g : InputFault) (a : Option (Result (Vec ℕ) LoadFault)) (f : InputFault) → length_fault count g a ≡ Some f → (x : Result (Vec ℕ) LoadFault) × (a ≡ Some x) × (f ≡ g)
+length_at count g None f h = absurd (cc)
+length_at count g (Some (Ok v)) f h = (Ok v, refl, if_length (length v.items == count) g f h)
+length_at count g (Some (Err load.Absent)) f h = absurd (cc)
+length_at count g (Some (Err load.TooLong)) f h = (Err load.TooLong, refl, cc)
+length_at count g (Some (Err load.Failed)) f h = absurd (cc)
+length_at count g (Some (Err load.OutOfMemory)) f h = absurd (cc)
 
 -- which of the inputs has the fault that is due
-pub data Faulty (bundles keys : Option (Result (Vec ℕ) LoadFault)) (f : InputFault) : Type 0 where
-  Bundles : load_fault input.Bundles bundles ≡ Some f → Faulty bundles keys f
-  KeyFile : load_fault input.Bundles bundles ≡ None → load_fault input.Keys keys ≡ Some f → Faulty bundles keys f
-  Form : load_fault input.Bundles bundles ≡ None → load_fault input.Keys keys ≡ None → container_fault bundles ≡ Some f → Faulty bundles keys f
-  Length64 : load_fault input.Bundles bundles ≡ None → load_fault input.Keys keys ≡ None → container_fault bundles ≡ None → keys_fault keys ≡ Some f → Faulty bundles keys f
+pub data Faulty (bundles keys secrets : Option (Result (Vec ℕ) LoadFault)) (f : InputFault) : Type 0 where
+  Bundles : load_fault input.Bundles bundles ≡ Some f → Faulty bundles keys secrets f
+  KeyFile : load_fault input.Bundles bundles ≡ None → load_fault input.Keys keys ≡ Some f → Faulty bundles keys secrets f
+  SecretsFile : load_fault input.Bundles bundles ≡ None → load_fault input.Keys keys ≡ None → load_fault input.Secrets secrets ≡ Some f → Faulty bundles keys secrets f
+  Form : unread_fault bundles keys secrets ≡ None → container_fault bundles ≡ Some f → Faulty bundles keys secrets f
+  Length64 : unread_fault bundles keys secrets ≡ None → keys_fault keys ≡ Some f → Faulty bundles keys secrets f
+  Length4096 : unread_fault bundles keys secrets ≡ None → secrets_fault secrets ≡ Some f → Faulty bundles keys secrets f
 
-pub faulty : (bundles keys : Option (Result (Vec ℕ) LoadFault)) (f : InputFault) → due bundles keys ≡ Some f → Faulty bundles keys f
-faulty bundles keys f h = by (first_cases _ _ f h)
+-- neither of two faults
+pub first_none : (x y : Option InputFault) → first x y ≡ None → (x ≡ None) × (y ≡ None)
+first_none None y h = (refl, h)
+first_none (Some g) y h = absurd (cc)
+
+-- each input was read
+pub all_read : (bundles keys secrets : Option (Result (Vec ℕ) LoadFault)) → unread_fault bundles keys secrets ≡ None
+    → (load_fault input.Bundles bundles ≡ None) × (load_fault input.Keys keys ≡ None) × (load_fault input.Secrets secrets ≡ None)
+all_read bundles keys secrets h =
+    let (b, more) = first_none _ _ h in
+    let (k, s) = first_none _ _ more in
+    (b, k, s)
+
+pub faulty : (bundles keys secrets : Option (Result (Vec ℕ) LoadFault)) (f : InputFault) → due bundles keys secrets ≡ Some f → Faulty bundles keys secrets f
+faulty bundles keys secrets f h = by (first_cases _ _ f h)
   where
-    third : load_fault input.Bundles bundles ≡ None → load_fault input.Keys keys ≡ None → (container_fault bundles ≡ Some f) ⊎ ((container_fault bundles ≡ None) × (keys_fault keys ≡ Some f))
-        → Faulty bundles keys f
-    third b k (inl x) = Form b k x
-    third b k (inr x) = Length64 b k x.0 x.1
+    lengths : unread_fault bundles keys secrets ≡ None → (keys_fault keys ≡ Some f) ⊎ ((keys_fault keys ≡ None) × (secrets_fault secrets ≡ Some f)) → Faulty bundles keys secrets f
+    lengths none (inl x) = Length64 none x
+    lengths none (inr x) = Length4096 none x.1
 
-    second : load_fault input.Bundles bundles ≡ None → (load_fault input.Keys keys ≡ Some f) ⊎ ((load_fault input.Keys keys ≡ None) × (first (container_fault bundles) (keys_fault keys) ≡ Some f))
-        → Faulty bundles keys f
-    second b (inl x) = KeyFile b x
-    second b (inr x) = third b x.0 (first_cases _ _ f x.1)
+    forms : unread_fault bundles keys secrets ≡ None → (container_fault bundles ≡ Some f) ⊎ ((container_fault bundles ≡ None) × (first (keys_fault keys) (secrets_fault secrets) ≡ Some f)) → Faulty bundles keys secrets f
+    forms none (inl x) = Form none x
+    forms none (inr x) = lengths none (first_cases _ _ f x.1)
 
-    by : (load_fault input.Bundles bundles ≡ Some f) ⊎ ((load_fault input.Bundles bundles ≡ None) × (first (load_fault input.Keys keys) (first (container_fault bundles) (keys_fault keys)) ≡ Some f))
-        → Faulty bundles keys f
-    by (inl x) = Bundles x
-    by (inr x) = second x.0 (first_cases _ _ f x.1)
+    later : load_fault input.Bundles bundles ≡ None → (load_fault input.Keys keys ≡ Some f) ⊎ ((load_fault input.Keys keys ≡ None) × (load_fault input.Secrets secrets ≡ Some f)) → Faulty bundles keys secrets f
+    later b (inl x) = KeyFile b x
+    later b (inr x) = SecretsFile b x.0 x.1
+
+    unread : (load_fault input.Bundles bundles ≡ Some f) ⊎ ((load_fault input.Bundles bundles ≡ None) × (first (load_fault input.Keys keys) (load_fault input.Secrets secrets) ≡ Some f)) → Faulty bundles keys secrets f
+    unread (inl x) = Bundles x
+    unread (inr x) = later x.0 (first_cases _ _ f x.1)
+
+    by : (unread_fault bundles keys secrets ≡ Some f) ⊎ ((unread_fault bundles keys secrets ≡ None) × (form_fault bundles keys secrets ≡ Some f)) → Faulty bundles keys secrets f
+    by (inl x) = unread (first_cases _ _ f x)
+    by (inr x) = forms x.0 (first_cases _ _ f x.1)
+
+-- ---- secret words
+
+length_right : (v : Vec ℕ) → secrets_fault (Some (Ok v)) ≡ None → length v.items ≡ 4096
+length_right v h = by (eqb_tells (length v.items) 4096)
+  where
+    by : (((length v.items == 4096) ≡ true) × (length v.items ≡ 4096)) ⊎ (((length v.items == 4096) ≡ false) × (length v.items ≢ 4096)) → length v.items ≡ 4096
+    by (inl t) = t.1
+    by (inr t) =
+        let h' : Some fault.Secrets ≡ None = subst (λ (x : Bool). (if x then None else Some fault.Secrets) ≡ None) t.0 h in
+        absurd (cc)
+
+-- the words that were taken are those that the last load handed out
+handed : (contents : Option (List ℕ → Option (List ℕ))) (name : Option (List ℕ)) (old : Reads) (a : Option (Result (Vec ℕ) LoadFault)) (new : Reads) → LoadsNamed contents (2 ^ 16) name old a new
+    → load_fault input.Secrets a ≡ None → secrets_fault a ≡ None → (loads more : List Loaded) → old.loads ≡ loads ++ more → (words : List ℕ) → AreSecrets a words
+    → AreHandedOut name loads new.loads (slice_index words)
+handed contents None old None new l fine right loads more grew words w = λ i. w.each i
+handed contents None old (Some x) new l fine right loads more grew words w = absurd l
+handed contents (Some n) old None new l fine right loads more grew words w = absurd l
+handed contents (Some n) old (Some (Ok v)) new l fine right loads more grew words w =
+    (more, v, l.noted ∙ ap (λ (z : List Loaded). z ++ record { name = n; answer = Ok v } ∷ []) grew, length_right v right, λ i. w.each i)
+handed contents (Some n) old (Some (Err load.Absent)) new l fine right loads more grew words w = absurd (cc)
+handed contents (Some n) old (Some (Err load.TooLong)) new l fine right loads more grew words w = absurd (cc)
+handed contents (Some n) old (Some (Err load.Failed)) new l fine right loads more grew words w = absurd (cc)
+handed contents (Some n) old (Some (Err load.OutOfMemory)) new l fine right loads more grew words w = absurd (cc)
 
 -- ---- the whole
 
-module _ (contents : Option (List ℕ → Option (List ℕ))) (c : NamedSeen) (r b r' : Reads) (given : Vec ℕ) (loaded : Loads contents (2 ^ 24) c.script r (Ok given) b) where
+module _ (contents : Option (List ℕ → Option (List ℕ))) (k : CommandSeen) (c : NamedSeen) (has : named_of k ≡ Some c) (r b r' : Reads) (given : Vec ℕ)
+    (loaded : Loads contents (2 ^ 24) (script_name k) r (Ok given) b) where
   abbrev script_load : Loaded
-  script_load = record { name = c.script; answer = Ok given }
+  script_load = record { name = script_name k; answer = Ok given }
 
   -- the named input was loaded behind the script and some others, and couldn't be read
   input_unread : (i : Input) (name : Option (List ℕ)) (most : ℕ) (mid now : Reads) (a : Option (Result (Vec ℕ) LoadFault)) (more : List Loaded) (e : Ended)
-      → name_in name ≡ input_name c i → ((n : List ℕ) → name ≡ Some n → IsRead (Replay c) n) → mid.loads ≡ b.loads ++ more → b.faults ≤ mid.faults → Loading contents most name mid a now → r' ≡ now
-      → (x : Result (Vec ℕ) LoadFault) → a ≡ Some x → IsUnread x → e ≡ unread_end (input_name c i) → Came contents (Some (Replay c)) r r' e
+      → name_in name ≡ input_name c i → ((n : List ℕ) → name ≡ Some n → IsRead k n) → mid.loads ≡ b.loads ++ more → b.faults ≤ mid.faults → Loading contents most name mid a now → r' ≡ now
+      → (x : Result (Vec ℕ) LoadFault) → a ≡ Some x → IsUnread x → e ≡ unread_end (input_name c i) → Came contents (Some k) r r' e
   input_unread i name most mid now a more e is_name named grew later (Not no_name none same) at x answered unread is = absurd (cc)
   input_unread i name most mid now a more e is_name named grew later (Once n y is_n is_y l) at x answered unread is =
       let same : y ≡ x = cc in
       let u : IsUnread y = subst IsUnread (sym same) unread in
       let grown : mid.loads ≡ r.loads ++ (script_load ∷ more) = grew ∙ ap (λ (z : List Loaded). z ++ more) loaded.noted ∙ append_assoc r.loads (script_load ∷ []) more in
-      Unread (Replay c) refl n (named n is_n) (script_load ∷ more) y
+      Unread k refl n (named n is_n) (script_load ∷ more) y
       (ap (λ (z : Reads). z.loads) at ∙ l.noted ∙ ap (λ (z : List Loaded). z ++ record { name = n; answer = y } ∷ []) grown)
       u
       (if_none contents (λ (z : Rose mid.faults now.faults). subst (λ (q : Reads). Rose r.faults q.faults) (sym at) (rose_earlier r.faults mid.faults now.faults (omega (arith, loaded.later, later)) z)) (loads_rose contents most n mid y now l u))
       (is ∙ ap unread_end (sym is_name ∙ ap name_in is_n))
 
+  -- the named file was loaded behind the script and some others, and hasn't its length
+  input_length : (file : NamedSeen → Option (List ℕ)) (count : ℕ) (g : InputFault) (told : Ended) (mid now : Reads) (a : Option (Result (Vec ℕ) LoadFault)) (more rest : List Loaded) (e : Ended)
+      → mid.loads ≡ b.loads ++ more → Loading contents (2 ^ 16) (file c) mid a now → r'.loads ≡ now.loads ++ rest → length_fault count g a ≡ Some g → e ≡ told → LengthCame file count g told (Some k) r r' e
+  input_length file count g told mid now a more rest e grew (Not no_name none same) then_more h is = let (x, answered, wrong) = length_at count g a g h in absurd (cc)
+  input_length file count g told mid now a more rest e grew (Once n x is_n answered l) then_more h is = record {
+    command = k;
+    read_as = refl;
+    options = c;
+    has = has;
+    name = n;
+    named = is_n;
+    before = script_load ∷ more;
+    answer = x;
+    loaded = (
+      rest,
+      then_more ∙ ap (λ (z : List Loaded). z ++ rest) (l.noted ∙ ap (λ (z : List Loaded). z ++ record { name = n; answer = x } ∷ []) (grew ∙ ap (λ (z : List Loaded). z ++ more) loaded.noted ∙ append_assoc r.loads (script_load ∷ []) more))
+          ∙ append_assoc (r.loads ++ script_load ∷ more) (record { name = n; answer = x } ∷ []) rest,
+    );
+    wrong = subst (λ (z : Option (Result (Vec ℕ) LoadFault)). length_fault count g z ≡ Some g) answered h;
+    is = is;
+  }
+
   -- what the inputs of a script came to
-  inputs_came : (s : ScriptSeen) (res : Result (Unit {0}) InputFault) (e : Ended) → read_of given.items ≡ Ok s → TakesInputs contents c b r' res → InputsEnd c s res e → Came contents (Some (Replay c)) r r' e
-  inputs_came s res e reads t ends = by res t.is_due ends
+  inputs_came : (s : ScriptSeen) (res : Result Inputs InputFault) (e : Ended) → read_of given.items ≡ Ok s → TakesInputs contents c b r' res → InputsEnd k c s res e → Came contents (Some k) r r' e
+  inputs_came s res e reads t ends = by res t.is_due t.words ends
     where
-      bundles_more : (more : List Loaded) × (t.between.loads ≡ b.loads ++ more)
-      bundles_more = more_loads contents (2 ^ 29) c.bundles b t.bundles t.between t.first_loaded
+      bundles_more : (more : List Loaded) × (t.behind_bundles.loads ≡ b.loads ++ more)
+      bundles_more = more_loads contents (2 ^ 29) c.bundles b t.bundles t.behind_bundles t.bundles_loaded
 
-      keys_more : (more : List Loaded) × (r'.loads ≡ t.between.loads ++ more)
-      keys_more = more_keys contents (load_fault input.Bundles t.bundles) c.keys t.between t.keys r' t.then_loaded
+      keys_more : (more : List Loaded) × (t.behind_keys.loads ≡ t.behind_bundles.loads ++ more)
+      keys_more = more_next contents (load_fault input.Bundles t.bundles) c.keys t.behind_bundles t.keys t.behind_keys t.keys_loaded
 
-      keys_named : load_fault input.Bundles t.bundles ≡ None → LoadsNamed contents (2 ^ 16) c.keys t.between t.keys r'
-      keys_named none = subst (λ (x : Option InputFault). LoadsKeys contents x c.keys t.between t.keys r') none t.then_loaded
+      secrets_more : (more : List Loaded) × (r'.loads ≡ t.behind_keys.loads ++ more)
+      secrets_more = more_next contents (first (load_fault input.Bundles t.bundles) (load_fault input.Keys t.keys)) c.secrets t.behind_keys t.secrets r' t.secrets_loaded
 
-      keys_not : (f : InputFault) → load_fault input.Bundles t.bundles ≡ Some f → r' ≡ t.between
+      -- the first two are loaded behind the script
+      both_more : t.behind_keys.loads ≡ b.loads ++ (bundles_more.0 ++ keys_more.0)
+      both_more = keys_more.1 ∙ ap (λ (z : List Loaded). z ++ keys_more.0) bundles_more.1 ∙ append_assoc b.loads bundles_more.0 keys_more.0
+
+      bundles_later : b.faults ≤ t.behind_bundles.faults
+      bundles_later = loads_later contents (2 ^ 29) c.bundles b t.bundles t.behind_bundles t.bundles_loaded
+
+      both_later : b.faults ≤ t.behind_keys.faults
+      both_later = let q = next_later contents (load_fault input.Bundles t.bundles) c.keys t.behind_bundles t.keys t.behind_keys t.keys_loaded in let p = bundles_later in omega (arith, p, q)
+
+      keys_named : load_fault input.Bundles t.bundles ≡ None → LoadsNamed contents (2 ^ 16) c.keys t.behind_bundles t.keys t.behind_keys
+      keys_named none = subst (λ (x : Option InputFault). LoadsNext contents x c.keys t.behind_bundles t.keys t.behind_keys) none t.keys_loaded
+
+      keys_not : (f : InputFault) → load_fault input.Bundles t.bundles ≡ Some f → t.behind_keys ≡ t.behind_bundles
       keys_not f some =
-          let h : LoadsKeys contents (Some f) c.keys t.between t.keys r' = subst (λ (x : Option InputFault). LoadsKeys contents x c.keys t.between t.keys r') some t.then_loaded in
+          let h : LoadsNext contents (Some f) c.keys t.behind_bundles t.keys t.behind_keys = subst (λ (x : Option InputFault). LoadsNext contents x c.keys t.behind_bundles t.keys t.behind_keys) some t.keys_loaded in
           h.1
 
-      run : e ≡ run_end c s → Came contents (Some (Replay c)) r r' e
-      run is =
-          Run (Replay c) refl given (
-            bundles_more.0 ++ keys_more.0,
-            keys_more.1 ∙ ap (λ (z : List Loaded). z ++ keys_more.0) (bundles_more.1 ∙ ap (λ (z : List Loaded). z ++ bundles_more.0) loaded.noted)
-                ∙ append_assoc (r.loads ++ script_load ∷ []) bundles_more.0 keys_more.0 ∙ append_assoc r.loads (script_load ∷ []) (bundles_more.0 ++ keys_more.0),
-          )
-          s reads is
+      secrets_named_at : load_fault input.Bundles t.bundles ≡ None → load_fault input.Keys t.keys ≡ None → LoadsNamed contents (2 ^ 16) c.secrets t.behind_keys t.secrets r'
+      secrets_named_at none none' =
+          subst (λ (x : Option InputFault). LoadsNext contents x c.secrets t.behind_keys t.secrets r') (ap (λ (x : Option InputFault). first x (load_fault input.Keys t.keys)) none ∙ none') t.secrets_loaded
 
-      unread : (i : Input) → Faulty t.bundles t.keys (fault.Unread i) → e ≡ unread_end (input_name c i) → Came contents (Some (Replay c)) r r' e
+      secrets_not : (f : InputFault) → first (load_fault input.Bundles t.bundles) (load_fault input.Keys t.keys) ≡ Some f → r' ≡ t.behind_keys
+      secrets_not f some =
+          let h : LoadsNext contents (Some f) c.secrets t.behind_keys t.secrets r' = subst (λ (x : Option InputFault). LoadsNext contents x c.secrets t.behind_keys t.secrets r') some t.secrets_loaded in
+          h.1
+
+      run : (inputs : Inputs) → due t.bundles t.keys t.secrets ≡ None → AreSecrets t.secrets inputs.secrets.items → EndsRun k c s (slice_index inputs.secrets.items) e → Came contents (Some k) r r' e
+      run inputs none words (order, is_order, is, threads) =
+          let (unread, form) = first_none _ _ none in
+          let (fine, fine', fine'') = all_read t.bundles t.keys t.secrets unread in
+          let lengths = (first_none _ _ form).1 in
+          Success k refl given (
+            (bundles_more.0 ++ keys_more.0) ++ secrets_more.0,
+            secrets_more.1 ∙ ap (λ (z : List Loaded). z ++ secrets_more.0) (both_more ∙ ap (λ (z : List Loaded). z ++ (bundles_more.0 ++ keys_more.0)) loaded.noted)
+                ∙ append_assoc (r.loads ++ script_load ∷ []) (bundles_more.0 ++ keys_more.0) secrets_more.0
+                ∙ append_assoc r.loads (script_load ∷ []) ((bundles_more.0 ++ keys_more.0) ++ secrets_more.0),
+          )
+          s reads (slice_index inputs.secrets.items)
+          (subst (λ (x : Option (List ℕ)). AreHandedOut x r.loads r'.loads (slice_index inputs.secrets.items)) (sym (secrets_of k c has))
+          (handed contents c.secrets t.behind_keys t.secrets r' (secrets_named_at fine fine') fine'' (first_none _ _ lengths).1 r.loads (script_load ∷ (bundles_more.0 ++ keys_more.0))
+          (both_more ∙ ap (λ (z : List Loaded). z ++ (bundles_more.0 ++ keys_more.0)) loaded.noted ∙ append_assoc r.loads (script_load ∷ []) (bundles_more.0 ++ keys_more.0))
+          inputs.secrets.items words))
+          order is_order (is ∙ sym (success_of k c s (slice_index inputs.secrets.items) order has)) threads
+
+      unread : (i : Input) → Faulty t.bundles t.keys t.secrets (fault.Unread i) → e ≡ unread_end (input_name c i) → Came contents (Some k) r r' e
       unread i (Bundles h) is =
           let (x, answered, u, same) = unread_some input.Bundles i t.bundles h in
-          input_unread input.Bundles c.bundles (2 ^ 29) b t.between t.bundles [] e refl (λ n q. inr (inl q)) (sym (append-nil b.loads)) (omega arith)
-          (loading contents (2 ^ 29) c.bundles b t.bundles t.between t.first_loaded) (keys_not _ h) x answered u (is ∙ ap (λ (z : Input). unread_end (input_name c z)) same)
+          input_unread input.Bundles c.bundles (2 ^ 29) b t.behind_bundles t.bundles [] e refl (λ n q. inr (input_of k c n has (inl q))) (sym (append-nil b.loads)) (omega arith)
+          (loading contents (2 ^ 29) c.bundles b t.bundles t.behind_bundles t.bundles_loaded)
+          (secrets_not _ (ap (λ (x : Option InputFault). first x (load_fault input.Keys t.keys)) h) ∙ keys_not _ h) x answered u (is ∙ ap (λ (z : Input). unread_end (input_name c z)) same)
       unread i (KeyFile none h) is =
           let (x, answered, u, same) = unread_some input.Keys i t.keys h in
-          input_unread input.Keys c.keys (2 ^ 16) t.between r' t.keys bundles_more.0 e refl (λ n q. inr (inr q)) bundles_more.1
-          (loads_later contents (2 ^ 29) c.bundles b t.bundles t.between t.first_loaded)
-          (loading contents (2 ^ 16) c.keys t.between t.keys r' (keys_named none)) refl x answered u (is ∙ ap (λ (z : Input). unread_end (input_name c z)) same)
-      unread i (Form none none' h) is = let (x, place, answered, wrong) = container_at t.bundles _ h in absurd (cc)
-      unread i (Length64 none none' none'' h) is = let (x, answered, wrong) = keys_at t.keys _ h in absurd (cc)
+          input_unread input.Keys c.keys (2 ^ 16) t.behind_bundles t.behind_keys t.keys bundles_more.0 e refl (λ n q. inr (input_of k c n has (inr (inl q)))) bundles_more.1 bundles_later
+          (loading contents (2 ^ 16) c.keys t.behind_bundles t.keys t.behind_keys (keys_named none))
+          (secrets_not _ (ap (λ (x : Option InputFault). first x (load_fault input.Keys t.keys)) none ∙ h)) x answered u (is ∙ ap (λ (z : Input). unread_end (input_name c z)) same)
+      unread i (SecretsFile none none' h) is =
+          let (x, answered, u, same) = unread_some input.Secrets i t.secrets h in
+          input_unread input.Secrets c.secrets (2 ^ 16) t.behind_keys r' t.secrets (bundles_more.0 ++ keys_more.0) e refl (λ n q. inr (input_of k c n has (inr (inr q)))) both_more both_later
+          (loading contents (2 ^ 16) c.secrets t.behind_keys t.secrets r' (secrets_named_at none none')) refl x answered u (is ∙ ap (λ (z : Input). unread_end (input_name c z)) same)
+      unread i (Form none h) is = let (x, place, answered, wrong) = container_at t.bundles _ h in absurd (cc)
+      unread i (Length64 none h) is = let (x, answered, wrong) = length_at 64 fault.Keys t.keys _ h in absurd (cc)
+      unread i (Length4096 none h) is = let (x, answered, wrong) = length_at 4096 fault.Secrets t.secrets _ h in absurd (cc)
 
-      place_of : (place : ℕ) → container_fault t.bundles ≡ Some (fault.Container place) → Loading contents (2 ^ 29) c.bundles b t.bundles t.between → e ≡ container_end place → Came contents (Some (Replay c)) r r' e
+      place_of : (place : ℕ) → container_fault t.bundles ≡ Some (fault.Container place) → Loading contents (2 ^ 29) c.bundles b t.bundles t.behind_bundles → e ≡ container_end place → Came contents (Some k) r r' e
       place_of place h (Not no_name none same) is = let (x, p, answered, wrong) = container_at t.bundles _ h in absurd (cc)
       place_of place h (Once n x named answered l) is =
-          Place c refl n named (script_load ∷ []) x (
-            keys_more.0,
-            keys_more.1 ∙ ap (λ (z : List Loaded). z ++ keys_more.0) (l.noted ∙ ap (λ (z : List Loaded). z ++ record { name = n; answer = x } ∷ []) loaded.noted)
-                ∙ append_assoc (r.loads ++ script_load ∷ []) (record { name = n; answer = x } ∷ []) keys_more.0,
+          Place k refl c has n named (script_load ∷ []) x (
+            keys_more.0 ++ secrets_more.0,
+            secrets_more.1
+                ∙ ap (λ (z : List Loaded). z ++ secrets_more.0) (keys_more.1 ∙ ap (λ (z : List Loaded). z ++ keys_more.0) (l.noted ∙ ap (λ (z : List Loaded). z ++ record { name = n; answer = x } ∷ []) loaded.noted))
+                ∙ append_assoc ((r.loads ++ script_load ∷ []) ++ record { name = n; answer = x } ∷ []) keys_more.0 secrets_more.0
+                ∙ append_assoc (r.loads ++ script_load ∷ []) (record { name = n; answer = x } ∷ []) (keys_more.0 ++ secrets_more.0),
           )
           place (subst (λ (z : Option (Result (Vec ℕ) LoadFault)). container_fault z ≡ Some (fault.Container place)) answered h) is
 
-      container : (place : ℕ) → Faulty t.bundles t.keys (fault.Container place) → e ≡ container_end place → Came contents (Some (Replay c)) r r' e
+      container : (place : ℕ) → Faulty t.bundles t.keys t.secrets (fault.Container place) → e ≡ container_end place → Came contents (Some k) r r' e
       container place (Bundles h) is = elim (load_unread input.Bundles _ t.bundles h) [ inl x ↦ absurd (cc) | inr x ↦ absurd (cc) ]
       container place (KeyFile none h) is = elim (load_unread input.Keys _ t.keys h) [ inl x ↦ absurd (cc) | inr x ↦ absurd (cc) ]
-      container place (Form none none' h) is = place_of place h (loading contents (2 ^ 29) c.bundles b t.bundles t.between t.first_loaded) is
-      container place (Length64 none none' none'' h) is = let (x, answered, wrong) = keys_at t.keys _ h in absurd (cc)
+      container place (SecretsFile none none' h) is = elim (load_unread input.Secrets _ t.secrets h) [ inl x ↦ absurd (cc) | inr x ↦ absurd (cc) ]
+      container place (Form none h) is = place_of place h (loading contents (2 ^ 29) c.bundles b t.bundles t.behind_bundles t.bundles_loaded) is
+      container place (Length64 none h) is = let (x, answered, wrong) = length_at 64 fault.Keys t.keys _ h in absurd (cc)
+      container place (Length4096 none h) is = let (x, answered, wrong) = length_at 4096 fault.Secrets t.secrets _ h in absurd (cc)
 
-      keys_of : keys_fault t.keys ≡ Some fault.Keys → Loading contents (2 ^ 16) c.keys t.between t.keys r' → e ≡ keys_end → Came contents (Some (Replay c)) r r' e
-      keys_of h (Not no_name none same) is = let (x, answered, wrong) = keys_at t.keys _ h in absurd (cc)
-      keys_of h (Once n x named answered l) is =
-          Keys c refl n named (script_load ∷ bundles_more.0) x
-          (l.noted ∙ ap (λ (z : List Loaded). z ++ record { name = n; answer = x } ∷ [])
-          (bundles_more.1 ∙ ap (λ (z : List Loaded). z ++ bundles_more.0) loaded.noted ∙ append_assoc r.loads (script_load ∷ []) bundles_more.0))
-          (subst (λ (z : Option (Result (Vec ℕ) LoadFault)). keys_fault z ≡ Some fault.Keys) answered h) is
-
-      keys : Faulty t.bundles t.keys fault.Keys → e ≡ keys_end → Came contents (Some (Replay c)) r r' e
+      keys : Faulty t.bundles t.keys t.secrets fault.Keys → e ≡ keys_end → Came contents (Some k) r r' e
       keys (Bundles h) is = elim (load_unread input.Bundles _ t.bundles h) [ inl x ↦ absurd (cc) | inr x ↦ absurd (cc) ]
       keys (KeyFile none h) is = elim (load_unread input.Keys _ t.keys h) [ inl x ↦ absurd (cc) | inr x ↦ absurd (cc) ]
-      keys (Form none none' h) is = let (x, place, answered, wrong) = container_at t.bundles _ h in absurd (cc)
-      keys (Length64 none none' none'' h) is = keys_of h (loading contents (2 ^ 16) c.keys t.between t.keys r' (keys_named none)) is
+      keys (SecretsFile none none' h) is = elim (load_unread input.Secrets _ t.secrets h) [ inl x ↦ absurd (cc) | inr x ↦ absurd (cc) ]
+      keys (Form none h) is = let (x, place, answered, wrong) = container_at t.bundles _ h in absurd (cc)
+      keys (Length64 none h) is =
+          WrongLength
+          (inl (input_length (λ n. n.keys) 64 fault.Keys keys_end t.behind_bundles t.behind_keys t.keys bundles_more.0 secrets_more.0 e bundles_more.1
+          (loading contents (2 ^ 16) c.keys t.behind_bundles t.keys t.behind_keys (keys_named (all_read t.bundles t.keys t.secrets none).0)) secrets_more.1 h is))
+          (ap (λ (x : Ended). x.status) is) (ap (λ (x : Ended). x.files) is)
+      keys (Length4096 none h) is = let (x, answered, wrong) = length_at 4096 fault.Secrets t.secrets _ h in absurd (cc)
 
-      by : (q : Result (Unit {0}) InputFault) → IsDue (due t.bundles t.keys) q → InputsEnd c s q e → Came contents (Some (Replay c)) r r' e
-      by (Ok z) d is = run is
-      by (Err (fault.Unread i)) d is = unread i (faulty t.bundles t.keys _ d) is
-      by (Err (fault.Container place)) d is = container place (faulty t.bundles t.keys _ d) is
-      by (Err fault.Keys) d is = keys (faulty t.bundles t.keys _ d) is
-      by (Err fault.OutOfMemory) d is = absurd is
+      secrets : Faulty t.bundles t.keys t.secrets fault.Secrets → e ≡ secrets_end → Came contents (Some k) r r' e
+      secrets (Bundles h) is = elim (load_unread input.Bundles _ t.bundles h) [ inl x ↦ absurd (cc) | inr x ↦ absurd (cc) ]
+      secrets (KeyFile none h) is = elim (load_unread input.Keys _ t.keys h) [ inl x ↦ absurd (cc) | inr x ↦ absurd (cc) ]
+      secrets (SecretsFile none none' h) is = elim (load_unread input.Secrets _ t.secrets h) [ inl x ↦ absurd (cc) | inr x ↦ absurd (cc) ]
+      secrets (Form none h) is = let (x, place, answered, wrong) = container_at t.bundles _ h in absurd (cc)
+      secrets (Length64 none h) is = let (x, answered, wrong) = length_at 64 fault.Keys t.keys _ h in absurd (cc)
+      secrets (Length4096 none h) is =
+          let (fine, fine', fine'') = all_read t.bundles t.keys t.secrets none in
+          WrongLength
+          (inr (input_length (λ n. n.secrets) 4096 fault.Secrets secrets_end t.behind_keys r' t.secrets (bundles_more.0 ++ keys_more.0) [] e both_more
+          (loading contents (2 ^ 16) c.secrets t.behind_keys t.secrets r' (secrets_named_at fine fine')) (sym (append-nil r'.loads)) h is))
+          (ap (λ (x : Ended). x.status) is) (ap (λ (x : Ended). x.files) is)
+
+      by : (q : Result Inputs InputFault) → IsDue (due t.bundles t.keys t.secrets) q → IfOk q (λ inputs. AreSecrets t.secrets inputs.secrets.items) → InputsEnd k c s q e → Came contents (Some k) r r' e
+      by (Ok inputs) d words is = run inputs d words is
+      by (Err (fault.Unread i)) d words is = unread i (faulty t.bundles t.keys t.secrets _ d) is
+      by (Err (fault.Container place)) d words is = container place (faulty t.bundles t.keys t.secrets _ d) is
+      by (Err fault.Keys) d words is = keys (faulty t.bundles t.keys t.secrets _ d) is
+      by (Err fault.Secrets) d words is = secrets (faulty t.bundles t.keys t.secrets _ d) is
+      by (Err fault.OutOfMemory) d words is = absurd is
 
 module _ (contents : Option (List ℕ → Option (List ℕ))) (c : CommandSeen) (r b r' : Reads) (e : Ended) where
   -- what a script in the grammar came to
   script_came : (k : CommandSeen) (given : Vec ℕ) (s : ScriptSeen) → Loads contents (2 ^ 24) (script_name k) r (Ok given) b → read_of given.items ≡ Ok s → ScriptEnd contents k s b r' e
       → Came contents (Some k) r r' e
-  script_came (Replay n) given s loaded reads (res, takes, ends) = inputs_came contents n r b r' given loaded s res e reads takes ends
-  script_came (Check name) given s loaded reads (same, is) = Run (Check name) refl given ([], ap (λ (z : Reads). z.loads) same ∙ loaded.noted) s reads is
+  script_came (Replay n) given s loaded reads (res, takes, ends) = inputs_came contents (Replay n) n refl r b r' given loaded s res e reads takes ends
+  script_came (Run n) given s loaded reads (res, takes, ends) = inputs_came contents (Run n) n refl r b r' given loaded s res e reads takes ends
+  script_came (Check name) given s loaded reads (same, is) =
+      Success (Check name) refl given ([], ap (λ (z : Reads). z.loads) same ∙ loaded.noted) s reads (λ i. 0) (λ i. refl) [] tt is tt
 
   -- what a script that was loaded came to
   read_came : (given : Vec ℕ) (read : Result ScriptSeen ScriptFault) → Loads contents (2 ^ 24) (script_name c) r (Ok given) b → read_of given.items ≡ read → ReadEnd contents c b r' read e
@@ -315,23 +461,32 @@ both_few : (a b : Option (List ℕ)) (x y : List ℕ) → length (file_named a x
 both_few None b x y = named_few b y
 both_few (Some n) b x y = ap suc (named_few b y)
 
-success_few : (k : CommandSeen) (s : ScriptSeen) → length (success_end k s).files ≤ length (out_names (Some k))
-success_few (Replay n) s = let q = both_few n.out_bundles n.guest_out (container_bytes []) (guest_text (opening_of s) s.schedule) in omega (arith, q)
-success_few (Check name) s = omega arith
+run_few : (n : NamedSeen) (s : ScriptSeen) (secrets : ℕ → ℕ) (order : List ℕ) → length (run_end n s secrets order).files ≤ length (outs_of n)
+run_few n s secrets order = let q = both_few n.out_bundles n.guest_out (container_bytes []) (guest_text (opening_of secrets s) order) in omega (arith, q)
+
+success_few : (k : CommandSeen) (s : ScriptSeen) (secrets : ℕ → ℕ) (order : List ℕ) → length (success_end k s secrets order).files ≤ length (out_names (Some k))
+success_few (Replay n) s secrets order = run_few n s secrets order
+success_few (Run n) s secrets order = run_few n s secrets order
+success_few (Check name) s secrets order = omega arith
 
 pub files_few : (contents : Option (List ℕ → Option (List ℕ))) (c : Option CommandSeen) (r r' : Reads) (e : Ended) → Came contents c r r' e → length e.files ≤ length (out_names c)
 files_few contents c r r' e (Usage none same is) = no_files (ap (λ (x : Ended). x.files) is)
 files_few contents c r r' e (Unread k is_c n named before answer loaded u rose is) = no_files (ap (λ (x : Ended). x.files) is)
 files_few contents c r r' e (BadScript k is_c answer loaded line reason first is) = no_files (ap (λ (x : Ended). x.files) is)
 files_few contents c r r' e (Want k is_c is) = no_files (ap (λ (x : Ended). x.files) is)
-files_few contents c r r' e (Place k is_c n named before answer loaded place wrong is) = no_files (ap (λ (x : Ended). x.files) is)
-files_few contents c r r' e (Keys k is_c n named before answer loaded wrong is) = no_files (ap (λ (x : Ended). x.files) is)
-files_few contents c r r' e (Run k is_c given loaded s reads is) =
-    subst (λ (x : Option CommandSeen). length e.files ≤ length (out_names x)) (sym is_c) (subst (λ (x : Ended). length x.files ≤ length (out_names (Some k))) (sym is) (success_few k s))
+files_few contents c r r' e (Place k is_c o has n named before answer loaded place wrong is) = no_files (ap (λ (x : Ended). x.files) is)
+files_few contents c r r' e (WrongLength which seven none) = no_files none
+files_few contents c r r' e (Success k is_c given loaded s reads secrets out order is_order is threads) =
+    subst (λ (x : Option CommandSeen). length e.files ≤ length (out_names x)) (sym is_c) (subst (λ (x : Ended). length x.files ≤ length (out_names (Some k))) (sym is) (success_few k s secrets order))
 
 -- a fault of the inputs is told
-pub fault_ends : (contents : Option (List ℕ → Option (List ℕ))) (c : NamedSeen) (s : ScriptSeen) (old new : Reads) (f : InputFault) (r : Result Ending AllocError)
-    → TakesInputs contents c old new (Err f) → IfOk r (λ e. InputsEnd c s (Err f) (ending_seen e))
-    → IfOk r (λ e. (t : Result (Unit {0}) InputFault) × TakesInputs contents c old new t × InputsEnd c s t (ending_seen e))
-fault_ends contents c s old new f (Ok e) takes ends = (Err f, takes, ends)
-fault_ends contents c s old new f (Err e) takes ends = tt
+pub fault_ends : (contents : Option (List ℕ → Option (List ℕ))) (k : CommandSeen) (c : NamedSeen) (s : ScriptSeen) (old new : Reads) (f : InputFault) (r : Result Ending AllocError)
+    → TakesInputs contents c old new (Err f) → IfOk r (λ e. InputsEnd k c s (Err f) (ending_seen e)) → IfOk r (λ e. NamedEnd contents k c s old new (ending_seen e))
+fault_ends contents k c s old new f (Ok e) takes ends = (Err f, takes, ends)
+fault_ends contents k c s old new f (Err e) takes ends = tt
+
+-- so is a run
+pub run_ends : (contents : Option (List ℕ → Option (List ℕ))) (k : CommandSeen) (c : NamedSeen) (s : ScriptSeen) (old new : Reads) (inputs : Inputs) (words : List ℕ) (r : Result Ending AllocError)
+    → words ≡ inputs.secrets.items → TakesInputs contents c old new (Ok inputs) → IfOk r (λ e. EndsRun k c s (slice_index words) (ending_seen e)) → IfOk r (λ e. NamedEnd contents k c s old new (ending_seen e))
+run_ends contents k c s old new inputs words (Ok e) is takes h = (Ok inputs, takes, subst (λ (x : List ℕ). EndsRun k c s (slice_index x) (ending_seen e)) is h)
+run_ends contents k c s old new inputs words (Err e) is takes h = tt

@@ -1,7 +1,8 @@
 -- The ending that is due by what names have, each with its cause.
-use Rattle.std.proofs.Common.{◌≡◌, ◌≢◌, ◌⊎◌, inl, inr, refl, sym, subst, ℕ, ◌^◌, List, length, Option, Some, None, Result, Ok, Err, Bool, true, false, ◌==◌, nat_le, if◌then◌else◌}
+use Rattle.std.proofs.Common.{◌≡◌, ◌≢◌, ◌⊎◌, inl, inr, refl, sym, ◌∙◌, ap, subst, ℕ, ◌^◌, ◌<◌, List, [], length, Option, Some, None, Result, Ok, Err, Bool, true, false, ◌==◌, nat_le, if◌then◌else◌}
 use Rattle.std.proofs.lemmas.Bool.{leb-false}
 use Rattle.std.proofs.lemmas.Bool.Decides.{eqb_tells}
+use Rattle.std.proofs.lemmas.List.Elements.{All-nil}
 use Rattle.td_words.specs.Seen.{BundleSeen}
 use Rattle.script_text.specs.declared.faults.Reason.{Reason}
 use Rattle.script_text.specs.declared.faults.ScriptFault.{ScriptFault}
@@ -13,13 +14,14 @@ use Rattle.command_files.specs.declared.inputs.Input.{Input}
 use Rattle.command_files.specs.declared.inputs.Input.TheVariants as input
 use Rattle.command_files.specs.declared.inputs.InputFault.{InputFault}
 use Rattle.command_files.specs.declared.inputs.InputFault.TheVariants as fault
-use Rattle.command_files.specs.Commands.{NamedSeen, CommandSeen, Replay, Check, script_name}
+use Rattle.command_files.specs.Commands.{NamedSeen, CommandSeen, Replay, Run, Check, named_of, script_name}
 use Rattle.command_files.specs.Inputs.{place_fault, first}
-use Rattle.script_runner.specs.Ending.{Ended, usage_end, bad_end, unread_end, memory_end, container_end, keys_end, success_end, input_name, held, absent_fault, container_wrong, keys_wrong, wrong_input, command_wrong, inputs_end, script_end, read_end, held_end, ending_of}
-use Rattle.script_runner.specs.Ends.{IsRead, IsBadScript, IsAbsent, IsNoContainer, IsBadContainer, IsBadKeys}
+use Rattle.script_runner.specs.Ending.{Ended, usage_end, bad_end, unread_end, memory_end, container_end, run_end, success_end, input_name, held, absent_fault, container_wrong, length_wrong, absent_input, form_wrong, wrong_input, command_wrong, held_word, secrets_held, inputs_end, script_end, read_end, held_end, ending_of, IsOrderOf, IsOrderIn}
+use Rattle.script_runner.specs.Ends.{NamesInput, IsBadScript, IsAbsent, IsNoContainer, IsBadContainer, HasWrongLength, IsBadLength}
+use Rattle.script_runner.proofs.Named.{secrets_of, input_of, wrong_of, success_of}
 
 -- a script is run, or checked
-pub record IsRun (contents : List ℕ → Option (List ℕ)) (c : Option CommandSeen) (e : Ended) : Type 0 where
+pub record IsRun (contents : List ℕ → Option (List ℕ)) (c : Option CommandSeen) (order : List ℕ) (e : Ended) : Type 0 where
   pub command : CommandSeen
   pub read_as : c ≡ Some command
   pub bytes : List ℕ
@@ -27,17 +29,17 @@ pub record IsRun (contents : List ℕ → Option (List ℕ)) (c : Option Command
   pub script : ScriptSeen
   pub reads : read_of bytes ≡ Ok script
   pub fits : command_wrong contents command ≡ None
-  pub is : e ≡ success_end command script
+  pub is : e ≡ success_end command script (secrets_held contents command) order
 
 -- an ending, with its cause
-pub data Due (contents : List ℕ → Option (List ℕ)) (c : Option CommandSeen) (e : Ended) : Type 0 where
-  Usage : c ≡ None → e ≡ usage_end → Due contents c e
-  Absent : (name : List ℕ) → IsAbsent contents c → e ≡ unread_end name → Due contents c e
-  BadScript : (line : ℕ) (reason : Reason) → IsBadScript contents c → e ≡ bad_end line reason → Due contents c e
-  Want : e ≡ memory_end → Due contents c e
-  BadContainer : (place : ℕ) → IsBadContainer contents c → e ≡ container_end place → Due contents c e
-  BadKeys : IsBadKeys contents c → e ≡ keys_end → Due contents c e
-  Run : IsRun contents c e → Due contents c e
+pub data Due (contents : List ℕ → Option (List ℕ)) (c : Option CommandSeen) (order : List ℕ) (e : Ended) : Type 0 where
+  Usage : c ≡ None → e ≡ usage_end → Due contents c order e
+  Absent : (name : List ℕ) → IsAbsent contents c → e ≡ unread_end name → Due contents c order e
+  BadScript : (line : ℕ) (reason : Reason) → IsBadScript contents c → e ≡ bad_end line reason → Due contents c order e
+  Want : e ≡ memory_end → Due contents c order e
+  BadContainer : (place : ℕ) → IsBadContainer contents c → e ≡ container_end place → Due contents c order e
+  BadLength : IsBadLength contents c → e.status ≡ 7 → Due contents c order e
+  Success : IsRun contents c order e → Due contents c order e
 
 -- the first of two faults
 pub first_cases : (x y : Option InputFault) (f : InputFault) → first x y ≡ Some f → (x ≡ Some f) ⊎ ((x ≡ None) × (y ≡ Some f))
@@ -75,82 +77,182 @@ container_some contents (Some name) f h = by (contents name) refl h
     by None e h = absurd (cc)
     by (Some bytes) e h = of bytes e (nat_le (length bytes) (2 ^ 29)) refl h
 
-keys_some : (contents : List ℕ → Option (List ℕ)) (b : Option (List ℕ)) (f : InputFault) → keys_wrong (held contents b) ≡ Some f
-    → (name bytes : List ℕ) × (b ≡ Some name) × (contents name ≡ Some bytes) × (length bytes ≢ 64) × (f ≡ fault.Keys)
-keys_some contents None f h = absurd (cc)
-keys_some contents (Some name) f h = by (contents name) refl h
+length_some : (count : ℕ) (g : InputFault) (contents : List ℕ → Option (List ℕ)) (b : Option (List ℕ)) (f : InputFault) → length_wrong count g (held contents b) ≡ Some f
+    → (name bytes : List ℕ) × (b ≡ Some name) × (contents name ≡ Some bytes) × (length bytes ≢ count) × (f ≡ g)
+length_some count g contents None f h = absurd (cc)
+length_some count g contents (Some name) f h = by (contents name) refl h
   where
-    of : (bytes : List ℕ) → contents name ≡ Some bytes → (((length bytes == 64) ≡ true) × (length bytes ≡ 64)) ⊎ (((length bytes == 64) ≡ false) × (length bytes ≢ 64))
-        → (if length bytes == 64 then None else Some fault.Keys) ≡ Some f
-        → (n bytes : List ℕ) × (Some name ≡ Some n) × (contents n ≡ Some bytes) × (length bytes ≢ 64) × (f ≡ fault.Keys)
+    of : (bytes : List ℕ) → contents name ≡ Some bytes → (((length bytes == count) ≡ true) × (length bytes ≡ count)) ⊎ (((length bytes == count) ≡ false) × (length bytes ≢ count))
+        → (if length bytes == count then None else Some g) ≡ Some f
+        → (n bytes : List ℕ) × (Some name ≡ Some n) × (contents n ≡ Some bytes) × (length bytes ≢ count) × (f ≡ g)
     of bytes e (inl t) h =
-        let h' : None ≡ Some f = subst (λ (x : Bool). (if x then None else Some fault.Keys) ≡ Some f) t.0 h in
+        let h' : None ≡ Some f = subst (λ (x : Bool). (if x then None else Some g) ≡ Some f) t.0 h in
         absurd (cc)
     of bytes e (inr t) h =
-        let h' : Some fault.Keys ≡ Some f = subst (λ (x : Bool). (if x then None else Some fault.Keys) ≡ Some f) t.0 h in
+        let h' : Some g ≡ Some f = subst (λ (x : Bool). (if x then None else Some g) ≡ Some f) t.0 h in
         (name, bytes, refl, e, t.1, cc)
 
-    by : (x : Option (List ℕ)) → contents name ≡ x → keys_wrong (Some x) ≡ Some f
-        → (n bytes : List ℕ) × (Some name ≡ Some n) × (contents n ≡ Some bytes) × (length bytes ≢ 64) × (f ≡ fault.Keys)
+    by : (x : Option (List ℕ)) → contents name ≡ x → length_wrong count g (Some x) ≡ Some f
+        → (n bytes : List ℕ) × (Some name ≡ Some n) × (contents n ≡ Some bytes) × (length bytes ≢ count) × (f ≡ g)
     by None e h = absurd (cc)
-    by (Some bytes) e h = of bytes e (eqb_tells (length bytes) 64) h
+    by (Some bytes) e h = of bytes e (eqb_tells (length bytes) count) h
 
 -- ---- the whole
 
-module _ (contents : List ℕ → Option (List ℕ)) (c : NamedSeen) where
-  -- a fault of the inputs
-  input_due : (s : ScriptSeen) (f : InputFault) → wrong_input (held contents c.bundles) (held contents c.keys) ≡ Some f → Due contents (Some (Replay c)) (inputs_end c s (Some f))
-  input_due s f h = by (first_cases _ _ f h)
+module _ (contents : List ℕ → Option (List ℕ)) (k : CommandSeen) (c : NamedSeen) (has : named_of k ≡ Some c) (s : ScriptSeen) (order : List ℕ) where
+  abbrev DueBy : Option InputFault → Type 0
+  DueBy f = Due contents (Some k) order (inputs_end c s (held_word (held contents c.secrets)) order f)
+
+  -- a named input isn't there
+  absent_due : (f : InputFault) → absent_input (held contents c.bundles) (held contents c.keys) (held contents c.secrets) ≡ Some f → DueBy (Some f)
+  absent_due f h = by (first_cases _ _ f h)
     where
-      unread : (i : Input) (name : List ℕ) → IsRead (Replay c) name → contents name ≡ None → f ≡ fault.Unread i → Due contents (Some (Replay c)) (inputs_end c s (Some f))
+      unread : (i : Input) (name : List ℕ) → NamesInput c name → contents name ≡ None → f ≡ fault.Unread i → DueBy (Some f)
       unread i name named gone is =
-          subst (λ (x : InputFault). Due contents (Some (Replay c)) (inputs_end c s (Some x))) (sym is)
-          (Absent (input_name c i) (record { command = Replay c; read_as = refl; name = name; named = named; absent = gone }) refl)
+          subst (λ (x : InputFault). DueBy (Some x)) (sym is)
+          (Absent (input_name c i) (record { command = k; read_as = refl; name = name; named = inr (input_of k c name has named); absent = gone }) refl)
 
-      forms : (container_wrong (held contents c.bundles) ≡ Some f) ⊎ ((container_wrong (held contents c.bundles) ≡ None) × (keys_wrong (held contents c.keys) ≡ Some f))
-          → Due contents (Some (Replay c)) (inputs_end c s (Some f))
-      forms (inl x) =
-          let (name, bytes, place, named, there, wrong, is) = container_some contents c.bundles f x in
-          subst (λ (x : InputFault). Due contents (Some (Replay c)) (inputs_end c s (Some x))) (sym is)
-          (BadContainer place (record { command = c; read_as = refl; name = name; named = named; bytes = bytes; there = there; wrong = wrong }) refl)
-      forms (inr x) =
-          let (name, bytes, named, there, wrong, is) = keys_some contents c.keys f x.1 in
-          subst (λ (x : InputFault). Due contents (Some (Replay c)) (inputs_end c s (Some x))) (sym is)
-          (BadKeys (record { command = c; read_as = refl; name = name; named = named; bytes = bytes; there = there; wrong = wrong }) refl)
-
-      keys : (absent_fault input.Keys (held contents c.keys) ≡ Some f) ⊎ ((absent_fault input.Keys (held contents c.keys) ≡ None) × (first (container_wrong (held contents c.bundles)) (keys_wrong (held contents c.keys)) ≡ Some f))
-          → Due contents (Some (Replay c)) (inputs_end c s (Some f))
-      keys (inl x) = let (name, named, gone, is) = absent_some input.Keys contents c.keys f x in unread input.Keys name (inr (inr named)) gone is
-      keys (inr x) = forms (first_cases _ _ f x.1)
+      more : (absent_fault input.Keys (held contents c.keys) ≡ Some f) ⊎ ((absent_fault input.Keys (held contents c.keys) ≡ None) × (absent_fault input.Secrets (held contents c.secrets) ≡ Some f)) → DueBy (Some f)
+      more (inl x) = let (name, named, gone, is) = absent_some input.Keys contents c.keys f x in unread input.Keys name (inr (inl named)) gone is
+      more (inr x) = let (name, named, gone, is) = absent_some input.Secrets contents c.secrets f x.1 in unread input.Secrets name (inr (inr named)) gone is
 
       by : (absent_fault input.Bundles (held contents c.bundles) ≡ Some f)
-          ⊎ ((absent_fault input.Bundles (held contents c.bundles) ≡ None) × (first (absent_fault input.Keys (held contents c.keys)) (first (container_wrong (held contents c.bundles)) (keys_wrong (held contents c.keys))) ≡ Some f))
-          → Due contents (Some (Replay c)) (inputs_end c s (Some f))
-      by (inl x) = let (name, named, gone, is) = absent_some input.Bundles contents c.bundles f x in unread input.Bundles name (inr (inl named)) gone is
-      by (inr x) = keys (first_cases _ _ f x.1)
+          ⊎ ((absent_fault input.Bundles (held contents c.bundles) ≡ None) × (first (absent_fault input.Keys (held contents c.keys)) (absent_fault input.Secrets (held contents c.secrets)) ≡ Some f))
+          → DueBy (Some f)
+      by (inl x) = let (name, named, gone, is) = absent_some input.Bundles contents c.bundles f x in unread input.Bundles name (inl named) gone is
+      by (inr x) = more (first_cases _ _ f x.1)
 
-  inputs_due : (bytes : List ℕ) (s : ScriptSeen) (f : Option InputFault) → contents c.script ≡ Some bytes → read_of bytes ≡ Ok s
-      → wrong_input (held contents c.bundles) (held contents c.keys) ≡ f → Due contents (Some (Replay c)) (inputs_end c s f)
-  inputs_due bytes s None there reads fits =
-      Run (record { command = Replay c; read_as = refl; bytes = bytes; there = there; script = s; reads = reads; fits = fits; is = refl })
-  inputs_due bytes s (Some f) there reads wrong = input_due s f wrong
+  -- one that is there hasn't its form
+  form_due : (f : InputFault) → form_wrong (held contents c.bundles) (held contents c.keys) (held contents c.secrets) ≡ Some f → DueBy (Some f)
+  form_due f h = by (first_cases _ _ f h)
+    where
+      wrong_length : (file : NamedSeen → Option (List ℕ)) (count : ℕ) (g : InputFault) → length_wrong count g (held contents (file c)) ≡ Some f → HasWrongLength file count contents (Some k)
+      wrong_length file count g x =
+          let (name, bytes, named, there, wrong, is) = length_some count g contents (file c) f x in
+          record { command = k; read_as = refl; options = c; has = has; name = name; named = named; bytes = bytes; there = there; wrong = wrong }
 
-module _ (contents : List ℕ → Option (List ℕ)) (c : CommandSeen) where
-  script_due : (k : CommandSeen) (bytes : List ℕ) (s : ScriptSeen) → contents (script_name k) ≡ Some bytes → read_of bytes ≡ Ok s → Due contents (Some k) (script_end contents k s)
-  script_due (Replay n) bytes s there reads = inputs_due contents n bytes s _ there reads refl
+      more : (length_wrong 64 fault.Keys (held contents c.keys) ≡ Some f) ⊎ ((length_wrong 64 fault.Keys (held contents c.keys) ≡ None) × (length_wrong 4096 fault.Secrets (held contents c.secrets) ≡ Some f))
+          → DueBy (Some f)
+      more (inl x) =
+          let (name, bytes, named, there, wrong, is) = length_some 64 fault.Keys contents c.keys f x in
+          subst (λ (x : InputFault). DueBy (Some x)) (sym is) (BadLength (inl (wrong_length (λ n. n.keys) 64 fault.Keys x)) refl)
+      more (inr x) =
+          let (name, bytes, named, there, wrong, is) = length_some 4096 fault.Secrets contents c.secrets f x.1 in
+          subst (λ (x : InputFault). DueBy (Some x)) (sym is) (BadLength (inr (wrong_length (λ n. n.secrets) 4096 fault.Secrets x.1)) refl)
+
+      by : (container_wrong (held contents c.bundles) ≡ Some f)
+          ⊎ ((container_wrong (held contents c.bundles) ≡ None) × (first (length_wrong 64 fault.Keys (held contents c.keys)) (length_wrong 4096 fault.Secrets (held contents c.secrets)) ≡ Some f)) → DueBy (Some f)
+      by (inl x) =
+          let (name, bytes, place, named, there, wrong, is) = container_some contents c.bundles f x in
+          subst (λ (x : InputFault). DueBy (Some x)) (sym is)
+          (BadContainer place (record { command = k; read_as = refl; options = c; has = has; name = name; named = named; bytes = bytes; there = there; wrong = wrong }) refl)
+      by (inr x) = more (first_cases _ _ f x.1)
+
+  input_due : (f : InputFault) → wrong_input contents c ≡ Some f → DueBy (Some f)
+  input_due f h = elim (first_cases _ _ f h) [ inl x ↦ absent_due f x | inr x ↦ form_due f x.1 ]
+
+  inputs_due : (bytes : List ℕ) (f : Option InputFault) → contents (script_name k) ≡ Some bytes → read_of bytes ≡ Ok s → wrong_input contents c ≡ f → DueBy f
+  inputs_due bytes None there reads fits =
+      Success (record {
+        command = k;
+        read_as = refl;
+        bytes = bytes;
+        there = there;
+        script = s;
+        reads = reads;
+        fits = wrong_of contents k c has ∙ fits;
+        is = sym (success_of k c s (secrets_held contents k) order has ∙ ap (λ (x : Option (List ℕ)). run_end c s (held_word (held contents x)) order) (secrets_of k c has));
+      })
+  inputs_due bytes (Some f) there reads wrong = input_due f wrong
+
+module _ (contents : List ℕ → Option (List ℕ)) (c : CommandSeen) (order : List ℕ) where
+  script_due : (k : CommandSeen) (bytes : List ℕ) (s : ScriptSeen) → contents (script_name k) ≡ Some bytes → read_of bytes ≡ Ok s → Due contents (Some k) order (script_end contents k s order)
+  script_due (Replay n) bytes s there reads = inputs_due contents (Replay n) n refl s order bytes _ there reads refl
+  script_due (Run n) bytes s there reads = inputs_due contents (Run n) n refl s order bytes _ there reads refl
   script_due (Check name) bytes s there reads =
-      Run (record { command = Check name; read_as = refl; bytes = bytes; there = there; script = s; reads = reads; fits = refl; is = refl })
+      Success (record { command = Check name; read_as = refl; bytes = bytes; there = there; script = s; reads = reads; fits = refl; is = refl })
 
-  read_due : (bytes : List ℕ) (r : Result ScriptSeen ScriptFault) → contents (script_name c) ≡ Some bytes → read_of bytes ≡ r → Due contents (Some c) (read_end contents c r)
+  read_due : (bytes : List ℕ) (r : Result ScriptSeen ScriptFault) → contents (script_name c) ≡ Some bytes → read_of bytes ≡ r → Due contents (Some c) order (read_end contents c order r)
   read_due bytes (Ok s) there reads = script_due c bytes s there reads
   read_due bytes (Err (Bad line reason)) there reads =
       BadScript line reason (record { command = c; read_as = refl; bytes = bytes; there = there; line = line; reason = reason; reads = reads }) refl
   read_due bytes (Err OutOfMemory) there reads = Want refl
 
-  held_due : (h : Option (List ℕ)) → contents (script_name c) ≡ h → Due contents (Some c) (held_end contents c h)
+  held_due : (h : Option (List ℕ)) → contents (script_name c) ≡ h → Due contents (Some c) order (held_end contents c order h)
   held_due None gone = Absent (script_name c) (record { command = c; read_as = refl; name = (script_name c); named = inl refl; absent = gone }) refl
   held_due (Some bytes) there = read_due bytes (read_of bytes) there refl
 
-pub due : (contents : List ℕ → Option (List ℕ)) (c : Option CommandSeen) → Due contents c (ending_of contents c)
-due contents None = Usage refl refl
-due contents (Some c) = held_due contents c (contents (script_name c)) refl
+pub due : (contents : List ℕ → Option (List ℕ)) (c : Option CommandSeen) (order : List ℕ) → Due contents c order (ending_of contents c order)
+due contents None order = Usage refl refl
+due contents (Some c) order = held_due contents c order (contents (script_name c)) refl
+
+-- ---- orders
+
+-- an order is one of the script that was found
+pub order_found : (contents : List ℕ → Option (List ℕ)) (k : CommandSeen) (bytes : List ℕ) (s : ScriptSeen) (order : List ℕ) → contents (script_name k) ≡ Some bytes → read_of bytes ≡ Ok s
+    → IsOrderOf k s order → IsOrderIn contents (Some k) order
+order_found contents k bytes s order there reads is k' bytes' s' same there' reads' =
+    let same' : k' ≡ k = cc in
+    let q : contents (script_name k) ≡ Some bytes' = subst (λ (x : CommandSeen). contents (script_name x) ≡ Some bytes') same' there' in
+    let bytes_same : bytes' ≡ bytes = cc in
+    let r : read_of bytes ≡ Ok s' = subst (λ (x : List ℕ). read_of x ≡ Ok s') bytes_same reads' in
+    let scripts_same : s ≡ s' = cc in
+    subst (λ (x : CommandSeen). IsOrderOf x s' order) (sym same') (subst (λ (x : ScriptSeen). IsOrderOf k x order) scripts_same is)
+
+-- there is always one
+pub some_order : (contents : List ℕ → Option (List ℕ)) (c : Option CommandSeen) → (order : List ℕ) × IsOrderIn contents c order
+some_order contents None = ([], λ k bytes s same there reads. absurd (cc))
+some_order contents (Some k) = by (contents (script_name k)) refl
+  where
+    of : (bytes : List ℕ) (s : ScriptSeen) (k' : CommandSeen) → k' ≡ k → contents (script_name k) ≡ Some bytes → read_of bytes ≡ Ok s → (order : List ℕ) × IsOrderIn contents (Some k) order
+    of bytes s (Replay n) is there reads = (s.schedule, order_found contents k bytes s s.schedule there reads (subst (λ (x : CommandSeen). IsOrderOf x s s.schedule) is refl))
+    of bytes s (Run n) is there reads = ([], order_found contents k bytes s [] there reads (subst (λ (x : CommandSeen). IsOrderOf x s []) is (All-nil (λ (p : ℕ). p < length s.calls))))
+    of bytes s (Check name) is there reads = ([], order_found contents k bytes s [] there reads (subst (λ (x : CommandSeen). IsOrderOf x s []) is tt))
+
+    read : (bytes : List ℕ) (r : Result ScriptSeen ScriptFault) → contents (script_name k) ≡ Some bytes → read_of bytes ≡ r → (order : List ℕ) × IsOrderIn contents (Some k) order
+    read bytes (Ok s) there reads = of bytes s k refl there reads
+    read bytes (Err f) there reads = (
+      [],
+      λ k' bytes' s' same there' reads'.
+          let same' : k' ≡ k = cc in
+          let q : contents (script_name k) ≡ Some bytes' = subst (λ (x : CommandSeen). contents (script_name x) ≡ Some bytes') same' there' in
+          let bytes_same : bytes' ≡ bytes = cc in
+          let r' : read_of bytes ≡ Ok s' = subst (λ (x : List ℕ). read_of x ≡ Ok s') bytes_same reads' in
+          absurd (cc),
+    )
+
+    by : (x : Option (List ℕ)) → contents (script_name k) ≡ x → (order : List ℕ) × IsOrderIn contents (Some k) order
+    by None gone = (
+      [],
+      λ k' bytes' s' same there' reads'.
+          let same' : k' ≡ k = cc in
+          let q : contents (script_name k) ≡ Some bytes' = subst (λ (x : CommandSeen). contents (script_name x) ≡ Some bytes') same' there' in
+          absurd (cc),
+    )
+    by (Some bytes) there = read bytes (read_of bytes) there refl
+
+-- the status of the ending that is due is the same under each order
+pub same_status : (contents : List ℕ → Option (List ℕ)) (c : Option CommandSeen) (order order' : List ℕ) → (ending_of contents c order).status ≡ (ending_of contents c order').status
+same_status contents None order order' = refl
+same_status contents (Some k) order order' = by (contents (script_name k))
+  where
+    of_inputs : (n : NamedSeen) (s : ScriptSeen) (secrets : ℕ → ℕ) (f : Option InputFault) → (inputs_end n s secrets order f).status ≡ (inputs_end n s secrets order' f).status
+    of_inputs n s secrets None = refl
+    of_inputs n s secrets (Some (fault.Unread i)) = refl
+    of_inputs n s secrets (Some (fault.Container place)) = refl
+    of_inputs n s secrets (Some fault.Keys) = refl
+    of_inputs n s secrets (Some fault.Secrets) = refl
+    of_inputs n s secrets (Some fault.OutOfMemory) = refl
+
+    of_script : (k : CommandSeen) (s : ScriptSeen) → (script_end contents k s order).status ≡ (script_end contents k s order').status
+    of_script (Replay n) s = of_inputs n s (held_word (held contents n.secrets)) (wrong_input contents n)
+    of_script (Run n) s = of_inputs n s (held_word (held contents n.secrets)) (wrong_input contents n)
+    of_script (Check name) s = refl
+
+    of_read : (r : Result ScriptSeen ScriptFault) → (read_end contents k order r).status ≡ (read_end contents k order' r).status
+    of_read (Ok s) = of_script k s
+    of_read (Err f) = refl
+
+    by : (x : Option (List ℕ)) → (held_end contents k order x).status ≡ (held_end contents k order' x).status
+    by None = refl
+    by (Some bytes) = of_read (read_of bytes)

@@ -5,86 +5,87 @@ use Rattle.bundle_store.specs.declared.outside.PutFault.{PutFault}
 use Rattle.bundle_store.specs.declared.outside.PutFault.TheVariants as put
 use Rattle.bundle_store.specs.Outside.{Rose, Gains}
 use Rattle.script_text.specs.Seen.{ScriptSeen}
-use Rattle.command_files.specs.Commands.{CommandSeen, Replay, Check}
+use Rattle.command_files.specs.Commands.{CommandSeen, Replay, Run, Check}
 use Rattle.command_files.specs.Inputs.{Reads}
-use Rattle.script_runner.specs.Ending.{ToSave, Ended, memory_end, unwritten_end, success_end, ending_of}
+use Rattle.script_runner.specs.Ending.{ToSave, Ended, memory_end, unwritten_end, success_end, secrets_held, ending_of, IsOrderIn}
 use Rattle.script_runner.specs.Saving.{Writes, AllSaved, IsAmong}
-use Rattle.script_runner.specs.Ends.{Faults, IsEnding, PutsPart, PutsBehind, TellsName, TellsUnsaved, Tells, EndsWith, OneRun, IsBadScript, IsAbsent, IsBadContainer, IsBadKeys, IsComplete, success_text, IsOwnText, PutsFronts}
+use Rattle.script_runner.specs.Ends.{Faults, IsEnding, PutsPart, PutsBehind, TellsName, TellsUnsaved, Tells, EndsWith, OneRun, IsBadScript, IsAbsent, IsBadContainer, IsBadLength, IsComplete, success_text, IsOwnText, PutsFronts, PutsFrontsOf}
 use Rattle.script_runner.specs.Commanded.{Outputs, Puts, PutsWant, DoesCommand}
 use Rattle.script_runner.proofs.Part.{puts_part}
-use Rattle.script_runner.proofs.Due.{IsRun, Due, due, Usage, Absent, BadScript, Want, BadContainer, BadKeys, Run}
+use Rattle.script_runner.proofs.Due.{IsRun, Due, due, some_order, same_status, Usage, Absent, BadScript, Want, BadContainer, BadLength, Success}
 use Rattle.script_runner.proofs.Closing.{Closing, closing, saved_later, unput, never_zero, Told, Lost, Wanting, Whole, Unsaved, WantingAfter}
 use Rattle.script_runner.proofs.Came.{rose_earlier}
 use Rattle.script_runner.proofs.Told.{told_ending}
 
 -- ---- what is due, by its status
 
-pub success_zero : (k : CommandSeen) (s : ScriptSeen) → (success_end k s).status ≡ 0
-success_zero (Replay n) s = refl
-success_zero (Check name) s = refl
+pub success_zero : (k : CommandSeen) (s : ScriptSeen) (secrets : ℕ → ℕ) (order : List ℕ) → (success_end k s secrets order).status ≡ 0
+success_zero (Replay n) s secrets order = refl
+success_zero (Run n) s secrets order = refl
+success_zero (Check name) s secrets order = refl
 
-run_of : (contents : List ℕ → Option (List ℕ)) (c : Option CommandSeen) (e : Ended) → Due contents c e → e.status ≡ 0 → IsRun contents c e
-run_of contents c e (Usage none is) s = absurd (let t = ap (λ (x : Ended). x.status) is in omega (arith, t, s))
-run_of contents c e (Absent name a is) s = absurd (let t = ap (λ (x : Ended). x.status) is in omega (arith, t, s))
-run_of contents c e (BadScript line reason b is) s = absurd (let t = ap (λ (x : Ended). x.status) is in omega (arith, t, s))
-run_of contents c e (Want is) s = absurd (let t = ap (λ (x : Ended). x.status) is in omega (arith, t, s))
-run_of contents c e (BadContainer place b is) s = absurd (let t = ap (λ (x : Ended). x.status) is in omega (arith, t, s))
-run_of contents c e (BadKeys b is) s = absurd (let t = ap (λ (x : Ended). x.status) is in omega (arith, t, s))
-run_of contents c e (Run r) s = r
+run_of : (contents : List ℕ → Option (List ℕ)) (c : Option CommandSeen) (order : List ℕ) (e : Ended) → Due contents c order e → e.status ≡ 0 → IsRun contents c order e
+run_of contents c order e (Usage none is) s = absurd (let t = ap (λ (x : Ended). x.status) is in omega (arith, t, s))
+run_of contents c order e (Absent name a is) s = absurd (let t = ap (λ (x : Ended). x.status) is in omega (arith, t, s))
+run_of contents c order e (BadScript line reason b is) s = absurd (let t = ap (λ (x : Ended). x.status) is in omega (arith, t, s))
+run_of contents c order e (Want is) s = absurd (let t = ap (λ (x : Ended). x.status) is in omega (arith, t, s))
+run_of contents c order e (BadContainer place b is) s = absurd (let t = ap (λ (x : Ended). x.status) is in omega (arith, t, s))
+run_of contents c order e (BadLength b is) s = absurd (omega (arith, is, s))
+run_of contents c order e (Success r) s = r
 
-bad_of : (contents : List ℕ → Option (List ℕ)) (c : Option CommandSeen) (e : Ended) → Due contents c e → e.status ≡ 2 → IsBadScript contents c
-bad_of contents c e (Usage none is) s = absurd (let t = ap (λ (x : Ended). x.status) is in omega (arith, t, s))
-bad_of contents c e (Absent name a is) s = absurd (let t = ap (λ (x : Ended). x.status) is in omega (arith, t, s))
-bad_of contents c e (BadScript line reason b is) s = b
-bad_of contents c e (Want is) s = absurd (let t = ap (λ (x : Ended). x.status) is in omega (arith, t, s))
-bad_of contents c e (BadContainer place b is) s = absurd (let t = ap (λ (x : Ended). x.status) is in omega (arith, t, s))
-bad_of contents c e (BadKeys b is) s = absurd (let t = ap (λ (x : Ended). x.status) is in omega (arith, t, s))
-bad_of contents c e (Run r) s = absurd (let t = ap (λ (x : Ended). x.status) r.is in let z = success_zero r.command r.script in omega (arith, t, z, s))
+bad_of : (contents : List ℕ → Option (List ℕ)) (c : Option CommandSeen) (order : List ℕ) (e : Ended) → Due contents c order e → e.status ≡ 2 → IsBadScript contents c
+bad_of contents c order e (Usage none is) s = absurd (let t = ap (λ (x : Ended). x.status) is in omega (arith, t, s))
+bad_of contents c order e (Absent name a is) s = absurd (let t = ap (λ (x : Ended). x.status) is in omega (arith, t, s))
+bad_of contents c order e (BadScript line reason b is) s = b
+bad_of contents c order e (Want is) s = absurd (let t = ap (λ (x : Ended). x.status) is in omega (arith, t, s))
+bad_of contents c order e (BadContainer place b is) s = absurd (let t = ap (λ (x : Ended). x.status) is in omega (arith, t, s))
+bad_of contents c order e (BadLength b is) s = absurd (omega (arith, is, s))
+bad_of contents c order e (Success r) s = absurd (let t = ap (λ (x : Ended). x.status) r.is in let z = success_zero r.command r.script (secrets_held contents r.command) order in omega (arith, t, z, s))
 
-absent_of : (contents : List ℕ → Option (List ℕ)) (c : Option CommandSeen) (e : Ended) → Due contents c e → e.status ≡ 3 → IsAbsent contents c
-absent_of contents c e (Usage none is) s = absurd (let t = ap (λ (x : Ended). x.status) is in omega (arith, t, s))
-absent_of contents c e (Absent name a is) s = a
-absent_of contents c e (BadScript line reason b is) s = absurd (let t = ap (λ (x : Ended). x.status) is in omega (arith, t, s))
-absent_of contents c e (Want is) s = absurd (let t = ap (λ (x : Ended). x.status) is in omega (arith, t, s))
-absent_of contents c e (BadContainer place b is) s = absurd (let t = ap (λ (x : Ended). x.status) is in omega (arith, t, s))
-absent_of contents c e (BadKeys b is) s = absurd (let t = ap (λ (x : Ended). x.status) is in omega (arith, t, s))
-absent_of contents c e (Run r) s = absurd (let t = ap (λ (x : Ended). x.status) r.is in let z = success_zero r.command r.script in omega (arith, t, z, s))
+absent_of : (contents : List ℕ → Option (List ℕ)) (c : Option CommandSeen) (order : List ℕ) (e : Ended) → Due contents c order e → e.status ≡ 3 → IsAbsent contents c
+absent_of contents c order e (Usage none is) s = absurd (let t = ap (λ (x : Ended). x.status) is in omega (arith, t, s))
+absent_of contents c order e (Absent name a is) s = a
+absent_of contents c order e (BadScript line reason b is) s = absurd (let t = ap (λ (x : Ended). x.status) is in omega (arith, t, s))
+absent_of contents c order e (Want is) s = absurd (let t = ap (λ (x : Ended). x.status) is in omega (arith, t, s))
+absent_of contents c order e (BadContainer place b is) s = absurd (let t = ap (λ (x : Ended). x.status) is in omega (arith, t, s))
+absent_of contents c order e (BadLength b is) s = absurd (omega (arith, is, s))
+absent_of contents c order e (Success r) s = absurd (let t = ap (λ (x : Ended). x.status) r.is in let z = success_zero r.command r.script (secrets_held contents r.command) order in omega (arith, t, z, s))
 
-memory_of : (contents : List ℕ → Option (List ℕ)) (c : Option CommandSeen) (e : Ended) → Due contents c e → e.status ≡ 5 → e.text ≡ memory_end.text
-memory_of contents c e (Usage none is) s = absurd (let t = ap (λ (x : Ended). x.status) is in omega (arith, t, s))
-memory_of contents c e (Absent name a is) s = absurd (let t = ap (λ (x : Ended). x.status) is in omega (arith, t, s))
-memory_of contents c e (BadScript line reason b is) s = absurd (let t = ap (λ (x : Ended). x.status) is in omega (arith, t, s))
-memory_of contents c e (Want is) s = ap (λ (x : Ended). x.text) is
-memory_of contents c e (BadContainer place b is) s = absurd (let t = ap (λ (x : Ended). x.status) is in omega (arith, t, s))
-memory_of contents c e (BadKeys b is) s = absurd (let t = ap (λ (x : Ended). x.status) is in omega (arith, t, s))
-memory_of contents c e (Run r) s = absurd (let t = ap (λ (x : Ended). x.status) r.is in let z = success_zero r.command r.script in omega (arith, t, z, s))
+memory_of : (contents : List ℕ → Option (List ℕ)) (c : Option CommandSeen) (order : List ℕ) (e : Ended) → Due contents c order e → e.status ≡ 5 → e.text ≡ memory_end.text
+memory_of contents c order e (Usage none is) s = absurd (let t = ap (λ (x : Ended). x.status) is in omega (arith, t, s))
+memory_of contents c order e (Absent name a is) s = absurd (let t = ap (λ (x : Ended). x.status) is in omega (arith, t, s))
+memory_of contents c order e (BadScript line reason b is) s = absurd (let t = ap (λ (x : Ended). x.status) is in omega (arith, t, s))
+memory_of contents c order e (Want is) s = ap (λ (x : Ended). x.text) is
+memory_of contents c order e (BadContainer place b is) s = absurd (let t = ap (λ (x : Ended). x.status) is in omega (arith, t, s))
+memory_of contents c order e (BadLength b is) s = absurd (omega (arith, is, s))
+memory_of contents c order e (Success r) s = absurd (let t = ap (λ (x : Ended). x.status) r.is in let z = success_zero r.command r.script (secrets_held contents r.command) order in omega (arith, t, z, s))
 
-container_of : (contents : List ℕ → Option (List ℕ)) (c : Option CommandSeen) (e : Ended) → Due contents c e → e.status ≡ 6 → IsBadContainer contents c
-container_of contents c e (Usage none is) s = absurd (let t = ap (λ (x : Ended). x.status) is in omega (arith, t, s))
-container_of contents c e (Absent name a is) s = absurd (let t = ap (λ (x : Ended). x.status) is in omega (arith, t, s))
-container_of contents c e (BadScript line reason b is) s = absurd (let t = ap (λ (x : Ended). x.status) is in omega (arith, t, s))
-container_of contents c e (Want is) s = absurd (let t = ap (λ (x : Ended). x.status) is in omega (arith, t, s))
-container_of contents c e (BadContainer place b is) s = b
-container_of contents c e (BadKeys b is) s = absurd (let t = ap (λ (x : Ended). x.status) is in omega (arith, t, s))
-container_of contents c e (Run r) s = absurd (let t = ap (λ (x : Ended). x.status) r.is in let z = success_zero r.command r.script in omega (arith, t, z, s))
+container_of : (contents : List ℕ → Option (List ℕ)) (c : Option CommandSeen) (order : List ℕ) (e : Ended) → Due contents c order e → e.status ≡ 6 → IsBadContainer contents c
+container_of contents c order e (Usage none is) s = absurd (let t = ap (λ (x : Ended). x.status) is in omega (arith, t, s))
+container_of contents c order e (Absent name a is) s = absurd (let t = ap (λ (x : Ended). x.status) is in omega (arith, t, s))
+container_of contents c order e (BadScript line reason b is) s = absurd (let t = ap (λ (x : Ended). x.status) is in omega (arith, t, s))
+container_of contents c order e (Want is) s = absurd (let t = ap (λ (x : Ended). x.status) is in omega (arith, t, s))
+container_of contents c order e (BadContainer place b is) s = b
+container_of contents c order e (BadLength b is) s = absurd (omega (arith, is, s))
+container_of contents c order e (Success r) s = absurd (let t = ap (λ (x : Ended). x.status) r.is in let z = success_zero r.command r.script (secrets_held contents r.command) order in omega (arith, t, z, s))
 
-keys_of : (contents : List ℕ → Option (List ℕ)) (c : Option CommandSeen) (e : Ended) → Due contents c e → e.status ≡ 7 → IsBadKeys contents c
-keys_of contents c e (Usage none is) s = absurd (let t = ap (λ (x : Ended). x.status) is in omega (arith, t, s))
-keys_of contents c e (Absent name a is) s = absurd (let t = ap (λ (x : Ended). x.status) is in omega (arith, t, s))
-keys_of contents c e (BadScript line reason b is) s = absurd (let t = ap (λ (x : Ended). x.status) is in omega (arith, t, s))
-keys_of contents c e (Want is) s = absurd (let t = ap (λ (x : Ended). x.status) is in omega (arith, t, s))
-keys_of contents c e (BadContainer place b is) s = absurd (let t = ap (λ (x : Ended). x.status) is in omega (arith, t, s))
-keys_of contents c e (BadKeys b is) s = b
-keys_of contents c e (Run r) s = absurd (let t = ap (λ (x : Ended). x.status) r.is in let z = success_zero r.command r.script in omega (arith, t, z, s))
+keys_of : (contents : List ℕ → Option (List ℕ)) (c : Option CommandSeen) (order : List ℕ) (e : Ended) → Due contents c order e → e.status ≡ 7 → IsBadLength contents c
+keys_of contents c order e (Usage none is) s = absurd (let t = ap (λ (x : Ended). x.status) is in omega (arith, t, s))
+keys_of contents c order e (Absent name a is) s = absurd (let t = ap (λ (x : Ended). x.status) is in omega (arith, t, s))
+keys_of contents c order e (BadScript line reason b is) s = absurd (let t = ap (λ (x : Ended). x.status) is in omega (arith, t, s))
+keys_of contents c order e (Want is) s = absurd (let t = ap (λ (x : Ended). x.status) is in omega (arith, t, s))
+keys_of contents c order e (BadContainer place b is) s = absurd (let t = ap (λ (x : Ended). x.status) is in omega (arith, t, s))
+keys_of contents c order e (BadLength b is) s = b
+keys_of contents c order e (Success r) s = absurd (let t = ap (λ (x : Ended). x.status) r.is in let z = success_zero r.command r.script (secrets_held contents r.command) order in omega (arith, t, z, s))
 
-no_four : (contents : List ℕ → Option (List ℕ)) (c : Option CommandSeen) (e : Ended) → Due contents c e → e.status ≢ 4
-no_four contents c e (Usage none is) s = absurd (let t = ap (λ (x : Ended). x.status) is in omega (arith, t, s))
-no_four contents c e (Absent name a is) s = absurd (let t = ap (λ (x : Ended). x.status) is in omega (arith, t, s))
-no_four contents c e (BadScript line reason b is) s = absurd (let t = ap (λ (x : Ended). x.status) is in omega (arith, t, s))
-no_four contents c e (Want is) s = absurd (let t = ap (λ (x : Ended). x.status) is in omega (arith, t, s))
-no_four contents c e (BadContainer place b is) s = absurd (let t = ap (λ (x : Ended). x.status) is in omega (arith, t, s))
-no_four contents c e (BadKeys b is) s = absurd (let t = ap (λ (x : Ended). x.status) is in omega (arith, t, s))
-no_four contents c e (Run r) s = absurd (let t = ap (λ (x : Ended). x.status) r.is in let z = success_zero r.command r.script in omega (arith, t, z, s))
+no_four : (contents : List ℕ → Option (List ℕ)) (c : Option CommandSeen) (order : List ℕ) (e : Ended) → Due contents c order e → e.status ≢ 4
+no_four contents c order e (Usage none is) s = absurd (let t = ap (λ (x : Ended). x.status) is in omega (arith, t, s))
+no_four contents c order e (Absent name a is) s = absurd (let t = ap (λ (x : Ended). x.status) is in omega (arith, t, s))
+no_four contents c order e (BadScript line reason b is) s = absurd (let t = ap (λ (x : Ended). x.status) is in omega (arith, t, s))
+no_four contents c order e (Want is) s = absurd (let t = ap (λ (x : Ended). x.status) is in omega (arith, t, s))
+no_four contents c order e (BadContainer place b is) s = absurd (let t = ap (λ (x : Ended). x.status) is in omega (arith, t, s))
+no_four contents c order e (BadLength b is) s = absurd (omega (arith, is, s))
+no_four contents c order e (Success r) s = absurd (let t = ap (λ (x : Ended). x.status) r.is in let z = success_zero r.command r.script (secrets_held contents r.command) order in omega (arith, t, z, s))
 
 -- ---- what is put
 
@@ -171,26 +172,28 @@ module _ (before after : Faults) (contents : List ℕ → Option (List ℕ)) (c 
   zero_whole e zero (inr (inr (inl h))) = absurd (omega (arith, zero, h.0))
   zero_whole e zero (inr (inr (inr h))) = elim (unsaved_status e.text e.files h.1) [ inl x ↦ absurd (omega (arith, zero, x)) | inr x ↦ absurd (omega (arith, zero, x)) ]
 
-  -- an ending that isn't for a name that couldn't be read is the one that is due
-  due_ending : (e : Ended) → e.status ≢ 3 → IsEnding before after contents c e → Due contents c e
-  due_ending e not_three (inl is) = subst (λ (x : Ended). Due contents c x) (sym is) (due contents c)
-  due_ending e not_three (inr f) = absurd (not_three (ap (λ (x : Ended). x.status) f.told))
+  -- an ending that is due has its cause
+  caused : (order : List ℕ) (e : Ended) → e ≡ ending_of contents c order → Due contents c order e
+  caused order e is = subst (λ (x : Ended). Due contents c order x) (sym is) (due contents c order)
 
-  not_four : (e : Ended) → IsEnding before after contents c e → e.status ≢ 4
-  not_four e (inl is) four = no_four contents c e (subst (λ (x : Ended). Due contents c x) (sym is) (due contents c)) four
-  not_four e (inr f) four = let t = ap (λ (x : Ended). x.status) f.told in omega (arith, t, four)
+  -- one that isn't for a name that couldn't be read is the one that is due
+  due_ending : (e : Ended) → e.status ≢ 3 → IsEnding before after contents c e → (order : List ℕ) × IsOrderIn contents c order × Due contents c order e
+  due_ending e not_three (inl (order, in_order, is)) = (order, in_order, caused order e is)
+  due_ending e not_three (inr f) = absurd (not_three (ap (λ (x : Ended). x.status) f.told))
 
   -- the ending that a status from 0 to 3, 6 or 7 tells
   due_at : (s : ℕ) → s ≢ 3 → s ≢ 4 → s ≢ 5 → status ≡ s → EndsWith before after contents c old new status
-      → (e : Ended) × Due contents c e × (e.status ≡ s) × Tells before after old new e status
+      → (e : Ended) × (order : List ℕ) × Due contents c order e × (e.status ≡ s)
   due_at s x3 x4 x5 is (inl (e, ending, tells)) =
       let own : e.status ≡ s = own_status e (λ q. x4 (sym is ∙ q)) (λ q. x5 (sym is ∙ q)) tells ∙ is in
-      (e, due_ending e (λ q. x3 (sym own ∙ q)) ending, own, tells)
+      let (order, in_order, d) = due_ending e (λ q. x3 (sym own ∙ q)) ending in
+      (e, order, d, own)
   due_at s x3 x4 x5 is (inr h) = absurd (x5 (sym is ∙ h.0))
 
   pub one_run : status ≡ 0 → (e : Ended) → IsEnding before after contents c e → e.status ≡ 0 → Gains old e.text new → (w w' : Writes) → AllSaved e.files w w' → OneRun contents c old new w w'
   one_run zero e ending own gains w w' saved =
-      let r : IsRun contents c e = run_of contents c e (due_ending e (λ q. omega (arith, q, own)) ending) own in
+      let (order, in_order, d) = due_ending e (λ q. omega (arith, q, own)) ending in
+      let r : IsRun contents c order e = run_of contents c order e d own in
       record {
         command = r.command;
         read_as = r.read_as;
@@ -199,31 +202,36 @@ module _ (before after : Faults) (contents : List ℕ → Option (List ℕ)) (c 
         script = r.script;
         reads = r.reads;
         fits = r.fits;
+        order = order;
+        is_order = in_order r.command r.bytes r.script r.read_as r.there r.reads;
         prints = subst (λ (x : Ended). Gains old x.text new) r.is gains;
         saves = subst (λ (x : Ended). AllSaved x.files w w') r.is saved;
       }
 
   pub bad_script : status ≡ 2 → EndsWith before after contents c old new status → IsBadScript contents c
-  bad_script two h = let (e, d, own, tells) = due_at 2 (λ q. omega (arith, q)) (λ q. omega (arith, q)) (λ q. omega (arith, q)) two h in bad_of contents c e d own
+  bad_script two h = let (e, order, d, own) = due_at 2 (λ q. omega (arith, q)) (λ q. omega (arith, q)) (λ q. omega (arith, q)) two h in bad_of contents c order e d own
 
   pub bad_container : status ≡ 6 → EndsWith before after contents c old new status → IsBadContainer contents c
-  bad_container six h = let (e, d, own, tells) = due_at 6 (λ q. omega (arith, q)) (λ q. omega (arith, q)) (λ q. omega (arith, q)) six h in container_of contents c e d own
+  bad_container six h = let (e, order, d, own) = due_at 6 (λ q. omega (arith, q)) (λ q. omega (arith, q)) (λ q. omega (arith, q)) six h in container_of contents c order e d own
 
-  pub bad_keys : status ≡ 7 → EndsWith before after contents c old new status → IsBadKeys contents c
-  bad_keys seven h = let (e, d, own, tells) = due_at 7 (λ q. omega (arith, q)) (λ q. omega (arith, q)) (λ q. omega (arith, q)) seven h in keys_of contents c e d own
+  pub bad_length : status ≡ 7 → EndsWith before after contents c old new status → IsBadLength contents c
+  bad_length seven h = let (e, order, d, own) = due_at 7 (λ q. omega (arith, q)) (λ q. omega (arith, q)) (λ q. omega (arith, q)) seven h in keys_of contents c order e d own
 
   pub unread : status ≡ 3 → EndsWith before after contents c old new status → Rose before.reads after.reads ⊎ IsAbsent contents c
-  unread three (inl (e, inl is, tells)) =
+  unread three (inl (e, inl (order, in_order, is), tells)) =
       let own : e.status ≡ 3 = own_status e (λ q. omega (arith, q, three)) (λ q. omega (arith, q, three)) tells ∙ three in
-      inr (absent_of contents c e (subst (λ (x : Ended). Due contents c x) (sym is) (due contents c)) own)
+      inr (absent_of contents c order e (caused order e is) own)
   unread three (inl (e, inr f, tells)) = inl f.rose
   unread three (inr h) = absurd (omega (arith, three, h.0))
 
-  pub complete : EndsWith before after contents c old new status → IsComplete before after (ending_of contents c) status
-  complete (inr h) = inr (inl h.0)
-  complete (inl (e, inr f, tells)) = inr (inr (inl f.rose))
-  complete (inl (e, inl is, tells)) = subst (λ (x : Ended). IsComplete before after x status) is (by tells)
+  pub complete : EndsWith before after contents c old new status → (order : List ℕ) → IsComplete before after (ending_of contents c order) status
+  complete (inr h) order = inr (inl h.0)
+  complete (inl (e, inr f, tells)) order = inr (inr (inl f.rose))
+  complete (inl (e, inl (order', in_order, is), tells)) order = by_status (ap (λ (x : Ended). x.status) is ∙ same_status contents c order' order) (by tells)
     where
+      by_status : e.status ≡ (ending_of contents c order).status → IsComplete before after e status → IsComplete before after (ending_of contents c order) status
+      by_status same h = subst (λ (n : ℕ). (status ≡ n) ⊎ (status ≡ 5) ⊎ Rose before.reads after.reads ⊎ ((n ≡ 0) × (Rose before.writes after.writes ⊎ Rose before.puts after.puts))) same h
+
       unsaved : e.status ≡ 0 → TellsUnsaved before after e.files e.text old new status → IsComplete before after e status
       unsaved zero (inl (n, named, four, rose, h)) = inr (inr (inr (zero, inl rose)))
       unsaved zero (inr h) = inr (inl h.1)
@@ -278,19 +286,19 @@ module _ (before after : Faults) (contents : List ℕ → Option (List ℕ)) (c 
       behind_fronts e (unwritten_end n).text (inr (four, inr (n, named, refl))) (success e zero) h.1
   fronts_of e never memory (inr (inr (inr (zero, inr h)))) which = behind_fronts e memory_end.text (inl (h.1, refl)) (success e zero) h.2
 
-  pub fronts : (status ≡ 4) ⊎ (status ≡ 5) → EndsWith before after contents c old new status → PutsFronts old (ending_of contents c) status new
-  fronts which (inr h) = memory_fronts (ending_of contents c) h.0 h.1
-  fronts which (inl (e, inl is, tells)) =
-      let d : Due contents c e = subst (λ (x : Ended). Due contents c x) (sym is) (due contents c) in
-      subst (λ (x : Ended). PutsFronts old x status new) is (fronts_of e (no_four contents c e d) (memory_of contents c e d) tells which)
-  fronts which (inl (e, inr f, tells)) = by tells which
+  pub fronts : (status ≡ 4) ⊎ (status ≡ 5) → EndsWith before after contents c old new status → PutsFrontsOf contents c old status new
+  fronts which (inr h) = let (order, in_order) = some_order contents c in (order, in_order, memory_fronts (ending_of contents c order) h.0 h.1)
+  fronts which (inl (e, inl (order, in_order, is), tells)) =
+      let d : Due contents c order e = caused order e is in
+      (order, in_order, subst (λ (x : Ended). PutsFronts old x status new) is (fronts_of e (no_four contents c order e d) (memory_of contents c order e d) tells which))
+  fronts which (inl (e, inr f, tells)) = let (order, in_order) = some_order contents c in (order, in_order, by order tells which)
     where
       three : e.status ≡ 3
       three = ap (λ (x : Ended). x.status) f.told
 
-      by : Tells before after old new e status → (status ≡ 4) ⊎ (status ≡ 5) → PutsFronts old (ending_of contents c) status new
-      by (inl h) (inl four) = absurd (let q = h.0 in omega (arith, q, four, three))
-      by (inl h) (inr five) = absurd (let q = h.0 in omega (arith, q, five, three))
-      by (inr (inl h)) w = elim (unput e.status status h.0) [ inl x ↦ absurd (let q = x.0 in omega (arith, q, three)) | inr x ↦ elim w [ inl four ↦ absurd (let q = x.1 in omega (arith, q, four, three)) | inr five ↦ absurd (let q = x.1 in omega (arith, q, five, three)) ] ]
-      by (inr (inr (inl h))) w = memory_fronts (ending_of contents c) h.0 h.1
-      by (inr (inr (inr h))) w = absurd (let q = h.0 in omega (arith, q, three))
+      by : (order : List ℕ) → Tells before after old new e status → (status ≡ 4) ⊎ (status ≡ 5) → PutsFronts old (ending_of contents c order) status new
+      by order (inl h) (inl four) = absurd (let q = h.0 in omega (arith, q, four, three))
+      by order (inl h) (inr five) = absurd (let q = h.0 in omega (arith, q, five, three))
+      by order (inr (inl h)) w = elim (unput e.status status h.0) [ inl x ↦ absurd (let q = x.0 in omega (arith, q, three)) | inr x ↦ elim w [ inl four ↦ absurd (let q = x.1 in omega (arith, q, four, three)) | inr five ↦ absurd (let q = x.1 in omega (arith, q, five, three)) ] ]
+      by order (inr (inr (inl h))) w = memory_fronts (ending_of contents c order) h.0 h.1
+      by order (inr (inr (inr h))) w = absurd (let q = h.0 in omega (arith, q, three))

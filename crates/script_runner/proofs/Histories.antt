@@ -11,15 +11,17 @@ use Rattle.bundle_store.specs.declared.outside.PutFault.{PutFault}
 use Rattle.bundle_store.specs.declared.outside.PutFault.TheVariants as put
 use Rattle.bundle_store.specs.Outside.{Rose, Gains}
 use Rattle.bundle_store.specs.History.{Put}
-use Rattle.command_files.specs.Commands.{CommandSeen, Replay, Check}
+use Rattle.command_files.specs.Commands.{NamedSeen, CommandSeen, Replay, Run, Check, named_of}
+use Rattle.command_files.specs.declared.inputs.InputFault.{InputFault}
+use Rattle.command_files.specs.declared.inputs.InputFault.TheVariants as fault
 use Rattle.command_files.specs.Inputs.{Reads}
-use Rattle.script_runner.specs.Ending.{ToSave, Ended, memory_end, unwritten_end, success_end, ending_of}
+use Rattle.script_runner.specs.Ending.{ToSave, Ended, memory_end, keys_end, secrets_end, unwritten_end, success_end, ending_of}
 use Rattle.script_runner.specs.Saving.{Writes, AllSaved, out_names}
-use Rattle.script_runner.specs.Ends.{Faults, ReadCause, WriteCause, EndsWith, OneRun, IsBadScript, IsBadContainer, IsBadKeys, IsComplete, PutsFronts}
-use Rattle.script_runner.specs.Done.{PutsOnce, PutsText, PutsRun, PutsAndSaved, PutsUsage, PutsFault, PutsName, PutsPlace, PutsKeys, PutsLost, PutsMemory, SavesNothing, ChangesNothing, SavesFront, KeepsOrSaves}
+use Rattle.script_runner.specs.Ends.{Faults, ReadCause, WriteCause, EndsWith, OneRun, IsBadScript, IsBadContainer, IsBadLength, IsComplete, PutsFrontsOf}
+use Rattle.script_runner.specs.Done.{PutsOnce, PutsText, PutsRun, PutsAndSaved, PutsUsage, PutsFault, PutsName, PutsPlace, PutsLength, PutsKeysOrSecrets, PutsThreads, PutsLost, PutsMemory, SavesNothing, ChangesNothing, SavesFront, KeepsOrSaves}
 use Rattle.script_runner.specs.Commanded.{Comes, ComesPart, AnswerEnd, ScriptEnd, ReadEnd, FurtherPart, Outputs, Puts, DoesCommand}
 use Rattle.script_runner.proofs.Closing.{Closing, closing, saved_later, unput, never_zero, Told, Lost, Wanting, Whole, Unsaved, WantingAfter}
-use Rattle.script_runner.proofs.Came.{Came, came, files_few, rose_earlier, Usage, Unread, BadScript, Want, Place, Keys, Run}
+use Rattle.script_runner.proofs.Came.{Came, LengthCame, came, files_few, rose_earlier, Usage, Unread, BadScript, Want, Place, WrongLength, Success}
 use Rattle.script_runner.proofs.Told.{told_ending}
 use Rattle.script_runner.proofs.Endings.{ends_with, some_file, success_zero}
 use Rattle.script_runner.proofs.Endings as endings
@@ -28,91 +30,108 @@ use Rattle.script_runner.proofs.Endings as endings
 
 module _ (contents : Option (List ℕ → Option (List ℕ))) (c : Option CommandSeen) (r r' : Reads) (e : Ended) (puts puts' : List Put) where
   run_done : (answer : Result (Unit {0}) PutFault) → Came contents c r r' e → e.status ≡ 0 → PutsOnce puts e.text answer puts'
-      → (d : PutsRun c r.loads r'.loads puts puts' answer) × (e ≡ success_end d.command d.script)
+      → (d : PutsRun c r.loads r'.loads puts puts' answer) × (e ≡ success_end d.command d.script d.secrets d.order)
   run_done a (Usage none same is) st p = absurd (let t = ap (λ (x : Ended). x.status) is in omega (arith, t, st))
   run_done a (Unread k is_c n named before answer loaded u rose is) st p = absurd (let t = ap (λ (x : Ended). x.status) is in omega (arith, t, st))
   run_done a (BadScript k is_c answer loaded line reason first is) st p = absurd (let t = ap (λ (x : Ended). x.status) is in omega (arith, t, st))
   run_done a (Want k is_c is) st p = absurd (let t = ap (λ (x : Ended). x.status) is in omega (arith, t, st))
-  run_done a (Place k is_c n named before answer loaded place wrong is) st p = absurd (let t = ap (λ (x : Ended). x.status) is in omega (arith, t, st))
-  run_done a (Keys k is_c n named before answer loaded wrong is) st p = absurd (let t = ap (λ (x : Ended). x.status) is in omega (arith, t, st))
-  run_done a (Run k is_c given loaded s reads is) st p =
-      (record { command = k; read_as = is_c; given = given; loaded = loaded; script = s; reads = reads; prints = subst (λ (x : Ended). PutsOnce puts x.text a puts') is p }, is)
+  run_done a (Place k is_c o has n named before answer loaded place wrong is) st p = absurd (let t = ap (λ (x : Ended). x.status) is in omega (arith, t, st))
+  run_done a (WrongLength which seven none) st p = absurd (omega (arith, seven, st))
+  run_done a (Success k is_c given loaded s reads secrets out order is_order is threads) st p =
+      (record { command = k; read_as = is_c; given = given; loaded = loaded; script = s; reads = reads; secrets = secrets; handed_out = out; order = order; is_order = is_order; prints = subst (λ (x : Ended). PutsOnce puts x.text a puts') is p }, is)
 
   usage_done : Came contents c r r' e → e.status ≡ 1 → PutsText puts e.text puts' → PutsUsage c r.loads r'.loads puts puts'
   usage_done (Usage none same is) st p = (none, same, subst (λ (x : Ended). PutsText puts x.text puts') is p)
   usage_done (Unread k is_c n named before answer loaded u rose is) st p = absurd (let t = ap (λ (x : Ended). x.status) is in omega (arith, t, st))
   usage_done (BadScript k is_c answer loaded line reason first is) st p = absurd (let t = ap (λ (x : Ended). x.status) is in omega (arith, t, st))
   usage_done (Want k is_c is) st p = absurd (let t = ap (λ (x : Ended). x.status) is in omega (arith, t, st))
-  usage_done (Place k is_c n named before answer loaded place wrong is) st p = absurd (let t = ap (λ (x : Ended). x.status) is in omega (arith, t, st))
-  usage_done (Keys k is_c n named before answer loaded wrong is) st p = absurd (let t = ap (λ (x : Ended). x.status) is in omega (arith, t, st))
-  usage_done (Run k is_c given loaded s reads is) st p = absurd (let t = ap (λ (x : Ended). x.status) is in let z = success_zero k s in omega (arith, t, z, st))
+  usage_done (Place k is_c o has n named before answer loaded place wrong is) st p = absurd (let t = ap (λ (x : Ended). x.status) is in omega (arith, t, st))
+  usage_done (WrongLength which seven none) st p = absurd (omega (arith, seven, st))
+  usage_done (Success k is_c given loaded s reads secrets out order is_order is threads) st p = absurd (let t = ap (λ (x : Ended). x.status) is in let z = success_zero k s secrets order in omega (arith, t, z, st))
 
   fault_done : Came contents c r r' e → e.status ≡ 2 → PutsText puts e.text puts' → PutsFault c r.loads r'.loads puts puts'
   fault_done (Usage none same is) st p = absurd (let t = ap (λ (x : Ended). x.status) is in omega (arith, t, st))
   fault_done (Unread k is_c n named before answer loaded u rose is) st p = absurd (let t = ap (λ (x : Ended). x.status) is in omega (arith, t, st))
   fault_done (BadScript k is_c answer loaded line reason first is) st p = record { command = k; read_as = is_c; answer = answer; loaded = loaded; line = line; reason = reason; first = first; prints = subst (λ (x : Ended). PutsText puts x.text puts') is p }
   fault_done (Want k is_c is) st p = absurd (let t = ap (λ (x : Ended). x.status) is in omega (arith, t, st))
-  fault_done (Place k is_c n named before answer loaded place wrong is) st p = absurd (let t = ap (λ (x : Ended). x.status) is in omega (arith, t, st))
-  fault_done (Keys k is_c n named before answer loaded wrong is) st p = absurd (let t = ap (λ (x : Ended). x.status) is in omega (arith, t, st))
-  fault_done (Run k is_c given loaded s reads is) st p = absurd (let t = ap (λ (x : Ended). x.status) is in let z = success_zero k s in omega (arith, t, z, st))
+  fault_done (Place k is_c o has n named before answer loaded place wrong is) st p = absurd (let t = ap (λ (x : Ended). x.status) is in omega (arith, t, st))
+  fault_done (WrongLength which seven none) st p = absurd (omega (arith, seven, st))
+  fault_done (Success k is_c given loaded s reads secrets out order is_order is threads) st p = absurd (let t = ap (λ (x : Ended). x.status) is in let z = success_zero k s secrets order in omega (arith, t, z, st))
 
   name_done : Came contents c r r' e → e.status ≡ 3 → PutsText puts e.text puts' → PutsName c r.loads r'.loads puts puts'
   name_done (Usage none same is) st p = absurd (let t = ap (λ (x : Ended). x.status) is in omega (arith, t, st))
   name_done (Unread k is_c n named before answer loaded u rose is) st p = record { command = k; read_as = is_c; name = n; named = named; before = before; answer = answer; loaded = loaded; unread = u; prints = subst (λ (x : Ended). PutsText puts x.text puts') is p }
   name_done (BadScript k is_c answer loaded line reason first is) st p = absurd (let t = ap (λ (x : Ended). x.status) is in omega (arith, t, st))
   name_done (Want k is_c is) st p = absurd (let t = ap (λ (x : Ended). x.status) is in omega (arith, t, st))
-  name_done (Place k is_c n named before answer loaded place wrong is) st p = absurd (let t = ap (λ (x : Ended). x.status) is in omega (arith, t, st))
-  name_done (Keys k is_c n named before answer loaded wrong is) st p = absurd (let t = ap (λ (x : Ended). x.status) is in omega (arith, t, st))
-  name_done (Run k is_c given loaded s reads is) st p = absurd (let t = ap (λ (x : Ended). x.status) is in let z = success_zero k s in omega (arith, t, z, st))
+  name_done (Place k is_c o has n named before answer loaded place wrong is) st p = absurd (let t = ap (λ (x : Ended). x.status) is in omega (arith, t, st))
+  name_done (WrongLength which seven none) st p = absurd (omega (arith, seven, st))
+  name_done (Success k is_c given loaded s reads secrets out order is_order is threads) st p = absurd (let t = ap (λ (x : Ended). x.status) is in let z = success_zero k s secrets order in omega (arith, t, z, st))
 
   place_done : Came contents c r r' e → e.status ≡ 6 → PutsText puts e.text puts' → PutsPlace c r.loads r'.loads puts puts'
   place_done (Usage none same is) st p = absurd (let t = ap (λ (x : Ended). x.status) is in omega (arith, t, st))
   place_done (Unread k is_c n named before answer loaded u rose is) st p = absurd (let t = ap (λ (x : Ended). x.status) is in omega (arith, t, st))
   place_done (BadScript k is_c answer loaded line reason first is) st p = absurd (let t = ap (λ (x : Ended). x.status) is in omega (arith, t, st))
   place_done (Want k is_c is) st p = absurd (let t = ap (λ (x : Ended). x.status) is in omega (arith, t, st))
-  place_done (Place k is_c n named before answer loaded place wrong is) st p = record { command = k; read_as = is_c; name = n; named = named; before = before; answer = answer; loaded = loaded; place = place; wrong = wrong; prints = subst (λ (x : Ended). PutsText puts x.text puts') is p }
-  place_done (Keys k is_c n named before answer loaded wrong is) st p = absurd (let t = ap (λ (x : Ended). x.status) is in omega (arith, t, st))
-  place_done (Run k is_c given loaded s reads is) st p = absurd (let t = ap (λ (x : Ended). x.status) is in let z = success_zero k s in omega (arith, t, z, st))
+  place_done (Place k is_c o has n named before answer loaded place wrong is) st p = record { command = k; read_as = is_c; options = o; has = has; name = n; named = named; before = before; answer = answer; loaded = loaded; place = place; wrong = wrong; prints = subst (λ (x : Ended). PutsText puts x.text puts') is p }
+  place_done (WrongLength which seven none) st p = absurd (omega (arith, seven, st))
+  place_done (Success k is_c given loaded s reads secrets out order is_order is threads) st p = absurd (let t = ap (λ (x : Ended). x.status) is in let z = success_zero k s secrets order in omega (arith, t, z, st))
 
-  keys_done : Came contents c r r' e → e.status ≡ 7 → PutsText puts e.text puts' → PutsKeys c r.loads r'.loads puts puts'
+  length_done : (file : NamedSeen → Option (List ℕ)) (count : ℕ) (f : InputFault) (told : Ended) → LengthCame file count f told c r r' e → PutsText puts e.text puts' → PutsLength file count f told c r.loads r'.loads puts puts'
+  length_done file count f told l p = record {
+    command = l.command;
+    read_as = l.read_as;
+    options = l.options;
+    has = l.has;
+    name = l.name;
+    named = l.named;
+    before = l.before;
+    answer = l.answer;
+    loaded = l.loaded;
+    wrong = l.wrong;
+    prints = subst (λ (x : Ended). PutsText puts x.text puts') l.is p;
+  }
+
+  keys_done : Came contents c r r' e → e.status ≡ 7 → PutsText puts e.text puts' → PutsKeysOrSecrets c r.loads r'.loads puts puts'
   keys_done (Usage none same is) st p = absurd (let t = ap (λ (x : Ended). x.status) is in omega (arith, t, st))
   keys_done (Unread k is_c n named before answer loaded u rose is) st p = absurd (let t = ap (λ (x : Ended). x.status) is in omega (arith, t, st))
   keys_done (BadScript k is_c answer loaded line reason first is) st p = absurd (let t = ap (λ (x : Ended). x.status) is in omega (arith, t, st))
   keys_done (Want k is_c is) st p = absurd (let t = ap (λ (x : Ended). x.status) is in omega (arith, t, st))
-  keys_done (Place k is_c n named before answer loaded place wrong is) st p = absurd (let t = ap (λ (x : Ended). x.status) is in omega (arith, t, st))
-  keys_done (Keys k is_c n named before answer loaded wrong is) st p = record { command = k; read_as = is_c; name = n; named = named; before = before; answer = answer; loaded = loaded; wrong = wrong; prints = subst (λ (x : Ended). PutsText puts x.text puts') is p }
-  keys_done (Run k is_c given loaded s reads is) st p = absurd (let t = ap (λ (x : Ended). x.status) is in let z = success_zero k s in omega (arith, t, z, st))
+  keys_done (Place k is_c o has n named before answer loaded place wrong is) st p = absurd (let t = ap (λ (x : Ended). x.status) is in omega (arith, t, st))
+  keys_done (WrongLength (inl l) seven none) st p = inl (length_done (λ n. n.keys) 64 fault.Keys keys_end l p)
+  keys_done (WrongLength (inr l) seven none) st p = inr (length_done (λ n. n.secrets) 4096 fault.Secrets secrets_end l p)
+  keys_done (Success k is_c given loaded s reads secrets out order is_order is threads) st p = absurd (let t = ap (λ (x : Ended). x.status) is in let z = success_zero k s secrets order in omega (arith, t, z, st))
 
   memory_due : Came contents c r r' e → e.status ≡ 5 → e.text ≡ memory_end.text
   memory_due (Usage none same is) st = absurd (let t = ap (λ (x : Ended). x.status) is in omega (arith, t, st))
   memory_due (Unread k is_c n named before answer loaded u rose is) st = absurd (let t = ap (λ (x : Ended). x.status) is in omega (arith, t, st))
   memory_due (BadScript k is_c answer loaded line reason first is) st = absurd (let t = ap (λ (x : Ended). x.status) is in omega (arith, t, st))
   memory_due (Want k is_c is) st = ap (λ (x : Ended). x.text) is
-  memory_due (Place k is_c n named before answer loaded place wrong is) st = absurd (let t = ap (λ (x : Ended). x.status) is in omega (arith, t, st))
-  memory_due (Keys k is_c n named before answer loaded wrong is) st = absurd (let t = ap (λ (x : Ended). x.status) is in omega (arith, t, st))
-  memory_due (Run k is_c given loaded s reads is) st = absurd (let t = ap (λ (x : Ended). x.status) is in let z = success_zero k s in omega (arith, t, z, st))
+  memory_due (Place k is_c o has n named before answer loaded place wrong is) st = absurd (let t = ap (λ (x : Ended). x.status) is in omega (arith, t, st))
+  memory_due (WrongLength which seven none) st = absurd (omega (arith, seven, st))
+  memory_due (Success k is_c given loaded s reads secrets out order is_order is threads) st = absurd (let t = ap (λ (x : Ended). x.status) is in let z = success_zero k s secrets order in omega (arith, t, z, st))
 
   never_four : Came contents c r r' e → e.status ≢ 4
   never_four (Usage none same is) st = absurd (let t = ap (λ (x : Ended). x.status) is in omega (arith, t, st))
   never_four (Unread k is_c n named before answer loaded u rose is) st = absurd (let t = ap (λ (x : Ended). x.status) is in omega (arith, t, st))
   never_four (BadScript k is_c answer loaded line reason first is) st = absurd (let t = ap (λ (x : Ended). x.status) is in omega (arith, t, st))
   never_four (Want k is_c is) st = absurd (let t = ap (λ (x : Ended). x.status) is in omega (arith, t, st))
-  never_four (Place k is_c n named before answer loaded place wrong is) st = absurd (let t = ap (λ (x : Ended). x.status) is in omega (arith, t, st))
-  never_four (Keys k is_c n named before answer loaded wrong is) st = absurd (let t = ap (λ (x : Ended). x.status) is in omega (arith, t, st))
-  never_four (Run k is_c given loaded s reads is) st = absurd (let t = ap (λ (x : Ended). x.status) is in let z = success_zero k s in omega (arith, t, z, st))
+  never_four (Place k is_c o has n named before answer loaded place wrong is) st = absurd (let t = ap (λ (x : Ended). x.status) is in omega (arith, t, st))
+  never_four (WrongLength which seven none) st = absurd (omega (arith, seven, st))
+  never_four (Success k is_c given loaded s reads secrets out order is_order is threads) st = absurd (let t = ap (λ (x : Ended). x.status) is in let z = success_zero k s secrets order in omega (arith, t, z, st))
 
   rose_due : Came contents c r r' e → e.status ≡ 3 → IfNone contents (Rose r.faults r'.faults)
   rose_due (Usage none same is) st = absurd (let t = ap (λ (x : Ended). x.status) is in omega (arith, t, st))
   rose_due (Unread k is_c n named before answer loaded u rose is) st = rose
   rose_due (BadScript k is_c answer loaded line reason first is) st = absurd (let t = ap (λ (x : Ended). x.status) is in omega (arith, t, st))
   rose_due (Want k is_c is) st = absurd (let t = ap (λ (x : Ended). x.status) is in omega (arith, t, st))
-  rose_due (Place k is_c n named before answer loaded place wrong is) st = absurd (let t = ap (λ (x : Ended). x.status) is in omega (arith, t, st))
-  rose_due (Keys k is_c n named before answer loaded wrong is) st = absurd (let t = ap (λ (x : Ended). x.status) is in omega (arith, t, st))
-  rose_due (Run k is_c given loaded s reads is) st = absurd (let t = ap (λ (x : Ended). x.status) is in let z = success_zero k s in omega (arith, t, z, st))
+  rose_due (Place k is_c o has n named before answer loaded place wrong is) st = absurd (let t = ap (λ (x : Ended). x.status) is in omega (arith, t, st))
+  rose_due (WrongLength which seven none) st = absurd (omega (arith, seven, st))
+  rose_due (Success k is_c given loaded s reads secrets out order is_order is threads) st = absurd (let t = ap (λ (x : Ended). x.status) is in let z = success_zero k s secrets order in omega (arith, t, z, st))
 
 -- each load, however far the call came
 script_part : (contents : Option (List ℕ → Option (List ℕ))) (c : CommandSeen) (s : ScriptSeen) (b r' : Reads) (e : Ended) → ScriptEnd contents c s b r' e → FurtherPart contents c b r'
 script_part contents (Replay n) s b r' e (res, takes, ends) = inr (res, takes)
+script_part contents (Run n) s b r' e (res, takes, ends) = inr (res, takes)
 script_part contents (Check name) s b r' e h = inl h.0
 
 read_part : (contents : Option (List ℕ → Option (List ℕ))) (c : CommandSeen) (b r' : Reads) (read : Result ScriptSeen ScriptFault) (e : Ended) → ReadEnd contents c b r' read e → FurtherPart contents c b r'
@@ -333,6 +352,10 @@ module _ (names : List (List ℕ)) (e : Ended) (few : length e.files ≤ length 
         loaded = d.loaded;
         script = d.script;
         reads = d.reads;
+        secrets = d.secrets;
+        handed_out = d.handed_out;
+        order = d.order;
+        is_order = d.is_order;
         front = front;
         out = f;
         rest = rest;
@@ -358,9 +381,9 @@ usage_status contents c r r' e none (Usage n same is) = ap (λ (x : Ended). x.st
 usage_status contents c r r' e none (Unread k is_c n named before answer loaded u rose is) = absurd (cc)
 usage_status contents c r r' e none (BadScript k is_c answer loaded line reason first is) = absurd (cc)
 usage_status contents c r r' e none (Want k is_c is) = absurd (cc)
-usage_status contents c r r' e none (Place k is_c n named before answer loaded place wrong is) = absurd (cc)
-usage_status contents c r r' e none (Keys k is_c n named before answer loaded wrong is) = absurd (cc)
-usage_status contents c r r' e none (Run k is_c given loaded s reads is) = absurd (cc)
+usage_status contents c r r' e none (Place k is_c o has n named before answer loaded place wrong is) = absurd (cc)
+usage_status contents c r r' e none (WrongLength which seven no_file) = elim which [ inl l ↦ absurd (let q = l.read_as in cc) | inr l ↦ absurd (let q = l.read_as in cc) ]
+usage_status contents c r r' e none (Success k is_c given loaded s reads secrets out order is_order is threads) = absurd (cc)
 
 if_some : {P Q : (List ℕ → Option (List ℕ)) → Type 0} (o : Option (List ℕ → Option (List ℕ))) → ((k : List ℕ → Option (List ℕ)) → P k → Q k) → IfSome o P → IfSome o Q
 if_some None f h = tt
@@ -400,6 +423,37 @@ module _ (contents : Option (List ℕ → Option (List ℕ))) (c : Option Comman
       (d, subst (λ (x : Ended). AllSaved x.files w w') same saved)
   done_zero zero (inr (part, kept, want)) = absurd (let q = want.0 in omega (arith, q, zero))
 
+  -- a run put and saved the texts of its threads
+  threads_done : (e : Ended) → Came contents c r r' e → e.status ≡ 0 → PutsOnce o.puts e.text (Ok tt) o'.puts → AllSaved e.files w w' → PutsThreads c r.loads r'.loads o.puts o'.puts w w'
+  threads_done e (Usage none same is) st p all = absurd (let t = ap (λ (x : Ended). x.status) is in omega (arith, t, st))
+  threads_done e (Unread k is_c n named before answer loaded u rose is) st p all = absurd (let t = ap (λ (x : Ended). x.status) is in omega (arith, t, st))
+  threads_done e (BadScript k is_c answer loaded line reason first is) st p all = absurd (let t = ap (λ (x : Ended). x.status) is in omega (arith, t, st))
+  threads_done e (Want k is_c is) st p all = absurd (let t = ap (λ (x : Ended). x.status) is in omega (arith, t, st))
+  threads_done e (Place k is_c o has n named before answer loaded place wrong is) st p all = absurd (let t = ap (λ (x : Ended). x.status) is in omega (arith, t, st))
+  threads_done e (WrongLength which seven none) st p all = absurd (omega (arith, seven, st))
+  threads_done e (Success k is_c given loaded s reads secrets out order is_order is threads) st p all = (
+    record {
+      command = k;
+      read_as = is_c;
+      given = given;
+      loaded = loaded;
+      script = s;
+      reads = reads;
+      secrets = secrets;
+      handed_out = out;
+      order = order;
+      is_order = is_order;
+      prints = subst (λ (x : Ended). PutsOnce o.puts x.text (Ok tt) o'.puts) is p;
+    },
+    (e, threads, p, all),
+  )
+
+  pub put_threads : Does → status ≡ 0 → PutsThreads c r.loads r'.loads o.puts o'.puts w w'
+  put_threads (inl (e, comes, p)) zero =
+      let (own, text, saved, gains) = closes_whole names e (few_of e comes) w w' o o' status zero (closing e w w' o o' status p) in
+      threads_done e (came contents c r r' e comes) own text saved
+  put_threads (inr (part, kept, want)) zero = absurd (let q = want.0 in omega (arith, q, zero))
+
   pub put_run : Does → status ≡ 0 → PutsRun c r.loads r'.loads o.puts o'.puts (Ok tt)
   put_run d zero = (done_zero zero d).0
 
@@ -418,7 +472,7 @@ module _ (contents : Option (List ℕ → Option (List ℕ))) (c : Option Comman
   pub put_place : Does → status ≡ 6 → PutsPlace c r.loads r'.loads o.puts o'.puts
   put_place d s = let (e, m, own, text) = done_at 6 (λ q. omega (arith, q)) (λ q. omega (arith, q)) (λ q. omega (arith, q)) s d in place_done contents c r r' e o.puts o'.puts m own text
 
-  pub put_keys : Does → status ≡ 7 → PutsKeys c r.loads r'.loads o.puts o'.puts
+  pub put_keys : Does → status ≡ 7 → PutsKeysOrSecrets c r.loads r'.loads o.puts o'.puts
   put_keys d s = let (e, m, own, text) = done_at 7 (λ q. omega (arith, q)) (λ q. omega (arith, q)) (λ q. omega (arith, q)) s d in keys_done contents c r r' e o.puts o'.puts m own text
 
   pub put_lost : Does → status ≡ 4 → PutsLost c r.loads r'.loads w w' o.puts o'.puts
@@ -434,9 +488,15 @@ module _ (contents : Option (List ℕ → Option (List ℕ))) (c : Option Comman
   pub check_status : Does → (name : List ℕ) → c ≡ Some (Check name) → status ≤ 7 → status ≤ 5
   check_status d name is few = by (eqb_tells status 6) (eqb_tells status 7)
     where
+      no_files : (k : CommandSeen) (n : NamedSeen) → c ≡ Some k → named_of k ≡ Some n → ⊥
+      no_files k n is_k has =
+          let same : Check name ≡ k = (let q = sym is ∙ is_k in cc) in
+          let none : named_of (Check name) ≡ Some n = subst (λ (x : CommandSeen). named_of x ≡ Some n) (sym same) has in
+          cc
+
       by : (((status == 6) ≡ true) × (status ≡ 6)) ⊎ (((status == 6) ≡ false) × (status ≢ 6)) → (((status == 7) ≡ true) × (status ≡ 7)) ⊎ (((status == 7) ≡ false) × (status ≢ 7)) → status ≤ 5
-      by (inl six) y = absurd (let q = sym is ∙ (put_place d six.1).read_as in cc)
-      by (inr not_six) (inl seven) = absurd (let q = sym is ∙ (put_keys d seven.1).read_as in cc)
+      by (inl six) y = absurd (let q = put_place d six.1 in no_files q.command q.options q.read_as q.has)
+      by (inr not_six) (inl seven) = absurd (elim (put_keys d seven.1) [ inl q ↦ no_files q.command q.options q.read_as q.has | inr q ↦ no_files q.command q.options q.read_as q.has ])
       by (inr not_six) (inr not_seven) = omega (arith, few, not_six.1, not_seven.1)
 
   abbrev Ends : (List ℕ → Option (List ℕ)) → Type 0
@@ -456,8 +516,8 @@ module _ (contents : Option (List ℕ → Option (List ℕ))) (c : Option Comman
       by (Some k) h = endings.one_run before after k c o.told o'.told status zero e (told_ending before after k c r r' e refl refl h) whole.0 whole.3 w w' whole.2
   told_run (inr (part, kept, want)) zero = absurd (let q = want.0 in omega (arith, q, zero))
 
-  pub told_complete : Does → IfSome contents (λ k. IsComplete before after (ending_of k c) status)
-  told_complete d = if_some {P = Ends} {Q = λ k. IsComplete before after (ending_of k c) status} contents (λ k h. endings.complete before after k c o.told o'.told status h) (all_ends d)
+  pub told_complete : Does → IfSome contents (λ k. (order : List ℕ) → IsComplete before after (ending_of k c order) status)
+  told_complete d = if_some {P = Ends} {Q = λ k. (order : List ℕ) → IsComplete before after (ending_of k c order) status} contents (λ k h. endings.complete before after k c o.told o'.told status h) (all_ends d)
 
   pub told_bad : Does → status ≡ 2 → IfSome contents (λ k. IsBadScript k c)
   told_bad d s = if_some {P = Ends} {Q = λ k. IsBadScript k c} contents (λ k h. endings.bad_script before after k c o.told o'.told status s h) (all_ends d)
@@ -465,12 +525,12 @@ module _ (contents : Option (List ℕ → Option (List ℕ))) (c : Option Comman
   pub told_container : Does → status ≡ 6 → IfSome contents (λ k. IsBadContainer k c)
   told_container d s = if_some {P = Ends} {Q = λ k. IsBadContainer k c} contents (λ k h. endings.bad_container before after k c o.told o'.told status s h) (all_ends d)
 
-  pub told_keys : Does → status ≡ 7 → IfSome contents (λ k. IsBadKeys k c)
-  told_keys d s = if_some {P = Ends} {Q = λ k. IsBadKeys k c} contents (λ k h. endings.bad_keys before after k c o.told o'.told status s h) (all_ends d)
+  pub told_keys : Does → status ≡ 7 → IfSome contents (λ k. IsBadLength k c)
+  told_keys d s = if_some {P = Ends} {Q = λ k. IsBadLength k c} contents (λ k h. endings.bad_length before after k c o.told o'.told status s h) (all_ends d)
 
-  pub told_fronts : Does → (status ≡ 4) ⊎ (status ≡ 5) → IfSome contents (λ k. PutsFronts o.told (ending_of k c) status o'.told)
+  pub told_fronts : Does → (status ≡ 4) ⊎ (status ≡ 5) → IfSome contents (λ k. PutsFrontsOf k c o.told status o'.told)
   told_fronts d s =
-      if_some {P = Ends} {Q = λ k. PutsFronts o.told (ending_of k c) status o'.told} contents
+      if_some {P = Ends} {Q = λ k. PutsFrontsOf k c o.told status o'.told} contents
       (λ k h. endings.fronts before after k c o.told o'.told status s h) (all_ends d)
 
   pub unread_cause : Does → status ≡ 3 → ReadCause contents c r.faults r'.faults

@@ -1,5 +1,5 @@
 -- What a command comes to, with the files that its options name: what is loaded, put and saved.
-use Rattle.std.specs.Prelude.{◌≡◌, ◌≢◌, ◌⊎◌, ℕ, ◌^◌, ◌≤◌, List, [], ◌∷◌, Option, Some, None, Result, Ok, Err}
+use Rattle.std.specs.Prelude.{◌≡◌, ◌≢◌, ◌⊎◌, ℕ, ◌^◌, ◌≤◌, List, [], ◌∷◌, slice_index, Option, Some, None, Result, Ok, Err}
 use Rattle.std.specs.Global.{Vec}
 use Rattle.script_text.specs.declared.faults.Reason.TheVariants.{Length}
 use Rattle.script_text.specs.declared.faults.ScriptFault.{ScriptFault}
@@ -15,26 +15,38 @@ use Rattle.bundle_store.specs.Outside.{PutsTold, PutCause}
 use Rattle.bundle_store.specs.History.{Put}
 use Rattle.command_files.specs.declared.inputs.InputFault.{InputFault}
 use Rattle.command_files.specs.declared.inputs.InputFault.TheVariants as fault
-use Rattle.command_files.specs.Commands.{NamedSeen, CommandSeen, Replay, Check, script_name}
+use Rattle.command_files.specs.declared.inputs.Inputs.{Inputs}
+use Rattle.command_files.specs.Commands.{NamedSeen, CommandSeen, Replay, Run, Check, script_name}
 use Rattle.command_files.specs.Inputs.{Reads, Loads, TakesInputs}
-use Rattle.script_runner.specs.Ending.{ToSave, Ended, usage_end, bad_end, unread_end, memory_end, run_end, check_end, fault_end, container_end, keys_end, unwritten_end, input_name}
+use Rattle.script_runner.specs.Ending.{ToSave, Ended, usage_end, bad_end, unread_end, memory_end, run_end, check_end, fault_end, container_end, keys_end, secrets_end, unwritten_end, input_name, IsOrderOf}
 use Rattle.script_runner.specs.Saving.{Writes, Saves}
+use Rattle.script_runner.specs.Threads.{ThreadsOf}
 use Rattle.script_runner.specs.Ends.{unput_status}
 use Rattle.script_runner.specs.Done.{PutsOnce}
 
 -- ---- the ending that is due by what was loaded
 
--- a script is run where the inputs have no fault, and else that fault is told; want of memory is no ending
-abbrev pub InputsEnd : NamedSeen → ScriptSeen → Result (Unit {0}) InputFault → Ended → Type 0
-InputsEnd c s (Ok t) e = e ≡ run_end c s
-InputsEnd c s (Err (fault.Unread i)) e = e ≡ unread_end (input_name c i)
-InputsEnd c s (Err (fault.Container place)) e = e ≡ container_end place
-InputsEnd c s (Err fault.Keys) e = e ≡ keys_end
-InputsEnd c s (Err fault.OutOfMemory) e = ⊥
+-- a script was run with these secret words, under an order of its events, which for a run is what its threads did
+abbrev pub EndsRun : CommandSeen → NamedSeen → ScriptSeen → (secrets : ℕ → ℕ) → Ended → Type 0
+EndsRun c n s secrets e = (order : List ℕ) × IsOrderOf c s order × (e ≡ run_end n s secrets order) × ThreadsOf c s secrets e
 
--- the other inputs are loaded for a run; check loads nothing else
+-- a script is run where the inputs have no fault, and else that fault is told; want of memory is no ending
+abbrev pub InputsEnd : CommandSeen → NamedSeen → ScriptSeen → Result Inputs InputFault → Ended → Type 0
+InputsEnd c n s (Ok inputs) e = EndsRun c n s (slice_index inputs.secrets.items) e
+InputsEnd c n s (Err (fault.Unread i)) e = e ≡ unread_end (input_name n i)
+InputsEnd c n s (Err (fault.Container place)) e = e ≡ container_end place
+InputsEnd c n s (Err fault.Keys) e = e ≡ keys_end
+InputsEnd c n s (Err fault.Secrets) e = e ≡ secrets_end
+InputsEnd c n s (Err fault.OutOfMemory) e = ⊥
+
+-- the other inputs are loaded for a run
+abbrev pub NamedEnd : Option (List ℕ → Option (List ℕ)) → CommandSeen → NamedSeen → ScriptSeen → Reads → Reads → Ended → Type 0
+NamedEnd contents c n s old new e = (r : Result Inputs InputFault) × TakesInputs contents n old new r × InputsEnd c n s r e
+
+-- check loads nothing else
 abbrev pub ScriptEnd : Option (List ℕ → Option (List ℕ)) → CommandSeen → ScriptSeen → Reads → Reads → Ended → Type 0
-ScriptEnd contents (Replay n) s old new e = (r : Result (Unit {0}) InputFault) × TakesInputs contents n old new r × InputsEnd n s r e
+ScriptEnd contents (Replay n) s old new e = NamedEnd contents (Replay n) n s old new e
+ScriptEnd contents (Run n) s old new e = NamedEnd contents (Run n) n s old new e
 ScriptEnd contents (Check name) s old new e = (new ≡ old) × (e ≡ check_end s)
 
 -- and nothing else is loaded where the script isn't in the grammar
@@ -57,8 +69,12 @@ pub record Reaches (contents : Option (List ℕ → Option (List ℕ))) (c : Com
   pub ends : AnswerEnd contents c between new answer e
 
 -- behind the script nothing was loaded, or the inputs, of which check has none
+abbrev pub TakesSome : Option (List ℕ → Option (List ℕ)) → NamedSeen → Reads → Reads → Type 0
+TakesSome contents n old new = (r : Result Inputs InputFault) × TakesInputs contents n old new r
+
 abbrev pub InputsPart : Option (List ℕ → Option (List ℕ)) → CommandSeen → Reads → Reads → Type 0
-InputsPart contents (Replay n) old new = (r : Result (Unit {0}) InputFault) × TakesInputs contents n old new r
+InputsPart contents (Replay n) old new = TakesSome contents n old new
+InputsPart contents (Run n) old new = TakesSome contents n old new
 InputsPart contents (Check name) old new = ⊥
 
 abbrev pub FurtherPart : Option (List ℕ → Option (List ℕ)) → CommandSeen → Reads → Reads → Type 0

@@ -1,7 +1,9 @@
 -- How a command ends: its status, its text and what it saves, over the contents that are told.
-use Rattle.std.specs.Prelude.{ℕ, ◌+◌, ◌^◌, List, [], ◌∷◌, ◌++◌, length, Option, Some, None, option_map, Result, Ok, Err, ◌==◌, nat_le, if◌then◌else◌, codes}
+use Rattle.std.specs.Prelude.{◌≡◌, ℕ, ◌+◌, ◌*◌, ◌^◌, ◌<◌, List, [], ◌∷◌, ◌++◌, length, drop, Option, Some, None, option_map, Result, Ok, Err, ◌==◌, nat_le, if◌then◌else◌, codes}
+use Rattle.std.specs.List.{All}
 use Rattle.std.specs.Fmt.{decimal}
 use Rattle.std.specs.Str.{bytes_eq}
+use Rattle.byteorder.specs.Endian.{little_number}
 use Rattle.td_words.specs.Seen.{CodeSeen}
 use Rattle.td_words.specs.declared.calls.Call.{Call}
 use Rattle.script_text.specs.declared.faults.Reason.{Reason}
@@ -10,16 +12,15 @@ use Rattle.script_text.specs.declared.faults.ScriptFault.TheVariants.{Bad, OutOf
 use Rattle.script_text.specs.ReasonText.{reason_text}
 use Rattle.script_text.specs.Reading.{read_of}
 use Rattle.script_text.specs.Seen.{ScriptSeen}
-use Rattle.flat_core.specs.Opening.{Opening}
 use Rattle.flat_core.specs.HostText.{host_text}
 use Rattle.flat_core.specs.GuestText.{guest_text}
-use Rattle.leaf_dispatch.specs.Table.{code_in}
+use Rattle.run_texts.specs.Openings.{opening_of}
 use Rattle.bundle_store.specs.Containers.{container_in, container_bytes}
 use Rattle.command_files.specs.declared.inputs.Input.{Input}
 use Rattle.command_files.specs.declared.inputs.Input.TheVariants as input
 use Rattle.command_files.specs.declared.inputs.InputFault.{InputFault}
 use Rattle.command_files.specs.declared.inputs.InputFault.TheVariants as fault
-use Rattle.command_files.specs.Commands.{NamedSeen, CommandSeen, Replay, Check, script_name}
+use Rattle.command_files.specs.Commands.{NamedSeen, CommandSeen, Replay, Run, Check, script_name}
 use Rattle.command_files.specs.Inputs.{place_fault, first}
 use Rattle.script_runner.specs.declared.ending.Ending.{Ending}
 
@@ -50,10 +51,6 @@ ending_seen e = record {
   files = both_files (option_map (λ name. name.now) e.out_bundles) (option_map (λ name. name.now) e.guest_out) e.guest.items;
 }
 
--- what a script opens: no bundles come in, and each secret word is 0
-abbrev pub opening_of : ScriptSeen → Opening
-opening_of s = record { machine = s.machine; codes = code_in s.codes; calls = s.calls; bundles = λ slot. None; secrets = λ i. 0 }
-
 -- texts, each by its status
 
 abbrev pub usage_end : Ended
@@ -68,9 +65,19 @@ unread_end name = record { status = 3; text = codes "cannot read " ++ name ++ 10
 abbrev pub memory_end : Ended
 memory_end = record { status = 5; text = codes "out of memory" ++ 10 ∷ []; files = [] }
 
--- a script is run under its schedule; what its guests noted is the text of the guest file
-abbrev pub run_end : NamedSeen → ScriptSeen → Ended
-run_end n s = record { status = 0; text = host_text (opening_of s) s.schedule; files = both_files n.out_bundles n.guest_out (guest_text (opening_of s) s.schedule) }
+-- the order of a script's events: a replay's is the schedule; a run's is one of its processors, which no reader is told
+abbrev pub IsOrderOf : CommandSeen → ScriptSeen → List ℕ → Type 0
+IsOrderOf (Replay n) s order = order ≡ s.schedule
+IsOrderOf (Run n) s order = All (λ p. p < length s.calls) order
+IsOrderOf (Check name) s order = Unit {0}
+
+-- a script's run with these secret words under that order; what its guests noted is the text of the guest file
+abbrev pub run_end : NamedSeen → ScriptSeen → (secrets : ℕ → ℕ) → (order : List ℕ) → Ended
+run_end n s secrets order = record {
+  status = 0;
+  text = host_text (opening_of secrets s) order;
+  files = both_files n.out_bundles n.guest_out (guest_text (opening_of secrets s) order);
+}
 
 -- how many calls these lists have, and how many guest operations
 abbrev pub calls_in : List (List Call) → ℕ
@@ -91,9 +98,10 @@ abbrev pub check_end : ScriptSeen → Ended
 check_end s = record { status = 0; text = check_text s; files = [] }
 
 -- what a command comes to with a script where nothing is wrong
-abbrev pub success_end : CommandSeen → ScriptSeen → Ended
-success_end (Replay n) s = run_end n s
-success_end (Check name) s = check_end s
+abbrev pub success_end : CommandSeen → ScriptSeen → (secrets : ℕ → ℕ) → (order : List ℕ) → Ended
+success_end (Replay n) s secrets order = run_end n s secrets order
+success_end (Run n) s secrets order = run_end n s secrets order
+success_end (Check name) s secrets order = check_end s
 
 abbrev pub fault_end : ScriptFault → Ended
 fault_end (Bad line reason) = bad_end line reason
@@ -106,6 +114,10 @@ container_end place = record { status = 6; text = codes "bundle file byte " ++ (
 -- the key file hasn't its length
 abbrev pub keys_end : Ended
 keys_end = record { status = 7; text = codes "key file" ++ 10 ∷ []; files = [] }
+
+-- the secrets file hasn't its length
+abbrev pub secrets_end : Ended
+secrets_end = record { status = 7; text = codes "secrets file" ++ 10 ∷ []; files = [] }
 
 -- a save failed
 abbrev pub unwritten_end : List ℕ → Ended
@@ -120,6 +132,7 @@ name_in (Some name) = name
 abbrev pub input_name : NamedSeen → Input → List ℕ
 input_name n input.Bundles = name_in n.bundles
 input_name n input.Keys = name_in n.keys
+input_name n input.Secrets = name_in n.secrets
 
 -- what an input has, where it is named; None in it says that the name isn't there
 abbrev pub held : (List ℕ → Option (List ℕ)) → Option (List ℕ) → Option (Option (List ℕ))
@@ -138,46 +151,82 @@ container_wrong None = None
 container_wrong (Some None) = None
 container_wrong (Some (Some bytes)) = if nat_le (length bytes) (2 ^ 29) then place_fault (container_in bytes) else Some (fault.Container (2 ^ 29))
 
--- the key file hasn't 64 bytes
-abbrev pub keys_wrong : Option (Option (List ℕ)) → Option InputFault
-keys_wrong None = None
-keys_wrong (Some None) = None
-keys_wrong (Some (Some bytes)) = if length bytes == 64 then None else Some fault.Keys
+-- an input that is there hasn't so many bytes, which is that fault
+abbrev pub length_wrong : ℕ → InputFault → Option (Option (List ℕ)) → Option InputFault
+length_wrong bytes f None = None
+length_wrong bytes f (Some None) = None
+length_wrong bytes f (Some (Some given)) = if length given == bytes then None else Some f
 
--- the first fault of the inputs: both are there, and then the form of both is tested, the container's first
-abbrev pub wrong_input : (bundles keys : Option (Option (List ℕ))) → Option InputFault
-wrong_input bundles keys = first (absent_fault input.Bundles bundles) (first (absent_fault input.Keys keys) (first (container_wrong bundles) (keys_wrong keys)))
+-- a named input isn't there: the container, else the key file, else the secrets file
+abbrev pub absent_input : (bundles keys secrets : Option (Option (List ℕ))) → Option InputFault
+absent_input bundles keys secrets = first (absent_fault input.Bundles bundles) (first (absent_fault input.Keys keys) (absent_fault input.Secrets secrets))
+
+-- one that is there hasn't its form, in the same order
+abbrev pub form_wrong : (bundles keys secrets : Option (Option (List ℕ))) → Option InputFault
+form_wrong bundles keys secrets = first (container_wrong bundles) (first (length_wrong 64 fault.Keys keys) (length_wrong 4096 fault.Secrets secrets))
+
+-- the first fault of the inputs: all are there, and then the form of each is tested
+abbrev pub wrong_input : (List ℕ → Option (List ℕ)) → NamedSeen → Option InputFault
+wrong_input contents n =
+    first (absent_input (held contents n.bundles) (held contents n.keys) (held contents n.secrets)) (form_wrong (held contents n.bundles) (held contents n.keys) (held contents n.secrets))
 
 -- check has no inputs
 abbrev pub command_wrong : (List ℕ → Option (List ℕ)) → CommandSeen → Option InputFault
-command_wrong contents (Replay n) = wrong_input (held contents n.bundles) (held contents n.keys)
+command_wrong contents (Replay n) = wrong_input contents n
+command_wrong contents (Run n) = wrong_input contents n
 command_wrong contents (Check name) = None
 
--- a script is run where its inputs have no fault, which else is told
-abbrev pub inputs_end : NamedSeen → ScriptSeen → Option InputFault → Ended
-inputs_end n s None = run_end n s
-inputs_end n s (Some (fault.Unread i)) = unread_end (input_name n i)
-inputs_end n s (Some (fault.Container place)) = container_end place
-inputs_end n s (Some fault.Keys) = keys_end
-inputs_end n s (Some fault.OutOfMemory) = memory_end
+-- the secret word of number i of a secrets file that has these bytes; without a file each is 0
+abbrev pub held_word : Option (Option (List ℕ)) → ℕ → ℕ
+held_word None i = 0
+held_word (Some None) i = 0
+held_word (Some (Some bytes)) i = little_number 8 (drop (8 * i) bytes)
 
-abbrev pub script_end : (List ℕ → Option (List ℕ)) → CommandSeen → ScriptSeen → Ended
-script_end contents (Replay n) s = inputs_end n s (wrong_input (held contents n.bundles) (held contents n.keys))
-script_end contents (Check name) s = check_end s
+-- the secrets file that a command names
+abbrev pub secrets_named : CommandSeen → Option (List ℕ)
+secrets_named (Replay n) = n.secrets
+secrets_named (Run n) = n.secrets
+secrets_named (Check name) = None
+
+-- the secret words that this file has
+abbrev pub secrets_held : (List ℕ → Option (List ℕ)) → CommandSeen → ℕ → ℕ
+secrets_held contents c = held_word (held contents (secrets_named c))
+
+-- a script is run where its inputs have no fault, which else is told
+abbrev pub inputs_end : NamedSeen → ScriptSeen → (secrets : ℕ → ℕ) → (order : List ℕ) → Option InputFault → Ended
+inputs_end n s secrets order None = run_end n s secrets order
+inputs_end n s secrets order (Some (fault.Unread i)) = unread_end (input_name n i)
+inputs_end n s secrets order (Some (fault.Container place)) = container_end place
+inputs_end n s secrets order (Some fault.Keys) = keys_end
+inputs_end n s secrets order (Some fault.Secrets) = secrets_end
+inputs_end n s secrets order (Some fault.OutOfMemory) = memory_end
+
+abbrev pub named_end : (List ℕ → Option (List ℕ)) → NamedSeen → ScriptSeen → (order : List ℕ) → Ended
+named_end contents n s order = inputs_end n s (held_word (held contents n.secrets)) order (wrong_input contents n)
+
+abbrev pub script_end : (List ℕ → Option (List ℕ)) → CommandSeen → ScriptSeen → (order : List ℕ) → Ended
+script_end contents (Replay n) s order = named_end contents n s order
+script_end contents (Run n) s order = named_end contents n s order
+script_end contents (Check name) s order = check_end s
 
 -- the inputs count where the script is in the grammar
-abbrev pub read_end : (List ℕ → Option (List ℕ)) → CommandSeen → Result ScriptSeen ScriptFault → Ended
-read_end contents c (Ok s) = script_end contents c s
-read_end contents c (Err f) = fault_end f
+abbrev pub read_end : (List ℕ → Option (List ℕ)) → CommandSeen → (order : List ℕ) → Result ScriptSeen ScriptFault → Ended
+read_end contents c order (Ok s) = script_end contents c s order
+read_end contents c order (Err f) = fault_end f
 
-abbrev pub held_end : (List ℕ → Option (List ℕ)) → CommandSeen → Option (List ℕ) → Ended
-held_end contents c None = unread_end (script_name c)
-held_end contents c (Some bytes) = read_end contents c (read_of bytes)
+abbrev pub held_end : (List ℕ → Option (List ℕ)) → CommandSeen → (order : List ℕ) → Option (List ℕ) → Ended
+held_end contents c order None = unread_end (script_name c)
+held_end contents c order (Some bytes) = read_end contents c order (read_of bytes)
 
--- the ending that is due, where nothing fails
-abbrev pub ending_of : (List ℕ → Option (List ℕ)) → Option CommandSeen → Ended
-ending_of contents None = usage_end
-ending_of contents (Some c) = held_end contents c (contents (script_name c))
+-- the ending that is due, where nothing fails; a run of the script has its events in that order
+abbrev pub ending_of : (List ℕ → Option (List ℕ)) → Option CommandSeen → (order : List ℕ) → Ended
+ending_of contents None order = usage_end
+ending_of contents (Some c) order = held_end contents c order (contents (script_name c))
+
+-- that is an order of the script's events, where the command's script is there and in the grammar
+abbrev pub IsOrderIn : (List ℕ → Option (List ℕ)) → Option CommandSeen → List ℕ → Type 0
+IsOrderIn contents c order = (command : CommandSeen) (bytes : List ℕ) (script : ScriptSeen) → c ≡ Some command → contents (script_name command) ≡ Some bytes → read_of bytes ≡ Ok script
+    → IsOrderOf command script order
 
 -- what names have, if that one isn't there
 abbrev pub without : List ℕ → (List ℕ → Option (List ℕ)) → List ℕ → Option (List ℕ)

@@ -6,9 +6,10 @@ use Rattle.script_text.specs.Reading.{read_of}
 use Rattle.script_text.specs.Seen.{ScriptSeen}
 use Rattle.bundle_store.specs.Outside.{Rose, Gains}
 use Rattle.bundle_store.specs.Containers.{container_in}
-use Rattle.command_files.specs.Commands.{NamedSeen, CommandSeen, Replay, Check, script_name}
-use Rattle.script_runner.specs.Ending.{ToSave, Ended, unread_end, memory_end, unwritten_end, success_end, command_wrong, ending_of, without}
+use Rattle.command_files.specs.Commands.{NamedSeen, CommandSeen, Replay, Run, Check, named_of, script_name}
+use Rattle.script_runner.specs.Ending.{ToSave, Ended, unread_end, memory_end, unwritten_end, success_end, command_wrong, secrets_held, ending_of, IsOrderOf, IsOrderIn, without}
 use Rattle.script_runner.specs.Saving.{Writes, AllSaved, IsAmong}
+use Rattle.script_runner.specs.Blind.{HasBlindText}
 
 -- how often reading and writing files failed, and putting to the output
 pub record Faults : Type 0 where
@@ -18,16 +19,20 @@ pub record Faults : Type 0 where
 
 -- ---- how a call ends, where contents are told
 
+-- it is the ending that is due, under an order of the script's events
+abbrev pub IsDueEnding : (List ℕ → Option (List ℕ)) → Option CommandSeen → Ended → Type 0
+IsDueEnding contents c e = (order : List ℕ) × IsOrderIn contents c order × (e ≡ ending_of contents c order)
+
 -- reading a name failed, which counts as if it weren't there
 pub record ReadingFailed (before after : Faults) (contents : List ℕ → Option (List ℕ)) (c : Option CommandSeen) (e : Ended) : Type 0 where
   pub name : List ℕ
   pub told : e ≡ unread_end name
-  pub due : e ≡ ending_of (without name contents) c
+  pub due : IsDueEnding (without name contents) c e
   pub rose : Rose before.reads after.reads
 
 -- the ending that is due, or a read fault
 abbrev pub IsEnding : (before after : Faults) → (List ℕ → Option (List ℕ)) → Option CommandSeen → Ended → Type 0
-IsEnding before after contents c e = (e ≡ ending_of contents c) ⊎ ReadingFailed before after contents c e
+IsEnding before after contents c e = IsDueEnding contents c e ⊎ ReadingFailed before after contents c e
 
 -- a front of these bytes was put
 abbrev pub PutsPart : Option (List ℕ) → List ℕ → Option (List ℕ) → Type 0
@@ -70,8 +75,9 @@ EndsWith before after contents c old new status =
 -- ---- what each status says, where contents are told
 
 -- One run: the named script is there and is in the grammar, the named inputs are there and have their forms, the output got
--- just the reply lines of the flat machine's run of the script under its schedule, and then each file that is named was saved,
--- the guest file with what the guests of that same run noted. For check: the output got the script's numbers.
+-- just the reply lines of the flat machine's run of the script, with the secret words of the named file, under one order of
+-- its events, which for a replay is the schedule; and then each file that is named was saved, the guest file with what the
+-- guests of that same run noted. For check: the output got the script's numbers.
 pub record OneRun (contents : List ℕ → Option (List ℕ)) (c : Option CommandSeen) (old new : Option (List ℕ)) (written written' : Writes) : Type 0 where
   pub command : CommandSeen
   pub read_as : c ≡ Some command
@@ -80,8 +86,16 @@ pub record OneRun (contents : List ℕ → Option (List ℕ)) (c : Option Comman
   pub script : ScriptSeen
   pub reads : read_of bytes ≡ Ok script
   pub fits : command_wrong contents command ≡ None
-  pub prints : Gains old (success_end command script).text new
-  pub saves : AllSaved (success_end command script).files written written'
+  pub order : List ℕ
+  pub is_order : IsOrderOf command script order
+  pub prints : Gains old (success_end command script (secrets_held contents command) order).text new
+  pub saves : AllSaved (success_end command script (secrets_held contents command) order).files written written'
+
+-- the text that the output got is the same in two worlds
+abbrev pub ShowsBlind : (contents : List ℕ → Option (List ℕ)) → (c : Option CommandSeen) → (old new : Option (List ℕ)) → (written written' : Writes) → Type 0
+ShowsBlind contents c old new written written' =
+    (run : OneRun contents c old new written written')
+    × HasBlindText run.command run.script (secrets_held contents run.command) run.order (success_end run.command run.script (secrets_held contents run.command) run.order).text
 
 -- the named script is there and isn't in the grammar
 pub record IsBadScript (contents : List ℕ → Option (List ℕ)) (c : Option CommandSeen) : Type 0 where
@@ -94,8 +108,12 @@ pub record IsBadScript (contents : List ℕ → Option (List ℕ)) (c : Option C
   pub reads : read_of bytes ≡ Err (Bad line reason)
 
 -- an input beside the script has that name
+abbrev pub NamesInput : NamedSeen → List ℕ → Type 0
+NamesInput n name = (n.bundles ≡ Some name) ⊎ (n.keys ≡ Some name) ⊎ (n.secrets ≡ Some name)
+
 abbrev pub IsInput : CommandSeen → List ℕ → Type 0
-IsInput (Replay n) name = (n.bundles ≡ Some name) ⊎ (n.keys ≡ Some name)
+IsInput (Replay n) name = NamesInput n name
+IsInput (Run n) name = NamesInput n name
 IsInput (Check script) name = ⊥
 
 -- the command reads that name
@@ -116,23 +134,31 @@ IsNoContainer bytes = ((place : ℕ) × (container_in bytes ≡ Err place)) ⊎ 
 
 -- the named container is there, and is none
 pub record IsBadContainer (contents : List ℕ → Option (List ℕ)) (c : Option CommandSeen) : Type 0 where
-  pub command : NamedSeen
-  pub read_as : c ≡ Some (Replay command)
+  pub command : CommandSeen
+  pub read_as : c ≡ Some command
+  pub options : NamedSeen
+  pub has : named_of command ≡ Some options
   pub name : List ℕ
-  pub named : command.bundles ≡ Some name
+  pub named : options.bundles ≡ Some name
   pub bytes : List ℕ
   pub there : contents name ≡ Some bytes
   pub wrong : IsNoContainer bytes
 
--- the named key file is there, and hasn't its length
-pub record IsBadKeys (contents : List ℕ → Option (List ℕ)) (c : Option CommandSeen) : Type 0 where
-  pub command : NamedSeen
-  pub read_as : c ≡ Some (Replay command)
+-- the file that an option names is there, and hasn't so many bytes
+pub record HasWrongLength (file : NamedSeen → Option (List ℕ)) (count : ℕ) (contents : List ℕ → Option (List ℕ)) (c : Option CommandSeen) : Type 0 where
+  pub command : CommandSeen
+  pub read_as : c ≡ Some command
+  pub options : NamedSeen
+  pub has : named_of command ≡ Some options
   pub name : List ℕ
-  pub named : command.keys ≡ Some name
+  pub named : file options ≡ Some name
   pub bytes : List ℕ
   pub there : contents name ≡ Some bytes
-  pub wrong : length bytes ≢ 64
+  pub wrong : length bytes ≢ count
+
+-- the key file or the secrets file hasn't its length
+abbrev pub IsBadLength : (List ℕ → Option (List ℕ)) → Option CommandSeen → Type 0
+IsBadLength contents c = HasWrongLength (λ n. n.keys) 64 contents c ⊎ HasWrongLength (λ n. n.secrets) 4096 contents c
 
 -- ---- causes
 
@@ -165,3 +191,7 @@ IsOwnText files status text =
 abbrev pub PutsFronts : Option (List ℕ) → Ended → ℕ → Option (List ℕ) → Type 0
 PutsFronts old due status new =
     (own : List ℕ) × IsOwnText due.files status own × (n m : ℕ) × Gains old (take n (success_text due) ++ take m own) new
+
+-- the same, for the ending that is due under an order of the script's events
+abbrev pub PutsFrontsOf : (List ℕ → Option (List ℕ)) → Option CommandSeen → Option (List ℕ) → ℕ → Option (List ℕ) → Type 0
+PutsFrontsOf contents c old status new = (order : List ℕ) × IsOrderIn contents c order × PutsFronts old (ending_of contents c order) status new

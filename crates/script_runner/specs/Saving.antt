@@ -3,7 +3,7 @@ use Rattle.std.specs.Prelude.{◌≡◌, ◌⊎◌, ℕ, ◌≤◌, List, [], �
 use Rattle.bundle_store.specs.declared.outside.SaveFault.{SaveFault}
 use Rattle.bundle_store.specs.Outside.{SavesTold, SaveCause}
 use Rattle.bundle_store.specs.History.{Saved}
-use Rattle.command_files.specs.Commands.{CommandSeen, Replay, Check}
+use Rattle.command_files.specs.Commands.{NamedSeen, CommandSeen, Replay, Run, Check}
 use Rattle.script_runner.specs.Ending.{ToSave}
 
 -- what the law of a save speaks of: contents, the saves so far, and how often writing failed
@@ -35,7 +35,11 @@ abbrev pub named_once : Option (List ℕ) → List (List ℕ)
 named_once None = []
 named_once (Some name) = name ∷ []
 
+abbrev pub outs_of : NamedSeen → List (List ℕ)
+outs_of n = named_once n.out_bundles ++ named_once n.guest_out
+
 abbrev pub out_names : Option CommandSeen → List (List ℕ)
 out_names None = []
-out_names (Some (Replay n)) = named_once n.out_bundles ++ named_once n.guest_out
+out_names (Some (Replay n)) = outs_of n
+out_names (Some (Run n)) = outs_of n
 out_names (Some (Check name)) = []

@@ -1,19 +1,19 @@
 //! The ending that is due by what a command loads.
 
-ghost use Rattle.std.specs.Prelude.{◌≡◌, ◌≢◌, ◌≤◌, Result, IfOk};
+ghost use Rattle.std.specs.Prelude.{◌≡◌, ◌≢◌, ◌≤◌, IfOk};
 ghost use Rattle.script_text.specs.Laws.{IsInForm};
 ghost use Rattle.script_text.specs.Reading.{read_of};
-ghost use Rattle.command_files.specs.Commands.{named_seen, command_seen, script_name};
-ghost use Rattle.command_files.specs.Inputs.{TakesInputs};
-ghost use Rattle.command_files.specs.declared.inputs.InputFault.{InputFault};
+ghost use Rattle.command_files.specs.Commands.{Replay, Run, named_seen, command_seen, script_name};
 ghost use Rattle.script_runner.specs.Ending.{ending_seen};
-ghost use Rattle.script_runner.specs.Commanded.{InputsEnd, ScriptEnd, ReadEnd, AnswerEnd, FurtherPart, Reaches, ReachesPart};
+ghost use Rattle.script_runner.specs.Commanded.{NamedEnd, TakesSome, ScriptEnd, ReadEnd, AnswerEnd, FurtherPart, Reaches, ReachesPart};
 
-use crate::ending::{Ending, bad, check, of_fault, run, unread};
+use crate::ending::{Ending, bad, check, of_fault, replay, run, unread};
 use bundle_store::{Files, LoadFault};
 use command_files::{Command, Named, take_inputs};
+use leaf_engine::Gate;
 use script_text::{Reason, Script, ScriptFault, read_script, scripts_are_in_form};
 use std::alloc::{AllocError, Global};
+use std::thread::Threads;
 
 const MOST_SCRIPT: u64 = 1 << 24;
 
@@ -21,21 +21,21 @@ fn script_name<'a>(command: &Command<'a>) -> &'a str
     ensures { result.now ≡ script_name (command_seen command.now) }
 {
     match command {
-        Command::Replay(named) => named.script,
+        Command::Replay(named) | Command::Run(named) => named.script,
         Command::Check(script) => script,
     }
 }
 
-// What a script that is to be run comes to: its inputs are taken, and then it is run.
-fn of_run<'a, F: Files>(
+// What a script that is to be replayed comes to: its inputs are taken, and then it is replayed.
+fn of_replay<'a, F: Files>(
     alloc: Global,
     script: &Script,
     named: &Named<'a>,
     files: &mut F,
 ) -> Result<Ending<'a>, AllocError>
     requires { IsInForm script.now }
-    ensures ends { IfOk result (λ e. (r : Result (Unit {0}) InputFault) × TakesInputs (F.contents files.old) (named_seen named.now) (record { loads = F.loads files.old; faults = F.read_faults files.old; bytes = F.bytes_read files.old }) (record { loads = F.loads files.new; faults = F.read_faults files.new; bytes = F.bytes_read files.new }) r × InputsEnd (named_seen named.now) script.now r (ending_seen e)) }
-    ensures part { (r : Result (Unit {0}) InputFault) × TakesInputs (F.contents files.old) (named_seen named.now) (record { loads = F.loads files.old; faults = F.read_faults files.old; bytes = F.bytes_read files.old }) (record { loads = F.loads files.new; faults = F.read_faults files.new; bytes = F.bytes_read files.new }) r }
+    ensures ends { IfOk result (λ e. NamedEnd (F.contents files.old) (Replay (named_seen named.now)) (named_seen named.now) script.now (record { loads = F.loads files.old; faults = F.read_faults files.old; bytes = F.bytes_read files.old }) (record { loads = F.loads files.new; faults = F.read_faults files.new; bytes = F.bytes_read files.new }) (ending_seen e)) }
+    ensures part { TakesSome (F.contents files.old) (named_seen named.now) (record { loads = F.loads files.old; faults = F.read_faults files.old; bytes = F.bytes_read files.old }) (record { loads = F.loads files.new; faults = F.read_faults files.new; bytes = F.bytes_read files.new }) }
     ensures same { F.contents files.new ≡ F.contents files.old }
     ensures saves { F.saves files.new ≡ F.saves files.old }
     ensures writes { F.write_faults files.new ≡ F.write_faults files.old }
@@ -46,19 +46,48 @@ fn of_run<'a, F: Files>(
     ensures few { IfOk result (λ e. e.status ≤ 7) }
 {
     match take_inputs(alloc, named, files) {
-        Ok(()) => run(alloc, script, named),
+        Ok(inputs) => replay(alloc, script, named, &inputs.secrets),
+        Err(fault) => of_fault(alloc, named, fault),
+    }
+}
+
+// The same of one that is to be run in threads.
+fn of_run<'a, R: Threads + Sync, F: Files, G: Gate + Sync>(
+    threads: &R,
+    alloc: Global,
+    script: &Script,
+    named: &Named<'a>,
+    files: &mut F,
+    gate: &G,
+) -> Result<Ending<'a>, AllocError>
+    requires { IsInForm script.now }
+    ensures ends { IfOk result (λ e. NamedEnd (F.contents files.old) (Run (named_seen named.now)) (named_seen named.now) script.now (record { loads = F.loads files.old; faults = F.read_faults files.old; bytes = F.bytes_read files.old }) (record { loads = F.loads files.new; faults = F.read_faults files.new; bytes = F.bytes_read files.new }) (ending_seen e)) }
+    ensures part { TakesSome (F.contents files.old) (named_seen named.now) (record { loads = F.loads files.old; faults = F.read_faults files.old; bytes = F.bytes_read files.old }) (record { loads = F.loads files.new; faults = F.read_faults files.new; bytes = F.bytes_read files.new }) }
+    ensures same { F.contents files.new ≡ F.contents files.old }
+    ensures saves { F.saves files.new ≡ F.saves files.old }
+    ensures writes { F.write_faults files.new ≡ F.write_faults files.old }
+    ensures later { F.read_faults files.old ≤ F.read_faults files.new }
+    ensures quiet { IfOk result (λ e. e.status ≡ 0 → F.read_faults files.new ≡ F.read_faults files.old) }
+    ensures not_usage { IfOk result (λ e. e.status ≢ 1) }
+    ensures not_write { IfOk result (λ e. e.status ≢ 4) }
+    ensures few { IfOk result (λ e. e.status ≤ 7) }
+{
+    match take_inputs(alloc, named, files) {
+        Ok(inputs) => run(threads, alloc, script, named, &inputs.secrets, gate),
         Err(fault) => of_fault(alloc, named, fault),
     }
 }
 
 // What a script comes to by its command.
-fn of_script<'a, F: Files>(
+fn of_script<'a, R: Threads + Sync, F: Files, G: Gate + Sync>(
+    threads: &R,
     alloc: Global,
     script: &Script,
     command: &Command<'a>,
     files: &mut F,
+    gate: &G,
 ) -> Result<Ending<'a>, AllocError>
-    requires { IsInForm script.now }
+    requires form { IsInForm script.now }
     ensures ends { IfOk result (λ e. ScriptEnd (F.contents files.old) (command_seen command.now) script.now (record { loads = F.loads files.old; faults = F.read_faults files.old; bytes = F.bytes_read files.old }) (record { loads = F.loads files.new; faults = F.read_faults files.new; bytes = F.bytes_read files.new }) (ending_seen e)) }
     ensures part { FurtherPart (F.contents files.old) (command_seen command.now) (record { loads = F.loads files.old; faults = F.read_faults files.old; bytes = F.bytes_read files.old }) (record { loads = F.loads files.new; faults = F.read_faults files.new; bytes = F.bytes_read files.new }) }
     ensures same { F.contents files.new ≡ F.contents files.old }
@@ -71,17 +100,20 @@ fn of_script<'a, F: Files>(
     ensures few { IfOk result (λ e. e.status ≤ 7) }
 {
     match command {
-        Command::Replay(named) => of_run(alloc, script, named, files),
+        Command::Replay(named) => of_replay(alloc, script, named, files),
+        Command::Run(named) => of_run(threads, alloc, script, named, files, gate),
         Command::Check(_) => check(alloc, script),
     }
 }
 
 // What the bytes of a script come to.
-fn of_bytes<'a, F: Files>(
+fn of_bytes<'a, R: Threads + Sync, F: Files, G: Gate + Sync>(
+    threads: &R,
     alloc: Global,
     bytes: Vec<u8>,
     command: &Command<'a>,
     files: &mut F,
+    gate: &G,
 ) -> Result<Ending<'a>, AllocError>
     ensures ends { IfOk result (λ e. ReadEnd (F.contents files.old) (command_seen command.now) (record { loads = F.loads files.old; faults = F.read_faults files.old; bytes = F.bytes_read files.old }) (record { loads = F.loads files.new; faults = F.read_faults files.new; bytes = F.bytes_read files.new }) (read_of bytes.items) (ending_seen e)) }
     ensures part { FurtherPart (F.contents files.old) (command_seen command.now) (record { loads = F.loads files.old; faults = F.read_faults files.old; bytes = F.bytes_read files.old }) (record { loads = F.loads files.new; faults = F.read_faults files.new; bytes = F.bytes_read files.new }) }
@@ -99,18 +131,20 @@ fn of_bytes<'a, F: Files>(
     // The bytes' memory goes back before the run takes its own.
     drop(bytes);
     match read {
-        Ok(script) => of_script(alloc, &script, command, files),
+        Ok(script) => of_script(threads, alloc, &script, command, files, gate),
         Err(ScriptFault::Bad { line, reason }) => bad(alloc, line, reason),
         Err(ScriptFault::OutOfMemory) => Err(AllocError),
     }
 }
 
 // What the load of a script comes to.
-fn of_answer<'a, F: Files>(
+fn of_answer<'a, R: Threads + Sync, F: Files, G: Gate + Sync>(
+    threads: &R,
     alloc: Global,
     answer: Result<Vec<u8>, LoadFault>,
     command: &Command<'a>,
     files: &mut F,
+    gate: &G,
 ) -> Result<Ending<'a>, AllocError>
     ensures ends { IfOk result (λ e. AnswerEnd (F.contents files.old) (command_seen command.now) (record { loads = F.loads files.old; faults = F.read_faults files.old; bytes = F.bytes_read files.old }) (record { loads = F.loads files.new; faults = F.read_faults files.new; bytes = F.bytes_read files.new }) answer (ending_seen e)) }
     ensures part { FurtherPart (F.contents files.old) (command_seen command.now) (record { loads = F.loads files.old; faults = F.read_faults files.old; bytes = F.bytes_read files.old }) (record { loads = F.loads files.new; faults = F.read_faults files.new; bytes = F.bytes_read files.new }) }
@@ -124,7 +158,7 @@ fn of_answer<'a, F: Files>(
     ensures few { IfOk result (λ e. e.status ≤ 7) }
 {
     match answer {
-        Ok(bytes) => of_bytes(alloc, bytes, command, files),
+        Ok(bytes) => of_bytes(threads, alloc, bytes, command, files, gate),
         Err(LoadFault::TooLong) => bad(alloc, 0, Reason::Length),
         Err(LoadFault::Absent) => unread(alloc, script_name(command)),
         Err(LoadFault::Failed) => unread(alloc, script_name(command)),
@@ -134,10 +168,12 @@ fn of_answer<'a, F: Files>(
 
 /// What a command comes to: its script is loaded and read, then its inputs are taken, and then it is
 /// run; for check its numbers are told.
-pub fn of_command<'a, F: Files>(
+pub fn of_command<'a, R: Threads + Sync, F: Files, G: Gate + Sync>(
+    threads: &R,
     alloc: Global,
     command: &Command<'a>,
     files: &mut F,
+    gate: &G,
 ) -> Result<Ending<'a>, AllocError>
     ensures ends { IfOk result (λ e. Reaches (F.contents files.old) (command_seen command.now) (record { loads = F.loads files.old; faults = F.read_faults files.old; bytes = F.bytes_read files.old }) (record { loads = F.loads files.new; faults = F.read_faults files.new; bytes = F.bytes_read files.new }) (ending_seen e)) }
     ensures part { ReachesPart (F.contents files.old) (command_seen command.now) (record { loads = F.loads files.old; faults = F.read_faults files.old; bytes = F.bytes_read files.old }) (record { loads = F.loads files.new; faults = F.read_faults files.new; bytes = F.bytes_read files.new }) }
@@ -151,5 +187,5 @@ pub fn of_command<'a, F: Files>(
     ensures few { IfOk result (λ e. e.status ≤ 7) }
 {
     let answer = files.load(alloc, script_name(command), MOST_SCRIPT);
-    of_answer(alloc, answer, command, files)
+    of_answer(threads, alloc, answer, command, files, gate)
 }

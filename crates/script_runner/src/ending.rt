@@ -1,16 +1,19 @@
 //! How a command ends: its status, the text that is put, and the files that are saved.
 
-ghost use Rattle.std.specs.Prelude.{◌≡◌, ◌≢◌, ◌≤◌, ◌<◌, ◌^◌, [], map, IfOk, Err};
+ghost use Rattle.std.specs.Prelude.{◌≡◌, ◌≢◌, ◌≤◌, ◌<◌, ◌^◌, [], length, map, slice_index, IfOk, Err};
 ghost use Rattle.script_text.specs.Laws.{IsInForm};
 ghost use Rattle.script_text.specs.Seen.{ScriptSeen};
-ghost use Rattle.command_files.specs.Commands.{named_seen};
-ghost use Rattle.script_runner.specs.Ending.{ending_seen, usage_end, unread_end, bad_end, run_end, calls_in, ops_in, check_end, container_end, keys_end, unwritten_end, input_name};
-ghost use Rattle.script_runner.specs.Commanded.{InputsEnd};
+ghost use Rattle.command_files.specs.Commands.{CommandSeen, Replay, Run, named_seen};
+ghost use Rattle.script_runner.specs.Ending.{ending_seen, usage_end, unread_end, bad_end, calls_in, ops_in, check_end, container_end, keys_end, secrets_end, unwritten_end, input_name};
+ghost use Rattle.script_runner.specs.Threads.{texts_end};
+ghost use Rattle.script_runner.specs.Commanded.{InputsEnd, EndsRun};
 
-use crate::replay::replay_texts;
 use command_files::{Input, InputFault, Named};
+use leaf_engine::Gate;
+use run_texts::{Texts, replay_texts, threaded_texts};
 use script_text::{Reason, Script};
 use std::alloc::{AllocError, Global};
+use std::thread::Threads;
 use td_words::{Call, Code, OutOfMemory};
 
 /// An exit status, and the text that is put to the output before it. Behind it the container and the
@@ -87,6 +90,13 @@ fn bad_keys<'a>(alloc: Global) -> Result<Ending<'a>, AllocError>
     Ok(plain(alloc, 7, "key file\n".as_bytes().to_vec(alloc)?))
 }
 
+/// The secrets file hasn't its length.
+fn bad_secrets<'a>(alloc: Global) -> Result<Ending<'a>, AllocError>
+    ensures { IfOk result (λ e. ending_seen e ≡ secrets_end) }
+{
+    Ok(plain(alloc, 7, "secrets file\n".as_bytes().to_vec(alloc)?))
+}
+
 /// Nothing was written under that name.
 pub fn unwritten<'a>(alloc: Global, name: &str) -> Result<Ending<'a>, AllocError>
     ensures { IfOk result (λ e. ending_seen e ≡ unwritten_end name.now) }
@@ -104,6 +114,7 @@ fn input_name<'a>(named: &Named<'a>, input: Input) -> &'a str
     let name = match input {
         Input::Bundles => named.bundles,
         Input::Keys => named.keys,
+        Input::Secrets => named.secrets,
     };
     name.unwrap_or("")
 }
@@ -114,7 +125,7 @@ pub fn of_fault<'a>(
     named: &Named<'_>,
     fault: InputFault,
 ) -> Result<Ending<'a>, AllocError>
-    ensures ends { (s : ScriptSeen) → IfOk result (λ e. InputsEnd (named_seen named.now) s (Err fault) (ending_seen e)) }
+    ensures ends { (c : CommandSeen) (s : ScriptSeen) → IfOk result (λ e. InputsEnd c (named_seen named.now) s (Err fault) (ending_seen e)) }
     ensures not_usage { IfOk result (λ e. e.status ≢ 1) }
     ensures not_write { IfOk result (λ e. e.status ≢ 4) }
     ensures not_run { IfOk result (λ e. e.status ≢ 0) }
@@ -124,23 +135,56 @@ pub fn of_fault<'a>(
         InputFault::Unread(input) => unread(alloc, input_name(named, input)),
         InputFault::Container(place) => bad_container(alloc, place),
         InputFault::Keys => bad_keys(alloc),
+        InputFault::Secrets => bad_secrets(alloc),
         InputFault::OutOfMemory => Err(AllocError),
     }
 }
 
-/// A script is run. The guest file's text is made where that file is named.
-pub fn run<'a>(alloc: Global, script: &Script, named: &Named<'a>) -> Result<Ending<'a>, AllocError>
-    requires { IsInForm script.now }
-    ensures { IfOk result (λ e. ending_seen e ≡ run_end (named_seen named.now) script.now) }
+// The texts of a run are put and saved.
+fn of_texts<'a>(named: &Named<'a>, texts: Texts) -> Ending<'a>
+    ensures { ending_seen result ≡ texts_end (named_seen named.now) texts }
 {
-    match replay_texts(alloc, script, named.guest_out) {
-        Ok(texts) => Ok(Ending {
-            status: 0,
-            text: texts.replies,
-            out_bundles: named.out_bundles,
-            guest_out: named.guest_out,
-            guest: texts.guest,
-        }),
+    Ending {
+        status: 0,
+        text: texts.replies,
+        out_bundles: named.out_bundles,
+        guest_out: named.guest_out,
+        guest: texts.guest,
+    }
+}
+
+/// A script is replayed. The guest file's text is made where that file is named.
+pub fn replay<'a>(
+    alloc: Global,
+    script: &Script,
+    named: &Named<'a>,
+    secrets: &[u64],
+) -> Result<Ending<'a>, AllocError>
+    requires form { IsInForm script.now }
+    requires secrets { length secrets.now ≡ 512 }
+    ensures { IfOk result (λ e. EndsRun (Replay (named_seen named.now)) (named_seen named.now) script.now (slice_index secrets.now) (ending_seen e)) }
+{
+    match replay_texts(alloc, script, secrets, named.guest_out) {
+        Ok(texts) => Ok(of_texts(named, texts)),
+        Err(OutOfMemory) => Err(AllocError),
+    }
+}
+
+/// A script is run with a thread for each of its processors.
+pub fn run<'a, R: Threads + Sync, G: Gate + Sync>(
+    threads: &R,
+    alloc: Global,
+    script: &Script,
+    named: &Named<'a>,
+    secrets: &[u64],
+    gate: &G,
+) -> Result<Ending<'a>, AllocError>
+    requires form { IsInForm script.now }
+    requires secrets { length secrets.now ≡ 512 }
+    ensures { IfOk result (λ e. EndsRun (Run (named_seen named.now)) (named_seen named.now) script.now (slice_index secrets.now) (ending_seen e)) }
+{
+    match threaded_texts(threads, alloc, script, secrets, named.guest_out, gate) {
+        Ok(texts) => Ok(of_texts(named, texts)),
         Err(OutOfMemory) => Err(AllocError),
     }
 }

@@ -4,8 +4,6 @@
 
 mod commanded;
 mod ending;
-mod noted;
-mod replay;
 mod top;
 
 pub use top::{give_up, tdx_main};

@@ -4,10 +4,11 @@ ghost use Rattle.std.specs.Prelude.{◌≡◌, ◌≢◌, ◌≤◌, ◌⊎◌, 
 ghost use Rattle.bundle_store.specs.Containers.{container_bytes};
 ghost use Rattle.bundle_store.specs.History.{Put};
 ghost use Rattle.command_files.specs.Commands.{Check, command_in};
-ghost use Rattle.script_runner.specs.Ending.{opening_of, ending_seen, file_named, ending_of, memory_end};
+ghost use Rattle.run_texts.specs.Openings.{opening_of};
+ghost use Rattle.script_runner.specs.Ending.{ending_seen, file_named, ending_of, secrets_held, memory_end};
 ghost use Rattle.script_runner.specs.Accesses.{OwnAccesses};
-ghost use Rattle.script_runner.specs.Ends.{PutsPart, EndsWith, OneRun, IsComplete, IsBadScript, IsBadContainer, IsBadKeys, ReadCause, WriteCause, PutsFronts};
-ghost use Rattle.script_runner.specs.Done.{PutsOnce, PutsRun, PutsAndSaved, PutsUsage, PutsFault, PutsName, PutsPlace, PutsKeys, PutsLost, PutsMemory, SavesNothing, ChangesNothing, KeepsOrSaves};
+ghost use Rattle.script_runner.specs.Ends.{PutsPart, EndsWith, OneRun, IsComplete, IsBadScript, IsBadContainer, IsBadLength, ShowsBlind, ReadCause, WriteCause, PutsFrontsOf};
+ghost use Rattle.script_runner.specs.Done.{PutsOnce, PutsRun, PutsAndSaved, PutsUsage, PutsFault, PutsName, PutsPlace, PutsKeysOrSecrets, PutsThreads, PutsBlind, PutsHeadline, PutsLost, PutsMemory, SavesNothing, ChangesNothing, KeepsOrSaves};
 ghost use Rattle.script_runner.specs.Saving.{out_names};
 ghost use Rattle.script_runner.specs.Commanded.{Comes, ComesPart, TellsBy, PutsWant, SavesAll, PutsAndSaves, DoesCommand};
 
@@ -16,15 +17,19 @@ use crate::ending::{Ending, unwritten, usage};
 use bundle_store::{Files, PutFault, SaveFault, Sink, write_container};
 use command_files::read_command;
 use flat_core::access_law;
+use isol_laws::two_world_law;
 use leaf_engine::Gate;
 use std::alloc::{AllocError, Global};
+use std::thread::Threads;
 
 const MEMORY: &str = "out of memory\n";
 
-fn decide<'a, F: Files>(
+fn decide<'a, R: Threads + Sync, F: Files, G: Gate + Sync>(
+    threads: &R,
     alloc: Global,
     words: &'a [String],
     files: &mut F,
+    gate: &G,
 ) -> Result<Ending<'a>, AllocError>
     ensures ends { IfOk result (λ e. Comes (F.contents files.old) (command_in (map string_bytes words.now)) (record { loads = F.loads files.old; faults = F.read_faults files.old; bytes = F.bytes_read files.old }) (record { loads = F.loads files.new; faults = F.read_faults files.new; bytes = F.bytes_read files.new }) (ending_seen e)) }
     ensures part { ComesPart (F.contents files.old) (command_in (map string_bytes words.now)) (record { loads = F.loads files.old; faults = F.read_faults files.old; bytes = F.bytes_read files.old }) (record { loads = F.loads files.new; faults = F.read_faults files.new; bytes = F.bytes_read files.new }) }
@@ -37,7 +42,7 @@ fn decide<'a, F: Files>(
 {
     match read_command(words) {
         None => usage(alloc),
-        Some(command) => of_command(alloc, &command, files),
+        Some(command) => of_command(threads, alloc, &command, files, gate),
     }
 }
 
@@ -174,14 +179,21 @@ fn finish<F: Files, K: Sink>(alloc: Global, how: &Ending<'_>, files: &mut F, out
 }
 
 // The whole: what is due is decided, put and saved.
-fn do_command<F: Files, K: Sink>(alloc: Global, words: &[String], files: &mut F, out: &mut K) -> u8
+fn do_command<R: Threads + Sync, F: Files, K: Sink, G: Gate + Sync>(
+    threads: &R,
+    alloc: Global,
+    words: &[String],
+    files: &mut F,
+    out: &mut K,
+    gate: &G,
+) -> u8
     ensures does { DoesCommand (F.contents files.old) (command_in (map string_bytes words.now)) (record { loads = F.loads files.old; faults = F.read_faults files.old; bytes = F.bytes_read files.old }) (record { loads = F.loads files.new; faults = F.read_faults files.new; bytes = F.bytes_read files.new }) (record { contents = F.contents files.old; saves = F.saves files.old; faults = F.write_faults files.old }) (record { contents = F.contents files.new; saves = F.saves files.new; faults = F.write_faults files.new }) (record { told = K.told out.old; puts = K.puts out.old; faults = K.faults out.old }) (record { told = K.told out.new; puts = K.puts out.new; faults = K.faults out.new }) result }
     ensures few { result ≤ 7 }
     ensures quiet { result ≡ 0 → (F.read_faults files.new ≡ F.read_faults files.old) × (F.write_faults files.new ≡ F.write_faults files.old) × (K.faults out.new ≡ K.faults out.old) }
     ensures reads_later { F.read_faults files.old ≤ F.read_faults files.new }
     ensures puts_later { K.faults out.old ≤ K.faults out.new }
 {
-    match decide(alloc, words, files) {
+    match decide(threads, alloc, words, files, gate) {
         Ok(how) => finish(alloc, &how, files, out),
         Err(_) => give_up(out),
     }
@@ -192,12 +204,13 @@ fn do_command<F: Files, K: Sink>(alloc: Global, words: &[String], files: &mut F,
 /// The status 5 tells want of memory, and no clause ties it to a cause: a body that always answered
 /// 5 and put its text would meet each of these. That it doesn't come where memory is ample is
 /// tested, and isn't proved.
-pub fn tdx_main<F: Files, K: Sink, G: Gate + Sync>(
+pub fn tdx_main<R: Threads + Sync, F: Files, K: Sink, G: Gate + Sync>(
+    threads: &R,
     alloc: Global,
     words: &[String],
     files: &mut F,
     out: &mut K,
-    _gate: &G,
+    gate: &G,
 ) -> u8
     // The call loads what the words name, in order, puts what that comes to, once, and then saves the
     // container and the guest file, each at most once. Want of memory alone cuts this short, and is put
@@ -211,21 +224,32 @@ pub fn tdx_main<F: Files, K: Sink, G: Gate + Sync>(
     ensures loads { ComesPart (F.contents files.old) (command_in (map string_bytes words.now)) (record { loads = F.loads files.old; faults = F.read_faults files.old; bytes = F.bytes_read files.old }) (record { loads = F.loads files.new; faults = F.read_faults files.new; bytes = F.bytes_read files.new }) }
     // At status 0 the put was given just the reply lines of the flat machine's run of the script that
     // the first load handed out, or for `check` its numbers, and came through; and every output was
-    // written, the guest file with what the guests of that same run noted.
+    // written, the guest file with what the guests of that same run noted. The run has the secret words
+    // that were handed out, and one order of events: for `replay` the schedule, for `run` some order.
     ensures put_run { result ≡ 0 → PutsRun (command_in (map string_bytes words.now)) (F.loads files.old) (F.loads files.new) (K.puts out.old) (K.puts out.new) (Ok tt) }
     ensures saved { result ≡ 0 → PutsAndSaved (command_in (map string_bytes words.now)) (F.loads files.old) (F.loads files.new) (K.puts out.old) (K.puts out.new) (record { contents = F.contents files.old; saves = F.saves files.old; faults = F.write_faults files.old }) (record { contents = F.contents files.new; saves = F.saves files.new; faults = F.write_faults files.new }) }
     // In that run each access of a guest to its private memory reached a private page of its own TD,
-    // which the TD's secure EPT named there.
-    ensures put_accesses { result ≡ 0 → (run : PutsRun (command_in (map string_bytes words.now)) (F.loads files.old) (F.loads files.new) (K.puts out.old) (K.puts out.new) (Ok tt)) × OwnAccesses (opening_of run.script) run.script.schedule }
+    // which the TD's secure EPT named there; a load gave the word that the guest knew, and a store left
+    // it its register's.
+    ensures put_accesses { result ≡ 0 → (run : PutsRun (command_in (map string_bytes words.now)) (F.loads files.old) (F.loads files.new) (K.puts out.old) (K.puts out.new) (Ok tt)) × OwnAccesses (opening_of run.secrets run.script) run.order }
+    // For `run` what was put and saved is what processors in threads can have done: there are own lists
+    // of word steps, one of each, which have an order that plays, and each such order is one of events
+    // under which the flat machine's run prints and notes the same.
+    ensures put_threads { result ≡ 0 → PutsThreads (command_in (map string_bytes words.now)) (F.loads files.old) (F.loads files.new) (K.puts out.old) (K.puts out.new) (record { contents = F.contents files.old; saves = F.saves files.old; faults = F.write_faults files.old }) (record { contents = F.contents files.new; saves = F.saves files.new; faults = F.write_faults files.new }) }
+    // What was put is what the same run prints with every private word 0, in which the same words are
+    // told; and so what each run prints that agrees on all that is public, and tells the same.
+    ensures put_blind { result ≡ 0 → PutsBlind (command_in (map string_bytes words.now)) (F.loads files.old) (F.loads files.new) (K.puts out.old) (K.puts out.new) }
+    // And all of it is said of one run.
+    ensures headline { result ≡ 0 → PutsHeadline (command_in (map string_bytes words.now)) (F.loads files.old) (F.loads files.new) (K.puts out.old) (K.puts out.new) (record { contents = F.contents files.old; saves = F.saves files.old; faults = F.write_faults files.old }) (record { contents = F.contents files.new; saves = F.saves files.new; faults = F.write_faults files.new }) }
     // At 1 it was given the usage line, and nothing was loaded; at 2 the first fault of what the one
     // load handed out, or that this is too long; at 3 the name, where the last load handed out nothing;
-    // at 6 the place of the first fault of the container that was loaded; at 7 that the key file hasn't
-    // its length.
+    // at 6 the place of the first fault of the container that was loaded; at 7 that the key file or the
+    // secrets file hasn't its length.
     ensures put_usage { result ≡ 1 → PutsUsage (command_in (map string_bytes words.now)) (F.loads files.old) (F.loads files.new) (K.puts out.old) (K.puts out.new) }
     ensures put_fault { result ≡ 2 → PutsFault (command_in (map string_bytes words.now)) (F.loads files.old) (F.loads files.new) (K.puts out.old) (K.puts out.new) }
     ensures put_name { result ≡ 3 → PutsName (command_in (map string_bytes words.now)) (F.loads files.old) (F.loads files.new) (K.puts out.old) (K.puts out.new) }
     ensures put_place { result ≡ 6 → PutsPlace (command_in (map string_bytes words.now)) (F.loads files.old) (F.loads files.new) (K.puts out.old) (K.puts out.new) }
-    ensures put_keys { result ≡ 7 → PutsKeys (command_in (map string_bytes words.now)) (F.loads files.old) (F.loads files.new) (K.puts out.old) (K.puts out.new) }
+    ensures put_keys { result ≡ 7 → PutsKeysOrSecrets (command_in (map string_bytes words.now)) (F.loads files.old) (F.loads files.new) (K.puts out.old) (K.puts out.new) }
     // At 4 it was given the text of a success, and failed, or else the save of a file did, behind which
     // none was saved. At 5 the last put says that memory was wanting.
     ensures put_lost { result ≡ 4 → PutsLost (command_in (map string_bytes words.now)) (F.loads files.old) (F.loads files.new) (record { contents = F.contents files.old; saves = F.saves files.old; faults = F.write_faults files.old }) (record { contents = F.contents files.new; saves = F.saves files.new; faults = F.write_faults files.new }) (K.puts out.old) (K.puts out.new) }
@@ -233,11 +257,13 @@ pub fn tdx_main<F: Files, K: Sink, G: Gate + Sync>(
     // Where contents are told, at status 0 the output got just the reply lines of the flat machine's run
     // of the named script, or its numbers, and each file that is named has what that same run leaves.
     ensures one_run { result ≡ 0 → IfSome (F.contents files.old) (λ k. OneRun k (command_in (map string_bytes words.now)) (K.told out.old) (K.told out.new) (record { contents = F.contents files.old; saves = F.saves files.old; faults = F.write_faults files.old }) (record { contents = F.contents files.new; saves = F.saves files.new; faults = F.write_faults files.new })) }
-    ensures one_accesses { result ≡ 0 → IfSome (F.contents files.old) (λ k. (run : OneRun k (command_in (map string_bytes words.now)) (K.told out.old) (K.told out.new) (record { contents = F.contents files.old; saves = F.saves files.old; faults = F.write_faults files.old }) (record { contents = F.contents files.new; saves = F.saves files.new; faults = F.write_faults files.new })) × OwnAccesses (opening_of run.script) run.script.schedule) }
+    ensures one_accesses { result ≡ 0 → IfSome (F.contents files.old) (λ k. (run : OneRun k (command_in (map string_bytes words.now)) (K.told out.old) (K.told out.new) (record { contents = F.contents files.old; saves = F.saves files.old; faults = F.write_faults files.old }) (record { contents = F.contents files.new; saves = F.saves files.new; faults = F.write_faults files.new })) × OwnAccesses (opening_of (secrets_held k run.command) run.script) run.order) }
+    ensures one_blind { result ≡ 0 → IfSome (F.contents files.old) (λ k. ShowsBlind k (command_in (map string_bytes words.now)) (K.told out.old) (K.told out.new) (record { contents = F.contents files.old; saves = F.saves files.old; faults = F.write_faults files.old }) (record { contents = F.contents files.new; saves = F.saves files.new; faults = F.write_faults files.new })) }
     // There each status comes with its text.
     ensures ends { IfSome (F.contents files.old) (λ k. EndsWith (record { reads = F.read_faults files.old; writes = F.write_faults files.old; puts = K.faults out.old }) (record { reads = F.read_faults files.new; writes = F.write_faults files.new; puts = K.faults out.new }) k (command_in (map string_bytes words.now)) (K.told out.old) (K.told out.new) result) }
-    // There the status that is due comes; only a fault or want of memory keeps it from coming.
-    ensures complete { IfSome (F.contents files.old) (λ k. IsComplete (record { reads = F.read_faults files.old; writes = F.write_faults files.old; puts = K.faults out.old }) (record { reads = F.read_faults files.new; writes = F.write_faults files.new; puts = K.faults out.new }) (ending_of k (command_in (map string_bytes words.now))) result) }
+    // There the status that is due comes, whatever the order of events; only a fault or want of memory
+    // keeps it from coming.
+    ensures complete { IfSome (F.contents files.old) (λ k. (order : List ℕ) → IsComplete (record { reads = F.read_faults files.old; writes = F.write_faults files.old; puts = K.faults out.old }) (record { reads = F.read_faults files.new; writes = F.write_faults files.new; puts = K.faults out.new }) (ending_of k (command_in (map string_bytes words.now)) order) result) }
     // The words alone decide on the usage line.
     ensures usage { result ≡ 1 → command_in (map string_bytes words.now) ≡ None }
     ensures used { command_in (map string_bytes words.now) ≡ None → (result ≡ 1) ⊎ (result ≡ 5) }
@@ -246,9 +272,9 @@ pub fn tdx_main<F: Files, K: Sink, G: Gate + Sync>(
     ensures read { result ≡ 3 → ReadCause (F.contents files.old) (command_in (map string_bytes words.now)) (F.read_faults files.old) (F.read_faults files.new) }
     ensures write { result ≡ 4 → WriteCause (record { reads = F.read_faults files.old; writes = F.write_faults files.old; puts = K.faults out.old }) (record { reads = F.read_faults files.new; writes = F.write_faults files.new; puts = K.faults out.new }) (out_names (command_in (map string_bytes words.now))) }
     ensures container { result ≡ 6 → IfSome (F.contents files.old) (λ k. IsBadContainer k (command_in (map string_bytes words.now))) }
-    ensures keys { result ≡ 7 → IfSome (F.contents files.old) (λ k. IsBadKeys k (command_in (map string_bytes words.now))) }
+    ensures keys { result ≡ 7 → IfSome (F.contents files.old) (λ k. IsBadLength k (command_in (map string_bytes words.now))) }
     // What the output got before the call gave up.
-    ensures fronts { (result ≡ 4) ⊎ (result ≡ 5) → IfSome (F.contents files.old) (λ k. PutsFronts (K.told out.old) (ending_of k (command_in (map string_bytes words.now))) result (K.told out.new)) }
+    ensures fronts { (result ≡ 4) ⊎ (result ≡ 5) → IfSome (F.contents files.old) (λ k. PutsFrontsOf k (command_in (map string_bytes words.now)) (K.told out.old) result (K.told out.new)) }
     // A text is put even where it is empty, in one put; one more may come at the status 4, where a file
     // wasn't saved, and at the status 5.
     ensures put { (out_names (command_in (map string_bytes words.now)) ≡ []) ⊎ (result ≢ 4) → result ≢ 5 → (p : Put) × (K.puts out.new ≡ K.puts out.old ++ p ∷ []) }
@@ -267,5 +293,6 @@ pub fn tdx_main<F: Files, K: Sink, G: Gate + Sync>(
     ensures puts_later { K.faults out.old ≤ K.faults out.new }
 {
     access_law();
-    do_command(alloc, words, files, out)
+    two_world_law();
+    do_command(threads, alloc, words, files, out, gate)
 }

@@ -33,7 +33,7 @@ fn main(rt: HostRuntime) -> ExitCode {
     let mut files = DiskFiles::new(&rt);
     let mut out = StdSink::new(&rt);
     ExitCode::from(match command(&rt) {
-        Ok(words) => tdx_main(rt.alloc(), &words, &mut files, &mut out, &NoGate),
+        Ok(words) => tdx_main(&rt, rt.alloc(), &words, &mut files, &mut out, &NoGate),
         Err(_) => give_up(&mut out),
     })
 }

@@ -1,7 +1,8 @@
 use Rattle.std.proofs.Common.{ap}
 use Rattle.script_runner.specs.Saving.{Writes}
 use Rattle.script_runner.proofs.Accesses.{in-put, in-one}
-use Rattle.script_runner.proofs.Histories.{check_status, all_loads, all_ends, told_run, told_complete, told_bad, told_container, told_keys, told_fronts, put_run, all_saved, put_usage, put_fault, put_name, put_place, put_keys, put_lost, put_memory, unread_cause, lost_cause, used, one_text, some_text, same_files, kept_or_saved, none_saved}
+use Rattle.script_runner.proofs.Blind.{put-blind, one-blind, headline}
+use Rattle.script_runner.proofs.Histories.{check_status, all_loads, all_ends, told_run, told_complete, told_bad, told_container, told_keys, told_fronts, put_run, put_threads, all_saved, put_usage, put_fault, put_name, put_place, put_keys, put_lost, put_memory, unread_cause, lost_cause, used, one_text, some_text, same_files, kept_or_saved, none_saved}
 use Rattle.script_runner.proofs.top.tdx_main.Goals as goal
 
 pub returns-clause-loads : goal.returns-clause-loads
@@ -18,6 +19,17 @@ returns-clause-saved g c = all_saved _ _ _ _ _ _ _ _ _ c.do_command.ensures.does
 
 pub returns-clause-put_accesses : goal.returns-clause-put_accesses
 returns-clause-put_accesses g c zero = in-put c.access_law.ensures.accesses _ _ _ _ _ _ (put_run _ _ _ _ _ _ _ _ _ c.do_command.ensures.does zero)
+
+pub returns-clause-put_threads : goal.returns-clause-put_threads
+returns-clause-put_threads g c = put_threads _ _ _ _ _ _ _ _ _ c.do_command.ensures.does
+
+pub returns-clause-put_blind : goal.returns-clause-put_blind
+returns-clause-put_blind g c zero = put-blind c.two_world_law.ensures.prints c.two_world_law.ensures.bundles c.two_world_law.ensures.agreeing _ _ _ _ _ (put_run _ _ _ _ _ _ _ _ _ c.do_command.ensures.does zero)
+
+pub returns-clause-headline : goal.returns-clause-headline
+returns-clause-headline g c zero =
+    headline c.two_world_law.ensures.prints c.two_world_law.ensures.bundles c.two_world_law.ensures.agreeing c.access_law.ensures.accesses _ _ _ _ _ _ _
+    (all_saved _ _ _ _ _ _ _ _ _ c.do_command.ensures.does zero)
 
 pub returns-clause-put_usage : goal.returns-clause-put_usage
 returns-clause-put_usage g c = put_usage _ _ _ _ _ _ _ _ _ c.do_command.ensures.does
@@ -45,6 +57,9 @@ returns-clause-one_run g c zero = told_run _ _ _ _ _ _ _ _ _ c.do_command.ensure
 
 pub returns-clause-one_accesses : goal.returns-clause-one_accesses
 returns-clause-one_accesses g c zero = in-one c.access_law.ensures.accesses _ _ _ _ _ _ (told_run _ _ _ _ _ _ _ _ _ c.do_command.ensures.does zero)
+
+pub returns-clause-one_blind : goal.returns-clause-one_blind
+returns-clause-one_blind g c zero = one-blind c.two_world_law.ensures.prints c.two_world_law.ensures.bundles c.two_world_law.ensures.agreeing _ _ _ _ _ _ (told_run _ _ _ _ _ _ _ _ _ c.do_command.ensures.does zero)
 
 pub returns-clause-ends : goal.returns-clause-ends
 returns-clause-ends g c = all_ends _ _ _ _ _ _ _ _ _ c.do_command.ensures.does

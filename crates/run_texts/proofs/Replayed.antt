@@ -1,0 +1,344 @@
+-- What is left of a run, turn by turn, and what is printed at its end.
+use Rattle.std.proofs.Common.{◌≡◌, ◌≢◌, ◌⊎◌, inl, inr, refl, sym, ◌∙◌, ap, subst, ℕ, zero, suc, ◌+◌, ◌<◌, ◌≤◌, List, [], ◌∷◌, ◌++◌, length, get_or, set, take, drop, map, Option, None, Result, Ok, Err, IfOk, IfSome, true, false, not, ◌==◌, arith, append-nil, append_assoc, add-one}
+use Rattle.std.proofs.Math.Seq.{drop-cons}
+use Rattle.std.proofs.lemmas.Bool.Decides.{eqb_tells}
+use Rattle.std.proofs.lemmas.List.{set-get_or, length-map, length-take-le, take_more, map_push}
+use Rattle.std.proofs.lemmas.List.Folds.{concat-append}
+use Rattle.std.specs.Global.{Vec}
+use Rattle.std.proofs.Math.ListN.{length-set}
+use Rattle.std.specs.List.{concat}
+use Rattle.td_words.specs.Seen.{CodeSeen}
+use Rattle.td_words.specs.declared.machines.Machine.{Machine}
+use Rattle.td_words.specs.declared.calls.Call.{Call}
+use Rattle.td_words.specs.declared.calls.GuestOp.{GuestOp}
+use Rattle.td_words.specs.declared.replies.Reply.{Reply}
+use Rattle.flat_core.specs.Processor.{Lp, Note}
+use Rattle.td_words.specs.Limits.{IsMachine}
+use Rattle.flat_core.specs.Opening.{Opening}
+use Rattle.flat_core.specs.Event.{State, start, lines_left}
+use Rattle.flat_core.specs.Run.{play, run, to_the_end}
+use Rattle.report_text.specs.Lines.{reply_lines, note_line}
+use Rattle.report_text.specs.declared.guest.GuestNote.{GuestNote}
+use Rattle.flat_core.specs.GuestText.{note_told, notes_from, notes_of, guest_text}
+use Rattle.flat_core.specs.HostText.{lines_from, text_of, host_text}
+use Rattle.flat_core.proofs.Induction.{counts_stay}
+use Rattle.step_core.specs.Words.{after_step}
+use Rattle.step_core.specs.Items.{Table, PlaysTo, with_slot}
+use Rattle.step_core.specs.declared.items.Taken.{Taken}
+use Rattle.step_core.specs.declared.items.Taken.TheVariants.{Stepped, Swapped, Missed}
+use Rattle.atomic_table.specs.Seated.{TableId}
+use Rattle.trace_table.specs.Merges.{MergesTo}
+use Rattle.trace_table.specs.Benches.{BenchSeen, bench_of, first_pass, with_items, BenchDid}
+use Rattle.trace_table.specs.declared.benches.SharedBench.{SharedBench}
+use Rattle.trace_table.proofs.Alone.{alone}
+use Rattle.leaf_engine.specs.declared.needs.Place.{Place}
+use Rattle.leaf_engine.specs.declared.events.Event.{Event}
+use Rattle.leaf_engine.specs.declared.processors.Turn.{Turn}
+use Rattle.leaf_engine.specs.declared.processors.Turn.TheVariants as turn
+use Rattle.leaf_engine.specs.Processors.{Turned, has_moved}
+use Rattle.leaf_engine.specs.Besides.{Beside}
+use Rattle.leaf_engine.specs.OwnLists.{Piece, taken_in, WordLp, first_lp, LpTurns}
+use Rattle.leaf_engine.specs.Merges.{Item, order, no_table, AreLeaves, AreCodes}
+use Rattle.merge_laws.specs.Merge.{Merge}
+use Rattle.merge_laws.specs.Laws.{IsWhere}
+use Rattle.leaf_dispatch.specs.Table.{secrets_in, code_in, place_table, leaf_table}
+use Rattle.leaf_dispatch.specs.States.{seen_of, Moves}
+use Rattle.leaf_dispatch.specs.Bounds.{events_left}
+use Rattle.leaf_dispatch.specs.declared.states.LpState.{LpState}
+use Rattle.script_text.specs.Seen.{ScriptSeen}
+use Rattle.script_text.specs.Laws.{IsInForm}
+use Rattle.run_texts.specs.Openings.{opening_of}
+use Rattle.run_texts.specs.Replaying.{AreNumbered, AreFirst, IsMidway, only_bench, IsAtBench, HaveEnded, TurnsAreEvents, seen_at, lines_seen, notes_seen, TellAll}
+use Rattle.run_texts.specs.declared.replay.Texts.{Texts}
+use Rattle.run_texts.proofs.Codes.{codes-of}
+use Rattle.run_texts.proofs.RunningOut.{one-more-item, idle-item}
+use Rattle.run_texts.proofs.Turning.{made_by, one-event, merge-more, order-more}
+use Rattle.run_texts.proofs.Places.{seen-at, seen-own, seen-other, place-at, secrets-at, codes-at, numbered-set, first-count, first-numbered, first-seen, first-more}
+
+-- of a machine that a script may have, with lists of operations within the limits
+pub record IsOpen (o : Opening) : Type 0 where
+  pub machine : IsMachine o.machine
+  pub few : length o.calls ≤ 8
+  pub codes : AreCodes o
+
+-- at the start the whole schedule is left
+at-start : (o : Opening) (secrets : List ℕ) (codes : List CodeSeen) (schedule : List ℕ) (lps : List LpState) (t : Table) → AreFirst o.machine secrets codes 0 lps o.calls → PlaysTo no_table [] t → IsMidway o schedule schedule lps t
+at-start o secrets codes schedule lps t h play = record {
+  made = [];
+  merge = record {
+    own = λ p. [];
+    turns = λ p inside. first-seen o.machine secrets codes 0 lps o.calls p h;
+    merge = record { each = λ p inside. refl; nothing_else = λ p out. refl };
+    plays = play;
+  };
+  same = refl;
+}
+
+-- items that play one after another have a table between them
+between : (t v : Table) (xs ys : List Taken) → PlaysTo t (xs ++ ys) v → (u : Table) × PlaysTo t xs u × PlaysTo u ys v
+between t v [] ys h = (t, (refl, refl), h)
+between t v (Stepped s a ∷ xs) ys h = let r = between (record t { words = after_step t.words s }) v xs ys h.1 in (r.0, (h.0, r.1), r.2)
+between t v (Swapped k put taken ∷ xs) ys h = let r = between (record t { slots = with_slot t.slots k put }) v xs ys h.1 in (r.0, (h.0, r.1), r.2)
+between t v (Missed k ∷ xs) ys h = absurd h
+
+-- each call and each step of a guest has its leaf
+pub are-leaves : TurnsAreEvents → (o : Opening) → IsOpen o → AreLeaves o (leaf_table o.machine o.secrets o.codes)
+are-leaves ls o op = ls.leaves o o.secrets o.codes op.machine (λ k. refl) (λ t i. refl)
+
+-- where the flat machine is after the events of a merge
+where-now : TurnsAreEvents → (o : Opening) (made : List Item) (now : ℕ → WordLp) (u : Table) → IsOpen o → Merge o (leaf_table o.machine o.secrets o.codes) made now u → IsWhere o now (play o (order made) (start o None))
+where-now ls o made now u op m = (ls.merges.turns o (leaf_table o.machine o.secrets o.codes) made now u op.few (are-leaves ls o op) op.codes m).1
+
+-- a processor without lines has none in the flat machine
+ended-flat : TurnsAreEvents → (o : Opening) (schedule left : List ℕ) (lps : List LpState) (t : Table) (p : ℕ) → IsOpen o → (l : IsMidway o schedule left lps t) → p < length o.calls → (seen_at lps p).lines ≡ []
+    → lines_left o p ((play o (order l.made) (start o None)).lps p) ≡ []
+ended-flat ls o schedule left lps t p op l inside e = (where-now ls o l.made (seen_at lps) t op l.merge).lines p inside ∙ e
+
+-- an item of a processor more, where all before it have ended
+pub one-more-left : TurnsAreEvents → (o : Opening) (schedule : List ℕ) (lps : List LpState) (id : TableId) (b : BenchSeen) (p : ℕ) → IsOpen o → p < length lps → HaveEnded p lps → IsAtBench o schedule [] lps id b → IsAtBench o schedule (p ∷ []) lps id b
+one-more-left ls o schedule lps id b p op inside ended l = record {
+  own = l.own;
+  is = l.is;
+  count = l.count;
+  numbered = l.numbered;
+  midway = λ t play.
+      let now = l.midway t play in
+      record {
+        made = now.made;
+        merge = now.merge;
+        same = one-more-item ls.runs_out ls.others o (order now.made) p (omega (arith, l.count)) (λ q h. ended-flat ls o schedule [] lps t q op now (omega (arith, l.count)) (ended q h)) ∙ now.same;
+      };
+}
+
+no-lines : (cs : List Call) → false ≡ not (length cs == 0) → cs ≡ []
+no-lines cs e = by (eqb_tells (length cs) 0)
+  where
+    empty : (cs : List Call) → length cs ≡ 0 → cs ≡ []
+    empty [] z = refl
+    empty (c ∷ cs) z = absurd (omega (arith, z))
+
+    by : (((length cs == 0) ≡ true) × (length cs ≡ 0)) ⊎ (((length cs == 0) ≡ false) × (length cs ≢ 0)) → cs ≡ []
+    by (inl t) = empty cs t.1
+    by (inr f) = (let apart : false ≡ true = e ∙ ap not f.0 in cc)
+
+module _ (ls : TurnsAreEvents) (o : Opening) (schedule rest : List ℕ) (lps : List LpState) (p : ℕ) (d s' : LpState) (op : IsOpen o) (inside : p < length lps) (count : length lps ≡ length o.calls) (numbered : AreNumbered o 0 lps) where
+  abbrev s : LpState
+  s = get_or lps p d
+
+  place : s.place ≡ record { machine = o.machine; lp = p }
+  place = place-at o 0 lps p d numbered inside ∙ ap (λ (k : ℕ). record { machine = o.machine; lp = k }) (omega arith)
+
+  -- its event, in these pieces
+  moved : (t t' : Table) → IsMidway o schedule (p ∷ rest) lps t → (e : Event) (ps : List Piece) → PlaysTo t (taken_in ps) t' → Moves s e ps s' → IsMidway o schedule rest (set lps p s') t'
+  moved t t' l e ps did moves = record {
+    made = l.made ++ made_by p ps;
+    merge =
+        merge-more o (leaf_table o.machine o.secrets o.codes) l.made (seen_at lps) (seen_at (set lps p s')) t t' p e ps l.merge (omega (arith, count)) turns
+        (λ q ne. seen-other lps p s' q ne) did;
+    same = ap (run o) (order-more l.made p ps rest (one-event ls.pieces (place_table s.place (secrets_in s.secrets.now) (code_in s.codes.now)) s.place.machine (seen_of s) (seen_of s') e ps moves.3)) ∙ l.same;
+  }
+    where
+      turns : LpTurns (leaf_table o.machine o.secrets o.codes p) o.machine (seen_at lps p) e ps (seen_at (set lps p s') p)
+      turns =
+          subst (λ (x : WordLp). LpTurns (leaf_table o.machine o.secrets o.codes p) o.machine x e ps (seen_at (set lps p s') p)) (sym (seen-at lps p d inside))
+          (subst (λ (x : WordLp). LpTurns (leaf_table o.machine o.secrets o.codes p) o.machine (seen_of s) e ps x) (sym (seen-own lps p s' inside))
+          (subst (λ (w : ℕ → ℕ). LpTurns (leaf_table o.machine w o.codes p) o.machine (seen_of s) e ps (seen_of s')) (secrets-at o 0 lps p d numbered inside)
+          (subst (λ (x : ℕ → ℕ → List GuestOp). LpTurns (leaf_table o.machine (secrets_in s.secrets.now) x p) o.machine (seen_of s) e ps (seen_of s')) (codes-at o 0 lps p d numbered inside)
+          (subst (λ (z : Place). LpTurns (place_table z (secrets_in s.secrets.now) (code_in s.codes.now)) z.machine (seen_of s) e ps (seen_of s')) place moves.3))))
+
+  -- or nothing, where it has ended
+  ended : (t : Table) → IsMidway o schedule (p ∷ rest) lps t → s' ≡ s → (seen_at lps p).lines ≡ [] → IsMidway o schedule rest (set lps p s') t
+  ended t l same none =
+      let stay : set lps p s' ≡ lps = ap (set lps p) same ∙ set-get_or lps p d in
+      subst (λ (z : List LpState). IsMidway o schedule rest z t) (sym stay)
+      (record { made = l.made; merge = l.merge; same = sym (idle-item o (order l.made) rest p (ended-flat ls o schedule (p ∷ rest) lps t p op l (omega (arith, count)) none)) ∙ l.same })
+
+  numbered-now : s'.place ≡ s.place → s'.secrets.now ≡ s.secrets.now → s'.codes.now ≡ s.codes.now → AreNumbered o 0 (set lps p s')
+  numbered-now same secrets has =
+      numbered-set o 0 lps p s' numbered (same ∙ place-at o 0 lps p d numbered inside) (ap secrets_in secrets ∙ secrets-at o 0 lps p d numbered inside) (ap code_in has ∙ codes-at o 0 lps p d numbered inside)
+
+-- after a turn its items are the bench's
+pub after-turn : TurnsAreEvents → (o : Opening) (schedule rest : List ℕ) (lps : List LpState) (p : ℕ) (d s' : LpState) (id : TableId) (b b' : SharedBench) → IsOpen o → p < length lps → IsAtBench o schedule (p ∷ rest) lps id (bench_of b)
+    → (r : Turn) → Turned Moves (λ z. events_left (code_in z.codes.now) (seen_of z)) (λ xs c. BenchDid b xs c) (get_or lps p d) b' s' r → has_moved r ≡ not (length (get_or lps p d).lines.now == 0) → IsAtBench o schedule rest (set lps p s') id (bench_of b')
+after-turn ls o schedule rest lps p d s' id b b' op inside l (turn.Moved e) t h = record {
+  own = l.own ++ taken_in t.0.0;
+  is = t.0.1 ∙ ap (λ (z : BenchSeen). with_items z (taken_in t.0.0)) l.is;
+  count = length-set lps p s' ∙ l.count;
+  numbered = numbered-now ls o schedule rest lps p d s' op inside l.count l.numbered t.0.2.0 t.0.2.1 t.0.2.2;
+  midway = λ u play.
+      let m = between no_table u l.own (taken_in t.0.0) play in
+      moved ls o schedule rest lps p d s' op inside l.count l.numbered m.0 u (l.midway m.0 m.1) e t.0.0 m.2 t.0.2;
+}
+after-turn ls o schedule rest lps p d s' id b b' op inside l turn.Ended t h = record {
+  own = l.own;
+  is = t.0 ∙ (ap (λ (z : BenchSeen). with_items z []) l.is ∙ ap (only_bench o.machine id) (append-nil l.own));
+  count = length-set lps p s' ∙ l.count;
+  numbered = numbered-now ls o schedule rest lps p d s' op inside l.count l.numbered (ap (λ (z : LpState). z.place) t.1) (ap (λ (z : LpState). z.secrets.now) t.1) (ap (λ (z : LpState). z.codes.now) t.1);
+  midway = λ u play. ended ls o schedule rest lps p d s' op inside l.count l.numbered u (l.midway u play) t.1 (ap (λ (z : WordLp). z.lines) (seen-at lps p d inside) ∙ no-lines (get_or lps p d).lines.now h);
+}
+
+pub machine-at : (o : Opening) (schedule left : List ℕ) (lps : List LpState) (id : TableId) (b : BenchSeen) (p : ℕ) (d : LpState) → IsAtBench o schedule left lps id b → p < length lps → (get_or lps p d).place.machine ≡ b.machine
+machine-at o schedule left lps id b p d l inside = ap (λ (z : Place). z.machine) (place-at o 0 lps p d l.numbered inside) ∙ sym (ap (λ (z : BenchSeen). z.machine) l.is)
+
+-- the bench is of the table that it was of
+pub table-stays : (o : Opening) (schedule left : List ℕ) (lps : List LpState) (id : TableId) (b : BenchSeen) → IsAtBench o schedule left lps id b → b.pass.table ≡ id
+table-stays o schedule left lps id b l = ap (λ (z : BenchSeen). z.pass.table) l.is
+
+-- the item of the schedule whose turn it is
+pub item-inside : (secrets : ℕ → ℕ) (script : ScriptSeen) (left : List ℕ) (lps : List LpState) (id : TableId) (b : BenchSeen) (i d p : ℕ) → IsInForm script → IsAtBench (opening_of secrets script) script.schedule left lps id b → i < length script.schedule
+    → p ≡ get_or script.schedule i d → p < length lps
+item-inside secrets script left lps id b i d p form l inside is =
+    let below : get_or script.schedule i d < script.machine.lps = form.items i d inside in
+    omega (arith, is, l.count, form.lists)
+
+pub item-next : (o : Opening) (schedule : List ℕ) (lps : List LpState) (id : TableId) (b : BenchSeen) (i d p : ℕ) → IsAtBench o schedule (drop i schedule) lps id b → i < length schedule → p ≡ get_or schedule i d
+    → IsAtBench o schedule (p ∷ drop (i + 1) schedule) lps id b
+item-next o schedule lps id b i d p l inside is =
+    let next : drop i schedule ≡ p ∷ drop (i + 1) schedule = rw add-one (drop-cons schedule i d inside ∙ ap (λ (x : ℕ). x ∷ drop (suc i) schedule) (sym is)) in
+    subst (λ (z : List ℕ). IsAtBench o schedule z lps id b) next l
+
+pub open-of : (secrets : ℕ → ℕ) (script : ScriptSeen) → IsInForm script → IsOpen (opening_of secrets script)
+open-of secrets script form = record { machine = form.machine; few = omega (arith, form.machine.lps.1, form.lists); codes = codes-of secrets script form }
+
+-- those before a processor stay at their ends
+pub still-ended : (lps : List LpState) (p : ℕ) (s' : LpState) → HaveEnded p lps → HaveEnded p (set lps p s')
+still-ended lps p s' h q less = ap (λ (z : WordLp). z.lines) (seen-other lps p s' q (λ e. absurd (omega (arith, e)))) ∙ h q less
+
+-- and one that had no event has ended too
+pub ended-more : (lps : List LpState) (p : ℕ) (d s' : LpState) → p < length lps → HaveEnded p lps → s' ≡ get_or lps p d → false ≡ not (length (get_or lps p d).lines.now == 0) → HaveEnded (p + 1) (set lps p s')
+ended-more lps p d s' inside h same none q less = by (eqb_tells q p)
+  where
+    by : (((q == p) ≡ true) × (q ≡ p)) ⊎ (((q == p) ≡ false) × (q ≢ p)) → (seen_at (set lps p s') q).lines ≡ []
+    by (inl t) =
+        subst (λ (z : ℕ). (seen_at (set lps p s') z).lines ≡ []) (sym t.1)
+        (ap (λ (x : WordLp). x.lines) (seen-own lps p s' inside) ∙ (ap (λ (z : LpState). z.lines.now) same ∙ no-lines (get_or lps p d).lines.now none))
+    by (inr f) = ap (λ (x : WordLp). x.lines) (seen-other lps p s' q f.1) ∙ h q (omega (arith, f.1))
+
+pub fewer-left : (o : Opening) (schedule left : List ℕ) (lps : List LpState) (id : TableId) (b : BenchSeen) (p : ℕ) (d s' : LpState) → p < length lps → IsAtBench o schedule left lps id b
+    → s'.codes.now ≡ (get_or lps p d).codes.now → events_left (code_in s'.codes.now) (seen_of s') < events_left (code_in (get_or lps p d).codes.now) (seen_of (get_or lps p d))
+    → events_left o.codes (seen_at (set lps p s') p) < events_left o.codes (seen_at lps p)
+fewer-left o schedule left lps id b p d s' inside l has h =
+    let old : code_in (get_or lps p d).codes.now ≡ o.codes = codes-at o 0 lps p d l.numbered inside in
+    let less : events_left o.codes (seen_of s') < events_left o.codes (seen_of (get_or lps p d)) =
+    subst (λ (x : ℕ → ℕ → List GuestOp). events_left x (seen_of s') < events_left o.codes (seen_of (get_or lps p d))) (ap code_in has ∙ old)
+    (subst (λ (x : ℕ → ℕ → List GuestOp). events_left (code_in s'.codes.now) (seen_of s') < events_left x (seen_of (get_or lps p d))) old h) in
+    subst (λ (x : WordLp). events_left o.codes x < events_left o.codes (seen_at lps p)) (sym (seen-own lps p s' inside))
+    (subst (λ (x : WordLp). events_left o.codes (seen_of s') < events_left o.codes x) (sym (seen-at lps p d inside)) less)
+
+-- at the end
+
+pub same-lines : (n p : ℕ) (f : ℕ → Lp) (lps : List LpState) → length lps ≡ n → ((q : ℕ) → q < n → (f (p + q)).replies ≡ (seen_at lps q).replies) → lines_from n p f ≡ lines_seen p lps
+same-lines zero p f [] e h = refl
+same-lines zero p f (s ∷ ss) e h = absurd (omega (arith, e))
+same-lines (suc n) p f [] e h = absurd (omega (arith, e))
+same-lines (suc n) p f (s ∷ ss) e h =
+    let here : (f p).replies ≡ (seen_of s).replies = ap (λ (k : ℕ). (f k).replies) (omega arith) ∙ h 0 (omega arith) in
+    ap (λ (rs : List Reply). reply_lines p 1 rs ++ lines_from n (p + 1) f) here
+    ∙ ap (λ zs. reply_lines p 1 (seen_of s).replies ++ zs) (same-lines n (p + 1) f ss (omega (arith, e)) (λ q i. ap (λ (k : ℕ). (f k).replies) (omega arith) ∙ h (suc q) (omega arith)))
+
+told-lines : (p : ℕ) (ns : List Note) → map (λ n. note_line p (note_told n)) ns ≡ map (note_line p) (map note_told ns)
+told-lines p [] = refl
+told-lines p (n ∷ ns) = ap (λ (zs : List (List ℕ)). note_line p (note_told n) ∷ zs) (told-lines p ns)
+
+pub same-notes : (n p : ℕ) (f : ℕ → Lp) (lps : List LpState) → length lps ≡ n → ((q : ℕ) → q < n → (f (p + q)).notes ≡ (seen_at lps q).beside.notes) → notes_from n p f ≡ notes_seen p lps
+same-notes zero p f [] e h = refl
+same-notes zero p f (s ∷ ss) e h = absurd (omega (arith, e))
+same-notes (suc n) p f [] e h = absurd (omega (arith, e))
+same-notes (suc n) p f (s ∷ ss) e h =
+    let here : (f p).notes ≡ (seen_of s).beside.notes = ap (λ (k : ℕ). (f k).notes) (omega arith) ∙ h 0 (omega arith) in
+    ap (λ (ns : List Note). map (λ n. note_line p (note_told n)) ns ++ notes_from n (p + 1) f) here
+    ∙ ap (λ (ls : List (List ℕ)). ls ++ notes_from n (p + 1) f) (told-lines p (seen_of s).beside.notes)
+    ∙ ap (λ zs. map (note_line p) (map note_told (seen_of s).beside.notes) ++ zs) (same-notes n (p + 1) f ss (omega (arith, e)) (λ q i. ap (λ (k : ℕ). (f k).notes) (omega arith) ∙ h (suc q) (omega arith)))
+
+-- one processor more
+pub first-next : (m : Machine) (secrets : List ℕ) (codes : List CodeSeen) (lps : List LpState) (lists : List (Vec Call)) (i : ℕ) (v : Vec Call) (s : LpState) (cs : List Call) → i < length lists → v ≡ get_or lists i v → cs ≡ v.items
+    → AreFirst m secrets codes 0 lps (map (λ list. list.items) (take i lists)) → s.place ≡ record { machine = m; lp = i } → s.secrets.now ≡ secrets → s.codes.now ≡ codes → seen_of s ≡ first_lp cs
+    → AreFirst m secrets codes 0 (lps ++ s ∷ []) (map (λ list. list.items) (take (i + 1) lists))
+first-next m secrets codes lps lists i v s cs inside is calls h place same has seen =
+    let items : Vec Call → List Call = λ list. list.items in
+    let count : length lps ≡ i = first-count m secrets codes 0 lps (map items (take i lists)) h ∙ (length-map (take i lists) items ∙ length-take-le i lists (omega arith)) in
+    let all : map items (take (i + 1) lists) ≡ map items (take i lists) ++ cs ∷ [] =
+    ap (map items) (take_more lists i v inside) ∙ (map_push items (take i lists) (get_or lists i v) ∙ ap (λ (x : List Call). map items (take i lists) ++ x ∷ []) (ap items (sym is) ∙ sym calls)) in
+    subst (AreFirst m secrets codes 0 (lps ++ s ∷ [])) (sym all)
+    (first-more m secrets codes 0 lps (map items (take i lists)) s cs h (place ∙ ap (λ (k : ℕ). record { machine = m; lp = k }) (omega (arith, count))) same has seen)
+
+-- the lines of one processor more
+pub lines-next : (lps : List LpState) (i : ℕ) (d : LpState) (text lines all : List ℕ) (rs : List Reply) → i < length lps → rs ≡ (seen_of (get_or lps i d)).replies → lines ≡ concat (reply_lines i 1 rs)
+    → text ++ concat (lines_seen i (drop i lps)) ≡ all → (text ++ lines) ++ concat (lines_seen (i + 1) (drop (i + 1) lps)) ≡ all
+lines-next lps i d text lines all rs inside replied printed so_far =
+    let here : drop i lps ≡ get_or lps i d ∷ drop (i + 1) lps = rw add-one (drop-cons lps i d inside) in
+    let rest : List (List ℕ) = lines_seen (i + 1) (drop (i + 1) lps) in
+    append_assoc text lines (concat rest)
+    ∙ (ap (λ x. text ++ (x ++ concat rest)) (printed ∙ ap (λ x. concat (reply_lines i 1 x)) replied)
+    ∙ (ap (λ x. text ++ x) (sym (concat-append (reply_lines i 1 (seen_of (get_or lps i d)).replies) rest)) ∙ (ap (λ (x : List LpState). text ++ concat (lines_seen i x)) (sym here) ∙ so_far)))
+
+-- the notes of one processor more
+pub notes-next : (lps : List LpState) (i : ℕ) (d : LpState) (text lines all : List ℕ) (ns : List GuestNote) → i < length lps → ns ≡ map note_told (seen_of (get_or lps i d)).beside.notes → lines ≡ concat (map (note_line i) ns)
+    → text ++ concat (notes_seen i (drop i lps)) ≡ all → (text ++ lines) ++ concat (notes_seen (i + 1) (drop (i + 1) lps)) ≡ all
+notes-next lps i d text lines all ns inside noted printed so_far =
+    let here : drop i lps ≡ get_or lps i d ∷ drop (i + 1) lps = rw add-one (drop-cons lps i d inside) in
+    let rest : List (List ℕ) = notes_seen (i + 1) (drop (i + 1) lps) in
+    append_assoc text lines (concat rest)
+    ∙ (ap (λ x. text ++ (x ++ concat rest)) (printed ∙ ap (λ (x : List GuestNote). concat (map (note_line i) x)) noted)
+    ∙ (ap (λ x. text ++ x) (sym (concat-append (map (note_line i) (map note_told (seen_of (get_or lps i d)).beside.notes)) rest)) ∙ (ap (λ (x : List LpState). text ++ concat (notes_seen i x)) (sym here) ∙ so_far)))
+
+-- the bench of a table that was started
+pub first-bench : (b : BenchSeen) (m : Machine) (id : TableId) → b.machine ≡ m → b.pass ≡ first_pass id → b ≡ only_bench m id []
+first-bench b m id machine pass = λ i. record { machine = machine i; pass = pass i }
+
+-- of a script that was read
+pub starts : (secrets : List ℕ) (script : ScriptSeen) (m : Machine) (codes : List CodeSeen) (lists : List (List Call)) (lps now : List LpState) (id : TableId) (b : BenchSeen) → m ≡ script.machine → codes ≡ script.codes → lists ≡ script.calls → now ≡ lps → b ≡ only_bench m id []
+    → AreFirst m secrets codes 0 lps lists
+    → IsAtBench (opening_of (secrets_in secrets) script) script.schedule script.schedule now b.pass.table b
+starts secrets script m codes lists lps now id b machine has calls same new h =
+    let o : Opening = opening_of (secrets_in secrets) script in
+    let first : AreFirst script.machine secrets script.codes 0 now script.calls =
+    subst (λ (x : List LpState). AreFirst script.machine secrets script.codes 0 x script.calls) (sym same)
+    (subst (AreFirst script.machine secrets script.codes 0 lps) calls (subst (λ (x : List CodeSeen). AreFirst script.machine secrets x 0 lps lists) has (subst (λ (x : Machine). AreFirst x secrets codes 0 lps lists) machine h))) in
+    let named : b ≡ only_bench m b.pass.table [] = new ∙ ap (λ (z : TableId). only_bench m z []) (sym (ap (λ (z : BenchSeen). z.pass.table) new)) in
+    record {
+      own = [];
+      is = named ∙ ap (λ (x : Machine). only_bench x b.pass.table []) machine;
+      count = first-count o.machine secrets script.codes 0 now o.calls first;
+      numbered = first-numbered o secrets script.codes 0 now o.calls refl refl first;
+      midway = λ t play. at-start o secrets script.codes script.schedule now t first play;
+    }
+
+pub tells : {E : Type 0} (r : Result Texts E) (name : Option (List ℕ)) (lines all notes told : List ℕ) → IfOk r (λ t. TellAll name lines notes t) → lines ≡ all → notes ≡ told → IfOk r (λ t. TellAll name all told t)
+tells (Ok t) name lines all notes told h e f = (h.0 ∙ e, subst (λ (x : List ℕ). IfSome name (λ n. t.guest.items ≡ x)) f h.1)
+tells (Err x) name lines all notes told h e f = tt
+
+-- the close tells that the bench's list plays
+module _ (ls : TurnsAreEvents) (o : Opening) (schedule : List ℕ) (lps : List LpState) (id : TableId) (b : BenchSeen) (m : Machine) (words : List ℕ) (op : IsOpen o) (l : IsAtBench o schedule [] lps id b) (ended : HaveEnded (length lps) lps) (closed : MergesTo m b.pass.lists words) where
+  plays : (t : Table) × PlaysTo no_table l.own t
+  plays = alone m l.own words (subst (λ (z : List (List Taken)). MergesTo m z words) (ap (λ (z : BenchSeen). z.pass.lists) l.is) closed)
+
+  abbrev now : IsMidway o schedule [] lps plays.0
+  now = l.midway plays.0 plays.1
+
+  abbrev end : State
+  end = run o (order now.made)
+
+  there : IsWhere o (seen_at lps) end
+  there = (ls.merges.ended o (leaf_table o.machine o.secrets o.codes) now.made (seen_at lps) plays.0 op.few (are-leaves ls o op) op.codes now.merge (λ p i. ended p (omega (arith, l.count)))).1
+
+  count : end.lp_count ≡ length o.calls
+  count = counts_stay o (order now.made ++ to_the_end 0 o.calls) (start o None)
+
+  same : end ≡ run o schedule
+  same = ap (run o) (sym (append-nil (order now.made))) ∙ now.same
+
+  pub prints-all : concat (lines_seen 0 lps) ≡ host_text o schedule
+  unfolding host_text text_of
+  prints-all =
+      let lines : lines_from end.lp_count 0 end.lps ≡ lines_seen 0 lps =
+      same-lines end.lp_count 0 end.lps lps (l.count ∙ sym count) (λ q i. ap (λ (k : ℕ). (end.lps k).replies) (omega arith) ∙ there.replies q (omega (arith, count, i))) in
+      ap concat (sym lines) ∙ ap text_of same
+
+  -- what the guests noted stands beside the processors' lines
+  pub notes-all : concat (notes_seen 0 lps) ≡ guest_text o schedule
+  unfolding guest_text notes_of
+  notes-all =
+      let lines : notes_from end.lp_count 0 end.lps ≡ notes_seen 0 lps =
+      same-notes end.lp_count 0 end.lps lps (l.count ∙ sym count) (λ q i. ap (λ (k : ℕ). (end.lps k).notes) (omega arith) ∙ ap (λ (x : Beside). x.notes) (there.beside q (omega (arith, count, i)))) in
+      ap concat (sym lines) ∙ ap notes_of same

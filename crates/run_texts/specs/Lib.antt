@@ -1,0 +1,4 @@
+pub mod Openings
+pub mod Replaying
+pub mod Lanes
+pub mod Threaded

@@ -1,0 +1,90 @@
+-- Where the logical processors of a script are, over words, while its run is replayed.
+use Rattle.std.specs.Prelude.{◌≡◌, ℕ, zero, suc, ◌+◌, ◌<◌, true, List, [], ◌∷◌, ◌++◌, length, map, Option, IfSome}
+use Rattle.td_words.specs.Seen.{CodeSeen}
+use Rattle.td_words.specs.declared.machines.Machine.{Machine}
+use Rattle.td_words.specs.declared.calls.Call.{Call}
+use Rattle.flat_core.specs.Opening.{Opening}
+use Rattle.flat_core.specs.Run.{run}
+use Rattle.flat_core.specs.Bounds.{EventsRunOut}
+use Rattle.flat_core.specs.Laws.{OthersStay}
+use Rattle.flat_core.specs.GuestText.{note_told}
+use Rattle.report_text.specs.Lines.{reply_lines, note_line}
+use Rattle.step_core.specs.Items.{Table, PlaysTo}
+use Rattle.step_core.specs.declared.items.Taken.{Taken}
+use Rattle.atomic_table.specs.Seated.{TableId}
+use Rattle.trace_table.specs.Merges.{no_table}
+use Rattle.trace_table.specs.Benches.{BenchSeen}
+use Rattle.leaf_engine.specs.OwnLists.{TurnsInPieces, WordLp, first_lp}
+use Rattle.leaf_engine.specs.Merges.{Item, order}
+use Rattle.merge_laws.specs.Merge.{Merge}
+use Rattle.merge_laws.specs.Laws.{MergesAreRuns}
+use Rattle.leaf_dispatch.specs.Table.{secrets_in, code_in, leaf_table}
+use Rattle.leaf_dispatch.specs.Laws.{CallsHaveLeaves}
+use Rattle.leaf_dispatch.specs.States.{seen_of}
+use Rattle.leaf_dispatch.specs.declared.states.LpState.{LpState}
+use Rattle.run_texts.specs.declared.replay.Texts.{Texts}
+
+-- these are a machine's processors from number n on, with the opening's secret words and lists of operations
+abbrev pub AreNumbered : Opening → ℕ → List LpState → Type 0
+AreNumbered o n [] = Unit {0}
+AreNumbered o n (s ∷ ss) = (s.place ≡ record { machine = o.machine; lp = n }) × (secrets_in s.secrets.now ≡ o.secrets) × (code_in s.codes.now ≡ o.codes) × AreNumbered o (suc n) ss
+
+-- and each is at the first of its calls
+abbrev pub AreFirst : Machine → (secrets : List ℕ) → List CodeSeen → ℕ → List LpState → List (List Call) → Type 0
+AreFirst m secrets codes n [] [] = Unit {0}
+AreFirst m secrets codes n [] (cs ∷ css) = ⊥
+AreFirst m secrets codes n (s ∷ ss) [] = ⊥
+AreFirst m secrets codes n (s ∷ ss) (cs ∷ css) =
+    (s.place ≡ record { machine = m; lp = n }) × (s.secrets.now ≡ secrets) × (s.codes.now ≡ codes) × (seen_of s ≡ first_lp cs) × AreFirst m secrets codes (suc n) ss css
+
+-- what is seen of them, by number
+abbrev pub seen_at : List LpState → ℕ → WordLp
+seen_at [] p = first_lp []
+seen_at (s ∷ ss) zero = seen_of s
+seen_at (s ∷ ss) (suc p) = seen_at ss p
+
+-- the first n of them have no call left
+abbrev pub HaveEnded : ℕ → List LpState → Type 0
+HaveEnded n lps = (p : ℕ) → p < n → (seen_at lps p).lines ≡ []
+
+-- the reply lines of processor p and those behind it
+abbrev pub lines_seen : ℕ → List LpState → List (List ℕ)
+lines_seen p [] = []
+lines_seen p (s ∷ ss) = reply_lines p 1 (seen_of s).replies ++ lines_seen (p + 1) ss
+
+-- the lines of what the guests of processor p and of those behind it noted
+abbrev pub notes_seen : ℕ → List LpState → List (List ℕ)
+notes_seen p [] = []
+notes_seen p (s ∷ ss) = map (note_line p) (map note_told (seen_of s).beside.notes) ++ notes_seen (p + 1) ss
+
+-- texts tell these lines, and those of the guest file where it is named
+abbrev pub TellAll : Option (List ℕ) → (replies notes : List ℕ) → Texts → Type 0
+TellAll guest_out replies notes t = (t.replies.items ≡ replies) × IfSome guest_out (λ name. t.guest.items ≡ notes)
+
+-- So far the turns that the processors made, which lead to this table, are a merge; and its events, and then the items that
+-- are left, lead to the end of the flat machine's run under the schedule.
+pub record IsMidway (o : Opening) (schedule left : List ℕ) (lps : List LpState) (t : Table) : Type 0 where
+  pub made : List Item
+  pub merge : Merge o (leaf_table o.machine o.secrets o.codes) made (seen_at lps) t
+  pub same : run o (order made ++ left) ≡ run o schedule
+
+-- the first bench of a table, with this list of its own and none that it took in or has out
+abbrev pub only_bench : Machine → TableId → List Taken → BenchSeen
+only_bench m id own = record { machine = m; pass = record { table = id; first = true; lists = own ∷ []; out = 0 } }
+
+-- The processors make their turns at one bench of a table, and its own list is what they did. That they are midway, by
+-- whatever table the list leads to, is known once the table tells at its close that there is one.
+pub record IsAtBench (o : Opening) (schedule left : List ℕ) (lps : List LpState) (id : TableId) (bench : BenchSeen) : Type 0 where
+  pub own : List Taken
+  pub is : bench ≡ only_bench o.machine id own
+  pub count : length lps ≡ length o.calls
+  pub numbered : AreNumbered o 0 lps
+  pub midway : (t : Table) → PlaysTo no_table own t → IsMidway o schedule left lps t
+
+-- what ties turns over words to events of the flat machine
+pub record TurnsAreEvents : Type 0 where
+  pub merges : MergesAreRuns
+  pub leaves : CallsHaveLeaves
+  pub pieces : TurnsInPieces
+  pub runs_out : EventsRunOut
+  pub others : OthersStay

@@ -1,0 +1,44 @@
+-- The texts of a script whose processors ran in threads.
+use Rattle.std.specs.Prelude.{◌≡◌, ℕ, ◌<◌, List, [], length, Option}
+use Rattle.std.specs.List.{All}
+use Rattle.flat_core.specs.Opening.{Opening}
+use Rattle.flat_core.specs.Event.{calls_of}
+use Rattle.flat_core.specs.HostText.{host_text}
+use Rattle.flat_core.specs.GuestText.{guest_text}
+use Rattle.step_core.specs.Items.{Table, PlaysTo}
+use Rattle.leaf_engine.specs.OwnLists.{Piece, joined, WordLp, first_lp, OwnTurns}
+use Rattle.leaf_engine.specs.Merges.{Item, IsMerge, steps_taken, order, no_table}
+use Rattle.leaf_dispatch.specs.Table.{leaf_table}
+use Rattle.run_texts.specs.declared.replay.Texts.{Texts}
+use Rattle.run_texts.specs.Replaying.{TellAll}
+
+-- There is a schedule, each of whose items is a processor of the script, under which the flat machine's run prints these texts.
+pub record AreOfSomeRun (o : Opening) (guest_out : Option (List ℕ)) (t : Texts) : Type 0 where
+  pub schedule : List ℕ
+  pub processors : All (λ p. p < length o.calls) schedule
+  pub told : TellAll guest_out (host_text o schedule) (guest_text o schedule) t
+
+-- Processor p's own list of word steps: what its turns did, from the first of its lines to the end of the last one, each step
+-- with the answer that it got.
+pub record IsOwnList (o : Opening) (p : ℕ) (own : List Piece) : Type 0 where
+  pub turns : List (List Piece)
+  pub last : WordLp
+  pub lead : OwnTurns (leaf_table o.machine o.secrets o.codes p) o.machine (first_lp (calls_of o.calls p)) turns last
+  pub over : last.lines ≡ []
+  pub is : own ≡ joined turns
+
+-- One order of all steps, in which each own list stands as it is, and that plays, from words that are all 0 and slots without
+-- hashers, to this table: each answer is what the steps before it have made.
+pub record PlaysInOrder (o : Opening) (own : ℕ → List Piece) (made : List Item) (u : Table) : Type 0 where
+  pub merge : IsMerge (length o.calls) own made
+  pub plays : PlaysTo no_table (steps_taken made) u
+
+-- The processors have own lists of word steps that have such an order. Every such order, also one that didn't come about,
+-- is one of events under which the flat machine's run prints these texts.
+pub record AreOfThreads (o : Opening) (guest_out : Option (List ℕ)) (t : Texts) : Type 0 where
+  pub own : ℕ → List Piece
+  pub lists : (p : ℕ) → p < length o.calls → IsOwnList o p (own p)
+  pub made : List Item
+  pub table : Table
+  pub ordered : PlaysInOrder o own made table
+  pub each : (made : List Item) (u : Table) → PlaysInOrder o own made u → TellAll guest_out (host_text o (order made)) (guest_text o (order made)) t

@@ -1,0 +1,227 @@
+//! A script's run over words: its processors under its schedule, and then each to its end.
+
+ghost use Rattle.std.specs.Prelude.{◌≡◌, ◌≤◌, ◌<◌, ◌+◌, ◌^◌, [], length, map, option_map, IfOk, IfSome};
+ghost use Rattle.std.specs.List.{All, concat};
+ghost use Rattle.td_words.specs.Limits.{IsMachine};
+ghost use Rattle.flat_core.specs.GuestText.{guest_text};
+ghost use Rattle.flat_core.specs.HostText.{host_text};
+ghost use Rattle.script_text.specs.Laws.{IsInForm};
+ghost use Rattle.leaf_dispatch.specs.Inside.{AreOperations};
+ghost use Rattle.leaf_dispatch.specs.FirstLists.{AreFirstLists};
+ghost use Rattle.trace_table.specs.Benches.{bench_of};
+ghost use Rattle.leaf_dispatch.specs.Table.{secrets_in};
+ghost use Rattle.run_texts.specs.Openings.{opening_of};
+ghost use Rattle.run_texts.specs.Replaying.{AreFirst, IsAtBench, HaveEnded, TurnsAreEvents, lines_seen, notes_seen, TellAll};
+
+use crate::noted::noted_lines;
+use flat_core::{end_laws, event_laws};
+use leaf_dispatch::{FirstLists, LpState, calls_have_leaves};
+use leaf_engine::{Processor, Turn, turns_in_pieces};
+use merge_laws::merge_law;
+use report_text::host_lines;
+use script_text::Script;
+use std::alloc::Global;
+use td_words::{Call, Code, Machine, OutOfMemory};
+use trace_table::{SharedBench, SharedTable};
+
+// What turns over words have to do with events of the flat machine.
+pub(crate) fn laws_of_turns()
+    ensures { TurnsAreEvents }
+{
+    merge_law();
+    calls_have_leaves();
+    turns_in_pieces();
+    end_laws();
+    event_laws();
+}
+
+// The processors of a machine, each at the first of its calls, with the secret words, and with the lists
+// of operations and where they stand.
+pub(crate) fn processors<'a>(
+    alloc: Global,
+    machine: Machine,
+    codes: &'a [Code],
+    secrets: &'a [u64],
+    first_lists: &'a FirstLists,
+    lists: &'a [Vec<Call>],
+) -> Result<Vec<LpState<'a>>, OutOfMemory>
+    requires machine { IsMachine machine }
+    requires few { length lists.now ≤ 8 }
+    requires short { All (λ list. length list.items < 2 ^ 32) lists.now }
+    requires limits { AreOperations codes.now }
+    requires secrets { length secrets.now ≡ 512 }
+    requires first_lists { AreFirstLists codes.now first_lists.now }
+    ensures { IfOk result (λ v. AreFirst machine secrets.now codes.now 0 v.items (map (λ list. list.items) lists.now)) }
+{
+    let Ok(mut lps) = Vec::with_capacity(alloc, lists.len()) else {
+        return Err(OutOfMemory);
+    };
+    for lp in 0..lists.len() {
+        let state = LpState::new(
+            alloc,
+            machine,
+            lp as u8,
+            codes,
+            secrets,
+            first_lists,
+            &lists[lp],
+        )?;
+        let Ok(()) = lps.push(state) else {
+            return Err(OutOfMemory);
+        };
+    }
+    Ok(lps)
+}
+
+// One turn for each item of the schedule.
+fn follow_schedule(
+    script: &Script,
+    secrets: &[u64],
+    lps: &mut [LpState<'_>],
+    bench: &mut SharedBench<'_>,
+)
+    requires form { IsInForm script.now }
+    requires left { IsAtBench (opening_of (secrets_in secrets.now) script.now) script.now.schedule script.now.schedule lps.old (bench_of bench.old).pass.table (bench_of bench.old) }
+    ensures { IsAtBench (opening_of (secrets_in secrets.now) script.now) script.now.schedule [] lps.new (bench_of bench.old).pass.table (bench_of bench.new) }
+{
+    let _words = secrets.len();
+    laws_of_turns();
+    for item in 0..script.schedule.len() {
+        lps[usize::from(script.schedule[item])].turn(bench);
+    }
+}
+
+// The turns of a processor up to its end, where those before it have ended.
+fn finish(
+    script: &Script,
+    secrets: &[u64],
+    lps: &mut [LpState<'_>],
+    lp: usize,
+    bench: &mut SharedBench<'_>,
+)
+    requires form { IsInForm script.now }
+    requires lp { lp < length lps.old }
+    requires ended { HaveEnded lp lps.old }
+    requires left { IsAtBench (opening_of (secrets_in secrets.now) script.now) script.now.schedule [] lps.old (bench_of bench.old).pass.table (bench_of bench.old) }
+    ensures count { length lps.new ≡ length lps.old }
+    ensures ended { HaveEnded (lp + 1) lps.new }
+    ensures left { IsAtBench (opening_of (secrets_in secrets.now) script.now) script.now.schedule [] lps.new (bench_of bench.old).pass.table (bench_of bench.new) }
+{
+    let _words = secrets.len();
+    laws_of_turns();
+    while let Turn::Moved(_) = lps[lp].turn(bench) {}
+}
+
+// Each processor to its end, in number order.
+fn finish_all(
+    script: &Script,
+    secrets: &[u64],
+    lps: &mut [LpState<'_>],
+    bench: &mut SharedBench<'_>,
+)
+    requires form { IsInForm script.now }
+    requires left { IsAtBench (opening_of (secrets_in secrets.now) script.now) script.now.schedule [] lps.old (bench_of bench.old).pass.table (bench_of bench.old) }
+    ensures ended { HaveEnded (length lps.new) lps.new }
+    ensures left { IsAtBench (opening_of (secrets_in secrets.now) script.now) script.now.schedule [] lps.new (bench_of bench.old).pass.table (bench_of bench.new) }
+{
+    for lp in 0..lps.len() {
+        finish(script, secrets, lps, lp, bench);
+    }
+}
+
+// The reply lines of all processors.
+fn all_lines(alloc: Global, lps: &[LpState<'_>]) -> Result<Vec<u8>, OutOfMemory>
+    requires { length lps.now ≤ 8 }
+    ensures { IfOk result (λ v. v.items ≡ concat (lines_seen 0 lps.now)) }
+{
+    let mut text = Vec::new(alloc);
+    for lp in 0..lps.len() {
+        let lines = host_lines(alloc, lp as u8, lps[lp].replies())?;
+        let Ok(()) = text.extend_from_slice(&lines) else {
+            return Err(OutOfMemory);
+        };
+    }
+    Ok(text)
+}
+
+// The lines of what the guests of all processors noted.
+fn all_notes(alloc: Global, lps: &[LpState<'_>]) -> Result<Vec<u8>, OutOfMemory>
+    requires { length lps.now ≤ 8 }
+    ensures { IfOk result (λ v. v.items ≡ concat (notes_seen 0 lps.now)) }
+{
+    let mut text = Vec::new(alloc);
+    for lp in 0..lps.len() {
+        let lines = noted_lines(alloc, lp as u8, lps[lp].notes())?;
+        let Ok(()) = text.extend_from_slice(&lines) else {
+            return Err(OutOfMemory);
+        };
+    }
+    Ok(text)
+}
+
+// The same where the guest file is named, and else nothing.
+fn guest_notes(
+    alloc: Global,
+    guest_out: Option<&str>,
+    lps: &[LpState<'_>],
+) -> Result<Vec<u8>, OutOfMemory>
+    requires { length lps.now ≤ 8 }
+    ensures { IfOk result (λ v. IfSome (option_map (λ name. name.now) guest_out.entry) (λ name. v.items ≡ concat (notes_seen 0 lps.now))) }
+{
+    match guest_out {
+        None => Ok(Vec::new(alloc)),
+        Some(_) => all_notes(alloc, lps),
+    }
+}
+
+/// The reply lines of a run, and the text of the guest file, which has bytes only where it is named.
+#[derive(Drop)]
+pub struct Texts {
+    pub replies: Vec<u8>,
+    pub guest: Vec<u8>,
+}
+
+pub(crate) fn both_texts(
+    alloc: Global,
+    guest_out: Option<&str>,
+    lps: &[LpState<'_>],
+) -> Result<Texts, OutOfMemory>
+    requires { length lps.now ≤ 8 }
+    ensures { IfOk result (λ t. TellAll (option_map (λ name. name.now) guest_out.entry) (concat (lines_seen 0 lps.now)) (concat (notes_seen 0 lps.now)) t) }
+{
+    let replies = all_lines(alloc, lps)?;
+    let guest = guest_notes(alloc, guest_out, lps)?;
+    Ok(Texts { replies, guest })
+}
+
+/// The texts of a script's run under its schedule, with 512 secret words.
+pub fn replay_texts(
+    alloc: Global,
+    script: &Script,
+    secrets: &[u64],
+    guest_out: Option<&str>,
+) -> Result<Texts, OutOfMemory>
+    requires form { IsInForm script.now }
+    requires secrets { length secrets.now ≡ 512 }
+    ensures { IfOk result (λ t. TellAll (option_map (λ name. name.now) guest_out.entry) (host_text (opening_of (secrets_in secrets.now) script.now) script.now.schedule) (guest_text (opening_of (secrets_in secrets.now) script.now) script.now.schedule) t) }
+{
+    laws_of_turns();
+    let codes: &[Code] = &script.codes;
+    let first_lists = FirstLists::new(alloc, codes)?;
+    let mut states = processors(
+        alloc,
+        script.machine,
+        codes,
+        secrets,
+        &first_lists,
+        &script.calls,
+    )?;
+    let lps = states.as_mut_slice();
+    let (table, pass) = SharedTable::start(alloc, script.machine)?;
+    let mut bench = SharedBench::new(&table, pass);
+    follow_schedule(script, secrets, lps, &mut bench);
+    finish_all(script, secrets, lps, &mut bench);
+    let pass = bench.into_pass();
+    table.close(pass);
+    both_texts(alloc, guest_out, lps)
+}

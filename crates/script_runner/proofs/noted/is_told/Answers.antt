@@ -1,6 +1,0 @@
-use Rattle.std.proofs.Common.{rules}
-use Rattle.script_runner.proofs.Notes.{note-back}
-use Rattle.script_runner.proofs.noted.is_told.Goals as goal
-
-pub returns-in-Rtmr : goal.returns-in-Rtmr
-returns-in-Rtmr c = note-back c.args.note.now c.in-Rtmr.line c.in-Rtmr.index c.in-Rtmr.digest c.in-Rtmr.is (search rules) c.are_bytes.ensures

@@ -1,4 +1,0 @@
-use Rattle.script_runner.proofs.noted.noted_lines.Goals as goal
-
-pub returns : goal.returns
-returns c = rw c.are_told.ensures c.guest_lines.ensures

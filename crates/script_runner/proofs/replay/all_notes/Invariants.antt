@@ -1,7 +1,0 @@
-use Rattle.std.proofs.Common.{◌≡◌, ◌++◌, drop}
-use Rattle.std.specs.List.{concat}
-use Rattle.script_runner.specs.Replaying.{notes_seen}
-use Rattle.script_runner.proofs.replay.all_notes.Given as goal
-
-abbrev pub invariant-loop-lp : goal.invariant-loop-lp
-invariant-loop-lp l = l.text.items ++ concat (notes_seen l.lp (drop l.lp l.lps)) ≡ concat (notes_seen 0 l.lps)

@@ -1,7 +1,0 @@
-use Rattle.script_runner.proofs.Replayed.{first-next}
-use Rattle.script_runner.proofs.replay.processors.Goals as goal
-
-pub loop-lp-preserved : goal.loop-lp-preserved
-loop-lp-preserved c =
-    rw c.in-Ok-push.ensures.items
-    (first-next c.args.machine c.args.codes.now c.loop-lp.lps.items c.args.lists.now c.loop-lp.lp c.index-lists-lp.result c.in_ok-state.state c.deref.result.now c.loop-lp-test.true c.index-lists-lp.is c.deref.ensures.value c.loop-lp.invariant c.in_ok-state.ensures.place c.in_ok-state.ensures.codes c.in_ok-state.ensures.first)
