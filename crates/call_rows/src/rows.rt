@@ -6,6 +6,7 @@ use script_runner::tdx_main;
 use std::alloc::Global;
 use std::process::Abort;
 use std::test::Fail;
+use std::thread::Threads;
 
 /// A TD with TDR 1 that may have pages.
 pub const KEYS: &str = "SUCCESS | MNG.CREATE 1 1 | MNG.KEY.CONFIG 1";
@@ -80,8 +81,8 @@ fn one_file(alloc: Global, text: &str) -> Result<Vec<NamedFile>, Fail> {
 
 /// Replays the rows of processors 0, 1 and so on, on a machine and under a schedule as a script has
 /// them (an empty one: none), and compares the replies.
-pub fn replays(
-    rt: &impl Abort,
+pub fn replays<R: Abort + Threads + Sync>(
+    rt: &R,
     alloc: Global,
     machine: &str,
     schedule: &str,
@@ -101,15 +102,15 @@ pub fn replays(
     }
     let mut files = MemFiles::new(alloc, one_file(alloc, &script)?, Vec::new(alloc));
     let mut out = MemSink::new(alloc, Vec::new(alloc));
-    let status = tdx_main(alloc, &words, &mut files, &mut out, &NoGate);
+    let status = tdx_main(rt, alloc, &words, &mut files, &mut out, &NoGate);
     assert_eq!(rt; status, 0, "status of {script}");
     assert_eq!(rt; out.bytes.as_slice(), want.as_bytes(), "text of {script}");
     Ok(())
 }
 
 /// Replays rows of one processor each, on a machine.
-pub fn replay_each(
-    rt: &impl Abort,
+pub fn replay_each<R: Abort + Threads + Sync>(
+    rt: &R,
     alloc: Global,
     machine: &str,
     rows: &[&[&str]],
@@ -121,7 +122,12 @@ pub fn replay_each(
 }
 
 // A race: a schedule, and what processor 1 calls under it; behind two bars what processor 2 calls.
-fn replay<'a>(rt: &impl Abort, alloc: Global, zero: &[&'a str], race: &'a str) -> Result<(), Fail> {
+fn replay<'a, R: Abort + Threads + Sync>(
+    rt: &R,
+    alloc: Global,
+    zero: &[&'a str],
+    race: &'a str,
+) -> Result<(), Fail> {
     let (schedule, others) = race.split_once(" | ").ok_or("no bar")?;
     match others.split_once(" || ") {
         Some((one, two)) => replays(rt, alloc, "3 32 2", schedule, &[&*zero, &[one], &[two]]),
@@ -131,7 +137,11 @@ fn replay<'a>(rt: &impl Abort, alloc: Global, zero: &[&'a str], race: &'a str) -
 
 /// Replays races of two or three processors. Each row has what processor 0 calls, and then races,
 /// which begin with a number. There a semicolon stands between two lists of a processor.
-pub fn replay_races(rt: &impl Abort, alloc: Global, rows: &[&[&str]]) -> Result<(), Fail> {
+pub fn replay_races<R: Abort + Threads + Sync>(
+    rt: &R,
+    alloc: Global,
+    rows: &[&[&str]],
+) -> Result<(), Fail> {
     for row in rows {
         let mut zero = Vec::new(alloc);
         for text in *row {

@@ -154,5 +154,5 @@ const ROWS: &[Row<'static>] = &[
 
 #[test]
 fn a_page_is_accepted_once(rt: HostRuntime) -> Result<(), Fail> {
-    replay_rows(rt.alloc(), ROWS)
+    replay_rows(&rt, rt.alloc(), ROWS)
 }

@@ -101,5 +101,5 @@ const ROWS: &[Row<'static>] = &[
 
 #[test]
 fn entries_are_refused_in_order(rt: HostRuntime) -> Result<(), Fail> {
-    replay_rows(rt.alloc(), ROWS)
+    replay_rows(&rt, rt.alloc(), ROWS)
 }

@@ -64,5 +64,5 @@ const ROWS: &[Row<'static>] = &[
 
 #[test]
 fn each_exit_has_its_cause(rt: HostRuntime) -> Result<(), Fail> {
-    replay_rows(rt.alloc(), ROWS)
+    replay_rows(&rt, rt.alloc(), ROWS)
 }

@@ -19,6 +19,8 @@ mod processors;
 #[cfg(test)]
 mod rtmrs;
 #[cfg(test)]
+mod secrets;
+#[cfg(test)]
 mod shared_words;
 #[cfg(test)]
 mod tracking;

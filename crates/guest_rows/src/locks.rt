@@ -85,5 +85,5 @@ const ROWS: &[Row<'static>] = &[
 
 #[test]
 fn a_guest_holds_its_locks(rt: HostRuntime) -> Result<(), Fail> {
-    replay_rows(rt.alloc(), ROWS)
+    replay_rows(&rt, rt.alloc(), ROWS)
 }

@@ -61,5 +61,5 @@ const ROWS: &[Row<'static>] = &[
 
 #[test]
 fn private_words_are_the_guests(rt: HostRuntime) -> Result<(), Fail> {
-    replay_rows(rt.alloc(), ROWS)
+    replay_rows(&rt, rt.alloc(), ROWS)
 }

@@ -75,5 +75,5 @@ const ROWS: &[Row<'static>] = &[
 
 #[test]
 fn guests_run_beside_one_another(rt: HostRuntime) -> Result<(), Fail> {
-    replay_rows(rt.alloc(), ROWS)
+    replay_rows(&rt, rt.alloc(), ROWS)
 }

@@ -33,5 +33,5 @@ const ROWS: &[Row<'static>] = &[
 
 #[test]
 fn an_rtmr_is_a_digest_of_what_came(rt: HostRuntime) -> Result<(), Fail> {
-    replay_rows(rt.alloc(), ROWS)
+    replay_rows(&rt, rt.alloc(), ROWS)
 }

@@ -130,5 +130,5 @@ const ROWS: &[Row<'static>] = &[
 
 #[test]
 fn a_shared_word_is_the_hosts(rt: HostRuntime) -> Result<(), Fail> {
-    replay_rows(rt.alloc(), ROWS)
+    replay_rows(&rt, rt.alloc(), ROWS)
 }

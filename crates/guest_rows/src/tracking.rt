@@ -105,5 +105,5 @@ const ROWS: &[Row<'static>] = &[
 
 #[test]
 fn no_page_is_taken_from_a_guest_that_may_use_it(rt: HostRuntime) -> Result<(), Fail> {
-    replay_rows(rt.alloc(), ROWS)
+    replay_rows(&rt, rt.alloc(), ROWS)
 }

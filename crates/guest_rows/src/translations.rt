@@ -218,5 +218,5 @@ const ROWS: &[Row<'static>] = &[
 
 #[test]
 fn stale_translations_are_dropped_at_an_entry(rt: HostRuntime) -> Result<(), Fail> {
-    replay_rows(rt.alloc(), ROWS)
+    replay_rows(&rt, rt.alloc(), ROWS)
 }

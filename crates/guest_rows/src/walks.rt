@@ -174,5 +174,5 @@ const ROWS: &[Row<'static>] = &[
 
 #[test]
 fn a_walk_is_four_loads(rt: HostRuntime) -> Result<(), Fail> {
-    replay_rows(rt.alloc(), ROWS)
+    replay_rows(&rt, rt.alloc(), ROWS)
 }

@@ -180,5 +180,5 @@ const ROWS: &[Row<'static>] = &[
 
 #[test]
 fn no_page_is_taken_before_it_is_tracked(rt: HostRuntime) -> Result<(), Fail> {
-    replay_rows(rt.alloc(), ROWS)
+    replay_rows(&rt, rt.alloc(), ROWS)
 }

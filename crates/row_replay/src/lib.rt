@@ -4,11 +4,11 @@
 //!
 //! A processor's calls stand in lists, each an answer and, behind bars, the calls that have it; a
 //! semicolon stands between two lists of one text. So do a VCPU's operations, behind its TDR page and
-//! index, and the lines of the guest file.
+//! index, and the lines of the guest file. Before a row there may be the words of its secrets file.
 #![tactic(auto)]
 
 mod parts;
 mod rows;
 
 pub use parts::{BUILT, OTHER, PAGE, RUNS, SECOND, TREE};
-pub use rows::{Row, replay_rows};
+pub use rows::{Row, SecretRow, replay_rows, replay_secret_rows};

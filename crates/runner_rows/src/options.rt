@@ -4,17 +4,20 @@ use bundle_store::{MemFiles, MemSink, NamedFile};
 use leaf_engine::NoGate;
 use script_runner::tdx_main;
 use std::alloc::Global;
+use std::process::Abort;
 use std::test::Fail;
+use std::thread::Threads;
 
 const USAGE: &[u8] =
     b"usage: tdx replay|run SCRIPT [--bundles F] [--keys F] [--secrets F] [--out-bundles F] [--guest-out F] | tdx check SCRIPT | tdx soak N\n";
 
 // The script s, which has one reply; e, whose bytes are none; the container b, and c with 3 bytes
-// more; keys of 64, 63 and 65 bytes; and the most bytes that a key file is loaded with, and one more.
+// more; keys of 64, 63 and 65 bytes; the most bytes that a key or secrets file is loaded with, and one
+// more; and secrets of 4,096, 4,095 and 4,097 bytes.
 fn files(alloc: Global, failing: &[u64]) -> Result<MemFiles, Fail> {
     let keys = [7u8; 65];
     let long = vec![in alloc; 7u8; 65_537]?;
-    let list: [(&str, &[u8]); 9] = [
+    let list: [(&str, &[u8]); 12] = [
         ("s", b"machine 1 8 1\nlp 0\nHOST.READ 1 0\nend\n"),
         ("e", b""),
         ("b", b"TDXBNDL1"),
@@ -24,6 +27,9 @@ fn files(alloc: Global, failing: &[u64]) -> Result<MemFiles, Fail> {
         ("k65", &keys),
         ("k65536", &long[..65_536]),
         ("k65537", &long),
+        ("w", &long[..4_096]),
+        ("w4095", &long[..4_095]),
+        ("w4097", &long[..4_097]),
     ];
     let mut files = Vec::new(alloc);
     for (name, bytes) in list {
@@ -180,20 +186,159 @@ const ROWS: &[Row<'static>] = &[
     ("replay s --keys k --keys k", &[], &[], 1, USAGE, false),
     ("replay s s --keys k", &[], &[], 1, USAGE, false),
     ("replay --keys k", &[], &[], 1, USAGE, false),
-    ("replay s --secrets k", &[], &[], 1, USAGE, false),
 ];
 
-#[test]
-fn options_name_inputs_and_an_output(rt: HostRuntime) -> Result<(), Fail> {
-    let alloc = rt.alloc();
-    for (line, failing, puts, status, want, is_saved) in ROWS {
+const SECRETS: &[Row<'static>] = &[
+    ("replay s --secrets w", &[], &[], 0, REPLY, false),
+    (
+        "run --secrets w s --out-bundles o",
+        &[],
+        &[],
+        0,
+        REPLY,
+        true,
+    ),
+    (
+        "replay s --secrets k",
+        &[],
+        &[],
+        7,
+        b"secrets file\n",
+        false,
+    ),
+    (
+        "replay s --secrets w4095 --out-bundles o",
+        &[],
+        &[],
+        7,
+        b"secrets file\n",
+        false,
+    ),
+    (
+        "run --secrets w4097 s",
+        &[],
+        &[],
+        7,
+        b"secrets file\n",
+        false,
+    ),
+    (
+        "replay s --secrets k65537",
+        &[],
+        &[],
+        7,
+        b"secrets file\n",
+        false,
+    ),
+    // It is loaded behind the keys, and its form is tested behind theirs.
+    (
+        "replay s --secrets w4095 --keys k63",
+        &[],
+        &[],
+        7,
+        b"key file\n",
+        false,
+    ),
+    (
+        "replay s --secrets w4095 --keys k --bundles c",
+        &[],
+        &[],
+        6,
+        b"bundle file byte 8\n",
+        false,
+    ),
+    (
+        "replay s --secrets x --keys k63 --bundles c",
+        &[],
+        &[],
+        3,
+        b"cannot read x\n",
+        false,
+    ),
+    (
+        "replay s --secrets x --keys y",
+        &[],
+        &[],
+        3,
+        b"cannot read y\n",
+        false,
+    ),
+    (
+        "run s --keys k --secrets w",
+        &[2],
+        &[],
+        3,
+        b"cannot read w\n",
+        false,
+    ),
+    ("replay s --secrets", &[], &[], 1, USAGE, false),
+    ("replay s --secrets -w", &[], &[], 1, USAGE, false),
+    (
+        "replay --secrets w s --secrets w",
+        &[],
+        &[],
+        1,
+        USAGE,
+        false,
+    ),
+    ("check s --secrets w", &[], &[], 1, USAGE, false),
+];
+
+// What replay makes of options, run makes of them too.
+const RUNS: &[Row<'static>] = &[
+    (
+        "run s --bundles b --keys k --out-bundles o",
+        &[],
+        &[],
+        0,
+        REPLY,
+        true,
+    ),
+    (
+        "run s --bundles c",
+        &[],
+        &[],
+        6,
+        b"bundle file byte 8\n",
+        false,
+    ),
+    ("run s --keys k63", &[], &[], 7, b"key file\n", false),
+    ("run x", &[], &[], 3, b"cannot read x\n", false),
+    (
+        "run e --bundles y",
+        &[],
+        &[],
+        2,
+        b"script line 1 MACHINE\n",
+        false,
+    ),
+    (
+        "run s --out-bundles o",
+        &[1],
+        &[],
+        4,
+        b"0.1 SUCCESS 0\ncannot write o\n",
+        false,
+    ),
+    ("run s --out-bundles o", &[], &[0], 4, b"", false),
+    ("run", &[], &[], 1, USAGE, false),
+    ("run s s", &[], &[], 1, USAGE, false),
+    ("run s --keys", &[], &[], 1, USAGE, false),
+];
+
+fn ends_as<R: Abort + Threads + Sync>(
+    rt: &R,
+    alloc: Global,
+    rows: &[Row<'static>],
+) -> Result<(), Fail> {
+    for (line, failing, puts, status, want, is_saved) in rows {
         let mut words = Vec::new(alloc);
         for word in line.split(' ') {
             words.push(String::from_str(alloc, word)?)?;
         }
         let mut files = files(alloc, failing)?;
         let mut out = MemSink::new(alloc, puts.to_vec(alloc)?);
-        let got = tdx_main(alloc, &words, &mut files, &mut out, &NoGate);
+        let got = tdx_main(rt, alloc, &words, &mut files, &mut out, &NoGate);
         assert_eq!(rt; got, *status, "status of {line}");
         assert_eq!(rt; out.bytes.as_slice(), *want, "text of {line}");
         match held(&files, "o") {
@@ -202,4 +347,19 @@ fn options_name_inputs_and_an_output(rt: HostRuntime) -> Result<(), Fail> {
         }
     }
     Ok(())
+}
+
+#[test]
+fn options_name_inputs_and_an_output(rt: HostRuntime) -> Result<(), Fail> {
+    ends_as(&rt, rt.alloc(), ROWS)
+}
+
+#[test]
+fn a_secrets_file_has_its_length(rt: HostRuntime) -> Result<(), Fail> {
+    ends_as(&rt, rt.alloc(), SECRETS)
+}
+
+#[test]
+fn run_has_the_options_of_replay(rt: HostRuntime) -> Result<(), Fail> {
+    ends_as(&rt, rt.alloc(), RUNS)
 }

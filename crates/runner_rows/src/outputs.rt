@@ -182,7 +182,25 @@ const OUTPUTS: &[Row<'static>] = &[
         NONE,
     ),
     ("replay --guest-out g", &[], &[], 1, USAGE, NONE, NONE),
-    ("run s --guest-out g", &[], &[], 1, USAGE, NONE, NONE),
+    // The files of run are those of replay.
+    (
+        "run s --guest-out g --out-bundles o",
+        &[],
+        &[],
+        0,
+        REPLY,
+        CONTAINER,
+        "",
+    ),
+    (
+        "run s --out-bundles o --guest-out g",
+        &[2],
+        &[],
+        4,
+        "0.1 SUCCESS 0\ncannot write g\n",
+        CONTAINER,
+        NONE,
+    ),
 ];
 
 const CHECKS: &[Row<'static>] = &[
@@ -208,6 +226,7 @@ const CHECKS: &[Row<'static>] = &[
     ("check s t", &[], &[], 1, USAGE, NONE, NONE),
     ("check -s", &[], &[], 1, USAGE, NONE, NONE),
     ("check s --keys s", &[], &[], 1, USAGE, NONE, NONE),
+    ("check s --secrets s", &[], &[], 1, USAGE, NONE, NONE),
     ("check --guest-out g s", &[], &[], 1, USAGE, NONE, NONE),
     ("checks s", &[], &[], 1, USAGE, NONE, NONE),
     ("soak 1", &[], &[], 1, USAGE, NONE, NONE),
@@ -224,7 +243,7 @@ fn outputs_are_saved_and_scripts_checked(rt: HostRuntime) -> Result<(), Fail> {
             }
             let mut files = files(alloc, failing)?;
             let mut out = MemSink::new(alloc, puts.to_vec(alloc)?);
-            let got = tdx_main(alloc, &words, &mut files, &mut out, &NoGate);
+            let got = tdx_main(&rt, alloc, &words, &mut files, &mut out, &NoGate);
             assert_eq!(rt; got, *status, "status of {line}");
             assert_eq!(rt; out.bytes.as_slice(), want.as_bytes(), "text of {line}");
             assert_eq!(rt; held(&files, "o"), container.as_bytes(), "o of {line}");

@@ -7,6 +7,7 @@ use script_runner::tdx_main;
 use std::alloc::Global;
 use std::process::Abort;
 use std::test::Fail;
+use std::thread::Threads;
 
 fn words(alloc: Global, list: &[&str]) -> Result<Vec<String>, Fail> {
     let mut words = Vec::new(alloc);
@@ -16,31 +17,33 @@ fn words(alloc: Global, list: &[&str]) -> Result<Vec<String>, Fail> {
     Ok(words)
 }
 
-// Replays a script, and compares its status and its text.
-fn replays(
-    rt: &impl Abort,
+// Replays or runs a script, and compares its status and its text.
+fn prints<R: Abort + Threads + Sync>(
+    rt: &R,
     alloc: Global,
+    command: &str,
     script: &str,
     want: &str,
     status: u8,
 ) -> Result<(), Fail> {
-    let replay = words(alloc, &["replay", "s"])?;
+    let replay = words(alloc, &[command, "s"])?;
     let mut files = MemFiles::new(
         alloc,
         one_file(alloc, "s", script.as_bytes())?,
         Vec::new(alloc),
     );
     let mut out = MemSink::new(alloc, Vec::new(alloc));
-    let got = tdx_main(alloc, &replay, &mut files, &mut out, &NoGate);
+    let got = tdx_main(rt, alloc, &replay, &mut files, &mut out, &NoGate);
     assert_eq!(rt; got, status, "status of {script}");
     assert_eq!(rt; out.bytes.as_slice(), want.as_bytes(), "text of {script}");
     Ok(())
 }
 
-// Replays each row of a table: what is put, and behind a bar the script without its front.
-fn replays_each(
-    rt: &impl Abort,
+// The same of each row of a table: what is put, and behind a bar the script without its front.
+fn prints_each<R: Abort + Threads + Sync>(
+    rt: &R,
     alloc: Global,
+    command: &str,
     front: &str,
     rows: &[&str],
     status: u8,
@@ -48,7 +51,7 @@ fn replays_each(
     for row in rows {
         let (want, rest) = row.split_once("| ").ok_or("no bar")?;
         let script = format!(in alloc; "{front}{rest}")?;
-        replays(rt, alloc, script.as_str(), want, status)?;
+        prints(rt, alloc, command, script.as_str(), want, status)?;
     }
     Ok(())
 }
@@ -72,7 +75,7 @@ const REPLIES: &[&str] = &[
 const BAD_LINES: &[&str] = &[
     "script line 3 UNTERMINATED\n| machine 1 8 1\nlp 0\nHOST.RE",
     "script line 3 COUNT\n| machine 1 8 1\nlp 0\nHOST.READ 5\nend\n",
-    "script line 3 UNBUILT\n| machine 1 8 1\ncode 1 0\nsecret 0 1\nend\n",
+    "script line 3 RANGE\n| machine 1 8 1\ncode 1 0\nsecret 0 512\nend\n",
     "script line 3 UNBUILT\n| machine 1 8 1\nlp 0\nEXPORT.PAUSE 1\n",
     "script line 4 ENDLESS\n| machine 1 8 1\nlp 0\nHOST.READ 5 0\n",
     "script line 3 MACHINE\n| # nothing\n\n",
@@ -84,8 +87,12 @@ const BAD_LINES: &[&str] = &[
 
 #[test]
 fn scripts_print_their_replies(rt: HostRuntime) -> Result<(), Fail> {
-    replays_each(&rt, rt.alloc(), "", REPLIES, 0)?;
-    replays_each(&rt, rt.alloc(), "", BAD_LINES, 2)
+    // One processor's run in a thread has the order of its lines.
+    for command in ["replay", "run"] {
+        prints_each(&rt, rt.alloc(), command, "", REPLIES, 0)?;
+        prints_each(&rt, rt.alloc(), command, "", BAD_LINES, 2)?;
+    }
+    Ok(())
 }
 
 // Behind `machine 2 32 1`.
@@ -154,9 +161,28 @@ fn processors_follow_the_schedule(rt: HostRuntime) -> Result<(), Fail> {
         ("machine ", MORE_PROCESSORS),
     ];
     for (front, rows) in tables {
-        replays_each(&rt, rt.alloc(), front, rows, 0)?;
+        prints_each(&rt, rt.alloc(), "replay", front, rows, 0)?;
     }
     Ok(())
+}
+
+// Processors whose locks don't meet, in threads: whatever their order is, these are the replies. The
+// schedule is read, and isn't used.
+const APART: &[&str] = &[
+    "0.1 SUCCESS\n0.2 SUCCESS 7\n1.1 SUCCESS\n1.2 SUCCESS 8\n\
+        | machine 2 8 1\nlp 0\nHOST.WRITE 5 0 7\nHOST.READ 5 0\nend\n\
+        lp 1\nHOST.WRITE 6 0 8\nHOST.READ 6 0\nend\n",
+    "0.1 SUCCESS\n0.2 SUCCESS 7\n1.1 SUCCESS\n1.2 SUCCESS 8\n\
+        | machine 2 8 1\nlp 0\nHOST.WRITE 5 0 7\nHOST.READ 5 0\nend\n\
+        lp 1\nHOST.WRITE 6 0 8\nHOST.READ 6 0\nend\nschedule 0*2 1*9 0\n",
+    "0.1 SUCCESS PT_NDA 0 0\n3.1 SUCCESS 0\n7.1 SUCCESS 0\n\
+        | machine 8 8 1\nlp 7\nHOST.READ 7 7\nend\nlp 3\nHOST.READ 6 7\nend\nlp 0\n\
+        PHYMEM.PAGE.RDMD 5\nend\n",
+];
+
+#[test]
+fn processors_run_in_threads(rt: HostRuntime) -> Result<(), Fail> {
+    prints_each(&rt, rt.alloc(), "run", "", APART, 0)
 }
 
 const USAGE: &[u8] =
@@ -164,7 +190,7 @@ const USAGE: &[u8] =
 
 #[test]
 fn faults_end_with_their_status(rt: HostRuntime) -> Result<(), Fail> {
-    let table: [(&[&str], &[u64], &[u64], u8, &[u8]); 10] = [
+    let table: [(&[&str], &[u64], &[u64], u8, &[u8]); 11] = [
         (&["replay", "s"], &[0], &[], 3, b"cannot read s\n"),
         (&["replay", "t"], &[], &[], 3, b"cannot read t\n"),
         (&["replay", "s"], &[], &[0], 4, b""),
@@ -173,7 +199,8 @@ fn faults_end_with_their_status(rt: HostRuntime) -> Result<(), Fail> {
         (&["replay"], &[], &[0], 1, b""),
         (&["replay"], &[], &[], 1, USAGE),
         (&[], &[], &[], 1, USAGE),
-        (&["run", "s"], &[], &[], 1, USAGE),
+        (&["runs", "s"], &[], &[], 1, USAGE),
+        (&["run", "s"], &[0], &[], 3, b"cannot read s\n"),
         (&["replay", "-s"], &[], &[], 1, USAGE),
         (&["replay", "s", "t"], &[], &[], 1, USAGE),
     ];
@@ -185,7 +212,14 @@ fn faults_end_with_their_status(rt: HostRuntime) -> Result<(), Fail> {
             loads.to_vec(alloc)?,
         );
         let mut out = MemSink::new(alloc, puts.to_vec(alloc)?);
-        let got = tdx_main(alloc, &words(alloc, list)?, &mut files, &mut out, &NoGate);
+        let got = tdx_main(
+            &rt,
+            alloc,
+            &words(alloc, list)?,
+            &mut files,
+            &mut out,
+            &NoGate,
+        );
         assert_eq!(rt; got, status, "status");
         assert_eq!(rt; out.bytes.as_slice(), want, "text at {status}");
     }

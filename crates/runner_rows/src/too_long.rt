@@ -68,6 +68,9 @@ fn too_long_inputs_have_no_form(rt: HostRuntime) -> Result<(), Fail> {
             0x2000_000f,
         ),
         ("replay s --keys e", 7, "key file\n", 0x1_000f),
+        ("replay s --secrets e", 7, "secrets file\n", 0x1_000f),
+        ("run s --secrets e", 7, "secrets file\n", 0x1_000f),
+        ("replay s --secrets e --keys e", 7, "key file\n", 0x2_0010),
         // Both are loaded, and the container's form is tested first.
         (
             "replay s --keys e --bundles e",
@@ -75,6 +78,9 @@ fn too_long_inputs_have_no_form(rt: HostRuntime) -> Result<(), Fail> {
             "bundle file byte 536870912\n",
             0x2001_0010,
         ),
+        ("replay s --secrets e", 7, "secrets file\n", 0x1_000f),
+        // So is a secrets file, and the keys' form is tested before its.
+        ("run s --secrets e --keys e", 7, "key file\n", 0x2_0010),
         ("replay s --out-bundles o", 5, "out of memory\n", 14),
         ("replay s --guest-out g", 5, "out of memory\n", 14),
         ("check s", 0, "ok 1 0 0 0\n", 14),
@@ -89,7 +95,7 @@ fn too_long_inputs_have_no_form(rt: HostRuntime) -> Result<(), Fail> {
             history: History::new(),
         };
         let mut out = MemSink::new(alloc, Vec::new(alloc));
-        let got = tdx_main(alloc, &words, &mut files, &mut out, &NoGate);
+        let got = tdx_main(&rt, alloc, &words, &mut files, &mut out, &NoGate);
         assert_eq!(rt; got, status, "status of {line}");
         assert_eq!(rt; out.bytes.as_slice(), text.as_bytes(), "text of {line}");
         assert_eq!(rt; files.bytes_read, bytes_read, "bytes of {line}");
