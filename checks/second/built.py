@@ -23,11 +23,12 @@ def whole_text(text, saved):
     return text + "".join(f"--- {name}\n{saved[name].decode('latin-1')}" for name in sorted(saved))
 
 
-def answer(words, script):
-    """What the built program answers to these words, in a folder with that script alone."""
+def answer(words, files):
+    """What the built program answers to these words, in a folder with these files alone."""
     with tempfile.TemporaryDirectory() as folder:
-        with open(os.path.join(folder, "script"), "wb") as file:
-            file.write(script)
+        for name, text in files.items():
+            with open(os.path.join(folder, name), "wb") as file:
+                file.write(text)
         try:
             ended = subprocess.run([TDX, *words], cwd=folder, stdout=subprocess.PIPE, timeout=SECONDS, check=False)
         except subprocess.TimeoutExpired:
@@ -36,6 +37,7 @@ def answer(words, script):
         for name in os.listdir(folder):
             with open(os.path.join(folder, name), "rb") as file:
                 saved[name] = file.read()
-    if saved.pop("script") != script:
-        return Answer("none: it changed its script", "")
+    for name, text in files.items():
+        if saved.pop(name, None) != text:
+            return Answer(f"none: it changed its file {name}", "")
     return Answer(ended.returncode, whole_text(ended.stdout.decode("latin-1"), saved))

@@ -182,7 +182,7 @@ def wanted():
         names.update(f"{name}: {came}" for name, all_came in came_by_blocks for came in all_came)
     names -= {name for name, call in COMES_BY.items() if call in UNBUILT}
     names.update(f"reason {reason}" for reason in REASONS)
-    return names | {f"status {status}" for status in range(4)}
+    return names | {f"status {status}" for status in (*range(4), 6, "7 key file", "7 secrets file")}
 
 
 def of_reply(name, arguments, reply, locks):
@@ -205,7 +205,7 @@ def of_reply(name, arguments, reply, locks):
 def of_answer(status, text, processors):
     """All that a command line has reached: its status, its fault's reason, each call's reply, and what came
     of guests and beside them."""
-    yield f"status {status}"
+    yield f"status {status} {text.strip()}" if status == 7 else f"status {status}"
     if status == 2:
         yield f"reason {text.split()[-1]}"
     if processors:

@@ -6,10 +6,12 @@ its VCPUs, and others that give it pages, block, track and remove them meanwhile
 guest that is just on its way, or lets guests in at once, as it comes rarely in a crowd. A *noise* has calls without
 any order. Faulty scripts are one of these with bad lines put in. Last there are scripts at a limit of the
 grammar, and command lines that name no script. What comes rarely by chance, as a race for one call, comes in
-turn. Calls and operations that the program doesn't have stand in UNBUILT, and come in faulty scripts alone.
+turn. Calls that the program doesn't have stand in UNBUILT, and come in faulty scripts alone. Most scripts come
+with a secrets file, a few of these with a bad one.
 """
 
 import random
+import struct
 
 from machine import Outside
 from program import processors_of
@@ -625,25 +627,25 @@ def operation(chance, scene, life, own, bad):
         shared = [GPA_END + page * PAGE_BYTES + place for page in pages] + [2 * GPA_END - 8]
     gpa = chance.choice(private) % GPA_END
     kinds = ("load", "store", "load shared", "store shared", "accept")
-    kind = chance.choice((*kinds, *kinds[2:4]) if bad else ("set", "add", "rtmr", "vmcall", "load", *kinds))
+    kind = chance.choice((*kinds, *kinds[2:4]) if bad else ("set", "secret", "add", "rtmr", "vmcall", "load", *kinds))
     if kind == "accept" and not bad and life.waiting and chance.random() < 0.8:
         gpa = life.gpa + PAGE_BYTES * (life.first_waiting + chance.randrange(len(life.waiting)))
     makes = {
         "set": f"set {register} {scene.written(chance.choice((0, 1, chance.getrandbits(64))))}",
+        "secret": f"secret {register} {scene.written(chance.choice((0, 1, 511, chance.randrange(512))))}",
         "add": f"add {register} {other}",
         "accept": f"accept {scene.written(gpa - gpa % PAGE_BYTES)}",
         "rtmr": f"rtmr {chance.randrange(4)}",
         "vmcall": f"vmcall {register}",
     }
-    if kind == "set" and "secret" not in UNBUILT and chance.random() < 0.5:
-        return f"secret {register} {chance.randrange(512)}"
     where = chance.choice(shared) if kind.endswith(" shared") else gpa
     return makes.get(kind, f"{kind.split()[0]} {register} {scene.written(where)}")
 
 
 def list_of(chance, scene, life, index):
-    """A VCPU's list. A VCPU often begins with the pages that wait, and goes through all private ones."""
-    begin = []
+    """A VCPU's list. A VCPU often begins with secret words and with the pages that wait, and goes through all private
+    ones."""
+    begin = [f"secret {register} {chance.randrange(512)}" for register in range(8) if chance.random() < 0.3]
     if chance.random() < 0.7:
         begin += [f"accept {gpa}" for gpa in life.gpas()[life.first_waiting :]]
     if chance.random() < (0.3 if len(life.private) < 16 else 0.9):
@@ -663,6 +665,7 @@ def code_block(chance, scene, vcpu):
     gpa += [GPA_END + 8 * chance.randrange(512 * scene.size), 0, GPA_END - 8, 2 * GPA_END - 8]
     makes = (
         lambda: f"set {chance.randrange(8)} {scene.written(chance.choice((0, 1, chance.getrandbits(64))))}",
+        lambda: f"secret {chance.randrange(8)} {scene.written(chance.choice((0, 511, chance.randrange(512))))}",
         lambda: f"add {chance.randrange(8)} {chance.randrange(8)}",
         lambda: f"{chance.choice(('load', 'store'))} {chance.randrange(8)} {scene.written(chance.choice(gpa))}",
         lambda: f"accept {scene.written(chance.choice(gpa) % GPA_END // PAGE_BYTES * PAGE_BYTES)}",
@@ -734,7 +737,7 @@ BAD_INSIDE = (
 )
 BAD_IN_CODE = (
     "code 0 0", "code {code}", "lp 0", "schedule x", "end end", "machine", "foo", "SET 0 0", "{call}", "{unbuilt}",
-    "secret 0 0", "secret x", "secret", "set 0", "set 8 0", "set x 0", "set 8 x", "set 0 18446744073709551616",
+    "secret x", "secret", "secret 0 512", "secret 8 0", "secret x 512", "secret 0 0 0", "set 0", "set 8 0", "set x 0", "set 8 x", "set 0 18446744073709551616",
     "set 0 0 0", "add 0 8", "add 8 0", "add 7 7 7", "add 0 r1", "load 0 4", "load 0 0x1000000000000",
     "load 8 0", "load 0", "store 0 0xffffffffffff", "store x 4", "store 7 0 0", "accept 0x1008",
     "accept 0x800000000000", "accept", "accept 0 0", "accept x", "rtmr 4", "rtmr", "rtmr x", "vmcall 8",
@@ -808,36 +811,96 @@ def long_script(chance, turn):
     return text_of(begin + ["PHYMEM.CACHE.WB"] * CALLS_OF_A_PROCESSOR + [last, "end"])
 
 
-# Command lines that name no script in form. {script} is the name of one that is there.
+# Command lines that name no script in form, or other files beside one. The names of OTHERS are there.
 COMMANDS = (
-    "", "replay", "replay none", "replay -x", "replay --", "replay - {script}", "replay none/none",
-    "replay {script} {script}", "run {script}", "replay .", "replay {script} --keys=x", "check {script}", "soak 2",
-    "replay {script}/none", "soak", "{script}", "Replay {script}", "--help", "none {script}", "check", "check none",
-    "check -x", "check {script} {script}", "check {script} --guest-out guest", "check .", "replay --guest-out {script}",
-    "replay --guest-out guest {script}", "replay {script} --guest-out guest --guest-out guest",
-    "replay {script} --guest-out -", "replay {script} --guest-out=guest", "replay {script} --guest-out",
-    "replay none --guest-out guest", "run {script} --guest-out guest", "replay {script} --secrets {script}",
-    "replay --guest-out guest --keys none {script}",
+    "", "replay", "replay none", "replay -x", "replay --", "replay - script", "replay none/none",
+    "replay script script", "run script", "replay .", "replay script --keys=x", "check script", "soak 2",
+    "replay script/none", "soak", "script", "Replay script", "--help", "none script", "check", "check none",
+    "check -x", "check script script", "check script --guest-out guest", "check .", "replay --guest-out script",
+    "replay --guest-out guest script", "replay script --guest-out guest --guest-out guest",
+    "replay script --guest-out -", "replay script --guest-out=guest", "replay script --guest-out",
+    "replay none --guest-out guest", "run script --guest-out guest", "replay script --secrets script",
+    "replay --guest-out guest --keys none script", "run", "run none", "run script script", "run script --keys=keys",
+    "run --guest-out guest --secrets secrets script --keys keys", "run script --secrets none", "run script --secrets short",
+    "replay script --secrets secrets", "replay --secrets secrets script --guest-out guest", "replay script --secrets",
+    "replay script --secrets secrets --secrets secrets", "replay script --secrets=secrets", "replay script --secrets -",
+    "replay script --secrets none", "replay script --secrets .", "replay script --secrets empty",
+    "replay script --secrets short", "replay script --secrets long", "replay script --secrets most",
+    "replay script --secrets far", "check script --secrets secrets", "replay bad --secrets none",
+    "replay script --keys short --secrets short", "replay script --secrets none --keys short",
+    "replay script --secrets none --keys nothing", "replay script --secrets short --bundles cut",
+    "replay script --secrets none --bundles cut", "replay script --secrets short --guest-out none/none",
+    "replay script --keys keys --secrets secrets --bundles bundles --out-bundles out --guest-out guest",
+    "replay script --keys short --bundles cut", "replay script --keys long", "replay script --bundles cut",
+    "run script --keys keys --secrets secrets --bundles bundles --out-bundles out --guest-out out",
 )
+# What stands beside the script then: files in form, and others that are cut short or too long.
+OTHERS = {
+    "secrets": bytes(range(256)) * 16,
+    "keys": bytes(range(64)),
+    "bundles": b"TDXBNDL1",
+    "empty": b"",
+    "short": bytes(4095),
+    "long": bytes(4097),
+    "most": bytes(65_536),
+    "far": bytes(65_537),
+    "cut": b"TDXBNDL1" + bytes(3),
+    "bad": b"machine 1 8 1\nlp 0\n",
+}
+# Lengths that a secrets file may not have.
+BAD_LENGTHS = (0, 1, 8, 64, 512, 4088, 4095, 4097, 4104, 8192, 65_536, 65_537)
+
+
+def secrets_of(chance):
+    """The bytes of a secrets file: any words, small ones, one word again and again, or all zeros."""
+    words = [chance.getrandbits(64) for _ in range(512)]
+    kind = chance.randrange(8)
+    if kind == 0:
+        words = [chance.randrange(4) for _ in words]
+    elif kind == 1:
+        words = [words[0]] * len(words)
+    elif kind == 2:
+        words = [0] * len(words)
+    return struct.pack("<512Q", *words)
+
+
+def with_secrets(chance, words, script):
+    """Those words of a command line with a secrets file, in most cases, and all files: now and then one that isn't
+    there, or that hasn't its length."""
+    files = {"script": script}
+    draw = chance.random()
+    if draw < 0.2:
+        return words, files
+    if draw > 0.03 + 0.2:
+        files["secrets"] = secrets_of(chance)
+    elif draw > 0.005 + 0.2:
+        files["secrets"] = bytes(chance.choice(BAD_LENGTHS))
+    return [*words, "--secrets", "secrets"], files
 
 
 def case(seed, place):
-    """The case at that place: the words of a command line, and the bytes of the script."""
+    """The case at that place: the words of command lines, and the files that are there by their names."""
     chance = random.Random(f"{seed} {place}")
     round_, kind = divmod(place, 28)
     if kind == 0:
-        return COMMANDS[round_ % len(COMMANDS)].split(), text_of(["machine 1 8 1"])
-    words = ["replay", "{script}"]
+        lines = [COMMANDS[(3 * round_ + place) % len(COMMANDS)].split() for place in range(3)]
+        return lines, {"script": text_of(["machine 1 8 1"]), **OTHERS}
+    words, files = with_secrets(chance, ["replay", "script"], script_of(chance, round_, kind))
+    return [words], files
+
+
+def script_of(chance, round_, kind):
+    """The script of that round and kind."""
     if kind == 1:
-        return words, long_script(chance, round_)
+        return long_script(chance, round_)
     if kind < 8:
-        return words, faulty_script(chance, 6 * round_ + kind)
+        return faulty_script(chance, 6 * round_ + kind)
     if kind < 11:
-        return words, text_of(script_lines(chance, story, round_))
+        return text_of(script_lines(chance, story, round_))
     if kind < 19:
-        return words, text_of(script_lines(chance, race, 8 * round_ + kind - 11))
+        return text_of(script_lines(chance, race, 8 * round_ + kind - 11))
     if kind < 24:
-        return words, text_of(script_lines(chance, crowd, round_))
+        return text_of(script_lines(chance, crowd, round_))
     if kind < 27:
-        return words, text_of(script_lines(chance, meeting, 3 * round_ + kind - 24))
-    return words, text_of(script_lines(chance, noise, round_))
+        return text_of(script_lines(chance, meeting, 3 * round_ + kind - 24))
+    return text_of(script_lines(chance, noise, round_))

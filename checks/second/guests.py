@@ -140,9 +140,10 @@ class Guest:
 
     def vmcall(self, register):
         """`vmcall R`"""
+        value = self.machine.tell(self.vcpu.registers[register])
         self.complete()
         yield
-        return f"VMCALL {self.vcpu.registers[register]}"
+        return f"VMCALL {value}"
 
     def rtmr(self, place):
         """`rtmr I`"""
@@ -181,15 +182,15 @@ class Guest:
             return violation
         if self.how.startswith("by a walk") and not self.allows_reading(gpa):
             self.how = "by a walk with a block behind it"
-        self.move(register, gpa, translation[2], writes)
+        self.move(register, gpa, translation[2], self.vcpu.registers[register] if writes else None)
         yield
         return None
 
-    def move(self, register, gpa, page, writes):
-        """The access to the word of that page, which completes the operation."""
+    def move(self, register, gpa, page, stored):
+        """The access to the word of that page, which completes the operation: a load, or the store of a word."""
         words, place = self.machine.pages[page].words, gpa % PAGE_BYTES // 8
-        if writes:
-            words[place] = self.vcpu.registers[register]
+        if stored is not None:
+            words[place] = stored
         else:
             self.vcpu.registers[register] = words.get(place, 0)
             self.note(f"load {gpa:#x} {self.vcpu.registers[register]}")
@@ -245,7 +246,7 @@ class Guest:
             return f"BUSY P {page}"
         allowed = self.machine.pages[page].kind == "PT_NDA"
         if allowed:
-            self.move(register, gpa, page, writes)
+            self.move(register, gpa, page, self.machine.tell(self.vcpu.registers[register]) if writes else None)
         else:
             self.how = "at a page of a TD"
         yield

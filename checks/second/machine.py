@@ -82,10 +82,12 @@ class Td:
 
 class Outside:
     """What a run is given, and the bundles that it makes: the lists of operations by TDR page and index,
-    input bundles by slot, the key from source to destination and the key back, the secret words."""
+    input bundles by slot, the key from source to destination and the key back, the secret words; and where
+    guests don't tell what they have, the words that they tell."""
 
-    def __init__(self, code=None, inputs=None, keys=bytes(64), secrets=(0,) * 512):
+    def __init__(self, code=None, inputs=None, keys=bytes(64), secrets=(0,) * 512, tells=None):
         self.code, self.inputs, self.keys, self.secrets = code or {}, inputs or {}, keys, secrets
+        self.tells = tells
         self.outputs = {}
 
 
@@ -99,6 +101,7 @@ class Machine:
         self.hkids = {number: Hkid() for number in range(1, hkids + 1)}
         self.tds = {}  # by TDR page
         self.locks = defaultdict(int)
+        self.told = []  # the words that guests told the host, in the order of events
         self.met = []  # what came of guests and beside them, for coverage.py
 
     def takes(self, td_page, page, kind, words=()):
@@ -113,6 +116,13 @@ class Machine:
             del self.tds[td_page]
         else:
             self.tds[td_page].children -= 1
+
+    def tell(self, word):
+        """A guest tells that word, or the next of those that it is to tell; answers which."""
+        if self.outside.tells is not None:
+            word = self.outside.tells[len(self.told)]
+        self.told.append(word)
+        return word
 
     def try_shared(self, lock):
         """The shared try of a lock, which counts even where it is denied."""

@@ -1,4 +1,4 @@
-"""The program's command line, statuses and texts of docs/profile.md: `replay` and `check` as they are built,
+"""The program's command line, statuses and texts of docs/profile.md: `replay`, `run` and `check` as they are built,
 and all four commands as they are to be."""
 
 import re
@@ -17,8 +17,8 @@ USAGE = (
 INPUTS = ("--bundles", "--keys", "--secrets")
 OPTIONS = (*INPUTS, "--out-bundles", "--guest-out")
 # What the finished program has and this one hasn't.
-UNBUILT_COMMANDS = ("run", "soak")
-UNBUILT_OPTIONS = ("--secrets",)
+UNBUILT_COMMANDS = ("soak",)
+SECRETS = "<512Q"
 
 
 class Ended(Exception):
@@ -47,6 +47,14 @@ def replay(script, outside=None):
     return processors
 
 
+def run_threads(script, outside=None):
+    """Runs a script in one order of those that threads may come to, without its schedule: each processor to
+    its end, in the order of their numbers. With one processor there is no other order."""
+    processors = processors_of(script, outside)
+    run(processors, [])
+    return processors
+
+
 def answer(words, load):
     """The status and the text of the command line with these words, as it is built, the files that it saves,
     and the processors of the run where there was one. A file's bytes come from `load`, or None where it
@@ -55,8 +63,8 @@ def answer(words, load):
         need_usage(words and words[0] in COMMANDS and words[0] not in UNBUILT_COMMANDS)
         if words[0] == "check":
             return 0, *check(words[1:], load, UNBUILT), []
-        need_usage(all(word in OPTIONS and word not in UNBUILT_OPTIONS for word in words if word.startswith("-")))
-        return 0, *replay_of(words[1:], load, UNBUILT)
+        need_usage(all(word in OPTIONS for word in words if word.startswith("-")))
+        return 0, *run_of(RUNS[words[0]], words[1:], load, UNBUILT)
     except Ended as ended:
         return *ended.args, {}, []
     except Fault as fault:
@@ -103,18 +111,18 @@ def outside_of(script, files):
         raise Ended(7, "key file\n")
     if len(files.get("--secrets", bytes(4096))) != 4096:
         raise Ended(7, "secrets file\n")
-    secrets = struct.unpack("<512Q", files.get("--secrets", bytes(4096)))
+    secrets = struct.unpack(SECRETS, files.get("--secrets", bytes(4096)))
     return Outside(script.code, files["--bundles"], files.get("--keys", bytes(64)), secrets)
 
 
-def replay_of(words, load, unbuilt):
-    """The text of `replay` or `run`, the files that it saves, and its processors."""
+def run_of(runs, words, load, unbuilt):
+    """The text of `replay` or `run`, by what runs the script, the files that it saves, and its processors."""
     rest, options = options_of(words)
     need_usage(len(rest) == 1)
     script = read(loaded(rest[0], load), unbuilt)
     files = {name: loaded(options[name], load) for name in INPUTS if name in options}
     files["--bundles"] = bundles_of(files["--bundles"]) if "--bundles" in files else {}
-    processors = replay(script, outside_of(script, files))
+    processors = runs(script, outside_of(script, files))
     made = {
         "--out-bundles": container_of(processors[0].machine.outside.outputs),
         "--guest-out": "".join(f"{line}\n" for at in processors for line in at.guest_lines).encode(),
@@ -123,9 +131,17 @@ def replay_of(words, load, unbuilt):
     return reply_lines(processors), saved, processors
 
 
+RUNS = {"replay": replay, "run": run_threads}
+
+
 def replay_all(words, load):
-    """The text of `replay` or `run` with all calls and options, and the files that it saves."""
-    return replay_of(words, load, frozenset())[:2]
+    """The text of `replay` with all calls and options, and the files that it saves."""
+    return run_of(replay, words, load, frozenset())[:2]
+
+
+def run_all(words, load):
+    """The text of `run` with all calls and options in one order of its threads, and the files that it saves."""
+    return run_of(run_threads, words, load, frozenset())[:2]
 
 
 def check(words, load, unbuilt=frozenset()):
@@ -142,7 +158,7 @@ def soak(words, _load):
     return soak_line(int(words[0]), read, replay), {}
 
 
-COMMANDS = {"replay": replay_all, "run": replay_all, "check": check, "soak": soak}
+COMMANDS = {"replay": replay_all, "run": run_all, "check": check, "soak": soak}
 
 
 def whole_answer(words, load):

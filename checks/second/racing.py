@@ -1,0 +1,152 @@
+"""Small scripts whose processors race with one another. A script is what its seed and its place say.
+
+For threads to meet at times, processors begin with lines that only take time, and guests go through operations
+that do: a wait reads a page that nothing else names, and a pass adds to a register that nothing else uses. Neither
+changes what others do or see, so every output of the script is one of its core, which has none of them.
+"""
+
+import random
+import re
+import struct
+
+BUILD = (
+    "MNG.CREATE 1 1", "MNG.KEY.CONFIG 1", "MNG.ADDCX 1 2", "MNG.ADDCX 1 3", "MNG.INIT 1", "VP.CREATE 1 4",
+    "VP.INIT 1 4 0", "MEM.SEPT.ADD 1 0 3 5", "MEM.SEPT.ADD 1 0 2 6", "MEM.SEPT.ADD 1 0 1 7", "MEM.PAGE.ADD 1 0 8 0",
+)
+SECOND_VCPU = ("VP.CREATE 1 9", "VP.INIT 1 9 0")
+SHARED = (1 << 47) + 20 * 4096
+ENTERS, SECOND_ENTERS = "VP.ENTER 1 4 65535", "VP.ENTER 1 9 65535"
+WAITING_PAGE = 24  # of processor 0; each processor has one of its own
+PASS = "add 6 7"
+
+
+def word(chance):
+    """The address of a word, private or shared."""
+    return chance.choice((0, SHARED))
+
+
+def takes(chance):
+    """Processors take pages and HKIDs, and look at them."""
+    makes = (
+        lambda: f"MNG.CREATE {chance.choice((1, 1, 2))} {chance.choice((1, 1, 2))}",
+        lambda: f"MNG.KEY.CONFIG {chance.choice((1, 1, 2))}",
+        lambda: f"MNG.ADDCX {chance.choice((1, 2))} {chance.choice((2, 3))}",
+        lambda: f"HOST.READ {chance.choice((1, 2, 3))} 0",
+        lambda: f"HOST.WRITE {chance.choice((1, 2, 3))} 0 {chance.randrange(1, 9)}",
+        lambda: f"PHYMEM.PAGE.RDMD {chance.choice((1, 2, 3))}",
+        lambda: "PHYMEM.CACHE.WB",
+        lambda: f"MNG.RD {chance.choice((1, 2))} LIFE",
+    )
+    calls = chance.choice(((4, 4), (5, 3), (2, 2, 2)))
+    return {}, [[chance.choice(makes)() for _ in range(count)] for count in calls]
+
+
+def uses_host_pages(chance):
+    """Processors write and read words of host pages."""
+    pages = chance.choice(((1,), (1, 2)))
+    calls = chance.choice(((4, 4), (6, 3), (3, 2, 2)))
+
+    def call(lp):
+        page = chance.choice(pages)
+        return chance.choice((f"HOST.READ {page} 0", f"HOST.WRITE {page} 0 {lp + 1}"))
+
+    return {}, [[call(lp) for _ in range(count)] for lp, count in enumerate(calls)]
+
+
+def two_guests(first, second):
+    """A guest of processor 0, which builds the TD, and one of processor 1, with these operations."""
+    return {0: first, 1: second}, [[*BUILD, *SECOND_VCPU, "MR.FINALIZE 1", ENTERS], [SECOND_ENTERS]]
+
+
+def stores_before_loads(chance):
+    """Each guest stores one word, and then loads the other's."""
+    at = word(chance)
+    code = ["set 1 1", f"store 1 {at}", f"load 2 {at + 8}"], ["set 1 1", f"store 1 {at + 8}", f"load 2 {at}"]
+    return two_guests(*code)
+
+
+def passes_a_message(chance):
+    """One guest stores a word and then a flag, and the other loads the flag and then the word."""
+    at = word(chance)
+    code = [["set 1 1", f"store 1 {at}", f"store 1 {at + 8}"], [f"load 2 {at + 8}", f"load 2 {at}"]]
+    chance.shuffle(code)
+    return two_guests(*code)
+
+
+def shares_a_word(chance):
+    """Guests load and store one word, with secrets."""
+    at = word(chance)
+    code = [[f"secret 1 {index}", *(chance.choice((f"load 2 {at}", f"store 1 {at}")) for _ in range(2))] for index in (0, 1)]
+    return two_guests(*code)
+
+
+def extends_and_accepts(chance):
+    """Guests extend one RTMR, or accept one page."""
+    code = [chance.choice((["rtmr 0"], ["accept 4096"], ["accept 4096", "rtmr 0"])) for _ in (0, 1)]
+    lists, (first, second) = two_guests(*code)
+    return lists, [[*first[:-1], "MEM.PAGE.AUG 1 4096 10", ENTERS, ENTERS], second]
+
+
+def takes_memory_away(chance):
+    """A page is blocked, tracked and removed beside its guest."""
+    host = ["MEM.RANGE.BLOCK 1 0 0", "MEM.TRACK 1", "MEM.PAGE.REMOVE 1 0", "HOST.READ 8 0"]
+    blocks = [["HOST.WRITE 0 0 5", *BUILD, "MR.FINALIZE 1", *host[: chance.randint(2, 4)]], [ENTERS]]
+    return {0: ["load 1 0", "load 1 0"]}, blocks
+
+
+def talks_with_the_host(chance):
+    """A guest and the host use one shared word."""
+    code = [chance.choice((f"load 2 {SHARED}", f"store 1 {SHARED}")) for _ in range(chance.randint(1, 3))]
+    host = [chance.choice(("HOST.READ 20 0", "HOST.WRITE 20 0 7")) for _ in range(chance.randint(1, 3))]
+    return {0: ["secret 1 0", *code]}, [[*BUILD, "MR.FINALIZE 1", ENTERS], host]
+
+
+KINDS = (
+    takes, stores_before_loads, uses_host_pages, passes_a_message, takes_memory_away, shares_a_word, extends_and_accepts,
+    talks_with_the_host,
+)
+
+
+def text_of(lists, blocks):
+    """The bytes of a script with these lists of VCPUs of TD 1, and these calls of each processor."""
+    lines = [f"machine {len(blocks)} 32 2"]
+    for index, operations in lists.items():
+        lines += [f"code 1 {index}", *operations, "end"]
+    for lp, calls in enumerate(blocks):
+        lines += [f"lp {lp}", *calls, "end"]
+    return "".join(f"{line}\n" for line in lines).encode()
+
+
+class Race:
+    """The race at that place: its core, the secrets, and the numbers of waits of each processor in its script."""
+
+    def __init__(self, seed, place):
+        self.chance, self.kind = random.Random(f"race {seed} {place}"), KINDS[place % len(KINDS)]
+        self.lists, self.blocks = self.kind(self.chance)
+        self.core = text_of(self.lists, self.blocks)
+        self.secrets = struct.pack("<512Q", *(self.chance.randrange(1, 100) for _ in range(512)))
+
+    def script(self, longest=3000):
+        """A script of the race, and how many waits each processor has in it, at most so many. A build takes long, so
+        the others wait longer then."""
+        choices = [(0, 30, 100, 300, 1000, 3000) if self.lists and lp else (0, 0, 3, 10, 30) for lp in range(len(self.blocks))]
+        waits = [min(longest, self.chance.choice(its)) for its in choices]
+        passes = [min(longest, self.chance.choice((0, 0, 60, 200))) for _ in self.lists]
+        lists = {index: [PASS] * count + code for count, (index, code) in zip(passes, self.lists.items())}
+        blocks = [[f"HOST.READ {WAITING_PAGE + lp} 0"] * waits[lp] + calls for lp, calls in enumerate(self.blocks)]
+        return text_of(lists, blocks), waits
+
+
+def without_waits(text, waits):
+    """The lines of an output or a guest file without those of so many waits of each processor."""
+    kept = []
+    for line in text.splitlines(keepends=True):
+        found = re.match(r"(\d)\.(\d+) ", line)
+        if found is None:
+            return text
+        lp, number = int(found[1]), int(found[2]) - waits[int(found[1])]
+        if number > 0:
+            kept.append(f"{lp}.{number} {line[found.end() :]}")
+        elif line[found.end() :] != "SUCCESS 0\n":
+            return text
+    return "".join(kept)
