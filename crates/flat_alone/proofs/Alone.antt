@@ -14,11 +14,16 @@ use Rattle.td_words.specs.declared.replies.Reply.TheVariants.{Done, Refused}
 use Rattle.td_words.specs.declared.refusals.Status.TheVariants.{EptWalkFailed}
 use Rattle.td_words.specs.declared.machines.Machine.{Machine}
 use Rattle.td_words.specs.declared.names.PageKind.TheVariants as kind
+use Rattle.td_words.specs.declared.names.LifeState.TheVariants as life
+use Rattle.td_words.specs.declared.names.OpState.{OpState}
+use Rattle.td_words.specs.NameNumber.{life_number}
 use Rattle.td_words.specs.declared.names.EntryState.{EntryState}
 use Rattle.td_words.specs.declared.names.EntryState.TheVariants as entry
 use Rattle.flat_core.specs.Tree.{number_at, entry_at, same_state, empty_below, is_passed, levels_above}
 use Rattle.flat_core.specs.Tracking.{tracked_page}
 use Rattle.flat_core.specs.MemRows.{named_row, open_states, blocked_states, removed_states}
+use Rattle.flat_core.specs.ExportRows.{opened_row, live_ops, restoring_ops, write_blocked_states, restored_states}
+use Rattle.flat_core.specs.Conditions.{same_kind}
 use Rattle.flat_core.specs.Lawful.{Lawful, is_free}
 use Rattle.flat_core.specs.World.{World, first_world, put}
 use Rattle.flat_core.specs.Processor.{LockId, OfPage, OfOp, OfTree, OfEpoch, Held, Phase, Trying, Answered, Translation, Entering, Lp, idle}
@@ -110,6 +115,13 @@ apart_false true h = cc
 apart_false false h = refl
 
 -- an entry of a TD names a page that isn't its TDR page
+apart_named : (m : Machine) (w : World) → Lawful m w → (tdr level number : ℕ) → same_kind (w.pages.kinds tdr) kind.Tdr ≡ true → list_any (λ s. life_number s == life_number (w.tds.lives tdr)) (life.KeysConfigured ∷ []) ≡ true
+    → is_free (w.tds.entries tdr level number).state ≡ false → (tdr == (w.tds.entries tdr level number).page) ≡ false
+apart_named m w la tdr level number root living used =
+    let tdr_is : w.pages.kinds tdr ≡ kind.Tdr = tdr_kind _ root in
+    let node = node_named m w la tdr level number (record { kind = tdr_is; life = is_living (w.tds.lives tdr) living }) used in
+    ne_eqb tdr _ (λ e. unlisted level kind.Tdr refl (sym node.page.kind ∙ (ap w.pages.kinds (sym e) ∙ tdr_is)))
+
 free_named : (m : Machine) (w : World) → Lawful m w → (tdr gpa level : ℕ) (allowed : List EntryState) → ((s : EntryState) → list_any (λ a. same_state a s) allowed ≡ true → is_free s ≡ false) → (rest : List (Item Reply))
     → FreeTries (record { lock = OfPage (entry_at w tdr level gpa).page; mode = Exclusive } ∷ record { lock = OfEpoch tdr; mode = Shared } ∷ record { lock = OfTree tdr; mode = Exclusive } ∷ record { lock = OfOp tdr; mode = Shared } ∷ record { lock = OfPage tdr; mode = Shared } ∷ []) rest
     → FreeTries [] (named_row w tdr gpa level allowed rest)
@@ -126,12 +138,33 @@ free_named m w la tdr gpa level allowed used rest more = (
         refl,
         refl,
         free_walk _ (is_passed w tdr gpa) (λ l. Refused (EptWalkFailed l)) (levels_above level) _
-            (λ state.
-            let tdr_is : w.pages.kinds tdr ≡ kind.Tdr = tdr_kind _ root in
-            let node = node_named m w la tdr level (number_at level gpa) (record { kind = tdr_is; life = is_living (w.tds.lives tdr) living }) (used _ state) in
-            let n : (tdr == (entry_at w tdr level gpa).page) ≡ false = ne_eqb tdr _ (λ e. unlisted level kind.Tdr refl (sym node.page.kind ∙ (ap w.pages.kinds (sym e) ∙ tdr_is))) in
-            (refl, rw n refl, more)),
+            (λ state. let n = apart_named m w la tdr level (number_at level gpa) root living (used _ state) in (refl, rw n refl, more)),
       ),
+    ),
+  ),
+)
+
+-- so it is in each state but FREE
+in_use : (allowed : List EntryState) (s : EntryState) → list_any (λ a. same_state a entry.Free) allowed ≡ false → list_any (λ a. same_state a s) allowed ≡ true → is_free s ≡ false
+in_use allowed entry.Free never h = cc
+in_use allowed _ never h = refl
+
+has_use : (s : EntryState) → not (same_state s entry.Free) ≡ true → is_free s ≡ false
+has_use entry.Free h = cc
+has_use _ h = refl
+
+-- the beginning of the rows that give a guest its page back
+free_opened : (m : Machine) (w : World) → Lawful m w → (tdr gpa : ℕ) (ops : List OpState) (allowed : List EntryState) → list_any (λ a. same_state a entry.Free) allowed ≡ false → FreeTries [] (opened_row w tdr gpa ops allowed)
+free_opened m w la tdr gpa ops allowed never = (
+  refl,
+  refl,
+  λ root living two. (
+    refl,
+    refl,
+    λ runs. (
+      refl,
+      refl,
+      λ first second third state. let n = apart_named m w la tdr 0 (number_at 0 gpa) root living (in_use allowed _ never state) in (refl, rw n refl, tt),
     ),
   ),
 )
@@ -224,6 +257,29 @@ free_row o p (call.MemPageAug tdr gpa page) w la = λ a b d apart e. (
     ),
   ),
 )
+free_row o p (call.MigStreamCreate tdr page) w la =
+    λ a b apart. (refl, refl, λ d e f. (refl, refl, λ g h. let n : (tdr == page) ≡ false = other_page page tdr apart in (refl, rw n refl, λ i. tt)))
+free_row o p (call.ExportBlockw tdr gpa) w la = λ a b d. (
+  refl,
+  refl,
+  λ root living two. (
+    refl,
+    refl,
+    λ runs. (
+      refl,
+      refl,
+      (
+        refl,
+        refl,
+        λ first second third used. let n = apart_named o.machine w la tdr 0 (number_at 0 gpa) root living (has_use _ used) in (refl, rw n refl, λ state. tt),
+      ),
+    ),
+  ),
+)
+free_row o p (call.ExportUnblockw tdr gpa) w la = λ a b d. free_opened o.machine w la tdr gpa live_ops write_blocked_states refl
+free_row o p (call.ExportPause tdr) w la = λ a. (refl, refl, λ b d e. (refl, refl, λ f. (refl, refl, tt)))
+free_row o p (call.ExportAbort tdr) w la = λ a. (refl, refl, λ b d e. (refl, refl, λ f. (refl, refl, tt)))
+free_row o p (call.ExportRestore tdr gpa) w la = λ a b d. free_opened o.machine w la tdr gpa restoring_ops restored_states refl
 
 -- and every world is lawful
 passes_of : (items : List (Item Reply)) → first_fault items ≡ None → Passes items

@@ -20,10 +20,11 @@ use Rattle.flat_core.specs.Processor.{Translation, Walk, Guest}
 use Rattle.flat_core.specs.Opening.{Opening}
 use Rattle.flat_core.specs.Row.{Passes}
 use Rattle.flat_core.specs.Conditions.{is_host, host_page, page_exclusive, associated_in, is_elsewhere}
-use Rattle.flat_core.specs.Effects.{put_in, take_node, set_state, set_entry, set_epoch}
+use Rattle.flat_core.specs.Effects.{put_in, take_node, set_entry, set_epoch}
 use Rattle.flat_core.specs.Tracking.{tracked_page, is_tracked}
 use Rattle.flat_core.specs.KeyRows.{reclaim_conditions}
 use Rattle.flat_core.specs.MemRows.{open_states, blocked_states, removed_states, blocked_state, unblocked_state}
+use Rattle.flat_core.specs.ExportRows.{live_ops, writable_states, write_blocked, write_blocked_states, write_unblocked, restoring_ops, restored_states}
 use Rattle.flat_core.specs.Tree.{state_in, empty_below, entry_at, number_at, same_state}
 use Rattle.flat_core.specs.Table.{row_of}
 use Rattle.flat_core.specs.Alike.{is_being_built}
@@ -33,7 +34,7 @@ use Rattle.flat_core.specs.Access.{IsHere, IsUsable, inside, outside, entry_of, 
 use Rattle.flat_core.proofs.Tests.{by_test, host_kind, tdr_kind, range_of}
 use Rattle.flat_core.proofs.Maps.{walk_passed, unlisted, node_named}
 use Rattle.flat_core.proofs.EntryStates.{entry_set}
-use Rattle.flat_core.proofs.Ranges.{named_passed, named_alive, Restates, block_restates, unblock_restates, blocked_less, blocked_stops, IsRemoved, page_removed, sept_removed}
+use Rattle.flat_core.proofs.Ranges.{named_passed, named_alive, block_restates, unblock_restates, blocked_less, blocked_stops, IsRemoved, page_removed, sept_removed, opened_passed, write_passed, entry_alive, write_remarks, unwrite_remarks, restored, mapped_allows, unblocked_allows}
 use Rattle.flat_core.proofs.Removals.{empty_at, other_entry}
 use Rattle.flat_core.proofs.Trackings.{entered_later, epoch_later}
 use Rattle.flat_core.proofs.Spared.{not_configured, counted}
@@ -50,6 +51,10 @@ is_begun _ h = cc
 free_of : (s : EntryState) → list_any (λ a. same_state a s) (entry.Free ∷ []) ≡ true → is_free s ≡ true
 free_of entry.Free h = refl
 free_of _ h = cc
+
+-- a state that isn't exported is not the exempt one
+unexempt : (s : EntryState) → is_exported s ≡ false → s ≢ entry.ExportedBlockedW
+unexempt s h e = let no : true ≡ false = sym (ap is_exported e) ∙ h in cc
 
 -- a TD that runs
 pub record IsBuilt (w : World) (t : ℕ) : Type 0 where
@@ -99,18 +104,23 @@ module _ (w w' : World) (le : LawfulEpochs w) (p : ℕ) (cs : List Translation) 
   pub frame : LawfulTranslations w p cs g → LawfulTranslations w' p cs g
   frame = wide-frame w w' le p cs g occ fore (λ t v h. (let b = back t v h in (b.0, b.1))) enters (usable-same w w' p g back enters) (λ c e bu us. holds c e bu) (λ x k e is bu n. walks x.tdr k e bu)
 
--- entries, blocks and operation states as before
-pub current-same : (w w' : World) (c : Translation) (e : ℕ) → entry_of w' c ≡ entry_of w c → w'.pages.blocked c.page ≡ w.pages.blocked c.page → w'.tds.ops c.tdr ≡ w.tds.ops c.tdr → IsCurrent w c e → IsCurrent w' c e
-current-same w w' c e en bl os h = record {
+-- entries and blocks as before, and what may have been exempt may be still
+current-on : (w w' : World) (c : Translation) (e : ℕ) → entry_of w' c ≡ entry_of w c → w'.pages.blocked c.page ≡ w.pages.blocked c.page → (may_be_exempt (w.tds.ops c.tdr) ≡ true → may_be_exempt (w'.tds.ops c.tdr) ≡ true)
+    → IsCurrent w c e → IsCurrent w' c e
+current-on w w' c e en bl os h = record {
   named = record { used = ap (λ (x : Entry). is_free x.state) en ∙ h.named.used; page_is = ap (λ (x : Entry). x.page) en ∙ h.named.page_is };
   rights = λ less.
       let was : allows_less c.may_write (entry_of w c).state ≡ true = ap (λ (x : Entry). allows_less c.may_write x.state) (sym en) ∙ less in
       elim (h.rights was) [
         | inl y ↦ inl (subst (λ (z : ℕ). e ≤ z) (sym bl) y)
-        | inr y ↦ inr (ap (λ (x : Entry). x.state) en ∙ y.0, ap may_be_exempt os ∙ y.1)
+        | inr y ↦ inr (ap (λ (x : Entry). x.state) en ∙ y.0, os y.1)
       ];
   accepted = ap (λ (x : Entry). is_pending x.state) en ∙ h.accepted;
 }
+
+-- so with operation states as before
+pub current-same : (w w' : World) (c : Translation) (e : ℕ) → entry_of w' c ≡ entry_of w c → w'.pages.blocked c.page ≡ w.pages.blocked c.page → w'.tds.ops c.tdr ≡ w.tds.ops c.tdr → IsCurrent w c e → IsCurrent w' c e
+current-same w w' c e en bl os h = current-on w w' c e en bl (λ x. ap may_be_exempt os ∙ x) h
 
 pub walking-same : (w w' : World) (t : ℕ) (k : Walk) (e : ℕ) → node_of w' t k ≡ node_of w t k → w'.pages.blocked k.page ≡ w.pages.blocked k.page → IsOnCourse w t k e → IsOnCourse w' t k e
 walking-same w w' t k e en bl h = record {
@@ -215,18 +225,25 @@ module _ (m : Machine) (w : World) (la : Lawful m w) (le : LawfulEpochs w) (p : 
       let zero_is : associated_in w.vps.associated (w.tds.vps u) ≡ 0 = eqb-true _ 0 none in omega (arith, some, zero_is)))
       (λ n. n)
 
-  -- an act that changes lives, operation states or epochs of TDs that don't run, and entries that are FREE
-  td-act : (w' : World) → w'.pages ≡ w.pages → w'.vps ≡ w.vps → (lv : (t v : ℕ) → IsHere w p t v → w'.tds.lives t ≡ w.tds.lives t) → (lb : (t v : ℕ) → IsHere w' p t v → w.tds.lives t ≡ life.KeysConfigured)
-      → (os : (t : ℕ) → IsBuilt w t → w'.tds.ops t ≡ w.tds.ops t) → (ep : (t : ℕ) → IsBuilt w t → w'.tds.epochs t ≡ w.tds.epochs t)
+  -- an act that changes lives or epochs of TDs that don't run, and entries that are FREE; and operation states, but what may
+  -- be exempt may be still
+  op-act : (w' : World) → w'.pages ≡ w.pages → w'.vps ≡ w.vps → (lv : (t v : ℕ) → IsHere w p t v → w'.tds.lives t ≡ w.tds.lives t) → (lb : (t v : ℕ) → IsHere w' p t v → w.tds.lives t ≡ life.KeysConfigured)
+      → (os : (t : ℕ) → IsBuilt w t → may_be_exempt (w.tds.ops t) ≡ true → may_be_exempt (w'.tds.ops t) ≡ true) → (ep : (t : ℕ) → IsBuilt w t → w'.tds.epochs t ≡ w.tds.epochs t)
       → (en : (t l n : ℕ) → IsBuilt w t → is_free (w.tds.entries t l n).state ≡ false → w'.tds.entries t l n ≡ w.tds.entries t l n) → LawfulTranslations w' p cs g
-  td-act w' pg vp lv lb os ep en =
+  op-act w' pg vp lv lb os ep en =
       frame w w' le p cs g occ
       (λ t v h. record { tdr = ap (λ (z : Pages). z.kinds t) pg ∙ h.tdr; life = lv t v h ∙ h.life; page = record { kind = ap (λ (z : Pages). z.kinds v) pg ∙ h.page.kind; owner = ap (λ (z : Pages). z.owners v) pg ∙ h.page.owner }; associated = ap (λ (z : Vps). z.associated v) vp ∙ h.associated })
       (λ t v h. let was : IsHere w p t v = record { tdr = ap (λ (z : Pages). z.kinds t) (sym pg) ∙ h.tdr; life = lb t v h; page = record { kind = ap (λ (z : Pages). z.kinds v) (sym pg) ∙ h.page.kind; owner = ap (λ (z : Pages). z.owners v) (sym pg) ∙ h.page.owner }; associated = ap (λ (z : Vps). z.associated v) (sym vp) ∙ h.associated } in
       (was, ap (λ (z : Vps). z.lasts v) vp, ep t (here-built w le p t v was)))
       (λ x e is n. ap (λ (z : Vps). z.entered x.vp) (sym vp) ∙ n)
-      (λ c e bu h. current-same w w' c e (en c.tdr 0 c.gpa_page bu h.named.used) (ap (λ (z : Pages). z.blocked c.page) pg) (os c.tdr bu) h)
+      (λ c e bu h. current-on w w' c e (en c.tdr 0 c.gpa_page bu h.named.used) (ap (λ (z : Pages). z.blocked c.page) pg) (os c.tdr bu) h)
       (λ t k e bu h. walking-same w w' t k e (en t (suc k.level) (node_number k) bu h.named.used) (ap (λ (z : Pages). z.blocked k.page) pg) h) a
+
+  -- so where operation states of TDs that run stay
+  td-act : (w' : World) → w'.pages ≡ w.pages → w'.vps ≡ w.vps → (lv : (t v : ℕ) → IsHere w p t v → w'.tds.lives t ≡ w.tds.lives t) → (lb : (t v : ℕ) → IsHere w' p t v → w.tds.lives t ≡ life.KeysConfigured)
+      → (os : (t : ℕ) → IsBuilt w t → w'.tds.ops t ≡ w.tds.ops t) → (ep : (t : ℕ) → IsBuilt w t → w'.tds.epochs t ≡ w.tds.epochs t)
+      → (en : (t l n : ℕ) → IsBuilt w t → is_free (w.tds.entries t l n).state ≡ false → w'.tds.entries t l n ≡ w.tds.entries t l n) → LawfulTranslations w' p cs g
+  td-act w' pg vp lv lb os ep en = op-act w' pg vp lv lb (λ t bu x. ap may_be_exempt (os t bu) ∙ x) ep en
 
   -- a host page becomes one of another kind, no TD page nor one of a virtual processor that is here
   host-act : (q : ℕ) (k' : PageKind) (t' level number : ℕ) → w.pages.kinds q ≡ kind.Nda → (w' : World) → w'.pages ≡ (take_node q k' t' level number w).pages
@@ -260,18 +277,20 @@ module _ (m : Machine) (w : World) (la : Lawful m w) (le : LawfulEpochs w) (p : 
   usable-low t e (inside x is same n) = subst (λ (z : ℕ). e ≤ w.tds.epochs z) same (entered-low x e is n)
   usable-low t e (outside v other h last at) = omega (arith, at)
 
-  -- The entry of a page gets another state for that page, and its BEPOCH may be TD_EPOCH now. What the new state allows less
-  -- than a translation, the old one did, or TD_EPOCH is noted.
-  module _ (u level number : ℕ) (s' : EntryState) (b : ℕ → ℕ) (r : Restates (w.tds.entries u level number).state s')
+  -- The entry of a page gets another state and mark for that page, and its BEPOCH may be TD_EPOCH now. What the new state
+  -- allows less than a translation, the old one did, and none is exempt from that, or TD_EPOCH is noted.
+  module _ (u level number : ℕ) (s' : EntryState) (mark : ℕ) (b : ℕ → ℕ) (still-used : is_free s' ≡ false) (same-pending : is_pending s' ≡ is_pending (w.tds.entries u level number).state)
       (high : (t q e : ℕ) → w.pages.owners q ≡ t → e ≤ w.tds.epochs t → e ≤ w.pages.blocked q → e ≤ b q)
-      (fewer : (writes : Bool) (e : ℕ) → allows_less writes s' ≡ true → e ≤ w.tds.epochs u → (e ≤ b (w.tds.entries u level number).page) ⊎ (allows_less writes (w.tds.entries u level number).state ≡ true))
+      (fewer : (writes : Bool) (e : ℕ) → allows_less writes s' ≡ true → e ≤ w.tds.epochs u → (e ≤ b (w.tds.entries u level number).page)
+      ⊎ ((allows_less writes (w.tds.entries u level number).state ≡ true) × ((w.tds.entries u level number).state ≢ entry.ExportedBlockedW)))
       (stops : (e : ℕ) → same_state s' entry.NlMapped ≡ false → e ≤ w.tds.epochs u → (e ≤ b (w.tds.entries u level number).page) ⊎ (same_state (w.tds.entries u level number).state entry.NlMapped ≡ false))
-      (w' : World) (pg : w'.pages ≡ record (w.pages) { blocked = b }) (td : w'.tds ≡ (set_state u level number s' w).tds) (vp : w'.vps ≡ w.vps) where
+      (w' : World) (pg : w'.pages ≡ record (w.pages) { blocked = b }) (lv : w'.tds.lives ≡ w.tds.lives) (os : w'.tds.ops ≡ w.tds.ops) (ep : w'.tds.epochs ≡ w.tds.epochs)
+      (en : w'.tds.entries ≡ (set_entry u level number (record { state = s'; page = (w.tds.entries u level number).page; mark = mark }) w).tds.entries) (vp : w'.vps ≡ w.vps) where
     abbrev was : Entry
     was = w.tds.entries u level number
 
     abbrev put-there : Entry
-    put-there = record { state = s'; page = was.page; mark = 0 }
+    put-there = record { state = s'; page = was.page; mark = mark }
 
     blocked-is : (q : ℕ) → w'.pages.blocked q ≡ b q
     blocked-is q = ap (λ (z : Pages). z.blocked q) pg
@@ -285,32 +304,29 @@ module _ (m : Machine) (w : World) (la : Lawful m w) (le : LawfulEpochs w) (p : 
     noted : (q e : ℕ) → e ≤ b q → e ≤ w'.pages.blocked q
     noted q e h = subst (λ (z : ℕ). e ≤ z) (sym (blocked-is q)) h
 
-    exempt-no : (x : Entry) → is_exported x.state ≡ false → x.state ≡ entry.ExportedBlockedW → ⊥
-    exempt-no x h e = let no : true ≡ false = sym (ap is_exported e) ∙ h in cc
-
     current-still : (c : Translation) (e : ℕ) → IsBuilt w c.tdr → IsUsable w p g c.tdr e → IsCurrent w c e → IsCurrent w' c e
     current-still c e bu us h =
         let pa = current-page c e bu h in
         let low = usable-low c.tdr e us in
-        to-say c e (subst (λ (z : Tds). Says c e (z.entries c.tdr 0 c.gpa_page)) (sym td)
+        to-say c e (subst (λ (z : ℕ → ℕ → ℕ → Entry). Says c e (z c.tdr 0 c.gpa_page)) (sym en)
         (entry_set w u level number put-there (Says c e) c.tdr 0 c.gpa_page
         (λ x y z. let at : entry_of w c ≡ was = ap (λ (q : ℕ). w.tds.entries q 0 c.gpa_page) x ∙ (ap (λ (q : ℕ). w.tds.entries u q c.gpa_page) y ∙ ap (λ (q : ℕ). w.tds.entries u level q) z) in
         let page : was.page ≡ c.page = ap (λ (q : Entry). q.page) (sym at) ∙ h.named.page_is in (
-          record { used = r.still_used; page_is = page },
+          record { used = still-used; page_is = page },
           λ less. elim (fewer c.may_write e less (subst (λ (q : ℕ). e ≤ w.tds.epochs q) x low)) [
             | inl k ↦ inl (noted c.page e (subst (λ (q : ℕ). e ≤ b q) page k))
-            | inr k ↦ elim (h.rights (ap (λ (q : Entry). allows_less c.may_write q.state) at ∙ k)) [
-              | inl k ↦ inl (noted c.page e (high c.tdr c.page e pa.owner low k))
-              | inr k ↦ absurd (exempt-no was r.unmarked (sym (ap (λ (q : Entry). q.state) at) ∙ k.0))
+            | inr k ↦ elim (h.rights (ap (λ (q : Entry). allows_less c.may_write q.state) at ∙ k.0)) [
+              | inl i ↦ inl (noted c.page e (high c.tdr c.page e pa.owner low i))
+              | inr i ↦ absurd (k.1 (sym (ap (λ (q : Entry). q.state) at) ∙ i.0))
             ]
           ],
-          r.same_pending ∙ (sym (ap (λ (q : Entry). is_pending q.state) at) ∙ h.accepted),
+          same-pending ∙ (sym (ap (λ (q : Entry). is_pending q.state) at) ∙ h.accepted),
         ))
         (λ apart. (
           h.named,
           λ less. elim (h.rights less) [
             | inl k ↦ inl (noted c.page e (high c.tdr c.page e pa.owner low k))
-            | inr k ↦ inr (k.0, ap (λ (z : Tds). may_be_exempt (z.ops c.tdr)) td ∙ k.1)
+            | inr k ↦ inr (k.0, ap (λ (z : ℕ → OpState). may_be_exempt (z c.tdr)) os ∙ k.1)
           ],
           h.accepted,
         ))))
@@ -322,11 +338,11 @@ module _ (m : Machine) (w : World) (la : Lawful m w) (le : LawfulEpochs w) (p : 
     walking-still x k e is bu n h =
         let pa = node-page x.tdr k e bu h in
         let low = entered-low x e is n in
-        let says : Leads x.tdr k e (node_of w' x.tdr k) = subst (λ (z : Tds). Leads x.tdr k e (z.entries x.tdr (suc k.level) (node_number k))) (sym td)
+        let says : Leads x.tdr k e (node_of w' x.tdr k) = subst (λ (z : ℕ → ℕ → ℕ → Entry). Leads x.tdr k e (z x.tdr (suc k.level) (node_number k))) (sym en)
         (entry_set w u level number put-there (Leads x.tdr k e) x.tdr (suc k.level) (node_number k)
         (λ i j y. let at : node_of w x.tdr k ≡ was = ap (λ (q : ℕ). w.tds.entries q (suc k.level) (node_number k)) i ∙ (ap (λ (q : ℕ). w.tds.entries u q (node_number k)) j ∙ ap (λ (q : ℕ). w.tds.entries u level q) y) in
         let page : was.page ≡ k.page = ap (λ (q : Entry). q.page) (sym at) ∙ h.named.page_is in (
-          record { used = r.still_used; page_is = page },
+          record { used = still-used; page_is = page },
           λ off. elim (stops e off (subst (λ (q : ℕ). e ≤ w.tds.epochs q) i low)) [
             | inl z ↦ noted k.page e (subst (λ (q : ℕ). e ≤ b q) page z)
             | inr z ↦ noted k.page e (high x.tdr k.page e pa.owner low (h.rights (ap (λ (q : Entry). same_state q.state entry.NlMapped) at ∙ z)))
@@ -338,7 +354,7 @@ module _ (m : Machine) (w : World) (la : Lawful m w) (le : LawfulEpochs w) (p : 
     here-still : (t v : ℕ) → IsHere w p t v → IsHere w' p t v
     here-still t v h = record {
       tdr = ap (λ (z : Pages). z.kinds t) pg ∙ h.tdr;
-      life = ap (λ (z : Tds). z.lives t) td ∙ h.life;
+      life = ap (λ (z : ℕ → LifeState). z t) lv ∙ h.life;
       page = record { kind = ap (λ (z : Pages). z.kinds v) pg ∙ h.page.kind; owner = ap (λ (z : Pages). z.owners v) pg ∙ h.page.owner };
       associated = ap (λ (z : Vps). z.associated v) vp ∙ h.associated;
     }
@@ -347,18 +363,24 @@ module _ (m : Machine) (w : World) (la : Lawful m w) (le : LawfulEpochs w) (p : 
     here-was t v h = (
       record {
         tdr = sym (ap (λ (z : Pages). z.kinds t) pg) ∙ h.tdr;
-        life = sym (ap (λ (z : Tds). z.lives t) td) ∙ h.life;
+        life = sym (ap (λ (z : ℕ → LifeState). z t) lv) ∙ h.life;
         page = record { kind = sym (ap (λ (z : Pages). z.kinds v) pg) ∙ h.page.kind; owner = sym (ap (λ (z : Pages). z.owners v) pg) ∙ h.page.owner };
         associated = sym (ap (λ (z : Vps). z.associated v) vp) ∙ h.associated;
       },
       ap (λ (z : Vps). z.lasts v) vp,
-      ap (λ (z : Tds). z.epochs t) td,
+      ap (λ (z : ℕ → ℕ). z t) ep,
     )
 
     restated-act : LawfulTranslations w' p cs g
     restated-act =
         let enters : (x : Guest) (e : ℕ) → g ≡ Some x → w'.vps.entered x.vp ≡ Some e → w.vps.entered x.vp ≡ Some e = λ x e is n. sym (ap (λ (z : Vps). z.entered x.vp) vp) ∙ n in
         wide-frame w w' le p cs g occ here-still (λ t v h. (let k = here-was t v h in (k.0, k.1))) enters (usable-same w w' p g here-was enters) current-still walking-still a
+
+  -- a block is noted at TD_EPOCH: no BEPOCH is lower than it was at an epoch that something may be used at
+  block-noted : (u page : ℕ) → w.pages.owners page ≡ u → (t x e : ℕ) → w.pages.owners x ≡ t → e ≤ w.tds.epochs t → e ≤ w.pages.blocked x → e ≤ put w.pages.blocked page (w.tds.epochs u) x
+  block-noted u page own t x e o low h = by_test (x == page)
+      (λ y. rw y (subst (λ (z : ℕ). e ≤ w.tds.epochs z) (sym o ∙ (ap w.pages.owners (eqb-true x page y) ∙ own)) low))
+      (λ z. rw z h)
 
   -- TD_EPOCH rises: what may still be used is used in guest
   raised-act : (u : ℕ) → LawfulTranslations (set_epoch u (w.tds.epochs u + 1) w) p cs g
@@ -397,9 +419,6 @@ module _ (m : Machine) (w : World) (la : Lawful m w) (le : LawfulEpochs w) (p : 
     usable-late t e same (outside v other h last at) =
         let later = epoch_later (w.pages.blocked removed.page) (w.tds.epochs u) _ over in let here : w.tds.epochs t ≡ w.tds.epochs u = ap w.tds.epochs same in omega (arith, later, at, here)
 
-    unexempt : (x : Entry) → is_exported x.state ≡ false → x.state ≡ entry.ExportedBlockedW → ⊥
-    unexempt x h e = let no : true ≡ false = sym (ap is_exported e) ∙ h in cc
-
     at-removed : (t l n : ℕ) → t ≡ u → l ≡ level → n ≡ number → w.tds.entries t l n ≡ removed
     at-removed t l n x y z = ap (λ (q : ℕ). w.tds.entries q l n) x ∙ (ap (λ (q : ℕ). w.tds.entries u q n) y ∙ ap (λ (q : ℕ). w.tds.entries u level q) z)
 
@@ -410,7 +429,7 @@ module _ (m : Machine) (w : World) (la : Lawful m w) (le : LawfulEpochs w) (p : 
         let late = usable-late c.tdr e x us in
         elim (h.rights (ap (λ (q : Entry). allows_less c.may_write q.state) at ∙ r.less c.may_write)) [
           | inl k ↦ (let same : w.pages.blocked removed.page ≡ w.pages.blocked c.page = ap w.pages.blocked page in omega (arith, late, k, same))
-          | inr k ↦ unexempt removed r.unmarked (sym (ap (λ (q : Entry). q.state) at) ∙ k.0)
+          | inr k ↦ unexempt removed.state r.unmarked (sym (ap (λ (q : Entry). q.state) at) ∙ k.0)
         ]
 
     walk-apart : (x : Guest) (k : Walk) (e : ℕ) → g ≡ Some x → w.vps.entered x.vp ≡ Some e → IsOnCourse w x.tdr k e → x.tdr ≡ u → suc k.level ≡ level → node_number k ≡ number → ⊥
@@ -567,19 +586,46 @@ module _ (m : Machine) (w : World) (la : Lawful m w) (le : LawfulEpochs w) (p : 
       let r = block_restates (entry_at w u level gpa).state q.state in
       let page : ℕ = (entry_at w u level gpa).page in
       let own : w.pages.owners page ≡ u = (node_named m w la u level (number_at level gpa) alive r.used).page.owner in
-      restated-act u level (number_at level gpa) (blocked_state (entry_at w u level gpa).state) (put w.pages.blocked page (w.tds.epochs u)) r
-      (λ t x e o low h. by_test (x == page)
-      (λ y. rw y (subst (λ (z : ℕ). e ≤ w.tds.epochs z) (sym o ∙ (ap w.pages.owners (eqb-true x page y) ∙ own)) low))
-      (λ z. rw z h))
+      restated-act u level (number_at level gpa) (blocked_state (entry_at w u level gpa).state) 0 (put w.pages.blocked page (w.tds.epochs u)) r.still_used r.same_pending (block-noted u page own)
       (λ writes e less low. inl (let z = eq-eqb page page refl in rw z low)) (λ e off low. inl (let z = eq-eqb page page refl in rw z low))
-      ((row_of o me (call.MemRangeBlock u gpa level)).act w) refl refl refl
+      ((row_of o me (call.MemRangeBlock u gpa level)).act w) refl refl refl refl refl refl
   row-access o me (call.MemRangeUnblock u gpa level) em ps n k =
       let q = named_passed w u gpa level blocked_states (tracked_page w u (entry_at w u level gpa).page ∷ []) ps.1.1.1.1 in
       let s : EntryState = (entry_at w u level gpa).state in
-      restated-act u level (number_at level gpa) (unblocked_state s) w.pages.blocked (unblock_restates s q.state)
-      (λ t x e o low h. h) (λ writes e less low. inr (blocked_less writes s q.state)) (λ e off low. inr (blocked_stops s q.state))
-      ((row_of o me (call.MemRangeUnblock u gpa level)).act w) refl refl refl
+      let r = unblock_restates s q.state in
+      restated-act u level (number_at level gpa) (unblocked_state s) 0 w.pages.blocked r.still_used r.same_pending
+      (λ t x e o low h. h) (λ writes e less low. inr (blocked_less writes s q.state, unexempt s r.unmarked)) (λ e off low. inr (blocked_stops s q.state))
+      ((row_of o me (call.MemRangeUnblock u gpa level)).act w) refl refl refl refl refl refl
   row-access o me (call.MemTrack u) em ps n k = raised-act u
+  row-access o me (call.MigStreamCreate u page) em ps n k =
+      host-act page kind.Migsc u 0 0 (host_kind _ ps.1.1.1.1.1.1.1.1.0) ((row_of o me (call.MigStreamCreate u page)).act w) refl (λ e. cc) (λ e. cc)
+      (λ t x. refl) (λ t x. refl) (λ t x. refl) (λ t l i x f. refl) (λ v x. refl) (λ v x. refl) (λ v x. refl)
+  row-access o me (call.ExportBlockw u gpa) em ps n k =
+      let q = write_passed o.machine w u gpa ps in
+      let r = write_remarks (entry_at w u 0 gpa).state q.state in
+      let alive = entry_alive w u gpa live_ops writable_states q in
+      let page : ℕ = (entry_at w u 0 gpa).page in
+      let own : w.pages.owners page ≡ u = (node_named m w la u 0 (number_at 0 gpa) alive r.used).page.owner in
+      restated-act u 0 (number_at 0 gpa) (write_blocked (entry_at w u 0 gpa).state) (entry_at w u 0 gpa).mark (put w.pages.blocked page (w.tds.epochs u)) r.still_used r.same_pending (block-noted u page own)
+      (λ writes e less low. inl (let z = eq-eqb page page refl in rw z low)) (λ e off low. inl (let z = eq-eqb page page refl in rw z low))
+      ((row_of o me (call.ExportBlockw u gpa)).act w) refl refl refl refl refl refl
+  row-access o me (call.ExportUnblockw u gpa) em ps n k =
+      let q = opened_passed w u gpa live_ops write_blocked_states ps.1.1.1 in
+      let s : EntryState = (entry_at w u 0 gpa).state in
+      let r = unwrite_remarks s q.state in
+      restated-act u 0 (number_at 0 gpa) (write_unblocked s) (entry_at w u 0 gpa).mark w.pages.blocked r.still_used r.same_pending
+      (λ t x e o low h. h) (λ writes e less low. absurd (let no : true ≡ false = sym less ∙ unblocked_allows writes s q.state in cc)) (λ e off low. inr r.leaf)
+      ((row_of o me (call.ExportUnblockw u gpa)).act w) refl refl refl refl refl refl
+  row-access o me (call.ExportPause u) em ps n k =
+      op-act ((row_of o me (call.ExportPause u)).act w) refl refl (λ t v h. refl) (λ t v h. h.life) (λ t bu x. by_test (t == u) (λ y. rw y refl) (λ y. rw y x)) (λ t bu. refl) (λ t l i bu f. refl)
+  row-access o me (call.ExportAbort u) em ps n k =
+      op-act ((row_of o me (call.ExportAbort u)).act w) refl refl (λ t v h. refl) (λ t v h. h.life) (λ t bu x. by_test (t == u) (λ y. rw y refl) (λ y. rw y x)) (λ t bu. refl) (λ t l i bu f. refl)
+  row-access o me (call.ExportRestore u gpa) em ps n k =
+      let q = opened_passed w u gpa restoring_ops restored_states ps.1.1.1 in
+      let r = restored (entry_at w u 0 gpa).state q.state in
+      restated-act u 0 (number_at 0 gpa) entry.Mapped 0 w.pages.blocked refl r.same_pending
+      (λ t x e o low h. h) (λ writes e less low. absurd (let no : true ≡ false = sym less ∙ mapped_allows writes in cc)) (λ e off low. inr r.leaf)
+      ((row_of o me (call.ExportRestore u gpa)).act w) refl refl refl refl refl refl
   row-access o me (call.HostRead page i) em ps n k = a
   row-access o me _ em ps n k = quiet-act _ refl refl refl refl refl refl refl refl
 

@@ -1,10 +1,8 @@
 -- Each row asks and answers the same in two worlds that differ in private words alone, and keeps them so.
-use Rattle.std.proofs.Common.{◌≡◌, refl, sym, ◌∙◌, subst, ap, ℕ, ◌+◌, List, [], ◌∷◌, ◌++◌, length, Bool, true, false, not, ◌==◌, ◌&&◌, ◌||◌, if◌then◌else◌}
-use Rattle.std.specs.Prelude.{Some, None}
+use Rattle.std.proofs.Common.{◌≡◌, refl, sym, ◌∙◌, subst, ap, ℕ, ◌+◌, ◌-◌, List, [], ◌∷◌, ◌++◌, Bool, true, false, not, ◌==◌, ◌&&◌, ◌||◌, if◌then◌else◌}
+use Rattle.std.specs.Prelude.{None}
 use Rattle.std.specs.List.{list_any}
 use Rattle.sha2.specs.Sha512.{sha384}
-use Rattle.std.proofs.lemmas.Bool.{eqb-true}
-use Rattle.td_words.specs.declared.names.PageKind.{PageKind}
 use Rattle.td_words.specs.declared.names.PageKind.TheVariants as kind
 use Rattle.mrtd_measure.specs.Records.{page_record, chunk_records}
 use Rattle.td_words.specs.declared.names.EntryState.{EntryState}
@@ -21,28 +19,27 @@ use Rattle.td_words.specs.declared.calls.Call.{Call}
 use Rattle.td_words.specs.declared.calls.Call.TheVariants as call
 use Rattle.td_words.specs.declared.replies.Value.TheVariants as value
 use Rattle.td_words.specs.NameNumber.{op_number, life_number}
-use Rattle.td_words.specs.Packing.{Key, Unassigned, AssignedTo, FlushedOf}
-use Rattle.flat_core.specs.World.{World, Pages, Tds, Vps, KeyTable, Hidden, put, free_entry}
+use Rattle.td_words.specs.Packing.{Entry, Unassigned, AssignedTo, FlushedOf, is_exported}
+use Rattle.flat_core.specs.World.{World, Pages, Tds, Vps, Streams, KeyTable, put, free_entry}
 use Rattle.flat_core.specs.Opening.{Opening, Agree}
 use Rattle.flat_core.specs.Row.{Row}
 use Rattle.flat_core.specs.Digests.{digest_word}
 use Rattle.flat_core.specs.Conditions.{same_kind, is_host_in, host_page, page_exclusive}
-use Rattle.flat_core.specs.Effects.{put_in, new_td, take_node, take_page, map_page, set_page, begin_memory, measure, clear_page, give_back, block_page, set_state, set_entry, unmap_page, end_memory, enter_guest, end_association, end_memory_in, set_key, set_life, set_op, add_vp, set_vp_state, set_register, end_measurement, set_epoch, written_back}
+use Rattle.flat_core.specs.Effects.{put_in, new_td, take_page, map_page, set_page, begin_memory, clear_page, give_back, block_page, set_state, set_entry, unmap_page, end_memory, enter_guest, end_association, end_memory_in, set_life, set_op, set_vp_state, set_register, end_measurement, set_epoch, written_back, restate}
 use Rattle.flat_core.specs.HostRows.{host_read, host_write, read_metadata}
 use Rattle.flat_core.specs.TdRows.{create, configure_key, add_tdcx, initialize, read_conditions, field_value, read_td, finalize}
 use Rattle.flat_core.specs.KeyRows.{write_caches_back, reclaim_conditions, reclaim_page, end_flush, free_hkid}
 use Rattle.flat_core.specs.VpRows.{create_vp, initialize_vp, enter_vp, flush_vp}
 use Rattle.flat_core.specs.MemRows.{add_sept, read_sept, add_page, augment_page, remove_page, remove_sept, blocked_state, unblocked_state, block_range, unblock_range, advance_epoch, chunk_bytes, extend}
+use Rattle.flat_core.specs.ExportRows.{add_stream, create_stream, write_blocked, block_write, write_unblocked, is_first_dirt, unblock_write, note_pause, pause, abort_export, one_less, restore}
+use Rattle.flat_core.specs.Exports.{is_dirty}
 use Rattle.flat_core.specs.Tree.{page_of_gpa, number_at, entry_at, same_state, state_in}
 use Rattle.flat_core.specs.Table.{row_of}
 use Rattle.flat_core.specs.Lawful.{IsAlive, LawfulPages, Lawful, is_free}
 use Rattle.flat_core.specs.Alike.{Alike, AreBlind, is_public, is_being_built}
 use Rattle.flat_core.proofs.Tests.{by_test, host_kind, tdr_kind, range_of}
 use Rattle.flat_core.proofs.Maps.{walk_passed}
-
--- a host page's words are public
-host_public : (pages : Pages) (tds : Tds) (p : ℕ) → is_host_in pages p ≡ true → is_public pages tds p ≡ true
-host_public pages tds p h = let e : pages.kinds p ≡ kind.Nda = host_kind _ h in rw e refl
+use Rattle.flat_core.proofs.AlikeParts.{host_public, tds_alike, op_alike, keys_alike, key_alike, vps_alike, hidden_alike, taken_alike, cleared_alike, left_alike, filled_alike, mapped_alike, measured_alike, with_entered, added_alike}
 
 read_alike : (v w : World) (page i : ℕ) → Alike v w
     → value.Number (if is_host_in v.pages page then v.words page i else 0) ≡ value.Number (if is_host_in w.pages page then w.words page i else 0)
@@ -51,157 +48,6 @@ read_alike v w page i a =
     by_test (is_host_in v.pages page)
     (λ y. rw (y, sym same ∙ y) (ap (λ (x : ℕ). value.Number x) (a.words page i (host_public v.pages v.tds page y))))
     (λ y. rw (y, sym same ∙ y) refl)
-
--- words that acts are written in keep two worlds alike
-
-module _ (v w : World) (a : Alike v w) where
-  -- facts of TDs, which leave operation states
-  pub tds_alike : (f : Tds → Tds) → ((x : Tds) → (f x).ops ≡ x.ops) → Alike (record v { tds = f v.tds }) (record w { tds = f w.tds })
-  tds_alike f ops = record {
-    size = a.size;
-    pages = a.pages;
-    words = λ p i known. a.words p i (subst (λ (o : ℕ → OpState). (not (same_kind (v.pages.kinds p) kind.Reg) || is_being_built (o (v.pages.owners p))) ≡ true) (ops v.tds) known);
-    tds = ap f a.tds;
-    vps = a.vps;
-    streams = a.streams;
-    key_table = a.key_table;
-    told = a.told;
-    bundles = a.bundles;
-  }
-
-  -- an operation state, in which no page's words become public
-  pub op_alike : (t : ℕ) (s : OpState) → (is_being_built s ≡ true → is_being_built (v.tds.ops t) ≡ true) → Alike (set_op t s v) (set_op t s w)
-  op_alike t s built = record {
-    size = a.size;
-    pages = a.pages;
-    words = λ p i known. a.words p i (by_test (same_kind (v.pages.kinds p) kind.Reg)
-        (λ y. by_test (v.pages.owners p == t)
-        (λ z. let here : v.pages.owners p ≡ t = eqb-true _ t z in let now : is_being_built s ≡ true = rw (y, z) at known in rw (y, here) (built now))
-        (λ n. rw n at known))
-        (λ n. rw n refl));
-    tds = ap (λ (x : Tds). record x { ops = put x.ops t s }) a.tds;
-    vps = a.vps;
-    streams = a.streams;
-    key_table = a.key_table;
-    told = a.told;
-    bundles = a.bundles;
-  }
-
-  pub keys_alike : (f g : ℕ → Key) → f ≡ g → Alike (record v { key_table = record (v.key_table) { keys = f } }) (record w { key_table = record (w.key_table) { keys = g } })
-  keys_alike f g e = record {
-    size = a.size;
-    pages = a.pages;
-    words = a.words;
-    tds = a.tds;
-    vps = a.vps;
-    streams = a.streams;
-    key_table = ap (λ (x : KeyTable). record x { keys = f }) a.key_table ∙ ap (λ (x : ℕ → Key). record (w.key_table) { keys = x }) e;
-    told = a.told;
-    bundles = a.bundles;
-  }
-
-  pub key_alike : (h i : ℕ) (k : Key) → h ≡ i → Alike (set_key h k v) (set_key i k w)
-  key_alike h i k e = keys_alike (put v.key_table.keys h k) (put w.key_table.keys i k) (ap (λ (x : KeyTable). put x.keys h k) a.key_table ∙ ap (λ (x : ℕ). put w.key_table.keys x k) e)
-
-  -- virtual processors, and what is private
-  pub vps_alike : (f g : Vps) → f ≡ g → Alike (record v { vps = f }) (record w { vps = g })
-  vps_alike f g e = record { size = a.size; pages = a.pages; words = a.words; tds = a.tds; vps = e; streams = a.streams; key_table = a.key_table; told = a.told; bundles = a.bundles }
-
-  pub hidden_alike : (f g : Hidden) → Alike (record v { hidden = f }) (record w { hidden = g })
-  hidden_alike f g = record { size = a.size; pages = a.pages; words = a.words; tds = a.tds; vps = a.vps; streams = a.streams; key_table = a.key_table; told = a.told; bundles = a.bundles }
-
-  -- a host page that is taken, a page that is cleared, and one that is given back
-  pub taken_alike : (p : ℕ) (k : PageKind) (t level number : ℕ) → v.pages.kinds p ≡ kind.Nda → Alike (take_node p k t level number v) (take_node p k t level number w)
-  taken_alike p k t level number host = record {
-    size = a.size;
-    pages = ap (λ (x : Pages). record { kinds = put x.kinds p k; owners = put x.owners p t; blocked = put x.blocked p 0; levels = put x.levels p level; numbers = put x.numbers p number }) a.pages;
-    words = λ q i known. a.words q i (by_test (q == p)
-        (λ y. host_public v.pages v.tds q (let here : q ≡ p = eqb-true q p y in rw (here, host) refl))
-        (λ n. rw n at known));
-    tds = a.tds;
-    vps = a.vps;
-    streams = a.streams;
-    key_table = a.key_table;
-    told = a.told;
-    bundles = a.bundles;
-  }
-
-  pub cleared_alike : (p : ℕ) → Alike (clear_page p v) (clear_page p w)
-  cleared_alike p = record {
-    size = a.size;
-    pages = a.pages;
-    words = λ q i known. by_test (q == p) (λ y. rw y refl) (λ n. rw n (a.words q i known));
-    tds = a.tds;
-    vps = a.vps;
-    streams = a.streams;
-    key_table = a.key_table;
-    told = a.told;
-    bundles = a.bundles;
-  }
-
-  pub left_alike : (p : ℕ) → Alike (give_back p v) (give_back p w)
-  left_alike p = record {
-    size = a.size;
-    pages = ap (λ (x : Pages). record { kinds = put x.kinds p kind.Nda; owners = put x.owners p 0; blocked = put x.blocked p 0; levels = put x.levels p 0; numbers = put x.numbers p 0 }) a.pages;
-    words = λ q i known. by_test (q == p) (λ y. rw y refl) (λ n. rw n (a.words q i (rw n at known)));
-    tds = a.tds;
-    vps = a.vps;
-    streams = a.streams;
-    key_table = a.key_table;
-    told = a.told;
-    bundles = a.bundles;
-  }
-
--- a page that is filled with the same words; and one that becomes the page that an entry of a TD names
-filled_alike : (v w : World) (p : ℕ) (f g : ℕ → ℕ) → ((i : ℕ) → f i ≡ g i) → Alike v w → Alike (set_page p f v) (set_page p g w)
-filled_alike v w p f g same a = record {
-  size = a.size;
-  pages = a.pages;
-  words = λ q i known. by_test (q == p) (λ y. rw y (same i)) (λ n. rw n (a.words q i known));
-  tds = a.tds;
-  vps = a.vps;
-  streams = a.streams;
-  key_table = a.key_table;
-  told = a.told;
-  bundles = a.bundles;
-}
-
-mapped_alike : (v w : World) (p : ℕ) (k : PageKind) (s : EntryState) (t level number : ℕ) → v.pages.kinds p ≡ kind.Nda → Alike v w → Alike (map_page p k s t level number v) (map_page p k s t level number w)
-mapped_alike v w p k s t level number host a =
-    tds_alike (take_node p k t level number v) (take_node p k t level number w) (taken_alike v w a p k t level number host)
-    (λ x. record x { entries = put x.entries t (put_in (x.entries t) level number (record { state = s; page = p; mark = 0 })) }) (λ x. refl)
-
--- the same is measured
-measured_alike : (v w : World) (t : ℕ) (xs ys : List ℕ) → xs ≡ ys → Alike v w → Alike (measure t xs v) (measure t ys w)
-measured_alike v w t xs ys e a =
-    subst (λ (zs : List ℕ). Alike (measure t xs v) (measure t zs w)) e (tds_alike v w a (λ x. record x { measured = put x.measured t (x.measured t ++ xs) }) (λ x. refl))
-
--- a TDVPR page that is added
-abbrev with_vp : Vps → ℕ → List ℕ → Vps
-with_vp x p vs = record {
-  indexes = put x.indexes p (length vs);
-  states = put x.states p vcpu.Created;
-  associated = put x.associated p None;
-  lasts = put x.lasts p 0;
-  positions = put x.positions p 0;
-  exported = put x.exported p 0;
-  entered = put x.entered p None;
-}
-
--- one that enters the guest
-abbrev with_entered : Vps → (me v epoch : ℕ) → Vps
-with_entered x me v e = record x { associated = put x.associated v (Some me); lasts = put x.lasts v e; entered = put x.entered v (Some e) }
-
-added_alike : (v w : World) (t p : ℕ) → Alike v w → Alike (add_vp t p v) (add_vp t p w)
-added_alike v w t p a =
-    let f : Tds → Tds = λ x. record x { vps = put x.vps t (x.vps t ++ p ∷ []) } in
-    let v1 : World = record v { tds = f v.tds } in
-    let w1 : World = record w { tds = f w.tds } in
-    let a1 : Alike v1 w1 = tds_alike v w a f (λ x. refl) in
-    let v2 : World = record v1 { vps = with_vp v.vps p (v.tds.vps t) } in
-    let w2 : World = record w1 { vps = with_vp w.vps p (w.tds.vps t) } in
-    let a2 : Alike v2 w2 = vps_alike v1 w1 a1 _ _ (ap (λ (x : Vps). with_vp x p (v.tds.vps t)) a.vps ∙ ap (λ (x : Tds). with_vp w.vps p (x.vps t)) a.tds) in
-    hidden_alike v2 w2 a2 (add_vp t p v).hidden (add_vp t p w).hidden
 
 pub host_read-blind : (m : Machine) (page i : ℕ) → AreBlind m (host_read m page i) (host_read m page i)
 host_read-blind m page i = record {
@@ -604,6 +450,101 @@ extend-blind m t gpa = record {
       (ap (λ (bytes : List ℕ). chunk_records gpa bytes) (measured_chunk m v w t gpa lv a alive (is_begun (v.tds.ops t) head.1.1.1.0) (mapped_used (entry_at v t 0 gpa).state behind.0))) a;
 }
 
+-- a page that becomes the page of a TD's next stream
+streamed_alike : (v w : World) (t p : ℕ) → Alike v w → Alike (add_stream t p v) (add_stream t p w)
+streamed_alike v w t p a =
+    let f : Tds → Tds = λ x. record x { streams = put x.streams t (x.streams t ++ p ∷ []) } in
+    let b : Alike (record v { tds = f v.tds }) (record w { tds = f w.tds }) = tds_alike v w a f (λ x. refl) in
+    record {
+      size = b.size;
+      pages = b.pages;
+      words = b.words;
+      tds = b.tds;
+      vps = b.vps;
+      streams = ap (λ (x : Streams). record { counters = put x.counters p 0; cleaned = put x.cleaned p 0; first_exports = put x.first_exports p 0 }) a.streams;
+      key_table = b.key_table;
+      told = b.told;
+      bundles = b.bundles;
+    }
+
+pub create_stream-blind : (m : Machine) (t p : ℕ) → AreBlind m (create_stream m t p) (create_stream m t p)
+create_stream-blind m t p = record {
+  enters = refl;
+  items = λ v w a. rw (a.pages, a.tds) refl;
+  value = λ v w a. refl;
+  cached = λ v w ts a. refl;
+  act = λ v w lv lw a ps.
+      let v1 : World = take_page p kind.Migsc t v in
+      let w1 : World = take_page p kind.Migsc t w in
+      let a1 : Alike v1 w1 = taken_alike v w a p kind.Migsc t 0 0 (host_kind _ ps.1.1.1.1.1.1.1.1.0) in
+      streamed_alike (clear_page p v1) (clear_page p w1) t p (cleared_alike v1 w1 a1 p);
+}
+
+-- an entry of level 0 becomes another one
+abbrev with_entry : ℕ → ℕ → (Entry → Entry) → Tds → Tds
+with_entry t n f x = record x { entries = put x.entries t (put_in (x.entries t) 0 n (f (x.entries t 0 n))) }
+
+pub block_write-blind : (m : Machine) (t gpa : ℕ) → AreBlind m (block_write m t gpa) (block_write m t gpa)
+block_write-blind m t gpa = record {
+  enters = refl;
+  items = λ v w a. rw (a.pages, a.tds) refl;
+  value = λ v w a. refl;
+  cached = λ v w ts a. refl;
+  act = λ v w lv lw a ps.
+      let n : ℕ = number_at 0 gpa in
+      let v1 : World = restate t n (write_blocked (entry_at v t 0 gpa).state) (entry_at v t 0 gpa).mark v in
+      let w1 : World = restate t n (write_blocked (entry_at w t 0 gpa).state) (entry_at w t 0 gpa).mark w in
+      blocked_alike v1 w1 t (entry_at v t 0 gpa).page (entry_at w t 0 gpa).page (ap (λ (x : Tds). (x.entries t 0 n).page) a.tds)
+      (tds_alike v w a (with_entry t n (λ e. record { state = write_blocked e.state; page = e.page; mark = e.mark })) (λ x. refl));
+}
+
+pub unblock_write-blind : (m : Machine) (t gpa : ℕ) → AreBlind m (unblock_write m t gpa) (unblock_write m t gpa)
+unblock_write-blind m t gpa = record {
+  enters = refl;
+  items = λ v w a. rw (a.pages, a.tds) refl;
+  value = λ v w a. refl;
+  cached = λ v w ts a. refl;
+  act = λ v w lv lw a ps.
+      let n : ℕ = number_at 0 gpa in
+      tds_alike v w a
+      (λ x. record (with_entry t n (λ e. record { state = write_unblocked e.state; page = e.page; mark = e.mark }) x) {
+        dirtied = put x.dirtied t (if is_first_dirt (x.entries t 0 n).state then x.dirtied t + 1 else x.dirtied t);
+      }) (λ x. refl);
+}
+
+pub pause-blind : (m : Machine) (t : ℕ) → AreBlind m (pause m t) (pause m t)
+pause-blind m t = record {
+  enters = refl;
+  items = λ v w a. rw (a.pages, a.tds) refl;
+  value = λ v w a. refl;
+  cached = λ v w ts a. refl;
+  act = λ v w lv lw a ps. op_alike (note_pause t v) (note_pause t w) (hidden_alike v w a (note_pause t v).hidden (note_pause t w).hidden) t op.PausedExport (λ h. cc);
+}
+
+pub abort_export-blind : (m : Machine) (t : ℕ) → AreBlind m (abort_export m t) (abort_export m t)
+abort_export-blind m t = record {
+  enters = refl;
+  items = λ v w a. rw (a.pages, a.tds) refl;
+  value = λ v w a. refl;
+  cached = λ v w ts a. refl;
+  act = λ v w lv lw a ps. op_alike v w a t op.Runnable (λ h. cc);
+}
+
+pub restore-blind : (m : Machine) (t gpa : ℕ) → AreBlind m (restore m t gpa) (restore m t gpa)
+restore-blind m t gpa = record {
+  enters = refl;
+  items = λ v w a. rw (a.pages, a.tds) refl;
+  value = λ v w a. refl;
+  cached = λ v w ts a. refl;
+  act = λ v w lv lw a ps.
+      let n : ℕ = number_at 0 gpa in
+      tds_alike v w a
+      (λ x. record (with_entry t n (λ e. record { state = entry.Mapped; page = e.page; mark = 0 }) x) {
+        dirtied = put x.dirtied t (if is_dirty (x.entries t 0 n).state then x.dirtied t - 1 else x.dirtied t);
+        unrestored = put x.unrestored t (if is_exported (x.entries t 0 n).state then one_less (x.unrestored t) else x.unrestored t);
+      }) (λ x. refl);
+}
+
 -- rows of one machine
 blind_at : (o q : Opening) → o.machine ≡ q.machine → (r : Machine → Row) → AreBlind o.machine (r o.machine) (r o.machine) → AreBlind o.machine (r o.machine) (r q.machine)
 blind_at o q e r h = subst (λ (m : Machine). AreBlind o.machine (r o.machine) (r m)) e h
@@ -636,3 +577,9 @@ row-blind o q a me (call.MemPageRemove t gpa) = blind_at o q a.machine (λ m. re
 row-blind o q a me (call.MemRangeBlock t gpa level) = blind_at o q a.machine (λ m. block_range m t gpa level) (block_range-blind o.machine t gpa level)
 row-blind o q a me (call.MemRangeUnblock t gpa level) = blind_at o q a.machine (λ m. unblock_range m t gpa level) (unblock_range-blind o.machine t gpa level)
 row-blind o q a me (call.MemTrack t) = blind_at o q a.machine (λ m. advance_epoch m t) (advance_epoch-blind o.machine t)
+row-blind o q a me (call.MigStreamCreate t p) = blind_at o q a.machine (λ m. create_stream m t p) (create_stream-blind o.machine t p)
+row-blind o q a me (call.ExportBlockw t gpa) = blind_at o q a.machine (λ m. block_write m t gpa) (block_write-blind o.machine t gpa)
+row-blind o q a me (call.ExportUnblockw t gpa) = blind_at o q a.machine (λ m. unblock_write m t gpa) (unblock_write-blind o.machine t gpa)
+row-blind o q a me (call.ExportPause t) = blind_at o q a.machine (λ m. pause m t) (pause-blind o.machine t)
+row-blind o q a me (call.ExportAbort t) = blind_at o q a.machine (λ m. abort_export m t) (abort_export-blind o.machine t)
+row-blind o q a me (call.ExportRestore t gpa) = blind_at o q a.machine (λ m. restore m t gpa) (restore-blind o.machine t gpa)

@@ -20,7 +20,7 @@ use Rattle.flat_core.specs.Event.{nothing_more}
 use Rattle.flat_core.specs.Alike.{Alike, TellAlike, AreBlindActs, AreBlindOperations, is_public}
 use Rattle.flat_core.specs.TwoWorlds.{OperationsAreBlind}
 use Rattle.flat_core.proofs.Tests.{by_test}
-use Rattle.flat_core.proofs.Blind.{tds_alike, vps_alike, hidden_alike, cleared_alike}
+use Rattle.flat_core.proofs.AlikeParts.{tds_alike, vps_alike, hidden_alike, cleared_alike}
 
 abbrev with_position : Vps → ℕ → Vps
 with_position x v = record x { positions = put x.positions v (x.positions v + 1) }

@@ -154,6 +154,12 @@ row_ordered o me (call.MemPageRemove t gpa) w = (refl, (refl, (refl, (tt, (tt, (
 row_ordered o me (call.MemRangeBlock t gpa level) w = (refl, (refl, (refl, (refl, (tt, (tt, (tt, (tt, walk_ordered 4 (is_passed w t gpa) (levels_above level) (state_in w t gpa level open_states ∷ named_page w t gpa level Exclusive ∷ []) (tt, tt)))))))))
 row_ordered o me (call.MemRangeUnblock t gpa level) w = (refl, (refl, (refl, (refl, (tt, (tt, (tt, (tt, walk_ordered 4 (is_passed w t gpa) (levels_above level) (state_in w t gpa level blocked_states ∷ named_page w t gpa level Exclusive ∷ tracked_page w t (entry_at w t level gpa).page ∷ []) (tt, (tt, tt))))))))))
 row_ordered o me (call.MemTrack t) w = (refl, (tt, (tt, (tt, (tt, (tt, (tt, tt)))))))
+row_ordered o me (call.MigStreamCreate t page) w = (refl, (refl, (refl, (tt, (tt, (tt, (tt, (tt, (tt, tt)))))))))
+row_ordered o me (call.ExportBlockw t gpa) w = (refl, (refl, (refl, (tt, (tt, (tt, (tt, (tt, (tt, (tt, (tt, (tt, tt))))))))))))
+row_ordered o me (call.ExportUnblockw t gpa) w = (refl, (refl, (refl, (tt, (tt, (tt, (tt, (tt, (tt, (tt, (tt, tt)))))))))))
+row_ordered o me (call.ExportPause t) w = (refl, (tt, (tt, (tt, (tt, tt)))))
+row_ordered o me (call.ExportAbort t) w = (refl, (tt, (tt, (tt, (tt, tt)))))
+row_ordered o me (call.ExportRestore t gpa) w = (refl, (refl, (refl, (tt, (tt, (tt, (tt, (tt, (tt, (tt, (tt, tt)))))))))))
 
 -- arguments are the same in every world
 reclaim_holds : (v w : World) (t page : ℕ) (b : Bool) → ArgumentsHold (reclaim_conditions v t page b) → ArgumentsHold (reclaim_conditions w t page b)

@@ -27,7 +27,7 @@ use Rattle.td_words.specs.Packing.{Entry}
 use Rattle.flat_core.specs.Conditions.{same_kind, same_vp_state, running_ops}
 use Rattle.flat_core.specs.Tree.{page_of_gpa}
 use Rattle.flat_core.specs.World.{World, Pages, Vps, put}
-use Rattle.flat_core.specs.Processor.{LockId, OfPage, name_of, Held, Phase, Trying, Undoing, Answered, Progress, Translation, Walk, Guest, Entering, new_guest, Lp, idle, nothing_yet}
+use Rattle.flat_core.specs.Processor.{LockId, OfPage, OfOp, name_of, Held, Phase, Trying, Undoing, Answered, Progress, Translation, Walk, Guest, Entering, new_guest, Lp, idle, nothing_yet}
 use Rattle.flat_core.specs.Opening.{Opening, Incoming}
 use Rattle.flat_core.specs.Row.{Item, Check, Try, Row, OperationRow, Passes, Move, Attempts, Undoes, Refuses, Succeeds, Releases, Rests, next, next_in, tries_in, but_newest}
 use Rattle.flat_core.specs.Table.{row_of, most_tries, guest_events}
@@ -38,9 +38,9 @@ use Rattle.flat_core.specs.Effects.{pass_operation, tell_words, leave_guest}
 use Rattle.flat_core.specs.Run.{play, events_in, to_the_end}
 use Rattle.flat_core.specs.Lawful.{Lawful}
 use Rattle.flat_core.specs.Guests.{IsOccupied, SameVp, Spares, guest_locks, entry_locks}
-use Rattle.flat_core.specs.Locks.{one_if}
+use Rattle.flat_core.specs.Locks.{one_if, alone_in, shared_in, alone_of, shared_of}
 use Rattle.flat_core.specs.Laws.{reached, with_bundles, TimelinessIsKept, HoldsInRuns, own_items}
-use Rattle.flat_core.specs.Inside.{WalkFits, OperationAt, DueAt, PhaseAt, GuestAt, InGuest, IsNotDone, EnterFits, LineAt, StandsAt, IsTimely, AreTimely}
+use Rattle.flat_core.specs.Inside.{WalkFits, OperationAt, DueAt, PhaseAt, GuestAt, InGuest, IsNotDone, LocksFit, LineAt, StandsAt, IsTimely, AreTimely}
 use Rattle.flat_core.specs.Bounds.{call_left, private_used, operation_used, due_used, phase_used, guest_left, line_left, left_of, events_left, TimelyEventsRunOut, EventsRunOut, RunsEnd, IsBounded, EntriesAreBounded}
 use Rattle.flat_core.specs.Entered.{EventsSpare}
 use Rattle.flat_core.proofs.Induction.{event_keeps, in_runs, play_append}
@@ -51,7 +51,8 @@ use Rattle.flat_core.proofs.Spared.{row_spares}
 use Rattle.flat_core.proofs.Operations.{each_operation, operation_row, accepted}
 use Rattle.flat_core.proofs.Cached.{cached_found, allowed_cached}
 use Rattle.flat_core.proofs.Tries.{row_tries}
-use Rattle.flat_core.proofs.Enter.{fits_first, fits_later, fits_undo, fits_more, enter_held, enters_or_none, all_pass}
+use Rattle.flat_core.proofs.Enter.{fits_first, fits_later, fits_undo, fits_more, enter_held, pause_held, enters_or_none, all_pass}
+use Rattle.flat_core.proofs.LockLaw.{exclusion_kept, exclusive_step, le-sum}
 use Rattle.flat_core.proofs.Due.{IsInside, IsOnWay, Due, calls, frees, leaves, stops, fills, operates, walks, reaches, undoes, gives_back, due_event_is}
 
 -- what holds of each move that a row may give
@@ -95,7 +96,7 @@ record Lowers (o : Opening) (p : ℕ) (bound : ℕ) (w : World) (lp : Lp) : Type
 
 module _ (o : Opening) (p : ℕ) (c : Call) (cs : List Call) where
   -- the call goes on
-  goes_call : (w : World) (lp : Lp) (phase : Phase Reply) (hs : List Held) (bound : ℕ) → lp.guest ≡ None → lines_left o p lp ≡ c ∷ cs → length hs ≤ most_tries c → IsNotDone phase hs → EnterFits c phase hs
+  goes_call : (w : World) (lp : Lp) (phase : Phase Reply) (hs : List Held) (bound : ℕ) → lp.guest ≡ None → lines_left o p lp ≡ c ∷ cs → length hs ≤ most_tries c → IsNotDone phase hs → LocksFit c phase hs
       → call_left (most_tries c) (guest_events c) phase (length hs) + events_in cs < bound → Lowers o p bound w (record lp { call = record { phase = phase; held = hs } })
   goes_call w lp phase hs bound g e few under fits less = record {
     timely = rw (e, g) (few, under, fits);
@@ -482,7 +483,7 @@ module _ (o : Opening) (p : ℕ) (c : Call) (cs : List Call) (w : World) where
   abbrev row : Row
   row = row_of o p c
 
-  module _ (lp : Lp) (g : lp.guest ≡ None) (line : lines_left o p lp ≡ c ∷ cs) (bound : ℕ) (few : length lp.call.held ≤ most_tries c) (fits : lp.call.phase ≡ Trying → EnterFits c Trying lp.call.held)
+  module _ (lp : Lp) (g : lp.guest ≡ None) (line : lines_left o p lp ≡ c ∷ cs) (bound : ℕ) (few : length lp.call.held ≤ most_tries c) (fits : lp.call.phase ≡ Trying → LocksFit c Trying lp.call.held)
       (is : 2 * most_tries c + 1 + guest_events c - length lp.call.held + events_in cs ≤ bound) where
     tries : (b : Bool) (l : LockId) (m : Mode) → lp.call.phase ≡ Trying → length lp.call.held < most_tries c → next (row.items w) (length lp.call.held) ≡ Attempts l m → Lowers o p bound w (settled (call_lp w b row (Attempts l m) lp))
     tries true l m t room n = goes_call o p c cs w lp Trying (record { lock = l; mode = m } ∷ lp.call.held) bound g line (omega (arith, room)) tt (fits_more o p c w lp.call.held l m n (fits t)) (omega (arith, room, is))
@@ -503,7 +504,7 @@ module _ (o : Opening) (p : ℕ) (c : Call) (cs : List Call) (w : World) where
             let is_entering : row.enters ≡ Some e = ap (λ (x : Call). (row_of o p x).enters) same in
             let lp1 : Lp = record lp { guest = Some (new_guest e); cached = row.cached w lp.cached } in
             let held : lp.call.held ≡ entry_locks u v =
-            enter_held o p u v most w lp.call.held (subst (λ (x : Call). next ((row_of o p x).items w) (length lp.call.held) ≡ Succeeds) same n) (subst (λ (x : Call). EnterFits x Trying lp.call.held) same (fits t)) in
+            enter_held o p u v most w lp.call.held (subst (λ (x : Call). next ((row_of o p x).items w) (length lp.call.held) ≡ Succeeds) same n) (subst (λ (x : Call). LocksFit x Trying lp.call.held) same (fits t)) in
             let long : length lp.call.held ≡ 4 = ap length held in
             let four : most_tries c ≡ 4 = ap most_tries same in
             let most_is : guest_events c ≡ 5 * most + 1 = ap guest_events same in
@@ -587,12 +588,13 @@ two_vps w p q t v u x a b apart = by_test (x == v)
     (λ y. absurd (apart (some_same q p (sym b.associated ∙ (ap w.vps.associated (eqb-true x v y) ∙ a.associated)))))
     (λ n. n)
 
-module _ (o : Opening) (w : World) (lawful : Lawful o.machine w) (p : ℕ) (lp : Lp) (timely : IsInTime o w p lp) (q u x : ℕ) (occ : IsOccupied w q u x) (apart : q ≢ p) where
+module _ (o : Opening) (w : World) (lawful : Lawful o.machine w) (p : ℕ) (lp : Lp) (timely : IsInTime o w p lp) (q u x : ℕ) (occ : IsOccupied w q u x) (apart : q ≢ p)
+    (free : 1 ≤ alone_in (OfOp u) lp.call.held → ⊥) where
   abbrev Left : World → Type 0
   Left w' = Spares w w' q u x
 
-  of_call : (c : Call) (mv : Move Reply) → (mv ≡ Succeeds → Passes ((row_of o p c).items w)) → Left (call_world (row_of o p c) mv w)
-  of_call c Succeeds ps = row_spares o p c w q u x lawful (ps refl) occ apart
+  of_call : (c : Call) (mv : Move Reply) → (mv ≡ Succeeds → Passes ((row_of o p c).items w) × (c ≢ call.ExportPause u)) → Left (call_world (row_of o p c) mv w)
+  of_call c Succeeds ps = (let k = ps refl in row_spares o p c u k.1 w q x lawful k.0 occ apart)
   of_call c (Attempts l m) ps = same_world w q u x occ
   of_call c (Undoes l) ps = same_world w q u x occ
   of_call c (Refuses r) ps = same_world w q u x occ
@@ -604,6 +606,18 @@ module _ (o : Opening) (w : World) (lawful : Lawful o.machine w) (p : ℕ) (lp :
   passed items (Undoing l) hs e = cc
   passed items (Answered r) [] e = cc
   passed items (Answered r) (h ∷ hs) e = cc
+
+  -- EXPORT.PAUSE of its TD would hold O alone
+  not_paused : (c : Call) (cs : List Call) → lines_left o p lp ≡ c ∷ cs → lp.guest ≡ None → next_in ((row_of o p c).items w) lp.call.phase lp.call.held ≡ Succeeds → c ≢ call.ExportPause u
+  not_paused c cs line g n same =
+      let at : LineAt o w p c lp None = subst (λ (y : Option Guest). LineAt o w p c lp y) g (subst (λ (y : List Call). StandsAt o w p y lp) line timely) in
+      free (by lp.call.phase lp.call.held n at.2)
+    where
+      by : (phase : Phase Reply) (hs : List Held) → next_in ((row_of o p c).items w) phase hs ≡ Succeeds → LocksFit c phase hs → 1 ≤ alone_in (OfOp u) hs
+      by Trying hs n f = pause_held o p u w hs (subst (λ (z : Call). next ((row_of o p z).items w) (length hs) ≡ Succeeds) same n) (subst (λ (z : Call). LocksFit z Trying hs) same f)
+      by (Undoing l) hs n f = cc
+      by (Answered r) [] n f = cc
+      by (Answered r) (h ∷ hs) n f = cc
 
   module _ (g : Guest) (own : IsOccupied w p g.tdr g.vp) where
     off : (x == g.vp) ≡ false
@@ -658,7 +672,8 @@ module _ (o : Opening) (w : World) (lawful : Lawful o.machine w) (p : ℕ) (lp :
   own_of c cs g i = (subst (λ (y : Option Guest). LineAt o w p c lp y) i.guest (subst (λ (y : List Call). StandsAt o w p y lp) i.line timely)).occupied
 
   others_left : (e : Event) → Due o w p lp e → Left (world_after e w)
-  others_left e (calls c cs line g) = of_call c (next_in ((row_of o p c).items w) lp.call.phase lp.call.held) (passed ((row_of o p c).items w) lp.call.phase lp.call.held)
+  others_left e (calls c cs line g) =
+      of_call c (next_in ((row_of o p c).items w) lp.call.phase lp.call.held) (λ n. (passed ((row_of o p c).items w) lp.call.phase lp.call.held n, not_paused c cs line g n))
   others_left e (frees c cs g h hs line guest held epoch) = same_world w q u x occ
   others_left e (leaves c cs g out i l) = of_leave g (own_of c cs g i)
   others_left e (stops c cs g i l t d) = of_leave g (own_of c cs g i)
@@ -692,42 +707,90 @@ guest_same o w w' lp g None same = ap (λ (n : ℕ). 5 * (g.most - g.completed) 
     by (Undoing l) = refl
     by (Answered out) = refl
 
-module _ (o : Opening) (w w' : World) (q : ℕ) (lp : Lp) (leave : (u x : ℕ) → IsOccupied w q u x → Spares w w' q u x) where
-  line_stands : (c : Call) (g : Option Guest) → LineAt o w q c lp g → LineAt o w' q c lp g
-  line_stands c None h = h
-  line_stands c (Some g) h =
-      let l = leave g.tdr g.vp h.occupied in
+module _ (o : Opening) (w w' : World) (q : ℕ) (lp : Lp) (leave : (c : Call) (cs : List Call) (g : Guest) → lines_left o q lp ≡ c ∷ cs → InGuest o w q c lp g → Spares w w' q g.tdr g.vp) where
+  line_stands : (c : Call) (cs : List Call) (g : Option Guest) → lines_left o q lp ≡ c ∷ cs → LineAt o w q c lp g → LineAt o w' q c lp g
+  line_stands c cs None line h = h
+  line_stands c cs (Some g) line h =
+      let l = leave c cs g line h in
       record { entered = h.entered; trying = h.trying; locks = h.locks; occupied = l.occupied; few = h.few; operation = guest_stands o w w' lp g g.leaving l.same h.operation }
 
-  line_same : (c : Call) (g : Option Guest) → LineAt o w q c lp g → line_left o w' c lp g ≡ line_left o w c lp g
-  line_same c None h = refl
-  line_same c (Some g) h = ap (λ (n : ℕ). length lp.call.held + 1 + n) (guest_same o w w' lp g g.leaving (leave g.tdr g.vp h.occupied).same)
+  line_same : (c : Call) (cs : List Call) (g : Option Guest) → lines_left o q lp ≡ c ∷ cs → LineAt o w q c lp g → line_left o w' c lp g ≡ line_left o w c lp g
+  line_same c cs None line h = refl
+  line_same c cs (Some g) line h = ap (λ (n : ℕ). length lp.call.held + 1 + n) (guest_same o w w' lp g g.leaving (leave c cs g line h).same)
 
-  stands_still : (cs : List Call) → StandsAt o w q cs lp → StandsAt o w' q cs lp
-  stands_still [] h = h
-  stands_still (c ∷ cs) h = line_stands c lp.guest h
+  stands_still : (cs : List Call) → lines_left o q lp ≡ cs → StandsAt o w q cs lp → StandsAt o w' q cs lp
+  stands_still [] line h = h
+  stands_still (c ∷ cs) line h = line_stands c cs lp.guest line h
 
-  left_same : (cs : List Call) → StandsAt o w q cs lp → left_of o w' cs lp ≡ left_of o w cs lp
-  left_same [] h = refl
-  left_same (c ∷ cs) h = ap (λ (n : ℕ). n + events_in cs) (line_same c lp.guest h)
+  left_same : (cs : List Call) → lines_left o q lp ≡ cs → StandsAt o w q cs lp → left_of o w' cs lp ≡ left_of o w cs lp
+  left_same [] line h = refl
+  left_same (c ∷ cs) line h = ap (λ (n : ℕ). n + events_in cs) (line_same c cs lp.guest line h)
 
 module _ (o : Opening) (s : State) (p : ℕ) (e : Event) (is : next_event o s p ≡ Some e) (h : AreTimely o s) where
   lowers : Lowers o p (events_left o s p) (world_after e s.world) (lp_after s.world (is_granted s e) e (s.lps p))
   lowers = by_due o s.world p (s.lps p) (h.each p) (is_granted s) e (due_event_is o s p e is)
 
-  pub leave : (q u x : ℕ) → q ≢ p → IsOccupied s.world q u x → Spares s.world (world_after e s.world) q u x
-  leave q u x apart occ = others_left o s.world h.lawful p (s.lps p) (h.each p) q u x occ apart e (due_event_is o s p e is)
+  in_machine : (q : ℕ) (c : Call) (cs : List Call) → lines_left o q (s.lps q) ≡ c ∷ cs → q < s.lp_count
+  in_machine q c cs line = (let b = below_calls o.calls q (length (s.lps q).replies) c cs line in let count = h.count in omega (arith, b, count))
+
+  used : (t : ℕ) → 1 ≤ alone_in (OfOp t) (s.lps p).call.held → p < s.lp_count
+  used t some = by (lines_left o p (s.lps p)) refl (h.each p)
+    where
+      by : (cs : List Call) → lines_left o p (s.lps p) ≡ cs → StandsAt o s.world p cs (s.lps p) → p < s.lp_count
+      by [] line at = absurd (let none : alone_in (OfOp t) (s.lps p).call.held ≡ 0 = ap (λ (x : Progress Reply). alone_in (OfOp t) x.held) at.1 in omega (arith, none, some))
+      by (c ∷ cs) line at = in_machine p c cs line
+
+  -- a guest's VP.ENTER shares O of its TD
+  guest_shares : (q : ℕ) (c : Call) (g : Guest) → InGuest o s.world q c (s.lps q) g → 1 ≤ shared_in (OfOp g.tdr) (s.lps q).call.held
+  guest_shares q c g at =
+      let here : (g.tdr == g.tdr) ≡ true = eq-eqb g.tdr g.tdr refl in
+      elim at.locks [
+        | inl e ↦
+            let one : shared_in (OfOp g.tdr) (guest_locks g.tdr g.vp) ≡ 1 = rw here refl in
+            let same = ap (shared_in (OfOp g.tdr)) e in
+            omega (arith, one, same)
+        | inr e ↦
+            let one : shared_in (OfOp g.tdr) (entry_locks g.tdr g.vp) ≡ 1 = rw here refl in
+            let same = ap (shared_in (OfOp g.tdr)) e.0 in
+            omega (arith, one, same)
+      ]
+
+  -- so nobody holds it alone
+  free_beside : (q : ℕ) (c : Call) (cs : List Call) (g : Guest) → lines_left o q (s.lps q) ≡ c ∷ cs → InGuest o s.world q c (s.lps q) g → 1 ≤ alone_in (OfOp g.tdr) (s.lps p).call.held → ⊥
+  free_beside q c cs g line at some =
+      let sole = h.exclusive (OfOp g.tdr) in
+      let alone : alone_in (OfOp g.tdr) (s.lps p).call.held ≤ alone_of (OfOp g.tdr) (s.lps p) = omega arith in
+      let shares : shared_in (OfOp g.tdr) (s.lps q).call.held ≤ shared_of (OfOp g.tdr) (s.lps q) = omega arith in
+      let mine = le-sum (λ k. alone_of (OfOp g.tdr) (s.lps k)) p s.lp_count (used g.tdr some) in
+      let theirs = le-sum (λ k. shared_of (OfOp g.tdr) (s.lps k)) q s.lp_count (in_machine q c cs line) in
+      let one = guest_shares q c g at in
+      elim sole.apart [
+        | inl none ↦ omega (arith, none, mine, alone, some)
+        | inr none ↦ omega (arith, none, theirs, shares, one)
+      ]
+
+  leave_line : (q : ℕ) → q ≢ p → (c : Call) (cs : List Call) (g : Guest) → lines_left o q (s.lps q) ≡ c ∷ cs → InGuest o s.world q c (s.lps q) g → Spares s.world (world_after e s.world) q g.tdr g.vp
+  leave_line q apart c cs g line at = others_left o s.world h.lawful p (s.lps p) (h.each p) q g.tdr g.vp at.occupied apart (free_beside q c cs g line at) e (due_event_is o s p e is)
+
+  pub leave : (q : ℕ) (g : Guest) → q ≢ p → (s.lps q).guest ≡ Some g → Spares s.world (world_after e s.world) q g.tdr g.vp
+  leave q g apart guest = by (lines_left o q (s.lps q)) refl (h.each q)
+    where
+      by : (cs : List Call) → lines_left o q (s.lps q) ≡ cs → StandsAt o s.world q cs (s.lps q) → Spares s.world (world_after e s.world) q g.tdr g.vp
+      by [] line at = absurd (let no : None ≡ Some g = sym at.0 ∙ guest in cc)
+      by (c ∷ cs) line at = leave_line q apart c cs g line (subst (λ (y : Option Guest). LineAt o s.world q c (s.lps q) y) guest at)
 
   pub timely_step : AreTimely o (after_event p s (Some e))
   timely_step = record {
     lawful = subst (λ (t : State). Lawful o.machine t.world) (ap (λ (x : Option Event). after_event p s x) is) (events_keep o s p h.lawful (timely_runs o s.world p (calls_of o.calls p) (s.lps p) (h.each p)));
+    exclusive = exclusive_step o s p e is h.exclusive;
+    count = h.count;
     each = λ q. by_test (q == p)
         (λ y. let here : p ≡ q = sym (eqb-true q p y) in rw y (subst (λ (x : ℕ). IsInTime o (world_after e s.world) x (lp_after s.world (is_granted s e) e (s.lps p))) here (lowers.timely)))
-        (λ n. rw n (stands_still o s.world (world_after e s.world) q (s.lps q) (λ u x occ. leave q u x (eqb-false q p n) occ) (lines_left o q (s.lps q)) (h.each q)));
+        (λ n. rw n (stands_still o s.world (world_after e s.world) q (s.lps q) (leave_line q (eqb-false q p n)) (lines_left o q (s.lps q)) refl (h.each q)));
   }
 
   other_left : (q : ℕ) → q ≢ p → left_of o (world_after e s.world) (lines_left o q (s.lps q)) (s.lps q) ≡ events_left o s q
-  other_left q apart = left_same o s.world (world_after e s.world) q (s.lps q) (λ u x occ. leave q u x apart occ) (lines_left o q (s.lps q)) (h.each q)
+  other_left q apart = left_same o s.world (world_after e s.world) q (s.lps q) (leave_line q apart) (lines_left o q (s.lps q)) refl (h.each q)
 
 -- none of this is about bundles
 line_rebundled : (o : Opening) (bundles : ℕ → Option Incoming) (w : World) (p : ℕ) (c : Call) (lp : Lp) (g : Option Guest) → LineAt o w p c lp g → LineAt (with_bundles o bundles) w p c lp g
@@ -739,11 +802,11 @@ stands_rebundled o bundles w p [] lp h = h
 stands_rebundled o bundles w p (c ∷ cs) lp h = line_rebundled o bundles w p c lp lp.guest h
 
 pub timely_rebundled : (o : Opening) (bundles : ℕ → Option Incoming) (s : State) → AreTimely o s → AreTimely (with_bundles o bundles) s
-timely_rebundled o bundles s h = record { lawful = h.lawful; each = λ q. stands_rebundled o bundles s.world q (lines_left o q (s.lps q)) (s.lps q) (h.each q) }
+timely_rebundled o bundles s h = record { lawful = h.lawful; exclusive = h.exclusive; count = h.count; each = λ q. stands_rebundled o bundles s.world q (lines_left o q (s.lps q)) (s.lps q) (h.each q) }
 
 pub timeliness_kept : TimelinessIsKept
 timeliness_kept = record {
-  start = λ o ws. record { lawful = first-lawful o.machine ws; each = λ q. fresh_stands o (start o ws).world q (calls_of o.calls q) idle refl refl };
+  start = λ o ws. record { lawful = first-lawful o.machine ws; exclusive = exclusion_kept.start o ws; count = refl; each = λ q. fresh_stands o (start o ws).world q (calls_of o.calls q) idle refl refl };
   event = λ o bundles s p h.
       timely_rebundled (with_bundles o bundles) o.bundles (event (with_bundles o bundles) s p)
       (event_keeps (with_bundles o bundles) (AreTimely (with_bundles o bundles)) (timely_step (with_bundles o bundles)) s p (timely_rebundled o bundles s h));
@@ -763,7 +826,7 @@ events_spare = record {
 
     spared : (o : Opening) (s : State) (p q : ℕ) (g : Guest) → AreTimely o s → (s.lps p).guest ≡ Some g → p ≢ q → (x : Option Event) → next_event o s q ≡ x → Spares s.world (after_event q s x).world p g.tdr g.vp
     spared o s p q g h guest apart None is = same_world s.world p g.tdr g.vp (occupied o s p g h guest)
-    spared o s p q g h guest apart (Some e) is = leave o s q e is h p g.tdr g.vp apart (occupied o s p g h guest)
+    spared o s p q g h guest apart (Some e) is = leave o s q e is h p g apart guest
 
 event_lowers : (o : Opening) (s : State) (p : ℕ) (e : Event) → AreTimely o s → next_event o s p ≡ Some e → events_left o (event o s p) p < events_left o s p
 event_lowers o s p e h is =
@@ -831,7 +894,7 @@ some_left : (o : Opening) (w : World) (p : ℕ) (c : Call) (lp : Lp) (g : Option
 some_left o w p c lp (Some g) h = omega arith
 some_left o w p c lp None h = by lp.call.phase lp.call.held h
   where
-    by : (phase : Phase Reply) (hs : List Held) → (length hs ≤ most_tries c) × IsNotDone phase hs × EnterFits c phase hs → 1 ≤ call_left (most_tries c) (guest_events c) phase (length hs)
+    by : (phase : Phase Reply) (hs : List Held) → (length hs ≤ most_tries c) × IsNotDone phase hs × LocksFit c phase hs → 1 ≤ call_left (most_tries c) (guest_events c) phase (length hs)
     by Trying hs x = let few = x.0 in omega (arith, few)
     by (Undoing l) hs x = omega arith
     by (Answered r) [] x = absurd x.1

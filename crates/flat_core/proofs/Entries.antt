@@ -15,7 +15,7 @@ use Rattle.flat_core.specs.Row.{Row, Move, Attempts, Undoes, Succeeds, Releases,
 use Rattle.flat_core.specs.Table.{row_of}
 use Rattle.flat_core.specs.Guest.{walk_step, answered as with_answer}
 use Rattle.flat_core.specs.Guests.{guest_locks, entry_locks}
-use Rattle.flat_core.specs.Inside.{EnterFits, InGuest, LineAt, StandsAt, IsTimely}
+use Rattle.flat_core.specs.Inside.{LocksFit, InGuest, LineAt, StandsAt, IsTimely}
 use Rattle.flat_core.specs.Event.{State, Event, OfCall, OfOperation, Walks, Reaches, Leaves, next_event, event_for, lines_left, calls_of, event, after_event, lp_after, call_lp, settled, settle, call_busy, is_granted, is_epoch_lock, operation_guest, settled_guest, nothing_more}
 use Rattle.flat_core.specs.Run.{play}
 use Rattle.flat_core.specs.Laws.{AnswersNext, own_items}
@@ -43,7 +43,7 @@ module _ (tdr vp most : ℕ) where
   -- where the processor of VP.ENTER stands after k events of it: its guest comes in with the fifth, and E is given back with the
   -- sixth
   data IsAt (k : ℕ) (lp : Lp) : Type 0 where
-    is_trying : lp.guest ≡ None → lp.call.phase ≡ Trying → k ≡ length lp.call.held → EnterFits enter Trying lp.call.held → IsAt k lp
+    is_trying : lp.guest ≡ None → lp.call.phase ≡ Trying → k ≡ length lp.call.held → LocksFit enter Trying lp.call.held → IsAt k lp
     has_entered : k ≡ 5 → lp.guest ≡ Some first → lp.call.phase ≡ Trying → lp.call.held ≡ entry_locks tdr vp → IsAt k lp
     is_inside : (g : Guest) → 6 ≤ k → (k ≡ 6 → g ≡ first) → lp.guest ≡ Some g → lp.call.phase ≡ Trying → lp.call.held ≡ guest_locks tdr vp → IsAt k lp
     has_ended : lp.guest ≡ None → (lp.call.phase ≡ Trying → ⊥) → IsAt k lp
@@ -63,7 +63,7 @@ module _ (tdr vp most : ℕ) where
     After e lp = lp_after w (b e) e lp
 
     -- its tries
-    module _ (k : ℕ) (lp : Lp) (hs : List Held) (g : lp.guest ≡ None) (so_far : k ≡ length hs) (fits : EnterFits enter Trying hs) where
+    module _ (k : ℕ) (lp : Lp) (hs : List Held) (g : lp.guest ≡ None) (so_far : k ≡ length hs) (fits : LocksFit enter Trying hs) where
       abbrev now : Lp
       now = record lp { call = record { phase = Trying; held = hs } }
 
@@ -205,7 +205,7 @@ module _ (o : Opening) (s : State) (p : ℕ) (schedule : List ℕ) (tdr vp most 
   at_first : IsAt tdr vp most 0 (s.lps p)
   at_first =
       is_trying h.between.guest (ap (λ (x : Progress Reply). x.phase) h.between.call) (ap (λ (x : Progress Reply). length x.held) (sym h.between.call))
-      (subst (λ (x : Progress Reply). EnterFits (call.VpEnter tdr vp most) Trying x.held) (sym h.between.call) (fits_first (call.VpEnter tdr vp most)))
+      (subst (λ (x : Progress Reply). LocksFit (call.VpEnter tdr vp most) Trying x.held) (sym h.between.call) (fits_first (call.VpEnter tdr vp most)))
 
   at_last : IsAt tdr vp most count last
   at_last = counted o p (s.lps p).replies (IsAt tdr vp most) Any (own o p tdr vp most (s.lps p).replies h.rest h.line) schedule s 0 refl at_first h.none_yet

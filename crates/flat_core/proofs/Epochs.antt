@@ -267,6 +267,25 @@ module _ (o : Opening) (w : World) (la : Lawful o.machine w) (le : LawfulEpochs 
       started : (s : OpState) → list_any (λ b. op_number b == op_number s) augmented_ops ≡ true → s ≡ op.Uninitialized → ⊥
       started op.Uninitialized e h = cc
       started _ e h = cc
+  row-epochs me (call.MigStreamCreate u page) ps =
+      let w' : World = (row_of o me (call.MigStreamCreate u page)).act w in
+      le-frame w w' le
+      (λ t v k pa. let a = by_test (t == page) (λ y. absurd (let no : kind.Migsc ≡ kind.Tdr = kind-here page kind.Migsc u 0 0 w' refl t k y in cc)) (λ z. z) in
+      let b = page-off page kind.Migsc u 0 0 w' refl v t pa (λ e. cc) in
+      old (sym (kind-at page kind.Migsc u 0 0 w' refl t a) ∙ k) (page-was page kind.Migsc u 0 0 w' refl t v b pa) refl refl refl (inl refl) (λ p n l b. (l, b)))
+      (λ t k e. le.early t (sym (kind-at page kind.Migsc u 0 0 w' refl t (by_test (t == page) (λ y. absurd (let no : kind.Migsc ≡ kind.Tdr = kind-here page kind.Migsc u 0 0 w' refl t k y in cc)) (λ z. z))) ∙ k) e)
+  row-epochs me (call.ExportBlockw u gpa) ps =
+      le-frame w _ le
+      (λ t v k pa. old k (record { kind = pa.kind; owner = pa.owner }) refl refl refl (inl refl) (λ p n l b. (l, b)))
+      (λ t k e. le.early t k e)
+  row-epochs me (call.ExportPause u) ps =
+      le-frame w _ le
+      (λ t v k pa. old k (record { kind = pa.kind; owner = pa.owner }) refl refl refl (inl refl) (λ p n l b. (l, by_test (t == u) (λ y. rw y refl) (λ y. rw y b))))
+      (λ t k e. by_test (t == u) (λ y. let no : op.PausedExport ≡ op.Uninitialized = rw y at e in cc) (λ y. le.early t k (rw y at e)))
+  row-epochs me (call.ExportAbort u) ps =
+      le-frame w _ le
+      (λ t v k pa. old k (record { kind = pa.kind; owner = pa.owner }) refl refl refl (inl refl) (λ p n l b. (l, by_test (t == u) (λ y. rw y refl) (λ y. rw y b))))
+      (λ t k e. by_test (t == u) (λ y. let no : op.Runnable ≡ op.Uninitialized = rw y at e in cc) (λ y. le.early t k (rw y at e)))
   row-epochs me (call.HostRead page i) ps = le
   row-epochs me _ ps = quiet-epochs _ refl refl refl refl refl refl refl
 

@@ -1,7 +1,7 @@
 -- How many entries of a TD are dirty, and how many are exported: what keeps it.
-use Rattle.std.proofs.Common.{◌≡◌, refl, sym, ◌∙◌, ap, ℕ, zero, suc, ◌+◌, ◌%◌, ◌^◌, List, Bool, true, false, ◌==◌, ◌&&◌}
+use Rattle.std.proofs.Common.{lit≤, ◌≡◌, refl, sym, ◌∙◌, ap, ℕ, zero, suc, ◌+◌, ◌%◌, ◌^◌, ◌<◌, ◌≤◌, List, Bool, true, false, ◌==◌, ◌&&◌, arith}
 use Rattle.std.specs.List.{sum_by}
-use Rattle.std.proofs.lemmas.Bool.{eqb-true, and_left, and_right}
+use Rattle.std.proofs.lemmas.Bool.{eqb-true, eqb-false, ne_eqb, and_left, and_right}
 use Rattle.td_words.specs.declared.names.PageKind.{PageKind}
 use Rattle.td_words.specs.declared.names.PageKind.TheVariants as kind
 use Rattle.td_words.specs.declared.names.EntryState.{EntryState}
@@ -31,6 +31,17 @@ free_unmarked _ h = cc
 same_sum : (g h : ℕ → ℕ) → ((p : ℕ) → g p ≡ h p) → (n : ℕ) → sum_below g n ≡ sum_below h n
 same_sum g h e zero = refl
 same_sum g h e (suc n) = rw (e n, same_sum g h e n) refl
+
+-- a sum that changes at one place alone
+same_below : (g h : ℕ → ℕ) (p : ℕ) → ((q : ℕ) → (q == p) ≡ false → g q ≡ h q) → (n : ℕ) → n ≤ p → sum_below g n ≡ sum_below h n
+same_below g h p e zero low = refl
+same_below g h p e (suc n) low = rw (e n (ne_eqb n p (λ same. omega (arith, low, same))), same_below g h p e n (omega (arith, low))) refl
+
+pub sum_moved : (g h : ℕ → ℕ) (p : ℕ) → ((q : ℕ) → (q == p) ≡ false → g q ≡ h q) → (n : ℕ) → p < n → sum_below g n + h p ≡ sum_below h n + g p
+sum_moved g h p e zero few = absurd (omega (arith, few))
+sum_moved g h p e (suc n) few = by_test (n == p)
+    (λ y. (let here : n ≡ p = eqb-true n p y in let below = same_below g h p e n (omega (arith, here)) in let was = ap h here in let is = ap g here in omega (arith, below, was, is)))
+    (λ y. (let apart = eqb-false n p y in let rest = sum_moved g h p e n (omega (arith, few, apart)) in let same = e n y in omega (arith, rest, same)))
 
 no_sum : (g : ℕ → ℕ) → ((p : ℕ) → g p ≡ 0) → (n : ℕ) → sum_below g n ≡ 0
 no_sum g e zero = refl
@@ -87,6 +98,34 @@ module _ (count : ℕ) (old new : Pages) (tds tds' : Tds) (streams : Streams) wh
   pub counts_kept : ((t : ℕ) → IsAlive new tds' t → IsAlive old tds t) → ((t : ℕ) → tallies tds' t ≡ tallies tds t) → ((t : ℕ) → IsAlive new tds' t → AsMany t)
       → LawfulCounts count old tds streams → LawfulCounts count new tds' streams
   counts_kept back same many l = counts_of count new tds' streams (λ t a. counted_still t (same t) (many t a) (l.dirtied t (back t a), l.unrestored t (back t a)))
+
+-- and one where the same is counted on all its streams
+pub counted_on : (count : ℕ) (pages : Pages) (tds : Tds) (streams streams' : Streams) (t : ℕ) → sum_by streams'.cleaned (tds.streams t) ≡ sum_by streams.cleaned (tds.streams t)
+    → sum_by streams'.first_exports (tds.streams t) ≡ sum_by streams.first_exports (tds.streams t) → IsCounted count pages tds streams t → IsCounted count pages tds streams' t
+counted_on count pages tds streams streams' t cleaned first h = (
+  ap (λ (n : ℕ). entries_where is_dirty count pages tds t + n) cleaned ∙ h.0,
+  h.1 ∙ ap (λ (n : ℕ). (tds.unrestored t + n) % 2 ^ 64) (sym first),
+)
+
+-- where no entry is exported none is dirty
+fewer_below : (g h : ℕ → ℕ) → ((p : ℕ) → g p ≤ h p) → (n : ℕ) → sum_below g n ≤ sum_below h n
+fewer_below g h e zero = lit≤ tt
+fewer_below g h e (suc n) = let here = e n in let rest = fewer_below g h e n in omega (arith, here, rest)
+
+pub none_dirty_of : (count : ℕ) (pages : Pages) (tds : Tds) (t : ℕ) → entries_where is_exported count pages tds t ≡ 0 → entries_where is_dirty count pages tds t ≡ 0
+none_dirty_of count pages tds t none =
+    let few = fewer_below (λ p. one_if (is_page_where is_dirty pages t (tds.entries t 0) p)) (λ p. one_if (is_page_where is_exported pages t (tds.entries t 0) p)) fewer count in omega (arith, few, none)
+  where
+    of : (s : EntryState) → one_if (is_dirty s) ≤ one_if (is_exported s)
+    of entry.ExportedDirty = lit≤ tt
+    of entry.ExportedDirtyBlockedW = lit≤ tt
+    of entry.ExportedBlockedW = lit≤ tt
+    of _ = lit≤ tt
+
+    fewer : (p : ℕ) → one_if (is_page_where is_dirty pages t (tds.entries t 0) p) ≤ one_if (is_page_where is_exported pages t (tds.entries t 0) p)
+    fewer p = by_test (same_kind (pages.kinds p) kind.Reg)
+        (λ y. by_test (pages.owners p == t) (λ z. rw (y, z) (of (tds.entries t 0 (pages.numbers p)).state)) (λ z. rw (y, z) (lit≤ tt)))
+        (λ y. rw y (lit≤ tt))
 
 -- a host page that is taken, where the entry that names it, if one does, isn't exported
 pub taken_where : (count : ℕ) (old : Pages) (p : ℕ) (k : PageKind) (t level number : ℕ) (host : old.kinds p ≡ kind.Nda) (lawful : LawfulPages count old) (f : EntryState → Bool) (x : ℕ) (before after : ℕ → Entry)

@@ -5,7 +5,6 @@ use Rattle.td_words.specs.declared.names.Mode.{Mode}
 use Rattle.td_words.specs.declared.names.Mode.TheVariants.{Shared, Exclusive}
 use Rattle.td_words.specs.declared.names.Access.{Access}
 use Rattle.td_words.specs.declared.names.Access.TheVariants.{Read, Write}
-use Rattle.td_words.specs.declared.calls.Call.{Call}
 use Rattle.td_words.specs.declared.calls.GuestOp.{GuestOp}
 use Rattle.td_words.specs.declared.calls.GuestOp.TheVariants as op
 use Rattle.td_words.specs.declared.replies.Outcome.{Outcome}
@@ -19,8 +18,7 @@ use Rattle.flat_core.specs.Table.{row_of}
 use Rattle.flat_core.specs.Tries.{tries, shared}
 use Rattle.flat_core.specs.Order.{but_page, kinds, onto}
 use Rattle.flat_core.specs.Guest.{Operation, ByRow, Private, operation_of, is_private, shared_load, shared_store, walk_level, walk_step, walked_on, walked_entry, goes_on, answered, reach, is_pending_at}
-use Rattle.flat_core.specs.Inside.{LineAt, StandsAt}
-use Rattle.flat_core.specs.Event.{State, Event, OfCall, OfOperation, Walks, Reaches, next_event, lines_left, event, after_event, world_after, operation_world, lp_after, call_lp, succeeded, settled, settle, settled_guest, settle_operation, operation_guest, operation_busy, operation_due, nothing_more, is_granted}
+use Rattle.flat_core.specs.Event.{State, Event, OfCall, OfOperation, Walks, Reaches, next_event, event, after_event, world_after, operation_world, lp_after, call_lp, succeeded, settled, settle, settled_guest, settle_operation, operation_guest, operation_busy, operation_due, nothing_more, is_granted}
 use Rattle.flat_core.specs.GuestOrder.{operation_tries, tried_by, OperationsTryTheirLists, AreFirstOf, DueHolds, operation_before, operation_answered, GuestHolds, GuestsHoldInOrder, GuestOrderIsKept, GuestOrderHolds}
 use Rattle.flat_core.specs.Laws.{with_bundles}
 use Rattle.flat_core.specs.Opening.{Incoming}
@@ -290,15 +288,11 @@ other_holds o w w' g same h = by g.operation.phase h
 
 module _ (o : Opening) (s : State) (p : ℕ) (e : Event) (is : next_event o s p ≡ Some e) (h : GuestsHoldInOrder o s) where
   others : (q : ℕ) → q ≢ p → IfSome (s.lps q).guest (λ g. GuestHolds o (world_after e s.world) g g.operation.phase)
-  others q apart = by (lines_left o q (s.lps q)) (h.timely.each q)
+  others q apart = by (s.lps q).guest refl (h.each q)
     where
-      at : (c : Call) (x : Option Guest) → LineAt o s.world q c (s.lps q) x → IfSome x (λ g. GuestHolds o s.world g g.operation.phase) → IfSome x (λ g. GuestHolds o (world_after e s.world) g g.operation.phase)
-      at c None t k = tt
-      at c (Some g) t k = other_holds o s.world (world_after e s.world) g (leave o s p e is h.timely q g.tdr g.vp apart t.occupied).same k
-
-      by : (cs : List Call) → StandsAt o s.world q cs (s.lps q) → IfSome (s.lps q).guest (λ g. GuestHolds o (world_after e s.world) g g.operation.phase)
-      by [] t = subst (λ (x : Option Guest). IfSome x (λ g. GuestHolds o (world_after e s.world) g g.operation.phase)) (sym t.0) tt
-      by (c ∷ cs) t = at c (s.lps q).guest t (h.each q)
+      by : (x : Option Guest) → (s.lps q).guest ≡ x → IfSome x (λ g. GuestHolds o s.world g g.operation.phase) → IfSome x (λ g. GuestHolds o (world_after e s.world) g g.operation.phase)
+      by None guest k = tt
+      by (Some g) guest k = other_holds o s.world (world_after e s.world) g (leave o s p e is h.timely q g apart guest).same k
 
   step : GuestsHoldInOrder o (after_event p s (Some e))
   step = record {

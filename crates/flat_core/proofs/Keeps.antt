@@ -1,5 +1,5 @@
 -- Each row's act keeps what every world keeps.
-use Rattle.std.proofs.Common.{lit<, lit≤, ◌≡◌, ◌≢◌, refl, sym, ◌∙◌, subst, ap, ℕ, zero, suc, ◌+◌, ◌-◌, ◌*◌, ◌^◌, ◌<◌, ◌≤◌, List, [], ◌∷◌, length, Option, Some, None, Bool, true, false, not, ◌==◌, ◌&&◌, nat_lt, nat_le, arith}
+use Rattle.std.proofs.Common.{lit<, lit≤, ◌≡◌, ◌≢◌, refl, sym, ◌∙◌, subst, ap, ℕ, zero, suc, ◌+◌, ◌-◌, ◌*◌, ◌%◌, ◌^◌, ◌<◌, ◌≤◌, List, [], ◌∷◌, length, Option, Some, None, Bool, true, false, not, if◌then◌else◌, ◌==◌, ◌&&◌, nat_lt, nat_le, arith}
 use Rattle.std.specs.List.{list_any}
 use Rattle.std.proofs.lemmas.Bool.{eqb-true, not-true, and_parts, ltb-true}
 use Rattle.std.proofs.Math.Nat.{lt_of_le_of_lt, div-mul-le_self}
@@ -16,31 +16,35 @@ use Rattle.td_words.specs.declared.names.ReadField.{ReadField}
 use Rattle.td_words.specs.declared.machines.Machine.{Machine}
 use Rattle.td_words.specs.declared.calls.Call.{Call}
 use Rattle.td_words.specs.declared.calls.Call.TheVariants as call
-use Rattle.td_words.specs.NameNumber.{life_number, op_number}
-use Rattle.td_words.specs.Packing.{Key, Unassigned, AssignedTo, FlushedOf}
+use Rattle.td_words.specs.NameNumber.{life_number}
+use Rattle.td_words.specs.Packing.{Entry, Key, Unassigned, AssignedTo, FlushedOf, is_exported}
 use Rattle.flat_core.specs.World.{World, Pages, Tds, Streams, KeyTable, put, first_world}
 use Rattle.flat_core.specs.Opening.{Opening}
 use Rattle.flat_core.specs.Row.{Passes}
+use Rattle.flat_core.specs.Locks.{one_if}
 use Rattle.flat_core.specs.Conditions.{same_kind, is_free_key, is_host, vp_limit, host_page, page_exclusive}
 use Rattle.flat_core.specs.Arguments.{level_size}
 use Rattle.flat_core.specs.Tree.{page_of_gpa, number_at, entry_at, same_state, state_in, empty_below}
-use Rattle.flat_core.specs.Effects.{new_td, set_page, clear_page, take_page, map_page, begin_memory, end_memory_in, set_state, unmap_page, set_op, set_epoch, end_measurement}
+use Rattle.flat_core.specs.Effects.{new_td, set_page, clear_page, take_page, map_page, begin_memory, end_memory_in, set_state, unmap_page, set_op, set_epoch, end_measurement, restate}
 use Rattle.flat_core.specs.Tracking.{tracked_page}
 use Rattle.flat_core.specs.HostRows.{host_read, host_write, read_metadata}
 use Rattle.flat_core.specs.TdRows.{create, configure_key, add_tdcx, initialize, read_td, finalize}
 use Rattle.flat_core.specs.KeyRows.{write_caches_back, reclaim_conditions, reclaim_page, end_flush, free_hkid}
 use Rattle.flat_core.specs.VpRows.{create_vp, initialize_vp, enter_vp, flush_vp}
 use Rattle.flat_core.specs.MemRows.{add_sept, read_sept, add_page, augment_page, remove_page, remove_sept, removed_states, open_states, blocked_states, blocked_state, unblocked_state, block_range, unblock_range, advance_epoch, chunk_bytes, extend}
+use Rattle.flat_core.specs.ExportRows.{live_ops, abortable_ops, create_stream, writable_states, write_blocked, block_write, write_blocked_states, write_unblocked, is_first_dirt, unblock_write, note_pause, pause, abort_export, restoring_ops, restored_states, one_less, restore}
+use Rattle.flat_core.specs.Exports.{is_dirty}
 use Rattle.flat_core.specs.Table.{row_of}
-use Rattle.flat_core.specs.Lawful.{IsAlive, AreControls, ArePagesOf, LawfulPages, LawfulTds, IsListed, LawfulLists, LawfulTree, LawfulKeys, LawfulBeginnings, LawfulCounts, Lawful, IsNew, RowKeeps, is_free, is_named_kind, key_owner}
+use Rattle.flat_core.specs.Lawful.{IsAlive, AreControls, ArePagesOf, LawfulPages, LawfulTds, IsListed, LawfulLists, LawfulTree, LawfulKeys, LawfulBeginnings, LawfulCounts, LawfulSessions, Lawful, IsNew, RowKeeps, is_free, is_named_kind, key_owner}
 use Rattle.flat_core.proofs.Tests.{by_test, host_kind, tdr_kind, range_of, some_same, same_self}
 use Rattle.flat_core.proofs.Pages.{taken, other, taken_node, taken_controls, taken_list, unowned, taken_pages}
 use Rattle.flat_core.proofs.Exports.{counts_of, new_counted, counted_still, taken_where}
 use Rattle.flat_core.proofs.Maps.{kind_named, named_owned, node_named, is_upper, map_kept, walk_passed}
-use Rattle.flat_core.proofs.EntryStates.{state_kept, block_kept}
-use Rattle.flat_core.proofs.Ranges.{named_passed, named_alive, block_restates, unblock_restates, page_removed, sept_removed}
+use Rattle.flat_core.proofs.EntryStates.{entry_kept, restated, remarked, state_kept, counts_moved, block_kept}
+use Rattle.flat_core.proofs.Ranges.{begun_of, live_exporting, named_passed, named_alive, opened_passed, write_passed, entry_alive, block_restates, unblock_restates, write_remarks, write_dirt, unwrite_remarks, unwrite_dirt, restored, page_removed, sept_removed}
 use Rattle.flat_core.proofs.Removals.{empty_at, unmapped_kept}
-use Rattle.flat_core.proofs.Parts.{IsLive, LawfulBut, untouched, new_kept, write_back_kept, life_kept, flush_kept, op_kept, epoch_kept, begin_kept, measure_kept, end_kept, control_kept, vp_kept, taken_kept, ended_kept, left_kept}
+use Rattle.flat_core.proofs.Streams.{stream_kept}
+use Rattle.flat_core.proofs.Parts.{IsLive, LawfulBut, untouched, sessions_of, session_at, sessions_kept, new_kept, write_back_kept, life_kept, flush_kept, op_kept, epoch_kept, begin_kept, measure_kept, end_kept, control_kept, vp_kept, taken_kept, ended_kept, left_kept}
 
 pub host_read-keeps : (m : Machine) (page i : ℕ) → RowKeeps m (host_read m page i)
 host_read-keeps m page i = record { act = λ w l ps. l; to_tell = λ w. refl }
@@ -245,6 +249,9 @@ module _ (count : ℕ) (old : Pages) (tds : Tds) (table : KeyTable) (t h : ℕ) 
       (λ f of. taken_where count old t kind.Tdr t 0 0 host lawful f x (tds.entries x 0) (begun.entries x 0) (λ n. rw y refl) refl)
       (l.dirtied x (alive_before x y a), l.unrestored x (alive_before x y a))))
 
+  new_sessions : LawfulSessions tds table → LawfulSessions begun (record table { keys = put table.keys h (AssignedTo t) })
+  new_sessions l = sessions_kept tds begun table (record table { keys = put table.keys h (AssignedTo t) }) refl (λ x s. by_test (x == t) (λ y. rw y (lit< tt, lit< tt, λ e. cc)) (λ n. rw n s)) l
+
 pub create-keeps : (m : Machine) (t h : ℕ) → RowKeeps m (create m t h)
 create-keeps m t h = record {
   act = λ w l ps. (let host : w.pages.kinds t ≡ kind.Nda = host_kind _ ps.1.1.0 in
@@ -259,6 +266,8 @@ create-keeps m t h = record {
         keys = new_keys m.pages w.pages w.tds w.key_table t h host l.pages free_hkid m.hkids (range_of h m.hkids ps.1.0) l.keys;
         beginnings = new_beginnings m.pages w.pages w.tds w.key_table t h host l.pages free_hkid w.hidden.rtmrs l.beginnings;
         counts = new_counts m.pages w.pages w.tds w.key_table t h host l.pages free_hkid w.streams l.counts;
+        streams = l.streams;
+        sessions = new_sessions m.pages w.pages w.tds w.key_table t h host l.pages free_hkid l.sessions;
       });
   to_tell = λ w. refl;
 }
@@ -273,7 +282,7 @@ configure_key-keeps m t = record {
 
 -- a page that is mapped, or taken, and cleared
 cleared_but : (m : Machine) (p : ℕ) (w : World) → LawfulBut m w p → LawfulBut m (clear_page p w) p
-cleared_but m p w l = record { size = l.size; pages = l.pages; tds = l.tds; control = l.control; vp = l.vp; stream = l.stream; index = l.index; tree = l.tree; keys = l.keys; beginnings = l.beginnings; counts = l.counts }
+cleared_but m p w l = record { size = l.size; pages = l.pages; tds = l.tds; control = l.control; vp = l.vp; stream = l.stream; index = l.index; tree = l.tree; keys = l.keys; beginnings = l.beginnings; counts = l.counts; streams = l.streams; sessions = l.sessions }
 
 -- MNG.ADDCX
 pub add_tdcx-keeps : (m : Machine) (t p : ℕ) → RowKeeps m (add_tdcx m t p)
@@ -297,7 +306,7 @@ initialize-keeps m t = record {
       let w1 : World = set_epoch t 1 w in
       let l1 : Lawful m w1 = epoch_kept m w t built l 1 (lit≤ tt) (lit< tt) in
       let w2 : World = set_op t op.Initialized w1 in
-      let l2 : Lawful m w2 = op_kept m w1 t built l1 op.Initialized (rw (same_self t) (lit≤ tt)) in
+      let l2 : Lawful m w2 = op_kept m w1 t built l1 op.Initialized (rw (same_self t) (lit≤ tt)) (λ e. cc) in
       begin_kept m w2 t built l2;
   to_tell = λ w. refl;
 }
@@ -305,13 +314,9 @@ initialize-keeps m t = record {
 pub read_td-keeps : (m : Machine) (t : ℕ) (f : ReadField) → RowKeeps m (read_td m t f)
 read_td-keeps m t f = record { act = λ w l ps. l; to_tell = λ w. refl }
 
-begun_of : (s : OpState) → list_any (λ a. op_number a == op_number s) (op.Initialized ∷ []) ≡ true → s ≢ op.Uninitialized
-begun_of op.Initialized h e = cc
-begun_of _ h e = cc
-
 pub finalize-keeps : (m : Machine) (t : ℕ) → RowKeeps m (finalize m t)
 finalize-keeps m t = record {
-  act = λ w l ps. op_kept m (end_measurement t w) t ps.1.1.1.0 (end_kept m w t ps.1.1.1.0 l) op.Runnable (l.tds.epoch_begun t (begun_of (w.tds.ops t) ps.1.1.1.1.0));
+  act = λ w l ps. op_kept m (end_measurement t w) t ps.1.1.1.0 (end_kept m w t ps.1.1.1.0 l) op.Runnable (l.tds.epoch_begun t (begun_of (op.Initialized ∷ []) (w.tds.ops t) refl ps.1.1.1.1.0)) (λ e. cc);
   to_tell = λ w. refl;
 }
 
@@ -334,9 +339,9 @@ few_vps : (s : OpState) (expected : ℕ) → expected ≤ 8 → vp_limit s expec
 few_vps op.MemoryImport expected h = h
 few_vps _ expected h = lit≤ tt
 
-not_in_list : (m : Machine) (w : World) (t p : ℕ) → Lawful m w → w.pages.kinds p ≡ kind.Nda → (vs : List ℕ) → ArePagesOf w.pages t kind.Tdvpr vs → list_any (λ q. q == p) vs ≡ false
-not_in_list m w t p l host [] h = refl
-not_in_list m w t p l host (v ∷ vs) h = rw (other m.pages w.pages p kind.Tdvpr t 0 0 host l.pages v kind.Tdvpr h.0.kind (λ e. cc)) (not_in_list m w t p l host vs h.1)
+not_in_list : (m : Machine) (w : World) (t p : ℕ) (k : PageKind) → k ≢ kind.Nda → Lawful m w → w.pages.kinds p ≡ kind.Nda → (vs : List ℕ) → ArePagesOf w.pages t k vs → list_any (λ q. q == p) vs ≡ false
+not_in_list m w t p k owned l host [] h = refl
+not_in_list m w t p k owned l host (v ∷ vs) h = rw (other m.pages w.pages p k t 0 0 host l.pages v k h.0.kind owned) (not_in_list m w t p k owned l host vs h.1)
 
 pub create_vp-keeps : (m : Machine) (t p : ℕ) → RowKeeps m (create_vp m t p)
 create_vp-keeps m t p = record {
@@ -348,7 +353,7 @@ create_vp-keeps m t p = record {
       let l' : LawfulBut m w' p = cleared_but m p (take_page p kind.Tdvpr t w) (taken_kept m w p kind.Tdvpr t 0 0 host (ltb-true p m.pages ps.1.0) l (λ e. cc) (λ e. cc) root refl) in
       let room : length (w.tds.vps t) < vp_limit (w.tds.ops t) (w.tds.vps_expected t) = ltb-true _ _ ps.1.1.1.1.1.1.1.0 in
       let most : vp_limit (w.tds.ops t) (w.tds.vps_expected t) ≤ 8 = few_vps (w.tds.ops t) (w.tds.vps_expected t) (l.tds.vps_expected t) in
-      vp_kept m w' t p l' (record { kind = rw (same_self p) refl; owner = rw (same_self p) refl }) ps.1.1.1.1.1.0 (omega arith) (not_in_list m w t p l host (w.tds.vps t) (l.tds.vps t alive));
+      vp_kept m w' t p l' (record { kind = rw (same_self p) refl; owner = rw (same_self p) refl }) ps.1.1.1.1.1.0 (omega arith) (not_in_list m w t p kind.Tdvpr (λ e. cc) l host (w.tds.vps t) (l.tds.vps t alive));
   to_tell = λ w. refl;
 }
 
@@ -477,6 +482,109 @@ extend-keeps m t gpa = record {
   to_tell = λ w. refl;
 }
 
+-- MIG.STREAM.CREATE
+pub create_stream-keeps : (m : Machine) (t p : ℕ) → RowKeeps m (create_stream m t p)
+create_stream-keeps m t p = record {
+  act = λ w l ps.
+      let host : w.pages.kinds p ≡ kind.Nda = host_kind _ ps.1.1.1.1.1.1.1.1.0 in
+      let root : w.pages.kinds t ≡ kind.Tdr = tdr_kind _ ps.1.1.1.0 in
+      let alive : IsAlive w.pages w.tds t = record { kind = root; life = live_of (life.KeysConfigured ∷ []) (w.tds.lives t) refl ps.1.1.1.1.0 } in
+      let w' : World = clear_page p (take_page p kind.Migsc t w) in
+      let l' : LawfulBut m w' p = cleared_but m p (take_page p kind.Migsc t w) (taken_kept m w p kind.Migsc t 0 0 host (ltb-true p m.pages ps.1.0) l (λ e. cc) (λ e. cc) root refl) in
+      stream_kept m w' t p l' (record { kind = rw (same_self p) refl; owner = rw (same_self p) refl }) ps.1.1.1.1.1.0 (ltb-true _ _ ps.1.1.1.1.1.1.1.0)
+      (not_in_list m w t p kind.Migsc (λ e. cc) l host (w.tds.streams t) (l.tds.streams t alive));
+  to_tell = λ w. refl;
+}
+
+-- EXPORT.PAUSE and EXPORT.ABORT
+pub pause-keeps : (m : Machine) (t : ℕ) → RowKeeps m (pause m t)
+pause-keeps m t = record {
+  act = λ w l ps. op_kept m (note_pause t w) t ps.1.1.1.0 (untouched m w (note_pause t w) refl l) op.PausedExport (l.tds.epoch_begun t (begun_of live_ops (w.tds.ops t) refl ps.1.1.1.1.0))
+      (λ e. (session_at w.tds w.key_table l.sessions t).2 (live_exporting (w.tds.ops t) ps.1.1.1.1.0));
+  to_tell = λ w. refl;
+}
+
+pub abort_export-keeps : (m : Machine) (t : ℕ) → RowKeeps m (abort_export m t)
+abort_export-keeps m t = record {
+  act = λ w l ps. op_kept m w t ps.1.1.1.0 l op.Runnable (l.tds.epoch_begun t (begun_of abortable_ops (w.tds.ops t) refl ps.1.1.1.1.0)) (λ e. cc);
+  to_tell = λ w. refl;
+}
+
+-- EXPORT.BLOCKW, EXPORT.UNBLOCKW and EXPORT.RESTORE
+pub block_write-keeps : (m : Machine) (t gpa : ℕ) → RowKeeps m (block_write m t gpa)
+block_write-keeps m t gpa = record {
+  act = λ w l ps.
+      let e : Entry = entry_at w t 0 gpa in
+      let n : ℕ = number_at 0 gpa in
+      let p = write_passed m w t gpa ps in
+      let alive = entry_alive w t gpa live_ops writable_states p in
+      let r = write_remarks e.state p.state in
+      let dirt = ap one_if (write_dirt e.state p.state) in
+      let marked = ap one_if r.same_marked in
+      let new : Entry = record { state = write_blocked e.state; page = e.page; mark = e.mark } in
+      let counts = counts_moved m w t n new w.tds.dirtied w.tds.unrestored l alive r.used (λ x other. (refl, refl))
+      (λ a b s h is. omega (arith, h, is, dirt))
+      (λ a b s h is. let same : a ≡ b = omega (arith, h, marked) in same ∙ is) in
+      let kept = entry_kept m w t 0 n new w.tds.dirtied w.tds.unrestored l r.used r.still_used r.same_level refl (remarked (write_blocked e.state) e r.still_used r.same_marked) (λ x other. (refl, refl)) counts in
+      let node = (l.tree.lowest t n alive r.used).1 in
+      block_kept m (restate t n (write_blocked e.state) e.mark w) t e.page kept (ap (λ (k : PageKind). same_kind k kind.Nda) node.page.kind);
+  to_tell = λ w. refl;
+}
+
+pub unblock_write-keeps : (m : Machine) (t gpa : ℕ) → RowKeeps m (unblock_write m t gpa)
+unblock_write-keeps m t gpa = record {
+  act = λ w l ps.
+      let e : Entry = entry_at w t 0 gpa in
+      let n : ℕ = number_at 0 gpa in
+      let p = opened_passed w t gpa live_ops write_blocked_states ps.1.1.1 in
+      let alive = entry_alive w t gpa live_ops write_blocked_states p in
+      let r = unwrite_remarks e.state p.state in
+      let dirt = unwrite_dirt e.state p.state in
+      let marked = ap one_if r.same_marked in
+      let new : Entry = record { state = write_unblocked e.state; page = e.page; mark = e.mark } in
+      let more : ℕ = if is_first_dirt e.state then w.tds.dirtied t + 1 else w.tds.dirtied t in
+      let is_more : more ≡ w.tds.dirtied t + one_if (is_first_dirt e.state) = one_more (is_first_dirt e.state) (w.tds.dirtied t) in
+      let counts = counts_moved m w t n new (put w.tds.dirtied t more) w.tds.unrestored l alive r.used (λ x other. (rw other refl, refl))
+      (λ a b s h is. rw (same_self t) (omega (arith, h, is, dirt, is_more)))
+      (λ a b s h is. let same : a ≡ b = omega (arith, h, marked) in same ∙ is) in
+      entry_kept m w t 0 n new (put w.tds.dirtied t more) w.tds.unrestored l r.used r.still_used r.same_level refl (remarked (write_unblocked e.state) e r.still_used r.same_marked) (λ x other. (rw other refl, refl)) counts;
+  to_tell = λ w. refl;
+}
+  where
+    one_more : (first : Bool) (d : ℕ) → (if first then d + 1 else d) ≡ d + one_if first
+    one_more true d = refl
+    one_more false d = omega arith
+
+-- one entry fewer is exported, and one fewer is unrestored
+one_fewer : (a b u s : ℕ) → a + 1 ≡ b → b ≡ (u + s) % 2 ^ 64 → a ≡ (one_less u + s) % 2 ^ 64
+one_fewer a b u s h is = omega (arith, h, is)
+
+pub restore-keeps : (m : Machine) (t gpa : ℕ) → RowKeeps m (restore m t gpa)
+restore-keeps m t gpa = record {
+  act = λ w l ps.
+      let e : Entry = entry_at w t 0 gpa in
+      let n : ℕ = number_at 0 gpa in
+      let p = opened_passed w t gpa restoring_ops restored_states ps.1.1.1 in
+      let alive = entry_alive w t gpa restoring_ops restored_states p in
+      let r = restored e.state p.state in
+      let new : Entry = record { state = entry.Mapped; page = e.page; mark = 0 } in
+      let dirtied : ℕ → ℕ = put w.tds.dirtied t (if is_dirty e.state then w.tds.dirtied t - 1 else w.tds.dirtied t) in
+      let unrestored : ℕ → ℕ = put w.tds.unrestored t (if is_exported e.state then one_less (w.tds.unrestored t) else w.tds.unrestored t) in
+      let counts = counts_moved m w t n new dirtied unrestored l alive r.used (λ x other. (rw other refl, rw other refl))
+      (λ a b s h is. rw (same_self t) (less_dirt (is_dirty e.state) a b s (w.tds.dirtied t) h is))
+      (λ a b s h is. rw (same_self t) (less_exported (is_exported e.state) a b (w.tds.unrestored t) s h is)) in
+      entry_kept m w t 0 n new dirtied unrestored l r.used refl r.same_level refl (λ lawful. restated entry.Mapped e lawful refl refl) (λ x other. (rw other refl, rw other refl)) counts;
+  to_tell = λ w. refl;
+}
+  where
+    less_dirt : (dirty : Bool) (a b s d : ℕ) → a + one_if dirty ≡ b + 0 → b + s ≡ d → a + s ≡ (if dirty then d - 1 else d)
+    less_dirt true a b s d h is = omega (arith, h, is)
+    less_dirt false a b s d h is = omega (arith, h, is)
+
+    less_exported : (exported : Bool) (a b u s : ℕ) → a + one_if exported ≡ b + 0 → b ≡ (u + s) % 2 ^ 64 → a ≡ ((if exported then one_less u else u) + s) % 2 ^ 64
+    less_exported true a b u s h is = one_fewer a b u s (omega (arith, h)) is
+    less_exported false a b u s h is = let same : a ≡ b = omega (arith, h) in same ∙ is
+
 pub row-keeps : (o : Opening) (me : ℕ) (c : Call) → RowKeeps o.machine (row_of o me c)
 row-keeps o me (call.HostRead page i) = host_read-keeps o.machine page i
 row-keeps o me (call.HostWrite page i v) = host_write-keeps o.machine page i v
@@ -505,6 +613,12 @@ row-keeps o me (call.MemPageRemove t gpa) = remove_page-keeps o.machine t gpa
 row-keeps o me (call.MemRangeBlock t gpa level) = block_range-keeps o.machine t gpa level
 row-keeps o me (call.MemRangeUnblock t gpa level) = unblock_range-keeps o.machine t gpa level
 row-keeps o me (call.MemTrack t) = advance_epoch-keeps o.machine t
+row-keeps o me (call.MigStreamCreate t p) = create_stream-keeps o.machine t p
+row-keeps o me (call.ExportBlockw t gpa) = block_write-keeps o.machine t gpa
+row-keeps o me (call.ExportUnblockw t gpa) = unblock_write-keeps o.machine t gpa
+row-keeps o me (call.ExportPause t) = pause-keeps o.machine t
+row-keeps o me (call.ExportAbort t) = abort_export-keeps o.machine t
+row-keeps o me (call.ExportRestore t gpa) = restore-keeps o.machine t gpa
 
 pub first-lawful : (m : Machine) (words_to_tell : Option (List ℕ)) → Lawful m (first_world m.pages words_to_tell)
 first-lawful m ws = record {
@@ -521,4 +635,6 @@ first-lawful m ws = record {
   };
   beginnings = record { is_new = λ t a n. absurd (let no : kind.Nda ≡ kind.Tdr = a.kind in cc) };
   counts = counts_of m.pages _ _ _ (λ t a. absurd (let no : kind.Nda ≡ kind.Tdr = a.kind in cc));
+  streams = record { counter = λ s. lit< tt; cleaned = λ s. lit≤ tt; first_exports = λ s. lit≤ tt };
+  sessions = sessions_of _ _ (lit< tt) (λ t. (lit< tt, lit< tt, λ e. cc));
 }

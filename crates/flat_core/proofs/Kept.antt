@@ -77,6 +77,8 @@ extended_lawful m t i ws w runs l = record {
         (λ y. new_kept w.tds w.tds w.hidden.rtmrs (set_rtmr t i ws w).hidden.rtmrs x (rw y refl) is_new));
   };
   counts = l.counts;
+  streams = l.streams;
+  sessions = l.sessions;
 }
 
 -- a guest's operations change registers, host words, positions, an entry that was PENDING, and RTMRs of its TD

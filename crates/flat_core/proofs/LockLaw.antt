@@ -233,8 +233,8 @@ shared_is l lp = by lp.guest
     by None = refl
     by (Some g) = refl
 
-step : (o : Opening) (s : State) (p : ℕ) (e : Event) → next_event o s p ≡ Some e → IsExclusive s → IsExclusive (after_event p s (Some e))
-step o s p e eq h l =
+pub exclusive_step : (o : Opening) (s : State) (p : ℕ) (e : Event) → next_event o s p ≡ Some e → IsExclusive s → IsExclusive (after_event p s (Some e))
+exclusive_step o s p e eq h l =
     let b = is_granted s e in
     let lp' : Lp = lp_after s.world b e (s.lps p) in
     let alone : alone_of l lp' ≤ alone_of l (s.lps p) + alone_in l (taken_by b e) =
@@ -247,7 +247,7 @@ pub exclusion_kept : ExclusionIsKept
 exclusion_kept = record {
   start = λ o ws k. (let none : (f : Lp → ℕ) → f idle ≡ 0 → sum_below (λ q. f idle) (length o.calls) ≡ 0 = λ f h. sum_none f (length o.calls) h in
       record { one = omega (arith, none (alone_of k) refl); apart = inl (none (alone_of k) refl) });
-  event = λ o bundles s p h. event_keeps (with_bundles o bundles) IsExclusive (step (with_bundles o bundles)) s p h;
+  event = λ o bundles s p h. event_keeps (with_bundles o bundles) IsExclusive (exclusive_step (with_bundles o bundles)) s p h;
 }
 
 pub locks_exclude : LocksExclude

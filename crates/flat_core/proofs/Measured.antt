@@ -1,5 +1,5 @@
 -- MRTD and what is measured, over runs and events.
-use Rattle.std.proofs.Common.{◌≡◌, refl, sym, ◌∙◌, ap, subst, ℕ, ◌+◌, List, [], ◌∷◌, length, Option, Some, None, true, ◌==◌}
+use Rattle.std.proofs.Common.{◌≡◌, refl, sym, subst, ℕ, ◌+◌, List, [], ◌∷◌, length, Option, Some, None, true, false, ◌==◌}
 use Rattle.std.specs.List.{list_any}
 use Rattle.std.proofs.lemmas.Bool.{eqb-true}
 use Rattle.sha2.specs.Sha512.{sha384}
@@ -20,8 +20,10 @@ use Rattle.flat_core.specs.World.{World}
 use Rattle.flat_core.specs.Processor.{Answered, Held, Lp}
 use Rattle.flat_core.specs.Opening.{Opening}
 use Rattle.flat_core.specs.Row.{OperationRow, Move, Attempts, Undoes, Refuses, Succeeds, Releases, Rests, Passes, next, next_in}
+use Rattle.flat_core.specs.Conditions.{built_here_ops}
 use Rattle.flat_core.specs.TdRows.{read_td, finalize}
-use Rattle.flat_core.specs.Effects.{measure, tell_words}
+use Rattle.flat_core.specs.ExportRows.{live_ops, abortable_ops}
+use Rattle.flat_core.specs.Effects.{measure, set_op, tell_words}
 use Rattle.flat_core.specs.Guest.{ByRow, operation_of, is_pending_at, reach}
 use Rattle.flat_core.specs.Table.{row_of}
 use Rattle.flat_core.specs.Event.{Event, OfCall, OfOperation, lines_left, next_event, nothing_more, world_after, after_event}
@@ -32,28 +34,48 @@ use Rattle.flat_core.proofs.Operations.{operation_row, accepted}
 use Rattle.flat_core.proofs.Due.{Due, calls, frees, leaves, stops, fills, operates, walks, reaches, undoes, gives_back, due_event_is}
 use Rattle.flat_core.proofs.Induction.{world_event, in_runs}
 
-not_runnable : (s : OpState) → list_any (λ a. op_number a == op_number s) (op.Initialized ∷ []) ≡ true → s ≡ op.Runnable → ⊥
-not_runnable op.Runnable h e = cc
-not_runnable _ h e = cc
+abbrev IsOneOf : List OpState → OpState → Type 0
+IsOneOf ops s = list_any (λ a. op_number a == op_number s) ops ≡ true
+
+not_built : (s : OpState) → IsOneOf (op.Initialized ∷ []) s → IsOneOf built_here_ops s → ⊥
+not_built op.Initialized h e = cc
+not_built _ h e = cc
+
+built_here : (s : OpState) → IsOneOf abortable_ops s → IsOneOf built_here_ops s
+built_here op.LiveExport h = refl
+built_here op.PausedExport h = refl
+built_here _ h = cc
+
+abortable : (s : OpState) → IsOneOf live_ops s → IsOneOf abortable_ops s
+abortable op.LiveExport h = refl
+abortable _ h = cc
 
 -- a TD that is still built measures
-measure_digested : (m : Machine) (w : World) (t : ℕ) (records : List ℕ) → list_any (λ a. op_number a == op_number (w.tds.ops t)) (op.Initialized ∷ []) ≡ true → AreMrtdsDigests m w → AreMrtdsDigests m (measure t records w)
+measure_digested : (m : Machine) (w : World) (t : ℕ) (records : List ℕ) → IsOneOf (op.Initialized ∷ []) (w.tds.ops t) → AreMrtdsDigests m w → AreMrtdsDigests m (measure t records w)
 measure_digested m w t records begun h x r = by_test (x == t)
-    (λ y. absurd (not_runnable (w.tds.ops t) begun (ap w.tds.ops (sym (eqb-true x t y)) ∙ r)))
+    (λ y. absurd (not_built (w.tds.ops t) begun (subst (λ (z : ℕ). IsOneOf built_here_ops (w.tds.ops z)) (eqb-true x t y) r)))
     (λ n. rw n (h x r))
+
+-- a TD that was built goes into another of its states
+changed_digested : (m : Machine) (w : World) (t : ℕ) (s : OpState) → IsOneOf built_here_ops (w.tds.ops t) → AreMrtdsDigests m w → AreMrtdsDigests m (set_op t s w)
+changed_digested m w t s built h x r = by_test (x == t)
+    (λ y. h x (subst (λ (z : ℕ). IsOneOf built_here_ops (w.tds.ops z)) (sym (eqb-true x t y)) built))
+    (λ n. h x (rw n at r))
 
 row_digested : (o : Opening) (me : ℕ) (c : Call) (w : World) → AreMrtdsDigests o.machine w → Passes ((row_of o me c).items w) → AreMrtdsDigests o.machine ((row_of o me c).act w)
 row_digested o me (call.MngCreate t k) w h ps x r = by_test (x == t)
-    (λ y. absurd (let no : op.Uninitialized ≡ op.Runnable = rw y at r in cc))
+    (λ y. absurd (let no : false ≡ true = rw y at r in cc))
     (λ n. rw n (h x (rw n at r)))
 row_digested o me (call.MngInit t) w h ps x r = by_test (x == t)
-    (λ y. absurd (let no : op.Initialized ≡ op.Runnable = rw y at r in cc))
+    (λ y. absurd (let no : false ≡ true = rw y at r in cc))
     (λ n. rw n (h x (rw n at r)))
 row_digested o me (call.MrFinalize t) w h ps x r = by_test (x == t)
     (λ y. subst (λ (z : ℕ). (read_td o.machine z Mrtd).value ((finalize o.machine t).act w) ≡ value.Digest (sha384 (w.tds.measured z))) (sym (eqb-true x t y)) (mrtd_is_the_digest o.machine w t))
     (λ n. rw n (h x (rw n at r)))
 row_digested o me (call.MemPageAdd t gpa page source) w h ps x r = measure_digested o.machine w t _ ps.1.1.1.1.1.1.1.1.1.1.1.0 h x r
 row_digested o me (call.MrExtend t gpa) w h ps x r = measure_digested o.machine w t _ ps.1.1.1.1.1.1.0 h x r
+row_digested o me (call.ExportPause t) w h ps x r = changed_digested o.machine w t op.PausedExport (built_here (w.tds.ops t) (abortable (w.tds.ops t) ps.1.1.1.1.0)) h x r
+row_digested o me (call.ExportAbort t) w h ps x r = changed_digested o.machine w t op.Runnable (built_here (w.tds.ops t) ps.1.1.1.1.0) h x r
 row_digested o me _ w h ps x r = h x r
 
 reach_digested : (m : Machine) (t v : ℕ) (access : Access) (r gpa page : ℕ) (w : World) → AreMrtdsDigests m w → AreMrtdsDigests m (reach t v access r gpa page w)
@@ -75,7 +97,7 @@ operation_digested o t v line op row w e h ps =
 
 pub mrtds_kept : MrtdsAreKept
 mrtds_kept = record {
-  start = λ o ws t r. absurd (let no : op.Uninitialized ≡ op.Runnable = r in cc);
+  start = λ o ws t r. absurd (let no : false ≡ true = r in cc);
   event = λ o bundles s p h. world_event (with_bundles o bundles) (AreMrtdsDigests o.machine)
       (row_digested (with_bundles o bundles))
       (operation_digested (with_bundles o bundles))

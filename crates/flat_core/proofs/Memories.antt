@@ -23,11 +23,12 @@ use Rattle.flat_core.specs.Opening.{Opening, Incoming}
 use Rattle.flat_core.specs.Row.{OperationRow, Passes}
 use Rattle.flat_core.specs.Conditions.{is_host, host_page, page_exclusive}
 use Rattle.flat_core.specs.Tree.{page_of_gpa, word_of_gpa, number_at, entry_at, same_state, state_in, empty_below}
-use Rattle.flat_core.specs.Effects.{put_in, stored_in, pass_operation, tell_words, set_word, set_page, clear_page, take_node, take_page, give_back, map_page, add_control, add_vp, measure, set_life, set_state, set_entry, unmap_page, begin_memory, end_memory, end_memory_in}
+use Rattle.flat_core.specs.Effects.{put_in, stored_in, pass_operation, tell_words, set_word, set_page, clear_page, take_node, take_page, give_back, map_page, add_control, add_vp, measure, set_life, set_entry, unmap_page, begin_memory, end_memory, end_memory_in}
 use Rattle.flat_core.specs.TdRows.{create}
 use Rattle.flat_core.specs.Tracking.{tracked_page}
 use Rattle.flat_core.specs.KeyRows.{reclaim_conditions}
 use Rattle.flat_core.specs.MemRows.{open_states, blocked_states, removed_states}
+use Rattle.flat_core.specs.ExportRows.{add_stream, live_ops, write_blocked, write_blocked_states, write_unblocked, restoring_ops, restored_states}
 use Rattle.flat_core.specs.Table.{row_of}
 use Rattle.flat_core.specs.Guest.{ByRow, operation_of, shared_page, register_told, shared_store, is_pending_at, accept_page, reach, word_reached}
 use Rattle.flat_core.specs.Event.{State, Event, Reaches, next_event, after_event, event}
@@ -38,7 +39,7 @@ use Rattle.flat_core.specs.AccessLaw.{IsGuarded, MemoriesAreKept, known_word, Lo
 use Rattle.flat_core.proofs.Tests.{by_test, host_kind, tdr_kind, range_of, same_self}
 use Rattle.flat_core.proofs.Maps.{walk_passed}
 use Rattle.flat_core.proofs.EntryStates.{entry_set}
-use Rattle.flat_core.proofs.Ranges.{named_passed, named_alive, Restates, block_restates, unblock_restates, page_removed, sept_removed}
+use Rattle.flat_core.proofs.Ranges.{named_passed, named_alive, opened_passed, write_passed, block_restates, unblock_restates, write_remarks, unwrite_remarks, restored, page_removed, sept_removed}
 use Rattle.flat_core.proofs.Removals.{empty_at, other_entry}
 use Rattle.flat_core.proofs.Parts.{IsLive}
 use Rattle.flat_core.proofs.Keeps.{live_of, ended_of, free_of}
@@ -174,14 +175,14 @@ module _ (m : Machine) (w : World) (l : Lawful m w) (h : ArePagesKnown w) where
       (λ z. known_beside v q x n host before (λ p e. refl) refl (rw (y, z) (ap (λ (z : ℕ). w.tds.entries z 0 n) (sym (eqb-true x t y))))))
       (λ y. known_beside v q x n host before (λ p e. refl) refl (rw y refl))
 
-  -- MEM.RANGE.BLOCK and MEM.RANGE.UNBLOCK: the page holds the guest's memory as before
-  restated_known : (t level number : ℕ) (s : EntryState) → Restates (w.tds.entries t level number).state s → (x n : ℕ) → IsAlive w.pages w.tds x
-      → w.hidden.memories x n ≡ memory_of ((set_state t level number s w).tds.entries x 0 n) w.words
-  restated_known t level number s r x n a =
+  -- an entry's state changes, and its page holds the guest's memory as before
+  restated_known : (t level number : ℕ) (s : EntryState) (mark : ℕ) → holds_memory s ≡ holds_memory (w.tds.entries t level number).state → (x n : ℕ) → IsAlive w.pages w.tds x
+      → w.hidden.memories x n ≡ memory_of ((set_entry t level number (record { state = s; page = (w.tds.entries t level number).page; mark = mark }) w).tds.entries x 0 n) w.words
+  restated_known t level number s mark same x n a =
       let was : Entry = w.tds.entries t level number in
-      entry_set w t level number (record { state = s; page = was.page; mark = 0 }) (λ e. w.hidden.memories x n ≡ memory_of e w.words) x 0 n
+      entry_set w t level number (record { state = s; page = was.page; mark = mark }) (λ e. w.hidden.memories x n ≡ memory_of e w.words) x 0 n
       (λ i j k. let at : w.tds.entries x 0 n ≡ was = ap (λ (z : ℕ). w.tds.entries z 0 n) i ∙ (ap (λ (z : ℕ). w.tds.entries t z n) j ∙ ap (λ (z : ℕ). w.tds.entries t level z) k) in
-      h x n a ∙ (ap (λ (e : Entry). memory_of e w.words) at ∙ ap (λ (b : Bool). if b then Some (w.words was.page) else None) (sym r.same_memory)))
+      h x n a ∙ (ap (λ (e : Entry). memory_of e w.words) at ∙ ap (λ (b : Bool). if b then Some (w.words was.page) else None) (sym same)))
       (λ apart. h x n a)
 
   -- MEM.PAGE.REMOVE and MEM.SEPT.REMOVE: where the page was a private one, its memory ends
@@ -246,10 +247,22 @@ row_known o me (call.MemSeptRemove t gpa level) w l h ps x n a =
     x n (alive_before o.machine w l h (entry_at w t level gpa).page kind.Nda 0 0 0 (λ e. cc) v.tds refl x a)
 row_known o me (call.MemRangeBlock t gpa level) w l h ps x n a =
     let q = named_passed w t gpa level open_states [] ps.1.1.1.1 in
-    restated_known o.machine w l h t level (number_at level gpa) _ (block_restates (entry_at w t level gpa).state q.state) x n (record { kind = a.kind; life = a.life })
+    restated_known o.machine w l h t level (number_at level gpa) _ 0 (block_restates (entry_at w t level gpa).state q.state).same_memory x n (record { kind = a.kind; life = a.life })
 row_known o me (call.MemRangeUnblock t gpa level) w l h ps x n a =
     let q = named_passed w t gpa level blocked_states (tracked_page w t (entry_at w t level gpa).page ∷ []) ps.1.1.1.1 in
-    restated_known o.machine w l h t level (number_at level gpa) _ (unblock_restates (entry_at w t level gpa).state q.state) x n (record { kind = a.kind; life = a.life })
+    restated_known o.machine w l h t level (number_at level gpa) _ 0 (unblock_restates (entry_at w t level gpa).state q.state).same_memory x n (record { kind = a.kind; life = a.life })
+row_known o me (call.MigStreamCreate t page) w l h ps x n a =
+    let v : World = add_stream t page (clear_page page (take_page page kind.Migsc t w)) in
+    known_beside o.machine w l h v page x n (host_kind _ ps.1.1.1.1.1.1.1.1.0) (alive_before o.machine w l h page kind.Migsc t 0 0 (λ e. cc) v.tds refl x a) (λ p e. rw e refl) refl refl
+row_known o me (call.ExportBlockw t gpa) w l h ps x n a =
+    let e : Entry = entry_at w t 0 gpa in
+    restated_known o.machine w l h t 0 (number_at 0 gpa) (write_blocked e.state) e.mark (write_remarks e.state (write_passed o.machine w t gpa ps).state).same_memory x n (record { kind = a.kind; life = a.life })
+row_known o me (call.ExportUnblockw t gpa) w l h ps x n a =
+    let e : Entry = entry_at w t 0 gpa in
+    restated_known o.machine w l h t 0 (number_at 0 gpa) (write_unblocked e.state) e.mark (unwrite_remarks e.state (opened_passed w t gpa live_ops write_blocked_states ps.1.1.1).state).same_memory x n (record { kind = a.kind; life = a.life })
+row_known o me (call.ExportRestore t gpa) w l h ps x n a =
+    let p = opened_passed w t gpa restoring_ops restored_states ps.1.1.1 in
+    restated_known o.machine w l h t 0 (number_at 0 gpa) entry.Mapped 0 (restored (entry_at w t 0 gpa).state p.state).same_memory x n (record { kind = a.kind; life = a.life })
 row_known o me _ w l h ps x n a = h x n (record { kind = a.kind; life = a.life })
 
 -- what a store puts into one page changes, of what guests know, that page's word alone

@@ -58,6 +58,8 @@ one_use o me (call.MemPageAug t gpa page) w p ps owned stays =
 one_use o me (call.MemPageRemove t gpa) w p ps owned stays = other_taken w (entry_at w t 0 gpa).page _ 0 0 0 p stays
 one_use o me (call.MemSeptRemove t gpa level) w p ps owned stays = other_taken w (entry_at w t level gpa).page _ 0 0 0 p stays
 one_use o me (call.MemRangeBlock t gpa level) w p ps owned stays = record { kind = refl; owner = refl; level = refl; number = refl }
+one_use o me (call.MigStreamCreate t page) w p ps owned stays = host_taken w page _ t 0 0 p ps.1.1.1.1.1.1.1.1.0 owned
+one_use o me (call.ExportBlockw t gpa) w p ps owned stays = record { kind = refl; owner = refl; level = refl; number = refl }
 one_use o me _ w p ps owned stays = same_use w.pages p
 
 -- through events

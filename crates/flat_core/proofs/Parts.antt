@@ -17,10 +17,10 @@ use Rattle.flat_core.specs.Locks.{one_if}
 use Rattle.flat_core.specs.Conditions.{same_kind, is_host_in, owned_below}
 use Rattle.flat_core.specs.Exports.{is_page_where}
 use Rattle.flat_core.specs.Effects.{take_node, give_back, set_key, set_life, set_op, set_epoch, add_control, add_vp, begin_measurement, measure, end_measurement, write_back, written_back}
-use Rattle.flat_core.specs.Lawful.{IsAlive, IsPageOf, IsNodeOf, AreControls, ArePagesOf, all_differ, LawfulPages, LawfulTds, IsListed, LawfulLists, LawfulTree, LawfulKeys, LawfulBeginnings, LawfulCounts, Lawful, IsNew, is_node, is_free, is_named_kind, key_owner, is_flushed}
+use Rattle.flat_core.specs.Lawful.{IsAlive, IsPageOf, IsNodeOf, AreControls, ArePagesOf, all_differ, LawfulPages, LawfulTds, IsListed, LawfulLists, LawfulTree, LawfulKeys, LawfulBeginnings, LawfulCounts, LawfulStreams, LawfulSessions, Lawful, IsNew, is_node, is_free, is_named_kind, key_owner, is_flushed, is_exporting}
 use Rattle.flat_core.proofs.Tests.{by_test, some_same, same_self}
 use Rattle.flat_core.proofs.Pages.{node_kept, controls_kept, pages_kept, taken, other, taken_node, taken_controls, taken_list, taken_pages}
-use Rattle.flat_core.proofs.Exports.{IsOfExported, counts_kept, taken_where}
+use Rattle.flat_core.proofs.Exports.{IsOfExported, tallies, counts_kept, taken_where}
 
 -- a life that isn't at its end
 abbrev pub IsLive : LifeState → Type 0
@@ -43,9 +43,24 @@ untouched m w v e l = record {
   keys = subst (λ (x : Looked). LawfulKeys m.hkids x.1 x.2 x.4) e l.keys;
   beginnings = subst (λ (x : Looked). LawfulBeginnings x.1 x.2 x.5) e l.beginnings;
   counts = subst (λ (x : Looked). LawfulCounts m.pages x.1 x.2 x.6) e l.counts;
+  streams = subst (λ (x : Looked). LawfulStreams x.6) e l.streams;
+  sessions = subst (λ (x : Looked). LawfulSessions x.2 x.4) e l.sessions;
 }
 
--- what pages, map, HKIDs and counts say of TDs
+-- what is said of one TD's session, which no change of other things touches
+abbrev pub HasSession : Tds → ℕ → Type 0
+HasSession tds t = (tds.sessions t < 2 ^ 16) × (tds.mig_epochs t < 2 ^ 32) × (is_exporting (tds.ops t) ≡ true → (1 ≤ tds.mig_epochs t) × (1 ≤ length (tds.streams t)))
+
+pub sessions_of : (tds : Tds) (table : KeyTable) → table.last_exported < 2 ^ 16 → ((x : ℕ) → HasSession tds x) → LawfulSessions tds table
+sessions_of tds table last h = record { last_exported = last; session = λ x. (h x).0; mig_epoch = λ x. (h x).1; mig_epoch_begun = λ x e. ((h x).2 e).0; first_stream = λ x e. ((h x).2 e).1 }
+
+pub session_at : (tds : Tds) (table : KeyTable) → LawfulSessions tds table → (x : ℕ) → HasSession tds x
+session_at tds table l x = (l.session x, l.mig_epoch x, λ e. (l.mig_epoch_begun x e, l.first_stream x e))
+
+pub sessions_kept : (tds tds' : Tds) (table table' : KeyTable) → table.last_exported ≡ table'.last_exported → ((x : ℕ) → HasSession tds x → HasSession tds' x) → LawfulSessions tds table → LawfulSessions tds' table'
+sessions_kept tds tds' table table' last h l = sessions_of tds' table' (subst (λ (n : ℕ). n < 2 ^ 16) last l.last_exported) (λ x. h x (session_at tds table l x))
+
+-- what pages, map and HKIDs say of TDs
 pub record SameShape (tds tds' : Tds) : Type 0 where
   pub hkids : tds'.hkids ≡ tds.hkids
   pub controls : tds'.controls ≡ tds.controls
@@ -53,8 +68,6 @@ pub record SameShape (tds tds' : Tds) : Type 0 where
   pub vps : tds'.vps ≡ tds.vps
   pub vps_expected : tds'.vps_expected ≡ tds.vps_expected
   pub streams : tds'.streams ≡ tds.streams
-  pub dirtied : tds'.dirtied ≡ tds.dirtied
-  pub unrestored : tds'.unrestored ≡ tds.unrestored
 
 -- what of a TD stands as it began
 pub record Facts : Type 0 where
@@ -162,9 +175,8 @@ module _ (pages : Pages) (tds tds' : Tds) (back : (x : ℕ) → IsAlive pages td
         new_kept tds tds' r r' x (e x n') (l.is_new x (back x a) n'));
   }
 
-  pub shape_counts : (count : ℕ) (streams : Streams) → SameShape tds tds' → LawfulCounts count pages tds streams → LawfulCounts count pages tds' streams
-  shape_counts count streams same l = counts_kept count pages pages tds tds' streams back (λ x. rw (same.dirtied, same.unrestored, same.streams) refl)
-      (λ x a f of p. ap (λ (e : ℕ → ℕ → ℕ → Entry). is_page_where f pages x (e x 0) p) same.entries) l
+  pub shape_counts : (count : ℕ) (streams : Streams) → ((x : ℕ) → tallies tds' x ≡ tallies tds x) → tds'.entries ≡ tds.entries → LawfulCounts count pages tds streams → LawfulCounts count pages tds' streams
+  shape_counts count streams same entries l = counts_kept count pages pages tds tds' streams back same (λ x a f of p. ap (λ (e : ℕ → ℕ → ℕ → Entry). is_page_where f pages x (e x 0) p) entries) l
 
 -- a TD with its two TDCX pages isn't one without
 pub built_other : (controls : ℕ → List ℕ) (t x : ℕ) → (length (controls t) == 2) ≡ true → (length (controls x) == 2) ≡ false → (x == t) ≡ false
@@ -184,6 +196,8 @@ write_back_kept m w l = record {
       (λ x a. same_flush (w.key_table.keys (w.tds.hkids x)) ∙ l.keys.flushed x a) l.keys;
   beginnings = l.beginnings;
   counts = l.counts;
+  streams = l.streams;
+  sessions = sessions_kept w.tds w.tds w.key_table (write_back w).key_table refl (λ x h. h) l.sessions;
 }
   where
     same_owner : (k : Key) → key_owner (written_back k) ≡ key_owner k
@@ -217,7 +231,7 @@ module _ (m : Machine) (w : World) (t : ℕ) (s : LifeState) (alive : IsAlive w.
       → ((x : ℕ) → IsAlive w.pages lived x → is_flushed (keys (w.tds.hkids x)) ≡ (life_number (lived.lives x) == life_number life.Blocked))
       → Lawful m (record w { tds = lived; key_table = record (w.key_table) { keys = keys } })
   lived_kept keys owner flushed =
-      let same : SameShape w.tds lived = record { hkids = refl; controls = refl; entries = refl; vps = refl; vps_expected = refl; streams = refl; dirtied = refl; unrestored = refl } in
+      let same : SameShape w.tds lived = record { hkids = refl; controls = refl; entries = refl; vps = refl; vps_expected = refl; streams = refl } in
       record {
         size = l.size;
         pages = l.pages;
@@ -226,7 +240,9 @@ module _ (m : Machine) (w : World) (t : ℕ) (s : LifeState) (alive : IsAlive w.
         tree = shape_tree w.pages w.tds lived lived_back m.pages refl l.tree;
         keys = shape_keys w.pages w.tds lived lived_back refl m.hkids w.key_table (record (w.key_table) { keys = keys }) lived_forth owner flushed l.keys;
         beginnings = shape_beginnings w.pages w.tds lived lived_back refl w.hidden.rtmrs w.hidden.rtmrs (λ x n. refl) l.beginnings;
-        counts = shape_counts w.pages w.tds lived lived_back m.pages w.streams same l.counts;
+        counts = shape_counts w.pages w.tds lived lived_back m.pages w.streams (λ x. refl) refl l.counts;
+        streams = l.streams;
+        sessions = sessions_kept w.tds lived w.key_table (record (w.key_table) { keys = keys }) refl (λ x h. h) l.sessions;
       }
 
   -- its HKID stays flushed, or unflushed
@@ -246,45 +262,59 @@ module _ (m : Machine) (w : World) (t : ℕ) (s : LifeState) (alive : IsAlive w.
 
 -- a TD that has its two TDCX pages, and keeps its pages, map and life
 module _ (m : Machine) (w : World) (t : ℕ) (built : (length (w.tds.controls t) == 2) ≡ true) (l : Lawful m w) where
-  pub built_kept : (tds' : Tds) → SameShape w.tds tds' → tds'.lives ≡ w.tds.lives → ((x : ℕ) → tds'.epochs x < 2 ^ 32) → ((x : ℕ) → tds'.ops x ≢ Uninitialized → 1 ≤ tds'.epochs x)
-      → ((x : ℕ) → (x == t) ≡ false → facts tds' w.hidden.rtmrs x ≡ facts w.tds w.hidden.rtmrs x) → Lawful m (record w { tds = tds' })
-  built_kept tds' same lives small begun e = record {
+  lives_back : (tds' : Tds) → tds'.lives ≡ w.tds.lives → (x : ℕ) → IsAlive w.pages tds' x → IsAlive w.pages w.tds x
+  lives_back tds' lives x a = record { kind = a.kind; life = subst (λ (f : ℕ → LifeState). IsLive (f x)) lives a.life }
+
+  lives_forth : (tds' : Tds) → tds'.lives ≡ w.tds.lives → (x : ℕ) → IsAlive w.pages w.tds x → IsAlive w.pages tds' x
+  lives_forth tds' lives x a = record { kind = a.kind; life = subst (λ (f : ℕ → LifeState). IsLive (f x)) (sym lives) a.life }
+
+  -- all else of it may change, with the streams and the number of the last session
+  pub session_kept : (tds' : Tds) (streams : Streams) (last : ℕ) → SameShape w.tds tds' → tds'.lives ≡ w.tds.lives → ((x : ℕ) → tds'.epochs x < 2 ^ 32) → ((x : ℕ) → tds'.ops x ≢ Uninitialized → 1 ≤ tds'.epochs x)
+      → ((x : ℕ) → (x == t) ≡ false → facts tds' w.hidden.rtmrs x ≡ facts w.tds w.hidden.rtmrs x) → LawfulCounts m.pages w.pages tds' streams → LawfulStreams streams
+      → LawfulSessions tds' (record (w.key_table) { last_exported = last }) → Lawful m (record w { tds = tds'; streams = streams; key_table = record (w.key_table) { last_exported = last } })
+  session_kept tds' streams last same lives small begun e counts counters sessions = record {
     size = l.size;
     pages = l.pages;
     tds = shape_tds w.pages w.tds tds' back same small begun l.tds;
     lists = shape_lists w.pages w.tds tds' back w.vps.indexes same l.lists;
     tree = shape_tree w.pages w.tds tds' back m.pages same.entries l.tree;
-    keys = shape_keys w.pages w.tds tds' back same.hkids m.hkids w.key_table w.key_table forth (λ h. refl)
+    keys = shape_keys w.pages w.tds tds' back same.hkids m.hkids w.key_table (record (w.key_table) { last_exported = last }) (lives_forth tds' lives) (λ h. refl)
         (λ x a. subst (λ (f : ℕ → LifeState). is_flushed (w.key_table.keys (w.tds.hkids x)) ≡ (life_number (f x) == life_number life.Blocked)) (sym lives) (l.keys.flushed x (back x a))) l.keys;
     beginnings = shape_beginnings w.pages w.tds tds' back same.controls w.hidden.rtmrs w.hidden.rtmrs (λ x n. e x (built_other w.tds.controls t x built n)) l.beginnings;
-    counts = shape_counts w.pages w.tds tds' back m.pages w.streams same l.counts;
+    counts = counts;
+    streams = counters;
+    sessions = sessions;
   }
     where
       back : (x : ℕ) → IsAlive w.pages tds' x → IsAlive w.pages w.tds x
-      back x a = record { kind = a.kind; life = subst (λ (f : ℕ → LifeState). IsLive (f x)) lives a.life }
+      back = lives_back tds' lives
 
-      forth : (x : ℕ) → IsAlive w.pages w.tds x → IsAlive w.pages tds' x
-      forth x a = record { kind = a.kind; life = subst (λ (f : ℕ → LifeState). IsLive (f x)) (sym lives) a.life }
+  pub built_kept : (tds' : Tds) → SameShape w.tds tds' → ((x : ℕ) → tallies tds' x ≡ tallies w.tds x) → tds'.lives ≡ w.tds.lives → ((x : ℕ) → tds'.epochs x < 2 ^ 32) → ((x : ℕ) → tds'.ops x ≢ Uninitialized → 1 ≤ tds'.epochs x)
+      → ((x : ℕ) → (x == t) ≡ false → facts tds' w.hidden.rtmrs x ≡ facts w.tds w.hidden.rtmrs x) → ((x : ℕ) → HasSession w.tds x → HasSession tds' x) → Lawful m (record w { tds = tds' })
+  built_kept tds' same many lives small begun e session =
+      session_kept tds' w.streams w.key_table.last_exported same lives small begun e (shape_counts w.pages w.tds tds' (lives_back tds' lives) m.pages w.streams many same.entries l.counts) l.streams
+      (sessions_kept w.tds tds' w.key_table w.key_table refl session l.sessions)
 
-  abbrev same_shape : (tds' : Tds) → tds'.hkids ≡ w.tds.hkids → tds'.controls ≡ w.tds.controls → tds'.entries ≡ w.tds.entries → tds'.vps ≡ w.tds.vps → tds'.vps_expected ≡ w.tds.vps_expected → tds'.streams ≡ w.tds.streams → tds'.dirtied ≡ w.tds.dirtied → tds'.unrestored ≡ w.tds.unrestored → SameShape w.tds tds'
-  same_shape tds' a b c d e f g h = record { hkids = a; controls = b; entries = c; vps = d; vps_expected = e; streams = f; dirtied = g; unrestored = h }
+  abbrev pub same_shape : (tds' : Tds) → tds'.hkids ≡ w.tds.hkids → tds'.controls ≡ w.tds.controls → tds'.entries ≡ w.tds.entries → tds'.vps ≡ w.tds.vps → tds'.vps_expected ≡ w.tds.vps_expected → tds'.streams ≡ w.tds.streams → SameShape w.tds tds'
+  same_shape tds' a b c d e f = record { hkids = a; controls = b; entries = c; vps = d; vps_expected = e; streams = f }
 
-  pub op_kept : (s : OpState) → 1 ≤ w.tds.epochs t → Lawful m (set_op t s w)
-  op_kept s begun = built_kept (record (w.tds) { ops = put w.tds.ops t s }) (same_shape _ refl refl refl refl refl refl refl refl) refl l.tds.epoch
+  pub op_kept : (s : OpState) → 1 ≤ w.tds.epochs t → (is_exporting s ≡ true → (1 ≤ w.tds.mig_epochs t) × (1 ≤ length (w.tds.streams t))) → Lawful m (set_op t s w)
+  op_kept s begun exports = built_kept (record (w.tds) { ops = put w.tds.ops t s }) (same_shape _ refl refl refl refl refl refl) (λ x. refl) refl l.tds.epoch
       (λ x. by_test (x == t) (λ y n. subst (λ (z : ℕ). 1 ≤ w.tds.epochs z) (sym (eqb-true x t y)) begun) (λ y n. l.tds.epoch_begun x (rw y at n))) (λ x n. rw n refl)
+      (λ x h. by_test (x == t) (λ y. (let same : x ≡ t = eqb-true x t y in rw y (h.0, h.1, rw same exports))) (λ n. rw n h))
 
   pub epoch_kept : (e : ℕ) → 1 ≤ e → e < 2 ^ 32 → Lawful m (set_epoch t e w)
-  epoch_kept e begun small = built_kept (record (w.tds) { epochs = put w.tds.epochs t e }) (same_shape _ refl refl refl refl refl refl refl refl) refl
-      (λ x. by_test (x == t) (λ y. rw y small) (λ n. rw n (l.tds.epoch x))) (λ x n. by_test (x == t) (λ y. rw y begun) (λ y. rw y (l.tds.epoch_begun x n))) (λ x n. rw n refl)
+  epoch_kept e begun small = built_kept (record (w.tds) { epochs = put w.tds.epochs t e }) (same_shape _ refl refl refl refl refl refl) (λ x. refl) refl
+      (λ x. by_test (x == t) (λ y. rw y small) (λ n. rw n (l.tds.epoch x))) (λ x n. by_test (x == t) (λ y. rw y begun) (λ y. rw y (l.tds.epoch_begun x n))) (λ x n. rw n refl) (λ x h. h)
 
   pub begin_kept : Lawful m (begin_measurement t w)
-  begin_kept = built_kept (record (w.tds) { measured = put w.tds.measured t [] }) (same_shape _ refl refl refl refl refl refl refl refl) refl l.tds.epoch l.tds.epoch_begun (λ x n. refl)
+  begin_kept = built_kept (record (w.tds) { measured = put w.tds.measured t [] }) (same_shape _ refl refl refl refl refl refl) (λ x. refl) refl l.tds.epoch l.tds.epoch_begun (λ x n. refl) (λ x h. h)
 
   pub measure_kept : (records : List ℕ) → Lawful m (measure t records w)
-  measure_kept records = built_kept (measure t records w).tds (same_shape _ refl refl refl refl refl refl refl refl) refl l.tds.epoch l.tds.epoch_begun (λ x n. refl)
+  measure_kept records = built_kept (measure t records w).tds (same_shape _ refl refl refl refl refl refl) (λ x. refl) refl l.tds.epoch l.tds.epoch_begun (λ x n. refl) (λ x h. h)
 
   pub end_kept : Lawful m (end_measurement t w)
-  end_kept = built_kept (end_measurement t w).tds (same_shape _ refl refl refl refl refl refl refl refl) refl l.tds.epoch l.tds.epoch_begun (λ x n. rw n refl)
+  end_kept = built_kept (end_measurement t w).tds (same_shape _ refl refl refl refl refl refl) (λ x. refl) refl l.tds.epoch l.tds.epoch_begun (λ x n. rw n refl) (λ x h. h)
 
 -- what every world keeps, but that this page is in its TD's list
 pub record LawfulBut (m : Machine) (w : World) (p : ℕ) : Type 0 where
@@ -299,6 +329,8 @@ pub record LawfulBut (m : Machine) (w : World) (p : ℕ) : Type 0 where
   pub keys : LawfulKeys m.hkids w.pages w.tds w.key_table
   pub beginnings : LawfulBeginnings w.pages w.tds w.hidden.rtmrs
   pub counts : LawfulCounts m.pages w.pages w.tds w.streams
+  pub streams : LawfulStreams w.streams
+  pub sessions : LawfulSessions w.tds w.key_table
 
 -- a list that a page is added to
 among_more : (q p : ℕ) (ps : List ℕ) → list_any (λ x. x == q) ps ≡ true → list_any (λ x. x == q) (ps ++ p ∷ []) ≡ true
@@ -308,6 +340,23 @@ among_more q p (x ∷ xs) h = by_test (x == q) (λ y. rw y refl) (λ y. rw y (am
 among_last : (q : ℕ) (ps : List ℕ) → list_any (λ x. x == q) (ps ++ q ∷ []) ≡ true
 among_last q [] = rw (same_self q) refl
 among_last q (x ∷ xs) = by_test (x == q) (λ y. rw y refl) (λ y. rw y (among_last q xs))
+
+-- pages of a TD, with one more of that kind; and a list where no page comes twice, with a page that it hasn't
+pub more_pages : (pages : Pages) (t p : ℕ) (k : PageKind) → IsPageOf pages t p k → (ps : List ℕ) → ArePagesOf pages t k ps → ArePagesOf pages t k (ps ++ p ∷ [])
+more_pages pages t p k page [] h = (page, tt)
+more_pages pages t p k page (q ∷ qs) h = (h.0, more_pages pages t p k page qs h.1)
+
+not_among : (p q : ℕ) (ps : List ℕ) → (p == q) ≡ false → list_any (λ x. x == q) ps ≡ false → list_any (λ x. x == q) (ps ++ p ∷ []) ≡ false
+not_among p q [] n h = rw n refl
+not_among p q (x ∷ xs) n h = by_test (x == q) (λ y. absurd (let no : true ≡ false = rw y at h in cc)) (λ y. rw y (not_among p q xs n (rw y at h)))
+
+pub all_differ_more : (p : ℕ) (ps : List ℕ) → list_any (λ q. q == p) ps ≡ false → all_differ ps ≡ true → all_differ (ps ++ p ∷ []) ≡ true
+all_differ_more p [] h d = refl
+all_differ_more p (q ∷ qs) h d = by_test (q == p)
+    (λ y. absurd (let no : true ≡ false = rw y at h in cc))
+    (λ y. (let rest : list_any (λ x. x == p) qs ≡ false = rw y at h in
+    let apart' : (p == q) ≡ false = ne_eqb p q (λ e. absurd (let no : true ≡ false = sym (eq-eqb q p (sym e)) ∙ y in cc)) in
+    rw (not_among p q qs apart' (not-true _ (and_parts (not (list_any (λ x. x == q) qs)) (all_differ qs) d).0), all_differ_more p qs rest (and_parts (not (list_any (λ x. x == q) qs)) (all_differ qs) d).1) refl))
 
 -- a page of a TD is added to its list
 module _ (pages : Pages) (tds tds' : Tds) (back : (x : ℕ) → IsAlive pages tds' x → IsAlive pages tds x) (t p : ℕ) (k : PageKind) (page : IsPageOf pages t p k) where
@@ -373,6 +422,8 @@ module _ (m : Machine) (w : World) (t p : ℕ) (l : LawfulBut m w p) (page : IsP
           (by_test (x == t) (λ y. let same : x ≡ t = eqb-true x t y in rw same (not_two (w.tds.controls t) room)) (λ y. rw y at n)));
     };
     counts = counts_kept m.pages w.pages w.pages w.tds with_control w.streams control_back (λ x. refl) (λ x a f of q. refl) l.counts;
+    streams = l.streams;
+    sessions = sessions_kept w.tds with_control w.key_table w.key_table refl (λ x h. h) l.sessions;
   }
 
 pub page_at : (pages : Pages) (t : ℕ) (k : PageKind) (ps : List ℕ) (i q : ℕ) → ArePagesOf pages t k ps → slice_get ps i ≡ Some q → IsPageOf pages t q k
@@ -387,22 +438,6 @@ module _ (m : Machine) (w : World) (t p : ℕ) (l : LawfulBut m w p) (page : IsP
 
   vp_back : (x : ℕ) → IsAlive w.pages with_vp x → IsAlive w.pages w.tds x
   vp_back x a = record { kind = a.kind; life = a.life }
-
-  more_pages : (ps : List ℕ) → ArePagesOf w.pages t kind.Tdvpr ps → ArePagesOf w.pages t kind.Tdvpr (ps ++ p ∷ [])
-  more_pages [] h = (page, tt)
-  more_pages (q ∷ qs) h = (h.0, more_pages qs h.1)
-
-  not_among : (q : ℕ) (ps : List ℕ) → (p == q) ≡ false → list_any (λ x. x == q) ps ≡ false → list_any (λ x. x == q) (ps ++ p ∷ []) ≡ false
-  not_among q [] n h = rw n refl
-  not_among q (x ∷ xs) n h = by_test (x == q) (λ y. absurd (let no : true ≡ false = rw y at h in cc)) (λ y. rw y (not_among q xs n (rw y at h)))
-
-  all_differ_more : (ps : List ℕ) → list_any (λ q. q == p) ps ≡ false → all_differ ps ≡ true → all_differ (ps ++ p ∷ []) ≡ true
-  all_differ_more [] h d = refl
-  all_differ_more (q ∷ qs) h d = by_test (q == p)
-      (λ y. absurd (let no : true ≡ false = rw y at h in cc))
-      (λ y. (let rest : list_any (λ x. x == p) qs ≡ false = rw y at h in
-      let apart' : (p == q) ≡ false = ne_eqb p q (λ e. absurd (let no : true ≡ false = sym (eq-eqb q p (sym e)) ∙ y in cc)) in
-      rw (not_among q qs apart' (not-true _ (and_parts (not (list_any (λ x. x == q) qs)) (all_differ qs) d).0), all_differ_more qs rest (and_parts (not (list_any (λ x. x == q) qs)) (all_differ qs) d).1) refl))
 
   -- the place of the one that is added, and of another one
   place_more : (ps : List ℕ) (i v : ℕ) → list_any (λ q. q == p) ps ≡ false → slice_get (ps ++ p ∷ []) i ≡ Some v → ((v ≡ p) × (i ≡ length ps)) ⊎ (((v == p) ≡ false) × (slice_get ps i ≡ Some v))
@@ -437,10 +472,10 @@ module _ (m : Machine) (w : World) (t p : ℕ) (l : LawfulBut m w p) (page : IsP
     tds = record {
       controls = λ x a. l.tds.controls x (vp_back x a);
       vps = λ x a. by_test (x == t)
-          (λ y. rw y (subst (λ (z : ℕ). ArePagesOf w.pages z kind.Tdvpr (w.tds.vps t ++ p ∷ [])) (sym (eqb-true x t y)) (more_pages (w.tds.vps t) (subst (λ (z : ℕ). ArePagesOf w.pages z kind.Tdvpr (w.tds.vps z)) (eqb-true x t y) (l.tds.vps x (vp_back x a))))))
+          (λ y. rw y (subst (λ (z : ℕ). ArePagesOf w.pages z kind.Tdvpr (w.tds.vps t ++ p ∷ [])) (sym (eqb-true x t y)) (more_pages w.pages t p kind.Tdvpr page (w.tds.vps t) (subst (λ (z : ℕ). ArePagesOf w.pages z kind.Tdvpr (w.tds.vps z)) (eqb-true x t y) (l.tds.vps x (vp_back x a))))))
           (λ n. rw n (l.tds.vps x (vp_back x a)));
       vps_few = λ x. by_test (x == t) (λ y. rw y (omega (arith, length-append (w.tds.vps t) (p ∷ [])))) (λ n. rw n (l.tds.vps_few x));
-      vps_differ = λ x. by_test (x == t) (λ y. rw y (all_differ_more (w.tds.vps t) apart (l.tds.vps_differ t))) (λ n. rw n (l.tds.vps_differ x));
+      vps_differ = λ x. by_test (x == t) (λ y. rw y (all_differ_more p (w.tds.vps t) apart (l.tds.vps_differ t))) (λ n. rw n (l.tds.vps_differ x));
       vps_expected = l.tds.vps_expected;
       streams = λ x a. l.tds.streams x (vp_back x a);
       streams_few = l.tds.streams_few;
@@ -461,6 +496,8 @@ module _ (m : Machine) (w : World) (t p : ℕ) (l : LawfulBut m w p) (page : IsP
     keys = shape_keys w.pages w.tds with_vp vp_back refl m.hkids w.key_table w.key_table (λ x a. record { kind = a.kind; life = a.life }) (λ h. refl) (λ x a. l.keys.flushed x (vp_back x a)) l.keys;
     beginnings = shape_beginnings w.pages w.tds with_vp vp_back refl w.hidden.rtmrs w.hidden.rtmrs (λ x n. rw (built_other w.tds.controls t x built n) refl) l.beginnings;
     counts = counts_kept m.pages w.pages w.pages w.tds with_vp w.streams vp_back (λ x. refl) (λ x a f of q. refl) l.counts;
+    streams = l.streams;
+    sessions = sessions_kept w.tds with_vp w.key_table w.key_table refl (λ x h. h) l.sessions;
   }
 
 not_private : (k : PageKind) → is_named_kind k ≡ false → same_kind k kind.Reg ≡ false
@@ -553,6 +590,8 @@ module _ (m : Machine) (w : World) (p : ℕ) (k : PageKind) (t level number : �
     beginnings = record { is_new = λ x a n. l.beginnings.is_new x (taken_back x a) n };
     counts = counts_kept m.pages w.pages now w.tds w.tds w.streams taken_back (λ x. refl)
         (λ x a f of. taken_where m.pages w.pages p k t level number host l.pages f x (w.tds.entries x 0) (w.tds.entries x 0) (λ n. refl) (and_left (same_kind k kind.Reg) _ (not_private k not_node))) l.counts;
+    streams = l.streams;
+    sessions = l.sessions;
   }
 
 -- a TD ends: its HKID is free
@@ -573,7 +612,7 @@ module _ (m : Machine) (w : World) (t : ℕ) (alive : IsAlive w.pages w.tds t) (
       (record { kind = o.0.kind; life = rw apart o.0.life }, o.1)
 
   same_ended : SameShape w.tds ended
-  same_ended = record { hkids = refl; controls = refl; entries = refl; vps = refl; vps_expected = refl; streams = refl; dirtied = refl; unrestored = refl }
+  same_ended = record { hkids = refl; controls = refl; entries = refl; vps = refl; vps_expected = refl; streams = refl }
 
   pub ended_kept : Lawful m (set_key (w.tds.hkids t) Unassigned (set_life t life.Teardown w))
   ended_kept = record {
@@ -589,7 +628,9 @@ module _ (m : Machine) (w : World) (t : ℕ) (alive : IsAlive w.pages w.tds t) (
       flushed = λ x a. rw (not_ended x a, own_hkid m w t x l alive (ended_back x a) (not_ended x a)) (l.keys.flushed x (ended_back x a));
     };
     beginnings = shape_beginnings w.pages w.tds ended ended_back refl w.hidden.rtmrs w.hidden.rtmrs (λ x n. refl) l.beginnings;
-    counts = shape_counts w.pages w.tds ended ended_back m.pages w.streams same_ended l.counts;
+    counts = shape_counts w.pages w.tds ended ended_back m.pages w.streams (λ x. refl) refl l.counts;
+    streams = l.streams;
+    sessions = sessions_kept w.tds ended w.key_table (set_key (w.tds.hkids t) Unassigned w).key_table refl (λ x h. h) l.sessions;
   }
 
 -- no child page is left
@@ -717,4 +758,6 @@ module _ (m : Machine) (w : World) (t p : ℕ) (l : Lawful m w) (root : w.pages.
     };
     beginnings = record { is_new = λ x a n. l.beginnings.is_new x (left_back x a) n };
     counts = counts_kept m.pages w.pages left w.tds w.tds w.streams left_back (λ x. refl) left_where l.counts;
+    streams = l.streams;
+    sessions = l.sessions;
   }

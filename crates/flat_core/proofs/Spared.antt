@@ -59,13 +59,14 @@ module _ (m : Machine) (w : World) (l : Lawful m w) (p t v : ℕ) (x : IsOccupie
   abbrev IsSpared : World → Type 0
   IsSpared w' = Spares w w' p t v
 
-  -- an act that changes neither page's use, nor the TD's life, nor the virtual processor
-  beside : (w' : World) → w'.pages.kinds t ≡ w.pages.kinds t → w'.tds.lives t ≡ w.tds.lives t → w'.tds.ops t ≡ w.tds.ops t → w'.pages.kinds v ≡ w.pages.kinds v → w'.pages.owners v ≡ w.pages.owners v → SameVp w w' v → IsSpared w'
-  beside w' kt life ops kv ov same = record {
+  -- an act that changes neither page's use, nor the TD's life, nor the virtual processor, and by which the TD runs on
+  running_on : (w' : World) → w'.pages.kinds t ≡ w.pages.kinds t → w'.tds.lives t ≡ w.tds.lives t → list_any (λ s. op_number s == op_number (w'.tds.ops t)) running_ops ≡ true → w'.pages.kinds v ≡ w.pages.kinds v → w'.pages.owners v ≡ w.pages.owners v
+      → SameVp w w' v → IsSpared w'
+  running_on w' kt life runs kv ov same = record {
     occupied = record {
       tdr = kt ∙ x.tdr;
       life = life ∙ x.life;
-      running = ap (λ (z : OpState). list_any (λ s. op_number s == op_number z) running_ops) ops ∙ x.running;
+      running = runs;
       current = same.last ∙ x.current;
       page = record { kind = kv ∙ x.page.kind; owner = ov ∙ x.page.owner };
       ready = same.state ∙ x.ready;
@@ -75,6 +76,10 @@ module _ (m : Machine) (w : World) (l : Lawful m w) (p t v : ℕ) (x : IsOccupie
     };
     same = same;
   }
+
+  -- so where its operation state is as before
+  beside : (w' : World) → w'.pages.kinds t ≡ w.pages.kinds t → w'.tds.lives t ≡ w.tds.lives t → w'.tds.ops t ≡ w.tds.ops t → w'.pages.kinds v ≡ w.pages.kinds v → w'.pages.owners v ≡ w.pages.owners v → SameVp w w' v → IsSpared w'
+  beside w' kt life ops kv ov same = running_on w' kt life (ap (λ (z : OpState). list_any (λ s. op_number s == op_number z) running_ops) ops ∙ x.running) kv ov same
 
   no_change : (w' : World) → w'.vps ≡ w.vps → w'.hidden.registers ≡ w.hidden.registers → SameVp w w' v
   no_change w' e k = record {
@@ -146,87 +151,97 @@ module _ (m : Machine) (w : World) (l : Lawful m w) (p t v : ℕ) (x : IsOccupie
       (λ n. n)
 
 pub row_spares : RowsSpare
-row_spares o me (call.PhymemPageReclaim u page) w p t v l ps x apart =
+row_spares o me (call.PhymemPageReclaim u page) t n w p v l ps x apart =
     let m = o.machine in
     let off = life_off m w l p t v x u (life.Teardown ∷ []) refl ps.1.1.1.0 in
     let pages = owned_off m w l p t v x u page off (owner_of m w l p t v x u page (page == u) refl (tdr_kind _ ps.1.1.0) ps.1.1.1.1) in
     beside m w l p t v x _ (rw (pages.1) refl) refl refl (rw (pages.0) refl) (rw (pages.0) refl) (no_change m w l p t v x _ refl refl)
-row_spares o me (call.MngCreate u h) w p t v l ps x apart =
+row_spares o me (call.MngCreate u h) t n w p v l ps x apart =
     let m = o.machine in
     let host = host_kind _ ps.1.1.0 in
     let a = page_off m w l p t v x u host in let b = tdr_off m w l p t v x u host in
     beside m w l p t v x _ (rw b refl) (rw b refl) (rw b refl) (rw a refl) (rw a refl) (no_change m w l p t v x _ refl refl)
-row_spares o me (call.MngKeyConfig u) w p t v l ps x apart =
+row_spares o me (call.MngKeyConfig u) t n w p v l ps x apart =
     let m = o.machine in
     let off = life_off m w l p t v x u (life.HkidAssigned ∷ []) refl ps.1.1.0 in
     beside m w l p t v x _ refl (rw off refl) refl refl refl (no_change m w l p t v x _ refl refl)
-row_spares o me (call.MngAddcx u page) w p t v l ps x apart =
+row_spares o me (call.MngAddcx u page) t n w p v l ps x apart =
     let m = o.machine in
     let host = host_kind _ ps.1.1.1.1.1.1.0 in
     let a = page_off m w l p t v x page host in let b = tdr_off m w l p t v x page host in
     beside m w l p t v x _ (rw b refl) refl refl (rw a refl) (rw a refl) (no_change m w l p t v x _ refl refl)
-row_spares o me (call.MngVpflushdone u) w p t v l ps x apart =
+row_spares o me (call.MngVpflushdone u) t n w p v l ps x apart =
     let m = o.machine in
     let off = flushed_off m w l p t v x u ps.1.1.1.0 in
     beside m w l p t v x _ refl (rw off refl) refl refl refl (no_change m w l p t v x _ refl refl)
-row_spares o me (call.MngKeyFreeid u) w p t v l ps x apart =
+row_spares o me (call.MngKeyFreeid u) t n w p v l ps x apart =
     let m = o.machine in
     let off = life_off m w l p t v x u (life.Blocked ∷ []) refl ps.1.1.0 in
     beside m w l p t v x _ refl (rw off refl) refl refl refl (no_change m w l p t v x _ refl refl)
-row_spares o me (call.VpCreate u page) w p t v l ps x apart =
+row_spares o me (call.VpCreate u page) t n w p v l ps x apart =
     let m = o.machine in
     let host = host_kind _ ps.1.1.1.1.1.1.1.1.0 in
     let a = page_off m w l p t v x page host in let b = tdr_off m w l p t v x page host in
     beside m w l p t v x _ (rw b refl) refl refl (rw a refl) (rw a refl) (record { index = rw a refl; state = rw a refl; associated = rw a refl; last = rw a refl; position = rw a refl; exported = rw a refl; entered = rw a refl; registers = λ r. rw a refl })
-row_spares o me (call.VpInit u q value) w p t v l ps x apart =
+row_spares o me (call.VpInit u q value) t n w p v l ps x apart =
     let m = o.machine in
     let a = created_off m w l p t v x q ps.1.1.1.1.1.1.1.1.0 in
     beside m w l p t v x _ refl refl refl refl refl (record { index = refl; state = rw a refl; associated = refl; last = refl; position = refl; exported = refl; entered = refl; registers = λ r. rw a refl })
-row_spares o me (call.VpEnter u q most) w p t v l ps x apart =
+row_spares o me (call.VpEnter u q most) t n w p v l ps x apart =
     let m = o.machine in
     let a = elsewhere_off m w l p t v x me q apart ps.1.1.1.1.1.1.1.1.1.1.0 in
     beside m w l p t v x _ refl refl refl refl refl (record { index = refl; state = refl; associated = rw a refl; last = rw a refl; position = refl; exported = refl; entered = rw a refl; registers = λ r. refl })
-row_spares o me (call.VpFlush u q) w p t v l ps x apart =
+row_spares o me (call.VpFlush u q) t n w p v l ps x apart =
     let m = o.machine in
     let a = elsewhere_off m w l p t v x me q apart ps.1.1.1.1.1.1.1.0 in
     beside m w l p t v x _ refl refl refl refl refl (record { index = refl; state = refl; associated = rw a refl; last = refl; position = refl; exported = refl; entered = refl; registers = λ r. refl })
-row_spares o me (call.MemPageRemove u gpa) w p t v l ps x apart =
+row_spares o me (call.MemPageRemove u gpa) t n w p v l ps x apart =
     let m = o.machine in
     let rest = tracked_page w u (entry_at w u 0 gpa).page ∷ [] in
     let q = named_passed w u gpa 0 removed_states rest ps.1.1.1 in
     let node = node_named m w l u 0 (number_at 0 gpa) (named_alive w u gpa 0 removed_states rest q) (page_removed (entry_at w u 0 gpa).state q.state).used in
     let off = named_off m w l p t v x 0 (entry_at w u 0 gpa).page node.page.kind in
     beside m w l p t v x _ (rw (off.1) refl) refl refl (rw (off.0) refl) (rw (off.0) refl) (no_change m w l p t v x _ refl refl)
-row_spares o me (call.MemSeptRemove u gpa level) w p t v l ps x apart =
+row_spares o me (call.MemSeptRemove u gpa level) t n w p v l ps x apart =
     let m = o.machine in
     let rest = empty_below w u gpa level ∷ tracked_page w u (entry_at w u level gpa).page ∷ [] in
     let q = named_passed w u gpa level (entry.NlBlocked ∷ []) rest ps.1.1.1.1 in
     let node = node_named m w l u level (number_at level gpa) (named_alive w u gpa level (entry.NlBlocked ∷ []) rest q) (sept_removed (entry_at w u level gpa).state q.state).used in
     let off = named_off m w l p t v x level (entry_at w u level gpa).page node.page.kind in
     beside m w l p t v x _ (rw (off.1) refl) refl refl (rw (off.0) refl) (rw (off.0) refl) (no_change m w l p t v x _ refl refl)
-row_spares o me (call.MemSeptAdd u gpa level page) w p t v l ps x apart =
+row_spares o me (call.MemSeptAdd u gpa level page) t n w p v l ps x apart =
     let m = o.machine in
     let behind = walk_passed w u gpa (state_in w u gpa level (entry.Free ∷ []) ∷ page_exclusive page ∷ host_page w page ∷ []) level (range_of level 3 ps.1.1.0).1 ps.1.1.1.1.1.1.1.1.1.1 in
     let host = host_kind _ behind.0.1.0 in
     let a = page_off m w l p t v x page host in let b = tdr_off m w l p t v x page host in
     beside m w l p t v x _ (rw b refl) refl refl (rw a refl) (rw a refl) (no_change m w l p t v x _ refl refl)
-row_spares o me (call.MemPageAdd u gpa page source) w p t v l ps x apart =
+row_spares o me (call.MemPageAdd u gpa page source) t n w p v l ps x apart =
     let m = o.machine in
     let behind = walk_passed w u gpa (state_in w u gpa 0 (entry.Free ∷ []) ∷ page_exclusive source ∷ host_page w source ∷ page_exclusive page ∷ host_page w page ∷ []) 0 (lit≤ tt) ps.1.1.1.1.1.1.1.1.1.1.1.1 in
     let host = host_kind _ behind.0.1.1.0 in
     let a = page_off m w l p t v x page host in let b = tdr_off m w l p t v x page host in
     beside m w l p t v x _ (rw b refl) refl refl (rw a refl) (rw a refl) (no_change m w l p t v x _ refl refl)
-row_spares o me (call.MemPageAug u gpa page) w p t v l ps x apart =
+row_spares o me (call.MemPageAug u gpa page) t n w p v l ps x apart =
     let m = o.machine in
     let behind = walk_passed w u gpa (state_in w u gpa 0 (entry.Free ∷ []) ∷ page_exclusive page ∷ host_page w page ∷ []) 0 (lit≤ tt) ps.1.1.1.1.1.1.1.1.1 in
     let host = host_kind _ behind.0.1.0 in
     let a = page_off m w l p t v x page host in let b = tdr_off m w l p t v x page host in
     beside m w l p t v x _ (rw b refl) refl refl (rw a refl) (rw a refl) (no_change m w l p t v x _ refl refl)
-row_spares o me (call.MngInit u) w p t v l ps x apart =
+row_spares o me (call.MngInit u) t n w p v l ps x apart =
     let off = op_off o.machine w l p t v x u (op.Uninitialized ∷ []) (λ s a b. uninitialized_runs s a b) ps.1.1.1.1.0 in
     beside o.machine w l p t v x _ refl refl (rw off refl) refl refl (no_change o.machine w l p t v x _ refl refl)
-row_spares o me (call.MrFinalize u) w p t v l ps x apart =
+row_spares o me (call.MrFinalize u) t n w p v l ps x apart =
     let off = op_off o.machine w l p t v x u (op.Initialized ∷ []) (λ s a b. initialized_runs s a b) ps.1.1.1.1.0 in
     beside o.machine w l p t v x _ refl refl (rw off refl) refl refl (no_change o.machine w l p t v x _ refl refl)
-row_spares o me (call.HostRead page i) w p t v l ps x apart = beside o.machine w l p t v x _ refl refl refl refl refl (no_change o.machine w l p t v x _ refl refl)
-row_spares o me _ w p t v l ps x apart = beside o.machine w l p t v x _ refl refl refl refl refl (record { index = refl; state = refl; associated = refl; last = refl; position = refl; exported = refl; entered = refl; registers = λ r. refl })
+row_spares o me (call.MigStreamCreate u page) t n w p v l ps x apart =
+    let m = o.machine in
+    let host = host_kind _ ps.1.1.1.1.1.1.1.1.0 in
+    let a = page_off m w l p t v x page host in let b = tdr_off m w l p t v x page host in
+    beside m w l p t v x _ (rw b refl) refl refl (rw a refl) (rw a refl) (no_change m w l p t v x _ refl refl)
+row_spares o me (call.ExportPause u) t n w p v l ps x apart =
+    let off : (t == u) ≡ false = by_test (t == u) (λ y. absurd (n (ap (λ (z : ℕ). call.ExportPause z) (sym (eqb-true t u y))))) (λ z. z) in
+    beside o.machine w l p t v x _ refl refl (rw off refl) refl refl (no_change o.machine w l p t v x _ refl refl)
+row_spares o me (call.ExportAbort u) t n w p v l ps x apart =
+    running_on o.machine w l p t v x _ refl refl (by_test (t == u) (λ y. rw y refl) (λ y. rw y (x.running))) refl refl (no_change o.machine w l p t v x _ refl refl)
+row_spares o me (call.HostRead page i) t n w p v l ps x apart = beside o.machine w l p t v x _ refl refl refl refl refl (no_change o.machine w l p t v x _ refl refl)
+row_spares o me _ t n w p v l ps x apart = beside o.machine w l p t v x _ refl refl refl refl refl (record { index = refl; state = refl; associated = refl; last = refl; position = refl; exported = refl; entered = refl; registers = λ r. refl })

@@ -1,5 +1,5 @@
 -- Each event puts the words that it tells at the end of the world's list.
-use Rattle.std.proofs.Common.{◌≡◌, refl, sym, ◌∙◌, ap, ℕ, List, [], ◌∷◌, ◌++◌, Option, Some, None, false}
+use Rattle.std.proofs.Common.{◌≡◌, refl, sym, ◌∙◌, ℕ, [], ◌++◌, Option, Some, None, false}
 use Rattle.std.proofs.lemmas.List.{append-nil}
 use Rattle.td_words.specs.declared.names.Access.{Access}
 use Rattle.td_words.specs.declared.names.Access.TheVariants.{Read, Write}
@@ -12,7 +12,7 @@ use Rattle.flat_core.specs.Processor.{Answered, Lp, idle}
 use Rattle.flat_core.specs.Opening.{Opening}
 use Rattle.flat_core.specs.Row.{OperationRow, Move, Attempts, Undoes, Refuses, Succeeds, Releases, Rests, next_in}
 use Rattle.flat_core.specs.Table.{row_of}
-use Rattle.flat_core.specs.Event.{State, Event, OfCall, OfOperation, Reaches, nothing_more, next_event, event, after_event, world_after}
+use Rattle.flat_core.specs.Event.{Event, OfCall, OfOperation, Reaches, nothing_more, next_event, after_event, world_after}
 use Rattle.flat_core.specs.TwoWorlds.{words_told, EventsTellTheirWords}
 use Rattle.flat_core.proofs.Told.{operations_tell_both}
 use Rattle.flat_core.proofs.Operations.{operation_row, accepted}

@@ -98,6 +98,12 @@ tries_in_order (call.MemPageRemove t gpa) w = tree_first t (Some (OfEpoch t) ∷
 tries_in_order (call.MemRangeBlock t gpa level) w = tree_first t (Some (OfEpoch t) ∷ None ∷ []) (tt, (tt, tt))
 tries_in_order (call.MemRangeUnblock t gpa level) w = tree_first t (Some (OfEpoch t) ∷ None ∷ []) (tt, (tt, tt))
 tries_in_order (call.MemTrack t) w = (tt, (tt, (tt, tt)))
+tries_in_order (call.MigStreamCreate t page) w = (tt, (tt, (tt, tt)))
+tries_in_order (call.ExportBlockw t gpa) w = tree_first t (Some (OfEpoch t) ∷ None ∷ []) (tt, (tt, tt))
+tries_in_order (call.ExportUnblockw t gpa) w = tree_first t (None ∷ []) (tt, tt)
+tries_in_order (call.ExportPause t) w = tree_first t [] tt
+tries_in_order (call.ExportAbort t) w = tree_first t [] tt
+tries_in_order (call.ExportRestore t gpa) w = tree_first t (None ∷ []) (tt, tt)
 
 -- and in every world they are the same
 kinds_same : (c : Call) (v w : World) → kinds (tries_of c v) ≡ kinds (tries_of c w)

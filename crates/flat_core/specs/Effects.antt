@@ -79,6 +79,10 @@ set_entry t level number e w = record w { tds = record (w.tds) { entries = put w
 abbrev pub set_state : ℕ → ℕ → ℕ → EntryState → World → World
 set_state t level number s w = set_entry t level number (record { state = s; page = (w.tds.entries t level number).page; mark = 0 }) w
 
+-- an entry of level 0 gets another state and mark for the page that it names
+abbrev pub restate : (t number : ℕ) → EntryState → (mark : ℕ) → World → World
+restate t number s mark w = set_entry t 0 number (record { state = s; page = (w.tds.entries t 0 number).page; mark = mark }) w
+
 -- a host page becomes the one that an entry of a TD names: it is taken as the node there, and the entry gets that state
 abbrev pub map_page : ℕ → PageKind → EntryState → (t level number : ℕ) → World → World
 map_page p k s t level number w = set_entry t level number (record { state = s; page = p; mark = 0 }) (take_node p k t level number w)
@@ -142,11 +146,7 @@ new_td t h w = record w {
     dirtied = put w.tds.dirtied t 0;
     unrestored = put w.tds.unrestored t 0;
   };
-  hidden = record {
-    registers = w.hidden.registers;
-    rtmrs = put w.hidden.rtmrs t (λ i. 0);
-    memories = put w.hidden.memories t (λ g. None);
-  };
+  hidden = record (w.hidden) { rtmrs = put w.hidden.rtmrs t (λ i. 0); memories = put w.hidden.memories t (λ g. None) };
 }
 
 -- What a guest's private page holds, as its guest knows it, is told by events alone: a page that is added, accepted or

@@ -9,6 +9,7 @@ use Rattle.td_words.specs.declared.names.VcpuState.TheVariants as vcpu
 use Rattle.td_words.specs.declared.names.Mode.TheVariants.{Shared, Exclusive}
 use Rattle.td_words.specs.declared.machines.Machine.{Machine}
 use Rattle.td_words.specs.declared.calls.Call.{Call}
+use Rattle.td_words.specs.declared.calls.Call.TheVariants.{ExportPause}
 use Rattle.flat_core.specs.World.{World}
 use Rattle.flat_core.specs.Processor.{OfPage, OfOp, OfEpoch, Held}
 use Rattle.flat_core.specs.Opening.{Opening}
@@ -45,14 +46,14 @@ pub record Spares (before after : World) (p t v : ℕ) : Type 0 where
   pub occupied : IsOccupied after p t v
   pub same : SameVp before after v
 
--- Beside each row: the act of another processor's call leaves one that runs on p so. Of the calls that are built the
--- conditions of each row alone keep others off, and no lock is needed for it. It won't be so of EXPORT.PAUSE: its conditions
--- hold also with a virtual processor in guest, and only O, which the guest's VP.ENTER shares, keeps it off.
-abbrev pub RowSpares : (m : Machine) (me : ℕ) → Row → Type 0
-RowSpares m me row = (w : World) (p t v : ℕ) → Lawful m w → Passes (row.items w) → IsOccupied w p t v → p ≢ me → Spares w (row.act w) p t v
+-- Beside each row: the act of another processor's call leaves one that runs on p so. The conditions of each row alone keep
+-- others off, and no lock is needed for it, but for EXPORT.PAUSE of its own TD: its conditions hold also with a virtual
+-- processor in guest, and only O, which the guest's VP.ENTER shares, keeps it off.
+abbrev pub RowSpares : (m : Machine) (me : ℕ) → Row → (tdr : ℕ) → Type 0
+RowSpares m me row t = (w : World) (p v : ℕ) → Lawful m w → Passes (row.items w) → IsOccupied w p t v → p ≢ me → Spares w (row.act w) p t v
 
 abbrev pub RowsSpare : Type 0
-RowsSpare = (o : Opening) (me : ℕ) (c : Call) → RowSpares o.machine me (row_of o me c)
+RowsSpare = (o : Opening) (me : ℕ) (c : Call) (t : ℕ) → c ≢ ExportPause t → RowSpares o.machine me (row_of o me c) t
 
 -- the locks that VP.ENTER leaves to its guest, the newest first: P of its TDVPR page alone, O, and P of the TDR page; and
 -- those before it gives E back

@@ -6,10 +6,11 @@ use Rattle.td_words.specs.declared.calls.GuestOp.{GuestOp}
 use Rattle.td_words.specs.declared.replies.Outcome.{Outcome}
 use Rattle.td_words.specs.declared.replies.Reply.{Reply}
 use Rattle.flat_core.specs.World.{World}
-use Rattle.flat_core.specs.Processor.{Held, Phase, Trying, Undoing, Answered, Walk, Guest, new_guest, nothing_yet, Lp}
+use Rattle.flat_core.specs.Processor.{LockId, Held, Phase, Trying, Undoing, Answered, Walk, Guest, new_guest, nothing_yet, Lp}
+use Rattle.flat_core.specs.Locks.{holders, sharers, IsSole}
 use Rattle.flat_core.specs.Opening.{Opening}
 use Rattle.flat_core.specs.Table.{most_tries}
-use Rattle.flat_core.specs.Tries.{enter_tries}
+use Rattle.flat_core.specs.Tries.{enter_tries, pause_tries}
 use Rattle.flat_core.specs.Tree.{page_of_gpa}
 use Rattle.flat_core.specs.Guest.{Operation, ByRow, Private, operation_of, walk_level}
 use Rattle.flat_core.specs.Event.{State, operation_due, calls_of}
@@ -61,14 +62,15 @@ abbrev pub held_then : List Held → List Held → List Held
 held_then [] xs = xs
 held_then (h ∷ hs) xs = held_then hs (h ∷ xs)
 
--- before its act VP.ENTER holds the locks that it tries first
-abbrev pub EnterFits : Call → Phase Reply → List Held → Type 0
-EnterFits (call.VpEnter tdr vp max) Trying hs = (rest : List Held) × (enter_tries tdr vp ≡ held_then hs rest)
-EnterFits _ _ hs = Unit {0}
+-- before their acts VP.ENTER and EXPORT.PAUSE hold the locks that they try first
+abbrev pub LocksFit : Call → Phase Reply → List Held → Type 0
+LocksFit (call.VpEnter tdr vp max) Trying hs = (rest : List Held) × (enter_tries tdr vp ≡ held_then hs rest)
+LocksFit (call.ExportPause tdr) Trying hs = (rest : List Held) × (pause_tries tdr ≡ held_then hs rest)
+LocksFit _ _ hs = Unit {0}
 
 -- a call line: outside guests it holds no more locks than its call may try
 abbrev pub LineAt : Opening → World → ℕ → Call → Lp → Option Guest → Type 0
-LineAt o w p c lp None = (length lp.call.held ≤ most_tries c) × IsNotDone lp.call.phase lp.call.held × EnterFits c lp.call.phase lp.call.held
+LineAt o w p c lp None = (length lp.call.held ≤ most_tries c) × IsNotDone lp.call.phase lp.call.held × LocksFit c lp.call.phase lp.call.held
 LineAt o w p c lp (Some g) = InGuest o w p c lp g
 
 abbrev pub StandsAt : Opening → World → ℕ → List Call → Lp → Type 0
@@ -79,7 +81,13 @@ StandsAt o w p (c ∷ cs) lp = LineAt o w p c lp lp.guest
 abbrev pub IsTimely : Opening → World → ℕ → List Call → Lp → Type 0
 IsTimely o w p calls lp = StandsAt o w p (drop (length lp.replies) calls) lp
 
--- the world is lawful, and each processor stands so
+-- nobody holds a lock beside one who holds it alone
+abbrev pub IsExclusive : State → Type 0
+IsExclusive s = (l : LockId) → IsSole (holders s.lps s.lp_count l) (sharers s.lps s.lp_count l)
+
+-- the world is lawful, each processor stands so, and locks exclude
 pub record AreTimely (o : Opening) (s : State) : Type 0 where
   pub lawful : Lawful o.machine s.world
+  pub exclusive : IsExclusive s
+  pub count : s.lp_count ≡ length o.calls
   pub each : (q : ℕ) → IsTimely o s.world q (calls_of o.calls q) (s.lps q)

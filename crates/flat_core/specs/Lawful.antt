@@ -5,6 +5,8 @@ use Rattle.std.specs.List.{list_any, sum_by}
 use Rattle.td_words.specs.declared.names.PageKind.{PageKind}
 use Rattle.td_words.specs.declared.names.PageKind.TheVariants as kind
 use Rattle.td_words.specs.declared.names.LifeState.TheVariants as life
+use Rattle.td_words.specs.declared.names.OpState.{OpState}
+use Rattle.td_words.specs.declared.names.OpState.TheVariants as op
 use Rattle.td_words.specs.declared.names.OpState.TheVariants.{Uninitialized}
 use Rattle.td_words.specs.declared.names.EntryState.{EntryState}
 use Rattle.td_words.specs.declared.names.EntryState.TheVariants as entry
@@ -163,6 +165,27 @@ pub record LawfulCounts (count : ℕ) (pages : Pages) (tds : Tds) (streams : Str
   pub dirtied : (t : ℕ) → IsAlive pages tds t → entries_where is_dirty count pages tds t + sum_by streams.cleaned (tds.streams t) ≡ tds.dirtied t
   pub unrestored : (t : ℕ) → IsAlive pages tds t → entries_where is_exported count pages tds t ≡ (tds.unrestored t + sum_by streams.first_exports (tds.streams t)) % 2 ^ 64
 
+-- A stream counts its bundles in 32 bits; each page that it cleaned, and each that it exported first, was one of them.
+pub record LawfulStreams (streams : Streams) : Type 0 where
+  pub counter : (s : ℕ) → streams.counters s < 2 ^ 32
+  pub cleaned : (s : ℕ) → streams.cleaned s ≤ streams.counters s
+  pub first_exports : (s : ℕ) → streams.first_exports s ≤ streams.counters s
+
+-- the operation states of a TD that is being exported
+abbrev pub is_exporting : OpState → Bool
+is_exporting op.LiveExport = true
+is_exporting op.PausedExport = true
+is_exporting op.PostExport = true
+is_exporting _ = false
+
+-- A session has a number of 16 bits and a migration epoch of 32; an export has a first stream, and its epochs begin with 1.
+pub record LawfulSessions (tds : Tds) (table : KeyTable) : Type 0 where
+  pub last_exported : table.last_exported < 2 ^ 16
+  pub session : (t : ℕ) → tds.sessions t < 2 ^ 16
+  pub mig_epoch : (t : ℕ) → tds.mig_epochs t < 2 ^ 32
+  pub mig_epoch_begun : (t : ℕ) → is_exporting (tds.ops t) ≡ true → 1 ≤ tds.mig_epochs t
+  pub first_stream : (t : ℕ) → is_exporting (tds.ops t) ≡ true → 1 ≤ length (tds.streams t)
+
 -- what every world of a machine keeps
 pub record Lawful (m : Machine) (w : World) : Type 0 where
   pub size : w.size ≡ m.pages
@@ -173,6 +196,8 @@ pub record Lawful (m : Machine) (w : World) : Type 0 where
   pub keys : LawfulKeys m.hkids w.pages w.tds w.key_table
   pub beginnings : LawfulBeginnings w.pages w.tds w.hidden.rtmrs
   pub counts : LawfulCounts m.pages w.pages w.tds w.streams
+  pub streams : LawfulStreams w.streams
+  pub sessions : LawfulSessions w.tds w.key_table
 
 -- a row whose act keeps it, where its conditions held; and the words to tell stay as they are
 pub record RowKeeps (m : Machine) (row : Row) : Type 0 where

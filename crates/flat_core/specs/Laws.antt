@@ -1,10 +1,9 @@
 -- Laws of the flat machine, for every opening and every schedule.
-use Rattle.std.specs.Prelude.{◌≡◌, ◌≢◌, ◌⊎◌, ℕ, suc, ◌+◌, ◌*◌, ◌%◌, ◌^◌, ◌≤◌, List, [], ◌∷◌, ◌++◌, length, map, Option, Some, None, IfSome, Bool, true, false, ◌==◌, if◌then◌else◌}
+use Rattle.std.specs.Prelude.{◌≡◌, ◌≢◌, ℕ, suc, ◌+◌, ◌*◌, ◌%◌, ◌^◌, List, [], ◌∷◌, ◌++◌, length, Option, Some, None, IfSome, Bool, true, false, ◌==◌, if◌then◌else◌}
 use Rattle.std.specs.List.{list_any, sum_by}
 use Rattle.sha2.specs.Sha512.{sha384}
 use Rattle.mrtd_measure.specs.Records.{page_record, chunk_records}
 use Rattle.td_words.specs.declared.machines.Machine.{Machine}
-use Rattle.td_words.specs.declared.names.OpState.TheVariants.{Runnable}
 use Rattle.td_words.specs.declared.names.ReadField.TheVariants.{Mrtd}
 use Rattle.td_words.specs.declared.names.EntryState.{EntryState}
 use Rattle.td_words.specs.declared.names.EntryState.TheVariants as entry
@@ -19,12 +18,13 @@ use Rattle.td_words.specs.declared.calls.Call.{Call}
 use Rattle.td_words.specs.declared.calls.Call.TheVariants as call
 use Rattle.td_words.specs.NameNumber.{op_number}
 use Rattle.td_words.specs.Packing.{Entry, is_exported}
-use Rattle.flat_core.specs.World.{World, Pages, Tds, put, Made}
-use Rattle.flat_core.specs.Processor.{LockId, Guest, Lp, nothing_yet}
-use Rattle.flat_core.specs.Locks.{holders, sharers, one_if}
+use Rattle.flat_core.specs.World.{World, Pages, Tds, put}
+use Rattle.flat_core.specs.Processor.{Guest, Lp, nothing_yet}
+use Rattle.flat_core.specs.Locks.{one_if}
+pub use Rattle.flat_core.specs.Locks.{IsSole}
 use Rattle.flat_core.specs.Opening.{Opening, Incoming, Agree}
 use Rattle.flat_core.specs.Row.{Passes, Succeeds, Row, OperationRow, Move, tries_in}
-use Rattle.flat_core.specs.Conditions.{is_host_in, running_ops}
+use Rattle.flat_core.specs.Conditions.{is_host_in, running_ops, built_here_ops}
 use Rattle.flat_core.specs.Tree.{entry_at}
 use Rattle.flat_core.specs.TdRows.{read_td, finalize}
 use Rattle.flat_core.specs.MemRows.{chunk_bytes}
@@ -34,6 +34,7 @@ use Rattle.flat_core.specs.Run.{play}
 use Rattle.flat_core.specs.Exports.{is_dirty}
 use Rattle.flat_core.specs.Lawful.{IsAlive, Lawful, RowKeeps, is_free, is_named_kind, all_differ}
 use Rattle.flat_core.specs.Inside.{AreTimely}
+pub use Rattle.flat_core.specs.Inside.{IsExclusive}
 use Rattle.flat_core.specs.Alike.{AreBlind}
 
 -- beside each row, its two facts
@@ -167,14 +168,6 @@ QuietEventsStay = (e : Event) (w : World) → IsQuiet e → world_after e w ≡ 
 abbrev pub NoWordsToTell : Type 0
 NoWordsToTell = (o : Opening) (s : State) (p : ℕ) → s.world.outgoing.to_tell ≡ None → (event o s p).world.outgoing.to_tell ≡ None
 
--- nobody holds a lock beside one who holds it alone
-pub record IsSole (alone shared : ℕ) : Type 0 where
-  pub one : alone ≤ 1
-  pub apart : (alone ≡ 0) ⊎ (shared ≡ 0)
-
-abbrev pub IsExclusive : State → Type 0
-IsExclusive s = (l : LockId) → IsSole (holders s.lps s.lp_count l) (sharers s.lps s.lp_count l)
-
 abbrev pub ExclusionIsKept : Type 0
 ExclusionIsKept = IsKept (λ o s. IsExclusive s)
 
@@ -200,9 +193,9 @@ pub record RefusedCallsStay : Type 0 where
   pub ended : (o : Opening) (s : State) (p : ℕ) (r : Reply)
       → ((event o s p).lps p).replies ≡ (s.lps p).replies ++ r ∷ [] → ((event o s p).lps p).call ≡ nothing_yet
 
--- MNG.RD gives as MRTD of a TD in RUNNABLE the SHA-384 of what the TD has measured.
+-- MNG.RD gives as MRTD of a TD that is in RUNNABLE or is exported the SHA-384 of what the TD has measured.
 abbrev pub AreMrtdsDigests : Machine → World → Type 0
-AreMrtdsDigests m w = (tdr : ℕ) → w.tds.ops tdr ≡ Runnable → (read_td m tdr Mrtd).value w ≡ Digest (sha384 (w.tds.measured tdr))
+AreMrtdsDigests m w = (tdr : ℕ) → list_any (λ s. op_number s == op_number (w.tds.ops tdr)) built_here_ops ≡ true → (read_td m tdr Mrtd).value w ≡ Digest (sha384 (w.tds.measured tdr))
 
 abbrev pub MrtdsAreKept : Type 0
 MrtdsAreKept = IsKept (λ o s. AreMrtdsDigests o.machine s.world)

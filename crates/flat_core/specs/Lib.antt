@@ -15,6 +15,10 @@ pub mod TdRows
 pub mod KeyRows
 pub mod VpRows
 pub mod MemRows
+pub mod Exports
+pub mod ExportRows
+pub mod Sessions
+pub mod BundleRows
 pub mod Table
 pub mod Tries
 pub mod Guest
@@ -22,12 +26,12 @@ pub mod Event
 pub mod Run
 pub mod HostText
 pub mod GuestText
-pub mod Exports
 pub mod Lawful
 pub mod Alike
 pub mod Guests
 pub mod Inside
 pub mod Access
+pub mod BundleLaws
 pub mod Laws
 pub mod Rtmrs
 pub mod PageUses

@@ -1,6 +1,6 @@
 -- The state of a lock, told from the processors' records: who holds it alone, who shares it and how often, and whose
 -- shared try was denied and isn't undone yet (Base Architecture, "Concurrency Restrictions and Enforcement").
-use Rattle.std.specs.Prelude.{ℕ, zero, suc, ◌+◌, List, [], ◌∷◌, Option, Some, None, Bool, true, false, ◌==◌, ◌&&◌, not}
+use Rattle.std.specs.Prelude.{◌≡◌, ◌⊎◌, ℕ, zero, suc, ◌+◌, ◌≤◌, List, [], ◌∷◌, Option, Some, None, Bool, true, false, ◌==◌, ◌&&◌, not}
 use Rattle.td_words.specs.declared.names.Mode.{Mode}
 use Rattle.td_words.specs.declared.names.Mode.TheVariants.{Shared, Exclusive}
 use Rattle.flat_core.specs.Processor.{LockId, OfPage, OfOp, OfTree, OfEpoch, OfRtmr, OfKeys, Held, Phase, Trying, Undoing, Answered, Guest, Lp}
@@ -78,3 +78,8 @@ refusals lps n l = sum_below (λ p. refused_of l (lps p)) n
 abbrev pub grants : (ℕ → Lp) → ℕ → LockId → Mode → Bool
 grants lps n l Shared = holders lps n l == 0
 grants lps n l Exclusive = holders lps n l + (sharers lps n l + refusals lps n l) == 0
+
+-- nobody holds a lock beside one who holds it alone
+pub record IsSole (alone shared : ℕ) : Type 0 where
+  pub one : alone ≤ 1
+  pub apart : (alone ≡ 0) ⊎ (shared ≡ 0)

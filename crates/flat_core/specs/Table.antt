@@ -9,6 +9,7 @@ use Rattle.flat_core.specs.TdRows.{create, configure_key, add_tdcx, initialize, 
 use Rattle.flat_core.specs.KeyRows.{write_caches_back, reclaim_page, end_flush, free_hkid}
 use Rattle.flat_core.specs.VpRows.{create_vp, initialize_vp, enter_vp, flush_vp}
 use Rattle.flat_core.specs.MemRows.{add_sept, read_sept, add_page, augment_page, remove_page, remove_sept, block_range, unblock_range, advance_epoch, extend}
+use Rattle.flat_core.specs.ExportRows.{create_stream, block_write, unblock_write, pause, abort_export, restore}
 
 abbrev pub row_of : Opening → ℕ → Call → Row
 row_of o me (call.HostRead page word) = host_read o.machine page word
@@ -38,6 +39,12 @@ row_of o me (call.MemPageRemove tdr gpa) = remove_page o.machine tdr gpa
 row_of o me (call.MemRangeBlock tdr gpa level) = block_range o.machine tdr gpa level
 row_of o me (call.MemRangeUnblock tdr gpa level) = unblock_range o.machine tdr gpa level
 row_of o me (call.MemTrack tdr) = advance_epoch o.machine tdr
+row_of o me (call.MigStreamCreate tdr page) = create_stream o.machine tdr page
+row_of o me (call.ExportBlockw tdr gpa) = block_write o.machine tdr gpa
+row_of o me (call.ExportUnblockw tdr gpa) = unblock_write o.machine tdr gpa
+row_of o me (call.ExportPause tdr) = pause o.machine tdr
+row_of o me (call.ExportAbort tdr) = abort_export o.machine tdr
+row_of o me (call.ExportRestore tdr gpa) = restore o.machine tdr gpa
 
 -- at most how many locks a call tries
 abbrev pub most_tries : Call → ℕ
@@ -68,6 +75,12 @@ most_tries (call.MemPageRemove tdr gpa) = 5
 most_tries (call.MemRangeBlock tdr gpa level) = 5
 most_tries (call.MemRangeUnblock tdr gpa level) = 5
 most_tries (call.MemTrack tdr) = 3
+most_tries (call.MigStreamCreate tdr page) = 3
+most_tries (call.ExportBlockw tdr gpa) = 5
+most_tries (call.ExportUnblockw tdr gpa) = 4
+most_tries (call.ExportPause tdr) = 3
+most_tries (call.ExportAbort tdr) = 3
+most_tries (call.ExportRestore tdr gpa) = 4
 
 -- at most how many events a guest has that a call enters: of each operation its tries, its act and releases, or four loads
 -- of a walk and the access; and the count step at the exit. So many operations may be completed, or one fewer and one not

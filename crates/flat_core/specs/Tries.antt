@@ -38,9 +38,16 @@ read_tries t field.Mrtd = td_tries t Shared
 abbrev pub enter_tries : (tdr vp : ℕ) → List Held
 enter_tries t v = td_tries t Shared ++ alone (OfPage v) ∷ shared (OfEpoch t) ∷ []
 
+abbrev pub pause_tries : ℕ → List Held
+pause_tries t = td_tries t Exclusive ++ alone (OfTree t) ∷ []
+
 -- the beginning of the rows that block, unblock and remove
 abbrev pub named_tries : World → (tdr gpa level : ℕ) → List Held
 named_tries w t gpa level = td_tries t Shared ++ alone (OfTree t) ∷ shared (OfEpoch t) ∷ alone (OfPage (entry_at w t level gpa).page) ∷ []
+
+-- and of those that give a guest its page back
+abbrev pub opened_tries : World → (tdr gpa : ℕ) → List Held
+opened_tries w t gpa = td_tries t Shared ++ alone (OfTree t) ∷ alone (OfPage (entry_at w t 0 gpa).page) ∷ []
 
 -- The table of tries, a line a call. A line looks at the world where the page is tried that an entry names.
 abbrev pub tries_of : Call → World → List Held
@@ -71,6 +78,12 @@ tries_of (call.MemPageRemove tdr gpa) w = named_tries w tdr gpa 0
 tries_of (call.MemRangeBlock tdr gpa level) w = named_tries w tdr gpa level
 tries_of (call.MemRangeUnblock tdr gpa level) w = named_tries w tdr gpa level
 tries_of (call.MemTrack tdr) w = td_tries tdr Shared ++ alone (OfEpoch tdr) ∷ []
+tries_of (call.MigStreamCreate tdr page) w = td_tries tdr Exclusive ++ alone (OfPage page) ∷ []
+tries_of (call.ExportBlockw tdr gpa) w = td_tries tdr Shared ++ shared (OfTree tdr) ∷ shared (OfEpoch tdr) ∷ alone (OfPage (entry_at w tdr 0 gpa).page) ∷ []
+tries_of (call.ExportUnblockw tdr gpa) w = opened_tries w tdr gpa
+tries_of (call.ExportPause tdr) w = pause_tries tdr
+tries_of (call.ExportAbort tdr) w = td_tries tdr Exclusive ++ alone (OfTree tdr) ∷ []
+tries_of (call.ExportRestore tdr gpa) w = opened_tries w tdr gpa
 
 -- each row tries just what its call's line says
 abbrev pub RowsTryTheirLists : Type 0

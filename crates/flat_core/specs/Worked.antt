@@ -7,10 +7,10 @@ use Rattle.td_words.specs.declared.names.LifeState.TheVariants as life
 use Rattle.td_words.specs.declared.names.OpState.TheVariants as op
 use Rattle.td_words.specs.declared.names.EntryState.TheVariants as entry
 use Rattle.td_words.specs.declared.names.VcpuState.TheVariants as vcpu
-use Rattle.td_words.specs.declared.names.LimitName.TheVariants.{Vcpus}
+use Rattle.td_words.specs.declared.names.LimitName.TheVariants.{Vcpus, Streams}
 use Rattle.td_words.specs.declared.names.ReadField.TheVariants as field
 use Rattle.td_words.specs.declared.calls.Call.{Call}
-use Rattle.td_words.specs.declared.calls.Call.TheVariants.{HostRead, HostWrite, PhymemPageRdmd, PhymemCacheWb, PhymemPageReclaim, MngCreate, MngKeyConfig, MngAddcx, MngInit, MngRd, MngVpflushdone, MngKeyFreeid, MrExtend, MrFinalize, VpCreate, VpInit, VpFlush, MemSeptAdd, MemSeptRd, MemPageAdd, MemPageAug, MemPageRemove, MemSeptRemove, MemRangeBlock, MemRangeUnblock, MemTrack}
+use Rattle.td_words.specs.declared.calls.Call.TheVariants.{HostRead, HostWrite, PhymemPageRdmd, PhymemCacheWb, PhymemPageReclaim, MngCreate, MngKeyConfig, MngAddcx, MngInit, MngRd, MngVpflushdone, MngKeyFreeid, MrExtend, MrFinalize, VpCreate, VpInit, VpFlush, MemSeptAdd, MemSeptRd, MemPageAdd, MemPageAug, MemPageRemove, MemSeptRemove, MemRangeBlock, MemRangeUnblock, MemTrack, MigStreamCreate, ExportBlockw, ExportUnblockw, ExportPause, ExportAbort, ExportRestore}
 use Rattle.td_words.specs.declared.refusals.Status.TheVariants.{OperandInvalid, OperandBusy, NotHost, PageMetadataIncorrect, LifecycleStateIncorrect, OpStateIncorrect, EptWalkFailed, EptEntryStateIncorrect, HkidNotFree, TdcxNumIncorrect, VcpuStateIncorrect, PagesExist, Limit, CacheWbNotDone, TlbTrackingNotDone, SeptNotEmpty, VcpuNotAssociated}
 use Rattle.td_words.specs.declared.replies.Value.TheVariants.{Nothing, Number, Life, Op, Page, Entry}
 use Rattle.td_words.specs.declared.replies.Reply.{Reply}
@@ -220,6 +220,13 @@ pub record Examples : Type 0 where
   pub not_empty_at_first : after_running (MemRangeBlock 1 0 1 ∷ MemTrack 1 ∷ MemSeptRemove 1 0 1 ∷ []) ≡ success ∷ success ∷ Refused (SeptNotEmpty 0) ∷ []
   pub not_removed : after_running (MemSeptRemove 1 0 0 ∷ MemSeptRemove 1 0 4 ∷ MemSeptRemove 1 4096 1 ∷ MemPageRemove 1 4097 ∷ MemPageRemove 1 0x200000 ∷ VpFlush 1 1 ∷ VpFlush 1 8 ∷ VpFlush 1 4 ∷ [])
       ≡ Refused (OperandInvalid 3) ∷ Refused (OperandInvalid 3) ∷ Refused (OperandInvalid 2) ∷ Refused (OperandInvalid 2) ∷ Refused (EptWalkFailed 1) ∷ Refused (OperandInvalid 2) ∷ Refused (PageMetadataIncorrect 8) ∷ Refused VcpuNotAssociated ∷ []
+  -- a TD gets four migration streams at most, each with its own page, in seven events
+  pub stream_events : events_of (running ++ MigStreamCreate 1 9 ∷ []) ≡ 64 + 11 + 5 + 7
+  pub streams : after_running (MigStreamCreate 1 9 ∷ MigStreamCreate 1 9 ∷ MigStreamCreate 1 1 ∷ MigStreamCreate 1 10 ∷ MigStreamCreate 1 11 ∷ MigStreamCreate 1 12 ∷ MigStreamCreate 1 13 ∷ PhymemPageRdmd 11 ∷ HostRead 11 0 ∷ PhymemPageRdmd 13 ∷ [])
+      ≡ success ∷ Refused (PageMetadataIncorrect 9) ∷ Refused (OperandInvalid 2) ∷ success ∷ success ∷ success ∷ Refused (Limit Streams) ∷ Done (Page kind.Migsc 1 0) ∷ Done (Number 0) ∷ Done (Page kind.Nda 0 0) ∷ []
+  -- a TD whose export hasn't begun has nothing to block, pause or abort, and of none that ended anything to restore
+  pub not_exported : after_running (ExportBlockw 1 0 ∷ ExportUnblockw 1 0 ∷ ExportPause 1 ∷ ExportAbort 1 ∷ ExportRestore 1 0 ∷ ExportRestore 1 4096 ∷ ExportBlockw 1 1 ∷ [])
+      ≡ replicate 4 (Refused (OpStateIncorrect op.Runnable)) ++ Refused (EptEntryStateIncorrect entry.Mapped) ∷ Refused (EptEntryStateIncorrect entry.Free) ∷ Refused (OperandInvalid 2) ∷ []
   -- what is measured: that the page was added; and where a chunk of it is, and its bytes
   pub one_page : measured_by added_page ≡ added_record
   pub one_chunk : measured_by (added_page ++ MrExtend 1 4352 ∷ [])

@@ -2,6 +2,7 @@
 
 ghost use Rattle.flat_core.specs.AccessLaw.{AccessIsKept, AccessAlwaysHolds, GuestsReachTheirOwn, AccessesAreOwn, MemoriesAreKept, CachesAreKept, CachesAreSmall, RoomIsUsed};
 ghost use Rattle.flat_core.specs.Bounds.{RowsTryFew, TimelyEventsRunOut, EventsRunOut, RunsEnd, EntriesAreBounded};
+ghost use Rattle.flat_core.specs.BundleLaws.{BundleRowsHaveTheirFacts};
 ghost use Rattle.flat_core.specs.Entered.{EventsSpare, EnteredIsKept, EnteredAreInGuest};
 ghost use Rattle.flat_core.specs.Entries.{EntriesHaveTheirEvents};
 ghost use Rattle.flat_core.specs.GuestOrder.{OperationsTryTheirLists, GuestOrderIsKept, GuestOrderHolds};
@@ -39,6 +40,12 @@ pub fn row_laws()
     ensures uses { EventsKeepUses }
 {}
 
+/// The same two facts beside each row of a call that makes a bundle; the leaf table doesn't have these
+/// rows yet.
+pub fn bundle_row_laws()
+    ensures { BundleRowsHaveTheirFacts }
+{}
+
 /// Every run starts in a lawful world, in which processors stand in their calls and guests as they can
 /// and hold no more locks than a call and its guest's operation may try, each event keeps both,
 /// whatever bundles have come in, and so every schedule leads to a lawful one:
@@ -71,10 +78,11 @@ pub fn count_law()
 {}
 
 /// The act of each call leaves a virtual processor as it is, with its registers, that is in guest on
-/// another logical processor; and so does each event of another processor, where processors stand as
-/// they do in runs, whatever bundles have come in. And one that is counted at its entry epoch is in
-/// guest on the logical processor with which it is associated: at the start of every run, after each
-/// event, whatever bundles have come in, and so after any schedule.
+/// another logical processor, but for EXPORT.PAUSE of its own TD, which O keeps off; and so does each
+/// event of another processor, where processors stand as they do in runs, whatever bundles have come
+/// in. And one that is counted at its entry epoch is in guest on the logical processor with which it is
+/// associated: at the start of every run, after each event, whatever bundles have come in, and so after
+/// any schedule.
 pub fn guest_law()
     ensures spare { RowsSpare }
     ensures events { EventsSpare }
@@ -176,9 +184,10 @@ pub fn alike_laws()
     ensures told { EventsTellTheirWords }
 {}
 
-/// MRTD of a TD in RUNNABLE is read as the digest of what it has measured: at the start of every run,
-/// after each event, whatever bundles have come in, and so after any schedule. No event but the act of
-/// a call changes what TDs have measured, and none but an `rtmr` operation's act extends an RTMR.
+/// MRTD of a TD that is in RUNNABLE or is exported is read as the digest of what it has measured: at
+/// the start of every run, after each event, whatever bundles have come in, and so after any schedule.
+/// No event but the act of a call changes what TDs have measured, and none but an `rtmr` operation's
+/// act extends an RTMR.
 pub fn measurement_laws()
     ensures kept { MrtdsAreKept }
     ensures mrtd { EveryMrtdIsTheDigest }

@@ -121,6 +121,7 @@ module _ (o : Opening) (s : State) (me q : ℕ) (all : IsGuarded o s) where
     taken-waits (call.MngCreate t h) ps e = absurd (other-kind t kind.Tdr (λ k. cc) e)
     taken-waits (call.MngAddcx t page) ps e = absurd (other-kind page kind.Tdcx (λ k. cc) e)
     taken-waits (call.VpCreate t page) ps e = absurd (other-kind page kind.Tdvpr (λ k. cc) e)
+    taken-waits (call.MigStreamCreate t page) ps e = absurd (other-kind page kind.Migsc (λ k. cc) e)
     taken-waits (call.MemSeptAdd t gpa level page) ps e = absurd (other-kind page kind.Ept (λ k. cc) e)
     taken-waits (call.MemPageRemove t gpa) ps e = absurd (other-kind (entry_at w t 0 gpa).page kind.Nda (λ k. cc) e)
     taken-waits (call.MemSeptRemove t gpa level) ps e = absurd (other-kind (entry_at w t level gpa).page kind.Nda (λ k. cc) e)

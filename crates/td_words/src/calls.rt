@@ -116,6 +116,28 @@ pub enum Call {
     MemTrack {
         tdr: u64,
     },
+    MigStreamCreate {
+        tdr: u64,
+        page: u64,
+    },
+    ExportBlockw {
+        tdr: u64,
+        gpa: u64,
+    },
+    ExportUnblockw {
+        tdr: u64,
+        gpa: u64,
+    },
+    ExportPause {
+        tdr: u64,
+    },
+    ExportAbort {
+        tdr: u64,
+    },
+    ExportRestore {
+        tdr: u64,
+        gpa: u64,
+    },
 }
 
 /// An operation of guest code, with its operands in order: registers 0 to 7, secret words 0 to 511,

@@ -1,0 +1,296 @@
+-- Each row that makes a bundle keeps what every world keeps.
+use Rattle.std.proofs.Common.{lit<, lit≤, ◌≡◌, ◌≢◌, refl, sym, ◌∙◌, subst, ap, ℕ, zero, suc, ◌+◌, ◌-◌, ◌%◌, ◌^◌, ◌<◌, ◌≤◌, List, ◌∷◌, length, get_or, Bool, true, false, not, if◌then◌else◌, ◌==◌, nat_lt, arith}
+use Rattle.std.specs.List.{list_any, sum_by}
+use Rattle.std.proofs.lemmas.Bool.{eqb-true, eqb-false, ne_eqb, and_parts, ltb-true}
+use Rattle.std.proofs.lemmas.List.Folds.{list_any_at}
+use Rattle.td_words.specs.declared.names.PageKind.TheVariants as kind
+use Rattle.td_words.specs.declared.names.OpState.{OpState}
+use Rattle.td_words.specs.declared.names.OpState.TheVariants as op
+use Rattle.td_words.specs.declared.names.EntryState.{EntryState}
+use Rattle.td_words.specs.declared.names.EntryState.TheVariants as entry
+use Rattle.td_words.specs.declared.names.Mode.TheVariants.{Exclusive}
+use Rattle.td_words.specs.declared.machines.Machine.{Machine}
+use Rattle.td_words.specs.Packing.{Entry, is_lawful_entry, is_exported}
+use Rattle.flat_core.specs.World.{World, Tds, Streams, put}
+use Rattle.flat_core.specs.Row.{Passes}
+use Rattle.flat_core.specs.Locks.{one_if}
+use Rattle.flat_core.specs.Conditions.{page_exclusive}
+use Rattle.flat_core.specs.Tree.{number_at, entry_at, same_state, state_in, has_page, named_page}
+use Rattle.flat_core.specs.Exports.{is_dirty, entries_where}
+use Rattle.flat_core.specs.Sessions.{stream_page, stream_counter, other_epoch, counter_room, unrestored_count, About, make_bundle, put_all, begin_session, set_mig_epoch, note_td_export, note_vp_export}
+use Rattle.flat_core.specs.BundleRows.{session_ops, paused_ops, export_immutable, exportable, tracked_in, export_page, start_epoch, track_export, export_token, export_td, export_vp}
+use Rattle.flat_core.specs.Lawful.{IsAlive, all_differ, LawfulStreams, Lawful, RowKeeps, is_free, is_node, is_exporting}
+use Rattle.flat_core.proofs.Tests.{by_test, tdr_kind, same_self, put_here}
+use Rattle.flat_core.proofs.Exports.{IsCounted, counts_of, counted_still, counted_on, none_dirty_of}
+use Rattle.flat_core.proofs.Parts.{untouched, session_at, sessions_of, same_shape, session_kept, built_kept, op_kept}
+use Rattle.flat_core.proofs.Streams.{sum_same, sum_without, sum_zero, sum_raised, page_among, none_elsewhere}
+use Rattle.flat_core.proofs.Maps.{behind_walk}
+use Rattle.flat_core.proofs.EntryStates.{with_entry, counted_entry_kept, moved, others_counted}
+use Rattle.flat_core.proofs.Numbers.{few_where}
+use Rattle.flat_core.proofs.Ranges.{begun_of, living, paused_exporting, abortable_exporting}
+
+-- one more at a page, on both sides or on the greater one
+more_each : (f g : ℕ → ℕ) → ((q : ℕ) → f q ≤ g q) → (p q : ℕ) → put f p (f p + 1) q ≤ put g p (g p + 1) q
+more_each f g e p q = by_test (q == p) (λ y. (let h = e p in rw y (omega (arith, h)))) (λ n. rw n (e q))
+
+more_above : (f g : ℕ → ℕ) → ((q : ℕ) → f q ≤ g q) → (p q : ℕ) → f q ≤ put g p (g p + 1) q
+more_above f g e p q = by_test (q == p) (λ y. (let h = e q in let same = ap g (eqb-true q p y) in rw y (omega (arith, h, same)))) (λ n. rw n (e q))
+
+more_below : (f : ℕ → ℕ) → ((q : ℕ) → f q < 2 ^ 32) → (p : ℕ) → f p < 2 ^ 32 - 1 → (q : ℕ) → put f p (f p + 1) q < 2 ^ 32
+more_below f e p room q = by_test (q == p) (λ y. rw y (omega (arith, room))) (λ n. rw n (e q))
+
+-- a bundle that is made: its stream counts it
+counted_bundle : (m : Machine) (w : World) (p : ℕ) → Lawful m w → w.streams.counters p < 2 ^ 32 - 1 → Lawful m (record w { streams = record (w.streams) { counters = put w.streams.counters p (w.streams.counters p + 1) } })
+counted_bundle m w p l room = record {
+  size = l.size;
+  pages = l.pages;
+  tds = l.tds;
+  lists = l.lists;
+  tree = l.tree;
+  keys = l.keys;
+  beginnings = l.beginnings;
+  counts = counts_of m.pages w.pages w.tds _ (λ x a. (l.counts.dirtied x a, l.counts.unrestored x a));
+  streams = record {
+    counter = more_below w.streams.counters l.streams.counter p room;
+    cleaned = more_above w.streams.cleaned w.streams.counters l.streams.cleaned p;
+    first_exports = more_above w.streams.first_exports w.streams.counters l.streams.first_exports p;
+  };
+  sessions = l.sessions;
+}
+
+bundle_kept : (m : Machine) (w : World) (t slot : ℕ) (a : About) (payload : List ℕ) → Lawful m w → stream_counter w t a.stream < 2 ^ 32 - 1 → Lawful m (make_bundle t slot a payload w)
+bundle_kept m w t slot a payload l room = untouched m _ (make_bundle t slot a payload w) refl (counted_bundle m w (stream_page w t a.stream) l room)
+
+-- the page of a TD's stream
+stream_among : (ps : List ℕ) (k : ℕ) → k < length ps → list_any (λ q. q == get_or ps k 0) ps ≡ true
+stream_among ps k few = list_any_at (λ q. q == get_or ps k 0) ps k 0 few (same_self (get_or ps k 0))
+
+-- a stream of one TD isn't one of another's
+stream_apart : (m : Machine) (w : World) → Lawful m w → (t x q : ℕ) → IsAlive w.pages w.tds t → IsAlive w.pages w.tds x → (x == t) ≡ false → list_any (λ p. p == q) (w.tds.streams x) ≡ true → list_any (λ p. p == q) (w.tds.streams t) ≡ false
+stream_apart m w l t x q alive a n h =
+    none_elsewhere w x q t (page_among w.pages x kind.Migsc (w.tds.streams x) q (l.tds.streams x a) h).owner (ne_eqb t x (λ e. eqb-false x t n (sym e))) (w.tds.streams t) (l.tds.streams t alive)
+
+-- EXPORT.STATE.IMMUTABLE: no entry of the TD is exported, and nothing is counted yet
+module _ (m : Machine) (w : World) (t : ℕ) (l : Lawful m w) (alive : IsAlive w.pages w.tds t) (built : (length (w.tds.controls t) == 2) ≡ true) (begun : w.tds.ops t ≢ op.Uninitialized)
+    (few : 0 < length (w.tds.streams t)) (restored : unrestored_count w t ≡ 0) (room : w.key_table.last_exported < 65535) where
+  abbrev now : World
+  now = begin_session t w
+
+  put_all_here : (f : ℕ → ℕ) → sum_by (put_all f (w.tds.streams t) 0) (w.tds.streams t) ≡ 0
+  put_all_here f = sum_zero (put_all f (w.tds.streams t) 0) (w.tds.streams t) (λ q h. rw h refl)
+
+  put_all_there : (f : ℕ → ℕ) (x : ℕ) → (x == t) ≡ false → IsAlive w.pages w.tds x → sum_by (put_all f (w.tds.streams t) 0) (w.tds.streams x) ≡ sum_by f (w.tds.streams x)
+  put_all_there f x n a = sum_same (put_all f (w.tds.streams t) 0) f (w.tds.streams x) (λ q h. (let apart = stream_apart m w l t x q alive a n h in rw apart refl))
+
+  put_all_each : (f g : ℕ → ℕ) → ((q : ℕ) → f q ≤ g q) → (q : ℕ) → put_all f (w.tds.streams t) 0 q ≤ put_all g (w.tds.streams t) 0 q
+  put_all_each f g e q = by_test (list_any (λ p. p == q) (w.tds.streams t)) (λ y. rw y (lit≤ tt)) (λ n. rw n (e q))
+
+  begun_here : IsCounted m.pages w.pages now.tds now.streams t
+  begun_here =
+      let exported : entries_where is_exported m.pages w.pages w.tds t ≡ 0 = l.counts.unrestored t alive ∙ restored in
+      let dirty : entries_where is_dirty m.pages w.pages w.tds t ≡ 0 = none_dirty_of m.pages w.pages w.tds t exported in
+      let cleaned = put_all_here w.streams.cleaned in
+      let first = put_all_here w.streams.first_exports in
+      let dirtied = put_here w.tds.dirtied t 0 in
+      let unrestored = put_here w.tds.unrestored t 0 in
+      (omega (arith, dirty, cleaned, dirtied), omega (arith, exported, first, unrestored))
+
+  begun_there : (x : ℕ) → (x == t) ≡ false → IsAlive w.pages w.tds x → IsCounted m.pages w.pages now.tds now.streams x
+  begun_there x n a = counted_on m.pages w.pages now.tds w.streams now.streams x (put_all_there w.streams.cleaned x n a) (put_all_there w.streams.first_exports x n a)
+      (counted_still m.pages w.pages w.pages w.tds now.tds w.streams x (rw n refl) (λ f of p. refl) (l.counts.dirtied x a, l.counts.unrestored x a))
+
+  session_begun : Lawful m (begin_session t w)
+  session_begun = session_kept m w t built l now.tds now.streams (w.key_table.last_exported + 1) (same_shape m w t built l now.tds refl refl refl refl refl refl) refl l.tds.epoch
+      (λ x. by_test (x == t) (λ y n. subst (λ (z : ℕ). 1 ≤ w.tds.epochs z) (sym (eqb-true x t y)) (l.tds.epoch_begun t begun)) (λ y n. l.tds.epoch_begun x (rw y at n)))
+      (λ x n. rw n refl)
+      (counts_of m.pages w.pages now.tds now.streams (λ x a. by_test (x == t)
+      (λ y. subst (λ (z : ℕ). IsCounted m.pages w.pages now.tds now.streams z) (sym (eqb-true x t y)) begun_here)
+      (λ n. begun_there x n (record { kind = a.kind; life = a.life }))))
+      (record {
+        counter = λ q. by_test (list_any (λ p. p == q) (w.tds.streams t)) (λ y. rw y (lit< tt)) (λ n. rw n (l.streams.counter q));
+        cleaned = put_all_each w.streams.cleaned w.streams.counters l.streams.cleaned;
+        first_exports = put_all_each w.streams.first_exports w.streams.counters l.streams.first_exports;
+      })
+      (sessions_of now.tds now.key_table (omega (arith, room)) (λ x. by_test (x == t)
+      (λ y. (let same : x ≡ t = eqb-true x t y in rw y (omega (arith, room), lit< tt, λ e. (lit≤ tt, rw same few))))
+      (λ n. rw n (session_at w.tds w.key_table l.sessions x))))
+
+  first_counter : stream_counter now t 0 ≡ 0
+  first_counter = rw (stream_among (w.tds.streams t) 0 few) refl
+
+pub export_immutable-keeps : (m : Machine) (t slot : ℕ) → RowKeeps m (export_immutable m t slot)
+export_immutable-keeps m t slot = record {
+  act = λ w l ps.
+      let alive : IsAlive w.pages w.tds t = record { kind = tdr_kind _ ps.1.0; life = living (w.tds.lives t) ps.1.1.0 } in
+      let begun = begun_of session_ops (w.tds.ops t) refl ps.1.1.1.1.0 in
+      let few : 0 < length (w.tds.streams t) = ltb-true _ _ ps.1.1.1.1.1.0 in
+      let restored : unrestored_count w t ≡ 0 = eqb-true _ 0 ps.1.1.1.1.1.1.0 in
+      let room : w.key_table.last_exported < 65535 = ltb-true _ _ ps.1.1.1.1.1.1.1.0 in
+      let none : stream_counter (begin_session t w) t 0 ≡ 0 = first_counter m w t l alive ps.1.1.1.0 begun few restored room in
+      bundle_kept m (begin_session t w) t slot _ _ (session_begun m w t l alive ps.1.1.1.0 begun few restored room) (omega (arith, none));
+  to_tell = λ w. refl;
+}
+
+-- EXPORT.MEM: the entry is exported, as it was before in the session or for the first time, and its stream counts which
+abbrev raised : Streams → (p : ℕ) → (again : Bool) → Streams
+raised s p again = record {
+  counters = put s.counters p (s.counters p + 1);
+  cleaned = if again then put s.cleaned p (s.cleaned p + 1) else s.cleaned;
+  first_exports = if again then s.first_exports else put s.first_exports p (s.first_exports p + 1);
+}
+
+raised_lawful : (s : Streams) (p : ℕ) (again : Bool) → LawfulStreams s → s.counters p < 2 ^ 32 - 1 → LawfulStreams (raised s p again)
+raised_lawful s p true l room = record {
+  counter = more_below s.counters l.counter p room;
+  cleaned = more_each s.cleaned s.counters l.cleaned p;
+  first_exports = more_above s.first_exports s.counters l.first_exports p;
+}
+raised_lawful s p false l room = record {
+  counter = more_below s.counters l.counter p room;
+  cleaned = more_above s.cleaned s.counters l.cleaned p;
+  first_exports = more_each s.first_exports s.counters l.first_exports p;
+}
+
+-- what is counted on the stream's TD, and on another
+raised_here : (s : Streams) (ps : List ℕ) (k : ℕ) (again : Bool) → k < length ps → all_differ ps ≡ true
+    → (sum_by (raised s (get_or ps k 0) again).cleaned ps ≡ sum_by s.cleaned ps + one_if again) × (sum_by (raised s (get_or ps k 0) again).first_exports ps ≡ sum_by s.first_exports ps + one_if (not again))
+raised_here s ps k true few d = (sum_raised s.cleaned ps k few d, omega arith)
+raised_here s ps k false few d = (omega arith, sum_raised s.first_exports ps k few d)
+
+raised_there : (s : Streams) (p : ℕ) (ps : List ℕ) (again : Bool) → list_any (λ q. q == p) ps ≡ false
+    → (sum_by (raised s p again).cleaned ps ≡ sum_by s.cleaned ps) × (sum_by (raised s p again).first_exports ps ≡ sum_by s.first_exports ps)
+raised_there s p ps true none = (sum_without s.cleaned p _ ps none, refl)
+raised_there s p ps false none = (refl, sum_without s.first_exports p _ ps none)
+
+exportable_used : (o : OpState) (s : EntryState) → list_any (λ a. same_state a s) (exportable o) ≡ true → (is_free s ≡ false) × (is_node s ≡ false) × (is_dirty s ≡ is_exported s)
+exportable_used op.LiveExport entry.BlockedW h = (refl, refl, refl)
+exportable_used op.LiveExport entry.ExportedDirtyBlockedW h = (refl, refl, refl)
+exportable_used op.LiveExport _ h = cc
+exportable_used _ entry.Mapped h = (refl, refl, refl)
+exportable_used _ entry.BlockedW h = (refl, refl, refl)
+exportable_used _ entry.ExportedDirty h = (refl, refl, refl)
+exportable_used _ entry.ExportedDirtyBlockedW h = (refl, refl, refl)
+exportable_used _ _ h = cc
+
+-- a mark that isn't 0
+marked : (e : Entry) (mark : ℕ) → mark < 2 ^ 32 → 1 ≤ mark → is_lawful_entry e ≡ true → is_lawful_entry (record { state = entry.ExportedBlockedW; page = e.page; mark = mark }) ≡ true
+marked e mark small begun lawful =
+    let page = (and_parts (nat_lt e.page 1024) _ lawful).0 in
+    let fits : nat_lt mark (2 ^ 32) ≡ true = grind arith in
+    let some : (mark == 0) ≡ false = ne_eqb mark 0 (λ none. omega (arith, begun, none)) in
+    rw (page, fits, some) refl
+
+module _ (m : Machine) (w : World) (t number k : ℕ) (l : Lawful m w) (alive : IsAlive w.pages w.tds t) (exporting : is_exporting (w.tds.ops t) ≡ true) (few : k < length (w.tds.streams t))
+    (used : is_free (w.tds.entries t 0 number).state ≡ false) (low : is_node (w.tds.entries t 0 number).state ≡ false) (dirt : is_dirty (w.tds.entries t 0 number).state ≡ is_exported (w.tds.entries t 0 number).state)
+    (room : w.streams.counters (get_or (w.tds.streams t) k 0) < 2 ^ 32 - 1) where
+  abbrev old : Entry
+  old = w.tds.entries t 0 number
+
+  abbrev p : ℕ
+  p = get_or (w.tds.streams t) k 0
+
+  abbrev new : Entry
+  new = record { state = entry.ExportedBlockedW; page = old.page; mark = w.tds.mig_epochs t }
+
+  abbrev after : Tds
+  after = with_entry w t 0 number new w.tds.dirtied w.tds.unrestored
+
+  abbrev streams : Streams
+  streams = raised w.streams p (is_exported old.state)
+
+  exported_here : IsCounted m.pages w.pages after streams t
+  exported_here =
+      let sums = raised_here w.streams (w.tds.streams t) k (is_exported old.state) few (l.tds.streams_differ t) in
+      let many = few_where m w l t alive is_exported (λ s h. h) in (
+        dirty (is_exported old.state) _ _ _ _ _ (ap one_if dirt) (moved m w t number new w.tds.dirtied w.tds.unrestored l alive used is_dirty) (l.counts.dirtied t alive) sums.0,
+        exported (is_exported old.state) _ _ _ _ _ many (moved m w t number new w.tds.dirtied w.tds.unrestored l alive used is_exported) (l.counts.unrestored t alive) sums.1,
+      )
+    where
+      dirty : (again : Bool) (a b s s' d : ℕ) → one_if (is_dirty old.state) ≡ one_if again → a + one_if (is_dirty old.state) ≡ b + 0 → b + s ≡ d → s' ≡ s + one_if again → a + s' ≡ d
+      dirty again a b s s' d same h is sum = omega (arith, same, h, is, sum)
+
+      exported : (again : Bool) (a b s s' u : ℕ) → b ≤ 2 ^ 35 → a + one_if again ≡ b + 1 → b ≡ (u + s) % 2 ^ 64 → s' ≡ s + one_if (not again) → a ≡ (u + s') % 2 ^ 64
+      exported true a b s s' u many h is sum = let same : a ≡ b = omega (arith, h) in let sums : s' ≡ s = omega (arith, sum) in same ∙ (is ∙ ap (λ (n : ℕ). (u + n) % 2 ^ 64) (sym sums))
+      exported false a b s s' u many h is sum = omega (arith, many, h, is, sum)
+
+  exported_there : (x : ℕ) → (x == t) ≡ false → IsAlive w.pages after x → IsCounted m.pages w.pages after streams x
+  exported_there x n a =
+      let before : IsAlive w.pages w.tds x = record { kind = a.kind; life = a.life } in
+      let mine : list_any (λ q. q == p) (w.tds.streams t) ≡ true = stream_among (w.tds.streams t) k few in
+      let none : list_any (λ q. q == p) (w.tds.streams x) ≡ false = stream_apart m w l x t p before alive (ne_eqb t x (λ e. eqb-false x t n (sym e))) mine in
+      let sums = raised_there w.streams p (w.tds.streams x) (is_exported old.state) none in
+      counted_on m.pages w.pages after w.streams streams x sums.0 sums.1
+      (others_counted m w t number new w.tds.dirtied w.tds.unrestored l alive used (λ y other. (refl, refl)) x n a)
+
+  page_exported : Lawful m (record w { tds = after; streams = streams })
+  page_exported =
+      let session = session_at w.tds w.key_table l.sessions t in
+      counted_entry_kept m w t 0 number new w.tds.dirtied w.tds.unrestored l used refl (sym low) refl (marked old (w.tds.mig_epochs t) session.1 (session.2 exporting).0) (λ x n. (refl, refl))
+      streams (raised_lawful w.streams p (is_exported old.state) l.streams room)
+      (counts_of m.pages w.pages after streams (λ x a. by_test (x == t)
+      (λ y. subst (λ (z : ℕ). IsCounted m.pages w.pages after streams z) (sym (eqb-true x t y)) exported_here)
+      (λ n. exported_there x n a)))
+
+pub export_page-keeps : (m : Machine) (t gpa k slot : ℕ) → RowKeeps m (export_page m t gpa k slot)
+export_page-keeps m t gpa k slot = record {
+  act = λ w l ps.
+      let e : Entry = entry_at w t 0 gpa in
+      let head = ps.1.1.1.1 in
+      let alive : IsAlive w.pages w.tds t = record { kind = tdr_kind _ head.0; life = living (w.tds.lives t) head.1.0 } in
+      let behind = behind_walk w t gpa 0
+      (has_page w t gpa 0 ∷ named_page w t gpa 0 Exclusive ∷ state_in w t gpa 0 (exportable (w.tds.ops t)) ∷ other_epoch w t gpa ∷ page_exclusive (stream_page w t k) ∷ counter_room w t k ∷ tracked_in (w.tds.ops t) w t e.page)
+      head.1.1.1.1.1 in
+      let r = exportable_used (w.tds.ops t) e.state behind.1.0 in
+      untouched m _ _ refl (page_exported m w t (number_at 0 gpa) k l alive (abortable_exporting (w.tds.ops t) head.1.1.1.0) (ltb-true _ _ head.1.1.1.1.0) r.0 r.1 r.2 (ltb-true _ _ behind.1.1.1.0));
+  to_tell = λ w. refl;
+}
+
+-- EXPORT.TRACK: the migration epoch rises, to the start token's at last
+epoch_set : (m : Machine) (w : World) (t epoch : ℕ) → Lawful m w → (length (w.tds.controls t) == 2) ≡ true → 1 ≤ epoch → epoch < 2 ^ 32 → Lawful m (set_mig_epoch t epoch w)
+epoch_set m w t epoch l built begun small =
+    built_kept m w t built l (set_mig_epoch t epoch w).tds (same_shape m w t built l _ refl refl refl refl refl refl) (λ x. refl) refl l.tds.epoch l.tds.epoch_begun (λ x n. rw n refl)
+    (λ x h. by_test (x == t) (λ y. rw y (h.0, small, λ e. (begun, (h.2 e).1))) (λ n. rw n h))
+
+token_kept : (m : Machine) (w : World) (t slot start : ℕ) → Lawful m w → Passes ((export_token m t slot start).items w) → Lawful m ((export_token m t slot start).act w)
+token_kept m w t slot zero l ps =
+    let head = ps.1.1 in
+    let room : w.tds.mig_epochs t < 2 ^ 32 - 2 = ltb-true _ _ head.1.1.1.1.1.0 in
+    bundle_kept m (set_mig_epoch t (w.tds.mig_epochs t + 1) w) t slot _ _ (epoch_set m w t (w.tds.mig_epochs t + 1) l head.1.1.0 (omega arith) (omega (arith, room))) (ltb-true _ _ head.1.1.1.1.0)
+token_kept m w t slot (suc n) l ps =
+    let head = ps.1.1 in
+    let w1 : World = set_mig_epoch t start_epoch w in
+    let l1 : Lawful m w1 = epoch_set m w t start_epoch l head.1.1.0 (lit≤ tt) (lit< tt) in
+    let begun = begun_of paused_ops (w.tds.ops t) refl head.1.1.1.0 in
+    bundle_kept m (track_export t (suc n) w) t slot _ _
+    (op_kept m w1 t head.1.1.0 l1 op.PostExport (l.tds.epoch_begun t begun) (λ e. (session_at w1.tds w1.key_table l1.sessions t).2 (paused_exporting (w.tds.ops t) head.1.1.1.0)))
+    (ltb-true _ _ head.1.1.1.1.0)
+
+token_tells : (m : Machine) (w : World) (t slot start : ℕ) → ((export_token m t slot start).act w).outgoing.to_tell ≡ w.outgoing.to_tell
+token_tells m w t slot zero = refl
+token_tells m w t slot (suc n) = refl
+
+pub export_token-keeps : (m : Machine) (t slot start : ℕ) → RowKeeps m (export_token m t slot start)
+export_token-keeps m t slot start = record { act = λ w l ps. token_kept m w t slot start l ps; to_tell = λ w. token_tells m w t slot start }
+
+-- EXPORT.STATE.TD and EXPORT.STATE.VP
+pub export_td-keeps : (m : Machine) (t slot : ℕ) → RowKeeps m (export_td m t slot)
+export_td-keeps m t slot = record {
+  act = λ w l ps.
+      let built = ps.1.1.1.0 in
+      bundle_kept m (note_td_export t w) t slot _ _
+      (built_kept m w t built l (note_td_export t w).tds (same_shape m w t built l _ refl refl refl refl refl refl) (λ x. refl) refl l.tds.epoch l.tds.epoch_begun (λ x n. rw n refl) (λ x h. h))
+      (ltb-true _ _ ps.1.1.1.1.1.1.0);
+  to_tell = λ w. refl;
+}
+
+pub export_vp-keeps : (m : Machine) (t v slot : ℕ) → RowKeeps m (export_vp m t v slot)
+export_vp-keeps m t v slot = record {
+  act = λ w l ps.
+      let head = ps.1.1.1 in
+      let built = head.1.1.0 in
+      bundle_kept m (note_vp_export t v w) t slot _ _
+      (untouched m (record w { tds = (note_vp_export t v w).tds }) _ refl
+      (built_kept m w t built l (note_vp_export t v w).tds (same_shape m w t built l _ refl refl refl refl refl refl) (λ x. refl) refl l.tds.epoch l.tds.epoch_begun (λ x n. rw n refl) (λ x h. h)))
+      (ltb-true _ _ head.1.1.1.1.1.1.0);
+  to_tell = λ w. refl;
+}
