@@ -2,6 +2,8 @@
 -- stays the same for whoever holds P of the TDR page and T, in either mode: a call that changes it has one of them alone.
 use Rattle.std.proofs.Common.{◌≡◌, ◌⊎◌, inl, inr, ◌≢◌, refl, sym, ◌∙◌, subst, ap, ℕ, ◌+◌, ◌<◌, List, [], ◌∷◌, ◌++◌, length, drop, Option, Some, None, option_map, Bool, true, false, ◌==◌, ◌&&◌, arith}
 use Rattle.std.proofs.lemmas.Bool.{eq-eqb, eqb-true, eqb-false, ne_eqb, and_parts}
+use Rattle.td_words.specs.declared.names.EntryState.{EntryState}
+use Rattle.td_words.specs.declared.names.EntryState.TheVariants as entry
 use Rattle.td_words.specs.declared.names.Mode.{Mode}
 use Rattle.td_words.specs.declared.names.Mode.TheVariants.{Shared, Exclusive}
 use Rattle.td_words.specs.declared.calls.Call.{Call}
@@ -18,14 +20,17 @@ use Rattle.flat_core.specs.Locks.{same_lock, is_alone}
 use Rattle.flat_core.specs.Opening.{Opening, Incoming}
 use Rattle.flat_core.specs.Row.{Item, Row, OperationRow, Move, Attempts, Undoes, Refuses, Succeeds, Releases, Rests, next, next_in, but_newest}
 use Rattle.flat_core.specs.Table.{row_of}
-use Rattle.flat_core.specs.Effects.{put_in}
+use Rattle.flat_core.specs.Effects.{put_in, restate}
+use Rattle.flat_core.specs.ExportRows.{write_blocked}
+use Rattle.flat_core.specs.Lawful.{is_free}
 use Rattle.flat_core.specs.Tree.{entry_at, number_at}
-use Rattle.flat_core.specs.Tries.{shared, alone, td_tries, named_tries, tries_of}
+use Rattle.flat_core.specs.Tries.{shared, alone, td_tries, named_tries, opened_tries, tries_of}
 use Rattle.flat_core.specs.Guest.{ByRow, operation_of, is_pending_at, reach, walk_step, answered}
 use Rattle.flat_core.specs.Inside.{held_then}
 use Rattle.flat_core.specs.Event.{State, Event, OfCall, OfOperation, Walks, Reaches, start, next_event, event, lines_left, after_event, world_after, call_world, operation_world, lp_after, call_lp, succeeded, settled, settle, settled_guest, operation_guest, nothing_more, is_granted}
 use Rattle.flat_core.specs.Laws.{with_bundles}
 use Rattle.flat_core.proofs.Tests.{by_test}
+use Rattle.flat_core.proofs.EntryStates.{entry_set}
 use Rattle.flat_core.proofs.Induction.{count_stays}
 use Rattle.flat_core.proofs.LockLaw.{exclusion_kept}
 use Rattle.flat_core.proofs.Operations.{operation_row, accepted}
@@ -82,6 +87,18 @@ named c t gpa level are = record {
   tree = rw (eq-eqb t t refl) refl;
 }
 
+opened : (c : Call) (t gpa : ℕ) → ((w : World) → tries_of c w ≡ opened_tries w t gpa) → NamesLast c
+opened c t gpa are = record {
+  tdr = t;
+  level = 0;
+  gpa = gpa;
+  front = td_tries t Shared ++ alone (OfTree t) ∷ [];
+  mode = Exclusive;
+  are = are;
+  page = rw (eq-eqb t t refl) refl;
+  tree = rw (eq-eqb t t refl) refl;
+}
+
 names-last : (c : Call) → ((v w : World) → tries_of c v ≡ tries_of c w) ⊎ NamesLast c
 names-last (call.MrExtend t gpa) = inr (record {
   tdr = t;
@@ -97,6 +114,18 @@ names-last (call.MemSeptRemove t gpa level) = inr (named (call.MemSeptRemove t g
 names-last (call.MemPageRemove t gpa) = inr (named (call.MemPageRemove t gpa) t gpa 0 (λ w. refl))
 names-last (call.MemRangeBlock t gpa level) = inr (named (call.MemRangeBlock t gpa level) t gpa level (λ w. refl))
 names-last (call.MemRangeUnblock t gpa level) = inr (named (call.MemRangeUnblock t gpa level) t gpa level (λ w. refl))
+names-last (call.ExportBlockw t gpa) = inr (record {
+  tdr = t;
+  level = 0;
+  gpa = gpa;
+  front = td_tries t Shared ++ shared (OfTree t) ∷ shared (OfEpoch t) ∷ [];
+  mode = Exclusive;
+  are = λ w. refl;
+  page = rw (eq-eqb t t refl) refl;
+  tree = rw (eq-eqb t t refl) refl;
+})
+names-last (call.ExportUnblockw t gpa) = inr (opened (call.ExportUnblockw t gpa) t gpa (λ w. refl))
+names-last (call.ExportRestore t gpa) = inr (opened (call.ExportRestore t gpa) t gpa (λ w. refl))
 names-last (call.HostRead page word) = inl (λ v w. refl)
 names-last _ = inl (λ v w. refl)
 
@@ -126,19 +155,47 @@ first-stays c hs v w f pages = elim (names-last c) [ inl same ↦ (f.0, same v w
 off : (t u : ℕ) → ((u == t) ≡ true → ⊥) → (t == u) ≡ false
 off t u apart = ne_eqb t u (λ e. apart (eq-eqb u t (sym e)))
 
--- a call that tries neither T of a TD nor P of its TDR page alone leaves the TD's entries
+-- what an entry names: its page, where it isn't FREE
+pub record NamesAs (after before : Entry) : Type 0 where
+  pub page : after.page ≡ before.page
+  pub free : is_free after.state ≡ is_free before.state
+
+abbrev pub EntriesStay : (before after : World) → ℕ → Type 0
+EntriesStay w v t = (l n : ℕ) → NamesAs (v.tds.entries t l n) (w.tds.entries t l n)
+
+as-it-is : (e : Entry) → NamesAs e e
+as-it-is e = record { page = refl; free = refl }
+
+-- an entry that gets another state
+restated : (w : World) (u number mark : ℕ) (s : EntryState) → is_free s ≡ is_free (w.tds.entries u 0 number).state → (t : ℕ) → EntriesStay w (restate u number s mark w) t
+restated w u number mark s same t l n =
+    let was : Entry = w.tds.entries u 0 number in
+    entry_set w u 0 number (record { state = s; page = was.page; mark = mark }) (λ e. NamesAs e (w.tds.entries t l n)) t l n
+    (λ a b c. let at : was ≡ w.tds.entries t l n = sym (ap (λ (z : ℕ). w.tds.entries z l n) a ∙ (ap (λ (z : ℕ). w.tds.entries u z n) b ∙ ap (λ (z : ℕ). w.tds.entries u 0 z) c)) in
+    record { page = ap (λ (e : Entry). e.page) at; free = same ∙ ap (λ (e : Entry). is_free e.state) at })
+    (λ apart. as-it-is _)
+
+write-blocked-free : (s : EntryState) → is_free (write_blocked s) ≡ is_free s
+write-blocked-free entry.Mapped = refl
+write-blocked-free entry.ExportedDirty = refl
+write-blocked-free _ = refl
+
+-- a call that tries neither T of a TD nor P of its TDR page alone leaves the pages that its entries name
 row-entries : (o : Opening) (me : ℕ) (c : Call) (w : World) (t : ℕ) → (holds_alone (tries_of c w) (OfTree t) ≡ true → ⊥) → (holds_alone (tries_of c w) (OfPage t) ≡ true → ⊥)
-    → ((row_of o me c).act w).tds.entries t ≡ w.tds.entries t
-row-entries o me (call.MngCreate u h) w t tree page = let n = off t u (λ y. page (rw y refl)) in rw n refl
-row-entries o me (call.MemSeptAdd u gpa level p) w t tree page = let n = off t u (λ y. tree (rw y refl)) in rw n refl
-row-entries o me (call.MemSeptRemove u gpa level) w t tree page = let n = off t u (λ y. tree (rw y refl)) in rw n refl
-row-entries o me (call.MemPageAdd u gpa p source) w t tree page = let n = off t u (λ y. tree (rw y refl)) in rw n refl
-row-entries o me (call.MemPageAug u gpa p) w t tree page = let n = off t u (λ y. tree (rw y refl)) in rw n refl
-row-entries o me (call.MemPageRemove u gpa) w t tree page = let n = off t u (λ y. tree (rw y refl)) in rw n refl
-row-entries o me (call.MemRangeBlock u gpa level) w t tree page = let n = off t u (λ y. tree (rw y refl)) in rw n refl
-row-entries o me (call.MemRangeUnblock u gpa level) w t tree page = let n = off t u (λ y. tree (rw y refl)) in rw n refl
-row-entries o me (call.HostRead p i) w t tree page = refl
-row-entries o me _ w t tree page = refl
+    → EntriesStay w ((row_of o me c).act w) t
+row-entries o me (call.MngCreate u h) w t tree page = let n = off t u (λ y. page (rw y refl)) in λ l k. rw n (as-it-is _)
+row-entries o me (call.MemSeptAdd u gpa level p) w t tree page = let n = off t u (λ y. tree (rw y refl)) in λ l k. rw n (as-it-is _)
+row-entries o me (call.MemSeptRemove u gpa level) w t tree page = let n = off t u (λ y. tree (rw y refl)) in λ l k. rw n (as-it-is _)
+row-entries o me (call.MemPageAdd u gpa p source) w t tree page = let n = off t u (λ y. tree (rw y refl)) in λ l k. rw n (as-it-is _)
+row-entries o me (call.MemPageAug u gpa p) w t tree page = let n = off t u (λ y. tree (rw y refl)) in λ l k. rw n (as-it-is _)
+row-entries o me (call.MemPageRemove u gpa) w t tree page = let n = off t u (λ y. tree (rw y refl)) in λ l k. rw n (as-it-is _)
+row-entries o me (call.MemRangeBlock u gpa level) w t tree page = let n = off t u (λ y. tree (rw y refl)) in λ l k. rw n (as-it-is _)
+row-entries o me (call.MemRangeUnblock u gpa level) w t tree page = let n = off t u (λ y. tree (rw y refl)) in λ l k. rw n (as-it-is _)
+row-entries o me (call.ExportBlockw u gpa) w t tree page = restated w u (number_at 0 gpa) (entry_at w u 0 gpa).mark (write_blocked (entry_at w u 0 gpa).state) (write-blocked-free (entry_at w u 0 gpa).state) t
+row-entries o me (call.ExportUnblockw u gpa) w t tree page = let n = off t u (λ y. tree (rw y refl)) in λ l k. rw n (as-it-is _)
+row-entries o me (call.ExportRestore u gpa) w t tree page = let n = off t u (λ y. tree (rw y refl)) in λ l k. rw n (as-it-is _)
+row-entries o me (call.HostRead p i) w t tree page = λ l k. as-it-is _
+row-entries o me _ w t tree page = λ l k. as-it-is _
 
 -- an entry that gets another state names its page
 same-page : (w : World) (u level number : ℕ) (x : Entry) (t l n : ℕ) → x.page ≡ (w.tds.entries u level number).page
@@ -173,8 +230,8 @@ module _ (o : Opening) (w : World) (t : ℕ) where
   reach-names u v Read r gpa page = λ l n. refl
   reach-names u v Write r gpa page = λ l n. refl
 
-  call-moved : (row : Row) (mv : Move Reply) → (mv ≡ Succeeds → (row.act w).tds.entries t ≡ w.tds.entries t) → NamesSame w (call_world row mv w) t
-  call-moved row Succeeds h = let e = h refl in λ l n. ap (λ (f : ℕ → ℕ → Entry). (f l n).page) e
+  call-moved : (row : Row) (mv : Move Reply) → (mv ≡ Succeeds → EntriesStay w (row.act w) t) → NamesSame w (call_world row mv w) t
+  call-moved row Succeeds h = λ l n. (h refl l n).page
   call-moved row (Attempts x m) h = λ l n. refl
   call-moved row (Undoes x) h = λ l n. refl
   call-moved row (Refuses r) h = λ l n. refl
@@ -316,9 +373,9 @@ module _ (o : Opening) (s : State) (h : CallsHoldApart o s) where
         let all : tries_of c w ≡ held_then hs [] = f.1 ∙ ap (held_then hs) (all-had ((row_of o p c).items w) hs f.0 (rows_try_lists o p c w ∙ f.1) at.1) in
         alone-before hs (operation_locks lp.guest) l (all-turned (λ x. is_alone x.mode && same_lock x.lock l) hs (subst (λ (xs : List Held). holds_alone xs l ≡ true) all k))
 
-    -- so it leaves the entries of a TD whose T and P another holds
+    -- so it leaves the pages that entries of a TD name whose T and P another holds
     pub entries-stay : (q : ℕ) → q ≢ p → q < s.lp_count → (t : ℕ) → holds (locks_of (s.lps q)) (OfPage t) ≡ true → holds (locks_of (s.lps q)) (OfTree t) ≡ true
-        → ((row_of o p c).act w).tds.entries t ≡ w.tds.entries t
+        → EntriesStay w ((row_of o p c).act w) t
     entries-stay q apart below t page tree =
         let parts = grips-apart s p q h.exclusive (in-machine p c cs line) below (ne_eqb p q (λ e. apart (sym e))) in
         row-entries o p c w t (λ y. parts.there.sole (Locked (OfTree t)) (its (OfTree t) y) tree) (λ y. parts.there.sole (Locked (OfPage t)) (its (OfPage t) y) page)

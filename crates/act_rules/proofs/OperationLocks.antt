@@ -40,10 +40,10 @@ use Rattle.flat_core.proofs.GuestOrder.{operations_try_lists}
 use Rattle.word_rules.specs.CallUses.{HoldsTries}
 use Rattle.lock_words.specs.Grips.{holds, operation_locks, locks_of, grip_of}
 use Rattle.act_rules.proofs.Tried.{drop-then, next-locks, held-before, held-behind, alone-behind, IsWithin, all-pass, length-then, nothing-left, all-turned, tries-held}
-use Rattle.act_rules.proofs.CallHolds.{in-machine, entries-stay, calls-rebundled, call-locks-kept}
+use Rattle.act_rules.proofs.CallHolds.{EntriesStay, in-machine, entries-stay, calls-rebundled, call-locks-kept}
 use Rattle.act_rules.specs.GuestLocks.{HoldsFirst, NamesTried, IsNamed, HoldsDue, HoldsIn, HoldsTheirs, OperationsHoldTheirs, AllHoldTheirs, OperationLocksAreKept, OperationLocksHold}
 
--- An entry of level 0 that isn't FREE names the same page after each event, where the act of a call leaves the TD's entries
+-- An entry of level 0 that isn't FREE names the same page after each event, where the act of a call leaves it
 
 pending-used : (s : EntryState) → same_state s entry.Pending ≡ true → is_free s ≡ false
 pending-used entry.Free h = cc
@@ -95,15 +95,15 @@ module _ (o : Opening) (w : World) (t n : ℕ) (used : is_free (w.tds.entries t 
   operation-moved row (Releases x) h = (used, refl)
   operation-moved row Rests h = (used, refl)
 
-  -- the act of a call that leaves the entries of the TD
+  -- the act of a call that leaves the pages that entries of the TD name
   abbrev ActsLeave : ℕ → Lp → Type 0
   ActsLeave p lp = (c : Call) (cs : List Call) → lines_left o p lp ≡ c ∷ cs → lp.guest ≡ None → next_in ((row_of o p c).items w) lp.call.phase lp.call.held ≡ Succeeds
-      → ((row_of o p c).act w).tds.entries t ≡ w.tds.entries t
+      → EntriesStay w ((row_of o p c).act w) t
 
   event-names : (p : ℕ) (lp : Lp) → ActsLeave p lp → (e : Event) → Due o w p lp e → StillNames (world_after e w)
   event-names p lp leave e (calls c cs line none) =
       call-moved (row_of o p c) (next_in ((row_of o p c).items w) lp.call.phase lp.call.held)
-      (λ y. as-before ((row_of o p c).act w) (ap (λ (f : ℕ → ℕ → Entry). f 0 n) (leave c cs line none y)))
+      (λ y. let x = leave c cs line none y 0 n in (x.free ∙ used, x.page))
   event-names p lp leave e (frees c cs g h hs line guest held epoch) = (used, refl)
   event-names p lp leave e (leaves c cs g out i l) = (used, refl)
   event-names p lp leave e (stops c cs g i l x d) = (used, refl)
@@ -333,7 +333,7 @@ module _ (o : Opening) (s : State) (p : ℕ) (e : Event) (is : next_event o s p 
           other-theirs s.world (world_after e s.world) g.tdr o g refl
           (λ tree n used. let all : holds (locks_of lp) (OfTree g.tdr) ≡ true = subst (λ (x : Option Guest). holds (lp.call.held ++ operation_locks x) (OfTree g.tdr) ≡ true) (sym guest) (held-behind lp.call.held g.operation.held (OfTree g.tdr) tree) in
           event-names o s.world g.tdr n used p (s.lps p) (λ c cs line none acts. entries-stay o s h.calls p c cs line none acts q apart below g.tdr page all) e (due_event_is o s p e is))
-          (leave o s p e is h.operations.timely q g.tdr g.vp apart t.occupied).same k
+          (leave o s p e is h.operations.timely q g apart guest).same k
 
       by : (cs : List Call) → lines_left o q (s.lps q) ≡ cs → StandsAt o s.world q cs (s.lps q) → IfSome (s.lps q).guest (HoldsTheirs o (world_after e s.world))
       by [] line t = subst (λ (x : Option Guest). IfSome x (HoldsTheirs o (world_after e s.world))) (sym t.0) tt

@@ -23,13 +23,14 @@ use Rattle.flat_core.specs.Processor.{OfPage, OfOp, OfTree, OfKeys}
 use Rattle.flat_core.specs.Lawful.{Lawful, ArePagesOf, key_owner}
 use Rattle.flat_core.specs.Row.{Item, Check, Passes}
 use Rattle.flat_core.specs.Conditions.{same_kind, is_host, is_host_in, is_free_key}
-use Rattle.flat_core.specs.Effects.{set_word, take_node, set_entry, block_page, unmap_page, end_memory, end_association, clear_page, give_back, end_memory_in, set_key, set_life, set_op, set_epoch, set_register, set_vp_state, begin_measurement, measure, end_measurement, begin_memory, set_page, map_page, write_back, written_back}
+use Rattle.flat_core.specs.Effects.{set_word, take_node, take_page, set_entry, restate, block_page, unmap_page, end_memory, end_association, clear_page, give_back, end_memory_in, set_key, set_life, set_op, set_epoch, set_register, set_vp_state, begin_measurement, measure, end_measurement, begin_memory, set_page, map_page, write_back, written_back}
 use Rattle.flat_core.specs.TdRows.{create, add_tdcx}
 use Rattle.flat_core.specs.KeyRows.{reclaim_conditions}
 use Rattle.flat_core.specs.VpRows.{create_vp}
 use Rattle.flat_core.specs.Tree.{is_passed, page_of_gpa, number_at, entry_at, empty_below, levels_above}
 use Rattle.flat_core.specs.Tracking.{tracked_page}
 use Rattle.flat_core.specs.MemRows.{removed_states}
+use Rattle.flat_core.specs.ExportRows.{add_stream, write_blocked, count_dirt, count_restored, note_pause}
 use Rattle.flat_core.proofs.Maps.{kind_named, node_named, behind_walk}
 use Rattle.flat_core.proofs.Ranges.{named_passed, named_alive, page_removed, sept_removed}
 use Rattle.flat_core.proofs.Keeps.{live_of}
@@ -277,13 +278,54 @@ module _ (g : Grip) (w : World) where
       → Respects g w (map_page p kind.Reg entry.Pending t 0 (number_at 0 gpa) w)
   page-augmented t gpa p host own td tree = mapped p kind.Reg entry.Pending t 0 (number_at 0 gpa) host own td tree
 
-  -- MEM.RANGE.BLOCK and MEM.RANGE.UNBLOCK: an entry's state, and the epoch of a block
-  range-blocked : (t level number : ℕ) (e : Entry) (p : ℕ) → HoldsTd g t → g.sole (Locked (OfTree t)) ≡ true → Respects g w (block_page t p (set_entry t level number e w))
-  range-blocked t level number e p td tree =
-      let w1 : World = set_entry t level number e w in
+  -- MEM.RANGE.BLOCK and EXPORT.BLOCKW: the epoch of a block
+  block-noted : (w1 : World) (t p : ℕ) → Respects g w w1 → Respects g w (block_page t p w1)
+  block-noted w1 t p before =
       let w2 : World = block_page t p w1 in
-      respects-compose.both g w w1 w2 ((effects-respect g w).entry t level number e td tree)
+      respects-compose.both g w w1 w2 before
       (leaves g w1 w2 (record { kinds = refl; owners = refl; levels = refl; numbers = refl; tds = λ u. same-td w1 w2 u refl refl refl (λ b. refl) (λ n. refl) }) (λ h. refl) refl)
+
+  -- MIG.STREAM.CREATE
+  stream-added : (t p : ℕ) → is_host w p ≡ true → g.sole (Locked (OfPage p)) ≡ true → Respects g w (add_stream t p (clear_page p (take_page p kind.Migsc t w)))
+  stream-added t p host own =
+      let w1 : World = take_page p kind.Migsc t w in
+      let w2 : World = add_stream t p (clear_page p w1) in
+      respects-compose.both g w w1 w2 ((effects-respect g w).taken p kind.Migsc t 0 0 host own)
+      (leaves g w1 w2 (all-same w1 w2 refl (λ u. same-td w1 w2 u refl refl refl (λ b. refl) (λ n. refl))) (λ h. refl) refl)
+
+  -- EXPORT.BLOCKW: an entry in use gets another such state
+  blocks-write : (t number : ℕ) → let e : Entry = w.tds.entries t 0 number in Respects g w (restate t number (write_blocked e.state) e.mark w)
+  blocks-write t number =
+      let e : Entry = w.tds.entries t 0 number in
+      (effects-respect g w).entry_state t 0 number (record { state = write_blocked e.state; page = e.page; mark = e.mark }) (named e.state e.page e.mark)
+    where
+      named : (s : EntryState) (p mark : ℕ) → named_by (record { state = write_blocked s; page = p; mark = mark }) ≡ named_by (record { state = s; page = p; mark = mark })
+      named entry.Mapped p mark = refl
+      named entry.ExportedDirty p mark = refl
+      named _ p mark = refl
+
+  -- EXPORT.UNBLOCKW and EXPORT.RESTORE: an entry's state, and counts
+  counted : (w1 w2 : World) → w2.pages ≡ w1.pages → ((u : ℕ) → SameTd w1 w2 u) → ((h : ℕ) → key_owner (w2.key_table.keys h) ≡ key_owner (w1.key_table.keys h)) → w2.tds.lives ≡ w1.tds.lives → Respects g w w1 → Respects g w w2
+  counted w1 w2 pages tds keys lives before = respects-compose.both g w w1 w2 before (leaves g w1 w2 (all-same w1 w2 pages tds) keys lives)
+
+  unblocks-write : (t number mark : ℕ) (s : EntryState) (first : Bool) → HoldsTd g t → g.sole (Locked (OfTree t)) ≡ true → Respects g w (count_dirt t first (restate t number s mark w))
+  unblocks-write t number mark s first td tree =
+      let w1 : World = restate t number s mark w in
+      let w2 : World = count_dirt t first w1 in
+      counted w1 w2 refl (λ u. same-td w1 w2 u refl refl refl (λ b. refl) (λ n. refl)) (λ h. refl) refl ((effects-respect g w).entry t 0 number _ td tree)
+
+  restored : (t number : ℕ) (s : EntryState) → HoldsTd g t → g.sole (Locked (OfTree t)) ≡ true → Respects g w (count_restored t s (restate t number entry.Mapped 0 w))
+  restored t number s td tree =
+      let w1 : World = restate t number entry.Mapped 0 w in
+      let w2 : World = count_restored t s w1 in
+      counted w1 w2 refl (λ u. same-td w1 w2 u refl refl refl (λ b. refl) (λ n. refl)) (λ h. refl) refl ((effects-respect g w).entry t 0 number _ td tree)
+
+  -- EXPORT.PAUSE
+  paused : (t : ℕ) → g.has (Locked (OfPage t)) ≡ true → g.sole (Locked (OfOp t)) ≡ true → Respects g w (set_op t op.PausedExport (note_pause t w))
+  paused t has alone =
+      let w1 : World = note_pause t w in
+      let a : Respects g w w1 = leaves g w w1 (all-same w w1 refl (λ u. same-td w w1 u refl refl refl (λ b. refl) (λ n. refl))) (λ h. refl) refl in
+      respects-compose.both g w w1 (set_op t op.PausedExport w1) a ((effects-respect g w1).op t op.PausedExport has alone)
 
   -- VP.FLUSH
   flushed : (v : ℕ) → Respects g w (end_association v w)
@@ -362,7 +404,7 @@ rows-respect o me (call.MemSeptRd tdr gpa level) g w la ps h = stays g w
 rows-respect o me (call.VpFlush tdr vp) g w la ps h = flushed g w vp
 rows-respect o me (call.MemTrack tdr) g w la ps h = (effects-respect g w).epoch tdr (w.tds.epochs tdr + 1) (record { tdr = h.0; op = h.1.0 }) h.1.1.0.1
 rows-respect o me (call.MemRangeBlock tdr gpa level) g w la ps h =
-    range-blocked g w tdr level (number_at level gpa) _ (entry_at w tdr level gpa).page (record { tdr = h.0; op = h.1.0 }) h.1.1.0.1
+    block-noted g w _ tdr (entry_at w tdr level gpa).page ((effects-respect g w).entry tdr level (number_at level gpa) _ (record { tdr = h.0; op = h.1.0 }) h.1.1.0.1)
 rows-respect o me (call.MemRangeUnblock tdr gpa level) g w la ps h = (effects-respect g w).entry tdr level (number_at level gpa) _ (record { tdr = h.0; op = h.1.0 }) h.1.1.0.1
 rows-respect o me (call.MemPageRemove tdr gpa) g w la ps h =
     let rest = tracked_page w tdr (entry_at w tdr 0 gpa).page ∷ [] in
@@ -379,3 +421,9 @@ rows-respect o me (call.MemPageAdd tdr gpa page source) g w la ps h =
     page-added g w tdr gpa page (w.words source) _ ps.1.1.1.1.1.1.1.1.1.1.1.1.1.1.1.1.1.0 h.1.1.1.1.0.1 (record { tdr = h.0; op = h.1.0.0 }) h.1.1.0.1
 rows-respect o me (call.MemPageAug tdr gpa page) g w la ps h =
     page-augmented g w tdr gpa page ps.1.1.1.1.1.1.1.1.1.1.1.1.1.0 h.1.1.1.0.1 (record { tdr = h.0; op = h.1.0 }) h.1.1.0.1
+rows-respect o me (call.MigStreamCreate tdr page) g w la ps h = stream-added g w tdr page ps.1.1.1.1.1.1.1.1.0 h.1.1.0.1
+rows-respect o me (call.ExportBlockw tdr gpa) g w la ps h = block-noted g w _ tdr (entry_at w tdr 0 gpa).page (blocks-write g w tdr (number_at 0 gpa))
+rows-respect o me (call.ExportUnblockw tdr gpa) g w la ps h = unblocks-write g w tdr (number_at 0 gpa) _ _ _ (record { tdr = h.0; op = h.1.0 }) h.1.1.0.1
+rows-respect o me (call.ExportPause tdr) g w la ps h = paused g w tdr h.0 h.1.0.1
+rows-respect o me (call.ExportAbort tdr) g w la ps h = (effects-respect g w).op tdr op.Runnable h.0 h.1.0.1
+rows-respect o me (call.ExportRestore tdr gpa) g w la ps h = restored g w tdr (number_at 0 gpa) (entry_at w tdr 0 gpa).state (record { tdr = h.0; op = h.1.0 }) h.1.1.0.1

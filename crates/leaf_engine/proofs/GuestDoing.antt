@@ -238,7 +238,7 @@ module _ (o : Opening) (s : State) (p : ℕ) (mem : Memory) (inside : p < s.lp_c
           })
       doing k st e (reaches op access r gpa page stays small-enough is hits) e-is k-is (inl h) = absurd (subst HasMoves k-is h)
       doing k st e (reaches op access r gpa page stays small-enough is hits) e-is k-is (inr fresh) =
-          let page-is = (reaches_own o s (record { timely = record { lawful = timely.lawful; each = timely.each }; access = record { epochs = facts.access.epochs; each = facts.access.each } }) p (page_of_gpa gpa) page access g is-in hits).0.private in
+          let page-is = (reaches_own o s (record { timely = record { lawful = timely.lawful; exclusive = timely.exclusive; count = timely.count; each = timely.each }; access = record { epochs = facts.access.epochs; each = facts.access.each } }) p (page_of_gpa gpa) page access g is-in hits).0.private in
           subst Doing (sym k-is) (record {
             next = record { processor = inside; next = freed ∙ ap Some (e-is (trying fresh)); lets_go = tt };
             single = inr fresh;

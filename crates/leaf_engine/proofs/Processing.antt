@@ -148,7 +148,7 @@ module _ (o : Opening) (p : ℕ) (s : State) (mem : Memory) (c : Call) (cs : Lis
   task = table.call c
 
   timely-after : IsTimely o (event o s p).world p (calls_of o.calls p) ((event o s p).lps p)
-  timely-after = (timeliness_kept.event o o.bundles s p (record { lawful = timely.lawful; each = timely.each })).each p
+  timely-after = (timeliness_kept.event o o.bundles s p (record { lawful = timely.lawful; exclusive = timely.exclusive; count = timely.count; each = timely.each })).each p
 
   pub inside-of : (w' : World) (lp' : Lp) (g : Guest) → lines_left o p lp' ≡ c ∷ cs → lp'.guest ≡ Some g → IsTimely o w' p (calls_of o.calls p) lp' → InGuest o w' p c lp' g
   inside-of w' lp' g line is h = subst (λ (z : Option Guest). LineAt o w' p c lp' z) is (subst (λ (z : List Call). StandsAt o w' p z lp') line h)

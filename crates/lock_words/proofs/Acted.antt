@@ -61,6 +61,14 @@ acts-go-on o me (call.VpFlush tdr vp) w t la ps st = inl (same-td w _ t st refl 
 acts-go-on o me (call.MemRangeBlock tdr gpa level) w t la ps st = inl (same-td w _ t st refl refl refl)
 acts-go-on o me (call.MemRangeUnblock tdr gpa level) w t la ps st = inl (same-td w _ t st refl refl refl)
 acts-go-on o me (call.MemTrack tdr) w t la ps st = inl (same-td w _ t st refl refl refl)
+acts-go-on o me (call.MigStreamCreate tdr page) w t la ps st =
+    let n : (t == page) ≡ false = apart-host w t page st ps.1.1.1.1.1.1.1.1.0 in
+    inl (same-td w _ t st (rw n refl) refl refl)
+acts-go-on o me (call.ExportBlockw tdr gpa) w t la ps st = inl (same-td w _ t st refl refl refl)
+acts-go-on o me (call.ExportUnblockw tdr gpa) w t la ps st = inl (same-td w _ t st refl refl refl)
+acts-go-on o me (call.ExportPause tdr) w t la ps st = inl (same-td w _ t st refl refl refl)
+acts-go-on o me (call.ExportAbort tdr) w t la ps st = inl (same-td w _ t st refl refl refl)
+acts-go-on o me (call.ExportRestore tdr gpa) w t la ps st = inl (same-td w _ t st refl refl refl)
 acts-go-on o me (call.MemPageRemove tdr gpa) w t la ps st =
     let rest = tracked_page w tdr (entry_at w tdr 0 gpa).page ∷ [] in
     let q = named_passed w tdr gpa 0 removed_states rest ps.1.1.1 in

@@ -24,7 +24,8 @@ use Rattle.flat_core.specs.Conditions.{all_ops, begun_ops, growing_ops, later_op
 use Rattle.flat_core.specs.Tracking.{tracked_page, epoch_room, previous_epoch_left}
 use Rattle.flat_core.specs.KeyRows.{reclaim_conditions}
 use Rattle.flat_core.specs.MemRows.{named_row, open_states, blocked_states, removed_states}
-use Rattle.flat_core.specs.Tree.{entry_at, same_state, walk, state_in, empty_below, named_page}
+use Rattle.flat_core.specs.ExportRows.{stream_ops, live_ops, abortable_ops, restoring_ops, stream_room, writable_states, write_blocked_states, restored_states, opened_row}
+use Rattle.flat_core.specs.Tree.{entry_at, same_state, walk, state_in, has_page, empty_below, named_page}
 use Rattle.flat_core.specs.Table.{row_of}
 use Rattle.flat_core.specs.Tries.{tries, tries_of}
 use Rattle.flat_core.proofs.Tries.{rows_try_lists}
@@ -72,6 +73,12 @@ named-fits : (w : World) (t gpa level : ℕ) (allowed : List EntryState) (rest :
 named-fits w t gpa level allowed rest h =
     let items : List (Item Reply) = state_in w t gpa level allowed ∷ named_page w t gpa level Exclusive ∷ rest in
     head-fits w t Shared blocking_ops (tree_exclusive t ∷ epoch_shared t ∷ (walk w t gpa level ++ items)) (λ st. ((refl, st), ((refl, st), walk-fits w t gpa level items (λ x. ((tt, tt), h)))))
+
+-- and of those that give a guest its page back
+opened-fits : (w : World) (t gpa : ℕ) (ops : List OpState) (allowed : List EntryState) → TriesFit w None (opened_row w t gpa ops allowed)
+opened-fits w t gpa ops allowed =
+    let items : List (Item Reply) = state_in w t gpa 0 allowed ∷ named_page w t gpa 0 Exclusive ∷ [] in
+    head-fits w t Shared ops (tree_exclusive t ∷ (walk w t gpa 0 ++ items)) (λ st. ((refl, st), walk-fits w t gpa 0 items (λ x. ((tt, tt), tt))))
 
 pub rows-fit : (o : Opening) (me : ℕ) (c : Call) (w : World) → TriesFit w None ((row_of o me c).items w)
 rows-fit o me (call.HostRead page word) w = λ a b. ((tt, tt), tt)
@@ -123,6 +130,15 @@ rows-fit o me (call.MemPageAug tdr gpa page) w =
     let page_items : List (Item Reply) = state_in w tdr gpa 0 (entry.Free ∷ []) ∷ page_exclusive page ∷ host_page w page ∷ [] in
     λ a b c d e. head-fits w tdr Shared augmented_ops (tree_exclusive tdr ∷ (walk w tdr gpa 0 ++ page_items))
     (λ st. ((refl, st), walk-fits w tdr gpa 0 page_items (λ x. ((tt, tt), λ y. tt))))
+rows-fit o me (call.MigStreamCreate tdr page) w = λ a b c. head-fits w tdr Exclusive stream_ops (stream_room w tdr ∷ page_exclusive page ∷ host_page w page ∷ []) (λ st x. ((tt, tt), λ y. tt))
+rows-fit o me (call.ExportBlockw tdr gpa) w =
+    let entry_items : List (Item Reply) = has_page w tdr gpa 0 ∷ named_page w tdr gpa 0 Exclusive ∷ state_in w tdr gpa 0 writable_states ∷ [] in
+    λ a b c. head-fits w tdr Shared live_ops (tree_shared tdr ∷ epoch_shared tdr ∷ (walk w tdr gpa 0 ++ entry_items))
+    (λ st. ((refl, st), ((refl, st), walk-fits w tdr gpa 0 entry_items (λ x. ((tt, tt), λ y. tt)))))
+rows-fit o me (call.ExportUnblockw tdr gpa) w = λ a b c. opened-fits w tdr gpa live_ops write_blocked_states
+rows-fit o me (call.ExportPause tdr) w = λ a. head-fits w tdr Exclusive live_ops (tree_exclusive tdr ∷ []) (λ st. ((refl, st), tt))
+rows-fit o me (call.ExportAbort tdr) w = λ a. head-fits w tdr Exclusive abortable_ops (tree_exclusive tdr ∷ []) (λ st. ((refl, st), tt))
+rows-fit o me (call.ExportRestore tdr gpa) w = λ a b c. opened-fits w tdr gpa restoring_ops restored_states
 
 -- it is that of the call's list, and the same in every world
 

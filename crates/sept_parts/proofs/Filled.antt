@@ -23,4 +23,4 @@ module _ (m : Machine) (mem : Memory) (s : State) (p : ℕ) (xs : ℕ → ℕ) (
 
 -- no invariant speaks of words
 pub set-lawful : (m : Machine) (w : World) (p : ℕ) (xs : ℕ → ℕ) → Lawful m w → Lawful m (set_page p xs w)
-set-lawful m w p xs la = record { size = la.size; pages = la.pages; tds = la.tds; lists = la.lists; tree = la.tree; keys = la.keys; beginnings = la.beginnings; counts = la.counts }
+set-lawful m w p xs la = record { size = la.size; pages = la.pages; tds = la.tds; lists = la.lists; tree = la.tree; keys = la.keys; beginnings = la.beginnings; counts = la.counts; streams = la.streams; sessions = la.sessions }

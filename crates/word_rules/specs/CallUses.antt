@@ -16,7 +16,7 @@ use Rattle.flat_core.specs.Table.{row_of}
 use Rattle.word_rules.specs.Guards.{Guard, Locked, Role, Grip, MeetsAll}
 use Rattle.word_rules.specs.Rules.{Unused}
 use Rattle.word_rules.specs.Views.{no_page}
-use Rattle.word_rules.specs.Uses.{Use, HeadPage, HeadTdr, HeadOp, Taken, GivenBack, HostRead, HostWrite, PageRdmd, CacheWb, Reclaim, MngCreate, KeyConfig, Addcx, MngInit, MngRdLife, MngRdOp, MngRdEpoch, VpFlushDone, KeyFreeid, MrExtend, MrFinalize, VpCreate, VpInit, VpEnter, Enters, SeptAdd, SeptRd, PageAdd, PageAddPages, TakesPage, ReclaimsControl, ReclaimsRest, AddsEntry, ChangesOp, BeginsEpochs, GivesHkid, FreesHkid, line_of, PageAug, BlockNoted, BlockTested, VpFlush, SeptRemove, PageRemove, RangeBlock, RangeUnblock, Track, GivesPageBack, GivesNodeBack, Tracks}
+use Rattle.word_rules.specs.Uses.{Use, HeadPage, HeadTdr, HeadOp, Taken, GivenBack, HostRead, HostWrite, PageRdmd, CacheWb, Reclaim, MngCreate, KeyConfig, Addcx, MngInit, MngRdLife, MngRdOp, MngRdEpoch, VpFlushDone, KeyFreeid, MrExtend, MrFinalize, VpCreate, VpInit, VpEnter, Enters, SeptAdd, SeptRd, PageAdd, PageAddPages, TakesPage, ReclaimsControl, ReclaimsRest, AddsEntry, ChangesOp, BeginsEpochs, GivesHkid, FreesHkid, line_of, PageAug, BlockNoted, BlockTested, VpFlush, SeptRemove, PageRemove, RangeBlock, RangeUnblock, Track, GivesPageBack, GivesNodeBack, Tracks, ExportStreamCreate, ExportBlockWrite, ExportBlockWriteEntry, ExportUnblockWrite, ExportPause, ExportAbort, ExportRestore}
 use Rattle.word_rules.specs.Spots.{guard_at}
 
 -- the locks of a row's tries are held, each in its mode
@@ -99,6 +99,12 @@ uses_of w (call.MemPageRemove tdr gpa) =
 uses_of w (call.MemRangeBlock tdr gpa level) = let page = (entry_at w tdr level gpa).page in td_uses tdr ++ (of_page page HeadPage ∷ of_td tdr RangeBlock ∷ of_page page BlockNoted ∷ [])
 uses_of w (call.MemRangeUnblock tdr gpa level) = let page = (entry_at w tdr level gpa).page in td_uses tdr ++ (of_page page HeadPage ∷ of_td tdr BlockTested ∷ of_td tdr RangeUnblock ∷ [])
 uses_of w (call.MemTrack tdr) = td_uses tdr ++ of_td tdr Track ∷ of_td tdr Tracks ∷ []
+uses_of w (call.MigStreamCreate tdr page) = td_uses tdr ++ (taken_uses page ++ of_both tdr page ExportStreamCreate ∷ [])
+uses_of w (call.ExportBlockw tdr gpa) = let page = (entry_at w tdr 0 gpa).page in td_uses tdr ++ (of_td tdr ExportBlockWrite ∷ of_both tdr page ExportBlockWriteEntry ∷ of_page page BlockNoted ∷ [])
+uses_of w (call.ExportUnblockw tdr gpa) = td_uses tdr ++ of_td tdr ExportUnblockWrite ∷ []
+uses_of w (call.ExportPause tdr) = td_uses tdr ++ of_td tdr ExportPause ∷ of_td tdr ChangesOp ∷ []
+uses_of w (call.ExportAbort tdr) = td_uses tdr ++ of_td tdr ExportAbort ∷ of_td tdr ChangesOp ∷ []
+uses_of w (call.ExportRestore tdr gpa) = td_uses tdr ++ of_td tdr ExportRestore ∷ []
 
 -- the locks that are written of a use are had, as its TD and its page name them
 abbrev pub guards_of : CallUse → Role → Guard
