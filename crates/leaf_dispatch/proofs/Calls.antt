@@ -33,6 +33,11 @@ use Rattle.mem_remove.specs.TrackMeanings.{track-means}
 use Rattle.mem_remove.specs.BlockMeanings.{range_block-means, range_unblock-means}
 use Rattle.mem_remove.specs.RemoveMeanings.{page_remove-means}
 use Rattle.mem_remove.specs.SeptRemoveMeanings.{sept_remove-means}
+use Rattle.export_core.specs.StreamMeanings.{stream_create-means}
+use Rattle.export_core.specs.BlockMeanings.{block_write-means}
+use Rattle.export_core.specs.WriteMeanings.{unblock_write-means}
+use Rattle.export_core.specs.PauseMeanings.{pause-means, abort-means}
+use Rattle.export_core.specs.RestoreMeanings.{restore-means}
 use Rattle.key_table.specs.CacheMeanings.{cache-means}
 use Rattle.key_table.specs.ReclaimMeanings.{reclaim-means}
 use Rattle.td_control.specs.CreationMeanings.{create-means}
@@ -82,6 +87,12 @@ of-place p (call.MemPageRemove tdr gpa) = refl
 of-place p (call.MemRangeBlock tdr gpa level) = refl
 of-place p (call.MemRangeUnblock tdr gpa level) = refl
 of-place p (call.MemTrack tdr) = refl
+of-place p (call.MigStreamCreate tdr page) = refl
+of-place p (call.ExportBlockw tdr gpa) = refl
+of-place p (call.ExportUnblockw tdr gpa) = refl
+of-place p (call.ExportPause tdr) = refl
+of-place p (call.ExportAbort tdr) = refl
+of-place p (call.ExportRestore tdr gpa) = refl
 of-place p (call.MrExtend tdr gpa) = refl
 
 pub of-row : (o : Opening) (p : ℕ) (c : Call) → (task_of (record { machine = o.machine; lp = p }) c).meaning ≡ OfCall (row_of o p c)
@@ -111,6 +122,12 @@ of-row o p (call.MemPageRemove tdr gpa) = refl
 of-row o p (call.MemRangeBlock tdr gpa level) = refl
 of-row o p (call.MemRangeUnblock tdr gpa level) = refl
 of-row o p (call.MemTrack tdr) = refl
+of-row o p (call.MigStreamCreate tdr page) = refl
+of-row o p (call.ExportBlockw tdr gpa) = refl
+of-row o p (call.ExportUnblockw tdr gpa) = refl
+of-row o p (call.ExportPause tdr) = refl
+of-row o p (call.ExportAbort tdr) = refl
+of-row o p (call.ExportRestore tdr gpa) = refl
 of-row o p (call.MrExtend tdr gpa) = refl
 
 -- no call that has a leaf enters a guest
@@ -141,6 +158,12 @@ means p (call.MemPageRemove tdr gpa) m = page_remove-means p tdr gpa m
 means p (call.MemRangeBlock tdr gpa level) m = range_block-means p tdr gpa level m
 means p (call.MemRangeUnblock tdr gpa level) m = range_unblock-means p tdr gpa level m
 means p (call.MemTrack tdr) m = track-means p tdr
+means p (call.MigStreamCreate tdr page) m = stream_create-means p tdr page
+means p (call.ExportBlockw tdr gpa) m = block_write-means p tdr gpa m
+means p (call.ExportUnblockw tdr gpa) m = unblock_write-means p tdr gpa m
+means p (call.ExportPause tdr) m = pause-means p tdr
+means p (call.ExportAbort tdr) m = abort-means p tdr
+means p (call.ExportRestore tdr gpa) m = restore-means p tdr gpa m
 means p (call.MrExtend tdr gpa) m = extend-means p tdr gpa m
 
 -- steps of guests

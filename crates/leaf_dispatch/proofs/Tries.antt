@@ -9,6 +9,7 @@ use Rattle.td_words.specs.declared.names.EntryState.TheVariants as entry
 use Rattle.td_words.specs.declared.names.VcpuState.TheVariants as vcpu
 use Rattle.td_words.specs.declared.names.Mode.TheVariants.{Shared}
 use Rattle.td_words.specs.declared.names.EntryState.{EntryState}
+use Rattle.td_words.specs.declared.names.OpState.{OpState}
 use Rattle.td_words.specs.declared.names.Access.{Access}
 use Rattle.td_words.specs.declared.names.Access.TheVariants.{Read, Write}
 use Rattle.td_words.specs.declared.calls.GuestOp.TheVariants as op
@@ -57,6 +58,10 @@ use Rattle.mem_remove.specs.NamedTrees.{taken_tree, named_tree}
 use Rattle.mem_remove.specs.TrackedTrees.{blocked_told, tracked_from, tracked_tree}
 use Rattle.mem_remove.specs.RangeTrees.{block_rest, unblock_rest, unblock_changes}
 use Rattle.mem_remove.specs.RemoveTrees.{is_used, scan_tree, given_tree, remove_rest, sept_remove_rest}
+use Rattle.flat_core.specs.ExportRows.{live_ops, writable_states, write_blocked_states, restoring_ops, restored_states}
+use Rattle.export_core.specs.OpenedTrees.{opened_tree}
+use Rattle.export_core.specs.WriteTrees.{held_tree, page_tree, writable_tree, block_write_rest, unblock_write_rest}
+use Rattle.export_core.specs.RestoreTrees.{restore_rest}
 use Rattle.mem_build.specs.PageAugTrees.{page_aug_rest}
 use Rattle.mem_build.specs.PageAddTrees.{page_add_tree, pages_tree, addition_end}
 use Rattle.mem_build.specs.ExtendTrees.{words_tree, measured_tree, measure_tree}
@@ -131,6 +136,35 @@ named-few pages t gpa level allowed k few = (
   ),
 )
 
+-- of an entry whose page lets nobody write from then on
+writable-few : (pages t gpa : ℕ) (ops : List OpState) (allowed : List EntryState) (k : Named → Tree) → ((n : Named) → TriesAtMost 0 (k n)) → TriesAtMost 5 (writable_tree pages t gpa ops allowed k)
+writable-few pages t gpa ops allowed k few = (
+  omega arith,
+  λ pamt life count tdcs. (
+    omega arith,
+    λ op. (
+      omega arith,
+      (
+        omega arith,
+        λ root. walk-few 1 pages gpa 3 3 (page_told pages root) (λ at. page_tree pages gpa at (λ q. held_tree pages (page_told pages tdcs) gpa at allowed q k)) (λ at. λ named. (omega arith, λ word. few _)),
+      ),
+    ),
+  ),
+)
+
+-- of an entry that gives its guest a page back
+opened-few : (pages t gpa : ℕ) (ops : List OpState) (allowed : List EntryState) (k : Named → Tree) → ((n : Named) → TriesAtMost 0 (k n)) → TriesAtMost 4 (opened_tree pages t gpa ops allowed k)
+opened-few pages t gpa ops allowed k few = (
+  omega arith,
+  λ pamt life count tdcs. (
+    omega arith,
+    λ op. (
+      omega arith,
+      find-few 1 pages t gpa 0 (λ (f : Found). taken_tree f.entry allowed (k (record { tdcs = page_told pages tdcs; page = f.page; entry = f.entry }))) (λ f. (omega arith, few (record { tdcs = page_told pages tdcs; page = f.page; entry = f.entry }))),
+    ),
+  ),
+)
+
 from-few : (n : ℕ) (is_previous : Bool) (tdcs blocked epoch : ℕ) (further : Tree) → TriesAtMost n further → TriesAtMost n (tracked_from is_previous tdcs blocked epoch further)
 from-few n true tdcs blocked epoch further few = λ count. few
 from-few n false tdcs blocked epoch further few = few
@@ -187,6 +221,12 @@ few_tries p (call.MemRangeBlock tdr gpa level) h = named-few p.machine.pages tdr
 few_tries p (call.MemRangeUnblock tdr gpa level) h =
     named-few p.machine.pages tdr gpa level blocked_states (unblock_rest (index_at level gpa)) (λ n. tracked-few 0 n.tdcs n.entry.page (done [] (unblock_changes n.page (index_at level gpa) n.entry.page n.entry.state)) refl)
 few_tries p (call.MemTrack tdr) h = (omega arith, λ pamt life count tdcs. (omega arith, λ op. (omega arith, λ epoch count. refl)))
+few_tries p (call.MigStreamCreate tdr page) h = (omega arith, λ pamt life count tdcs. (omega arith, λ op streams. (omega arith, λ host children. refl)))
+few_tries p (call.ExportBlockw tdr gpa) h = writable-few p.machine.pages tdr gpa live_ops writable_states (block_write_rest tdr (index_at 0 gpa)) (λ n. λ epoch. refl)
+few_tries p (call.ExportUnblockw tdr gpa) h = opened-few p.machine.pages tdr gpa live_ops write_blocked_states (unblock_write_rest (index_at 0 gpa)) (λ n. λ dirtied. refl)
+few_tries p (call.ExportPause tdr) h = (omega arith, λ pamt life count tdcs. (omega arith, λ op. (omega arith, refl)))
+few_tries p (call.ExportAbort tdr) h = (omega arith, λ pamt life count tdcs. (omega arith, λ op. (omega arith, refl)))
+few_tries p (call.ExportRestore tdr gpa) h = opened-few p.machine.pages tdr gpa restoring_ops restored_states (restore_rest (index_at 0 gpa)) (λ n. λ dirtied unrestored. refl)
 few_tries p (call.MrExtend tdr gpa) h = (
   omega arith,
   λ pamt life count tdcs. (
@@ -292,6 +332,12 @@ ends_as p (call.MemPageRemove tdr gpa) = plain-ends (call_ends p.machine (call.M
 ends_as p (call.MemRangeBlock tdr gpa level) = plain-ends (call_ends p.machine (call.MemRangeBlock tdr gpa level)) (λ r. refl) (λ r. refl) (most_tries (call.MemRangeBlock tdr gpa level)) (task_of p (call.MemRangeBlock tdr gpa level)).tree (few_tries p (call.MemRangeBlock tdr gpa level) refl)
 ends_as p (call.MemRangeUnblock tdr gpa level) = plain-ends (call_ends p.machine (call.MemRangeUnblock tdr gpa level)) (λ r. refl) (λ r. refl) (most_tries (call.MemRangeUnblock tdr gpa level)) (task_of p (call.MemRangeUnblock tdr gpa level)).tree (few_tries p (call.MemRangeUnblock tdr gpa level) refl)
 ends_as p (call.MemTrack tdr) = plain-ends (call_ends p.machine (call.MemTrack tdr)) (λ r. refl) (λ r. refl) (most_tries (call.MemTrack tdr)) (task_of p (call.MemTrack tdr)).tree (few_tries p (call.MemTrack tdr) refl)
+ends_as p (call.MigStreamCreate tdr page) = plain-ends (call_ends p.machine (call.MigStreamCreate tdr page)) (λ r. refl) (λ r. refl) (most_tries (call.MigStreamCreate tdr page)) (task_of p (call.MigStreamCreate tdr page)).tree (few_tries p (call.MigStreamCreate tdr page) refl)
+ends_as p (call.ExportBlockw tdr gpa) = plain-ends (call_ends p.machine (call.ExportBlockw tdr gpa)) (λ r. refl) (λ r. refl) (most_tries (call.ExportBlockw tdr gpa)) (task_of p (call.ExportBlockw tdr gpa)).tree (few_tries p (call.ExportBlockw tdr gpa) refl)
+ends_as p (call.ExportUnblockw tdr gpa) = plain-ends (call_ends p.machine (call.ExportUnblockw tdr gpa)) (λ r. refl) (λ r. refl) (most_tries (call.ExportUnblockw tdr gpa)) (task_of p (call.ExportUnblockw tdr gpa)).tree (few_tries p (call.ExportUnblockw tdr gpa) refl)
+ends_as p (call.ExportPause tdr) = plain-ends (call_ends p.machine (call.ExportPause tdr)) (λ r. refl) (λ r. refl) (most_tries (call.ExportPause tdr)) (task_of p (call.ExportPause tdr)).tree (few_tries p (call.ExportPause tdr) refl)
+ends_as p (call.ExportAbort tdr) = plain-ends (call_ends p.machine (call.ExportAbort tdr)) (λ r. refl) (λ r. refl) (most_tries (call.ExportAbort tdr)) (task_of p (call.ExportAbort tdr)).tree (few_tries p (call.ExportAbort tdr) refl)
+ends_as p (call.ExportRestore tdr gpa) = plain-ends (call_ends p.machine (call.ExportRestore tdr gpa)) (λ r. refl) (λ r. refl) (most_tries (call.ExportRestore tdr gpa)) (task_of p (call.ExportRestore tdr gpa)).tree (few_tries p (call.ExportRestore tdr gpa) refl)
 ends_as p (call.MrExtend tdr gpa) = plain-ends (call_ends p.machine (call.MrExtend tdr gpa)) (λ r. refl) (λ r. refl) (most_tries (call.MrExtend tdr gpa)) (task_of p (call.MrExtend tdr gpa)).tree (few_tries p (call.MrExtend tdr gpa) refl)
 
 page_add-begins : (m : Machine) (t gpa page source : ℕ) → BeginsUnderOther (page_add_tree m t gpa page source)
@@ -328,6 +374,12 @@ begins_other p (call.MemPageRemove tdr gpa) = refl
 begins_other p (call.MemRangeBlock tdr gpa level) = refl
 begins_other p (call.MemRangeUnblock tdr gpa level) = refl
 begins_other p (call.MemTrack tdr) = refl
+begins_other p (call.MigStreamCreate tdr page) = refl
+begins_other p (call.ExportBlockw tdr gpa) = refl
+begins_other p (call.ExportUnblockw tdr gpa) = refl
+begins_other p (call.ExportPause tdr) = refl
+begins_other p (call.ExportAbort tdr) = refl
+begins_other p (call.ExportRestore tdr gpa) = refl
 begins_other p (call.MrExtend tdr gpa) = refl
 
 -- steps of guests

@@ -1,12 +1,14 @@
 -- What contracts see of a plan of any call, and of any step of a guest.
 use Rattle.std.specs.Prelude.{ℕ, ◌+◌, ◌-◌, ◌%◌, ◌^◌, ◌==◌, ◌&&◌, not, nat_lt, nat_le, Bool, true, false, List, [], ◌∷◌, length, drop, slice_index}
 use Rattle.td_words.specs.declared.names.LifeState.TheVariants as life
+use Rattle.td_words.specs.declared.names.OpState.TheVariants as op
 use Rattle.td_words.specs.Packing.{Unassigned, FlushedOf}
 use Rattle.td_words.specs.Place.{Word}
 use Rattle.sept_walk.specs.SecureEpt.{index_at}
 use Rattle.leaf_engine.specs.declared.needs.Place.{Place}
 use Rattle.leaf_engine.specs.declared.plans.Act.{Act}
 use Rattle.leaf_engine.specs.Changes.{Change, Put, Clear}
+use Rattle.leaf_engine.specs.Trees.{feed, changes_of}
 use Rattle.leaf_engine.specs.Means.{Task, MeansRow}
 use Rattle.leaf_parts.specs.Words.{is_hkid}
 use Rattle.td_words.specs.declared.names.Access.TheVariants as access
@@ -33,6 +35,10 @@ use Rattle.mem_remove.specs.MetadataTrees.{rdmd_task}
 use Rattle.mem_remove.specs.TrackTrees.{track_task, track_changes}
 use Rattle.mem_remove.specs.RangeTrees.{range_block_task, block_changes, range_unblock_task, unblock_changes}
 use Rattle.mem_remove.specs.RemoveTrees.{page_remove_task, remove_changes}
+use Rattle.export_core.specs.StreamTrees.{stream_create_task, stream_changes}
+use Rattle.export_core.specs.WriteTrees.{block_write_task, unblock_write_task}
+use Rattle.export_core.specs.PauseTrees.{pause_task, abort_task, op_changes}
+use Rattle.export_core.specs.RestoreTrees.{restore_task}
 use Rattle.key_table.specs.CacheTrees.{cache_task, cache_changes}
 use Rattle.key_table.specs.ReclaimTrees.{reclaim_task, give_back}
 use Rattle.td_control.specs.CreationTrees.{create_task, create_changes}
@@ -54,6 +60,11 @@ use Rattle.mem_remove.specs.MetadataMeanings.{rdmd-means}
 use Rattle.mem_remove.specs.TrackMeanings.{track-means}
 use Rattle.mem_remove.specs.BlockMeanings.{range_block-means, range_unblock-means}
 use Rattle.mem_remove.specs.RemoveMeanings.{page_remove-means}
+use Rattle.export_core.specs.StreamMeanings.{stream_create-means}
+use Rattle.export_core.specs.BlockMeanings.{block_write-means}
+use Rattle.export_core.specs.WriteMeanings.{unblock_write-means}
+use Rattle.export_core.specs.PauseMeanings.{pause-means, abort-means}
+use Rattle.export_core.specs.RestoreMeanings.{restore-means}
 use Rattle.key_table.specs.CacheMeanings.{cache-means}
 use Rattle.key_table.specs.ReclaimMeanings.{reclaim-means}
 use Rattle.td_control.specs.CreationMeanings.{create-means}
@@ -98,6 +109,12 @@ plan_task (plan.PageRemove l) = page_remove_task l.place l.tdr l.gpa
 plan_task (plan.RangeBlock l) = range_block_task l.place l.tdr l.gpa l.level
 plan_task (plan.RangeUnblock l) = range_unblock_task l.place l.tdr l.gpa l.level
 plan_task (plan.Track l) = track_task l.place l.tdr
+plan_task (plan.StreamCreate l) = stream_create_task l.place l.tdr l.page
+plan_task (plan.BlockW l) = block_write_task l.place l.tdr l.gpa
+plan_task (plan.UnblockW l) = unblock_write_task l.place l.tdr l.gpa
+plan_task (plan.Pause l) = pause_task l.place l.tdr
+plan_task (plan.Abort l) = abort_task l.place l.tdr
+plan_task (plan.Restore l) = restore_task l.place l.tdr l.gpa
 plan_task (plan.Enter l) = vp_enter_task l.place l.tdr l.vp l.most
 plan_task (plan.Exit l) = exit_task l.place l.tdr l.vp l.outcome
 plan_task (plan.Set l) = set_task l.place l.tdr l.vp l.register l.value
@@ -137,6 +154,12 @@ plan_changes (plan.PageRemove l) told a = remove_changes l.tdr a.page (index_at 
 plan_changes (plan.RangeBlock l) told a = block_changes l.tdr l.level a.page (index_at l.level l.gpa) a.named a.state a.epoch
 plan_changes (plan.RangeUnblock l) told a = unblock_changes a.page (index_at l.level l.gpa) a.named a.state
 plan_changes (plan.Track l) told a = track_changes a.page a.epoch
+plan_changes (plan.StreamCreate l) told a = stream_changes l.place.machine.pages l.tdr a.page l.page a.count a.children
+plan_changes (plan.BlockW l) told a = changes_of (feed (block_write_task l.place l.tdr l.gpa).tree told)
+plan_changes (plan.UnblockW l) told a = changes_of (feed (unblock_write_task l.place l.tdr l.gpa).tree told)
+plan_changes (plan.Pause l) told a = op_changes op.PausedExport a.page
+plan_changes (plan.Abort l) told a = op_changes op.Runnable a.page
+plan_changes (plan.Restore l) told a = changes_of (feed (restore_task l.place l.tdr l.gpa).tree told)
 plan_changes (plan.Enter l) told a = enter_changes a.page l.place.lp l.vp a.count
 plan_changes (plan.Exit l) told a = exit_changes a.page a.count
 plan_changes (plan.Set l) told a = put_register l.vp l.register l.value ∷ put_next l.vp (slice_index told 0) ∷ []
@@ -179,6 +202,12 @@ plan_shown (plan.PageRemove l) told a = is_page l.place l.tdr && is_page l.place
 plan_shown (plan.RangeBlock l) told a = is_page l.place l.tdr && nat_le l.level 3 && is_page l.place a.page && is_page l.place a.named
 plan_shown (plan.RangeUnblock l) told a = nat_le l.level 3 && is_page l.place a.page && is_page l.place a.named
 plan_shown (plan.Track l) told a = is_page l.place a.page && nat_lt a.epoch (2 ^ 32 - 1)
+plan_shown (plan.StreamCreate l) told a = is_page l.place l.tdr && is_page l.place l.page && is_page l.place a.page && nat_lt a.count 4
+plan_shown (plan.BlockW l) told a = true
+plan_shown (plan.UnblockW l) told a = true
+plan_shown (plan.Pause l) told a = is_page l.place a.page
+plan_shown (plan.Abort l) told a = is_page l.place a.page
+plan_shown (plan.Restore l) told a = true
 plan_shown (plan.Enter l) told a = is_page l.place l.vp && is_page l.place a.page
 plan_shown (plan.Exit l) told a = is_page l.place a.page
 plan_shown (plan.Set l) told a = true
@@ -218,6 +247,12 @@ plans-mean (plan.PageRemove l) = page_remove-means l.place l.tdr l.gpa l.machine
 plans-mean (plan.RangeBlock l) = range_block-means l.place l.tdr l.gpa l.level l.machine
 plans-mean (plan.RangeUnblock l) = range_unblock-means l.place l.tdr l.gpa l.level l.machine
 plans-mean (plan.Track l) = track-means l.place l.tdr
+plans-mean (plan.StreamCreate l) = stream_create-means l.place l.tdr l.page
+plans-mean (plan.BlockW l) = block_write-means l.place l.tdr l.gpa l.machine
+plans-mean (plan.UnblockW l) = unblock_write-means l.place l.tdr l.gpa l.machine
+plans-mean (plan.Pause l) = pause-means l.place l.tdr
+plans-mean (plan.Abort l) = abort-means l.place l.tdr
+plans-mean (plan.Restore l) = restore-means l.place l.tdr l.gpa l.machine
 plans-mean (plan.Enter l) = entry-means l.place l.tdr l.vp l.most l.few_pages
 plans-mean (plan.Exit l) = exit-means l.place l.tdr l.vp l.outcome
 plans-mean (plan.Set l) = set-means l.place l.tdr l.vp l.register l.value l.few

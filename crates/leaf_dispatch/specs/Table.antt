@@ -22,6 +22,10 @@ use Rattle.mem_remove.specs.MetadataTrees.{rdmd_task}
 use Rattle.mem_remove.specs.TrackTrees.{track_task}
 use Rattle.mem_remove.specs.RangeTrees.{range_block_task, range_unblock_task}
 use Rattle.mem_remove.specs.RemoveTrees.{page_remove_task, sept_remove_task}
+use Rattle.export_core.specs.StreamTrees.{stream_create_task}
+use Rattle.export_core.specs.WriteTrees.{block_write_task, unblock_write_task}
+use Rattle.export_core.specs.PauseTrees.{pause_task, abort_task}
+use Rattle.export_core.specs.RestoreTrees.{restore_task}
 use Rattle.key_table.specs.CacheTrees.{cache_task}
 use Rattle.key_table.specs.ReclaimTrees.{reclaim_task}
 use Rattle.td_control.specs.CreationTrees.{create_task}
@@ -70,6 +74,12 @@ task_of p (call.MemPageRemove tdr gpa) = page_remove_task p tdr gpa
 task_of p (call.MemRangeBlock tdr gpa level) = range_block_task p tdr gpa level
 task_of p (call.MemRangeUnblock tdr gpa level) = range_unblock_task p tdr gpa level
 task_of p (call.MemTrack tdr) = track_task p tdr
+task_of p (call.MigStreamCreate tdr page) = stream_create_task p tdr page
+task_of p (call.ExportBlockw tdr gpa) = block_write_task p tdr gpa
+task_of p (call.ExportUnblockw tdr gpa) = unblock_write_task p tdr gpa
+task_of p (call.ExportPause tdr) = pause_task p tdr
+task_of p (call.ExportAbort tdr) = abort_task p tdr
+task_of p (call.ExportRestore tdr gpa) = restore_task p tdr gpa
 task_of p (call.MrExtend tdr gpa) = extend_task p tdr gpa
 
 -- secret word k of a list of them

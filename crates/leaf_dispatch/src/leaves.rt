@@ -14,6 +14,7 @@ use access_core::{
     Accept, Add, HostRead, HostWrite, PrivateLoad, PrivateStore, Rtmr, Set, SharedLoad,
     SharedStore, Vmcall, WalkLoad,
 };
+use export_core::{Abort, BlockW, Pause, Restore, StreamCreate, UnblockW};
 use key_table::{CacheWb, FlushDone, FreeId, Reclaim};
 use leaf_engine::{Leaf, Need, Place, Planned, Write};
 use leaf_parts::page_told;
@@ -150,6 +151,18 @@ pub fn leaf_of(place: Place, call: &Call) -> AnyLeaf
             by_plan(AnyPlan::RangeUnblock(RangeUnblock::plan(place, tdr, gpa, level)))
         }
         Call::MemTrack { tdr } => by_plan(AnyPlan::Track(Track::plan(place, tdr))),
+        Call::MigStreamCreate { tdr, page } => {
+            by_plan(AnyPlan::StreamCreate(StreamCreate::plan(place, tdr, page)))
+        }
+        Call::ExportBlockw { tdr, gpa } => by_plan(AnyPlan::BlockW(BlockW::plan(place, tdr, gpa))),
+        Call::ExportUnblockw { tdr, gpa } => {
+            by_plan(AnyPlan::UnblockW(UnblockW::plan(place, tdr, gpa)))
+        }
+        Call::ExportPause { tdr } => by_plan(AnyPlan::Pause(Pause::plan(place, tdr))),
+        Call::ExportAbort { tdr } => by_plan(AnyPlan::Abort(Abort::plan(place, tdr))),
+        Call::ExportRestore { tdr, gpa } => {
+            by_plan(AnyPlan::Restore(Restore::plan(place, tdr, gpa)))
+        }
         Call::MrExtend { tdr, gpa } => AnyLeaf::Extend(Extend::leaf(place, tdr, gpa)),
     }
 }

@@ -4,6 +4,7 @@ use access_core::{
     Accept, Add, HostRead, HostWrite, PrivateLoad, PrivateStore, Rtmr, Set, SharedLoad,
     SharedStore, Vmcall, WalkLoad,
 };
+use export_core::{Abort, BlockW, Pause, Restore, StreamCreate, UnblockW};
 use key_table::{CacheWb, FlushDone, FreeId, Reclaim};
 use leaf_engine::{Act, Hand, Plan, Stop, Told, Verdict, Write};
 use mem_build::{PageAdd, PageAug, SeptAdd, SeptRd};
@@ -38,6 +39,12 @@ pub enum AnyPlan {
     RangeBlock(RangeBlock),
     RangeUnblock(RangeUnblock),
     Track(Track),
+    StreamCreate(StreamCreate),
+    BlockW(BlockW),
+    UnblockW(UnblockW),
+    Pause(Pause),
+    Abort(Abort),
+    Restore(Restore),
     Enter(Enter),
     Exit(Exit),
     Set(Set),
@@ -87,6 +94,12 @@ impl Plan for AnyPlan {
             AnyPlan::RangeBlock(plan) => plan.decide(told),
             AnyPlan::RangeUnblock(plan) => plan.decide(told),
             AnyPlan::Track(plan) => plan.decide(told),
+            AnyPlan::StreamCreate(plan) => plan.decide(told),
+            AnyPlan::BlockW(plan) => plan.decide(told),
+            AnyPlan::UnblockW(plan) => plan.decide(told),
+            AnyPlan::Pause(plan) => plan.decide(told),
+            AnyPlan::Abort(plan) => plan.decide(told),
+            AnyPlan::Restore(plan) => plan.decide(told),
             AnyPlan::Enter(plan) => plan.decide(told),
             AnyPlan::Exit(plan) => plan.decide(told),
             AnyPlan::Set(plan) => plan.decide(told),
@@ -128,6 +141,12 @@ impl Plan for AnyPlan {
             AnyPlan::RangeBlock(plan) => plan.write(act, told, number, hand),
             AnyPlan::RangeUnblock(plan) => plan.write(act, told, number, hand),
             AnyPlan::Track(plan) => plan.write(act, told, number, hand),
+            AnyPlan::StreamCreate(plan) => plan.write(act, told, number, hand),
+            AnyPlan::BlockW(plan) => plan.write(act, told, number, hand),
+            AnyPlan::UnblockW(plan) => plan.write(act, told, number, hand),
+            AnyPlan::Pause(plan) => plan.write(act, told, number, hand),
+            AnyPlan::Abort(plan) => plan.write(act, told, number, hand),
+            AnyPlan::Restore(plan) => plan.write(act, told, number, hand),
             AnyPlan::Enter(plan) => plan.write(act, told, number, hand),
             AnyPlan::Exit(plan) => plan.write(act, told, number, hand),
             AnyPlan::Set(plan) => plan.write(act, told, number, hand),

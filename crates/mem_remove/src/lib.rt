@@ -17,7 +17,7 @@ mod trackings;
 
 pub use blocks::{RangeBlock, RangeUnblock};
 pub use metadata_reads::Rdmd;
-pub use named_entries::Named;
+pub use named_entries::{Named, epoch_lock, taken};
 pub use removals::PageRemove;
 pub use sept_removals::SeptRemove;
 pub use trackings::Track;

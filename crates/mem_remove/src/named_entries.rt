@@ -36,7 +36,12 @@ pub fn epoch_lock(told: &mut Told, place: Place, tdcs: u16, mode: Mode) -> Resul
 }
 
 /// An entry is in one of these states, and the page that it names is held alone.
-fn taken(told: &mut Told, place: Place, entry: Entry, allowed: &[EntryState]) -> Result<(), Stop>
+pub fn taken(
+    told: &mut Told,
+    place: Place,
+    entry: Entry,
+    allowed: &[EntryState],
+) -> Result<(), Stop>
     requires { entry.page < place.machine.pages }
     ensures goes { Goes place.machine.pages (λ f. taken_tree entry allowed.now (f tt)) told.old.left.now told.new.left.now result }
     ensures feeds { Feeds (λ f. taken_tree entry allowed.now (f tt)) told.old.left.now told.new.left.now result }

@@ -21,17 +21,17 @@ use Rattle.leaf_parts.proofs.Aside.{ShowsBut, apart, page-put, tdcs-but}
 
 -- lists with one more at the end
 
-last-one : (p : ℕ) (vs : List ℕ) → slice_get (vs ++ p ∷ []) (length vs) ≡ Some p
+pub last-one : (p : ℕ) (vs : List ℕ) → slice_get (vs ++ p ∷ []) (length vs) ≡ Some p
 last-one p [] = refl
 last-one p (v ∷ vs) = last-one p vs
 
-others : (p : ℕ) (vs : List ℕ) (k : ℕ) → (k == length vs) ≡ false → slice_get (vs ++ p ∷ []) k ≡ slice_get vs k
+pub others : (p : ℕ) (vs : List ℕ) (k : ℕ) → (k == length vs) ≡ false → slice_get (vs ++ p ∷ []) k ≡ slice_get vs k
 others p [] zero n = cc
 others p [] (suc k) n = refl
 others p (v ∷ vs) zero n = refl
 others p (v ∷ vs) (suc k) n = (let o : (k == length vs) ≡ false = grind (arith, nat_tests) in others p vs k o)
 
-one-longer : (p : ℕ) (vs : List ℕ) → length (vs ++ p ∷ []) ≡ length vs + 1
+pub one-longer : (p : ℕ) (vs : List ℕ) → length (vs ++ p ∷ []) ≡ length vs + 1
 one-longer p vs = omega (arith, length-append vs (p ∷ []))
 
 abbrev pub added_words : (WordPlace → ℕ) → (p d n : ℕ) → WordPlace → ℕ

@@ -34,6 +34,22 @@ pub returns-in-MemRangeUnblock-clause-task : goal.returns-in-MemRangeUnblock-cla
 returns-in-MemRangeUnblock-clause-task c =
     c.by_plan-in-MemRangeUnblock.ensures.task ∙ c.plan-in-MemRangeUnblock.ensures ∙ sym (ap (task_of c.args.place) c.in-MemRangeUnblock.is)
 
+pub returns-in-MigStreamCreate-clause-task : goal.returns-in-MigStreamCreate-clause-task
+returns-in-MigStreamCreate-clause-task c =
+    c.by_plan-in-MigStreamCreate.ensures.task ∙ c.plan-in-MigStreamCreate.ensures ∙ sym (ap (task_of c.args.place) c.in-MigStreamCreate.is)
+
+pub returns-in-ExportBlockw-clause-task : goal.returns-in-ExportBlockw-clause-task
+returns-in-ExportBlockw-clause-task c =
+    c.by_plan-in-ExportBlockw.ensures.task ∙ c.plan-in-ExportBlockw.ensures ∙ sym (ap (task_of c.args.place) c.in-ExportBlockw.is)
+
+pub returns-in-ExportUnblockw-clause-task : goal.returns-in-ExportUnblockw-clause-task
+returns-in-ExportUnblockw-clause-task c =
+    c.by_plan-in-ExportUnblockw.ensures.task ∙ c.plan-in-ExportUnblockw.ensures ∙ sym (ap (task_of c.args.place) c.in-ExportUnblockw.is)
+
+pub returns-in-ExportRestore-clause-task : goal.returns-in-ExportRestore-clause-task
+returns-in-ExportRestore-clause-task c =
+    c.by_plan-in-ExportRestore.ensures.task ∙ c.plan-in-ExportRestore.ensures ∙ sym (ap (task_of c.args.place) c.in-ExportRestore.is)
+
 pub returns-in-MemSeptRemove-clause-task : goal.returns-in-MemSeptRemove-clause-task
 returns-in-MemSeptRemove-clause-task c = c.leaf.ensures.task ∙ sym (ap (task_of c.args.place) c.in-MemSeptRemove.is)
 

@@ -29,3 +29,18 @@ returns-in-RangeBlock-clause-decides c = rw (c.in-RangeBlock.is) c.decide-in-Ran
 
 pub returns-in-RangeUnblock-clause-decides : goal.returns-in-RangeUnblock-clause-decides
 returns-in-RangeUnblock-clause-decides c = rw (c.in-RangeUnblock.is) c.decide-in-RangeUnblock.ensures.decides
+
+pub returns-in-BlockW-clause-decides : goal.returns-in-BlockW-clause-decides
+returns-in-BlockW-clause-decides c = rw (c.in-BlockW.is) c.decide-in-BlockW.ensures.decides
+
+pub returns-in-UnblockW-clause-decides : goal.returns-in-UnblockW-clause-decides
+returns-in-UnblockW-clause-decides c = rw (c.in-UnblockW.is) c.decide-in-UnblockW.ensures.decides
+
+pub returns-in-Pause-clause-decides : goal.returns-in-Pause-clause-decides
+returns-in-Pause-clause-decides c = rw (c.in-Pause.is) c.decide-in-Pause.ensures.decides
+
+pub returns-in-Abort-clause-decides : goal.returns-in-Abort-clause-decides
+returns-in-Abort-clause-decides c = rw (c.in-Abort.is) c.decide-in-Abort.ensures.decides
+
+pub returns-in-Restore-clause-decides : goal.returns-in-Restore-clause-decides
+returns-in-Restore-clause-decides c = rw (c.in-Restore.is) c.decide-in-Restore.ensures.decides

@@ -1,0 +1,2 @@
+pub mod OpenedDecided
+pub mod SharedDecided

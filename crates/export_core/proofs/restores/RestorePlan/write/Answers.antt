@@ -1,0 +1,17 @@
+use Rattle.std.proofs.Common.{ℕ, subst, refl}
+use Rattle.leaf_engine.specs.Decides.{HandsAt}
+use Rattle.leaf_engine.proofs.Decided.{decided-changes, decided-none}
+use Rattle.export_core.specs.RestoreTrees.{restored_changes, restore_task}
+use Rattle.export_core.proofs.restores.RestorePlan.write.Goals as goal
+
+pub returns-in-Ok-clause-hands : goal.returns-in-Ok-clause-hands
+returns-in-Ok-clause-hands c =
+    let l = c.args.self.now in
+    let h = c.args._hand.now in
+    rw (decided-changes l.place.machine.pages (restore_task l.place l.tdr l.gpa).tree c.args.told.now _ c.in-Ok.ensures.decides)
+    (subst (λ (i : ℕ). HandsAt l.place.machine (restored_changes i c.in-Ok.restored) c.args.number h h c.write.result) c.index.ensures.index (c.write.ensures.hands h))
+
+pub returns-in-Err-clause-hands : goal.returns-in-Err-clause-hands
+returns-in-Err-clause-hands c =
+    let l = c.args.self.now in
+    rw (decided-none l.place.machine.pages (restore_task l.place l.tdr l.gpa).tree c.args.told.now _ c.in-Err.ensures.decides) (refl, refl)

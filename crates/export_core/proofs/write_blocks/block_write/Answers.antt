@@ -1,0 +1,35 @@
+use Rattle.std.proofs.Common.{Err, refl}
+use Rattle.sept_walk.specs.SecureEpt.{index_at}
+use Rattle.leaf_parts.proofs.Parts.{exit}
+use Rattle.export_core.specs.WriteTrees.{block_write_map, block_write_rest}
+use Rattle.export_core.proofs.write_blocks.block_write.Goals as goal
+
+pub returns-in_err-are_in_range-clause-decides : goal.returns-in_err-are_in_range-clause-decides
+returns-in_err-are_in_range-clause-decides c =
+    let m = c.args.place.machine in
+    rw (exit c.from_residual.result c.in_err-are_in_range.field-0.0 _ c.from_residual.ensures.1 (λ y h. h))
+    (c.in_err-are_in_range.ensures.goes (λ u. block_write_map m c.args.tdr c.args.gpa))
+
+pub returns-in_err-entry-clause-decides : goal.returns-in_err-entry-clause-decides
+returns-in_err-entry-clause-decides c =
+    let m = c.args.place.machine in
+    let e = c.in_err-entry.field-0.0 in
+    rw (exit c.from_residual-in_err-entry.result e _ c.from_residual-in_err-entry.ensures.1 (λ y h. h))
+    (c.in_ok-are_in_range.ensures.goes (λ u. block_write_map m c.args.tdr c.args.gpa) (Err e)
+    (c.in_err-entry.ensures.goes (block_write_rest c.args.tdr (index_at 0 c.args.gpa))))
+
+pub returns-in_err-epoch-clause-decides : goal.returns-in_err-epoch-clause-decides
+returns-in_err-epoch-clause-decides c =
+    let m = c.args.place.machine in
+    let e = c.in_err-epoch.field-0.0 in
+    rw (exit c.from_residual-in_err-epoch.result e _ c.from_residual-in_err-epoch.ensures.1 (λ y h. h))
+    (c.in_ok-are_in_range.ensures.goes (λ u. block_write_map m c.args.tdr c.args.gpa) (Err e)
+    (c.in_ok-entry.ensures.goes (block_write_rest c.args.tdr (index_at 0 c.args.gpa)) (Err e)
+    (rw (c.in_err-epoch.ensures.0, c.in_err-epoch.ensures.1, c.word_address.ensures) refl)))
+
+pub returns-clause-decides : goal.returns-clause-decides
+returns-clause-decides c =
+    let m = c.args.place.machine in
+    c.in_ok-are_in_range.ensures.goes (λ u. block_write_map m c.args.tdr c.args.gpa) _
+    (c.in_ok-entry.ensures.goes (block_write_rest c.args.tdr (index_at 0 c.args.gpa)) _
+    (rw c.in_ok-epoch.ensures (refl, refl)))
