@@ -83,9 +83,10 @@ judged_too_many (Some e) m ns few h =
     let over : (leb m.least (length ns) && leb (length ns) m.most) ≡ false = grind (arith, few) in
     rw over refl
 
-built_alike : (lp : ℕ) (call : CallName) (ns ms : List (Option ℕ)) → too_many (built_of lp call ns) ≡ too_many (built_of lp call ms)
-built_alike lp name.HostRead ns ms = refl
-built_alike lp _ ns ms = refl
+built_alike : (lp : ℕ) (call : CallName) (ns ms : List (Option ℕ)) → 5 ≤ length ns → 5 ≤ length ms → too_many (built_of lp call ns) ≡ too_many (built_of lp call ms)
+built_alike lp name.ExportAbort ns ms h k =
+    let n : (length ns == 2) ≡ false = grind arith in let m : (length ms == 2) ≡ false = grind arith in rw (n, m) refl
+built_alike lp _ ns ms h k = refl
 
 -- what a line says that has five words and more behind its first doesn't hang on which they are
 
@@ -93,7 +94,7 @@ call_alike : (lp : ℕ) (row : Option Mnemonic) (ns ms : List (Option ℕ)) → 
 unfolding call_of
 call_alike lp None ns ms few h k = refl
 call_alike lp (Some m) ns ms few h k =
-    judged_too_many (built_of lp m.call ns) m ns few h ∙ built_alike lp m.call ns ms ∙ sym (judged_too_many (built_of lp m.call ms) m ms few k)
+    judged_too_many (built_of lp m.call ns) m ns few h ∙ built_alike lp m.call ns ms h k ∙ sym (judged_too_many (built_of lp m.call ms) m ms few k)
 
 first_alike : (word : Option Keyword) (ns ms : List (Option ℕ)) → 5 ≤ length ns → 5 ≤ length ms → first_of word ns ≡ first_of word ms
 first_alike (Some keyword.Machine) ns ms h k = machine_miscounted ns h ∙ sym (machine_miscounted ms k)

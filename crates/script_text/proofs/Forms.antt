@@ -34,7 +34,7 @@ use Rattle.script_text.specs.declared.operations.OpName.TheVariants as op
 use Rattle.script_text.specs.declared.schedules.Item.{Item}
 use Rattle.script_text.specs.declared.schedules.Turns.{Turns}
 use Rattle.script_text.specs.Counted.{◌>>=◌, counted_of, number_at, argument}
-use Rattle.script_text.specs.Line.{machine_of, block_of, end_of, built_of, are_given, judged_of, call_of, first_of, list_of, operation_line_of, outside_of, named_of, inside_of, placed_of, entry_of, keyword_of}
+use Rattle.script_text.specs.Line.{machine_of, block_of, end_of, abort_of, built_of, are_given, judged_of, call_of, first_of, list_of, operation_line_of, outside_of, named_of, inside_of, placed_of, entry_of, keyword_of}
 use Rattle.script_text.specs.Blocks.{field_of, code_of, list_place, none_listed, operation_of, operand_count, fit_operands, operands_of, guest_op_of}
 use Rattle.script_text.specs.Schedule.{item_of, in_range_of, turns_in, with_turns, written_of, schedule_of}
 use Rattle.script_text.specs.Reading.{SoFar, nothing_yet, with_call, with_op, closed_of, entered_of, worded_of, line_of, script_of, ended_of, then_on, read_from, read_of}
@@ -242,6 +242,10 @@ abbrev IfBuilt : Machine → List Bool → Option Entry → Type 0
 IfBuilt m listed (Some e) = FitsEntry (Some m) listed e
 IfBuilt m listed None = Unit {0}
 
+abort_fits : (m : Machine) (listed : List Bool) (lp : ℕ) (with_slot : Bool) (ns : List (Option ℕ)) → All FitsNumber ns → IfBuilt m listed (abort_of lp with_slot (argument ns 0))
+abort_fits m listed lp true ns h = tt
+abort_fits m listed lp false ns h = one_fits ns h
+
 built_fits : (m : Machine) (listed : List Bool) (lp : ℕ) (n : CallName) (ns : List (Option ℕ)) → All FitsNumber ns → IfBuilt m listed (built_of lp n ns)
 built_fits m listed lp name.HostRead ns h = two_fit ns h
 built_fits m listed lp name.HostWrite ns h = three_fit ns h
@@ -270,6 +274,12 @@ built_fits m listed lp name.MemPageRemove ns h = two_fit ns h
 built_fits m listed lp name.MemRangeBlock ns h = three_fit ns h
 built_fits m listed lp name.MemRangeUnblock ns h = three_fit ns h
 built_fits m listed lp name.MemTrack ns h = one_fits ns h
+built_fits m listed lp name.MigStreamCreate ns h = two_fit ns h
+built_fits m listed lp name.ExportBlockw ns h = two_fit ns h
+built_fits m listed lp name.ExportUnblockw ns h = two_fit ns h
+built_fits m listed lp name.ExportPause ns h = one_fits ns h
+built_fits m listed lp name.ExportAbort ns h = abort_fits m listed lp (length ns == 2) ns h
+built_fits m listed lp name.ExportRestore ns h = two_fit ns h
 built_fits m listed lp _ ns h = tt
 
 judged_fits : (m : Machine) (listed : List Bool) (e : Option Entry) (row : Mnemonic) (ns : List (Option ℕ)) → IfBuilt m listed e → IfGiven (FitsEntry (Some m) listed) (judged_of e row ns)

@@ -32,7 +32,7 @@ use Rattle.script_text.specs.declared.operations.OpName.{OpName}
 use Rattle.script_text.specs.declared.schedules.Turns.{Turns}
 use Rattle.script_text.specs.Blocks.{field_of, code_of, operation_of, operand_count, fit_operands, operands_of, guest_op_of}
 use Rattle.script_text.specs.Counted.{◌>>=◌, argument}
-use Rattle.script_text.specs.Line.{keyword_of, machine_of, block_of, end_of, built_of, are_given, judged_of, call_of, first_of, list_of, operation_line_of, outside_of, named_of, inside_of, placed_of, entry_of}
+use Rattle.script_text.specs.Line.{keyword_of, machine_of, block_of, end_of, abort_of, built_of, are_given, judged_of, call_of, first_of, list_of, operation_line_of, outside_of, named_of, inside_of, placed_of, entry_of}
 use Rattle.script_text.specs.Reading.{SoFar, entered_of, worded_of, line_of, script_of, ended_of}
 use Rattle.script_text.specs.Reasons.{fault_in, line_reasons, end_reasons, times_of, turns_count, names_no_field, is_built, FirstWord, call_word, operation_word, word_in, machine_holds, holds_of, holds_in, holds_at, holds_at_end}
 use Rattle.script_text.specs.Reasons.FirstWord.{Key}
@@ -241,42 +241,52 @@ abbrev call_ends : CallName → List (List Call) → ℕ → List (List ℕ) →
 call_ends call calls lp ws = cond (names_no_field call ws) (Some reason.Name) (cond (crowded calls lp) (Some reason.Full) None)
 
 abbrev EntryEnds : Machine → ℕ → SoFar → List (List ℕ) → CallName → Option Entry → Type 0
-EntryEnds m lp d ws call None = is_built call ≡ false
-EntryEnds m lp d ws call (Some e) = (is_built call ≡ true) × (fault_in (entered_of (state (Some m) (Some (block.Lp lp)) d) e ws) ≡ call_ends call d.calls lp ws)
+EntryEnds m lp d ws call None = is_built call ws ≡ false
+EntryEnds m lp d ws call (Some e) = (is_built call ws ≡ true) × (fault_in (entered_of (state (Some m) (Some (block.Lp lp)) d) e ws) ≡ call_ends call d.calls lp ws)
 
-entry_ends : (m : Machine) (lp : ℕ) (d : SoFar) (ws : List (List ℕ)) (call : CallName) (ns : List (Option ℕ)) → EntryEnds m lp d ws call (built_of lp call ns)
-entry_ends m lp d ws name.HostRead ns = (refl, call_full m lp d _ ws)
-entry_ends m lp d ws name.HostWrite ns = (refl, call_full m lp d _ ws)
-entry_ends m lp d ws name.PhymemPageRdmd ns = (refl, call_full m lp d _ ws)
-entry_ends m lp d ws name.PhymemCacheWb ns = (refl, call_full m lp d _ ws)
-entry_ends m lp d ws name.PhymemPageReclaim ns = (refl, call_full m lp d _ ws)
-entry_ends m lp d ws name.MngCreate ns = (refl, call_full m lp d _ ws)
-entry_ends m lp d ws name.MngKeyConfig ns = (refl, call_full m lp d _ ws)
-entry_ends m lp d ws name.MngAddcx ns = (refl, call_full m lp d _ ws)
-entry_ends m lp d ws name.MngInit ns = (refl, call_full m lp d _ ws)
-entry_ends m lp d ws name.MngRd ns = (refl, read_full m lp _ d ws)
-entry_ends m lp d ws name.MngVpflushdone ns = (refl, call_full m lp d _ ws)
-entry_ends m lp d ws name.MngKeyFreeid ns = (refl, call_full m lp d _ ws)
-entry_ends m lp d ws name.MrExtend ns = (refl, call_full m lp d _ ws)
-entry_ends m lp d ws name.MrFinalize ns = (refl, call_full m lp d _ ws)
-entry_ends m lp d ws name.VpCreate ns = (refl, call_full m lp d _ ws)
-entry_ends m lp d ws name.VpInit ns = (refl, call_full m lp d _ ws)
-entry_ends m lp d ws name.VpEnter ns = (refl, call_full m lp d _ ws)
-entry_ends m lp d ws name.VpFlush ns = (refl, call_full m lp d _ ws)
-entry_ends m lp d ws name.MemSeptAdd ns = (refl, call_full m lp d _ ws)
-entry_ends m lp d ws name.MemSeptRd ns = (refl, call_full m lp d _ ws)
-entry_ends m lp d ws name.MemSeptRemove ns = (refl, call_full m lp d _ ws)
-entry_ends m lp d ws name.MemPageAdd ns = (refl, call_full m lp d _ ws)
-entry_ends m lp d ws name.MemPageAug ns = (refl, call_full m lp d _ ws)
-entry_ends m lp d ws name.MemPageRemove ns = (refl, call_full m lp d _ ws)
-entry_ends m lp d ws name.MemRangeBlock ns = (refl, call_full m lp d _ ws)
-entry_ends m lp d ws name.MemRangeUnblock ns = (refl, call_full m lp d _ ws)
-entry_ends m lp d ws name.MemTrack ns = (refl, call_full m lp d _ ws)
-entry_ends m lp d ws _ ns = refl
+abort_ends : (m : Machine) (lp : ℕ) (d : SoFar) (ws : List (List ℕ)) (with_slot : Bool) (tdr : ℕ) → (length (map number ws) == 2) ≡ with_slot → EntryEnds m lp d ws name.ExportAbort (abort_of lp with_slot tdr)
+abort_ends m lp d ws true tdr e = rw e refl
+abort_ends m lp d ws false tdr e = (rw e refl, call_full m lp d _ ws)
+
+entry_ends : (m : Machine) (lp : ℕ) (d : SoFar) (ws : List (List ℕ)) (call : CallName) → EntryEnds m lp d ws call (built_of lp call (map number ws))
+entry_ends m lp d ws name.HostRead = (refl, call_full m lp d _ ws)
+entry_ends m lp d ws name.HostWrite = (refl, call_full m lp d _ ws)
+entry_ends m lp d ws name.PhymemPageRdmd = (refl, call_full m lp d _ ws)
+entry_ends m lp d ws name.PhymemCacheWb = (refl, call_full m lp d _ ws)
+entry_ends m lp d ws name.PhymemPageReclaim = (refl, call_full m lp d _ ws)
+entry_ends m lp d ws name.MngCreate = (refl, call_full m lp d _ ws)
+entry_ends m lp d ws name.MngKeyConfig = (refl, call_full m lp d _ ws)
+entry_ends m lp d ws name.MngAddcx = (refl, call_full m lp d _ ws)
+entry_ends m lp d ws name.MngInit = (refl, call_full m lp d _ ws)
+entry_ends m lp d ws name.MngRd = (refl, read_full m lp _ d ws)
+entry_ends m lp d ws name.MngVpflushdone = (refl, call_full m lp d _ ws)
+entry_ends m lp d ws name.MngKeyFreeid = (refl, call_full m lp d _ ws)
+entry_ends m lp d ws name.MrExtend = (refl, call_full m lp d _ ws)
+entry_ends m lp d ws name.MrFinalize = (refl, call_full m lp d _ ws)
+entry_ends m lp d ws name.VpCreate = (refl, call_full m lp d _ ws)
+entry_ends m lp d ws name.VpInit = (refl, call_full m lp d _ ws)
+entry_ends m lp d ws name.VpEnter = (refl, call_full m lp d _ ws)
+entry_ends m lp d ws name.VpFlush = (refl, call_full m lp d _ ws)
+entry_ends m lp d ws name.MemSeptAdd = (refl, call_full m lp d _ ws)
+entry_ends m lp d ws name.MemSeptRd = (refl, call_full m lp d _ ws)
+entry_ends m lp d ws name.MemSeptRemove = (refl, call_full m lp d _ ws)
+entry_ends m lp d ws name.MemPageAdd = (refl, call_full m lp d _ ws)
+entry_ends m lp d ws name.MemPageAug = (refl, call_full m lp d _ ws)
+entry_ends m lp d ws name.MemPageRemove = (refl, call_full m lp d _ ws)
+entry_ends m lp d ws name.MemRangeBlock = (refl, call_full m lp d _ ws)
+entry_ends m lp d ws name.MemRangeUnblock = (refl, call_full m lp d _ ws)
+entry_ends m lp d ws name.MemTrack = (refl, call_full m lp d _ ws)
+entry_ends m lp d ws name.MigStreamCreate = (refl, call_full m lp d _ ws)
+entry_ends m lp d ws name.ExportBlockw = (refl, call_full m lp d _ ws)
+entry_ends m lp d ws name.ExportUnblockw = (refl, call_full m lp d _ ws)
+entry_ends m lp d ws name.ExportPause = (refl, call_full m lp d _ ws)
+entry_ends m lp d ws name.ExportAbort = abort_ends m lp d ws (length (map number ws) == 2) _ refl
+entry_ends m lp d ws name.ExportRestore = (refl, call_full m lp d _ ws)
+entry_ends m lp d ws _ = refl
 
 judged_order : (m : Machine) (lp : ℕ) (d : SoFar) (ws : List (List ℕ)) (row : Mnemonic) (e : Option Entry) (ns : List (Option ℕ)) → EntryEnds m lp d ws row.call e
     → fault_in (judged_of e row ns >>= (λ x. entered_of (state (Some m) (Some (block.Lp lp)) d) x ws))
-    ≡ cond (not (is_built row.call)) (Some reason.Unbuilt) (cond (not (leb row.least (length ns) && leb (length ns) row.most)) (Some reason.Count) (cond (not (are_given row.call ns)) (Some reason.Number) (call_ends row.call d.calls lp ws)))
+    ≡ cond (not (is_built row.call ws)) (Some reason.Unbuilt) (cond (not (leb row.least (length ns) && leb (length ns) row.most)) (Some reason.Count) (cond (not (are_given row.call ns)) (Some reason.Number) (call_ends row.call d.calls lp ws)))
 judged_order m lp d ws row None ns h = rw h refl
 judged_order m lp d ws row (Some e) ns h =
     rw h.0 (counted_call e row ns (λ x. entered_of (state (Some m) (Some (block.Lp lp)) d) x ws) (call_ends row.call d.calls lp ws) h.1)
@@ -286,7 +296,7 @@ call_order : (m : Machine) (lp : ℕ) (d : SoFar) (row : Option Mnemonic) (ws : 
 unfolding call_of
 call_order m lp d None ws = refl
 call_order m lp d (Some row) ws =
-    judged_order m lp d ws row (built_of lp row.call (map number ws)) (map number ws) (entry_ends m lp d ws row.call (map number ws)) ∙ rw length-map refl
+    judged_order m lp d ws row (built_of lp row.call (map number ws)) (map number ws) (entry_ends m lp d ws row.call) ∙ rw length-map refl
 
 -- `code`
 

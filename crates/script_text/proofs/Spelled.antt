@@ -148,6 +148,12 @@ call_entry s listed m lp (calls.MemPageRemove a b) h k = rw (h, k) refl
 call_entry s listed m lp (calls.MemRangeBlock a b c) h k = rw (h, k) refl
 call_entry s listed m lp (calls.MemRangeUnblock a b c) h k = rw (h, k) refl
 call_entry s listed m lp (calls.MemTrack a) h k = rw (h, k) refl
+call_entry s listed m lp (calls.MigStreamCreate a b) h k = rw (h, k) refl
+call_entry s listed m lp (calls.ExportBlockw a b) h k = rw (h, k) refl
+call_entry s listed m lp (calls.ExportUnblockw a b) h k = rw (h, k) refl
+call_entry s listed m lp (calls.ExportPause a) h k = rw (h, k) refl
+call_entry s listed m lp (calls.ExportAbort a) h k = rw (h, k) refl
+call_entry s listed m lp (calls.ExportRestore a b) h k = rw (h, k) refl
 
 field_again : (f : ReadField) → field_of (read_text f) ≡ Ok f
 field_again field.Life = refl

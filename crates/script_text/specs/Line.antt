@@ -1,5 +1,5 @@
 -- What one line says, by its first word and the numbers behind it, or the first reason why it is bad.
-use Rattle.std.specs.Prelude.{ℕ, List, Option, Some, None, is_some, Result, Ok, Err, Bool, false, not, ◌&&◌, nat_lt, nat_le, slice_index_or, length, if◌then◌else◌, codes}
+use Rattle.std.specs.Prelude.{ℕ, List, Option, Some, None, is_some, Result, Ok, Err, Bool, true, false, not, ◌==◌, ◌&&◌, nat_lt, nat_le, slice_index_or, length, if◌then◌else◌, codes}
 use Rattle.std.specs.List.{list_all}
 use Rattle.std.specs.Str.{bytes_eq}
 use Rattle.td_words.specs.declared.calls.Call.TheVariants as calls
@@ -63,6 +63,11 @@ end_of numbers = do
   _ ← counted_of 0 numbers
   Ok entry.End
 
+-- EXPORT.ABORT with a slot isn't built
+abbrev pub abort_of : ℕ → (with_slot : Bool) → (tdr : ℕ) → Option Entry
+abort_of lp true tdr = None
+abort_of lp false tdr = Some (entry.Call lp (calls.ExportAbort tdr))
+
 -- the call of a mnemonic, as far as it is built; the field of MNG.RD isn't looked at here
 abbrev pub built_of : ℕ → CallName → List (Option ℕ) → Option Entry
 built_of lp name.HostRead ns = Some (entry.Call lp (calls.HostRead (argument ns 0) (argument ns 1)))
@@ -92,6 +97,12 @@ built_of lp name.MemPageRemove ns = Some (entry.Call lp (calls.MemPageRemove (ar
 built_of lp name.MemRangeBlock ns = Some (entry.Call lp (calls.MemRangeBlock (argument ns 0) (argument ns 1) (argument ns 2)))
 built_of lp name.MemRangeUnblock ns = Some (entry.Call lp (calls.MemRangeUnblock (argument ns 0) (argument ns 1) (argument ns 2)))
 built_of lp name.MemTrack ns = Some (entry.Call lp (calls.MemTrack (argument ns 0)))
+built_of lp name.MigStreamCreate ns = Some (entry.Call lp (calls.MigStreamCreate (argument ns 0) (argument ns 1)))
+built_of lp name.ExportBlockw ns = Some (entry.Call lp (calls.ExportBlockw (argument ns 0) (argument ns 1)))
+built_of lp name.ExportUnblockw ns = Some (entry.Call lp (calls.ExportUnblockw (argument ns 0) (argument ns 1)))
+built_of lp name.ExportPause ns = Some (entry.Call lp (calls.ExportPause (argument ns 0)))
+built_of lp name.ExportAbort ns = abort_of lp (length ns == 2) (argument ns 0)
+built_of lp name.ExportRestore ns = Some (entry.Call lp (calls.ExportRestore (argument ns 0) (argument ns 1)))
 built_of lp _ ns = None
 
 -- whether those arguments are numbers that must be: all but the field of MNG.RD

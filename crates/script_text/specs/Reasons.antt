@@ -71,13 +71,13 @@ abbrev pub word_holds : FirstWord → Bool
 word_holds Unknown = true
 word_holds _ = false
 
--- a call is built where its mnemonic has a call; each operation is
-abbrev pub is_built : CallName → Bool
-is_built call = is_some (built_of 0 call [])
+-- a call is built where its mnemonic has a call with as many words; each operation is
+abbrev pub is_built : CallName → List (List ℕ) → Bool
+is_built call ws = is_some (built_of 0 call (map number ws))
 
-abbrev pub unbuilt_holds : FirstWord → Bool
-unbuilt_holds (OfCall m) = not (is_built m.call)
-unbuilt_holds _ = false
+abbrev pub unbuilt_holds : FirstWord → List (List ℕ) → Bool
+unbuilt_holds (OfCall m) ws = not (is_built m.call ws)
+unbuilt_holds _ ws = false
 
 -- so many words stand behind the first
 abbrev pub count_holds : FirstWord → ℕ → Bool
@@ -164,7 +164,7 @@ abbrev pub holds_of : SoFar → FirstWord → List (List ℕ) → Reason → Boo
 holds_of d w ws reason.Machine = machine_holds (is_some d.stage.machine) w
 holds_of d w ws reason.Place = place_holds (is_some d.stage.block) w
 holds_of d w ws reason.Word = word_holds w
-holds_of d w ws reason.Unbuilt = unbuilt_holds w
+holds_of d w ws reason.Unbuilt = unbuilt_holds w ws
 holds_of d w ws reason.Count = count_holds w (length ws)
 holds_of d w ws reason.Number = number_holds w ws
 holds_of d w ws reason.Name = name_holds w ws

@@ -39,6 +39,12 @@ call_word (calls.MemPageRemove tdr gpa) = codes "MEM.PAGE.REMOVE"
 call_word (calls.MemRangeBlock tdr gpa level) = codes "MEM.RANGE.BLOCK"
 call_word (calls.MemRangeUnblock tdr gpa level) = codes "MEM.RANGE.UNBLOCK"
 call_word (calls.MemTrack tdr) = codes "MEM.TRACK"
+call_word (calls.MigStreamCreate tdr page) = codes "MIG.STREAM.CREATE"
+call_word (calls.ExportBlockw tdr gpa) = codes "EXPORT.BLOCKW"
+call_word (calls.ExportUnblockw tdr gpa) = codes "EXPORT.UNBLOCKW"
+call_word (calls.ExportPause tdr) = codes "EXPORT.PAUSE"
+call_word (calls.ExportAbort tdr) = codes "EXPORT.ABORT"
+call_word (calls.ExportRestore tdr gpa) = codes "EXPORT.RESTORE"
 
 abbrev pub call_numbers : Call → List ℕ
 call_numbers (calls.HostRead page word) = page ∷ word ∷ []
@@ -68,6 +74,12 @@ call_numbers (calls.MemPageRemove tdr gpa) = tdr ∷ gpa ∷ []
 call_numbers (calls.MemRangeBlock tdr gpa level) = tdr ∷ gpa ∷ level ∷ []
 call_numbers (calls.MemRangeUnblock tdr gpa level) = tdr ∷ gpa ∷ level ∷ []
 call_numbers (calls.MemTrack tdr) = tdr ∷ []
+call_numbers (calls.MigStreamCreate tdr page) = tdr ∷ page ∷ []
+call_numbers (calls.ExportBlockw tdr gpa) = tdr ∷ gpa ∷ []
+call_numbers (calls.ExportUnblockw tdr gpa) = tdr ∷ gpa ∷ []
+call_numbers (calls.ExportPause tdr) = tdr ∷ []
+call_numbers (calls.ExportAbort tdr) = tdr ∷ []
+call_numbers (calls.ExportRestore tdr gpa) = tdr ∷ gpa ∷ []
 
 -- MNG.RD names its field behind its numbers
 abbrev pub call_names : Call → List (List ℕ)

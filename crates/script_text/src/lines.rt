@@ -212,6 +212,17 @@ fn built(lp: u8, call: CallName, numbers: &[Option<u64>]) -> Option<Entry>
         CallName::MemRangeBlock => Call::MemRangeBlock { tdr, gpa, level },
         CallName::MemRangeUnblock => Call::MemRangeUnblock { tdr, gpa, level },
         CallName::MemTrack => Call::MemTrack { tdr },
+        CallName::MigStreamCreate => Call::MigStreamCreate { tdr, page: second },
+        CallName::ExportBlockw => Call::ExportBlockw { tdr, gpa },
+        CallName::ExportUnblockw => Call::ExportUnblockw { tdr, gpa },
+        CallName::ExportPause => Call::ExportPause { tdr },
+        CallName::ExportAbort => {
+            if numbers.len() == 2 {
+                return None;
+            }
+            Call::ExportAbort { tdr }
+        }
+        CallName::ExportRestore => Call::ExportRestore { tdr, gpa },
         _ => return None,
     };
     Some(Entry::Call(lp, call))
