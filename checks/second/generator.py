@@ -17,7 +17,7 @@ from machine import Outside
 from program import processors_of
 from rows import FIELDS, GPA_END, PAGE_BYTES, alignment
 from scripts import (
-    BUILT, CALLS_OF_A_PROCESSOR, ITEMS, OPERATIONS_OF_A_LIST, SCRIPT_END, UNBUILT, read,
+    ABORT_WITH_SLOT, BUILT, CALLS_OF_A_PROCESSOR, ITEMS, OPERATIONS_OF_A_LIST, SCRIPT_END, UNBUILT, read,
 )
 
 SIZES = (8, 12, 16, 24, 40, 40, 1024)
@@ -31,7 +31,7 @@ LEADING = ("MR.FINALIZE", "MNG.VPFLUSHDONE")
 # Calls whose last conditions are met only where a TD's tree stands.
 DEEP = (
     "MR.EXTEND", "MEM.SEPT.ADD", "MEM.SEPT.RD", "MEM.PAGE.ADD", "MEM.PAGE.AUG", "VP.ENTER", "VP.FLUSH",
-    "MEM.SEPT.REMOVE", "MEM.PAGE.REMOVE", "MEM.RANGE.BLOCK", "MEM.RANGE.UNBLOCK",
+    "MEM.SEPT.REMOVE", "MEM.PAGE.REMOVE", "MEM.RANGE.BLOCK", "MEM.RANGE.UNBLOCK", "EXPORT.RESTORE",
 )
 
 # Calls on a VCPU of a TD, which is their second argument.
@@ -58,6 +58,7 @@ class Life:
         self.private = [pages.pop() for _ in range(min(chance.choice(sizes[1]), max(0, len(pages) - 4)))]
         self.waiting = [pages.pop() for _ in range(min(chance.choice((1, 1, 2)), max(0, len(pages) - 1)))]
         self.spare = [pages.pop() for _ in range(len(pages) > 1)]  # of a table that comes and goes
+        self.streams = [pages.pop() for _ in range(min(chance.choice((0, 0, 1, 4)), max(0, len(pages) - 8)))]
         self.gpa = chance.choice((0, 511, 513, 1 << 18, 3 << 33)) * PAGE_BYTES
         if len(self.tables) < 3:
             self.private = self.waiting = []
@@ -65,7 +66,7 @@ class Life:
 
     def owned(self):
         """The pages of the TD, without its TDR."""
-        return self.control + self.vcpus + self.tables + self.private + self.waiting + self.spare
+        return self.control + self.vcpus + self.tables + self.private + self.waiting + self.spare + self.streams
 
     def gpas(self):
         """The addresses of its private pages."""
@@ -95,6 +96,7 @@ class Life:
         calls.append(f"MNG.INIT {self.td}")
         inner = [f"VP.CREATE {self.td} {page}" for page in self.vcpus + self.vcpus[7:]]
         inner += [f"VP.INIT {self.td} {page} {chance.randrange(100)}" for page in self.vcpus]
+        inner += [f"MIG.STREAM.CREATE {self.td} {page}" for page in self.streams + self.streams[3:]]
         tree = [f"MEM.SEPT.ADD {self.td} {self.gpa - self.gpa % LEVEL_BYTES[level]} {level} {page}"
                 for level, page in zip((3, 2, 1), self.tables)]
         for place, page in enumerate(self.private):
@@ -140,11 +142,19 @@ class Life:
         again = [f"MEM.RANGE.UNBLOCK {self.td} {gpa} {level}"] * (not added)
         return [*added, *calls, f"{name} {self.td} {gpa} {level}", *again]
 
+    def write_round(self, chance):
+        """Writes to a private page that are blocked and allowed again, and an export that is paused, aborted and
+        forgotten."""
+        gpa = chance.choice(self.gpas() or [self.gpa])
+        pages = [f"EXPORT.{name} {self.td} {gpa}" for name in ("BLOCKW", "UNBLOCKW", "RESTORE")]
+        return pages[:2] + [f"EXPORT.PAUSE {self.td}", f"EXPORT.ABORT {self.td}", pages[2]]
+
     def run(self, chance):
         """Calls on the TD while it runs, of which the last let its VCPUs go."""
         calls = []
+        rounds = (self.entries, self.entries, self.page_round, self.page_round, self.table_round, self.write_round)
         for _ in range(chance.choice((0, 3, 6))):
-            calls += chance.choice((self.entries, self.entries, self.page_round, self.page_round, self.table_round))(chance)
+            calls += chance.choice(rounds)(chance)
         calls += [f"VP.FLUSH {self.td} {page}" for page in self.vcpus + self.vcpus[:1]] if calls else []
         return only_built(calls)
 
@@ -366,7 +376,9 @@ def exact_events(scene, calls):
 
 def host_calls(chance, scene, life):
     """What a host does beside a TD that runs."""
-    kind = chance.randrange(9)
+    kind = chance.randrange(10)
+    if kind == 9:
+        return life.write_round(chance)
     if kind < 3:
         return life.page_round(chance)
     if kind == 3:
@@ -732,7 +744,8 @@ BAD_INSIDE = (
     "HOST.READ 0 0x", "HOST.READ -1 0", "HOST.READ 0 18446744073709551616", "HOST.READ 0 0x10000000000000000",
     "HOST.READ 0X1 0", "HOST.READ 0 0xfg", "MNG.RD 1", "MNG.RD 1 LIF", "MNG.RD 1 life", "MNG.RD 7 NOFIELD",
     "MNG.RD 7 OPS", "MNG.RD 0 mrtd", "MNG.RD x LIF", "MNG.RD x OP", "MNG.RD 1 OP OP", "MNG.RD OP 1",
-    "MEM.PAGE.RELOCATE 1 0 2", "MEM.TRACK", "{call}", "{call} x", "{call} 1 2 3 4 5 6", "{call} 1 0 3 x", "{unbuilt}",
+    "MEM.PAGE.RELOCATE 1 0 2", "MEM.TRACK", "EXPORT.ABORT", "EXPORT.ABORT 1 2", "EXPORT.ABORT 1 x", "EXPORT.ABORT x",
+    "EXPORT.ABORT 1 2 3", "{call}", "{call} x", "{call} 1 2 3 4 5 6", "{call} 1 0 3 x", "{unbuilt}",
     "{unbuilt} 1 0", "{unbuilt} x", "{unbuilt} \x1f", "end\x7f", "HOST.READ 1 1\r",
 )
 BAD_IN_CODE = (
@@ -786,7 +799,7 @@ def put_bad_line(chance, lines, turn):
         "lp": chance.choice(begun("lp") or ["0"]),
         "code": chance.choice(begun("code") or ["0 0"]),
         "call": chance.choice(tuple(BUILT)),
-        "unbuilt": chance.choice(sorted(UNBUILT)),
+        "unbuilt": chance.choice(sorted(UNBUILT - {ABORT_WITH_SLOT})),
         "full": "\n".join(["add 0 0"] * 257),
     }
     lines[place:place] = bad.format(**words).split("\n")

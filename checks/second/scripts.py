@@ -12,17 +12,20 @@ OPERATIONS_OF_A_LIST = 256
 ITEMS = 1 << 20
 
 OUTSIDE = ("schedule", "lp", "code")
-# The first words of the finished grammar that the program doesn't have.
+# EXPORT.ABORT with a slot, which is a call of its own.
+ABORT_WITH_SLOT = "EXPORT.ABORT with a slot"
+# The first words of the finished grammar that the program doesn't have, and that form.
 UNBUILT = set(
     """
-    MIG.STREAM.CREATE EXPORT.STATE.IMMUTABLE EXPORT.BLOCKW EXPORT.UNBLOCKW EXPORT.MEM EXPORT.TRACK
-    EXPORT.PAUSE EXPORT.STATE.TD EXPORT.STATE.VP EXPORT.ABORT EXPORT.RESTORE
+    EXPORT.STATE.IMMUTABLE EXPORT.MEM EXPORT.TRACK EXPORT.STATE.TD EXPORT.STATE.VP
     IMPORT.STATE.IMMUTABLE IMPORT.MEM IMPORT.TRACK IMPORT.STATE.TD IMPORT.STATE.VP IMPORT.COMMIT
     IMPORT.END IMPORT.ABORT
     """.split()
-)
+) | {ABORT_WITH_SLOT}
 # The calls that the program has, with their arguments. All that follows what is built follows UNBUILT.
 BUILT = {name: kinds for name, kinds in ARGUMENTS.items() if name not in UNBUILT}
+if ABORT_WITH_SLOT in UNBUILT:
+    BUILT["EXPORT.ABORT"] = ("page",)
 # Guest operations, with the values that each operand may have.
 REGISTER = range(8)
 OPERATIONS = {
@@ -161,6 +164,7 @@ class Script:
         """Reads a call line."""
         need(name in ARGUMENTS, "WORD")
         need(name not in self.unbuilt, "UNBUILT")
+        need(name != "EXPORT.ABORT" or len(rest) != 2 or ABORT_WITH_SLOT not in self.unbuilt, "UNBUILT")
         kinds = ARGUMENTS[name]
         need(len(rest) == len(kinds) or (name == "EXPORT.ABORT" and len(rest) == 1), "COUNT")
         given = iter(numbers([word for kind, word in zip(kinds, rest) if kind != "field"]))

@@ -1,7 +1,7 @@
 //! Two processors at the tree and the pages of a TD, under a schedule.
 //!
-//! The ten calls of TREE have 64 events. MR.FINALIZE has 5, MEM.SEPT.RD has 7, MEM.SEPT.ADD,
-//! MEM.PAGE.AUG and MR.EXTEND have 9, and MEM.PAGE.ADD has 11.
+//! The ten calls of TREE have 64 events. MR.FINALIZE has 5, MEM.SEPT.RD and MIG.STREAM.CREATE have 7,
+//! MEM.SEPT.ADD, MEM.PAGE.AUG and MR.EXTEND have 9, and MEM.PAGE.ADD has 11.
 
 use crate::rows::{OTHER, TREE, replay_races, replays};
 use std::test::Fail;
@@ -143,6 +143,141 @@ const RACES: &[&[&str]] = &[
 #[test]
 fn memory_calls_meet_at_locks(rt: HostRuntime) -> Result<(), Fail> {
     replay_races(&rt, rt.alloc(), RACES)
+}
+
+// Calls of a migration's source, of which an op state refuses EXPORT.BLOCKW, EXPORT.UNBLOCKW,
+// EXPORT.PAUSE and EXPORT.ABORT, once it is locked.
+const SOURCES: &[&[&str]] = &[
+    &[
+        TREE,
+        "SUCCESS | MIG.STREAM.CREATE 1 8",
+        "0*70 1 | OPERAND_BUSY P 1 | MNG.VPFLUSHDONE 1",
+        "0*71 1*3 | LIFECYCLE_STATE_INCORRECT TD_KEYS_CONFIGURED | MNG.KEY.FREEID 1",
+        // The op state is held alone past the act, so that streams are created one after the other.
+        "0*66 1*4 | OPERAND_BUSY O | MEM.SEPT.RD 1 0 3",
+        "0*69 1*3 | OPERAND_BUSY O | MIG.STREAM.CREATE 1 9",
+        "0*70 1*7 | SUCCESS | MIG.STREAM.CREATE 1 9",
+        // The page is the host's until it is held alone, and the TD's once it is released.
+        "0*66 1*3 | SUCCESS | HOST.WRITE 8 0 9",
+        "0*67 1*2 | OPERAND_BUSY P 8 | HOST.READ 8 0",
+        "0*68 1*2 | OPERAND_BUSY P 8 | HOST.WRITE 8 0 9",
+        "0*69 1*3 | NOT_HOST | HOST.WRITE 8 0 9",
+    ],
+    &[
+        TREE,
+        "OPERAND_BUSY P 1 | MIG.STREAM.CREATE 1 8",
+        "0*64 1 0 | LIFECYCLE_STATE_INCORRECT TD_KEYS_CONFIGURED | MNG.KEY.FREEID 1",
+    ],
+    &[
+        TREE,
+        "OPERAND_BUSY O | MIG.STREAM.CREATE 1 8",
+        "0*65 1*2 0 | SUCCESS 1 | MNG.RD 1 EPOCH",
+    ],
+    &[
+        TREE,
+        "OPERAND_BUSY P 8 | MIG.STREAM.CREATE 1 8",
+        "0*66 1 0 | SUCCESS 0 | HOST.READ 8 0",
+    ],
+    // EXPORT.BLOCKW and EXPORT.UNBLOCKW share the op state.
+    &[
+        TREE,
+        "OP_STATE_INCORRECT INITIALIZED | EXPORT.BLOCKW 1 0",
+        "0*66 1*5 | SUCCESS 1 | MNG.RD 1 EPOCH",
+        "0*66 1*3 | OPERAND_BUSY O | MR.FINALIZE 1",
+        "0*68 1*5 | SUCCESS | MR.FINALIZE 1",
+    ],
+    &[
+        TREE,
+        "OPERAND_BUSY P 1 | EXPORT.BLOCKW 1 0",
+        "0*64 1 0 | LIFECYCLE_STATE_INCORRECT TD_KEYS_CONFIGURED | MNG.KEY.FREEID 1",
+    ],
+    &[
+        TREE,
+        "OPERAND_BUSY O | EXPORT.BLOCKW 1 0",
+        "0*65 1*2 0 | SUCCESS | MR.FINALIZE 1",
+    ],
+    &[
+        TREE,
+        "OP_STATE_INCORRECT INITIALIZED | EXPORT.UNBLOCKW 1 0",
+        "0*66 1*5 | SUCCESS 1 | MNG.RD 1 EPOCH",
+        "0*66 1*3 | OPERAND_BUSY O | MR.FINALIZE 1",
+    ],
+    &[
+        TREE,
+        "OPERAND_BUSY P 1 | EXPORT.UNBLOCKW 1 0",
+        "0*64 1 0 | LIFECYCLE_STATE_INCORRECT TD_KEYS_CONFIGURED | MNG.KEY.FREEID 1",
+    ],
+    &[
+        TREE,
+        "OPERAND_BUSY O | EXPORT.UNBLOCKW 1 0",
+        "0*65 1*2 0 | SUCCESS | MR.FINALIZE 1",
+    ],
+    // EXPORT.PAUSE and EXPORT.ABORT have it alone.
+    &[
+        TREE,
+        "OP_STATE_INCORRECT INITIALIZED | EXPORT.PAUSE 1",
+        "0*67 1*3 | OPERAND_BUSY O | MNG.RD 1 EPOCH",
+        "0*68 1*5 | SUCCESS 1 | MNG.RD 1 EPOCH",
+    ],
+    &[
+        TREE,
+        "OPERAND_BUSY P 1 | EXPORT.PAUSE 1",
+        "0*64 1 0 | LIFECYCLE_STATE_INCORRECT TD_KEYS_CONFIGURED | MNG.KEY.FREEID 1",
+    ],
+    &[
+        TREE,
+        "OPERAND_BUSY O | EXPORT.PAUSE 1",
+        "0*65 1*2 0 | SUCCESS 1 | MNG.RD 1 EPOCH",
+    ],
+    &[
+        TREE,
+        "OP_STATE_INCORRECT INITIALIZED | EXPORT.ABORT 1",
+        "0*67 1*3 | OPERAND_BUSY O | MNG.RD 1 EPOCH",
+        "0*68 1*5 | SUCCESS 1 | MNG.RD 1 EPOCH",
+    ],
+    &[
+        TREE,
+        "OPERAND_BUSY P 1 | EXPORT.ABORT 1",
+        "0*64 1 0 | LIFECYCLE_STATE_INCORRECT TD_KEYS_CONFIGURED | MNG.KEY.FREEID 1",
+    ],
+    &[
+        TREE,
+        "OPERAND_BUSY O | EXPORT.ABORT 1",
+        "0*65 1*2 0 | SUCCESS 1 | MNG.RD 1 EPOCH",
+    ],
+    // EXPORT.RESTORE has the tree alone, and an entry's state refuses it.
+    &[
+        TREE,
+        "SUCCESS | MEM.PAGE.ADD 1 0 8 0 | MR.FINALIZE 1",
+        "EPT_ENTRY_STATE_INCORRECT MAPPED | EXPORT.RESTORE 1 0",
+        "0*82 1*3 | OPERAND_BUSY O | MR.FINALIZE 1",
+        "0*82 1*7 | SUCCESS MAPPED 8 | MEM.SEPT.RD 1 0 0",
+        "0*83 1*5 | OPERAND_BUSY T | MEM.SEPT.RD 1 0 0",
+        "0*85 1*7 | SUCCESS MAPPED 8 | MEM.SEPT.RD 1 0 0",
+    ],
+    &[
+        TREE,
+        "SUCCESS | MEM.PAGE.ADD 1 0 8 0 | MR.FINALIZE 1",
+        "OPERAND_BUSY P 1 | EXPORT.RESTORE 1 0",
+        "0*80 1 0 | LIFECYCLE_STATE_INCORRECT TD_KEYS_CONFIGURED | MNG.KEY.FREEID 1",
+    ],
+    &[
+        TREE,
+        "SUCCESS | MEM.PAGE.ADD 1 0 8 0 | MR.FINALIZE 1",
+        "OPERAND_BUSY O | EXPORT.RESTORE 1 0",
+        "0*81 1*2 0 | OP_STATE_INCORRECT RUNNABLE | MR.FINALIZE 1",
+    ],
+    &[
+        TREE,
+        "SUCCESS | MEM.PAGE.ADD 1 0 8 0 | MR.FINALIZE 1",
+        "OPERAND_BUSY T | EXPORT.RESTORE 1 0",
+        "0*82 1*3 0 | SUCCESS MAPPED 8 | MEM.SEPT.RD 1 0 0",
+    ],
+];
+
+#[test]
+fn calls_of_a_source_meet_at_locks(rt: HostRuntime) -> Result<(), Fail> {
+    replay_races(&rt, rt.alloc(), SOURCES)
 }
 
 // Two TDs, each built and measured by its own processor, at the same GPAs.

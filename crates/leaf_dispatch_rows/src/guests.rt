@@ -15,8 +15,10 @@ use std::alloc::{AllocError, Global};
 use std::process::Abort;
 use std::test::Fail;
 use step_core::{Bench, PlainBench, WordStep};
-use td_words::places::{VP_POSITION, VP_REGISTERS};
-use td_words::{Access, Call, Code, GuestOp, LockName, Outcome, Reply, lock_address, word_address};
+use td_words::places::{TDCS_OP, VP_POSITION, VP_REGISTERS};
+use td_words::{
+    Access, Call, Code, GuestOp, LockName, OpState, Outcome, Reply, lock_address, word_address,
+};
 
 /// The first shared GPA.
 const SHARED: u64 = 1 << 47;
@@ -261,5 +263,32 @@ fn a_shared_access_reaches_pages_of_the_host_alone(rt: HostRuntime) -> Result<()
     let busy = Outcome::Busy(LockName::Page(20));
     assert_eq!(rt; lp.replies(), [Reply::Exited(busy)].as_slice());
     assert_eq!(rt; events, 2);
+    Ok(())
+}
+
+#[test]
+fn a_page_that_is_blocked_for_writing_is_read_alone(rt: HostRuntime) -> Result<(), Fail> {
+    let mut bench = bench_with(&rt, rt.alloc(), 1);
+    let secrets = no_secrets();
+    // No script comes to a TD that is exported running yet.
+    let live = OpState::LiveExport as u64;
+    bench.perform(WordStep::Store(word_address(2, TDCS_OP), live));
+    let denied = Outcome::EptViolation {
+        gpa: 0,
+        access: Access::Write,
+    };
+    // What comes before the guest, how it leaves, and the word that it left.
+    for (call, outcome, word) in [
+        (Call::ExportBlockw { tdr: 1, gpa: 0 }, denied, 0_u64),
+        (Call::ExportUnblockw { tdr: 1, gpa: 0 }, Outcome::Stop, 7),
+    ] {
+        make(&rt, rt.alloc(), &mut bench, &[call], DONE);
+        let codes = codes_of([load(0), set(7), store(0)].to_vec(rt.alloc())?);
+        let first_lists = first_lists_of(&rt, rt.alloc(), &codes);
+        let (lp, _) = visit(&rt, rt.alloc(), &mut bench, &codes, &secrets, &first_lists);
+        assert_eq!(rt; lp.replies(), [Reply::Exited(outcome)].as_slice());
+        assert_eq!(rt; lp.notes().len(), 1);
+        assert_eq!(rt; bench.word(word_address(8, 0)), word);
+    }
     Ok(())
 }

@@ -6,6 +6,8 @@
 #[cfg(test)]
 mod benches;
 #[cfg(test)]
+mod exports;
+#[cfg(test)]
 mod guests;
 #[cfg(test)]
 mod last_epochs;

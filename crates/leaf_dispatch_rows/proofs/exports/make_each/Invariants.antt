@@ -1,0 +1,6 @@
+use Rattle.std.proofs.Common.{◌≡◌}
+use Rattle.leaf_dispatch_rows.specs.declared.benches.TheConstants.{MACHINE}
+use Rattle.leaf_dispatch_rows.proofs.exports.make_each.Given as goal
+
+abbrev pub invariant-loop-call : goal.invariant-loop-call
+invariant-loop-call g l = l.bench.machine ≡ MACHINE
