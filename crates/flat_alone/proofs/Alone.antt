@@ -280,6 +280,12 @@ free_row o p (call.ExportUnblockw tdr gpa) w la = λ a b d. free_opened o.machin
 free_row o p (call.ExportPause tdr) w la = λ a. (refl, refl, λ b d e. (refl, refl, λ f. (refl, refl, tt)))
 free_row o p (call.ExportAbort tdr) w la = λ a. (refl, refl, λ b d e. (refl, refl, λ f. (refl, refl, tt)))
 free_row o p (call.ExportRestore tdr gpa) w la = λ a b d. free_opened o.machine w la tdr gpa restoring_ops restored_states refl
+free_row o p (call.ExportStateImmutable tdr slot) w la = λ a. (refl, refl, λ b d e. (refl, refl, λ f. (refl, refl, λ g h i. tt)))
+free_row o p (call.ExportTrack tdr slot zero) w la = λ a b. (refl, refl, λ d e f. (refl, refl, λ g. (refl, refl, λ h i. tt)))
+free_row o p (call.ExportTrack tdr slot (suc n)) w la = λ a b. (refl, refl, λ d e f. (refl, refl, λ g. (refl, refl, λ h i j. tt)))
+free_row o p (call.ExportStateTd tdr slot) w la = λ a. (refl, refl, λ b d e. (refl, refl, λ f g h. tt))
+free_row o p (call.ExportStateVp tdr vp slot) w la =
+    λ a b apart. (refl, refl, λ d e f. (refl, refl, λ g. let n : (tdr == vp) ≡ false = other_page vp tdr apart in (refl, rw n refl, λ h i j. tt)))
 
 -- and every world is lawful
 passes_of : (items : List (Item Reply)) → first_fault items ≡ None → Passes items

@@ -1,5 +1,5 @@
 -- The act of each row, and of an acceptance, keeps what cached translations and walks say.
-use Rattle.std.proofs.Common.{lit≤, ◌≡◌, ◌≢◌, ◌⊎◌, inl, inr, refl, sym, ◌∙◌, subst, ap, ℕ, suc, ◌+◌, ◌/◌, ◌<◌, ◌≤◌, List, [], ◌∷◌, Option, Some, None, Bool, true, false, not, ◌==◌, ◌&&◌, arith}
+use Rattle.std.proofs.Common.{lit≤, ◌≡◌, ◌≢◌, ◌⊎◌, inl, inr, refl, sym, ◌∙◌, subst, ap, ℕ, zero, suc, ◌+◌, ◌/◌, ◌<◌, ◌≤◌, List, [], ◌∷◌, Option, Some, None, Bool, true, false, not, ◌==◌, ◌&&◌, arith}
 use Rattle.std.specs.List.{list_any}
 use Rattle.std.proofs.lemmas.Bool.{eq-eqb, eqb-true, eqb-false, ne_eqb, and_parts}
 use Rattle.td_words.specs.declared.names.PageKind.{PageKind}
@@ -30,11 +30,13 @@ use Rattle.flat_core.specs.Table.{row_of}
 use Rattle.flat_core.specs.Alike.{is_being_built}
 use Rattle.flat_core.specs.Lawful.{Lawful, IsAlive, IsPageOf, is_free, is_named_kind}
 use Rattle.flat_core.specs.Guests.{IsOccupied}
+use Rattle.flat_core.specs.Exports.{entries_where}
 use Rattle.flat_core.specs.Access.{IsHere, IsUsable, inside, outside, entry_of, node_of, node_number, allows_less, is_pending, may_be_exempt, Names, IsCurrent, IsOnCourse, LawfulTranslations, LawfulEpochs}
 use Rattle.flat_core.proofs.Tests.{by_test, host_kind, tdr_kind, range_of}
 use Rattle.flat_core.proofs.Maps.{walk_passed, unlisted, node_named}
 use Rattle.flat_core.proofs.EntryStates.{entry_set}
-use Rattle.flat_core.proofs.Ranges.{named_passed, named_alive, block_restates, unblock_restates, blocked_less, blocked_stops, IsRemoved, page_removed, sept_removed, opened_passed, write_passed, entry_alive, write_remarks, unwrite_remarks, restored, mapped_allows, unblocked_allows}
+use Rattle.flat_core.proofs.Numbers.{holds_of_none}
+use Rattle.flat_core.proofs.Ranges.{named_passed, named_alive, block_restates, unblock_restates, blocked_less, blocked_stops, IsRemoved, page_removed, sept_removed, living, opened_passed, write_passed, entry_alive, write_remarks, unwrite_remarks, restored, mapped_allows, unblocked_allows}
 use Rattle.flat_core.proofs.Removals.{empty_at, other_entry}
 use Rattle.flat_core.proofs.Trackings.{entered_later, epoch_later}
 use Rattle.flat_core.proofs.Spared.{not_configured, counted}
@@ -104,8 +106,9 @@ module _ (w w' : World) (le : LawfulEpochs w) (p : ℕ) (cs : List Translation) 
   pub frame : LawfulTranslations w p cs g → LawfulTranslations w' p cs g
   frame = wide-frame w w' le p cs g occ fore (λ t v h. (let b = back t v h in (b.0, b.1))) enters (usable-same w w' p g back enters) (λ c e bu us. holds c e bu) (λ x k e is bu n. walks x.tdr k e bu)
 
--- entries and blocks as before, and what may have been exempt may be still
-current-on : (w w' : World) (c : Translation) (e : ℕ) → entry_of w' c ≡ entry_of w c → w'.pages.blocked c.page ≡ w.pages.blocked c.page → (may_be_exempt (w.tds.ops c.tdr) ≡ true → may_be_exempt (w'.tds.ops c.tdr) ≡ true)
+-- entries and blocks as before, and a page that was exempt is so still
+current-on : (w w' : World) (c : Translation) (e : ℕ) → entry_of w' c ≡ entry_of w c → w'.pages.blocked c.page ≡ w.pages.blocked c.page
+    → ((entry_of w c).state ≡ entry.ExportedBlockedW → may_be_exempt (w.tds.ops c.tdr) ≡ true → may_be_exempt (w'.tds.ops c.tdr) ≡ true)
     → IsCurrent w c e → IsCurrent w' c e
 current-on w w' c e en bl os h = record {
   named = record { used = ap (λ (x : Entry). is_free x.state) en ∙ h.named.used; page_is = ap (λ (x : Entry). x.page) en ∙ h.named.page_is };
@@ -113,14 +116,14 @@ current-on w w' c e en bl os h = record {
       let was : allows_less c.may_write (entry_of w c).state ≡ true = ap (λ (x : Entry). allows_less c.may_write x.state) (sym en) ∙ less in
       elim (h.rights was) [
         | inl y ↦ inl (subst (λ (z : ℕ). e ≤ z) (sym bl) y)
-        | inr y ↦ inr (ap (λ (x : Entry). x.state) en ∙ y.0, os y.1)
+        | inr y ↦ inr (ap (λ (x : Entry). x.state) en ∙ y.0, os y.0 y.1)
       ];
   accepted = ap (λ (x : Entry). is_pending x.state) en ∙ h.accepted;
 }
 
 -- so with operation states as before
 pub current-same : (w w' : World) (c : Translation) (e : ℕ) → entry_of w' c ≡ entry_of w c → w'.pages.blocked c.page ≡ w.pages.blocked c.page → w'.tds.ops c.tdr ≡ w.tds.ops c.tdr → IsCurrent w c e → IsCurrent w' c e
-current-same w w' c e en bl os h = current-on w w' c e en bl (λ x. ap may_be_exempt os ∙ x) h
+current-same w w' c e en bl os h = current-on w w' c e en bl (λ s x. ap may_be_exempt os ∙ x) h
 
 pub walking-same : (w w' : World) (t : ℕ) (k : Walk) (e : ℕ) → node_of w' t k ≡ node_of w t k → w'.pages.blocked k.page ≡ w.pages.blocked k.page → IsOnCourse w t k e → IsOnCourse w' t k e
 walking-same w w' t k e en bl h = record {
@@ -225,10 +228,10 @@ module _ (m : Machine) (w : World) (la : Lawful m w) (le : LawfulEpochs w) (p : 
       let zero_is : associated_in w.vps.associated (w.tds.vps u) ≡ 0 = eqb-true _ 0 none in omega (arith, some, zero_is)))
       (λ n. n)
 
-  -- an act that changes lives or epochs of TDs that don't run, and entries that are FREE; and operation states, but what may
-  -- be exempt may be still
+  -- an act that changes lives or epochs of TDs that don't run, and entries that are FREE; and operation states, but a page
+  -- that is exempt is so still
   op-act : (w' : World) → w'.pages ≡ w.pages → w'.vps ≡ w.vps → (lv : (t v : ℕ) → IsHere w p t v → w'.tds.lives t ≡ w.tds.lives t) → (lb : (t v : ℕ) → IsHere w' p t v → w.tds.lives t ≡ life.KeysConfigured)
-      → (os : (t : ℕ) → IsBuilt w t → may_be_exempt (w.tds.ops t) ≡ true → may_be_exempt (w'.tds.ops t) ≡ true) → (ep : (t : ℕ) → IsBuilt w t → w'.tds.epochs t ≡ w.tds.epochs t)
+      → (os : (t n : ℕ) → IsBuilt w t → (w.tds.entries t 0 n).state ≡ entry.ExportedBlockedW → may_be_exempt (w.tds.ops t) ≡ true → may_be_exempt (w'.tds.ops t) ≡ true) → (ep : (t : ℕ) → IsBuilt w t → w'.tds.epochs t ≡ w.tds.epochs t)
       → (en : (t l n : ℕ) → IsBuilt w t → is_free (w.tds.entries t l n).state ≡ false → w'.tds.entries t l n ≡ w.tds.entries t l n) → LawfulTranslations w' p cs g
   op-act w' pg vp lv lb os ep en =
       frame w w' le p cs g occ
@@ -236,14 +239,14 @@ module _ (m : Machine) (w : World) (la : Lawful m w) (le : LawfulEpochs w) (p : 
       (λ t v h. let was : IsHere w p t v = record { tdr = ap (λ (z : Pages). z.kinds t) (sym pg) ∙ h.tdr; life = lb t v h; page = record { kind = ap (λ (z : Pages). z.kinds v) (sym pg) ∙ h.page.kind; owner = ap (λ (z : Pages). z.owners v) (sym pg) ∙ h.page.owner }; associated = ap (λ (z : Vps). z.associated v) (sym vp) ∙ h.associated } in
       (was, ap (λ (z : Vps). z.lasts v) vp, ep t (here-built w le p t v was)))
       (λ x e is n. ap (λ (z : Vps). z.entered x.vp) (sym vp) ∙ n)
-      (λ c e bu h. current-on w w' c e (en c.tdr 0 c.gpa_page bu h.named.used) (ap (λ (z : Pages). z.blocked c.page) pg) (os c.tdr bu) h)
+      (λ c e bu h. current-on w w' c e (en c.tdr 0 c.gpa_page bu h.named.used) (ap (λ (z : Pages). z.blocked c.page) pg) (os c.tdr c.gpa_page bu) h)
       (λ t k e bu h. walking-same w w' t k e (en t (suc k.level) (node_number k) bu h.named.used) (ap (λ (z : Pages). z.blocked k.page) pg) h) a
 
   -- so where operation states of TDs that run stay
   td-act : (w' : World) → w'.pages ≡ w.pages → w'.vps ≡ w.vps → (lv : (t v : ℕ) → IsHere w p t v → w'.tds.lives t ≡ w.tds.lives t) → (lb : (t v : ℕ) → IsHere w' p t v → w.tds.lives t ≡ life.KeysConfigured)
       → (os : (t : ℕ) → IsBuilt w t → w'.tds.ops t ≡ w.tds.ops t) → (ep : (t : ℕ) → IsBuilt w t → w'.tds.epochs t ≡ w.tds.epochs t)
       → (en : (t l n : ℕ) → IsBuilt w t → is_free (w.tds.entries t l n).state ≡ false → w'.tds.entries t l n ≡ w.tds.entries t l n) → LawfulTranslations w' p cs g
-  td-act w' pg vp lv lb os ep en = op-act w' pg vp lv lb (λ t bu x. ap may_be_exempt (os t bu) ∙ x) ep en
+  td-act w' pg vp lv lb os ep en = op-act w' pg vp lv lb (λ t i bu s x. ap may_be_exempt (os t bu) ∙ x) ep en
 
   -- a host page becomes one of another kind, no TD page nor one of a virtual processor that is here
   host-act : (q : ℕ) (k' : PageKind) (t' level number : ℕ) → w.pages.kinds q ≡ kind.Nda → (w' : World) → w'.pages ≡ (take_node q k' t' level number w).pages
@@ -617,15 +620,26 @@ module _ (m : Machine) (w : World) (la : Lawful m w) (le : LawfulEpochs w) (p : 
       (λ t x e o low h. h) (λ writes e less low. absurd (let no : true ≡ false = sym less ∙ unblocked_allows writes s q.state in cc)) (λ e off low. inr r.leaf)
       ((row_of o me (call.ExportUnblockw u gpa)).act w) refl refl refl refl refl refl
   row-access o me (call.ExportPause u) em ps n k =
-      op-act ((row_of o me (call.ExportPause u)).act w) refl refl (λ t v h. refl) (λ t v h. h.life) (λ t bu x. by_test (t == u) (λ y. rw y refl) (λ y. rw y x)) (λ t bu. refl) (λ t l i bu f. refl)
+      op-act ((row_of o me (call.ExportPause u)).act w) refl refl (λ t v h. refl) (λ t v h. h.life) (λ t i bu s x. by_test (t == u) (λ y. rw y refl) (λ y. rw y x)) (λ t bu. refl) (λ t l i bu f. refl)
   row-access o me (call.ExportAbort u) em ps n k =
-      op-act ((row_of o me (call.ExportAbort u)).act w) refl refl (λ t v h. refl) (λ t v h. h.life) (λ t bu x. by_test (t == u) (λ y. rw y refl) (λ y. rw y x)) (λ t bu. refl) (λ t l i bu f. refl)
+      op-act ((row_of o me (call.ExportAbort u)).act w) refl refl (λ t v h. refl) (λ t v h. h.life) (λ t i bu s x. by_test (t == u) (λ y. rw y refl) (λ y. rw y x)) (λ t bu. refl) (λ t l i bu f. refl)
   row-access o me (call.ExportRestore u gpa) em ps n k =
       let q = opened_passed w u gpa restoring_ops restored_states ps.1.1.1 in
       let r = restored (entry_at w u 0 gpa).state q.state in
       restated-act u 0 (number_at 0 gpa) entry.Mapped 0 w.pages.blocked refl r.same_pending
       (λ t x e o low h. h) (λ writes e less low. absurd (let no : true ≡ false = sym less ∙ mapped_allows writes in cc)) (λ e off low. inr r.leaf)
       ((row_of o me (call.ExportRestore u gpa)).act w) refl refl refl refl refl refl
+  row-access o me (call.ExportStateImmutable u slot) em ps n k =
+      let alive : IsAlive w.pages w.tds u = record { kind = tdr_kind _ ps.1.0; life = living (w.tds.lives u) ps.1.1.0 } in
+      let none : entries_where is_exported m.pages w.pages w.tds u ≡ 0 = la.counts.unrestored u alive ∙ eqb-true _ 0 ps.1.1.1.1.1.1.0 in
+      op-act ((row_of o me (call.ExportStateImmutable u slot)).act w) refl refl (λ t v h. refl) (λ t v h. h.life)
+      (λ t i bu s x. by_test (t == u)
+      (λ y. absurd (unexempt _ (ap (λ (z : ℕ). is_exported (w.tds.entries z 0 i).state) (eqb-true t u y) ∙ holds_of_none m w la u alive is_exported (λ z h. h) none i) s))
+      (λ y. rw y x))
+      (λ t bu. refl) (λ t l i bu f. refl)
+  row-access o me (call.ExportTrack u slot zero) em ps n k = quiet-act _ refl refl refl refl refl refl refl refl
+  row-access o me (call.ExportTrack u slot (suc j)) em ps n k =
+      op-act ((row_of o me (call.ExportTrack u slot (suc j))).act w) refl refl (λ t v h. refl) (λ t v h. h.life) (λ t i bu s x. by_test (t == u) (λ y. rw y refl) (λ y. rw y x)) (λ t bu. refl) (λ t l i bu f. refl)
   row-access o me (call.HostRead page i) em ps n k = a
   row-access o me _ em ps n k = quiet-act _ refl refl refl refl refl refl refl refl
 

@@ -1,6 +1,6 @@
 -- Each row that makes a bundle asks and answers the same in two worlds that differ in private words alone, and keeps them
 -- so: the bundle has the same header in both, and another payload only where that is private.
-use Rattle.std.proofs.Common.{◌≡◌, refl, sym, ◌∙◌, subst, ap, ℕ, zero, suc, ◌+◌, List, [], ◌∷◌, ◌++◌, length, map, get_or, if◌then◌else◌}
+use Rattle.std.proofs.Common.{◌≡◌, refl, sym, ◌∙◌, subst, ap, ℕ, zero, suc, ◌+◌, ◌%◌, ◌^◌, List, [], ◌∷◌, ◌++◌, length, map, get_or, if◌then◌else◌}
 use Rattle.std.specs.Prelude.{Ok}
 use Rattle.std.specs.List.{range_with_len, sum_by}
 use Rattle.std.proofs.lemmas.List.{map-append}
@@ -192,7 +192,7 @@ export_td-blind m t slot = record {
 
 -- what tells of a virtual processor
 abbrev vp_about : (vp epoch : ℕ) → Vps → About
-vp_about vp e x = record (about 2 e) { index = x.indexes vp; info = x.positions vp }
+vp_about vp e x = record (about 2 e) { index = x.indexes vp; info = x.positions vp % 2 ^ 32 }
 
 pub export_vp-blind : (m : Machine) (t vp slot : ℕ) → AreBlind m (export_vp m t vp slot) (export_vp m t vp slot)
 export_vp-blind m t vp slot = record {
@@ -201,7 +201,7 @@ export_vp-blind m t vp slot = record {
   value = λ v w a. refl;
   cached = λ v w ts a. refl;
   act = λ v w lv lw a ps.
-      let f : Tds → Tds = λ x. record x { vps_exported = put x.vps_exported t (x.vps_exported t + 1) } in
+      let f : Tds → Tds = λ x. record x { vps_exported = put x.vps_exported t ((x.vps_exported t + 1) % 2 ^ 64) } in
       let v1 : World = record v { tds = f v.tds } in
       let w1 : World = record w { tds = f w.tds } in
       let a1 : Alike v1 w1 = tds_alike v w a f (λ x. refl) in

@@ -160,6 +160,11 @@ row_ordered o me (call.ExportUnblockw t gpa) w = (refl, (refl, (refl, (tt, (tt, 
 row_ordered o me (call.ExportPause t) w = (refl, (tt, (tt, (tt, (tt, tt)))))
 row_ordered o me (call.ExportAbort t) w = (refl, (tt, (tt, (tt, (tt, tt)))))
 row_ordered o me (call.ExportRestore t gpa) w = (refl, (refl, (refl, (tt, (tt, (tt, (tt, (tt, (tt, (tt, (tt, tt)))))))))))
+row_ordered o me (call.ExportStateImmutable t slot) w = (refl, (tt, (tt, (tt, (tt, (tt, (tt, (tt, tt))))))))
+row_ordered o me (call.ExportTrack t slot zero) w = (refl, (refl, (tt, (tt, (tt, (tt, (tt, (tt, tt))))))))
+row_ordered o me (call.ExportTrack t slot (suc n)) w = (refl, (refl, (tt, (tt, (tt, (tt, (tt, (tt, (tt, tt)))))))))
+row_ordered o me (call.ExportStateTd t slot) w = (refl, (tt, (tt, (tt, (tt, (tt, (tt, tt)))))))
+row_ordered o me (call.ExportStateVp t vp slot) w = (refl, (refl, (refl, (tt, (tt, (tt, (tt, (tt, (tt, (tt, tt))))))))))
 
 -- arguments are the same in every world
 reclaim_holds : (v w : World) (t page : ℕ) (b : Bool) → ArgumentsHold (reclaim_conditions v t page b) → ArgumentsHold (reclaim_conditions w t page b)
@@ -177,6 +182,8 @@ row_holds o me (call.MemSeptRd t gpa level) v w h = (h.0, (h.1.0, (h.1.1.0, (h.1
 row_holds o me (call.MemSeptRemove t gpa level) v w h = (h.0, (h.1.0, (h.1.1.0, (h.1.1.1.0, (tt, (tt, (tt, (tt, walk_holds (is_passed w t gpa) (levels_above level) (state_in w t gpa level (entry.NlBlocked ∷ []) ∷ named_page w t gpa level Exclusive ∷ empty_below w t gpa level ∷ tracked_page w t (entry_at w t level gpa).page ∷ []) (tt, (tt, (tt, tt)))))))))))
 row_holds o me (call.MemRangeBlock t gpa level) v w h = (h.0, (h.1.0, (h.1.1.0, (h.1.1.1.0, (tt, (tt, (tt, (tt, walk_holds (is_passed w t gpa) (levels_above level) (state_in w t gpa level open_states ∷ named_page w t gpa level Exclusive ∷ []) (tt, tt)))))))))
 row_holds o me (call.MemRangeUnblock t gpa level) v w h = (h.0, (h.1.0, (h.1.1.0, (h.1.1.1.0, (tt, (tt, (tt, (tt, walk_holds (is_passed w t gpa) (levels_above level) (state_in w t gpa level blocked_states ∷ named_page w t gpa level Exclusive ∷ tracked_page w t (entry_at w t level gpa).page ∷ []) (tt, (tt, tt))))))))))
+row_holds o me (call.ExportTrack t slot zero) v w h = h
+row_holds o me (call.ExportTrack t slot (suc n)) v w h = h
 row_holds o me (call.HostRead page word) v w h = h
 row_holds o me _ v w h = h
 

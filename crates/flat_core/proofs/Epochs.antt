@@ -1,5 +1,5 @@
 -- What the act of each row, and a count step, keep of epochs and associations.
-use Rattle.std.proofs.Common.{◌≡◌, ◌⊎◌, inl, inr, refl, sym, ◌∙◌, subst, ap, ℕ, suc, ◌-◌, ◌≤◌, [], ◌∷◌, Option, Some, None, true, false, ◌==◌, arith}
+use Rattle.std.proofs.Common.{◌≡◌, ◌⊎◌, inl, inr, refl, sym, ◌∙◌, subst, ap, ℕ, zero, suc, ◌-◌, ◌≤◌, [], ◌∷◌, Option, Some, None, true, false, ◌==◌, arith}
 use Rattle.std.specs.List.{list_any}
 use Rattle.std.proofs.lemmas.Bool.{eqb-true, eqb-false, and_parts}
 use Rattle.td_words.specs.declared.names.PageKind.{PageKind}
@@ -286,6 +286,15 @@ module _ (o : Opening) (w : World) (la : Lawful o.machine w) (le : LawfulEpochs 
       le-frame w _ le
       (λ t v k pa. old k (record { kind = pa.kind; owner = pa.owner }) refl refl refl (inl refl) (λ p n l b. (l, by_test (t == u) (λ y. rw y refl) (λ y. rw y b))))
       (λ t k e. by_test (t == u) (λ y. let no : op.Runnable ≡ op.Uninitialized = rw y at e in cc) (λ y. le.early t k (rw y at e)))
+  row-epochs me (call.ExportStateImmutable u slot) ps =
+      le-frame w _ le
+      (λ t v k pa. old k (record { kind = pa.kind; owner = pa.owner }) refl refl refl (inl refl) (λ p n l b. (l, by_test (t == u) (λ y. rw y refl) (λ y. rw y b))))
+      (λ t k e. by_test (t == u) (λ y. let no : op.LiveExport ≡ op.Uninitialized = rw y at e in cc) (λ y. le.early t k (rw y at e)))
+  row-epochs me (call.ExportTrack u slot zero) ps = quiet-epochs _ refl refl refl refl refl refl refl
+  row-epochs me (call.ExportTrack u slot (suc i)) ps =
+      le-frame w _ le
+      (λ t v k pa. old k (record { kind = pa.kind; owner = pa.owner }) refl refl refl (inl refl) (λ p n l b. (l, by_test (t == u) (λ y. rw y refl) (λ y. rw y b))))
+      (λ t k e. by_test (t == u) (λ y. let no : op.PostExport ≡ op.Uninitialized = rw y at e in cc) (λ y. le.early t k (rw y at e)))
   row-epochs me (call.HostRead page i) ps = le
   row-epochs me _ ps = quiet-epochs _ refl refl refl refl refl refl refl
 

@@ -44,6 +44,7 @@ use Rattle.flat_core.proofs.EntryStates.{entry_kept, restated, remarked, state_k
 use Rattle.flat_core.proofs.Ranges.{begun_of, live_exporting, named_passed, named_alive, opened_passed, write_passed, entry_alive, block_restates, unblock_restates, write_remarks, write_dirt, unwrite_remarks, unwrite_dirt, restored, page_removed, sept_removed}
 use Rattle.flat_core.proofs.Removals.{empty_at, unmapped_kept}
 use Rattle.flat_core.proofs.Streams.{stream_kept}
+use Rattle.flat_core.proofs.BundleKeeps.{export_immutable-keeps, export_token-keeps, export_td-keeps, export_vp-keeps}
 use Rattle.flat_core.proofs.Parts.{IsLive, LawfulBut, untouched, sessions_of, session_at, sessions_kept, new_kept, write_back_kept, life_kept, flush_kept, op_kept, epoch_kept, begin_kept, measure_kept, end_kept, control_kept, vp_kept, taken_kept, ended_kept, left_kept}
 
 pub host_read-keeps : (m : Machine) (page i : ℕ) → RowKeeps m (host_read m page i)
@@ -619,6 +620,10 @@ row-keeps o me (call.ExportUnblockw t gpa) = unblock_write-keeps o.machine t gpa
 row-keeps o me (call.ExportPause t) = pause-keeps o.machine t
 row-keeps o me (call.ExportAbort t) = abort_export-keeps o.machine t
 row-keeps o me (call.ExportRestore t gpa) = restore-keeps o.machine t gpa
+row-keeps o me (call.ExportStateImmutable t slot) = export_immutable-keeps o.machine t slot
+row-keeps o me (call.ExportTrack t slot start) = export_token-keeps o.machine t slot start
+row-keeps o me (call.ExportStateTd t slot) = export_td-keeps o.machine t slot
+row-keeps o me (call.ExportStateVp t vp slot) = export_vp-keeps o.machine t vp slot
 
 pub first-lawful : (m : Machine) (words_to_tell : Option (List ℕ)) → Lawful m (first_world m.pages words_to_tell)
 first-lawful m ws = record {

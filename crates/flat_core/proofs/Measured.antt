@@ -1,5 +1,5 @@
 -- MRTD and what is measured, over runs and events.
-use Rattle.std.proofs.Common.{◌≡◌, refl, sym, subst, ℕ, ◌+◌, List, [], ◌∷◌, length, Option, Some, None, true, false, ◌==◌}
+use Rattle.std.proofs.Common.{◌≡◌, refl, sym, subst, ℕ, zero, suc, ◌+◌, List, [], ◌∷◌, length, Option, Some, None, true, false, ◌==◌}
 use Rattle.std.specs.List.{list_any}
 use Rattle.std.proofs.lemmas.Bool.{eqb-true}
 use Rattle.sha2.specs.Sha512.{sha384}
@@ -23,6 +23,7 @@ use Rattle.flat_core.specs.Row.{OperationRow, Move, Attempts, Undoes, Refuses, S
 use Rattle.flat_core.specs.Conditions.{built_here_ops}
 use Rattle.flat_core.specs.TdRows.{read_td, finalize}
 use Rattle.flat_core.specs.ExportRows.{live_ops, abortable_ops}
+use Rattle.flat_core.specs.BundleRows.{session_ops, paused_ops}
 use Rattle.flat_core.specs.Effects.{measure, set_op, tell_words}
 use Rattle.flat_core.specs.Guest.{ByRow, operation_of, is_pending_at, reach}
 use Rattle.flat_core.specs.Table.{row_of}
@@ -50,6 +51,14 @@ abortable : (s : OpState) → IsOneOf live_ops s → IsOneOf abortable_ops s
 abortable op.LiveExport h = refl
 abortable _ h = cc
 
+built_running : (s : OpState) → IsOneOf session_ops s → IsOneOf built_here_ops s
+built_running op.Runnable h = refl
+built_running _ h = cc
+
+built_paused : (s : OpState) → IsOneOf paused_ops s → IsOneOf built_here_ops s
+built_paused op.PausedExport h = refl
+built_paused _ h = cc
+
 -- a TD that is still built measures
 measure_digested : (m : Machine) (w : World) (t : ℕ) (records : List ℕ) → IsOneOf (op.Initialized ∷ []) (w.tds.ops t) → AreMrtdsDigests m w → AreMrtdsDigests m (measure t records w)
 measure_digested m w t records begun h x r = by_test (x == t)
@@ -76,6 +85,9 @@ row_digested o me (call.MemPageAdd t gpa page source) w h ps x r = measure_diges
 row_digested o me (call.MrExtend t gpa) w h ps x r = measure_digested o.machine w t _ ps.1.1.1.1.1.1.0 h x r
 row_digested o me (call.ExportPause t) w h ps x r = changed_digested o.machine w t op.PausedExport (built_here (w.tds.ops t) (abortable (w.tds.ops t) ps.1.1.1.1.0)) h x r
 row_digested o me (call.ExportAbort t) w h ps x r = changed_digested o.machine w t op.Runnable (built_here (w.tds.ops t) ps.1.1.1.1.0) h x r
+row_digested o me (call.ExportStateImmutable t slot) w h ps x r = changed_digested o.machine w t op.LiveExport (built_running (w.tds.ops t) ps.1.1.1.1.0) h x r
+row_digested o me (call.ExportTrack t slot zero) w h ps x r = h x r
+row_digested o me (call.ExportTrack t slot (suc n)) w h ps x r = changed_digested o.machine w t op.PostExport (built_paused (w.tds.ops t) ps.1.1.1.1.1.0) h x r
 row_digested o me _ w h ps x r = h x r
 
 reach_digested : (m : Machine) (t v : ℕ) (access : Access) (r gpa page : ℕ) (w : World) → AreMrtdsDigests m w → AreMrtdsDigests m (reach t v access r gpa page w)

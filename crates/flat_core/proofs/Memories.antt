@@ -1,5 +1,5 @@
 -- What guests know of their private pages is what the pages hold.
-use Rattle.std.proofs.Common.{lit≤, ◌≡◌, ◌≢◌, refl, sym, ◌∙◌, ap, subst, ℕ, suc, ◌+◌, ◌/◌, ◌≤◌, List, [], ◌∷◌, ◌++◌, length, Option, Some, None, option_map, Bool, true, false, not, ◌==◌, ◌&&◌, if◌then◌else◌, arith}
+use Rattle.std.proofs.Common.{lit≤, ◌≡◌, ◌≢◌, refl, sym, ◌∙◌, ap, subst, ℕ, zero, suc, ◌+◌, ◌/◌, ◌≤◌, List, [], ◌∷◌, ◌++◌, length, Option, Some, None, option_map, Bool, true, false, not, ◌==◌, ◌&&◌, if◌then◌else◌, arith}
 use Rattle.std.proofs.lemmas.Bool.{eq-eqb, eqb-true, ne_eqb, and_parts}
 use Rattle.td_words.specs.declared.names.PageKind.{PageKind}
 use Rattle.td_words.specs.declared.names.PageKind.TheVariants as kind
@@ -263,6 +263,8 @@ row_known o me (call.ExportUnblockw t gpa) w l h ps x n a =
 row_known o me (call.ExportRestore t gpa) w l h ps x n a =
     let p = opened_passed w t gpa restoring_ops restored_states ps.1.1.1 in
     restated_known o.machine w l h t 0 (number_at 0 gpa) entry.Mapped 0 (restored (entry_at w t 0 gpa).state p.state).same_memory x n (record { kind = a.kind; life = a.life })
+row_known o me (call.ExportTrack t slot zero) w l h ps x n a = h x n (record { kind = a.kind; life = a.life })
+row_known o me (call.ExportTrack t slot (suc i)) w l h ps x n a = h x n (record { kind = a.kind; life = a.life })
 row_known o me _ w l h ps x n a = h x n (record { kind = a.kind; life = a.life })
 
 -- what a store puts into one page changes, of what guests know, that page's word alone

@@ -51,4 +51,6 @@ mrtd_is_the_digest m w t =
 
 pub records_are_measured : RecordsAreMeasured
 records_are_measured o me (call.HostRead page i) w t = refl
+records_are_measured o me (call.ExportTrack u slot zero) w t = refl
+records_are_measured o me (call.ExportTrack u slot (suc n)) w t = refl
 records_are_measured o me _ w t = refl

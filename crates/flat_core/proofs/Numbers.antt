@@ -53,6 +53,10 @@ among_flipped q (x ∷ xs) h = by_test (x == q)
 few_numbers : (xs : List ℕ) (n : ℕ) → all_differ xs ≡ true → ((q : ℕ) → list_any (λ i. i == q) xs ≡ true → q < n) → length xs ≤ n
 few_numbers xs n d small = length-le_from_distinct_below xs n (distinct xs d) (λ q h. small q (among_flipped q xs h))
 
+none_among : (xs : List ℕ) (n : ℕ) → length xs ≡ 0 → list_any (λ i. i == n) xs ≡ false
+none_among [] n e = refl
+none_among (x ∷ xs) n e = absurd (omega (arith, e))
+
 module _ (m : Machine) (w : World) (lawful : Lawful m w) (t : ℕ) (alive : IsAlive w.pages w.tds t) where
   pub upper_unmarked : (l n : ℕ) → is_exported (w.tds.entries t (suc l) n).state ≡ false
   upper_unmarked l n = by_test (is_free (w.tds.entries t (suc l) n).state)
@@ -152,6 +156,10 @@ module _ (m : Machine) (w : World) (lawful : Lawful m w) (t : ℕ) (alive : IsAl
 
     pub so_many : (k : ℕ) → entries_where f m.pages w.pages w.tds t ≡ k → AreSoMany f (w.tds.entries t 0) k
     so_many k e = record { numbers = numbers_below m.pages; each = each; once = differ m.pages; many = many m.pages ∙ e }
+
+    -- where none counts, f holds of none
+    pub holds_of_none : entries_where f m.pages w.pages w.tds t ≡ 0 → (n : ℕ) → f (w.tds.entries t 0 n).state ≡ false
+    holds_of_none e n = sym (each n) ∙ none_among (numbers_below m.pages) n (many m.pages ∙ e)
 
     -- a TD has no more entries of level 0 than pages of 4 KiB have GPAs
     pub few_where : entries_where f m.pages w.pages w.tds t ≤ 2 ^ 35

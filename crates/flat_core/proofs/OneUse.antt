@@ -1,5 +1,5 @@
 -- Pages have one use: what a call takes was the host's, and nothing but a call's act changes what a page is used for.
-use Rattle.std.proofs.Common.{lit≤, ◌≡◌, refl, sym, ◌∙◌, ap, subst, ℕ, ◌+◌, List, [], ◌∷◌, length, Option, Some, None, true, false, ◌==◌}
+use Rattle.std.proofs.Common.{lit≤, ◌≡◌, refl, sym, ◌∙◌, ap, subst, ℕ, zero, suc, ◌+◌, List, [], ◌∷◌, length, Option, Some, None, true, false, ◌==◌}
 use Rattle.std.proofs.lemmas.Bool.{eqb-true}
 use Rattle.td_words.specs.declared.names.PageKind.{PageKind}
 use Rattle.td_words.specs.declared.names.EntryState.TheVariants as entry
@@ -60,6 +60,8 @@ one_use o me (call.MemSeptRemove t gpa level) w p ps owned stays = other_taken w
 one_use o me (call.MemRangeBlock t gpa level) w p ps owned stays = record { kind = refl; owner = refl; level = refl; number = refl }
 one_use o me (call.MigStreamCreate t page) w p ps owned stays = host_taken w page _ t 0 0 p ps.1.1.1.1.1.1.1.1.0 owned
 one_use o me (call.ExportBlockw t gpa) w p ps owned stays = record { kind = refl; owner = refl; level = refl; number = refl }
+one_use o me (call.ExportTrack t slot zero) w p ps owned stays = same_use w.pages p
+one_use o me (call.ExportTrack t slot (suc n)) w p ps owned stays = same_use w.pages p
 one_use o me _ w p ps owned stays = same_use w.pages p
 
 -- through events

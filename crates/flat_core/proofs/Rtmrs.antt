@@ -1,5 +1,5 @@
 -- What RTMRs are after each event.
-use Rattle.std.proofs.Common.{lit<, ◌≡◌, refl, sym, ◌∙◌, ap, subst, ℕ, ◌+◌, ◌*◌, ◌/◌, ◌%◌, ◌<◌, List, [], ◌∷◌, ◌++◌, length, Option, Some, None, Bool, true, false, ◌==◌, ◌&&◌, if◌then◌else◌, arith}
+use Rattle.std.proofs.Common.{lit<, ◌≡◌, refl, sym, ◌∙◌, ap, subst, ℕ, zero, suc, ◌+◌, ◌*◌, ◌/◌, ◌%◌, ◌<◌, List, [], ◌∷◌, ◌++◌, length, Option, Some, None, Bool, true, false, ◌==◌, ◌&&◌, if◌then◌else◌, arith}
 use Rattle.std.proofs.lemmas.Bool.{eqb-true}
 use Rattle.sha2.specs.Sha512.{sha384}
 use Rattle.td_words.specs.declared.names.Access.{Access}
@@ -73,6 +73,8 @@ module _ (o : Opening) (w : World) (t i : ℕ) where
   call_extends me (call.MngCreate tdr hkid) = by_test (t == tdr)
       (λ y. rw y refl)
       (λ y. rw y refl)
+  call_extends me (call.ExportTrack tdr slot zero) = refl
+  call_extends me (call.ExportTrack tdr slot (suc n)) = refl
   call_extends me (call.HostRead page word) = refl
   call_extends me _ = refl
 

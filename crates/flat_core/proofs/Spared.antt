@@ -1,5 +1,5 @@
 -- The act of each call leaves a virtual processor in guest on another logical processor as it is.
-use Rattle.std.proofs.Common.{lit≤, ◌≡◌, ◌≢◌, refl, sym, ◌∙◌, subst, ap, ℕ, ◌≤◌, List, [], ◌∷◌, Option, Some, Bool, true, false, not, ◌==◌, arith}
+use Rattle.std.proofs.Common.{lit≤, ◌≡◌, ◌≢◌, refl, sym, ◌∙◌, subst, ap, ℕ, zero, suc, ◌≤◌, List, [], ◌∷◌, Option, Some, Bool, true, false, not, ◌==◌, arith}
 use Rattle.std.specs.List.{list_any}
 use Rattle.std.proofs.lemmas.Bool.{eqb-true, eqb-false, ne_eqb, and_parts}
 use Rattle.td_words.specs.declared.names.PageKind.TheVariants as kind
@@ -15,10 +15,11 @@ use Rattle.td_words.specs.declared.names.OpState.{OpState}
 use Rattle.td_words.specs.declared.names.OpState.TheVariants as op
 use Rattle.flat_core.specs.World.{World, Vps}
 use Rattle.flat_core.specs.Row.{Passes}
-use Rattle.flat_core.specs.Conditions.{is_host, host_page, page_exclusive, associated_in, is_elsewhere, same_vp_state, running_ops}
+use Rattle.flat_core.specs.Conditions.{is_host, host_page, page_exclusive, associated_in, is_elsewhere, same_kind, same_vp_state, running_ops}
 use Rattle.flat_core.specs.Tracking.{tracked_page}
 use Rattle.flat_core.specs.KeyRows.{reclaim_conditions}
 use Rattle.flat_core.specs.MemRows.{removed_states}
+use Rattle.flat_core.specs.BundleRows.{paused_ops}
 use Rattle.flat_core.specs.Tree.{number_at, entry_at, state_in, empty_below}
 use Rattle.flat_core.specs.Lawful.{Lawful, IsAlive}
 use Rattle.flat_core.specs.Guests.{IsOccupied, SameVp, Spares, RowsSpare}
@@ -54,6 +55,13 @@ initialized_runs op.Runnable a b = cc
 initialized_runs op.LiveExport a b = cc
 initialized_runs op.LiveImport a b = cc
 initialized_runs _ a b = cc
+
+paused_runs : (s : OpState) → list_any (λ a. op_number a == op_number s) paused_ops ≡ true → list_any (λ a. op_number a == op_number s) running_ops ≡ true → ⊥
+paused_runs op.PausedExport a b = cc
+paused_runs op.Runnable a b = cc
+paused_runs op.LiveExport a b = cc
+paused_runs op.LiveImport a b = cc
+paused_runs _ a b = cc
 
 module _ (m : Machine) (w : World) (l : Lawful m w) (p t v : ℕ) (x : IsOccupied w p t v) where
   abbrev IsSpared : World → Type 0
@@ -243,5 +251,17 @@ row_spares o me (call.ExportPause u) t n w p v l ps x apart =
     beside o.machine w l p t v x _ refl refl (rw off refl) refl refl (no_change o.machine w l p t v x _ refl refl)
 row_spares o me (call.ExportAbort u) t n w p v l ps x apart =
     running_on o.machine w l p t v x _ refl refl (by_test (t == u) (λ y. rw y refl) (λ y. rw y (x.running))) refl refl (no_change o.machine w l p t v x _ refl refl)
+row_spares o me (call.ExportStateImmutable u slot) t n w p v l ps x apart =
+    running_on o.machine w l p t v x _ refl refl (by_test (t == u) (λ y. rw y refl) (λ y. rw y (x.running))) refl refl (no_change o.machine w l p t v x _ refl refl)
+row_spares o me (call.ExportTrack u slot zero) t n w p v l ps x apart = beside o.machine w l p t v x _ refl refl refl refl refl (no_change o.machine w l p t v x _ refl refl)
+row_spares o me (call.ExportTrack u slot (suc i)) t n w p v l ps x apart =
+    let off = op_off o.machine w l p t v x u paused_ops (λ s a b. paused_runs s a b) ps.1.1.1.1.1.0 in
+    beside o.machine w l p t v x _ refl refl (rw off refl) refl refl (no_change o.machine w l p t v x _ refl refl)
+row_spares o me (call.ExportStateVp u q slot) t n w p v l ps x apart =
+    let m = o.machine in
+    let off = op_off m w l p t v x u paused_ops (λ s a b. paused_runs s a b) ps.1.1.1.1.1.1.0 in
+    let owned : w.pages.owners q ≡ u = eqb-true _ u (and_parts (same_kind (w.pages.kinds q) kind.Tdvpr) (w.pages.owners q == u) ps.1.1.1.1.1.1.1.0).1 in
+    let a = (owned_off m w l p t v x u q off owned).0 in
+    beside m w l p t v x _ refl refl refl refl refl (record { index = refl; state = refl; associated = refl; last = refl; position = refl; exported = rw a refl; entered = refl; registers = λ r. refl })
 row_spares o me (call.HostRead page i) t n w p v l ps x apart = beside o.machine w l p t v x _ refl refl refl refl refl (no_change o.machine w l p t v x _ refl refl)
 row_spares o me _ t n w p v l ps x apart = beside o.machine w l p t v x _ refl refl refl refl refl (record { index = refl; state = refl; associated = refl; last = refl; position = refl; exported = refl; entered = refl; registers = λ r. refl })

@@ -1,5 +1,5 @@
 -- Each event puts the words that it tells at the end of the world's list.
-use Rattle.std.proofs.Common.{◌≡◌, refl, sym, ◌∙◌, ℕ, [], ◌++◌, Option, Some, None, false}
+use Rattle.std.proofs.Common.{◌≡◌, refl, sym, ◌∙◌, ℕ, zero, suc, [], ◌++◌, Option, Some, None, false}
 use Rattle.std.proofs.lemmas.List.{append-nil}
 use Rattle.td_words.specs.declared.names.Access.{Access}
 use Rattle.td_words.specs.declared.names.Access.TheVariants.{Read, Write}
@@ -23,6 +23,8 @@ abbrev pub TellsNothing : (before after : World) → Type 0
 TellsNothing v w = (w.outgoing.told ≡ v.outgoing.told) × (w.outgoing.to_tell ≡ v.outgoing.to_tell)
 
 pub row_tells_nothing : (o : Opening) (me : ℕ) (c : Call) (w : World) → TellsNothing w ((row_of o me c).act w)
+row_tells_nothing o me (call.ExportTrack t slot zero) w = (refl, refl)
+row_tells_nothing o me (call.ExportTrack t slot (suc n)) w = (refl, refl)
 row_tells_nothing o me (call.HostRead page i) w = (refl, refl)
 row_tells_nothing o me _ w = (refl, refl)
 

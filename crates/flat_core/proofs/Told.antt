@@ -1,5 +1,5 @@
 -- The words that guests told are recorded once in the world and once by processor, and both agree.
-use Rattle.std.proofs.Common.{◌≡◌, refl, sym, ◌∙◌, subst, ap, ℕ, ◌+◌, length, List, [], ◌∷◌, ◌++◌, Option, Some, None, Bool, false, ◌==◌}
+use Rattle.std.proofs.Common.{◌≡◌, refl, sym, ◌∙◌, subst, ap, ℕ, zero, suc, ◌+◌, length, List, [], ◌∷◌, ◌++◌, Option, Some, None, Bool, false, ◌==◌}
 use Rattle.std.proofs.lemmas.List.{append-nil}
 use Rattle.td_words.specs.declared.names.Access.{Access}
 use Rattle.td_words.specs.declared.names.Access.TheVariants.{Read, Write}
@@ -32,6 +32,8 @@ operations_tell_both w granted row Rests lp stays = (sym (append-nil w.outgoing.
 -- no call tells a word
 row_tells : (o : Opening) (me : ℕ) (c : Call) (w : World) → ((row_of o me c).act w).outgoing.told ≡ w.outgoing.told
 row_tells o me (call.HostRead page i) w = refl
+row_tells o me (call.ExportTrack t slot zero) w = refl
+row_tells o me (call.ExportTrack t slot (suc n)) w = refl
 row_tells o me _ w = refl
 
 call_tells : (o : Opening) (me : ℕ) (c : Call) (move : Move Reply) (w : World) → (world_after (OfCall (row_of o me c) move) w).outgoing.told ≡ w.outgoing.told

@@ -104,6 +104,10 @@ tries_in_order (call.ExportUnblockw t gpa) w = tree_first t (None ∷ []) (tt, t
 tries_in_order (call.ExportPause t) w = tree_first t [] tt
 tries_in_order (call.ExportAbort t) w = tree_first t [] tt
 tries_in_order (call.ExportRestore t gpa) w = tree_first t (None ∷ []) (tt, tt)
+tries_in_order (call.ExportStateImmutable t slot) w = (tt, (tt, (tt, tt)))
+tries_in_order (call.ExportTrack t slot start) w = tree_first t [] tt
+tries_in_order (call.ExportStateTd t slot) w = (tt, (tt, tt))
+tries_in_order (call.ExportStateVp t vp slot) w = (tt, (tt, (tt, tt)))
 
 -- and in every world they are the same
 kinds_same : (c : Call) (v w : World) → kinds (tries_of c v) ≡ kinds (tries_of c w)

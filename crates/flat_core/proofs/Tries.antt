@@ -1,5 +1,5 @@
 -- Each row tries what its call's line says; so no more than it may, and as many in every world.
-use Rattle.std.proofs.Common.{◌≡◌, refl, sym, ◌∙◌, ap, ℕ, ◌≤◌, List, [], ◌∷◌, ◌++◌, length, map, Bool, true, false, ◌==◌, if◌then◌else◌, arith}
+use Rattle.std.proofs.Common.{◌≡◌, refl, sym, ◌∙◌, ap, ℕ, zero, suc, ◌≤◌, List, [], ◌∷◌, ◌++◌, length, map, Bool, true, false, ◌==◌, if◌then◌else◌, arith}
 use Rattle.td_words.specs.declared.names.ReadField.TheVariants as field
 use Rattle.td_words.specs.declared.names.EntryState.{EntryState}
 use Rattle.td_words.specs.declared.names.EntryState.TheVariants as entry
@@ -61,6 +61,8 @@ rows_try_lists o me (call.MemSeptRemove t gpa level) w =
 rows_try_lists o me (call.MemRangeBlock t gpa level) w = named_lists w t gpa level open_states []
 rows_try_lists o me (call.MemRangeUnblock t gpa level) w =
     named_lists w t gpa level blocked_states (tracked_page w t (entry_at w t level gpa).page ∷ [])
+rows_try_lists o me (call.ExportTrack t slot zero) w = refl
+rows_try_lists o me (call.ExportTrack t slot (suc n)) w = refl
 rows_try_lists o me (call.HostRead page word) w = refl
 rows_try_lists o me _ w = refl
 

@@ -1,6 +1,6 @@
 -- Calls of a migration's source that make a bundle each, in an output slot (TD Migration Architecture, "Migration Bundles";
--- ABI Reference, "TDH.EXPORT" leaf functions). The leaf table doesn't have these rows yet.
-use Rattle.std.specs.Prelude.{ℕ, zero, suc, ◌+◌, ◌-◌, ◌^◌, List, [], ◌∷◌, ◌++◌, length}
+-- ABI Reference, "TDH.EXPORT" leaf functions).
+use Rattle.std.specs.Prelude.{ℕ, zero, suc, ◌+◌, ◌-◌, ◌%◌, ◌^◌, List, [], ◌∷◌, ◌++◌, length}
 use Rattle.td_words.specs.declared.names.PageKind.TheVariants as kind
 use Rattle.td_words.specs.declared.names.OpState.{OpState}
 use Rattle.td_words.specs.declared.names.OpState.TheVariants as op
@@ -95,11 +95,11 @@ export_td m tdr slot = call_row
     (λ w. make_bundle tdr slot (about 1 (w.tds.mig_epochs tdr)) (payload_words (w.hidden.rtmrs tdr) 24) (note_td_export tdr w))
     (λ w. value.Nothing)
 
--- EXPORT.STATE.VP TDR VP SLOT: the bundle has the registers of a virtual processor, its index and its position (ABI Reference,
--- "TDH.EXPORT.STATE.VP")
+-- EXPORT.STATE.VP TDR VP SLOT: the bundle has the registers of a virtual processor, its index and, in 32 bits, its position
+-- (ABI Reference, "TDH.EXPORT.STATE.VP")
 abbrev pub export_vp : Machine → (tdr vp slot : ℕ) → Row
 export_vp m tdr vp slot = call_row
     (λ w. page_argument m 1 tdr ∷ page_argument m 2 vp ∷ apart_argument 2 vp tdr
     ∷ (td_exclusive w tdr paused_ops ++ page_exclusive vp ∷ td_page w tdr vp kind.Tdvpr ∷ vp_state_left w tdr vp ∷ counter_room w tdr 0 ∷ []))
-    (λ w. make_bundle tdr slot (record (about 2 (w.tds.mig_epochs tdr)) { index = w.vps.indexes vp; info = w.vps.positions vp }) (payload_words (w.hidden.registers vp) 8) (note_vp_export tdr vp w))
+    (λ w. make_bundle tdr slot (record (about 2 (w.tds.mig_epochs tdr)) { index = w.vps.indexes vp; info = w.vps.positions vp % 2 ^ 32 }) (payload_words (w.hidden.registers vp) 8) (note_vp_export tdr vp w))
     (λ w. value.Nothing)

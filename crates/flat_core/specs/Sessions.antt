@@ -145,12 +145,12 @@ count_export t k s w = record w {
   };
 }
 
--- the TD state, and a VCPU state, were exported in the session
+-- the TD state, and a VCPU state, were exported in the session; these are counted in a word
 abbrev pub note_td_export : ℕ → World → World
 note_td_export t w = record w { tds = record (w.tds) { td_exported = put w.tds.td_exported t 1 } }
 
 abbrev pub note_vp_export : (t vp : ℕ) → World → World
 note_vp_export t v w = record w {
-  tds = record (w.tds) { vps_exported = put w.tds.vps_exported t (w.tds.vps_exported t + 1) };
+  tds = record (w.tds) { vps_exported = put w.tds.vps_exported t ((w.tds.vps_exported t + 1) % 2 ^ 64) };
   vps = record (w.vps) { exported = put w.vps.exported v (w.tds.sessions t) };
 }

@@ -84,6 +84,10 @@ tries_of (call.ExportUnblockw tdr gpa) w = opened_tries w tdr gpa
 tries_of (call.ExportPause tdr) w = pause_tries tdr
 tries_of (call.ExportAbort tdr) w = td_tries tdr Exclusive ++ alone (OfTree tdr) ∷ []
 tries_of (call.ExportRestore tdr gpa) w = opened_tries w tdr gpa
+tries_of (call.ExportStateImmutable tdr slot) w = td_tries tdr Exclusive ++ alone OfKeys ∷ []
+tries_of (call.ExportTrack tdr slot start) w = td_tries tdr Exclusive ++ alone (OfTree tdr) ∷ []
+tries_of (call.ExportStateTd tdr slot) w = td_tries tdr Exclusive
+tries_of (call.ExportStateVp tdr vp slot) w = td_tries tdr Exclusive ++ alone (OfPage vp) ∷ []
 
 -- each row tries just what its call's line says
 abbrev pub RowsTryTheirLists : Type 0

@@ -1,6 +1,6 @@
 -- Worked examples, which compute: the replies of runs, and how many events they take. Where no machine is named it has 32
 -- pages, one HKID and as many processors as there are lists of calls.
-use Rattle.std.specs.Prelude.{◌≡◌, ℕ, zero, suc, ◌+◌, List, [], ◌∷◌, ◌++◌, length, replicate, drop, codes, Option, Some, None}
+use Rattle.std.specs.Prelude.{◌≡◌, ℕ, zero, suc, ◌+◌, List, [], ◌∷◌, ◌++◌, length, map, replicate, drop, codes, Option, Some, None}
 use Rattle.td_words.specs.declared.names.LockName.TheVariants as lock
 use Rattle.td_words.specs.declared.names.PageKind.TheVariants as kind
 use Rattle.td_words.specs.declared.names.LifeState.TheVariants as life
@@ -10,14 +10,15 @@ use Rattle.td_words.specs.declared.names.VcpuState.TheVariants as vcpu
 use Rattle.td_words.specs.declared.names.LimitName.TheVariants.{Vcpus, Streams}
 use Rattle.td_words.specs.declared.names.ReadField.TheVariants as field
 use Rattle.td_words.specs.declared.calls.Call.{Call}
-use Rattle.td_words.specs.declared.calls.Call.TheVariants.{HostRead, HostWrite, PhymemPageRdmd, PhymemCacheWb, PhymemPageReclaim, MngCreate, MngKeyConfig, MngAddcx, MngInit, MngRd, MngVpflushdone, MngKeyFreeid, MrExtend, MrFinalize, VpCreate, VpInit, VpFlush, MemSeptAdd, MemSeptRd, MemPageAdd, MemPageAug, MemPageRemove, MemSeptRemove, MemRangeBlock, MemRangeUnblock, MemTrack, MigStreamCreate, ExportBlockw, ExportUnblockw, ExportPause, ExportAbort, ExportRestore}
-use Rattle.td_words.specs.declared.refusals.Status.TheVariants.{OperandInvalid, OperandBusy, NotHost, PageMetadataIncorrect, LifecycleStateIncorrect, OpStateIncorrect, EptWalkFailed, EptEntryStateIncorrect, HkidNotFree, TdcxNumIncorrect, VcpuStateIncorrect, PagesExist, Limit, CacheWbNotDone, TlbTrackingNotDone, SeptNotEmpty, VcpuNotAssociated}
+use Rattle.td_words.specs.declared.calls.Call.TheVariants.{HostRead, HostWrite, PhymemPageRdmd, PhymemCacheWb, PhymemPageReclaim, MngCreate, MngKeyConfig, MngAddcx, MngInit, MngRd, MngVpflushdone, MngKeyFreeid, MrExtend, MrFinalize, VpCreate, VpInit, VpFlush, MemSeptAdd, MemSeptRd, MemPageAdd, MemPageAug, MemPageRemove, MemSeptRemove, MemRangeBlock, MemRangeUnblock, MemTrack, MigStreamCreate, ExportBlockw, ExportUnblockw, ExportPause, ExportAbort, ExportRestore, ExportStateImmutable, ExportTrack, ExportStateTd, ExportStateVp}
+use Rattle.td_words.specs.declared.refusals.Status.TheVariants.{OperandInvalid, OperandBusy, NotHost, PageMetadataIncorrect, LifecycleStateIncorrect, OpStateIncorrect, EptWalkFailed, EptEntryStateIncorrect, HkidNotFree, TdcxNumIncorrect, VcpuStateIncorrect, PagesExist, Limit, CacheWbNotDone, TlbTrackingNotDone, SeptNotEmpty, VcpuNotAssociated, NoStream, StateMissing, AlreadyExported}
 use Rattle.td_words.specs.declared.replies.Value.TheVariants.{Nothing, Number, Life, Op, Page, Entry}
 use Rattle.td_words.specs.declared.replies.Reply.{Reply}
 use Rattle.td_words.specs.declared.replies.Reply.TheVariants.{Done, Refused}
+use Rattle.flat_core.specs.World.{Made}
 use Rattle.flat_core.specs.Opening.{Opening}
 use Rattle.flat_core.specs.Event.{State, Event, start, event, next_event}
-use Rattle.flat_core.specs.Run.{play, run}
+use Rattle.flat_core.specs.Run.{play, run, bundles_in}
 
 -- no guest code, no bundles, no secrets
 abbrev pub plain_opening : (lps pages hkids : ℕ) → List (List Call) → Opening
@@ -115,6 +116,19 @@ running = built ++ MrFinalize 1 ∷ []
 
 abbrev pub after_running : List Call → List Reply
 after_running calls = drop 12 (answers_to (running ++ calls))
+
+-- its state alone is exported over one stream, up to the start token; an epoch token comes while it is exported running
+abbrev pub exporting : List Call
+exporting =
+    running ++ MigStreamCreate 1 9 ∷ ExportStateImmutable 1 0 ∷ ExportTrack 1 1 0 ∷ ExportPause 1 ∷ ExportStateTd 1 2 ∷ ExportStateVp 1 4 3 ∷ ExportTrack 1 4 1 ∷ []
+
+-- of a bundle its slot and kind; its counter, epoch and session; what it tells of the TD, or how many came before it; and how
+-- many words its payload has
+abbrev pub bundle_line : Made → List ℕ
+bundle_line b = b.slot ∷ b.header.kind ∷ b.header.counter ∷ b.header.epoch ∷ b.header.session ∷ b.header.info ∷ b.header.total ∷ length b.payload ∷ []
+
+abbrev pub bundles_by : List Call → List (List ℕ)
+bundles_by calls = map bundle_line (bundles_in (run (usual_opening (calls ∷ [])) []))
 
 abbrev pub built_items : List ℕ
 built_items = replicate 75 0
@@ -227,6 +241,19 @@ pub record Examples : Type 0 where
   -- a TD whose export hasn't begun has nothing to block, pause or abort, and of none that ended anything to restore
   pub not_exported : after_running (ExportBlockw 1 0 ∷ ExportUnblockw 1 0 ∷ ExportPause 1 ∷ ExportAbort 1 ∷ ExportRestore 1 0 ∷ ExportRestore 1 4096 ∷ ExportBlockw 1 1 ∷ [])
       ≡ replicate 4 (Refused (OpStateIncorrect op.Runnable)) ++ Refused (EptEntryStateIncorrect entry.Mapped) ∷ Refused (EptEntryStateIncorrect entry.Free) ∷ Refused (OperandInvalid 2) ∷ []
+  -- An export of a TD's state makes five bundles. The first says that there is one virtual processor. The epoch token begins
+  -- the second epoch; the start token, in the last, says that four bundles came before it.
+  pub export_events : events_of exporting ≡ 64 + 11 + 5 + 7 + 7 + 7 + 7 + 5 + 7 + 7
+  pub exported : bundles_by exporting
+      ≡ (0 ∷ 0 ∷ 0 ∷ 1 ∷ 1 ∷ 1 ∷ 0 ∷ 6 ∷ []) ∷ (1 ∷ 4 ∷ 1 ∷ 2 ∷ 1 ∷ 0 ∷ 1 ∷ 0 ∷ []) ∷ (2 ∷ 1 ∷ 2 ∷ 2 ∷ 1 ∷ 0 ∷ 0 ∷ 24 ∷ []) ∷ (3 ∷ 2 ∷ 3 ∷ 2 ∷ 1 ∷ 0 ∷ 0 ∷ 8 ∷ [])
+      ∷ (4 ∷ 5 ∷ 4 ∷ 0xffffffff ∷ 1 ∷ 0 ∷ 4 ∷ 0 ∷ []) ∷ []
+  -- a session begins where there is a stream, once; a state is exported once it is paused, and once; the start token comes
+  -- when each has been
+  pub export_in_order : after_running (ExportStateImmutable 1 0 ∷ MigStreamCreate 1 9 ∷ ExportStateTd 1 0 ∷ ExportStateImmutable 1 0 ∷ ExportStateImmutable 1 1 ∷ ExportTrack 1 1 2 ∷ ExportTrack 1 1 1 ∷ ExportStateVp 1 4 1 ∷ ExportPause 1
+      ∷ ExportTrack 1 1 1 ∷ ExportStateVp 1 1 1 ∷ ExportStateVp 1 8 1 ∷ ExportStateVp 1 4 1 ∷ ExportStateVp 1 4 2 ∷ ExportTrack 1 2 1 ∷ ExportStateTd 1 2 ∷ ExportStateTd 1 3 ∷ ExportTrack 1 3 1 ∷ ExportTrack 1 4 1 ∷ MngRd 1 field.Op ∷ [])
+      ≡ Refused (NoStream 0) ∷ success ∷ Refused (OpStateIncorrect op.Runnable) ∷ success ∷ Refused (OpStateIncorrect op.LiveExport) ∷ Refused (OperandInvalid 3) ∷ Refused (OpStateIncorrect op.LiveExport)
+      ∷ Refused (OpStateIncorrect op.LiveExport) ∷ success ∷ Refused (StateMissing 2) ∷ Refused (OperandInvalid 2) ∷ Refused (PageMetadataIncorrect 8) ∷ success ∷ Refused AlreadyExported
+      ∷ Refused (StateMissing 1) ∷ success ∷ Refused AlreadyExported ∷ success ∷ Refused (OpStateIncorrect op.PostExport) ∷ Done (Op op.PostExport) ∷ []
   -- what is measured: that the page was added; and where a chunk of it is, and its bytes
   pub one_page : measured_by added_page ≡ added_record
   pub one_chunk : measured_by (added_page ++ MrExtend 1 4352 ∷ [])

@@ -2,7 +2,7 @@
 
 ghost use Rattle.flat_core.specs.AccessLaw.{AccessIsKept, AccessAlwaysHolds, GuestsReachTheirOwn, AccessesAreOwn, MemoriesAreKept, CachesAreKept, CachesAreSmall, RoomIsUsed};
 ghost use Rattle.flat_core.specs.Bounds.{RowsTryFew, TimelyEventsRunOut, EventsRunOut, RunsEnd, EntriesAreBounded};
-ghost use Rattle.flat_core.specs.BundleLaws.{BundleRowsHaveTheirFacts};
+ghost use Rattle.flat_core.specs.BundleLaws.{BundleRowHasItsFacts};
 ghost use Rattle.flat_core.specs.Entered.{EventsSpare, EnteredIsKept, EnteredAreInGuest};
 ghost use Rattle.flat_core.specs.Entries.{EntriesHaveTheirEvents};
 ghost use Rattle.flat_core.specs.GuestOrder.{OperationsTryTheirLists, GuestOrderIsKept, GuestOrderHolds};
@@ -40,10 +40,9 @@ pub fn row_laws()
     ensures uses { EventsKeepUses }
 {}
 
-/// The same two facts beside each row of a call that makes a bundle; the leaf table doesn't have these
-/// rows yet.
+/// The same two facts beside the row of EXPORT.MEM, which the leaf table doesn't have yet.
 pub fn bundle_row_laws()
-    ensures { BundleRowsHaveTheirFacts }
+    ensures { BundleRowHasItsFacts }
 {}
 
 /// Every run starts in a lawful world, in which processors stand in their calls and guests as they can

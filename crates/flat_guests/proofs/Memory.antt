@@ -1,5 +1,5 @@
 -- What guests know of their private pages after each event.
-use Rattle.std.proofs.Common.{◌≡◌, refl, sym, ◌∙◌, ap, subst, ℕ, ◌+◌, List, [], ◌∷◌, length, Option, Some, None, option_map, Bool, true, false, ◌==◌, ◌&&◌, if◌then◌else◌}
+use Rattle.std.proofs.Common.{◌≡◌, refl, sym, ◌∙◌, ap, subst, ℕ, zero, suc, ◌+◌, List, [], ◌∷◌, length, Option, Some, None, option_map, Bool, true, false, ◌==◌, ◌&&◌, if◌then◌else◌}
 use Rattle.std.proofs.lemmas.Bool.{eqb-true}
 use Rattle.td_words.specs.declared.names.Access.{Access}
 use Rattle.td_words.specs.declared.names.Access.TheVariants.{Read, Write}
@@ -53,6 +53,8 @@ module _ (o : Opening) (w : World) (t n : ℕ) where
   call_remembers me (call.PhymemPageReclaim tdr page) = ends tdr (w.pages.numbers page) (same_kind (w.pages.kinds page) kind.Reg)
   call_remembers me (call.MemPageAdd tdr gpa page source) = refl
   call_remembers me (call.MemPageRemove tdr gpa) = refl
+  call_remembers me (call.ExportTrack tdr slot zero) = refl
+  call_remembers me (call.ExportTrack tdr slot (suc n)) = refl
   call_remembers me (call.HostRead page word) = refl
   call_remembers me _ = refl
 

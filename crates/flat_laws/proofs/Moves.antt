@@ -131,6 +131,8 @@ module _ (o : Opening) (s : State) (me q : ℕ) (all : IsGuarded o s) where
     taken-waits (call.MemPageAug t gpa page) ps e = by_test (q == page)
         (λ y. inl (let a = eq-eqb t t refl in let b = eq-eqb (number_at 0 gpa) (number_at 0 gpa) refl in rw (y, a, b) refl))
         (λ n. absurd (never (w.pages.kinds q) (host_kind _ host) (rw n at e)))
+    taken-waits (call.ExportTrack t slot zero) ps e = absurd (never (w.pages.kinds q) (host_kind _ host) e)
+    taken-waits (call.ExportTrack t slot (suc n)) ps e = absurd (never (w.pages.kinds q) (host_kind _ host) e)
     taken-waits _ ps e = absurd (never (w.pages.kinds q) (host_kind _ host) e)
 
   next-guarded : IsGuarded o (event o s me)

@@ -8,4 +8,5 @@ pub mod Packing
 pub mod Places
 pub mod Seen
 pub mod Limits
+pub mod Slots
 pub mod Laws

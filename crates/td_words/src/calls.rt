@@ -1,9 +1,12 @@
 //! Call lines and guest operations, as far as they are built.
 
+ghost use Rattle.std.specs.Prelude.{◌≡◌};
+ghost use Rattle.td_words.specs.Slots.{output_slot};
+
 use crate::names::ReadField;
 
 /// A host's call, with its arguments in order. Any number may stand as an argument: the call's row
-/// judges it.
+/// judges it. A slot of an output, 0 to 4,095, is judged when the script is read.
 #[derive(Clone, Copy, Debug, PartialEq, Eq)]
 pub enum Call {
     HostRead {
@@ -138,6 +141,39 @@ pub enum Call {
         tdr: u64,
         gpa: u64,
     },
+    ExportStateImmutable {
+        tdr: u64,
+        slot: u16,
+    },
+    ExportTrack {
+        tdr: u64,
+        slot: u16,
+        start: u64,
+    },
+    ExportStateTd {
+        tdr: u64,
+        slot: u16,
+    },
+    ExportStateVp {
+        tdr: u64,
+        vp: u64,
+        slot: u16,
+    },
+}
+
+impl Call {
+    /// The output slot, 0 to 4,095, that the call names, where it makes a bundle.
+    pub fn output_slot(&self) -> Option<u16>
+        ensures { result ≡ output_slot self.now }
+    {
+        match self {
+            Call::ExportStateImmutable { slot, .. }
+            | Call::ExportTrack { slot, .. }
+            | Call::ExportStateTd { slot, .. }
+            | Call::ExportStateVp { slot, .. } => Some(*slot),
+            _ => None,
+        }
+    }
 }
 
 /// An operation of guest code, with its operands in order: registers 0 to 7, secret words 0 to 511,

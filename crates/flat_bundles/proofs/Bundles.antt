@@ -1,0 +1,96 @@
+-- The bundles made and the lines still to act name no slot oftener than all lines do; each event keeps that.
+use Rattle.std.proofs.Common.{◌≡◌, sym, ◌∙◌, ap, subst, ℕ, ◌+◌, ◌≤◌, List, [], ◌∷◌, length, drop, Option, Some, ◌==◌, arith}
+use Rattle.std.specs.List.{All, Contains}
+use Rattle.std.proofs.lemmas.Bool.{eqb-true}
+use Rattle.std.proofs.lemmas.List.{map-append}
+use Rattle.std.proofs.lemmas.List.Elements.{All-nil, All-push, All-weaker, All-contains}
+use Rattle.td_words.specs.declared.calls.Call.{Call}
+use Rattle.td_words.specs.Slots.{output_slots}
+use Rattle.flat_core.specs.World.{Made}
+use Rattle.flat_core.specs.Processor.{Lp}
+use Rattle.flat_core.specs.Opening.{Opening}
+use Rattle.flat_core.specs.Locks.{one_if}
+use Rattle.flat_core.specs.Event.{State, Event, start, calls_of, lp_after, is_granted, after_event}
+use Rattle.flat_core.proofs.Tests.{by_test, put_here}
+use Rattle.flat_core.proofs.Due.{due_event_is}
+use Rattle.flat_core.proofs.Induction.{play_keeps}
+use Rattle.flat_bundles.specs.Bundles.{AddsBundle, AreOfLines, BundlesAreOfLines}
+use Rattle.flat_bundles.proofs.Times.{times, times-append, slots_of, times_left, all-left, less-left, one-less, once, once-apart, all-in}
+use Rattle.flat_bundles.proofs.Steps.{acted, Goes, stays, makes, event-goes}
+
+abbrev IsPage : Made → Type 0
+IsPage m = length m.payload ≤ 512
+
+abbrev acted_in : State → ℕ → ℕ
+acted_in s q = acted (s.lps q)
+
+record Fits (o : Opening) (s : State) : Type 0 where
+  slots : (k : ℕ) → times k (slots_of s.world.outgoing.bundles) + times_left k o.calls (acted_in s) ≤ times k (output_slots o.calls)
+  pages : All IsPage s.world.outgoing.bundles
+
+module _ (o : Opening) (s : State) (p : ℕ) (e : Event) (h : Fits o s) where
+  abbrev lp : Lp
+  lp = s.lps p
+
+  abbrev after : State
+  after = after_event p s (Some e)
+
+  abbrev lp' : Lp
+  lp' = lp_after s.world (is_granted s e) e lp
+
+  none-fewer : acted lp ≤ acted lp' → (q : ℕ) → acted_in s q ≤ acted_in after q
+  none-fewer le q = by_test (q == p)
+      (λ y. let here = ap (λ (x : ℕ). acted (s.lps x)) (eqb-true q p y) in rw y (omega (arith, le, here)))
+      (λ n. rw n (omega arith))
+
+  here : acted_in after p ≡ acted lp'
+  here = ap acted (put_here s.lps p lp')
+
+  more-made : (slot : ℕ) (ms ns : List Made) → AddsBundle slot ms ns → (k : ℕ) → times k (slots_of ns) ≡ times k (slots_of ms) + one_if (slot == k)
+  more-made slot ms ns a k =
+      ap (λ (x : List Made). times k (slots_of x)) a.added
+      ∙ (ap (times k) (map-append (λ m. m.slot) ms (a.bundle ∷ []))
+      ∙ (times-append k (slots_of ms) (a.bundle.slot ∷ []) ∙ last))
+    where
+      last : times k (slots_of ms) + times k (a.bundle.slot ∷ []) ≡ times k (slots_of ms) + one_if (slot == k)
+      last = let same = ap (λ (x : ℕ). one_if (x == k)) a.slot_is in omega (arith, same)
+
+  fits-after : Goes o s.world p lp (is_granted s e) e → Fits o after
+  fits-after (stays same le) = record {
+    slots = λ k.
+        let made = ap (λ (x : List Made). times k (slots_of x)) same in
+        omega (arith, h.slots k, made, less-left k o.calls (acted_in s) (acted_in after) (none-fewer le));
+    pages = subst (All IsPage) (sym same) h.pages;
+  }
+  fits-after (makes c cs slot line is adds now gone) =
+      let le : acted lp + 1 ≤ acted lp' = omega (arith, now, gone) in
+      record {
+        slots = λ k.
+            omega (
+              arith,
+              h.slots k,
+              more-made slot s.world.outgoing.bundles after.world.outgoing.bundles adds k,
+              one-less k slot o.calls p (acted_in s) (acted_in after) c cs (none-fewer (omega (arith, le))) (omega (arith, le, here))
+                  (ap (λ (n : ℕ). drop n (calls_of o.calls p)) now ∙ line) is,
+            );
+        pages = subst (All IsPage) (sym adds.added) (All-push IsPage s.world.outgoing.bundles adds.bundle h.pages adds.page);
+      }
+
+first-fits : (o : Opening) (ws : Option (List ℕ)) → Fits o (start o ws)
+first-fits o ws = record { slots = λ k. omega (arith, all-left k o.calls); pages = All-nil IsPage }
+
+of-lines : (o : Opening) (s : State) → Fits o s → AreOfLines o.calls s.world.outgoing.bundles
+of-lines o s h = record {
+  each = all-in (output_slots o.calls) s.world.outgoing.bundles (λ k. omega (arith, h.slots k));
+  apart = λ apart. once-apart s.world.outgoing.bundles (λ k. omega (arith, h.slots k, once (output_slots o.calls) apart k));
+  pages = h.pages;
+}
+
+-- what holds of each slot that lines name holds of each bundle's
+pub slots-hold : (P : ℕ → Type 0) (calls : List (List Call)) (ms : List Made) → AreOfLines calls ms → All P (output_slots calls) → All (λ m. P m.slot) ms
+slots-hold P calls ms h all =
+    All-weaker (λ m. Contains (output_slots calls) m.slot) (λ m. P m.slot) (λ m named. All-contains P (output_slots calls) m.slot all named) ms h.each
+
+pub bundles-of-lines : BundlesAreOfLines
+bundles-of-lines o ws schedule =
+    of-lines o _ (play_keeps o (Fits o) (λ s p e is h. fits-after o s p e h (event-goes o s.world p (s.lps p) (is_granted s e) e (due_event_is o s p e is))) schedule (start o ws) (first-fits o ws))

@@ -1,0 +1,4 @@
+pub mod Times
+pub mod Rows
+pub mod Steps
+pub mod Bundles

@@ -1,0 +1,11 @@
+//! The bundles that a run makes, and the lines that make them.
+//!
+//! That each bundle of a run is in the output slot of one of its lines, and no two are in one slot
+//! where no two lines name one. It stands on the flat machine alone. A layer above may use the law as
+//! the contract of the function of `laws`, and `slots-hold` of `proofs/Bundles` for what holds of all
+//! slots that lines name.
+#![tactic(auto)]
+
+mod laws;
+
+pub use laws::bundle_law;

@@ -1,0 +1,20 @@
+-- The output slots that calls name.
+use Rattle.std.specs.Prelude.{ℕ, List, Option, Some, None, flat_map, filter_map}
+use Rattle.td_words.specs.declared.calls.Call.{Call}
+use Rattle.td_words.specs.declared.calls.Call.TheVariants as call
+
+-- the output slot of a call that makes a bundle
+abbrev pub output_slot : Call → Option ℕ
+output_slot (call.ExportStateImmutable tdr slot) = Some slot
+output_slot (call.ExportTrack tdr slot start) = Some slot
+output_slot (call.ExportStateTd tdr slot) = Some slot
+output_slot (call.ExportStateVp tdr vp slot) = Some slot
+output_slot _ = None
+
+-- the calls of all processors, one processor's behind the other's
+abbrev pub all_calls : List (List Call) → List Call
+all_calls calls = flat_map (λ list. list) calls
+
+-- the output slots that they name, in that order
+abbrev pub output_slots : List (List Call) → List ℕ
+output_slots calls = filter_map output_slot (all_calls calls)
