@@ -1,6 +1,6 @@
 -- A call holds the first of the locks that its row tries, in every state that a run reaches. Which page an entry of a TD names
 -- stays the same for whoever holds P of the TDR page and T, in either mode: a call that changes it has one of them alone.
-use Rattle.std.proofs.Common.{◌≡◌, ◌⊎◌, inl, inr, ◌≢◌, refl, sym, ◌∙◌, subst, ap, ℕ, ◌+◌, ◌<◌, List, [], ◌∷◌, ◌++◌, length, drop, Option, Some, None, option_map, Bool, true, false, ◌==◌, ◌&&◌, arith}
+use Rattle.std.proofs.Common.{◌≡◌, ◌⊎◌, inl, inr, ◌≢◌, refl, sym, ◌∙◌, subst, ap, ℕ, zero, suc, ◌+◌, ◌<◌, List, [], ◌∷◌, ◌++◌, length, drop, Option, Some, None, option_map, Bool, true, false, ◌==◌, ◌&&◌, arith}
 use Rattle.std.proofs.lemmas.Bool.{eq-eqb, eqb-true, eqb-false, ne_eqb, and_parts}
 use Rattle.td_words.specs.declared.names.EntryState.{EntryState}
 use Rattle.td_words.specs.declared.names.EntryState.TheVariants as entry
@@ -194,6 +194,8 @@ row-entries o me (call.MemRangeUnblock u gpa level) w t tree page = let n = off 
 row-entries o me (call.ExportBlockw u gpa) w t tree page = restated w u (number_at 0 gpa) (entry_at w u 0 gpa).mark (write_blocked (entry_at w u 0 gpa).state) (write-blocked-free (entry_at w u 0 gpa).state) t
 row-entries o me (call.ExportUnblockw u gpa) w t tree page = let n = off t u (λ y. tree (rw y refl)) in λ l k. rw n (as-it-is _)
 row-entries o me (call.ExportRestore u gpa) w t tree page = let n = off t u (λ y. tree (rw y refl)) in λ l k. rw n (as-it-is _)
+row-entries o me (call.ExportTrack u slot zero) w t tree page = λ l k. as-it-is _
+row-entries o me (call.ExportTrack u slot (suc n)) w t tree page = λ l k. as-it-is _
 row-entries o me (call.HostRead p i) w t tree page = λ l k. as-it-is _
 row-entries o me _ w t tree page = λ l k. as-it-is _
 

@@ -1,5 +1,5 @@
 -- The act of each row changes what words are only as the rules say.
-use Rattle.std.proofs.Common.{◌≡◌, ◌⊎◌, refl, sym, ◌∙◌, ap, subst, inl, inr, ℕ, zero, suc, ◌+◌, List, [], ◌∷◌, ◌++◌, length, map, Bool, true, false, not, ◌==◌, nat_lt, arith}
+use Rattle.std.proofs.Common.{◌≡◌, ◌⊎◌, refl, sym, ◌∙◌, ap, subst, inl, inr, ℕ, zero, suc, ◌+◌, ◌%◌, ◌^◌, List, [], ◌∷◌, ◌++◌, length, map, Bool, true, false, not, ◌==◌, nat_lt, arith}
 use Rattle.std.specs.Prelude.{Option, Some, None}
 use Rattle.std.proofs.lemmas.Bool.{eq-eqb, eqb-true, ne_eqb, not-true, and_parts}
 use Rattle.std.proofs.lemmas.Bool.Decides.{nat_tests}
@@ -31,6 +31,9 @@ use Rattle.flat_core.specs.Tree.{is_passed, page_of_gpa, number_at, entry_at, em
 use Rattle.flat_core.specs.Tracking.{tracked_page}
 use Rattle.flat_core.specs.MemRows.{removed_states}
 use Rattle.flat_core.specs.ExportRows.{add_stream, write_blocked, count_dirt, count_restored, note_pause}
+use Rattle.flat_core.specs.Digests.{six_words}
+use Rattle.flat_core.specs.Sessions.{bundles_so_far, payload_words, About, about, make_bundle, begin_session, set_mig_epoch, note_td_export, note_vp_export}
+use Rattle.flat_core.specs.BundleRows.{start_epoch, track_export, token_kind, token_epoch, export_immutable, export_token, export_td, export_vp}
 use Rattle.flat_core.proofs.Maps.{kind_named, node_named, behind_walk}
 use Rattle.flat_core.proofs.Ranges.{named_passed, named_alive, page_removed, sept_removed}
 use Rattle.flat_core.proofs.Keeps.{live_of}
@@ -327,6 +330,48 @@ module _ (g : Grip) (w : World) where
       let a : Respects g w w1 = leaves g w w1 (all-same w w1 refl (λ u. same-td w w1 u refl refl refl (λ b. refl) (λ n. refl))) (λ h. refl) refl in
       respects-compose.both g w w1 (set_op t op.PausedExport w1) a ((effects-respect g w1).op t op.PausedExport has alone)
 
+  -- calls that make a bundle: their streams count it
+  bundled : (t slot : ℕ) (told : About) (payload : List ℕ) (w1 : World) → Respects g w w1 → Respects g w (make_bundle t slot told payload w1)
+  bundled t slot told payload w1 before = let w2 : World = make_bundle t slot told payload w1 in counted w1 w2 refl (λ u. same-td w1 w2 u refl refl refl (λ b. refl) (λ n. refl)) (λ h. refl) refl before
+
+  noted : (w1 : World) → w1.pages ≡ w.pages → ((u : ℕ) → SameTd w w1 u) → ((h : ℕ) → key_owner (w1.key_table.keys h) ≡ key_owner (w.key_table.keys h)) → w1.tds.lives ≡ w.tds.lives → Respects g w w1
+  noted w1 pages tds keys lives = leaves g w w1 (all-same w w1 pages tds) keys lives
+
+  -- EXPORT.STATE.IMMUTABLE
+  pub immutable-exported : (m : Machine) (t slot : ℕ) → g.has (Locked (OfPage t)) ≡ true → g.sole (Locked (OfOp t)) ≡ true → Respects g w ((export_immutable m t slot).act w)
+  immutable-exported m t slot has alone =
+      let w1 : World = set_op t op.LiveExport w in
+      let w2 : World = begin_session t w in
+      bundled t slot (record (about 0 1) { info = length (w.tds.vps t) }) (six_words (w.tds.mrtds t)) w2
+      (counted w1 w2 refl (λ u. same-td w1 w2 u refl refl refl (λ b. refl) (λ n. refl)) (λ h. refl) refl ((effects-respect g w).op t op.LiveExport has alone))
+
+  -- EXPORT.TRACK
+  epoch-ended : (t e : ℕ) → Respects g w (set_mig_epoch t e w)
+  epoch-ended t e = let w1 : World = set_mig_epoch t e w in noted w1 refl (λ u. same-td w w1 u refl refl refl (λ b. refl) (λ n. refl)) (λ h. refl) refl
+
+  token-tracked : (t start : ℕ) → g.has (Locked (OfPage t)) ≡ true → g.sole (Locked (OfOp t)) ≡ true → Respects g w (track_export t start w)
+  token-tracked t zero has alone = epoch-ended t (w.tds.mig_epochs t + 1)
+  token-tracked t (suc n) has alone =
+      let w1 : World = set_mig_epoch t start_epoch w in
+      respects-compose.both g w w1 (set_op t op.PostExport w1) (epoch-ended t start_epoch) ((effects-respect g w1).op t op.PostExport has alone)
+
+  pub token-exported : (m : Machine) (t slot start : ℕ) → g.has (Locked (OfPage t)) ≡ true → g.sole (Locked (OfOp t)) ≡ true → Respects g w ((export_token m t slot start).act w)
+  token-exported m t slot start has alone =
+      bundled t slot (record (about (token_kind start) (token_epoch w t start)) { total = bundles_so_far w t }) [] (track_export t start w) (token-tracked t start has alone)
+
+  -- EXPORT.STATE.TD
+  pub td-exported : (m : Machine) (t slot : ℕ) → Respects g w ((export_td m t slot).act w)
+  td-exported m t slot =
+      let w1 : World = note_td_export t w in
+      bundled t slot (about 1 (w.tds.mig_epochs t)) (payload_words (w.hidden.rtmrs t) 24) w1 (noted w1 refl (λ u. same-td w w1 u refl refl refl (λ b. refl) (λ n. refl)) (λ h. refl) refl)
+
+  -- EXPORT.STATE.VP
+  pub vp-exported : (m : Machine) (t v slot : ℕ) → Respects g w ((export_vp m t v slot).act w)
+  vp-exported m t v slot =
+      let w1 : World = note_vp_export t v w in
+      bundled t slot (record (about 2 (w.tds.mig_epochs t)) { index = w.vps.indexes v; info = w.vps.positions v % 2 ^ 32 }) (payload_words (w.hidden.registers v) 8) w1
+      (noted w1 refl (λ u. same-td w w1 u refl refl refl (λ b. refl) (λ n. refl)) (λ h. refl) refl)
+
   -- VP.FLUSH
   flushed : (v : ℕ) → Respects g w (end_association v w)
   flushed v = let w' : World = end_association v w in leaves g w w' (all-same w w' refl (λ u. same-td w w' u refl refl refl (λ b. refl) (λ n. refl))) (λ h. refl) refl
@@ -427,3 +472,7 @@ rows-respect o me (call.ExportUnblockw tdr gpa) g w la ps h = unblocks-write g w
 rows-respect o me (call.ExportPause tdr) g w la ps h = paused g w tdr h.0 h.1.0.1
 rows-respect o me (call.ExportAbort tdr) g w la ps h = (effects-respect g w).op tdr op.Runnable h.0 h.1.0.1
 rows-respect o me (call.ExportRestore tdr gpa) g w la ps h = restored g w tdr (number_at 0 gpa) (entry_at w tdr 0 gpa).state (record { tdr = h.0; op = h.1.0 }) h.1.1.0.1
+rows-respect o me (call.ExportStateImmutable tdr slot) g w la ps h = immutable-exported g w o.machine tdr slot h.0 h.1.0.1
+rows-respect o me (call.ExportTrack tdr slot start) g w la ps h = token-exported g w o.machine tdr slot start h.0 h.1.0.1
+rows-respect o me (call.ExportStateTd tdr slot) g w la ps h = td-exported g w o.machine tdr slot
+rows-respect o me (call.ExportStateVp tdr vp slot) g w la ps h = vp-exported g w o.machine tdr vp slot

@@ -148,6 +148,8 @@ act-counts o me (call.VpEnter tdr vp most) w v n is = by_test (v == vp)
 act-counts o me (call.VpCreate tdr page) w v n is = by_test (v == page)
     (λ y. absurd (let e : None ≡ Some n = rw y at is in cc))
     (λ y. inl (let e : w.vps.entered v ≡ Some n = rw y at is in e))
+act-counts o me (call.ExportTrack tdr slot zero) w v n is = inl is
+act-counts o me (call.ExportTrack tdr slot (suc start)) w v n is = inl is
 act-counts o me (call.HostRead page word) w v n is = inl is
 act-counts o me _ w v n is = inl is
 

@@ -171,7 +171,7 @@ pub trait Plan {
     fn write(&self, act: Act, told: &[u64], number: usize, hand: &mut Hand) -> Option<Write>
         requires { shown self.now told.now act ≡ true }
         ensures hands { HandsAt (task self.now).place.machine (changes self.now told.now act) number hand.old hand.new result }
-        ensures few { MatchOption result Unit (λ w. number < 16) };
+        ensures few { MatchOption result Unit (λ w. number < 24) };
 
     ghost means: { (p : Self) → MeansRow (task p) };
 }
@@ -230,6 +230,20 @@ impl<P: Plan + Drop> Planned<P> {
         }
     }
 
+    /// The plan that it goes by.
+    pub fn plan(&self) -> &P
+        ensures { result.now ≡ self.now.plan }
+    {
+        &self.plan
+    }
+
+    /// The words that it was told, in order; 0 for each lock that was granted.
+    pub fn told(&self) -> &[u64]
+        ensures { result.now ≡ self.now.told.items }
+    {
+        self.told.as_slice()
+    }
+
     /// The act, where its words decide on one.
     fn act(&self) -> Option<Act>
         ensures { MatchOption result (changes_of (feed (P.task self.now.plan).tree self.now.told.items) ≡ [])
@@ -261,7 +275,7 @@ impl<P: Plan + Drop> Leaf for Planned<P> {
 
     ghost waits = { λ l. l.waits };
 
-    ghost bound = { λ l. 2 * (32 - length l.told.items) + (16 - l.written) - (if l.waits then 1 else 0) };
+    ghost bound = { λ l. 2 * (32 - length l.told.items) + (24 - l.written) - (if l.waits then 1 else 0) };
 
     ghost tries = { λ l. 32 - length l.told.items };
 

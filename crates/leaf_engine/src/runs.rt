@@ -68,6 +68,13 @@ impl<L: Leaf> Run<L> {
         gives_epoch_back(self.held.as_slice())
     }
 
+    /// The leaf.
+    pub fn leaf(&self) -> &L
+        ensures { result.now ≡ self.now.leaf }
+    {
+        &self.leaf
+    }
+
     /// Answers this from now on, as VP.ENTER does once its guest is left.
     pub fn answer(&mut self, reply: Reply)
         ensures leaf { self.new.leaf ≡ self.old.leaf }

@@ -1,5 +1,5 @@
 -- After the act of each row a TD whose locks stood goes on to stand, but where the row holds P of its TDR page alone.
-use Rattle.std.proofs.Common.{◌≡◌, ◌⊎◌, refl, sym, ◌∙◌, ap, inl, inr, ℕ, [], ◌∷◌, Bool, true, false, not, ◌==◌}
+use Rattle.std.proofs.Common.{◌≡◌, ◌⊎◌, refl, sym, ◌∙◌, ap, inl, inr, ℕ, zero, suc, [], ◌∷◌, Bool, true, false, not, ◌==◌}
 use Rattle.std.proofs.lemmas.Bool.{eqb-true, eqb-false, ne_eqb, and_parts}
 use Rattle.td_words.specs.declared.names.Mode.TheVariants.{Exclusive}
 use Rattle.td_words.specs.declared.names.PageKind.TheVariants as kind
@@ -69,6 +69,11 @@ acts-go-on o me (call.ExportUnblockw tdr gpa) w t la ps st = inl (same-td w _ t 
 acts-go-on o me (call.ExportPause tdr) w t la ps st = inl (same-td w _ t st refl refl refl)
 acts-go-on o me (call.ExportAbort tdr) w t la ps st = inl (same-td w _ t st refl refl refl)
 acts-go-on o me (call.ExportRestore tdr gpa) w t la ps st = inl (same-td w _ t st refl refl refl)
+acts-go-on o me (call.ExportStateImmutable tdr slot) w t la ps st = inl (same-td w _ t st refl refl refl)
+acts-go-on o me (call.ExportTrack tdr slot zero) w t la ps st = inl (same-td w _ t st refl refl refl)
+acts-go-on o me (call.ExportTrack tdr slot (suc n)) w t la ps st = inl (same-td w _ t st refl refl refl)
+acts-go-on o me (call.ExportStateTd tdr slot) w t la ps st = inl (same-td w _ t st refl refl refl)
+acts-go-on o me (call.ExportStateVp tdr vp slot) w t la ps st = inl (same-td w _ t st refl refl refl)
 acts-go-on o me (call.MemPageRemove tdr gpa) w t la ps st =
     let rest = tracked_page w tdr (entry_at w tdr 0 gpa).page ∷ [] in
     let q = named_passed w tdr gpa 0 removed_states rest ps.1.1.1 in

@@ -20,11 +20,13 @@ use Rattle.flat_core.specs.World.{World}
 use Rattle.flat_core.specs.Processor.{LockId, Held}
 use Rattle.flat_core.specs.Opening.{Opening}
 use Rattle.flat_core.specs.Row.{Item, Check, Try, Attempts, Succeeds, next, Passes}
-use Rattle.flat_core.specs.Conditions.{all_ops, begun_ops, growing_ops, later_ops, running_ops, not_elsewhere, td_row, page_exclusive, tree_shared, tree_exclusive, epoch_shared, epoch_exclusive, host_page, td_page, vps_ready, vp_room, vp_in, augmented_ops, blocking_ops}
+use Rattle.flat_core.specs.Conditions.{all_ops, begun_ops, growing_ops, later_ops, running_ops, not_elsewhere, td_row, page_exclusive, tree_shared, tree_exclusive, epoch_shared, epoch_exclusive, keys_exclusive, host_page, td_page, vps_ready, vp_room, vp_in, augmented_ops, blocking_ops}
 use Rattle.flat_core.specs.Tracking.{tracked_page, epoch_room, previous_epoch_left}
 use Rattle.flat_core.specs.KeyRows.{reclaim_conditions}
 use Rattle.flat_core.specs.MemRows.{named_row, open_states, blocked_states, removed_states}
 use Rattle.flat_core.specs.ExportRows.{stream_ops, live_ops, abortable_ops, restoring_ops, stream_room, writable_states, write_blocked_states, restored_states, opened_row}
+use Rattle.flat_core.specs.Sessions.{has_stream, counter_room, session_room, all_restored, td_state_left, vp_state_left}
+use Rattle.flat_core.specs.BundleRows.{session_ops, paused_ops, token_ops, token_conditions}
 use Rattle.flat_core.specs.Tree.{entry_at, same_state, walk, state_in, has_page, empty_below, named_page}
 use Rattle.flat_core.specs.Table.{row_of}
 use Rattle.flat_core.specs.Tries.{tries, tries_of}
@@ -139,6 +141,15 @@ rows-fit o me (call.ExportUnblockw tdr gpa) w = λ a b c. opened-fits w tdr gpa 
 rows-fit o me (call.ExportPause tdr) w = λ a. head-fits w tdr Exclusive live_ops (tree_exclusive tdr ∷ []) (λ st. ((refl, st), tt))
 rows-fit o me (call.ExportAbort tdr) w = λ a. head-fits w tdr Exclusive abortable_ops (tree_exclusive tdr ∷ []) (λ st. ((refl, st), tt))
 rows-fit o me (call.ExportRestore tdr gpa) w = λ a b c. opened-fits w tdr gpa restoring_ops restored_states
+rows-fit o me (call.ExportStateImmutable tdr slot) w = λ a. head-fits w tdr Exclusive session_ops (keys_exclusive ∷ has_stream w tdr 0 ∷ all_restored w tdr ∷ session_room w ∷ []) (λ st. ((tt, tt), λ x y z. tt))
+rows-fit o me (call.ExportTrack tdr slot start) w = λ a b. head-fits w tdr Exclusive (token_ops start) (tree_exclusive tdr ∷ counter_room w tdr 0 ∷ token_conditions w tdr start) (λ st. ((refl, st), λ x. conditions start))
+  where
+    conditions : (n : ℕ) → TriesFit w (held_as tdr Shared) (token_conditions w tdr n)
+    conditions zero = λ x. tt
+    conditions (suc n) = λ x y. tt
+rows-fit o me (call.ExportStateTd tdr slot) w = λ a. head-fits w tdr Exclusive paused_ops (td_state_left w tdr ∷ counter_room w tdr 0 ∷ []) (λ st x y. tt)
+rows-fit o me (call.ExportStateVp tdr vp slot) w =
+    λ a b c. head-fits w tdr Exclusive paused_ops (page_exclusive vp ∷ td_page w tdr vp kind.Tdvpr ∷ vp_state_left w tdr vp ∷ counter_room w tdr 0 ∷ []) (λ st. ((tt, tt), λ x y z. tt))
 
 -- it is that of the call's list, and the same in every world
 

@@ -33,3 +33,4 @@ pub mod Verdicts
 pub mod Misses
 pub mod Merged
 pub mod Runs
+pub mod Gathered

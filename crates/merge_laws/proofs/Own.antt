@@ -1,5 +1,5 @@
 -- What an event of a processor makes of all of them together.
-use Rattle.std.proofs.Common.{◌≡◌, ◌≢◌, ◌⊎◌, ℕ, ◌<◌, Bool, true, false, ◌==◌, cond, List, [], ◌∷◌, ◌++◌, length, Option, Some, None, refl, ap, sym, ◌∙◌, subst, inl, inr}
+use Rattle.std.proofs.Common.{◌≡◌, ◌≢◌, ◌⊎◌, ℕ, ◌<◌, ◌≤◌, Bool, true, false, ◌==◌, cond, List, [], ◌∷◌, ◌++◌, length, Option, Some, None, refl, ap, sym, ◌∙◌, subst, inl, inr, arith}
 use Rattle.std.proofs.lemmas.Bool.{eq-eqb, eqb-true}
 use Rattle.td_words.specs.declared.machines.Machine.{Machine}
 use Rattle.td_words.specs.Place.{WordPlace, IsIn}
@@ -37,8 +37,8 @@ at-other f p k x e = ap (λ (b : Bool). cond b x (f k)) e
 not-same : (k p : ℕ) → (k == p) ≡ false → k ≢ p
 not-same k p e h = (let t : (k == p) ≡ true = eq-eqb k p h in cc)
 
-pub grown : (n : ℕ) (pos : ℕ → Position) (p : ℕ) (now : Position) (before after : List Made) → Grows before after (pos p).at.beside.bundles now.at.beside.bundles → AreBundlesOf n (λ k. (pos k).at) before → AreBundlesOf n (λ k. (put pos p now k).at) after
-grown n pos p now before after g a = by g.more g.all g.own
+pub grown : (n : ℕ) (pos : ℕ → Position) (p : ℕ) (now : Position) (before after : List Made) → (g : Grows before after (pos p).at.beside.bundles now.at.beside.bundles) → (length g.more ≡ 0) ⊎ (p < n) → AreBundlesOf n (λ k. (pos k).at) before → AreBundlesOf n (λ k. (put pos p now k).at) after
+grown n pos p now before after g inside a = by g.more inside g.all g.own
   where
     mine : (k : ℕ) (x : List Made) → (k == p) ≡ true → x ≡ now.at.beside.bundles → x ≡ (put pos p now k).at.beside.bundles
     mine k x e h =
@@ -51,13 +51,14 @@ grown n pos p now before after g a = by g.more g.all g.own
     was : (k : ℕ) → k < n → (k == p) ≡ true → a.own p ≡ (pos p).at.beside.bundles
     was k j e = a.each p (subst (λ (z : ℕ). z < n) (eqb-true k p e) j)
 
-    by : (more : List Made) → after ≡ added before more → now.at.beside.bundles ≡ added (pos p).at.beside.bundles more → AreBundlesOf n (λ k. (put pos p now k).at) after
-    by [] q r = record { own = a.own; each = λ k j. each k j (k == p) refl; merged = subst (λ (z : List Made). AreMerged a.own z) (sym q) a.merged }
+    by : (more : List Made) → (length more ≡ 0) ⊎ (p < n) → after ≡ added before more → now.at.beside.bundles ≡ added (pos p).at.beside.bundles more → AreBundlesOf n (λ k. (put pos p now k).at) after
+    by [] i q r = record { own = a.own; each = λ k j. each k j (k == p) refl; none_else = a.none_else; merged = subst (λ (z : List Made). AreMerged a.own z) (sym q) a.merged }
       where
         each : (k : ℕ) → k < n → (b : Bool) → (k == p) ≡ b → a.own k ≡ (put pos p now k).at.beside.bundles
         each k j true e = mine k (a.own k) e (subst (λ (z : ℕ). a.own z ≡ now.at.beside.bundles) (sym (eqb-true k p e)) (was k j e ∙ sym r))
         each k j false e = theirs k j e
-    by (m ∷ ms) q r = record { own = own'; each = λ k j. each k j (k == p) refl; merged = subst (λ (z : List Made). AreMerged own' z) (sym q) (more_made a.own before p (m ∷ ms) a.merged) }
+    by (m ∷ ms) (inl none) q r = absurd (omega (arith, none))
+    by (m ∷ ms) (inr i) q r = record { own = own'; each = λ k j. each k j (k == p) refl; none_else = λ k j. beyond k j (k == p) refl; merged = subst (λ (z : List Made). AreMerged own' z) (sym q) (more_made a.own before p (m ∷ ms) a.merged) }
       where
         own' : ℕ → List Made
         own' = put a.own p (a.own p ++ m ∷ ms)
@@ -67,6 +68,10 @@ grown n pos p now before after g a = by g.more g.all g.own
             mine k (own' k) e
             (subst (λ (z : ℕ). own' z ≡ now.at.beside.bundles) (sym (eqb-true k p e)) (put_here a.own p (a.own p ++ m ∷ ms) ∙ (ap (λ (z : List Made). z ++ m ∷ ms) (was k j e) ∙ sym r)))
         each k j false e = at-other a.own p k (a.own p ++ m ∷ ms) e ∙ theirs k j e
+
+        beyond : (k : ℕ) → n ≤ k → (b : Bool) → (k == p) ≡ b → own' k ≡ []
+        beyond k j true e = let q : k ≡ p = eqb-true k p e in absurd (omega (arith, i, j, q))
+        beyond k j false e = at-other a.own p k (a.own p ++ m ∷ ms) e ∙ a.none_else k j
 
 -- what an event leaves of memory, as far as others look
 pub record Spares (m : Machine) (s : State) (g' : Grip) (w' : World) (words words' a a' : WordPlace → ℕ) : Type 0 where
@@ -85,7 +90,7 @@ gathered ls o trees s mem mem' t t' pos p now g' part are known st i sp shows ha
   shows = shows;
   hand = hand;
   slots = slots;
-  bundles = grown (length o.calls) pos p now (bundles_in s) (bundles_in (event o s p)) grows st.bundles;
+  bundles = grown (length o.calls) pos p now (bundles_in s) (bundles_in (event o s p)) grows (inr i) st.bundles;
   holds = holds;
   laid_is = laid_is;
 }

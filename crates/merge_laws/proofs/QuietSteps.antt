@@ -53,7 +53,7 @@ rearranged ls o trees s mem t t' pos p now are known sd slots still unfilled sam
   shows = sd.shows;
   hand = sd.hand;
   slots = slots;
-  bundles = grown (length o.calls) pos p now (bundles_in s) (bundles_in s) (record { more = []; all = refl; own = same }) sd.bundles;
+  bundles = grown (length o.calls) pos p now (bundles_in s) (bundles_in s) (record { more = []; all = refl; own = same }) (inl refl) sd.bundles;
   holds = holds;
   laid_is = laid_is;
 }

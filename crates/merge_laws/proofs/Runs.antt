@@ -73,7 +73,7 @@ starts ls o trees = record {
     laid_is = λ h in_h. sym (over-none (length o.calls) (λ p. None) None (λ q l. refl));
     may = λ p i. tt;
   };
-  bundles = record { own = λ p. []; each = λ p i. refl; merged = nothing_made };
+  bundles = record { own = λ p. []; each = λ p i. refl; none_else = λ p i. refl; merged = nothing_made };
   holds = λ p i. record { stands = record { lines = refl; replies = refl; beside = refl; run = record { call = refl; guest = refl } }; due = tt };
   laid_is = λ r in_r. sym (laid-none (length o.calls) (λ p. []) (λ q. 0) r (λ q l. refl));
 }
@@ -150,6 +150,7 @@ ends-so ls o trees s u ends th =
         bundles = record {
           own = th.stands.bundles.own;
           each = λ p i. th.stands.bundles.each p i ∙ ap (λ (w : WordLp). w.beside.bundles) (left p i).2;
+          none_else = th.stands.bundles.none_else;
           merged = th.stands.bundles.merged;
         };
       },

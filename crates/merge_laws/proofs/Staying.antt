@@ -81,6 +81,8 @@ row-controls o me (call.MngAddcx u page) w p t v la ps x =
     let same : length (w.tds.controls t) ≡ length (w.tds.controls u) = ap (λ (z : ℕ). length (w.tds.controls z)) e in
     omega (arith, room, two, same)) in
     rw off refl
+row-controls o me (call.ExportTrack u slot zero) w p t v la ps x = refl
+row-controls o me (call.ExportTrack u slot (suc start)) w p t v la ps x = refl
 row-controls o me _ w p t v la ps x = refl
 
 -- nor does a guest's operation

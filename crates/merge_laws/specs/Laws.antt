@@ -25,10 +25,11 @@ pub data AreMerged : (ℕ → List Made) → List Made → Type 0 where
   nothing_made : AreMerged (λ p. []) []
   more_made : (own : ℕ → List Made) (all : List Made) (p : ℕ) (bundles : List Made) → AreMerged own all → AreMerged (put own p (own p ++ bundles)) (all ++ bundles)
 
--- all bundles are those that the first n processors made
+-- all bundles are those that the first n processors made, and no other made one
 pub record AreBundlesOf (n : ℕ) (now : ℕ → WordLp) (all : List Made) : Type 0 where
   pub own : ℕ → List Made
   pub each : (p : ℕ) → p < n → own p ≡ (now p).beside.bundles
+  pub none_else : (p : ℕ) → n ≤ p → own p ≡ []
   pub merged : AreMerged own all
 
 -- and each processor is where the state says: the lines that are left, the replies, the guest, the translations, the notes

@@ -16,7 +16,7 @@ use Rattle.flat_core.specs.Table.{row_of}
 use Rattle.word_rules.specs.Guards.{Guard, Locked, Role, Grip, MeetsAll}
 use Rattle.word_rules.specs.Rules.{Unused}
 use Rattle.word_rules.specs.Views.{no_page}
-use Rattle.word_rules.specs.Uses.{Use, HeadPage, HeadTdr, HeadOp, Taken, GivenBack, HostRead, HostWrite, PageRdmd, CacheWb, Reclaim, MngCreate, KeyConfig, Addcx, MngInit, MngRdLife, MngRdOp, MngRdEpoch, VpFlushDone, KeyFreeid, MrExtend, MrFinalize, VpCreate, VpInit, VpEnter, Enters, SeptAdd, SeptRd, PageAdd, PageAddPages, TakesPage, ReclaimsControl, ReclaimsRest, AddsEntry, ChangesOp, BeginsEpochs, GivesHkid, FreesHkid, line_of, PageAug, BlockNoted, BlockTested, VpFlush, SeptRemove, PageRemove, RangeBlock, RangeUnblock, Track, GivesPageBack, GivesNodeBack, Tracks, ExportStreamCreate, ExportBlockWrite, ExportBlockWriteEntry, ExportUnblockWrite, ExportPause, ExportAbort, ExportRestore}
+use Rattle.word_rules.specs.Uses.{Use, HeadPage, HeadTdr, HeadOp, Taken, GivenBack, HostRead, HostWrite, PageRdmd, CacheWb, Reclaim, MngCreate, KeyConfig, Addcx, MngInit, MngRdLife, MngRdOp, MngRdEpoch, VpFlushDone, KeyFreeid, MrExtend, MrFinalize, VpCreate, VpInit, VpEnter, Enters, SeptAdd, SeptRd, PageAdd, PageAddPages, TakesPage, ReclaimsControl, ReclaimsRest, AddsEntry, ChangesOp, BeginsEpochs, GivesHkid, FreesHkid, line_of, PageAug, BlockNoted, BlockTested, VpFlush, SeptRemove, PageRemove, RangeBlock, RangeUnblock, Track, GivesPageBack, GivesNodeBack, Tracks, ExportStreamCreate, ExportBlockWrite, ExportBlockWriteEntry, ExportUnblockWrite, ExportPause, ExportAbort, ExportRestore, ExportImmutable, ExportTokens, ExportTdState, ExportVpState}
 use Rattle.word_rules.specs.Spots.{guard_at}
 
 -- the locks of a row's tries are held, each in its mode
@@ -105,6 +105,10 @@ uses_of w (call.ExportUnblockw tdr gpa) = td_uses tdr ++ of_td tdr ExportUnblock
 uses_of w (call.ExportPause tdr) = td_uses tdr ++ of_td tdr ExportPause ∷ of_td tdr ChangesOp ∷ []
 uses_of w (call.ExportAbort tdr) = td_uses tdr ++ of_td tdr ExportAbort ∷ of_td tdr ChangesOp ∷ []
 uses_of w (call.ExportRestore tdr gpa) = td_uses tdr ++ of_td tdr ExportRestore ∷ []
+uses_of w (call.ExportStateImmutable tdr slot) = td_uses tdr ++ of_td tdr ExportImmutable ∷ of_td tdr ChangesOp ∷ []
+uses_of w (call.ExportTrack tdr slot start) = td_uses tdr ++ of_td tdr ExportTokens ∷ of_td tdr ChangesOp ∷ []
+uses_of w (call.ExportStateTd tdr slot) = td_uses tdr ++ of_td tdr ExportTdState ∷ []
+uses_of w (call.ExportStateVp tdr vp slot) = td_uses tdr ++ of_page vp HeadPage ∷ of_both tdr vp ExportVpState ∷ []
 
 -- the locks that are written of a use are had, as its TD and its page name them
 abbrev pub guards_of : CallUse → Role → Guard

@@ -232,10 +232,10 @@ line_of ExportMemoryPaused = under (Sole Named ∷ tree_epoch) (loads (LeafEntry
 line_of ExportMemoryStream = under (Sole Own ∷ with_tree) (bumps StreamWord)
 line_of ExportMemoryWordsPaused = under (Sole Own ∷ with_tree) (loads (GuestWord false) ∷ [])
 line_of ExportMemoryWords = under (Clear Change ∷ Sole Own ∷ op_held) (loads (GuestWord true) ∷ [])
-line_of ExportTokens = under (Sole Tree ∷ op_alone) (loads DirtyWord ∷ loads TdcsWord ∷ acts TdcsWord ∷ bumps StreamWord)
+line_of ExportTokens = under (Sole Tree ∷ op_alone) (loads DirtyWord ∷ acts TdcsWord ∷ (bumps TdcsWord ++ bumps StreamWord))
 line_of ExportPause = under (Sole Tree ∷ op_alone) (acts TdcsWord ∷ [])
-line_of ExportTdState = under op_alone (loads RtmrWord ∷ acts TdcsWord ∷ bumps StreamWord)
-line_of ExportVpState = under vp_td_alone (loads VcpuWord ∷ acts VcpuWord ∷ still VcpuWord ∷ (bumps TdcsWord ++ bumps StreamWord))
+line_of ExportTdState = under op_alone (loads RtmrWord ∷ loads TdcsWord ∷ acts TdcsWord ∷ bumps StreamWord)
+line_of ExportVpState = under vp_td_alone (loads VcpuWord ∷ acts VcpuWord ∷ (bumps TdcsWord ++ bumps StreamWord))
 line_of ExportAbort = under (Sole Tree ∷ op_alone) (loads TdcsWord ∷ loads StreamWord ∷ acts TdcsWord ∷ [])
 line_of ExportRestore = under with_tree_alone (loads UpperEntry ∷ loads (LeafEntry true) ∷ acts (LeafEntry true) ∷ bumps DirtyWord)
 -- calls of a migration's destination
