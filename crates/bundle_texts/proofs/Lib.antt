@@ -4,3 +4,4 @@ pub mod Sizes
 pub mod Words
 pub mod Sealing
 pub mod Again
+pub mod Fits

@@ -4,9 +4,9 @@ ghost use Rattle.std.specs.Prelude.{◌≡◌, ◌≤◌, ℕ, List, map, length
 ghost use Rattle.bundle_texts.specs.Sealed.{sealed, HoldKeys};
 ghost use Rattle.bundle_texts.specs.Ordered.{in_slot_order, FitContainer, container_text};
 
-use crate::bundles::Bundle;
 use crate::seals::seal;
 use bundle_store::write_container;
+use bundles::Bundle;
 use gcm_seal::Keys;
 use std::alloc::Global;
 use td_words::{OutOfMemory, SlotBundle};
@@ -15,10 +15,10 @@ use td_words::{OutOfMemory, SlotBundle};
 pub fn container_of(
     alloc: Global,
     keys: &Keys,
-    bundles: Vec<Bundle>,
+    bundles: Vec<Bundle<'_>>,
 ) -> Result<Vec<u8>, OutOfMemory>
     requires { FitContainer bundles.items }
-    ensures { (forward backward : List ℕ) → HoldKeys keys.now forward backward → IfOk result (λ v. v.items ≡ container_text forward backward bundles.items) }
+    ensures { (forward backward : List ℕ) → HoldKeys keys.now forward backward → IfOk result (λ v. v.items ≡ container_text forward backward bundles.entry.items) }
 {
     let bundles = in_slot_order(bundles);
     let sealed = seal_each(alloc, keys, &bundles)?;
@@ -26,9 +26,9 @@ pub fn container_of(
 }
 
 /// The bundles in the order of their slots.
-fn in_slot_order(bundles: Vec<Bundle>) -> Vec<Bundle>
+fn in_slot_order<'a>(bundles: Vec<Bundle<'a>>) -> Vec<Bundle<'a>>
     requires { FitContainer bundles.items }
-    ensures { result.items ≡ in_slot_order bundles.items }
+    ensures { result.items ≡ in_slot_order bundles.entry.items }
 {
     let mut sorted = bundles;
     sorted.sort_unstable_by_key(|b| b.slot);
@@ -36,7 +36,11 @@ fn in_slot_order(bundles: Vec<Bundle>) -> Vec<Bundle>
 }
 
 /// Seals each of the bundles.
-fn seal_each(alloc: Global, keys: &Keys, bundles: &[Bundle]) -> Result<Vec<SlotBundle>, OutOfMemory>
+fn seal_each(
+    alloc: Global,
+    keys: &Keys,
+    bundles: &[Bundle<'_>],
+) -> Result<Vec<SlotBundle>, OutOfMemory>
     requires { All (λ m. length m.payload ≤ 512) bundles.now }
     ensures sealed { (forward backward : List ℕ) → HoldKeys keys.now forward backward → IfOk result (λ v. v.items ≡ map (sealed forward backward) bundles.now) }
     ensures slots { IfOk result (λ v. map (λ b. b.slot) v.items ≡ map (λ m. m.slot) bundles.now) }

@@ -7,12 +7,10 @@
 //! memory can keep a call from its answer.
 #![tactic(auto)]
 
-mod bundles;
 mod containers;
 mod laws;
 mod seals;
 
-pub use bundles::Bundle;
 pub use containers::container_of;
 pub use laws::bundles_read_again;
 pub use seals::seal;

@@ -6,15 +6,15 @@ ghost use Rattle.flat_core.specs.Digests.{digest_bytes as word_bytes};
 ghost use Rattle.aes_block.specs.Planes.{HasKey};
 ghost use Rattle.bundle_texts.specs.Sealed.{iv_bytes, key_of, sealed, HoldKeys};
 
-use crate::bundles::Bundle;
 use aes_block::Aes256;
 use bundle_format::{BundleKind, head};
+use bundles::Bundle;
 use gcm_seal::{Keys, seal_in_place};
 use std::alloc::{AllocError, Global};
 use td_words::{Header, OutOfMemory, SlotBundle};
 
 /// Seals a bundle. No two of one stream, session and iv may ever be sealed under one key.
-pub fn seal(alloc: Global, keys: &Keys, bundle: &Bundle) -> Result<SlotBundle, OutOfMemory>
+pub fn seal(alloc: Global, keys: &Keys, bundle: &Bundle<'_>) -> Result<SlotBundle, OutOfMemory>
     requires { length bundle.now.payload ≤ 512 }
     ensures sealed { (forward backward : List ℕ) → HoldKeys keys.now forward backward → IfOk result (λ b. b ≡ sealed forward backward bundle.now) }
     ensures slot { IfOk result (λ b. b.slot ≡ bundle.now.slot) }
@@ -30,12 +30,12 @@ pub fn seal(alloc: Global, keys: &Keys, bundle: &Bundle) -> Result<SlotBundle, O
 }
 
 /// Bytes 0 to 47, the tag, and the sealed payload.
-fn sealed_bytes(alloc: Global, keys: &Keys, bundle: &Bundle) -> Result<Vec<u8>, AllocError>
+fn sealed_bytes(alloc: Global, keys: &Keys, bundle: &Bundle<'_>) -> Result<Vec<u8>, AllocError>
     requires { length bundle.now.payload ≤ 512 }
     ensures sealed { (forward backward : List ℕ) → HoldKeys keys.now forward backward → IfOk result (λ v. v.items ≡ (sealed forward backward bundle.now).bytes) }
     ensures size { IfOk result (λ v. length v.items ≤ 131072) }
 {
-    let mut payload = bytes_of(alloc, &bundle.payload)?;
+    let mut payload = bytes_of(alloc, bundle.payload)?;
     let head = head(&bundle.header);
     let iv = iv_of(&bundle.header);
     let key = key_of(keys, &bundle.header);

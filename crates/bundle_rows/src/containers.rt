@@ -4,7 +4,8 @@ ghost use Rattle.bundle_texts.specs.Ordered.{FitContainer};
 use aes_block::Aes256;
 use bundle_format::BundleKind;
 use bundle_store::read_container;
-use bundle_texts::{Bundle, container_of};
+use bundle_texts::container_of;
+use bundles::Bundle;
 use gcm_seal::Keys;
 use hex::FromHex;
 use std::alloc::{AllocError, Global};
@@ -75,26 +76,31 @@ fn header(kind: BundleKind, stream: u16, counter: u32, epoch: u32, session: u16)
     }
 }
 
-/// That bundle, with a payload of the first `count` multiples of a number, modulo 2^64.
-fn bundle(alloc: Global, slot: u16, header: Header, count: usize) -> Result<Bundle, AllocError>
-    requires { count ≤ 512 }
-    ensures { IfOk result (λ b. (b.slot ≡ slot) × (length b.payload ≤ 512)) }
-{
-    let mut payload = Vec::new(alloc);
+/// The first 512 multiples of a number, modulo 2^64.
+fn multiples() -> [u64; 512] {
+    let mut words = [0u64; 512];
     let mut word = 0u64;
-    for _ in 0..count {
+    for place in words.iter_mut() {
         word = word.wrapping_add(0x0123_4567_89ab_cdef);
-        payload.push(word)?;
+        *place = word;
     }
-    Ok(Bundle {
+    words
+}
+
+/// That bundle, with a payload of the first `count` of these words.
+fn bundle<'a>(slot: u16, header: Header, words: &'a [u64; 512], count: usize) -> Bundle<'a>
+    requires { count ≤ 512 }
+    ensures { (result.slot ≡ slot) × (length result.payload ≤ 512) }
+{
+    Bundle {
         slot,
         header,
-        payload,
-    })
+        payload: &words[..count],
+    }
 }
 
 /// The four bundles, out of the order of their slots.
-fn four(alloc: Global) -> Result<Vec<Bundle>, AllocError>
+fn four<'a>(alloc: Global, words: &'a [u64; 512]) -> Result<Vec<Bundle<'a>>, AllocError>
     ensures { IfOk result (λ v. FitContainer v.items) }
 {
     let state = Header {
@@ -111,10 +117,10 @@ fn four(alloc: Global) -> Result<Vec<Bundle>, AllocError>
     };
     let abort = header(BundleKind::AbortToken, 0, 0, 0, 0xffff);
     let mut bundles = Vec::new(alloc);
-    bundles.push(bundle(alloc, 4095, state, 6)?)?;
-    bundles.push(bundle(alloc, 7, page, 512)?)?;
-    bundles.push(bundle(alloc, 300, start, 0)?)?;
-    bundles.push(bundle(alloc, 0, abort, 0)?)?;
+    bundles.push(bundle(4095, state, words, 6))?;
+    bundles.push(bundle(7, page, words, 512))?;
+    bundles.push(bundle(300, start, words, 0))?;
+    bundles.push(bundle(0, abort, words, 0))?;
     Ok(bundles)
 }
 
@@ -140,7 +146,8 @@ fn seals_bundles_in_the_order_of_their_slots(rt: HostRuntime) -> Result<(), Fail
         forward: Aes256::new(&forward),
         backward: Aes256::new(&backward),
     };
-    let text = container_of(alloc, &keys, four(alloc)?)?;
+    let words = multiples();
+    let text = container_of(alloc, &keys, four(alloc, &words)?)?;
     let bundles = read_container(alloc, &text)?;
     assert_eq!(rt; bundles.len(), SEALED.len());
     for (bundle, wanted) in bundles.iter().zip(SEALED.iter()) {

@@ -4,19 +4,19 @@ use std::marker::Model;
 use td_words::Header;
 
 /// A bundle before it is sealed: its slot, 0 to 4,095; its header, whose tag is left out of account; and
-/// the words of its payload.
+/// the words of its payload, which stand elsewhere.
 #[derive(Drop)]
-pub struct Bundle {
+pub struct Bundle<'a> {
     pub slot: u16,
     pub header: Header,
-    pub payload: Vec<u64>,
+    pub payload: &'a [u64],
 }
 
-impl Model for Bundle {
+impl<'a> Model for Bundle<'a> {
     ghost use Rattle.flat_core.specs.World.{Made};
     ghost use Rattle.flat_core.specs.Opening.{clear_header};
 
     ghost Value = { Made };
 
-    ghost view = { λ b. record { slot = b.slot; header = clear_header b.header; payload = b.payload.items } };
+    ghost view = { λ b. record { slot = b.slot; header = clear_header b.header; payload = b.payload.now } };
 }
