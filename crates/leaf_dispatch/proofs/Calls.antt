@@ -48,6 +48,10 @@ use Rattle.td_control.specs.ReadMeanings.{read-means}
 use Rattle.key_table.specs.FlushMeanings.{flush-means}
 use Rattle.key_table.specs.EndMeanings.{free-means}
 use Rattle.td_control.specs.FinalMeanings.{finalize-means}
+use Rattle.export_sessions.specs.SessionMeanings.{immutable-means}
+use Rattle.export_tokens.specs.TokenMeanings.{token-means}
+use Rattle.export_states.specs.TdStateMeanings.{td_state-means}
+use Rattle.export_states.specs.VpStateMeanings.{vp_state-means}
 use Rattle.vcpu_control.specs.VpMeanings.{vp_create-means, vp_init-means}
 use Rattle.mem_build.specs.SeptAddMeanings.{sept_add-means}
 use Rattle.mem_build.specs.SeptReadMeanings.{sept_read-means}
@@ -93,6 +97,10 @@ of-place p (call.ExportUnblockw tdr gpa) = refl
 of-place p (call.ExportPause tdr) = refl
 of-place p (call.ExportAbort tdr) = refl
 of-place p (call.ExportRestore tdr gpa) = refl
+of-place p (call.ExportStateImmutable tdr slot) = refl
+of-place p (call.ExportTrack tdr slot start) = refl
+of-place p (call.ExportStateTd tdr slot) = refl
+of-place p (call.ExportStateVp tdr vp slot) = refl
 of-place p (call.MrExtend tdr gpa) = refl
 
 pub of-row : (o : Opening) (p : ℕ) (c : Call) → (task_of (record { machine = o.machine; lp = p }) c).meaning ≡ OfCall (row_of o p c)
@@ -128,6 +136,10 @@ of-row o p (call.ExportUnblockw tdr gpa) = refl
 of-row o p (call.ExportPause tdr) = refl
 of-row o p (call.ExportAbort tdr) = refl
 of-row o p (call.ExportRestore tdr gpa) = refl
+of-row o p (call.ExportStateImmutable tdr slot) = refl
+of-row o p (call.ExportTrack tdr slot start) = refl
+of-row o p (call.ExportStateTd tdr slot) = refl
+of-row o p (call.ExportStateVp tdr vp slot) = refl
 of-row o p (call.MrExtend tdr gpa) = refl
 
 -- no call that has a leaf enters a guest
@@ -164,6 +176,10 @@ means p (call.ExportUnblockw tdr gpa) m = unblock_write-means p tdr gpa m
 means p (call.ExportPause tdr) m = pause-means p tdr
 means p (call.ExportAbort tdr) m = abort-means p tdr
 means p (call.ExportRestore tdr gpa) m = restore-means p tdr gpa m
+means p (call.ExportStateImmutable tdr slot) m = immutable-means p tdr slot
+means p (call.ExportTrack tdr slot start) m = token-means p tdr slot start
+means p (call.ExportStateTd tdr slot) m = td_state-means p tdr slot
+means p (call.ExportStateVp tdr vp slot) m = vp_state-means p tdr vp slot (let few = m.pages.1 in omega arith)
 means p (call.MrExtend tdr gpa) m = extend-means p tdr gpa m
 
 -- steps of guests

@@ -126,16 +126,16 @@ module _ (codes : ℕ → ℕ → List GuestOp) (c : Call) (cs : List Call) (lin
       omega (arith, lower)
 
   loads : (access : Access) (gpa level page : ℕ) → step_of codes b.cached g ≡ Loads access gpa level page → level ≤ 3 → (x : Reply) → step_fits (Loads access gpa level page) x ≡ true
-      → b'.cached ≡ (beside_by (step_ends t n (Loads access gpa level page)).answer (Some x) b).cached → t ≡ g.tdr → (reply : Option Reply) → reply ≡ Some x → Fewer (Loads access gpa level page) reply
+      → b'.cached ≡ (beside_by (step_ends t n (Loads access gpa level page)).answer [] (Some x) b).cached → t ≡ g.tdr → (reply : Option Reply) → reply ≡ Some x → Fewer (Loads access gpa level page) reply
   loads access gpa level page is low (Done (value.Number seen)) fits cached tdr None e = cc
   loads access gpa level page is low (Done (value.Number seen)) fits cached tdr (Some y) e =
       let due : WalkDue codes b.cached g access gpa level = walk-due codes b.cached g access gpa level page is in
       let lower = loaded-lower codes b.cached g access gpa level page is due low seen in
       let same : y ≡ Done (value.Number seen) = cc in
-      more y same (subst (λ (z : ℕ). b'.cached ≡ (beside_by (step_ends z n (Loads access gpa level page)).answer (Some (Done (value.Number seen))) b).cached) tdr cached) lower
+      more y same (subst (λ (z : ℕ). b'.cached ≡ (beside_by (step_ends z n (Loads access gpa level page)).answer [] (Some (Done (value.Number seen))) b).cached) tdr cached) lower
     where
-      more : (y : Reply) → y ≡ Done (value.Number seen) → b'.cached ≡ (beside_by (step_ends g.tdr n (Loads access gpa level page)).answer (Some (Done (value.Number seen))) b).cached
-          → guest_left codes (beside_by (step_ends g.tdr n (Loads access gpa level page)).answer (Some (Done (value.Number seen))) b).cached (loaded access gpa level (Done (value.Number seen)) g) < guest_left codes b.cached g
+      more : (y : Reply) → y ≡ Done (value.Number seen) → b'.cached ≡ (beside_by (step_ends g.tdr n (Loads access gpa level page)).answer [] (Some (Done (value.Number seen))) b).cached
+          → guest_left codes (beside_by (step_ends g.tdr n (Loads access gpa level page)).answer [] (Some (Done (value.Number seen))) b).cached (loaded access gpa level (Done (value.Number seen)) g) < guest_left codes b.cached g
           → Fewer (Loads access gpa level page) (Some y)
       more y same at lower = rw (same, at) (omega (arith, lower))
   loads access gpa level page is low _ fits cached tdr reply e = cc
@@ -151,17 +151,17 @@ module _ (codes : ℕ → ℕ → List GuestOp) (c : Call) (cs : List Call) (lin
 
   -- whatever the step is
   pub step-fewer : (s : Step) → step_of codes b.cached g ≡ s → Counts g s → IsLowStep s → t ≡ g.tdr → run_used g.run ≡ stage_used run.stage (length run.held) → (step_tries s ≡ 0 → run.stage ≡ stages.Trying) → Gives (step_ends t n s) run stands ev
-      → b'.cached ≡ (beside_by (step_ends t n s).answer (act_of ev stands.stage) b).cached → (reply : Option Reply) → reply ≡ last_reply stands.stage stands.held → Fewer s reply
+      → b'.cached ≡ (beside_by (step_ends t n s).answer [] (act_of ev stands.stage) b).cached → (reply : Option Reply) → reply ≡ last_reply stands.stage stands.held → Fewer s reply
   step-fewer (Operates o) is counts low tdr used first gives cached reply e = operates used o is counts gives (cached ∙ stays (act_of ev stands.stage)) reply e
     where
-      stays : (act : Option Reply) → (beside_by (step_ends t n (Operates o)).answer act b).cached ≡ b.cached
+      stays : (act : Option Reply) → (beside_by (step_ends t n (Operates o)).answer [] act b).cached ≡ b.cached
       stays None = refl
       stays (Some r) = cached-stays t n o r b.cached
   step-fewer (Accesses access r gpa page) is counts low tdr used first gives cached reply e =
       let x = once (Accesses access r gpa page) gives refl (first refl) reply e in accesses access r gpa page is counts reply x.0 x.2
   step-fewer (Loads access gpa level page) is counts low tdr used first gives cached reply e =
       let x = once (Loads access gpa level page) gives refl (first refl) reply e in
-      loads access gpa level page is low x.0 x.3 (cached ∙ ap (λ (a : Option Reply). (beside_by (step_ends t n (Loads access gpa level page)).answer a b).cached) x.1) tdr reply x.2
+      loads access gpa level page is low x.0 x.3 (cached ∙ ap (λ (a : Option Reply). (beside_by (step_ends t n (Loads access gpa level page)).answer [] a b).cached) x.1) tdr reply x.2
   step-fewer (Leaves out) is counts low tdr used first gives cached reply e =
       let x = once (Leaves out) gives refl (first refl) reply e in leaves out reply x.0 x.2
 

@@ -3,15 +3,14 @@ use Rattle.std.proofs.Common.{◌≡◌, ◌∙◌, ℕ, zero, suc, ◌+◌, ◌
 use Rattle.std.specs.Prelude.{nat_lt}
 use Rattle.std.proofs.lemmas.Bool.{ltb-false, ltb-true}
 use Rattle.td_words.specs.Seen.{CodeSeen}
-use Rattle.td_words.specs.declared.names.Access.TheVariants.{Read}
 use Rattle.td_words.specs.declared.calls.Call.{Call}
-use Rattle.td_words.specs.declared.calls.GuestOp.TheVariants as op
 use Rattle.td_words.specs.declared.refusals.Status.TheVariants.{OperandBusy}
 use Rattle.td_words.specs.declared.replies.Outcome.{Outcome}
 use Rattle.td_words.specs.declared.replies.Outcome.TheVariants.{Vmcall}
 use Rattle.td_words.specs.declared.replies.Value.TheVariants as value
 use Rattle.td_words.specs.declared.replies.Reply.{Reply}
 use Rattle.td_words.specs.declared.replies.Reply.TheVariants.{Done, Refused, Exited}
+use Rattle.flat_core.specs.World.{Made}
 use Rattle.flat_core.specs.Processor.{Translation, Note}
 use Rattle.step_core.specs.declared.items.Taken.{Taken}
 use Rattle.leaf_engine.specs.declared.needs.Place.{Place}
@@ -51,16 +50,6 @@ longest-holds (c ∷ cs) t i = (let rest = longest-holds cs t i in by (c.tdr == 
     by true false e rest = omega arith
     by false true e rest = rest
     by false false e rest = (let more = ltb-false (length c.ops) (longest_in cs) e in omega (arith, more, rest))
-
--- no step makes a bundle
-no-bundles : (t n : ℕ) (s : Step) (r : Reply) → (step_answer t n s r).bundles ≡ []
-no-bundles t n (Operates (op.Load r gpa)) (Done (value.Number x)) = refl
-no-bundles t n (Operates (op.Store r gpa)) (Done (value.Number x)) = refl
-no-bundles t n (Operates (op.Rtmr i)) (Done (value.Digest bytes)) = refl
-no-bundles t n (Operates (op.Vmcall r)) (Exited (Vmcall x)) = refl
-no-bundles t n (Accesses Read r gpa page) (Done (value.Number x)) = refl
-no-bundles t n (Loads access gpa level page) (Done (value.Number x)) = refl
-no-bundles t n s r = refl
 
 -- the load of an entry, and the exit, note and tell nothing
 abbrev pub MakesNone : Step → ℕ → Type 0
@@ -156,7 +145,7 @@ guest-alone : (h : Option GuestAt) (k : Option Running) → run_seen k ≡ None 
 guest-alone None k e = refl
 guest-alone (Some g) k e = ap (λ (run : Option Standing). Some (guest_seen g run)) e
 
-module _ (p : Place) (secrets : ℕ → ℕ) (codes : List CodeSeen) (c : Call) (cs : List Call) (r : Running) (g : GuestAt) (step : Option Running) (ts us : List Translation) (rs : List Reply) (notes : List Note) (told : List ℕ) where
+module _ (p : Place) (secrets : ℕ → ℕ) (codes : List CodeSeen) (c : Call) (cs : List Call) (r : Running) (g : GuestAt) (step : Option Running) (ts us : List Translation) (rs : List Reply) (notes : List Note) (told : List ℕ) (ms : List Made) where
   abbrev pub at_line : ℕ
   at_line = length rs + 1
 
@@ -164,7 +153,7 @@ module _ (p : Place) (secrets : ℕ → ℕ) (codes : List CodeSeen) (c : Call) 
   x = guest_seen g (run_seen step)
 
   abbrev besides : Beside
-  besides = record { cached = ts; notes = notes; told = told; bundles = [] }
+  besides = record { cached = ts; notes = notes; told = told; bundles = ms }
 
   abbrev pub before : WordLp
   before = record { lines = c ∷ cs; run = Some (standing_of r); guest = Some x; replies = rs; beside = besides }
@@ -182,13 +171,13 @@ module _ (p : Place) (secrets : ℕ → ℕ) (codes : List CodeSeen) (c : Call) 
       run = line_then s result.reply (Some (standing_of r));
       guest = guest_in h kept;
       replies = rs;
-      beside = record { cached = us; notes = added notes (notes_by ends.answer result.act); told = added told (tells_by ends.answer result.act); bundles = [] };
+      beside = record { cached = us; notes = added notes (notes_by ends.answer result.act); told = added told (tells_by ends.answer result.act); bundles = ms };
     }
 
-    module _ (is : next_in ts g None ≡ s) (inside : IsGuestKept p.machine codes ts at_line g step) (counts : CanCount g s) (low : IsStepOf s) (t : LeafTurned did p.machine ends was bench kept result)
+    module _ (is : next_in ts g None ≡ s) (inside : IsGuestKept p.machine codes ts at_line g step) (counts : CanCount g s) (low : IsStepOf s) (t : LeafTurned did p.machine ends was bench kept result [])
         (cached : us ≡ cached_by ends.answer result.act ts) (next : IsNextGuest g s result.reply h) where
       gives : Gives ends was t.stands result.event
-      gives = line-gives did bench p.machine ends was kept result t
+      gives = line-gives did bench p.machine ends was kept result [] t
 
       step-at : step_of (code_in codes) ts x ≡ s
       step-at = run-same (code_in codes) ts (guest_seen g None) (run_seen step) ∙ (step-is (code_in codes) ts g None inside.list ∙ is)
@@ -220,12 +209,8 @@ module _ (p : Place) (secrets : ℕ → ℕ) (codes : List CodeSeen) (c : Call) 
       at-once : step_tries s ≡ 0 → (z : Reply) × (result.reply ≡ Some z)
       at-once none = (let e = gives.once none (first none) in (e.0, t.turned.2.reply ∙ e.2))
 
-      besides-are : turned.beside ≡ beside_by ends.answer result.act besides
-      besides-are = ap (λ (ys : List Translation). record { cached = ys; notes = added notes (notes_by ends.answer result.act); told = added told (tells_by ends.answer result.act); bundles = [] }) cached ∙ by result.act
-        where
-          by : (act : Option Reply) → record { cached = cached_by ends.answer act ts; notes = added notes (notes_by ends.answer act); told = added told (tells_by ends.answer act); bundles = [] } ≡ beside_by ends.answer act besides
-          by None = refl
-          by (Some z) = ap (λ (ms : List _). record { cached = (ends.answer z).cached ts; notes = added notes (ends.answer z).notes; told = added told (ends.answer z).tells; bundles = added [] ms }) (sym (no-bundles g.tdr at_line s z))
+      besides-are : turned.beside ≡ beside_by ends.answer [] result.act besides
+      besides-are = ap (λ (ys : List Translation). record { cached = ys; notes = added notes (notes_by ends.answer result.act); told = added told (tells_by ends.answer result.act); bundles = ms }) cached
 
       after : turned ≡ after_step c cs (standing_of r) x rs turned.beside s t.stands result.reply
       after = by result.reply next t.seen
@@ -241,11 +226,7 @@ module _ (p : Place) (secrets : ℕ → ℕ) (codes : List CodeSeen) (c : Call) 
       fewer =
           subst (λ (q : WordLp). events_left (code_in codes) q < events_left (code_in codes) before) (sym after)
           (step-fewer (code_in codes) c cs (standing_of r) x rs besides turned.beside g.tdr at_line was t.stands result.event s step-at counted (low-step s low) refl used first gives
-          (cached ∙ (by result.act ∙ ap (λ (a : Option Reply). (beside_by ends.answer a besides).cached) t.act_is)) result.reply t.turned.2.reply)
-        where
-          by : (act : Option Reply) → cached_by ends.answer act ts ≡ (beside_by ends.answer act besides).cached
-          by None = refl
-          by (Some z) = refl
+          (cached ∙ ap (λ (a : Option Reply). cached_by ends.answer a ts) t.act_is) result.reply t.turned.2.reply)
 
       pub guest-moved : TurnsInPieces → gives_epoch_back r.run.held.items ≡ false → Moved secrets (code_in codes) did bench p before turned result.event
       guest-moved law back =
@@ -291,7 +272,7 @@ module _ (p : Place) (secrets : ℕ → ℕ) (codes : List CodeSeen) (c : Call) 
           by (Operates o) same now within nil None e =
               let more = goes-room longest x now.0 now.1 (short within.1) ends was t.stands result.event made-before gives made few (λ no. none (t.act_is ∙ no)) in omega (arith, more)
           by (Operates o) same now within nil (Some z) e =
-              let fits : IfSome result.reply (λ w. IsReplyOf s w) = reply-fits did bench p.machine kept result g.tdr at_line s was t first result.reply refl in
+              let fits : IfSome result.reply (λ w. IsReplyOf s w) = reply-fits did bench p.machine kept result [] g.tdr at_line s was t first result.reply refl in
               let fit : IsReplyOf (Operates o) z = subst (λ (y : Step). IsReplyOf y z) (sym same) (subst (λ (w : Option Reply). IfSome w (λ w. IsReplyOf s w)) e fits) in
               let more = operated-room longest x now.0 now.1 (short within.1) z fit in
               let once = made-once made few none in

@@ -3,9 +3,11 @@ use Rattle.std.proofs.Common.{◌≡◌, ◌∙◌, ℕ, ◌-◌, false, List, [
 use Rattle.td_words.specs.declared.machines.Machine.{Machine}
 use Rattle.td_words.specs.declared.calls.Call.{Call}
 use Rattle.td_words.specs.declared.replies.Reply.{Reply}
+use Rattle.flat_core.specs.World.{Made}
 use Rattle.step_core.specs.declared.items.Taken.{Taken}
 use Rattle.leaf_engine.specs.declared.events.Event.{Event}
 use Rattle.leaf_engine.specs.declared.events.HeldLock.{HeldLock}
+use Rattle.leaf_engine.specs.declared.events.RunTurn.{RunTurn}
 use Rattle.leaf_engine.specs.declared.events.Stage.{Stage}
 use Rattle.leaf_engine.specs.declared.events.Stage.TheVariants as stages
 use Rattle.leaf_engine.specs.Means.{Task}
@@ -13,7 +15,7 @@ use Rattle.leaf_engine.specs.Trees.{Tree, settle}
 use Rattle.leaf_engine.specs.Turns.{Standing, standing, CanRun, Turned, has_ended, last_reply}
 use Rattle.leaf_dispatch.specs.Leaves.{leaf_seen}
 use Rattle.leaf_dispatch.specs.Answers.{Ends, EndsAs, BeginsUnderOther, call_ends, act_of, FewTries, FitsStage, OldestIsOther}
-use Rattle.leaf_dispatch.specs.Running.{standing_of, run_seen, kept_after, turn_of, act_in, IsUnderWay, IsRunOf, IsRunAt, IsKept, CanTurn, HasTurned, LeafTurned}
+use Rattle.leaf_dispatch.specs.Running.{standing_of, run_seen, kept_after, turn_of, act_in, made_in_run, kept_until, IsUnderWay, IsRunOf, IsRunAt, IsKept, CanTurn, HasTurned, LeafTurned}
 use Rattle.leaf_dispatch.specs.declared.running.Running.{Running}
 use Rattle.leaf_dispatch.specs.declared.running.LeafTurn.{LeafTurn}
 use Rattle.leaf_dispatch.proofs.Lowering.{ends-fed, other-settled, Gives, turn-gives}
@@ -43,10 +45,10 @@ can-turn m e s (Some r) k = (k.1.machine, k.1.can_run, k.1.going)
 
 -- a turn of the run that is kept, by whether its reply has come
 
-kept-turned : {B : Type 0} (did : List Taken → B → Type 0) (bench : B) (m : Machine) (e : Ends) (s : Standing) (r r' : Running) (kept : Option Running) (result : LeafTurn)
-    → IsKept m e s (Some r) → HasTurned did m (Some r) bench (Some r') (turn_of result) → result.act ≡ act_of result.event r'.run.stage → run_seen kept ≡ kept_after result.reply (standing_of r') → IsRunOf m e kept
-    → LeafTurned did m e s bench kept result
-kept-turned did bench m e s r r' kept result k t act seen is = record {
+kept-turned : {B : Type 0} (did : List Taken → B → Type 0) (bench : B) (m : Machine) (e : Ends) (s : Standing) (r r' : Running) (kept : Option Running) (result : LeafTurn) (made : List Made)
+    → IsKept m e s (Some r) → HasTurned did m (Some r) bench (Some r') (turn_of result) → result.act ≡ act_of result.event r'.run.stage → made ≡ made_in_run (Some r') result.event → run_seen kept ≡ kept_after result.reply (standing_of r') → IsRunOf m e kept
+    → LeafTurned did m e s bench kept result made
+kept-turned did bench m e s r r' kept result made k t act adds seen is = record {
   going = subst (λ (z : Standing). has_ended z.stage z.held ≡ false) k.0 k.1.going;
   few_tries = subst (λ (z : Standing). FewTries e z) k.0 k.1.few_tries;
   fits = subst (λ (z : Standing). FitsStage e z.stage) k.0 k.1.fits;
@@ -54,25 +56,37 @@ kept-turned did bench m e s r r' kept result k t act seen is = record {
   stands = standing_of r';
   turned = subst (λ (z : Standing). Turned did m z bench (standing_of r') (turn_of result)) k.0 t.0;
   act_is = act;
+  made_is = adds;
   seen = seen;
   under_way = is;
 }
 
-pub run-goes-on : {B : Type 0} (did : List Taken → B → Type 0) (bench : B) (m : Machine) (e : Ends) (s : Standing) (kept kept' : Option Running) (result : LeafTurn)
-    → IsKept m e s kept → HasTurned did m kept bench kept' (turn_of result) → result.act ≡ act_in kept' result.event → result.reply ≡ None → LeafTurned did m e s bench kept' result
-run-goes-on did bench m e s None kept' result k t act none = elim k [ ]
-run-goes-on did bench m e s (Some r) None result k t act none = elim t [ ]
-run-goes-on did bench m e s (Some r) (Some r') result k t act none =
+run-goes-on : {B : Type 0} (did : List Taken → B → Type 0) (bench : B) (m : Machine) (e : Ends) (s : Standing) (kept kept' : Option Running) (result : LeafTurn) (made : List Made)
+    → IsKept m e s kept → HasTurned did m kept bench kept' (turn_of result) → result.act ≡ act_in kept' result.event → made ≡ made_in_run kept' result.event → result.reply ≡ None → LeafTurned did m e s bench kept' result made
+run-goes-on did bench m e s None kept' result made k t act adds none = elim k [ ]
+run-goes-on did bench m e s (Some r) None result made k t act adds none = elim t [ ]
+run-goes-on did bench m e s (Some r) (Some r') result made k t act adds none =
     let gives = turn-gives m e (standing_of r) (standing_of r') t.0.0 result.event k.1.few_tries k.1.fits k.1.oldest t.0.2.turn in
-    kept-turned did bench m e s r r' (Some r') result k t act (sym (ap (λ (z : Option Reply). kept_after z (standing_of r')) none))
+    kept-turned did bench m e s r r' (Some r') result made k t act adds (sym (ap (λ (z : Option Reply). kept_after z (standing_of r')) none))
     (still-under-way m e r r' result.event result.reply k.1 gives t.0.2.reply t.1 t.2 none)
 
-pub run-is-over : {B : Type 0} (did : List Taken → B → Type 0) (bench : B) (m : Machine) (e : Ends) (s : Standing) (kept kept' : Option Running) (result : LeafTurn) (reply : Reply)
-    → IsKept m e s kept → HasTurned did m kept bench kept' (turn_of result) → result.act ≡ act_in kept' result.event → result.reply ≡ Some reply → LeafTurned did m e s bench None result
-run-is-over did bench m e s None kept' result reply k t act some = elim k [ ]
-run-is-over did bench m e s (Some r) None result reply k t act some = elim t [ ]
-run-is-over did bench m e s (Some r) (Some r') result reply k t act some =
-    kept-turned did bench m e s r r' None result k t act (sym (ap (λ (z : Option Reply). kept_after z (standing_of r')) some)) tt
+run-is-over : {B : Type 0} (did : List Taken → B → Type 0) (bench : B) (m : Machine) (e : Ends) (s : Standing) (kept kept' : Option Running) (result : LeafTurn) (made : List Made) (reply : Reply)
+    → IsKept m e s kept → HasTurned did m kept bench kept' (turn_of result) → result.act ≡ act_in kept' result.event → made ≡ made_in_run kept' result.event → result.reply ≡ Some reply → LeafTurned did m e s bench None result made
+run-is-over did bench m e s None kept' result made reply k t act adds some = elim k [ ]
+run-is-over did bench m e s (Some r) None result made reply k t act adds some = elim t [ ]
+run-is-over did bench m e s (Some r) (Some r') result made reply k t act adds some =
+    kept-turned did bench m e s r r' None result made k t act adds (sym (ap (λ (z : Option Reply). kept_after z (standing_of r')) some)) tt
+
+-- whichever it is
+pub run-turned : {B : Type 0} (did : List Taken → B → Type 0) (bench : B) (m : Machine) (e : Ends) (s : Standing) (kept kept' kept'' : Option Running) (result : LeafTurn) (turn : RunTurn) (made : List Made)
+    → IsKept m e s kept → HasTurned did m kept bench kept' turn → turn_of result ≡ turn → result.act ≡ act_in kept' turn.event → made ≡ made_in_run kept' turn.event → kept'' ≡ kept_until turn.reply kept' → LeafTurned did m e s bench kept'' result made
+run-turned did bench m e s kept kept' kept'' result turn made k t same =
+    subst (λ (z : RunTurn). HasTurned did m kept bench kept' z → result.act ≡ act_in kept' z.event → made ≡ made_in_run kept' z.event → kept'' ≡ kept_until z.reply kept' → LeafTurned did m e s bench kept'' result made) same
+    (λ t act adds is. by t act adds result.reply refl is) t
+  where
+    by : HasTurned did m kept bench kept' (turn_of result) → result.act ≡ act_in kept' result.event → made ≡ made_in_run kept' result.event → (reply : Option Reply) → result.reply ≡ reply → kept'' ≡ kept_until reply kept' → LeafTurned did m e s bench kept'' result made
+    by t act adds None none is = subst (λ (z : Option Running). LeafTurned did m e s bench z result made) (sym is) (run-goes-on did bench m e s kept kept' result made k t act adds none)
+    by t act adds (Some r) some is = subst (λ (z : Option Running). LeafTurned did m e s bench z result made) (sym is) (run-is-over did bench m e s kept kept' result made r k t act adds some)
 
 -- what is kept, as the run of the first line
 
@@ -88,10 +102,6 @@ no-run-at m (c ∷ cs) (Some r) e = cc
 
 pub can-turn-at : (m n : Machine) (e : Ends) (s : Standing) (kept : Option Running) → n ≡ m → IsKept n e s kept → CanTurn m kept
 can-turn-at m n e s kept at k = subst (λ (z : Machine). CanTurn z kept) at (can-turn n e s kept k)
-
-pub turned-at : {B : Type 0} (did : List Taken → B → Type 0) (bench : B) (m n : Machine) (e : Ends) (s : Standing) (kept kept' : Option Running) (result : LeafTurn) → n ≡ m → IsKept n e s kept
-    → ((f : Ends) (x : Standing) → IsKept m f x kept → LeafTurned did m f x bench kept' result) → LeafTurned did n e s bench kept' result
-turned-at did bench m n e s kept kept' result at k h = subst (λ (z : Machine). LeafTurned did z e s bench kept' result) (sym at) (h e s (subst (λ (z : Machine). IsKept z e s kept) at k))
 
 -- a run at its first event
 

@@ -11,6 +11,8 @@ pub mod StepBounds
 pub mod Fewer
 pub mod Replying
 pub mod Rooming
+pub mod Making
+pub mod NoBundles
 pub mod Exiting
 pub mod Summing
 pub mod LineEvents

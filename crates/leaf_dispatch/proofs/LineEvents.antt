@@ -6,6 +6,7 @@ use Rattle.td_words.specs.declared.calls.Call.TheVariants as call
 use Rattle.td_words.specs.declared.replies.Reply.{Reply}
 use Rattle.td_words.specs.declared.replies.Reply.TheVariants.{Done, Refused, Exited}
 use Rattle.td_words.specs.declared.replies.Value.TheVariants as value
+use Rattle.flat_core.specs.World.{Made}
 use Rattle.flat_core.specs.Processor.{Translation, Note}
 use Rattle.flat_core.specs.Table.{most_tries, operation_events, guest_events}
 use Rattle.flat_core.specs.Run.{events_in}
@@ -14,7 +15,8 @@ use Rattle.leaf_engine.specs.declared.needs.Place.{Place}
 use Rattle.leaf_engine.specs.declared.events.HeldLock.{HeldLock}
 use Rattle.leaf_engine.specs.declared.events.Stage.{Stage}
 use Rattle.leaf_engine.specs.declared.events.Stage.TheVariants as stages
-use Rattle.leaf_engine.specs.Besides.{Beside, answered_by}
+use Rattle.leaf_engine.specs.Trees.{added}
+use Rattle.leaf_engine.specs.Besides.{Beside}
 use Rattle.leaf_engine.specs.Guests.{WordGuest, gives_epoch_back, guest_entered, or_else}
 use Rattle.leaf_engine.specs.Turns.{Standing, TurnBy}
 use Rattle.leaf_engine.specs.OwnLists.{TurnsInPieces, WordLp, running, after_turn, EnteredTurn}
@@ -31,23 +33,27 @@ use Rattle.leaf_dispatch.specs.declared.running.LeafTurn.{LeafTurn}
 use Rattle.leaf_dispatch.proofs.Lowering.{Gives}
 use Rattle.leaf_dispatch.proofs.Turning.{line-gives, line-moves, LineMoved, Moved, bound-before, none-begun, bound-after}
 use Rattle.leaf_dispatch.proofs.Fewer.{enters-fewer, releases-fewer}
+use Rattle.leaf_dispatch.proofs.Making.{room-before, less-stage}
 
--- a call answers its reply, and what it makes of the cached translations
-call-quiet : (c : Call) (r : Reply) (b : Beside) → answered_by (call_answer c r) b ≡ record b { cached = (call_answer c r).cached b.cached }
-call-quiet (call.VpEnter tdr vp most) (Done (value.Entered stale index position root)) b = refl
-call-quiet (call.VpEnter tdr vp most) (Done _) b = refl
-call-quiet (call.VpEnter tdr vp most) (Refused s) b = refl
-call-quiet (call.VpEnter tdr vp most) (Exited out) b = refl
-call-quiet (call.VpFlush tdr vp) (Done value.Nothing) b = refl
-call-quiet (call.VpFlush tdr vp) (Done _) b = refl
-call-quiet (call.VpFlush tdr vp) (Refused s) b = refl
-call-quiet (call.VpFlush tdr vp) (Exited out) b = refl
-call-quiet (call.HostRead page word) r b = refl
-call-quiet _ r b = refl
+-- a call answers its reply, what it makes of the cached translations, and the bundles that it makes
+abbrev told_quietly : List Translation → List Made → Beside → Beside
+told_quietly cached bundles b = record { cached = cached; notes = b.notes; told = b.told; bundles = bundles }
 
-quiet : (c : Call) (act : Option Reply) (b : Beside) → beside_by (call_answer c) act b ≡ record b { cached = cached_by (call_answer c) act b.cached }
-quiet c None b = refl
-quiet c (Some r) b = call-quiet c r b
+call-quiet : (c : Call) (r : Reply) (made : List Made) (b : Beside) → beside_by (call_answer c) made (Some r) b ≡ told_quietly ((call_answer c r).cached b.cached) (added b.bundles made) b
+call-quiet (call.VpEnter tdr vp most) (Done (value.Entered stale index position root)) made b = refl
+call-quiet (call.VpEnter tdr vp most) (Done _) made b = refl
+call-quiet (call.VpEnter tdr vp most) (Refused s) made b = refl
+call-quiet (call.VpEnter tdr vp most) (Exited out) made b = refl
+call-quiet (call.VpFlush tdr vp) (Done value.Nothing) made b = refl
+call-quiet (call.VpFlush tdr vp) (Done _) made b = refl
+call-quiet (call.VpFlush tdr vp) (Refused s) made b = refl
+call-quiet (call.VpFlush tdr vp) (Exited out) made b = refl
+call-quiet (call.HostRead page word) r made b = refl
+call-quiet _ r made b = refl
+
+quiet : (c : Call) (act : Option Reply) (made : List Made) (b : Beside) → beside_by (call_answer c) made act b ≡ told_quietly (cached_by (call_answer c) act b.cached) (added b.bundles made) b
+quiet c None made b = refl
+quiet c (Some r) made b = call-quiet c r made b
 
 -- the guest that an act enters is at its start
 pub record Begins (c : Call) (x : WordGuest) : Type 0 where
@@ -80,16 +86,16 @@ pub none-kept : (step : Option Running) → is_none step ≡ true → step ≡ N
 none-kept None e = refl
 none-kept (Some r) e = cc
 
-room-begun : (longest : ℕ) (cs : List Call) → room_of longest cs None None ≡ lines_room longest cs
+pub room-begun : (longest : ℕ) (cs : List Call) → room_of longest cs None None ≡ lines_room longest cs
 room-begun longest [] = refl
 room-begun longest (c ∷ cs) = refl
 
 shorter : (older : List HeldLock) (x : HeldLock) (held : List HeldLock) → held ≡ older ++ x ∷ [] → length older < length held
 shorter older x held e = (let n = ap length e in let m = length-append older (x ∷ []) in omega (arith, n, m))
 
-module _ (p : Place) (secrets : ℕ → ℕ) (codes : List CodeSeen) (c : Call) (cs : List Call) (ts us : List Translation) (rs : List Reply) (notes : List Note) (told : List ℕ) where
-  abbrev besides : List Translation → Beside
-  besides xs = record { cached = xs; notes = notes; told = told; bundles = [] }
+module _ (p : Place) (secrets : ℕ → ℕ) (codes : List CodeSeen) (c : Call) (cs : List Call) (ts us : List Translation) (rs : List Reply) (notes : List Note) (told : List ℕ) (ms ns : List Made) where
+  abbrev besides : List Translation → List Made → Beside
+  besides xs bundles = record { cached = xs; notes = notes; told = told; bundles = bundles }
 
   abbrev ends : Ends
   ends = call_ends p.machine c
@@ -98,26 +104,26 @@ module _ (p : Place) (secrets : ℕ → ℕ) (codes : List CodeSeen) (c : Call) 
   was run = running (task_of p c) run
 
   abbrev pub before : Option Standing → Option WordGuest → WordLp
-  before run g = record { lines = c ∷ cs; run = run; guest = g; replies = rs; beside = besides ts }
+  before run g = record { lines = c ∷ cs; run = run; guest = g; replies = rs; beside = besides ts ms }
 
   abbrev pub turned : Option WordGuest → Standing → Option Reply → WordLp
-  turned g s reply = after_turn c cs g rs (besides us) s reply
+  turned g s reply = after_turn c cs g rs (besides us ns) s reply
 
-  module _ {B : Type 0} (did : List Taken → B → Type 0) (bench : B) (kept : Option Running) (result : LeafTurn) (cached : us ≡ cached_by (call_answer c) result.act ts) where
-    besides-are : besides us ≡ beside_by (call_answer c) result.act (besides ts)
-    besides-are = ap besides cached ∙ sym (quiet c result.act (besides ts))
+  module _ {B : Type 0} (did : List Taken → B → Type 0) (bench : B) (kept : Option Running) (result : LeafTurn) (made : List Made) (cached : us ≡ cached_by (call_answer c) result.act ts) (adds : ns ≡ added ms made) where
+    besides-are : besides us ns ≡ beside_by (call_answer c) made result.act (besides ts ms)
+    besides-are = (λ i. besides (cached i) (adds i)) ∙ sym (quiet c result.act made (besides ts ms))
 
-    module _ (run : Option Standing) (t : LeafTurned did p.machine ends (was run) bench kept result) where
+    module _ (run : Option Standing) (t : LeafTurned did p.machine ends (was run) bench kept result made) where
       gives : Gives ends (was run) t.stands result.event
-      gives = line-gives did bench p.machine ends (was run) kept result t
+      gives = line-gives did bench p.machine ends (was run) kept result made t
 
       lower : stage_left (most_tries c) (guest_events c) t.stands.stage (length t.stands.held) < stage_left (most_tries c) (guest_events c) (was run).stage (length (was run).held)
       lower = gives.lower (guest_events c)
 
-      line-moved : TurnsInPieces → (g G : Option WordGuest) → G ≡ guest_by (call_answer c) result.act g → LineMoved did bench p c cs run g rs (besides ts) (turned G t.stands result.reply) result
+      line-moved : TurnsInPieces → (g G : Option WordGuest) → G ≡ guest_by (call_answer c) result.act g → LineMoved did bench p c cs run g rs (besides ts ms) (turned G t.stands result.reply) result
       line-moved law g G is =
-          line-moves law did bench p c cs run g rs (besides ts) kept (turned G t.stands result.reply) result t
-          (ap (λ (z : Option WordGuest). after_turn c cs z rs (besides us) t.stands result.reply) is
+          line-moves law did bench p c cs run g rs (besides ts ms) kept (turned G t.stands result.reply) result made t
+          (ap (λ (z : Option WordGuest). after_turn c cs z rs (besides us ns) t.stands result.reply) is
           ∙ ap (λ (z : Beside). after_turn c cs (guest_by (call_answer c) result.act g) rs z t.stands result.reply) besides-are)
 
       -- outside guests
@@ -130,11 +136,11 @@ module _ (p : Place) (secrets : ℕ → ℕ) (codes : List CodeSeen) (c : Call) 
       outside-fewer G is reply = subst (λ (n : ℕ). events_left (code_in codes) (turned G t.stands reply) < n + events_in cs) (sym (bound-before p c run)) (by G is reply)
         where
           by : (G : Option WordGuest) → G ≡ guest_by (call_answer c) result.act None → (reply : Option Reply) → events_left (code_in codes) (turned G t.stands reply) < stage_left (most_tries c) (guest_events c) (was run).stage (length (was run).held) + events_in cs
-          by G is (Some r) = bound-after (code_in codes) c cs rs (besides us) t.stands (Some r) (stage_left (most_tries c) (guest_events c) (was run).stage (length (was run).held)) lower
-          by None is None = bound-after (code_in codes) c cs rs (besides us) t.stands None (stage_left (most_tries c) (guest_events c) (was run).stage (length (was run).held)) lower
+          by G is (Some r) = bound-after (code_in codes) c cs rs (besides us ns) t.stands (Some r) (stage_left (most_tries c) (guest_events c) (was run).stage (length (was run).held)) lower
+          by None is None = bound-after (code_in codes) c cs rs (besides us ns) t.stands None (stage_left (most_tries c) (guest_events c) (was run).stage (length (was run).held)) lower
           by (Some x) is None =
               let e = enters result.act x refl is in
-              enters-fewer (code_in codes) ts c cs ends (was run) t.stands result.event x rs (besides us) e.0 refl e.2.events e.2.completed gives e.1
+              enters-fewer (code_in codes) ts c cs ends (was run) t.stands result.event x rs (besides us ns) e.0 refl e.2.events e.2.completed gives e.1
 
       pub outside-moves : TurnsInPieces → (G : Option WordGuest) → G ≡ guest_by (call_answer c) result.act None → Moved secrets (code_in codes) did bench p (before run None) (turned G t.stands result.reply) result.event
       outside-moves law G is =
@@ -142,31 +148,12 @@ module _ (p : Place) (secrets : ℕ → ℕ) (codes : List CodeSeen) (c : Call) 
           record { pieces = moved.pieces; did_them = moved.did_them; turn = moved.turn; fewer = outside-fewer G is result.reply }
 
       run-before : (n : ℕ) → run_room n run ≡ stage_room n (was run).stage
-      run-before n = by run
-        where
-          by : (run : Option Standing) → run_room n run ≡ stage_room n (was run).stage
-          by None = refl
-          by (Some s) = refl
-
-      less-room : (n : ℕ) (x y : Stage) → ((r : Reply) → x ≡ stages.Answered r → (z : Reply) × (y ≡ stages.Answered z)) → stage_room n y ≤ stage_room n x
-      less-room n (stages.Answered r) y h = (let e = h r refl in subst (λ (z : Stage). stage_room n z ≤ 0) (sym e.1) (omega arith))
-      less-room n stages.Trying y h = at-most y
-        where
-          at-most : (y : Stage) → stage_room n y ≤ n
-          at-most (stages.Answered r) = omega arith
-          at-most stages.Trying = omega arith
-          at-most (stages.Undoing name at) = omega arith
-      less-room n (stages.Undoing name at) y h = at-most y
-        where
-          at-most : (y : Stage) → stage_room n y ≤ n
-          at-most (stages.Answered r) = omega arith
-          at-most stages.Trying = omega arith
-          at-most (stages.Undoing name at) = omega arith
+      run-before n = sym (room-before n (task_of p c) run)
 
       pub outside-room : (longest : ℕ) (G : Option WordGuest) → G ≡ guest_by (call_answer c) result.act None → (reply : Option Reply) → room_left longest (turned G t.stands reply) ≤ room_left longest (before run None)
       outside-room longest G is (Some r) = rw (room-begun longest cs) (omega arith)
       outside-room longest None is None =
-          let less = less-room (call_room longest c) (was run).stage t.stands.stage gives.stays_answered in
+          let less = less-stage (call_room longest c) (was run).stage t.stands.stage gives.stays_answered in
           rw (run-before (call_room longest c)) (omega (arith, less))
       outside-room longest (Some x) is None =
           let e = enters result.act x refl is in
@@ -196,7 +183,7 @@ module _ (p : Place) (secrets : ℕ → ℕ) (codes : List CodeSeen) (c : Call) 
           keeps (Some r) seen answered is = (let same : t.stands ≡ standing_of r = cc in (subst (λ (s : Standing). IsAnsweredBy s.stage) same answered, is))
 
     -- in a guest, while its VP.ENTER gives E back
-    module _ (r : Running) (x : WordGuest) (answered : IsAnsweredBy r.run.stage) (t : LeafTurned did p.machine ends (standing_of r) bench kept result) where
+    module _ (r : Running) (x : WordGuest) (answered : IsAnsweredBy r.run.stage) (t : LeafTurned did p.machine ends (standing_of r) bench kept result made) where
       pub acts-once : result.act ≡ None
       acts-once = by result.act refl
         where
@@ -216,10 +203,10 @@ module _ (p : Place) (secrets : ℕ → ℕ) (codes : List CodeSeen) (c : Call) 
       held-less (stages.Undoing name at) e a turn = absurd a
 
       inside-fewer : (reply : Option Reply) → events_left (code_in codes) (turned (Some x) t.stands reply) < events_left (code_in codes) (before (Some (standing_of r)) (Some x))
-      inside-fewer (Some z) = (let few = none-begun (code_in codes) cs (rs ++ z ∷ []) (besides us) in omega (arith, few))
+      inside-fewer (Some z) = (let few = none-begun (code_in codes) cs (rs ++ z ∷ []) (besides us ns) in omega (arith, few))
       inside-fewer None =
-          subst (λ (ys : List Translation). events_left (code_in codes) (record { lines = c ∷ cs; run = Some t.stands; guest = Some x; replies = rs; beside = besides ys }) < events_left (code_in codes) (before (Some (standing_of r)) (Some x))) (sym inside-cached)
-          (releases-fewer (code_in codes) c cs (standing_of r) t.stands x rs (besides ts) (held-less r.run.stage refl answered t.turned.2.turn))
+          subst (λ (ys : List Translation). events_left (code_in codes) (record { lines = c ∷ cs; run = Some t.stands; guest = Some x; replies = rs; beside = besides ys ns }) < events_left (code_in codes) (before (Some (standing_of r)) (Some x))) (sym inside-cached)
+          (releases-fewer (code_in codes) c cs (standing_of r) t.stands x rs (besides ts ms) (held-less r.run.stage refl answered t.turned.2.turn))
 
       pub inside-moves : TurnsInPieces → gives_epoch_back r.run.held.items ≡ true → Moved secrets (code_in codes) did bench p (before (Some (standing_of r)) (Some x)) (turned (Some x) t.stands result.reply) result.event
       inside-moves law back =
@@ -227,7 +214,7 @@ module _ (p : Place) (secrets : ℕ → ℕ) (codes : List CodeSeen) (c : Call) 
           record {
             pieces = moved.pieces;
             did_them = moved.did_them;
-            turn = subst (λ (b : Bool). EnteredTurn (place_table p secrets (code_in codes)) p.machine c cs (standing_of r) x rs (besides ts) result.event moved.pieces (turned (Some x) t.stands result.reply) b) (sym back) moved.turn;
+            turn = subst (λ (b : Bool). EnteredTurn (place_table p secrets (code_in codes)) p.machine c cs (standing_of r) x rs (besides ts ms) result.event moved.pieces (turned (Some x) t.stands result.reply) b) (sym back) moved.turn;
             fewer = inside-fewer result.reply;
           }
 

@@ -8,6 +8,7 @@ use Rattle.td_words.specs.declared.replies.Reply.{Reply}
 use Rattle.mrtd_measure.specs.declared.measures.Measure.{Measure}
 use Rattle.step_core.specs.declared.items.Taken.{Taken}
 use Rattle.step_core.specs.declared.items.Taken.TheVariants.{Stepped, Swapped, Missed}
+use Rattle.flat_core.specs.World.{Made}
 use Rattle.flat_core.specs.Processor.{name_of}
 use Rattle.word_rules.specs.Views.{look}
 use Rattle.leaf_engine.specs.declared.needs.Need.{Need}
@@ -17,14 +18,34 @@ use Rattle.leaf_engine.specs.declared.events.Event.TheVariants as event
 use Rattle.leaf_engine.specs.declared.events.HeldLock.{HeldLock}
 use Rattle.leaf_engine.specs.declared.events.Stage.{Stage}
 use Rattle.leaf_engine.specs.declared.events.Stage.TheVariants as stages
-use Rattle.leaf_engine.specs.Trees.{Answer, Tree, Lock, Load, Test, End, Since, answer_of, feed, settle, fed, passed}
-use Rattle.leaf_engine.specs.Besides.{Beside, answered_by, beside_after}
+use Rattle.leaf_engine.specs.Trees.{Answer, only, Tree, Lock, Load, Test, End, Since, answer_of, feed, settle, fed, passed}
+use Rattle.leaf_engine.specs.Besides.{Beside, answered_by, beside_after, bundles_made}
 use Rattle.leaf_engine.specs.Decides.{Wants}
 use Rattle.leaf_engine.specs.Guests.{WordGuest, is_epoch_name, guest_after, guest_entered, or_else}
 use Rattle.leaf_engine.specs.Items.{IsLoadAt, IsLoaded}
 use Rattle.leaf_engine.specs.Turns.{Standing, standing, grants, tried, busy, last_reply, Comes, TurnBy}
-use Rattle.leaf_dispatch.specs.Answers.{Ends, EndsAs, FewTries, is_busy, FitsStage, BeginsUnderOther, OldestIsOther, act_of, beside_by, guest_by}
+use Rattle.leaf_dispatch.specs.Answers.{Ends, with_bundles, AreMade, EndsBy, EndsAs, FewTries, is_busy, FitsStage, BeginsUnderOther, OldestIsOther, act_of, beside_by, guest_by}
 use Rattle.leaf_dispatch.specs.Bounds.{stage_left, stage_used}
+
+-- bundles
+
+none-made : (o : Option ℕ) → AreMade o []
+none-made None = refl
+none-made (Some n) = tt
+
+pub only-ends : (o : Option ℕ) (r : Reply) (b : Answer) → only r ≡ b → EndsBy o (only r) b
+only-ends None r b h = ap (with_bundles []) h
+only-ends (Some n) r b h = (ap (with_bundles []) h, tt)
+
+pub record IsBy (o : Option ℕ) (a b : Answer) : Type 0 where
+  pub answer : a ≡ with_bundles a.bundles b
+  pub made : AreMade o a.bundles
+
+is-by : (o : Option ℕ) (a b : Answer) → EndsBy o a b → IsBy o a b
+is-by None a b h =
+    let none : a.bundles ≡ [] = ap (λ (z : Answer). z.bundles) h in
+    record { answer = h ∙ sym (ap (λ (ms : List Made). with_bundles ms b) none); made = none }
+is-by (Some n) a b h = record { answer = h.0; made = h.1 }
 
 -- trees
 
@@ -41,7 +62,7 @@ ends-fed e n (Lock l q m t) (x ∷ xs) few = ends-more e (n - 1) n (feed t xs) (
 ends-fed e n (Load v q k) [] few = few
 ends-fed e n (Load v q k) (x ∷ xs) few = ends-fed e n (k (look v x)) xs (few x)
 ends-fed e n (Test true r t) xs few = ends-fed e n t xs (few.2 refl)
-ends-fed e n (Test false r t) xs few = (few.0, few.1)
+ends-fed e n (Test false r t) xs few = (only-ends e.makes r (e.answer r) few.0, few.1)
 ends-fed e n (End r fs cs) xs few = few
 ends-fed e n (Since r cs) xs few = few
 
@@ -91,15 +112,21 @@ other-lock pages (Since r cs) name at mode g o = cc
 
 -- at the act it answers what its leaf comes to
 pub record AnswersBy (e : Ends) (t : Tree) (reply : Reply) : Type 0 where
-  pub answer : answer_of t ≡ e.answer reply
+  pub answer : answer_of t ≡ with_bundles (answer_of t).bundles (e.answer reply)
+  pub made : AreMade e.makes (answer_of t).bundles
   pub fits : e.fits reply ≡ true
+
+ended-by : (e : Ends) (a : Answer) (reply : Reply) → a.reply ≡ reply → EndsBy e.makes a (e.answer a.reply) → e.fits a.reply ≡ true → (a ≡ with_bundles a.bundles (e.answer reply)) × AreMade e.makes a.bundles × (e.fits reply ≡ true)
+ended-by e a reply same by fits =
+    let is = is-by e.makes a (e.answer a.reply) by in
+    (is.answer ∙ ap (λ (r : Reply). with_bundles a.bundles (e.answer r)) same, is.made, sym (ap e.fits same) ∙ fits)
 
 ends-act : (e : Ends) (pages n : ℕ) (t : Tree) (reply : Reply) → Wants pages t (need.Verdict reply) → EndsAs e n t → AnswersBy e (passed t) reply
 ends-act e pages n (Lock l q m t) reply g few = cc
 ends-act e pages n (Load v q k) reply g few = cc
 ends-act e pages n (Test c r t) reply g few = absurd g
-ends-act e pages n (End a fs cs) reply g few = (let same : a.reply ≡ reply = cc in record { answer = few.0 ∙ ap e.answer same; fits = sym (ap e.fits same) ∙ few.1 })
-ends-act e pages n (Since a cs) reply g few = (let same : a.reply ≡ reply = cc in record { answer = few.0 ∙ ap e.answer same; fits = sym (ap e.fits same) ∙ few.1 })
+ends-act e pages n (End a fs cs) reply g few = (let same : a.reply ≡ reply = cc in let by = ended-by e a reply same few.0 few.1 in record { answer = by.0; made = by.1; fits = by.2 })
+ends-act e pages n (Since a cs) reply g few = (let same : a.reply ≡ reply = cc in let by = ended-by e a reply same few.0 few.1 in record { answer = by.0; made = by.1; fits = by.2 })
 
 other-act : (pages : ℕ) (t : Tree) (reply : Reply) → Wants pages t (need.Verdict reply) → BeginsUnderOther t → (answer_of (passed t)).enters ≡ None
 other-act pages (Lock l q m t) reply g o = cc
@@ -122,7 +149,9 @@ pub record Gives (e : Ends) (s s' : Standing) (ev : Event) : Type 0 where
   pub few : FewTries e s'
   pub fits : FitsStage e s'.stage
   pub oldest : OldestIsOther s'.held s'
-  pub beside : (b : Beside) → beside_after ev s'.rest b ≡ beside_by e.answer (act_of ev s'.stage) b
+  pub beside : (b : Beside) → beside_after ev s'.rest b ≡ beside_by e.answer (bundles_made ev s'.rest) (act_of ev s'.stage) b
+  pub made : AreMade e.makes (bundles_made ev s'.rest)
+  pub unmade : act_of ev s'.stage ≡ None → bundles_made ev s'.rest ≡ []
   pub guest : (g : Option WordGuest) → guest_after ev s'.rest g ≡ guest_by e.answer (act_of ev s'.stage) g
   pub act : (r : Reply) → act_of ev s'.stage ≡ Some r → ActsBy e s s' r
   pub lower : (k : ℕ) → stage_left e.tries k s'.stage (length s'.held) < stage_left e.tries k s.stage (length s.held)
@@ -168,6 +197,8 @@ granted-gives e t0 t held h name at mode room first few o other =
       fits = tt;
       oldest = oldest-more held x (standing t0 stages.Trying held h) (standing t stages.Trying (held ++ x ∷ []) h) other o;
       beside = λ b. refl;
+      made = none-made e.makes;
+      unmade = λ none. refl;
       guest = λ g. refl;
       act = λ r is. cc;
       lower = λ k. omega (arith, more, first);
@@ -184,6 +215,8 @@ undoing-gives e t0 t held h name at room first o = record {
   fits = tt;
   oldest = oldest-stays held (standing t0 stages.Trying held h) (standing t (stages.Undoing name at) held h) (λ st. cc) o;
   beside = λ b. refl;
+  made = none-made e.makes;
+  unmade = λ none. refl;
   guest = λ g. refl;
   act = λ r is. cc;
   lower = λ k. omega (arith, first);
@@ -200,6 +233,8 @@ denied-gives e t0 t held h name room first o = record {
   fits = busy-fits e name;
   oldest = oldest-stays held (standing t0 stages.Trying held h) (standing t (busy name) held h) (λ st. cc) o;
   beside = λ b. refl;
+  made = none-made e.makes;
+  unmade = λ none. refl;
   guest = λ g. refl;
   act = λ r is. cc;
   lower = λ k. omega (arith, first);
@@ -227,6 +262,8 @@ act-gives e t0 t held h h' reply room a o none = record {
   fits = by-fits (e.fits reply) (is_busy reply) a.fits;
   oldest = oldest-stays held (standing t0 stages.Trying held h) (standing t (stages.Answered reply) held h') (λ st. cc) o;
   beside = λ b. ap (λ (z : Answer). answered_by z b) a.answer;
+  made = a.made;
+  unmade = λ none. cc;
   guest = λ g. ap (λ (z : Answer). or_else (guest_entered z) g) a.answer;
   act = λ r is. same-reply e t0 t held h h' reply r is (record { on = refl; fits = a.fits; stage = refl; held = refl; few = room; under_other = λ z. sym (ap (λ (y : Answer). y.enters) a.answer) ∙ none z });
   lower = λ k. omega arith;
@@ -248,6 +285,8 @@ undo-gives e t held h name at room o = record {
   fits = busy-fits e name;
   oldest = oldest-stays held (standing t (stages.Undoing name at) held h) (standing t (busy name) held h) (λ st. cc) o;
   beside = λ b. refl;
+  made = none-made e.makes;
+  unmade = λ none. refl;
   guest = λ g. refl;
   act = λ r is. cc;
   lower = λ k. omega arith;
@@ -265,6 +304,8 @@ free-gives e t held older x h reply room is fits o =
       fits = fits;
       oldest = oldest-less held older x (standing t (stages.Answered reply) held h) (standing t (stages.Answered reply) older h) reply refl is o;
       beside = λ b. refl;
+      made = none-made e.makes;
+      unmade = λ none. refl;
       guest = λ g. refl;
       act = λ r z. cc;
       lower = λ k. omega (arith, count);

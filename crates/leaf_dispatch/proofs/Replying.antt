@@ -6,6 +6,7 @@ use Rattle.td_words.specs.declared.replies.Value.TheVariants as value
 use Rattle.td_words.specs.declared.replies.Reply.{Reply}
 use Rattle.td_words.specs.declared.replies.Outcome.{Outcome}
 use Rattle.td_words.specs.declared.replies.Reply.TheVariants.{Done, Exited}
+use Rattle.flat_core.specs.World.{Made}
 use Rattle.step_core.specs.declared.items.Taken.{Taken}
 use Rattle.leaf_engine.specs.declared.needs.Place.{Place}
 use Rattle.leaf_engine.specs.declared.events.Stage.{Stage}
@@ -22,10 +23,10 @@ use Rattle.leaf_dispatch.specs.declared.running.LeafTurn.{LeafTurn}
 use Rattle.leaf_dispatch.proofs.Turning.{line-gives}
 use Rattle.leaf_dispatch.proofs.Fewer.{answered-by, outcome-of}
 
-module _ {B : Type 0} (did : List Taken → B → Type 0) (bench : B) (m : Machine) (kept : Option Running) (result : LeafTurn) where
-  pub act-fits : (e : Ends) (s : Standing) → LeafTurned did m e s bench kept result → (act : Option Reply) → result.act ≡ act → IfSome act (λ r. e.fits r ≡ true)
+module _ {B : Type 0} (did : List Taken → B → Type 0) (bench : B) (m : Machine) (kept : Option Running) (result : LeafTurn) (made : List Made) where
+  pub act-fits : (e : Ends) (s : Standing) → LeafTurned did m e s bench kept result made → (act : Option Reply) → result.act ≡ act → IfSome act (λ r. e.fits r ≡ true)
   act-fits e s t None is = tt
-  act-fits e s t (Some r) is = ((line-gives did bench m e s kept result t).act r (sym t.act_is ∙ is)).fits
+  act-fits e s t (Some r) is = ((line-gives did bench m e s kept result made t).act r (sym t.act_is ∙ is)).fits
 
   number-of : (access : Access) (gpa level page : ℕ) (r : Reply) → step_fits (Loads access gpa level page) r ≡ true → IsNumber r
   number-of access gpa level page (Done (value.Number x)) h = tt
@@ -36,19 +37,19 @@ module _ {B : Type 0} (did : List Taken → B → Type 0) (bench : B) (m : Machi
   exit-of out _ h = cc
 
   -- a run of a single event has that event's reply
-  at-once : (t n : ℕ) (s : Step) (run : Standing) (r : Reply) → LeafTurned did m (step_ends t n s) run bench kept result → step_tries s ≡ 0 → run.stage ≡ stages.Trying → result.reply ≡ Some r → step_fits s r ≡ true
+  at-once : (t n : ℕ) (s : Step) (run : Standing) (r : Reply) → LeafTurned did m (step_ends t n s) run bench kept result made → step_tries s ≡ 0 → run.stage ≡ stages.Trying → result.reply ≡ Some r → step_fits s r ≡ true
   at-once t n s run r turned none on is =
-      let gives = line-gives did bench m (step_ends t n s) run kept result turned in
+      let gives = line-gives did bench m (step_ends t n s) run kept result made turned in
       let x = gives.once none on in
       subst (λ (z : Reply). step_fits s z ≡ true) (some-same (sym x.2 ∙ (sym turned.turned.2.reply ∙ is))) (gives.act x.0 x.1).fits
     where
       some-same : {a b : Reply} → Some a ≡ Some b → a ≡ b
       some-same e = cc
 
-  pub reply-fits : (t n : ℕ) (s : Step) (run : Standing) → LeafTurned did m (step_ends t n s) run bench kept result → (step_tries s ≡ 0 → run.stage ≡ stages.Trying) → (reply : Option Reply) → result.reply ≡ reply → IfSome reply (λ r. IsReplyOf s r)
+  pub reply-fits : (t n : ℕ) (s : Step) (run : Standing) → LeafTurned did m (step_ends t n s) run bench kept result made → (step_tries s ≡ 0 → run.stage ≡ stages.Trying) → (reply : Option Reply) → result.reply ≡ reply → IfSome reply (λ r. IsReplyOf s r)
   reply-fits t n s run turned first None is = tt
   reply-fits t n (Operates o) run turned first (Some r) is =
-      let gives = line-gives did bench m (step_ends t n (Operates o)) run kept result turned in
+      let gives = line-gives did bench m (step_ends t n (Operates o)) run kept result made turned in
       let on = answered-by turned.stands.stage turned.stands.held r (sym turned.turned.2.reply ∙ is) in
       outcome-of o r (subst (λ (x : Stage). FitsStage (step_ends t n (Operates o)) x) on gives.fits)
   reply-fits t n (Accesses access r gpa page) run turned first (Some x) is = tt

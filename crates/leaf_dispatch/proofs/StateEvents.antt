@@ -3,6 +3,7 @@ use Rattle.std.proofs.Common.{◌≡◌, ◌∙◌, ℕ, ◌+◌, ◌<◌, ◌�
 use Rattle.td_words.specs.Seen.{CodeSeen}
 use Rattle.td_words.specs.declared.calls.Call.{Call}
 use Rattle.td_words.specs.declared.replies.Reply.{Reply}
+use Rattle.flat_core.specs.World.{Made}
 use Rattle.flat_core.specs.Processor.{Translation, Note}
 use Rattle.step_core.specs.declared.items.Taken.{Taken}
 use Rattle.leaf_engine.specs.declared.needs.Place.{Place}
@@ -24,24 +25,24 @@ use Rattle.leaf_dispatch.proofs.Turning.{Moved}
 use Rattle.leaf_dispatch.proofs.LineEvents.{gives-back, none-kept, outside-moves, outside-room, outside-keeps, acts-once, inside-moves, inside-room, inside-keeps}
 use Rattle.leaf_dispatch.proofs.GuestEvents.{MakesNone, Acts, acts-in, guest-moved, guest-fits, guest-keeps, kept-of}
 
-module _ (p : Place) (secrets : ℕ → ℕ) (codes : List CodeSeen) (c : Call) (cs : List Call) (ts us : List Translation) (rs : List Reply) (notes : List Note) (told : List ℕ) where
+module _ (p : Place) (secrets : ℕ → ℕ) (codes : List CodeSeen) (c : Call) (cs : List Call) (ts us : List Translation) (rs : List Reply) (notes : List Note) (told : List ℕ) (ms ns : List Made) where
   -- where it is, by the parts that an event changes
-  abbrev pub at : List Call → Option Standing → Option WordGuest → List Reply → List Translation → WordLp
-  at lines run g replies xs = record { lines = lines; run = run; guest = g; replies = replies; beside = record { cached = xs; notes = notes; told = told; bundles = [] } }
+  abbrev pub at : List Call → Option Standing → Option WordGuest → List Reply → List Translation → List Made → WordLp
+  at lines run g replies xs bundles = record { lines = lines; run = run; guest = g; replies = replies; beside = record { cached = xs; notes = notes; told = told; bundles = bundles } }
 
-  module _ {B : Type 0} (did : List Taken → B → Type 0) (bench : B) (kept : Option Running) (result : LeafTurn) where
+  module _ {B : Type 0} (did : List Taken → B → Type 0) (bench : B) (kept : Option Running) (result : LeafTurn) (made : List Made) where
     -- of a line that goes on, and of one that has its reply: the event, what is kept of the guest, and the room
     pub record GoesOn (then-guest : Option GuestAt) (lines : List Call) (guest : Option GuestAt) (run step : Option Running) : Type 0 where
-      pub moved : Moved secrets (code_in codes) did bench p (at lines (run_seen run) (guest_in guest step) rs ts) (at lines (run_seen kept) (guest_in then-guest step) rs us) result.event
+      pub moved : Moved secrets (code_in codes) did bench p (at lines (run_seen run) (guest_in guest step) rs ts ms) (at lines (run_seen kept) (guest_in then-guest step) rs us ns) result.event
       pub keeps : KeepsGuest p.machine codes us (length rs + 1) then-guest kept step
       pub room : (longest : ℕ) → room_of longest lines (run_seen kept) (guest_in then-guest step) ≤ room_of longest lines (run_seen run) (guest_in guest step)
 
     pub record HasEnded (replies : List Reply) (lines : List Call) (guest : Option GuestAt) (run step : Option Running) : Type 0 where
-      pub moved : Moved secrets (code_in codes) did bench p (at lines (run_seen run) (guest_in guest step) rs ts) (at cs (run_seen kept) None replies us) result.event
+      pub moved : Moved secrets (code_in codes) did bench p (at lines (run_seen run) (guest_in guest step) rs ts ms) (at cs (run_seen kept) None replies us ns) result.event
       pub room : (longest : ℕ) → room_of longest cs (run_seen kept) None ≤ room_of longest lines (run_seen run) (guest_in guest step)
 
     module _ (law : TurnsInPieces) (ent : Option GuestAt) (lines : List Call) (guest : Option GuestAt) (run step : Option Running) (is : lines ≡ c ∷ cs)
-        (own : acting guest run ≡ None) (keeps : KeepsGuest p.machine codes ts (length rs + 1) guest run step) (t : LeafTurned did p.machine (call_ends p.machine c) (running (task_of p c) (run_seen run)) bench kept result) (cached : us ≡ cached_by (call_answer c) result.act ts)
+        (own : acting guest run ≡ None) (keeps : KeepsGuest p.machine codes ts (length rs + 1) guest run step) (t : LeafTurned did p.machine (call_ends p.machine c) (running (task_of p c) (run_seen run)) bench kept result made) (cached : us ≡ cached_by (call_answer c) result.act ts) (adds : ns ≡ added ms made)
         (entered : option_map (λ (g : GuestAt). guest_seen g None) ent ≡ guest_by (call_answer c) result.act None)
         (inside : IfSome ent (λ g. (g.tdr < p.machine.pages) × (g.vp < p.machine.pages) × (code_in codes g.tdr g.index ≡ g.list.now) × IsLow g.walk)) where
       -- a line that goes on
@@ -49,21 +50,21 @@ module _ (p : Place) (secrets : ℕ → ℕ) (codes : List CodeSeen) (c : Call) 
       goes-on : result.reply ≡ None → GoesOn (entered_or ent guest) lines guest run step
       goes-on none = subst (λ (ls : List Call). GoesOn (entered_or ent guest) ls guest run step) (sym is) (by guest run step own keeps t)
         where
-          then-is : (t : Standing) → run_seen kept ≡ kept_after result.reply t → (g : Option WordGuest) → after_turn c cs g rs (record { cached = us; notes = notes; told = told; bundles = [] }) t result.reply ≡ at (c ∷ cs) (run_seen kept) g rs us
+          then-is : (t : Standing) → run_seen kept ≡ kept_after result.reply t → (g : Option WordGuest) → after_turn c cs g rs (record { cached = us; notes = notes; told = told; bundles = ns }) t result.reply ≡ at (c ∷ cs) (run_seen kept) g rs us ns
           then-is t seen g =
-              ap (after_turn c cs g rs (record { cached = us; notes = notes; told = told; bundles = [] }) t) none
-              ∙ ap (λ (run : Option Standing). at (c ∷ cs) run g rs us) (sym (seen ∙ ap (λ (z : Option Reply). kept_after z t) none))
+              ap (after_turn c cs g rs (record { cached = us; notes = notes; told = told; bundles = ns }) t) none
+              ∙ ap (λ (run : Option Standing). at (c ∷ cs) run g rs us ns) (sym (seen ∙ ap (λ (z : Option Reply). kept_after z t) none))
 
-          outside : (run : Option Running) → (t : LeafTurned did p.machine (call_ends p.machine c) (running (task_of p c) (run_seen run)) bench kept result) → GoesOn (entered_or ent None) (c ∷ cs) None run None
+          outside : (run : Option Running) → (t : LeafTurned did p.machine (call_ends p.machine c) (running (task_of p c) (run_seen run)) bench kept result made) → GoesOn (entered_or ent None) (c ∷ cs) None run None
           outside run t =
               let seen : guest_in (entered_or ent None) None ≡ option_map (λ (g : GuestAt). guest_seen g None) ent = alone ent in
               let same = then-is t.stands t.seen (guest_in (entered_or ent None) None) in
               record {
-                moved = subst (λ (q : WordLp). Moved secrets (code_in codes) did bench p (at (c ∷ cs) (run_seen run) None rs ts) q result.event) same
-                    (outside-moves p secrets codes c cs ts us rs notes told did bench kept result cached (run_seen run) t law (guest_in (entered_or ent None) None) (seen ∙ entered));
-                keeps = outside-keeps p secrets codes c cs ts us rs notes told did bench kept result cached (run_seen run) t ent entered inside none;
+                moved = subst (λ (q : WordLp). Moved secrets (code_in codes) did bench p (at (c ∷ cs) (run_seen run) None rs ts ms) q result.event) same
+                    (outside-moves p secrets codes c cs ts us rs notes told ms ns did bench kept result made cached adds (run_seen run) t law (guest_in (entered_or ent None) None) (seen ∙ entered));
+                keeps = outside-keeps p secrets codes c cs ts us rs notes told ms ns did bench kept result made cached adds (run_seen run) t ent entered inside none;
                 room = λ longest. subst (λ (q : WordLp). room_of longest q.lines q.run q.guest ≤ room_of longest (c ∷ cs) (run_seen run) None) same
-                    (outside-room p secrets codes c cs ts us rs notes told did bench kept result cached (run_seen run) t longest (guest_in (entered_or ent None) None) (seen ∙ entered) result.reply);
+                    (outside-room p secrets codes c cs ts us rs notes told ms ns did bench kept result made cached adds (run_seen run) t longest (guest_in (entered_or ent None) None) (seen ∙ entered) result.reply);
               }
             where
               alone : (ent : Option GuestAt) → guest_in (entered_or ent None) None ≡ option_map (λ (g : GuestAt). guest_seen g None) ent
@@ -74,21 +75,21 @@ module _ (p : Place) (secrets : ℕ → ℕ) (codes : List CodeSeen) (c : Call) 
           nobody None e = refl
           nobody (Some g) e = cc
 
-          by : (guest : Option GuestAt) (run step : Option Running) → acting guest run ≡ None → KeepsGuest p.machine codes ts (length rs + 1) guest run step → LeafTurned did p.machine (call_ends p.machine c) (running (task_of p c) (run_seen run)) bench kept result → GoesOn (entered_or ent guest) (c ∷ cs) guest run step
+          by : (guest : Option GuestAt) (run step : Option Running) → acting guest run ≡ None → KeepsGuest p.machine codes ts (length rs + 1) guest run step → LeafTurned did p.machine (call_ends p.machine c) (running (task_of p c) (run_seen run)) bench kept result made → GoesOn (entered_or ent guest) (c ∷ cs) guest run step
           by None run step own keeps t = subst (λ (s : Option Running). GoesOn (entered_or ent None) (c ∷ cs) None run s) (sym (none-kept step keeps)) (outside run t)
           by (Some g) None step own keeps t = absurd keeps
           by (Some g) (Some r) step own keeps t =
               let x : WordGuest = guest_seen g (run_seen step) in
-              let acts = acts-once p secrets codes c cs ts us rs notes told did bench kept result cached r x keeps.0 t in
+              let acts = acts-once p secrets codes c cs ts us rs notes told ms ns did bench kept result made cached adds r x keeps.0 t in
               let no : ent ≡ None = nobody ent (entered ∙ ap (λ (a : Option Reply). guest_by (call_answer c) a None) acts) in
               let same = then-is t.stands t.seen (Some x) in
               let goes : GoesOn (Some g) (c ∷ cs) (Some g) (Some r) step =
               record {
-                moved = subst (λ (q : WordLp). Moved secrets (code_in codes) did bench p (at (c ∷ cs) (Some (standing_of r)) (Some x) rs ts) q result.event) same
-                    (inside-moves p secrets codes c cs ts us rs notes told did bench kept result cached r x keeps.0 t law (gives-back (gives_epoch_back r.run.held.items) g own));
-                keeps = inside-keeps p secrets codes c cs ts us rs notes told did bench kept result cached r x keeps.0 t g step keeps.1 none;
+                moved = subst (λ (q : WordLp). Moved secrets (code_in codes) did bench p (at (c ∷ cs) (Some (standing_of r)) (Some x) rs ts ms) q result.event) same
+                    (inside-moves p secrets codes c cs ts us rs notes told ms ns did bench kept result made cached adds r x keeps.0 t law (gives-back (gives_epoch_back r.run.held.items) g own));
+                keeps = inside-keeps p secrets codes c cs ts us rs notes told ms ns did bench kept result made cached adds r x keeps.0 t g step keeps.1 none;
                 room = λ longest. subst (λ (q : WordLp). room_of longest q.lines q.run q.guest ≤ room_of longest (c ∷ cs) (Some (standing_of r)) (Some x)) same
-                    (inside-room p secrets codes c cs ts us rs notes told did bench kept result cached r x keeps.0 t longest result.reply);
+                    (inside-room p secrets codes c cs ts us rs notes told ms ns did bench kept result made cached adds r x keeps.0 t longest result.reply);
               } in
               subst (λ (e : Option GuestAt). GoesOn (entered_or e (Some g)) (c ∷ cs) (Some g) (Some r) step) (sym no) goes
 
@@ -100,33 +101,33 @@ module _ (p : Place) (secrets : ℕ → ℕ) (codes : List CodeSeen) (c : Call) 
       has-ended : (z : Reply) → result.reply ≡ Some z → HasEnded (rs ++ z ∷ []) lines guest run step
       has-ended z some = subst (λ (ls : List Call). HasEnded (rs ++ z ∷ []) ls guest run step) (sym is) (by guest run step own keeps t)
         where
-          then-is : (t : Standing) → run_seen kept ≡ kept_after result.reply t → (g : Option WordGuest) → after_turn c cs g rs (record { cached = us; notes = notes; told = told; bundles = [] }) t result.reply ≡ at cs (run_seen kept) None (rs ++ z ∷ []) us
+          then-is : (t : Standing) → run_seen kept ≡ kept_after result.reply t → (g : Option WordGuest) → after_turn c cs g rs (record { cached = us; notes = notes; told = told; bundles = ns }) t result.reply ≡ at cs (run_seen kept) None (rs ++ z ∷ []) us ns
           then-is t seen g =
-              ap (after_turn c cs g rs (record { cached = us; notes = notes; told = told; bundles = [] }) t) some
-              ∙ ap (λ (run : Option Standing). at cs run None (rs ++ z ∷ []) us) (sym (seen ∙ ap (λ (z : Option Reply). kept_after z t) some))
+              ap (after_turn c cs g rs (record { cached = us; notes = notes; told = told; bundles = ns }) t) some
+              ∙ ap (λ (run : Option Standing). at cs run None (rs ++ z ∷ []) us ns) (sym (seen ∙ ap (λ (z : Option Reply). kept_after z t) some))
 
-          outside : (run : Option Running) → (t : LeafTurned did p.machine (call_ends p.machine c) (running (task_of p c) (run_seen run)) bench kept result) → HasEnded (rs ++ z ∷ []) (c ∷ cs) None run None
+          outside : (run : Option Running) → (t : LeafTurned did p.machine (call_ends p.machine c) (running (task_of p c) (run_seen run)) bench kept result made) → HasEnded (rs ++ z ∷ []) (c ∷ cs) None run None
           outside run t =
               let G = guest_by (call_answer c) result.act None in
               let same = then-is t.stands t.seen G in
               record {
-                moved = subst (λ (q : WordLp). Moved secrets (code_in codes) did bench p (at (c ∷ cs) (run_seen run) None rs ts) q result.event) same
-                    (outside-moves p secrets codes c cs ts us rs notes told did bench kept result cached (run_seen run) t law G refl);
+                moved = subst (λ (q : WordLp). Moved secrets (code_in codes) did bench p (at (c ∷ cs) (run_seen run) None rs ts ms) q result.event) same
+                    (outside-moves p secrets codes c cs ts us rs notes told ms ns did bench kept result made cached adds (run_seen run) t law G refl);
                 room = λ longest. subst (λ (q : WordLp). room_of longest q.lines q.run q.guest ≤ room_of longest (c ∷ cs) (run_seen run) None) same
-                    (outside-room p secrets codes c cs ts us rs notes told did bench kept result cached (run_seen run) t longest G refl result.reply);
+                    (outside-room p secrets codes c cs ts us rs notes told ms ns did bench kept result made cached adds (run_seen run) t longest G refl result.reply);
               }
 
-          by : (guest : Option GuestAt) (run step : Option Running) → acting guest run ≡ None → KeepsGuest p.machine codes ts (length rs + 1) guest run step → LeafTurned did p.machine (call_ends p.machine c) (running (task_of p c) (run_seen run)) bench kept result → HasEnded (rs ++ z ∷ []) (c ∷ cs) guest run step
+          by : (guest : Option GuestAt) (run step : Option Running) → acting guest run ≡ None → KeepsGuest p.machine codes ts (length rs + 1) guest run step → LeafTurned did p.machine (call_ends p.machine c) (running (task_of p c) (run_seen run)) bench kept result made → HasEnded (rs ++ z ∷ []) (c ∷ cs) guest run step
           by None run step own keeps t = subst (λ (s : Option Running). HasEnded (rs ++ z ∷ []) (c ∷ cs) None run s) (sym (none-kept step keeps)) (outside run t)
           by (Some g) None step own keeps t = absurd keeps
           by (Some g) (Some r) step own keeps t =
               let x : WordGuest = guest_seen g (run_seen step) in
               let same = then-is t.stands t.seen (Some x) in
               record {
-                moved = subst (λ (q : WordLp). Moved secrets (code_in codes) did bench p (at (c ∷ cs) (Some (standing_of r)) (Some x) rs ts) q result.event) same
-                    (inside-moves p secrets codes c cs ts us rs notes told did bench kept result cached r x keeps.0 t law (gives-back (gives_epoch_back r.run.held.items) g own));
+                moved = subst (λ (q : WordLp). Moved secrets (code_in codes) did bench p (at (c ∷ cs) (Some (standing_of r)) (Some x) rs ts ms) q result.event) same
+                    (inside-moves p secrets codes c cs ts us rs notes told ms ns did bench kept result made cached adds r x keeps.0 t law (gives-back (gives_epoch_back r.run.held.items) g own));
                 room = λ longest. subst (λ (q : WordLp). room_of longest q.lines q.run q.guest ≤ room_of longest (c ∷ cs) (Some (standing_of r)) (Some x)) same
-                    (inside-room p secrets codes c cs ts us rs notes told did bench kept result cached r x keeps.0 t longest result.reply);
+                    (inside-room p secrets codes c cs ts us rs notes told ms ns did bench kept result made cached adds r x keeps.0 t longest result.reply);
               }
 
       pub line-has-ended : (z : Reply) (replies : List Reply) → result.reply ≡ Some z → replies ≡ rs ++ z ∷ [] → HasEnded replies lines guest run step
@@ -134,9 +135,9 @@ module _ (p : Place) (secrets : ℕ → ℕ) (codes : List CodeSeen) (c : Call) 
 
 -- an event of the guest
 
-module _ (p : Place) (secrets : ℕ → ℕ) (codes : List CodeSeen) (rs : List Reply) (told : List ℕ) (notes : List Note) (ts : List Translation) where
+module _ (p : Place) (secrets : ℕ → ℕ) (codes : List CodeSeen) (rs : List Reply) (told : List ℕ) (notes : List Note) (ts : List Translation) (ms : List Made) where
   abbrev pub inside : List Call → Option Standing → Option WordGuest → List Translation → List Note → List ℕ → WordLp
-  inside lines run g xs ns words = record { lines = lines; run = run; guest = g; replies = rs; beside = record { cached = xs; notes = ns; told = words; bundles = [] } }
+  inside lines run g xs ns words = record { lines = lines; run = run; guest = g; replies = rs; beside = record { cached = xs; notes = ns; told = words; bundles = ms } }
 
   module _ {B : Type 0} (did : List Taken → B → Type 0) (bench : B) (kept : Option Running) (result : LeafTurn) (us : List Translation) (s : Step) (g : GuestAt) (h : Option GuestAt) (step : Option Running) where
     -- the turn of its step at a line
@@ -144,7 +145,7 @@ module _ (p : Place) (secrets : ℕ → ℕ) (codes : List CodeSeen) (rs : List 
       pub counts : CanCount g s
       pub low : IsStepOf s
       pub is : next_in ts g None ≡ s
-      pub turned : LeafTurned did p.machine (step_ends g.tdr line s) (running (step_task secrets p g.tdr g.vp line s) (run_seen step)) bench kept result
+      pub turned : LeafTurned did p.machine (step_ends g.tdr line s) (running (step_task secrets p g.tdr g.vp line s) (run_seen step)) bench kept result []
       pub cached : us ≡ cached_by (step_answer g.tdr line s) result.act ts
       pub next : IsNextGuest g s result.reply h
 
@@ -159,7 +160,7 @@ module _ (p : Place) (secrets : ℕ → ℕ) (codes : List CodeSeen) (rs : List 
         let t = subst StepsAt same at in
         let a : Acts g guest run = acts-in guest run g acts in
         let inside = kept-of p.machine codes ts at_line guest run g step acts keeps in
-        let fits = guest-fits p secrets codes c cs a.line g step ts us rs notes told did bench kept result s h t.is inside t.counts t.low t.turned t.cached t.next (longest_in codes) made refl few none makes in
+        let fits = guest-fits p secrets codes c cs a.line g step ts us rs notes told ms did bench kept result s h t.is inside t.counts t.low t.turned t.cached t.next (longest_in codes) made refl few none makes in
         let less : made ≤ room_of (longest_in codes) (c ∷ cs) (Some (standing_of a.line)) (guest_in (Some g) step) = omega (arith, fits) in
         subst (λ (y : Option GuestAt). made ≤ room_of (longest_in codes) (c ∷ cs) (run_seen run) (guest_in y step)) (sym a.guest_is)
         (subst (λ (k : Option Running). made ≤ room_of (longest_in codes) (c ∷ cs) (run_seen k) (guest_in (Some g) step)) (sym a.run_is) less)
@@ -201,8 +202,8 @@ module _ (p : Place) (secrets : ℕ → ℕ) (codes : List CodeSeen) (rs : List 
                 on r back keeps seen = record {
                   moved = subst (λ (z : Option Standing). Moved secrets (code_in codes) did bench p (inside (c ∷ cs) (Some (standing_of r)) (guest_in (Some g) step) ts notes told) (inside (c ∷ cs) z (guest_in h kept) us notes' told') result.event) (sym seen)
                       (subst (λ (q : WordLp). Moved secrets (code_in codes) did bench p (inside (c ∷ cs) (Some (standing_of r)) (guest_in (Some g) step) ts notes told) (record { lines = c ∷ cs; run = line_then s result.reply (Some (standing_of r)); guest = guest_in h kept; replies = rs; beside = q.beside }) result.event) (sym then-are)
-                      (guest-moved p secrets codes c cs r g step ts us rs notes told did bench kept result s h t.is keeps.1 t.counts t.low t.turned t.cached t.next law back));
-                  keeps = guest-keeps p secrets codes c cs r g step ts us rs notes told did bench kept result s h t.is keeps.1 t.counts t.low t.turned t.cached t.next run' seen answered list;
+                      (guest-moved p secrets codes c cs r g step ts us rs notes told ms did bench kept result s h t.is keeps.1 t.counts t.low t.turned t.cached t.next law back));
+                  keeps = guest-keeps p secrets codes c cs r g step ts us rs notes told ms did bench kept result s h t.is keeps.1 t.counts t.low t.turned t.cached t.next run' seen answered list;
                   room = λ made few none makes. subst (λ (z : Option Standing). room_of (longest_in codes) (c ∷ cs) z (guest_in h kept) + made ≤ room_of (longest_in codes) (c ∷ cs) (Some (standing_of r)) (guest_in (Some g) step)) (sym seen)
-                      (guest-fits p secrets codes c cs r g step ts us rs notes told did bench kept result s h t.is keeps.1 t.counts t.low t.turned t.cached t.next (longest_in codes) made refl few none makes);
+                      (guest-fits p secrets codes c cs r g step ts us rs notes told ms did bench kept result s h t.is keeps.1 t.counts t.low t.turned t.cached t.next (longest_in codes) made refl few none makes);
                 }

@@ -1,5 +1,5 @@
 -- A turn of the run of a guest's step is a turn of its processor.
-use Rattle.std.proofs.Common.{◌≡◌, ℕ, ◌+◌, ◌-◌, ◌*◌, ◌<◌, ◌≤◌, List, length, Option, Some, None, slice_get, refl, ap, sym, ◌∙◌, subst, arith}
+use Rattle.std.proofs.Common.{◌≡◌, ℕ, ◌+◌, ◌-◌, ◌*◌, ◌<◌, ◌≤◌, List, [], length, Option, Some, None, slice_get, refl, ap, sym, ◌∙◌, subst, arith}
 use Rattle.td_words.specs.declared.calls.Call.{Call}
 use Rattle.td_words.specs.declared.calls.GuestOp.{GuestOp}
 use Rattle.td_words.specs.declared.calls.GuestOp.TheVariants as op
@@ -41,15 +41,15 @@ pub record GuestMoved {B : Type 0} (did : List Taken → B → Type 0) (bench : 
   pub turn : GuestTurn (place_table p secrets codes) p.machine c cs line g rs b result.event pieces q
 
 guest-moves-at : TurnsInPieces → {B : Type 0} (did : List Taken → B → Type 0) (bench : B) (p : Place) (secrets : ℕ → ℕ) (codes : ℕ → ℕ → List GuestOp) (c : Call) (cs : List Call) (line : Standing) (g : WordGuest) (rs : List Reply) (b : Beside) (kept : Option Running) (q : WordLp) (result : LeafTurn)
-    → let s = step_of codes b.cached g in let e = step_ends g.tdr (length rs + 1) s in (t : LeafTurned did p.machine e (running (step_task secrets p g.tdr g.vp (length rs + 1) s) g.run) bench kept result)
-    → q ≡ after_step c cs line g rs (beside_by e.answer result.act b) s t.stands result.reply → GuestMoved did bench p secrets codes c cs line g rs b q result
+    → let s = step_of codes b.cached g in let e = step_ends g.tdr (length rs + 1) s in (t : LeafTurned did p.machine e (running (step_task secrets p g.tdr g.vp (length rs + 1) s) g.run) bench kept result [])
+    → q ≡ after_step c cs line g rs (beside_by e.answer [] result.act b) s t.stands result.reply → GuestMoved did bench p secrets codes c cs line g rs b q result
 guest-moves-at law did bench p secrets codes c cs line g rs b kept q result t after =
     let s : Step = step_of codes b.cached g in
     let e : Ends = step_ends g.tdr (length rs + 1) s in
     let run : Standing = running (step_task secrets p g.tdr g.vp (length rs + 1) s) g.run in
     let told = law.told p.machine run t.stands t.turned.0 (turn_of result) t.turned.2 in
     let gives : Gives e run t.stands result.event = turn-gives p.machine e run t.stands t.turned.0 result.event t.few_tries t.fits t.oldest t.turned.2.turn in
-    let besides : beside_by e.answer result.act b ≡ beside_after result.event t.stands.rest b = ap (λ (z : Option Reply). beside_by e.answer z b) t.act_is ∙ sym (gives.beside b) in
+    let besides : beside_by e.answer [] result.act b ≡ beside_after result.event t.stands.rest b = (λ i. beside_by e.answer (t.made_is i) (t.act_is i) b) ∙ sym (gives.beside b) in
     record {
       pieces = told.0;
       did_them = subst (λ (zs : List Taken). did zs bench) (sym told.2) t.turned.1;
@@ -66,11 +66,11 @@ guest-moves-at law did bench p secrets codes c cs line g rs b kept q result t af
 
 -- whatever its step is
 pub guest-moves : TurnsInPieces → {B : Type 0} (did : List Taken → B → Type 0) (bench : B) (p : Place) (secrets : ℕ → ℕ) (codes : ℕ → ℕ → List GuestOp) (c : Call) (cs : List Call) (line : Standing) (g : WordGuest) (rs : List Reply) (b : Beside) (kept : Option Running) (q : WordLp) (result : LeafTurn)
-    (s : Step) → step_of codes b.cached g ≡ s → let e = step_ends g.tdr (length rs + 1) s in (t : LeafTurned did p.machine e (running (step_task secrets p g.tdr g.vp (length rs + 1) s) g.run) bench kept result)
-    → q ≡ after_step c cs line g rs (beside_by e.answer result.act b) s t.stands result.reply → GuestMoved did bench p secrets codes c cs line g rs b q result
+    (s : Step) → step_of codes b.cached g ≡ s → let e = step_ends g.tdr (length rs + 1) s in (t : LeafTurned did p.machine e (running (step_task secrets p g.tdr g.vp (length rs + 1) s) g.run) bench kept result [])
+    → q ≡ after_step c cs line g rs (beside_by e.answer [] result.act b) s t.stands result.reply → GuestMoved did bench p secrets codes c cs line g rs b q result
 guest-moves law did bench p secrets codes c cs line g rs b kept q result s is =
     subst
-    (λ (z : Step). let e = step_ends g.tdr (length rs + 1) z in (t : LeafTurned did p.machine e (running (step_task secrets p g.tdr g.vp (length rs + 1) z) g.run) bench kept result) → q ≡ after_step c cs line g rs (beside_by e.answer result.act b) z t.stands result.reply
+    (λ (z : Step). let e = step_ends g.tdr (length rs + 1) z in (t : LeafTurned did p.machine e (running (step_task secrets p g.tdr g.vp (length rs + 1) z) g.run) bench kept result []) → q ≡ after_step c cs line g rs (beside_by e.answer [] result.act b) z t.stands result.reply
     → GuestMoved did bench p secrets codes c cs line g rs b q result)
     is
     (guest-moves-at law did bench p secrets codes c cs line g rs b kept q result)

@@ -1,5 +1,5 @@
 -- What each leaf comes to: it tries at most as many locks as its row, and its answer goes by its reply.
-use Rattle.std.proofs.Common.{◌≡◌, ◌∙◌, ℕ, zero, suc, ◌+◌, ◌-◌, ◌/◌, ◌%◌, ◌^◌, ◌<◌, ◌≤◌, ◌==◌, ◌&&◌, nat_lt, if◌then◌else◌, Bool, true, false, Option, Some, None, List, [], ◌∷◌, ◌++◌, refl, ap, sym, subst, arith}
+use Rattle.std.proofs.Common.{◌≡◌, ◌∙◌, ℕ, zero, suc, ◌+◌, ◌-◌, ◌/◌, ◌%◌, ◌^◌, ◌<◌, ◌≤◌, ◌==◌, ◌&&◌, nat_lt, if◌then◌else◌, Bool, true, false, Option, Some, None, List, [], ◌∷◌, ◌++◌, length, refl, ap, sym, subst, arith}
 use Rattle.std.proofs.lemmas.Bool.{lt-ltb}
 use Rattle.td_words.specs.declared.machines.Machine.{Machine}
 use Rattle.td_words.specs.declared.calls.Call.{Call}
@@ -33,7 +33,7 @@ use Rattle.flat_core.specs.MemRows.{entry_value, open_states, blocked_states, re
 use Rattle.flat_core.specs.Table.{most_tries}
 use Rattle.leaf_engine.specs.declared.needs.Place.{Place}
 use Rattle.leaf_engine.specs.Changes.{Change}
-use Rattle.leaf_engine.specs.Trees.{only, Tree, Lock, Load, Test, End, Since, needs, answers, acts, done}
+use Rattle.leaf_engine.specs.Trees.{Answer, only, Tree, Lock, Load, Test, End, Since, needs, answers, acts, done}
 use Rattle.leaf_engine.specs.Guests.{Step, Operates, Accesses, Loads, Leaves}
 use Rattle.leaf_parts.specs.declared.vp_words.VpWord.{VpWord}
 use Rattle.leaf_parts.specs.Words.{says_host, page_told, vps_told}
@@ -62,11 +62,22 @@ use Rattle.flat_core.specs.ExportRows.{live_ops, writable_states, write_blocked_
 use Rattle.export_core.specs.OpenedTrees.{opened_tree}
 use Rattle.export_core.specs.WriteTrees.{held_tree, page_tree, writable_tree, block_write_rest, unblock_write_rest}
 use Rattle.export_core.specs.RestoreTrees.{restore_rest}
+use Rattle.arrayvec.specs.ArrayVec.{ArrayVec}
+use Rattle.stream_parts.specs.Streams.{streams_told, pages_from, sum_from}
+use Rattle.export_sessions.specs.SessionTrees.{words_tree as mrtd_tree, session_rest, with_mrtd, session_end, immutable_task}
+use Rattle.export_sessions.specs.declared.changes.Session.{Session}
+use Rattle.export_states.specs.declared.states.Stated.{Stated}
+use Rattle.export_states.specs.StateTrees.{state_end}
+use Rattle.td_words.specs.declared.places.TheConstants.{TDCS_MRTD}
+use Rattle.export_tokens.specs.TokenTrees.{token_task}
+use Rattle.export_states.specs.TdStateTrees.{td_changes, td_state_tree, rtmr_at as td_rtmr_at, rtmrs_tree, td_state_task}
+use Rattle.export_states.specs.VpStateTrees.{vp_changes, vp_state_tree, registers_tree, vp_state_task}
 use Rattle.mem_build.specs.PageAugTrees.{page_aug_rest}
 use Rattle.mem_build.specs.PageAddTrees.{page_add_tree, pages_tree, addition_end}
 use Rattle.mem_build.specs.ExtendTrees.{words_tree, measured_tree, measure_tree}
-use Rattle.leaf_dispatch.specs.Answers.{Ends, call_ends, is_page_seen, step_ends, step_tries, EndsAs, BeginsUnderOther}
+use Rattle.leaf_dispatch.specs.Answers.{Ends, call_ends, is_page_seen, step_ends, step_tries, with_bundles, MakesOne, EndsBy, EndsAs, BeginsUnderOther}
 use Rattle.leaf_dispatch.specs.Table.{task_of, step_task}
+use Rattle.leaf_dispatch.proofs.Lowering.{only-ends}
 
 -- at most so many locks are tried in a tree, whatever words it is told, and it answers nothing besides a reply
 abbrev pub TriesAtMost : ℕ → Tree → Type 0
@@ -76,12 +87,16 @@ TriesAtMost n (Test b r t) = TriesAtMost n t
 TriesAtMost n (End a fs cs) = a ≡ only a.reply
 TriesAtMost n (Since a cs) = a ≡ only a.reply
 
-plain-ends : (e : Ends) → ((r : Reply) → only r ≡ e.answer r) → ((r : Reply) → e.fits r ≡ true) → (n : ℕ) (t : Tree) → TriesAtMost n t → EndsAs e n t
+-- an end that answers a reply alone
+plain-end : (o : Option ℕ) (a b : Answer) → a ≡ only a.reply → only a.reply ≡ b → EndsBy o a b
+plain-end o a b plain same = subst (λ (z : Answer). EndsBy o z b) (sym plain) (only-ends o a.reply b same)
+
+pub plain-ends : (e : Ends) → ((r : Reply) → only r ≡ e.answer r) → ((r : Reply) → e.fits r ≡ true) → (n : ℕ) (t : Tree) → TriesAtMost n t → EndsAs e n t
 plain-ends e h f n (Lock l q m t) few = (few.0, plain-ends e h f (n - 1) t few.1)
 plain-ends e h f n (Load v q k) few = λ x. plain-ends e h f n (k (look v x)) (few (look v x))
 plain-ends e h f n (Test b r t) few = (h r, f r, λ y. plain-ends e h f n t few)
-plain-ends e h f n (End a fs cs) few = (few ∙ h a.reply, f a.reply)
-plain-ends e h f n (Since a cs) few = (few ∙ h a.reply, f a.reply)
+plain-ends e h f n (End a fs cs) few = (plain-end e.makes a (e.answer a.reply) few (h a.reply), f a.reply)
+plain-ends e h f n (Since a cs) few = (plain-end e.makes a (e.answer a.reply) few (h a.reply), f a.reply)
 
 read-few : (n page i : ℕ) (host : Bool) → TriesAtMost n (read_word page i host)
 read-few n page i true = λ word. refl
@@ -111,7 +126,7 @@ walk-few n pages gpa (suc count) level page k few = λ word. walk-few n pages gp
 find-few : (n pages t gpa level : ℕ) (k : Found → Tree) → ((f : Found) → TriesAtMost n (k f)) → TriesAtMost n (find_tree pages t gpa level k)
 find-few n pages t gpa level k few = λ root. walk-few n pages gpa (3 - level) 3 _ _ (λ page word. few _)
 
-words-few : (n page at left : ℕ) (seen : List ℕ) (k : List ℕ → Tree) → ((xs : List ℕ) → TriesAtMost n (k xs)) → TriesAtMost n (words_tree page at left seen k)
+pub words-few : (n page at left : ℕ) (seen : List ℕ) (k : List ℕ → Tree) → ((xs : List ℕ) → TriesAtMost n (k xs)) → TriesAtMost n (words_tree page at left seen k)
 unfolding words_tree
 words-few n page at zero seen k few = few seen
 words-few n page at (suc left) seen k few = λ word. words-few n page (at + 1) left _ k few
@@ -169,22 +184,120 @@ from-few : (n : ℕ) (is_previous : Bool) (tdcs blocked epoch : ℕ) (further : 
 from-few n true tdcs blocked epoch further few = λ count. few
 from-few n false tdcs blocked epoch further few = few
 
-tracked-few : (n tdcs page : ℕ) (further : Tree) → TriesAtMost n further → TriesAtMost n (tracked_tree tdcs page further)
+pub tracked-few : (n tdcs page : ℕ) (further : Tree) → TriesAtMost n further → TriesAtMost n (tracked_tree tdcs page further)
 tracked-few n tdcs page further few = λ pamt epoch. from-few n (blocked_told pamt + 1 == epoch) tdcs (blocked_told pamt) epoch further few
 
 either-few : (n : ℕ) (b : Bool) (x y : Tree) → TriesAtMost n x → TriesAtMost n y → TriesAtMost n (if b then x else y)
 either-few n true x y few others = few
 either-few n false x y few others = others
 
-scan-few : (n pages page at left : ℕ) (further : Tree) → TriesAtMost n further → TriesAtMost n (scan_tree pages page at left further)
+pub scan-few : (n pages page at left : ℕ) (further : Tree) → TriesAtMost n further → TriesAtMost n (scan_tree pages page at left further)
 unfolding scan_tree
 scan-few n pages page at zero further few = few
 scan-few n pages page at (suc left) further few = λ word. either-few n (is_used pages word) (needs false (SeptNotEmpty at) further) (scan_tree pages page (suc at) left further) few (scan-few n pages page (suc at) left further few)
+
+-- at most so many locks are tried in a tree, and it makes a bundle of at most so many payload words, with nothing else besides
+-- a reply
+abbrev pub MakesAtMost : (words n : ℕ) → Tree → Type 0
+MakesAtMost w n (Lock l q m t) = (1 ≤ n) × MakesAtMost w (n - 1) t
+MakesAtMost w n (Load v q k) = (x : ℕ) → MakesAtMost w n (k x)
+MakesAtMost w n (Test b r t) = MakesAtMost w n t
+MakesAtMost w n (End a fs cs) = (a ≡ with_bundles a.bundles (only a.reply)) × MakesOne w a.bundles
+MakesAtMost w n (Since a cs) = (a ≡ with_bundles a.bundles (only a.reply)) × MakesOne w a.bundles
+
+making-end : (o : Option ℕ) (w : ℕ) (a b : Answer) → o ≡ Some w → (a ≡ with_bundles a.bundles (only a.reply)) × MakesOne w a.bundles → only a.reply ≡ b → EndsBy o a b
+making-end o w a b makes made same = subst (λ (z : Option ℕ). EndsBy z a b) (sym makes) (made.0 ∙ ap (with_bundles a.bundles) same, made.1)
+
+making-ends : (e : Ends) (w : ℕ) → e.makes ≡ Some w → ((r : Reply) → only r ≡ e.answer r) → ((r : Reply) → e.fits r ≡ true) → (n : ℕ) (t : Tree) → MakesAtMost w n t → EndsAs e n t
+making-ends e w makes h f n (Lock l q m t) few = (few.0, making-ends e w makes h f (n - 1) t few.1)
+making-ends e w makes h f n (Load v q k) few = λ x. making-ends e w makes h f n (k (look v x)) (few (look v x))
+making-ends e w makes h f n (Test b r t) few = (h r, f r, λ y. making-ends e w makes h f n t few)
+making-ends e w makes h f n (End a fs cs) few = (making-end e.makes w a (e.answer a.reply) makes few (h a.reply), f a.reply)
+making-ends e w makes h f n (Since a cs) few = (making-end e.makes w a (e.answer a.reply) makes few (h a.reply), f a.reply)
+
+-- walks over streams, and over the words of a payload
+pages-make : (w n pages tdcs number left : ℕ) (ps : ArrayVec ℕ) (k : ArrayVec ℕ → Tree) → ((qs : ArrayVec ℕ) → MakesAtMost w n (k qs)) → MakesAtMost w n (pages_from pages tdcs number left ps k)
+pages-make w n pages tdcs number zero ps k few = few ps
+pages-make w n pages tdcs number (suc left) ps k few = λ stream. pages-make w n pages tdcs (number + 1) left _ k few
+
+sum-make : (w n at : ℕ) (ps : List ℕ) (sum : ℕ) (k : ℕ → Tree) → ((x : ℕ) → MakesAtMost w n (k x)) → MakesAtMost w n (sum_from at ps sum k)
+sum-make w n at [] sum k few = few sum
+sum-make w n at (p ∷ ps) sum k few = λ word. sum-make w n at ps _ k few
+
+payload-make : (w n : ℕ) (at : ℕ → WordPlace) (from left : ℕ) (k : List ℕ → Tree) → ((xs : List ℕ) → length xs ≡ left → MakesAtMost w n (k xs)) → MakesAtMost w n (with_words at from left k)
+payload-make w n at from zero k few = few [] refl
+payload-make w n at from (suc left) k few = λ x. payload-make w n at (from + 1) left (λ xs. k (x ∷ xs)) (λ xs long. few (x ∷ xs) (omega (arith, long)))
+
+mrtd-makes : (w n page at left : ℕ) (k : List ℕ → Tree) → ((xs : List ℕ) → length xs ≡ left → MakesAtMost w n (k xs)) → MakesAtMost w n (mrtd_tree page at left k)
+mrtd-makes w n page at zero k few = few [] refl
+mrtd-makes w n page at (suc left) k few = λ x. mrtd-makes w n page (at + 1) left (λ xs. k (x ∷ xs)) (λ xs long. few (x ∷ xs) (omega (arith, long)))
+
+mrtd-make : (slot : ℕ) (x : Session) → MakesAtMost 6 0 (with_mrtd (session_end slot) x)
+mrtd-make slot x = mrtd-makes 6 0 x.tdcs TDCS_MRTD 6 (λ words. session_end slot (record { session = x; mrtd = words })) (λ xs long. (refl, omega (arith, long)))
+
+session-makes : (pages tdcs : ℕ) (k : Session → Tree) → ((x : Session) → MakesAtMost 6 0 (k x)) → MakesAtMost 6 1 (session_rest pages tdcs k)
+session-makes pages tdcs k few = (
+  omega arith,
+  λ streams. pages-make 6 0 pages tdcs 0 (streams_told streams) _ _ (λ ps. λ unrestored. sum-make 6 0 _ ps.items 0 _ (λ first. λ last vps. few (record { tdcs = tdcs; streams = ps; number = last + 1; vps = vps_told vps }))),
+)
+
+immutable-makes : (p : Place) (tdr slot : ℕ) → MakesAtMost 6 3 (immutable_task p tdr slot).tree
+immutable-makes p tdr slot = (
+  omega arith,
+  λ pamt life count tdcs. (omega arith, λ op. session-makes p.machine.pages (page_told p.machine.pages tdcs) (with_mrtd (session_end slot)) (mrtd-make slot)),
+)
+
+token-makes : (p : Place) (tdr slot start : ℕ) → MakesAtMost 0 3 (token_task p tdr slot start).tree
+token-makes p tdr slot zero = (
+  omega arith,
+  λ pamt life count tdcs. (
+    omega arith,
+    λ op. (
+      omega arith,
+      λ stream counter streams. pages-make 0 0 p.machine.pages _ 0 (streams_told streams) _ _ (λ ps. λ epoch. sum-make 0 0 _ ps.items 0 _ (λ total. λ session. (refl, omega arith))),
+    ),
+  ),
+)
+token-makes p tdr slot (suc n) = (
+  omega arith,
+  λ pamt life count tdcs. (
+    omega arith,
+    λ op. (
+      omega arith,
+      λ stream counter streams. pages-make 0 0 p.machine.pages _ 0 (streams_told streams) _ _ (λ ps. λ td vps vps_exported dirtied. sum-make 0 0 _ ps.items 0 _ (λ cleaned. sum-make 0 0 _ ps.items 0 _ (λ total. λ session. (refl, omega arith)))),
+    ),
+  ),
+)
+
+rtmrs-make : (slot : ℕ) (x : Stated) → MakesAtMost 24 0 (rtmrs_tree slot x)
+rtmrs-make slot x = payload-make 24 0 (td_rtmr_at x) 0 24 (state_end slot 1 td_changes x) (λ xs long. (refl, omega (arith, long)))
+
+td_rest-makes : (w n pages tdcs : ℕ) (k : Stated → Tree) → ((x : Stated) → MakesAtMost w n (k x)) → MakesAtMost w n (td_state_tree pages tdcs k)
+td_rest-makes w n pages tdcs k few = λ exported stream counter session epoch. few (record { tdcs = tdcs; count = 0; room = record { page = page_told pages stream; counter = counter }; session = session % 2 ^ 16; epoch = epoch % 2 ^ 32; index = 0; info = 0 })
+
+td_state-makes : (p : Place) (tdr slot : ℕ) → MakesAtMost 24 2 (td_state_task p tdr slot).tree
+td_state-makes p tdr slot = (omega arith, λ pamt life count tdcs. (omega arith, λ op. td_rest-makes 24 0 p.machine.pages (page_told p.machine.pages tdcs) (rtmrs_tree slot) (rtmrs-make slot)))
+
+registers-make : (vp slot : ℕ) (x : Stated) → MakesAtMost 8 0 (registers_tree vp slot x)
+registers-make vp slot x = payload-make 8 0 (register_at vp) 0 8 (state_end slot 2 (vp_changes vp) x) (λ xs long. (refl, omega (arith, long)))
+
+vp_rest-makes : (pages tdr tdcs vp : ℕ) (k : Stated → Tree) → ((x : Stated) → MakesAtMost 8 0 (k x)) → MakesAtMost 8 1 (vp_state_tree pages tdr tdcs vp k)
+vp_rest-makes pages tdr tdcs vp k few = (omega arith, λ pamt exported session stream counter epoch index position exports. few (record { tdcs = tdcs; count = exports; room = record { page = page_told pages stream; counter = counter }; session = session % 2 ^ 16; epoch = epoch % 2 ^ 32; index = index % 2 ^ 16; info = position % 2 ^ 32 }))
+
+vp_state-makes : (p : Place) (tdr vp slot : ℕ) → MakesAtMost 8 3 (vp_state_task p tdr vp slot).tree
+vp_state-makes p tdr vp slot = (
+  omega arith,
+  λ pamt life count tdcs. (omega arith, λ op. vp_rest-makes p.machine.pages tdr (page_told p.machine.pages tdcs) vp (registers_tree vp slot) (registers-make vp slot)),
+)
 
 -- calls whose answer is their reply alone
 abbrev only_replies : Call → Bool
 only_replies (call.VpEnter tdr vp most) = false
 only_replies (call.VpFlush tdr vp) = false
+only_replies (call.ExportStateImmutable tdr slot) = false
+only_replies (call.ExportTrack tdr slot start) = false
+only_replies (call.ExportStateTd tdr slot) = false
+only_replies (call.ExportStateVp tdr vp slot) = false
 only_replies _ = true
 
 pub few_tries : (p : Place) (c : Call) → only_replies c ≡ true → TriesAtMost (most_tries c) (task_of p c).tree
@@ -207,6 +320,10 @@ few_tries p (call.MrFinalize tdr) h = (omega arith, λ pamt life count tdcs. (om
 few_tries p (call.VpCreate tdr page) h = (omega arith, λ pamt life count tdcs. (omega arith, λ op vps expected. (omega arith, λ host children. refl)))
 few_tries p (call.VpEnter tdr vp most) h = cc
 few_tries p (call.VpFlush tdr vp) h = cc
+few_tries p (call.ExportStateImmutable tdr slot) h = cc
+few_tries p (call.ExportTrack tdr slot start) h = cc
+few_tries p (call.ExportStateTd tdr slot) h = cc
+few_tries p (call.ExportStateVp tdr vp slot) h = cc
 few_tries p (call.VpInit tdr vp value) h = (omega arith, λ pamt life count tdcs. (omega arith, λ op. (omega arith, λ host state. refl)))
 few_tries p (call.MemSeptAdd tdr gpa level page) h = (omega arith, λ pamt life count tdcs. (omega arith, λ op. (omega arith, find-few 1 p.machine.pages tdr gpa level (sept_add_rest p.machine.pages tdr page (index_at level gpa)) (λ f. (omega arith, λ host children. refl)))))
 few_tries p (call.MemSeptRd tdr gpa level) h = (omega arith, λ pamt life count tdcs. (omega arith, λ op. (omega arith, find-few 0 p.machine.pages tdr gpa level (λ (f : Found). answers (Done (entry_value f.entry))) (λ f. refl))))
@@ -338,6 +455,10 @@ ends_as p (call.ExportUnblockw tdr gpa) = plain-ends (call_ends p.machine (call.
 ends_as p (call.ExportPause tdr) = plain-ends (call_ends p.machine (call.ExportPause tdr)) (λ r. refl) (λ r. refl) (most_tries (call.ExportPause tdr)) (task_of p (call.ExportPause tdr)).tree (few_tries p (call.ExportPause tdr) refl)
 ends_as p (call.ExportAbort tdr) = plain-ends (call_ends p.machine (call.ExportAbort tdr)) (λ r. refl) (λ r. refl) (most_tries (call.ExportAbort tdr)) (task_of p (call.ExportAbort tdr)).tree (few_tries p (call.ExportAbort tdr) refl)
 ends_as p (call.ExportRestore tdr gpa) = plain-ends (call_ends p.machine (call.ExportRestore tdr gpa)) (λ r. refl) (λ r. refl) (most_tries (call.ExportRestore tdr gpa)) (task_of p (call.ExportRestore tdr gpa)).tree (few_tries p (call.ExportRestore tdr gpa) refl)
+ends_as p (call.ExportStateImmutable tdr slot) = making-ends (call_ends p.machine (call.ExportStateImmutable tdr slot)) 6 refl (λ r. refl) (λ r. refl) 3 (immutable_task p tdr slot).tree (immutable-makes p tdr slot)
+ends_as p (call.ExportTrack tdr slot start) = making-ends (call_ends p.machine (call.ExportTrack tdr slot start)) 0 refl (λ r. refl) (λ r. refl) 3 (token_task p tdr slot start).tree (token-makes p tdr slot start)
+ends_as p (call.ExportStateTd tdr slot) = making-ends (call_ends p.machine (call.ExportStateTd tdr slot)) 24 refl (λ r. refl) (λ r. refl) 2 (td_state_task p tdr slot).tree (td_state-makes p tdr slot)
+ends_as p (call.ExportStateVp tdr vp slot) = making-ends (call_ends p.machine (call.ExportStateVp tdr vp slot)) 8 refl (λ r. refl) (λ r. refl) 3 (vp_state_task p tdr vp slot).tree (vp_state-makes p tdr vp slot)
 ends_as p (call.MrExtend tdr gpa) = plain-ends (call_ends p.machine (call.MrExtend tdr gpa)) (λ r. refl) (λ r. refl) (most_tries (call.MrExtend tdr gpa)) (task_of p (call.MrExtend tdr gpa)).tree (few_tries p (call.MrExtend tdr gpa) refl)
 
 page_add-begins : (m : Machine) (t gpa page source : ℕ) → BeginsUnderOther (page_add_tree m t gpa page source)
@@ -380,20 +501,25 @@ begins_other p (call.ExportUnblockw tdr gpa) = refl
 begins_other p (call.ExportPause tdr) = refl
 begins_other p (call.ExportAbort tdr) = refl
 begins_other p (call.ExportRestore tdr gpa) = refl
+begins_other p (call.ExportStateImmutable tdr slot) = refl
+begins_other p (call.ExportTrack tdr slot zero) = refl
+begins_other p (call.ExportTrack tdr slot (suc n)) = refl
+begins_other p (call.ExportStateTd tdr slot) = refl
+begins_other p (call.ExportStateVp tdr vp slot) = refl
 begins_other p (call.MrExtend tdr gpa) = refl
 
 -- steps of guests
 
-or-ends : (e : Ends) (n gpa : ℕ) (b : Bool) (t : Tree) → only (Exited (EptViolation gpa Write)) ≡ e.answer (Exited (EptViolation gpa Write)) → e.fits (Exited (EptViolation gpa Write)) ≡ true → only (Done value.Nothing) ≡ e.answer (Done value.Nothing) → e.fits (Done value.Nothing) ≡ true
+or-ends : (e : Ends) (n gpa : ℕ) (b : Bool) (t : Tree) → only (Exited (EptViolation gpa Write)) ≡ e.answer (Exited (EptViolation gpa Write)) → e.fits (Exited (EptViolation gpa Write)) ≡ true → EndsBy e.makes (only (Done value.Nothing)) (e.answer (Done value.Nothing)) → e.fits (Done value.Nothing) ≡ true
     → EndsAs e n t → EndsAs e n (or_violation gpa b t)
 or-ends e n gpa true t h f i g few = few
 or-ends e n gpa false t h f i g few = (h, f, λ y. (i, g))
 
-passed-ends : (e : Ends) (n pages gpa page level : ℕ) (further : ℕ → Tree) → only (Exited (EptViolation gpa Write)) ≡ e.answer (Exited (EptViolation gpa Write)) → e.fits (Exited (EptViolation gpa Write)) ≡ true → only (Done value.Nothing) ≡ e.answer (Done value.Nothing) → e.fits (Done value.Nothing) ≡ true
+passed-ends : (e : Ends) (n pages gpa page level : ℕ) (further : ℕ → Tree) → only (Exited (EptViolation gpa Write)) ≡ e.answer (Exited (EptViolation gpa Write)) → e.fits (Exited (EptViolation gpa Write)) ≡ true → EndsBy e.makes (only (Done value.Nothing)) (e.answer (Done value.Nothing)) → e.fits (Done value.Nothing) ≡ true
     → ((q : ℕ) → EndsAs e n (further q)) → EndsAs e n (passed_tree pages gpa page level further)
 passed-ends e n pages gpa page level further h f i g few = λ word. or-ends e n gpa (is_mapped_on (entry_told pages word)) (further (entry_told pages word).page) h f i g (few (entry_told pages word).page)
 
-accepted-ends : (e : Ends) (n : ℕ) (b : Bool) (v at i p position : ℕ) → only (Done value.Nothing) ≡ e.answer (Done value.Nothing) → e.fits (Done value.Nothing) ≡ true → EndsAs e n (accepted b v at i p position)
+accepted-ends : (e : Ends) (n : ℕ) (b : Bool) (v at i p position : ℕ) → EndsBy e.makes (only (Done value.Nothing)) (e.answer (Done value.Nothing)) → e.fits (Done value.Nothing) ≡ true → EndsAs e n (accepted b v at i p position)
 accepted-ends e n true v at i p position h f = (h, f)
 accepted-ends e n false v at i p position h f = (h, f)
 
@@ -401,7 +527,7 @@ with-ends : (e : Ends) (n : ℕ) (at : ℕ → WordPlace) (from left : ℕ) (k :
 with-ends e n at from zero k few = few []
 with-ends e n at from (suc left) k few = λ x. with-ends e n at (from + 1) left (λ xs. k (x ∷ xs)) (λ xs. few (x ∷ xs))
 
-rtmr-ends : (e : Ends) (v line i d : ℕ) → ((old registers : List ℕ) → let a = with_notes (Done (value.Digest (digest_bytes (six_words (extension old registers))))) (RtmrNote line i (six_words (extension old registers)) ∷ []) [] in (a ≡ e.answer a.reply) × (e.fits a.reply ≡ true))
+rtmr-ends : (e : Ends) (v line i d : ℕ) → ((old registers : List ℕ) → let a = with_notes (Done (value.Digest (digest_bytes (six_words (extension old registers))))) (RtmrNote line i (six_words (extension old registers)) ∷ []) [] in EndsBy e.makes a (e.answer a.reply) × (e.fits a.reply ≡ true))
     → EndsAs e 1 (extend_held v line i d)
 rtmr-ends e v line i d h =
     with-ends e 1 (rtmr_at d i) 0 6 (λ old. with_words (register_at v) 0 6 (λ registers. with_position v (λ at. extended v line d i at (extension old registers))))

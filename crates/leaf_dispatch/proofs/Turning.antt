@@ -4,6 +4,7 @@ use Rattle.td_words.specs.declared.machines.Machine.{Machine}
 use Rattle.td_words.specs.declared.calls.Call.{Call}
 use Rattle.td_words.specs.declared.calls.GuestOp.{GuestOp}
 use Rattle.td_words.specs.declared.replies.Reply.{Reply}
+use Rattle.flat_core.specs.World.{Made}
 use Rattle.flat_core.specs.Table.{most_tries, guest_events}
 use Rattle.flat_core.specs.Run.{events_in}
 use Rattle.step_core.specs.declared.items.Taken.{Taken}
@@ -22,27 +23,27 @@ use Rattle.leaf_dispatch.specs.declared.running.LeafTurn.{LeafTurn}
 use Rattle.leaf_dispatch.proofs.Lowering.{Gives, turn-gives}
 
 -- the present line's run before, and what its turn gives
-pub line-gives : {B : Type 0} (did : List Taken → B → Type 0) (bench : B) (m : Machine) (e : Ends) (s : Standing) (kept : Option Running) (result : LeafTurn) → (t : LeafTurned did m e s bench kept result) → Gives e s t.stands result.event
-line-gives did bench m e s kept result t = turn-gives m e s t.stands t.turned.0 result.event t.few_tries t.fits t.oldest t.turned.2.turn
+pub line-gives : {B : Type 0} (did : List Taken → B → Type 0) (bench : B) (m : Machine) (e : Ends) (s : Standing) (kept : Option Running) (result : LeafTurn) (made : List Made) → (t : LeafTurned did m e s bench kept result made) → Gives e s t.stands result.event
+line-gives did bench m e s kept result made t = turn-gives m e s t.stands t.turned.0 result.event t.few_tries t.fits t.oldest t.turned.2.turn
 
 pub record LineMoved {B : Type 0} (did : List Taken → B → Type 0) (bench : B) (p : Place) (c : Call) (cs : List Call) (run : Option Standing) (g : Option WordGuest) (rs : List Reply) (b : Beside) (q : WordLp) (result : LeafTurn) : Type 0 where
   pub pieces : List Piece
   pub did_them : did (taken_in pieces) bench
   pub turn : LineTurn (task_of p) p.machine c cs run g rs b result.event pieces q
 
--- what is left of it afterwards, by the replies of its act and of its last event
-abbrev pub after_line : Call → List Call → Option WordGuest → List Reply → Beside → Standing → LeafTurn → WordLp
-after_line c cs g rs b s t = after_turn c cs (guest_by (call_answer c) t.act g) rs (beside_by (call_answer c) t.act b) s t.reply
+-- what is left of it afterwards, by the replies of its act and of its last event, and the bundles that it made
+abbrev pub after_line : Call → List Call → Option WordGuest → List Reply → Beside → Standing → LeafTurn → List Made → WordLp
+after_line c cs g rs b s t made = after_turn c cs (guest_by (call_answer c) t.act g) rs (beside_by (call_answer c) made t.act b) s t.reply
 
-pub line-moves : TurnsInPieces → {B : Type 0} (did : List Taken → B → Type 0) (bench : B) (p : Place) (c : Call) (cs : List Call) (run : Option Standing) (g : Option WordGuest) (rs : List Reply) (b : Beside) (kept : Option Running) (q : WordLp) (result : LeafTurn)
-    → (t : LeafTurned did p.machine (call_ends p.machine c) (running (task_of p c) run) bench kept result) → q ≡ after_line c cs g rs b t.stands result
+pub line-moves : TurnsInPieces → {B : Type 0} (did : List Taken → B → Type 0) (bench : B) (p : Place) (c : Call) (cs : List Call) (run : Option Standing) (g : Option WordGuest) (rs : List Reply) (b : Beside) (kept : Option Running) (q : WordLp) (result : LeafTurn) (made : List Made)
+    → (t : LeafTurned did p.machine (call_ends p.machine c) (running (task_of p c) run) bench kept result made) → q ≡ after_line c cs g rs b t.stands result made
     → LineMoved did bench p c cs run g rs b q result
-line-moves law did bench p c cs run g rs b kept q result t after =
+line-moves law did bench p c cs run g rs b kept q result made t after =
     let s = running (task_of p c) run in
     let told = law.told p.machine s t.stands t.turned.0 (turn_of result) t.turned.2 in
-    let gives : Gives (call_ends p.machine c) s t.stands result.event = line-gives did bench p.machine (call_ends p.machine c) s kept result t in
+    let gives : Gives (call_ends p.machine c) s t.stands result.event = line-gives did bench p.machine (call_ends p.machine c) s kept result made t in
     let guest : guest_by (call_answer c) result.act g ≡ guest_after result.event t.stands.rest g = ap (λ (z : Option Reply). guest_by (call_answer c) z g) t.act_is ∙ sym (gives.guest g) in
-    let besides : beside_by (call_answer c) result.act b ≡ beside_after result.event t.stands.rest b = ap (λ (z : Option Reply). beside_by (call_answer c) z b) t.act_is ∙ sym (gives.beside b) in
+    let besides : beside_by (call_answer c) made result.act b ≡ beside_after result.event t.stands.rest b = (λ i. beside_by (call_answer c) (t.made_is i) (t.act_is i) b) ∙ sym (gives.beside b) in
     record {
       pieces = told.0;
       did_them = subst (λ (zs : List Taken). did zs bench) (sym told.2) t.turned.1;
@@ -52,7 +53,7 @@ line-moves law did bench p c cs run g rs b kept q result t after =
         going = t.going;
         after_is =
             after
-            ∙ (ap (λ (z : Option WordGuest). after_turn c cs z rs (beside_by (call_answer c) result.act b) t.stands result.reply) guest
+            ∙ (ap (λ (z : Option WordGuest). after_turn c cs z rs (beside_by (call_answer c) made result.act b) t.stands result.reply) guest
             ∙ (ap (λ (z : Beside). after_turn c cs (guest_after result.event t.stands.rest g) rs z t.stands result.reply) besides
             ∙ ap (after_turn c cs (guest_after result.event t.stands.rest g) rs (beside_after result.event t.stands.rest b) t.stands) t.turned.2.reply));
       };

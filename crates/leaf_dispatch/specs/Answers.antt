@@ -11,6 +11,7 @@ use Rattle.td_words.specs.declared.replies.Outcome.TheVariants.{Vmcall}
 use Rattle.td_words.specs.declared.replies.Value.TheVariants as value
 use Rattle.td_words.specs.declared.replies.Reply.{Reply}
 use Rattle.td_words.specs.declared.replies.Reply.TheVariants.{Done, Refused, Exited}
+use Rattle.flat_core.specs.World.{Made}
 use Rattle.flat_core.specs.Processor.{name_of, Translation, Note, LoadNote, RtmrNote}
 use Rattle.flat_core.specs.Digests.{digest_word, six_words}
 use Rattle.flat_core.specs.Table.{most_tries}
@@ -21,17 +22,19 @@ use Rattle.leaf_engine.specs.declared.events.Event.TheVariants as event
 use Rattle.leaf_engine.specs.declared.events.HeldLock.{HeldLock}
 use Rattle.leaf_engine.specs.declared.events.Stage.{Stage}
 use Rattle.leaf_engine.specs.declared.events.Stage.TheVariants as stage
-use Rattle.leaf_engine.specs.Trees.{Answer, only, Tree, Lock, Load, Test, End, Since}
-use Rattle.leaf_engine.specs.Besides.{Beside, answered_by}
+use Rattle.leaf_engine.specs.Trees.{Answer, only, added, Tree, Lock, Load, Test, End, Since}
+use Rattle.leaf_engine.specs.Besides.{Beside}
 use Rattle.leaf_engine.specs.Turns.{Standing}
 use Rattle.leaf_engine.specs.Guests.{WordGuest, Step, Operates, Accesses, Loads, Leaves, is_epoch_name, guest_entered, or_else}
 use Rattle.access_core.specs.OperationTrees.{with_notes}
 use Rattle.access_core.specs.WalkTrees.{goes_on_by, page_by, walked}
 use Rattle.vcpu_control.specs.FlushTrees.{flush_answer}
 
--- at most how many locks it tries, its answer by its reply, and which replies it has
+-- at most how many locks it tries; whether it makes a bundle, and of at most how many payload words; its answer by its reply,
+-- but for that bundle; and which replies it has
 pub record Ends : Type 0 where
   pub tries : ℕ
+  pub makes : Option ℕ
   pub answer : Reply → Answer
   pub fits : Reply → Bool
 
@@ -54,8 +57,17 @@ call_fits m (call.VpEnter tdr vp most) (Done (value.Entered stale index position
 call_fits m (call.VpFlush tdr vp) (Done value.Nothing) = nat_lt tdr m.pages
 call_fits m _ r = true
 
+-- The payload of a session's first bundle is MRTD, a token has none, that of a TD's state are the RTMRs, and that of a virtual
+-- processor's state its registers.
+abbrev pub call_makes : Call → Option ℕ
+call_makes (call.ExportStateImmutable tdr slot) = Some 6
+call_makes (call.ExportTrack tdr slot start) = Some 0
+call_makes (call.ExportStateTd tdr slot) = Some 24
+call_makes (call.ExportStateVp tdr vp slot) = Some 8
+call_makes _ = None
+
 abbrev pub call_ends : Machine → Call → Ends
-call_ends m c = record { tries = most_tries c; answer = call_answer c; fits = call_fits m c }
+call_ends m c = record { tries = most_tries c; makes = call_makes c; answer = call_answer c; fits = call_fits m c }
 
 -- Steps of a guest: a load is noted, and so is an RTMR's extension; a shared store and VMCALL tell a word; the load of an entry
 -- may let a translation be cached.
@@ -85,16 +97,36 @@ abbrev pub step_tries : Step → ℕ
 step_tries (Operates o) = 2
 step_tries _ = 0
 
+-- and makes no bundle
 abbrev pub step_ends : (tdr line : ℕ) → Step → Ends
-step_ends t line s = record { tries = step_tries s; answer = step_answer t line s; fits = step_fits s }
+step_ends t line s = record { tries = step_tries s; makes = None; answer = step_answer t line s; fits = step_fits s }
+
+-- an answer with these bundles
+abbrev pub with_bundles : List Made → Answer → Answer
+with_bundles ms a = record { reply = a.reply; cached = a.cached; enters = a.enters; notes = a.notes; tells = a.tells; bundles = ms }
+
+-- the bundles that a leaf makes: none, or at most one, of at most so many payload words
+abbrev pub MakesOne : ℕ → List Made → Type 0
+MakesOne n [] = Unit {0}
+MakesOne n (m ∷ []) = length m.payload ≤ n
+MakesOne n (m ∷ k ∷ ms) = ⊥
+
+abbrev pub AreMade : Option ℕ → List Made → Type 0
+AreMade None ms = ms ≡ []
+AreMade (Some n) ms = MakesOne n ms
+
+-- an end answers what goes by its reply, but for the bundle, if it makes one
+abbrev pub EndsBy : Option ℕ → Answer → Answer → Type 0
+EndsBy None a b = a ≡ with_bundles [] b
+EndsBy (Some n) a b = (a ≡ with_bundles a.bundles b) × MakesOne n a.bundles
 
 -- what a tree comes to, whatever words it is told, with so many tries left
 abbrev pub EndsAs : Ends → ℕ → Tree → Type 0
 EndsAs e n (Lock l q m t) = (1 ≤ n) × EndsAs e (n - 1) t
 EndsAs e n (Load v q k) = (x : ℕ) → EndsAs e n (k (look v x))
 EndsAs e n (Test b r t) = (only r ≡ e.answer r) × (e.fits r ≡ true) × (b ≡ true → EndsAs e n t)
-EndsAs e n (End a fs cs) = (a ≡ e.answer a.reply) × (e.fits a.reply ≡ true)
-EndsAs e n (Since a cs) = (a ≡ e.answer a.reply) × (e.fits a.reply ≡ true)
+EndsAs e n (End a fs cs) = EndsBy e.makes a (e.answer a.reply) × (e.fits a.reply ≡ true)
+EndsAs e n (Since a cs) = EndsBy e.makes a (e.answer a.reply) × (e.fits a.reply ≡ true)
 
 -- it holds no more locks than its leaf tries; and on its way the rest of its tree is so
 abbrev pub FewTries : Ends → Standing → Type 0
@@ -127,16 +159,12 @@ abbrev pub act_of : Event → Stage → Option Reply
 act_of event.Act (stage.Answered r) = Some r
 act_of _ _ = None
 
--- what it makes of its processor, and the guest that it enters
-abbrev pub beside_by : (Reply → Answer) → Option Reply → Beside → Beside
-beside_by answer None b = b
-beside_by answer (Some r) b = answered_by (answer r) b
-
+-- the guest that it enters
 abbrev pub guest_by : (Reply → Answer) → Option Reply → Option WordGuest → Option WordGuest
 guest_by answer None g = g
 guest_by answer (Some r) g = or_else (guest_entered (answer r)) g
 
--- part by part
+-- what it makes of its processor, part by part, and with the bundles that the turn made
 abbrev pub cached_by : (Reply → Answer) → Option Reply → List Translation → List Translation
 cached_by answer None ts = ts
 cached_by answer (Some r) ts = (answer r).cached ts
@@ -148,3 +176,11 @@ notes_by answer (Some r) = (answer r).notes
 abbrev pub tells_by : (Reply → Answer) → Option Reply → List ℕ
 tells_by answer None = []
 tells_by answer (Some r) = (answer r).tells
+
+abbrev pub beside_by : (Reply → Answer) → List Made → Option Reply → Beside → Beside
+beside_by answer made act b = record {
+  cached = cached_by answer act b.cached;
+  notes = added b.notes (notes_by answer act);
+  told = added b.told (tells_by answer act);
+  bundles = added b.bundles made;
+}

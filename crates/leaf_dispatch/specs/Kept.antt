@@ -3,13 +3,14 @@ use Rattle.std.specs.Prelude.{ℕ, ◌-◌, List, [], ◌∷◌, Option, Some, N
 use Rattle.std.proofs.Props.{props}
 use Rattle.td_words.specs.declared.machines.Machine.{Machine}
 use Rattle.td_words.specs.declared.calls.Call.{Call}
+use Rattle.flat_core.specs.World.{Made}
 use Rattle.leaf_engine.specs.declared.events.HeldLock.{HeldLock}
 use Rattle.leaf_engine.specs.declared.events.Stage.{Stage}
 use Rattle.leaf_engine.specs.declared.events.Stage.TheVariants as stage
-use Rattle.leaf_engine.specs.Trees.{Tree, Lock, Load, Test, End, Since}
+use Rattle.leaf_engine.specs.Trees.{Answer, Tree, Lock, Load, Test, End, Since}
 use Rattle.word_rules.specs.Views.{look}
 use Rattle.leaf_engine.specs.Turns.{Standing, AreIn, IsStageIn}
-use Rattle.leaf_dispatch.specs.Answers.{Ends, EndsAs, FitsStage, BeginsUnderOther, OldestIsOther, call_ends}
+use Rattle.leaf_dispatch.specs.Answers.{Ends, MakesOne, EndsBy, EndsAs, FitsStage, BeginsUnderOther, OldestIsOther, call_ends}
 use Rattle.leaf_dispatch.specs.Running.{IsUnderWay, IsRunOf, IsRunAt, IsAnsweredBy, IsAnswered}
 use Rattle.leaf_dispatch.specs.declared.running.Running.{Running}
 
@@ -22,12 +23,21 @@ IsStageIn-prop m written stage.Trying = hlevel props
 IsStageIn-prop m written (stage.Undoing name at) = hlevel props
 IsStageIn-prop m written (stage.Answered reply) = hlevel
 
+MakesOne-prop : (n : ℕ) (ms : List Made) → IsProp (MakesOne n ms)
+MakesOne-prop n [] = hlevel
+MakesOne-prop n (m ∷ []) = hlevel props
+MakesOne-prop n (m ∷ k ∷ ms) = hlevel
+
+EndsBy-prop : (o : Option ℕ) (a b : Answer) → IsProp (EndsBy o a b)
+EndsBy-prop None a b = hlevel props
+EndsBy-prop (Some n) a b = hlevel (props, MakesOne-prop)
+
 EndsAs-prop : (e : Ends) (n : ℕ) (t : Tree) → IsProp (EndsAs e n t)
 EndsAs-prop e n (Lock l q m t) = hlevel (props, EndsAs-prop e (n - 1) t)
 EndsAs-prop e n (Load v q k) = hlevel (λ (x : ℕ). EndsAs-prop e n (k (look v x)))
 EndsAs-prop e n (Test b r t) = hlevel (props, EndsAs-prop e n t)
-EndsAs-prop e n (End a fs cs) = hlevel props
-EndsAs-prop e n (Since a cs) = hlevel props
+EndsAs-prop e n (End a fs cs) = hlevel (props, EndsBy-prop)
+EndsAs-prop e n (Since a cs) = hlevel (props, EndsBy-prop)
 
 FitsStage-prop : (e : Ends) (s : Stage) → IsProp (FitsStage e s)
 FitsStage-prop e stage.Trying = hlevel

@@ -9,6 +9,8 @@ use Rattle.mem_build.specs.ExtendMeanings.{extend-means}
 use Rattle.mem_remove.specs.RemoveTrees.{sept_remove_task}
 use Rattle.mem_remove.specs.RemoveStages.{rest_of as sept_rest_of}
 use Rattle.mem_remove.specs.SeptRemoveMeanings.{sept_remove-means}
+use Rattle.export_states.specs.TdStateTrees.{td_tree, td_state_task}
+use Rattle.export_states.specs.TdStateMeanings.{td_state-means}
 use Rattle.leaf_dispatch.specs.Plans.{plan_task, plans-mean}
 use Rattle.leaf_dispatch.specs.declared.leaves.AnyLeaf.{AnyLeaf}
 use Rattle.leaf_dispatch.specs.declared.leaves.AnyLeaf.TheVariants as leaf
@@ -30,7 +32,7 @@ planned t told written waits = record {
   rest = feed t.tree told;
   written = written;
   waits = waits;
-  bound = 2 * (ANSWERS - length told) + (16 - written) - (if waits then 1 else 0);
+  bound = 2 * (ANSWERS - length told) + (24 - written) - (if waits then 1 else 0);
   tries = ANSWERS - length told;
 }
 
@@ -53,9 +55,18 @@ leaf_seen (leaf.SeptRemove l) = record {
   bound = 2 * (15 - length l.told.items) + 2 * (512 - l.seen) + 2 * (4 - length l.later.items) + (16 - l.written) - (if l.waits then 1 else 0);
   tries = 15 - length l.told.items + (4 - length l.later.items);
 }
+leaf_seen (leaf.StateTd l) = record {
+  task = td_state_task l.place l.tdr l.slot;
+  rest = feed (td_tree l.place.machine l.tdr l.slot) l.told.items;
+  written = l.written;
+  waits = l.waits;
+  bound = 2 * (36 - length l.told.items) + (2 - l.written) - (if l.waits then 1 else 0);
+  tries = 12 - length l.told.items;
+}
 
 -- each means its row
 pub leaves-mean : (l : AnyLeaf) → MeansRow (leaf_seen l).task
 leaves-mean (leaf.ByPlan l) = plans-mean l.plan
 leaves-mean (leaf.Extend l) = extend-means l.place l.tdr l.gpa l.machine
 leaves-mean (leaf.SeptRemove l) = sept_remove-means l.place l.tdr l.gpa l.level l.machine
+leaves-mean (leaf.StateTd l) = td_state-means l.place l.tdr l.slot

@@ -11,4 +11,5 @@ pub mod States
 pub mod Laws
 pub mod Follows
 pub mod NoteRooms
+pub mod BundleRooms
 pub mod FirstLists

@@ -39,6 +39,9 @@ use Rattle.export_core.specs.StreamTrees.{stream_create_task, stream_changes}
 use Rattle.export_core.specs.WriteTrees.{block_write_task, unblock_write_task}
 use Rattle.export_core.specs.PauseTrees.{pause_task, abort_task, op_changes}
 use Rattle.export_core.specs.RestoreTrees.{restore_task}
+use Rattle.export_sessions.specs.SessionTrees.{immutable_task}
+use Rattle.export_tokens.specs.TokenTrees.{token_task, token_changes}
+use Rattle.export_states.specs.VpStateTrees.{vp_state_task}
 use Rattle.key_table.specs.CacheTrees.{cache_task, cache_changes}
 use Rattle.key_table.specs.ReclaimTrees.{reclaim_task, give_back}
 use Rattle.td_control.specs.CreationTrees.{create_task, create_changes}
@@ -65,6 +68,9 @@ use Rattle.export_core.specs.BlockMeanings.{block_write-means}
 use Rattle.export_core.specs.WriteMeanings.{unblock_write-means}
 use Rattle.export_core.specs.PauseMeanings.{pause-means, abort-means}
 use Rattle.export_core.specs.RestoreMeanings.{restore-means}
+use Rattle.export_sessions.specs.SessionMeanings.{immutable-means}
+use Rattle.export_tokens.specs.TokenMeanings.{token-means}
+use Rattle.export_states.specs.VpStateMeanings.{vp_state-means}
 use Rattle.key_table.specs.CacheMeanings.{cache-means}
 use Rattle.key_table.specs.ReclaimMeanings.{reclaim-means}
 use Rattle.td_control.specs.CreationMeanings.{create-means}
@@ -115,6 +121,9 @@ plan_task (plan.UnblockW l) = unblock_write_task l.place l.tdr l.gpa
 plan_task (plan.Pause l) = pause_task l.place l.tdr
 plan_task (plan.Abort l) = abort_task l.place l.tdr
 plan_task (plan.Restore l) = restore_task l.place l.tdr l.gpa
+plan_task (plan.Immutable l) = immutable_task l.place l.tdr l.slot
+plan_task (plan.Token l) = token_task l.place l.tdr l.slot l.start
+plan_task (plan.StateVp l) = vp_state_task l.place l.tdr l.vp l.slot
 plan_task (plan.Enter l) = vp_enter_task l.place l.tdr l.vp l.most
 plan_task (plan.Exit l) = exit_task l.place l.tdr l.vp l.outcome
 plan_task (plan.Set l) = set_task l.place l.tdr l.vp l.register l.value
@@ -160,6 +169,9 @@ plan_changes (plan.UnblockW l) told a = changes_of (feed (unblock_write_task l.p
 plan_changes (plan.Pause l) told a = op_changes op.PausedExport a.page
 plan_changes (plan.Abort l) told a = op_changes op.Runnable a.page
 plan_changes (plan.Restore l) told a = changes_of (feed (restore_task l.place l.tdr l.gpa).tree told)
+plan_changes (plan.Immutable l) told a = changes_of (feed (immutable_task l.place l.tdr l.slot).tree told)
+plan_changes (plan.Token l) told a = token_changes l.start a.page a.named a.epoch a.count
+plan_changes (plan.StateVp l) told a = changes_of (feed (vp_state_task l.place l.tdr l.vp l.slot).tree told)
 plan_changes (plan.Enter l) told a = enter_changes a.page l.place.lp l.vp a.count
 plan_changes (plan.Exit l) told a = exit_changes a.page a.count
 plan_changes (plan.Set l) told a = put_register l.vp l.register l.value ∷ put_next l.vp (slice_index told 0) ∷ []
@@ -208,6 +220,9 @@ plan_shown (plan.UnblockW l) told a = true
 plan_shown (plan.Pause l) told a = is_page l.place a.page
 plan_shown (plan.Abort l) told a = is_page l.place a.page
 plan_shown (plan.Restore l) told a = true
+plan_shown (plan.Immutable l) told a = true
+plan_shown (plan.Token l) told a = is_page l.place a.page && is_page l.place a.named && nat_lt a.count (2 ^ 32 - 1)
+plan_shown (plan.StateVp l) told a = true
 plan_shown (plan.Enter l) told a = is_page l.place l.vp && is_page l.place a.page
 plan_shown (plan.Exit l) told a = is_page l.place a.page
 plan_shown (plan.Set l) told a = true
@@ -253,6 +268,9 @@ plans-mean (plan.UnblockW l) = unblock_write-means l.place l.tdr l.gpa l.machine
 plans-mean (plan.Pause l) = pause-means l.place l.tdr
 plans-mean (plan.Abort l) = abort-means l.place l.tdr
 plans-mean (plan.Restore l) = restore-means l.place l.tdr l.gpa l.machine
+plans-mean (plan.Immutable l) = immutable-means l.place l.tdr l.slot
+plans-mean (plan.Token l) = token-means l.place l.tdr l.slot l.start
+plans-mean (plan.StateVp l) = vp_state-means l.place l.tdr l.vp l.slot l.few_pages
 plans-mean (plan.Enter l) = entry-means l.place l.tdr l.vp l.most l.few_pages
 plans-mean (plan.Exit l) = exit-means l.place l.tdr l.vp l.outcome
 plans-mean (plan.Set l) = set-means l.place l.tdr l.vp l.register l.value l.few

@@ -3,11 +3,13 @@ use Rattle.std.specs.Prelude.{◌≡◌, false, List, [], ◌∷◌, Option, Som
 use Rattle.td_words.specs.declared.machines.Machine.{Machine}
 use Rattle.td_words.specs.declared.calls.Call.{Call}
 use Rattle.td_words.specs.declared.replies.Reply.{Reply}
+use Rattle.flat_core.specs.World.{Made}
 use Rattle.step_core.specs.declared.items.Taken.{Taken}
 use Rattle.leaf_engine.specs.declared.events.Event.{Event}
 use Rattle.leaf_engine.specs.declared.events.RunTurn.{RunTurn}
 use Rattle.leaf_engine.specs.declared.events.Stage.{Stage}
 use Rattle.leaf_engine.specs.declared.events.Stage.TheVariants as stage
+use Rattle.leaf_engine.specs.Besides.{bundles_made}
 use Rattle.leaf_engine.specs.Turns.{Standing, standing, CanRun, Turned, has_ended}
 use Rattle.leaf_dispatch.specs.Leaves.{leaf_seen}
 use Rattle.leaf_dispatch.specs.Answers.{Ends, call_ends, FewTries, FitsStage, OldestIsOther, act_of}
@@ -69,8 +71,18 @@ abbrev pub act_in : Option Running → Event → Option Reply
 act_in None e = None
 act_in (Some r) e = act_of e r.run.stage
 
--- the next turn of a leaf's run, which stood there
-pub record LeafTurned {B : Type 0} (did : List Taken → B → Type 0) (m : Machine) (e : Ends) (s : Standing) (bench : B) (kept : Option Running) (result : LeafTurn) : Type 0 where
+-- the bundles that a kept run has made with its last event
+abbrev pub made_in_run : Option Running → Event → List Made
+made_in_run None e = []
+made_in_run (Some r) e = bundles_made e (leaf_seen r.run.leaf).rest
+
+-- a run is kept until its reply comes
+abbrev pub kept_until : Option Reply → Option Running → Option Running
+kept_until None kept = kept
+kept_until (Some reply) kept = None
+
+-- the next turn of a leaf's run, which stood there, and the bundles that it made
+pub record LeafTurned {B : Type 0} (did : List Taken → B → Type 0) (m : Machine) (e : Ends) (s : Standing) (bench : B) (kept : Option Running) (result : LeafTurn) (made : List Made) : Type 0 where
   pub going : has_ended s.stage s.held ≡ false
   pub few_tries : FewTries e s
   pub fits : FitsStage e s.stage
@@ -78,6 +90,7 @@ pub record LeafTurned {B : Type 0} (did : List Taken → B → Type 0) (m : Mach
   pub stands : Standing
   pub turned : Turned did m s bench stands (turn_of result)
   pub act_is : result.act ≡ act_of result.event stands.stage
+  pub made_is : made ≡ bundles_made result.event stands.rest
   pub seen : run_seen kept ≡ kept_after result.reply stands
   pub under_way : IsRunOf m e kept
 

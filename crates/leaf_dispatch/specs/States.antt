@@ -1,5 +1,5 @@
 -- What contracts see of a logical processor with its calls and its guest.
-use Rattle.std.specs.Prelude.{◌≡◌, ◌<◌, List, [], map}
+use Rattle.std.specs.Prelude.{◌≡◌, ◌<◌, List, map}
 use Rattle.step_core.specs.declared.items.Taken.{Taken}
 use Rattle.leaf_engine.specs.declared.events.Event.{Event}
 use Rattle.leaf_engine.specs.OwnLists.{Piece, taken_in, WordLp, LpTurns}
@@ -10,14 +10,14 @@ use Rattle.leaf_dispatch.specs.Table.{secrets_in, code_in, place_table}
 use Rattle.leaf_dispatch.specs.Running.{run_seen}
 use Rattle.leaf_dispatch.specs.declared.states.LpState.{LpState}
 
--- where it is in its calls and in its guest; no call makes a bundle yet
+-- where it is in its calls and in its guest
 abbrev pub seen_of : LpState → WordLp
 seen_of s = record {
   lines = s.lines.now;
   run = run_seen s.run;
   guest = guest_in s.guest s.step_run;
   replies = s.replies.items;
-  beside = record { cached = s.cached; notes = map note_seen s.notes.items; told = s.told.items; bundles = [] };
+  beside = record { cached = s.cached; notes = map note_seen s.notes.items; told = s.told.items; bundles = s.bundles.made };
 }
 
 -- its next turn is this event, in these pieces, of a processor whose calls and steps have the leaves of the table

@@ -2,6 +2,8 @@
 
 ghost use Rattle.std.specs.Prelude.{◌≡◌, ◌<◌, true, length};
 ghost use Rattle.td_words.specs.Limits.{IsMachine};
+ghost use Rattle.bundles.specs.Made.{made_in};
+ghost use Rattle.leaf_engine.specs.Trees.{answer_of};
 ghost use Rattle.leaf_engine.specs.Turns.{IsFresh};
 ghost use Rattle.leaf_dispatch.specs.Plans.{plan_task};
 ghost use Rattle.leaf_engine.specs.Merges.{IsOperation, IsStepOf};
@@ -14,7 +16,11 @@ use access_core::{
     Accept, Add, HostRead, HostWrite, PrivateLoad, PrivateStore, Rtmr, Set, SharedLoad,
     SharedStore, Vmcall, WalkLoad,
 };
+use bundles::Bundle;
 use export_core::{Abort, BlockW, Pause, Restore, StreamCreate, UnblockW};
+use export_sessions::Immutable;
+use export_states::{StateTd, StateVp};
+use export_tokens::Token;
 use key_table::{CacheWb, FlushDone, FreeId, Reclaim};
 use leaf_engine::{Leaf, Need, Place, Planned, Write};
 use leaf_parts::page_told;
@@ -26,12 +32,13 @@ use td_words::{Access, Call, GuestOp};
 use vcpu_control::{Enter, Exit, VpCreate, VpFlush, VpInit};
 
 /// A leaf of any call that is built, or of any step of a guest: one that goes by a plan, or
-/// that of MR.EXTEND or of MEM.SEPT.REMOVE, which are told more words.
+/// that of MR.EXTEND, of MEM.SEPT.REMOVE or of EXPORT.STATE.TD, which are told more words.
 #[derive(Drop)]
 pub enum AnyLeaf {
     ByPlan(Planned<AnyPlan>),
     Extend(Extend),
     SeptRemove(SeptRemove),
+    StateTd(StateTd),
 }
 
 impl Leaf for AnyLeaf {
@@ -54,6 +61,7 @@ impl Leaf for AnyLeaf {
             AnyLeaf::ByPlan(leaf) => leaf.need(),
             AnyLeaf::Extend(leaf) => leaf.need(),
             AnyLeaf::SeptRemove(leaf) => leaf.need(),
+            AnyLeaf::StateTd(leaf) => leaf.need(),
         }
     }
 
@@ -62,6 +70,7 @@ impl Leaf for AnyLeaf {
             AnyLeaf::ByPlan(leaf) => leaf.tell(word),
             AnyLeaf::Extend(leaf) => leaf.tell(word),
             AnyLeaf::SeptRemove(leaf) => leaf.tell(word),
+            AnyLeaf::StateTd(leaf) => leaf.tell(word),
         }
     }
 
@@ -70,10 +79,27 @@ impl Leaf for AnyLeaf {
             AnyLeaf::ByPlan(leaf) => leaf.write(hasher),
             AnyLeaf::Extend(leaf) => leaf.write(hasher),
             AnyLeaf::SeptRemove(leaf) => leaf.write(hasher),
+            AnyLeaf::StateTd(leaf) => leaf.write(hasher),
         }
     }
 
     ghost means = { leaves-mean };
+}
+
+impl AnyLeaf {
+    ghost use Rattle.leaf_dispatch.specs.Leaves.{leaf_seen};
+
+    /// The bundle that it has made, once it has come to its act.
+    pub fn bundle(&self) -> Option<Bundle<'_>>
+        ensures { made_in result ≡ (answer_of (leaf_seen self.now).rest).bundles }
+    {
+        match self {
+            AnyLeaf::ByPlan(leaf) => leaf.plan().bundle(leaf.told()),
+            AnyLeaf::Extend(_) => None,
+            AnyLeaf::SeptRemove(_) => None,
+            AnyLeaf::StateTd(leaf) => leaf.bundle(),
+        }
+    }
 }
 
 // A leaf that goes by that plan, and has done nothing yet.
@@ -162,6 +188,16 @@ pub fn leaf_of(place: Place, call: &Call) -> AnyLeaf
         Call::ExportAbort { tdr } => by_plan(AnyPlan::Abort(Abort::plan(place, tdr))),
         Call::ExportRestore { tdr, gpa } => {
             by_plan(AnyPlan::Restore(Restore::plan(place, tdr, gpa)))
+        }
+        Call::ExportStateImmutable { tdr, slot } => {
+            by_plan(AnyPlan::Immutable(Immutable::plan(place, tdr, slot)))
+        }
+        Call::ExportTrack { tdr, slot, start } => {
+            by_plan(AnyPlan::Token(Token::plan(place, tdr, slot, start)))
+        }
+        Call::ExportStateTd { tdr, slot } => AnyLeaf::StateTd(StateTd::leaf(place, tdr, slot)),
+        Call::ExportStateVp { tdr, vp, slot } => {
+            by_plan(AnyPlan::StateVp(StateVp::plan(place, tdr, vp, slot)))
         }
         Call::MrExtend { tdr, gpa } => AnyLeaf::Extend(Extend::leaf(place, tdr, gpa)),
     }

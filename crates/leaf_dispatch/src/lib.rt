@@ -4,8 +4,9 @@
 //! above may use that `LpState` is a `Processor`. From its calls on (`first` of `new`) each turn is the
 //! next event of its present call's leaf, or in a guest that of the guest's next step, told in pieces;
 //! the reply comes in with the call's last event. A turn takes no memory. What guests note and tell
-//! stands in `notes` and `told`. By `calls_have_leaves` the law of merges speaks of these leaves, and by
-//! `processors_follow` a turn is the flat machine's next event.
+//! stands in `notes` and `told`, and the bundles that calls make in `bundles`. By `calls_have_leaves` the
+//! law of merges speaks of these leaves, and by `processors_follow` a turn is the flat machine's next
+//! event.
 #![tactic(auto)]
 
 mod answers;

@@ -1,10 +1,18 @@
 //! The plan of each call, and of each step of a guest, that goes by one.
 
+ghost use Rattle.std.specs.Prelude.{◌≡◌};
+ghost use Rattle.bundles.specs.Made.{made_in};
+ghost use Rattle.leaf_engine.specs.Trees.{feed, answer_of};
+
 use access_core::{
     Accept, Add, HostRead, HostWrite, PrivateLoad, PrivateStore, Rtmr, Set, SharedLoad,
     SharedStore, Vmcall, WalkLoad,
 };
+use bundles::Bundle;
 use export_core::{Abort, BlockW, Pause, Restore, StreamCreate, UnblockW};
+use export_sessions::Immutable;
+use export_states::StateVp;
+use export_tokens::Token;
 use key_table::{CacheWb, FlushDone, FreeId, Reclaim};
 use leaf_engine::{Act, Hand, Plan, Stop, Told, Verdict, Write};
 use mem_build::{PageAdd, PageAug, SeptAdd, SeptRd};
@@ -45,6 +53,9 @@ pub enum AnyPlan {
     Pause(Pause),
     Abort(Abort),
     Restore(Restore),
+    Immutable(Immutable),
+    Token(Token),
+    StateVp(StateVp),
     Enter(Enter),
     Exit(Exit),
     Set(Set),
@@ -100,6 +111,9 @@ impl Plan for AnyPlan {
             AnyPlan::Pause(plan) => plan.decide(told),
             AnyPlan::Abort(plan) => plan.decide(told),
             AnyPlan::Restore(plan) => plan.decide(told),
+            AnyPlan::Immutable(plan) => plan.decide(told),
+            AnyPlan::Token(plan) => plan.decide(told),
+            AnyPlan::StateVp(plan) => plan.decide(told),
             AnyPlan::Enter(plan) => plan.decide(told),
             AnyPlan::Exit(plan) => plan.decide(told),
             AnyPlan::Set(plan) => plan.decide(told),
@@ -147,6 +161,9 @@ impl Plan for AnyPlan {
             AnyPlan::Pause(plan) => plan.write(act, told, number, hand),
             AnyPlan::Abort(plan) => plan.write(act, told, number, hand),
             AnyPlan::Restore(plan) => plan.write(act, told, number, hand),
+            AnyPlan::Immutable(plan) => plan.write(act, told, number, hand),
+            AnyPlan::Token(plan) => plan.write(act, told, number, hand),
+            AnyPlan::StateVp(plan) => plan.write(act, told, number, hand),
             AnyPlan::Enter(plan) => plan.write(act, told, number, hand),
             AnyPlan::Exit(plan) => plan.write(act, told, number, hand),
             AnyPlan::Set(plan) => plan.write(act, told, number, hand),
@@ -163,4 +180,20 @@ impl Plan for AnyPlan {
     }
 
     ghost means = { plans-mean };
+}
+
+impl AnyPlan {
+    ghost use Rattle.leaf_dispatch.specs.Plans.{plan_task};
+
+    /// The bundle that it makes, where these words have brought it to its act.
+    pub fn bundle<'a>(&self, told: &'a [u64]) -> Option<Bundle<'a>>
+        ensures { made_in result ≡ (answer_of (feed (plan_task self.now).tree told.now)).bundles }
+    {
+        match self {
+            AnyPlan::Immutable(plan) => plan.bundle(told),
+            AnyPlan::Token(plan) => plan.bundle(told),
+            AnyPlan::StateVp(plan) => plan.bundle(told),
+            _ => None,
+        }
+    }
 }

@@ -1,10 +1,14 @@
-//! Room for what guests note and tell.
+//! Room for what guests note and tell, and for the bundles that calls make.
 
 ghost use Rattle.std.specs.Prelude.{◌≡◌, ◌+◌, ◌≤◌, length, map, vec_capacity, IfSome};
+ghost use Rattle.bundles.specs.Made.{made_in};
 ghost use Rattle.leaf_engine.specs.Trees.{added};
 ghost use Rattle.leaf_dispatch.specs.Guests.{note_seen, notes_in, words_in};
+ghost use Rattle.leaf_dispatch.specs.Answers.{call_makes};
 ghost use Rattle.leaf_dispatch.specs.NoteRooms.{longest_in, call_room, lines_room};
+ghost use Rattle.leaf_dispatch.specs.BundleRooms.{count_of, words_of, lines_make, payload_words, HasAdded};
 
+use bundles::{Bundle, Bundles};
 use report_text::GuestNote;
 use td_words::{Call, Code};
 
@@ -77,5 +81,75 @@ pub fn add_word(told: &mut Vec<u64>, word: Option<u64>)
         let Ok(()) = told.push(word) else {
             unreachable!()
         };
+    }
+}
+
+/// How many bundles these calls make at most; none where no number is so large.
+pub fn lines_bundles(calls: &[Call]) -> Option<usize>
+    ensures { IfSome result (λ n. n ≡ lines_make count_of calls.now) }
+{
+    let mut room: usize = 0;
+    for i in 0..calls.len() {
+        let Some(more) = room.checked_add(call_bundles(&calls[i])) else {
+            return None;
+        };
+        room = more;
+    }
+    Some(room)
+}
+
+/// How many payload words those have at most; none where no number is so large.
+pub fn lines_payloads(calls: &[Call]) -> Option<usize>
+    ensures { IfSome result (λ n. n ≡ lines_make words_of calls.now) }
+{
+    let mut room: usize = 0;
+    for i in 0..calls.len() {
+        let Some(more) = room.checked_add(call_payload(&calls[i])) else {
+            return None;
+        };
+        room = more;
+    }
+    Some(room)
+}
+
+fn call_bundles(call: &Call) -> usize
+    ensures { result ≡ count_of (call_makes call.now) }
+{
+    match call_makes(call) {
+        Some(_) => 1,
+        None => 0,
+    }
+}
+
+fn call_payload(call: &Call) -> usize
+    ensures { result ≡ words_of (call_makes call.now) }
+{
+    match call_makes(call) {
+        Some(most) => most,
+        None => 0,
+    }
+}
+
+// Of how many payload words at most the bundle is that a call makes, if it makes one.
+fn call_makes(call: &Call) -> Option<usize>
+    ensures { result ≡ call_makes call.now }
+{
+    match *call {
+        Call::ExportStateImmutable { .. } => Some(6),
+        Call::ExportTrack { .. } => Some(0),
+        Call::ExportStateTd { .. } => Some(24),
+        Call::ExportStateVp { .. } => Some(8),
+        _ => None,
+    }
+}
+
+/// Adds the bundle that a call made, for which there is room.
+pub fn add_bundle(bundles: &mut Bundles, bundle: Option<Bundle<'_>>)
+    requires room { length (made_in bundle) ≤ bundles.old.room }
+    requires word_room { payload_words (made_in bundle) ≤ bundles.old.word_room }
+    ensures { HasAdded bundles.old (made_in bundle.entry) bundles.new }
+{
+    if let Some(bundle) = bundle {
+        bundles.push(bundle);
     }
 }

@@ -1,18 +1,23 @@
 //! The run of a leaf.
 
-ghost use Rattle.std.specs.Prelude.{◌≡◌, ◌<◌, true, length, None, option_map};
+ghost use Rattle.std.specs.Prelude.{◌≡◌, ◌<◌, ◌≤◌, true, length, List, [], None, option_map};
 ghost use Rattle.td_words.specs.declared.machines.Machine.{Machine};
 ghost use Rattle.td_words.specs.Limits.{IsMachine};
+ghost use Rattle.flat_core.specs.World.{Made};
 ghost use Rattle.leaf_engine.specs.Turns.{Standing};
 ghost use Rattle.leaf_engine.specs.OwnLists.{running};
 ghost use Rattle.leaf_engine.specs.Merges.{IsStepOf};
 ghost use Rattle.leaf_dispatch.specs.Guests.{step_seen};
 ghost use Rattle.leaf_dispatch.specs.Table.{task_of, secrets_in, step_task};
-ghost use Rattle.leaf_dispatch.specs.Answers.{Ends, call_ends, step_ends, act_of};
-ghost use Rattle.leaf_dispatch.specs.Running.{standing_of, run_seen, answered_with, IsAnswered, turn_of, act_in, IsUnderWay, IsRunOf, IsKept, CanTurn, HasTurned, LeafTurned};
+ghost use Rattle.leaf_dispatch.specs.Answers.{Ends, call_makes, call_ends, step_ends, act_of};
+ghost use Rattle.leaf_dispatch.specs.NoteRooms.{run_room};
+ghost use Rattle.leaf_dispatch.specs.BundleRooms.{count_of, words_of, payload_words, HasAdded};
+ghost use Rattle.leaf_dispatch.specs.Running.{standing_of, run_seen, answered_with, IsAnswered, turn_of, act_in, made_in_run, kept_until, IsUnderWay, IsRunOf, IsKept, CanTurn, HasTurned, LeafTurned};
 
 use crate::guests::Step;
 use crate::leaves::{AnyLeaf, leaf_of, step_leaf};
+use crate::rooms::add_bundle;
+use bundles::Bundles;
 use leaf_engine::{Event, Place, Run, RunTurn, Stage};
 use step_core::Bench;
 use td_words::{Call, Reply};
@@ -38,13 +43,15 @@ pub struct LeafTurn {
     pub reply: Option<Reply>,
 }
 
-/// The next turn of a call's run, which is kept until its reply comes, and begins where none is kept.
+/// The next turn of a call's run, which is kept until its reply comes, and begins where none is kept; the
+/// bundle that it makes is added, for which there is room.
 ///
 /// It is apart from its caller, and its rare steps are apart from it, since a function clears the
 /// places of its large values where it begins.
 #[inline(never)]
 pub fn turn_call<B: Bench>(
     kept: &mut Option<Running>,
+    bundles: &mut Bundles,
     place: Place,
     call: &Call,
     bench: &mut B,
@@ -52,11 +59,15 @@ pub fn turn_call<B: Bench>(
     requires machine { IsMachine place.machine }
     requires at { place.machine ≡ B.machine bench.old }
     requires under_way { IsRunOf place.machine (call_ends place.machine call.now) kept.old }
-    ensures turned { LeafTurned (B.did bench.old) place.machine (call_ends place.machine call.now) (running (task_of place call.now) (run_seen kept.old)) bench.new kept.new result }
+    requires room { run_room (count_of (call_makes call.now)) (run_seen kept.old) ≤ bundles.old.room }
+    requires word_room { run_room (words_of (call_makes call.now)) (run_seen kept.old) ≤ bundles.old.word_room }
+    ensures turned { (made : List Made) × HasAdded bundles.old made bundles.new × LeafTurned (B.did bench.old) place.machine (call_ends place.machine call.now) (running (task_of place call.now) (run_seen kept.old)) bench.new kept.new result made }
     ensures machine { B.machine bench.new ≡ B.machine bench.old }
 {
     begin_where_none(kept, place, call);
-    turn_run(kept, bench)
+    let turn = turn_kept(kept, bench);
+    add_made(kept, turn.event, bundles);
+    leave_run(kept, turn)
 }
 
 /// The next turn of the run of a guest's step, which is kept until its reply comes, and begins where
@@ -78,20 +89,20 @@ pub fn turn_step<B: Bench>(
     requires limits { IsStepOf (step_seen step) }
     requires at { place.machine ≡ B.machine bench.old }
     requires under_way { IsRunOf place.machine (step_ends tdr line (step_seen step)) kept.old }
-    ensures turned { LeafTurned (B.did bench.old) place.machine (step_ends tdr line (step_seen step)) (running (step_task (secrets_in secrets.now) place tdr vp line (step_seen step)) (run_seen kept.old)) bench.new kept.new result }
+    ensures turned { LeafTurned (B.did bench.old) place.machine (step_ends tdr line (step_seen step)) (running (step_task (secrets_in secrets.now) place tdr vp line (step_seen step)) (run_seen kept.old)) bench.new kept.new result [] }
     ensures machine { B.machine bench.new ≡ B.machine bench.old }
 {
     begin_step_where_none(kept, place, secrets, tdr, vp, line, step);
-    turn_run(kept, bench)
+    let step_turn = turn_kept(kept, bench);
+    leave_run(kept, step_turn)
 }
 
-/// The next turn of a run that is kept, which is left once its reply has come.
-fn turn_run<B: Bench>(kept: &mut Option<Running>, bench: &mut B) -> LeafTurn
-    requires { CanTurn (B.machine bench.old) kept.old }
-    ensures turned { (e : Ends) (s : Standing) → IsKept (B.machine bench.old) e s kept.old → LeafTurned (B.did bench.old) (B.machine bench.old) e s bench.new kept.new result }
-    ensures machine { B.machine bench.new ≡ B.machine bench.old }
+// What a turn of a run that is kept comes to. It is kept no more once its reply has come.
+fn leave_run(kept: &mut Option<Running>, turn: RunTurn) -> LeafTurn
+    ensures turn { turn_of result ≡ turn }
+    ensures act { result.act ≡ act_in kept.old turn.event }
+    ensures kept { kept.new ≡ kept_until turn.reply kept.old }
 {
-    let turn = turn_kept(kept, bench);
     let act = act_in(kept, turn.event);
     if let Some(_) = turn.reply {
         forget(kept);
@@ -112,6 +123,21 @@ pub fn answer_kept(kept: &mut Option<Running>, reply: Reply)
     match kept {
         Some(Running { run }) => run.answer(reply),
         None => (),
+    }
+}
+
+// Adds the bundle that a run has made with its last event, for which there is room.
+fn add_made(kept: &Option<Running>, event: Event, bundles: &mut Bundles)
+    requires room { length (made_in_run kept.now event) ≤ bundles.old.room }
+    requires word_room { payload_words (made_in_run kept.now event) ≤ bundles.old.word_room }
+    ensures { HasAdded bundles.old (made_in_run kept.now event) bundles.new }
+{
+    match event {
+        Event::Act => match kept {
+            Some(Running { run }) => add_bundle(bundles, run.leaf().bundle()),
+            None => (),
+        },
+        _ => (),
     }
 }
 

@@ -6,13 +6,15 @@ ghost use Rattle.leaf_dispatch.specs.Running.{run_seen, IsRunAt};
 ghost use Rattle.leaf_dispatch.specs.Kept.{IsRunAt-prop};
 ghost use Rattle.leaf_dispatch.specs.Inside.{guest_in, AreOperations, AreOperations-prop, KeepsGuest, KeepsGuest-prop};
 ghost use Rattle.leaf_dispatch.specs.NoteRooms.{longest_in, room_of};
+ghost use Rattle.leaf_dispatch.specs.BundleRooms.{count_of, words_of, still_make};
 ghost use Rattle.leaf_dispatch.specs.FirstLists.{AreFirstLists, AreFirstLists-prop};
 
 use crate::first_lists::FirstLists;
 use crate::guests::GuestAt;
-use crate::rooms::{add_note, add_word, lines_room, longest};
+use crate::rooms::{add_note, add_word, lines_bundles, lines_payloads, lines_room, longest};
 use crate::running::{Running, forget};
 use crate::turns::{GuestTurn, LineTurn, acting, answer_exit, entered_or, turn_guest, turn_line};
+use bundles::Bundles;
 use leaf_engine::{Event, Place, Processor, Turn, turns_in_pieces};
 use report_text::GuestNote;
 use std::alloc::Global;
@@ -22,7 +24,8 @@ use tlb_epochs::Tlb;
 
 /// A logical processor: its calls from the present one on, and the run of that call once its first
 /// event is made; the guest that it is in, and the run of what the guest does; its cached translations;
-/// its replies, one for each call that is done, and what its guests noted and told.
+/// its replies, one for each call that is done, what its guests noted and told, and the bundles that its
+/// calls made.
 #[derive(Drop)]
 pub struct LpState<'a> {
     place: Place,
@@ -37,6 +40,7 @@ pub struct LpState<'a> {
     replies: Vec<Reply>,
     notes: Vec<GuestNote>,
     told: Vec<u64>,
+    bundles: Bundles,
     ghost machine: { IsMachine place.machine },
     ghost secret_words: { length secrets.now ≡ 512 },
     ghost limits: { AreOperations codes.now } by { AreOperations-prop codes.now },
@@ -47,6 +51,8 @@ pub struct LpState<'a> {
     ghost room: { length replies.items + length lines.now ≤ vec_capacity replies },
     ghost note_room: { length notes.items + room_of (longest_in codes.now) lines.now (run_seen run) (guest_in guest step_run) ≤ vec_capacity notes },
     ghost word_room: { length told.items + room_of (longest_in codes.now) lines.now (run_seen run) (guest_in guest step_run) ≤ vec_capacity told },
+    ghost bundle_room: { still_make count_of lines.now (run_seen run) ≤ bundles.room },
+    ghost payload_room: { still_make words_of lines.now (run_seen run) ≤ bundles.word_room },
 }
 
 impl<'a> LpState<'a> {
@@ -59,8 +65,8 @@ impl<'a> LpState<'a> {
     ghost use Rattle.leaf_dispatch.specs.States.{seen_of, HasMoved};
 
     /// At the first of its calls, with the lists of operations, the 512 secret words, and where the
-    /// lists stand. All the memory that its replies need, and what its guests can note and tell, is
-    /// taken here.
+    /// lists stand. All the memory is taken here that its replies need, what its guests can note and
+    /// tell, and the bundles that its calls can make.
     pub fn new(
         alloc: Global,
         machine: Machine,
@@ -92,6 +98,15 @@ impl<'a> LpState<'a> {
         let Ok(told) = Vec::with_capacity(alloc, room) else {
             return Err(OutOfMemory);
         };
+        let Some(count) = lines_bundles(calls) else {
+            return Err(OutOfMemory);
+        };
+        let Some(words) = lines_payloads(calls) else {
+            return Err(OutOfMemory);
+        };
+        let Ok(bundles) = Bundles::new(alloc, count, words) else {
+            return Err(OutOfMemory);
+        };
         Ok(LpState {
             place: Place { machine, lp },
             lines: calls,
@@ -105,6 +120,7 @@ impl<'a> LpState<'a> {
             replies,
             notes,
             told,
+            bundles,
         })
     }
 
@@ -129,6 +145,13 @@ impl<'a> LpState<'a> {
         self.told.as_slice()
     }
 
+    /// The bundles that its calls made, in order.
+    pub fn bundles(&self) -> &Bundles
+        ensures { result.now.made ≡ (seen_of self.now).beside.bundles }
+    {
+        &self.bundles
+    }
+
     // The next event of the present line's own leaf.
     fn line_event<B: Bench>(&mut self, call: &'a Call, further: &'a [Call], bench: &mut B) -> Event
         requires machine { self.old.place.machine ≡ B.machine bench.old }
@@ -140,6 +163,7 @@ impl<'a> LpState<'a> {
         turns_in_pieces();
         let LineTurn { turn, guest } = turn_line(
             &mut self.run,
+            &mut self.bundles,
             &mut self.cached,
             self.place,
             self.codes,

@@ -1,16 +1,19 @@
 //! A turn of a call line, and a turn in a guest.
 
-ghost use Rattle.std.specs.Prelude.{◌≡◌, ℕ, ◌<◌, true, length, Option, IfSome, None, option_map};
+ghost use Rattle.std.specs.Prelude.{◌≡◌, ℕ, ◌<◌, ◌≤◌, true, length, List, [], Option, IfSome, None, option_map};
 ghost use Rattle.std.specs.List.{All};
 ghost use Rattle.td_words.specs.declared.machines.Machine.{Machine};
 ghost use Rattle.td_words.specs.declared.calls.Call.{Call};
 ghost use Rattle.td_words.specs.Limits.{IsMachine};
+ghost use Rattle.flat_core.specs.World.{Made};
 ghost use Rattle.leaf_engine.specs.Turns.{Standing};
 ghost use Rattle.leaf_engine.specs.OwnLists.{running};
 ghost use Rattle.leaf_engine.specs.Merges.{IsOperation, IsStepOf};
-ghost use Rattle.leaf_dispatch.specs.Answers.{call_answer, call_ends, call_fits, guest_by, step_answer, step_ends, step_fits, step_tries, cached_by, notes_by, tells_by};
+ghost use Rattle.leaf_dispatch.specs.Answers.{call_answer, call_makes, call_ends, call_fits, guest_by, step_answer, step_ends, step_fits, step_tries, cached_by, notes_by, tells_by};
 ghost use Rattle.leaf_dispatch.specs.Guests.{step_seen, guest_seen, next_in, notes_in, words_in, IsLow, CanCount, IsReplyOf, IsNextGuest};
 ghost use Rattle.leaf_dispatch.specs.Inside.{acting, entered_or, line_then};
+ghost use Rattle.leaf_dispatch.specs.NoteRooms.{run_room};
+ghost use Rattle.leaf_dispatch.specs.BundleRooms.{count_of, words_of, HasAdded};
 ghost use Rattle.leaf_dispatch.specs.FirstLists.{AreFirstLists};
 ghost use Rattle.leaf_dispatch.specs.Running.{run_seen, IsRunOf, IsAnswered, LeafTurned};
 ghost use Rattle.leaf_dispatch.specs.Table.{code_in, task_of, secrets_in, step_task};
@@ -19,6 +22,7 @@ use crate::answers::{cache_walk, drop_stale, entered, noted, told};
 use crate::first_lists::FirstLists;
 use crate::guests::{GuestAt, Step, next_step, step_on};
 use crate::running::{LeafTurn, Running, answer_kept, turn_call, turn_step};
+use bundles::Bundles;
 use leaf_engine::Place;
 use report_text::GuestNote;
 use step_core::Bench;
@@ -41,10 +45,12 @@ pub struct LineTurn<'a> {
     pub guest: Option<GuestAt<'a>>,
 }
 
-/// The next turn of a call's run, which is kept until its reply comes, and begins where none is kept.
+/// The next turn of a call's run, which is kept until its reply comes, and begins where none is kept; the
+/// bundle that it makes is added, for which there is room.
 #[inline(never)]
 pub fn turn_line<'a, B: Bench>(
     kept: &mut Option<Running>,
+    bundles: &mut Bundles,
     cached: &mut Tlb,
     place: Place,
     codes: &'a [Code],
@@ -56,13 +62,15 @@ pub fn turn_line<'a, B: Bench>(
     requires first_lists { AreFirstLists codes.now first_lists.now }
     requires at { place.machine ≡ B.machine bench.old }
     requires under_way { IsRunOf place.machine (call_ends place.machine call.now) kept.old }
-    ensures turned { LeafTurned (B.did bench.old) place.machine (call_ends place.machine call.now) (running (task_of place call.now) (run_seen kept.old)) bench.new kept.new result.turn }
+    requires room { run_room (count_of (call_makes call.now)) (run_seen kept.old) ≤ bundles.old.room }
+    requires word_room { run_room (words_of (call_makes call.now)) (run_seen kept.old) ≤ bundles.old.word_room }
+    ensures turned { (made : List Made) × HasAdded bundles.old made bundles.new × LeafTurned (B.did bench.old) place.machine (call_ends place.machine call.now) (running (task_of place call.now) (run_seen kept.old)) bench.new kept.new result.turn made }
     ensures cached { cached.new ≡ cached_by (call_answer call.now) result.turn.act cached.old }
     ensures entered { option_map (λ g. guest_seen g None) result.guest ≡ guest_by (call_answer call.now) result.turn.act None }
     ensures inside { IfSome result.guest (λ g. (g.tdr < place.machine.pages) × (g.vp < place.machine.pages) × (code_in codes.now g.tdr g.index ≡ g.list.now) × IsLow g.walk) }
     ensures machine { B.machine bench.new ≡ B.machine bench.old }
 {
-    let turn = turn_call(kept, place, call, bench);
+    let turn = turn_call(kept, bundles, place, call, bench);
     drop_by(place.machine, cached, call, turn.act);
     LineTurn {
         turn,
@@ -120,7 +128,7 @@ pub fn turn_guest<'a, B: Bench>(
     ensures step { (run : Option Standing) → step_seen result.step ≡ next_in cached.old guest.entry run }
     ensures counts { CanCount guest.entry (step_seen result.step) }
     ensures within { IsStepOf (step_seen result.step) }
-    ensures turned { LeafTurned (B.did bench.old) place.machine (step_ends guest.entry.tdr line (step_seen result.step)) (running (step_task (secrets_in secrets.now) place guest.entry.tdr guest.entry.vp line (step_seen result.step)) (run_seen kept.old)) bench.new kept.new result.turn }
+    ensures turned { LeafTurned (B.did bench.old) place.machine (step_ends guest.entry.tdr line (step_seen result.step)) (running (step_task (secrets_in secrets.now) place guest.entry.tdr guest.entry.vp line (step_seen result.step)) (run_seen kept.old)) bench.new kept.new result.turn [] }
     ensures fits { IfSome result.turn.reply (λ r. IsReplyOf (step_seen result.step) r) }
     ensures cached { cached.new ≡ cached_by (step_answer guest.entry.tdr line (step_seen result.step)) result.turn.act cached.old }
     ensures notes { notes_in result.note ≡ notes_by (step_answer guest.entry.tdr line (step_seen result.step)) result.turn.act }

@@ -59,3 +59,14 @@ returns-in-MrExtend-clause-task c = c.leaf-in-MrExtend.ensures.task ∙ sym (ap 
 pub returns-in-VpEnter-clause-task : goal.returns-in-VpEnter-clause-task
 returns-in-VpEnter-clause-task c =
     c.by_plan-in-VpEnter.ensures.task ∙ c.plan-in-VpEnter.ensures ∙ sym (ap (task_of c.args.place) c.in-VpEnter.is)
+
+pub returns-in-ExportStateImmutable-clause-task : goal.returns-in-ExportStateImmutable-clause-task
+returns-in-ExportStateImmutable-clause-task c =
+    c.by_plan-in-ExportStateImmutable.ensures.task ∙ c.plan-in-ExportStateImmutable.ensures ∙ sym (ap (task_of c.args.place) c.in-ExportStateImmutable.is)
+
+pub returns-in-ExportStateVp-clause-task : goal.returns-in-ExportStateVp-clause-task
+returns-in-ExportStateVp-clause-task c =
+    c.by_plan-in-ExportStateVp.ensures.task ∙ c.plan-in-ExportStateVp.ensures ∙ sym (ap (task_of c.args.place) c.in-ExportStateVp.is)
+
+pub returns-in-ExportStateTd-clause-task : goal.returns-in-ExportStateTd-clause-task
+returns-in-ExportStateTd-clause-task c = c.leaf-in-ExportStateTd.ensures.task ∙ sym (ap (task_of c.args.place) c.in-ExportStateTd.is)

@@ -1,4 +1,4 @@
-use Rattle.std.proofs.Common.{◌∙◌, None, refl, sym, ap, subst}
+use Rattle.std.proofs.Common.{◌∙◌, [], None, refl, sym, ap, subst}
 use Rattle.leaf_engine.specs.Guests.{Step}
 use Rattle.leaf_engine.specs.OwnLists.{running}
 use Rattle.leaf_dispatch.specs.Answers.{step_tries, step_ends}
@@ -14,20 +14,20 @@ turn_step-turn-requires-clause-under_way g c = subst (λ (s : Step). IsRunOf c.a
 pub cache_by-requires : goal.cache_by-requires
 cache_by-requires g c =
     let s = step_seen c.next_step-step.result in
-    act-fits (g.B.Bench.did c.args.bench.now) c.turn_step-turn.new.bench c.args.place.machine c.turn_step-turn.new.kept c.turn_step-turn.result (step_ends c.args.guest.tdr c.args.line s)
+    act-fits (g.B.Bench.did c.args.bench.now) c.turn_step-turn.new.bench c.args.place.machine c.turn_step-turn.new.kept c.turn_step-turn.result [] (step_ends c.args.guest.tdr c.args.line s)
     (running (step_task (secrets_in c.args.secrets.now) c.args.place c.args.guest.tdr c.args.guest.vp c.args.line s) (run_seen c.args.kept.now)) c.turn_step-turn.ensures.turned c.turn_step-turn.result.act refl
 
 pub guest_then-requires-clause-fits : goal.guest_then-requires-clause-fits
 guest_then-requires-clause-fits g c =
     let s = step_seen c.next_step-step.result in
-    reply-fits (g.B.Bench.did c.args.bench.now) c.turn_step-turn.new.bench c.args.place.machine c.turn_step-turn.new.kept c.turn_step-turn.result c.args.guest.tdr c.args.line s
+    reply-fits (g.B.Bench.did c.args.bench.now) c.turn_step-turn.new.bench c.args.place.machine c.turn_step-turn.new.kept c.turn_step-turn.result [] c.args.guest.tdr c.args.line s
     (running (step_task (secrets_in c.args.secrets.now) c.args.place c.args.guest.tdr c.args.guest.vp c.args.line s) (run_seen c.args.kept.now)) c.turn_step-turn.ensures.turned
     (first-trying (secrets_in c.args.secrets.now) c.args.place c.args.guest.tdr c.args.guest.vp c.args.line s c.args.kept.now (λ z. c.requires.alone (sym (ap step_tries (c.next_step-step.ensures.step None)) ∙ z))) c.turn_step-turn.result.reply refl
 
 pub returns-clause-fits : goal.returns-clause-fits
 returns-clause-fits g c =
     let s = step_seen c.next_step-step.result in
-    reply-fits (g.B.Bench.did c.args.bench.now) c.turn_step-turn.new.bench c.args.place.machine c.turn_step-turn.new.kept c.turn_step-turn.result c.args.guest.tdr c.args.line s
+    reply-fits (g.B.Bench.did c.args.bench.now) c.turn_step-turn.new.bench c.args.place.machine c.turn_step-turn.new.kept c.turn_step-turn.result [] c.args.guest.tdr c.args.line s
     (running (step_task (secrets_in c.args.secrets.now) c.args.place c.args.guest.tdr c.args.guest.vp c.args.line s) (run_seen c.args.kept.now)) c.turn_step-turn.ensures.turned
     (first-trying (secrets_in c.args.secrets.now) c.args.place c.args.guest.tdr c.args.guest.vp c.args.line s c.args.kept.now (λ z. c.requires.alone (sym (ap step_tries (c.next_step-step.ensures.step None)) ∙ z))) c.turn_step-turn.result.reply refl
 

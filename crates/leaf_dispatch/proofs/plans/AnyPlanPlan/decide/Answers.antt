@@ -44,3 +44,6 @@ returns-in-Abort-clause-decides c = rw (c.in-Abort.is) c.decide-in-Abort.ensures
 
 pub returns-in-Restore-clause-decides : goal.returns-in-Restore-clause-decides
 returns-in-Restore-clause-decides c = rw (c.in-Restore.is) c.decide-in-Restore.ensures.decides
+
+pub returns-in-Immutable-clause-decides : goal.returns-in-Immutable-clause-decides
+returns-in-Immutable-clause-decides c = rw (c.in-Immutable.is) c.decide-in-Immutable.ensures.decides

@@ -1,0 +1,3 @@
+pub mod TokenTrees
+pub mod TokenShows
+pub mod TokenMeanings

@@ -1,0 +1,5 @@
+pub mod StreamSums
+pub mod StreamWords
+pub mod StreamMeans
+pub mod Counted
+pub mod Unmade
