@@ -12,6 +12,7 @@ use Rattle.td_words.specs.declared.names.ReadField.{ReadField}
 use Rattle.td_words.specs.declared.machines.Machine.{Machine}
 use Rattle.td_words.specs.Limits.{IsMachine, in_limits}
 use Rattle.td_words.specs.Seen.{CodeSeen}
+use Rattle.td_words.specs.Slots.{output_slot, output_slots}
 use Rattle.line_words.specs.declared.mnemonics.CallName.{CallName}
 use Rattle.line_words.specs.declared.mnemonics.CallName.TheVariants as name
 use Rattle.line_words.specs.declared.mnemonics.Mnemonic.{Mnemonic}
@@ -34,13 +35,14 @@ use Rattle.script_text.specs.declared.operations.OpName.TheVariants as op
 use Rattle.script_text.specs.declared.schedules.Item.{Item}
 use Rattle.script_text.specs.declared.schedules.Turns.{Turns}
 use Rattle.script_text.specs.Counted.{◌>>=◌, counted_of, number_at, argument}
-use Rattle.script_text.specs.Line.{machine_of, block_of, end_of, abort_of, built_of, are_given, judged_of, call_of, first_of, list_of, operation_line_of, outside_of, named_of, inside_of, placed_of, entry_of, keyword_of}
-use Rattle.script_text.specs.Blocks.{field_of, code_of, list_place, none_listed, operation_of, operand_count, fit_operands, operands_of, guest_op_of}
+use Rattle.script_text.specs.Line.{machine_of, block_of, end_of, abort_of, built_of, are_given, ranged_of, judged_of, call_of, first_of, list_of, operation_line_of, outside_of, named_of, inside_of, placed_of, entry_of, keyword_of}
+use Rattle.script_text.specs.Blocks.{field_of, slot_place_of, slot_at, fits_slot, with_slot, none_named, code_of, list_place, none_listed, operation_of, operand_count, fit_operands, operands_of, guest_op_of}
 use Rattle.script_text.specs.Schedule.{item_of, in_range_of, turns_in, with_turns, written_of, schedule_of}
 use Rattle.script_text.specs.Reading.{SoFar, nothing_yet, with_call, with_op, closed_of, entered_of, worded_of, line_of, script_of, ended_of, then_on, read_from, read_of}
 use Rattle.script_text.specs.Spelling.{FitsCall, FitsOp}
 use Rattle.script_text.specs.Seen.{ScriptSeen}
 use Rattle.script_text.specs.Laws.{IsCode, AreOfOthers, IsInForm, ScriptsAreInForm}
+use Rattle.script_text.proofs.Slots.{FitsSlot, Added, added, FitsSlots, still_marked, slot_named, slots_more, none_fit}
 
 -- a value that is given has it
 abbrev IfGiven : {A : Type 0} → (A → Type 0) → Result A Reason → Type 0
@@ -109,7 +111,7 @@ FitsEntry None listed (entry.Machine m) = in_limits m.lps m.pages m.hkids ≡ tr
 FitsEntry None listed _ = ⊥
 FitsEntry (Some m) listed (entry.Machine _) = ⊥
 FitsEntry (Some m) listed (entry.Schedule lps) = lps ≡ m.lps
-FitsEntry (Some m) listed (entry.Call lp c) = FitsCall c
+FitsEntry (Some m) listed (entry.Call lp c) = FitsCall c × FitsSlot (output_slot c)
 FitsEntry (Some m) listed (entry.Read lp tdr) = tdr < 2 ^ 64
 FitsEntry (Some m) listed (entry.List p) = FitsPlace m listed p
 FitsEntry (Some m) listed (entry.Operation g) = FitsOp g
@@ -238,55 +240,74 @@ three_fit ns h = All-push fits (argument ns 0 ∷ argument ns 1 ∷ []) (argumen
 four_fit : (ns : List (Option ℕ)) → All FitsNumber ns → All fits (argument ns 0 ∷ argument ns 1 ∷ argument ns 2 ∷ argument ns 3 ∷ [])
 four_fit ns h = All-push fits (argument ns 0 ∷ argument ns 1 ∷ argument ns 2 ∷ []) (argument ns 3) (three_fit ns h) (argument_fits ns 3 h)
 
+-- an output slot is within its range
+slot_if : (b : Bool) (n : ℕ) → leb n 4095 ≡ b → cond b n 0 ≤ 4095
+slot_if true n e = grind (arith, e)
+slot_if false n e = omega arith
+
+slot_within : (ns : List (Option ℕ)) (i : ℕ) → slot_at ns i ≤ 4095
+slot_within ns i = slot_if (leb (argument ns i) 4095) (argument ns i) refl
+
+within_fits : (n : ℕ) → n ≤ 4095 → n < 2 ^ 64
+within_fits n h = omega (arith, h)
+
+slot_fits : (ns : List (Option ℕ)) → All FitsNumber ns → All fits (argument ns 0 ∷ slot_at ns 1 ∷ [])
+slot_fits ns h = All-push fits (argument ns 0 ∷ []) (slot_at ns 1) (one_fits ns h) (within_fits (slot_at ns 1) (slot_within ns 1))
+
 abbrev IfBuilt : Machine → List Bool → Option Entry → Type 0
 IfBuilt m listed (Some e) = FitsEntry (Some m) listed e
 IfBuilt m listed None = Unit {0}
 
 abort_fits : (m : Machine) (listed : List Bool) (lp : ℕ) (with_slot : Bool) (ns : List (Option ℕ)) → All FitsNumber ns → IfBuilt m listed (abort_of lp with_slot (argument ns 0))
 abort_fits m listed lp true ns h = tt
-abort_fits m listed lp false ns h = one_fits ns h
+abort_fits m listed lp false ns h = (one_fits ns h, tt)
 
 built_fits : (m : Machine) (listed : List Bool) (lp : ℕ) (n : CallName) (ns : List (Option ℕ)) → All FitsNumber ns → IfBuilt m listed (built_of lp n ns)
-built_fits m listed lp name.HostRead ns h = two_fit ns h
-built_fits m listed lp name.HostWrite ns h = three_fit ns h
-built_fits m listed lp name.PhymemPageRdmd ns h = one_fits ns h
-built_fits m listed lp name.PhymemCacheWb ns h = All-nil fits
-built_fits m listed lp name.PhymemPageReclaim ns h = two_fit ns h
-built_fits m listed lp name.MngCreate ns h = two_fit ns h
-built_fits m listed lp name.MngKeyConfig ns h = one_fits ns h
-built_fits m listed lp name.MngAddcx ns h = two_fit ns h
-built_fits m listed lp name.MngInit ns h = one_fits ns h
+built_fits m listed lp name.HostRead ns h = (two_fit ns h, tt)
+built_fits m listed lp name.HostWrite ns h = (three_fit ns h, tt)
+built_fits m listed lp name.PhymemPageRdmd ns h = (one_fits ns h, tt)
+built_fits m listed lp name.PhymemCacheWb ns h = (All-nil fits, tt)
+built_fits m listed lp name.PhymemPageReclaim ns h = (two_fit ns h, tt)
+built_fits m listed lp name.MngCreate ns h = (two_fit ns h, tt)
+built_fits m listed lp name.MngKeyConfig ns h = (one_fits ns h, tt)
+built_fits m listed lp name.MngAddcx ns h = (two_fit ns h, tt)
+built_fits m listed lp name.MngInit ns h = (one_fits ns h, tt)
 built_fits m listed lp name.MngRd ns h = argument_fits ns 0 h
-built_fits m listed lp name.MngVpflushdone ns h = one_fits ns h
-built_fits m listed lp name.MngKeyFreeid ns h = one_fits ns h
-built_fits m listed lp name.MrExtend ns h = two_fit ns h
-built_fits m listed lp name.MrFinalize ns h = one_fits ns h
-built_fits m listed lp name.VpCreate ns h = two_fit ns h
-built_fits m listed lp name.VpInit ns h = three_fit ns h
-built_fits m listed lp name.VpEnter ns h = three_fit ns h
-built_fits m listed lp name.VpFlush ns h = two_fit ns h
-built_fits m listed lp name.MemSeptAdd ns h = four_fit ns h
-built_fits m listed lp name.MemSeptRd ns h = three_fit ns h
-built_fits m listed lp name.MemSeptRemove ns h = three_fit ns h
-built_fits m listed lp name.MemPageAdd ns h = four_fit ns h
-built_fits m listed lp name.MemPageAug ns h = three_fit ns h
-built_fits m listed lp name.MemPageRemove ns h = two_fit ns h
-built_fits m listed lp name.MemRangeBlock ns h = three_fit ns h
-built_fits m listed lp name.MemRangeUnblock ns h = three_fit ns h
-built_fits m listed lp name.MemTrack ns h = one_fits ns h
-built_fits m listed lp name.MigStreamCreate ns h = two_fit ns h
-built_fits m listed lp name.ExportBlockw ns h = two_fit ns h
-built_fits m listed lp name.ExportUnblockw ns h = two_fit ns h
-built_fits m listed lp name.ExportPause ns h = one_fits ns h
+built_fits m listed lp name.MngVpflushdone ns h = (one_fits ns h, tt)
+built_fits m listed lp name.MngKeyFreeid ns h = (one_fits ns h, tt)
+built_fits m listed lp name.MrExtend ns h = (two_fit ns h, tt)
+built_fits m listed lp name.MrFinalize ns h = (one_fits ns h, tt)
+built_fits m listed lp name.VpCreate ns h = (two_fit ns h, tt)
+built_fits m listed lp name.VpInit ns h = (three_fit ns h, tt)
+built_fits m listed lp name.VpEnter ns h = (three_fit ns h, tt)
+built_fits m listed lp name.VpFlush ns h = (two_fit ns h, tt)
+built_fits m listed lp name.MemSeptAdd ns h = (four_fit ns h, tt)
+built_fits m listed lp name.MemSeptRd ns h = (three_fit ns h, tt)
+built_fits m listed lp name.MemSeptRemove ns h = (three_fit ns h, tt)
+built_fits m listed lp name.MemPageAdd ns h = (four_fit ns h, tt)
+built_fits m listed lp name.MemPageAug ns h = (three_fit ns h, tt)
+built_fits m listed lp name.MemPageRemove ns h = (two_fit ns h, tt)
+built_fits m listed lp name.MemRangeBlock ns h = (three_fit ns h, tt)
+built_fits m listed lp name.MemRangeUnblock ns h = (three_fit ns h, tt)
+built_fits m listed lp name.MemTrack ns h = (one_fits ns h, tt)
+built_fits m listed lp name.MigStreamCreate ns h = (two_fit ns h, tt)
+built_fits m listed lp name.ExportBlockw ns h = (two_fit ns h, tt)
+built_fits m listed lp name.ExportUnblockw ns h = (two_fit ns h, tt)
+built_fits m listed lp name.ExportPause ns h = (one_fits ns h, tt)
 built_fits m listed lp name.ExportAbort ns h = abort_fits m listed lp (length ns == 2) ns h
-built_fits m listed lp name.ExportRestore ns h = two_fit ns h
+built_fits m listed lp name.ExportRestore ns h = (two_fit ns h, tt)
+built_fits m listed lp name.ExportStateImmutable ns h = (slot_fits ns h, slot_within ns 1)
+built_fits m listed lp name.ExportTrack ns h = (All-push fits (argument ns 0 ∷ slot_at ns 1 ∷ []) (argument ns 2) (slot_fits ns h) (argument_fits ns 2 h), slot_within ns 1)
+built_fits m listed lp name.ExportStateTd ns h = (slot_fits ns h, slot_within ns 1)
+built_fits m listed lp name.ExportStateVp ns h = (All-push fits (argument ns 0 ∷ argument ns 1 ∷ []) (slot_at ns 2) (two_fit ns h) (within_fits (slot_at ns 2) (slot_within ns 2)), slot_within ns 2)
 built_fits m listed lp _ ns h = tt
 
 judged_fits : (m : Machine) (listed : List Bool) (e : Option Entry) (row : Mnemonic) (ns : List (Option ℕ)) → IfBuilt m listed e → IfGiven (FitsEntry (Some m) listed) (judged_of e row ns)
 judged_fits m listed None row ns h = tt
 judged_fits m listed (Some e) row ns h =
     given_if (FitsEntry (Some m) listed) (not (leb row.least (length ns) && leb (length ns) row.most)) _ reason.Count _ refl
-    (λ c. given_if (FitsEntry (Some m) listed) (not (are_given row.call ns)) _ reason.Number (Ok e) refl (λ g. h))
+    (λ c. given_if (FitsEntry (Some m) listed) (not (are_given row.call ns)) _ reason.Number (ranged_of e row.call ns) refl
+    (λ g. given_if (FitsEntry (Some m) listed) (not (fits_slot (slot_place_of row.call) ns)) _ reason.Range (Ok e) refl (λ r. h)))
 
 call_fits : (m : Machine) (listed : List Bool) (lp : ℕ) (row : Option Mnemonic) (ns : List (Option ℕ)) → All FitsNumber ns → IfGiven (FitsEntry (Some m) listed) (call_of lp row ns)
 unfolding call_of
@@ -375,17 +396,34 @@ list_fits : (P : List Call → Type 0) (calls : List (List Call)) (lp : ℕ) →
 list_fits P calls lp none all (inl lt) = all lp [] lt
 list_fits P calls lp none all (inr past) = rw (get_or_past calls lp [] past) none
 
-call_added : (lps lp : ℕ) (calls : List (List Call)) (c : Call) → FitsCalls lps calls → FitsCall c → IfGiven (FitsCalls lps) (with_call calls lp c)
+-- with one more, and its slot among theirs
+abbrev FitsMore : ℕ → Option ℕ → List (List Call) → List (List Call) → Type 0
+FitsMore lps o calls more = FitsCalls lps more × Added o calls more
+
+call_added : (lps lp : ℕ) (calls : List (List Call)) (c : Call) → FitsCalls lps calls → FitsCall c → IfGiven (FitsMore lps (output_slot c) calls) (with_call calls lp c)
 call_added lps lp calls c h fit =
     let list = get_or calls lp [] in
-    given_if (FitsCalls lps) (leb 4096 (length list)) _ reason.Full (Ok (set calls lp (list ++ c ∷ []))) refl
-    (λ e. record {
-      lists = rw length-set h.lists;
-      few = All-set (λ list. length list ≤ 4096) calls lp (list ++ c ∷ []) (rw length-append (grind (arith, e))) h.few;
-      arguments =
-          All-set (λ list. All FitsCall list) calls lp (list ++ c ∷ [])
-          (All-push FitsCall list c (list_fits (λ list. All FitsCall list) calls lp (All-nil FitsCall) h.arguments (cases_lt lp (length calls))) fit) h.arguments;
-    })
+    given_if (FitsMore lps (output_slot c) calls) (leb 4096 (length list)) _ reason.Full (Ok (set calls lp (list ++ c ∷ []))) refl
+    (λ e. (
+      record {
+        lists = rw length-set h.lists;
+        few = All-set (λ list. length list ≤ 4096) calls lp (list ++ c ∷ []) (rw length-append (grind (arith, e))) h.few;
+        arguments =
+            All-set (λ list. All FitsCall list) calls lp (list ++ c ∷ [])
+            (All-push FitsCall list c (list_fits (λ list. All FitsCall list) calls lp (All-nil FitsCall) h.arguments (cases_lt lp (length calls))) fit) h.arguments;
+      },
+      added calls lp c,
+    ))
+
+-- the slot of one more is named
+slot_given : (o : Option ℕ) (named : List Bool) (old new : List (List Call)) → FitsSlots named (output_slots old) → FitsSlot o → Added o old new → IfGiven (λ names. FitsSlots names (output_slots new)) (with_slot named o)
+slot_given None named old new h fit (inl p) = slots_more named None (output_slots old) (output_slots new) h tt tt p
+slot_given None named old new h fit (inr e) = subst (λ slots. FitsSlots named slots) (sym e) h
+slot_given (Some s) named old new h fit (inl p) =
+    given_if (λ names. FitsSlots names (output_slots new)) (get_or named s false) _ reason.Slot (Ok (set named s true)) refl (λ free. slots_more named (Some s) (output_slots old) (output_slots new) h fit free p)
+slot_given (Some s) named old new h fit (inr e) =
+    given_if (λ names. FitsSlots names (output_slots new)) (get_or named s false) _ reason.Slot (Ok (set named s true)) refl
+    (λ free. subst (λ slots. FitsSlots (set named s true) slots) (sym e) (slot_named named s (output_slots old) h fit))
 
 none_called : (lps : ℕ) → FitsCalls lps (replicate lps [])
 none_called lps = record {
@@ -430,10 +468,6 @@ op_added ops g h fit =
     (λ e. record { few = rw length-append (grind (arith, e)); operands = All-push FitsOp ops g h.operands fit })
 
 -- a list that begins: its mark is set, and all marks before stay
-still_marked : (listed : List Bool) (i k : ℕ) → get_or listed k false ≡ true → (i ≡ k) ⊎ (i ≢ k) → i < length listed → get_or (set listed i true) k false ≡ true
-still_marked listed i k h (inl e) room = subst (λ j. get_or (set listed i true) j false ≡ true) e (get_or-set_same listed i true false room)
-still_marked listed i k h (inr e) room = let apart : k ≢ i = λ f. e (sym f) in rw (get_or-set_other listed i k true false apart) h
-
 all_still_marked : (listed : List Bool) (i : ℕ) (codes : List CodeSeen) → i < length listed → All (IsMarked listed) codes → All (IsMarked (set listed i true)) codes
 all_still_marked listed i [] room h = All-nil (IsMarked (set listed i true))
 all_still_marked listed i (c ∷ cs) room h =
@@ -489,31 +523,33 @@ closed_codes m listed codes ops p h o k = record {
 }
 
 -- what the lines so far said
-record FitsMachine (m : Machine) (b : Option Block) (listed : List Bool) (schedule : List ℕ) (codes : List CodeSeen) (ops : List GuestOp) (calls : List (List Call)) : Type 0 where
+record FitsMachine (m : Machine) (b : Option Block) (listed named : List Bool) (schedule : List ℕ) (codes : List CodeSeen) (ops : List GuestOp) (calls : List (List Call)) : Type 0 where
   pub limits : in_limits m.lps m.pages m.hkids ≡ true
   pub items : FitsItems m.lps schedule
   pub codes_fit : FitsCodes m listed codes
   pub ops_fit : FitsOps ops
   pub block_fits : FitsBlock m listed codes b
   pub calls_fit : FitsCalls m.lps calls
+  pub slots_fit : FitsSlots named (output_slots calls)
 
 -- before the machine's line
-record FitsNothing (b : Option Block) (listed : List Bool) (schedule : List ℕ) (codes : List CodeSeen) (ops : List GuestOp) : Type 0 where
+record FitsNothing (b : Option Block) (listed named : List Bool) (schedule : List ℕ) (codes : List CodeSeen) (ops : List GuestOp) : Type 0 where
   pub outside : b ≡ None
   pub marks : length listed ≡ 8192
+  pub names : length named ≡ 4096
   pub items : schedule ≡ []
   pub lists : codes ≡ []
   pub operations : ops ≡ []
 
-abbrev FitsParts : Option Machine → Option Block → List Bool → List ℕ → List CodeSeen → List GuestOp → List (List Call) → Type 0
-FitsParts None b listed schedule codes ops calls = FitsNothing b listed schedule codes ops
-FitsParts (Some m) b listed schedule codes ops calls = FitsMachine m b listed schedule codes ops calls
+abbrev FitsParts : Option Machine → Option Block → List Bool → List Bool → List ℕ → List CodeSeen → List GuestOp → List (List Call) → Type 0
+FitsParts None b listed named schedule codes ops calls = FitsNothing b listed named schedule codes ops
+FitsParts (Some m) b listed named schedule codes ops calls = FitsMachine m b listed named schedule codes ops calls
 
 abbrev FitsSoFar : SoFar → Type 0
-FitsSoFar d = FitsParts d.stage.machine d.stage.block d.listed d.schedule d.codes d.ops d.calls
+FitsSoFar d = FitsParts d.stage.machine d.stage.block d.listed d.named d.schedule d.codes d.ops d.calls
 
-abbrev state : Option Machine → Option Block → List Bool → List Bool → List ℕ → List CodeSeen → List GuestOp → List (List Call) → SoFar
-state machine b had listed schedule codes ops calls = record { stage = record { machine = machine; block = b; had = had }; listed = listed; schedule = schedule; codes = codes; ops = ops; calls = calls }
+abbrev state : Option Machine → Option Block → List Bool → List Bool → List Bool → List ℕ → List CodeSeen → List GuestOp → List (List Call) → SoFar
+state machine b had listed named schedule codes ops calls = record { stage = record { machine = machine; block = b; had = had }; listed = listed; named = named; schedule = schedule; codes = codes; ops = ops; calls = calls }
 
 no_items : (lps : ℕ) (schedule : List ℕ) → schedule ≡ [] → FitsItems lps schedule
 no_items lps schedule e = record { below = rw e (All-nil (λ lp. lp < lps)); few = rw e (omega arith) }
@@ -524,52 +560,54 @@ few_pages m h = grind arith
 no_codes : (m : Machine) (listed : List Bool) (codes : List CodeSeen) → m.pages ≤ 1024 → length listed ≡ 8192 → codes ≡ [] → FitsCodes m listed codes
 no_codes m listed codes few marks e = record { room = omega (arith, few, marks); fit = rw e (All-nil (IsCode m)); marked = rw e (All-nil (IsMarked listed)); others = rw e tt }
 
-machine_entered : (m : Machine) (b : Option Block) (listed : List Bool) (schedule : List ℕ) (codes : List CodeSeen) (ops : List GuestOp) → FitsNothing b listed schedule codes ops → in_limits m.lps m.pages m.hkids ≡ true → FitsMachine m b listed schedule codes ops (replicate m.lps [])
-machine_entered m b listed schedule codes ops h k = record {
+machine_entered : (m : Machine) (b : Option Block) (listed named : List Bool) (schedule : List ℕ) (codes : List CodeSeen) (ops : List GuestOp) → FitsNothing b listed named schedule codes ops → in_limits m.lps m.pages m.hkids ≡ true → FitsMachine m b listed named schedule codes ops (replicate m.lps [])
+machine_entered m b listed named schedule codes ops h k = record {
   limits = k;
   items = no_items m.lps schedule h.items;
   codes_fit = no_codes m listed codes (few_pages m k) h.marks h.lists;
   ops_fit = rw h.operations no_ops;
   block_fits = rw h.outside tt;
   calls_fit = none_called m.lps;
+  slots_fit = none_fit named m.lps h.names;
 }
 
-closed_fits : (m : Machine) (b : Option Block) (had listed : List Bool) (schedule : List ℕ) (codes : List CodeSeen) (ops : List GuestOp) (calls : List (List Call)) → FitsMachine m b listed schedule codes ops calls
-    → FitsSoFar (closed_of (state (Some m) b had listed schedule codes ops calls) b)
-closed_fits m None had listed schedule codes ops calls h = record { limits = h.limits; items = h.items; codes_fit = h.codes_fit; ops_fit = h.ops_fit; block_fits = tt; calls_fit = h.calls_fit }
-closed_fits m (Some (block.Lp lp)) had listed schedule codes ops calls h = record { limits = h.limits; items = h.items; codes_fit = h.codes_fit; ops_fit = h.ops_fit; block_fits = tt; calls_fit = h.calls_fit }
-closed_fits m (Some (block.Code p)) had listed schedule codes ops calls h = record { limits = h.limits; items = h.items; codes_fit = closed_codes m listed codes ops p h.codes_fit h.ops_fit h.block_fits; ops_fit = no_ops; block_fits = tt; calls_fit = h.calls_fit }
+closed_fits : (m : Machine) (b : Option Block) (had listed named : List Bool) (schedule : List ℕ) (codes : List CodeSeen) (ops : List GuestOp) (calls : List (List Call)) → FitsMachine m b listed named schedule codes ops calls
+    → FitsSoFar (closed_of (state (Some m) b had listed named schedule codes ops calls) b)
+closed_fits m None had listed named schedule codes ops calls h = record { limits = h.limits; items = h.items; codes_fit = h.codes_fit; ops_fit = h.ops_fit; block_fits = tt; calls_fit = h.calls_fit; slots_fit = h.slots_fit }
+closed_fits m (Some (block.Lp lp)) had listed named schedule codes ops calls h = record { limits = h.limits; items = h.items; codes_fit = h.codes_fit; ops_fit = h.ops_fit; block_fits = tt; calls_fit = h.calls_fit; slots_fit = h.slots_fit }
+closed_fits m (Some (block.Code p)) had listed named schedule codes ops calls h = record { limits = h.limits; items = h.items; codes_fit = closed_codes m listed codes ops p h.codes_fit h.ops_fit h.block_fits; ops_fit = no_ops; block_fits = tt; calls_fit = h.calls_fit; slots_fit = h.slots_fit }
 
-entered_fits : (machine : Option Machine) (b : Option Block) (had listed : List Bool) (schedule : List ℕ) (codes : List CodeSeen) (ops : List GuestOp) (calls : List (List Call)) (e : Entry) (ws : List (List ℕ))
-    → FitsParts machine b listed schedule codes ops calls → FitsEntry machine listed e → IfGiven FitsSoFar (entered_of (state machine b had listed schedule codes ops calls) e ws)
+entered_fits : (machine : Option Machine) (b : Option Block) (had listed named : List Bool) (schedule : List ℕ) (codes : List CodeSeen) (ops : List GuestOp) (calls : List (List Call)) (e : Entry) (ws : List (List ℕ))
+    → FitsParts machine b listed named schedule codes ops calls → FitsEntry machine listed e → IfGiven FitsSoFar (entered_of (state machine b had listed named schedule codes ops calls) e ws)
 unfolding entered_of
-entered_fits None b had listed schedule codes ops calls (entry.Machine m) ws h k = machine_entered m b listed schedule codes ops h k
-entered_fits None b had listed schedule codes ops calls (entry.Schedule lps) ws h k = absurd k
-entered_fits None b had listed schedule codes ops calls (entry.Open lp) ws h k = absurd k
-entered_fits None b had listed schedule codes ops calls (entry.List p) ws h k = absurd k
-entered_fits None b had listed schedule codes ops calls entry.End ws h k = absurd k
-entered_fits None b had listed schedule codes ops calls (entry.Call lp c) ws h k = absurd k
-entered_fits None b had listed schedule codes ops calls (entry.Read lp tdr) ws h k = absurd k
-entered_fits None b had listed schedule codes ops calls (entry.Operation g) ws h k = absurd k
-entered_fits (Some m) b had listed schedule codes ops calls (entry.Machine n) ws h k = absurd k
-entered_fits (Some m) b had listed schedule codes ops calls (entry.Schedule lps) ws h k =
+entered_fits None b had listed named schedule codes ops calls (entry.Machine m) ws h k = machine_entered m b listed named schedule codes ops h k
+entered_fits None b had listed named schedule codes ops calls (entry.Schedule lps) ws h k = absurd k
+entered_fits None b had listed named schedule codes ops calls (entry.Open lp) ws h k = absurd k
+entered_fits None b had listed named schedule codes ops calls (entry.List p) ws h k = absurd k
+entered_fits None b had listed named schedule codes ops calls entry.End ws h k = absurd k
+entered_fits None b had listed named schedule codes ops calls (entry.Call lp c) ws h k = absurd k
+entered_fits None b had listed named schedule codes ops calls (entry.Read lp tdr) ws h k = absurd k
+entered_fits None b had listed named schedule codes ops calls (entry.Operation g) ws h k = absurd k
+entered_fits (Some m) b had listed named schedule codes ops calls (entry.Machine n) ws h k = absurd k
+entered_fits (Some m) b had listed named schedule codes ops calls (entry.Schedule lps) ws h k =
     rw k
     (given_then (FitsItems m.lps) FitsSoFar (schedule_of m.lps schedule ws) _ (schedule_fits m.lps schedule ws h.items)
-    (λ s f. record { limits = h.limits; items = f; codes_fit = h.codes_fit; ops_fit = h.ops_fit; block_fits = h.block_fits; calls_fit = h.calls_fit }))
-entered_fits (Some m) b had listed schedule codes ops calls (entry.Open lp) ws h k = record { limits = h.limits; items = h.items; codes_fit = h.codes_fit; ops_fit = h.ops_fit; block_fits = tt; calls_fit = h.calls_fit }
-entered_fits (Some m) b had listed schedule codes ops calls (entry.List p) ws h k =
-    record { limits = h.limits; items = h.items; codes_fit = opened_codes m listed codes p h.codes_fit k; ops_fit = h.ops_fit; block_fits = opened m listed codes p h.codes_fit k; calls_fit = h.calls_fit }
-entered_fits (Some m) b had listed schedule codes ops calls entry.End ws h k = closed_fits m b had listed schedule codes ops calls h
-entered_fits (Some m) b had listed schedule codes ops calls (entry.Call lp c) ws h k =
-    given_then (FitsCalls m.lps) FitsSoFar (with_call calls lp c) _ (call_added m.lps lp calls c h.calls_fit k)
-    (λ x f. record { limits = h.limits; items = h.items; codes_fit = h.codes_fit; ops_fit = h.ops_fit; block_fits = h.block_fits; calls_fit = f })
-entered_fits (Some m) b had listed schedule codes ops calls (entry.Read lp tdr) ws h k =
+    (λ s f. record { limits = h.limits; items = f; codes_fit = h.codes_fit; ops_fit = h.ops_fit; block_fits = h.block_fits; calls_fit = h.calls_fit; slots_fit = h.slots_fit }))
+entered_fits (Some m) b had listed named schedule codes ops calls (entry.Open lp) ws h k = record { limits = h.limits; items = h.items; codes_fit = h.codes_fit; ops_fit = h.ops_fit; block_fits = tt; calls_fit = h.calls_fit; slots_fit = h.slots_fit }
+entered_fits (Some m) b had listed named schedule codes ops calls (entry.List p) ws h k =
+    record { limits = h.limits; items = h.items; codes_fit = opened_codes m listed codes p h.codes_fit k; ops_fit = h.ops_fit; block_fits = opened m listed codes p h.codes_fit k; calls_fit = h.calls_fit; slots_fit = h.slots_fit }
+entered_fits (Some m) b had listed named schedule codes ops calls entry.End ws h k = closed_fits m b had listed named schedule codes ops calls h
+entered_fits (Some m) b had listed named schedule codes ops calls (entry.Call lp c) ws h k =
+    given_then (FitsMore m.lps (output_slot c) calls) FitsSoFar (with_call calls lp c) _ (call_added m.lps lp calls c h.calls_fit k.0)
+    (λ x f. given_then (λ names. FitsSlots names (output_slots x)) FitsSoFar (with_slot named (output_slot c)) _ (slot_given (output_slot c) named calls x h.slots_fit k.1 f.1)
+    (λ names g. record { limits = h.limits; items = h.items; codes_fit = h.codes_fit; ops_fit = h.ops_fit; block_fits = h.block_fits; calls_fit = f.0; slots_fit = g }))
+entered_fits (Some m) b had listed named schedule codes ops calls (entry.Read lp tdr) ws h k =
     given_field FitsSoFar (field_of (get_or ws 1 [])) _
-    (λ field. given_then (FitsCalls m.lps) FitsSoFar (with_call calls lp (call.MngRd tdr field)) _ (call_added m.lps lp calls (call.MngRd tdr field) h.calls_fit (All-cons fits tdr [] k (All-nil fits)))
-    (λ x f. record { limits = h.limits; items = h.items; codes_fit = h.codes_fit; ops_fit = h.ops_fit; block_fits = h.block_fits; calls_fit = f }))
-entered_fits (Some m) b had listed schedule codes ops calls (entry.Operation g) ws h k =
+    (λ field. given_then (FitsMore m.lps None calls) FitsSoFar (with_call calls lp (call.MngRd tdr field)) _ (call_added m.lps lp calls (call.MngRd tdr field) h.calls_fit (All-cons fits tdr [] k (All-nil fits)))
+    (λ x f. record { limits = h.limits; items = h.items; codes_fit = h.codes_fit; ops_fit = h.ops_fit; block_fits = h.block_fits; calls_fit = f.0; slots_fit = slot_given None named calls x h.slots_fit tt f.1 }))
+entered_fits (Some m) b had listed named schedule codes ops calls (entry.Operation g) ws h k =
     given_then FitsOps FitsSoFar (with_op ops g) _ (op_added ops g h.ops_fit k)
-    (λ x f. record { limits = h.limits; items = h.items; codes_fit = h.codes_fit; ops_fit = f; block_fits = h.block_fits; calls_fit = h.calls_fit })
+    (λ x f. record { limits = h.limits; items = h.items; codes_fit = h.codes_fit; ops_fit = f; block_fits = h.block_fits; calls_fit = h.calls_fit; slots_fit = h.slots_fit })
 
 entry_fits : (d : SoFar) (w : List ℕ) (ws : List (List ℕ)) → IfGiven (FitsEntry d.stage.machine d.listed) (entry_of d.stage d.listed w (map number ws))
 unfolding entry_of
@@ -585,7 +623,7 @@ words_fit d [] h = h
 words_fit d (w ∷ ws) h =
     comment_fits (is_comment w) d _ h
     (given_then (FitsEntry d.stage.machine d.listed) FitsSoFar (entry_of d.stage d.listed w (map number ws)) (λ e. entered_of d e ws) (entry_fits d w ws)
-    (λ e f. entered_fits d.stage.machine d.stage.block d.stage.had d.listed d.schedule d.codes d.ops d.calls e ws h f))
+    (λ e f. entered_fits d.stage.machine d.stage.block d.stage.had d.listed d.named d.schedule d.codes d.ops d.calls e ws h f))
 
 line_fits : (d : SoFar) (line : List ℕ) → FitsSoFar d → IfGiven FitsSoFar (line_of d line)
 unfolding line_of
@@ -599,10 +637,10 @@ IfRead (Err e) = Unit {0}
 all_in_limits : (m : Machine) → in_limits m.lps m.pages m.hkids ≡ true → IsMachine m
 all_in_limits m h = record { lps = (grind arith, grind arith); pages = (grind arith, grind arith); hkids = (grind arith, grind arith) }
 
-script_fits : (m : Option Machine) (b : Option Block) (listed : List Bool) (schedule : List ℕ) (codes : List CodeSeen) (ops : List GuestOp) (calls : List (List Call)) (n : ℕ) → FitsParts m b listed schedule codes ops calls → IfRead (script_of m b schedule codes calls n)
-script_fits None b listed schedule codes ops calls n h = tt
-script_fits (Some m) (Some b) listed schedule codes ops calls n h = tt
-script_fits (Some m) None listed schedule codes ops calls n h =
+script_fits : (m : Option Machine) (b : Option Block) (listed named : List Bool) (schedule : List ℕ) (codes : List CodeSeen) (ops : List GuestOp) (calls : List (List Call)) (n : ℕ) → FitsParts m b listed named schedule codes ops calls → IfRead (script_of m b schedule codes calls n)
+script_fits None b listed named schedule codes ops calls n h = tt
+script_fits (Some m) (Some b) listed named schedule codes ops calls n h = tt
+script_fits (Some m) None listed named schedule codes ops calls n h =
     record {
       machine = all_in_limits m h.limits;
       items = h.items.below;
@@ -612,6 +650,8 @@ script_fits (Some m) None listed schedule codes ops calls n h =
       lists = h.calls_fit.lists;
       few_calls = h.calls_fit.few;
       arguments = h.calls_fit.arguments;
+      slots = h.slots_fit.few;
+      apart = h.slots_fit.apart;
     }
 
 read_if : (b : Bool) (x y : Result ScriptSeen ScriptFault) → IfRead x → IfRead y → IfRead (cond b x y)
@@ -619,7 +659,7 @@ read_if true x y h k = h
 read_if false x y h k = k
 
 ended_fits : (d : SoFar) (n : ℕ) (rest : List ℕ) → FitsSoFar d → IfRead (ended_of d n rest)
-ended_fits d n rest h = read_if (not (length rest == 0)) (Err (Bad n reason.Unterminated)) _ tt (script_fits d.stage.machine d.stage.block d.listed d.schedule d.codes d.ops d.calls n h)
+ended_fits d n rest h = read_if (not (length rest == 0)) (Err (Bad n reason.Unterminated)) _ tt (script_fits d.stage.machine d.stage.block d.listed d.named d.schedule d.codes d.ops d.calls n h)
 
 then_fits : (r : Result SoFar Reason) (n : ℕ) (f : SoFar → Result ScriptSeen ScriptFault) → IfGiven FitsSoFar r → ((e : SoFar) → FitsSoFar e → IfRead (f e)) → IfRead (then_on r n f)
 then_fits (Ok e) n f h k = k e h
@@ -635,8 +675,12 @@ marks_are : length none_listed ≡ 8192
 unfolding none_listed
 marks_are = length-replicate 8192 false
 
+names_are : length none_named ≡ 4096
+unfolding none_named
+names_are = length-replicate 4096 false
+
 nothing_fits : FitsSoFar nothing_yet
-nothing_fits = record { outside = refl; marks = marks_are; items = refl; lists = refl; operations = refl }
+nothing_fits = record { outside = refl; marks = marks_are; names = names_are; items = refl; lists = refl; operations = refl }
 
 read_fits : (bytes : List ℕ) → IfRead (read_of bytes)
 unfolding read_of

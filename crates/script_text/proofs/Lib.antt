@@ -1,4 +1,5 @@
 pub mod Steps
+pub mod Slots
 pub mod Calls
 pub mod FirstBads
 pub mod Forms

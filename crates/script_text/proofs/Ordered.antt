@@ -1,17 +1,19 @@
 -- A line's fault is the first reason that holds.
-use Rattle.std.proofs.Common.{◌≡◌, ℕ, ◌+◌, ◌*◌, ◌^◌, ◌≤◌, List, [], ◌∷◌, ◌++◌, length, map, find, option_map, get_or, replicate, Bool, true, false, not, cond, leb, ltb, ◌==◌, ◌&&◌, Option, Some, None, Result, Ok, Err, refl, ap, sym, ◌∙◌, arith}
+use Rattle.std.proofs.Common.{◌≡◌, ℕ, ◌+◌, ◌*◌, ◌^◌, ◌≤◌, List, [], ◌∷◌, ◌++◌, length, map, find, option_map, get_or, set, replicate, Bool, true, false, not, cond, leb, ltb, ◌==◌, ◌&&◌, Option, Some, None, Result, Ok, Err, refl, ap, sym, ◌∙◌, arith}
 use Rattle.std.specs.Prelude.{is_some, unwrap_or, codes}
 use Rattle.std.specs.List.{list_all}
 use Rattle.std.specs.Str.{bytes_eq}
 use Rattle.std.proofs.lemmas.Bool.{and_parts}
 use Rattle.std.proofs.lemmas.List.{length-append, length-replicate, length-map}
 use Rattle.td_words.specs.declared.calls.Call.{Call}
+use Rattle.td_words.specs.declared.calls.Call.TheVariants as calls
 use Rattle.td_words.specs.declared.calls.GuestOp.{GuestOp}
 use Rattle.td_words.specs.declared.machines.Machine.{Machine}
 use Rattle.td_words.specs.declared.names.ReadField.{ReadField}
 use Rattle.td_words.specs.declared.names.ReadField.TheVariants as field
 use Rattle.td_words.specs.Limits.{in_limits}
 use Rattle.td_words.specs.Seen.{CodeSeen}
+use Rattle.td_words.specs.Slots.{output_slot}
 use Rattle.line_words.specs.declared.mnemonics.CallName.{CallName}
 use Rattle.line_words.specs.declared.mnemonics.CallName.TheVariants as name
 use Rattle.line_words.specs.declared.mnemonics.Mnemonic.{Mnemonic}
@@ -30,18 +32,18 @@ use Rattle.script_text.specs.declared.lines.Keyword.TheVariants as keyword
 use Rattle.script_text.specs.declared.code_blocks.CodePlace.{CodePlace}
 use Rattle.script_text.specs.declared.operations.OpName.{OpName}
 use Rattle.script_text.specs.declared.schedules.Turns.{Turns}
-use Rattle.script_text.specs.Blocks.{field_of, code_of, operation_of, operand_count, fit_operands, operands_of, guest_op_of}
+use Rattle.script_text.specs.Blocks.{field_of, slot_place_of, slot_at, fits_slot, with_slot, code_of, operation_of, operand_count, fit_operands, operands_of, guest_op_of}
 use Rattle.script_text.specs.Counted.{◌>>=◌, argument}
-use Rattle.script_text.specs.Line.{keyword_of, machine_of, block_of, end_of, abort_of, built_of, are_given, judged_of, call_of, first_of, list_of, operation_line_of, outside_of, named_of, inside_of, placed_of, entry_of}
+use Rattle.script_text.specs.Line.{keyword_of, machine_of, block_of, end_of, abort_of, built_of, are_given, ranged_of, judged_of, call_of, first_of, list_of, operation_line_of, outside_of, named_of, inside_of, placed_of, entry_of}
 use Rattle.script_text.specs.Reading.{SoFar, entered_of, worded_of, line_of, script_of, ended_of}
-use Rattle.script_text.specs.Reasons.{fault_in, line_reasons, end_reasons, times_of, turns_count, names_no_field, is_built, FirstWord, call_word, operation_word, word_in, machine_holds, holds_of, holds_in, holds_at, holds_at_end}
+use Rattle.script_text.specs.Reasons.{fault_in, line_reasons, end_reasons, times_of, turns_count, names_no_field, is_built, number_of, is_named, FirstWord, call_word, operation_word, word_in, machine_holds, holds_of, holds_in, holds_at, holds_at_end}
 use Rattle.script_text.specs.Reasons.FirstWord.{Key}
 use Rattle.script_text.specs.Schedule.{item_of, turns_in, written_of, schedule_of}
 use Rattle.script_text.specs.Laws.{ReasonsInOrder}
 
 -- all reasons but BYTE
 abbrev behind_byte : List Reason
-behind_byte = reason.Machine ∷ reason.Place ∷ reason.Word ∷ reason.Unbuilt ∷ reason.Count ∷ reason.Number ∷ reason.Name ∷ reason.Range ∷ reason.Repeated ∷ reason.Full ∷ []
+behind_byte = reason.Machine ∷ reason.Place ∷ reason.Word ∷ reason.Unbuilt ∷ reason.Count ∷ reason.Number ∷ reason.Name ∷ reason.Range ∷ reason.Repeated ∷ reason.Full ∷ reason.Slot ∷ []
 
 -- one test after the other
 fault_if : {A : Type 0} (b : Bool) (r : Reason) (x : Result A Reason) (y : Option Reason) → fault_in x ≡ y → fault_in (cond b (Err r) x) ≡ cond b (Some r) y
@@ -58,7 +60,7 @@ wrong_count x f c y e h = rw (e, h) refl
 
 -- the reasons behind COUNT
 abbrev behind_count : List Reason
-behind_count = reason.Number ∷ reason.Name ∷ reason.Range ∷ reason.Repeated ∷ reason.Full ∷ []
+behind_count = reason.Number ∷ reason.Name ∷ reason.Range ∷ reason.Repeated ∷ reason.Full ∷ reason.Slot ∷ []
 
 abbrev state : Option Machine → Option Block → SoFar → SoFar
 state machine b d = record d { stage = record d.stage { machine = machine; block = b } }
@@ -192,11 +194,11 @@ schedule_order m d (w ∷ ws) =
 
 -- calls
 
-counted_call : (e : Entry) (m : Mnemonic) (ns : List (Option ℕ)) (f : Entry → Result SoFar Reason) (y : Option Reason) → fault_in (f e) ≡ y
+counted_call : (e : Entry) (m : Mnemonic) (ns : List (Option ℕ)) (f : Entry → Result SoFar Reason) (y : Option Reason) → fault_in (ranged_of e m.call ns >>= f) ≡ y
     → fault_in (judged_of (Some e) m ns >>= f) ≡ cond (not (leb m.least (length ns) && leb (length ns) m.most)) (Some reason.Count) (cond (not (are_given m.call ns)) (Some reason.Number) y)
 counted_call e m ns f y h =
-    fault_then (not (leb m.least (length ns) && leb (length ns) m.most)) reason.Count (cond (not (are_given m.call ns)) (Err reason.Number) (Ok e)) f _
-    (λ a. fault_then (not (are_given m.call ns)) reason.Number (Ok e) f y (λ b. h))
+    fault_then (not (leb m.least (length ns) && leb (length ns) m.most)) reason.Count (cond (not (are_given m.call ns)) (Err reason.Number) (ranged_of e m.call ns)) f _
+    (λ a. fault_then (not (are_given m.call ns)) reason.Number (ranged_of e m.call ns) f y (λ b. h))
 
 -- a field is bad by its name alone
 abbrev ByName : Result ReadField Reason → Type 0
@@ -225,10 +227,34 @@ field_order (Err r) g y h k = ap Some h
 abbrev crowded : List (List Call) → ℕ → Bool
 crowded calls lp = leb 4096 (length (get_or calls lp []))
 
+-- an output slot that isn't named yet
+abbrev slot_ends : List Bool → Option ℕ → Option Reason
+slot_ends named None = None
+slot_ends named (Some s) = cond (get_or named s false) (Some reason.Slot) None
+
+slot_order : (named : List Bool) (o : Option ℕ) (f : List Bool → Result SoFar Reason) → ((names : List Bool) → fault_in (f names) ≡ None) → fault_in (with_slot named o >>= f) ≡ slot_ends named o
+slot_order named None f h = h named
+slot_order named (Some s) f h = fault_then (get_or named s false) reason.Slot (Ok (set named s true)) f None (λ e. h (set named s true))
+
 call_full : (m : Machine) (lp : ℕ) (d : SoFar) (c : Call) (ws : List (List ℕ))
-    → fault_in (entered_of (state (Some m) (Some (block.Lp lp)) d) (entry.Call lp c) ws) ≡ cond (crowded d.calls lp) (Some reason.Full) None
+    → fault_in (entered_of (state (Some m) (Some (block.Lp lp)) d) (entry.Call lp c) ws) ≡ cond (crowded d.calls lp) (Some reason.Full) (slot_ends d.named (output_slot c))
 unfolding entered_of
-call_full m lp d c ws = fault_then (crowded d.calls lp) reason.Full _ _ None (λ e. refl)
+call_full m lp d c ws =
+    fault_then (crowded d.calls lp) reason.Full (Ok (set d.calls lp (get_or d.calls lp [] ++ c ∷ []))) (λ calls. with_slot d.named (output_slot c) >>= (λ named. Ok (record (state (Some m) (Some (block.Lp lp)) d) { calls = calls; named = named })))
+    (slot_ends d.named (output_slot c))
+    (λ e. slot_order d.named (output_slot c) (λ named. Ok (record (state (Some m) (Some (block.Lp lp)) d) { calls = set d.calls lp (get_or d.calls lp [] ++ c ∷ []); named = named })) (λ named. refl))
+
+-- a call whose slot is in range, or RANGE
+slot_full_if : (m : Machine) (lp : ℕ) (d : SoFar) (make : ℕ → Call) (b : Bool) (n : ℕ) (ws : List (List ℕ)) → ((s : ℕ) → output_slot (make s) ≡ Some s)
+    → fault_in (cond (not b) (Err reason.Range) (Ok (entry.Call lp (make (cond b n 0)))) >>= (λ x. entered_of (state (Some m) (Some (block.Lp lp)) d) x ws))
+    ≡ cond (not b) (Some reason.Range) (cond (crowded d.calls lp) (Some reason.Full) (cond (get_or d.named n false) (Some reason.Slot) None))
+slot_full_if m lp d make true n ws is = call_full m lp d (make n) ws ∙ ap (λ o. cond (crowded d.calls lp) (Some reason.Full) (slot_ends d.named o)) (is n)
+slot_full_if m lp d make false n ws is = refl
+
+slot_full : (m : Machine) (lp : ℕ) (d : SoFar) (make : ℕ → Call) (i : ℕ) (ws : List (List ℕ)) → ((s : ℕ) → output_slot (make s) ≡ Some s)
+    → fault_in (cond (not (fits_slot (Some i) (map number ws))) (Err reason.Range) (Ok (entry.Call lp (make (slot_at (map number ws) i)))) >>= (λ x. entered_of (state (Some m) (Some (block.Lp lp)) d) x ws))
+    ≡ cond (not (fits_slot (Some i) (map number ws))) (Some reason.Range) (cond (crowded d.calls lp) (Some reason.Full) (cond (is_named d.named (Some i) ws) (Some reason.Slot) None))
+slot_full m lp d make i ws is = slot_full_if m lp d make (leb (argument (map number ws) i) 4095) (argument (map number ws) i) ws is
 
 read_full : (m : Machine) (lp tdr : ℕ) (d : SoFar) (ws : List (List ℕ))
     → fault_in (entered_of (state (Some m) (Some (block.Lp lp)) d) (entry.Read lp tdr) ws) ≡ cond (names_no_field name.MngRd ws) (Some reason.Name) (cond (crowded d.calls lp) (Some reason.Full) None)
@@ -237,12 +263,15 @@ read_full m lp tdr d ws =
     field_order (field_of (get_or ws 1 [])) _ (cond (crowded d.calls lp) (Some reason.Full) None) (by_name (get_or ws 1 [])) (λ x. fault_then (crowded d.calls lp) reason.Full _ _ None (λ e. refl))
 
 -- what a call's line comes to, once its words are counted and numbers
-abbrev call_ends : CallName → List (List Call) → ℕ → List (List ℕ) → Option Reason
-call_ends call calls lp ws = cond (names_no_field call ws) (Some reason.Name) (cond (crowded calls lp) (Some reason.Full) None)
+abbrev call_ends : CallName → SoFar → ℕ → List (List ℕ) → Option Reason
+call_ends call d lp ws =
+    cond (names_no_field call ws) (Some reason.Name)
+    (cond (not (fits_slot (slot_place_of call) (map number ws))) (Some reason.Range)
+    (cond (crowded d.calls lp) (Some reason.Full) (cond (is_named d.named (slot_place_of call) ws) (Some reason.Slot) None)))
 
 abbrev EntryEnds : Machine → ℕ → SoFar → List (List ℕ) → CallName → Option Entry → Type 0
 EntryEnds m lp d ws call None = is_built call ws ≡ false
-EntryEnds m lp d ws call (Some e) = (is_built call ws ≡ true) × (fault_in (entered_of (state (Some m) (Some (block.Lp lp)) d) e ws) ≡ call_ends call d.calls lp ws)
+EntryEnds m lp d ws call (Some e) = (is_built call ws ≡ true) × (fault_in (ranged_of e call (map number ws) >>= (λ x. entered_of (state (Some m) (Some (block.Lp lp)) d) x ws)) ≡ call_ends call d lp ws)
 
 abort_ends : (m : Machine) (lp : ℕ) (d : SoFar) (ws : List (List ℕ)) (with_slot : Bool) (tdr : ℕ) → (length (map number ws) == 2) ≡ with_slot → EntryEnds m lp d ws name.ExportAbort (abort_of lp with_slot tdr)
 abort_ends m lp d ws true tdr e = rw e refl
@@ -282,21 +311,25 @@ entry_ends m lp d ws name.ExportUnblockw = (refl, call_full m lp d _ ws)
 entry_ends m lp d ws name.ExportPause = (refl, call_full m lp d _ ws)
 entry_ends m lp d ws name.ExportAbort = abort_ends m lp d ws (length (map number ws) == 2) _ refl
 entry_ends m lp d ws name.ExportRestore = (refl, call_full m lp d _ ws)
+entry_ends m lp d ws name.ExportStateImmutable = (refl, slot_full m lp d (λ slot. calls.ExportStateImmutable (number_of ws 0) slot) 1 ws (λ slot. refl))
+entry_ends m lp d ws name.ExportTrack = (refl, slot_full m lp d (λ slot. calls.ExportTrack (number_of ws 0) slot (number_of ws 2)) 1 ws (λ slot. refl))
+entry_ends m lp d ws name.ExportStateTd = (refl, slot_full m lp d (λ slot. calls.ExportStateTd (number_of ws 0) slot) 1 ws (λ slot. refl))
+entry_ends m lp d ws name.ExportStateVp = (refl, slot_full m lp d (λ slot. calls.ExportStateVp (number_of ws 0) (number_of ws 1) slot) 2 ws (λ slot. refl))
 entry_ends m lp d ws _ = refl
 
-judged_order : (m : Machine) (lp : ℕ) (d : SoFar) (ws : List (List ℕ)) (row : Mnemonic) (e : Option Entry) (ns : List (Option ℕ)) → EntryEnds m lp d ws row.call e
-    → fault_in (judged_of e row ns >>= (λ x. entered_of (state (Some m) (Some (block.Lp lp)) d) x ws))
-    ≡ cond (not (is_built row.call ws)) (Some reason.Unbuilt) (cond (not (leb row.least (length ns) && leb (length ns) row.most)) (Some reason.Count) (cond (not (are_given row.call ns)) (Some reason.Number) (call_ends row.call d.calls lp ws)))
-judged_order m lp d ws row None ns h = rw h refl
-judged_order m lp d ws row (Some e) ns h =
-    rw h.0 (counted_call e row ns (λ x. entered_of (state (Some m) (Some (block.Lp lp)) d) x ws) (call_ends row.call d.calls lp ws) h.1)
+judged_order : (m : Machine) (lp : ℕ) (d : SoFar) (ws : List (List ℕ)) (row : Mnemonic) (e : Option Entry) → EntryEnds m lp d ws row.call e
+    → fault_in (judged_of e row (map number ws) >>= (λ x. entered_of (state (Some m) (Some (block.Lp lp)) d) x ws))
+    ≡ cond (not (is_built row.call ws)) (Some reason.Unbuilt) (cond (not (leb row.least (length (map number ws)) && leb (length (map number ws)) row.most)) (Some reason.Count) (cond (not (are_given row.call (map number ws))) (Some reason.Number) (call_ends row.call d lp ws)))
+judged_order m lp d ws row None h = rw h refl
+judged_order m lp d ws row (Some e) h =
+    rw h.0 (counted_call e row (map number ws) (λ x. entered_of (state (Some m) (Some (block.Lp lp)) d) x ws) (call_ends row.call d lp ws) h.1)
 
 call_order : (m : Machine) (lp : ℕ) (d : SoFar) (row : Option Mnemonic) (ws : List (List ℕ))
     → fault_in (call_of lp row (map number ws) >>= (λ e. entered_of (state (Some m) (Some (block.Lp lp)) d) e ws)) ≡ find (holds_of (state (Some m) (Some (block.Lp lp)) d) (call_word row) ws) behind_byte
 unfolding call_of
 call_order m lp d None ws = refl
 call_order m lp d (Some row) ws =
-    judged_order m lp d ws row (built_of lp row.call (map number ws)) (map number ws) (entry_ends m lp d ws row.call) ∙ rw length-map refl
+    judged_order m lp d ws row (built_of lp row.call (map number ws)) (entry_ends m lp d ws row.call) ∙ rw length-map refl
 
 -- `code`
 

@@ -1,5 +1,5 @@
 -- The fields of MNG.RD, output slots, `code` blocks and their operations.
-use Rattle.std.specs.Prelude.{ℕ, ◌+◌, ◌*◌, ◌^◌, ◌%◌, List, Option, Some, None, is_some, Result, Ok, Err, Bool, true, false, not, ◌&&◌, ◌==◌, nat_lt, slice_index_or, length, replicate, if◌then◌else◌, codes}
+use Rattle.std.specs.Prelude.{ℕ, ◌+◌, ◌*◌, ◌^◌, ◌%◌, List, Option, Some, None, is_some, Result, Ok, Err, Bool, true, false, not, ◌&&◌, ◌==◌, nat_lt, nat_le, slice_index_or, slice_set, length, replicate, if◌then◌else◌, codes}
 use Rattle.std.specs.List.{list_all}
 use Rattle.std.specs.Str.{bytes_eq}
 use Rattle.td_words.specs.declared.calls.GuestOp.{GuestOp}
@@ -37,12 +37,27 @@ slot_place_of name.ExportStateVp = Some 2
 slot_place_of name.ImportAbort = Some 1
 slot_place_of _ = None
 
--- slots 0 to 4,095, each named by one line; `named` says which were
-abbrev pub slot_of : List Bool → ℕ → Result ℕ Reason
-slot_of named slot =
-    if nat_lt 4095 slot then Err reason.Range
-    else if slice_index_or named slot false then Err reason.Slot
-    else Ok slot
+-- an output slot is 0 to 4,095
+abbrev pub is_slot : ℕ → Bool
+is_slot slot = nat_le slot 4095
+
+-- the output slot at a place; 0 where the number there is none, and then the line is refused
+abbrev pub slot_at : List (Option ℕ) → ℕ → ℕ
+slot_at ns i = if is_slot (argument ns i) then argument ns i else 0
+
+-- the argument at that place is an output slot, where there is such a place
+abbrev pub fits_slot : Option ℕ → List (Option ℕ) → Bool
+fits_slot None ns = true
+fits_slot (Some i) ns = is_slot (argument ns i)
+
+-- no line named an output slot of the 4,096 that there are
+unfoldable pub none_named : List Bool
+none_named = replicate 4096 false
+
+-- a slot is named once; `named` says which were
+abbrev pub with_slot : List Bool → Option ℕ → Result (List Bool) Reason
+with_slot named None = Ok named
+with_slot named (Some slot) = if slice_index_or named slot false then Err reason.Slot else Ok (slice_set named slot true)
 
 -- where `listed` marks a VCPU's list
 abbrev pub list_place : CodePlace → ℕ

@@ -1,9 +1,10 @@
 -- Laws of scripts in a reader's terms.
 use Rattle.std.specs.Prelude.{◌≡◌, ◌≢◌, ℕ, ◌+◌, ◌^◌, ◌<◌, ◌≤◌, List, [], ◌∷◌, ◌++◌, length, find, option_map, Ok, Err}
-use Rattle.std.specs.List.{All}
+use Rattle.std.specs.List.{All, AllPairs}
 use Rattle.td_words.specs.declared.machines.Machine.{Machine}
 use Rattle.td_words.specs.Limits.{IsMachine}
 use Rattle.td_words.specs.Seen.{CodeSeen}
+use Rattle.td_words.specs.Slots.{output_slots}
 use Rattle.line_words.specs.Words.{pieces}
 use Rattle.script_text.specs.declared.faults.Reason.{Reason}
 use Rattle.script_text.specs.declared.faults.Reason.TheVariants as reason
@@ -26,7 +27,7 @@ AreOfOthers [] = Unit {0}
 AreOfOthers (c ∷ cs) = All (λ d. d.tdr ≡ c.tdr → d.index ≢ c.index) cs × AreOfOthers cs
 
 -- a script as the grammar has it: a machine within the limits, a schedule of its processors, lists of operations of some
--- VCPUs, and a list of calls for each processor
+-- VCPUs, and a list of calls for each processor; output slots are 0 to 4,095, and no two calls name one
 pub record IsInForm (s : ScriptSeen) : Type 0 where
   pub machine : IsMachine s.machine
   pub items : All (λ lp. lp < s.machine.lps) s.schedule
@@ -36,6 +37,8 @@ pub record IsInForm (s : ScriptSeen) : Type 0 where
   pub lists : length s.calls ≡ s.machine.lps
   pub few_calls : All (λ calls. length calls ≤ 4096) s.calls
   pub arguments : All (λ calls. All FitsCall calls) s.calls
+  pub slots : All (λ slot. slot ≤ 4095) (output_slots s.calls)
+  pub apart : AllPairs (λ a b. a ≢ b) (output_slots s.calls)
 
 -- each script that is read is in form
 pub record ScriptsAreInForm : Type 0 where

@@ -3,6 +3,7 @@ pub mod Counted
 pub mod Blocks
 pub mod Line
 pub mod Seen
+pub mod Needs
 pub mod Schedule
 pub mod Reading
 pub mod Spelling

@@ -20,7 +20,7 @@ use Rattle.script_text.specs.declared.lines.Stage.{Stage}
 use Rattle.script_text.specs.declared.lines.Entry.{Entry}
 use Rattle.script_text.specs.declared.lines.Entry.TheVariants as entry
 use Rattle.script_text.specs.Counted.{◌>>=◌, counted_of, number_at, argument}
-use Rattle.script_text.specs.Blocks.{code_of, operation_of, guest_op_of, operands_of}
+use Rattle.script_text.specs.Blocks.{slot_place_of, slot_at, fits_slot, code_of, operation_of, guest_op_of, operands_of}
 
 abbrev pub keyword_of : List ℕ → Option Keyword
 keyword_of word =
@@ -103,6 +103,10 @@ built_of lp name.ExportUnblockw ns = Some (entry.Call lp (calls.ExportUnblockw (
 built_of lp name.ExportPause ns = Some (entry.Call lp (calls.ExportPause (argument ns 0)))
 built_of lp name.ExportAbort ns = abort_of lp (length ns == 2) (argument ns 0)
 built_of lp name.ExportRestore ns = Some (entry.Call lp (calls.ExportRestore (argument ns 0) (argument ns 1)))
+built_of lp name.ExportStateImmutable ns = Some (entry.Call lp (calls.ExportStateImmutable (argument ns 0) (slot_at ns 1)))
+built_of lp name.ExportTrack ns = Some (entry.Call lp (calls.ExportTrack (argument ns 0) (slot_at ns 1) (argument ns 2)))
+built_of lp name.ExportStateTd ns = Some (entry.Call lp (calls.ExportStateTd (argument ns 0) (slot_at ns 1)))
+built_of lp name.ExportStateVp ns = Some (entry.Call lp (calls.ExportStateVp (argument ns 0) (argument ns 1) (slot_at ns 2)))
 built_of lp _ ns = None
 
 -- whether those arguments are numbers that must be: all but the field of MNG.RD
@@ -110,13 +114,17 @@ abbrev pub are_given : CallName → List (Option ℕ) → Bool
 are_given name.MngRd ns = is_some (slice_index_or ns 0 None)
 are_given _ ns = list_all is_some ns
 
--- as many arguments as the mnemonic has, and numbers where it has numbers
+-- an output slot is in range
+abbrev pub ranged_of : Entry → CallName → List (Option ℕ) → Result Entry Reason
+ranged_of e call ns = if not (fits_slot (slot_place_of call) ns) then Err reason.Range else Ok e
+
+-- as many arguments as the mnemonic has, numbers where it has numbers, and an output slot in range
 abbrev pub judged_of : Option Entry → Mnemonic → List (Option ℕ) → Result Entry Reason
 judged_of None m ns = Err reason.Unbuilt
 judged_of (Some e) m ns =
     if not (nat_le m.least (length ns) && nat_le (length ns) m.most) then Err reason.Count
     else if not (are_given m.call ns) then Err reason.Number
-    else Ok e
+    else ranged_of e m.call ns
 
 unfoldable pub call_of : ℕ → Option Mnemonic → List (Option ℕ) → Result Entry Reason
 call_of lp None ns = Err reason.Word

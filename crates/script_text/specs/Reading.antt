@@ -5,6 +5,7 @@ use Rattle.td_words.specs.declared.calls.Call.TheVariants as call
 use Rattle.td_words.specs.declared.calls.GuestOp.{GuestOp}
 use Rattle.td_words.specs.declared.machines.Machine.{Machine}
 use Rattle.td_words.specs.Seen.{CodeSeen}
+use Rattle.td_words.specs.Slots.{output_slot}
 use Rattle.line_words.specs.Number.{number}
 use Rattle.line_words.specs.Words.{pieces, words, is_printable, is_comment}
 use Rattle.script_text.specs.declared.faults.Reason.{Reason}
@@ -17,7 +18,7 @@ use Rattle.script_text.specs.declared.lines.Entry.{Entry}
 use Rattle.script_text.specs.declared.lines.Entry.TheVariants as entry
 use Rattle.script_text.specs.declared.lines.Stage.{Stage}
 use Rattle.script_text.specs.declared.drafts.Draft.{Draft}
-use Rattle.script_text.specs.Blocks.{field_of, list_place, none_listed}
+use Rattle.script_text.specs.Blocks.{field_of, with_slot, none_named, list_place, none_listed}
 use Rattle.script_text.specs.Counted.{◌>>=◌}
 use Rattle.script_text.specs.Line.{entry_of}
 use Rattle.script_text.specs.Schedule.{schedule_of}
@@ -27,22 +28,30 @@ use Rattle.script_text.specs.Seen.{ScriptSeen}
 pub record SoFar : Type 0 where
   pub stage : Stage
   pub listed : List Bool  -- which lists of operations there were
+  pub named : List Bool  -- which output slots were named
   pub schedule : List ℕ  -- its items so far, written out
   pub codes : List CodeSeen  -- the lists that have ended
   pub ops : List GuestOp  -- the operations so far of the list that is open
   pub calls : List (List Call)
 
 abbrev pub draft_seen : Draft → SoFar
-draft_seen d = record { stage = d.stage; listed = d.listed; schedule = d.schedule.items; codes = d.codes.items; ops = d.ops.items; calls = map (λ list. list.items) d.calls.items }
+draft_seen d = record { stage = d.stage; listed = d.listed; named = d.named; schedule = d.schedule.items; codes = d.codes.items; ops = d.ops.items; calls = map (λ list. list.items) d.calls.items }
 
 abbrev pub nothing_yet : SoFar
-nothing_yet = record { stage = record { machine = None; block = None; had = replicate 8 false }; listed = none_listed; schedule = []; codes = []; ops = []; calls = [] }
+nothing_yet = record { stage = record { machine = None; block = None; had = replicate 8 false }; listed = none_listed; named = none_named; schedule = []; codes = []; ops = []; calls = [] }
 
 -- at most 4,096 calls a processor
 abbrev pub with_call : List (List Call) → ℕ → Call → Result (List (List Call)) Reason
 with_call calls lp c =
     if nat_le 4096 (length (slice_index_or calls lp [])) then Err reason.Full
     else Ok (slice_set calls lp (slice_index_or calls lp [] ++ c ∷ []))
+
+-- a call's line: FULL counts before SLOT
+abbrev pub called_of : SoFar → ℕ → Call → Result SoFar Reason
+called_of d lp c = do
+  calls ← with_call d.calls lp c
+  named ← with_slot d.named (output_slot c)
+  Ok (record d { calls = calls; named = named })
 
 -- at most 256 operations a list
 abbrev pub with_op : List GuestOp → GuestOp → Result (List GuestOp) Reason
@@ -63,9 +72,7 @@ entered_of d (entry.Schedule lps) words = do
 entered_of d (entry.Open lp) words = Ok (record d { stage = record d.stage { block = Some (block.Lp lp); had = slice_set d.stage.had lp true } })
 entered_of d (entry.List p) words = Ok (record d { stage = record d.stage { block = Some (block.Code p) }; listed = slice_set d.listed (list_place p) true })
 entered_of d entry.End words = Ok (closed_of d d.stage.block)
-entered_of d (entry.Call lp c) words = do
-  calls ← with_call d.calls lp c
-  Ok (record d { calls = calls })
+entered_of d (entry.Call lp c) words = called_of d lp c
 entered_of d (entry.Read lp tdr) words = do
   field ← field_of (slice_index_or words 1 [])
   calls ← with_call d.calls lp (call.MngRd tdr field)

@@ -18,7 +18,7 @@ use Rattle.script_text.specs.declared.lines.Keyword.{Keyword}
 use Rattle.script_text.specs.declared.lines.Keyword.TheVariants as keyword
 use Rattle.script_text.specs.declared.operations.OpName.{OpName}
 use Rattle.script_text.specs.declared.schedules.Turns.{Turns}
-use Rattle.script_text.specs.Blocks.{field_of, operation_of, operand_count, fit_operands}
+use Rattle.script_text.specs.Blocks.{field_of, slot_place_of, fits_slot, operation_of, operand_count, fit_operands}
 use Rattle.script_text.specs.Counted.{argument}
 use Rattle.script_text.specs.Line.{keyword_of, built_of, are_given}
 use Rattle.script_text.specs.Reading.{SoFar}
@@ -31,7 +31,7 @@ fault_in (Err r) = Some r
 
 -- the reasons that a line may have, in the order in which they count
 abbrev pub line_reasons : List Reason
-line_reasons = reason.Byte ∷ reason.Machine ∷ reason.Place ∷ reason.Word ∷ reason.Unbuilt ∷ reason.Count ∷ reason.Number ∷ reason.Name ∷ reason.Range ∷ reason.Repeated ∷ reason.Full ∷ []
+line_reasons = reason.Byte ∷ reason.Machine ∷ reason.Place ∷ reason.Word ∷ reason.Unbuilt ∷ reason.Count ∷ reason.Number ∷ reason.Name ∷ reason.Range ∷ reason.Repeated ∷ reason.Full ∷ reason.Slot ∷ []
 
 -- what a first word is where it stands: a keyword anywhere, a call in a processor's block, an operation in a list
 pub data FirstWord : Type 0 where
@@ -114,13 +114,14 @@ abbrev pub number_of : List (List ℕ) → ℕ → ℕ
 number_of ws i = argument (map number ws) i
 
 -- the machine is within the limits; a block's and an item's processor is the machine's, and an item has 1 to 2 ^ 20 turns;
--- a list is of VCPU 0 to 7 of a page of the machine, and an operation's operands are within its limits
+-- a list is of VCPU 0 to 7 of a page of the machine, an operation's operands are within its limits, and so is an output slot
 abbrev pub range_holds : ℕ → ℕ → FirstWord → List (List ℕ) → Bool
 range_holds lps pages (Key keyword.Machine) ws = not (in_limits (number_of ws 0) (number_of ws 1) (number_of ws 2))
 range_holds lps pages (Key keyword.Code) ws = not (nat_lt (number_of ws 0) pages && nat_lt (number_of ws 1) 8)
 range_holds lps pages (Key keyword.Lp) ws = not (nat_lt (number_of ws 0) lps)
 range_holds lps pages (Key keyword.Schedule) ws = not (list_all (λ w. is_some (turns_in lps w)) ws)
 range_holds lps pages (OfOperation o) ws = not (fit_operands o (number_of ws 0) (number_of ws 1))
+range_holds lps pages (OfCall m) ws = not (fits_slot (slot_place_of m.call) (map number ws))
 range_holds lps pages _ ws = false
 
 -- a processor has one block, and a VCPU one list
@@ -144,6 +145,15 @@ full_holds lps schedule calls ops (Key keyword.Schedule) ws = nat_lt (2 ^ 20) (l
 full_holds lps schedule calls ops (OfCall m) ws = nat_le 4096 calls
 full_holds lps schedule calls ops (OfOperation o) ws = nat_le 256 ops
 full_holds lps schedule calls ops _ ws = false
+
+-- an earlier line named the argument at that place as its output slot
+abbrev pub is_named : List Bool → Option ℕ → List (List ℕ) → Bool
+is_named named None ws = false
+is_named named (Some i) ws = slice_index_or named (number_of ws i) false
+
+abbrev pub slot_holds : List Bool → FirstWord → List (List ℕ) → Bool
+slot_holds named (OfCall m) ws = is_named named (slot_place_of m.call) ws
+slot_holds named _ ws = false
 
 -- the machine's processors and pages; none where no machine stands yet
 abbrev pub lps_in : Option Machine → ℕ
@@ -171,6 +181,7 @@ holds_of d w ws reason.Name = name_holds w ws
 holds_of d w ws reason.Range = range_holds (lps_in d.stage.machine) (pages_in d.stage.machine) w ws
 holds_of d w ws reason.Repeated = repeated_holds d.stage.had d.listed w ws
 holds_of d w ws reason.Full = full_holds (lps_in d.stage.machine) d.schedule (length (calls_in d.stage.block d.calls)) (length d.ops) w ws
+holds_of d w ws reason.Slot = slot_holds d.named w ws
 holds_of d w ws _ = false
 
 -- of a line without words and of a comment none holds

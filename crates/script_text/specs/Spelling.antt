@@ -45,6 +45,10 @@ call_word (calls.ExportUnblockw tdr gpa) = codes "EXPORT.UNBLOCKW"
 call_word (calls.ExportPause tdr) = codes "EXPORT.PAUSE"
 call_word (calls.ExportAbort tdr) = codes "EXPORT.ABORT"
 call_word (calls.ExportRestore tdr gpa) = codes "EXPORT.RESTORE"
+call_word (calls.ExportStateImmutable tdr slot) = codes "EXPORT.STATE.IMMUTABLE"
+call_word (calls.ExportTrack tdr slot start) = codes "EXPORT.TRACK"
+call_word (calls.ExportStateTd tdr slot) = codes "EXPORT.STATE.TD"
+call_word (calls.ExportStateVp tdr vp slot) = codes "EXPORT.STATE.VP"
 
 abbrev pub call_numbers : Call → List ℕ
 call_numbers (calls.HostRead page word) = page ∷ word ∷ []
@@ -80,6 +84,10 @@ call_numbers (calls.ExportUnblockw tdr gpa) = tdr ∷ gpa ∷ []
 call_numbers (calls.ExportPause tdr) = tdr ∷ []
 call_numbers (calls.ExportAbort tdr) = tdr ∷ []
 call_numbers (calls.ExportRestore tdr gpa) = tdr ∷ gpa ∷ []
+call_numbers (calls.ExportStateImmutable tdr slot) = tdr ∷ slot ∷ []
+call_numbers (calls.ExportTrack tdr slot start) = tdr ∷ slot ∷ start ∷ []
+call_numbers (calls.ExportStateTd tdr slot) = tdr ∷ slot ∷ []
+call_numbers (calls.ExportStateVp tdr vp slot) = tdr ∷ vp ∷ slot ∷ []
 
 -- MNG.RD names its field behind its numbers
 abbrev pub call_names : Call → List (List ℕ)

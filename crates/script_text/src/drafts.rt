@@ -3,25 +3,27 @@
 ghost use Rattle.std.specs.Prelude.{◌≡◌, map, replicate, [], ◌∷◌, slice_set, true, Ok, IfOk};
 ghost use Rattle.line_words.specs.Words.{words};
 ghost use Rattle.script_text.specs.Counted.{IsAnsweredAt};
-ghost use Rattle.script_text.specs.Reading.{draft_seen, with_call, with_op, closed_of, entered_of, worded_of, line_of};
+ghost use Rattle.script_text.specs.Blocks.{with_slot};
+ghost use Rattle.script_text.specs.Reading.{draft_seen, with_call, called_of, with_op, closed_of, entered_of, worded_of, line_of};
 
 use crate::code_blocks::{CodePlace, list_place};
 use crate::faults::{Reason, Taken, bad};
 use crate::fields::field_in;
-use crate::lines::{Block, Entry, Stage, entry_at};
+use crate::lines::{Block, Entry, Stage, entry_at, is_marked};
 use crate::schedules::schedule_line;
 use line_words::{first_numbers, is_comment, is_printable, next_word};
 use std::alloc::{AllocError, Global};
 use std::mem;
 use td_words::{Call, Code, GuestOp};
 
-/// The state before the next line; which lists of operations there were; and so far the schedule's
-/// items, the lists that have ended, the operations of the one that is open, and each processor's
-/// calls.
+/// The state before the next line; which lists of operations there were, and which output slots were
+/// named; and so far the schedule's items, the lists that have ended, the operations of the one that is
+/// open, and each processor's calls.
 #[derive(Drop)]
 pub struct Draft {
     pub stage: Stage,
     pub listed: [bool; 8192],
+    pub named: [bool; 4096],
     pub schedule: Vec<u8>,
     pub codes: Vec<Code>,
     pub ops: Vec<GuestOp>,
@@ -63,6 +65,29 @@ fn add_call(calls: &mut Vec<Vec<Call>>, number: u64, lp: u8, call: Call) -> Take
     }
     list.push(call)?;
     Ok(())
+}
+
+fn name_slot(named: &mut [bool], number: u64, slot: Option<u16>) -> Taken
+    ensures { IsAnsweredAt number (with_slot named.old slot) named.new result }
+{
+    let Some(slot) = slot else {
+        return Ok(());
+    };
+    let place = usize::from(slot);
+    if is_marked(named, place) {
+        return Err(bad(number, Reason::Slot));
+    }
+    mark(named, place);
+    Ok(())
+}
+
+fn take_call(draft: &mut Draft, number: u64, lp: u8, call: Call) -> Taken
+    ensures { IsAnsweredAt number (called_of (draft_seen draft.old) lp call) (draft_seen draft.new) result }
+{
+    match add_call(&mut draft.calls, number, lp, call) {
+        Ok(()) => name_slot(&mut draft.named, number, call.output_slot()),
+        fault => fault,
+    }
 }
 
 fn add_op(ops: &mut Vec<GuestOp>, number: u64, op: GuestOp) -> Taken
@@ -109,7 +134,7 @@ fn enter(draft: &mut Draft, alloc: Global, number: u64, entry: Entry, text: &[u8
             Ok(())
         }
         Entry::End => close(draft, alloc, number),
-        Entry::Call(lp, call) => add_call(&mut draft.calls, number, lp, call),
+        Entry::Call(lp, call) => take_call(draft, number, lp, call),
         Entry::Read(lp, tdr) => match field_in(text) {
             Ok(field) => add_call(&mut draft.calls, number, lp, Call::MngRd { tdr, field }),
             Err(reason) => Err(bad(number, reason)),

@@ -2,10 +2,10 @@
 
 ghost use Rattle.std.specs.Prelude.{◌≡◌, [], slice_index_or};
 ghost use Rattle.line_words.specs.Words.{words};
-ghost use Rattle.script_text.specs.Blocks.{field_of, slot_place_of, slot_of};
+ghost use Rattle.script_text.specs.Blocks.{field_of, slot_place_of, is_slot, slot_at, fits_slot, none_named};
 
 use crate::faults::Reason;
-use crate::lines::is_marked;
+use crate::lines::argument;
 use line_words::{CallName, is, next_word};
 use td_words::ReadField;
 
@@ -49,15 +49,35 @@ pub fn slot_place(call: CallName) -> Option<usize>
     }
 }
 
-/// The output slot that a number is: RANGE above 4,095, SLOT where an earlier line `named` it.
-pub fn output_slot(named: &[bool], number: u64) -> Result<u16, Reason>
-    ensures { result ≡ slot_of named.now number }
+fn is_slot(number: u64) -> bool
+    ensures { result ≡ is_slot number }
 {
-    if number > 4095 {
-        return Err(Reason::Range);
+    number <= 4095
+}
+
+/// The output slot that stands as that argument; 0 where the number there is none.
+pub fn slot_at(numbers: &[Option<u64>], i: usize) -> u16
+    ensures { result ≡ slot_at numbers.now i }
+{
+    let number = argument(numbers, i);
+    if is_slot(number) { number as u16 } else { 0 }
+}
+
+/// Whether the argument at that place, if there is such a place, is an output slot.
+pub fn fits_slot(place: Option<usize>, numbers: &[Option<u64>]) -> bool
+    ensures { result ≡ fits_slot place numbers.now }
+{
+    match place {
+        None => true,
+        Some(i) => is_slot(argument(numbers, i)),
     }
-    if is_marked(named, number as usize) {
-        return Err(Reason::Slot);
-    }
-    Ok(number as u16)
+}
+
+/// The marks where no line named an output slot. They stand in the draft, as those of lists do, so a
+/// line costs the same behind thousands of bundles.
+#[tactic(auto, unfolding(crate::specs::Blocks::none_named))]
+pub fn none_named() -> [bool; 4096]
+    ensures { result ≡ none_named }
+{
+    [false; 4096]
 }

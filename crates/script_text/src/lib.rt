@@ -5,8 +5,9 @@
 //! `specs/Reading.antt` defines, unless memory wasn't found, and four laws: what is read is in form
 //! (`scripts_are_in_form`), a script in form that is written out is read again
 //! (`scripts_read_again`), a fault names the first bad line (`faults_are_first`), and the first reason
-//! that holds of it (`reasons_in_order`). Twenty-seven calls and all guest operations are built; any
-//! other mnemonic is UNBUILT. Public functions read output slots.
+//! that holds of it (`reasons_in_order`). In form no two calls name one output slot, and
+//! `proofs/Slots.antt` says it of any two places of calls. `needs_keys` says whether a script seals
+//! bundles. Thirty-seven calls and all guest operations are built; any other mnemonic is UNBUILT.
 #![tactic(auto)]
 
 mod code_blocks;
@@ -20,6 +21,6 @@ mod schedules;
 mod scripts;
 
 pub use faults::{Reason, ScriptFault};
-pub use fields::{output_slot, slot_place};
+pub use fields::slot_place;
 pub use laws::{faults_are_first, reasons_in_order, scripts_are_in_form, scripts_read_again};
-pub use scripts::{Script, read_script};
+pub use scripts::{Script, needs_keys, read_script};

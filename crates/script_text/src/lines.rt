@@ -8,6 +8,7 @@ ghost use Rattle.script_text.specs.Line.{keyword_of, machine_in, machine_of, blo
 
 use crate::code_blocks::{CodePlace, code_line};
 use crate::faults::Reason;
+use crate::fields::{fits_slot, slot_at, slot_place};
 use crate::operations::{OpName, check_operands, guest_op, operation_at};
 use line_words::{CallName, Mnemonic, is, mnemonic_at};
 use td_words::{Call, GuestOp, Machine};
@@ -169,7 +170,8 @@ fn built(lp: u8, call: CallName, numbers: &[Option<u64>]) -> Option<Entry>
     let (first, second) = (argument(numbers, 0), argument(numbers, 1));
     let (third, fourth) = (argument(numbers, 2), argument(numbers, 3));
     let (page, tdr, word, vp, gpa) = (first, first, second, second, second);
-    let (value, max, level, augmented) = (third, third, third, third);
+    let (value, max, level, augmented, start) = (third, third, third, third, third);
+    let (slot, last_slot) = (slot_at(numbers, 1), slot_at(numbers, 2));
     let call = match call {
         CallName::HostRead => Call::HostRead { page, word },
         CallName::HostWrite => Call::HostWrite { page, word, value },
@@ -223,6 +225,14 @@ fn built(lp: u8, call: CallName, numbers: &[Option<u64>]) -> Option<Entry>
             Call::ExportAbort { tdr }
         }
         CallName::ExportRestore => Call::ExportRestore { tdr, gpa },
+        CallName::ExportStateImmutable => Call::ExportStateImmutable { tdr, slot },
+        CallName::ExportTrack => Call::ExportTrack { tdr, slot, start },
+        CallName::ExportStateTd => Call::ExportStateTd { tdr, slot },
+        CallName::ExportStateVp => Call::ExportStateVp {
+            tdr,
+            vp,
+            slot: last_slot,
+        },
         _ => return None,
     };
     Some(Entry::Call(lp, call))
@@ -252,6 +262,9 @@ fn judged(entry: Option<Entry>, row: Mnemonic, numbers: &[Option<u64>]) -> Said
     }
     if !are_given(row.call, numbers) {
         return Err(Reason::Number);
+    }
+    if !fits_slot(slot_place(row.call), numbers) {
+        return Err(Reason::Range);
     }
     Ok(entry)
 }

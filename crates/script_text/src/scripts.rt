@@ -1,12 +1,15 @@
 //! Scripts.
 
 ghost use Rattle.std.specs.Prelude.{◌≡◌, ◌≤◌, ◌^◌, length};
+ghost use Rattle.std.specs.List.{list_any};
 ghost use Rattle.line_words.specs.Words.{pieces};
+ghost use Rattle.script_text.specs.Needs.{names_a_slot, needs_keys};
 ghost use Rattle.script_text.specs.Reading.{IsAnswered, read_of, read_from, ended_of, nothing_yet, draft_seen};
 
 use crate::code_blocks::none_listed;
 use crate::drafts::{Draft, take_line};
 use crate::faults::{Reason, ScriptFault, bad};
+use crate::fields::none_named;
 use crate::lines::Stage;
 use line_words::first_line;
 use std::alloc::Global;
@@ -63,6 +66,7 @@ fn read_lines(alloc: Global, bytes: &[u8]) -> Result<Script, ScriptFault>
             had: [false; 8],
         },
         listed: none_listed(),
+        named: none_named(),
         schedule: Vec::new(alloc),
         codes: Vec::new(alloc),
         ops: Vec::new(alloc),
@@ -87,4 +91,24 @@ pub fn read_script(alloc: Global, bytes: &[u8]) -> Result<Script, ScriptFault>
         return Err(bad(0, Reason::Length));
     }
     read_lines(alloc, bytes)
+}
+
+fn names_a_slot(calls: &[Call]) -> bool
+    ensures { result ≡ names_a_slot calls.now }
+{
+    calls.iter().any(|call| call.output_slot().is_some())
+}
+
+fn some_names_a_slot(lists: &[Vec<Call>]) -> bool
+    ensures { result ≡ list_any (λ list. names_a_slot list.items) lists.now }
+{
+    lists.iter().any(|calls| names_a_slot(calls))
+}
+
+/// Whether a call of the script makes a bundle, which is sealed under the keys of a key file.
+#[tactic(auto, using(crate::proofs::Calls::some_of_items))]
+pub fn needs_keys(script: &Script) -> bool
+    ensures { result ≡ needs_keys script.now.calls }
+{
+    some_names_a_slot(&script.calls)
 }

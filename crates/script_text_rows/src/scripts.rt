@@ -1,7 +1,7 @@
 //! What no clause says: that the grammar means what its users were promised.
 
 use line_words::{CallName, mnemonic_at};
-use script_text::{Reason, ScriptFault, output_slot, read_script, slot_place};
+use script_text::{ScriptFault, needs_keys, read_script, slot_place};
 use std::alloc::Global;
 use std::test::Fail;
 
@@ -44,6 +44,7 @@ const WHOLE_SCRIPTS: &[&str] = &[
     "1 RANGE | machine 1 1025 15\n | machine 1 1024 16\n | machine 1 8 0\n",
     "2 RANGE | machine 2 8 1\nlp 2\n | machine 2 8 1\nschedule 0 2\n",
     "4 REPEATED | machine 2 8 1\nlp 1\nend\nlp 1\n",
+    "6 SLOT | machine 2 8 1\nlp 1\nEXPORT.TRACK 1 5 0\nend\nlp 0\nEXPORT.STATE.TD 1 0x5\nend\n",
 ];
 
 const ON_ONE_PROCESSOR: &[&str] = &[
@@ -70,7 +71,8 @@ const IN_BLOCK: &[&str] = &[
     "good |  |  # end",
     "3 PLACE | lp | lp 0 | schedule 0 | schedule x | code 9 | code 1 0",
     "3 WORD | host.read 5 0 | HOST.READX 5 | set 0 0 | vmcall 0 | secret 0 0",
-    "3 UNBUILT | EXPORT.TRACK | EXPORT.TRACK x | EXPORT.ABORT 1 2 | IMPORT.END 1 2 3 4 5 6",
+    "3 UNBUILT | EXPORT.MEM | EXPORT.MEM x | EXPORT.ABORT 1 2 | IMPORT.END 1 2 3 4 5 6",
+    "3 UNBUILT | EXPORT.MEM 1 0 0 4096 | IMPORT.ABORT 1 4096 | IMPORT.MEM 1 0 8",
     "3 UNBUILT | EXPORT.ABORT x 2 | EXPORT.ABORT 1 x | EXPORT.ABORT x y",
     "3 COUNT | end 0 | HOST.READ 5 | HOST.READ x 0 0 | HOST.WRITE 0 0 0 0 0 0 0 | PHYMEM.PAGE.RDMD",
     "3 NUMBER | MNG.CREATE 1 0x | MNG.CREATE 0X1 1 | MNG.CREATE -1 1 | HOST.READ 0xfg 1",
@@ -92,6 +94,10 @@ const IN_BLOCK: &[&str] = &[
     "3 COUNT | EXPORT.BLOCKW 1 0 0 | EXPORT.UNBLOCKW x | EXPORT.UNBLOCKW 1 0 0 | EXPORT.PAUSE",
     "3 COUNT | EXPORT.PAUSE 1 2 | EXPORT.ABORT | EXPORT.ABORT 1 2 3 | EXPORT.ABORT x y z",
     "3 COUNT | EXPORT.RESTORE 1 | EXPORT.RESTORE 1 0 0 | EXPORT.RESTORE",
+    "3 COUNT | EXPORT.STATE.IMMUTABLE 1 | EXPORT.STATE.IMMUTABLE 1 4096 0 | EXPORT.STATE.IMMUTABLE",
+    "3 COUNT | EXPORT.TRACK 1 4096 | EXPORT.TRACK 1 2 0 0 | EXPORT.TRACK | EXPORT.TRACK x y",
+    "3 COUNT | EXPORT.STATE.TD 1 | EXPORT.STATE.TD 1 2 3 | EXPORT.STATE.VP 1 4 | EXPORT.STATE.VP x",
+    "3 COUNT | EXPORT.STATE.VP 1 4 2 0 | EXPORT.STATE.VP 1 4 4096 x | EXPORT.STATE.TD",
     "3 NUMBER | VP.ENTER x 4 1 | VP.ENTER 1 x 1 | VP.ENTER 1 4 x | VP.ENTER 1 4 0x | VP.ENTER 1 4 #",
     "3 NUMBER | VP.ENTER 18446744073709551616 4 1 | VP.ENTER 1 18446744073709551616 1",
     "3 NUMBER | VP.ENTER 1 4 18446744073709551616 | VP.ENTER 1 4 0x10000000000000000",
@@ -100,6 +106,19 @@ const IN_BLOCK: &[&str] = &[
     "3 NUMBER | MEM.RANGE.BLOCK 1 0 x | MEM.RANGE.BLOCK x 0 3 | MEM.RANGE.UNBLOCK 1 x 3",
     "3 NUMBER | MIG.STREAM.CREATE 1 x | MIG.STREAM.CREATE x 2 | EXPORT.BLOCKW 1 x | EXPORT.BLOCKW x 0",
     "3 NUMBER | EXPORT.UNBLOCKW 1 0x | EXPORT.PAUSE x | EXPORT.ABORT x | EXPORT.RESTORE 1 #",
+    "3 NUMBER | EXPORT.STATE.IMMUTABLE 1 x | EXPORT.STATE.IMMUTABLE x 4096 | EXPORT.TRACK 1 4096 x",
+    "3 NUMBER | EXPORT.TRACK x 4096 0 | EXPORT.TRACK 1 0x 0 | EXPORT.STATE.TD x 4096",
+    "3 NUMBER | EXPORT.STATE.TD 1 # | EXPORT.STATE.VP 1 x 4096 | EXPORT.STATE.VP 1 4 -1",
+    "3 NUMBER | EXPORT.STATE.TD 1 18446744073709551616",
+    "3 RANGE | EXPORT.STATE.IMMUTABLE 1 4096 | EXPORT.TRACK 1 4096 0 | EXPORT.STATE.TD 1 0x1000",
+    "3 RANGE | EXPORT.STATE.VP 1 4 4096 | EXPORT.TRACK 1 18446744073709551615 0",
+    "3 RANGE | EXPORT.STATE.VP 1 4 65536 | EXPORT.STATE.TD 1 65536",
+    "4 SLOT | EXPORT.STATE.IMMUTABLE 1 0\nEXPORT.TRACK 1 0 0 | EXPORT.TRACK 1 7 0\nEXPORT.TRACK 2 7 0",
+    "4 SLOT | EXPORT.STATE.TD 1 4095\nEXPORT.STATE.VP 1 4 0xfff | EXPORT.TRACK 1 3 0\nEXPORT.STATE.TD 1 3",
+    "6 SLOT | EXPORT.STATE.TD 1 3\nEXPORT.STATE.TD 1 4\n\nEXPORT.STATE.TD 1 03",
+    "4 COUNT | EXPORT.STATE.TD 1 3\nEXPORT.STATE.TD 1 3 0",
+    "4 NUMBER | EXPORT.TRACK 1 3 0\nEXPORT.TRACK 1 3 x",
+    "4 RANGE | EXPORT.TRACK 1 0 0\nEXPORT.TRACK 1 4096 0",
     "3 NUMBER | MEM.SEPT.ADD 1 0 3 x | MEM.SEPT.RD 1 0 x | MEM.PAGE.ADD 1 0 8 x | MR.EXTEND 1 x",
     "3 NUMBER | MEM.PAGE.AUG 1 0 x | MEM.PAGE.AUG x 0 8 | MEM.PAGE.AUG 1 0x 8",
     "3 NUMBER | PHYMEM.PAGE.RECLAIM 1 x | MNG.KEY.CONFIG x | MNG.ADDCX x 1 | MNG.INIT x",
@@ -153,6 +172,13 @@ const CALLS: &[&str] = &[
     "ExportPause { tdr: 10 } | EXPORT.PAUSE 10 | EXPORT.PAUSE 0xA",
     "ExportAbort { tdr: 10 } | EXPORT.ABORT 10 | EXPORT.ABORT 0xA",
     "ExportRestore { tdr: 1, gpa: 18 } | EXPORT.RESTORE 1 18 | EXPORT.RESTORE 0x1 0x12",
+    "ExportStateImmutable { tdr: 1, slot: 0 } | EXPORT.STATE.IMMUTABLE 1 0\nEXPORT.TRACK 1 1 0",
+    "ExportStateImmutable { tdr: 4096, slot: 4095 } | EXPORT.STATE.IMMUTABLE 4096 4095",
+    "ExportTrack { tdr: 18, slot: 3, start: 1 } | EXPORT.TRACK 18 3 1 | EXPORT.TRACK 0x12 0x3 01",
+    "ExportTrack { tdr: 1, slot: 2, start: 4096 } | EXPORT.TRACK 1 2 4096\nEXPORT.STATE.TD 2 1",
+    "ExportStateTd { tdr: 1, slot: 1 } | EXPORT.STATE.TD 1 1 | EXPORT.STATE.TD 0x1 001",
+    "ExportStateVp { tdr: 1, vp: 4, slot: 18 } | EXPORT.STATE.VP 1 4 18 | EXPORT.STATE.VP 1 4 0x12",
+    "ExportStateVp { tdr: 1, vp: 4096, slot: 0 } | EXPORT.STATE.VP 1 4096 0",
     "MrExtend { tdr: 1, gpa: 256 } | MR.EXTEND 1 256 | MR.EXTEND 0x1 0x100",
 ];
 
@@ -194,19 +220,21 @@ const OPERATIONS: &[&str] = &[
     "Vmcall { register: 7 } | vmcall 7 | vmcall 07",
 ];
 
+// What stands before the scripts of a table, the table, and what stands behind them.
+const TABLES: &[(&str, &[&str], &str)] = &[
+    ("", WHOLE_SCRIPTS, ""),
+    ("machine 1 8 1\n", ON_ONE_PROCESSOR, "\n"),
+    ("machine 1 8 1\nlp 0\n", IN_BLOCK, "\nend\n"),
+    ("machine 1 8 1\nlp 0\n", CALLS, "\nend\n"),
+    ("machine 1 8 1\ncode 7 7\n", IN_LIST, "\nend\n"),
+    ("machine 1 8 1\ncode 7 7\n", OPERATIONS, "\nend\n"),
+];
+
 #[test]
 fn names_the_first_bad_line(rt: HostRuntime) -> Result<(), Fail> {
     let alloc = rt.alloc();
-    let tables = [
-        ("", WHOLE_SCRIPTS, ""),
-        ("machine 1 8 1\n", ON_ONE_PROCESSOR, "\n"),
-        ("machine 1 8 1\nlp 0\n", IN_BLOCK, "\nend\n"),
-        ("machine 1 8 1\nlp 0\n", CALLS, "\nend\n"),
-        ("machine 1 8 1\ncode 7 7\n", IN_LIST, "\nend\n"),
-        ("machine 1 8 1\ncode 7 7\n", OPERATIONS, "\nend\n"),
-    ];
-    for (front, rows, back) in tables {
-        for row in rows {
+    for (front, rows, back) in TABLES {
+        for row in *rows {
             let (want, scripts) = row.split_once(" | ").ok_or("no bar")?;
             for script in scripts.split(" | ") {
                 let text = format!(in alloc; "{front}{script}{back}")?;
@@ -217,29 +245,44 @@ fn names_the_first_bad_line(rt: HostRuntime) -> Result<(), Fail> {
     Ok(())
 }
 
+const FIRST_CALL: &str = "MngCreate { tdr: 3, hkid: 10 }";
+
+// How many calls of the first kind stand there, what comes behind them, and the answer.
+const AT_LIMITS: &[(u32, &str, &str)] = &[
+    (4096, "end\n", FIRST_CALL),
+    (4095, "HOST.READ 1 1\nend\n", FIRST_CALL),
+    (4096, "EXPORT.MEM 1\n", "4099 UNBUILT"),
+    (4096, "EXPORT.TRACK 1 4096 0\n", "4099 RANGE"),
+    (4096, "EXPORT.TRACK 1 5 0\n", "4099 FULL"),
+    (
+        4095,
+        "EXPORT.TRACK 1 5 0\nEXPORT.TRACK 1 5 0\n",
+        "4099 FULL",
+    ),
+    (
+        4094,
+        "EXPORT.TRACK 1 5 0\nEXPORT.TRACK 1 5 0\n",
+        "4098 SLOT",
+    ),
+    (4096, "MEM.TRACK 1\n", "4099 FULL"),
+    (4096, "HOST.READ x\n", "4099 COUNT"),
+    (4096, "HOST.READ x 1\n", "4099 NUMBER"),
+    (4096, "HOST.READ 1 1\n", "4099 FULL"),
+    (4096, "MNG.RD 1 NAME\n", "4099 NAME"),
+    (4096, "MNG.RD 1 OP\n", "4099 FULL"),
+    (4096, "HOST.READ 1 1", "4099 UNTERMINATED"),
+];
+
 #[test]
 fn stops_at_its_limits(rt: HostRuntime) -> Result<(), Fail> {
     let alloc = rt.alloc();
-    let first = "MngCreate { tdr: 3, hkid: 10 }";
-    let rows = [
-        (4096, "end\n", first),
-        (4095, "HOST.READ 1 1\nend\n", first),
-        (4096, "EXPORT.MEM 1\n", "4099 UNBUILT"),
-        (4096, "MEM.TRACK 1\n", "4099 FULL"),
-        (4096, "HOST.READ x\n", "4099 COUNT"),
-        (4096, "HOST.READ x 1\n", "4099 NUMBER"),
-        (4096, "HOST.READ 1 1\n", "4099 FULL"),
-        (4096, "MNG.RD 1 NAME\n", "4099 NAME"),
-        (4096, "MNG.RD 1 OP\n", "4099 FULL"),
-        (4096, "HOST.READ 1 1", "4099 UNTERMINATED"),
-    ];
-    for (calls, last, want) in rows {
+    for (calls, last, want) in AT_LIMITS {
         let mut bytes = b"machine 1 8 1\nlp 0\n".to_vec(alloc)?;
-        for _call in 0..calls {
+        for _call in 0..*calls {
             bytes.extend_from_slice(b"MNG.CREATE 3 0xa\n")?;
         }
         bytes.extend_from_slice(last.as_bytes())?;
-        assert_eq!(rt; answer(alloc, &bytes)?.as_str(), want, "at {last}");
+        assert_eq!(rt; answer(alloc, &bytes)?.as_str(), *want, "at {last}");
     }
     for (bytes, want) in [(1 << 24, "16777217 MACHINE"), ((1 << 24) + 1, "0 LENGTH")] {
         let lines = vec![in alloc; b'\n'; bytes]?;
@@ -248,33 +291,44 @@ fn stops_at_its_limits(rt: HostRuntime) -> Result<(), Fail> {
     Ok(())
 }
 
+const FIRST_OPERATION: &str = "Set { register: 3, value: 10 }";
+
+// The same of operations.
+const AT_LIST_LIMIT: &[(u32, &str, &str)] = &[
+    (256, "end\n", FIRST_OPERATION),
+    (255, "vmcall 1\nend\n", FIRST_OPERATION),
+    (256, "end\ncode 1 1\nvmcall 1\nend\n", FIRST_OPERATION),
+    (255, "secret 7 511\nend\n", FIRST_OPERATION),
+    (256, "secret 0\n", "259 COUNT"),
+    (256, "secret 0 512\n", "259 RANGE"),
+    (256, "secret 0 0\n", "259 FULL"),
+    (256, "vmcall\n", "259 COUNT"),
+    (256, "vmcall x\n", "259 NUMBER"),
+    (256, "vmcall 8\n", "259 RANGE"),
+    (256, "vmcall 1\n", "259 FULL"),
+    (256, "vmcall 1", "259 UNTERMINATED"),
+    (257, "end\n", "259 FULL"),
+];
+
 #[test]
 fn stops_at_the_limit_of_a_list(rt: HostRuntime) -> Result<(), Fail> {
     let alloc = rt.alloc();
-    let first = "Set { register: 3, value: 10 }";
-    let rows = [
-        (256, "end\n", first),
-        (255, "vmcall 1\nend\n", first),
-        (256, "end\ncode 1 1\nvmcall 1\nend\n", first),
-        (255, "secret 7 511\nend\n", first),
-        (256, "secret 0\n", "259 COUNT"),
-        (256, "secret 0 512\n", "259 RANGE"),
-        (256, "secret 0 0\n", "259 FULL"),
-        (256, "vmcall\n", "259 COUNT"),
-        (256, "vmcall x\n", "259 NUMBER"),
-        (256, "vmcall 8\n", "259 RANGE"),
-        (256, "vmcall 1\n", "259 FULL"),
-        (256, "vmcall 1", "259 UNTERMINATED"),
-        (257, "end\n", "259 FULL"),
-    ];
-    for (ops, last, want) in rows {
+    for (ops, last, want) in AT_LIST_LIMIT {
         let mut bytes = b"machine 1 8 1\ncode 1 0\n".to_vec(alloc)?;
-        for _op in 0..ops {
+        for _op in 0..*ops {
             bytes.extend_from_slice(b"set 3 0xa\n")?;
         }
         bytes.extend_from_slice(last.as_bytes())?;
-        assert_eq!(rt; answer(alloc, &bytes)?.as_str(), want, "at {last}");
+        assert_eq!(rt; answer(alloc, &bytes)?.as_str(), *want, "at {last}");
     }
+    Ok(())
+}
+
+// Adds the list of that number, of which each TD has eight.
+fn add_list(alloc: Global, bytes: &mut Vec<u8>, list: u16) -> Result<(), Fail> {
+    let (tdr, index) = (list / 8, list % 8);
+    let block = format!(in alloc; "code {tdr} {index}\nvmcall {index}\nend\n")?;
+    bytes.extend_from_slice(block.as_bytes())?;
     Ok(())
 }
 
@@ -283,14 +337,61 @@ fn has_one_list_for_each_vcpu(rt: HostRuntime) -> Result<(), Fail> {
     let alloc = rt.alloc();
     let mut bytes = b"machine 1 1024 1\n".to_vec(alloc)?;
     for list in 0..8192 {
-        let (tdr, index) = (list / 8, list % 8);
-        let block = format!(in alloc; "code {tdr} {index}\nvmcall {index}\nend\n")?;
-        bytes.extend_from_slice(block.as_bytes())?;
+        add_list(alloc, &mut bytes, list)?;
     }
     let script = read_script(alloc, &bytes)?;
     assert_eq!(rt; script.codes.len(), 8192);
     bytes.extend_from_slice(b"code 511 7\n")?;
     assert_eq!(rt; answer(alloc, &bytes)?.as_str(), "24578 REPEATED");
+    Ok(())
+}
+
+// Adds a call whose bundle goes into that slot.
+fn add_token(alloc: Global, bytes: &mut Vec<u8>, slot: u16) -> Result<(), Fail> {
+    let line = format!(in alloc; "EXPORT.TRACK 1 {slot} 0\n")?;
+    bytes.extend_from_slice(line.as_bytes())?;
+    Ok(())
+}
+
+// What comes behind a call for each slot, and the answer.
+const AT_ALL_SLOTS: &[(&str, &str)] = &[
+    ("end\n", "ExportPause { tdr: 1 }"),
+    ("EXPORT.STATE.TD 1 0\n", "4102 SLOT"),
+    ("EXPORT.STATE.TD 1 4095\n", "4102 SLOT"),
+    ("EXPORT.STATE.TD 1 4096\n", "4102 RANGE"),
+];
+
+#[test]
+fn has_one_call_for_each_slot(rt: HostRuntime) -> Result<(), Fail> {
+    let alloc = rt.alloc();
+    let mut bytes = b"machine 2 8 1\nlp 1\n".to_vec(alloc)?;
+    for slot in 0..4096 {
+        add_token(alloc, &mut bytes, slot)?;
+    }
+    bytes.extend_from_slice(b"end\nlp 0\nEXPORT.PAUSE 1\n")?;
+    for (last, want) in AT_ALL_SLOTS {
+        let mut script = bytes.clone()?;
+        script.extend_from_slice(last.as_bytes())?;
+        assert_eq!(rt; answer(alloc, &script)?.as_str(), *want, "at {last}");
+    }
+    Ok(())
+}
+
+#[test]
+fn says_whether_keys_are_needed(rt: HostRuntime) -> Result<(), Fail> {
+    let alloc = rt.alloc();
+    for (calls, want) in [
+        ("", false),
+        ("EXPORT.PAUSE 1\nEXPORT.ABORT 1\n", false),
+        ("EXPORT.STATE.IMMUTABLE 1 0\n", true),
+        ("EXPORT.PAUSE 1\nEXPORT.TRACK 1 0 0\n", true),
+        ("EXPORT.STATE.TD 1 0\nEXPORT.PAUSE 1\n", true),
+        ("EXPORT.STATE.VP 1 4 0\n", true),
+    ] {
+        let text = format!(in alloc; "machine 2 8 1\nlp 1\n{calls}end\n")?;
+        let script = read_script(alloc, text.as_bytes())?;
+        assert_eq!(rt; needs_keys(&script), want, "at {calls}");
+    }
     Ok(())
 }
 
@@ -323,9 +424,6 @@ fn reads_what_stands_there(rt: HostRuntime) -> Result<(), Fail> {
 
 #[test]
 fn reads_what_comes_later(rt: HostRuntime) -> Result<(), Fail> {
-    assert_eq!(rt; output_slot(&[false, true], 1), Err(Reason::Slot));
-    assert_eq!(rt; output_slot(&[false, true], 4095), Ok(4095));
-    assert_eq!(rt; output_slot(&[], 4096), Err(Reason::Range));
     assert_eq!(rt; slot_place(CallName::ExportMem), Some(3));
     let abort = mnemonic_at(b"EXPORT.ABORT").ok_or("absent")?;
     assert_eq!(rt; (abort.least, abort.most), (1, 2));

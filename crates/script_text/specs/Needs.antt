@@ -1,0 +1,13 @@
+-- What a script needs beside itself.
+use Rattle.std.specs.Prelude.{List, Bool, is_some}
+use Rattle.std.specs.List.{list_any}
+use Rattle.td_words.specs.declared.calls.Call.{Call}
+use Rattle.td_words.specs.Slots.{output_slot}
+
+-- a call among these makes a bundle
+abbrev pub names_a_slot : List Call → Bool
+names_a_slot calls = list_any (λ c. is_some (output_slot c)) calls
+
+-- the keys of a key file are needed where a processor has such a call, since each bundle is sealed
+abbrev pub needs_keys : List (List Call) → Bool
+needs_keys calls = list_any names_a_slot calls
