@@ -1,5 +1,5 @@
 -- What was loaded is what is to be loaded, and comes to the fault that is due.
-use Rattle.std.proofs.Common.{◌≡◌, refl, sym, ◌∙◌, ap, subst, ℕ, zero, suc, ◌^◌, List, replicate, length, slice_index, Option, Some, None, Result, Ok, Err, IfOk}
+use Rattle.std.proofs.Common.{◌≡◌, refl, sym, ◌∙◌, ap, subst, ℕ, zero, suc, ◌^◌, List, replicate, length, slice_index, Bool, true, false, Option, Some, None, Result, Ok, Err, IfOk}
 use Rattle.std.specs.Global.{Vec}
 use Rattle.std.specs.declared.alloc.AllocError.{AllocError}
 use Rattle.std.proofs.lemmas.List.{length-replicate}
@@ -11,7 +11,7 @@ use Rattle.command_files.specs.declared.inputs.InputFault.{InputFault}
 use Rattle.command_files.specs.declared.inputs.InputFault.TheVariants as fault
 use Rattle.command_files.specs.declared.inputs.Inputs.{Inputs}
 use Rattle.command_files.specs.Commands.{NamedSeen}
-use Rattle.command_files.specs.Inputs.{Reads, LoadsNamed, LoadsNext, TakesInputs, AreSecrets, IsDue, load_fault, form_fault, unread_fault, due, first}
+use Rattle.command_files.specs.Inputs.{Reads, LoadsNamed, LoadsNext, TakesInputs, AreSecrets, IsDue, load_fault, keys_fault, form_fault, unread_fault, due, first, keys_in, HasKeys}
 
 -- so many words of 0 are those of no file
 zero_at : (n i : ℕ) → slice_index (replicate n 0) i ≡ 0
@@ -47,9 +47,9 @@ read_alike i j (Some (Err load.TooLong)) h = refl
 read_alike i j (Some (Err load.Failed)) h = absurd (cc)
 read_alike i j (Some (Err load.OutOfMemory)) h = absurd (cc)
 
-module _ (contents : Option (List ℕ → Option (List ℕ))) (c : NamedSeen) (old : Reads) (b : Option (Result (Vec ℕ) LoadFault)) (mid : Reads) (loaded : LoadsNamed contents (2 ^ 29) c.bundles old b mid) where
+module _ (contents : Option (List ℕ → Option (List ℕ))) (needed : Bool) (c : NamedSeen) (old : Reads) (b : Option (Result (Vec ℕ) LoadFault)) (mid : Reads) (loaded : LoadsNamed contents (2 ^ 29) c.bundles old b mid) where
   -- the container can't be read
-  pub no_bundles : (f : InputFault) → load_fault input.Bundles b ≡ Some f → TakesInputs contents c old mid (Err f)
+  pub no_bundles : (f : InputFault) → load_fault input.Bundles b ≡ Some f → TakesInputs contents needed c old mid (Err f)
   no_bundles f h = record {
     bundles = b;
     keys = None;
@@ -59,7 +59,8 @@ module _ (contents : Option (List ℕ → Option (List ℕ))) (c : NamedSeen) (o
     bundles_loaded = loaded;
     keys_loaded = subst (λ (x : Option InputFault). LoadsNext contents x c.keys mid None mid) (sym h) (refl, refl);
     secrets_loaded = subst (λ (x : Option InputFault). LoadsNext contents (first x (load_fault input.Keys None)) c.secrets mid None mid) (sym h) (refl, refl);
-    is_due = due_err (due b None None) f (ap (λ (x : Option InputFault). first (first x (first (load_fault input.Keys None) (load_fault input.Secrets None))) (form_fault b None None)) h);
+    is_due = due_err (due needed b None None) f (ap (λ (x : Option InputFault). first (first x (first (load_fault input.Keys None) (load_fault input.Secrets None))) (form_fault needed b None None)) h);
+    key_bytes = tt;
     words = tt;
   }
 
@@ -68,7 +69,7 @@ module _ (contents : Option (List ℕ → Option (List ℕ))) (c : NamedSeen) (o
     next_keys = subst (λ (x : Option InputFault). LoadsNext contents x c.keys mid k far) (sym none) loaded'
 
     -- the key file can't be read
-    pub no_keys : (f : InputFault) → load_fault input.Keys k ≡ Some f → TakesInputs contents c old far (Err f)
+    pub no_keys : (f : InputFault) → load_fault input.Keys k ≡ Some f → TakesInputs contents needed c old far (Err f)
     no_keys f h =
         let both : first (load_fault input.Bundles b) (load_fault input.Keys k) ≡ Some f = ap (λ (x : Option InputFault). first x (load_fault input.Keys k)) none ∙ h in
         let unread : unread_fault b k None ≡ Some f =
@@ -82,7 +83,8 @@ module _ (contents : Option (List ℕ → Option (List ℕ))) (c : NamedSeen) (o
           bundles_loaded = loaded;
           keys_loaded = next_keys;
           secrets_loaded = subst (λ (x : Option InputFault). LoadsNext contents x c.secrets far None far) (sym both) (refl, refl);
-          is_due = due_err (due b k None) f (ap (λ (x : Option InputFault). first x (form_fault b k None)) unread);
+          is_due = due_err (due needed b k None) f (ap (λ (x : Option InputFault). first x (form_fault needed b k None)) unread);
+          key_bytes = tt;
           words = tt;
         }
 
@@ -98,7 +100,7 @@ module _ (contents : Option (List ℕ → Option (List ℕ))) (c : NamedSeen) (o
           ap (λ (x : Option InputFault). first x (first (load_fault input.Keys k) (load_fault input.Secrets s))) none ∙ ap (λ (x : Option InputFault). first x (load_fault input.Secrets s)) none'
 
       -- the secrets file can't be read
-      pub no_secrets : (f : InputFault) → load_fault input.Secrets s ≡ Some f → TakesInputs contents c old new (Err f)
+      pub no_secrets : (f : InputFault) → load_fault input.Secrets s ≡ Some f → TakesInputs contents needed c old new (Err f)
       no_secrets f h = record {
         bundles = b;
         keys = k;
@@ -108,13 +110,14 @@ module _ (contents : Option (List ℕ → Option (List ℕ))) (c : NamedSeen) (o
         bundles_loaded = loaded;
         keys_loaded = next_keys;
         secrets_loaded = next_secrets;
-        is_due = due_err (due b k s) f (ap (λ (x : Option InputFault). first x (form_fault b k s)) (unread_is ∙ h));
+        is_due = due_err (due needed b k s) f (ap (λ (x : Option InputFault). first x (form_fault needed b k s)) (unread_is ∙ h));
+        key_bytes = tt;
         words = tt;
       }
 
       -- all were read
-      pub all_read : (r : Result Inputs InputFault) → load_fault input.Secrets s ≡ None → IsDue (form_fault b k s) r → IfOk r (λ inputs. AreSecrets s inputs.secrets.items) → TakesInputs contents c old new r
-      all_read r none'' is words = record {
+      pub all_read : (r : Result Inputs InputFault) → load_fault input.Secrets s ≡ None → IsDue (form_fault needed b k s) r → IfOk r (λ inputs. inputs.keys ≡ keys_in k) → IfOk r (λ inputs. AreSecrets s inputs.secrets.items) → TakesInputs contents needed c old new r
+      all_read r none'' is bytes words = record {
         bundles = b;
         keys = k;
         secrets = s;
@@ -123,6 +126,17 @@ module _ (contents : Option (List ℕ → Option (List ℕ))) (c : NamedSeen) (o
         bundles_loaded = loaded;
         keys_loaded = next_keys;
         secrets_loaded = next_secrets;
-        is_due = due_next (unread_fault b k s) (form_fault b k s) r (unread_is ∙ none'') is;
+        is_due = due_next (unread_fault b k s) (form_fault needed b k s) r (unread_is ∙ none'') is;
+        key_bytes = bytes;
         words = words;
       }
+
+-- keys that are needed are there
+pub keyed : (needed : Bool) (a : Option (Result (Vec ℕ) LoadFault)) → load_fault input.Keys a ≡ None → keys_fault needed a ≡ None → HasKeys needed (keys_in a)
+keyed true None h k = absurd (cc)
+keyed true (Some (Ok given)) h k = tt
+keyed true (Some (Err load.Absent)) h k = absurd (cc)
+keyed true (Some (Err load.TooLong)) h k = absurd (cc)
+keyed true (Some (Err load.Failed)) h k = absurd (cc)
+keyed true (Some (Err load.OutOfMemory)) h k = absurd (cc)
+keyed false a h k = tt

@@ -1,5 +1,5 @@
 -- The input files that a command names: what is loaded, the fault that is due by it, and the secret words.
-use Rattle.std.specs.Prelude.{◌≡◌, ◌≤◌, ℕ, ◌^◌, ◌*◌, List, [], ◌∷◌, ◌++◌, length, drop, slice_index, Option, Some, None, IfSome, IfNone, Result, Ok, Err, IfOk, ◌==◌, if◌then◌else◌}
+use Rattle.std.specs.Prelude.{◌≡◌, ◌≤◌, ℕ, ◌^◌, ◌*◌, List, [], ◌∷◌, ◌++◌, length, take, drop, slice_index, Bool, true, false, Option, Some, None, IfSome, IfNone, Result, Ok, Err, IfOk, ◌==◌, if◌then◌else◌}
 use Rattle.std.specs.Global.{Vec}
 use Rattle.byteorder.specs.Endian.{little_number}
 use Rattle.td_words.specs.Seen.{BundleSeen}
@@ -13,6 +13,7 @@ use Rattle.command_files.specs.declared.inputs.Input.TheVariants as input
 use Rattle.command_files.specs.declared.inputs.InputFault.{InputFault}
 use Rattle.command_files.specs.declared.inputs.InputFault.TheVariants as fault
 use Rattle.command_files.specs.declared.inputs.Inputs.{Inputs}
+use Rattle.command_files.specs.declared.inputs.KeyBytes.{KeyBytes}
 use Rattle.command_files.specs.Commands.{NamedSeen}
 
 -- ---- loads
@@ -71,9 +72,10 @@ length_fault bytes f (Some (Err load.TooLong)) = Some f
 length_fault bytes f (Some (Err load.Failed)) = None
 length_fault bytes f (Some (Err load.OutOfMemory)) = None
 
--- the key file hasn't 64 bytes
-abbrev pub keys_fault : Option (Result (Vec ℕ) LoadFault) → Option InputFault
-keys_fault answer = length_fault 64 fault.Keys answer
+-- the key file hasn't 64 bytes, or none is named where keys are needed
+abbrev pub keys_fault : (needed : Bool) → Option (Result (Vec ℕ) LoadFault) → Option InputFault
+keys_fault needed None = if needed then Some fault.Keys else None
+keys_fault needed (Some answer) = length_fault 64 fault.Keys (Some answer)
 
 -- the secrets file hasn't 4,096 bytes
 abbrev pub secrets_fault : Option (Result (Vec ℕ) LoadFault) → Option InputFault
@@ -88,14 +90,29 @@ abbrev pub unread_fault : (bundles keys secrets : Option (Result (Vec ℕ) LoadF
 unread_fault bundles keys secrets = first (load_fault input.Bundles bundles) (first (load_fault input.Keys keys) (load_fault input.Secrets secrets))
 
 -- one that was read hasn't its form, in the same order
-abbrev pub form_fault : (bundles keys secrets : Option (Result (Vec ℕ) LoadFault)) → Option InputFault
-form_fault bundles keys secrets = first (container_fault bundles) (first (keys_fault keys) (secrets_fault secrets))
+abbrev pub form_fault : (needed : Bool) (bundles keys secrets : Option (Result (Vec ℕ) LoadFault)) → Option InputFault
+form_fault needed bundles keys secrets = first (container_fault bundles) (first (keys_fault needed keys) (secrets_fault secrets))
 
 -- the fault that is due by what was loaded: all are read, and then the form of each is tested
-abbrev pub due : (bundles keys secrets : Option (Result (Vec ℕ) LoadFault)) → Option InputFault
-due bundles keys secrets = first (unread_fault bundles keys secrets) (form_fault bundles keys secrets)
+abbrev pub due : (needed : Bool) (bundles keys secrets : Option (Result (Vec ℕ) LoadFault)) → Option InputFault
+due needed bundles keys secrets = first (unread_fault bundles keys secrets) (form_fault needed bundles keys secrets)
 
 -- ---- what is handed out
+
+-- the keys of a key file: the first 32 bytes from source to destination, and the others back
+abbrev pub keys_of : List ℕ → KeyBytes
+keys_of bytes = record { forward = take 32 bytes; backward = drop 32 bytes }
+
+abbrev pub keys_in : Option (Result (Vec ℕ) LoadFault) → Option KeyBytes
+keys_in None = None
+keys_in (Some (Ok given)) = Some (keys_of given.items)
+keys_in (Some (Err f)) = None
+
+-- there are keys where they are needed
+abbrev pub HasKeys : (needed : Bool) → Option KeyBytes → Type 0
+HasKeys true None = ⊥
+HasKeys true (Some keys) = Unit {0}
+HasKeys false keys = Unit {0}
 
 -- the secret word of number i is the little-endian number in bytes 8i to 8i + 7 of what was handed out; without a file each is 0
 abbrev pub secret_word : Option (Result (Vec ℕ) LoadFault) → ℕ → ℕ
@@ -125,8 +142,8 @@ LoadsNext contents None name old answer new = LoadsNamed contents (2 ^ 16) name 
 LoadsNext contents (Some f) name old answer new = (answer ≡ None) × (new ≡ old)
 
 -- Each named input is loaded once, the container first, then the key file and then the secrets file, and nothing else; the
--- answer is the fault that is due by these loads, and where there is none it is the secret words.
-pub record TakesInputs (contents : Option (List ℕ → Option (List ℕ))) (c : NamedSeen) (old new : Reads) (result : Result Inputs InputFault) : Type 0 where
+-- answer is the fault that is due by these loads, and where there is none it is the keys and the secret words.
+pub record TakesInputs (contents : Option (List ℕ → Option (List ℕ))) (needed : Bool) (c : NamedSeen) (old new : Reads) (result : Result Inputs InputFault) : Type 0 where
   pub bundles : Option (Result (Vec ℕ) LoadFault)
   pub keys : Option (Result (Vec ℕ) LoadFault)
   pub secrets : Option (Result (Vec ℕ) LoadFault)
@@ -135,5 +152,6 @@ pub record TakesInputs (contents : Option (List ℕ → Option (List ℕ))) (c :
   pub bundles_loaded : LoadsNamed contents (2 ^ 29) c.bundles old bundles behind_bundles
   pub keys_loaded : LoadsNext contents (load_fault input.Bundles bundles) c.keys behind_bundles keys behind_keys
   pub secrets_loaded : LoadsNext contents (first (load_fault input.Bundles bundles) (load_fault input.Keys keys)) c.secrets behind_keys secrets new
-  pub is_due : IsDue (due bundles keys secrets) result
+  pub is_due : IsDue (due needed bundles keys secrets) result
+  pub key_bytes : IfOk result (λ inputs. inputs.keys ≡ keys_in keys)
   pub words : IfOk result (λ inputs. AreSecrets secrets inputs.secrets.items)

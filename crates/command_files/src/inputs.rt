@@ -2,9 +2,9 @@
 
 ghost use Rattle.std.specs.Prelude.{◌≡◌, ◌≤◌, length, replicate, None, option_map, IfOk, OnOk};
 ghost use Rattle.byteorder.specs.Endian.{little_number, IsRead};
-ghost use Rattle.command_files.specs.declared.inputs.Input.TheVariants.{Bundles};
+ghost use Rattle.command_files.specs.declared.inputs.Input.TheVariants.{Bundles, Keys};
 ghost use Rattle.command_files.specs.Commands.{named_seen};
-ghost use Rattle.command_files.specs.Inputs.{LoadsNamed, load_fault, container_fault, length_fault, secrets_fault, form_fault, AreSecrets, IsDue, TakesInputs};
+ghost use Rattle.command_files.specs.Inputs.{LoadsNamed, load_fault, container_fault, length_fault, keys_fault, secrets_fault, form_fault, keys_of, keys_in, HasKeys, AreSecrets, IsDue, TakesInputs};
 
 use crate::commands::Named;
 use bundle_store::{ContainerFault, Files, LoadFault, read_container};
@@ -25,16 +25,25 @@ pub enum InputFault {
     Unread(Input),
     /// The bytes are no container, from this place on.
     Container(u64),
-    /// The key file hasn't 64 bytes.
+    /// The key file hasn't 64 bytes, or none is named where bundles are sealed.
     Keys,
     /// The secrets file hasn't 4,096 bytes.
     Secrets,
     OutOfMemory,
 }
 
-/// What the inputs hand out: the 512 secret words. No call uses bundles or keys yet.
+/// The two keys of a key file: from source to destination, and back.
+#[derive(Clone, Copy)]
+pub struct KeyBytes {
+    pub forward: [u8; 32],
+    pub backward: [u8; 32],
+}
+
+/// What the inputs hand out: the keys, where a key file is named, and the 512 secret words. No call
+/// takes a bundle yet.
 #[derive(Drop)]
 pub struct Inputs {
+    pub keys: Option<KeyBytes>,
     pub secrets: Vec<u64>,
 }
 
@@ -116,6 +125,48 @@ fn length_fault(
     }
 }
 
+// The key file hasn't its length, or is wanting.
+fn keys_fault(needed: bool, answer: &Option<Result<Vec<u8>, LoadFault>>) -> Option<InputFault>
+    ensures { result ≡ keys_fault needed answer.now }
+{
+    match answer {
+        None => { if needed { Some(InputFault::Keys) } else { None } }
+        Some(_) => length_fault(KEY_BYTES, InputFault::Keys, answer),
+    }
+}
+
+// One of two keys.
+fn half(bytes: &[u8]) -> [u8; 32]
+    requires { length bytes.now ≡ 32 }
+    ensures { result ≡ bytes.now }
+{
+    let mut key = [0; 32];
+    key.copy_from_slice(bytes);
+    key
+}
+
+// The keys of a key file.
+fn keys_of(bytes: &[u8]) -> KeyBytes
+    requires { length bytes.now ≡ 64 }
+    ensures { result ≡ keys_of bytes.now }
+{
+    KeyBytes {
+        forward: half(&bytes[..32]),
+        backward: half(&bytes[32..]),
+    }
+}
+
+// The keys, where the key file is right if one was loaded.
+fn keys_in(needed: bool, answer: &Option<Result<Vec<u8>, LoadFault>>) -> Option<KeyBytes>
+    requires { keys_fault needed answer.now ≡ None }
+    ensures { result ≡ keys_in answer.now }
+{
+    match answer {
+        Some(Ok(bytes)) => Some(keys_of(bytes)),
+        _ => None,
+    }
+}
+
 // The words of a secrets file.
 fn words_of(alloc: Global, bytes: &[u8]) -> Result<Vec<u64>, AllocError>
     requires { length bytes.now ≡ 4096 }
@@ -155,37 +206,46 @@ fn secret_words(
 }
 
 // The first fault of the forms, or what the inputs hand out.
+#[tactic(auto, using(crate::proofs::Taken::keyed))]
 fn inputs_of(
     alloc: Global,
+    needed: bool,
     bundles: &Option<Result<Vec<u8>, LoadFault>>,
     keys: &Option<Result<Vec<u8>, LoadFault>>,
     secrets: &Option<Result<Vec<u8>, LoadFault>>,
 ) -> Result<Inputs, InputFault>
-    ensures due { IsDue (form_fault bundles.now keys.now secrets.now) result }
+    requires { load_fault Keys keys.now ≡ None }
+    ensures due { IsDue (form_fault needed bundles.now keys.now secrets.now) result }
+    ensures key_bytes { IfOk result (λ inputs. inputs.keys ≡ keys_in keys.now) }
+    ensures keyed { IfOk result (λ inputs. HasKeys needed inputs.keys) }
     ensures words { IfOk result (λ inputs. AreSecrets secrets.now inputs.secrets.items) }
 {
     if let Err(fault) = container_fault(alloc, bundles) {
         return Err(fault);
     }
-    if let Some(fault) = length_fault(KEY_BYTES, InputFault::Keys, keys) {
+    if let Some(fault) = keys_fault(needed, keys) {
         return Err(fault);
     }
     if let Some(fault) = length_fault(8 * SECRET_WORDS, InputFault::Secrets, secrets) {
         return Err(fault);
     }
+    let keys = keys_in(needed, keys);
     match secret_words(alloc, secrets) {
-        Ok(secrets) => Ok(Inputs { secrets }),
+        Ok(secrets) => Ok(Inputs { keys, secrets }),
         Err(_) => Err(InputFault::OutOfMemory),
     }
 }
 
-/// Loads the container, the key file and the secrets file, where they are named, and then tests their forms.
+/// Loads the container, the key file and the secrets file, where they are named, and then tests their
+/// forms. A key file that is `needed` and isn't named is a fault in the place of its own.
 pub fn take_inputs<F: Files>(
     alloc: Global,
     named: &Named<'_>,
+    needed: bool,
     files: &mut F,
 ) -> Result<Inputs, InputFault>
-    ensures takes { TakesInputs (F.contents files.old) (named_seen named.now) (record { loads = F.loads files.old; faults = F.read_faults files.old; bytes = F.bytes_read files.old }) (record { loads = F.loads files.new; faults = F.read_faults files.new; bytes = F.bytes_read files.new }) result }
+    ensures takes { TakesInputs (F.contents files.old) needed (named_seen named.now) (record { loads = F.loads files.old; faults = F.read_faults files.old; bytes = F.bytes_read files.old }) (record { loads = F.loads files.new; faults = F.read_faults files.new; bytes = F.bytes_read files.new }) result }
+    ensures keyed { IfOk result (λ inputs. HasKeys needed inputs.keys) }
     ensures secrets { IfOk result (λ inputs. length inputs.secrets.items ≡ 512) }
     ensures same { F.contents files.new ≡ F.contents files.old }
     ensures saves { F.saves files.new ≡ F.saves files.old }
@@ -206,5 +266,5 @@ pub fn take_inputs<F: Files>(
     if let Some(fault) = load_fault(Input::Secrets, &secrets) {
         return Err(fault);
     }
-    inputs_of(alloc, &bundles, &keys, &secrets)
+    inputs_of(alloc, needed, &bundles, &keys, &secrets)
 }

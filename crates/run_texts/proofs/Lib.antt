@@ -3,6 +3,7 @@ pub mod Notes
 pub mod RunningOut
 pub mod Turning
 pub mod Places
+pub mod Making
 pub mod Replayed
 pub mod Lanes
 pub mod ThreadTexts

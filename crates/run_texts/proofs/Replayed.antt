@@ -1,5 +1,5 @@
 -- What is left of a run, turn by turn, and what is printed at its end.
-use Rattle.std.proofs.Common.{◌≡◌, ◌≢◌, ◌⊎◌, inl, inr, refl, sym, ◌∙◌, ap, subst, ℕ, zero, suc, ◌+◌, ◌<◌, ◌≤◌, List, [], ◌∷◌, ◌++◌, length, get_or, set, take, drop, map, Option, None, Result, Ok, Err, IfOk, IfSome, true, false, not, ◌==◌, arith, append-nil, append_assoc, add-one}
+use Rattle.std.proofs.Common.{◌≡◌, ◌≢◌, ◌⊎◌, inl, inr, refl, sym, ◌∙◌, ap, subst, ℕ, zero, suc, ◌+◌, ◌<◌, ◌≤◌, List, [], ◌∷◌, ◌++◌, length, get_or, set, take, drop, map, Option, None, Result, Ok, Err, IfOk, IfSome, All, AllPairs, true, false, not, ◌==◌, arith, append-nil, append_assoc, add-one}
 use Rattle.std.proofs.Math.Seq.{drop-cons}
 use Rattle.std.proofs.lemmas.Bool.Decides.{eqb_tells}
 use Rattle.std.proofs.lemmas.List.{set-get_or, length-map, length-take-le, take_more, map_push}
@@ -14,9 +14,11 @@ use Rattle.td_words.specs.declared.calls.GuestOp.{GuestOp}
 use Rattle.td_words.specs.declared.replies.Reply.{Reply}
 use Rattle.flat_core.specs.Processor.{Lp, Note}
 use Rattle.td_words.specs.Limits.{IsMachine}
+use Rattle.td_words.specs.Slots.{output_slots}
 use Rattle.flat_core.specs.Opening.{Opening}
 use Rattle.flat_core.specs.Event.{State, start, lines_left}
-use Rattle.flat_core.specs.Run.{play, run, to_the_end}
+use Rattle.flat_core.specs.Run.{play, run, bundles_in, to_the_end}
+use Rattle.bundle_texts.specs.Ordered.{FitContainer, container_text}
 use Rattle.report_text.specs.Lines.{reply_lines, note_line}
 use Rattle.report_text.specs.declared.guest.GuestNote.{GuestNote}
 use Rattle.flat_core.specs.GuestText.{note_told, notes_from, notes_of, guest_text}
@@ -40,7 +42,7 @@ use Rattle.leaf_engine.specs.Besides.{Beside}
 use Rattle.leaf_engine.specs.OwnLists.{Piece, taken_in, WordLp, first_lp, LpTurns}
 use Rattle.leaf_engine.specs.Merges.{Item, order, no_table, AreLeaves, AreCodes}
 use Rattle.merge_laws.specs.Merge.{Merge}
-use Rattle.merge_laws.specs.Laws.{IsWhere}
+use Rattle.merge_laws.specs.Laws.{AreBundlesOf, IsWhere}
 use Rattle.leaf_dispatch.specs.Table.{secrets_in, code_in, place_table, leaf_table}
 use Rattle.leaf_dispatch.specs.States.{seen_of, Moves}
 use Rattle.leaf_dispatch.specs.Bounds.{events_left}
@@ -48,18 +50,22 @@ use Rattle.leaf_dispatch.specs.declared.states.LpState.{LpState}
 use Rattle.script_text.specs.Seen.{ScriptSeen}
 use Rattle.script_text.specs.Laws.{IsInForm}
 use Rattle.run_texts.specs.Openings.{opening_of}
+use Rattle.run_texts.specs.Sealing.{bundles_seen, bundles_text}
 use Rattle.run_texts.specs.Replaying.{AreNumbered, AreFirst, IsMidway, only_bench, IsAtBench, HaveEnded, TurnsAreEvents, seen_at, lines_seen, notes_seen, TellAll}
 use Rattle.run_texts.specs.declared.replay.Texts.{Texts}
 use Rattle.run_texts.proofs.Codes.{codes-of}
+use Rattle.run_texts.proofs.Making.{fit-run, fits-there, seals-there}
 use Rattle.run_texts.proofs.RunningOut.{one-more-item, idle-item}
 use Rattle.run_texts.proofs.Turning.{made_by, one-event, merge-more, order-more}
 use Rattle.run_texts.proofs.Places.{seen-at, seen-own, seen-other, place-at, secrets-at, codes-at, numbered-set, first-count, first-numbered, first-seen, first-more}
 
--- of a machine that a script may have, with lists of operations within the limits
+-- of a machine that a script may have, with lists of operations within the limits, and with lines of different output slots
 pub record IsOpen (o : Opening) : Type 0 where
   pub machine : IsMachine o.machine
   pub few : length o.calls ≤ 8
   pub codes : AreCodes o
+  pub slots : All (λ slot. slot ≤ 4095) (output_slots o.calls)
+  pub apart : AllPairs (λ a b. a ≢ b) (output_slots o.calls)
 
 -- at the start the whole schedule is left
 at-start : (o : Opening) (secrets : List ℕ) (codes : List CodeSeen) (schedule : List ℕ) (lps : List LpState) (t : Table) → AreFirst o.machine secrets codes 0 lps o.calls → PlaysTo no_table [] t → IsMidway o schedule schedule lps t
@@ -198,7 +204,7 @@ item-next o schedule lps id b i d p l inside is =
     subst (λ (z : List ℕ). IsAtBench o schedule z lps id b) next l
 
 pub open-of : (secrets : ℕ → ℕ) (script : ScriptSeen) → IsInForm script → IsOpen (opening_of secrets script)
-open-of secrets script form = record { machine = form.machine; few = omega (arith, form.machine.lps.1, form.lists); codes = codes-of secrets script form }
+open-of secrets script form = record { machine = form.machine; few = omega (arith, form.machine.lps.1, form.lists); codes = codes-of secrets script form; slots = form.slots; apart = form.apart }
 
 -- those before a processor stay at their ends
 pub still-ended : (lps : List LpState) (p : ℕ) (s' : LpState) → HaveEnded p lps → HaveEnded p (set lps p s')
@@ -304,9 +310,14 @@ starts secrets script m codes lists lps now id b machine has calls same new h =
       midway = λ t play. at-start o secrets script.codes script.schedule now t first play;
     }
 
-pub tells : {E : Type 0} (r : Result Texts E) (name : Option (List ℕ)) (lines all notes told : List ℕ) → IfOk r (λ t. TellAll name lines notes t) → lines ≡ all → notes ≡ told → IfOk r (λ t. TellAll name all told t)
-tells (Ok t) name lines all notes told h e f = (h.0 ∙ e, subst (λ (x : List ℕ). IfSome name (λ n. t.guest.items ≡ x)) f h.1)
-tells (Err x) name lines all notes told h e f = tt
+pub tells : {E : Type 0} (r : Result Texts E) (out_bundles guest_out : Option (List ℕ)) (lines all container made notes told : List ℕ) → IfOk r (λ t. TellAll out_bundles guest_out lines container notes t) → lines ≡ all → container ≡ made → notes ≡ told
+    → IfOk r (λ t. TellAll out_bundles guest_out all made told t)
+tells (Ok t) out_bundles guest_out lines all container made notes told h e c f = (
+  h.0 ∙ e,
+  subst (λ (x : List ℕ). IfSome out_bundles (λ n. t.container.items ≡ x)) c h.1,
+  subst (λ (x : List ℕ). IfSome guest_out (λ n. t.guest.items ≡ x)) f h.2,
+)
+tells (Err x) out_bundles guest_out lines all container made notes told h e c f = tt
 
 -- the close tells that the bench's list plays
 module _ (ls : TurnsAreEvents) (o : Opening) (schedule : List ℕ) (lps : List LpState) (id : TableId) (b : BenchSeen) (m : Machine) (words : List ℕ) (op : IsOpen o) (l : IsAtBench o schedule [] lps id b) (ended : HaveEnded (length lps) lps) (closed : MergesTo m b.pass.lists words) where
@@ -342,3 +353,16 @@ module _ (ls : TurnsAreEvents) (o : Opening) (schedule : List ℕ) (lps : List L
       let lines : notes_from end.lp_count 0 end.lps ≡ notes_seen 0 lps =
       same-notes end.lp_count 0 end.lps lps (l.count ∙ sym count) (λ q i. ap (λ (k : ℕ). (end.lps k).notes) (omega arith) ∙ ap (λ (x : Beside). x.notes) (there.beside q (omega (arith, count, i)))) in
       ap concat (sym lines) ∙ ap notes_of same
+
+  fit : FitContainer (bundles_in (run o schedule))
+  fit = fit-run ls.bundles o schedule op.slots op.apart
+
+  made : AreBundlesOf (length o.calls) (seen_at lps) (bundles_in (run o schedule))
+  made = subst (λ (s : State). AreBundlesOf (length o.calls) (seen_at lps) (bundles_in s)) same there.bundles
+
+  -- the processors' bundles are the run's
+  pub fits-all : FitContainer (bundles_seen lps)
+  fits-all = fits-there o schedule (seen_at lps) lps l.count (λ q i. refl) made fit
+
+  pub seals-all : (forward backward : List ℕ) → container_text forward backward (bundles_seen lps) ≡ bundles_text forward backward o schedule
+  seals-all = seals-there o schedule (seen_at lps) lps l.count (λ q i. refl) made fit

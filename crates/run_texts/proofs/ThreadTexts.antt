@@ -10,7 +10,8 @@ use Rattle.td_words.specs.declared.calls.Call.{Call}
 use Rattle.td_words.specs.declared.machines.Machine.{Machine}
 use Rattle.flat_core.specs.Opening.{Opening}
 use Rattle.flat_core.specs.Event.{State, start}
-use Rattle.flat_core.specs.Run.{run, to_the_end}
+use Rattle.flat_core.specs.Run.{run, bundles_in, to_the_end}
+use Rattle.bundle_texts.specs.Ordered.{FitContainer, container_text}
 use Rattle.flat_core.specs.GuestText.{notes_of, guest_text}
 use Rattle.flat_core.specs.HostText.{text_of, host_text}
 use Rattle.flat_core.proofs.Induction.{counts_stay}
@@ -36,10 +37,12 @@ use Rattle.lp_threads.specs.declared.lanes.Lane.{Lane}
 use Rattle.lp_threads.specs.Running.{FitsBench, HasRun, HaveRun}
 use Rattle.thread_runs.specs.Threads.{RanInThread, RanInThreads, IsOneRun, ThreadsAreRuns}
 use Rattle.run_texts.specs.Openings.{opening_of}
+use Rattle.run_texts.specs.Sealing.{bundles_seen, bundles_text}
 use Rattle.run_texts.specs.declared.replay.Texts.{Texts}
 use Rattle.run_texts.specs.Replaying.{AreFirst, TurnsAreEvents, seen_at, lines_seen, notes_seen, TellAll}
 use Rattle.run_texts.specs.Lanes.{processors_of, benches_of, has_out, IsOther, with_all}
 use Rattle.run_texts.specs.Threaded.{AreOfSomeRun, AreOfThreads}
+use Rattle.run_texts.proofs.Making.{fit-run, fits-there, seals-there}
 use Rattle.run_texts.proofs.Places.{seen-at, place-at, secrets-at, codes-at, first-count, first-numbered, first-seen}
 use Rattle.run_texts.proofs.Replayed.{IsOpen, are-leaves, same-lines, same-notes}
 use Rattle.run_texts.proofs.Lanes.{lists_in, with-all-lists, with-all-out, with-all-table, with-all-first, HasOne, one-at, none-beyond}
@@ -232,20 +235,37 @@ module _ (ls : TurnsAreEvents) (threads : ThreadsAreRuns) (o : Opening) (op : Is
         notes o schedule (processors_of after) count (λ q lt. ap (λ (x : Beside). x.notes) (there.beside q lt) ∙ ap (λ (x : WordLp). x.beside.notes) (sym (processor-is q lt))),
       )
 
-  module _ (guest_out : Option (List ℕ)) (t : Texts) (told : TellAll guest_out (concat (lines_seen 0 (processors_of after))) (concat (notes_seen 0 (processors_of after))) t) where
-    tells-run : (schedule : List ℕ) → IsWhere o now (run o schedule) → TellAll guest_out (host_text o schedule) (guest_text o schedule) t
-    tells-run schedule there =
-        let p = printed schedule there in
-        (told.0 ∙ p.0, subst (λ (x : List ℕ). IfSome guest_out (λ name. t.guest.items ≡ x)) p.1 told.1)
+  same-made : (q : ℕ) → q < length o.calls → (now q).beside.bundles ≡ (seen_at (processors_of after) q).beside.bundles
+  same-made q lt = ap (λ (x : WordLp). x.beside.bundles) (sym (processor-is q lt))
 
-    pub of-some : AreOfSomeRun o guest_out t
+  fit : (schedule : List ℕ) → FitContainer (bundles_in (run o schedule))
+  fit schedule = fit-run ls.bundles o schedule op.slots op.apart
+
+  sealed : (schedule : List ℕ) → IsWhere o now (run o schedule) → (forward backward : List ℕ) → container_text forward backward (bundles_seen (processors_of after)) ≡ bundles_text forward backward o schedule
+  sealed schedule there = seals-there o schedule now (processors_of after) (length-map after (λ a. a.processor) ∙ counted-after) same-made there.bundles (fit schedule)
+
+  -- their bundles fit a container
+  pub fits-lanes : FitContainer (bundles_seen (processors_of after))
+  fits-lanes = fits-there o (order one-run.made) now (processors_of after) (length-map after (λ a. a.processor) ∙ counted-after) same-made one-run.lps.bundles (fit (order one-run.made))
+
+  module _ (forward backward : List ℕ) (out_bundles guest_out : Option (List ℕ)) (t : Texts)
+      (told : TellAll out_bundles guest_out (concat (lines_seen 0 (processors_of after))) (container_text forward backward (bundles_seen (processors_of after))) (concat (notes_seen 0 (processors_of after))) t) where
+    tells-run : (schedule : List ℕ) → IsWhere o now (run o schedule) → TellAll out_bundles guest_out (host_text o schedule) (bundles_text forward backward o schedule) (guest_text o schedule) t
+    tells-run schedule there =
+        let p = printed schedule there in (
+          told.0 ∙ p.0,
+          subst (λ (x : List ℕ). IfSome out_bundles (λ name. t.container.items ≡ x)) (sealed schedule there forward backward) told.1,
+          subst (λ (x : List ℕ). IfSome guest_out (λ name. t.guest.items ≡ x)) p.1 told.2,
+        )
+
+    pub of-some : AreOfSomeRun o forward backward out_bundles guest_out t
     of-some = record {
       schedule = order one-run.made;
       processors = order-inside (length o.calls) one-run.made one-run.merge.merge.nothing_else;
       told = tells-run (order one-run.made) one-run.lps;
     }
 
-    pub of-threads : AreOfThreads o guest_out t
+    pub of-threads : AreOfThreads o forward backward out_bundles guest_out t
     of-threads = record {
       own = λ p. joined (one-run.merge.own p);
       lists = λ p lt. record { turns = one-run.merge.own p; last = now p; lead = one-run.merge.turns p lt; over = over p lt; is = refl };

@@ -1,4 +1,5 @@
 pub mod Openings
+pub mod Sealing
 pub mod Replaying
 pub mod Lanes
 pub mod Threaded

@@ -8,6 +8,7 @@ use Rattle.flat_core.specs.Run.{run}
 use Rattle.flat_core.specs.Bounds.{EventsRunOut}
 use Rattle.flat_core.specs.Laws.{OthersStay}
 use Rattle.flat_core.specs.GuestText.{note_told}
+use Rattle.flat_bundles.specs.Bundles.{BundlesAreOfLines}
 use Rattle.report_text.specs.Lines.{reply_lines, note_line}
 use Rattle.step_core.specs.Items.{Table, PlaysTo}
 use Rattle.step_core.specs.declared.items.Taken.{Taken}
@@ -57,9 +58,10 @@ abbrev pub notes_seen : ℕ → List LpState → List (List ℕ)
 notes_seen p [] = []
 notes_seen p (s ∷ ss) = map (note_line p) (map note_told (seen_of s).beside.notes) ++ notes_seen (p + 1) ss
 
--- texts tell these lines, and those of the guest file where it is named
-abbrev pub TellAll : Option (List ℕ) → (replies notes : List ℕ) → Texts → Type 0
-TellAll guest_out replies notes t = (t.replies.items ≡ replies) × IfSome guest_out (λ name. t.guest.items ≡ notes)
+-- texts tell these lines, these bytes of the container where it is named, and these lines of the guest file where that is
+abbrev pub TellAll : (out_bundles guest_out : Option (List ℕ)) → (replies container notes : List ℕ) → Texts → Type 0
+TellAll out_bundles guest_out replies container notes t =
+    (t.replies.items ≡ replies) × IfSome out_bundles (λ name. t.container.items ≡ container) × IfSome guest_out (λ name. t.guest.items ≡ notes)
 
 -- So far the turns that the processors made, which lead to this table, are a merge; and its events, and then the items that
 -- are left, lead to the end of the flat machine's run under the schedule.
@@ -81,10 +83,11 @@ pub record IsAtBench (o : Opening) (schedule left : List ℕ) (lps : List LpStat
   pub numbered : AreNumbered o 0 lps
   pub midway : (t : Table) → PlaysTo no_table own t → IsMidway o schedule left lps t
 
--- what ties turns over words to events of the flat machine
+-- what ties turns over words to events of the flat machine, and its bundles to lines
 pub record TurnsAreEvents : Type 0 where
   pub merges : MergesAreRuns
   pub leaves : CallsHaveLeaves
   pub pieces : TurnsInPieces
   pub runs_out : EventsRunOut
   pub others : OthersStay
+  pub bundles : BundlesAreOfLines

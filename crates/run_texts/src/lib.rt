@@ -1,14 +1,18 @@
-//! The texts of a script's run: its reply lines, and the lines of what its guests noted.
+//! The texts of a script's run: its reply lines, the container of its bundles, and the lines of what its
+//! guests noted.
 //!
 //! Stands on `leaf_dispatch`, whose `LpState` makes a processor's turns, on `trace_table`, whose table
-//! they are made on, and on `merge_laws`, by which turns over words are a run of the flat machine. A
-//! layer above may use that the texts of `replay_texts` are those of the flat machine's run under the
-//! script's schedule.
+//! they are made on, on `merge_laws`, by which turns over words are a run of the flat machine, and on
+//! `bundle_texts`, which seals its bundles. A layer above may use that the texts of `replay_texts` are
+//! those of the flat machine's run under the script's schedule.
 #![tactic(auto)]
 
+mod key_pairs;
 mod noted;
 mod replay;
+mod sealed;
 mod threads;
 
+pub use key_pairs::KeyPair;
 pub use replay::{Texts, replay_texts};
 pub use threads::threaded_texts;

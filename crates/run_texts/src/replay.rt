@@ -5,15 +5,20 @@ ghost use Rattle.std.specs.List.{All, concat};
 ghost use Rattle.td_words.specs.Limits.{IsMachine};
 ghost use Rattle.flat_core.specs.GuestText.{guest_text};
 ghost use Rattle.flat_core.specs.HostText.{host_text};
+ghost use Rattle.bundle_texts.specs.Ordered.{FitContainer, container_text};
 ghost use Rattle.script_text.specs.Laws.{IsInForm};
 ghost use Rattle.leaf_dispatch.specs.Inside.{AreOperations};
 ghost use Rattle.leaf_dispatch.specs.FirstLists.{AreFirstLists};
 ghost use Rattle.trace_table.specs.Benches.{bench_of};
 ghost use Rattle.leaf_dispatch.specs.Table.{secrets_in};
 ghost use Rattle.run_texts.specs.Openings.{opening_of};
+ghost use Rattle.run_texts.specs.Sealing.{bundles_seen, bundles_text};
 ghost use Rattle.run_texts.specs.Replaying.{AreFirst, IsAtBench, HaveEnded, TurnsAreEvents, lines_seen, notes_seen, TellAll};
 
+use crate::key_pairs::KeyPair;
 use crate::noted::noted_lines;
+use crate::sealed::sealed_bundles;
+use flat_bundles::bundle_law;
 use flat_core::{end_laws, event_laws};
 use leaf_dispatch::{FirstLists, LpState, calls_have_leaves};
 use leaf_engine::{Processor, Turn, turns_in_pieces};
@@ -24,7 +29,7 @@ use std::alloc::Global;
 use td_words::{Call, Code, Machine, OutOfMemory};
 use trace_table::{SharedBench, SharedTable};
 
-// What turns over words have to do with events of the flat machine.
+// What turns over words have to do with events of the flat machine, and its bundles with lines.
 pub(crate) fn laws_of_turns()
     ensures { TurnsAreEvents }
 {
@@ -33,6 +38,7 @@ pub(crate) fn laws_of_turns()
     turns_in_pieces();
     end_laws();
     event_laws();
+    bundle_law();
 }
 
 // The processors of a machine, each at the first of its calls, with the secret words, and with the lists
@@ -174,36 +180,49 @@ fn guest_notes(
     }
 }
 
-/// The reply lines of a run, and the text of the guest file, which has bytes only where it is named.
+/// The reply lines of a run, the bytes of its container, and the text of the guest file. Of these two
+/// each has bytes only where it is named.
 #[derive(Drop)]
 pub struct Texts {
     pub replies: Vec<u8>,
+    pub container: Vec<u8>,
     pub guest: Vec<u8>,
 }
 
-pub(crate) fn both_texts(
+pub(crate) fn all_texts(
     alloc: Global,
+    keys: &KeyPair,
+    out_bundles: Option<&str>,
     guest_out: Option<&str>,
     lps: &[LpState<'_>],
 ) -> Result<Texts, OutOfMemory>
-    requires { length lps.now ≤ 8 }
-    ensures { IfOk result (λ t. TellAll (option_map (λ name. name.now) guest_out.entry) (concat (lines_seen 0 lps.now)) (concat (notes_seen 0 lps.now)) t) }
+    requires few { length lps.now ≤ 8 }
+    requires fit { FitContainer (bundles_seen lps.now) }
+    ensures { IfOk result (λ t. TellAll (option_map (λ name. name.now) out_bundles.entry) (option_map (λ name. name.now) guest_out.entry) (concat (lines_seen 0 lps.now)) (container_text keys.now.forward keys.now.backward (bundles_seen lps.now)) (concat (notes_seen 0 lps.now)) t) }
 {
     let replies = all_lines(alloc, lps)?;
+    let container = sealed_bundles(alloc, keys, out_bundles, lps)?;
     let guest = guest_notes(alloc, guest_out, lps)?;
-    Ok(Texts { replies, guest })
+    Ok(Texts {
+        replies,
+        container,
+        guest,
+    })
 }
 
-/// The texts of a script's run under its schedule, with 512 secret words.
+/// The texts of a script's run under its schedule, with 512 secret words, and with two keys for its
+/// bundles.
 pub fn replay_texts(
     alloc: Global,
     script: &Script,
     secrets: &[u64],
+    keys: &KeyPair,
+    out_bundles: Option<&str>,
     guest_out: Option<&str>,
 ) -> Result<Texts, OutOfMemory>
     requires form { IsInForm script.now }
     requires secrets { length secrets.now ≡ 512 }
-    ensures { IfOk result (λ t. TellAll (option_map (λ name. name.now) guest_out.entry) (host_text (opening_of (secrets_in secrets.now) script.now) script.now.schedule) (guest_text (opening_of (secrets_in secrets.now) script.now) script.now.schedule) t) }
+    ensures { IfOk result (λ t. TellAll (option_map (λ name. name.now) out_bundles.entry) (option_map (λ name. name.now) guest_out.entry) (host_text (opening_of (secrets_in secrets.now) script.now) script.now.schedule) (bundles_text keys.now.forward keys.now.backward (opening_of (secrets_in secrets.now) script.now) script.now.schedule) (guest_text (opening_of (secrets_in secrets.now) script.now) script.now.schedule) t) }
 {
     laws_of_turns();
     let codes: &[Code] = &script.codes;
@@ -223,5 +242,5 @@ pub fn replay_texts(
     finish_all(script, secrets, lps, &mut bench);
     let pass = bench.into_pass();
     table.close(pass);
-    both_texts(alloc, guest_out, lps)
+    all_texts(alloc, keys, out_bundles, guest_out, lps)
 }

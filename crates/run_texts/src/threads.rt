@@ -9,7 +9,8 @@ ghost use Rattle.run_texts.specs.Openings.{opening_of};
 ghost use Rattle.run_texts.specs.Lanes.{processors_of, benches_of, has_out, IsOther, with_all};
 ghost use Rattle.run_texts.specs.Threaded.{AreOfSomeRun, AreOfThreads};
 
-use crate::replay::{Texts, both_texts, laws_of_turns, processors};
+use crate::key_pairs::KeyPair;
+use crate::replay::{Texts, all_texts, laws_of_turns, processors};
 use leaf_dispatch::{FirstLists, LpState};
 use leaf_engine::Gate;
 use lp_threads::{Lane, run_all};
@@ -77,20 +78,22 @@ fn taken_in<'t, 'a>(
 }
 
 /// The texts of a script's run with a thread for each of its processors, or as far as threads can be
-/// made, and with 512 secret words. Each processor runs to the end of its calls; before each of its turns
-/// the gate is asked.
+/// made, with 512 secret words, and with two keys for its bundles. Each processor runs to the end of its
+/// calls; before each of its turns the gate is asked.
 pub fn threaded_texts<R: Threads + Sync, G: Gate + Sync>(
     threads: &R,
     alloc: Global,
     script: &Script,
     secrets: &[u64],
+    keys: &KeyPair,
+    out_bundles: Option<&str>,
     guest_out: Option<&str>,
     gate: &G,
 ) -> Result<Texts, OutOfMemory>
     requires form { IsInForm script.now }
     requires secrets { length secrets.now ≡ 512 }
-    ensures some { IfOk result (λ t. AreOfSomeRun (opening_of (secrets_in secrets.now) script.now) (option_map (λ name. name.now) guest_out.entry) t) }
-    ensures each { IfOk result (λ t. AreOfThreads (opening_of (secrets_in secrets.now) script.now) (option_map (λ name. name.now) guest_out.entry) t) }
+    ensures some { IfOk result (λ t. AreOfSomeRun (opening_of (secrets_in secrets.now) script.now) keys.now.forward keys.now.backward (option_map (λ name. name.now) out_bundles.entry) (option_map (λ name. name.now) guest_out.entry) t) }
+    ensures each { IfOk result (λ t. AreOfThreads (opening_of (secrets_in secrets.now) script.now) keys.now.forward keys.now.backward (option_map (λ name. name.now) out_bundles.entry) (option_map (λ name. name.now) guest_out.entry) t) }
 {
     laws_of_turns();
     threads_are_runs();
@@ -111,5 +114,5 @@ pub fn threaded_texts<R: Threads + Sync, G: Gate + Sync>(
     let ended = taken_in(alloc, lanes, &mut first)?;
     let pass = first.into_pass();
     table.close(pass);
-    both_texts(alloc, guest_out, ended.as_slice())
+    all_texts(alloc, keys, out_bundles, guest_out, ended.as_slice())
 }

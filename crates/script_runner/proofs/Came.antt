@@ -10,29 +10,32 @@ use Rattle.script_text.specs.declared.faults.ScriptFault.{ScriptFault}
 use Rattle.script_text.specs.declared.faults.ScriptFault.TheVariants.{Bad, OutOfMemory}
 use Rattle.script_text.specs.Reading.{read_of}
 use Rattle.script_text.specs.Seen.{ScriptSeen}
+use Rattle.script_text.specs.Needs.{needs_keys}
 use Rattle.flat_core.specs.GuestText.{guest_text}
 use Rattle.bundle_store.specs.declared.outside.LoadFault.{LoadFault}
 use Rattle.bundle_store.specs.declared.outside.LoadFault.TheVariants as load
 use Rattle.bundle_store.specs.Outside.{Rose}
 use Rattle.bundle_store.specs.History.{Loaded}
-use Rattle.bundle_store.specs.Containers.{container_in, container_bytes}
+use Rattle.bundle_store.specs.Containers.{container_in}
 use Rattle.command_files.specs.declared.inputs.Input.{Input}
 use Rattle.command_files.specs.declared.inputs.Input.TheVariants as input
 use Rattle.command_files.specs.declared.inputs.InputFault.{InputFault}
 use Rattle.command_files.specs.declared.inputs.InputFault.TheVariants as fault
 use Rattle.command_files.specs.declared.inputs.Inputs.{Inputs}
 use Rattle.command_files.specs.Commands.{NamedSeen, CommandSeen, Replay, Run, Check, named_of, script_name}
-use Rattle.command_files.specs.Inputs.{Reads, Loads, LoadsNamed, LoadsNext, TakesInputs, AreSecrets, IsDue, due, load_fault, unread_fault, form_fault, container_fault, length_fault, keys_fault, secrets_fault, place_fault, first}
+use Rattle.command_files.specs.Inputs.{Reads, Loads, LoadsNamed, LoadsNext, TakesInputs, AreSecrets, IsDue, due, load_fault, unread_fault, form_fault, container_fault, length_fault, keys_fault, secrets_fault, place_fault, first, keys_in}
 use Rattle.script_runner.specs.declared.ending.Ending.{Ending}
 use Rattle.run_texts.specs.Openings.{opening_of}
-use Rattle.script_runner.specs.Ending.{ToSave, Ended, ending_seen, file_named, usage_end, bad_end, unread_end, memory_end, container_end, keys_end, secrets_end, run_end, success_end, name_in, input_name, secrets_named, IsOrderOf}
+use Rattle.script_runner.specs.Ending.{ToSave, Ended, ending_seen, file_named, usage_end, bad_end, unread_end, memory_end, container_end, keys_end, secrets_end, run_end, success_end, name_in, input_name, IsOrderOf, HandedOut, keys_or_none, no_keys}
 use Rattle.script_runner.specs.Saving.{named_once, outs_of, out_names}
 use Rattle.script_runner.specs.Ends.{IsRead}
 use Rattle.script_runner.specs.Threads.{ThreadsOf}
-use Rattle.script_runner.specs.Done.{LoadsOnce, LoadsFirst, IsFirstFault, IsUnread, AreHandedOut}
-use Rattle.script_runner.specs.Commanded.{Comes, AnswerEnd, ReadEnd, ScriptEnd, NamedEnd, InputsEnd, EndsRun}
-use Rattle.script_runner.proofs.Named.{secrets_of, input_of, success_of}
+use Rattle.script_runner.specs.Done.{LoadsOnce, LoadsFirst, IsFirstFault, IsUnread, AreHandedOut, AreWordsHandedOut, AreKeysHandedOut}
+use Rattle.script_runner.specs.Commanded.{Comes, AnswerEnd, ReadEnd, ScriptEnd, NamedEnd, InputsEnd, EndsRun, handed_in}
+use Rattle.script_runner.proofs.Named.{secrets_of, input_of, success_of, keys_of_command}
 use Rattle.script_runner.proofs.Due.{first_cases}
+use Rattle.command_files.specs.declared.inputs.KeyBytes.{KeyBytes}
+use Rattle.run_texts.specs.Sealing.{bundles_text}
 
 -- the file that an option names was loaded, and hasn't so many bytes
 pub record LengthCame (file : NamedSeen → Option (List ℕ)) (count : ℕ) (f : InputFault) (told : Ended) (c : Option CommandSeen) (r r' : Reads) (e : Ended) : Type 0 where
@@ -48,8 +51,22 @@ pub record LengthCame (file : NamedSeen → Option (List ℕ)) (count : ℕ) (f 
   pub wrong : length_fault count f (Some answer) ≡ Some f
   pub is : e ≡ told
 
+-- a call of the script that was loaded makes a bundle, and no key file is named
+pub record LacksCame (c : Option CommandSeen) (r r' : Reads) (e : Ended) : Type 0 where
+  pub command : CommandSeen
+  pub read_as : c ≡ Some command
+  pub options : NamedSeen
+  pub has : named_of command ≡ Some options
+  pub given : Vec ℕ
+  pub loaded : LoadsFirst r.loads (script_name command) (Ok given) r'.loads
+  pub script : ScriptSeen
+  pub reads : read_of given.items ≡ Ok script
+  pub needs : needs_keys script.calls ≡ true
+  pub unnamed : options.keys ≡ None
+  pub is : e ≡ keys_end
+
 abbrev pub SomeLength : Option CommandSeen → Reads → Reads → Ended → Type 0
-SomeLength c r r' e = LengthCame (λ n. n.keys) 64 fault.Keys keys_end c r r' e ⊎ LengthCame (λ n. n.secrets) 4096 fault.Secrets secrets_end c r r' e
+SomeLength c r r' e = LengthCame (λ n. n.keys) 64 fault.Keys keys_end c r r' e ⊎ LengthCame (λ n. n.secrets) 4096 fault.Secrets secrets_end c r r' e ⊎ LacksCame c r r' e
 
 pub data Came (contents : Option (List ℕ → Option (List ℕ))) (c : Option CommandSeen) (r r' : Reads) (e : Ended) : Type 0 where
   Usage : c ≡ None → r'.loads ≡ r.loads → e ≡ usage_end → Came contents c r r' e
@@ -63,8 +80,8 @@ pub data Came (contents : Option (List ℕ → Option (List ℕ))) (c : Option C
       → (place : ℕ) → container_fault (Some answer) ≡ Some (fault.Container place) → e ≡ container_end place → Came contents c r r' e
   WrongLength : SomeLength c r r' e → e.status ≡ 7 → e.files ≡ [] → Came contents c r r' e
   Success : (command : CommandSeen) → c ≡ Some command → (given : Vec ℕ) → LoadsFirst r.loads (script_name command) (Ok given) r'.loads
-      → (s : ScriptSeen) → read_of given.items ≡ Ok s → (secrets : ℕ → ℕ) → AreHandedOut (secrets_named command) r.loads r'.loads secrets
-      → (order : List ℕ) → IsOrderOf command s order → e ≡ success_end command s secrets order → ThreadsOf command s secrets e → Came contents c r r' e
+      → (s : ScriptSeen) → read_of given.items ≡ Ok s → (handed : HandedOut) → AreHandedOut command r.loads r'.loads handed
+      → (order : List ℕ) → IsOrderOf command s order → e ≡ success_end command s handed order → ThreadsOf command s handed e → Came contents c r r' e
 
 -- ---- counts
 
@@ -171,14 +188,23 @@ length_at count g (Some (Err load.TooLong)) f h = (Err load.TooLong, refl, cc)
 length_at count g (Some (Err load.Failed)) f h = absurd (cc)
 length_at count g (Some (Err load.OutOfMemory)) f h = absurd (cc)
 
+-- keys are needed
+needed_is : (needed : Bool) (f : InputFault) → (if needed then Some fault.Keys else None) ≡ Some f → (needed ≡ true) × (f ≡ fault.Keys)
+needed_is true f h = (refl, cc)
+needed_is false f h = absurd (cc)
+
+keys_at : (needed : Bool) (a : Option (Result (Vec ℕ) LoadFault)) (f : InputFault) → keys_fault needed a ≡ Some f → f ≡ fault.Keys
+keys_at needed None f h = (needed_is needed f h).1
+keys_at needed (Some x) f h = (length_at 64 fault.Keys (Some x) f h).2
+
 -- which of the inputs has the fault that is due
-pub data Faulty (bundles keys secrets : Option (Result (Vec ℕ) LoadFault)) (f : InputFault) : Type 0 where
-  Bundles : load_fault input.Bundles bundles ≡ Some f → Faulty bundles keys secrets f
-  KeyFile : load_fault input.Bundles bundles ≡ None → load_fault input.Keys keys ≡ Some f → Faulty bundles keys secrets f
-  SecretsFile : load_fault input.Bundles bundles ≡ None → load_fault input.Keys keys ≡ None → load_fault input.Secrets secrets ≡ Some f → Faulty bundles keys secrets f
-  Form : unread_fault bundles keys secrets ≡ None → container_fault bundles ≡ Some f → Faulty bundles keys secrets f
-  Length64 : unread_fault bundles keys secrets ≡ None → keys_fault keys ≡ Some f → Faulty bundles keys secrets f
-  Length4096 : unread_fault bundles keys secrets ≡ None → secrets_fault secrets ≡ Some f → Faulty bundles keys secrets f
+pub data Faulty (needed : Bool) (bundles keys secrets : Option (Result (Vec ℕ) LoadFault)) (f : InputFault) : Type 0 where
+  Bundles : load_fault input.Bundles bundles ≡ Some f → Faulty needed bundles keys secrets f
+  KeyFile : load_fault input.Bundles bundles ≡ None → load_fault input.Keys keys ≡ Some f → Faulty needed bundles keys secrets f
+  SecretsFile : load_fault input.Bundles bundles ≡ None → load_fault input.Keys keys ≡ None → load_fault input.Secrets secrets ≡ Some f → Faulty needed bundles keys secrets f
+  Form : unread_fault bundles keys secrets ≡ None → container_fault bundles ≡ Some f → Faulty needed bundles keys secrets f
+  Length64 : unread_fault bundles keys secrets ≡ None → keys_fault needed keys ≡ Some f → Faulty needed bundles keys secrets f
+  Length4096 : unread_fault bundles keys secrets ≡ None → secrets_fault secrets ≡ Some f → Faulty needed bundles keys secrets f
 
 -- neither of two faults
 pub first_none : (x y : Option InputFault) → first x y ≡ None → (x ≡ None) × (y ≡ None)
@@ -193,26 +219,26 @@ all_read bundles keys secrets h =
     let (k, s) = first_none _ _ more in
     (b, k, s)
 
-pub faulty : (bundles keys secrets : Option (Result (Vec ℕ) LoadFault)) (f : InputFault) → due bundles keys secrets ≡ Some f → Faulty bundles keys secrets f
-faulty bundles keys secrets f h = by (first_cases _ _ f h)
+pub faulty : (needed : Bool) (bundles keys secrets : Option (Result (Vec ℕ) LoadFault)) (f : InputFault) → due needed bundles keys secrets ≡ Some f → Faulty needed bundles keys secrets f
+faulty needed bundles keys secrets f h = by (first_cases _ _ f h)
   where
-    lengths : unread_fault bundles keys secrets ≡ None → (keys_fault keys ≡ Some f) ⊎ ((keys_fault keys ≡ None) × (secrets_fault secrets ≡ Some f)) → Faulty bundles keys secrets f
+    lengths : unread_fault bundles keys secrets ≡ None → (keys_fault needed keys ≡ Some f) ⊎ ((keys_fault needed keys ≡ None) × (secrets_fault secrets ≡ Some f)) → Faulty needed bundles keys secrets f
     lengths none (inl x) = Length64 none x
     lengths none (inr x) = Length4096 none x.1
 
-    forms : unread_fault bundles keys secrets ≡ None → (container_fault bundles ≡ Some f) ⊎ ((container_fault bundles ≡ None) × (first (keys_fault keys) (secrets_fault secrets) ≡ Some f)) → Faulty bundles keys secrets f
+    forms : unread_fault bundles keys secrets ≡ None → (container_fault bundles ≡ Some f) ⊎ ((container_fault bundles ≡ None) × (first (keys_fault needed keys) (secrets_fault secrets) ≡ Some f)) → Faulty needed bundles keys secrets f
     forms none (inl x) = Form none x
     forms none (inr x) = lengths none (first_cases _ _ f x.1)
 
-    later : load_fault input.Bundles bundles ≡ None → (load_fault input.Keys keys ≡ Some f) ⊎ ((load_fault input.Keys keys ≡ None) × (load_fault input.Secrets secrets ≡ Some f)) → Faulty bundles keys secrets f
+    later : load_fault input.Bundles bundles ≡ None → (load_fault input.Keys keys ≡ Some f) ⊎ ((load_fault input.Keys keys ≡ None) × (load_fault input.Secrets secrets ≡ Some f)) → Faulty needed bundles keys secrets f
     later b (inl x) = KeyFile b x
     later b (inr x) = SecretsFile b x.0 x.1
 
-    unread : (load_fault input.Bundles bundles ≡ Some f) ⊎ ((load_fault input.Bundles bundles ≡ None) × (first (load_fault input.Keys keys) (load_fault input.Secrets secrets) ≡ Some f)) → Faulty bundles keys secrets f
+    unread : (load_fault input.Bundles bundles ≡ Some f) ⊎ ((load_fault input.Bundles bundles ≡ None) × (first (load_fault input.Keys keys) (load_fault input.Secrets secrets) ≡ Some f)) → Faulty needed bundles keys secrets f
     unread (inl x) = Bundles x
     unread (inr x) = later x.0 (first_cases _ _ f x.1)
 
-    by : (unread_fault bundles keys secrets ≡ Some f) ⊎ ((unread_fault bundles keys secrets ≡ None) × (form_fault bundles keys secrets ≡ Some f)) → Faulty bundles keys secrets f
+    by : (unread_fault bundles keys secrets ≡ Some f) ⊎ ((unread_fault bundles keys secrets ≡ None) × (form_fault needed bundles keys secrets ≡ Some f)) → Faulty needed bundles keys secrets f
     by (inl x) = unread (first_cases _ _ f x)
     by (inr x) = forms x.0 (first_cases _ _ f x.1)
 
@@ -228,18 +254,51 @@ length_right v h = by (eqb_tells (length v.items) 4096)
         absurd (cc)
 
 -- the words that were taken are those that the last load handed out
-handed : (contents : Option (List ℕ → Option (List ℕ))) (name : Option (List ℕ)) (old : Reads) (a : Option (Result (Vec ℕ) LoadFault)) (new : Reads) → LoadsNamed contents (2 ^ 16) name old a new
+words_handed : (contents : Option (List ℕ → Option (List ℕ))) (name : Option (List ℕ)) (old : Reads) (a : Option (Result (Vec ℕ) LoadFault)) (new : Reads) → LoadsNamed contents (2 ^ 16) name old a new
     → load_fault input.Secrets a ≡ None → secrets_fault a ≡ None → (loads more : List Loaded) → old.loads ≡ loads ++ more → (words : List ℕ) → AreSecrets a words
-    → AreHandedOut name loads new.loads (slice_index words)
-handed contents None old None new l fine right loads more grew words w = λ i. w.each i
-handed contents None old (Some x) new l fine right loads more grew words w = absurd l
-handed contents (Some n) old None new l fine right loads more grew words w = absurd l
-handed contents (Some n) old (Some (Ok v)) new l fine right loads more grew words w =
+    → AreWordsHandedOut name loads new.loads (slice_index words)
+words_handed contents None old None new l fine right loads more grew words w = λ i. w.each i
+words_handed contents None old (Some x) new l fine right loads more grew words w = absurd l
+words_handed contents (Some n) old None new l fine right loads more grew words w = absurd l
+words_handed contents (Some n) old (Some (Ok v)) new l fine right loads more grew words w =
     (more, v, l.noted ∙ ap (λ (z : List Loaded). z ++ record { name = n; answer = Ok v } ∷ []) grew, length_right v right, λ i. w.each i)
-handed contents (Some n) old (Some (Err load.Absent)) new l fine right loads more grew words w = absurd (cc)
-handed contents (Some n) old (Some (Err load.TooLong)) new l fine right loads more grew words w = absurd (cc)
-handed contents (Some n) old (Some (Err load.Failed)) new l fine right loads more grew words w = absurd (cc)
-handed contents (Some n) old (Some (Err load.OutOfMemory)) new l fine right loads more grew words w = absurd (cc)
+words_handed contents (Some n) old (Some (Err load.Absent)) new l fine right loads more grew words w = absurd (cc)
+words_handed contents (Some n) old (Some (Err load.TooLong)) new l fine right loads more grew words w = absurd (cc)
+words_handed contents (Some n) old (Some (Err load.Failed)) new l fine right loads more grew words w = absurd (cc)
+words_handed contents (Some n) old (Some (Err load.OutOfMemory)) new l fine right loads more grew words w = absurd (cc)
+
+-- ---- keys
+
+length_64 : (needed : Bool) (v : Vec ℕ) → keys_fault needed (Some (Ok v)) ≡ None → length v.items ≡ 64
+length_64 needed v h = by (eqb_tells (length v.items) 64)
+  where
+    by : (((length v.items == 64) ≡ true) × (length v.items ≡ 64)) ⊎ (((length v.items == 64) ≡ false) × (length v.items ≢ 64)) → length v.items ≡ 64
+    by (inl t) = t.1
+    by (inr t) =
+        let h' : Some fault.Keys ≡ None = subst (λ (x : Bool). (if x then None else Some fault.Keys) ≡ None) t.0 h in
+        absurd (cc)
+
+-- the keys that were taken are those that a load handed out
+keys_handed : (contents : Option (List ℕ → Option (List ℕ))) (needed : Bool) (name : Option (List ℕ)) (old : Reads) (a : Option (Result (Vec ℕ) LoadFault)) (new r' : Reads) → LoadsNamed contents (2 ^ 16) name old a new
+    → load_fault input.Keys a ≡ None → keys_fault needed a ≡ None → (loads more later : List Loaded) → old.loads ≡ loads ++ more → r'.loads ≡ new.loads ++ later
+    → AreKeysHandedOut name loads r'.loads (keys_or_none (keys_in a))
+keys_handed contents needed None old None new r' l fine right loads more later grew after = refl
+keys_handed contents needed None old (Some x) new r' l fine right loads more later grew after = absurd l
+keys_handed contents needed (Some n) old None new r' l fine right loads more later grew after = absurd l
+keys_handed contents needed (Some n) old (Some (Ok v)) new r' l fine right loads more later grew after = (
+  more,
+  v,
+  (
+    later,
+    after ∙ ap (λ (z : List Loaded). z ++ later) (l.noted ∙ ap (λ (z : List Loaded). z ++ record { name = n; answer = Ok v } ∷ []) grew) ∙ append_assoc (loads ++ more) (record { name = n; answer = Ok v } ∷ []) later,
+  ),
+  length_64 needed v right,
+  refl,
+)
+keys_handed contents needed (Some n) old (Some (Err load.Absent)) new r' l fine right loads more later grew after = absurd (cc)
+keys_handed contents needed (Some n) old (Some (Err load.TooLong)) new r' l fine right loads more later grew after = absurd (cc)
+keys_handed contents needed (Some n) old (Some (Err load.Failed)) new r' l fine right loads more later grew after = absurd (cc)
+keys_handed contents needed (Some n) old (Some (Err load.OutOfMemory)) new r' l fine right loads more later grew after = absurd (cc)
 
 -- ---- the whole
 
@@ -286,8 +345,8 @@ module _ (contents : Option (List ℕ → Option (List ℕ))) (k : CommandSeen) 
   }
 
   -- what the inputs of a script came to
-  inputs_came : (s : ScriptSeen) (res : Result Inputs InputFault) (e : Ended) → read_of given.items ≡ Ok s → TakesInputs contents c b r' res → InputsEnd k c s res e → Came contents (Some k) r r' e
-  inputs_came s res e reads t ends = by res t.is_due t.words ends
+  inputs_came : (s : ScriptSeen) (res : Result Inputs InputFault) (e : Ended) → read_of given.items ≡ Ok s → TakesInputs contents (needs_keys s.calls) c b r' res → InputsEnd k c s res e → Came contents (Some k) r r' e
+  inputs_came s res e reads t ends = by res t.is_due t.words t.key_bytes ends
     where
       bundles_more : (more : List Loaded) × (t.behind_bundles.loads ≡ b.loads ++ more)
       bundles_more = more_loads contents (2 ^ 29) c.bundles b t.bundles t.behind_bundles t.bundles_loaded
@@ -301,6 +360,15 @@ module _ (contents : Option (List ℕ → Option (List ℕ))) (k : CommandSeen) 
       -- the first two are loaded behind the script
       both_more : t.behind_keys.loads ≡ b.loads ++ (bundles_more.0 ++ keys_more.0)
       both_more = keys_more.1 ∙ ap (λ (z : List Loaded). z ++ keys_more.0) bundles_more.1 ∙ append_assoc b.loads bundles_more.0 keys_more.0
+
+      -- and all three are
+      all_loaded : LoadsFirst r.loads (script_name k) (Ok given) r'.loads
+      all_loaded = (
+        (bundles_more.0 ++ keys_more.0) ++ secrets_more.0,
+        secrets_more.1 ∙ ap (λ (z : List Loaded). z ++ secrets_more.0) (both_more ∙ ap (λ (z : List Loaded). z ++ (bundles_more.0 ++ keys_more.0)) loaded.noted)
+            ∙ append_assoc (r.loads ++ script_load ∷ []) (bundles_more.0 ++ keys_more.0) secrets_more.0
+            ∙ append_assoc r.loads (script_load ∷ []) ((bundles_more.0 ++ keys_more.0) ++ secrets_more.0),
+      )
 
       bundles_later : b.faults ≤ t.behind_bundles.faults
       bundles_later = loads_later contents (2 ^ 29) c.bundles b t.bundles t.behind_bundles t.bundles_loaded
@@ -325,25 +393,27 @@ module _ (contents : Option (List ℕ → Option (List ℕ))) (k : CommandSeen) 
           let h : LoadsNext contents (Some f) c.secrets t.behind_keys t.secrets r' = subst (λ (x : Option InputFault). LoadsNext contents x c.secrets t.behind_keys t.secrets r') some t.secrets_loaded in
           h.1
 
-      run : (inputs : Inputs) → due t.bundles t.keys t.secrets ≡ None → AreSecrets t.secrets inputs.secrets.items → EndsRun k c s (slice_index inputs.secrets.items) e → Came contents (Some k) r r' e
-      run inputs none words (order, is_order, is, threads) =
+      run : (inputs : Inputs) → due (needs_keys s.calls) t.bundles t.keys t.secrets ≡ None → AreSecrets t.secrets inputs.secrets.items → inputs.keys ≡ keys_in t.keys → EndsRun k c s (handed_in inputs) e → Came contents (Some k) r r' e
+      run inputs none words key_bytes (order, is_order, is, threads) =
           let (unread, form) = first_none _ _ none in
           let (fine, fine', fine'') = all_read t.bundles t.keys t.secrets unread in
           let lengths = (first_none _ _ form).1 in
-          Success k refl given (
-            (bundles_more.0 ++ keys_more.0) ++ secrets_more.0,
-            secrets_more.1 ∙ ap (λ (z : List Loaded). z ++ secrets_more.0) (both_more ∙ ap (λ (z : List Loaded). z ++ (bundles_more.0 ++ keys_more.0)) loaded.noted)
-                ∙ append_assoc (r.loads ++ script_load ∷ []) (bundles_more.0 ++ keys_more.0) secrets_more.0
-                ∙ append_assoc r.loads (script_load ∷ []) ((bundles_more.0 ++ keys_more.0) ++ secrets_more.0),
-          )
-          s reads (slice_index inputs.secrets.items)
-          (subst (λ (x : Option (List ℕ)). AreHandedOut x r.loads r'.loads (slice_index inputs.secrets.items)) (sym (secrets_of k c has))
-          (handed contents c.secrets t.behind_keys t.secrets r' (secrets_named_at fine fine') fine'' (first_none _ _ lengths).1 r.loads (script_load ∷ (bundles_more.0 ++ keys_more.0))
-          (both_more ∙ ap (λ (z : List Loaded). z ++ (bundles_more.0 ++ keys_more.0)) loaded.noted ∙ append_assoc r.loads (script_load ∷ []) (bundles_more.0 ++ keys_more.0))
-          inputs.secrets.items words))
-          order is_order (is ∙ sym (success_of k c s (slice_index inputs.secrets.items) order has)) threads
+          Success k refl given all_loaded s reads (handed_in inputs)
+          (record {
+            words =
+                subst (λ (x : Option (List ℕ)). AreWordsHandedOut x r.loads r'.loads (slice_index inputs.secrets.items)) (sym (secrets_of k c has))
+                (words_handed contents c.secrets t.behind_keys t.secrets r' (secrets_named_at fine fine') fine'' (first_none _ _ lengths).1 r.loads (script_load ∷ (bundles_more.0 ++ keys_more.0))
+                (both_more ∙ ap (λ (z : List Loaded). z ++ (bundles_more.0 ++ keys_more.0)) loaded.noted ∙ append_assoc r.loads (script_load ∷ []) (bundles_more.0 ++ keys_more.0))
+                inputs.secrets.items words);
+            key_bytes =
+                subst (λ (x : Option (List ℕ)). AreKeysHandedOut x r.loads r'.loads (keys_or_none inputs.keys)) (sym (keys_of_command k c has))
+                (subst (λ (x : Option KeyBytes). AreKeysHandedOut c.keys r.loads r'.loads (keys_or_none x)) (sym key_bytes)
+                (keys_handed contents (needs_keys s.calls) c.keys t.behind_bundles t.keys t.behind_keys r' (keys_named fine) fine' (first_none _ _ lengths).0 r.loads (script_load ∷ bundles_more.0) secrets_more.0
+                (bundles_more.1 ∙ ap (λ (z : List Loaded). z ++ bundles_more.0) loaded.noted ∙ append_assoc r.loads (script_load ∷ []) bundles_more.0) secrets_more.1));
+          })
+          order is_order (is ∙ sym (success_of k c s (handed_in inputs) order has)) threads
 
-      unread : (i : Input) → Faulty t.bundles t.keys t.secrets (fault.Unread i) → e ≡ unread_end (input_name c i) → Came contents (Some k) r r' e
+      unread : (i : Input) → Faulty (needs_keys s.calls) t.bundles t.keys t.secrets (fault.Unread i) → e ≡ unread_end (input_name c i) → Came contents (Some k) r r' e
       unread i (Bundles h) is =
           let (x, answered, u, same) = unread_some input.Bundles i t.bundles h in
           input_unread input.Bundles c.bundles (2 ^ 29) b t.behind_bundles t.bundles [] e refl (λ n q. inr (input_of k c n has (inl q))) (sym (append-nil b.loads)) (omega arith)
@@ -359,7 +429,7 @@ module _ (contents : Option (List ℕ → Option (List ℕ))) (k : CommandSeen) 
           input_unread input.Secrets c.secrets (2 ^ 16) t.behind_keys r' t.secrets (bundles_more.0 ++ keys_more.0) e refl (λ n q. inr (input_of k c n has (inr (inr q)))) both_more both_later
           (loading contents (2 ^ 16) c.secrets t.behind_keys t.secrets r' (secrets_named_at none none')) refl x answered u (is ∙ ap (λ (z : Input). unread_end (input_name c z)) same)
       unread i (Form none h) is = let (x, place, answered, wrong) = container_at t.bundles _ h in absurd (cc)
-      unread i (Length64 none h) is = let (x, answered, wrong) = length_at 64 fault.Keys t.keys _ h in absurd (cc)
+      unread i (Length64 none h) is = let wrong = keys_at (needs_keys s.calls) t.keys _ h in absurd (cc)
       unread i (Length4096 none h) is = let (x, answered, wrong) = length_at 4096 fault.Secrets t.secrets _ h in absurd (cc)
 
       place_of : (place : ℕ) → container_fault t.bundles ≡ Some (fault.Container place) → Loading contents (2 ^ 29) c.bundles b t.bundles t.behind_bundles → e ≡ container_end place → Came contents (Some k) r r' e
@@ -374,46 +444,55 @@ module _ (contents : Option (List ℕ → Option (List ℕ))) (k : CommandSeen) 
           )
           place (subst (λ (z : Option (Result (Vec ℕ) LoadFault)). container_fault z ≡ Some (fault.Container place)) answered h) is
 
-      container : (place : ℕ) → Faulty t.bundles t.keys t.secrets (fault.Container place) → e ≡ container_end place → Came contents (Some k) r r' e
+      container : (place : ℕ) → Faulty (needs_keys s.calls) t.bundles t.keys t.secrets (fault.Container place) → e ≡ container_end place → Came contents (Some k) r r' e
       container place (Bundles h) is = elim (load_unread input.Bundles _ t.bundles h) [ inl x ↦ absurd (cc) | inr x ↦ absurd (cc) ]
       container place (KeyFile none h) is = elim (load_unread input.Keys _ t.keys h) [ inl x ↦ absurd (cc) | inr x ↦ absurd (cc) ]
       container place (SecretsFile none none' h) is = elim (load_unread input.Secrets _ t.secrets h) [ inl x ↦ absurd (cc) | inr x ↦ absurd (cc) ]
       container place (Form none h) is = place_of place h (loading contents (2 ^ 29) c.bundles b t.bundles t.behind_bundles t.bundles_loaded) is
-      container place (Length64 none h) is = let (x, answered, wrong) = length_at 64 fault.Keys t.keys _ h in absurd (cc)
+      container place (Length64 none h) is = let wrong = keys_at (needs_keys s.calls) t.keys _ h in absurd (cc)
       container place (Length4096 none h) is = let (x, answered, wrong) = length_at 4096 fault.Secrets t.secrets _ h in absurd (cc)
 
-      keys : Faulty t.bundles t.keys t.secrets fault.Keys → e ≡ keys_end → Came contents (Some k) r r' e
+      keys_wrong : keys_fault (needs_keys s.calls) t.keys ≡ Some fault.Keys → e ≡ keys_end → Loading contents (2 ^ 16) c.keys t.behind_bundles t.keys t.behind_keys → Came contents (Some k) r r' e
+      keys_wrong h is (Not no_name none same) =
+          let wanting : keys_fault (needs_keys s.calls) None ≡ Some fault.Keys = subst (λ (z : Option (Result (Vec ℕ) LoadFault)). keys_fault (needs_keys s.calls) z ≡ Some fault.Keys) none h in
+          WrongLength
+          (inr (inr (record { command = k; read_as = refl; options = c; has = has; given = given; loaded = all_loaded; script = s; reads = reads; needs = (needed_is (needs_keys s.calls) fault.Keys wanting).0; unnamed = no_name; is = is })))
+          (ap (λ (x : Ended). x.status) is) (ap (λ (x : Ended). x.files) is)
+      keys_wrong h is (Once n x named answered l) =
+          let short : length_fault 64 fault.Keys (Some x) ≡ Some fault.Keys = subst (λ (z : Option (Result (Vec ℕ) LoadFault)). keys_fault (needs_keys s.calls) z ≡ Some fault.Keys) answered h in
+          WrongLength
+          (inl (input_length (λ n. n.keys) 64 fault.Keys keys_end t.behind_bundles t.behind_keys t.keys bundles_more.0 secrets_more.0 e bundles_more.1 (Once n x named answered l) secrets_more.1
+          (subst (λ (z : Option (Result (Vec ℕ) LoadFault)). length_fault 64 fault.Keys z ≡ Some fault.Keys) (sym answered) short) is))
+          (ap (λ (x : Ended). x.status) is) (ap (λ (x : Ended). x.files) is)
+
+      keys : Faulty (needs_keys s.calls) t.bundles t.keys t.secrets fault.Keys → e ≡ keys_end → Came contents (Some k) r r' e
       keys (Bundles h) is = elim (load_unread input.Bundles _ t.bundles h) [ inl x ↦ absurd (cc) | inr x ↦ absurd (cc) ]
       keys (KeyFile none h) is = elim (load_unread input.Keys _ t.keys h) [ inl x ↦ absurd (cc) | inr x ↦ absurd (cc) ]
       keys (SecretsFile none none' h) is = elim (load_unread input.Secrets _ t.secrets h) [ inl x ↦ absurd (cc) | inr x ↦ absurd (cc) ]
       keys (Form none h) is = let (x, place, answered, wrong) = container_at t.bundles _ h in absurd (cc)
-      keys (Length64 none h) is =
-          WrongLength
-          (inl (input_length (λ n. n.keys) 64 fault.Keys keys_end t.behind_bundles t.behind_keys t.keys bundles_more.0 secrets_more.0 e bundles_more.1
-          (loading contents (2 ^ 16) c.keys t.behind_bundles t.keys t.behind_keys (keys_named (all_read t.bundles t.keys t.secrets none).0)) secrets_more.1 h is))
-          (ap (λ (x : Ended). x.status) is) (ap (λ (x : Ended). x.files) is)
+      keys (Length64 none h) is = keys_wrong h is (loading contents (2 ^ 16) c.keys t.behind_bundles t.keys t.behind_keys (keys_named (all_read t.bundles t.keys t.secrets none).0))
       keys (Length4096 none h) is = let (x, answered, wrong) = length_at 4096 fault.Secrets t.secrets _ h in absurd (cc)
 
-      secrets : Faulty t.bundles t.keys t.secrets fault.Secrets → e ≡ secrets_end → Came contents (Some k) r r' e
+      secrets : Faulty (needs_keys s.calls) t.bundles t.keys t.secrets fault.Secrets → e ≡ secrets_end → Came contents (Some k) r r' e
       secrets (Bundles h) is = elim (load_unread input.Bundles _ t.bundles h) [ inl x ↦ absurd (cc) | inr x ↦ absurd (cc) ]
       secrets (KeyFile none h) is = elim (load_unread input.Keys _ t.keys h) [ inl x ↦ absurd (cc) | inr x ↦ absurd (cc) ]
       secrets (SecretsFile none none' h) is = elim (load_unread input.Secrets _ t.secrets h) [ inl x ↦ absurd (cc) | inr x ↦ absurd (cc) ]
       secrets (Form none h) is = let (x, place, answered, wrong) = container_at t.bundles _ h in absurd (cc)
-      secrets (Length64 none h) is = let (x, answered, wrong) = length_at 64 fault.Keys t.keys _ h in absurd (cc)
+      secrets (Length64 none h) is = let wrong = keys_at (needs_keys s.calls) t.keys _ h in absurd (cc)
       secrets (Length4096 none h) is =
           let (fine, fine', fine'') = all_read t.bundles t.keys t.secrets none in
           WrongLength
-          (inr (input_length (λ n. n.secrets) 4096 fault.Secrets secrets_end t.behind_keys r' t.secrets (bundles_more.0 ++ keys_more.0) [] e both_more
-          (loading contents (2 ^ 16) c.secrets t.behind_keys t.secrets r' (secrets_named_at fine fine')) (sym (append-nil r'.loads)) h is))
+          (inr (inl (input_length (λ n. n.secrets) 4096 fault.Secrets secrets_end t.behind_keys r' t.secrets (bundles_more.0 ++ keys_more.0) [] e both_more
+          (loading contents (2 ^ 16) c.secrets t.behind_keys t.secrets r' (secrets_named_at fine fine')) (sym (append-nil r'.loads)) h is)))
           (ap (λ (x : Ended). x.status) is) (ap (λ (x : Ended). x.files) is)
 
-      by : (q : Result Inputs InputFault) → IsDue (due t.bundles t.keys t.secrets) q → IfOk q (λ inputs. AreSecrets t.secrets inputs.secrets.items) → InputsEnd k c s q e → Came contents (Some k) r r' e
-      by (Ok inputs) d words is = run inputs d words is
-      by (Err (fault.Unread i)) d words is = unread i (faulty t.bundles t.keys t.secrets _ d) is
-      by (Err (fault.Container place)) d words is = container place (faulty t.bundles t.keys t.secrets _ d) is
-      by (Err fault.Keys) d words is = keys (faulty t.bundles t.keys t.secrets _ d) is
-      by (Err fault.Secrets) d words is = secrets (faulty t.bundles t.keys t.secrets _ d) is
-      by (Err fault.OutOfMemory) d words is = absurd is
+      by : (q : Result Inputs InputFault) → IsDue (due (needs_keys s.calls) t.bundles t.keys t.secrets) q → IfOk q (λ inputs. AreSecrets t.secrets inputs.secrets.items) → IfOk q (λ inputs. inputs.keys ≡ keys_in t.keys) → InputsEnd k c s q e → Came contents (Some k) r r' e
+      by (Ok inputs) d words key_bytes is = run inputs d words key_bytes is
+      by (Err (fault.Unread i)) d words key_bytes is = unread i (faulty (needs_keys s.calls) t.bundles t.keys t.secrets _ d) is
+      by (Err (fault.Container place)) d words key_bytes is = container place (faulty (needs_keys s.calls) t.bundles t.keys t.secrets _ d) is
+      by (Err fault.Keys) d words key_bytes is = keys (faulty (needs_keys s.calls) t.bundles t.keys t.secrets _ d) is
+      by (Err fault.Secrets) d words key_bytes is = secrets (faulty (needs_keys s.calls) t.bundles t.keys t.secrets _ d) is
+      by (Err fault.OutOfMemory) d words key_bytes is = absurd is
 
 module _ (contents : Option (List ℕ → Option (List ℕ))) (c : CommandSeen) (r b r' : Reads) (e : Ended) where
   -- what a script in the grammar came to
@@ -422,7 +501,7 @@ module _ (contents : Option (List ℕ → Option (List ℕ))) (c : CommandSeen) 
   script_came (Replay n) given s loaded reads (res, takes, ends) = inputs_came contents (Replay n) n refl r b r' given loaded s res e reads takes ends
   script_came (Run n) given s loaded reads (res, takes, ends) = inputs_came contents (Run n) n refl r b r' given loaded s res e reads takes ends
   script_came (Check name) given s loaded reads (same, is) =
-      Success (Check name) refl given ([], ap (λ (z : Reads). z.loads) same ∙ loaded.noted) s reads (λ i. 0) (λ i. refl) [] tt is tt
+      Success (Check name) refl given ([], ap (λ (z : Reads). z.loads) same ∙ loaded.noted) s reads (record { secrets = λ i. 0; keys = no_keys }) (record { words = λ i. refl; key_bytes = refl }) [] tt is tt
 
   -- what a script that was loaded came to
   read_came : (given : Vec ℕ) (read : Result ScriptSeen ScriptFault) → Loads contents (2 ^ 24) (script_name c) r (Ok given) b → read_of given.items ≡ read → ReadEnd contents c b r' read e
@@ -461,13 +540,13 @@ both_few : (a b : Option (List ℕ)) (x y : List ℕ) → length (file_named a x
 both_few None b x y = named_few b y
 both_few (Some n) b x y = ap suc (named_few b y)
 
-run_few : (n : NamedSeen) (s : ScriptSeen) (secrets : ℕ → ℕ) (order : List ℕ) → length (run_end n s secrets order).files ≤ length (outs_of n)
-run_few n s secrets order = let q = both_few n.out_bundles n.guest_out (container_bytes []) (guest_text (opening_of secrets s) order) in omega (arith, q)
+run_few : (n : NamedSeen) (s : ScriptSeen) (handed : HandedOut) (order : List ℕ) → length (run_end n s handed order).files ≤ length (outs_of n)
+run_few n s handed order = let q = both_few n.out_bundles n.guest_out (bundles_text handed.keys.forward handed.keys.backward (opening_of handed.secrets s) order) (guest_text (opening_of handed.secrets s) order) in omega (arith, q)
 
-success_few : (k : CommandSeen) (s : ScriptSeen) (secrets : ℕ → ℕ) (order : List ℕ) → length (success_end k s secrets order).files ≤ length (out_names (Some k))
-success_few (Replay n) s secrets order = run_few n s secrets order
-success_few (Run n) s secrets order = run_few n s secrets order
-success_few (Check name) s secrets order = omega arith
+success_few : (k : CommandSeen) (s : ScriptSeen) (handed : HandedOut) (order : List ℕ) → length (success_end k s handed order).files ≤ length (out_names (Some k))
+success_few (Replay n) s handed order = run_few n s handed order
+success_few (Run n) s handed order = run_few n s handed order
+success_few (Check name) s handed order = omega arith
 
 pub files_few : (contents : Option (List ℕ → Option (List ℕ))) (c : Option CommandSeen) (r r' : Reads) (e : Ended) → Came contents c r r' e → length e.files ≤ length (out_names c)
 files_few contents c r r' e (Usage none same is) = no_files (ap (λ (x : Ended). x.files) is)
@@ -476,17 +555,17 @@ files_few contents c r r' e (BadScript k is_c answer loaded line reason first is
 files_few contents c r r' e (Want k is_c is) = no_files (ap (λ (x : Ended). x.files) is)
 files_few contents c r r' e (Place k is_c o has n named before answer loaded place wrong is) = no_files (ap (λ (x : Ended). x.files) is)
 files_few contents c r r' e (WrongLength which seven none) = no_files none
-files_few contents c r r' e (Success k is_c given loaded s reads secrets out order is_order is threads) =
-    subst (λ (x : Option CommandSeen). length e.files ≤ length (out_names x)) (sym is_c) (subst (λ (x : Ended). length x.files ≤ length (out_names (Some k))) (sym is) (success_few k s secrets order))
+files_few contents c r r' e (Success k is_c given loaded s reads handed out order is_order is threads) =
+    subst (λ (x : Option CommandSeen). length e.files ≤ length (out_names x)) (sym is_c) (subst (λ (x : Ended). length x.files ≤ length (out_names (Some k))) (sym is) (success_few k s handed order))
 
 -- a fault of the inputs is told
 pub fault_ends : (contents : Option (List ℕ → Option (List ℕ))) (k : CommandSeen) (c : NamedSeen) (s : ScriptSeen) (old new : Reads) (f : InputFault) (r : Result Ending AllocError)
-    → TakesInputs contents c old new (Err f) → IfOk r (λ e. InputsEnd k c s (Err f) (ending_seen e)) → IfOk r (λ e. NamedEnd contents k c s old new (ending_seen e))
+    → TakesInputs contents (needs_keys s.calls) c old new (Err f) → IfOk r (λ e. InputsEnd k c s (Err f) (ending_seen e)) → IfOk r (λ e. NamedEnd contents k c s old new (ending_seen e))
 fault_ends contents k c s old new f (Ok e) takes ends = (Err f, takes, ends)
 fault_ends contents k c s old new f (Err e) takes ends = tt
 
 -- so is a run
-pub run_ends : (contents : Option (List ℕ → Option (List ℕ))) (k : CommandSeen) (c : NamedSeen) (s : ScriptSeen) (old new : Reads) (inputs : Inputs) (words : List ℕ) (r : Result Ending AllocError)
-    → words ≡ inputs.secrets.items → TakesInputs contents c old new (Ok inputs) → IfOk r (λ e. EndsRun k c s (slice_index words) (ending_seen e)) → IfOk r (λ e. NamedEnd contents k c s old new (ending_seen e))
-run_ends contents k c s old new inputs words (Ok e) is takes h = (Ok inputs, takes, subst (λ (x : List ℕ). EndsRun k c s (slice_index x) (ending_seen e)) is h)
-run_ends contents k c s old new inputs words (Err e) is takes h = tt
+pub run_ends : (contents : Option (List ℕ → Option (List ℕ))) (k : CommandSeen) (c : NamedSeen) (s : ScriptSeen) (old new : Reads) (inputs : Inputs) (r : Result Ending AllocError)
+    → TakesInputs contents (needs_keys s.calls) c old new (Ok inputs) → IfOk r (λ e. EndsRun k c s (handed_in inputs) (ending_seen e)) → IfOk r (λ e. NamedEnd contents k c s old new (ending_seen e))
+run_ends contents k c s old new inputs (Ok e) takes h = (Ok inputs, takes, h)
+run_ends contents k c s old new inputs (Err e) takes h = tt

@@ -1,5 +1,5 @@
 -- The ending that is due by what names have, each with its cause.
-use Rattle.std.proofs.Common.{◌≡◌, ◌≢◌, ◌⊎◌, inl, inr, refl, sym, ◌∙◌, ap, subst, ℕ, ◌^◌, ◌<◌, List, [], length, Option, Some, None, Result, Ok, Err, Bool, true, false, ◌==◌, nat_le, if◌then◌else◌}
+use Rattle.std.proofs.Common.{◌≡◌, ◌≢◌, ◌⊎◌, inl, inr, refl, sym, ◌∙◌, subst, ℕ, ◌^◌, ◌<◌, List, [], length, Option, Some, None, Result, Ok, Err, Bool, true, false, ◌==◌, nat_le, if◌then◌else◌}
 use Rattle.std.proofs.lemmas.Bool.{leb-false}
 use Rattle.std.proofs.lemmas.Bool.Decides.{eqb_tells}
 use Rattle.std.proofs.lemmas.List.Elements.{All-nil}
@@ -9,6 +9,7 @@ use Rattle.script_text.specs.declared.faults.ScriptFault.{ScriptFault}
 use Rattle.script_text.specs.declared.faults.ScriptFault.TheVariants.{Bad, OutOfMemory}
 use Rattle.script_text.specs.Reading.{read_of}
 use Rattle.script_text.specs.Seen.{ScriptSeen}
+use Rattle.script_text.specs.Needs.{needs_keys}
 use Rattle.bundle_store.specs.Containers.{container_in}
 use Rattle.command_files.specs.declared.inputs.Input.{Input}
 use Rattle.command_files.specs.declared.inputs.Input.TheVariants as input
@@ -16,9 +17,9 @@ use Rattle.command_files.specs.declared.inputs.InputFault.{InputFault}
 use Rattle.command_files.specs.declared.inputs.InputFault.TheVariants as fault
 use Rattle.command_files.specs.Commands.{NamedSeen, CommandSeen, Replay, Run, Check, named_of, script_name}
 use Rattle.command_files.specs.Inputs.{place_fault, first}
-use Rattle.script_runner.specs.Ending.{Ended, usage_end, bad_end, unread_end, memory_end, container_end, run_end, success_end, input_name, held, absent_fault, container_wrong, length_wrong, absent_input, form_wrong, wrong_input, command_wrong, held_word, secrets_held, inputs_end, script_end, read_end, held_end, ending_of, IsOrderOf, IsOrderIn}
-use Rattle.script_runner.specs.Ends.{NamesInput, IsBadScript, IsAbsent, IsNoContainer, IsBadContainer, HasWrongLength, IsBadLength}
-use Rattle.script_runner.proofs.Named.{secrets_of, input_of, wrong_of, success_of}
+use Rattle.script_runner.specs.Ending.{Ended, usage_end, bad_end, unread_end, memory_end, container_end, run_end, success_end, input_name, held, absent_fault, container_wrong, length_wrong, keys_wrong, absent_input, form_wrong, wrong_input, command_wrong, handed_held, inputs_end, script_end, read_end, held_end, ending_of, IsOrderOf, IsOrderIn, HandedOut, held_by}
+use Rattle.script_runner.specs.Ends.{NamesInput, IsBadScript, IsAbsent, IsNoContainer, IsBadContainer, HasWrongLength, IsBadKeysOrSecrets}
+use Rattle.script_runner.proofs.Named.{secrets_of, input_of, wrong_of, success_of, keys_of_command}
 
 -- a script is run, or checked
 pub record IsRun (contents : List ℕ → Option (List ℕ)) (c : Option CommandSeen) (order : List ℕ) (e : Ended) : Type 0 where
@@ -28,8 +29,8 @@ pub record IsRun (contents : List ℕ → Option (List ℕ)) (c : Option Command
   pub there : contents (script_name command) ≡ Some bytes
   pub script : ScriptSeen
   pub reads : read_of bytes ≡ Ok script
-  pub fits : command_wrong contents command ≡ None
-  pub is : e ≡ success_end command script (secrets_held contents command) order
+  pub fits : command_wrong contents script command ≡ None
+  pub is : e ≡ success_end command script (handed_held contents command) order
 
 -- an ending, with its cause
 pub data Due (contents : List ℕ → Option (List ℕ)) (c : Option CommandSeen) (order : List ℕ) (e : Ended) : Type 0 where
@@ -38,7 +39,7 @@ pub data Due (contents : List ℕ → Option (List ℕ)) (c : Option CommandSeen
   BadScript : (line : ℕ) (reason : Reason) → IsBadScript contents c → e ≡ bad_end line reason → Due contents c order e
   Want : e ≡ memory_end → Due contents c order e
   BadContainer : (place : ℕ) → IsBadContainer contents c → e ≡ container_end place → Due contents c order e
-  BadLength : IsBadLength contents c → e.status ≡ 7 → Due contents c order e
+  BadLength : IsBadKeysOrSecrets contents c → e.status ≡ 7 → Due contents c order e
   Success : IsRun contents c order e → Due contents c order e
 
 -- the first of two faults
@@ -97,11 +98,16 @@ length_some count g contents (Some name) f h = by (contents name) refl h
     by None e h = absurd (cc)
     by (Some bytes) e h = of bytes e (eqb_tells (length bytes) count) h
 
+-- keys are needed
+needed_some : (needed : Bool) (f : InputFault) → (if needed then Some fault.Keys else None) ≡ Some f → (needed ≡ true) × (f ≡ fault.Keys)
+needed_some true f h = (refl, cc)
+needed_some false f h = absurd (cc)
+
 -- ---- the whole
 
 module _ (contents : List ℕ → Option (List ℕ)) (k : CommandSeen) (c : NamedSeen) (has : named_of k ≡ Some c) (s : ScriptSeen) (order : List ℕ) where
   abbrev DueBy : Option InputFault → Type 0
-  DueBy f = Due contents (Some k) order (inputs_end c s (held_word (held contents c.secrets)) order f)
+  DueBy f = Due contents (Some k) order (inputs_end c s (held_by contents c.secrets c.keys) order f)
 
   -- a named input isn't there
   absent_due : (f : InputFault) → absent_input (held contents c.bundles) (held contents c.keys) (held contents c.secrets) ≡ Some f → DueBy (Some f)
@@ -122,36 +128,47 @@ module _ (contents : List ℕ → Option (List ℕ)) (k : CommandSeen) (c : Name
       by (inl x) = let (name, named, gone, is) = absent_some input.Bundles contents c.bundles f x in unread input.Bundles name (inl named) gone is
       by (inr x) = more (first_cases _ _ f x.1)
 
-  -- one that is there hasn't its form
-  form_due : (f : InputFault) → form_wrong (held contents c.bundles) (held contents c.keys) (held contents c.secrets) ≡ Some f → DueBy (Some f)
-  form_due f h = by (first_cases _ _ f h)
+  abbrev needed : Bool
+  needed = needs_keys s.calls
+
+  -- one that is there hasn't its form, or the key file is wanting
+  form_due : (bytes : List ℕ) → contents (script_name k) ≡ Some bytes → read_of bytes ≡ Ok s → (f : InputFault) → form_wrong needed (held contents c.bundles) (held contents c.keys) (held contents c.secrets) ≡ Some f → DueBy (Some f)
+  form_due script there reads f h = by (first_cases _ _ f h)
     where
       wrong_length : (file : NamedSeen → Option (List ℕ)) (count : ℕ) (g : InputFault) → length_wrong count g (held contents (file c)) ≡ Some f → HasWrongLength file count contents (Some k)
       wrong_length file count g x =
           let (name, bytes, named, there, wrong, is) = length_some count g contents (file c) f x in
           record { command = k; read_as = refl; options = c; has = has; name = name; named = named; bytes = bytes; there = there; wrong = wrong }
 
-      more : (length_wrong 64 fault.Keys (held contents c.keys) ≡ Some f) ⊎ ((length_wrong 64 fault.Keys (held contents c.keys) ≡ None) × (length_wrong 4096 fault.Secrets (held contents c.secrets) ≡ Some f))
+      keys_due : (keys : Option (List ℕ)) → c.keys ≡ keys → keys_wrong needed (held contents keys) ≡ Some f → DueBy (Some f)
+      keys_due None unnamed x =
+          let (needs, is) = needed_some needed f x in
+          subst (λ (x : InputFault). DueBy (Some x)) (sym is)
+          (BadLength (inr (inr (record { command = k; read_as = refl; options = c; has = has; bytes = script; there = there; script = s; reads = reads; needs = needs; unnamed = unnamed }))) refl)
+      keys_due (Some name) named x =
+          let x' : length_wrong 64 fault.Keys (held contents c.keys) ≡ Some f = subst (λ (q : Option (List ℕ)). length_wrong 64 fault.Keys (held contents q) ≡ Some f) (sym named) x in
+          let (name', bytes, named', there', wrong, is) = length_some 64 fault.Keys contents c.keys f x' in
+          subst (λ (x : InputFault). DueBy (Some x)) (sym is) (BadLength (inl (wrong_length (λ n. n.keys) 64 fault.Keys x')) refl)
+
+      more : (keys_wrong needed (held contents c.keys) ≡ Some f) ⊎ ((keys_wrong needed (held contents c.keys) ≡ None) × (length_wrong 4096 fault.Secrets (held contents c.secrets) ≡ Some f))
           → DueBy (Some f)
-      more (inl x) =
-          let (name, bytes, named, there, wrong, is) = length_some 64 fault.Keys contents c.keys f x in
-          subst (λ (x : InputFault). DueBy (Some x)) (sym is) (BadLength (inl (wrong_length (λ n. n.keys) 64 fault.Keys x)) refl)
+      more (inl x) = keys_due c.keys refl x
       more (inr x) =
           let (name, bytes, named, there, wrong, is) = length_some 4096 fault.Secrets contents c.secrets f x.1 in
-          subst (λ (x : InputFault). DueBy (Some x)) (sym is) (BadLength (inr (wrong_length (λ n. n.secrets) 4096 fault.Secrets x.1)) refl)
+          subst (λ (x : InputFault). DueBy (Some x)) (sym is) (BadLength (inr (inl (wrong_length (λ n. n.secrets) 4096 fault.Secrets x.1))) refl)
 
       by : (container_wrong (held contents c.bundles) ≡ Some f)
-          ⊎ ((container_wrong (held contents c.bundles) ≡ None) × (first (length_wrong 64 fault.Keys (held contents c.keys)) (length_wrong 4096 fault.Secrets (held contents c.secrets)) ≡ Some f)) → DueBy (Some f)
+          ⊎ ((container_wrong (held contents c.bundles) ≡ None) × (first (keys_wrong needed (held contents c.keys)) (length_wrong 4096 fault.Secrets (held contents c.secrets)) ≡ Some f)) → DueBy (Some f)
       by (inl x) =
           let (name, bytes, place, named, there, wrong, is) = container_some contents c.bundles f x in
           subst (λ (x : InputFault). DueBy (Some x)) (sym is)
           (BadContainer place (record { command = k; read_as = refl; options = c; has = has; name = name; named = named; bytes = bytes; there = there; wrong = wrong }) refl)
       by (inr x) = more (first_cases _ _ f x.1)
 
-  input_due : (f : InputFault) → wrong_input contents c ≡ Some f → DueBy (Some f)
-  input_due f h = elim (first_cases _ _ f h) [ inl x ↦ absent_due f x | inr x ↦ form_due f x.1 ]
+  input_due : (bytes : List ℕ) → contents (script_name k) ≡ Some bytes → read_of bytes ≡ Ok s → (f : InputFault) → wrong_input contents needed c ≡ Some f → DueBy (Some f)
+  input_due bytes there reads f h = elim (first_cases _ _ f h) [ inl x ↦ absent_due f x | inr x ↦ form_due bytes there reads f x.1 ]
 
-  inputs_due : (bytes : List ℕ) (f : Option InputFault) → contents (script_name k) ≡ Some bytes → read_of bytes ≡ Ok s → wrong_input contents c ≡ f → DueBy f
+  inputs_due : (bytes : List ℕ) (f : Option InputFault) → contents (script_name k) ≡ Some bytes → read_of bytes ≡ Ok s → wrong_input contents needed c ≡ f → DueBy f
   inputs_due bytes None there reads fits =
       Success (record {
         command = k;
@@ -160,10 +177,10 @@ module _ (contents : List ℕ → Option (List ℕ)) (k : CommandSeen) (c : Name
         there = there;
         script = s;
         reads = reads;
-        fits = wrong_of contents k c has ∙ fits;
-        is = sym (success_of k c s (secrets_held contents k) order has ∙ ap (λ (x : Option (List ℕ)). run_end c s (held_word (held contents x)) order) (secrets_of k c has));
+        fits = wrong_of contents s k c has ∙ fits;
+        is = sym (success_of k c s (handed_held contents k) order has ∙ (λ i. run_end c s (held_by contents (secrets_of k c has i) (keys_of_command k c has i)) order));
       })
-  inputs_due bytes (Some f) there reads wrong = input_due f wrong
+  inputs_due bytes (Some f) there reads wrong = input_due bytes there reads f wrong
 
 module _ (contents : List ℕ → Option (List ℕ)) (c : CommandSeen) (order : List ℕ) where
   script_due : (k : CommandSeen) (bytes : List ℕ) (s : ScriptSeen) → contents (script_name k) ≡ Some bytes → read_of bytes ≡ Ok s → Due contents (Some k) order (script_end contents k s order)
@@ -236,17 +253,17 @@ pub same_status : (contents : List ℕ → Option (List ℕ)) (c : Option Comman
 same_status contents None order order' = refl
 same_status contents (Some k) order order' = by (contents (script_name k))
   where
-    of_inputs : (n : NamedSeen) (s : ScriptSeen) (secrets : ℕ → ℕ) (f : Option InputFault) → (inputs_end n s secrets order f).status ≡ (inputs_end n s secrets order' f).status
-    of_inputs n s secrets None = refl
-    of_inputs n s secrets (Some (fault.Unread i)) = refl
-    of_inputs n s secrets (Some (fault.Container place)) = refl
-    of_inputs n s secrets (Some fault.Keys) = refl
-    of_inputs n s secrets (Some fault.Secrets) = refl
-    of_inputs n s secrets (Some fault.OutOfMemory) = refl
+    of_inputs : (n : NamedSeen) (s : ScriptSeen) (handed : HandedOut) (f : Option InputFault) → (inputs_end n s handed order f).status ≡ (inputs_end n s handed order' f).status
+    of_inputs n s handed None = refl
+    of_inputs n s handed (Some (fault.Unread i)) = refl
+    of_inputs n s handed (Some (fault.Container place)) = refl
+    of_inputs n s handed (Some fault.Keys) = refl
+    of_inputs n s handed (Some fault.Secrets) = refl
+    of_inputs n s handed (Some fault.OutOfMemory) = refl
 
     of_script : (k : CommandSeen) (s : ScriptSeen) → (script_end contents k s order).status ≡ (script_end contents k s order').status
-    of_script (Replay n) s = of_inputs n s (held_word (held contents n.secrets)) (wrong_input contents n)
-    of_script (Run n) s = of_inputs n s (held_word (held contents n.secrets)) (wrong_input contents n)
+    of_script (Replay n) s = of_inputs n s (held_by contents n.secrets n.keys) (wrong_input contents (needs_keys s.calls) n)
+    of_script (Run n) s = of_inputs n s (held_by contents n.secrets n.keys) (wrong_input contents (needs_keys s.calls) n)
     of_script (Check name) s = refl
 
     of_read : (r : Result ScriptSeen ScriptFault) → (read_end contents k order r).status ≡ (read_end contents k order' r).status

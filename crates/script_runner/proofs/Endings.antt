@@ -7,9 +7,9 @@ use Rattle.bundle_store.specs.Outside.{Rose, Gains}
 use Rattle.script_text.specs.Seen.{ScriptSeen}
 use Rattle.command_files.specs.Commands.{CommandSeen, Replay, Run, Check}
 use Rattle.command_files.specs.Inputs.{Reads}
-use Rattle.script_runner.specs.Ending.{ToSave, Ended, memory_end, unwritten_end, success_end, secrets_held, ending_of, IsOrderIn}
+use Rattle.script_runner.specs.Ending.{ToSave, Ended, memory_end, unwritten_end, success_end, handed_held, ending_of, IsOrderIn, HandedOut}
 use Rattle.script_runner.specs.Saving.{Writes, AllSaved, IsAmong}
-use Rattle.script_runner.specs.Ends.{Faults, IsEnding, PutsPart, PutsBehind, TellsName, TellsUnsaved, Tells, EndsWith, OneRun, IsBadScript, IsAbsent, IsBadContainer, IsBadLength, IsComplete, success_text, IsOwnText, PutsFronts, PutsFrontsOf}
+use Rattle.script_runner.specs.Ends.{Faults, IsEnding, PutsPart, PutsBehind, TellsName, TellsUnsaved, Tells, EndsWith, OneRun, IsBadScript, IsAbsent, IsBadContainer, IsBadKeysOrSecrets, IsComplete, success_text, IsOwnText, PutsFronts, PutsFrontsOf}
 use Rattle.script_runner.specs.Commanded.{Outputs, Puts, PutsWant, DoesCommand}
 use Rattle.script_runner.proofs.Part.{puts_part}
 use Rattle.script_runner.proofs.Due.{IsRun, Due, due, some_order, same_status, Usage, Absent, BadScript, Want, BadContainer, BadLength, Success}
@@ -19,10 +19,10 @@ use Rattle.script_runner.proofs.Told.{told_ending}
 
 -- ---- what is due, by its status
 
-pub success_zero : (k : CommandSeen) (s : ScriptSeen) (secrets : ℕ → ℕ) (order : List ℕ) → (success_end k s secrets order).status ≡ 0
-success_zero (Replay n) s secrets order = refl
-success_zero (Run n) s secrets order = refl
-success_zero (Check name) s secrets order = refl
+pub success_zero : (k : CommandSeen) (s : ScriptSeen) (handed : HandedOut) (order : List ℕ) → (success_end k s handed order).status ≡ 0
+success_zero (Replay n) s handed order = refl
+success_zero (Run n) s handed order = refl
+success_zero (Check name) s handed order = refl
 
 run_of : (contents : List ℕ → Option (List ℕ)) (c : Option CommandSeen) (order : List ℕ) (e : Ended) → Due contents c order e → e.status ≡ 0 → IsRun contents c order e
 run_of contents c order e (Usage none is) s = absurd (let t = ap (λ (x : Ended). x.status) is in omega (arith, t, s))
@@ -40,7 +40,7 @@ bad_of contents c order e (BadScript line reason b is) s = b
 bad_of contents c order e (Want is) s = absurd (let t = ap (λ (x : Ended). x.status) is in omega (arith, t, s))
 bad_of contents c order e (BadContainer place b is) s = absurd (let t = ap (λ (x : Ended). x.status) is in omega (arith, t, s))
 bad_of contents c order e (BadLength b is) s = absurd (omega (arith, is, s))
-bad_of contents c order e (Success r) s = absurd (let t = ap (λ (x : Ended). x.status) r.is in let z = success_zero r.command r.script (secrets_held contents r.command) order in omega (arith, t, z, s))
+bad_of contents c order e (Success r) s = absurd (let t = ap (λ (x : Ended). x.status) r.is in let z = success_zero r.command r.script (handed_held contents r.command) order in omega (arith, t, z, s))
 
 absent_of : (contents : List ℕ → Option (List ℕ)) (c : Option CommandSeen) (order : List ℕ) (e : Ended) → Due contents c order e → e.status ≡ 3 → IsAbsent contents c
 absent_of contents c order e (Usage none is) s = absurd (let t = ap (λ (x : Ended). x.status) is in omega (arith, t, s))
@@ -49,7 +49,7 @@ absent_of contents c order e (BadScript line reason b is) s = absurd (let t = ap
 absent_of contents c order e (Want is) s = absurd (let t = ap (λ (x : Ended). x.status) is in omega (arith, t, s))
 absent_of contents c order e (BadContainer place b is) s = absurd (let t = ap (λ (x : Ended). x.status) is in omega (arith, t, s))
 absent_of contents c order e (BadLength b is) s = absurd (omega (arith, is, s))
-absent_of contents c order e (Success r) s = absurd (let t = ap (λ (x : Ended). x.status) r.is in let z = success_zero r.command r.script (secrets_held contents r.command) order in omega (arith, t, z, s))
+absent_of contents c order e (Success r) s = absurd (let t = ap (λ (x : Ended). x.status) r.is in let z = success_zero r.command r.script (handed_held contents r.command) order in omega (arith, t, z, s))
 
 memory_of : (contents : List ℕ → Option (List ℕ)) (c : Option CommandSeen) (order : List ℕ) (e : Ended) → Due contents c order e → e.status ≡ 5 → e.text ≡ memory_end.text
 memory_of contents c order e (Usage none is) s = absurd (let t = ap (λ (x : Ended). x.status) is in omega (arith, t, s))
@@ -58,7 +58,7 @@ memory_of contents c order e (BadScript line reason b is) s = absurd (let t = ap
 memory_of contents c order e (Want is) s = ap (λ (x : Ended). x.text) is
 memory_of contents c order e (BadContainer place b is) s = absurd (let t = ap (λ (x : Ended). x.status) is in omega (arith, t, s))
 memory_of contents c order e (BadLength b is) s = absurd (omega (arith, is, s))
-memory_of contents c order e (Success r) s = absurd (let t = ap (λ (x : Ended). x.status) r.is in let z = success_zero r.command r.script (secrets_held contents r.command) order in omega (arith, t, z, s))
+memory_of contents c order e (Success r) s = absurd (let t = ap (λ (x : Ended). x.status) r.is in let z = success_zero r.command r.script (handed_held contents r.command) order in omega (arith, t, z, s))
 
 container_of : (contents : List ℕ → Option (List ℕ)) (c : Option CommandSeen) (order : List ℕ) (e : Ended) → Due contents c order e → e.status ≡ 6 → IsBadContainer contents c
 container_of contents c order e (Usage none is) s = absurd (let t = ap (λ (x : Ended). x.status) is in omega (arith, t, s))
@@ -67,16 +67,16 @@ container_of contents c order e (BadScript line reason b is) s = absurd (let t =
 container_of contents c order e (Want is) s = absurd (let t = ap (λ (x : Ended). x.status) is in omega (arith, t, s))
 container_of contents c order e (BadContainer place b is) s = b
 container_of contents c order e (BadLength b is) s = absurd (omega (arith, is, s))
-container_of contents c order e (Success r) s = absurd (let t = ap (λ (x : Ended). x.status) r.is in let z = success_zero r.command r.script (secrets_held contents r.command) order in omega (arith, t, z, s))
+container_of contents c order e (Success r) s = absurd (let t = ap (λ (x : Ended). x.status) r.is in let z = success_zero r.command r.script (handed_held contents r.command) order in omega (arith, t, z, s))
 
-keys_of : (contents : List ℕ → Option (List ℕ)) (c : Option CommandSeen) (order : List ℕ) (e : Ended) → Due contents c order e → e.status ≡ 7 → IsBadLength contents c
+keys_of : (contents : List ℕ → Option (List ℕ)) (c : Option CommandSeen) (order : List ℕ) (e : Ended) → Due contents c order e → e.status ≡ 7 → IsBadKeysOrSecrets contents c
 keys_of contents c order e (Usage none is) s = absurd (let t = ap (λ (x : Ended). x.status) is in omega (arith, t, s))
 keys_of contents c order e (Absent name a is) s = absurd (let t = ap (λ (x : Ended). x.status) is in omega (arith, t, s))
 keys_of contents c order e (BadScript line reason b is) s = absurd (let t = ap (λ (x : Ended). x.status) is in omega (arith, t, s))
 keys_of contents c order e (Want is) s = absurd (let t = ap (λ (x : Ended). x.status) is in omega (arith, t, s))
 keys_of contents c order e (BadContainer place b is) s = absurd (let t = ap (λ (x : Ended). x.status) is in omega (arith, t, s))
 keys_of contents c order e (BadLength b is) s = b
-keys_of contents c order e (Success r) s = absurd (let t = ap (λ (x : Ended). x.status) r.is in let z = success_zero r.command r.script (secrets_held contents r.command) order in omega (arith, t, z, s))
+keys_of contents c order e (Success r) s = absurd (let t = ap (λ (x : Ended). x.status) r.is in let z = success_zero r.command r.script (handed_held contents r.command) order in omega (arith, t, z, s))
 
 no_four : (contents : List ℕ → Option (List ℕ)) (c : Option CommandSeen) (order : List ℕ) (e : Ended) → Due contents c order e → e.status ≢ 4
 no_four contents c order e (Usage none is) s = absurd (let t = ap (λ (x : Ended). x.status) is in omega (arith, t, s))
@@ -85,7 +85,7 @@ no_four contents c order e (BadScript line reason b is) s = absurd (let t = ap (
 no_four contents c order e (Want is) s = absurd (let t = ap (λ (x : Ended). x.status) is in omega (arith, t, s))
 no_four contents c order e (BadContainer place b is) s = absurd (let t = ap (λ (x : Ended). x.status) is in omega (arith, t, s))
 no_four contents c order e (BadLength b is) s = absurd (omega (arith, is, s))
-no_four contents c order e (Success r) s = absurd (let t = ap (λ (x : Ended). x.status) r.is in let z = success_zero r.command r.script (secrets_held contents r.command) order in omega (arith, t, z, s))
+no_four contents c order e (Success r) s = absurd (let t = ap (λ (x : Ended). x.status) r.is in let z = success_zero r.command r.script (handed_held contents r.command) order in omega (arith, t, z, s))
 
 -- ---- what is put
 
@@ -214,7 +214,7 @@ module _ (before after : Faults) (contents : List ℕ → Option (List ℕ)) (c 
   pub bad_container : status ≡ 6 → EndsWith before after contents c old new status → IsBadContainer contents c
   bad_container six h = let (e, order, d, own) = due_at 6 (λ q. omega (arith, q)) (λ q. omega (arith, q)) (λ q. omega (arith, q)) six h in container_of contents c order e d own
 
-  pub bad_length : status ≡ 7 → EndsWith before after contents c old new status → IsBadLength contents c
+  pub bad_length : status ≡ 7 → EndsWith before after contents c old new status → IsBadKeysOrSecrets contents c
   bad_length seven h = let (e, order, d, own) = due_at 7 (λ q. omega (arith, q)) (λ q. omega (arith, q)) (λ q. omega (arith, q)) seven h in keys_of contents c order e d own
 
   pub unread : status ≡ 3 → EndsWith before after contents c old new status → Rose before.reads after.reads ⊎ IsAbsent contents c

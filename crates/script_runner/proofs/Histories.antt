@@ -5,6 +5,7 @@ use Rattle.std.specs.Global.{Vec}
 use Rattle.script_text.specs.declared.faults.ScriptFault.{ScriptFault}
 use Rattle.script_text.specs.Reading.{read_of}
 use Rattle.script_text.specs.Seen.{ScriptSeen}
+use Rattle.script_text.specs.Needs.{needs_keys}
 use Rattle.bundle_store.specs.declared.outside.LoadFault.{LoadFault}
 use Rattle.bundle_store.specs.declared.outside.LoadFault.TheVariants as load
 use Rattle.bundle_store.specs.declared.outside.PutFault.{PutFault}
@@ -17,11 +18,11 @@ use Rattle.command_files.specs.declared.inputs.InputFault.TheVariants as fault
 use Rattle.command_files.specs.Inputs.{Reads}
 use Rattle.script_runner.specs.Ending.{ToSave, Ended, memory_end, keys_end, secrets_end, unwritten_end, success_end, ending_of}
 use Rattle.script_runner.specs.Saving.{Writes, AllSaved, out_names}
-use Rattle.script_runner.specs.Ends.{Faults, ReadCause, WriteCause, EndsWith, OneRun, IsBadScript, IsBadContainer, IsBadLength, IsComplete, PutsFrontsOf}
+use Rattle.script_runner.specs.Ends.{Faults, ReadCause, WriteCause, EndsWith, OneRun, IsBadScript, IsBadContainer, IsBadKeysOrSecrets, IsComplete, PutsFrontsOf}
 use Rattle.script_runner.specs.Done.{PutsOnce, PutsText, PutsRun, PutsAndSaved, PutsUsage, PutsFault, PutsName, PutsPlace, PutsLength, PutsKeysOrSecrets, PutsThreads, PutsLost, PutsMemory, SavesNothing, ChangesNothing, SavesFront, KeepsOrSaves}
 use Rattle.script_runner.specs.Commanded.{Comes, ComesPart, AnswerEnd, ScriptEnd, ReadEnd, FurtherPart, Outputs, Puts, DoesCommand}
 use Rattle.script_runner.proofs.Closing.{Closing, closing, saved_later, unput, never_zero, Told, Lost, Wanting, Whole, Unsaved, WantingAfter}
-use Rattle.script_runner.proofs.Came.{Came, LengthCame, came, files_few, rose_earlier, Usage, Unread, BadScript, Want, Place, WrongLength, Success}
+use Rattle.script_runner.proofs.Came.{Came, LengthCame, SomeLength, came, files_few, rose_earlier, Usage, Unread, BadScript, Want, Place, WrongLength, Success}
 use Rattle.script_runner.proofs.Told.{told_ending}
 use Rattle.script_runner.proofs.Endings.{ends_with, some_file, success_zero}
 use Rattle.script_runner.proofs.Endings as endings
@@ -30,15 +31,15 @@ use Rattle.script_runner.proofs.Endings as endings
 
 module _ (contents : Option (List ℕ → Option (List ℕ))) (c : Option CommandSeen) (r r' : Reads) (e : Ended) (puts puts' : List Put) where
   run_done : (answer : Result (Unit {0}) PutFault) → Came contents c r r' e → e.status ≡ 0 → PutsOnce puts e.text answer puts'
-      → (d : PutsRun c r.loads r'.loads puts puts' answer) × (e ≡ success_end d.command d.script d.secrets d.order)
+      → (d : PutsRun c r.loads r'.loads puts puts' answer) × (e ≡ success_end d.command d.script d.handed d.order)
   run_done a (Usage none same is) st p = absurd (let t = ap (λ (x : Ended). x.status) is in omega (arith, t, st))
   run_done a (Unread k is_c n named before answer loaded u rose is) st p = absurd (let t = ap (λ (x : Ended). x.status) is in omega (arith, t, st))
   run_done a (BadScript k is_c answer loaded line reason first is) st p = absurd (let t = ap (λ (x : Ended). x.status) is in omega (arith, t, st))
   run_done a (Want k is_c is) st p = absurd (let t = ap (λ (x : Ended). x.status) is in omega (arith, t, st))
   run_done a (Place k is_c o has n named before answer loaded place wrong is) st p = absurd (let t = ap (λ (x : Ended). x.status) is in omega (arith, t, st))
   run_done a (WrongLength which seven none) st p = absurd (omega (arith, seven, st))
-  run_done a (Success k is_c given loaded s reads secrets out order is_order is threads) st p =
-      (record { command = k; read_as = is_c; given = given; loaded = loaded; script = s; reads = reads; secrets = secrets; handed_out = out; order = order; is_order = is_order; prints = subst (λ (x : Ended). PutsOnce puts x.text a puts') is p }, is)
+  run_done a (Success k is_c given loaded s reads handed out order is_order is threads) st p =
+      (record { command = k; read_as = is_c; given = given; loaded = loaded; script = s; reads = reads; handed = handed; handed_out = out; order = order; is_order = is_order; prints = subst (λ (x : Ended). PutsOnce puts x.text a puts') is p }, is)
 
   usage_done : Came contents c r r' e → e.status ≡ 1 → PutsText puts e.text puts' → PutsUsage c r.loads r'.loads puts puts'
   usage_done (Usage none same is) st p = (none, same, subst (λ (x : Ended). PutsText puts x.text puts') is p)
@@ -47,7 +48,7 @@ module _ (contents : Option (List ℕ → Option (List ℕ))) (c : Option Comman
   usage_done (Want k is_c is) st p = absurd (let t = ap (λ (x : Ended). x.status) is in omega (arith, t, st))
   usage_done (Place k is_c o has n named before answer loaded place wrong is) st p = absurd (let t = ap (λ (x : Ended). x.status) is in omega (arith, t, st))
   usage_done (WrongLength which seven none) st p = absurd (omega (arith, seven, st))
-  usage_done (Success k is_c given loaded s reads secrets out order is_order is threads) st p = absurd (let t = ap (λ (x : Ended). x.status) is in let z = success_zero k s secrets order in omega (arith, t, z, st))
+  usage_done (Success k is_c given loaded s reads handed out order is_order is threads) st p = absurd (let t = ap (λ (x : Ended). x.status) is in let z = success_zero k s handed order in omega (arith, t, z, st))
 
   fault_done : Came contents c r r' e → e.status ≡ 2 → PutsText puts e.text puts' → PutsFault c r.loads r'.loads puts puts'
   fault_done (Usage none same is) st p = absurd (let t = ap (λ (x : Ended). x.status) is in omega (arith, t, st))
@@ -56,7 +57,7 @@ module _ (contents : Option (List ℕ → Option (List ℕ))) (c : Option Comman
   fault_done (Want k is_c is) st p = absurd (let t = ap (λ (x : Ended). x.status) is in omega (arith, t, st))
   fault_done (Place k is_c o has n named before answer loaded place wrong is) st p = absurd (let t = ap (λ (x : Ended). x.status) is in omega (arith, t, st))
   fault_done (WrongLength which seven none) st p = absurd (omega (arith, seven, st))
-  fault_done (Success k is_c given loaded s reads secrets out order is_order is threads) st p = absurd (let t = ap (λ (x : Ended). x.status) is in let z = success_zero k s secrets order in omega (arith, t, z, st))
+  fault_done (Success k is_c given loaded s reads handed out order is_order is threads) st p = absurd (let t = ap (λ (x : Ended). x.status) is in let z = success_zero k s handed order in omega (arith, t, z, st))
 
   name_done : Came contents c r r' e → e.status ≡ 3 → PutsText puts e.text puts' → PutsName c r.loads r'.loads puts puts'
   name_done (Usage none same is) st p = absurd (let t = ap (λ (x : Ended). x.status) is in omega (arith, t, st))
@@ -65,7 +66,7 @@ module _ (contents : Option (List ℕ → Option (List ℕ))) (c : Option Comman
   name_done (Want k is_c is) st p = absurd (let t = ap (λ (x : Ended). x.status) is in omega (arith, t, st))
   name_done (Place k is_c o has n named before answer loaded place wrong is) st p = absurd (let t = ap (λ (x : Ended). x.status) is in omega (arith, t, st))
   name_done (WrongLength which seven none) st p = absurd (omega (arith, seven, st))
-  name_done (Success k is_c given loaded s reads secrets out order is_order is threads) st p = absurd (let t = ap (λ (x : Ended). x.status) is in let z = success_zero k s secrets order in omega (arith, t, z, st))
+  name_done (Success k is_c given loaded s reads handed out order is_order is threads) st p = absurd (let t = ap (λ (x : Ended). x.status) is in let z = success_zero k s handed order in omega (arith, t, z, st))
 
   place_done : Came contents c r r' e → e.status ≡ 6 → PutsText puts e.text puts' → PutsPlace c r.loads r'.loads puts puts'
   place_done (Usage none same is) st p = absurd (let t = ap (λ (x : Ended). x.status) is in omega (arith, t, st))
@@ -74,7 +75,7 @@ module _ (contents : Option (List ℕ → Option (List ℕ))) (c : Option Comman
   place_done (Want k is_c is) st p = absurd (let t = ap (λ (x : Ended). x.status) is in omega (arith, t, st))
   place_done (Place k is_c o has n named before answer loaded place wrong is) st p = record { command = k; read_as = is_c; options = o; has = has; name = n; named = named; before = before; answer = answer; loaded = loaded; place = place; wrong = wrong; prints = subst (λ (x : Ended). PutsText puts x.text puts') is p }
   place_done (WrongLength which seven none) st p = absurd (omega (arith, seven, st))
-  place_done (Success k is_c given loaded s reads secrets out order is_order is threads) st p = absurd (let t = ap (λ (x : Ended). x.status) is in let z = success_zero k s secrets order in omega (arith, t, z, st))
+  place_done (Success k is_c given loaded s reads handed out order is_order is threads) st p = absurd (let t = ap (λ (x : Ended). x.status) is in let z = success_zero k s handed order in omega (arith, t, z, st))
 
   length_done : (file : NamedSeen → Option (List ℕ)) (count : ℕ) (f : InputFault) (told : Ended) → LengthCame file count f told c r r' e → PutsText puts e.text puts' → PutsLength file count f told c r.loads r'.loads puts puts'
   length_done file count f told l p = record {
@@ -98,8 +99,21 @@ module _ (contents : Option (List ℕ → Option (List ℕ))) (c : Option Comman
   keys_done (Want k is_c is) st p = absurd (let t = ap (λ (x : Ended). x.status) is in omega (arith, t, st))
   keys_done (Place k is_c o has n named before answer loaded place wrong is) st p = absurd (let t = ap (λ (x : Ended). x.status) is in omega (arith, t, st))
   keys_done (WrongLength (inl l) seven none) st p = inl (length_done (λ n. n.keys) 64 fault.Keys keys_end l p)
-  keys_done (WrongLength (inr l) seven none) st p = inr (length_done (λ n. n.secrets) 4096 fault.Secrets secrets_end l p)
-  keys_done (Success k is_c given loaded s reads secrets out order is_order is threads) st p = absurd (let t = ap (λ (x : Ended). x.status) is in let z = success_zero k s secrets order in omega (arith, t, z, st))
+  keys_done (WrongLength (inr (inl l)) seven none) st p = inr (inl (length_done (λ n. n.secrets) 4096 fault.Secrets secrets_end l p))
+  keys_done (WrongLength (inr (inr l)) seven none) st p = inr (inr (record {
+    command = l.command;
+    read_as = l.read_as;
+    options = l.options;
+    has = l.has;
+    given = l.given;
+    loaded = l.loaded;
+    script = l.script;
+    reads = l.reads;
+    needs = l.needs;
+    unnamed = l.unnamed;
+    prints = subst (λ (x : Ended). PutsText puts x.text puts') l.is p;
+  }))
+  keys_done (Success k is_c given loaded s reads handed out order is_order is threads) st p = absurd (let t = ap (λ (x : Ended). x.status) is in let z = success_zero k s handed order in omega (arith, t, z, st))
 
   memory_due : Came contents c r r' e → e.status ≡ 5 → e.text ≡ memory_end.text
   memory_due (Usage none same is) st = absurd (let t = ap (λ (x : Ended). x.status) is in omega (arith, t, st))
@@ -108,7 +122,7 @@ module _ (contents : Option (List ℕ → Option (List ℕ))) (c : Option Comman
   memory_due (Want k is_c is) st = ap (λ (x : Ended). x.text) is
   memory_due (Place k is_c o has n named before answer loaded place wrong is) st = absurd (let t = ap (λ (x : Ended). x.status) is in omega (arith, t, st))
   memory_due (WrongLength which seven none) st = absurd (omega (arith, seven, st))
-  memory_due (Success k is_c given loaded s reads secrets out order is_order is threads) st = absurd (let t = ap (λ (x : Ended). x.status) is in let z = success_zero k s secrets order in omega (arith, t, z, st))
+  memory_due (Success k is_c given loaded s reads handed out order is_order is threads) st = absurd (let t = ap (λ (x : Ended). x.status) is in let z = success_zero k s handed order in omega (arith, t, z, st))
 
   never_four : Came contents c r r' e → e.status ≢ 4
   never_four (Usage none same is) st = absurd (let t = ap (λ (x : Ended). x.status) is in omega (arith, t, st))
@@ -117,7 +131,7 @@ module _ (contents : Option (List ℕ → Option (List ℕ))) (c : Option Comman
   never_four (Want k is_c is) st = absurd (let t = ap (λ (x : Ended). x.status) is in omega (arith, t, st))
   never_four (Place k is_c o has n named before answer loaded place wrong is) st = absurd (let t = ap (λ (x : Ended). x.status) is in omega (arith, t, st))
   never_four (WrongLength which seven none) st = absurd (omega (arith, seven, st))
-  never_four (Success k is_c given loaded s reads secrets out order is_order is threads) st = absurd (let t = ap (λ (x : Ended). x.status) is in let z = success_zero k s secrets order in omega (arith, t, z, st))
+  never_four (Success k is_c given loaded s reads handed out order is_order is threads) st = absurd (let t = ap (λ (x : Ended). x.status) is in let z = success_zero k s handed order in omega (arith, t, z, st))
 
   rose_due : Came contents c r r' e → e.status ≡ 3 → IfNone contents (Rose r.faults r'.faults)
   rose_due (Usage none same is) st = absurd (let t = ap (λ (x : Ended). x.status) is in omega (arith, t, st))
@@ -126,12 +140,12 @@ module _ (contents : Option (List ℕ → Option (List ℕ))) (c : Option Comman
   rose_due (Want k is_c is) st = absurd (let t = ap (λ (x : Ended). x.status) is in omega (arith, t, st))
   rose_due (Place k is_c o has n named before answer loaded place wrong is) st = absurd (let t = ap (λ (x : Ended). x.status) is in omega (arith, t, st))
   rose_due (WrongLength which seven none) st = absurd (omega (arith, seven, st))
-  rose_due (Success k is_c given loaded s reads secrets out order is_order is threads) st = absurd (let t = ap (λ (x : Ended). x.status) is in let z = success_zero k s secrets order in omega (arith, t, z, st))
+  rose_due (Success k is_c given loaded s reads handed out order is_order is threads) st = absurd (let t = ap (λ (x : Ended). x.status) is in let z = success_zero k s handed order in omega (arith, t, z, st))
 
 -- each load, however far the call came
 script_part : (contents : Option (List ℕ → Option (List ℕ))) (c : CommandSeen) (s : ScriptSeen) (b r' : Reads) (e : Ended) → ScriptEnd contents c s b r' e → FurtherPart contents c b r'
-script_part contents (Replay n) s b r' e (res, takes, ends) = inr (res, takes)
-script_part contents (Run n) s b r' e (res, takes, ends) = inr (res, takes)
+script_part contents (Replay n) s b r' e (res, takes, ends) = inr (needs_keys s.calls, res, takes)
+script_part contents (Run n) s b r' e (res, takes, ends) = inr (needs_keys s.calls, res, takes)
 script_part contents (Check name) s b r' e h = inl h.0
 
 read_part : (contents : Option (List ℕ → Option (List ℕ))) (c : CommandSeen) (b r' : Reads) (read : Result ScriptSeen ScriptFault) (e : Ended) → ReadEnd contents c b r' read e → FurtherPart contents c b r'
@@ -352,7 +366,7 @@ module _ (names : List (List ℕ)) (e : Ended) (few : length e.files ≤ length 
         loaded = d.loaded;
         script = d.script;
         reads = d.reads;
-        secrets = d.secrets;
+        handed = d.handed;
         handed_out = d.handed_out;
         order = d.order;
         is_order = d.is_order;
@@ -382,8 +396,13 @@ usage_status contents c r r' e none (Unread k is_c n named before answer loaded 
 usage_status contents c r r' e none (BadScript k is_c answer loaded line reason first is) = absurd (cc)
 usage_status contents c r r' e none (Want k is_c is) = absurd (cc)
 usage_status contents c r r' e none (Place k is_c o has n named before answer loaded place wrong is) = absurd (cc)
-usage_status contents c r r' e none (WrongLength which seven no_file) = elim which [ inl l ↦ absurd (let q = l.read_as in cc) | inr l ↦ absurd (let q = l.read_as in cc) ]
-usage_status contents c r r' e none (Success k is_c given loaded s reads secrets out order is_order is threads) = absurd (cc)
+usage_status contents c r r' e none (WrongLength which seven no_file) = absurd (no_length which)
+  where
+    no_length : SomeLength c r r' e → ⊥
+    no_length (inl l) = let q = l.read_as in cc
+    no_length (inr (inl l)) = let q = l.read_as in cc
+    no_length (inr (inr l)) = let q = l.read_as in cc
+usage_status contents c r r' e none (Success k is_c given loaded s reads handed out order is_order is threads) = absurd (cc)
 
 if_some : {P Q : (List ℕ → Option (List ℕ)) → Type 0} (o : Option (List ℕ → Option (List ℕ))) → ((k : List ℕ → Option (List ℕ)) → P k → Q k) → IfSome o P → IfSome o Q
 if_some None f h = tt
@@ -431,7 +450,7 @@ module _ (contents : Option (List ℕ → Option (List ℕ))) (c : Option Comman
   threads_done e (Want k is_c is) st p all = absurd (let t = ap (λ (x : Ended). x.status) is in omega (arith, t, st))
   threads_done e (Place k is_c o has n named before answer loaded place wrong is) st p all = absurd (let t = ap (λ (x : Ended). x.status) is in omega (arith, t, st))
   threads_done e (WrongLength which seven none) st p all = absurd (omega (arith, seven, st))
-  threads_done e (Success k is_c given loaded s reads secrets out order is_order is threads) st p all = (
+  threads_done e (Success k is_c given loaded s reads handed out order is_order is threads) st p all = (
     record {
       command = k;
       read_as = is_c;
@@ -439,7 +458,7 @@ module _ (contents : Option (List ℕ → Option (List ℕ))) (c : Option Comman
       loaded = loaded;
       script = s;
       reads = reads;
-      secrets = secrets;
+      handed = handed;
       handed_out = out;
       order = order;
       is_order = is_order;
@@ -494,9 +513,14 @@ module _ (contents : Option (List ℕ → Option (List ℕ))) (c : Option Comman
           let none : named_of (Check name) ≡ Some n = subst (λ (x : CommandSeen). named_of x ≡ Some n) (sym same) has in
           cc
 
+      no_seven : PutsKeysOrSecrets c r.loads r'.loads o.puts o'.puts → ⊥
+      no_seven (inl q) = no_files q.command q.options q.read_as q.has
+      no_seven (inr (inl q)) = no_files q.command q.options q.read_as q.has
+      no_seven (inr (inr q)) = no_files q.command q.options q.read_as q.has
+
       by : (((status == 6) ≡ true) × (status ≡ 6)) ⊎ (((status == 6) ≡ false) × (status ≢ 6)) → (((status == 7) ≡ true) × (status ≡ 7)) ⊎ (((status == 7) ≡ false) × (status ≢ 7)) → status ≤ 5
       by (inl six) y = absurd (let q = put_place d six.1 in no_files q.command q.options q.read_as q.has)
-      by (inr not_six) (inl seven) = absurd (elim (put_keys d seven.1) [ inl q ↦ no_files q.command q.options q.read_as q.has | inr q ↦ no_files q.command q.options q.read_as q.has ])
+      by (inr not_six) (inl seven) = absurd (no_seven (put_keys d seven.1))
       by (inr not_six) (inr not_seven) = omega (arith, few, not_six.1, not_seven.1)
 
   abbrev Ends : (List ℕ → Option (List ℕ)) → Type 0
@@ -525,8 +549,8 @@ module _ (contents : Option (List ℕ → Option (List ℕ))) (c : Option Comman
   pub told_container : Does → status ≡ 6 → IfSome contents (λ k. IsBadContainer k c)
   told_container d s = if_some {P = Ends} {Q = λ k. IsBadContainer k c} contents (λ k h. endings.bad_container before after k c o.told o'.told status s h) (all_ends d)
 
-  pub told_keys : Does → status ≡ 7 → IfSome contents (λ k. IsBadLength k c)
-  told_keys d s = if_some {P = Ends} {Q = λ k. IsBadLength k c} contents (λ k h. endings.bad_length before after k c o.told o'.told status s h) (all_ends d)
+  pub told_keys : Does → status ≡ 7 → IfSome contents (λ k. IsBadKeysOrSecrets k c)
+  told_keys d s = if_some {P = Ends} {Q = λ k. IsBadKeysOrSecrets k c} contents (λ k h. endings.bad_length before after k c o.told o'.told status s h) (all_ends d)
 
   pub told_fronts : Does → (status ≡ 4) ⊎ (status ≡ 5) → IfSome contents (λ k. PutsFrontsOf k c o.told status o'.told)
   told_fronts d s =

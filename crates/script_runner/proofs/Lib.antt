@@ -10,3 +10,4 @@ pub mod Endings
 pub mod Histories
 pub mod Running
 pub mod Blind
+pub mod Unsaved

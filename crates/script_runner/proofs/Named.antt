@@ -1,8 +1,9 @@
 -- What a replay and a run have in common.
 use Rattle.std.proofs.Common.{◌≡◌, sym, ap, subst, ℕ, List, Option, Some}
 use Rattle.script_text.specs.Seen.{ScriptSeen}
+use Rattle.script_text.specs.Needs.{needs_keys}
 use Rattle.command_files.specs.Commands.{NamedSeen, CommandSeen, Replay, Run, Check, named_of, script_name}
-use Rattle.script_runner.specs.Ending.{run_end, success_end, wrong_input, command_wrong, secrets_named, named_end, script_end}
+use Rattle.script_runner.specs.Ending.{run_end, success_end, wrong_input, command_wrong, secrets_named, named_end, script_end, HandedOut, keys_named}
 use Rattle.script_runner.specs.Ends.{NamesInput, IsInput}
 
 pub script_of : (k : CommandSeen) (c : NamedSeen) → named_of k ≡ Some c → script_name k ≡ c.script
@@ -15,20 +16,25 @@ secrets_of (Replay n) c has = let same : n ≡ c = cc in ap (λ (x : NamedSeen).
 secrets_of (Run n) c has = let same : n ≡ c = cc in ap (λ (x : NamedSeen). x.secrets) same
 secrets_of (Check name) c has = absurd (cc)
 
+pub keys_of_command : (k : CommandSeen) (c : NamedSeen) → named_of k ≡ Some c → keys_named k ≡ c.keys
+keys_of_command (Replay n) c has = let same : n ≡ c = cc in ap (λ (x : NamedSeen). x.keys) same
+keys_of_command (Run n) c has = let same : n ≡ c = cc in ap (λ (x : NamedSeen). x.keys) same
+keys_of_command (Check name) c has = absurd (cc)
+
 pub input_of : (k : CommandSeen) (c : NamedSeen) (name : List ℕ) → named_of k ≡ Some c → NamesInput c name → IsInput k name
 input_of (Replay n) c name has h = let same : n ≡ c = cc in subst (λ (x : NamedSeen). NamesInput x name) (sym same) h
 input_of (Run n) c name has h = let same : n ≡ c = cc in subst (λ (x : NamedSeen). NamesInput x name) (sym same) h
 input_of (Check script) c name has h = absurd (cc)
 
-pub wrong_of : (contents : List ℕ → Option (List ℕ)) (k : CommandSeen) (c : NamedSeen) → named_of k ≡ Some c → command_wrong contents k ≡ wrong_input contents c
-wrong_of contents (Replay n) c has = let same : n ≡ c = cc in ap (wrong_input contents) same
-wrong_of contents (Run n) c has = let same : n ≡ c = cc in ap (wrong_input contents) same
-wrong_of contents (Check name) c has = absurd (cc)
+pub wrong_of : (contents : List ℕ → Option (List ℕ)) (s : ScriptSeen) (k : CommandSeen) (c : NamedSeen) → named_of k ≡ Some c → command_wrong contents s k ≡ wrong_input contents (needs_keys s.calls) c
+wrong_of contents s (Replay n) c has = let same : n ≡ c = cc in ap (wrong_input contents (needs_keys s.calls)) same
+wrong_of contents s (Run n) c has = let same : n ≡ c = cc in ap (wrong_input contents (needs_keys s.calls)) same
+wrong_of contents s (Check name) c has = absurd (cc)
 
-pub success_of : (k : CommandSeen) (c : NamedSeen) (s : ScriptSeen) (secrets : ℕ → ℕ) (order : List ℕ) → named_of k ≡ Some c → success_end k s secrets order ≡ run_end c s secrets order
-success_of (Replay n) c s secrets order has = let same : n ≡ c = cc in ap (λ (x : NamedSeen). run_end x s secrets order) same
-success_of (Run n) c s secrets order has = let same : n ≡ c = cc in ap (λ (x : NamedSeen). run_end x s secrets order) same
-success_of (Check name) c s secrets order has = absurd (cc)
+pub success_of : (k : CommandSeen) (c : NamedSeen) (s : ScriptSeen) (handed : HandedOut) (order : List ℕ) → named_of k ≡ Some c → success_end k s handed order ≡ run_end c s handed order
+success_of (Replay n) c s handed order has = let same : n ≡ c = cc in ap (λ (x : NamedSeen). run_end x s handed order) same
+success_of (Run n) c s handed order has = let same : n ≡ c = cc in ap (λ (x : NamedSeen). run_end x s handed order) same
+success_of (Check name) c s handed order has = absurd (cc)
 
 pub script_end_of : (contents : List ℕ → Option (List ℕ)) (k : CommandSeen) (c : NamedSeen) (s : ScriptSeen) (order : List ℕ) → named_of k ≡ Some c → script_end contents k s order ≡ named_end contents c s order
 script_end_of contents (Replay n) c s order has = let same : n ≡ c = cc in ap (λ (x : NamedSeen). named_end contents x s order) same

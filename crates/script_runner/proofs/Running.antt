@@ -1,37 +1,46 @@
 -- A run's texts are those that its ending puts and saves.
-use Rattle.std.proofs.Common.{◌≡◌, refl, ap, ℕ, List, [], ◌++◌, Option, Some, None, IfSome}
+use Rattle.std.proofs.Common.{◌≡◌, refl, ap, ℕ, List, ◌++◌, Option, Some, None, IfSome, slice_index}
 use Rattle.flat_core.specs.HostText.{host_text}
 use Rattle.flat_core.specs.GuestText.{guest_text}
+use Rattle.flat_core.specs.Opening.{Opening}
 use Rattle.script_text.specs.Seen.{ScriptSeen}
-use Rattle.bundle_store.specs.Containers.{container_bytes}
 use Rattle.command_files.specs.Commands.{NamedSeen, Replay, Run}
 use Rattle.run_texts.specs.Openings.{opening_of}
+use Rattle.run_texts.specs.Sealing.{bundles_text}
 use Rattle.run_texts.specs.Replaying.{TellAll}
 use Rattle.run_texts.specs.Threaded.{AreOfSomeRun, AreOfThreads}
 use Rattle.run_texts.specs.declared.replay.Texts.{Texts}
-use Rattle.script_runner.specs.Ending.{ToSave, file_named, both_files, run_end}
+use Rattle.script_runner.specs.Ending.{HandedOut, file_named, both_files, run_end}
 use Rattle.script_runner.specs.Threads.{texts_end}
 use Rattle.script_runner.specs.Commanded.{EndsRun}
 
--- the guest file's bytes count where it is named
+-- the bytes of a file count where it is named
 same-file : (name : Option (List ℕ)) (bytes told : List ℕ) → IfSome name (λ n. bytes ≡ told) → file_named name bytes ≡ file_named name told
 same-file None bytes told h = refl
 same-file (Some n) bytes told h = ap (file_named (Some n)) h
 
+-- these secret words and these two keys
+abbrev pub held : (secrets forward backward : List ℕ) → HandedOut
+held secrets forward backward = record { secrets = slice_index secrets; keys = record { forward = forward; backward = backward } }
+
+abbrev TellsRun : NamedSeen → ScriptSeen → HandedOut → List ℕ → Texts → Type 0
+TellsRun n s handed order t =
+    TellAll n.out_bundles n.guest_out (host_text (opening_of handed.secrets s) order) (bundles_text handed.keys.forward handed.keys.backward (opening_of handed.secrets s) order) (guest_text (opening_of handed.secrets s) order) t
+
 -- an ending of these texts is the run's
-text-ends : (n : NamedSeen) (s : ScriptSeen) (secrets : ℕ → ℕ) (order : List ℕ) (t : Texts) → TellAll n.guest_out (host_text (opening_of secrets s) order) (guest_text (opening_of secrets s) order) t
-    → texts_end n t ≡ run_end n s secrets order
-text-ends n s secrets order t h =
-    let files : both_files n.out_bundles n.guest_out t.guest.items ≡ both_files n.out_bundles n.guest_out (guest_text (opening_of secrets s) order) =
-    ap (λ (fs : List ToSave). file_named n.out_bundles (container_bytes []) ++ fs) (same-file n.guest_out t.guest.items (guest_text (opening_of secrets s) order) h.1) in
+text-ends : (n : NamedSeen) (s : ScriptSeen) (handed : HandedOut) (order : List ℕ) (t : Texts) → TellsRun n s handed order t → texts_end n t ≡ run_end n s handed order
+text-ends n s handed order t h =
+    let o : Opening = opening_of handed.secrets s in
+    let made : List ℕ = bundles_text handed.keys.forward handed.keys.backward o order in
+    let files : both_files n.out_bundles n.guest_out t.container.items t.guest.items ≡ both_files n.out_bundles n.guest_out made (guest_text o order) =
+    λ i. same-file n.out_bundles t.container.items made h.1 i ++ same-file n.guest_out t.guest.items (guest_text o order) h.2 i in
     λ i. record { status = 0; text = h.0 i; files = files i }
 
 -- a replay's texts are those of the run under its schedule
-pub replay-ends : (n : NamedSeen) (s : ScriptSeen) (secrets : ℕ → ℕ) (t : Texts) → TellAll n.guest_out (host_text (opening_of secrets s) s.schedule) (guest_text (opening_of secrets s) s.schedule) t
-    → EndsRun (Replay n) n s secrets (texts_end n t)
-replay-ends n s secrets t h = (s.schedule, refl, text-ends n s secrets s.schedule t h, tt)
+pub replay-ends : (n : NamedSeen) (s : ScriptSeen) (handed : HandedOut) (t : Texts) → TellsRun n s handed s.schedule t → EndsRun (Replay n) n s handed (texts_end n t)
+replay-ends n s handed t h = (s.schedule, refl, text-ends n s handed s.schedule t h, tt)
 
 -- those of threads are those of the run under some order
-pub threads-end : (n : NamedSeen) (s : ScriptSeen) (secrets : ℕ → ℕ) (t : Texts) → AreOfSomeRun (opening_of secrets s) n.guest_out t → AreOfThreads (opening_of secrets s) n.guest_out t
-    → EndsRun (Run n) n s secrets (texts_end n t)
-threads-end n s secrets t some threads = (some.schedule, some.processors, text-ends n s secrets some.schedule t some.told, (t, threads, refl))
+pub threads-end : (n : NamedSeen) (s : ScriptSeen) (handed : HandedOut) (t : Texts) → AreOfSomeRun (opening_of handed.secrets s) handed.keys.forward handed.keys.backward n.out_bundles n.guest_out t
+    → AreOfThreads (opening_of handed.secrets s) handed.keys.forward handed.keys.backward n.out_bundles n.guest_out t → EndsRun (Run n) n s handed (texts_end n t)
+threads-end n s handed t some threads = (some.schedule, some.processors, text-ends n s handed some.schedule t some.told, (t, threads, refl))

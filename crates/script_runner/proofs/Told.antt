@@ -1,5 +1,5 @@
 -- Where contents are told: what is loaded comes to the ending that is due, or a read fault was counted.
-use Rattle.std.proofs.Common.{◌≡◌, ◌⊎◌, inl, inr, refl, sym, ◌∙◌, ap, subst, ℕ, ◌*◌, ◌^◌, ◌<◌, ◌≤◌, List, [], length, drop, Option, Some, None, Result, Ok, Err, IfOk, true, false, ◌==◌, if◌then◌else◌, arith}
+use Rattle.std.proofs.Common.{◌≡◌, ◌⊎◌, inl, inr, refl, sym, ◌∙◌, ap, subst, ℕ, ◌*◌, ◌^◌, ◌<◌, ◌≤◌, List, [], length, drop, Option, Some, None, Result, Ok, Err, IfOk, Bool, true, false, ◌==◌, if◌then◌else◌, arith}
 use Rattle.std.specs.Global.{Vec}
 use Rattle.std.specs.Str.{bytes_eq}
 use Rattle.byteorder.specs.Endian.{little_number}
@@ -9,6 +9,7 @@ use Rattle.script_text.specs.declared.faults.Reason.TheVariants.{Length}
 use Rattle.script_text.specs.declared.faults.ScriptFault.{ScriptFault}
 use Rattle.script_text.specs.Reading.{read_of}
 use Rattle.script_text.specs.Seen.{ScriptSeen}
+use Rattle.script_text.specs.Needs.{needs_keys}
 use Rattle.bundle_store.specs.declared.outside.LoadFault.{LoadFault}
 use Rattle.bundle_store.specs.declared.outside.LoadFault.TheVariants as load
 use Rattle.bundle_store.specs.Outside.{Rose, LoadsTold}
@@ -19,8 +20,8 @@ use Rattle.command_files.specs.declared.inputs.InputFault.{InputFault}
 use Rattle.command_files.specs.declared.inputs.InputFault.TheVariants as fault
 use Rattle.command_files.specs.declared.inputs.Inputs.{Inputs}
 use Rattle.command_files.specs.Commands.{NamedSeen, CommandSeen, Replay, Run, Check, named_of, script_name}
-use Rattle.command_files.specs.Inputs.{Reads, Loads, LoadsNamed, LoadsNext, TakesInputs, AreSecrets, IsDue, due, load_fault, form_fault, container_fault, length_fault, secrets_fault, secret_word, place_fault, first}
-use Rattle.script_runner.specs.Ending.{Ended, bad_end, unread_end, run_end, name_in, input_name, held, absent_fault, container_wrong, length_wrong, form_wrong, wrong_input, held_word, inputs_end, named_end, script_end, read_end, ending_of, IsOrderOf, without}
+use Rattle.command_files.specs.Inputs.{Reads, Loads, LoadsNamed, LoadsNext, TakesInputs, AreSecrets, IsDue, due, load_fault, form_fault, container_fault, length_fault, keys_fault, secrets_fault, secret_word, place_fault, first, keys_in, keys_of}
+use Rattle.script_runner.specs.Ending.{Ended, bad_end, unread_end, run_end, name_in, input_name, held, absent_fault, container_wrong, length_wrong, keys_wrong, form_wrong, wrong_input, held_word, inputs_end, named_end, script_end, read_end, ending_of, IsOrderOf, without, HandedOut, held_by, held_keys, keys_or_none, no_keys}
 use Rattle.script_runner.specs.Ends.{Faults, IsEnding}
 use Rattle.script_runner.specs.Commanded.{Comes, AnswerEnd, ReadEnd, ScriptEnd, NamedEnd, InputsEnd}
 use Rattle.script_runner.proofs.Named.{script_end_of}
@@ -110,6 +111,13 @@ length_agrees i count g few contents (Some n) old (Some (Err load.TooLong)) new 
 length_agrees i count g few contents (Some n) old (Some (Err load.Failed)) new l fine = absurd (cc)
 length_agrees i count g few contents (Some n) old (Some (Err load.OutOfMemory)) new l fine = absurd (cc)
 
+keys_agree : (needed : Bool) (contents : List ℕ → Option (List ℕ)) (name : Option (List ℕ)) (old : Reads) (a : Option (Result (Vec ℕ) LoadFault)) (new : Reads)
+    → LoadsNamed (Some contents) (2 ^ 16) name old a new → load_fault input.Keys a ≡ None → keys_fault needed a ≡ keys_wrong needed (held contents name)
+keys_agree needed contents None old None new h fine = refl
+keys_agree needed contents None old (Some x) new h fine = absurd h
+keys_agree needed contents (Some n) old None new h fine = absurd h
+keys_agree needed contents (Some n) old (Some x) new h fine = length_agrees input.Keys 64 fault.Keys (omega arith) contents (Some n) old (Some x) new h fine
+
 -- the secret words that were handed out are those that the named file has
 words_agree : (contents : List ℕ → Option (List ℕ)) (name : Option (List ℕ)) (old : Reads) (a : Option (Result (Vec ℕ) LoadFault)) (new : Reads)
     → LoadsNamed (Some contents) (2 ^ 16) name old a new → load_fault input.Secrets a ≡ None → secrets_fault a ≡ None → (i : ℕ) → secret_word a i ≡ held_word (held contents name) i
@@ -126,17 +134,37 @@ words_agree contents (Some n) old (Some (Err load.TooLong)) new l fine right i =
 words_agree contents (Some n) old (Some (Err load.Failed)) new l fine right i = absurd (cc)
 words_agree contents (Some n) old (Some (Err load.OutOfMemory)) new l fine right i = absurd (cc)
 
+-- and so are the keys
+key_bytes_agree : (contents : List ℕ → Option (List ℕ)) (name : Option (List ℕ)) (old : Reads) (a : Option (Result (Vec ℕ) LoadFault)) (new : Reads) (needed : Bool)
+    → LoadsNamed (Some contents) (2 ^ 16) name old a new → load_fault input.Keys a ≡ None → keys_fault needed a ≡ None → keys_or_none (keys_in a) ≡ held_keys (held contents name)
+key_bytes_agree contents None old None new needed h fine right = refl
+key_bytes_agree contents None old (Some x) new needed h fine right = absurd h
+key_bytes_agree contents (Some n) old None new needed h fine right = absurd h
+key_bytes_agree contents (Some n) old (Some (Ok v)) new needed l fine right = by (contents n) refl l.told
+  where
+    by : (q : Option (List ℕ)) → contents n ≡ q → LoadsTold q (2 ^ 16) (Ok v) → keys_of v.items ≡ held_keys (Some (contents n))
+    by None e told = absurd told
+    by (Some bytes) e told = rw e (ap keys_of told.0)
+key_bytes_agree contents (Some n) old (Some (Err load.Absent)) new needed l fine right = absurd (cc)
+key_bytes_agree contents (Some n) old (Some (Err load.TooLong)) new needed l fine right = absurd (cc)
+key_bytes_agree contents (Some n) old (Some (Err load.Failed)) new needed l fine right = absurd (cc)
+key_bytes_agree contents (Some n) old (Some (Err load.OutOfMemory)) new needed l fine right = absurd (cc)
+
 -- ---- all inputs
 
+-- nothing of a run, where no script is run
+nothing_handed : HandedOut
+nothing_handed = record { secrets = λ i. 0; keys = no_keys }
+
 -- the ending is that of the fault that is due, where there is one
-fault_by : (k : CommandSeen) (c : NamedSeen) (s : ScriptSeen) (secrets : ℕ → ℕ) (order : List ℕ) (d : Option InputFault) (f : InputFault) (res : Result Inputs InputFault) (e : Ended) → d ≡ Some f → IsDue d res
-    → InputsEnd k c s res e → e ≡ inputs_end c s secrets order d
-fault_by k c s secrets order d f (Ok t) e some is h = absurd (cc)
-fault_by k c s secrets order d f (Err (fault.Unread i)) e some is h = rw is h
-fault_by k c s secrets order d f (Err (fault.Container place)) e some is h = rw is h
-fault_by k c s secrets order d f (Err fault.Keys) e some is h = rw is h
-fault_by k c s secrets order d f (Err fault.Secrets) e some is h = rw is h
-fault_by k c s secrets order d f (Err fault.OutOfMemory) e some is h = absurd h
+fault_by : (k : CommandSeen) (c : NamedSeen) (s : ScriptSeen) (handed : HandedOut) (order : List ℕ) (d : Option InputFault) (f : InputFault) (res : Result Inputs InputFault) (e : Ended) → d ≡ Some f → IsDue d res
+    → InputsEnd k c s res e → e ≡ inputs_end c s handed order d
+fault_by k c s handed order d f (Ok t) e some is h = absurd (cc)
+fault_by k c s handed order d f (Err (fault.Unread i)) e some is h = rw is h
+fault_by k c s handed order d f (Err (fault.Container place)) e some is h = rw is h
+fault_by k c s handed order d f (Err fault.Keys) e some is h = rw is h
+fault_by k c s handed order d f (Err fault.Secrets) e some is h = rw is h
+fault_by k c s handed order d f (Err fault.OutOfMemory) e some is h = absurd h
 
 never_wanting : (k : CommandSeen) (c : NamedSeen) (s : ScriptSeen) (d : Option InputFault) (res : Result Inputs InputFault) (e : Ended) → d ≡ Some fault.OutOfMemory → IsDue d res → InputsEnd k c s res e → ⊥
 never_wanting k c s d (Ok t) e want is h = cc
@@ -147,14 +175,16 @@ never_wanting k c s d (Err fault.Secrets) e want is h = cc
 never_wanting k c s d (Err fault.OutOfMemory) e want is h = h
 
 -- a run's ending, where no fault is due
-run_by : (k : CommandSeen) (c : NamedSeen) (s : ScriptSeen) (d : Option InputFault) (a : Option (Result (Vec ℕ) LoadFault)) (res : Result Inputs InputFault) (e : Ended) → d ≡ None → IsDue d res
-    → IfOk res (λ inputs. AreSecrets a inputs.secrets.items) → InputsEnd k c s res e → (order : List ℕ) × IsOrderOf k s order × (e ≡ run_end c s (secret_word a) order)
-run_by k c s d a (Ok inputs) e none is words (order, is_order, ends, threads) = (order, is_order, ends ∙ ap (λ (w : ℕ → ℕ). run_end c s w order) (λ x i. words.each i x))
-run_by k c s d a (Err (fault.Unread i)) e none is words h = absurd (cc)
-run_by k c s d a (Err (fault.Container place)) e none is words h = absurd (cc)
-run_by k c s d a (Err fault.Keys) e none is words h = absurd (cc)
-run_by k c s d a (Err fault.Secrets) e none is words h = absurd (cc)
-run_by k c s d a (Err fault.OutOfMemory) e none is words h = absurd h
+run_by : (k : CommandSeen) (c : NamedSeen) (s : ScriptSeen) (d : Option InputFault) (a b : Option (Result (Vec ℕ) LoadFault)) (res : Result Inputs InputFault) (e : Ended) → d ≡ None → IsDue d res
+    → IfOk res (λ inputs. AreSecrets a inputs.secrets.items) → IfOk res (λ inputs. inputs.keys ≡ keys_in b) → InputsEnd k c s res e
+    → (order : List ℕ) × IsOrderOf k s order × (e ≡ run_end c s (record { secrets = secret_word a; keys = keys_or_none (keys_in b) }) order)
+run_by k c s d a b (Ok inputs) e none is words key_bytes (order, is_order, ends, threads) =
+    (order, is_order, ends ∙ (λ x. run_end c s (record { secrets = λ i. words.each i x; keys = keys_or_none (key_bytes x) }) order))
+run_by k c s d a b (Err (fault.Unread i)) e none is words key_bytes h = absurd (cc)
+run_by k c s d a b (Err (fault.Container place)) e none is words key_bytes h = absurd (cc)
+run_by k c s d a b (Err fault.Keys) e none is words key_bytes h = absurd (cc)
+run_by k c s d a b (Err fault.Secrets) e none is words key_bytes h = absurd (cc)
+run_by k c s d a b (Err fault.OutOfMemory) e none is words key_bytes h = absurd h
 
 -- the first of four faults, of which the first three are those of names that aren't there
 at_first : (x y z w : Option InputFault) (f : InputFault) → x ≡ Some f → first (first x (first y z)) w ≡ Some f
@@ -197,32 +227,35 @@ data ToldInputs (contents : List ℕ → Option (List ℕ)) (k : CommandSeen) (c
   Wrong : ((order : List ℕ) → e ≡ named_end contents c s order) → ToldInputs contents k c s b r' e
   Fails : InputFailed contents c s b r' e → ToldInputs contents k c s b r' e
 
-module _ (contents : List ℕ → Option (List ℕ)) (k : CommandSeen) (c : NamedSeen) (s : ScriptSeen) (b r' : Reads) (res : Result Inputs InputFault) (e : Ended) (t : TakesInputs (Some contents) c b r' res)
+module _ (contents : List ℕ → Option (List ℕ)) (k : CommandSeen) (c : NamedSeen) (s : ScriptSeen) (b r' : Reads) (res : Result Inputs InputFault) (e : Ended) (t : TakesInputs (Some contents) (needs_keys s.calls) c b r' res)
     (ends : InputsEnd k c s res e) where
+  abbrev needed : Bool
+  needed = needs_keys s.calls
+
   abbrev Told : Type 0
   Told = ToldInputs contents k c s b r' e
 
   -- a fault that is due by what was loaded is due by what names have
-  faulty : (f : InputFault) → due t.bundles t.keys t.secrets ≡ Some f → wrong_input contents c ≡ Some f → Told
+  faulty : (f : InputFault) → due needed t.bundles t.keys t.secrets ≡ Some f → wrong_input contents needed c ≡ Some f → Told
   faulty f d w =
-      Wrong (λ order. fault_by k c s (held_word (held contents c.secrets)) order (due t.bundles t.keys t.secrets) f res e d t.is_due ends
-      ∙ ap (λ (x : Option InputFault). inputs_end c s (held_word (held contents c.secrets)) order x) (d ∙ sym w))
+      Wrong (λ order. fault_by k c s (held_by contents c.secrets c.keys) order (due needed t.bundles t.keys t.secrets) f res e d t.is_due ends
+      ∙ ap (λ (x : Option InputFault). inputs_end c s (held_by contents c.secrets c.keys) order x) (d ∙ sym w))
 
   -- reading failed under that name, which is an input's, and that of the first one that isn't there without it
-  failed : (i j : Input) (n : List ℕ) → input_name c i ≡ n → due t.bundles t.keys t.secrets ≡ Some (fault.Unread i) → input_name c j ≡ n → wrong_input (without n contents) c ≡ Some (fault.Unread j) → Rose b.faults r'.faults
+  failed : (i j : Input) (n : List ℕ) → input_name c i ≡ n → due needed t.bundles t.keys t.secrets ≡ Some (fault.Unread i) → input_name c j ≡ n → wrong_input (without n contents) needed c ≡ Some (fault.Unread j) → Rose b.faults r'.faults
       → Told
   failed i j n named d named' w rose =
       let told : e ≡ unread_end n =
-      fault_by k c s (λ i. 0) [] (due t.bundles t.keys t.secrets) (fault.Unread i) res e d t.is_due ends ∙ ap (λ (x : Option InputFault). inputs_end c s (λ i. 0) [] x) d ∙ ap unread_end named in
+      fault_by k c s nothing_handed [] (due needed t.bundles t.keys t.secrets) (fault.Unread i) res e d t.is_due ends ∙ ap (λ (x : Option InputFault). inputs_end c s nothing_handed [] x) d ∙ ap unread_end named in
       Fails (record {
         name = n;
         told = told;
-        due = λ order. told ∙ ap unread_end (sym named') ∙ sym (ap (λ (x : Option InputFault). inputs_end c s (held_word (held (without n contents) c.secrets)) order x) w);
+        due = λ order. told ∙ ap unread_end (sym named') ∙ sym (ap (λ (x : Option InputFault). inputs_end c s (held_by (without n contents) c.secrets c.keys) order x) w);
         rose = rose;
       })
 
-  wanting : due t.bundles t.keys t.secrets ≡ Some fault.OutOfMemory → Told
-  wanting d = absurd (never_wanting k c s (due t.bundles t.keys t.secrets) res e d t.is_due ends)
+  wanting : due needed t.bundles t.keys t.secrets ≡ Some fault.OutOfMemory → Told
+  wanting d = absurd (never_wanting k c s (due needed t.bundles t.keys t.secrets) res e d t.is_due ends)
 
   abbrev not_bundles : Option InputFault
   not_bundles = load_fault input.Bundles t.bundles
@@ -234,7 +267,7 @@ module _ (contents : List ℕ → Option (List ℕ)) (k : CommandSeen) (c : Name
   not_secrets = load_fault input.Secrets t.secrets
 
   abbrev no_form : Option InputFault
-  no_form = form_fault t.bundles t.keys t.secrets
+  no_form = form_fault needed t.bundles t.keys t.secrets
 
   -- the same of what names have
   abbrev gone_bundles : (List ℕ → Option (List ℕ)) → Option InputFault
@@ -247,26 +280,26 @@ module _ (contents : List ℕ → Option (List ℕ)) (k : CommandSeen) (c : Name
   gone_secrets k = absent_fault input.Secrets (held k c.secrets)
 
   abbrev wrong_form : (List ℕ → Option (List ℕ)) → Option InputFault
-  wrong_form k = form_wrong (held k c.bundles) (held k c.keys) (held k c.secrets)
+  wrong_form k = form_wrong needed (held k c.bundles) (held k c.keys) (held k c.secrets)
 
   -- the fault of the first input, of the second and of the third, by what was loaded and by what names have
-  loaded_first : (f : InputFault) → load_fault input.Bundles t.bundles ≡ Some f → due t.bundles t.keys t.secrets ≡ Some f
+  loaded_first : (f : InputFault) → load_fault input.Bundles t.bundles ≡ Some f → due needed t.bundles t.keys t.secrets ≡ Some f
   loaded_first f h = at_first not_bundles not_keys not_secrets no_form f h
 
-  loaded_second : (f : InputFault) → load_fault input.Bundles t.bundles ≡ None → load_fault input.Keys t.keys ≡ Some f → due t.bundles t.keys t.secrets ≡ Some f
+  loaded_second : (f : InputFault) → load_fault input.Bundles t.bundles ≡ None → load_fault input.Keys t.keys ≡ Some f → due needed t.bundles t.keys t.secrets ≡ Some f
   loaded_second f none h = at_second not_bundles not_keys not_secrets no_form f none h
 
-  loaded_third : (f : InputFault) → load_fault input.Bundles t.bundles ≡ None → load_fault input.Keys t.keys ≡ None → load_fault input.Secrets t.secrets ≡ Some f → due t.bundles t.keys t.secrets ≡ Some f
+  loaded_third : (f : InputFault) → load_fault input.Bundles t.bundles ≡ None → load_fault input.Keys t.keys ≡ None → load_fault input.Secrets t.secrets ≡ Some f → due needed t.bundles t.keys t.secrets ≡ Some f
   loaded_third f none none' h = at_third not_bundles not_keys not_secrets no_form f none none' h
 
-  named_first : (k : List ℕ → Option (List ℕ)) (f : InputFault) → absent_fault input.Bundles (held k c.bundles) ≡ Some f → wrong_input k c ≡ Some f
+  named_first : (k : List ℕ → Option (List ℕ)) (f : InputFault) → absent_fault input.Bundles (held k c.bundles) ≡ Some f → wrong_input k needed c ≡ Some f
   named_first k f h = at_first (gone_bundles k) (gone_keys k) (gone_secrets k) (wrong_form k) f h
 
-  named_second : (k : List ℕ → Option (List ℕ)) (f : InputFault) → absent_fault input.Bundles (held k c.bundles) ≡ None → absent_fault input.Keys (held k c.keys) ≡ Some f → wrong_input k c ≡ Some f
+  named_second : (k : List ℕ → Option (List ℕ)) (f : InputFault) → absent_fault input.Bundles (held k c.bundles) ≡ None → absent_fault input.Keys (held k c.keys) ≡ Some f → wrong_input k needed c ≡ Some f
   named_second k f none h = at_second (gone_bundles k) (gone_keys k) (gone_secrets k) (wrong_form k) f none h
 
   named_third : (k : List ℕ → Option (List ℕ)) (f : InputFault) → absent_fault input.Bundles (held k c.bundles) ≡ None → absent_fault input.Keys (held k c.keys) ≡ None
-      → absent_fault input.Secrets (held k c.secrets) ≡ Some f → wrong_input k c ≡ Some f
+      → absent_fault input.Secrets (held k c.secrets) ≡ Some f → wrong_input k needed c ≡ Some f
   named_third k f none none' h = at_third (gone_bundles k) (gone_keys k) (gone_secrets k) (wrong_form k) f none none' h
 
   bundles_later : b.faults ≤ t.behind_bundles.faults
@@ -287,34 +320,36 @@ module _ (contents : List ℕ → Option (List ℕ)) (k : CommandSeen) (c : Name
 
   -- the forms are those of what names have
   forms : load_fault input.Bundles t.bundles ≡ None → load_fault input.Keys t.keys ≡ None → load_fault input.Secrets t.secrets ≡ None
-      → form_fault t.bundles t.keys t.secrets ≡ form_wrong (held contents c.bundles) (held contents c.keys) (held contents c.secrets)
+      → form_fault needed t.bundles t.keys t.secrets ≡ form_wrong needed (held contents c.bundles) (held contents c.keys) (held contents c.secrets)
   forms fine fine' fine'' =
-      ap (λ (x : Option InputFault). first x (first (length_fault 64 fault.Keys t.keys) (length_fault 4096 fault.Secrets t.secrets))) (container_agrees contents c.bundles b t.bundles t.behind_bundles t.bundles_loaded fine)
+      ap (λ (x : Option InputFault). first x (first (keys_fault needed t.keys) (length_fault 4096 fault.Secrets t.secrets))) (container_agrees contents c.bundles b t.bundles t.behind_bundles t.bundles_loaded fine)
       ∙ ap (λ (x : Option InputFault). first (container_wrong (held contents c.bundles)) (first x (length_fault 4096 fault.Secrets t.secrets)))
-      (length_agrees input.Keys 64 fault.Keys (omega arith) contents c.keys t.behind_bundles t.keys t.behind_keys (keys_named fine) fine')
-      ∙ ap (λ (x : Option InputFault). first (container_wrong (held contents c.bundles)) (first (length_wrong 64 fault.Keys (held contents c.keys)) x))
+      (keys_agree needed contents c.keys t.behind_bundles t.keys t.behind_keys (keys_named fine) fine')
+      ∙ ap (λ (x : Option InputFault). first (container_wrong (held contents c.bundles)) (first (keys_wrong needed (held contents c.keys)) x))
       (length_agrees input.Secrets 4096 fault.Secrets (omega arith) contents c.secrets t.behind_keys t.secrets r' (secrets_loaded fine fine') fine'')
 
   -- all inputs are there
   all_there : load_fault input.Bundles t.bundles ≡ None → absent_fault input.Bundles (held contents c.bundles) ≡ None → load_fault input.Keys t.keys ≡ None → absent_fault input.Keys (held contents c.keys) ≡ None
       → load_fault input.Secrets t.secrets ≡ None → absent_fault input.Secrets (held contents c.secrets) ≡ None → Told
-  all_there fine there fine' there' fine'' there'' = by (due t.bundles t.keys t.secrets) refl
+  all_there fine there fine' there' fine'' there'' = by (due needed t.bundles t.keys t.secrets) refl
     where
-      loaded_is : due t.bundles t.keys t.secrets ≡ form_fault t.bundles t.keys t.secrets
+      loaded_is : due needed t.bundles t.keys t.secrets ≡ form_fault needed t.bundles t.keys t.secrets
       loaded_is = at_last not_bundles not_keys not_secrets no_form fine fine' fine''
 
-      same : due t.bundles t.keys t.secrets ≡ wrong_input contents c
+      same : due needed t.bundles t.keys t.secrets ≡ wrong_input contents needed c
       same = loaded_is ∙ forms fine fine' fine'' ∙ sym (at_last (gone_bundles contents) (gone_keys contents) (gone_secrets contents) (wrong_form contents) there there' there'')
 
-      by : (d : Option InputFault) → due t.bundles t.keys t.secrets ≡ d → Told
+      by : (d : Option InputFault) → due needed t.bundles t.keys t.secrets ≡ d → Told
       by (Some f) d = faulty f d (sym same ∙ d)
       by None d =
-          let (order, is_order, is) = run_by k c s (due t.bundles t.keys t.secrets) t.secrets res e d t.is_due t.words ends in
+          let (order, is_order, is) = run_by k c s (due needed t.bundles t.keys t.secrets) t.secrets t.keys res e d t.is_due t.words t.key_bytes ends in
           let right : secrets_fault t.secrets ≡ None = (first_none _ _ (first_none _ _ (sym loaded_is ∙ d)).1).1 in
+          let right' : keys_fault needed t.keys ≡ None = (first_none _ _ (first_none _ _ (sym loaded_is ∙ d)).1).0 in
+          let same_keys : keys_or_none (keys_in t.keys) ≡ held_keys (held contents c.keys) = key_bytes_agree contents c.keys t.behind_bundles t.keys t.behind_keys needed (keys_named fine) fine' right' in
           let words : secret_word t.secrets ≡ held_word (held contents c.secrets) = λ x i. words_agree contents c.secrets t.behind_keys t.secrets r' (secrets_loaded fine fine') fine'' right i x in
-          let none : None ≡ wrong_input contents c = sym d ∙ same in
+          let none : None ≡ wrong_input contents needed c = sym d ∙ same in
           Ran order is_order
-          (is ∙ ap (λ (w : ℕ → ℕ). run_end c s w order) words ∙ ap (λ (x : Option InputFault). inputs_end c s (held_word (held contents c.secrets)) order x) none)
+          (is ∙ (λ x. run_end c s (record { secrets = words x; keys = same_keys x }) order) ∙ ap (λ (x : Option InputFault). inputs_end c s (held_by contents c.secrets c.keys) order x) none)
 
   by_secrets : load_fault input.Bundles t.bundles ≡ None → absent_fault input.Bundles (held contents c.bundles) ≡ None → load_fault input.Keys t.keys ≡ None → absent_fault input.Keys (held contents c.keys) ≡ None
       → Beside input.Secrets contents c.secrets t.secrets t.behind_keys.faults r'.faults → Told
@@ -323,7 +358,7 @@ module _ (contents : List ℕ → Option (List ℕ)) (k : CommandSeen) (c : Name
   by_secrets fine there fine' there' (Wanting l) = wanting (loaded_third fault.OutOfMemory fine fine' l)
   by_secrets fine there fine' there' (Failed n named l rose) = of (before_gone input.Bundles n contents c.bundles there)
     where
-      d : due t.bundles t.keys t.secrets ≡ Some (fault.Unread input.Secrets)
+      d : due needed t.bundles t.keys t.secrets ≡ Some (fault.Unread input.Secrets)
       d = loaded_third (fault.Unread input.Secrets) fine fine' l
 
       rises : Rose b.faults r'.faults
@@ -344,7 +379,7 @@ module _ (contents : List ℕ → Option (List ℕ)) (k : CommandSeen) (c : Name
   by_keys fine there (Wanting l) = wanting (loaded_second fault.OutOfMemory fine l)
   by_keys fine there (Failed n named l rose) = of (before_gone input.Bundles n contents c.bundles there)
     where
-      d : due t.bundles t.keys t.secrets ≡ Some (fault.Unread input.Keys)
+      d : due needed t.bundles t.keys t.secrets ≡ Some (fault.Unread input.Keys)
       d = loaded_second (fault.Unread input.Keys) fine l
 
       rises : Rose b.faults r'.faults

@@ -7,6 +7,7 @@ use Rattle.isol_laws.specs.Worlds.{blind_run, public_bundles}
 use Rattle.script_text.specs.Seen.{ScriptSeen}
 use Rattle.command_files.specs.Commands.{CommandSeen, Replay, Run, Check}
 use Rattle.run_texts.specs.Openings.{opening_of}
+use Rattle.script_runner.specs.Ending.{HandedOut}
 
 -- A text is that of the run with every private word 0, in which each word that is told is the next of those that the first run
 -- tells, and their bundles have the same public part; and so it is that of every run whose opening agrees on all that is
@@ -17,7 +18,7 @@ pub record IsBlind (o : Opening) (order text : List ℕ) : Type 0 where
   pub others : (q : Opening) → Agree o q → told_in (run o order) ≡ told_in (run q order) → text ≡ host_text q order
 
 -- the text of a replay or a run is so; check runs nothing
-abbrev pub HasBlindText : CommandSeen → ScriptSeen → (secrets : ℕ → ℕ) → (order text : List ℕ) → Type 0
-HasBlindText (Replay n) s secrets order text = IsBlind (opening_of secrets s) order text
-HasBlindText (Run n) s secrets order text = IsBlind (opening_of secrets s) order text
-HasBlindText (Check name) s secrets order text = Unit {0}
+abbrev pub HasBlindText : CommandSeen → ScriptSeen → HandedOut → (order text : List ℕ) → Type 0
+HasBlindText (Replay n) s handed order text = IsBlind (opening_of handed.secrets s) order text
+HasBlindText (Run n) s handed order text = IsBlind (opening_of handed.secrets s) order text
+HasBlindText (Check name) s handed order text = Unit {0}

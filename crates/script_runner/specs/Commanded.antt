@@ -1,10 +1,11 @@
 -- What a command comes to, with the files that its options name: what is loaded, put and saved.
-use Rattle.std.specs.Prelude.{◌≡◌, ◌≢◌, ◌⊎◌, ℕ, ◌^◌, ◌≤◌, List, [], ◌∷◌, slice_index, Option, Some, None, Result, Ok, Err}
+use Rattle.std.specs.Prelude.{◌≡◌, ◌≢◌, ◌⊎◌, ℕ, ◌^◌, ◌≤◌, List, [], ◌∷◌, slice_index, Bool, Option, Some, None, Result, Ok, Err}
 use Rattle.std.specs.Global.{Vec}
 use Rattle.script_text.specs.declared.faults.Reason.TheVariants.{Length}
 use Rattle.script_text.specs.declared.faults.ScriptFault.{ScriptFault}
 use Rattle.script_text.specs.Reading.{read_of}
 use Rattle.script_text.specs.Seen.{ScriptSeen}
+use Rattle.script_text.specs.Needs.{needs_keys}
 use Rattle.bundle_store.specs.declared.outside.LoadFault.{LoadFault}
 use Rattle.bundle_store.specs.declared.outside.LoadFault.TheVariants as load
 use Rattle.bundle_store.specs.declared.outside.SaveFault.{SaveFault}
@@ -18,7 +19,7 @@ use Rattle.command_files.specs.declared.inputs.InputFault.TheVariants as fault
 use Rattle.command_files.specs.declared.inputs.Inputs.{Inputs}
 use Rattle.command_files.specs.Commands.{NamedSeen, CommandSeen, Replay, Run, Check, script_name}
 use Rattle.command_files.specs.Inputs.{Reads, Loads, TakesInputs}
-use Rattle.script_runner.specs.Ending.{ToSave, Ended, usage_end, bad_end, unread_end, memory_end, run_end, check_end, fault_end, container_end, keys_end, secrets_end, unwritten_end, input_name, IsOrderOf}
+use Rattle.script_runner.specs.Ending.{ToSave, Ended, HandedOut, keys_or_none, usage_end, bad_end, unread_end, memory_end, run_end, check_end, fault_end, container_end, keys_end, secrets_end, unwritten_end, input_name, IsOrderOf}
 use Rattle.script_runner.specs.Saving.{Writes, Saves}
 use Rattle.script_runner.specs.Threads.{ThreadsOf}
 use Rattle.script_runner.specs.Ends.{unput_status}
@@ -26,13 +27,17 @@ use Rattle.script_runner.specs.Done.{PutsOnce}
 
 -- ---- the ending that is due by what was loaded
 
--- a script was run with these secret words, under an order of its events, which for a run is what its threads did
-abbrev pub EndsRun : CommandSeen → NamedSeen → ScriptSeen → (secrets : ℕ → ℕ) → Ended → Type 0
-EndsRun c n s secrets e = (order : List ℕ) × IsOrderOf c s order × (e ≡ run_end n s secrets order) × ThreadsOf c s secrets e
+-- a script was run with these secret words and keys, under an order of its events, which for a run is what its threads did
+abbrev pub EndsRun : CommandSeen → NamedSeen → ScriptSeen → HandedOut → Ended → Type 0
+EndsRun c n s handed e = (order : List ℕ) × IsOrderOf c s order × (e ≡ run_end n s handed order) × ThreadsOf c s handed e
+
+-- what inputs hand out
+abbrev pub handed_in : Inputs → HandedOut
+handed_in inputs = record { secrets = slice_index inputs.secrets.items; keys = keys_or_none inputs.keys }
 
 -- a script is run where the inputs have no fault, and else that fault is told; want of memory is no ending
 abbrev pub InputsEnd : CommandSeen → NamedSeen → ScriptSeen → Result Inputs InputFault → Ended → Type 0
-InputsEnd c n s (Ok inputs) e = EndsRun c n s (slice_index inputs.secrets.items) e
+InputsEnd c n s (Ok inputs) e = EndsRun c n s (handed_in inputs) e
 InputsEnd c n s (Err (fault.Unread i)) e = e ≡ unread_end (input_name n i)
 InputsEnd c n s (Err (fault.Container place)) e = e ≡ container_end place
 InputsEnd c n s (Err fault.Keys) e = e ≡ keys_end
@@ -41,7 +46,7 @@ InputsEnd c n s (Err fault.OutOfMemory) e = ⊥
 
 -- the other inputs are loaded for a run
 abbrev pub NamedEnd : Option (List ℕ → Option (List ℕ)) → CommandSeen → NamedSeen → ScriptSeen → Reads → Reads → Ended → Type 0
-NamedEnd contents c n s old new e = (r : Result Inputs InputFault) × TakesInputs contents n old new r × InputsEnd c n s r e
+NamedEnd contents c n s old new e = (r : Result Inputs InputFault) × TakesInputs contents (needs_keys s.calls) n old new r × InputsEnd c n s r e
 
 -- check loads nothing else
 abbrev pub ScriptEnd : Option (List ℕ → Option (List ℕ)) → CommandSeen → ScriptSeen → Reads → Reads → Ended → Type 0
@@ -70,7 +75,7 @@ pub record Reaches (contents : Option (List ℕ → Option (List ℕ))) (c : Com
 
 -- behind the script nothing was loaded, or the inputs, of which check has none
 abbrev pub TakesSome : Option (List ℕ → Option (List ℕ)) → NamedSeen → Reads → Reads → Type 0
-TakesSome contents n old new = (r : Result Inputs InputFault) × TakesInputs contents n old new r
+TakesSome contents n old new = (needed : Bool) × (r : Result Inputs InputFault) × TakesInputs contents needed n old new r
 
 abbrev pub InputsPart : Option (List ℕ → Option (List ℕ)) → CommandSeen → Reads → Reads → Type 0
 InputsPart contents (Replay n) old new = TakesSome contents n old new

@@ -1,11 +1,12 @@
 -- What one call loads, puts and saves, by the histories alone: of files and outputs that tell what they hold, and of those that don't.
-use Rattle.std.specs.Prelude.{◌≡◌, ◌≢◌, ◌⊎◌, ℕ, List, [], ◌∷◌, ◌++◌, Option, Some, None, Result, Ok, Err, ◌≤◌, length}
+use Rattle.std.specs.Prelude.{◌≡◌, ◌≢◌, ◌⊎◌, ℕ, List, [], ◌∷◌, ◌++◌, true, Option, Some, None, Result, Ok, Err, ◌≤◌, length}
 use Rattle.std.specs.Global.{Vec}
 use Rattle.script_text.specs.declared.faults.Reason.{Reason}
 use Rattle.script_text.specs.declared.faults.Reason.TheVariants.{Length}
 use Rattle.script_text.specs.declared.faults.ScriptFault.TheVariants.{Bad}
 use Rattle.script_text.specs.Reading.{read_of}
 use Rattle.script_text.specs.Seen.{ScriptSeen}
+use Rattle.script_text.specs.Needs.{needs_keys}
 use Rattle.bundle_store.specs.declared.outside.LoadFault.{LoadFault}
 use Rattle.bundle_store.specs.declared.outside.LoadFault.TheVariants as load
 use Rattle.bundle_store.specs.declared.outside.SaveFault.TheVariants as save
@@ -15,14 +16,15 @@ use Rattle.bundle_store.specs.History.{Loaded, Put}
 use Rattle.command_files.specs.declared.inputs.InputFault.{InputFault}
 use Rattle.command_files.specs.declared.inputs.InputFault.TheVariants as fault
 use Rattle.command_files.specs.Commands.{NamedSeen, CommandSeen, named_of, script_name}
-use Rattle.command_files.specs.Inputs.{container_fault, length_fault, secret_word}
+use Rattle.command_files.specs.Inputs.{container_fault, length_fault, secret_word, keys_of}
 use Rattle.run_texts.specs.Openings.{opening_of}
-use Rattle.script_runner.specs.Ending.{ToSave, Ended, usage_end, bad_end, unread_end, memory_end, container_end, keys_end, secrets_end, unwritten_end, secrets_named, IsOrderOf, success_end}
+use Rattle.script_runner.specs.Ending.{ToSave, Ended, usage_end, bad_end, unread_end, memory_end, container_end, keys_end, secrets_end, unwritten_end, secrets_named, IsOrderOf, success_end, HandedOut, no_keys, keys_named}
 use Rattle.script_runner.specs.Saving.{Writes, AllSaved}
 use Rattle.script_runner.specs.Threads.{ThreadsOf}
 use Rattle.script_runner.specs.Accesses.{OwnAccesses}
 use Rattle.script_runner.specs.Blind.{HasBlindText}
 use Rattle.script_runner.specs.Ends.{IsRead}
+use Rattle.command_files.specs.declared.inputs.KeyBytes.{KeyBytes}
 
 -- ---- histories
 
@@ -45,13 +47,23 @@ PutsText old text new = (answer : Result (Unit {0}) PutFault) × (answer ≢ Err
 -- ---- what each status says
 
 -- these are the secret words that the last load handed out, under the name of a secrets file; each is 0 where none is named
-abbrev pub AreHandedOut : Option (List ℕ) → (loads loads' : List Loaded) → (ℕ → ℕ) → Type 0
-AreHandedOut None loads loads' secrets = (i : ℕ) → secrets i ≡ 0
-AreHandedOut (Some name) loads loads' secrets = (before : List Loaded) × (given : Vec ℕ) × LoadsOnce (loads ++ before) name (Ok given) loads' × (length given.items ≡ 4096)
+abbrev pub AreWordsHandedOut : Option (List ℕ) → (loads loads' : List Loaded) → (ℕ → ℕ) → Type 0
+AreWordsHandedOut None loads loads' secrets = (i : ℕ) → secrets i ≡ 0
+AreWordsHandedOut (Some name) loads loads' secrets = (before : List Loaded) × (given : Vec ℕ) × LoadsOnce (loads ++ before) name (Ok given) loads' × (length given.items ≡ 4096)
     × ((i : ℕ) → secrets i ≡ secret_word (Some (Ok given)) i)
 
+-- these are the keys that a load handed out, under the name of a key file
+abbrev pub AreKeysHandedOut : Option (List ℕ) → (loads loads' : List Loaded) → KeyBytes → Type 0
+AreKeysHandedOut None loads loads' keys = keys ≡ no_keys
+AreKeysHandedOut (Some name) loads loads' keys = (before : List Loaded) × (given : Vec ℕ) × LoadsFirst (loads ++ before) name (Ok given) loads' × (length given.items ≡ 64) × (keys ≡ keys_of given.items)
+
+-- these are the secret words and the keys that the files of a command handed out
+pub record AreHandedOut (c : CommandSeen) (loads loads' : List Loaded) (handed : HandedOut) : Type 0 where
+  pub words : AreWordsHandedOut (secrets_named c) loads loads' handed.secrets
+  pub key_bytes : AreKeysHandedOut (keys_named c) loads loads' handed.keys
+
 -- The named script was loaded first. What was handed out is in the grammar, and one put was given just the reply lines of the
--- flat machine's run of it, with the secret words that were handed out, under one order of its events, which for a replay is
+-- flat machine's run of it, with the secret words and keys that were handed out, under one order of its events, which for a replay is
 -- the schedule; or for check its numbers.
 pub record PutsRun (c : Option CommandSeen) (loads loads' : List Loaded) (puts puts' : List Put) (answer : Result (Unit {0}) PutFault) : Type 0 where
   pub command : CommandSeen
@@ -60,36 +72,36 @@ pub record PutsRun (c : Option CommandSeen) (loads loads' : List Loaded) (puts p
   pub loaded : LoadsFirst loads (script_name command) (Ok given) loads'
   pub script : ScriptSeen
   pub reads : read_of given.items ≡ Ok script
-  pub secrets : ℕ → ℕ
-  pub handed_out : AreHandedOut (secrets_named command) loads loads' secrets
+  pub handed : HandedOut
+  pub handed_out : AreHandedOut command loads loads' handed
   pub order : List ℕ
   pub is_order : IsOrderOf command script order
-  pub prints : PutsOnce puts (success_end command script secrets order).text answer puts'
+  pub prints : PutsOnce puts (success_end command script handed order).text answer puts'
 
 -- the same, and then each file that is named was saved with what that same run leaves
 abbrev pub PutsAndSaved : Option CommandSeen → (loads loads' : List Loaded) → (puts puts' : List Put) → (written written' : Writes) → Type 0
 PutsAndSaved c loads loads' puts puts' written written' =
-    (r : PutsRun c loads loads' puts puts' (Ok tt)) × AllSaved (success_end r.command r.script r.secrets r.order).files written written'
+    (r : PutsRun c loads loads' puts puts' (Ok tt)) × AllSaved (success_end r.command r.script r.handed r.order).files written written'
 
 -- A run put and saved the texts of its threads.
-abbrev pub SavesThreads : CommandSeen → ScriptSeen → (secrets : ℕ → ℕ) → (puts puts' : List Put) → (written written' : Writes) → Type 0
-SavesThreads c s secrets puts puts' written written' = (e : Ended) × ThreadsOf c s secrets e × PutsOnce puts e.text (Ok tt) puts' × AllSaved e.files written written'
+abbrev pub SavesThreads : CommandSeen → ScriptSeen → HandedOut → (puts puts' : List Put) → (written written' : Writes) → Type 0
+SavesThreads c s handed puts puts' written written' = (e : Ended) × ThreadsOf c s handed e × PutsOnce puts e.text (Ok tt) puts' × AllSaved e.files written written'
 
 abbrev pub PutsThreads : Option CommandSeen → (loads loads' : List Loaded) → (puts puts' : List Put) → (written written' : Writes) → Type 0
-PutsThreads c loads loads' puts puts' written written' = (r : PutsRun c loads loads' puts puts' (Ok tt)) × SavesThreads r.command r.script r.secrets puts puts' written written'
+PutsThreads c loads loads' puts puts' written written' = (r : PutsRun c loads loads' puts puts' (Ok tt)) × SavesThreads r.command r.script r.handed puts puts' written written'
 
 -- the text of the run was put, which is the same in two worlds
 abbrev pub PutsBlind : Option CommandSeen → (loads loads' : List Loaded) → (puts puts' : List Put) → Type 0
 PutsBlind c loads loads' puts puts' =
-    (r : PutsRun c loads loads' puts puts' (Ok tt)) × HasBlindText r.command r.script r.secrets r.order (success_end r.command r.script r.secrets r.order).text
+    (r : PutsRun c loads loads' puts puts' (Ok tt)) × HasBlindText r.command r.script r.handed r.order (success_end r.command r.script r.handed r.order).text
 
 -- All of it of one run: its text was put, each file that is named was saved with what it leaves, each access of its guests to
 -- their private memory is to a page of their own, and its text is the same in two worlds.
 pub record PutsHeadline (c : Option CommandSeen) (loads loads' : List Loaded) (puts puts' : List Put) (written written' : Writes) : Type 0 where
   pub run : PutsRun c loads loads' puts puts' (Ok tt)
-  pub saved : AllSaved (success_end run.command run.script run.secrets run.order).files written written'
-  pub accesses : OwnAccesses (opening_of run.secrets run.script) run.order
-  pub blind : HasBlindText run.command run.script run.secrets run.order (success_end run.command run.script run.secrets run.order).text
+  pub saved : AllSaved (success_end run.command run.script run.handed run.order).files written written'
+  pub accesses : OwnAccesses (opening_of run.handed.secrets run.script) run.order
+  pub blind : HasBlindText run.command run.script run.handed run.order (success_end run.command run.script run.handed run.order).text
 
 -- the words are no command; nothing was loaded, and the usage line was put
 abbrev pub PutsUsage : Option CommandSeen → (loads loads' : List Loaded) → (puts puts' : List Put) → Type 0
@@ -166,8 +178,22 @@ PutsKeys c loads loads' puts puts' = PutsLength (λ n. n.keys) 64 fault.Keys key
 abbrev pub PutsSecrets : Option CommandSeen → (loads loads' : List Loaded) → (puts puts' : List Put) → Type 0
 PutsSecrets c loads loads' puts puts' = PutsLength (λ n. n.secrets) 4096 fault.Secrets secrets_end c loads loads' puts puts'
 
+-- the named script was loaded, a call of it makes a bundle, and no key file is named, which was put
+pub record PutsNoKeys (c : Option CommandSeen) (loads loads' : List Loaded) (puts puts' : List Put) : Type 0 where
+  pub command : CommandSeen
+  pub read_as : c ≡ Some command
+  pub options : NamedSeen
+  pub has : named_of command ≡ Some options
+  pub given : Vec ℕ
+  pub loaded : LoadsFirst loads (script_name command) (Ok given) loads'
+  pub script : ScriptSeen
+  pub reads : read_of given.items ≡ Ok script
+  pub needs : needs_keys script.calls ≡ true
+  pub unnamed : options.keys ≡ None
+  pub prints : PutsText puts keys_end.text puts'
+
 abbrev pub PutsKeysOrSecrets : Option CommandSeen → (loads loads' : List Loaded) → (puts puts' : List Put) → Type 0
-PutsKeysOrSecrets c loads loads' puts puts' = PutsKeys c loads loads' puts puts' ⊎ PutsSecrets c loads loads' puts puts'
+PutsKeysOrSecrets c loads loads' puts puts' = PutsKeys c loads loads' puts puts' ⊎ PutsSecrets c loads loads' puts puts' ⊎ PutsNoKeys c loads loads' puts puts'
 
 -- The text was put, all files before one were saved, the save of this one failed, and its name was put. Files have what they
 -- had behind the saves that came through.
@@ -177,7 +203,7 @@ pub record PutsUnsaved (c : Option CommandSeen) (loads loads' : List Loaded) (wr
   pub front : List ToSave
   pub out : ToSave
   pub rest : List ToSave
-  pub are : (success_end replies.command replies.script replies.secrets replies.order).files ≡ front ++ out ∷ rest
+  pub are : (success_end replies.command replies.script replies.handed replies.order).files ≡ front ++ out ∷ rest
   pub before : Writes
   pub front_saved : AllSaved front written before
   pub saved : written'.saves ≡ before.saves ++ record { name = out.name; bytes = out.bytes; answer = Err save.Failed } ∷ []
@@ -193,14 +219,14 @@ pub record SavesFront (c : Option CommandSeen) (loads loads' : List Loaded) (wri
   pub loaded : LoadsFirst loads (script_name command) (Ok given) loads'
   pub script : ScriptSeen
   pub reads : read_of given.items ≡ Ok script
-  pub secrets : ℕ → ℕ
-  pub handed_out : AreHandedOut (secrets_named command) loads loads' secrets
+  pub handed : HandedOut
+  pub handed_out : AreHandedOut command loads loads' handed
   pub order : List ℕ
   pub is_order : IsOrderOf command script order
   pub front : List ToSave
   pub out : ToSave
   pub rest : List ToSave
-  pub are : (success_end command script secrets order).files ≡ front ++ out ∷ rest
+  pub are : (success_end command script handed order).files ≡ front ++ out ∷ rest
   pub before : Writes
   pub front_saved : AllSaved front written before
   pub kept : written'.contents ≡ before.contents

@@ -1,5 +1,5 @@
 -- How a command ends: its status, its text and what it saves, over the contents that are told.
-use Rattle.std.specs.Prelude.{◌≡◌, ℕ, ◌+◌, ◌*◌, ◌^◌, ◌<◌, List, [], ◌∷◌, ◌++◌, length, drop, Option, Some, None, option_map, Result, Ok, Err, ◌==◌, nat_le, if◌then◌else◌, codes}
+use Rattle.std.specs.Prelude.{◌≡◌, ℕ, ◌+◌, ◌*◌, ◌^◌, ◌<◌, List, [], ◌∷◌, ◌++◌, length, drop, replicate, Bool, Option, Some, None, option_map, Result, Ok, Err, ◌==◌, nat_le, if◌then◌else◌, codes}
 use Rattle.std.specs.List.{All}
 use Rattle.std.specs.Fmt.{decimal}
 use Rattle.std.specs.Str.{bytes_eq}
@@ -12,16 +12,19 @@ use Rattle.script_text.specs.declared.faults.ScriptFault.TheVariants.{Bad, OutOf
 use Rattle.script_text.specs.ReasonText.{reason_text}
 use Rattle.script_text.specs.Reading.{read_of}
 use Rattle.script_text.specs.Seen.{ScriptSeen}
+use Rattle.script_text.specs.Needs.{needs_keys}
 use Rattle.flat_core.specs.HostText.{host_text}
 use Rattle.flat_core.specs.GuestText.{guest_text}
 use Rattle.run_texts.specs.Openings.{opening_of}
-use Rattle.bundle_store.specs.Containers.{container_in, container_bytes}
+use Rattle.run_texts.specs.Sealing.{bundles_text}
+use Rattle.bundle_store.specs.Containers.{container_in}
 use Rattle.command_files.specs.declared.inputs.Input.{Input}
 use Rattle.command_files.specs.declared.inputs.Input.TheVariants as input
 use Rattle.command_files.specs.declared.inputs.InputFault.{InputFault}
 use Rattle.command_files.specs.declared.inputs.InputFault.TheVariants as fault
+use Rattle.command_files.specs.declared.inputs.KeyBytes.{KeyBytes}
 use Rattle.command_files.specs.Commands.{NamedSeen, CommandSeen, Replay, Run, Check, script_name}
-use Rattle.command_files.specs.Inputs.{place_fault, first}
+use Rattle.command_files.specs.Inputs.{place_fault, first, keys_of}
 use Rattle.script_runner.specs.declared.ending.Ending.{Ending}
 
 -- a file that is to be saved
@@ -40,15 +43,15 @@ abbrev pub file_named : Option (List ℕ) → List ℕ → List ToSave
 file_named None bytes = []
 file_named (Some name) bytes = record { name = name; bytes = bytes } ∷ []
 
--- the container is saved first; it has no bundles, since no call makes any
-abbrev pub both_files : (container guest : Option (List ℕ)) → (told : List ℕ) → List ToSave
-both_files container guest told = file_named container (container_bytes []) ++ file_named guest told
+-- the container is saved first
+abbrev pub both_files : (container guest : Option (List ℕ)) → (made told : List ℕ) → List ToSave
+both_files container guest made told = file_named container made ++ file_named guest told
 
 abbrev pub ending_seen : Ending → Ended
 ending_seen e = record {
   status = e.status;
   text = e.text.items;
-  files = both_files (option_map (λ name. name.now) e.out_bundles) (option_map (λ name. name.now) e.guest_out) e.guest.items;
+  files = both_files (option_map (λ name. name.now) e.out_bundles) (option_map (λ name. name.now) e.guest_out) e.container.items e.guest.items;
 }
 
 -- texts, each by its status
@@ -71,12 +74,26 @@ IsOrderOf (Replay n) s order = order ≡ s.schedule
 IsOrderOf (Run n) s order = All (λ p. p < length s.calls) order
 IsOrderOf (Check name) s order = Unit {0}
 
--- a script's run with these secret words under that order; what its guests noted is the text of the guest file
-abbrev pub run_end : NamedSeen → ScriptSeen → (secrets : ℕ → ℕ) → (order : List ℕ) → Ended
-run_end n s secrets order = record {
+-- what the input files hand out to a run: the secret words, and the keys from source to destination and back
+pub record HandedOut : Type 0 where
+  pub secrets : ℕ → ℕ
+  pub keys : KeyBytes
+
+-- without a key file each byte of the keys is 0; a run has no bundle then, since its script needs no keys
+abbrev pub no_keys : KeyBytes
+no_keys = record { forward = replicate 32 0; backward = replicate 32 0 }
+
+abbrev pub keys_or_none : Option KeyBytes → KeyBytes
+keys_or_none None = no_keys
+keys_or_none (Some keys) = keys
+
+-- a script's run with these secret words under that order; the container has its bundles, sealed under these keys, and the
+-- guest file what its guests noted
+abbrev pub run_end : NamedSeen → ScriptSeen → HandedOut → (order : List ℕ) → Ended
+run_end n s handed order = record {
   status = 0;
-  text = host_text (opening_of secrets s) order;
-  files = both_files n.out_bundles n.guest_out (guest_text (opening_of secrets s) order);
+  text = host_text (opening_of handed.secrets s) order;
+  files = both_files n.out_bundles n.guest_out (bundles_text handed.keys.forward handed.keys.backward (opening_of handed.secrets s) order) (guest_text (opening_of handed.secrets s) order);
 }
 
 -- how many calls these lists have, and how many guest operations
@@ -98,10 +115,10 @@ abbrev pub check_end : ScriptSeen → Ended
 check_end s = record { status = 0; text = check_text s; files = [] }
 
 -- what a command comes to with a script where nothing is wrong
-abbrev pub success_end : CommandSeen → ScriptSeen → (secrets : ℕ → ℕ) → (order : List ℕ) → Ended
-success_end (Replay n) s secrets order = run_end n s secrets order
-success_end (Run n) s secrets order = run_end n s secrets order
-success_end (Check name) s secrets order = check_end s
+abbrev pub success_end : CommandSeen → ScriptSeen → HandedOut → (order : List ℕ) → Ended
+success_end (Replay n) s handed order = run_end n s handed order
+success_end (Run n) s handed order = run_end n s handed order
+success_end (Check name) s handed order = check_end s
 
 abbrev pub fault_end : ScriptFault → Ended
 fault_end (Bad line reason) = bad_end line reason
@@ -111,7 +128,7 @@ fault_end OutOfMemory = memory_end
 abbrev pub container_end : ℕ → Ended
 container_end place = record { status = 6; text = codes "bundle file byte " ++ (decimal place ++ 10 ∷ []); files = [] }
 
--- the key file hasn't its length
+-- the key file hasn't its length, or none is named where a call makes a bundle
 abbrev pub keys_end : Ended
 keys_end = record { status = 7; text = codes "key file" ++ 10 ∷ []; files = [] }
 
@@ -157,24 +174,29 @@ length_wrong bytes f None = None
 length_wrong bytes f (Some None) = None
 length_wrong bytes f (Some (Some given)) = if length given == bytes then None else Some f
 
+-- the key file that is there hasn't 64 bytes, or none is named where keys are needed
+abbrev pub keys_wrong : (needed : Bool) → Option (Option (List ℕ)) → Option InputFault
+keys_wrong needed None = if needed then Some fault.Keys else None
+keys_wrong needed (Some there) = length_wrong 64 fault.Keys (Some there)
+
 -- a named input isn't there: the container, else the key file, else the secrets file
 abbrev pub absent_input : (bundles keys secrets : Option (Option (List ℕ))) → Option InputFault
 absent_input bundles keys secrets = first (absent_fault input.Bundles bundles) (first (absent_fault input.Keys keys) (absent_fault input.Secrets secrets))
 
 -- one that is there hasn't its form, in the same order
-abbrev pub form_wrong : (bundles keys secrets : Option (Option (List ℕ))) → Option InputFault
-form_wrong bundles keys secrets = first (container_wrong bundles) (first (length_wrong 64 fault.Keys keys) (length_wrong 4096 fault.Secrets secrets))
+abbrev pub form_wrong : (needed : Bool) (bundles keys secrets : Option (Option (List ℕ))) → Option InputFault
+form_wrong needed bundles keys secrets = first (container_wrong bundles) (first (keys_wrong needed keys) (length_wrong 4096 fault.Secrets secrets))
 
 -- the first fault of the inputs: all are there, and then the form of each is tested
-abbrev pub wrong_input : (List ℕ → Option (List ℕ)) → NamedSeen → Option InputFault
-wrong_input contents n =
-    first (absent_input (held contents n.bundles) (held contents n.keys) (held contents n.secrets)) (form_wrong (held contents n.bundles) (held contents n.keys) (held contents n.secrets))
+abbrev pub wrong_input : (List ℕ → Option (List ℕ)) → (needed : Bool) → NamedSeen → Option InputFault
+wrong_input contents needed n =
+    first (absent_input (held contents n.bundles) (held contents n.keys) (held contents n.secrets)) (form_wrong needed (held contents n.bundles) (held contents n.keys) (held contents n.secrets))
 
--- check has no inputs
-abbrev pub command_wrong : (List ℕ → Option (List ℕ)) → CommandSeen → Option InputFault
-command_wrong contents (Replay n) = wrong_input contents n
-command_wrong contents (Run n) = wrong_input contents n
-command_wrong contents (Check name) = None
+-- keys are needed where a call of the script makes a bundle; check has no inputs
+abbrev pub command_wrong : (List ℕ → Option (List ℕ)) → ScriptSeen → CommandSeen → Option InputFault
+command_wrong contents s (Replay n) = wrong_input contents (needs_keys s.calls) n
+command_wrong contents s (Run n) = wrong_input contents (needs_keys s.calls) n
+command_wrong contents s (Check name) = None
 
 -- the secret word of number i of a secrets file that has these bytes; without a file each is 0
 abbrev pub held_word : Option (Option (List ℕ)) → ℕ → ℕ
@@ -188,21 +210,36 @@ secrets_named (Replay n) = n.secrets
 secrets_named (Run n) = n.secrets
 secrets_named (Check name) = None
 
--- the secret words that this file has
-abbrev pub secrets_held : (List ℕ → Option (List ℕ)) → CommandSeen → ℕ → ℕ
-secrets_held contents c = held_word (held contents (secrets_named c))
+-- the keys of a key file that has these bytes
+abbrev pub held_keys : Option (Option (List ℕ)) → KeyBytes
+held_keys None = no_keys
+held_keys (Some None) = no_keys
+held_keys (Some (Some bytes)) = keys_of bytes
+
+-- the key file that a command names
+abbrev pub keys_named : CommandSeen → Option (List ℕ)
+keys_named (Replay n) = n.keys
+keys_named (Run n) = n.keys
+keys_named (Check name) = None
+
+-- what these two files hand out
+abbrev pub held_by : (List ℕ → Option (List ℕ)) → (secrets keys : Option (List ℕ)) → HandedOut
+held_by contents secrets keys = record { secrets = held_word (held contents secrets); keys = held_keys (held contents keys) }
+
+abbrev pub handed_held : (List ℕ → Option (List ℕ)) → CommandSeen → HandedOut
+handed_held contents c = held_by contents (secrets_named c) (keys_named c)
 
 -- a script is run where its inputs have no fault, which else is told
-abbrev pub inputs_end : NamedSeen → ScriptSeen → (secrets : ℕ → ℕ) → (order : List ℕ) → Option InputFault → Ended
-inputs_end n s secrets order None = run_end n s secrets order
-inputs_end n s secrets order (Some (fault.Unread i)) = unread_end (input_name n i)
-inputs_end n s secrets order (Some (fault.Container place)) = container_end place
-inputs_end n s secrets order (Some fault.Keys) = keys_end
-inputs_end n s secrets order (Some fault.Secrets) = secrets_end
-inputs_end n s secrets order (Some fault.OutOfMemory) = memory_end
+abbrev pub inputs_end : NamedSeen → ScriptSeen → HandedOut → (order : List ℕ) → Option InputFault → Ended
+inputs_end n s handed order None = run_end n s handed order
+inputs_end n s handed order (Some (fault.Unread i)) = unread_end (input_name n i)
+inputs_end n s handed order (Some (fault.Container place)) = container_end place
+inputs_end n s handed order (Some fault.Keys) = keys_end
+inputs_end n s handed order (Some fault.Secrets) = secrets_end
+inputs_end n s handed order (Some fault.OutOfMemory) = memory_end
 
 abbrev pub named_end : (List ℕ → Option (List ℕ)) → NamedSeen → ScriptSeen → (order : List ℕ) → Ended
-named_end contents n s order = inputs_end n s (held_word (held contents n.secrets)) order (wrong_input contents n)
+named_end contents n s order = inputs_end n s (held_by contents n.secrets n.keys) order (wrong_input contents (needs_keys s.calls) n)
 
 abbrev pub script_end : (List ℕ → Option (List ℕ)) → CommandSeen → ScriptSeen → (order : List ℕ) → Ended
 script_end contents (Replay n) s order = named_end contents n s order

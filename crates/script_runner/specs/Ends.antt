@@ -1,13 +1,14 @@
 -- What may become of the ending that is due, and why.
-use Rattle.std.specs.Prelude.{◌≡◌, ◌≢◌, ◌<◌, ◌⊎◌, ℕ, ◌^◌, List, [], ◌++◌, length, take, Option, Some, None, Ok, Err, ◌==◌, if◌then◌else◌}
+use Rattle.std.specs.Prelude.{◌≡◌, ◌≢◌, ◌<◌, ◌⊎◌, ℕ, ◌^◌, List, [], ◌++◌, length, take, true, Option, Some, None, Ok, Err, ◌==◌, if◌then◌else◌}
 use Rattle.script_text.specs.declared.faults.Reason.{Reason}
 use Rattle.script_text.specs.declared.faults.ScriptFault.TheVariants.{Bad}
 use Rattle.script_text.specs.Reading.{read_of}
 use Rattle.script_text.specs.Seen.{ScriptSeen}
+use Rattle.script_text.specs.Needs.{needs_keys}
 use Rattle.bundle_store.specs.Outside.{Rose, Gains}
 use Rattle.bundle_store.specs.Containers.{container_in}
 use Rattle.command_files.specs.Commands.{NamedSeen, CommandSeen, Replay, Run, Check, named_of, script_name}
-use Rattle.script_runner.specs.Ending.{ToSave, Ended, unread_end, memory_end, unwritten_end, success_end, command_wrong, secrets_held, ending_of, IsOrderOf, IsOrderIn, without}
+use Rattle.script_runner.specs.Ending.{ToSave, Ended, unread_end, memory_end, unwritten_end, success_end, command_wrong, handed_held, ending_of, IsOrderOf, IsOrderIn, without}
 use Rattle.script_runner.specs.Saving.{Writes, AllSaved, IsAmong}
 use Rattle.script_runner.specs.Blind.{HasBlindText}
 
@@ -76,8 +77,9 @@ EndsWith before after contents c old new status =
 
 -- One run: the named script is there and is in the grammar, the named inputs are there and have their forms, the output got
 -- just the reply lines of the flat machine's run of the script, with the secret words of the named file, under one order of
--- its events, which for a replay is the schedule; and then each file that is named was saved, the guest file with what the
--- guests of that same run noted. For check: the output got the script's numbers.
+-- its events, which for a replay is the schedule; and then each file that is named was saved, the container with the bundles of
+-- that same run, sealed under the keys of the named file, and the guest file with what its guests noted. For check: the output
+-- got the script's numbers.
 pub record OneRun (contents : List ℕ → Option (List ℕ)) (c : Option CommandSeen) (old new : Option (List ℕ)) (written written' : Writes) : Type 0 where
   pub command : CommandSeen
   pub read_as : c ≡ Some command
@@ -85,17 +87,17 @@ pub record OneRun (contents : List ℕ → Option (List ℕ)) (c : Option Comman
   pub there : contents (script_name command) ≡ Some bytes
   pub script : ScriptSeen
   pub reads : read_of bytes ≡ Ok script
-  pub fits : command_wrong contents command ≡ None
+  pub fits : command_wrong contents script command ≡ None
   pub order : List ℕ
   pub is_order : IsOrderOf command script order
-  pub prints : Gains old (success_end command script (secrets_held contents command) order).text new
-  pub saves : AllSaved (success_end command script (secrets_held contents command) order).files written written'
+  pub prints : Gains old (success_end command script (handed_held contents command) order).text new
+  pub saves : AllSaved (success_end command script (handed_held contents command) order).files written written'
 
 -- the text that the output got is the same in two worlds
 abbrev pub ShowsBlind : (contents : List ℕ → Option (List ℕ)) → (c : Option CommandSeen) → (old new : Option (List ℕ)) → (written written' : Writes) → Type 0
 ShowsBlind contents c old new written written' =
     (run : OneRun contents c old new written written')
-    × HasBlindText run.command run.script (secrets_held contents run.command) run.order (success_end run.command run.script (secrets_held contents run.command) run.order).text
+    × HasBlindText run.command run.script (handed_held contents run.command) run.order (success_end run.command run.script (handed_held contents run.command) run.order).text
 
 -- the named script is there and isn't in the grammar
 pub record IsBadScript (contents : List ℕ → Option (List ℕ)) (c : Option CommandSeen) : Type 0 where
@@ -156,9 +158,22 @@ pub record HasWrongLength (file : NamedSeen → Option (List ℕ)) (count : ℕ)
   pub there : contents name ≡ Some bytes
   pub wrong : length bytes ≢ count
 
--- the key file or the secrets file hasn't its length
-abbrev pub IsBadLength : (List ℕ → Option (List ℕ)) → Option CommandSeen → Type 0
-IsBadLength contents c = HasWrongLength (λ n. n.keys) 64 contents c ⊎ HasWrongLength (λ n. n.secrets) 4096 contents c
+-- the named script is there, a call of it makes a bundle, and no key file is named
+pub record LacksKeys (contents : List ℕ → Option (List ℕ)) (c : Option CommandSeen) : Type 0 where
+  pub command : CommandSeen
+  pub read_as : c ≡ Some command
+  pub options : NamedSeen
+  pub has : named_of command ≡ Some options
+  pub bytes : List ℕ
+  pub there : contents (script_name command) ≡ Some bytes
+  pub script : ScriptSeen
+  pub reads : read_of bytes ≡ Ok script
+  pub needs : needs_keys script.calls ≡ true
+  pub unnamed : options.keys ≡ None
+
+-- the key file or the secrets file hasn't its length, or the key file is wanting
+abbrev pub IsBadKeysOrSecrets : (List ℕ → Option (List ℕ)) → Option CommandSeen → Type 0
+IsBadKeysOrSecrets contents c = HasWrongLength (λ n. n.keys) 64 contents c ⊎ HasWrongLength (λ n. n.secrets) 4096 contents c ⊎ LacksKeys contents c
 
 -- ---- causes
 

@@ -11,7 +11,7 @@ use crate::ending::{Ending, bad, check, of_fault, replay, run, unread};
 use bundle_store::{Files, LoadFault};
 use command_files::{Command, Named, take_inputs};
 use leaf_engine::Gate;
-use script_text::{Reason, Script, ScriptFault, read_script, scripts_are_in_form};
+use script_text::{Reason, Script, ScriptFault, needs_keys, read_script, scripts_are_in_form};
 use std::alloc::{AllocError, Global};
 use std::thread::Threads;
 
@@ -45,8 +45,8 @@ fn of_replay<'a, F: Files>(
     ensures not_write { IfOk result (λ e. e.status ≢ 4) }
     ensures few { IfOk result (λ e. e.status ≤ 7) }
 {
-    match take_inputs(alloc, named, files) {
-        Ok(inputs) => replay(alloc, script, named, &inputs.secrets),
+    match take_inputs(alloc, named, needs_keys(script), files) {
+        Ok(inputs) => replay(alloc, script, named, &inputs),
         Err(fault) => of_fault(alloc, named, fault),
     }
 }
@@ -72,8 +72,8 @@ fn of_run<'a, R: Threads + Sync, F: Files, G: Gate + Sync>(
     ensures not_write { IfOk result (λ e. e.status ≢ 4) }
     ensures few { IfOk result (λ e. e.status ≤ 7) }
 {
-    match take_inputs(alloc, named, files) {
-        Ok(inputs) => run(threads, alloc, script, named, &inputs.secrets, gate),
+    match take_inputs(alloc, named, needs_keys(script), files) {
+        Ok(inputs) => run(threads, alloc, script, named, &inputs, gate),
         Err(fault) => of_fault(alloc, named, fault),
     }
 }

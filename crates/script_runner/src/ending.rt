@@ -4,13 +4,13 @@ ghost use Rattle.std.specs.Prelude.{◌≡◌, ◌≢◌, ◌≤◌, ◌<◌, �
 ghost use Rattle.script_text.specs.Laws.{IsInForm};
 ghost use Rattle.script_text.specs.Seen.{ScriptSeen};
 ghost use Rattle.command_files.specs.Commands.{CommandSeen, Replay, Run, named_seen};
-ghost use Rattle.script_runner.specs.Ending.{ending_seen, usage_end, unread_end, bad_end, calls_in, ops_in, check_end, container_end, keys_end, secrets_end, unwritten_end, input_name};
+ghost use Rattle.script_runner.specs.Ending.{ending_seen, usage_end, unread_end, bad_end, calls_in, ops_in, check_end, container_end, keys_end, secrets_end, unwritten_end, input_name, keys_or_none};
 ghost use Rattle.script_runner.specs.Threads.{texts_end};
-ghost use Rattle.script_runner.specs.Commanded.{InputsEnd, EndsRun};
+ghost use Rattle.script_runner.specs.Commanded.{handed_in, InputsEnd, EndsRun};
 
-use command_files::{Input, InputFault, Named};
+use command_files::{Input, InputFault, Inputs, KeyBytes, Named};
 use leaf_engine::Gate;
-use run_texts::{Texts, replay_texts, threaded_texts};
+use run_texts::{KeyPair, Texts, replay_texts, threaded_texts};
 use script_text::{Reason, Script};
 use std::alloc::{AllocError, Global};
 use std::thread::Threads;
@@ -24,6 +24,7 @@ pub struct Ending<'a> {
     pub text: Vec<u8>,
     pub out_bundles: Option<&'a str>,
     pub guest_out: Option<&'a str>,
+    pub container: Vec<u8>,
     pub guest: Vec<u8>,
 }
 
@@ -39,6 +40,7 @@ fn plain<'a>(alloc: Global, status: u8, text: Vec<u8>) -> Ending<'a>
         text,
         out_bundles: None,
         guest_out: None,
+        container: Vec::new(alloc),
         guest: Vec::new(alloc),
     }
 }
@@ -83,7 +85,7 @@ fn bad_container<'a>(alloc: Global, place: u64) -> Result<Ending<'a>, AllocError
     ))
 }
 
-/// The key file hasn't its length.
+/// The key file hasn't its length, or is wanting.
 fn bad_keys<'a>(alloc: Global) -> Result<Ending<'a>, AllocError>
     ensures { IfOk result (λ e. ending_seen e ≡ keys_end) }
 {
@@ -149,22 +151,48 @@ fn of_texts<'a>(named: &Named<'a>, texts: Texts) -> Ending<'a>
         text: texts.replies,
         out_bundles: named.out_bundles,
         guest_out: named.guest_out,
+        container: texts.container,
         guest: texts.guest,
     }
 }
 
-/// A script is replayed. The guest file's text is made where that file is named.
+/// The two keys; without a key file each byte of them is 0.
+fn keys_of(keys: &Option<KeyBytes>) -> KeyPair
+    ensures forward { result.forward ≡ (keys_or_none keys.now).forward }
+    ensures backward { result.backward ≡ (keys_or_none keys.now).backward }
+{
+    match keys {
+        Some(keys) => KeyPair {
+            forward: keys.forward,
+            backward: keys.backward,
+        },
+        None => KeyPair {
+            forward: [0; 32],
+            backward: [0; 32],
+        },
+    }
+}
+
+/// A script is replayed. The container's bytes and the guest file's text are made where those are named.
 pub fn replay<'a>(
     alloc: Global,
     script: &Script,
     named: &Named<'a>,
-    secrets: &[u64],
+    inputs: &Inputs,
 ) -> Result<Ending<'a>, AllocError>
     requires form { IsInForm script.now }
-    requires secrets { length secrets.now ≡ 512 }
-    ensures { IfOk result (λ e. EndsRun (Replay (named_seen named.now)) (named_seen named.now) script.now (slice_index secrets.now) (ending_seen e)) }
+    requires secrets { length inputs.now.secrets.items ≡ 512 }
+    ensures { IfOk result (λ e. EndsRun (Replay (named_seen named.now)) (named_seen named.now) script.now (handed_in inputs.now) (ending_seen e)) }
 {
-    match replay_texts(alloc, script, secrets, named.guest_out) {
+    let keys = keys_of(&inputs.keys);
+    match replay_texts(
+        alloc,
+        script,
+        &inputs.secrets,
+        &keys,
+        named.out_bundles,
+        named.guest_out,
+    ) {
         Ok(texts) => Ok(of_texts(named, texts)),
         Err(OutOfMemory) => Err(AllocError),
     }
@@ -176,14 +204,24 @@ pub fn run<'a, R: Threads + Sync, G: Gate + Sync>(
     alloc: Global,
     script: &Script,
     named: &Named<'a>,
-    secrets: &[u64],
+    inputs: &Inputs,
     gate: &G,
 ) -> Result<Ending<'a>, AllocError>
     requires form { IsInForm script.now }
-    requires secrets { length secrets.now ≡ 512 }
-    ensures { IfOk result (λ e. EndsRun (Run (named_seen named.now)) (named_seen named.now) script.now (slice_index secrets.now) (ending_seen e)) }
+    requires secrets { length inputs.now.secrets.items ≡ 512 }
+    ensures { IfOk result (λ e. EndsRun (Run (named_seen named.now)) (named_seen named.now) script.now (handed_in inputs.now) (ending_seen e)) }
 {
-    match threaded_texts(threads, alloc, script, secrets, named.guest_out, gate) {
+    let keys = keys_of(&inputs.keys);
+    match threaded_texts(
+        threads,
+        alloc,
+        script,
+        &inputs.secrets,
+        &keys,
+        named.out_bundles,
+        named.guest_out,
+        gate,
+    ) {
         Ok(texts) => Ok(of_texts(named, texts)),
         Err(OutOfMemory) => Err(AllocError),
     }

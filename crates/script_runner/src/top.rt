@@ -1,20 +1,19 @@
 //! The top call: the ending that is due is decided, and then told.
 
 ghost use Rattle.std.specs.Prelude.{◌≡◌, ◌≢◌, ◌≤◌, ◌⊎◌, ◌++◌, ◌∷◌, [], ℕ, List, None, Some, Result, Ok, map, option_map, string_bytes, IfSome, IfOk};
-ghost use Rattle.bundle_store.specs.Containers.{container_bytes};
 ghost use Rattle.bundle_store.specs.History.{Put};
 ghost use Rattle.command_files.specs.Commands.{Check, command_in};
 ghost use Rattle.run_texts.specs.Openings.{opening_of};
-ghost use Rattle.script_runner.specs.Ending.{ending_seen, file_named, ending_of, secrets_held, memory_end};
+ghost use Rattle.script_runner.specs.Ending.{ending_seen, file_named, ending_of, handed_held, memory_end};
 ghost use Rattle.script_runner.specs.Accesses.{OwnAccesses};
-ghost use Rattle.script_runner.specs.Ends.{PutsPart, EndsWith, OneRun, IsComplete, IsBadScript, IsBadContainer, IsBadLength, ShowsBlind, ReadCause, WriteCause, PutsFrontsOf};
+ghost use Rattle.script_runner.specs.Ends.{PutsPart, EndsWith, OneRun, IsComplete, IsBadScript, IsBadContainer, IsBadKeysOrSecrets, ShowsBlind, ReadCause, WriteCause, PutsFrontsOf};
 ghost use Rattle.script_runner.specs.Done.{PutsOnce, PutsRun, PutsAndSaved, PutsUsage, PutsFault, PutsName, PutsPlace, PutsKeysOrSecrets, PutsThreads, PutsBlind, PutsHeadline, PutsLost, PutsMemory, SavesNothing, ChangesNothing, KeepsOrSaves};
 ghost use Rattle.script_runner.specs.Saving.{out_names};
 ghost use Rattle.script_runner.specs.Commanded.{Comes, ComesPart, TellsBy, PutsWant, SavesAll, PutsAndSaves, DoesCommand};
 
 use crate::commanded::of_command;
 use crate::ending::{Ending, unwritten, usage};
-use bundle_store::{Files, PutFault, SaveFault, Sink, write_container};
+use bundle_store::{Files, PutFault, SaveFault, Sink};
 use command_files::read_command;
 use flat_core::access_law;
 use isol_laws::two_world_law;
@@ -97,39 +96,15 @@ fn save_file<F: Files, K: Sink>(
     }
 }
 
-// Saves the container where it is named: it has no bundles, since no call makes any.
-fn save_container<F: Files, K: Sink>(
+// Saves a file where it is named.
+fn save_named<F: Files, K: Sink>(
     alloc: Global,
     name: Option<&str>,
+    bytes: &[u8],
     files: &mut F,
     out: &mut K,
 ) -> u8
-    ensures saves { SavesAll (file_named (option_map (λ name. name.now) name.entry) (container_bytes [])) (record { contents = F.contents files.old; saves = F.saves files.old; faults = F.write_faults files.old }) (record { contents = F.contents files.new; saves = F.saves files.new; faults = F.write_faults files.new }) (record { told = K.told out.old; puts = K.puts out.old; faults = K.faults out.old }) (record { told = K.told out.new; puts = K.puts out.new; faults = K.faults out.new }) result }
-    ensures loads { F.loads files.new ≡ F.loads files.old }
-    ensures reads { F.read_faults files.new ≡ F.read_faults files.old }
-    ensures bytes { F.bytes_read files.new ≡ F.bytes_read files.old }
-    ensures few { result ≤ 5 }
-    ensures later { K.faults out.old ≤ K.faults out.new }
-    ensures quiet { result ≡ 0 → (F.write_faults files.new ≡ F.write_faults files.old) × (K.faults out.new ≡ K.faults out.old) }
-{
-    let Some(name) = name else {
-        return 0;
-    };
-    let Ok(bytes) = write_container(alloc, &[]) else {
-        return give_up(out);
-    };
-    save_file(alloc, name, &bytes, files, out)
-}
-
-// Saves the guest file where it is named.
-fn save_guest<F: Files, K: Sink>(
-    alloc: Global,
-    name: Option<&str>,
-    text: &[u8],
-    files: &mut F,
-    out: &mut K,
-) -> u8
-    ensures saves { SavesAll (file_named (option_map (λ name. name.now) name.entry) text.now) (record { contents = F.contents files.old; saves = F.saves files.old; faults = F.write_faults files.old }) (record { contents = F.contents files.new; saves = F.saves files.new; faults = F.write_faults files.new }) (record { told = K.told out.old; puts = K.puts out.old; faults = K.faults out.old }) (record { told = K.told out.new; puts = K.puts out.new; faults = K.faults out.new }) result }
+    ensures saves { SavesAll (file_named (option_map (λ name. name.now) name.entry) bytes.now) (record { contents = F.contents files.old; saves = F.saves files.old; faults = F.write_faults files.old }) (record { contents = F.contents files.new; saves = F.saves files.new; faults = F.write_faults files.new }) (record { told = K.told out.old; puts = K.puts out.old; faults = K.faults out.old }) (record { told = K.told out.new; puts = K.puts out.new; faults = K.faults out.new }) result }
     ensures loads { F.loads files.new ≡ F.loads files.old }
     ensures reads { F.read_faults files.new ≡ F.read_faults files.old }
     ensures bytes { F.bytes_read files.new ≡ F.bytes_read files.old }
@@ -139,7 +114,7 @@ fn save_guest<F: Files, K: Sink>(
 {
     match name {
         None => 0,
-        Some(name) => save_file(alloc, name, text, files, out),
+        Some(name) => save_file(alloc, name, bytes, files, out),
     }
 }
 
@@ -153,11 +128,11 @@ fn save_all<F: Files, K: Sink>(alloc: Global, how: &Ending<'_>, files: &mut F, o
     ensures later { K.faults out.old ≤ K.faults out.new }
     ensures quiet { result ≡ 0 → (F.write_faults files.new ≡ F.write_faults files.old) × (K.faults out.new ≡ K.faults out.old) }
 {
-    let saved = save_container(alloc, how.out_bundles, files, out);
+    let saved = save_named(alloc, how.out_bundles, &how.container, files, out);
     if saved != 0 {
         return saved;
     }
-    save_guest(alloc, how.guest_out, &how.guest, files, out)
+    save_named(alloc, how.guest_out, &how.guest, files, out)
 }
 
 // Puts the text of an ending, and then saves its files, where that was the text of a success.
@@ -224,14 +199,15 @@ pub fn tdx_main<R: Threads + Sync, F: Files, K: Sink, G: Gate + Sync>(
     ensures loads { ComesPart (F.contents files.old) (command_in (map string_bytes words.now)) (record { loads = F.loads files.old; faults = F.read_faults files.old; bytes = F.bytes_read files.old }) (record { loads = F.loads files.new; faults = F.read_faults files.new; bytes = F.bytes_read files.new }) }
     // At status 0 the put was given just the reply lines of the flat machine's run of the script that
     // the first load handed out, or for `check` its numbers, and came through; and every output was
-    // written, the guest file with what the guests of that same run noted. The run has the secret words
-    // that were handed out, and one order of events: for `replay` the schedule, for `run` some order.
+    // written, the container with the bundles that that same run made, sealed under the keys that were
+    // handed out, and the guest file with what its guests noted. The run has the secret words that were
+    // handed out, and one order of events: for `replay` the schedule, for `run` some order.
     ensures put_run { result ≡ 0 → PutsRun (command_in (map string_bytes words.now)) (F.loads files.old) (F.loads files.new) (K.puts out.old) (K.puts out.new) (Ok tt) }
     ensures saved { result ≡ 0 → PutsAndSaved (command_in (map string_bytes words.now)) (F.loads files.old) (F.loads files.new) (K.puts out.old) (K.puts out.new) (record { contents = F.contents files.old; saves = F.saves files.old; faults = F.write_faults files.old }) (record { contents = F.contents files.new; saves = F.saves files.new; faults = F.write_faults files.new }) }
     // In that run each access of a guest to its private memory reached a private page of its own TD,
     // which the TD's secure EPT named there; a load gave the word that the guest knew, and a store left
     // it its register's.
-    ensures put_accesses { result ≡ 0 → (run : PutsRun (command_in (map string_bytes words.now)) (F.loads files.old) (F.loads files.new) (K.puts out.old) (K.puts out.new) (Ok tt)) × OwnAccesses (opening_of run.secrets run.script) run.order }
+    ensures put_accesses { result ≡ 0 → (run : PutsRun (command_in (map string_bytes words.now)) (F.loads files.old) (F.loads files.new) (K.puts out.old) (K.puts out.new) (Ok tt)) × OwnAccesses (opening_of run.handed.secrets run.script) run.order }
     // For `run` what was put and saved is what processors in threads can have done: there are own lists
     // of word steps, one of each, which have an order that plays, and each such order is one of events
     // under which the flat machine's run prints and notes the same.
@@ -257,7 +233,7 @@ pub fn tdx_main<R: Threads + Sync, F: Files, K: Sink, G: Gate + Sync>(
     // Where contents are told, at status 0 the output got just the reply lines of the flat machine's run
     // of the named script, or its numbers, and each file that is named has what that same run leaves.
     ensures one_run { result ≡ 0 → IfSome (F.contents files.old) (λ k. OneRun k (command_in (map string_bytes words.now)) (K.told out.old) (K.told out.new) (record { contents = F.contents files.old; saves = F.saves files.old; faults = F.write_faults files.old }) (record { contents = F.contents files.new; saves = F.saves files.new; faults = F.write_faults files.new })) }
-    ensures one_accesses { result ≡ 0 → IfSome (F.contents files.old) (λ k. (run : OneRun k (command_in (map string_bytes words.now)) (K.told out.old) (K.told out.new) (record { contents = F.contents files.old; saves = F.saves files.old; faults = F.write_faults files.old }) (record { contents = F.contents files.new; saves = F.saves files.new; faults = F.write_faults files.new })) × OwnAccesses (opening_of (secrets_held k run.command) run.script) run.order) }
+    ensures one_accesses { result ≡ 0 → IfSome (F.contents files.old) (λ k. (run : OneRun k (command_in (map string_bytes words.now)) (K.told out.old) (K.told out.new) (record { contents = F.contents files.old; saves = F.saves files.old; faults = F.write_faults files.old }) (record { contents = F.contents files.new; saves = F.saves files.new; faults = F.write_faults files.new })) × OwnAccesses (opening_of (handed_held k run.command).secrets run.script) run.order) }
     ensures one_blind { result ≡ 0 → IfSome (F.contents files.old) (λ k. ShowsBlind k (command_in (map string_bytes words.now)) (K.told out.old) (K.told out.new) (record { contents = F.contents files.old; saves = F.saves files.old; faults = F.write_faults files.old }) (record { contents = F.contents files.new; saves = F.saves files.new; faults = F.write_faults files.new })) }
     // There each status comes with its text.
     ensures ends { IfSome (F.contents files.old) (λ k. EndsWith (record { reads = F.read_faults files.old; writes = F.write_faults files.old; puts = K.faults out.old }) (record { reads = F.read_faults files.new; writes = F.write_faults files.new; puts = K.faults out.new }) k (command_in (map string_bytes words.now)) (K.told out.old) (K.told out.new) result) }
@@ -272,7 +248,7 @@ pub fn tdx_main<R: Threads + Sync, F: Files, K: Sink, G: Gate + Sync>(
     ensures read { result ≡ 3 → ReadCause (F.contents files.old) (command_in (map string_bytes words.now)) (F.read_faults files.old) (F.read_faults files.new) }
     ensures write { result ≡ 4 → WriteCause (record { reads = F.read_faults files.old; writes = F.write_faults files.old; puts = K.faults out.old }) (record { reads = F.read_faults files.new; writes = F.write_faults files.new; puts = K.faults out.new }) (out_names (command_in (map string_bytes words.now))) }
     ensures container { result ≡ 6 → IfSome (F.contents files.old) (λ k. IsBadContainer k (command_in (map string_bytes words.now))) }
-    ensures keys { result ≡ 7 → IfSome (F.contents files.old) (λ k. IsBadLength k (command_in (map string_bytes words.now))) }
+    ensures keys { result ≡ 7 → IfSome (F.contents files.old) (λ k. IsBadKeysOrSecrets k (command_in (map string_bytes words.now))) }
     // What the output got before the call gave up.
     ensures fronts { (result ≡ 4) ⊎ (result ≡ 5) → IfSome (F.contents files.old) (λ k. PutsFrontsOf k (command_in (map string_bytes words.now)) (K.told out.old) result (K.told out.new)) }
     // A text is put even where it is empty, in one put; one more may come at the status 4, where a file

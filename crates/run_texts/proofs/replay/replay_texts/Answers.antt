@@ -6,7 +6,7 @@ use Rattle.trace_table.specs.Benches.{PassSeen, bench_of, table_of}
 use Rattle.leaf_dispatch.specs.Table.{secrets_in}
 use Rattle.run_texts.specs.Openings.{opening_of}
 use Rattle.run_texts.proofs.Codes.{operations-of, short-lists}
-use Rattle.run_texts.proofs.Replayed.{starts, first-bench, open-of, tells, prints-all, notes-all}
+use Rattle.run_texts.proofs.Replayed.{starts, first-bench, open-of, tells, prints-all, notes-all, fits-all, seals-all}
 use Rattle.run_texts.proofs.replay.replay_texts.Goals as goal
 
 pub follow_schedule-requires-clause-left : goal.follow_schedule-requires-clause-left
@@ -22,10 +22,17 @@ pub processors-requires-clause-short : goal.processors-requires-clause-short
 processors-requires-clause-short c =
     short-lists c.deref.result.now c.args.script.now.calls (ap (map (λ list. list.items)) c.deref.ensures.value ∙ ap (λ (s : ScriptSeen). s.calls) c.script.view_is) c.requires.form.few_calls
 
+pub all_texts-requires-clause-fit : goal.all_texts-requires-clause-fit
+all_texts-requires-clause-fit c =
+    let closed = subst (λ (z : List (List Taken)). MergesTo c.in_ok-table.table.machine z c.close.result.words) (ap (λ (p : PassSeen). p.lists) c.into_pass-pass.ensures) c.close.ensures in
+    let op = open-of (secrets_in c.args.secrets.now) c.args.script.now c.requires.form in
+    fits-all c.laws_of_turns.ensures (opening_of (secrets_in c.args.secrets.now) c.args.script.now) c.args.script.now.schedule _ _ _ _ _ op c.finish_all.ensures.left c.finish_all.ensures.ended closed
+
 pub returns : goal.returns
 returns c =
     let closed = subst (λ (z : List (List Taken)). MergesTo c.in_ok-table.table.machine z c.close.result.words) (ap (λ (p : PassSeen). p.lists) c.into_pass-pass.ensures) c.close.ensures in
     let op = open-of (secrets_in c.args.secrets.now) c.args.script.now c.requires.form in
-    tells c.both_texts.result _ _ _ _ _ c.both_texts.ensures
+    tells c.all_texts.result _ _ _ _ _ _ _ _ c.all_texts.ensures
     (prints-all c.laws_of_turns.ensures (opening_of (secrets_in c.args.secrets.now) c.args.script.now) c.args.script.now.schedule _ _ _ _ _ op c.finish_all.ensures.left c.finish_all.ensures.ended closed)
+    (seals-all c.laws_of_turns.ensures (opening_of (secrets_in c.args.secrets.now) c.args.script.now) c.args.script.now.schedule _ _ _ _ _ op c.finish_all.ensures.left c.finish_all.ensures.ended closed c.args.keys.now.forward c.args.keys.now.backward)
     (notes-all c.laws_of_turns.ensures (opening_of (secrets_in c.args.secrets.now) c.args.script.now) c.args.script.now.schedule _ _ _ _ _ op c.finish_all.ensures.left c.finish_all.ensures.ended closed)

@@ -1,0 +1,73 @@
+//! The bundles of all processors, sealed, in one container.
+
+ghost use Rattle.std.specs.Prelude.{◌≡◌, ◌++◌, option_map, IfOk, IfSome, OnOk};
+ghost use Rattle.bundle_texts.specs.Ordered.{FitContainer, container_text};
+ghost use Rattle.run_texts.specs.Sealing.{bundles_seen};
+
+use crate::key_pairs::KeyPair;
+use aes_block::Aes256;
+use bundle_texts::container_of;
+use bundles::{Bundle, Bundles};
+use gcm_seal::Keys;
+use leaf_dispatch::LpState;
+use std::alloc::Global;
+use td_words::OutOfMemory;
+
+// Adds the bundles of a processor at the end.
+fn add_bundles<'b>(bundles: &'b Bundles, all: &mut Vec<Bundle<'b>>) -> Result<(), OutOfMemory>
+    ensures { OnOk result (all.new.items ≡ all.old.items ++ bundles.now.made) }
+{
+    for i in 0..bundles.len() {
+        let Some(bundle) = bundles.get(i) else {
+            unreachable!()
+        };
+        let Ok(()) = all.push(bundle) else {
+            return Err(OutOfMemory);
+        };
+    }
+    Ok(())
+}
+
+// The bundles of all processors, one processor's behind the other's.
+fn all_bundles<'b>(alloc: Global, lps: &'b [LpState<'_>]) -> Result<Vec<Bundle<'b>>, OutOfMemory>
+    ensures { IfOk result (λ v. v.items ≡ bundles_seen lps.now) }
+{
+    let mut all = Vec::new(alloc);
+    for lp in 0..lps.len() {
+        add_bundles(lps[lp].bundles(), &mut all)?;
+    }
+    Ok(all)
+}
+
+// The container of these bundles, each sealed. The keys have 15 KiB each when they are expanded, and stand
+// on the stack only while bundles are sealed.
+#[inline(never)]
+fn seal_all(alloc: Global, keys: &KeyPair, bundles: Vec<Bundle<'_>>) -> Result<Vec<u8>, OutOfMemory>
+    requires { FitContainer bundles.items }
+    ensures { IfOk result (λ v. v.items ≡ container_text keys.now.forward keys.now.backward bundles.entry.items) }
+{
+    let expanded = Keys {
+        forward: Aes256::new(&keys.forward),
+        backward: Aes256::new(&keys.backward),
+    };
+    container_of(alloc, &expanded, bundles)
+}
+
+/// The container of the bundles of all processors, each sealed, where it is named, and else nothing.
+pub fn sealed_bundles(
+    alloc: Global,
+    keys: &KeyPair,
+    out_bundles: Option<&str>,
+    lps: &[LpState<'_>],
+) -> Result<Vec<u8>, OutOfMemory>
+    requires { FitContainer (bundles_seen lps.now) }
+    ensures { IfOk result (λ v. IfSome (option_map (λ name. name.now) out_bundles.entry) (λ name. v.items ≡ container_text keys.now.forward keys.now.backward (bundles_seen lps.now))) }
+{
+    match out_bundles {
+        None => Ok(Vec::new(alloc)),
+        Some(_) => {
+            let bundles = all_bundles(alloc, lps)?;
+            seal_all(alloc, keys, bundles)
+        }
+    }
+}
