@@ -1,8 +1,9 @@
-"""Bundles and containers of docs/profile.md. Only sealing and opening need the package `cryptography`."""
+"""Bundles and containers of docs/profile.md."""
 
 import struct
 from collections import namedtuple
 
+import gcm
 from machine import Refused
 
 MAGIC = b"TDXBNDL1"
@@ -67,11 +68,9 @@ def form_fault(bundle):
     return None if len(bundle) == HEADER_BYTES + PAYLOADS[header.type] else "LENGTH"
 
 
-def cipher(keys, kind):
-    """The cipher of a type's key: types 0 to 5 have the first key, type 6 has the key back."""
-    from cryptography.hazmat.primitives.ciphers.aead import AESGCM
-
-    return AESGCM(keys[32:] if kind == ABORT_TOKEN else keys[:32])
+def key_of(keys, kind):
+    """A type's key: types 0 to 5 have the first key, type 6 has the key back."""
+    return keys[32:] if kind == ABORT_TOKEN else keys[:32]
 
 
 def iv_of(header):
@@ -82,19 +81,17 @@ def iv_of(header):
 def seal(keys, header, payload):
     """The bundle with that header and payload."""
     start = LAYOUT.pack(*header)
-    sealed = cipher(keys, header.type).encrypt(iv_of(header), payload, start)
-    return start + sealed[len(payload) :] + sealed[: len(payload)]
+    sealed, tag = gcm.seal(key_of(keys, header.type), iv_of(header), payload, start)
+    return start + tag + sealed
 
 
 def unseal(keys, bundle):
     """The payload of a bundle; refuses one whose tag is another."""
-    from cryptography.exceptions import InvalidTag
-
     header = header_of(bundle)
-    sealed = bundle[HEADER_BYTES:] + bundle[TAG]
+    key, start = key_of(keys, header.type), bundle[: LAYOUT.size]
     try:
-        return cipher(keys, header.type).decrypt(iv_of(header), sealed, bundle[: LAYOUT.size])
-    except InvalidTag:
+        return gcm.unseal(key, iv_of(header), bundle[HEADER_BYTES:], start, bundle[TAG])
+    except gcm.WrongTag:
         raise Refused("BUNDLE_TAG") from None
 
 

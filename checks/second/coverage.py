@@ -16,6 +16,10 @@ TEARDOWN = "LIFECYCLE_STATE_INCORRECT TD_TEARDOWN"
 UNINITIALIZED = "OP_STATE_INCORRECT UNINITIALIZED"
 INITIALIZED = "OP_STATE_INCORRECT INITIALIZED"
 RUNNABLE = "OP_STATE_INCORRECT RUNNABLE"
+LIVE = "OP_STATE_INCORRECT LIVE_EXPORT"
+PAUSED = "OP_STATE_INCORRECT PAUSED_EXPORT"
+POST = "OP_STATE_INCORRECT POST_EXPORT"
+SESSION = (LIVE, PAUSED, POST)
 WALKS = ("EPT_WALK_FAILED 3", "EPT_WALK_FAILED 2", "EPT_WALK_FAILED 1")
 HEAD = (TD, ASSIGNED, BLOCKED, TEARDOWN, "TDCX_NUM_INCORRECT 0", "TDCX_NUM_INCORRECT 1")
 EARLY = (*HEAD, UNINITIALIZED, INITIALIZED)
@@ -27,7 +31,8 @@ def states(*names):
 
 
 # By call, and by field for MNG.RD: which of its tries can be denied, and its other refusals. Where O is
-# held exclusively T can't be busy. A TD that runs has no VCPU in CREATED, since nothing is imported.
+# held exclusively T can't be busy. A TD that runs has no VCPU in CREATED, since nothing is imported; no page is
+# exported, so none is dirty or unrestored; and no script has calls enough for the last value of a counter.
 REFUSALS = {
     "HOST.READ": ((1,), ()),
     "HOST.WRITE": ((1,), ("NOT_HOST",)),
@@ -37,30 +42,32 @@ REFUSALS = {
     "MNG.CREATE": ((1, 2), (TD, "HKID_NOT_FREE")),
     "MNG.KEY.CONFIG": ((1,), (TD, CONFIGURED, BLOCKED, TEARDOWN)),
     "MNG.ADDCX": ((1, 2), (TD, SECOND, ASSIGNED, BLOCKED, TEARDOWN, "TDCX_NUM_INCORRECT 2")),
-    "MNG.INIT": ((1, 2), (*HEAD, INITIALIZED, RUNNABLE)),
+    "MNG.INIT": ((1, 2), (*HEAD, INITIALIZED, RUNNABLE, *SESSION)),
     "MNG.RD LIFE": ((1,), (TD,)),
     "MNG.RD OP": ((1, 2), HEAD),
     "MNG.RD EPOCH": ((1, 2, 3), (*HEAD, UNINITIALIZED)),
     "MNG.RD MRTD": ((1, 2), (*HEAD, UNINITIALIZED, INITIALIZED)),
-    "MR.EXTEND": ((1, 2, 4), (*HEAD, UNINITIALIZED, RUNNABLE, *WALKS, "EPT_ENTRY_STATE_INCORRECT FREE")),
-    "MR.FINALIZE": ((1, 2), (*HEAD, UNINITIALIZED, RUNNABLE, "VCPU_STATE_INCORRECT CREATED")),
+    "MR.EXTEND": ((1, 2, 4), (*HEAD, UNINITIALIZED, RUNNABLE, *SESSION, *WALKS, "EPT_ENTRY_STATE_INCORRECT FREE")),
+    "MR.FINALIZE": ((1, 2), (*HEAD, UNINITIALIZED, RUNNABLE, *SESSION, "VCPU_STATE_INCORRECT CREATED")),
     "MNG.VPFLUSHDONE": ((1, 2), (TD, BLOCKED, TEARDOWN, "FLUSHVP_NOT_DONE")),
     "MNG.KEY.FREEID": ((1, 2), (TD, ASSIGNED, CONFIGURED, TEARDOWN, "CACHE_WB_NOT_DONE")),
-    "VP.CREATE": ((1, 2, 3), (*HEAD, UNINITIALIZED, RUNNABLE, SECOND, "LIMIT VCPUS")),
-    "VP.INIT": ((1, 2, 3), (*HEAD, UNINITIALIZED, RUNNABLE, SECOND, "VCPU_STATE_INCORRECT READY")),
-    "MEM.SEPT.ADD": ((1, 2, 3, 4), (*HEAD, UNINITIALIZED, *WALKS[:2], FOURTH, *states("NL_MAPPED", "NL_BLOCKED"))),
+    "VP.CREATE": ((1, 2, 3), (*HEAD, UNINITIALIZED, RUNNABLE, *SESSION, SECOND, "LIMIT VCPUS")),
+    "VP.INIT": ((1, 2, 3), (*HEAD, UNINITIALIZED, RUNNABLE, *SESSION, SECOND, "VCPU_STATE_INCORRECT READY")),
+    "MEM.SEPT.ADD": (
+        (1, 2, 3, 4), (*HEAD, UNINITIALIZED, PAUSED, POST, *WALKS[:2], FOURTH, *states("NL_MAPPED", "NL_BLOCKED"))
+    ),
     "MEM.SEPT.RD": ((1, 2, 3), (*HEAD, UNINITIALIZED, *WALKS)),
     "MEM.PAGE.ADD": (
         (1, 2, 4, 5),
-        (*HEAD, UNINITIALIZED, RUNNABLE, *WALKS, THIRD, FOURTH, "EPT_ENTRY_STATE_INCORRECT MAPPED"),
+        (*HEAD, UNINITIALIZED, RUNNABLE, *SESSION, *WALKS, THIRD, FOURTH, "EPT_ENTRY_STATE_INCORRECT MAPPED"),
     ),
     "MEM.PAGE.AUG": (
         (1, 2, 3, 4),
-        (*EARLY, *WALKS, THIRD, *states("MAPPED", "PENDING", "BLOCKED", "PENDING_BLOCKED")),
+        (*EARLY, PAUSED, POST, *WALKS, THIRD, *states("MAPPED", "PENDING", "BLOCKED", "PENDING_BLOCKED", "BLOCKEDW")),
     ),
     "VP.ENTER": (
         (1, 2, 3, 4),
-        (*EARLY, SECOND, "VCPU_ASSOCIATED", "EXIT STOP", "EXIT MAX", "EXIT VMCALL", "EXIT EPT_VIOLATION READ",
+        (*EARLY, PAUSED, POST, SECOND, "VCPU_ASSOCIATED", "EXIT STOP", "EXIT MAX", "EXIT VMCALL", "EXIT EPT_VIOLATION READ",
          "EXIT EPT_VIOLATION WRITE", "EXIT BUSY P", "EXIT BUSY T", "EXIT BUSY R"),
     ),
     "VP.FLUSH": (
@@ -68,30 +75,40 @@ REFUSALS = {
     ),
     "MEM.SEPT.REMOVE": (
         (1, 2, 3, 4, 5),
-        (*EARLY, *WALKS[:2], *states("FREE", "NL_MAPPED"), "SEPT_NOT_EMPTY", "TLB_TRACKING_NOT_DONE"),
+        (*EARLY, *SESSION, *WALKS[:2], *states("FREE", "NL_MAPPED"), "SEPT_NOT_EMPTY", "TLB_TRACKING_NOT_DONE"),
     ),
     "MEM.PAGE.REMOVE": (
-        (1, 2, 3, 4, 5), (*EARLY, *WALKS, *states("FREE", "MAPPED", "PENDING"), "TLB_TRACKING_NOT_DONE")
+        (1, 2, 3, 4, 5), (*EARLY, *SESSION, *WALKS, *states("FREE", "MAPPED", "PENDING", "BLOCKEDW"), "TLB_TRACKING_NOT_DONE")
     ),
     "MEM.RANGE.BLOCK": (
-        (1, 2, 3, 4, 5), (*EARLY, *WALKS, *states("FREE", "BLOCKED", "PENDING_BLOCKED", "NL_BLOCKED"))
+        (1, 2, 3, 4, 5), (*EARLY, *SESSION, *WALKS, *states("FREE", "BLOCKED", "PENDING_BLOCKED", "NL_BLOCKED", "BLOCKEDW"))
     ),
     "MEM.RANGE.UNBLOCK": (
         (1, 2, 3, 4, 5),
-        (*EARLY, *WALKS, *states("FREE", "MAPPED", "PENDING", "NL_MAPPED"), "TLB_TRACKING_NOT_DONE"),
+        (*EARLY, *SESSION, *WALKS, *states("FREE", "MAPPED", "PENDING", "NL_MAPPED", "BLOCKEDW"), "TLB_TRACKING_NOT_DONE"),
     ),
-    "MEM.TRACK": ((1, 2, 3), (*EARLY, "PREVIOUS_TLB_EPOCH_BUSY")),
-    "MIG.STREAM.CREATE": ((1, 2, 3), (*HEAD, SECOND, "LIMIT STREAMS")),
-    "EXPORT.BLOCKW": ((1, 2), (*EARLY, RUNNABLE)),
-    "EXPORT.UNBLOCKW": ((1, 2), (*EARLY, RUNNABLE)),
-    "EXPORT.PAUSE": ((1, 2), (*EARLY, RUNNABLE)),
-    "EXPORT.ABORT": ((1, 2), (*EARLY, RUNNABLE)),
+    "MEM.TRACK": ((1, 2, 3), (*EARLY, PAUSED, POST, "PREVIOUS_TLB_EPOCH_BUSY")),
+    "MIG.STREAM.CREATE": ((1, 2, 3), (*HEAD, *SESSION, SECOND, "LIMIT STREAMS")),
+    "EXPORT.STATE.IMMUTABLE": ((1, 2, 3), (*EARLY, *SESSION, "NO_STREAM 0")),
+    "EXPORT.BLOCKW": (
+        (1, 2, 3, 4, 5), (*EARLY, RUNNABLE, PAUSED, POST, *WALKS, *states("FREE", "PENDING", "BLOCKED", "BLOCKEDW"))
+    ),
+    "EXPORT.UNBLOCKW": (
+        (1, 2, 3, 4), (*EARLY, RUNNABLE, PAUSED, POST, *WALKS, *states("FREE", "MAPPED", "PENDING", "BLOCKED"))
+    ),
+    "EXPORT.TRACK": ((1, 2), (*EARLY, RUNNABLE, LIVE, POST, "STATE_MISSING")),
+    "EXPORT.PAUSE": ((1, 2), (*EARLY, RUNNABLE, PAUSED, POST)),
+    "EXPORT.STATE.TD": ((1, 2), (*EARLY, RUNNABLE, LIVE, POST, "ALREADY_EXPORTED")),
+    "EXPORT.STATE.VP": ((1, 2, 3), (*EARLY, RUNNABLE, LIVE, POST, SECOND, "ALREADY_EXPORTED")),
+    "EXPORT.ABORT": ((1, 2), (*EARLY, RUNNABLE, POST)),
     "EXPORT.RESTORE": (
-        (1, 2, 3), (*EARLY, *WALKS, *states("FREE", "MAPPED", "PENDING", "BLOCKED", "PENDING_BLOCKED"))
+        (1, 2, 3, 4),
+        (*EARLY, *SESSION, *WALKS, *states("FREE", "MAPPED", "PENDING", "BLOCKED", "PENDING_BLOCKED")),
     ),
 }
 SHOWN_WITHOUT_NUMBER = (
     "SUCCESS", "PAGES_EXIST", "FLUSHVP_NOT_DONE", "VCPU_ASSOCIATED", "PREVIOUS_TLB_EPOCH_BUSY", "SEPT_NOT_EMPTY",
+    "STATE_MISSING",
 )
 
 # What can come of each guest operation. A private access is decided by a cached translation or by a walk.
@@ -126,6 +143,12 @@ BLOCKING = {
     "load private": (*USES, *BLOCKED_WAYS),
     "store private": (*USES, *BLOCKED_WAYS),
     "accept": BLOCKED_WAYS,
+}
+# What a guest meets only where an export can begin, and the bundles that are made then.
+EXPORTING = {
+    "store private": ("EPT_VIOLATION at BLOCKEDW",),
+    "accept": ("completed at BLOCKEDW",),
+    "bundles": tuple(f"made of type {kind}" for kind in (0, 1, 2, 4, 5)),
 }
 # Beside which guests of the TD memory is blocked and taken, and why a block isn't tracked.
 BESIDES = ("SUCCESS without a guest", "SUCCESS beside a guest")
@@ -162,7 +185,6 @@ COMES_BY = {
     "MEM.PAGE.AUG: EPT_ENTRY_STATE_INCORRECT PENDING_BLOCKED": "MEM.RANGE.BLOCK",
     "VP.ENTER: EXIT BUSY T": "accept",
     "VP.ENTER: EXIT BUSY R": "rtmr",
-    **{f"EXPORT.{name}: SUCCESS": "EXPORT.STATE.IMMUTABLE" for name in ("BLOCKW", "UNBLOCKW", "PAUSE", "ABORT", "RESTORE")},
 }
 # Calls whose success is told by their exit.
 ENTERS = ("VP.ENTER",)
@@ -180,7 +202,7 @@ def wanted():
         if call.split()[0] in UNBUILT:
             continue
         kinds = BUILT[call.split()[0]]
-        places = [place for place, kind in enumerate(kinds, 1) if kind not in ("value", "field")]
+        places = [place for place, kind in enumerate(kinds, 1) if kind not in ("value", "field", "output")]
         names.update(f"{call}: OPERAND_INVALID {place}" for place in places)
         names.update(f"{call}: OPERAND_BUSY at try {place}" for place in tries)
         names.update(f"{call}: {refusal}" for refusal in (*refusals, *("SUCCESS",) * (call not in ENTERS)))
@@ -189,6 +211,8 @@ def wanted():
     if "MEM.RANGE.BLOCK" in BUILT and "VP.ENTER" in BUILT:
         came_by_blocks = has(BLOCKING) + has(BESIDE_GUESTS)
         names.update(f"{name}: {came}" for name, all_came in came_by_blocks for came in all_came)
+    if "EXPORT.STATE.IMMUTABLE" in BUILT:
+        names.update(f"{name}: {came}" for name, all_came in EXPORTING.items() for came in all_came)
     names -= {name for name, call in COMES_BY.items() if call in UNBUILT}
     names.update(f"reason {reason}" for reason in REASONS)
     return names | {f"status {status}" for status in (*range(4), 6, "7 key file", "7 secrets file")}

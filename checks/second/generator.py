@@ -4,10 +4,13 @@ A *story* tells lives of TDs, with other calls between them. A *race* has a TD s
 processors that call for the same pages and locks at once. A *crowd* has a TD that runs, processors that enter
 its VCPUs, and others that give it pages, block, track and remove them meanwhile. A *meeting* changes a map under a
 guest that is just on its way, or lets guests in at once, as it comes rarely in a crowd. A *noise* has calls without
-any order. Faulty scripts are one of these with bad lines put in. Last there are scripts at a limit of the
+any order. A *session* exports a TD as far as calls go, and tries all calls in one of its states; others enter its
+VCPUs meanwhile. Faulty scripts are one of these with bad lines put in. Last there are scripts at a limit of the
 grammar, and command lines that name no script. What comes rarely by chance, as a race for one call, comes in
 turn. Calls that the program doesn't have stand in UNBUILT, and come in faulty scripts alone. Most scripts come
-with a secrets file, a few of these with a bad one.
+with a secrets file and a key file, a few of these with a bad one.
+
+A call that makes a bundle has the word SLOT in the place of its slot until its script is whole (`with_slots`).
 """
 
 import random
@@ -17,7 +20,7 @@ from machine import Outside
 from program import processors_of
 from rows import FIELDS, GPA_END, PAGE_BYTES, alignment
 from scripts import (
-    ABORT_WITH_SLOT, BUILT, CALLS_OF_A_PROCESSOR, ITEMS, OPERATIONS_OF_A_LIST, SCRIPT_END, UNBUILT, read,
+    ABORT_WITH_SLOT, BUILT, CALLS_OF_A_PROCESSOR, ITEMS, OPERATIONS_OF_A_LIST, SCRIPT_END, SLOTS, UNBUILT, read,
 )
 
 SIZES = (8, 12, 16, 24, 40, 40, 1024)
@@ -28,14 +31,18 @@ LEVEL_BYTES = [PAGE_BYTES << 9 * level for level in range(4)]
 # Calls that lead a TD on so far that little can be done with it then.
 LEADING = ("MR.FINALIZE", "MNG.VPFLUSHDONE")
 
+# Calls that lead out of the first two states of an export.
+LEAVING = ("EXPORT.PAUSE", "EXPORT.ABORT")
+
 # Calls whose last conditions are met only where a TD's tree stands.
 DEEP = (
     "MR.EXTEND", "MEM.SEPT.ADD", "MEM.SEPT.RD", "MEM.PAGE.ADD", "MEM.PAGE.AUG", "VP.ENTER", "VP.FLUSH",
-    "MEM.SEPT.REMOVE", "MEM.PAGE.REMOVE", "MEM.RANGE.BLOCK", "MEM.RANGE.UNBLOCK", "EXPORT.RESTORE",
+    "MEM.SEPT.REMOVE", "MEM.PAGE.REMOVE", "MEM.RANGE.BLOCK", "MEM.RANGE.UNBLOCK", "EXPORT.RESTORE", "EXPORT.BLOCKW",
+    "EXPORT.UNBLOCKW",
 )
 
 # Calls on a VCPU of a TD, which is their second argument.
-OF_A_VCPU = ("VP.INIT", "VP.ENTER", "VP.FLUSH")
+OF_A_VCPU = ("VP.INIT", "VP.ENTER", "VP.FLUSH", "EXPORT.STATE.VP")
 
 # Calls that are refused twice in a row; what went before them makes them succeed again.
 IN_ROUNDS = ("MEM.SEPT.REMOVE", "MEM.PAGE.REMOVE", "MEM.RANGE.UNBLOCK")
@@ -58,7 +65,7 @@ class Life:
         self.private = [pages.pop() for _ in range(min(chance.choice(sizes[1]), max(0, len(pages) - 4)))]
         self.waiting = [pages.pop() for _ in range(min(chance.choice((1, 1, 2)), max(0, len(pages) - 1)))]
         self.spare = [pages.pop() for _ in range(len(pages) > 1)]  # of a table that comes and goes
-        self.streams = [pages.pop() for _ in range(min(chance.choice((0, 0, 1, 4)), max(0, len(pages) - 8)))]
+        self.streams = [pages.pop() for _ in range(min(chance.choice((0, 1, 1, 4)), max(0, len(pages) - 8)))]
         self.gpa = chance.choice((0, 511, 513, 1 << 18, 3 << 33)) * PAGE_BYTES
         if len(self.tables) < 3:
             self.private = self.waiting = []
@@ -142,19 +149,58 @@ class Life:
         again = [f"MEM.RANGE.UNBLOCK {self.td} {gpa} {level}"] * (not added)
         return [*added, *calls, f"{name} {self.td} {gpa} {level}", *again]
 
-    def write_round(self, chance):
-        """Writes to a private page that are blocked and allowed again, and an export that is paused, aborted and
-        forgotten."""
+    def live(self, chance):
+        """What is done while an export begins: writes are blocked and allowed, and epochs begin."""
+        gpas = self.gpas() or [self.gpa]
+        calls = [f"EXPORT.BLOCKW {self.td} {chance.choice(gpas)}"] * chance.choice((0, 1))
+        for _ in range(chance.choice((1, 3, 5))):
+            gpa = chance.choice(gpas)
+            blocks, again = (f"EXPORT.{name} {self.td} {gpa}" for name in ("BLOCKW", "UNBLOCKW"))
+            rounds = ([blocks], [blocks, again], self.tracking(chance), self.entries(chance), [self.token(0)])
+            calls += chance.choice(rounds)
+        return calls
+
+    def token(self, starts):
+        """An epoch token, or the start token."""
+        return f"EXPORT.TRACK {self.td} SLOT {starts}"
+
+    def states(self, chance, starts):
+        """The states of a TD that is paused, in any order, some of them twice, or not at all where no start token
+        follows."""
+        states = [f"EXPORT.STATE.TD {self.td} SLOT", *(f"EXPORT.STATE.VP {self.td} {page} SLOT" for page in self.vcpus)]
+        chance.shuffle(states)
+        kept = states[chance.choice((0, 1)) * (not starts) :]
+        return kept + kept[:1] * chance.choice((0, 0, 1)) + [self.token(0)] * chance.choice((0, 0, 1))
+
+    def export(self, chance, starts):
+        """The calls of an export from its first bundle on, in three parts: while it is live, from its pause on, and its
+        end: the start token, or an abort with what it leaves to be done, and perhaps a further export."""
+        live = [f"EXPORT.STATE.IMMUTABLE {self.td} SLOT", *self.live(chance)]
+        paused = [f"EXPORT.PAUSE {self.td}", *self.states(chance, starts)]
+        if starts:
+            return live, paused, [self.token(1)]
         gpa = chance.choice(self.gpas() or [self.gpa])
-        pages = [f"EXPORT.{name} {self.td} {gpa}" for name in ("BLOCKW", "UNBLOCKW", "RESTORE")]
-        return pages[:2] + [f"EXPORT.PAUSE {self.td}", f"EXPORT.ABORT {self.td}", pages[2]]
+        left = [f"MEM.RANGE.BLOCK {self.td} {gpa} 0", f"MEM.RANGE.UNBLOCK {self.td} {gpa} 0", f"MEM.PAGE.REMOVE {self.td} {gpa}"]
+        restores = [f"EXPORT.RESTORE {self.td} {gpa}" for gpa in self.gpas()]
+        again = [call for part in self.export(chance, chance.random() < 0.5) for call in part]
+        others = left * chance.choice((0, 1)) + restores + again * chance.choice((0, 1))
+        return live, paused, [self.token(1)] * chance.choice((0, 1)) + [f"EXPORT.ABORT {self.td}", *others]
+
+    def export_round(self, chance):
+        """An export, perhaps in a wrong order, or not to its end."""
+        live, paused, end = self.export(chance, chance.random() < 0.4)
+        calls = live + chance.choice(([], paused)) + chance.choice(([f"EXPORT.ABORT {self.td}"], end))
+        if chance.random() < 0.1:
+            chance.shuffle(calls)
+        return calls
 
     def run(self, chance):
         """Calls on the TD while it runs, of which the last let its VCPUs go."""
         calls = []
-        rounds = (self.entries, self.entries, self.page_round, self.page_round, self.table_round, self.write_round)
+        rounds = (self.entries, self.page_round, self.table_round)
         for _ in range(chance.choice((0, 3, 6))):
-            calls += chance.choice(rounds)(chance)
+            calls += chance.choice((*rounds[:2], *rounds))(chance)
+        calls += self.export_round(chance) * chance.choice((0, 0, 1, 2))
         calls += [f"VP.FLUSH {self.td} {page}" for page in self.vcpus + self.vcpus[:1]] if calls else []
         return only_built(calls)
 
@@ -172,6 +218,14 @@ class Life:
 def only_built(lines):
     """Those calls and operations that the program has, with other lines of blocks."""
     return [line for line in lines if line.split()[0] not in UNBUILT]
+
+
+def with_slots(chance, lines):
+    """The lines with a slot of its own in the place of each word SLOT."""
+    count = sum("SLOT" in line.split() for line in lines)
+    slots = iter(chance.sample(SLOTS, count))
+    return [line.replace("SLOT", chance.choice(("{}", "{:#x}", "0{}")).format(next(slots))) if "SLOT" in line.split() else line
+            for line in lines]
 
 
 def a_word(chance):
@@ -242,7 +296,9 @@ class Scene:
             return a_word(chance)
         if kind == "most":
             return chance.choice((1, 2, 10, 65_535))
-        ranges = {"level": range(4), "upper level": range(1, 4), "value": range(1 << 16)}
+        if kind == "output":
+            return "SLOT"
+        ranges = {"level": range(4), "upper level": range(1, 4), "value": range(1 << 16), "start": range(2)}
         return chance.choice(ranges[kind])
 
     def call(self, name, life, spoiled):
@@ -270,8 +326,10 @@ class Scene:
             "most": (0, 65_536),
             "value": ((1 << 64) - 1,),
             "field": FIELDS,
+            "start": (1, 2),
         }
-        for place in chance.sample(range(len(kinds)), chance.choice((1, 1, 1, min(2, len(kinds))))):
+        places = [place for place, kind in enumerate(kinds) if kind != "output"]
+        for place in chance.sample(places, chance.choice((1, 1, 1, min(2, len(places))))):
             far = () if kinds[place] == "field" else ((1 << 64) - 1, 1 << 63)
             arguments[place] = chance.choice((*edges[kinds[place]] * 2, *far))
 
@@ -338,21 +396,28 @@ def race(chance, scene, turn):
     again. The others try the locks of that call, most of them one and the same lock."""
     life = scene.lives[0]
     visit, due = divmod(turn, len(BUILT))
-    name, names = tuple(BUILT)[due], []
+    name, answered = tuple(BUILT)[due], []
+    if name.startswith("EXPORT") and not life.streams and len(scene.host) > 4:
+        life.streams = [scene.host.pop()]
     for _ in range(20):
-        if name not in names:
+        if not answered:
             whole = life.build(chance, scene.host[-1]) + life.run(chance) + life.end(chance)
-            names = [call.split()[0] for call in whole]
-    if name not in names:
-        name = chance.choice(names)
-    at = chance.choice([place for place, call in enumerate(whole) if call.split()[0] == name])
-    targets = [*life.pages_of(whole[at]) * 2, "K", "O", "T", life.td, *["E"] * ("MEM.TRACK" in BUILT)]
+            answered = places_of(scene, whole, name)
+    at = chance.choice(answered or range(len(whole)))
+    name = whole[at].split()[0]
+    pages = life.pages_of(whole[at])
+    targets = [*pages, life.td, "E", "T", "O", "K", *pages]
     main = targets[visit % len(targets)]
     first, events = holder(life, main)
     scene.lps = chance.choice((2, 3, 3, 4, 8))
     again = [chance.choice((whole[at], *whole[at : at + 4])) for _ in range(24)]
     if name in IN_ROUNDS:
         again = whole[at - 3 : at + 1] * 6
+    if name in ("EXPORT.UNBLOCKW", "EXPORT.RESTORE"):
+        blocks = whole[at].replace(name, "EXPORT.BLOCKW")
+        again = [blocks, whole[at]] * 12
+        if name == "EXPORT.RESTORE":
+            again = [f"EXPORT.STATE.IMMUTABLE {life.td} SLOT", blocks, f"EXPORT.ABORT {life.td}", whole[at]] * 6
     blocks = [whole[: at + 1] + again]
     for _ in range(scene.lps - 1):
         calls = [chance.choice((whole[at], scene.call(name, life, False))) for _ in range(chance.randrange(4))]
@@ -362,12 +427,26 @@ def race(chance, scene, turn):
     return blocks, meeting + bursts(chance, range(scene.lps), 150 * scene.lps)
 
 
-def exact_events(scene, calls):
-    """How many events these calls take on processor 0 alone."""
-    lines = [f"machine 1 {scene.size} {scene.hkids}", "lp 0", *calls, "end"]
+def places_of(scene, calls, name):
+    """The places where a call of that name succeeds."""
+    places = [place for place, call in enumerate(calls) if call.split()[0] == name]
+    processor = alone(scene, calls)
+    while places and not processor.has_ended():
+        processor.event()
+    return [place for place in places if processor.replies[place][0].split()[0] in ("SUCCESS", "EXIT")]
+
+
+def alone(scene, calls):
+    """Processor 0 with these calls, and no other."""
+    lines = [f"machine 1 {scene.size} {scene.hkids}", "lp 0", *with_slots(random.Random("slots"), calls), "end"]
     script = read(text_of(lines + [line for block in scene.code for line in block]))
     (processor,) = processors_of(script, Outside(script.code))
-    events = 0
+    return processor
+
+
+def exact_events(scene, calls):
+    """How many events these calls take on processor 0 alone."""
+    processor, events = alone(scene, calls), 0
     while not processor.has_ended():
         processor.event()
         events += 1
@@ -378,7 +457,7 @@ def host_calls(chance, scene, life):
     """What a host does beside a TD that runs."""
     kind = chance.randrange(10)
     if kind == 9:
-        return life.write_round(chance)
+        return life.export_round(chance)
     if kind < 3:
         return life.page_round(chance)
     if kind == 3:
@@ -494,7 +573,7 @@ class Meeting:
         """A block that is tracked is taken back under a walk."""
         level = self.chance.randrange(4)
         self.before = self.block(self.life.gpa, level)
-        self.meanwhile = [self.ranged("MEM.RANGE.UNBLOCK", self.life.gpa, level)]
+        self.meanwhile = [*self.perhaps_tracked(), self.ranged("MEM.RANGE.UNBLOCK", self.life.gpa, level)]
         self.events = self.chance.randint(0, 4 - level)
 
     def removes_a_page(self):
@@ -522,9 +601,10 @@ class Meeting:
         self.entries = [self.enter(index) for index in range(3)]
 
     def moves_a_vcpu(self):
-        """A VCPU comes to a processor that has cached what was removed since, or the one that cached it is flushed."""
+        """A VCPU comes to a processor that has cached what was removed since, or the one that cached it is flushed, or
+        enters again."""
         flush = f"VP.FLUSH {self.life.td} {self.life.vcpus[1]}"
-        self.entries = [self.enter(1, 1), self.chance.choice((self.enter(0), flush)), self.enter(0)]
+        self.entries = [self.enter(1, 1), (self.enter(0), flush, self.enter(1, 1))[self.visit % 3], self.enter(0)]
         self.meanwhile = [*self.block(self.life.gpa, 0), self.ranged("MEM.PAGE.REMOVE", self.life.gpa)]
         self.events = 5 + 4
 
@@ -593,6 +673,27 @@ def at_once(chance, scene):
         blocks[lp] += [f"VP.FLUSH {td} {page}", entries[(lp + 2) % scene.lps]] + host_calls(chance, scene, scene.lives[0])
     turns = [(0, exact_events(scene, calls))] + [(lp, 1) for _ in range(6) for lp in range(scene.lps)]
     return blocks, turns + bursts(chance, range(scene.lps), 60 * scene.lps)
+
+
+def session(chance, scene, turn):
+    """Processor 0 builds a TD and exports it. In one of the states of the export, each in turn, it makes every call
+    that doesn't lead out of it. The others enter VCPUs, and are hosts."""
+    life = scene.lives[0]
+    scene.lps = chance.choice((1, 2, 3))
+    build = life.build(chance, scene.host[-1])
+    calls, due = [], turn % 3
+    for place, part in enumerate(life.export(chance, due == 2)):
+        names = [name for name in BUILT if name != "MNG.VPFLUSHDONE" and (place == 2 or name not in LEAVING)] * 2
+        chance.shuffle(names)
+        tries = [scene.call(name, life, False) for name in names] * (place == due)
+        calls += [*part[:1], *tries, *among(chance, scene, part[1:], chance.choice((0, 0, 1)))]
+    blocks = [build + only_built(calls + life.end(chance))]
+    for lp in range(1, scene.lps):
+        some = []
+        for _ in range(chance.randint(3, 10)):
+            some += life.entries(chance) if lp == 1 else host_calls(chance, scene, life)
+        blocks.append(only_built(some))
+    return blocks, [(0, exact_events(scene, build))] + bursts(chance, range(scene.lps), 200 * (scene.lps - 1))
 
 
 def noise(chance, scene, _turn):
@@ -704,9 +805,11 @@ def script_lines(chance, make, turn):
         kind = turn % KINDS
         scene = Scene(chance, LARGE, EIGHT if kind == KINDS - 1 else THREE, kind in OF_TWO_TDS)
     else:
-        scene = Scene(chance, ROOMY if make in (race, crowd) else SIZES, CROWDED if make is crowd else FEW)
+        scene = Scene(chance, ROOMY if make in (race, crowd, session) else SIZES, CROWDED if make is crowd else FEW)
     blocks, turns = make(chance, scene, turn)
-    parts = [[f"lp {lp}", *block, "end"] for lp, block in enumerate(blocks) if block or chance.random() < 0.5]
+    blocks = [[f"lp {lp}", *block, "end"] for lp, block in enumerate(blocks) if block or chance.random() < 0.5]
+    slotted = iter(with_slots(chance, [line for block in blocks for line in block]))
+    parts = [[next(slotted) for _ in block] for block in blocks]
     parts += scene.code
     chance.shuffle(parts)
     schedule = [[line] for line in schedule_lines(chance, [turn for turn in turns if turn[1]])]
@@ -745,7 +848,10 @@ BAD_INSIDE = (
     "HOST.READ 0X1 0", "HOST.READ 0 0xfg", "MNG.RD 1", "MNG.RD 1 LIF", "MNG.RD 1 life", "MNG.RD 7 NOFIELD",
     "MNG.RD 7 OPS", "MNG.RD 0 mrtd", "MNG.RD x LIF", "MNG.RD x OP", "MNG.RD 1 OP OP", "MNG.RD OP 1",
     "MEM.PAGE.RELOCATE 1 0 2", "MEM.TRACK", "EXPORT.ABORT", "EXPORT.ABORT 1 2", "EXPORT.ABORT 1 x", "EXPORT.ABORT x",
-    "EXPORT.ABORT 1 2 3", "{call}", "{call} x", "{call} 1 2 3 4 5 6", "{call} 1 0 3 x", "{unbuilt}",
+    "EXPORT.ABORT 1 2 3", "EXPORT.TRACK 1 2", "EXPORT.TRACK x 4096 1", "EXPORT.STATE.TD 1 4096",
+    "EXPORT.STATE.IMMUTABLE 1 18446744073709551615", "EXPORT.STATE.VP 1 2 0x1000", "EXPORT.STATE.TD 1 {slot}",
+    "EXPORT.TRACK 1 {slot} x", "EXPORT.STATE.TD 1 4095\nEXPORT.TRACK 1 4095 0", "EXPORT.STATE.VP 1 2 7\nEXPORT.STATE.VP 1 3 007",
+    "EXPORT.STATE.IMMUTABLE 1 0\nEXPORT.STATE.IMMUTABLE 1 0x0", "{call}", "{call} x", "{call} 1 2 3 4 5 6", "{call} 1 0 3 x", "{unbuilt}",
     "{unbuilt} 1 0", "{unbuilt} x", "{unbuilt} \x1f", "end\x7f", "HOST.READ 1 1\r",
 )
 BAD_IN_CODE = (
@@ -770,6 +876,10 @@ def faulty_script(chance, turn):
         return text_of(lines[: chance.randint(1, len(lines))])
     if turn % 8 == 1:
         return text_of(lines)[: -chance.randint(1, 100)]
+    if turn % 8 == 2:
+        lines = script_lines(chance, session, turn)
+        repeat_a_slot(chance, lines)
+        return text_of(lines)
     put_bad_line(chance, lines, turn)
     if chance.random() < 0.3:
         put_bad_line(chance, lines, chance.randrange(1000))
@@ -785,7 +895,8 @@ def faulty_script(chance, turn):
 def put_bad_line(chance, lines, turn):
     """Puts in the bad line whose turn it is, in most cases where nothing before it is bad."""
     kinds = (("end", BAD_OUTSIDE), ("lp", BAD_INSIDE), ("code", BAD_IN_CODE))
-    first, bad = [(first, bad) for first, some in kinds for bad in some][turn % sum(len(some) for _, some in kinds)]
+    all_bad = [(first, bad) for first, some in kinds for bad in some]
+    first, bad = all_bad[turn * 53 % len(all_bad)]
     if first == "code" and chance.random() < 0.7:
         lines += ["code 7 7", "set 0 0", "end"]
     places = [place for place, line in enumerate(lines) if line.split()[:1] == [first]]
@@ -801,8 +912,25 @@ def put_bad_line(chance, lines, turn):
         "call": chance.choice(tuple(BUILT)),
         "unbuilt": chance.choice(sorted(UNBUILT - {ABORT_WITH_SLOT})),
         "full": "\n".join(["add 0 0"] * 257),
+        "slot": chance.choice(slots_of(lines) or ["0"]),
     }
     lines[place:place] = bad.format(**words).split("\n")
+
+
+def repeat_a_slot(chance, lines):
+    """Lets a line name the slot of an earlier one, where two lines name slots."""
+    places = [place for place, line in enumerate(lines) if slots_of([line])]
+    if len(places) > 1:
+        first, second = sorted(chance.sample(places, 2))
+        words = lines[second].split()
+        words[1 + BUILT[words[0]].index("output")] = slots_of([lines[first]])[0]
+        lines[second] = " ".join(words)
+
+
+def slots_of(lines):
+    """The slots that these lines name."""
+    kinds = ((words[1:], BUILT.get(words[0], ())) for words in map(str.split, lines) if words)
+    return [word for words, its in kinds for word, kind in zip(words, its) if kind == "output"]
 
 
 def misspelled(chance, line):
@@ -860,8 +988,9 @@ OTHERS = {
     "cut": b"TDXBNDL1" + bytes(3),
     "bad": b"machine 1 8 1\nlp 0\n",
 }
-# Lengths that a secrets file may not have.
+# Lengths that a secrets file may not have, and those that a key file may not have.
 BAD_LENGTHS = (0, 1, 8, 64, 512, 4088, 4095, 4097, 4104, 8192, 65_536, 65_537)
+BAD_KEYS = (0, 1, 32, 63, 65, 128, 4096, 65_537)
 
 
 def secrets_of(chance):
@@ -891,14 +1020,26 @@ def with_secrets(chance, words, script):
     return [*words, "--secrets", "secrets"], files
 
 
+def with_keys(chance, words, files):
+    """The same with a key file, in nearly all cases."""
+    draw = chance.random()
+    if draw < 0.1:
+        return words, files
+    if draw > 0.015 + 0.1:
+        files["keys"] = chance.randbytes(64)
+    elif draw > 0.005 + 0.1:
+        files["keys"] = bytes(chance.choice(BAD_KEYS))
+    return [*words, "--keys", "keys"], files
+
+
 def case(seed, place):
     """The case at that place: the words of command lines, and the files that are there by their names."""
     chance = random.Random(f"{seed} {place}")
-    round_, kind = divmod(place, 28)
+    round_, kind = divmod(place, 30)
     if kind == 0:
         lines = [COMMANDS[(3 * round_ + place) % len(COMMANDS)].split() for place in range(3)]
         return lines, {"script": text_of(["machine 1 8 1"]), **OTHERS}
-    words, files = with_secrets(chance, ["replay", "script"], script_of(chance, round_, kind))
+    words, files = with_keys(chance, *with_secrets(chance, ["replay", "script"], script_of(chance, round_, kind)))
     return [words], files
 
 
@@ -916,4 +1057,6 @@ def script_of(chance, round_, kind):
         return text_of(script_lines(chance, crowd, round_))
     if kind < 27:
         return text_of(script_lines(chance, meeting, 3 * round_ + kind - 24))
-    return text_of(script_lines(chance, noise, round_))
+    if kind == 27:
+        return text_of(script_lines(chance, noise, round_))
+    return text_of(script_lines(chance, session, 2 * round_ + kind - 28))

@@ -48,6 +48,7 @@ def make(machine, td, slot, kind, payload=b"", stream=0, **fields):
     shown = {"epoch": td.migration_epoch, "index": 0, "info": 0, "gpa": 0, "total": 0} | fields
     header = Header(64, 1, stream, kind, 0, counter, iv=counter, session=td.session, **shown)
     machine.outside.outputs[slot] = bundles.seal(machine.outside.keys, header, payload)
+    machine.met.append(f"bundles: made of type {kind}")
     td.streams[stream].counter += 1
 
 

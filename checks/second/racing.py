@@ -16,6 +16,7 @@ BUILD = (
 SECOND_VCPU = ("VP.CREATE 1 9", "VP.INIT 1 9 0")
 SHARED = (1 << 47) + 20 * 4096
 ENTERS, SECOND_ENTERS = "VP.ENTER 1 4 65535", "VP.ENTER 1 9 65535"
+KEYS = bytes(range(64))
 WAITING_PAGE = 24  # of processor 0; each processor has one of its own
 PASS = "add 6 7"
 
@@ -101,9 +102,23 @@ def talks_with_the_host(chance):
     return {0: ["secret 1 0", *code]}, [[*BUILD, "MR.FINALIZE 1", ENTERS], host]
 
 
+def exports(chance):
+    """Processors make tokens of one TD and export its states, pause it, and abort the export."""
+    slots = iter(range(1, 9))
+    makes = (
+        lambda: f"EXPORT.TRACK 1 {next(slots)} {chance.choice((0, 0, 1))}",
+        lambda: f"EXPORT.STATE.TD 1 {next(slots)}",
+        lambda: f"EXPORT.STATE.VP 1 4 {next(slots)}",
+        lambda: chance.choice(("EXPORT.PAUSE 1", "EXPORT.ABORT 1", "MNG.RD 1 OP")),
+    )
+    first, second = ([chance.choice(makes)() for _ in range(count)] for count in (2, 1))
+    begin = ["MIG.STREAM.CREATE 1 9", "MR.FINALIZE 1", "EXPORT.STATE.IMMUTABLE 1 0"]
+    return {}, [[*BUILD[:7], *begin, *["EXPORT.PAUSE 1"] * chance.choice((0, 1)), *first], second]
+
+
 KINDS = (
     takes, stores_before_loads, uses_host_pages, passes_a_message, takes_memory_away, shares_a_word, extends_and_accepts,
-    talks_with_the_host,
+    talks_with_the_host, exports,
 )
 
 
@@ -135,6 +150,11 @@ class Race:
         lists = {index: [PASS] * count + code for count, (index, code) in zip(passes, self.lists.items())}
         blocks = [[f"HOST.READ {WAITING_PAGE + lp} 0"] * waits[lp] + calls for lp, calls in enumerate(self.blocks)]
         return text_of(lists, blocks), waits
+
+
+def shown(parts, waits):
+    """An output without the lines of so many waits of each processor: what is printed, the guest file, the container."""
+    return (*(without_waits(part, waits) for part in parts[:2]), *parts[2:])
 
 
 def without_waits(text, waits):

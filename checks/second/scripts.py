@@ -17,7 +17,7 @@ ABORT_WITH_SLOT = "EXPORT.ABORT with a slot"
 # The first words of the finished grammar that the program doesn't have, and that form.
 UNBUILT = set(
     """
-    EXPORT.STATE.IMMUTABLE EXPORT.MEM EXPORT.TRACK EXPORT.STATE.TD EXPORT.STATE.VP
+    EXPORT.MEM
     IMPORT.STATE.IMMUTABLE IMPORT.MEM IMPORT.TRACK IMPORT.STATE.TD IMPORT.STATE.VP IMPORT.COMMIT
     IMPORT.END IMPORT.ABORT
     """.split()
@@ -43,8 +43,8 @@ SEALING = ("input", "output")
 
 REASONS = (
     "LENGTH", "UNTERMINATED", "BYTE", "MACHINE", "PLACE", "WORD", "UNBUILT", "COUNT", "NUMBER", "NAME",
-    "RANGE", "REPEATED", "FULL", "ENDLESS",
-)  # SLOT comes only where a call that makes a bundle is built
+    "RANGE", "REPEATED", "FULL", "SLOT", "ENDLESS",
+)
 
 
 class Fault(Exception):

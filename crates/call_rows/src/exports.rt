@@ -1,6 +1,6 @@
 //! Streams of a migration, and what is left to restore where no page was ever exported.
 
-use crate::rows::{BUILT, ENDED, KEYS, OTHER, TREE, replay_each};
+use row_replay::{BUILT, ENDED, INITIALIZED, KEYS, TREE, replay_each};
 use std::test::Fail;
 
 const STREAMS: &[&[&str]] = &[
@@ -22,7 +22,7 @@ const STREAMS: &[&[&str]] = &[
     // A stream's page is no other page, of this TD or of another one.
     &[
         BUILT,
-        OTHER,
+        INITIALIZED,
         "SUCCESS | MIG.STREAM.CREATE 1 5 | MIG.STREAM.CREATE 20 6 | VP.CREATE 1 4",
         "PAGE_METADATA_INCORRECT 5 | VP.CREATE 1 5 | MEM.SEPT.ADD 1 0 3 5 | MIG.STREAM.CREATE 20 5 \
             | MNG.CREATE 5 1 | MNG.RD 5 LIFE | MIG.STREAM.CREATE 5 7 | EXPORT.PAUSE 5",

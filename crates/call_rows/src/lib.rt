@@ -14,13 +14,7 @@ mod lives;
 #[cfg(test)]
 mod pages;
 #[cfg(test)]
-mod races;
-#[cfg(test)]
-mod rows;
-#[cfg(test)]
 mod teardowns;
-#[cfg(test)]
-mod tree_races;
 #[cfg(test)]
 mod trees;
 #[cfg(test)]

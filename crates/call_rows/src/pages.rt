@@ -1,6 +1,6 @@
 //! Private pages of a TD: which are added, what is measured of them, and what is left at the end.
 
-use crate::rows::{BUILT, EMPTY, ENDED, OTHER, TREE, replay_each};
+use row_replay::{BUILT, EMPTY, ENDED, INITIALIZED, TREE, replay_each};
 use std::test::Fail;
 
 const PLACES: &[&[&str]] = &[
@@ -87,7 +87,7 @@ const AUGMENTED: &[&[&str]] = &[
     // Between other entries, and of one TD alone.
     &[
         BUILT,
-        OTHER,
+        INITIALIZED,
         "SUCCESS | MEM.SEPT.ADD 1 0x8000000000 3 5 | MEM.SEPT.ADD 1 0x8080000000 2 6 \
             | MEM.SEPT.ADD 1 0x8080600000 1 7 | MR.FINALIZE 1 | MEM.PAGE.AUG 1 0x8080604000 8",
         "SUCCESS PENDING 8 | MEM.SEPT.RD 1 0x8080604000 0",
@@ -190,7 +190,7 @@ const MEASURED: &[&[&str]] = &[
     &[
         WORDS,
         TREE,
-        OTHER,
+        INITIALIZED,
         "SUCCESS | MEM.SEPT.ADD 20 0 3 9 | MEM.SEPT.ADD 20 0 2 10 | MEM.SEPT.ADD 20 0 1 11 \
             | MEM.PAGE.ADD 1 4096 12 0 | MEM.PAGE.ADD 20 0 13 0 | MR.EXTEND 1 0x1000 \
             | MR.EXTEND 20 0x100 | MEM.PAGE.ADD 1 0 14 0 | MR.FINALIZE 20 | MR.EXTEND 1 0xf00 \
@@ -268,7 +268,7 @@ const ENDS: &[&[&str]] = &[
     &[
         WORDS,
         TREE,
-        OTHER,
+        INITIALIZED,
         "SUCCESS | MEM.PAGE.ADD 1 0 8 0 | MEM.SEPT.ADD 20 0 3 9",
         ENDED,
         "PAGE_METADATA_INCORRECT 9 | PHYMEM.PAGE.RECLAIM 1 9",

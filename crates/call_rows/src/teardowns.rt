@@ -1,6 +1,6 @@
 //! From MNG.VPFLUSHDONE to the return of the last page, and what the next TD finds.
 
-use crate::rows::{BUILT, EMPTY, ENDED, replay_each};
+use row_replay::{BUILT, EMPTY, ENDED, replay_each};
 use std::test::Fail;
 
 const ORDERS: &[&[&str]] = &[

@@ -1,6 +1,6 @@
 //! The secure EPT of a TD: what is read of its entries, where a walk ends, and whose each page is.
 
-use crate::rows::{BUILT, EMPTY, OTHER, TREE, replay_each};
+use row_replay::{BUILT, EMPTY, INITIALIZED, TREE, replay_each};
 use std::test::Fail;
 
 const ENTRIES: &[&[&str]] = &[
@@ -102,7 +102,7 @@ const ENTRIES: &[&[&str]] = &[
     // Two TDs whose trees grow side by side, in pages by turns, at the same GPAs.
     &[
         BUILT,
-        OTHER,
+        INITIALIZED,
         "SUCCESS | MEM.SEPT.ADD 1 0 3 5 | MEM.SEPT.ADD 20 0 3 6 | MEM.SEPT.ADD 20 0 2 7 \
             | MEM.SEPT.ADD 1 0 2 8",
         "EPT_WALK_FAILED 1 | MEM.SEPT.RD 1 0 0 | MEM.SEPT.RD 20 0 0",

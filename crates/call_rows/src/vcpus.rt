@@ -1,6 +1,6 @@
 //! VCPUs, and the measurement that ends where all of them are READY.
 
-use crate::rows::{BUILT, EMPTY, KEYS, replay_each};
+use row_replay::{BUILT, EMPTY, KEYS, replay_each};
 use std::test::Fail;
 
 const EIGHT: &str = "SUCCESS | VP.CREATE 1 10 | VP.CREATE 1 11 | VP.CREATE 1 12 | VP.CREATE 1 13 \

@@ -54,6 +54,12 @@ pub const TREE: [Call; 10] = [
 /// The TD may run.
 pub const RUNS: [Call; 1] = [Call::MrFinalize { tdr: 1 }];
 
+/// The TD, which runs, has a stream in page 10 and is exported.
+pub const LIVE: [Call; 2] = [
+    Call::MigStreamCreate { tdr: 1, page: 10 },
+    Call::ExportStateImmutable { tdr: 1, slot: 0 },
+];
+
 /// A call's success without a value.
 pub const DONE: Reply = Reply::Done(Value::Nothing);
 

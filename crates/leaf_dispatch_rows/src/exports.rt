@@ -1,10 +1,10 @@
-//! Calls of a TD that is exported running, which no script comes to yet: the test sets its operation
-//! state, and an entry as if its page was exported.
+//! Calls of a TD that is exported running. No script comes to a page that was exported yet: the test sets
+//! its entry.
 
 ghost use Rattle.std.specs.Prelude.{◌≡◌, ◌<◌, ◌^◌, length};
 ghost use Rattle.leaf_dispatch_rows.specs.declared.benches.TheConstants.{MACHINE};
 
-use crate::benches::{DONE, MACHINE, RUNS, TREE, make};
+use crate::benches::{DONE, LIVE, MACHINE, RUNS, TREE, make};
 use std::alloc::Global;
 use std::process::Abort;
 use std::test::Fail;
@@ -14,8 +14,8 @@ use td_words::{
     Call, EntryState, OpState, PageKind, Reply, Status, Value, pamt_address, word_address,
 };
 
-/// Private pages 8 and 9 at the first two GPAs, and a stream in page 10.
-const PAGES: [Call; 3] = [
+/// Private pages 8 and 9 at the first two GPAs.
+const PAGES: [Call; 2] = [
     Call::MemPageAdd {
         tdr: 1,
         gpa: 0,
@@ -28,7 +28,6 @@ const PAGES: [Call; 3] = [
         page: 9,
         source: 0,
     },
-    Call::MigStreamCreate { tdr: 1, page: 10 },
 ];
 
 /// The second page's entry, once it is exported in migration epoch 3 and blocked for writing.
@@ -46,25 +45,44 @@ const PAUSE: Call = Call::ExportPause { tdr: 1 };
 
 const ABORT: Call = Call::ExportAbort { tdr: 1 };
 
-fn block(gpa: u64) -> Call {
-    Call::ExportBlockw { tdr: 1, gpa }
-}
+const BLOCK: Call = Call::ExportBlockw { tdr: 1, gpa: 0 };
 
-fn unblock(gpa: u64) -> Call {
-    Call::ExportUnblockw { tdr: 1, gpa }
-}
+const BLOCK_SECOND: Call = Call::ExportBlockw { tdr: 1, gpa: 4096 };
 
-fn restore(gpa: u64) -> Call {
-    Call::ExportRestore { tdr: 1, gpa }
-}
+const BLOCK_THIRD: Call = Call::ExportBlockw { tdr: 1, gpa: 8192 };
 
-fn wrong_entry(state: EntryState) -> Reply {
-    Reply::Refused(Status::EptEntryStateIncorrect(state))
-}
+const UNBLOCK: Call = Call::ExportUnblockw { tdr: 1, gpa: 0 };
 
-fn wrong_op(state: OpState) -> Reply {
-    Reply::Refused(Status::OpStateIncorrect(state))
-}
+const UNBLOCK_SECOND: Call = Call::ExportUnblockw { tdr: 1, gpa: 4096 };
+
+const UNBLOCK_THIRD: Call = Call::ExportUnblockw { tdr: 1, gpa: 8192 };
+
+const RESTORE: Call = Call::ExportRestore { tdr: 1, gpa: 0 };
+
+const RESTORE_SECOND: Call = Call::ExportRestore { tdr: 1, gpa: 4096 };
+
+const STREAM: Call = Call::MigStreamCreate { tdr: 1, page: 11 };
+
+const ENTER: Call = Call::VpEnter {
+    tdr: 1,
+    vp: 4,
+    max: 1,
+};
+
+/// What EXPORT.BLOCKW and its like answer at an entry in that state.
+const AT_MAPPED: Reply = Reply::Refused(Status::EptEntryStateIncorrect(EntryState::Mapped));
+
+const AT_BLOCKED: Reply = Reply::Refused(Status::EptEntryStateIncorrect(EntryState::BlockedW));
+
+const AT_FREE: Reply = Reply::Refused(Status::EptEntryStateIncorrect(EntryState::Free));
+
+const AT_DIRTY: Reply = Reply::Refused(Status::EptEntryStateIncorrect(EntryState::ExportedDirty));
+
+const IN_LIVE: Reply = Reply::Refused(Status::OpStateIncorrect(OpState::LiveExport));
+
+const IN_PAUSED: Reply = Reply::Refused(Status::OpStateIncorrect(OpState::PausedExport));
+
+const IN_RUNNABLE: Reply = Reply::Refused(Status::OpStateIncorrect(OpState::Runnable));
 
 /// A TD that is exported running, with two pages.
 fn live_bench(rt: &impl Abort, alloc: Global) -> PlainBench
@@ -76,15 +94,8 @@ fn live_bench(rt: &impl Abort, alloc: Global) -> PlainBench
     make(rt, alloc, &mut bench, &TREE, DONE);
     make(rt, alloc, &mut bench, &PAGES, DONE);
     make(rt, alloc, &mut bench, &RUNS, DONE);
-    set_op(&mut bench, OpState::LiveExport);
+    make(rt, alloc, &mut bench, &LIVE, DONE);
     bench
-}
-
-fn set_op(bench: &mut PlainBench, state: OpState)
-    requires { bench.old.machine ≡ MACHINE }
-    ensures { bench.new.machine ≡ MACHINE }
-{
-    bench.perform(WordStep::Store(word_address(2, TDCS_OP), state as u64));
 }
 
 /// Makes calls one after the other, each of which is to have the reply beside it.
@@ -97,59 +108,92 @@ fn make_each(rt: &impl Abort, alloc: Global, bench: &mut PlainBench, calls: &[(C
     }
 }
 
-/// What MEM.SEPT.RD tells of an entry, and its page.
-fn reads(gpa: u64, state: EntryState, page: u16) -> (Call, Reply) {
-    let call = Call::MemSeptRd {
-        tdr: 1,
-        gpa,
-        level: 0,
-    };
-    let value = Value::Entry {
-        state,
-        page: Some(page),
-    };
-    (call, Reply::Done(value))
-}
+const READ: Call = Call::MemSeptRd {
+    tdr: 1,
+    gpa: 0,
+    level: 0,
+};
 
-/// What PHYMEM.PAGE.RDMD tells of a private page, and its epoch.
-fn noted(page: u16, epoch: u32) -> (Call, Reply) {
-    let call = Call::PhymemPageRdmd {
-        page: u64::from(page),
-    };
-    let value = Value::Page {
-        kind: PageKind::Reg,
-        owner: 1,
-        epoch,
-    };
-    (call, Reply::Done(value))
-}
+const READ_SECOND: Call = Call::MemSeptRd {
+    tdr: 1,
+    gpa: 4096,
+    level: 0,
+};
+
+const META: Call = Call::PhymemPageRdmd { page: 8 };
+
+const META_SECOND: Call = Call::PhymemPageRdmd { page: 9 };
+
+const FRESH: Reply = Reply::Done(Value::Page {
+    kind: PageKind::Reg,
+    owner: 1,
+    epoch: 0,
+});
+
+const NOTED: Reply = Reply::Done(Value::Page {
+    kind: PageKind::Reg,
+    owner: 1,
+    epoch: 1,
+});
+
+const NOTED_LATER: Reply = Reply::Done(Value::Page {
+    kind: PageKind::Reg,
+    owner: 1,
+    epoch: 2,
+});
+
+const IS_MAPPED: Reply = Reply::Done(Value::Entry {
+    state: EntryState::Mapped,
+    page: Some(8),
+});
+
+const IS_BLOCKED: Reply = Reply::Done(Value::Entry {
+    state: EntryState::BlockedW,
+    page: Some(8),
+});
+
+const SECOND_IS_MAPPED: Reply = Reply::Done(Value::Entry {
+    state: EntryState::Mapped,
+    page: Some(9),
+});
+
+const SECOND_IS_BLOCKED: Reply = Reply::Done(Value::Entry {
+    state: EntryState::BlockedW,
+    page: Some(9),
+});
+
+const SECOND_IS_DIRTY: Reply = Reply::Done(Value::Entry {
+    state: EntryState::ExportedDirty,
+    page: Some(9),
+});
+
+const GIVEN_BACK: [(Call, Reply); 19] = [
+    (UNBLOCK, AT_MAPPED),
+    (RESTORE, IN_LIVE),
+    (META, FRESH),
+    (BLOCK, DONE),
+    (READ, IS_BLOCKED),
+    (READ_SECOND, SECOND_IS_MAPPED),
+    (META, NOTED),
+    (META_SECOND, FRESH),
+    (BLOCK, AT_BLOCKED),
+    (BLOCK_THIRD, AT_FREE),
+    (TRACK, DONE),
+    // The page of the second one notes a later epoch.
+    (BLOCK_SECOND, DONE),
+    (META, NOTED),
+    (META_SECOND, NOTED_LATER),
+    (UNBLOCK, DONE),
+    (READ, IS_MAPPED),
+    (READ_SECOND, SECOND_IS_BLOCKED),
+    (META, NOTED),
+    (UNBLOCK_THIRD, AT_FREE),
+];
 
 #[test]
 fn a_page_is_blocked_for_writing_and_given_back(rt: HostRuntime) -> Result<(), Fail> {
     let mut bench = live_bench(&rt, rt.alloc());
-    let calls = [
-        (unblock(0), wrong_entry(EntryState::Mapped)),
-        (restore(0), wrong_op(OpState::LiveExport)),
-        noted(8, 0),
-        (block(0), DONE),
-        reads(0, EntryState::BlockedW, 8),
-        reads(4096, EntryState::Mapped, 9),
-        noted(8, 1),
-        noted(9, 0),
-        (block(0), wrong_entry(EntryState::BlockedW)),
-        (block(8192), wrong_entry(EntryState::Free)),
-        (TRACK, DONE),
-        // The page of the second one notes a later epoch.
-        (block(4096), DONE),
-        noted(8, 1),
-        noted(9, 2),
-        (unblock(0), DONE),
-        reads(0, EntryState::Mapped, 8),
-        reads(4096, EntryState::BlockedW, 9),
-        noted(8, 1),
-        (unblock(8192), wrong_entry(EntryState::Free)),
-    ];
-    make_each(&rt, rt.alloc(), &mut bench, &calls);
+    make_each(&rt, rt.alloc(), &mut bench, &GIVEN_BACK);
     assert_eq!(rt; bench.word(word_address(2, TDCS_EPOCH)), 2);
     // The PAMT word is that of a private page of TDR 1.
     assert_eq!(rt; bench.word(pamt_address(9)), 1 + 16 + (2 << 32));
@@ -157,6 +201,15 @@ fn a_page_is_blocked_for_writing_and_given_back(rt: HostRuntime) -> Result<(), F
     assert_eq!(rt; bench.word(word_address(2, TDCS_DIRTIED)), 0);
     Ok(())
 }
+
+const DIRTY_ENDS: [(Call, Reply); 6] = [
+    (READ_SECOND, SECOND_IS_DIRTY),
+    (UNBLOCK_SECOND, AT_DIRTY),
+    (ABORT, DONE),
+    (RESTORE_SECOND, DONE),
+    (READ_SECOND, SECOND_IS_MAPPED),
+    (RESTORE_SECOND, AT_MAPPED),
+];
 
 #[test]
 fn a_page_that_was_exported_is_dirty_once(rt: HostRuntime) -> Result<(), Fail> {
@@ -167,23 +220,15 @@ fn a_page_that_was_exported_is_dirty_once(rt: HostRuntime) -> Result<(), Fail> {
     bench.perform(WordStep::Store(word_address(2, TDCS_UNRESTORED), 1));
     // Each time the entry that is stored, and how many pages are dirtied.
     for (call, word, count) in [
-        (unblock(4096), DIRTY, 1_u64),
-        (block(4096), DIRTY_BLOCKED, 1),
-        (unblock(4096), DIRTY, 1),
+        (UNBLOCK_SECOND, DIRTY, 1_u64),
+        (BLOCK_SECOND, DIRTY_BLOCKED, 1),
+        (UNBLOCK_SECOND, DIRTY, 1),
     ] {
         make(&rt, rt.alloc(), &mut bench, &[call], DONE);
         assert_eq!(rt; bench.word(at), word);
         assert_eq!(rt; bench.word(dirtied), count);
     }
-    let calls = [
-        reads(4096, EntryState::ExportedDirty, 9),
-        (unblock(4096), wrong_entry(EntryState::ExportedDirty)),
-        (ABORT, DONE),
-        (restore(4096), DONE),
-        reads(4096, EntryState::Mapped, 9),
-        (restore(4096), wrong_entry(EntryState::Mapped)),
-    ];
-    make_each(&rt, rt.alloc(), &mut bench, &calls);
+    make_each(&rt, rt.alloc(), &mut bench, &DIRTY_ENDS);
     // The entry has no mark any more, and both counts are as before the export.
     assert_eq!(rt; bench.word(at), 1 + 16 * 9);
     assert_eq!(rt; bench.word(dirtied), 0);
@@ -191,37 +236,32 @@ fn a_page_that_was_exported_is_dirty_once(rt: HostRuntime) -> Result<(), Fail> {
     Ok(())
 }
 
+const PAUSED_ENDS: [(Call, Reply); 19] = [
+    (BLOCK, DONE),
+    (PAUSE, DONE),
+    (PAUSE, IN_PAUSED),
+    (BLOCK_SECOND, IN_PAUSED),
+    (UNBLOCK, IN_PAUSED),
+    (RESTORE, IN_PAUSED),
+    (TRACK, IN_PAUSED),
+    (ENTER, IN_PAUSED),
+    (STREAM, IN_PAUSED),
+    (READ, IS_BLOCKED),
+    (ABORT, DONE),
+    (ABORT, IN_RUNNABLE),
+    (PAUSE, IN_RUNNABLE),
+    (UNBLOCK, IN_RUNNABLE),
+    (RESTORE_SECOND, AT_MAPPED),
+    (RESTORE, DONE),
+    (READ, IS_MAPPED),
+    (STREAM, DONE),
+    (TRACK, DONE),
+];
+
 #[test]
 fn an_export_is_paused_aborted_and_restored(rt: HostRuntime) -> Result<(), Fail> {
     let mut bench = live_bench(&rt, rt.alloc());
-    let paused = wrong_op(OpState::PausedExport);
-    let enter = Call::VpEnter {
-        tdr: 1,
-        vp: 4,
-        max: 1,
-    };
-    let calls = [
-        (block(0), DONE),
-        (PAUSE, DONE),
-        (PAUSE, paused),
-        (block(4096), paused),
-        (unblock(0), paused),
-        (restore(0), paused),
-        (TRACK, paused),
-        (enter, paused),
-        (Call::MigStreamCreate { tdr: 1, page: 11 }, paused),
-        reads(0, EntryState::BlockedW, 8),
-        (ABORT, DONE),
-        (ABORT, wrong_op(OpState::Runnable)),
-        (PAUSE, wrong_op(OpState::Runnable)),
-        (unblock(0), wrong_op(OpState::Runnable)),
-        (restore(4096), wrong_entry(EntryState::Mapped)),
-        (restore(0), DONE),
-        reads(0, EntryState::Mapped, 8),
-        (Call::MigStreamCreate { tdr: 1, page: 11 }, DONE),
-        (TRACK, DONE),
-    ];
-    make_each(&rt, rt.alloc(), &mut bench, &calls);
+    make_each(&rt, rt.alloc(), &mut bench, &PAUSED_ENDS);
     assert_eq!(rt;
         bench.word(word_address(2, TDCS_OP)),
         OpState::Runnable as u64

@@ -7,7 +7,7 @@ ghost use Rattle.leaf_dispatch.specs.Inside.{AreOperations};
 ghost use Rattle.leaf_dispatch.specs.FirstLists.{AreFirstLists};
 ghost use Rattle.leaf_dispatch_rows.specs.declared.benches.TheConstants.{MACHINE};
 
-use crate::benches::{DONE, MACHINE, RUNS, TREE, first_lists_of, make, no_secrets};
+use crate::benches::{DONE, LIVE, MACHINE, RUNS, TREE, first_lists_of, make, no_secrets};
 use leaf_dispatch::{FirstLists, LpState};
 use leaf_engine::{Processor, Turn};
 use report_text::GuestNote;
@@ -15,10 +15,8 @@ use std::alloc::{AllocError, Global};
 use std::process::Abort;
 use std::test::Fail;
 use step_core::{Bench, PlainBench, WordStep};
-use td_words::places::{TDCS_OP, VP_POSITION, VP_REGISTERS};
-use td_words::{
-    Access, Call, Code, GuestOp, LockName, OpState, Outcome, Reply, lock_address, word_address,
-};
+use td_words::places::{VP_POSITION, VP_REGISTERS};
+use td_words::{Access, Call, Code, GuestOp, LockName, Outcome, Reply, lock_address, word_address};
 
 /// The first shared GPA.
 const SHARED: u64 = 1 << 47;
@@ -78,13 +76,20 @@ fn secret(number: u16) -> GuestOp
     }
 }
 
+fn put(words: &mut [u64], place: usize, word: u64)
+    requires { place < length words.old }
+    ensures { length words.new ≡ length words.old }
+{
+    words[place] = word;
+}
+
 // The first secret word is 5, the last one is 77, and the others are 0.
 fn two_secrets() -> [u64; 512]
     ensures { length result ≡ 512 }
 {
     let mut words = no_secrets();
-    words[0] = 5;
-    words[511] = 77;
+    put(&mut words, 0, 5);
+    put(&mut words, 511, 77);
     words
 }
 
@@ -157,15 +162,35 @@ fn a_seventeenth_translation_drops_the_oldest(rt: HostRuntime) -> Result<(), Fai
     Ok(())
 }
 
+// Word 3 of page 20, which is the host's.
+const HOST_WORD: u64 = SHARED + 20 * 4096 + 24;
+
+const NOTES: [GuestNote; 3] = [
+    GuestNote::Load {
+        line: 1,
+        gpa: HOST_WORD,
+        word: 77,
+    },
+    GuestNote::Load {
+        line: 1,
+        gpa: 16,
+        word: 99,
+    },
+    GuestNote::Load {
+        line: 1,
+        gpa: 8,
+        word: 77,
+    },
+];
+
 #[test]
 fn notes_and_told_words_come_in_order(rt: HostRuntime) -> Result<(), Fail> {
     let mut bench = bench_with(&rt, rt.alloc(), 1);
     let secrets = no_secrets();
     bench.perform(WordStep::Store(word_address(20, 3), 77));
     bench.perform(WordStep::Store(word_address(8, 2), 99));
-    let host = SHARED + 20 * 4096 + 24;
     let ops = [
-        load(host),
+        load(HOST_WORD),
         store(8),
         load(16),
         store(SHARED + 21 * 4096),
@@ -175,12 +200,7 @@ fn notes_and_told_words_come_in_order(rt: HostRuntime) -> Result<(), Fail> {
     let codes = codes_of(ops.to_vec(rt.alloc())?);
     let first_lists = first_lists_of(&rt, rt.alloc(), &codes);
     let (lp, events) = visit(&rt, rt.alloc(), &mut bench, &codes, &secrets, &first_lists);
-    let notes = [(host, 77), (16, 99), (8, 77)].map(|(gpa, word)| GuestNote::Load {
-        line: 1,
-        gpa,
-        word,
-    });
-    assert_eq!(rt; lp.notes(), notes.as_slice());
+    assert_eq!(rt; lp.notes(), NOTES.as_slice());
     assert_eq!(rt; lp.told(), [99, 77].as_slice());
     assert_eq!(rt;
         lp.replies(),
@@ -270,9 +290,7 @@ fn a_shared_access_reaches_pages_of_the_host_alone(rt: HostRuntime) -> Result<()
 fn a_page_that_is_blocked_for_writing_is_read_alone(rt: HostRuntime) -> Result<(), Fail> {
     let mut bench = bench_with(&rt, rt.alloc(), 1);
     let secrets = no_secrets();
-    // No script comes to a TD that is exported running yet.
-    let live = OpState::LiveExport as u64;
-    bench.perform(WordStep::Store(word_address(2, TDCS_OP), live));
+    make(&rt, rt.alloc(), &mut bench, &LIVE, DONE);
     let denied = Outcome::EptViolation {
         gpa: 0,
         access: Access::Write,

@@ -6,6 +6,8 @@
 #[cfg(test)]
 mod benches;
 #[cfg(test)]
+mod bundles_made;
+#[cfg(test)]
 mod exports;
 #[cfg(test)]
 mod guests;

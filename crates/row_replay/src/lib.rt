@@ -1,14 +1,19 @@
 //! How a row of calls and guests is replayed, for the crates of such rows: a script is made of it, the
-//! top call of `script_runner` runs it over files and an output in memory, and its replies and its
-//! guest file are compared with those of the row.
+//! top call of `script_runner` runs it over files and an output in memory, with keys for the bundles that
+//! it makes, and its replies and its guest file are compared with those of the row.
 //!
 //! A processor's calls stand in lists, each an answer and, behind bars, the calls that have it; a
 //! semicolon stands between two lists of one text. So do a VCPU's operations, behind its TDR page and
 //! index, and the lines of the guest file. Before a row there may be the words of its secrets file.
 #![tactic(auto)]
 
+mod calls;
 mod parts;
 mod rows;
+mod scripts;
 
-pub use parts::{BUILT, OTHER, PAGE, RUNS, SECOND, TREE};
-pub use rows::{Row, SecretRow, replay_rows, replay_secret_rows};
+pub use calls::{replay_each, replay_races, replays};
+pub use parts::{
+    BEGUN, BUILT, EMPTY, ENDED, INITIALIZED, KEYS, OTHER, PAGE, RUNS, SECOND, STREAM, TREE,
+};
+pub use rows::{Row, SecretRow, container_of_row, replay_rows, replay_secret_rows};

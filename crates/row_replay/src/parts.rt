@@ -1,6 +1,9 @@
 //! What many rows begin with.
 
-/// A TD with TDR 1 that is initialized.
+/// A TD with TDR 1 that may have pages.
+pub const KEYS: &str = "SUCCESS | MNG.CREATE 1 1 | MNG.KEY.CONFIG 1";
+
+/// The same with its TDCX pages, and initialized.
 pub const BUILT: &str =
     "SUCCESS | MNG.CREATE 1 1 | MNG.KEY.CONFIG 1 | MNG.ADDCX 1 2 | MNG.ADDCX 1 3 | MNG.INIT 1";
 
@@ -19,8 +22,26 @@ pub const PAGE: &str = "SUCCESS | MEM.PAGE.ADD 1 0 8 0";
 /// The TD may run, after 5 events.
 pub const RUNS: &str = "SUCCESS | MR.FINALIZE 1";
 
+/// A migration stream, in 7 events.
+pub const STREAM: &str = "SUCCESS | MIG.STREAM.CREATE 1 10";
+
+/// An export begins, in 7 events.
+pub const BEGUN: &str = "SUCCESS | EXPORT.STATE.IMMUTABLE 1 0";
+
 /// A second TD with TDR 20, as far as TREE, in 64 events.
 pub const OTHER: &str =
     "SUCCESS | MNG.CREATE 20 2 | MNG.KEY.CONFIG 20 | MNG.ADDCX 20 21 | MNG.ADDCX 20 22 \
     | MNG.INIT 20 | VP.CREATE 20 23 | VP.INIT 20 23 0 | MEM.SEPT.ADD 20 0 3 24 \
     | MEM.SEPT.ADD 20 0 2 25 | MEM.SEPT.ADD 20 0 1 26";
+
+/// That TD before it has a VCPU.
+pub const INITIALIZED: &str =
+    "SUCCESS | MNG.CREATE 20 2 | MNG.KEY.CONFIG 20 | MNG.ADDCX 20 21 | MNG.ADDCX 20 22 \
+    | MNG.INIT 20";
+
+/// From BUILT or TREE to the first page that may be reclaimed.
+pub const ENDED: &str = "SUCCESS | MNG.VPFLUSHDONE 1 | PHYMEM.CACHE.WB | MNG.KEY.FREEID 1";
+
+/// The measurement of a TD without private pages is SHA-384 of no bytes.
+pub const EMPTY: &str = "SUCCESS 38b060a751ac96384cd9327eb1b1e36a21fdb71114be07434c0cc7bf63f6e1da\
+    274edebfe76f65fbd51ad2f14898b95b | MNG.RD 1 MRTD";

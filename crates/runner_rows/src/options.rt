@@ -11,14 +11,15 @@ use std::thread::Threads;
 const USAGE: &[u8] =
     b"usage: tdx replay|run SCRIPT [--bundles F] [--keys F] [--secrets F] [--out-bundles F] [--guest-out F] | tdx check SCRIPT | tdx soak N\n";
 
-// The script s, which has one reply; e, whose bytes are none; the container b, and c with 3 bytes
-// more; keys of 64, 63 and 65 bytes; the most bytes that a key or secrets file is loaded with, and one
-// more; and secrets of 4,096, 4,095 and 4,097 bytes.
+// The script s, which has one reply; t, whose call makes a bundle where it isn't refused; e, whose bytes
+// are none; the container b, and c with 3 bytes more; keys of 64, 63 and 65 bytes; the most bytes that a
+// key or secrets file is loaded with, and one more; and secrets of 4,096, 4,095 and 4,097 bytes.
 fn files(alloc: Global, failing: &[u64]) -> Result<MemFiles, Fail> {
     let keys = [7u8; 65];
     let long = vec![in alloc; 7u8; 65_537]?;
-    let list: [(&str, &[u8]); 12] = [
+    let list: [(&str, &[u8]); 13] = [
         ("s", b"machine 1 8 1\nlp 0\nHOST.READ 1 0\nend\n"),
+        ("t", b"machine 1 8 1\nlp 0\nEXPORT.TRACK 1 0 0\nend\n"),
         ("e", b""),
         ("b", b"TDXBNDL1"),
         ("c", b"TDXBNDL1abc"),
@@ -55,6 +56,8 @@ fn held<'a>(files: &'a MemFiles, name: &str) -> Option<&'a [u8]> {
 type Row<'a> = (&'a str, &'a [u64], &'a [u64], u8, &'a [u8], bool);
 
 const REPLY: &[u8] = b"0.1 SUCCESS 0\n";
+
+const REFUSAL: &[u8] = b"0.1 PAGE_METADATA_INCORRECT 1\n";
 
 const ROWS: &[Row<'static>] = &[
     (
@@ -102,6 +105,36 @@ const ROWS: &[Row<'static>] = &[
     ("replay s --keys k65", &[], &[], 7, b"key file\n", false),
     ("replay s --keys k65536", &[], &[], 7, b"key file\n", false),
     ("replay s --keys k65537", &[], &[], 7, b"key file\n", false),
+    // A key file is wanting where a call of the script makes a bundle, whatever it answers. That is told
+    // in the place of the file's length: behind the container's form, and before that of the secrets.
+    ("replay t --keys k", &[], &[], 0, REFUSAL, false),
+    ("replay t", &[], &[], 7, b"key file\n", false),
+    ("run t --out-bundles o", &[], &[], 7, b"key file\n", false),
+    (
+        "replay t --secrets w4095 --bundles b",
+        &[],
+        &[],
+        7,
+        b"key file\n",
+        false,
+    ),
+    (
+        "replay t --bundles c",
+        &[],
+        &[],
+        6,
+        b"bundle file byte 8\n",
+        false,
+    ),
+    (
+        "replay t --secrets x",
+        &[],
+        &[],
+        3,
+        b"cannot read x\n",
+        false,
+    ),
+    ("check t", &[], &[], 0, b"ok 1 1 0 0\n", false),
     // The container's form is tested before the keys', and both are loaded before.
     (
         "replay s --keys k63 --bundles c",

@@ -14,4 +14,6 @@ invariant_of-first g c =
       room = s.room;
       note_room = s.note_room;
       word_room = s.word_room;
+      bundle_room = s.bundle_room;
+      payload_room = s.payload_room;
     }

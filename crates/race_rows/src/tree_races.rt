@@ -3,7 +3,7 @@
 //! The ten calls of TREE have 64 events. MR.FINALIZE has 5, MEM.SEPT.RD and MIG.STREAM.CREATE have 7,
 //! MEM.SEPT.ADD, MEM.PAGE.AUG and MR.EXTEND have 9, and MEM.PAGE.ADD has 11.
 
-use crate::rows::{OTHER, TREE, replay_races, replays};
+use row_replay::{INITIALIZED, TREE, replay_races, replays};
 use std::test::Fail;
 
 // The last event of each call releases the TDR, which is to be held alone to end the TD.
@@ -289,7 +289,7 @@ const BY_TURNS: &[&[&str]] = &[
             5f517906e2deb3 | MNG.RD 1 MRTD",
     ],
     &[
-        OTHER,
+        INITIALIZED,
         "SUCCESS | VP.CREATE 20 23 | VP.INIT 20 23 0 | MEM.SEPT.ADD 20 0 3 9 \
             | MEM.SEPT.ADD 20 0 2 10 | MEM.SEPT.ADD 20 0 1 11 | HOST.WRITE 12 0 2 \
             | MEM.PAGE.ADD 20 0 13 12 | MR.EXTEND 20 0 | MR.FINALIZE 20",

@@ -3,7 +3,7 @@
 //! A call that succeeds with n locks has 2n + 1 events: its tries, its act, and its releases in
 //! reverse order. So the calls of KEYS have 8 events, those of BUILT 23, and those of ENDED 13.
 
-use crate::rows::{BUILT, EMPTY, ENDED, KEYS, replay_races, replays};
+use row_replay::{BUILT, EMPTY, ENDED, KEYS, replay_races, replays};
 use std::test::Fail;
 
 const AT_THE_TDR: &[&[&str]] = &[

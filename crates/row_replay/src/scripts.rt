@@ -1,0 +1,168 @@
+//! How a script is made of what processors call, and replayed with the files of a row.
+
+use bundle_store::{MemFiles, MemSink, NamedFile};
+use leaf_engine::NoGate;
+use script_runner::tdx_main;
+use std::alloc::Global;
+use std::test::Fail;
+use std::thread::Threads;
+
+// Adds a list's calls to a processor's block, and their replies to what is wanted.
+fn add_list(
+    alloc: Global,
+    script: &mut String,
+    want: &mut String,
+    lp: usize,
+    number: &mut u32,
+    list: &str,
+) -> Result<(), Fail> {
+    let (reply, calls) = list.split_once(" | ").ok_or("no bar")?;
+    for call in calls.split(" | ") {
+        script.push_str(&format!(in alloc; "{call}\n")?)?;
+        want.push_str(&format!(in alloc; "{lp}.{number} {reply}\n")?)?;
+        *number = number.wrapping_add(1);
+    }
+    Ok(())
+}
+
+// Adds a processor's block to the script, and its replies to what is wanted.
+fn add_processor(
+    alloc: Global,
+    script: &mut String,
+    want: &mut String,
+    lp: usize,
+    row: &[&str],
+) -> Result<(), Fail> {
+    script.push_str(&format!(in alloc; "lp {lp}\n")?)?;
+    let mut number: u32 = 1;
+    for lists in row {
+        for list in lists.split(" ; ") {
+            add_list(alloc, script, want, lp, &mut number, list)?;
+        }
+    }
+    script.push_str("end\n")?;
+    Ok(())
+}
+
+/// Adds the blocks of processors 0, 1 and so on to the script, and their replies to what is wanted.
+pub fn add_processors(
+    alloc: Global,
+    script: &mut String,
+    want: &mut String,
+    rows: &[&[&str]],
+) -> Result<(), Fail> {
+    for (lp, row) in rows.iter().enumerate() {
+        add_processor(alloc, script, want, lp, row)?;
+    }
+    Ok(())
+}
+
+/// Adds a schedule to the script, where it isn't empty.
+pub fn add_schedule(alloc: Global, script: &mut String, schedule: &str) -> Result<(), Fail> {
+    if !schedule.is_empty() {
+        script.push_str(&format!(in alloc; "schedule {schedule}\n")?)?;
+    }
+    Ok(())
+}
+
+// The bytes of a secrets file that begins with these words.
+fn secrets_file(alloc: Global, words: &[u64]) -> Result<Vec<u8>, Fail> {
+    let mut bytes = Vec::new(alloc);
+    for word in words {
+        bytes.extend_from_slice(&word.to_le_bytes())?;
+    }
+    for _ in words.len()..512 {
+        bytes.extend_from_slice(&[0u8; 8])?;
+    }
+    Ok(bytes)
+}
+
+// The bytes of a key file, 0 to 63.
+fn key_file(alloc: Global) -> Result<Vec<u8>, Fail> {
+    let mut bytes = Vec::new(alloc);
+    for byte in 0u8..64 {
+        bytes.push(byte)?;
+    }
+    Ok(bytes)
+}
+
+fn file(alloc: Global, name: &str, bytes: Vec<u8>) -> Result<NamedFile, Fail> {
+    Ok(NamedFile {
+        name: String::from_str(alloc, name)?,
+        bytes,
+    })
+}
+
+// The script s, the key file m, the secrets file k where there is one, and no other file.
+fn files_of(alloc: Global, text: &str, secrets: Option<&[u64]>) -> Result<MemFiles, Fail> {
+    let mut files = Vec::new(alloc);
+    files.push(file(alloc, "s", text.as_bytes().to_vec(alloc)?)?)?;
+    files.push(file(alloc, "m", key_file(alloc)?)?)?;
+    if let Some(words) = secrets {
+        files.push(file(alloc, "k", secrets_file(alloc, words)?)?)?;
+    }
+    Ok(MemFiles::new(alloc, files, Vec::new(alloc)))
+}
+
+// The words that replay s under the keys m, with or without secrets, and save the container b and the
+// guest file g.
+fn line_of(secrets: Option<&[u64]>) -> &'static str {
+    match secrets {
+        None => "replay s --keys m --out-bundles b --guest-out g",
+        Some(_) => "replay s --keys m --secrets k --out-bundles b --guest-out g",
+    }
+}
+
+// The words of a line.
+fn words_of(alloc: Global, line: &str) -> Result<Vec<String>, Fail> {
+    let mut words = Vec::new(alloc);
+    for word in line.split(' ') {
+        words.push(String::from_str(alloc, word)?)?;
+    }
+    Ok(words)
+}
+
+/// The bytes that a name has.
+pub fn held<'a>(files: &'a MemFiles, name: &str) -> Option<&'a [u8]> {
+    for file in &files.files {
+        if file.name.as_str() == name {
+            return Some(file.bytes.as_slice());
+        }
+    }
+    None
+}
+
+/// Whether a text is the one that is wanted.
+pub fn compare(
+    alloc: Global,
+    what: &str,
+    text: &[u8],
+    wanted: &str,
+    script: &str,
+) -> Result<(), Fail> {
+    if text == wanted.as_bytes() {
+        return Ok(());
+    }
+    let told = str::from_utf8(text).unwrap_or("no text");
+    Err(Fail::new(format!(in alloc; "{what}: {told} in place of {wanted} of {script}")?))
+}
+
+/// Replays a script, with a secrets file where its words are given, and compares its text and its status.
+/// The answer has the files that are there then: the container b and the guest file g besides.
+pub fn replay_script<R: Threads + Sync>(
+    threads: &R,
+    alloc: Global,
+    secrets: Option<&[u64]>,
+    script: &str,
+    want: &str,
+) -> Result<MemFiles, Fail> {
+    let words = words_of(alloc, line_of(secrets))?;
+    let mut files = files_of(alloc, script, secrets)?;
+    let mut out = MemSink::new(alloc, Vec::new(alloc));
+    let status = tdx_main(threads, alloc, &words, &mut files, &mut out, &NoGate);
+    compare(alloc, "text", &out.bytes, want, script)?;
+    if status != 0 {
+        return Err(Fail::new(format!(in alloc; "status {status} of {script}")?));
+    }
+    Ok(files)
+}
