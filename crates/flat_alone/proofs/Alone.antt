@@ -1,10 +1,8 @@
 -- A processor that runs while nobody else holds a lock: each try is granted, and a call is as good as done at once.
-use Rattle.std.proofs.Common.{◌≡◌, ◌≢◌, refl, sym, ◌∙◌, ap, subst, ℕ, zero, suc, ◌+◌, ◌-◌, ◌*◌, ◌<◌, ◌≤◌, List, [], ◌∷◌, ◌++◌, length, map, drop, replicate, Option, Some, None, Bool, true, false, not, ◌==◌, arith, append_assoc, append-nil, length-append, inl, inr}
-use Rattle.std.specs.List.{concat, list_any}
+use Rattle.std.proofs.Common.{◌≡◌, ◌≢◌, refl, sym, ◌∙◌, ap, subst, ℕ, zero, suc, ◌+◌, ◌-◌, ◌*◌, ◌<◌, ◌≤◌, List, [], ◌∷◌, ◌++◌, length, drop, replicate, Option, Some, None, Bool, true, false, ◌==◌, arith, append_assoc, append-nil, length-append, inl, inr}
+use Rattle.std.specs.List.{concat}
 use Rattle.std.proofs.lemmas.Bool.{ne_eqb}
 use Rattle.std.proofs.lemmas.Bool.Decides.{eqb_tells}
-use Rattle.td_words.specs.declared.names.ReadField.{ReadField}
-use Rattle.td_words.specs.declared.names.ReadField.TheVariants as field
 use Rattle.td_words.specs.declared.names.Mode.{Mode}
 use Rattle.td_words.specs.declared.names.Mode.TheVariants.{Shared, Exclusive}
 use Rattle.td_words.specs.declared.calls.Call.{Call}
@@ -12,40 +10,30 @@ use Rattle.td_words.specs.declared.calls.Call.TheVariants as call
 use Rattle.td_words.specs.declared.replies.Reply.{Reply}
 use Rattle.td_words.specs.declared.replies.Reply.TheVariants.{Done, Refused}
 use Rattle.td_words.specs.declared.refusals.Status.TheVariants.{EptWalkFailed}
-use Rattle.td_words.specs.declared.machines.Machine.{Machine}
-use Rattle.td_words.specs.declared.names.PageKind.TheVariants as kind
-use Rattle.td_words.specs.declared.names.LifeState.TheVariants as life
-use Rattle.td_words.specs.declared.names.OpState.{OpState}
-use Rattle.td_words.specs.NameNumber.{life_number}
-use Rattle.td_words.specs.declared.names.EntryState.{EntryState}
 use Rattle.td_words.specs.declared.names.EntryState.TheVariants as entry
-use Rattle.flat_core.specs.Tree.{number_at, entry_at, same_state, empty_below, is_passed, levels_above}
+use Rattle.flat_core.specs.Tree.{number_at, entry_at, empty_below, is_passed, levels_above}
 use Rattle.flat_core.specs.Tracking.{tracked_page}
-use Rattle.flat_core.specs.MemRows.{named_row, open_states, blocked_states, removed_states}
-use Rattle.flat_core.specs.ExportRows.{opened_row, live_ops, restoring_ops, write_blocked_states, restored_states}
-use Rattle.flat_core.specs.Conditions.{same_kind}
-use Rattle.flat_core.specs.Lawful.{Lawful, is_free}
+use Rattle.flat_core.specs.MemRows.{open_states, blocked_states, removed_states}
+use Rattle.flat_core.specs.ExportRows.{live_ops, restoring_ops, write_blocked_states, restored_states}
+use Rattle.flat_core.specs.Lawful.{Lawful}
 use Rattle.flat_core.specs.World.{World, first_world, put}
-use Rattle.flat_core.specs.Processor.{LockId, OfPage, OfOp, OfTree, OfEpoch, Held, Phase, Trying, Answered, Translation, Entering, Lp, idle}
+use Rattle.flat_core.specs.Processor.{LockId, Held, Phase, Trying, Answered, Translation, Entering, Lp, idle}
 use Rattle.flat_core.specs.Locks.{alone_in, shared_in, alone_of, shared_of, refused_of, sum_below, holders, sharers, refusals, grants}
 use Rattle.flat_core.specs.Opening.{Opening}
 use Rattle.flat_core.specs.Row.{Item, Check, Try, Attempts, Refuses, Succeeds, Releases, Passes, next, tries_in}
-use Rattle.flat_core.specs.TdRows.{read_conditions}
-use Rattle.flat_core.specs.KeyRows.{reclaim_conditions}
 use Rattle.flat_core.specs.Table.{row_of, most_events}
 use Rattle.flat_core.specs.Bounds.{RowsTryFew}
 use Rattle.flat_core.specs.Event.{State, Event, OfCall, start, lines_left, calls_of, event_for, line_event, world_after, lp_after, is_granted, after_event, event, succeeded, settled}
 use Rattle.flat_core.specs.Run.{play, events_in, to_the_end}
 use Rattle.report_text.specs.Lines.{reply_lines}
 use Rattle.flat_core.specs.HostText.{lines_from, text_of, host_text}
-use Rattle.flat_core.proofs.Tests.{same_self, put_here, tdr_kind}
-use Rattle.flat_core.proofs.Maps.{unlisted, node_named}
+use Rattle.flat_core.proofs.Tests.{put_here}
 use Rattle.flat_core.proofs.Ranges.{block_restates, unblock_restates, page_removed, sept_removed}
 use Rattle.flat_core.proofs.Keeps.{row-keeps, first-lawful}
-use Rattle.flat_core.proofs.Blind.{is_living}
 use Rattle.flat_core.proofs.Induction.{counts_stay, play_append}
 use Rattle.flat_core.proofs.Ends.{drop_next}
 use Rattle.flat_alone.specs.Whole.{first_fault, reply_unless, world_unless, row_reply, row_world, replies_of, world_of, lines_at_once, world_at_once, EnterNone, CallsEnterNone, EachCallAtOnce, EndsInTheirWorld}
+use Rattle.flat_alone.proofs.Free.{shared_for, FreeTries, other_page, free_reclaim, free_read, free_walk, free_checks, apart_false, apart_named, free_named, has_use, free_opened, apart_stream, free_tracked}
 
 -- it holds no lock, and is being refused none
 pub record Quiet (lp : Lp) : Type 0 where
@@ -56,17 +44,6 @@ pub record Quiet (lp : Lp) : Type 0 where
 -- outside guests
 abbrev lp_of : Phase Reply → List Held → List Reply → Lp
 lp_of phase hs rs = record { call = record { phase = phase; held = hs }; guest = None; cached = []; replies = rs; notes = []; told = [] }
-
--- how often it shares a lock that it tries to hold alone; one that it tries to share it may share already
-abbrev shared_for : Mode → LockId → List Held → ℕ
-shared_for Shared l hs = 0
-shared_for Exclusive l hs = shared_in l hs
-
--- a lock that is tried isn't held yet as the try forbids, where the conditions before it hold
-abbrev FreeTries : List Held → List (Item Reply) → Type 0
-FreeTries hs [] = Unit {0}
-FreeTries hs (Check b r ∷ items) = b ≡ true → FreeTries hs items
-FreeTries hs (Try l m ∷ items) = (alone_in l hs ≡ 0) × (shared_for m l hs ≡ 0) × FreeTries (record { lock = l; mode = m } ∷ hs) items
 
 put_other : {A : Type 0} (f : ℕ → A) (p q : ℕ) (v : A) → q ≢ p → put f p v q ≡ f q
 put_other f p q v ne = rw (ne_eqb q p ne) refl
@@ -86,88 +63,6 @@ nothing_cached : (o : Opening) (p : ℕ) (c : Call) (w : World) → (row_of o p 
 nothing_cached o p (call.VpEnter tdr vp most) w e = cc
 nothing_cached o p (call.HostRead page word) w e = refl
 nothing_cached o p _ w e = refl
-
--- a page that isn't the TDR page
-other_page : (page tdr : ℕ) → not (page == tdr) ≡ true → (tdr == page) ≡ false
-other_page page tdr h = ne_eqb tdr page (λ e. absurd (let no : not (tdr == tdr) ≡ true = subst (λ (x : ℕ). not (x == tdr) ≡ true) (sym e) h in let yes : (tdr == tdr) ≡ true = same_self tdr in let bad : false ≡ true = rw yes at no in cc))
-
-free_reclaim : (w : World) (tdr page : ℕ) (b : Bool) → (page == tdr) ≡ b → FreeTries (record { lock = OfPage tdr; mode = Exclusive } ∷ []) (reclaim_conditions w tdr page b)
-free_reclaim w tdr page true e = λ h. tt
-free_reclaim w tdr page false e = let n : (tdr == page) ≡ false = other_page page tdr (rw e refl) in (rw n refl, refl, λ h. tt)
-
-free_read : (w : World) (tdr : ℕ) (f : ReadField) → FreeTries [] (read_conditions w tdr f)
-free_read w tdr field.Life = (refl, refl, λ a. tt)
-free_read w tdr field.Op = (refl, refl, λ a b c. (refl, refl, λ d. tt))
-free_read w tdr field.Epoch = (refl, refl, λ a b c. (refl, refl, λ d. (refl, refl, tt)))
-free_read w tdr field.Mrtd = (refl, refl, λ a b c. (refl, refl, λ d. tt))
-
--- a walk is conditions alone
-free_walk : (hs : List Held) (b : ℕ → Bool) (r : ℕ → Reply) (ls : List ℕ) (items : List (Item Reply)) → FreeTries hs items → FreeTries hs (map (λ l. Check (b l) (r l)) ls ++ items)
-free_walk hs b r [] items h = h
-free_walk hs b r (l ∷ ls) items h = λ e. free_walk hs b r ls items h
-
-free_checks : (hs : List Held) (b : ℕ → Bool) (r : ℕ → Reply) (ls : List ℕ) → FreeTries hs (map (λ l. Check (b l) (r l)) ls)
-free_checks hs b r [] = tt
-free_checks hs b r (l ∷ ls) = λ e. free_checks hs b r ls
-
-apart_false : (b : Bool) → not b ≡ true → b ≡ false
-apart_false true h = cc
-apart_false false h = refl
-
--- an entry of a TD names a page that isn't its TDR page
-apart_named : (m : Machine) (w : World) → Lawful m w → (tdr level number : ℕ) → same_kind (w.pages.kinds tdr) kind.Tdr ≡ true → list_any (λ s. life_number s == life_number (w.tds.lives tdr)) (life.KeysConfigured ∷ []) ≡ true
-    → is_free (w.tds.entries tdr level number).state ≡ false → (tdr == (w.tds.entries tdr level number).page) ≡ false
-apart_named m w la tdr level number root living used =
-    let tdr_is : w.pages.kinds tdr ≡ kind.Tdr = tdr_kind _ root in
-    let node = node_named m w la tdr level number (record { kind = tdr_is; life = is_living (w.tds.lives tdr) living }) used in
-    ne_eqb tdr _ (λ e. unlisted level kind.Tdr refl (sym node.page.kind ∙ (ap w.pages.kinds (sym e) ∙ tdr_is)))
-
-free_named : (m : Machine) (w : World) → Lawful m w → (tdr gpa level : ℕ) (allowed : List EntryState) → ((s : EntryState) → list_any (λ a. same_state a s) allowed ≡ true → is_free s ≡ false) → (rest : List (Item Reply))
-    → FreeTries (record { lock = OfPage (entry_at w tdr level gpa).page; mode = Exclusive } ∷ record { lock = OfEpoch tdr; mode = Shared } ∷ record { lock = OfTree tdr; mode = Exclusive } ∷ record { lock = OfOp tdr; mode = Shared } ∷ record { lock = OfPage tdr; mode = Shared } ∷ []) rest
-    → FreeTries [] (named_row w tdr gpa level allowed rest)
-free_named m w la tdr gpa level allowed used rest more = (
-  refl,
-  refl,
-  λ root living two. (
-    refl,
-    refl,
-    λ runs. (
-      refl,
-      refl,
-      (
-        refl,
-        refl,
-        free_walk _ (is_passed w tdr gpa) (λ l. Refused (EptWalkFailed l)) (levels_above level) _
-            (λ state. let n = apart_named m w la tdr level (number_at level gpa) root living (used _ state) in (refl, rw n refl, more)),
-      ),
-    ),
-  ),
-)
-
--- so it is in each state but FREE
-in_use : (allowed : List EntryState) (s : EntryState) → list_any (λ a. same_state a entry.Free) allowed ≡ false → list_any (λ a. same_state a s) allowed ≡ true → is_free s ≡ false
-in_use allowed entry.Free never h = cc
-in_use allowed _ never h = refl
-
-has_use : (s : EntryState) → not (same_state s entry.Free) ≡ true → is_free s ≡ false
-has_use entry.Free h = cc
-has_use _ h = refl
-
--- the beginning of the rows that give a guest its page back
-free_opened : (m : Machine) (w : World) → Lawful m w → (tdr gpa : ℕ) (ops : List OpState) (allowed : List EntryState) → list_any (λ a. same_state a entry.Free) allowed ≡ false → FreeTries [] (opened_row w tdr gpa ops allowed)
-free_opened m w la tdr gpa ops allowed never = (
-  refl,
-  refl,
-  λ root living two. (
-    refl,
-    refl,
-    λ runs. (
-      refl,
-      refl,
-      λ first second third state. let n = apart_named m w la tdr 0 (number_at 0 gpa) root living (in_use allowed _ never state) in (refl, rw n refl, tt),
-    ),
-  ),
-)
 
 free_row : (o : Opening) (p : ℕ) (c : Call) (w : World) → Lawful o.machine w → FreeTries [] ((row_of o p c).items w)
 free_row o p (call.HostRead page word) w la = λ a b. (refl, refl, tt)
@@ -281,6 +176,28 @@ free_row o p (call.ExportPause tdr) w la = λ a. (refl, refl, λ b d e. (refl, r
 free_row o p (call.ExportAbort tdr) w la = λ a. (refl, refl, λ b d e. (refl, refl, λ f. (refl, refl, tt)))
 free_row o p (call.ExportRestore tdr gpa) w la = λ a b d. free_opened o.machine w la tdr gpa restoring_ops restored_states refl
 free_row o p (call.ExportStateImmutable tdr slot) w la = λ a. (refl, refl, λ b d e. (refl, refl, λ f. (refl, refl, λ g h i. tt)))
+free_row o p (call.ExportMem tdr gpa stream slot) w la = λ a b d e. (
+  refl,
+  refl,
+  λ root living two. (
+    refl,
+    refl,
+    λ runs some. (
+      refl,
+      refl,
+      (
+        refl,
+        refl,
+        λ first second third used.
+            let n = apart_named o.machine w la tdr 0 (number_at 0 gpa) root living (has_use _ used) in
+            let s = apart_stream o.machine w la tdr stream 0 (number_at 0 gpa) root living some (has_use _ used) in
+            let x = s.0 in
+            let y = s.1 in
+            (refl, rw n refl, λ state epoch. (rw y refl, rw x refl, λ room. free_tracked _ (w.tds.ops tdr) w tdr (entry_at w tdr 0 gpa).page)),
+      ),
+    ),
+  ),
+)
 free_row o p (call.ExportTrack tdr slot zero) w la = λ a b. (refl, refl, λ d e f. (refl, refl, λ g. (refl, refl, λ h i. tt)))
 free_row o p (call.ExportTrack tdr slot (suc n)) w la = λ a b. (refl, refl, λ d e f. (refl, refl, λ g. (refl, refl, λ h i j. tt)))
 free_row o p (call.ExportStateTd tdr slot) w la = λ a. (refl, refl, λ b d e. (refl, refl, λ f g h. tt))

@@ -1,1 +1,3 @@
+pub mod Free
+pub mod ImportFree
 pub mod Alone

@@ -10,6 +10,7 @@ use Rattle.td_words.specs.Slots.{output_slot}
 use Rattle.flat_core.specs.World.{World, Made}
 use Rattle.flat_core.specs.Opening.{Opening}
 use Rattle.flat_core.specs.Row.{OperationRow}
+use Rattle.flat_core.specs.Tree.{entry_at}
 use Rattle.flat_core.specs.Table.{row_of}
 use Rattle.flat_core.specs.Sessions.{payload_words}
 use Rattle.flat_core.specs.Guest.{ByRow, operation_of, is_pending_at, reach}
@@ -25,6 +26,7 @@ adds-one m ms page = record { bundle = m; added = refl; slot_is = refl; page = p
 
 pub calls-add : CallsAddTheirOwn
 calls-add o me (call.ExportStateImmutable tdr slot) w = adds-one _ w.outgoing.bundles (omega arith)
+calls-add o me (call.ExportMem tdr gpa stream slot) w = adds-one _ w.outgoing.bundles (of_page (w.words (entry_at w tdr 0 gpa).page) 512 (omega arith))
 calls-add o me (call.ExportTrack tdr slot zero) w = adds-one _ w.outgoing.bundles (omega arith)
 calls-add o me (call.ExportTrack tdr slot (suc n)) w = adds-one _ w.outgoing.bundles (omega arith)
 calls-add o me (call.ExportStateTd tdr slot) w = adds-one _ w.outgoing.bundles (of_page (w.hidden.rtmrs tdr) 24 (omega arith))

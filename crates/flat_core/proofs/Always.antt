@@ -36,9 +36,11 @@ use Rattle.flat_core.proofs.Operations.{operation_row, accepted}
 use Rattle.flat_core.proofs.Due.{Due, calls, frees, leaves, stops, fills, operates, walks, reaches, undoes, gives_back, due_event_is}
 use Rattle.flat_core.proofs.Enter.{enters_or_none, passed}
 use Rattle.flat_core.proofs.Ends.{timeliness_kept}
-use Rattle.flat_core.proofs.Accesses.{row-access, quiet-act, accept-access, frame, current-same, walking-same}
+use Rattle.flat_core.proofs.Accesses.{row-access, accept-access}
+use Rattle.flat_core.proofs.AccessActs.{quiet-act, frame, current-same, walking-same}
 use Rattle.flat_core.proofs.Guarded.{enter-access, flush-access, guest-changed, left-access, filled, stepped}
-use Rattle.flat_core.proofs.Epochs.{row-epochs, quiet-epochs, leave-epochs}
+use Rattle.flat_core.proofs.Epochs.{row-epochs, leave-epochs}
+use Rattle.flat_core.proofs.EpochActs.{quiet-epochs}
 
 abbrev pub SameGuest : Guest → Guest → Type 0
 SameGuest g g' = (g'.tdr ≡ g.tdr) × (g'.vp ≡ g.vp) × ((g'.walk ≡ g.walk) ⊎ (g'.walk ≡ None))

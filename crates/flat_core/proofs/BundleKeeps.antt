@@ -2,32 +2,31 @@
 use Rattle.std.proofs.Common.{lit<, lit≤, ◌≡◌, ◌≢◌, refl, sym, ◌∙◌, subst, ap, ℕ, zero, suc, ◌+◌, ◌-◌, ◌%◌, ◌^◌, ◌<◌, ◌≤◌, List, ◌∷◌, length, get_or, Bool, true, false, not, if◌then◌else◌, ◌==◌, nat_lt, arith}
 use Rattle.std.specs.List.{list_any, sum_by}
 use Rattle.std.proofs.lemmas.Bool.{eqb-true, eqb-false, ne_eqb, and_parts, ltb-true}
-use Rattle.std.proofs.lemmas.List.Folds.{list_any_at}
 use Rattle.td_words.specs.declared.names.PageKind.TheVariants as kind
 use Rattle.td_words.specs.declared.names.OpState.{OpState}
 use Rattle.td_words.specs.declared.names.OpState.TheVariants as op
-use Rattle.td_words.specs.declared.names.EntryState.{EntryState}
 use Rattle.td_words.specs.declared.names.EntryState.TheVariants as entry
 use Rattle.td_words.specs.declared.names.Mode.TheVariants.{Exclusive}
 use Rattle.td_words.specs.declared.machines.Machine.{Machine}
 use Rattle.td_words.specs.Packing.{Entry, is_lawful_entry, is_exported}
-use Rattle.flat_core.specs.World.{World, Tds, Streams, put}
+use Rattle.flat_core.specs.World.{World, Pages, Tds, Streams, put}
 use Rattle.flat_core.specs.Row.{Passes}
 use Rattle.flat_core.specs.Locks.{one_if}
 use Rattle.flat_core.specs.Conditions.{page_exclusive}
-use Rattle.flat_core.specs.Tree.{number_at, entry_at, same_state, state_in, has_page, named_page}
+use Rattle.flat_core.specs.Tree.{number_at, entry_at, state_in, has_page, named_page}
 use Rattle.flat_core.specs.Exports.{is_dirty, entries_where}
 use Rattle.flat_core.specs.Sessions.{stream_page, stream_counter, other_epoch, counter_room, unrestored_count, About, make_bundle, put_all, begin_session, set_mig_epoch, note_td_export, note_vp_export}
+use Rattle.flat_core.specs.ExportRows.{abortable_ops}
 use Rattle.flat_core.specs.BundleRows.{session_ops, paused_ops, export_immutable, exportable, tracked_in, export_page, start_epoch, track_export, export_token, export_td, export_vp}
 use Rattle.flat_core.specs.Lawful.{IsAlive, all_differ, LawfulStreams, Lawful, RowKeeps, is_free, is_node, is_exporting}
 use Rattle.flat_core.proofs.Tests.{by_test, tdr_kind, same_self, put_here}
 use Rattle.flat_core.proofs.Exports.{IsCounted, counts_of, counted_still, counted_on, none_dirty_of}
-use Rattle.flat_core.proofs.Parts.{untouched, session_at, sessions_of, same_shape, session_kept, built_kept, op_kept}
-use Rattle.flat_core.proofs.Streams.{sum_same, sum_without, sum_zero, sum_raised, page_among, none_elsewhere}
+use Rattle.flat_core.proofs.Parts.{untouched, streams_kept, session_at, sessions_of, same_shape, session_kept, built_kept, op_kept}
+use Rattle.flat_core.proofs.Streams.{stream_owned, sum_same, sum_without, sum_zero, sum_raised, page_among, stream_among, none_elsewhere}
 use Rattle.flat_core.proofs.Maps.{behind_walk}
 use Rattle.flat_core.proofs.EntryStates.{with_entry, counted_entry_kept, moved, others_counted}
 use Rattle.flat_core.proofs.Numbers.{few_where}
-use Rattle.flat_core.proofs.Ranges.{begun_of, living, paused_exporting, abortable_exporting}
+use Rattle.flat_core.proofs.Ranges.{begun_of, living, paused_exporting, abortable_exporting, export_passed, entry_alive, can_export}
 
 -- one more at a page, on both sides or on the greater one
 more_each : (f g : ℕ → ℕ) → ((q : ℕ) → f q ≤ g q) → (p q : ℕ) → put f p (f p + 1) q ≤ put g p (g p + 1) q
@@ -39,9 +38,24 @@ more_above f g e p q = by_test (q == p) (λ y. (let h = e q in let same = ap g (
 more_below : (f : ℕ → ℕ) → ((q : ℕ) → f q < 2 ^ 32) → (p : ℕ) → f p < 2 ^ 32 - 1 → (q : ℕ) → put f p (f p + 1) q < 2 ^ 32
 more_below f e p room q = by_test (q == p) (λ y. rw y (omega (arith, room))) (λ n. rw n (e q))
 
+-- a page that is no stream of a TD that is UNINITIALIZED, as one of another TD's
+abbrev pub IsOfBegun : Pages → Tds → ℕ → Type 0
+IsOfBegun pages tds p = (x s : ℕ) → IsAlive pages tds x → tds.ops x ≡ op.Uninitialized → list_any (λ q. q == s) (tds.streams x) ≡ true → (s == p) ≡ false
+
+pub of_begun : (m : Machine) (w : World) → Lawful m w → (t k : ℕ) → IsAlive w.pages w.tds t → w.tds.ops t ≢ op.Uninitialized → k < length (w.tds.streams t) → IsOfBegun w.pages w.tds (stream_page w t k)
+of_begun m w l t k alive begun few x s a new among = by_test (s == stream_page w t k)
+    (λ y. absurd (let mine = (stream_owned m w l t k alive few).owner in
+    let its = (page_among w.pages x kind.Migsc (w.tds.streams x) s (l.tds.streams x a) among).owner in
+    let same : x ≡ t = sym its ∙ (ap w.pages.owners (eqb-true s (stream_page w t k) y) ∙ mine) in
+    begun (ap w.tds.ops (sym same) ∙ new)))
+    (λ n. n)
+
+exporting_begun : (s : OpState) → is_exporting s ≡ true → s ≢ op.Uninitialized
+exporting_begun s e new = let no : true ≡ false = sym e ∙ ap is_exporting new in cc
+
 -- a bundle that is made: its stream counts it
-counted_bundle : (m : Machine) (w : World) (p : ℕ) → Lawful m w → w.streams.counters p < 2 ^ 32 - 1 → Lawful m (record w { streams = record (w.streams) { counters = put w.streams.counters p (w.streams.counters p + 1) } })
-counted_bundle m w p l room = record {
+pub counted_bundle : (m : Machine) (w : World) (p : ℕ) → Lawful m w → IsOfBegun w.pages w.tds p → w.streams.counters p < 2 ^ 32 - 1 → Lawful m (record w { streams = record (w.streams) { counters = put w.streams.counters p (w.streams.counters p + 1) } })
+counted_bundle m w p l begun room = record {
   size = l.size;
   pages = l.pages;
   tds = l.tds;
@@ -54,16 +68,15 @@ counted_bundle m w p l room = record {
     counter = more_below w.streams.counters l.streams.counter p room;
     cleaned = more_above w.streams.cleaned w.streams.counters l.streams.cleaned p;
     first_exports = more_above w.streams.first_exports w.streams.counters l.streams.first_exports p;
+    uncounted = λ x s a new among. rw (begun x s a new among) (l.streams.uncounted x s a new among);
   };
   sessions = l.sessions;
 }
 
-bundle_kept : (m : Machine) (w : World) (t slot : ℕ) (a : About) (payload : List ℕ) → Lawful m w → stream_counter w t a.stream < 2 ^ 32 - 1 → Lawful m (make_bundle t slot a payload w)
-bundle_kept m w t slot a payload l room = untouched m _ (make_bundle t slot a payload w) refl (counted_bundle m w (stream_page w t a.stream) l room)
-
--- the page of a TD's stream
-stream_among : (ps : List ℕ) (k : ℕ) → k < length ps → list_any (λ q. q == get_or ps k 0) ps ≡ true
-stream_among ps k few = list_any_at (λ q. q == get_or ps k 0) ps k 0 few (same_self (get_or ps k 0))
+bundle_kept : (m : Machine) (w : World) (t slot : ℕ) (a : About) (payload : List ℕ) → Lawful m w → IsAlive w.pages w.tds t → w.tds.ops t ≢ op.Uninitialized → a.stream < length (w.tds.streams t)
+    → stream_counter w t a.stream < 2 ^ 32 - 1 → Lawful m (make_bundle t slot a payload w)
+bundle_kept m w t slot a payload l alive begun few room =
+    untouched m _ (make_bundle t slot a payload w) refl (counted_bundle m w (stream_page w t a.stream) l (of_begun m w l t a.stream alive begun few) room)
 
 -- a stream of one TD isn't one of another's
 stream_apart : (m : Machine) (w : World) → Lawful m w → (t x q : ℕ) → IsAlive w.pages w.tds t → IsAlive w.pages w.tds x → (x == t) ≡ false → list_any (λ p. p == q) (w.tds.streams x) ≡ true → list_any (λ p. p == q) (w.tds.streams t) ≡ false
@@ -99,6 +112,9 @@ module _ (m : Machine) (w : World) (t : ℕ) (l : Lawful m w) (alive : IsAlive w
   begun_there x n a = counted_on m.pages w.pages now.tds w.streams now.streams x (put_all_there w.streams.cleaned x n a) (put_all_there w.streams.first_exports x n a)
       (counted_still m.pages w.pages w.pages w.tds now.tds w.streams x (rw n refl) (λ f of p. refl) (l.counts.dirtied x a, l.counts.unrestored x a))
 
+  begun_before : (x : ℕ) → now.tds.ops x ≡ op.Uninitialized → w.tds.ops x ≡ op.Uninitialized
+  begun_before x = by_test (x == t) (λ y e. absurd (let no : op.LiveExport ≡ op.Uninitialized = rw y at e in cc)) (λ n e. rw n at e)
+
   session_begun : Lawful m (begin_session t w)
   session_begun = session_kept m w t built l now.tds now.streams (w.key_table.last_exported + 1) (same_shape m w t built l now.tds refl refl refl refl refl refl) refl l.tds.epoch
       (λ x. by_test (x == t) (λ y n. subst (λ (z : ℕ). 1 ≤ w.tds.epochs z) (sym (eqb-true x t y)) (l.tds.epoch_begun t begun)) (λ y n. l.tds.epoch_begun x (rw y at n)))
@@ -110,9 +126,12 @@ module _ (m : Machine) (w : World) (t : ℕ) (l : Lawful m w) (alive : IsAlive w
         counter = λ q. by_test (list_any (λ p. p == q) (w.tds.streams t)) (λ y. rw y (lit< tt)) (λ n. rw n (l.streams.counter q));
         cleaned = put_all_each w.streams.cleaned w.streams.counters l.streams.cleaned;
         first_exports = put_all_each w.streams.first_exports w.streams.counters l.streams.first_exports;
+        uncounted = λ x s a new among. by_test (list_any (λ p. p == s) (w.tds.streams t))
+            (λ y. rw y refl)
+            (λ n. rw n (l.streams.uncounted x s (record { kind = a.kind; life = a.life }) (begun_before x new) among));
       })
       (sessions_of now.tds now.key_table (omega (arith, room)) (λ x. by_test (x == t)
-      (λ y. (let same : x ≡ t = eqb-true x t y in rw y (omega (arith, room), lit< tt, λ e. (lit≤ tt, rw same few))))
+      (λ y. (let same : x ≡ t = eqb-true x t y in rw y (omega (arith, room), lit< tt, λ e. (lit≤ tt, rw same few), λ e. cc, l.tds.vps_few x)))
       (λ n. rw n (session_at w.tds w.key_table l.sessions x))))
 
   first_counter : stream_counter now t 0 ≡ 0
@@ -127,7 +146,8 @@ export_immutable-keeps m t slot = record {
       let restored : unrestored_count w t ≡ 0 = eqb-true _ 0 ps.1.1.1.1.1.1.0 in
       let room : w.key_table.last_exported < 65535 = ltb-true _ _ ps.1.1.1.1.1.1.1.0 in
       let none : stream_counter (begin_session t w) t 0 ≡ 0 = first_counter m w t l alive ps.1.1.1.0 begun few restored room in
-      bundle_kept m (begin_session t w) t slot _ _ (session_begun m w t l alive ps.1.1.1.0 begun few restored room) (omega (arith, none));
+      bundle_kept m (begin_session t w) t slot _ _ (session_begun m w t l alive ps.1.1.1.0 begun few restored room)
+      (record { kind = alive.kind; life = alive.life }) (λ e. let no : op.LiveExport ≡ op.Uninitialized = rw (same_self t) at e in cc) few (omega (arith, none));
   to_tell = λ w. refl;
 }
 
@@ -139,16 +159,18 @@ raised s p again = record {
   first_exports = if again then s.first_exports else put s.first_exports p (s.first_exports p + 1);
 }
 
-raised_lawful : (s : Streams) (p : ℕ) (again : Bool) → LawfulStreams s → s.counters p < 2 ^ 32 - 1 → LawfulStreams (raised s p again)
-raised_lawful s p true l room = record {
+raised_lawful : (pages : Pages) (tds : Tds) (s : Streams) (p : ℕ) (again : Bool) → LawfulStreams pages tds s → IsOfBegun pages tds p → s.counters p < 2 ^ 32 - 1 → LawfulStreams pages tds (raised s p again)
+raised_lawful pages tds s p true l begun room = record {
   counter = more_below s.counters l.counter p room;
   cleaned = more_each s.cleaned s.counters l.cleaned p;
   first_exports = more_above s.first_exports s.counters l.first_exports p;
+  uncounted = λ x q a new among. rw (begun x q a new among) (l.uncounted x q a new among);
 }
-raised_lawful s p false l room = record {
+raised_lawful pages tds s p false l begun room = record {
   counter = more_below s.counters l.counter p room;
   cleaned = more_above s.cleaned s.counters l.cleaned p;
   first_exports = more_each s.first_exports s.counters l.first_exports p;
+  uncounted = λ x q a new among. rw (begun x q a new among) (l.uncounted x q a new among);
 }
 
 -- what is counted on the stream's TD, and on another
@@ -161,16 +183,6 @@ raised_there : (s : Streams) (p : ℕ) (ps : List ℕ) (again : Bool) → list_a
     → (sum_by (raised s p again).cleaned ps ≡ sum_by s.cleaned ps) × (sum_by (raised s p again).first_exports ps ≡ sum_by s.first_exports ps)
 raised_there s p ps true none = (sum_without s.cleaned p _ ps none, refl)
 raised_there s p ps false none = (refl, sum_without s.first_exports p _ ps none)
-
-exportable_used : (o : OpState) (s : EntryState) → list_any (λ a. same_state a s) (exportable o) ≡ true → (is_free s ≡ false) × (is_node s ≡ false) × (is_dirty s ≡ is_exported s)
-exportable_used op.LiveExport entry.BlockedW h = (refl, refl, refl)
-exportable_used op.LiveExport entry.ExportedDirtyBlockedW h = (refl, refl, refl)
-exportable_used op.LiveExport _ h = cc
-exportable_used _ entry.Mapped h = (refl, refl, refl)
-exportable_used _ entry.BlockedW h = (refl, refl, refl)
-exportable_used _ entry.ExportedDirty h = (refl, refl, refl)
-exportable_used _ entry.ExportedDirtyBlockedW h = (refl, refl, refl)
-exportable_used _ _ h = cc
 
 -- a mark that isn't 0
 marked : (e : Entry) (mark : ℕ) → mark < 2 ^ 32 → 1 ≤ mark → is_lawful_entry e ≡ true → is_lawful_entry (record { state = entry.ExportedBlockedW; page = e.page; mark = mark }) ≡ true
@@ -226,7 +238,9 @@ module _ (m : Machine) (w : World) (t number k : ℕ) (l : Lawful m w) (alive : 
   page_exported =
       let session = session_at w.tds w.key_table l.sessions t in
       counted_entry_kept m w t 0 number new w.tds.dirtied w.tds.unrestored l used refl (sym low) refl (marked old (w.tds.mig_epochs t) session.1 (session.2 exporting).0) (λ x n. (refl, refl))
-      streams (raised_lawful w.streams p (is_exported old.state) l.streams room)
+      streams
+      (raised_lawful w.pages after w.streams p (is_exported old.state) (streams_kept w.pages w.pages w.tds after w.streams (λ x a. record { kind = a.kind; life = a.life }) (λ x e. e) refl l.streams)
+      (λ x s a. of_begun m w l t k alive (exporting_begun (w.tds.ops t) exporting) few x s (record { kind = a.kind; life = a.life })) room)
       (counts_of m.pages w.pages after streams (λ x a. by_test (x == t)
       (λ y. subst (λ (z : ℕ). IsCounted m.pages w.pages after streams z) (sym (eqb-true x t y)) exported_here)
       (λ n. exported_there x n a)))
@@ -236,12 +250,14 @@ export_page-keeps m t gpa k slot = record {
   act = λ w l ps.
       let e : Entry = entry_at w t 0 gpa in
       let head = ps.1.1.1.1 in
-      let alive : IsAlive w.pages w.tds t = record { kind = tdr_kind _ head.0; life = living (w.tds.lives t) head.1.0 } in
+      let p = export_passed m w t gpa k slot ps in
       let behind = behind_walk w t gpa 0
       (has_page w t gpa 0 ∷ named_page w t gpa 0 Exclusive ∷ state_in w t gpa 0 (exportable (w.tds.ops t)) ∷ other_epoch w t gpa ∷ page_exclusive (stream_page w t k) ∷ counter_room w t k ∷ tracked_in (w.tds.ops t) w t e.page)
       head.1.1.1.1.1 in
-      let r = exportable_used (w.tds.ops t) e.state behind.1.0 in
-      untouched m _ _ refl (page_exported m w t (number_at 0 gpa) k l alive (abortable_exporting (w.tds.ops t) head.1.1.1.0) (ltb-true _ _ head.1.1.1.1.0) r.0 r.1 r.2 (ltb-true _ _ behind.1.1.1.0));
+      let r = can_export (w.tds.ops t) e.state p.state in
+      let alive = entry_alive w t gpa abortable_ops (exportable (w.tds.ops t)) p in
+      untouched m _ _ refl
+      (page_exported m w t (number_at 0 gpa) k l alive (abortable_exporting (w.tds.ops t) p.op) (ltb-true _ _ head.1.1.1.1.0) r.used (sym r.same_level) r.dirt (ltb-true _ _ behind.1.1.1.0));
   to_tell = λ w. refl;
 }
 
@@ -249,20 +265,24 @@ export_page-keeps m t gpa k slot = record {
 epoch_set : (m : Machine) (w : World) (t epoch : ℕ) → Lawful m w → (length (w.tds.controls t) == 2) ≡ true → 1 ≤ epoch → epoch < 2 ^ 32 → Lawful m (set_mig_epoch t epoch w)
 epoch_set m w t epoch l built begun small =
     built_kept m w t built l (set_mig_epoch t epoch w).tds (same_shape m w t built l _ refl refl refl refl refl refl) (λ x. refl) refl l.tds.epoch l.tds.epoch_begun (λ x n. rw n refl)
-    (λ x h. by_test (x == t) (λ y. rw y (h.0, small, λ e. (begun, (h.2 e).1))) (λ n. rw n h))
+    (λ x h. by_test (x == t) (λ y. rw y (h.0, small, λ e. (begun, (h.2 e).1), h.3, h.4)) (λ n. rw n h)) (λ x e. e)
 
 token_kept : (m : Machine) (w : World) (t slot start : ℕ) → Lawful m w → Passes ((export_token m t slot start).items w) → Lawful m ((export_token m t slot start).act w)
 token_kept m w t slot zero l ps =
     let head = ps.1.1 in
     let room : w.tds.mig_epochs t < 2 ^ 32 - 2 = ltb-true _ _ head.1.1.1.1.1.0 in
-    bundle_kept m (set_mig_epoch t (w.tds.mig_epochs t + 1) w) t slot _ _ (epoch_set m w t (w.tds.mig_epochs t + 1) l head.1.1.0 (omega arith) (omega (arith, room))) (ltb-true _ _ head.1.1.1.1.0)
+    let exporting = abortable_exporting (w.tds.ops t) head.1.1.1.0 in
+    bundle_kept m (set_mig_epoch t (w.tds.mig_epochs t + 1) w) t slot _ _ (epoch_set m w t (w.tds.mig_epochs t + 1) l head.1.1.0 (omega arith) (omega (arith, room)))
+    (record { kind = tdr_kind _ head.0; life = living (w.tds.lives t) head.1.0 }) (exporting_begun (w.tds.ops t) exporting) (l.sessions.first_stream t exporting) (ltb-true _ _ head.1.1.1.1.0)
 token_kept m w t slot (suc n) l ps =
     let head = ps.1.1 in
     let w1 : World = set_mig_epoch t start_epoch w in
     let l1 : Lawful m w1 = epoch_set m w t start_epoch l head.1.1.0 (lit≤ tt) (lit< tt) in
     let begun = begun_of paused_ops (w.tds.ops t) refl head.1.1.1.0 in
     bundle_kept m (track_export t (suc n) w) t slot _ _
-    (op_kept m w1 t head.1.1.0 l1 op.PostExport (l.tds.epoch_begun t begun) (λ e. (session_at w1.tds w1.key_table l1.sessions t).2 (paused_exporting (w.tds.ops t) head.1.1.1.0)))
+    (op_kept m w1 t head.1.1.0 l1 op.PostExport (l.tds.epoch_begun t begun) (λ e. (session_at w1.tds w1.key_table l1.sessions t).2 (paused_exporting (w.tds.ops t) head.1.1.1.0)) (λ e. cc) (l.tds.vps_few t) (λ e. cc))
+    (record { kind = tdr_kind _ head.0; life = living (w.tds.lives t) head.1.0 }) (λ e. let no : op.PostExport ≡ op.Uninitialized = rw (same_self t) at e in cc)
+    (l.sessions.first_stream t (paused_exporting (w.tds.ops t) head.1.1.1.0))
     (ltb-true _ _ head.1.1.1.1.0)
 
 token_tells : (m : Machine) (w : World) (t slot start : ℕ) → ((export_token m t slot start).act w).outgoing.to_tell ≡ w.outgoing.to_tell
@@ -277,8 +297,10 @@ pub export_td-keeps : (m : Machine) (t slot : ℕ) → RowKeeps m (export_td m t
 export_td-keeps m t slot = record {
   act = λ w l ps.
       let built = ps.1.1.1.0 in
+      let exporting = paused_exporting (w.tds.ops t) ps.1.1.1.1.0 in
       bundle_kept m (note_td_export t w) t slot _ _
-      (built_kept m w t built l (note_td_export t w).tds (same_shape m w t built l _ refl refl refl refl refl refl) (λ x. refl) refl l.tds.epoch l.tds.epoch_begun (λ x n. rw n refl) (λ x h. h))
+      (built_kept m w t built l (note_td_export t w).tds (same_shape m w t built l _ refl refl refl refl refl refl) (λ x. refl) refl l.tds.epoch l.tds.epoch_begun (λ x n. rw n refl) (λ x h. h) (λ x e. e))
+      (record { kind = tdr_kind _ ps.1.0; life = living (w.tds.lives t) ps.1.1.0 }) (exporting_begun (w.tds.ops t) exporting) (l.sessions.first_stream t exporting)
       (ltb-true _ _ ps.1.1.1.1.1.1.0);
   to_tell = λ w. refl;
 }
@@ -288,9 +310,11 @@ export_vp-keeps m t v slot = record {
   act = λ w l ps.
       let head = ps.1.1.1 in
       let built = head.1.1.0 in
+      let exporting = paused_exporting (w.tds.ops t) head.1.1.1.0 in
       bundle_kept m (note_vp_export t v w) t slot _ _
       (untouched m (record w { tds = (note_vp_export t v w).tds }) _ refl
-      (built_kept m w t built l (note_vp_export t v w).tds (same_shape m w t built l _ refl refl refl refl refl refl) (λ x. refl) refl l.tds.epoch l.tds.epoch_begun (λ x n. rw n refl) (λ x h. h)))
+      (built_kept m w t built l (note_vp_export t v w).tds (same_shape m w t built l _ refl refl refl refl refl refl) (λ x. refl) refl l.tds.epoch l.tds.epoch_begun (λ x n. rw n refl) (λ x h. h) (λ x e. e)))
+      (record { kind = tdr_kind _ head.0; life = living (w.tds.lives t) head.1.0 }) (exporting_begun (w.tds.ops t) exporting) (l.sessions.first_stream t exporting)
       (ltb-true _ _ head.1.1.1.1.1.1.0);
   to_tell = λ w. refl;
 }

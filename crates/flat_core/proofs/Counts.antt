@@ -1,13 +1,15 @@
 -- How many events a call has.
-use Rattle.std.proofs.Common.{◌≡◌, refl, sym, ◌∙◌, subst, ap, ℕ, zero, suc, ◌+◌, ◌*◌, ◌<◌, ◌≤◌, List, [], ◌∷◌, ◌++◌, length, drop, map, Option, Some, None, Bool, true, false, ◌==◌, arith, length-append}
+use Rattle.std.proofs.Common.{◌≡◌, refl, sym, ◌∙◌, subst, ap, ℕ, zero, suc, ◌+◌, ◌*◌, ◌<◌, ◌≤◌, List, [], ◌∷◌, ◌++◌, length, drop, Option, Some, None, Bool, true, false, ◌==◌, arith, length-append}
 use Rattle.std.proofs.lemmas.Bool.{eqb-true, eqb-false}
 use Rattle.td_words.specs.declared.names.Mode.{Mode}
 use Rattle.td_words.specs.declared.names.Mode.TheVariants.{Shared, Exclusive}
 use Rattle.td_words.specs.declared.names.ReadField.TheVariants as field
+use Rattle.td_words.specs.declared.names.OpState.{OpState}
+use Rattle.td_words.specs.declared.names.OpState.TheVariants as op
 use Rattle.td_words.specs.declared.names.EntryState.TheVariants as entry
 use Rattle.td_words.specs.declared.calls.Call.{Call}
 use Rattle.td_words.specs.declared.calls.Call.TheVariants as call
-use Rattle.td_words.specs.declared.refusals.Status.TheVariants.{OperandInvalid, EptWalkFailed}
+use Rattle.td_words.specs.declared.refusals.Status.TheVariants.{OperandInvalid}
 use Rattle.td_words.specs.declared.replies.Reply.{Reply}
 use Rattle.td_words.specs.declared.replies.Reply.TheVariants.{Done, Refused, Exited}
 use Rattle.flat_core.specs.World.{World}
@@ -19,6 +21,7 @@ use Rattle.flat_core.specs.Conditions.{page_exclusive, host_page}
 use Rattle.flat_core.specs.Tracking.{tracked_page}
 use Rattle.flat_core.specs.KeyRows.{reclaim_conditions}
 use Rattle.flat_core.specs.MemRows.{open_states, blocked_states}
+use Rattle.flat_core.specs.BundleRows.{tracked_in}
 use Rattle.flat_core.specs.Table.{row_of}
 use Rattle.flat_core.specs.Event.{State, Event, OfCall, event_for, line_event, lines_left, calls_of, event, after_event, lp_after, call_lp, succeeded, settled, settle, call_busy, is_granted}
 use Rattle.flat_core.specs.Run.{play}
@@ -27,6 +30,7 @@ use Rattle.flat_core.proofs.Tests.{by_test}
 use Rattle.flat_core.proofs.Kept.{others_stay}
 use Rattle.flat_core.proofs.Tries.{rows_try_the_same}
 use Rattle.flat_core.proofs.Refused.{after_here, play_grows, no_more, same_last, HasActed, has_entered, Stays, still, over, own_stays}
+use Rattle.flat_core.proofs.Ordered.{MayAnswer, IsOrdered, HoldsFor, ArgumentsHold, walk_ordered, walk_alone_ordered, walk_holds, walk_alone_holds}
 
 -- how many events a call has in all that is answered so, where its row tries n locks
 abbrev Takes : ℕ → Reply → ℕ → Type 0
@@ -34,30 +38,6 @@ Takes n (Done v) m = m ≡ 2 * n + 1
 Takes n (Refused (OperandInvalid place)) m = m ≡ 1
 Takes n (Refused _) m = Unit {0}
 Takes n (Exited out) m = Unit {0}
-
--- what a condition that comes after j tries may answer: a refusal, and one for an argument before the first
-abbrev MayAnswer : ℕ → Reply → Type 0
-MayAnswer j (Done v) = ⊥
-MayAnswer j (Refused (OperandInvalid place)) = j ≡ 0
-MayAnswer j (Refused _) = Unit {0}
-MayAnswer j (Exited out) = ⊥
-
-abbrev IsOrdered : ℕ → List (Item Reply) → Type 0
-IsOrdered j [] = Unit {0}
-IsOrdered j (Check b r ∷ items) = MayAnswer j r × IsOrdered j items
-IsOrdered j (Try l m ∷ items) = IsOrdered (suc j) items
-
--- the conditions on arguments hold
-abbrev HoldsFor : Bool → Reply → Type 0
-HoldsFor b (Done v) = Unit {0}
-HoldsFor b (Refused (OperandInvalid place)) = b ≡ true
-HoldsFor b (Refused _) = Unit {0}
-HoldsFor b (Exited out) = Unit {0}
-
-abbrev ArgumentsHold : List (Item Reply) → Type 0
-ArgumentsHold [] = Unit {0}
-ArgumentsHold (Check b r ∷ items) = HoldsFor b r × ArgumentsHold items
-ArgumentsHold (Try l m ∷ items) = ArgumentsHold items
 
 holding : (r : Reply) → HoldsFor true r
 holding (Done v) = tt
@@ -100,28 +80,13 @@ module _ (C : Move Reply → Type 0) (n held : ℕ) where
 
 -- each row is such a row
 
-abbrev walk_checks : (ℕ → Bool) → List ℕ → List (Item Reply)
-walk_checks b ls = map (λ l. Check (b l) (Refused (EptWalkFailed l))) ls
-
-walk_ordered : (j : ℕ) (b : ℕ → Bool) (ls : List ℕ) (items : List (Item Reply)) → IsOrdered j items → IsOrdered j (walk_checks b ls ++ items)
-walk_ordered j b [] items h = h
-walk_ordered j b (l ∷ ls) items h = (tt, walk_ordered j b ls items h)
-
-walk_alone_ordered : (j : ℕ) (b : ℕ → Bool) (ls : List ℕ) → IsOrdered j (walk_checks b ls)
-walk_alone_ordered j b [] = tt
-walk_alone_ordered j b (l ∷ ls) = (tt, walk_alone_ordered j b ls)
-
-walk_holds : (b : ℕ → Bool) (ls : List ℕ) (items : List (Item Reply)) → ArgumentsHold items → ArgumentsHold (walk_checks b ls ++ items)
-walk_holds b [] items h = h
-walk_holds b (l ∷ ls) items h = (tt, walk_holds b ls items h)
-
-walk_alone_holds : (b : ℕ → Bool) (ls : List ℕ) → ArgumentsHold (walk_checks b ls)
-walk_alone_holds b [] = tt
-walk_alone_holds b (l ∷ ls) = (tt, walk_alone_holds b ls)
-
 reclaim_ordered : (w : World) (t page : ℕ) (b : Bool) → IsOrdered 1 (reclaim_conditions w t page b)
 reclaim_ordered w t page true = (tt, tt)
 reclaim_ordered w t page false = (tt, tt)
+
+tracked_ordered : (j : ℕ) (s : OpState) (w : World) (t page : ℕ) → IsOrdered j (tracked_in s w t page)
+tracked_ordered j op.LiveExport w t page = (tt, tt)
+tracked_ordered j _ w t page = tt
 
 row_ordered : (o : Opening) (me : ℕ) (c : Call) (w : World) → IsOrdered 0 ((row_of o me c).items w)
 row_ordered o me (call.HostRead page word) w = (refl, (refl, tt))
@@ -161,6 +126,7 @@ row_ordered o me (call.ExportPause t) w = (refl, (tt, (tt, (tt, (tt, tt)))))
 row_ordered o me (call.ExportAbort t) w = (refl, (tt, (tt, (tt, (tt, tt)))))
 row_ordered o me (call.ExportRestore t gpa) w = (refl, (refl, (refl, (tt, (tt, (tt, (tt, (tt, (tt, (tt, (tt, tt)))))))))))
 row_ordered o me (call.ExportStateImmutable t slot) w = (refl, (tt, (tt, (tt, (tt, (tt, (tt, (tt, tt))))))))
+row_ordered o me (call.ExportMem t gpa k slot) w = (refl, (refl, (refl, (refl, (tt, (tt, (tt, (tt, (tt, (tt, (tt, (tt, (tt, (tt, (tt, (tt, tracked_ordered 6 (w.tds.ops t) w t (entry_at w t 0 gpa).page))))))))))))))))
 row_ordered o me (call.ExportTrack t slot zero) w = (refl, (refl, (tt, (tt, (tt, (tt, (tt, (tt, tt))))))))
 row_ordered o me (call.ExportTrack t slot (suc n)) w = (refl, (refl, (tt, (tt, (tt, (tt, (tt, (tt, (tt, tt)))))))))
 row_ordered o me (call.ExportStateTd t slot) w = (refl, (tt, (tt, (tt, (tt, (tt, (tt, tt)))))))
@@ -170,6 +136,10 @@ row_ordered o me (call.ExportStateVp t vp slot) w = (refl, (refl, (refl, (tt, (t
 reclaim_holds : (v w : World) (t page : ℕ) (b : Bool) → ArgumentsHold (reclaim_conditions v t page b) → ArgumentsHold (reclaim_conditions w t page b)
 reclaim_holds v w t page true h = (tt, tt)
 reclaim_holds v w t page false h = (tt, tt)
+
+tracked_holds : (s : OpState) (w : World) (t page : ℕ) → ArgumentsHold (tracked_in s w t page)
+tracked_holds op.LiveExport w t page = (tt, tt)
+tracked_holds _ w t page = tt
 
 row_holds : (o : Opening) (me : ℕ) (c : Call) (v w : World) → ArgumentsHold ((row_of o me c).items v) → ArgumentsHold ((row_of o me c).items w)
 row_holds o me (call.PhymemPageReclaim t page) v w h = (h.0, (h.1.0, (tt, (tt, reclaim_holds v w t page (page == t) h.1.1.1.1))))
@@ -182,6 +152,7 @@ row_holds o me (call.MemSeptRd t gpa level) v w h = (h.0, (h.1.0, (h.1.1.0, (h.1
 row_holds o me (call.MemSeptRemove t gpa level) v w h = (h.0, (h.1.0, (h.1.1.0, (h.1.1.1.0, (tt, (tt, (tt, (tt, walk_holds (is_passed w t gpa) (levels_above level) (state_in w t gpa level (entry.NlBlocked ∷ []) ∷ named_page w t gpa level Exclusive ∷ empty_below w t gpa level ∷ tracked_page w t (entry_at w t level gpa).page ∷ []) (tt, (tt, (tt, tt)))))))))))
 row_holds o me (call.MemRangeBlock t gpa level) v w h = (h.0, (h.1.0, (h.1.1.0, (h.1.1.1.0, (tt, (tt, (tt, (tt, walk_holds (is_passed w t gpa) (levels_above level) (state_in w t gpa level open_states ∷ named_page w t gpa level Exclusive ∷ []) (tt, tt)))))))))
 row_holds o me (call.MemRangeUnblock t gpa level) v w h = (h.0, (h.1.0, (h.1.1.0, (h.1.1.1.0, (tt, (tt, (tt, (tt, walk_holds (is_passed w t gpa) (levels_above level) (state_in w t gpa level blocked_states ∷ named_page w t gpa level Exclusive ∷ tracked_page w t (entry_at w t level gpa).page ∷ []) (tt, (tt, tt))))))))))
+row_holds o me (call.ExportMem t gpa k slot) v w h = (h.0, (h.1.0, (h.1.1.0, (h.1.1.1.0, (tt, (tt, (tt, (tt, (tt, (tt, (tt, (tt, (tt, (tt, (tt, (tt, tracked_holds (w.tds.ops t) w t (entry_at w t 0 gpa).page))))))))))))))))
 row_holds o me (call.ExportTrack t slot zero) v w h = h
 row_holds o me (call.ExportTrack t slot (suc n)) v w h = h
 row_holds o me (call.HostRead page word) v w h = h

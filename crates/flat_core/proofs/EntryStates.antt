@@ -19,7 +19,7 @@ use Rattle.flat_core.specs.Lawful.{IsAlive, IsPageOf, IsNodeOf, LawfulTree, Lawf
 use Rattle.flat_core.proofs.Tests.{by_test, same_self}
 use Rattle.flat_core.proofs.Pages.{controls_as, pages_as}
 use Rattle.flat_core.proofs.Exports.{IsOfExported, IsCounted, counts_of, counted_still, counts_kept, sum_moved}
-use Rattle.flat_core.proofs.Parts.{new_kept, sessions_kept}
+use Rattle.flat_core.proofs.Parts.{new_kept, sessions_kept, streams_kept}
 
 -- what is at an entry's place after another entry was put somewhere: that one, or what stood there
 pub entry_set : (w : World) (t level number : ℕ) (new : Entry) (P : Entry → Type 0) (x j n : ℕ) → (x ≡ t → j ≡ level → n ≡ number → P new) → ((x ≡ t → j ≡ level → n ≡ number → ⊥) → P (w.tds.entries x j n))
@@ -83,7 +83,7 @@ module _ (m : Machine) (w : World) (t level number : ℕ) (new : Entry) (dirtied
   }
 
   -- with the streams that count it
-  pub counted_entry_kept : (streams : Streams) → LawfulStreams streams → LawfulCounts m.pages w.pages after streams → Lawful m (record w { tds = after; streams = streams })
+  pub counted_entry_kept : (streams : Streams) → LawfulStreams w.pages after streams → LawfulCounts m.pages w.pages after streams → Lawful m (record w { tds = after; streams = streams })
   counted_entry_kept streams counters counts = record {
     size = l.size;
     pages = l.pages;
@@ -123,7 +123,7 @@ module _ (m : Machine) (w : World) (t level number : ℕ) (new : Entry) (dirtied
   }
 
   pub entry_kept : LawfulCounts m.pages w.pages after w.streams → Lawful m (record w { tds = after })
-  entry_kept counts = counted_entry_kept w.streams l.streams counts
+  entry_kept counts = counted_entry_kept w.streams (streams_kept w.pages w.pages w.tds after w.streams back (λ x e. e) refl l.streams) counts
 
 -- a lawful entry's page with a state that isn't exported
 pub restated : (s : EntryState) (e : Entry) → is_lawful_entry e ≡ true → is_free s ≡ false → is_exported s ≡ false → is_lawful_entry (record { state = s; page = e.page; mark = 0 }) ≡ true
@@ -311,6 +311,6 @@ module _ (m : Machine) (w : World) (t p : ℕ) (l : Lawful m w) (owned : is_host
     };
     beginnings = record { is_new = λ x a n. l.beginnings.is_new x (was_alive x a) n };
     counts = counts_kept m.pages w.pages blocked w.tds w.tds w.streams was_alive (λ x. refl) (λ x a f of q. refl) l.counts;
-    streams = l.streams;
+    streams = streams_kept w.pages blocked w.tds w.tds w.streams was_alive (λ x e. e) refl l.streams;
     sessions = l.sessions;
   }

@@ -1,5 +1,5 @@
 -- What the act of each row, and a count step, keep of epochs and associations.
-use Rattle.std.proofs.Common.{◌≡◌, ◌⊎◌, inl, inr, refl, sym, ◌∙◌, subst, ap, ℕ, zero, suc, ◌-◌, ◌≤◌, [], ◌∷◌, Option, Some, None, true, false, ◌==◌, arith}
+use Rattle.std.proofs.Common.{◌≡◌, inl, inr, refl, sym, ◌∙◌, subst, ap, ℕ, zero, suc, ◌-◌, ◌≤◌, [], ◌∷◌, Some, None, true, false, ◌==◌, arith}
 use Rattle.std.specs.List.{list_any}
 use Rattle.std.proofs.lemmas.Bool.{eqb-true, eqb-false, and_parts}
 use Rattle.td_words.specs.declared.names.PageKind.{PageKind}
@@ -11,116 +11,39 @@ use Rattle.td_words.specs.declared.names.OpState.TheVariants as op
 use Rattle.td_words.specs.declared.calls.Call.{Call}
 use Rattle.td_words.specs.declared.calls.Call.TheVariants as call
 use Rattle.td_words.specs.NameNumber.{life_number, op_number}
-use Rattle.flat_core.specs.World.{World, Pages, Tds, Vps}
+use Rattle.flat_core.specs.World.{World}
 use Rattle.flat_core.specs.Opening.{Opening}
 use Rattle.flat_core.specs.Row.{Passes}
 use Rattle.flat_core.specs.Conditions.{associated_in, same_kind, running_ops, augmented_ops}
-use Rattle.flat_core.specs.Effects.{take_node, unmap_page, end_memory, leave_guest}
+use Rattle.flat_core.specs.Effects.{end_memory, leave_guest}
 use Rattle.flat_core.specs.Tree.{page_of_gpa, number_at}
 use Rattle.flat_core.specs.Table.{row_of}
-use Rattle.flat_core.specs.Alike.{is_being_built}
 use Rattle.flat_core.specs.Lawful.{Lawful, IsAlive, IsPageOf}
-use Rattle.flat_core.specs.Access.{LawfulEpochs}
+use Rattle.flat_core.specs.Access.{LawfulEpochs, has_not_run}
 use Rattle.flat_core.proofs.Tests.{by_test, host_kind, tdr_kind}
 use Rattle.flat_core.proofs.Trackings.{none_at}
-use Rattle.flat_core.proofs.Spared.{not_configured, counted}
-
--- a virtual processor as it was, or one that is new
-data VpCase (w w' : World) (t v : ℕ) : Type 0 where
-  old : w.pages.kinds t ≡ kind.Tdr → IsPageOf w.pages t v kind.Tdvpr → w'.vps.lasts v ≡ w.vps.lasts v → w'.vps.entered v ≡ w.vps.entered v → w'.vps.associated v ≡ w.vps.associated v
-      → (w'.tds.epochs t ≡ w.tds.epochs t) ⊎ ((w.tds.epochs t ≡ 0) × (w'.tds.epochs t ≡ 1))
-      → ((p : ℕ) → w.vps.associated v ≡ Some p → w.tds.lives t ≡ life.KeysConfigured → is_being_built (w.tds.ops t) ≡ false → (w'.tds.lives t ≡ life.KeysConfigured) × (is_being_built (w'.tds.ops t) ≡ false))
-      → VpCase w w' t v
-  new : w'.vps.lasts v ≡ 0 → w'.vps.entered v ≡ None → w'.vps.associated v ≡ None → VpCase w w' t v
-
-module _ (w w' : World) (le : LawfulEpochs w) (each : (t v : ℕ) → w'.pages.kinds t ≡ kind.Tdr → IsPageOf w'.pages t v kind.Tdvpr → VpCase w w' t v)
-    (early : (t : ℕ) → w'.pages.kinds t ≡ kind.Tdr → w'.tds.ops t ≡ op.Uninitialized → w'.tds.epochs t ≡ 0) where
-  last-of : (t v : ℕ) → VpCase w w' t v → w'.vps.lasts v ≤ w'.tds.epochs t
-  last-of t v (old k pa ls et assoc (inl ep) run) = (let l = le.last t v k pa in omega (arith, l, ls, ep))
-  last-of t v (old k pa ls et assoc (inr ep) run) = (let l = le.last t v k pa in let a = ep.0 in let b = ep.1 in omega (arith, l, ls, a, b))
-  last-of t v (new ls et assoc) = omega (arith, ls)
-
-  near-of : (t v e : ℕ) → VpCase w w' t v → w'.vps.entered v ≡ Some e → (e ≤ w'.tds.epochs t) × (w'.tds.epochs t ≤ suc e)
-  near-of t v e (old k pa ls et assoc (inl ep) run) n = (let x = le.near t v e k pa (sym et ∙ n) in let a = x.0 in let b = x.1 in (omega (arith, a, ep), omega (arith, b, ep)))
-  near-of t v e (old k pa ls et assoc (inr ep) run) n = (let x = le.near t v e k pa (sym et ∙ n) in let a = x.0 in let c = ep.0 in let d = ep.1 in (omega (arith, a, c, d), omega (arith, d)))
-  near-of t v e (new ls et assoc) n = (let no : None ≡ Some e = sym et ∙ n in cc)
-
-  bound-of : (t v p : ℕ) → VpCase w w' t v → w'.vps.associated v ≡ Some p → (w'.tds.lives t ≡ life.KeysConfigured) × (is_being_built (w'.tds.ops t) ≡ false)
-  bound-of t v p (old k pa ls et assoc ep run) n = (let x = le.bound t v p k pa (sym assoc ∙ n) in run p (sym assoc ∙ n) x.0 x.1)
-  bound-of t v p (new ls et assoc) n = (let no : None ≡ Some p = sym assoc ∙ n in cc)
-
-  le-frame : LawfulEpochs w'
-  le-frame = record {
-    last = λ t v k pa. last-of t v (each t v k pa);
-    near = λ t v e k pa n. near-of t v e (each t v k pa) n;
-    bound = λ t v p k pa n. bound-of t v p (each t v k pa) n;
-    early = early;
-  }
+use Rattle.flat_core.proofs.Sparing.{not_configured, counted}
+use Rattle.flat_core.proofs.EpochActs.{old, new, le-frame, quiet-epochs, no-host, kind-at, kind-here, page-off, page-was, unmapped-epochs}
 
 module _ (o : Opening) (w : World) (la : Lawful o.machine w) (le : LawfulEpochs w) where
-  pub quiet-epochs : (w' : World) → w'.pages ≡ w.pages → w'.tds.lives ≡ w.tds.lives → w'.tds.ops ≡ w.tds.ops → w'.tds.epochs ≡ w.tds.epochs → w'.vps.associated ≡ w.vps.associated → w'.vps.lasts ≡ w.vps.lasts → w'.vps.entered ≡ w.vps.entered → LawfulEpochs w'
-  quiet-epochs w' pg lv os ep assoc ls et =
-      le-frame w w' le
-      (λ t v k pa. old (ap (λ (z : Pages). z.kinds t) (sym pg) ∙ k) (record { kind = ap (λ (z : Pages). z.kinds v) (sym pg) ∙ pa.kind; owner = ap (λ (z : Pages). z.owners v) (sym pg) ∙ pa.owner }) (ap (λ (z : ℕ → ℕ). z v) ls) (ap (λ (z : ℕ → Option ℕ). z v) et) (ap (λ (z : ℕ → Option ℕ). z v) assoc)
-      (inl (ap (λ (z : ℕ → ℕ). z t) ep)) (λ p n l b. (ap (λ (z : ℕ → LifeState). z t) lv ∙ l, ap (λ (z : ℕ → OpState). is_being_built (z t)) os ∙ b)))
-      (λ t k u. ap (λ (z : ℕ → ℕ). z t) ep ∙ le.early t (ap (λ (z : Pages). z.kinds t) (sym pg) ∙ k) (ap (λ (z : ℕ → OpState). z t) (sym os) ∙ u))
-
-  -- a TD that has a virtual processor isn't one whose page was the host's
-  no-host : (q t v : ℕ) → w.pages.kinds q ≡ kind.Nda → w.pages.kinds t ≡ kind.Tdr → (t == q) ≡ false
-  no-host q t v host k = by_test (t == q) (λ y. absurd (let no : kind.Tdr ≡ kind.Nda = sym k ∙ (ap w.pages.kinds (eqb-true t q y) ∙ host) in cc)) (λ n. n)
-
-  -- a page becomes one of another kind; TDs and virtual processors but its own stay
-  module _ (q : ℕ) (k' : PageKind) (t' level number : ℕ) (w' : World) (pg : w'.pages ≡ (take_node q k' t' level number w).pages) where
-    kind-at : (x : ℕ) → (x == q) ≡ false → w'.pages.kinds x ≡ w.pages.kinds x
-    kind-at x n = ap (λ (z : Pages). z.kinds x) pg ∙ rw n refl
-
-    owner-at : (x : ℕ) → (x == q) ≡ false → w'.pages.owners x ≡ w.pages.owners x
-    owner-at x n = ap (λ (z : Pages). z.owners x) pg ∙ rw n refl
-
-    kind-here : {k : PageKind} (x : ℕ) → w'.pages.kinds x ≡ k → (x == q) ≡ true → k' ≡ k
-    kind-here x e y = sym (rw y refl) ∙ (sym (ap (λ (z : Pages). z.kinds x) pg) ∙ e)
-
-    page-off : (v : ℕ) (t : ℕ) → IsPageOf w'.pages t v kind.Tdvpr → (k' ≡ kind.Tdvpr → ⊥) → (v == q) ≡ false
-    page-off v t pa n = by_test (v == q) (λ y. absurd (n (kind-here v pa.kind y))) (λ z. z)
-
-    page-was : (t v : ℕ) → (v == q) ≡ false → IsPageOf w'.pages t v kind.Tdvpr → IsPageOf w.pages t v kind.Tdvpr
-    page-was t v n pa = record { kind = sym (kind-at v n) ∙ pa.kind; owner = sym (owner-at v n) ∙ pa.owner }
-
-  -- a page leaves the map
-  unmapped-epochs : (w1 : World) (u level n : ℕ) → w1.pages ≡ w.pages → w1.tds ≡ w.tds → w1.vps ≡ w.vps → LawfulEpochs (unmap_page u level n w1)
-  unmapped-epochs w1 u level n pg td vp =
-      let q : ℕ = (w1.tds.entries u level n).page in
-      let w' : World = unmap_page u level n w1 in
-      let here : w'.pages ≡ (take_node q kind.Nda 0 0 0 w).pages = ap (λ (z : Pages). (take_node q kind.Nda 0 0 0 (record w { pages = z })).pages) pg in
-      let lasts = ap (λ (z : Vps). z.lasts) vp in
-      let entered = ap (λ (z : Vps). z.entered) vp in
-      let assoc = ap (λ (z : Vps). z.associated) vp in
-      let tdr-off : (t : ℕ) → w'.pages.kinds t ≡ kind.Tdr → (t == q) ≡ false = λ t k. by_test (t == q) (λ y. absurd (let no : kind.Nda ≡ kind.Tdr = kind-here q kind.Nda 0 0 0 w' here t k y in cc)) (λ z. z) in
-      le-frame w w' le
-      (λ t v k pa. let a = tdr-off t k in
-      let b = page-off q kind.Nda 0 0 0 w' here v t pa (λ e. cc) in
-      old (sym (kind-at q kind.Nda 0 0 0 w' here t a) ∙ k) (page-was q kind.Nda 0 0 0 w' here t v b pa) (ap (λ (z : ℕ → ℕ). z v) lasts) (ap (λ (z : ℕ → Option ℕ). z v) entered) (ap (λ (z : ℕ → Option ℕ). z v) assoc)
-      (inl (ap (λ (z : Tds). z.epochs t) td)) (λ p n l b. (ap (λ (z : Tds). z.lives t) td ∙ l, ap (λ (z : Tds). is_being_built (z.ops t)) td ∙ b)))
-      (λ t k e. ap (λ (z : Tds). z.epochs t) td ∙ le.early t (sym (kind-at q kind.Nda 0 0 0 w' here t (tdr-off t k)) ∙ k) (sym (ap (λ (z : Tds). z.ops t) td) ∙ e))
-
   pub row-epochs : (me : ℕ) (c : Call) → Passes ((row_of o me c).items w) → LawfulEpochs ((row_of o me c).act w)
   row-epochs me (call.PhymemPageReclaim u page) ps =
       let w' : World = (row_of o me (call.PhymemPageReclaim u page)).act w in
       le-frame w w' le
-      (λ t v k pa. let a = by_test (t == page) (λ y. absurd (let no : kind.Nda ≡ kind.Tdr = kind-here page kind.Nda 0 0 0 w' refl t k y in cc)) (λ z. z) in
-      let b = page-off page kind.Nda 0 0 0 w' refl v t pa (λ e. cc) in
-      old (sym (kind-at page kind.Nda 0 0 0 w' refl t a) ∙ k) (page-was page kind.Nda 0 0 0 w' refl t v b pa) refl refl refl (inl refl) (λ p n l b. (l, b)))
-      (λ t k e. le.early t (sym (kind-at page kind.Nda 0 0 0 w' refl t (by_test (t == page) (λ y. absurd (let no : kind.Nda ≡ kind.Tdr = kind-here page kind.Nda 0 0 0 w' refl t k y in cc)) (λ z. z))) ∙ k) e)
+      (λ t v k pa. let a = by_test (t == page) (λ y. absurd (let no : kind.Nda ≡ kind.Tdr = kind-here o w la le page kind.Nda 0 0 0 w' refl t k y in cc)) (λ z. z) in
+      let b = page-off o w la le page kind.Nda 0 0 0 w' refl v t pa (λ e. cc) in
+      old (sym (kind-at o w la le page kind.Nda 0 0 0 w' refl t a) ∙ k) (page-was o w la le page kind.Nda 0 0 0 w' refl t v b pa) refl refl refl (inl refl) (λ p n l b. (l, b)))
+      (λ t k e. le.early t (sym (kind-at o w la le page kind.Nda 0 0 0 w' refl t (by_test (t == page) (λ y. absurd (let no : kind.Nda ≡ kind.Tdr = kind-here o w la le page kind.Nda 0 0 0 w' refl t k y in cc)) (λ z. z))) ∙ k) e)
   row-epochs me (call.MngCreate u h) ps =
       let w' : World = (row_of o me (call.MngCreate u h)).act w in
       let host = host_kind _ ps.1.1.0 in
       le-frame w w' le
-      (λ t v k pa. let b = page-off u kind.Tdr u 0 0 w' refl v t pa (λ e. cc) in
-      let was = page-was u kind.Tdr u 0 0 w' refl t v b pa in
+      (λ t v k pa. let b = page-off o w la le u kind.Tdr u 0 0 w' refl v t pa (λ e. cc) in
+      let was = page-was o w la le u kind.Tdr u 0 0 w' refl t v b pa in
       let tdr : w.pages.kinds t ≡ kind.Tdr = subst (λ (z : ℕ). w.pages.kinds z ≡ kind.Tdr) was.owner (la.pages.owner v (ap (λ (z : PageKind). same_kind z kind.Nda) was.kind)) in
-      let a = no-host u t v host tdr in
+      let a = no-host o w la le u t v host tdr in
       old tdr was refl refl refl (inl (rw a refl)) (λ p n l b. (rw a l, rw a b)))
-      (λ t k e. by_test (t == u) (λ y. rw y refl) (λ y. rw y (le.early t (sym (kind-at u kind.Tdr u 0 0 w' refl t y) ∙ k) (rw y at e))))
+      (λ t k e. by_test (t == u) (λ y. rw y refl) (λ y. rw y (le.early t (sym (kind-at o w la le u kind.Tdr u 0 0 w' refl t y) ∙ k) (rw y at e))))
   row-epochs me (call.MngKeyConfig u) ps =
       le-frame w _ le
       (λ t v k pa. old k (record { kind = pa.kind; owner = pa.owner }) refl refl refl (inl refl) (λ p n l b. (by_test (t == u) (λ y. rw y refl) (λ y. rw y l), b)))
@@ -150,16 +73,16 @@ module _ (o : Opening) (w : World) (la : Lawful o.machine w) (le : LawfulEpochs 
   row-epochs me (call.MngAddcx u page) ps =
       let w' : World = (row_of o me (call.MngAddcx u page)).act w in
       le-frame w w' le
-      (λ t v k pa. let a = by_test (t == page) (λ y. absurd (let no : kind.Tdcx ≡ kind.Tdr = kind-here page kind.Tdcx u 0 0 w' refl t k y in cc)) (λ z. z) in
-      let b = page-off page kind.Tdcx u 0 0 w' refl v t pa (λ e. cc) in
-      old (sym (kind-at page kind.Tdcx u 0 0 w' refl t a) ∙ k) (page-was page kind.Tdcx u 0 0 w' refl t v b pa) refl refl refl (inl refl) (λ p n l b. (l, b)))
-      (λ t k e. le.early t (sym (kind-at page kind.Tdcx u 0 0 w' refl t (by_test (t == page) (λ y. absurd (let no : kind.Tdcx ≡ kind.Tdr = kind-here page kind.Tdcx u 0 0 w' refl t k y in cc)) (λ z. z))) ∙ k) e)
+      (λ t v k pa. let a = by_test (t == page) (λ y. absurd (let no : kind.Tdcx ≡ kind.Tdr = kind-here o w la le page kind.Tdcx u 0 0 w' refl t k y in cc)) (λ z. z) in
+      let b = page-off o w la le page kind.Tdcx u 0 0 w' refl v t pa (λ e. cc) in
+      old (sym (kind-at o w la le page kind.Tdcx u 0 0 w' refl t a) ∙ k) (page-was o w la le page kind.Tdcx u 0 0 w' refl t v b pa) refl refl refl (inl refl) (λ p n l b. (l, b)))
+      (λ t k e. le.early t (sym (kind-at o w la le page kind.Tdcx u 0 0 w' refl t (by_test (t == page) (λ y. absurd (let no : kind.Tdcx ≡ kind.Tdr = kind-here o w la le page kind.Tdcx u 0 0 w' refl t k y in cc)) (λ z. z))) ∙ k) e)
   row-epochs me (call.MngInit u) ps =
       let new_op : w.tds.ops u ≡ op.Uninitialized = un (w.tds.ops u) ps.1.1.1.1.0 in
       le-frame w _ le
       (λ t v k pa. old k (record { kind = pa.kind; owner = pa.owner }) refl refl refl
       (by_test (t == u) (λ y. inr (subst (λ (z : ℕ). w.tds.epochs z ≡ 0) (sym (eqb-true t u y)) (le.early u (tdr_kind _ ps.1.0) new_op), rw y refl)) (λ y. inl (rw y refl)))
-      (λ p n l b. (l, by_test (t == u) (λ y. absurd (let no : true ≡ false = sym (ap is_being_built new_op) ∙ (ap (λ (z : ℕ). is_being_built (w.tds.ops z)) (sym (eqb-true t u y)) ∙ b) in cc)) (λ y. rw y b))))
+      (λ p n l b. (l, by_test (t == u) (λ y. absurd (let no : true ≡ false = sym (ap has_not_run new_op) ∙ (ap (λ (z : ℕ). has_not_run (w.tds.ops z)) (sym (eqb-true t u y)) ∙ b) in cc)) (λ y. rw y b))))
       (λ t k e. by_test (t == u) (λ y. let no : op.Initialized ≡ op.Uninitialized = rw y at e in cc) (λ y. rw y (le.early t k (rw y at e))))
     where
       un : (s : OpState) → list_any (λ a. op_number a == op_number s) (op.Uninitialized ∷ []) ≡ true → s ≡ op.Uninitialized
@@ -173,10 +96,10 @@ module _ (o : Opening) (w : World) (la : Lawful o.machine w) (le : LawfulEpochs 
       let w' : World = (row_of o me (call.VpCreate u page)).act w in
       let host = host_kind _ ps.1.1.1.1.1.1.1.1.0 in
       le-frame w w' le
-      (λ t v k pa. let a = by_test (t == page) (λ y. absurd (let no : kind.Tdvpr ≡ kind.Tdr = kind-here page kind.Tdvpr u 0 0 w' refl t k y in cc)) (λ z. z) in
+      (λ t v k pa. let a = by_test (t == page) (λ y. absurd (let no : kind.Tdvpr ≡ kind.Tdr = kind-here o w la le page kind.Tdvpr u 0 0 w' refl t k y in cc)) (λ z. z) in
       by_test (v == page) (λ y. new (rw y refl) (rw y refl) (rw y refl))
-      (λ b. old (sym (kind-at page kind.Tdvpr u 0 0 w' refl t a) ∙ k) (page-was page kind.Tdvpr u 0 0 w' refl t v b pa) (rw b refl) (rw b refl) (rw b refl) (inl refl) (λ p n l b. (l, b))))
-      (λ t k e. le.early t (sym (kind-at page kind.Tdvpr u 0 0 w' refl t (by_test (t == page) (λ y. absurd (let no : kind.Tdvpr ≡ kind.Tdr = kind-here page kind.Tdvpr u 0 0 w' refl t k y in cc)) (λ z. z))) ∙ k) e)
+      (λ b. old (sym (kind-at o w la le page kind.Tdvpr u 0 0 w' refl t a) ∙ k) (page-was o w la le page kind.Tdvpr u 0 0 w' refl t v b pa) (rw b refl) (rw b refl) (rw b refl) (inl refl) (λ p n l b. (l, b))))
+      (λ t k e. le.early t (sym (kind-at o w la le page kind.Tdvpr u 0 0 w' refl t (by_test (t == page) (λ y. absurd (let no : kind.Tdvpr ≡ kind.Tdr = kind-here o w la le page kind.Tdvpr u 0 0 w' refl t k y in cc)) (λ z. z))) ∙ k) e)
   row-epochs me (call.VpEnter u v most) ps =
       let w' : World = (row_of o me (call.VpEnter u v most)).act w in
       let owns : w.pages.owners v ≡ u = eqb-true _ u (and_parts (same_kind (w.pages.kinds v) kind.Tdvpr) (w.pages.owners v == u) ps.1.1.1.1.1.1.1.1.0).1 in
@@ -187,7 +110,7 @@ module _ (o : Opening) (w : World) (la : Lawful o.machine w) (le : LawfulEpochs 
             (λ y. let at : Some (w.tds.epochs u) ≡ Some e = rw y at n in let same : w.tds.epochs u ≡ e = cc in let ep : w.tds.epochs t ≡ w.tds.epochs u = ap w.tds.epochs (its t x y pa) in (omega (arith, same, ep), omega (arith, same, ep)))
             (λ y. le.near t x e k (record { kind = pa.kind; owner = pa.owner }) (rw y at n));
         bound = λ t x p k pa n. by_test (x == v)
-            (λ y. let tu = its t x y pa in (ap w.tds.lives tu ∙ live (w.tds.lives u) ps.1.1.1.1.1.0, ap (λ (z : ℕ). is_being_built (w.tds.ops z)) tu ∙ built (w.tds.ops u) ps.1.1.1.1.1.1.1.0))
+            (λ y. let tu = its t x y pa in (ap w.tds.lives tu ∙ live (w.tds.lives u) ps.1.1.1.1.1.0, ap (λ (z : ℕ). has_not_run (w.tds.ops z)) tu ∙ built (w.tds.ops u) ps.1.1.1.1.1.1.1.0))
             (λ y. le.bound t x p k (record { kind = pa.kind; owner = pa.owner }) (rw y at n));
         early = λ t k e. le.early t k e;
       }
@@ -196,42 +119,43 @@ module _ (o : Opening) (w : World) (la : Lawful o.machine w) (le : LawfulEpochs 
       live life.KeysConfigured e = refl
       live _ e = cc
 
-      built : (s : OpState) → list_any (λ b. op_number b == op_number s) running_ops ≡ true → is_being_built s ≡ false
-      built op.Uninitialized e = cc
-      built op.Initialized e = cc
-      built _ e = refl
+      built : (s : OpState) → list_any (λ b. op_number b == op_number s) running_ops ≡ true → has_not_run s ≡ false
+      built op.Runnable e = refl
+      built op.LiveExport e = refl
+      built op.LiveImport e = refl
+      built _ e = cc
   row-epochs me (call.VpFlush u v) ps = record {
     last = λ t x k pa. le.last t x k (record { kind = pa.kind; owner = pa.owner });
     near = λ t x e k pa n. le.near t x e k (record { kind = pa.kind; owner = pa.owner }) n;
     bound = λ t x p k pa n. by_test (x == v) (λ y. let no : None ≡ Some p = rw y at n in cc) (λ y. le.bound t x p k (record { kind = pa.kind; owner = pa.owner }) (rw y at n));
     early = λ t k e. le.early t k e;
   }
-  row-epochs me (call.MemSeptRemove u gpa level) ps = unmapped-epochs w u level (number_at level gpa) refl refl refl
-  row-epochs me (call.MemPageRemove u gpa) ps = unmapped-epochs (end_memory u (page_of_gpa gpa) w) u 0 (number_at 0 gpa) refl refl refl
+  row-epochs me (call.MemSeptRemove u gpa level) ps = unmapped-epochs o w la le w u level (number_at level gpa) refl refl refl
+  row-epochs me (call.MemPageRemove u gpa) ps = unmapped-epochs o w la le (end_memory u (page_of_gpa gpa) w) u 0 (number_at 0 gpa) refl refl refl
   row-epochs me (call.MemSeptAdd u gpa level page) ps =
       let w' : World = (row_of o me (call.MemSeptAdd u gpa level page)).act w in
       let n = number_at level gpa in
       le-frame w w' le
-      (λ t v k pa. let a = by_test (t == page) (λ y. absurd (let no : kind.Ept ≡ kind.Tdr = kind-here page kind.Ept u level n w' refl t k y in cc)) (λ z. z) in
-      let b = page-off page kind.Ept u level n w' refl v t pa (λ e. cc) in
-      old (sym (kind-at page kind.Ept u level n w' refl t a) ∙ k) (page-was page kind.Ept u level n w' refl t v b pa) refl refl refl (inl refl) (λ p n l b. (l, b)))
-      (λ t k e. le.early t (sym (kind-at page kind.Ept u level n w' refl t (by_test (t == page) (λ y. absurd (let no : kind.Ept ≡ kind.Tdr = kind-here page kind.Ept u level n w' refl t k y in cc)) (λ z. z))) ∙ k) e)
+      (λ t v k pa. let a = by_test (t == page) (λ y. absurd (let no : kind.Ept ≡ kind.Tdr = kind-here o w la le page kind.Ept u level n w' refl t k y in cc)) (λ z. z) in
+      let b = page-off o w la le page kind.Ept u level n w' refl v t pa (λ e. cc) in
+      old (sym (kind-at o w la le page kind.Ept u level n w' refl t a) ∙ k) (page-was o w la le page kind.Ept u level n w' refl t v b pa) refl refl refl (inl refl) (λ p n l b. (l, b)))
+      (λ t k e. le.early t (sym (kind-at o w la le page kind.Ept u level n w' refl t (by_test (t == page) (λ y. absurd (let no : kind.Ept ≡ kind.Tdr = kind-here o w la le page kind.Ept u level n w' refl t k y in cc)) (λ z. z))) ∙ k) e)
   row-epochs me (call.MemPageAdd u gpa page source) ps =
       let w' : World = (row_of o me (call.MemPageAdd u gpa page source)).act w in
       let n = number_at 0 gpa in
       le-frame w w' le
-      (λ t v k pa. let a = by_test (t == page) (λ y. absurd (let no : kind.Reg ≡ kind.Tdr = kind-here page kind.Reg u 0 n w' refl t k y in cc)) (λ z. z) in
-      let b = page-off page kind.Reg u 0 n w' refl v t pa (λ e. cc) in
-      old (sym (kind-at page kind.Reg u 0 n w' refl t a) ∙ k) (page-was page kind.Reg u 0 n w' refl t v b pa) refl refl refl (inl refl) (λ p n l b. (l, b)))
-      (λ t k e. le.early t (sym (kind-at page kind.Reg u 0 n w' refl t (by_test (t == page) (λ y. absurd (let no : kind.Reg ≡ kind.Tdr = kind-here page kind.Reg u 0 n w' refl t k y in cc)) (λ z. z))) ∙ k) e)
+      (λ t v k pa. let a = by_test (t == page) (λ y. absurd (let no : kind.Reg ≡ kind.Tdr = kind-here o w la le page kind.Reg u 0 n w' refl t k y in cc)) (λ z. z) in
+      let b = page-off o w la le page kind.Reg u 0 n w' refl v t pa (λ e. cc) in
+      old (sym (kind-at o w la le page kind.Reg u 0 n w' refl t a) ∙ k) (page-was o w la le page kind.Reg u 0 n w' refl t v b pa) refl refl refl (inl refl) (λ p n l b. (l, b)))
+      (λ t k e. le.early t (sym (kind-at o w la le page kind.Reg u 0 n w' refl t (by_test (t == page) (λ y. absurd (let no : kind.Reg ≡ kind.Tdr = kind-here o w la le page kind.Reg u 0 n w' refl t k y in cc)) (λ z. z))) ∙ k) e)
   row-epochs me (call.MemPageAug u gpa page) ps =
       let w' : World = (row_of o me (call.MemPageAug u gpa page)).act w in
       let n = number_at 0 gpa in
       le-frame w w' le
-      (λ t v k pa. let a = by_test (t == page) (λ y. absurd (let no : kind.Reg ≡ kind.Tdr = kind-here page kind.Reg u 0 n w' refl t k y in cc)) (λ z. z) in
-      let b = page-off page kind.Reg u 0 n w' refl v t pa (λ e. cc) in
-      old (sym (kind-at page kind.Reg u 0 n w' refl t a) ∙ k) (page-was page kind.Reg u 0 n w' refl t v b pa) refl refl refl (inl refl) (λ p n l b. (l, b)))
-      (λ t k e. le.early t (sym (kind-at page kind.Reg u 0 n w' refl t (by_test (t == page) (λ y. absurd (let no : kind.Reg ≡ kind.Tdr = kind-here page kind.Reg u 0 n w' refl t k y in cc)) (λ z. z))) ∙ k) e)
+      (λ t v k pa. let a = by_test (t == page) (λ y. absurd (let no : kind.Reg ≡ kind.Tdr = kind-here o w la le page kind.Reg u 0 n w' refl t k y in cc)) (λ z. z) in
+      let b = page-off o w la le page kind.Reg u 0 n w' refl v t pa (λ e. cc) in
+      old (sym (kind-at o w la le page kind.Reg u 0 n w' refl t a) ∙ k) (page-was o w la le page kind.Reg u 0 n w' refl t v b pa) refl refl refl (inl refl) (λ p n l b. (l, b)))
+      (λ t k e. le.early t (sym (kind-at o w la le page kind.Reg u 0 n w' refl t (by_test (t == page) (λ y. absurd (let no : kind.Reg ≡ kind.Tdr = kind-here o w la le page kind.Reg u 0 n w' refl t k y in cc)) (λ z. z))) ∙ k) e)
   row-epochs me (call.MemRangeBlock u gpa level) ps =
       le-frame w _ le
       (λ t v k pa. old k (record { kind = pa.kind; owner = pa.owner }) refl refl refl (inl refl) (λ p n l b. (l, b)))
@@ -270,10 +194,10 @@ module _ (o : Opening) (w : World) (la : Lawful o.machine w) (le : LawfulEpochs 
   row-epochs me (call.MigStreamCreate u page) ps =
       let w' : World = (row_of o me (call.MigStreamCreate u page)).act w in
       le-frame w w' le
-      (λ t v k pa. let a = by_test (t == page) (λ y. absurd (let no : kind.Migsc ≡ kind.Tdr = kind-here page kind.Migsc u 0 0 w' refl t k y in cc)) (λ z. z) in
-      let b = page-off page kind.Migsc u 0 0 w' refl v t pa (λ e. cc) in
-      old (sym (kind-at page kind.Migsc u 0 0 w' refl t a) ∙ k) (page-was page kind.Migsc u 0 0 w' refl t v b pa) refl refl refl (inl refl) (λ p n l b. (l, b)))
-      (λ t k e. le.early t (sym (kind-at page kind.Migsc u 0 0 w' refl t (by_test (t == page) (λ y. absurd (let no : kind.Migsc ≡ kind.Tdr = kind-here page kind.Migsc u 0 0 w' refl t k y in cc)) (λ z. z))) ∙ k) e)
+      (λ t v k pa. let a = by_test (t == page) (λ y. absurd (let no : kind.Migsc ≡ kind.Tdr = kind-here o w la le page kind.Migsc u 0 0 w' refl t k y in cc)) (λ z. z) in
+      let b = page-off o w la le page kind.Migsc u 0 0 w' refl v t pa (λ e. cc) in
+      old (sym (kind-at o w la le page kind.Migsc u 0 0 w' refl t a) ∙ k) (page-was o w la le page kind.Migsc u 0 0 w' refl t v b pa) refl refl refl (inl refl) (λ p n l b. (l, b)))
+      (λ t k e. le.early t (sym (kind-at o w la le page kind.Migsc u 0 0 w' refl t (by_test (t == page) (λ y. absurd (let no : kind.Migsc ≡ kind.Tdr = kind-here o w la le page kind.Migsc u 0 0 w' refl t k y in cc)) (λ z. z))) ∙ k) e)
   row-epochs me (call.ExportBlockw u gpa) ps =
       le-frame w _ le
       (λ t v k pa. old k (record { kind = pa.kind; owner = pa.owner }) refl refl refl (inl refl) (λ p n l b. (l, b)))
@@ -290,13 +214,13 @@ module _ (o : Opening) (w : World) (la : Lawful o.machine w) (le : LawfulEpochs 
       le-frame w _ le
       (λ t v k pa. old k (record { kind = pa.kind; owner = pa.owner }) refl refl refl (inl refl) (λ p n l b. (l, by_test (t == u) (λ y. rw y refl) (λ y. rw y b))))
       (λ t k e. by_test (t == u) (λ y. let no : op.LiveExport ≡ op.Uninitialized = rw y at e in cc) (λ y. le.early t k (rw y at e)))
-  row-epochs me (call.ExportTrack u slot zero) ps = quiet-epochs _ refl refl refl refl refl refl refl
+  row-epochs me (call.ExportTrack u slot zero) ps = quiet-epochs o w la le _ refl refl refl refl refl refl refl
   row-epochs me (call.ExportTrack u slot (suc i)) ps =
       le-frame w _ le
       (λ t v k pa. old k (record { kind = pa.kind; owner = pa.owner }) refl refl refl (inl refl) (λ p n l b. (l, by_test (t == u) (λ y. rw y refl) (λ y. rw y b))))
       (λ t k e. by_test (t == u) (λ y. let no : op.PostExport ≡ op.Uninitialized = rw y at e in cc) (λ y. le.early t k (rw y at e)))
   row-epochs me (call.HostRead page i) ps = le
-  row-epochs me _ ps = quiet-epochs _ refl refl refl refl refl refl refl
+  row-epochs me _ ps = quiet-epochs o w la le _ refl refl refl refl refl refl refl
 
   pub leave-epochs : (v : ℕ) → LawfulEpochs (leave_guest v w)
   leave-epochs v = record {

@@ -27,13 +27,12 @@ use Rattle.flat_core.specs.Tree.{page_of_gpa, number_at, entry_at, same_state, a
 use Rattle.flat_core.specs.Translations.{cache, is_stale, cache_at_entry, drop_td}
 use Rattle.flat_core.specs.Guest.{walk_level, walked_entry, translation_of}
 use Rattle.flat_core.specs.Table.{row_of}
-use Rattle.flat_core.specs.Alike.{is_being_built}
 use Rattle.flat_core.specs.Lawful.{Lawful, IsPageOf, is_free}
 use Rattle.flat_core.specs.Guests.{IsOccupied}
-use Rattle.flat_core.specs.Access.{IsHere, IsUsable, inside, outside, node_number, allows_less, is_pending, IsCurrent, IsOnCourse, LawfulTranslations, LawfulEpochs}
+use Rattle.flat_core.specs.Access.{IsHere, IsUsable, inside, outside, node_number, allows_less, is_pending, IsCurrent, IsOnCourse, LawfulTranslations, LawfulEpochs, has_not_run}
 use Rattle.flat_core.proofs.Tests.{by_test, tdr_kind}
 use Rattle.flat_core.proofs.Cached.{dropped, one_more}
-use Rattle.flat_core.proofs.Accesses.{occupied-here, current-same}
+use Rattle.flat_core.proofs.AccessActs.{occupied-here, current-same}
 
 -- what entries allow
 
@@ -99,16 +98,14 @@ module _ (o : Opening) (me u v most : ℕ) (w : World) (la : Lawful o.machine w)
       live life.KeysConfigured e = refl
       live _ e = cc
 
-  u-op : is_being_built (w.tds.ops u) ≡ false
+  u-op : has_not_run (w.tds.ops u) ≡ false
   u-op = built (w.tds.ops u) ps.1.1.1.1.1.1.1.0
     where
-      built : (s : OpState) → list_any (λ b. op_number b == op_number s) running_ops ≡ true → is_being_built s ≡ false
+      built : (s : OpState) → list_any (λ b. op_number b == op_number s) running_ops ≡ true → has_not_run s ≡ false
       built op.Runnable e = refl
       built op.LiveExport e = refl
       built op.LiveImport e = refl
-      built op.Uninitialized e = cc
-      built op.Initialized e = cc
-      built _ e = refl
+      built _ e = cc
 
   was-in : (c : Translation) → Contains cs' c → Contains cs c × ((is_stale (w.vps.associated v) (w.vps.lasts v) (w.tds.epochs u) ≡ true) → (c.tdr == u) ≡ false)
   was-in c i = by_test (is_stale (w.vps.associated v) (w.vps.lasts v) (w.tds.epochs u))

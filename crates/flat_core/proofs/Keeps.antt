@@ -16,7 +16,7 @@ use Rattle.td_words.specs.declared.names.ReadField.{ReadField}
 use Rattle.td_words.specs.declared.machines.Machine.{Machine}
 use Rattle.td_words.specs.declared.calls.Call.{Call}
 use Rattle.td_words.specs.declared.calls.Call.TheVariants as call
-use Rattle.td_words.specs.NameNumber.{life_number}
+use Rattle.td_words.specs.NameNumber.{life_number, op_number}
 use Rattle.td_words.specs.Packing.{Entry, Key, Unassigned, AssignedTo, FlushedOf, is_exported}
 use Rattle.flat_core.specs.World.{World, Pages, Tds, Streams, KeyTable, put, first_world}
 use Rattle.flat_core.specs.Opening.{Opening}
@@ -35,7 +35,7 @@ use Rattle.flat_core.specs.MemRows.{add_sept, read_sept, add_page, augment_page,
 use Rattle.flat_core.specs.ExportRows.{live_ops, abortable_ops, create_stream, writable_states, write_blocked, block_write, write_blocked_states, write_unblocked, is_first_dirt, unblock_write, note_pause, pause, abort_export, restoring_ops, restored_states, one_less, restore}
 use Rattle.flat_core.specs.Exports.{is_dirty}
 use Rattle.flat_core.specs.Table.{row_of}
-use Rattle.flat_core.specs.Lawful.{IsAlive, AreControls, ArePagesOf, LawfulPages, LawfulTds, IsListed, LawfulLists, LawfulTree, LawfulKeys, LawfulBeginnings, LawfulCounts, LawfulSessions, Lawful, IsNew, RowKeeps, is_free, is_named_kind, key_owner}
+use Rattle.flat_core.specs.Lawful.{IsAlive, AreControls, ArePagesOf, LawfulPages, LawfulTds, IsListed, LawfulLists, LawfulTree, LawfulKeys, LawfulBeginnings, LawfulCounts, LawfulStreams, LawfulSessions, Lawful, IsNew, RowKeeps, is_free, is_named_kind, key_owner, most_vps}
 use Rattle.flat_core.proofs.Tests.{by_test, host_kind, tdr_kind, range_of, some_same, same_self}
 use Rattle.flat_core.proofs.Pages.{taken, other, taken_node, taken_controls, taken_list, unowned, taken_pages}
 use Rattle.flat_core.proofs.Exports.{counts_of, new_counted, counted_still, taken_where}
@@ -44,7 +44,7 @@ use Rattle.flat_core.proofs.EntryStates.{entry_kept, restated, remarked, state_k
 use Rattle.flat_core.proofs.Ranges.{begun_of, live_exporting, named_passed, named_alive, opened_passed, write_passed, entry_alive, block_restates, unblock_restates, write_remarks, write_dirt, unwrite_remarks, unwrite_dirt, restored, page_removed, sept_removed}
 use Rattle.flat_core.proofs.Removals.{empty_at, unmapped_kept}
 use Rattle.flat_core.proofs.Streams.{stream_kept}
-use Rattle.flat_core.proofs.BundleKeeps.{export_immutable-keeps, export_token-keeps, export_td-keeps, export_vp-keeps}
+use Rattle.flat_core.proofs.BundleKeeps.{export_immutable-keeps, export_page-keeps, export_token-keeps, export_td-keeps, export_vp-keeps}
 use Rattle.flat_core.proofs.Parts.{IsLive, LawfulBut, untouched, sessions_of, session_at, sessions_kept, new_kept, write_back_kept, life_kept, flush_kept, op_kept, epoch_kept, begin_kept, measure_kept, end_kept, control_kept, vp_kept, taken_kept, ended_kept, left_kept}
 
 pub host_read-keeps : (m : Machine) (page i : ℕ) → RowKeeps m (host_read m page i)
@@ -250,8 +250,19 @@ module _ (count : ℕ) (old : Pages) (tds : Tds) (table : KeyTable) (t h : ℕ) 
       (λ f of. taken_where count old t kind.Tdr t 0 0 host lawful f x (tds.entries x 0) (begun.entries x 0) (λ n. rw y refl) refl)
       (l.dirtied x (alive_before x y a), l.unrestored x (alive_before x y a))))
 
+  -- it has no stream
+  new_streams : (streams : Streams) → LawfulStreams old tds streams → LawfulStreams pages begun streams
+  new_streams streams l = record {
+    counter = l.counter;
+    cleaned = l.cleaned;
+    first_exports = l.first_exports;
+    uncounted = λ x s a. by_test (x == t)
+        (λ y new among. absurd (let no : false ≡ true = rw y at among in cc))
+        (λ y new among. l.uncounted x s (alive_before x y a) (rw y at new) (rw y at among));
+  }
+
   new_sessions : LawfulSessions tds table → LawfulSessions begun (record table { keys = put table.keys h (AssignedTo t) })
-  new_sessions l = sessions_kept tds begun table (record table { keys = put table.keys h (AssignedTo t) }) refl (λ x s. by_test (x == t) (λ y. rw y (lit< tt, lit< tt, λ e. cc)) (λ n. rw n s)) l
+  new_sessions l = sessions_kept tds begun table (record table { keys = put table.keys h (AssignedTo t) }) refl (λ x s. by_test (x == t) (λ y. rw y (lit< tt, lit< tt, λ e. cc, λ e. cc, lit≤ tt)) (λ n. rw n s)) l
 
 pub create-keeps : (m : Machine) (t h : ℕ) → RowKeeps m (create m t h)
 create-keeps m t h = record {
@@ -267,7 +278,7 @@ create-keeps m t h = record {
         keys = new_keys m.pages w.pages w.tds w.key_table t h host l.pages free_hkid m.hkids (range_of h m.hkids ps.1.0) l.keys;
         beginnings = new_beginnings m.pages w.pages w.tds w.key_table t h host l.pages free_hkid w.hidden.rtmrs l.beginnings;
         counts = new_counts m.pages w.pages w.tds w.key_table t h host l.pages free_hkid w.streams l.counts;
-        streams = l.streams;
+        streams = new_streams m.pages w.pages w.tds w.key_table t h host l.pages free_hkid w.streams l.streams;
         sessions = new_sessions m.pages w.pages w.tds w.key_table t h host l.pages free_hkid l.sessions;
       });
   to_tell = λ w. refl;
@@ -307,7 +318,7 @@ initialize-keeps m t = record {
       let w1 : World = set_epoch t 1 w in
       let l1 : Lawful m w1 = epoch_kept m w t built l 1 (lit≤ tt) (lit< tt) in
       let w2 : World = set_op t op.Initialized w1 in
-      let l2 : Lawful m w2 = op_kept m w1 t built l1 op.Initialized (rw (same_self t) (lit≤ tt)) (λ e. cc) in
+      let l2 : Lawful m w2 = op_kept m w1 t built l1 op.Initialized (rw (same_self t) (lit≤ tt)) (λ e. cc) (λ e. cc) (l.tds.vps_few t) (λ e. cc) in
       begin_kept m w2 t built l2;
   to_tell = λ w. refl;
 }
@@ -317,7 +328,7 @@ read_td-keeps m t f = record { act = λ w l ps. l; to_tell = λ w. refl }
 
 pub finalize-keeps : (m : Machine) (t : ℕ) → RowKeeps m (finalize m t)
 finalize-keeps m t = record {
-  act = λ w l ps. op_kept m (end_measurement t w) t ps.1.1.1.0 (end_kept m w t ps.1.1.1.0 l) op.Runnable (l.tds.epoch_begun t (begun_of (op.Initialized ∷ []) (w.tds.ops t) refl ps.1.1.1.1.0)) (λ e. cc);
+  act = λ w l ps. op_kept m (end_measurement t w) t ps.1.1.1.0 (end_kept m w t ps.1.1.1.0 l) op.Runnable (l.tds.epoch_begun t (begun_of (op.Initialized ∷ []) (w.tds.ops t) refl ps.1.1.1.1.0)) (λ e. cc) (λ e. cc) (l.tds.vps_few t) (λ e. cc);
   to_tell = λ w. refl;
 }
 
@@ -340,6 +351,11 @@ few_vps : (s : OpState) (expected : ℕ) → expected ≤ 8 → vp_limit s expec
 few_vps op.MemoryImport expected h = h
 few_vps _ expected h = lit≤ tt
 
+vp_due : (s : OpState) (expected n : ℕ) → list_any (λ a. op_number a == op_number s) (op.Initialized ∷ op.MemoryImport ∷ []) ≡ true → n < vp_limit s expected → n < most_vps s expected
+vp_due op.Initialized expected n among h = h
+vp_due op.MemoryImport expected n among h = h
+vp_due _ expected n among h = cc
+
 not_in_list : (m : Machine) (w : World) (t p : ℕ) (k : PageKind) → k ≢ kind.Nda → Lawful m w → w.pages.kinds p ≡ kind.Nda → (vs : List ℕ) → ArePagesOf w.pages t k vs → list_any (λ q. q == p) vs ≡ false
 not_in_list m w t p k owned l host [] h = refl
 not_in_list m w t p k owned l host (v ∷ vs) h = rw (other m.pages w.pages p k t 0 0 host l.pages v k h.0.kind owned) (not_in_list m w t p k owned l host vs h.1)
@@ -354,7 +370,8 @@ create_vp-keeps m t p = record {
       let l' : LawfulBut m w' p = cleared_but m p (take_page p kind.Tdvpr t w) (taken_kept m w p kind.Tdvpr t 0 0 host (ltb-true p m.pages ps.1.0) l (λ e. cc) (λ e. cc) root refl) in
       let room : length (w.tds.vps t) < vp_limit (w.tds.ops t) (w.tds.vps_expected t) = ltb-true _ _ ps.1.1.1.1.1.1.1.0 in
       let most : vp_limit (w.tds.ops t) (w.tds.vps_expected t) ≤ 8 = few_vps (w.tds.ops t) (w.tds.vps_expected t) (l.tds.vps_expected t) in
-      vp_kept m w' t p l' (record { kind = rw (same_self p) refl; owner = rw (same_self p) refl }) ps.1.1.1.1.1.0 (omega arith) (not_in_list m w t p kind.Tdvpr (λ e. cc) l host (w.tds.vps t) (l.tds.vps t alive));
+      vp_kept m w' t p l' (record { kind = rw (same_self p) refl; owner = rw (same_self p) refl }) ps.1.1.1.1.1.0 (omega arith)
+      (vp_due (w.tds.ops t) (w.tds.vps_expected t) (length (w.tds.vps t)) ps.1.1.1.1.1.1.0 room) (not_in_list m w t p kind.Tdvpr (λ e. cc) l host (w.tds.vps t) (l.tds.vps t alive));
   to_tell = λ w. refl;
 }
 
@@ -501,13 +518,13 @@ create_stream-keeps m t p = record {
 pub pause-keeps : (m : Machine) (t : ℕ) → RowKeeps m (pause m t)
 pause-keeps m t = record {
   act = λ w l ps. op_kept m (note_pause t w) t ps.1.1.1.0 (untouched m w (note_pause t w) refl l) op.PausedExport (l.tds.epoch_begun t (begun_of live_ops (w.tds.ops t) refl ps.1.1.1.1.0))
-      (λ e. (session_at w.tds w.key_table l.sessions t).2 (live_exporting (w.tds.ops t) ps.1.1.1.1.0));
+      (λ e. (session_at w.tds w.key_table l.sessions t).2 (live_exporting (w.tds.ops t) ps.1.1.1.1.0)) (λ e. cc) (l.tds.vps_few t) (λ e. cc);
   to_tell = λ w. refl;
 }
 
 pub abort_export-keeps : (m : Machine) (t : ℕ) → RowKeeps m (abort_export m t)
 abort_export-keeps m t = record {
-  act = λ w l ps. op_kept m w t ps.1.1.1.0 l op.Runnable (l.tds.epoch_begun t (begun_of abortable_ops (w.tds.ops t) refl ps.1.1.1.1.0)) (λ e. cc);
+  act = λ w l ps. op_kept m w t ps.1.1.1.0 l op.Runnable (l.tds.epoch_begun t (begun_of abortable_ops (w.tds.ops t) refl ps.1.1.1.1.0)) (λ e. cc) (λ e. cc) (l.tds.vps_few t) (λ e. cc);
   to_tell = λ w. refl;
 }
 
@@ -621,6 +638,7 @@ row-keeps o me (call.ExportPause t) = pause-keeps o.machine t
 row-keeps o me (call.ExportAbort t) = abort_export-keeps o.machine t
 row-keeps o me (call.ExportRestore t gpa) = restore-keeps o.machine t gpa
 row-keeps o me (call.ExportStateImmutable t slot) = export_immutable-keeps o.machine t slot
+row-keeps o me (call.ExportMem t gpa k slot) = export_page-keeps o.machine t gpa k slot
 row-keeps o me (call.ExportTrack t slot start) = export_token-keeps o.machine t slot start
 row-keeps o me (call.ExportStateTd t slot) = export_td-keeps o.machine t slot
 row-keeps o me (call.ExportStateVp t vp slot) = export_vp-keeps o.machine t vp slot
@@ -640,6 +658,6 @@ first-lawful m ws = record {
   };
   beginnings = record { is_new = λ t a n. absurd (let no : kind.Nda ≡ kind.Tdr = a.kind in cc) };
   counts = counts_of m.pages _ _ _ (λ t a. absurd (let no : kind.Nda ≡ kind.Tdr = a.kind in cc));
-  streams = record { counter = λ s. lit< tt; cleaned = λ s. lit≤ tt; first_exports = λ s. lit≤ tt };
-  sessions = sessions_of _ _ (lit< tt) (λ t. (lit< tt, lit< tt, λ e. cc));
+  streams = record { counter = λ s. lit< tt; cleaned = λ s. lit≤ tt; first_exports = λ s. lit≤ tt; uncounted = λ t s a e h. refl };
+  sessions = sessions_of _ _ (lit< tt) (λ t. (lit< tt, lit< tt, λ e. cc, λ e. cc, lit≤ tt));
 }

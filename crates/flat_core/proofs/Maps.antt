@@ -20,7 +20,7 @@ use Rattle.flat_core.specs.Effects.{map_page}
 use Rattle.flat_core.specs.Lawful.{IsAlive, IsNodeOf, IsListed, Lawful, LawfulTree, LawfulCounts, is_free, is_node, is_named_kind}
 use Rattle.flat_core.proofs.Tests.{by_test, same_self}
 use Rattle.flat_core.proofs.Exports.{IsOfExported, free_unmarked, counts_kept, taken_where}
-use Rattle.flat_core.proofs.Parts.{now, IsNamed, new_kept, sessions_kept, built_other, taken_back, taken_page_facts, taken_tds, taken_all_listed, taken_upper, taken_lowest, taken_keys, named_there}
+use Rattle.flat_core.proofs.Parts.{now, IsNamed, new_kept, sessions_kept, streams_kept, built_other, taken_back, taken_page_facts, taken_tds, taken_all_listed, taken_upper, taken_lowest, taken_keys, named_there}
 
 -- what an entry of a level names: an upper one a secure EPT page, one of level 0 a private page
 abbrev pub kind_named : ℕ → PageKind
@@ -216,7 +216,7 @@ module _ (m : Machine) (w : World) (p t level number : ℕ) (s : EntryState) (ho
         };
         beginnings = record { is_new = λ x a n. new_kept w.tds mapped w.hidden.rtmrs w.hidden.rtmrs x (rw (built_other w.tds.controls t x built n) refl) (l.beginnings.is_new x (back x a) n) };
         counts = mapped_counts;
-        streams = l.streams;
+        streams = streams_kept w.pages pages w.tds mapped w.streams back (λ x e. e) refl l.streams;
         sessions = sessions_kept w.tds mapped w.key_table w.key_table refl (λ x h. h) l.sessions;
       }
 

@@ -1,32 +1,26 @@
 -- What guests know of their private pages is what the pages hold.
-use Rattle.std.proofs.Common.{lit≤, ◌≡◌, ◌≢◌, refl, sym, ◌∙◌, ap, subst, ℕ, zero, suc, ◌+◌, ◌/◌, ◌≤◌, List, [], ◌∷◌, ◌++◌, length, Option, Some, None, option_map, Bool, true, false, not, ◌==◌, ◌&&◌, if◌then◌else◌, arith}
-use Rattle.std.proofs.lemmas.Bool.{eq-eqb, eqb-true, ne_eqb, and_parts}
-use Rattle.td_words.specs.declared.names.PageKind.{PageKind}
+use Rattle.std.proofs.Common.{lit≤, ◌≡◌, refl, sym, ◌∙◌, ap, subst, ℕ, zero, suc, ◌+◌, ◌≤◌, [], ◌∷◌, ◌++◌, length, Option, Some, option_map, true, false, ◌==◌, ◌&&◌, arith}
+use Rattle.std.proofs.lemmas.Bool.{eq-eqb, eqb-true, and_parts}
 use Rattle.td_words.specs.declared.names.PageKind.TheVariants as kind
-use Rattle.td_words.specs.declared.names.LifeState.{LifeState}
 use Rattle.td_words.specs.declared.names.LifeState.TheVariants as life
 use Rattle.td_words.specs.declared.names.EntryState.{EntryState}
 use Rattle.td_words.specs.declared.names.EntryState.TheVariants as entry
-use Rattle.td_words.specs.declared.machines.Machine.{Machine}
 use Rattle.td_words.specs.declared.calls.Call.{Call}
 use Rattle.td_words.specs.declared.calls.Call.TheVariants as call
 use Rattle.td_words.specs.declared.calls.GuestOp.{GuestOp}
 use Rattle.std.proofs.lemmas.List.{append-nil}
 use Rattle.td_words.specs.declared.names.Access.{Access}
 use Rattle.td_words.specs.declared.names.Access.TheVariants.{Read, Write}
-use Rattle.td_words.specs.NameNumber.{life_number}
-use Rattle.td_words.specs.Packing.{Entry, is_exported}
+use Rattle.td_words.specs.Packing.{Entry}
 use Rattle.mrtd_measure.specs.Records.{page_record}
-use Rattle.flat_core.specs.World.{World, Tds, put, free_entry}
+use Rattle.flat_core.specs.World.{World, put}
 use Rattle.flat_core.specs.Processor.{Guest, LoadNote}
 use Rattle.flat_core.specs.Opening.{Opening, Incoming}
 use Rattle.flat_core.specs.Row.{OperationRow, Passes}
-use Rattle.flat_core.specs.Conditions.{is_host, host_page, page_exclusive}
+use Rattle.flat_core.specs.Conditions.{host_page, page_exclusive}
 use Rattle.flat_core.specs.Tree.{page_of_gpa, word_of_gpa, number_at, entry_at, same_state, state_in, empty_below}
-use Rattle.flat_core.specs.Effects.{put_in, stored_in, pass_operation, tell_words, set_word, set_page, clear_page, take_node, take_page, give_back, map_page, add_control, add_vp, measure, set_life, set_entry, unmap_page, begin_memory, end_memory, end_memory_in}
-use Rattle.flat_core.specs.TdRows.{create}
+use Rattle.flat_core.specs.Effects.{put_in, stored_in, pass_operation, tell_words, set_word, clear_page, take_page, add_control, add_vp, unmap_page, end_memory}
 use Rattle.flat_core.specs.Tracking.{tracked_page}
-use Rattle.flat_core.specs.KeyRows.{reclaim_conditions}
 use Rattle.flat_core.specs.MemRows.{open_states, blocked_states, removed_states}
 use Rattle.flat_core.specs.ExportRows.{add_stream, live_ops, write_blocked, write_blocked_states, write_unblocked, restoring_ops, restored_states}
 use Rattle.flat_core.specs.Table.{row_of}
@@ -38,10 +32,8 @@ use Rattle.flat_core.specs.Access.{Names, is_pending}
 use Rattle.flat_core.specs.AccessLaw.{IsGuarded, MemoriesAreKept, known_word, Loads, Stores, IsOwnAccess, AccessesAreOwn}
 use Rattle.flat_core.proofs.Tests.{by_test, host_kind, tdr_kind, range_of, same_self}
 use Rattle.flat_core.proofs.Maps.{walk_passed}
-use Rattle.flat_core.proofs.EntryStates.{entry_set}
-use Rattle.flat_core.proofs.Ranges.{named_passed, named_alive, opened_passed, write_passed, block_restates, unblock_restates, write_remarks, unwrite_remarks, restored, page_removed, sept_removed}
-use Rattle.flat_core.proofs.Removals.{empty_at, other_entry}
-use Rattle.flat_core.proofs.Parts.{IsLive}
+use Rattle.flat_core.proofs.Ranges.{named_passed, named_alive, opened_passed, write_passed, export_passed, block_restates, unblock_restates, write_remarks, unwrite_remarks, restored, can_export, page_removed, sept_removed}
+use Rattle.flat_core.proofs.Removals.{empty_at}
 use Rattle.flat_core.proofs.Keeps.{live_of, ended_of, free_of}
 use Rattle.flat_core.proofs.Induction.{in_runs}
 use Rattle.flat_core.proofs.Operations.{operation_row, accepted}
@@ -49,154 +41,7 @@ use Rattle.flat_core.proofs.Due.{Due, calls, frees, leaves, stops, fills, operat
 use Rattle.flat_core.proofs.Acts.{event_world}
 use Rattle.flat_core.proofs.Owned.{are_owned}
 use Rattle.flat_core.proofs.Always.{occ-of, occupied-alive, access_kept, reaches_own}
-
--- an entry whose page holds memory isn't FREE
-taken : (s : EntryState) → holds_memory s ≡ true → is_free s ≡ false
-taken entry.Free e = cc
-taken entry.Mapped e = refl
-taken entry.Blocked e = refl
-taken entry.Pending e = refl
-taken entry.PendingBlocked e = refl
-taken entry.NlMapped e = refl
-taken entry.NlBlocked e = refl
-taken entry.BlockedW e = refl
-taken entry.ExportedBlockedW e = refl
-taken entry.ExportedDirty e = refl
-taken entry.ExportedDirtyBlockedW e = refl
-
--- and a FREE entry holds none
-none_held : (s : EntryState) → is_free s ≡ true → holds_memory s ≡ false
-none_held entry.Free e = refl
-none_held _ e = cc
-
-no_memory : (e : Entry) (words : ℕ → ℕ → ℕ) → is_free e.state ≡ true → memory_of e words ≡ None
-no_memory e words free = rw (none_held e.state free) refl
-
-same_memory : (e : Entry) (old new : ℕ → ℕ → ℕ) → (is_free e.state ≡ false → new e.page ≡ old e.page) → memory_of e new ≡ memory_of e old
-same_memory e old new h = by_test (holds_memory e.state) (λ y. rw y (ap (λ (x : ℕ → ℕ). Some x) (h (taken e.state y)))) (λ y. rw y refl)
-
--- a word of another page changes none of a page
-words_stay : (words : ℕ → ℕ → ℕ) (q i v p : ℕ) → (p == q) ≡ false → put_in words q i v p ≡ words p
-words_stay words q i v p e = λ j b. at b j
-  where
-    at : (b : ℕ) → put_in words q i v p b ≡ words p b
-    at b = rw e refl
-
--- an entry of a level above 0 changes none of level 0
-entry_stays : (f : ℕ → ℕ → ℕ → Entry) (t level i x n : ℕ) (e : Entry) → 1 ≤ level → put f t (put_in (f t) level i e) x 0 n ≡ f x 0 n
-entry_stays f t level i x n e upper =
-    let apart : (0 == level) ≡ false = ne_eqb 0 level (omega arith) in
-    by_test (x == t) (λ y. rw (y, apart) (ap (λ (z : ℕ). f z 0 n) (sym (eqb-true x t y)))) (λ y. rw y refl)
-
-module _ (m : Machine) (w : World) (l : Lawful m w) (h : ArePagesKnown w) where
-  -- where the memory, the entry and the words of the page that it names are as before
-  still_known : (v : World) (t n : ℕ) → IsAlive w.pages w.tds t → v.hidden.memories t n ≡ w.hidden.memories t n → v.tds.entries t 0 n ≡ w.tds.entries t 0 n
-      → (is_free (w.tds.entries t 0 n).state ≡ false → v.words (w.tds.entries t 0 n).page ≡ w.words (w.tds.entries t 0 n).page) → v.hidden.memories t n ≡ memory_of (v.tds.entries t 0 n) v.words
-  still_known v t n a memory same words =
-      memory ∙ (h t n a ∙ (sym (same_memory (w.tds.entries t 0 n) w.words v.words words) ∙ ap (λ (e : Entry). memory_of e v.words) (sym same)))
-
-  -- a page that an entry names was no host page
-  apart : (q t n : ℕ) → w.pages.kinds q ≡ kind.Nda → IsAlive w.pages w.tds t → is_free (w.tds.entries t 0 n).state ≡ false → ((w.tds.entries t 0 n).page == q) ≡ false
-  apart q t n host a e = by_test ((w.tds.entries t 0 n).page == q)
-      (λ y. absurd (let no : kind.Nda ≡ kind.Reg = sym host ∙ (ap w.pages.kinds (sym (eqb-true _ q y)) ∙ (l.tree.lowest t n a e).1.page.kind) in cc))
-      (λ y. y)
-
-  -- where no words but those of a page that was the host's have changed
-  known_beside : (v : World) (q t n : ℕ) → w.pages.kinds q ≡ kind.Nda → IsAlive w.pages w.tds t → ((p : ℕ) → (p == q) ≡ false → v.words p ≡ w.words p)
-      → v.hidden.memories t n ≡ w.hidden.memories t n → v.tds.entries t 0 n ≡ w.tds.entries t 0 n → v.hidden.memories t n ≡ memory_of (v.tds.entries t 0 n) v.words
-  known_beside v q t n host a words memory same = still_known v t n a memory same (λ e. words _ (apart q t n host a e))
-
-  -- a TD that is alive after a page changed its kind was so before
-  alive_before : (q : ℕ) (k : PageKind) (t level number : ℕ) → k ≢ kind.Tdr → (tds : Tds) → tds.lives ≡ w.tds.lives → (x : ℕ) → IsAlive (take_node q k t level number w).pages tds x → IsAlive w.pages w.tds x
-  alive_before q k t level number not_tdr tds same x a = record {
-    kind = by_test (x == q) (λ y. absurd (not_tdr (rw y at a.kind))) (λ y. rw y at a.kind);
-    life = subst (λ (f : ℕ → LifeState). IsLive (f x)) same a.life;
-  }
-
-  -- or after a life changed that wasn't at its end
-  lived_before : (t : ℕ) (s : LifeState) → IsLive (w.tds.lives t) → (x : ℕ) → IsAlive w.pages (set_life t s w).tds x → IsAlive w.pages w.tds x
-  lived_before t s live x a = record {
-    kind = a.kind;
-    life = by_test (x == t) (λ y. subst (λ (z : ℕ). IsLive (w.tds.lives z)) (sym (eqb-true x t y)) live) (λ y. rw y at a.life);
-  }
-
-  -- PHYMEM.PAGE.RECLAIM
-  owner_of : (t q : ℕ) (b : Bool) → (q == t) ≡ b → w.pages.kinds t ≡ kind.Tdr → Passes (reclaim_conditions w t q b) → w.pages.owners q ≡ t
-  owner_of t q true e root ps = let here : q ≡ t = eqb-true q t e in l.pages.tdr q (rw here root) ∙ here
-  owner_of t q false e root ps = eqb-true _ t (and_parts (not (is_host w q)) (w.pages.owners q == t) ps.0).1
-
-  reclaim_known : (t q : ℕ) → (life_number (w.tds.lives t) == life_number life.Teardown) ≡ true → w.pages.owners q ≡ t → ArePagesKnown (give_back q (end_memory_in t q w))
-  reclaim_known t q dead mine x n a =
-      let before : IsAlive w.pages w.tds x = alive_before q kind.Nda 0 0 0 (λ e. cc) w.tds refl x a in
-      let another : (x == t) ≡ false = by_test (x == t)
-      (λ y. absurd (let no : true ≡ false = sym dead ∙ subst (λ (z : ℕ). IsLive (w.tds.lives z)) (eqb-true x t y) before.life in cc))
-      (λ y. y) in
-      let elsewhere : is_free (w.tds.entries x 0 n).state ≡ false → ((w.tds.entries x 0 n).page == q) ≡ false = λ e. by_test ((w.tds.entries x 0 n).page == q)
-      (λ y. absurd (let same : x ≡ t = sym (l.tree.lowest x n before e).1.page.owner ∙ (ap w.pages.owners (eqb-true _ q y) ∙ mine) in
-      let no : true ≡ false = sym (eq-eqb x t same) ∙ another in cc))
-      (λ y. y) in
-      still_known (give_back q (end_memory_in t q w)) x n before (rw another refl) refl (λ e. rw (elsewhere e) refl)
-
-  -- MNG.CREATE
-  create_known : (t k : ℕ) → w.pages.kinds t ≡ kind.Nda → ArePagesKnown ((create m t k).act w)
-  create_known t k host x n a = by_test (x == t)
-      (λ y. rw y refl)
-      (λ y. known_beside ((create m t k).act w) t x n host (record { kind = rw y at a.kind; life = rw y at a.life }) (λ p e. rw e refl) (rw y refl) (rw y refl))
-
-  -- MEM.SEPT.ADD
-  sept_known : (t level number q : ℕ) → 1 ≤ level → w.pages.kinds q ≡ kind.Nda → ArePagesKnown (clear_page q (map_page q kind.Ept entry.NlMapped t level number w))
-  sept_known t level number q upper host x n a =
-      let v : World = clear_page q (map_page q kind.Ept entry.NlMapped t level number w) in
-      known_beside v q x n host (alive_before q kind.Ept t level number (λ e. cc) v.tds refl x a) (λ p e. rw e refl) refl
-      (entry_stays w.tds.entries t level number x n _ upper)
-
-  -- MEM.PAGE.ADD
-  added_known : (t g q : ℕ) (ws : ℕ → ℕ) (records : List ℕ) → w.pages.kinds q ≡ kind.Nda → ArePagesKnown (measure t records (begin_memory t g ws (set_page q ws (map_page q kind.Reg entry.Mapped t 0 g w))))
-  added_known t g q ws records host x n a =
-      let v : World = measure t records (begin_memory t g ws (set_page q ws (map_page q kind.Reg entry.Mapped t 0 g w))) in
-      let before : IsAlive w.pages w.tds x = alive_before q kind.Reg t 0 g (λ e. cc) v.tds refl x a in
-      by_test (x == t)
-      (λ y. by_test (n == g)
-      (λ z. rw (y, z, same_self q) refl)
-      (λ z. known_beside v q x n host before (λ p e. rw e refl) (rw (y, z) refl) (rw (y, z) (ap (λ (z : ℕ). w.tds.entries z 0 n) (sym (eqb-true x t y))))))
-      (λ y. known_beside v q x n host before (λ p e. rw e refl) (rw y refl) (rw y refl))
-
-  -- MEM.PAGE.AUG: a page that waits to be accepted holds no memory, as a FREE entry has none
-  same_entry : (x t n g : ℕ) → (x == t) ≡ true → (n == g) ≡ true → w.tds.entries x 0 n ≡ w.tds.entries t 0 g
-  same_entry x t n g y z = ap (λ (u : ℕ). w.tds.entries u 0 n) (eqb-true x t y) ∙ ap (λ (i : ℕ). w.tds.entries t 0 i) (eqb-true n g z)
-
-  augmented_known : (t g q : ℕ) → w.pages.kinds q ≡ kind.Nda → is_free (w.tds.entries t 0 g).state ≡ true → ArePagesKnown (map_page q kind.Reg entry.Pending t 0 g w)
-  augmented_known t g q host free x n a =
-      let v : World = map_page q kind.Reg entry.Pending t 0 g w in
-      let before : IsAlive w.pages w.tds x = alive_before q kind.Reg t 0 g (λ e. cc) v.tds refl x a in
-      by_test (x == t)
-      (λ y. by_test (n == g)
-      (λ z. rw (y, z) (h x n before ∙ (ap (λ (e : Entry). memory_of e w.words) (same_entry x t n g y z) ∙ no_memory (w.tds.entries t 0 g) w.words free)))
-      (λ z. known_beside v q x n host before (λ p e. refl) refl (rw (y, z) (ap (λ (z : ℕ). w.tds.entries z 0 n) (sym (eqb-true x t y))))))
-      (λ y. known_beside v q x n host before (λ p e. refl) refl (rw y refl))
-
-  -- an entry's state changes, and its page holds the guest's memory as before
-  restated_known : (t level number : ℕ) (s : EntryState) (mark : ℕ) → holds_memory s ≡ holds_memory (w.tds.entries t level number).state → (x n : ℕ) → IsAlive w.pages w.tds x
-      → w.hidden.memories x n ≡ memory_of ((set_entry t level number (record { state = s; page = (w.tds.entries t level number).page; mark = mark }) w).tds.entries x 0 n) w.words
-  restated_known t level number s mark same x n a =
-      let was : Entry = w.tds.entries t level number in
-      entry_set w t level number (record { state = s; page = was.page; mark = mark }) (λ e. w.hidden.memories x n ≡ memory_of e w.words) x 0 n
-      (λ i j k. let at : w.tds.entries x 0 n ≡ was = ap (λ (z : ℕ). w.tds.entries z 0 n) i ∙ (ap (λ (z : ℕ). w.tds.entries t z n) j ∙ ap (λ (z : ℕ). w.tds.entries t level z) k) in
-      h x n a ∙ (ap (λ (e : Entry). memory_of e w.words) at ∙ ap (λ (b : Bool). if b then Some (w.words was.page) else None) (sym same)))
-      (λ apart. h x n a)
-
-  -- MEM.PAGE.REMOVE and MEM.SEPT.REMOVE: where the page was a private one, its memory ends
-  unmapped_known : (t level number : ℕ) (v : World) → IsAlive w.pages w.tds t → is_free (w.tds.entries t level number).state ≡ false → is_exported (w.tds.entries t level number).state ≡ false
-      → ((j n : ℕ) → suc j ≡ level → n / 512 ≡ number → is_free (w.tds.entries t j n).state ≡ true) → v.tds ≡ (set_entry t level number free_entry w).tds
-      → v.words ≡ put w.words (w.tds.entries t level number).page (λ i. 0) → (0 ≡ level → v.hidden.memories t number ≡ None)
-      → ((x n : ℕ) → (x ≡ t → 0 ≡ level → n ≡ number → ⊥) → v.hidden.memories x n ≡ w.hidden.memories x n) → (x n : ℕ) → IsAlive w.pages w.tds x → v.hidden.memories x n ≡ memory_of (v.tds.entries x 0 n) v.words
-  unmapped_known t level number v alive used unmarked empty td words here there x n a =
-      let says : v.hidden.memories x n ≡ memory_of ((set_entry t level number free_entry w).tds.entries x 0 n) v.words =
-      entry_set w t level number free_entry (λ e. v.hidden.memories x n ≡ memory_of e v.words) x 0 n
-      (λ i j k. subst (λ (z : ℕ). v.hidden.memories z n ≡ None) (sym i) (subst (λ (z : ℕ). v.hidden.memories t z ≡ None) (sym k) (here j)))
-      (λ off. there x n off ∙ (h x n a ∙ sym (same_memory (w.tds.entries x 0 n) w.words v.words (λ e. let other = other_entry m w t level number l alive used unmarked empty x 0 n a e off in
-      ap (λ (z : ℕ → ℕ → ℕ). z (w.tds.entries x 0 n).page) words ∙ rw other refl)))) in
-      subst (λ (z : Tds). v.hidden.memories x n ≡ memory_of (z.entries x 0 n) v.words) (sym td) says
+use Rattle.flat_core.proofs.Known.{words_stay, still_known, known_beside, alive_before, lived_before, owner_of, reclaim_known, create_known, sept_known, added_known, same_entry, augmented_known, restated_known, unmapped_known}
 
 row_known : (o : Opening) (me : ℕ) (c : Call) (w : World) → Lawful o.machine w → ArePagesKnown w → Passes ((row_of o me c).items w) → ArePagesKnown ((row_of o me c).act w)
 row_known o me (call.HostWrite page i v) w l h ps x n a = known_beside o.machine w l h (set_word page i v w) page x n (host_kind _ ps.1.1.0) a (λ p e. words_stay w.words page i v p e) refl refl
@@ -263,6 +108,9 @@ row_known o me (call.ExportUnblockw t gpa) w l h ps x n a =
 row_known o me (call.ExportRestore t gpa) w l h ps x n a =
     let p = opened_passed w t gpa restoring_ops restored_states ps.1.1.1 in
     restated_known o.machine w l h t 0 (number_at 0 gpa) entry.Mapped 0 (restored (entry_at w t 0 gpa).state p.state).same_memory x n (record { kind = a.kind; life = a.life })
+row_known o me (call.ExportMem t gpa k slot) w l h ps x n a =
+    let p = export_passed o.machine w t gpa k slot ps in
+    restated_known o.machine w l h t 0 (number_at 0 gpa) entry.ExportedBlockedW (w.tds.mig_epochs t) (can_export (w.tds.ops t) (entry_at w t 0 gpa).state p.state).same_memory x n (record { kind = a.kind; life = a.life })
 row_known o me (call.ExportTrack t slot zero) w l h ps x n a = h x n (record { kind = a.kind; life = a.life })
 row_known o me (call.ExportTrack t slot (suc i)) w l h ps x n a = h x n (record { kind = a.kind; life = a.life })
 row_known o me _ w l h ps x n a = h x n (record { kind = a.kind; life = a.life })

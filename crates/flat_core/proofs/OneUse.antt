@@ -1,7 +1,5 @@
 -- Pages have one use: what a call takes was the host's, and nothing but a call's act changes what a page is used for.
-use Rattle.std.proofs.Common.{lit≤, ◌≡◌, refl, sym, ◌∙◌, ap, subst, ℕ, zero, suc, ◌+◌, List, [], ◌∷◌, length, Option, Some, None, true, false, ◌==◌}
-use Rattle.std.proofs.lemmas.Bool.{eqb-true}
-use Rattle.td_words.specs.declared.names.PageKind.{PageKind}
+use Rattle.std.proofs.Common.{lit≤, ◌≡◌, refl, subst, ℕ, zero, suc, ◌+◌, List, [], ◌∷◌, length, Option, Some, None, false}
 use Rattle.td_words.specs.declared.names.EntryState.TheVariants as entry
 use Rattle.td_words.specs.declared.names.Access.{Access}
 use Rattle.td_words.specs.declared.names.Access.TheVariants.{Read, Write}
@@ -10,36 +8,24 @@ use Rattle.td_words.specs.declared.calls.Call.TheVariants as call
 use Rattle.td_words.specs.declared.calls.GuestOp.{GuestOp}
 use Rattle.td_words.specs.declared.replies.Outcome.{Outcome}
 use Rattle.td_words.specs.declared.replies.Reply.{Reply}
-use Rattle.flat_core.specs.World.{World, Pages}
+use Rattle.flat_core.specs.World.{World}
 use Rattle.flat_core.specs.Processor.{Phase, Trying, Undoing, Answered, Held, Lp}
 use Rattle.flat_core.specs.Opening.{Opening}
 use Rattle.flat_core.specs.Row.{OperationRow, Move, Attempts, Undoes, Refuses, Succeeds, Releases, Rests, Passes, next, next_in}
-use Rattle.flat_core.specs.Conditions.{is_host_in, host_page, page_exclusive}
-use Rattle.flat_core.specs.Effects.{take_node, tell_words}
+use Rattle.flat_core.specs.Conditions.{host_page, page_exclusive}
+use Rattle.flat_core.specs.Effects.{tell_words}
 use Rattle.flat_core.specs.Tree.{entry_at, state_in}
 use Rattle.flat_core.specs.Guest.{ByRow, operation_of, is_pending_at, reach}
 use Rattle.flat_core.specs.Table.{row_of}
 use Rattle.flat_core.specs.Event.{State, Event, OfCall, OfOperation, lines_left, next_event, nothing_more, world_after, after_event, event}
 use Rattle.flat_core.specs.Laws.{IsUsedAsBefore, PagesHaveOneUse}
 use Rattle.flat_core.specs.PageUses.{is_act, is_act_giving_back, EventsKeepUses}
-use Rattle.flat_core.proofs.Tests.{by_test, range_of}
+use Rattle.flat_core.proofs.Tests.{range_of}
 use Rattle.flat_core.proofs.Maps.{walk_passed}
 use Rattle.flat_core.proofs.Operations.{operation_row, accepted}
 use Rattle.flat_core.proofs.Enter.{all_pass}
 use Rattle.flat_core.proofs.Due.{Due, calls, frees, leaves, stops, fills, operates, walks, reaches, undoes, gives_back, due_event_is}
-
-abbrev same_use : (pages : Pages) (p : ℕ) → IsUsedAsBefore pages pages p
-same_use pages p = record { kind = refl; owner = refl; level = refl; number = refl }
-
--- another page becomes one of this kind
-other_taken : (w : World) (q : ℕ) (k : PageKind) (t level number p : ℕ) → (p == q) ≡ false → IsUsedAsBefore w.pages (take_node q k t level number w).pages p
-other_taken w q k t level number p n = record { kind = rw n refl; owner = rw n refl; level = rw n refl; number = rw n refl }
-
--- a host page does
-host_taken : (w : World) (q : ℕ) (k : PageKind) (t level number p : ℕ) → is_host_in w.pages q ≡ true → is_host_in w.pages p ≡ false → IsUsedAsBefore w.pages (take_node q k t level number w).pages p
-host_taken w q k t level number p host owned = other_taken w q k t level number p (by_test (p == q)
-    (λ y. absurd (let no : true ≡ false = sym host ∙ (ap (is_host_in w.pages) (sym (eqb-true p q y)) ∙ owned) in cc))
-    (λ n. n))
+use Rattle.flat_core.proofs.Uses.{same_use, other_taken, host_taken}
 
 pub one_use : PagesHaveOneUse
 one_use o me (call.PhymemPageReclaim t page) w p ps owned stays = other_taken w page _ 0 0 0 p stays

@@ -17,7 +17,7 @@ use Rattle.flat_core.specs.Locks.{one_if}
 use Rattle.flat_core.specs.Conditions.{same_kind, is_host_in, owned_below}
 use Rattle.flat_core.specs.Exports.{is_page_where}
 use Rattle.flat_core.specs.Effects.{take_node, give_back, set_key, set_life, set_op, set_epoch, add_control, add_vp, begin_measurement, measure, end_measurement, write_back, written_back}
-use Rattle.flat_core.specs.Lawful.{IsAlive, IsPageOf, IsNodeOf, AreControls, ArePagesOf, all_differ, LawfulPages, LawfulTds, IsListed, LawfulLists, LawfulTree, LawfulKeys, LawfulBeginnings, LawfulCounts, LawfulStreams, LawfulSessions, Lawful, IsNew, is_node, is_free, is_named_kind, key_owner, is_flushed, is_exporting}
+use Rattle.flat_core.specs.Lawful.{IsAlive, IsPageOf, IsNodeOf, AreControls, ArePagesOf, all_differ, LawfulPages, LawfulTds, IsListed, LawfulLists, LawfulTree, LawfulKeys, LawfulBeginnings, LawfulCounts, LawfulStreams, LawfulSessions, Lawful, IsNew, is_node, is_free, is_named_kind, key_owner, is_flushed, is_exporting, is_importing, most_vps}
 use Rattle.flat_core.proofs.Tests.{by_test, some_same, same_self}
 use Rattle.flat_core.proofs.Pages.{node_kept, controls_kept, pages_kept, taken, other, taken_node, taken_controls, taken_list, taken_pages}
 use Rattle.flat_core.proofs.Exports.{IsOfExported, tallies, counts_kept, taken_where}
@@ -43,22 +43,33 @@ untouched m w v e l = record {
   keys = subst (λ (x : Looked). LawfulKeys m.hkids x.1 x.2 x.4) e l.keys;
   beginnings = subst (λ (x : Looked). LawfulBeginnings x.1 x.2 x.5) e l.beginnings;
   counts = subst (λ (x : Looked). LawfulCounts m.pages x.1 x.2 x.6) e l.counts;
-  streams = subst (λ (x : Looked). LawfulStreams x.6) e l.streams;
+  streams = subst (λ (x : Looked). LawfulStreams x.1 x.2 x.6) e l.streams;
   sessions = subst (λ (x : Looked). LawfulSessions x.2 x.4) e l.sessions;
 }
 
 -- what is said of one TD's session, which no change of other things touches
 abbrev pub HasSession : Tds → ℕ → Type 0
 HasSession tds t = (tds.sessions t < 2 ^ 16) × (tds.mig_epochs t < 2 ^ 32) × (is_exporting (tds.ops t) ≡ true → (1 ≤ tds.mig_epochs t) × (1 ≤ length (tds.streams t)))
+    × (is_importing (tds.ops t) ≡ true → 1 ≤ length (tds.streams t)) × (length (tds.vps t) ≤ most_vps (tds.ops t) (tds.vps_expected t))
 
 pub sessions_of : (tds : Tds) (table : KeyTable) → table.last_exported < 2 ^ 16 → ((x : ℕ) → HasSession tds x) → LawfulSessions tds table
-sessions_of tds table last h = record { last_exported = last; session = λ x. (h x).0; mig_epoch = λ x. (h x).1; mig_epoch_begun = λ x e. ((h x).2 e).0; first_stream = λ x e. ((h x).2 e).1 }
+sessions_of tds table last h = record { last_exported = last; session = λ x. (h x).0; mig_epoch = λ x. (h x).1; mig_epoch_begun = λ x e. ((h x).2 e).0; first_stream = λ x e. ((h x).2 e).1; import_stream = λ x e. (h x).3 e; vps = λ x. (h x).4 }
 
 pub session_at : (tds : Tds) (table : KeyTable) → LawfulSessions tds table → (x : ℕ) → HasSession tds x
-session_at tds table l x = (l.session x, l.mig_epoch x, λ e. (l.mig_epoch_begun x e, l.first_stream x e))
+session_at tds table l x = (l.session x, l.mig_epoch x, λ e. (l.mig_epoch_begun x e, l.first_stream x e), l.import_stream x, l.vps x)
 
 pub sessions_kept : (tds tds' : Tds) (table table' : KeyTable) → table.last_exported ≡ table'.last_exported → ((x : ℕ) → HasSession tds x → HasSession tds' x) → LawfulSessions tds table → LawfulSessions tds' table'
 sessions_kept tds tds' table table' last h l = sessions_of tds' table' (subst (λ (n : ℕ). n < 2 ^ 16) last l.last_exported) (λ x. h x (session_at tds table l x))
+
+-- streams whose TD, where it is UNINITIALIZED, was so before
+pub streams_kept : (pages pages' : Pages) (tds tds' : Tds) (streams : Streams) → ((x : ℕ) → IsAlive pages' tds' x → IsAlive pages tds x) → ((x : ℕ) → tds'.ops x ≡ Uninitialized → tds.ops x ≡ Uninitialized)
+    → tds'.streams ≡ tds.streams → LawfulStreams pages tds streams → LawfulStreams pages' tds' streams
+streams_kept pages pages' tds tds' streams back before same l = record {
+  counter = l.counter;
+  cleaned = l.cleaned;
+  first_exports = l.first_exports;
+  uncounted = λ x s a new among. l.uncounted x s (back x a) (before x new) (subst (λ (f : ℕ → List ℕ). list_any (λ q. q == s) (f x) ≡ true) same among);
+}
 
 -- what pages, map and HKIDs say of TDs
 pub record SameShape (tds tds' : Tds) : Type 0 where
@@ -241,7 +252,7 @@ module _ (m : Machine) (w : World) (t : ℕ) (s : LifeState) (alive : IsAlive w.
         keys = shape_keys w.pages w.tds lived lived_back refl m.hkids w.key_table (record (w.key_table) { keys = keys }) lived_forth owner flushed l.keys;
         beginnings = shape_beginnings w.pages w.tds lived lived_back refl w.hidden.rtmrs w.hidden.rtmrs (λ x n. refl) l.beginnings;
         counts = shape_counts w.pages w.tds lived lived_back m.pages w.streams (λ x. refl) refl l.counts;
-        streams = l.streams;
+        streams = streams_kept w.pages w.pages w.tds lived w.streams lived_back (λ x e. e) refl l.streams;
         sessions = sessions_kept w.tds lived w.key_table (record (w.key_table) { keys = keys }) refl (λ x h. h) l.sessions;
       }
 
@@ -270,7 +281,7 @@ module _ (m : Machine) (w : World) (t : ℕ) (built : (length (w.tds.controls t)
 
   -- all else of it may change, with the streams and the number of the last session
   pub session_kept : (tds' : Tds) (streams : Streams) (last : ℕ) → SameShape w.tds tds' → tds'.lives ≡ w.tds.lives → ((x : ℕ) → tds'.epochs x < 2 ^ 32) → ((x : ℕ) → tds'.ops x ≢ Uninitialized → 1 ≤ tds'.epochs x)
-      → ((x : ℕ) → (x == t) ≡ false → facts tds' w.hidden.rtmrs x ≡ facts w.tds w.hidden.rtmrs x) → LawfulCounts m.pages w.pages tds' streams → LawfulStreams streams
+      → ((x : ℕ) → (x == t) ≡ false → facts tds' w.hidden.rtmrs x ≡ facts w.tds w.hidden.rtmrs x) → LawfulCounts m.pages w.pages tds' streams → LawfulStreams w.pages tds' streams
       → LawfulSessions tds' (record (w.key_table) { last_exported = last }) → Lawful m (record w { tds = tds'; streams = streams; key_table = record (w.key_table) { last_exported = last } })
   session_kept tds' streams last same lives small begun e counts counters sessions = record {
     size = l.size;
@@ -290,31 +301,34 @@ module _ (m : Machine) (w : World) (t : ℕ) (built : (length (w.tds.controls t)
       back = lives_back tds' lives
 
   pub built_kept : (tds' : Tds) → SameShape w.tds tds' → ((x : ℕ) → tallies tds' x ≡ tallies w.tds x) → tds'.lives ≡ w.tds.lives → ((x : ℕ) → tds'.epochs x < 2 ^ 32) → ((x : ℕ) → tds'.ops x ≢ Uninitialized → 1 ≤ tds'.epochs x)
-      → ((x : ℕ) → (x == t) ≡ false → facts tds' w.hidden.rtmrs x ≡ facts w.tds w.hidden.rtmrs x) → ((x : ℕ) → HasSession w.tds x → HasSession tds' x) → Lawful m (record w { tds = tds' })
-  built_kept tds' same many lives small begun e session =
-      session_kept tds' w.streams w.key_table.last_exported same lives small begun e (shape_counts w.pages w.tds tds' (lives_back tds' lives) m.pages w.streams many same.entries l.counts) l.streams
+      → ((x : ℕ) → (x == t) ≡ false → facts tds' w.hidden.rtmrs x ≡ facts w.tds w.hidden.rtmrs x) → ((x : ℕ) → HasSession w.tds x → HasSession tds' x)
+      → ((x : ℕ) → tds'.ops x ≡ Uninitialized → w.tds.ops x ≡ Uninitialized) → Lawful m (record w { tds = tds' })
+  built_kept tds' same many lives small begun e session before =
+      session_kept tds' w.streams w.key_table.last_exported same lives small begun e (shape_counts w.pages w.tds tds' (lives_back tds' lives) m.pages w.streams many same.entries l.counts)
+      (streams_kept w.pages w.pages w.tds tds' w.streams (lives_back tds' lives) before same.streams l.streams)
       (sessions_kept w.tds tds' w.key_table w.key_table refl session l.sessions)
 
   abbrev pub same_shape : (tds' : Tds) → tds'.hkids ≡ w.tds.hkids → tds'.controls ≡ w.tds.controls → tds'.entries ≡ w.tds.entries → tds'.vps ≡ w.tds.vps → tds'.vps_expected ≡ w.tds.vps_expected → tds'.streams ≡ w.tds.streams → SameShape w.tds tds'
   same_shape tds' a b c d e f = record { hkids = a; controls = b; entries = c; vps = d; vps_expected = e; streams = f }
 
-  pub op_kept : (s : OpState) → 1 ≤ w.tds.epochs t → (is_exporting s ≡ true → (1 ≤ w.tds.mig_epochs t) × (1 ≤ length (w.tds.streams t))) → Lawful m (set_op t s w)
-  op_kept s begun exports = built_kept (record (w.tds) { ops = put w.tds.ops t s }) (same_shape _ refl refl refl refl refl refl) (λ x. refl) refl l.tds.epoch
+  pub op_kept : (s : OpState) → 1 ≤ w.tds.epochs t → (is_exporting s ≡ true → (1 ≤ w.tds.mig_epochs t) × (1 ≤ length (w.tds.streams t))) → (is_importing s ≡ true → 1 ≤ length (w.tds.streams t)) → length (w.tds.vps t) ≤ most_vps s (w.tds.vps_expected t) → s ≢ Uninitialized → Lawful m (set_op t s w)
+  op_kept s begun exports imports few other = built_kept (record (w.tds) { ops = put w.tds.ops t s }) (same_shape _ refl refl refl refl refl refl) (λ x. refl) refl l.tds.epoch
       (λ x. by_test (x == t) (λ y n. subst (λ (z : ℕ). 1 ≤ w.tds.epochs z) (sym (eqb-true x t y)) begun) (λ y n. l.tds.epoch_begun x (rw y at n))) (λ x n. rw n refl)
-      (λ x h. by_test (x == t) (λ y. (let same : x ≡ t = eqb-true x t y in rw y (h.0, h.1, rw same exports))) (λ n. rw n h))
+      (λ x h. by_test (x == t) (λ y. (let same : x ≡ t = eqb-true x t y in rw y (h.0, h.1, rw same exports, rw same imports, rw same few))) (λ n. rw n h))
+      (λ x. by_test (x == t) (λ y e. absurd (other (rw y at e))) (λ n e. rw n at e))
 
   pub epoch_kept : (e : ℕ) → 1 ≤ e → e < 2 ^ 32 → Lawful m (set_epoch t e w)
   epoch_kept e begun small = built_kept (record (w.tds) { epochs = put w.tds.epochs t e }) (same_shape _ refl refl refl refl refl refl) (λ x. refl) refl
-      (λ x. by_test (x == t) (λ y. rw y small) (λ n. rw n (l.tds.epoch x))) (λ x n. by_test (x == t) (λ y. rw y begun) (λ y. rw y (l.tds.epoch_begun x n))) (λ x n. rw n refl) (λ x h. h)
+      (λ x. by_test (x == t) (λ y. rw y small) (λ n. rw n (l.tds.epoch x))) (λ x n. by_test (x == t) (λ y. rw y begun) (λ y. rw y (l.tds.epoch_begun x n))) (λ x n. rw n refl) (λ x h. h) (λ x e. e)
 
   pub begin_kept : Lawful m (begin_measurement t w)
-  begin_kept = built_kept (record (w.tds) { measured = put w.tds.measured t [] }) (same_shape _ refl refl refl refl refl refl) (λ x. refl) refl l.tds.epoch l.tds.epoch_begun (λ x n. refl) (λ x h. h)
+  begin_kept = built_kept (record (w.tds) { measured = put w.tds.measured t [] }) (same_shape _ refl refl refl refl refl refl) (λ x. refl) refl l.tds.epoch l.tds.epoch_begun (λ x n. refl) (λ x h. h) (λ x e. e)
 
   pub measure_kept : (records : List ℕ) → Lawful m (measure t records w)
-  measure_kept records = built_kept (measure t records w).tds (same_shape _ refl refl refl refl refl refl) (λ x. refl) refl l.tds.epoch l.tds.epoch_begun (λ x n. refl) (λ x h. h)
+  measure_kept records = built_kept (measure t records w).tds (same_shape _ refl refl refl refl refl refl) (λ x. refl) refl l.tds.epoch l.tds.epoch_begun (λ x n. refl) (λ x h. h) (λ x e. e)
 
   pub end_kept : Lawful m (end_measurement t w)
-  end_kept = built_kept (end_measurement t w).tds (same_shape _ refl refl refl refl refl refl) (λ x. refl) refl l.tds.epoch l.tds.epoch_begun (λ x n. rw n refl) (λ x h. h)
+  end_kept = built_kept (end_measurement t w).tds (same_shape _ refl refl refl refl refl refl) (λ x. refl) refl l.tds.epoch l.tds.epoch_begun (λ x n. rw n refl) (λ x h. h) (λ x e. e)
 
 -- what every world keeps, but that this page is in its TD's list
 pub record LawfulBut (m : Machine) (w : World) (p : ℕ) : Type 0 where
@@ -329,7 +343,7 @@ pub record LawfulBut (m : Machine) (w : World) (p : ℕ) : Type 0 where
   pub keys : LawfulKeys m.hkids w.pages w.tds w.key_table
   pub beginnings : LawfulBeginnings w.pages w.tds w.hidden.rtmrs
   pub counts : LawfulCounts m.pages w.pages w.tds w.streams
-  pub streams : LawfulStreams w.streams
+  pub streams : LawfulStreams w.pages w.tds w.streams
   pub sessions : LawfulSessions w.tds w.key_table
 
 -- a list that a page is added to
@@ -422,7 +436,7 @@ module _ (m : Machine) (w : World) (t p : ℕ) (l : LawfulBut m w p) (page : IsP
           (by_test (x == t) (λ y. let same : x ≡ t = eqb-true x t y in rw same (not_two (w.tds.controls t) room)) (λ y. rw y at n)));
     };
     counts = counts_kept m.pages w.pages w.pages w.tds with_control w.streams control_back (λ x. refl) (λ x a f of q. refl) l.counts;
-    streams = l.streams;
+    streams = streams_kept w.pages w.pages w.tds with_control w.streams control_back (λ x e. e) refl l.streams;
     sessions = sessions_kept w.tds with_control w.key_table w.key_table refl (λ x h. h) l.sessions;
   }
 
@@ -432,7 +446,7 @@ page_at pages t k (p ∷ ps) zero q h e = subst (λ (z : ℕ). IsPageOf pages t 
 page_at pages t k (p ∷ ps) (suc i) q h e = page_at pages t k ps i q h.1 e
 
 -- a virtual processor is added to a TD that has room for it
-module _ (m : Machine) (w : World) (t p : ℕ) (l : LawfulBut m w p) (page : IsPageOf w.pages t p kind.Tdvpr) (built : (length (w.tds.controls t) == 2) ≡ true) (few : length (w.tds.vps t) < 8) (apart : list_any (λ q. q == p) (w.tds.vps t) ≡ false) where
+module _ (m : Machine) (w : World) (t p : ℕ) (l : LawfulBut m w p) (page : IsPageOf w.pages t p kind.Tdvpr) (built : (length (w.tds.controls t) == 2) ≡ true) (few : length (w.tds.vps t) < 8) (most : length (w.tds.vps t) < most_vps (w.tds.ops t) (w.tds.vps_expected t)) (apart : list_any (λ q. q == p) (w.tds.vps t) ≡ false) where
   abbrev with_vp : Tds
   with_vp = (add_vp t p w).tds
 
@@ -496,8 +510,9 @@ module _ (m : Machine) (w : World) (t p : ℕ) (l : LawfulBut m w p) (page : IsP
     keys = shape_keys w.pages w.tds with_vp vp_back refl m.hkids w.key_table w.key_table (λ x a. record { kind = a.kind; life = a.life }) (λ h. refl) (λ x a. l.keys.flushed x (vp_back x a)) l.keys;
     beginnings = shape_beginnings w.pages w.tds with_vp vp_back refl w.hidden.rtmrs w.hidden.rtmrs (λ x n. rw (built_other w.tds.controls t x built n) refl) l.beginnings;
     counts = counts_kept m.pages w.pages w.pages w.tds with_vp w.streams vp_back (λ x. refl) (λ x a f of q. refl) l.counts;
-    streams = l.streams;
-    sessions = sessions_kept w.tds with_vp w.key_table w.key_table refl (λ x h. h) l.sessions;
+    streams = streams_kept w.pages w.pages w.tds with_vp w.streams vp_back (λ x e. e) refl l.streams;
+    sessions = sessions_kept w.tds with_vp w.key_table w.key_table refl
+        (λ x h. by_test (x == t) (λ y. (let same : x ≡ t = eqb-true x t y in rw y (h.0, h.1, h.2, h.3, rw same (omega (arith, most, length-append (w.tds.vps t) (p ∷ [])))))) (λ n. rw n h)) l.sessions;
   }
 
 not_private : (k : PageKind) → is_named_kind k ≡ false → same_kind k kind.Reg ≡ false
@@ -590,7 +605,7 @@ module _ (m : Machine) (w : World) (p : ℕ) (k : PageKind) (t level number : �
     beginnings = record { is_new = λ x a n. l.beginnings.is_new x (taken_back x a) n };
     counts = counts_kept m.pages w.pages now w.tds w.tds w.streams taken_back (λ x. refl)
         (λ x a f of. taken_where m.pages w.pages p k t level number host l.pages f x (w.tds.entries x 0) (w.tds.entries x 0) (λ n. refl) (and_left (same_kind k kind.Reg) _ (not_private k not_node))) l.counts;
-    streams = l.streams;
+    streams = streams_kept w.pages now w.tds w.tds w.streams taken_back (λ x e. e) refl l.streams;
     sessions = l.sessions;
   }
 
@@ -629,7 +644,7 @@ module _ (m : Machine) (w : World) (t : ℕ) (alive : IsAlive w.pages w.tds t) (
     };
     beginnings = shape_beginnings w.pages w.tds ended ended_back refl w.hidden.rtmrs w.hidden.rtmrs (λ x n. refl) l.beginnings;
     counts = shape_counts w.pages w.tds ended ended_back m.pages w.streams (λ x. refl) refl l.counts;
-    streams = l.streams;
+    streams = streams_kept w.pages w.pages w.tds ended w.streams ended_back (λ x e. e) refl l.streams;
     sessions = sessions_kept w.tds ended w.key_table (set_key (w.tds.hkids t) Unassigned w).key_table refl (λ x h. h) l.sessions;
   }
 
@@ -758,6 +773,6 @@ module _ (m : Machine) (w : World) (t p : ℕ) (l : Lawful m w) (root : w.pages.
     };
     beginnings = record { is_new = λ x a n. l.beginnings.is_new x (left_back x a) n };
     counts = counts_kept m.pages w.pages left w.tds w.tds w.streams left_back (λ x. refl) left_where l.counts;
-    streams = l.streams;
+    streams = streams_kept w.pages left w.tds w.tds w.streams left_back (λ x e. e) refl l.streams;
     sessions = l.sessions;
   }

@@ -1,6 +1,6 @@
 -- Rows that block and unblock, and that give a guest its page back: what their conditions say, and what they make of an
 -- entry's state.
-use Rattle.std.proofs.Common.{◌≡◌, ◌≢◌, refl, sym, ◌∙◌, ap, ℕ, ◌+◌, List, [], ◌∷◌, length, Bool, true, false, ◌==◌}
+use Rattle.std.proofs.Common.{◌≡◌, ◌≢◌, ◌⊎◌, inl, inr, refl, sym, ◌∙◌, ap, ℕ, ◌+◌, List, [], ◌∷◌, length, Bool, true, false, ◌==◌}
 use Rattle.std.specs.List.{list_any}
 use Rattle.td_words.specs.declared.names.PageKind.TheVariants as kind
 use Rattle.td_words.specs.declared.names.LifeState.{LifeState}
@@ -17,14 +17,15 @@ use Rattle.td_words.specs.Packing.{is_exported}
 use Rattle.flat_core.specs.World.{World}
 use Rattle.flat_core.specs.Row.{Item, Passes}
 use Rattle.flat_core.specs.Locks.{one_if}
-use Rattle.flat_core.specs.Conditions.{same_kind, blocking_ops}
+use Rattle.flat_core.specs.Conditions.{page_exclusive, same_kind, blocking_ops}
 use Rattle.flat_core.specs.Tree.{same_state, entry_at, has_page, state_in, named_page}
 use Rattle.flat_core.specs.ExportRows.{live_ops, abortable_ops, writable_states, write_blocked, block_write, opened_row, write_blocked_states, write_unblocked, is_first_dirt, restored_states}
-use Rattle.flat_core.specs.BundleRows.{paused_ops}
+use Rattle.flat_core.specs.Sessions.{stream_page, other_epoch, counter_room}
+use Rattle.flat_core.specs.BundleRows.{paused_ops, exportable, tracked_in, export_page}
 use Rattle.flat_core.specs.Exports.{is_dirty}
 use Rattle.flat_core.specs.MemRows.{named_row, open_states, blocked_states, removed_states, blocked_state, unblocked_state}
 use Rattle.flat_core.specs.Lawful.{IsAlive, is_free, is_node, is_exporting}
-use Rattle.flat_core.specs.Access.{allows_less, is_pending}
+use Rattle.flat_core.specs.Access.{allows_less, is_pending, may_be_exempt}
 use Rattle.flat_core.specs.Laws.{holds_memory}
 use Rattle.flat_core.proofs.Tests.{tdr_kind}
 use Rattle.flat_core.proofs.Maps.{behind_walk}
@@ -85,6 +86,14 @@ pub write_passed : (m : Machine) (w : World) (t gpa : ℕ) → Passes ((block_wr
 write_passed m w t gpa ps =
     let behind = behind_walk w t gpa 0 (has_page w t gpa 0 ∷ named_page w t gpa 0 Exclusive ∷ state_in w t gpa 0 writable_states ∷ []) ps.1.1.1.1.1.1.1 in
     record { root = ps.1.1.1.0; life = ps.1.1.1.1.0; built = ps.1.1.1.1.1.0; op = ps.1.1.1.1.1.1.0; state = behind.1.0 }
+
+pub export_passed : (m : Machine) (w : World) (t gpa k slot : ℕ) → Passes ((export_page m t gpa k slot).items w) → EntryPassed w t gpa abortable_ops (exportable (w.tds.ops t))
+export_passed m w t gpa k slot ps =
+    let head = ps.1.1.1.1 in
+    let behind = behind_walk w t gpa 0
+    (has_page w t gpa 0 ∷ named_page w t gpa 0 Exclusive ∷ state_in w t gpa 0 (exportable (w.tds.ops t)) ∷ other_epoch w t gpa ∷ page_exclusive (stream_page w t k) ∷ counter_room w t k ∷ tracked_in (w.tds.ops t) w t (entry_at w t 0 gpa).page)
+    head.1.1.1.1.1 in
+    record { root = head.0; life = head.1.0; built = head.1.1.0; op = head.1.1.1.0; state = behind.1.0 }
 
 pub entry_alive : (w : World) (t gpa : ℕ) (ops : List OpState) (allowed : List EntryState) → EntryPassed w t gpa ops allowed → IsAlive w.pages w.tds t
 entry_alive w t gpa ops allowed p = record { kind = tdr_kind _ p.root; life = living (w.tds.lives t) p.life }
@@ -157,6 +166,33 @@ restored entry.ExportedBlockedW h = record { used = refl; same_level = refl; sam
 restored entry.ExportedDirty h = record { used = refl; same_level = refl; same_memory = refl; same_pending = refl; leaf = refl }
 restored entry.ExportedDirtyBlockedW h = record { used = refl; same_level = refl; same_memory = refl; same_pending = refl; leaf = refl }
 restored _ h = cc
+
+-- what is exported maps such a page too, and stays mapped for reading: by a translation that may write no more, or exempt
+pub record IsExportable (s : EntryState) : Type 0 where
+  pub used : is_free s ≡ false
+  pub same_level : is_node entry.ExportedBlockedW ≡ is_node s
+  pub same_memory : holds_memory entry.ExportedBlockedW ≡ holds_memory s
+  pub same_pending : is_pending entry.ExportedBlockedW ≡ is_pending s
+  pub dirt : is_dirty s ≡ is_exported s
+  pub leaf : same_state s entry.NlMapped ≡ false
+
+pub can_export : (o : OpState) (s : EntryState) → list_any (λ a. same_state a s) (exportable o) ≡ true → IsExportable s
+can_export op.LiveExport entry.BlockedW h = record { used = refl; same_level = refl; same_memory = refl; same_pending = refl; dirt = refl; leaf = refl }
+can_export op.LiveExport entry.ExportedDirtyBlockedW h = record { used = refl; same_level = refl; same_memory = refl; same_pending = refl; dirt = refl; leaf = refl }
+can_export op.LiveExport _ h = cc
+can_export _ entry.Mapped h = record { used = refl; same_level = refl; same_memory = refl; same_pending = refl; dirt = refl; leaf = refl }
+can_export _ entry.BlockedW h = record { used = refl; same_level = refl; same_memory = refl; same_pending = refl; dirt = refl; leaf = refl }
+can_export _ entry.ExportedDirty h = record { used = refl; same_level = refl; same_memory = refl; same_pending = refl; dirt = refl; leaf = refl }
+can_export _ entry.ExportedDirtyBlockedW h = record { used = refl; same_level = refl; same_memory = refl; same_pending = refl; dirt = refl; leaf = refl }
+can_export _ _ h = cc
+
+pub export_allows : (writes : Bool) (o : OpState) (s : EntryState) → list_any (λ a. op_number a == op_number o) abortable_ops ≡ true → list_any (λ a. same_state a s) (exportable o) ≡ true
+    → allows_less writes entry.ExportedBlockedW ≡ true → ((allows_less writes s ≡ true) × (s ≢ entry.ExportedBlockedW)) ⊎ (may_be_exempt o ≡ true)
+export_allows writes op.LiveExport entry.BlockedW a h less = inl (less, λ e. cc)
+export_allows writes op.LiveExport entry.ExportedDirtyBlockedW a h less = inl (less, λ e. cc)
+export_allows writes op.LiveExport _ a h less = cc
+export_allows writes op.PausedExport s a h less = inr refl
+export_allows writes _ s a h less = cc
 
 -- what is mapped allows all; so does what isn't blocked for writing any more
 pub mapped_allows : (writes : Bool) → allows_less writes entry.Mapped ≡ false

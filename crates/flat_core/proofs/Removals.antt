@@ -19,7 +19,7 @@ use Rattle.flat_core.proofs.Pages.{controls_as, pages_as}
 use Rattle.flat_core.proofs.Exports.{IsOfExported, counts_kept}
 use Rattle.flat_core.proofs.EntryStates.{entry_set}
 use Rattle.flat_core.proofs.Maps.{kind_named, named_kind, node_named}
-use Rattle.flat_core.proofs.Parts.{new_kept, sessions_kept}
+use Rattle.flat_core.proofs.Parts.{new_kept, sessions_kept, streams_kept}
 
 -- where none of these is found to be used, none is
 pub all_unused : (used : ℕ → Bool) (i n : ℕ) → none_used (first_used used i n) ≡ true → (k : ℕ) → i ≤ k → k < i + n → used k ≡ false
@@ -201,6 +201,6 @@ module _ (m : Machine) (w : World) (t level number : ℕ) (l : Lawful m w) (aliv
           (λ y. new_kept w.tds gone w.hidden.rtmrs w.hidden.rtmrs x (rw y refl) is_new));
     };
     counts = counts_kept m.pages w.pages left w.tds gone w.streams back (λ x. refl) (λ x a f of q. counted_as x f of q) l.counts;
-    streams = l.streams;
+    streams = streams_kept w.pages left w.tds gone w.streams back (λ x e. e) refl l.streams;
     sessions = sessions_kept w.tds gone w.key_table w.key_table refl (λ x h. h) l.sessions;
   }

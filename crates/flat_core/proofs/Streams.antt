@@ -1,7 +1,7 @@
 -- A stream page is added to a TD: what every world keeps.
 use Rattle.std.proofs.Common.{lit<, lit≤, ◌≡◌, refl, sym, ◌∙◌, subst, ap, ℕ, zero, suc, ◌+◌, ◌%◌, ◌^◌, ◌<◌, List, [], ◌∷◌, ◌++◌, length, length-append, get_or, Bool, true, false, not, if◌then◌else◌, ◌==◌, arith}
 use Rattle.std.specs.List.{list_any, sum_by}
-use Rattle.std.proofs.lemmas.Bool.{eq-eqb, eqb-true, not-true, and_parts}
+use Rattle.std.proofs.lemmas.Bool.{eq-eqb, eqb-true, eqb-false, ne_eqb, not-true, and_parts}
 use Rattle.std.proofs.lemmas.List.Folds.{list_any_at}
 use Rattle.std.proofs.lemmas.List.Sums.{sum_by-cons, sum_by_push}
 use Rattle.td_words.specs.declared.names.PageKind.{PageKind}
@@ -9,6 +9,7 @@ use Rattle.td_words.specs.declared.names.PageKind.TheVariants as kind
 use Rattle.td_words.specs.declared.machines.Machine.{Machine}
 use Rattle.flat_core.specs.World.{World, Pages, Tds, Streams, put}
 use Rattle.flat_core.specs.ExportRows.{add_stream}
+use Rattle.flat_core.specs.Sessions.{stream_page}
 use Rattle.flat_core.specs.Exports.{is_dirty, entries_where}
 use Rattle.flat_core.specs.Lawful.{IsAlive, IsPageOf, ArePagesOf, all_differ, Lawful}
 use Rattle.flat_core.proofs.Tests.{by_test, same_self, put_here}
@@ -60,10 +61,22 @@ sum_raised f (q ∷ qs) (suc k) few d =
 sum_more : (f : ℕ → ℕ) (p : ℕ) (ps : List ℕ) → sum_by (put f p 0) (ps ++ p ∷ []) ≡ sum_by (put f p 0) ps
 sum_more f p ps = let nothing = put_here f p 0 in omega (arith, sum_by_push (put f p 0) ps p, nothing)
 
+-- a page among a list's is another one than the one that was added
+among_before : (q p : ℕ) (ps : List ℕ) → (p == q) ≡ false → list_any (λ x. x == q) (ps ++ p ∷ []) ≡ true → list_any (λ x. x == q) ps ≡ true
+among_before q p [] n h = absurd (let no : false ≡ true = rw n at h in cc)
+among_before q p (x ∷ xs) n h = by_test (x == q) (λ y. rw y refl) (λ y. rw y (among_before q p xs n (rw y at h)))
+
 -- pages of one TD alone
 pub page_among : (pages : Pages) (t : ℕ) (k : PageKind) (ps : List ℕ) (q : ℕ) → ArePagesOf pages t k ps → list_any (λ p. p == q) ps ≡ true → IsPageOf pages t q k
 page_among pages t k [] q h e = cc
 page_among pages t k (p ∷ ps) q h e = by_test (p == q) (λ y. subst (λ (z : ℕ). IsPageOf pages t z k) (eqb-true p q y) h.0) (λ y. page_among pages t k ps q h.1 (rw y at e))
+
+-- the page of a TD's stream
+pub stream_among : (ps : List ℕ) (k : ℕ) → k < length ps → list_any (λ q. q == get_or ps k 0) ps ≡ true
+stream_among ps k few = list_any_at (λ q. q == get_or ps k 0) ps k 0 few (same_self (get_or ps k 0))
+
+pub stream_owned : (m : Machine) (w : World) → Lawful m w → (t k : ℕ) → IsAlive w.pages w.tds t → k < length (w.tds.streams t) → IsPageOf w.pages t (stream_page w t k) kind.Migsc
+stream_owned m w l t k alive few = page_among w.pages t kind.Migsc (w.tds.streams t) (stream_page w t k) (l.tds.streams t alive) (stream_among (w.tds.streams t) k few)
 
 pub none_elsewhere : (w : World) (t p x : ℕ) → w.pages.owners p ≡ t → (x == t) ≡ false → (ps : List ℕ) → ArePagesOf w.pages x kind.Migsc ps → list_any (λ q. q == p) ps ≡ false
 none_elsewhere w t p x owner n [] h = refl
@@ -95,6 +108,11 @@ module _ (m : Machine) (w : World) (t p : ℕ) (l : LawfulBut m w p) (page : IsP
     ap (λ (k : ℕ). entries_where is_dirty m.pages w.pages w.tds x + k) (same_sum w.streams.cleaned x (stream_back x a)) ∙ l.counts.dirtied x (stream_back x a),
     l.counts.unrestored x (stream_back x a) ∙ ap (λ (k : ℕ). (w.tds.unrestored x + k) % 2 ^ 64) (sym (same_sum w.streams.first_exports x (stream_back x a))),
   )
+
+  others_among : (x q : ℕ) → (q == p) ≡ false → list_any (λ y. y == q) (with_stream.streams x) ≡ true → list_any (λ y. y == q) (w.tds.streams x) ≡ true
+  others_among x q n = by_test (x == t)
+      (λ y h. subst (λ (z : ℕ). list_any (λ s. s == q) (w.tds.streams z) ≡ true) (sym (eqb-true x t y)) (among_before q p (w.tds.streams t) (ne_eqb p q (λ e. eqb-false q p n (sym e))) (rw y at h)))
+      (λ y h. rw y at h)
 
   pub stream_kept : Lawful m (add_stream t p w)
   stream_kept = record {
@@ -128,7 +146,8 @@ module _ (m : Machine) (w : World) (t p : ℕ) (l : LawfulBut m w p) (page : IsP
       counter = λ s. by_test (s == p) (λ y. rw y (lit< tt)) (λ n. rw n (l.streams.counter s));
       cleaned = λ s. by_test (s == p) (λ y. rw y (lit≤ tt)) (λ n. rw n (l.streams.cleaned s));
       first_exports = λ s. by_test (s == p) (λ y. rw y (lit≤ tt)) (λ n. rw n (l.streams.first_exports s));
+      uncounted = λ x s a new among. by_test (s == p) (λ y. rw y refl) (λ n. rw n (l.streams.uncounted x s (stream_back x a) new (others_among x s n among)));
     };
     sessions = sessions_kept w.tds with_stream w.key_table w.key_table refl
-        (λ x h. by_test (x == t) (λ y. rw y (h.0, h.1, λ e. ((h.2 e).0, omega (arith, length-append (w.tds.streams t) (p ∷ []))))) (λ n. rw n h)) l.sessions;
+        (λ x h. by_test (x == t) (λ y. rw y (h.0, h.1, λ e. ((h.2 e).0, omega (arith, length-append (w.tds.streams t) (p ∷ []))), λ e. omega (arith, length-append (w.tds.streams t) (p ∷ [])), h.4)) (λ n. rw n h)) l.sessions;
   }

@@ -105,6 +105,7 @@ tries_in_order (call.ExportPause t) w = tree_first t [] tt
 tries_in_order (call.ExportAbort t) w = tree_first t [] tt
 tries_in_order (call.ExportRestore t gpa) w = tree_first t (None ∷ []) (tt, tt)
 tries_in_order (call.ExportStateImmutable t slot) w = (tt, (tt, (tt, tt)))
+tries_in_order (call.ExportMem t gpa k slot) w = tree_first t (Some (OfEpoch t) ∷ None ∷ None ∷ []) (tt, (tt, (tt, tt)))
 tries_in_order (call.ExportTrack t slot start) w = tree_first t [] tt
 tries_in_order (call.ExportStateTd t slot) w = (tt, (tt, tt))
 tries_in_order (call.ExportStateVp t vp slot) w = (tt, (tt, (tt, tt)))

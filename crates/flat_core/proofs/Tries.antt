@@ -1,6 +1,8 @@
 -- Each row tries what its call's line says; so no more than it may, and as many in every world.
 use Rattle.std.proofs.Common.{◌≡◌, refl, sym, ◌∙◌, ap, ℕ, zero, suc, ◌≤◌, List, [], ◌∷◌, ◌++◌, length, map, Bool, true, false, ◌==◌, if◌then◌else◌, arith}
 use Rattle.td_words.specs.declared.names.ReadField.TheVariants as field
+use Rattle.td_words.specs.declared.names.OpState.{OpState}
+use Rattle.td_words.specs.declared.names.OpState.TheVariants as op
 use Rattle.td_words.specs.declared.names.EntryState.{EntryState}
 use Rattle.td_words.specs.declared.names.EntryState.TheVariants as entry
 use Rattle.td_words.specs.declared.calls.Call.{Call}
@@ -17,6 +19,8 @@ use Rattle.flat_core.specs.Tree.{entry_at, walk, state_in, empty_below, named_pa
 use Rattle.flat_core.specs.Tracking.{tracked_page}
 use Rattle.flat_core.specs.KeyRows.{reclaim_conditions}
 use Rattle.flat_core.specs.MemRows.{named_row, open_states, blocked_states}
+use Rattle.flat_core.specs.BundleRows.{tracked_in}
+use Rattle.flat_core.specs.Sessions.{stream_page}
 use Rattle.flat_core.specs.Table.{row_of, most_tries}
 use Rattle.flat_core.specs.Bounds.{RowsTryFew}
 use Rattle.flat_core.specs.Laws.{RowsTryTheSame}
@@ -41,6 +45,10 @@ named_lists w t gpa level allowed rest =
     ap (λ (hs : List Held). td_tries t Shared ++ alone (OfTree t) ∷ shared (OfEpoch t) ∷ hs)
     (tries_append (walk w t gpa level) items ∙ ap (λ (hs : List Held). hs ++ tries items) (walk_tries_nothing w t gpa level))
 
+tracked_tries_nothing : (s : OpState) (w : World) (t page : ℕ) → tries (tracked_in s w t page) ≡ []
+tracked_tries_nothing op.LiveExport w t page = refl
+tracked_tries_nothing _ w t page = refl
+
 pub rows_try_lists : RowsTryTheirLists
 rows_try_lists o me (call.PhymemPageReclaim t page) w = ap (λ (hs : List Held). alone (OfPage t) ∷ hs) (by (page == t))
   where
@@ -61,6 +69,10 @@ rows_try_lists o me (call.MemSeptRemove t gpa level) w =
 rows_try_lists o me (call.MemRangeBlock t gpa level) w = named_lists w t gpa level open_states []
 rows_try_lists o me (call.MemRangeUnblock t gpa level) w =
     named_lists w t gpa level blocked_states (tracked_page w t (entry_at w t level gpa).page ∷ [])
+rows_try_lists o me (call.ExportMem t gpa k slot) w =
+    let page : ℕ = (entry_at w t 0 gpa).page in
+    ap (λ (hs : List Held). td_tries t Shared ++ shared (OfTree t) ∷ shared (OfEpoch t) ∷ alone (OfPage page) ∷ alone (OfPage (stream_page w t k)) ∷ hs)
+    (tracked_tries_nothing (w.tds.ops t) w t page)
 rows_try_lists o me (call.ExportTrack t slot zero) w = refl
 rows_try_lists o me (call.ExportTrack t slot (suc n)) w = refl
 rows_try_lists o me (call.HostRead page word) w = refl

@@ -2,7 +2,8 @@
 -- `IsUsable` says; a walk under way is used at its guest's entry epoch. What every state keeps:
 --   * no virtual processor's last epoch is above its TD's TD_EPOCH (`last`), and each in guest entered at TD_EPOCH or at the
 --     epoch before (`near`)
---   * one that is associated is of a TD that is built and hasn't ended (`bound`), and TD_EPOCH is 0 before MNG.INIT (`early`)
+--   * one that is associated is of a TD that may have run here and hasn't ended (`bound`), and TD_EPOCH is 0 before MNG.INIT
+--     (`early`)
 --   * a cached translation of a TD has a virtual processor of the TD that is associated with its logical processor
 --     (`associated`)
 --   * where a TD is in guest on a logical processor, none of the TD's virtual processors that are associated with it last
@@ -24,7 +25,6 @@ use Rattle.td_words.specs.Packing.{Entry}
 use Rattle.flat_core.specs.World.{World}
 use Rattle.flat_core.specs.Processor.{Translation, Walk, Guest}
 use Rattle.flat_core.specs.Tree.{same_state, may_read, may_write}
-use Rattle.flat_core.specs.Alike.{is_being_built}
 use Rattle.flat_core.specs.Lawful.{IsPageOf, is_free}
 use Rattle.flat_core.specs.Event.{State}
 
@@ -102,13 +102,23 @@ pub record LawfulTranslations (w : World) (p : ℕ) (cached : List Translation) 
   pub usable : (c : Translation) (epoch : ℕ) → Contains cached c → IsUsable w p guest c.tdr epoch → IsCurrent w c epoch
   pub walk : (g : Guest) (k : Walk) (epoch : ℕ) → guest ≡ Some g → g.walk ≡ Some k → w.vps.entered g.vp ≡ Some epoch → IsOnCourse w g.tdr k epoch
 
+-- Before MR.FINALIZE, or IMPORT.COMMIT, no guest of a TD has run here, and none does once an import was given up.
+abbrev pub has_not_run : OpState → Bool
+has_not_run op.Uninitialized = true
+has_not_run op.Initialized = true
+has_not_run op.MemoryImport = true
+has_not_run op.StateImport = true
+has_not_run op.PostImport = true
+has_not_run op.FailedImport = true
+has_not_run _ = false
+
 -- of the world alone
 pub record LawfulEpochs (w : World) : Type 0 where
   pub last : (t v : ℕ) → w.pages.kinds t ≡ kind.Tdr → IsPageOf w.pages t v kind.Tdvpr → w.vps.lasts v ≤ w.tds.epochs t
   pub near : (t v epoch : ℕ) → w.pages.kinds t ≡ kind.Tdr → IsPageOf w.pages t v kind.Tdvpr → w.vps.entered v ≡ Some epoch
       → (epoch ≤ w.tds.epochs t) × (w.tds.epochs t ≤ suc epoch)
   pub bound : (t v p : ℕ) → w.pages.kinds t ≡ kind.Tdr → IsPageOf w.pages t v kind.Tdvpr → w.vps.associated v ≡ Some p
-      → (w.tds.lives t ≡ life.KeysConfigured) × (is_being_built (w.tds.ops t) ≡ false)
+      → (w.tds.lives t ≡ life.KeysConfigured) × (has_not_run (w.tds.ops t) ≡ false)
   pub early : (t : ℕ) → w.pages.kinds t ≡ kind.Tdr → w.tds.ops t ≡ op.Uninitialized → w.tds.epochs t ≡ 0
 
 -- of a state

@@ -37,7 +37,7 @@ export_immutable m tdr slot = call_row
     (λ w. value.Nothing)
 
 -- EXPORT.MEM TDR GPA STREAM SLOT: the bundle has the words of a private page (ABI Reference, "TDH.EXPORT.MEM"). While the TD
--- is exported running, no translation may write to the page any more. The leaf table doesn't have this row yet.
+-- is exported running, no translation may write to the page any more.
 abbrev pub exportable : OpState → List EntryState
 exportable op.LiveExport = entry.BlockedW ∷ entry.ExportedDirtyBlockedW ∷ []
 exportable _ = entry.Mapped ∷ entry.BlockedW ∷ entry.ExportedDirty ∷ entry.ExportedDirtyBlockedW ∷ []

@@ -1,14 +1,15 @@
 -- Worked examples of guests, which compute.
-use Rattle.std.specs.Prelude.{◌≡◌, ℕ, zero, suc, ◌+◌, List, [], ◌∷◌, ◌++◌, length, replicate, drop, Some, None}
+use Rattle.std.specs.Prelude.{◌≡◌, ℕ, zero, suc, ◌+◌, List, [], ◌∷◌, ◌++◌, length, map, filter, replicate, drop, slice_index_or, Some, None, ◌==◌}
 use Rattle.sha2.specs.Sha512.{sha384}
 use Rattle.td_words.specs.declared.names.LockName.TheVariants as lock
 use Rattle.td_words.specs.declared.names.Access.TheVariants as access
+use Rattle.td_words.specs.declared.names.OpState.TheVariants as op
 use Rattle.td_words.specs.declared.names.EntryState.TheVariants as entry
 use Rattle.td_words.specs.declared.calls.Call.{Call}
-use Rattle.td_words.specs.declared.calls.Call.TheVariants.{HostWrite, HostRead, MngCreate, MngVpflushdone, MrFinalize, VpCreate, VpInit, VpEnter, VpFlush, MemSeptRd, MemPageAdd, MemPageAug, MemPageRemove, MemSeptRemove, MemRangeBlock, MemRangeUnblock, MemTrack}
+use Rattle.td_words.specs.declared.calls.Call.TheVariants.{HostWrite, HostRead, MngCreate, MngVpflushdone, MrFinalize, VpCreate, VpInit, VpEnter, VpFlush, MemSeptRd, MemPageAdd, MemPageAug, MemPageRemove, MemSeptRemove, MemRangeBlock, MemRangeUnblock, MemTrack, MigStreamCreate, ExportStateImmutable, ExportBlockw, ExportUnblockw, ExportMem, ExportPause, ExportTrack}
 use Rattle.td_words.specs.declared.calls.GuestOp.{GuestOp}
 use Rattle.td_words.specs.declared.calls.GuestOp.TheVariants.{Set, Secret, Add, Load, Store, Accept, Rtmr, Vmcall}
-use Rattle.td_words.specs.declared.refusals.Status.TheVariants.{OperandInvalid, OperandBusy, PageMetadataIncorrect, VcpuAssociated, VcpuNotAssociated, HkidNotFree, FlushvpNotDone, TlbTrackingNotDone, PreviousTlbEpochBusy}
+use Rattle.td_words.specs.declared.refusals.Status.TheVariants.{OperandInvalid, OperandBusy, PageMetadataIncorrect, OpStateIncorrect, VcpuAssociated, VcpuNotAssociated, HkidNotFree, FlushvpNotDone, TlbTrackingNotDone, PreviousTlbEpochBusy}
 use Rattle.td_words.specs.declared.replies.Value.TheVariants.{Nothing, Number, Entry}
 use Rattle.td_words.specs.declared.replies.Outcome.TheVariants.{Stop, Max, Vmcall as Called, EptViolation, Busy}
 use Rattle.td_words.specs.declared.replies.Reply.{Reply}
@@ -17,7 +18,7 @@ use Rattle.flat_core.specs.Digests.{digest_bytes, digest_word, six_words}
 use Rattle.flat_core.specs.Processor.{Note, LoadNote, RtmrNote}
 use Rattle.flat_core.specs.Opening.{Opening}
 use Rattle.flat_core.specs.Event.{State, start}
-use Rattle.flat_core.specs.Run.{run, told_in}
+use Rattle.flat_core.specs.Run.{run, told_in, bundles_in}
 use Rattle.flat_core.specs.Worked.{plain_opening, building, events_taken, replies_of, success}
 
 -- each virtual processor of TD 1 has this code
@@ -129,6 +130,18 @@ flushed_beside n k =
 abbrev pub flushes_beside : State
 flushes_beside = beside_calls [] (VpEnter 1 4 1 ∷ VpFlush 1 4 ∷ VpFlush 1 4 ∷ MngVpflushdone 1 ∷ []) (VpFlush 1 4 ∷ []) (replicate 90 0 ++ replicate 5 1)
 
+-- a page is exported while its TD runs, whose guest would store word 1 of it; and again once it has, and the TD is paused
+abbrev pub storing : List GuestOp
+storing = Set 1 44 ∷ Store 1 8 ∷ Vmcall 1 ∷ []
+
+abbrev pub exports_page : List Call
+exports_page =
+    MigStreamCreate 1 9 ∷ ExportStateImmutable 1 0 ∷ VpEnter 1 4 1 ∷ ExportBlockw 1 0 ∷ MemTrack 1 ∷ ExportMem 1 0 0 1 ∷ VpEnter 1 4 9 ∷ ExportUnblockw 1 0 ∷ VpEnter 1 4 9 ∷ ExportPause 1 ∷ VpEnter 1 4 9 ∷ ExportTrack 1 2 0 ∷ ExportMem 1 0 0 3 ∷ []
+
+-- word 1 of each page in a bundle
+abbrev pub second_words : List GuestOp → List Call → List ℕ
+second_words ops calls = map (λ b. slice_index_or b.payload 1 0) (filter (λ b. b.header.kind == 3) (bundles_in (run_after ops calls)))
+
 pub record GuestExamples : Type 0 where
   -- the epoch advances twice only once nobody is in guest any more that entered at the first
   pub epoch_waits : replies_of (beside_guest (Load 1 0 ∷ Set 2 5 ∷ []) (VpEnter 1 4 100 ∷ []) (MemTrack 1 ∷ MemTrack 1 ∷ []) 14) 1 ≡ success ∷ Refused (PreviousTlbEpochBusy 1) ∷ []
@@ -140,6 +153,11 @@ pub record GuestExamples : Type 0 where
   pub removed_after_exit_1 : replies_of removes_beside 1 ≡ success ∷ Refused TlbTrackingNotDone ∷ success ∷ Refused TlbTrackingNotDone ∷ success ∷ Done (Number 0) ∷ []
   pub sept_after_exit_0 : drop 11 (replies_of removes_sept_beside 0) ≡ Exited (EptViolation 0 access.Read) ∷ []
   pub sept_after_exit_1 : replies_of removes_sept_beside 1 ≡ success ∷ success ∷ Refused TlbTrackingNotDone ∷ success ∷ Done (Number 0) ∷ []
+  -- a page that was blocked for writing and exported isn't stored to until it is unblocked; what is stored then is in the next
+  -- bundle
+  pub exported_beside : after_ready storing exports_page
+      ≡ success ∷ success ∷ Exited Max ∷ success ∷ success ∷ success ∷ Exited (EptViolation 8 access.Write) ∷ success ∷ Exited (Called 44) ∷ success ∷ Refused (OpStateIncorrect op.PausedExport) ∷ success ∷ success ∷ []
+  pub exported_words : second_words storing exports_page ≡ 77 ∷ 44 ∷ []
   -- translations are dropped where an association is new
   pub moved_0 : drop 14 (replies_of moves_on 0) ≡ success ∷ success ∷ success ∷ Exited Max ∷ success ∷ []
   pub moved_1 : replies_of moves_on 1 ≡ Exited Stop ∷ Exited (EptViolation 0 access.Read) ∷ []

@@ -165,11 +165,13 @@ pub record LawfulCounts (count : ℕ) (pages : Pages) (tds : Tds) (streams : Str
   pub dirtied : (t : ℕ) → IsAlive pages tds t → entries_where is_dirty count pages tds t + sum_by streams.cleaned (tds.streams t) ≡ tds.dirtied t
   pub unrestored : (t : ℕ) → IsAlive pages tds t → entries_where is_exported count pages tds t ≡ (tds.unrestored t + sum_by streams.first_exports (tds.streams t)) % 2 ^ 64
 
--- A stream counts its bundles in 32 bits; each page that it cleaned, and each that it exported first, was one of them.
-pub record LawfulStreams (streams : Streams) : Type 0 where
+-- A stream counts its bundles in 32 bits; each page that it cleaned, and each that it exported first, was one of them. The
+-- streams of a TD that is UNINITIALIZED have counted nothing.
+pub record LawfulStreams (pages : Pages) (tds : Tds) (streams : Streams) : Type 0 where
   pub counter : (s : ℕ) → streams.counters s < 2 ^ 32
   pub cleaned : (s : ℕ) → streams.cleaned s ≤ streams.counters s
   pub first_exports : (s : ℕ) → streams.first_exports s ≤ streams.counters s
+  pub uncounted : (t s : ℕ) → IsAlive pages tds t → tds.ops t ≡ Uninitialized → list_any (λ q. q == s) (tds.streams t) ≡ true → streams.counters s ≡ 0
 
 -- the operation states of a TD that is being exported
 abbrev pub is_exporting : OpState → Bool
@@ -178,13 +180,33 @@ is_exporting op.PausedExport = true
 is_exporting op.PostExport = true
 is_exporting _ = false
 
--- A session has a number of 16 bits and a migration epoch of 32; an export has a first stream, and its epochs begin with 1.
+-- and of one that is being imported, or whose import was given up
+abbrev pub is_importing : OpState → Bool
+is_importing op.MemoryImport = true
+is_importing op.StateImport = true
+is_importing op.PostImport = true
+is_importing op.LiveImport = true
+is_importing op.FailedImport = true
+is_importing _ = false
+
+-- the most virtual processors of a TD in an operation state: none before its MNG.INIT or its import, and until all of an
+-- import's states have come in, as many as it expects (ABI Reference, "TDH.VP.CREATE")
+abbrev pub most_vps : OpState → (expected : ℕ) → ℕ
+most_vps op.Uninitialized expected = 0
+most_vps op.MemoryImport expected = expected
+most_vps op.StateImport expected = expected
+most_vps _ expected = 8
+
+-- A session has a number of 16 bits and a migration epoch of 32; an export has a first stream, and its epochs begin with 1; an
+-- import has a first stream as well, and no more virtual processors than it expects.
 pub record LawfulSessions (tds : Tds) (table : KeyTable) : Type 0 where
   pub last_exported : table.last_exported < 2 ^ 16
   pub session : (t : ℕ) → tds.sessions t < 2 ^ 16
   pub mig_epoch : (t : ℕ) → tds.mig_epochs t < 2 ^ 32
   pub mig_epoch_begun : (t : ℕ) → is_exporting (tds.ops t) ≡ true → 1 ≤ tds.mig_epochs t
   pub first_stream : (t : ℕ) → is_exporting (tds.ops t) ≡ true → 1 ≤ length (tds.streams t)
+  pub import_stream : (t : ℕ) → is_importing (tds.ops t) ≡ true → 1 ≤ length (tds.streams t)
+  pub vps : (t : ℕ) → length (tds.vps t) ≤ most_vps (tds.ops t) (tds.vps_expected t)
 
 -- what every world of a machine keeps
 pub record Lawful (m : Machine) (w : World) : Type 0 where
@@ -196,7 +218,7 @@ pub record Lawful (m : Machine) (w : World) : Type 0 where
   pub keys : LawfulKeys m.hkids w.pages w.tds w.key_table
   pub beginnings : LawfulBeginnings w.pages w.tds w.hidden.rtmrs
   pub counts : LawfulCounts m.pages w.pages w.tds w.streams
-  pub streams : LawfulStreams w.streams
+  pub streams : LawfulStreams w.pages w.tds w.streams
   pub sessions : LawfulSessions w.tds w.key_table
 
 -- a row whose act keeps it, where its conditions held; and the words to tell stay as they are

@@ -227,9 +227,11 @@ pub record IsUsedAsBefore (old new : Pages) (p : ℕ) : Type 0 where
   pub number : new.numbers p ≡ old.numbers p
 
 -- Pages have one use: a page that isn't the host's isn't given to a second use before it is the host's again.
+abbrev pub RowKeepsUses : Row → (gives : World → ℕ → Bool) → Type 0
+RowKeepsUses row gives = (w : World) (p : ℕ) → Passes (row.items w) → is_host_in w.pages p ≡ false → gives w p ≡ false → IsUsedAsBefore w.pages (row.act w).pages p
+
 abbrev pub PagesHaveOneUse : Type 0
-PagesHaveOneUse = (o : Opening) (me : ℕ) (c : Call) (w : World) (p : ℕ)
-    → Passes ((row_of o me c).items w) → is_host_in w.pages p ≡ false → gives_back c w p ≡ false → IsUsedAsBefore w.pages ((row_of o me c).act w).pages p
+PagesHaveOneUse = (o : Opening) (me : ℕ) (c : Call) → RowKeepsUses (row_of o me c) (gives_back c)
 
 -- whether the page that an entry names holds its guest's memory: not before the guest has accepted it (Base Architecture,
 -- "Secure EPT Entry State Diagram")

@@ -19,6 +19,8 @@ pub mod Exports
 pub mod ExportRows
 pub mod Sessions
 pub mod BundleRows
+pub mod Inputs
+pub mod ImportRows
 pub mod Table
 pub mod Tries
 pub mod Guest
@@ -28,10 +30,10 @@ pub mod HostText
 pub mod GuestText
 pub mod Lawful
 pub mod Alike
+pub mod ImportLaws
 pub mod Guests
 pub mod Inside
 pub mod Access
-pub mod BundleLaws
 pub mod Laws
 pub mod Rtmrs
 pub mod PageUses
@@ -45,3 +47,4 @@ pub mod Entries
 pub mod Entered
 pub mod Worked
 pub mod GuestWorked
+pub mod ImportWorked

@@ -10,7 +10,7 @@ use Rattle.flat_core.specs.KeyRows.{write_caches_back, reclaim_page, end_flush, 
 use Rattle.flat_core.specs.VpRows.{create_vp, initialize_vp, enter_vp, flush_vp}
 use Rattle.flat_core.specs.MemRows.{add_sept, read_sept, add_page, augment_page, remove_page, remove_sept, block_range, unblock_range, advance_epoch, extend}
 use Rattle.flat_core.specs.ExportRows.{create_stream, block_write, unblock_write, pause, abort_export, restore}
-use Rattle.flat_core.specs.BundleRows.{export_immutable, export_token, export_td, export_vp}
+use Rattle.flat_core.specs.BundleRows.{export_immutable, export_page, export_token, export_td, export_vp}
 
 abbrev pub row_of : Opening → ℕ → Call → Row
 row_of o me (call.HostRead page word) = host_read o.machine page word
@@ -47,6 +47,7 @@ row_of o me (call.ExportPause tdr) = pause o.machine tdr
 row_of o me (call.ExportAbort tdr) = abort_export o.machine tdr
 row_of o me (call.ExportRestore tdr gpa) = restore o.machine tdr gpa
 row_of o me (call.ExportStateImmutable tdr slot) = export_immutable o.machine tdr slot
+row_of o me (call.ExportMem tdr gpa stream slot) = export_page o.machine tdr gpa stream slot
 row_of o me (call.ExportTrack tdr slot start) = export_token o.machine tdr slot start
 row_of o me (call.ExportStateTd tdr slot) = export_td o.machine tdr slot
 row_of o me (call.ExportStateVp tdr vp slot) = export_vp o.machine tdr vp slot
@@ -87,6 +88,7 @@ most_tries (call.ExportPause tdr) = 3
 most_tries (call.ExportAbort tdr) = 3
 most_tries (call.ExportRestore tdr gpa) = 4
 most_tries (call.ExportStateImmutable tdr slot) = 3
+most_tries (call.ExportMem tdr gpa stream slot) = 6
 most_tries (call.ExportTrack tdr slot start) = 3
 most_tries (call.ExportStateTd tdr slot) = 2
 most_tries (call.ExportStateVp tdr vp slot) = 3

@@ -1,5 +1,7 @@
 -- What each call tries: its locks in order, each with its mode.
 use Rattle.std.specs.Prelude.{◌≡◌, ℕ, List, [], ◌∷◌, ◌++◌, ◌==◌, if◌then◌else◌}
+use Rattle.td_words.specs.declared.names.EntryState.{EntryState}
+use Rattle.td_words.specs.declared.names.EntryState.TheVariants as entry
 use Rattle.td_words.specs.declared.names.Mode.{Mode}
 use Rattle.td_words.specs.declared.names.Mode.TheVariants.{Shared, Exclusive}
 use Rattle.td_words.specs.declared.names.ReadField.{ReadField}
@@ -9,8 +11,9 @@ use Rattle.td_words.specs.declared.calls.Call.TheVariants as call
 use Rattle.flat_core.specs.World.{World}
 use Rattle.flat_core.specs.Processor.{LockId, OfPage, OfOp, OfTree, OfEpoch, OfKeys, Held}
 use Rattle.flat_core.specs.Opening.{Opening}
-use Rattle.flat_core.specs.Row.{Item, Check, Try}
+use Rattle.flat_core.specs.Row.{Item, Check, Try, Row}
 use Rattle.flat_core.specs.Tree.{entry_at}
+use Rattle.flat_core.specs.Sessions.{stream_page}
 use Rattle.flat_core.specs.Table.{row_of}
 
 -- the tries of a row, whether or not its conditions hold
@@ -49,7 +52,33 @@ named_tries w t gpa level = td_tries t Shared ++ alone (OfTree t) ∷ shared (Of
 abbrev pub opened_tries : World → (tdr gpa : ℕ) → List Held
 opened_tries w t gpa = td_tries t Shared ++ alone (OfTree t) ∷ alone (OfPage (entry_at w t 0 gpa).page) ∷ []
 
--- The table of tries, a line a call. A line looks at the world where the page is tried that an entry names.
+-- of the row that exports a page, on a stream
+abbrev pub export_tries : World → (tdr gpa stream : ℕ) → List Held
+export_tries w t gpa k =
+    td_tries t Shared ++ shared (OfTree t) ∷ shared (OfEpoch t) ∷ alone (OfPage (entry_at w t 0 gpa).page) ∷ alone (OfPage (stream_page w t k)) ∷ []
+
+-- of the rows of an import, and of others like them; IMPORT.MEM tries the page that it takes, or the one that the entry of its
+-- bundle's GPA names
+abbrev pub begin_tries : ℕ → List Held
+begin_tries t = td_tries t Exclusive ++ alone OfKeys ∷ []
+
+abbrev pub op_tries : ℕ → List Held
+op_tries t = td_tries t Exclusive
+
+abbrev pub tree_tries : ℕ → List Held
+tree_tries t = td_tries t Exclusive ++ alone (OfTree t) ∷ []
+
+abbrev pub vp_tries : (tdr vp : ℕ) → List Held
+vp_tries t v = td_tries t Exclusive ++ alone (OfPage v) ∷ []
+
+abbrev pub filled_page : (page : ℕ) → EntryState → (named : ℕ) → ℕ
+filled_page page entry.Free named = page
+filled_page page _ named = named
+
+abbrev pub page_tries : (tdr gpa page : ℕ) → World → List Held
+page_tries t gpa page w = let e = entry_at w t 0 gpa in td_tries t Shared ++ alone (OfTree t) ∷ alone (OfPage (filled_page page e.state e.page)) ∷ []
+
+-- The table of tries, a line a call. A line looks at the world where the page is tried that an entry names, or that of a stream.
 abbrev pub tries_of : Call → World → List Held
 tries_of (call.HostRead page word) w = shared (OfPage page) ∷ []
 tries_of (call.HostWrite page word value) w = shared (OfPage page) ∷ []
@@ -85,10 +114,14 @@ tries_of (call.ExportPause tdr) w = pause_tries tdr
 tries_of (call.ExportAbort tdr) w = td_tries tdr Exclusive ++ alone (OfTree tdr) ∷ []
 tries_of (call.ExportRestore tdr gpa) w = opened_tries w tdr gpa
 tries_of (call.ExportStateImmutable tdr slot) w = td_tries tdr Exclusive ++ alone OfKeys ∷ []
+tries_of (call.ExportMem tdr gpa stream slot) w = export_tries w tdr gpa stream
 tries_of (call.ExportTrack tdr slot start) w = td_tries tdr Exclusive ++ alone (OfTree tdr) ∷ []
 tries_of (call.ExportStateTd tdr slot) w = td_tries tdr Exclusive
 tries_of (call.ExportStateVp tdr vp slot) w = td_tries tdr Exclusive ++ alone (OfPage vp) ∷ []
 
--- each row tries just what its call's line says
+-- a row tries just these; and each row just what its call's line says
+abbrev pub RowTries : Row → (World → List Held) → Type 0
+RowTries row these = (w : World) → tries (row.items w) ≡ these w
+
 abbrev pub RowsTryTheirLists : Type 0
-RowsTryTheirLists = (o : Opening) (me : ℕ) (c : Call) (w : World) → tries ((row_of o me c).items w) ≡ tries_of c w
+RowsTryTheirLists = (o : Opening) (me : ℕ) (c : Call) → RowTries (row_of o me c) (tries_of c)

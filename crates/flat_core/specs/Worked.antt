@@ -1,6 +1,6 @@
 -- Worked examples, which compute: the replies of runs, and how many events they take. Where no machine is named it has 32
 -- pages, one HKID and as many processors as there are lists of calls.
-use Rattle.std.specs.Prelude.{◌≡◌, ℕ, zero, suc, ◌+◌, List, [], ◌∷◌, ◌++◌, length, map, replicate, drop, codes, Option, Some, None}
+use Rattle.std.specs.Prelude.{◌≡◌, ℕ, zero, suc, ◌+◌, List, [], ◌∷◌, ◌++◌, length, map, filter, replicate, drop, codes, slice_index_or, Option, Some, None, ◌==◌}
 use Rattle.td_words.specs.declared.names.LockName.TheVariants as lock
 use Rattle.td_words.specs.declared.names.PageKind.TheVariants as kind
 use Rattle.td_words.specs.declared.names.LifeState.TheVariants as life
@@ -10,8 +10,8 @@ use Rattle.td_words.specs.declared.names.VcpuState.TheVariants as vcpu
 use Rattle.td_words.specs.declared.names.LimitName.TheVariants.{Vcpus, Streams}
 use Rattle.td_words.specs.declared.names.ReadField.TheVariants as field
 use Rattle.td_words.specs.declared.calls.Call.{Call}
-use Rattle.td_words.specs.declared.calls.Call.TheVariants.{HostRead, HostWrite, PhymemPageRdmd, PhymemCacheWb, PhymemPageReclaim, MngCreate, MngKeyConfig, MngAddcx, MngInit, MngRd, MngVpflushdone, MngKeyFreeid, MrExtend, MrFinalize, VpCreate, VpInit, VpFlush, MemSeptAdd, MemSeptRd, MemPageAdd, MemPageAug, MemPageRemove, MemSeptRemove, MemRangeBlock, MemRangeUnblock, MemTrack, MigStreamCreate, ExportBlockw, ExportUnblockw, ExportPause, ExportAbort, ExportRestore, ExportStateImmutable, ExportTrack, ExportStateTd, ExportStateVp}
-use Rattle.td_words.specs.declared.refusals.Status.TheVariants.{OperandInvalid, OperandBusy, NotHost, PageMetadataIncorrect, LifecycleStateIncorrect, OpStateIncorrect, EptWalkFailed, EptEntryStateIncorrect, HkidNotFree, TdcxNumIncorrect, VcpuStateIncorrect, PagesExist, Limit, CacheWbNotDone, TlbTrackingNotDone, SeptNotEmpty, VcpuNotAssociated, NoStream, StateMissing, AlreadyExported}
+use Rattle.td_words.specs.declared.calls.Call.TheVariants.{HostRead, HostWrite, PhymemPageRdmd, PhymemCacheWb, PhymemPageReclaim, MngCreate, MngKeyConfig, MngAddcx, MngInit, MngRd, MngVpflushdone, MngKeyFreeid, MrExtend, MrFinalize, VpCreate, VpInit, VpFlush, MemSeptAdd, MemSeptRd, MemPageAdd, MemPageAug, MemPageRemove, MemSeptRemove, MemRangeBlock, MemRangeUnblock, MemTrack, MigStreamCreate, ExportBlockw, ExportUnblockw, ExportPause, ExportAbort, ExportRestore, ExportStateImmutable, ExportMem, ExportTrack, ExportStateTd, ExportStateVp}
+use Rattle.td_words.specs.declared.refusals.Status.TheVariants.{OperandInvalid, OperandBusy, NotHost, PageMetadataIncorrect, LifecycleStateIncorrect, OpStateIncorrect, EptWalkFailed, EptEntryStateIncorrect, HkidNotFree, TdcxNumIncorrect, VcpuStateIncorrect, PagesExist, Limit, CacheWbNotDone, TlbTrackingNotDone, SeptNotEmpty, VcpuNotAssociated, NoStream, UnrestoredPages, ExportedThisEpoch, StateMissing, DirtyPages, AlreadyExported}
 use Rattle.td_words.specs.declared.replies.Value.TheVariants.{Nothing, Number, Life, Op, Page, Entry}
 use Rattle.td_words.specs.declared.replies.Reply.{Reply}
 use Rattle.td_words.specs.declared.replies.Reply.TheVariants.{Done, Refused}
@@ -129,6 +129,29 @@ bundle_line b = b.slot ∷ b.header.kind ∷ b.header.counter ∷ b.header.epoch
 
 abbrev pub bundles_by : List Call → List (List ℕ)
 bundles_by calls = map bundle_line (bundles_in (run (usual_opening (calls ∷ [])) []))
+
+-- it is exported running over one stream, and its page is blocked for writing, tracked and exported
+abbrev pub exporting_running : List Call
+exporting_running = running ++ MigStreamCreate 1 9 ∷ ExportStateImmutable 1 0 ∷ ExportBlockw 1 0 ∷ MemTrack 1 ∷ ExportMem 1 0 0 1 ∷ []
+
+-- A TD with two pages is exported over two streams. The page that is exported while it runs is dirty once it isn't blocked any
+-- more, and is exported anew in the next epoch, when the TD is paused; the other one is without having been blocked.
+abbrev pub exporting_pages : List Call
+exporting_pages =
+    HostWrite 0 0 7 ∷ (built ++ HostWrite 0 0 5 ∷ MemPageAdd 1 4096 10 0 ∷ MrFinalize 1 ∷ MigStreamCreate 1 11 ∷ MigStreamCreate 1 12 ∷ ExportStateImmutable 1 0 ∷ ExportBlockw 1 0 ∷ MemTrack 1 ∷ ExportMem 1 0 1 1 ∷ ExportUnblockw 1 0
+    ∷ ExportPause 1 ∷ ExportTrack 1 2 0 ∷ ExportMem 1 0 0 3 ∷ ExportMem 1 4096 1 4 ∷ ExportStateTd 1 5 ∷ ExportStateVp 1 4 6 ∷ ExportTrack 1 7 1 ∷ [])
+
+-- of a page's bundle its slot; its stream, counter, epoch and GPA; the page's first word, and how many it has
+abbrev pub page_line : Made → List ℕ
+page_line b = b.slot ∷ b.header.stream ∷ b.header.counter ∷ b.header.epoch ∷ b.header.gpa ∷ slice_index_or b.payload 0 0 ∷ length b.payload ∷ []
+
+abbrev pub pages_by : List Call → List (List ℕ)
+pages_by calls = map page_line (filter (λ b. b.header.kind == 3) (bundles_in (run (usual_opening (calls ∷ [])) [])))
+
+-- what follows where one page was exported and is dirty, another one never was exported, and their TD is paused
+abbrev pub after_dirtied : List Call → List Reply
+after_dirtied calls =
+    drop 20 (answers_to (built ++ MemPageAdd 1 4096 10 0 ∷ MrFinalize 1 ∷ MigStreamCreate 1 9 ∷ ExportStateImmutable 1 0 ∷ ExportBlockw 1 0 ∷ MemTrack 1 ∷ ExportMem 1 0 0 1 ∷ ExportUnblockw 1 0 ∷ ExportPause 1 ∷ calls))
 
 abbrev pub built_items : List ℕ
 built_items = replicate 75 0
@@ -254,6 +277,40 @@ pub record Examples : Type 0 where
       ≡ Refused (NoStream 0) ∷ success ∷ Refused (OpStateIncorrect op.Runnable) ∷ success ∷ Refused (OpStateIncorrect op.LiveExport) ∷ Refused (OperandInvalid 3) ∷ Refused (OpStateIncorrect op.LiveExport)
       ∷ Refused (OpStateIncorrect op.LiveExport) ∷ success ∷ Refused (StateMissing 2) ∷ Refused (OperandInvalid 2) ∷ Refused (PageMetadataIncorrect 8) ∷ success ∷ Refused AlreadyExported
       ∷ Refused (StateMissing 1) ∷ success ∷ Refused AlreadyExported ∷ success ∷ Refused (OpStateIncorrect op.PostExport) ∷ Done (Op op.PostExport) ∷ []
+  -- A page is exported in thirteen events. Its bundle has the page's words; the token says how many came before it on all
+  -- streams.
+  pub page_events : events_of exporting_running ≡ 64 + 11 + 5 + 7 + 7 + 11 + 7 + 13
+  pub pages_exported : pages_by exporting_pages
+      ≡ (1 ∷ 1 ∷ 0 ∷ 1 ∷ 0 ∷ 7 ∷ 512 ∷ []) ∷ (3 ∷ 0 ∷ 2 ∷ 2 ∷ 0 ∷ 7 ∷ 512 ∷ []) ∷ (4 ∷ 1 ∷ 1 ∷ 2 ∷ 4096 ∷ 5 ∷ 512 ∷ []) ∷ []
+  pub export_with_pages : bundles_by exporting_pages
+      ≡ (0 ∷ 0 ∷ 0 ∷ 1 ∷ 1 ∷ 1 ∷ 0 ∷ 6 ∷ []) ∷ (1 ∷ 3 ∷ 0 ∷ 1 ∷ 1 ∷ 0 ∷ 0 ∷ 512 ∷ []) ∷ (2 ∷ 4 ∷ 1 ∷ 2 ∷ 1 ∷ 0 ∷ 2 ∷ 0 ∷ []) ∷ (3 ∷ 3 ∷ 2 ∷ 2 ∷ 1 ∷ 0 ∷ 0 ∷ 512 ∷ [])
+      ∷ (4 ∷ 3 ∷ 1 ∷ 2 ∷ 1 ∷ 0 ∷ 0 ∷ 512 ∷ []) ∷ (5 ∷ 1 ∷ 3 ∷ 2 ∷ 1 ∷ 0 ∷ 0 ∷ 24 ∷ []) ∷ (6 ∷ 2 ∷ 4 ∷ 2 ∷ 1 ∷ 0 ∷ 0 ∷ 8 ∷ []) ∷ (7 ∷ 5 ∷ 5 ∷ 0xffffffff ∷ 1 ∷ 0 ∷ 7 ∷ 0 ∷ []) ∷ []
+  -- while the TD is exported running, its page is blocked for writing first, and the block tracked; it is exported once in an
+  -- epoch, and only where it is dirty since
+  pub page_in_order : after_running (ExportMem 1 0 0 0 ∷ MigStreamCreate 1 9 ∷ ExportStateImmutable 1 1 ∷ ExportMem 1 0 0 2 ∷ ExportBlockw 1 0 ∷ ExportMem 1 0 1 3 ∷ ExportMem 1 0 0 4 ∷ MemTrack 1 ∷ ExportMem 1 0 0 5 ∷ MemSeptRd 1 0 0
+      ∷ ExportMem 1 0 0 6 ∷ ExportTrack 1 7 0 ∷ ExportMem 1 0 0 8 ∷ ExportUnblockw 1 0 ∷ MemSeptRd 1 0 0 ∷ ExportMem 1 0 0 9 ∷ ExportBlockw 1 0 ∷ MemTrack 1 ∷ ExportMem 1 0 0 10 ∷ ExportUnblockw 1 0 ∷ ExportBlockw 1 0 ∷ MemTrack 1
+      ∷ MemSeptRd 1 0 0 ∷ ExportMem 1 0 0 11 ∷ [])
+      ≡ Refused (OpStateIncorrect op.Runnable) ∷ success ∷ success ∷ Refused (EptEntryStateIncorrect entry.Mapped) ∷ success ∷ Refused (NoStream 1) ∷ Refused TlbTrackingNotDone ∷ success ∷ success
+      ∷ Done (Entry entry.ExportedBlockedW (Some 8)) ∷ Refused (EptEntryStateIncorrect entry.ExportedBlockedW) ∷ success ∷ Refused (EptEntryStateIncorrect entry.ExportedBlockedW) ∷ success
+      ∷ Done (Entry entry.ExportedDirty (Some 8)) ∷ Refused (EptEntryStateIncorrect entry.ExportedDirty) ∷ success ∷ success ∷ success ∷ success ∷ success ∷ success
+      ∷ Done (Entry entry.ExportedDirtyBlockedW (Some 8)) ∷ Refused ExportedThisEpoch ∷ []
+  -- the start token comes once each state has been exported, which is asked first, and no page is dirty; one that never was
+  -- exported isn't asked for
+  pub dirty_pages : after_dirtied (ExportTrack 1 2 1 ∷ ExportMem 1 0 0 3 ∷ ExportStateTd 1 4 ∷ ExportStateVp 1 4 5 ∷ ExportTrack 1 6 1 ∷ ExportTrack 1 7 0 ∷ ExportMem 1 0 0 8 ∷ ExportTrack 1 9 1 ∷ ExportMem 1 0 0 10 ∷ [])
+      ≡ Refused (StateMissing 2) ∷ Refused ExportedThisEpoch ∷ success ∷ success ∷ Refused (DirtyPages 1) ∷ success ∷ success ∷ success ∷ Refused (OpStateIncorrect op.PostExport) ∷ []
+  pub dirty_last : after_dirtied (ExportTrack 1 2 0 ∷ ExportMem 1 0 0 3 ∷ ExportTrack 1 4 1 ∷ ExportStateTd 1 5 ∷ ExportStateVp 1 4 6 ∷ ExportTrack 1 7 1 ∷ [])
+      ≡ success ∷ success ∷ Refused (StateMissing 2) ∷ success ∷ success ∷ success ∷ []
+  -- a session begins again once each page that was exported is restored
+  pub restored_first : after_dirtied (MemSeptRd 1 0 0 ∷ ExportAbort 1 ∷ ExportMem 1 0 0 2 ∷ ExportStateImmutable 1 3 ∷ ExportRestore 1 0 ∷ ExportStateImmutable 1 4 ∷ MemSeptRd 1 0 0 ∷ [])
+      ≡ Done (Entry entry.ExportedDirty (Some 8)) ∷ success ∷ Refused (OpStateIncorrect op.Runnable) ∷ Refused (UnrestoredPages 1) ∷ success ∷ success ∷ Done (Entry entry.Mapped (Some 8)) ∷ []
+  -- a paused TD's page needn't have been blocked
+  pub paused_page : after_running (MigStreamCreate 1 9 ∷ ExportStateImmutable 1 0 ∷ ExportPause 1 ∷ ExportMem 1 0 0 1 ∷ MemSeptRd 1 0 0 ∷ ExportMem 1 0 0 2 ∷ ExportAbort 1 ∷ ExportStateImmutable 1 3 ∷ ExportRestore 1 0 ∷ ExportStateImmutable 1 4 ∷ [])
+      ≡ success ∷ success ∷ success ∷ success ∷ Done (Entry entry.ExportedBlockedW (Some 8)) ∷ Refused (EptEntryStateIncorrect entry.ExportedBlockedW) ∷ success ∷ Refused (UnrestoredPages 1) ∷ success ∷ success ∷ []
+  -- ranges come first, then alignment; then whether the stream is there, before the map is looked at
+  pub page_operands : after_running (MigStreamCreate 1 9 ∷ ExportStateImmutable 1 0 ∷ ExportMem 32 0 0 1 ∷ ExportMem 1 0x800000000001 4 2 ∷ ExportMem 1 1 4 3 ∷ ExportMem 1 1 0 4 ∷ ExportMem 8 0 0 5 ∷ ExportMem 1 0x200000 1 6 ∷ ExportMem 1 0x200000 0 7
+      ∷ ExportMem 1 4096 0 8 ∷ [])
+      ≡ success ∷ success ∷ Refused (OperandInvalid 1) ∷ Refused (OperandInvalid 2) ∷ Refused (OperandInvalid 3) ∷ Refused (OperandInvalid 2) ∷ Refused (PageMetadataIncorrect 8) ∷ Refused (NoStream 1) ∷ Refused (EptWalkFailed 1)
+      ∷ Refused (EptEntryStateIncorrect entry.Free) ∷ []
   -- what is measured: that the page was added; and where a chunk of it is, and its bytes
   pub one_page : measured_by added_page ≡ added_record
   pub one_chunk : measured_by (added_page ++ MrExtend 1 4352 ∷ [])

@@ -68,7 +68,7 @@ pub record KeyTable : Type 0 where
   pub last_exported : ℕ
   pub last_imported : ℕ
 
--- a TD as an export carries it over: what its private pages hold, by GPA page, MRTD, RTMRs, and of each virtual processor,
+-- a TD as a migration carries it over: what its private pages hold, by GPA page, MRTD, RTMRs, and of each virtual processor,
 -- in the order of their indexes, its registers and its position
 pub record VpImage : Type 0 where
   pub registers : ℕ → ℕ
@@ -81,12 +81,13 @@ pub record Image : Type 0 where
   pub vps : List VpImage
 
 -- what no condition reads, and no reply but the word that VMCALL tells: registers, RTMRs, and what each TD's private
--- pages hold as its guest knows it; and each TD at the pause of its export
+-- pages hold as its guest knows it; and each TD at the pause of its export, and as its import was committed
 pub record Hidden : Type 0 where
   pub registers : ℕ → ℕ → ℕ  -- by TDVPR page
   pub rtmrs : ℕ → ℕ → ℕ  -- by TDR page, four RTMRs of six words each
   pub memories : ℕ → ℕ → Option (ℕ → ℕ)  -- by TDR page and GPA page: the words that the TD's guest knows to be there
   pub paused : ℕ → Option Image  -- by session
+  pub given : ℕ → Option Image  -- by session
 
 -- a bundle's header without its tag
 pub record ClearHeader : Type 0 where
@@ -178,6 +179,6 @@ first_world n words_to_tell = record {
   vps = no_vps;
   streams = record { counters = λ s. 0; cleaned = λ s. 0; first_exports = λ s. 0 };
   key_table = record { keys = λ h. Unassigned; last_exported = 0; last_imported = 0 };
-  hidden = record { registers = λ v i. 0; rtmrs = λ t i. 0; memories = λ t g. None; paused = λ n. None };
+  hidden = record { registers = λ v i. 0; rtmrs = λ t i. 0; memories = λ t g. None; paused = λ n. None; given = λ n. None };
   outgoing = record { told = []; to_tell = words_to_tell; bundles = [] };
 }

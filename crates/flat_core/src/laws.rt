@@ -2,12 +2,13 @@
 
 ghost use Rattle.flat_core.specs.AccessLaw.{AccessIsKept, AccessAlwaysHolds, GuestsReachTheirOwn, AccessesAreOwn, MemoriesAreKept, CachesAreKept, CachesAreSmall, RoomIsUsed};
 ghost use Rattle.flat_core.specs.Bounds.{RowsTryFew, TimelyEventsRunOut, EventsRunOut, RunsEnd, EntriesAreBounded};
-ghost use Rattle.flat_core.specs.BundleLaws.{BundleRowHasItsFacts};
 ghost use Rattle.flat_core.specs.Entered.{EventsSpare, EnteredIsKept, EnteredAreInGuest};
 ghost use Rattle.flat_core.specs.Entries.{EntriesHaveTheirEvents};
 ghost use Rattle.flat_core.specs.GuestOrder.{OperationsTryTheirLists, GuestOrderIsKept, GuestOrderHolds};
 ghost use Rattle.flat_core.specs.GuestWorked.{GuestExamples};
 ghost use Rattle.flat_core.specs.Guests.{RowsSpare};
+ghost use Rattle.flat_core.specs.ImportLaws.{ImportRowsHaveTheirFacts, ImportRowsDoThis};
+ghost use Rattle.flat_core.specs.ImportWorked.{ImportExamples};
 ghost use Rattle.flat_core.specs.Laws.{RowsKeep, RowsAreBlind, MrtdIsTheDigest, RecordsAreMeasured, TimelinessIsKept, EveryWorldIsLawful, LawfulPagesAreOwned, OwnersAreKept, EveryPageIsOwned, LawfulWorldsAreCounted, CountsAreKept, ExportedAreCounted, OthersStay, QuietEventsStay, NoWordsToTell, ExclusionIsKept, LocksExclude, RefusedCallsStay, QuietCallsKeep, RefusalsLeaveTheirReply, RowsTryTheSame, CallsHaveTheirEvents, EventsKeepLawful, MrtdsAreKept, EveryMrtdIsTheDigest, EventsMeasure, PagesHaveOneUse, GuestsKnowTheirPages, ToldAreMerged, OperationsTellBoth};
 ghost use Rattle.flat_core.specs.Order.{OrderIsKept, TreeIsFreeInOrder, TreeIsNeverBusy};
 ghost use Rattle.flat_core.specs.PageUses.{EventsKeepUses};
@@ -40,9 +41,16 @@ pub fn row_laws()
     ensures uses { EventsKeepUses }
 {}
 
-/// The same two facts beside the row of EXPORT.MEM, which the leaf table doesn't have yet.
-pub fn bundle_row_laws()
-    ensures { BundleRowHasItsFacts }
+/// The same two facts beside each row of an import, and beside that of EXPORT.ABORT with a token,
+/// which the leaf table doesn't have yet: whatever bundle has come in, and where two openings differ in
+/// secret words and private payloads alone; that its act keeps what guests know of their pages, makes
+/// no translation stale, leaves a virtual processor in guest elsewhere as it is, and a page in use to
+/// its use; and which locks it tries, and what it makes of bundles, memories and RTMRs. Worked imports
+/// compute.
+pub fn import_row_laws()
+    ensures facts { ImportRowsHaveTheirFacts }
+    ensures effects { ImportRowsDoThis }
+    ensures examples { ImportExamples }
 {}
 
 /// Every run starts in a lawful world, in which processors stand in their calls and guests as they can

@@ -3,5 +3,7 @@ pub mod Usable
 pub mod Accesses
 pub mod Unreached
 pub mod GivenBack
+pub mod Waits
+pub mod ImportWaits
 pub mod Moves
 pub mod Worked

@@ -1,6 +1,6 @@
 -- Pages that move: what is given back was out of reach, and what is taken waits, for its guest to accept it or for its TD to be
 -- built.
-use Rattle.std.proofs.Common.{◌≡◌, ◌⊎◌, inl, inr, refl, sym, ◌∙◌, ap, subst, ℕ, zero, suc, ◌≤◌, [], ◌∷◌, Bool, true, false, not, ◌==◌, arith}
+use Rattle.std.proofs.Common.{◌≡◌, inl, inr, refl, sym, ◌∙◌, ap, subst, ℕ, zero, suc, ◌≤◌, [], ◌∷◌, Bool, true, false, not, ◌==◌, arith}
 use Rattle.std.specs.List.{list_any}
 use Rattle.std.proofs.lemmas.Bool.{eq-eqb, eqb-true, and_parts}
 use Rattle.td_words.specs.declared.calls.Call.{Call}
@@ -21,25 +21,25 @@ use Rattle.flat_core.specs.Tracking.{tracked_page}
 use Rattle.flat_core.specs.Tree.{entry_at, number_at, same_state, empty_below}
 use Rattle.flat_core.specs.KeyRows.{reclaim_conditions}
 use Rattle.flat_core.specs.MemRows.{removed_states}
-use Rattle.flat_core.specs.Alike.{is_being_built}
 use Rattle.flat_core.specs.Lawful.{Lawful}
 use Rattle.flat_core.specs.Event.{State, next_event, event}
 use Rattle.flat_core.specs.Laws.{reached, IsUsedAsBefore, gives_back}
 use Rattle.flat_core.specs.PageUses.{is_act}
-use Rattle.flat_core.specs.Access.{entry_of, is_pending}
+use Rattle.flat_core.specs.Access.{entry_of, is_pending, has_not_run}
 use Rattle.flat_core.specs.AccessLaw.{IsGuarded}
 use Rattle.flat_core.proofs.Tests.{by_test, host_kind, tdr_kind, range_of}
 use Rattle.flat_core.proofs.Maps.{kind_named, node_named}
 use Rattle.flat_core.proofs.Ranges.{named_passed, named_alive, page_removed, sept_removed}
 use Rattle.flat_core.proofs.Keeps.{ended_of}
 use Rattle.flat_core.proofs.OneUse.{one_use, events_keep_uses}
-use Rattle.flat_core.proofs.Accesses.{is_begun}
+use Rattle.flat_core.proofs.AccessActs.{is_begun}
 use Rattle.flat_core.proofs.Always.{always_guarded, access_kept}
 use Rattle.flat_laws.specs.Usable.{IsUnnamed, MovesUnnamed, PagesMoveUnnamed}
 use Rattle.flat_laws.specs.Unreached.{unreached_in, is_unreached}
 use Rattle.flat_laws.proofs.Usable.{current, alive, node, own, host-unnamed, guarded-names}
 use Rattle.flat_laws.proofs.Unreached.{closed-is-unreached, is-sound}
 use Rattle.flat_laws.proofs.GivenBack.{IsActOf, act-world, act-of, emptied}
+use Rattle.flat_laws.proofs.Waits.{WaitsWherePrivate}
 
 removed-unreached : (x : EntryState) (over : Bool) → list_any (λ a. same_state a x) removed_states ≡ true → over ≡ true → unreached_in x over ≡ true
 removed-unreached entry.Blocked over h k = k
@@ -49,13 +49,6 @@ removed-unreached _ over h k = cc
 not-private : (level : ℕ) → 1 ≤ level → kind_named level ≡ kind.Reg → ⊥
 not-private zero low e = omega (arith, low)
 not-private (suc l) low e = cc
-
--- the page's entry is pending, or its TD isn't built
-abbrev Waits : World → ℕ → Type 0
-Waits w q = (is_pending (w.tds.entries (w.pages.owners q) 0 (w.pages.numbers q)).state ≡ true) ⊎ (is_being_built (w.tds.ops (w.pages.owners q)) ≡ true)
-
-abbrev WaitsWherePrivate : World → ℕ → Type 0
-WaitsWherePrivate w q = w.pages.kinds q ≡ kind.Reg → Waits w q
 
 waits-unnamed : (o : Opening) (s : State) → IsGuarded o s → (q : ℕ) → WaitsWherePrivate s.world q → IsUnnamed s q
 waits-unnamed o s all q waits p c u is =
@@ -69,7 +62,7 @@ waits-unnamed o s all q waits p c u is =
     elim (waits (ap s.world.pages.kinds (sym is) ∙ its.private.kind)) [
       | inl pends ↦ (let same : s.world.tds.entries (s.world.pages.owners q) 0 (s.world.pages.numbers q) ≡ entry_of s.world c = ap (λ (z : ℕ). s.world.tds.entries z 0 (s.world.pages.numbers q)) owner ∙ ap (λ (z : ℕ). s.world.tds.entries c.tdr 0 z) number in
           let no : true ≡ false = sym pends ∙ (ap (λ (x : Entry). is_pending x.state) same ∙ now.accepted) in cc)
-      | inr building ↦ (let no : true ≡ false = sym building ∙ (ap (λ (z : ℕ). is_being_built (s.world.tds.ops z)) owner ∙ (all.access.epochs.bound c.tdr here.0 p here.1.tdr here.1.page here.1.associated).1) in cc)
+      | inr building ↦ (let no : true ≡ false = sym building ∙ (ap (λ (z : ℕ). has_not_run (s.world.tds.ops z)) owner ∙ (all.access.epochs.bound c.tdr here.0 p here.1.tdr here.1.page here.1.associated).1) in cc)
     ]
 
 module _ (o : Opening) (s : State) (me q : ℕ) (all : IsGuarded o s) where

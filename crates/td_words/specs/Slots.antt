@@ -6,6 +6,7 @@ use Rattle.td_words.specs.declared.calls.Call.TheVariants as call
 -- the output slot of a call that makes a bundle
 abbrev pub output_slot : Call → Option ℕ
 output_slot (call.ExportStateImmutable tdr slot) = Some slot
+output_slot (call.ExportMem tdr gpa stream slot) = Some slot
 output_slot (call.ExportTrack tdr slot start) = Some slot
 output_slot (call.ExportStateTd tdr slot) = Some slot
 output_slot (call.ExportStateVp tdr vp slot) = Some slot

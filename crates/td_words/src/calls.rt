@@ -145,6 +145,12 @@ pub enum Call {
         tdr: u64,
         slot: u16,
     },
+    ExportMem {
+        tdr: u64,
+        gpa: u64,
+        stream: u64,
+        slot: u16,
+    },
     ExportTrack {
         tdr: u64,
         slot: u16,
@@ -168,6 +174,7 @@ impl Call {
     {
         match self {
             Call::ExportStateImmutable { slot, .. }
+            | Call::ExportMem { slot, .. }
             | Call::ExportTrack { slot, .. }
             | Call::ExportStateTd { slot, .. }
             | Call::ExportStateVp { slot, .. } => Some(*slot),

@@ -1,0 +1,363 @@
+-- Each row of an import asks and answers the same where two openings agree, in two worlds that differ in private words alone,
+-- and keeps them so: a bundle that comes in has the same header in both, and another payload only where that is private.
+use Rattle.std.proofs.Common.{◌≡◌, refl, sym, ◌∙◌, subst, ap, ℕ, ◌+◌, List, [], ◌∷◌, ◌++◌, map, Bool, true, false, ◌==◌}
+use Rattle.std.specs.Prelude.{Option, Some, None, option_map, Result, Ok, Err, slice_index_or}
+use Rattle.std.specs.List.{list_any}
+use Rattle.std.proofs.lemmas.Bool.{eq-eqb, eqb-true}
+use Rattle.std.proofs.lemmas.List.{map-append}
+use Rattle.td_words.specs.declared.names.PageKind.TheVariants as kind
+use Rattle.td_words.specs.declared.names.OpState.{OpState}
+use Rattle.td_words.specs.declared.names.OpState.TheVariants as op
+use Rattle.td_words.specs.declared.names.EntryState.{EntryState}
+use Rattle.td_words.specs.declared.names.EntryState.TheVariants as entry
+use Rattle.td_words.specs.declared.names.VcpuState.TheVariants as vcpu
+use Rattle.td_words.specs.declared.names.HeaderField.{HeaderField}
+use Rattle.td_words.specs.declared.machines.Machine.{Machine}
+use Rattle.td_words.specs.declared.replies.Reply.{Reply}
+use Rattle.td_words.specs.NameNumber.{op_number}
+use Rattle.flat_core.specs.World.{World, Tds, Vps, Streams, KeyTable, Made, ClearHeader, put}
+use Rattle.flat_core.specs.Opening.{Incoming, Opening, Agree, is_private_kind, blind_words, blind_bundle, public_bundle}
+use Rattle.flat_core.specs.Row.{Item, Passes}
+use Rattle.flat_core.specs.Tree.{page_of_gpa, number_at, entry_at, same_state, state_in}
+use Rattle.flat_core.specs.Effects.{set_page, map_page, begin_memory, set_op}
+use Rattle.flat_core.specs.Sessions.{stream_page, count_bundle, set_mig_epoch}
+use Rattle.flat_core.specs.Inputs.{Input, header_of_input, word_given, input_in, tag_holds}
+use Rattle.flat_core.specs.ImportRows.{filling_ops, begin_import, import_immutable, importable, page_to_fill, fill_page, import_page, is_start, op_then, import_token, give_rtmrs, import_td, give_vp_state, import_vp, note_commit, commit_import, end_import, abort_import, abort_by_token}
+use Rattle.flat_core.specs.Lawful.{IsAlive, Lawful, is_free}
+use Rattle.flat_core.specs.Alike.{is_being_built, is_public, Alike, AreBlind}
+use Rattle.flat_core.proofs.Tests.{by_test, host_kind, tdr_kind}
+use Rattle.flat_core.proofs.AlikeParts.{tds_alike, op_alike, vps_alike, hidden_alike, mapped_alike}
+use Rattle.flat_core.proofs.Maps.{behind_walk}
+use Rattle.flat_core.proofs.Ranges.{living}
+
+-- two inputs that differ in private words alone
+pub record AreAlikeInputs (x y : Input) : Type 0 where
+  pub there : x.there ≡ y.there
+  pub fault : x.fault ≡ y.fault
+  pub header : x.header ≡ y.header
+  pub tag_right : x.tag_right ≡ y.tag_right
+  pub words : is_private_kind x.header.kind ≡ false → x.words ≡ y.words
+
+-- what is read of a bundle doesn't tell of private words
+blind_there : (b : Option Incoming) → (input_in (option_map blind_bundle b)).there ≡ (input_in b).there
+blind_there None = refl
+blind_there (Some b) = refl
+
+blind_fault : (b : Option Incoming) → (input_in (option_map blind_bundle b)).fault ≡ (input_in b).fault
+blind_fault None = refl
+blind_fault (Some b) = refl
+
+blind_header : (b : Option Incoming) → (input_in (option_map blind_bundle b)).header ≡ (input_in b).header
+blind_header None = refl
+blind_header (Some b) = refl
+
+blind_tag : (b : Option Incoming) → (input_in (option_map blind_bundle b)).tag_right ≡ (input_in b).tag_right
+blind_tag None = refl
+blind_tag (Some b) = refl
+
+public_words : (h : Result ClearHeader HeaderField) (ws : List ℕ) → is_private_kind (header_of_input h).kind ≡ false → word_given (blind_words h ws) ≡ word_given ws
+public_words (Ok h) ws e = rw e refl
+public_words (Err f) ws e = refl
+
+blind_given : (b : Option Incoming) → is_private_kind (input_in b).header.kind ≡ false → (input_in (option_map blind_bundle b)).words ≡ (input_in b).words
+blind_given None e = refl
+blind_given (Some b) e = public_words b.header b.payload e
+
+-- the bundles of a slot
+abbrev pub AlikeIn : (b c : Option Incoming) → Type 0
+AlikeIn b c = AreAlikeInputs (input_in b) (input_in c)
+
+pub inputs_agree : (o q : Opening) → Agree o q → (slot : ℕ) → AlikeIn (o.bundles slot) (q.bundles slot)
+inputs_agree o q a slot = by (o.bundles slot) (q.bundles slot) (a.bundles slot)
+  where
+    by : (b c : Option Incoming) → option_map blind_bundle b ≡ option_map blind_bundle c → AlikeIn b c
+    by b c e =
+        let header : (input_in b).header ≡ (input_in c).header = sym (blind_header b) ∙ (ap (λ (z : Option Incoming). (input_in z).header) e ∙ blind_header c) in
+        record {
+          there = sym (blind_there b) ∙ (ap (λ (z : Option Incoming). (input_in z).there) e ∙ blind_there c);
+          fault = sym (blind_fault b) ∙ (ap (λ (z : Option Incoming). (input_in z).fault) e ∙ blind_fault c);
+          header = header;
+          tag_right = sym (blind_tag b) ∙ (ap (λ (z : Option Incoming). (input_in z).tag_right) e ∙ blind_tag c);
+          words = λ public. sym (blind_given b public) ∙ (ap (λ (z : Option Incoming). (input_in z).words) e ∙ blind_given c (ap (λ (h : ClearHeader). is_private_kind h.kind) (sym header) ∙ public));
+        }
+
+-- a stream counts a bundle in both worlds
+counted_alike : (v w : World) (t k : ℕ) → Alike v w → Alike (count_bundle t k v) (count_bundle t k w)
+counted_alike v w t k a = record {
+  size = a.size;
+  pages = a.pages;
+  words = a.words;
+  tds = a.tds;
+  vps = a.vps;
+  streams =
+      ap (λ (x : Streams). record x { counters = put x.counters (stream_page v t k) (x.counters (stream_page v t k) + 1) }) a.streams
+      ∙ ap (λ (x : Tds). record (w.streams) { counters = put w.streams.counters (slice_index_or (x.streams t) k 0) (w.streams.counters (slice_index_or (x.streams t) k 0) + 1) }) a.tds;
+  key_table = a.key_table;
+  told = a.told;
+  bundles = a.bundles;
+}
+
+counted_on : (v w : World) (t : ℕ) (g h : ClearHeader) → g ≡ h → Alike v w → Alike (count_bundle t g.stream v) (count_bundle t h.stream w)
+counted_on v w t g h e a = subst (λ (z : ClearHeader). Alike (count_bundle t g.stream v) (count_bundle t z.stream w)) e (counted_alike v w t g.stream a)
+
+-- IMPORT.STATE.IMMUTABLE: MRTD is public
+abbrev begun_tds : Tds → ℕ → ClearHeader → (ℕ → ℕ) → Tds
+begun_tds x t h ws = record x {
+  ops = put x.ops t op.MemoryImport;
+  epochs = put x.epochs t 1;
+  vps_expected = put x.vps_expected t h.info;
+  mrtds = put x.mrtds t ws;
+  sessions = put x.sessions t h.session;
+  mig_epochs = put x.mig_epochs t 1;
+}
+
+public_first : (h : ClearHeader) → list_any (λ k. k == h.kind) (0 ∷ []) ≡ true → is_private_kind h.kind ≡ false
+public_first h k = ap is_private_kind (sym (eqb-true 0 h.kind (only (0 == h.kind) k)))
+  where
+    only : (b : Bool) → list_any (λ x. x) (b ∷ []) ≡ true → b ≡ true
+    only true e = refl
+    only false e = cc
+
+begun_alike : (v w : World) (t : ℕ) (x y : Input) → AreAlikeInputs x y → x.words ≡ y.words → Alike v w → Alike (begin_import t x v) (begin_import t y w)
+begun_alike v w t x y i ws a = record {
+  size = a.size;
+  pages = a.pages;
+  words = (op_alike v w a t op.MemoryImport (λ h. cc)).words;
+  tds = ap (λ (z : Tds). begun_tds z t x.header x.words) a.tds ∙ (ap (λ (h : ClearHeader). begun_tds w.tds t h x.words) i.header ∙ ap (λ (f : ℕ → ℕ). begun_tds w.tds t y.header f) ws);
+  vps = a.vps;
+  streams = a.streams;
+  key_table = ap (λ (k : KeyTable). record k { last_imported = x.header.session }) a.key_table ∙ ap (λ (h : ClearHeader). record (w.key_table) { last_imported = h.session }) i.header;
+  told = a.told;
+  bundles = a.bundles;
+}
+
+pub import_immutable-blind : (m : Machine) (b c : Option Incoming) (t slot : ℕ) → AlikeIn b c → AreBlind m (import_immutable m b t slot) (import_immutable m c t slot)
+import_immutable-blind m b c t slot i = record {
+  enters = refl;
+  items = λ v w a. rw (a.pages, a.tds, a.key_table, i.there, i.fault, i.header, i.tag_right) refl;
+  value = λ v w a. refl;
+  cached = λ v w ts a. refl;
+  act = λ v w lv lw a ps.
+      let x : Input = input_in b in
+      let y : Input = input_in c in
+      counted_alike (begin_import t x v) (begin_import t y w) t 0 (begun_alike v w t x y i (i.words (public_first x.header ps.1.1.1.0)) a);
+}
+
+-- IMPORT.MEM: the words of the page are private, since its TD isn't being built
+filling : (s : OpState) → list_any (λ a. op_number a == op_number s) filling_ops ≡ true → is_being_built s ≡ false
+filling op.MemoryImport h = refl
+filling op.StateImport h = refl
+filling _ h = cc
+
+private_filled : (v w : World) (p : ℕ) (f g : ℕ → ℕ) → is_public v.pages v.tds p ≡ false → Alike v w → Alike (set_page p f v) (set_page p g w)
+private_filled v w p f g private a = record {
+  size = a.size;
+  pages = a.pages;
+  words = λ q i known. by_test (q == p)
+      (λ y. (let here : q ≡ p = eqb-true q p y in let no : true ≡ false = sym known ∙ (ap (is_public v.pages v.tds) here ∙ private) in cc))
+      (λ n. rw n (a.words q i known));
+  tds = a.tds;
+  vps = a.vps;
+  streams = a.streams;
+  key_table = a.key_table;
+  told = a.told;
+  bundles = a.bundles;
+}
+
+module _ (m : Machine) (v w : World) (t gpa page : ℕ) (f g : ℕ → ℕ) (rest : List (Item Reply)) (lv : Lawful m v) (alive : IsAlive v.pages v.tds t) (built : is_being_built (v.tds.ops t) ≡ false) (a : Alike v w) where
+  abbrev number : ℕ
+  number = number_at 0 gpa
+
+  -- a page that an entry of the TD names
+  named_private : is_free (v.tds.entries t 0 number).state ≡ false → is_public v.pages v.tds (v.tds.entries t 0 number).page ≡ false
+  named_private used =
+      let node = (lv.tree.lowest t number alive used).1 in
+      rw (node.page.kind, node.page.owner) built
+
+  taken_private : let v1 = map_page page kind.Reg entry.Mapped t 0 number v in is_public v1.pages v1.tds page ≡ false
+  taken_private = by_test (page == page) (λ y. rw y built) (λ n. (let no : true ≡ false = sym (eq-eqb page page refl) ∙ n in cc))
+
+  mapped_used : (s : EntryState) → list_any (λ b. same_state b s) importable ≡ true → (s ≡ entry.Free → ⊥) → is_free s ≡ false
+  mapped_used entry.Mapped h other = refl
+  mapped_used entry.Free h other = absurd (other refl)
+  mapped_used _ h other = cc
+
+  filled_alike : (s : EntryState) → (v.tds.entries t 0 number).state ≡ s → list_any (λ b. same_state b s) importable ≡ true → Passes (page_to_fill v t gpa page s ++ rest)
+      → Alike (fill_page t gpa page f s v) (fill_page t gpa page g s w)
+  filled_alike entry.Free is h ps =
+      private_filled (map_page page kind.Reg entry.Mapped t 0 number v) (map_page page kind.Reg entry.Mapped t 0 number w) page f g taken_private
+      (mapped_alike v w page kind.Reg entry.Mapped t 0 number (host_kind _ ps.0) a)
+  filled_alike entry.Mapped is h ps =
+      let there : Alike (set_page (v.tds.entries t 0 number).page f v) (set_page (v.tds.entries t 0 number).page g w) =
+      private_filled v w (v.tds.entries t 0 number).page f g (named_private (ap is_free is)) a in
+      subst (λ (z : Tds). Alike (set_page (v.tds.entries t 0 number).page f v) (set_page (z.entries t 0 number).page g w)) a.tds there
+  filled_alike _ is h ps = cc
+
+-- the act in the first world, and in the second one with what header and entry are there
+abbrev BothFilled : (t page : ℕ) → (before : ClearHeader) → (v w : World) → (f g : ℕ → ℕ) → ClearHeader → EntryState → Type 0
+BothFilled t page k v w f g h s = Alike
+    (count_bundle t k.stream (begin_memory t (page_of_gpa k.gpa) f (fill_page t k.gpa page f (entry_at v t 0 k.gpa).state v)))
+    (count_bundle t h.stream (begin_memory t (page_of_gpa h.gpa) g (fill_page t h.gpa page g s w)))
+
+-- they are the same as in the first
+other_filled : (t page : ℕ) (k h : ClearHeader) (v w : World) (f g : ℕ → ℕ) → k ≡ h → Alike v w → BothFilled t page k v w f g k (entry_at v t 0 k.gpa).state → BothFilled t page k v w f g h (entry_at w t 0 h.gpa).state
+other_filled t page k h v w f g e a b =
+    subst (λ (z : ClearHeader). BothFilled t page k v w f g z (entry_at w t 0 z.gpa).state) e
+    (subst (λ (z : Tds). BothFilled t page k v w f g k (z.entries t 0 (number_at 0 k.gpa)).state) a.tds b)
+
+page_items : (m : Machine) (b c : Option Incoming) (t slot page : ℕ) → AlikeIn b c → (v w : World) → Alike v w → (import_page m b t slot page).items v ≡ (import_page m c t slot page).items w
+page_items m b c t slot page i v w a = rw (a.pages, a.tds, a.streams, i.there, i.fault, i.header, i.tag_right) refl
+
+pub import_page-blind : (m : Machine) (b c : Option Incoming) (t slot page : ℕ) → AlikeIn b c → AreBlind m (import_page m b t slot page) (import_page m c t slot page)
+import_page-blind m b c t slot page i = record {
+  enters = refl;
+  items = page_items m b c t slot page i;
+  value = λ v w a. refl;
+  cached = λ v w ts a. refl;
+  act = λ v w lv lw a ps.
+      let x : Input = input_in b in
+      let y : Input = input_in c in
+      let gpa : ℕ = x.header.gpa in
+      let s : EntryState = (entry_at v t 0 gpa).state in
+      let head = ps.1.1.1.1.1.1 in
+      let behind = behind_walk v t gpa 0 (state_in v t gpa 0 importable ∷ (page_to_fill v t gpa page s ++ tag_holds x ∷ [])) head.1.1.1.1.1.1.1.1 in
+      let alive : IsAlive v.pages v.tds t = record { kind = tdr_kind _ head.0; life = living (v.tds.lives t) head.1.0 } in
+      let v1 : World = fill_page t gpa page x.words s v in
+      let w1 : World = fill_page t gpa page y.words s w in
+      let a1 : Alike v1 w1 = filled_alike m v w t gpa page x.words y.words (tag_holds x ∷ []) lv alive (filling (v.tds.ops t) head.1.1.1.0) a s refl behind.0 behind.1 in
+      let v2 : World = begin_memory t (page_of_gpa gpa) x.words v1 in
+      let w2 : World = begin_memory t (page_of_gpa gpa) y.words w1 in
+      let a2 : Alike v2 w2 = hidden_alike v1 w1 a1 v2.hidden w2.hidden in
+      other_filled t page x.header y.header v w x.words y.words i.header a (counted_alike v2 w2 t x.header.stream a2);
+}
+
+-- IMPORT.TRACK
+token_items : (m : Machine) (b c : Option Incoming) (t slot : ℕ) → AlikeIn b c → (v w : World) → Alike v w → (import_token m b t slot).items v ≡ (import_token m c t slot).items w
+token_items m b c t slot i v w a = rw (a.pages, a.tds, a.streams, i.there, i.fault, i.header, i.tag_right) refl
+
+passed_op : (b : Bool) (s : OpState) → is_being_built (op_then b s) ≡ true → is_being_built s ≡ true
+passed_op true s h = cc
+passed_op false s h = h
+
+pub import_token-blind : (m : Machine) (b c : Option Incoming) (t slot : ℕ) → AlikeIn b c → AreBlind m (import_token m b t slot) (import_token m c t slot)
+import_token-blind m b c t slot i = record {
+  enters = refl;
+  items = token_items m b c t slot i;
+  value = λ v w a. refl;
+  cached = λ v w ts a. refl;
+  act = λ v w lv lw a ps.
+      let x : Input = input_in b in
+      let y : Input = input_in c in
+      let last : Bool = is_start x.header in
+      let s : OpState = op_then last (v.tds.ops t) in
+      let v1 : World = set_mig_epoch t x.header.epoch v in
+      let w1 : World = set_mig_epoch t x.header.epoch w in
+      let a1 : Alike v1 w1 = tds_alike v w a (λ z. record z { mig_epochs = put z.mig_epochs t x.header.epoch }) (λ z. refl) in
+      let a2 : Alike (set_op t s v1) (set_op t s w1) = op_alike v1 w1 a1 t s (passed_op last (v.tds.ops t)) in
+      let a3 : Alike (count_bundle t 0 (set_op t s v1)) (count_bundle t 0 (set_op t s w1)) = counted_alike (set_op t s v1) (set_op t s w1) t 0 a2 in
+      subst (λ (z : ClearHeader). Alike (count_bundle t 0 (set_op t s v1)) (count_bundle t 0 (set_op t (op_then (is_start z) (w.tds.ops t)) (set_mig_epoch t z.epoch w)))) i.header
+      (subst (λ (z : Tds). Alike (count_bundle t 0 (set_op t s v1)) (count_bundle t 0 (set_op t (op_then last (z.ops t)) w1))) a.tds a3);
+}
+
+-- IMPORT.STATE.TD and IMPORT.STATE.VP
+pub import_td-blind : (m : Machine) (b c : Option Incoming) (t slot : ℕ) → AlikeIn b c → AreBlind m (import_td m b t slot) (import_td m c t slot)
+import_td-blind m b c t slot i = record {
+  enters = refl;
+  items = λ v w a. rw (a.pages, a.tds, a.streams, i.there, i.fault, i.header, i.tag_right) refl;
+  value = λ v w a. refl;
+  cached = λ v w ts a. refl;
+  act = λ v w lv lw a ps.
+      let x : Input = input_in b in
+      let y : Input = input_in c in
+      let v1 : World = give_rtmrs t x.words v in
+      let w1 : World = give_rtmrs t y.words w in
+      let a1 : Alike v1 w1 = hidden_alike v w a v1.hidden w1.hidden in
+      counted_alike (set_op t op.StateImport v1) (set_op t op.StateImport w1) t 0 (op_alike v1 w1 a1 t op.StateImport (λ h. cc));
+}
+
+-- a virtual processor that is READY, at a position
+abbrev with_state : Vps → (v position : ℕ) → Vps
+with_state x v position = record x { states = put x.states v vcpu.Ready; positions = put x.positions v position }
+
+pub import_vp-blind : (m : Machine) (b c : Option Incoming) (t vp slot : ℕ) → AlikeIn b c → AreBlind m (import_vp m b t vp slot) (import_vp m c t vp slot)
+import_vp-blind m b c t vp slot i = record {
+  enters = refl;
+  items = λ v w a. rw (a.pages, a.tds, a.vps, a.streams, i.there, i.fault, i.header, i.tag_right) refl;
+  value = λ v w a. refl;
+  cached = λ v w ts a. refl;
+  act = λ v w lv lw a ps.
+      let x : Input = input_in b in
+      let y : Input = input_in c in
+      let v1 : World = record v { vps = with_state v.vps vp x.header.info } in
+      let w1 : World = record w { vps = with_state w.vps vp y.header.info } in
+      let a1 : Alike v1 w1 = vps_alike v w a _ _ (ap (λ (z : Vps). with_state z vp x.header.info) a.vps ∙ ap (λ (h : ClearHeader). with_state w.vps vp h.info) i.header) in
+      let v2 : World = give_vp_state vp x.header.info x.words v in
+      let w2 : World = give_vp_state vp y.header.info y.words w in
+      counted_alike v2 w2 t 0 (hidden_alike v1 w1 a1 v2.hidden w2.hidden);
+}
+
+-- IMPORT.COMMIT, IMPORT.END, and EXPORT.ABORT by a token
+pub commit_import-blind : (m : Machine) (t : ℕ) → AreBlind m (commit_import m t) (commit_import m t)
+commit_import-blind m t = record {
+  enters = refl;
+  items = λ v w a. rw (a.pages, a.tds) refl;
+  value = λ v w a. refl;
+  cached = λ v w ts a. refl;
+  act = λ v w lv lw a ps.
+      let v1 : World = note_commit t v in
+      let w1 : World = note_commit t w in
+      op_alike v1 w1 (hidden_alike v w a v1.hidden w1.hidden) t op.LiveImport (λ h. cc);
+}
+
+pub end_import-blind : (m : Machine) (t : ℕ) → AreBlind m (end_import m t) (end_import m t)
+end_import-blind m t = record {
+  enters = refl;
+  items = λ v w a. rw (a.pages, a.tds) refl;
+  value = λ v w a. refl;
+  cached = λ v w ts a. refl;
+  act = λ v w lv lw a ps. op_alike v w a t op.Runnable (λ h. cc);
+}
+
+pub abort_by_token-blind : (m : Machine) (b c : Option Incoming) (t slot : ℕ) → AlikeIn b c → AreBlind m (abort_by_token m b t slot) (abort_by_token m c t slot)
+abort_by_token-blind m b c t slot i = record {
+  enters = refl;
+  items = λ v w a. rw (a.pages, a.tds, i.there, i.fault, i.header, i.tag_right) refl;
+  value = λ v w a. refl;
+  cached = λ v w ts a. refl;
+  act = λ v w lv lw a ps.
+      let x : Input = input_in b in
+      let y : Input = input_in c in
+      op_alike v w a t op.Runnable (λ h. cc);
+}
+
+-- IMPORT.ABORT: the token has no payload, and its header is public
+abbrev token_made : (slot : ℕ) → Tds → ℕ → Made
+token_made slot x t = record { slot = slot; header = record { size = 64; version = 1; stream = 0; kind = 6; reserved = 0; counter = 0; epoch = 0; iv = 0; session = x.sessions t; index = 0; info = 0; gpa = 0; total = 0 }; payload = [] }
+
+aborted_alike : (v w : World) (t slot : ℕ) → Alike v w → Alike ((abort_import (record { lps = 0; pages = 0; hkids = 0 }) t slot).act v) ((abort_import (record { lps = 0; pages = 0; hkids = 0 }) t slot).act w)
+aborted_alike v w t slot a =
+    let b = op_alike v w a t op.FailedImport (λ h. cc) in
+    record {
+      size = b.size;
+      pages = b.pages;
+      words = b.words;
+      tds = b.tds;
+      vps = b.vps;
+      streams = b.streams;
+      key_table = b.key_table;
+      told = b.told;
+      bundles =
+          map-append public_bundle v.outgoing.bundles (token_made slot v.tds t ∷ [])
+          ∙ (ap (λ (bs : List Made). bs ++ public_bundle (token_made slot v.tds t) ∷ []) a.bundles
+          ∙ (ap (λ (z : Tds). map public_bundle w.outgoing.bundles ++ public_bundle (token_made slot z t) ∷ []) a.tds
+          ∙ sym (map-append public_bundle w.outgoing.bundles (token_made slot w.tds t ∷ []))));
+    }
+
+pub abort_import-blind : (m : Machine) (t slot : ℕ) → AreBlind m (abort_import m t slot) (abort_import m t slot)
+abort_import-blind m t slot = record {
+  enters = refl;
+  items = λ v w a. rw (a.pages, a.tds) refl;
+  value = λ v w a. refl;
+  cached = λ v w ts a. refl;
+  act = λ v w lv lw a ps. aborted_alike v w t slot a;
+}
