@@ -1,6 +1,8 @@
--- A call holds the first of the locks that its row tries, in every state that a run reaches. Which page an entry of a TD names
--- stays the same for whoever holds P of the TDR page and T, in either mode: a call that changes it has one of them alone.
-use Rattle.std.proofs.Common.{◌≡◌, ◌⊎◌, inl, inr, ◌≢◌, refl, sym, ◌∙◌, subst, ap, ℕ, zero, suc, ◌+◌, ◌<◌, List, [], ◌∷◌, ◌++◌, length, drop, Option, Some, None, option_map, Bool, true, false, ◌==◌, ◌&&◌, arith}
+-- A call holds the first of the locks that its row tries, in every state that a run reaches. Which page an entry of a TD names,
+-- and which pages its streams have, stays the same for whoever holds P of the TDR page, O and T, in either mode: a call that
+-- changes it has one of them alone.
+use Rattle.std.proofs.Common.{◌≡◌, ◌⊎◌, inl, inr, ◌≢◌, refl, sym, ◌∙◌, subst, ap, ℕ, zero, suc, ◌+◌, ◌<◌, List, [], ◌∷◌, ◌++◌, length, drop, Option, Some, None, option_map, Bool, true, false, ◌==◌, ◌&&◌, ◌||◌, arith}
+use Rattle.std.specs.Prelude.{slice_index_or}
 use Rattle.std.proofs.lemmas.Bool.{eq-eqb, eqb-true, eqb-false, ne_eqb, and_parts}
 use Rattle.td_words.specs.declared.names.EntryState.{EntryState}
 use Rattle.td_words.specs.declared.names.EntryState.TheVariants as entry
@@ -14,16 +16,17 @@ use Rattle.td_words.specs.declared.names.Access.TheVariants.{Read, Write}
 use Rattle.td_words.specs.declared.replies.Outcome.{Outcome}
 use Rattle.td_words.specs.declared.replies.Reply.{Reply}
 use Rattle.td_words.specs.Packing.{Entry}
-use Rattle.flat_core.specs.World.{World, put}
-use Rattle.flat_core.specs.Processor.{LockId, OfPage, OfTree, OfEpoch, Held, Phase, Trying, Undoing, Answered, Guest, Entering, Lp, idle}
+use Rattle.flat_core.specs.World.{World, Tds, put}
+use Rattle.flat_core.specs.Processor.{LockId, OfPage, OfOp, OfTree, OfEpoch, Held, Phase, Trying, Undoing, Answered, Guest, Entering, Lp, idle}
 use Rattle.flat_core.specs.Locks.{same_lock, is_alone}
 use Rattle.flat_core.specs.Opening.{Opening, Incoming}
-use Rattle.flat_core.specs.Row.{Item, Row, OperationRow, Move, Attempts, Undoes, Refuses, Succeeds, Releases, Rests, next, next_in, but_newest}
+use Rattle.flat_core.specs.Row.{Item, Row, OperationRow, Move, Attempts, Undoes, Refuses, Succeeds, Releases, Rests, next, next_in, but_newest, Passes}
 use Rattle.flat_core.specs.Table.{row_of}
 use Rattle.flat_core.specs.Effects.{put_in, restate}
 use Rattle.flat_core.specs.ExportRows.{write_blocked}
 use Rattle.flat_core.specs.Lawful.{is_free}
 use Rattle.flat_core.specs.Tree.{entry_at, number_at}
+use Rattle.flat_core.specs.Sessions.{stream_page}
 use Rattle.flat_core.specs.Tries.{shared, alone, td_tries, named_tries, opened_tries, tries_of}
 use Rattle.flat_core.specs.Guest.{ByRow, operation_of, is_pending_at, reach, walk_step, answered}
 use Rattle.flat_core.specs.Inside.{held_then}
@@ -38,117 +41,130 @@ use Rattle.flat_core.proofs.Due.{Due, calls, frees, leaves, stops, fills, operat
 use Rattle.flat_core.proofs.Ends.{next_is, below_calls}
 use Rattle.flat_core.proofs.Always.{settled-lp}
 use Rattle.flat_core.proofs.Tries.{rows_try_lists}
-use Rattle.word_rules.specs.Guards.{Locked}
-use Rattle.lock_words.specs.Grips.{holds, holds_alone, operation_locks, locks_of}
+use Rattle.flat_core.proofs.Ranges.{export_passed, can_export}
+use Rattle.word_rules.specs.Guards.{Locked, Apart}
+use Rattle.lock_words.specs.Grips.{holds, holds_alone, operation_locks, locks_of, grip_of}
 use Rattle.lock_words.proofs.Apart.{grips-apart}
 use Rattle.act_rules.specs.CallLocks.{HoldsFirstOf, LineHolds, PhaseHolds, CallsHoldTheirs, CallsHoldApart, CallLocksAreKept}
-use Rattle.act_rules.proofs.Tried.{drop-then, next-locks, held-before, alone-before, all-turned, all-had}
+use Rattle.act_rules.proofs.Tried.{drop-then, next-locks, held-before, alone-before, all-turned, all-had, all-pass}
 
 abbrev Holds : Opening → ℕ → World → Lp → Type 0
 Holds o p w lp = PhaseHolds w (lines_left o p lp) lp.guest lp.call.phase lp.call.held
 
--- The page that a call tries because an entry names it
+-- The pages that a call tries because an entry names one, and a stream has one
 
--- the newest of a list is another
-abbrev new-last : Held → List Held → List Held
-new-last y [] = []
-new-last y (x ∷ []) = y ∷ []
-new-last y (x ∷ z ∷ xs) = x ∷ new-last y (z ∷ xs)
+-- a list behind others, turned
+then-behind : (hs xs more : List Held) → held_then hs xs ++ more ≡ held_then hs (xs ++ more)
+then-behind [] xs more = refl
+then-behind (h ∷ hs) xs more = then-behind hs (h ∷ xs) more
 
-new-last-is : (y x : Held) (front : List Held) → new-last y (front ++ x ∷ []) ≡ front ++ y ∷ []
-new-last-is y x [] = refl
-new-last-is y x (a ∷ []) = refl
-new-last-is y x (a ∷ b ∷ front) = ap (λ (hs : List Held). a ∷ hs) (new-last-is y x (b ∷ front))
+first-same : (x y : Held) (xs ys : List Held) → x ∷ xs ≡ y ∷ ys → x ≡ y
+first-same x y xs ys e = cc
 
-new-last-then : (y : Held) (hs : List Held) (r : Held) (rs : List Held) → new-last y (held_then hs (r ∷ rs)) ≡ held_then hs (new-last y (r ∷ rs))
-new-last-then y [] r rs = refl
-new-last-then y (h ∷ hs) r rs = new-last-then y hs h (r ∷ rs)
+rest-same : (x y : Held) (xs ys : List Held) → x ∷ xs ≡ y ∷ ys → xs ≡ ys
+rest-same x y xs ys e = cc
 
--- it is the last that the call tries, with P of the TDR page and T before it
+then-same : (hs xs ys : List Held) → held_then hs xs ≡ held_then hs ys → xs ≡ ys
+then-same [] xs ys e = e
+then-same (h ∷ hs) xs ys e = rest-same h h xs ys (then-same hs (h ∷ xs) (h ∷ ys) e)
+
+-- a lock that the first of a list has is held, where what is held reaches past them; or it ends among them
+split-at : (front more : List Held) (hs rest : List Held) → front ++ more ≡ held_then hs rest → ((left : List Held) × (front ≡ held_then hs left)) ⊎ ((l : LockId) → holds front l ≡ true → holds hs l ≡ true)
+split-at front more [] rest e = inl (front, refl)
+split-at front more (h ∷ hs) rest e = elim (split-at front more hs (h ∷ rest) e) [
+  | inl x ↦ ends x.0 x.1
+  | inr has ↦ inr (λ l k. later (same_lock h.lock l) (holds hs l) (has l k))
+]
+  where
+    later : (a b : Bool) → b ≡ true → (a || b) ≡ true
+    later true b k = refl
+    later false b k = k
+
+    ends : (left : List Held) → front ≡ held_then hs left → ((left : List Held) × (front ≡ held_then (h ∷ hs) left)) ⊎ ((l : LockId) → holds front l ≡ true → holds (h ∷ hs) l ≡ true)
+    ends [] is = inr (λ l k. later (same_lock h.lock l) (holds hs l) (all-turned (λ x. same_lock x.lock l) hs (subst (λ (xs : List Held). holds xs l ≡ true) is k)))
+    ends (r ∷ rs) is =
+        let both : held_then hs (r ∷ rs ++ more) ≡ held_then hs (h ∷ rest) = sym (then-behind hs (r ∷ rs) more) ∙ (ap (λ (xs : List Held). xs ++ more) (sym is) ∙ e) in
+        inl (rs, is ∙ ap (λ (x : Held). held_then hs (x ∷ rs)) (first-same r h (rs ++ more) rest (then-same hs (r ∷ rs ++ more) (h ∷ rest) both)))
+
+-- entries of a TD name the same pages, and its streams have the same
+record NamesSame (before after : World) (t : ℕ) : Type 0 where
+  entry : (l n : ℕ) → (after.tds.entries t l n).page ≡ (before.tds.entries t l n).page
+  streams : after.tds.streams t ≡ before.tds.streams t
+
+same-names : (w v : World) (t : ℕ) → v.tds ≡ w.tds → NamesSame w v t
+same-names w v t e = record { entry = λ l n. ap (λ (x : Tds). (x.entries t l n).page) e; streams = ap (λ (x : Tds). x.streams t) e }
+
+-- what is named comes last, with P of the TDR page, O and T before it
 record NamesLast (c : Call) : Type 0 where
   tdr : ℕ
-  level : ℕ
-  gpa : ℕ
   front : List Held
-  mode : Mode
-  are : (w : World) → tries_of c w ≡ front ++ record { lock = OfPage (entry_at w tdr level gpa).page; mode = mode } ∷ []
+  named : World → List Held
+  are : (w : World) → tries_of c w ≡ front ++ named w
+  stay : (v w : World) → NamesSame w v tdr → named v ≡ named w
   page : holds front (OfPage tdr) ≡ true
+  op : holds front (OfOp tdr) ≡ true
   tree : holds front (OfTree tdr) ≡ true
 
-named : (c : Call) (t gpa level : ℕ) → ((w : World) → tries_of c w ≡ named_tries w t gpa level) → NamesLast c
-named c t gpa level are = record {
+-- one page, which an entry names
+by-entry : (c : Call) (t gpa level : ℕ) (front : List Held) (mode : Mode)
+    → ((w : World) → tries_of c w ≡ front ++ record { lock = OfPage (entry_at w t level gpa).page; mode = mode } ∷ [])
+    → holds front (OfPage t) ≡ true → holds front (OfOp t) ≡ true → holds front (OfTree t) ≡ true → NamesLast c
+by-entry c t gpa level front mode are page op tree = record {
   tdr = t;
-  level = level;
-  gpa = gpa;
-  front = td_tries t Shared ++ alone (OfTree t) ∷ shared (OfEpoch t) ∷ [];
-  mode = Exclusive;
+  front = front;
+  named = λ w. record { lock = OfPage (entry_at w t level gpa).page; mode = mode } ∷ [];
   are = are;
-  page = rw (eq-eqb t t refl) refl;
-  tree = rw (eq-eqb t t refl) refl;
+  stay = λ v w same. ap (λ (p : ℕ). record { lock = OfPage p; mode = mode } ∷ []) (same.entry level (number_at level gpa));
+  page = page;
+  op = op;
+  tree = tree;
 }
+
+named : (c : Call) (t gpa level : ℕ) → ((w : World) → tries_of c w ≡ named_tries w t gpa level) → NamesLast c
+named c t gpa level are =
+    by-entry c t gpa level (td_tries t Shared ++ alone (OfTree t) ∷ shared (OfEpoch t) ∷ []) Exclusive are (rw (eq-eqb t t refl) refl) (rw (eq-eqb t t refl) refl) (rw (eq-eqb t t refl) refl)
 
 opened : (c : Call) (t gpa : ℕ) → ((w : World) → tries_of c w ≡ opened_tries w t gpa) → NamesLast c
-opened c t gpa are = record {
-  tdr = t;
-  level = 0;
-  gpa = gpa;
-  front = td_tries t Shared ++ alone (OfTree t) ∷ [];
-  mode = Exclusive;
-  are = are;
-  page = rw (eq-eqb t t refl) refl;
-  tree = rw (eq-eqb t t refl) refl;
-}
+opened c t gpa are =
+    by-entry c t gpa 0 (td_tries t Shared ++ alone (OfTree t) ∷ []) Exclusive are (rw (eq-eqb t t refl) refl) (rw (eq-eqb t t refl) refl) (rw (eq-eqb t t refl) refl)
 
 names-last : (c : Call) → ((v w : World) → tries_of c v ≡ tries_of c w) ⊎ NamesLast c
-names-last (call.MrExtend t gpa) = inr (record {
-  tdr = t;
-  level = 0;
-  gpa = gpa;
-  front = td_tries t Exclusive ++ shared (OfTree t) ∷ [];
-  mode = Shared;
-  are = λ w. refl;
-  page = rw (eq-eqb t t refl) refl;
-  tree = rw (eq-eqb t t refl) refl;
-})
+names-last (call.MrExtend t gpa) =
+    inr (by-entry (call.MrExtend t gpa) t gpa 0 (td_tries t Exclusive ++ shared (OfTree t) ∷ []) Shared (λ w. refl) (rw (eq-eqb t t refl) refl) (rw (eq-eqb t t refl) refl) (rw (eq-eqb t t refl) refl))
 names-last (call.MemSeptRemove t gpa level) = inr (named (call.MemSeptRemove t gpa level) t gpa level (λ w. refl))
 names-last (call.MemPageRemove t gpa) = inr (named (call.MemPageRemove t gpa) t gpa 0 (λ w. refl))
 names-last (call.MemRangeBlock t gpa level) = inr (named (call.MemRangeBlock t gpa level) t gpa level (λ w. refl))
 names-last (call.MemRangeUnblock t gpa level) = inr (named (call.MemRangeUnblock t gpa level) t gpa level (λ w. refl))
-names-last (call.ExportBlockw t gpa) = inr (record {
-  tdr = t;
-  level = 0;
-  gpa = gpa;
-  front = td_tries t Shared ++ shared (OfTree t) ∷ shared (OfEpoch t) ∷ [];
-  mode = Exclusive;
-  are = λ w. refl;
-  page = rw (eq-eqb t t refl) refl;
-  tree = rw (eq-eqb t t refl) refl;
-})
+names-last (call.ExportBlockw t gpa) =
+    inr (by-entry (call.ExportBlockw t gpa) t gpa 0 (td_tries t Shared ++ shared (OfTree t) ∷ shared (OfEpoch t) ∷ []) Exclusive (λ w. refl)
+    (rw (eq-eqb t t refl) refl) (rw (eq-eqb t t refl) refl) (rw (eq-eqb t t refl) refl))
 names-last (call.ExportUnblockw t gpa) = inr (opened (call.ExportUnblockw t gpa) t gpa (λ w. refl))
 names-last (call.ExportRestore t gpa) = inr (opened (call.ExportRestore t gpa) t gpa (λ w. refl))
+names-last (call.ExportMem t gpa k slot) = inr (record {
+  tdr = t;
+  front = td_tries t Shared ++ shared (OfTree t) ∷ shared (OfEpoch t) ∷ [];
+  named = λ w. alone (OfPage (entry_at w t 0 gpa).page) ∷ alone (OfPage (stream_page w t k)) ∷ [];
+  are = λ w. refl;
+  stay = λ v w same. ap (λ (p : ℕ). alone (OfPage p) ∷ alone (OfPage (stream_page v t k)) ∷ []) (same.entry 0 (number_at 0 gpa))
+      ∙ ap (λ (ps : List ℕ). alone (OfPage (entry_at w t 0 gpa).page) ∷ alone (OfPage (slice_index_or ps k 0)) ∷ []) same.streams;
+  page = rw (eq-eqb t t refl) refl;
+  op = rw (eq-eqb t t refl) refl;
+  tree = rw (eq-eqb t t refl) refl;
+})
 names-last (call.HostRead page word) = inl (λ v w. refl)
 names-last _ = inl (λ v w. refl)
 
--- entries of a TD name the same pages
-abbrev pub NamesSame : (before after : World) → ℕ → Type 0
-NamesSame w v t = (l n : ℕ) → (v.tds.entries t l n).page ≡ (w.tds.entries t l n).page
-
 -- so what is held is the first of the list in another world too
-first-stays : (c : Call) (hs : List Held) (v w : World) → HoldsFirstOf w c hs → ((t : ℕ) → holds hs (OfPage t) ≡ true → holds hs (OfTree t) ≡ true → NamesSame w v t) → HoldsFirstOf v c hs
-first-stays c hs v w f pages = elim (names-last c) [ inl same ↦ (f.0, same v w ∙ f.1) | inr x ↦ by x f.0 f.1 ]
+first-stays : (c : Call) (hs : List Held) (v w : World) → HoldsFirstOf w c hs
+    → ((t : ℕ) → holds hs (OfPage t) ≡ true → holds hs (OfOp t) ≡ true → holds hs (OfTree t) ≡ true → NamesSame w v t) → HoldsFirstOf v c hs
+first-stays c hs v w f names = elim (names-last c) [ inl same ↦ (f.0, same v w ∙ f.1) | inr x ↦ by x ]
   where
-    by : NamesLast c → (rest : List Held) → tries_of c w ≡ held_then hs rest → HoldsFirstOf v c hs
-    by x [] e =
-        let was : Held = record { lock = OfPage (entry_at w x.tdr x.level x.gpa).page; mode = x.mode } in
-        let all : x.front ++ was ∷ [] ≡ held_then hs [] = sym (x.are w) ∙ e in
-        let has : (l : LockId) → holds x.front l ≡ true → holds hs l ≡ true =
-        λ l k. all-turned (λ h. same_lock h.lock l) hs (subst (λ (xs : List Held). holds xs l ≡ true) all (held-before x.front (was ∷ []) l k)) in
-        let same = pages x.tdr (has (OfPage x.tdr) x.page) (has (OfTree x.tdr) x.tree) x.level (number_at x.level x.gpa) in
-        ([], x.are v ∙ (ap (λ (p : ℕ). x.front ++ record { lock = OfPage p; mode = x.mode } ∷ []) same ∙ all))
-    by x (r ∷ rs) e =
-        let was : Held = record { lock = OfPage (entry_at w x.tdr x.level x.gpa).page; mode = x.mode } in
-        let now : Held = record { lock = OfPage (entry_at v x.tdr x.level x.gpa).page; mode = x.mode } in
-        (new-last now (r ∷ rs), x.are v ∙ (sym (new-last-is now was x.front) ∙ (ap (new-last now) (sym (x.are w) ∙ e) ∙ new-last-then now hs r rs)))
+    by : NamesLast c → HoldsFirstOf v c hs
+    by x = elim (split-at x.front (x.named w) hs f.0 (sym (x.are w) ∙ f.1)) [
+      | inl among ↦ (among.0 ++ x.named v, x.are v ∙ (ap (λ (xs : List Held). xs ++ x.named v) among.1 ∙ then-behind hs among.0 (x.named v)))
+      | inr has ↦ (let same = names x.tdr (has (OfPage x.tdr) x.page) (has (OfOp x.tdr) x.op) (has (OfTree x.tdr) x.tree) in
+          (f.0, x.are v ∙ (ap (λ (xs : List Held). x.front ++ xs) (x.stay v w same) ∙ (sym (x.are w) ∙ f.1))))
+    ]
 
 -- What changes of entries
 
@@ -180,24 +196,36 @@ write-blocked-free entry.Mapped = refl
 write-blocked-free entry.ExportedDirty = refl
 write-blocked-free _ = refl
 
--- a call that tries neither T of a TD nor P of its TDR page alone leaves the pages that its entries name
-row-entries : (o : Opening) (me : ℕ) (c : Call) (w : World) (t : ℕ) → (holds_alone (tries_of c w) (OfTree t) ≡ true → ⊥) → (holds_alone (tries_of c w) (OfPage t) ≡ true → ⊥)
+-- a call that passes, and tries neither T of a TD nor P of its TDR page alone, leaves the pages that its entries name
+row-entries : (o : Opening) (me : ℕ) (c : Call) (w : World) (t : ℕ) → Passes ((row_of o me c).items w) → (holds_alone (tries_of c w) (OfTree t) ≡ true → ⊥) → (holds_alone (tries_of c w) (OfPage t) ≡ true → ⊥)
     → EntriesStay w ((row_of o me c).act w) t
-row-entries o me (call.MngCreate u h) w t tree page = let n = off t u (λ y. page (rw y refl)) in λ l k. rw n (as-it-is _)
-row-entries o me (call.MemSeptAdd u gpa level p) w t tree page = let n = off t u (λ y. tree (rw y refl)) in λ l k. rw n (as-it-is _)
-row-entries o me (call.MemSeptRemove u gpa level) w t tree page = let n = off t u (λ y. tree (rw y refl)) in λ l k. rw n (as-it-is _)
-row-entries o me (call.MemPageAdd u gpa p source) w t tree page = let n = off t u (λ y. tree (rw y refl)) in λ l k. rw n (as-it-is _)
-row-entries o me (call.MemPageAug u gpa p) w t tree page = let n = off t u (λ y. tree (rw y refl)) in λ l k. rw n (as-it-is _)
-row-entries o me (call.MemPageRemove u gpa) w t tree page = let n = off t u (λ y. tree (rw y refl)) in λ l k. rw n (as-it-is _)
-row-entries o me (call.MemRangeBlock u gpa level) w t tree page = let n = off t u (λ y. tree (rw y refl)) in λ l k. rw n (as-it-is _)
-row-entries o me (call.MemRangeUnblock u gpa level) w t tree page = let n = off t u (λ y. tree (rw y refl)) in λ l k. rw n (as-it-is _)
-row-entries o me (call.ExportBlockw u gpa) w t tree page = restated w u (number_at 0 gpa) (entry_at w u 0 gpa).mark (write_blocked (entry_at w u 0 gpa).state) (write-blocked-free (entry_at w u 0 gpa).state) t
-row-entries o me (call.ExportUnblockw u gpa) w t tree page = let n = off t u (λ y. tree (rw y refl)) in λ l k. rw n (as-it-is _)
-row-entries o me (call.ExportRestore u gpa) w t tree page = let n = off t u (λ y. tree (rw y refl)) in λ l k. rw n (as-it-is _)
-row-entries o me (call.ExportTrack u slot zero) w t tree page = λ l k. as-it-is _
-row-entries o me (call.ExportTrack u slot (suc n)) w t tree page = λ l k. as-it-is _
-row-entries o me (call.HostRead p i) w t tree page = λ l k. as-it-is _
-row-entries o me _ w t tree page = λ l k. as-it-is _
+row-entries o me (call.MngCreate u h) w t ps tree page = let n = off t u (λ y. page (rw y refl)) in λ l k. rw n (as-it-is _)
+row-entries o me (call.MemSeptAdd u gpa level p) w t ps tree page = let n = off t u (λ y. tree (rw y refl)) in λ l k. rw n (as-it-is _)
+row-entries o me (call.MemSeptRemove u gpa level) w t ps tree page = let n = off t u (λ y. tree (rw y refl)) in λ l k. rw n (as-it-is _)
+row-entries o me (call.MemPageAdd u gpa p source) w t ps tree page = let n = off t u (λ y. tree (rw y refl)) in λ l k. rw n (as-it-is _)
+row-entries o me (call.MemPageAug u gpa p) w t ps tree page = let n = off t u (λ y. tree (rw y refl)) in λ l k. rw n (as-it-is _)
+row-entries o me (call.MemPageRemove u gpa) w t ps tree page = let n = off t u (λ y. tree (rw y refl)) in λ l k. rw n (as-it-is _)
+row-entries o me (call.MemRangeBlock u gpa level) w t ps tree page = let n = off t u (λ y. tree (rw y refl)) in λ l k. rw n (as-it-is _)
+row-entries o me (call.MemRangeUnblock u gpa level) w t ps tree page = let n = off t u (λ y. tree (rw y refl)) in λ l k. rw n (as-it-is _)
+row-entries o me (call.ExportBlockw u gpa) w t ps tree page = restated w u (number_at 0 gpa) (entry_at w u 0 gpa).mark (write_blocked (entry_at w u 0 gpa).state) (write-blocked-free (entry_at w u 0 gpa).state) t
+row-entries o me (call.ExportMem u gpa k slot) w t ps tree page =
+    restated w u (number_at 0 gpa) (w.tds.mig_epochs u) entry.ExportedBlockedW (sym (can_export (w.tds.ops u) (entry_at w u 0 gpa).state (export_passed o.machine w u gpa k slot ps).state).used) t
+row-entries o me (call.ExportUnblockw u gpa) w t ps tree page = let n = off t u (λ y. tree (rw y refl)) in λ l k. rw n (as-it-is _)
+row-entries o me (call.ExportRestore u gpa) w t ps tree page = let n = off t u (λ y. tree (rw y refl)) in λ l k. rw n (as-it-is _)
+row-entries o me (call.ExportTrack u slot zero) w t ps tree page = λ l k. as-it-is _
+row-entries o me (call.ExportTrack u slot (suc n)) w t ps tree page = λ l k. as-it-is _
+row-entries o me (call.HostRead p i) w t ps tree page = λ l k. as-it-is _
+row-entries o me _ w t ps tree page = λ l k. as-it-is _
+
+-- and one that tries neither O nor P of the TDR page alone leaves the pages of its streams
+row-streams : (o : Opening) (me : ℕ) (c : Call) (w : World) (t : ℕ) → (holds_alone (tries_of c w) (OfOp t) ≡ true → ⊥) → (holds_alone (tries_of c w) (OfPage t) ≡ true → ⊥)
+    → ((row_of o me c).act w).tds.streams t ≡ w.tds.streams t
+row-streams o me (call.MngCreate u h) w t op page = let n = off t u (λ y. page (rw y refl)) in rw n refl
+row-streams o me (call.MigStreamCreate u p) w t op page = let n = off t u (λ y. op (rw y refl)) in rw n refl
+row-streams o me (call.ExportTrack u slot zero) w t op page = refl
+row-streams o me (call.ExportTrack u slot (suc n)) w t op page = refl
+row-streams o me (call.HostRead p i) w t op page = refl
+row-streams o me _ w t op page = refl
 
 -- an entry that gets another state names its page
 same-page : (w : World) (u level number : ℕ) (x : Entry) (t l n : ℕ) → x.page ≡ (w.tds.entries u level number).page
@@ -211,34 +239,37 @@ same-page w u level number x t l n same = by_test (t == u)
     (λ z. rw (y, z) (ap (λ (q : ℕ). (w.tds.entries q l n).page) (sym (eqb-true t u y)))))
     (λ y. rw y refl)
 
--- whatever a guest does, entries name the same pages
+-- whatever a guest does, entries name the same pages, and streams have the same
 module _ (o : Opening) (w : World) (t : ℕ) where
   operation-names : (u v line : ℕ) (op : GuestOp) (row : OperationRow) → operation_of o u v line op ≡ ByRow row → NamesSame w (operation_world row Succeeds w) t
   operation-names u v line op row is =
       operation_row o u v line (λ x. NamesSame w (operation_world x Succeeds w) t)
-      (λ r x l n. refl) (λ r s l n. refl) (λ r gpa l n. refl) (λ r gpa l n. refl)
-      (λ gpa. accepted (λ x. NamesSame w x t) (is_pending_at w u gpa) u gpa w (λ y l n. same-page w u 0 (number_at 0 gpa) _ t l n refl) (λ y l n. refl))
-      (λ i l n. refl) (λ r l n. refl) op row is
+      (λ r x. same-names w _ t refl) (λ r s. same-names w _ t refl) (λ r gpa. same-names w _ t refl) (λ r gpa. same-names w _ t refl)
+      (λ gpa. record {
+        entry = λ l n. accepted (λ x. (x.tds.entries t l n).page ≡ (w.tds.entries t l n).page) (is_pending_at w u gpa) u gpa w (λ y. same-page w u 0 (number_at 0 gpa) _ t l n refl) (λ y. refl);
+        streams = accepted (λ x. x.tds.streams t ≡ w.tds.streams t) (is_pending_at w u gpa) u gpa w (λ y. refl) (λ y. refl);
+      })
+      (λ i. same-names w _ t refl) (λ r. same-names w _ t refl) op row is
 
   operation-moved : (row : OperationRow) (mv : Move (Option Outcome)) → NamesSame w (operation_world row Succeeds w) t → NamesSame w (operation_world row mv w) t
   operation-moved row Succeeds h = h
-  operation-moved row (Attempts x m) h = λ l n. refl
-  operation-moved row (Undoes x) h = λ l n. refl
-  operation-moved row (Refuses r) h = λ l n. refl
-  operation-moved row (Releases x) h = λ l n. refl
-  operation-moved row Rests h = λ l n. refl
+  operation-moved row (Attempts x m) h = same-names w w t refl
+  operation-moved row (Undoes x) h = same-names w w t refl
+  operation-moved row (Refuses r) h = same-names w w t refl
+  operation-moved row (Releases x) h = same-names w w t refl
+  operation-moved row Rests h = same-names w w t refl
 
   reach-names : (u v : ℕ) (access : Access) (r gpa page : ℕ) → NamesSame w (reach u v access r gpa page w) t
-  reach-names u v Read r gpa page = λ l n. refl
-  reach-names u v Write r gpa page = λ l n. refl
+  reach-names u v Read r gpa page = same-names w _ t refl
+  reach-names u v Write r gpa page = same-names w _ t refl
 
-  call-moved : (row : Row) (mv : Move Reply) → (mv ≡ Succeeds → EntriesStay w (row.act w) t) → NamesSame w (call_world row mv w) t
-  call-moved row Succeeds h = λ l n. (h refl l n).page
-  call-moved row (Attempts x m) h = λ l n. refl
-  call-moved row (Undoes x) h = λ l n. refl
-  call-moved row (Refuses r) h = λ l n. refl
-  call-moved row (Releases x) h = λ l n. refl
-  call-moved row Rests h = λ l n. refl
+  call-moved : (row : Row) (mv : Move Reply) → (mv ≡ Succeeds → NamesSame w (row.act w) t) → NamesSame w (call_world row mv w) t
+  call-moved row Succeeds h = h refl
+  call-moved row (Attempts x m) h = same-names w w t refl
+  call-moved row (Undoes x) h = same-names w w t refl
+  call-moved row (Refuses r) h = same-names w w t refl
+  call-moved row (Releases x) h = same-names w w t refl
+  call-moved row Rests h = same-names w w t refl
 
 -- What a call holds
 
@@ -375,27 +406,41 @@ module _ (o : Opening) (s : State) (h : CallsHoldApart o s) where
         let all : tries_of c w ≡ held_then hs [] = f.1 ∙ ap (held_then hs) (all-had ((row_of o p c).items w) hs f.0 (rows_try_lists o p c w ∙ f.1) at.1) in
         alone-before hs (operation_locks lp.guest) l (all-turned (λ x. is_alone x.mode && same_lock x.lock l) hs (subst (λ (xs : List Held). holds_alone xs l ≡ true) all k))
 
-    -- so it leaves the pages that entries of a TD name whose T and P another holds
-    pub entries-stay : (q : ℕ) → q ≢ p → q < s.lp_count → (t : ℕ) → holds (locks_of (s.lps q)) (OfPage t) ≡ true → holds (locks_of (s.lps q)) (OfTree t) ≡ true
-        → EntriesStay w ((row_of o p c).act w) t
-    entries-stay q apart below t page tree =
-        let parts = grips-apart s p q h.exclusive (in-machine p c cs line) below (ne_eqb p q (λ e. apart (sym e))) in
-        row-entries o p c w t (λ y. parts.there.sole (Locked (OfTree t)) (its (OfTree t) y) tree) (λ y. parts.there.sole (Locked (OfPage t)) (its (OfPage t) y) page)
+    -- so it leaves the pages that entries of a TD name whose T and P another holds, and those of its streams where that one
+    -- holds O and P
+    module _ (q : ℕ) (apart : q ≢ p) (below : q < s.lp_count) (t : ℕ) (page : holds (locks_of (s.lps q)) (OfPage t) ≡ true) where
+      parts : Apart (grip_of s p) (grip_of s q)
+      parts = grips-apart s p q h.exclusive (in-machine p c cs line) below (ne_eqb p q (λ e. apart (sym e)))
+
+      page-shared : holds_alone (tries_of c w) (OfPage t) ≡ true → ⊥
+      page-shared y = parts.there.sole (Locked (OfPage t)) (its (OfPage t) y) page
+
+      pub entries-stay : holds (locks_of (s.lps q)) (OfTree t) ≡ true → EntriesStay w ((row_of o p c).act w) t
+      entries-stay tree =
+          row-entries o p c w t (all-pass ((row_of o p c).items w) (length (s.lps p).call.held) (act-tries ((row_of o p c).items w) (s.lps p).call.phase (s.lps p).call.held acts).1)
+          (λ y. parts.there.sole (Locked (OfTree t)) (its (OfTree t) y) tree) page-shared
+
+      names-stay : holds (locks_of (s.lps q)) (OfOp t) ≡ true → holds (locks_of (s.lps q)) (OfTree t) ≡ true → NamesSame w ((row_of o p c).act w) t
+      names-stay op tree = record {
+        entry = λ l n. (entries-stay tree l n).page;
+        streams = row-streams o p c w t (λ y. parts.there.sole (Locked (OfOp t)) (its (OfOp t) y) op) page-shared;
+      }
 
   module _ (p : ℕ) (e : Event) (is : next_event o s p ≡ Some e) where
-    event-names : (q : ℕ) → q ≢ p → q < s.lp_count → (t : ℕ) → holds (locks_of (s.lps q)) (OfPage t) ≡ true → holds (locks_of (s.lps q)) (OfTree t) ≡ true → (x : Event) → Due o w p (s.lps p) x → NamesSame w (world_after x w) t
-    event-names q apart below t page tree x (calls c cs line none) =
-        call-moved o w t (row_of o p c) (next_in ((row_of o p c).items w) (s.lps p).call.phase (s.lps p).call.held) (λ y. entries-stay p c cs line none y q apart below t page tree)
-    event-names q apart below t page tree x (frees c cs g y hs line guest held epoch) = λ l n. refl
-    event-names q apart below t page tree x (leaves c cs g out i l) = λ l n. refl
-    event-names q apart below t page tree x (stops c cs g i l y d) = λ l n. refl
-    event-names q apart below t page tree x (fills c cs g op i l y d m) = λ l n. refl
-    event-names q apart below t page tree x (operates c cs g op row i way is) =
-        operation-moved o w t row (next (row.items w) (length g.operation.held)) (operation-names o w t g.tdr g.vp (length (s.lps p).replies + 1) op row is)
-    event-names q apart below t page tree x (walks c cs g op access r gpa i way is lost) = λ l n. refl
-    event-names q apart below t page tree x (reaches c cs g op access r gpa reached i way is found) = reach-names o w t g.tdr g.vp access r gpa reached
-    event-names q apart below t page tree x (undoes c cs g l i st y) = λ l n. refl
-    event-names q apart below t page tree x (gives_back c cs g out i st y) = operation-moved o w t nothing_more (next_in [] (Answered out) g.operation.held) (λ l n. refl)
+    event-names : (q : ℕ) → q ≢ p → q < s.lp_count → (t : ℕ) → holds (locks_of (s.lps q)) (OfPage t) ≡ true → holds (locks_of (s.lps q)) (OfOp t) ≡ true → holds (locks_of (s.lps q)) (OfTree t) ≡ true
+        → (x : Event) → Due o w p (s.lps p) x → NamesSame w (world_after x w) t
+    event-names q apart below t page op tree x (calls c cs line none) =
+        call-moved o w t (row_of o p c) (next_in ((row_of o p c).items w) (s.lps p).call.phase (s.lps p).call.held) (λ y. names-stay p c cs line none y q apart below t page op tree)
+    event-names q apart below t page op tree x (frees c cs g y hs line guest held epoch) = same-names w _ t refl
+    event-names q apart below t page op tree x (leaves c cs g out i l) = same-names w _ t refl
+    event-names q apart below t page op tree x (stops c cs g i l y d) = same-names w _ t refl
+    event-names q apart below t page op tree x (fills c cs g op' i l y d m) = same-names w _ t refl
+    event-names q apart below t page op tree x (operates c cs g op' row i way is) =
+        operation-moved o w t row (next (row.items w) (length g.operation.held)) (operation-names o w t g.tdr g.vp (length (s.lps p).replies + 1) op' row is)
+    event-names q apart below t page op tree x (walks c cs g op' access r gpa i way is lost) = same-names w _ t refl
+    event-names q apart below t page op tree x (reaches c cs g op' access r gpa reached i way is found) = reach-names o w t g.tdr g.vp access r gpa reached
+    event-names q apart below t page op tree x (undoes c cs g l i st y) = same-names w _ t refl
+    event-names q apart below t page op tree x (gives_back c cs g out i st y) = operation-moved o w t nothing_more (next_in [] (Answered out) g.operation.held) (same-names w _ t refl)
 
     others : (q : ℕ) → q ≢ p → Holds o q (world_after e w) (s.lps q)
     others q apart = by (lines_left o q (s.lps q)) refl (s.lps q).guest (s.lps q).call.phase (h.each q)
@@ -406,7 +451,7 @@ module _ (o : Opening) (s : State) (h : CallsHoldApart o s) where
             let hs : List Held = (s.lps q).call.held in
             let more : List Held = operation_locks (s.lps q).guest in
             first-stays c hs (world_after e w) w k
-            (λ t page tree. event-names q apart (in-machine q c cs line) t (held-before hs more (OfPage t) page) (held-before hs more (OfTree t) tree) e (due_event_is o s p e is))
+            (λ t page op tree. event-names q apart (in-machine q c cs line) t (held-before hs more (OfPage t) page) (held-before hs more (OfOp t) op) (held-before hs more (OfTree t) tree) e (due_event_is o s p e is))
         by cs line None (Undoing l) k = tt
         by cs line None (Answered r) k = tt
         by cs line (Some g) phase k = tt

@@ -35,7 +35,7 @@ use Rattle.flat_core.proofs.Induction.{in_runs}
 use Rattle.flat_core.proofs.Operations.{operation_row, accepted}
 use Rattle.flat_core.proofs.Due.{Due, calls, frees, leaves, stops, fills, operates, walks, reaches, undoes, gives_back, due_event_is}
 use Rattle.flat_core.proofs.Ends.{next_is, leave, same_due, timely_step, timeliness_kept, timely_rebundled}
-use Rattle.flat_core.proofs.Accesses.{entry-apart}
+use Rattle.flat_core.proofs.AccessActs.{entry-apart}
 use Rattle.flat_core.proofs.GuestOrder.{operations_try_lists}
 use Rattle.word_rules.specs.CallUses.{HoldsTries}
 use Rattle.lock_words.specs.Grips.{holds, operation_locks, locks_of, grip_of}

@@ -20,7 +20,7 @@ use Rattle.td_words.specs.Packing.{Entry, Key as KeyState, Unassigned, AssignedT
 use Rattle.td_words.specs.Place.{WordPlace, Lock, Pamt, Word, Key}
 use Rattle.flat_core.specs.World.{World, put, free_entry}
 use Rattle.flat_core.specs.Processor.{OfPage, OfOp, OfTree, OfKeys}
-use Rattle.flat_core.specs.Lawful.{Lawful, ArePagesOf, key_owner}
+use Rattle.flat_core.specs.Lawful.{Lawful, ArePagesOf, key_owner, is_free}
 use Rattle.flat_core.specs.Row.{Item, Check, Passes}
 use Rattle.flat_core.specs.Conditions.{same_kind, is_host, is_host_in, is_free_key}
 use Rattle.flat_core.specs.Effects.{set_word, take_node, take_page, set_entry, restate, block_page, unmap_page, end_memory, end_association, clear_page, give_back, end_memory_in, set_key, set_life, set_op, set_epoch, set_register, set_vp_state, begin_measurement, measure, end_measurement, begin_memory, set_page, map_page, write_back, written_back}
@@ -32,10 +32,10 @@ use Rattle.flat_core.specs.Tracking.{tracked_page}
 use Rattle.flat_core.specs.MemRows.{removed_states}
 use Rattle.flat_core.specs.ExportRows.{add_stream, write_blocked, count_dirt, count_restored, note_pause}
 use Rattle.flat_core.specs.Digests.{six_words}
-use Rattle.flat_core.specs.Sessions.{bundles_so_far, payload_words, About, about, make_bundle, begin_session, set_mig_epoch, note_td_export, note_vp_export}
-use Rattle.flat_core.specs.BundleRows.{start_epoch, track_export, token_kind, token_epoch, export_immutable, export_token, export_td, export_vp}
+use Rattle.flat_core.specs.Sessions.{bundles_so_far, payload_words, About, about, make_bundle, begin_session, set_mig_epoch, count_export, note_td_export, note_vp_export}
+use Rattle.flat_core.specs.BundleRows.{start_epoch, track_export, token_kind, token_epoch, export_immutable, export_page, export_token, export_td, export_vp}
 use Rattle.flat_core.proofs.Maps.{kind_named, node_named, behind_walk}
-use Rattle.flat_core.proofs.Ranges.{named_passed, named_alive, page_removed, sept_removed}
+use Rattle.flat_core.proofs.Ranges.{named_passed, named_alive, page_removed, sept_removed, export_passed, can_export}
 use Rattle.flat_core.proofs.Keeps.{live_of}
 use Rattle.flat_core.proofs.Tests.{by_test, host_kind, tdr_kind}
 use Rattle.word_rules.specs.Guards.{Grip, Locked}
@@ -345,6 +345,16 @@ module _ (g : Grip) (w : World) where
       bundled t slot (record (about 0 1) { info = length (w.tds.vps t) }) (six_words (w.tds.mrtds t)) w2
       (counted w1 w2 refl (λ u. same-td w1 w2 u refl refl refl (λ b. refl) (λ n. refl)) (λ h. refl) refl ((effects-respect g w).op t op.LiveExport has alone))
 
+  -- EXPORT.MEM: an entry in use gets another such state
+  pub page-exported : (m : Machine) (t gpa k slot : ℕ) → is_free (entry_at w t 0 gpa).state ≡ false → Respects g w ((export_page m t gpa k slot).act w)
+  page-exported m t gpa k slot used =
+      let e : Entry = entry_at w t 0 gpa in
+      let w1 : World = restate t (number_at 0 gpa) entry.ExportedBlockedW (w.tds.mig_epochs t) w in
+      let w2 : World = count_export t k e.state w1 in
+      let a : Respects g w w1 = (effects-respect g w).entry_state t 0 (number_at 0 gpa) (record { state = entry.ExportedBlockedW; page = e.page; mark = w.tds.mig_epochs t }) (rw used refl) in
+      bundled t slot (record (about 3 (w.tds.mig_epochs t)) { stream = k; gpa = gpa }) (payload_words (w.words e.page) 512) w2
+      (counted w1 w2 refl (λ u. same-td w1 w2 u refl refl refl (λ b. refl) (λ n. refl)) (λ h. refl) refl a)
+
   -- EXPORT.TRACK
   epoch-ended : (t e : ℕ) → Respects g w (set_mig_epoch t e w)
   epoch-ended t e = let w1 : World = set_mig_epoch t e w in noted w1 refl (λ u. same-td w w1 u refl refl refl (λ b. refl) (λ n. refl)) (λ h. refl) refl
@@ -473,6 +483,8 @@ rows-respect o me (call.ExportPause tdr) g w la ps h = paused g w tdr h.0 h.1.0.
 rows-respect o me (call.ExportAbort tdr) g w la ps h = (effects-respect g w).op tdr op.Runnable h.0 h.1.0.1
 rows-respect o me (call.ExportRestore tdr gpa) g w la ps h = restored g w tdr (number_at 0 gpa) (entry_at w tdr 0 gpa).state (record { tdr = h.0; op = h.1.0 }) h.1.1.0.1
 rows-respect o me (call.ExportStateImmutable tdr slot) g w la ps h = immutable-exported g w o.machine tdr slot h.0 h.1.0.1
+rows-respect o me (call.ExportMem tdr gpa stream slot) g w la ps h =
+    page-exported g w o.machine tdr gpa stream slot (can_export (w.tds.ops tdr) (entry_at w tdr 0 gpa).state (export_passed o.machine w tdr gpa stream slot ps).state).used
 rows-respect o me (call.ExportTrack tdr slot start) g w la ps h = token-exported g w o.machine tdr slot start h.0 h.1.0.1
 rows-respect o me (call.ExportStateTd tdr slot) g w la ps h = td-exported g w o.machine tdr slot
 rows-respect o me (call.ExportStateVp tdr vp slot) g w la ps h = vp-exported g w o.machine tdr vp slot

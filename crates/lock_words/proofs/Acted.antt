@@ -70,6 +70,7 @@ acts-go-on o me (call.ExportPause tdr) w t la ps st = inl (same-td w _ t st refl
 acts-go-on o me (call.ExportAbort tdr) w t la ps st = inl (same-td w _ t st refl refl refl)
 acts-go-on o me (call.ExportRestore tdr gpa) w t la ps st = inl (same-td w _ t st refl refl refl)
 acts-go-on o me (call.ExportStateImmutable tdr slot) w t la ps st = inl (same-td w _ t st refl refl refl)
+acts-go-on o me (call.ExportMem tdr gpa stream slot) w t la ps st = inl (same-td w _ t st refl refl refl)
 acts-go-on o me (call.ExportTrack tdr slot zero) w t la ps st = inl (same-td w _ t st refl refl refl)
 acts-go-on o me (call.ExportTrack tdr slot (suc n)) w t la ps st = inl (same-td w _ t st refl refl refl)
 acts-go-on o me (call.ExportStateTd tdr slot) w t la ps st = inl (same-td w _ t st refl refl refl)

@@ -25,8 +25,8 @@ use Rattle.flat_core.specs.Tracking.{tracked_page, epoch_room, previous_epoch_le
 use Rattle.flat_core.specs.KeyRows.{reclaim_conditions}
 use Rattle.flat_core.specs.MemRows.{named_row, open_states, blocked_states, removed_states}
 use Rattle.flat_core.specs.ExportRows.{stream_ops, live_ops, abortable_ops, restoring_ops, stream_room, writable_states, write_blocked_states, restored_states, opened_row}
-use Rattle.flat_core.specs.Sessions.{has_stream, counter_room, session_room, all_restored, td_state_left, vp_state_left}
-use Rattle.flat_core.specs.BundleRows.{session_ops, paused_ops, token_ops, token_conditions}
+use Rattle.flat_core.specs.Sessions.{stream_page, other_epoch, has_stream, counter_room, session_room, all_restored, td_state_left, vp_state_left}
+use Rattle.flat_core.specs.BundleRows.{session_ops, paused_ops, exportable, tracked_in, token_ops, token_conditions}
 use Rattle.flat_core.specs.Tree.{entry_at, same_state, walk, state_in, has_page, empty_below, named_page}
 use Rattle.flat_core.specs.Table.{row_of}
 use Rattle.flat_core.specs.Tries.{tries, tries_of}
@@ -142,6 +142,16 @@ rows-fit o me (call.ExportPause tdr) w = λ a. head-fits w tdr Exclusive live_op
 rows-fit o me (call.ExportAbort tdr) w = λ a. head-fits w tdr Exclusive abortable_ops (tree_exclusive tdr ∷ []) (λ st. ((refl, st), tt))
 rows-fit o me (call.ExportRestore tdr gpa) w = λ a b c. opened-fits w tdr gpa restoring_ops restored_states
 rows-fit o me (call.ExportStateImmutable tdr slot) w = λ a. head-fits w tdr Exclusive session_ops (keys_exclusive ∷ has_stream w tdr 0 ∷ all_restored w tdr ∷ session_room w ∷ []) (λ st. ((tt, tt), λ x y z. tt))
+rows-fit o me (call.ExportMem tdr gpa stream slot) w =
+    let test : List (Item Reply) = tracked_in (w.tds.ops tdr) w tdr (entry_at w tdr 0 gpa).page in
+    let page_items : List (Item Reply) = state_in w tdr gpa 0 (exportable (w.tds.ops tdr)) ∷ other_epoch w tdr gpa ∷ page_exclusive (stream_page w tdr stream) ∷ counter_room w tdr stream ∷ test in
+    let entry_items : List (Item Reply) = has_page w tdr gpa 0 ∷ named_page w tdr gpa 0 Exclusive ∷ page_items in
+    λ a b c d. head-fits w tdr Shared abortable_ops (has_stream w tdr stream ∷ tree_shared tdr ∷ epoch_shared tdr ∷ (walk w tdr gpa 0 ++ entry_items))
+    (λ st x. ((refl, st), ((refl, st), walk-fits w tdr gpa 0 entry_items (λ y. ((tt, tt), λ z e. ((tt, tt), λ room. tested (w.tds.ops tdr)))))))
+  where
+    tested : (s : OpState) → TriesFit w (held_as tdr Shared) (tracked_in s w tdr (entry_at w tdr 0 gpa).page)
+    tested op.LiveExport = λ x. tt
+    tested _ = tt
 rows-fit o me (call.ExportTrack tdr slot start) w = λ a b. head-fits w tdr Exclusive (token_ops start) (tree_exclusive tdr ∷ counter_room w tdr 0 ∷ token_conditions w tdr start) (λ st. ((refl, st), λ x. conditions start))
   where
     conditions : (n : ℕ) → TriesFit w (held_as tdr Shared) (token_conditions w tdr n)

@@ -12,11 +12,12 @@ use Rattle.flat_core.specs.Processor.{LockId}
 use Rattle.flat_core.specs.Opening.{Opening}
 use Rattle.flat_core.specs.Row.{Item, Check, Try}
 use Rattle.flat_core.specs.Tree.{entry_at}
+use Rattle.flat_core.specs.Sessions.{stream_page}
 use Rattle.flat_core.specs.Table.{row_of}
 use Rattle.word_rules.specs.Guards.{Guard, Locked, Role, Grip, MeetsAll}
 use Rattle.word_rules.specs.Rules.{Unused}
 use Rattle.word_rules.specs.Views.{no_page}
-use Rattle.word_rules.specs.Uses.{Use, HeadPage, HeadTdr, HeadOp, Taken, GivenBack, HostRead, HostWrite, PageRdmd, CacheWb, Reclaim, MngCreate, KeyConfig, Addcx, MngInit, MngRdLife, MngRdOp, MngRdEpoch, VpFlushDone, KeyFreeid, MrExtend, MrFinalize, VpCreate, VpInit, VpEnter, Enters, SeptAdd, SeptRd, PageAdd, PageAddPages, TakesPage, ReclaimsControl, ReclaimsRest, AddsEntry, ChangesOp, BeginsEpochs, GivesHkid, FreesHkid, line_of, PageAug, BlockNoted, BlockTested, VpFlush, SeptRemove, PageRemove, RangeBlock, RangeUnblock, Track, GivesPageBack, GivesNodeBack, Tracks, ExportStreamCreate, ExportBlockWrite, ExportBlockWriteEntry, ExportUnblockWrite, ExportPause, ExportAbort, ExportRestore, ExportImmutable, ExportTokens, ExportTdState, ExportVpState}
+use Rattle.word_rules.specs.Uses.{Use, HeadPage, HeadTdr, HeadOp, Taken, GivenBack, HostRead, HostWrite, PageRdmd, CacheWb, Reclaim, MngCreate, KeyConfig, Addcx, MngInit, MngRdLife, MngRdOp, MngRdEpoch, VpFlushDone, KeyFreeid, MrExtend, MrFinalize, VpCreate, VpInit, VpEnter, Enters, SeptAdd, SeptRd, PageAdd, PageAddPages, TakesPage, ReclaimsControl, ReclaimsRest, AddsEntry, ChangesOp, BeginsEpochs, GivesHkid, FreesHkid, line_of, PageAug, BlockNoted, BlockTested, BlockTestedShared, VpFlush, SeptRemove, PageRemove, RangeBlock, RangeUnblock, Track, GivesPageBack, GivesNodeBack, Tracks, ExportStreamCreate, ExportBlockWrite, ExportBlockWriteEntry, ExportUnblockWrite, ExportPause, ExportAbort, ExportRestore, ExportImmutable, ExportMemory, ExportMemoryRunning, ExportMemoryPaused, ExportMemoryStream, ExportMemoryWordsPaused, ExportTokens, ExportTdState, ExportVpState}
 use Rattle.word_rules.specs.Spots.{guard_at}
 
 -- the locks of a row's tries are held, each in its mode
@@ -64,7 +65,8 @@ read_uses t field.Op = td_uses t ++ of_td t MngRdOp ∷ []
 read_uses t field.Epoch = td_uses t ++ of_td t MngRdEpoch ∷ []
 read_uses t field.Mrtd = td_uses t ++ of_td t MngRdOp ∷ []
 
--- the uses of a call, in the order of the leaf table
+-- the uses of a call, in the order of the leaf table. One is left out: no lock gives what EXPORT.MEM loads the words of a
+-- page under while guests may run, that nobody may write there (`ExportMemoryWords`)
 abbrev pub uses_of : World → Call → List CallUse
 uses_of w (call.HostRead page word) = of_page page HostRead ∷ []
 uses_of w (call.HostWrite page word value) = of_page page HostWrite ∷ []
@@ -106,6 +108,9 @@ uses_of w (call.ExportPause tdr) = td_uses tdr ++ of_td tdr ExportPause ∷ of_t
 uses_of w (call.ExportAbort tdr) = td_uses tdr ++ of_td tdr ExportAbort ∷ of_td tdr ChangesOp ∷ []
 uses_of w (call.ExportRestore tdr gpa) = td_uses tdr ++ of_td tdr ExportRestore ∷ []
 uses_of w (call.ExportStateImmutable tdr slot) = td_uses tdr ++ of_td tdr ExportImmutable ∷ of_td tdr ChangesOp ∷ []
+uses_of w (call.ExportMem tdr gpa stream slot) =
+    let page = (entry_at w tdr 0 gpa).page in td_uses tdr ++ (of_td tdr ExportMemory ∷ of_page page HeadPage ∷ of_td tdr BlockTestedShared
+    ∷ of_both tdr page ExportMemoryRunning ∷ of_both tdr page ExportMemoryPaused ∷ of_both tdr (stream_page w tdr stream) ExportMemoryStream ∷ of_both tdr page ExportMemoryWordsPaused ∷ [])
 uses_of w (call.ExportTrack tdr slot start) = td_uses tdr ++ of_td tdr ExportTokens ∷ of_td tdr ChangesOp ∷ []
 uses_of w (call.ExportStateTd tdr slot) = td_uses tdr ++ of_td tdr ExportTdState ∷ []
 uses_of w (call.ExportStateVp tdr vp slot) = td_uses tdr ++ of_page vp HeadPage ∷ of_both tdr vp ExportVpState ∷ []
