@@ -48,7 +48,7 @@ read_end p page i c true e s in_page in_word =
     let nda : c.state.world.pages.kinds page ≡ kind.Nda = host_kind (c.state.world.pages.kinds page) e in
     let now : c.memory.words (place.Word page i) ≡ c.state.world.words page i = rw nda at (s.word (place.Word page i) (in_page, in_word)) in (
       (in_page, in_word),
-      inr (rw nda (inl (holds-newest page Shared c.kept, tt)), refl),
+      inr (inl (rw nda (inl (holds-newest page Shared c.kept, tt)), refl)),
       (record { answers = record { reply_is = rw (e, now) refl; cached_is = refl; enters_is = refl; notes_are = refl; tells_are = refl; bundles_are = refl }; fills_allowed = tt; respects = respects-compose.same (hold c (page_lock page Shared ∷ [])) c.state.world; locks_stay = ((refl, λ x. x), tt); shows = s }, tt),
     )
 read_end p page i c false e s in_page in_word =

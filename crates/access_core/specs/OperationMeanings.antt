@@ -138,7 +138,7 @@ module _ (m : Machine) (c : Instant) (t v : ℕ) (la : Lawful m c.state.world) (
       shared-means k Read gpa (with_position v (λ at. Load Whole (place.Word q i) (λ x. loaded v line r gpa at x)))
       (λ in_page nda. position-load m c t v la sh fits hs k (λ at. Load Whole (place.Word q i) (λ x. loaded v line r gpa at x)) [] (
         (in_page, word-in gpa),
-        inr (rw nda (inl (holds-newest q Shared c.kept, tt)), refl),
+        inr (inl (rw nda (inl (holds-newest q Shared c.kept, tt)), refl)),
         (let now : c.memory.words (place.Word q i) ≡ w.words q i = rw nda at (sh.word (place.Word q i) (in_page, word-in gpa)) in
             subst (λ (x : ℕ). Means m c k hs (loaded v line r gpa (w.vps.positions v) x) []) (sym now) (loaded-end line r gpa few in_page nda)),
       ))

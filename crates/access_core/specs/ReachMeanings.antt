@@ -79,7 +79,7 @@ module _ (m : Machine) (c : Instant) (t v : ℕ) (g : Guest) (la : Lawful m c.st
     pub load-at : Means m c load_work [] (private_load_tree v line r gpa page) []
     load-at = position-load m c t v la sh fits [] load_work (λ at. Load Whole (place.Word page i) (λ x. loaded v line r gpa at x)) [] (
       (in_page, in_word),
-      inr (word-seen, refl),
+      inr (inl (word-seen, refl)),
       subst (λ (x : ℕ). Means m c load_work [] (loaded v line r gpa (w.vps.positions v) x) []) (sym word-told) loaded-end,
     )
 

@@ -169,7 +169,7 @@ module _ (m : Machine) (c : Instant) (t v gpa : ℕ) (limit : m.pages ≤ 1024) 
     pub walk-at : Means m c k [] (walk_tree t access gpa level page) []
     walk-at = (
       (has.in_machine, split.index level gpa),
-      inr (seen, refl),
+      inr (inl (seen, refl)),
       subst (λ (n : ℕ). Means m c k [] (Since (walked t access gpa level n) []) []) (sym told) walked-end,
     )
 

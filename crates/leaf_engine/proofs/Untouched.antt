@@ -13,7 +13,7 @@ use Rattle.word_rules.specs.Spots.{spot, guard_at}
 use Rattle.word_rules.specs.Views.{look}
 use Rattle.lock_words.specs.LockWords.{put_word}
 use Rattle.leaf_engine.specs.Trees.{Tree, Lock, Load, Test, End, Since}
-use Rattle.leaf_engine.specs.Means.{Task, Instant, IsAt, Work, work_of, Means, MeansRow, Loads, hold}
+use Rattle.leaf_engine.specs.Means.{Task, Instant, IsAt, Work, work_of, Means, MeansRow, Loads, hold, grasp_of}
 use Rattle.leaf_engine.specs.Follows.{Current}
 
 reads-tries : (g h : Grip) (at : Role → Guard) (c : Class) (v : View) → Meets g at (tries c) → Meets h at (reads c v) → ⊥
@@ -28,7 +28,8 @@ sees-tries g h at _ v t r = t
 
 loads-tries : (c : Instant) (k : Work) (hs : List Held) (g : Grip) (v : View) (q : WordPlace) (t : ℕ → Tree) → MayTry g c.state.world q → Loads c k hs v q t → ⊥
 loads-tries c k hs g v q t y (inl r) = reads-tries g (hold c hs) (guard_at (spot c.state.world q)) (spot c.state.world q).class v y r
-loads-tries c k hs g v q t y (inr r) = sees-tries g (k.grasp c hs) (guard_at (spot c.state.world q)) (spot c.state.world q).class v y r.0
+loads-tries c k hs g v q t y (inr (inl r)) = sees-tries g (k.grasp c hs) (guard_at (spot c.state.world q)) (spot c.state.world q).class v y r.0
+loads-tries c k hs g v q t y (inr (inr r)) = reads-tries g (grasp_of c hs) (guard_at (spot c.state.world q)) (spot c.state.world q).class v y r
 
 other-word : PlacesInjective → (c : Instant) (k : Work) (hs : List Held) (g : Grip) (v : View) (r q : WordPlace) (x : ℕ) (t : ℕ → Tree) (words : WordPlace → ℕ) → MayTry g c.state.world q → Loads c k hs v r t
     → put_word words q x r ≡ words r

@@ -178,10 +178,12 @@ pub record Locks (m : Machine) (c : Instant) (hs : List Held) (l : LockId) (q : 
   pub stands : Stands c.state.world l
   pub allowed : Tries (hold c hs) c.state.world q
 
--- a load stays until the act, as far as it is looked at; or it finds what is shown, and is the act
+-- a load stays until the act, as far as it is looked at, by locks alone; or it finds what is shown, and is the act; or it
+-- stays by what is cached as well, as of a page that no guest may write to any more
 abbrev pub Loads : Instant → Work → List Held → View → WordPlace → (ℕ → Tree) → Type 0
 Loads c k hs v q further =
-    Reads (hold c hs) c.state.world q v ⊎ (Sees (k.grasp c hs) c.state.world q v × (has_acted (further (look v (c.memory.words q))) ≡ true))
+    Reads (hold c hs) c.state.world q v
+    ⊎ ((Sees (k.grasp c hs) c.state.world q v × (has_acted (further (look v (c.memory.words q))) ≡ true)) ⊎ Reads (grasp_of c hs) c.state.world q v)
 
 -- a page's words, each
 abbrev pub EachWord : (WordPlace → Type 0) → ℕ → Type 0

@@ -1,12 +1,12 @@
 -- The decision whether a block at the epoch before TD_EPOCH is tracked.
-use Rattle.std.proofs.Common.{◌≡◌, ℕ, ◌+◌, ◌==◌, List, ◌∷◌, Result, Ok, Err}
+use Rattle.std.proofs.Common.{◌≡◌, ℕ, ◌+◌, ◌==◌, List, ◌∷◌, Result, Ok, Err, refl, ◌∙◌}
 use Rattle.std.proofs.lemmas.Bool.{eq-eqb}
 use Rattle.td_words.specs.declared.refusals.Status.TheVariants.{TlbTrackingNotDone}
 use Rattle.leaf_engine.specs.declared.plans.Stop.{Stop}
-use Rattle.leaf_engine.specs.Trees.{Tree, needs}
+use Rattle.leaf_engine.specs.Trees.{Tree, needs, feed}
 use Rattle.leaf_engine.specs.Decides.{Ending, Decides}
-use Rattle.leaf_parts.specs.Parts.{Goes}
-use Rattle.leaf_parts.proofs.Parts.{goes-stop, passes, refuses, Checked}
+use Rattle.leaf_parts.specs.Parts.{Goes, Feeds}
+use Rattle.leaf_parts.proofs.Parts.{goes-stop, passes, refuses, feed-passes, Checked}
 use Rattle.mem_remove.specs.TrackedTrees.{blocked_told, previous_tree, tracked_tree}
 
 module _ (n tdcs page : ℕ) (before : List ℕ) (pamt epoch : ℕ) (left : List ℕ) (told : before ≡ pamt ∷ epoch ∷ left) (next : blocked_told pamt + 1 ≡ epoch) where
@@ -28,3 +28,10 @@ module _ (n tdcs page : ℕ) (before : List ℕ) (pamt epoch : ℕ) (left : List
   pub counted : (after : List ℕ) (count : ℕ) (r : Result (Unit {0}) Stop) → Goes {A = ℕ} n counting left after (Ok count) → Checked (count == 0) TlbTrackingNotDone r → Goes n whole before after r
   counted after count (Ok u) g h = λ k r d. behind (k tt) r (g (none_left (k tt)) r (passes n (count == 0) TlbTrackingNotDone (k tt) after r h d))
   counted after count (Err e) g h = λ k. behind (k tt) (Err e) (g (none_left (k tt)) (Err e) (refuses n (count == 0) TlbTrackingNotDone (k tt) after e h.0 h.1))
+
+  behind-fed : (k : Tree) → feed (tracked_tree tdcs page k) before ≡ feed (counting (none_left k)) left
+  behind-fed k = rw (told, eq-eqb (blocked_told pamt + 1) epoch next) refl
+
+  pub counted-fed : (after : List ℕ) (count : ℕ) (r : Result (Unit {0}) Stop) → Feeds counting left after (Ok count) → Checked (count == 0) TlbTrackingNotDone r → Feeds whole before after r
+  counted-fed after count (Ok u) g h = λ k. behind-fed (k tt) ∙ (g (none_left (k tt)) ∙ feed-passes (count == 0) TlbTrackingNotDone (k tt) after h)
+  counted-fed after count (Err e) g h = tt

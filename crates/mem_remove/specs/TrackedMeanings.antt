@@ -154,11 +154,11 @@ module _ (m : Machine) (c : Instant) (row : Row) (t : ℕ) (hs : List Held) (la 
   count-loads further acts = by_test (count == 0)
       (λ none. inl (at-tdcs (hold c hs) w t d (6 + b) (y.controls.root ∷ []) (λ z. reads z Whole) y.controls.list y.controls.tdcs_page
       (subst (λ (x : Class). MayAt (hold c hs) (spot_of x t d) (λ z. reads z Whole)) (sym (class-is ∙ ap (λ (z : Bool). EpochCount false z) none)) (inr (inl (tdr_held, (op_held, (epoch_held, tt))))))))
-      (λ some. inr (
+      (λ some. inr (inl (
         at-tdcs (hold c hs) w t d (6 + b) (y.controls.root ∷ []) (λ z. sees z Whole) y.controls.list y.controls.tdcs_page
             (subst (λ (x : Class). MayAt (hold c hs) (spot_of x t d) (λ z. sees z Whole)) (sym class-is) (inl (tdr_held, tt))),
         subst (λ (n : ℕ). has_acted (further n) ≡ true) (sym count-told) (acts some),
-      ))
+      )))
 
   -- where it isn't 0 its load is the act
   pub previous-means : (further : ℕ → Tree) (rest : List (Item Reply)) → ((count == 0) ≡ false → has_acted (further count) ≡ true) → Means m c k hs (further count) rest → Means m c k hs (previous_tree d e further) rest

@@ -20,4 +20,5 @@ pub use metadata_reads::Rdmd;
 pub use named_entries::{Named, epoch_lock, taken};
 pub use removals::PageRemove;
 pub use sept_removals::SeptRemove;
+pub use tracked_blocks::tracked;
 pub use trackings::Track;

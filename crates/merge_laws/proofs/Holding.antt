@@ -1,5 +1,5 @@
 -- What processors may do by the locks that they hold, and by their grips.
-use Rattle.std.proofs.Common.{◌≡◌, ℕ, Bool, true, false, ◌==◌, ◌&&◌, ◌||◌, List, [], ◌∷◌, ◌++◌, length, Some, refl, ap, sym, ◌∙◌, subst, inl, inr}
+use Rattle.std.proofs.Common.{◌≡◌, ◌⊎◌, ℕ, Bool, true, false, ◌==◌, ◌&&◌, ◌||◌, List, [], ◌∷◌, ◌++◌, length, Some, refl, ap, sym, ◌∙◌, subst, inl, inr}
 use Rattle.std.specs.Prelude.{slice_index}
 use Rattle.std.specs.List.{list_any}
 use Rattle.std.proofs.lemmas.Bool.{eq-eqb}
@@ -22,14 +22,14 @@ use Rattle.word_rules.specs.Lines.{in_lines}
 use Rattle.word_rules.specs.Rules.{View, TdLock, tries}
 use Rattle.word_rules.specs.Spots.{Spot, spot, is_current, is_empty, tdcs_classes, control_class}
 use Rattle.word_rules.specs.Views.{look}
-use Rattle.word_rules.specs.Permissions.{MayAt, Reads, Tries, Respects}
+use Rattle.word_rules.specs.Permissions.{MayAt, Reads, Sees, Tries, Respects}
 use Rattle.lock_words.specs.Grips.{HoldsTdr, holds, operation_locks, locks_of, sole_of, lock_has, lock_grip, grip_with, grip_of}
 use Rattle.lock_words.specs.LockWords.{tdcs_of, place_of, TdStands, Stands, TdLocksStay}
 use Rattle.lock_words.proofs.Shown.{tdcs-page}
 use Rattle.lock_words.proofs.Anchored.{lock_spot}
 use Rattle.leaf_engine.specs.Trees.{Tree, Lock, Load, Test, End, Since, has_acted}
 use Rattle.leaf_engine.specs.Changes.{Memory, Change, Put, PutHash, Raise, Clear, Copy, Swap, changed}
-use Rattle.leaf_engine.specs.Means.{Meaning, OfCall, OfOperation, OfAccess, OfWalk, OfExit, Instant, Work, work_of, hold, MayOweAll, Loads, Means}
+use Rattle.leaf_engine.specs.Means.{Meaning, OfCall, OfOperation, OfAccess, OfWalk, OfExit, Instant, Work, work_of, hold, grasp_of, MayOweAll, Loads, Means}
 use Rattle.leaf_engine.specs.Follows.{granted, Current, NotActed}
 
 -- the grip that locks alone give
@@ -143,24 +143,22 @@ grasp-part (OfAccess t v line access r gpa page) c hs older = with-part c.state 
 grasp-part (OfWalk t v access gpa level page) c hs older = older-part c.state c.me (hs ++ c.kept) older
 grasp-part (OfExit t v out) c hs older = older-part c.state c.me (hs ++ c.kept) older
 
--- and has what its locks give
-pub hold-part : (k : Meaning) (c : Instant) (hs : List Held) → IsPart (hold c hs) ((work_of k).grasp c hs)
-hold-part k c hs = by k
+-- who has its locks and its cached translations has what the locks give
+pub hold-grasp : (c : Instant) (hs : List Held) → IsPart (hold c hs) (grasp_of c hs)
+hold-grasp c hs = record { has = has; sole = λ x y. y; clear = λ x y. cc }
   where
-    more : IsPart (lock_grip (hs ++ c.kept)) (grip_with c.state c.me (hs ++ c.kept))
-    more = record { has = has; sole = λ x y. y; clear = λ x y. cc }
-      where
-        has : (x : Guard) → lock_has (hs ++ c.kept) x ≡ true → (grip_with c.state c.me (hs ++ c.kept)).has x ≡ true
-        has (Locked l) y = y
-        has (Reached q) y = cc
-        has (Written q) y = cc
+    has : (x : Guard) → lock_has (hs ++ c.kept) x ≡ true → (grasp_of c hs).has x ≡ true
+    has (Locked l) y = y
+    has (Reached q) y = cc
+    has (Written q) y = cc
 
-    by : (k : Meaning) → IsPart (hold c hs) ((work_of k).grasp c hs)
-    by (OfCall row) = same-part (hold c hs)
-    by (OfOperation t v row) = more
-    by (OfAccess t v line access r gpa page) = more
-    by (OfWalk t v access gpa level page) = same-part (hold c hs)
-    by (OfExit t v out) = same-part (hold c hs)
+-- and so has who acts
+pub hold-part : (k : Meaning) (c : Instant) (hs : List Held) → IsPart (hold c hs) ((work_of k).grasp c hs)
+hold-part (OfCall row) c hs = same-part (hold c hs)
+hold-part (OfOperation t v row) c hs = hold-grasp c hs
+hold-part (OfAccess t v line access r gpa page) c hs = hold-grasp c hs
+hold-part (OfWalk t v access gpa level page) c hs = same-part (hold c hs)
+hold-part (OfExit t v out) c hs = same-part (hold c hs)
 
 -- more of a grip meets what less does
 pub part-meets : (g all : Grip) (at : Role → Guard) (r : Rule) → IsPart g all → Meets g at r → Meets all at r
@@ -245,21 +243,30 @@ EachTold P (Test b r t) xs hs = b ≡ true → EachTold P t xs hs
 EachTold P (End r fs cs) xs hs = Unit {0}
 EachTold P (Since r cs) xs hs = Unit {0}
 
-stable : (m : Machine) (c : Instant) (k : Work) (hs : List Held) (v : View) (q : WordPlace) (t : ℕ → Tree) (x : ℕ) → Loads c k hs v q t → look v x ≡ look v (c.memory.words q) → has_acted (t (look v x)) ≡ false
-    → Reads (hold c hs) c.state.world q v
-stable m c k hs v q t x (inl r) e n = r
-stable m c k hs v q t x (inr s) e n = absurd (let bad : true ≡ false = sym s.1 ∙ (ap (λ (z : ℕ). has_acted (t z)) (sym e) ∙ n) in cc)
+-- at that instant a load stays by what its processor has of the guards, or it finds what is shown, and is the act
+abbrev pub StaysOrActs : Instant → Work → List Held → View → WordPlace → (ℕ → Tree) → Type 0
+StaysOrActs c k hs v q t = Reads (grasp_of c hs) c.state.world q v ⊎ (Sees (k.grasp c hs) c.state.world q v × (has_acted (t (look v (c.memory.words q))) ≡ true))
 
--- so each is stable under the locks held then
+pub stays-or-acts : (c : Instant) (k : Work) (hs : List Held) (v : View) (q : WordPlace) (t : ℕ → Tree) → Loads c k hs v q t → StaysOrActs c k hs v q t
+stays-or-acts c k hs v q t (inl reads) = inl (part-meets (hold c hs) (grasp_of c hs) _ _ (hold-grasp c hs) reads)
+stays-or-acts c k hs v q t (inr (inl sees)) = inr sees
+stays-or-acts c k hs v q t (inr (inr reads)) = inl reads
+
+stable : (c : Instant) (k : Work) (hs : List Held) (v : View) (q : WordPlace) (t : ℕ → Tree) (x : ℕ) → StaysOrActs c k hs v q t → look v x ≡ look v (c.memory.words q) → has_acted (t (look v x)) ≡ false
+    → Reads (grasp_of c hs) c.state.world q v
+stable c k hs v q t x (inl r) e n = r
+stable c k hs v q t x (inr s) e n = absurd (let bad : true ≡ false = sym s.1 ∙ (ap (λ (z : ℕ). has_acted (t z)) (sym e) ∙ n) in cc)
+
+-- so each is stable at that instant, under the locks held when it was told
 pub told-reads : (m : Machine) (c : Instant) (k : Work) (hs : List Held) (t : Tree) (items : List (Item Reply)) (told : List ℕ) → Means m c k hs t items → Current c.memory.words t told → NotActed t told
-    → EachTold (λ ks v q. IsIn m q × Reads (hold c ks) c.state.world q v) t told hs
+    → EachTold (λ ks v q. IsIn m q × Reads (grasp_of c ks) c.state.world q v) t told hs
 told-reads m c k hs (Lock l q mode t) items [] a cu na = tt
 told-reads m c k hs (Lock l q mode t) [] (x ∷ xs) a cu na = absurd a
 told-reads m c k hs (Lock l q mode t) (Check b r ∷ is) (x ∷ xs) a cu na = absurd a
 told-reads m c k hs (Lock l q mode t) (Try l' mode' ∷ is) (x ∷ xs) a cu na = told-reads m c k (record { lock = l; mode = mode } ∷ hs) t is xs a.3 cu na
 told-reads m c k hs (Load v q t) items [] a cu na = tt
 told-reads m c k hs (Load v q t) items (x ∷ xs) a cu na = (
-  (a.0, stable m c k hs v q t x a.1 cu.0 na.0),
+  (a.0, stable c k hs v q t x (stays-or-acts c k hs v q t a.1) cu.0 na.0),
   told-reads m c k hs (t (look v x)) items xs (subst (λ (z : ℕ). Means m c k hs (t z) items) (sym cu.0) a.2) cu.1 na.1,
 )
 told-reads m c k hs (Test b r t) [] xs a cu na = absurd a

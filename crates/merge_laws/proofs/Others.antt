@@ -14,7 +14,7 @@ use Rattle.flat_core.specs.Event.{State}
 use Rattle.word_rules.specs.Guards.{Grip, Apart}
 use Rattle.word_rules.specs.Rules.{View, Whole, Grade}
 use Rattle.word_rules.specs.Views.{look}
-use Rattle.word_rules.specs.Permissions.{Reads, Owes, Fills, Respects, NoLaterConflict}
+use Rattle.word_rules.specs.Permissions.{Reads, Sees, Owes, Fills, Respects, NoLaterConflict}
 use Rattle.step_core.specs.Items.{Table}
 use Rattle.lock_words.specs.Grips.{HoldTdrs, HoldsTdr, UndoTdr, grip_of}
 use Rattle.lock_words.specs.LockWords.{put_word, IsNext}
@@ -24,7 +24,7 @@ use Rattle.leaf_engine.specs.declared.events.Stage.TheVariants as stages
 use Rattle.leaf_engine.specs.Changes.{Hand, Memory, Change}
 use Rattle.leaf_engine.specs.Trees.{Tree, Lock, Load, Test, End, Since, feed, settle}
 use Rattle.leaf_engine.specs.Follows.{granted, Comes}
-use Rattle.leaf_engine.specs.Means.{Task, Instant, IsAt, work_of, hold, MayFillAll}
+use Rattle.leaf_engine.specs.Means.{Task, Instant, IsAt, Work, work_of, hold, grasp_of, MayFillAll, Loads}
 use Rattle.leaf_engine.specs.Decides.{IsHand}
 use Rattle.leaf_engine.specs.Turns.{Standing}
 use Rattle.leaf_engine.specs.Calls.{IsLockAt, AreLocks, IsStage, IsShown}
@@ -35,7 +35,7 @@ use Rattle.merge_laws.proofs.Virtual.{table_of, holds-memory}
 use Rattle.merge_laws.proofs.Stores.{Due, last_at, or_else, EachDue, FillsAt, last-each}
 use Rattle.merge_laws.proofs.Filling.{Todo, Puts, Takes, all_todos, EachTodo, dues_of, fills-todo, dues-same}
 use Rattle.merge_laws.proofs.Keeping.{keeps-same}
-use Rattle.merge_laws.proofs.Holding.{bare, locks_at, lock_grip_of, IsOlder, whole, IsPart, parts-apart, older-part, locks-part, grasp-part, hold-part, lock-stays, EachTold, told-reads, told-older, still-current}
+use Rattle.merge_laws.proofs.Holding.{bare, locks_at, lock_grip_of, IsOlder, whole, IsPart, same-part, parts-apart, older-part, locks-part, with-part, grasp-part, hold-part, part-meets, lock-stays, EachTold, StaysOrActs, stays-or-acts, told-reads, told-older, still-current}
 use Rattle.merge_laws.proofs.Standing.{Laws, Trees, AreTrees, Known, HandOf, Does, task_for, moment, act_grip, RunsAt, DoesHere, on_table, Fill, Position, seen_by, back, AreLeft, AreLeftLoaded, FillHolds, Pending, Holds, Stands}
 use Rattle.lock_words.specs.LockWords.{HeldStand}
 use Rattle.merge_laws.proofs.Staying.{GuestStays}
@@ -105,29 +105,39 @@ due-move o s mem p d run here ra st mv e =
     ∙ (ap (λ (hs : List Held). next ((work_of d.meaning).items s.world) (length hs)) (sym (ra.at.told st).locks) ∙ e) in
     subst (λ (y : Move Reply). IsNext o s p (event_of d.meaning y)) is (here.doing mem).next
 
--- what was told is stable, under locks that it had then
-abbrev pub IsStable : Machine → World → List Held → List Held → View → WordPlace → Type 0
-IsStable m w all ks v q = IsOlder ks all × IsIn m q × Reads (bare ks) w q v
+-- a load of its leaf stays by all that the processor has, or finds what is shown by what it acts under
+pub load-stays : (o : Opening) (s : State) (mem : Memory) (p : ℕ) (d : Does) (hs : List Held) (v : View) (q : WordPlace) (t : ℕ → Tree) → DoesHere o s p d → hs ≡ d.far.held
+    → Loads (moment s mem p d) (work_of d.meaning) hs v q t → Reads (grip_of s p) s.world q v ⊎ Sees (act_grip s mem p d) s.world q v
+load-stays o s mem p d hs v q t here e loads = by (stays-or-acts c k d.far.held v q t (subst (λ (z : List Held). Loads c k z v q t) e loads))
+  where
+    c : Instant
+    c = moment s mem p d
 
--- what was told, under the locks held then with those that it keeps
-abbrev pub WithKept : (List Held → View → WordPlace → Type 0) → List Held → List Held → View → WordPlace → Type 0
-WithKept P kept ks v q = P (ks ++ kept) v q
+    k : Work
+    k = work_of d.meaning
+
+    by : StaysOrActs c k d.far.held v q t → Reads (grip_of s p) s.world q v ⊎ Sees (act_grip s mem p d) s.world q v
+    by (inl reads) = inl (part-meets (grasp_of c d.far.held) (grip_of s p) _ _ (with-part s p (d.far.held ++ d.kept) ([], sym here.locks)) reads)
+    by (inr sees) = inr sees.0
+
+-- what was told is stable, by what the processor has
+abbrev pub IsStable : Machine → World → Grip → List Held → View → WordPlace → Type 0
+IsStable m w g ks v q = IsIn m q × Reads g w q v
 
 pub stable-told : (o : Opening) (trees : Trees) (s : State) (mem : Memory) (t : Table) (pos : ℕ → Position) (p : ℕ) (d : Does) (run : Standing) → Known o s → Stands o trees s mem t pos → DoesHere o s p d
     → (ra : RunsAt (task_for o p d) d.far s.world mem.words run) → (e : run.stage ≡ stages.Trying)
-    → EachTold (WithKept (IsStable o.machine s.world (locks_at (s.lps p))) d.kept) d.tree (ra.at.told e).told []
+    → EachTold (IsStable o.machine s.world (grip_of s p)) d.tree (ra.at.told e).told []
 stable-told o trees s mem t pos p d run known st here ra e =
     let task : Task = task_for o p d in
     let told = ra.at.told e in
     let at : IsAt task (moment s mem p d) = at-moment o trees s mem t pos p d run known st here ra e in
     let reads = told-reads o.machine (moment s mem p d) (work_of task.meaning) [] d.tree ((work_of task.meaning).items s.world) told.told (here.means.means (moment s mem p d) at) told.current told.waits in
     let older = told-older d.tree told.told [] _ reads in
-    each d.tree told.told [] (λ ks v q x. (
-      subst (λ (all : List Held). IsOlder (ks ++ d.kept) all) here.locks
-          (x.0.0, ap (λ (hs : List Held). hs ++ d.kept) (sym told.locks ∙ x.0.1) ∙ append_assoc x.0.0 ks d.kept),
-      x.1.0,
-      x.1.1,
-    )) older
+    each d.tree told.told [] (λ ks v q x.
+    let before : IsOlder (ks ++ d.kept) (locks_at (s.lps p)) =
+    subst (λ (all : List Held). IsOlder (ks ++ d.kept) all) here.locks
+    (x.0.0, ap (λ (hs : List Held). hs ++ d.kept) (sym told.locks ∙ x.0.1) ∙ append_assoc x.0.0 ks d.kept) in
+    (x.1.0, part-meets (grasp_of (moment s mem p d) ks) (grip_of s p) _ _ (with-part s p (ks ++ d.kept) before) x.1.1)) older
   where
     each : {P Q : List Held → View → WordPlace → Type 0} (t : Tree) (told : List ℕ) (hs : List Held) → ((ks : List Held) (v : View) (q : WordPlace) → P ks v q → Q ks v q) → EachTold P t told hs → EachTold Q t told hs
     each (Lock l q m t) [] hs f e = tt
@@ -272,7 +282,7 @@ leaf-stays ls o trees s mem t pos k d run w' words' a a' g' known st here lv ra 
             let told = ra.at.told e in
             record {
               told = told.told;
-              current = still-current d.tree told.told [] mem.words words' _ (stable-told o trees s mem t pos k d run known st here ra e) (λ hs v q x. lv.looks (bare (hs ++ d.kept)) v q (older-part s k (hs ++ d.kept) x.0) x.1 x.2) told.current;
+              current = still-current d.tree told.told [] mem.words words' _ (stable-told o trees s mem t pos k d run known st here ra e) (λ hs v q x. lv.looks (grip_of s k) v q (same-part (grip_of s k)) x.0 x.1) told.current;
               waits = told.waits;
               rest = told.rest;
               locks = told.locks;

@@ -22,7 +22,7 @@ use Rattle.step_core.specs.Items.{Table, with_slot}
 use Rattle.leaf_engine.specs.declared.events.Stage.TheVariants as stages
 use Rattle.leaf_engine.specs.Changes.{Memory}
 use Rattle.leaf_engine.specs.Trees.{Tree, Lock, Load, Test, End, Since, feed, settle, fed, has_acted}
-use Rattle.leaf_engine.specs.Means.{Task, Instant, work_of, hold, Loads}
+use Rattle.leaf_engine.specs.Means.{Task, Instant, work_of, Loads}
 use Rattle.leaf_engine.specs.Decides.{IsHand}
 use Rattle.leaf_engine.specs.Items.{IsLoadAt}
 use Rattle.leaf_engine.specs.Turns.{Standing}
@@ -34,10 +34,10 @@ use Rattle.leaf_engine.proofs.Loading.{LooksRight, current-load, granted-load}
 use Rattle.leaf_engine.proofs.Changing.{word_put}
 use Rattle.merge_laws.proofs.Stores.{Due, last_at, or_else, first-at, not-at, laid, laid-one, laid-same, last-each, OwesAt, FillsAt}
 use Rattle.merge_laws.proofs.Keeping.{Keeps, keeps-same, laid-looks}
-use Rattle.merge_laws.proofs.Holding.{lock_grip_of, IsPart, locks-part, turned-round}
+use Rattle.merge_laws.proofs.Holding.{lock_grip_of, IsPart, same-part, locks-part, turned-round}
 use Rattle.merge_laws.proofs.Standing.{RunsAt, Trees, Does, task_for, moment, act_grip, DoesHere, Laws, AreTrees, Known, on_table, Fill, Position, back, Pending, Holds, Slots, Stands}
 use Rattle.merge_laws.proofs.Lines.{does-here}
-use Rattle.merge_laws.proofs.Others.{at-moment, hold-is, act-part, grips-apart, fill-may}
+use Rattle.merge_laws.proofs.Others.{at-moment, act-part, grips-apart, load-stays, fill-may}
 use Rattle.merge_laws.proofs.Swaps.{SwapDue}
 use Rattle.merge_laws.proofs.SlotSteps.{slots-stay, slots-swap}
 use Rattle.merge_laws.proofs.Own.{at-other, grown, apart-from, FillsThere, due-at}
@@ -115,33 +115,26 @@ loads-right ls o trees s mem t pos p d run at a are known sd i none here ra e lo
     hs : List Held
     hs = granted d.tree told []
 
-    own-is : hold inst hs ≡ lock_grip_of s p
-    own-is = ap (hold inst) (ra.at.told e).locks ∙ hold-is o s mem p d here
-
     act : Grip
     act = act_grip s mem p d
-
-    act-is : (work_of d.meaning).grasp inst hs ≡ act
-    act-is = ap ((work_of d.meaning).grasp inst) (ra.at.told e).locks
 
     act-of-it : IsPart act (grip_of s p)
     act-of-it = act-part o s mem p d here
 
-    never : (v : View) (q : WordPlace) (k : ℕ → Tree) → Loads inst (work_of task.meaning) hs v q k → (j : ℕ) → j < length o.calls → (j == p) ≡ false → (g : Grade) → Owes (lock_grip_of s j) s.world q g → spares g v ≡ false → ⊥
-    never v q k (inl reads) j l n g owes ns =
-        (ls.words (lock_grip_of s p) (lock_grip_of s j) s.world (turned-round (lock_grip_of s j) (lock_grip_of s p) (apart-from ls o s p j (lock_grip_of s p) known i l n (locks-part s p)))).reads_owes q v g ns
-        (subst (λ (x : Grip). Reads x s.world q v) own-is reads) owes
-    never v q k (inr sees) j l n g owes ns =
-        (ls.words act (lock_grip_of s j) s.world (turned-round (lock_grip_of s j) act (apart-from ls o s p j act known i l n act-of-it))).sees_owes q v g ns
-        (subst (λ (x : Grip). Sees x s.world q v) act-is sees.0) owes
+    stay : (v : View) (q : WordPlace) (k : ℕ → Tree) → Loads inst (work_of task.meaning) hs v q k → Reads (grip_of s p) s.world q v ⊎ Sees act s.world q v
+    stay v q k lo = load-stays o s mem p d hs v q k here (ra.at.told e).locks lo
 
-    never-filled : (v : View) (q : WordPlace) (k : ℕ → Tree) → Loads inst (work_of task.meaning) hs v q k → (j : ℕ) → j < length o.calls → (j == p) ≡ false → (g : Grip) → IsPart g (grip_of s j) → Fills g s.world q → ⊥
-    never-filled v q k (inl reads) j l n g part fills =
-        (ls.words g (lock_grip_of s p) s.world (grips-apart ls o s j p g (lock_grip_of s p) known l i n part (locks-part s p))).fills_reads q v fills
-        (subst (λ (x : Grip). Reads x s.world q v) own-is reads)
-    never-filled v q k (inr sees) j l n g part fills =
-        (ls.words g act s.world (grips-apart ls o s j p g act known l i n part act-of-it)).fills_sees q v fills
-        (subst (λ (x : Grip). Sees x s.world q v) act-is sees.0)
+    never : (v : View) (q : WordPlace) → Reads (grip_of s p) s.world q v ⊎ Sees act s.world q v → (j : ℕ) → j < length o.calls → (j == p) ≡ false → (g : Grade) → Owes (lock_grip_of s j) s.world q g → spares g v ≡ false → ⊥
+    never v q (inl reads) j l n g owes ns =
+        (ls.words (grip_of s p) (lock_grip_of s j) s.world (turned-round (lock_grip_of s j) (grip_of s p) (apart-from ls o s p j (grip_of s p) known i l n (same-part (grip_of s p))))).reads_owes q v g ns reads owes
+    never v q (inr sees) j l n g owes ns =
+        (ls.words act (lock_grip_of s j) s.world (turned-round (lock_grip_of s j) act (apart-from ls o s p j act known i l n act-of-it))).sees_owes q v g ns sees owes
+
+    never-filled : (v : View) (q : WordPlace) → Reads (grip_of s p) s.world q v ⊎ Sees act s.world q v → (j : ℕ) → j < length o.calls → (j == p) ≡ false → (g : Grip) → IsPart g (grip_of s j) → Fills g s.world q → ⊥
+    never-filled v q (inl reads) j l n g part fills =
+        (ls.words g (grip_of s p) s.world (grips-apart ls o s j p g (grip_of s p) known l i n part (same-part (grip_of s p)))).fills_reads q v fills reads
+    never-filled v q (inr sees) j l n g part fills =
+        (ls.words g act s.world (grips-apart ls o s j p g act known l i n part act-of-it)).fills_sees q v fills sees
 
     Either : (v : View) (q : WordPlace) (j : ℕ) → Type 0
     Either v q j = (last_at (pos j).owes q ≡ None) ⊎ ((g : Grip) × (w : World) × Keeps m g w (on_table m t) (pos j).owes × ((x : Grade) → Owes g w q x → spares x v ≡ false → ⊥))
@@ -150,7 +143,7 @@ loads-right ls o trees s mem t pos p d run at a are known sd i none here ra e lo
     each v q k lo j l = test (j == p) refl
       where
         other : (j == p) ≡ false → (f : Option Fill) → Pending o trees j s.world mem.words (on_table m t) (s.lps j) (pos j).at (pos j).owes f → Either v q j
-        other h None pe = inr (lock_grip_of s j, s.world, pe, never v q k lo j l h)
+        other h None pe = inr (lock_grip_of s j, s.world, pe, never v q (stay v q k lo) j l h)
         other h (Some f) pe = inl (pe.undo q ∙ made (last_at f.made q) refl)
           where
             there : DoesHere o s j f.does
@@ -159,7 +152,7 @@ loads-right ls o trees s mem t pos p d run at a are known sd i none here ra e lo
             made : (x : Option ℕ) → last_at f.made q ≡ x → back (last_at f.made q) (mem.words q) ≡ None
             made None e = ap (λ (z : Option ℕ). back z (mem.words q)) e
             made (Some x) e =
-                absurd (never-filled v q k lo j l h (act_grip s mem j f.does) (act-part o s mem j f.does there)
+                absurd (never-filled v q (stay v q k lo) j l h (act_grip s mem j f.does) (act-part o s mem j f.does there)
                 (last-each ls.places (FillsAt m (act_grip s mem j f.does) s.world) f.made q x (fill-may o trees s mem t pos j f known sd there (on_table m t) (pos j).at (pos j).owes pe).made e).1)
 
         test : (b : Bool) → (j == p) ≡ b → Either v q j
