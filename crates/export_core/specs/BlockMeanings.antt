@@ -169,5 +169,5 @@ block_write-means p t gpa limits = record {
       let rest : List (Item Reply) = has_page w t gpa 0 ∷ named_page w t gpa 0 Exclusive ∷ state_in w t gpa 0 writable_states ∷ [] in
       checks-mean m c k [] (arguments m t gpa) (block_write_map m t gpa) (td_shared w t live_ops ++ tree_shared t ∷ epoch_shared t ∷ (walk w t gpa 0 ++ rest)) (λ a.
       let small : gpa < 2 ^ 47 = ltb-true gpa (2 ^ 47) a.1.0 in
-      writable-means m c k t (ltb-true t m.pages a.0) limits.pages.1 at.lawful at.shown gpa small live_ops writable_states (block_write_rest t (index_at 0 gpa)) (λ x. rest-means m c t gpa limits.pages.1 at.lawful at.shown small x)));
+      writable-means m c k t (ltb-true t m.pages a.0) limits.pages.1 at.lawful at.shown gpa small live_ops writable_states (block_write_rest t (index_at 0 gpa)) [] (λ x. rest-means m c t gpa limits.pages.1 at.lawful at.shown small x)));
 }

@@ -1,4 +1,4 @@
--- The beginning of the call that blocks writing means what its row says.
+-- The beginning of the calls that share a TD's map means what their rows say, up to the state of the entry.
 use Rattle.std.proofs.Common.{◌≡◌, ℕ, ◌^◌, ◌<◌, ◌≤◌, Bool, true, false, not, ◌==◌, List, [], ◌∷◌, ◌++◌, refl, ap, sym, ◌∙◌, subst, inl, arith}
 use Rattle.std.specs.List.{list_any}
 use Rattle.std.proofs.lemmas.Bool.{eq-eqb, ne_eqb}
@@ -95,7 +95,7 @@ pub writable-locks-stay : (w w' : World) (t p : ℕ) → w'.tds.controls t ≡ w
 writable-locks-stay w w' t p same stand = ((refl, λ z. z), ((rw same refl, stand), ((rw same refl, stand), ((rw same refl, stand), ((refl, λ z. z), tt)))))
 
 module _ (m : Machine) (c : Instant) (k : Work) (t : ℕ) (in_page : t < m.pages) (limit : m.pages ≤ 1024) (la : Lawful m c.state.world) (sh : Shows m c.memory.words c.memory.slots c.state) (gpa : ℕ) (small : gpa < 2 ^ 47) (ops : List OpState) (allowed : List EntryState)
-    (further : Named → Tree) where
+    (further : Named → Tree) (rest : List (Item Reply)) where
   abbrev w : World
   w = c.state.world
 
@@ -103,7 +103,7 @@ module _ (m : Machine) (c : Instant) (k : Work) (t : ℕ) (in_page : t < m.pages
   e = entry_at c.state.world t 0 gpa
 
   abbrev named_rest : List (Item Reply)
-  named_rest = named_page w t gpa 0 Exclusive ∷ state_in w t gpa 0 allowed ∷ []
+  named_rest = named_page w t gpa 0 Exclusive ∷ state_in w t gpa 0 allowed ∷ rest
 
   abbrev found_rest : List (Item Reply)
   found_rest = has_page w t gpa 0 ∷ named_rest
@@ -111,7 +111,7 @@ module _ (m : Machine) (c : Instant) (k : Work) (t : ℕ) (in_page : t < m.pages
   abbrev behind_page : (tdcs at page : ℕ) → Tree
   behind_page tdcs at p = held_tree m.pages tdcs gpa at allowed p further
 
-  module _ (h : (x : IsWritable m w t gpa ops allowed) → Means m c k (writable_locks t e.page) (further (record { tdcs = x.td.controls.tdcs; page = x.page; entry = e })) []) (y : IsTd m w t ops) where
+  module _ (h : (x : IsWritable m w t gpa ops allowed) → Means m c k (writable_locks t e.page) (further (record { tdcs = x.td.controls.tdcs; page = x.page; entry = e })) rest) (y : IsTd m w t ops) where
     shared : HoldsTree (shared_locks t ++ c.kept) t
     shared = record { tdr = rw (eq-eqb t t refl) refl; op = rw (eq-eqb t t refl) refl; tree = rw (eq-eqb t t refl) refl }
 
@@ -127,7 +127,7 @@ module _ (m : Machine) (c : Instant) (k : Work) (t : ℕ) (in_page : t < m.pages
             refl,
             refl,
             record { in_machine = inside; at = refl; stands = tt; allowed = inl tt },
-            entry-means m c k t in_page limit la sh y.alive y.controls hs gpa small at 0 (λ f. state_tree f allowed (further (record { tdcs = y.controls.tdcs; page = at; entry = f }))) (state_in w t gpa 0 allowed ∷ []) has
+            entry-means m c k t in_page limit la sh y.alive y.controls hs gpa small at 0 (λ f. state_tree f allowed (further (record { tdcs = y.controls.tdcs; page = at; entry = f }))) (state_in w t gpa 0 allowed ∷ rest) has
                 (named-reads m c t sh y.alive y.controls hs locks.tree gpa at 0 small has its)
                 (refl, λ z. refl, λ st. h (record { td = y; page = at; has = has; state = st; used = used; node = node; in_machine = inside; apart = off })),
           )
@@ -162,14 +162,14 @@ module _ (m : Machine) (c : Instant) (k : Work) (t : ℕ) (in_page : t < m.pages
     abbrev behind_epoch : Tree
     behind_epoch = root_page_tree m.pages t (λ root. walk_tree m.pages root gpa 0 behind_walk)
 
-    map-means : Means m c k (op_lock t Shared ∷ page_lock t Shared ∷ []) (shared_walk m.pages t gpa y.controls.tdcs behind_walk) (tree_shared t ∷ epoch_shared t ∷ (walk w t gpa 0 ++ found_rest))
+    pub map-means : Means m c k (op_lock t Shared ∷ page_lock t Shared ∷ []) (shared_walk m.pages t gpa y.controls.tdcs behind_walk) (tree_shared t ∷ epoch_shared t ∷ (walk w t gpa 0 ++ found_rest))
     map-means =
         tree-lock-means m c k t in_page limit la sh y.alive y.controls (op_lock t Shared ∷ page_lock t Shared ∷ []) Shared (epoch_lock_tree t y.controls.tdcs Shared behind_epoch) (epoch_shared t ∷ (walk w t gpa 0 ++ found_rest)) (rw (eq-eqb t t refl) refl)
         (epoch-lock-means m c k t y.alive y.controls (tree_held t Shared ∷ op_lock t Shared ∷ page_lock t Shared ∷ []) Shared behind_epoch (walk w t gpa 0 ++ found_rest) (rw (eq-eqb t t refl) refl)
         (root-page-means m c k t in_page limit la sh y.alive y.controls (shared_locks t) (λ root. walk_tree m.pages root gpa 0 behind_walk) (walk w t gpa 0 ++ found_rest) shared.tdr
         (walk-means m c k t in_page limit la sh y.alive y.controls (shared_locks t) gpa small shared 0 behind_walk found_rest (omega arith) page-means)))
 
-  pub writable-means : ((x : IsWritable m w t gpa ops allowed) → Means m c k (writable_locks t e.page) (further (record { tdcs = x.td.controls.tdcs; page = x.page; entry = e })) [])
+  pub writable-means : ((x : IsWritable m w t gpa ops allowed) → Means m c k (writable_locks t e.page) (further (record { tdcs = x.td.controls.tdcs; page = x.page; entry = e })) rest)
       → Means m c k [] (writable_tree m.pages t gpa ops allowed further) (td_shared w t ops ++ tree_shared t ∷ epoch_shared t ∷ (walk w t gpa 0 ++ found_rest))
   writable-means h =
       td-head-means m c k t in_page la sh Shared ops (λ td. shared_walk m.pages t gpa td.tdcs (λ at. page_tree m.pages gpa at (behind_page td.tdcs at))) (tree_shared t ∷ epoch_shared t ∷ (walk w t gpa 0 ++ found_rest))

@@ -1,10 +1,10 @@
-//! The beginning of the call that blocks writing, which shares the map.
+//! The beginning of the calls that share the map: the one that blocks writing, and the export of a page.
 
 ghost use Rattle.std.specs.Prelude.{◌≡◌, ℕ, ◌<◌, MatchResult};
 ghost use Rattle.word_rules.specs.Rules.{ThePage};
 ghost use Rattle.word_rules.specs.Views.{look, named_by};
 ghost use Rattle.leaf_engine.specs.Inside.{StopIn};
-ghost use Rattle.leaf_parts.specs.Parts.{Goes, Uses};
+ghost use Rattle.leaf_parts.specs.Parts.{Goes, Feeds, Uses};
 ghost use Rattle.export_core.specs.WriteTrees.{shared_walk, page_tree, held_tree, writable_tree};
 
 use leaf_engine::{Place, Stop, Told};
@@ -20,9 +20,16 @@ const NO_PAGE: u64 = 1 << 16;
 
 /// The secure EPT page in which the entry of level 0 stands that maps a GPA, under the map that is
 /// shared and an epoch that stays.
-fn shared_walk(told: &mut Told, place: Place, tdr: u16, tdcs: u16, gpa: u64) -> Result<u16, Stop>
+pub fn shared_walk(
+    told: &mut Told,
+    place: Place,
+    tdr: u16,
+    tdcs: u16,
+    gpa: u64,
+) -> Result<u16, Stop>
     requires { (tdr < place.machine.pages) × (tdcs < place.machine.pages) }
     ensures goes { Goes place.machine.pages (λ f. shared_walk place.machine.pages tdr gpa tdcs f) told.old.left.now told.new.left.now result }
+    ensures feeds { Feeds (λ f. shared_walk place.machine.pages tdr gpa tdcs f) told.old.left.now told.new.left.now result }
     ensures uses { Uses 6 told.old.left.now told.new.left.now result }
     ensures inside { MatchResult result (λ p. p < place.machine.pages) (λ e. StopIn place.machine e) }
 {
@@ -33,9 +40,10 @@ fn shared_walk(told: &mut Told, place: Place, tdr: u16, tdcs: u16, gpa: u64) -> 
 }
 
 /// The page that the entry names, if it names one.
-fn page_of(told: &mut Told, place: Place, at: u16, gpa: u64) -> Result<u16, Stop>
+pub fn page_of(told: &mut Told, place: Place, at: u16, gpa: u64) -> Result<u16, Stop>
     requires { at < place.machine.pages }
     ensures goes { Goes place.machine.pages (λ f. page_tree place.machine.pages gpa at f) told.old.left.now told.new.left.now result }
+    ensures feeds { Feeds (λ f. page_tree place.machine.pages gpa at f) told.old.left.now told.new.left.now result }
     ensures uses { Uses 1 told.old.left.now told.new.left.now result }
     ensures inside { MatchResult result (λ p. p < place.machine.pages) (λ e. StopIn place.machine e) }
 {
@@ -46,7 +54,7 @@ fn page_of(told: &mut Told, place: Place, at: u16, gpa: u64) -> Result<u16, Stop
 }
 
 /// That page is held alone, and the entry's state is one of these.
-fn held_entry(
+pub fn held_entry(
     told: &mut Told,
     place: Place,
     tdcs: u16,
@@ -57,6 +65,7 @@ fn held_entry(
 ) -> Result<Named, Stop>
     requires { (tdcs < place.machine.pages) × (at < place.machine.pages) × (page < place.machine.pages) }
     ensures goes { Goes place.machine.pages (λ f. held_tree place.machine.pages tdcs gpa at allowed.now page f) told.old.left.now told.new.left.now result }
+    ensures feeds { Feeds (λ f. held_tree place.machine.pages tdcs gpa at allowed.now page f) told.old.left.now told.new.left.now result }
     ensures uses { Uses 2 told.old.left.now told.new.left.now result }
     ensures inside { MatchResult result (λ n. (n.tdcs < place.machine.pages) × (n.page < place.machine.pages) × (n.entry.page < place.machine.pages)) (λ e. StopIn place.machine e) }
 {

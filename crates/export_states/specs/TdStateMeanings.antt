@@ -27,7 +27,7 @@ use Rattle.leaf_parts.proofs.Checks.{spot_of, at-tdcs, td-row-means, tdcs-load}
 use Rattle.stream_parts.specs.declared.rooms.Room.{Room}
 use Rattle.stream_parts.specs.Rooms.{room_tree, session_tree, mig_epoch_tree}
 use Rattle.stream_parts.proofs.StreamWords.{page-of}
-use Rattle.stream_parts.proofs.StreamMeans.{HoldsAlone, tdcs-means, room-means, session-means, mig_epoch-means}
+use Rattle.stream_parts.proofs.StreamMeans.{HoldsHead, HoldsAlone, tdcs-means, room-means, session-means, mig_epoch-means}
 use Rattle.stream_parts.proofs.Counted.{counter-owed, bundle-counted}
 use Rattle.access_core.specs.RtmrShows.{rtmr-line, rtmr-class}
 use Rattle.vcpu_control.specs.VpLocks.{td_locks}
@@ -58,6 +58,9 @@ module _ (m : Machine) (c : Instant) (t slot : ℕ) (la : Lawful m c.state.world
 
   own : HoldsAlone (hs ++ c.kept) t
   own = record { tdr = rw (eq-eqb t t refl) refl; op = rw (eq-eqb t t refl) refl; alone = rw (eq-eqb t t refl) refl }
+
+  head : HoldsHead (hs ++ c.kept) t
+  head = record { tdr = own.tdr; op = own.op }
 
   some : 0 < length (w.tds.streams t)
   some = (let one = la.sessions.first_stream t (paused-exports (w.tds.ops t) x.op) in omega (arith, one))
@@ -144,13 +147,13 @@ module _ (m : Machine) (c : Instant) (t slot : ℕ) (la : Lawful m c.state.world
   td_rest-means : Means m c k hs (td_state_tree m.pages z.tdcs (rtmrs_tree slot)) (td_state_left w t ∷ counter_room w t 0 ∷ [])
   td_rest-means =
       let room : Room = record { page = stream_page w t 0; counter = stream_counter w t 0 } in
-      tdcs-means m c k hs t la sh x.alive z own 12 (w.tds.td_exported t) (omega arith) refl refl by_exported (td_state_left w t ∷ counter_room w t 0 ∷ []) (
+      tdcs-means m c k hs t la sh x.alive z head 12 (w.tds.td_exported t) (omega arith) refl refl by_exported (td_state_left w t ∷ counter_room w t 0 ∷ []) (
         refl,
         λ e. refl,
         λ e.
             room-means m c k hs t la sh x.alive z own 0 some by_room [] (λ has.
-            session-means m c k hs t la sh x.alive z own (by_session room) []
-            (mig_epoch-means m c k hs t la sh x.alive z own (λ epoch. rtmrs_tree slot (told room (w.tds.sessions t) epoch)) [] payload)),
+            session-means m c k hs t la sh x.alive z head (by_session room) []
+            (mig_epoch-means m c k hs t la sh x.alive z head (λ epoch. rtmrs_tree slot (told room (w.tds.sessions t) epoch)) [] payload)),
       )
 
 abbrev arguments : Machine → (t : ℕ) → List (Bool × Status)

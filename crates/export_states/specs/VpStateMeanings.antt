@@ -36,7 +36,7 @@ use Rattle.leaf_parts.proofs.Vps.{vp-shown, vp-spot}
 use Rattle.stream_parts.specs.declared.rooms.Room.{Room}
 use Rattle.stream_parts.specs.Rooms.{room_tree, session_tree}
 use Rattle.stream_parts.proofs.StreamWords.{page-of}
-use Rattle.stream_parts.proofs.StreamMeans.{HoldsAlone, tdcs-means, room-means, session-means, mig_epoch-means}
+use Rattle.stream_parts.proofs.StreamMeans.{HoldsHead, HoldsAlone, tdcs-means, room-means, session-means, mig_epoch-means}
 use Rattle.stream_parts.proofs.Counted.{counter-owed, bundle-counted}
 use Rattle.access_core.specs.RtmrTrees.{register_at}
 use Rattle.access_core.specs.VpShows.{register-line, register-class}
@@ -83,6 +83,9 @@ module _ (m : Machine) (c : Instant) (t v slot : ℕ) (few : m.pages < 65536) (l
 
   own : HoldsAlone (hs ++ c.kept) t
   own = record { tdr = held-td t v Exclusive c.kept other; op = held-op t v Exclusive c.kept other; alone = alone-op t v c.kept }
+
+  head : HoldsHead (hs ++ c.kept) t
+  head = record { tdr = own.tdr; op = own.op }
 
   some : 0 < length (w.tds.streams t)
   some = (let one = la.sessions.first_stream t (paused-exports (w.tds.ops t) x.op) in omega (arith, one))
@@ -202,10 +205,10 @@ module _ (m : Machine) (c : Instant) (t v slot : ℕ) (few : m.pages < 65536) (l
         let index : ℕ = w.vps.indexes v in
         let position : ℕ = w.vps.positions v in
         let fits : index ≡ index % 2 ^ 16 = (let small = index-small m w t v la x.alive its in omega (arith, small)) in
-        mig_epoch-means m c k hs t la sh x.alive z own (λ e. Load Whole (place.Word v VP_INDEX) (by_index e)) []
+        mig_epoch-means m c k hs t la sh x.alive z head (λ e. Load Whole (place.Word v VP_INDEX) (by_index e)) []
         (vp-means 0 index (omega arith) refl refl (by_index epoch) []
         (vp-means 4 position (omega arith) refl refl (by_position epoch index) []
-        (tdcs-means m c k hs t la sh x.alive z own 13 (w.tds.vps_exported t) (omega arith) refl refl (λ count. registers_tree v slot (told epoch index position count)) []
+        (tdcs-means m c k hs t la sh x.alive z head 13 (w.tds.vps_exported t) (omega arith) refl refl (λ count. registers_tree v slot (told epoch index position count)) []
         (subst (λ (i : ℕ). Means m c k hs (registers_tree v slot (stated i)) []) fits payload))))
 
     -- it wasn't exported in the session
@@ -213,7 +216,7 @@ module _ (m : Machine) (c : Instant) (t v slot : ℕ) (few : m.pages < 65536) (l
     left =
         let rest : List (Item Reply) = vp_state_left w t v ∷ counter_room w t 0 ∷ [] in
         vp-means 5 (w.vps.exported v) (omega arith) refl refl (λ exported. session_tree z.tdcs (by_session exported)) rest
-        (session-means m c k hs t la sh x.alive z own (by_session (w.vps.exported v)) rest
+        (session-means m c k hs t la sh x.alive z head (by_session (w.vps.exported v)) rest
         (refl, λ e. refl, λ e. room-means m c k hs t la sh x.alive z own 0 some (by_room (w.tds.sessions t)) [] (λ room. said)))
 
   vp_rest-means : Means m c k (td_locks t Exclusive) (vp_state_tree m.pages t z.tdcs v (registers_tree v slot)) (page_exclusive v ∷ td_page w t v kind.Tdvpr ∷ vp_state_left w t v ∷ counter_room w t 0 ∷ [])

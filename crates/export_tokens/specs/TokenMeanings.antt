@@ -44,7 +44,7 @@ use Rattle.stream_parts.specs.Streams.{pages_tree, sum_tree}
 use Rattle.stream_parts.specs.Rooms.{room_tree, session_tree}
 use Rattle.stream_parts.proofs.StreamSums.{sum-fits}
 use Rattle.stream_parts.proofs.StreamWords.{abortable, page-of}
-use Rattle.stream_parts.proofs.StreamMeans.{HoldsAlone, tdcs-means, pages-means, sum-means, room-means, session-means, mig_epoch-means}
+use Rattle.stream_parts.proofs.StreamMeans.{HoldsHead, HoldsAlone, tdcs-means, pages-means, sum-means, room-means, session-means, mig_epoch-means}
 use Rattle.stream_parts.proofs.Counted.{bundle-counted, counter-owed}
 use Rattle.export_tokens.specs.declared.tokens.Streams.{Streams}
 use Rattle.export_tokens.specs.declared.tokens.TokenWords.{TokenWords}
@@ -80,6 +80,9 @@ module _ (m : Machine) (c : Instant) (t : ℕ) (la : Lawful m c.state.world) (sh
 
   own : HoldsAlone (held ++ c.kept) t
   own = record { tdr = rw (eq-eqb t t refl) refl; op = rw (eq-eqb t t refl) refl; alone = rw (eq-eqb t t refl) refl }
+
+  head : HoldsHead (held ++ c.kept) t
+  head = record { tdr = own.tdr; op = own.op }
 
   its-stream : IsPageOf w.pages t p kind.Migsc
   its-stream = page-of m w t 0 la x.alive first
@@ -130,22 +133,22 @@ module _ (m : Machine) (c : Instant) (t : ℕ) (la : Lawful m c.state.world) (sh
         let fits : sum_by w.streams.counters (w.tds.streams t) % 2 ^ 64 ≡ bundles_so_far w t = sum-fits w.streams.counters la.streams.counter (w.tds.streams t) few in
         let made : ℕ → ℕ → TokenWords = λ total session. record { tdcs = d; room = its-room; epoch = epoch; session = session; total = total } in
         sum-means m c k held t la sh x.alive z own 0 w.streams.counters (omega arith) (λ q. refl) refl (λ total. session_tree d (λ session. further (made total session))) rest
-        (session-means m c k held t la sh x.alive z own (λ session. further (made (sum_by w.streams.counters (w.tds.streams t) % 2 ^ 64) session)) rest
+        (session-means m c k held t la sh x.alive z head (λ session. further (made (sum_by w.streams.counters (w.tds.streams t) % 2 ^ 64) session)) rest
         (subst (λ (total : ℕ). Mean (further (made total (w.tds.sessions t))) rest) (sym fits) end))
 
     -- the epoch that begins
     next-means : (further : ℕ → Tree) (rest : List (Item Reply)) → Mean (further (w.tds.mig_epochs t + 1)) rest → Mean (next_epoch_tree d further) (mig_epoch_room w t ∷ rest)
     next-means further rest end =
-        mig_epoch-means m c k held t la sh x.alive z own (λ epoch. needs (nat_lt epoch (2 ^ 32 - 2)) (CounterLimit MigEpoch) (further (epoch + 1))) (mig_epoch_room w t ∷ rest) (refl, λ e. refl, λ e. end)
+        mig_epoch-means m c k held t la sh x.alive z head (λ epoch. needs (nat_lt epoch (2 ^ 32 - 2)) (CounterLimit MigEpoch) (further (epoch + 1))) (mig_epoch_room w t ∷ rest) (refl, λ e. refl, λ e. end)
 
     -- no state is missing
     missing-means : (further : Tree) (rest : List (Item Reply)) → Mean further rest → Mean (none_missing_tree d further) (none_missing w t ∷ rest)
     missing-means further rest end =
         let counted : missing_in (w.tds.td_exported t) (length (w.tds.vps t)) (w.tds.vps_exported t) ≡ missing_states w t = rw (vps-back (length (w.tds.vps t)) (la.tds.vps_few t)) refl in
         let tested : ℕ → Tree = λ n. needs (n == 0) (StateMissing n) further in
-        tdcs-means m c k held t la sh x.alive z own 12 (w.tds.td_exported t) (omega arith) refl refl (λ a. Load Whole (place.Word d 15) (λ b. Load Whole (place.Word d 13) (λ e. tested (missing_in a b e)))) (none_missing w t ∷ rest)
-        (tdcs-means m c k held t la sh x.alive z own 15 (length (w.tds.vps t)) (omega arith) refl refl (λ b. Load Whole (place.Word d 13) (λ e. tested (missing_in (w.tds.td_exported t) b e))) (none_missing w t ∷ rest)
-        (tdcs-means m c k held t la sh x.alive z own 13 (w.tds.vps_exported t) (omega arith) refl refl (λ e. tested (missing_in (w.tds.td_exported t) (length (w.tds.vps t)) e)) (none_missing w t ∷ rest)
+        tdcs-means m c k held t la sh x.alive z head 12 (w.tds.td_exported t) (omega arith) refl refl (λ a. Load Whole (place.Word d 15) (λ b. Load Whole (place.Word d 13) (λ e. tested (missing_in a b e)))) (none_missing w t ∷ rest)
+        (tdcs-means m c k held t la sh x.alive z head 15 (length (w.tds.vps t)) (omega arith) refl refl (λ b. Load Whole (place.Word d 13) (λ e. tested (missing_in (w.tds.td_exported t) b e))) (none_missing w t ∷ rest)
+        (tdcs-means m c k held t la sh x.alive z head 13 (w.tds.vps_exported t) (omega arith) refl refl (λ e. tested (missing_in (w.tds.td_exported t) (length (w.tds.vps t)) e)) (none_missing w t ∷ rest)
         (subst (λ (n : ℕ). Mean (tested n) (none_missing w t ∷ rest)) (sym counted) (refl, λ e. refl, λ e. end))))
 
     -- and no page is dirty

@@ -9,12 +9,15 @@ use Rattle.leaf_engine.specs.Trees.{Tree, Load, needs}
 use Rattle.stream_parts.specs.declared.rooms.Room.{Room}
 use Rattle.stream_parts.specs.Streams.{page_tree}
 
--- the stream of that number has room for another bundle
-abbrev pub room_tree : (pages tdcs stream : ℕ) → (Room → Tree) → Tree
-room_tree pages tdcs stream further =
-    page_tree pages tdcs stream (λ page.
+-- the stream of that page has room for another bundle
+abbrev pub counter_tree : (page : ℕ) → (Room → Tree) → Tree
+counter_tree page further =
     Load Whole (place.Word page STREAM_COUNTER) (λ counter.
-    needs (nat_lt counter (2 ^ 32 - 1)) (CounterLimit Mb) (further (record { page = page; counter = counter }))))
+    needs (nat_lt counter (2 ^ 32 - 1)) (CounterLimit Mb) (further (record { page = page; counter = counter })))
+
+-- the one of that number has
+abbrev pub room_tree : (pages tdcs stream : ℕ) → (Room → Tree) → Tree
+room_tree pages tdcs stream further = page_tree pages tdcs stream (λ page. counter_tree page further)
 
 -- the session, which has a number of 16 bits, and the migration epoch, which has one of 32. Any other number never stands where
 -- they are told

@@ -10,5 +10,5 @@
 mod rooms;
 mod streams;
 
-pub use rooms::{Room, mig_epoch, room_on, session};
-pub use streams::{STREAMS, stream_pages, stream_sum};
+pub use rooms::{Room, mig_epoch, room_of, room_on, session};
+pub use streams::{STREAMS, stream_page, stream_pages, stream_sum};

@@ -3,7 +3,7 @@
 ghost use Rattle.std.specs.Prelude.{◌≡◌, ◌-◌, ◌^◌, ◌<◌, MatchResult};
 ghost use Rattle.leaf_engine.specs.Inside.{StopIn};
 ghost use Rattle.leaf_parts.specs.Parts.{Goes, Feeds, Uses};
-ghost use Rattle.stream_parts.specs.Rooms.{room_tree, session_tree, mig_epoch_tree};
+ghost use Rattle.stream_parts.specs.Rooms.{counter_tree, room_tree, session_tree, mig_epoch_tree};
 
 use crate::streams::stream_page;
 use leaf_engine::{Stop, Told};
@@ -27,6 +27,17 @@ pub fn room_on(told: &mut Told, machine: Machine, tdcs: u16, stream: u16) -> Res
     ensures inside { MatchResult result (λ r. (r.page < machine.pages) × (r.counter < 2 ^ 32 - 1)) (λ e. StopIn machine e) }
 {
     let page = stream_page(told, machine, tdcs, stream)?;
+    room_of(told, machine, page)
+}
+
+/// The stream of that page has room for another bundle.
+pub fn room_of(told: &mut Told, machine: Machine, page: u16) -> Result<Room, Stop>
+    requires { page < machine.pages }
+    ensures goes { Goes machine.pages (λ f. counter_tree page f) told.old.left.now told.new.left.now result }
+    ensures feeds { Feeds (λ f. counter_tree page f) told.old.left.now told.new.left.now result }
+    ensures uses { Uses 1 told.old.left.now told.new.left.now result }
+    ensures inside { MatchResult result (λ r. (r.page ≡ page) × (r.counter < 2 ^ 32 - 1)) (λ e. StopIn machine e) }
+{
     let counter = told.load(word_address(page, STREAM_COUNTER))?;
     told.check(
         counter < u64::from(u32::MAX),

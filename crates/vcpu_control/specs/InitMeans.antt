@@ -33,7 +33,7 @@ use Rattle.vcpu_control.specs.InitShows.{initialized}
 
 -- what the words say
 
-vcpu_again : (s : VcpuState) → vcpu_told (vcpu_number s) ≡ s
+pub vcpu_again : (s : VcpuState) → vcpu_told (vcpu_number s) ≡ s
 vcpu_again vcpu.Created = refl
 vcpu_again vcpu.Ready = refl
 

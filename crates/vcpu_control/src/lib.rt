@@ -22,4 +22,4 @@ pub use vp_entries::Enter;
 pub use vp_exits::Exit;
 pub use vp_flushes::VpFlush;
 pub use vp_inits::VpInit;
-pub use words::says_page_of;
+pub use words::{says_page_of, vcpu_told};

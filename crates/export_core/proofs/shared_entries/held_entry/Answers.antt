@@ -4,7 +4,8 @@ use Rattle.td_words.specs.declared.refusals.Status.TheVariants.{EptEntryStateInc
 use Rattle.td_words.specs.Packing.{Entry}
 use Rattle.flat_core.specs.Tree.{same_state}
 use Rattle.leaf_engine.specs.Decides.{Decides}
-use Rattle.leaf_parts.proofs.Parts.{goes-stop, passes, refuses, exit}
+use Rattle.leaf_engine.specs.Trees.{feed}
+use Rattle.leaf_parts.proofs.Parts.{goes-stop, passes, refuses, feed-passes, exit}
 use Rattle.export_core.proofs.SharedDecided.{holding, behind_entry}
 use Rattle.export_core.proofs.shared_entries.held_entry.Goals as goal
 
@@ -37,3 +38,13 @@ returns-clause-goes c = λ k r d.
     (subst (λ (x : Entry). Decides n (behind_entry n c.args.tdcs c.args.gpa c.args.at a k x) c.entry.new.told.left.now r) (sym is)
     (passes n (list_any (λ s. same_state s f.state) a) (EptEntryStateIncorrect f.state) (k (record { tdcs = c.args.tdcs; page = c.args.at; entry = f })) c.entry.new.told.left.now r fits
     (subst (λ (x : Entry). Decides n (k (record { tdcs = c.args.tdcs; page = c.args.at; entry = x })) c.entry.new.told.left.now r) is d))))
+
+pub returns-clause-feeds : goal.returns-clause-feeds
+returns-clause-feeds c = λ k.
+    let n = c.args.place.machine.pages in let a = c.args.allowed.now in
+    let f : Entry = record { state = c.entry-2.inside.state; page = c.entry-2.inside.page; mark = c.entry-2.inside.mark } in
+    let is : c.in_ok-entry.entry ≡ f = cc in
+    let fits : list_any (λ s. same_state s f.state) a ≡ true = sym c.is_state_among.ensures ∙ c.in_ok-check.ensures in
+    rw c.in_ok-lock.ensures.1 (c.in_ok-entry.ensures.feeds (behind_entry n c.args.tdcs c.args.gpa c.args.at a k)
+    ∙ subst (λ (x : Entry). feed (behind_entry n c.args.tdcs c.args.gpa c.args.at a k x) c.entry.new.told.left.now ≡ feed (k (record { tdcs = c.args.tdcs; page = c.args.at; entry = x })) c.entry.new.told.left.now) (sym is)
+    (feed-passes (list_any (λ s. same_state s f.state) a) (EptEntryStateIncorrect f.state) (k (record { tdcs = c.args.tdcs; page = c.args.at; entry = f })) c.entry.new.told.left.now fits))

@@ -1,0 +1,5 @@
+pub mod PageExportTrees
+pub mod PageExportShows
+pub mod PageExportWords
+pub mod PageExportMeanings
+pub mod PageExportStages

@@ -1,0 +1,79 @@
+//! Room for the words of a page.
+
+use std::alloc::Global;
+use std::marker::Model;
+use td_words::OutOfMemory;
+
+/// How many words a page has.
+pub const WORDS: usize = 512;
+
+/// Words of a page, as far as they are told, and room for all of them.
+#[derive(Drop)]
+pub struct PageWords {
+    words: Vec<u64>,
+}
+
+impl Model for PageWords {
+    ghost use Rattle.std.specs.Prelude.{ℕ, List, ◌≤◌, vec_capacity};
+
+    ghost Value = { List ℕ };
+
+    ghost view = { λ p. p.words.items };
+
+    ghost invariant = { λ p. 512 ≤ vec_capacity p.words };
+}
+
+impl PageWords {
+    ghost use Rattle.std.specs.Prelude.{◌≡◌, ◌+◌, ◌<◌, ◌≤◌, [], ◌∷◌, ◌++◌, length, IfOk};
+
+    /// None yet. All the memory that they need is taken here.
+    pub fn new(alloc: Global) -> Result<PageWords, OutOfMemory>
+        ensures { IfOk result (λ ws. ws ≡ []) }
+    {
+        let Ok(words) = Vec::with_capacity(alloc, WORDS) else {
+            return Err(OutOfMemory);
+        };
+        Ok(PageWords { words })
+    }
+
+    /// Those that are told.
+    pub(crate) fn as_slice(&self) -> &[u64]
+        ensures { result.now ≡ self.now }
+    {
+        self.words.as_slice()
+    }
+
+    /// How many are told.
+    pub(crate) fn len(&self) -> usize
+        ensures { result ≡ length self.now }
+    {
+        self.words.len()
+    }
+
+    /// None is told any more.
+    pub(crate) fn clear(&mut self)
+        ensures { self.new ≡ [] }
+    {
+        self.words.clear();
+    }
+
+    /// One more is told.
+    pub(crate) fn push(&mut self, word: u64)
+        requires { length self.old < 512 }
+        ensures { self.new ≡ self.old ++ word ∷ [] }
+    {
+        let Ok(()) = self.words.push(word) else {
+            unreachable!()
+        };
+    }
+
+    /// These are told as well.
+    pub(crate) fn append(&mut self, words: &[u64])
+        requires { length self.old + length words.now ≤ 512 }
+        ensures { self.new ≡ self.old ++ words.now }
+    {
+        let Ok(()) = self.words.extend_from_slice(words) else {
+            unreachable!()
+        };
+    }
+}
