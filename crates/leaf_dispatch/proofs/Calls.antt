@@ -49,6 +49,7 @@ use Rattle.key_table.specs.FlushMeanings.{flush-means}
 use Rattle.key_table.specs.EndMeanings.{free-means}
 use Rattle.td_control.specs.FinalMeanings.{finalize-means}
 use Rattle.export_sessions.specs.SessionMeanings.{immutable-means}
+use Rattle.export_pages.specs.PageExportMeanings.{page_export-means}
 use Rattle.export_tokens.specs.TokenMeanings.{token-means}
 use Rattle.export_states.specs.TdStateMeanings.{td_state-means}
 use Rattle.export_states.specs.VpStateMeanings.{vp_state-means}
@@ -98,6 +99,7 @@ of-place p (call.ExportPause tdr) = refl
 of-place p (call.ExportAbort tdr) = refl
 of-place p (call.ExportRestore tdr gpa) = refl
 of-place p (call.ExportStateImmutable tdr slot) = refl
+of-place p (call.ExportMem tdr gpa stream slot) = refl
 of-place p (call.ExportTrack tdr slot start) = refl
 of-place p (call.ExportStateTd tdr slot) = refl
 of-place p (call.ExportStateVp tdr vp slot) = refl
@@ -137,6 +139,7 @@ of-row o p (call.ExportPause tdr) = refl
 of-row o p (call.ExportAbort tdr) = refl
 of-row o p (call.ExportRestore tdr gpa) = refl
 of-row o p (call.ExportStateImmutable tdr slot) = refl
+of-row o p (call.ExportMem tdr gpa stream slot) = refl
 of-row o p (call.ExportTrack tdr slot start) = refl
 of-row o p (call.ExportStateTd tdr slot) = refl
 of-row o p (call.ExportStateVp tdr vp slot) = refl
@@ -177,6 +180,7 @@ means p (call.ExportPause tdr) m = pause-means p tdr
 means p (call.ExportAbort tdr) m = abort-means p tdr
 means p (call.ExportRestore tdr gpa) m = restore-means p tdr gpa m
 means p (call.ExportStateImmutable tdr slot) m = immutable-means p tdr slot
+means p (call.ExportMem tdr gpa stream slot) m = page_export-means p tdr gpa stream slot m
 means p (call.ExportTrack tdr slot start) m = token-means p tdr slot start
 means p (call.ExportStateTd tdr slot) m = td_state-means p tdr slot
 means p (call.ExportStateVp tdr vp slot) m = vp_state-means p tdr vp slot (let few = m.pages.1 in omega arith)

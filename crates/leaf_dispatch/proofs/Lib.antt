@@ -4,6 +4,7 @@ pub mod Keeping
 pub mod Tries
 pub mod StepTurns
 pub mod Calls
+pub mod PageRooms
 pub mod Follows
 pub mod Stepping
 pub mod Walking

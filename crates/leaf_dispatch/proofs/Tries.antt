@@ -10,6 +10,7 @@ use Rattle.td_words.specs.declared.names.VcpuState.TheVariants as vcpu
 use Rattle.td_words.specs.declared.names.Mode.TheVariants.{Shared}
 use Rattle.td_words.specs.declared.names.EntryState.{EntryState}
 use Rattle.td_words.specs.declared.names.OpState.{OpState}
+use Rattle.td_words.specs.declared.names.OpState.TheVariants as ops
 use Rattle.td_words.specs.declared.names.Access.{Access}
 use Rattle.td_words.specs.declared.names.Access.TheVariants.{Read, Write}
 use Rattle.td_words.specs.declared.calls.GuestOp.TheVariants as op
@@ -35,8 +36,9 @@ use Rattle.leaf_engine.specs.declared.needs.Place.{Place}
 use Rattle.leaf_engine.specs.Changes.{Change}
 use Rattle.leaf_engine.specs.Trees.{Answer, only, Tree, Lock, Load, Test, End, Since, needs, answers, acts, done}
 use Rattle.leaf_engine.specs.Guests.{Step, Operates, Accesses, Loads, Leaves}
+use Rattle.leaf_parts.specs.declared.heads.Td.{Td}
 use Rattle.leaf_parts.specs.declared.vp_words.VpWord.{VpWord}
-use Rattle.leaf_parts.specs.Words.{says_host, page_told, vps_told}
+use Rattle.leaf_parts.specs.Words.{says_host, op_told, page_told, vps_told}
 use Rattle.leaf_parts.specs.Vps.{vps_from}
 use Rattle.access_core.specs.HostTrees.{read_word}
 use Rattle.access_core.specs.OperationTrees.{with_notes, with_position}
@@ -58,6 +60,7 @@ use Rattle.mem_remove.specs.NamedTrees.{taken_tree, named_tree}
 use Rattle.mem_remove.specs.TrackedTrees.{blocked_told, tracked_from, tracked_tree}
 use Rattle.mem_remove.specs.RangeTrees.{block_rest, unblock_rest, unblock_changes}
 use Rattle.mem_remove.specs.RemoveTrees.{is_used, scan_tree, given_tree, remove_rest, sept_remove_rest}
+use Rattle.flat_core.specs.BundleRows.{exportable}
 use Rattle.flat_core.specs.ExportRows.{live_ops, writable_states, write_blocked_states, restoring_ops, restored_states}
 use Rattle.export_core.specs.OpenedTrees.{opened_tree}
 use Rattle.export_core.specs.WriteTrees.{held_tree, page_tree, writable_tree, block_write_rest, unblock_write_rest}
@@ -70,6 +73,8 @@ use Rattle.export_states.specs.declared.states.Stated.{Stated}
 use Rattle.export_states.specs.StateTrees.{state_end}
 use Rattle.td_words.specs.declared.places.TheConstants.{TDCS_MRTD}
 use Rattle.export_tokens.specs.TokenTrees.{token_task}
+use Rattle.export_pages.specs.declared.page_exports.Exporting.{Exporting}
+use Rattle.export_pages.specs.PageExportTrees.{tracked_in_tree, said_tree, named_rest, td_rest, words_tree as page_words, page_words_tree, page_export_end, page_export_task}
 use Rattle.export_states.specs.TdStateTrees.{td_changes, td_state_tree, rtmr_at as td_rtmr_at, rtmrs_tree, td_state_task}
 use Rattle.export_states.specs.VpStateTrees.{vp_changes, vp_state_tree, registers_tree, vp_state_task}
 use Rattle.mem_build.specs.PageAugTrees.{page_aug_rest}
@@ -290,11 +295,58 @@ vp_state-makes p tdr vp slot = (
   λ pamt life count tdcs. (omega arith, λ op. vp_rest-makes p.machine.pages tdr (page_told p.machine.pages tdcs) vp (registers_tree vp slot) (registers-make vp slot)),
 )
 
+-- a page of an export
+walk-makes : (w n pages gpa count level page : ℕ) (k : ℕ → Tree) → ((q : ℕ) → MakesAtMost w n (k q)) → MakesAtMost w n (walk_on_tree pages gpa count level page k)
+walk-makes w n pages gpa zero level page k few = few page
+walk-makes w n pages gpa (suc count) level page k few = λ word. walk-makes w n pages gpa count (level - 1) _ k few
+
+from-makes : (w n : ℕ) (is_previous : Bool) (tdcs blocked epoch : ℕ) (further : Tree) → MakesAtMost w n further → MakesAtMost w n (tracked_from is_previous tdcs blocked epoch further)
+from-makes w n true tdcs blocked epoch further few = λ count. few
+from-makes w n false tdcs blocked epoch further few = few
+
+tracked-makes : (w n : ℕ) (o : OpState) (tdcs page : ℕ) (further : Tree) → MakesAtMost w n further → MakesAtMost w n (tracked_in_tree o tdcs page further)
+tracked-makes w n ops.LiveExport tdcs page further few = λ pamt epoch. from-makes w n (blocked_told pamt + 1 == epoch) tdcs (blocked_told pamt) epoch further few
+tracked-makes w n _ tdcs page further few = few
+
+page_words-make : (w n page from left : ℕ) (k : List ℕ → Tree) → ((xs : List ℕ) → length xs ≡ left → MakesAtMost w n (k xs)) → MakesAtMost w n (page_words page from left k)
+unfolding page_words
+page_words-make w n page from zero k few = few [] refl
+page_words-make w n page from (suc left) k few = λ x. page_words-make w n page (suc from) left (λ xs. k (x ∷ xs)) (λ xs long. few (x ∷ xs) (omega (arith, long)))
+
+page-make : (gpa stream slot : ℕ) (x : Exporting) → MakesAtMost 512 0 (page_words_tree gpa stream slot x)
+page-make gpa k slot x = page_words-make 512 0 x.page 0 512 (page_export_end gpa k slot x) (λ xs long. (refl, omega (arith, long)))
+
+named_rest-makes : (pages stream : ℕ) (o : OpState) (n : Named) (k : Exporting → Tree) → ((x : Exporting) → MakesAtMost 512 0 (k x)) → MakesAtMost 512 1 (named_rest pages stream o n k)
+named_rest-makes pages stream o n k few = λ epoch page. (
+  omega arith,
+  λ counter. tracked-makes 512 0 o n.tdcs n.entry.page (said_tree n (record { page = page_told pages page; counter = counter }) (epoch % 2 ^ 32) k) (λ session count. few _),
+)
+
+td_rest-exports : (pages t gpa stream : ℕ) (td : Td) (k : Exporting → Tree) → ((x : Exporting) → MakesAtMost 512 0 (k x)) → MakesAtMost 512 4 (td_rest pages t gpa stream td k)
+td_rest-exports pages t gpa stream td k few = λ count. (
+  omega arith,
+  (
+    omega arith,
+    λ root. walk-makes 512 2 pages gpa 3 3 (page_told pages root) (λ at. page_tree pages gpa at (λ q. held_tree pages td.tdcs gpa at (exportable td.op) q (λ n. named_rest pages stream td.op n k)))
+        (λ at. λ named. (omega arith, λ word. named_rest-makes pages stream td.op (record { tdcs = td.tdcs; page = at; entry = entry_told pages word }) k few)),
+  ),
+)
+
+page_export-makes : (p : Place) (tdr gpa stream slot : ℕ) → MakesAtMost 512 6 (page_export_task p tdr gpa stream slot).tree
+page_export-makes p tdr gpa k slot = (
+  omega arith,
+  λ pamt life count tdcs. (
+    omega arith,
+    λ op. td_rest-exports p.machine.pages tdr gpa k (record { tdcs = page_told p.machine.pages tdcs; op = op_told op }) (page_words_tree gpa k slot) (page-make gpa k slot),
+  ),
+)
+
 -- calls whose answer is their reply alone
 abbrev only_replies : Call → Bool
 only_replies (call.VpEnter tdr vp most) = false
 only_replies (call.VpFlush tdr vp) = false
 only_replies (call.ExportStateImmutable tdr slot) = false
+only_replies (call.ExportMem tdr gpa stream slot) = false
 only_replies (call.ExportTrack tdr slot start) = false
 only_replies (call.ExportStateTd tdr slot) = false
 only_replies (call.ExportStateVp tdr vp slot) = false
@@ -321,6 +373,7 @@ few_tries p (call.VpCreate tdr page) h = (omega arith, λ pamt life count tdcs. 
 few_tries p (call.VpEnter tdr vp most) h = cc
 few_tries p (call.VpFlush tdr vp) h = cc
 few_tries p (call.ExportStateImmutable tdr slot) h = cc
+few_tries p (call.ExportMem tdr gpa stream slot) h = cc
 few_tries p (call.ExportTrack tdr slot start) h = cc
 few_tries p (call.ExportStateTd tdr slot) h = cc
 few_tries p (call.ExportStateVp tdr vp slot) h = cc
@@ -456,6 +509,7 @@ ends_as p (call.ExportPause tdr) = plain-ends (call_ends p.machine (call.ExportP
 ends_as p (call.ExportAbort tdr) = plain-ends (call_ends p.machine (call.ExportAbort tdr)) (λ r. refl) (λ r. refl) (most_tries (call.ExportAbort tdr)) (task_of p (call.ExportAbort tdr)).tree (few_tries p (call.ExportAbort tdr) refl)
 ends_as p (call.ExportRestore tdr gpa) = plain-ends (call_ends p.machine (call.ExportRestore tdr gpa)) (λ r. refl) (λ r. refl) (most_tries (call.ExportRestore tdr gpa)) (task_of p (call.ExportRestore tdr gpa)).tree (few_tries p (call.ExportRestore tdr gpa) refl)
 ends_as p (call.ExportStateImmutable tdr slot) = making-ends (call_ends p.machine (call.ExportStateImmutable tdr slot)) 6 refl (λ r. refl) (λ r. refl) 3 (immutable_task p tdr slot).tree (immutable-makes p tdr slot)
+ends_as p (call.ExportMem tdr gpa stream slot) = making-ends (call_ends p.machine (call.ExportMem tdr gpa stream slot)) 512 refl (λ r. refl) (λ r. refl) 6 (page_export_task p tdr gpa stream slot).tree (page_export-makes p tdr gpa stream slot)
 ends_as p (call.ExportTrack tdr slot start) = making-ends (call_ends p.machine (call.ExportTrack tdr slot start)) 0 refl (λ r. refl) (λ r. refl) 3 (token_task p tdr slot start).tree (token-makes p tdr slot start)
 ends_as p (call.ExportStateTd tdr slot) = making-ends (call_ends p.machine (call.ExportStateTd tdr slot)) 24 refl (λ r. refl) (λ r. refl) 2 (td_state_task p tdr slot).tree (td_state-makes p tdr slot)
 ends_as p (call.ExportStateVp tdr vp slot) = making-ends (call_ends p.machine (call.ExportStateVp tdr vp slot)) 8 refl (λ r. refl) (λ r. refl) 3 (vp_state_task p tdr vp slot).tree (vp_state-makes p tdr vp slot)
@@ -502,6 +556,7 @@ begins_other p (call.ExportPause tdr) = refl
 begins_other p (call.ExportAbort tdr) = refl
 begins_other p (call.ExportRestore tdr gpa) = refl
 begins_other p (call.ExportStateImmutable tdr slot) = refl
+begins_other p (call.ExportMem tdr gpa stream slot) = refl
 begins_other p (call.ExportTrack tdr slot zero) = refl
 begins_other p (call.ExportTrack tdr slot (suc n)) = refl
 begins_other p (call.ExportStateTd tdr slot) = refl

@@ -57,10 +57,11 @@ call_fits m (call.VpEnter tdr vp most) (Done (value.Entered stale index position
 call_fits m (call.VpFlush tdr vp) (Done value.Nothing) = nat_lt tdr m.pages
 call_fits m _ r = true
 
--- The payload of a session's first bundle is MRTD, a token has none, that of a TD's state are the RTMRs, and that of a virtual
--- processor's state its registers.
+-- The payload of a session's first bundle is MRTD, that of a page its words, a token has none, that of a TD's state are the
+-- RTMRs, and that of a virtual processor's state its registers.
 abbrev pub call_makes : Call → Option ℕ
 call_makes (call.ExportStateImmutable tdr slot) = Some 6
+call_makes (call.ExportMem tdr gpa stream slot) = Some 512
 call_makes (call.ExportTrack tdr slot start) = Some 0
 call_makes (call.ExportStateTd tdr slot) = Some 24
 call_makes (call.ExportStateVp tdr vp slot) = Some 8

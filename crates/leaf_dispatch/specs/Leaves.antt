@@ -11,6 +11,9 @@ use Rattle.mem_remove.specs.RemoveStages.{rest_of as sept_rest_of}
 use Rattle.mem_remove.specs.SeptRemoveMeanings.{sept_remove-means}
 use Rattle.export_states.specs.TdStateTrees.{td_tree, td_state_task}
 use Rattle.export_states.specs.TdStateMeanings.{td_state-means}
+use Rattle.export_pages.specs.PageExportTrees.{page_export_task}
+use Rattle.export_pages.specs.PageExportStages.{rest_of as page_rest_of}
+use Rattle.export_pages.specs.PageExportMeanings.{page_export-means}
 use Rattle.leaf_dispatch.specs.Plans.{plan_task, plans-mean}
 use Rattle.leaf_dispatch.specs.declared.leaves.AnyLeaf.{AnyLeaf}
 use Rattle.leaf_dispatch.specs.declared.leaves.AnyLeaf.TheVariants as leaf
@@ -63,6 +66,14 @@ leaf_seen (leaf.StateTd l) = record {
   bound = 2 * (36 - length l.told.items) + (2 - l.written) - (if l.waits then 1 else 0);
   tries = 12 - length l.told.items;
 }
+leaf_seen (leaf.PageExport l) = record {
+  task = page_export_task l.place l.tdr l.gpa l.stream l.slot;
+  rest = page_rest_of l.place l.tdr l.gpa l.stream l.slot l.exporting l.told.items l.words;
+  written = l.written;
+  waits = l.waits;
+  bound = 2 * (26 - length l.told.items) + 2 * (512 - length l.words) + (3 - l.written) - (if l.waits then 1 else 0);
+  tries = 26 - length l.told.items;
+}
 
 -- each means its row
 pub leaves-mean : (l : AnyLeaf) → MeansRow (leaf_seen l).task
@@ -70,3 +81,4 @@ leaves-mean (leaf.ByPlan l) = plans-mean l.plan
 leaves-mean (leaf.Extend l) = extend-means l.place l.tdr l.gpa l.machine
 leaves-mean (leaf.SeptRemove l) = sept_remove-means l.place l.tdr l.gpa l.level l.machine
 leaves-mean (leaf.StateTd l) = td_state-means l.place l.tdr l.slot
+leaves-mean (leaf.PageExport l) = page_export-means l.place l.tdr l.gpa l.stream l.slot l.machine

@@ -1,6 +1,7 @@
 pub mod Table
 pub mod Plans
 pub mod Leaves
+pub mod PageRooms
 pub mod Answers
 pub mod Bounds
 pub mod Running

@@ -1,5 +1,5 @@
 -- What contracts see of the run of a leaf, and what it keeps between its turns.
-use Rattle.std.specs.Prelude.{◌≡◌, false, List, [], ◌∷◌, Option, Some, None}
+use Rattle.std.specs.Prelude.{◌≡◌, ℕ, Bool, false, List, [], ◌∷◌, Option, Some, None}
 use Rattle.td_words.specs.declared.machines.Machine.{Machine}
 use Rattle.td_words.specs.declared.calls.Call.{Call}
 use Rattle.td_words.specs.declared.replies.Reply.{Reply}
@@ -12,6 +12,7 @@ use Rattle.leaf_engine.specs.declared.events.Stage.TheVariants as stage
 use Rattle.leaf_engine.specs.Besides.{bundles_made}
 use Rattle.leaf_engine.specs.Turns.{Standing, standing, CanRun, Turned, has_ended}
 use Rattle.leaf_dispatch.specs.Leaves.{leaf_seen}
+use Rattle.leaf_dispatch.specs.PageRooms.{is_spare, leaf_room}
 use Rattle.leaf_dispatch.specs.Answers.{Ends, call_ends, FewTries, FitsStage, OldestIsOther, act_of}
 use Rattle.leaf_dispatch.specs.declared.running.Running.{Running}
 use Rattle.leaf_dispatch.specs.declared.running.LeafTurn.{LeafTurn}
@@ -75,6 +76,11 @@ act_in (Some r) e = act_of e r.run.stage
 abbrev pub made_in_run : Option Running → Event → List Made
 made_in_run None e = []
 made_in_run (Some r) e = bundles_made e (leaf_seen r.run.leaf).rest
+
+-- the room for a page's words is spare, or the run that is kept has it
+abbrev pub holds_room : Option (List ℕ) → Option Running → Bool
+holds_room spare None = is_spare spare
+holds_room spare (Some r) = leaf_room spare r.run.leaf
 
 -- a run is kept until its reply comes
 abbrev pub kept_until : Option Reply → Option Running → Option Running

@@ -28,6 +28,7 @@ use Rattle.export_core.specs.PauseTrees.{pause_task, abort_task}
 use Rattle.export_core.specs.RestoreTrees.{restore_task}
 use Rattle.export_sessions.specs.SessionTrees.{immutable_task}
 use Rattle.export_tokens.specs.TokenTrees.{token_task}
+use Rattle.export_pages.specs.PageExportTrees.{page_export_task}
 use Rattle.export_states.specs.TdStateTrees.{td_state_task}
 use Rattle.export_states.specs.VpStateTrees.{vp_state_task}
 use Rattle.key_table.specs.CacheTrees.{cache_task}
@@ -85,6 +86,7 @@ task_of p (call.ExportPause tdr) = pause_task p tdr
 task_of p (call.ExportAbort tdr) = abort_task p tdr
 task_of p (call.ExportRestore tdr gpa) = restore_task p tdr gpa
 task_of p (call.ExportStateImmutable tdr slot) = immutable_task p tdr slot
+task_of p (call.ExportMem tdr gpa stream slot) = page_export_task p tdr gpa stream slot
 task_of p (call.ExportTrack tdr slot start) = token_task p tdr slot start
 task_of p (call.ExportStateTd tdr slot) = td_state_task p tdr slot
 task_of p (call.ExportStateVp tdr vp slot) = vp_state_task p tdr vp slot

@@ -1,6 +1,6 @@
 //! The leaf of each call, and of each step of a guest.
 
-ghost use Rattle.std.specs.Prelude.{◌≡◌, ◌<◌, true, length};
+ghost use Rattle.std.specs.Prelude.{◌≡◌, ◌<◌, true, false, length};
 ghost use Rattle.td_words.specs.Limits.{IsMachine};
 ghost use Rattle.bundles.specs.Made.{made_in};
 ghost use Rattle.leaf_engine.specs.Trees.{answer_of};
@@ -8,6 +8,7 @@ ghost use Rattle.leaf_engine.specs.Turns.{IsFresh};
 ghost use Rattle.leaf_dispatch.specs.Plans.{plan_task};
 ghost use Rattle.leaf_engine.specs.Merges.{IsOperation, IsStepOf};
 ghost use Rattle.leaf_dispatch.specs.Guests.{step_seen};
+ghost use Rattle.leaf_dispatch.specs.PageRooms.{is_page_export, is_spare, leaf_room};
 ghost use Rattle.leaf_dispatch.specs.Table.{task_of, secrets_in, operation_task, step_task};
 
 use crate::guests::Step;
@@ -18,6 +19,7 @@ use access_core::{
 };
 use bundles::Bundle;
 use export_core::{Abort, BlockW, Pause, Restore, StreamCreate, UnblockW};
+use export_pages::{PageExport, PageWords};
 use export_sessions::Immutable;
 use export_states::{StateTd, StateVp};
 use export_tokens::Token;
@@ -32,13 +34,15 @@ use td_words::{Access, Call, GuestOp};
 use vcpu_control::{Enter, Exit, VpCreate, VpFlush, VpInit};
 
 /// A leaf of any call that is built, or of any step of a guest: one that goes by a plan, or
-/// that of MR.EXTEND, of MEM.SEPT.REMOVE or of EXPORT.STATE.TD, which are told more words.
+/// that of MR.EXTEND, of MEM.SEPT.REMOVE, of EXPORT.STATE.TD or of EXPORT.MEM, which are told
+/// more words. The last has the room for a page's words.
 #[derive(Drop)]
 pub enum AnyLeaf {
     ByPlan(Planned<AnyPlan>),
     Extend(Extend),
     SeptRemove(SeptRemove),
     StateTd(StateTd),
+    PageExport(PageExport),
 }
 
 impl Leaf for AnyLeaf {
@@ -62,6 +66,7 @@ impl Leaf for AnyLeaf {
             AnyLeaf::Extend(leaf) => leaf.need(),
             AnyLeaf::SeptRemove(leaf) => leaf.need(),
             AnyLeaf::StateTd(leaf) => leaf.need(),
+            AnyLeaf::PageExport(leaf) => leaf.need(),
         }
     }
 
@@ -71,6 +76,7 @@ impl Leaf for AnyLeaf {
             AnyLeaf::Extend(leaf) => leaf.tell(word),
             AnyLeaf::SeptRemove(leaf) => leaf.tell(word),
             AnyLeaf::StateTd(leaf) => leaf.tell(word),
+            AnyLeaf::PageExport(leaf) => leaf.tell(word),
         }
     }
 
@@ -80,6 +86,7 @@ impl Leaf for AnyLeaf {
             AnyLeaf::Extend(leaf) => leaf.write(hasher),
             AnyLeaf::SeptRemove(leaf) => leaf.write(hasher),
             AnyLeaf::StateTd(leaf) => leaf.write(hasher),
+            AnyLeaf::PageExport(leaf) => leaf.write(hasher),
         }
     }
 
@@ -98,6 +105,7 @@ impl AnyLeaf {
             AnyLeaf::Extend(_) => None,
             AnyLeaf::SeptRemove(_) => None,
             AnyLeaf::StateTd(leaf) => leaf.bundle(),
+            AnyLeaf::PageExport(leaf) => leaf.bundle(),
         }
     }
 }
@@ -110,9 +118,35 @@ fn by_plan(plan: AnyPlan) -> AnyLeaf
     AnyLeaf::ByPlan(Planned::new(plan))
 }
 
-/// The leaf of a call at a place, which has done nothing yet.
-pub fn leaf_of(place: Place, call: &Call) -> AnyLeaf
+/// The leaf of a call at a place, which has done nothing yet. That of EXPORT.MEM takes the room for a
+/// page's words, which is there.
+pub fn leaf_of(place: Place, call: &Call, spare: &mut Option<PageWords>) -> AnyLeaf
     requires machine { IsMachine place.machine }
+    requires room { is_spare spare.old ≡ true }
+    ensures task { ⟦<AnyLeaf as Leaf>⟧.task result ≡ task_of place call.now }
+    ensures fresh { let leaf = ⟦<AnyLeaf as Leaf>⟧ in IsFresh (leaf.task result).tree (leaf.rest result) (leaf.tries result) (leaf.written result) (leaf.waits result) }
+    ensures room { leaf_room spare.new result ≡ true }
+{
+    match *call {
+        Call::ExportMem {
+            tdr,
+            gpa,
+            stream,
+            slot,
+        } => {
+            let Some(words) = spare.take() else {
+                unreachable!()
+            };
+            AnyLeaf::PageExport(PageExport::leaf(place, tdr, gpa, stream, slot, words))
+        }
+        _ => roomless_leaf(place, call),
+    }
+}
+
+// That of a call that takes no room.
+fn roomless_leaf(place: Place, call: &Call) -> AnyLeaf
+    requires machine { IsMachine place.machine }
+    requires roomless { is_page_export call.now ≡ false }
     ensures task { ⟦<AnyLeaf as Leaf>⟧.task result ≡ task_of place call.now }
     ensures fresh { let leaf = ⟦<AnyLeaf as Leaf>⟧ in IsFresh (leaf.task result).tree (leaf.rest result) (leaf.tries result) (leaf.written result) (leaf.waits result) }
 {
@@ -192,6 +226,7 @@ pub fn leaf_of(place: Place, call: &Call) -> AnyLeaf
         Call::ExportStateImmutable { tdr, slot } => {
             by_plan(AnyPlan::Immutable(Immutable::plan(place, tdr, slot)))
         }
+        Call::ExportMem { .. } => unreachable!(),
         Call::ExportTrack { tdr, slot, start } => {
             by_plan(AnyPlan::Token(Token::plan(place, tdr, slot, start)))
         }

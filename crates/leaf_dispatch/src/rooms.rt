@@ -136,6 +136,7 @@ fn call_makes(call: &Call) -> Option<usize>
 {
     match *call {
         Call::ExportStateImmutable { .. } => Some(6),
+        Call::ExportMem { .. } => Some(512),
         Call::ExportTrack { .. } => Some(0),
         Call::ExportStateTd { .. } => Some(24),
         Call::ExportStateVp { .. } => Some(8),

@@ -1,6 +1,6 @@
 //! The run of a leaf.
 
-ghost use Rattle.std.specs.Prelude.{◌≡◌, ◌<◌, ◌≤◌, true, length, List, [], None, option_map};
+ghost use Rattle.std.specs.Prelude.{◌≡◌, ℕ, ◌<◌, ◌≤◌, true, length, List, [], Option, None, option_map};
 ghost use Rattle.td_words.specs.declared.machines.Machine.{Machine};
 ghost use Rattle.td_words.specs.Limits.{IsMachine};
 ghost use Rattle.flat_core.specs.World.{Made};
@@ -12,19 +12,34 @@ ghost use Rattle.leaf_dispatch.specs.Table.{task_of, secrets_in, step_task};
 ghost use Rattle.leaf_dispatch.specs.Answers.{Ends, call_makes, call_ends, step_ends, act_of};
 ghost use Rattle.leaf_dispatch.specs.NoteRooms.{run_room};
 ghost use Rattle.leaf_dispatch.specs.BundleRooms.{count_of, words_of, payload_words, HasAdded};
-ghost use Rattle.leaf_dispatch.specs.Running.{standing_of, run_seen, answered_with, IsAnswered, turn_of, act_in, made_in_run, kept_until, IsUnderWay, IsRunOf, IsKept, CanTurn, HasTurned, LeafTurned};
+ghost use Rattle.leaf_dispatch.specs.PageRooms.{is_spare, leaf_room};
+ghost use Rattle.leaf_dispatch.specs.Running.{standing_of, run_seen, answered_with, IsAnswered, turn_of, act_in, made_in_run, kept_until, holds_room, IsUnderWay, IsRunOf, IsKept, CanTurn, HasTurned, LeafTurned};
 
 use crate::guests::Step;
 use crate::leaves::{AnyLeaf, leaf_of, step_leaf};
 use crate::rooms::add_bundle;
 use bundles::Bundles;
+use export_pages::PageWords;
 use leaf_engine::{Event, Place, Run, RunTurn, Stage};
+use std::mem;
 use step_core::Bench;
 use td_words::{Call, Reply};
 
 /// A run of any leaf, which may be given up.
 pub struct Running {
     pub run: Run<AnyLeaf>,
+}
+
+impl Running {
+    ghost use Rattle.std.specs.Prelude.{◌≡◌};
+
+    /// Its leaf, as it now is.
+    fn into_leaf(self) -> AnyLeaf
+        ensures { result ≡ self.run.leaf }
+    {
+        let Running { run } = self;
+        run.into_leaf()
+    }
 }
 
 impl Drop for Running {
@@ -44,13 +59,15 @@ pub struct LeafTurn {
 }
 
 /// The next turn of a call's run, which is kept until its reply comes, and begins where none is kept; the
-/// bundle that it makes is added, for which there is room.
+/// bundle that it makes is added, for which there is room. The room for a page's words is spare, or the run
+/// has it, which gives it back with its reply.
 ///
 /// It is apart from its caller, and its rare steps are apart from it, since a function clears the
 /// places of its large values where it begins.
 #[inline(never)]
 pub fn turn_call<B: Bench>(
     kept: &mut Option<Running>,
+    spare: &mut Option<PageWords>,
     bundles: &mut Bundles,
     place: Place,
     call: &Call,
@@ -61,13 +78,15 @@ pub fn turn_call<B: Bench>(
     requires under_way { IsRunOf place.machine (call_ends place.machine call.now) kept.old }
     requires room { run_room (count_of (call_makes call.now)) (run_seen kept.old) ≤ bundles.old.room }
     requires word_room { run_room (words_of (call_makes call.now)) (run_seen kept.old) ≤ bundles.old.word_room }
+    requires page_room { holds_room spare.old kept.old ≡ true }
     ensures turned { (made : List Made) × HasAdded bundles.old made bundles.new × LeafTurned (B.did bench.old) place.machine (call_ends place.machine call.now) (running (task_of place call.now) (run_seen kept.old)) bench.new kept.new result made }
+    ensures page_room { holds_room spare.new kept.new ≡ true }
     ensures machine { B.machine bench.new ≡ B.machine bench.old }
 {
-    begin_where_none(kept, place, call);
+    begin_where_none(kept, spare, place, call);
     let turn = turn_kept(kept, bench);
     add_made(kept, turn.event, bundles);
-    leave_run(kept, turn)
+    leave_call(kept, spare, turn)
 }
 
 /// The next turn of the run of a guest's step, which is kept until its reply comes, and begins where
@@ -94,22 +113,47 @@ pub fn turn_step<B: Bench>(
 {
     begin_step_where_none(kept, place, secrets, tdr, vp, line, step);
     let step_turn = turn_kept(kept, bench);
-    leave_run(kept, step_turn)
+    leave_step(kept, step_turn)
 }
 
-// What a turn of a run that is kept comes to. It is kept no more once its reply has come.
-fn leave_run(kept: &mut Option<Running>, turn: RunTurn) -> LeafTurn
+// What a turn of a call's run comes to. It is kept no more once its reply has come, and gives back the
+// room that it has.
+fn leave_call(kept: &mut Option<Running>, spare: &mut Option<PageWords>, turn: RunTurn) -> LeafTurn
+    requires page_room { holds_room spare.old kept.old ≡ true }
+    ensures turn { turn_of result ≡ turn }
+    ensures act { result.act ≡ act_in kept.old turn.event }
+    ensures kept { kept.new ≡ kept_until turn.reply kept.old }
+    ensures page_room { holds_room spare.new kept.new ≡ true }
+{
+    let left = with_act(kept, turn);
+    if let Some(_) = turn.reply {
+        give_up(kept, spare);
+    }
+    left
+}
+
+// That of a step's run, which has no room.
+fn leave_step(kept: &mut Option<Running>, turn: RunTurn) -> LeafTurn
     ensures turn { turn_of result ≡ turn }
     ensures act { result.act ≡ act_in kept.old turn.event }
     ensures kept { kept.new ≡ kept_until turn.reply kept.old }
 {
-    let act = act_in(kept, turn.event);
-    if let Some(_) = turn.reply {
-        forget(kept);
+    let left = with_act(kept, turn);
+    match turn.reply {
+        Some(_) => forget(kept),
+        None => (),
     }
+    left
+}
+
+// A turn, with the reply that its act has come to.
+fn with_act(kept: &Option<Running>, turn: RunTurn) -> LeafTurn
+    ensures turn { turn_of result ≡ turn }
+    ensures act { result.act ≡ act_in kept.now turn.event }
+{
     LeafTurn {
         event: turn.event,
-        act,
+        act: act_in(kept, turn.event),
         reply: turn.reply,
     }
 }
@@ -119,6 +163,7 @@ pub fn answer_kept(kept: &mut Option<Running>, reply: Reply)
     ensures seen { run_seen kept.new ≡ option_map (answered_with reply) (run_seen kept.old) }
     ensures under_way { (m : Machine) (e : Ends) → IsRunOf m e kept.old → IsAnswered kept.old → e.fits reply ≡ true → IsRunOf m e kept.new }
     ensures answered { IsAnswered kept.new }
+    ensures page_room { (spare : Option (List ℕ)) → holds_room spare kept.old ≡ true → holds_room spare kept.new ≡ true }
 {
     match kept {
         Some(Running { run }) => run.answer(reply),
@@ -161,23 +206,60 @@ fn act_of(event: Event, stage: Stage) -> Option<Reply>
 }
 
 // Where no run is kept, that of a call begins.
-fn begin_where_none(kept: &mut Option<Running>, place: Place, call: &Call)
+fn begin_where_none(
+    kept: &mut Option<Running>,
+    spare: &mut Option<PageWords>,
+    place: Place,
+    call: &Call,
+)
     requires machine { IsMachine place.machine }
     requires under_way { IsRunOf place.machine (call_ends place.machine call.now) kept.old }
-    ensures { IsKept place.machine (call_ends place.machine call.now) (running (task_of place call.now) (run_seen kept.old)) kept.new }
+    requires page_room { holds_room spare.old kept.old ≡ true }
+    ensures kept { IsKept place.machine (call_ends place.machine call.now) (running (task_of place call.now) (run_seen kept.old)) kept.new }
+    ensures page_room { holds_room spare.new kept.new ≡ true }
 {
     match kept {
         Some(_) => (),
-        None => begin_kept(kept, place, call),
+        None => begin_kept(kept, spare, place, call),
     }
 }
 
 #[inline(never)]
-fn begin_kept(kept: &mut Option<Running>, place: Place, call: &Call)
+fn begin_kept(kept: &mut Option<Running>, spare: &mut Option<PageWords>, place: Place, call: &Call)
     requires machine { IsMachine place.machine }
-    ensures { IsKept place.machine (call_ends place.machine call.now) (running (task_of place call.now) None) kept.new }
+    requires page_room { is_spare spare.old ≡ true }
+    ensures kept { IsKept place.machine (call_ends place.machine call.now) (running (task_of place call.now) None) kept.new }
+    ensures page_room { holds_room spare.new kept.new ≡ true }
 {
-    *kept = Some(begin(place, call));
+    *kept = Some(begin(place, call, spare));
+}
+
+// Keeps no run any more. The room that it has is spare then.
+#[inline(never)]
+fn give_up(kept: &mut Option<Running>, spare: &mut Option<PageWords>)
+    requires { holds_room spare.old kept.old ≡ true }
+    ensures kept { kept.new ≡ None }
+    ensures page_room { is_spare spare.new ≡ true }
+{
+    match spare {
+        Some(_) => forget(kept),
+        None => *spare = Some(words_of(kept)),
+    }
+}
+
+// The room of a run, which is kept no more.
+#[inline(never)]
+fn words_of(kept: &mut Option<Running>) -> PageWords
+    requires { holds_room None kept.old ≡ true }
+    ensures { kept.new ≡ None }
+{
+    let Some(running) = mem::replace(kept, None) else {
+        unreachable!()
+    };
+    let AnyLeaf::PageExport(leaf) = running.into_leaf() else {
+        unreachable!()
+    };
+    leaf.into_words()
 }
 
 /// Keeps no run any more.
@@ -201,13 +283,15 @@ fn turn_kept<B: Bench>(kept: &mut Option<Running>, bench: &mut B) -> RunTurn
 }
 
 /// The run of a call at its first event.
-fn begin(place: Place, call: &Call) -> Running
+fn begin(place: Place, call: &Call, spare: &mut Option<PageWords>) -> Running
     requires machine { IsMachine place.machine }
+    requires page_room { is_spare spare.old ≡ true }
     ensures stands { standing_of result ≡ running (task_of place call.now) None }
     ensures under_way { IsUnderWay place.machine (call_ends place.machine call.now) result }
+    ensures page_room { leaf_room spare.new result.run.leaf ≡ true }
 {
     Running {
-        run: Run::new(leaf_of(place, call)),
+        run: Run::new(leaf_of(place, call, spare)),
     }
 }
 

@@ -1,8 +1,8 @@
 //! Logical processors with their calls and their guests.
 
-ghost use Rattle.std.specs.Prelude.{◌≡◌, ◌+◌, ◌<◌, ◌≤◌, ◌^◌, length, vec_capacity};
+ghost use Rattle.std.specs.Prelude.{◌≡◌, ◌+◌, ◌<◌, ◌≤◌, ◌^◌, true, length, vec_capacity};
 ghost use Rattle.td_words.specs.Limits.{IsMachine};
-ghost use Rattle.leaf_dispatch.specs.Running.{run_seen, IsRunAt};
+ghost use Rattle.leaf_dispatch.specs.Running.{run_seen, holds_room, IsRunAt};
 ghost use Rattle.leaf_dispatch.specs.Kept.{IsRunAt-prop};
 ghost use Rattle.leaf_dispatch.specs.Inside.{guest_in, AreOperations, AreOperations-prop, KeepsGuest, KeepsGuest-prop};
 ghost use Rattle.leaf_dispatch.specs.NoteRooms.{longest_in, room_of};
@@ -15,6 +15,7 @@ use crate::rooms::{add_note, add_word, lines_bundles, lines_payloads, lines_room
 use crate::running::{Running, forget};
 use crate::turns::{GuestTurn, LineTurn, acting, answer_exit, entered_or, turn_guest, turn_line};
 use bundles::Bundles;
+use export_pages::PageWords;
 use leaf_engine::{Event, Place, Processor, Turn, turns_in_pieces};
 use report_text::GuestNote;
 use std::alloc::Global;
@@ -25,7 +26,7 @@ use tlb_epochs::Tlb;
 /// A logical processor: its calls from the present one on, and the run of that call once its first
 /// event is made; the guest that it is in, and the run of what the guest does; its cached translations;
 /// its replies, one for each call that is done, what its guests noted and told, and the bundles that its
-/// calls made.
+/// calls made. The room for a page's words is spare, but while a run of EXPORT.MEM has it.
 #[derive(Drop)]
 pub struct LpState<'a> {
     place: Place,
@@ -34,6 +35,7 @@ pub struct LpState<'a> {
     secrets: &'a [u64],
     first_lists: &'a FirstLists,
     run: Option<Running>,
+    spare: Option<PageWords>,
     guest: Option<GuestAt<'a>>,
     step_run: Option<Running>,
     cached: Tlb,
@@ -53,6 +55,7 @@ pub struct LpState<'a> {
     ghost word_room: { length told.items + room_of (longest_in codes.now) lines.now (run_seen run) (guest_in guest step_run) ≤ vec_capacity told },
     ghost bundle_room: { still_make count_of lines.now (run_seen run) ≤ bundles.room },
     ghost payload_room: { still_make words_of lines.now (run_seen run) ≤ bundles.word_room },
+    ghost page_room: { holds_room spare run ≡ true },
 }
 
 impl<'a> LpState<'a> {
@@ -66,7 +69,7 @@ impl<'a> LpState<'a> {
 
     /// At the first of its calls, with the lists of operations, the 512 secret words, and where the
     /// lists stand. All the memory is taken here that its replies need, what its guests can note and
-    /// tell, and the bundles that its calls can make.
+    /// tell, the bundles that its calls can make, and the words of a page on their way into one.
     pub fn new(
         alloc: Global,
         machine: Machine,
@@ -107,6 +110,9 @@ impl<'a> LpState<'a> {
         let Ok(bundles) = Bundles::new(alloc, count, words) else {
             return Err(OutOfMemory);
         };
+        let Ok(page_words) = PageWords::new(alloc) else {
+            return Err(OutOfMemory);
+        };
         Ok(LpState {
             place: Place { machine, lp },
             lines: calls,
@@ -114,6 +120,7 @@ impl<'a> LpState<'a> {
             secrets,
             first_lists,
             run: None,
+            spare: Some(page_words),
             guest: None,
             step_run: None,
             cached: Tlb::new(),
@@ -163,6 +170,7 @@ impl<'a> LpState<'a> {
         turns_in_pieces();
         let LineTurn { turn, guest } = turn_line(
             &mut self.run,
+            &mut self.spare,
             &mut self.bundles,
             &mut self.cached,
             self.place,

@@ -15,7 +15,7 @@ ghost use Rattle.leaf_dispatch.specs.Inside.{acting, entered_or, line_then};
 ghost use Rattle.leaf_dispatch.specs.NoteRooms.{run_room};
 ghost use Rattle.leaf_dispatch.specs.BundleRooms.{count_of, words_of, HasAdded};
 ghost use Rattle.leaf_dispatch.specs.FirstLists.{AreFirstLists};
-ghost use Rattle.leaf_dispatch.specs.Running.{run_seen, IsRunOf, IsAnswered, LeafTurned};
+ghost use Rattle.leaf_dispatch.specs.Running.{run_seen, holds_room, IsRunOf, IsAnswered, LeafTurned};
 ghost use Rattle.leaf_dispatch.specs.Table.{code_in, task_of, secrets_in, step_task};
 
 use crate::answers::{cache_walk, drop_stale, entered, noted, told};
@@ -23,6 +23,7 @@ use crate::first_lists::FirstLists;
 use crate::guests::{GuestAt, Step, next_step, step_on};
 use crate::running::{LeafTurn, Running, answer_kept, turn_call, turn_step};
 use bundles::Bundles;
+use export_pages::PageWords;
 use leaf_engine::Place;
 use report_text::GuestNote;
 use step_core::Bench;
@@ -46,10 +47,12 @@ pub struct LineTurn<'a> {
 }
 
 /// The next turn of a call's run, which is kept until its reply comes, and begins where none is kept; the
-/// bundle that it makes is added, for which there is room.
+/// bundle that it makes is added, for which there is room. The room for a page's words is spare, or the run
+/// has it, which gives it back with its reply.
 #[inline(never)]
 pub fn turn_line<'a, B: Bench>(
     kept: &mut Option<Running>,
+    spare: &mut Option<PageWords>,
     bundles: &mut Bundles,
     cached: &mut Tlb,
     place: Place,
@@ -64,13 +67,15 @@ pub fn turn_line<'a, B: Bench>(
     requires under_way { IsRunOf place.machine (call_ends place.machine call.now) kept.old }
     requires room { run_room (count_of (call_makes call.now)) (run_seen kept.old) ≤ bundles.old.room }
     requires word_room { run_room (words_of (call_makes call.now)) (run_seen kept.old) ≤ bundles.old.word_room }
+    requires page_room { holds_room spare.old kept.old ≡ true }
     ensures turned { (made : List Made) × HasAdded bundles.old made bundles.new × LeafTurned (B.did bench.old) place.machine (call_ends place.machine call.now) (running (task_of place call.now) (run_seen kept.old)) bench.new kept.new result.turn made }
     ensures cached { cached.new ≡ cached_by (call_answer call.now) result.turn.act cached.old }
     ensures entered { option_map (λ g. guest_seen g None) result.guest ≡ guest_by (call_answer call.now) result.turn.act None }
     ensures inside { IfSome result.guest (λ g. (g.tdr < place.machine.pages) × (g.vp < place.machine.pages) × (code_in codes.now g.tdr g.index ≡ g.list.now) × IsLow g.walk) }
+    ensures page_room { holds_room spare.new kept.new ≡ true }
     ensures machine { B.machine bench.new ≡ B.machine bench.old }
 {
-    let turn = turn_call(kept, bundles, place, call, bench);
+    let turn = turn_call(kept, spare, bundles, place, call, bench);
     drop_by(place.machine, cached, call, turn.act);
     LineTurn {
         turn,
@@ -237,6 +242,7 @@ pub fn answer_exit(kept: &mut Option<Running>, step: Step, reply: Option<Reply>)
     ensures seen { run_seen kept.new ≡ line_then (step_seen step) reply (run_seen kept.old) }
     ensures under_way { (m : Machine) (c : Call) → IsRunOf m (call_ends m c) kept.old → IsAnswered kept.old → IfSome reply (λ r. IsReplyOf (step_seen step) r) → IsRunOf m (call_ends m c) kept.new }
     ensures answered { IsAnswered kept.old → IsAnswered kept.new }
+    ensures page_room { (spare : Option (List ℕ)) → holds_room spare kept.old ≡ true → holds_room spare kept.new ≡ true }
 {
     if let Step::Leaves(_) = step {
         if let Some(reply) = reply {

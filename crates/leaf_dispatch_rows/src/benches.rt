@@ -51,6 +51,22 @@ pub const TREE: [Call; 10] = [
     },
 ];
 
+/// Private pages 8 and 9 at the first two GPAs.
+pub const PAGES: [Call; 2] = [
+    Call::MemPageAdd {
+        tdr: 1,
+        gpa: 0,
+        page: 8,
+        source: 0,
+    },
+    Call::MemPageAdd {
+        tdr: 1,
+        gpa: 4096,
+        page: 9,
+        source: 0,
+    },
+];
+
 /// The TD may run.
 pub const RUNS: [Call; 1] = [Call::MrFinalize { tdr: 1 }];
 

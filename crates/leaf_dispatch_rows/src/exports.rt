@@ -4,7 +4,7 @@
 ghost use Rattle.std.specs.Prelude.{◌≡◌, ◌<◌, ◌^◌, length};
 ghost use Rattle.leaf_dispatch_rows.specs.declared.benches.TheConstants.{MACHINE};
 
-use crate::benches::{DONE, LIVE, MACHINE, RUNS, TREE, make};
+use crate::benches::{DONE, LIVE, MACHINE, PAGES, RUNS, TREE, make};
 use std::alloc::Global;
 use std::process::Abort;
 use std::test::Fail;
@@ -13,22 +13,6 @@ use td_words::places::{TDCS_DIRTIED, TDCS_EPOCH, TDCS_OP, TDCS_STREAM_COUNT, TDC
 use td_words::{
     Call, EntryState, OpState, PageKind, Reply, Status, Value, pamt_address, word_address,
 };
-
-/// Private pages 8 and 9 at the first two GPAs.
-const PAGES: [Call; 2] = [
-    Call::MemPageAdd {
-        tdr: 1,
-        gpa: 0,
-        page: 8,
-        source: 0,
-    },
-    Call::MemPageAdd {
-        tdr: 1,
-        gpa: 4096,
-        page: 9,
-        source: 0,
-    },
-];
 
 /// The second page's entry, once it is exported in migration epoch 3 and blocked for writing.
 const EXPORTED: u64 = 8 + 16 * 9 + (3 << 32);

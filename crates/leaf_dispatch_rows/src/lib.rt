@@ -14,4 +14,6 @@ mod guests;
 #[cfg(test)]
 mod last_epochs;
 #[cfg(test)]
+mod pages_exported;
+#[cfg(test)]
 mod turns;

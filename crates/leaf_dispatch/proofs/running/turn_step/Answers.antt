@@ -20,6 +20,6 @@ returns-clause-turned g c =
     let s : Standing = running (step_task (secrets_in c.args.secrets.now) c.args.place c.args.tdr c.args.vp c.args.line (step_seen c.args.step)) (run_seen c.args.kept.now) in
     let k = subst (λ (z : Machine). IsKept z e s c.begin_step_where_none.new.kept) c.requires.at c.begin_step_where_none.ensures in
     let none = step-made (g.B.Bench.did c.args.bench.now) c.turn_kept-step_turn.new.bench _ e s c.begin_step_where_none.new.kept c.turn_kept-step_turn.new.kept c.turn_kept-step_turn.result refl k c.turn_kept-step_turn.ensures.turned in
-    subst (λ (z : Machine). LeafTurned (g.B.Bench.did c.args.bench.now) z e s c.turn_kept-step_turn.new.bench c.leave_run.new.kept c.leave_run.result []) (sym c.requires.at)
-    (run-turned (g.B.Bench.did c.args.bench.now) c.turn_kept-step_turn.new.bench _ e s c.begin_step_where_none.new.kept c.turn_kept-step_turn.new.kept c.leave_run.new.kept c.leave_run.result c.turn_kept-step_turn.result [] k c.turn_kept-step_turn.ensures.turned c.leave_run.ensures.turn
-    c.leave_run.ensures.act none c.leave_run.ensures.kept)
+    subst (λ (z : Machine). LeafTurned (g.B.Bench.did c.args.bench.now) z e s c.turn_kept-step_turn.new.bench c.leave_step.new.kept c.leave_step.result []) (sym c.requires.at)
+    (run-turned (g.B.Bench.did c.args.bench.now) c.turn_kept-step_turn.new.bench _ e s c.begin_step_where_none.new.kept c.turn_kept-step_turn.new.kept c.leave_step.new.kept c.leave_step.result c.turn_kept-step_turn.result [] k c.turn_kept-step_turn.ensures.turned c.leave_step.ensures.turn
+    c.leave_step.ensures.act none c.leave_step.ensures.kept)

@@ -16,4 +16,5 @@ invariant_of-lp g c =
       word_room = s.word_room;
       bundle_room = s.bundle_room;
       payload_room = s.payload_room;
+      page_room = s.page_room;
     }

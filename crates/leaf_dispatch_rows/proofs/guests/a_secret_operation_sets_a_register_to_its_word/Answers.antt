@@ -16,4 +16,24 @@ invariant_of-lp g c =
       word_room = s.word_room;
       bundle_room = s.bundle_room;
       payload_room = s.payload_room;
+      page_room = s.page_room;
+    }
+
+pub invariant_of-lp-2 : goal.invariant_of-lp-2
+invariant_of-lp-2 g c =
+    let s = c.visit-lp-2.result.0 in
+    record {
+      machine = s.machine;
+      secret_words = s.secret_words;
+      limits = s.limits;
+      lists_are = s.lists_are;
+      few = s.few;
+      under_way = s.under_way;
+      inside = s.inside;
+      room = s.room;
+      note_room = s.note_room;
+      word_room = s.word_room;
+      bundle_room = s.bundle_room;
+      payload_room = s.payload_room;
+      page_room = s.page_room;
     }

@@ -1,4 +1,4 @@
-use Rattle.std.proofs.Common.{◌≡◌, ◌++◌, ◌∷◌, [], List, length, ap, ◌∙◌, append_assoc, arith}
+use Rattle.std.proofs.Common.{rules, ◌≡◌, ◌++◌, ◌∷◌, [], List, length, ap, ◌∙◌, append_assoc, arith}
 use Rattle.std.specs.Vec.Iter.{into_iter_items}
 use Rattle.std.proofs.lemmas.List.{map_push}
 use Rattle.std.proofs.lemmas.List.Elements.{All-push}
@@ -19,3 +19,7 @@ loop-processor-preserved c =
       benches = rw c.in-Ok-push.ensures.items (All-push (λ a. bench_of a.bench ≡ new_bench (bench_of c.args.first.now)) at.lanes.items _ at.invariant.benches (c.split.ensures.new ∙ ap new_bench at.invariant.first));
       first = out-more _ _ _ at.yielded x at.invariant.first c.split.ensures.out;
     }
+
+-- one field is told apart, so that each of the others is sought by itself
+pub invariant_of-t-35-clause-machine : goal.invariant_of-t-35-clause-machine
+invariant_of-t-35-clause-machine c = search rules

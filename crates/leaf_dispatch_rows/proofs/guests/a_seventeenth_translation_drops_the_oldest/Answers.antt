@@ -1,0 +1,20 @@
+use Rattle.leaf_dispatch_rows.proofs.guests.a_seventeenth_translation_drops_the_oldest.Goals as goal
+
+pub invariant_of-lp : goal.invariant_of-lp
+invariant_of-lp g c =
+    let s = c.visit-lp.result.0 in
+    record {
+      machine = s.machine;
+      secret_words = s.secret_words;
+      limits = s.limits;
+      lists_are = s.lists_are;
+      few = s.few;
+      under_way = s.under_way;
+      inside = s.inside;
+      room = s.room;
+      note_room = s.note_room;
+      word_room = s.word_room;
+      bundle_room = s.bundle_room;
+      payload_room = s.payload_room;
+      page_room = s.page_room;
+    }
