@@ -3,7 +3,7 @@ use Rattle.std.proofs.Common.{◌≡◌, ℕ, ◌+◌, ◌*◌, ◌^◌, ◌<◌
 use Rattle.std.specs.Prelude.{is_some, unwrap_or}
 use Rattle.std.specs.List.{All, list_all}
 use Rattle.std.proofs.lemmas.Bool.{cases_lt, cases_eq, and_parts}
-use Rattle.std.proofs.lemmas.List.{length-append, length-replicate, length-set, get_or_past, get_or-set_other, get_or-set_same}
+use Rattle.std.proofs.lemmas.List.{length-append, length-replicate, length-set, get_or_past, get_or-set_same}
 use Rattle.std.proofs.lemmas.List.Elements.{All-nil, All-cons, All-head, All-tail, All-replicate, All-append, All-push, All-set}
 use Rattle.td_words.specs.declared.calls.Call.{Call}
 use Rattle.td_words.specs.declared.calls.Call.TheVariants as call
@@ -297,6 +297,7 @@ built_fits m listed lp name.ExportPause ns h = (one_fits ns h, tt)
 built_fits m listed lp name.ExportAbort ns h = abort_fits m listed lp (length ns == 2) ns h
 built_fits m listed lp name.ExportRestore ns h = (two_fit ns h, tt)
 built_fits m listed lp name.ExportStateImmutable ns h = (slot_fits ns h, slot_within ns 1)
+built_fits m listed lp name.ExportMem ns h = (All-push fits (argument ns 0 ∷ argument ns 1 ∷ argument ns 2 ∷ []) (slot_at ns 3) (three_fit ns h) (within_fits (slot_at ns 3) (slot_within ns 3)), slot_within ns 3)
 built_fits m listed lp name.ExportTrack ns h = (All-push fits (argument ns 0 ∷ slot_at ns 1 ∷ []) (argument ns 2) (slot_fits ns h) (argument_fits ns 2 h), slot_within ns 1)
 built_fits m listed lp name.ExportStateTd ns h = (slot_fits ns h, slot_within ns 1)
 built_fits m listed lp name.ExportStateVp ns h = (All-push fits (argument ns 0 ∷ argument ns 1 ∷ []) (slot_at ns 2) (two_fit ns h) (within_fits (slot_at ns 2) (slot_within ns 2)), slot_within ns 2)

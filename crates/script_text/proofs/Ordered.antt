@@ -312,6 +312,7 @@ entry_ends m lp d ws name.ExportPause = (refl, call_full m lp d _ ws)
 entry_ends m lp d ws name.ExportAbort = abort_ends m lp d ws (length (map number ws) == 2) _ refl
 entry_ends m lp d ws name.ExportRestore = (refl, call_full m lp d _ ws)
 entry_ends m lp d ws name.ExportStateImmutable = (refl, slot_full m lp d (λ slot. calls.ExportStateImmutable (number_of ws 0) slot) 1 ws (λ slot. refl))
+entry_ends m lp d ws name.ExportMem = (refl, slot_full m lp d (λ slot. calls.ExportMem (number_of ws 0) (number_of ws 1) (number_of ws 2) slot) 3 ws (λ slot. refl))
 entry_ends m lp d ws name.ExportTrack = (refl, slot_full m lp d (λ slot. calls.ExportTrack (number_of ws 0) slot (number_of ws 2)) 1 ws (λ slot. refl))
 entry_ends m lp d ws name.ExportStateTd = (refl, slot_full m lp d (λ slot. calls.ExportStateTd (number_of ws 0) slot) 1 ws (λ slot. refl))
 entry_ends m lp d ws name.ExportStateVp = (refl, slot_full m lp d (λ slot. calls.ExportStateVp (number_of ws 0) (number_of ws 1) slot) 2 ws (λ slot. refl))

@@ -157,6 +157,7 @@ call_entry s listed m lp (calls.ExportPause a) fit h k = rw (h, k) refl
 call_entry s listed m lp (calls.ExportAbort a) fit h k = rw (h, k) refl
 call_entry s listed m lp (calls.ExportRestore a b) fit h k = rw (h, k) refl
 call_entry s listed m lp (calls.ExportStateImmutable a slot) fit h k = rw (h, k, slot_is slot fit) refl
+call_entry s listed m lp (calls.ExportMem a b c slot) fit h k = rw (h, k, slot_is slot fit) refl
 call_entry s listed m lp (calls.ExportTrack a slot b) fit h k = rw (h, k, slot_is slot fit) refl
 call_entry s listed m lp (calls.ExportStateTd a slot) fit h k = rw (h, k, slot_is slot fit) refl
 call_entry s listed m lp (calls.ExportStateVp a b slot) fit h k = rw (h, k, slot_is slot fit) refl

@@ -104,6 +104,7 @@ built_of lp name.ExportPause ns = Some (entry.Call lp (calls.ExportPause (argume
 built_of lp name.ExportAbort ns = abort_of lp (length ns == 2) (argument ns 0)
 built_of lp name.ExportRestore ns = Some (entry.Call lp (calls.ExportRestore (argument ns 0) (argument ns 1)))
 built_of lp name.ExportStateImmutable ns = Some (entry.Call lp (calls.ExportStateImmutable (argument ns 0) (slot_at ns 1)))
+built_of lp name.ExportMem ns = Some (entry.Call lp (calls.ExportMem (argument ns 0) (argument ns 1) (argument ns 2) (slot_at ns 3)))
 built_of lp name.ExportTrack ns = Some (entry.Call lp (calls.ExportTrack (argument ns 0) (slot_at ns 1) (argument ns 2)))
 built_of lp name.ExportStateTd ns = Some (entry.Call lp (calls.ExportStateTd (argument ns 0) (slot_at ns 1)))
 built_of lp name.ExportStateVp ns = Some (entry.Call lp (calls.ExportStateVp (argument ns 0) (argument ns 1) (slot_at ns 2)))

@@ -172,6 +172,7 @@ fn built(lp: u8, call: CallName, numbers: &[Option<u64>]) -> Option<Entry>
     let (page, tdr, word, vp, gpa) = (first, first, second, second, second);
     let (value, max, level, augmented, start) = (third, third, third, third, third);
     let (slot, last_slot) = (slot_at(numbers, 1), slot_at(numbers, 2));
+    let page_slot = slot_at(numbers, 3);
     let call = match call {
         CallName::HostRead => Call::HostRead { page, word },
         CallName::HostWrite => Call::HostWrite { page, word, value },
@@ -226,6 +227,12 @@ fn built(lp: u8, call: CallName, numbers: &[Option<u64>]) -> Option<Entry>
         }
         CallName::ExportRestore => Call::ExportRestore { tdr, gpa },
         CallName::ExportStateImmutable => Call::ExportStateImmutable { tdr, slot },
+        CallName::ExportMem => Call::ExportMem {
+            tdr,
+            gpa,
+            stream: third,
+            slot: page_slot,
+        },
         CallName::ExportTrack => Call::ExportTrack { tdr, slot, start },
         CallName::ExportStateTd => Call::ExportStateTd { tdr, slot },
         CallName::ExportStateVp => Call::ExportStateVp {
